@@ -39,11 +39,11 @@ where
                 Copied::Refused
             }
         }
-        LocalExWaker::Outside(waker) => copied(waker, unlocked),
+        LocalExWaker::Outside(waker) => outside_copy(waker, unlocked),
     }
 }
 
-fn copied<W: Wake>(waker: &W, unlocked: &Unlocked) -> Copied<W> {
+fn outside_copy<W: Wake>(waker: &W, unlocked: &Unlocked) -> Copied<W> {
     let _ = unlocked;
     match waker.clone() {
         Some(copy) => Copied::Kept(SoloWaker::Outside(Foreign::of(copy))),

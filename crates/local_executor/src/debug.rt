@@ -23,7 +23,7 @@ struct Counts {
     sleepers: usize,
 }
 
-fn counts<W>(tasks: &Tasks<W>) -> Counts {
+fn counts_in<W>(tasks: &Tasks<W>) -> Counts {
     Counts {
         active: tasks.future_count(),
         queued: tasks.queue_length(),
@@ -44,7 +44,7 @@ where
     O: fmt::Write,
 {
     let found = match link.try_lock(unlocked) {
-        Some(mut locked) => Some(counts(locked.get())),
+        Some(mut locked) => Some(counts_in(locked.get())),
         None => None,
     };
     let mut text = f.debug_struct(name);

@@ -1,7 +1,9 @@
 //! What a user has and calls. Each call begins with nothing locked or open, which it says by an `Unlocked`: none but these can
 //! make one.
-ghost use Rattle.std.specs.Prelude.{◌≡◌, ◌<◌, IfErr};
+ghost use Rattle.std.specs.Prelude.{◌≡◌, ◌<◌, IfErr, length};
+ghost use Rattle.std.specs.Iterator.{IsFinite};
 ghost use Rattle.solo.specs.Solo.{refused};
+ghost use Rattle.local_executor.specs.Spawning.{SpawnsMany};
 
 use crate::debug::show;
 use crate::errors::LocalError;
@@ -80,6 +82,32 @@ where
         ensures { IfErr result (λ error. refused error ≡ future) }
     {
         self.hand_in(future, &mut Unlocked::at_entry())
+    }
+
+    /// Hands the executor one future after the other, until the iterator ends or one is refused. The handles of those that
+    /// were accepted come last among these, in order, and the refused future comes back with the cause; the rest stays in the
+    /// iterator. The room for a handle is asked for before its future is spawned.
+    pub fn spawn_many<I: Iterator<Item = F>>(
+        &self,
+        futures: &mut I,
+        handles: &mut Vec<LocalHandle<T, W, R>>,
+    ) -> Result<(), SpawnError<F>>
+        requires { I.can_next futures.old × IsFinite (I.remaining futures.old) }
+        ensures { SpawnsMany I.next_gives futures.old futures.new (length handles.old.items) (length handles.new.items) result }
+    {
+        for _ in self.link.rt().forever() {
+            let Some(future) = futures.next() else {
+                return Ok(());
+            };
+            if handles.reserve(1).is_err() {
+                return Err(SpawnError::NoMemory(future));
+            }
+            match self.spawn(future) {
+                Ok(handle) => handles.push_reserved(handle),
+                Err(refused) => return Err(refused),
+            }
+        }
+        unreachable!()
     }
 
     /// Runs one task, where one is queued, and says whether it did. It doesn't wait for one, and takes no memory.

@@ -9,6 +9,7 @@ use crate::handle::Held;
 use crate::names::{Futures, Tasks};
 use crate::output::Output;
 use crate::sections;
+use crate::store::Both;
 use async_task::{Future, Wake};
 use executor_parts::SpawnRefused;
 use solo::{SpawnError, Spawned};
@@ -59,6 +60,18 @@ where
     }
 }
 
+impl<F: Drop, T: Drop, W> Both<'_, F, T, W> {
+    fn accept(
+        &mut self,
+        alloc: Global,
+        future: F,
+    ) -> Result<(Spawned<Foreign<W>>, Output<T>), SpawnError<F>>
+        ensures { IfErr result (λ error. refused error ≡ future) }
+    {
+        accept(&mut self.futures, self.locked.get(), alloc, future)
+    }
+}
+
 impl<F, T, W, R> LocalExecutor<F, T, W, R>
 where
     F: Future<LocalExWaker<W, R>, Output = T> + Drop,
@@ -75,13 +88,14 @@ where
         ensures { IfErr result (λ error. refused error ≡ future) }
     {
         let link = self.link.share();
-        let accepted = {
-            let mut opened = self.store.open(unlocked);
-            let (futures, mut locked) = opened.with_tasks(&link);
-            accept(futures, locked.get(), self.alloc, future)
-        };
+        let accepted = self
+            .store
+            .open_with(&link, unlocked)
+            .accept(self.alloc, future);
         match accepted {
-            Ok((Spawned { task, told }, output)) => {
+            Ok(both) => {
+                let (spawned, output) = both;
+                let Spawned { task, told } = spawned;
                 link.pay_told(told, unlocked);
                 Ok(LocalHandle::of(Held::new(link, task, output)))
             }

@@ -23,6 +23,13 @@ pub struct Opened<'a, F: Drop, T: Drop> {
     unlocked: &'a mut Unlocked,
 }
 
+/// The futures of a store, which has none until this is dropped, and what stands under the lock, which is taken as long.
+pub struct Both<'a, F: Drop, T: Drop, W> {
+    store: &'a Store<F, T>,
+    pub futures: Futures<F, T>,
+    pub locked: Locked<'a, Tasks<W>>,
+}
+
 impl<F: Drop, T: Drop> Store<F, T> {
     /// With room for so many futures.
     pub fn new(alloc: Global, limit: usize) -> Result<Self, AllocError> {
@@ -44,6 +51,23 @@ impl<F: Drop, T: Drop> Store<F, T> {
         }
     }
 
+    /// The same, with the lock taken.
+    pub fn open_with<'a, W, R>(
+        &'a self,
+        link: &'a Link<W, R>,
+        unlocked: &'a mut Unlocked,
+    ) -> Both<'a, F, T, W>
+    where
+        W: Drop,
+        R: Wait + Copy + Drop,
+    {
+        Both {
+            store: self,
+            futures: self.futures.replace(Places::new(self.alloc, 0)),
+            locked: link.lock(unlocked),
+        }
+    }
+
     /// The futures, which nobody else has any more.
     pub fn into_futures(self) -> Futures<F, T> {
         let Store { futures, alloc: _ } = self;
@@ -52,18 +76,6 @@ impl<F: Drop, T: Drop> Store<F, T> {
 }
 
 impl<F: Drop, T: Drop> Opened<'_, F, T> {
-    /// The futures, and what stands under the lock, which is taken.
-    pub fn with_tasks<'b, W, R>(
-        &'b mut self,
-        link: &'b Link<W, R>,
-    ) -> (&'b mut Futures<F, T>, Locked<'b, Tasks<W>>)
-    where
-        W: Drop,
-        R: Wait + Copy + Drop,
-    {
-        (&mut self.futures, link.lock(self.unlocked))
-    }
-
     /// The futures.
     pub fn get(&mut self) -> &mut Futures<F, T> {
         &mut self.futures
@@ -79,5 +91,18 @@ impl<F: Drop, T: Drop> Drop for Opened<'_, F, T> {
             unlocked: _,
         } = self;
         drop(store.futures.replace(futures));
+    }
+}
+
+impl<F: Drop, T: Drop, W> Drop for Both<'_, F, T, W> {
+    /// Puts the futures back, and gives the lock back.
+    fn drop(self) {
+        let Both {
+            store,
+            futures,
+            locked,
+        } = self;
+        drop(store.futures.replace(futures));
+        drop(locked);
     }
 }

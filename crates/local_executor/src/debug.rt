@@ -15,6 +15,15 @@ impl fmt::Debug for Locked {
     }
 }
 
+/// The lengths of the runs' own queues: there are no runs.
+struct NoRuns;
+
+impl fmt::Debug for NoRuns {
+    fn fmt<O: fmt::Write>(&self, f: &mut fmt::Formatter<O>) -> fmt::Result {
+        f.write_str("[]")
+    }
+}
+
 /// What was found under the lock.
 #[derive(Clone, Copy)]
 struct Counts {
@@ -52,11 +61,13 @@ where
         Some(counts) => {
             text.field("active", &counts.active);
             text.field("global_tasks", &counts.queued);
+            text.field("local_runners", &NoRuns);
             text.field("sleepers", &counts.sleepers);
         }
         None => {
             text.field("active", &Locked);
             text.field("global_tasks", &Locked);
+            text.field("local_runners", &Locked);
             text.field("sleepers", &Locked);
         }
     };

@@ -20,8 +20,6 @@ mod running;
 mod sections;
 mod spawning;
 mod store;
-#[cfg(test)]
-mod tests;
 mod ticking;
 
 pub use async_task::{NoMemory, TaskError};

@@ -1,10 +1,10 @@
 //! The commands of a script on its executor and its ticks.
+use crate::answer::Answer;
 use crate::future::Scripted;
 use crate::handle::{Handle, Held};
+use crate::outside::{Bell, Gift};
 use crate::player::Player;
 use async_task::{Future, NoMemory, Poll};
-use crate::answer::Answer;
-use crate::outside::{Bell, Gift};
 use local_executor::{LocalExecutor, LocalTick, SpawnError};
 use script::{Item, Name, Plain};
 use std::alloc::Global;

@@ -1,8 +1,8 @@
 //! The futures that a script spawns.
 use crate::handle::{Held, ScriptWaker};
+use crate::outside::Gift;
 use crate::shelf::SharedShelf;
 use async_task::{Future, Poll, Wake};
-use crate::outside::Gift;
 use script::{Item, Name};
 use std::sync::Wait;
 

@@ -1,8 +1,8 @@
 //! The player of a script: what it has beside its executor, and its commands on handles and wakers.
-use crate::handle::{Handle, Held, ScriptWaker};
-use crate::shelf::SharedShelf;
 use crate::answer::Answer;
+use crate::handle::{Handle, Held, ScriptWaker};
 use crate::outside::Bell;
+use crate::shelf::SharedShelf;
 use crate::stage::Shared;
 use local_executor::LocalExWaker;
 use script::{Item, Name, Names, Plain};

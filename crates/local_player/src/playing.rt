@@ -1,11 +1,11 @@
 //! From the text of a script to the text of what it does.
 ghost use Rattle.std.specs.Prelude.{◌<◌};
 
+use crate::answer::{Answer, show_end};
 use crate::commands::{Desk, ScriptExecutor};
+use crate::errors::PlayError;
 use crate::player::Player;
 use crate::shelf::{SharedShelf, Shelf};
-use crate::answer::{Answer, show_end};
-use crate::errors::PlayError;
 use crate::stage::{Shared, Stage};
 use local_executor::LocalExecutor;
 use script::{Command, Plain, Request, Word, parse};

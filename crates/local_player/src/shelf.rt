@@ -1,7 +1,7 @@
 //! The wakers of futures that a script keeps.
 use crate::handle::ScriptWaker;
-use async_task::Wake;
 use crate::stage::Shared;
+use async_task::Wake;
 use script::Name;
 use std::alloc::{AllocError, Global};
 use std::cell::RefCell;

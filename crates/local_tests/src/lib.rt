@@ -8,4 +8,6 @@ mod hello;
 #[cfg(test)]
 mod many;
 #[cfg(test)]
+mod texts;
+#[cfg(test)]
 mod threads;

@@ -16,7 +16,6 @@ impl<K: Wake> Future<K> for Ready {
     }
 }
 
-
 #[test]
 fn spawn_many_local(rt: HostRuntime) -> Result<(), Fail> {
     let alloc = rt.alloc();

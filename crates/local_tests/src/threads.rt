@@ -11,7 +11,9 @@ use std::thread;
 #[test]
 fn a_waker_is_called_10_000_times_while_its_executor_ticks(rt: HostRuntime) -> Result<(), Fail> {
     let alloc = rt.alloc();
-    let executor = LocalExecutor::<Visitor<HostRuntime>, u64, Nobody, HostRuntime>::new(rt, alloc, 1)?;
+    let executor = LocalExecutor::<Visitor<HostRuntime>, u64, Nobody, HostRuntime>::new(
+        rt, alloc, 1,
+    )?;
     let Some(door) = new_door::<HostRuntime>(alloc) else {
         panic!(rt; "memory");
     };
@@ -54,7 +56,9 @@ fn moves<X: Send + Drop>(value: X) {
 #[test]
 fn a_waker_may_go_to_another_thread(rt: HostRuntime) -> Result<(), Fail> {
     let alloc = rt.alloc();
-    let executor = LocalExecutor::<Visitor<HostRuntime>, u64, Nobody, HostRuntime>::new(rt, alloc, 1)?;
+    let executor = LocalExecutor::<Visitor<HostRuntime>, u64, Nobody, HostRuntime>::new(
+        rt, alloc, 1,
+    )?;
     let Some(door) = new_door::<HostRuntime>(alloc) else {
         panic!(rt; "memory");
     };
@@ -74,7 +78,9 @@ fn a_waker_may_go_to_another_thread(rt: HostRuntime) -> Result<(), Fail> {
 #[test]
 fn a_waker_outlives_its_executor_elsewhere(rt: HostRuntime) -> Result<(), Fail> {
     let alloc = rt.alloc();
-    let executor = LocalExecutor::<Visitor<HostRuntime>, u64, Nobody, HostRuntime>::new(rt, alloc, 1)?;
+    let executor = LocalExecutor::<Visitor<HostRuntime>, u64, Nobody, HostRuntime>::new(
+        rt, alloc, 1,
+    )?;
     let Some(door) = new_door::<HostRuntime>(alloc) else {
         panic!(rt; "memory");
     };

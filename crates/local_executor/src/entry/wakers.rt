@@ -74,6 +74,13 @@ impl<W: Wake + Drop, R: Wait + Copy + Drop> Wake for LocalWaker<W, R> {
     }
 }
 
+/// So that `block_on` of `blocking` polls handles and ticks.
+impl<W: Wake + Drop, R: Wait + Copy + Drop> From<W> for LocalExWaker<W, R> {
+    fn from(waker: W) -> Self {
+        LocalExWaker::Outside(waker)
+    }
+}
+
 impl<W: Wake + Drop, R: Wait + Copy + Drop> Wake for LocalExWaker<W, R> {
     ghost is_same = { λ a b. Unit {0} };
 

@@ -1,10 +1,10 @@
 //! Each workload, run.
 use crate::runs::{Realms, run};
 use crate::tests::same::same;
-use executor_workloads::job::{JobPlace, JobRealm, Open};
-use executor_workloads::{Awaited, Futures, Link, Workplace};
 use std::test::Fail;
 use workloads::all;
+use workloads::executor::{Awaited, Futures, Link, Workplace};
+use workloads::job::{JobPlace, JobRealm, Open};
 use workloads::task::Tasks;
 use workloads::work::{TaskWork, Way, Work};
 

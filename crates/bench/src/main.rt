@@ -12,8 +12,6 @@ mod tests;
 mod words;
 
 use async_task::Future;
-use executor_workloads::job::{JobPlace, JobRealm, JobSite, Open};
-use executor_workloads::{Awaited, Chain, Futures, Link, Waker, Worker, Workplace};
 use line::Line;
 use runs::Realms;
 use std::env;
@@ -22,6 +20,8 @@ use std::rt::{Clock, Env};
 use std::sync::Wait;
 use std::thread::Threads;
 use words::{Asked, read_words};
+use workloads::executor::{Awaited, Chain, Futures, Link, Waker, Worker, Workplace};
+use workloads::job::{JobPlace, JobRealm, JobSite, Open};
 use workloads::task::Tasks;
 use workloads::{Fault, Workload, all};
 

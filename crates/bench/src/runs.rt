@@ -1,11 +1,11 @@
 use crate::{sim, steps};
 use async_task::Future;
-use executor_workloads::job::{self, JobRealm, JobSite, Open};
-use executor_workloads::{self as executor, Chain, Futures, Waker, Worker};
 use std::alloc::AllocGlobal;
 use std::rt::Clock;
 use std::sync::Wait;
 use std::thread::Threads;
+use workloads::executor::{self, Chain, Futures, Waker, Worker};
+use workloads::job::{self, JobRealm, JobSite, Open};
 use workloads::task::{self, Tasks};
 use workloads::work::Work;
 use workloads::{Fault, Timing, base, on_queue_of_one, on_shared_queue};

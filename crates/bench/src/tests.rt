@@ -1,4 +1,3 @@
 //! Names, lines and shares, and what each workload moves.
 mod lines;
 mod runs;
-mod same;

@@ -1,28 +1,27 @@
 //! Names, lines and shares.
 use crate::line::Line;
-use crate::tests::same::same;
 use std::test::Fail;
 use std::time::Duration;
 use workloads::{Workload, all, share};
 
 #[test]
 fn a_name_names_one_workload(rt: HostRuntime) {
+    let mut is_so = Workload::named("queue/none").is_none();
     for workload in all() {
         let mut named = 0u64;
         for other in all() {
             named = named.saturating_add(u64::from(other.name() == workload.name()));
         }
-        same(&rt, named, 1);
-        same(&rt, named_as(workload.name()), Some(workload.name()));
+        is_so = is_so & (named == 1) & is_found(*workload);
     }
-    same(&rt, named_as("queue/none"), None);
+    assert!(rt; is_so);
 }
 
-// The name of the workload that this name names.
-fn named_as(name: &str) -> Option<&'static str> {
-    match Workload::named(name) {
-        Some(workload) => Some(workload.name()),
-        None => None,
+// Whether its name names it.
+fn is_found(workload: Workload) -> bool {
+    match Workload::named(workload.name()) {
+        Some(found) => found.name() == workload.name(),
+        None => false,
     }
 }
 
@@ -42,11 +41,13 @@ fn a_line_has_the_seconds_and_the_nanoseconds_of_one_operation(
 
 #[test]
 fn shares_add_up(rt: HostRuntime) {
+    let mut are_so = true;
     for (ops, parties) in [(0, 1), (7, 2), (8, 2), (9, 4)] {
         let mut sum = 0u64;
         for party in 0..parties {
             sum = sum.wrapping_add(share(ops, parties, party));
         }
-        same(&rt, sum, ops);
+        are_so = are_so & (sum == ops);
     }
+    assert!(rt; are_so);
 }

@@ -3,6 +3,7 @@ ghost use Rattle.std.specs.Prelude.{◌<◌, ◌≤◌, All, length};
 ghost use Rattle.job_text.specs.Answers.{IsInRange};
 
 use crate::job::list::{JOBS, jobs};
+use crate::{Fault, Timing};
 use job_text::Job;
 use jobs::{JobRealm, JobSite, Open, run_jobs};
 use std::alloc::{AllocGlobal, Global};
@@ -10,7 +11,6 @@ use std::rt::Clock;
 use std::sync::Wait;
 use std::thread::Threads;
 use std::time::Instant;
-use workloads::{Fault, Timing};
 
 /// So many jobs, 100,000 in a round, done by so many workers. The lists are made before the clock starts.
 pub fn run<P, R>(

@@ -3,15 +3,15 @@
 //! value says which that is.
 ghost use Rattle.std.specs.Prelude.{◌<◌};
 
-use crate::awaited::Awaited;
-use crate::futures::Yields;
-use crate::names::{Futures, Timed, Waker};
+use crate::Fault;
+use crate::executor::awaited::Awaited;
+use crate::executor::futures::Yields;
+use crate::executor::names::{Futures, Timed, Waker};
 use async_task::Future;
 use blocking::block_on;
 use std::alloc::Global;
 use std::marker::PhantomData;
 use std::sync::Wait;
-use workloads::Fault;
 
 /// What there is to spawn: so many futures, each of which gives way so often, and then gives this number and how often that was.
 #[derive(Clone, Copy)]

@@ -1,15 +1,15 @@
 //! Threads that run an executor, each until the futures that it spawned itself have ended.
 ghost use Rattle.std.specs.Prelude.{◌<◌};
 
-use crate::names::Futures;
-use crate::ticks::complete;
-use crate::workplace::{Share, Worker};
+use crate::executor::names::Futures;
+use crate::executor::ticks::complete;
+use crate::executor::workplace::{Share, Worker};
+use crate::{Fault, Timing, round, share};
 use std::alloc::AllocGlobal;
 use std::rt::Clock;
 use std::sync::Wait;
 use std::thread::{self, Threads};
 use std::time::Instant;
-use workloads::{Fault, Timing, round, share};
 
 /// How many futures there are in one round of `run`.
 const JOBS: u64 = 100_000;

@@ -1,14 +1,14 @@
 //! Many ready futures at a time.
-use crate::awaited::Awaited;
-use crate::futures::Yields;
-use crate::names::{Futures, Timed};
-use crate::ticks::{complete, tick_all};
-use crate::workplace::{Share, Worker, spawn_share};
+use crate::executor::awaited::Awaited;
+use crate::executor::futures::Yields;
+use crate::executor::names::{Futures, Timed};
+use crate::executor::ticks::{complete, tick_all};
+use crate::executor::workplace::{Share, Worker, spawn_share};
+use crate::{Fault, Timing, round};
 use std::alloc::Global;
 use std::rt::Clock;
 use std::sync::Wait;
 use std::time::Instant;
-use workloads::{Fault, Timing, round};
 
 /// How many futures there are at a time.
 const FUTURES: u64 = 50_000;

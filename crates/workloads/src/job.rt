@@ -3,13 +3,13 @@ mod list;
 mod parsing;
 mod running;
 
+use crate::work::JobWork;
+use crate::{Fault, Timing};
 pub use jobs::{JobPlace, JobRealm, JobSite, Open};
 use std::alloc::AllocGlobal;
 use std::rt::Clock;
 use std::sync::Wait;
 use std::thread::Threads;
-use workloads::work::JobWork;
-use workloads::{Fault, Timing};
 
 /// Does so many operations on lists of jobs, whose tasks lie in this realm. `P` is where jobs are done.
 pub fn time<P, R>(

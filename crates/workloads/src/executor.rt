@@ -1,16 +1,29 @@
-use crate::chain::{Chain, await_chain};
-use crate::many::{drop_full, spawn_many};
-use crate::names::{Futures, Waker};
-use crate::threads::{run, storm};
-use crate::ticks::{ping, spawn_tick};
-use crate::workplace::Worker;
+//! Work on an executor: futures that are spawned, polled, woken, awaited and dropped, by one thread and by several that run it.
+mod awaited;
+mod chain;
+mod futures;
+mod many;
+mod names;
+mod threads;
+mod ticks;
+mod workplace;
+
+use crate::executor::chain::await_chain;
+use crate::executor::many::{drop_full, spawn_many};
+use crate::executor::threads::{run, storm};
+use crate::executor::ticks::{ping, spawn_tick};
+use crate::work::ExecutorWork;
+use crate::{Fault, Timing};
 use async_task::Future;
+pub use awaited::Awaited;
+pub use chain::{Chain, Link};
+pub use futures::Yields;
+pub use names::{Futures, Handle, Timed, Waker};
 use std::alloc::AllocGlobal;
 use std::rt::Clock;
 use std::sync::Wait;
 use std::thread::Threads;
-use workloads::work::ExecutorWork;
-use workloads::{Fault, Timing};
+pub use workplace::{Crew, Worker, Workplace};
 
 /// Does so many operations on an executor whose tasks lie in this realm. `L` is a future that awaits another, and `P` an
 /// executor that threads run.

@@ -1,12 +1,12 @@
 //! Work of one thread on an executor with place for one future.
-use crate::futures::Yields;
-use crate::names::{Futures, Timed, Waker};
+use crate::executor::futures::Yields;
+use crate::executor::names::{Futures, Timed, Waker};
+use crate::{Fault, Timing};
 use async_task::Future;
 use std::alloc::Global;
 use std::rt::Clock;
 use std::sync::Wait;
 use std::time::Instant;
-use workloads::{Fault, Timing};
 
 /// Spawns a ready future, gives its handle up, and ticks.
 pub fn spawn_tick<R: Clock + Wait + Copy + Drop + 'static>(

@@ -1,15 +1,15 @@
 //! Futures of which each awaits the one before.
-use crate::awaited::Awaited;
-use crate::futures::Yields;
-use crate::names::{Futures, Handle, Timed, Waker};
-use crate::ticks::{complete, tick_all};
-use crate::workplace::Worker;
+use crate::executor::awaited::Awaited;
+use crate::executor::futures::Yields;
+use crate::executor::names::{Futures, Handle, Timed, Waker};
+use crate::executor::ticks::{complete, tick_all};
+use crate::executor::workplace::Worker;
+use crate::{Fault, Timing, round};
 use async_task::{Future, Poll, Wake};
 use std::alloc::Global;
 use std::rt::Clock;
 use std::sync::Wait;
 use std::time::Instant;
-use workloads::{Fault, Timing, round};
 
 /// How many futures a chain has.
 const LINKS: u64 = 10_000;

@@ -1,10 +1,10 @@
 //! The text of lists of jobs, read.
 use crate::job::list::{JOBS, job};
+use crate::{Fault, Timing};
 use job_text::{Job, ParseError};
 use std::alloc::{AllocError, AllocGlobal, Global};
 use std::rt::Clock;
 use std::time::Instant;
-use workloads::{Fault, Timing};
 
 /// So many lines, 100,000 in a text. The texts are made before the clock starts.
 pub fn parse<R: AllocGlobal + Clock>(rt: &R, ops: u64) -> Result<Timing, Fault> {

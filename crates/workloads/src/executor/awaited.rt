@@ -1,4 +1,4 @@
-use crate::names::{Futures, Handle, Waker};
+use crate::executor::names::{Futures, Handle, Waker};
 use async_task::{Future, Poll, Returning, StoredTask};
 use std::alloc::Global;
 use std::collections::VecDeque;

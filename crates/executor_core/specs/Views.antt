@@ -11,6 +11,7 @@ use Rattle.executor_core.specs.declared.store.Store.{Store}
 
 abbrev pub world_of : Store → World
 world_of s = record {
+  is_static = s.is_static;
   limit = s.entries.limit;
   tasks = s.tasks.items;
   awaiters = s.awaiters.items;

@@ -1,5 +1,5 @@
 //! What a move of a task owes becomes what the party has still to do.
-ghost use Rattle.std.specs.Prelude.{◌≡◌, ◌≢◌, ℕ, ◌+◌, ◌-◌, ◌^◌, ◌<◌, ◌≤◌, true, false, not, Some, None};
+ghost use Rattle.std.specs.Prelude.{◌≡◌, ◌≢◌, ℕ, ◌+◌, ◌-◌, ◌^◌, ◌<◌, ◌≤◌, ◌&&◌, true, false, not, Some, None};
 ghost use Rattle.std.specs.Prelude.{List, [], ◌∷◌, ◌++◌, length};
 ghost use Rattle.std.specs.Prelude.{reverse, vec_len, vec_capacity};
 ghost use Rattle.task_moves.specs.Moves as moves;
@@ -12,7 +12,7 @@ use crate::store::Store;
 use crate::table::Entries;
 use executor_model::{HandleOp, Op, QueueOp, TableOp, UserOp};
 use task_moves::ScheduleInfo;
-use task_moves::moves::{self, AwaiterDebt, FutureDebt, Move, Moved, State};
+use task_moves::moves::{self, AwaiterDebt, FutureDebt, Move, Moved, Owed, State};
 
 fn push_schedule(todo: &mut Vec<Op>, f: u64, debt: Option<ScheduleInfo>)
     requires space { vec_len todo.old + 1 ≤ vec_capacity todo.old }
@@ -85,16 +85,35 @@ fn push_next(todo: &mut Vec<Op>, f: u64, kind: Option<Move>)
     }
 }
 
+/// The cell is emptied as the future is dropped, and its awaiter goes.
+fn push_emptied(todo: &mut Vec<Op>, f: u64, owed: Owed)
+    requires space { vec_len todo.old + 6 ≤ vec_capacity todo.old }
+    ensures items { todo.new.items ≡ todo.old.items
+        ++ reverse (carried.emptied_ops (owed.empty_cell && carried.drops owed.future) f) }
+    ensures space { vec_len todo.new + 5 ≤ vec_capacity todo.new }
+{
+    match owed.future {
+        Some(FutureDebt::DropFuture) => {
+            if owed.empty_cell {
+                todo.push_reserved(Op::Handle(HandleOp::LetGo(f)));
+            }
+        }
+        Some(FutureDebt::PollFuture) => {}
+        None => {}
+    }
+}
+
 /// The task of this future has moved: its state is stored, and what the move owes is to do.
 #[tactic(auto, using(crate::proofs::Owing::reverse_owed))]
 pub fn carry_out(store: &mut Store, todo: &mut Vec<Op>, f: u64, moved: Moved)
     requires end { HasRoomToEnd store.old }
-    requires space { vec_len todo.old + 5 ≤ vec_capacity todo.old }
+    requires space { vec_len todo.old + 6 ≤ vec_capacity todo.old }
     requires known { IsKnown (world_of store.old) f }
     ensures { Does (carried.carried (world_of store.old) f moved) store.new todo.old.items todo.new.items }
 {
     store.tasks[f as usize] = moved.state;
     let owed = moved.owed;
+    push_emptied(todo, f, owed);
     push_next(todo, f, owed.next);
     push_awaiter(todo, f, owed.awaiter);
     push_output(todo, f, owed.drop_output);

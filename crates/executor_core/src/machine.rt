@@ -101,10 +101,11 @@ fn step_at(store: &mut Store, parties: &mut Vec<Vec<Op>>, step: Step) -> Result<
     Ok(())
 }
 
-fn empty(alloc: Global, limit: u64) -> Store
-    ensures { world_of result ≡ (steps.start limit 0).world }
+fn empty(alloc: Global, limit: u64, kind: Kind) -> Store
+    ensures { world_of result ≡ (steps.start limit kind 0).world }
 {
     Store {
+        is_static: is_static(kind),
         tasks: Vec::new(alloc),
         awaiters: Vec::new(alloc),
         queue: VecDeque::new(alloc),
@@ -118,21 +119,27 @@ fn empty(alloc: Global, limit: u64) -> Store
     }
 }
 
+fn is_static(kind: Kind) -> bool
+    ensures { result ≡ steps.is_static_kind kind }
+{
+    match kind {
+        Kind::Owned => false,
+        Kind::Static => true,
+    }
+}
+
 impl Machine {
     /// A new machine of this kind for this many parties, of which at most `limit` accepted futures are
     /// undropped at a time.
     pub fn new(alloc: Global, limit: u64, kind: Kind, parties: u32) -> Result<Machine, AllocError>
-        ensures { IfOk result (λ m. m ≡ steps.start limit parties) }
+        ensures { IfOk result (λ m. m ≡ steps.start limit kind parties) }
     {
-        match kind {
-            Kind::Owned => {}
-        }
         let mut stacks = Vec::new(alloc);
         for _i in 0..parties {
             stacks.push(Vec::new(alloc))?;
         }
         Ok(Machine {
-            store: empty(alloc, limit),
+            store: empty(alloc, limit, kind),
             parties: stacks,
         })
     }

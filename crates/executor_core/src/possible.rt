@@ -184,6 +184,9 @@ fn begin_refusal(
     if store.gone && is_on_executor(call) {
         return Some(StepError::Gone);
     }
+    if is_drop(call) && store.is_static {
+        return Some(StepError::Gone);
+    }
     if is_drop(call) && !is_unborrowed(store, parties) {
         return Some(StepError::Borrowed);
     }

@@ -7,6 +7,8 @@ use task_moves::moves::State;
 /// The state of the machine without what its parties have still to do.
 #[derive(Drop)]
 pub struct Store {
+    /// Nobody drops the executor, and an entry of its table has no waker.
+    pub is_static: bool,
     /// By the numbers of the futures: the marks and the count of each task.
     pub tasks: Vec<State>,
     /// The awaiter that each task keeps.
@@ -14,7 +16,7 @@ pub struct Store {
     /// The Runnables, by their futures.
     pub queue: VecDeque<u64>,
     pub closed: bool,
-    /// The table, where each future has an entry and a waker, with the limit of undropped futures, and what the
+    /// The table, where each future has an entry, with the limit of undropped futures, and what the
     /// executor's drop has taken out of it and not yet dropped.
     pub entries: Entries,
     /// The wakers of those that it has dropped and not yet woken.

@@ -82,6 +82,7 @@ steps_of_handle (handle_op.EndRegister f a k) = 31
 steps_of_handle (handle_op.LookAgain f) = 4
 steps_of_handle (handle_op.Notify f mine) = 2
 steps_of_handle (handle_op.EndNotify f mine) = 1
+steps_of_handle (handle_op.LetGo f) = 1
 
 abbrev pub steps_of_sleeper : SleeperOp → ℕ
 steps_of_sleeper sleeper_op.ExchangeFlag = 31

@@ -3,6 +3,7 @@
 use Rattle.std.specs.Prelude.{◌≡◌, ℕ, ◌+◌, ◌-◌, ◌<◌, ◌≤◌, false, Some, List, [], ◌∷◌, ◌++◌, length}
 use Rattle.queue_steps.specs.ClosableQueue.{ClosableQueue, most_accepted, new_queue, HasRoom}
 use Rattle.queue_steps.specs.ClosableQueue.{IsUnspent, appended, taken, shut}
+use Rattle.executor_model.specs.declared.kind.Kind.{Kind}
 use Rattle.executor_model.specs.declared.op.Op.TheVariants as op
 use Rattle.executor_model.specs.declared.op.QueueOp.TheVariants as queue_op
 use Rattle.executor_model.specs.declared.step.Hint.{Hint}
@@ -33,22 +34,22 @@ pub data Changes (q new : ClosableQueue ℕ) : Type 0 where
   closes : new ≡ shut q → Changes q new
 
 -- after these steps of a new machine
-abbrev pub counted_after : ℕ → ℕ → List Step → ClosableQueue ℕ
-counted_after limit parties steps =
-    counting (queueings steps (start limit parties)) (run steps (start limit parties)).world.queue
+abbrev pub counted_after : ℕ → Kind → ℕ → List Step → ClosableQueue ℕ
+counted_after limit kind parties steps =
+    counting (queueings steps (start limit kind parties)) (run steps (start limit kind parties)).world.queue
 
 -- these steps queue fewer than a queue may accept
-abbrev pub AreFewQueueings : ℕ → ℕ → List Step → Type 0
-AreFewQueueings limit parties steps = queueings steps (start limit parties) < most_accepted
+abbrev pub AreFewQueueings : ℕ → Kind → ℕ → List Step → Type 0
+AreFewQueueings limit kind parties steps = queueings steps (start limit kind parties) < most_accepted
 
 -- there are no more than steps; the queue of a new machine is a new queue that counts; each step changes it as a
 -- closable queue changes; and a Runnable that is to be appended is, unless the queue is closed
-pub record CountsQueueings (limit parties : ℕ) (steps : List Step) : Type 0 where
-  pub most : queueings steps (start limit parties) ≤ length steps
-  pub new : counted_after limit parties [] ≡ new_queue (Some limit) (Some 0)
-  pub changes : AreFewQueueings limit parties steps → (t : Step) →
-      Changes (counted_after limit parties steps) (counted_after limit parties (steps ++ t ∷ []))
-  pub appends : AreFewQueueings limit parties steps → (p : ℕ) (h : Hint) (f : ℕ) →
-      top (stack (run steps (start limit parties)) p) ≡ Some (op.Queue (queue_op.Append f)) →
-      (counted_after limit parties steps).closed ≡ false →
-      counted_after limit parties (steps ++ Go p h ∷ []) ≡ appended (counted_after limit parties steps) f
+pub record CountsQueueings (limit : ℕ) (kind : Kind) (parties : ℕ) (steps : List Step) : Type 0 where
+  pub most : queueings steps (start limit kind parties) ≤ length steps
+  pub new : counted_after limit kind parties [] ≡ new_queue (Some limit) (Some 0)
+  pub changes : AreFewQueueings limit kind parties steps → (t : Step) →
+      Changes (counted_after limit kind parties steps) (counted_after limit kind parties (steps ++ t ∷ []))
+  pub appends : AreFewQueueings limit kind parties steps → (p : ℕ) (h : Hint) (f : ℕ) →
+      top (stack (run steps (start limit kind parties)) p) ≡ Some (op.Queue (queue_op.Append f)) →
+      (counted_after limit kind parties steps).closed ≡ false →
+      counted_after limit kind parties (steps ++ Go p h ∷ []) ≡ appended (counted_after limit kind parties steps) f

@@ -1,5 +1,6 @@
 //! Laws of every execution of the machine, of any number of parties and any list of steps.
 ghost use Rattle.std.specs.Prelude.{ℕ, List};
+ghost use Rattle.executor_model.specs.declared.kind.Kind.{Kind};
 ghost use Rattle.executor_model.specs.declared.step.Step.{Step};
 ghost use Rattle.executor_model.specs.EveryTrace.{EveryTrace};
 ghost use Rattle.executor_model.specs.Executions.{EveryMachine};
@@ -42,7 +43,7 @@ pub fn lone_calls_end()
 /// queue is a closable queue that counts what it accepts, and may accept one more. No Runnable is kept
 /// out of it but by its close, and none is taken from it where it is empty, by a steal neither.
 pub fn queueings_are_counted()
-    ensures { (limit parties : ℕ) (steps : List Step) → CountsQueueings limit parties steps }
+    ensures { (limit : ℕ) (kind : Kind) (parties : ℕ) (steps : List Step) → CountsQueueings limit kind parties steps }
 {}
 
 /// Whatever a party does, what has happened stays, and more may come behind it.

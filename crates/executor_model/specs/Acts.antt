@@ -1,6 +1,6 @@
 -- What each thing that a party has to do changes, and what it leads to. The queue is the closable queue,
 -- and a task's change is its table of moves; neither is said again here.
-use Rattle.std.specs.Prelude.{ℕ, ◌+◌, Bool, true, false, ◌&&◌, ◌||◌, not, Option, Some, None, List, [], ◌∷◌}
+use Rattle.std.specs.Prelude.{ℕ, ◌+◌, ◌==◌, Bool, true, false, ◌&&◌, ◌||◌, not, Option, Some, None, List, [], ◌∷◌}
 use Rattle.std.specs.Prelude.{◌++◌, length, slice_set, nat_lt}
 use Rattle.queue_steps.specs.ClosableQueue.{appended, taken, shut}
 use Rattle.task_moves.specs.declared.moves.state.State.{State}
@@ -8,7 +8,7 @@ use Rattle.task_moves.specs.declared.moves.owed.Answer.{Answer}
 use Rattle.task_moves.specs.declared.moves.owed.Answer.TheVariants.{Refused, Pending, Closed, Output}
 use Rattle.task_moves.specs.declared.moves.owed.Moved.{Moved}
 use Rattle.task_moves.specs.Moves as moves
-use Rattle.task_moves.specs.Moves.{made, is_over, most_references}
+use Rattle.task_moves.specs.Moves.{made, is_last, is_over, most_references}
 use Rattle.executor_model.specs.declared.call.Reply.{Reply}
 use Rattle.executor_model.specs.declared.call.Reply.TheVariants as reply
 use Rattle.executor_model.specs.declared.event.Event.{Event}
@@ -61,9 +61,10 @@ take_first w = take_by w w.queue.items
 
 -- the table
 
--- a new task, of which the table has a waker
-abbrev pub entered : State
-entered = record made { references = 2 }
+-- a new task, of which the table has a waker where it has wakers
+abbrev pub entered : Bool → State
+entered true = made
+entered false = record made { references = 2 }
 
 -- there are as many undropped futures as may be, or memory is refused, or neither
 abbrev pub enter_by : Bool → Bool → ℕ → World → Done
@@ -71,7 +72,7 @@ enter_by true refused p w = done w (op.End reply.Full hold.Executor ∷ [])
 enter_by false true p w = done w (op.End reply.NoMemory hold.Executor ∷ [])
 enter_by false false p w = done
     (log (record w {
-      tasks = w.tasks ++ entered ∷ [];
+      tasks = w.tasks ++ entered w.is_static ∷ [];
       awaiters = w.awaiters ++ None ∷ [];
       inside = w.inside ++ true ∷ [];
       table = w.table ++ length w.tasks ∷ [];
@@ -97,8 +98,13 @@ put_back w f = done (record w { inside = slice_set w.inside f true }) (op.Move m
 abbrev pub take_to_drop : World → ℕ → Done
 take_to_drop w f = done (record w { inside = slice_set w.inside f false }) (op.User (user_op.BeginDrop f) ∷ [])
 
+-- with an entry goes its waker, where it has one
+abbrev pub entry_goes : Bool → ℕ → List Op
+entry_goes true f = []
+entry_goes false f = op.Move move.Release f ∷ []
+
 abbrev pub leave_by : Bool → World → ℕ → Done
-leave_by true w f = done (record w { table = without f w.table }) (op.Move move.Release f ∷ [])
+leave_by true w f = done (record w { table = without f w.table }) (entry_goes w.is_static f)
 leave_by false w f = done w []
 
 abbrev pub leave_table : World → ℕ → Done
@@ -132,8 +138,21 @@ told_as move.Cancel p f = event.Cancelled p f
 told_as move.Detach p f = event.Detached p f
 told_as _ p f = event.Woken p f
 
+-- whether it closes an open task that nobody could wake any more: its last reference goes, and it has no handle, or the
+-- handle goes, and it has no reference
+abbrev pub is_last_waker : Move → State → Bool
+is_last_waker move.Release s = is_last s && not (is_over s)
+is_last_waker move.EndPending s = not s.closed && (not s.scheduled && is_last s)
+is_last_waker move.Detach s = not (s.completed && not s.closed) && ((s.references == 0) && not s.closed)
+is_last_waker _ s = false
+
+-- the move is told of first, and then that nobody could wake the task
+abbrev pub told_of : Bool → Bool → Move → ℕ → World → ℕ → World
+told_of last b m p w f = log_if last (log_if b w (told_as m p f)) (event.LastWaker p f)
+
 abbrev pub move_by : Bool → Move → ℕ → World → ℕ → Done
-move_by true m p w f = carried (log_if (is_told m (task w f)) w (told_as m p f)) f (moves.after m (task w f))
+move_by true m p w f =
+    carried (told_of (is_last_waker m (task w f)) (is_told m (task w f)) m p w f) f (moves.after m (task w f))
 move_by false m p w f = done w []
 
 abbrev pub move_task : Move → ℕ → World → ℕ → Done
@@ -262,6 +281,15 @@ notify_by false w f mine = done (put w f (moves.notify_by false (task w f)).stat
 
 abbrev pub notify : World → ℕ → Bool → Done
 notify w f mine = notify_by ((task w f).notifying || (task w f).registering) w f mine
+
+-- the cell of a task without handle is emptied, and its awaiter goes uncalled; one with a handle isn't emptied
+abbrev pub let_go_by : Bool → World → ℕ → Done
+let_go_by true w f = done w []
+let_go_by false w f =
+    done (put_awaiter (put w f (record (task w f) { awaiter = false })) f None) (let_go (awaiter_of w f))
+
+abbrev pub let_go_emptied : World → ℕ → Done
+let_go_emptied w f = let_go_by (task w f).handle w f
 
 -- the awaiter that was taken out is called, or let go where the poll's own waker wakes the same
 abbrev pub told : Bool → ℕ → Option Awaiter → List Op

@@ -5,10 +5,10 @@ use Rattle.executor_model.specs.declared.call.Call.TheVariants as call
 use Rattle.executor_model.specs.declared.call.Reply.{Reply}
 use Rattle.executor_model.specs.declared.call.Reply.TheVariants as reply
 use Rattle.executor_model.specs.AwaiterKept.{is_handle_poll}
-use Rattle.executor_model.specs.Calls.{Ended, calls}
+use Rattle.executor_model.specs.Calls.{Each, Ended, calls}
 use Rattle.executor_model.specs.OutputOnce.{is_output_given}
 use Rattle.executor_model.specs.Trace.{Trace, has, is_accepted, is_cancelled, is_detached, is_drop_begun, is_drop_ended}
-use Rattle.executor_model.specs.Trace.{is_dropped, is_poll, is_ready, is_woken}
+use Rattle.executor_model.specs.Trace.{is_dropped, is_last_waker, is_poll, is_ready, is_woken}
 
 -- made, or memory was refused
 abbrev pub is_made : Reply → Bool
@@ -55,10 +55,11 @@ is_reply (call.DropRun r) a = is_done a
 is_reply call.DropExecutor r = is_done r
 is_reply _ _ = false
 
--- future f was ready or cancelled, or the drop of the executor had begun, which closes each task
+-- future f was ready or cancelled, or nobody was left who could wake it, or the drop of the executor had begun, which
+-- closes each task
 abbrev pub MayBeOver : ℕ → Trace → Type 0
 MayBeOver f past = (has (is_ready f) past ≡ true)
-    ⊎ ((has (is_cancelled f) past ≡ true) ⊎ (has is_drop_begun past ≡ true))
+    ⊎ ((has (is_cancelled f) past ≡ true) ⊎ ((has (is_last_waker f) past ≡ true) ⊎ (has is_drop_begun past ≡ true)))
 
 -- it cancelled the future, unless that was over before it ended
 abbrev pub HasCancelled : ℕ → Trace → Trace → Type 0
@@ -71,7 +72,7 @@ HasDetached f own = has (is_detached f) own ≡ true
 abbrev pub HasAccepted : Trace → Type 0
 HasAccepted own = (f : ℕ) × (has (is_accepted f) own ≡ true)
 
--- it woke a future, unless one that it was to wake was over before it ended
+-- it woke a future, unless some future, whichever, was over before it ended; of a kept waker WakersMean says which
 abbrev pub HasWoken : Trace → Trace → Type 0
 HasWoken own past = (f : ℕ) × ((has (is_woken f) own ≡ true) ⊎ MayBeOver f past)
 
@@ -109,8 +110,7 @@ pub record IsAnsweredRight (e : Ended) : Type 0 where
   pub done : IsWhatItSays e.call e.reply e.own e.past
 
 abbrev pub EachIsRight : List Ended → Type 0
-EachIsRight [] = Unit {0}
-EachIsRight (e ∷ es) = IsAnsweredRight e × EachIsRight es
+EachIsRight es = Each IsAnsweredRight es
 
 -- each call of party q that has ended did what its name says
 abbrev pub CallsDoWhatTheySay : ℕ → Trace → Type 0

@@ -1,5 +1,6 @@
 -- What holds of every execution, whatever the parties do and in whatever order.
 use Rattle.std.specs.Prelude.{◌≡◌, ℕ, ◌+◌, ◌≤◌, List, [], ◌∷◌, Result, Ok, Err}
+use Rattle.executor_model.specs.declared.kind.Kind.{Kind}
 use Rattle.executor_model.specs.declared.step.Step.{Step}
 use Rattle.executor_model.specs.declared.step.StepError.{StepError}
 use Rattle.executor_model.specs.World.{task}
@@ -7,10 +8,11 @@ use Rattle.executor_model.specs.Steps.{Machine, step, run, start}
 use Rattle.executor_model.specs.Sound.{pend, tokens, living}
 
 abbrev pub EveryExecution : (Machine → ℕ → Type 0) → Type 0
-EveryExecution P = (limit parties : ℕ) (steps : List Step) (f : ℕ) → P (run steps (start limit parties)) f
+EveryExecution P =
+    (limit : ℕ) (kind : Kind) (parties : ℕ) (steps : List Step) (f : ℕ) → P (run steps (start limit kind parties)) f
 
 abbrev pub EveryMachine : (Machine → Type 0) → Type 0
-EveryMachine P = (limit parties : ℕ) (steps : List Step) → P (run steps (start limit parties))
+EveryMachine P = (limit : ℕ) (kind : Kind) (parties : ℕ) (steps : List Step) → P (run steps (start limit kind parties))
 
 -- f's count is its living wakers, those that are stored or on their way too, and one for a Runnable,
 -- a run or a closing call

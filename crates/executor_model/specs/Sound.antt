@@ -1,6 +1,6 @@
 -- What holds of each future at every moment, and the numbers that it is said by.
 use Rattle.std.specs.Prelude.{◌≡◌, ◌≢◌, ◌⊎◌, ℕ, ◌+◌, ◌^◌, ◌≤◌, ◌==◌, true, false}
-use Rattle.std.specs.Prelude.{Option, Some, None, List, [], ◌∷◌, cond}
+use Rattle.std.specs.Prelude.{Option, Some, None, List, [], ◌∷◌, length, cond}
 use Rattle.executor_model.specs.declared.event.Answer.{Answer}
 use Rattle.executor_model.specs.declared.event.Answer.TheVariants.{Pending, Ready}
 use Rattle.executor_model.specs.declared.event.Event.{Event}
@@ -136,10 +136,14 @@ tokens w g p =
     queued w g +
     (p.waiting + (p.polls + (p.ending + (p.ready + (p.closing + (p.settling + p.giving))))))
 
+-- the wakers of g's task in the table
+abbrev pub tabled : World → ℕ → ℕ
+tabled w g = cond w.is_static 0 (times g w.table)
+
 -- living wakers of g's task
 abbrev pub living : World → ℕ → Pend → ℕ
 living w g p =
-    times g w.table + (times g w.leaving + (times g w.waking +
+    tabled w g + (times g w.leaving + (times g w.waking +
     (wakers_of g w.wakers + (awaiters_of g w.awaiters + (sleepers_of g w.sleepers.wakers +
     (p.releases + p.copies))))))
 
@@ -168,3 +172,5 @@ pub record Sound (w : World) (g : ℕ) (p : Pend) : Type 0 where
   pub lent : w.gone ≡ true → p.borrowing ≡ 0
   pub unpolled : w.gone ≡ true → p.polls ≡ 0
   pub ousted : 1 ≤ p.ousting + times g w.leaving → w.gone ≡ true
+  pub owned : w.gone ≡ true → w.is_static ≡ false
+  pub entered : length w.tasks ≤ g → times g w.table + times g w.leaving ≡ 0

@@ -11,6 +11,8 @@ use Rattle.executor_model.specs.declared.call.Call.TheVariants as call
 use Rattle.executor_model.specs.declared.call.Reply.{Reply}
 use Rattle.executor_model.specs.declared.call.Reply.TheVariants as reply
 use Rattle.executor_model.specs.declared.event.Answer.TheVariants as answer
+use Rattle.executor_model.specs.declared.kind.Kind.{Kind}
+use Rattle.executor_model.specs.declared.kind.Kind.TheVariants.{Owned, Static}
 use Rattle.executor_model.specs.declared.event.Event.TheVariants as event
 use Rattle.executor_model.specs.declared.op.Waker.{Waker}
 use Rattle.executor_model.specs.declared.op.Waker.TheVariants.{Task, Outside}
@@ -182,7 +184,8 @@ begin_refusal w ss o c =
     unless (is_free o) Busy
     (unless (has_all w ss o c) NoSuch
     (unless (not (w.gone && is_on_executor c)) Gone
-    (unless (not (is_drop c) || is_unborrowed w ss) Borrowed None)))
+    (unless (not (is_drop c && w.is_static)) Gone
+    (unless (not (is_drop c) || is_unborrowed w ss) Borrowed None))))
 
 -- another party has the lock of the list of queues, and not both walk under its read lock
 abbrev pub is_locked_out : Lock → Op → Bool
@@ -360,10 +363,15 @@ run (t ∷ ts) s = run ts (stepped s (step s t))
 abbrev pub idle : ℕ → List (List Op)
 idle n = elim n [ zero ↦ [] | suc (m → rest) ↦ [] ∷ rest ]
 
--- a new machine for so many undropped futures and with so many parties
-abbrev pub start : ℕ → ℕ → Machine
-start limit n = record {
+abbrev pub is_static_kind : Kind → Bool
+is_static_kind Owned = false
+is_static_kind Static = true
+
+-- a new machine for so many undropped futures, of this kind and with so many parties
+abbrev pub start : ℕ → Kind → ℕ → Machine
+start limit kind n = record {
   world = record {
+    is_static = is_static_kind kind;
     limit = limit;
     tasks = [];
     awaiters = [];

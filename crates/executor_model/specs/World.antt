@@ -38,6 +38,8 @@ pub record Lock : Type 0 where
   pub readers : ℕ
 
 pub record World : Type 0 where
+  -- nobody drops the executor, and an entry of the table has no waker; else it has one
+  pub is_static : Bool
   -- as many accepted futures may be undropped
   pub limit : ℕ
   -- by the numbers of the futures: the task's marks and count, its stored awaiter,
@@ -47,7 +49,7 @@ pub record World : Type 0 where
   pub inside : List Bool
   -- the Runnables, by their futures
   pub queue : ClosableQueue ℕ
-  -- the futures that have an entry in the table, and a waker there, in the order of acceptance
+  -- the futures that have an entry in the table, in the order of acceptance
   pub table : List ℕ
   -- the futures that the executor's drop has taken out and not yet dropped, each with its waker,
   -- and the wakers of those that it has dropped and not yet woken

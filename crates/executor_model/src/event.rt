@@ -52,6 +52,11 @@ pub enum Event {
         party: u32,
         future: u64,
     },
+    /// The future's task was closed, as it is detached and nobody was left who could wake it.
+    LastWaker {
+        party: u32,
+        future: u64,
+    },
     /// The drop of the future begins.
     Dropped {
         party: u32,

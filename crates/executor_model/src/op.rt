@@ -144,6 +144,8 @@ pub enum HandleOp {
     /// The task's awaiter is notified, by a poll of the handle where the mark is set.
     Notify(u64, bool),
     EndNotify(u64, bool),
+    /// The cell of the task is emptied, and its awaiter is let go, where it has one.
+    LetGo(u64),
 }
 
 /// How a sleeper is told that there is something to do.

@@ -1,9 +1,10 @@
 //! Laws of the trace of every execution, of any number of parties and any list of steps.
 ghost use Rattle.executor_model.specs.AskedPolls.{IsWokenBetweenPolls};
 ghost use Rattle.executor_model.specs.AwaiterKept.{AwaiterIsKept};
+ghost use Rattle.executor_model.specs.DroppedAtRest.{IsDroppedAtRest};
 ghost use Rattle.executor_model.specs.DroppedOnce.{DropComesOnce, IsDroppedByTheEnd};
-ghost use Rattle.executor_model.specs.EarlyDrop.{EarlyDropHasCause};
-ghost use Rattle.executor_model.specs.EveryTrace.{EveryTrace};
+ghost use Rattle.executor_model.specs.EarlyDrop.{EarlyDropHasCause, LastWakerIsLast};
+ghost use Rattle.executor_model.specs.EveryTrace.{EveryTrace, EveryTraceBy};
 ghost use Rattle.executor_model.specs.LawfulPolls.{HasLawfulPolls};
 ghost use Rattle.executor_model.specs.OutputOnce.{OutputGoesOnce};
 
@@ -25,15 +26,28 @@ pub fn drops_come_once()
 {}
 
 /// Whatever the parties do, a future that is dropped before it was ready was cancelled before, or the drop
-/// of the executor had begun.
+/// of the executor had begun, or the executor is static, the future was detached and nobody was left who could
+/// wake it.
 pub fn early_drops_have_causes()
-    ensures { EveryTrace EarlyDropHasCause }
+    ensures { EveryTraceBy EarlyDropHasCause }
+{}
+
+/// Whatever the parties do, nobody is left who could wake a future only where it was detached and the executor is
+/// static, or the drop of the executor has begun.
+pub fn last_wakers_are_of_detached_futures()
+    ensures { EveryTraceBy LastWakerIsLast }
 {}
 
 /// Whatever the parties do, once the drop of the executor has ended each accepted future was dropped, and
 /// was dropped once.
 pub fn closing_drops_each_future_once()
     ensures { EveryTrace IsDroppedByTheEnd }
+{}
+
+/// Whatever the parties do, where somebody has dropped the executor and no call is in progress, each accepted future was
+/// dropped, and was dropped once.
+pub fn dropped_executors_drop_each_future_once()
+    ensures { EveryTrace IsDroppedAtRest }
 {}
 
 /// Whatever the parties do, a future is woken between two of its polls.

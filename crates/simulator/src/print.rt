@@ -84,6 +84,7 @@ fn push_event(
         | Event::Woken { .. }
         | Event::Cancelled { .. }
         | Event::Detached { .. }
+        | Event::LastWaker { .. }
         | Event::OutputGiven { .. }
         | Event::HandlePolled { .. }
         | Event::TickPolled { .. }

@@ -15,7 +15,7 @@ use crate::act::waker::{copy, push_goes};
 use crate::carry::push_awaiter;
 use crate::store::Store;
 use executor_model::{Awaiter, Event, HandleOp, Hint, Hold, Op, Reply, Waker, WakerOp};
-use task_moves::moves::{self, Answer, Moved};
+use task_moves::moves::{self, Answer, Moved, State};
 
 /// The party does this part of a poll of a handle, or of a notify.
 pub fn act(store: &mut Store, todo: &mut Vec<Op>, party: u32, hint: Hint, op: HandleOp)
@@ -32,6 +32,7 @@ pub fn act(store: &mut Store, todo: &mut Vec<Op>, party: u32, hint: Hint, op: Ha
         HandleOp::LookAgain(f) => look_again(store, todo, party, f),
         HandleOp::Notify(f, mine) => notify(store, todo, f, mine),
         HandleOp::EndNotify(f, mine) => end_notify(store, todo, hint, f, mine),
+        HandleOp::LetGo(f) => let_go_emptied(store, todo, f),
     }
 }
 
@@ -185,6 +186,27 @@ fn notify(store: &mut Store, todo: &mut Vec<Op>, f: u64, mine: bool)
     if !busy {
         todo.push_reserved(Op::Handle(HandleOp::EndNotify(f, mine)));
     }
+}
+
+/// The cell of a task without handle is emptied, and its awaiter goes uncalled.
+fn let_go_emptied(store: &mut Store, todo: &mut Vec<Op>, f: u64)
+    requires room { HasRoom store.old }
+    requires space { HasSpace todo.old }
+    requires needs { KeepsAwaiter (world_of store.old) f }
+    ensures { Does (acts.let_go_emptied (world_of store.old) f) store.new todo.old.items todo.new.items }
+{
+    let task = &mut store.tasks[f as usize];
+    if task.handle {
+        return;
+    }
+    *task = State {
+        awaiter: false,
+        ..*task
+    };
+    let awaiter = &mut store.awaiters[f as usize];
+    let old = *awaiter;
+    *awaiter = None;
+    push_let_go(todo, old);
 }
 
 /// The awaiter is taken out, to be called.

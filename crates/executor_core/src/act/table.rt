@@ -58,7 +58,7 @@ fn enter(store: &mut Store, todo: &mut Vec<Op>, party: u32, hint: Hint)
         return;
     }
     let f = store.tasks.len() as u64;
-    store.tasks.push_reserved(entered());
+    store.tasks.push_reserved(entered(store.is_static));
     store.awaiters.push_reserved(None);
     store.entries.enter(vacancy, f);
     store
@@ -68,9 +68,9 @@ fn enter(store: &mut Store, todo: &mut Vec<Op>, party: u32, hint: Hint)
     todo.push_reserved(Op::Queue(QueueOp::Append(f)));
 }
 
-/// A new task, of which the table has a waker.
-fn entered() -> State
-    ensures { result ≡ acts.entered }
+/// A new task, of which the table has a waker, unless it is static.
+fn entered(is_static: bool) -> State
+    ensures { result ≡ acts.entered is_static }
 {
     State {
         scheduled: true,
@@ -81,7 +81,7 @@ fn entered() -> State
         awaiter: false,
         registering: false,
         notifying: false,
-        references: 2,
+        references: if is_static { 1 } else { 2 },
     }
 }
 
@@ -132,13 +132,13 @@ fn take_to_drop(store: &mut Store, todo: &mut Vec<Op>, f: u64)
     todo.push_reserved(Op::User(UserOp::BeginDrop(f)));
 }
 
-/// The future's entry is taken out, where it is there, and its waker goes.
+/// The future's entry is taken out, where it is there, and its waker goes, where it has one.
 fn leave_table(store: &mut Store, todo: &mut Vec<Op>, f: u64)
     requires room { HasRoom store.old }
     requires space { HasSpace todo.old }
     ensures { Does (acts.leave_table (world_of store.old) f) store.new todo.old.items todo.new.items }
 {
-    if store.entries.leave(f) {
+    if store.entries.leave(f) && !store.is_static {
         todo.push_reserved(Op::Move(Move::Release, f));
     }
 }

@@ -61,10 +61,25 @@ fn told_as(kind: Move, party: u32, future: u64) -> Event
     }
 }
 
+/// Whether it closes an open task that nobody could wake any more.
+fn is_last_waker(kind: Move, state: State) -> bool
+    ensures { result ≡ acts.is_last_waker kind state }
+{
+    let last = state.references == 1 && !state.handle;
+    match kind {
+        Move::Release => last && !(state.completed || state.closed),
+        Move::EndPending => !state.closed && !state.scheduled && last,
+        Move::Detach => !(state.completed && !state.closed)
+            && state.references == 0
+            && !state.closed,
+        _ => false,
+    }
+}
+
 /// The task of this future moves.
 pub fn move_task(store: &mut Store, todo: &mut Vec<Op>, party: u32, kind: Move, f: u64)
-    requires room { vec_len store.old.trace + 2 ≤ vec_capacity store.old.trace }
-    requires space { vec_len todo.old + 5 ≤ vec_capacity todo.old }
+    requires room { vec_len store.old.trace + 3 ≤ vec_capacity store.old.trace }
+    requires space { vec_len todo.old + 6 ≤ vec_capacity todo.old }
     requires needs { CanMove (world_of store.old) kind f }
     ensures { Does (acts.move_task kind party (world_of store.old) f) store.new todo.old.items todo.new.items }
 {
@@ -74,6 +89,11 @@ pub fn move_task(store: &mut Store, todo: &mut Vec<Op>, party: u32, kind: Move, 
     let state = state_of(store, f);
     if is_told(kind, state) {
         store.trace.push_reserved(told_as(kind, party, f));
+    }
+    if is_last_waker(kind, state) {
+        store
+            .trace
+            .push_reserved(Event::LastWaker { party, future: f });
     }
     carry_out(store, todo, f, moves::after(kind, state));
 }

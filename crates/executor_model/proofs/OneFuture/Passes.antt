@@ -27,6 +27,8 @@ pub record Passes (x y : Seen) : Type 0 where
   pub leaving : y.leaving ≡ x.leaving
   pub queued : y.queued + y.pend.waiting ≡ x.queued + x.pend.waiting
   pub table : y.table ≡ x.table
+  pub tabled : y.tabled ≡ x.tabled
+  pub is_static : y.is_static ≡ x.is_static
   pub polls : y.pend.polls ≡ x.pend.polls
   pub ending : y.pend.ending ≡ x.pend.ending
   pub ready : y.pend.ready ≡ x.pend.ready
@@ -53,7 +55,7 @@ pub record Stays (x y : Seen) : Type 0 where
 
 -- its output: one that is there is given at most, and then its task is closed
 pub record Gives (x y : Seen) : Type 0 where
-  pub outputs : (y.outputs + y.extra.outs ≡ x.outputs + x.extra.outs) ⊎
+  pub outputs : ((y.outputs + y.extra.outs ≡ x.outputs + x.extra.outs) × (y.state.closed ≡ x.state.closed)) ⊎
       ((x.state.completed ≡ true) × ((x.state.closed ≡ false) × ((y.state.closed ≡ true) ×
       (y.outputs + y.extra.outs ≡ x.outputs + x.extra.outs + 1))))
 

@@ -1,0 +1,54 @@
+//! A future that leaves its waker, and what its test sees of it.
+use async_task::{Future, Nobody, Poll, Wake};
+use local_executor::LocalExWaker;
+use std::alloc::Global;
+use std::cell::{Cell, RefCell};
+use std::rc::Rc;
+use std::sync::Wait;
+
+/// What a future and its test share.
+#[derive(Drop)]
+pub struct Door<R: Wait + Copy + Drop> {
+    /// A copy of the waker of its first poll.
+    waker: RefCell<Option<LocalExWaker<Nobody, R>>>,
+    pub polls: Cell<u64>,
+}
+
+/// Leaves a copy of its waker at the door with its first poll, and is never ready.
+#[derive(Drop)]
+pub struct Visitor<R: Wait + Copy + Drop>(pub Rc<Door<R>, Global>);
+
+impl<R: Wait + Copy + Drop> Future<LocalExWaker<Nobody, R>> for Visitor<R> {
+    type Output = u64;
+
+    fn poll(&mut self, waker: &LocalExWaker<Nobody, R>) -> Poll<u64> {
+        let polls = self.0.polls.get();
+        if polls == 0 {
+            drop(self.0.waker.try_replace(waker.clone()));
+        }
+        self.0.polls.set(polls.saturating_add(1));
+        Poll::Pending
+    }
+}
+
+impl<R: Wait + Copy + Drop> Door<R> {
+    /// Takes the waker.
+    pub fn take(&self) -> Option<LocalExWaker<Nobody, R>> {
+        match self.waker.try_replace(None) {
+            Ok(waker) => waker,
+            Err(_) => None,
+        }
+    }
+}
+
+/// A door where nobody was.
+pub fn new_door<R: Wait + Copy + Drop>(alloc: Global) -> Option<Rc<Door<R>, Global>> {
+    let door = Door {
+        waker: RefCell::new(None),
+        polls: Cell::new(0),
+    };
+    match Rc::new(alloc, door) {
+        Ok(door) => Some(door),
+        Err(_) => None,
+    }
+}

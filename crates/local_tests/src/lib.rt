@@ -1,0 +1,16 @@
+//! Tests of executors of one thread, by what these give their users.
+#![tactic(auto)]
+
+#[cfg(test)]
+mod door;
+#[cfg(test)]
+mod hello;
+#[cfg(test)]
+mod many;
+mod moving;
+#[cfg(test)]
+mod texts;
+#[cfg(test)]
+mod threads;
+
+pub use moving::{Ready, send_last_waker, send_waker};

@@ -29,3 +29,4 @@ pub mod TraceGrows
 pub mod TraceSteps
 pub mod TickTraces
 pub mod Deeds
+pub mod Hushed

@@ -41,3 +41,4 @@ pub mod Calls
 pub mod CallsMean
 pub mod SpawnsMean
 pub mod WakersMean
+pub mod OutsideWakers

@@ -2,6 +2,7 @@
 ghost use Rattle.executor_model.specs.CallsMean.{CallsDoWhatTheySay};
 ghost use Rattle.executor_model.specs.EveryTrace.{EveryTrace};
 ghost use Rattle.executor_model.specs.Executions.{EveryMachine};
+ghost use Rattle.executor_model.specs.OutsideWakers.{OutsideWakersAreCalled};
 ghost use Rattle.executor_model.specs.SpawnsMean.{SpawnsAreLimited};
 ghost use Rattle.executor_model.specs.WakersMean.{WakersWakeTheirOwn};
 
@@ -28,4 +29,10 @@ pub fn spawns_are_limited()
 /// has ended woke that future, unless that was over before the wake ended.
 pub fn wakers_wake_their_own()
     ensures { EveryMachine WakersWakeTheirOwn }
+{}
+
+/// Whatever the parties do, a step that tells that a waker from outside of the executor is called leads its party into the
+/// user code of that waker, before anything else.
+pub fn outside_wakers_are_called()
+    ensures { EveryMachine OutsideWakersAreCalled }
 {}

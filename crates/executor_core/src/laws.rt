@@ -5,6 +5,7 @@ ghost use Rattle.executor_model.specs.DroppedAtRest.{IsDroppedAtRest};
 ghost use Rattle.executor_model.specs.DroppedOnce.{DropComesOnce, IsDroppedByTheEnd};
 ghost use Rattle.executor_model.specs.EarlyDrop.{EarlyDropHasCause, LastWakerIsLast};
 ghost use Rattle.executor_model.specs.EveryTrace.{EveryTrace, EveryTraceBy};
+ghost use Rattle.executor_model.specs.ClosingOrder.{DropsInOrder};
 ghost use Rattle.executor_model.specs.CallsMean.{CallsDoWhatTheySay};
 ghost use Rattle.executor_model.specs.LawfulPolls.{HasLawfulPolls};
 ghost use Rattle.executor_model.specs.OutputOnce.{OutputGoesOnce};
@@ -23,7 +24,8 @@ use executor_laws::laws::{
     runs_reach_futures, some_standing_is_called, ticks_are_exact, traces_continue,
 };
 use executor_model::call_laws::{
-    calls_do_what_they_say, outside_wakers_are_called, spawns_are_limited, wakers_wake_their_own,
+    calls_do_what_they_say, outside_wakers_are_called, spawns_are_limited,
+    the_closing_drop_keeps_the_order, wakers_wake_their_own,
 };
 use executor_model::laws::{
     emptiness_is_exact, futures_are_in_their_places, no_append_is_refused_full, one_runnable,
@@ -111,9 +113,11 @@ fn laws_of_calls()
     ensures spawns { EveryMachine SpawnsAreLimited }
     ensures wakers { EveryMachine WakersWakeTheirOwn }
     ensures outside { EveryMachine OutsideWakersAreCalled }
+    ensures order { EveryMachine DropsInOrder }
 {
     calls_do_what_they_say();
     spawns_are_limited();
     wakers_wake_their_own();
     outside_wakers_are_called();
+    the_closing_drop_keeps_the_order();
 }

@@ -20,6 +20,7 @@ pub mod Stepping
 pub mod Ways
 pub mod Settled
 pub mod Placing
+pub mod Listing
 pub mod Nears
 pub mod Pushes
 pub mod Reached

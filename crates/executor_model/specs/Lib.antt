@@ -42,3 +42,4 @@ pub mod CallsMean
 pub mod SpawnsMean
 pub mod WakersMean
 pub mod OutsideWakers
+pub mod ClosingOrder

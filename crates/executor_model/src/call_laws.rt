@@ -1,5 +1,6 @@
 //! Laws of what each call does, of any number of parties and any list of steps.
 ghost use Rattle.executor_model.specs.CallsMean.{CallsDoWhatTheySay};
+ghost use Rattle.executor_model.specs.ClosingOrder.{DropsInOrder};
 ghost use Rattle.executor_model.specs.EveryTrace.{EveryTrace};
 ghost use Rattle.executor_model.specs.Executions.{EveryMachine};
 ghost use Rattle.executor_model.specs.OutsideWakers.{OutsideWakersAreCalled};
@@ -35,4 +36,10 @@ pub fn wakers_wake_their_own()
 /// user code of that waker, before anything else.
 pub fn outside_wakers_are_called()
     ensures { EveryMachine OutsideWakersAreCalled }
+{}
+
+/// Whatever the parties do, futures are numbered in the order in which they are accepted, and those that are dropped since
+/// the drop of the executor began are dropped in that order.
+pub fn the_closing_drop_keeps_the_order()
+    ensures { EveryMachine DropsInOrder }
 {}

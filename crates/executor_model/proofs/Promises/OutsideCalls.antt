@@ -5,6 +5,8 @@ use Rattle.std.proofs.Common.{subst, append-nil, ltb, arith, get_or-set_same}
 use Rattle.std.proofs.lemmas.Bool.Decides.{nat_tests}
 use Rattle.std.proofs.lemmas.List.{append_assoc, append_cancel_left, reverse-append}
 use Rattle.std.specs.Prelude.{Option, Some, None, reverse}
+use Rattle.executor_model.specs.declared.call.Call.{Call}
+use Rattle.executor_model.specs.declared.call.Call.TheVariants as call
 use Rattle.executor_model.specs.declared.event.Event.{Event}
 use Rattle.executor_model.specs.declared.event.Event.TheVariants as event
 use Rattle.executor_model.specs.declared.op.ClosingOp.TheVariants as closing_op
@@ -15,6 +17,7 @@ use Rattle.executor_model.specs.declared.op.Polled.TheVariants as of
 use Rattle.executor_model.specs.declared.op.RunOp.TheVariants as run_op
 use Rattle.executor_model.specs.declared.op.RunPoll.{RunPoll}
 use Rattle.executor_model.specs.declared.op.SleeperOp.TheVariants as sleeper_op
+use Rattle.executor_model.specs.declared.op.TableOp.TheVariants as table_op
 use Rattle.executor_model.specs.declared.op.UserOp.TheVariants as user_op
 use Rattle.executor_model.specs.declared.op.Waker.{Waker}
 use Rattle.executor_model.specs.declared.op.Waker.TheVariants.{Task, Outside}
@@ -33,7 +36,7 @@ use Rattle.executor_model.specs.Steps.{Machine, Part, begun, end_of, mine, onto,
 use Rattle.executor_model.specs.Steps.{refusal, run, settled_by, stack, start, step, step_by, stepped, top, unless}
 use Rattle.executor_model.specs.Trace.{Trace, has}
 use Rattle.executor_model.specs.World.{World, Done, log}
-use Rattle.executor_model.proofs.Steps.Hushed.{Hushed, Hushes, hushed-act, hushed-called, hushed-is, hushed-react, is_hushed}
+use Rattle.executor_model.proofs.Steps.Hushed.{Hushed, Hushes, HushesCall, hushed-act, hushed-called, hushed-is, hushed-react, is_hushed}
 use Rattle.executor_model.proofs.Steps.Tests.{or-false}
 use Rattle.executor_model.proofs.Steps.TraceMore.{has-append}
 use Rattle.executor_model.proofs.Steps.Ways.{Made, Way, made}
@@ -99,9 +102,14 @@ leads-act x p h (op.Sleeper (sleeper_op.CallSleeper s)) w =
 leads-act x p h (op.Run (run_op.WakeOwn r)) w =
     calls x p h (op.Run (run_op.WakeOwn r)) w r.waker (λ z. any-call x p p (of.Handle 0) (of.Run r.run) 0 r.poll r.waker z)
     (λ y e. own-comes p w r r.waker y refl e)
+leads-act x p h (op.Table table_op.Enter) w = silent x p h (op.Table table_op.Enter) w (λ f. refl)
 leads-act x p h (op.User (user_op.BeginDrop f)) w = silent x p h (op.User (user_op.BeginDrop f)) w refl
 leads-act x p h (op.Closing closing_op.DropNext) w = silent x p h (op.Closing closing_op.DropNext) w (λ f. refl)
 leads-act x p h o w = silent x p h o w tt
+
+called-none : (x p : ℕ) (c : Call) → HushesCall (is_outside_call x) (hushed-none x) p c
+called-none x p call.DropExecutor = refl
+called-none x p c = tt
 
 -- each way in which a party goes on
 leads-way : (x : ℕ) (s : Machine) (p : ℕ) (old rest : List Op) (d : Done) → Way s p old rest d → Leads x s.world d
@@ -112,7 +120,7 @@ leads-way x s p old rest d (reacted o u a q z) = λ more e. untold (hushed-is (i
     (hushed-react (is_outside_call x) (hushed-none x) p o u s.world)))
 leads-way x s p old rest d (called c q r n z) = λ more e. untold (hushed-is (is_outside_call x) (hushed-none x) s.world
     d.world more e (subst (λ (y : Done). Hushed (is_outside_call x) (hushed-none x) s.world y.world) (sym z)
-    (hushed-called (is_outside_call x) (hushed-none x) p s.world (mine (top (stack s p))) c)))
+    (hushed-called (is_outside_call x) (hushed-none x) p s.world (mine (top (stack s p))) c (called-none x p c))))
 
 -- and then the call ends, where its end is all that is left of it
 
@@ -169,6 +177,7 @@ way-more s p old rest d (acted h o q z) =
     allows (op.Waker (waker_op.CallAwaiter f a k)) = refl
     allows (op.Sleeper (sleeper_op.CallSleeper n)) = refl
     allows (op.Run (run_op.WakeOwn r)) = refl
+    allows (op.Table table_op.Enter) = λ f. refl
     allows (op.User (user_op.BeginDrop f)) = refl
     allows (op.Closing closing_op.DropNext) = λ f. refl
     allows _ = tt
@@ -177,7 +186,11 @@ way-more s p old rest d (reacted o u a q z) =
     (hushed-react (λ (e : Event). false) (λ e i. refl) p o u s.world)
 way-more s p old rest d (called c q r n z) =
     subst (λ (y : Done). Hushed (λ (e : Event). false) (λ e i. refl) s.world y.world) (sym z)
-    (hushed-called (λ (e : Event). false) (λ e i. refl) p s.world (mine (top (stack s p))) c)
+    (hushed-called (λ (e : Event). false) (λ e i. refl) p s.world (mine (top (stack s p))) c (allows c))
+  where
+    allows : (c : Call) → HushesCall (λ (e : Event). false) (λ e i. refl) p c
+    allows call.DropExecutor = refl
+    allows c = tt
 
 stands-made : (x : ℕ) (s : Machine) (p : ℕ) (l : Part) → Made s p l → Stands x s.world.trace l
 stands-made x s p l m =

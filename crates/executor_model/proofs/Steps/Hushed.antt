@@ -1,6 +1,6 @@
--- For outside_wakers_are_called.
--- What is added to the trace passes no test that only the call of a waker, or the drop of a future, passes, where the
--- thing that is done calls no such waker and drops no such future.
+-- For outside_wakers_are_called and the_closing_drop_keeps_the_order.
+-- What is added to the trace passes no test that only the call of a waker, the acceptance or drop of a future, or the
+-- beginning of the executor's drop passes, where the thing that is done is none of these.
 use Rattle.std.proofs.Common.{◌≡◌, ℕ, List, [], ◌∷◌, ◌++◌, length, Bool, true, false, ◌||◌, refl, sym, ap, ◌∙◌, append-nil}
 use Rattle.std.proofs.lemmas.List.{append_assoc, append_cancel_left}
 use Rattle.std.specs.Prelude.{Option, Some, None}
@@ -52,10 +52,12 @@ use Rattle.executor_model.proofs.Steps.Tests.{or-false}
 use Rattle.executor_model.proofs.Steps.TickTraces.{tick-trace}
 use Rattle.executor_model.proofs.Steps.TraceMore.{has-append}
 
--- it calls no waker that a poll was given, and is the beginning of no future's drop
+-- it calls no waker that a poll was given, takes no future in, and is the beginning of no drop
 abbrev pub is_hushed : Event → Bool
 is_hushed (event.WakerCalled p o k a) = false
+is_hushed (event.Accepted p f) = false
 is_hushed (event.Dropped p f) = false
+is_hushed (event.DropBegun p) = false
 is_hushed _ = true
 
 told-hushed : (m : Move) (p f : ℕ) → is_hushed (told_as m p f) ≡ true
@@ -103,10 +105,11 @@ module _ (t : Event → Bool) (u : (e : Event) → is_hushed e ≡ true → t e 
   hushed-take [] w = hushed _ _ refl
   hushed-take (f ∷ rest) w = hushed _ _ refl
 
-  hushed-enter : (b c : Bool) (p : ℕ) (w : World) → Hushed w (enter_by b c p w).world
-  hushed-enter true c p w = hushed _ _ refl
-  hushed-enter false true p w = hushed _ _ refl
-  hushed-enter false false p w = one _ _ (event.Accepted p (length w.tasks)) refl (u _ refl)
+  hushed-enter : (b c : Bool) (p : ℕ) (w : World) → ((f : ℕ) → t (event.Accepted p f) ≡ false) →
+      Hushed w (enter_by b c p w).world
+  hushed-enter true c p w z = hushed _ _ refl
+  hushed-enter false true p w z = hushed _ _ refl
+  hushed-enter false false p w z = one _ _ (event.Accepted p (length w.tasks)) refl (z (length w.tasks))
 
   hushed-leave : (b : Bool) (w : World) (f : ℕ) → Hushed w (leave_by b w f).world
   hushed-leave true w f = hushed _ _ refl
@@ -205,17 +208,18 @@ module _ (t : Event → Bool) (u : (e : Event) → is_hushed e ≡ true → t e 
       let v : World = log w (event.WakerCalled p (of.Run x.run) x.poll x.waker) in
       both w v _ (one w v (event.WakerCalled p (of.Run x.run) x.poll x.waker) refl z) (hushed-reference p v x.waker)
 
-  -- the waker that it calls, and the future whose drop it begins, don't pass the test
+  -- the waker that it calls, the future that it takes in, and the one whose drop it begins don't pass the test
   abbrev pub Hushes : ℕ → Op → Type 0
   Hushes p (op.Waker (waker_op.CallAwaiter f a k)) = t (event.WakerCalled p (of.Handle f) k a) ≡ false
   Hushes p (op.Sleeper (sleeper_op.CallSleeper s)) = t (event.WakerCalled p (polled_as s.who) s.poll s.waker) ≡ false
   Hushes p (op.Run (run_op.WakeOwn x)) = t (event.WakerCalled p (of.Run x.run) x.poll x.waker) ≡ false
+  Hushes p (op.Table table_op.Enter) = (f : ℕ) → t (event.Accepted p f) ≡ false
   Hushes p (op.User (user_op.BeginDrop f)) = t (event.Dropped p f) ≡ false
   Hushes p (op.Closing closing_op.DropNext) = (f : ℕ) → t (event.Dropped p f) ≡ false
   Hushes p _ = Unit {0}
 
   pub hushed-act : (p : ℕ) (h : Hint) (o : Op) (w : World) → Hushes p o → Hushed w (act p h o w).world
-  hushed-act p h (op.Table table_op.Enter) w z = hushed-enter _ _ p w
+  hushed-act p h (op.Table table_op.Enter) w z = hushed-enter _ _ p w z
   hushed-act p h (op.Table (table_op.LeaveTable f)) w z = hushed-leave _ w f
   hushed-act p h (op.Queue queue_op.Take) w z = hushed-take _ w
   hushed-act p h (op.Queue (queue_op.Append f)) w z = hushed-append _ w f
@@ -267,22 +271,27 @@ module _ (t : Event → Bool) (u : (e : Event) → is_hushed e ≡ true → t e 
   hushed-with w (Some f) d k = k f
   hushed-with w None d k = hushed _ _ refl
 
-  pub hushed-begun : (p : ℕ) (w : World) (here : Option Waker) (c : Call) → Hushed w (begun p w here c).world
-  hushed-begun p w here (call.Wake k) = hushed-with w (kept w k) _ (λ f. hushed _ _ refl)
-  hushed-begun p w here (call.WakeByRef k) = hushed-with w (kept w k) _ (λ f. hushed _ _ refl)
-  hushed-begun p w here (call.Copy k) = hushed-with w (kept w k) _ (λ f. hushed _ _ refl)
-  hushed-begun p w here (call.DropWaker k) = hushed-with w (kept w k) _ (λ f. hushed _ _ refl)
-  hushed-begun p w here call.Keep = hushed-with w (future_of here) _ (λ f. hushed _ _ refl)
-  hushed-begun p w here call.WakeSelf = hushed-with w (future_of here) _ (λ f. hushed _ _ refl)
-  hushed-begun p w here (call.PollTick n b) = one _ _ (event.TickPolled p n) refl (u _ refl)
-  hushed-begun p w here (call.DropTick n) = one _ _ (event.TickDropped p n) refl (u _ refl)
-  hushed-begun p w here (call.PollRun r b) = one _ _ (event.RunPolled p r) refl (u _ refl)
-  hushed-begun p w here (call.DropRun r) = one _ _ (event.RunDropped p r) refl (u _ refl)
-  hushed-begun p w here call.DropExecutor = one _ _ (event.DropBegun p) refl (u _ refl)
-  hushed-begun p w here _ = hushed _ _ refl
+  abbrev pub HushesCall : ℕ → Call → Type 0
+  HushesCall p call.DropExecutor = t (event.DropBegun p) ≡ false
+  HushesCall p _ = Unit {0}
+
+  pub hushed-begun : (p : ℕ) (w : World) (here : Option Waker) (c : Call) → HushesCall p c →
+      Hushed w (begun p w here c).world
+  hushed-begun p w here (call.Wake k) z = hushed-with w (kept w k) _ (λ f. hushed _ _ refl)
+  hushed-begun p w here (call.WakeByRef k) z = hushed-with w (kept w k) _ (λ f. hushed _ _ refl)
+  hushed-begun p w here (call.Copy k) z = hushed-with w (kept w k) _ (λ f. hushed _ _ refl)
+  hushed-begun p w here (call.DropWaker k) z = hushed-with w (kept w k) _ (λ f. hushed _ _ refl)
+  hushed-begun p w here call.Keep z = hushed-with w (future_of here) _ (λ f. hushed _ _ refl)
+  hushed-begun p w here call.WakeSelf z = hushed-with w (future_of here) _ (λ f. hushed _ _ refl)
+  hushed-begun p w here (call.PollTick n b) z = one _ _ (event.TickPolled p n) refl (u _ refl)
+  hushed-begun p w here (call.DropTick n) z = one _ _ (event.TickDropped p n) refl (u _ refl)
+  hushed-begun p w here (call.PollRun r b) z = one _ _ (event.RunPolled p r) refl (u _ refl)
+  hushed-begun p w here (call.DropRun r) z = one _ _ (event.RunDropped p r) refl (u _ refl)
+  hushed-begun p w here call.DropExecutor z = one _ _ (event.DropBegun p) refl z
+  hushed-begun p w here _ z = hushed _ _ refl
 
   -- and the beginning of the call before it
-  pub hushed-called : (p : ℕ) (w : World) (here : Option Waker) (c : Call) →
+  pub hushed-called : (p : ℕ) (w : World) (here : Option Waker) (c : Call) → HushesCall p c →
       Hushed w (begun p (log w (event.CallBegun p c)) here c).world
-  hushed-called p w here c = let v : World = log w (event.CallBegun p c) in
-      both w v _ (one w v (event.CallBegun p c) refl (u _ refl)) (hushed-begun p v here c)
+  hushed-called p w here c z = let v : World = log w (event.CallBegun p c) in
+      both w v _ (one w v (event.CallBegun p c) refl (u _ refl)) (hushed-begun p v here c z)

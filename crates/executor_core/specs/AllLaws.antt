@@ -8,6 +8,7 @@ use Rattle.executor_model.specs.AskedPolls.{IsWokenBetweenPolls}
 use Rattle.executor_model.specs.AwaiterKept.{AwaiterIsKept}
 use Rattle.executor_model.specs.CallsMean.{CallsDoWhatTheySay}
 use Rattle.executor_model.specs.ClosingOrder.{DropsInOrder}
+use Rattle.executor_model.specs.ClosingWakes.{WakesInOrder}
 use Rattle.executor_model.specs.DroppedAtRest.{IsDroppedAtRest}
 use Rattle.executor_model.specs.DroppedOnce.{DropComesOnce, IsDroppedByTheEnd}
 use Rattle.executor_model.specs.EarlyDrop.{EarlyDropHasCause, LastWakerIsLast}
@@ -141,8 +142,9 @@ pub record AllLaws (s : Machine) : Type 0 where
   pub wakers : WakersWakeTheirOwn s
   -- an outside waker that is told of as called is called
   pub outside : OutsideWakersAreCalled s
-  -- the executor's drop drops the futures in the order of acceptance
+  -- the executor's drop drops the futures in the order of acceptance, and wakes them so
   pub order : DropsInOrder s
+  pub wakes_order : WakesInOrder s
   -- each step that goes on lowers a number
   pub lowered : EachStepLowers s
   -- so a list of these is no longer than that

@@ -6,6 +6,7 @@ ghost use Rattle.executor_model.specs.DroppedOnce.{DropComesOnce, IsDroppedByThe
 ghost use Rattle.executor_model.specs.EarlyDrop.{EarlyDropHasCause, LastWakerIsLast};
 ghost use Rattle.executor_model.specs.EveryTrace.{EveryTrace, EveryTraceBy};
 ghost use Rattle.executor_model.specs.ClosingOrder.{DropsInOrder};
+ghost use Rattle.executor_model.specs.ClosingWakes.{WakesInOrder};
 ghost use Rattle.executor_model.specs.CallsMean.{CallsDoWhatTheySay};
 ghost use Rattle.executor_model.specs.LawfulPolls.{HasLawfulPolls};
 ghost use Rattle.executor_model.specs.OutputOnce.{OutputGoesOnce};
@@ -25,7 +26,7 @@ use executor_laws::laws::{
 };
 use executor_model::call_laws::{
     calls_do_what_they_say, outside_wakers_are_called, spawns_are_limited,
-    the_closing_drop_keeps_the_order, wakers_wake_their_own,
+    the_closing_drop_keeps_the_order, the_closing_drop_wakes_in_order, wakers_wake_their_own,
 };
 use executor_model::laws::{
     emptiness_is_exact, futures_are_in_their_places, no_append_is_refused_full, one_runnable,
@@ -114,10 +115,12 @@ fn laws_of_calls()
     ensures wakers { EveryMachine WakersWakeTheirOwn }
     ensures outside { EveryMachine OutsideWakersAreCalled }
     ensures order { EveryMachine DropsInOrder }
+    ensures wakes_order { EveryMachine WakesInOrder }
 {
     calls_do_what_they_say();
     spawns_are_limited();
     wakers_wake_their_own();
     outside_wakers_are_called();
     the_closing_drop_keeps_the_order();
+    the_closing_drop_wakes_in_order();
 }

@@ -43,3 +43,4 @@ pub mod SpawnsMean
 pub mod WakersMean
 pub mod OutsideWakers
 pub mod ClosingOrder
+pub mod ClosingWakes

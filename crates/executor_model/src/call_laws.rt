@@ -1,6 +1,7 @@
 //! Laws of what each call does, of any number of parties and any list of steps.
 ghost use Rattle.executor_model.specs.CallsMean.{CallsDoWhatTheySay};
 ghost use Rattle.executor_model.specs.ClosingOrder.{DropsInOrder};
+ghost use Rattle.executor_model.specs.ClosingWakes.{WakesInOrder};
 ghost use Rattle.executor_model.specs.EveryTrace.{EveryTrace};
 ghost use Rattle.executor_model.specs.Executions.{EveryMachine};
 ghost use Rattle.executor_model.specs.OutsideWakers.{OutsideWakersAreCalled};
@@ -42,4 +43,11 @@ pub fn outside_wakers_are_called()
 /// the drop of the executor began are dropped in that order.
 pub fn the_closing_drop_keeps_the_order()
     ensures { EveryMachine DropsInOrder }
+{}
+
+/// Whatever the parties do, the futures that the drop of the executor has dropped and has still to wake stand in the order
+/// of acceptance, and those that it has still to drop behind them. The first of those stays the first until a step wakes it
+/// and takes it out; it isn't woken where its task was completed or closed.
+pub fn the_closing_drop_wakes_in_order()
+    ensures { EveryMachine WakesInOrder }
 {}

@@ -167,7 +167,7 @@ stands-onto x s p rest d before e (first os i) =
     stands-first x p s.world.trace d.world (rest ++ reverse d.next) (top (rest ++ reverse d.next)) refl
     (ap (λ (ns : List Op). top (rest ++ reverse ns)) i ∙ top-first rest (op.User (user_op.CallOutside x)) os)
 
-way-more : (s : Machine) (p : ℕ) (old rest : List Op) (d : Done) → Way s p old rest d →
+pub way-more : (s : Machine) (p : ℕ) (old rest : List Op) (d : Done) → Way s p old rest d →
     Hushed (λ (e : Event). false) (λ e z. refl) s.world d.world
 way-more s p old rest d (acted h o q z) =
     subst (λ (y : Done). Hushed (λ (e : Event). false) (λ e i. refl) s.world y.world) (sym z)

@@ -1,4 +1,4 @@
--- For outside_wakers_are_called and the_closing_drop_keeps_the_order.
+-- For outside_wakers_are_called, the_closing_drop_keeps_the_order and the_closing_drop_wakes_in_order.
 -- What is added to the trace passes no test that only the call of a waker, the acceptance or drop of a future, or the
 -- beginning of the executor's drop passes, where the thing that is done is none of these.
 use Rattle.std.proofs.Common.{◌≡◌, ℕ, List, [], ◌∷◌, ◌++◌, length, Bool, true, false, ◌||◌, refl, sym, ap, ◌∙◌, append-nil}
@@ -177,7 +177,7 @@ module _ (t : Event → Bool) (u : (e : Event) → is_hushed e ≡ true → t e 
   hushed-drop_next p w [] z = hushed _ _ refl
   hushed-drop_next p w (f ∷ rest) z = one _ _ (event.Dropped p f) refl (z f)
 
-  hushed-wake_next : (p : ℕ) (w : World) (ls : List ℕ) → Hushed w (wake_next_by p w ls).world
+  pub hushed-wake_next : (p : ℕ) (w : World) (ls : List ℕ) → Hushed w (wake_next_by p w ls).world
   hushed-wake_next p w [] = hushed _ _ refl
   hushed-wake_next p w (f ∷ rest) =
       let v : World = record w { waking = rest } in

@@ -1,6 +1,6 @@
--- For the_closing_drop_keeps_the_order.
--- Which things that are done change the table, or the list of those that the executor's drop has still to drop: the rest
--- leave both as they were.
+-- For the_closing_drop_keeps_the_order and the_closing_drop_wakes_in_order.
+-- Which things that are done change the table, or the lists of those that the executor's drop has still to drop and to
+-- wake: the rest leave all three as they were.
 use Rattle.std.proofs.Common.{◌≡◌, ℕ, ◌<◌, List, [], ◌∷◌, length, Bool, true, false, refl, sym, ap, ◌∙◌}
 use Rattle.std.specs.Prelude.{Option, Some, None}
 use Rattle.task_moves.specs.declared.moves.owed.Answer.{Answer}
@@ -37,7 +37,6 @@ use Rattle.executor_model.specs.declared.step.UserEnd.{UserEnd}
 use Rattle.executor_model.specs.declared.step.UserEnd.TheVariants as end
 use Rattle.executor_model.specs.Acts.{append_by, call_waker, copy_awaiter_by, copy_by, drain_by, end_register_by, is_last_waker, is_told}
 use Rattle.executor_model.specs.Acts.{let_go_by, look_again_by, look_by, move_by, notify_by, register_by, take_by, told_as}
-use Rattle.executor_model.specs.Acts.{wake_next_by}
 use Rattle.executor_model.specs.ActsOfRuns.{call_by_reference, kept_by, wake_own}
 use Rattle.executor_model.specs.ActsOfSleepers.{search_by}
 use Rattle.executor_model.specs.Doing.{act, search_by_who}
@@ -50,18 +49,20 @@ use Rattle.executor_model.proofs.Steps.RunsWays.{AllOfRuns, by-list, by-run, by-
 pub record Entries : Type 0 where
   pub table : List ℕ
   pub leaving : List ℕ
+  pub waking : List ℕ
 
 abbrev pub entries : World → Entries
-entries w = record { table = w.table; leaving = w.leaving }
+entries w = record { table = w.table; leaving = w.leaving; waking = w.waking }
 
 abbrev entries_in : Rest → Entries
-entries_in r = record { table = r.table; leaving = r.leaving }
+entries_in r = record { table = r.table; leaving = r.leaving; waking = r.waking }
 
 abbrev pub lists : Op → Bool
 lists (op.Table table_op.Enter) = true
 lists (op.Table (table_op.LeaveTable f)) = true
 lists (op.Closing closing_op.TakeOut) = true
 lists (op.Closing closing_op.DropNext) = true
+lists (op.Closing closing_op.WakeNext) = true
 lists _ = false
 
 entries-log_if : (b : Bool) (w : World) (e : Event) → entries w ≡ entries (log_if b w e)
@@ -113,10 +114,6 @@ entries-call : (p : ℕ) (w : World) (o : Polled) (a : Waker) (k : ℕ) → entr
 entries-call p w o (Task g) k = entries-log_if _ (log w (event.WakerCalled p o k (Task g))) (event.Woken p g)
 entries-call p w o (Outside x) k = refl
 
-entries-wake_next : (q : List ℕ) (p : ℕ) (w : World) → entries w ≡ entries (wake_next_by p w q).world
-entries-wake_next [] p w = refl
-entries-wake_next (f ∷ rest) p w = entries-log_if _ (record w { waking = rest }) (event.Woken p f)
-
 entries-drain : (q : List ℕ) (p : ℕ) (w : World) → entries w ≡ entries (drain_by p w q).world
 entries-drain [] p w = refl
 entries-drain (f ∷ rest) p w = refl
@@ -127,7 +124,7 @@ abbrev SameEntries : World → List Op → Done → Type 0
 SameEntries w old d = entries w ≡ entries d.world
 
 entries-moves : (w : World) (old : List Op) (d : Done) → AllOfRuns old → AllOfRuns d.next → Moves w old d → SameEntries w old d
-entries-moves w old d a n m = λ i. record { table = sym m.same.table i; leaving = sym m.same.leaving i }
+entries-moves w old d a n m = λ i. record { table = sym m.same.table i; leaving = sym m.same.leaving i; waking = sym m.same.waking i }
 
 entries-put : (p : ℕ) (w : World) (s : Steal) (more f : ℕ) (d : Done) → s.poll.run < length w.own →
     SameEntries (kept_by p w s.poll.run f) (op.Steal (steal_op.OwnLength s 0) ∷ []) d →
@@ -151,7 +148,7 @@ entries-search : (who : TickOrRun) (w : World) (s : Sleeping) → s.who ≡ who 
 entries-search (tick_or_run.Tick t) w s e = entries-tick _ w _ s
 entries-search (tick_or_run.Run r) w s e = by-search SameEntries entries-moves entries-put w r s e
 
-entries-move : (b : Bool) (m : Move) (p : ℕ) (w : World) (f : ℕ) → entries w ≡ entries (move_by b m p w f).world
+pub entries-move : (b : Bool) (m : Move) (p : ℕ) (w : World) (f : ℕ) → entries w ≡ entries (move_by b m p w f).world
 entries-move true m p w f = let v = log_if (is_told m (task w f)) w (told_as m p f) in
     entries-log_if (is_told m (task w f)) w (told_as m p f)
     ∙ entries-log_if (is_last_waker m (task w f)) v (event.LastWaker p f)
@@ -166,6 +163,7 @@ same-entries p h (op.Table table_op.Enter) w n = absurd (cc)
 same-entries p h (op.Table (table_op.LeaveTable f)) w n = absurd (cc)
 same-entries p h (op.Closing closing_op.TakeOut) w n = absurd (cc)
 same-entries p h (op.Closing closing_op.DropNext) w n = absurd (cc)
+same-entries p h (op.Closing closing_op.WakeNext) w n = absurd (cc)
 same-entries p h (op.Move m f) w n = entries-move _ m p w f
 same-entries p h (op.Waker (waker_op.CopyWaker f held)) w n = entries-copy _ w f held
 same-entries p h (op.Queue queue_op.Take) w n = entries-take _ w
@@ -190,7 +188,6 @@ same-entries p h (op.Tick (tick_op.Leave t)) w n = ap entries_in (tick-rest h (t
 same-entries p h (op.List o) w n = by-list SameEntries entries-moves entries-put h o w
 same-entries p h (op.Steal o) w n = by-steal SameEntries entries-moves entries-put p o w
 same-entries p h (op.Run o) w n = by-run SameEntries entries-moves entries-put p h o w (λ x e. entries-own p w x)
-same-entries p h (op.Closing closing_op.WakeNext) w n = entries-wake_next _ p w
 same-entries p h (op.Closing closing_op.Drain) w n = entries-drain _ p w
 same-entries p h (op.User (user_op.BeginDrop f)) w n = refl
 same-entries p h _ w n = refl

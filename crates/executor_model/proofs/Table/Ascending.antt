@@ -1,4 +1,4 @@
--- For the_closing_drop_keeps_the_order.
+-- For the_closing_drop_keeps_the_order and the_closing_drop_wakes_in_order.
 -- Lists of rising numbers, and which futures a trace has accepted and dropped, as more happens.
 use Rattle.std.proofs.Common.{◌≡◌, ◌≢◌, ℕ, ◌+◌, ◌<◌, ◌≤◌, List, [], ◌∷◌, ◌++◌, Bool, true, false, ◌||◌, eqb, refl, sym, ap}
 use Rattle.std.proofs.Common.{◌∙◌, arith, append-nil}

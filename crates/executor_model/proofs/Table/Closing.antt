@@ -1,4 +1,4 @@
--- For the_closing_drop_keeps_the_order.
+-- For the_closing_drop_keeps_the_order and the_closing_drop_wakes_in_order.
 -- The table has the futures in the order of acceptance, so the executor's drop, which goes through it, drops them so.
 use Rattle.std.proofs.Common.{◌≡◌, ◌⊎◌, ℕ, ◌+◌, ◌<◌, ◌≤◌, List, [], ◌∷◌, ◌++◌, length, set, Bool, true, false, not, inl, inr}
 use Rattle.std.proofs.Common.{◌&&◌, ◌||◌, cond, eqb}
@@ -26,7 +26,7 @@ use Rattle.executor_model.specs.declared.op.UserOp.TheVariants as user_op
 use Rattle.executor_model.specs.declared.op.WakerOp.TheVariants as waker_op
 use Rattle.executor_model.specs.declared.step.Hint.{Hint}
 use Rattle.executor_model.specs.declared.step.Step.{Step}
-use Rattle.executor_model.specs.Acts.{closing_ops, drop_next_by, enter_by, leave_by, move_by}
+use Rattle.executor_model.specs.Acts.{closing_ops, drop_next_by, enter_by, leave_by, move_by, wake_next_by}
 use Rattle.executor_model.specs.ClosingOrder.{Ascends, DropsInOrder, accepted_in, dropped_in, dropped_since}
 use Rattle.executor_model.specs.Doing.{act}
 use Rattle.executor_model.specs.Good.{Good}
@@ -47,9 +47,9 @@ use Rattle.executor_model.proofs.OneFuture.Telling.{accepted-counts, begun-has, 
 use Rattle.executor_model.proofs.OneFuture.Views.{none}
 use Rattle.executor_model.proofs.Steps.Asides.{Aside, aside-entry, aside-owed}
 use Rattle.executor_model.proofs.Steps.Growing.{split}
-use Rattle.executor_model.proofs.Steps.Hushed.{Hushed, Hushes, HushesCall, hushed-act, hushed-called, hushed-react}
+use Rattle.executor_model.proofs.Steps.Hushed.{Hushed, Hushes, HushesCall, hushed-act, hushed-called, hushed-react, hushed-wake_next}
 use Rattle.executor_model.proofs.Steps.Lift.{good-start, none_refused, unsettled}
-use Rattle.executor_model.proofs.Steps.Listing.{Entries, entries, lists, same-begun, same-entries, same-react}
+use Rattle.executor_model.proofs.Steps.Listing.{Entries, entries, entries-move, lists, same-begun, same-entries, same-react}
 use Rattle.executor_model.proofs.Steps.Lists.{same_cases, weigh-append, weigh_all-push}
 use Rattle.executor_model.proofs.Steps.Ways.{Way, along}
 use Rattle.executor_model.proofs.Steps.Ways.Way.{acted, called, reacted}
@@ -119,6 +119,12 @@ pub record Ordered (s : Machine) : Type 0 where
   pub table : Ascends s.world.table
   pub closing : Ascends (dropped_since s.world.trace ++ s.world.leaving)
   pub first : 1 ≤ weigh_all ousting_of s.parties → dropped_since s.world.trace ≡ []
+  pub waits : Ascends (s.world.waking ++ s.world.leaving)
+  pub unwoken : dropped_since s.world.trace ≡ [] → s.world.waking ≡ []
+
+some-last : (xs : List ℕ) (f : ℕ) → xs ++ f ∷ [] ≡ [] → ⊥
+some-last [] f e = absurd (cc)
+some-last (x ∷ xs) f e = absurd (cc)
 
 -- how many times a future was accepted
 accepted-from : (g n : ℕ) (es : Trace) →
@@ -141,6 +147,8 @@ module _ (s : Machine) (fine : Good s) (h : Ordered s) where
     pub table : Ascends v.table
     pub closing : Ascends (dropped_since v.trace ++ v.leaving)
     pub first : (s.world.gone ≡ false) ⊎ (1 ≤ weigh_all ousting_of s.parties) → dropped_since v.trace ≡ []
+    pub waits : Ascends (v.waking ++ v.leaving)
+    pub unwoken : dropped_since v.trace ≡ [] → v.waking ≡ []
 
   begun-is : has is_drop_begun s.world.trace ≡ s.world.gone
   begun-is = sym (begun-has 0 s.world.trace) ∙ (h.placed.leaves 0).begun
@@ -159,6 +167,9 @@ module _ (s : Machine) (fine : Good s) (h : Ordered s) where
         (subst (λ (xs : List ℕ). Ascends (dropped_since s.world.trace ++ xs))
         (ap (λ (x : Entries). x.leaving) e) h.closing);
     first = λ x. ap dropped_since k.is ∙ (since-same s.world.trace k.more k.none ∙ was x);
+    waits = subst (λ (x : Entries). Ascends (x.waking ++ x.leaving)) e h.waits;
+    unwoken = λ z. sym (ap (λ (x : Entries). x.waking) e)
+        ∙ h.unwoken (sym (ap dropped_since k.is ∙ since-same s.world.trace k.more k.none) ∙ z);
   }
 
   -- a future is taken in
@@ -194,6 +205,8 @@ module _ (s : Machine) (fine : Good s) (h : Ordered s) where
         table = ascends-push s.world.table (length s.world.tasks) (entered n) h.table;
         closing = subst (λ (xs : List ℕ). Ascends (xs ++ s.world.leaving)) (sym (same-late e refl refl)) h.closing;
         first = λ x. same-late e refl refl ∙ was x;
+        waits = h.waits;
+        unwoken = λ z. h.unwoken (sym (same-late e refl refl) ∙ z);
       }
 
   -- an entry is taken out
@@ -203,6 +216,8 @@ module _ (s : Machine) (fine : Good s) (h : Ordered s) where
     table = ascends-without f s.world.table h.table;
     closing = h.closing;
     first = was;
+    waits = h.waits;
+    unwoken = h.unwoken;
   }
   after-leave false f = unchanged
 
@@ -218,6 +233,8 @@ module _ (s : Machine) (fine : Good s) (h : Ordered s) where
         table = h.table;
         closing = subst (λ (xs : List ℕ). Ascends (xs ++ s.world.leaving)) (sym z) h.closing;
         first = λ x. z ∙ was x;
+        waits = h.waits;
+        unwoken = λ k. h.unwoken (sym z ∙ k);
       }
 
   -- the table is taken out
@@ -229,6 +246,8 @@ module _ (s : Machine) (fine : Good s) (h : Ordered s) where
         table = subst Ascends (sym none) tt;
         closing = subst (λ (xs : List ℕ). Ascends (xs ++ s.world.table)) (sym (h.first l)) h.table;
         first = was;
+        waits = subst (λ (xs : List ℕ). Ascends (xs ++ s.world.table)) (sym (h.unwoken (h.first l))) h.table;
+        unwoken = h.unwoken;
       }
 
   -- the next is dropped
@@ -250,6 +269,30 @@ module _ (s : Machine) (fine : Good s) (h : Ordered s) where
             (λ (n : s.world.gone ≡ false). let no : true ≡ false = sym gone ∙ n in let r : ⊥ = absurd (cc) in r)
             (λ (l : 1 ≤ weigh_all ousting_of s.parties).
             let r : ⊥ = absurd (omega (arith, there, (h.placed.leaves f).before l)) in r) x);
+        waits = subst Ascends (sym (append_assoc s.world.waking (f ∷ []) rest))
+            (subst (λ (xs : List ℕ). Ascends (s.world.waking ++ xs)) e h.waits);
+        unwoken = λ k. absurd (some-last (dropped_since s.world.trace) f (sym z ∙ k));
+      }
+
+  -- the next is woken
+  after-wake : (p : ℕ) (ls : List ℕ) → s.world.waking ≡ ls → After (wake_next_by p s.world ls).world
+  after-wake p [] e = unchanged
+  after-wake p (f ∷ rest) e =
+      let v : World = record s.world { waking = rest } in
+      let now : World = (wake_next_by p s.world (f ∷ rest)).world in
+      let k = hushed-wake_next tells_order hushed-order p s.world (f ∷ rest) in
+      let same_lists : entries v ≡ entries now = entries-move true move.Wake p v f in
+      let z : dropped_since now.trace ≡ dropped_since s.world.trace =
+      ap dropped_since k.is ∙ since-same s.world.trace k.more k.none in record {
+        accepted = subst Ascends (sym (ap accepted_in k.is ∙ accepted-same s.world.trace k.more k.none)) h.accepted;
+        table = subst Ascends (ap (λ (x : Entries). x.table) same_lists) h.table;
+        closing = subst (λ (xs : List ℕ). Ascends (xs ++ now.leaving)) (sym z)
+            (subst (λ (xs : List ℕ). Ascends (dropped_since s.world.trace ++ xs))
+            (ap (λ (x : Entries). x.leaving) same_lists) h.closing);
+        first = λ x. z ∙ was x;
+        waits = subst (λ (x : Entries). Ascends (x.waking ++ x.leaving)) same_lists
+            (subst (λ (xs : List ℕ). Ascends (xs ++ s.world.leaving)) e h.waits).1;
+        unwoken = λ y. let no : f ∷ rest ≡ [] = sym e ∙ h.unwoken (sym z ∙ y) in absurd (cc);
       }
 
   -- the executor's drop begins
@@ -268,6 +311,8 @@ module _ (s : Machine) (fine : Good s) (h : Ordered s) where
         table = h.table;
         closing = subst (λ (xs : List ℕ). Ascends (xs ++ s.world.leaving)) (since-none s.world.trace q ∙ sym z) h.closing;
         first = λ x. z;
+        waits = h.waits;
+        unwoken = λ k. h.unwoken (since-none s.world.trace q);
       }
 
   -- each thing that is done
@@ -302,6 +347,7 @@ module _ (s : Machine) (fine : Good s) (h : Ordered s) where
     after-act t (op.Closing closing_op.TakeOut) e =
         after-out (omega (arith, split ousting_of s.parties p (op.Closing closing_op.TakeOut ∷ []) rest l e))
     after-act t (op.Closing closing_op.DropNext) e = after-next p s.world.leaving refl
+    after-act t (op.Closing closing_op.WakeNext) e = after-wake p s.world.waking refl
     after-act t (op.User (user_op.BeginDrop f)) e = after-drop p f (open-drop f e)
     after-act t (op.Waker (waker_op.CallAwaiter f a k)) e = plain t (op.Waker (waker_op.CallAwaiter f a k)) refl refl
     after-act t (op.Sleeper (sleeper_op.CallSleeper x)) e = plain t (op.Sleeper (sleeper_op.CallSleeper x)) refl refl
@@ -342,6 +388,8 @@ ordered-moves s p old rest d fine l e way h =
       accepted = a.accepted;
       table = a.table;
       closing = a.closing;
+      waits = a.waits;
+      unwoken = a.unwoken;
       first = λ n. a.first (⊎_elim
           (λ (x : weigh ousting_of d.next ≤ weigh ousting_of old).
           let y : (s.world.gone ≡ false) ⊎ (1 ≤ weigh_all ousting_of s.parties) = inr (omega (arith, x, n, now, before)) in y)
@@ -362,6 +410,8 @@ ordered-ends s p a held below l e h =
       table = h.table;
       closing = subst (λ (xs : List ℕ). Ascends (xs ++ s.world.leaving)) (sym (since-same es end refl)) h.closing;
       first = λ n. since-same es end refl ∙ h.first (omega (arith, n, now, before));
+      waits = h.waits;
+      unwoken = λ z. h.unwoken (sym (since-same es end refl) ∙ z);
     }
 
 ordered-start : (limit : ℕ) (kind : Kind) (n : ℕ) → Ordered (start limit kind n)
@@ -371,13 +421,17 @@ ordered-start limit kind n = record {
   table = tt;
   closing = tt;
   first = λ x. refl;
+  waits = tt;
+  unwoken = λ x. refl;
 }
+
+pub ordered : (limit : ℕ) (kind : Kind) (parties : ℕ) (steps : List Step) → Ordered (run steps (start limit kind parties))
+ordered limit kind parties steps = along Ordered ordered-moves ordered-ends steps (start limit kind parties)
+    (good-start limit kind parties) (ordered-start limit kind parties)
 
 pub drops-in-order : (limit : ℕ) (kind : Kind) (parties : ℕ) (steps : List Step) →
     DropsInOrder (run steps (start limit kind parties))
-drops-in-order limit kind parties steps =
-    let h : Ordered (run steps (start limit kind parties)) = along Ordered ordered-moves ordered-ends steps
-    (start limit kind parties) (good-start limit kind parties) (ordered-start limit kind parties) in record {
-      accepted = h.accepted;
-      dropped = ascends-left (dropped_since (run steps (start limit kind parties)).world.trace) _ h.closing;
-    }
+drops-in-order limit kind parties steps = let h = ordered limit kind parties steps in record {
+  accepted = h.accepted;
+  dropped = ascends-left (dropped_since (run steps (start limit kind parties)).world.trace) _ h.closing;
+}

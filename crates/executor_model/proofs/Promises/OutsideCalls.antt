@@ -1,6 +1,6 @@
 -- For outside_wakers_are_called.
 -- What tells that an outside waker is called leads to that waker's user code, which comes first.
-use Rattle.std.proofs.Common.{◌≡◌, ◌<◌, ℕ, List, [], ◌∷◌, ◌++◌, length, set, Bool, true, false, ◌||◌, eqb, refl, sym, ap, ◌∙◌}
+use Rattle.std.proofs.Common.{◌≡◌, ◌<◌, ℕ, List, [], ◌∷◌, ◌++◌, length, Bool, true, false, eqb, refl, sym, ap, ◌∙◌}
 use Rattle.std.proofs.Common.{subst, append-nil, ltb, arith, get_or-set_same}
 use Rattle.std.proofs.lemmas.Bool.Decides.{nat_tests}
 use Rattle.std.proofs.lemmas.List.{append_assoc, append_cancel_left, reverse-append}
@@ -32,10 +32,10 @@ use Rattle.executor_model.specs.ActsOfRuns.{wake_own}
 use Rattle.executor_model.specs.ActsOfSleepers.{polled_as}
 use Rattle.executor_model.specs.Doing.{act}
 use Rattle.executor_model.specs.OutsideWakers.{OutsideWakersAreCalled, is_outside_call}
-use Rattle.executor_model.specs.Steps.{Machine, Part, begun, end_of, mine, onto, part_after, part_refusal, party_of, react}
+use Rattle.executor_model.specs.Steps.{Machine, Part, end_of, mine, onto, part_after, part_refusal, party_of}
 use Rattle.executor_model.specs.Steps.{refusal, run, settled_by, stack, start, step, step_by, stepped, top, unless}
 use Rattle.executor_model.specs.Trace.{Trace, has}
-use Rattle.executor_model.specs.World.{World, Done, log}
+use Rattle.executor_model.specs.World.{World, Done}
 use Rattle.executor_model.proofs.Steps.Hushed.{Hushed, Hushes, HushesCall, hushed-act, hushed-called, hushed-is, hushed-react, is_hushed}
 use Rattle.executor_model.proofs.Steps.Tests.{or-false}
 use Rattle.executor_model.proofs.Steps.TraceMore.{has-append}

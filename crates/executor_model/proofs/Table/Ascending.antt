@@ -1,8 +1,7 @@
 -- For the_closing_drop_keeps_the_order and the_closing_drop_wakes_in_order.
 -- Lists of rising numbers, and which futures a trace has accepted and dropped, as more happens.
-use Rattle.std.proofs.Common.{◌≡◌, ◌≢◌, ℕ, ◌+◌, ◌<◌, ◌≤◌, List, [], ◌∷◌, ◌++◌, Bool, true, false, ◌||◌, eqb, refl, sym, ap}
+use Rattle.std.proofs.Common.{◌≡◌, ℕ, ◌<◌, ◌≤◌, List, [], ◌∷◌, ◌++◌, Bool, true, false, eqb, refl, sym, ap}
 use Rattle.std.proofs.Common.{◌∙◌, arith, append-nil}
-use Rattle.std.proofs.lemmas.Bool.Decides.{nat_tests}
 use Rattle.executor_model.specs.declared.event.Event.{Event}
 use Rattle.executor_model.specs.declared.event.Event.TheVariants as event
 use Rattle.executor_model.specs.ClosingOrder.{AllAbove, Ascends, accepted_in, dropped_in, dropped_since}

@@ -1,11 +1,11 @@
 -- For the_closing_drop_keeps_the_order and the_closing_drop_wakes_in_order.
 -- The table has the futures in the order of acceptance, so the executor's drop, which goes through it, drops them so.
-use Rattle.std.proofs.Common.{◌≡◌, ◌⊎◌, ℕ, ◌+◌, ◌<◌, ◌≤◌, List, [], ◌∷◌, ◌++◌, length, set, Bool, true, false, not, inl, inr}
+use Rattle.std.proofs.Common.{◌≡◌, ◌⊎◌, ℕ, ◌+◌, ◌<◌, ◌≤◌, List, [], ◌∷◌, ◌++◌, length, Bool, true, false, not, inl, inr}
 use Rattle.std.proofs.Common.{◌&&◌, ◌||◌, cond, eqb}
 use Rattle.std.specs.Prelude.{fold}
 use Rattle.std.proofs.Common.{⊎_elim, refl, sym, ap, ◌∙◌, subst, arith, append-nil}
 use Rattle.std.proofs.lemmas.List.{append_assoc}
-use Rattle.std.specs.Prelude.{reverse, nat_lt}
+use Rattle.std.specs.Prelude.{reverse}
 use Rattle.task_moves.specs.Moves as moves
 use Rattle.task_moves.specs.declared.moves.owed.Move.{Move}
 use Rattle.task_moves.specs.declared.moves.owed.Move.TheVariants as move
@@ -36,7 +36,7 @@ use Rattle.executor_model.specs.Steps.{Machine, begun, is_drop, is_free, is_on_e
 use Rattle.executor_model.specs.Steps.{start, top}
 use Rattle.executor_model.specs.Trace.{Trace, has, is_accepted, is_drop_begun}
 use Rattle.executor_model.specs.Weights.{same, weigh, weigh_all}
-use Rattle.executor_model.specs.World.{World, Done, among, done, log, task, without}
+use Rattle.executor_model.specs.World.{World, Done, done, log, task}
 use Rattle.executor_model.proofs.OneFuture.Effects.{Effect}
 use Rattle.executor_model.proofs.OneFuture.Effects.Effect.{passes, turns, refuses, enters, unlists, drops, takes_out, drops_next}
 use Rattle.executor_model.proofs.OneFuture.EffectsWays.{Effects, effects-way}
@@ -47,7 +47,7 @@ use Rattle.executor_model.proofs.OneFuture.Telling.{accepted-counts, begun-has, 
 use Rattle.executor_model.proofs.OneFuture.Views.{none}
 use Rattle.executor_model.proofs.Steps.Asides.{Aside, aside-entry, aside-owed}
 use Rattle.executor_model.proofs.Steps.Growing.{split}
-use Rattle.executor_model.proofs.Steps.Hushed.{Hushed, Hushes, HushesCall, hushed-act, hushed-called, hushed-react, hushed-wake_next}
+use Rattle.executor_model.proofs.Steps.Hushed.{Hushed, Hushes, hushed-act, hushed-called, hushed-react, hushed-wake_next}
 use Rattle.executor_model.proofs.Steps.Lift.{good-start, none_refused, unsettled}
 use Rattle.executor_model.proofs.Steps.Listing.{Entries, entries, entries-move, lists, same-begun, same-entries, same-react}
 use Rattle.executor_model.proofs.Steps.Lists.{same_cases, weigh-append, weigh_all-push}

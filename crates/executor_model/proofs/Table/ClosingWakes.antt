@@ -1,13 +1,12 @@
 -- For the_closing_drop_wakes_in_order.
 -- Whoever is first among those that the executor's drop has still to wake stays so until it is woken.
-use Rattle.std.proofs.Common.{◌≡◌, ◌⊎◌, ℕ, ◌<◌, List, [], ◌∷◌, ◌++◌, length, Bool, true, false, ◌||◌, not, eqb, inl, inr, ltb, refl, sym}
+use Rattle.std.proofs.Common.{◌≡◌, ◌⊎◌, ℕ, List, [], ◌∷◌, ◌++◌, length, Bool, true, false, not, eqb, inl, inr, ltb, refl, sym}
 use Rattle.std.proofs.Common.{ap, ◌∙◌, subst, arith, append-nil, ⊎_elim}
 use Rattle.std.proofs.lemmas.Bool.Decides.{nat_tests}
 use Rattle.std.proofs.lemmas.List.{append_assoc, append_cancel_left}
 use Rattle.std.specs.Prelude.{Option, Some, None, reverse}
 use Rattle.task_moves.specs.Moves.{is_over}
 use Rattle.task_moves.specs.declared.moves.owed.Move.TheVariants as move
-use Rattle.executor_model.specs.declared.call.Call.{Call}
 use Rattle.executor_model.specs.declared.event.Event.TheVariants as event
 use Rattle.executor_model.specs.declared.kind.Kind.{Kind}
 use Rattle.executor_model.specs.declared.op.ClosingOp.TheVariants as closing_op
@@ -21,7 +20,7 @@ use Rattle.executor_model.specs.declared.step.StepError.TheVariants.{NoSuch}
 use Rattle.executor_model.specs.Acts.{drop_next_by, enter_by, leave_by, wake_next_by}
 use Rattle.executor_model.specs.ClosingWakes.{StaysFirst, WakesInOrder}
 use Rattle.executor_model.specs.Doing.{act}
-use Rattle.executor_model.specs.Steps.{Machine, Part, end_of, mine, onto, part_after, part_refusal, party_of, refusal, run}
+use Rattle.executor_model.specs.Steps.{Machine, Part, end_of, mine, part_after, part_refusal, party_of, refusal, run}
 use Rattle.executor_model.specs.Steps.{settled_by, stack, start, step, step_by, stepped, top, unless}
 use Rattle.executor_model.specs.Trace.{Trace, has, is_woken}
 use Rattle.executor_model.specs.World.{World, Done, log, log_if, task}

@@ -58,7 +58,7 @@ pub record AllLaws (s : Machine) : Type 0 where
   -- and early only for a cause, which the kind says of a machine that steps of a new one led to
   pub causes : (limit : ℕ) (kind : Kind) (parties : ℕ) (steps : List Step) → s ≡ run steps (start limit kind parties) →
       (f : ℕ) → EarlyDropHasCause kind f s.world.trace
-  -- nobody is left who could wake it only where it is detached, and the executor static
+  -- nobody is left who could wake it only where it is detached and the executor static, or its drop has begun
   pub last_wakers : (limit : ℕ) (kind : Kind) (parties : ℕ) (steps : List Step) → s ≡ run steps (start limit kind parties) →
       (f : ℕ) → LastWakerIsLast kind f s.world.trace
   -- and each accepted one once, where the drop of the executor has ended

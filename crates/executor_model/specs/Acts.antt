@@ -282,10 +282,14 @@ notify_by false w f mine = done (put w f (moves.notify_by false (task w f)).stat
 abbrev pub notify : World → ℕ → Bool → Done
 notify w f mine = notify_by ((task w f).notifying || (task w f).registering) w f mine
 
--- the cell is emptied, and its awaiter goes uncalled
-abbrev pub let_go_emptied : World → ℕ → Done
-let_go_emptied w f =
+-- the cell of a task without handle is emptied, and its awaiter goes uncalled; one with a handle isn't emptied
+abbrev pub let_go_by : Bool → World → ℕ → Done
+let_go_by true w f = done w []
+let_go_by false w f =
     done (put_awaiter (put w f (record (task w f) { awaiter = false })) f None) (let_go (awaiter_of w f))
+
+abbrev pub let_go_emptied : World → ℕ → Done
+let_go_emptied w f = let_go_by (task w f).handle w f
 
 -- the awaiter that was taken out is called, or let go where the poll's own waker wakes the same
 abbrev pub told : Bool → ℕ → Option Awaiter → List Op

@@ -26,6 +26,8 @@ EarlyDropHasCause kind f trace =
     (has (is_cancelled f) (before_drop f trace) ≡ true)
     ⊎ ((has is_drop_begun (before_drop f trace) ≡ true) ⊎ IsForgotten kind f (before_drop f trace))
 
--- nobody is left who could wake a future only where it is detached and the executor is static
+-- nobody is left who could wake a future only where it is detached and the executor is static, or the drop of the executor
+-- has begun
 abbrev pub LastWakerIsLast : Kind → ℕ → Trace → Type 0
-LastWakerIsLast kind f trace = has (is_last_waker f) trace ≡ true → IsForgotten kind f trace
+LastWakerIsLast kind f trace =
+    has (is_last_waker f) trace ≡ true → (has is_drop_begun trace ≡ true) ⊎ IsForgotten kind f trace

@@ -1,6 +1,6 @@
 -- What holds of each future at every moment, and the numbers that it is said by.
 use Rattle.std.specs.Prelude.{◌≡◌, ◌≢◌, ◌⊎◌, ℕ, ◌+◌, ◌^◌, ◌≤◌, ◌==◌, true, false}
-use Rattle.std.specs.Prelude.{Option, Some, None, List, [], ◌∷◌, cond}
+use Rattle.std.specs.Prelude.{Option, Some, None, List, [], ◌∷◌, length, cond}
 use Rattle.executor_model.specs.declared.event.Answer.{Answer}
 use Rattle.executor_model.specs.declared.event.Answer.TheVariants.{Pending, Ready}
 use Rattle.executor_model.specs.declared.event.Event.{Event}
@@ -173,3 +173,4 @@ pub record Sound (w : World) (g : ℕ) (p : Pend) : Type 0 where
   pub unpolled : w.gone ≡ true → p.polls ≡ 0
   pub ousted : 1 ≤ p.ousting + times g w.leaving → w.gone ≡ true
   pub owned : w.gone ≡ true → w.is_static ≡ false
+  pub entered : length w.tasks ≤ g → times g w.table + times g w.leaving ≡ 0

@@ -184,7 +184,7 @@ begin_refusal w ss o c =
     unless (is_free o) Busy
     (unless (has_all w ss o c) NoSuch
     (unless (not (w.gone && is_on_executor c)) Gone
-    (unless (not (w.is_static && is_drop c)) Gone
+    (unless (not (is_drop c && w.is_static)) Gone
     (unless (not (is_drop c) || is_unborrowed w ss) Borrowed None))))
 
 -- another party has the lock of the list of queues, and not both walk under its read lock

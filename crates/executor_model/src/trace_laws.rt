@@ -31,8 +31,8 @@ pub fn early_drops_have_causes()
     ensures { EveryTraceBy EarlyDropHasCause }
 {}
 
-/// Whatever the parties do, nobody is left who could wake a future only where it was detached, and the executor is
-/// static.
+/// Whatever the parties do, nobody is left who could wake a future only where it was detached and the executor is
+/// static, or the drop of the executor has begun.
 pub fn last_wakers_are_of_detached_futures()
     ensures { EveryTraceBy LastWakerIsLast }
 {}

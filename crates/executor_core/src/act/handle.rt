@@ -188,7 +188,7 @@ fn notify(store: &mut Store, todo: &mut Vec<Op>, f: u64, mine: bool)
     }
 }
 
-/// The cell is emptied, and its awaiter goes uncalled.
+/// The cell of a task without handle is emptied, and its awaiter goes uncalled.
 fn let_go_emptied(store: &mut Store, todo: &mut Vec<Op>, f: u64)
     requires room { HasRoom store.old }
     requires space { HasSpace todo.old }
@@ -196,6 +196,9 @@ fn let_go_emptied(store: &mut Store, todo: &mut Vec<Op>, f: u64)
     ensures { Does (acts.let_go_emptied (world_of store.old) f) store.new todo.old.items todo.new.items }
 {
     let task = &mut store.tasks[f as usize];
+    if task.handle {
+        return;
+    }
     *task = State {
         awaiter: false,
         ..*task

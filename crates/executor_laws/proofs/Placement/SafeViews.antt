@@ -1,7 +1,8 @@
 -- For due_futures_stand_with_their_keepers.
 -- A future away from the executor's queue (proofs/Placement/Safe): kept by each move of its task but the beginning of a poll, and by
 -- each effect of what no run does, on its view.
-use Rattle.std.proofs.Common.{◌≡◌, ◌⊎◌, ℕ, ◌+◌, ◌<◌, ◌≤◌, List, [], ◌∷◌, ◌++◌, Bool, true, false, inl, inr, ap, ◌∙◌, arith}
+use Rattle.std.proofs.Common.{◌≡◌, ◌⊎◌, ℕ, ◌+◌, ◌<◌, ◌≤◌, List, [], ◌∷◌, ◌++◌, Bool, true, false, inl, inr, refl, ap}
+use Rattle.std.proofs.Common.{◌∙◌, arith}
 use Rattle.std.proofs.lemmas.Bool.Decides.{nat_tests}
 use Rattle.std.proofs.lemmas.List.{length-append}
 use Rattle.std.specs.Prelude.{slice_set}

@@ -39,7 +39,7 @@ use Rattle.executor_model.proofs.Steps.SleepersNext.{goes-unseen}
 use Rattle.executor_model.specs.World.{Ticker, Awake, Asleep, Left}
 use Rattle.executor_model.specs.World.{World, Done, done, log, log_if, task, put, among, awaiter_of}
 use Rattle.executor_model.specs.Carried.{carried}
-use Rattle.executor_model.specs.Acts.{append_by, entry_goes, leave_by, notify_by}
+use Rattle.executor_model.specs.Acts.{append_by, entry_goes, leave_by, let_go_by, notify_by}
 use Rattle.executor_model.specs.Acts.{call_waker}
 use Rattle.executor_model.specs.Steps.{waits, accepts, react}
 use Rattle.executor_model.specs.Weights.{weigh}
@@ -170,6 +170,10 @@ inner-notify : (b : Bool) (w : World) (f : ℕ) (mine : Bool) → Inner w (notif
 inner-notify true w f mine = still w _ _ refl refl refl refl
 inner-notify false w f mine = still w _ _ refl refl refl refl
 
+inner-let_go : (b : Bool) (w : World) (f : ℕ) → Inner w (let_go_by b w f)
+inner-let_go true w f = still w _ _ refl refl refl refl
+inner-let_go false w f = still w _ _ refl refl refl (aside-let_go stray_of no-stray (awaiter_of w f))
+
 inner-call : (p : ℕ) (w : World) (o : Polled) (a : Waker) (k : ℕ) → Inner w (call_waker p w o a k)
 inner-call p w o (Task g) k =
     then-inner w (event.WakerCalled p o k (Task g)) _
@@ -222,8 +226,7 @@ inner-act p h (op.User (user_op.BeginDropOutput f)) w n z = logged w _ (event.Ou
 inner-act p h (op.Handle (handle_op.Notify f mine)) w n z = inner-notify _ w f mine
 inner-act p h (op.Handle (handle_op.EndNotify f mine)) w n z =
     still w _ _ refl refl refl (aside-told stray_of no-stray _ f (awaiter_of w f))
-inner-act p h (op.Handle (handle_op.LetGo f)) w n z =
-    still w _ _ refl refl refl (aside-let_go stray_of no-stray (awaiter_of w f))
+inner-act p h (op.Handle (handle_op.LetGo f)) w n z = inner-let_go _ w f
 inner-act p h (op.Waker (waker_op.CallAwaiter f a k)) w n z = inner-call p w (of.Handle f) a k
 inner-act p h (op.Sleeper o) w n z = inner-sleeper p o w
 inner-act p h (op.Tick (tick_op.WakeUp who)) w n z = inner-up _ w who

@@ -26,7 +26,7 @@ use Rattle.executor_model.specs.World.{World, Done, done, log, task, put, awaite
 use Rattle.executor_model.specs.Carried.{awaiter_ops}
 use Rattle.executor_model.specs.Acts.{append_by, take_by, enter_by, entered, entry_goes, leave_by, copy_by, polled}
 use Rattle.executor_model.specs.Acts.{reply_of, is_output, answered, look_by, look_again_by, copied}
-use Rattle.executor_model.specs.Acts.{copy_awaiter_by, register_by, waker_goes, let_go, let_go_emptied, end_register_by}
+use Rattle.executor_model.specs.Acts.{copy_awaiter_by, register_by, waker_goes, let_go, let_go_by, end_register_by}
 use Rattle.executor_model.specs.Acts.{notify_by, told, end_notify, call_waker, closing_ops, take_out}
 use Rattle.executor_model.specs.Acts.{drop_next_by, followed, wake, wake_next_by, drain_by}
 use Rattle.executor_model.specs.Weights.{weigh}
@@ -240,8 +240,9 @@ spends-end_notify h w f mine l =
       told-steps (mine && h.same) f (awaiter_of w f),
     )
 
-pub spends-let_go : (w : World) (f : ℕ) → f < length w.tasks → Spends w 1 (let_go_emptied w f)
-spends-let_go w f l =
+pub spends-let_go : (b : Bool) (w : World) (f : ℕ) → f < length w.tasks → Spends w 1 (let_go_by b w f)
+spends-let_go true w f l = omega arith
+spends-let_go false w f l =
     let v : World = put w f (record (task w f) { awaiter = false }) in
     omega (
       arith,

@@ -218,6 +218,10 @@ beside-notify : (b : Bool) (w : World) (f : ℕ) (mine : Bool) → Beside w (act
 beside-notify true w f mine = besides w _ (λ t. refl) refl
 beside-notify false w f mine = besides w _ (λ t. refl) refl
 
+beside-let_go : (b : Bool) (w : World) (f : ℕ) → Beside w (acts.let_go_by b w f)
+beside-let_go true w f = besides w _ (λ t. refl) refl
+beside-let_go false w f = besides w _ (λ t. refl) (aside-let_go sits_of no-sits (awaiter_of w f))
+
 -- the drop of the executor
 
 beside-drop_next : (p : ℕ) (w : World) (ls : List ℕ) → Beside w (acts.drop_next_by p w ls)
@@ -273,8 +277,7 @@ beside-act p h (op.Handle (handle_op.LookAgain f)) w n = beside-again _ p w f _
 beside-act p h (op.Handle (handle_op.Notify f mine)) w n = beside-notify _ w f mine
 beside-act p h (op.Handle (handle_op.EndNotify f mine)) w n =
     besides w _ (λ t. refl) (aside-told sits_of no-sits _ f (awaiter_of w f))
-beside-act p h (op.Handle (handle_op.LetGo f)) w n =
-    besides w _ (λ t. refl) (aside-let_go sits_of no-sits (awaiter_of w f))
+beside-act p h (op.Handle (handle_op.LetGo f)) w n = beside-let_go _ w f
 beside-act p h (op.Sleeper sleeper_op.ExchangeFlag) w n = beside-exchange _ w
 beside-act p h (op.Sleeper sleeper_op.HandOut) w n = absurd (cc)
 beside-act p h (op.Sleeper (sleeper_op.CallSleeper s)) w n = absurd (cc)

@@ -289,8 +289,8 @@ pub record Awaits (w : World) (g : ℕ) (p : Pend) (x : Awaiting) (m : Mark) : T
   pub notifies : (task w g).notifying ≡ true → 1 ≤ x.notifying + x.storing
   pub notified : 1 ≤ x.notifying → (task w g).notifying ≡ true
   pub either : x.notifying + x.storing ≤ 1
-  -- who waits is stored, called or about to be called
-  pub covered : ((heard g w.trace).pending ≡ true) ⊎ (1 ≤ x.again + x.waits) →
+  -- who waits is stored, called or about to be called, until a call takes the handle
+  pub covered : (heard g w.trace).parted ≡ false → ((heard g w.trace).pending ≡ true) ⊎ (1 ≤ x.again + x.waits) →
       (((task w g).awaiter ≡ true) × (1 ≤ kept_at (heard g w.trace).poll (awaiter_of w g)))
       ⊎ (((heard g w.trace).called ≡ true) ⊎ (1 ≤ x.calls (heard g w.trace).poll))
   -- a task with an awaiter isn't settled until that is notified

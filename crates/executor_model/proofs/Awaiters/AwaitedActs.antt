@@ -22,7 +22,7 @@ use Rattle.executor_model.specs.declared.op.UserOp.TheVariants as user_op
 use Rattle.executor_model.specs.declared.op.WakerOp.TheVariants as waker_op
 use Rattle.executor_model.specs.World.{World, Done, done, log, log_if, task, awaiter_of}
 use Rattle.executor_model.specs.Carried.{carried}
-use Rattle.executor_model.specs.Acts.{copy_by, polled, look_by, look_again_by}
+use Rattle.executor_model.specs.Acts.{let_go_by, copy_by, polled, look_by, look_again_by}
 use Rattle.executor_model.specs.Acts.{copy_awaiter_by, register_by, end_register_by, notify_by, call_awaiter}
 use Rattle.executor_model.specs.Acts.{closing_ops, drop_next_by, wake_next_by, close, drain_by}
 use Rattle.executor_model.specs.Weights.{same, past, waker_past}
@@ -34,7 +34,7 @@ use Rattle.executor_model.proofs.Steps.Lists.{with_ops-closing, read_put}
 use Rattle.executor_model.proofs.Steps.Lists.{same_is, times-append, times-drop}
 use Rattle.executor_model.proofs.Counts.Counting.{woken_by}
 use Rattle.executor_model.proofs.Counts.CountingHandles.{stays_so, gives}
-use Rattle.executor_model.proofs.Counts.CountingHandles.{waits_on, end_registered, end_notified, next_woken}
+use Rattle.executor_model.proofs.Counts.CountingHandles.{waits_on, end_registered, end_notified, let_go_with, next_woken}
 use Rattle.executor_model.proofs.Awaiters.Awaited.{heard, heard-push, Awaiting, with_awaiting, with_awaiting-closing}
 use Rattle.executor_model.proofs.Awaiters.Awaited.{Awaits, KeepsBy, KeepsAwaits, asks_if, kept_at, kept_put}
 use Rattle.executor_model.proofs.Awaiters.AwaitedMoves.{awaits-call_task, awaits-cancel_over, awaits-cancel_going}
@@ -100,6 +100,24 @@ pub awaits-register : (b : Bool) (w : World) (f : ℕ) (a : Waker) (k : ℕ) →
 awaits-register = by_bool _
     (λ w f a k n i g r yy mm bb h. grind (arith, same_is, read_put, length-set))
     (λ w f a k n i g r yy mm bb h. grind (arith, same_is, read_put, length-set))
+
+-- a cell is emptied, and its awaiter is let go
+
+awaits-let_go-with : (old : Option Awaiter) (w : World) (f : ℕ) → (task w f).handle ≡ false → awaiter_of w f ≡ old →
+    f < length w.tasks → f < length w.awaiters →
+    KeepsAwaits w (op.Handle (handle_op.LetGo f) ∷ []) (let_go_with old w f)
+awaits-let_go-with None w f n e i j = λ g r yy mm bb h. grind (arith, same_is, read_put, length-set, kept_put)
+awaits-let_go-with (Some a) w f n e i j = by a.waker a.poll e
+  where
+    by : (x : Waker) (m : ℕ) → awaiter_of w f ≡ Some (record { waker = x; poll = m }) →
+        KeepsAwaits w (op.Handle (handle_op.LetGo f) ∷ []) (let_go_with (Some (record { waker = x; poll = m })) w f)
+    by (Task q) m e = λ g r yy mm bb h. grind (arith, same_is, read_put, length-set, kept_put)
+    by (Outside q) m e = λ g r yy mm bb h. grind (arith, same_is, read_put, length-set, kept_put)
+
+pub awaits-let_go : (b : Bool) (w : World) (f : ℕ) → (task w f).handle ≡ b → f < length w.tasks →
+    f < length w.awaiters → KeepsAwaits w (op.Handle (handle_op.LetGo f) ∷ []) (let_go_by b w f)
+awaits-let_go true w f n i j = λ g r yy mm bb h. grind arith
+awaits-let_go false w f n i j = awaits-let_go-with _ w f n refl i j
 
 -- by whether somebody wanted to notify meanwhile, and the old awaiter
 

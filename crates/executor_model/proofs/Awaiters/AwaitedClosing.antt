@@ -4,6 +4,7 @@ use Rattle.std.proofs.Common.{◌≡◌, ℕ, suc, ◌+◌, ◌<◌, ◌≤◌, 
 use Rattle.std.proofs.Common.{Bool, true, false, ◌&&◌, ◌||◌, not, refl, sym, ap, ◌∙◌, subst, inl, inr, ⊎_elim, arith}
 use Rattle.std.proofs.lemmas.List.{length-append}
 use Rattle.std.specs.Prelude.{Option, Some, None, reverse}
+use Rattle.executor_model.specs.declared.kind.Kind.{Kind}
 use Rattle.executor_model.specs.declared.call.Call.{Call}
 use Rattle.executor_model.specs.declared.call.Call.TheVariants as call
 use Rattle.executor_model.specs.declared.call.Reply.{Reply}
@@ -240,7 +241,8 @@ sweeps-way s p old rest d (acted h o q z) = rw z (rw q (sweeps-act _ p h o s.wor
 sweeps-way s p old rest d (reacted o u a q z) = rw z (rw q (sweeps-react p o u s.world a))
 sweeps-way s p old rest d (called c q r n z) =
     let f : _ = none_refused (is_free (top (stack s p))) (has_all s.world s.parties (top (stack s p)) c)
-    (not (s.world.gone && is_on_executor c)) (not (is_drop c) || is_unborrowed s.world s.parties) n in
+    (not (s.world.gone && is_on_executor c)) (not (is_drop c && s.world.is_static))
+    (not (is_drop c) || is_unborrowed s.world s.parties) n in
     rw z (rw q (sweeps-begun _ p s.world (mine (top (stack s p))) c refl f.2))
 
 -- every step
@@ -283,15 +285,15 @@ pub swept-ends : (s : Machine) (p : ℕ) (a : Reply) (held : Hold) (below : List
 swept-ends s p a held below l e h =
     swept-unsettled s p (op.End a held ∷ []) below (done (log s.world (event.CallEnded p a)) []) l e (λ r k. k) h
 
-pub swept-start : (limit n : ℕ) → Swept (start limit n)
-swept-start limit n = subst (Sweeps (lists (start limit n).world)) (sym (λ i. record {
+pub swept-start : (limit : ℕ) (kind : Kind) (n : ℕ) → Swept (start limit kind n)
+swept-start limit kind n = subst (Sweeps (lists (start limit kind n).world)) (sym (λ i. record {
   outs = weigh_all-idle ousting_of n i;
   drops = weigh_all-idle dropping_of n i;
   wakes = weigh_all-idle rousing_of n i;
   shuts = weigh_all-idle shutting_of n i;
   drains = weigh_all-idle draining_of n i;
-})) (let q : Sweeps (lists (start limit 0).world) (record { outs = 0; drops = 0; wakes = 0; shuts = 0; drains = 0 }) =
+})) (let q : Sweeps (lists (start limit kind 0).world) (record { outs = 0; drops = 0; wakes = 0; shuts = 0; drains = 0 }) =
     grind arith in q)
 
-pub swept : (limit n : ℕ) (ts : List Step) → Swept (run ts (start limit n))
-swept limit n ts = along Swept swept-moves swept-ends ts (start limit n) (good-start limit n) (swept-start limit n)
+pub swept : (limit : ℕ) (kind : Kind) (n : ℕ) (ts : List Step) → Swept (run ts (start limit kind n))
+swept limit kind n ts = along Swept swept-moves swept-ends ts (start limit kind n) (good-start limit kind n) (swept-start limit kind n)

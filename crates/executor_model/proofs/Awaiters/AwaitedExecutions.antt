@@ -4,6 +4,7 @@ use Rattle.std.proofs.Common.{◌≡◌, ◌⊎◌, ℕ, zero, suc, ◌+◌, ◌
 use Rattle.std.proofs.Common.{length, set, Bool, true, false, ◌&&◌, ◌||◌, not, cond, eqb}
 use Rattle.std.proofs.Common.{refl, sym, ap, ◌∙◌, subst, inl, inr, ⊎_elim, arith}
 use Rattle.std.specs.Prelude.{reverse}
+use Rattle.executor_model.specs.declared.kind.Kind.{Kind}
 use Rattle.executor_model.specs.declared.call.Call.{Call}
 use Rattle.executor_model.specs.declared.call.Call.TheVariants as call
 use Rattle.executor_model.specs.declared.call.Reply.{Reply}
@@ -310,7 +311,8 @@ waited-way s p old rest d good l e (reacted o u a q z) tied h =
     (subst (λ (x : Done). AllTied (unsettled s p rest x)) z tied) h)
 waited-way s p old rest d good l e (called c q r n z) tied h =
     let f : _ = none_refused (is_free (top (stack s p))) (has_all s.world s.parties (top (stack s p)) c)
-    (not (s.world.gone && is_on_executor c)) (not (is_drop c) || is_unborrowed s.world s.parties) n in
+    (not (s.world.gone && is_on_executor c)) (not (is_drop c && s.world.is_static))
+    (not (is_drop c) || is_unborrowed s.world s.parties) n in
     rw z (waited-begun s p rest c f.1 l r (subst (λ (os : List Op). stack s p ≡ rest ++ reverse os) q e) good
     (subst (λ (x : Done). AllTied (unsettled s p rest x)) z tied) h)
 
@@ -319,21 +321,21 @@ waited-moves : (s : Machine) (p : ℕ) (old rest : List Op) (d : Done) → Good 
 waited-moves s p old rest d good l e w h = waited-way s p old rest d good l e w (tied-moves s p old rest d l e w h.tied)
     h
 
-waited-start : (limit n : ℕ) → Waited (start limit n)
-waited-start limit n = record {
-  awaits = λ g. subst (λ (x : Pend × Awaiting). Awaits (start limit n).world g x.0 x.1
-      (marked (start limit n).world g x.1))
+waited-start : (limit : ℕ) (kind : Kind) (n : ℕ) → Waited (start limit kind n)
+waited-start limit kind n = record {
+  awaits = λ g. subst (λ (x : Pend × Awaiting). Awaits (start limit kind n).world g x.0 x.1
+      (marked (start limit kind n).world g x.1))
       (sym (let q : (pend g (idle n), awaiting g (idle n)) ≡ (none, nothing_awaited) = λ i. (
         pend-none g (idle n) (λ v. weigh_all-idle v n) i,
         awaiting-none g (idle n) (λ v. weigh_all-idle v n) i,
-      ) in q)) (none_awaited limit g);
+      ) in q)) (none_awaited limit kind g);
   held = λ g b. let no : false ≡ true = sym (ap (λ (t : Heard). t.asking) (heard-none g)) ∙ b in absurd (cc);
   tied = λ g q. subst (Tied g 0) (sym (idle-stack n q)) tt;
 }
   where
-    none_awaited : (limit g : ℕ) →
-        Awaits (start limit 0).world g none nothing_awaited (marked (start limit 0).world g nothing_awaited)
-    none_awaited limit g = grind (arith, heard-none)
+    none_awaited : (limit : ℕ) (kind : Kind) (g : ℕ) →
+        Awaits (start limit kind 0).world g none nothing_awaited (marked (start limit kind 0).world g nothing_awaited)
+    none_awaited limit kind g = grind (arith, heard-none)
 
-pub waited : (limit n : ℕ) (ts : List Step) → Waited (run ts (start limit n))
-waited limit n ts = along Waited waited-moves waited-ends ts (start limit n) (good-start limit n) (waited-start limit n)
+pub waited : (limit : ℕ) (kind : Kind) (n : ℕ) (ts : List Step) → Waited (run ts (start limit kind n))
+waited limit kind n ts = along Waited waited-moves waited-ends ts (start limit kind n) (good-start limit kind n) (waited-start limit kind n)

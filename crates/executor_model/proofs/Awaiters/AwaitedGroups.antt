@@ -3,6 +3,7 @@
 use Rattle.std.proofs.Common.{◌≡◌, ℕ, ◌<◌, [], ◌∷◌, length, true, false, not, refl, subst, arith}
 use Rattle.task_moves.specs.Moves as moves
 use Rattle.executor_model.specs.declared.event.Answer.TheVariants as answer
+use Rattle.executor_model.specs.declared.event.Event.TheVariants as event
 use Rattle.executor_model.specs.declared.op.Op.{Op}
 use Rattle.executor_model.specs.declared.op.Op.TheVariants as op
 use Rattle.executor_model.specs.declared.op.ClosingOp.TheVariants as closing_op
@@ -21,8 +22,8 @@ use Rattle.executor_model.specs.declared.step.Hint.{Hint}
 use Rattle.executor_model.specs.declared.step.UserEnd.{UserEnd}
 use Rattle.executor_model.specs.declared.step.UserEnd.TheVariants as end
 use Rattle.executor_model.specs.Steps.{accepts, react}
-use Rattle.executor_model.specs.World.{World, task}
-use Rattle.executor_model.specs.Acts.{is_copy_refused}
+use Rattle.executor_model.specs.World.{World, log_if, task}
+use Rattle.executor_model.specs.Acts.{is_copy_refused, is_last_waker, is_told}
 use Rattle.executor_model.specs.Doing.{act}
 use Rattle.executor_model.specs.Weights.{weigh, past}
 use Rattle.executor_model.specs.Good.{pasts, IsKnownWaker}
@@ -30,7 +31,7 @@ use Rattle.executor_model.specs.Rows.{past_of}
 use Rattle.executor_model.proofs.Quiet.Calls.{is_end}
 use Rattle.executor_model.proofs.Awaiters.Awaited.{Mark, KeepsBy, KeepsAwaits, asks_if}
 use Rattle.executor_model.proofs.Awaiters.AwaitedMoves.{awaits-append, awaits-begin_drop, awaits-begin_drop_output}
-use Rattle.executor_model.proofs.Awaiters.AwaitedMoves.{awaits-detach, awaits-drop_runnable, awaits-end_closed}
+use Rattle.executor_model.proofs.Awaiters.AwaitedMoves.{awaits-detach, awaits-drop_runnable, awaits-end_closed, awaits-last}
 use Rattle.executor_model.proofs.Awaiters.AwaitedMoves.{awaits-end_pending, awaits-end_ready, awaits-enter, awaits-give_up}
 use Rattle.executor_model.proofs.Awaiters.AwaitedMoves.{awaits-leave, awaits-put_back, awaits-release, awaits-settle_closed}
 use Rattle.executor_model.proofs.Awaiters.AwaitedMoves.{awaits-take, awaits-take_to_drop, awaits-take_to_poll, awaits-take_up}
@@ -41,7 +42,7 @@ use Rattle.executor_model.proofs.Awaiters.AwaitedActs.{awaits-wake_first, is_ans
 use Rattle.executor_model.proofs.Awaiters.AwaitedActs.{awaits-register, awaits-take_out, awaits-end_notify}
 use Rattle.executor_model.proofs.Awaiters.AwaitedActs.{awaits-end_register_by, awaits-look, awaits-notify, awaits-copy}
 use Rattle.executor_model.proofs.Awaiters.AwaitedActs.{awaits-copy_awaiter, awaits-drain, awaits-drop_first, both-true}
-use Rattle.executor_model.proofs.Awaiters.AwaitedActs.{awaits-again, awaits-call, awaits-cancel, awaits-close}
+use Rattle.executor_model.proofs.Awaiters.AwaitedActs.{awaits-again, awaits-call, awaits-cancel, awaits-close, awaits-let_go}
 use Rattle.executor_model.proofs.Awaiters.SleepersAwaited.{awaits-exchange, awaits-hand_out, awaits-call_sleeper}
 use Rattle.executor_model.proofs.Awaiters.RunsAwaited.{awaits-list, awaits-run, awaits-search_who, awaits-steal}
 use Rattle.executor_model.proofs.Awaiters.SleepersAwaited.{awaits-make_tick, awaits-copy_sleeper}
@@ -73,7 +74,8 @@ awaits-act p h (op.Move move.WakeByReference f) w n u z m =
 awaits-act p h (op.Move move.Wake f) w n u z m =
     awaits-wake (moves.is_over (task w f)) _ _ p w f refl refl (own _ f (op.Move move.Wake f) (omega arith) z)
 awaits-act p h (op.Move move.Release f) w n u z m =
-    awaits-release _ _ w f refl refl (own _ f (op.Move move.Release f) (omega arith) z)
+    awaits-last (is_last_waker move.Release (task w f)) p f w w (moves.release (task w f)) (op.Move move.Release f ∷ [])
+    (awaits-release _ _ w f refl refl (own _ f (op.Move move.Release f) (omega arith) z))
 awaits-act p h (op.Move move.TakeUp f) w n u z m =
     awaits-take_up _ _ p w f refl refl (own _ f (op.Move move.TakeUp f) (omega arith) z)
 awaits-act p h (op.Move move.SettleClosed f) w n u z m =
@@ -83,7 +85,8 @@ awaits-act p h (op.Move move.GiveUp f) w n u z m =
 awaits-act p h (op.Move move.EndReady f) w n u z m =
     awaits-end_ready _ _ w f refl refl (own _ f (op.Move move.EndReady f) (omega arith) z)
 awaits-act p h (op.Move move.EndPending f) w n u z m =
-    awaits-end_pending _ _ _ _ w f refl refl refl refl (own _ f (op.Move move.EndPending f) (omega arith) z)
+    awaits-last (is_last_waker move.EndPending (task w f)) p f w w (moves.end_pending (task w f))
+    (op.Move move.EndPending f ∷ []) (awaits-end_pending _ _ _ _ w f refl refl refl refl (own _ f (op.Move move.EndPending f) (omega arith) z))
 awaits-act p h (op.Move move.EndClosed f) w n u z m =
     awaits-end_closed _ w f refl (own _ f (op.Move move.EndClosed f) (omega arith) z)
 awaits-act p h (op.Move move.DropRunnable f) w n u z m =
@@ -91,7 +94,9 @@ awaits-act p h (op.Move move.DropRunnable f) w n u z m =
 awaits-act p h (op.Move move.Cancel f) w n u z m =
     awaits-cancel _ _ p w f refl refl (own _ f (op.Move move.Cancel f) (omega arith) z)
 awaits-act p h (op.Move move.Detach f) w n u z m =
-    awaits-detach _ _ _ p w f refl refl (own _ f (op.Move move.Detach f) (omega arith) z)
+    awaits-last (is_last_waker move.Detach (task w f)) p f w
+    (log_if (is_told move.Detach (task w f)) w (event.Detached p f)) (moves.detach (task w f))
+    (op.Move move.Detach f ∷ []) (awaits-detach _ _ _ p w f refl refl (own _ f (op.Move move.Detach f) (omega arith) z))
 awaits-act p h (op.Table (table_op.TakeToPoll f)) w n u z m = awaits-take_to_poll w f
 awaits-act p h (op.Table (table_op.PutBack f)) w n u z m = awaits-put_back w f
 awaits-act p h (op.Table (table_op.TakeToDrop f)) w n u z m = awaits-take_to_drop w f
@@ -116,6 +121,9 @@ awaits-act p h (op.Handle (handle_op.Notify f mine)) w n u z m =
 awaits-act p h (op.Handle (handle_op.EndNotify f mine)) w n u z m =
     (let i : f < length w.tasks = own _ f (op.Handle (handle_op.EndNotify f mine)) (omega arith) z in
     awaits-end_notify _ _ mine w f (both-true mine h.same) refl i (omega (arith, i, n)))
+awaits-act p h (op.Handle (handle_op.LetGo f)) w n u z m =
+    (let i : f < length w.tasks = own _ f (op.Handle (handle_op.LetGo f)) (omega arith) z in
+    awaits-let_go _ w f refl i (omega (arith, i, n)))
 awaits-act p h (op.Waker (waker_op.CallAwaiter f a k)) w n u z m = awaits-call p w f a k (omega (arith, z))
 awaits-act p h (op.Sleeper sleeper_op.ExchangeFlag) w n u z m = awaits-exchange _ w
 awaits-act p h (op.Sleeper sleeper_op.HandOut) w n u z m = awaits-hand_out _ _ w

@@ -35,9 +35,9 @@ use Rattle.executor_model.specs.declared.step.UserEnd.{UserEnd}
 use Rattle.executor_model.specs.declared.step.UserEnd.TheVariants as end
 use Rattle.executor_model.specs.World.{World, Done, Stage, New, Listed, Ended, log, task, among, awaiter_of, run_of}
 use Rattle.executor_model.specs.Carried.{owed_ops, awaiter_ops}
-use Rattle.executor_model.specs.Acts.{append_by, take_by, enter_by, leave_by, copy_by, copy_awaiter_by}
+use Rattle.executor_model.specs.Acts.{append_by, take_by, enter_by, entry_goes, leave_by, copy_by, copy_awaiter_by}
 use Rattle.executor_model.specs.Acts.{register_by}
-use Rattle.executor_model.specs.Acts.{waker_goes, let_go, end_register_by, told, call_awaiter, wake}
+use Rattle.executor_model.specs.Acts.{waker_goes, let_go, let_go_by, end_register_by, told, call_awaiter, wake}
 use Rattle.executor_model.specs.ActsOfRuns.{call_by_reference, reschedule_by, wake_own}
 use Rattle.executor_model.specs.Doing.{act}
 use Rattle.executor_model.specs.Weights.{weigh}
@@ -76,6 +76,7 @@ plain-owed f there o z =
       give_up = refl;
       end_closed = refl;
       detach = refl;
+      let_go = refl;
     }) there o (owed-future rough_of f (record { poll = refl; drop = refl }) there o.future) z
 
 -- a move at which no awaiter is owed
@@ -153,6 +154,10 @@ plain-let_go : (a : Option Awaiter) → weigh rough_of (let_go a) ≡ 0
 plain-let_go None = refl
 plain-let_go (Some a) = plain-goes a.waker
 
+plain-let_go_by : (b : Bool) (w : World) (f : ℕ) → weigh rough_of (let_go_by b w f).next ≡ 0
+plain-let_go_by true w f = refl
+plain-let_go_by false w f = plain-let_go (awaiter_of w f)
+
 plain-end_register : (b : Bool) (w : World) (f : ℕ) (a : Waker) (k : ℕ) →
     weigh rough_of (end_register_by b w f a k).next ≡ 0
 plain-end_register true w f a k =
@@ -177,7 +182,11 @@ plain-call p w f (Task m) k = plain-wake p _ m
 plain-call p w f (Outside x) k = refl
 
 plain-leave : (b : Bool) (w : World) (f : ℕ) → weigh rough_of (leave_by b w f).next ≡ 0
-plain-leave true w f = refl
+plain-leave true w f = by w.is_static f
+  where
+    by : (b : Bool) (f : ℕ) → weigh rough_of (entry_goes b f) ≡ 0
+    by true f = refl
+    by false f = refl
 plain-leave false w f = refl
 
 -- what a run does
@@ -252,6 +261,7 @@ plain-act p h (op.Handle (handle_op.CopyAwaiter f a)) w n = plain-copy_awaiter _
 plain-act p h (op.Handle (handle_op.Register f a k)) w n = plain-register _ w f a k
 plain-act p h (op.Handle (handle_op.EndRegister f a k)) w n = plain-end_register _ w f a k
 plain-act p h (op.Handle (handle_op.EndNotify f mine)) w n = plain-told _ f (awaiter_of w f)
+plain-act p h (op.Handle (handle_op.LetGo f)) w n = plain-let_go_by _ w f
 plain-act p h (op.Waker (waker_op.CallAwaiter f a k)) w n = plain-call p w f a k
 plain-act p h (op.Sleeper o) w n =
     sleeper-unseen rough_of (record

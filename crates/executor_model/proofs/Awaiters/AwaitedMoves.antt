@@ -4,10 +4,12 @@ use Rattle.std.proofs.Common.{◌≡◌, ℕ, ◌+◌, ◌<◌, List, [], ◌∷
 use Rattle.std.proofs.Common.{eqb, drop, arith}
 use Rattle.std.proofs.lemmas.Bool.Decides.{nat_tests}
 use Rattle.std.proofs.lemmas.List.{length-set, length-append}
+use Rattle.task_moves.specs.declared.moves.owed.Moved.{Moved}
 use Rattle.task_moves.specs.Moves as moves
 use Rattle.executor_model.specs.declared.event.Event.TheVariants as event
 use Rattle.executor_model.specs.declared.op.Waker.TheVariants.{Task}
 use Rattle.executor_model.specs.declared.op.Polled.TheVariants as of
+use Rattle.executor_model.specs.declared.op.Op.{Op}
 use Rattle.executor_model.specs.declared.op.Op.TheVariants as op
 use Rattle.task_moves.specs.declared.moves.owed.Move.TheVariants as move
 use Rattle.executor_model.specs.declared.op.QueueOp.TheVariants as queue_op
@@ -20,7 +22,7 @@ use Rattle.executor_model.specs.Acts.{append_by, take_by, enter_by, take_to_poll
 use Rattle.executor_model.specs.Acts.{leave_by}
 use Rattle.executor_model.specs.Acts.{begin_drop, begin_drop_output}
 use Rattle.executor_model.specs.Weights.{same}
-use Rattle.executor_model.specs.Sound.{with_ops, times}
+use Rattle.executor_model.specs.Sound.{Pend, with_ops, times}
 use Rattle.executor_model.proofs.Steps.Cases.{by_bool, by_list}
 use Rattle.executor_model.proofs.Steps.Marks.{IsUnmarked, unmarked, IsGoing, going}
 use Rattle.executor_model.proofs.Steps.Marks.{IsIdle, idle, last-one, IsUnheld, unheld}
@@ -28,7 +30,7 @@ use Rattle.executor_model.proofs.Steps.Lists.{read_put, fresh_is, read_push}
 use Rattle.executor_model.proofs.Steps.Lists.{same_is, times-append, times-drop}
 use Rattle.executor_model.proofs.Counts.Counting.{settling, readied, pended, ending, dropping, taken_up, woken, woken_by}
 use Rattle.executor_model.proofs.Counts.Counting.{cancel_going, cancel_idle, cancel_over, detached}
-use Rattle.executor_model.proofs.Awaiters.Awaited.{heard-push, with_awaiting, Footing}
+use Rattle.executor_model.proofs.Awaiters.Awaited.{Awaiting, Mark, heard-push, with_awaiting, Footing}
 use Rattle.executor_model.proofs.Awaiters.Awaited.{Awaits, KeepsAwaits, kept_push}
 
 pub awaits-append : (b : Bool) (w : World) (f : ℕ) → KeepsAwaits w (op.Queue (queue_op.Append f) ∷ []) (append_by b w f)
@@ -74,6 +76,19 @@ awaits-begin_drop p w f g r yy mm bb h = grind (arith, same_is, heard-push)
 pub awaits-begin_drop_output : (p : ℕ) (w : World) (f : ℕ) →
     KeepsAwaits w (op.User (user_op.BeginDropOutput f) ∷ []) (begin_drop_output p w f)
 awaits-begin_drop_output p w f g r yy mm bb h = grind (arith, heard-push)
+
+awaits-told : (g : ℕ) (w : World) (r : Pend) (y : Awaiting) (m : Mark) (p f : ℕ) → Awaits w g r y m →
+    Awaits (log w (event.LastWaker p f)) g r y m
+awaits-told g w r y m p f h = grind (arith, heard-push)
+
+-- that nobody is left who could wake a task changes nothing for who awaits it
+pub awaits-last : (l : Bool) (p f : ℕ) (w v : World) (m : Moved) (old : List Op) → KeepsAwaits w old (carried v f m) →
+    KeepsAwaits w old (carried (log_if l v (event.LastWaker p f)) f m)
+awaits-last true p f w v m old k g r yy mm bb h =
+    let x : Awaits (carried v f m).world g (with_ops g (carried v f m).next r) (with_awaiting g (carried v f m).next yy) mm =
+    k g r yy mm bb h in
+    awaits-told g (carried v f m).world _ _ mm p f x
+awaits-last false p f w v m old k g r yy mm bb h = k g r yy mm bb h
 
 -- the moves of a task, by what they find
 

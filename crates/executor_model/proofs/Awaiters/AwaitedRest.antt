@@ -3,6 +3,7 @@
 use Rattle.std.proofs.Common.{◌≡◌, ◌⊎◌, ℕ, suc, ◌<◌, ◌≤◌, List, [], ◌∷◌, length}
 use Rattle.std.proofs.Common.{Bool, true, false, refl, sym, ap, ◌∙◌, subst, ⊎_elim, arith}
 use Rattle.std.proofs.lemmas.List.{get_or_past}
+use Rattle.executor_model.specs.declared.kind.Kind.{Kind}
 use Rattle.executor_model.specs.declared.step.Step.{Step}
 use Rattle.executor_model.specs.Trace.{Trace, is_dropped}
 use Rattle.executor_model.specs.AwaiterKept.{since, IsOverWithHandle, AwaiterIsKept}
@@ -89,10 +90,11 @@ handle-there true w g m e a h n = refl
 handle-there false w g m e a h n = let no : true ≡ false = sym (a.parted (known-task w g h) e) ∙ n in absurd (cc)
 
 called-there : (w : World) (g : ℕ) (m : Mark) → Awaits w g none nothing_awaited m →
-    (task w g).handle ≡ true → ((task w g).closed ≡ true) ⊎ ((task w g).completed ≡ true) →
+    (heard g w.trace).parted ≡ false → (task w g).handle ≡ true →
+    ((task w g).closed ≡ true) ⊎ ((task w g).completed ≡ true) →
     (task w g).scheduled ≡ false → (task w g).running ≡ false → (heard g w.trace).pending ≡ true →
     (heard g w.trace).called ≡ true
-called-there w g m a k h s r p = grind arith
+called-there w g m a n k h s r p = grind arith
 
 module _ (s : Machine) (fine : Good s) (h : Placed s) (d : Deep s) (v : Swept s) (x : Waited s) (e : OwnEmptied s)
     (g : ℕ)
@@ -151,7 +153,7 @@ module _ (s : Machine) (fine : Good s) (h : Placed s) (d : Deep s) (v : Swept s)
   is-settled = settled s.world.gone s.world g _ refl sound-here awaits-here swept-here dropped unscheduled stopped
 
   pub called-at-rest : (heard g s.world.trace).pending ≡ true → (heard g s.world.trace).called ≡ true
-  called-at-rest = called-there s.world g _ awaits-here
+  called-at-rest = called-there s.world g _ awaits-here kept
       (handle-there (task s.world g).handle s.world g _ refl awaits-here is-settled kept) is-settled unscheduled stopped
 
 -- as the definition has it
@@ -165,9 +167,9 @@ kept-at-rest f trace k party poll over last =
     (record b.before { poll = poll; party = party; asking = true; inner = 0; pending = false; called = false })
     (since poll trace) refl last.last) ∙ (sym (ap (λ (t : Heard). t.called) b.all) ∙ k over p)
 
-pub awaiter-is-kept : (limit parties : ℕ) (steps : List Step) (f : ℕ) →
-    AwaiterIsKept f (run steps (start limit parties)).world.trace
-awaiter-is-kept limit parties steps f =
-    kept-at-rest f _ (λ over. called-at-rest (run steps (start limit parties)) (good limit parties steps)
-    (placed limit parties steps) (deep limit parties steps) (swept limit parties steps) (waited limit parties steps)
-    (own-emptied limit parties steps) f over)
+pub awaiter-is-kept : (limit : ℕ) (kind : Kind) (parties : ℕ) (steps : List Step) (f : ℕ) →
+    AwaiterIsKept f (run steps (start limit kind parties)).world.trace
+awaiter-is-kept limit kind parties steps f =
+    kept-at-rest f _ (λ over. called-at-rest (run steps (start limit kind parties)) (good limit kind parties steps)
+    (placed limit kind parties steps) (deep limit kind parties steps) (swept limit kind parties steps) (waited limit kind parties steps)
+    (own-emptied limit kind parties steps) f over)

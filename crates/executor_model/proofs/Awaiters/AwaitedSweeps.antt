@@ -7,6 +7,7 @@ use Rattle.queue_steps.specs.ClosableQueue.{ClosableQueue}
 use Rattle.task_moves.specs.declared.moves.owed.Answer.{Answer}
 use Rattle.task_moves.specs.declared.moves.owed.Moved.{Moved}
 use Rattle.task_moves.specs.Moves as moves
+use Rattle.task_moves.specs.declared.moves.owed.Move.{Move}
 use Rattle.executor_model.specs.declared.call.Reply.TheVariants as reply
 use Rattle.executor_model.specs.declared.event.Event.{Event}
 use Rattle.executor_model.specs.declared.event.Event.TheVariants as event
@@ -33,6 +34,7 @@ use Rattle.executor_model.specs.declared.op.WakerOp.TheVariants as waker_op
 use Rattle.executor_model.specs.declared.step.Hint.{Hint}
 use Rattle.executor_model.specs.World.{World, Done, done, log, log_if, task}
 use Rattle.executor_model.specs.Carried.{awaiter_ops}
+use Rattle.executor_model.specs.Acts.{is_last_waker, is_told, let_go_by, move_by, told_as}
 use Rattle.executor_model.specs.Acts.{enter_by, leave_by, copy_by, look_by}
 use Rattle.executor_model.specs.Acts.{look_again_by, copy_awaiter_by, register_by, end_register_by, notify_by}
 use Rattle.executor_model.specs.Acts.{call_awaiter}
@@ -170,6 +172,16 @@ pub same-log_if : (b : Bool) (w : World) (e : Event) → lists w ≡ lists (log_
 same-log_if true w e = refl
 same-log_if false w e = refl
 
+same-move : (b : Bool) (m : Move) (p : ℕ) (w : World) (f : ℕ) → lists w ≡ lists (move_by b m p w f).world
+same-move true m p w f = let v = log_if (is_told m (task w f)) w (told_as m p f) in
+    same-log_if (is_told m (task w f)) w (told_as m p f)
+    ∙ same-log_if (is_last_waker m (task w f)) v (event.LastWaker p f)
+same-move false m p w f = refl
+
+same-let_go : (b : Bool) (w : World) (f : ℕ) → lists w ≡ lists (let_go_by b w f).world
+same-let_go true w f = refl
+same-let_go false w f = refl
+
 same-enter : (b c : Bool) (p : ℕ) (w : World) → lists w ≡ lists (enter_by b c p w).world
 same-enter true c p w = refl
 same-enter false true p w = refl
@@ -284,11 +296,7 @@ is_sweeping _ = false
 
 pub same-act : (p : ℕ) (h : Hint) (o : Op) (w : World) → is_sweeping o ≡ false → lists w ≡ lists (act p h o w).world
 same-act p h (op.Table table_op.Enter) w n = same-enter _ _ p w
-same-act p h (op.Move move.WakeByReference f) w n = same-log_if _ w (event.Woken p f)
-same-act p h (op.Move move.Wake f) w n = same-log_if _ w (event.Woken p f)
-same-act p h (op.Move move.TakeUp f) w n = same-log_if _ w (event.PollBegun p f)
-same-act p h (op.Move move.Cancel f) w n = same-log_if _ w (event.Cancelled p f)
-same-act p h (op.Move move.Detach f) w n = same-log_if _ w (event.Detached p f)
+same-act p h (op.Move m f) w n = same-move _ m p w f
 same-act p h (op.Table (table_op.LeaveTable f)) w n = same-leave _ w f
 same-act p h (op.Waker (waker_op.CopyWaker f held)) w n = same-copy _ w f held
 same-act p h (op.Handle (handle_op.Look f a)) w n =
@@ -299,6 +307,7 @@ same-act p h (op.Handle (handle_op.EndRegister f a k)) w n = same-end_register _
 same-act p h (op.Handle (handle_op.LookAgain f)) w n =
     same-again (moves.look_again (task w f)).owed.answer p w f (moves.look_again (task w f))
 same-act p h (op.Handle (handle_op.Notify f mine)) w n = same-notify _ w f mine
+same-act p h (op.Handle (handle_op.LetGo f)) w n = same-let_go _ w f
 same-act p h (op.Waker (waker_op.CallAwaiter f a k)) w n = same-call p w f a k
 same-act p h (op.Sleeper o) w n = ap lists_in (sleeper-rest p o w)
 same-act p h (op.Tick tick_op.MakeTick) w n = ap lists_in (tick-rest h tick_op.MakeTick w refl)

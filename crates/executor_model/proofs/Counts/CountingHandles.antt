@@ -62,6 +62,10 @@ end_registered false old w f a k =
 abbrev pub end_notified : Bool → Option Awaiter → World → ℕ → Done
 end_notified same old w f = done (put_awaiter (put w f (moves.end_notify (task w f)).state) f None) (told same f old)
 
+-- a cell is emptied, and this awaiter goes
+abbrev pub let_go_with : Option Awaiter → World → ℕ → Done
+let_go_with old w f = done (put_awaiter (put w f (record (task w f) { awaiter = false })) f None) (let_go old)
+
 -- the drop of the executor
 
 abbrev pub next_woken : Bool → Bool → Bool → List ℕ → ℕ → World → ℕ → Done

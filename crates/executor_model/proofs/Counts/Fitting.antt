@@ -10,6 +10,7 @@ use Rattle.task_moves.specs.declared.moves.owed.Owed.{Owed}
 use Rattle.task_moves.specs.declared.moves.owed.Answer.{Answer}
 use Rattle.task_moves.specs.declared.moves.owed.AwaiterDebt.{AwaiterDebt}
 use Rattle.task_moves.specs.Moves as moves
+use Rattle.task_moves.specs.declared.moves.owed.Move.{Move}
 use Rattle.executor_model.specs.declared.event.Event.{Event}
 use Rattle.executor_model.specs.declared.event.Event.TheVariants as event
 use Rattle.executor_model.specs.declared.op.Awaiter.{Awaiter}
@@ -28,6 +29,7 @@ use Rattle.executor_model.specs.declared.op.WakerOp.TheVariants as waker_op
 use Rattle.executor_model.specs.declared.step.Hint.{Hint}
 use Rattle.executor_model.specs.World.{World, Done, done, log, log_if, task, put, awaiter_of, put_awaiter, among}
 use Rattle.executor_model.specs.Carried.{awaiter_ops, owed_ops, carried}
+use Rattle.executor_model.specs.Acts.{is_last_waker, is_told, let_go_by, move_by, told_as, told_of}
 use Rattle.executor_model.specs.Acts.{append_by, take_by, enter_by, leave_by, copy_by}
 use Rattle.executor_model.specs.Acts.{answered, polled}
 use Rattle.executor_model.specs.Acts.{look_by, look_again_by, copy_awaiter_by, register_by, end_register_by, notify_by}
@@ -65,7 +67,7 @@ module _ (n f : ℕ) (z : past n f ≡ 0) where
 
   pub past_owed : (b : Bool) (o : Owed) → weigh (past_of n) (owed_ops b f o) ≡ 0
   past_owed b o = owed-nothing (past_of n) f
-      (record { append = z; output = refl; release = z; settle_closed = z; give_up = z; end_closed = z; detach = z }) b
+      (record { append = z; output = refl; release = z; settle_closed = z; give_up = z; end_closed = z; detach = z; let_go = z }) b
       o (owed-future (past_of n) f (record { poll = z; drop = z }) b o.future) (past_awaiter o.awaiter)
 
 pub fits-log : (b : Bool) (w : World) (e : Event) → Shaped w → Shaped (log_if b w e)
@@ -253,6 +255,15 @@ grows-end_notify c m w f h z =
     grows-awaiter w f _ none _ (omega (arith, i, h.awaiting)) h refl
     (λ y. past_told n f (m && c.same) (awaiter_of w f) (omega (arith, z)) y)
 
+pub grows-let_go : (b : Bool) (w : World) (f : ℕ) → Grows w (op.Handle (handle_op.LetGo f) ∷ []) (let_go_by b w f)
+grows-let_go true w f h z = grind arith
+grows-let_go false w f h z =
+    let n = length w.tasks in
+    let i : f < n = below n f (omega (arith, z)) in
+    let none : Option Awaiter = None in
+    grows-awaiter w f _ none _ (omega (arith, i, h.awaiting)) h refl
+    (λ y. omega (arith, past_let_go n (awaiter_of w f), y))
+
 pub grows-call : (p : ℕ) (w : World) (f : ℕ) (x : Waker) (k : ℕ) →
     Grows w (op.Waker (waker_op.CallAwaiter f x k) ∷ []) (call_awaiter p w f x k)
 grows-call = λ p w f. by_waker _
@@ -321,7 +332,13 @@ pub grows-logged : (w : World) (e : Event) (next : List Op) → weigh (past_of (
     Grown w (done (log w e) next)
 grows-logged w e next z h = record { fits = fits-log true w e (shaped w h); next = z; more = omega arith }
 
--- a move, and the event that it has
-pub grows-moved : (w : World) (b : Bool) (e : Event) (f : ℕ) (m : Moved) → Fits w → past (length w.tasks) f ≡ 0 →
-    Grown w (carried (log_if b w e) f m)
-grows-moved w b e f m h z = grows-carried w (log_if b w e) f m (same-log b w e) (fits-log b w e (shaped w h)) z
+-- a move, and the events that it has
+pub grows-move : (b : Bool) (m : Move) (p : ℕ) (w : World) (f : ℕ) → Grows w (op.Move m f ∷ []) (move_by b m p w f)
+grows-move true m p w f h k =
+    let a = told_as m p f in
+    let c = is_told m (task w f) in
+    let l = is_last_waker m (task w f) in
+    grows-carried w (told_of l c m p w f) f (moves.after m (task w f))
+    (same-log l (log_if c w a) (event.LastWaker p f) ∙ same-log c w a)
+    (fits-log l (log_if c w a) (event.LastWaker p f) (fits-log c w a (shaped w h))) (omega (arith, k))
+grows-move false m p w f h k = grind arith

@@ -16,11 +16,12 @@ use Rattle.executor_model.specs.declared.op.UserOp.TheVariants as user_op
 use Rattle.executor_model.specs.declared.op.WakerOp.TheVariants as waker_op
 use Rattle.executor_model.specs.declared.step.Hint.{Hint}
 use Rattle.executor_model.specs.World.{World, task}
+use Rattle.executor_model.specs.Acts.{stands_alone}
 use Rattle.executor_model.specs.Doing.{act}
-use Rattle.executor_model.proofs.Counts.Fitting.{Grows, shaped, grows-again, grows-append, grows-call, grows-carried}
+use Rattle.executor_model.proofs.Counts.Fitting.{Grows, shaped, grows-again, grows-append, grows-call}
 use Rattle.executor_model.proofs.Counts.Fitting.{grows-copy, grows-copy_awaiter, grows-drain, grows-drop_next}
 use Rattle.executor_model.proofs.Counts.Fitting.{grows-end_notify, grows-end_register, grows-enter, grows-inside}
-use Rattle.executor_model.proofs.Counts.Fitting.{grows-leave, grows-logged, grows-look, grows-moved, grows-notify}
+use Rattle.executor_model.proofs.Counts.Fitting.{grows-leave, grows-logged, grows-look, grows-let_go, grows-move, grows-notify}
 use Rattle.executor_model.proofs.Counts.Fitting.{grows-register, grows-take, grows-wake_next, past_closing}
 use Rattle.executor_model.specs.ActsOfSleepers.{polled_as}
 use Rattle.executor_model.proofs.Counts.RunsFitting.{grows-list, grows-run, grows-search_who, grows-steal}
@@ -32,30 +33,7 @@ pub grows-act : (p : ℕ) (c : Hint) (o : Op) (w : World) → Grows w (o ∷ [])
 grows-act p c (op.Table table_op.Enter) w h k = grows-enter _ _ p w h k
 grows-act p c (op.Queue queue_op.Take) w h k = grows-take _ w refl h k
 grows-act p c (op.Queue (queue_op.Append f)) w h k = grows-append _ w f h k
-grows-act p c (op.Move move.WakeByReference f) w h k = grows-moved w (not (moves.is_over (task w f))) (event.Woken p f)
-    f (moves.wake_by_reference (task w f)) h (omega (arith, k))
-grows-act p c (op.Move move.Wake f) w h k = grows-moved w (not (moves.is_over (task w f))) (event.Woken p f) f
-    (moves.wake (task w f)) h (omega (arith, k))
-grows-act p c (op.Move move.TakeUp f) w h k =
-    grows-moved w (not (task w f).closed) (event.PollBegun p f) f (moves.take_up (task w f)) h (omega (arith, k))
-grows-act p c (op.Move move.Cancel f) w h k = grows-moved w (not (moves.is_over (task w f))) (event.Cancelled p f) f
-    (moves.cancel (task w f)) h (omega (arith, k))
-grows-act p c (op.Move move.Detach f) w h k = grows-moved w (not ((task w f).completed && not (task w f).closed))
-    (event.Detached p f) f (moves.detach (task w f)) h (omega (arith, k))
-grows-act p c (op.Move move.Release f) w h k =
-    grows-carried w w f (moves.release (task w f)) refl (shaped w h) (omega (arith, k))
-grows-act p c (op.Move move.SettleClosed f) w h k =
-    grows-carried w w f (moves.settle_closed (task w f)) refl (shaped w h) (omega (arith, k))
-grows-act p c (op.Move move.GiveUp f) w h k =
-    grows-carried w w f (moves.give_up (task w f)) refl (shaped w h) (omega (arith, k))
-grows-act p c (op.Move move.EndReady f) w h k =
-    grows-carried w w f (moves.end_ready (task w f)) refl (shaped w h) (omega (arith, k))
-grows-act p c (op.Move move.EndPending f) w h k =
-    grows-carried w w f (moves.end_pending (task w f)) refl (shaped w h) (omega (arith, k))
-grows-act p c (op.Move move.EndClosed f) w h k =
-    grows-carried w w f (moves.end_closed (task w f)) refl (shaped w h) (omega (arith, k))
-grows-act p c (op.Move move.DropRunnable f) w h k =
-    grows-carried w w f (moves.drop_runnable (task w f)) refl (shaped w h) (omega (arith, k))
+grows-act p c (op.Move m f) w h k = grows-move (stands_alone m) m p w f h k
 grows-act p c (op.Table (table_op.TakeToPoll f)) w h k =
     grows-inside w f false [] (op.User (user_op.Poll f) ∷ []) (omega (arith, k)) h
 grows-act p c (op.Table (table_op.PutBack f)) w h k =
@@ -76,6 +54,7 @@ grows-act p c (op.Handle (handle_op.EndRegister f a n)) w h k = grows-end_regist
 grows-act p c (op.Handle (handle_op.LookAgain f)) w h k = grows-again _ p w f _ h k
 grows-act p c (op.Handle (handle_op.Notify f mine)) w h k = grows-notify _ mine w f h k
 grows-act p c (op.Handle (handle_op.EndNotify f mine)) w h k = grows-end_notify c mine w f h k
+grows-act p c (op.Handle (handle_op.LetGo f)) w h k = grows-let_go _ w f h k
 grows-act p c (op.Waker (waker_op.CallAwaiter f a n)) w h k = grows-call p w f a n h k
 grows-act p c (op.Sleeper sleeper_op.ExchangeFlag) w h k = grows-exchange _ w h k
 grows-act p c (op.Sleeper sleeper_op.HandOut) w h k = grows-hand_out _ _ w refl h k

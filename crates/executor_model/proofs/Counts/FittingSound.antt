@@ -80,7 +80,7 @@ pub fits-sound : (w : World) (p : ℕ → Pend) → ((g : ℕ) → Sound w g (p 
 fits-sound w p h s = record {
   queue = none-times (length w.tasks) w.queue.items (λ g l. omega (arith, unheld w g (p g) (h g) l));
   own = none-times_in (length w.tasks) w.own (λ g l. omega (arith, unheld w g (p g) (h g) l));
-  table = none-times (length w.tasks) w.table (λ g l. omega (arith, unheld w g (p g) (h g) l));
+  table = none-times (length w.tasks) w.table (λ g l. omega (arith, (h g).entered l));
   leaving = none-times (length w.tasks) w.leaving (λ g l. omega (arith, unheld w g (p g) (h g) l));
   waking = none-times (length w.tasks) w.waking (λ g l. omega (arith, unheld w g (p g) (h g) l));
   wakers = none-wakers (length w.tasks) w.wakers (λ g l. omega (arith, unheld w g (p g) (h g) l));

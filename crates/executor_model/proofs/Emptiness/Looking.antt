@@ -5,6 +5,7 @@ use Rattle.std.proofs.Common.{refl, sym, ap, ◌∙◌, subst, inl, inr, ⊎_eli
 use Rattle.std.proofs.lemmas.Bool.Decides.{nat_tests}
 use Rattle.std.proofs.lemmas.List.{append_cancel_left}
 use Rattle.std.specs.Prelude.{Option, None, nat_lt}
+use Rattle.executor_model.specs.declared.kind.Kind.{Kind}
 use Rattle.executor_model.specs.declared.call.Reply.TheVariants as reply
 use Rattle.executor_model.specs.declared.event.Event.TheVariants as event
 use Rattle.executor_model.specs.declared.op.Hold.TheVariants as hold
@@ -89,6 +90,6 @@ module _ (s : Machine) (fine : Good s) (h : Placed s) where
         omega (arith, z, (table-agrees s f fine h).entered (has-table p e) m);
   }
 
-pub empties : (limit parties : ℕ) (steps : List Step) → IsEmptinessExact (run steps (start limit parties))
-empties limit parties steps = emptiness-exact (run steps (start limit parties)) (good limit parties steps)
-    (placed limit parties steps)
+pub empties : (limit : ℕ) (kind : Kind) (parties : ℕ) (steps : List Step) → IsEmptinessExact (run steps (start limit kind parties))
+empties limit kind parties steps = emptiness-exact (run steps (start limit kind parties)) (good limit kind parties steps)
+    (placed limit kind parties steps)

@@ -5,6 +5,7 @@ use Rattle.std.proofs.Common.{not, refl, sym, ap, ◌∙◌, subst, inl, inr, �
 use Rattle.std.proofs.lemmas.Bool.Decides.{nat_tests}
 use Rattle.std.proofs.lemmas.List.{append_assoc}
 use Rattle.std.specs.Prelude.{Option, Some, None, nat_lt}
+use Rattle.executor_model.specs.declared.kind.Kind.{Kind}
 use Rattle.executor_model.specs.declared.call.Call.TheVariants as call
 use Rattle.executor_model.specs.declared.call.Reply.{Reply}
 use Rattle.executor_model.specs.declared.call.Reply.TheVariants as reply
@@ -138,6 +139,6 @@ quiet-emptiness s fine h d = record {
   only = λ r p t l q. all-dropped s fine h d r p l t q;
 }
 
-pub quiet-empties : (limit parties : ℕ) (steps : List Step) → IsQuietEmptinessExact (run steps (start limit parties))
-quiet-empties limit parties steps = quiet-emptiness (run steps (start limit parties)) (good limit parties steps)
-    (placed limit parties steps) (deep limit parties steps)
+pub quiet-empties : (limit : ℕ) (kind : Kind) (parties : ℕ) (steps : List Step) → IsQuietEmptinessExact (run steps (start limit kind parties))
+quiet-empties limit kind parties steps = quiet-emptiness (run steps (start limit kind parties)) (good limit kind parties steps)
+    (placed limit kind parties steps) (deep limit kind parties steps)

@@ -1,6 +1,6 @@
 -- For refused_calls_change_nothing, wakes_and_drops_take_no_memory and want_of_memory_is_told_of.
 -- Calls that take no memory ask for none.
-use Rattle.std.proofs.Common.{ℕ, List, [], ◌∷◌, ◌++◌, Bool, true, false, ◌||◌, not, refl, ap, ◌∙◌}
+use Rattle.std.proofs.Common.{ℕ, List, [], ◌∷◌, ◌++◌, Bool, true, false, ◌||◌, not, refl, ap, ◌∙◌, ◌&&◌}
 use Rattle.std.proofs.lemmas.List.Folds.{list_any-append}
 use Rattle.std.specs.List.{list_any}
 use Rattle.std.specs.Prelude.{Option, Some, None}
@@ -26,7 +26,7 @@ use Rattle.executor_model.specs.declared.op.Op.{Op}
 use Rattle.executor_model.specs.declared.op.Op.TheVariants as op
 use Rattle.executor_model.specs.declared.op.HandleOp.TheVariants as handle_op
 use Rattle.executor_model.specs.World.{World, task, log, log_if, awaiter_of, among}
-use Rattle.executor_model.specs.Carried.{schedule_ops, future_ops, output_ops, awaiter_ops, next_ops, owed_ops, carried}
+use Rattle.executor_model.specs.Carried.{drops, emptied_ops, schedule_ops, future_ops, output_ops, awaiter_ops, next_ops, owed_ops, carried}
 use Rattle.executor_model.specs.Acts as acts
 use Rattle.executor_model.specs.Memory.{may_refuse, AsksForNone}
 
@@ -80,16 +80,23 @@ none-next f (Some move.EndRegister) = refl
 none-next f (Some move.Notify) = refl
 none-next f (Some move.EndNotify) = refl
 
+none-emptied : (b : Bool) (f : ℕ) → AsksForNone (emptied_ops b f)
+none-emptied true f = refl
+none-emptied false f = refl
+
 none-owed : (there : Bool) (f : ℕ) (o : Owed) → AsksForNone (owed_ops there f o)
 none-owed there f o =
     both (schedule_ops f o.schedule ++ future_ops there f o.future ++ output_ops o.drop_output f
+    ++ awaiter_ops f o.awaiter ++ next_ops f o.next) (emptied_ops (o.empty_cell && drops o.future) f)
+    (both (schedule_ops f o.schedule ++ future_ops there f o.future ++ output_ops o.drop_output f
     ++ awaiter_ops f o.awaiter) (next_ops f o.next)
     (both (schedule_ops f o.schedule ++ future_ops there f o.future ++ output_ops o.drop_output f)
     (awaiter_ops f o.awaiter)
     (both (schedule_ops f o.schedule ++ future_ops there f o.future) (output_ops o.drop_output f)
     (both (schedule_ops f o.schedule) (future_ops there f o.future) (none-scheduled f o.schedule)
     (none-future there f o.future))
-    (none-output o.drop_output f)) (none-awaiter f o.awaiter)) (none-next f o.next)
+    (none-output o.drop_output f)) (none-awaiter f o.awaiter)) (none-next f o.next))
+    (none-emptied (o.empty_cell && drops o.future) f)
 
 pub none-carried : (w : World) (f : ℕ) (m : Moved) → AsksForNone (carried w f m).next
 none-carried w f m = none-owed (among f w.table) f m.owed
@@ -112,7 +119,11 @@ none-look_at_table w [] = refl
 none-look_at_table w (f ∷ fs) = refl
 
 pub none-leave : (b : Bool) (w : World) (f : ℕ) → AsksForNone (acts.leave_by b w f).next
-none-leave true w f = refl
+none-leave true w f = by w.is_static f
+  where
+    by : (b : Bool) (f : ℕ) → AsksForNone (acts.entry_goes b f)
+    by true f = refl
+    by false f = refl
 none-leave false w f = refl
 
 -- awaiters
@@ -128,6 +139,10 @@ none-waker (Outside x) = refl
 none-let_go : (a : Option Awaiter) → AsksForNone (acts.let_go a)
 none-let_go None = refl
 none-let_go (Some a) = none-waker a.waker
+
+pub none-let_go_by : (b : Bool) (w : World) (f : ℕ) → AsksForNone (acts.let_go_by b w f).next
+none-let_go_by true w f = refl
+none-let_go_by false w f = none-let_go (awaiter_of w f)
 
 pub none-end_register : (b : Bool) (w : World) (f : ℕ) (a : Waker) (k : ℕ) →
     AsksForNone (acts.end_register_by b w f a k).next

@@ -2,7 +2,8 @@
 -- Calls that take no memory, by groups of what is done.
 use Rattle.std.proofs.Common.{◌≡◌, ℕ, List, [], ◌∷◌, Bool, true, false, ◌&&◌, ◌||◌, not, refl, ap}
 use Rattle.std.specs.Prelude.{Option, Some, None}
-use Rattle.task_moves.specs.declared.moves.owed.Move.TheVariants as move
+use Rattle.task_moves.specs.declared.moves.owed.Move.{Move}
+use Rattle.executor_model.specs.Acts.{is_last_waker, is_told, move_by, told_of}
 use Rattle.task_moves.specs.Moves as moves
 use Rattle.task_moves.specs.Moves.{is_over}
 use Rattle.executor_model.specs.declared.op.Waker.{Waker}
@@ -40,7 +41,7 @@ use Rattle.executor_model.specs.Doing.{act, list_act, run_act}
 use Rattle.executor_model.specs.Memory.{asks, list_may_refuse, may_refuse, refuses, run_may_refuse, takes_no_memory}
 use Rattle.executor_model.specs.Memory.{AsksForNone, NeedsNoMemory, RunsWithoutMemory}
 use Rattle.executor_model.specs.Steps.{begun, drop_run, future_of, kept, poll_run, react, with_future}
-use Rattle.executor_model.proofs.Memory.Unasking.{both, none-again, none-append, none-call, none-carried, none-closing}
+use Rattle.executor_model.proofs.Memory.Unasking.{none-let_go_by, both, none-again, none-append, none-call, none-carried, none-closing}
 use Rattle.executor_model.proofs.Memory.Unasking.{none-drain, none-drop_next, none-end_register, none-leave}
 use Rattle.executor_model.proofs.Memory.Unasking.{none-look_at_table, none-notify, none-register, none-take}
 use Rattle.executor_model.proofs.Memory.Unasking.{none-told, none-wake, none-wake_next, none-wake}
@@ -84,28 +85,17 @@ none-run p h _ w e = absurd (cc)
 
 -- one thing done
 
+none-move : (b : Bool) (m : Move) (p : ℕ) (w : World) (f : ℕ) → AsksForNone (move_by b m p w f).next
+none-move true m p w f =
+    none-carried (told_of (is_last_waker m (task w f)) (is_told m (task w f)) m p w f) f (moves.after m (task w f))
+none-move false m p w f = refl
+
 none-act : (p : ℕ) (w : World) (h : Hint) (o : Op) → may_refuse o ≡ false → AsksForNone (act p h o w).next
 none-act p w h (op.Table table_op.Enter) e = absurd (cc)
 none-act p w h (op.Queue queue_op.Take) e = none-take w w.queue.items
 none-act p w h (op.Table table_op.LookAtTable) e = none-look_at_table w w.table
 none-act p w h (op.Queue (queue_op.Append f)) e = none-append _ w f
-none-act p w h (op.Move move.WakeByReference f) e = none-carried (log_if (not (is_over (task w f))) w (event.Woken p f))
-    f (moves.wake_by_reference (task w f))
-none-act p w h (op.Move move.Wake f) e = none-wake p w f
-none-act p w h (op.Move move.Release f) e = none-carried w f (moves.release (task w f))
-none-act p w h (op.Move move.TakeUp f) e = none-carried (log_if (not (task w f).closed) w (event.PollBegun p f)) f
-    (moves.take_up (task w f))
-none-act p w h (op.Move move.SettleClosed f) e = none-carried w f (moves.settle_closed (task w f))
-none-act p w h (op.Move move.GiveUp f) e = none-carried w f (moves.give_up (task w f))
-none-act p w h (op.Move move.EndReady f) e = none-carried w f (moves.end_ready (task w f))
-none-act p w h (op.Move move.EndPending f) e = none-carried w f (moves.end_pending (task w f))
-none-act p w h (op.Move move.EndClosed f) e = none-carried w f (moves.end_closed (task w f))
-none-act p w h (op.Move move.DropRunnable f) e = none-carried w f (moves.drop_runnable (task w f))
-none-act p w h (op.Move move.Cancel f) e = none-carried (log_if (not (is_over (task w f))) w (event.Cancelled p f)) f
-    (moves.cancel (task w f))
-none-act p w h (op.Move move.Detach f) e =
-    none-carried (log_if (not ((task w f).completed && not (task w f).closed)) w (event.Detached p f)) f
-    (moves.detach (task w f))
+none-act p w h (op.Move m f) e = none-move _ m p w f
 none-act p w h (op.Table (table_op.LeaveTable f)) e = none-leave _ w f
 none-act p w h (op.Waker (waker_op.CopyWaker f held)) e = absurd (cc)
 none-act p w h (op.Handle (handle_op.Look f a)) e = absurd (cc)
@@ -115,6 +105,7 @@ none-act p w h (op.Handle (handle_op.EndRegister f a k)) e = none-end_register _
 none-act p w h (op.Handle (handle_op.LookAgain f)) e = none-again (task w f).closed _ (task w f).completed p w f
 none-act p w h (op.Handle (handle_op.Notify f mine)) e = none-notify _ w f mine
 none-act p w h (op.Handle (handle_op.EndNotify f mine)) e = none-told (mine && h.same) f (awaiter_of w f)
+none-act p w h (op.Handle (handle_op.LetGo f)) e = none-let_go_by _ w f
 none-act p w h (op.Waker (waker_op.CallAwaiter f a k)) e = none-call p w f a k
 none-act p w h (op.Sleeper o) e = none-sleeper p o w
 none-act p w h (op.Tick tick_op.MakeTick) e = absurd (cc)

@@ -5,6 +5,7 @@ use Rattle.std.proofs.Common.{◌≡◌, ℕ, ◌<◌, List, [], ◌∷◌, ◌+
 use Rattle.std.proofs.Common.{refl, sym, subst, arith}
 use Rattle.std.specs.Prelude.{Option, reverse}
 use Rattle.task_moves.specs.declared.moves.owed.Move.TheVariants as move
+use Rattle.executor_model.specs.declared.kind.Kind.{Kind}
 use Rattle.executor_model.specs.declared.call.Call.{Call}
 use Rattle.executor_model.specs.declared.call.Call.TheVariants as call
 use Rattle.executor_model.specs.declared.call.Reply.{Reply}
@@ -90,7 +91,8 @@ effects-way s p old rest d good l e (acted h o q z) =
 effects-way s p old rest d good l e (reacted o u a q z) = rw z (rw q (effect-react p o u s.world s.parties a))
 effects-way s p old rest d good l e (called c q r n z) =
     let f : _ = none_refused (is_free (top (stack s p))) (has_all s.world s.parties (top (stack s p)) c)
-    (not (s.world.gone && is_on_executor c)) (not (is_drop c) || is_unborrowed s.world s.parties) n in
+    (not (s.world.gone && is_on_executor c)) (not (is_drop c && s.world.is_static))
+    (not (is_drop c) || is_unborrowed s.world s.parties) n in
     rw z (rw q (effect-begun p s.world s.parties (mine (top (stack s p))) c f.2 (unused c s.world s.parties f.3)))
 
 -- what is seen of a future in the machine, and where p has these to do beside what all others have
@@ -132,10 +134,10 @@ ended P s p a held below l e k h =
     lifted (λ x. Unit {0}) P s p (op.End a held ∷ []) below l e (done (log s.world (event.CallEnded p a)) [])
     (λ g b q. k g _ _ q) (λ g. tt) h
 
-pub view-start : (P : Seen → Type 0) (limit n g : ℕ) → P (seen (start limit 0).world g none no_extra) →
-    P (view (start limit n) g)
-view-start P limit n g h = subst P
-    (sym (λ t. seen (start limit n).world g (pend-none g (idle n) (λ v. weigh_all-idle v n) t)
+pub view-start : (P : Seen → Type 0) (limit : ℕ) (kind : Kind) (n g : ℕ) → P (seen (start limit kind 0).world g none no_extra) →
+    P (view (start limit kind n) g)
+view-start P limit kind n g h = subst P
+    (sym (λ t. seen (start limit kind n).world g (pend-none g (idle n) (λ v. weigh_all-idle v n) t)
     (extra-none g (idle n) (λ v. weigh_all-idle v n) t))) h
 
 -- What holds of each future at the start, and what each of these effects and the end of a call keep, holds in each run.
@@ -147,7 +149,7 @@ module _ (P : Seen → Type 0)
     (end_kept : (w : World) (p : ℕ) (a : Reply) (held : Hold) (g : ℕ) (r : Pend) (y : Extra) →
     P (seen w g (with_ops g (op.End a held ∷ []) r) (with_extra g (op.End a held ∷ []) y)) →
     P (seen (log w (event.CallEnded p a)) g (with_ops g [] r) (with_extra g [] y)))
-    (first : (limit g : ℕ) → P (seen (start limit 0).world g none no_extra)) where
+    (first : (limit : ℕ) (kind : Kind) (g : ℕ) → P (seen (start limit kind 0).world g none no_extra)) where
   moves-kept : (s : Machine) (p : ℕ) (old rest : List Op) (d : Done) → Good s → p < length s.parties →
       stack s p ≡ rest ++ reverse old → Way s p old rest d → ((g : ℕ) → P (view s g)) → (g : ℕ) →
       P (view (unsettled s p rest d) g)
@@ -156,7 +158,7 @@ module _ (P : Seen → Type 0)
       (λ g b k. act s.world s.parties old d (effects-way s p old rest d good l e way) g _ _ b k)
       (λ g. sure-of s.world g (pend g s.parties) (extra g s.parties) (good.sound g)) h
 
-  pub each-run : (limit n : ℕ) (ts : List Step) (g : ℕ) → P (view (run ts (start limit n)) g)
-  each-run limit n ts = along (λ (s : Machine). (g : ℕ) → P (view s g)) moves-kept
-      (λ s p a held below l e h. ended P s p a held below l e (end_kept s.world p a held) h) ts (start limit n)
-      (good-start limit n) (λ g. view-start P limit n g (first limit g))
+  pub each-run : (limit : ℕ) (kind : Kind) (n : ℕ) (ts : List Step) (g : ℕ) → P (view (run ts (start limit kind n)) g)
+  each-run limit kind n ts = along (λ (s : Machine). (g : ℕ) → P (view s g)) moves-kept
+      (λ s p a held below l e h. ended P s p a held below l e (end_kept s.world p a held) h) ts (start limit kind n)
+      (good-start limit kind n) (λ g. view-start P limit kind n g (first limit kind g))

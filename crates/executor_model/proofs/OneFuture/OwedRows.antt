@@ -1,6 +1,6 @@
 -- For all laws of one future.
 -- What who makes a move of a task has in hand, and what the move leaves it with: one row in all counts of a future.
-use Rattle.std.proofs.Common.{◌≡◌, ℕ, ◌+◌, List, [], ◌∷◌, ◌++◌, Bool, true, false, refl, ap, ◌∙◌, arith}
+use Rattle.std.proofs.Common.{◌≡◌, ℕ, ◌+◌, List, [], ◌∷◌, ◌++◌, Bool, true, false, ◌&&◌, refl, ap, ◌∙◌, arith}
 use Rattle.std.specs.Prelude.{Option, Some, None}
 use Rattle.task_moves.specs.declared.schedule_info.ScheduleInfo.{ScheduleInfo}
 use Rattle.task_moves.specs.declared.moves.owed.Move.{Move}
@@ -12,7 +12,7 @@ use Rattle.task_moves.specs.declared.moves.owed.AwaiterDebt.TheVariants as debt
 use Rattle.task_moves.specs.declared.moves.owed.Owed.{Owed}
 use Rattle.executor_model.specs.declared.op.Op.{Op}
 use Rattle.executor_model.specs.declared.op.Op.TheVariants as op
-use Rattle.executor_model.specs.Carried.{schedule_ops, drop_ops, future_ops, output_ops, awaiter_ops, next_ops, owed_ops}
+use Rattle.executor_model.specs.Carried.{schedule_ops, drop_ops, drops, emptied_ops, future_ops, output_ops, awaiter_ops, next_ops, owed_ops}
 use Rattle.executor_model.specs.Weights.{same, weigh}
 use Rattle.executor_model.specs.Rows.{borrowing_of, waiting_of, polls_of, ending_of, ready_of, closing_of, settling_of}
 use Rattle.executor_model.specs.Rows.{giving_of, drops_of, releases_of, copies_of, ousting_of}
@@ -110,6 +110,10 @@ module _ (g f k : ℕ) (e : same g f ≡ k) where
   row-next (Some _) = refl
   row-next None = refl
 
+  row-emptied : (b : Bool) → weights g (emptied_ops b f) ≡ none
+  row-emptied true = refl
+  row-emptied false = refl
+
   -- the row of what any move owes
   pub row-owed : (b : Bool) (o : Owed) → weights g (owed_ops b f o) ≡ of_owed k b o
   row-owed b o =
@@ -125,7 +129,11 @@ module _ (g f k : ℕ) (e : same g f ≡ k) where
       let e3 : weights g (s ++ u ++ v ++ y) ≡
       plus (plus (plus (of_schedule k o.schedule) (of_future k b o.future)) none) none =
       weights-append g (s ++ u ++ v) y ∙ plus-both e2 (row-awaiter o.awaiter) in
-      weights-append g (s ++ u ++ v ++ y) n ∙ plus-both e3 (row-next o.next)
+      let e4 : weights g (s ++ u ++ v ++ y ++ n) ≡
+      plus (plus (plus (plus (of_schedule k o.schedule) (of_future k b o.future)) none) none) (of_next k o.next) =
+      weights-append g (s ++ u ++ v ++ y) n ∙ plus-both e3 (row-next o.next) in
+      weights-append g (s ++ u ++ v ++ y ++ n) (emptied_ops (o.empty_cell && drops o.future) f)
+      ∙ plus-both e4 (row-emptied (o.empty_cell && drops o.future))
 
   pub extras-hand : (m : Move) → extras g (op.Move m f ∷ []) ≡ extra_hand k m
   extras-hand move.Detach = ap (λ (n : ℕ). record no_extra { detaches = n }) one
@@ -160,6 +168,10 @@ module _ (g f k : ℕ) (e : same g f ≡ k) where
   extras-next (Some _) = refl
   extras-next None = refl
 
+  extras-emptied : (b : Bool) → extras g (emptied_ops b f) ≡ no_extra
+  extras-emptied true = refl
+  extras-emptied false = refl
+
   pub extras-owed : (b : Bool) (o : Owed) → extras g (owed_ops b f o) ≡ extra_owed k o
   extras-owed b o =
       let s = schedule_ops f o.schedule in
@@ -173,4 +185,9 @@ module _ (g f k : ℕ) (e : same g f ≡ k) where
       let e3 : extras g (s ++ u ++ v ++ y) ≡
       plus_extra (plus_extra (plus_extra (of_append k o.schedule) no_extra) (of_output k o.drop_output)) (of_awaiter k o.awaiter) =
       extras-append g (s ++ u ++ v) y ∙ extras-both e2 (extras-awaiter o.awaiter) in
-      extras-append g (s ++ u ++ v ++ y) (next_ops f o.next) ∙ extras-both e3 (extras-next o.next)
+      let e4 : extras g (s ++ u ++ v ++ y ++ next_ops f o.next) ≡
+      plus_extra (plus_extra (plus_extra (plus_extra (of_append k o.schedule) no_extra) (of_output k o.drop_output))
+      (of_awaiter k o.awaiter)) (extra_next k o.next) =
+      extras-append g (s ++ u ++ v ++ y) (next_ops f o.next) ∙ extras-both e3 (extras-next o.next) in
+      extras-append g (s ++ u ++ v ++ y ++ next_ops f o.next) (emptied_ops (o.empty_cell && drops o.future) f)
+      ∙ extras-both e4 (extras-emptied (o.empty_cell && drops o.future))

@@ -27,6 +27,8 @@ pub record Passes (x y : Seen) : Type 0 where
   pub leaving : y.leaving ≡ x.leaving
   pub queued : y.queued + y.pend.waiting ≡ x.queued + x.pend.waiting
   pub table : y.table ≡ x.table
+  pub tabled : y.tabled ≡ x.tabled
+  pub is_static : y.is_static ≡ x.is_static
   pub polls : y.pend.polls ≡ x.pend.polls
   pub ending : y.pend.ending ≡ x.pend.ending
   pub ready : y.pend.ready ≡ x.pend.ready

@@ -2,12 +2,12 @@
 -- What a trace tells of a future, read from left to right: how often it was accepted and dropped, whether there was a
 -- cause for a drop, and which accepted futures were not dropped before the drop of the executor began.
 use Rattle.std.proofs.Common.{◌≡◌, ◌≢◌, ◌⊎◌, ℕ, suc, ◌+◌, ◌==◌, ◌≤◌, List, [], ◌∷◌, ◌++◌, length}
-use Rattle.std.proofs.Common.{Bool, true, false, cond, eqb, refl, ap, inl, inr, ⊎_elim, arith}
+use Rattle.std.proofs.Common.{Bool, true, false, ◌||◌, not, cond, eqb, refl, ap, inl, inr, ⊎_elim, arith}
 use Rattle.std.proofs.lemmas.Bool.Decides.{nat_tests}
 use Rattle.executor_model.specs.declared.event.Answer.TheVariants.{Ready}
 use Rattle.executor_model.specs.declared.event.Event.{Event}
 use Rattle.executor_model.specs.declared.event.Event.TheVariants.{Accepted, Answered, Cancelled}
-use Rattle.executor_model.specs.declared.event.Event.TheVariants.{Dropped, DropBegun, DropEnded}
+use Rattle.executor_model.specs.declared.event.Event.TheVariants.{Detached, LastWaker, Dropped, DropBegun, DropEnded}
 use Rattle.executor_model.specs.Trace.{Trace}
 use Rattle.executor_model.specs.World.{without, among}
 use Rattle.executor_model.specs.Weights.{same}
@@ -28,6 +28,9 @@ pub record Story : Type 0 where
   -- drops before which there was no cause
   pub strays : ℕ
   pub caused : Bool
+  -- it was detached, and nobody was left who could wake it before the drop of the executor began
+  pub detached : Bool
+  pub last : Bool
   -- the drop of the executor has begun, or ended
   pub begun : Bool
   pub ended : Bool
@@ -41,6 +44,8 @@ untold = record {
   early = 0;
   strays = 0;
   caused = false;
+  detached = false;
+  last = false;
   begun = false;
   ended = false;
   standing = [];
@@ -57,6 +62,9 @@ hears g (Dropped p f) s =
     }
 hears g (Answered p f Ready) s = record s { caused = cond (g == f) true s.caused }
 hears g (Cancelled p f) s = record s { caused = cond (g == f) true s.caused }
+hears g (Detached p f) s = record s { detached = cond (g == f) true s.detached }
+hears g (LastWaker p f) s =
+    record s { caused = cond (g == f) (s.caused || s.detached) s.caused; last = cond (g == f) (s.last || not s.begun) s.last }
 hears g (DropBegun p) s = record s { caused = true; begun = true }
 hears g (DropEnded p) s = record s { ended = true }
 hears g _ s = s

@@ -1,16 +1,18 @@
 -- For all laws of one future.
 -- What a story says of a future is what the definitions over its trace say.
-use Rattle.std.proofs.Common.{◌≡◌, ◌⊎◌, ℕ, suc, ◌+◌, ◌≤◌, List, [], ◌∷◌, ◌++◌, Bool, true, false, ◌||◌, not, cond, eqb}
+use Rattle.std.proofs.Common.{◌≡◌, ◌⊎◌, ℕ, zero, suc, ◌+◌, ◌≤◌, List, [], ◌∷◌, ◌++◌, length, Bool, true, false, ◌||◌, not, cond, eqb}
 use Rattle.std.proofs.Common.{take, refl, sym, ap, ◌∙◌, subst, inl, inr, ⊎_elim, arith}
 use Rattle.std.specs.Prelude.{fold, count_by}
 use Rattle.std.specs.List.{before_first, position_or_len}
+use Rattle.executor_model.specs.declared.kind.Kind.{Kind}
+use Rattle.executor_model.specs.declared.kind.Kind.TheVariants.{Static}
 use Rattle.executor_model.specs.declared.event.Answer.TheVariants.{Pending, Ready}
 use Rattle.executor_model.specs.declared.event.Event.{Event}
 use Rattle.executor_model.specs.declared.event.Event.TheVariants.{Accepted, Answered, Cancelled}
-use Rattle.executor_model.specs.declared.event.Event.TheVariants.{Dropped, DropBegun, DropEnded}
+use Rattle.executor_model.specs.declared.event.Event.TheVariants.{Detached, LastWaker, Dropped, DropBegun, DropEnded}
 use Rattle.executor_model.specs.Trace.{Trace, has, is_accepted, is_dropped, is_ready}
-use Rattle.executor_model.specs.Trace.{is_cancelled, is_drop_begun, is_drop_ended}
-use Rattle.executor_model.specs.EarlyDrop.{before_drop, EarlyDropHasCause}
+use Rattle.executor_model.specs.Trace.{is_cancelled, is_detached, is_drop_begun, is_drop_ended, is_last_waker}
+use Rattle.executor_model.specs.EarlyDrop.{before_drop, EarlyDropHasCause, IsForgotten, LastWakerIsLast}
 use Rattle.executor_model.specs.Weights.{same}
 use Rattle.executor_model.proofs.OneFuture.Stories.{Story, untold, except, hears, story_from, story}
 
@@ -88,6 +90,16 @@ or-true false = refl
 or-false : (b : Bool) → b ≡ (b || false)
 or-false true = refl
 or-false false = refl
+
+-- as it was or for this event, or later
+or-with : (a b c : Bool) → (cond a true b || c) ≡ (b || (a || c))
+or-with true true c = refl
+or-with true false c = refl
+or-with false b c = refl
+
+cond-or : (a b : Bool) → cond a true b ≡ (a || b)
+cond-or true b = refl
+cond-or false b = refl
 
 ended-from : (g : ℕ) (s : Story) (es : Trace) → (story_from g s es).ended ≡ (s.ended || has is_drop_ended es)
 ended-from g s [] = or-false s.ended
@@ -200,11 +212,81 @@ strays-more : (g : ℕ) (s : Story) (es : Trace) → s.strays ≤ (story_from g 
 strays-more g s [] = omega arith
 strays-more g s (e ∷ es) = omega (arith, strays-one g e s, strays-more g (hears g e s) es)
 
-abbrev pub HasCause : ℕ → Trace → Type 0
-HasCause f es = (has (is_ready f) es ≡ true) ⊎ ((has (is_cancelled f) es ≡ true) ⊎ (has is_drop_begun es ≡ true))
+-- whether it was detached, and nobody was left who could wake it
 
-abbrev pub IsCause : ℕ → Event → Type 0
-IsCause f e = (is_ready f e ≡ true) ⊎ ((is_cancelled f e ≡ true) ⊎ (is_drop_begun e ≡ true))
+detached-from : (g : ℕ) (s : Story) (es : Trace) → (story_from g s es).detached ≡ (s.detached || has (is_detached g) es)
+detached-from g s [] = or-false s.detached
+detached-from g s (Detached p f ∷ es) = detached-from g (hears g (Detached p f) s) es ∙ or-with (eqb g f) s.detached _
+detached-from g s (Answered p f Ready ∷ es) = detached-from g (hears g (Answered p f Ready) s) es
+detached-from g s (Answered p f Pending ∷ es) = detached-from g s es
+detached-from g s (e ∷ es) = detached-from g (hears g e s) es
+
+kept-last : (b l c : Bool) → l ≡ true → cond b (l || c) l ≡ true
+kept-last true true c h = refl
+kept-last true false c h = absurd (cc)
+kept-last false l c h = h
+
+one-last : (f : ℕ) (e : Event) (s : Story) → s.last ≡ true → (hears f e s).last ≡ true
+one-last f (LastWaker p g) s h = kept-last (eqb f g) s.last (not s.begun) h
+one-last f (Answered p g Ready) s h = h
+one-last f (Answered p g Pending) s h = h
+one-last f _ s h = h
+
+stays-last : (f : ℕ) (s : Story) (es : Trace) → s.last ≡ true → (story_from f s es).last ≡ true
+stays-last f s [] h = h
+stays-last f s (e ∷ es) h = stays-last f (hears f e s) es (one-last f e s h)
+
+begun-hears : (f : ℕ) (e : Event) (s : Story) → (hears f e s).begun ≡ (is_drop_begun e || s.begun)
+begun-hears f (DropBegun p) s = refl
+begun-hears f (Answered p g Ready) s = refl
+begun-hears f (Answered p g Pending) s = refl
+begun-hears f _ s = refl
+
+swap-or : (a b c : Bool) → ((a || b) || c) ≡ true → (b || (a || c)) ≡ true
+swap-or true true c h = refl
+swap-or true false c h = refl
+swap-or false b c h = h
+
+new-last : (b l c : Bool) → b ≡ true → (c ≡ true) ⊎ (cond b (l || not c) l ≡ true)
+new-last true l true h = inl refl
+new-last true true false h = inr refl
+new-last true false false h = inr refl
+new-last false l c h = absurd (cc)
+
+first-last : (f : ℕ) (e : Event) (s : Story) → is_last_waker f e ≡ true → (s.begun ≡ true) ⊎ ((hears f e s).last ≡ true)
+first-last f (LastWaker p g) s h = new-last (eqb f g) s.last s.begun h
+first-last f _ s h = absurd (cc)
+
+last-one : (f n : ℕ) (s : Story) (e : Event) (es : Trace) (b : Bool) → is_last_waker f e ≡ b →
+    (has (is_last_waker f) (take n es) ≡ true → (((hears f e s).begun || has is_drop_begun (take n es)) ≡ true)
+    ⊎ ((story_from f (hears f e s) es).last ≡ true)) → (b || has (is_last_waker f) (take n es)) ≡ true →
+    ((s.begun || (is_drop_begun e || has is_drop_begun (take n es))) ≡ true)
+    ⊎ ((story_from f (hears f e s) es).last ≡ true)
+last-one f n s e es true q ih h = ⊎_elim
+    (λ (x : s.begun ≡ true). inl (rw x refl))
+    (λ (x : (hears f e s).last ≡ true). inr (stays-last f (hears f e s) es x)) (first-last f e s q)
+last-one f n s e es false q ih h = ⊎_elim
+    (λ (x : ((hears f e s).begun || has is_drop_begun (take n es)) ≡ true).
+    inl (swap-or (is_drop_begun e) s.begun (has is_drop_begun (take n es))
+    (ap (λ (c : Bool). c || has is_drop_begun (take n es)) (sym (begun-hears f e s)) ∙ x)))
+    (λ (x : (story_from f (hears f e s) es).last ≡ true). inr x) (ih h)
+
+-- nobody was left who could wake it, after the drop of the executor began or before
+last-or-begun : (f n : ℕ) (s : Story) (es : Trace) → has (is_last_waker f) (take n es) ≡ true →
+    ((s.begun || has is_drop_begun (take n es)) ≡ true) ⊎ ((story_from f s es).last ≡ true)
+last-or-begun f zero s es h = absurd (cc)
+last-or-begun f (suc n) s [] h = absurd (cc)
+last-or-begun f (suc n) s (e ∷ es) h = last-one f n s e es (is_last_waker f e) refl (last-or-begun f n (hears f e s) es) h
+
+-- it was ready, or cancelled, or the drop of the executor has begun, or it was detached, by then or in this, and nobody
+-- was left who could wake it
+abbrev pub HasCause : ℕ → Bool → Trace → Type 0
+HasCause f d es = (has (is_ready f) es ≡ true) ⊎ ((has (is_cancelled f) es ≡ true) ⊎ ((has is_drop_begun es ≡ true)
+    ⊎ (((d || has (is_detached f) es) ≡ true) × (has (is_last_waker f) es ≡ true))))
+
+abbrev pub IsCause : ℕ → Bool → Event → Type 0
+IsCause f d e = (is_ready f e ≡ true) ⊎ ((is_cancelled f e ≡ true) ⊎ ((is_drop_begun e ≡ true)
+    ⊎ ((d ≡ true) × (is_last_waker f e ≡ true))))
 
 or-left : (a b : Bool) → a ≡ true → (a || b) ≡ true
 or-left true b e = refl
@@ -214,27 +296,55 @@ or-right : (a b : Bool) → b ≡ true → (a || b) ≡ true
 or-right true b e = refl
 or-right false b e = e
 
-now-cause : (f : ℕ) (e : Event) (es : Trace) → IsCause f e → HasCause f (e ∷ es)
-now-cause f e es (inl x) = inl (or-left _ _ x)
-now-cause f e es (inr (inl x)) = inr (inl (or-left _ _ x))
-now-cause f e es (inr (inr x)) = inr (inr (or-left _ _ x))
+now-cause : (f : ℕ) (d : Bool) (e : Event) (es : Trace) → IsCause f d e → HasCause f d (e ∷ es)
+now-cause f d e es (inl x) = inl (or-left _ _ x)
+now-cause f d e es (inr (inl x)) = inr (inl (or-left _ _ x))
+now-cause f d e es (inr (inr (inl x))) = inr (inr (inl (or-left _ _ x)))
+now-cause f d e es (inr (inr (inr x))) = inr (inr (inr (or-left _ _ x.0, or-left _ _ x.1)))
 
-later-cause : (f : ℕ) (e : Event) (es : Trace) → HasCause f es → HasCause f (e ∷ es)
-later-cause f e es (inl x) = inl (or-right _ _ x)
-later-cause f e es (inr (inl x)) = inr (inl (or-right _ _ x))
-later-cause f e es (inr (inr x)) = inr (inr (or-right _ _ x))
+-- a detach that is heard is one that is there
+hears-detached : (f : ℕ) (e : Event) (s : Story) → (hears f e s).detached ≡ (is_detached f e || s.detached)
+hears-detached f (Detached p g) s = cond-or (eqb f g) s.detached
+hears-detached f (Answered p g Ready) s = refl
+hears-detached f (Answered p g Pending) s = refl
+hears-detached f _ s = refl
+
+or-swap : (a b c : Bool) → ((a || b) || c) ≡ (b || (a || c))
+or-swap true true c = refl
+or-swap true false c = refl
+or-swap false b c = refl
+
+later-cause : (f : ℕ) (e : Event) (s : Story) (es : Trace) → HasCause f (hears f e s).detached es →
+    HasCause f s.detached (e ∷ es)
+later-cause f e s es (inl x) = inl (or-right _ _ x)
+later-cause f e s es (inr (inl x)) = inr (inl (or-right _ _ x))
+later-cause f e s es (inr (inr (inl x))) = inr (inr (inl (or-right _ _ x)))
+later-cause f e s es (inr (inr (inr x))) = inr (inr (inr (
+  sym (or-swap (is_detached f e) s.detached (has (is_detached f) es))
+      ∙ (ap (λ (b : Bool). b || has (is_detached f) es) (sym (hears-detached f e s)) ∙ x.0),
+  or-right _ _ x.1,
+)))
 
 cond-cause : (b c : Bool) → cond b true c ≡ true → (c ≡ true) ⊎ (b ≡ true)
 cond-cause true c e = inr refl
 cond-cause false c e = inl e
 
-cause-one : (f : ℕ) (e : Event) (s : Story) → (hears f e s).caused ≡ true → (s.caused ≡ true) ⊎ IsCause f e
+cond-last : (b c d : Bool) → cond b (c || d) c ≡ true → (c ≡ true) ⊎ ((d ≡ true) × (b ≡ true))
+cond-last true true d e = inl refl
+cond-last true false d e = inr (e, refl)
+cond-last false c d e = inl e
+
+cause-one : (f : ℕ) (e : Event) (s : Story) → (hears f e s).caused ≡ true →
+    (s.caused ≡ true) ⊎ IsCause f s.detached e
 cause-one f (Answered p g Ready) s h =
     ⊎_elim (λ x. inl x) (λ (x : eqb f g ≡ true). inr (inl x)) (cond-cause (eqb f g) s.caused h)
 cause-one f (Answered p g Pending) s h = inl h
 cause-one f (Cancelled p g) s h =
     ⊎_elim (λ x. inl x) (λ (x : eqb f g ≡ true). inr (inr (inl x))) (cond-cause (eqb f g) s.caused h)
-cause-one f (DropBegun p) s h = inr (inr (inr refl))
+cause-one f (LastWaker p g) s h =
+    ⊎_elim (λ x. inl x) (λ (x : (s.detached ≡ true) × (eqb f g ≡ true)). inr (inr (inr (inr x))))
+    (cond-last (eqb f g) s.caused s.detached h)
+cause-one f (DropBegun p) s h = inr (inr (inr (inl refl)))
 cause-one f _ s h = inl h
 
 -- what comes before the first
@@ -244,7 +354,7 @@ before-cons q e es h = ap (λ (c : Bool). take (cond (not c) (1 + position_or_le
     ∙ ap (λ (n : ℕ). take n (e ∷ es)) (let z : 1 + position_or_len q es ≡ suc (position_or_len q es) = omega arith in z)
 
 abbrev pub Excused : ℕ → Story → Trace → Type 0
-Excused f s es = (s.caused ≡ true) ⊎ HasCause f (before_drop f es)
+Excused f s es = (s.caused ≡ true) ⊎ HasCause f s.detached (before_drop f es)
 
 excused-first : (f : ℕ) (e : Event) (s : Story) (c : Bool) → s.caused ≡ c → is_dropped f e ≡ true →
     (hears f e s).strays ≡ 0 → s.caused ≡ true
@@ -261,8 +371,8 @@ excused-later : (f : ℕ) (e : Event) (s : Story) (es : Trace) → is_dropped f 
 excused-later f e s es d x =
     rw (before-cons (is_dropped f) e es d)
     (⊎_elim (λ (c : (hears f e s).caused ≡ true). ⊎_elim (λ k. inl k)
-    (λ (k : IsCause f e). inr (now-cause f e (before_drop f es) k)) (cause-one f e s c))
-    (λ (c : HasCause f (before_drop f es)). inr (later-cause f e (before_drop f es) c)) x)
+    (λ (k : IsCause f s.detached e). inr (now-cause f s.detached e (before_drop f es) k)) (cause-one f e s c))
+    (λ (c : HasCause f (hears f e s).detached (before_drop f es)). inr (later-cause f e s (before_drop f es) c)) x)
 
 excused-go : (f : ℕ) (e : Event) (s : Story) (es : Trace) (b : Bool) → is_dropped f e ≡ b →
     (story_from f (hears f e s) es).strays ≡ 0 → (has (is_dropped f) es ≡ true → Excused f (hears f e s) es) →
@@ -276,15 +386,41 @@ excused : (f : ℕ) (s : Story) (es : Trace) → (story_from f s es).strays ≡ 
 excused f s [] z h = absurd (cc)
 excused f s (e ∷ es) z h = excused-go f e s es (is_dropped f e) refl z (excused f (hears f e s) es z) h
 
-pub drop-has-cause : (f : ℕ) (es : Trace) → (story f es).strays ≡ 0 → EarlyDropHasCause f es
+pub drop-has-cause : (kind : Kind) (f : ℕ) (es : Trace) → (story f es).strays ≡ 0 →
+    ((story f es).last ≡ true → kind ≡ Static) → EarlyDropHasCause kind f es
 unfolding story
-drop-has-cause f es z early = go (excused f untold es z early.dropped)
+drop-has-cause kind f es z k early = go (excused f untold es z early.dropped)
   where
-    go : Excused f untold es →
-        (has (is_cancelled f) (before_drop f es) ≡ true) ⊎ (has is_drop_begun (before_drop f es) ≡ true)
+    forgets : has (is_detached f) (before_drop f es) ≡ true → has (is_last_waker f) (before_drop f es) ≡ true →
+        (has is_drop_begun (before_drop f es) ≡ true) ⊎ IsForgotten kind f (before_drop f es)
+    forgets d l = ⊎_elim
+        (λ (x : has is_drop_begun (before_drop f es) ≡ true). inl x)
+        (λ (x : (story_from f untold es).last ≡ true).
+        inr (record { static = k x; detached = d; unwakeable = l })) (last-or-begun f _ untold es l)
+
+    go : Excused f untold es → (has (is_cancelled f) (before_drop f es) ≡ true)
+        ⊎ ((has is_drop_begun (before_drop f es) ≡ true) ⊎ IsForgotten kind f (before_drop f es))
     go (inl x) = absurd (cc)
     go (inr (inl x)) = let no : true ≡ false = sym x ∙ early.early in absurd (cc)
-    go (inr (inr x)) = x
+    go (inr (inr (inl x))) = inl x
+    go (inr (inr (inr (inl x)))) = inr (inl x)
+    go (inr (inr (inr (inr x)))) = inr (forgets x.0 x.1)
+
+take-all : (es : Trace) → take (length es) es ≡ es
+take-all [] = refl
+take-all (e ∷ es) = ap (λ (xs : Trace). e ∷ xs) (take-all es)
+
+-- and so it is of the whole trace
+pub last-forgotten : (kind : Kind) (f : ℕ) (es : Trace) → ((story f es).last ≡ true → (kind ≡ Static) × ((story f es).detached ≡ true)) →
+    LastWakerIsLast kind f es
+unfolding story
+last-forgotten kind f es k l = ⊎_elim
+    (λ (x : has is_drop_begun (take (length es) es) ≡ true).
+    inl (subst (λ (xs : Trace). has is_drop_begun xs ≡ true) (take-all es) x))
+    (λ (x : (story_from f untold es).last ≡ true).
+    inr (record { static = (k x).0; detached = sym (detached-from f untold es) ∙ (k x).1; unwakeable = l }))
+    (last-or-begun f (length es) untold es
+    (subst (λ (xs : Trace). has (is_last_waker f) xs ≡ true) (sym (take-all es)) l))
 
 -- the drop of the executor had begun before that of the future
 

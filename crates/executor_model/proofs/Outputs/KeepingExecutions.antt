@@ -2,6 +2,7 @@
 -- In each execution, what holds of an output that is there and of the awaiter of a future that is completed holds at every
 -- moment.
 use Rattle.std.proofs.Common.{ℕ, List, [], ◌∷◌, arith}
+use Rattle.executor_model.specs.declared.kind.Kind.{Kind}
 use Rattle.executor_model.specs.declared.call.Reply.{Reply}
 use Rattle.executor_model.specs.declared.event.Event.TheVariants as event
 use Rattle.executor_model.specs.declared.op.Hold.{Hold}
@@ -25,8 +26,8 @@ stored-end : (w : World) (p : ℕ) (a : Reply) (held : Hold) (g : ℕ) (r : Pend
     Stored (seen (log w (event.CallEnded p a)) g (with_ops g [] r) (with_extra g [] y))
 stored-end w p a held g r y h = grind (arith, readies-push, spent-push)
 
-none-stored : (limit g : ℕ) → Stored (seen (start limit 0).world g none no_extra)
-none-stored limit g = grind (arith, readies-none, spent-none)
+none-stored : (limit : ℕ) (kind : Kind) (g : ℕ) → Stored (seen (start limit kind 0).world g none no_extra)
+none-stored limit kind g = grind (arith, readies-none, spent-none)
 
-pub stores : (limit n : ℕ) (ts : List Step) → Stores (run ts (start limit n))
-stores limit n ts = each-run Stored stored-act stored-end none-stored limit n ts
+pub stores : (limit : ℕ) (kind : Kind) (n : ℕ) (ts : List Step) → Stores (run ts (start limit kind n))
+stores limit kind n ts = each-run Stored stored-act stored-end none-stored limit kind n ts

@@ -1,6 +1,7 @@
 -- For outputs_go_once.
 -- In each execution an output goes at most once.
 use Rattle.std.proofs.Common.{ℕ, List, [], ◌∷◌, arith}
+use Rattle.executor_model.specs.declared.kind.Kind.{Kind}
 use Rattle.executor_model.specs.declared.call.Reply.{Reply}
 use Rattle.executor_model.specs.declared.event.Event.TheVariants as event
 use Rattle.executor_model.specs.declared.op.Hold.{Hold}
@@ -21,13 +22,13 @@ given-end : (w : World) (p : ℕ) (a : Reply) (held : Hold) (g : ℕ) (r : Pend)
     Given (seen (log w (event.CallEnded p a)) g (with_ops g [] r) (with_extra g [] y))
 given-end w p a held g r y h = grind (arith, outputs-push)
 
-none-given : (limit g : ℕ) → Given (seen (start limit 0).world g none no_extra)
-none-given limit g = grind (arith, outputs-none)
+none-given : (limit : ℕ) (kind : Kind) (g : ℕ) → Given (seen (start limit kind 0).world g none no_extra)
+none-given limit kind g = grind (arith, outputs-none)
 
 goes-once : (g : ℕ) (w : World) (r : Pend) (y : Extra) → Given (seen w g r y) → OutputGoesOnce g w.trace
 unfolding outputs
 goes-once g w r y h = omega (arith, h.once)
 
-pub output-goes-once : (limit n : ℕ) (ts : List Step) (f : ℕ) → OutputGoesOnce f (run ts (start limit n)).world.trace
-output-goes-once limit n ts f =
-    goes-once f (run ts (start limit n)).world _ _ (each-run Given out-act given-end none-given limit n ts f)
+pub output-goes-once : (limit : ℕ) (kind : Kind) (n : ℕ) (ts : List Step) (f : ℕ) → OutputGoesOnce f (run ts (start limit kind n)).world.trace
+output-goes-once limit kind n ts f =
+    goes-once f (run ts (start limit kind n)).world _ _ (each-run Given out-act given-end none-given limit kind n ts f)

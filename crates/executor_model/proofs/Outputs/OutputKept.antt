@@ -10,6 +10,7 @@ use Rattle.task_moves.specs.declared.moves.state.State.{State}
 use Rattle.task_moves.specs.declared.moves.owed.Answer.TheVariants as said
 use Rattle.task_moves.specs.declared.moves.owed.Moved.{Moved}
 use Rattle.task_moves.specs.Moves as moves
+use Rattle.executor_model.specs.declared.kind.Kind.{Kind}
 use Rattle.executor_model.specs.declared.call.By.TheVariants as by
 use Rattle.executor_model.specs.declared.call.Call.TheVariants as call
 use Rattle.executor_model.specs.declared.call.Reply.TheVariants as reply
@@ -182,6 +183,6 @@ output-kept s f d h quiet k p x t l =
     gives-output s p f x l (rests s d quiet p) (output-waits s f h (λ q. rests s d quiet q) k)
     (all-rest (handling_of f) s.parties (λ q. rests s d quiet q)) t
 
-pub outputs-kept : (limit parties : ℕ) (steps : List Step) (f : ℕ) → OutputIsKept (run steps (start limit parties)) f
-outputs-kept limit parties steps f = output-kept (run steps (start limit parties)) f (deep limit parties steps)
-    (stores limit parties steps)
+pub outputs-kept : (limit : ℕ) (kind : Kind) (parties : ℕ) (steps : List Step) (f : ℕ) → OutputIsKept (run steps (start limit kind parties)) f
+outputs-kept limit kind parties steps f = output-kept (run steps (start limit kind parties)) f (deep limit kind parties steps)
+    (stores limit kind parties steps)

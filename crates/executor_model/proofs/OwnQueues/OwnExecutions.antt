@@ -3,6 +3,7 @@
 -- found so.
 use Rattle.std.proofs.Common.{◌≡◌, ℕ, ◌<◌, List, [], ◌∷◌, ◌++◌, length, arith}
 use Rattle.std.specs.Prelude.{reverse}
+use Rattle.executor_model.specs.declared.kind.Kind.{Kind}
 use Rattle.executor_model.specs.declared.call.Reply.{Reply}
 use Rattle.executor_model.specs.declared.event.Event.TheVariants as event
 use Rattle.executor_model.specs.declared.op.Hold.{Hold}
@@ -41,15 +42,15 @@ owning-ends s p a held below l e k = record {
   empty = empty-ends s p a held below l e k.empty;
 }
 
-owning : (limit n : ℕ) (ts : List Step) → Owning (run ts (start limit n))
-owning limit n ts = along Owning owning-moves owning-ends ts (start limit n) (good-start limit n) (record {
-  used = used-start limit n;
+owning : (limit : ℕ) (kind : Kind) (n : ℕ) (ts : List Step) → Owning (run ts (start limit kind n))
+owning limit kind n ts = along Owning owning-moves owning-ends ts (start limit kind n) (good-start limit kind n) (record {
+  used = used-start limit kind n;
   roomy = λ r. omega (arith, weigh_all-idle (filling_of r) n);
   empty = λ r z. absurd (omega (arith, z, weigh_all-idle (empty_of r) n));
 })
 
-pub has-own-room : (limit n : ℕ) (ts : List Step) (r : ℕ) → HasOwnRoom (run ts (start limit n)) r
-has-own-room limit n ts r = (owning limit n ts).roomy r
+pub has-own-room : (limit : ℕ) (kind : Kind) (n : ℕ) (ts : List Step) (r : ℕ) → HasOwnRoom (run ts (start limit kind n)) r
+has-own-room limit kind n ts r = (owning limit kind n ts).roomy r
 
-pub is-empty-meanwhile : (limit n : ℕ) (ts : List Step) (r : ℕ) → IsEmptyMeanwhile (run ts (start limit n)) r
-is-empty-meanwhile limit n ts r = (owning limit n ts).empty r
+pub is-empty-meanwhile : (limit : ℕ) (kind : Kind) (n : ℕ) (ts : List Step) (r : ℕ) → IsEmptyMeanwhile (run ts (start limit kind n)) r
+is-empty-meanwhile limit kind n ts r = (owning limit kind n ts).empty r

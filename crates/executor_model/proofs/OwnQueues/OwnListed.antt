@@ -4,6 +4,7 @@ use Rattle.std.proofs.Common.{◌≡◌, ◌≢◌, ◌∙◌, ℕ, zero, suc, �
 use Rattle.std.proofs.Common.{set, Bool, true, false, eqb, refl, sym, ap, subst, ⊎_elim, arith, get_or-set_same}
 use Rattle.std.proofs.Common.{get_or-set_other}
 use Rattle.std.proofs.lemmas.Bool.Decides.{nat_tests}
+use Rattle.executor_model.specs.declared.kind.Kind.{Kind}
 use Rattle.executor_model.specs.declared.event.Event.TheVariants as event
 use Rattle.executor_model.specs.declared.op.ListOp.{ListOp}
 use Rattle.executor_model.specs.declared.op.ListOp.TheVariants as list_op
@@ -158,10 +159,10 @@ listed-way s p old rest d (called c q r n z) =
     rw z (still s.world (begun p (log s.world (event.CallBegun p c)) (mine (top (stack s p))) c).world
     (counts-begun 0 p s.world (mine (top (stack s p))) c).hull)
 
-pub lists-agree : (limit n : ℕ) (ts : List Step) (r : ℕ) → ListAgrees (run ts (start limit n)) r
-lists-agree limit n ts r =
-    let s = run ts (start limit n) in
+pub lists-agree : (limit : ℕ) (kind : Kind) (n : ℕ) (ts : List Step) (r : ℕ) → ListAgrees (run ts (start limit kind n)) r
+lists-agree limit kind n ts r =
+    let s = run ts (start limit kind n) in
     let k : IsWell s.world r = along ListsAgree
     (λ s p old rest d good l e way k q. listed-way s p old rest d way q (k q))
-    (λ s p a held below l e k q. k q) ts (start limit n) (good-start limit n) (λ q. refl) r in
+    (λ s p a held below l e k q. k q) ts (start limit kind n) (good-start limit kind n) (λ q. refl) r in
     omega (arith, k, ap is_listed (stages-at s.world.runs r))

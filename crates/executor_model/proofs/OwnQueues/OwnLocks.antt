@@ -4,6 +4,7 @@ use Rattle.std.proofs.Common.{◌≡◌, ◌∙◌, ℕ, ◌+◌, ◌<◌, ◌%�
 use Rattle.std.proofs.Common.{Bool, true, false, ◌||◌, not, eqb, cond, refl, sym, ap, subst, arith}
 use Rattle.std.proofs.lemmas.Bool.Decides.{nat_tests}
 use Rattle.std.specs.Prelude.{reverse}
+use Rattle.executor_model.specs.declared.kind.Kind.{Kind}
 use Rattle.executor_model.specs.declared.call.Reply.{Reply}
 use Rattle.executor_model.specs.declared.event.Event.TheVariants as event
 use Rattle.executor_model.specs.declared.op.Hold.{Hold}
@@ -243,13 +244,13 @@ locked-ends s p a held below l e h =
     moved s p (op.End a held ∷ []) below _ l e
     (stays-lock s.world _ (done (log s.world (event.CallEnded p a)) []) refl refl refl) h
 
-locked : (limit n : ℕ) (ts : List Step) → Locked (run ts (start limit n))
-locked limit n ts = along-free Locked locked-moves locked-ends ts (start limit n) (good-start limit n) (record {
+locked : (limit : ℕ) (kind : Kind) (n : ℕ) (ts : List Step) → Locked (run ts (start limit kind n))
+locked limit kind n ts = along-free Locked locked-moves locked-ends ts (start limit kind n) (good-start limit kind n) (record {
   writing = weigh_all-idle writes_of n;
   reading = weigh_all-idle reads_of n;
   apart = λ e. refl;
 })
 
-pub lock-agrees : (limit n : ℕ) (ts : List Step) → LockAgrees (run ts (start limit n))
-lock-agrees limit n ts = let k = locked limit n ts in
+pub lock-agrees : (limit : ℕ) (kind : Kind) (n : ℕ) (ts : List Step) → LockAgrees (run ts (start limit kind n))
+lock-agrees limit kind n ts = let k = locked limit kind n ts in
     record { writing = k.writing; reading = k.reading; apart = k.apart }

@@ -6,6 +6,7 @@ use Rattle.std.proofs.Common.{Bool, true, false, ◌&&◌, ◌||◌, not, eqb, c
 use Rattle.std.proofs.Common.{arith}
 use Rattle.std.proofs.lemmas.Bool.Decides.{nat_tests}
 use Rattle.std.specs.Prelude.{Option, Some, None, reverse}
+use Rattle.executor_model.specs.declared.kind.Kind.{Kind}
 use Rattle.executor_model.specs.declared.call.By.{By}
 use Rattle.executor_model.specs.declared.call.Call.{Call}
 use Rattle.executor_model.specs.declared.call.Call.TheVariants as call
@@ -370,7 +371,8 @@ runner-moves s p old rest d good l e (reacted o u a q z) k r =
 runner-moves s p old rest d good l e (called c q t n z) k r =
     let e2 : stack s p ≡ rest ++ reverse [] = subst (λ (os : List Op). stack s p ≡ rest ++ reverse os) q e in
     let f : _ = none_refused (is_free (top (stack s p))) (has_all s.world s.parties (top (stack s p)) c)
-    (not (s.world.gone && is_on_executor c)) (not (is_drop c) || is_unborrowed s.world s.parties) n in
+    (not (s.world.gone && is_on_executor c)) (not (is_drop c && s.world.is_static))
+    (not (is_drop c) || is_unborrowed s.world s.parties) n in
     let own : set s.parties p rest ≡ s.parties = ap (set s.parties p) t ∙ set-own s.parties p l in
     rw z (by (polls_it r c) c refl e2 f.1 own)
   where
@@ -418,9 +420,9 @@ running-ends s p a held below l e k = record {
       (λ n. omega arith) (runs-still s.world (op.End a held ∷ []) d refl (λ q. omega arith)) (k.runner r);
 }
 
-running-start : (limit n : ℕ) → Running (start limit n)
-running-start limit n = record {
-  used = used-start limit n;
+running-start : (limit : ℕ) (kind : Kind) (n : ℕ) → Running (start limit kind n)
+running-start limit kind n = record {
+  used = used-start limit kind n;
   runner = λ r. record {
     polled = λ z. absurd (omega (arith, z, weigh_all-idle (polling_of r) n));
     named = weigh_all-idle (stray_of r (watched r []).poll) n;
@@ -428,16 +430,16 @@ running-start limit n = record {
   };
 }
 
-running : (limit n : ℕ) (ts : List Step) → Running (run ts (start limit n))
-running limit n ts = along Running running-moves running-ends ts (start limit n) (good-start limit n)
-    (running-start limit n)
+running : (limit : ℕ) (kind : Kind) (n : ℕ) (ts : List Step) → Running (run ts (start limit kind n))
+running limit kind n ts = along Running running-moves running-ends ts (start limit kind n) (good-start limit kind n)
+    (running-start limit kind n)
 
-pub own-queue-has-runner : (limit n : ℕ) (ts : List Step) (r : ℕ) → OwnQueueHasRunner (run ts (start limit n)) r
-own-queue-has-runner limit n ts r z =
-    let s = run ts (start limit n) in
+pub own-queue-has-runner : (limit : ℕ) (kind : Kind) (n : ℕ) (ts : List Step) (r : ℕ) → OwnQueueHasRunner (run ts (start limit kind n)) r
+own-queue-has-runner limit kind n ts r z =
+    let s = run ts (start limit kind n) in
     ⊎_elim
     (λ (x : 1 ≤ weigh_all (keeps_of r) s.parties).
     inl (omega (arith, x, weigh_all-below (keeps_of r) (running_of r) (keeps-uses r) s.parties)))
     (λ (x : ((watched r s.world.trace).polled ≡ true) × ((watched r s.world.trace).called ≡ true)).
     inr (calls-itself r s.world.trace x.0 x.1))
-    (((running limit n ts).runner r).runs z)
+    (((running limit kind n ts).runner r).runs z)

@@ -39,7 +39,7 @@ use Rattle.executor_parts.specs.Sleepers.{Sleepers}
 use Rattle.queue_steps.specs.ClosableQueue.{ClosableQueue}
 use Rattle.executor_model.specs.SleepersAgree.{hands_of}
 use Rattle.executor_model.proofs.Steps.Lists.{weigh-append, weigh-below}
-use Rattle.executor_model.proofs.Steps.Asides.{Aside, aside-awaiter, aside-owed, aside-let_go, aside-told, aside-closing}
+use Rattle.executor_model.proofs.Steps.Asides.{aside-entry, Aside, aside-awaiter, aside-owed, aside-let_go, aside-told, aside-closing}
 
 -- the stages of the runs
 
@@ -189,6 +189,7 @@ none = record {
   output = λ f. refl;
   notify = λ f mine. refl;
   call = λ f a k. refl;
+  goes = λ f. refl;
 }
 
 rest-log_if : (b : Bool) (w : World) (e : Event) → rest w ≡ rest (log_if b w e)
@@ -196,14 +197,15 @@ rest-log_if true w e = refl
 rest-log_if false w e = refl
 
 -- a move of a task
-frame-moved : (b : Bool) (w v : World) (e : Event) (f : ℕ) (m : Moved) → rest w ≡ rest v →
-    Frame w (carried (log_if b v e) f m)
-frame-moved b w v e f m x = frame w (carried (log_if b v e) f m) (x ∙ rest-log_if b v e)
-    (aside-owed bustle_of none f (among f (log_if b v e).table) m.owed)
-
 frame-move : (b : Bool) (m : Move) (p : ℕ) (w v : World) (f : ℕ) → rest w ≡ rest v →
     Frame w (acts.move_by b m p v f)
-frame-move true m p w v f x = frame-moved _ w v (acts.told_as m p f) f (moves.after m (task v f)) x
+frame-move true m p w v f x =
+    let a = acts.told_as m p f in
+    let c = acts.is_told m (task v f) in
+    let l = acts.is_last_waker m (task v f) in
+    frame w (acts.move_by true m p v f)
+    (x ∙ (rest-log_if c v a ∙ rest-log_if l (log_if c v a) (event.LastWaker p f)))
+    (aside-owed bustle_of none f (among f (acts.told_of l c m p v f).table) (moves.after m (task v f)).owed)
 frame-move false m p w v f x = frame w _ x refl
 
 pub frame-call : (p : ℕ) (w : World) (o : Polled) (a : Waker) (k : ℕ) → Frame w (acts.call_waker p w o a k)
@@ -218,7 +220,7 @@ frame-enter false true p w = frame w _ refl refl
 frame-enter false false p w = frame w _ refl refl
 
 frame-leave : (b : Bool) (w : World) (f : ℕ) → Frame w (acts.leave_by b w f)
-frame-leave true w f = frame w _ refl refl
+frame-leave true w f = frame w _ refl (aside-entry bustle_of none w.is_static f)
 frame-leave false w f = frame w _ refl refl
 
 -- handles
@@ -263,6 +265,10 @@ frame-notify : (b : Bool) (w : World) (f : ℕ) (mine : Bool) → Frame w (acts.
 frame-notify true w f mine = frame w _ refl refl
 frame-notify false w f mine = frame w _ refl refl
 
+frame-let_go : (b : Bool) (w : World) (f : ℕ) → Frame w (acts.let_go_by b w f)
+frame-let_go true w f = frame w _ refl refl
+frame-let_go false w f = frame w _ refl (aside-let_go bustle_of none (awaiter_of w f))
+
 -- the drop of the executor
 
 frame-drop_next : (p : ℕ) (w : World) (ls : List ℕ) → Frame w (acts.drop_next_by p w ls)
@@ -306,6 +312,7 @@ frame-act p h (op.Handle (handle_op.LookAgain f)) w n = frame-again _ p w f _
 frame-act p h (op.Handle (handle_op.Notify f mine)) w n = frame-notify _ w f mine
 frame-act p h (op.Handle (handle_op.EndNotify f mine)) w n =
     frame w _ refl (aside-told bustle_of none _ f (awaiter_of w f))
+frame-act p h (op.Handle (handle_op.LetGo f)) w n = frame-let_go _ w f
 frame-act p h (op.Closing closing_op.TakeOut) w n =
     frame w _ refl (aside-closing bustle_of (λ o. refl) w.table w.waking)
 frame-act p h (op.Closing closing_op.DropNext) w n = frame-drop_next p w _

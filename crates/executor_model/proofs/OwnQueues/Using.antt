@@ -223,6 +223,7 @@ module _ (v : Op → ℕ) (m : Mild v) where
     output = λ f. mild-none (op.User (user_op.BeginDropOutput f)) refl;
     notify = λ f mine. mild-none (op.Handle (handle_op.Notify f mine)) refl;
     call = λ f a k. mild-none (op.Waker (waker_op.CallAwaiter f a k)) refl;
+    goes = λ f. mild-none (op.Handle (handle_op.LetGo f)) refl;
   }
 
   mild-take : (q : List ℕ) (w : World) → weigh v (acts.take_by w q).next ≡ 0

@@ -5,6 +5,7 @@ use Rattle.std.proofs.Common.{◌≡◌, ℕ, zero, suc, ◌<◌, ◌≤◌, Lis
 use Rattle.std.proofs.Common.{Bool, true, false, ◌&&◌, ◌||◌, not, refl, sym, ap, ◌∙◌, subst, inl, ⊎_elim, arith}
 use Rattle.std.specs.Prelude.{Option, reverse}
 use Rattle.std.specs.List.{list_any}
+use Rattle.executor_model.specs.declared.kind.Kind.{Kind}
 use Rattle.executor_model.specs.declared.call.Call.{Call}
 use Rattle.executor_model.specs.declared.call.Call.TheVariants as call
 use Rattle.executor_model.specs.declared.call.Reply.{Reply}
@@ -132,7 +133,8 @@ used-moves s p old rest d good l e (reacted o a k q z) u =
 used-moves s p old rest d good l e (called c q t n z) u =
     let e2 : stack s p ≡ rest ++ reverse [] = subst (λ (os : List Op). stack s p ≡ rest ++ reverse os) q e in
     let f : _ = none_refused (is_free (top (stack s p))) (has_all s.world s.parties (top (stack s p)) c)
-    (not (s.world.gone && is_on_executor c)) (not (is_drop c) || is_unborrowed s.world s.parties) n in
+    (not (s.world.gone && is_on_executor c)) (not (is_drop c && s.world.is_static))
+    (not (is_drop c) || is_unborrowed s.world s.parties) n in
     let own : set s.parties p rest ≡ s.parties = ap (set s.parties p) t ∙ set-own s.parties p l in
     rw z (used-unsettled s p [] rest (begun p (log s.world (event.CallBegun p c)) (mine (top (stack s p))) c) l e2
     (λ r a b. used-begun p s.world (mine (top (stack s p))) c r (counts r (set s.parties p rest)) a b
@@ -145,8 +147,8 @@ used-ends s p a held below l e u =
     used-unsettled s p (op.End a held ∷ []) below (done (log s.world (event.CallEnded p a)) []) l e
     (λ r. used-end s.world p a held r _) u
 
-pub used-start : (limit n : ℕ) → AllUsed (start limit n)
-used-start limit n r = record {
+pub used-start : (limit : ℕ) (kind : Kind) (n : ℕ) → AllUsed (start limit kind n)
+used-start limit kind n r = record {
   once = omega (arith, weigh_all-idle (running_of r) n);
   unborn = λ e. weigh_all-idle (running_of r) n;
   unlent = weigh_all-idle (lending_of r) n;
@@ -155,12 +157,12 @@ used-start limit n r = record {
   gone = λ e. let no : false ≡ true = e in absurd (cc);
 }
 
-pub all-used : (limit n : ℕ) (ts : List Step) → AllUsed (run ts (start limit n))
-all-used limit n ts = along AllUsed used-moves used-ends ts (start limit n) (good-start limit n) (used-start limit n)
+pub all-used : (limit : ℕ) (kind : Kind) (n : ℕ) (ts : List Step) → AllUsed (run ts (start limit kind n))
+all-used limit kind n ts = along AllUsed used-moves used-ends ts (start limit kind n) (good-start limit kind n) (used-start limit kind n)
 
 -- so a run is in one call at most
-pub is-used-once : (limit n : ℕ) (ts : List Step) (r : ℕ) → IsUsedOnce (run ts (start limit n)) r
-is-used-once limit n ts r = (all-used limit n ts r).once
+pub is-used-once : (limit : ℕ) (kind : Kind) (n : ℕ) (ts : List Step) (r : ℕ) → IsUsedOnce (run ts (start limit kind n)) r
+is-used-once limit kind n ts r = (all-used limit kind n ts r).once
 
 -- and nothing stands in an own queue where the executor's drop has begun
 
@@ -187,5 +189,5 @@ emptied-here s good u e g = none-in g s.world.own (λ r. ⊎_elim (λ (z : own_o
     )))
     ((u r).emptied ((u r).gone e)))
 
-pub own-emptied : (limit n : ℕ) (ts : List Step) → OwnEmptied (run ts (start limit n))
-own-emptied limit n ts = emptied-here (run ts (start limit n)) (good limit n ts) (all-used limit n ts)
+pub own-emptied : (limit : ℕ) (kind : Kind) (n : ℕ) (ts : List Step) → OwnEmptied (run ts (start limit kind n))
+own-emptied limit kind n ts = emptied-here (run ts (start limit kind n)) (good limit kind n ts) (all-used limit kind n ts)

@@ -3,6 +3,7 @@
 use Rattle.std.proofs.Common.{◌≡◌, ◌≢◌, ◌⊎◌, ℕ, ◌<◌, ◌≤◌, List, [], ◌∷◌, ◌++◌, length}
 use Rattle.std.proofs.Common.{subst, inl, inr, arith}
 use Rattle.std.specs.Prelude.{reverse}
+use Rattle.executor_model.specs.declared.kind.Kind.{Kind}
 use Rattle.executor_model.specs.declared.call.Reply.{Reply}
 use Rattle.executor_model.specs.declared.event.Event.TheVariants as event
 use Rattle.executor_model.specs.declared.op.Hold.{Hold}
@@ -92,12 +93,12 @@ heard-ends s p a held below l e h = record {
   asked = ended Asked s p a held below l e (asked-end s.world p a held) h.asked;
 }
 
-pub heard-start : (limit n : ℕ) → Heard (start limit n)
-heard-start limit n =
-    record { placed = placed-start limit n; asked = λ g. view-start Asked limit n g (none-asked limit g) }
+pub heard-start : (limit : ℕ) (kind : Kind) (n : ℕ) → Heard (start limit kind n)
+heard-start limit kind n =
+    record { placed = placed-start limit kind n; asked = λ g. view-start Asked limit kind n g (none-asked limit kind g) }
   where
-    none-asked : (limit g : ℕ) → Asked (seen (start limit 0).world g none no_extra)
-    none-asked limit g = grind (arith, request-none)
+    none-asked : (limit : ℕ) (kind : Kind) (g : ℕ) → Asked (seen (start limit kind 0).world g none no_extra)
+    none-asked limit kind g = grind (arith, request-none)
 
-pub heard : (limit n : ℕ) (ts : List Step) → Heard (run ts (start limit n))
-heard limit n ts = along Heard heard-moves heard-ends ts (start limit n) (good-start limit n) (heard-start limit n)
+pub heard : (limit : ℕ) (kind : Kind) (n : ℕ) (ts : List Step) → Heard (run ts (start limit kind n))
+heard limit kind n ts = along Heard heard-moves heard-ends ts (start limit kind n) (good-start limit kind n) (heard-start limit kind n)

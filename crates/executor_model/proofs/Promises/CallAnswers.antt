@@ -137,6 +137,7 @@ ready-aside = record {
   output = λ f. refl;
   notify = λ f mine. refl;
   call = λ f a k. refl;
+  goes = λ f. refl;
 }
 
 -- where it is answered, its answer is an output that was given, or no output

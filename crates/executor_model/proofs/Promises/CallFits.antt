@@ -119,6 +119,7 @@ fit-aside c = record {
   output = λ f. refl;
   notify = λ f mine. refl;
   call = λ f a k. refl;
+  goes = λ f. refl;
 }
 
 -- calls but polls of ticks and runs

@@ -21,7 +21,7 @@ use Rattle.executor_model.specs.CallsMean.{HasAccepted, HasCancelled, HasDetache
 use Rattle.executor_model.specs.CallsMean.{MayBeOver, is_reply}
 use Rattle.executor_model.specs.OutputOnce.{is_output_given}
 use Rattle.executor_model.specs.Trace.{Trace, has, is_cancelled, is_detached, is_drop_begun, is_drop_ended, is_dropped}
-use Rattle.executor_model.specs.Trace.{is_poll, is_ready, is_woken}
+use Rattle.executor_model.specs.Trace.{is_poll, is_ready, is_woken, is_last_waker}
 use Rattle.executor_model.specs.Weights.{same, weigh}
 pub use Rattle.executor_model.proofs.Promises.CallServes.{spawns, tries, asks, copies, polls_handle, makes_tick, makes_run, polls, polls_run}
 pub use Rattle.executor_model.proofs.Promises.CallServes.{polls_by, leaves, serves_section, serves_list, serves_run, serves_tick, serves_handle, serves, misfit}
@@ -111,9 +111,12 @@ has-right t xs ys e = list_any-append t xs ys ∙ or-right (has t xs) (has t ys)
 pub over-later : (f : ℕ) (xs ys : Trace) → MayBeOver f xs → MayBeOver f (xs ++ ys)
 over-later f xs ys h = ⊎_elim
     (λ (a : has (is_ready f) xs ≡ true). inl (has-left (is_ready f) xs ys a))
-    (λ (b : (has (is_cancelled f) xs ≡ true) ⊎ (has is_drop_begun xs ≡ true)). inr (⊎_elim
+    (λ (b : (has (is_cancelled f) xs ≡ true) ⊎ ((has (is_last_waker f) xs ≡ true) ⊎ (has is_drop_begun xs ≡ true))).
+    inr (⊎_elim
     (λ (a : has (is_cancelled f) xs ≡ true). inl (has-left (is_cancelled f) xs ys a))
-    (λ (a : has is_drop_begun xs ≡ true). inr (has-left is_drop_begun xs ys a)) b)) h
+    (λ (c : (has (is_last_waker f) xs ≡ true) ⊎ (has is_drop_begun xs ≡ true)). inr (⊎_elim
+    (λ (a : has (is_last_waker f) xs ≡ true). inl (has-left (is_last_waker f) xs ys a))
+    (λ (a : has is_drop_begun xs ≡ true). inr (has-left is_drop_begun xs ys a)) c)) b)) h
 
 cancelled-later : (f : ℕ) (own past more : Trace) → HasCancelled f own past → HasCancelled f own (past ++ more)
 cancelled-later f own past more h = ⊎_elim

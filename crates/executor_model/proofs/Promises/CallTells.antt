@@ -57,6 +57,7 @@ told-aside = record {
   output = λ f. refl;
   notify = λ f mine. refl;
   call = λ f a k. refl;
+  goes = λ f. refl;
 }
 
 few-told : (o : Op) → told_of o ≤ calling_of o

@@ -1,6 +1,6 @@
 -- For calls_do_what_they_say.
--- Calls do what they say: who is over was ready or cancelled, or the drop of the executor had begun; and what a step added
--- to a trace.
+-- Calls do what they say: who is over was ready or cancelled, or nobody was left who could wake it, or the drop of the
+-- executor had begun; and what a step added to a trace.
 use Rattle.std.proofs.Common.{◌≡◌, ◌⊎◌, ◌∙◌, ℕ, ◌∷◌, ◌++◌, [], Bool, true, false, ◌||◌, cond, eqb, inl, inr, ⊎_elim, refl, sym}
 use Rattle.std.proofs.Common.{arith}
 use Rattle.std.proofs.lemmas.Bool.Decides.{nat_tests}
@@ -9,7 +9,7 @@ use Rattle.task_moves.specs.Moves.{is_over}
 use Rattle.task_moves.specs.declared.moves.state.State.{State}
 use Rattle.executor_model.specs.CallsMean.{MayBeOver}
 use Rattle.executor_model.specs.Steps.{Machine}
-use Rattle.executor_model.specs.Trace.{Trace, has, is_cancelled, is_drop_begun, is_ready}
+use Rattle.executor_model.specs.Trace.{Trace, has, is_cancelled, is_drop_begun, is_last_waker, is_ready}
 use Rattle.executor_model.specs.World.{task}
 use Rattle.executor_model.specs.declared.event.Answer.TheVariants as answer
 use Rattle.executor_model.specs.declared.event.Event.{Event}
@@ -18,14 +18,17 @@ use Rattle.executor_model.proofs.Table.LeavingExecutions.{Placed}
 use Rattle.executor_model.proofs.OneFuture.Stories.{Story, hears, story, story_from, untold}
 use Rattle.executor_model.proofs.Steps.Tests.{or-left, or-right}
 
--- whose task is closed or completed was ready or cancelled, or the executor's drop had begun
+-- whose task is closed or completed has one of these causes
 
 over-more : (g : ℕ) (e : Event) (es : Trace) → MayBeOver g es → MayBeOver g (e ∷ es)
 over-more g e es h = ⊎_elim
     (λ (a : has (is_ready g) es ≡ true). inl (or-right (is_ready g e) (has (is_ready g) es) a))
-    (λ (b : (has (is_cancelled g) es ≡ true) ⊎ (has is_drop_begun es ≡ true)). inr (⊎_elim
+    (λ (b : (has (is_cancelled g) es ≡ true) ⊎ ((has (is_last_waker g) es ≡ true) ⊎ (has is_drop_begun es ≡ true))).
+    inr (⊎_elim
     (λ (a : has (is_cancelled g) es ≡ true). inl (or-right (is_cancelled g e) (has (is_cancelled g) es) a))
-    (λ (a : has is_drop_begun es ≡ true). inr (or-right (is_drop_begun e) (has is_drop_begun es) a)) b)) h
+    (λ (c : (has (is_last_waker g) es ≡ true) ⊎ (has is_drop_begun es ≡ true)). inr (⊎_elim
+    (λ (a : has (is_last_waker g) es ≡ true). inl (or-right (is_last_waker g e) (has (is_last_waker g) es) a))
+    (λ (a : has is_drop_begun es ≡ true). inr (or-right (is_drop_begun e) (has is_drop_begun es) a)) c)) b)) h
 
 -- the first event is a cause, or there was one before
 first-tells : (g : ℕ) (e : Event) (es : Trace) (s : Story) → (hears g e s).caused ≡ true →
@@ -43,7 +46,13 @@ first-tells g (event.Cancelled p f) es s k = by (eqb g f) refl k
         (s.caused ≡ true) ⊎ MayBeOver g (event.Cancelled p f ∷ es)
     by true z q = inr (inr (inl (or-left (eqb g f) (has (is_cancelled g) es) z)))
     by false z q = inl q
-first-tells g (event.DropBegun p) es s k = inr (inr (inr refl))
+first-tells g (event.LastWaker p f) es s k = by (eqb g f) refl k
+  where
+    by : (b : Bool) → eqb g f ≡ b → cond b (s.caused || s.detached) s.caused ≡ true →
+        (s.caused ≡ true) ⊎ MayBeOver g (event.LastWaker p f ∷ es)
+    by true z q = inr (inr (inr (inl (or-left (eqb g f) (has (is_last_waker g) es) z))))
+    by false z q = inl q
+first-tells g (event.DropBegun p) es s k = inr (inr (inr (inr refl)))
 first-tells g _ es s k = inl k
 
 caused-tells : (g : ℕ) (es : Trace) (s : Story) → (story_from g s es).caused ≡ true →

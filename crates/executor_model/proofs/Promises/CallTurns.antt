@@ -1,7 +1,7 @@
 -- For calls_do_what_they_say.
 -- Calls do what they say: each thing that is done for a call does its part of what that promises.
 use Rattle.std.proofs.Common.{◌≡◌, ◌≢◌, ◌⊎◌, ◌∙◌, ℕ, ◌+◌, ◌≤◌, List, [], ◌∷◌, ◌++◌, length, Bool, true, false, ◌&&◌}
-use Rattle.std.proofs.Common.{◌||◌, eqb, not, inl, inr, ⊎_elim, refl, sym, ap, subst, arith}
+use Rattle.std.proofs.Common.{◌||◌, append_assoc, eqb, not, inl, inr, ⊎_elim, refl, sym, ap, subst, arith}
 use Rattle.task_moves.specs.Moves as moves
 use Rattle.task_moves.specs.Moves.{is_over}
 use Rattle.task_moves.specs.declared.moves.owed.Move.TheVariants as move
@@ -18,6 +18,7 @@ use Rattle.executor_model.specs.declared.op.UserOp.TheVariants as user_op
 use Rattle.executor_model.specs.declared.step.Hint.{Hint}
 use Rattle.executor_model.specs.declared.step.UserEnd.{UserEnd}
 use Rattle.executor_model.specs.declared.step.UserEnd.TheVariants as end
+use Rattle.executor_model.specs.Acts.{is_last_waker, told_of as told_move}
 use Rattle.executor_model.specs.Acts.{closing_ops, drain_by, drop_next_by, wake, wake_next_by}
 use Rattle.executor_model.specs.CallsMean.{HasCancelled, HasDetached, HasTaken, HasWoken, MayBeOver}
 use Rattle.executor_model.specs.Carried.{owed_ops}
@@ -72,12 +73,18 @@ stays b f g there s z =
     omega (arith, e)
 
 goes : (p : ℕ) (w : World) (f g : ℕ) (more now : Trace) → ((task w g).completed && not (task w g).closed) ≡ false →
-    now ≡ (log_if (not ((task w g).completed && not (task w g).closed)) w (event.Detached p g)).trace →
+    now ≡ (told_move (is_last_waker move.Detach (task w g)) (not ((task w g).completed && not (task w g).closed)) move.Detach p
+    w g).trace →
     now ≡ w.trace ++ more → eqb f g ≡ true → HasDetached f more
-goes p w f g more now z e t i = subst (λ (x : Trace). has (is_detached f) x ≡ true)
-    (added w.trace more (event.Detached p g ∷ []) now t
-    (e ∙ ap (λ (b : Bool). (log_if (not b) w (event.Detached p g)).trace) z))
-    (let q : (eqb f g || false) ≡ true = or-left _ _ i in q)
+goes p w f g more now z e t i = by (is_last_waker move.Detach (task w g))
+    (e ∙ ap (λ (b : Bool). (told_move (is_last_waker move.Detach (task w g)) (not b) move.Detach p w g).trace) z)
+  where
+    by : (l : Bool) → now ≡ (told_move l true move.Detach p w g).trace → has (is_detached f) more ≡ true
+    by true q = subst (λ (x : Trace). has (is_detached f) x ≡ true)
+        (added w.trace more (event.Detached p g ∷ event.LastWaker p g ∷ []) now t
+        (q ∙ append_assoc w.trace (event.Detached p g ∷ []) (event.LastWaker p g ∷ []))) (or-left (eqb f g) _ i)
+    by false q = subst (λ (x : Trace). has (is_detached f) x ≡ true)
+        (added w.trace more (event.Detached p g ∷ []) now t q) (or-left (eqb f g) _ i)
 
 detach-turn : (p : ℕ) (h : Hint) (o : Op) (w : World) (f : ℕ) (more : Trace) →
     (act p h o w).world.trace ≡ w.trace ++ more →

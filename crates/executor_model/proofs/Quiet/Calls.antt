@@ -38,7 +38,7 @@ use Rattle.executor_model.specs.Acts.{copy_awaiter_by, register_by, let_go, end_
 use Rattle.executor_model.specs.Acts.{call_awaiter, closing_ops, drop_next_by, wake, wake_next_by, drain_by}
 use Rattle.executor_model.specs.Weights.{same, weigh}
 use Rattle.executor_model.proofs.Steps.Lists.{weigh-append}
-use Rattle.executor_model.proofs.Steps.Asides.{Aside, aside-awaiter, aside-owed, aside-let_go, aside-closing}
+use Rattle.executor_model.proofs.Steps.Asides.{aside-entry, Aside, aside-awaiter, aside-owed, aside-let_go, aside-closing}
 use Rattle.executor_model.proofs.OneFuture.Telling.{same-cond}
 
 -- what has still to answer its call
@@ -181,6 +181,7 @@ no-call = record {
   output = λ f. refl;
   notify = λ f mine. refl;
   call = λ f a k. refl;
+  goes = λ f. refl;
 }
 
 pub none-owed : (f : ℕ) (there : Bool) (o : Owed) → weigh calling_of (owed_ops there f o) ≡ 0
@@ -206,7 +207,7 @@ calls-enter false false p w =
     (then (op.Queue (queue_op.Append (length w.tasks)) ∷ []) _ refl refl)
 
 pub calls-leave : (b : Bool) (w : World) (f : ℕ) → Calls w (op.Table (table_op.LeaveTable f)) (leave_by b w f)
-calls-leave true w f = inside w _ _ refl (steady-same _ _ refl) refl
+calls-leave true w f = inside w _ _ refl (steady-same _ _ refl) (aside-entry calling_of no-call w.is_static f)
 calls-leave false w f = inside w _ _ refl (steady-same _ _ refl) refl
 
 pub calls-copy : (b : Bool) (w : World) (f : ℕ) (held : Hold) →

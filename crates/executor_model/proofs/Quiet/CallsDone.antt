@@ -6,6 +6,7 @@ use Rattle.std.proofs.lemmas.Bool.Decides.{nat_tests}
 use Rattle.std.proofs.lemmas.List.{append_cancel_left}
 use Rattle.std.specs.Prelude.{Option, Some, None, reverse}
 use Rattle.task_moves.specs.declared.moves.owed.Move.TheVariants as move
+use Rattle.executor_model.specs.declared.kind.Kind.{Kind}
 use Rattle.executor_model.specs.declared.call.By.{By}
 use Rattle.executor_model.specs.declared.call.Call.{Call}
 use Rattle.executor_model.specs.declared.call.Call.TheVariants as call
@@ -211,7 +212,8 @@ held-moves s p old rest d good l e way k =
         (turns-react p o u s.world b.call s.world.trace g.more a) x) k.frames)
     by (called c q r n z) =
         let f : _ = none_refused (is_free (top (stack s p))) (has_all s.world s.parties (top (stack s p)) c)
-        (not (s.world.gone && is_on_executor c)) (not (is_drop c) || is_unborrowed s.world s.parties) n in
+        (not (s.world.gone && is_on_executor c)) (not (is_drop c && s.world.is_static))
+        (not (is_drop c) || is_unborrowed s.world s.parties) n in
         let w : World = log s.world (event.CallBegun p c) in
         let here : Option Waker = mine (top (stack s p)) in
         let g = grows-begun p w here c in
@@ -240,17 +242,17 @@ none-ended : (q : ℕ) → EachIsRight (calls q []).ended
 unfolding calls
 none-ended q = tt
 
-held-start : (limit n : ℕ) → Held (start limit n)
-held-start limit n = record {
-  placed = placed-start limit n;
-  swept = swept-start limit n;
+held-start : (limit : ℕ) (kind : Kind) (n : ℕ) → Held (start limit kind n)
+held-start limit kind n = record {
+  placed = placed-start limit kind n;
+  swept = swept-start limit kind n;
   frames = record {
-    tied = λ q. tied-none Owes owes-later [] (calls q []).begun (reverse (stack (start limit n) q)) (none-begun q)
+    tied = λ q. tied-none Owes owes-later [] (calls q []).begun (reverse (stack (start limit kind n) q)) (none-begun q)
         (ap (λ (xs : List Op). reverse xs) (idle-stack n q));
     right = none-ended;
   };
 }
 
-pub calls-done : (limit n : ℕ) (ts : List Step) (q : ℕ) → CallsDoWhatTheySay q (run ts (start limit n)).world.trace
-calls-done limit n ts q =
-    (along Held held-moves held-ends ts (start limit n) (good-start limit n) (held-start limit n)).frames.right q
+pub calls-done : (limit : ℕ) (kind : Kind) (n : ℕ) (ts : List Step) (q : ℕ) → CallsDoWhatTheySay q (run ts (start limit kind n)).world.trace
+calls-done limit kind n ts q =
+    (along Held held-moves held-ends ts (start limit kind n) (good-start limit kind n) (held-start limit kind n)).frames.right q

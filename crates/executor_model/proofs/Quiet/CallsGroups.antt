@@ -1,6 +1,7 @@
 -- For quiet_emptiness_is_exact, outputs_are_kept, awaiters_are_kept and own_queues_agree.
 -- Each thing that is done answers its call or nothing, by groups.
-use Rattle.std.proofs.Common.{◌≡◌, ℕ, false, refl}
+use Rattle.std.proofs.Common.{◌≡◌, ℕ, Bool, true, false, refl}
+use Rattle.task_moves.specs.declared.moves.owed.Move.{Move}
 use Rattle.task_moves.specs.declared.moves.owed.Move.TheVariants as move
 use Rattle.task_moves.specs.Moves as moves
 use Rattle.executor_model.specs.declared.event.Event.TheVariants as event
@@ -13,49 +14,51 @@ use Rattle.executor_model.specs.declared.op.TableOp.TheVariants as table_op
 use Rattle.executor_model.specs.declared.op.UserOp.TheVariants as user_op
 use Rattle.executor_model.specs.declared.op.WakerOp.TheVariants as waker_op
 use Rattle.executor_model.specs.declared.step.Hint.{Hint}
-use Rattle.executor_model.specs.World.{World, task, among, awaiter_of}
+use Rattle.executor_model.specs.World.{World, task, among, awaiter_of, log_if}
+use Rattle.executor_model.specs.Acts.{is_last_waker, is_told, let_go_by, move_by, told_as, told_of}
 use Rattle.executor_model.specs.Doing.{act}
 use Rattle.executor_model.proofs.Quiet.Calls.{is_end, Calls, answers, calls-again, calls-answered, calls-append, calls-call}
 use Rattle.executor_model.proofs.Quiet.Calls.{calls-copy, calls-copy_awaiter, calls-drain, calls-drop_next}
 use Rattle.executor_model.proofs.Quiet.Calls.{calls-end_register, calls-enter, calls-leave, calls-notify, calls-register}
-use Rattle.executor_model.proofs.Steps.Asides.{aside-told, aside-closing}
+use Rattle.executor_model.proofs.Steps.Asides.{aside-told, aside-closing, aside-let_go}
 use Rattle.executor_model.proofs.Quiet.Calls.{calls-take, calls-wake_next, inside, no-call, none-owed, calling_of}
-use Rattle.executor_model.proofs.Quiet.Calls.{none-wake, single, steady-log, steady-log_if, steady-same, steady-wake}
+use Rattle.executor_model.proofs.Quiet.Calls.{begin_of, end_of, single, steady-and, steady-log, steady-log_if, steady-same}
 use Rattle.executor_model.proofs.Quiet.RunsCalls.{calls-list, calls-run, calls-steal}
 use Rattle.executor_model.proofs.Quiet.SleepersCalls.{calls-sleeper, calls-tick}
+
+told-begins : (m : Move) (p f q : ℕ) → begin_of q (told_as m p f) ≡ 0
+told-begins move.TakeUp p f q = refl
+told-begins move.Cancel p f q = refl
+told-begins move.Detach p f q = refl
+told-begins _ p f q = refl
+
+told-ends : (m : Move) (p f q : ℕ) → end_of q (told_as m p f) ≡ 0
+told-ends move.TakeUp p f q = refl
+told-ends move.Cancel p f q = refl
+told-ends move.Detach p f q = refl
+told-ends _ p f q = refl
+
+calls-move : (b : Bool) (m : Move) (p : ℕ) (w : World) (f : ℕ) → Calls w (op.Move m f) (move_by b m p w f)
+calls-move true m p w f =
+    let v = log_if (is_told m (task w f)) w (told_as m p f) in
+    let u = told_of (is_last_waker m (task w f)) (is_told m (task w f)) m p w f in
+    inside w _ (move_by true m p w f) refl
+    (steady-and w v _ (steady-log_if (is_told m (task w f)) w v (told_as m p f) refl (told-begins m p f) (told-ends m p f))
+    (steady-log_if (is_last_waker m (task w f)) v _ (event.LastWaker p f) refl (λ q. refl) (λ q. refl)))
+    (none-owed f (among f u.table) (moves.after m (task w f)).owed)
+calls-move false m p w f = inside w _ _ refl (steady-same _ _ refl) refl
+
+calls-let_go : (b : Bool) (w : World) (f : ℕ) → Calls w (op.Handle (handle_op.LetGo f)) (let_go_by b w f)
+calls-let_go true w f = inside w _ _ refl (steady-same _ _ refl) refl
+calls-let_go false w f =
+    inside w _ _ refl (steady-same _ _ refl) (aside-let_go calling_of no-call (awaiter_of w f))
 
 pub calls-act : (p : ℕ) (h : Hint) (o : Op) (w : World) → is_end o ≡ false → Calls w o (act p h o w)
 calls-act p h (op.Table table_op.Enter) w n = calls-enter _ _ p w
 calls-act p h (op.Queue queue_op.Take) w n = calls-take _ w
 calls-act p h (op.Table table_op.LookAtTable) w n = answers w _ _ refl (steady-same _ _ refl) (single _ refl)
 calls-act p h (op.Queue (queue_op.Append f)) w n = calls-append _ w f
-calls-act p h (op.Move move.WakeByReference f) w n =
-    inside w _ _ refl (steady-log_if _ w _ (event.Woken p f) refl (λ q. refl) (λ q. refl))
-    (none-owed f _ (moves.wake_by_reference (task w f)).owed)
-calls-act p h (op.Move move.Wake f) w n = inside w _ _ refl (steady-wake p w f) (none-wake p w f)
-calls-act p h (op.Move move.Release f) w n =
-    inside w _ _ refl (steady-same _ _ refl) (none-owed f (among f w.table) (moves.release (task w f)).owed)
-calls-act p h (op.Move move.TakeUp f) w n =
-    inside w _ _ refl (steady-log_if _ w _ (event.PollBegun p f) refl (λ q. refl) (λ q. refl))
-    (none-owed f _ (moves.take_up (task w f)).owed)
-calls-act p h (op.Move move.SettleClosed f) w n =
-    inside w _ _ refl (steady-same _ _ refl) (none-owed f (among f w.table) (moves.settle_closed (task w f)).owed)
-calls-act p h (op.Move move.GiveUp f) w n =
-    inside w _ _ refl (steady-same _ _ refl) (none-owed f (among f w.table) (moves.give_up (task w f)).owed)
-calls-act p h (op.Move move.EndReady f) w n =
-    inside w _ _ refl (steady-same _ _ refl) (none-owed f (among f w.table) (moves.end_ready (task w f)).owed)
-calls-act p h (op.Move move.EndPending f) w n =
-    inside w _ _ refl (steady-same _ _ refl) (none-owed f (among f w.table) (moves.end_pending (task w f)).owed)
-calls-act p h (op.Move move.EndClosed f) w n =
-    inside w _ _ refl (steady-same _ _ refl) (none-owed f (among f w.table) (moves.end_closed (task w f)).owed)
-calls-act p h (op.Move move.DropRunnable f) w n =
-    inside w _ _ refl (steady-same _ _ refl) (none-owed f (among f w.table) (moves.drop_runnable (task w f)).owed)
-calls-act p h (op.Move move.Cancel f) w n =
-    inside w _ _ refl (steady-log_if _ w _ (event.Cancelled p f) refl (λ q. refl) (λ q. refl))
-    (none-owed f _ (moves.cancel (task w f)).owed)
-calls-act p h (op.Move move.Detach f) w n =
-    inside w _ _ refl (steady-log_if _ w _ (event.Detached p f) refl (λ q. refl) (λ q. refl))
-    (none-owed f _ (moves.detach (task w f)).owed)
+calls-act p h (op.Move m f) w n = calls-move _ m p w f
 calls-act p h (op.User (user_op.BeginDrop f)) w n =
     inside w _ _ refl (steady-log _ _ (event.Dropped p f) refl (λ q. refl) (λ q. refl)) refl
 calls-act p h (op.Table (table_op.LeaveTable f)) w n = calls-leave _ w f
@@ -71,6 +74,7 @@ calls-act p h (op.Handle (handle_op.LookAgain f)) w n = calls-again _ _ _ p w f
 calls-act p h (op.Handle (handle_op.Notify f mine)) w n = calls-notify _ w f mine
 calls-act p h (op.Handle (handle_op.EndNotify f mine)) w n =
     inside w _ _ refl (steady-same _ _ refl) (aside-told calling_of no-call _ f (awaiter_of w f))
+calls-act p h (op.Handle (handle_op.LetGo f)) w n = calls-let_go _ w f
 calls-act p h (op.Waker (waker_op.CallAwaiter f a k)) w n = calls-call p w f a k
 calls-act p h (op.Sleeper o) w n = calls-sleeper p o w
 calls-act p h (op.Tick o) w n = calls-tick h o w

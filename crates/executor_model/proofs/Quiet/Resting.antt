@@ -5,6 +5,7 @@ use Rattle.std.proofs.Common.{Bool, true, false, ◌&&◌, ◌||◌, not, cond, 
 use Rattle.std.proofs.Common.{inr, ⊎_elim, arith, get_or-set_same, get_or-set_other}
 use Rattle.std.specs.Prelude.{Option, Some, None, reverse}
 use mathlib.Core.List.{reverse_aux}
+use Rattle.executor_model.specs.declared.kind.Kind.{Kind}
 use Rattle.executor_model.specs.declared.call.Call.{Call}
 use Rattle.executor_model.specs.declared.call.Call.TheVariants as call
 use Rattle.executor_model.specs.declared.call.Reply.{Reply}
@@ -311,7 +312,8 @@ deep-moves s p old rest d good l e (reacted o u a q z) h =
     (subst (λ (os : List Op). stack s p ≡ rest ++ reverse os) q e) (turns-react p o u s.world a) h)
 deep-moves s p old rest d good l e (called c q r n z) h =
     let f : _ = none_refused (is_free (top (stack s p))) (has_all s.world s.parties (top (stack s p)) c)
-    (not (s.world.gone && is_on_executor c)) (not (is_drop c) || is_unborrowed s.world s.parties) n in
+    (not (s.world.gone && is_on_executor c)) (not (is_drop c && s.world.is_static))
+    (not (is_drop c) || is_unborrowed s.world s.parties) n in
     rw z (opened s p rest c _ l (subst (λ (os : List Op). stack s p ≡ rest ++ reverse os) q e)
     (opens p s.world s.parties (top (stack s p)) c f.1) h)
 
@@ -333,15 +335,15 @@ none-ended : (q : ℕ) → ended_by q [] ≡ 0
 unfolding ended_by
 none-ended q = refl
 
-deep-start : (limit n : ℕ) → Deep (start limit n)
-deep-start limit n =
+deep-start : (limit : ℕ) (kind : Kind) (n : ℕ) → Deep (start limit kind n)
+deep-start limit kind n =
     record {
       depth = λ q. omega (arith, none-begun q, none-ended q, ap (weigh calling_of) (idle-stack n q));
       bottom = λ q. subst Grounded (sym (idle-stack n q)) tt;
     }
 
-pub deep : (limit n : ℕ) (ts : List Step) → Deep (run ts (start limit n))
-deep limit n ts = along Deep deep-moves deep-ends ts (start limit n) (good-start limit n) (deep-start limit n)
+pub deep : (limit : ℕ) (kind : Kind) (n : ℕ) (ts : List Step) → Deep (run ts (start limit kind n))
+deep limit kind n ts = along Deep deep-moves deep-ends ts (start limit kind n) (good-start limit kind n) (deep-start limit kind n)
 
 -- a quiet trace
 

@@ -7,6 +7,7 @@ use Rattle.std.proofs.lemmas.Bool.Decides.{nat_tests}
 use Rattle.std.specs.Prelude.{Option, Some, None, is_none, reverse}
 use Rattle.executor_parts.specs.Sleepers.{flag_of, position_of, waker_at, waker_of}
 use Rattle.executor_parts.proofs.Agreeing.{first}
+use Rattle.executor_model.specs.declared.kind.Kind.{Kind}
 use Rattle.executor_model.specs.declared.call.Call.{Call}
 use Rattle.executor_model.specs.declared.call.Call.TheVariants as call
 use Rattle.executor_model.specs.declared.call.Reply.{Reply}
@@ -400,18 +401,18 @@ idle-stack zero q = refl
 idle-stack (suc n) zero = refl
 idle-stack (suc n) (suc q) = idle-stack n q
 
-pub followed-start : (limit n : ℕ) → Followed (start limit n)
-followed-start limit n = record {
-  follows = shift (sleepers_seen (start limit n).world) (sleepers_seen (start limit n).world) 0 _ 0 _ refl
+pub followed-start : (limit : ℕ) (kind : Kind) (n : ℕ) → Followed (start limit kind n)
+followed-start limit kind n = record {
+  follows = shift (sleepers_seen (start limit kind n).world) (sleepers_seen (start limit kind n).world) 0 _ 0 _ refl
       (sym (weigh_all-idle hands_of n))
       (sym (weigh_all-idle room_of n))
       (record { numbers = []; kept = first; same = λ m. refl; fallen_asleep = refl; roomed = refl });
   wakes_up = λ q. ap (λ (os : List Op). wakes_up_well (reverse os)) (idle-stack n q);
 }
 
-pub followed : (limit n : ℕ) (ts : List Step) → Followed (run ts (start limit n))
-followed limit n ts = along Followed followed-moves followed-ends ts (start limit n) (good-start limit n)
-    (followed-start limit n)
+pub followed : (limit : ℕ) (kind : Kind) (n : ℕ) (ts : List Step) → Followed (run ts (start limit kind n))
+followed limit kind n ts = along Followed followed-moves followed-ends ts (start limit kind n) (good-start limit kind n)
+    (followed-start limit kind n)
 
 -- what follows of it
 
@@ -442,5 +443,5 @@ agrees s h = let f = h.follows in
           (f.kept.agree.told e);
     }
 
-pub agree : (limit n : ℕ) (ts : List Step) → SleepersAgree (run ts (start limit n))
-agree limit n ts = agrees (run ts (start limit n)) (followed limit n ts)
+pub agree : (limit : ℕ) (kind : Kind) (n : ℕ) (ts : List Step) → SleepersAgree (run ts (start limit kind n))
+agree limit kind n ts = agrees (run ts (start limit kind n)) (followed limit kind n ts)

@@ -3,6 +3,7 @@
 -- a sleeper is notified or will be told.
 use Rattle.std.proofs.Common.{◌≡◌, ℕ, zero, suc, ◌<◌, ◌≤◌, List, [], ◌∷◌, ◌++◌, length, set, refl, subst, arith}
 use Rattle.std.specs.Prelude.{reverse}
+use Rattle.executor_model.specs.declared.kind.Kind.{Kind}
 use Rattle.executor_model.specs.declared.call.Reply.{Reply}
 use Rattle.executor_model.specs.declared.event.Event.TheVariants as event
 use Rattle.executor_model.specs.declared.op.Hold.{Hold}
@@ -84,9 +85,9 @@ tell-ends s p a held below l e h = record {
       (ground s h.followed) h.told;
 }
 
-pub tell : (limit n : ℕ) (ts : List Step) → Tell (run ts (start limit n))
-tell limit n ts = along Tell tell-moves tell-ends ts (start limit n) (good-start limit n)
-    (record { followed = followed-start limit n; told = record { told = λ p q. absurd (omega (arith, p)) } })
+pub tell : (limit : ℕ) (kind : Kind) (n : ℕ) (ts : List Step) → Tell (run ts (start limit kind n))
+tell limit kind n ts = along Tell tell-moves tell-ends ts (start limit kind n) (good-start limit kind n)
+    (record { followed = followed-start limit kind n; told = record { told = λ p q. absurd (omega (arith, p)) } })
 
-pub are_told : (limit n : ℕ) (ts : List Step) → SleepersAreTold (run ts (start limit n))
-are_told limit n ts = (tell limit n ts).told.told
+pub are_told : (limit : ℕ) (kind : Kind) (n : ℕ) (ts : List Step) → SleepersAreTold (run ts (start limit kind n))
+are_told limit kind n ts = (tell limit kind n ts).told.told

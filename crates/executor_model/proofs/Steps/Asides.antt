@@ -19,9 +19,10 @@ use Rattle.executor_model.specs.declared.op.UserOp.TheVariants as user_op
 use Rattle.executor_model.specs.declared.op.Waker.{Waker}
 use Rattle.executor_model.specs.declared.op.Waker.TheVariants.{Task, Outside}
 use Rattle.executor_model.specs.declared.op.WakerOp.TheVariants as waker_op
-use Rattle.executor_model.specs.Acts.{waker_goes, let_go, told, closing_ops}
+use Rattle.executor_model.specs.Acts.{closing_ops, entry_goes, let_go, let_go_by, told, waker_goes}
 use Rattle.executor_model.specs.Carried.{awaiter_ops, owed_ops}
 use Rattle.executor_model.specs.Weights.{weigh}
+use Rattle.executor_model.specs.World.{World, awaiter_of}
 use Rattle.executor_model.proofs.Steps.Owed.{owed-future, owed-awaiter, owed-nothing}
 
 -- v sees no move, nothing that a move owes, and no call of an awaiter
@@ -33,6 +34,7 @@ pub record Aside (v : Op → ℕ) : Type 0 where
   pub output : (f : ℕ) → v (op.User (user_op.BeginDropOutput f)) ≡ 0
   pub notify : (f : ℕ) (mine : Bool) → v (op.Handle (handle_op.Notify f mine)) ≡ 0
   pub call : (f : ℕ) (a : Waker) (k : ℕ) → v (op.Waker (waker_op.CallAwaiter f a k)) ≡ 0
+  pub goes : (f : ℕ) → v (op.Handle (handle_op.LetGo f)) ≡ 0
 
 module _ (v : Op → ℕ) (h : Aside v) where
   pub aside-awaiter : (f : ℕ) (o : Option AwaiterDebt) → weigh v (awaiter_ops f o) ≡ 0
@@ -49,6 +51,7 @@ module _ (v : Op → ℕ) (h : Aside v) where
         give_up = h.move move.GiveUp f;
         end_closed = h.move move.EndClosed f;
         detach = h.move move.Detach f;
+        let_go = h.goes f;
       }) there o (owed-future v f (record { poll = h.poll f; drop = h.drop f }) there o.future)
       (aside-awaiter f o.awaiter)
 
@@ -59,6 +62,14 @@ module _ (v : Op → ℕ) (h : Aside v) where
   pub aside-let_go : (a : Option Awaiter) → weigh v (let_go a) ≡ 0
   aside-let_go None = refl
   aside-let_go (Some a) = aside-goes a.waker
+
+  pub aside-entry : (b : Bool) (f : ℕ) → weigh v (entry_goes b f) ≡ 0
+  aside-entry true f = refl
+  aside-entry false f = omega (arith, h.move move.Release f)
+
+  pub aside-let_go_by : (b : Bool) (w : World) (f : ℕ) → weigh v (let_go_by b w f).next ≡ 0
+  aside-let_go_by true w f = refl
+  aside-let_go_by false w f = aside-let_go (awaiter_of w f)
 
   pub aside-told : (b : Bool) (f : ℕ) (a : Option Awaiter) → weigh v (told b f a) ≡ 0
   aside-told b f None = refl

@@ -80,20 +80,26 @@ kept-used w k f e = go w.wakers k e
     go (x ∷ ws) zero e = ap (λ (y : Option ℕ). let z : Option (Option ℕ) = Some y in z) e
     go (x ∷ ws) (suc k) e = go ws k e
 
--- the drop of the executor, where no call uses it
-begins-drop : (w : World) (p : ℕ) (c : Call) (g : ℕ) (r : Pend) → w.gone ≡ false → r.borrowing ≡ 0 → r.polls ≡ 0 →
-    Sound w g (with_ops g [] r) →
+not-static : (b : Bool) → not b ≡ true → b ≡ false
+not-static true e = absurd (cc)
+not-static false e = refl
+
+-- the drop of an owned executor, where no call uses it
+begins-drop : (w : World) (p : ℕ) (c : Call) (g : ℕ) (r : Pend) → w.gone ≡ false → w.is_static ≡ false →
+    r.borrowing ≡ 0 → r.polls ≡ 0 → Sound w g (with_ops g [] r) →
     Sound (log (record (log w (event.CallBegun p c)) { gone = true }) (event.DropBegun p)) g
     (with_ops g (op.Closing closing_op.TakeOut ∷ op.End reply.Done hold.Nothing ∷ []) r)
-begins-drop w p c g r n b q h = grind (arith, phase-push)
+begins-drop w p c g r n k b q h = grind (arith, phase-push)
 
-pub none_refused : (a b c d : Bool) → unless a Busy (unless b NoSuch (unless c Gone (unless d Borrowed None))) ≡ None →
-    (a ≡ true) × (b ≡ true) × (c ≡ true) × (d ≡ true)
-none_refused true true true true e = (refl, refl, refl, refl)
-none_refused true true true false e = absurd (cc)
-none_refused true true false d e = absurd (cc)
-none_refused true false c d e = absurd (cc)
-none_refused false b c d e = absurd (cc)
+pub none_refused : (a b c k d : Bool) →
+    unless a Busy (unless b NoSuch (unless c Gone (unless k Gone (unless d Borrowed None)))) ≡ None →
+    (a ≡ true) × (b ≡ true) × (c ≡ true) × (d ≡ true) × (k ≡ true)
+none_refused true true true true true e = (refl, refl, refl, refl, refl)
+none_refused true true true true false e = absurd (cc)
+none_refused true true true false d e = absurd (cc)
+none_refused true true false k d e = absurd (cc)
+none_refused true false c k d e = absurd (cc)
+none_refused false b c k d e = absurd (cc)
 
 -- who may drop the executor finds no call that uses it
 pub unused : (c : Call) (w : World) (ss : List (List Op)) → (not (is_drop c) || is_unborrowed w ss) ≡ true →
@@ -217,14 +223,15 @@ unborrowed a e = grind (arith, nat_tests)
 -- the counts of each future
 pub sound-begun : (w : World) (p : ℕ) (ss others : List (List Op)) (here : Option Waker) (c : Call) →
     ((v : Op → ℕ) → weigh_all v others ≤ weigh_all v ss) → not (w.gone && is_on_executor c) ≡ true →
-    (not (is_drop c) || is_unused borrowing_of ss) ≡ true →
+    not (is_drop c && w.is_static) ≡ true → (not (is_drop c) || is_unused borrowing_of ss) ≡ true →
     KeepsHere w [] (begun p (log w (event.CallBegun p c)) here c) others
 sound-begun w p ss others here = by_call _
-    (λ le on un g. (let z : weigh_all borrowing_of others ≡ 0 =
+    (λ le on st un g. (let z : weigh_all borrowing_of others ≡ 0 =
     omega (arith, le borrowing_of, unborrowed (weigh_all borrowing_of ss) un) in
-    begins-drop w p call.DropExecutor g _ (open_executor w call.DropExecutor refl on) z
+    begins-drop w p call.DropExecutor g _ (open_executor w call.DropExecutor refl on)
+    (not-static w.is_static st) z
     (omega (arith, z, polls-borrow-all g others))))
-    (λ c d le on un g. sound-effect w [] (begun p (log w (event.CallBegun p c)) here c)
+    (λ c d le on st un g. sound-effect w [] (begun p (log w (event.CallBegun p c)) here c)
     (passes (goes-begun p w here c d (λ e. open_executor w c e on))) g _)
 
 -- and that what is to do speaks of futures that are there

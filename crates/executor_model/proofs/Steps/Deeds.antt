@@ -8,6 +8,7 @@ use Rattle.std.specs.Prelude.{Option, Some, None}
 use Rattle.task_moves.specs.declared.moves.owed.Answer.{Answer}
 use Rattle.task_moves.specs.declared.moves.owed.Moved.{Moved}
 use Rattle.task_moves.specs.Moves as moves
+use Rattle.task_moves.specs.declared.moves.owed.Move.{Move}
 use Rattle.executor_model.specs.declared.call.Call.{Call}
 use Rattle.executor_model.specs.declared.call.Call.TheVariants as call
 use Rattle.executor_model.specs.declared.event.Answer.TheVariants as answer
@@ -41,6 +42,7 @@ use Rattle.executor_model.specs.declared.step.UserEnd.{UserEnd}
 use Rattle.executor_model.specs.declared.step.UserEnd.TheVariants as end
 use Rattle.executor_model.specs.Trace.{Trace, has}
 use Rattle.executor_model.specs.World.{World, Done, log, log_if, task, put}
+use Rattle.executor_model.specs.Acts.{is_last_waker, is_told, let_go_by, move_by, told_as}
 use Rattle.executor_model.specs.Acts.{append_by, take_by, enter_by, leave_by, copy_by, look_by}
 use Rattle.executor_model.specs.Acts.{look_again_by, copy_awaiter_by, register_by, end_register_by}
 use Rattle.executor_model.specs.Acts.{notify_by, call_waker, drop_next_by, wake, wake_next_by, drain_by}
@@ -112,6 +114,22 @@ grows-and w v u a b = record {
 
 -- each thing to do, but for the end of a call
 
+told-call : (m : Move) (p f : ℕ) → is_of_call (told_as m p f) ≡ false
+told-call move.TakeUp p f = refl
+told-call move.Cancel p f = refl
+told-call move.Detach p f = refl
+told-call _ p f = refl
+
+told-doer : (m : Move) (p f : ℕ) → doer (told_as m p f) ≡ p
+told-doer move.TakeUp p f = refl
+told-doer move.Cancel p f = refl
+told-doer move.Detach p f = refl
+told-doer _ p f = refl
+
+grows-let_go : {p : ℕ} (b : Bool) (w : World) (f : ℕ) → Grows p w (let_go_by b w f).world
+grows-let_go true w f = grows-same _ _ refl
+grows-let_go false w f = grows-same _ _ refl
+
 grows-append : {p : ℕ} (b : Bool) (w : World) (f : ℕ) → Grows p w (append_by b w f).world
 grows-append true w f = grows-same _ _ refl
 grows-append false w f = grows-same _ _ refl
@@ -164,6 +182,13 @@ grows-end_register false w f a k = grows-same _ _ refl
 grows-notify : {p : ℕ} (b : Bool) (w : World) (f : ℕ) (mine : Bool) → Grows p w (notify_by b w f mine).world
 grows-notify true w f mine = grows-same _ _ refl
 grows-notify false w f mine = grows-same _ _ refl
+
+grows-move : (b : Bool) (m : Move) (p : ℕ) (w : World) (f : ℕ) → Grows p w (move_by b m p w f).world
+grows-move true m p w f =
+    let v = log_if (is_told m (task w f)) w (told_as m p f) in
+    grows-and w v _ (grows-log_if (is_told m (task w f)) w v (told_as m p f) refl (told-call m p f) (told-doer m p f))
+    (grows-log_if (is_last_waker m (task w f)) v _ (event.LastWaker p f) refl refl refl)
+grows-move false m p w f = grows-same _ _ refl
 
 grows-wake : (p : ℕ) (w : World) (f : ℕ) → Grows p w (wake p w f).world
 grows-wake p w f = grows-log_if _ w _ (event.Woken p f) refl refl refl
@@ -236,11 +261,7 @@ pub grows-act : (p : ℕ) (h : Hint) (o : Op) (w : World) → is_end o ≡ false
 grows-act p h (op.Table table_op.Enter) w n = grows-enter _ _ p w
 grows-act p h (op.Queue queue_op.Take) w n = grows-take _ w
 grows-act p h (op.Queue (queue_op.Append f)) w n = grows-append _ w f
-grows-act p h (op.Move move.WakeByReference f) w n = grows-log_if _ w _ (event.Woken p f) refl refl refl
-grows-act p h (op.Move move.Wake f) w n = grows-wake p w f
-grows-act p h (op.Move move.TakeUp f) w n = grows-log_if _ w _ (event.PollBegun p f) refl refl refl
-grows-act p h (op.Move move.Cancel f) w n = grows-log_if _ w _ (event.Cancelled p f) refl refl refl
-grows-act p h (op.Move move.Detach f) w n = grows-log_if _ w _ (event.Detached p f) refl refl refl
+grows-act p h (op.Move m f) w n = grows-move _ m p w f
 grows-act p h (op.User (user_op.BeginDrop f)) w n = grows-log _ _ (event.Dropped p f) refl refl refl
 grows-act p h (op.Table (table_op.LeaveTable f)) w n = grows-leave _ w f
 grows-act p h (op.User (user_op.BeginDropOutput f)) w n = grows-log _ _ (event.OutputDropped p f) refl refl refl
@@ -253,6 +274,7 @@ grows-act p h (op.Handle (handle_op.EndRegister f a k)) w n = grows-end_register
 grows-act p h (op.Handle (handle_op.LookAgain f)) w n =
     grows-again (moves.look_again (task w f)).owed.answer p w f (moves.look_again (task w f))
 grows-act p h (op.Handle (handle_op.Notify f mine)) w n = grows-notify _ w f mine
+grows-act p h (op.Handle (handle_op.LetGo f)) w n = grows-let_go _ w f
 grows-act p h (op.Waker (waker_op.CallAwaiter f a k)) w n = grows-call p w (of.Handle f) a k
 grows-act p h (op.Sleeper o) w n = grows-sleeper p o w
 grows-act p h (op.Tick o) w n = grows-same _ _ (tick-trace h o w)

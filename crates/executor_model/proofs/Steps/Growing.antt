@@ -148,6 +148,7 @@ module _ (n m : ℕ) (h : n ≤ m) where
   more (op.Handle (handle_op.LookAgain f)) z = more-one f z
   more (op.Handle (handle_op.Notify f mine)) z = more-one f z
   more (op.Handle (handle_op.EndNotify f mine)) z = more-one f z
+  more (op.Handle (handle_op.LetGo f)) z = more-one f z
   more (op.Waker (waker_op.CallAwaiter f a k)) z = more-two f a z
   more (op.Sleeper (sleeper_op.CallSleeper s)) z = waker_past-more n m s.waker h z
   more (op.Tick (tick_op.Search s)) z = waker_past-more n m s.waker h z

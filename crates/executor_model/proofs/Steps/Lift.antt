@@ -6,6 +6,7 @@ use Rattle.std.proofs.Common.{subst, arith, append-nil, get_or-set_same}
 use Rattle.std.proofs.Math.ListN.{length-set}
 use Rattle.std.proofs.lemmas.Bool.Decides.{nat_tests}
 use Rattle.std.specs.Prelude.{Option, Some, None, slice_get, reverse}
+use Rattle.executor_model.specs.declared.kind.Kind.{Kind}
 use Rattle.executor_model.specs.declared.call.Call.{Call}
 use Rattle.executor_model.specs.declared.event.Answer.TheVariants as answer
 use Rattle.executor_model.specs.declared.event.Event.TheVariants as event
@@ -204,12 +205,13 @@ good-begin : (s : Machine) (p : ℕ) (c : Call) → p < length s.parties →
     Good (with_part s p (part_after s.world (stack s p) (Begin p c)))
 good-begin s p c l n good =
     let f : _ = none_refused (is_free (top (stack s p))) (has_all s.world s.parties (top (stack s p)) c)
-    (not (s.world.gone && is_on_executor c)) (not (is_drop c) || is_unborrowed s.world s.parties) n in
+    (not (s.world.gone && is_on_executor c)) (not (is_drop c && s.world.is_static))
+    (not (is_drop c) || is_unborrowed s.world s.parties) n in
     let own : set s.parties p (stack s p) ≡ s.parties = set-own s.parties p l in
     good-onto s p [] (stack s p) (begun p (log s.world (event.CallBegun p c)) (mine (top (stack s p))) c) l
     (sym (append-nil (stack s p)))
     (sound-begun s.world p s.parties (set s.parties p (stack s p)) (mine (top (stack s p))) c
-    (λ v. omega (arith, ap (weigh_all v) own)) f.2 (unused c s.world s.parties f.3))
+    (λ v. omega (arith, ap (weigh_all v) own)) f.2 f.4 (unused c s.world s.parties f.3))
     (begins s.world p s.parties (top (stack s p)) (mine (top (stack s p))) c
     (here-known s p (top (stack s p)) l refl good) f.1) good
 
@@ -249,8 +251,8 @@ pub weigh_all-idle : (v : Op → ℕ) (n : ℕ) → weigh_all v (idle n) ≡ 0
 weigh_all-idle v zero = refl
 weigh_all-idle v (suc n) = omega (arith, weigh_all-idle v n)
 
-pub good-start : (limit n : ℕ) → Good (start limit n)
-good-start limit n = record {
+pub good-start : (limit : ℕ) (kind : Kind) (n : ℕ) → Good (start limit kind n)
+good-start limit kind n = record {
   fits = record {
     queue = refl;
     own = refl;
@@ -264,12 +266,12 @@ good-start limit n = record {
     inside = refl;
   };
   ops = weigh_all-idle (past_of 0) n;
-  sound = λ g. subst (Sound (start limit n).world g) (sym (pend-none g (idle n) (λ v. weigh_all-idle v n)))
-      (none_sound limit g);
+  sound = λ g. subst (Sound (start limit kind n).world g) (sym (pend-none g (idle n) (λ v. weigh_all-idle v n)))
+      (none_sound limit kind g);
 }
   where
-    none_sound : (limit g : ℕ) → Sound (start limit 0).world g none
-    none_sound limit g = grind arith
+    none_sound : (limit : ℕ) (kind : Kind) (g : ℕ) → Sound (start limit kind 0).world g none
+    none_sound limit kind g = grind arith
 
-pub good : (limit n : ℕ) (ts : List Step) → Good (run ts (start limit n))
-good limit n ts = good-run ts (start limit n) (good-start limit n)
+pub good : (limit : ℕ) (kind : Kind) (n : ℕ) (ts : List Step) → Good (run ts (start limit kind n))
+good limit kind n ts = good-run ts (start limit kind n) (good-start limit kind n)

@@ -112,6 +112,8 @@ needs s p (op.Handle (handle_op.Notify f m)) h e good =
     below _ f (speaks s p (op.Handle (handle_op.Notify f m)) h e good)
 needs s p (op.Handle (handle_op.EndNotify f m)) h e good =
     keeps_awaiter s f good (speaks s p (op.Handle (handle_op.EndNotify f m)) h e good)
+needs s p (op.Handle (handle_op.LetGo f)) h e good =
+    keeps_awaiter s f good (speaks s p (op.Handle (handle_op.LetGo f)) h e good)
 needs s p (op.Waker (waker_op.CallAwaiter f a k)) h e good =
     can_wake s a good (omega (arith, speaks s p (op.Waker (waker_op.CallAwaiter f a k)) h e good))
 needs s p (op.Closing closing_op.DropNext) h e good =

@@ -1,7 +1,7 @@
 -- For all laws.
 -- What a move of a task owes weighs nothing in a count in which no operation that may be owed does,
 -- whatever that count is.
-use Rattle.std.proofs.Common.{◌≡◌, ℕ, List, [], ◌∷◌, ◌++◌, Bool, true, false, refl, arith}
+use Rattle.std.proofs.Common.{◌≡◌, ℕ, List, [], ◌∷◌, ◌++◌, Bool, true, false, refl, arith, ◌&&◌}
 use Rattle.std.specs.Prelude.{Option, Some, None}
 use Rattle.task_moves.specs.declared.schedule_info.ScheduleInfo.{ScheduleInfo}
 use Rattle.task_moves.specs.declared.moves.owed.Move.{Move}
@@ -18,7 +18,7 @@ use Rattle.executor_model.specs.declared.op.HandleOp.TheVariants as handle_op
 use Rattle.executor_model.specs.declared.op.QueueOp.TheVariants as queue_op
 use Rattle.executor_model.specs.declared.op.TableOp.TheVariants as table_op
 use Rattle.executor_model.specs.declared.op.UserOp.TheVariants as user_op
-use Rattle.executor_model.specs.Carried.{schedule_ops, future_ops, output_ops, awaiter_ops, next_ops, owed_ops}
+use Rattle.executor_model.specs.Carried.{schedule_ops, drops, emptied_ops, future_ops, output_ops, awaiter_ops, next_ops, owed_ops}
 use Rattle.executor_model.specs.Weights.{weigh}
 use Rattle.executor_model.proofs.Steps.Lists.{weigh-append}
 
@@ -31,6 +31,7 @@ pub record FewOwed (v : Op → ℕ) (f : ℕ) : Type 0 where
   pub give_up : v (op.Move move.GiveUp f) ≡ 0
   pub end_closed : v (op.Move move.EndClosed f) ≡ 0
   pub detach : v (op.Move move.Detach f) ≡ 0
+  pub let_go : v (op.Handle (handle_op.LetGo f)) ≡ 0
 
 pub record NoFuture (v : Op → ℕ) (f : ℕ) : Type 0 where
   pub poll : v (op.Table (table_op.TakeToPoll f)) ≡ 0
@@ -76,10 +77,15 @@ module _ (v : Op → ℕ) (f : ℕ) where
   follows h (Some _) = refl
   follows h None = refl
 
+  emptied : FewOwed v f → (b : Bool) → weigh v (emptied_ops b f) ≡ 0
+  emptied h true = one _ h.let_go
+  emptied h false = refl
+
   pub both : (xs ys : List Op) → weigh v xs ≡ 0 → weigh v ys ≡ 0 → weigh v (xs ++ ys) ≡ 0
   both xs ys a b = omega (arith, weigh-append v xs ys, a, b)
 
   pub owed-nothing : FewOwed v f → (there : Bool) (o : Owed) → weigh v (future_ops there f o.future) ≡ 0 →
       weigh v (awaiter_ops f o.awaiter) ≡ 0 → weigh v (owed_ops there f o) ≡ 0
   owed-nothing h there o a b =
-      both _ _ (both _ _ (both _ _ (both _ _ (scheduled h o.schedule) a) (output h o.drop_output)) b) (follows h o.next)
+      both _ _ (both _ _ (both _ _ (both _ _ (both _ _ (scheduled h o.schedule) a) (output h o.drop_output)) b)
+      (follows h o.next)) (emptied h (o.empty_cell && drops o.future))

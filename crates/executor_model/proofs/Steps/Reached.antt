@@ -3,6 +3,7 @@
 use Rattle.std.proofs.Common.{◌≡◌, ℕ, List, [], ◌∷◌, ◌++◌}
 use Rattle.std.proofs.Common.{refl, sym, ap, ◌∙◌, subst, Ok, Err, Result}
 use Rattle.std.specs.Prelude.{Option, Some, None}
+use Rattle.executor_model.specs.declared.kind.Kind.{Kind}
 use Rattle.executor_model.specs.declared.step.Step.{Step}
 use Rattle.executor_model.specs.declared.step.StepError.{StepError}
 use Rattle.executor_model.specs.Executions.{run_all}
@@ -34,9 +35,10 @@ run-then t ts s new e k = ap (then ts) (step-made s t e) ∙ k
 -- some steps of a new machine led here
 pub record Reached (s : Machine) : Type 0 where
   pub limit : ℕ
+  pub kind : Kind
   pub parties : ℕ
   pub steps : List Step
-  pub is : s ≡ run steps (start limit parties)
+  pub is : s ≡ run steps (start limit kind parties)
 
 run-append : (xs ys : List Step) (s : Machine) → run (xs ++ ys) s ≡ run ys (run xs s)
 run-append [] ys s = refl
@@ -51,17 +53,18 @@ run-of (t ∷ ts) s new e =
 pub reached-more : (ts : List Step) (s new : Machine) → Reached s → run_all ts s ≡ Ok new → Reached new
 reached-more ts s new r e = record {
   limit = r.limit;
+  kind = r.kind;
   parties = r.parties;
   steps = r.steps ++ ts;
   is = sym (run-of ts s new e)
-      ∙ (ap (λ (m : Machine). run ts m) r.is ∙ sym (run-append r.steps ts (start r.limit r.parties)));
+      ∙ (ap (λ (m : Machine). run ts m) r.is ∙ sym (run-append r.steps ts (start r.limit r.kind r.parties)));
 }
 
 pub reached-step : (s : Machine) (t : Step) → refusal s t ≡ None → Reached s → Reached (after s t)
 reached-step s t e r = reached-more (t ∷ []) s (after s t) r (run-then t [] s (after s t) e refl)
 
 pub good-here : (s : Machine) → Reached s → Good s
-good-here s r = subst Good (sym r.is) (good r.limit r.parties r.steps)
+good-here s r = subst Good (sym r.is) (good r.limit r.kind r.parties r.steps)
 
 pub deep-here : (s : Machine) → Reached s → Deep s
-deep-here s r = subst Deep (sym r.is) (deep r.limit r.parties r.steps)
+deep-here s r = subst Deep (sym r.is) (deep r.limit r.kind r.parties r.steps)

@@ -57,6 +57,7 @@ pub record Same (w v : World) : Type 0 where
   pub waking : v.waking ≡ w.waking
   pub wakers : v.wakers ≡ w.wakers
   pub sleepers : v.sleepers.wakers ≡ w.sleepers.wakers
+  pub is_static : v.is_static ≡ w.is_static
   pub gone : v.gone ≡ w.gone
   pub trace : v.trace ≡ w.trace
 
@@ -74,6 +75,7 @@ same-here w rs qs ls l = record {
   waking = refl;
   wakers = refl;
   sleepers = refl;
+  is_static = refl;
   gone = refl;
   trace = refl;
 }
@@ -92,6 +94,7 @@ same-taken w = record {
   waking = refl;
   wakers = refl;
   sleepers = refl;
+  is_static = refl;
   gone = refl;
   trace = refl;
 }
@@ -189,6 +192,7 @@ same-trans a b = record {
   waking = b.waking ∙ a.waking;
   wakers = b.wakers ∙ a.wakers;
   sleepers = b.sleepers ∙ a.sleepers;
+  is_static = b.is_static ∙ a.is_static;
   gone = b.gone ∙ a.gone;
   trace = b.trace ∙ a.trace;
 }
@@ -393,6 +397,7 @@ same-rooms w s e = record {
   waking = refl;
   wakers = refl;
   sleepers = e;
+  is_static = refl;
   gone = refl;
   trace = refl;
 }

@@ -105,7 +105,11 @@ module _ (t : Event → Bool) (u : (e : Event) → is_ordinary e ≡ true → t 
   grows-told : (b : Bool) (m : Move) (p : ℕ) (w v : World) (f : ℕ) → t (acts.told_as m p f) ≡ false → Grows w v →
       Grows w (acts.move_by b m p v f).world
   grows-told true m p w v f z k =
-      grows-log_if (acts.is_told m (task v f)) w v (acts.move_by true m p v f).world (acts.told_as m p f) z refl k
+      let a = acts.told_as m p f in
+      let c = acts.is_told m (task v f) in
+      let e = event.LastWaker p f in
+      grows-log_if (acts.is_last_waker m (task v f)) w (log_if c v a) (acts.move_by true m p v f).world e (u e refl) refl
+      (grows-log_if c w v (log_if c v a) a z refl k)
   grows-told false m p w v f z k = k
 
   grows-move : (b : Bool) (m : Move) (p : ℕ) (w v : World) (f : ℕ) → is_take_up m ≡ false → Grows w v →
@@ -184,6 +188,10 @@ module _ (t : Event → Bool) (u : (e : Event) → is_ordinary e ≡ true → t 
   grows-notify : (b : Bool) (w : World) (f : ℕ) (own : Bool) → Grows w (acts.notify_by b w f own).world
   grows-notify true w f own = grows w (acts.notify_by true w f own).world refl
   grows-notify false w f own = grows w (acts.notify_by false w f own).world refl
+
+  grows-let_go : (b : Bool) (w : World) (f : ℕ) → Grows w (acts.let_go_by b w f).world
+  grows-let_go true w f = grows w w refl
+  grows-let_go false w f = grows w (acts.let_go_by false w f).world refl
 
   grows-drop_next : (p : ℕ) (w : World) (ls : List ℕ) → Grows w (acts.drop_next_by p w ls).world
   grows-drop_next p w [] = grows w w refl
@@ -270,6 +278,7 @@ module _ (t : Event → Bool) (u : (e : Event) → is_ordinary e ≡ true → t 
   grows-act p h (op.Handle (handle_op.LookAgain f)) w z =
       grows-again (moves.look_again (task w f)).owed.answer p w f (moves.look_again (task w f))
   grows-act p h (op.Handle (handle_op.Notify f own)) w z = grows-notify _ w f own
+  grows-act p h (op.Handle (handle_op.LetGo f)) w z = grows-let_go _ w f
   grows-act p h (op.Sleeper sleeper_op.ExchangeFlag) w z = grows-exchange _ w
   grows-act p h (op.Sleeper sleeper_op.HandOut) w z = grows-hand_out _ _ w
   grows-act p h (op.Sleeper (sleeper_op.CallSleeper s)) w z = grows-call p w (sleepers.polled_as s.who) s.waker s.poll

@@ -5,6 +5,7 @@ use Rattle.std.proofs.Common.{◌≡◌, ℕ, zero, suc, ◌+◌, ◌<◌, ◌�
 use Rattle.std.proofs.Common.{Bool, true, false, ◌&&◌, not, refl, subst, inl, ⊎_elim, arith}
 use Rattle.std.proofs.lemmas.Bool.Decides.{nat_tests}
 use Rattle.std.specs.Prelude.{reverse, nat_lt}
+use Rattle.executor_model.specs.declared.kind.Kind.{Kind}
 use Rattle.executor_model.specs.declared.call.Reply.{Reply}
 use Rattle.executor_model.specs.declared.event.Event.TheVariants as event
 use Rattle.executor_model.specs.declared.op.Hold.{Hold}
@@ -153,11 +154,11 @@ bare-idle : (n : ℕ) → bare_all (idle n) ≡ 0
 bare-idle zero = refl
 bare-idle (suc n) = omega (arith, bare-idle n)
 
-pub placed-start : (limit n : ℕ) → Placed (start limit n)
-placed-start limit n = record { leaves = λ g. view-start Entered limit n g (none_placed limit g); bare = bare-idle n }
+pub placed-start : (limit : ℕ) (kind : Kind) (n : ℕ) → Placed (start limit kind n)
+placed-start limit kind n = record { leaves = λ g. view-start Entered limit kind n g (none_placed limit kind g); bare = bare-idle n }
   where
-    none_placed : (limit g : ℕ) → Entered (seen (start limit 0).world g none no_extra)
-    none_placed limit g = grind (arith, story-none)
+    none_placed : (limit : ℕ) (kind : Kind) (g : ℕ) → Entered (seen (start limit kind 0).world g none no_extra)
+    none_placed limit kind g = grind (arith, story-none)
 
-pub placed : (limit n : ℕ) (ts : List Step) → Placed (run ts (start limit n))
-placed limit n ts = along Placed placed-moves placed-ends ts (start limit n) (good-start limit n) (placed-start limit n)
+pub placed : (limit : ℕ) (kind : Kind) (n : ℕ) (ts : List Step) → Placed (run ts (start limit kind n))
+placed limit kind n ts = along Placed placed-moves placed-ends ts (start limit kind n) (good-start limit kind n) (placed-start limit kind n)

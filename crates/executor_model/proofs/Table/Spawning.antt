@@ -5,6 +5,7 @@ use Rattle.std.proofs.Common.{Bool, true, false, not, refl, sym, ap, ◌∙◌, 
 use Rattle.std.proofs.lemmas.Bool.Decides.{nat_tests}
 use Rattle.std.proofs.lemmas.List.{get_or_past, append_cancel_left, append_assoc, length-append}
 use Rattle.std.specs.Prelude.{Option, Some, None, slice_get, nat_lt}
+use Rattle.executor_model.specs.declared.kind.Kind.{Kind}
 use Rattle.executor_model.specs.declared.call.Reply.{Reply}
 use Rattle.executor_model.specs.declared.call.Reply.TheVariants as reply
 use Rattle.executor_model.specs.declared.event.Event.{Event}
@@ -158,6 +159,6 @@ module _ (s : Machine) (fine : Good s) (h : Placed s) where
         };
   }
 
-pub limits : (limit parties : ℕ) (steps : List Step) → IsLimitExact (run steps (start limit parties))
-limits limit parties steps = limit-exact (run steps (start limit parties)) (good limit parties steps)
-    (placed limit parties steps)
+pub limits : (limit : ℕ) (kind : Kind) (parties : ℕ) (steps : List Step) → IsLimitExact (run steps (start limit kind parties))
+limits limit kind parties steps = limit-exact (run steps (start limit kind parties)) (good limit kind parties steps)
+    (placed limit kind parties steps)

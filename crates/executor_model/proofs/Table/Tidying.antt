@@ -23,7 +23,7 @@ use Rattle.executor_model.specs.Carried.{owed_ops, future_ops, awaiter_ops}
 use Rattle.executor_model.specs.Acts.{append_by, take_by, enter_by, copy_by, look_by, look_again_by}
 use Rattle.executor_model.specs.Acts.{copy_awaiter_by}
 use Rattle.executor_model.specs.Acts.{register_by, waker_goes, let_go, end_register_by, notify_by, told}
-use Rattle.executor_model.specs.Acts.{call_awaiter}
+use Rattle.executor_model.specs.Acts.{call_awaiter, let_go_by}
 use Rattle.executor_model.specs.Acts.{closing_ops, drop_next_by, wake, wake_next_by, drain_by}
 use Rattle.executor_model.specs.Weights.{weigh}
 use Rattle.executor_model.proofs.Steps.Lists.{weigh-append}
@@ -47,6 +47,7 @@ light-owed f there o z =
       give_up = refl;
       end_closed = refl;
       detach = refl;
+      let_go = refl;
     }) there o z (light-awaiter f o.awaiter)
 
 -- a move at which no future is owed
@@ -122,6 +123,10 @@ light-goes (Outside x) = refl
 light-let_go : (a : Option Awaiter) → weigh uses_of (let_go a) ≡ 0
 light-let_go None = refl
 light-let_go (Some a) = light-goes a.waker
+
+pub light-let_go_by : (b : Bool) (w : World) (f : ℕ) → weigh uses_of (let_go_by b w f).next ≡ 0
+light-let_go_by true w f = refl
+light-let_go_by false w f = light-let_go (awaiter_of w f)
 
 pub light-end_register : (b : Bool) (w : World) (f : ℕ) (a : Waker) (k : ℕ) →
     weigh uses_of (end_register_by b w f a k).next ≡ 0

@@ -29,7 +29,7 @@ use Rattle.executor_model.proofs.Table.Borrowing.{uses_of, Tidy, tidy-light}
 use Rattle.executor_model.proofs.Table.Tidying.{light-again, light-append, light-call, light-carried, light-closing}
 use Rattle.executor_model.proofs.Table.Tidying.{light-copy, light-copy_awaiter, light-drain, light-drop_next}
 use Rattle.executor_model.proofs.Table.Tidying.{light-end_register, light-enter, light-look, light-notify, light-owed}
-use Rattle.executor_model.proofs.Table.Tidying.{light-register, light-told, light-wake, light-wake_next, no-cancel, no-detach}
+use Rattle.executor_model.proofs.Table.Tidying.{light-register, light-let_go_by, light-told, light-wake, light-wake_next, no-cancel, no-detach}
 use Rattle.executor_model.proofs.Table.Tidying.{no-give_up, no-release, no-wake, tidy-take, tidy-using}
 use Rattle.executor_model.proofs.Table.RunsTidying.{light-drop_run, light-poll_run, tidy-list, tidy-run, tidy-steal}
 use Rattle.executor_model.proofs.Table.SleepersTidying.{tidy-sleeper, tidy-tick}
@@ -81,6 +81,7 @@ tidy-act p h (op.Handle (handle_op.LookAgain f)) w n =
     tidy-light _ _ (light-again (moves.look_again (task w f)).owed.answer p w f (moves.look_again (task w f)))
 tidy-act p h (op.Handle (handle_op.Notify f mine)) w n = tidy-light _ _ (light-notify _ w f mine)
 tidy-act p h (op.Handle (handle_op.EndNotify f mine)) w n = tidy-light _ _ (light-told _ f (awaiter_of w f))
+tidy-act p h (op.Handle (handle_op.LetGo f)) w n = tidy-light _ _ (light-let_go_by _ w f)
 tidy-act p h (op.Waker (waker_op.CallAwaiter f a k)) w n = tidy-light _ _ (light-call p w f a k)
 tidy-act p h (op.Sleeper o) w n = tidy-sleeper p o w
 tidy-act p h (op.Tick o) w n = tidy-tick h o w

@@ -17,23 +17,23 @@ within-bound : (s : Machine) (r : ℕ) → HasOwnRoom s r → IsWithinBound s r
 within-bound s r h = omega (arith, h, few-places (nat_lt r (length s.world.own)))
 
 pub returns-clause-used : goal.returns-clause-used
-returns-clause-used g limit parties steps r = is-used-once limit parties steps r
+returns-clause-used g limit kind parties steps r = is-used-once limit kind parties steps r
 
 pub returns-clause-listed : goal.returns-clause-listed
-returns-clause-listed g limit parties steps r = lists-agree limit parties steps r
+returns-clause-listed g limit kind parties steps r = lists-agree limit kind parties steps r
 
 pub returns-clause-locked : goal.returns-clause-locked
-returns-clause-locked g limit parties steps = lock-agrees limit parties steps
+returns-clause-locked g limit kind parties steps = lock-agrees limit kind parties steps
 
 pub returns-clause-roomy : goal.returns-clause-roomy
-returns-clause-roomy g limit parties steps r = has-own-room limit parties steps r
+returns-clause-roomy g limit kind parties steps r = has-own-room limit kind parties steps r
 
 pub returns-clause-empty : goal.returns-clause-empty
-returns-clause-empty g limit parties steps r = is-empty-meanwhile limit parties steps r
+returns-clause-empty g limit kind parties steps r = is-empty-meanwhile limit kind parties steps r
 
 pub returns-clause-kept : goal.returns-clause-kept
-returns-clause-kept g limit parties steps r = own-queue-has-runner limit parties steps r
+returns-clause-kept g limit kind parties steps r = own-queue-has-runner limit kind parties steps r
 
 pub returns-clause-bounded : goal.returns-clause-bounded
-returns-clause-bounded g limit parties steps r =
-    within-bound (run steps (start limit parties)) r (has-own-room limit parties steps r)
+returns-clause-bounded g limit kind parties steps r =
+    within-bound (run steps (start limit kind parties)) r (has-own-room limit kind parties steps r)

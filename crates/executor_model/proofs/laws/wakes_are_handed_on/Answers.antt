@@ -7,5 +7,5 @@ pub returns-clause-handed : goal.returns-clause-handed
 returns-clause-handed g w f p h = hands-on w f p h
 
 pub returns-clause-marked : goal.returns-clause-marked
-returns-clause-marked g limit parties steps f =
-    on-its-way (run steps (start limit parties)) f (good limit parties steps)
+returns-clause-marked g limit kind parties steps f =
+    on-its-way (run steps (start limit kind parties)) f (good limit kind parties steps)

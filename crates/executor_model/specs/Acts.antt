@@ -343,6 +343,24 @@ wake_next_by p w (f ∷ rest) = followed (wake p (record w { waking = rest }) f)
 abbrev pub wake_next : ℕ → World → Done
 wake_next p w = wake_next_by p w w.waking
 
+-- the executor's leak
+
+abbrev pub leaking_ops : List ℕ → List Op
+leaking_ops [] = []
+leaking_ops (f ∷ ws) = op.Closing closing_op.LeakNext ∷ []
+
+-- the table's wakers are to be woken, in the order of acceptance, and it has none from now on
+abbrev pub leak_out : World → Done
+leak_out w = done (record w { is_static = true; waking = w.waking ++ w.table }) (leaking_ops (w.waking ++ w.table))
+
+abbrev pub leak_next_by : ℕ → World → List ℕ → Done
+leak_next_by p w [] = done w []
+leak_next_by p w (f ∷ rest) =
+    followed (wake p (log (record w { waking = rest }) (event.Leaked p f)) f) (leaking_ops rest)
+
+abbrev pub leak_next : ℕ → World → Done
+leak_next p w = leak_next_by p w w.waking
+
 abbrev pub close : World → Done
 close w = done (record w { queue = shut w.queue }) (op.Closing closing_op.Drain ∷ [])
 

@@ -152,8 +152,8 @@ fn is_on_executor(call: Call) -> bool
 }
 
 /// What the owner of the executor alone does.
-fn is_drop(call: Call) -> bool
-    ensures { result ≡ steps.is_drop call }
+fn is_owners(call: Call) -> bool
+    ensures { result ≡ steps.is_owners call }
 {
     match call {
         Call::Leak => true,
@@ -191,10 +191,10 @@ fn begin_refusal(
     if is_on_executor(call) && !is_unused(parties, Use::Leak) {
         return Some(StepError::Gone);
     }
-    if is_drop(call) && store.is_static {
+    if is_owners(call) && store.is_static {
         return Some(StepError::Gone);
     }
-    if is_drop(call) && !is_unborrowed(store, parties) {
+    if is_owners(call) && !is_unborrowed(store, parties) {
         return Some(StepError::Borrowed);
     }
     None

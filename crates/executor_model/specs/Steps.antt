@@ -168,11 +168,15 @@ is_on_executor call.Leak = true
 is_on_executor call.DropExecutor = true
 is_on_executor _ = false
 
--- what its owner alone does, and once
 abbrev pub is_drop : Call → Bool
-is_drop call.Leak = true
 is_drop call.DropExecutor = true
 is_drop _ = false
+
+-- what its owner alone does, and once
+abbrev pub is_owners : Call → Bool
+is_owners call.Leak = true
+is_owners call.DropExecutor = true
+is_owners _ = false
 
 -- refused so where the test says no, and else as the later tests say
 abbrev pub unless : Bool → StepError → Option StepError → Option StepError
@@ -189,8 +193,8 @@ begin_refusal w ss o c =
     (unless (has_all w ss o c) NoSuch
     (unless (not (w.gone && is_on_executor c)) Gone
     (unless (not (is_on_executor c) || is_unused leaking_of ss) Gone
-    (unless (not (is_drop c && w.is_static)) Gone
-    (unless (not (is_drop c) || is_unborrowed w ss) Borrowed None)))))
+    (unless (not (is_owners c && w.is_static)) Gone
+    (unless (not (is_owners c) || is_unborrowed w ss) Borrowed None)))))
 
 -- another party has the lock of the list of queues, and not both walk under its read lock
 abbrev pub is_locked_out : Lock → Op → Bool

@@ -100,6 +100,9 @@ fn leak_out(store: &mut Store, todo: &mut Vec<Op>)
     requires space { HasSpace todo.old }
     ensures { Does (acts.leak_out (world_of store.old)) store.new todo.old.items todo.new.items }
 {
+    if store.is_static || store.gone {
+        return;
+    }
     store.entries.list_to(&mut store.waking);
     store.is_static = true;
     if !store.waking.is_empty() {
@@ -114,6 +117,9 @@ fn leak_next(store: &mut Store, todo: &mut Vec<Op>, party: u32)
     requires needs { (f : ℕ) (rest : List ℕ) → store.old.waking.items ≡ f ∷ rest → CanGrow (world_of store.old) f }
     ensures { Does (acts.leak_next party (world_of store.old)) store.new todo.old.items todo.new.items }
 {
+    if store.gone {
+        return;
+    }
     let Some(f) = store.waking.pop_front() else {
         return;
     };

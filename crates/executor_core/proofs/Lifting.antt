@@ -4,6 +4,7 @@ use Rattle.std.proofs.Common.{map, get_or, set, take, add-one, refl, sym}
 use Rattle.std.proofs.Common.{ap, ◌∙◌, subst, arith, Ok, Err, Result, Vec, Global}
 use Rattle.std.specs.Prelude.{Some, None}
 use Rattle.std.proofs.lemmas.List.{take_more}
+use Rattle.executor_model.specs.declared.kind.Kind.{Kind}
 use Rattle.executor_model.specs.declared.op.Op.{Op}
 use Rattle.executor_model.specs.declared.step.Step.{Step}
 use Rattle.executor_model.specs.declared.step.StepError.{StepError}
@@ -130,11 +131,11 @@ idle-push ps v n e q = items-append ps (v ∷ []) ∙ ap (λ (x : List (List Op)
     (λ i. (q i, e i)) ∙ idle-more n
 
 pub started :
-    (limit : ℕ) (w : World) (ps : List (Vec Op Global)) (n m : ℕ)
-    → w ≡ (start limit 0).world → items ps ≡ idle n → n ≡ m → state w ps ≡ start limit m
-started limit w ps n m e q r = λ i. record { world = e i; parties = (q ∙ ap idle r) i }
+    (limit : ℕ) (kind : Kind) (w : World) (ps : List (Vec Op Global)) (n m : ℕ)
+    → w ≡ (start limit kind 0).world → items ps ≡ idle n → n ≡ m → state w ps ≡ start limit kind m
+started limit kind w ps n m e q r = λ i. record { world = e i; parties = (q ∙ ap idle r) i }
 
 pub starts :
-    (limit : ℕ) (w : World) (ps : List (Vec Op Global)) (n : ℕ)
-    → w ≡ (start limit 0).world → items ps ≡ idle n → IsReached (state w ps)
-starts limit w ps n e q = begins (state w ps) limit n (started limit w ps n n e q refl)
+    (limit : ℕ) (kind : Kind) (w : World) (ps : List (Vec Op Global)) (n : ℕ)
+    → w ≡ (start limit kind 0).world → items ps ≡ idle n → IsReached (state w ps)
+starts limit kind w ps n e q = begins (state w ps) limit kind n (started limit kind w ps n n e q refl)

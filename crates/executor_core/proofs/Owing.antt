@@ -13,11 +13,12 @@ pub reverse_before : (t s x : List Op) → t ++ reverse (s ++ x) ≡ (t ++ rever
 reverse_before t s x = ap (λ (l : List Op). t ++ l) (reverse-append s x) ∙ sym (append_assoc t (reverse x) (reverse s))
 
 pub reverse_owed :
-    (t s f o a n : List Op)
-    → t ++ reverse (s ++ (f ++ (o ++ (a ++ n)))) ≡ ((((t ++ reverse n) ++ reverse a) ++ reverse o) ++ reverse f)
-    ++ reverse s
-reverse_owed t s f o a n =
-    reverse_before t s (f ++ (o ++ (a ++ n)))
-    ∙ ap (λ (l : List Op). l ++ reverse s) (reverse_before t f (o ++ (a ++ n))
-    ∙ ap (λ (l : List Op). l ++ reverse f) (reverse_before t o (a ++ n)
-    ∙ ap (λ (l : List Op). l ++ reverse o) (reverse_before t a n)))
+    (t s f o a n m : List Op)
+    → t ++ reverse (s ++ (f ++ (o ++ (a ++ (n ++ m)))))
+    ≡ (((((t ++ reverse m) ++ reverse n) ++ reverse a) ++ reverse o) ++ reverse f) ++ reverse s
+reverse_owed t s f o a n m =
+    reverse_before t s (f ++ (o ++ (a ++ (n ++ m))))
+    ∙ ap (λ (l : List Op). l ++ reverse s) (reverse_before t f (o ++ (a ++ (n ++ m)))
+    ∙ ap (λ (l : List Op). l ++ reverse f) (reverse_before t o (a ++ (n ++ m))
+    ∙ ap (λ (l : List Op). l ++ reverse o) (reverse_before t a (n ++ m)
+    ∙ ap (λ (l : List Op). l ++ reverse a) (reverse_before t n m))))

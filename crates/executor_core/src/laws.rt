@@ -2,8 +2,8 @@
 ghost use Rattle.executor_model.specs.AskedPolls.{IsWokenBetweenPolls};
 ghost use Rattle.executor_model.specs.AwaiterKept.{AwaiterIsKept};
 ghost use Rattle.executor_model.specs.DroppedOnce.{DropComesOnce, IsDroppedByTheEnd};
-ghost use Rattle.executor_model.specs.EarlyDrop.{EarlyDropHasCause};
-ghost use Rattle.executor_model.specs.EveryTrace.{EveryTrace};
+ghost use Rattle.executor_model.specs.EarlyDrop.{EarlyDropHasCause, LastWakerIsLast};
+ghost use Rattle.executor_model.specs.EveryTrace.{EveryTrace, EveryTraceBy};
 ghost use Rattle.executor_model.specs.LawfulPolls.{HasLawfulPolls};
 ghost use Rattle.executor_model.specs.OutputOnce.{OutputGoesOnce};
 ghost use Rattle.executor_model.specs.Executions.{EveryMachine};
@@ -27,7 +27,7 @@ use executor_model::laws::{
 };
 use executor_model::trace_laws::{
     awaiters_are_kept, closing_drops_each_future_once, drops_come_once, early_drops_have_causes,
-    outputs_go_once, polls_are_asked_for, polls_are_lawful,
+    last_wakers_are_of_detached_futures, outputs_go_once, polls_are_asked_for, polls_are_lawful,
 };
 
 /// Whatever the parties do, all laws hold of the machine to which it leads. Does nothing, and takes no memory.
@@ -73,7 +73,8 @@ fn laws_of_traces()
     ensures asked { EveryTrace IsWokenBetweenPolls }
     ensures outputs { EveryTrace OutputGoesOnce }
     ensures drops { EveryTrace DropComesOnce }
-    ensures causes { EveryTrace EarlyDropHasCause }
+    ensures causes { EveryTraceBy EarlyDropHasCause }
+    ensures last_wakers { EveryTraceBy LastWakerIsLast }
     ensures by_the_end { EveryTrace IsDroppedByTheEnd }
     ensures awaiters { EveryTrace AwaiterIsKept }
     ensures standing { EveryTrace SomeStandingIsCalled }
@@ -84,6 +85,7 @@ fn laws_of_traces()
     outputs_go_once();
     drops_come_once();
     early_drops_have_causes();
+    last_wakers_are_of_detached_futures();
     closing_drops_each_future_once();
     awaiters_are_kept();
     some_standing_is_called();

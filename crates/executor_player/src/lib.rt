@@ -7,7 +7,7 @@ mod desk;
 mod errors;
 mod future;
 mod handle;
-mod kinds;
+mod leaks;
 mod outside;
 mod own;
 mod player;

@@ -16,29 +16,12 @@ use std::alloc::Global;
 use std::rc::Rc;
 use std::sync::Wait;
 
-/// Plays a script in a realm, as `Plays::play` says.
+/// Plays a script in a realm, as `Plays` says. Those of its commands at these places are `leak`, in place of `end`.
 pub fn play_script<F, H, K, R>(
     rt: R,
     alloc: Global,
     realm: &'static ScriptRealm<R>,
     script: &[u8],
-) -> Result<Vec<u8>, PlayError>
-where
-    F: Planned<H, R>,
-    H: HoldIn<R>,
-    K: KeepIn<R>,
-    R: Wait + Copy + Drop + 'static,
-{
-    play_of_kind::<F, H, K, R>(rt, alloc, realm, script, false, &[])
-}
-
-/// Plays a script on an executor of this kind. Those of its commands at these places are `leak`, in place of `end`.
-pub fn play_of_kind<F, H, K, R>(
-    rt: R,
-    alloc: Global,
-    realm: &'static ScriptRealm<R>,
-    script: &[u8],
-    is_static: bool,
     leaks: &[usize],
 ) -> Result<Vec<u8>, PlayError>
 where
@@ -66,7 +49,7 @@ where
         alloc,
         realm,
         &stage,
-        is_static,
+        script.is_static,
         script.limit as usize,
         commands,
     );

@@ -3,9 +3,9 @@
 use crate::errors::PlayError;
 use crate::future::{Planned, Scripted};
 use crate::handle::{Handle, HoldIn};
-use crate::kinds::read_kinds;
+use crate::leaks::read_leaks;
 use crate::outside::ScriptRealm;
-use crate::playing::{play_of_kind, play_script};
+use crate::playing::play_script;
 use crate::shelf::{KeepIn, Keeper};
 use std::alloc::Global;
 use std::marker::PhantomData;
@@ -13,15 +13,14 @@ use std::sync::Wait;
 
 /// Where scripts are played, each on an executor of its own.
 pub trait Plays {
-    /// Plays a script of `taskrun sim` on an executor of its own, and gives the text of what happens: that of the simulator. It
+    /// Plays a script of `taskrun sim` on an executor of its own, owned or static, and gives the text of what happens: that of the simulator. It
     /// takes whole calls of one party; `begin`, `go`, `finish` and `refuse` are `NotWhole`. Before anything is played the first
-    /// bad line is refused, and then the first that isn't whole.
+    /// bad line is refused, and then the first that isn't whole. A static executor has no `end`, and `empty` is answered there by
+    /// the player's own count of drops.
     fn play(&self, script: &[u8]) -> Result<Vec<u8>, PlayError>;
 
-    /// The same of a script whose first line may end with ` static`, so that its executor is one, and which may have lines
-    /// `leak`, by which it becomes one. A static executor has no `end`, and `empty` is answered by the player's own count of
-    /// drops.
-    fn play_kinds(&self, script: &[u8]) -> Result<Vec<u8>, PlayError>;
+    /// The same of a script that may have lines `leak`, by which its executor becomes a static one.
+    fn play_leaks(&self, script: &[u8]) -> Result<Vec<u8>, PlayError>;
 }
 
 /// Where the futures of scripts are `F`, their handles `H`, and who keeps their wakers `K`. The tasks of all scripts lie in the
@@ -45,18 +44,17 @@ where
     R: Wait + Copy + Drop + 'static,
 {
     fn play(&self, script: &[u8]) -> Result<Vec<u8>, PlayError> {
-        play_script::<F, H, K, R>(self.rt, self.alloc, self.realm, script)
+        play_script::<F, H, K, R>(self.rt, self.alloc, self.realm, script, &[])
     }
 
-    fn play_kinds(&self, script: &[u8]) -> Result<Vec<u8>, PlayError> {
-        let kinds = read_kinds(self.alloc, script)?;
-        play_of_kind::<F, H, K, R>(
+    fn play_leaks(&self, script: &[u8]) -> Result<Vec<u8>, PlayError> {
+        let leaks = read_leaks(self.alloc, script)?;
+        play_script::<F, H, K, R>(
             self.rt,
             self.alloc,
             self.realm,
-            kinds.text.as_slice(),
-            kinds.is_static,
-            kinds.leaks.as_slice(),
+            leaks.text.as_slice(),
+            leaks.places.as_slice(),
         )
     }
 }

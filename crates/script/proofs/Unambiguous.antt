@@ -11,7 +11,7 @@ use Rattle.script.specs.declared.command.Request.{Request}
 use Rattle.script.specs.declared.plain.Plain.{Plain}
 use Rattle.script.specs.declared.plain.Plain.TheVariants as plain
 use Rattle.text_lines.specs.Lines.{lines_of, words_of}
-use Rattle.script.specs.Script.{IsCommand, Says, IsScript}
+use Rattle.script.specs.Script.{kind_words, IsCommand, Says, IsScript}
 use Rattle.script.specs.declared.item.Item.{Item}
 use Rattle.script.specs.declared.item.Item.TheVariants.{Pend, WakeSelf, Keep, Ready, Twice}
 use Rattle.script.specs.declared.command.Command.{Command}
@@ -143,16 +143,28 @@ Spells-one (Go party) (Finish other) words p q = grind arith
 Spells-one (Finish party) (Begin other request) words p q = grind arith
 Spells-one (Finish party) (Go other) words p q = grind arith
 
-Says-one : (limit other : ℕ) (commands others : List Command) (lines : List (List ℕ)) → Says limit commands lines →
-    Says other others lines → (limit ≡ other) × (commands ≡ others)
-Says-one limit other commands others [] p q = absurd p
-Says-one limit other commands others (first ∷ later) p q =
-    let digits : p.0.0 ≡ q.0.0 = cc in (
+kinds-one : (is_static other : Bool) (words more : List (List ℕ)) → words ≡ more → words ≡ kind_words is_static →
+    more ≡ kind_words other → is_static ≡ other
+kinds-one true true words more same p q = refl
+kinds-one true false words more same p q = cc
+kinds-one false true words more same p q = cc
+kinds-one false false words more same p q = refl
+
+Says-one : (limit other : ℕ) (is_static is_other : Bool) (commands others : List Command) (lines : List (List ℕ)) →
+    Says limit is_static commands lines → Says other is_other others lines →
+    (limit ≡ other) × (is_static ≡ is_other) × (commands ≡ others)
+Says-one limit other is_static is_other commands others [] p q = absurd p
+Says-one limit other is_static is_other commands others (first ∷ later) p q =
+    let digits : p.0.0 ≡ q.0.0 = cc in
+    let kinds : kind_words is_static ≡ kind_words is_other = cc in (
       IsNumber-one p.0.0 q.0.0 limit other digits p.0.2 q.0.2,
+      kinds-one is_static is_other (kind_words is_static) (kind_words is_other) kinds refl refl,
       AllZip-one IsCommand (λ x y line. Spells-one x y (words_of line)) commands others later p.1 q.1,
     )
 
--- a text is a script of at most one limit and one list of commands
-pub IsScript-one : (text : List ℕ) (limit other : ℕ) (commands others : List Command) →
-    IsScript text limit commands → IsScript text other others → (limit ≡ other) × (commands ≡ others)
-IsScript-one text limit other commands others p q = Says-one limit other commands others (lines_of text) p.says q.says
+-- a text is a script of at most one limit, one kind and one list of commands
+pub IsScript-one : (text : List ℕ) (limit other : ℕ) (is_static is_other : Bool) (commands others : List Command) →
+    IsScript text limit is_static commands → IsScript text other is_other others →
+    (limit ≡ other) × (is_static ≡ is_other) × (commands ≡ others)
+IsScript-one text limit other is_static is_other commands others p q =
+    Says-one limit other is_static is_other commands others (lines_of text) p.says q.says

@@ -1,12 +1,12 @@
 -- Which line of a text is the first that no script has there.
-use Rattle.std.specs.Prelude.{ℕ, zero, suc, ◌<◌, List}
+use Rattle.std.specs.Prelude.{ℕ, Bool, zero, suc, ◌<◌, List}
 use Rattle.text_lines.specs.BadLine.{IsFirstBad}
-use Rattle.script.specs.Script.{IsLimit, IsCommand, IsShort}
+use Rattle.script.specs.Script.{IsFirstLine, IsCommand, IsShort}
 use Rattle.script.specs.declared.command.Command.{Command}
 
--- a line in the grammar of its place: the first says a limit, a later one a command
+-- a line in the grammar of its place: the first says a limit and a kind, a later one a command
 abbrev pub IsSpelled : ℕ → List ℕ → Type 0
-IsSpelled zero line = (limit : ℕ) × IsLimit limit line
+IsSpelled zero line = (limit : ℕ) × (is_static : Bool) × IsFirstLine limit is_static line
 IsSpelled (suc before) line = (command : Command) × IsCommand command line
 
 -- a line is good behind this many lines

@@ -1,4 +1,4 @@
-//! A script: how many futures the executor has places for, and the commands, one a line.
+//! A script: how many futures the executor has places for, whether it is static, and the commands, one a line.
 #![tactic(auto)]
 
 mod command;
@@ -26,5 +26,7 @@ pub use word::Word;
 pub struct Script {
     /// How many futures may be accepted and not yet dropped: 1 to 1,000,000.
     pub limit: u64,
+    /// The executor is static from the first.
+    pub is_static: bool,
     pub commands: Vec<Command>,
 }

@@ -1,7 +1,7 @@
 //! A text read as a script.
 
-ghost use Rattle.std.specs.Prelude.{◌≡◌, ◌↔◌, ℕ, suc, ◌+◌, ◌<◌, [], List, None, Ok, Err, IfNone, IfOk, IfSome, IsErrOf, IsOkUnless};
-ghost use Rattle.script.specs.Script.{IsLimit, IsCommand, IsShort, IsScript};
+ghost use Rattle.std.specs.Prelude.{◌≡◌, ◌≢◌, ◌↔◌, Bool, ℕ, suc, ◌+◌, ◌<◌, [], List, None, Ok, Err, IfNone, IfOk, IfSome, IsErrOf, IsOkUnless};
+ghost use Rattle.script.specs.Script.{kind_words, IsFirstLine, IsCommand, IsShort, IsScript};
 ghost use Rattle.script.specs.BadLine.{IsGood, IsFirstBadLine};
 ghost use Rattle.script.specs.declared.command.Command.{Command};
 
@@ -25,26 +25,26 @@ const MOST_LINES: usize = 10_000;
 pub fn parse(alloc: Global, text: &[u8]) -> Result<Option<Script>, ParseError>
     // What is read is in the grammar, and the empty text alone has no line.
     ensures script { IfOk result (λ found.
-        IfSome found (λ script. IsScript text.now script.limit script.commands.items)) }
+        IfSome found (λ script. IsScript text.now script.limit script.is_static script.commands.items)) }
     ensures empty { (result ≡ Ok None) ↔ (text.now ≡ []) }
 
     // A line is called bad only where it is the first that no script has there, so nothing in the
     // grammar is refused.
     ensures bad { (number : ℕ) →
         IsErrOf result (ParseError.BadLine number) → IsFirstBadLine text.now number }
-    ensures accepts { (limit : ℕ) (commands : List Command) →
-        IsScript text.now limit commands → IsOkUnless result ParseError.NoMemory }
+    ensures accepts { (limit : ℕ) (is_static : Bool) (commands : List Command) →
+        IsScript text.now limit is_static commands → IsOkUnless result ParseError.NoMemory }
 
     // What is read is all that the text can say.
-    ensures only { (limit : ℕ) (commands : List Command) → IsScript text.now limit commands →
-        IfOk result (λ found. IfSome found (λ script.
-        (script.limit ≡ limit) × (script.commands.items ≡ commands))) }
+    ensures only { (limit : ℕ) (is_static : Bool) (commands : List Command) →
+        IsScript text.now limit is_static commands → IfOk result (λ found. IfSome found (λ script.
+        (script.limit ≡ limit) × (script.is_static ≡ is_static) × (script.commands.items ≡ commands))) }
 {
     let mut lines = Lines::of(text);
     let Some(first) = lines.next() else {
         return Ok(None);
     };
-    let Some(limit) = read_limit(first) else {
+    let Some(opening) = read_opening(first) else {
         return Err(ParseError::BadLine(1));
     };
     let mut commands = Vec::new(alloc);
@@ -52,13 +52,26 @@ pub fn parse(alloc: Global, text: &[u8]) -> Result<Option<Script>, ParseError>
         let command = read_command(alloc, commands.len(), line)?;
         commands.push(command)?;
     }
-    Ok(Some(Script { limit, commands }))
+    Ok(Some(Script {
+        limit: opening.limit,
+        is_static: opening.is_static,
+        commands,
+    }))
 }
 
-/// The limit that a first line says, where it is a good one.
-fn read_limit(line: &[u8]) -> Option<u64>
-    ensures found { IfSome result (λ limit. IsLimit limit line.now × IsShort line.now) }
-    ensures none { IfNone result ((limit : ℕ) → IsLimit limit line.now → ¬ (IsShort line.now)) }
+/// What a first line says.
+#[derive(Clone, Copy)]
+struct Opening {
+    limit: u64,
+    is_static: bool,
+}
+
+/// What this line says as a first one, where it is a good one.
+fn read_opening(line: &[u8]) -> Option<Opening>
+    ensures found { IfSome result (λ opening.
+        IsFirstLine opening.limit opening.is_static line.now × IsShort line.now) }
+    ensures none { IfNone result ((limit : ℕ) (is_static : Bool) →
+        IsFirstLine limit is_static line.now → ¬ (IsShort line.now)) }
 {
     if line.len() > LONGEST_LINE {
         return None;
@@ -68,7 +81,22 @@ fn read_limit(line: &[u8]) -> Option<u64>
         return None;
     }
     let limit = words.next().and_then(|word| read_number(word))?;
-    (words.is_empty() && 1 <= limit && limit <= MOST_PLACES).then_some(limit)
+    let is_static = read_kind(words)?;
+    (1 <= limit && limit <= MOST_PLACES).then_some(Opening { limit, is_static })
+}
+
+/// Whether the executor is static, by the words behind its limit: none, or one.
+fn read_kind(mut words: Words<'_>) -> Option<bool>
+    ensures found { IfSome result (λ is_static. words.entry ≡ kind_words is_static) }
+    ensures none { IfNone result ((is_static : Bool) → words.entry ≢ kind_words is_static) }
+{
+    let Some(word) = words.next() else {
+        return Some(false);
+    };
+    if word != b"static".as_slice() {
+        return None;
+    }
+    words.is_empty().then_some(true)
 }
 
 /// The command of a line behind the first line and this many commands.

@@ -39,7 +39,7 @@ use Rattle.simulator.specs.declared.play.future.Stage.{Stage}
 use Rattle.simulator.specs.declared.play.future.Stage.TheVariants as stage
 use Rattle.simulator.specs.declared.play.party.Doing.{Doing}
 use Rattle.simulator.specs.Play as play
-use Rattle.simulator.specs.Play.{Player, plain_at, party, set_party, future, set_future, run, set_run, top, tried, taken}
+use Rattle.simulator.specs.Play.{Player, kind_of, plain_at, party, set_party, future, set_future, run, set_run, top, tried, taken}
 use Rattle.simulator.specs.Play.{shown, noted, accepted, accepted_by, accepted_as, replied, kept_at}
 use Rattle.simulator.specs.Play.{refused_at, unkept_by, item_of, last, later, ended}
 use Rattle.simulator.specs.Turn as turns
@@ -61,12 +61,12 @@ run-push : (ts : List Step) (t : Step) (m : Machine) →
 run-push [] t m = refl
 run-push (x ∷ ts) t m = run-push ts t (steps.stepped m (steps.step m x))
 
--- the moments of a player are those of its machine, which came of the steps
-abbrev Comes : ℕ → List Step → Machine → List Moment → Type 0
-Comes limit ts m moments = (steps.run ts (steps.start limit 10) ≡ m) × (happened moments ≡ m.world.trace)
+-- the moments of a player are those of its machine, which came of the steps of the first
+abbrev Comes : Machine → List Step → Machine → List Moment → Type 0
+Comes first ts m moments = (steps.run ts first ≡ m) × (happened moments ≡ m.world.trace)
 
-abbrev pub IsFair : ℕ → Player → Type 0
-IsFair limit s = Comes limit s.tried s.machine s.moments
+abbrev pub IsFair : Machine → Player → Type 0
+IsFair first s = Comes first s.tried s.machine s.moments
 
 -- whether what a player shows is fair depends on no more than its machine, its steps and its moments
 record Same (s new : Player) : Type 0 where
@@ -74,9 +74,9 @@ record Same (s new : Player) : Type 0 where
   tried : new.tried ≡ s.tried
   moments : new.moments ≡ s.moments
 
-same-fair : (limit : ℕ) (s new : Player) → Same s new → IsFair limit s → IsFair limit new
-same-fair limit s new e k = (
-  ap (λ (ts : List Step). steps.run ts (steps.start limit 10)) e.tried ∙ (k.0 ∙ sym e.machine),
+same-fair : (first : Machine) (s new : Player) → Same s new → IsFair first s → IsFair first new
+same-fair first s new e k = (
+  ap (λ (ts : List Step). steps.run ts first) e.tried ∙ (k.0 ∙ sym e.machine),
   ap happened e.moments ∙ (k.1 ∙ ap (λ (m : Machine). m.world.trace) (sym e.machine)),
 )
 
@@ -131,14 +131,14 @@ learns None s = own s
 learns (Some _) s = own s
 
 module _ (continues : (m : Machine) (t : Step) →
-    IsContinued m.world.trace (steps.stepped m (steps.step m t)).world.trace) (limit : ℕ) where
+    IsContinued m.world.trace (steps.stepped m (steps.step m t)).world.trace) (first : Machine) where
   -- a step that is tried
 
-  fair-taken : (t : Step) (s : Player) (r : Result Machine StepError) → steps.step s.machine t ≡ r → IsFair limit s →
-      IsFair limit (taken r (record s { tried = s.tried ++ t ∷ [] }))
+  fair-taken : (t : Step) (s : Player) (r : Result Machine StepError) → steps.step s.machine t ≡ r → IsFair first s →
+      IsFair first (taken r (record s { tried = s.tried ++ t ∷ [] }))
   unfolding shown
   fair-taken t s (Err e) q k = (
-    run-push s.tried t (steps.start limit 10)
+    run-push s.tried t first
         ∙ (ap (λ (m : Machine). steps.stepped m (steps.step m t)) k.0 ∙ ap (steps.stepped s.machine) q),
     k.1,
   )
@@ -160,69 +160,69 @@ module _ (continues : (m : Machine) (t : Step) →
       ∙ (ap (λ (es : List Event). s.machine.world.trace ++ es)
       (happened-all (later (length s.machine.world.trace) m.world.trace) ∙ behind)
       ∙ sym on.1)) in
-      let steps_here : steps.run here.tried (steps.start limit 10) ≡ m =
-      run-push s.tried t (steps.start limit 10)
+      let steps_here : steps.run here.tried first ≡ m =
+      run-push s.tried t first
       ∙ (ap (λ (x : Machine). steps.stepped x (steps.step x t)) k.0 ∙ ap (steps.stepped s.machine) q) in
-      same-fair limit here (noted (last (later (length s.machine.world.trace) m.world.trace)) here)
+      same-fair first here (noted (last (later (length s.machine.world.trace) m.world.trace)) here)
       (learns (last (later (length s.machine.world.trace) m.world.trace)) here) (steps_here, all)
 
-  fair-tried : (t : Step) (s : Player) → IsFair limit s → IsFair limit (tried t s)
+  fair-tried : (t : Step) (s : Player) → IsFair first s → IsFair first (tried t s)
   unfolding tried
   fair-tried t s k = fair-taken t s (steps.step s.machine t) refl k
 
-  fair-ended : (w : Word) (o : Outcome) (s : Player) → IsFair limit s → IsFair limit (ended w o s)
+  fair-ended : (w : Word) (o : Outcome) (s : Player) → IsFair first s → IsFair first (ended w o s)
   fair-ended w o s k = (k.0, happened-append s.moments (Ended w o ∷ []) ∙ (append-nil (happened s.moments) ∙ k.1))
 
-  fair-stop : (s : Player) → IsFair limit s → IsFair limit (play.stop s)
+  fair-stop : (s : Player) → IsFair first s → IsFair first (play.stop s)
   fair-stop s k = (k.0, happened-append s.moments (Stopped ∷ []) ∙ (append-nil (happened s.moments) ∙ k.1))
 
   -- a turn
 
-  fair-given : (f : ℕ) (w : Waker) (s : Player) → IsFair limit s → IsFair limit (turns.given f w s)
+  fair-given : (f : ℕ) (w : Waker) (s : Player) → IsFair first s → IsFair first (turns.given f w s)
   unfolding turns.given
   fair-given f w s k = k
 
-  fair-go : (p : ℕ) (o : Op) (s : Player) → IsFair limit s → IsFair limit (turns.go p o s)
+  fair-go : (p : ℕ) (o : Op) (s : Player) → IsFair first s → IsFair first (turns.go p o s)
   unfolding turns.go
   fair-go p o s k = fair-tried _ s k
 
-  fair-answer : (p : ℕ) (e : UserEnd) (s : Player) → IsFair limit s → IsFair limit (turns.answer p e s)
+  fair-answer : (p : ℕ) (e : UserEnd) (s : Player) → IsFair first s → IsFair first (turns.answer p e s)
   unfolding turns.answer
   fair-answer p e s k = fair-tried _ s k
 
-  fair-go_on : (p : ℕ) (o : Op) (s : Player) → IsFair limit s → IsFair limit (turns.go_on p o s)
+  fair-go_on : (p : ℕ) (o : Op) (s : Player) → IsFair first s → IsFair first (turns.go_on p o s)
   unfolding turns.go_on
   fair-go_on p (op.User (user_op.DropOutput f)) s k = fair-answer p _ s k
   fair-go_on p (op.User (user_op.CallOutside x)) s k = fair-answer p _ s k
   fair-go_on p o s k = fair-go p o s k
 
-  fair-pending : (p f : ℕ) (s : Player) → IsFair limit s → IsFair limit (turns.end_pending p f s)
+  fair-pending : (p f : ℕ) (s : Player) → IsFair first s → IsFair first (turns.end_pending p f s)
   unfolding turns.end_pending
   fair-pending p f s k = fair-answer p _ _ k
 
-  fair-ready : (p f v : ℕ) (s : Player) → IsFair limit s → IsFair limit (turns.end_ready p f v s)
+  fair-ready : (p f v : ℕ) (s : Player) → IsFair first s → IsFair first (turns.end_ready p f v s)
   unfolding turns.end_ready
   fair-ready p f v s k = fair-answer p _ _ k
 
-  fair-ask : (p f : ℕ) (c : Call) (s : Player) → IsFair limit s → IsFair limit (turns.ask p f c s)
+  fair-ask : (p f : ℕ) (c : Call) (s : Player) → IsFair first s → IsFair first (turns.ask p f c s)
   unfolding turns.ask
   fair-ask p f c s k = fair-tried _ _ k
 
-  fair-end_by : (o : Option ℕ) (p f : ℕ) (s : Player) → IsFair limit s → IsFair limit (turns.end_by o p f s)
+  fair-end_by : (o : Option ℕ) (p f : ℕ) (s : Player) → IsFair first s → IsFair first (turns.end_by o p f s)
   fair-end_by (Some v) p f s k = fair-ready p f v s k
   fair-end_by None p f s k = fair-pending p f s k
 
-  fair-other : (st : Stage) (p f g : ℕ) (s : Player) → IsFair limit s → IsFair limit (turns.poll_other st p f g s)
+  fair-other : (st : Stage) (p f g : ℕ) (s : Player) → IsFair first s → IsFair first (turns.poll_other st p f g s)
   unfolding turns.poll_other
   fair-other stage.Begun p f g s k = fair-ask p f _ _ (fair-given g _ s k)
   fair-other _ p f g s k = fair-end_by _ p f s k
 
-  fair-named : (o : Option ℕ) (p f : ℕ) (s : Player) → IsFair limit s → IsFair limit (turns.poll_named o p f s)
+  fair-named : (o : Option ℕ) (p f : ℕ) (s : Player) → IsFair first s → IsFair first (turns.poll_named o p f s)
   fair-named (Some g) p f s k = fair-other (future s f).stage p f g s k
   fair-named None p f s k = fair-pending p f s k
 
-  fair-poll_by : (i : Item) (st : Stage) (p f : ℕ) (s : Player) → IsFair limit s →
-      IsFair limit (turns.poll_by i st p f s)
+  fair-poll_by : (i : Item) (st : Stage) (p f : ℕ) (s : Player) → IsFair first s →
+      IsFair first (turns.poll_by i st p f s)
   fair-poll_by (item.Ready v) st p f s k = fair-ready p f v s k
   fair-poll_by (item.Twice name) st p f s k = fair-named (number_of s.names name) p f s k
   fair-poll_by item.Pend st p f s k = fair-pending p f s k
@@ -233,67 +233,67 @@ module _ (continues : (m : Machine) (t : Step) →
   fair-poll_by item.Keep (stage.Replaced old) p f s k = fair-ask p f _ s k
   fair-poll_by item.Keep stage.Asked p f s k = fair-pending p f s k
 
-  fair-poll : (p f : ℕ) (s : Player) → IsFair limit s → IsFair limit (turns.poll p f s)
+  fair-poll : (p f : ℕ) (s : Player) → IsFair first s → IsFair first (turns.poll p f s)
   unfolding turns.poll
   fair-poll p f s k = fair-poll_by _ (future s f).stage p f s k
 
-  fair-drop_named : (o : Option ℕ) (p : ℕ) (s : Player) → IsFair limit s → IsFair limit (turns.drop_named o p s)
+  fair-drop_named : (o : Option ℕ) (p : ℕ) (s : Player) → IsFair first s → IsFair first (turns.drop_named o p s)
   fair-drop_named (Some g) p s k = fair-tried _ s k
   fair-drop_named None p s k = fair-answer p _ s k
 
-  fair-drop_held : (place p f : ℕ) (s : Player) → IsFair limit s → IsFair limit (turns.drop_held place p f s)
+  fair-drop_held : (place p f : ℕ) (s : Player) → IsFair first s → IsFair first (turns.drop_held place p f s)
   unfolding turns.drop_held
   fair-drop_held place p f s k = fair-drop_named _ p _ k
 
-  fair-drop_next : (o : Option ℕ) (p f : ℕ) (s : Player) → IsFair limit s → IsFair limit (turns.drop_next o p f s)
+  fair-drop_next : (o : Option ℕ) (p f : ℕ) (s : Player) → IsFair first s → IsFair first (turns.drop_next o p f s)
   fair-drop_next (Some n) p f s k = fair-drop_held _ p f s k
   fair-drop_next None p f s k = fair-answer p _ s k
 
-  fair-drop : (p f : ℕ) (s : Player) → IsFair limit s → IsFair limit (turns.drop_future p f s)
+  fair-drop : (p f : ℕ) (s : Player) → IsFair first s → IsFair first (turns.drop_future p f s)
   unfolding turns.drop_future
   fair-drop p f s k = fair-drop_next _ p f s k
 
-  fair-end_own : (o : Option ℕ) (p r : ℕ) (s : Player) → IsFair limit s → IsFair limit (turns.end_own o p r s)
+  fair-end_own : (o : Option ℕ) (p r : ℕ) (s : Player) → IsFair first s → IsFair first (turns.end_own o p r s)
   fair-end_own (Some v) p r s k = fair-answer p _ _ k
   fair-end_own None p r s k = fair-answer p _ _ k
 
-  fair-poll_held : (b : Bool) (p : ℕ) (x : RunPoll) (f : ℕ) (s : Player) → IsFair limit s →
-      IsFair limit (turns.poll_held b p x f s)
+  fair-poll_held : (b : Bool) (p : ℕ) (x : RunPoll) (f : ℕ) (s : Player) → IsFair first s →
+      IsFair first (turns.poll_held b p x f s)
   unfolding turns.poll_held
   fair-poll_held true p x f s k = fair-end_own _ p x.run s k
   fair-poll_held false p x f s k = fair-tried _ _ (fair-given f _ _ k)
 
-  fair-poll_own_by : (o : Option ℕ) (p : ℕ) (x : RunPoll) (s : Player) → IsFair limit s →
-      IsFair limit (turns.poll_own_by o p x s)
+  fair-poll_own_by : (o : Option ℕ) (p : ℕ) (x : RunPoll) (s : Player) → IsFair first s →
+      IsFair first (turns.poll_own_by o p x s)
   fair-poll_own_by (Some f) p x s k = fair-poll_held (run s x.run).asked p x f s k
   fair-poll_own_by None p x s k = fair-answer p _ s k
 
-  fair-poll_own : (p : ℕ) (x : RunPoll) (s : Player) → IsFair limit s → IsFair limit (turns.poll_own p x s)
+  fair-poll_own : (p : ℕ) (x : RunPoll) (s : Player) → IsFair first s → IsFair first (turns.poll_own p x s)
   unfolding turns.poll_own
   fair-poll_own p x s k = fair-poll_own_by _ p x s k
 
-  fair-drop_twice : (b : Bool) (p r f : ℕ) (s : Player) → IsFair limit s → IsFair limit (turns.drop_twice b p r f s)
+  fair-drop_twice : (b : Bool) (p r f : ℕ) (s : Player) → IsFair first s → IsFair first (turns.drop_twice b p r f s)
   unfolding turns.drop_twice
   fair-drop_twice true p r f s k = fair-answer p _ s k
   fair-drop_twice false p r f s k = fair-tried _ _ k
 
-  fair-drop_own_by : (o : Option ℕ) (p r : ℕ) (s : Player) → IsFair limit s → IsFair limit (turns.drop_own_by o p r s)
+  fair-drop_own_by : (o : Option ℕ) (p r : ℕ) (s : Player) → IsFair first s → IsFair first (turns.drop_own_by o p r s)
   fair-drop_own_by (Some f) p r s k = fair-drop_twice (run s r).let_go p r f s k
   fair-drop_own_by None p r s k = fair-answer p _ s k
 
-  fair-drop_own : (p r : ℕ) (s : Player) → IsFair limit s → IsFair limit (turns.drop_own p r s)
+  fair-drop_own : (p r : ℕ) (s : Player) → IsFair first s → IsFair first (turns.drop_own p r s)
   unfolding turns.drop_own
   fair-drop_own p r s k = fair-drop_own_by _ p r s k
 
-  fair-outside : (p f : ℕ) (s : Player) → IsFair limit s → IsFair limit (turns.poll_outside p f s)
+  fair-outside : (p f : ℕ) (s : Player) → IsFair first s → IsFair first (turns.poll_outside p f s)
   unfolding turns.poll_outside
   fair-outside p f s k = fair-tried _ _ (fair-given f _ s k)
 
-  fair-cancelled : (o : Option ℕ) (p : ℕ) (s : Player) → IsFair limit s → IsFair limit (turns.poll_cancelled o p s)
+  fair-cancelled : (o : Option ℕ) (p : ℕ) (s : Player) → IsFair first s → IsFair first (turns.poll_cancelled o p s)
   fair-cancelled (Some f) p s k = fair-outside p f s k
   fair-cancelled None p s k = fair-answer p _ s k
 
-  fair-step : (o : Option Op) (p : ℕ) (s : Player) → IsFair limit s → IsFair limit (turns.step_by o p s)
+  fair-step : (o : Option Op) (p : ℕ) (s : Player) → IsFair first s → IsFair first (turns.step_by o p s)
   unfolding turns.step_by
   fair-step None p s k = fair-cancelled _ p s k
   fair-step (Some (op.User (user_op.Poll f))) p s k = fair-poll p f s k
@@ -304,51 +304,51 @@ module _ (continues : (m : Machine) (t : Step) →
 
   -- the end of a command
 
-  fair-held_by : (o : Option ℕ) (b : Bool) (s : Player) → IsFair limit s → IsFair limit (turns.held_by o b s)
+  fair-held_by : (o : Option ℕ) (b : Bool) (s : Player) → IsFair first s → IsFair first (turns.held_by o b s)
   fair-held_by (Some g) b s k = k
   fair-held_by None b s k = k
 
-  fair-held : (is : List Item) (b : Bool) (s : Player) → IsFair limit s → IsFair limit (turns.held is b s)
+  fair-held : (is : List Item) (b : Bool) (s : Player) → IsFair first s → IsFair first (turns.held is b s)
   unfolding turns.held
   fair-held [] b s k = k
   fair-held (item.Twice name ∷ is) b s k = fair-held is b _ (fair-held_by (number_of s.names name) b s k)
   fair-held (_ ∷ is) b s k = fair-held is b s k
 
-  fair-closed : (p : ℕ) (doing : Doing) (s : Player) → IsFair limit s → IsFair limit (turns.closed p doing s)
+  fair-closed : (p : ℕ) (doing : Doing) (s : Player) → IsFair first s → IsFair first (turns.closed p doing s)
   unfolding turns.closed
   fair-closed p doing s k =
       fair-ended (turns.word_at (plain_at s doing.command))
       (turns.outcome_of (party s p).reply (turns.output_of s (plain_at s doing.command))) (turns.does p None s) k
 
-  fair-given_back : (b : Bool) (is : List Item) (s : Player) → IsFair limit s → IsFair limit (turns.given_back b is s)
+  fair-given_back : (b : Bool) (is : List Item) (s : Player) → IsFair first s → IsFair first (turns.given_back b is s)
   fair-given_back true is s k = k
   fair-given_back false is s k = fair-held is false s k
 
-  fair-ticked_as : (o : Option ℕ) (name : List ℕ) (s : Player) → IsFair limit s → IsFair limit (play.ticked_as o name s)
+  fair-ticked_as : (o : Option ℕ) (name : List ℕ) (s : Player) → IsFair first s → IsFair first (play.ticked_as o name s)
   fair-ticked_as None name s k = k
   fair-ticked_as (Some t) name s k = k
 
-  fair-ticked : (b : Bool) (name : List ℕ) (s : Player) → IsFair limit s → IsFair limit (turns.ticked b name s)
+  fair-ticked : (b : Bool) (name : List ℕ) (s : Player) → IsFair first s → IsFair first (turns.ticked b name s)
   fair-ticked true name s k = fair-ticked_as (number_of s.ticks name) name s k
   fair-ticked false name s k = k
 
-  fair-ran_as : (o : Option ℕ) (name : List ℕ) (twice : Option (List ℕ)) (s : Player) → IsFair limit s →
-      IsFair limit (play.ran_as o name twice s)
+  fair-ran_as : (o : Option ℕ) (name : List ℕ) (twice : Option (List ℕ)) (s : Player) → IsFair first s →
+      IsFair first (play.ran_as o name twice s)
   fair-ran_as None name twice s k = k
   fair-ran_as (Some r) name twice s k = k
 
-  fair-ran : (b : Bool) (name : List ℕ) (twice : Option (List ℕ)) (s : Player) → IsFair limit s →
-      IsFair limit (turns.ran b name twice s)
+  fair-ran : (b : Bool) (name : List ℕ) (twice : Option (List ℕ)) (s : Player) → IsFair first s →
+      IsFair first (turns.ran b name twice s)
   fair-ran true name twice s k = fair-ran_as (number_of s.run_names name) name twice s k
   fair-ran false name twice s k = fair-held_by (turns.number_named s twice) false s k
 
-  fair-polls_next : (b : Bool) (p : ℕ) (doing : Doing) (s : Player) → IsFair limit s →
-      IsFair limit (turns.polls_next b p doing s)
+  fair-polls_next : (b : Bool) (p : ℕ) (doing : Doing) (s : Player) → IsFair first s →
+      IsFair first (turns.polls_next b p doing s)
   fair-polls_next true p doing s k = fair-closed p doing s k
   fair-polls_next false p doing s k = k
 
-  fair-settled_as : (o : Option Plain) (p : ℕ) (doing : Doing) (s : Player) → IsFair limit s →
-      IsFair limit (turns.settled_as o p doing s)
+  fair-settled_as : (o : Option Plain) (p : ℕ) (doing : Doing) (s : Player) → IsFair first s →
+      IsFair first (turns.settled_as o p doing s)
   unfolding turns.settled_as
   fair-settled_as (Some (plain.Cancel name)) p doing s k = fair-polls_next doing.polls p doing s k
   fair-settled_as (Some (plain.Spawn name items)) p doing s k =
@@ -363,33 +363,33 @@ module _ (continues : (m : Machine) (t : Step) →
   fair-settled_as None p doing s k = fair-closed p doing s k
   fair-settled_as (Some _) p doing s k = fair-closed p doing s k
 
-  fair-settled_by : (o : Option Doing) (p : ℕ) (s : Player) → IsFair limit s → IsFair limit (turns.settled_by o p s)
+  fair-settled_by : (o : Option Doing) (p : ℕ) (s : Player) → IsFair first s → IsFair first (turns.settled_by o p s)
   fair-settled_by (Some doing) p s k = fair-settled_as (plain_at s doing.command) p doing s k
   fair-settled_by None p s k = k
 
-  fair-settled : (o : Option Op) (p : ℕ) (s : Player) → IsFair limit s → IsFair limit (turns.settled o p s)
+  fair-settled : (o : Option Op) (p : ℕ) (s : Player) → IsFair first s → IsFair first (turns.settled o p s)
   fair-settled None p s k = fair-settled_by (party s p).doing p s k
   fair-settled (Some o) p s k = k
 
-  fair-settle : (p : ℕ) (s : Player) → IsFair limit s → IsFair limit (turns.settle p s)
+  fair-settle : (p : ℕ) (s : Player) → IsFair first s → IsFair first (turns.settle p s)
   unfolding turns.settle
   fair-settle p s k = fair-settled (top s p) p s k
 
-  fair-turn : (p : ℕ) (s : Player) → IsFair limit s → IsFair limit (turns.turn p s)
+  fair-turn : (p : ℕ) (s : Player) → IsFair first s → IsFair first (turns.turn p s)
   unfolding turns.turn
   fair-turn p s k = fair-settle p (turns.step_by (top s p) p s) (fair-step (top s p) p s k)
 
   -- a command
 
-  fair-unkept : (o : Option ℕ) (s : Player) → IsFair limit s → IsFair limit (commands.unkept o s)
+  fair-unkept : (o : Option ℕ) (s : Player) → IsFair first s → IsFair first (commands.unkept o s)
   fair-unkept (Some f) s k = k
   fair-unkept None s k = k
 
-  fair-polled : (o : Option ℕ) (s : Player) → IsFair limit s → IsFair limit (commands.polled_by o s)
+  fair-polled : (o : Option ℕ) (s : Player) → IsFair first s → IsFair first (commands.polled_by o s)
   fair-polled (Some f) s k = fair-given f _ s k
   fair-polled None s k = k
 
-  fair-started : (c : Plain) (s : Player) → IsFair limit s → IsFair limit (commands.started c s)
+  fair-started : (c : Plain) (s : Player) → IsFair first s → IsFair first (commands.started c s)
   unfolding commands.started
   fair-started (plain.Spawn name items) s k = fair-held items true s k
   fair-started (plain.Run name twice) s k = fair-held_by (turns.number_named s twice) true s k
@@ -397,82 +397,87 @@ module _ (continues : (m : Machine) (t : Step) →
   fair-started (plain.Poll name) s k = fair-polled (number_of s.names name) s k
   fair-started _ s k = k
 
-  fair-began : (b : Bool) (p at : ℕ) (c : Plain) (w : Word) (s : Player) → IsFair limit s →
-      IsFair limit (commands.began b p at c w s)
+  fair-began : (b : Bool) (p at : ℕ) (c : Plain) (w : Word) (s : Player) → IsFair first s →
+      IsFair first (commands.began b p at c w s)
   fair-began true p at c w s k = fair-started c _ k
   fair-began false p at c w s k = fair-ended w NotPossible s k
 
-  fair-begin_call : (p at : ℕ) (c : Plain) (w : Word) (x : Call) (s : Player) → IsFair limit s →
-      IsFair limit (commands.begin_call p at c w x s)
+  fair-begin_call : (p at : ℕ) (c : Plain) (w : Word) (x : Call) (s : Player) → IsFair first s →
+      IsFair first (commands.begin_call p at c w x s)
   unfolding commands.begin_call
   fair-begin_call p at c w x s k = fair-began (commands.is_possible (Begin p x) s) p at c w (tried (Begin p x) s)
       (fair-tried (Begin p x) s k)
 
-  fair-begin_by : (o : Option Call) (p at : ℕ) (c : Plain) (w : Word) (s : Player) → IsFair limit s →
-      IsFair limit (commands.begin_by o p at c w s)
+  fair-begin_by : (o : Option Call) (p at : ℕ) (c : Plain) (w : Word) (s : Player) → IsFair first s →
+      IsFair first (commands.begin_by o p at c w s)
   fair-begin_by (Some x) p at c w s k = fair-begin_call p at c w x s k
   fair-begin_by None p at c w s k = fair-ended w NotPossible s k
 
-  fair-begin_unless : (b : Bool) (p at : ℕ) (c : Plain) (w : Word) (s : Player) → IsFair limit s →
-      IsFair limit (commands.begin_unless b p at c w s)
+  fair-begin_unless : (b : Bool) (p at : ℕ) (c : Plain) (w : Word) (s : Player) → IsFair first s →
+      IsFair first (commands.begin_unless b p at c w s)
   fair-begin_unless true p at c w s k = fair-ended w NotPossible s k
   fair-begin_unless false p at c w s k = fair-begin_by (commands.call_of s c) p at c w s k
 
-  fair-begin : (p at : ℕ) (c : Plain) (w : Word) (s : Player) → IsFair limit s →
-      IsFair limit (commands.begin p at c w s)
+  fair-begin : (p at : ℕ) (c : Plain) (w : Word) (s : Player) → IsFair first s →
+      IsFair first (commands.begin p at c w s)
   unfolding commands.begin
   fair-begin p at c w s k = fair-begin_unless (commands.is_busy p s) p at c w s k
 
-  fair-turns : (n p : ℕ) (s : Player) → IsFair limit s → IsFair limit (commands.turns n p s)
+  fair-turns : (n p : ℕ) (s : Player) → IsFair first s → IsFair first (commands.turns n p s)
   fair-turns zero p s k = k
   fair-turns (suc n) p s k = fair-turn p (commands.turns n p s) (fair-turns n p s k)
 
-  fair-finishes : (p : ℕ) (s new : Player) → commands.Finishes p s new → IsFair limit s → IsFair limit new
-  fair-finishes p s new f k = subst (IsFair limit) (sym f.taken) (fair-turns f.count p s k)
+  fair-finishes : (p : ℕ) (s new : Player) → commands.Finishes p s new → IsFair first s → IsFair first new
+  fair-finishes p s new f k = subst (IsFair first) (sym f.taken) (fair-turns f.count p s k)
 
-  fair-stop_if : (b : Bool) (s : Player) → IsFair limit s → IsFair limit (commands.stop_if b s)
+  fair-stop_if : (b : Bool) (s : Player) → IsFair first s → IsFair first (commands.stop_if b s)
   fair-stop_if true s k = fair-stop s k
   fair-stop_if false s k = k
 
-  fair-plays_whole : (s new : Player) → commands.PlaysWhole s new → IsFair limit s → IsFair limit new
+  fair-plays_whole : (s new : Player) → commands.PlaysWhole s new → IsFair first s → IsFair first new
   fair-plays_whole s new e k =
-      subst (IsFair limit) (sym e.2) (fair-stop_if (commands.is_busy 0 e.0) e.0 (fair-finishes 0 s e.0 e.1 k))
+      subst (IsFair first) (sym e.2) (fair-stop_if (commands.is_busy 0 e.0) e.0 (fair-finishes 0 s e.0 e.1 k))
 
-  fair-go_once : (busy waits : Bool) (p : ℕ) (s : Player) → IsFair limit s → IsFair limit (commands.go busy waits p s)
+  fair-go_once : (busy waits : Bool) (p : ℕ) (s : Player) → IsFair first s → IsFair first (commands.go busy waits p s)
   fair-go_once true true p s k = fair-ended word.Go Waits s k
   fair-go_once true false p s k = fair-turn p s k
   fair-go_once false true p s k = fair-ended word.Go NotPossible s k
   fair-go_once false false p s k = fair-ended word.Go NotPossible s k
 
-  fair-wait_if : (b : Bool) (s : Player) → IsFair limit s → IsFair limit (commands.wait_if b s)
+  fair-wait_if : (b : Bool) (s : Player) → IsFair first s → IsFair first (commands.wait_if b s)
   fair-wait_if true s k = fair-ended word.Finish Waits s k
   fair-wait_if false s k = k
 
-  fair-plays_finish : (b : Bool) (p : ℕ) (s new : Player) → commands.PlaysFinish b p s new → IsFair limit s →
-      IsFair limit new
+  fair-plays_finish : (b : Bool) (p : ℕ) (s new : Player) → commands.PlaysFinish b p s new → IsFair first s →
+      IsFair first new
   fair-plays_finish true p s new e k =
-      subst (IsFair limit) (sym e.2) (fair-wait_if (commands.is_busy p e.0) e.0 (fair-finishes p s e.0 e.1 k))
-  fair-plays_finish false p s new e k = subst (IsFair limit) (sym e) (fair-ended word.Finish NotPossible s k)
+      subst (IsFair first) (sym e.2) (fair-wait_if (commands.is_busy p e.0) e.0 (fair-finishes p s e.0 e.1 k))
+  fair-plays_finish false p s new e k = subst (IsFair first) (sym e) (fair-ended word.Finish NotPossible s k)
 
-  fair-plays : (at : ℕ) (c : Command) (s new : Player) → commands.Plays at c s new → IsFair limit s → IsFair limit new
+  fair-plays : (at : ℕ) (c : Command) (s new : Player) → commands.Plays at c s new → IsFair first s → IsFair first new
   fair-plays at (command.Whole r) s new e k = fair-plays_whole (commands.begin 0 at r.plain (word_of r.plain) s) new e
       (fair-begin 0 at r.plain (word_of r.plain) s k)
-  fair-plays at (command.Begin p r) s new e k = subst (IsFair limit) (sym e) (fair-begin p at r.plain word.Begin s k)
-  fair-plays at (command.Go p) s new e k = subst (IsFair limit) (sym e)
+  fair-plays at (command.Begin p r) s new e k = subst (IsFair first) (sym e) (fair-begin p at r.plain word.Begin s k)
+  fair-plays at (command.Go p) s new e k = subst (IsFair first) (sym e)
       (fair-go_once (commands.is_busy p s) (commands.would_wait p s) p s k)
   fair-plays at (command.Finish p) s new e k = fair-plays_finish (commands.is_busy p s) p s new e k
 
   fair-plays_unless : (b : Bool) (at : ℕ) (c : Command) (s new : Player) → commands.PlaysUnless b at c s new →
-      IsFair limit s → IsFair limit new
-  fair-plays_unless true at c s new e k = subst (IsFair limit) (sym e) k
+      IsFair first s → IsFair first new
+  fair-plays_unless true at c s new e k = subst (IsFair first) (sym e) k
   fair-plays_unless false at c s new e k = fair-plays at c s new e k
 
-  fair-plays_all : (at : ℕ) (cs : List Command) (s new : Player) → commands.PlaysAll at cs s new → IsFair limit s →
-      IsFair limit new
-  fair-plays_all at [] s new e k = subst (IsFair limit) (sym e) k
+  fair-plays_all : (at : ℕ) (cs : List Command) (s new : Player) → commands.PlaysAll at cs s new → IsFair first s →
+      IsFair first new
+  fair-plays_all at [] s new e k = subst (IsFair first) (sym e) k
   fair-plays_all at (c ∷ cs) s new e k = fair-plays_all (suc at) cs e.0 new e.2
       (fair-plays_unless s.stopped at c s e.0 e.1 k)
-
   -- a whole script
-  pub fair : (cs : List Command) (new : Player) → commands.PlaysAll 0 cs (play.start cs limit) new → IsFair limit new
-  fair cs new e = fair-plays_all 0 cs (play.start cs limit) new e (refl, refl)
+
+pub fair : ((m : Machine) (t : Step) → IsContinued m.world.trace (steps.stepped m (steps.step m t)).world.trace) →
+    (limit : ℕ) (is_static : Bool) (cs : List Command) (new : Player) →
+    commands.PlaysAll 0 cs (play.start cs limit is_static) new →
+    IsFair (steps.start limit (kind_of is_static) 10) new
+fair continues limit is_static cs new e =
+    fair-plays_all continues (steps.start limit (kind_of is_static) 10) 0 cs (play.start cs limit is_static) new e
+    (refl, refl)

@@ -7,7 +7,8 @@ use Rattle.executor_model.specs.declared.call.Reply.{Reply}
 use Rattle.executor_model.specs.declared.call.Reply.TheVariants as reply
 use Rattle.executor_model.specs.declared.event.Event.{Event}
 use Rattle.executor_model.specs.declared.event.Event.TheVariants as event
-use Rattle.executor_model.specs.declared.kind.Kind.TheVariants.{Owned}
+use Rattle.executor_model.specs.declared.kind.Kind.{Kind}
+use Rattle.executor_model.specs.declared.kind.Kind.TheVariants.{Owned, Static}
 use Rattle.executor_model.specs.declared.op.Op.{Op}
 use Rattle.executor_model.specs.declared.op.Op.TheVariants as op
 use Rattle.executor_model.specs.declared.op.UserOp.TheVariants as user_op
@@ -97,10 +98,15 @@ new_run twice = record { twice = twice; asked = false; let_go = false; output = 
 abbrev pub idle : Party
 idle = record { doing = None; reply = reply.Done }
 
-abbrev pub start : List Command → ℕ → Player
-start commands limit = record {
+-- the kind of the executor that the first line names
+abbrev pub kind_of : Bool → Kind
+kind_of true = Static
+kind_of false = Owned
+
+abbrev pub start : List Command → ℕ → Bool → Player
+start commands limit is_static = record {
   commands = commands;
-  machine = steps.start limit Owned 10;
+  machine = steps.start limit (kind_of is_static) 10;
   names = [];
   futures = [];
   ticks = [];

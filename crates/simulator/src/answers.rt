@@ -24,9 +24,14 @@ pub fn answer(alloc: Global, input: &[u8]) -> Result<Vec<u8>, ParseError>
 /// What the run of a script shows.
 fn show(alloc: Global, script: &Script) -> Result<Vec<u8>, AllocError>
     ensures { IfOk result (λ text.
-        IsTextOf script.now.limit script.now.commands.items text.items) }
+        IsTextOf script.now.limit script.now.is_static script.now.commands.items text.items) }
 {
-    let played = play::run(alloc, script.limit, script.commands.as_slice())?;
+    let played = play::run(
+        alloc,
+        script.limit,
+        script.is_static,
+        script.commands.as_slice(),
+    )?;
     print::text_of(
         alloc,
         played.moments.as_slice(),

@@ -35,15 +35,20 @@ pub struct Played {
     pub runs: Names,
 }
 
-/// Plays the commands on a new machine with places for so many futures. What it shows is all that the
+/// Plays the commands on a new machine of this kind with places for so many futures. What it shows is all that the
 /// steps that were tried made happen, in order. Ends early only for want of memory, and shows nothing
 /// then.
-pub fn run(alloc: Global, limit: u64, commands: &[Command]) -> Result<Played, AllocError>
-    ensures { IfOk result (λ played. (last : Player) × IsPlayed limit commands.now last ×
+pub fn run(
+    alloc: Global,
+    limit: u64,
+    is_static: bool,
+    commands: &[Command],
+) -> Result<Played, AllocError>
+    ensures { IfOk result (λ played. (last : Player) × IsPlayed limit is_static commands.now last ×
         (played.moments.items ≡ last.moments) × (played.names ≡ last.names) ×
         (played.ticks ≡ last.ticks) × (played.runs ≡ last.run_names)) }
 {
-    let mut player = Player::new(alloc, commands, limit)?;
+    let mut player = Player::new(alloc, commands, limit, is_static)?;
     for (at, command) in commands.iter().enumerate() {
         player.play_unless_stopped(at, command)?;
     }

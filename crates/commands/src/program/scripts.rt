@@ -142,3 +142,35 @@ detach: done
 ";
     shows(&rt, script, text);
 }
+
+#[test]
+fn a_static_executor_drops_a_detached_future_that_nobody_can_wake(rt: HostRuntime) {
+    let script = "limit 1 static\nspawn p pend\ndetach p\ntry\nspawn q pend\n";
+    let text = "\
+spawn: ok
+detach: done
+poll p
+pending p
+drop p
+try: true
+spawn: ok
+";
+    shows(&rt, script, text);
+}
+
+#[test]
+fn a_static_executor_drops_a_detached_future_whose_last_waker_goes(rt: HostRuntime) {
+    let script = "limit 1 static\nspawn k keep\ndetach k\ntry\nunkeep k\ntry\ntry\n";
+    let text = "\
+spawn: ok
+detach: done
+poll k
+pending k
+try: true
+unkeep: done
+drop k
+try: true
+try: false
+";
+    shows(&rt, script, text);
+}

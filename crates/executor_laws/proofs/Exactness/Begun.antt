@@ -13,6 +13,7 @@ use Rattle.executor_model.specs.declared.call.Reply.{Reply}
 use Rattle.executor_model.specs.declared.call.Reply.TheVariants as reply
 use Rattle.executor_model.specs.declared.event.Event.{Event}
 use Rattle.executor_model.specs.declared.event.Event.TheVariants as event
+use Rattle.executor_model.specs.declared.kind.Kind.{Kind}
 use Rattle.executor_model.specs.declared.op.Hold.TheVariants as hold
 use Rattle.executor_model.specs.declared.op.Op.{Op}
 use Rattle.executor_model.specs.declared.op.Op.TheVariants as op
@@ -194,11 +195,11 @@ module _ (s : Machine) (fine : Good s) (h : Heard s) (d : Deep s) (b : Bonded s)
 
 -- a run whose trace has the beginning of the call
 
-module _ (limit parties : ℕ) (steps : List Step) (p : ℕ) (c : Call) (before : Trace) (next : Event)
-    (b : BeginsAtRest p c before next (run steps (start limit parties)).world.trace)
-    (f : Found p c before steps (start limit parties)) where
+module _ (limit : ℕ) (kind : Kind) (parties : ℕ) (steps : List Step) (p : ℕ) (c : Call) (before : Trace) (next : Event)
+    (b : BeginsAtRest p c before next (run steps (start limit kind parties)).world.trace)
+    (f : Found p c before steps (start limit kind parties)) where
   abbrev moment : Machine
-  moment = run f.steps (start limit parties)
+  moment = run f.steps (start limit kind parties)
 
   at-rest : IsAtRest moment
   at-rest = record { quiet = subst IsQuiet (sym f.here) b.quiet; there = ap (has is_drop_begun) f.here ∙ b.there }
@@ -218,53 +219,53 @@ module _ (limit parties : ℕ) (steps : List Step) (p : ℕ) (c : Call) (before 
       ∙ (sym (append_assoc moment.world.trace (event.CallBegun p c ∷ []) (next ∷ b.later))
       ∙ ap (λ (xs : Trace). xs ++ next ∷ b.later) (sym t)))))
 
-tick-told : (limit parties : ℕ) (steps : List Step) (p : ℕ) (before : Trace) (next : Event) →
-    BeginsAtRest p call.TryTick before next (run steps (start limit parties)).world.trace → TickAnswered p before next
-tick-told limit parties steps p before next b =
-    let f : Found p call.TryTick before steps (start limit parties) =
-    found p call.TryTick before (next ∷ b.later) steps (start limit parties) before refl b.parts in
-    let s : Machine = run f.steps (start limit parties) in
-    let fine : Good s = good limit parties f.steps in
-    let h : Heard s = heard limit parties f.steps in
-    let d : Deep s = deep limit parties f.steps in
-    let e : Bonded s = bonded limit parties f.steps in
-    let r : IsAtRest s = at-rest limit parties steps p call.TryTick before next b f in
-    let l : p < length s.parties = party-there limit parties steps p call.TryTick before next b f in
+tick-told : (limit : ℕ) (kind : Kind) (parties : ℕ) (steps : List Step) (p : ℕ) (before : Trace) (next : Event) →
+    BeginsAtRest p call.TryTick before next (run steps (start limit kind parties)).world.trace → TickAnswered p before next
+tick-told limit kind parties steps p before next b =
+    let f : Found p call.TryTick before steps (start limit kind parties) =
+    found p call.TryTick before (next ∷ b.later) steps (start limit kind parties) before refl b.parts in
+    let s : Machine = run f.steps (start limit kind parties) in
+    let fine : Good s = good limit kind parties f.steps in
+    let h : Heard s = heard limit kind parties f.steps in
+    let d : Deep s = deep limit kind parties f.steps in
+    let e : Bonded s = bonded limit kind parties f.steps in
+    let r : IsAtRest s = at-rest limit kind parties steps p call.TryTick before next b f in
+    let l : p < length s.parties = party-there limit kind parties steps p call.TryTick before next b f in
     subst (λ (es : Trace). TickAnswered p es next) f.here
     (tick-next s fine h d e r p l next b.later b.alone f.behind
-    (runs-on limit parties steps p call.TryTick before next b f (ticking s p)
+    (runs-on limit kind parties steps p call.TryTick before next b f (ticking s p)
     (begun-alone s p l (here s fine h d e r) (idle s fine h d e r p)) refl))
 
-pub ticks-are-exact : (limit parties : ℕ) (steps : List Step) (p : ℕ) →
-    TicksAreExact p (run steps (start limit parties)).world.trace
-ticks-are-exact limit parties steps p before next b = ⊎_elim
+pub ticks-are-exact : (limit : ℕ) (kind : Kind) (parties : ℕ) (steps : List Step) (p : ℕ) →
+    TicksAreExact p (run steps (start limit kind parties)).world.trace
+ticks-are-exact limit kind parties steps p before next b = ⊎_elim
     (λ (x : (next ≡ event.CallEnded p reply.No) × ((f : ℕ) → ¬ IsCommon f before)). (λ e. x.1, λ n. x.0))
     (λ (x : (next ≢ event.CallEnded p reply.No) × ((f : ℕ) × IsCommon f before)). let due : (f : ℕ) × IsCommon f before =
     x.1 in
     (λ e. absurd (x.0 e), λ n. absurd (n due.0 due.1)))
-    (tick-told limit parties steps p before next b)
+    (tick-told limit kind parties steps p before next b)
 
-empty-told : (limit parties : ℕ) (steps : List Step) (p : ℕ) (before : Trace) (next : Event) →
-    BeginsAtRest p call.IsEmpty before next (run steps (start limit parties)).world.trace → EmptyAnswered p before next
-empty-told limit parties steps p before next b =
-    let f : Found p call.IsEmpty before steps (start limit parties) =
-    found p call.IsEmpty before (next ∷ b.later) steps (start limit parties) before refl b.parts in
-    let s : Machine = run f.steps (start limit parties) in
-    let fine : Good s = good limit parties f.steps in
-    let h : Heard s = heard limit parties f.steps in
-    let d : Deep s = deep limit parties f.steps in
-    let e : Bonded s = bonded limit parties f.steps in
-    let r : IsAtRest s = at-rest limit parties steps p call.IsEmpty before next b f in
-    let l : p < length s.parties = party-there limit parties steps p call.IsEmpty before next b f in
+empty-told : (limit : ℕ) (kind : Kind) (parties : ℕ) (steps : List Step) (p : ℕ) (before : Trace) (next : Event) →
+    BeginsAtRest p call.IsEmpty before next (run steps (start limit kind parties)).world.trace → EmptyAnswered p before next
+empty-told limit kind parties steps p before next b =
+    let f : Found p call.IsEmpty before steps (start limit kind parties) =
+    found p call.IsEmpty before (next ∷ b.later) steps (start limit kind parties) before refl b.parts in
+    let s : Machine = run f.steps (start limit kind parties) in
+    let fine : Good s = good limit kind parties f.steps in
+    let h : Heard s = heard limit kind parties f.steps in
+    let d : Deep s = deep limit kind parties f.steps in
+    let e : Bonded s = bonded limit kind parties f.steps in
+    let r : IsAtRest s = at-rest limit kind parties steps p call.IsEmpty before next b f in
+    let l : p < length s.parties = party-there limit kind parties steps p call.IsEmpty before next b f in
     subst (λ (es : Trace). EmptyAnswered p es next) f.here
-    (asked-next s fine h d e r p l next b.later b.alone (quiet-empties limit parties f.steps) f.behind
-    (runs-on limit parties steps p call.IsEmpty before next b f (asking s p)
+    (asked-next s fine h d e r p l next b.later b.alone (quiet-empties limit kind parties f.steps) f.behind
+    (runs-on limit kind parties steps p call.IsEmpty before next b f (asking s p)
     (asks s p l (here s fine h d e r) (idle s fine h d e r p)) refl))
 
-pub emptiness-is-exact : (limit parties : ℕ) (steps : List Step) (p : ℕ) →
-    EmptinessIsExact p (run steps (start limit parties)).world.trace
-emptiness-is-exact limit parties steps p before next b = ⊎_elim
+pub emptiness-is-exact : (limit : ℕ) (kind : Kind) (parties : ℕ) (steps : List Step) (p : ℕ) →
+    EmptinessIsExact p (run steps (start limit kind parties)).world.trace
+emptiness-is-exact limit kind parties steps p before next b = ⊎_elim
     (λ (x : (next ≡ event.CallEnded p reply.Yes) × AllDropped before). (inl x.0, (λ e. x.1, λ all. x.0)))
     (λ (x : (next ≡ event.CallEnded p reply.No) × ¬ AllDropped before).
     (inr x.0, (λ e. absurd (not-both e x.0), λ all. absurd (x.1 all))))
-    (empty-told limit parties steps p before next b)
+    (empty-told limit kind parties steps p before next b)

@@ -12,6 +12,7 @@ use Rattle.executor_model.specs.declared.call.Reply.{Reply}
 use Rattle.executor_model.specs.declared.call.Reply.TheVariants as reply
 use Rattle.executor_model.specs.declared.event.Event.{Event}
 use Rattle.executor_model.specs.declared.event.Event.TheVariants as event
+use Rattle.executor_model.specs.declared.kind.Kind.{Kind}
 use Rattle.executor_model.specs.declared.op.Op.{Op}
 use Rattle.executor_model.specs.declared.op.Op.TheVariants as op
 use Rattle.executor_model.specs.declared.op.TableOp.TheVariants as table_op
@@ -219,11 +220,12 @@ lone-emptiness s r = record {
       (λ a. emptiness-only s r rest p steps new k a, λ d. emptiness-always s r rest p steps new k d);
 }
 
-pub lone-ticks : (limit parties : ℕ) (steps : List Step) → IsLoneTickExact (run steps (start limit parties))
-lone-ticks limit parties steps =
-    lone-tick (run steps (start limit parties)) (record { limit = limit; parties = parties; steps = steps; is = refl })
+pub lone-ticks : (limit : ℕ) (kind : Kind) (parties : ℕ) (steps : List Step) → IsLoneTickExact (run steps (start limit kind parties))
+lone-ticks limit kind parties steps =
+    lone-tick (run steps (start limit kind parties)) (record { limit = limit; kind = kind; parties = parties; steps = steps; is = refl })
 
-pub lone-emptinesses : (limit parties : ℕ) (steps : List Step) → IsLoneEmptinessExact (run steps (start limit parties))
-lone-emptinesses limit parties steps =
-    lone-emptiness (run steps (start limit parties))
-    (record { limit = limit; parties = parties; steps = steps; is = refl })
+pub lone-emptinesses : (limit : ℕ) (kind : Kind) (parties : ℕ) (steps : List Step) →
+    IsLoneEmptinessExact (run steps (start limit kind parties))
+lone-emptinesses limit kind parties steps =
+    lone-emptiness (run steps (start limit kind parties))
+    (record { limit = limit; kind = kind; parties = parties; steps = steps; is = refl })

@@ -10,6 +10,7 @@ use Rattle.std.specs.Prelude.{Option, None, nat_lt}
 use Rattle.executor_model.specs.declared.call.Call.TheVariants as call
 use Rattle.executor_model.specs.declared.call.Reply.TheVariants as reply
 use Rattle.executor_model.specs.declared.event.Event.TheVariants as event
+use Rattle.executor_model.specs.declared.kind.Kind.{Kind}
 use Rattle.executor_model.specs.declared.op.Hold.TheVariants as hold
 use Rattle.executor_model.specs.declared.op.Op.{Op}
 use Rattle.executor_model.specs.declared.op.Op.TheVariants as op
@@ -141,7 +142,7 @@ tick-exact s fine h d b = record {
   only = λ r p t l z f common. tick-only s fine h d b r p t l z f common s.world.queue.items refl;
 }
 
-pub ticks-exact : (limit parties : ℕ) (steps : List Step) → IsTickExact (run steps (start limit parties))
-ticks-exact limit parties steps =
-    tick-exact (run steps (start limit parties)) (good limit parties steps) (heard limit parties steps)
-    (deep limit parties steps) (bonded limit parties steps)
+pub ticks-exact : (limit : ℕ) (kind : Kind) (parties : ℕ) (steps : List Step) → IsTickExact (run steps (start limit kind parties))
+ticks-exact limit kind parties steps =
+    tick-exact (run steps (start limit kind parties)) (good limit kind parties steps) (heard limit kind parties steps)
+    (deep limit kind parties steps) (bonded limit kind parties steps)

@@ -10,6 +10,7 @@ use Rattle.executor_model.specs.declared.call.Call.TheVariants as call
 use Rattle.executor_model.specs.declared.call.Reply.{Reply}
 use Rattle.executor_model.specs.declared.event.Event.{Event}
 use Rattle.executor_model.specs.declared.event.Event.TheVariants as event
+use Rattle.executor_model.specs.declared.kind.Kind.{Kind}
 use Rattle.executor_model.specs.declared.op.Hold.{Hold}
 use Rattle.executor_model.specs.declared.op.Op.{Op}
 use Rattle.executor_model.specs.declared.op.Op.TheVariants as op
@@ -121,7 +122,8 @@ keeping-way s p old rest d good l e (reacted o u n q z) a b c k =
     (subst (λ (x : Done). Roomy (unsettled s p rest x)) z c))
 keeping-way s p old rest d good l e (called m q t n z) a b c k =
     let f : _ = none_refused (is_free (top (stack s p))) (has_all s.world s.parties (top (stack s p)) m)
-    (not (s.world.gone && is_on_executor m)) (not (is_drop m) || is_unborrowed s.world s.parties) n in
+    (not (s.world.gone && is_on_executor m)) (not (is_drop m && s.world.is_static))
+    (not (is_drop m) || is_unborrowed s.world s.parties) n in
     rw z (keeping-on s p [] rest (begun p (log s.world (event.CallBegun p m)) (mine (top (stack s p))) m) l
     (subst (λ (os : List Op). stack s p ≡ rest ++ reverse os) q e) k
     (keeps-begun p s.world (mine (top (stack s p))) m (drops-there s p m f.1))
@@ -137,10 +139,10 @@ keeping-moves s p old rest d good l e w k =
     (heard-moves s p old rest d good l e w k.heard)
     (roomy-moves s p old rest d l e w (λ r. (k.standing.used r).once) k.roomy) k
 
-keeping-start : (limit n : ℕ) → Keeping (start limit n)
-keeping-start limit n = record {
-  standing = standing-start limit n;
-  heard = heard-start limit n;
+keeping-start : (limit : ℕ) (kind : Kind) (n : ℕ) → Keeping (start limit kind n)
+keeping-start limit kind n = record {
+  standing = standing-start limit kind n;
+  heard = heard-start limit kind n;
   roomy = λ r. omega (arith, weigh_all-idle (filling_of r) n);
   leaves = λ r z. absurd (omega (arith, z, weigh_all-idle (quits_of r) n));
   parted = λ r z. absurd (omega (arith, z.0));
@@ -148,6 +150,6 @@ keeping-start limit n = record {
       (let no : (let o : Option Event = None in o) ≡ Some (event.Kept z.party f r) = z.kept in cc);
 }
 
-pub keeping : (limit n : ℕ) (ts : List Step) → Keeping (run ts (start limit n))
-keeping limit n ts = along Keeping keeping-moves keeping-ends ts (start limit n) (good-start limit n)
-    (keeping-start limit n)
+pub keeping : (limit : ℕ) (kind : Kind) (n : ℕ) (ts : List Step) → Keeping (run ts (start limit kind n))
+keeping limit kind n ts = along Keeping keeping-moves keeping-ends ts (start limit kind n) (good-start limit kind n)
+    (keeping-start limit kind n)

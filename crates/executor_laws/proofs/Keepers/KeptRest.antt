@@ -1,6 +1,7 @@
 -- For keepers_are_called.
 -- At a quiet trace a run that keeps a due future has it in its own queue, stands, and is called.
 use Rattle.std.proofs.Common.{◌≡◌, ◌∙◌, ℕ, ◌≤◌, List, [], length, true, false, sym, inl, inr, ⊎_elim, arith}
+use Rattle.executor_model.specs.declared.kind.Kind.{Kind}
 use Rattle.executor_model.specs.declared.step.Step.{Step}
 use Rattle.executor_model.specs.Due.{IsDue}
 use Rattle.executor_model.specs.Keeper.{AnswersReady, IsKeeper, is_run_drop}
@@ -46,21 +47,21 @@ kept-there s idle k f r due x =
         (omega (arith, y, all-rest (readies_of r) s.parties idle)))
         (k.parted r z))
 
-pub keeper-is-called : (limit parties : ℕ) (steps : List Step) (f : ℕ) →
-    KeeperIsCalled f (run steps (start limit parties)).world.trace
-keeper-is-called limit parties steps f r quiet due x none =
-    let s : Machine = run steps (start limit parties) in
+pub keeper-is-called : (limit : ℕ) (kind : Kind) (parties : ℕ) (steps : List Step) (f : ℕ) →
+    KeeperIsCalled f (run steps (start limit kind parties)).world.trace
+keeper-is-called limit kind parties steps f r quiet due x none =
+    let s : Machine = run steps (start limit kind parties) in
     let some : 1 ≤ length (own_of s.world r) = omega (
       arith,
-      kept-there s (λ q. rests s (deep limit parties steps) quiet q) (keeping limit parties steps) f r due x,
+      kept-there s (λ q. rests s (deep limit kind parties steps) quiet q) (keeping limit kind parties steps) f r due x,
       times-length f (own_of s.world r),
     ) in (
-      keeper-stands s (good limit parties steps) (heard limit parties steps) (deep limit parties steps)
-          (are_told limit parties steps) (own-queue-has-runner limit parties steps)
-          (standing limit parties steps) quiet r
+      keeper-stands s (good limit kind parties steps) (heard limit kind parties steps) (deep limit kind parties steps)
+          (are_told limit kind parties steps) (own-queue-has-runner limit kind parties steps)
+          (standing limit kind parties steps) quiet r
           some none,
-      keeper-called s (good limit parties steps) (heard limit parties steps) (deep limit parties steps)
-          (are_told limit parties steps) (own-queue-has-runner limit parties steps)
-          (standing limit parties steps) quiet r
+      keeper-called s (good limit kind parties steps) (heard limit kind parties steps) (deep limit kind parties steps)
+          (are_told limit kind parties steps) (own-queue-has-runner limit kind parties steps)
+          (standing limit kind parties steps) quiet r
           some,
     )

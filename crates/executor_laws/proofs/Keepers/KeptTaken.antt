@@ -113,7 +113,7 @@ module _ (s : Machine) (p : ℕ) (g : ℕ) (rest : List Op) (h : Hint) (l : p < 
           (moves.take_up_by t (task s.world g)).owed)) (sym q) (one (among g s.world.table))
         where
           one : (there : Bool) →
-              1 ≤ weigh (settling_of g) (drop_ops there g ++ [] ++ [] ++ op.Move move.SettleClosed g ∷ [])
+              1 ≤ weigh (settling_of g) (drop_ops there g ++ [] ++ [] ++ (op.Move move.SettleClosed g ∷ []) ++ [])
           one true = grind (arith, same_is)
           one false = grind (arith, same_is)
 

@@ -14,6 +14,7 @@ use Rattle.executor_model.specs.declared.call.Reply.{Reply}
 use Rattle.executor_model.specs.declared.event.Answer.TheVariants as answer
 use Rattle.executor_model.specs.declared.event.Event.{Event}
 use Rattle.executor_model.specs.declared.event.Event.TheVariants as event
+use Rattle.executor_model.specs.declared.kind.Kind.{Kind}
 use Rattle.executor_model.specs.declared.op.Hold.{Hold}
 use Rattle.executor_model.specs.declared.op.ListOp.TheVariants as list_op
 use Rattle.executor_model.specs.declared.op.Op.{Op}
@@ -377,7 +378,8 @@ module _ (s : Machine) (p : ℕ) (rest : List Op) (f : ℕ) (good : Good s) (l :
   bound-way old d e (called c q r n z) =
       let k : stack s p ≡ rest ++ reverse [] = subst (λ (os : List Op). stack s p ≡ rest ++ reverse os) q e in
       let x : _ = none_refused (is_free (top (stack s p))) (has_all s.world s.parties (top (stack s p)) c)
-      (not (s.world.gone && is_on_executor c)) (not (is_drop c) || is_unborrowed s.world s.parties) n in
+      (not (s.world.gone && is_on_executor c)) (not (is_drop c && s.world.is_static))
+      (not (is_drop c) || is_unborrowed s.world s.parties) n in
       rw z (by c x.1 k)
     where
       o : Option Waker
@@ -448,11 +450,11 @@ bonded-ends s p a held below l e h = record {
   bound = λ f. bound-end s p a held below l e f (h.bound f);
 }
 
-bonded-start : (limit n : ℕ) → Bonded (start limit n)
-bonded-start limit n = record {
-  used = used-start limit n;
+bonded-start : (limit : ℕ) (kind : Kind) (n : ℕ) → Bonded (start limit kind n)
+bonded-start limit kind n = record {
+  used = used-start limit kind n;
   roomy = λ r. omega (arith, weigh_all-idle (filling_of r) n);
-  frames = frames-start limit n;
+  frames = frames-start limit kind n;
   ran = λ r. record {
     past = λ z. absurd (let no : false ≡ true = z in cc);
     unborn = λ z. (refl, refl);
@@ -470,5 +472,5 @@ bonded-start limit n = record {
   });
 }
 
-pub bonded : (limit n : ℕ) (ts : List Step) → Bonded (run ts (start limit n))
-bonded limit n ts = along Bonded bonded-moves bonded-ends ts (start limit n) (good-start limit n) (bonded-start limit n)
+pub bonded : (limit : ℕ) (kind : Kind) (n : ℕ) (ts : List Step) → Bonded (run ts (start limit kind n))
+bonded limit kind n ts = along Bonded bonded-moves bonded-ends ts (start limit kind n) (good-start limit kind n) (bonded-start limit kind n)

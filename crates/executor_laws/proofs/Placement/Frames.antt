@@ -16,6 +16,7 @@ use Rattle.executor_model.specs.declared.call.Reply.TheVariants as reply
 use Rattle.executor_model.specs.declared.event.Answer.TheVariants as answer
 use Rattle.executor_model.specs.declared.event.Event.{Event}
 use Rattle.executor_model.specs.declared.event.Event.TheVariants as event
+use Rattle.executor_model.specs.declared.kind.Kind.{Kind}
 use Rattle.executor_model.specs.declared.op.Hold.{Hold}
 use Rattle.executor_model.specs.declared.op.Op.{Op}
 use Rattle.executor_model.specs.declared.op.Op.TheVariants as op
@@ -415,7 +416,8 @@ frames-moves s p old rest d good l e (reacted o u a q z) h =
 frames-moves s p old rest d good l e (called c q r n z) h =
     let e2 : stack s p ≡ rest ++ reverse [] = subst (λ (os : List Op). stack s p ≡ rest ++ reverse os) q e in
     let f : _ = none_refused (is_free (top (stack s p))) (has_all s.world s.parties (top (stack s p)) c)
-    (not (s.world.gone && is_on_executor c)) (not (is_drop c) || is_unborrowed s.world s.parties) n in
+    (not (s.world.gone && is_on_executor c)) (not (is_drop c && s.world.is_static))
+    (not (is_drop c) || is_unborrowed s.world s.parties) n in
     rw z (by c (begins-answering p s.world s.parties (top (stack s p)) c f.1) e2)
   where
     o : Option Waker
@@ -429,12 +431,12 @@ frames-moves s p old rest d good l e (called c q r n z) h =
     by x a e2 = frames-call s p rest l e2 h x o refl a
         (grows-begun is_call ordinary-none p (log s.world (event.CallBegun p x)) o x tt)
 
-pub frames-start : (limit n : ℕ) → Frames (start limit n)
-frames-start limit n = record {
+pub frames-start : (limit : ℕ) (kind : Kind) (n : ℕ) → Frames (start limit kind n)
+frames-start limit kind n = record {
   framed = λ p. subst (λ (os : List Op). Framed (reverse os) (opens p [])) (sym (idle-stack n p))
       (subst (Framed []) (sym (opens-none p)) tt);
   tells = tells-none;
 }
 
-pub frames : (limit n : ℕ) (ts : List Step) → Frames (run ts (start limit n))
-frames limit n ts = along Frames frames-moves frames-ends ts (start limit n) (good-start limit n) (frames-start limit n)
+pub frames : (limit : ℕ) (kind : Kind) (n : ℕ) (ts : List Step) → Frames (run ts (start limit kind n))
+frames limit kind n ts = along Frames frames-moves frames-ends ts (start limit kind n) (good-start limit kind n) (frames-start limit kind n)

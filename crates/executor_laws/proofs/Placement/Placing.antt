@@ -5,6 +5,7 @@ use Rattle.std.proofs.Common.{get_or, Bool, true, false, ◌||◌, refl, sym, ap
 use Rattle.std.specs.Prelude.{Some, count_by}
 use Rattle.executor_model.specs.declared.event.Event.{Event}
 use Rattle.executor_model.specs.declared.event.Event.TheVariants as event
+use Rattle.executor_model.specs.declared.kind.Kind.{Kind}
 use Rattle.executor_model.specs.declared.op.Op.{Op}
 use Rattle.executor_model.specs.declared.step.Step.{Step}
 use Rattle.executor_model.specs.AwaiterKept.{since}
@@ -229,13 +230,14 @@ module _ (s : Machine) (fine : Good s) (h : Heard s) (d : Deep s) (b : Bonded s)
       zero-or zero = inl refl
       zero-or (suc n) = inr (omega arith)
 
-pub stands-with-keeper : (limit parties : ℕ) (steps : List Step) → StandsWithKeeper (run steps (start limit parties))
-stands-with-keeper limit parties steps =
-    let s = run steps (start limit parties) in
-    let fine = good limit parties steps in
-    let h = heard limit parties steps in
-    let d = deep limit parties steps in
-    let b = bonded limit parties steps in record {
+pub stands-with-keeper : (limit : ℕ) (kind : Kind) (parties : ℕ) (steps : List Step) →
+    StandsWithKeeper (run steps (start limit kind parties))
+stands-with-keeper limit kind parties steps =
+    let s = run steps (start limit kind parties) in
+    let fine = good limit kind parties steps in
+    let h = heard limit kind parties steps in
+    let d = deep limit kind parties steps in
+    let b = bonded limit kind parties steps in record {
       common = λ r f due. (λ k. queue-common s fine h d b r f k, λ c. common-queue s fine h d b r f c);
       kept = λ r f n due. (λ k. own-keeper s fine h d b r f n k, λ k. keeper-own s fine h d b r f n due k);
     }

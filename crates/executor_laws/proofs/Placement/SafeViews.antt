@@ -1,7 +1,8 @@
 -- For due_futures_stand_with_their_keepers.
 -- A future away from the executor's queue (proofs/Placement/Safe): kept by each move of its task but the beginning of a poll, and by
 -- each effect of what no run does, on its view.
-use Rattle.std.proofs.Common.{◌≡◌, ◌⊎◌, ℕ, ◌+◌, ◌<◌, ◌≤◌, List, [], ◌∷◌, ◌++◌, true, false, inl, inr, ap, ◌∙◌, arith}
+use Rattle.std.proofs.Common.{◌≡◌, ◌⊎◌, ℕ, ◌+◌, ◌<◌, ◌≤◌, List, [], ◌∷◌, ◌++◌, Bool, true, false, inl, inr, refl, ap}
+use Rattle.std.proofs.Common.{◌∙◌, arith}
 use Rattle.std.proofs.lemmas.Bool.Decides.{nat_tests}
 use Rattle.std.proofs.lemmas.List.{length-append}
 use Rattle.std.specs.Prelude.{slice_set}
@@ -15,10 +16,11 @@ use Rattle.executor_model.specs.declared.op.Op.TheVariants as op
 use Rattle.executor_model.specs.declared.op.QueueOp.TheVariants as queue_op
 use Rattle.executor_model.specs.declared.op.TableOp.TheVariants as table_op
 use Rattle.executor_model.specs.declared.op.UserOp.TheVariants as user_op
-use Rattle.executor_model.specs.Acts.{append_by, begin_drop, closing_ops, enter_by, leave_by, stands_alone}
+use Rattle.executor_model.specs.Acts.{append_by, begin_drop, closing_ops, enter_by, entered, entry_goes, leave_by}
+use Rattle.executor_model.specs.Acts.{stands_alone}
 use Rattle.executor_model.specs.Sound.{Pend, with_ops}
 use Rattle.executor_model.specs.Weights.{weigh}
-use Rattle.executor_model.specs.World.{World, Done, done, log, task}
+use Rattle.executor_model.specs.World.{World, Done, done, log, task, without}
 use Rattle.executor_model.proofs.Steps.Lists.{fresh_is, read_push, same_is, times-append}
 use Rattle.executor_model.proofs.OneFuture.Extras.{Extra, no_extra, runs_of, with_extra}
 use Rattle.executor_model.proofs.OneFuture.Views.{Seen, seen, before, after}
@@ -116,11 +118,22 @@ KeepsAway w old d = (g : ℕ) (r : Pend) (y : Extra) → Ground (seen w g (with_
 away-refuses : (w : World) (f : ℕ) → KeepsAway w (op.Queue (queue_op.Append f) ∷ []) (append_by false w f)
 away-refuses w f g r y b h = grind (arith, same_is)
 
+entered_is : (b : Bool) → ((entered b).scheduled ≡ true) × ((entered b).running ≡ false) ×
+    ((entered b).closed ≡ false) × ((entered b).completed ≡ false)
+entered_is true = (refl, refl, refl, refl)
+entered_is false = (refl, refl, refl, refl)
+
 away-enters : (p : ℕ) (w : World) → KeepsAway w (op.Table table_op.Enter ∷ []) (enter_by false false p w)
-away-enters p w g r y b h = grind (arith, same_is, fresh_is, read_push, times-append, length-append)
+away-enters p w g r y b h =
+    let e = entered_is w.is_static in grind (arith, same_is, fresh_is, read_push, times-append, length-append)
 
 away-unlists : (w : World) (f : ℕ) → KeepsAway w (op.Table (table_op.LeaveTable f) ∷ []) (leave_by true w f)
-away-unlists w f g r y b h = grind arith
+away-unlists w f = by w.is_static
+  where
+    by : (s : Bool) → KeepsAway w (op.Table (table_op.LeaveTable f) ∷ [])
+        (done (record w { table = without f w.table }) (entry_goes s f))
+    by true g r y b h = grind arith
+    by false g r y b h = grind arith
 
 away-drops : (p f : ℕ) (w : World) → KeepsAway w (op.User (user_op.BeginDrop f) ∷ []) (begin_drop p w f)
 away-drops p f w g r y b h = grind arith

@@ -13,6 +13,7 @@ use Rattle.executor_model.specs.declared.call.Reply.TheVariants as reply
 use Rattle.executor_model.specs.declared.event.Answer.TheVariants as answer
 use Rattle.executor_model.specs.declared.event.Event.{Event}
 use Rattle.executor_model.specs.declared.event.Event.TheVariants as event
+use Rattle.executor_model.specs.declared.kind.Kind.{Kind}
 use Rattle.executor_model.specs.declared.op.Hold.{Hold}
 use Rattle.executor_model.specs.declared.op.Hold.TheVariants as hold
 use Rattle.executor_model.specs.declared.op.Op.{Op}
@@ -319,12 +320,12 @@ prompt-ends s p a held below l e h =
     (own-end p s.world below a held (parted p (stack s p) below (op.End a held) (deeds p s.world.trace) e (h p).stands)
     (h p).told) h
 
-prompt-start : (limit n : ℕ) → Prompts (start limit n)
-prompt-start limit n q = record { told = refl; stands = slow (ap (weigh hasty) (idle-stack n q)) }
+prompt-start : (limit : ℕ) (kind : Kind) (n : ℕ) → Prompts (start limit kind n)
+prompt-start limit kind n q = record { told = refl; stands = slow (ap (weigh hasty) (idle-stack n q)) }
 
-prompt : (limit n : ℕ) (ts : List Step) → Prompts (run ts (start limit n))
-prompt limit n ts = along Prompts prompt-moves prompt-ends ts (start limit n) (good-start limit n)
-    (prompt-start limit n)
+prompt : (limit : ℕ) (kind : Kind) (n : ℕ) (ts : List Step) → Prompts (run ts (start limit kind n))
+prompt limit kind n ts = along Prompts prompt-moves prompt-ends ts (start limit kind n) (good-start limit kind n)
+    (prompt-start limit kind n)
 
 -- in the words of the trace
 
@@ -366,12 +367,12 @@ last-begun p b (x ∷ es) e = ⊎_elim
     )
     alone _ ys z k = absurd (cc)
 
-pub no-comes-at-once : (limit parties : ℕ) (steps : List Step) (p : ℕ) →
-    NoComesAtOnce p (run steps (start limit parties)).world.trace
-no-comes-at-once limit parties steps p before later e =
-    let ds : Trace = deeds p (run steps (start limit parties)).world.trace in
+pub no-comes-at-once : (limit : ℕ) (kind : Kind) (parties : ℕ) (steps : List Step) (p : ℕ) →
+    NoComesAtOnce p (run steps (start limit kind parties)).world.trace
+no-comes-at-once limit kind parties steps p before later e =
+    let ds : Trace = deeds p (run steps (start limit kind parties)).world.trace in
     let t : told p false (before ++ event.CallEnded p reply.No ∷ later) ≡ true = sym (ap (told p false) e)
-    ∙ (prompt limit parties steps p).told in
+    ∙ (prompt limit kind parties steps p).told in
     let both : (told p false before && told p (fresh p false before) (event.CallEnded p reply.No ∷ later)) ≡ true =
     sym (told-append p false before (event.CallEnded p reply.No ∷ later)) ∙ t in
     let f : fresh p false before ≡ true =

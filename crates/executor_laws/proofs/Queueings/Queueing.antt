@@ -11,6 +11,7 @@ use Rattle.executor_model.specs.declared.call.Call.TheVariants as call
 use Rattle.executor_model.specs.declared.call.Reply.{Reply}
 use Rattle.executor_model.specs.declared.event.Answer.TheVariants as answer
 use Rattle.executor_model.specs.declared.event.Event.TheVariants as event
+use Rattle.executor_model.specs.declared.kind.Kind.{Kind}
 use Rattle.executor_model.specs.declared.op.Waker.{Waker}
 use Rattle.executor_model.specs.declared.op.Op.{Op}
 use Rattle.executor_model.specs.declared.op.Op.TheVariants as op
@@ -260,32 +261,32 @@ run-push (x ∷ ts) t s = run-push ts t (stepped s (step s x))
 count-more : (xs : List ℕ) (f : ℕ) → length (xs ++ f ∷ []) - length xs ≡ 1
 count-more xs f = omega (arith, length-append xs (f ∷ []))
 
-module _ (limit parties : ℕ) (steps : List Step) where
+module _ (limit : ℕ) (kind : Kind) (parties : ℕ) (steps : List Step) where
   abbrev now : Machine
-  now = run steps (start limit parties)
+  now = run steps (start limit kind parties)
 
   abbrev count : ℕ
-  count = queueings steps (start limit parties)
+  count = queueings steps (start limit kind parties)
 
   -- one step later
   later : (t : Step) (q : ClosableQueue ℕ) (n : ℕ) → (stepped now (step now t)).world.queue ≡ q →
       length q.items - length now.world.queue.items ≡ n →
-      counted_after limit parties (steps ++ t ∷ []) ≡ counting (count + n) q
+      counted_after limit kind parties (steps ++ t ∷ []) ≡ counting (count + n) q
   later t q n e k =
-      ap (λ (m : ℕ). counting m (run (steps ++ t ∷ []) (start limit parties)).world.queue)
-      (queueings-push steps t (start limit parties)
+      ap (λ (m : ℕ). counting m (run (steps ++ t ∷ []) (start limit kind parties)).world.queue)
+      (queueings-push steps t (start limit kind parties)
       ∙ ap (λ (m : ℕ). count + m) (ap (λ (v : ClosableQueue ℕ). length v.items - length now.world.queue.items) e ∙ k))
-      ∙ ap (counting (count + n)) (ap (λ (m : Machine). m.world.queue) (run-push steps t (start limit parties)) ∙ e)
+      ∙ ap (counting (count + n)) (ap (λ (m : Machine). m.world.queue) (run-push steps t (start limit kind parties)) ∙ e)
 
   has-room : (p f : ℕ) → top (stack now p) ≡ Some (op.Queue (queue_op.Append f)) → HasRoom now.world.queue
-  has-room p f e = finds-place now f (good limit parties steps) (placed limit parties steps) p e
+  has-room p f e = finds-place now f (good limit kind parties steps) (placed limit kind parties steps) p e
 
   same-count : (q : ClosableQueue ℕ) → counting (count + 0) q ≡ counting count q
   same-count q = ap (λ (m : ℕ). counting m q) (let z : count + 0 ≡ count = omega arith in z)
 
   changes-by : count < most_accepted → (t : Step) (q : ClosableQueue ℕ) → (stepped now (step now t)).world.queue ≡ q →
       Steps now q →
-      Changes (counted_after limit parties steps) (counted_after limit parties (steps ++ t ∷ []))
+      Changes (counted_after limit kind parties steps) (counted_after limit kind parties (steps ++ t ∷ []))
   changes-by few t q e (as-was x) = stays (later t now.world.queue 0 (e ∙ x) (omega arith) ∙ same-count now.world.queue)
   changes-by few t q e (longer p f a c x) =
       appends f c (has-room p f a) few
@@ -308,8 +309,8 @@ module _ (limit parties : ℕ) (steps : List Step) where
       ∙ ap (go_refusal now.world) e in
       let room : length now.world.queue.items < now.world.limit =
       has-place now p f (below_top (stack now p)) l (topped (stack now p) (op.Queue (queue_op.Append f)) e)
-      (good limit parties steps)
-      (placed limit parties steps) in
+      (good limit kind parties steps)
+      (placed limit kind parties steps) in
       let free : (not now.world.queue.closed && ltb (length now.world.queue.items) now.world.limit) ≡ true =
       ap (λ (x : Bool). not x && ltb (length now.world.queue.items) now.world.limit) c
       ∙ (let z : ltb (length now.world.queue.items) now.world.limit ≡ true = grind (arith, nat_tests) in z) in
@@ -319,12 +320,12 @@ module _ (limit parties : ℕ) (steps : List Step) where
       (below_top (stack now p) ++ reverse (act p h (op.Queue (queue_op.Append f)) now.world).next) _
       ∙ ap (λ (x : Bool). (append_by x now.world f).world.queue) free))
 
-pub counts-queueings : (limit parties : ℕ) (steps : List Step) → CountsQueueings limit parties steps
-counts-queueings limit parties steps = record {
-  most = queueings-most steps (start limit parties);
+pub counts-queueings : (limit : ℕ) (kind : Kind) (parties : ℕ) (steps : List Step) → CountsQueueings limit kind parties steps
+counts-queueings limit kind parties steps = record {
+  most = queueings-most steps (start limit kind parties);
   new = refl;
-  changes = λ few t. changes-by limit parties steps few t _ refl (by-step (run steps (start limit parties)) t);
-  appends = λ few p h f e c. later limit parties steps (Go p h)
-      (appended (run steps (start limit parties)).world.queue f) 1
-      (appends-now limit parties steps p h f e c) (count-more (run steps (start limit parties)).world.queue.items f);
+  changes = λ few t. changes-by limit kind parties steps few t _ refl (by-step (run steps (start limit kind parties)) t);
+  appends = λ few p h f e c. later limit kind parties steps (Go p h)
+      (appended (run steps (start limit kind parties)).world.queue f) 1
+      (appends-now limit kind parties steps p h f e c) (count-more (run steps (start limit kind parties)).world.queue.items f);
 }

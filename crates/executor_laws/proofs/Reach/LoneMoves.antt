@@ -39,11 +39,11 @@ use Rattle.executor_model.proofs.Steps.SleepersNext.{goes-unseen}
 use Rattle.executor_model.specs.World.{Ticker, Awake, Asleep, Left}
 use Rattle.executor_model.specs.World.{World, Done, done, log, log_if, task, put, among, awaiter_of}
 use Rattle.executor_model.specs.Carried.{carried}
-use Rattle.executor_model.specs.Acts.{append_by, leave_by, notify_by}
+use Rattle.executor_model.specs.Acts.{append_by, entry_goes, leave_by, let_go_by, notify_by}
 use Rattle.executor_model.specs.Acts.{call_waker}
 use Rattle.executor_model.specs.Steps.{waits, accepts, react}
 use Rattle.executor_model.specs.Weights.{weigh}
-use Rattle.executor_model.proofs.Steps.Asides.{Aside, aside-owed, aside-told}
+use Rattle.executor_model.proofs.Steps.Asides.{Aside, aside-let_go, aside-owed, aside-told}
 use Rattle.executor_model.specs.Doing.{sleeper_act, act}
 use Rattle.executor_model.specs.ActsOfSleepers.{exchange_by, hand_out_by}
 
@@ -95,6 +95,7 @@ no-stray = record {
   output = λ f. refl;
   notify = λ f mine. refl;
   call = λ f a k. refl;
+  goes = λ f. refl;
 }
 
 -- queue, trace and the executor stay
@@ -146,18 +147,32 @@ then-inner w e d i = record {
   there = i.there;
 }
 
+-- two events, or one, or none
+inner-told : (last b : Bool) (w : World) (e c : Event) (f : ℕ) (m : Moved) →
+    Inner w (carried (log_if last (log_if b w e) c) f m)
+inner-told last true w e c f m = then-inner w e (carried (log_if last (log w e) c) f m) (inner-logged last (log w e) c f m)
+inner-told last false w e c f m = inner-logged last w c f m
+
 inner-append : (b : Bool) (w : World) (f : ℕ) → Inner w (append_by b w f)
 inner-append true w f =
     record { plain = refl; added = f ∷ []; queue = refl; events = []; trace = sym (append-nil w.trace); there = refl }
 inner-append false w f = still w w _ refl refl refl refl
 
+entry-inner : (b : Bool) (f : ℕ) → weigh stray_of (entry_goes b f) ≡ 0
+entry-inner true f = refl
+entry-inner false f = refl
+
 inner-leave : (b : Bool) (w : World) (f : ℕ) → Inner w (leave_by b w f)
-inner-leave true w f = still w _ _ refl refl refl refl
+inner-leave true w f = still w _ _ refl refl refl (entry-inner w.is_static f)
 inner-leave false w f = still w _ _ refl refl refl refl
 
 inner-notify : (b : Bool) (w : World) (f : ℕ) (mine : Bool) → Inner w (notify_by b w f mine)
 inner-notify true w f mine = still w _ _ refl refl refl refl
 inner-notify false w f mine = still w _ _ refl refl refl refl
+
+inner-let_go : (b : Bool) (w : World) (f : ℕ) → Inner w (let_go_by b w f)
+inner-let_go true w f = still w _ _ refl refl refl refl
+inner-let_go false w f = still w _ _ refl refl refl (aside-let_go stray_of no-stray (awaiter_of w f))
 
 inner-call : (p : ℕ) (w : World) (o : Polled) (a : Waker) (k : ℕ) → Inner w (call_waker p w o a k)
 inner-call p w o (Task g) k =
@@ -193,22 +208,25 @@ inner-act p h (op.Queue (queue_op.Append f)) w n z = inner-append _ w f
 inner-act p h (op.Move move.WakeByReference f) w n z =
     inner-logged _ w (event.Woken p f) f (moves.wake_by_reference (task w f))
 inner-act p h (op.Move move.Wake f) w n z = inner-logged _ w (event.Woken p f) f (moves.wake (task w f))
-inner-act p h (op.Move move.Release f) w n z = inner-carried w f (moves.release (task w f))
+inner-act p h (op.Move move.Release f) w n z = inner-logged _ w (event.LastWaker p f) f (moves.release (task w f))
 inner-act p h (op.Move move.TakeUp f) w n z = inner-logged _ w (event.PollBegun p f) f (moves.take_up (task w f))
 inner-act p h (op.Move move.SettleClosed f) w n z = inner-carried w f (moves.settle_closed (task w f))
 inner-act p h (op.Move move.GiveUp f) w n z = inner-carried w f (moves.give_up (task w f))
 inner-act p h (op.Move move.EndReady f) w n z = inner-carried w f (moves.end_ready (task w f))
-inner-act p h (op.Move move.EndPending f) w n z = inner-carried w f (moves.end_pending (task w f))
+inner-act p h (op.Move move.EndPending f) w n z =
+    inner-logged _ w (event.LastWaker p f) f (moves.end_pending (task w f))
 inner-act p h (op.Move move.EndClosed f) w n z = inner-carried w f (moves.end_closed (task w f))
 inner-act p h (op.Move move.DropRunnable f) w n z = inner-carried w f (moves.drop_runnable (task w f))
 inner-act p h (op.Move move.Cancel f) w n z = inner-logged _ w (event.Cancelled p f) f (moves.cancel (task w f))
-inner-act p h (op.Move move.Detach f) w n z = inner-logged _ w (event.Detached p f) f (moves.detach (task w f))
+inner-act p h (op.Move move.Detach f) w n z =
+    inner-told _ _ w (event.Detached p f) (event.LastWaker p f) f (moves.detach (task w f))
 inner-act p h (op.User (user_op.BeginDrop f)) w n z = logged w _ (event.Dropped p f) _ refl refl refl refl
 inner-act p h (op.Table (table_op.LeaveTable f)) w n z = inner-leave _ w f
 inner-act p h (op.User (user_op.BeginDropOutput f)) w n z = logged w _ (event.OutputDropped p f) _ refl refl refl refl
 inner-act p h (op.Handle (handle_op.Notify f mine)) w n z = inner-notify _ w f mine
 inner-act p h (op.Handle (handle_op.EndNotify f mine)) w n z =
     still w _ _ refl refl refl (aside-told stray_of no-stray _ f (awaiter_of w f))
+inner-act p h (op.Handle (handle_op.LetGo f)) w n z = inner-let_go _ w f
 inner-act p h (op.Waker (waker_op.CallAwaiter f a k)) w n z = inner-call p w (of.Handle f) a k
 inner-act p h (op.Sleeper o) w n z = inner-sleeper p o w
 inner-act p h (op.Tick (tick_op.WakeUp who)) w n z = inner-up _ w who

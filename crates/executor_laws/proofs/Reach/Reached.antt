@@ -7,7 +7,7 @@ use Rattle.executor_model.proofs.Steps.Reached.{Reached}
 use Rattle.executor_laws.proofs.Placement.BoundWays.{Bonded, bonded}
 
 pub heard-here : (s : Machine) → Reached s → Heard s
-heard-here s r = subst Heard (sym r.is) (heard r.limit r.parties r.steps)
+heard-here s r = subst Heard (sym r.is) (heard r.limit r.kind r.parties r.steps)
 
 pub bonded-here : (s : Machine) → Reached s → Bonded s
-bonded-here s r = subst Bonded (sym r.is) (bonded r.limit r.parties r.steps)
+bonded-here s r = subst Bonded (sym r.is) (bonded r.limit r.kind r.parties r.steps)

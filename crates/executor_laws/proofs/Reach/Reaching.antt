@@ -11,6 +11,7 @@ use Rattle.executor_model.specs.declared.call.Call.{Call}
 use Rattle.executor_model.specs.declared.call.Call.TheVariants as call
 use Rattle.executor_model.specs.declared.call.Reply.{Reply}
 use Rattle.executor_model.specs.declared.event.Event.TheVariants as event
+use Rattle.executor_model.specs.declared.kind.Kind.{Kind}
 use Rattle.executor_model.specs.declared.step.Step.{Step}
 use Rattle.executor_model.specs.declared.step.Step.TheVariants.{Begin}
 use Rattle.executor_model.specs.Trace.{Trace, has}
@@ -183,13 +184,13 @@ in-reach s r ends = record {
       (poll-begins s r rest p t x l alive);
 }
 
-pub reaches : EveryMachine LoneCallsEnd → (limit parties : ℕ) (steps : List Step) →
-    IsInReach (run steps (start limit parties))
-reaches ends limit parties steps =
-    in-reach (run steps (start limit parties)) (record { limit = limit; parties = parties; steps = steps; is = refl })
-    (ends limit parties steps)
+pub reaches : EveryMachine LoneCallsEnd → (limit : ℕ) (kind : Kind) (parties : ℕ) (steps : List Step) →
+    IsInReach (run steps (start limit kind parties))
+reaches ends limit kind parties steps =
+    in-reach (run steps (start limit kind parties)) (record { limit = limit; kind = kind; parties = parties; steps = steps; is = refl })
+    (ends limit kind parties steps)
 
-pub reaches-in-order : (limit parties : ℕ) (steps : List Step) → IsReachedInOrder (run steps (start limit parties))
-reaches-in-order limit parties steps = λ rest commons k searches new t l f c.
-    takes-all (run steps (start limit parties))
-    (record { limit = limit; parties = parties; steps = steps; is = refl }) rest commons k searches new t l f c
+pub reaches-in-order : (limit : ℕ) (kind : Kind) (parties : ℕ) (steps : List Step) → IsReachedInOrder (run steps (start limit kind parties))
+reaches-in-order limit kind parties steps = λ rest commons k searches new t l f c.
+    takes-all (run steps (start limit kind parties))
+    (record { limit = limit; kind = kind; parties = parties; steps = steps; is = refl }) rest commons k searches new t l f c

@@ -8,6 +8,7 @@ use Rattle.executor_model.specs.declared.call.Call.TheVariants as call
 use Rattle.executor_model.specs.declared.call.Reply.{Reply}
 use Rattle.executor_model.specs.declared.call.Reply.TheVariants as reply
 use Rattle.executor_model.specs.declared.event.Event.TheVariants as event
+use Rattle.executor_model.specs.declared.kind.Kind.{Kind}
 use Rattle.executor_model.specs.declared.op.Hold.{Hold}
 use Rattle.executor_model.specs.declared.op.ListOp.TheVariants as list_op
 use Rattle.executor_model.specs.declared.op.Op.{Op}
@@ -410,7 +411,7 @@ module _ (s : Machine) (y : Reached s) (rest : IsAtRest s) (r p : ℕ) (steps : 
       (bonded-here new reached-new)
       (at-rest s y rest p (call.DropRun r) steps new k stands.there) f stands.stands
 
-pub leaves-common : (limit parties : ℕ) (steps : List Step) → LeavesCommon (run steps (start limit parties))
-leaves-common limit parties steps = λ rest r f z p ts new k.
-    becomes-common (run steps (start limit parties))
-    (record { limit = limit; parties = parties; steps = steps; is = refl }) rest r p ts new k f z
+pub leaves-common : (limit : ℕ) (kind : Kind) (parties : ℕ) (steps : List Step) → LeavesCommon (run steps (start limit kind parties))
+leaves-common limit kind parties steps = λ rest r f z p ts new k.
+    becomes-common (run steps (start limit kind parties))
+    (record { limit = limit; kind = kind; parties = parties; steps = steps; is = refl }) rest r p ts new k f z

@@ -10,6 +10,7 @@ use Rattle.executor_model.specs.declared.call.By.{By}
 use Rattle.executor_model.specs.declared.call.Call.TheVariants as call
 use Rattle.executor_model.specs.declared.call.Reply.{Reply}
 use Rattle.executor_model.specs.declared.event.Event.TheVariants as event
+use Rattle.executor_model.specs.declared.kind.Kind.{Kind}
 use Rattle.executor_model.specs.declared.op.ListOp.TheVariants as list_op
 use Rattle.executor_model.specs.declared.op.Op.{Op}
 use Rattle.executor_model.specs.declared.op.Op.TheVariants as op
@@ -415,7 +416,7 @@ module _ (s : Machine) (y : Reached s) (rest : IsAtRest s) (r : ℕ) where
         length-append spot.front (f ∷ spot.back),
       )) k)
 
-pub kept-reached : (limit parties : ℕ) (steps : List Step) → IsKeptReached (run steps (start limit parties))
-kept-reached limit parties steps = λ rest r keeps h polls new k l f z.
-    takes-all (run steps (start limit parties))
-    (record { limit = limit; parties = parties; steps = steps; is = refl }) rest r keeps h polls new k l f z
+pub kept-reached : (limit : ℕ) (kind : Kind) (parties : ℕ) (steps : List Step) → IsKeptReached (run steps (start limit kind parties))
+kept-reached limit kind parties steps = λ rest r keeps h polls new k l f z.
+    takes-all (run steps (start limit kind parties))
+    (record { limit = limit; kind = kind; parties = parties; steps = steps; is = refl }) rest r keeps h polls new k l f z

@@ -10,6 +10,7 @@ use Rattle.executor_model.specs.declared.call.By.{By}
 use Rattle.executor_model.specs.declared.call.Call.TheVariants as call
 use Rattle.executor_model.specs.declared.event.Answer.TheVariants as answer
 use Rattle.executor_model.specs.declared.event.Event.TheVariants as event
+use Rattle.executor_model.specs.declared.kind.Kind.{Kind}
 use Rattle.executor_model.specs.declared.op.ListOp.TheVariants as list_op
 use Rattle.executor_model.specs.declared.op.Op.{Op}
 use Rattle.executor_model.specs.declared.op.Op.TheVariants as op
@@ -459,6 +460,6 @@ by-runs s y = record {
   common = λ rest r f c none p b steps new k. takes-common s y rest r p b steps new k f c none;
 }
 
-pub reached-by-runs : (limit parties : ℕ) (steps : List Step) → IsReachedByRuns (run steps (start limit parties))
-reached-by-runs limit parties steps =
-    by-runs (run steps (start limit parties)) (record { limit = limit; parties = parties; steps = steps; is = refl })
+pub reached-by-runs : (limit : ℕ) (kind : Kind) (parties : ℕ) (steps : List Step) → IsReachedByRuns (run steps (start limit kind parties))
+reached-by-runs limit kind parties steps =
+    by-runs (run steps (start limit kind parties)) (record { limit = limit; kind = kind; parties = parties; steps = steps; is = refl })

@@ -9,6 +9,7 @@ use Rattle.std.proofs.lemmas.Nat.{mul-le}
 use Rattle.std.specs.Prelude.{Option, Some, None, reverse}
 use Rattle.executor_model.specs.declared.event.Answer.TheVariants as answer
 use Rattle.executor_model.specs.declared.event.Event.TheVariants as event
+use Rattle.executor_model.specs.declared.kind.Kind.{Kind}
 use Rattle.executor_model.specs.declared.op.Op.{Op}
 use Rattle.executor_model.specs.declared.op.Op.TheVariants as op
 use Rattle.executor_model.specs.declared.op.UserOp.TheVariants as user_op
@@ -293,12 +294,12 @@ ends (t ∷ ts) s r new o e = ends-by (refusal s t) s t ts new r refl o e (λ ne
 
 -- of each machine that steps of a new one lead to
 
-here : (limit parties : ℕ) (steps : List Step) → Reached (run steps (start limit parties))
-here limit parties steps = record { limit = limit; parties = parties; steps = steps; is = refl }
+here : (limit : ℕ) (kind : Kind) (parties : ℕ) (steps : List Step) → Reached (run steps (start limit kind parties))
+here limit kind parties steps = record { limit = limit; kind = kind; parties = parties; steps = steps; is = refl }
 
-pub every-step-lowers : (limit parties : ℕ) (steps : List Step) → EachStepLowers (run steps (start limit parties))
-every-step-lowers limit parties steps t =
-    lowers (run steps (start limit parties)) (here limit parties steps) t
+pub every-step-lowers : (limit : ℕ) (kind : Kind) (parties : ℕ) (steps : List Step) → EachStepLowers (run steps (start limit kind parties))
+every-step-lowers limit kind parties steps t =
+    lowers (run steps (start limit kind parties)) (here limit kind parties steps) t
 
-pub every-list-ends : (limit parties : ℕ) (steps : List Step) → EachListEnds (run steps (start limit parties))
-every-list-ends limit parties steps ts = ends ts (run steps (start limit parties)) (here limit parties steps)
+pub every-list-ends : (limit : ℕ) (kind : Kind) (parties : ℕ) (steps : List Step) → EachListEnds (run steps (start limit kind parties))
+every-list-ends limit kind parties steps ts = ends ts (run steps (start limit kind parties)) (here limit kind parties steps)

@@ -5,6 +5,7 @@ use Rattle.std.proofs.Common.{cond, not, ltb, refl, sym, ap, subst, ⊎_elim, ar
 use Rattle.std.proofs.lemmas.Bool.Decides.{nat_tests}
 use Rattle.std.specs.Prelude.{Option, Some, None}
 use Rattle.executor_model.specs.declared.event.Answer.TheVariants as answer
+use Rattle.executor_model.specs.declared.kind.Kind.{Kind}
 use Rattle.executor_model.specs.declared.op.ListOp.TheVariants as list_op
 use Rattle.executor_model.specs.declared.op.Op.{Op}
 use Rattle.executor_model.specs.declared.op.Op.TheVariants as op
@@ -137,7 +138,7 @@ is-held s a k = ⊎_elim
     k
 
 pub lock-here : (s : Machine) → Reached s → LockAgrees s
-lock-here s r = subst LockAgrees (sym r.is) (lock-agrees r.limit r.parties r.steps)
+lock-here s r = subst LockAgrees (sym r.is) (lock-agrees r.limit r.kind r.parties r.steps)
 
 -- what a party that has it does next
 pub held-here : (s : Machine) (p : ℕ) → Reached s → 1 ≤ weigh held_of (stack s p) →
@@ -152,6 +153,6 @@ holder-goes-on s r = record {
       (holding-free s.world.lock x.0 x.2));
 }
 
-pub every-holder-goes-on : (limit parties : ℕ) (steps : List Step) → HolderGoesOn (run steps (start limit parties))
-every-holder-goes-on limit parties steps = holder-goes-on (run steps (start limit parties))
-    (record { limit = limit; parties = parties; steps = steps; is = refl })
+pub every-holder-goes-on : (limit : ℕ) (kind : Kind) (parties : ℕ) (steps : List Step) → HolderGoesOn (run steps (start limit kind parties))
+every-holder-goes-on limit kind parties steps = holder-goes-on (run steps (start limit kind parties))
+    (record { limit = limit; kind = kind; parties = parties; steps = steps; is = refl })

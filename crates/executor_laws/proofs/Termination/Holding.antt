@@ -8,6 +8,7 @@ use Rattle.executor_model.specs.declared.call.Call.{Call}
 use Rattle.executor_model.specs.declared.call.Reply.{Reply}
 use Rattle.executor_model.specs.declared.call.Reply.TheVariants as reply
 use Rattle.executor_model.specs.declared.event.Event.TheVariants as event
+use Rattle.executor_model.specs.declared.kind.Kind.{Kind}
 use Rattle.executor_model.specs.declared.op.Hold.{Hold}
 use Rattle.executor_model.specs.declared.op.Hold.TheVariants as hold
 use Rattle.executor_model.specs.declared.op.ListOp.{ListOp}
@@ -373,18 +374,18 @@ on-ends s p a held below l e k = record {
       (rest-none s p (op.End a held) below l e k.below) refl k.below;
 }
 
-below-idle : (v : Op → ℕ) (n : ℕ) → weigh_below v (start 0 n).parties ≡ 0
-below-idle v zero = refl
-below-idle v (suc n) = omega (arith, below-idle v n)
+below-idle : (kind : Kind) (v : Op → ℕ) (n : ℕ) → weigh_below v (start 0 kind n).parties ≡ 0
+below-idle kind v zero = refl
+below-idle kind v (suc n) = omega (arith, below-idle kind v n)
 
-on-top : (limit n : ℕ) (ts : List Step) → OnTop (run ts (start limit n))
-on-top limit n ts = along OnTop on-moves on-ends ts (start limit n) (good-start limit n) (record {
-  used = used-start limit n;
+on-top : (limit : ℕ) (kind : Kind) (n : ℕ) (ts : List Step) → OnTop (run ts (start limit kind n))
+on-top limit kind n ts = along OnTop on-moves on-ends ts (start limit kind n) (good-start limit kind n) (record {
+  used = used-start limit kind n;
   roomy = λ r. omega (arith, weigh_all-idle (filling_of r) n);
-  below = below-idle held_of n;
+  below = below-idle kind held_of n;
 })
 
 -- nothing of it stands below a top
 pub held-on-top : (s : Machine) → Reached s → weigh_below held_of s.parties ≡ 0
 held-on-top s r = subst (λ (m : Machine). weigh_below held_of m.parties ≡ 0) (sym r.is)
-    (on-top r.limit r.parties r.steps).below
+    (on-top r.limit r.kind r.parties r.steps).below

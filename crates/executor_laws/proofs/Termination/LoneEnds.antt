@@ -7,6 +7,7 @@ use Rattle.std.proofs.lemmas.Bool.Decides.{nat_tests}
 use Rattle.std.proofs.Math.ListN.{length-set}
 use Rattle.std.specs.Prelude.{Option, Some, None}
 use Rattle.executor_model.specs.declared.call.Call.{Call}
+use Rattle.executor_model.specs.declared.kind.Kind.{Kind}
 use Rattle.executor_model.specs.declared.op.ListOp.TheVariants as list_op
 use Rattle.executor_model.specs.declared.op.Op.{Op}
 use Rattle.executor_model.specs.declared.op.Op.TheVariants as op
@@ -249,7 +250,7 @@ lone-calls-end s r = record {
       (still-alone p steps (after s (Begin p c)) now k.alone first.1 alone) _ refl;
 }
 
-pub lone-calls-all-end : (limit parties : ℕ) (steps : List Step) → LoneCallsEnd (run steps (start limit parties))
-lone-calls-all-end limit parties steps =
-    lone-calls-end (run steps (start limit parties))
-    (record { limit = limit; parties = parties; steps = steps; is = refl })
+pub lone-calls-all-end : (limit : ℕ) (kind : Kind) (parties : ℕ) (steps : List Step) → LoneCallsEnd (run steps (start limit kind parties))
+lone-calls-all-end limit kind parties steps =
+    lone-calls-end (run steps (start limit kind parties))
+    (record { limit = limit; kind = kind; parties = parties; steps = steps; is = refl })

@@ -22,16 +22,16 @@ use Rattle.executor_laws.proofs.Termination.SpendingRuns.{CanPay, TakesFew}
 use Rattle.executor_laws.proofs.Termination.TakingFew.{takes-few}
 
 used-all : (s : Machine) → Reached s → AllUsed s
-used-all s r = subst AllUsed (sym r.is) (all-used r.limit r.parties r.steps)
+used-all s r = subst AllUsed (sym r.is) (all-used r.limit r.kind r.parties r.steps)
 
 pub used-here : (s : Machine) → Reached s → (q : ℕ) → IsUsedOnce s q
 used-here s r q = (used-all s r q).once
 
 pub room-here : (s : Machine) → Reached s → (q : ℕ) → HasOwnRoom s q
-room-here s r q = subst (λ (m : Machine). HasOwnRoom m q) (sym r.is) (has-own-room r.limit r.parties r.steps q)
+room-here s r q = subst (λ (m : Machine). HasOwnRoom m q) (sym r.is) (has-own-room r.limit r.kind r.parties r.steps q)
 
 few-here : (s : Machine) → Reached s → TakesFew s.world
-few-here s r = subst (λ (m : Machine). TakesFew m.world) (sym r.is) (takes-few r.limit r.parties r.steps)
+few-here s r = subst (λ (m : Machine). TakesFew m.world) (sym r.is) (takes-few r.limit r.kind r.parties r.steps)
 
 places-few : (w : World) (q : ℕ) → own_places w q ≤ 512
 places-few w q = by (ltb q (length w.own))

@@ -1,7 +1,7 @@
 -- For calls_end and lone_calls_end.
 -- What each thing that is done spends of the steps that remain.
 use Rattle.std.proofs.Common.{◌≡◌, ℕ, zero, suc, ◌+◌, ◌*◌, ◌<◌, ◌≤◌, ◌==◌, List, [], ◌∷◌, ◌++◌, length, set, get_or}
-use Rattle.std.proofs.Common.{Bool, true, false, ◌||◌, ◌&&◌, not, cond, refl, ap, arith}
+use Rattle.std.proofs.Common.{Bool, true, false, ◌||◌, ◌&&◌, not, cond, refl, ap, ◌∙◌, arith}
 use Rattle.std.specs.Prelude.{Option, Some, None}
 use Rattle.task_moves.specs.declared.moves.state.State.{State}
 use Rattle.task_moves.specs.declared.moves.owed.Owed.{Owed}
@@ -14,7 +14,7 @@ use Rattle.executor_model.specs.declared.op.Awaiter.{Awaiter}
 use Rattle.executor_model.specs.World.{World, Done, log, log_if, task, put, put_awaiter}
 use Rattle.executor_model.specs.World.{awaiter_of, blank, without, among}
 use Rattle.executor_model.specs.Carried.{carried, owed_ops, schedule_ops, drop_ops, future_ops}
-use Rattle.executor_model.specs.Carried.{output_ops, awaiter_ops, next_ops}
+use Rattle.executor_model.specs.Carried.{output_ops, awaiter_ops, next_ops, drops, emptied_ops}
 use Rattle.executor_model.specs.Weights.{weigh}
 use Rattle.executor_laws.specs.Costs.{steps_of}
 use Rattle.executor_laws.specs.Remaining.{stored, appends_by, steps_of_task, steps_of_tasks, steps_of_runs, notified_of}
@@ -84,11 +84,16 @@ pub kept-log_if : (b : Bool) (w : World) (e : Event) → steps_kept (log_if b w 
 kept-log_if true w e = kept-log w e
 kept-log_if false w e = refl
 
+pub tasks-log_if : (b : Bool) (w : World) (e : Event) → (log_if b w e).tasks ≡ w.tasks
+tasks-log_if true w e = refl
+tasks-log_if false w e = refl
+
 -- what a move owes takes so many steps
 pub owed-steps : (b : Bool) (f : ℕ) (o : Owed) →
     weigh steps_of (owed_ops b f o) ≡ weigh steps_of (schedule_ops f o.schedule) +
     (weigh steps_of (future_ops b f o.future) + (weigh steps_of (output_ops o.drop_output f) +
-    (weigh steps_of (awaiter_ops f o.awaiter) + weigh steps_of (next_ops f o.next))))
+    (weigh steps_of (awaiter_ops f o.awaiter) + (weigh steps_of (next_ops f o.next) +
+    weigh steps_of (emptied_ops (o.empty_cell && drops o.future) f)))))
 owed-steps b f o = omega (
   arith,
   weigh-append steps_of (schedule_ops f o.schedule) (future_ops b f o.future),
@@ -98,11 +103,19 @@ owed-steps b f o = omega (
   weigh-append steps_of (schedule_ops f o.schedule ++ future_ops b f o.future ++ output_ops o.drop_output f
       ++ awaiter_ops f o.awaiter)
       (next_ops f o.next),
+  weigh-append steps_of (schedule_ops f o.schedule ++ future_ops b f o.future ++ output_ops o.drop_output f
+      ++ awaiter_ops f o.awaiter ++ next_ops f o.next)
+      (emptied_ops (o.empty_cell && drops o.future) f),
 )
 
 pub drop-steps : (b : Bool) (f : ℕ) → weigh steps_of (drop_ops b f) ≤ 5
 drop-steps true f = omega arith
 drop-steps false f = omega arith
+
+-- no cell is emptied while its future stays
+emptied-none : (b : Bool) (f : ℕ) → weigh steps_of (emptied_ops (b && false) f) ≡ 0
+emptied-none true f = refl
+emptied-none false f = refl
 
 pub notify-steps : (a : Bool) (f : ℕ) → weigh steps_of (awaiter_ops f (moves.notify_if a)) ≤ 2
 notify-steps true f = omega arith
@@ -138,6 +151,14 @@ pub spends-logged : (b : Bool) (w : World) (e : Event) (f c : ℕ) (m : Moved) �
     Spends w c (carried (log_if b w e) f m)
 spends-logged true w e f c m l k = spends-carried w (log w e) f c m l (kept-log w e) refl k
 spends-logged false w e f c m l k = spends-carried w w f c m l refl refl k
+
+-- where it is told of twice
+pub spends-told : (last b : Bool) (w : World) (e k : Event) (f c : ℕ) (m : Moved) → f < length w.tasks →
+    Costs (task w f) c m → Spends w c (carried (log_if last (log_if b w e) k) f m)
+spends-told last b w e k f c m l x =
+    let v : World = log_if b w e in
+    spends-carried w (log_if last v k) f c m l (kept-log_if last v k ∙ kept-log_if b w e)
+    (tasks-log_if last v k ∙ tasks-log_if b w e) x
 
 -- the moves, by what they read
 
@@ -304,7 +325,8 @@ costs-detach false true s e k b f = omega (
   closed-left s.completed true,
   open-left (is_over s) s.scheduled (not-over s.completed s.closed (s.references == 0) e k),
 )
-costs-detach false false s e k b f = omega arith
+costs-detach false false s e k b f =
+    omega (arith, owed-steps b f (moves.detach_by false false s).owed, emptied-none (s.references == 0) f)
 
 -- an output is taken, and the task is closed
 pub closed-spent : (c : Bool) (s : State) → steps_of_task (record s { closed = true; completed = c }) ≤ steps_of_task s

@@ -24,9 +24,9 @@ use Rattle.executor_model.specs.declared.op.HandleOp.TheVariants as handle_op
 use Rattle.executor_model.specs.declared.step.Hint.{Hint}
 use Rattle.executor_model.specs.World.{World, Done, done, log, task, put, awaiter_of, without, among}
 use Rattle.executor_model.specs.Carried.{awaiter_ops}
-use Rattle.executor_model.specs.Acts.{append_by, take_by, enter_by, entered, leave_by, copy_by, polled}
+use Rattle.executor_model.specs.Acts.{append_by, take_by, enter_by, entered, entry_goes, leave_by, copy_by, polled}
 use Rattle.executor_model.specs.Acts.{reply_of, is_output, answered, look_by, look_again_by, copied}
-use Rattle.executor_model.specs.Acts.{copy_awaiter_by, register_by, waker_goes, let_go, end_register_by}
+use Rattle.executor_model.specs.Acts.{copy_awaiter_by, register_by, waker_goes, let_go, let_go_by, end_register_by}
 use Rattle.executor_model.specs.Acts.{notify_by, told, end_notify, call_waker, closing_ops, take_out}
 use Rattle.executor_model.specs.Acts.{drop_next_by, followed, wake, wake_next_by, drain_by}
 use Rattle.executor_model.specs.Weights.{weigh}
@@ -56,6 +56,10 @@ spends-take w (f ∷ rest) e = omega (
   ap (λ (xs : List ℕ). length (drop 1 xs)) e,
 )
 
+entered-steps : (b : Bool) → steps_of_task (entered b) ≡ steps_of_task (entered false)
+entered-steps true = refl
+entered-steps false = refl
+
 pub spends-enter : (b c : Bool) (p : ℕ) (w : World) → Spends w 116 (enter_by b c p w)
 spends-enter true c p w = omega arith
 spends-enter false true p w = omega arith
@@ -64,13 +68,24 @@ spends-enter false false p w = omega (
   kept-parts w,
   kept-parts (enter_by false false p w).world,
   length_push w.table (length w.tasks),
-  tasks-push w.tasks entered,
+  tasks-push w.tasks (entered w.is_static),
+  entered-steps w.is_static,
   stored-push w.awaiters,
 )
 
+goes-entry : (b : Bool) (f : ℕ) → weigh steps_of (entry_goes b f) ≤ 13
+goes-entry true f = omega arith
+goes-entry false f = omega arith
+
 pub spends-leave : (b : Bool) (w : World) (f : ℕ) → among f w.table ≡ b → Spends w 1 (leave_by b w f)
 spends-leave true w f e =
-    omega (arith, kept-parts w, kept-parts (record w { table = without f w.table }), without-one f w.table e)
+    omega (
+      arith,
+      kept-parts w,
+      kept-parts (record w { table = without f w.table }),
+      without-one f w.table e,
+      goes-entry w.is_static f,
+    )
 spends-leave false w f e = omega arith
 
 -- the world has changed in nothing that is kept
@@ -223,6 +238,17 @@ spends-end_notify h w f mine l =
       kept-marks w f (moves.end_notify (task w f)).state l refl,
       kept-put_awaiter v f None,
       told-steps (mine && h.same) f (awaiter_of w f),
+    )
+
+pub spends-let_go : (b : Bool) (w : World) (f : ℕ) → f < length w.tasks → Spends w 1 (let_go_by b w f)
+spends-let_go true w f l = omega arith
+spends-let_go false w f l =
+    let v : World = put w f (record (task w f) { awaiter = false }) in
+    omega (
+      arith,
+      kept-marks w f (record (task w f) { awaiter = false }) l refl,
+      kept-put_awaiter v f None,
+      let_go-steps (awaiter_of w f),
     )
 
 pub spends-wake : (p : ℕ) (w : World) (f : ℕ) → f < length w.tasks → Spends w 26 (wake p w f)

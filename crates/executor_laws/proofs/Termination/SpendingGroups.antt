@@ -26,14 +26,14 @@ use Rattle.executor_model.specs.Good.{Needs}
 use Rattle.executor_model.specs.Steps.{waits, accepts, react}
 use Rattle.executor_model.proofs.OwnQueues.RunsAside.{is_run}
 use Rattle.executor_laws.specs.Costs.{steps_of}
-use Rattle.executor_laws.proofs.Termination.Spending.{Spends, kept-log, spends-carried, spends-logged, costs-wake}
+use Rattle.executor_laws.proofs.Termination.Spending.{Spends, kept-log, spends-carried, spends-logged, spends-told, costs-wake}
 use Rattle.executor_laws.proofs.Termination.Spending.{costs-release, costs-take_up, costs-settle_closed, costs-give_up}
 use Rattle.executor_laws.proofs.Termination.Spending.{costs-end_ready, costs-end_pending, costs-end_closed}
 use Rattle.executor_laws.proofs.Termination.Spending.{costs-drop_runnable, costs-cancel, costs-detach}
 use Rattle.executor_laws.proofs.Termination.SpendingActs.{spends-append, spends-take, spends-enter, spends-leave, spends-as}
 use Rattle.executor_laws.proofs.Termination.SpendingActs.{kept-as, spends-look, spends-again, spends-copy, spends-copy_awaiter}
 use Rattle.executor_laws.proofs.Termination.SpendingActs.{spends-register, spends-end_register, spends-notify}
-use Rattle.executor_laws.proofs.Termination.SpendingActs.{spends-end_notify, spends-wake, spends-call, spends-take_out}
+use Rattle.executor_laws.proofs.Termination.SpendingActs.{spends-end_notify, spends-let_go, spends-wake, spends-call, spends-take_out}
 use Rattle.executor_laws.proofs.Termination.SpendingActs.{spends-drop_next, spends-wake_next, spends-drain}
 use Rattle.executor_laws.proofs.Termination.SpendingTicks.{spends-sleeper}
 
@@ -49,7 +49,7 @@ spends-move move.WakeByReference p w f l k =
     spends-logged _ w (event.Woken p f) f 13 (moves.wake_by_reference (task w f)) l (costs-wake _ _ (task w f) refl)
 spends-move move.Wake p w f l k = spends-wake p w f l
 spends-move move.Release p w f l k =
-    spends-carried w w f 13 (moves.release (task w f)) l refl refl (costs-release _ _ (task w f) refl)
+    spends-logged _ w (event.LastWaker p f) f 13 (moves.release (task w f)) l (costs-release _ _ (task w f) refl)
 spends-move move.TakeUp p w f l k = spends-logged _ w (event.PollBegun p f) f 91 (moves.take_up (task w f)) l
     (costs-take_up _ (task w f))
 spends-move move.SettleClosed p w f l k =
@@ -59,7 +59,7 @@ spends-move move.GiveUp p w f l k =
 spends-move move.EndReady p w f l k =
     spends-carried w w f 9 (moves.end_ready (task w f)) l refl refl (costs-end_ready (task w f))
 spends-move move.EndPending p w f l k =
-    spends-carried w w f 44 (moves.end_pending (task w f)) l refl refl (costs-end_pending _ _ _ (task w f))
+    spends-logged _ w (event.LastWaker p f) f 44 (moves.end_pending (task w f)) l (costs-end_pending _ _ _ (task w f))
 spends-move move.EndClosed p w f l k =
     spends-carried w w f 4 (moves.end_closed (task w f)) l refl refl (costs-end_closed (task w f) k)
 spends-move move.DropRunnable p w f l k =
@@ -67,7 +67,8 @@ spends-move move.DropRunnable p w f l k =
 spends-move move.Cancel p w f l k =
     spends-logged _ w (event.Cancelled p f) f 15 (moves.cancel (task w f)) l (costs-cancel _ _ (task w f) refl)
 spends-move move.Detach p w f l k =
-    spends-logged _ w (event.Detached p f) f 13 (moves.detach (task w f)) l (costs-detach _ _ (task w f) refl refl)
+    spends-told _ _ w (event.Detached p f) (event.LastWaker p f) f 13 (moves.detach (task w f)) l
+    (costs-detach _ _ (task w f) refl refl)
 spends-move _ p w f l k = omega arith
 
 pub spends-act : (p : ℕ) (h : Hint) (o : Op) (w : World) → waits o ≡ false → is_run o ≡ false → Needs w o →
@@ -99,6 +100,7 @@ spends-act p h (op.Handle (handle_op.EndRegister f a m)) w n r l k = spends-end_
 spends-act p h (op.Handle (handle_op.LookAgain f)) w n r l k = spends-again _ _ _ p w f l
 spends-act p h (op.Handle (handle_op.Notify f mine)) w n r l k = spends-notify _ w f mine l
 spends-act p h (op.Handle (handle_op.EndNotify f mine)) w n r l k = spends-end_notify h w f mine l.0
+spends-act p h (op.Handle (handle_op.LetGo f)) w n r l k = spends-let_go _ w f l.0
 spends-act p h (op.Waker (waker_op.CallAwaiter f a m)) w n r l k = spends-call p w (of.Handle f) a m l
 spends-act p h (op.Sleeper o) w n r l k = spends-sleeper p o w l
 spends-act p h (op.Tick o) w n r l k = absurd (cc)

@@ -12,6 +12,7 @@ use Rattle.executor_model.specs.declared.call.Call.TheVariants as call
 use Rattle.executor_model.specs.declared.call.Reply.{Reply}
 use Rattle.executor_model.specs.declared.event.Answer.TheVariants as answer
 use Rattle.executor_model.specs.declared.event.Event.TheVariants as event
+use Rattle.executor_model.specs.declared.kind.Kind.{Kind}
 use Rattle.executor_model.specs.declared.op.ClosingOp.TheVariants as closing_op
 use Rattle.executor_model.specs.declared.op.ListOp.{ListOp}
 use Rattle.executor_model.specs.declared.op.ListOp.TheVariants as list_op
@@ -331,6 +332,6 @@ few-moves s p old rest d good l e (reacted o u a q z) k = rw z (pauses-react p o
 few-moves s p old rest d good l e (called c q t n z) k =
     rw z (pauses-begun p (log s.world (event.CallBegun p c)) (mine (top (stack s p))) c k)
 
-pub takes-few : (limit n : ℕ) (ts : List Step) → TakesFew (run ts (start limit n)).world
-takes-few limit n ts = along (λ (s : Machine). TakesFew s.world) few-moves (λ s p a held below l e k. k) ts
-    (start limit n) (good-start limit n) (λ r. omega arith)
+pub takes-few : (limit : ℕ) (kind : Kind) (n : ℕ) (ts : List Step) → TakesFew (run ts (start limit kind n)).world
+takes-few limit kind n ts = along (λ (s : Machine). TakesFew s.world) few-moves (λ s p a held below l e k. k) ts
+    (start limit kind n) (good-start limit kind n) (λ r. omega arith)

@@ -115,6 +115,7 @@ no-sits = record {
   output = λ f. refl;
   notify = λ f mine. refl;
   call = λ f a k. refl;
+  goes = λ f. refl;
 }
 
 -- a move of a task
@@ -123,16 +124,22 @@ told-silent : (m : Move) (p f : ℕ) → IsSilent (acts.told_as m p f)
 told-silent move.TakeUp p f t n s = refl
 told-silent _ p f t n s = refl
 
-beside-moved : (b : Bool) (w v : World) (e : Event) (f : ℕ) (m : Moved) → IsSilent e → ((t : TickOrRun) →
-    view t v ≡ view t w) →
-    Beside w (carried (log_if b v e) f m)
-beside-moved b w v e f m z x = besides w (carried (log_if b v e) f m) (λ t. view-log_if b t v e z
-    ∙ x t) (aside-owed sits_of no-sits f (among f (log_if b v e).table) m.owed)
+last-silent : (p f : ℕ) → IsSilent (event.LastWaker p f)
+last-silent p f t n s = refl
+
+beside-moved : (last b : Bool) (w v : World) (e c : Event) (f : ℕ) (m : Moved) → IsSilent e → IsSilent c →
+    ((t : TickOrRun) → view t v ≡ view t w) →
+    Beside w (carried (log_if last (log_if b v e) c) f m)
+beside-moved last b w v e c f m z y x =
+    let u : World = log_if b v e in
+    besides w (carried (log_if last u c) f m) (λ t. view-log_if last t u c y ∙ (view-log_if b t v e z ∙ x t))
+    (aside-owed sits_of no-sits f (among f (log_if last u c).table) m.owed)
 
 pub beside-move : (b : Bool) (m : Move) (p : ℕ) (w v : World) (f : ℕ) → ((t : TickOrRun) → view t v ≡ view t w) →
     Beside w (acts.move_by b m p v f)
-beside-move true m p w v f x = beside-moved _ w v (acts.told_as m p f) f (moves.after m (task v f)) (told-silent m p f)
-    x
+beside-move true m p w v f x =
+    beside-moved _ _ w v (acts.told_as m p f) (event.LastWaker p f) f (moves.after m (task v f)) (told-silent m p f)
+    (last-silent p f) x
 beside-move false m p w v f x = besides w _ x refl
 
 beside-call : (p : ℕ) (w : World) (f : ℕ) (a : Waker) (k : ℕ) → Beside w (acts.call_awaiter p w f a k)
@@ -149,8 +156,12 @@ beside-enter true c p w = besides w _ (λ t. refl) refl
 beside-enter false true p w = besides w _ (λ t. refl) refl
 beside-enter false false p w = besides w _ (λ t. view-log t w (event.Accepted p (length w.tasks)) (λ t n s. refl)) refl
 
+entry-sits : (b : Bool) (f : ℕ) → weigh sits_of (acts.entry_goes b f) ≡ 0
+entry-sits true f = refl
+entry-sits false f = refl
+
 beside-leave : (b : Bool) (w : World) (f : ℕ) → Beside w (acts.leave_by b w f)
-beside-leave true w f = besides w _ (λ t. refl) refl
+beside-leave true w f = besides w _ (λ t. refl) (entry-sits w.is_static f)
 beside-leave false w f = besides w _ (λ t. refl) refl
 
 beside-take : (q : List ℕ) (w : World) → Beside w (acts.take_by w q)
@@ -207,6 +218,10 @@ beside-notify : (b : Bool) (w : World) (f : ℕ) (mine : Bool) → Beside w (act
 beside-notify true w f mine = besides w _ (λ t. refl) refl
 beside-notify false w f mine = besides w _ (λ t. refl) refl
 
+beside-let_go : (b : Bool) (w : World) (f : ℕ) → Beside w (acts.let_go_by b w f)
+beside-let_go true w f = besides w _ (λ t. refl) refl
+beside-let_go false w f = besides w _ (λ t. refl) (aside-let_go sits_of no-sits (awaiter_of w f))
+
 -- the drop of the executor
 
 beside-drop_next : (p : ℕ) (w : World) (ls : List ℕ) → Beside w (acts.drop_next_by p w ls)
@@ -262,6 +277,7 @@ beside-act p h (op.Handle (handle_op.LookAgain f)) w n = beside-again _ p w f _
 beside-act p h (op.Handle (handle_op.Notify f mine)) w n = beside-notify _ w f mine
 beside-act p h (op.Handle (handle_op.EndNotify f mine)) w n =
     besides w _ (λ t. refl) (aside-told sits_of no-sits _ f (awaiter_of w f))
+beside-act p h (op.Handle (handle_op.LetGo f)) w n = beside-let_go _ w f
 beside-act p h (op.Sleeper sleeper_op.ExchangeFlag) w n = beside-exchange _ w
 beside-act p h (op.Sleeper sleeper_op.HandOut) w n = absurd (cc)
 beside-act p h (op.Sleeper (sleeper_op.CallSleeper s)) w n = absurd (cc)

@@ -3,6 +3,7 @@
 use Rattle.std.proofs.Common.{◌≡◌, ◌∙◌, ℕ, zero, suc, ◌<◌, List, [], ◌∷◌, ◌++◌, length, get_or, Bool, true, false}
 use Rattle.std.proofs.Common.{◌&&◌, ◌||◌, not, refl, sym, ap, subst, arith}
 use Rattle.std.specs.Prelude.{reverse}
+use Rattle.executor_model.specs.declared.kind.Kind.{Kind}
 use Rattle.executor_model.specs.declared.op.Op.{Op}
 use Rattle.executor_model.specs.declared.op.Op.TheVariants as op
 use Rattle.executor_model.specs.declared.step.Hint.{Hint}
@@ -53,7 +54,8 @@ standing-way s p old rest d good l e (reacted o u a q z) follows uses k =
     (subst (λ (x : Done). AllUsed (unsettled s p rest x)) z uses) k)
 standing-way s p old rest d good l e (called c q r n z) follows uses k =
     let f : _ = none_refused (is_free (top (stack s p))) (has_all s.world s.parties (top (stack s p)) c)
-    (not (s.world.gone && is_on_executor c)) (not (is_drop c) || is_unborrowed s.world s.parties) n in
+    (not (s.world.gone && is_on_executor c)) (not (is_drop c && s.world.is_static))
+    (not (is_drop c) || is_unborrowed s.world s.parties) n in
     rw z (standing-begun s p rest c f.1 f.3 l r (subst (λ (os : List Op). stack s p ≡ rest ++ reverse os) q e)
     (subst (λ (x : Done). Followed (unsettled s p rest x)) z follows)
     (subst (λ (x : Done). AllUsed (unsettled s p rest x)) z uses) k)
@@ -69,21 +71,22 @@ idle-stack zero q = refl
 idle-stack (suc n) zero = refl
 idle-stack (suc n) (suc q) = idle-stack n q
 
-none-stands : (t : TickOrRun) →
-    Stands (view t (start 0 0).world) nothing_done (marked (view t (start 0 0).world) nothing_done)
-none-stands (tick_or_run.Tick t) = grind (arith, watched-none)
-none-stands (tick_or_run.Run r) = grind (arith, watched-none)
+none-stands : (kind : Kind) (t : TickOrRun) →
+    Stands (view t (start 0 kind 0).world) nothing_done (marked (view t (start 0 kind 0).world) nothing_done)
+none-stands kind (tick_or_run.Tick t) = grind (arith, watched-none)
+none-stands kind (tick_or_run.Run r) = grind (arith, watched-none)
 
-pub standing-start : (limit n : ℕ) → Standing (start limit n)
-standing-start limit n = record {
-  followed = followed-start limit n;
-  used = used-start limit n;
+pub standing-start : (limit : ℕ) (kind : Kind) (n : ℕ) → Standing (start limit kind n)
+standing-start limit kind n = record {
+  followed = followed-start limit kind n;
+  used = used-start limit kind n;
   tied = λ t q. subst (IsTied t) (sym (idle-stack n q)) (tied-nil t);
-  stands = λ t. subst (λ (x : Doing). Stands (view t (start limit n).world) x (marked (view t (start limit n).world) x))
-      (sym (idle-doing t n)) (none-stands t);
+  stands = λ t. subst
+      (λ (x : Doing). Stands (view t (start limit kind n).world) x (marked (view t (start limit kind n).world) x))
+      (sym (idle-doing t n)) (none-stands kind t);
   held = λ t b. let no : false ≡ true = sym (ap (λ (w : Watched). w.asking) (watched-none t)) ∙ b in absurd (cc);
 }
 
-pub standing : (limit n : ℕ) (ts : List Step) → Standing (run ts (start limit n))
-standing limit n ts = along Standing standing-moves standing-ends ts (start limit n) (good-start limit n)
-    (standing-start limit n)
+pub standing : (limit : ℕ) (kind : Kind) (n : ℕ) (ts : List Step) → Standing (run ts (start limit kind n))
+standing limit kind n ts = along Standing standing-moves standing-ends ts (start limit kind n) (good-start limit kind n)
+    (standing-start limit kind n)

@@ -4,6 +4,7 @@ use Rattle.std.proofs.Common.{◌≡◌, ◌⊎◌, ◌∙◌, ℕ, suc, ◌+◌
 use Rattle.std.proofs.Common.{false, refl, sym, ap, subst, inl, inr, ⊎_elim, arith}
 use Rattle.executor_model.specs.declared.call.Reply.{Reply}
 use Rattle.executor_model.specs.declared.call.Reply.TheVariants as reply
+use Rattle.executor_model.specs.declared.kind.Kind.{Kind}
 use Rattle.executor_model.specs.declared.op.TickOrRun.{TickOrRun}
 use Rattle.executor_model.specs.declared.op.TickOrRun.TheVariants as tick_or_run
 use Rattle.executor_model.specs.declared.step.Step.{Step}
@@ -315,9 +316,9 @@ module _ (s : Machine) (fine : Good s) (hs : Heard s) (ds : Deep s) (told : Slee
         by (suc n) m a b k = of_common (omega (arith, a, times-length f s.world.queue.items))
         by zero m a b k = of_own (omega (arith, a, k))
 
-pub some-called : (limit parties : ℕ) (steps : List Step) (f : ℕ) →
-    SomeStandingIsCalled f (run steps (start limit parties)).world.trace
-some-called limit parties steps f t quiet due stand none =
-    one (run steps (start limit parties)) (good limit parties steps) (heard limit parties steps)
-    (deep limit parties steps) (are_told limit parties steps) (own-queue-has-runner limit parties steps)
-    (standing limit parties steps) quiet f t due stand none
+pub some-called : (limit : ℕ) (kind : Kind) (parties : ℕ) (steps : List Step) (f : ℕ) →
+    SomeStandingIsCalled f (run steps (start limit kind parties)).world.trace
+some-called limit kind parties steps f t quiet due stand none =
+    one (run steps (start limit kind parties)) (good limit kind parties steps) (heard limit kind parties steps)
+    (deep limit kind parties steps) (are_told limit kind parties steps) (own-queue-has-runner limit kind parties steps)
+    (standing limit kind parties steps) quiet f t due stand none

@@ -84,9 +84,16 @@ fn run_one(machine: &mut Machine, step: Step) -> Result<(), StepError>
     }
 }
 
+/// The kind of the executor that the first line names.
+fn kind_of(is_static: bool) -> Kind
+    ensures { result ≡ play.kind_of is_static }
+{
+    if is_static { Kind::Static } else { Kind::Owned }
+}
+
 /// A party for each that a script may name, and the one that it doesn't name.
 fn ten_parties(alloc: Global) -> Result<Vec<Party>, AllocError>
-    ensures { IfOk result (λ parties. parties.items ≡ (play.start [] 0).parties) }
+    ensures { IfOk result (λ parties. parties.items ≡ (play.start [] 0 false).parties) }
 {
     let idle = Party::idle();
     Vec::from_slice(
@@ -96,12 +103,17 @@ fn ten_parties(alloc: Global) -> Result<Vec<Party>, AllocError>
 }
 
 impl<'a> Player<'a> {
-    pub fn new(alloc: Global, commands: &'a [Command], limit: u64) -> Result<Player<'a>, AllocError>
-        ensures { IfOk result (λ player. player ≡ play.start commands.now limit) }
+    pub fn new(
+        alloc: Global,
+        commands: &'a [Command],
+        limit: u64,
+        is_static: bool,
+    ) -> Result<Player<'a>, AllocError>
+        ensures { IfOk result (λ player. player ≡ play.start commands.now limit is_static) }
     {
         Ok(Player {
             commands,
-            machine: Machine::new(alloc, limit, Kind::Owned, 10)?,
+            machine: Machine::new(alloc, limit, kind_of(is_static), 10)?,
             names: Names::new(alloc),
             futures: Vec::new(alloc),
             ticks: Names::new(alloc),

@@ -1,63 +1,67 @@
-use Rattle.std.proofs.Common.{List}
+use Rattle.std.proofs.Common.{List, subst, sym}
 use Rattle.executor_model.specs.declared.step.Step.{Step}
+use Rattle.executor_model.specs.EarlyDrop.{EarlyDropHasCause, LastWakerIsLast}
 use Rattle.executor_model.specs.Steps.{Machine, run, start}
 use Rattle.executor_core.proofs.laws.all_laws.Goals as goal
 
 pub returns : goal.returns
-returns c limit parties steps =
-    let s : Machine = run steps (start limit parties) in
+returns c limit kind parties steps =
+    let s : Machine = run steps (start limit kind parties) in
     record {
-      counted = c.references_are_counted.ensures limit parties steps;
-      one_runnable = c.one_runnable.ensures limit parties steps;
-      polls = c.laws_of_traces.ensures.polls limit parties steps;
-      asked = c.laws_of_traces.ensures.asked limit parties steps;
-      outputs = c.laws_of_traces.ensures.outputs limit parties steps;
-      outputs_kept = c.outputs_are_kept.ensures limit parties steps;
-      drops = c.laws_of_traces.ensures.drops limit parties steps;
-      causes = c.laws_of_traces.ensures.causes limit parties steps;
-      by_the_end = c.laws_of_traces.ensures.by_the_end limit parties steps;
-      awaiters = c.laws_of_traces.ensures.awaiters limit parties steps;
+      counted = c.references_are_counted.ensures limit kind parties steps;
+      one_runnable = c.one_runnable.ensures limit kind parties steps;
+      polls = c.laws_of_traces.ensures.polls limit kind parties steps;
+      asked = c.laws_of_traces.ensures.asked limit kind parties steps;
+      outputs = c.laws_of_traces.ensures.outputs limit kind parties steps;
+      outputs_kept = c.outputs_are_kept.ensures limit kind parties steps;
+      drops = c.laws_of_traces.ensures.drops limit kind parties steps;
+      causes = λ l k n ts e f. subst (λ (m : Machine). EarlyDropHasCause k f m.world.trace) (sym e)
+          (c.laws_of_traces.ensures.causes l k n ts f);
+      last_wakers = λ l k n ts e f. subst (λ (m : Machine). LastWakerIsLast k f m.world.trace) (sym e)
+          (c.laws_of_traces.ensures.last_wakers l k n ts f);
+      by_the_end = c.laws_of_traces.ensures.by_the_end limit kind parties steps;
+      awaiters = c.laws_of_traces.ensures.awaiters limit kind parties steps;
       handed = λ f p h. c.wakes_are_handed_on.ensures.handed s.world f p h;
-      on_their_way = c.wakes_are_handed_on.ensures.marked limit parties steps;
-      sleepers = c.sleepers_agree.ensures limit parties steps;
-      told = c.sleepers_are_told.ensures limit parties steps;
-      standing = c.laws_of_traces.ensures.standing limit parties steps;
-      keepers = c.laws_of_traces.ensures.keepers limit parties steps;
-      used_once = c.own_queues_agree.ensures.used limit parties steps;
-      listed = c.own_queues_agree.ensures.listed limit parties steps;
-      locked = c.own_queues_agree.ensures.locked limit parties steps;
-      own_room = c.own_queues_agree.ensures.roomy limit parties steps;
-      own_empty = c.own_queues_agree.ensures.empty limit parties steps;
-      own_runner = c.own_queues_agree.ensures.kept limit parties steps;
-      own_bound = c.own_queues_agree.ensures.bounded limit parties steps;
-      table = c.table_and_queue_agree.ensures.table limit parties steps;
-      queue = c.table_and_queue_agree.ensures.queue limit parties steps;
-      own = c.table_and_queue_agree.ensures.own limit parties steps;
-      places = c.no_append_is_refused_full.ensures limit parties steps;
-      limit = c.the_limit_is_exact.ensures limit parties steps;
-      emptiness = c.emptiness_is_exact.ensures limit parties steps;
-      quiet_emptiness = c.quiet_emptiness_is_exact.ensures limit parties steps;
+      on_their_way = c.wakes_are_handed_on.ensures.marked limit kind parties steps;
+      sleepers = c.sleepers_agree.ensures limit kind parties steps;
+      told = c.sleepers_are_told.ensures limit kind parties steps;
+      standing = c.laws_of_traces.ensures.standing limit kind parties steps;
+      keepers = c.laws_of_traces.ensures.keepers limit kind parties steps;
+      used_once = c.own_queues_agree.ensures.used limit kind parties steps;
+      listed = c.own_queues_agree.ensures.listed limit kind parties steps;
+      locked = c.own_queues_agree.ensures.locked limit kind parties steps;
+      own_room = c.own_queues_agree.ensures.roomy limit kind parties steps;
+      own_empty = c.own_queues_agree.ensures.empty limit kind parties steps;
+      own_runner = c.own_queues_agree.ensures.kept limit kind parties steps;
+      own_bound = c.own_queues_agree.ensures.bounded limit kind parties steps;
+      table = c.table_and_queue_agree.ensures.table limit kind parties steps;
+      queue = c.table_and_queue_agree.ensures.queue limit kind parties steps;
+      own = c.table_and_queue_agree.ensures.own limit kind parties steps;
+      places = c.no_append_is_refused_full.ensures limit kind parties steps;
+      limit = c.the_limit_is_exact.ensures limit kind parties steps;
+      emptiness = c.emptiness_is_exact.ensures limit kind parties steps;
+      quiet_emptiness = c.quiet_emptiness_is_exact.ensures limit kind parties steps;
       no_memory = c.wakes_and_drops_take_no_memory.ensures s.world;
       refusals = c.refused_calls_change_nothing.ensures s.world;
       want = c.want_of_memory_is_told_of.ensures s.world;
-      calls = c.calls_do_what_they_say.ensures limit parties steps;
-      lowered = c.calls_end.ensures.lowered limit parties steps;
-      ended = c.calls_end.ensures.ended limit parties steps;
+      calls = c.calls_do_what_they_say.ensures limit kind parties steps;
+      lowered = c.calls_end.ensures.lowered limit kind parties steps;
+      ended = c.calls_end.ensures.ended limit kind parties steps;
       goes = c.calls_end.ensures.goes s;
-      holder = c.calls_end.ensures.held limit parties steps;
-      lone = c.lone_calls_end.ensures limit parties steps;
-      ticks = c.ticks_are_exact.ensures limit parties steps;
-      in_reach = c.common_futures_are_in_reach.ensures limit parties steps;
-      in_order = c.arrival_order_needs_fewer_ticks.ensures limit parties steps;
-      places_of_due = c.due_futures_stand_with_their_keepers.ensures limit parties steps;
-      by_runs = c.runs_reach_futures.ensures limit parties steps;
-      kept_reached = c.kept_futures_are_in_reach.ensures limit parties steps;
-      left = c.dropped_runs_leave_common_futures.ensures limit parties steps;
-      lone_ticks = c.lone_calls_are_exact.ensures.ticks limit parties steps;
-      lone_emptiness = c.lone_calls_are_exact.ensures.emptiness limit parties steps;
-      queueings = λ l n ts e. c.queueings_are_counted.ensures l n ts;
+      holder = c.calls_end.ensures.held limit kind parties steps;
+      lone = c.lone_calls_end.ensures limit kind parties steps;
+      ticks = c.ticks_are_exact.ensures limit kind parties steps;
+      in_reach = c.common_futures_are_in_reach.ensures limit kind parties steps;
+      in_order = c.arrival_order_needs_fewer_ticks.ensures limit kind parties steps;
+      places_of_due = c.due_futures_stand_with_their_keepers.ensures limit kind parties steps;
+      by_runs = c.runs_reach_futures.ensures limit kind parties steps;
+      kept_reached = c.kept_futures_are_in_reach.ensures limit kind parties steps;
+      left = c.dropped_runs_leave_common_futures.ensures limit kind parties steps;
+      lone_ticks = c.lone_calls_are_exact.ensures.ticks limit kind parties steps;
+      lone_emptiness = c.lone_calls_are_exact.ensures.emptiness limit kind parties steps;
+      queueings = λ l k n ts e. c.queueings_are_counted.ensures l k n ts;
       continued = c.traces_continue.ensures s;
-      ticks_at_rest = c.calls_at_rest_are_exact.ensures.ticks limit parties steps;
-      emptiness_at_rest = c.calls_at_rest_are_exact.ensures.emptiness limit parties steps;
-      at_once = c.no_comes_at_once.ensures limit parties steps;
+      ticks_at_rest = c.calls_at_rest_are_exact.ensures.ticks limit kind parties steps;
+      emptiness_at_rest = c.calls_at_rest_are_exact.ensures.emptiness limit kind parties steps;
+      at_once = c.no_comes_at_once.ensures limit kind parties steps;
     }

@@ -2,4 +2,4 @@ use Rattle.executor_laws.proofs.Keepers.KeptRest.{keeper-is-called}
 use Rattle.executor_laws.proofs.laws.keepers_are_called.Goals as goal
 
 pub returns : goal.returns
-returns c limit parties steps f = keeper-is-called limit parties steps f
+returns c limit kind parties steps f = keeper-is-called limit kind parties steps f

@@ -11,7 +11,8 @@ so (Err e) f p = p
 pub returns : goal.returns
 returns c =
     let p = c.in_ok-played.ensures in
-    let plays = subst (λ (cs : List Command). IsPlayed c.args.script.now.limit cs p.0) c.as_slice.ensures.value p.1 in
+    let plays = subst (λ (cs : List Command). IsPlayed c.args.script.now.limit c.args.script.now.is_static cs p.0)
+    c.as_slice.ensures.value p.1 in
     let all : c.as_slice-2.result.now ≡ p.0.moments = c.as_slice-2.ensures.value ∙ p.2 in
     let names = p.3 in
     let ticks = p.4 in

@@ -3,8 +3,9 @@ use Rattle.std.proofs.Common.{sym, ap, ◌∙◌, ◌≤◌, add-one, refl, arit
 use Rattle.std.proofs.Math.Seq.{drop-cons}
 use Rattle.std.proofs.lemmas.List.{drop_all}
 use Rattle.executor_core.specs.AllLaws.{AllLaws}
+use Rattle.executor_model.specs.Steps as steps
 use Rattle.script.specs.declared.command.Command.{Command}
-use Rattle.simulator.specs.Play.{Player, start}
+use Rattle.simulator.specs.Play.{Player, kind_of, start}
 use Rattle.simulator.specs.Commands.{PlaysUnless, PlaysAll}
 use Rattle.simulator.proofs.Keeping.{IsFair, fair}
 use Rattle.simulator.proofs.play.run.Goals as goal
@@ -39,10 +40,10 @@ played_all cs i s past = subst (λ (ds : List Command). PlaysAll i ds s s) (sym 
 pub returns : goal.returns
 returns c =
     let last = c.loop-at.player in
-    let plays : PlaysAll 0 c.args.commands.now (start c.args.commands.now c.args.limit) last =
+    let plays : PlaysAll 0 c.args.commands.now (start c.args.commands.now c.args.limit c.args.is_static) last =
     c.loop-at.invariant last (played_all c.args.commands.now c.loop-at.at last c.loop-at-test.false) in
-    let comes : IsFair c.args.limit last =
-    fair c.traces_continue.ensures c.args.limit c.args.commands.now last plays in (
+    let comes : IsFair (steps.start c.args.limit (kind_of c.args.is_static) 10) last =
+    fair c.traces_continue.ensures c.args.limit c.args.is_static c.args.commands.now last plays in (
       last,
       record {
         plays = plays;

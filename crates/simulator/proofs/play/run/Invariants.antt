@@ -6,4 +6,4 @@ use Rattle.simulator.proofs.play.run.Given as goal
 
 abbrev pub invariant-loop-at : goal.invariant-loop-at
 invariant-loop-at l = (last : Player) → PlaysAll l.at (drop l.at l.commands) l.player last →
-    PlaysAll 0 l.commands (start l.commands l.limit) last
+    PlaysAll 0 l.commands (start l.commands l.limit l.is_static) last

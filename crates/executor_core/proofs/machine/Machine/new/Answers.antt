@@ -8,4 +8,4 @@ loop-i-preserved c = ap items c.in_ok-push.ensures.items ∙ idle-push c.loop-i.
     c.loop-i.invariant
 
 pub invariant_of-result : goal.invariant_of-result
-invariant_of-result c = starts _ _ _ _ c.empty.ensures c.loop-i.invariant
+invariant_of-result c = starts _ _ _ _ _ c.empty.ensures c.loop-i.invariant

@@ -27,7 +27,6 @@ pub const OWN_PLACES: usize = 512;
 pub type Queue = ConcurrentQueue<Returning<StoredRunnable>>;
 
 /// The queues, and who sleeps.
-#[derive(Drop)]
 pub struct State<W> {
     /// The global queue, which has a place for each future that the executor accepts.
     pub queue: Queue,
@@ -37,6 +36,18 @@ pub struct State<W> {
     pub notified: Flag,
     /// The ticks and runs that sleep.
     pub sleepers: Guarded<Sleepers<SleeperWaker<W>>>,
+}
+
+/// Written out: it is proved once, for all in this crate that let one go.
+impl<W: Drop> Drop for State<W> {
+    fn drop(self) {
+        let State {
+            queue: _queue,
+            own_queues: _own_queues,
+            notified: _notified,
+            sleepers: _sleepers,
+        } = self;
+    }
 }
 
 impl<W: Drop> State<W> {

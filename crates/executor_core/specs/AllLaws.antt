@@ -7,23 +7,29 @@ use Rattle.executor_model.specs.declared.step.Step.{Step}
 use Rattle.executor_model.specs.AskedPolls.{IsWokenBetweenPolls}
 use Rattle.executor_model.specs.AwaiterKept.{AwaiterIsKept}
 use Rattle.executor_model.specs.CallsMean.{CallsDoWhatTheySay}
+use Rattle.executor_model.specs.DroppedAtRest.{IsDroppedAtRest}
 use Rattle.executor_model.specs.DroppedOnce.{DropComesOnce, IsDroppedByTheEnd}
 use Rattle.executor_model.specs.EarlyDrop.{EarlyDropHasCause, LastWakerIsLast}
 use Rattle.executor_model.specs.Emptiness.{IsEmptinessExact, IsQuietEmptinessExact}
 use Rattle.executor_model.specs.Entries.{FindsPlace, OwnAgrees, QueueAgrees, TableAgrees}
 use Rattle.executor_model.specs.HandingOn.{HandsOn, IsOnItsWay}
+use Rattle.executor_model.specs.InPlace.{IsInPlace}
 use Rattle.executor_model.specs.LawfulPolls.{HasLawfulPolls}
 use Rattle.executor_model.specs.Limit.{IsLimitExact}
 use Rattle.executor_model.specs.Memory.{NeedsNoMemory}
 use Rattle.executor_model.specs.OutputKept.{OutputIsKept}
 use Rattle.executor_model.specs.OutputOnce.{OutputGoesOnce}
+use Rattle.executor_model.specs.OutputSettled.{OutputIsSettled}
 use Rattle.executor_model.specs.OwnQueues.{HasOwnRoom, IsEmptyMeanwhile, IsUsedOnce}
 use Rattle.executor_model.specs.OwnQueues.{IsWithinBound, ListAgrees, LockAgrees, OwnQueueHasRunner}
 use Rattle.executor_model.specs.Refusals.{IsWantToldOf, RefusedChangesNothing}
 use Rattle.executor_model.specs.Executions.{HasOneRunnable, IsCounted}
 use Rattle.executor_model.specs.SleepersAgree.{SleepersAgree}
 use Rattle.executor_model.specs.SleepersTold.{SleepersAreTold}
+use Rattle.executor_model.specs.SpawnsMean.{SpawnsAreLimited}
 use Rattle.executor_model.specs.Steps.{Machine, run, start, step, stepped}
+use Rattle.executor_model.specs.TableKeeps.{EntryOutlastsDrop, IsTableBound}
+use Rattle.executor_model.specs.WakersMean.{WakersWakeTheirOwn}
 use Rattle.executor_laws.specs.Called.{KeeperIsCalled, SomeStandingIsCalled}
 use Rattle.executor_laws.specs.AtOnce.{NoComesAtOnce}
 use Rattle.executor_laws.specs.Continued.{IsContinued}
@@ -53,6 +59,8 @@ pub record AllLaws (s : Machine) : Type 0 where
   pub outputs : (f : ℕ) → OutputGoesOnce f s.world.trace
   -- an output that is there is given to the next poll of the handle that is made alone
   pub outputs_kept : (f : ℕ) → OutputIsKept s f
+  -- and any other of a future that was ready has gone, where no call is in progress
+  pub outputs_settled : (f : ℕ) → OutputIsSettled s f
   -- a future is dropped once at most
   pub drops : (f : ℕ) → DropComesOnce f s.world.trace
   -- and early only for a cause, which the kind says of a machine that steps of a new one led to
@@ -63,6 +71,8 @@ pub record AllLaws (s : Machine) : Type 0 where
       (f : ℕ) → LastWakerIsLast kind f s.world.trace
   -- and each accepted one once, where the drop of the executor has ended
   pub by_the_end : (f : ℕ) → IsDroppedByTheEnd f s.world.trace
+  -- so it is where the executor was dropped and no call is in progress
+  pub at_rest : (f : ℕ) → IsDroppedAtRest f s.world.trace
   -- who waits on the handle of a dropped future was called
   pub awaiters : (f : ℕ) → AwaiterIsKept f s.world.trace
   -- a wake that marks a task hands on one Runnable, and no other wake hands on any
@@ -71,7 +81,7 @@ pub record AllLaws (s : Machine) : Type 0 where
   pub on_their_way : (f : ℕ) → IsOnItsWay s f
   -- of sleepers, ticks and runs
 
-  -- who sleeps, who sleeps, the flag and the room agree
+  -- who sleeps, which wakers wait, the flag and the room agree
   pub sleepers : SleepersAgree s
   -- where something is queued and somebody sleeps, one is told, or a party will tell or search
   pub told : SleepersAreTold s
@@ -97,6 +107,11 @@ pub record AllLaws (s : Machine) : Type 0 where
 
   -- the table has those that are undropped, or whose drop has still to take the entry out, once each
   pub table : (f : ℕ) → TableAgrees s f
+  -- no more than the limit, and each until the drop and the section behind it have ended
+  pub table_bound : IsTableBound s
+  pub entries : (f : ℕ) → EntryOutlastsDrop s f
+  -- an accepted future is in its place there, or is polled or on its way to its drop or behind that, and not both
+  pub in_place : (f : ℕ) → IsInPlace s f
   -- a Runnable in the queue is the only one there of an accepted future, undropped or dropped by the executor's drop
   pub queue : (f : ℕ) → QueueAgrees s f
   -- and so is one in a run's own queue
@@ -118,6 +133,10 @@ pub record AllLaws (s : Machine) : Type 0 where
 
   -- each call that has ended was answered in its kind, and did itself what its name says
   pub calls : (p : ℕ) → CallsDoWhatTheySay p s.world.trace
+  -- an answer that the executor is full is given where it is, and no more futures are undropped than its limit
+  pub spawns : SpawnsAreLimited s
+  -- a kept waker stays its future's, and a wake by it wakes that
+  pub wakers : WakersWakeTheirOwn s
   -- each step that goes on lowers a number
   pub lowered : EachStepLowers s
   -- so a list of these is no longer than that

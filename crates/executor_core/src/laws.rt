@@ -1,6 +1,7 @@
 //! All laws of every machine, in one record.
 ghost use Rattle.executor_model.specs.AskedPolls.{IsWokenBetweenPolls};
 ghost use Rattle.executor_model.specs.AwaiterKept.{AwaiterIsKept};
+ghost use Rattle.executor_model.specs.DroppedAtRest.{IsDroppedAtRest};
 ghost use Rattle.executor_model.specs.DroppedOnce.{DropComesOnce, IsDroppedByTheEnd};
 ghost use Rattle.executor_model.specs.EarlyDrop.{EarlyDropHasCause, LastWakerIsLast};
 ghost use Rattle.executor_model.specs.EveryTrace.{EveryTrace, EveryTraceBy};
@@ -17,17 +18,20 @@ use executor_laws::laws::{
     lone_calls_are_exact, lone_calls_end, no_comes_at_once, queueings_are_counted,
     runs_reach_futures, some_standing_is_called, ticks_are_exact, traces_continue,
 };
-use executor_model::call_laws::calls_do_what_they_say;
+use executor_model::call_laws::{
+    calls_do_what_they_say, spawns_are_limited, wakers_wake_their_own,
+};
 use executor_model::laws::{
-    emptiness_is_exact, no_append_is_refused_full, one_runnable, outputs_are_kept,
-    own_queues_agree, quiet_emptiness_is_exact, references_are_counted,
-    refused_calls_change_nothing, sleepers_agree, sleepers_are_told, table_and_queue_agree,
-    the_limit_is_exact, wakes_and_drops_take_no_memory, wakes_are_handed_on,
-    want_of_memory_is_told_of,
+    emptiness_is_exact, futures_are_in_their_places, no_append_is_refused_full, one_runnable,
+    outputs_are_kept, outputs_are_settled, own_queues_agree, quiet_emptiness_is_exact,
+    references_are_counted, refused_calls_change_nothing, sleepers_agree, sleepers_are_told,
+    table_and_queue_agree, the_limit_is_exact, the_table_is_kept, wakes_and_drops_take_no_memory,
+    wakes_are_handed_on, want_of_memory_is_told_of,
 };
 use executor_model::trace_laws::{
-    awaiters_are_kept, closing_drops_each_future_once, drops_come_once, early_drops_have_causes,
-    last_wakers_are_of_detached_futures, outputs_go_once, polls_are_asked_for, polls_are_lawful,
+    awaiters_are_kept, closing_drops_each_future_once, dropped_executors_drop_each_future_once,
+    drops_come_once, early_drops_have_causes, last_wakers_are_of_detached_futures, outputs_go_once,
+    polls_are_asked_for, polls_are_lawful,
 };
 
 /// Whatever the parties do, all laws hold of the machine to which it leads. Does nothing, and takes no memory.
@@ -38,11 +42,14 @@ pub fn all_laws()
     references_are_counted();
     one_runnable();
     outputs_are_kept();
+    outputs_are_settled();
     wakes_are_handed_on();
     sleepers_agree();
     sleepers_are_told();
     own_queues_agree();
     table_and_queue_agree();
+    the_table_is_kept();
+    futures_are_in_their_places();
     no_append_is_refused_full();
     the_limit_is_exact();
     emptiness_is_exact();
@@ -51,6 +58,8 @@ pub fn all_laws()
     refused_calls_change_nothing();
     want_of_memory_is_told_of();
     calls_do_what_they_say();
+    spawns_are_limited();
+    wakers_wake_their_own();
     calls_end();
     lone_calls_end();
     ticks_are_exact();
@@ -76,6 +85,7 @@ fn laws_of_traces()
     ensures causes { EveryTraceBy EarlyDropHasCause }
     ensures last_wakers { EveryTraceBy LastWakerIsLast }
     ensures by_the_end { EveryTrace IsDroppedByTheEnd }
+    ensures at_rest { EveryTrace IsDroppedAtRest }
     ensures awaiters { EveryTrace AwaiterIsKept }
     ensures standing { EveryTrace SomeStandingIsCalled }
     ensures keepers { EveryTrace KeeperIsCalled }
@@ -87,6 +97,7 @@ fn laws_of_traces()
     early_drops_have_causes();
     last_wakers_are_of_detached_futures();
     closing_drops_each_future_once();
+    dropped_executors_drop_each_future_once();
     awaiters_are_kept();
     some_standing_is_called();
     keepers_are_called();

@@ -1,4 +1,4 @@
--- Calls do what they say: calls_do_what_they_say.
+-- Calls do what they say: calls_do_what_they_say, spawns_are_limited and wakers_wake_their_own.
 pub mod CallFolds
 pub mod CallFrames
 pub mod CallServes
@@ -8,3 +8,9 @@ pub mod CallTold
 pub mod CallAnswers
 pub mod CallTells
 pub mod CallTurns
+pub mod FrameWays
+pub mod Dropping
+pub mod SpawnAnswers
+pub mod SpawnLimits
+pub mod OwnWakers
+pub mod OwnWakes

@@ -18,6 +18,9 @@ pub mod Lift
 pub mod Needing
 pub mod Stepping
 pub mod Ways
+pub mod Settled
+pub mod Placing
+pub mod Nears
 pub mod Pushes
 pub mod Reached
 pub mod Tests

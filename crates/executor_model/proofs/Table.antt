@@ -1,5 +1,6 @@
--- Futures enter the table within its limit, and are dropped once: table_and_queue_agree, no_append_is_refused_full,
--- the_limit_is_exact, drops_come_once, early_drops_have_causes and closing_drops_each_future_once.
+-- Futures enter the table within its limit, and are dropped once: table_and_queue_agree, the_table_is_kept,
+-- futures_are_in_their_places, no_append_is_refused_full, the_limit_is_exact, drops_come_once, early_drops_have_causes
+-- and closing_drops_each_future_once.
 pub mod Leaving
 pub mod LeavingViews
 pub mod LeavingAll
@@ -11,3 +12,7 @@ pub mod TidyingGroups
 pub mod LeavingExecutions
 pub mod Entering
 pub mod Spawning
+pub mod Pairs
+pub mod Bounds
+pub mod Spots
+pub mod Spotting

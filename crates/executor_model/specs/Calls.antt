@@ -20,6 +20,11 @@ pub record Ended : Type 0 where
   pub reply : Reply
   pub past : Trace
 
+-- each of these calls is so
+abbrev pub Each : (Ended → Type 0) → List Ended → Type 0
+Each R [] = Unit {0}
+Each R (e ∷ es) = R e × Each R es
+
 -- all that has happened, the party's calls in progress, the innermost first, and its calls that have ended
 pub record Calls : Type 0 where
   pub past : Trace

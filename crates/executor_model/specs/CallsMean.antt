@@ -5,7 +5,7 @@ use Rattle.executor_model.specs.declared.call.Call.TheVariants as call
 use Rattle.executor_model.specs.declared.call.Reply.{Reply}
 use Rattle.executor_model.specs.declared.call.Reply.TheVariants as reply
 use Rattle.executor_model.specs.AwaiterKept.{is_handle_poll}
-use Rattle.executor_model.specs.Calls.{Ended, calls}
+use Rattle.executor_model.specs.Calls.{Each, Ended, calls}
 use Rattle.executor_model.specs.OutputOnce.{is_output_given}
 use Rattle.executor_model.specs.Trace.{Trace, has, is_accepted, is_cancelled, is_detached, is_drop_begun, is_drop_ended}
 use Rattle.executor_model.specs.Trace.{is_dropped, is_last_waker, is_poll, is_ready, is_woken}
@@ -73,7 +73,7 @@ HasDetached f own = has (is_detached f) own ≡ true
 abbrev pub HasAccepted : Trace → Type 0
 HasAccepted own = (f : ℕ) × (has (is_accepted f) own ≡ true)
 
--- it woke a future, unless one that it was to wake was over before it ended
+-- it woke a future, unless some future, whichever, was over before it ended; of a kept waker WakersMean says which
 abbrev pub HasWoken : Trace → Trace → Type 0
 HasWoken own past = (f : ℕ) × ((has (is_woken f) own ≡ true) ⊎ MayBeOver f past)
 
@@ -111,8 +111,7 @@ pub record IsAnsweredRight (e : Ended) : Type 0 where
   pub done : IsWhatItSays e.call e.reply e.own e.past
 
 abbrev pub EachIsRight : List Ended → Type 0
-EachIsRight [] = Unit {0}
-EachIsRight (e ∷ es) = IsAnsweredRight e × EachIsRight es
+EachIsRight es = Each IsAnsweredRight es
 
 -- each call of party q that has ended did what its name says
 abbrev pub CallsDoWhatTheySay : ℕ → Trace → Type 0

@@ -4,6 +4,7 @@ pub mod EarlyDrop
 pub mod Due
 pub mod Quiet
 pub mod DroppedOnce
+pub mod DroppedAtRest
 pub mod OutputOnce
 pub mod World
 pub mod Carried
@@ -19,12 +20,15 @@ pub mod Good
 pub mod Executions
 pub mod EveryTrace
 pub mod Entries
+pub mod TableKeeps
+pub mod InPlace
 pub mod Limit
 pub mod AskedPolls
 pub mod Emptiness
 pub mod Memory
 pub mod Refusals
 pub mod OutputKept
+pub mod OutputSettled
 pub mod AwaiterKept
 pub mod Keeper
 pub mod Standing
@@ -35,3 +39,5 @@ pub mod SleepersTold
 pub mod Deeds
 pub mod Calls
 pub mod CallsMean
+pub mod SpawnsMean
+pub mod WakersMean

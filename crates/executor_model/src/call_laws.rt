@@ -1,15 +1,31 @@
 //! Laws of what each call does, of any number of parties and any list of steps.
 ghost use Rattle.executor_model.specs.CallsMean.{CallsDoWhatTheySay};
 ghost use Rattle.executor_model.specs.EveryTrace.{EveryTrace};
+ghost use Rattle.executor_model.specs.Executions.{EveryMachine};
+ghost use Rattle.executor_model.specs.SpawnsMean.{SpawnsAreLimited};
+ghost use Rattle.executor_model.specs.WakersMean.{WakersWakeTheirOwn};
 
 /// Whatever the parties do, each call that has ended was answered with one of its own answers, and did what its name
 /// says, itself and not by a call inside of it. A spawn that was made took a future in. A tick that was tried and
 /// answered yes, and a poll of a tick that was answered ready, began the poll or the drop of a future; so a poll that
-/// finds none is answered that nothing is ready, or that memory is wanted. A wake woke a future, unless one that it was
-/// to wake was over. A poll of a handle that wasn't refused was told of, and gave the output where it was answered
+/// finds none is answered that nothing is ready, or that memory is wanted. A wake woke a future, unless some future,
+/// whichever, was over. A poll of a handle that wasn't refused was told of, and gave the output where it was answered
 /// ready. A cancel, and the drop of a handle, cancelled the future, unless that was over; and a detach, and the drop of
 /// a handle, detached it. The drop of the executor began, and came to its end. A future is over that was ready or
 /// cancelled before the call ended, or, as that closes each task, any once the drop of the executor had begun.
 pub fn calls_do_what_they_say()
     ensures { EveryTrace CallsDoWhatTheySay }
+{}
+
+/// Whatever the parties do, each answer that the executor is full is given where as many futures as the limit, or more,
+/// have been accepted and are undropped, or were dropped by a call that hasn't ended. And never are more futures
+/// undropped than the limit: so a spawn that asks for a place where as many are undropped is not made.
+pub fn spawns_are_limited()
+    ensures { EveryMachine SpawnsAreLimited }
+{}
+
+/// Whatever the parties do, a kept waker that is one of a future stays so until it is used up, and each wake by it that
+/// has ended woke that future, unless that was over before the wake ended.
+pub fn wakers_wake_their_own()
+    ensures { EveryMachine WakersWakeTheirOwn }
 {}

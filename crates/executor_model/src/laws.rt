@@ -4,15 +4,18 @@ ghost use Rattle.executor_model.specs.declared.step.Hint.{Hint};
 ghost use Rattle.executor_model.specs.Emptiness.{IsEmptinessExact, IsQuietEmptinessExact};
 ghost use Rattle.executor_model.specs.Entries.{FindsPlace, OwnAgrees, QueueAgrees, TableAgrees};
 ghost use Rattle.executor_model.specs.HandingOn.{HandsOn, IsOnItsWay};
+ghost use Rattle.executor_model.specs.InPlace.{IsInPlace};
 ghost use Rattle.executor_model.specs.Limit.{IsLimitExact};
 ghost use Rattle.executor_model.specs.Memory.{NeedsNoMemory};
 ghost use Rattle.executor_model.specs.OutputKept.{OutputIsKept};
+ghost use Rattle.executor_model.specs.OutputSettled.{OutputIsSettled};
 ghost use Rattle.executor_model.specs.OwnQueues.{HasOwnRoom, IsEmptyMeanwhile, IsUsedOnce};
 ghost use Rattle.executor_model.specs.OwnQueues.{IsWithinBound, ListAgrees, LockAgrees, OwnQueueHasRunner};
 ghost use Rattle.executor_model.specs.Refusals.{IsWantToldOf, RefusedChangesNothing};
 ghost use Rattle.executor_model.specs.Executions.{EveryMachine, EveryExecution, HasOneRunnable, IsCounted};
 ghost use Rattle.executor_model.specs.SleepersAgree.{SleepersAgree};
 ghost use Rattle.executor_model.specs.SleepersTold.{SleepersAreTold};
+ghost use Rattle.executor_model.specs.TableKeeps.{EntryOutlastsDrop, IsTableBound};
 ghost use Rattle.executor_model.specs.World.{World};
 
 /// Whatever the parties do, a task's count is its living wakers, and one for a Runnable, a run or a
@@ -36,6 +39,19 @@ pub fn table_and_queue_agree()
     ensures table { EveryExecution TableAgrees }
     ensures queue { EveryExecution QueueAgrees }
     ensures own { EveryExecution OwnAgrees }
+{}
+
+/// Whatever the parties do, the table has no more entries than the limit; and until the drop of the executor takes it out,
+/// a future whose drop is in progress, or whose entry has still to be taken out behind that, has its entry.
+pub fn the_table_is_kept()
+    ensures bounded { EveryMachine IsTableBound }
+    ensures entries { EveryExecution EntryOutlastsDrop }
+{}
+
+/// Whatever the parties do, an accepted future is in its place in the table, but while it is polled, until it is put back,
+/// once it was taken out to be dropped, and once its drop has begun; and then it isn't there.
+pub fn futures_are_in_their_places()
+    ensures { EveryExecution IsInPlace }
 {}
 
 /// Whatever the parties do, whoever is about to append a Runnable to the queue finds a place for it.
@@ -90,6 +106,13 @@ pub fn want_of_memory_is_told_of()
 /// poll of the handle, with no step of another party in between, gives the output, whoever makes it.
 pub fn outputs_are_kept()
     ensures { EveryExecution OutputIsKept }
+{}
+
+/// Where no call is in progress, the output of a future that was ready was given to a poll of its handle or dropped, and
+/// once; or the next poll of the handle, whoever makes it alone, is given it. So an output that nobody can take was
+/// dropped.
+pub fn outputs_are_settled()
+    ensures { EveryExecution OutputIsSettled }
 {}
 
 /// Each wake that marks a task as scheduled hands on exactly one Runnable where the task isn't running,

@@ -1,6 +1,7 @@
 //! Laws of the trace of every execution, of any number of parties and any list of steps.
 ghost use Rattle.executor_model.specs.AskedPolls.{IsWokenBetweenPolls};
 ghost use Rattle.executor_model.specs.AwaiterKept.{AwaiterIsKept};
+ghost use Rattle.executor_model.specs.DroppedAtRest.{IsDroppedAtRest};
 ghost use Rattle.executor_model.specs.DroppedOnce.{DropComesOnce, IsDroppedByTheEnd};
 ghost use Rattle.executor_model.specs.EarlyDrop.{EarlyDropHasCause, LastWakerIsLast};
 ghost use Rattle.executor_model.specs.EveryTrace.{EveryTrace, EveryTraceBy};
@@ -41,6 +42,12 @@ pub fn last_wakers_are_of_detached_futures()
 /// was dropped once.
 pub fn closing_drops_each_future_once()
     ensures { EveryTrace IsDroppedByTheEnd }
+{}
+
+/// Whatever the parties do, where somebody has dropped the executor and no call is in progress, each accepted future was
+/// dropped, and was dropped once.
+pub fn dropped_executors_drop_each_future_once()
+    ensures { EveryTrace IsDroppedAtRest }
 {}
 
 /// Whatever the parties do, a future is woken between two of its polls.

@@ -7,8 +7,6 @@ mod ended;
 #[cfg(test)]
 mod parties;
 #[cfg(test)]
-mod seated;
-#[cfg(test)]
 mod texts;
 #[cfg(test)]
 mod threads;

@@ -1,5 +1,5 @@
 -- What each call of an executor of one owner does, and what it hands out.
-use Rattle.std.specs.Prelude.{◌≡◌, ℕ, ◌==◌, Bool, true, false, [], Option, Some, None, is_some, Result, Ok, Err, length, slice_get, unwrap_or}
+use Rattle.std.specs.Prelude.{◌≡◌, ℕ, ◌==◌, ◌||◌, Bool, true, false, [], Option, Some, None, is_some, Result, Ok, Err, length, slice_get, unwrap_or}
 use Rattle.queue_steps.specs.ClosableQueue.{new_queue, count_of_new, taken as without_first}
 use Rattle.executor_parts.specs.declared.places.EntryPlace.{EntryPlace}
 use Rattle.executor_parts.specs.Places.{entry_in, set_future, displaced}
@@ -20,6 +20,7 @@ use Rattle.solo.specs.declared.owed.Taken.{Taken}
 use Rattle.solo.specs.declared.owed.Found.TheVariants.{Nothing}
 use Rattle.solo.specs.declared.owed.Spawned.{Spawned}
 use Rattle.solo.specs.declared.owed.SpawnError.{SpawnError}
+use Rattle.solo.specs.declared.owed.SpawnError.TheVariants.{Full, NoMemory}
 use Rattle.solo.specs.declared.solo.Solo.{Solo}
 use Rattle.solo.specs.declared.cells.After.{After}
 use Rattle.solo.specs.declared.cells.After.TheVariants.{Queue, Rest, Drop as DropFuture, Unknown}
@@ -28,6 +29,11 @@ use Rattle.solo.specs.Cells.{choose, changed, asked, tidied}
 use Rattle.solo.specs.Cells as cells
 use Rattle.solo.specs.Turns as turns
 use Rattle.solo.specs.Turns.{turned, swept}
+
+-- the future that a refusal hands back
+abbrev pub refused : {F : Type 0} → SpawnError F → F
+refused (Full future) = future
+refused (NoMemory future) = future
 
 abbrev pub counts : Kind → Bool
 counts Owned = true
@@ -225,6 +231,20 @@ module _ {F T X : Type 0} where
 
   abbrev pub release_answer : Task → Solo F T X → Told X
   release_answer task s = turns.let_go_answer task s
+
+  -- where the wake queues it, the waker's release doesn't
+  abbrev pub wakes_or_closes : Task → Solo F T X → Bool
+  wakes_or_closes task s =
+      asked cells.wake_queues false task s.cells || asked cells.release_queues false task (turned cells.woken task s).cells
+
+  -- it is woken by a waker of its own, which goes
+  abbrev pub woken_and_released : Task → Solo F T X → Solo F T X
+  woken_and_released task s =
+      swept task (turns.scheduled_if (wakes_or_closes task s) task (turned cells.released task (turned cells.woken task s)))
+
+  abbrev pub wake_and_release_answer : Task → Solo F T X → Told X
+  wake_and_release_answer task s =
+      turns.schedule_if_answer (wakes_or_closes task s) task (turned cells.released task (turned cells.woken task s))
 
   abbrev pub is_finished : Task → Solo F T X → Bool
   is_finished task s = asked cells.is_finished true task s.cells

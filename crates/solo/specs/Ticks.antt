@@ -1,5 +1,5 @@
 -- What ticks do to an executor of one owner.
-use Rattle.std.specs.Prelude.{ℕ, ◌+◌, ◌-◌, nat_lt, Bool, true, false, Option, Some, None, length, slice_get, slice_set}
+use Rattle.std.specs.Prelude.{ℕ, ◌+◌, ◌-◌, nat_lt, Bool, true, false, Option, Some, None, Result, Ok, Err, length, slice_get, slice_set}
 use Rattle.executor_parts.specs.declared.sleepers.Room.{Room}
 use Rattle.executor_parts.specs.declared.sleepers.Sleeper.{Sleeper}
 use Rattle.executor_parts.specs.Sleepers.{Sleepers, flag_of, woken_up, waker_of, position_of, next_number, put_to_sleep, listed}
@@ -72,8 +72,8 @@ module _ {F T X : Type 0} where
   abbrev pub found : Ticker → Task → Solo F T X → Solo F T X
   found ticker task s = turns.begun task (told_unless (wake_up_answer ticker s).told.sleeper (woke_up ticker s))
 
-  abbrev pub found_answer : Ticker → SoloWaker X → Task → Solo F T X → Ticked F X
-  found_answer ticker waker task s =
+  abbrev pub found_answer : Ticker → Option (SoloWaker X) → Task → Solo F T X → Ticked F X
+  found_answer ticker spare task s =
       let dropped = wake_up_answer ticker s in
       let woken_up = woke_up ticker s in
       record {
@@ -81,7 +81,7 @@ module _ {F T X : Type 0} where
         look = Took (turns.begin_answer task (told_unless dropped.told.sleeper woken_up));
         sleeper = tell_unless_answer dropped.told.sleeper woken_up;
         old = dropped.old;
-        spare = Some waker;
+        spare = spare;
         returned = dropped.told.returned;
       }
 
@@ -139,7 +139,7 @@ module _ {F T X : Type 0} where
   taken_by None ticker waker s = fallen_asleep ticker waker s
 
   abbrev pub take_answer_by : Option Task → Ticker → SoloWaker X → Solo F T X → Ticked F X
-  take_answer_by (Some task) ticker waker s = found_answer ticker waker task s
+  take_answer_by (Some task) ticker waker s = found_answer ticker (Some waker) task s
   take_answer_by None ticker waker s = sleep_answer ticker waker s
 
   -- the first task of the queue is taken; where there is none it falls asleep
@@ -148,6 +148,21 @@ module _ {F T X : Type 0} where
 
   abbrev pub take_answer : Ticker → SoloWaker X → Solo F T X → Ticked F X
   take_answer ticker waker s = take_answer_by (slice_get s.line.items 0) ticker waker (popped s)
+
+  abbrev pub searched_by : Option Task → Ticker → Solo F T X → Solo F T X
+  searched_by (Some task) ticker s = found ticker task s
+  searched_by None ticker s = s
+
+  abbrev pub search_answer_by : Option Task → Ticker → Solo F T X → Result (Ticked F X) Ticker
+  search_answer_by (Some task) ticker s = Ok (found_answer ticker None task s)
+  search_answer_by None ticker s = Err ticker
+
+  -- the first task of the queue is taken; where there is none the tick comes back
+  abbrev pub searched : Ticker → Solo F T X → Solo F T X
+  searched ticker s = searched_by (slice_get s.line.items 0) ticker (popped s)
+
+  abbrev pub search_answer : Ticker → Solo F T X → Result (Ticked F X) Ticker
+  search_answer ticker s = search_answer_by (slice_get s.line.items 0) ticker (popped s)
 
   -- who slept under this number goes, with its room
   abbrev pub gone : ℕ → Solo F T X → Solo F T X

@@ -65,12 +65,23 @@ pub struct Owed<F, T, X> {
 }
 
 /// Why a future is refused. It comes back.
-#[derive(Debug, Drop)]
+#[derive(Debug, PartialEq, Eq, Drop)]
 pub enum SpawnError<F> {
     /// As many futures as the limit are accepted and not yet dropped.
     Full(F),
     /// Memory was refused.
     NoMemory(F),
+}
+
+impl<F> SpawnError<F> {
+    /// The future that was refused.
+    pub fn into_inner(self) -> F
+        ensures { result ≡ solo.refused self }
+    {
+        match self {
+            SpawnError::Full(future) | SpawnError::NoMemory(future) => future,
+        }
+    }
 }
 
 /// A future was accepted.

@@ -1,5 +1,5 @@
 //! The executor, and its calls on tasks and futures.
-ghost use Rattle.std.specs.Prelude.{◌≡◌, ◌<◌, IfOk, true};
+ghost use Rattle.std.specs.Prelude.{◌≡◌, ◌<◌, IfOk, length, true};
 ghost use Rattle.solo.specs.Solo as solo;
 
 use crate::cells::{After, Cells, Ended};
@@ -66,6 +66,27 @@ impl<F, T, X> Solo<F, T, X> {
         ensures { result ≡ solo.is_empty self.now }
     {
         self.table.is_empty()
+    }
+
+    /// How many futures that were accepted aren't dropped.
+    pub fn future_count(&self) -> usize
+        ensures { result ≡ length self.now.table.entries }
+    {
+        self.table.len()
+    }
+
+    /// How many tasks are queued.
+    pub fn queue_length(&self) -> usize
+        ensures { result ≡ length self.now.line.items }
+    {
+        self.line.len()
+    }
+
+    /// How many ticks sleep.
+    pub fn sleeper_count(&self) -> usize
+        ensures { result ≡ self.now.sleepers.count }
+    {
+        self.sleepers.count()
     }
 
     /// Accepts a future, and queues its task. A refused future comes back, and nothing changes.
@@ -255,6 +276,18 @@ impl<F, T, X> Solo<F, T, X> {
         ensures told { result ≡ solo.release_answer task self.old }
     {
         self.let_go(task)
+    }
+
+    /// Wakes a task by a waker of it, which goes.
+    pub fn wake_and_release(&mut self, task: Task) -> Told<X>
+        ensures solo { self.new ≡ solo.woken_and_released task self.old }
+        ensures told { result ≡ solo.wake_and_release_answer task self.old }
+    {
+        let is_woken = self.cells.wake(task);
+        let is_closed = self.cells.release(task);
+        let told = self.schedule_if(is_woken || is_closed, task);
+        self.cells.tidy(task);
+        told
     }
 
     /// Whether the task's future is dropped or is going to be.

@@ -82,15 +82,26 @@ impl<F, T, X> Solo<F, T, X> {
         ensures ticked { result ≡ ticks.take_answer ticker waker self.old }
     {
         match self.line.pop() {
-            Some(task) => self.found(ticker, waker, task),
+            Some(task) => self.found(ticker, Some(waker), task),
             None => self.fall_asleep(ticker, waker),
         }
     }
 
+    /// A tick looks for a task without a waker. Where there is none it comes back.
+    pub fn tick_search(&mut self, ticker: Ticker) -> Result<Ticked<F, X>, Ticker>
+        ensures solo { self.new ≡ ticks.searched ticker self.old }
+        ensures ticked { result ≡ ticks.search_answer ticker self.old }
+    {
+        match self.line.pop() {
+            Some(task) => Ok(self.found(ticker, None, task)),
+            None => Err(ticker),
+        }
+    }
+
     /// A tick has taken a task: it wakes up, a sleeper is told, and the task's turn begins.
-    fn found(&mut self, ticker: Ticker, waker: SoloWaker<X>, task: Task) -> Ticked<F, X>
+    fn found(&mut self, ticker: Ticker, spare: Option<SoloWaker<X>>, task: Task) -> Ticked<F, X>
         ensures solo { self.new ≡ ticks.found ticker task self.old }
-        ensures ticked { result ≡ ticks.found_answer ticker waker task self.old }
+        ensures ticked { result ≡ ticks.found_answer ticker spare task self.old }
     {
         let WokeUp { room, dropped } = self.wake_up(ticker);
         let Dropped { old, told } = dropped;
@@ -102,7 +113,7 @@ impl<F, T, X> Solo<F, T, X> {
             look: Look::Took(found),
             sleeper,
             old,
-            spare: Some(waker),
+            spare,
             returned,
         }
     }

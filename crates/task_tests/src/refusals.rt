@@ -1,37 +1,7 @@
-//! What a task does where there is no memory, or no copy of a waker.
-use crate::calls::{Stage, holds, same, shown, text_of};
-use crate::parts::{Tasks, drop_cancel, drop_task, ran};
-use async_task::{Builder, NoMemory, Parts, Poll, TaskError};
-
-/// What is given back is what was handed in, untouched, and can be spawned in the same realm. It also passes where one
-/// allocation in a spawn is refused: `rt try --test --fail-alloc N`.
-#[test]
-fn a_refused_spawn_hands_everything_back(rt: HostRuntime) {
-    let stage = Stage::new(rt, rt.alloc(), Tasks::leak(rt, rt.alloc()));
-    let (future, line) = stage.parts(0, false);
-    match Builder::new()
-        .metadata(7u64)
-        .spawn(rt, stage.realm, future, line)
-    {
-        Ok((runnable, task)) => {
-            same(&rt, *task.metadata(), 7);
-            holds(&rt, !ran(runnable));
-            drop_task(task);
-            stage.seen((1, 0, 1, 1));
-        }
-        Err(back) => {
-            let Parts {
-                future,
-                schedule,
-                metadata,
-            } = back;
-            same(&rt, (future.left, metadata), (0, 7));
-            stage.seen((0, 0, 0, 0));
-            let again = Builder::new().metadata(metadata);
-            holds(&rt, again.spawn(rt, stage.realm, future, schedule).is_ok());
-        }
-    }
-}
+//! What a task does where no copy of a waker can be had. That a spawn which is refused memory gives all back is in its contract.
+use crate::calls::{Stage, shown, text_of};
+use crate::parts::{Tasks, drop_cancel};
+use async_task::{NoMemory, Poll, TaskError};
 
 /// A poll that can't copy its waker leaves the task as it was: the awaiter of the poll before stays, and the handle may be
 /// polled again. Once there is an output no copy is needed.

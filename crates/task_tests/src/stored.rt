@@ -95,16 +95,6 @@ fn a_task_of_another_realm_is_woken_at_once(rt: HostRuntime) {
     here.seen((1, 0, 1, 0));
 }
 
-/// A detached task that nobody can wake is forgotten by a poll that gives no output: its future is dropped in that run.
-#[test]
-fn a_run_that_nobody_can_reach_drops_its_future(rt: HostRuntime) {
-    let stage = Stage::new(rt, rt.alloc(), Tasks::leak(rt, rt.alloc()));
-    let (runnable, task) = stage.task(9, false);
-    task.detach();
-    stage.run(runnable);
-    stage.seen((1, 0, 1, 1));
-}
-
 /// A task that lies among the sleepers of its own queue is queued behind the one that is pushed.
 #[test]
 fn a_push_wakes_a_task_of_the_same_queue(rt: HostRuntime) {

@@ -106,8 +106,8 @@ pub fn call_waker(
 
 /// A waker is called, and stays.
 pub fn call_by_reference(store: &mut Store, todo: &mut Vec<Op>, party: u32, waker: Waker)
-    requires room { vec_len store.old.trace + 2 ≤ vec_capacity store.old.trace }
-    requires space { vec_len todo.old + 5 ≤ vec_capacity todo.old }
+    requires room { vec_len store.old.trace + 3 ≤ vec_capacity store.old.trace }
+    requires space { vec_len todo.old + 6 ≤ vec_capacity todo.old }
     requires needs { CanWake (world_of store.old) waker }
     ensures { Does (runs.call_by_reference party (world_of store.old) waker) store.new todo.old.items todo.new.items }
 {

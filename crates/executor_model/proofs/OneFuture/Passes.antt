@@ -55,7 +55,7 @@ pub record Stays (x y : Seen) : Type 0 where
 
 -- its output: one that is there is given at most, and then its task is closed
 pub record Gives (x y : Seen) : Type 0 where
-  pub outputs : (y.outputs + y.extra.outs ≡ x.outputs + x.extra.outs) ⊎
+  pub outputs : ((y.outputs + y.extra.outs ≡ x.outputs + x.extra.outs) × (y.state.closed ≡ x.state.closed)) ⊎
       ((x.state.completed ≡ true) × ((x.state.closed ≡ false) × ((y.state.closed ≡ true) ×
       (y.outputs + y.extra.outs ≡ x.outputs + x.extra.outs + 1))))
 

@@ -63,17 +63,17 @@ unspent f es k =
       none-counted (takes_handle f) es k.held,
     )
 
-known : (ts : List State) (f : ℕ) → (get_or ts f blank).completed ≡ true → f < length ts
+pub known : (ts : List State) (f : ℕ) → (get_or ts f blank).completed ≡ true → f < length ts
 known [] f e = absurd (cc)
 known (t ∷ ts) zero e = omega arith
 known (t ∷ ts) (suc f) e = omega (arith, known ts f e)
 
-no-true : (a : Bool) → (a ≡ true → ⊥) → a ≡ false
+pub no-true : (a : Bool) → (a ≡ true → ⊥) → a ≡ false
 no-true true k = absurd (k refl)
 no-true false k = refl
 
 -- a task whose output the handle may take, and that no awaiter waits for
-record Waits (w : World) (f : ℕ) : Type 0 where
+pub record Waits (w : World) (f : ℕ) : Type 0 where
   pub completed : (task w f).completed ≡ true
   pub unclosed : (task w f).closed ≡ false
   pub handle : (task w f).handle ≡ true
@@ -168,7 +168,7 @@ module _ (s : Machine) (p f x : ℕ) (l : p < length s.parties) (e : stack s p �
       ∙ ap (λ (y : Moved). (onto p (look_by y.owed.answer p (polling s p f x).world f (Outside x) y) []).world.trace)
       finds))
 
-  gives-output : (t : Hint) → GivesOutput s p f x t
+  pub gives-output : (t : Hint) → GivesOutput s p f x t
   gives-output t =
       gone-on-alone t
       ∙ (append_assoc ((s.world.trace ++ event.CallBegun p (call.PollHandle f (by.Outside x)) ∷ [])

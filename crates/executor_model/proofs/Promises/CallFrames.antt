@@ -17,8 +17,7 @@ use Rattle.executor_model.specs.declared.op.Op.TheVariants as op
 use Rattle.executor_model.specs.declared.op.UserOp.TheVariants as user_op
 use Rattle.executor_model.specs.declared.step.UserEnd.{UserEnd}
 use Rattle.executor_model.specs.declared.step.UserEnd.TheVariants as end
-use Rattle.executor_model.specs.Calls.{Begun, Calls, Ended, calls, ends}
-use Rattle.executor_model.specs.CallsMean.{EachIsRight, IsAnsweredRight}
+use Rattle.executor_model.specs.Calls.{Begun, Calls, Each, Ended, calls, ends}
 use Rattle.executor_model.specs.Deeds.{is_by}
 use Rattle.executor_model.specs.Steps.{Machine, accepts}
 use Rattle.executor_model.specs.Steps.{react, stack}
@@ -49,17 +48,18 @@ passes-react p (op.User (user_op.PollOwn x)) (end.Polled answer.Ready) w a =
 passes-react p (op.User (user_op.DropOwn r)) end.Done w a = nothing _ _ refl refl
 passes-react p _ _ w a = absurd (cc)
 
-each-push : (es : List Ended) (e : Ended) → EachIsRight es → IsAnsweredRight e → EachIsRight (es ++ e ∷ [])
-each-push [] e h k = (k, tt)
-each-push (x ∷ es) e h k = (h.0, each-push es e h.1 k)
+each-push : (R : Ended → Type 0) (es : List Ended) (e : Ended) → Each R es → R e → Each R (es ++ e ∷ [])
+each-push R [] e h k = (k, tt)
+each-push R (x ∷ es) e h k = (h.0, each-push R es e h.1 k)
 
 by-itself : (p : ℕ) → eqb p p ≡ true
 by-itself p = grind (arith, nat_tests)
 
--- what is kept of a call and its frame, the next thing first, behind such a trace
+-- what is kept of a call and its frame, the next thing first, behind such a trace; and what holds of each as it ends
 module _
     (O : Trace → Begun → List Op → Type 0)
     (later : (es more : Trace) (b : Begun) (os : List Op) → O es b os → O (es ++ more) b os)
+    (R : Ended → Type 0)
   where
     -- a frame has at its bottom what answers its call
     pub record Frame (es : Trace) (b : Begun) (front : List Op) (last : Op) (below os : List Op) : Type 0 where
@@ -193,7 +193,7 @@ module _
 
     pub record Frames (s : Machine) : Type 0 where
       pub tied : (q : ℕ) → Tied s.world.trace (calls q s.world.trace).begun (reverse (stack s q))
-      pub right : (q : ℕ) → EachIsRight (calls q s.world.trace).ended
+      pub right : (q : ℕ) → Each R (calls q s.world.trace).ended
 
     flipped : (rest old : List Op) → reverse (rest ++ reverse old) ≡ old ++ reverse rest
     flipped rest old = reverse-append rest (reverse old)
@@ -207,7 +207,7 @@ module _
 
       -- what holds of p and of each other holds of all
       all : (tied : Tied d.world.trace (calls p d.world.trace).begun (d.next ++ reverse rest)) →
-          (right : EachIsRight (calls p d.world.trace).ended) →
+          (right : Each R (calls p d.world.trace).ended) →
           (more : Trace) → d.world.trace ≡ s.world.trace ++ more →
           ((q : ℕ) → q ≢ p → has (is_by q) more ≡ false) → Frames (unsettled s p rest d)
       all tied right more g own = record { tied = λ q. tie q (eqb q p) refl; right = λ q. good q (eqb q p) refl }
@@ -233,12 +233,12 @@ module _
               (sym (get_or-set_other s.parties p q (rest ++ reverse d.next) [] n)))
               (later-tied s.world.trace more _ _ (f.tied q))
 
-          good : (q : ℕ) (b : Bool) → eqb q p ≡ b → EachIsRight (calls q d.world.trace).ended
+          good : (q : ℕ) (b : Bool) → eqb q p ≡ b → Each R (calls q d.world.trace).ended
           good q true z =
               let i : p ≡ q = grind (arith, nat_tests) in
-              subst (λ (k : ℕ). EachIsRight (calls k d.world.trace).ended) i right
+              subst (λ (k : ℕ). Each R (calls k d.world.trace).ended) i right
           good q false z =
-              let n : q ≢ p = grind (arith, nat_tests) in subst EachIsRight (sym (other q n).ended) (f.right q)
+              let n : q ≢ p = grind (arith, nat_tests) in subst (Each R) (sym (other q n).ended) (f.right q)
 
     -- something is done that ends no call
     pub frames-done : (s : Machine) (p : ℕ) (o : Op) (rest : List Op) (d : Done) → p < length s.parties →
@@ -252,7 +252,7 @@ module _
         (sym (ap (λ (t : Trace). (calls p t).begun) g.is ∙ h.begun)) refl
         (tied-done s.world.trace g.more (calls p s.world.trace).begun o (reverse rest) d.next c k
         (was s p (o ∷ []) rest d l e f)))
-        (subst EachIsRight (sym (ap (λ (t : Trace). (calls p t).ended) g.is ∙ h.ended)) (f.right p)) g.more g.is g.own
+        (subst (Each R) (sym (ap (λ (t : Trace). (calls p t).ended) g.is ∙ h.ended)) (f.right p)) g.more g.is g.own
 
     -- a call begins
     pub frames-begun : (s : Machine) (p : ℕ) (rest : List Op) (c : Call) (d : Done) → p < length s.parties →
@@ -278,7 +278,7 @@ module _
         (tied-begun ((es ++ begin ∷ []) ++ g.more) (record { call = c; own = g.more }) (calls p es).begun (reverse rest)
         d.next a k
         (later-tied (es ++ begin ∷ []) g.more _ _ (later-tied es (begin ∷ []) _ _ (was s p [] rest d l e f)))))
-        (subst EachIsRight
+        (subst (Each R)
         (sym (ap (λ (t : Trace). (calls p t).ended) g.is ∙ (h.ended ∙ ap (λ (x : Calls). x.ended) first))) (f.right p))
         (begin ∷ g.more) (g.is ∙ append_assoc es (begin ∷ []) g.more)
         (λ q n. step q n g.own)
@@ -289,7 +289,7 @@ module _
 
     -- a call ends
     module _ (right : (es : Trace) (b : Begun) (a : Reply) (held : Hold) → O es b (op.End a held ∷ []) →
-        IsAnsweredRight (record { call = b.call; own = b.own; reply = a; past = es })) where
+        R (record { call = b.call; own = b.own; reply = a; past = es })) where
       pub frames-ends : (s : Machine) (p : ℕ) (a : Reply) (held : Hold) (below : List Op) → p < length s.parties →
           stack s p ≡ below ++ reverse (op.End a held ∷ []) → Frames s →
           Frames (unsettled s p below (done (log s.world (event.CallEnded p a)) []))
@@ -311,9 +311,9 @@ module _
           (tied-is (es ++ last ∷ []) (es ++ last ∷ []) x.others _ (reverse below) _ refl
           (sym (ap (λ (c : Calls). c.begun) now)) refl
           (later-tied es (last ∷ []) x.others (reverse below) x.tied))
-          (subst EachIsRight (sym (ap (λ (c : Calls). c.ended) now))
-          (each-push (calls p es).ended _ (f.right p)
-          (subst (λ (t : Trace). IsAnsweredRight
+          (subst (Each R) (sym (ap (λ (c : Calls). c.ended) now))
+          (each-push R (calls p es).ended _ (f.right p)
+          (subst (λ (t : Trace). R
           (record { call = x.first.call; own = x.first.own; reply = a; past = t })) (sym (past-here p es))
           (right es x.first a held x.owes)))) (last ∷ []) refl
           (λ q n. or-false (is_by q last) (not-by p q last refl n))

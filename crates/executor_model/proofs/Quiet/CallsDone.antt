@@ -21,7 +21,7 @@ use Rattle.executor_model.specs.declared.op.Waker.{Waker}
 use Rattle.executor_model.specs.declared.step.Hint.{Hint}
 use Rattle.executor_model.specs.declared.step.Step.{Step}
 use Rattle.executor_model.specs.Calls.{calls}
-use Rattle.executor_model.specs.CallsMean.{CallsDoWhatTheySay, EachIsRight}
+use Rattle.executor_model.specs.CallsMean.{CallsDoWhatTheySay, EachIsRight, IsAnsweredRight}
 use Rattle.executor_model.specs.Doing.{act}
 use Rattle.executor_model.specs.Good.{Good}
 use Rattle.executor_model.specs.Steps.{Machine, begun, drop_run, future_of, has_all, is_drop, is_free, is_some}
@@ -71,7 +71,7 @@ fit-with c w (Some f) d k = k f
 itself : (n : ℕ) → (let k : ℕ = cond (eqb n n) 0 1 in k) + 0 ≡ 0
 itself n = let e : eqb n n ≡ true = grind (arith, nat_tests) in rw e (let z : 0 + 0 ≡ 0 = omega arith in z)
 
-fit-begun : (p : ℕ) (w : World) (here : Option Waker) (c : Call) → weigh (misfit c) (begun p w here c).next ≡ 0
+pub fit-begun : (p : ℕ) (w : World) (here : Option Waker) (c : Call) → weigh (misfit c) (begun p w here c).next ≡ 0
 fit-begun p w here call.Spawn = refl
 fit-begun p w here call.TryTick = refl
 fit-begun p w here call.IsEmpty = refl
@@ -141,21 +141,21 @@ owes-begun p w ss o c past own e g = record {
 
 -- at every moment
 
-record Held (s : Machine) : Type 0 where
+pub record Held (s : Machine) : Type 0 where
   pub placed : Placed s
   pub swept : Swept s
-  pub frames : Frames Owes owes-later s
+  pub frames : Frames Owes owes-later IsAnsweredRight s
 
 frames-acted : (s : Machine) (p : ℕ) (rest : List Op) (h : Hint) (o : Op) (b : Bool) → is_end o ≡ b →
-    p < length s.parties → stack s p ≡ rest ++ reverse (o ∷ []) → Placed s → Finds s.world o → Frames Owes owes-later s →
-    Frames Owes owes-later (unsettled s p rest (act p h o s.world))
+    p < length s.parties → stack s p ≡ rest ++ reverse (o ∷ []) → Placed s → Finds s.world o → Frames Owes owes-later IsAnsweredRight s →
+    Frames Owes owes-later IsAnsweredRight (unsettled s p rest (act p h o s.world))
 frames-acted s p rest h o false n l e k i f =
     let g = grows-act p h o s.world n in
-    frames-done Owes owes-later s p o rest (act p h o s.world) l e (calls-act p h o s.world n).passes g
+    frames-done Owes owes-later IsAnsweredRight s p o rest (act p h o s.world) l e (calls-act p h o s.world n).passes g
     (λ b os x. owes-on s.world.trace g.more b o os (act p h o s.world).next (fit-act b.call p h o s.world n)
     (turns-act s p h o b.call g.more k i n (omega (arith, x.fits)) g.is) x) f
 frames-acted s p rest h (op.End a held) true n l e k i f =
-    frames-ends Owes owes-later
+    frames-ends Owes owes-later IsAnsweredRight
     (λ es b a held x. record { kind = kind-right es b a held x; done = done-right b.call a held es b.own x.promised })
     s p a held rest l e f
 frames-acted s p rest h _ true n l e k i f = absurd (cc)
@@ -190,7 +190,7 @@ finds s p (op.Move move.TakeUp f) rest l e good h w = λ z.
     has-entry f s.world.table (takes-entry _ _ _ _ _ _ x.runs (omega (arith, waits)) (x.stay n) (x.table (inl n)))
 finds s p _ rest l e good h w = tt
 
-held-moves : (s : Machine) (p : ℕ) (old rest : List Op) (d : Done) → Good s → p < length s.parties →
+pub held-moves : (s : Machine) (p : ℕ) (old rest : List Op) (d : Done) → Good s → p < length s.parties →
     stack s p ≡ rest ++ reverse old → Way s p old rest d → Held s → Held (unsettled s p rest d)
 held-moves s p old rest d good l e way k =
     record {
@@ -199,14 +199,14 @@ held-moves s p old rest d good l e way k =
       frames = by way;
     }
   where
-    by : Way s p old rest d → Frames Owes owes-later (unsettled s p rest d)
+    by : Way s p old rest d → Frames Owes owes-later IsAnsweredRight (unsettled s p rest d)
     by (acted h o q z) =
         let here : stack s p ≡ rest ++ reverse (o ∷ []) = subst (λ (os : List Op). stack s p ≡ rest ++ reverse os) q e in
         rw z (frames-acted s p rest h o (is_end o) refl l here k.placed
         (finds s p o rest l here good k.placed k.swept) k.frames)
     by (reacted o u a q z) =
         let g = grows-react p o u s.world in
-        rw z (frames-done Owes owes-later s p o rest (react p o u s.world) l
+        rw z (frames-done Owes owes-later IsAnsweredRight s p o rest (react p o u s.world) l
         (subst (λ (os : List Op). stack s p ≡ rest ++ reverse os) q e) (passes-react p o u s.world a) g
         (λ b os x. owes-on s.world.trace g.more b o os (react p o u s.world).next (fit-react b.call p o u s.world a)
         (turns-react p o u s.world b.call s.world.trace g.more a) x) k.frames)
@@ -217,19 +217,19 @@ held-moves s p old rest d good l e way k =
         let w : World = log s.world (event.CallBegun p c) in
         let here : Option Waker = mine (top (stack s p)) in
         let g = grows-begun p w here c in
-        rw z (frames-begun Owes owes-later s p rest c (begun p w here c) l
+        rw z (frames-begun Owes owes-later IsAnsweredRight s p rest c (begun p w here c) l
         (subst (λ (os : List Op). stack s p ≡ rest ++ reverse os) q e)
         (opens p s.world s.parties (top (stack s p)) c f.1).1 g
         (owes-begun p s.world s.parties (top (stack s p)) c ((s.world.trace ++ event.CallBegun p c ∷ []) ++ g.more) g.more
         f.1 g.is) k.frames)
 
-held-ends : (s : Machine) (p : ℕ) (a : Reply) (held : Hold) (below : List Op) → p < length s.parties →
+pub held-ends : (s : Machine) (p : ℕ) (a : Reply) (held : Hold) (below : List Op) → p < length s.parties →
     stack s p ≡ below ++ reverse (op.End a held ∷ []) → Held s →
     Held (unsettled s p below (done (log s.world (event.CallEnded p a)) []))
 held-ends s p a held below l e k = record {
   placed = placed-ends s p a held below l e k.placed;
   swept = swept-ends s p a held below l e k.swept;
-  frames = frames-ends Owes owes-later
+  frames = frames-ends Owes owes-later IsAnsweredRight
       (λ es b a held x. record { kind = kind-right es b a held x; done = done-right b.call a held es b.own x.promised })
       s p a held below l e k.frames;
 }
@@ -242,12 +242,13 @@ none-ended : (q : ℕ) → EachIsRight (calls q []).ended
 unfolding calls
 none-ended q = tt
 
-held-start : (limit : ℕ) (kind : Kind) (n : ℕ) → Held (start limit kind n)
+pub held-start : (limit : ℕ) (kind : Kind) (n : ℕ) → Held (start limit kind n)
 held-start limit kind n = record {
   placed = placed-start limit kind n;
   swept = swept-start limit kind n;
   frames = record {
-    tied = λ q. tied-none Owes owes-later [] (calls q []).begun (reverse (stack (start limit kind n) q)) (none-begun q)
+    tied = λ q. tied-none Owes owes-later IsAnsweredRight [] (calls q []).begun (reverse (stack (start limit kind n) q))
+        (none-begun q)
         (ap (λ (xs : List Op). reverse xs) (idle-stack n q));
     right = none-ended;
   };

@@ -41,10 +41,10 @@ there : (test : Event → Bool) (es : Trace) (n : ℕ) → n ≡ count_by test e
 there test es n e h = ⊎_elim (λ (x : (has test es ≡ true) × (1 ≤ count_by test es)). x.0)
     (λ (x : (has test es ≡ false) × (count_by test es ≡ 0)). absurd (omega (arith, x.1, e, h))) (there-or-none test es)
 
-counts : (test : Event → Bool) (es : Trace) (n : ℕ) → n ≡ count_by test es → has test es ≡ true → 1 ≤ n
+pub counts : (test : Event → Bool) (es : Trace) (n : ℕ) → n ≡ count_by test es → has test es ≡ true → 1 ≤ n
 counts test es n e h = omega (arith, e, counted-there test es h)
 
-counts-none : (test : Event → Bool) (es : Trace) (n : ℕ) → n ≡ count_by test es → has test es ≡ false → n ≡ 0
+pub counts-none : (test : Event → Bool) (es : Trace) (n : ℕ) → n ≡ count_by test es → has test es ≡ false → n ≡ 0
 counts-none test es n e h =
     ⊎_elim (λ (x : (has test es ≡ true) × (1 ≤ count_by test es)). let no : true ≡ false = sym x.0 ∙ h in absurd (cc))
     (λ (x : (has test es ≡ false) × (count_by test es ≡ 0)). e ∙ x.1) (there-or-none test es)
@@ -54,17 +54,17 @@ either true = inl refl
 either false = inr refl
 
 module _ (s : Machine) (f : ℕ) (fine : Good s) (h : Placed s) where
-  one-accepted : (story f s.world.trace).accepted ≤ 1
+  pub one-accepted : (story f s.world.trace).accepted ≤ 1
   one-accepted = known-or-fresh _ _ (h.leaves f).known (h.leaves f).fresh
     where
       known-or-fresh : (n a : ℕ) → (f < n → a ≡ 1) → (n ≤ f → a ≡ 0) → a ≤ 1
       known-or-fresh n a k e = grind arith
 
-  tables : HasTable s → (s.world.gone ≡ false) ⊎ (1 ≤ weigh_all ousting_of s.parties)
+  pub tables : HasTable s → (s.world.gone ≡ false) ⊎ (1 ≤ weigh_all ousting_of s.parties)
   tables (inl e) = inl (sym (h.leaves f).begun ∙ (begun-has f s.world.trace ∙ e))
   tables (inr o) = inr o
 
-  agrees : HasTable s → times f s.world.table + (story f s.world.trace).fallen ≡ (story f s.world.trace).accepted
+  pub agrees : HasTable s → times f s.world.table + (story f s.world.trace).fallen ≡ (story f s.world.trace).accepted
       + weigh_all (leaves_of f) s.parties
   agrees t = (h.leaves f).table (tables t)
 

@@ -1,6 +1,6 @@
 //! A machine, and what a script knows of it.
 
-ghost use Rattle.std.specs.Prelude.{◌≡◌, ℕ, ◌-◌, ◌^◌, ◌<◌, [], ◌∷◌, ◌++◌, map, length, drop, slice_index_or};
+ghost use Rattle.std.specs.Prelude.{◌≡◌, ℕ, ◌-◌, ◌^◌, ◌<◌, false, [], ◌∷◌, ◌++◌, map, length, drop, slice_index_or};
 ghost use Rattle.std.specs.Prelude.{Ok, OnOk, IfErr, IfOk};
 ghost use Rattle.std.specs.Option.{option_copied};
 ghost use Rattle.executor_core.specs.Refused.{IsRefused};

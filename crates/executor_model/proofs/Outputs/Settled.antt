@@ -1,0 +1,132 @@
+-- For outputs_are_settled.
+-- The output of a future that was ready was given or dropped, or is there: what holds of it at every moment, and each
+-- effect keeps.
+use Rattle.std.proofs.Common.{◌≡◌, ◌⊎◌, ℕ, ◌+◌, ◌<◌, ◌≤◌, List, [], ◌∷◌, ◌++◌, true, false, arith}
+use Rattle.std.proofs.lemmas.Bool.Decides.{nat_tests}
+use Rattle.std.specs.Prelude.{slice_set}
+use Rattle.task_moves.specs.declared.moves.owed.Move.{Move}
+use Rattle.task_moves.specs.declared.moves.owed.Move.TheVariants as move
+use Rattle.task_moves.proofs.Cases.{by_move}
+use Rattle.executor_model.specs.declared.call.Call.TheVariants as call
+use Rattle.executor_model.specs.declared.call.Reply.TheVariants as reply
+use Rattle.executor_model.specs.declared.event.Answer.TheVariants as answer
+use Rattle.executor_model.specs.declared.event.Event.TheVariants as event
+use Rattle.executor_model.specs.declared.op.ClosingOp.TheVariants as closing_op
+use Rattle.executor_model.specs.declared.op.Hold.TheVariants as hold
+use Rattle.executor_model.specs.declared.op.Op.{Op}
+use Rattle.executor_model.specs.declared.op.Op.TheVariants as op
+use Rattle.executor_model.specs.declared.op.TableOp.TheVariants as table_op
+use Rattle.executor_model.specs.declared.op.UserOp.TheVariants as user_op
+use Rattle.executor_model.specs.World.{World, Done, done, log}
+use Rattle.executor_model.specs.Acts.{begin_drop, closing_ops, enter_by, stands_alone}
+use Rattle.executor_model.specs.Sound.{Pend, with_ops}
+use Rattle.executor_model.proofs.Steps.Lists.{fresh_is, read_push, same_is}
+use Rattle.executor_model.proofs.OneFuture.Tallies.{outputs-push, readies-push}
+use Rattle.executor_model.proofs.OneFuture.Extras.{Extra, with_extra}
+use Rattle.executor_model.proofs.OneFuture.Views.{Seen, seen, before, after}
+use Rattle.executor_model.proofs.OneFuture.Passes.{Gives, Handles, Passes}
+use Rattle.executor_model.proofs.OneFuture.MoveViews.{Alike}
+use Rattle.executor_model.proofs.Counts.SoundViews.{Sure, sound-passes}
+use Rattle.executor_model.proofs.OneFuture.Effects.{Effect, turned-keeps}
+use Rattle.executor_model.proofs.OneFuture.Effects.Effect.{passes, turns, refuses, enters, unlists, drops, takes_out, drops_next}
+use Rattle.executor_model.proofs.OneFuture.EffectsWays.{Effects}
+use Rattle.executor_model.proofs.OneFuture.EffectsWays.Effects.{does, pends, readies, closes}
+
+-- it went or is about to be dropped, or the poll that it came of has still to end, or it is there with its handle
+pub record Settled (x : Seen) : Type 0 where
+  pub somewhere : 1 ≤ x.readies → (1 ≤ x.outputs + x.extra.outs)
+      ⊎ ((1 ≤ x.pend.ready) ⊎ ((x.state.completed ≡ true) × ((x.state.closed ≡ false) × (x.state.handle ≡ true))))
+
+settled-passes : (x y : Seen) → Passes x y → Gives x y → Handles x y → Settled x → Settled y
+settled-passes x y s q t h = grind arith
+
+settled-loose : (x : Seen) (p q : Pend) (a b : Extra) → Alike p q a b → Settled (record x { pend = p; extra = a }) →
+    Settled (record x { pend = q; extra = b })
+settled-loose x p q a b l h = grind arith
+
+-- who polls or ends a poll of it isn't over
+settled-turned : (m : Move) (x : Seen) → stands_alone m ≡ true →
+    (1 ≤ (before m x).pend.waiting
+    + ((before m x).pend.polls + ((before m x).pend.ending + (before m x).pend.ready)) → x.state.completed ≡ false) →
+    Settled (before m x) → Settled (after m x)
+settled-turned = by_move _
+    (λ x n b h. grind (arith, nat_tests))
+    (λ x n b h. grind (arith, nat_tests))
+    (λ x n b h. absurd (cc))
+    (λ x n b h. grind (arith, nat_tests))
+    (λ x n b h. grind (arith, nat_tests))
+    (λ x n b h. grind (arith, nat_tests))
+    (λ x n b h. grind (arith, nat_tests))
+    (λ x n b h. grind (arith, nat_tests))
+    (λ x n b h. grind (arith, nat_tests))
+    (λ x n b h. grind (arith, nat_tests))
+    (λ x n b h. grind (arith, nat_tests))
+    (λ x n b h. grind (arith, nat_tests))
+    (λ x n b h. grind (arith, nat_tests))
+    (λ x n b h. absurd (cc))
+    (λ x n b h. absurd (cc))
+    (λ x n b h. absurd (cc))
+    (λ x n b h. absurd (cc))
+    (λ x n b h. absurd (cc))
+    (λ x n b h. absurd (cc))
+
+settled-moved : (m : Move) (x : Seen) → x.number < x.tasks → stands_alone m ≡ true → Sure (before m x) →
+    Settled (before m x) → Settled (after m x)
+settled-moved m x i n b h = settled-turned m x n (λ k. b.live (omega (arith, k))) h
+
+abbrev pub KeepsSettled : World → List Op → Done → Type 0
+KeepsSettled w old d = (g : ℕ) (r : Pend) (y : Extra) → Sure (seen w g (with_ops g old r) (with_extra g old y)) →
+    Settled (seen w g (with_ops g old r) (with_extra g old y)) →
+    Settled (seen d.world g (with_ops g d.next r) (with_extra g d.next y))
+
+settle-enters : (p : ℕ) (w : World) → KeepsSettled w (op.Table table_op.Enter ∷ []) (enter_by false false p w)
+settle-enters p w g r y b h = grind (arith, same_is, fresh_is, read_push, outputs-push, readies-push)
+
+settle-drops : (p f : ℕ) (w : World) → KeepsSettled w (op.User (user_op.BeginDrop f) ∷ []) (begin_drop p w f)
+settle-drops p f w g r y b h = grind (arith, outputs-push, readies-push)
+
+settle-takes_out : (ls ws : List ℕ) (w : World) → KeepsSettled w (op.Closing closing_op.TakeOut ∷ [])
+    (done (record w { table = w.leaving; leaving = w.table }) (closing_ops ls ws))
+settle-takes_out [] [] w g r y b h = grind arith
+settle-takes_out [] (x ∷ ws) w g r y b h = grind arith
+settle-takes_out (x ∷ ls) ws w g r y b h = grind arith
+
+settle-drops_next : (ls ws : List ℕ) (p : ℕ) (w : World) (f : ℕ) (rest : List ℕ) →
+    KeepsSettled w (op.Closing closing_op.DropNext ∷ [])
+    (done (log (record w { leaving = rest; waking = w.waking ++ f ∷ []; inside = slice_set w.inside f false })
+    (event.Dropped p f)) (op.User (user_op.Drop f) ∷ closing_ops ls ws))
+settle-drops_next [] [] p w f rest g r y b h = grind (arith, outputs-push, readies-push)
+settle-drops_next [] (x ∷ ws) p w f rest g r y b h = grind (arith, outputs-push, readies-push)
+settle-drops_next (x ∷ ls) ws p w f rest g r y b h = grind (arith, outputs-push, readies-push)
+
+settle-effect : (w : World) (old : List Op) (d : Done) → Effect w old d → KeepsSettled w old d
+settle-effect w old d (passes s) g r y b h = settled-passes _ _ (s g r y).passes (s g r y).gives (s g r y).handles h
+settle-effect w old _ (turns d m p f v more i j n s a e) g r y b h =
+    turned-keeps Sure Settled (λ m x. stands_alone m ≡ true) settled-moved settled-loose (λ x y z. sound-passes x y z.passes)
+    (λ x y z b. settled-passes x y z.passes z.gives z.handles) w old d m p f v more i (λ q u. j) s a e g r y b h
+settle-effect w old d (refuses f e) g r y b h = grind arith
+settle-effect w old d (enters p e) g r y b h = settle-enters p w g r y b h
+settle-effect w old d (unlists f e) g r y b h = grind arith
+settle-effect w old d (drops p f) g r y b h = settle-drops p f w g r y b h
+settle-effect w old d takes_out g r y b h = settle-takes_out w.table w.waking w g r y b h
+settle-effect w old d (drops_next p f rest e) g r y b h = settle-drops_next rest (w.waking ++ f ∷ []) p w f rest g r y b h
+
+settle-pends : (p f : ℕ) (w : World) → KeepsSettled w (op.User (user_op.Poll f) ∷ [])
+    (done (log w (event.Answered p f answer.Pending)) (op.Table (table_op.PutBack f) ∷ []))
+settle-pends p f w g r y b h = grind (arith, outputs-push, readies-push)
+
+settle-readies : (p f : ℕ) (w : World) → KeepsSettled w (op.User (user_op.Poll f) ∷ [])
+    (done (log w (event.Answered p f answer.Ready)) (op.User (user_op.BeginDrop f) ∷ op.Move move.EndReady f ∷ []))
+settle-readies p f w g r y b h = grind (arith, outputs-push, readies-push)
+
+settle-closes : (p : ℕ) (w : World) → KeepsSettled w []
+    (done (log (record (log w (event.CallBegun p call.DropExecutor)) { gone = true }) (event.DropBegun p))
+    (op.Closing closing_op.TakeOut ∷ op.End reply.Done hold.Nothing ∷ []))
+settle-closes p w g r y b h = grind (arith, outputs-push, readies-push)
+
+-- whatever a party does
+pub settle-act : (w : World) (ss : List (List Op)) (old : List Op) (d : Done) → Effects w ss old d → KeepsSettled w old d
+settle-act w ss old d (does e) g r y b h = settle-effect w old d e g r y b h
+settle-act w ss old d (pends p f) g r y b h = settle-pends p f w g r y b h
+settle-act w ss old d (readies p f) g r y b h = settle-readies p f w g r y b h
+settle-act w ss old d (closes p e u) g r y b h = settle-closes p w g r y b h

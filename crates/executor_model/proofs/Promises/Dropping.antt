@@ -1,0 +1,200 @@
+-- For spawns_are_limited.
+-- Who has still to take an entry out of the table is a call in progress that itself began that future's drop.
+use Rattle.std.proofs.Common.{◌≡◌, ◌≢◌, ◌⊎◌, ℕ, zero, suc, ◌+◌, ◌<◌, ◌≤◌, List, [], ◌∷◌, ◌++◌, length, get_or, true, ◌||◌}
+use Rattle.std.proofs.Common.{false}
+use Rattle.std.proofs.Common.{eqb, inl, inr, ⊎_elim, refl, subst, ap, ◌∙◌, arith}
+use Rattle.std.proofs.lemmas.List.{append_assoc, append_cancel_left}
+use Rattle.std.specs.List.{list_any}
+use Rattle.std.specs.Prelude.{reverse}
+use Rattle.executor_model.specs.declared.kind.Kind.{Kind}
+use Rattle.executor_model.specs.declared.call.Reply.{Reply}
+use Rattle.executor_model.specs.declared.event.Event.TheVariants as event
+use Rattle.executor_model.specs.declared.op.ClosingOp.{ClosingOp}
+use Rattle.executor_model.specs.declared.op.ClosingOp.TheVariants as closing_op
+use Rattle.executor_model.specs.declared.op.Hold.{Hold}
+use Rattle.executor_model.specs.declared.op.Op.{Op}
+use Rattle.executor_model.specs.declared.op.Op.TheVariants as op
+use Rattle.executor_model.specs.declared.op.TableOp.TheVariants as table_op
+use Rattle.executor_model.specs.declared.op.UserOp.TheVariants as user_op
+use Rattle.task_moves.specs.declared.moves.owed.Move.{Move}
+use Rattle.task_moves.specs.declared.moves.owed.Move.TheVariants as move
+use Rattle.task_moves.specs.Moves as moves
+use Rattle.executor_model.specs.Acts.{leave_by, move_by}
+use Rattle.executor_model.specs.Calls.{Begun, Ended, calls}
+use Rattle.executor_model.specs.Good.{Good}
+use Rattle.executor_model.specs.Rows.{leaves_of}
+use Rattle.executor_model.specs.SpawnsMean.{IsBeingDropped}
+use Rattle.executor_model.specs.Steps.{Machine, stack, start}
+use Rattle.executor_model.specs.Trace.{Trace, has, is_dropped}
+use Rattle.executor_model.specs.Weights.{same, weigh, weigh_all}
+use Rattle.executor_model.specs.World.{World, Done, done, log, task}
+use Rattle.executor_model.proofs.OneFuture.Effects.{Effect}
+use Rattle.executor_model.proofs.OneFuture.Effects.Effect.{passes, turns, refuses, enters, unlists, drops, takes_out, drops_next}
+use Rattle.executor_model.proofs.OneFuture.EffectsWays.{Effects, effects-way}
+use Rattle.executor_model.proofs.OneFuture.EffectsWays.Effects.{does, pends, readies, closes}
+use Rattle.executor_model.proofs.OneFuture.Extras.{no_extra}
+use Rattle.executor_model.proofs.OneFuture.Views.{none}
+use Rattle.executor_model.proofs.Promises.CallFrames.{Frames, Tied}
+use Rattle.executor_model.proofs.Promises.CallPromises.{has-left, has-right}
+use Rattle.executor_model.proofs.Promises.FrameWays.{frames-end, frames-start, frames-way}
+use Rattle.executor_model.proofs.Steps.Asides.{Aside, aside-closing, aside-entry, aside-owed}
+use Rattle.executor_model.proofs.Steps.Lift.{unsettled}
+use Rattle.executor_model.proofs.Steps.Lists.{same_cases, weigh-append, weigh-reverse}
+use Rattle.executor_model.proofs.Steps.Tests.{or-left, or-right}
+use Rattle.executor_model.proofs.Steps.Ways.{Way}
+
+-- an entry that is to be taken out was so before, or its future's drop began
+abbrev pub Takes : ℕ → List Op → List Op → Trace → Type 0
+Takes g old next more = (weigh (leaves_of g) next ≤ weigh (leaves_of g) old) ⊎ (has (is_dropped g) more ≡ true)
+
+leaves-aside : (g : ℕ) → Aside (leaves_of g)
+leaves-aside g = record {
+  move = λ m f. no-leave m f;
+  append = λ f. refl;
+  poll = λ f. refl;
+  drop = λ f. refl;
+  output = λ f. refl;
+  notify = λ f mine. refl;
+  call = λ f a k. refl;
+  goes = λ f. refl;
+}
+  where
+    no-leave : (m : Move) (f : ℕ) → leaves_of g (op.Move m f) ≡ 0
+    no-leave move.Wake f = refl
+    no-leave _ f = refl
+
+begins-drop : (g f p : ℕ) (w : World) (more : Trace) → w.trace ++ event.Dropped p f ∷ [] ≡ w.trace ++ more →
+    Takes g (op.User (user_op.BeginDrop f) ∷ []) (op.User (user_op.Drop f) ∷ op.Table (table_op.LeaveTable f) ∷ []) more
+begins-drop g f p w more t = ⊎_elim
+    (λ (x : (same g f ≡ 1) × (eqb g f ≡ true) × (g ≡ f)).
+    let q : event.Dropped p f ∷ [] ≡ more = append_cancel_left w.trace (event.Dropped p f ∷ []) more t in
+    inr (subst (λ (xs : Trace). has (is_dropped g) xs ≡ true) q (or-left (eqb g f) false x.1)))
+    (λ (x : (same g f ≡ 0) × (eqb g f ≡ false) × (g ≢ f)). inl (omega (arith, x.0)))
+    (same_cases g f)
+
+closing-none : (g : ℕ) (o : ClosingOp) → leaves_of g (op.Closing o) ≡ 0
+closing-none g closing_op.TakeOut = refl
+closing-none g _ = refl
+
+takes-effect : (w : World) (old : List Op) (d : Done) (g : ℕ) (more : Trace) → Effect w old d →
+    d.world.trace ≡ w.trace ++ more → Takes g old d.next more
+takes-effect w old d g more (passes s) t =
+    inl (⊎_elim (λ x. omega (arith, x)) (λ x. omega (arith, x.1)) (s g none no_extra).stays.leaves)
+takes-effect w old _ g more (turns d m p f v rest i j k s a e) t =
+    let own : weigh (leaves_of g) (move_by true m p v f).next ≡ 0 =
+    aside-owed (leaves_of g) (leaves-aside g) f _ (moves.after m (task v f)).owed in
+    inl (omega (
+      arith,
+      own,
+      ⊎_elim (λ x. let z : weigh (leaves_of g) (op.Move m f ∷ rest) ≤ weigh (leaves_of g) old = omega (arith, x) in z)
+          (λ x. let z : weigh (leaves_of g) (op.Move m f ∷ rest) ≤ weigh (leaves_of g) old = omega (arith, x.1) in z)
+          (s g none no_extra).stays.leaves,
+      ap (weigh (leaves_of g)) e,
+      weigh-append (leaves_of g) (move_by true m p v f).next rest,
+    ))
+takes-effect w old d g more (refuses f e) t = inl (omega arith)
+takes-effect w old d g more (enters p e) t = inl (omega arith)
+takes-effect w old _ g more (unlists f e) t =
+    let own : weigh (leaves_of g) (leave_by true w f).next ≡ 0 = aside-entry (leaves_of g) (leaves-aside g) w.is_static f in
+    inl (omega (arith, own))
+takes-effect w old d g more (drops p f) t = begins-drop g f p w more t
+takes-effect w old d g more takes_out t =
+    inl (omega (arith, aside-closing (leaves_of g) (closing-none g) w.table w.waking))
+takes-effect w old d g more (drops_next p f rest e) t =
+    inl (omega (arith, aside-closing (leaves_of g) (closing-none g) rest (w.waking ++ f ∷ [])))
+
+pub takes-effects : (w : World) (ss : List (List Op)) (old : List Op) (d : Done) (g : ℕ) (more : Trace) →
+    Effects w ss old d → d.world.trace ≡ w.trace ++ more → Takes g old d.next more
+takes-effects w ss old d g more (does x) t = takes-effect w old d g more x t
+takes-effects w ss old d g more (pends p f) t = inl (omega arith)
+takes-effects w ss old d g more (readies p f) t = inl (omega arith)
+takes-effects w ss old d g more (closes p n u) t = inl (omega arith)
+
+-- of each call
+
+abbrev pub Dropping : Trace → Begun → List Op → Type 0
+Dropping es b os = (f : ℕ) → 1 ≤ weigh (leaves_of f) os → has (is_dropped f) b.own ≡ true
+
+pub dropping-later : (es more : Trace) (b : Begun) (os : List Op) → Dropping es b os → Dropping (es ++ more) b os
+dropping-later es more b os h = h
+
+abbrev pub Anyhow : Ended → Type 0
+Anyhow e = Unit {0}
+
+abbrev pub Droppings : Machine → Type 0
+Droppings s = Frames Dropping dropping-later Anyhow s
+
+anyhow : (es : Trace) (b : Begun) (a : Reply) (held : Hold) → Dropping es b (op.End a held ∷ []) →
+    Anyhow (record { call = b.call; own = b.own; reply = a; past = es })
+anyhow es b a held h = tt
+
+pub droppings-start : (limit : ℕ) (kind : Kind) (n : ℕ) → Droppings (start limit kind n)
+droppings-start limit kind n = frames-start Dropping dropping-later Anyhow anyhow limit kind n
+
+pub droppings-end : (s : Machine) (p : ℕ) (a : Reply) (held : Hold) (below : List Op) → p < length s.parties →
+    stack s p ≡ below ++ reverse (op.End a held ∷ []) → Droppings s →
+    Droppings (unsettled s p below (done (log s.world (event.CallEnded p a)) []))
+droppings-end s p a held below l e f = frames-end Dropping dropping-later Anyhow anyhow s p a held below l e f
+
+pub droppings-moves : (s : Machine) (p : ℕ) (old rest : List Op) (d : Done) → Good s → p < length s.parties →
+    stack s p ≡ rest ++ reverse old → Way s p old rest d → Droppings s → Droppings (unsettled s p rest d)
+droppings-moves s p old rest d good l e way k =
+    let x : Effects s.world s.parties old d = effects-way s p old rest d good l e way in
+    frames-way Dropping dropping-later Anyhow anyhow s p old rest d l e k
+    (λ o q n more t b below h f u. ⊎_elim
+    (λ (z : weigh (leaves_of f) d.next ≤ weigh (leaves_of f) old).
+    has-left (is_dropped f) b.own more (h f (omega (
+      arith,
+      z,
+      u,
+      ap (weigh (leaves_of f)) q,
+      weigh-append (leaves_of f) d.next below,
+    ))))
+    (λ (z : has (is_dropped f) more ≡ true). has-right (is_dropped f) b.own more z)
+    (takes-effects s.world s.parties old d f more x t))
+    (λ c q a more y t f u. ⊎_elim
+    (λ (z : weigh (leaves_of f) d.next ≤ weigh (leaves_of f) old).
+    absurd (omega (arith, z, u, ap (weigh (leaves_of f)) q)))
+    (λ (z : has (is_dropped f) (event.CallBegun p c ∷ more) ≡ true). z)
+    (takes-effects s.world s.parties old d f (event.CallBegun p c ∷ more) x
+    (t ∙ append_assoc s.world.trace (event.CallBegun p c ∷ []) more))) way
+
+-- who has this to do
+
+first-or : (v : Op → ℕ) (s : List Op) (ss : List (List Op)) (n : ℕ) → weigh v s ≡ n →
+    (weigh v s ≡ 0 → (q : ℕ) × (1 ≤ weigh v (get_or ss q []))) → (q : ℕ) × (1 ≤ weigh v (get_or (s ∷ ss) q []))
+first-or v s ss (suc n) e k = (0, omega (arith, e))
+first-or v s ss zero e k = let x = k e in (suc x.0, x.1)
+
+some-party : (v : Op → ℕ) (ss : List (List Op)) → 1 ≤ weigh_all v ss → (q : ℕ) × (1 ≤ weigh v (get_or ss q []))
+some-party v [] h = absurd (omega (arith, h))
+some-party v (s ∷ ss) h = first-or v s ss (weigh v s) refl (λ e. some-party v ss (omega (arith, h, e)))
+
+some-frame : (es : Trace) (f : ℕ) (bs : List Begun) (os : List Op) → Tied Dropping dropping-later Anyhow es bs os →
+    1 ≤ weigh (leaves_of f) os → list_any (λ (b : Begun). has (is_dropped f) b.own) bs ≡ true
+some-frame es f [] os h n = absurd (omega (arith, n, ap (weigh (leaves_of f)) h))
+some-frame es f (b ∷ bs) os h n = by (weigh (leaves_of f) (h.0 ++ h.1 ∷ [])) refl
+    (λ e. some-frame es f bs h.2 h.4 (omega (
+      arith,
+      e,
+      n,
+      ap (weigh (leaves_of f)) h.3.is,
+      weigh-append (leaves_of f) h.0 (h.1 ∷ h.2),
+      weigh-append (leaves_of f) h.0 (h.1 ∷ []),
+    )))
+  where
+    by : (m : ℕ) → weigh (leaves_of f) (h.0 ++ h.1 ∷ []) ≡ m →
+        (weigh (leaves_of f) (h.0 ++ h.1 ∷ []) ≡ 0 →
+        list_any (λ (x : Begun). has (is_dropped f) x.own) bs ≡ true) →
+        (has (is_dropped f) b.own || list_any (λ (x : Begun). has (is_dropped f) x.own) bs) ≡ true
+    by (suc m) e k = or-left _ _ (h.3.owes f (omega (arith, e)))
+    by zero e k = or-right (has (is_dropped f) b.own) _ (k e)
+
+pub is-being-dropped : (s : Machine) (f : ℕ) → Droppings s → 1 ≤ weigh_all (leaves_of f) s.parties →
+    IsBeingDropped s.world.trace f
+is-being-dropped s f k n =
+    let x = some-party (leaves_of f) s.parties n in (
+      x.0,
+      some-frame s.world.trace f (calls x.0 s.world.trace).begun (reverse (stack s x.0)) (k.tied x.0)
+          (omega (arith, x.1, weigh-reverse (leaves_of f) (stack s x.0))),
+    )

@@ -1,0 +1,52 @@
+//! Copies of wakers, which are kept under the lock.
+use crate::entry::{LocalExWaker, Unlocked};
+use crate::foreign::Foreign;
+use crate::link::Link;
+use async_task::Wake;
+use solo::SoloWaker;
+use std::sync::Wait;
+
+/// A copy of a waker, for an executor to keep.
+#[must_use]
+pub enum Copied<W> {
+    /// This is kept.
+    Kept(SoloWaker<Foreign<W>>),
+    /// It is of a task of another executor, and was called.
+    Called,
+    /// No copy could be had.
+    Refused,
+}
+
+/// A copy of a waker for the executor that this leads to.
+pub fn copy_for<W, R>(
+    link: &Link<W, R>,
+    waker: &LocalExWaker<W, R>,
+    unlocked: &mut Unlocked,
+) -> Copied<W>
+where
+    W: Wake + Drop,
+    R: Wait + Copy + Drop,
+{
+    match waker {
+        LocalExWaker::Task(waker) => {
+            if !waker.link.is_to_the_same(link) {
+                waker.link.wake(waker.task, unlocked);
+                return Copied::Called;
+            }
+            if link.hold(waker.task, unlocked) {
+                Copied::Kept(SoloWaker::Task(waker.task))
+            } else {
+                Copied::Refused
+            }
+        }
+        LocalExWaker::Outside(waker) => outside_copy(waker, unlocked),
+    }
+}
+
+fn outside_copy<W: Wake>(waker: &W, unlocked: &Unlocked) -> Copied<W> {
+    let _ = unlocked;
+    match waker.clone() {
+        Some(copy) => Copied::Kept(SoloWaker::Outside(Foreign::of(copy))),
+        None => Copied::Refused,
+    }
+}

@@ -1,0 +1,69 @@
+//! How an executor ends.
+use crate::entry::Unlocked;
+use crate::foreign::{Foreign, let_go};
+use crate::futures::Left;
+use crate::link::Link;
+use crate::names::Futures;
+use crate::{futures, sections};
+use async_task::Wake;
+use executor_parts::EntryPlace;
+use solo::Owed;
+use std::sync::Wait;
+
+/// An executor ends.
+///
+/// 1. Takes all its futures from its tasks, and drops each, in the order of acceptance.
+/// 2. Wakes each of their tasks, in that order: it is queued, or was before.
+/// 3. Closes the queue, and closes each task in it: who awaits it is called.
+pub fn end<F, T, W, R>(link: Link<W, R>, futures: Futures<F, T>, unlocked: &mut Unlocked)
+where
+    F: Drop,
+    T: Drop,
+    W: Wake + Drop,
+    R: Wait + Copy + Drop,
+{
+    let mut futures = futures;
+    sections::close(link.lock(unlocked).get());
+    for _ in link.rt().forever() {
+        let drained = sections::drain(link.lock(unlocked).get());
+        let Some(owed) = drained else {
+            return;
+        };
+        end_one(&link, &mut futures, owed, unlocked);
+    }
+    unreachable!()
+}
+
+/// Does what one step of the end has handed out.
+fn end_one<F, T, W, R>(
+    link: &Link<W, R>,
+    futures: &mut Futures<F, T>,
+    owed: Owed<EntryPlace, (), Foreign<W>>,
+    unlocked: &mut Unlocked,
+)
+where
+    F: Drop,
+    T: Drop,
+    W: Wake + Drop,
+    R: Wait + Copy + Drop,
+{
+    if let Some(place) = owed.future {
+        drop_at(futures, place, unlocked);
+    }
+    if let Some(lent) = link.pay(owed, unlocked) {
+        let owed = sections::finish(link.lock(unlocked).get(), lent);
+        link.pay_all(owed, unlocked);
+    }
+}
+
+/// Drops the future at a place.
+fn drop_at<F, T>(futures: &mut Futures<F, T>, place: EntryPlace, unlocked: &Unlocked)
+where
+    F: Drop,
+    T: Drop,
+{
+    if let Some(Left { future, output }) = futures::leave(futures, place) {
+        let_go(future, unlocked);
+        let_go(output.take(), unlocked);
+    }
+}

@@ -1,0 +1,155 @@
+//! What a user has and calls. Each call begins with nothing locked or open, which it says by an `Unlocked`: none but these can
+//! make one.
+ghost use Rattle.std.specs.Prelude.{◌≡◌, ◌<◌, IfErr, length};
+ghost use Rattle.std.specs.Iterator.{IsFinite};
+ghost use Rattle.solo.specs.Solo.{refused};
+ghost use Rattle.local_executor.specs.Spawning.{SpawnsMany};
+
+use crate::debug::show;
+use crate::errors::LocalError;
+use crate::link::Link;
+use crate::store::Store;
+use crate::{ending, making};
+use async_task::{Future, NoMemory, Wake};
+use solo::SpawnError;
+use std::alloc::Global;
+use std::fmt;
+use std::random::RandomSource;
+use std::sync::Wait;
+
+mod handles;
+mod tick;
+mod wakers;
+
+pub use handles::{LocalCancel, LocalFallible, LocalHandle};
+pub use tick::LocalTick;
+pub use wakers::{LocalExWaker, LocalWaker};
+
+/// Says that a party has nothing of an executor locked or open. It has no bytes: who takes the lock or opens a store has it lent
+/// for as long, and what calls, copies or drops a value of a user's is lent it.
+#[derive(Drop)]
+pub struct Unlocked {
+    own: (),
+}
+
+impl Unlocked {
+    /// At the beginning of a call.
+    fn at_entry() -> Unlocked {
+        Unlocked { own: () }
+    }
+}
+
+/// An executor of futures `F`, whose outputs are `T`, on one thread. Its wakers may be called from any.
+pub struct LocalExecutor<F, T, W, R>
+where
+    F: Drop,
+    T: Drop,
+    W: Wake + Drop,
+    R: Wait + Copy + Drop,
+{
+    pub(crate) link: Link<W, R>,
+    pub(crate) store: Store<F, T>,
+    pub(crate) alloc: Global,
+}
+
+impl<F, T, W, R> LocalExecutor<F, T, W, R>
+where
+    F: Future<LocalExWaker<W, R>, Output = T> + Drop,
+    T: Drop,
+    W: Wake + Drop,
+    R: Wait + Copy + Drop,
+{
+    /// An executor with places for so many futures. It keeps the runtime value and the allocator for its calls. All places of its
+    /// queue and its futures are taken here. Its number is 64 bits that `rt` draws: two of one program have the same one with a
+    /// chance of 1 in 2^64.
+    pub fn new(rt: R, alloc: Global, limit: usize) -> Result<Self, LocalError>
+    where
+        R: RandomSource,
+        requires { 0 < limit }
+    {
+        making::executor(rt, alloc, limit)
+    }
+
+    /// Whether each future that was accepted is dropped. It takes no memory.
+    pub fn is_empty(&self) -> bool {
+        self.has_none(&mut Unlocked::at_entry())
+    }
+
+    /// Hands the executor a future. Its task is queued, and the handle is answered: a future with the output, whose drop
+    /// cancels the task. `Full` where as many accepted futures as the limit are not dropped yet, and only then want of memory
+    /// for the task. The future comes back.
+    pub fn spawn(&self, future: F) -> Result<LocalHandle<T, W, R>, SpawnError<F>>
+        ensures { IfErr result (λ error. refused error ≡ future) }
+    {
+        self.hand_in(future, &mut Unlocked::at_entry())
+    }
+
+    /// Hands the executor one future after the other, until the iterator ends or one is refused. The handles of those that
+    /// were accepted come last among these, in order, and the refused future comes back with the cause; the rest stays in the
+    /// iterator. The room for a handle is asked for before its future is spawned.
+    pub fn spawn_many<I: Iterator<Item = F>>(
+        &self,
+        futures: &mut I,
+        handles: &mut Vec<LocalHandle<T, W, R>>,
+    ) -> Result<(), SpawnError<F>>
+        requires { I.can_next futures.old × IsFinite (I.remaining futures.old) }
+        ensures { SpawnsMany I.next_gives futures.old futures.new (length handles.old.items) (length handles.new.items) result }
+    {
+        for _ in self.link.rt().forever() {
+            let Some(future) = futures.next() else {
+                return Ok(());
+            };
+            if handles.reserve(1).is_err() {
+                return Err(SpawnError::NoMemory(future));
+            }
+            match self.spawn(future) {
+                Ok(handle) => handles.push_reserved(handle),
+                Err(refused) => return Err(refused),
+            }
+        }
+        unreachable!()
+    }
+
+    /// Runs one task, where one is queued, and says whether it did. It doesn't wait for one, and takes no memory.
+    pub fn try_tick(&self) -> bool {
+        self.run_one(&mut Unlocked::at_entry())
+    }
+
+    /// A future that waits for a future of the executor which is to be polled, and polls it once.
+    pub fn tick(&self) -> Result<LocalTick<'_, F, T, W, R>, NoMemory> {
+        self.make_tick(&mut Unlocked::at_entry())
+    }
+}
+
+impl<F, T, W, R> Drop for LocalExecutor<F, T, W, R>
+where
+    F: Drop,
+    T: Drop,
+    W: Wake + Drop,
+    R: Wait + Copy + Drop,
+{
+    /// Drops each future, in the order of acceptance, and closes each task that isn't over: who awaits it is called. It takes no
+    /// memory.
+    fn drop(self) {
+        let LocalExecutor {
+            link,
+            store,
+            alloc: _,
+        } = self;
+        ending::end(link, store.into_futures(), &mut Unlocked::at_entry());
+    }
+}
+
+/// How many futures have a waker in the table, how many tasks stand in the queue, how many in each run's own, and how many ticks
+/// and runs sleep; `<locked>` for each where the lock isn't free.
+impl<F, T, W, R> fmt::Debug for LocalExecutor<F, T, W, R>
+where
+    F: Drop,
+    T: Drop,
+    W: Wake + Drop,
+    R: Wait + Copy + Drop,
+{
+    fn fmt<O: fmt::Write>(&self, f: &mut fmt::Formatter<O>) -> fmt::Result {
+        show(&self.link, "LocalExecutor", f, &mut Unlocked::at_entry())
+    }
+}

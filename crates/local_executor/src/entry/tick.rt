@@ -1,0 +1,54 @@
+//! Ticks of an executor of one thread.
+use crate::entry::{LocalExWaker, LocalExecutor, Unlocked};
+use crate::ticking;
+use async_task::{Future, NoMemory, Poll, Wake};
+use solo::Ticker;
+use std::sync::Wait;
+
+/// Waits for a future that is to be polled, and polls it once: a future with output `Ok(())`. After it was ready it serves as a
+/// new one. Its drop passes on to another tick or run what it had been told.
+///
+/// It is made by `LocalExecutor::tick`.
+#[must_use]
+pub struct LocalTick<'a, F, T, W, R>
+where
+    F: Drop,
+    T: Drop,
+    W: Wake + Drop,
+    R: Wait + Copy + Drop,
+{
+    pub(crate) executor: &'a LocalExecutor<F, T, W, R>,
+    /// It is out only while the tick is polled.
+    pub(crate) ticker: Option<Ticker>,
+}
+
+impl<F, T, W, R> Future<LocalExWaker<W, R>> for LocalTick<'_, F, T, W, R>
+where
+    F: Future<LocalExWaker<W, R>, Output = T> + Drop,
+    T: Drop,
+    W: Wake + Drop,
+    R: Wait + Copy + Drop,
+{
+    type Output = Result<(), NoMemory>;
+
+    /// Runs a task, and is ready, or falls asleep and is pending.
+    fn poll(&mut self, waker: &LocalExWaker<W, R>) -> Poll<Result<(), NoMemory>> {
+        self.look(waker, &mut Unlocked::at_entry())
+    }
+}
+
+impl<F, T, W, R> Drop for LocalTick<'_, F, T, W, R>
+where
+    F: Drop,
+    T: Drop,
+    W: Wake + Drop,
+    R: Wait + Copy + Drop,
+{
+    /// Leaves the sleepers, and gives its room there back.
+    fn drop(self) {
+        let LocalTick { executor, ticker } = self;
+        if let Some(ticker) = ticker {
+            ticking::leave(&executor.link, ticker, &mut Unlocked::at_entry());
+        }
+    }
+}

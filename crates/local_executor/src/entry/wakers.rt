@@ -1,0 +1,122 @@
+//! The wakers of tasks of an executor of one thread. They may go to other threads, and be called there.
+use crate::entry::Unlocked;
+use crate::link::Link;
+use async_task::Wake;
+use solo::Task;
+use std::sync::Wait;
+
+/// A waker of a task.
+pub struct LocalWaker<W, R>
+where
+    W: Wake + Drop,
+    R: Wait + Copy + Drop,
+{
+    pub(crate) link: Link<W, R>,
+    pub(crate) task: Task,
+}
+
+/// What futures are polled with, and handles and ticks too.
+#[derive(Drop)]
+pub enum LocalExWaker<W, R>
+where
+    W: Wake + Drop,
+    R: Wait + Copy + Drop,
+{
+    /// Of a task.
+    Task(LocalWaker<W, R>),
+    /// From outside.
+    Outside(W),
+}
+
+impl<W: Wake + Drop, R: Wait + Copy + Drop> LocalWaker<W, R> {
+    /// Goes, and was none that counts.
+    pub(crate) fn forget(self) {
+        let LocalWaker { link, task: _ } = self;
+        drop(link);
+    }
+}
+
+impl<W: Wake + Drop, R: Wait + Copy + Drop> Drop for LocalWaker<W, R> {
+    fn drop(self) {
+        let LocalWaker { link, task } = self;
+        link.release(task, &mut Unlocked::at_entry());
+    }
+}
+
+impl<W: Wake + Drop, R: Wait + Copy + Drop> Wake for LocalWaker<W, R> {
+    ghost is_same = { λ a b. Unit {0} };
+
+    /// Queues the task, where it is open and idle. It takes no memory.
+    fn wake(self) {
+        let LocalWaker { link, task } = self;
+        link.wake_and_release(task, &mut Unlocked::at_entry());
+    }
+
+    fn wake_by_ref(&self) {
+        self.link.wake(self.task, &mut Unlocked::at_entry());
+    }
+
+    /// One more, or None where the task has 2^40 references already.
+    fn clone(&self) -> Option<Self> {
+        if self.link.hold(self.task, &mut Unlocked::at_entry()) {
+            Some(LocalWaker {
+                link: self.link.share(),
+                task: self.task,
+            })
+        } else {
+            None
+        }
+    }
+
+    /// Whether both are of one task.
+    fn will_wake(&self, other: &Self) -> bool {
+        self.task == other.task && self.link.is_to_the_same(&other.link)
+    }
+}
+
+/// So that `block_on` of `blocking` polls handles and ticks.
+impl<W: Wake + Drop, R: Wait + Copy + Drop> From<W> for LocalExWaker<W, R> {
+    fn from(waker: W) -> Self {
+        LocalExWaker::Outside(waker)
+    }
+}
+
+impl<W: Wake + Drop, R: Wait + Copy + Drop> Wake for LocalExWaker<W, R> {
+    ghost is_same = { λ a b. Unit {0} };
+
+    fn wake(self) {
+        match self {
+            LocalExWaker::Task(waker) => waker.wake(),
+            LocalExWaker::Outside(waker) => waker.wake(),
+        }
+    }
+
+    fn wake_by_ref(&self) {
+        match self {
+            LocalExWaker::Task(waker) => waker.wake_by_ref(),
+            LocalExWaker::Outside(waker) => waker.wake_by_ref(),
+        }
+    }
+
+    fn clone(&self) -> Option<Self> {
+        match self {
+            LocalExWaker::Task(waker) => match waker.clone() {
+                Some(copy) => Some(LocalExWaker::Task(copy)),
+                None => None,
+            },
+            LocalExWaker::Outside(waker) => match waker.clone() {
+                Some(copy) => Some(LocalExWaker::Outside(copy)),
+                None => None,
+            },
+        }
+    }
+
+    /// Whether both wake the same, as far as it can tell: a no says nothing.
+    fn will_wake(&self, other: &Self) -> bool {
+        match (self, other) {
+            (LocalExWaker::Task(one), LocalExWaker::Task(two)) => one.will_wake(two),
+            (LocalExWaker::Outside(one), LocalExWaker::Outside(two)) => one.will_wake(two),
+            _ => false,
+        }
+    }
+}

@@ -1,0 +1,89 @@
+//! Values of a user's, which came out from under the lock or out of a store.
+ghost use Rattle.std.specs.Prelude.{◌≡◌};
+
+use crate::entry::Unlocked;
+use async_task::{Future, Poll, Wake};
+use std::marker::Model;
+
+/// A value of a user's, whose code runs only while nothing is locked or open. It has no drop: it is let go, or called, by who
+/// is lent an `Unlocked`. A contract sees the value.
+#[must_use]
+pub struct Foreign<X> {
+    value: X,
+}
+
+impl<X> Model for Foreign<X> {
+    ghost Value = { X };
+
+    ghost view = { λ f. f.value };
+}
+
+impl<X> Foreign<X> {
+    pub fn of(value: X) -> Self
+        ensures { result ≡ value }
+    {
+        Foreign { value }
+    }
+
+    /// The value, which is put under the lock or into a store, where none of its code runs.
+    pub fn into_stored(self) -> X
+        ensures { result ≡ self }
+    {
+        let Foreign { value } = self;
+        value
+    }
+
+    /// The value, which is given to the user.
+    pub fn into_given(self) -> X
+        ensures { result ≡ self }
+    {
+        let Foreign { value } = self;
+        value
+    }
+
+    /// Polls a future.
+    pub fn poll<K>(&mut self, waker: &K, unlocked: &Unlocked) -> Poll<X::Output>
+    where
+        X: Future<K>,
+    {
+        let _ = unlocked;
+        self.value.poll(waker)
+    }
+
+    /// Calls a waker.
+    pub fn wake(self, unlocked: &Unlocked)
+    where
+        X: Wake,
+    {
+        let _ = unlocked;
+        let Foreign { value } = self;
+        value.wake();
+    }
+
+    /// Drops the value.
+    pub fn let_go(self, unlocked: &Unlocked)
+    where
+        X: Drop,
+    {
+        let _ = unlocked;
+        let Foreign { value } = self;
+        drop(value);
+    }
+}
+
+/// The value that came out, where one did.
+pub fn came_out<X>(value: Option<X>) -> Option<Foreign<X>>
+    ensures { result ≡ value }
+{
+    match value {
+        Some(value) => Some(Foreign::of(value)),
+        None => None,
+    }
+}
+
+/// Drops what came out, where something did.
+pub fn let_go<X: Drop>(value: Option<Foreign<X>>, unlocked: &Unlocked) {
+    if let Some(value) = value {
+        value.let_go(unlocked);
+    }
+}

@@ -1,0 +1,41 @@
+//! The waker that a poll is lent.
+use crate::entry::{LocalExWaker, LocalWaker, Unlocked};
+use crate::foreign::Foreign;
+use crate::link::Link;
+use async_task::Wake;
+use solo::Task;
+use std::sync::Wait;
+
+/// The waker of a task that is polled. It counts as none, since the task is there for as long as the poll goes. So it has no
+/// drop: it is taken apart.
+#[must_use]
+pub struct LentWaker<W, R>
+where
+    W: Wake + Drop,
+    R: Wait + Copy + Drop,
+{
+    waker: LocalExWaker<W, R>,
+}
+
+impl<W: Wake + Drop, R: Wait + Copy + Drop> LentWaker<W, R> {
+    /// Of the task that is about to be polled.
+    pub fn of(link: Link<W, R>, task: Task) -> Self {
+        LentWaker {
+            waker: LocalExWaker::Task(LocalWaker { link, task }),
+        }
+    }
+
+    /// What the poll is lent.
+    pub fn waker(&self) -> &LocalExWaker<W, R> {
+        &self.waker
+    }
+
+    /// The poll is over.
+    pub fn end(self, unlocked: &Unlocked) {
+        let LentWaker { waker } = self;
+        match waker {
+            LocalExWaker::Task(waker) => waker.forget(),
+            LocalExWaker::Outside(waker) => Foreign::of(waker).let_go(unlocked),
+        }
+    }
+}

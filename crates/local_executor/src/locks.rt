@@ -1,0 +1,54 @@
+//! The lock that an executor, its handles and its wakers share: who takes it has an `Unlocked` lent for as long.
+use crate::entry::Unlocked;
+use std::sync::{Mutex, MutexGuard, Wait};
+
+/// What is guarded by a lock that one party has at a time.
+#[derive(Drop)]
+pub struct Guarded<T> {
+    lock: Mutex<T>,
+}
+
+/// What a `Guarded` guards, until this is dropped.
+pub struct Locked<'a, T> {
+    guard: MutexGuard<'a, T>,
+    unlocked: &'a mut Unlocked,
+}
+
+impl<T> Guarded<T> {
+    pub fn new(value: T) -> Self {
+        Guarded {
+            lock: Mutex::new(value),
+        }
+    }
+
+    /// Takes the lock.
+    pub fn lock<'a, R: Wait>(&'a self, rt: &R, unlocked: &'a mut Unlocked) -> Locked<'a, T> {
+        Locked {
+            guard: self.lock.lock(rt),
+            unlocked,
+        }
+    }
+
+    /// Takes the lock, where it is free.
+    pub fn try_lock<'a>(&'a self, unlocked: &'a mut Unlocked) -> Option<Locked<'a, T>> {
+        match self.lock.try_lock() {
+            Some(guard) => Some(Locked { guard, unlocked }),
+            None => None,
+        }
+    }
+}
+
+impl<T> Locked<'_, T> {
+    /// What the lock guards.
+    pub fn get(&mut self) -> &mut T {
+        &mut *self.guard
+    }
+}
+
+impl<T> Drop for Locked<'_, T> {
+    /// Gives the lock back.
+    fn drop(self) {
+        let Locked { guard, unlocked: _ } = self;
+        drop(guard);
+    }
+}

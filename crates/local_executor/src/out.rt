@@ -1,0 +1,133 @@
+//! What the calls of `Solo` hand out, as it comes out from under the lock: the same, with each value of a user's as a `Foreign`.
+ghost use Rattle.std.specs.Prelude.{◌≡◌};
+
+use crate::foreign::{Foreign, came_out};
+use executor_parts::EntryPlace;
+use solo::{Dropped, Owed, Polled, SoloWaker, Taken, Ticked, Told};
+
+/// A waker that comes out.
+pub fn waker_out<W>(waker: SoloWaker<W>) -> SoloWaker<Foreign<W>>
+    ensures { result ≡ waker }
+{
+    match waker {
+        SoloWaker::Task(task) => SoloWaker::Task(task),
+        SoloWaker::Outside(waker) => SoloWaker::Outside(Foreign::of(waker)),
+    }
+}
+
+/// A waker that is put under the lock.
+pub fn waker_in<W>(waker: SoloWaker<Foreign<W>>) -> SoloWaker<W>
+    ensures { result ≡ waker }
+{
+    match waker {
+        SoloWaker::Task(task) => SoloWaker::Task(task),
+        SoloWaker::Outside(waker) => SoloWaker::Outside(waker.into_stored()),
+    }
+}
+
+/// A waker that comes out, where one does.
+pub fn if_waker_out<W>(waker: Option<SoloWaker<W>>) -> Option<SoloWaker<Foreign<W>>>
+    ensures { result ≡ waker }
+{
+    match waker {
+        Some(waker) => Some(waker_out(waker)),
+        None => None,
+    }
+}
+
+/// What a queueing hands out.
+pub fn told_out<W>(told: Told<W>) -> Told<Foreign<W>>
+    ensures { result ≡ told }
+{
+    let Told { sleeper, returned } = told;
+    Told {
+        sleeper: came_out(sleeper),
+        returned,
+    }
+}
+
+/// What the end of a tick hands out.
+pub fn dropped_out<W>(dropped: Dropped<W>) -> Dropped<Foreign<W>>
+    ensures { result ≡ dropped }
+{
+    let Dropped { old, told } = dropped;
+    Dropped {
+        old: came_out(old),
+        told: told_out(told),
+    }
+}
+
+/// What a take hands out.
+pub fn taken_out<W>(taken: Taken<EntryPlace, W>) -> Taken<EntryPlace, Foreign<W>>
+    ensures { result ≡ taken }
+{
+    let Taken { found, sleeper } = taken;
+    Taken {
+        found,
+        sleeper: came_out(sleeper),
+    }
+}
+
+/// What a tick's look hands out.
+pub fn ticked_out<W>(ticked: Ticked<EntryPlace, W>) -> Ticked<EntryPlace, Foreign<W>>
+    ensures { result ≡ ticked }
+{
+    let Ticked {
+        ticker,
+        look,
+        sleeper,
+        old,
+        spare,
+        returned,
+    } = ticked;
+    Ticked {
+        ticker,
+        look,
+        sleeper: came_out(sleeper),
+        old: came_out(old),
+        spare: if_waker_out(spare),
+        returned,
+    }
+}
+
+/// What a call on a task hands out.
+pub fn owed_out<W>(owed: Owed<EntryPlace, (), W>) -> Owed<EntryPlace, (), Foreign<W>>
+    ensures { result ≡ owed }
+{
+    let Owed {
+        future,
+        rest,
+        output,
+        awaiter,
+        sleeper,
+        old,
+        returned,
+    } = owed;
+    Owed {
+        future,
+        rest,
+        output,
+        awaiter: if_waker_out(awaiter),
+        sleeper: came_out(sleeper),
+        old: if_waker_out(old),
+        returned,
+    }
+}
+
+/// What a poll of a handle answers.
+pub fn polled_out<W>(polled: Polled<(), SoloWaker<W>>) -> Polled<(), SoloWaker<Foreign<W>>>
+    ensures { result ≡ polled }
+{
+    match polled {
+        Polled::Output { output, spare } => Polled::Output {
+            output,
+            spare: waker_out(spare),
+        },
+        Polled::Closed { spare } => Polled::Closed {
+            spare: waker_out(spare),
+        },
+        Polled::Pending { replaced } => Polled::Pending {
+            replaced: if_waker_out(replaced),
+        },
+    }
+}

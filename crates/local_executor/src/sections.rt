@@ -1,0 +1,216 @@
+//! What is done under the lock: each section is one call of `Solo`. No code of a user runs here: what comes out is `Foreign`.
+ghost use Rattle.std.specs.Prelude.{◌≡◌, IfSome, IfNone, OnSome, OnOk, IfErr, is_none};
+ghost use Rattle.task_moves.specs.declared.local_task.answers.Back.TheVariants.{Ready, Pending};
+ghost use Rattle.solo.specs.declared.names.SoloWaker.TheVariants.{Task as OfTask};
+ghost use Rattle.solo.specs.Solo as solo;
+ghost use Rattle.solo.specs.Ticks as ticks;
+ghost use Rattle.solo.specs.Closing as closing;
+
+use crate::foreign::Foreign;
+use crate::names::Tasks;
+use crate::out::{dropped_out, owed_out, polled_out, taken_out, ticked_out, told_out, waker_in};
+use executor_parts::EntryPlace;
+use solo::{
+    Back, Dropped, Lent, Owed, Polled, SoloWaker, SpawnError, Spawned, Taken, Task, Ticked, Ticker,
+    Told,
+};
+use std::alloc::AllocError;
+
+/// The future at a place enters, and its task is queued. Refused, nothing changes.
+pub fn spawn<W>(
+    tasks: &mut Tasks<W>,
+    place: EntryPlace,
+) -> Result<Spawned<Foreign<W>>, SpawnError<EntryPlace>>
+    ensures { solo.Spawns place tasks.old result tasks.new }
+{
+    match tasks.spawn(place) {
+        Ok(Spawned { task, told }) => Ok(Spawned {
+            task,
+            told: told_out(told),
+        }),
+        Err(refused) => Err(refused),
+    }
+}
+
+/// The first task of the queue leaves it.
+pub fn take<W>(tasks: &mut Tasks<W>) -> Taken<EntryPlace, Foreign<W>>
+    ensures tasks { tasks.new ≡ solo.taken tasks.old }
+    ensures taken { result ≡ solo.take_answer tasks.old }
+{
+    taken_out(tasks.take())
+}
+
+/// A poll has ended.
+pub fn settle<W>(
+    tasks: &mut Tasks<W>,
+    lent: Lent,
+    back: Back<EntryPlace, ()>,
+) -> Owed<EntryPlace, (), Foreign<W>>
+    ensures tasks { tasks.new ≡ solo.settled lent back tasks.old }
+    ensures owed { result ≡ solo.settle_answer lent back tasks.old }
+{
+    owed_out(tasks.settle(lent, back))
+}
+
+/// A future was dropped.
+pub fn finish<W>(tasks: &mut Tasks<W>, lent: Lent) -> Owed<EntryPlace, (), Foreign<W>>
+    ensures tasks { tasks.new ≡ solo.finished lent tasks.old }
+    ensures owed { result ≡ solo.finish_answer lent tasks.old }
+{
+    owed_out(tasks.finish(lent))
+}
+
+/// A task that the queue has turned away loses its turn.
+pub fn retract<W>(tasks: &mut Tasks<W>, task: Task) -> Owed<EntryPlace, (), Foreign<W>>
+    ensures tasks { tasks.new ≡ closing.retracted task tasks.old }
+    ensures owed { result ≡ closing.retract_answer task tasks.old }
+{
+    owed_out(tasks.retract(task))
+}
+
+/// A task is woken.
+pub fn wake<W>(tasks: &mut Tasks<W>, task: Task) -> Told<Foreign<W>>
+    ensures tasks { tasks.new ≡ solo.woken task tasks.old }
+    ensures told { result ≡ solo.wake_answer task tasks.old }
+{
+    told_out(tasks.wake(task))
+}
+
+/// A task is woken by a waker of its own, which goes.
+pub fn wake_and_release<W>(tasks: &mut Tasks<W>, task: Task) -> Told<Foreign<W>>
+    ensures tasks { tasks.new ≡ solo.woken_and_released task tasks.old }
+    ensures told { result ≡ solo.wake_and_release_answer task tasks.old }
+{
+    told_out(tasks.wake_and_release(task))
+}
+
+/// One waker more.
+pub fn hold<W>(tasks: &mut Tasks<W>, task: Task) -> bool
+    ensures tasks { tasks.new ≡ solo.held task tasks.old }
+    ensures few { result ≡ solo.may_hold task tasks.old }
+{
+    tasks.hold(task)
+}
+
+/// One waker less.
+pub fn release<W>(tasks: &mut Tasks<W>, task: Task) -> Told<Foreign<W>>
+    ensures tasks { tasks.new ≡ solo.released task tasks.old }
+    ensures told { result ≡ solo.release_answer task tasks.old }
+{
+    told_out(tasks.release(task))
+}
+
+/// A handle closes its task.
+pub fn cancel<W>(tasks: &mut Tasks<W>, task: Task) -> Owed<EntryPlace, (), Foreign<W>>
+    ensures tasks { tasks.new ≡ solo.cancelled task tasks.old }
+    ensures owed { result ≡ solo.cancel_answer task tasks.old }
+{
+    owed_out(tasks.cancel(task))
+}
+
+/// A handle is given up.
+pub fn detach<W>(tasks: &mut Tasks<W>, task: Task) -> Owed<EntryPlace, (), Foreign<W>>
+    ensures tasks { tasks.new ≡ solo.detached task tasks.old }
+    ensures owed { result ≡ solo.detach_answer task tasks.old }
+{
+    owed_out(tasks.detach(task))
+}
+
+/// A handle is polled where it needs to leave no waker; else nothing is done. What stands for its waker counts as none.
+pub fn answer<W>(tasks: &mut Tasks<W>, task: Task) -> Option<Polled<(), SoloWaker<Foreign<W>>>>
+    ensures waits { is_none result ≡ solo.must_wait task tasks.old }
+    ensures same { IfNone result (tasks.new ≡ tasks.old) }
+    ensures tasks { OnSome result (tasks.new ≡ solo.polled task (OfTask task) tasks.old) }
+    ensures answer { IfSome result (λ polled. polled ≡ solo.poll_answer task (OfTask task) tasks.old) }
+{
+    if tasks.must_wait(task) {
+        return None;
+    }
+    Some(polled_out(tasks.poll(task, SoloWaker::Task(task))))
+}
+
+/// A handle is polled with a waker.
+pub fn poll<W>(
+    tasks: &mut Tasks<W>,
+    task: Task,
+    waker: SoloWaker<Foreign<W>>,
+) -> Polled<(), SoloWaker<Foreign<W>>>
+    ensures tasks { tasks.new ≡ solo.polled task waker tasks.old }
+    ensures answer { result ≡ solo.poll_answer task waker tasks.old }
+{
+    polled_out(tasks.poll(task, waker_in(waker)))
+}
+
+/// Whether a handle's task is finished.
+pub fn is_finished<W>(tasks: &Tasks<W>, task: Task) -> bool
+    ensures { result ≡ solo.is_finished task tasks.now }
+{
+    tasks.is_finished(task)
+}
+
+/// Whether each future that was accepted is dropped.
+pub fn is_empty<W>(tasks: &Tasks<W>) -> bool
+    ensures { result ≡ solo.is_empty tasks.now }
+{
+    tasks.is_empty()
+}
+
+/// The end begins.
+pub fn close<W>(tasks: &mut Tasks<W>)
+    ensures { tasks.new ≡ closing.closed tasks.old }
+{
+    tasks.close();
+}
+
+/// One more of what is to be done at the end.
+pub fn drain<W>(tasks: &mut Tasks<W>) -> Option<Owed<EntryPlace, (), Foreign<W>>>
+    ensures tasks { tasks.new ≡ closing.drained tasks.old }
+    ensures owed { result ≡ closing.drain_answer tasks.old }
+{
+    match tasks.drain() {
+        Some(owed) => Some(owed_out(owed)),
+        None => None,
+    }
+}
+
+/// A new tick.
+pub fn tick<W>(tasks: &mut Tasks<W>) -> Result<Ticker, AllocError>
+    ensures ok { OnOk result (tasks.new ≡ ticks.roomy tasks.old) }
+    ensures err { IfErr result (λ _. tasks.new ≡ tasks.old) }
+{
+    tasks.tick()
+}
+
+/// A tick looks for a task, and comes back where there is none.
+pub fn tick_search<W>(
+    tasks: &mut Tasks<W>,
+    ticker: Ticker,
+) -> Result<Ticked<EntryPlace, Foreign<W>>, Ticker>
+    ensures tasks { tasks.new ≡ ticks.searched ticker tasks.old }
+    ensures ticked { result ≡ ticks.search_answer ticker tasks.old }
+{
+    match tasks.tick_search(ticker) {
+        Ok(ticked) => Ok(ticked_out(ticked)),
+        Err(ticker) => Err(ticker),
+    }
+}
+
+/// A tick looks for a task, or falls asleep with a waker.
+pub fn tick_take<W>(
+    tasks: &mut Tasks<W>,
+    ticker: Ticker,
+    waker: SoloWaker<Foreign<W>>,
+) -> Ticked<EntryPlace, Foreign<W>>
+    ensures tasks { tasks.new ≡ ticks.taken ticker waker tasks.old }
+    ensures ticked { result ≡ ticks.take_answer ticker waker tasks.old }
+{
+    ticked_out(tasks.tick_take(ticker, waker_in(waker)))
+}
+
+/// A tick goes.
+pub fn tick_leave<W>(tasks: &mut Tasks<W>, ticker: Ticker) -> Dropped<Foreign<W>>
+    ensures tasks { tasks.new ≡ ticks.left ticker tasks.old }
+    ensures dropped { result ≡ ticks.leave_answer ticker tasks.old }
+{
+    dropped_out(tasks.tick_leave(ticker))
+}

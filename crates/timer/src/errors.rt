@@ -1,0 +1,70 @@
+ghost use Rattle.std.specs.IoError.{error_kind};
+ghost use Rattle.std.specs.Prelude.{◌≡◌};
+
+use crate::deadlines::Refused;
+use std::io::{self, ErrorKind};
+use thiserror::Error;
+
+/// Why there is no timer.
+#[derive(Clone, Copy, Debug, PartialEq, Eq, Drop, Error)]
+pub enum TimerError {
+    #[error("out of memory")]
+    NoMemory,
+    #[error("the clock can't be read")]
+    NoClock,
+}
+
+/// Why one may not sleep.
+#[derive(Clone, Copy, Debug, PartialEq, Eq, Drop, Error)]
+pub enum SleepError {
+    #[error("the timer is full: as many sleep as it was made for")]
+    Full,
+    #[error("the timer is closed")]
+    Closed,
+}
+
+/// The time was up before the future was ready.
+#[derive(Clone, Copy, Debug, PartialEq, Eq, Drop, Error)]
+#[error("the time is up")]
+pub struct Elapsed;
+
+/// So that `?` takes it to an `io::Result`.
+impl From<TimerError> for io::Error {
+    ghost use Rattle.timer.specs.Errors.{of_timer};
+
+    ghost from_gives = { λ why error. error_kind error ≡ of_timer why };
+
+    fn from(error: TimerError) -> io::Error {
+        match error {
+            TimerError::NoMemory => ErrorKind::OutOfMemory.into(),
+            TimerError::NoClock => ErrorKind::Other.into(),
+        }
+    }
+}
+
+/// So that `?` takes it to an `io::Result`.
+impl From<SleepError> for io::Error {
+    ghost use Rattle.timer.specs.Errors.{of_sleep};
+
+    ghost from_gives = { λ why error. error_kind error ≡ of_sleep why };
+
+    fn from(error: SleepError) -> io::Error {
+        match error {
+            SleepError::Full => ErrorKind::WouldBlock.into(),
+            SleepError::Closed => ErrorKind::BrokenPipe.into(),
+        }
+    }
+}
+
+impl From<Refused> for SleepError {
+    ghost use Rattle.timer.specs.Errors.{of_refused};
+
+    ghost from_gives = { λ refused error. error ≡ of_refused refused };
+
+    fn from(refused: Refused) -> SleepError {
+        match refused {
+            Refused::Full => SleepError::Full,
+            Refused::Closed => SleepError::Closed,
+        }
+    }
+}

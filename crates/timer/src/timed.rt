@@ -1,0 +1,36 @@
+//! A future that has only so much time.
+use crate::errors::Elapsed;
+use crate::nap::Sleep;
+use async_task::{Future, Poll, Wake};
+use std::sync::Wait;
+
+/// A future that is given so much time: its output, or that the time is up. Where both are so it answers the output. Dropped, it
+/// drops both.
+#[derive(Drop)]
+pub struct Timeout<F, K, R>
+where
+    K: Wake + Drop,
+    R: Wait + Copy + Drop,
+{
+    pub(crate) future: F,
+    pub(crate) sleep: Sleep<K, R>,
+}
+
+impl<F, K, R> Future<K> for Timeout<F, K, R>
+where
+    F: Future<K>,
+    K: Wake + Drop,
+    R: Wait + Copy + Drop,
+{
+    type Output = Result<F::Output, Elapsed>;
+
+    fn poll(&mut self, waker: &K) -> Poll<Result<F::Output, Elapsed>> {
+        if let Poll::Ready(output) = self.future.poll(waker) {
+            return Poll::Ready(Ok(output));
+        }
+        match self.sleep.poll(waker) {
+            Poll::Ready(()) => Poll::Ready(Err(Elapsed)),
+            Poll::Pending => Poll::Pending,
+        }
+    }
+}

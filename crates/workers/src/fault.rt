@@ -1,0 +1,42 @@
+ghost use Rattle.std.specs.IoError.{error_kind};
+ghost use Rattle.std.specs.Prelude.{◌≡◌};
+
+use std::io::{self, ErrorKind};
+use thiserror::Error;
+
+/// Why something was refused, or has no output to give: the one error of what a program calls.
+#[derive(Clone, Copy, Debug, PartialEq, Eq, Drop, Error)]
+pub enum Fault {
+    /// The executor has as many futures as its limit says.
+    #[error("the executor is full: each place that its limit gives has a future")]
+    Full,
+    /// There was no memory for what was wanted, or no copy of a waker could be had.
+    #[error("out of memory")]
+    NoMemory,
+    /// The task was cancelled, or its output was given before.
+    #[error("the task is closed: it was cancelled, or its output was given before")]
+    TaskClosed,
+    /// The run gave its output before.
+    #[error("the run has ended: it gave its output before")]
+    Finished,
+    /// The system gave no random number, of which a realm has its own.
+    #[error("no random number")]
+    NoRandom,
+}
+
+/// So that `?` takes it to an `io::Result`.
+impl From<Fault> for io::Error {
+    ghost use Rattle.workers.specs.Faults.{kind_of};
+
+    ghost from_gives = { λ fault error. error_kind error ≡ kind_of fault };
+
+    fn from(fault: Fault) -> io::Error {
+        match fault {
+            Fault::Full => ErrorKind::WouldBlock.into(),
+            Fault::NoMemory => ErrorKind::OutOfMemory.into(),
+            Fault::TaskClosed => ErrorKind::BrokenPipe.into(),
+            Fault::Finished => ErrorKind::UnexpectedEof.into(),
+            Fault::NoRandom => ErrorKind::Other.into(),
+        }
+    }
+}

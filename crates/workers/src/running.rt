@@ -1,0 +1,72 @@
+//! A thread that runs an executor until one future is ready.
+ghost use Rattle.std.specs.Prelude.{◌≡◌};
+ghost use Rattle.workers.specs.Faults.{answered};
+
+use crate::fault::Fault;
+use async_executor::{ExWaker, Executor, RunError};
+use async_task::{Future, TaskError};
+use blocking::{ThreadWaker, block_on};
+use std::alloc::Global;
+use std::sync::Wait;
+
+/// Runs the executor on this thread until the future is ready, and answers its output. The seed says at which other runs it
+/// begins to look for work; each thread takes another.
+pub fn run_until<F, T, R, G>(
+    rt: &R,
+    alloc: Global,
+    executor: &Executor<F, T, ThreadWaker, R>,
+    seed: u64,
+    future: G,
+) -> Result<G::Output, Fault>
+where
+    F: Future<ExWaker<T, ThreadWaker, R>, Output = T> + Drop,
+    T: Drop + 'static,
+    R: Wait + Copy + Drop + 'static,
+    G: Future<ExWaker<T, ThreadWaker, R>> + Drop,
+    G::Output: Drop,
+{
+    match executor.run_from(future, seed) {
+        Ok(run) => match block_on(rt, alloc, run) {
+            Ok(Ok(output)) => Ok(output),
+            Ok(Err(error)) => Err(Fault::from(error)),
+            Err(_) => Err(Fault::NoMemory),
+        },
+        Err(_) => Err(Fault::NoMemory),
+    }
+}
+
+/// Runs the executor on this thread until the task is over, and answers the output of its future: `block_on` of a run of a handle,
+/// with one answer.
+pub fn complete<F, T, R, G, U>(
+    rt: &R,
+    alloc: Global,
+    executor: &Executor<F, T, ThreadWaker, R>,
+    task: G,
+) -> Result<U, Fault>
+where
+    F: Future<ExWaker<T, ThreadWaker, R>, Output = T> + Drop,
+    T: Drop + 'static,
+    R: Wait + Copy + Drop + 'static,
+    G: Future<ExWaker<T, ThreadWaker, R>, Output = Result<U, TaskError>> + Drop,
+    U: Drop,
+{
+    match run_until(rt, alloc, executor, 0, task) {
+        Ok(Ok(output)) => Ok(output),
+        Ok(Err(error)) => Err(Fault::from(error)),
+        Err(fault) => Err(fault),
+    }
+}
+
+/// One answer of the three that `block_on` of a run of a handle gives: that of the parker, of the run and of the task.
+pub fn answer<T: Drop, G: Drop>(
+    ended: Result<Result<Result<T, TaskError>, RunError>, G>,
+) -> Result<T, Fault>
+    ensures { result ≡ answered ended }
+{
+    match ended {
+        Ok(Ok(Ok(output))) => Ok(output),
+        Ok(Ok(Err(error))) => Err(Fault::from(error)),
+        Ok(Err(error)) => Err(Fault::from(error)),
+        Err(_) => Err(Fault::NoMemory),
+    }
+}

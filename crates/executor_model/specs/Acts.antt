@@ -359,12 +359,15 @@ leak_out_by false w =
 abbrev pub leak_out : World → Done
 leak_out w = leak_out_by (w.is_static || w.gone) w
 
+-- who is woken so is told of behind the wake
+abbrev pub leaked : ℕ → ℕ → Done → Done
+leaked p f d = done (log d.world (event.Leaked p f)) d.next
+
 -- those that the drop of the executor has taken out are left to that
 abbrev pub leak_next_by : Bool → ℕ → World → List ℕ → Done
 leak_next_by true p w ws = done w []
 leak_next_by false p w [] = done w []
-leak_next_by false p w (f ∷ rest) =
-    followed (wake p (log (record w { waking = rest }) (event.Leaked p f)) f) (leaking_ops rest)
+leak_next_by false p w (f ∷ rest) = leaked p f (followed (wake p (record w { waking = rest }) f) (leaking_ops rest))
 
 abbrev pub leak_next : ℕ → World → Done
 leak_next p w = leak_next_by w.gone p w w.waking

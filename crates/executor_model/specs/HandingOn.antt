@@ -38,7 +38,7 @@ IsWakeOf f w (op.Waker (waker_op.CallAwaiter awaited a poll)) = IsWakerOf f a
 IsWakeOf f w (op.Sleeper (sleeper_op.CallSleeper s)) = IsWakerOf f s.waker
 IsWakeOf f w (op.Run (run_op.WakeOwn x)) = IsWakerOf f x.waker
 IsWakeOf f w (op.Closing closing_op.WakeNext) = IsFirst f w.waking
-IsWakeOf f w (op.Closing closing_op.LeakNext) = IsFirst f w.waking
+IsWakeOf f w (op.Closing closing_op.LeakNext) = (w.gone ≡ false) × IsFirst f w.waking
 IsWakeOf f w _ = true ≡ false
 
 -- a wake that marks f's task hands on one Runnable, but none where the task is running, and then the end of the poll

@@ -126,10 +126,10 @@ fn leak_next(store: &mut Store, todo: &mut Vec<Op>, party: u32)
     if !store.waking.is_empty() {
         todo.push_reserved(Op::Closing(ClosingOp::LeakNext));
     }
+    move_task(store, todo, party, Move::Wake, f);
     store
         .trace
         .push_reserved(Event::Leaked { party, future: f });
-    move_task(store, todo, party, Move::Wake, f);
 }
 
 /// The queue is closed.

@@ -292,6 +292,8 @@ is_sweeping (op.Closing closing_op.DropNext) = true
 is_sweeping (op.Closing closing_op.WakeNext) = true
 is_sweeping (op.Closing closing_op.Close) = true
 is_sweeping (op.Closing closing_op.Drain) = true
+is_sweeping (op.Closing closing_op.LeakOut) = true
+is_sweeping (op.Closing closing_op.LeakNext) = true
 is_sweeping _ = false
 
 pub same-act : (p : ℕ) (h : Hint) (o : Op) (w : World) → is_sweeping o ≡ false → lists w ≡ lists (act p h o w).world
@@ -326,6 +328,8 @@ same-act p h (op.Closing closing_op.DropNext) w n = absurd (cc)
 same-act p h (op.Closing closing_op.WakeNext) w n = absurd (cc)
 same-act p h (op.Closing closing_op.Close) w n = absurd (cc)
 same-act p h (op.Closing closing_op.Drain) w n = absurd (cc)
+same-act p h (op.Closing closing_op.LeakOut) w n = absurd (cc)
+same-act p h (op.Closing closing_op.LeakNext) w n = absurd (cc)
 same-act p h (op.User (user_op.BeginDrop f)) w n = refl
 same-act p h _ w n = refl
 
@@ -366,6 +370,8 @@ no-self (op.Closing closing_op.DropNext) n = absurd (cc)
 no-self (op.Closing closing_op.WakeNext) n = absurd (cc)
 no-self (op.Closing closing_op.Close) n = absurd (cc)
 no-self (op.Closing closing_op.Drain) n = absurd (cc)
+no-self (op.Closing closing_op.LeakOut) n = absurd (cc)
+no-self (op.Closing closing_op.LeakNext) n = absurd (cc)
 no-self (op.List o) n = omega (arith, ap (λ (x : Row). x.ousting) (plain-list o))
 no-self (op.Steal o) n = absurd (cc)
 no-self (op.Run o) n = absurd (cc)

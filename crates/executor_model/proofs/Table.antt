@@ -16,3 +16,5 @@ pub mod Pairs
 pub mod Bounds
 pub mod Spots
 pub mod Spotting
+pub mod LeakCounts
+pub mod Leaking

@@ -15,6 +15,7 @@ use Rattle.executor_model.specs.Trace.{is_cancelled, is_detached, is_drop_begun,
 use Rattle.executor_model.specs.EarlyDrop.{before_drop, EarlyDropHasCause, IsForgotten, LastWakerIsLast}
 use Rattle.executor_model.specs.Weights.{same}
 use Rattle.executor_model.proofs.OneFuture.Stories.{Story, untold, except, hears, story_from, story}
+use Rattle.executor_model.specs.Trace.{is_leak_begun}
 
 pub same-cond : (g f : ℕ) → same g f ≡ cond (eqb g f) 1 0
 unfolding same
@@ -387,19 +388,19 @@ excused f s [] z h = absurd (cc)
 excused f s (e ∷ es) z h = excused-go f e s es (is_dropped f e) refl z (excused f (hears f e s) es z) h
 
 pub drop-has-cause : (kind : Kind) (f : ℕ) (es : Trace) → (story f es).strays ≡ 0 →
-    ((story f es).last ≡ true → kind ≡ Static) → EarlyDropHasCause kind f es
+    ((story f es).last ≡ true → (kind ≡ Static) ⊎ (has is_leak_begun es ≡ true)) → EarlyDropHasCause kind f es
 unfolding story
 drop-has-cause kind f es z k early = go (excused f untold es z early.dropped)
   where
     forgets : has (is_detached f) (before_drop f es) ≡ true → has (is_last_waker f) (before_drop f es) ≡ true →
-        (has is_drop_begun (before_drop f es) ≡ true) ⊎ IsForgotten kind f (before_drop f es)
+        (has is_drop_begun (before_drop f es) ≡ true) ⊎ IsForgotten kind f es (before_drop f es)
     forgets d l = ⊎_elim
         (λ (x : has is_drop_begun (before_drop f es) ≡ true). inl x)
         (λ (x : (story_from f untold es).last ≡ true).
         inr (record { static = k x; detached = d; unwakeable = l })) (last-or-begun f _ untold es l)
 
     go : Excused f untold es → (has (is_cancelled f) (before_drop f es) ≡ true)
-        ⊎ ((has is_drop_begun (before_drop f es) ≡ true) ⊎ IsForgotten kind f (before_drop f es))
+        ⊎ ((has is_drop_begun (before_drop f es) ≡ true) ⊎ IsForgotten kind f es (before_drop f es))
     go (inl x) = absurd (cc)
     go (inr (inl x)) = let no : true ≡ false = sym x ∙ early.early in absurd (cc)
     go (inr (inr (inl x))) = inl x
@@ -411,7 +412,8 @@ take-all [] = refl
 take-all (e ∷ es) = ap (λ (xs : Trace). e ∷ xs) (take-all es)
 
 -- and so it is of the whole trace
-pub last-forgotten : (kind : Kind) (f : ℕ) (es : Trace) → ((story f es).last ≡ true → (kind ≡ Static) × ((story f es).detached ≡ true)) →
+pub last-forgotten : (kind : Kind) (f : ℕ) (es : Trace) → ((story f es).last ≡ true →
+    ((kind ≡ Static) ⊎ (has is_leak_begun es ≡ true)) × ((story f es).detached ≡ true)) →
     LastWakerIsLast kind f es
 unfolding story
 last-forgotten kind f es k l = ⊎_elim

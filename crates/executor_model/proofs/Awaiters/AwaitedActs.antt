@@ -43,7 +43,7 @@ use Rattle.executor_model.proofs.Counts.CountingHandles.{below}
 use Rattle.executor_model.specs.Acts.{leak_next_by, leak_out_by, leaked, leaking_ops}
 use Rattle.executor_model.proofs.Steps.Lists.{with_ops-leaking}
 use Rattle.executor_model.specs.Acts.{followed}
-use Rattle.executor_model.proofs.Awaiters.Awaited.{with_awaiting-leaking}
+use Rattle.executor_model.proofs.Awaiters.Awaited.{Mark, with_awaiting-leaking}
 
 -- wakers and polls of a handle
 
@@ -252,7 +252,7 @@ awaits-wake_next o b c rest p w f y e q i g r yy mm bb h =
 
 -- a leak of the executor
 
-awaits-leaked : (p f : ℕ) (w : World) (g : ℕ) (r : Pend) (yy : Awaiting) (mm : ℕ → ℕ) → Awaits w g r yy mm →
+awaits-leaked : (p f : ℕ) (w : World) (g : ℕ) (r : Pend) (yy : Awaiting) (mm : Mark) → Awaits w g r yy mm →
     Awaits (log w (event.Leaked p f)) g r yy mm
 awaits-leaked p f w g r yy mm h = grind (arith, heard-push)
 

@@ -17,4 +17,5 @@ pub mod Bounds
 pub mod Spots
 pub mod Spotting
 pub mod LeakCounts
+pub mod LastWakers
 pub mod Leaking

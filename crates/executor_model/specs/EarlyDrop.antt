@@ -15,19 +15,19 @@ pub record IsDroppedEarly (f : ℕ) (trace : Trace) : Type 0 where
   pub early : has (is_ready f) (before_drop f trace) ≡ false
 
 -- future f of an executor that is static, or was leaked, was detached, and nobody was left who could wake it
-pub record IsForgotten (kind : Kind) (f : ℕ) (trace before : Trace) : Type 0 where
+pub record IsForgotten (kind : Kind) (f : ℕ) (trace : Trace) : Type 0 where
   pub static : (kind ≡ Static) ⊎ (has is_leak_begun trace ≡ true)
-  pub detached : has (is_detached f) before ≡ true
-  pub unwakeable : has (is_last_waker f) before ≡ true
+  pub detached : has (is_detached f) trace ≡ true
+  pub unwakeable : has (is_last_waker f) trace ≡ true
 
 abbrev pub EarlyDropHasCause : Kind → ℕ → Trace → Type 0
 EarlyDropHasCause kind f trace =
     IsDroppedEarly f trace →
     (has (is_cancelled f) (before_drop f trace) ≡ true)
-    ⊎ ((has is_drop_begun (before_drop f trace) ≡ true) ⊎ IsForgotten kind f trace (before_drop f trace))
+    ⊎ ((has is_drop_begun (before_drop f trace) ≡ true) ⊎ IsForgotten kind f (before_drop f trace))
 
 -- nobody is left who could wake a future only where it is detached and the executor is static, or the drop of the executor
 -- has begun
 abbrev pub LastWakerIsLast : Kind → ℕ → Trace → Type 0
 LastWakerIsLast kind f trace =
-    has (is_last_waker f) trace ≡ true → (has is_drop_begun trace ≡ true) ⊎ IsForgotten kind f trace trace
+    has (is_last_waker f) trace ≡ true → (has is_drop_begun trace ≡ true) ⊎ IsForgotten kind f trace

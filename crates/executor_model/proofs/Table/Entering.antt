@@ -1,7 +1,7 @@
 -- For table_and_queue_agree, no_append_is_refused_full, the_limit_is_exact, drops_come_once, early_drops_have_causes
 -- and closing_drops_each_future_once.
 -- Table and queue agree with the trace, and a spawn finds the executor full exactly where it is.
-use Rattle.std.proofs.Common.{◌≡◌, ◌⊎◌, ℕ, zero, suc, ◌+◌, ◌<◌, ◌≤◌, List, [], length, Bool, true, false}
+use Rattle.std.proofs.Common.{◌≡◌, ◌⊎◌, ℕ, zero, suc, ◌+◌, ◌<◌, ◌≤◌, List, [], length, take, Bool, true, false}
 use Rattle.std.proofs.Common.{refl, sym, ap, ◌∙◌, subst, inl, inr, ⊎_elim, arith}
 use Rattle.std.proofs.lemmas.List.{get_or_past}
 use Rattle.std.specs.Prelude.{Option, Some, None, MatchOption, count_by, slice_get}
@@ -13,7 +13,7 @@ use Rattle.executor_model.specs.declared.op.Op.{Op}
 use Rattle.executor_model.specs.declared.op.Op.TheVariants as op
 use Rattle.executor_model.specs.declared.op.QueueOp.TheVariants as queue_op
 use Rattle.executor_model.specs.declared.step.Step.{Step}
-use Rattle.executor_model.specs.Trace.{Trace, has, is_accepted, is_dropped, is_drop_begun, is_leak_begun}
+use Rattle.executor_model.specs.Trace.{Trace, has, is_accepted, is_dropped, is_drop_begun, is_last_waker, is_leak_begun}
 use Rattle.executor_model.specs.DroppedOnce.{DropComesOnce, IsDroppedByTheEnd}
 use Rattle.executor_model.specs.EarlyDrop.{EarlyDropHasCause, LastWakerIsLast}
 use Rattle.executor_model.specs.Weights.{weigh_all}
@@ -25,12 +25,17 @@ use Rattle.executor_model.specs.Rows.{ousting_of, leaves_of}
 use Rattle.executor_model.proofs.Steps.Lift.{topped, good}
 use Rattle.executor_model.proofs.OneFuture.Stories.{story}
 use Rattle.executor_model.proofs.OneFuture.Telling.{fallen-counts, accepted-counts, counted-there, there-or-none}
-use Rattle.executor_model.proofs.OneFuture.Telling.{begun-has, ended-has, drop-has-cause, drop-follows, last-forgotten}
+use Rattle.executor_model.proofs.OneFuture.Telling.{begun-has, ended-has, drop-has-cause, drop-follows, last-forgotten, take-all}
 use Rattle.executor_model.proofs.Table.LeavingExecutions.{Placed, placed, has-place}
 
 -- a machine is static where it was made so, or a leak of its executor has begun
 abbrev pub IsOfKind : Kind → Machine → Type 0
 IsOfKind kind s = s.world.is_static ≡ true → (kind ≡ Static) ⊎ (has is_leak_begun s.world.trace ≡ true)
+
+-- where nobody was left who could wake it, the drop or a leak had begun by then, or it was static from the beginning on
+abbrev pub LastIsTold : Kind → ℕ → Trace → Type 0
+LastIsTold kind f es = (n : ℕ) → has (is_last_waker f) (take n es) ≡ true → (has is_drop_begun (take n es) ≡ true)
+    ⊎ ((kind ≡ Static) ⊎ (has is_leak_begun (take n es) ≡ true))
 
 -- no entry is there twice
 one-entry : (b : Bool) (o t d a e : ℕ) → ((b ≡ false) ⊎ (1 ≤ o) → t + d ≡ a + e) → (b ≡ true → o ≡ 0 → t ≡ 0) → e ≤ d →
@@ -161,15 +166,14 @@ module _ (s : Machine) (f : ℕ) (fine : Good s) (h : Placed s) where
   pub drop-comes-once : DropComesOnce f s.world.trace
   drop-comes-once = omega (arith, (h.leaves f).once, one-accepted, fallen-counts f s.world.trace)
 
-  last-of : (kind : Kind) → IsOfKind kind s → (story f s.world.trace).last ≡ true →
-      ((kind ≡ Static) ⊎ (has is_leak_begun s.world.trace ≡ true)) × ((story f s.world.trace).detached ≡ true)
-  last-of kind e l = (e ((h.leaves f).forgotten l).0, ((h.leaves f).forgotten l).1)
+  pub last-is-last : (kind : Kind) → LastIsTold kind f s.world.trace → LastWakerIsLast kind f s.world.trace
+  last-is-last kind e = last-forgotten kind f s.world.trace (λ l. ((h.leaves f).forgotten l).1) (λ l.
+      subst (λ (xs : Trace). (has is_drop_begun xs ≡ true) ⊎ ((kind ≡ Static) ⊎ (has is_leak_begun xs ≡ true)))
+      (take-all s.world.trace) (e (length s.world.trace)
+      (subst (λ (xs : Trace). has (is_last_waker f) xs ≡ true) (sym (take-all s.world.trace)) l)))
 
-  pub last-is-last : (kind : Kind) → IsOfKind kind s → LastWakerIsLast kind f s.world.trace
-  last-is-last kind e = last-forgotten kind f s.world.trace (last-of kind e)
-
-  pub drop-caused : (kind : Kind) → IsOfKind kind s → EarlyDropHasCause kind f s.world.trace
-  drop-caused kind e = drop-has-cause kind f s.world.trace (h.leaves f).fair (λ l. (last-of kind e l).0)
+  pub drop-caused : (kind : Kind) → LastIsTold kind f s.world.trace → EarlyDropHasCause kind f s.world.trace
+  drop-caused kind e = drop-has-cause kind f s.world.trace (h.leaves f).fair (λ l. e _ l)
 
   pub dropped-by-the-end : IsDroppedByTheEnd f s.world.trace
   dropped-by-the-end e a =

@@ -5,16 +5,12 @@
 #[cfg(test)]
 mod actor;
 #[cfg(test)]
-mod echo;
-#[cfg(test)]
 mod first_task;
-#[cfg(test)]
-mod hello;
 #[cfg(test)]
 mod pipeline;
 #[cfg(test)]
-mod sleepers;
-#[cfg(test)]
 mod thread_pool;
+#[cfg(test)]
+mod timer;
 #[cfg(test)]
 mod two_kinds;

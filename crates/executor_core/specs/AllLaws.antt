@@ -7,6 +7,8 @@ use Rattle.executor_model.specs.declared.step.Step.{Step}
 use Rattle.executor_model.specs.AskedPolls.{IsWokenBetweenPolls}
 use Rattle.executor_model.specs.AwaiterKept.{AwaiterIsKept}
 use Rattle.executor_model.specs.CallsMean.{CallsDoWhatTheySay}
+use Rattle.executor_model.specs.ClosingOrder.{DropsInOrder}
+use Rattle.executor_model.specs.ClosingWakes.{WakesInOrder}
 use Rattle.executor_model.specs.DroppedAtRest.{IsDroppedAtRest}
 use Rattle.executor_model.specs.DroppedOnce.{DropComesOnce, IsDroppedByTheEnd}
 use Rattle.executor_model.specs.EarlyDrop.{EarlyDropHasCause, LastWakerIsLast}
@@ -22,6 +24,7 @@ use Rattle.executor_model.specs.OutputOnce.{OutputGoesOnce}
 use Rattle.executor_model.specs.OutputSettled.{OutputIsSettled}
 use Rattle.executor_model.specs.OwnQueues.{HasOwnRoom, IsEmptyMeanwhile, IsUsedOnce}
 use Rattle.executor_model.specs.OwnQueues.{IsWithinBound, ListAgrees, LockAgrees, OwnQueueHasRunner}
+use Rattle.executor_model.specs.OutsideWakers.{OutsideWakersAreCalled}
 use Rattle.executor_model.specs.Refusals.{IsWantToldOf, RefusedChangesNothing}
 use Rattle.executor_model.specs.Executions.{HasOneRunnable, IsCounted}
 use Rattle.executor_model.specs.SleepersAgree.{SleepersAgree}
@@ -137,6 +140,11 @@ pub record AllLaws (s : Machine) : Type 0 where
   pub spawns : SpawnsAreLimited s
   -- a kept waker stays its future's, and a wake by it wakes that
   pub wakers : WakersWakeTheirOwn s
+  -- an outside waker that is told of as called is called
+  pub outside : OutsideWakersAreCalled s
+  -- the executor's drop drops the futures in the order of acceptance, and wakes them so
+  pub order : DropsInOrder s
+  pub wakes_order : WakesInOrder s
   -- each step that goes on lowers a number
   pub lowered : EachStepLowers s
   -- so a list of these is no longer than that

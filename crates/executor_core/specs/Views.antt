@@ -1,5 +1,5 @@
 -- What a store stands for, and room for what one thing to do may add.
-use Rattle.std.specs.Prelude.{◌≡◌, ◌+◌, ◌^◌, ◌<◌, ◌≤◌, true, Some, None, List, ◌++◌, map, reverse, vec_len, Vec}
+use Rattle.std.specs.Prelude.{◌≡◌, ◌+◌, ◌^◌, ◌<◌, ◌≤◌, true, Some, None, List, ◌++◌, length, map, reverse, vec_len, Vec}
 use Rattle.std.specs.Global.{Global}
 use Rattle.std.specs.Vec.{vec_capacity}
 use Rattle.std.specs.VecDeque.{deque_len, deque_capacity}
@@ -32,13 +32,13 @@ world_of s = record {
   trace = s.trace.items;
 }
 
--- the lists may have one more each, and the trace five; one more reader of the list of queues can be counted
+-- the lists may have one more each, the wakers to be woken all of the table beside, and the trace five; one more reader of the list of queues can be counted
 pub record HasRoom (s : Store) : Type 0 where
   pub tasks : vec_len s.tasks + 1 ≤ vec_capacity s.tasks
   pub awaiters : vec_len s.awaiters + 1 ≤ vec_capacity s.awaiters
   pub queue : deque_len s.queue + 1 ≤ deque_capacity s.queue
   pub entries : s.entries.has_room ≡ true
-  pub waking : deque_len s.waking + 1 ≤ deque_capacity s.waking
+  pub waking : deque_len s.waking + (length s.entries.table + 1) ≤ deque_capacity s.waking
   pub wakers : vec_len s.wakers + 1 ≤ vec_capacity s.wakers
   pub ticks_and_runs : ticks_and_runs.HasRoom s.ticks_and_runs
   pub readers : s.ticks_and_runs.runs.lock.readers + 1 < 2 ^ 64

@@ -53,6 +53,10 @@ pub fn begin(store: &mut Store, todo: &mut Vec<Op>, party: u32, here: Option<Wak
         Call::Spawn => todo.push_reserved(Op::Table(TableOp::Enter)),
         Call::TryTick => todo.push_reserved(Op::Queue(QueueOp::Take)),
         Call::IsEmpty => todo.push_reserved(Op::Table(TableOp::LookAtTable)),
+        Call::Leak => {
+            todo.push_reserved(Op::End(Reply::Done, Hold::Leaking));
+            todo.push_reserved(Op::Closing(ClosingOp::LeakOut));
+        }
         Call::DropExecutor => {
             store.gone = true;
             store.trace.push_reserved(Event::DropBegun { party });

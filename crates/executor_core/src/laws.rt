@@ -5,9 +5,15 @@ ghost use Rattle.executor_model.specs.DroppedAtRest.{IsDroppedAtRest};
 ghost use Rattle.executor_model.specs.DroppedOnce.{DropComesOnce, IsDroppedByTheEnd};
 ghost use Rattle.executor_model.specs.EarlyDrop.{EarlyDropHasCause, LastWakerIsLast};
 ghost use Rattle.executor_model.specs.EveryTrace.{EveryTrace, EveryTraceBy};
+ghost use Rattle.executor_model.specs.ClosingOrder.{DropsInOrder};
+ghost use Rattle.executor_model.specs.ClosingWakes.{WakesInOrder};
+ghost use Rattle.executor_model.specs.CallsMean.{CallsDoWhatTheySay};
 ghost use Rattle.executor_model.specs.LawfulPolls.{HasLawfulPolls};
 ghost use Rattle.executor_model.specs.OutputOnce.{OutputGoesOnce};
 ghost use Rattle.executor_model.specs.Executions.{EveryMachine};
+ghost use Rattle.executor_model.specs.OutsideWakers.{OutsideWakersAreCalled};
+ghost use Rattle.executor_model.specs.SpawnsMean.{SpawnsAreLimited};
+ghost use Rattle.executor_model.specs.WakersMean.{WakersWakeTheirOwn};
 ghost use Rattle.executor_laws.specs.Called.{KeeperIsCalled, SomeStandingIsCalled};
 ghost use Rattle.executor_core.specs.AllLaws.{AllLaws};
 
@@ -19,7 +25,8 @@ use executor_laws::laws::{
     runs_reach_futures, some_standing_is_called, ticks_are_exact, traces_continue,
 };
 use executor_model::call_laws::{
-    calls_do_what_they_say, spawns_are_limited, wakers_wake_their_own,
+    calls_do_what_they_say, outside_wakers_are_called, spawns_are_limited,
+    the_closing_drop_keeps_the_order, the_closing_drop_wakes_in_order, wakers_wake_their_own,
 };
 use executor_model::laws::{
     emptiness_is_exact, futures_are_in_their_places, no_append_is_refused_full, one_runnable,
@@ -57,9 +64,7 @@ pub fn all_laws()
     wakes_and_drops_take_no_memory();
     refused_calls_change_nothing();
     want_of_memory_is_told_of();
-    calls_do_what_they_say();
-    spawns_are_limited();
-    wakers_wake_their_own();
+    laws_of_calls();
     calls_end();
     lone_calls_end();
     ticks_are_exact();
@@ -101,4 +106,21 @@ fn laws_of_traces()
     awaiters_are_kept();
     some_standing_is_called();
     keepers_are_called();
+}
+
+/// Those of what each call does.
+fn laws_of_calls()
+    ensures calls { EveryTrace CallsDoWhatTheySay }
+    ensures spawns { EveryMachine SpawnsAreLimited }
+    ensures wakers { EveryMachine WakersWakeTheirOwn }
+    ensures outside { EveryMachine OutsideWakersAreCalled }
+    ensures order { EveryMachine DropsInOrder }
+    ensures wakes_order { EveryMachine WakesInOrder }
+{
+    calls_do_what_they_say();
+    spawns_are_limited();
+    wakers_wake_their_own();
+    outside_wakers_are_called();
+    the_closing_drop_keeps_the_order();
+    the_closing_drop_wakes_in_order();
 }

@@ -53,7 +53,10 @@ fn make_room(store: &mut Store) -> Result<(), StepError>
         && store.awaiters.reserve(1).is_ok()
         && store.queue.reserve(1).is_ok()
         && store.entries.reserve().is_ok()
-        && store.waking.reserve(1).is_ok()
+        && store
+            .waking
+            .reserve(store.entries.len().saturating_add(1))
+            .is_ok()
         && store.wakers.reserve(1).is_ok()
         && store.ticks_and_runs.reserve().is_ok()
         && store.ticks_and_runs.runs.counts_on()

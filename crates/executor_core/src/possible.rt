@@ -127,6 +127,7 @@ fn has_all(store: &Store, parties: &[Vec<Op>], top: Option<Op>, call: Call) -> b
         Call::NewRun => true,
         Call::PollRun(r, by) => has_run(store, parties, r) && is_known(top, by),
         Call::DropRun(r) => has_run(store, parties, r),
+        Call::Leak => true,
         Call::DropExecutor => true,
     }
 }
@@ -144,15 +145,18 @@ fn is_on_executor(call: Call) -> bool
         Call::NewRun => true,
         Call::PollRun(_, _) => true,
         Call::DropRun(_) => true,
+        Call::Leak => true,
         Call::DropExecutor => true,
         _ => false,
     }
 }
 
-fn is_drop(call: Call) -> bool
-    ensures { result ≡ steps.is_drop call }
+/// What the owner of the executor alone does.
+fn is_owners(call: Call) -> bool
+    ensures { result ≡ steps.is_owners call }
 {
     match call {
+        Call::Leak => true,
         Call::DropExecutor => true,
         _ => false,
     }
@@ -184,10 +188,13 @@ fn begin_refusal(
     if store.gone && is_on_executor(call) {
         return Some(StepError::Gone);
     }
-    if is_drop(call) && store.is_static {
+    if is_on_executor(call) && !is_unused(parties, Use::Leak) {
         return Some(StepError::Gone);
     }
-    if is_drop(call) && !is_unborrowed(store, parties) {
+    if is_owners(call) && store.is_static {
+        return Some(StepError::Gone);
+    }
+    if is_owners(call) && !is_unborrowed(store, parties) {
         return Some(StepError::Borrowed);
     }
     None

@@ -25,6 +25,8 @@ pub enum Use {
     Waker(u64),
     Tick(u64),
     Run(u64),
+    /// The executor, which no other call may use meanwhile.
+    Leak,
 }
 
 /// The call uses the executor.
@@ -36,6 +38,7 @@ fn holds_executor(held: Hold) -> bool
         Hold::Spawned(_) => true,
         Hold::Tick(_) => true,
         Hold::Run(_) => true,
+        Hold::Leaking => false,
         Hold::Nothing => false,
         Hold::Handle(_) => false,
         Hold::Waker(_) => false,
@@ -55,6 +58,7 @@ fn holds_handle(held: Hold, f: u64) -> bool
         Hold::Waker(_) => false,
         Hold::Tick(_) => false,
         Hold::Run(_) => false,
+        Hold::Leaking => false,
     }
 }
 
@@ -71,6 +75,7 @@ fn holds_waker(held: Hold, k: u64) -> bool
         Hold::Handle(_) => false,
         Hold::Tick(_) => false,
         Hold::Run(_) => false,
+        Hold::Leaking => false,
     }
 }
 
@@ -87,6 +92,7 @@ fn holds_tick(held: Hold, t: u64) -> bool
         Hold::Handle(_) => false,
         Hold::Waker(_) => false,
         Hold::Run(_) => false,
+        Hold::Leaking => false,
     }
 }
 
@@ -103,6 +109,23 @@ fn holds_run(held: Hold, r: u64) -> bool
         Hold::Handle(_) => false,
         Hold::Waker(_) => false,
         Hold::Tick(_) => false,
+        Hold::Leaking => false,
+    }
+}
+
+/// It is a leak.
+fn is_leak(held: Hold) -> bool
+    ensures { result ≡ not (weights.holds_leak held == 0) }
+{
+    match held {
+        Hold::Leaking => true,
+        Hold::Nothing => false,
+        Hold::Executor => false,
+        Hold::Spawned(_) => false,
+        Hold::Handle(_) => false,
+        Hold::Waker(_) => false,
+        Hold::Tick(_) => false,
+        Hold::Run(_) => false,
     }
 }
 
@@ -116,6 +139,7 @@ fn holds(held: Hold, what: Use) -> bool
         Use::Waker(k) => holds_waker(held, k),
         Use::Tick(t) => holds_tick(held, t),
         Use::Run(r) => holds_run(held, r),
+        Use::Leak => is_leak(held),
     }
 }
 
@@ -309,6 +333,15 @@ fn runs(op: Op, r: u64) -> bool
     }
 }
 
+fn leaks(op: Op) -> bool
+    ensures { result ≡ not (rows.leaking_of op == 0) }
+{
+    match op {
+        Op::End(_, held) => holds(held, Use::Leak),
+        _ => false,
+    }
+}
+
 fn uses(op: Op, what: Use) -> bool
     ensures { result ≡ not (uses.use_of what op == 0) }
 {
@@ -318,6 +351,7 @@ fn uses(op: Op, what: Use) -> bool
         Use::Waker(k) => lends(op, k),
         Use::Tick(t) => ticks(op, t),
         Use::Run(r) => runs(op, r),
+        Use::Leak => leaks(op),
     }
 }
 

@@ -52,7 +52,7 @@ steps_of_move move.Detach = 13
 steps_of_move _ = 1
 
 abbrev pub steps_of_table : TableOp → ℕ
-steps_of_table table_op.Enter = 116
+steps_of_table table_op.Enter = 142
 steps_of_table table_op.LookAtTable = 2
 steps_of_table (table_op.TakeToPoll f) = 47
 steps_of_table (table_op.PutBack f) = 45
@@ -151,6 +151,8 @@ steps_of_closing closing_op.DropNext = 4
 steps_of_closing closing_op.WakeNext = 3
 steps_of_closing closing_op.Close = 2
 steps_of_closing closing_op.Drain = 1
+steps_of_closing closing_op.LeakOut = 2
+steps_of_closing closing_op.LeakNext = 1
 
 -- the steps that this takes and leads to, but those of walks and steals
 abbrev pub steps_of : Op → ℕ

@@ -66,13 +66,19 @@ abbrev pub steps_of_runs : List Run → ℕ
 steps_of_runs [] = 0
 steps_of_runs (x ∷ xs) = steps_of_place x + steps_of_runs xs
 
+-- entries of a table: where they have wakers, a leak may wake these
+abbrev pub steps_of_leak : Bool → ℕ → ℕ
+steps_of_leak true n = 0
+steps_of_leak false n = 26 * n
+
 -- the steps that what the machine keeps may lead to: its Runnables, entries of the table, wakers of the executor's
 -- drop, stored awaiters, tasks, sleepers, ticks and runs
 unfoldable pub steps_kept : World → ℕ
 steps_kept w =
-    11 * length w.queue.items + (28 * (length w.table + length w.leaving) + (26 * length w.waking +
+    11 * length w.queue.items + (28 * (length w.table + length w.leaving) +
+    (steps_of_leak w.is_static (length w.table + length w.leaving) + (26 * length w.waking +
     (26 * stored w.awaiters + (steps_of_tasks w.tasks + (3 * notified_of w.sleepers + (3 * ups w.ticks +
-    steps_of_runs w.runs))))))
+    steps_of_runs w.runs)))))))
 
 -- of all: a Runnable that a run has still to schedule takes 45 steps, with what its append leads to
 abbrev pub steps_left : Machine → ℕ

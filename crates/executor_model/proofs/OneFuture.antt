@@ -7,7 +7,6 @@ pub mod Tallies
 pub mod Extras
 pub mod Views
 pub mod OwedRows
-pub mod Kinds
 pub mod MoveViews
 pub mod Passes
 pub mod Passing

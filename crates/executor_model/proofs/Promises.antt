@@ -14,3 +14,4 @@ pub mod SpawnAnswers
 pub mod SpawnLimits
 pub mod OwnWakers
 pub mod OwnWakes
+pub mod OutsideCalls

@@ -20,6 +20,7 @@ pub mod Stepping
 pub mod Ways
 pub mod Settled
 pub mod Placing
+pub mod Listing
 pub mod Nears
 pub mod Pushes
 pub mod Reached
@@ -29,3 +30,4 @@ pub mod TraceGrows
 pub mod TraceSteps
 pub mod TickTraces
 pub mod Deeds
+pub mod Hushed

@@ -1,6 +1,6 @@
 -- Futures enter the table within its limit, and are dropped once: table_and_queue_agree, the_table_is_kept,
--- futures_are_in_their_places, no_append_is_refused_full, the_limit_is_exact, drops_come_once, early_drops_have_causes
--- and closing_drops_each_future_once.
+-- futures_are_in_their_places, no_append_is_refused_full, the_limit_is_exact, drops_come_once, early_drops_have_causes,
+-- closing_drops_each_future_once, the_closing_drop_keeps_the_order and the_closing_drop_wakes_in_order.
 pub mod Leaving
 pub mod LeavingViews
 pub mod LeavingAll
@@ -16,3 +16,9 @@ pub mod Pairs
 pub mod Bounds
 pub mod Spots
 pub mod Spotting
+pub mod Ascending
+pub mod Closing
+pub mod ClosingWakes
+pub mod LeakCounts
+pub mod LastWakers
+pub mod Leaking

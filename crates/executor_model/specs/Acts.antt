@@ -343,6 +343,35 @@ wake_next_by p w (f ∷ rest) = followed (wake p (record w { waking = rest }) f)
 abbrev pub wake_next : ℕ → World → Done
 wake_next p w = wake_next_by p w w.waking
 
+-- the executor's leak
+
+abbrev pub leaking_ops : List ℕ → List Op
+leaking_ops [] = []
+leaking_ops (f ∷ ws) = op.Closing closing_op.LeakNext ∷ []
+
+-- the table's wakers are to be woken, in the order of acceptance, and it has none from now on; one that has none, or that
+-- the drop of the executor takes out, has none to take
+abbrev pub leak_out_by : Bool → World → Done
+leak_out_by true w = done w []
+leak_out_by false w =
+    done (record w { is_static = true; waking = w.waking ++ w.table }) (leaking_ops (w.waking ++ w.table))
+
+abbrev pub leak_out : World → Done
+leak_out w = leak_out_by (w.is_static || w.gone) w
+
+-- who is woken so is told of behind the wake
+abbrev pub leaked : ℕ → ℕ → Done → Done
+leaked p f d = done (log d.world (event.Leaked p f)) d.next
+
+-- those that the drop of the executor has taken out are left to that
+abbrev pub leak_next_by : Bool → ℕ → World → List ℕ → Done
+leak_next_by true p w ws = done w []
+leak_next_by false p w [] = done w []
+leak_next_by false p w (f ∷ rest) = leaked p f (followed (wake p (record w { waking = rest }) f) (leaking_ops rest))
+
+abbrev pub leak_next : ℕ → World → Done
+leak_next p w = leak_next_by w.gone p w w.waking
+
 abbrev pub close : World → Done
 close w = done (record w { queue = shut w.queue }) (op.Closing closing_op.Drain ∷ [])
 

@@ -52,6 +52,7 @@ is_reply (call.PollRun r b) reply.Ready = true
 is_reply (call.PollRun r b) reply.Finished = true
 is_reply (call.PollRun r b) reply.NoMemory = true
 is_reply (call.DropRun r) a = is_done a
+is_reply call.Leak r = is_done r
 is_reply call.DropExecutor r = is_done r
 is_reply _ _ = false
 

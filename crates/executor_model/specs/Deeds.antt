@@ -2,8 +2,8 @@
 use Rattle.std.specs.Prelude.{ℕ, ◌==◌, Bool, filter}
 use Rattle.executor_model.specs.declared.event.Event.{Event}
 use Rattle.executor_model.specs.declared.event.Event.TheVariants.{CallBegun, CallEnded, Accepted, PollBegun, Answered}
-use Rattle.executor_model.specs.declared.event.Event.TheVariants.{Woken, Cancelled, Detached, LastWaker, Dropped}
-use Rattle.executor_model.specs.declared.event.Event.TheVariants.{OutputDropped, OutputGiven, HandlePolled, WakerCalled, TickPolled}
+use Rattle.executor_model.specs.declared.event.Event.TheVariants.{Woken, Cancelled, Detached, LastWaker, Leaked}
+use Rattle.executor_model.specs.declared.event.Event.TheVariants.{Dropped, OutputDropped, OutputGiven, HandlePolled, WakerCalled, TickPolled}
 use Rattle.executor_model.specs.declared.event.Event.TheVariants.{TickDropped, RunPolled, RunDropped, Kept}
 use Rattle.executor_model.specs.declared.event.Event.TheVariants.{DropBegun, DropEnded}
 use Rattle.executor_model.specs.Trace.{Trace}
@@ -19,6 +19,7 @@ doer (Woken p f) = p
 doer (Cancelled p f) = p
 doer (Detached p f) = p
 doer (LastWaker p f) = p
+doer (Leaked p f) = p
 doer (Dropped p f) = p
 doer (OutputDropped p f) = p
 doer (OutputGiven p f) = p

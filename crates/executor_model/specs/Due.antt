@@ -1,14 +1,14 @@
 -- A future is due where somebody asked for it since its last poll began: it was accepted, woken or cancelled, or nobody
--- was left who could wake it.
+-- was left who could wake it, or a leak of the executor called the waker that the table had.
 use Rattle.std.specs.Prelude.{◌≡◌, ◌≢◌, ℕ, ◌≤◌, Bool, true, false, ◌||◌, take, length}
 use Rattle.std.specs.List.{after_last}
 use Rattle.executor_model.specs.declared.event.Event.{Event}
 use Rattle.executor_model.specs.Trace.{Trace, has, is_accepted, is_poll, is_answer, is_ready}
-use Rattle.executor_model.specs.Trace.{is_woken, is_cancelled, is_last_waker, is_dropped}
+use Rattle.executor_model.specs.Trace.{is_woken, is_cancelled, is_last_waker, is_leaked, is_dropped}
 
 -- somebody asks for future f
 abbrev pub is_request : ℕ → Event → Bool
-is_request f e = is_accepted f e || is_woken f e || is_cancelled f e || is_last_waker f e
+is_request f e = is_accepted f e || is_woken f e || is_cancelled f e || is_last_waker f e || is_leaked f e
 
 -- what happened since the last poll of future f began, or all where it has none
 abbrev pub since_poll : ℕ → Trace → Trace

@@ -1,10 +1,10 @@
 -- A future that is dropped before it was ready is dropped for a cause: it was cancelled, or the drop of the executor has
--- begun, or, on a static executor, it was detached and nobody was left who could wake it.
+-- begun, or, on an executor that is static or was leaked, it was detached and nobody was left who could wake it.
 use Rattle.std.specs.Prelude.{◌≡◌, ◌⊎◌, ℕ, true, false}
 use Rattle.std.specs.List.{before_first}
 use Rattle.executor_model.specs.declared.kind.Kind.{Kind}
 use Rattle.executor_model.specs.declared.kind.Kind.TheVariants.{Static}
-use Rattle.executor_model.specs.Trace.{Trace, has, is_ready, is_cancelled, is_detached, is_last_waker, is_dropped, is_drop_begun}
+use Rattle.executor_model.specs.Trace.{Trace, has, is_ready, is_cancelled, is_detached, is_last_waker, is_leak_begun, is_dropped, is_drop_begun}
 
 -- what happened before the drop of future f
 abbrev pub before_drop : ℕ → Trace → Trace
@@ -14,9 +14,9 @@ pub record IsDroppedEarly (f : ℕ) (trace : Trace) : Type 0 where
   pub dropped : has (is_dropped f) trace ≡ true
   pub early : has (is_ready f) (before_drop f trace) ≡ false
 
--- future f of a static executor was detached, and nobody was left who could wake it
+-- future f of an executor that is static, or was leaked, was detached, and nobody was left who could wake it
 pub record IsForgotten (kind : Kind) (f : ℕ) (trace : Trace) : Type 0 where
-  pub static : kind ≡ Static
+  pub static : (kind ≡ Static) ⊎ (has is_leak_begun trace ≡ true)
   pub detached : has (is_detached f) trace ≡ true
   pub unwakeable : has (is_last_waker f) trace ≡ true
 

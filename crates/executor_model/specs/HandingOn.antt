@@ -30,7 +30,7 @@ IsWakerOf f (Task g) = f ≡ g
 IsWakerOf f (Outside x) = true ≡ false
 
 -- each wake of f's task: by a waker that stays or goes, by the call of an awaiter, of a sleeper's waker or of a run's
--- own that is a waker of it, and by the executor's drop
+-- own that is a waker of it, and by the executor's drop or leak
 abbrev pub IsWakeOf : ℕ → World → Op → Type 0
 IsWakeOf f w (op.Move move.WakeByReference g) = f ≡ g
 IsWakeOf f w (op.Move move.Wake g) = f ≡ g
@@ -38,6 +38,7 @@ IsWakeOf f w (op.Waker (waker_op.CallAwaiter awaited a poll)) = IsWakerOf f a
 IsWakeOf f w (op.Sleeper (sleeper_op.CallSleeper s)) = IsWakerOf f s.waker
 IsWakeOf f w (op.Run (run_op.WakeOwn x)) = IsWakerOf f x.waker
 IsWakeOf f w (op.Closing closing_op.WakeNext) = IsFirst f w.waking
+IsWakeOf f w (op.Closing closing_op.LeakNext) = (w.gone ≡ false) × IsFirst f w.waking
 IsWakeOf f w _ = true ≡ false
 
 -- a wake that marks f's task hands on one Runnable, but none where the task is running, and then the end of the poll

@@ -41,3 +41,6 @@ pub mod Calls
 pub mod CallsMean
 pub mod SpawnsMean
 pub mod WakersMean
+pub mod OutsideWakers
+pub mod ClosingOrder
+pub mod ClosingWakes

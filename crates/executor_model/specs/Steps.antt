@@ -45,7 +45,7 @@ use Rattle.executor_model.specs.World.{task, tick_of, run_of, put_run}
 use Rattle.executor_model.specs.ActsOfRuns.{asleep}
 use Rattle.executor_model.specs.Doing.{act}
 use Rattle.executor_model.specs.Weights.{weigh_all}
-use Rattle.executor_model.specs.Rows.{borrowing_of, handling_of, lending_of, running_of, ticking_of}
+use Rattle.executor_model.specs.Rows.{borrowing_of, handling_of, leaking_of, lending_of, running_of, ticking_of}
 
 pub record Machine : Type 0 where
   pub world : World
@@ -151,6 +151,7 @@ has_all w ss o (call.DropTick t) = has_tick w ss t
 has_all w ss o call.NewRun = true
 has_all w ss o (call.PollRun r b) = has_run w ss r && is_known o b
 has_all w ss o (call.DropRun r) = has_run w ss r
+has_all w ss o call.Leak = true
 has_all w ss o call.DropExecutor = true
 
 abbrev pub is_on_executor : Call → Bool
@@ -163,12 +164,19 @@ is_on_executor (call.DropTick t) = true
 is_on_executor call.NewRun = true
 is_on_executor (call.PollRun r b) = true
 is_on_executor (call.DropRun r) = true
+is_on_executor call.Leak = true
 is_on_executor call.DropExecutor = true
 is_on_executor _ = false
 
 abbrev pub is_drop : Call → Bool
 is_drop call.DropExecutor = true
 is_drop _ = false
+
+-- what its owner alone does, and once
+abbrev pub is_owners : Call → Bool
+is_owners call.Leak = true
+is_owners call.DropExecutor = true
+is_owners _ = false
 
 -- refused so where the test says no, and else as the later tests say
 abbrev pub unless : Bool → StepError → Option StepError → Option StepError
@@ -184,8 +192,9 @@ begin_refusal w ss o c =
     unless (is_free o) Busy
     (unless (has_all w ss o c) NoSuch
     (unless (not (w.gone && is_on_executor c)) Gone
-    (unless (not (is_drop c && w.is_static)) Gone
-    (unless (not (is_drop c) || is_unborrowed w ss) Borrowed None))))
+    (unless (not (is_on_executor c) || is_unused leaking_of ss) Gone
+    (unless (not (is_owners c && w.is_static)) Gone
+    (unless (not (is_owners c) || is_unborrowed w ss) Borrowed None)))))
 
 -- another party has the lock of the list of queues, and not both walk under its read lock
 abbrev pub is_locked_out : Lock → Op → Bool
@@ -288,6 +297,7 @@ begun p w here (call.PollRun r b) = done (log w (event.RunPolled p r))
 begun p w here (call.DropRun r) = done
     (log (put_run w r (record (run_of w r) { dropped = true })) (event.RunDropped p r))
     (drop_run (run_of w r).stage r)
+begun p w here call.Leak = done w (op.Closing closing_op.LeakOut ∷ op.End reply.Done hold.Leaking ∷ [])
 begun p w here call.DropExecutor = done
     (log (record w { gone = true }) (event.DropBegun p))
     (op.Closing closing_op.TakeOut ∷ op.End reply.Done hold.Nothing ∷ [])

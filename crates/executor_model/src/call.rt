@@ -39,6 +39,8 @@ pub enum Call {
     PollRun(u64, By),
     /// The run with this number is dropped.
     DropRun(u64),
+    /// The executor is made static: its table's wakers go, and each of them is called.
+    Leak,
     /// The executor is dropped.
     DropExecutor,
 }

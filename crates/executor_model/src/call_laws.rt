@@ -1,7 +1,10 @@
 //! Laws of what each call does, of any number of parties and any list of steps.
 ghost use Rattle.executor_model.specs.CallsMean.{CallsDoWhatTheySay};
+ghost use Rattle.executor_model.specs.ClosingOrder.{DropsInOrder};
+ghost use Rattle.executor_model.specs.ClosingWakes.{WakesInOrder};
 ghost use Rattle.executor_model.specs.EveryTrace.{EveryTrace};
 ghost use Rattle.executor_model.specs.Executions.{EveryMachine};
+ghost use Rattle.executor_model.specs.OutsideWakers.{OutsideWakersAreCalled};
 ghost use Rattle.executor_model.specs.SpawnsMean.{SpawnsAreLimited};
 ghost use Rattle.executor_model.specs.WakersMean.{WakersWakeTheirOwn};
 
@@ -28,4 +31,23 @@ pub fn spawns_are_limited()
 /// has ended woke that future, unless that was over before the wake ended.
 pub fn wakers_wake_their_own()
     ensures { EveryMachine WakersWakeTheirOwn }
+{}
+
+/// Whatever the parties do, a step that tells that a waker from outside of the executor is called leads its party into the
+/// user code of that waker, before anything else.
+pub fn outside_wakers_are_called()
+    ensures { EveryMachine OutsideWakersAreCalled }
+{}
+
+/// Whatever the parties do, futures are numbered in the order in which they are accepted, and those that are dropped since
+/// the drop of the executor began are dropped in that order.
+pub fn the_closing_drop_keeps_the_order()
+    ensures { EveryMachine DropsInOrder }
+{}
+
+/// Whatever the parties do, the futures that the drop of the executor has dropped and has still to wake stand in the order
+/// of acceptance, and those that it has still to drop behind them. The first of those stays the first until a step wakes it
+/// and takes it out; it isn't woken where its task was completed or closed.
+pub fn the_closing_drop_wakes_in_order()
+    ensures { EveryMachine WakesInOrder }
 {}

@@ -57,6 +57,11 @@ pub enum Event {
         party: u32,
         future: u64,
     },
+    /// A leak of the executor called the waker of the future that the table had.
+    Leaked {
+        party: u32,
+        future: u64,
+    },
     /// The drop of the future begins.
     Dropped {
         party: u32,

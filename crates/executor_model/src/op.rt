@@ -71,6 +71,8 @@ pub enum Hold {
     Tick(u64),
     /// The executor, and the run with this number.
     Run(u64),
+    /// The executor, which is leaked: no call on it begins meanwhile.
+    Leaking,
 }
 
 /// What a party does with the table.
@@ -263,7 +265,7 @@ pub enum RunOp {
     Reschedule(u64, Reply),
 }
 
-/// Parts of the executor's drop.
+/// Parts of the executor's drop, and of its leak.
 #[derive(Clone, Copy, Debug)]
 pub enum ClosingOp {
     /// It takes all futures and wakers out of the table.
@@ -276,6 +278,10 @@ pub enum ClosingOp {
     Close,
     /// It takes the next Runnable, and ends where there is none.
     Drain,
+    /// The leak takes all wakers out of the table, which has none from then on.
+    LeakOut,
+    /// It wakes the next one.
+    LeakNext,
 }
 
 /// One thing that a party has still to do. It is done in one step, but for user code, which begins

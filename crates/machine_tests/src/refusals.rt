@@ -6,7 +6,7 @@ use crate::rows::Row::{
 use crate::rows::{DONE, PENDING, READY, plays};
 use executor_model::Call::{
     self, Cancel, Copy, Detach, DropExecutor, DropHandle, DropRun, DropTick, DropWaker, IsEmpty,
-    Keep, NewRun, NewTick, Spawn, TryTick, Wake, WakeByRef, WakeSelf,
+    Keep, Leak, NewRun, NewTick, Spawn, TryTick, Wake, WakeByRef, WakeSelf,
 };
 use executor_model::StepError::{self, Gone, NoSuch};
 use executor_model::{By, Reply};
@@ -55,7 +55,32 @@ const ROWS: &[Row] = &[
     Refused(1, &[Spawn, TryTick, IsEmpty], Gone),
     Refused(1, &[NewTick, NewRun, DropExecutor], Gone),
     Makes(1, POLL, &[], Reply::Cancelled),
+    New, // a leak keeps calls out until it ends, wakes each future once, and is made once; nobody drops what was leaked
+    Makes(0, Spawn, &[], Reply::Made),
+    Makes(0, TryTick, &[PENDING], Reply::Yes),
+    Begins(1, Leak),
+    Refused(
+        0,
+        &[Spawn, TryTick, IsEmpty, NewTick, NewRun, Leak, DropExecutor],
+        Gone,
+    ),
+    Goes(1, 2),
+    Refused(
+        0,
+        &[Spawn, TryTick, IsEmpty, NewTick, NewRun, Leak, DropExecutor],
+        Gone,
+    ),
+    Ends(1, &[], Reply::Done),
+    Refused(0, &[Leak, DropExecutor], Gone),
+    Makes(0, TryTick, &[PENDING], Reply::Yes),
+    Makes(0, TryTick, &[], Reply::No),
+    Makes(0, Detach(0), &[], Reply::Done),
+    Makes(0, TryTick, &[DONE], Reply::Yes),
+    Makes(0, IsEmpty, &[], Reply::Yes),
     New, // an executor in use is borrowed
+    Begins(1, IsEmpty),
+    Refused(0, &[Leak], StepError::Borrowed),
+    Ends(1, &[], Reply::Yes),
     Begins(1, IsEmpty),
     Refused(0, &[DropExecutor], StepError::Borrowed),
     Ends(1, &[], Reply::Yes),

@@ -85,6 +85,7 @@ fn push_event(
         | Event::Cancelled { .. }
         | Event::Detached { .. }
         | Event::LastWaker { .. }
+        | Event::Leaked { .. }
         | Event::OutputGiven { .. }
         | Event::HandlePolled { .. }
         | Event::TickPolled { .. }

@@ -29,6 +29,8 @@ pub fn act(store: &mut Store, todo: &mut Vec<Op>, party: u32, op: ClosingOp)
         ClosingOp::WakeNext => wake_next(store, todo, party),
         ClosingOp::Close => close(store, todo),
         ClosingOp::Drain => drain(store, todo, party),
+        ClosingOp::LeakOut => leak_out(store, todo),
+        ClosingOp::LeakNext => leak_next(store, todo, party),
     }
 }
 
@@ -90,6 +92,44 @@ fn wake_next(store: &mut Store, todo: &mut Vec<Op>, party: u32)
         Op::Closing(ClosingOp::WakeNext)
     });
     move_task(store, todo, party, Move::Wake, f);
+}
+
+/// The table's wakers are to be woken, and it has none from now on.
+fn leak_out(store: &mut Store, todo: &mut Vec<Op>)
+    requires room { HasRoom store.old }
+    requires space { HasSpace todo.old }
+    ensures { Does (acts.leak_out (world_of store.old)) store.new todo.old.items todo.new.items }
+{
+    if store.is_static || store.gone {
+        return;
+    }
+    store.entries.list_to(&mut store.waking);
+    store.is_static = true;
+    if !store.waking.is_empty() {
+        todo.push_reserved(Op::Closing(ClosingOp::LeakNext));
+    }
+}
+
+/// The leak wakes the next waker.
+fn leak_next(store: &mut Store, todo: &mut Vec<Op>, party: u32)
+    requires room { HasRoom store.old }
+    requires space { HasSpace todo.old }
+    requires needs { (f : ℕ) (rest : List ℕ) → store.old.waking.items ≡ f ∷ rest → CanGrow (world_of store.old) f }
+    ensures { Does (acts.leak_next party (world_of store.old)) store.new todo.old.items todo.new.items }
+{
+    if store.gone {
+        return;
+    }
+    let Some(f) = store.waking.pop_front() else {
+        return;
+    };
+    if !store.waking.is_empty() {
+        todo.push_reserved(Op::Closing(ClosingOp::LeakNext));
+    }
+    move_task(store, todo, party, Move::Wake, f);
+    store
+        .trace
+        .push_reserved(Event::Leaked { party, future: f });
 }
 
 /// The queue is closed.

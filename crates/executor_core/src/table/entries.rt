@@ -1,6 +1,6 @@
 //! The entries of the machine's futures, by the numbers of these.
 ghost use Rattle.std.specs.Prelude.{◌≡◌, ◌≢◌, ℕ, ◌<◌, ◌==◌, ◌++◌, true, false, List, [], ◌∷◌, length, slice_set};
-ghost use Rattle.std.specs.Prelude.{OnOk, IsOk, IfOk, IfErr, IfSome, IfNone, Some, map};
+ghost use Rattle.std.specs.Prelude.{OnOk, IsOk, IfOk, IfErr, IfSome, IfNone, Some, map, ◌+◌, ◌≤◌, deque_len, deque_capacity};
 ghost use Rattle.executor_model.specs.World.{without, among};
 ghost use Rattle.executor_parts.specs.Order.{IsApart};
 ghost use Rattle.executor_parts.specs.Places.{entry_in, waker_of};
@@ -8,6 +8,7 @@ ghost use Rattle.executor_core.specs.Entered.{AreSeated, IsRefusal, IsVacancy, f
 
 use executor_parts::{EntryPlace, Places, SpawnRefused, Vacancy};
 use std::alloc::{AllocError, Global};
+use std::collections::VecDeque;
 use std::marker::Model;
 
 /// The table of the machine, and what the executor's drop has taken out of it. A future is named by its number, which
@@ -136,6 +137,25 @@ impl Entries {
         ensures { result ≡ self.now.limit }
     {
         self.table.limit() as u64
+    }
+
+    /// How many futures have an entry in the table.
+    pub fn len(&self) -> usize
+        ensures { result ≡ length self.now.table }
+    {
+        self.table.len()
+    }
+
+    /// The futures that have an entry are listed, in the order of acceptance, which is that of their numbers.
+    pub fn list_to(&self, list: &mut VecDeque<u64>)
+        requires room { deque_len list.old + length self.now.table ≤ deque_capacity list.old }
+        ensures { list.new.items ≡ list.old.items ++ self.now.table }
+    {
+        for f in 0..self.seats.len() as u64 {
+            if self.contains(f) {
+                list.push_back_reserved(f);
+            }
+        }
     }
 
     /// Whether no future has an entry in the table.

@@ -47,9 +47,12 @@ use Rattle.executor_laws.proofs.Exactness.Finding.{Found, found, no-more}
 use Rattle.executor_laws.proofs.Exactness.Following.{IsAlone, first-of, follow}
 use Rattle.executor_laws.proofs.Exactness.Inside.{Inside, not-no}
 use Rattle.executor_laws.proofs.Placement.BoundWays.{Bonded, bonded}
-use Rattle.executor_laws.proofs.Placement.Placing.{common-queue, here, idle, queue-common}
+use Rattle.executor_laws.proofs.Placement.Placing.{unleaked, common-queue, here, idle, queue-common}
 use Rattle.executor_laws.proofs.Exactness.Ticking.{ticking, begun-alone}
 use Rattle.executor_laws.proofs.Exactness.Ticking.{gone-on-alone, finds-nothing, placed-there}
+use Rattle.executor_model.specs.Rows.{leaking_of}
+use Rattle.executor_model.specs.Weights.{weigh_all}
+use Rattle.std.proofs.Common.{◌==◌}
 
 -- a call that was shown to begin is one of a party that is there
 known : (s : Machine) (p : ℕ) (c : Call) (more : Trace) →
@@ -65,14 +68,16 @@ known s p c more e = by-place (ltb p (length s.parties)) refl
         (sym (ap (λ (x : Machine). x.world.trace) (ap (stepped s) (step-refused s (Begin p c) NoSuch r))) ∙ e))
 
 asks : (s : Machine) (p : ℕ) → p < length s.parties → s.world.gone ≡ false → stack s p ≡ [] →
+    weigh_all leaking_of s.parties ≡ 0 →
     stepped s (step s (Begin p call.IsEmpty)) ≡ asking s p
 unfolding step
-asks s p l n e =
+asks s p l n e k =
     let there : ltb p (length s.parties) ≡ true = grind (arith, nat_tests) in
     let r : refusal s (Begin p call.IsEmpty) ≡ None =
     ap (λ (b : Bool). unless b NoSuch (begin_refusal s.world s.parties (top (stack s p)) call.IsEmpty)) there
     ∙ (ap (λ (os : List Op). begin_refusal s.world s.parties (top os) call.IsEmpty) e
-    ∙ ap (λ (b : Bool). unless (not (b && true)) Gone None) n) in
+    ∙ (ap (λ (b : Bool). unless (not (b && true)) Gone (unless (weigh_all leaking_of s.parties == 0) Gone None)) n
+    ∙ ap (λ (m : ℕ). unless (m == 0) Gone None) k)) in
     ap (λ (x : Option StepError). stepped s (step_by x s (Begin p call.IsEmpty))) r
     ∙ ap (λ (os : List Op). with_part s p (part_after s.world os (Begin p call.IsEmpty))) e
 
@@ -100,7 +105,7 @@ module _ (s : Machine) (fine : Good s) (h : Heard s) (d : Deep s) (b : Bonded s)
   none q = idle s fine h d b rest q
 
   two : (t : Hint) → run (ticks p t) s ≡ stepped (ticking s p) (step (ticking s p) (Go p t))
-  two t = ap (λ (m : Machine). stepped m (step m (Go p t))) (begun-alone s p l gone (none p))
+  two t = ap (λ (m : Machine). stepped m (step m (Go p t))) (begun-alone s p l gone (none p) (unleaked s fine h d b rest))
 
   others : (os : List Op) (q : ℕ) → q ≢ p → get_or (set s.parties p os) q [] ≡ []
   others os q n = get_or-set_other s.parties p q os [] n ∙ none q
@@ -110,7 +115,7 @@ module _ (s : Machine) (fine : Good s) (h : Heard s) (d : Deep s) (b : Bonded s)
 
   found-inside : (t : Hint) (f : ℕ) (xs : List ℕ) → s.world.queue.items ≡ f ∷ xs →
       Inside p hold.Executor (run (ticks p t) s)
-  found-inside t f xs z = subst (Inside p hold.Executor) (sym (gone-on-alone s p l gone (none p) t (f ∷ xs) z))
+  found-inside t f xs z = subst (Inside p hold.Executor) (sym (gone-on-alone s p l gone (none p) (unleaked s fine h d b rest) t (f ∷ xs) z))
       (record {
         within = omega (
           arith,
@@ -120,7 +125,7 @@ module _ (s : Machine) (fine : Good s) (h : Heard s) (d : Deep s) (b : Bonded s)
               (op.End reply.Yes hold.Executor ∷ op.Move move.TakeUp f ∷ op.Sleeper sleeper_op.ExchangeFlag ∷ []),
         );
         rest = op.Move move.TakeUp f ∷ op.Sleeper sleeper_op.ExchangeFlag ∷ [];
-        here = placed-there s p l gone (none p)
+        here = placed-there s p l gone (none p) (unleaked s fine h d b rest)
             (op.End reply.Yes hold.Executor ∷ op.Move move.TakeUp f ∷ op.Sleeper sleeper_op.ExchangeFlag ∷ []);
         light = refl;
         others = λ q n. get_or-set_other (set s.parties p (op.Queue queue_op.Take ∷ [])) p q
@@ -132,7 +137,7 @@ module _ (s : Machine) (fine : Good s) (h : Heard s) (d : Deep s) (b : Bonded s)
       (run ts (run (ticks p t) s)).world.trace ≡ (ticking s p).world.trace ++ e ∷ later → TickAnswered p s.world.trace e
   tick-goes t ts [] z k =
       let ended : (run (ticks p t) s).world.trace ≡ (ticking s p).world.trace ++ event.CallEnded p reply.No ∷ [] =
-      finds-nothing s p l gone (none p) t z
+      finds-nothing s p l gone (none p) (unleaked s fine h d b rest) t z
       ∙ sym (append_assoc s.world.trace (event.CallBegun p call.TryTick ∷ []) (event.CallEnded p reply.No ∷ [])) in
       let on : IsContinued ((ticking s p).world.trace ++ event.CallEnded p reply.No ∷ [])
       (run ts (run (ticks p t) s)).world.trace =
@@ -145,7 +150,7 @@ module _ (s : Machine) (fine : Good s) (h : Heard s) (d : Deep s) (b : Bonded s)
       )
   tick-goes t ts (f ∷ xs) z k =
       let short : (run (ticks p t) s).world.trace ≡ (ticking s p).world.trace =
-      ap (λ (m : Machine). m.world.trace) (gone-on-alone s p l gone (none p) t (f ∷ xs) z) in
+      ap (λ (m : Machine). m.world.trace) (gone-on-alone s p l gone (none p) (unleaked s fine h d b rest) t (f ∷ xs) z) in
       inr (
         not-no p hold.Executor e later alone ts (run (ticks p t) s) (found-inside t f xs z) (k
             ∙ ap (λ (ys : Trace). ys ++ e ∷ later) (sym short)),
@@ -161,7 +166,7 @@ module _ (s : Machine) (fine : Good s) (h : Heard s) (d : Deep s) (b : Bonded s)
       k
 
   asks-two : (t : Hint) → run (asks_alone p t) s ≡ stepped (asking s p) (step (asking s p) (Go p t))
-  asks-two t = ap (λ (m : Machine). stepped m (step m (Go p t))) (asks s p l gone (none p))
+  asks-two t = ap (λ (m : Machine). stepped m (step m (Go p t))) (asks s p l gone (none p) (unleaked s fine h d b rest))
 
   answered-so : (a : Reply) (t : Hint) (ts : List Step) → AnswersAlone s p t a →
       (run ts (run (asks_alone p t) s)).world.trace ≡ (asking s p).world.trace ++ e ∷ later → e ≡ event.CallEnded p a
@@ -234,7 +239,7 @@ tick-told limit kind parties steps p before next b =
     subst (λ (es : Trace). TickAnswered p es next) f.here
     (tick-next s fine h d e r p l next b.later b.alone f.behind
     (runs-on limit kind parties steps p call.TryTick before next b f (ticking s p)
-    (begun-alone s p l (here s fine h d e r) (idle s fine h d e r p)) refl))
+    (begun-alone s p l (here s fine h d e r) (idle s fine h d e r p) (unleaked s fine h d e r)) refl))
 
 pub ticks-are-exact : (limit : ℕ) (kind : Kind) (parties : ℕ) (steps : List Step) (p : ℕ) →
     TicksAreExact p (run steps (start limit kind parties)).world.trace
@@ -260,7 +265,7 @@ empty-told limit kind parties steps p before next b =
     subst (λ (es : Trace). EmptyAnswered p es next) f.here
     (asked-next s fine h d e r p l next b.later b.alone (quiet-empties limit kind parties f.steps) f.behind
     (runs-on limit kind parties steps p call.IsEmpty before next b f (asking s p)
-    (asks s p l (here s fine h d e r) (idle s fine h d e r p)) refl))
+    (asks s p l (here s fine h d e r) (idle s fine h d e r p) (unleaked s fine h d e r)) refl))
 
 pub emptiness-is-exact : (limit : ℕ) (kind : Kind) (parties : ℕ) (steps : List Step) (p : ℕ) →
     EmptinessIsExact p (run steps (start limit kind parties)).world.trace

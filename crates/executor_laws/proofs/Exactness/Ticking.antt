@@ -36,7 +36,10 @@ use Rattle.executor_model.proofs.Polls.AskingExecutions.{Heard, heard}
 use Rattle.executor_model.proofs.Quiet.Resting.{Deep, deep}
 use Rattle.executor_laws.specs.Ticks.{ticks, FindsNothing, FindsCommon, IsTickExact}
 use Rattle.executor_laws.proofs.Placement.BoundWays.{Bonded, bonded}
-use Rattle.executor_laws.proofs.Placement.Placing.{common-queue, here, idle, queue-common}
+use Rattle.executor_laws.proofs.Placement.Placing.{unleaked, common-queue, here, idle, queue-common}
+use Rattle.executor_model.specs.Rows.{leaking_of}
+use Rattle.executor_model.specs.Weights.{weigh_all}
+use Rattle.std.proofs.Common.{◌==◌}
 
 -- the machine in which p has called a tick, and has still to take
 abbrev pub ticking : Machine → ℕ → Machine
@@ -48,13 +51,15 @@ ticking s p =
 
 -- a tick alone
 
-module _ (s : Machine) (p : ℕ) (l : p < length s.parties) (n : s.world.gone ≡ false) (e : stack s p ≡ []) where
+module _ (s : Machine) (p : ℕ) (l : p < length s.parties) (n : s.world.gone ≡ false) (e : stack s p ≡ [])
+    (k : weigh_all leaking_of s.parties ≡ 0) where
   pub none-refused : refusal s (Begin p call.TryTick) ≡ None
   none-refused =
       ap (λ (b : Bool). unless b NoSuch (begin_refusal s.world s.parties (top (stack s p)) call.TryTick))
       (let z : nat_lt p (length s.parties) ≡ true = grind (arith, nat_tests) in z)
       ∙ (ap (λ (os : List Op). begin_refusal s.world s.parties (top os) call.TryTick) e
-      ∙ ap (λ (b : Bool). unless (not (b && true)) Gone None) n)
+      ∙ (ap (λ (b : Bool). unless (not (b && true)) Gone (unless (weigh_all leaking_of s.parties == 0) Gone None)) n
+      ∙ ap (λ (m : ℕ). unless (m == 0) Gone None) k))
 
   pub begun-alone : stepped s (step s (Begin p call.TryTick)) ≡ ticking s p
   unfolding step
@@ -116,16 +121,16 @@ module _ (s : Machine) (fine : Good s) (h : Heard s) (d : Deep s) (b : Bonded s)
 
   tick-answered : (p : ℕ) (t : Hint) → p < length s.parties → (items : List ℕ) → s.world.queue.items ≡ items →
       FindsNothing s p t ⊎ FindsCommon s p t
-  tick-answered p t l [] q = inl (finds-nothing s p l (here s fine h d b r) (idle s fine h d b r p) t q)
+  tick-answered p t l [] q = inl (finds-nothing s p l (here s fine h d b r) (idle s fine h d b r p) (unleaked s fine h d b r) t q)
   tick-answered p t l (f ∷ xs) q = inr record {
     future = f;
     common = first-common f xs q;
-    found = finds-one s p l (here s fine h d b r) (idle s fine h d b r p) t f xs q;
+    found = finds-one s p l (here s fine h d b r) (idle s fine h d b r p) (unleaked s fine h d b r) t f xs q;
   }
 
   tick-always : (p : ℕ) (t : Hint) → p < length s.parties → ((f : ℕ) → ¬ IsCommon f s.world.trace) →
       (items : List ℕ) → s.world.queue.items ≡ items → FindsNothing s p t
-  tick-always p t l k [] q = finds-nothing s p l (here s fine h d b r) (idle s fine h d b r p) t q
+  tick-always p t l k [] q = finds-nothing s p l (here s fine h d b r) (idle s fine h d b r p) (unleaked s fine h d b r) t q
   tick-always p t l k (f ∷ xs) q = absurd (k f (first-common f xs q))
 
   tick-only : (p : ℕ) (t : Hint) → p < length s.parties → FindsNothing s p t → (f : ℕ) → IsCommon f s.world.trace →
@@ -133,7 +138,7 @@ module _ (s : Machine) (fine : Good s) (h : Heard s) (d : Deep s) (b : Bonded s)
   tick-only p t l z f common [] q =
       absurd (omega (arith, common-queue s fine h d b r f common, ap (times f) q))
   tick-only p t l z f common (g ∷ xs) q =
-      not-nothing s p l (here s fine h d b r) (idle s fine h d b r p) t g xs q z
+      not-nothing s p l (here s fine h d b r) (idle s fine h d b r p) (unleaked s fine h d b r) t g xs q z
 
 tick-exact : (s : Machine) → Good s → Heard s → Deep s → Bonded s → IsTickExact s
 tick-exact s fine h d b = record {

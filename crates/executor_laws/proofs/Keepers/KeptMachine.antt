@@ -121,9 +121,7 @@ keeping-way s p old rest d good l e (reacted o u n q z) a b c k =
     (subst (λ (x : Done). Heard (unsettled s p rest x)) z b)
     (subst (λ (x : Done). Roomy (unsettled s p rest x)) z c))
 keeping-way s p old rest d good l e (called m q t n z) a b c k =
-    let f : _ = none_refused (is_free (top (stack s p))) (has_all s.world s.parties (top (stack s p)) m)
-    (not (s.world.gone && is_on_executor m)) (not (is_drop m && s.world.is_static))
-    (not (is_drop m) || is_unborrowed s.world s.parties) n in
+    let f : _ = none_refused s.world s.parties (top (stack s p)) m n in
     rw z (keeping-on s p [] rest (begun p (log s.world (event.CallBegun p m)) (mine (top (stack s p))) m) l
     (subst (λ (os : List Op). stack s p ≡ rest ++ reverse os) q e) k
     (keeps-begun p s.world (mine (top (stack s p))) m (drops-there s p m f.1))

@@ -133,6 +133,7 @@ reads-push f es (event.Woken p c) s h = reads-more f es _ s refl refl refl h
 reads-push f es (event.Cancelled p c) s h = reads-more f es _ s refl refl refl h
 reads-push f es (event.Detached p c) s h = reads-more f es _ s refl refl refl h
 reads-push f es (event.LastWaker p c) s h = reads-more f es _ s refl refl refl h
+reads-push f es (event.Leaked p c) s h = reads-more f es _ s refl refl refl h
 reads-push f es (event.Dropped p c) s h = reads-more f es _ s refl refl refl h
 reads-push f es (event.OutputDropped p c) s h = reads-more f es _ s refl refl refl h
 reads-push f es (event.OutputGiven p c) s h = reads-more f es _ s refl refl refl h

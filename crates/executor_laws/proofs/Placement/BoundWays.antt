@@ -377,9 +377,7 @@ module _ (s : Machine) (p : ℕ) (rest : List Op) (f : ℕ) (good : Good s) (l :
       (keeps-react p o u s.world a) h)
   bound-way old d e (called c q r n z) =
       let k : stack s p ≡ rest ++ reverse [] = subst (λ (os : List Op). stack s p ≡ rest ++ reverse os) q e in
-      let x : _ = none_refused (is_free (top (stack s p))) (has_all s.world s.parties (top (stack s p)) c)
-      (not (s.world.gone && is_on_executor c)) (not (is_drop c && s.world.is_static))
-      (not (is_drop c) || is_unborrowed s.world s.parties) n in
+      let x : _ = none_refused s.world s.parties (top (stack s p)) c n in
       rw z (by c x.1 k)
     where
       o : Option Waker

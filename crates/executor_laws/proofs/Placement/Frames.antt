@@ -415,9 +415,7 @@ frames-moves s p old rest d good l e (reacted o u a q z) h =
     user _ y k = absurd (cc)
 frames-moves s p old rest d good l e (called c q r n z) h =
     let e2 : stack s p ≡ rest ++ reverse [] = subst (λ (os : List Op). stack s p ≡ rest ++ reverse os) q e in
-    let f : _ = none_refused (is_free (top (stack s p))) (has_all s.world s.parties (top (stack s p)) c)
-    (not (s.world.gone && is_on_executor c)) (not (is_drop c && s.world.is_static))
-    (not (is_drop c) || is_unborrowed s.world s.parties) n in
+    let f : _ = none_refused s.world s.parties (top (stack s p)) c n in
     rw z (by c (begins-answering p s.world s.parties (top (stack s p)) c f.1) e2)
   where
     o : Option Waker

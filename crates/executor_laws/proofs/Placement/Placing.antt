@@ -13,7 +13,7 @@ use Rattle.executor_model.specs.Due.{IsDue}
 use Rattle.executor_model.specs.Emptiness.{IsAtRest}
 use Rattle.executor_model.specs.Good.{Good}
 use Rattle.executor_model.specs.Keeper.{IsCommon, IsKeeper, is_run_drop}
-use Rattle.executor_model.specs.Rows.{appends_of, closing_of, drops_of, ending_of, giving_of, polls_of, ready_of, settling_of, waiting_of}
+use Rattle.executor_model.specs.Rows.{appends_of, closing_of, drops_of, ending_of, giving_of, leaking_of, polls_of, ready_of, settling_of, waiting_of}
 use Rattle.executor_model.specs.Sound.{pend, queued, times, times_in}
 use Rattle.executor_model.specs.Steps.{Machine, run, stack, start}
 use Rattle.executor_model.specs.Trace.{Trace, has, is_accepted, is_dropped, is_ready}
@@ -68,6 +68,10 @@ module _ (s : Machine) (fine : Good s) (h : Heard s) (d : Deep s) (b : Bonded s)
 
   none : (v : Op → ℕ) → weigh_all v s.parties ≡ 0
   none v = all-rest v s.parties idle
+
+  -- nobody leaks the executor
+  pub unleaked : weigh_all leaking_of s.parties ≡ 0
+  unleaked = none leaking_of
 
   -- a future that is due has a Runnable in some queue
   pub due-queued : (f : ℕ) → IsDue f s.world.trace → 1 ≤ queued s.world f

@@ -136,9 +136,7 @@ module _ (s : Machine) (p : ℕ) (rest : List Op) (r : ℕ) (l : p < length s.pa
       (leaves-react r p o u s.world a))
   ran-way old d e (called c q w n z) =
       let k : stack s p ≡ rest ++ reverse [] = subst (λ (os : List Op). stack s p ≡ rest ++ reverse os) q e in
-      let f : _ = none_refused (is_free (top (stack s p))) (has_all s.world s.parties (top (stack s p)) c)
-      (not (s.world.gone && is_on_executor c)) (not (is_drop c && s.world.is_static))
-      (not (is_drop c) || is_unborrowed s.world s.parties) n in
+      let f : _ = none_refused s.world s.parties (top (stack s p)) c n in
       rw z (by c f.1 k)
     where
       o : Option Waker

@@ -30,6 +30,9 @@ use Rattle.executor_model.proofs.Counts.SoundViews.{tokens, living}
 use Rattle.executor_model.proofs.OneFuture.Effects.{Effect, Wakes, turned-after}
 use Rattle.executor_model.proofs.OneFuture.Effects.Effect.{passes, turns, refuses, enters, unlists, drops, takes_out, drops_next}
 use Rattle.executor_laws.proofs.Placement.Safe.{Floor, KeepsSafe, Safe}
+use Rattle.executor_model.proofs.OneFuture.MoveViews.{HasAsked, leaked-keeps, leaks_out-keeps}
+use Rattle.executor_model.proofs.OneFuture.Effects.Effect.{leaks, leaks_out}
+use Rattle.executor_model.specs.Acts.{leak_out_by, leaked}
 
 record Ground (x : Seen) : Type 0 where
   counted : x.state.references ≡ tokens x + living x
@@ -152,6 +155,14 @@ away-drops_next [] [] p w f rest g r y b h = grind arith
 away-drops_next [] (x ∷ ws) p w f rest g r y b h = grind arith
 away-drops_next (x ∷ ls) ws p w f rest g r y b h = grind arith
 
+away-leaks_out : (w : World) → w.is_static ≡ false → w.gone ≡ false →
+    KeepsAway w (op.Closing closing_op.LeakOut ∷ []) (leak_out_by false w)
+away-leaks_out w s n g r y b h = leaks_out-keeps Away (λ x s n t h. grind arith) w s n g r y h
+
+away-leaked : (d : Done) (p f g : ℕ) (r : Pend) (y : Extra) → HasAsked d.world f → Away (seen d.world g r y) →
+    Away (seen (leaked p f d).world g r y)
+away-leaked d p f g r y a h = leaked-keeps Away (λ x a h. grind arith) d.world p f g r y a h
+
 away-effect : (w : World) (old : List Op) (d : Done) →
     ((f : ℕ) → old ≡ op.Move move.TakeUp f ∷ [] → (task w f).closed ≡ true) → Effect w old d → (g : ℕ) (r : Pend)
     (y : Extra) → (with_extra g old y).runs ≡ 0 → Ground (seen w g (with_ops g old r) (with_extra g old y)) →
@@ -168,6 +179,8 @@ away-effect w old d n (drops p f) g r y z b h = away-drops p f w g r y b h
 away-effect w old d n takes_out g r y z b h = away-takes_out w.table w.waking w g r y b h
 away-effect w old d n (drops_next p f rest e) g r y z b h =
     away-drops_next rest (w.waking ++ f ∷ []) p w f rest g r y b h
+away-effect w old d n (leaks_out s z) g r y k b h = away-leaks_out w s z g r y b h
+away-effect w old _ n (leaks d p f e a) g r y z b h = away-leaked d p f g _ _ a (away-effect w _ d n e g r y z b h)
 
 pub safe-effect : (w : World) (old : List Op) (d : Done) →
     ((f : ℕ) → old ≡ op.Move move.TakeUp f ∷ [] → (task w f).closed ≡ true) → weigh runs_of old ≡ 0 → Effect w old d →

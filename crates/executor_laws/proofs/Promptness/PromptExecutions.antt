@@ -259,6 +259,7 @@ own-begun p w here c os z t = record { told = told-begun p w here c t; stands = 
     go call.NewRun = as-slow call.NewRun refl
     go (call.PollRun r b) = as-slow (call.PollRun r b) (slow-poll (run_of w r).stage _)
     go (call.DropRun r) = as-slow (call.DropRun r) (slow-drop (run_of w r).stage r)
+    go call.Leak = as-slow call.Leak refl
     go call.DropExecutor = as-slow call.DropExecutor refl
 
 others-begun : (p : ℕ) (w : World) (here : Option Waker) (c : Call) (q : ℕ) → q ≢ p →

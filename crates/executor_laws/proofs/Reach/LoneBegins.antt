@@ -10,7 +10,8 @@ use Rattle.executor_model.specs.declared.op.Op.{Op}
 use Rattle.executor_model.specs.declared.step.Step.TheVariants.{Begin}
 use Rattle.executor_model.specs.declared.step.StepError.TheVariants.{NoSuch, Gone}
 use Rattle.executor_model.specs.Emptiness.{IsAtRest}
-use Rattle.executor_model.specs.Rows.{ticking_of}
+use Rattle.executor_model.specs.Rows.{leaking_of, ticking_of}
+use Rattle.executor_model.specs.Weights.{weigh_all}
 use Rattle.executor_model.specs.Steps.{Machine, stack, top, is_unused, lives, unless, begin_refusal, refusal}
 use Rattle.executor_model.specs.World.{tick_of}
 use Rattle.executor_model.proofs.Quiet.Resting.{all-rest}
@@ -26,9 +27,12 @@ module _ (s : Machine) (r : Reached s) (rest : IsAtRest s) (p : ℕ) where
   there : s.world.gone ≡ false
   there = here s (good-here s r) (heard-here s r) (deep-here s r) (bonded-here s r) rest
 
+  unleaked : weigh_all leaking_of s.parties ≡ 0
+  unleaked = all-rest leaking_of s.parties idles
+
   -- a tick can be tried
   pub tick-begins : p < length s.parties → refusal s (Begin p call.TryTick) ≡ None
-  tick-begins l = none-refused s p l there (idles p)
+  tick-begins l = none-refused s p l there (idles p) unleaked
 
   -- and one that lives can be polled
   pub poll-begins : (t x : ℕ) → p < length s.parties → lives (tick_of s.world t) ≡ true →
@@ -41,6 +45,8 @@ module _ (s : Machine) (r : Reached s) (rest : IsAtRest s) (p : ℕ) where
       (let z : nat_lt p (length s.parties) ≡ true = grind (arith, nat_tests) in z)
       ∙ (ap (λ (os : List Op). begin_refusal s.world s.parties (top os) c) (idles p)
       ∙ (ap (λ (b : Bool). unless ((b && is_unused (ticking_of t) s.parties) && true) NoSuch
-      (unless (not (s.world.gone && true)) Gone None)) alive
-      ∙ (ap (λ (b : Bool). unless (b && true) NoSuch (unless (not (s.world.gone && true)) Gone None)) unused
-      ∙ ap (λ (b : Bool). unless (not (b && true)) Gone None) there)))
+      (unless (not (s.world.gone && true)) Gone (unless (weigh_all leaking_of s.parties == 0) Gone None))) alive
+      ∙ (ap (λ (b : Bool). unless (b && true) NoSuch (unless (not (s.world.gone && true)) Gone
+      (unless (weigh_all leaking_of s.parties == 0) Gone None))) unused
+      ∙ (ap (λ (b : Bool). unless (not (b && true)) Gone (unless (weigh_all leaking_of s.parties == 0) Gone None)) there
+      ∙ ap (λ (m : ℕ). unless (m == 0) Gone None) unleaked))))

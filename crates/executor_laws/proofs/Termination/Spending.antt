@@ -18,7 +18,7 @@ use Rattle.executor_model.specs.Carried.{output_ops, awaiter_ops, next_ops, drop
 use Rattle.executor_model.specs.Weights.{weigh}
 use Rattle.executor_laws.specs.Costs.{steps_of}
 use Rattle.executor_laws.specs.Remaining.{stored, appends_by, steps_of_task, steps_of_tasks, steps_of_runs, notified_of}
-use Rattle.executor_laws.specs.Remaining.{ups, steps_kept}
+use Rattle.executor_laws.specs.Remaining.{steps_of_leak, ups, steps_kept}
 use Rattle.executor_model.proofs.Steps.Lists.{weigh-append}
 
 -- what is left after d, and one step, came out of what was left before and c
@@ -27,11 +27,21 @@ Spends w c d = steps_kept d.world + (weigh steps_of d.next + 1) ≤ steps_kept w
 
 -- what the machine keeps, one by one
 pub kept-parts : (w : World) →
-    steps_kept w ≡ 11 * length w.queue.items + (28 * (length w.table + length w.leaving) + (26 * length w.waking +
+    steps_kept w ≡ 11 * length w.queue.items + (28 * (length w.table + length w.leaving) +
+    (steps_of_leak w.is_static (length w.table + length w.leaving) + (26 * length w.waking +
     (26 * stored w.awaiters + (steps_of_tasks w.tasks + (3 * notified_of w.sleepers + (3 * ups w.ticks +
-    steps_of_runs w.runs))))))
+    steps_of_runs w.runs)))))))
 unfolding steps_kept
 kept-parts w = refl
+
+-- with fewer entries a leak takes no more, and with one more it takes so much more
+pub leak-less : (b : Bool) (n m : ℕ) → n ≤ m → steps_of_leak b n ≤ steps_of_leak b m
+leak-less true n m l = omega arith
+leak-less false n m l = omega (arith, l)
+
+pub leak-more : (b : Bool) (n m : ℕ) → m ≤ n + 1 → steps_of_leak b m ≤ steps_of_leak b n + 26
+leak-more true n m l = omega arith
+leak-more false n m l = omega (arith, l)
 
 pub tasks-set : (ts : List State) (f : ℕ) (s : State) → f < length ts →
     steps_of_tasks (set ts f s) + steps_of_task (get_or ts f blank) ≡ steps_of_tasks ts + steps_of_task s

@@ -1,8 +1,8 @@
 -- For calls_end and lone_calls_end.
 -- Each thing that is done spends a step of those that remain.
 use Rattle.std.proofs.Common.{◌≡◌, ℕ, ◌+◌, ◌*◌, ◌<◌, ◌≤◌, List, [], ◌∷◌, ◌++◌, length, drop}
-use Rattle.std.proofs.Common.{Bool, true, false, ◌&&◌, refl, ap, arith}
-use Rattle.std.proofs.lemmas.List.{length_push}
+use Rattle.std.proofs.Common.{Bool, true, false, ◌&&◌, ◌||◌, refl, ap, arith}
+use Rattle.std.proofs.lemmas.List.{length_push, length-append}
 use Rattle.std.specs.Prelude.{Option, Some, None}
 use Rattle.queue_steps.specs.ClosableQueue.{appended, taken}
 use Rattle.task_moves.specs.declared.moves.state.State.{State}
@@ -33,11 +33,12 @@ use Rattle.executor_model.specs.Weights.{weigh}
 use Rattle.executor_model.specs.Good.{CanGrow, CanWake, IsKnownWaker}
 use Rattle.executor_laws.specs.Costs.{steps_of}
 use Rattle.executor_laws.specs.Remaining.{stored, steps_of_task, steps_of_tasks, steps_of_runs, notified_of, ups}
-use Rattle.executor_laws.specs.Remaining.{steps_kept}
+use Rattle.executor_laws.specs.Remaining.{steps_kept, steps_of_leak}
 use Rattle.executor_model.proofs.Steps.Lists.{weigh-append}
-use Rattle.executor_laws.proofs.Termination.Spending.{Spends, kept-parts, tasks-push, one_stored, stored-push, without-one}
+use Rattle.executor_laws.proofs.Termination.Spending.{Spends, kept-parts, leak-less, leak-more, tasks-push, one_stored, stored-push, without-one}
 use Rattle.executor_laws.proofs.Termination.Spending.{kept-put, kept-put_awaiter, kept-log, kept-log_if}
 use Rattle.executor_laws.proofs.Termination.Spending.{notify_other-steps, spends-logged, costs-waking, closed-spent}
+use Rattle.executor_model.specs.Acts.{leak_next_by, leak_out_by, leaking_ops}
 
 -- queue and table
 
@@ -60,7 +61,7 @@ entered-steps : (b : Bool) → steps_of_task (entered b) ≡ steps_of_task (ente
 entered-steps true = refl
 entered-steps false = refl
 
-pub spends-enter : (b c : Bool) (p : ℕ) (w : World) → Spends w 116 (enter_by b c p w)
+pub spends-enter : (b c : Bool) (p : ℕ) (w : World) → Spends w 142 (enter_by b c p w)
 spends-enter true c p w = omega arith
 spends-enter false true p w = omega arith
 spends-enter false false p w = omega (
@@ -68,6 +69,8 @@ spends-enter false false p w = omega (
   kept-parts w,
   kept-parts (enter_by false false p w).world,
   length_push w.table (length w.tasks),
+  leak-more w.is_static (length w.table + length w.leaving) (length (w.table ++ length w.tasks ∷ []) + length w.leaving)
+      (omega (arith, length_push w.table (length w.tasks))),
   tasks-push w.tasks (entered w.is_static),
   entered-steps w.is_static,
   stored-push w.awaiters,
@@ -84,6 +87,8 @@ spends-leave true w f e =
       kept-parts w,
       kept-parts (record w { table = without f w.table }),
       without-one f w.table e,
+      leak-less w.is_static (length (without f w.table) + length w.leaving) (length w.table + length w.leaving)
+          (omega (arith, without-one f w.table e)),
       goes-entry w.is_static f,
     )
 spends-leave false w f e = omega arith
@@ -93,14 +98,20 @@ pub spends-as : (w v : World) (c : ℕ) (next : List Op) → steps_kept v ≡ st
     Spends w c (done v next)
 spends-as w v c next e k = omega (arith, e, k)
 
+leak-same : (w v : World) → v.table ≡ w.table → v.leaving ≡ w.leaving → v.is_static ≡ w.is_static →
+    steps_of_leak v.is_static (length v.table + length v.leaving)
+    ≡ steps_of_leak w.is_static (length w.table + length w.leaving)
+leak-same w v b c j = λ i. steps_of_leak (j i) (length (b i) + length (c i))
+
 pub kept-as : (w v : World) → v.queue.items ≡ w.queue.items → v.table ≡ w.table → v.leaving ≡ w.leaving →
-    v.waking ≡ w.waking →
+    v.is_static ≡ w.is_static → v.waking ≡ w.waking →
     v.awaiters ≡ w.awaiters → v.tasks ≡ w.tasks → v.sleepers ≡ w.sleepers → v.ticks ≡ w.ticks → v.runs ≡ w.runs →
     steps_kept v ≡ steps_kept w
-kept-as w v a b c d e f g h i = omega (
+kept-as w v a b c j d e f g h i = omega (
   arith,
   kept-parts w,
   kept-parts v,
+  leak-same w v b c j,
   ap length a,
   ap length b,
   ap length c,
@@ -173,7 +184,7 @@ spends-copy false w f held l =
     omega (
       arith,
       kept-marks w f (record (task w f) { references = (task w f).references + 1 }) l refl,
-      kept-as v (copy_by false w f held).world refl refl refl refl refl refl refl refl refl,
+      kept-as v (copy_by false w f held).world refl refl refl refl refl refl refl refl refl refl,
     )
 
 pub kept-copied : (w : World) (a : Waker) → IsKnownWaker w a → steps_kept (copied w a) ≡ steps_kept w
@@ -276,7 +287,13 @@ waking-steps [] = omega arith
 waking-steps (x ∷ ws) = omega arith
 
 pub spends-take_out : (w : World) → Spends w 5 (take_out w)
-spends-take_out w = omega (arith, kept-parts w, kept-parts (take_out w).world, closing-steps w.table w.waking)
+spends-take_out w = omega (
+  arith,
+  kept-parts w,
+  kept-parts (take_out w).world,
+  leak-less w.is_static (length w.leaving + length w.table) (length w.table + length w.leaving) (omega arith),
+  closing-steps w.table w.waking,
+)
 
 pub spends-drop_next : (p : ℕ) (w : World) (ls : List ℕ) → w.leaving ≡ ls → Spends w 4 (drop_next_by p w ls)
 spends-drop_next p w [] e = omega arith
@@ -285,6 +302,7 @@ spends-drop_next p w (f ∷ rest) e = omega (
   kept-parts w,
   kept-parts (drop_next_by p w (f ∷ rest)).world,
   ap length e,
+  leak-less w.is_static (length w.table + length rest) (length w.table + length w.leaving) (omega (arith, ap length e)),
   length_push w.waking f,
   closing-steps rest (w.waking ++ f ∷ []),
 )
@@ -305,6 +323,41 @@ spends-wake_next p w (f ∷ rest) l e =
       kept-parts v,
       ap length e,
       spends-followed v 26 3 (wake p v f) (closing_ops [] rest) (spends-wake p v f (l f rest e).0) (waking-steps rest),
+    )
+
+-- a leak
+
+leaking-steps : (ws : List ℕ) → weigh steps_of (leaking_ops ws) ≤ 1
+leaking-steps [] = omega arith
+leaking-steps (x ∷ ws) = omega arith
+
+pub spends-leak_out : (s n : Bool) (w : World) → w.is_static ≡ s → Spends w 2 (leak_out_by (s || n) w)
+spends-leak_out true n w e = omega arith
+spends-leak_out false true w e = omega arith
+spends-leak_out false false w e = omega (
+  arith,
+  kept-parts w,
+  kept-parts (leak_out_by false w).world,
+  ap (λ (b : Bool). steps_of_leak b (length w.table + length w.leaving)) e,
+  length-append w.waking w.table,
+  leaking-steps (w.waking ++ w.table),
+)
+
+pub spends-leak_next : (b : Bool) (p : ℕ) (w : World) (ws : List ℕ) →
+    ((f : ℕ) (rest : List ℕ) → w.waking ≡ f ∷ rest → CanGrow w f) →
+    w.waking ≡ ws → Spends w 1 (leak_next_by b p w ws)
+spends-leak_next true p w ws l e = omega arith
+spends-leak_next false p w [] l e = omega arith
+spends-leak_next false p w (f ∷ rest) l e =
+    let v : World = record w { waking = rest } in
+    let d : Done = followed (wake p v f) (leaking_ops rest) in
+    omega (
+      arith,
+      kept-parts w,
+      kept-parts v,
+      ap length e,
+      kept-log d.world (event.Leaked p f),
+      spends-followed v 26 1 (wake p v f) (leaking_ops rest) (spends-wake p v f (l f rest e).0) (leaking-steps rest),
     )
 
 pub spends-drain : (p : ℕ) (w : World) (q : List ℕ) → w.queue.items ≡ q → Spends w 1 (drain_by p w q)

@@ -34,7 +34,7 @@ use Rattle.executor_laws.proofs.Termination.SpendingActs.{spends-append, spends-
 use Rattle.executor_laws.proofs.Termination.SpendingActs.{kept-as, spends-look, spends-again, spends-copy, spends-copy_awaiter}
 use Rattle.executor_laws.proofs.Termination.SpendingActs.{spends-register, spends-end_register, spends-notify}
 use Rattle.executor_laws.proofs.Termination.SpendingActs.{spends-end_notify, spends-let_go, spends-wake, spends-call, spends-take_out}
-use Rattle.executor_laws.proofs.Termination.SpendingActs.{spends-drop_next, spends-wake_next, spends-drain}
+use Rattle.executor_laws.proofs.Termination.SpendingActs.{spends-drop_next, spends-leak_next, spends-leak_out, spends-wake_next, spends-drain}
 use Rattle.executor_laws.proofs.Termination.SpendingTicks.{spends-sleeper}
 
 -- who settles a task that was closed, does so where it is over
@@ -79,14 +79,14 @@ spends-act p h (op.Table table_op.Enter) w n r l k = spends-enter _ _ p w
 spends-act p h (op.Queue queue_op.Take) w n r l k = spends-take w _ refl
 spends-act p h (op.Queue (queue_op.Append f)) w n r l k = spends-append _ w f
 spends-act p h (op.Table (table_op.TakeToPoll f)) w n r l k =
-    spends-as w _ 47 (op.User (user_op.Poll f) ∷ []) (kept-as w _ refl refl refl refl refl refl refl refl refl)
+    spends-as w _ 47 (op.User (user_op.Poll f) ∷ []) (kept-as w _ refl refl refl refl refl refl refl refl refl refl)
     (omega arith)
 spends-act p h (op.User (user_op.Poll f)) w n r l k = absurd (cc)
 spends-act p h (op.Table (table_op.PutBack f)) w n r l k =
-    spends-as w _ 45 (op.Move move.EndPending f ∷ []) (kept-as w _ refl refl refl refl refl refl refl refl refl)
+    spends-as w _ 45 (op.Move move.EndPending f ∷ []) (kept-as w _ refl refl refl refl refl refl refl refl refl refl)
     (omega arith)
 spends-act p h (op.Table (table_op.TakeToDrop f)) w n r l k =
-    spends-as w _ 5 (take_to_drop w f).next (kept-as w _ refl refl refl refl refl refl refl refl refl) (omega arith)
+    spends-as w _ 5 (take_to_drop w f).next (kept-as w _ refl refl refl refl refl refl refl refl refl refl) (omega arith)
 spends-act p h (op.User (user_op.BeginDrop f)) w n r l k = omega (arith, kept-log w (event.Dropped p f))
 spends-act p h (op.User (user_op.Drop f)) w n r l k = absurd (cc)
 spends-act p h (op.Table (table_op.LeaveTable f)) w n r l k = spends-leave _ w f refl
@@ -114,9 +114,11 @@ spends-act p h (op.Closing closing_op.TakeOut) w n r l k = spends-take_out w
 spends-act p h (op.Closing closing_op.DropNext) w n r l k = spends-drop_next p w _ refl
 spends-act p h (op.Closing closing_op.WakeNext) w n r l k = spends-wake_next p w _ l refl
 spends-act p h (op.Closing closing_op.Close) w n r l k =
-    spends-as w _ 2 (op.Closing closing_op.Drain ∷ []) (kept-as w _ refl refl refl refl refl refl refl refl refl)
+    spends-as w _ 2 (op.Closing closing_op.Drain ∷ []) (kept-as w _ refl refl refl refl refl refl refl refl refl refl)
     (omega arith)
 spends-act p h (op.Closing closing_op.Drain) w n r l k = spends-drain p w _ refl
+spends-act p h (op.Closing closing_op.LeakOut) w n r l k = spends-leak_out w.is_static w.gone w refl
+spends-act p h (op.Closing closing_op.LeakNext) w n r l k = spends-leak_next _ p w _ l refl
 spends-act p h (op.End a held) w n r l k = omega (arith, kept-log w (event.CallEnded p a))
 spends-act p h _ w n r l k = omega arith
 

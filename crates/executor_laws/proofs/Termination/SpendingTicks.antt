@@ -126,12 +126,12 @@ placed w (tick_or_run.Run r) x = omega (arith, places-set w.runs r x)
 
 -- the world has changed in nothing that is kept but sleepers, ticks and runs
 pub kept-of : (w v : World) (n m : ℕ) → v.queue.items ≡ w.queue.items → v.table ≡ w.table → v.leaving ≡ w.leaving →
-    v.waking ≡ w.waking →
+    v.is_static ≡ w.is_static → v.waking ≡ w.waking →
     v.awaiters ≡ w.awaiters → v.tasks ≡ w.tasks → notified_of v.sleepers ≤ n → steps_of_places v ≤ m →
     steps_kept v + (3 * notified_of w.sleepers + steps_of_places w) ≤ steps_kept w + (3 * n + m)
-kept-of w v n m a b c d e f g h =
+kept-of w v n m a b c j d e f g h =
     let u : World = record v { sleepers = w.sleepers; ticks = w.ticks; runs = w.runs } in
-    let same : steps_kept u ≡ steps_kept w = kept-as w u a b c d e f refl refl refl in
+    let same : steps_kept u ≡ steps_kept w = kept-as w u a b c j d e f refl refl refl in
     omega (arith, same, kept-parts v, kept-parts u, kept-parts w, g, h)
 
 -- telling a sleeper
@@ -139,7 +139,7 @@ kept-of w v n m a b c d e f g h =
 spends-exchange : (b : Bool) (w : World) → Spends w 31 (exchange_by b w)
 spends-exchange true w = omega arith
 spends-exchange false w =
-    spends-as w _ 31 (op.Sleeper sleeper_op.HandOut ∷ []) (kept-as w _ refl refl refl refl refl refl refl refl refl)
+    spends-as w _ 31 (op.Sleeper sleeper_op.HandOut ∷ []) (kept-as w _ refl refl refl refl refl refl refl refl refl refl)
     (omega arith)
 
 call-steps : (o : Option Sleeping) → weigh steps_of (call_of o) ≤ 26
@@ -150,7 +150,7 @@ spends-hand_out : (b : Bool) (o : Option Sleeping) (w : World) → Spends w 30 (
 spends-hand_out true o w = omega (
   arith,
   call-steps o,
-  kept-of w (hand_out_by true o w).world (notified_of w.sleepers + 1) (steps_of_places w) refl refl refl refl refl refl
+  kept-of w (hand_out_by true o w).world (notified_of w.sleepers + 1) (steps_of_places w) refl refl refl refl refl refl refl
       (notified-last w.sleepers) (omega arith),
 )
 spends-hand_out false o w = omega arith
@@ -171,7 +171,7 @@ pub spends-make : (b : Bool) (w : World) → Spends w 5 (make_tick_by b w)
 spends-make true w = omega arith
 spends-make false w = omega (
   arith,
-  kept-of w (make_tick_by false w).world (notified_of w.sleepers) (steps_of_places w + 3) refl refl refl refl refl refl
+  kept-of w (make_tick_by false w).world (notified_of w.sleepers) (steps_of_places w + 3) refl refl refl refl refl refl refl
       (omega arith) (omega (arith, ups-push w.ticks Awake)),
 )
 
@@ -211,7 +211,7 @@ spends-anew true w s e =
     let x : Ticker = Asleep (next_number w.sleepers) in
     omega (
       arith,
-      kept-of w (sleep_anew_by true w s).world (notified_of w.sleepers) (steps_of_places w - 3) refl refl refl refl refl
+      kept-of w (sleep_anew_by true w s).world (notified_of w.sleepers) (steps_of_places w - 3) refl refl refl refl refl refl
           refl
           (omega (arith, notified-fell_asleep s w.sleepers))
           (omega (arith, placed w s.who x, ap up_of e)),
@@ -226,7 +226,7 @@ spends-listed : (b : Bool) (w : World) (n : ℕ) (s : Sleeping) → ltb (length 
 spends-listed true w n s e =
     omega (
       arith,
-      kept-of w (sleep_listed_by true w n s).world (notified_of w.sleepers - 1) (steps_of_places w) refl refl refl refl
+      kept-of w (sleep_listed_by true w n s).world (notified_of w.sleepers - 1) (steps_of_places w) refl refl refl refl refl
           refl refl
           (omega (arith, notified-listed n s w.sleepers e)) (omega arith),
       notified-listed n s w.sleepers e,
@@ -248,7 +248,7 @@ spends-sleep_again (Some at) w n s =
       arith,
       weigh-append steps_of (sleeper_goes old) (pend_as s.who),
       goes-steps_of old,
-      kept-of w (sleep_again_by (Some at) w n s).world (notified_of w.sleepers) (steps_of_places w) refl refl refl refl
+      kept-of w (sleep_again_by (Some at) w n s).world (notified_of w.sleepers) (steps_of_places w) refl refl refl refl refl
           refl refl (omega (arith, length-put w.sleepers.wakers at (n, s))) (omega arith),
       (slumbering-steps s.who).0,
     )
@@ -266,7 +266,7 @@ spends-up (Asleep n) w who =
     omega (
       arith,
       goes-steps_of old,
-      kept-of w (wake_up_by (Asleep n) w who).world (notified_of w.sleepers) (steps_of_places w + 3) refl refl refl refl
+      kept-of w (wake_up_by (Asleep n) w who).world (notified_of w.sleepers) (steps_of_places w + 3) refl refl refl refl refl
           refl refl
           (notified-woken_up n w.sleepers) (omega (arith, placed w who Awake)),
     )
@@ -279,7 +279,7 @@ left-steps (Some s) = omega (arith, weigh-append steps_of (sleeper_goes (Some s)
 pub spends-leave_sleepers : (x : Ticker) (w : World) (who : TickOrRun) → Spends w 45 (leave_sleepers_by x w who)
 spends-leave_sleepers Awake w who = omega (
   arith,
-  kept-of w (leave_sleepers_by Awake w who).world (notified_of w.sleepers) (steps_of_places w) refl refl refl refl refl
+  kept-of w (leave_sleepers_by Awake w who).world (notified_of w.sleepers) (steps_of_places w) refl refl refl refl refl refl
       refl
       (omega (arith, notified-back w.sleepers)) (omega (arith, placed w who Left)),
 )
@@ -288,7 +288,7 @@ spends-leave_sleepers (Asleep n) w who =
     omega (
       arith,
       left-steps old,
-      kept-of w (leave_sleepers_by (Asleep n) w who).world (notified_of w.sleepers) (steps_of_places w) refl refl refl
+      kept-of w (leave_sleepers_by (Asleep n) w who).world (notified_of w.sleepers) (steps_of_places w) refl refl refl refl
           refl refl refl
           (omega (arith, notified-woken_up n w.sleepers))
           (omega (arith, placed w who Left)),

@@ -43,6 +43,7 @@ use Rattle.executor_model.proofs.Steps.Lists.{weigh-append}
 use Rattle.executor_model.proofs.Steps.Asides.{Aside, aside-awaiter, aside-owed, aside-let_go, aside-told, aside-closing}
 use Rattle.executor_laws.proofs.Wakeups.Watched.{Watched, watches, watched, watched-push}
 use Rattle.executor_laws.proofs.Wakeups.Stands.{View, view}
+use Rattle.executor_model.proofs.Steps.Asides.{aside-leak_out, aside-leaking}
 
 abbrev pub holds_some : Hold → ℕ
 holds_some (hold.Tick t) = 1
@@ -238,6 +239,19 @@ beside-wake_next p w (f ∷ rest) =
     besides w _ m.view (none-both (acts.wake p v f).next (acts.closing_ops [] rest) m.none
     (aside-closing sits_of (λ o. refl) [] rest))
 
+beside-leak_out : (b : Bool) (w : World) → Beside w (acts.leak_out_by b w)
+beside-leak_out true w = besides w _ (λ t. refl) refl
+beside-leak_out false w = besides w _ (λ t. refl) (aside-leak_out sits_of refl false w)
+
+beside-leak_next : (b : Bool) (p : ℕ) (w : World) (ws : List ℕ) → Beside w (acts.leak_next_by b p w ws)
+beside-leak_next true p w ws = besides w _ (λ t. refl) refl
+beside-leak_next false p w [] = besides w _ (λ t. refl) refl
+beside-leak_next false p w (f ∷ rest) =
+    let v : World = record w { waking = rest } in
+    let m : Beside w (acts.wake p v f) = beside-move true move.Wake p w v f (λ t. refl) in
+    besides w _ (λ t. view-log t (acts.wake p v f).world (event.Leaked p f) (λ t n s. refl) ∙ m.view t)
+    (none-both (acts.wake p v f).next (acts.leaking_ops rest) m.none (aside-leaking sits_of refl rest))
+
 beside-drain : (p : ℕ) (w : World) (q : List ℕ) → Beside w (acts.drain_by p w q)
 beside-drain p w [] = besides w _ (λ t. view-log t w (event.DropEnded p) (λ t n s. refl)) refl
 beside-drain p w (f ∷ rest) = besides w _ (λ t. refl) refl
@@ -292,5 +306,7 @@ beside-act p h (op.Closing closing_op.DropNext) w n = beside-drop_next p w _
 beside-act p h (op.Closing closing_op.WakeNext) w n = beside-wake_next p w _
 beside-act p h (op.Closing closing_op.Close) w n = besides w _ (λ t. refl) refl
 beside-act p h (op.Closing closing_op.Drain) w n = beside-drain p w _
+beside-act p h (op.Closing closing_op.LeakOut) w n = beside-leak_out _ w
+beside-act p h (op.Closing closing_op.LeakNext) w n = beside-leak_next _ p w _
 beside-act p h (op.End r held) w n = absurd (cc)
 beside-act p h _ w n = besides w _ (λ t. refl) refl

@@ -258,4 +258,5 @@ stands-begun t p w here (call.DropTick u) r m k f h = begins-drop_tick t p w her
 stands-begun t p w here call.NewRun r m k f h = plain t p w here call.NewRun (λ j. refl) refl r m f h
 stands-begun t p w here (call.PollRun q b) r m k f h = begins-run t p w here q b r m k f h
 stands-begun t p w here (call.DropRun q) r m k f h = begins-drop_run t p w here q r m k f h
+stands-begun t p w here call.Leak r m k f h = plain t p w here call.Leak (λ j. refl) refl r m f h
 stands-begun t p w here call.DropExecutor r m k f h = begins-drop t p w k r m f h

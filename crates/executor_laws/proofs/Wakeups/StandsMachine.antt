@@ -53,9 +53,7 @@ standing-way s p old rest d good l e (reacted o u a q z) follows uses k =
     (subst (λ (x : Done). Followed (unsettled s p rest x)) z follows)
     (subst (λ (x : Done). AllUsed (unsettled s p rest x)) z uses) k)
 standing-way s p old rest d good l e (called c q r n z) follows uses k =
-    let f : _ = none_refused (is_free (top (stack s p))) (has_all s.world s.parties (top (stack s p)) c)
-    (not (s.world.gone && is_on_executor c)) (not (is_drop c && s.world.is_static))
-    (not (is_drop c) || is_unborrowed s.world s.parties) n in
+    let f : _ = none_refused s.world s.parties (top (stack s p)) c n in
     rw z (standing-begun s p rest c f.1 f.3 l r (subst (λ (os : List Op). stack s p ≡ rest ++ reverse os) q e)
     (subst (λ (x : Done). Followed (unsettled s p rest x)) z follows)
     (subst (λ (x : Done). AllUsed (unsettled s p rest x)) z uses) k)

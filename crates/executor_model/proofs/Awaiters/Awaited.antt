@@ -24,6 +24,8 @@ use Rattle.executor_model.specs.Rows.{handling_of}
 use Rattle.executor_model.specs.Sound.{Pend, queued, with_ops, tokens, times}
 use Rattle.executor_model.specs.Acts.{closing_ops}
 use Rattle.executor_model.proofs.Steps.Lists.{same_cases, weigh-closing}
+use Rattle.executor_model.specs.Acts.{leaking_ops}
+use Rattle.executor_model.proofs.Steps.Lists.{weigh-leaking}
 
 -- what a trace tells of future g and of the last poll of its handle, read from left to right
 pub record Heard : Type 0 where
@@ -240,6 +242,34 @@ with_awaiting-closing g xs rest r =
       weigh-closing (mine_of g) xs rest refl refl,
       weigh-closing (detaches_of g) xs rest refl refl,
       weigh-closing (lending_of g) xs rest refl refl,
+      strays,
+      calls,
+    )
+    refl
+
+-- and so it is of a leak
+pub with_awaiting-leaking : (g : ℕ) (xs : List Op) (rest : List ℕ) (r : Awaiting) →
+    with_awaiting g (xs ++ leaking_ops rest) r ≡ with_awaiting g xs r
+with_awaiting-leaking g xs rest r =
+    let strays : (λ k. weigh (strays_of g k) (xs ++ leaking_ops rest) + r.strays k)
+    ≡ (λ k. weigh (strays_of g k) xs + r.strays k) =
+    fun_ext (λ k. ap (λ n. n + r.strays k) (weigh-leaking (strays_of g k) xs rest refl)) in
+    let calls : (λ k. weigh (calls_of g k) (xs ++ leaking_ops rest) + r.calls k)
+    ≡ (λ k. weigh (calls_of g k) xs + r.calls k) =
+    fun_ext (λ k. ap (λ n. n + r.calls k) (weigh-leaking (calls_of g k) xs rest refl)) in
+    rw (
+      weigh-leaking (handling_of g) xs rest refl,
+      weigh-leaking (looks_of g) xs rest refl,
+      weigh-leaking (fresh_of g) xs rest refl,
+      weigh-leaking (storing_of g) xs rest refl,
+      weigh-leaking (again_of g) xs rest refl,
+      weigh-leaking (waits_of g) xs rest refl,
+      weigh-leaking (over_of g) xs rest refl,
+      weigh-leaking (notices_of g) xs rest refl,
+      weigh-leaking (notifying_of g) xs rest refl,
+      weigh-leaking (mine_of g) xs rest refl,
+      weigh-leaking (detaches_of g) xs rest refl,
+      weigh-leaking (lending_of g) xs rest refl,
       strays,
       calls,
     )

@@ -40,6 +40,10 @@ use Rattle.executor_model.proofs.Awaiters.Awaited.{Awaits, KeepsBy, KeepsAwaits,
 use Rattle.executor_model.proofs.Awaiters.AwaitedMoves.{awaits-call_task, awaits-cancel_over, awaits-cancel_going}
 use Rattle.executor_model.proofs.Awaiters.AwaitedMoves.{awaits-cancel_idle}
 use Rattle.executor_model.proofs.Counts.CountingHandles.{below}
+use Rattle.executor_model.specs.Acts.{leak_next_by, leak_out_by, leaked, leaking_ops}
+use Rattle.executor_model.proofs.Steps.Lists.{with_ops-leaking}
+use Rattle.executor_model.specs.Acts.{followed}
+use Rattle.executor_model.proofs.Awaiters.Awaited.{Mark, with_awaiting-leaking}
 
 -- wakers and polls of a handle
 
@@ -245,6 +249,41 @@ awaits-wake_next o b c rest p w f y e q i g r yy mm bb h =
     subst (λ (x : Pend × Awaiting). Awaits d.world g x.0 x.1 mm)
     (λ j. (sym (with_ops-closing g d.next rest r) j, sym (with_awaiting-closing g d.next rest yy) j))
     (awaits-wake_left o b c rest p w f y e q i g r yy mm bb h)
+
+-- a leak of the executor
+
+awaits-leaked : (p f : ℕ) (w : World) (g : ℕ) (r : Pend) (yy : Awaiting) (mm : Mark) → Awaits w g r yy mm →
+    Awaits (log w (event.Leaked p f)) g r yy mm
+awaits-leaked p f w g r yy mm h = grind (arith, heard-push)
+
+awaits-leak_next : (o b c : Bool) (rest : List ℕ) (p : ℕ) (w : World) (f : ℕ) → w.waking ≡ f ∷ rest →
+    (moves.is_over (task w f) || (task w f).scheduled) ≡ b → (task w f).running ≡ c → f < length w.tasks →
+    KeepsAwaits w (op.Closing closing_op.LeakNext ∷ [])
+    (leaked p f (followed (woken_by o b c p (record w { waking = rest }) f) (leaking_ops rest)))
+awaits-leak_next o b c rest p w f y e q i g r yy mm bb h =
+    let d : Done = woken_by o b c p (record w { waking = rest }) f in
+    subst (λ (x : Pend × Awaiting). Awaits (log d.world (event.Leaked p f)) g x.0 x.1 mm)
+    (λ j. (sym (with_ops-leaking g d.next rest r) j, sym (with_awaiting-leaking g d.next rest yy) j))
+    (awaits-leaked p f d.world g _ _ mm (awaits-wake_left o b c rest p w f y e q i g r yy mm bb h))
+
+pub awaits-leak_first : (b : Bool) (p : ℕ) (w : World) (q : List ℕ) → w.waking ≡ q →
+    ((f : ℕ) (rest : List ℕ) → q ≡ f ∷ rest → f < length w.tasks) →
+    KeepsAwaits w (op.Closing closing_op.LeakNext ∷ []) (leak_next_by b p w q)
+awaits-leak_first true p w q e i = λ g r yy mm bb h. grind arith
+awaits-leak_first false p w [] e i = λ g r yy mm bb h. grind arith
+awaits-leak_first false p w (f ∷ rest) e i =
+    awaits-leak_next (moves.is_over (task w f)) _ _ rest p w f e refl refl (i f rest refl)
+
+awaits-leaks : (q : List ℕ) (w : World) → w.is_static ≡ false → KeepsAwaits w (op.Closing closing_op.LeakOut ∷ [])
+    (done (record w { is_static = true; waking = w.waking ++ w.table }) (leaking_ops q))
+awaits-leaks [] w e g r yy mm bb h = grind (arith, times-append)
+awaits-leaks (x ∷ q) w e g r yy mm bb h = grind (arith, times-append)
+
+pub awaits-leak_out : (s n : Bool) (w : World) → w.is_static ≡ s →
+    KeepsAwaits w (op.Closing closing_op.LeakOut ∷ []) (leak_out_by (s || n) w)
+awaits-leak_out true n w e = λ g r yy mm bb h. grind arith
+awaits-leak_out false true w e = λ g r yy mm bb h. grind arith
+awaits-leak_out false false w e = awaits-leaks (w.waking ++ w.table) w e
 
 pub awaits-close : (w : World) → KeepsAwaits w (op.Closing closing_op.Close ∷ []) (close w)
 awaits-close w g r yy mm bb h = grind arith

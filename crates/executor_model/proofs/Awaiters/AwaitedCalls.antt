@@ -99,6 +99,11 @@ begins-drop : (w : World) (p : ℕ) →
     (op.Closing closing_op.TakeOut ∷ op.End reply.Done hold.Nothing ∷ []))
 begins-drop w p g r y m b h = grind (arith, heard-push)
 
+begins-leak : (w : World) (p : ℕ) →
+    KeepsBegun w p (done (log w (event.CallBegun p call.Leak))
+    (op.Closing closing_op.LeakOut ∷ op.End reply.Done hold.Leaking ∷ []))
+begins-leak w p g r y m b h = grind (arith, heard-push)
+
 begins-make_tick : (w : World) (p : ℕ) →
     KeepsBegun w p (done (log w (event.CallBegun p call.NewTick)) (op.Tick tick_op.MakeTick ∷ []))
 begins-make_tick w p g r y m b h = grind (arith, heard-push)
@@ -212,6 +217,7 @@ awaits-begun p w here (call.DropTick t) g r y m u = begins-drop_tick w p t g r y
 awaits-begun p w here call.NewRun g r y m u = begins-make_run w p g r y m
 awaits-begun p w here (call.PollRun q b) g r y m u = begins-poll_run (run_of w q).stage w p q b _ g r y m
 awaits-begun p w here (call.DropRun q) g r y m u = begins-drop_run (run_of w q).stage w p q g r y m
+awaits-begun p w here call.Leak g r y m u = begins-leak w p g r y m
 awaits-begun p w here call.DropExecutor g r y m u = begins-drop w p g r y m
 
 -- the end of a call

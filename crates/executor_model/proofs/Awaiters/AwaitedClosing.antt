@@ -52,6 +52,11 @@ use Rattle.executor_model.proofs.Awaiters.AwaitedSweeps.{KeepsSweeps, Kept, List
 use Rattle.executor_model.proofs.Awaiters.AwaitedSweeps.{is_sweeping, kept-moves, kept-own, kept-put, lists, no-act, no-self}
 use Rattle.executor_model.proofs.Awaiters.AwaitedSweeps.{no-steps, rousing_of, same-act, same-log_if, shutting_of, sweep}
 use Rattle.executor_model.proofs.Awaiters.AwaitedSweeps.{sweeps-still, with-none, with_sweep}
+use Rattle.executor_model.specs.Acts.{leak_next_by, leak_out_by}
+use Rattle.executor_model.proofs.Steps.Asides.{aside-leak_next, aside-leak_out}
+use Rattle.executor_model.specs.World.{task}
+use Rattle.executor_model.proofs.Awaiters.AwaitedLists.{rough_of}
+use Rattle.task_moves.specs.Moves as moves
 
 -- the queue
 
@@ -182,6 +187,40 @@ sweeps-drain = by_list _
     (λ p w e r h. let z : length w.queue.items ≡ 0 = ap length e in grind arith)
     (λ f rest p w e r h. let z : suc (length (drop 1 w.queue.items)) ≡ length w.queue.items = rw e refl in grind arith)
 
+-- a leak goes on only before the drop begins, and there is no such step then
+sweeps-open : (w : World) (old : List Op) (d : Done) → w.gone ≡ false → d.world.gone ≡ false → NoSteps old →
+    NoSteps d.next → KeepsSweeps w old d
+sweeps-open w old d n m a b r h =
+    let x : Sweeps (lists w) r = subst (Sweeps (lists w)) (with-none old r a) h in
+    let z : r.outs + (r.drops + (r.wakes + (r.shuts + r.drains))) ≡ 0 = x.there n in
+    let no : d.world.gone ≡ true → ⊥ = (λ e. let q : false ≡ true = sym m ∙ e in cc) in
+    subst (Sweeps (lists d.world)) (sym (with-none d.next r b)) record {
+      one = x.one;
+      there = λ e. z;
+      leaves = λ e. absurd (omega (arith, e, z));
+      wakes = λ e. absurd (omega (arith, e, z));
+      awake = λ e. absurd (no e);
+      shut = λ e. absurd (no e);
+      drained = λ e. absurd (no e);
+    }
+
+sweeps-leak_out : (s n : Bool) (w : World) → w.gone ≡ n →
+    KeepsSweeps w (op.Closing closing_op.LeakOut ∷ []) (leak_out_by (s || n) w)
+sweeps-leak_out true n w e = λ r h. h
+sweeps-leak_out false true w e = λ r h. h
+sweeps-leak_out false false w e = sweeps-open w (op.Closing closing_op.LeakOut ∷ []) (leak_out_by false w) e e refl
+    (no-steps _ (aside-leak_out rough_of refl false w))
+
+sweeps-leak_next : (b : Bool) (p : ℕ) (w : World) (ws : List ℕ) → w.gone ≡ b →
+    KeepsSweeps w (op.Closing closing_op.LeakNext ∷ []) (leak_next_by b p w ws)
+sweeps-leak_next true p w ws e = λ r h. h
+sweeps-leak_next false p w [] e = λ r h. h
+sweeps-leak_next false p w (f ∷ rest) e =
+    let v : World = record w { waking = rest } in
+    sweeps-open w (op.Closing closing_op.LeakNext ∷ []) (leak_next_by false p w (f ∷ rest)) e
+    (ap (λ (x : Lists). x.gone) (sym (same-log_if (not (moves.is_over (task v f))) v (event.Woken p f))) ∙ e) refl
+    (no-steps _ (aside-leak_next rough_of refl plain-wake false p w (f ∷ rest)))
+
 sweeps-act : (b : Bool) (p : ℕ) (h : Hint) (o : Op) (w : World) → is_sweeping o ≡ b →
     KeepsSweeps w (o ∷ []) (act p h o w)
 sweeps-act false p h o w n = sweeps-still w (o ∷ []) (act p h o w) (same-act p h o w n) (no-self o n)
@@ -196,6 +235,8 @@ sweeps-act true p h (op.Closing closing_op.DropNext) w n = sweeps-drop_next p w 
 sweeps-act true p h (op.Closing closing_op.WakeNext) w n = sweeps-wake_next p w _ refl
 sweeps-act true p h (op.Closing closing_op.Close) w n = sweeps-close w
 sweeps-act true p h (op.Closing closing_op.Drain) w n = sweeps-drain _ p w refl
+sweeps-act true p h (op.Closing closing_op.LeakOut) w n = sweeps-leak_out w.is_static w.gone w refl
+sweeps-act true p h (op.Closing closing_op.LeakNext) w n = sweeps-leak_next _ p w _ refl
 sweeps-act true p h _ w n = absurd (cc)
 
 sweeps-react : (p : ℕ) (o : Op) (u : UserEnd) (w : World) → accepts o u ≡ true → KeepsSweeps w (o ∷ []) (react p o u w)
@@ -240,9 +281,7 @@ sweeps-way : (s : Machine) (p : ℕ) (old rest : List Op) (d : Done) → Way s p
 sweeps-way s p old rest d (acted h o q z) = rw z (rw q (sweeps-act _ p h o s.world refl))
 sweeps-way s p old rest d (reacted o u a q z) = rw z (rw q (sweeps-react p o u s.world a))
 sweeps-way s p old rest d (called c q r n z) =
-    let f : _ = none_refused (is_free (top (stack s p))) (has_all s.world s.parties (top (stack s p)) c)
-    (not (s.world.gone && is_on_executor c)) (not (is_drop c && s.world.is_static))
-    (not (is_drop c) || is_unborrowed s.world s.parties) n in
+    let f : _ = none_refused s.world s.parties (top (stack s p)) c n in
     rw z (rw q (sweeps-begun _ p s.world (mine (top (stack s p))) c refl f.2))
 
 -- every step

@@ -310,9 +310,7 @@ waited-way s p old rest d good l e (reacted o u a q z) tied h =
     rw z (waited-reacted s p rest o u a l (subst (λ (os : List Op). stack s p ≡ rest ++ reverse os) q e) good
     (subst (λ (x : Done). AllTied (unsettled s p rest x)) z tied) h)
 waited-way s p old rest d good l e (called c q r n z) tied h =
-    let f : _ = none_refused (is_free (top (stack s p))) (has_all s.world s.parties (top (stack s p)) c)
-    (not (s.world.gone && is_on_executor c)) (not (is_drop c && s.world.is_static))
-    (not (is_drop c) || is_unborrowed s.world s.parties) n in
+    let f : _ = none_refused s.world s.parties (top (stack s p)) c n in
     rw z (waited-begun s p rest c f.1 l r (subst (λ (os : List Op). stack s p ≡ rest ++ reverse os) q e) good
     (subst (λ (x : Done). AllTied (unsettled s p rest x)) z tied) h)
 

@@ -47,6 +47,7 @@ use Rattle.executor_model.proofs.Awaiters.SleepersAwaited.{awaits-exchange, awai
 use Rattle.executor_model.proofs.Awaiters.RunsAwaited.{awaits-list, awaits-run, awaits-search_who, awaits-steal}
 use Rattle.executor_model.proofs.Awaiters.SleepersAwaited.{awaits-make_tick, awaits-copy_sleeper}
 use Rattle.executor_model.proofs.Awaiters.SleepersAwaited.{awaits-fall_asleep, awaits-wake_up, awaits-leave_sleepers}
+use Rattle.executor_model.proofs.Awaiters.AwaitedActs.{awaits-leak_first, awaits-leak_out}
 
 -- whether such a thing to do begins a poll of a handle
 abbrev pub asked : ℕ → Hint → Op → World → ℕ → Mark → Mark
@@ -144,6 +145,8 @@ awaits-act p h (op.Closing closing_op.DropNext) w n u z m = awaits-drop_first p 
 awaits-act p h (op.Closing closing_op.WakeNext) w n u z m = awaits-wake_first p w _ refl (first_known w u)
 awaits-act p h (op.Closing closing_op.Close) w n u z m = awaits-close w
 awaits-act p h (op.Closing closing_op.Drain) w n u z m = awaits-drain _ p w refl
+awaits-act p h (op.Closing closing_op.LeakOut) w n u z m = awaits-leak_out w.is_static w.gone w refl
+awaits-act p h (op.Closing closing_op.LeakNext) w n u z m = awaits-leak_first _ p w _ refl (first_known w u)
 awaits-act p h (op.End a held) w n u z m = absurd (cc)
 awaits-act p h _ w n u z m = λ g r y mm bb k. grind arith
 

@@ -46,6 +46,7 @@ use Rattle.executor_model.proofs.Steps.Lists.{weigh-append}
 use Rattle.executor_model.proofs.Steps.Owed.{owed-future, owed-nothing}
 use Rattle.executor_model.proofs.Steps.RunsNext.{BlindToRuns, list-blind, run-blind, steal-blind, tick-blind}
 use Rattle.executor_model.proofs.Steps.SleepersNext.{sleeper-unseen}
+use Rattle.executor_model.proofs.Steps.Asides.{aside-leak_next, aside-leak_out}
 
 -- a notice by a poll of the handle itself, the rest of a notice, and the steps of the executor's drop
 abbrev pub rough_of : Op → ℕ
@@ -282,6 +283,8 @@ plain-act p h (op.Closing closing_op.DropNext) w n = absurd (cc)
 plain-act p h (op.Closing closing_op.WakeNext) w n = absurd (cc)
 plain-act p h (op.Closing closing_op.Close) w n = absurd (cc)
 plain-act p h (op.Closing closing_op.Drain) w n = absurd (cc)
+plain-act p h (op.Closing closing_op.LeakOut) w n = aside-leak_out rough_of refl _ w
+plain-act p h (op.Closing closing_op.LeakNext) w n = aside-leak_next rough_of refl plain-wake _ p w w.waking
 plain-act p h (op.User (user_op.BeginDrop f)) w n = refl
 plain-act p h _ w n = refl
 

@@ -42,6 +42,7 @@ use Rattle.executor_model.specs.Rows.{past_of}
 use Rattle.executor_model.proofs.Steps.Cases.{by_bool, by_list, by_waker}
 use Rattle.executor_model.proofs.Steps.Owed.{owed-future, owed-awaiter, owed-nothing}
 use Rattle.executor_model.proofs.Steps.Lists.{past_is, pasts-drop, awaiters_past-set, past_if, weigh-append}
+use Rattle.executor_model.specs.Acts.{leak_next_by, leak_out_by, leaked, leaking_ops}
 
 -- each future has its place in each list
 pub record Shaped (w : World) : Type 0 where
@@ -304,6 +305,46 @@ grows-followed w d ls ws g =
           );
       more = g.more;
     }
+
+past_leaking : (n : ℕ) (ws : List ℕ) → weigh (past_of n) (leaking_ops ws) ≡ 0
+past_leaking n [] = refl
+past_leaking n (f ∷ ws) = refl
+
+pub grows-leak_out : (b : Bool) (w : World) → Grows w (op.Closing closing_op.LeakOut ∷ []) (leak_out_by b w)
+grows-leak_out true w h k = grind arith
+grows-leak_out false w h k = record {
+  fits = record { awaiting = h.awaiting; inside = h.inside };
+  next = past_leaking (length w.tasks) (w.waking ++ w.table);
+  more = omega arith;
+}
+
+grows-leaked : (w : World) (d : Done) (p f : ℕ) (ws : List ℕ) → Grown w d →
+    Grown w (leaked p f (followed d (leaking_ops ws)))
+grows-leaked w d p f ws g = record {
+  fits = record { awaiting = g.fits.awaiting; inside = g.fits.inside };
+  next =
+      omega (
+        arith,
+        weigh-append (past_of (length d.world.tasks)) d.next (leaking_ops ws),
+        past_leaking (length d.world.tasks) ws,
+        g.next,
+      );
+  more = g.more;
+}
+
+pub grows-leak_next : (c : Bool) (p : ℕ) (w : World) (q : List ℕ) → w.waking ≡ q →
+    Grows w (op.Closing closing_op.LeakNext ∷ []) (leak_next_by c p w q)
+grows-leak_next true p w q e h k = grind arith
+grows-leak_next false p w [] e h k = grind arith
+grows-leak_next false p w (f ∷ rest) e h k =
+    let n = length w.tasks in
+    let z : past n f + pasts n rest ≡ 0 = sym (ap (pasts n) e) ∙ h.waking in
+    let v : World = record w { waking = rest } in
+    let b = not (moves.is_over (task w f)) in
+    let fv : Shaped v = record { awaiting = h.awaiting; inside = h.inside } in
+    grows-leaked w (wake p v f) p f rest
+    (grows-carried w (log_if b v (event.Woken p f)) f (moves.wake (task w f)) (same-log b v (event.Woken p f))
+    (fits-log b v (event.Woken p f) fv) (omega (arith, z)))
 
 pub grows-wake_next : (p : ℕ) (w : World) (q : List ℕ) → w.waking ≡ q →
     Grows w (op.Closing closing_op.WakeNext ∷ []) (wake_next_by p w q)

@@ -22,7 +22,7 @@ use Rattle.executor_model.proofs.Counts.Fitting.{Grows, shaped, grows-again, gro
 use Rattle.executor_model.proofs.Counts.Fitting.{grows-copy, grows-copy_awaiter, grows-drain, grows-drop_next}
 use Rattle.executor_model.proofs.Counts.Fitting.{grows-end_notify, grows-end_register, grows-enter, grows-inside}
 use Rattle.executor_model.proofs.Counts.Fitting.{grows-leave, grows-logged, grows-look, grows-let_go, grows-move, grows-notify}
-use Rattle.executor_model.proofs.Counts.Fitting.{grows-register, grows-take, grows-wake_next, past_closing}
+use Rattle.executor_model.proofs.Counts.Fitting.{grows-register, grows-take, grows-leak_next, grows-leak_out, grows-wake_next, past_closing}
 use Rattle.executor_model.specs.ActsOfSleepers.{polled_as}
 use Rattle.executor_model.proofs.Counts.RunsFitting.{grows-list, grows-run, grows-search_who, grows-steal}
 use Rattle.executor_model.proofs.Counts.SleepersFitting.{grows-exchange, grows-hand_out, grows-call_waker}
@@ -78,5 +78,7 @@ grows-act p c (op.Closing closing_op.TakeOut) w h k =
 grows-act p c (op.Closing closing_op.DropNext) w h k = grows-drop_next p w _ refl h k
 grows-act p c (op.Closing closing_op.WakeNext) w h k = grows-wake_next p w _ refl h k
 grows-act p c (op.Closing closing_op.Drain) w h k = grows-drain _ p w refl h k
+grows-act p c (op.Closing closing_op.LeakOut) w h k = grows-leak_out _ w h k
+grows-act p c (op.Closing closing_op.LeakNext) w h k = grows-leak_next _ p w _ refl h k
 grows-act p c (op.End a held) w h k = grows-logged w (event.CallEnded p a) [] refl h
 grows-act p c _ w h k = grind arith

@@ -26,7 +26,7 @@ use Rattle.executor_model.specs.Good.{Good}
 use Rattle.executor_model.specs.Steps.{Machine, stack, top, step, step_by, stepped, refusal, unless}
 use Rattle.executor_model.specs.Steps.{begin_refusal, part_after, with_part, run, start}
 use Rattle.executor_model.specs.Entries.{Remains}
-use Rattle.executor_model.specs.Rows.{leaves_of}
+use Rattle.executor_model.specs.Rows.{leaking_of, leaves_of}
 use Rattle.executor_model.specs.Emptiness.{Answers, AnswersAlone, AllDropped, IsAtRest, IsQuietEmptinessExact}
 use Rattle.executor_model.proofs.Steps.Lists.{weigh_all-set}
 use Rattle.executor_model.proofs.Steps.Lift.{good, good-stepped}
@@ -35,6 +35,7 @@ use Rattle.executor_model.proofs.OneFuture.Telling.{begun-has}
 use Rattle.executor_model.proofs.Table.LeavingExecutions.{Placed, placed, placed-moves, placed-ends}
 use Rattle.executor_model.proofs.Emptiness.Looking.{emptiness-exact}
 use Rattle.executor_model.proofs.Quiet.Resting.{Deep, deep, rests, all-rest}
+use Rattle.std.proofs.Common.{◌==◌}
 
 has-push : (test : Event → Bool) (es : Trace) (e : Event) → test e ≡ false → has test (es ++ e ∷ []) ≡ has test es
 has-push test [] e z = ap (λ (b : Bool). b || false) z
@@ -48,13 +49,15 @@ asking s p =
       parties = set s.parties p (op.Table table_op.LookAtTable ∷ []);
     }
 
-module _ (s : Machine) (p : ℕ) (l : p < length s.parties) (n : s.world.gone ≡ false) (e : stack s p ≡ []) where
+module _ (s : Machine) (p : ℕ) (l : p < length s.parties) (n : s.world.gone ≡ false) (e : stack s p ≡ [])
+    (k : weigh_all leaking_of s.parties ≡ 0) where
   none-refused : refusal s (Begin p call.IsEmpty) ≡ None
   none-refused =
       ap (λ (b : Bool). unless b NoSuch (begin_refusal s.world s.parties (top (stack s p)) call.IsEmpty))
       (let z : nat_lt p (length s.parties) ≡ true = grind (arith, nat_tests) in z)
       ∙ (ap (λ (os : List Op). begin_refusal s.world s.parties (top os) call.IsEmpty) e
-      ∙ ap (λ (b : Bool). unless (not (b && true)) Gone None) n)
+      ∙ (ap (λ (b : Bool). unless (not (b && true)) Gone (unless (weigh_all leaking_of s.parties == 0) Gone None)) n
+      ∙ ap (λ (m : ℕ). unless (m == 0) Gone None) k))
 
   begins-alone : stepped s (step s (Begin p call.IsEmpty)) ≡ asking s p
   unfolding step
@@ -70,7 +73,7 @@ module _ (s : Machine) (fine : Good s) (h : Placed s) (d : Deep s) (rest : IsAtR
   idle q = rests s d rest.quiet q
 
   began : stepped s (step s (Begin p call.IsEmpty)) ≡ asking s p
-  began = begins-alone s p l here (idle p)
+  began = begins-alone s p l here (idle p) (all-rest leaking_of s.parties idle)
 
   fine-then : Good (asking s p)
   fine-then = subst Good began (good-stepped s (Begin p call.IsEmpty) fine)

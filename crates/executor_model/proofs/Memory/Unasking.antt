@@ -192,6 +192,20 @@ none-wake_next p w [] = refl
 none-wake_next p w (f ∷ rest) = both (acts.wake p (record w { waking = rest }) f).next (acts.closing_ops [] rest)
     (none-wake p (record w { waking = rest }) f) (none-closing [] rest)
 
+none-leaking : (ws : List ℕ) → AsksForNone (acts.leaking_ops ws)
+none-leaking [] = refl
+none-leaking (f ∷ ws) = refl
+
+pub none-leak_out : (b : Bool) (w : World) → AsksForNone (acts.leak_out_by b w).next
+none-leak_out true w = refl
+none-leak_out false w = none-leaking (w.waking ++ w.table)
+
+pub none-leak_next : (b : Bool) (p : ℕ) (w : World) (fs : List ℕ) → AsksForNone (acts.leak_next_by b p w fs).next
+none-leak_next true p w fs = refl
+none-leak_next false p w [] = refl
+none-leak_next false p w (f ∷ rest) = both (acts.wake p (record w { waking = rest }) f).next (acts.leaking_ops rest)
+    (none-wake p (record w { waking = rest }) f) (none-leaking rest)
+
 pub none-drain : (p : ℕ) (w : World) (fs : List ℕ) → AsksForNone (acts.drain_by p w fs).next
 none-drain p w [] = refl
 none-drain p w (f ∷ rest) = refl

@@ -44,7 +44,7 @@ use Rattle.executor_model.specs.Steps.{begun, drop_run, future_of, kept, poll_ru
 use Rattle.executor_model.proofs.Memory.Unasking.{none-let_go_by, both, none-again, none-append, none-call, none-carried, none-closing}
 use Rattle.executor_model.proofs.Memory.Unasking.{none-drain, none-drop_next, none-end_register, none-leave}
 use Rattle.executor_model.proofs.Memory.Unasking.{none-look_at_table, none-notify, none-register, none-take}
-use Rattle.executor_model.proofs.Memory.Unasking.{none-told, none-wake, none-wake_next, none-wake}
+use Rattle.executor_model.proofs.Memory.Unasking.{none-told, none-wake, none-leak_next, none-leak_out, none-wake_next, none-wake}
 use Rattle.executor_model.proofs.Memory.SleepersMemory.{none-sleeper, none-up, none-leave_sleepers, finds-without}
 use Rattle.executor_model.proofs.Memory.RunsUntold.{Untold, untold-common, untold-finds, untold-search, untold-steal}
 
@@ -121,6 +121,8 @@ none-act p w h (op.Closing closing_op.TakeOut) e = none-closing w.table w.waking
 none-act p w h (op.Closing closing_op.DropNext) e = none-drop_next p w w.leaving
 none-act p w h (op.Closing closing_op.WakeNext) e = none-wake_next p w w.waking
 none-act p w h (op.Closing closing_op.Drain) e = none-drain p w w.queue.items
+none-act p w h (op.Closing closing_op.LeakOut) e = none-leak_out _ w
+none-act p w h (op.Closing closing_op.LeakNext) e = none-leak_next _ p w w.waking
 none-act p w h (op.User (user_op.BeginDrop f)) e = refl
 none-act p w h (op.User (user_op.PollOwn x)) e = absurd (cc)
 none-act p w h _ e = refl
@@ -161,6 +163,7 @@ none-begun p w here (call.DropRun r) e = none-drop_run (run_of w r).stage r
 none-begun p w here (call.Cancel f) e = refl
 none-begun p w here (call.Detach f) e = refl
 none-begun p w here (call.DropHandle f) e = refl
+none-begun p w here call.Leak e = refl
 none-begun p w here call.DropExecutor e = refl
 none-begun p w here _ e = absurd (cc)
 

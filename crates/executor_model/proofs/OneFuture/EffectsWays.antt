@@ -90,9 +90,7 @@ effects-way s p old rest d good l e (acted h o q z) =
     (op-known s p o rest l (subst (λ (os : List Op). stack s p ≡ rest ++ reverse os) q e) good))))
 effects-way s p old rest d good l e (reacted o u a q z) = rw z (rw q (effect-react p o u s.world s.parties a))
 effects-way s p old rest d good l e (called c q r n z) =
-    let f : _ = none_refused (is_free (top (stack s p))) (has_all s.world s.parties (top (stack s p)) c)
-    (not (s.world.gone && is_on_executor c)) (not (is_drop c && s.world.is_static))
-    (not (is_drop c) || is_unborrowed s.world s.parties) n in
+    let f : _ = none_refused s.world s.parties (top (stack s p)) c n in
     rw z (rw q (effect-begun p s.world s.parties (mine (top (stack s p))) c f.2 (unused c s.world s.parties f.3)))
 
 -- what is seen of a future in the machine, and where p has these to do beside what all others have

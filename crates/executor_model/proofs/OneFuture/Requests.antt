@@ -3,7 +3,7 @@
 use Rattle.std.proofs.Common.{◌≡◌, ℕ, ◌+◌, ◌==◌, [], ◌∷◌, ◌++◌, Bool, true, false, cond, refl}
 use Rattle.executor_model.specs.declared.event.Answer.TheVariants.{Ready}
 use Rattle.executor_model.specs.declared.event.Event.{Event}
-use Rattle.executor_model.specs.declared.event.Event.TheVariants.{Accepted, PollBegun, Answered, Woken, Cancelled, LastWaker}
+use Rattle.executor_model.specs.declared.event.Event.TheVariants.{Accepted, PollBegun, Answered, Woken, Cancelled, LastWaker, Leaked}
 use Rattle.executor_model.specs.Trace.{Trace}
 use Rattle.executor_model.specs.Weights.{same}
 
@@ -24,6 +24,7 @@ notes g (Accepted p f) s = record s { asked = cond (g == f) true s.asked }
 notes g (Woken p f) s = record s { asked = cond (g == f) true s.asked; woken = cond (g == f) true s.woken }
 notes g (Cancelled p f) s = record s { asked = cond (g == f) true s.asked }
 notes g (LastWaker p f) s = record s { asked = cond (g == f) true s.asked }
+notes g (Leaked p f) s = record s { asked = cond (g == f) true s.asked }
 notes g (PollBegun p f) s =
     record s {
       asked = cond (g == f) false s.asked;

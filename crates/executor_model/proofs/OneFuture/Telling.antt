@@ -15,6 +15,7 @@ use Rattle.executor_model.specs.Trace.{is_cancelled, is_detached, is_drop_begun,
 use Rattle.executor_model.specs.EarlyDrop.{before_drop, EarlyDropHasCause, IsForgotten, LastWakerIsLast}
 use Rattle.executor_model.specs.Weights.{same}
 use Rattle.executor_model.proofs.OneFuture.Stories.{Story, untold, except, hears, story_from, story}
+use Rattle.executor_model.specs.Trace.{is_leak_begun}
 
 pub same-cond : (g f : ℕ) → same g f ≡ cond (eqb g f) 1 0
 unfolding same
@@ -226,7 +227,7 @@ kept-last true true c h = refl
 kept-last true false c h = absurd (cc)
 kept-last false l c h = h
 
-one-last : (f : ℕ) (e : Event) (s : Story) → s.last ≡ true → (hears f e s).last ≡ true
+pub one-last : (f : ℕ) (e : Event) (s : Story) → s.last ≡ true → (hears f e s).last ≡ true
 one-last f (LastWaker p g) s h = kept-last (eqb f g) s.last (not s.begun) h
 one-last f (Answered p g Ready) s h = h
 one-last f (Answered p g Pending) s h = h
@@ -236,7 +237,7 @@ stays-last : (f : ℕ) (s : Story) (es : Trace) → s.last ≡ true → (story_f
 stays-last f s [] h = h
 stays-last f s (e ∷ es) h = stays-last f (hears f e s) es (one-last f e s h)
 
-begun-hears : (f : ℕ) (e : Event) (s : Story) → (hears f e s).begun ≡ (is_drop_begun e || s.begun)
+pub begun-hears : (f : ℕ) (e : Event) (s : Story) → (hears f e s).begun ≡ (is_drop_begun e || s.begun)
 begun-hears f (DropBegun p) s = refl
 begun-hears f (Answered p g Ready) s = refl
 begun-hears f (Answered p g Pending) s = refl
@@ -253,7 +254,7 @@ new-last true true false h = inr refl
 new-last true false false h = inr refl
 new-last false l c h = absurd (cc)
 
-first-last : (f : ℕ) (e : Event) (s : Story) → is_last_waker f e ≡ true → (s.begun ≡ true) ⊎ ((hears f e s).last ≡ true)
+pub first-last : (f : ℕ) (e : Event) (s : Story) → is_last_waker f e ≡ true → (s.begun ≡ true) ⊎ ((hears f e s).last ≡ true)
 first-last f (LastWaker p g) s h = new-last (eqb f g) s.last s.begun h
 first-last f _ s h = absurd (cc)
 
@@ -387,7 +388,8 @@ excused f s [] z h = absurd (cc)
 excused f s (e ∷ es) z h = excused-go f e s es (is_dropped f e) refl z (excused f (hears f e s) es z) h
 
 pub drop-has-cause : (kind : Kind) (f : ℕ) (es : Trace) → (story f es).strays ≡ 0 →
-    ((story f es).last ≡ true → kind ≡ Static) → EarlyDropHasCause kind f es
+    (has (is_last_waker f) (before_drop f es) ≡ true → (has is_drop_begun (before_drop f es) ≡ true)
+    ⊎ ((kind ≡ Static) ⊎ (has is_leak_begun (before_drop f es) ≡ true))) → EarlyDropHasCause kind f es
 unfolding story
 drop-has-cause kind f es z k early = go (excused f untold es z early.dropped)
   where
@@ -395,8 +397,8 @@ drop-has-cause kind f es z k early = go (excused f untold es z early.dropped)
         (has is_drop_begun (before_drop f es) ≡ true) ⊎ IsForgotten kind f (before_drop f es)
     forgets d l = ⊎_elim
         (λ (x : has is_drop_begun (before_drop f es) ≡ true). inl x)
-        (λ (x : (story_from f untold es).last ≡ true).
-        inr (record { static = k x; detached = d; unwakeable = l })) (last-or-begun f _ untold es l)
+        (λ (x : (kind ≡ Static) ⊎ (has is_leak_begun (before_drop f es) ≡ true)).
+        inr (record { static = x; detached = d; unwakeable = l })) (k l)
 
     go : Excused f untold es → (has (is_cancelled f) (before_drop f es) ≡ true)
         ⊎ ((has is_drop_begun (before_drop f es) ≡ true) ⊎ IsForgotten kind f (before_drop f es))
@@ -406,19 +408,22 @@ drop-has-cause kind f es z k early = go (excused f untold es z early.dropped)
     go (inr (inr (inr (inl x)))) = inr (inl x)
     go (inr (inr (inr (inr x)))) = inr (forgets x.0 x.1)
 
-take-all : (es : Trace) → take (length es) es ≡ es
+pub take-all : (es : Trace) → take (length es) es ≡ es
 take-all [] = refl
 take-all (e ∷ es) = ap (λ (xs : Trace). e ∷ xs) (take-all es)
 
 -- and so it is of the whole trace
-pub last-forgotten : (kind : Kind) (f : ℕ) (es : Trace) → ((story f es).last ≡ true → (kind ≡ Static) × ((story f es).detached ≡ true)) →
-    LastWakerIsLast kind f es
+pub last-forgotten : (kind : Kind) (f : ℕ) (es : Trace) → ((story f es).last ≡ true → (story f es).detached ≡ true) →
+    (has (is_last_waker f) es ≡ true → (has is_drop_begun es ≡ true)
+    ⊎ ((kind ≡ Static) ⊎ (has is_leak_begun es ≡ true))) → LastWakerIsLast kind f es
 unfolding story
-last-forgotten kind f es k l = ⊎_elim
+last-forgotten kind f es d k l = ⊎_elim
     (λ (x : has is_drop_begun (take (length es) es) ≡ true).
     inl (subst (λ (xs : Trace). has is_drop_begun xs ≡ true) (take-all es) x))
-    (λ (x : (story_from f untold es).last ≡ true).
-    inr (record { static = (k x).0; detached = sym (detached-from f untold es) ∙ (k x).1; unwakeable = l }))
+    (λ (x : (story_from f untold es).last ≡ true). ⊎_elim
+    (λ (y : has is_drop_begun es ≡ true). inl y)
+    (λ (y : (kind ≡ Static) ⊎ (has is_leak_begun es ≡ true)).
+    inr (record { static = y; detached = sym (detached-from f untold es) ∙ d x; unwakeable = l })) (k l))
     (last-or-begun f (length es) untold es
     (subst (λ (xs : Trace). has (is_last_waker f) xs ≡ true) (sym (take-all es)) l))
 

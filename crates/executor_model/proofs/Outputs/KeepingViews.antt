@@ -34,6 +34,9 @@ use Rattle.executor_model.proofs.OneFuture.Effects.{Effect, turned-keeps}
 use Rattle.executor_model.proofs.OneFuture.Effects.Effect.{passes, turns, refuses, enters, unlists, drops, takes_out, drops_next}
 use Rattle.executor_model.proofs.OneFuture.EffectsWays.{Effects}
 use Rattle.executor_model.proofs.OneFuture.EffectsWays.Effects.{does, pends, readies, closes}
+use Rattle.executor_model.specs.Acts.{leak_out_by, leaked}
+use Rattle.executor_model.proofs.OneFuture.MoveViews.{HasAsked, leaked-keeps, leaks_out-keeps}
+use Rattle.executor_model.proofs.OneFuture.Effects.Effect.{leaks, leaks_out}
 
 stored-passes : (x y : Seen) → Passes x y → Handles x y → Footing x → Stored x → Stored y
 stored-passes x y s q b h = let w : Watched y = q.watched b.rests h.watched in grind arith
@@ -101,6 +104,14 @@ stored-drops_next [] [] p w f rest g r y k h = grind (arith, readies-push, spent
 stored-drops_next [] (x ∷ ws) p w f rest g r y k h = grind (arith, readies-push, spent-push)
 stored-drops_next (x ∷ ls) ws p w f rest g r y k h = grind (arith, readies-push, spent-push)
 
+stored-leaks_out : (w : World) → w.is_static ≡ false → w.gone ≡ false →
+    KeepsStored w (op.Closing closing_op.LeakOut ∷ []) (leak_out_by false w)
+stored-leaks_out w s n g r y k h = leaks_out-keeps Stored (λ x s n t h. grind arith) w s n g r y h
+
+stored-leaked : (d : Done) (p f g : ℕ) (r : Pend) (y : Extra) → HasAsked d.world f → Stored (seen d.world g r y) →
+    Stored (seen (leaked p f d).world g r y)
+stored-leaked d p f g r y a h = leaked-keeps Stored (λ x a h. grind arith) d.world p f g r y a h
+
 pub stored-effect : (w : World) (old : List Op) (d : Done) → Effect w old d → KeepsStored w old d
 stored-effect w old d (passes s) g r y k h =
     stored-passes _ _ (s g r y).passes (s g r y).handles (footing _ k) h
@@ -114,6 +125,8 @@ stored-effect w old d (unlists f e) g r y k h = stored-unlists w f g r y k h
 stored-effect w old d (drops p f) g r y k h = stored-drops p f w g r y k h
 stored-effect w old d takes_out g r y k h = stored-takes_out w.table w.waking w g r y k h
 stored-effect w old d (drops_next p f rest e) g r y k h = stored-drops_next rest (w.waking ++ f ∷ []) p w f rest g r y k h
+stored-effect w old d (leaks_out s n) g r y k h = stored-leaks_out w s n g r y k h
+stored-effect w old _ (leaks d p f e a) g r y k h = stored-leaked d p f g _ _ a (stored-effect w _ d e g r y k h)
 
 stored-pends : (p f : ℕ) (w : World) → KeepsStored w (op.User (user_op.Poll f) ∷ [])
     (done (log w (event.Answered p f answer.Pending)) (op.Table (table_op.PutBack f) ∷ []))

@@ -30,6 +30,9 @@ use Rattle.executor_model.proofs.OneFuture.Effects.{Effect, turned-keeps}
 use Rattle.executor_model.proofs.OneFuture.Effects.Effect.{passes, turns, refuses, enters, unlists, drops, takes_out, drops_next}
 use Rattle.executor_model.proofs.OneFuture.EffectsWays.{Effects}
 use Rattle.executor_model.proofs.OneFuture.EffectsWays.Effects.{does, pends, readies, closes}
+use Rattle.executor_model.specs.Acts.{leak_out_by, leaked}
+use Rattle.executor_model.proofs.OneFuture.MoveViews.{HasAsked, leaked-keeps, leaks_out-keeps}
+use Rattle.executor_model.proofs.OneFuture.Effects.Effect.{leaks, leaks_out}
 
 pub record Given (x : Seen) : Type 0 where
   pub once : x.outputs + x.extra.outs ≤ 1
@@ -96,6 +99,14 @@ out-drops_next [] [] p w f rest g r y b h = grind (arith, outputs-push)
 out-drops_next [] (x ∷ ws) p w f rest g r y b h = grind (arith, outputs-push)
 out-drops_next (x ∷ ls) ws p w f rest g r y b h = grind (arith, outputs-push)
 
+out-leaks_out : (w : World) → w.is_static ≡ false → w.gone ≡ false →
+    KeepsOutput w (op.Closing closing_op.LeakOut ∷ []) (leak_out_by false w)
+out-leaks_out w s n g r y k h = leaks_out-keeps Given (λ x s n t h. grind arith) w s n g r y h
+
+out-leaked : (d : Done) (p f g : ℕ) (r : Pend) (y : Extra) → HasAsked d.world f → Given (seen d.world g r y) →
+    Given (seen (leaked p f d).world g r y)
+out-leaked d p f g r y a h = leaked-keeps Given (λ x a h. grind arith) d.world p f g r y a h
+
 out-effect : (w : World) (old : List Op) (d : Done) → Effect w old d → KeepsOutput w old d
 out-effect w old d (passes s) g r y b h = given-passes _ _ (s g r y).passes (s g r y).gives h
 out-effect w old _ (turns d m p f v more i j n s a e) g r y b h =
@@ -107,6 +118,8 @@ out-effect w old d (unlists f e) g r y b h = grind arith
 out-effect w old d (drops p f) g r y b h = out-drops p f w g r y b h
 out-effect w old d takes_out g r y b h = out-takes_out w.table w.waking w g r y b h
 out-effect w old d (drops_next p f rest e) g r y b h = out-drops_next rest (w.waking ++ f ∷ []) p w f rest g r y b h
+out-effect w old d (leaks_out s n) g r y b h = out-leaks_out w s n g r y b h
+out-effect w old _ (leaks d p f e a) g r y b h = out-leaked d p f g _ _ a (out-effect w _ d e g r y b h)
 
 out-pends : (p f : ℕ) (w : World) → KeepsOutput w (op.User (user_op.Poll f) ∷ [])
     (done (log w (event.Answered p f answer.Pending)) (op.Table (table_op.PutBack f) ∷ []))

@@ -31,6 +31,9 @@ use Rattle.executor_model.proofs.OneFuture.Effects.{Effect, turned-keeps}
 use Rattle.executor_model.proofs.OneFuture.Effects.Effect.{passes, turns, refuses, enters, unlists, drops, takes_out, drops_next}
 use Rattle.executor_model.proofs.OneFuture.EffectsWays.{Effects}
 use Rattle.executor_model.proofs.OneFuture.EffectsWays.Effects.{does, pends, readies, closes}
+use Rattle.executor_model.specs.Acts.{leak_out_by, leaked}
+use Rattle.executor_model.proofs.OneFuture.MoveViews.{HasAsked, leaked-keeps, leaks_out-keeps}
+use Rattle.executor_model.proofs.OneFuture.Effects.Effect.{leaks, leaks_out}
 
 -- it went or is about to be dropped, or the poll that it came of has still to end, or it is there with its handle
 pub record Settled (x : Seen) : Type 0 where
@@ -99,6 +102,14 @@ settle-drops_next [] [] p w f rest g r y b h = grind (arith, outputs-push, readi
 settle-drops_next [] (x ∷ ws) p w f rest g r y b h = grind (arith, outputs-push, readies-push)
 settle-drops_next (x ∷ ls) ws p w f rest g r y b h = grind (arith, outputs-push, readies-push)
 
+settle-leaks_out : (w : World) → w.is_static ≡ false → w.gone ≡ false →
+    KeepsSettled w (op.Closing closing_op.LeakOut ∷ []) (leak_out_by false w)
+settle-leaks_out w s n g r y k h = leaks_out-keeps Settled (λ x s n t h. grind arith) w s n g r y h
+
+settle-leaked : (d : Done) (p f g : ℕ) (r : Pend) (y : Extra) → HasAsked d.world f → Settled (seen d.world g r y) →
+    Settled (seen (leaked p f d).world g r y)
+settle-leaked d p f g r y a h = leaked-keeps Settled (λ x a h. grind arith) d.world p f g r y a h
+
 settle-effect : (w : World) (old : List Op) (d : Done) → Effect w old d → KeepsSettled w old d
 settle-effect w old d (passes s) g r y b h = settled-passes _ _ (s g r y).passes (s g r y).gives (s g r y).handles h
 settle-effect w old _ (turns d m p f v more i j n s a e) g r y b h =
@@ -110,6 +121,8 @@ settle-effect w old d (unlists f e) g r y b h = grind arith
 settle-effect w old d (drops p f) g r y b h = settle-drops p f w g r y b h
 settle-effect w old d takes_out g r y b h = settle-takes_out w.table w.waking w g r y b h
 settle-effect w old d (drops_next p f rest e) g r y b h = settle-drops_next rest (w.waking ++ f ∷ []) p w f rest g r y b h
+settle-effect w old d (leaks_out s n) g r y b h = settle-leaks_out w s n g r y b h
+settle-effect w old _ (leaks d p f e a) g r y b h = settle-leaked d p f g _ _ a (settle-effect w _ d e g r y b h)
 
 settle-pends : (p f : ℕ) (w : World) → KeepsSettled w (op.User (user_op.Poll f) ∷ [])
     (done (log w (event.Answered p f answer.Pending)) (op.Table (table_op.PutBack f) ∷ []))

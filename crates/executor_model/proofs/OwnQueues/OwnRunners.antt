@@ -215,6 +215,7 @@ module _ (r : ℕ) where
       let u = (begun p v here (call.DropRun q)).world in
       begins-drop w u (run_of v q).stage q
       (seen-and r w v u (one p w v (call.DropRun q) refl) (seen-log r v u (event.RunDropped p q) refl refl))
+  begins-call p w here call.Leak e = begins w _ _ (one p w _ call.Leak refl) refl (λ k. refl)
   begins-call p w here call.DropExecutor e = let v = log w (event.CallBegun p call.DropExecutor) in
       let u = (begun p v here call.DropExecutor).world in
       begins w u _ (seen-and r w v u (one p w v call.DropExecutor refl) (seen-log r v u (event.DropBegun p) refl refl))
@@ -370,9 +371,7 @@ runner-moves s p old rest d good l e (reacted o u a q z) k r =
     (ap (λ (x : Hull). x.own) (counts-react 0 p o u s.world a).hull) (keeps-react p o u s.world a)) (k.runner r))
 runner-moves s p old rest d good l e (called c q t n z) k r =
     let e2 : stack s p ≡ rest ++ reverse [] = subst (λ (os : List Op). stack s p ≡ rest ++ reverse os) q e in
-    let f : _ = none_refused (is_free (top (stack s p))) (has_all s.world s.parties (top (stack s p)) c)
-    (not (s.world.gone && is_on_executor c)) (not (is_drop c && s.world.is_static))
-    (not (is_drop c) || is_unborrowed s.world s.parties) n in
+    let f : _ = none_refused s.world s.parties (top (stack s p)) c n in
     let own : set s.parties p rest ≡ s.parties = ap (set s.parties p) t ∙ set-own s.parties p l in
     rw z (by (polls_it r c) c refl e2 f.1 own)
   where

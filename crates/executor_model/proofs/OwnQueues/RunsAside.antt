@@ -40,6 +40,7 @@ use Rattle.queue_steps.specs.ClosableQueue.{ClosableQueue}
 use Rattle.executor_model.specs.SleepersAgree.{hands_of}
 use Rattle.executor_model.proofs.Steps.Lists.{weigh-append, weigh-below}
 use Rattle.executor_model.proofs.Steps.Asides.{aside-entry, Aside, aside-awaiter, aside-owed, aside-let_go, aside-told, aside-closing}
+use Rattle.executor_model.proofs.Steps.Asides.{aside-leak_out, aside-leaking}
 
 -- the stages of the runs
 
@@ -284,6 +285,21 @@ frame-wake_next p w (f ∷ rest) =
     frame w (acts.wake_next_by p w (f ∷ rest)) m.rest
     (none-both (acts.wake p v f).next (acts.closing_ops [] rest) m.plain (aside-closing bustle_of (λ o. refl) [] rest))
 
+-- and its leak
+
+frame-leak_out : (b : Bool) (w : World) → Frame w (acts.leak_out_by b w)
+frame-leak_out true w = frame w _ refl refl
+frame-leak_out false w = frame w _ refl (aside-leak_out bustle_of refl false w)
+
+frame-leak_next : (b : Bool) (p : ℕ) (w : World) (ws : List ℕ) → Frame w (acts.leak_next_by b p w ws)
+frame-leak_next true p w ws = frame w _ refl refl
+frame-leak_next false p w [] = frame w _ refl refl
+frame-leak_next false p w (f ∷ rest) =
+    let v : World = record w { waking = rest } in
+    let m : Frame w (acts.wake p v f) = frame-move true move.Wake p w v f refl in
+    frame w (acts.leak_next_by false p w (f ∷ rest)) m.rest
+    (none-both (acts.wake p v f).next (acts.leaking_ops rest) m.plain (aside-leaking bustle_of refl rest))
+
 -- what is done with one future, or ends a call
 abbrev pub is_lone : Op → Bool
 is_lone (op.User (user_op.PollOwn x)) = false
@@ -317,6 +333,8 @@ frame-act p h (op.Closing closing_op.TakeOut) w n =
     frame w _ refl (aside-closing bustle_of (λ o. refl) w.table w.waking)
 frame-act p h (op.Closing closing_op.DropNext) w n = frame-drop_next p w _
 frame-act p h (op.Closing closing_op.WakeNext) w n = frame-wake_next p w _
+frame-act p h (op.Closing closing_op.LeakOut) w n = frame-leak_out _ w
+frame-act p h (op.Closing closing_op.LeakNext) w n = frame-leak_next _ p w _
 frame-act p h (op.Sleeper sleeper_op.ExchangeFlag) w n = absurd (cc)
 frame-act p h (op.Sleeper sleeper_op.HandOut) w n = absurd (cc)
 frame-act p h (op.Sleeper (sleeper_op.CallSleeper s)) w n = frame-call p w (polled_as s.who) s.waker s.poll

@@ -173,6 +173,7 @@ reads-push r es (event.Woken p c) s h = reads-other r es _ s refl h
 reads-push r es (event.Cancelled p c) s h = reads-other r es _ s refl h
 reads-push r es (event.Detached p c) s h = reads-other r es _ s refl h
 reads-push r es (event.LastWaker p c) s h = reads-other r es _ s refl h
+reads-push r es (event.Leaked p c) s h = reads-other r es _ s refl h
 reads-push r es (event.Dropped p c) s h = reads-other r es _ s refl h
 reads-push r es (event.OutputDropped p c) s h = reads-other r es _ s refl h
 reads-push r es (event.OutputGiven p c) s h = reads-other r es _ s refl h

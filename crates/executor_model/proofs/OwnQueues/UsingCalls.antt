@@ -333,6 +333,10 @@ used-begun p w here (call.PollRun q y) r x a b f =
     (record { run = q; waker = waker_of here y; poll = length v.trace }) r x refl (idle w _ refl refl refl) a b f
 used-begun p w here (call.DropRun q) r x a b f =
     used-drop (run_of w q).stage w p q (event.CallBegun p (call.DropRun q)) r x refl a b f
+used-begun p w here call.Leak r x a b f =
+    used-other w (log w (event.CallBegun p call.Leak))
+    (op.Closing closing_op.LeakOut ∷ op.End reply.Done hold.Leaking ∷ []) refl refl refl
+    (λ q. record { uses = omega arith; polls = omega arith; empties = omega arith; lends = refl }) r x a b
 used-begun p w here call.DropExecutor r x a b f =
     used-gone w (begun p (log w (event.CallBegun p call.DropExecutor)) here call.DropExecutor).world
     (op.Closing closing_op.TakeOut ∷ op.End reply.Done hold.Nothing ∷ []) r x refl refl f

@@ -132,9 +132,7 @@ used-moves s p old rest d good l e (reacted o a k q z) u =
     rw z (used-unsettled s p (o ∷ []) rest (react p o a s.world) l e2 (λ r. used-react p o a s.world k r _) u)
 used-moves s p old rest d good l e (called c q t n z) u =
     let e2 : stack s p ≡ rest ++ reverse [] = subst (λ (os : List Op). stack s p ≡ rest ++ reverse os) q e in
-    let f : _ = none_refused (is_free (top (stack s p))) (has_all s.world s.parties (top (stack s p)) c)
-    (not (s.world.gone && is_on_executor c)) (not (is_drop c && s.world.is_static))
-    (not (is_drop c) || is_unborrowed s.world s.parties) n in
+    let f : _ = none_refused s.world s.parties (top (stack s p)) c n in
     let own : set s.parties p rest ≡ s.parties = ap (set s.parties p) t ∙ set-own s.parties p l in
     rw z (used-unsettled s p [] rest (begun p (log s.world (event.CallBegun p c)) (mine (top (stack s p))) c) l e2
     (λ r a b. used-begun p s.world (mine (top (stack s p))) c r (counts r (set s.parties p rest)) a b

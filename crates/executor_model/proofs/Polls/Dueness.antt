@@ -4,7 +4,7 @@ use Rattle.std.proofs.Common.{◌≡◌, ◌≢◌, ℕ, Bool, true, false, ◌|
 use Rattle.std.proofs.Common.{sym, ap, ◌∙◌, subst, append_assoc, append-nil}
 use Rattle.executor_model.specs.declared.event.Answer.TheVariants.{Pending, Ready}
 use Rattle.executor_model.specs.declared.event.Event.{Event}
-use Rattle.executor_model.specs.declared.event.Event.TheVariants.{Accepted, PollBegun, Answered, LastWaker}
+use Rattle.executor_model.specs.declared.event.Event.TheVariants.{Accepted, PollBegun, Answered, LastWaker, Leaked}
 use Rattle.executor_model.specs.declared.event.Event.TheVariants.{Woken, Cancelled, Dropped}
 use Rattle.executor_model.specs.Trace.{Trace, has, is_poll, is_answer, is_ready, is_dropped}
 use Rattle.executor_model.specs.Due.{is_request, since_poll, HasOpenPoll}
@@ -39,20 +39,25 @@ request-one : (f : ℕ) (e : Event) (s : Request) →
     cond (is_poll f e) false (s.asked || is_request f e) ≡ (notes f e s).asked
 request-one f (Accepted p g) s = by (f == g) s.asked
   where
-    by : (b a : Bool) → (a || (b || false || false || false)) ≡ cond b true a
+    by : (b a : Bool) → (a || (b || false || false || false || false)) ≡ cond b true a
     by true a = or-cond a true
     by false a = or-cond a false
 request-one f (Woken p g) s = by (f == g) s.asked
   where
-    by : (b a : Bool) → (a || (b || false || false)) ≡ cond b true a
+    by : (b a : Bool) → (a || (b || false || false || false)) ≡ cond b true a
     by true a = or-cond a true
     by false a = or-cond a false
 request-one f (Cancelled p g) s = by (f == g) s.asked
   where
+    by : (b a : Bool) → (a || (b || false || false)) ≡ cond b true a
+    by true a = or-cond a true
+    by false a = or-cond a false
+request-one f (LastWaker p g) s = by (f == g) s.asked
+  where
     by : (b a : Bool) → (a || (b || false)) ≡ cond b true a
     by true a = or-cond a true
     by false a = or-cond a false
-request-one f (LastWaker p g) s = or-cond s.asked (f == g)
+request-one f (Leaked p g) s = or-cond s.asked (f == g)
 request-one f (PollBegun p g) s = by (f == g) s.asked
   where
     by : (b a : Bool) → cond b false (a || false) ≡ cond b false a

@@ -34,6 +34,8 @@ use Rattle.executor_model.specs.Good.{Good}
 use Rattle.executor_model.specs.HandingOn.{handed_on, HandsOn, IsFirst, IsIdle, IsOnItsWay, IsWakeOf, IsWakerOf}
 use Rattle.executor_model.specs.Rows.{appends_of}
 use Rattle.executor_model.proofs.Steps.Lists.{same_is, weigh-append, weigh-closing}
+use Rattle.executor_model.specs.Acts.{leak_next_by}
+use Rattle.executor_model.proofs.Steps.Lists.{weigh-leaking}
 
 one : (f : ℕ) → same f f ≡ 1
 one f = grind (arith, same_is)
@@ -89,6 +91,13 @@ module _ (f p : ℕ) (h : Hint) (w : World) (n : ℕ) (stays : (b : Bool) →
   closing-wake (g ∷ rest) e = subst (λ (x : ℕ). weigh (appends_of f) (wake_next_by p w (x ∷ rest)).next ≡ n) e
       (weigh-closing (appends_of f) _ rest refl refl ∙ goes _)
 
+  leak-wake : (b : Bool) (ws : List ℕ) → b ≡ false → IsFirst f ws → weigh (appends_of f) (leak_next_by b p w ws).next ≡ n
+  leak-wake true ws b e = absurd (cc)
+  leak-wake false [] b e = let no : true ≡ false = e in absurd (cc)
+  leak-wake false (g ∷ rest) b e =
+      subst (λ (x : ℕ). weigh (appends_of f) (leak_next_by false p w (x ∷ rest)).next ≡ n) e
+      (weigh-leaking (appends_of f) _ rest refl ∙ goes _)
+
   called-wake : (q : Polled) (k : ℕ) (a : Waker) → IsWakerOf f a →
       weigh (appends_of f) (call_waker p w q a k).next ≡ n
   called-wake q k (Task g) e =
@@ -123,6 +132,7 @@ module _ (f p : ℕ) (h : Hint) (w : World) (n : ℕ) (stays : (b : Bool) →
   each-wake (op.Sleeper (sleeper_op.CallSleeper s)) e = called-wake (polled_as s.who) s.poll s.waker e
   each-wake (op.Run (run_op.WakeOwn x)) e = own-wake x e
   each-wake (op.Closing closing_op.WakeNext) e = closing-wake w.waking e
+  each-wake (op.Closing closing_op.LeakNext) e = leak-wake w.gone w.waking e.0 e.1
   each-wake _ e = let no : true ≡ false = e in absurd (cc)
 
 none-handed : (w : World) (f p : ℕ) (h : Hint) → (is_over (task w f) || (task w f).scheduled) ≡ true → (o : Op) →

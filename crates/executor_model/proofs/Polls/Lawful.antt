@@ -58,7 +58,7 @@ after-filter p q i (e ∷ es) = after-one p q e es (p e) (q e) refl refl (i e) (
 poll-of : (f : ℕ) (e : Event) → is_poll f e ≡ true → is_of f e ≡ true
 poll-of f (PollBegun p g) h = go (eqb f g) h
   where
-    go : (b : Bool) → b ≡ true → (b || false || false || false || false || false || false || false) ≡ true
+    go : (b : Bool) → b ≡ true → (b || false || false || false || false || false || false || false || false) ≡ true
     go true k = refl
     go false k = k
 poll-of f _ h = absurd (cc)
@@ -66,12 +66,12 @@ poll-of f _ h = absurd (cc)
 turn-of : (f : ℕ) (e : Event) → is_poll_or_answer f e ≡ true → is_of f e ≡ true
 turn-of f (PollBegun p g) h = go (eqb f g) h
   where
-    go : (b : Bool) → (b || false) ≡ true → (b || false || false || false || false || false || false || false) ≡ true
+    go : (b : Bool) → (b || false) ≡ true → (b || false || false || false || false || false || false || false || false) ≡ true
     go true k = refl
     go false k = k
 turn-of f (Answered p g a) h = go (eqb f g) h
   where
-    go : (b : Bool) → b ≡ true → (b || false || false || false || false || false || false) ≡ true
+    go : (b : Bool) → b ≡ true → (b || false || false || false || false || false || false || false) ≡ true
     go true k = refl
     go false k = k
 turn-of f _ h = absurd (cc)
@@ -79,7 +79,7 @@ turn-of f _ h = absurd (cc)
 end-of : (f : ℕ) (e : Event) → is_end f e ≡ true → is_of f e ≡ true
 end-of f (Answered p g Ready) h = go (eqb f g) h
   where
-    go : (b : Bool) → (b || false) ≡ true → (b || false || false || false || false || false || false) ≡ true
+    go : (b : Bool) → (b || false) ≡ true → (b || false || false || false || false || false || false || false) ≡ true
     go true k = refl
     go false k = k
 end-of f (Answered p g Pending) h = absurd (cc)

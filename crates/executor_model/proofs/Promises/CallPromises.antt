@@ -28,6 +28,7 @@ pub use Rattle.executor_model.proofs.Promises.CallServes.{polls_by, leaves, serv
 use Rattle.executor_model.proofs.OneFuture.Extras.{detaches_of}
 use Rattle.executor_model.proofs.Steps.Lists.{weigh-append}
 use Rattle.executor_model.proofs.Steps.Tests.{or-left, or-right}
+use Rattle.executor_model.specs.declared.op.ClosingOp.TheVariants as closing_op
 
 -- a call that ends so
 abbrev pub made_of : Op → ℕ
@@ -72,6 +73,8 @@ wakes_of _ = 0
 
 -- the drop of the executor goes on
 abbrev pub closes_of : Op → ℕ
+closes_of (op.Closing closing_op.LeakOut) = 0
+closes_of (op.Closing closing_op.LeakNext) = 0
 closes_of (op.Closing o) = 1
 closes_of _ = 0
 

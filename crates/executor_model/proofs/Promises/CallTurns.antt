@@ -190,6 +190,8 @@ close-turn p h (op.Closing closing_op.DropNext) w more k t = inl (drops-on w.lea
 close-turn p h (op.Closing closing_op.WakeNext) w more k t = inl (wakes-on w.waking p w k)
 close-turn p h (op.Closing closing_op.Close) w more k t = inl (omega arith)
 close-turn p h (op.Closing closing_op.Drain) w more k t = drains-on w.queue.items p w more t
+close-turn p h (op.Closing closing_op.LeakOut) w more k t = inl (omega arith)
+close-turn p h (op.Closing closing_op.LeakNext) w more k t = inl (omega arith)
 close-turn p h _ w more k t = inl (omega arith)
 
 pub turns-act : (s : Machine) (p : ℕ) (h : Hint) (o : Op) (c : Call) (more : Trace) → Placed s → Finds s.world o →

@@ -42,6 +42,10 @@ use Rattle.executor_model.proofs.Steps.Lift.{unsettled}
 use Rattle.executor_model.proofs.Steps.Lists.{same_cases, weigh-append, weigh-reverse}
 use Rattle.executor_model.proofs.Steps.Tests.{or-left, or-right}
 use Rattle.executor_model.proofs.Steps.Ways.{Way}
+use Rattle.executor_model.proofs.Steps.Asides.{aside-leak_out}
+use Rattle.executor_model.proofs.OneFuture.Effects.Effect.{leaks, leaks_out}
+use Rattle.std.proofs.Common.{Bool, sym}
+use Rattle.executor_model.specs.Acts.{begin_drop}
 
 -- an entry that is to be taken out was so before, or its future's drop began
 abbrev pub Takes : ℕ → List Op → List Op → Trace → Type 0
@@ -76,11 +80,19 @@ closing-none : (g : ℕ) (o : ClosingOp) → leaves_of g (op.Closing o) ≡ 0
 closing-none g closing_op.TakeOut = refl
 closing-none g _ = refl
 
-takes-effect : (w : World) (old : List Op) (d : Done) (g : ℕ) (more : Trace) → Effect w old d →
-    d.world.trace ≡ w.trace ++ more → Takes g old d.next more
-takes-effect w old d g more (passes s) t =
+abbrev is_leak : List Op → Bool
+is_leak (op.Closing o ∷ os) = true
+is_leak _ = false
+
+-- no thing more is to be left, or a drop begins and is told of
+abbrev Begins : World → List Op → Done → Type 0
+Begins w old d = (p : ℕ) × ((f : ℕ) × ((old ≡ op.User (user_op.BeginDrop f) ∷ []) × (d ≡ begin_drop p w f)))
+
+leaves-effect : (w : World) (old : List Op) (d : Done) (g : ℕ) → Effect w old d →
+    (weigh (leaves_of g) d.next ≤ weigh (leaves_of g) old) ⊎ Begins w old d
+leaves-effect w old d g (passes s) =
     inl (⊎_elim (λ x. omega (arith, x)) (λ x. omega (arith, x.1)) (s g none no_extra).stays.leaves)
-takes-effect w old _ g more (turns d m p f v rest i j k s a e) t =
+leaves-effect w old _ g (turns d m p f v rest i j k s a e) =
     let own : weigh (leaves_of g) (move_by true m p v f).next ≡ 0 =
     aside-owed (leaves_of g) (leaves-aside g) f _ (moves.after m (task v f)).owed in
     inl (omega (
@@ -92,16 +104,33 @@ takes-effect w old _ g more (turns d m p f v rest i j k s a e) t =
       ap (weigh (leaves_of g)) e,
       weigh-append (leaves_of g) (move_by true m p v f).next rest,
     ))
-takes-effect w old d g more (refuses f e) t = inl (omega arith)
-takes-effect w old d g more (enters p e) t = inl (omega arith)
-takes-effect w old _ g more (unlists f e) t =
+leaves-effect w old d g (refuses f e) = inl (omega arith)
+leaves-effect w old d g (enters p e) = inl (omega arith)
+leaves-effect w old _ g (unlists f e) =
     let own : weigh (leaves_of g) (leave_by true w f).next ≡ 0 = aside-entry (leaves_of g) (leaves-aside g) w.is_static f in
     inl (omega (arith, own))
-takes-effect w old d g more (drops p f) t = begins-drop g f p w more t
-takes-effect w old d g more takes_out t =
+leaves-effect w old d g (drops p f) = inr (p, (f, (refl, refl)))
+leaves-effect w old d g takes_out =
     inl (omega (arith, aside-closing (leaves_of g) (closing-none g) w.table w.waking))
-takes-effect w old d g more (drops_next p f rest e) t =
+leaves-effect w old d g (drops_next p f rest e) =
     inl (omega (arith, aside-closing (leaves_of g) (closing-none g) rest (w.waking ++ f ∷ [])))
+leaves-effect w old d g (leaks_out s n) = inl (omega (arith, aside-leak_out (leaves_of g) refl false w))
+leaves-effect w old _ g (leaks d p f e a) = ⊎_elim
+    (λ (x : weigh (leaves_of g) d.next ≤ weigh (leaves_of g) (op.Closing closing_op.LeakNext ∷ [])). inl x)
+    (λ (x : Begins w (op.Closing closing_op.LeakNext ∷ []) d). absurd (no x.1.0 x.1.1.0))
+    (leaves-effect w (op.Closing closing_op.LeakNext ∷ []) d g e)
+  where
+    no : (f : ℕ) → op.Closing closing_op.LeakNext ∷ [] ≡ op.User (user_op.BeginDrop f) ∷ [] → ⊥
+    no f q = let z : true ≡ false = ap (λ (os : List Op). is_leak os) q in cc
+
+takes-effect : (w : World) (old : List Op) (d : Done) (g : ℕ) (more : Trace) → Effect w old d →
+    d.world.trace ≡ w.trace ++ more → Takes g old d.next more
+takes-effect w old d g more e t = ⊎_elim
+    (λ (x : weigh (leaves_of g) d.next ≤ weigh (leaves_of g) old). inl x)
+    (λ (x : Begins w old d).
+    subst (λ (os : List Op). Takes g os d.next more) (sym x.1.1.0)
+    (subst (λ (c : Done). Takes g (op.User (user_op.BeginDrop x.1.0) ∷ []) c.next more) (sym x.1.1.1)
+    (begins-drop g x.1.0 x.0 w more (ap (λ (c : Done). c.world.trace) (sym x.1.1.1) ∙ t)))) (leaves-effect w old d g e)
 
 pub takes-effects : (w : World) (ss : List (List Op)) (old : List Op) (d : Done) (g : ℕ) (more : Trace) →
     Effects w ss old d → d.world.trace ≡ w.trace ++ more → Takes g old d.next more

@@ -96,9 +96,7 @@ module _
           (frames-done O later R s p o rest (react p o u s.world) l here (passes-react p o u s.world a) g
           (subst (λ (x : Done). Keeps O later R s.world.trace g.more o x.next) z k) f)
       frames-way (called c q r n z) =
-          let x : _ = none_refused (is_free (top (stack s p))) (has_all s.world s.parties (top (stack s p)) c)
-          (not (s.world.gone && is_on_executor c)) (not (is_drop c && s.world.is_static))
-          (not (is_drop c) || is_unborrowed s.world s.parties) n in
+          let x : _ = none_refused s.world s.parties (top (stack s p)) c n in
           let w : World = log s.world (event.CallBegun p c) in
           let here : Option Waker = mine (top (stack s p)) in
           let g = grows-begun p w here c in

@@ -57,6 +57,7 @@ use Rattle.executor_model.proofs.Steps.Ways.Way.{acted, called, reacted}
 use Rattle.executor_model.proofs.Table.Entering.{counts, counts-none, table-agrees}
 use Rattle.executor_model.proofs.Table.LeavingExecutions.{Placed, placed}
 use Rattle.executor_model.proofs.Table.Spawning.{has-table-by, top-last}
+use Rattle.executor_model.proofs.OneFuture.Effects.Effect.{leaks, leaks_out}
 
 -- the limit stays
 
@@ -71,6 +72,8 @@ limit-effect w old d (unlists f e) = refl
 limit-effect w old d (drops p f) = refl
 limit-effect w old d takes_out = refl
 limit-effect w old d (drops_next p f rest e) = refl
+limit-effect w old d (leaks_out s n) = refl
+limit-effect w old _ (leaks d p f e a) = limit-effect w _ d e
 
 limit-effects : (w : World) (ss : List (List Op)) (old : List Op) (d : Done) → Effects w ss old d →
     d.world.limit ≡ w.limit

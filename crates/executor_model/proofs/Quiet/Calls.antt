@@ -40,6 +40,8 @@ use Rattle.executor_model.specs.Weights.{same, weigh}
 use Rattle.executor_model.proofs.Steps.Lists.{weigh-append}
 use Rattle.executor_model.proofs.Steps.Asides.{aside-entry, Aside, aside-awaiter, aside-owed, aside-let_go, aside-closing}
 use Rattle.executor_model.proofs.OneFuture.Telling.{same-cond}
+use Rattle.executor_model.specs.Acts.{leak_next_by, leak_out_by}
+use Rattle.executor_model.proofs.Steps.Asides.{aside-leak_next, aside-leak_out}
 
 -- what has still to answer its call
 abbrev pub calling_of : Op → ℕ
@@ -295,6 +297,22 @@ calls-wake_next p w (f ∷ rest) =
     (steady-wake p (record w { waking = rest }) f))
     (none-both (wake p (record w { waking = rest }) f).next (closing_ops [] rest)
     (none-wake p (record w { waking = rest }) f) (aside-closing calling_of (λ o. refl) [] rest))
+
+pub calls-leak_out : (b : Bool) (w : World) → Calls w (op.Closing closing_op.LeakOut) (leak_out_by b w)
+calls-leak_out true w = inside w _ _ refl (steady-same _ _ refl) refl
+calls-leak_out false w = inside w _ _ refl (steady-same _ _ refl) (aside-leak_out calling_of refl false w)
+
+pub calls-leak_next : (b : Bool) (p : ℕ) (w : World) (ws : List ℕ) →
+    Calls w (op.Closing closing_op.LeakNext) (leak_next_by b p w ws)
+calls-leak_next true p w ws = inside w _ _ refl (steady-same _ _ refl) refl
+calls-leak_next false p w [] = inside w _ _ refl (steady-same _ _ refl) refl
+calls-leak_next false p w (f ∷ rest) =
+    let v : World = record w { waking = rest } in
+    let u : World = (wake p v f).world in
+    inside w _ _ refl (steady-and w u (log u (event.Leaked p f))
+    (steady-and w v u (steady-same w v refl) (steady-wake p v f))
+    (steady-log u _ (event.Leaked p f) refl (λ q. refl) (λ q. refl)))
+    (aside-leak_next calling_of refl none-wake false p w (f ∷ rest))
 
 pub calls-drain : (p : ℕ) (w : World) (q : List ℕ) → Calls w (op.Closing closing_op.Drain) (drain_by p w q)
 calls-drain p w [] = inside w _ _ refl (steady-log _ _ (event.DropEnded p) refl (λ q. refl) (λ q. refl)) refl

@@ -91,6 +91,7 @@ fit-begun p w here (call.DropTick t) = refl
 fit-begun p w here call.NewRun = refl
 fit-begun p w here (call.PollRun r b) = fit-poll (run_of w r).stage r _ b
 fit-begun p w here (call.DropRun r) = fit-drop (run_of w r).stage r
+fit-begun p w here call.Leak = refl
 fit-begun p w here call.DropExecutor = refl
 
 same-self : (f : ℕ) → same f f ≡ 1
@@ -211,9 +212,7 @@ held-moves s p old rest d good l e way k =
         (λ b os x. owes-on s.world.trace g.more b o os (react p o u s.world).next (fit-react b.call p o u s.world a)
         (turns-react p o u s.world b.call s.world.trace g.more a) x) k.frames)
     by (called c q r n z) =
-        let f : _ = none_refused (is_free (top (stack s p))) (has_all s.world s.parties (top (stack s p)) c)
-        (not (s.world.gone && is_on_executor c)) (not (is_drop c && s.world.is_static))
-        (not (is_drop c) || is_unborrowed s.world s.parties) n in
+        let f : _ = none_refused s.world s.parties (top (stack s p)) c n in
         let w : World = log s.world (event.CallBegun p c) in
         let here : Option Waker = mine (top (stack s p)) in
         let g = grows-begun p w here c in

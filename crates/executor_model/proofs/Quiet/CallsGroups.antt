@@ -25,6 +25,7 @@ use Rattle.executor_model.proofs.Quiet.Calls.{calls-take, calls-wake_next, insid
 use Rattle.executor_model.proofs.Quiet.Calls.{begin_of, end_of, single, steady-and, steady-log, steady-log_if, steady-same}
 use Rattle.executor_model.proofs.Quiet.RunsCalls.{calls-list, calls-run, calls-steal}
 use Rattle.executor_model.proofs.Quiet.SleepersCalls.{calls-sleeper, calls-tick}
+use Rattle.executor_model.proofs.Quiet.Calls.{calls-leak_next, calls-leak_out}
 
 told-begins : (m : Move) (p f q : ℕ) → begin_of q (told_as m p f) ≡ 0
 told-begins move.TakeUp p f q = refl
@@ -87,5 +88,7 @@ calls-act p h (op.Closing closing_op.TakeOut) w n =
 calls-act p h (op.Closing closing_op.DropNext) w n = calls-drop_next p w w.leaving
 calls-act p h (op.Closing closing_op.WakeNext) w n = calls-wake_next p w w.waking
 calls-act p h (op.Closing closing_op.Drain) w n = calls-drain p w w.queue.items
+calls-act p h (op.Closing closing_op.LeakOut) w n = calls-leak_out _ w
+calls-act p h (op.Closing closing_op.LeakNext) w n = calls-leak_next _ p w w.waking
 calls-act p h (op.End r held) w n = absurd (cc)
 calls-act p h _ w n = inside w _ _ refl (steady-same _ _ refl) refl

@@ -268,6 +268,7 @@ opens p w ss o (call.PollRun r b) k =
     (steady-log _ _ (event.RunPolled p r) refl (λ q. refl) (λ q. refl), one-poll (run_of w r).stage _)
 opens p w ss o (call.DropRun r) k =
     (steady-log _ _ (event.RunDropped p r) refl (λ q. refl) (λ q. refl), one-drop (run_of w r).stage r)
+opens p w ss o call.Leak k = (steady-same _ _ refl, then (op.Closing closing_op.LeakOut ∷ []) _ refl refl)
 opens p w ss o call.DropExecutor k = (
   steady-log _ _ (event.DropBegun p) refl (λ q. refl) (λ q. refl),
   then (op.Closing closing_op.TakeOut ∷ []) _ refl refl,
@@ -311,9 +312,7 @@ deep-moves s p old rest d good l e (reacted o u a q z) h =
     rw z (turned s p (o ∷ []) rest (react p o u s.world) l
     (subst (λ (os : List Op). stack s p ≡ rest ++ reverse os) q e) (turns-react p o u s.world a) h)
 deep-moves s p old rest d good l e (called c q r n z) h =
-    let f : _ = none_refused (is_free (top (stack s p))) (has_all s.world s.parties (top (stack s p)) c)
-    (not (s.world.gone && is_on_executor c)) (not (is_drop c && s.world.is_static))
-    (not (is_drop c) || is_unborrowed s.world s.parties) n in
+    let f : _ = none_refused s.world s.parties (top (stack s p)) c n in
     rw z (opened s p rest c _ l (subst (λ (os : List Op). stack s p ≡ rest ++ reverse os) q e)
     (opens p s.world s.parties (top (stack s p)) c f.1) h)
 

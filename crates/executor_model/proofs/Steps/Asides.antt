@@ -24,6 +24,9 @@ use Rattle.executor_model.specs.Carried.{awaiter_ops, owed_ops}
 use Rattle.executor_model.specs.Weights.{weigh}
 use Rattle.executor_model.specs.World.{World, awaiter_of}
 use Rattle.executor_model.proofs.Steps.Owed.{owed-future, owed-awaiter, owed-nothing}
+use Rattle.executor_model.specs.Acts.{leak_next_by, leak_out_by, leaking_ops, wake}
+use Rattle.executor_model.proofs.Steps.Lists.{weigh-append}
+use Rattle.std.proofs.Common.{◌++◌}
 
 -- v sees no move, nothing that a move owes, and no call of an awaiter
 pub record Aside (v : Op → ℕ) : Type 0 where
@@ -81,3 +84,21 @@ pub aside-closing : (v : Op → ℕ) → ((o : ClosingOp) → v (op.Closing o) �
 aside-closing v h [] [] = omega (arith, h closing_op.Close)
 aside-closing v h [] (x ∷ ws) = omega (arith, h closing_op.WakeNext)
 aside-closing v h (x ∷ ls) ws = omega (arith, h closing_op.DropNext)
+
+pub aside-leaking : (v : Op → ℕ) → v (op.Closing closing_op.LeakNext) ≡ 0 → (ws : List ℕ) → weigh v (leaking_ops ws) ≡ 0
+aside-leaking v h [] = refl
+aside-leaking v h (x ∷ ws) = omega (arith, h)
+
+pub aside-leak_out : (v : Op → ℕ) → v (op.Closing closing_op.LeakNext) ≡ 0 → (b : Bool) (w : World) →
+    weigh v (leak_out_by b w).next ≡ 0
+aside-leak_out v h true w = refl
+aside-leak_out v h false w = aside-leaking v h (w.waking ++ w.table)
+
+pub aside-leak_next : (v : Op → ℕ) → v (op.Closing closing_op.LeakNext) ≡ 0 →
+    ((p : ℕ) (w : World) (f : ℕ) → weigh v (wake p w f).next ≡ 0) → (b : Bool) (p : ℕ) (w : World) (ws : List ℕ) →
+    weigh v (leak_next_by b p w ws).next ≡ 0
+aside-leak_next v h k true p w ws = refl
+aside-leak_next v h k false p w [] = refl
+aside-leak_next v h k false p w (f ∷ rest) =
+    let u : World = record w { waking = rest } in
+    omega (arith, weigh-append v (wake p u f).next (leaking_ops rest), k p u f, aside-leaking v h rest)

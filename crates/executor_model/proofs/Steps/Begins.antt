@@ -34,11 +34,11 @@ use Rattle.executor_model.specs.World.{World, Stage, New, Listed, Ended, Run, Do
 use Rattle.executor_model.specs.Weights.{weigh, weigh_all, past, waker_past}
 use Rattle.executor_model.specs.Sound.{Sound, Pend, with_ops}
 use Rattle.executor_model.specs.Good.{Fits}
-use Rattle.executor_model.specs.Rows.{borrowing_of, polls_of}
+use Rattle.executor_model.specs.Rows.{borrowing_of, leaking_of, polls_of}
 use Rattle.executor_model.specs.Rows.{past_of}
 use Rattle.executor_model.specs.Rows.{Row}
-use Rattle.executor_model.specs.Steps.{kept, has_all}
-use Rattle.executor_model.specs.Steps.{is_on_executor, is_drop, is_unused, is_unborrowed, unless}
+use Rattle.executor_model.specs.Steps.{kept, has_all, is_free, begin_refusal}
+use Rattle.executor_model.specs.Steps.{is_on_executor, is_drop, is_owners, is_unused, is_unborrowed, unless}
 use Rattle.executor_model.specs.Steps.{used_up, with_future}
 use Rattle.executor_model.specs.Steps.{waker_of, future_of, poll_run, drop_run, begun}
 use Rattle.executor_model.proofs.Steps.Lists.{same_is, past_is, phase-push}
@@ -91,15 +91,35 @@ begins-drop : (w : World) (p : ℕ) (c : Call) (g : ℕ) (r : Pend) → w.gone �
     (with_ops g (op.Closing closing_op.TakeOut ∷ op.End reply.Done hold.Nothing ∷ []) r)
 begins-drop w p c g r n k b q h = grind (arith, phase-push)
 
-pub none_refused : (a b c k d : Bool) →
-    unless a Busy (unless b NoSuch (unless c Gone (unless k Gone (unless d Borrowed None)))) ≡ None →
+all-passed : (a b c l k d : Bool) →
+    unless a Busy (unless b NoSuch (unless c Gone (unless l Gone (unless k Gone (unless d Borrowed None))))) ≡ None →
     (a ≡ true) × (b ≡ true) × (c ≡ true) × (d ≡ true) × (k ≡ true)
-none_refused true true true true true e = (refl, refl, refl, refl, refl)
-none_refused true true true true false e = absurd (cc)
-none_refused true true true false d e = absurd (cc)
-none_refused true true false k d e = absurd (cc)
-none_refused true false c k d e = absurd (cc)
-none_refused false b c k d e = absurd (cc)
+all-passed true true true true true true e = (refl, refl, refl, refl, refl)
+all-passed true true true true true false e = absurd (cc)
+all-passed true true true true false d e = absurd (cc)
+all-passed true true true false k d e = absurd (cc)
+all-passed true true false l k d e = absurd (cc)
+all-passed true false c l k d e = absurd (cc)
+all-passed false b c l k d e = absurd (cc)
+
+-- what its owner alone does is asked of the drop
+drop-unborrowed : (c : Call) (b : Bool) → (not (is_owners c) || b) ≡ true → (not (is_drop c) || b) ≡ true
+drop-unborrowed call.DropExecutor b e = e
+drop-unborrowed c b e = refl
+
+drop-owned : (c : Call) (b : Bool) → not (is_owners c && b) ≡ true → not (is_drop c && b) ≡ true
+drop-owned call.DropExecutor b e = e
+drop-owned c b e = refl
+
+-- what is known of a call that may begin
+pub none_refused : (w : World) (ss : List (List Op)) (o : Option Op) (c : Call) → begin_refusal w ss o c ≡ None →
+    (is_free o ≡ true) × (has_all w ss o c ≡ true) × (not (w.gone && is_on_executor c) ≡ true)
+    × ((not (is_drop c) || is_unborrowed w ss) ≡ true) × (not (is_drop c && w.is_static) ≡ true)
+none_refused w ss o c n =
+    let f : _ = all-passed (is_free o) (has_all w ss o c) (not (w.gone && is_on_executor c))
+    (not (is_on_executor c) || is_unused leaking_of ss) (not (is_owners c && w.is_static))
+    (not (is_owners c) || is_unborrowed w ss) n in
+    (f.0, f.1, f.2, drop-unborrowed c (is_unborrowed w ss) f.3, drop-owned c w.is_static f.4)
 
 -- who may drop the executor finds no call that uses it
 pub unused : (c : Call) (w : World) (ss : List (List Op)) → (not (is_drop c) || is_unborrowed w ss) ≡ true →
@@ -274,6 +294,7 @@ begins w p ss o here (call.PollRun r b) k has =
     grows-told w p _ _ _ (past-poll_run (length w.tasks) (run_of w r).stage x (waker-known w here b k))
 begins w p ss o here (call.DropRun r) k has =
     grows-told_run w p _ _ _ _ (past-drop_run (length w.tasks) (run_of w r).stage r)
+begins w p ss o here call.Leak k has = grows-begun w p _ _ (λ h. refl)
 begins w p ss o here call.DropExecutor k has = λ h y. record {
   fits = record { awaiting = h.awaiting; inside = h.inside };
   next = refl;

@@ -58,6 +58,7 @@ use Rattle.executor_model.proofs.Steps.RunsMoves.{moves-own_length, moves-resche
 use Rattle.executor_model.proofs.Steps.TraceMore.{has-append}
 use Rattle.executor_model.proofs.Steps.Tests.{left-false, or-false, right-false}
 use Rattle.executor_model.proofs.Steps.TickTraces.{tick-trace}
+use Rattle.executor_model.specs.Acts.{leak_next_by, leak_out_by}
 
 abbrev pub begins_one : Event → Bool
 begins_one (event.CallBegun p c) = true
@@ -223,6 +224,17 @@ grows-wake_next p w (f ∷ rest) =
     grows-and w (record w { waking = rest }) _ (grows-same w (record w { waking = rest }) refl)
     (grows-wake p (record w { waking = rest }) f)
 
+grows-leak_out : (p : ℕ) (b : Bool) (w : World) → Grows p w (leak_out_by b w).world
+grows-leak_out p true w = grows-same _ _ refl
+grows-leak_out p false w = grows-same _ _ refl
+
+grows-leak_next : (b : Bool) (p : ℕ) (w : World) (ws : List ℕ) → Grows p w (leak_next_by b p w ws).world
+grows-leak_next true p w ws = grows-same _ _ refl
+grows-leak_next false p w [] = grows-same _ _ refl
+grows-leak_next false p w (f ∷ rest) =
+    grows-and w (wake_next_by p w (f ∷ rest)).world _ (grows-wake_next p w (f ∷ rest))
+    (grows-log _ _ (event.Leaked p f) refl refl refl)
+
 grows-drain : (p : ℕ) (w : World) (q : List ℕ) → Grows p w (drain_by p w q).world
 grows-drain p w [] = grows-log _ _ (event.DropEnded p) refl refl refl
 grows-drain p w (f ∷ rest) = grows-same _ _ refl
@@ -284,6 +296,8 @@ grows-act p h (op.Run o) w n = grows-run p h o w
 grows-act p h (op.Closing closing_op.DropNext) w n = grows-drop_next p w w.leaving
 grows-act p h (op.Closing closing_op.WakeNext) w n = grows-wake_next p w w.waking
 grows-act p h (op.Closing closing_op.Drain) w n = grows-drain p w w.queue.items
+grows-act p h (op.Closing closing_op.LeakOut) w n = grows-leak_out p _ w
+grows-act p h (op.Closing closing_op.LeakNext) w n = grows-leak_next _ p w w.waking
 grows-act p h (op.End r held) w n = absurd (cc)
 grows-act p h _ w n = grows-same _ _ refl
 

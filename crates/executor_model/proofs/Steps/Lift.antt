@@ -204,9 +204,7 @@ good-begin : (s : Machine) (p : ℕ) (c : Call) → p < length s.parties →
     begin_refusal s.world s.parties (top (stack s p)) c ≡ None → Good s →
     Good (with_part s p (part_after s.world (stack s p) (Begin p c)))
 good-begin s p c l n good =
-    let f : _ = none_refused (is_free (top (stack s p))) (has_all s.world s.parties (top (stack s p)) c)
-    (not (s.world.gone && is_on_executor c)) (not (is_drop c && s.world.is_static))
-    (not (is_drop c) || is_unborrowed s.world s.parties) n in
+    let f : _ = none_refused s.world s.parties (top (stack s p)) c n in
     let own : set s.parties p (stack s p) ≡ s.parties = set-own s.parties p l in
     good-onto s p [] (stack s p) (begun p (log s.world (event.CallBegun p c)) (mine (top (stack s p))) c) l
     (sym (append-nil (stack s p)))

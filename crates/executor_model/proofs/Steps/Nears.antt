@@ -36,7 +36,7 @@ use Rattle.executor_model.specs.Doing.{act}
 use Rattle.executor_model.specs.Steps.{begun, drop_run, future_of, kept, poll_run, with_future}
 use Rattle.executor_model.specs.Weights.{weigh}
 use Rattle.executor_model.specs.World.{World, Stage, New, Listed, Ended, Done, awaiter_of, log, run_of, task}
-use Rattle.executor_model.proofs.Steps.Asides.{aside-entry, Aside, aside-awaiter, aside-closing, aside-let_go, aside-let_go_by, aside-owed, aside-told}
+use Rattle.executor_model.proofs.Steps.Asides.{aside-entry, Aside, aside-awaiter, aside-closing, aside-leak_next, aside-leak_out, aside-let_go, aside-let_go_by, aside-owed, aside-told}
 use Rattle.executor_model.proofs.Steps.Lists.{weigh-append}
 use Rattle.executor_model.proofs.Steps.RunsNext.{BlindToRuns, list-blind, run-blind, steal-blind, tick-blind}
 use Rattle.executor_model.proofs.Steps.SleepersNext.{Blind, Unseen, sleeper-unseen}
@@ -245,6 +245,9 @@ near-act p h (op.Closing closing_op.DropNext) w n = absurd (cc)
 near-act p h (op.Closing closing_op.WakeNext) w n = near-wake_next _ p w
 near-act p h (op.Closing closing_op.Close) w n = refl
 near-act p h (op.Closing closing_op.Drain) w n = near-drain _ p w
+near-act p h (op.Closing closing_op.LeakOut) w n = aside-leak_out near_of refl _ w
+near-act p h (op.Closing closing_op.LeakNext) w n =
+    aside-leak_next near_of refl (λ p w f. near-move true move.Wake p w f) _ p w w.waking
 near-act p h (op.End a held) w n = refl
 
 near-with : (w : World) (o : Option ℕ) (d : ℕ → Done) → ((f : ℕ) → weigh near_of (d f).next ≡ 0) →

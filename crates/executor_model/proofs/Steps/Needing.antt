@@ -120,6 +120,8 @@ needs s p (op.Closing closing_op.DropNext) h e good =
     λ f rest q. has_place s f good (omega (arith, ap (pasts (length s.world.tasks)) q, good.fits.leaving))
 needs s p (op.Closing closing_op.WakeNext) h e good =
     λ f rest q. can_grow s f good (omega (arith, ap (pasts (length s.world.tasks)) q, good.fits.waking))
+needs s p (op.Closing closing_op.LeakNext) h e good =
+    λ f rest q. can_grow s f good (omega (arith, ap (pasts (length s.world.tasks)) q, good.fits.waking))
 needs s p (op.Sleeper (sleeper_op.CallSleeper a)) h e good =
     can_wake s a.waker good (omega (arith, speaks s p (op.Sleeper (sleeper_op.CallSleeper a)) h e good))
 needs s p (op.Tick (tick_op.CopyWaker a)) h e good =

@@ -42,6 +42,7 @@ use Rattle.executor_model.specs.World.{World, Ticker, Awake, Asleep, Left, Done,
 use Rattle.executor_model.proofs.Awaiters.SleepersWorlds.{Rest, sleeper-rest, tick-rest}
 use Rattle.executor_model.proofs.Steps.RunsMoves.{Moves}
 use Rattle.executor_model.proofs.Steps.RunsWays.{AllOfRuns, by-list, by-run, by-search, by-steal}
+use Rattle.executor_model.specs.Acts.{leak_next_by, leak_out_by}
 
 pub record Spots : Type 0 where
   pub inside : List Bool
@@ -114,6 +115,15 @@ spots-call p w o (Outside x) k = refl
 spots-wake_next : (q : List ℕ) (p : ℕ) (w : World) → spots w ≡ spots (wake_next_by p w q).world
 spots-wake_next [] p w = refl
 spots-wake_next (f ∷ rest) p w = spots-log_if _ (record w { waking = rest }) (event.Woken p f)
+
+spots-leak_out : (b : Bool) (w : World) → spots w ≡ spots (leak_out_by b w).world
+spots-leak_out true w = refl
+spots-leak_out false w = refl
+
+spots-leak_next : (b : Bool) (q : List ℕ) (p : ℕ) (w : World) → spots w ≡ spots (leak_next_by b p w q).world
+spots-leak_next true q p w = refl
+spots-leak_next false [] p w = refl
+spots-leak_next false (f ∷ rest) p w = spots-log_if _ (record w { waking = rest }) (event.Woken p f)
 
 spots-drain : (q : List ℕ) (p : ℕ) (w : World) → spots w ≡ spots (drain_by p w q).world
 spots-drain [] p w = refl
@@ -192,6 +202,8 @@ same-spots p h (op.Steal o) w n = by-steal SameSpots spots-moves spots-put p o w
 same-spots p h (op.Run o) w n = by-run SameSpots spots-moves spots-put p h o w (λ x e. spots-own p w x)
 same-spots p h (op.Closing closing_op.WakeNext) w n = spots-wake_next _ p w
 same-spots p h (op.Closing closing_op.Drain) w n = spots-drain _ p w
+same-spots p h (op.Closing closing_op.LeakOut) w n = spots-leak_out _ w
+same-spots p h (op.Closing closing_op.LeakNext) w n = spots-leak_next _ _ p w
 same-spots p h (op.User (user_op.BeginDrop f)) w n = refl
 same-spots p h _ w n = refl
 

@@ -202,6 +202,17 @@ module _ (t : Event → Bool) (u : (e : Event) → is_ordinary e ≡ true → t 
   grows-wake_next p w (f ∷ rest) = let v : World = record w { waking = rest } in
       grows-move true move.Wake p w v f refl (grows w v refl)
 
+  grows-leak_out : (b : Bool) (w : World) → Grows w (acts.leak_out_by b w).world
+  grows-leak_out true w = grows w w refl
+  grows-leak_out false w = grows w (acts.leak_out_by false w).world refl
+
+  grows-leak_next : (b : Bool) (p : ℕ) (w : World) (ws : List ℕ) → Grows w (acts.leak_next_by b p w ws).world
+  grows-leak_next true p w ws = grows w w refl
+  grows-leak_next false p w [] = grows w w refl
+  grows-leak_next false p w (f ∷ rest) = let v : World = (acts.wake_next_by p w (f ∷ rest)).world in
+      grows-and w v (log v (event.Leaked p f)) (grows-wake_next p w (f ∷ rest))
+      (grows-log v (log v (event.Leaked p f)) (event.Leaked p f) refl refl)
+
   grows-drain : (p : ℕ) (w : World) (q : List ℕ) → Grows w (acts.drain_by p w q).world
   grows-drain p w [] = grows-log w (acts.drain_by p w []).world (event.DropEnded p) refl refl
   grows-drain p w (f ∷ rest) = grows w (acts.drain_by p w (f ∷ rest)).world refl
@@ -306,6 +317,8 @@ module _ (t : Event → Bool) (u : (e : Event) → is_ordinary e ≡ true → t 
   grows-act p h (op.Closing closing_op.DropNext) w z = grows-drop_next p w _
   grows-act p h (op.Closing closing_op.WakeNext) w z = grows-wake_next p w _
   grows-act p h (op.Closing closing_op.Drain) w z = grows-drain p w _
+  grows-act p h (op.Closing closing_op.LeakOut) w z = grows-leak_out _ w
+  grows-act p h (op.Closing closing_op.LeakNext) w z = grows-leak_next _ p w _
   grows-act p h (op.End a held) w z = grows-one w (log w (event.CallEnded p a)) (event.CallEnded p a) z refl
   grows-act p h o w z = grows w (act p h o w).world refl
 

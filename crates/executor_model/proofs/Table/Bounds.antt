@@ -23,6 +23,7 @@ use Rattle.executor_model.proofs.OneFuture.Stories.{length-without, no-longer}
 use Rattle.executor_model.proofs.OneFuture.Views.{none}
 use Rattle.executor_model.proofs.Steps.Lift.{good-start}
 use Rattle.executor_model.proofs.Steps.Ways.{along}
+use Rattle.executor_model.proofs.OneFuture.Effects.Effect.{leaks, leaks_out}
 
 -- the table, and those that the drop of the executor has taken out of it
 pub record Bound (w : World) : Type 0 where
@@ -68,6 +69,9 @@ bound-effect w old d (drops p f) h = record { table = h.table; leaving = h.leavi
 bound-effect w old d takes_out h = record { table = h.leaving; leaving = h.table }
 bound-effect w old d (drops_next p f rest e) h =
     record { table = h.table; leaving = omega (arith, h.leaving, ap length e) }
+bound-effect w old d (leaks_out s n) h = record { table = h.table; leaving = h.leaving }
+bound-effect w old _ (leaks d p f e a) h = let x : Bound d.world = bound-effect w _ d e h in
+    record { table = x.table; leaving = x.leaving }
 
 bound-effects : (w : World) (ss : List (List Op)) (old : List Op) (d : Done) → Effects w ss old d → KeepsBound w d.world
 bound-effects w ss old d (does x) h = bound-effect w old d x h

@@ -1,33 +1,41 @@
 -- For table_and_queue_agree, no_append_is_refused_full, the_limit_is_exact, drops_come_once, early_drops_have_causes
 -- and closing_drops_each_future_once.
 -- Table and queue agree with the trace, and a spawn finds the executor full exactly where it is.
-use Rattle.std.proofs.Common.{◌≡◌, ◌⊎◌, ℕ, zero, suc, ◌+◌, ◌<◌, ◌≤◌, List, [], length, Bool, true, false}
+use Rattle.std.proofs.Common.{◌≡◌, ◌⊎◌, ℕ, zero, suc, ◌+◌, ◌<◌, ◌≤◌, List, [], length, take, Bool, true, false}
 use Rattle.std.proofs.Common.{refl, sym, ap, ◌∙◌, subst, inl, inr, ⊎_elim, arith}
 use Rattle.std.proofs.lemmas.List.{get_or_past}
 use Rattle.std.specs.Prelude.{Option, Some, None, MatchOption, count_by, slice_get}
 use Rattle.queue_steps.specs.ClosableQueue.{ClosableQueue, HasRoom}
 use Rattle.executor_model.specs.declared.kind.Kind.{Kind}
-use Rattle.executor_model.specs.declared.kind.Kind.TheVariants.{Owned, Static}
+use Rattle.executor_model.specs.declared.kind.Kind.TheVariants.{Static}
 use Rattle.executor_model.specs.declared.event.Event.{Event}
 use Rattle.executor_model.specs.declared.op.Op.{Op}
 use Rattle.executor_model.specs.declared.op.Op.TheVariants as op
 use Rattle.executor_model.specs.declared.op.QueueOp.TheVariants as queue_op
 use Rattle.executor_model.specs.declared.step.Step.{Step}
-use Rattle.executor_model.specs.Trace.{Trace, has, is_accepted, is_dropped, is_drop_begun}
+use Rattle.executor_model.specs.Trace.{Trace, has, is_accepted, is_dropped, is_drop_begun, is_last_waker, is_leak_begun}
 use Rattle.executor_model.specs.DroppedOnce.{DropComesOnce, IsDroppedByTheEnd}
 use Rattle.executor_model.specs.EarlyDrop.{EarlyDropHasCause, LastWakerIsLast}
 use Rattle.executor_model.specs.Weights.{weigh_all}
 use Rattle.executor_model.specs.Sound.{times, times_in}
 use Rattle.executor_model.specs.Good.{Good}
-use Rattle.executor_model.specs.Steps.{Machine, stack, top, below_top, is_static_kind, run, start}
+use Rattle.executor_model.specs.Steps.{Machine, stack, top, below_top, run, start}
 use Rattle.executor_model.specs.Entries.{HasTable, Remains, TableAgrees, OwnAgrees, QueueAgrees, FindsPlace}
 use Rattle.executor_model.specs.Rows.{ousting_of, leaves_of}
 use Rattle.executor_model.proofs.Steps.Lift.{topped, good}
-use Rattle.executor_model.proofs.OneFuture.Kinds.{is-of-kind}
 use Rattle.executor_model.proofs.OneFuture.Stories.{story}
 use Rattle.executor_model.proofs.OneFuture.Telling.{fallen-counts, accepted-counts, counted-there, there-or-none}
-use Rattle.executor_model.proofs.OneFuture.Telling.{begun-has, ended-has, drop-has-cause, drop-follows, last-forgotten}
+use Rattle.executor_model.proofs.OneFuture.Telling.{begun-has, ended-has, drop-has-cause, drop-follows, last-forgotten, take-all}
 use Rattle.executor_model.proofs.Table.LeavingExecutions.{Placed, placed, has-place}
+
+-- a machine is static where it was made so, or a leak of its executor has begun
+abbrev pub IsOfKind : Kind → Machine → Type 0
+IsOfKind kind s = s.world.is_static ≡ true → (kind ≡ Static) ⊎ (has is_leak_begun s.world.trace ≡ true)
+
+-- where nobody was left who could wake it, the drop or a leak had begun by then, or it was static from the beginning on
+abbrev pub LastIsTold : Kind → ℕ → Trace → Type 0
+LastIsTold kind f es = (n : ℕ) → has (is_last_waker f) (take n es) ≡ true → (has is_drop_begun (take n es) ≡ true)
+    ⊎ ((kind ≡ Static) ⊎ (has is_leak_begun (take n es) ≡ true))
 
 -- no entry is there twice
 one-entry : (b : Bool) (o t d a e : ℕ) → ((b ≡ false) ⊎ (1 ≤ o) → t + d ≡ a + e) → (b ≡ true → o ≡ 0 → t ≡ 0) → e ≤ d →
@@ -158,19 +166,14 @@ module _ (s : Machine) (f : ℕ) (fine : Good s) (h : Placed s) where
   pub drop-comes-once : DropComesOnce f s.world.trace
   drop-comes-once = omega (arith, (h.leaves f).once, one-accepted, fallen-counts f s.world.trace)
 
-  static-kind : (kind : Kind) → is_static_kind kind ≡ s.world.is_static → s.world.is_static ≡ true → kind ≡ Static
-  static-kind Owned e q = absurd (cc)
-  static-kind Static e q = refl
+  pub last-is-last : (kind : Kind) → LastIsTold kind f s.world.trace → LastWakerIsLast kind f s.world.trace
+  last-is-last kind e = last-forgotten kind f s.world.trace (λ l. ((h.leaves f).forgotten l).1) (λ l.
+      subst (λ (xs : Trace). (has is_drop_begun xs ≡ true) ⊎ ((kind ≡ Static) ⊎ (has is_leak_begun xs ≡ true)))
+      (take-all s.world.trace) (e (length s.world.trace)
+      (subst (λ (xs : Trace). has (is_last_waker f) xs ≡ true) (sym (take-all s.world.trace)) l)))
 
-  last-of : (kind : Kind) → is_static_kind kind ≡ s.world.is_static → (story f s.world.trace).last ≡ true →
-      (kind ≡ Static) × ((story f s.world.trace).detached ≡ true)
-  last-of kind e l = (static-kind kind e ((h.leaves f).forgotten l).0, ((h.leaves f).forgotten l).1)
-
-  pub last-is-last : (kind : Kind) → is_static_kind kind ≡ s.world.is_static → LastWakerIsLast kind f s.world.trace
-  last-is-last kind e = last-forgotten kind f s.world.trace (last-of kind e)
-
-  pub drop-caused : (kind : Kind) → is_static_kind kind ≡ s.world.is_static → EarlyDropHasCause kind f s.world.trace
-  drop-caused kind e = drop-has-cause kind f s.world.trace (h.leaves f).fair (λ l. (last-of kind e l).0)
+  pub drop-caused : (kind : Kind) → LastIsTold kind f s.world.trace → EarlyDropHasCause kind f s.world.trace
+  drop-caused kind e = drop-has-cause kind f s.world.trace (h.leaves f).fair (λ l. e _ l)
 
   pub dropped-by-the-end : IsDroppedByTheEnd f s.world.trace
   dropped-by-the-end e a =
@@ -199,14 +202,6 @@ module _ (s : Machine) (f : ℕ) (fine : Good s) (h : Placed s) where
     where
       or-past : (a b : ℕ) → (a < b) ⊎ (b ≤ a)
       or-past a b = grind arith
-
--- and of the kind of the machine
-pub places-of : (P : Kind → Machine → ℕ → Type 0) → ((kind : Kind) (s : Machine) (f : ℕ) → Good s → Placed s →
-    is_static_kind kind ≡ s.world.is_static → P kind s f) → (limit : ℕ) (kind : Kind) (parties : ℕ) (steps : List Step)
-    (f : ℕ) → P kind (run steps (start limit kind parties)) f
-places-of P k limit kind parties steps f =
-    k kind (run steps (start limit kind parties)) f (good limit kind parties steps) (placed limit kind parties steps)
-    (sym (is-of-kind limit kind parties steps))
 
 pub places : (P : Machine → ℕ → Type 0) → ((s : Machine) (f : ℕ) → Good s → Placed s → P s f) →
     (limit : ℕ) (kind : Kind) (parties : ℕ) (steps : List Step) (f : ℕ) → P (run steps (start limit kind parties)) f

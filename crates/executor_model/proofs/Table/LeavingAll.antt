@@ -32,6 +32,9 @@ use Rattle.executor_model.proofs.OneFuture.Views.{seen}
 use Rattle.executor_model.proofs.OneFuture.Passing.{goes-end}
 use Rattle.executor_model.proofs.OneFuture.Effects.{Effect, turned-keeps}
 use Rattle.executor_model.proofs.OneFuture.Effects.Effect.{passes, turns, refuses, enters, unlists, drops, takes_out, drops_next}
+use Rattle.executor_model.specs.Acts.{leak_out_by, leaked}
+use Rattle.executor_model.proofs.OneFuture.MoveViews.{HasAsked, leaked-keeps, leaks_out-keeps}
+use Rattle.executor_model.proofs.OneFuture.Effects.Effect.{leaks, leaks_out}
 
 leaves-refuses : (w : World) (f : ℕ) → w.queue.closed ≡ true →
     KeepsLeaves w (op.Queue (queue_op.Append f) ∷ []) (append_by false w f)
@@ -70,6 +73,14 @@ leaves-drops_next (x ∷ ls) ws p w f e g r y b h =
     let z : times g w.leaving ≡ same g f + times g (x ∷ ls) = ap (times g) e in
     grind (arith, same_is, times-append, story-push)
 
+leaves-leaks_out : (w : World) → w.is_static ≡ false → w.gone ≡ false →
+    KeepsLeaves w (op.Closing closing_op.LeakOut ∷ []) (leak_out_by false w)
+leaves-leaks_out w s n g r y b h = leaks_out-keeps Entered (λ x s n t h. grind arith) w s n g r y h
+
+leaves-leaked : (d : Done) (p f g : ℕ) (r : Pend) (y : Extra) → HasAsked d.world f → Entered (seen d.world g r y) →
+    Entered (seen (leaked p f d).world g r y)
+leaves-leaked d p f g r y a h = leaked-keeps Entered (λ x a h. grind arith) d.world p f g r y a h
+
 -- what it needs beside: room for a Runnable, or a closed queue; and room for a future
 abbrev pub NeedsPlaces : World → Op → Type 0
 NeedsPlaces w (op.Queue (queue_op.Append f)) = (not w.queue.closed && nat_lt (length w.queue.items) w.limit) ≡ false →
@@ -92,6 +103,8 @@ leaves-effect w old d n (drops p f) g r y b h = leaves-drops p f w g r y b h
 leaves-effect w old d n takes_out g r y b h = leaves-takes_out _ _ w refl g r y b h
 leaves-effect w old d n (drops_next p f rest e) g r y b h =
     leaves-drops_next rest (w.waking ++ f ∷ []) p w f e g r y b h
+leaves-effect w old d n (leaks_out s z) g r y b h = leaves-leaks_out w s z g r y b h
+leaves-effect w old _ n (leaks d p f e a) g r y b h = leaves-leaked d p f g _ _ a (leaves-effect w _ d n e g r y b h)
 
 -- the answers of user code
 pub leaves-pends : (p f : ℕ) (w : World) → KeepsLeaves w (op.User (user_op.Poll f) ∷ [])

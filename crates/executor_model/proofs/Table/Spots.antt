@@ -35,6 +35,7 @@ use Rattle.executor_model.proofs.Steps.Asides.{aside-closing}
 use Rattle.executor_model.proofs.Steps.Lists.{same_cases, weigh-below}
 use Rattle.executor_model.proofs.Steps.Nears.{leads_near, near-act, near_of}
 use Rattle.executor_model.proofs.Steps.Placing.{Spots, places, same-spots}
+use Rattle.executor_model.proofs.OneFuture.Effects.Effect.{leaks, leaks_out}
 
 abbrev pub is_inside : World → ℕ → Bool
 is_inside w g = get_or w.inside g false
@@ -101,6 +102,11 @@ falls-effect w old d g (unlists f e) = inl refl
 falls-effect w old d g (drops p f) = inr (op.User (user_op.BeginDrop f), (refl, refl))
 falls-effect w old d g takes_out = inl refl
 falls-effect w old d g (drops_next p f rest e) = inr (op.Closing closing_op.DropNext, (refl, refl))
+falls-effect w old d g (leaks_out s n) = inl refl
+falls-effect w old _ g (leaks d p f e a) = ⊎_elim
+    (λ (x : fallen d.world g ≡ fallen w g).
+    inl (ap (λ (s : Story). s.fallen) (story-push g d.world.trace (event.Leaked p f)) ∙ x))
+    (λ (x : LeadsNear (op.Closing closing_op.LeakNext ∷ [])). inr x) (falls-effect w (op.Closing closing_op.LeakNext ∷ []) d g e)
 
 -- each thing that is done
 

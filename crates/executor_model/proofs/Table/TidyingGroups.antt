@@ -33,6 +33,7 @@ use Rattle.executor_model.proofs.Table.Tidying.{light-register, light-let_go_by,
 use Rattle.executor_model.proofs.Table.Tidying.{no-give_up, no-release, no-wake, tidy-take, tidy-using}
 use Rattle.executor_model.proofs.Table.RunsTidying.{light-drop_run, light-poll_run, tidy-list, tidy-run, tidy-steal}
 use Rattle.executor_model.proofs.Table.SleepersTidying.{tidy-sleeper, tidy-tick}
+use Rattle.executor_model.proofs.Steps.Asides.{aside-leak_next, aside-leak_out}
 
 -- what it needs beside: a Runnable that is dropped is one of a future that has no entry any more
 abbrev pub NeedsNoEntry : World → Op → Type 0
@@ -92,6 +93,9 @@ tidy-act p h (op.Closing closing_op.TakeOut) w n = tidy-light _ _ (light-closing
 tidy-act p h (op.Closing closing_op.DropNext) w n = tidy-light _ _ (light-drop_next p w w.leaving)
 tidy-act p h (op.Closing closing_op.WakeNext) w n = tidy-light _ _ (light-wake_next p w w.waking)
 tidy-act p h (op.Closing closing_op.Drain) w n = tidy-light _ _ (light-drain p w w.queue.items)
+tidy-act p h (op.Closing closing_op.LeakOut) w n = tidy-light _ _ (aside-leak_out uses_of refl _ w)
+tidy-act p h (op.Closing closing_op.LeakNext) w n =
+    tidy-light _ _ (aside-leak_next uses_of refl light-wake _ p w w.waking)
 tidy-act p h _ w n = tidy-light _ _ refl
 
 pub tidy-react : (p : ℕ) (o : Op) (e : UserEnd) (w : World) → accepts o e ≡ true → Tidy (o ∷ []) (react p o e w).next

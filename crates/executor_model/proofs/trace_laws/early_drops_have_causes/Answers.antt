@@ -1,5 +1,6 @@
 use Rattle.executor_model.specs.EarlyDrop.{EarlyDropHasCause}
-use Rattle.executor_model.proofs.Table.Entering.{places-of, drop-caused}
+use Rattle.executor_model.proofs.Table.Leaking.{places-of}
+use Rattle.executor_model.proofs.Table.Entering.{drop-caused}
 use Rattle.executor_model.proofs.trace_laws.early_drops_have_causes.Goals as goal
 
 pub returns : goal.returns

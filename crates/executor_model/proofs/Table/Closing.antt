@@ -1,0 +1,437 @@
+-- For the_closing_drop_keeps_the_order and the_closing_drop_wakes_in_order.
+-- The table has the futures in the order of acceptance, so the executor's drop, which goes through it, drops them so.
+use Rattle.std.proofs.Common.{◌≡◌, ◌⊎◌, ℕ, ◌+◌, ◌<◌, ◌≤◌, List, [], ◌∷◌, ◌++◌, length, Bool, true, false, not, inl, inr}
+use Rattle.std.proofs.Common.{◌&&◌, ◌||◌, cond, eqb}
+use Rattle.std.specs.Prelude.{fold}
+use Rattle.std.proofs.Common.{⊎_elim, refl, sym, ap, ◌∙◌, subst, arith, append-nil}
+use Rattle.std.proofs.lemmas.List.{append_assoc}
+use Rattle.std.specs.Prelude.{reverse}
+use Rattle.task_moves.specs.Moves as moves
+use Rattle.task_moves.specs.declared.moves.owed.Move.{Move}
+use Rattle.task_moves.specs.declared.moves.owed.Move.TheVariants as move
+use Rattle.executor_model.specs.declared.call.Call.{Call}
+use Rattle.executor_model.specs.declared.call.Call.TheVariants as call
+use Rattle.executor_model.specs.declared.call.Reply.{Reply}
+use Rattle.executor_model.specs.declared.event.Event.{Event}
+use Rattle.executor_model.specs.declared.event.Event.TheVariants as event
+use Rattle.executor_model.specs.declared.kind.Kind.{Kind}
+use Rattle.executor_model.specs.declared.op.ClosingOp.TheVariants as closing_op
+use Rattle.executor_model.specs.declared.op.Hold.{Hold}
+use Rattle.executor_model.specs.declared.op.Op.{Op}
+use Rattle.executor_model.specs.declared.op.Op.TheVariants as op
+use Rattle.executor_model.specs.declared.op.RunOp.TheVariants as run_op
+use Rattle.executor_model.specs.declared.op.SleeperOp.TheVariants as sleeper_op
+use Rattle.executor_model.specs.declared.op.TableOp.TheVariants as table_op
+use Rattle.executor_model.specs.declared.op.UserOp.TheVariants as user_op
+use Rattle.executor_model.specs.declared.op.WakerOp.TheVariants as waker_op
+use Rattle.executor_model.specs.declared.step.Hint.{Hint}
+use Rattle.executor_model.specs.declared.step.Step.{Step}
+use Rattle.executor_model.specs.Acts.{closing_ops, drop_next_by, enter_by, leave_by, move_by, wake_next_by}
+use Rattle.executor_model.specs.ClosingOrder.{Ascends, DropsInOrder, accepted_in, dropped_in, dropped_since}
+use Rattle.executor_model.specs.Doing.{act}
+use Rattle.executor_model.specs.Good.{Good}
+use Rattle.executor_model.specs.Rows.{borrowing_of, drops_of, leaves_of, ousting_of}
+use Rattle.executor_model.specs.Sound.{times}
+use Rattle.executor_model.specs.Steps.{Machine, begun, is_drop, is_free, is_on_executor, is_unborrowed, has_all, mine, react, run, stack}
+use Rattle.executor_model.specs.Steps.{start, top}
+use Rattle.executor_model.specs.Trace.{Trace, has, is_accepted, is_drop_begun}
+use Rattle.executor_model.specs.Weights.{same, weigh, weigh_all}
+use Rattle.executor_model.specs.World.{World, Done, done, log, task}
+use Rattle.executor_model.proofs.OneFuture.Effects.{Effect}
+use Rattle.executor_model.proofs.OneFuture.Effects.Effect.{passes, turns, refuses, enters, unlists, drops, takes_out, drops_next}
+use Rattle.executor_model.proofs.OneFuture.EffectsWays.{Effects, effects-way}
+use Rattle.executor_model.proofs.OneFuture.EffectsWays.Effects.{does, pends, readies, closes}
+use Rattle.executor_model.proofs.OneFuture.Extras.{no_extra}
+use Rattle.executor_model.proofs.OneFuture.Stories.{story}
+use Rattle.executor_model.proofs.OneFuture.Telling.{accepted-counts, begun-has, same-cond}
+use Rattle.executor_model.proofs.OneFuture.Views.{none}
+use Rattle.executor_model.proofs.Steps.Asides.{Aside, aside-entry, aside-owed}
+use Rattle.executor_model.proofs.Steps.Growing.{split}
+use Rattle.executor_model.proofs.Steps.Hushed.{Hushed, Hushes, hushed-act, hushed-called, hushed-react, hushed-wake_next}
+use Rattle.executor_model.proofs.Steps.Lift.{good-start, none_refused, unsettled}
+use Rattle.executor_model.proofs.Steps.Listing.{Entries, entries, entries-move, lists, same-begun, same-entries, same-react}
+use Rattle.executor_model.proofs.Steps.Lists.{same_cases, weigh-append, weigh_all-push}
+use Rattle.executor_model.proofs.Steps.Ways.{Way, along}
+use Rattle.executor_model.proofs.Steps.Ways.Way.{acted, called, reacted}
+use Rattle.executor_model.proofs.Table.Ascending.{accepted-append, accepted-same, ascends-left, ascends-push, ascends-without}
+use Rattle.executor_model.proofs.Table.Ascending.{hushed-order, nothing-there, since-append, since-late, since-none, since-same}
+use Rattle.executor_model.proofs.Table.Ascending.{tells_order}
+use Rattle.executor_model.proofs.Table.LeavingExecutions.{Placed, placed-ends, placed-moves, placed-start}
+
+-- nothing leads to the taking out of the table but the beginning of the executor's drop
+
+no-oust : (m : Move) (f : ℕ) → ousting_of (op.Move m f) ≡ 0
+no-oust move.Wake f = refl
+no-oust _ f = refl
+
+ousts-aside : Aside ousting_of
+ousts-aside = record {
+  move = no-oust;
+  append = λ f. refl;
+  poll = λ f. refl;
+  drop = λ f. refl;
+  output = λ f. refl;
+  notify = λ f mine. refl;
+  call = λ f a k. refl;
+  goes = λ f. refl;
+}
+
+ousts-closing : (ls ws : List ℕ) → weigh ousting_of (closing_ops ls ws) ≡ 0
+ousts-closing [] [] = refl
+ousts-closing [] (x ∷ ws) = refl
+ousts-closing (x ∷ ls) ws = refl
+
+ousts-effect : (w : World) (old : List Op) (d : Done) → Effect w old d → weigh ousting_of d.next ≤ weigh ousting_of old
+ousts-effect w old d (passes s) = omega (arith, (s 0 none no_extra).passes.ousting)
+ousts-effect w old _ (turns d m p f v rest i j k s a e) =
+    let own : weigh ousting_of (move_by true m p v f).next ≡ 0 =
+    aside-owed ousting_of ousts-aside f _ (moves.after m (task v f)).owed in
+    omega (
+      arith,
+      own,
+      (s 0 none no_extra).passes.ousting,
+      no-oust m f,
+      ap (weigh ousting_of) e,
+      weigh-append ousting_of (move_by true m p v f).next rest,
+    )
+ousts-effect w old d (refuses f e) = omega arith
+ousts-effect w old d (enters p e) = omega arith
+ousts-effect w old _ (unlists f e) = omega (arith, aside-entry ousting_of ousts-aside w.is_static f)
+ousts-effect w old d (drops p f) = omega arith
+ousts-effect w old d takes_out = omega (arith, ousts-closing w.table w.waking)
+ousts-effect w old d (drops_next p f rest e) = omega (arith, ousts-closing rest (w.waking ++ f ∷ []))
+
+ousts : (w : World) (ss : List (List Op)) (old : List Op) (d : Done) → Effects w ss old d →
+    (weigh ousting_of d.next ≤ weigh ousting_of old) ⊎ (w.gone ≡ false)
+ousts w ss old d (does x) = inl (ousts-effect w old d x)
+ousts w ss old d (pends p f) = inl (omega arith)
+ousts w ss old d (readies p f) = inl (omega arith)
+ousts w ss old d (closes p n u) = inr n
+
+same-self : (f : ℕ) → same f f ≡ 1
+same-self f = grind (arith, same_cases)
+
+-- at every moment
+
+pub record Ordered (s : Machine) : Type 0 where
+  pub placed : Placed s
+  pub accepted : Ascends (accepted_in s.world.trace)
+  pub table : Ascends s.world.table
+  pub closing : Ascends (dropped_since s.world.trace ++ s.world.leaving)
+  pub first : 1 ≤ weigh_all ousting_of s.parties → dropped_since s.world.trace ≡ []
+  pub waits : Ascends (s.world.waking ++ s.world.leaving)
+  pub unwoken : dropped_since s.world.trace ≡ [] → s.world.waking ≡ []
+
+some-last : (xs : List ℕ) (f : ℕ) → xs ++ f ∷ [] ≡ [] → ⊥
+some-last [] f e = absurd (cc)
+some-last (x ∷ xs) f e = absurd (cc)
+
+-- how many times a future was accepted
+accepted-from : (g n : ℕ) (es : Trace) →
+    n + times g (accepted_in es) ≡ fold (λ a x. a + cond (is_accepted g x) 1 0) n es
+accepted-from g n [] = omega arith
+accepted-from g n (event.Accepted p f ∷ es) =
+    omega (arith, accepted-from g (n + cond (eqb g f) 1 0) es, same-cond g f)
+accepted-from g n (_ ∷ es) = omega (arith, accepted-from g (n + 0) es)
+
+times-accepted : (g : ℕ) (es : Trace) → times g (accepted_in es) ≡ (story g es).accepted
+times-accepted g es = omega (arith, accepted-from g 0 es, accepted-counts g es)
+
+under : (n g a t : ℕ) → (n ≤ g → a ≡ 0) → t ≤ a → 1 ≤ t → g < n
+under n g a t k l m = grind arith
+
+-- what is told and what stands in both lists behind a thing that is done
+module _ (s : Machine) (fine : Good s) (h : Ordered s) where
+  record After (v : World) : Type 0 where
+    pub accepted : Ascends (accepted_in v.trace)
+    pub table : Ascends v.table
+    pub closing : Ascends (dropped_since v.trace ++ v.leaving)
+    pub first : (s.world.gone ≡ false) ⊎ (1 ≤ weigh_all ousting_of s.parties) → dropped_since v.trace ≡ []
+    pub waits : Ascends (v.waking ++ v.leaving)
+    pub unwoken : dropped_since v.trace ≡ [] → v.waking ≡ []
+
+  begun-is : has is_drop_begun s.world.trace ≡ s.world.gone
+  begun-is = sym (begun-has 0 s.world.trace) ∙ (h.placed.leaves 0).begun
+
+  was : (s.world.gone ≡ false) ⊎ (1 ≤ weigh_all ousting_of s.parties) → dropped_since s.world.trace ≡ []
+  was (inl n) = since-none s.world.trace (begun-is ∙ n)
+  was (inr l) = h.first l
+
+  -- where nothing changes
+  stays : (v : World) → entries s.world ≡ entries v → Hushed tells_order hushed-order s.world v → After v
+  stays v e k = record {
+    accepted = subst Ascends (sym (ap accepted_in k.is ∙ accepted-same s.world.trace k.more k.none)) h.accepted;
+    table = subst Ascends (ap (λ (x : Entries). x.table) e) h.table;
+    closing = subst (λ (xs : List ℕ). Ascends (xs ++ v.leaving))
+        (sym (ap dropped_since k.is ∙ since-same s.world.trace k.more k.none))
+        (subst (λ (xs : List ℕ). Ascends (dropped_since s.world.trace ++ xs))
+        (ap (λ (x : Entries). x.leaving) e) h.closing);
+    first = λ x. ap dropped_since k.is ∙ (since-same s.world.trace k.more k.none ∙ was x);
+    waits = subst (λ (x : Entries). Ascends (x.waking ++ x.leaving)) e h.waits;
+    unwoken = λ z. sym (ap (λ (x : Entries). x.waking) e)
+        ∙ h.unwoken (sym (ap dropped_since k.is ∙ since-same s.world.trace k.more k.none) ∙ z);
+  }
+
+  -- a future is taken in
+
+  pub same-late : (e : Event) → dropped_in (e ∷ []) ≡ [] → dropped_since (e ∷ []) ≡ [] →
+      dropped_since (s.world.trace ++ e ∷ []) ≡ dropped_since s.world.trace
+  same-late e a b = by (has is_drop_begun s.world.trace) refl
+    where
+      by : (c : Bool) → has is_drop_begun s.world.trace ≡ c →
+          dropped_since (s.world.trace ++ e ∷ []) ≡ dropped_since s.world.trace
+      by true q = since-append s.world.trace (e ∷ []) q
+          ∙ (ap (λ (xs : List ℕ). dropped_since s.world.trace ++ xs) a ∙ append-nil (dropped_since s.world.trace))
+      by false q = since-late s.world.trace (e ∷ []) q ∙ (b ∙ sym (since-none s.world.trace q))
+
+  known : (g : ℕ) → 1 ≤ times g (accepted_in s.world.trace) → g < length s.world.tasks
+  known g l = under (length s.world.tasks) g (story g s.world.trace).accepted _ (h.placed.leaves g).fresh
+      (omega (arith, times-accepted g s.world.trace)) l
+
+  entered : s.world.gone ≡ false → (g : ℕ) → 1 ≤ times g s.world.table → g < length s.world.tasks
+  entered n g l = under (length s.world.tasks) g (story g s.world.trace).accepted _ (h.placed.leaves g).fresh
+      (omega (arith, (h.placed.leaves g).table (inl n), (h.placed.leaves g).behind)) l
+
+  unchanged : After s.world
+  unchanged = stays s.world refl (record { more = []; is = sym (append-nil s.world.trace); none = refl })
+
+  after-enter : (b c : Bool) (p : ℕ) → s.world.gone ≡ false → After (enter_by b c p s.world).world
+  after-enter true c p n = unchanged
+  after-enter false true p n = unchanged
+  after-enter false false p n =
+      let e : Event = event.Accepted p (length s.world.tasks) in record {
+        accepted = subst Ascends (sym (accepted-append s.world.trace (e ∷ [])))
+            (ascends-push (accepted_in s.world.trace) (length s.world.tasks) known h.accepted);
+        table = ascends-push s.world.table (length s.world.tasks) (entered n) h.table;
+        closing = subst (λ (xs : List ℕ). Ascends (xs ++ s.world.leaving)) (sym (same-late e refl refl)) h.closing;
+        first = λ x. same-late e refl refl ∙ was x;
+        waits = h.waits;
+        unwoken = λ z. h.unwoken (sym (same-late e refl refl) ∙ z);
+      }
+
+  -- an entry is taken out
+  after-leave : (b : Bool) (f : ℕ) → After (leave_by b s.world f).world
+  after-leave true f = record {
+    accepted = h.accepted;
+    table = ascends-without f s.world.table h.table;
+    closing = h.closing;
+    first = was;
+    waits = h.waits;
+    unwoken = h.unwoken;
+  }
+  after-leave false f = unchanged
+
+  -- a future's drop begins, where the executor's hasn't
+  after-drop : (p f : ℕ) → s.world.gone ≡ false → After (log s.world (event.Dropped p f))
+  after-drop p f n =
+      let e : Event = event.Dropped p f in
+      let q : has is_drop_begun s.world.trace ≡ false = begun-is ∙ n in
+      let z : dropped_since (s.world.trace ++ e ∷ []) ≡ dropped_since s.world.trace =
+      since-late s.world.trace (e ∷ []) q ∙ sym (since-none s.world.trace q) in record {
+        accepted = subst Ascends (sym (accepted-append s.world.trace (e ∷ []) ∙ append-nil (accepted_in s.world.trace)))
+            h.accepted;
+        table = h.table;
+        closing = subst (λ (xs : List ℕ). Ascends (xs ++ s.world.leaving)) (sym z) h.closing;
+        first = λ x. z ∙ was x;
+        waits = h.waits;
+        unwoken = λ k. h.unwoken (sym z ∙ k);
+      }
+
+  -- the table is taken out
+  after-out : 1 ≤ weigh_all ousting_of s.parties →
+      After (record s.world { table = s.world.leaving; leaving = s.world.table })
+  after-out l =
+      let none : s.world.leaving ≡ [] = nothing-there s.world.leaving (λ g. (h.placed.leaves g).before l) in record {
+        accepted = h.accepted;
+        table = subst Ascends (sym none) tt;
+        closing = subst (λ (xs : List ℕ). Ascends (xs ++ s.world.table)) (sym (h.first l)) h.table;
+        first = was;
+        waits = subst (λ (xs : List ℕ). Ascends (xs ++ s.world.table)) (sym (h.unwoken (h.first l))) h.table;
+        unwoken = h.unwoken;
+      }
+
+  -- the next is dropped
+  after-next : (p : ℕ) (ls : List ℕ) → s.world.leaving ≡ ls → After (drop_next_by p s.world ls).world
+  after-next p [] e = unchanged
+  after-next p (f ∷ rest) e =
+      let there : 1 ≤ times f s.world.leaving = omega (arith, ap (times f) e, same-self f) in
+      let gone : s.world.gone ≡ true = (fine.sound f).ousted (omega (arith, there)) in
+      let new : Event = event.Dropped p f in
+      let z : dropped_since (s.world.trace ++ new ∷ []) ≡ dropped_since s.world.trace ++ f ∷ [] =
+      since-append s.world.trace (new ∷ []) (begun-is ∙ gone) in record {
+        accepted = subst Ascends (sym (accepted-append s.world.trace (new ∷ []) ∙ append-nil (accepted_in s.world.trace)))
+            h.accepted;
+        table = h.table;
+        closing = subst (λ (xs : List ℕ). Ascends (xs ++ rest)) (sym z)
+            (subst Ascends (sym (append_assoc (dropped_since s.world.trace) (f ∷ []) rest))
+            (subst (λ (xs : List ℕ). Ascends (dropped_since s.world.trace ++ xs)) e h.closing));
+        first = λ x. absurd (⊎_elim
+            (λ (n : s.world.gone ≡ false). let no : true ≡ false = sym gone ∙ n in let r : ⊥ = absurd (cc) in r)
+            (λ (l : 1 ≤ weigh_all ousting_of s.parties).
+            let r : ⊥ = absurd (omega (arith, there, (h.placed.leaves f).before l)) in r) x);
+        waits = subst Ascends (sym (append_assoc s.world.waking (f ∷ []) rest))
+            (subst (λ (xs : List ℕ). Ascends (s.world.waking ++ xs)) e h.waits);
+        unwoken = λ k. absurd (some-last (dropped_since s.world.trace) f (sym z ∙ k));
+      }
+
+  -- the next is woken
+  after-wake : (p : ℕ) (ls : List ℕ) → s.world.waking ≡ ls → After (wake_next_by p s.world ls).world
+  after-wake p [] e = unchanged
+  after-wake p (f ∷ rest) e =
+      let v : World = record s.world { waking = rest } in
+      let now : World = (wake_next_by p s.world (f ∷ rest)).world in
+      let k = hushed-wake_next tells_order hushed-order p s.world (f ∷ rest) in
+      let same_lists : entries v ≡ entries now = entries-move true move.Wake p v f in
+      let z : dropped_since now.trace ≡ dropped_since s.world.trace =
+      ap dropped_since k.is ∙ since-same s.world.trace k.more k.none in record {
+        accepted = subst Ascends (sym (ap accepted_in k.is ∙ accepted-same s.world.trace k.more k.none)) h.accepted;
+        table = subst Ascends (ap (λ (x : Entries). x.table) same_lists) h.table;
+        closing = subst (λ (xs : List ℕ). Ascends (xs ++ now.leaving)) (sym z)
+            (subst (λ (xs : List ℕ). Ascends (dropped_since s.world.trace ++ xs))
+            (ap (λ (x : Entries). x.leaving) same_lists) h.closing);
+        first = λ x. z ∙ was x;
+        waits = subst (λ (x : Entries). Ascends (x.waking ++ x.leaving)) same_lists
+            (subst (λ (xs : List ℕ). Ascends (xs ++ s.world.leaving)) e h.waits).1;
+        unwoken = λ y. let no : f ∷ rest ≡ [] = sym e ∙ h.unwoken (sym z ∙ y) in absurd (cc);
+      }
+
+  -- the executor's drop begins
+  after-begun : (p : ℕ) → s.world.gone ≡ false →
+      After (log (record (log s.world (event.CallBegun p call.DropExecutor)) { gone = true }) (event.DropBegun p))
+  after-begun p n =
+      let a : Trace = event.CallBegun p call.DropExecutor ∷ [] in
+      let more : Trace = event.CallBegun p call.DropExecutor ∷ event.DropBegun p ∷ [] in
+      let q : has is_drop_begun s.world.trace ≡ false = begun-is ∙ n in
+      let i : (s.world.trace ++ a) ++ event.DropBegun p ∷ [] ≡ s.world.trace ++ more =
+      append_assoc s.world.trace a (event.DropBegun p ∷ []) in
+      let z : dropped_since ((s.world.trace ++ a) ++ event.DropBegun p ∷ []) ≡ [] =
+      ap dropped_since i ∙ since-late s.world.trace more q in record {
+        accepted = subst Ascends (sym (ap accepted_in i
+            ∙ (accepted-append s.world.trace more ∙ append-nil (accepted_in s.world.trace)))) h.accepted;
+        table = h.table;
+        closing = subst (λ (xs : List ℕ). Ascends (xs ++ s.world.leaving)) (since-none s.world.trace q ∙ sym z) h.closing;
+        first = λ x. z;
+        waits = h.waits;
+        unwoken = λ k. h.unwoken (since-none s.world.trace q);
+      }
+
+  -- each thing that is done
+
+  module _ (p : ℕ) (rest : List Op) (l : p < length s.parties) where
+    open-still : (o : Op) → stack s p ≡ rest ++ reverse (o ∷ []) → 1 ≤ borrowing_of o → s.world.gone ≡ false
+    open-still o e n = by s.world.gone (fine.sound 0).lent
+      where
+        by : (b : Bool) → (b ≡ true → weigh_all borrowing_of s.parties ≡ 0) → b ≡ false
+        by false k = refl
+        by true k = absurd (omega (arith, k refl, n, split borrowing_of s.parties p (o ∷ []) rest l e))
+
+    open-drop : (f : ℕ) → stack s p ≡ rest ++ reverse (op.User (user_op.BeginDrop f) ∷ []) → s.world.gone ≡ false
+    open-drop f e = by s.world.gone (h.placed.leaves f).still
+      where
+        by : (b : Bool) → (b ≡ true → weigh_all (drops_of f) s.parties + weigh_all (leaves_of f) s.parties ≡ 0) → b ≡ false
+        by false k = refl
+        by true k = absurd (omega (
+          arith,
+          k refl,
+          same-self f,
+          split (drops_of f) s.parties p (op.User (user_op.BeginDrop f) ∷ []) rest l e,
+        ))
+
+    plain : (t : Hint) (o : Op) → lists o ≡ false → Hushes tells_order hushed-order p o → After (act p t o s.world).world
+    plain t o n z = stays (act p t o s.world).world (same-entries p t o s.world n)
+        (hushed-act tells_order hushed-order p t o s.world z)
+
+    after-act : (t : Hint) (o : Op) → stack s p ≡ rest ++ reverse (o ∷ []) → After (act p t o s.world).world
+    after-act t (op.Table table_op.Enter) e = after-enter _ _ p (open-still (op.Table table_op.Enter) e (omega arith))
+    after-act t (op.Table (table_op.LeaveTable f)) e = after-leave _ f
+    after-act t (op.Closing closing_op.TakeOut) e =
+        after-out (omega (arith, split ousting_of s.parties p (op.Closing closing_op.TakeOut ∷ []) rest l e))
+    after-act t (op.Closing closing_op.DropNext) e = after-next p s.world.leaving refl
+    after-act t (op.Closing closing_op.WakeNext) e = after-wake p s.world.waking refl
+    after-act t (op.User (user_op.BeginDrop f)) e = after-drop p f (open-drop f e)
+    after-act t (op.Waker (waker_op.CallAwaiter f a k)) e = plain t (op.Waker (waker_op.CallAwaiter f a k)) refl refl
+    after-act t (op.Sleeper (sleeper_op.CallSleeper x)) e = plain t (op.Sleeper (sleeper_op.CallSleeper x)) refl refl
+    after-act t (op.Run (run_op.WakeOwn x)) e = plain t (op.Run (run_op.WakeOwn x)) refl refl
+    after-act t o e = plain t o refl tt
+
+    after-call : (c : Call) → not (s.world.gone && is_on_executor c) ≡ true →
+        After (begun p (log s.world (event.CallBegun p c)) (mine (top (stack s p))) c).world
+    after-call call.DropExecutor n = after-begun p (by s.world.gone n)
+      where
+        by : (b : Bool) → not (b && true) ≡ true → b ≡ false
+        by false k = refl
+        by true k = absurd (cc)
+    after-call c n = stays (begun p (log s.world (event.CallBegun p c)) (mine (top (stack s p))) c).world
+        (same-begun p (log s.world (event.CallBegun p c)) (mine (top (stack s p))) c)
+        (hushed-called tells_order hushed-order p s.world (mine (top (stack s p))) c tt)
+
+    after-way : (old : List Op) (d : Done) → stack s p ≡ rest ++ reverse old → Way s p old rest d → After d.world
+    after-way old d e (acted t o q z) =
+        subst (λ (x : Done). After x.world) (sym z)
+        (after-act t o (subst (λ (os : List Op). stack s p ≡ rest ++ reverse os) q e))
+    after-way old d e (reacted o u a q z) =
+        subst (λ (x : Done). After x.world) (sym z) (stays (react p o u s.world).world (same-react p o u s.world a)
+        (hushed-react tells_order hushed-order p o u s.world))
+    after-way old d e (called c q r n z) =
+        let x : _ = none_refused (is_free (top (stack s p))) (has_all s.world s.parties (top (stack s p)) c)
+        (not (s.world.gone && is_on_executor c)) (not (is_drop c && s.world.is_static))
+        (not (is_drop c) || is_unborrowed s.world s.parties) n in
+        subst (λ (y : Done). After y.world) (sym z) (after-call c x.2)
+
+ordered-moves : (s : Machine) (p : ℕ) (old rest : List Op) (d : Done) → Good s → p < length s.parties →
+    stack s p ≡ rest ++ reverse old → Way s p old rest d → Ordered s → Ordered (unsettled s p rest d)
+ordered-moves s p old rest d fine l e way h =
+    let a = after-way s fine h p rest l old d e way in
+    let now = weigh_all-push ousting_of s.parties p rest d.next l in
+    let before = split ousting_of s.parties p old rest l e in record {
+      placed = placed-moves s p old rest d fine l e way h.placed;
+      accepted = a.accepted;
+      table = a.table;
+      closing = a.closing;
+      waits = a.waits;
+      unwoken = a.unwoken;
+      first = λ n. a.first (⊎_elim
+          (λ (x : weigh ousting_of d.next ≤ weigh ousting_of old).
+          let y : (s.world.gone ≡ false) ⊎ (1 ≤ weigh_all ousting_of s.parties) = inr (omega (arith, x, n, now, before)) in y)
+          (λ (x : s.world.gone ≡ false). let y : (s.world.gone ≡ false) ⊎ (1 ≤ weigh_all ousting_of s.parties) = inl x in y)
+          (ousts s.world s.parties old d (effects-way s p old rest d fine l e way)));
+    }
+
+ordered-ends : (s : Machine) (p : ℕ) (a : Reply) (held : Hold) (below : List Op) → p < length s.parties →
+    stack s p ≡ below ++ reverse (op.End a held ∷ []) → Ordered s →
+    Ordered (unsettled s p below (done (log s.world (event.CallEnded p a)) []))
+ordered-ends s p a held below l e h =
+    let es : Trace = s.world.trace in
+    let end : Trace = event.CallEnded p a ∷ [] in
+    let now = weigh_all-push ousting_of s.parties p below [] l in
+    let before = split ousting_of s.parties p (op.End a held ∷ []) below l e in record {
+      placed = placed-ends s p a held below l e h.placed;
+      accepted = subst Ascends (sym (accepted-same es end refl)) h.accepted;
+      table = h.table;
+      closing = subst (λ (xs : List ℕ). Ascends (xs ++ s.world.leaving)) (sym (since-same es end refl)) h.closing;
+      first = λ n. since-same es end refl ∙ h.first (omega (arith, n, now, before));
+      waits = h.waits;
+      unwoken = λ z. h.unwoken (sym (since-same es end refl) ∙ z);
+    }
+
+ordered-start : (limit : ℕ) (kind : Kind) (n : ℕ) → Ordered (start limit kind n)
+ordered-start limit kind n = record {
+  placed = placed-start limit kind n;
+  accepted = tt;
+  table = tt;
+  closing = tt;
+  first = λ x. refl;
+  waits = tt;
+  unwoken = λ x. refl;
+}
+
+pub ordered : (limit : ℕ) (kind : Kind) (parties : ℕ) (steps : List Step) → Ordered (run steps (start limit kind parties))
+ordered limit kind parties steps = along Ordered ordered-moves ordered-ends steps (start limit kind parties)
+    (good-start limit kind parties) (ordered-start limit kind parties)
+
+pub drops-in-order : (limit : ℕ) (kind : Kind) (parties : ℕ) (steps : List Step) →
+    DropsInOrder (run steps (start limit kind parties))
+drops-in-order limit kind parties steps = let h = ordered limit kind parties steps in record {
+  accepted = h.accepted;
+  dropped = ascends-left (dropped_since (run steps (start limit kind parties)).world.trace) _ h.closing;
+}

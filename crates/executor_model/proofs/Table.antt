@@ -22,3 +22,5 @@ pub mod ClosingWakes
 pub mod LeakCounts
 pub mod LastWakers
 pub mod Leaking
+pub mod LeakWithin
+pub mod LeakWakes

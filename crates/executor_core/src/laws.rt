@@ -10,7 +10,8 @@ ghost use Rattle.executor_model.specs.ClosingWakes.{WakesInOrder};
 ghost use Rattle.executor_model.specs.CallsMean.{CallsDoWhatTheySay};
 ghost use Rattle.executor_model.specs.LawfulPolls.{HasLawfulPolls};
 ghost use Rattle.executor_model.specs.OutputOnce.{OutputGoesOnce};
-ghost use Rattle.executor_model.specs.Executions.{EveryMachine};
+ghost use Rattle.executor_model.specs.Executions.{EveryExecution, EveryMachine};
+ghost use Rattle.executor_model.specs.LeakWakes.{LeakWakes};
 ghost use Rattle.executor_model.specs.OutsideWakers.{OutsideWakersAreCalled};
 ghost use Rattle.executor_model.specs.SpawnsMean.{SpawnsAreLimited};
 ghost use Rattle.executor_model.specs.WakersMean.{WakersWakeTheirOwn};
@@ -25,7 +26,7 @@ use executor_laws::laws::{
     runs_reach_futures, some_standing_is_called, ticks_are_exact, traces_continue,
 };
 use executor_model::call_laws::{
-    calls_do_what_they_say, outside_wakers_are_called, spawns_are_limited,
+    calls_do_what_they_say, leaks_wake_each_future, outside_wakers_are_called, spawns_are_limited,
     the_closing_drop_keeps_the_order, the_closing_drop_wakes_in_order, wakers_wake_their_own,
 };
 use executor_model::laws::{
@@ -116,6 +117,7 @@ fn laws_of_calls()
     ensures outside { EveryMachine OutsideWakersAreCalled }
     ensures order { EveryMachine DropsInOrder }
     ensures wakes_order { EveryMachine WakesInOrder }
+    ensures leaks { EveryExecution LeakWakes }
 {
     calls_do_what_they_say();
     spawns_are_limited();
@@ -123,4 +125,5 @@ fn laws_of_calls()
     outside_wakers_are_called();
     the_closing_drop_keeps_the_order();
     the_closing_drop_wakes_in_order();
+    leaks_wake_each_future();
 }

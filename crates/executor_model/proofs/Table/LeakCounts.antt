@@ -1,4 +1,4 @@
--- For early_drops_have_causes and last_wakers_are_of_detached_futures.
+-- For early_drops_have_causes, last_wakers_are_of_detached_futures and leaks_wake_each_future.
 -- Who is about to take the wakers out of the table has begun a leak: nothing that is done leads there.
 use Rattle.std.proofs.Common.{◌≡◌, ◌⊎◌, ◌≤◌, ◌||◌, ℕ, List, [], ◌∷◌, ◌++◌, Bool, true, false, inl, inr, refl, arith}
 use Rattle.std.specs.Prelude.{Option, Some, None}
@@ -39,7 +39,7 @@ use Rattle.executor_model.specs.Doing.{act}
 use Rattle.executor_model.specs.Steps.{begun, drop_run, future_of, kept, poll_run, react, with_future}
 use Rattle.executor_model.specs.Weights.{weigh}
 use Rattle.executor_model.specs.World.{World, Stage, New, Listed, Ended, Done, awaiter_of, log, run_of, task}
-use Rattle.executor_model.proofs.Steps.Asides.{aside-entry, Aside, aside-awaiter, aside-leak_next, aside-leak_out}
+use Rattle.executor_model.proofs.Steps.Asides.{aside-entry, Aside, aside-awaiter}
 use Rattle.executor_model.proofs.Steps.Asides.{aside-let_go, aside-let_go_by, aside-owed, aside-told}
 use Rattle.executor_model.proofs.Steps.Lists.{weigh-append}
 use Rattle.executor_model.proofs.Steps.RunsNext.{BlindToRuns, list-blind, run-blind, steal-blind, tick-blind}

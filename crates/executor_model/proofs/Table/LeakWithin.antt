@@ -1,6 +1,6 @@
 -- For leaks_wake_each_future.
 -- What is to be done of a leak belongs to a leak that is in progress.
-use Rattle.std.proofs.Common.{◌≡◌, ◌⊎◌, ⊎_elim, ℕ, suc, ◌<◌, ◌≤◌, List, [], ◌∷◌, ◌++◌, length, Bool, false, get_or}
+use Rattle.std.proofs.Common.{◌≡◌, ⊎_elim, ℕ, suc, ◌<◌, ◌≤◌, List, [], ◌∷◌, ◌++◌, length, false, get_or}
 use Rattle.std.proofs.Common.{refl, sym, ap, ◌∙◌, subst, arith}
 use Rattle.std.specs.Prelude.{reverse}
 use Rattle.executor_model.specs.declared.call.Call.{Call}
@@ -18,7 +18,7 @@ use Rattle.executor_model.specs.declared.event.Event.TheVariants as event
 use Rattle.executor_model.specs.Calls.{Begun, calls}
 use Rattle.executor_model.specs.Doing.{act}
 use Rattle.executor_model.specs.Rows.{leaking_of}
-use Rattle.executor_model.specs.Steps.{Machine, begun, mine, react, stack, start, top}
+use Rattle.executor_model.specs.Steps.{Machine, begun, mine, stack, start, top}
 use Rattle.executor_model.specs.Trace.{Trace}
 use Rattle.executor_model.specs.Weights.{weigh, weigh_all}
 use Rattle.executor_model.specs.World.{World, Done, done, log}

@@ -44,3 +44,4 @@ pub mod WakersMean
 pub mod OutsideWakers
 pub mod ClosingOrder
 pub mod ClosingWakes
+pub mod GivenWakers

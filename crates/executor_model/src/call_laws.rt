@@ -4,6 +4,7 @@ ghost use Rattle.executor_model.specs.ClosingOrder.{DropsInOrder};
 ghost use Rattle.executor_model.specs.ClosingWakes.{WakesInOrder};
 ghost use Rattle.executor_model.specs.EveryTrace.{EveryTrace};
 ghost use Rattle.executor_model.specs.Executions.{EveryMachine};
+ghost use Rattle.executor_model.specs.GivenWakers.{PollsKeepTheirWakers};
 ghost use Rattle.executor_model.specs.OutsideWakers.{OutsideWakersAreCalled};
 ghost use Rattle.executor_model.specs.SpawnsMean.{SpawnsAreLimited};
 ghost use Rattle.executor_model.specs.WakersMean.{WakersWakeTheirOwn};
@@ -37,6 +38,13 @@ pub fn wakers_wake_their_own()
 /// user code of that waker, before anything else.
 pub fn outside_wakers_are_called()
     ensures { EveryMachine OutsideWakersAreCalled }
+{}
+
+/// Whatever the parties do, a poll of a handle, of a tick or of a run keeps the waker that it was given, which is the waker
+/// of the poll in which its party stood as the call began, or the one from outside that the call names: what the machine
+/// keeps of that poll has no other waker, and no other is called for it.
+pub fn polls_keep_their_wakers()
+    ensures { EveryMachine PollsKeepTheirWakers }
 {}
 
 /// Whatever the parties do, futures are numbered in the order in which they are accepted, and those that are dropped since

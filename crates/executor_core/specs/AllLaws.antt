@@ -14,8 +14,10 @@ use Rattle.executor_model.specs.DroppedOnce.{DropComesOnce, IsDroppedByTheEnd}
 use Rattle.executor_model.specs.EarlyDrop.{EarlyDropHasCause, LastWakerIsLast}
 use Rattle.executor_model.specs.Emptiness.{IsEmptinessExact, IsQuietEmptinessExact}
 use Rattle.executor_model.specs.Entries.{FindsPlace, OwnAgrees, QueueAgrees, TableAgrees}
+use Rattle.executor_model.specs.GivenWakers.{PollsKeepTheirWakers}
 use Rattle.executor_model.specs.HandingOn.{HandsOn, IsOnItsWay}
 use Rattle.executor_model.specs.InPlace.{IsInPlace}
+use Rattle.executor_model.specs.LastTold.{ClosingSaysWhy}
 use Rattle.executor_model.specs.LawfulPolls.{HasLawfulPolls}
 use Rattle.executor_model.specs.Limit.{IsLimitExact}
 use Rattle.executor_model.specs.Memory.{NeedsNoMemory}
@@ -142,6 +144,10 @@ pub record AllLaws (s : Machine) : Type 0 where
   pub wakers : WakersWakeTheirOwn s
   -- an outside waker that is told of as called is called
   pub outside : OutsideWakersAreCalled s
+  -- a poll keeps the waker that it was given, and no other is called for it
+  pub given : PollsKeepTheirWakers s
+  -- a step that closes an open task says why: nobody is left who could wake its future, or it was cancelled
+  pub why : ClosingSaysWhy s
   -- the executor's drop drops the futures in the order of acceptance, and wakes them so
   pub order : DropsInOrder s
   pub wakes_order : WakesInOrder s

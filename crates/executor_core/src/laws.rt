@@ -8,6 +8,8 @@ ghost use Rattle.executor_model.specs.EveryTrace.{EveryTrace, EveryTraceBy};
 ghost use Rattle.executor_model.specs.ClosingOrder.{DropsInOrder};
 ghost use Rattle.executor_model.specs.ClosingWakes.{WakesInOrder};
 ghost use Rattle.executor_model.specs.CallsMean.{CallsDoWhatTheySay};
+ghost use Rattle.executor_model.specs.GivenWakers.{PollsKeepTheirWakers};
+ghost use Rattle.executor_model.specs.LastTold.{ClosingSaysWhy};
 ghost use Rattle.executor_model.specs.LawfulPolls.{HasLawfulPolls};
 ghost use Rattle.executor_model.specs.OutputOnce.{OutputGoesOnce};
 ghost use Rattle.executor_model.specs.Executions.{EveryMachine};
@@ -25,7 +27,8 @@ use executor_laws::laws::{
     runs_reach_futures, some_standing_is_called, ticks_are_exact, traces_continue,
 };
 use executor_model::call_laws::{
-    calls_do_what_they_say, outside_wakers_are_called, spawns_are_limited,
+    calls_do_what_they_say, closings_say_why, outside_wakers_are_called, polls_keep_their_wakers,
+    spawns_are_limited,
     the_closing_drop_keeps_the_order, the_closing_drop_wakes_in_order, wakers_wake_their_own,
 };
 use executor_model::laws::{
@@ -114,6 +117,8 @@ fn laws_of_calls()
     ensures spawns { EveryMachine SpawnsAreLimited }
     ensures wakers { EveryMachine WakersWakeTheirOwn }
     ensures outside { EveryMachine OutsideWakersAreCalled }
+    ensures given { EveryMachine PollsKeepTheirWakers }
+    ensures why { EveryMachine ClosingSaysWhy }
     ensures order { EveryMachine DropsInOrder }
     ensures wakes_order { EveryMachine WakesInOrder }
 {
@@ -121,6 +126,8 @@ fn laws_of_calls()
     spawns_are_limited();
     wakers_wake_their_own();
     outside_wakers_are_called();
+    polls_keep_their_wakers();
+    closings_say_why();
     the_closing_drop_keeps_the_order();
     the_closing_drop_wakes_in_order();
 }

@@ -22,3 +22,4 @@ pub mod ClosingWakes
 pub mod LeakCounts
 pub mod LastWakers
 pub mod Leaking
+pub mod LastTold

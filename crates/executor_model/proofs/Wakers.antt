@@ -2,3 +2,5 @@
 pub mod Names
 pub mod NamesActs
 pub mod NamesGroups
+pub mod NamesWays
+pub mod GivenWakers

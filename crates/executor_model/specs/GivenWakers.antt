@@ -13,9 +13,9 @@ use Rattle.executor_model.specs.declared.op.Waker.{Waker}
 use Rattle.executor_model.specs.declared.op.Waker.TheVariants as waker
 use Rattle.executor_model.specs.declared.step.Step.{Step}
 use Rattle.executor_model.specs.declared.step.Step.TheVariants.{Begin}
-use Rattle.executor_model.specs.Deeds.{deeds}
+use Rattle.executor_model.specs.Deeds.{is_by}
 use Rattle.executor_model.specs.Steps.{Machine, mine, refusal, run, stack, step, stepped, top}
-use Rattle.executor_model.specs.Trace.{Trace}
+use Rattle.executor_model.specs.Trace.{Trace, has}
 use Rattle.executor_model.specs.World.{World, awaiter_of}
 
 -- the waker that a poll is given: the one of the poll in which its party stands, or one from outside
@@ -49,5 +49,5 @@ PollsKeepTheirWakers s =
     (p : ℕ) (c : Call) (a : Waker) → refusal s (Begin p c) ≡ None → given (mine (top (stack s p))) c ≡ Some a →
     (steps : List Step) (between later : Trace) (e : Event) →
     (run steps (stepped s (step s (Begin p c)))).world.trace ≡ (s.world.trace ++ CallBegun p c ∷ between) ++ e ∷ later →
-    deeds p between ≡ [] → tells_of_poll p c e ≡ true →
+    has (is_by p) between ≡ false → tells_of_poll p c e ≡ true →
     IsItsWaker (length (s.world.trace ++ CallBegun p c ∷ between)) a (run steps (stepped s (step s (Begin p c)))).world

@@ -45,3 +45,4 @@ pub mod OutsideWakers
 pub mod ClosingOrder
 pub mod ClosingWakes
 pub mod GivenWakers
+pub mod LastTold

@@ -5,6 +5,7 @@ ghost use Rattle.executor_model.specs.ClosingWakes.{WakesInOrder};
 ghost use Rattle.executor_model.specs.EveryTrace.{EveryTrace};
 ghost use Rattle.executor_model.specs.Executions.{EveryMachine};
 ghost use Rattle.executor_model.specs.GivenWakers.{PollsKeepTheirWakers};
+ghost use Rattle.executor_model.specs.LastTold.{ClosingSaysWhy};
 ghost use Rattle.executor_model.specs.OutsideWakers.{OutsideWakersAreCalled};
 ghost use Rattle.executor_model.specs.SpawnsMean.{SpawnsAreLimited};
 ghost use Rattle.executor_model.specs.WakersMean.{WakersWakeTheirOwn};
@@ -45,6 +46,13 @@ pub fn outside_wakers_are_called()
 /// keeps of that poll has no other waker, and no other is called for it.
 pub fn polls_keep_their_wakers()
     ensures { EveryMachine PollsKeepTheirWakers }
+{}
+
+/// Whatever the parties do, a step that closes the open task of a future, whether it lets the last waker go, detaches the
+/// future, or ends a poll that leaves none, says why itself: it tells that nobody is left who could wake the future, or that
+/// it was cancelled, unless the drop of the executor has begun, which closes each task.
+pub fn closings_say_why()
+    ensures { EveryMachine ClosingSaysWhy }
 {}
 
 /// Whatever the parties do, futures are numbered in the order in which they are accepted, and those that are dropped since

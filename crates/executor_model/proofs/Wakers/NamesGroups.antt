@@ -196,9 +196,11 @@ module _ (k : ℕ) (a : Waker) where
 
   has-found : (w : World) (x : RunPoll) (f : ℕ) → Right k a x.poll x.waker → Stored k a w → Ends k a (found w x f)
   has-found w x f r h =
-      let c = counts (eqb ((run_of w x.run).counted + 1) 64) w x f r h in
-      (c.0, every-append (Names k a) (found_by (run_of w x.run).place (tick_or_run.Run x.run) (op.Sleeper sleeper_op.ExchangeFlag ∷ [])) _
-      (finds (run_of w x.run).place (tick_or_run.Run x.run) _ (tt, tt)) c.1)
+      let c = counts (eqb ((run_of w x.run).counted + 1) 64) w x f r h in (
+        c.0,
+        every-append (Names k a) (found_by (run_of w x.run).place (tick_or_run.Run x.run) (op.Sleeper sleeper_op.ExchangeFlag ∷ [])) _
+            (finds (run_of w x.run).place (tick_or_run.Run x.run) _ (tt, tt)) c.1,
+      )
 
   has-stolen : (t : Then) (w : World) (x : RunPoll) → Right k a x.poll x.waker → Stored k a w → Ends k a (stolen t w x)
   has-stolen (then.Found f) w x r h = has-found w x f r h

@@ -1,11 +1,13 @@
 -- A poll keeps the waker that it was given, and that one is called for it: no other.
-use Rattle.std.specs.Prelude.{◌≡◌, ℕ, ◌==◌, Bool, true, false, ◌&&◌, Option, Some, None, List, [], ◌∷◌, ◌++◌, length, slice_get}
+use Rattle.std.specs.Prelude.{◌≡◌, ℕ, ◌==◌, Bool, true, false, ◌&&◌, Option, Some, None, List, [], ◌∷◌, ◌++◌, length}
+use Rattle.std.specs.Prelude.{slice_get}
 use Rattle.executor_model.specs.declared.call.By.{By}
 use Rattle.executor_model.specs.declared.call.By.TheVariants.{Mine, Outside}
 use Rattle.executor_model.specs.declared.call.Call.{Call}
 use Rattle.executor_model.specs.declared.call.Call.TheVariants.{PollHandle, PollTick, PollRun}
 use Rattle.executor_model.specs.declared.event.Event.{Event}
-use Rattle.executor_model.specs.declared.event.Event.TheVariants.{CallBegun, HandlePolled, RunPolled, TickPolled, WakerCalled}
+use Rattle.executor_model.specs.declared.event.Event.TheVariants.{CallBegun, HandlePolled, RunPolled, TickPolled}
+use Rattle.executor_model.specs.declared.event.Event.TheVariants.{WakerCalled}
 use Rattle.executor_model.specs.declared.op.Awaiter.{Awaiter}
 use Rattle.executor_model.specs.declared.op.Polled.{Polled}
 use Rattle.executor_model.specs.declared.op.Sleeping.{Sleeping}

@@ -46,3 +46,4 @@ pub mod ClosingOrder
 pub mod ClosingWakes
 pub mod GivenWakers
 pub mod LastTold
+pub mod OwnFutures

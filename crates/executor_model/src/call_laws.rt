@@ -7,6 +7,7 @@ ghost use Rattle.executor_model.specs.Executions.{EveryMachine};
 ghost use Rattle.executor_model.specs.GivenWakers.{PollsKeepTheirWakers};
 ghost use Rattle.executor_model.specs.LastTold.{ClosingSaysWhy};
 ghost use Rattle.executor_model.specs.OutsideWakers.{OutsideWakersAreCalled};
+ghost use Rattle.executor_model.specs.OwnFutures.{ActsOnItsFuture};
 ghost use Rattle.executor_model.specs.SpawnsMean.{SpawnsAreLimited};
 ghost use Rattle.executor_model.specs.WakersMean.{WakersWakeTheirOwn};
 
@@ -53,6 +54,13 @@ pub fn polls_keep_their_wakers()
 /// it was cancelled, unless the drop of the executor has begun, which closes each task.
 pub fn closings_say_why()
     ensures { EveryMachine ClosingSaysWhy }
+{}
+
+/// Whatever the parties do, a wake, by the waker of the poll in which its party stands or by a kept one, wakes the future of
+/// that waker, in its party's first step behind its beginning, unless that future was over before; and a copy of such a waker
+/// is kept as a waker of that future, in that step, where memory isn't wanted.
+pub fn wakes_and_copies_are_of_their_futures()
+    ensures { EveryMachine ActsOnItsFuture }
 {}
 
 /// Whatever the parties do, futures are numbered in the order in which they are accepted, and those that are dropped since

@@ -1,14 +1,17 @@
 -- For closings_say_why.
 -- A step that closes an open task tells of the last waker of its future, or of a cancel.
-use Rattle.std.proofs.Common.{◌≡◌, ◌≢◌, ◌⊎◌, ℕ, zero, suc, ◌+◌, ◌<◌, ◌≤◌, List, [], ◌∷◌, ◌++◌, length, set, get_or, Bool, true, false, not}
-use Rattle.std.proofs.Common.{◌&&◌, ◌||◌, eqb, ltb, refl, sym, ap, subst, inl, inr, ⊎_elim, arith, ◌∙◌, append-nil, get_or-set_same, get_or-set_other}
+use Rattle.std.proofs.Common.{◌≡◌, ◌≢◌, ◌⊎◌, ℕ, zero, suc, ◌+◌, ◌<◌, ◌≤◌, List, [], ◌∷◌, ◌++◌, length, set, get_or}
+use Rattle.std.proofs.Common.{Bool, true, false, not}
+use Rattle.std.proofs.Common.{◌&&◌, ◌||◌, eqb, ltb, refl, sym, ap, subst, inl, inr, ⊎_elim, arith, ◌∙◌, append-nil}
+use Rattle.std.proofs.Common.{get_or-set_same, get_or-set_other}
 use Rattle.std.proofs.lemmas.Bool.Decides.{nat_tests}
 use Rattle.std.proofs.lemmas.List.{append_assoc, append_cancel_left}
 use Rattle.std.specs.Prelude.{Option, Some, None, reverse}
 use Rattle.task_moves.specs.declared.moves.owed.Move.{Move}
 use Rattle.task_moves.specs.declared.moves.owed.Move.TheVariants as move
 use Rattle.task_moves.specs.declared.moves.state.State.{State}
-use Rattle.task_moves.specs.Moves.{after, cancel_by, detach_by, end_pending_by, give_up_by, is_last, is_over, release_by, take_up_by}
+use Rattle.task_moves.specs.Moves.{after, cancel_by, detach_by, end_pending_by, give_up_by, is_last, is_over}
+use Rattle.task_moves.specs.Moves.{release_by, take_up_by}
 use Rattle.task_moves.specs.Moves.{wake_by_reference_by}
 use Rattle.executor_model.specs.declared.call.Reply.{Reply}
 use Rattle.executor_model.specs.declared.event.Event.{Event}
@@ -17,6 +20,7 @@ use Rattle.executor_model.specs.declared.kind.Kind.{Kind}
 use Rattle.executor_model.specs.declared.op.Hold.{Hold}
 use Rattle.executor_model.specs.declared.op.Op.{Op}
 use Rattle.executor_model.specs.declared.op.Op.TheVariants as op
+use Rattle.executor_model.specs.declared.step.Hint.{Hint}
 use Rattle.executor_model.specs.declared.step.Step.{Step}
 use Rattle.executor_model.specs.declared.step.StepError.{StepError}
 use Rattle.executor_model.specs.declared.step.StepError.TheVariants.{NoSuch}
@@ -25,16 +29,17 @@ use Rattle.executor_model.specs.Acts.{entered, is_last_waker, is_told, move_by, 
 use Rattle.executor_model.specs.Doing.{act}
 use Rattle.executor_model.specs.Good.{Good}
 use Rattle.executor_model.specs.LastTold.{ClosingSaysWhy, IsOpen, IsShut, SaysWhy}
-use Rattle.executor_model.specs.Steps.{Machine, Part, accepts, end_of, onto, part_after, part_refusal, party_of, refusal, run, settled_by, stack, start}
+use Rattle.executor_model.specs.Steps.{Machine, Part, accepts, end_of, onto, part_after, part_refusal, party_of}
+use Rattle.executor_model.specs.Steps.{refusal, run, settled_by, stack, start}
 use Rattle.executor_model.specs.Steps.{step, step_by, stepped, top, unless}
 use Rattle.executor_model.specs.Trace.{Trace, has, is_cancelled, is_last_waker as tells_last}
 use Rattle.executor_model.specs.World.{World, Done, blank, log, log_if, put, task}
 use Rattle.executor_model.proofs.OneFuture.Effects.{Effect, Wakes}
-use Rattle.executor_model.proofs.OneFuture.Effects.Effect.{passes, turns, refuses, enters, unlists, drops, takes_out, drops_next}
+use Rattle.executor_model.proofs.OneFuture.Effects.Effect.{passes, turns, refuses, enters, unlists, drops, takes_out}
+use Rattle.executor_model.proofs.OneFuture.Effects.Effect.{drops_next}
 use Rattle.executor_model.proofs.OneFuture.Effects.Effect.{leaks, leaks_out}
 use Rattle.executor_model.proofs.OneFuture.EffectsWays.{Effects, effects-way}
 use Rattle.executor_model.proofs.OneFuture.EffectsWays.Effects.{does, pends, readies, closes}
-use Rattle.executor_model.proofs.OneFuture.Extras.{no_extra}
 use Rattle.executor_model.proofs.OneFuture.Passes.{GoesBy}
 use Rattle.executor_model.proofs.OneFuture.Views.{none}
 use Rattle.executor_model.proofs.Promises.OutsideCalls.{way-more}
@@ -42,7 +47,8 @@ use Rattle.executor_model.proofs.Steps.Lift.{good, split}
 use Rattle.executor_model.proofs.Steps.TraceMore.{has-append}
 use Rattle.executor_model.proofs.Steps.Ways.{Made, Way, made}
 use Rattle.executor_model.proofs.Steps.Ways.Way.{acted, called, reacted}
-use Rattle.executor_model.proofs.Table.LeavingExecutions.{Placed, closing-here, placed}
+use Rattle.executor_model.proofs.OneFuture.Extras.{closing_of, extra, no_extra}
+use Rattle.executor_model.proofs.Table.LeavingExecutions.{Placed, placed}
 
 not-both : (b : Bool) → b ≡ true → b ≡ false → ⊥
 not-both true e f = absurd (cc)
@@ -84,7 +90,8 @@ over-none : (s : State) → Opened s → is_over s ≡ false
 over-none s a = λ t. a.0 t || a.1 t
 
 module _ (s : State) (o : Opened s) where
-  closes-release : (l v : Bool) → is_last s ≡ l → is_over s ≡ v → (release_by l v s).state.closed ≡ true → is_last_waker move.Release s ≡ true
+  closes-release : (l v : Bool) → is_last s ≡ l → is_over s ≡ v → (release_by l v s).state.closed ≡ true →
+      is_last_waker move.Release s ≡ true
   closes-release false v a b e = absurd (not-both s.closed e o.1)
   closes-release true true a b e = absurd (not-both s.closed e o.1)
   closes-release true false a b e = λ t. a t && not (b t)
@@ -155,7 +162,8 @@ last-told false p f w e more t =
     let i : event.LastWaker p f ∷ [] ≡ more = append_cancel_left w.trace (event.LastWaker p f ∷ []) more t in
     ap (has (tells_last f)) (sym i) ∙ (let z : (eqb f f || false) ≡ true = grind (arith, nat_tests) in z)
 
-cancel-told : (p f : ℕ) (w : World) (more : Trace) → (log_if false (log_if true w (event.Cancelled p f)) (event.LastWaker p f)).trace ≡ w.trace ++ more →
+cancel-told : (p f : ℕ) (w : World) (more : Trace) →
+    (log_if false (log_if true w (event.Cancelled p f)) (event.LastWaker p f)).trace ≡ w.trace ++ more →
     has (is_cancelled f) more ≡ true
 cancel-told p f w more t =
     let i : event.Cancelled p f ∷ [] ≡ more = append_cancel_left w.trace (event.Cancelled p f ∷ []) more t in
@@ -280,12 +288,17 @@ no-move : (m : Move) (g : ℕ) (u : UserEnd) → accepts (op.Move m g) u ≡ tru
 no-move m g u a = absurd (cc)
 
 module _ (s : Machine) (p : ℕ) (fine : Good s) (placed : Placed s) (l : p < length s.parties) where
+  -- a Runnable is dropped in the drop of the executor alone
+  closing-here : (f : ℕ) (rest : List Op) → stack s p ≡ rest ++ reverse (op.Move move.DropRunnable f ∷ []) →
+      1 ≤ (extra f s.parties).closing
+  closing-here f rest e = omega (arith, split closing_of s.parties p (op.Move move.DropRunnable f ∷ []) rest l e)
+
   acted-why : (h : Hint) (rest : List Op) (g : ℕ) (m : Move) → stack s p ≡ rest ++ reverse (op.Move m g ∷ []) →
       IsOpen s.world g → IsShut (act p h (op.Move m g) s.world).world g → (more : Trace) →
       (act p h (op.Move m g) s.world).world.trace ≡ s.world.trace ++ more → Says s g more
   acted-why h rest g m e o u more t = ⊎_elim
       (λ (x : SaysWhy g more). inl x)
-      (λ (x : m ≡ move.DropRunnable). inr ((placed.leaves g).late (closing-here s p g rest l
+      (λ (x : m ≡ move.DropRunnable). inr ((placed.leaves g).late (closing-here g rest
       (subst (λ (n : Move). stack s p ≡ rest ++ reverse (op.Move n g ∷ [])) x e))).0)
       (moved-why m p s.world g (stands_alone m) refl o u more t)
 
@@ -330,7 +343,8 @@ settled-says : (o : Option Op) (s : Machine) (p : ℕ) (w : World) (os : List Op
 settled-says (Some (op.End r held)) s p w os g before more e a t =
     let i : before ++ event.CallEnded p r ∷ [] ≡ more =
     append_cancel_left s.world.trace (before ++ event.CallEnded p r ∷ []) more
-    (sym (append_assoc s.world.trace before (event.CallEnded p r ∷ [])) ∙ (ap (λ (xs : Trace). xs ++ event.CallEnded p r ∷ []) (sym e) ∙ t)) in
+    (sym (append_assoc s.world.trace before (event.CallEnded p r ∷ []))
+    ∙ (ap (λ (xs : Trace). xs ++ event.CallEnded p r ∷ []) (sym e) ∙ t)) in
     subst (Says s g) i (says-more s g before (event.CallEnded p r ∷ []) a)
 settled-says None s p w os g before more e a t =
     subst (Says s g) (append_cancel_left s.world.trace before more (sym e ∙ t)) a

@@ -1,7 +1,9 @@
 -- For polls_keep_their_wakers.
 -- What the party of a call that polls does next tells of the poll, which has the waker that the call was given.
-use Rattle.std.proofs.Common.{◌≡◌, ◌≢◌, ◌⊎◌, ℕ, ◌+◌, ◌<◌, ◌≤◌, List, [], ◌∷◌, ◌++◌, length, set, get_or, Bool, true, false, refl, subst, sym, ap}
-use Rattle.std.proofs.Common.{arith, ◌∙◌, ◌&&◌, ◌||◌, eqb, get_or-set_same, get_or-set_other, inl, inr, ⊎_elim, append-nil, ltb}
+use Rattle.std.proofs.Common.{◌≡◌, ◌≢◌, ◌⊎◌, ℕ, ◌+◌, ◌<◌, ◌≤◌, List, [], ◌∷◌, ◌++◌, length, set, get_or, Bool, true}
+use Rattle.std.proofs.Common.{false, refl, subst, sym, ap}
+use Rattle.std.proofs.Common.{arith, ◌∙◌, ◌&&◌, ◌||◌, eqb, get_or-set_same, get_or-set_other, inl, inr, ⊎_elim}
+use Rattle.std.proofs.Common.{append-nil, ltb}
 use Rattle.std.proofs.lemmas.Bool.Decides.{nat_tests}
 use Rattle.std.proofs.lemmas.List.{append_assoc, append_cancel_left, length-append, set-set}
 use Rattle.std.proofs.Math.ListN.{length-set}
@@ -36,8 +38,10 @@ use Rattle.executor_model.specs.Deeds.{doer, is_by}
 use Rattle.executor_model.specs.Doing.{act}
 use Rattle.executor_model.specs.GivenWakers.{IsItsWaker, PollsKeepTheirWakers, given, tells_of_poll}
 use Rattle.executor_model.specs.Good.{Good}
-use Rattle.executor_model.specs.Steps.{Machine, Part, accepts, begin_refusal, begun, end_of, is_free, mine, onto, part_after, poll_run, refusal, run}
-use Rattle.executor_model.specs.Steps.{settled_by, stack, start, step, step_by, stepped, top, unless, waker_of, with_part}
+use Rattle.executor_model.specs.Steps.{Machine, Part, accepts, begin_refusal, begun, end_of, is_free, mine, onto}
+use Rattle.executor_model.specs.Steps.{part_after, poll_run, refusal, run}
+use Rattle.executor_model.specs.Steps.{settled_by, stack, start, step, step_by, stepped, top, unless, waker_of}
+use Rattle.executor_model.specs.Steps.{with_part}
 use Rattle.executor_model.specs.Trace.{Trace, has}
 use Rattle.executor_model.specs.World.{World, Done, awaiter_of, done, log, log_if, put, run_of, task}
 use Rattle.executor_model.proofs.Quiet.Calls.{is_end}
@@ -49,7 +53,8 @@ use Rattle.executor_model.proofs.Steps.TraceMore.{has-append}
 use Rattle.executor_model.proofs.Steps.Ways.{Way, along}
 use Rattle.executor_model.proofs.Steps.Ways.Way.{acted, called, reacted}
 use Rattle.executor_model.proofs.Table.Spawning.{top-last}
-use Rattle.executor_model.proofs.Wakers.Names.{Every, Names, Right, RightEntry, RightEvent, RightSlot, every-at, every-get}
+use Rattle.executor_model.proofs.Wakers.Names.{Every, Names, Right, RightEntry, RightEvent, RightSlot, every-at}
+use Rattle.executor_model.proofs.Wakers.Names.{every-get}
 use Rattle.executor_model.proofs.Wakers.NamesGroups.{Newly}
 use Rattle.executor_model.proofs.Wakers.NamesWays.{Fresh, Named, NewlyIn, fresh-start, fresh-way, later-in, names-way}
 
@@ -208,7 +213,8 @@ module _ (es : Trace) (p : ℕ) (c : Call) (a : Waker) where
           (acted h (op.Handle (handle_op.Look f b)) refl refl) e tt
           (fresh (length (es ++ mid)) a (omega (arith, ap length t)))
 
-      by : (o : Option Answer) → m.owed.answer ≡ o → Stands es p c a (unsettled s p rest (act p h (op.Handle (handle_op.Look f b)) s.world))
+      by : (o : Option Answer) → m.owed.answer ≡ o →
+          Stands es p c a (unsettled s p rest (act p h (op.Handle (handle_op.Look f b)) s.world))
       by None q = subst (λ (x : Option Answer). Stands es p c a (unsettled s p rest (look_by x p s.world f b m))) (sym q)
           (waits mid t n rest (op.Handle (handle_op.CopyAwaiter f b)) (get_or-set_same s.parties p _ [] l) i)
       by (Some x) q =
@@ -226,7 +232,8 @@ module _ (es : Trace) (p : ℕ) (c : Call) (a : Waker) where
           (acted h (op.Handle (handle_op.CopyAwaiter f b)) refl refl) e (λ q j. i)
           (fresh (length (es ++ mid)) a (omega (arith, ap length t)))
 
-      by : (x : Bool) → is_copy_refused h s.world b ≡ x → Stands es p c a (unsettled s p rest (act p h (op.Handle (handle_op.CopyAwaiter f b)) s.world))
+      by : (x : Bool) → is_copy_refused h s.world b ≡ x →
+          Stands es p c a (unsettled s p rest (act p h (op.Handle (handle_op.CopyAwaiter f b)) s.world))
       by true q = subst (λ (x : Bool). Stands es p c a (unsettled s p rest (copy_awaiter_by x p s.world f b))) (sym q)
           (waits mid t n rest (op.End _ (_)) (get_or-set_same s.parties p _ [] l) tt)
       by false q = told mid [] (event.HandlePolled p f) (push-trace s.world _ mid (event.HandlePolled p f ∷ []) t
@@ -283,7 +290,8 @@ module _ (es : Trace) (p : ℕ) (c : Call) (a : Waker) where
       by : (b : Bool) → eqb p q ≡ b → Stands es p c a (unsettled s q rest d)
       by true z =
           let j : q ≡ p = grind (arith, nat_tests) in
-          subst (λ (m : ℕ). (Way s m old rest d → stack s m ≡ rest ++ reverse old → m < length s.parties → Stands es p c a (unsettled s m rest d)))
+          subst (λ (m : ℕ). (Way s m old rest d → stack s m ≡ rest ++ reverse old → m < length s.parties →
+          Stands es p c a (unsettled s m rest d)))
           (sym j) (λ v y u. own-way s old rest d v y u fresh mid t n below o st i) way e l
       by false z =
           let j : p ≢ q = grind (arith, nat_tests) in

@@ -27,6 +27,7 @@ use Rattle.executor_model.specs.OutputSettled.{OutputIsSettled}
 use Rattle.executor_model.specs.OwnQueues.{HasOwnRoom, IsEmptyMeanwhile, IsUsedOnce}
 use Rattle.executor_model.specs.OwnQueues.{IsWithinBound, ListAgrees, LockAgrees, OwnQueueHasRunner}
 use Rattle.executor_model.specs.OutsideWakers.{OutsideWakersAreCalled}
+use Rattle.executor_model.specs.OwnFutures.{ActsOnItsFuture}
 use Rattle.executor_model.specs.Refusals.{IsWantToldOf, RefusedChangesNothing}
 use Rattle.executor_model.specs.Executions.{HasOneRunnable, IsCounted}
 use Rattle.executor_model.specs.SleepersAgree.{SleepersAgree}
@@ -142,6 +143,8 @@ pub record AllLaws (s : Machine) : Type 0 where
   pub spawns : SpawnsAreLimited s
   -- a kept waker stays its future's, and a wake by it wakes that
   pub wakers : WakersWakeTheirOwn s
+  -- a wake, of itself too, wakes its own future, unless that is over, and a copy is kept as a waker of its own
+  pub own_futures : ActsOnItsFuture s
   -- an outside waker that is told of as called is called
   pub outside : OutsideWakersAreCalled s
   -- a poll keeps the waker that it was given, and no other is called for it

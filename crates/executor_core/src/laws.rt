@@ -14,6 +14,7 @@ ghost use Rattle.executor_model.specs.LawfulPolls.{HasLawfulPolls};
 ghost use Rattle.executor_model.specs.OutputOnce.{OutputGoesOnce};
 ghost use Rattle.executor_model.specs.Executions.{EveryMachine};
 ghost use Rattle.executor_model.specs.OutsideWakers.{OutsideWakersAreCalled};
+ghost use Rattle.executor_model.specs.OwnFutures.{ActsOnItsFuture};
 ghost use Rattle.executor_model.specs.SpawnsMean.{SpawnsAreLimited};
 ghost use Rattle.executor_model.specs.WakersMean.{WakersWakeTheirOwn};
 ghost use Rattle.executor_laws.specs.Called.{KeeperIsCalled, SomeStandingIsCalled};
@@ -30,6 +31,7 @@ use executor_model::call_laws::{
     calls_do_what_they_say, closings_say_why, outside_wakers_are_called, polls_keep_their_wakers,
     spawns_are_limited,
     the_closing_drop_keeps_the_order, the_closing_drop_wakes_in_order, wakers_wake_their_own,
+    wakes_and_copies_are_of_their_futures,
 };
 use executor_model::laws::{
     emptiness_is_exact, futures_are_in_their_places, no_append_is_refused_full, one_runnable,
@@ -116,6 +118,7 @@ fn laws_of_calls()
     ensures calls { EveryTrace CallsDoWhatTheySay }
     ensures spawns { EveryMachine SpawnsAreLimited }
     ensures wakers { EveryMachine WakersWakeTheirOwn }
+    ensures own { EveryMachine ActsOnItsFuture }
     ensures outside { EveryMachine OutsideWakersAreCalled }
     ensures given { EveryMachine PollsKeepTheirWakers }
     ensures why { EveryMachine ClosingSaysWhy }
@@ -125,6 +128,7 @@ fn laws_of_calls()
     calls_do_what_they_say();
     spawns_are_limited();
     wakers_wake_their_own();
+    wakes_and_copies_are_of_their_futures();
     outside_wakers_are_called();
     polls_keep_their_wakers();
     closings_say_why();

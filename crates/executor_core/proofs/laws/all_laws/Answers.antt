@@ -52,6 +52,7 @@ returns c limit kind parties steps =
       calls = c.laws_of_calls.ensures.calls limit kind parties steps;
       spawns = c.laws_of_calls.ensures.spawns limit kind parties steps;
       wakers = c.laws_of_calls.ensures.wakers limit kind parties steps;
+      own_futures = c.laws_of_calls.ensures.own limit kind parties steps;
       outside = c.laws_of_calls.ensures.outside limit kind parties steps;
       given = c.laws_of_calls.ensures.given limit kind parties steps;
       why = c.laws_of_calls.ensures.why limit kind parties steps;

@@ -47,6 +47,7 @@ use Rattle.executor_laws.specs.AtRest.{EmptinessIsExact, TicksAreExact}
 use Rattle.executor_laws.specs.LoneAnswers.{IsLoneEmptinessExact, IsLoneTickExact}
 use Rattle.executor_laws.specs.Places.{StandsWithKeeper}
 use Rattle.executor_laws.specs.Reach.{IsInReach, IsReachedInOrder}
+use Rattle.executor_laws.specs.RunAnswers.{IsReadyAtItsEnd}
 use Rattle.executor_laws.specs.RunReach.{IsKeptReached, IsReachedByRuns, LeavesCommon}
 use Rattle.executor_laws.specs.Ticks.{IsTickExact}
 
@@ -172,6 +173,8 @@ pub record AllLaws (s : Machine) : Type 0 where
   pub in_order : IsReachedInOrder s
   -- a due future stands with its keeper, and else in the executor's queue
   pub places_of_due : StandsWithKeeper s
+  -- a poll of a run is answered that its own future is ready only where the run has ended
+  pub run_answers : (r : ℕ) → IsReadyAtItsEnd s r
   -- a lone poll of a run takes what the run keeps, and else what is common
   pub by_runs : IsReachedByRuns s
   -- and all that it keeps

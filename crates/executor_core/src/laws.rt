@@ -25,13 +25,13 @@ use executor_laws::laws::{
     common_futures_are_in_reach, dropped_runs_leave_common_futures,
     due_futures_stand_with_their_keepers, keepers_are_called, kept_futures_are_in_reach,
     lone_calls_are_exact, lone_calls_end, no_comes_at_once, queueings_are_counted,
-    runs_reach_futures, some_standing_is_called, ticks_are_exact, traces_continue,
+    runs_are_ready_at_their_end, runs_reach_futures, some_standing_is_called, ticks_are_exact,
+    traces_continue,
 };
 use executor_model::call_laws::{
     calls_do_what_they_say, closings_say_why, outside_wakers_are_called, polls_keep_their_wakers,
-    spawns_are_limited,
-    the_closing_drop_keeps_the_order, the_closing_drop_wakes_in_order, wakers_wake_their_own,
-    wakes_and_copies_are_of_their_futures,
+    spawns_are_limited, the_closing_drop_keeps_the_order, the_closing_drop_wakes_in_order,
+    wakers_wake_their_own, wakes_and_copies_are_of_their_futures,
 };
 use executor_model::laws::{
     emptiness_is_exact, futures_are_in_their_places, no_append_is_refused_full, one_runnable,
@@ -75,6 +75,7 @@ pub fn all_laws()
     ticks_are_exact();
     common_futures_are_in_reach();
     arrival_order_needs_fewer_ticks();
+    runs_are_ready_at_their_end();
     due_futures_stand_with_their_keepers();
     runs_reach_futures();
     kept_futures_are_in_reach();

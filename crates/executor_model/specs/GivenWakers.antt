@@ -1,5 +1,5 @@
 -- A poll keeps the waker that it was given, and that one is called for it: no other.
-use Rattle.std.specs.Prelude.{◌≡◌, ℕ, ◌==◌, Bool, true, false, ◌&&◌, Option, Some, None, List, [], ◌∷◌, ◌++◌, length}
+use Rattle.std.specs.Prelude.{◌≡◌, ℕ, ◌==◌, Bool, true, false, ◌&&◌, Option, Some, None, List, ◌∷◌, ◌++◌, length}
 use Rattle.std.specs.Prelude.{slice_get}
 use Rattle.executor_model.specs.declared.call.By.{By}
 use Rattle.executor_model.specs.declared.call.By.TheVariants.{Mine, Outside}

@@ -1,15 +1,14 @@
 -- For wakes_and_copies_are_of_their_futures.
 -- The step behind the beginning of a wake or a copy wakes, or keeps a waker of, its own future.
-use Rattle.std.proofs.Common.{◌≡◌, ◌≢◌, ◌⊎◌, ℕ, ◌+◌, ◌<◌, ◌≤◌, List, [], ◌∷◌, ◌++◌, length, set, get_or, Bool, true}
+use Rattle.std.proofs.Common.{◌≡◌, ◌≢◌, ◌⊎◌, ℕ, ◌<◌, List, [], ◌∷◌, ◌++◌, length, Bool, true}
 use Rattle.std.proofs.Common.{false}
 use Rattle.std.proofs.Common.{not, ltb, refl, sym, ap, subst, inl, inr, arith, ◌∙◌, get_or-set_same, get_or-set_other}
-use Rattle.std.proofs.Common.{Ok}
 use Rattle.std.proofs.lemmas.Bool.Decides.{nat_tests}
 use Rattle.std.proofs.lemmas.List.{append_assoc}
 use Rattle.std.specs.Prelude.{Option, Some, None, reverse}
 use Rattle.task_moves.specs.declared.moves.owed.Move.{Move}
 use Rattle.task_moves.specs.declared.moves.owed.Move.TheVariants as move
-use Rattle.task_moves.specs.Moves.{after, is_over}
+use Rattle.task_moves.specs.Moves.{is_over}
 use Rattle.executor_model.specs.declared.call.Call.{Call}
 use Rattle.executor_model.specs.declared.call.Call.TheVariants as call
 use Rattle.executor_model.specs.declared.call.Reply.{Reply}
@@ -21,30 +20,28 @@ use Rattle.executor_model.specs.declared.op.Hold.{Hold}
 use Rattle.executor_model.specs.declared.op.Hold.TheVariants as hold
 use Rattle.executor_model.specs.declared.op.Op.{Op}
 use Rattle.executor_model.specs.declared.op.Op.TheVariants as op
-use Rattle.executor_model.specs.declared.op.Waker.{Waker}
 use Rattle.executor_model.specs.declared.op.WakerOp.TheVariants as waker_op
 use Rattle.executor_model.specs.declared.step.Hint.{Hint}
 use Rattle.executor_model.specs.declared.step.Step.{Step}
 use Rattle.executor_model.specs.declared.step.Step.TheVariants.{Begin, Go}
 use Rattle.executor_model.specs.declared.step.StepError.{StepError}
 use Rattle.executor_model.specs.declared.step.StepError.TheVariants as error
-use Rattle.executor_model.specs.Acts.{copy_by, is_refused, is_told, move_task}
-use Rattle.executor_model.specs.CallsMean.{MayBeOver}
+use Rattle.executor_model.specs.Acts.{copy_by, is_refused}
 use Rattle.executor_model.specs.Doing.{act}
 use Rattle.executor_model.specs.Good.{Good}
 use Rattle.executor_model.specs.OwnFutures.{ActsOnItsFuture, AllByOthers, KeepsOne, WakesFirst, begun_then, copies_of}
 use Rattle.executor_model.specs.OwnFutures.{going_on, wakes_by}
 use Rattle.executor_model.specs.OwnFutures.KeepsOne.{keeps, wants}
-use Rattle.executor_model.specs.Steps.{Machine, Part, begin_refusal, begun, below_top, end_of, future_of, go_refusal}
-use Rattle.executor_model.specs.Steps.{is_locked_out, kept, mine}
+use Rattle.executor_model.specs.Steps.{Machine, begin_refusal, begun, below_top, end_of, go_refusal}
+use Rattle.executor_model.specs.Steps.{is_locked_out, mine}
 use Rattle.executor_model.specs.Steps.{onto, part_after, party_of, refusal, run, settled, settled_by, stack, start}
 use Rattle.executor_model.specs.Steps.{step, step_by, stepped, top}
 use Rattle.executor_model.specs.Steps.{unless, waits, with_future, with_part}
 use Rattle.executor_model.specs.Steps.{gone_on, used_up}
 use Rattle.executor_model.specs.Trace.{Trace}
-use Rattle.executor_model.specs.World.{World, Done, done, log, log_if, put, task}
+use Rattle.executor_model.specs.World.{World, Done, done, log, log_if, task}
 use Rattle.executor_model.proofs.Promises.CallTold.{over-told}
-use Rattle.executor_model.proofs.Steps.Lift.{good, good-start, good-stepped}
+use Rattle.executor_model.proofs.Steps.Lift.{good}
 use Rattle.executor_model.proofs.Steps.Stepping.{step-made}
 use Rattle.executor_model.proofs.Steps.Ways.{along}
 use Rattle.executor_model.proofs.Table.LeavingExecutions.{Placed, placed-ends, placed-moves, placed}

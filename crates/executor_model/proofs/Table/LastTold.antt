@@ -1,23 +1,21 @@
 -- For closings_say_why.
 -- A step that closes an open task tells of the last waker of its future, or of a cancel.
-use Rattle.std.proofs.Common.{◌≡◌, ◌≢◌, ◌⊎◌, ℕ, zero, suc, ◌+◌, ◌<◌, ◌≤◌, List, [], ◌∷◌, ◌++◌, length, set, get_or}
+use Rattle.std.proofs.Common.{◌≡◌, ◌≢◌, ◌⊎◌, ℕ, zero, suc, ◌<◌, ◌≤◌, List, [], ◌∷◌, ◌++◌, length, set, get_or}
 use Rattle.std.proofs.Common.{Bool, true, false, not}
-use Rattle.std.proofs.Common.{◌&&◌, ◌||◌, eqb, ltb, refl, sym, ap, subst, inl, inr, ⊎_elim, arith, ◌∙◌, append-nil}
-use Rattle.std.proofs.Common.{get_or-set_same, get_or-set_other}
+use Rattle.std.proofs.Common.{◌&&◌, ◌||◌, eqb, ltb, refl, sym, ap, subst, inl, inr, ⊎_elim, arith, ◌∙◌}
+use Rattle.std.proofs.Common.{get_or-set_other}
 use Rattle.std.proofs.lemmas.Bool.Decides.{nat_tests}
 use Rattle.std.proofs.lemmas.List.{append_assoc, append_cancel_left}
 use Rattle.std.specs.Prelude.{Option, Some, None, reverse}
 use Rattle.task_moves.specs.declared.moves.owed.Move.{Move}
 use Rattle.task_moves.specs.declared.moves.owed.Move.TheVariants as move
 use Rattle.task_moves.specs.declared.moves.state.State.{State}
-use Rattle.task_moves.specs.Moves.{after, cancel_by, detach_by, end_pending_by, give_up_by, is_last, is_over}
+use Rattle.task_moves.specs.Moves.{after, detach_by, end_pending_by, give_up_by, is_last, is_over}
 use Rattle.task_moves.specs.Moves.{release_by, take_up_by}
 use Rattle.task_moves.specs.Moves.{wake_by_reference_by}
-use Rattle.executor_model.specs.declared.call.Reply.{Reply}
 use Rattle.executor_model.specs.declared.event.Event.{Event}
 use Rattle.executor_model.specs.declared.event.Event.TheVariants as event
 use Rattle.executor_model.specs.declared.kind.Kind.{Kind}
-use Rattle.executor_model.specs.declared.op.Hold.{Hold}
 use Rattle.executor_model.specs.declared.op.Op.{Op}
 use Rattle.executor_model.specs.declared.op.Op.TheVariants as op
 use Rattle.executor_model.specs.declared.step.Hint.{Hint}
@@ -29,11 +27,11 @@ use Rattle.executor_model.specs.Acts.{entered, is_last_waker, is_told, move_by, 
 use Rattle.executor_model.specs.Doing.{act}
 use Rattle.executor_model.specs.Good.{Good}
 use Rattle.executor_model.specs.LastTold.{ClosingSaysWhy, IsOpen, IsShut, SaysWhy}
-use Rattle.executor_model.specs.Steps.{Machine, Part, accepts, end_of, onto, part_after, part_refusal, party_of}
+use Rattle.executor_model.specs.Steps.{Machine, Part, accepts, end_of, part_after, part_refusal, party_of}
 use Rattle.executor_model.specs.Steps.{refusal, run, settled_by, stack, start}
 use Rattle.executor_model.specs.Steps.{step, step_by, stepped, top, unless}
 use Rattle.executor_model.specs.Trace.{Trace, has, is_cancelled, is_last_waker as tells_last}
-use Rattle.executor_model.specs.World.{World, Done, blank, log, log_if, put, task}
+use Rattle.executor_model.specs.World.{World, Done, blank, log_if, task}
 use Rattle.executor_model.proofs.OneFuture.Effects.{Effect, Wakes}
 use Rattle.executor_model.proofs.OneFuture.Effects.Effect.{passes, turns, refuses, enters, unlists, drops, takes_out}
 use Rattle.executor_model.proofs.OneFuture.Effects.Effect.{drops_next}
@@ -44,7 +42,6 @@ use Rattle.executor_model.proofs.OneFuture.Passes.{GoesBy}
 use Rattle.executor_model.proofs.OneFuture.Views.{none}
 use Rattle.executor_model.proofs.Promises.OutsideCalls.{way-more}
 use Rattle.executor_model.proofs.Steps.Lift.{good, split}
-use Rattle.executor_model.proofs.Steps.TraceMore.{has-append}
 use Rattle.executor_model.proofs.Steps.Ways.{Made, Way, made}
 use Rattle.executor_model.proofs.Steps.Ways.Way.{acted, called, reacted}
 use Rattle.executor_model.proofs.OneFuture.Extras.{closing_of, extra, no_extra}

@@ -1,13 +1,13 @@
 -- For polls_keep_their_wakers.
 -- What the party of a call that polls does next tells of the poll, which has the waker that the call was given.
-use Rattle.std.proofs.Common.{◌≡◌, ◌≢◌, ◌⊎◌, ℕ, ◌+◌, ◌<◌, ◌≤◌, List, [], ◌∷◌, ◌++◌, length, set, get_or, Bool, true}
+use Rattle.std.proofs.Common.{◌≡◌, ◌≢◌, ℕ, ◌<◌, List, [], ◌∷◌, ◌++◌, length, set, get_or, Bool, true}
 use Rattle.std.proofs.Common.{false, refl, subst, sym, ap}
-use Rattle.std.proofs.Common.{arith, ◌∙◌, ◌&&◌, ◌||◌, eqb, get_or-set_same, get_or-set_other, inl, inr, ⊎_elim}
+use Rattle.std.proofs.Common.{arith, ◌∙◌, ◌||◌, eqb, get_or-set_same, get_or-set_other}
 use Rattle.std.proofs.Common.{append-nil, ltb}
 use Rattle.std.proofs.lemmas.Bool.Decides.{nat_tests}
 use Rattle.std.proofs.lemmas.List.{append_assoc, append_cancel_left, length-append, set-set}
 use Rattle.std.proofs.Math.ListN.{length-set}
-use Rattle.std.specs.Prelude.{Option, Some, None, reverse, slice_get}
+use Rattle.std.specs.Prelude.{Option, Some, None, reverse}
 use Rattle.task_moves.specs.declared.moves.owed.Answer.{Answer}
 use Rattle.task_moves.specs.declared.moves.owed.Moved.{Moved}
 use Rattle.task_moves.specs.Moves as moves
@@ -19,12 +19,10 @@ use Rattle.executor_model.specs.declared.call.Reply.{Reply}
 use Rattle.executor_model.specs.declared.event.Event.{Event}
 use Rattle.executor_model.specs.declared.event.Event.TheVariants as event
 use Rattle.executor_model.specs.declared.kind.Kind.{Kind}
-use Rattle.executor_model.specs.declared.op.Awaiter.{Awaiter}
 use Rattle.executor_model.specs.declared.op.HandleOp.TheVariants as handle_op
 use Rattle.executor_model.specs.declared.op.Hold.{Hold}
 use Rattle.executor_model.specs.declared.op.Op.{Op}
 use Rattle.executor_model.specs.declared.op.Op.TheVariants as op
-use Rattle.executor_model.specs.declared.op.RunPoll.{RunPoll}
 use Rattle.executor_model.specs.declared.op.Waker.{Waker}
 use Rattle.executor_model.specs.declared.op.Waker.TheVariants.{Task, Outside}
 use Rattle.executor_model.specs.declared.step.Hint.{Hint}
@@ -34,16 +32,16 @@ use Rattle.executor_model.specs.declared.step.StepError.{StepError}
 use Rattle.executor_model.specs.declared.step.StepError.TheVariants.{NoSuch}
 use Rattle.executor_model.specs.declared.step.UserEnd.{UserEnd}
 use Rattle.executor_model.specs.Acts.{answered, copied, copy_awaiter_by, is_copy_refused, is_output, look_by, polled}
-use Rattle.executor_model.specs.Deeds.{doer, is_by}
+use Rattle.executor_model.specs.Deeds.{is_by}
 use Rattle.executor_model.specs.Doing.{act}
 use Rattle.executor_model.specs.GivenWakers.{IsItsWaker, PollsKeepTheirWakers, given, tells_of_poll}
 use Rattle.executor_model.specs.Good.{Good}
-use Rattle.executor_model.specs.Steps.{Machine, Part, accepts, begin_refusal, begun, end_of, is_free, mine, onto}
-use Rattle.executor_model.specs.Steps.{part_after, poll_run, refusal, run}
-use Rattle.executor_model.specs.Steps.{settled_by, stack, start, step, step_by, stepped, top, unless, waker_of}
+use Rattle.executor_model.specs.Steps.{Machine, accepts, begin_refusal, begun, end_of, is_free, mine, onto}
+use Rattle.executor_model.specs.Steps.{run}
+use Rattle.executor_model.specs.Steps.{settled_by, stack, start, step, stepped, top, unless, waker_of}
 use Rattle.executor_model.specs.Steps.{with_part}
 use Rattle.executor_model.specs.Trace.{Trace, has}
-use Rattle.executor_model.specs.World.{World, Done, awaiter_of, done, log, log_if, put, run_of, task}
+use Rattle.executor_model.specs.World.{World, Done, done, log, log_if, put, task}
 use Rattle.executor_model.proofs.Quiet.Calls.{is_end}
 use Rattle.executor_model.proofs.Steps.Deeds.{grows-act, grows-begun, grows-react, not-by}
 use Rattle.executor_model.proofs.Steps.Lift.{good, good-start, good-stepped, no_hint, none_refused, topped, unsettled}
@@ -53,9 +51,8 @@ use Rattle.executor_model.proofs.Steps.TraceMore.{has-append}
 use Rattle.executor_model.proofs.Steps.Ways.{Way, along}
 use Rattle.executor_model.proofs.Steps.Ways.Way.{acted, called, reacted}
 use Rattle.executor_model.proofs.Table.Spawning.{top-last}
-use Rattle.executor_model.proofs.Wakers.Names.{Every, Names, Right, RightEntry, RightEvent, RightSlot, every-at}
+use Rattle.executor_model.proofs.Wakers.Names.{RightEntry, RightEvent, RightSlot, every-at}
 use Rattle.executor_model.proofs.Wakers.Names.{every-get}
-use Rattle.executor_model.proofs.Wakers.NamesGroups.{Newly}
 use Rattle.executor_model.proofs.Wakers.NamesWays.{Fresh, Named, NewlyIn, fresh-start, fresh-way, later-in, names-way}
 
 -- lists

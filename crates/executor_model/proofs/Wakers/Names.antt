@@ -1,8 +1,8 @@
 -- For polls_keep_their_wakers.
 -- What names a poll, by its place in the trace, has this waker: things that are to do, what is stored, and what was told.
-use Rattle.std.proofs.Common.{◌≡◌, ℕ, zero, suc, List, [], ◌∷◌, ◌++◌, length, set, get_or, take, Bool, true, false}
+use Rattle.std.proofs.Common.{◌≡◌, ℕ, zero, suc, List, [], ◌∷◌, ◌++◌, set, get_or, take, Bool, true, false}
 use Rattle.std.proofs.Common.{refl, subst, ◌&&◌}
-use Rattle.std.specs.Prelude.{◌-◌, Option, Some, None, remove, reverse, slice_get}
+use Rattle.std.specs.Prelude.{Option, Some, None, remove, slice_get}
 use Rattle.task_moves.specs.declared.schedule_info.ScheduleInfo.{ScheduleInfo}
 use Rattle.task_moves.specs.declared.moves.owed.AwaiterDebt.{AwaiterDebt}
 use Rattle.task_moves.specs.declared.moves.owed.AwaiterDebt.TheVariants.{NotifyAwaiter, NotifyOther}
@@ -31,7 +31,6 @@ use Rattle.executor_model.specs.declared.op.Waker.{Waker}
 use Rattle.executor_model.specs.declared.op.WakerOp.TheVariants as waker_op
 use Rattle.executor_model.specs.Carried.{awaiter_ops, drops, emptied_ops, future_ops, next_ops, output_ops, owed_ops}
 use Rattle.executor_model.specs.Carried.{schedule_ops}
-use Rattle.executor_model.specs.Trace.{Trace}
 use Rattle.executor_model.specs.World.{World, Done, log, log_if}
 
 -- each of the list is so

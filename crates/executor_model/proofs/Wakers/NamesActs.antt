@@ -1,23 +1,18 @@
 -- For polls_keep_their_wakers.
 -- What is done with tasks, the table, the queue, handles and sleepers names a poll by its own waker, where what was to do does.
-use Rattle.std.proofs.Common.{◌≡◌, ℕ, List, [], ◌∷◌, ◌++◌, length, set, Bool, true, false, refl, subst, sym, not, ◌&&◌}
-use Rattle.std.specs.Prelude.{◌-◌, Option, Some, None, is_none, remove, slice_get, slice_set}
+use Rattle.std.proofs.Common.{◌≡◌, ℕ, List, [], ◌∷◌, ◌++◌, length, Bool, true, false, refl, ◌&&◌}
+use Rattle.std.specs.Prelude.{Option, Some, None}
 use Rattle.task_moves.specs.declared.moves.owed.Answer.{Answer}
 use Rattle.task_moves.specs.declared.moves.owed.Move.{Move}
 use Rattle.task_moves.specs.declared.moves.owed.Move.TheVariants as move
 use Rattle.task_moves.specs.declared.moves.owed.Moved.{Moved}
 use Rattle.task_moves.specs.declared.moves.state.State.{State}
 use Rattle.task_moves.specs.Moves as moves
-use Rattle.executor_parts.specs.Sleepers.{Sleepers, last_waker, position_of, waker_at, waker_of, without_entry}
-use Rattle.executor_parts.specs.Sleepers.{woken_up}
 use Rattle.executor_model.specs.declared.event.Event.TheVariants as event
 use Rattle.executor_model.specs.declared.op.Awaiter.{Awaiter}
 use Rattle.executor_model.specs.declared.op.Hold.{Hold}
 use Rattle.executor_model.specs.declared.op.Op.{Op}
 use Rattle.executor_model.specs.declared.op.Polled.{Polled}
-use Rattle.executor_model.specs.declared.op.Polled.TheVariants as of
-use Rattle.executor_model.specs.declared.op.Sleeping.{Sleeping}
-use Rattle.executor_model.specs.declared.op.TickOrRun.{TickOrRun}
 use Rattle.executor_model.specs.declared.op.Waker.{Waker}
 use Rattle.executor_model.specs.declared.op.Waker.TheVariants.{Task, Outside}
 use Rattle.executor_model.specs.declared.step.Hint.{Hint}
@@ -25,24 +20,17 @@ use Rattle.executor_model.specs.Acts.{answered, append_by, call_waker, closing_o
 use Rattle.executor_model.specs.Acts.{drain_by}
 use Rattle.executor_model.specs.Acts.{drop_next_by, end_notify, end_register_by, enter_by, entry_goes, followed}
 use Rattle.executor_model.specs.Acts.{is_last_waker}
-use Rattle.executor_model.specs.Acts.{is_output, is_told, leak_next_by, leak_out_by, leaked, leaking_ops, leave_by}
+use Rattle.executor_model.specs.Acts.{is_output, is_told, leak_next_by, leak_out_by, leaking_ops, leave_by}
 use Rattle.executor_model.specs.Acts.{let_go, let_go_by}
 use Rattle.executor_model.specs.Acts.{look_again_by, look_by, move_by, notify_by, polled, register_by, take_by, told}
 use Rattle.executor_model.specs.Acts.{told_as, told_of}
 use Rattle.executor_model.specs.Acts.{wake, wake_next_by, waker_goes}
-use Rattle.executor_model.specs.ActsOfSleepers.{copy_sleeper_by, exchange_by, fall_asleep_by, found_by, hand_out_by}
-use Rattle.executor_model.specs.ActsOfSleepers.{leave_sleepers_by}
-use Rattle.executor_model.specs.ActsOfSleepers.{given_back, make_tick_by, search_by, sleep_again_by, sleep_anew_by}
-use Rattle.executor_model.specs.ActsOfSleepers.{sleep_listed_by}
-use Rattle.executor_model.specs.ActsOfSleepers.{sleep_nowhere, sleeper_goes, tell_and_return, wake_up_by}
 use Rattle.executor_model.specs.Carried.{awaiter_ops, carried}
-use Rattle.executor_model.specs.World.{World, Ticker, Awake, Asleep, Left, Done, among, awaiter_of, log, log_if, put}
+use Rattle.executor_model.specs.World.{World, Done, among, awaiter_of, log, log_if, put}
 use Rattle.executor_model.specs.World.{put_awaiter, task}
-use Rattle.executor_model.proofs.Steps.SleepersLists.{freed-same, given_back-same}
-use Rattle.executor_model.proofs.Wakers.Names.{Ends, Every, Names, Right, RightEntry, RightEvent, RightSleep, RightSlot}
+use Rattle.executor_model.proofs.Wakers.Names.{Ends, Every, Names, Right, RightEvent, RightSlot}
 use Rattle.executor_model.proofs.Wakers.Names.{Stored}
-use Rattle.executor_model.proofs.Wakers.Names.{entry-at, every-append, every-get, every-push, every-remove, every-set}
-use Rattle.executor_model.proofs.Wakers.Names.{every-take}
+use Rattle.executor_model.proofs.Wakers.Names.{every-append, every-get, every-push, every-set}
 use Rattle.executor_model.proofs.Wakers.Names.{owes, owes-awaiter, stored-log, stored-log_if}
 
 module _ (k : ℕ) (a : Waker) where

@@ -1,10 +1,9 @@
 -- For polls_keep_their_wakers.
 -- What is done with sleepers and runs names a poll by its own waker, and so does each thing that is done.
-use Rattle.std.proofs.Common.{◌≡◌, ℕ, zero, suc, ◌+◌, List, [], ◌∷◌, ◌++◌, length, set, Bool, true, false, refl, subst}
-use Rattle.std.proofs.Common.{sym, not, ◌&&◌, eqb}
-use Rattle.std.specs.Prelude.{◌-◌, ◌%◌, Option, Some, None, is_none, remove, slice_get, slice_set}
+use Rattle.std.proofs.Common.{◌≡◌, ℕ, zero, suc, ◌+◌, List, [], ◌∷◌, ◌++◌, length, Bool, true, false, refl, subst}
+use Rattle.std.proofs.Common.{sym, eqb}
+use Rattle.std.specs.Prelude.{◌-◌, ◌%◌, Option, Some, None, is_none}
 use Rattle.task_moves.specs.declared.moves.owed.Move.TheVariants as move
-use Rattle.task_moves.specs.Moves as moves
 use Rattle.executor_parts.specs.Sleepers.{Sleepers, last_waker, position_of, waker_at, waker_of, without_entry}
 use Rattle.executor_parts.specs.Sleepers.{woken_up}
 use Rattle.executor_model.specs.declared.call.Reply.{Reply}
@@ -40,21 +39,21 @@ use Rattle.executor_model.specs.declared.op.Waker.{Waker}
 use Rattle.executor_model.specs.declared.op.Waker.TheVariants.{Task, Outside}
 use Rattle.executor_model.specs.declared.op.WakerOp.TheVariants as waker_op
 use Rattle.executor_model.specs.declared.step.Hint.{Hint}
-use Rattle.executor_model.specs.Acts.{followed, is_copy_refused, stands_alone}
-use Rattle.executor_model.specs.ActsOfRuns.{call_by_reference, counted_by, found, kept_by, lock_read, look_own_by}
+use Rattle.executor_model.specs.Acts.{is_copy_refused, stands_alone}
+use Rattle.executor_model.specs.ActsOfRuns.{call_by_reference, counted_by, found, kept_by, look_own_by}
 use Rattle.executor_model.specs.ActsOfRuns.{make_room_by, make_run_by}
 use Rattle.executor_model.specs.ActsOfRuns.{next_place, queue_at, registered, reschedule_by, run_by, search_common_by}
 use Rattle.executor_model.specs.ActsOfRuns.{search_own_by}
-use Rattle.executor_model.specs.ActsOfRuns.{share, source_of, steal_by, steal_length_by, steal_put_by, steal_take_by}
-use Rattle.executor_model.specs.ActsOfRuns.{stolen, unregistered}
+use Rattle.executor_model.specs.ActsOfRuns.{steal_by, steal_length_by, steal_put_by, steal_take_by}
+use Rattle.executor_model.specs.ActsOfRuns.{stolen}
 use Rattle.executor_model.specs.ActsOfRuns.{wake_own, walk, without_first, write}
 use Rattle.executor_model.specs.ActsOfSleepers.{call_of, copy_sleeper_by, exchange_by, fall_asleep_by, found_by}
-use Rattle.executor_model.specs.ActsOfSleepers.{given_back, hand_out_by}
+use Rattle.executor_model.specs.ActsOfSleepers.{hand_out_by}
 use Rattle.executor_model.specs.ActsOfSleepers.{leave_sleepers_by, make_tick_by, polled_as, search_by, sleep_again_by}
 use Rattle.executor_model.specs.ActsOfSleepers.{sleep_anew_by}
 use Rattle.executor_model.specs.ActsOfSleepers.{sleep_listed_by, sleeper_goes, tell_and_return, wake_up_by}
-use Rattle.executor_model.specs.Doing.{act, list_act, run_act, search_by_who, steal_act}
-use Rattle.executor_model.specs.World.{World, Ticker, Awake, Asleep, Left, Stage, New, Listed, Ended, Done, done, log}
+use Rattle.executor_model.specs.Doing.{act, run_act, search_by_who, steal_act}
+use Rattle.executor_model.specs.World.{World, Ticker, Awake, Asleep, Left, Stage, New, Listed, Ended, Done}
 use Rattle.executor_model.specs.World.{own_of, put_own}
 use Rattle.executor_model.specs.World.{run_of}
 use Rattle.executor_model.proofs.Steps.SleepersLists.{freed-same, given_back-same}

@@ -1,9 +1,9 @@
 -- For polls_keep_their_wakers.
 -- What names a poll by its place has its waker, in the whole machine, however a party goes on; and none is named yet by a
 -- place that the trace hasn't reached.
-use Rattle.std.proofs.Common.{◌≡◌, ℕ, zero, suc, ◌+◌, ◌<◌, ◌≤◌, List, [], ◌∷◌, ◌++◌, length, set, get_or, Bool, true}
+use Rattle.std.proofs.Common.{◌≡◌, ℕ, zero, suc, ◌<◌, ◌≤◌, List, [], ◌∷◌, ◌++◌, length, Bool}
 use Rattle.std.proofs.Common.{false, refl, subst, sym, ap}
-use Rattle.std.proofs.Common.{arith, ◌∙◌}
+use Rattle.std.proofs.Common.{arith}
 use Rattle.std.proofs.lemmas.List.{length-append}
 use mathlib.Core.List.{reverse_aux}
 use Rattle.std.specs.Prelude.{Option, Some, None, reverse}
@@ -22,18 +22,17 @@ use Rattle.executor_model.specs.declared.op.Waker.TheVariants.{Task, Outside}
 use Rattle.executor_model.specs.declared.step.Hint.{Hint}
 use Rattle.executor_model.specs.declared.step.UserEnd.{UserEnd}
 use Rattle.executor_model.specs.declared.step.UserEnd.TheVariants as end
-use Rattle.executor_model.specs.Acts.{copied, copy_awaiter_by, is_copy_refused}
+use Rattle.executor_model.specs.Acts.{copied, copy_awaiter_by}
 use Rattle.executor_model.specs.Doing.{act}
 use Rattle.executor_model.specs.Steps.{Machine, begun, drop_run, future_of, kept, mine, poll_run, react, stack, start}
 use Rattle.executor_model.specs.Steps.{top, waker_of}
 use Rattle.executor_model.specs.Steps.{idle, with_future}
-use Rattle.executor_model.specs.Trace.{Trace}
 use Rattle.executor_model.specs.World.{World, Stage, New, Listed, Ended, Done, log, run_of}
 use Rattle.executor_model.proofs.Promises.OutsideCalls.{way-more}
 use Rattle.executor_model.proofs.Steps.Lift.{unsettled}
 use Rattle.executor_model.proofs.Steps.Ways.{Way}
 use Rattle.executor_model.proofs.Steps.Ways.Way.{acted, called, reacted}
-use Rattle.executor_model.proofs.Wakers.Names.{Ends, Every, Names, Right, RightEvent, Stored}
+use Rattle.executor_model.proofs.Wakers.Names.{Ends, Every, Names, Right, Stored}
 use Rattle.executor_model.proofs.Wakers.Names.{every-append, every-get, every-left, every-right, every-set, stored-log}
 use Rattle.executor_model.proofs.Wakers.NamesGroups.{Newly, names-act}
 

@@ -15,8 +15,10 @@ use Rattle.executor_model.specs.DroppedOnce.{DropComesOnce, IsDroppedByTheEnd}
 use Rattle.executor_model.specs.EarlyDrop.{EarlyDropHasCause, LastWakerIsLast}
 use Rattle.executor_model.specs.Emptiness.{IsEmptinessExact, IsQuietEmptinessExact}
 use Rattle.executor_model.specs.Entries.{FindsPlace, OwnAgrees, QueueAgrees, TableAgrees}
+use Rattle.executor_model.specs.GivenWakers.{PollsKeepTheirWakers}
 use Rattle.executor_model.specs.HandingOn.{HandsOn, IsOnItsWay}
 use Rattle.executor_model.specs.InPlace.{IsInPlace}
+use Rattle.executor_model.specs.LastTold.{ClosingSaysWhy}
 use Rattle.executor_model.specs.LawfulPolls.{HasLawfulPolls}
 use Rattle.executor_model.specs.Limit.{IsLimitExact}
 use Rattle.executor_model.specs.Memory.{NeedsNoMemory}
@@ -26,6 +28,7 @@ use Rattle.executor_model.specs.OutputSettled.{OutputIsSettled}
 use Rattle.executor_model.specs.OwnQueues.{HasOwnRoom, IsEmptyMeanwhile, IsUsedOnce}
 use Rattle.executor_model.specs.OwnQueues.{IsWithinBound, ListAgrees, LockAgrees, OwnQueueHasRunner}
 use Rattle.executor_model.specs.OutsideWakers.{OutsideWakersAreCalled}
+use Rattle.executor_model.specs.OwnFutures.{ActsOnItsFuture}
 use Rattle.executor_model.specs.Refusals.{IsWantToldOf, RefusedChangesNothing}
 use Rattle.executor_model.specs.Executions.{HasOneRunnable, IsCounted}
 use Rattle.executor_model.specs.SleepersAgree.{SleepersAgree}
@@ -45,6 +48,7 @@ use Rattle.executor_laws.specs.AtRest.{EmptinessIsExact, TicksAreExact}
 use Rattle.executor_laws.specs.LoneAnswers.{IsLoneEmptinessExact, IsLoneTickExact}
 use Rattle.executor_laws.specs.Places.{StandsWithKeeper}
 use Rattle.executor_laws.specs.Reach.{IsInReach, IsReachedInOrder}
+use Rattle.executor_laws.specs.RunAnswers.{IsReadyAtItsEnd}
 use Rattle.executor_laws.specs.RunReach.{IsKeptReached, IsReachedByRuns, LeavesCommon}
 use Rattle.executor_laws.specs.Ticks.{IsTickExact}
 
@@ -141,8 +145,14 @@ pub record AllLaws (s : Machine) : Type 0 where
   pub spawns : SpawnsAreLimited s
   -- a kept waker stays its future's, and a wake by it wakes that
   pub wakers : WakersWakeTheirOwn s
+  -- a wake, of itself too, wakes its own future, unless that is over, and a copy is kept as a waker of its own
+  pub own_futures : ActsOnItsFuture s
   -- an outside waker that is told of as called is called
   pub outside : OutsideWakersAreCalled s
+  -- a poll keeps the waker that it was given, and no other is called for it
+  pub given : PollsKeepTheirWakers s
+  -- a step that closes an open task says why: nobody is left who could wake its future, or it was cancelled
+  pub why : ClosingSaysWhy s
   -- the executor's drop drops the futures in the order of acceptance, and wakes them so
   pub order : DropsInOrder s
   pub wakes_order : WakesInOrder s
@@ -166,6 +176,8 @@ pub record AllLaws (s : Machine) : Type 0 where
   pub in_order : IsReachedInOrder s
   -- a due future stands with its keeper, and else in the executor's queue
   pub places_of_due : StandsWithKeeper s
+  -- a poll of a run is answered that its own future is ready only where the run has ended
+  pub run_answers : (r : ℕ) → IsReadyAtItsEnd s r
   -- a lone poll of a run takes what the run keeps, and else what is common
   pub by_runs : IsReachedByRuns s
   -- and all that it keeps

@@ -8,11 +8,14 @@ ghost use Rattle.executor_model.specs.EveryTrace.{EveryTrace, EveryTraceBy};
 ghost use Rattle.executor_model.specs.ClosingOrder.{DropsInOrder};
 ghost use Rattle.executor_model.specs.ClosingWakes.{WakesInOrder};
 ghost use Rattle.executor_model.specs.CallsMean.{CallsDoWhatTheySay};
+ghost use Rattle.executor_model.specs.GivenWakers.{PollsKeepTheirWakers};
+ghost use Rattle.executor_model.specs.LastTold.{ClosingSaysWhy};
 ghost use Rattle.executor_model.specs.LawfulPolls.{HasLawfulPolls};
 ghost use Rattle.executor_model.specs.OutputOnce.{OutputGoesOnce};
 ghost use Rattle.executor_model.specs.Executions.{EveryExecution, EveryMachine};
 ghost use Rattle.executor_model.specs.LeakWakes.{LeakWakes};
 ghost use Rattle.executor_model.specs.OutsideWakers.{OutsideWakersAreCalled};
+ghost use Rattle.executor_model.specs.OwnFutures.{ActsOnItsFuture};
 ghost use Rattle.executor_model.specs.SpawnsMean.{SpawnsAreLimited};
 ghost use Rattle.executor_model.specs.WakersMean.{WakersWakeTheirOwn};
 ghost use Rattle.executor_laws.specs.Called.{KeeperIsCalled, SomeStandingIsCalled};
@@ -23,11 +26,13 @@ use executor_laws::laws::{
     common_futures_are_in_reach, dropped_runs_leave_common_futures,
     due_futures_stand_with_their_keepers, keepers_are_called, kept_futures_are_in_reach,
     lone_calls_are_exact, lone_calls_end, no_comes_at_once, queueings_are_counted,
-    runs_reach_futures, some_standing_is_called, ticks_are_exact, traces_continue,
+    runs_are_ready_at_their_end, runs_reach_futures, some_standing_is_called, ticks_are_exact,
+    traces_continue,
 };
 use executor_model::call_laws::{
-    calls_do_what_they_say, leaks_wake_each_future, outside_wakers_are_called, spawns_are_limited,
-    the_closing_drop_keeps_the_order, the_closing_drop_wakes_in_order, wakers_wake_their_own,
+    calls_do_what_they_say, closings_say_why, leaks_wake_each_future, outside_wakers_are_called,
+    polls_keep_their_wakers, spawns_are_limited, the_closing_drop_keeps_the_order,
+    the_closing_drop_wakes_in_order, wakers_wake_their_own, wakes_and_copies_are_of_their_futures,
 };
 use executor_model::laws::{
     emptiness_is_exact, futures_are_in_their_places, no_append_is_refused_full, one_runnable,
@@ -71,6 +76,7 @@ pub fn all_laws()
     ticks_are_exact();
     common_futures_are_in_reach();
     arrival_order_needs_fewer_ticks();
+    runs_are_ready_at_their_end();
     due_futures_stand_with_their_keepers();
     runs_reach_futures();
     kept_futures_are_in_reach();
@@ -114,7 +120,10 @@ fn laws_of_calls()
     ensures calls { EveryTrace CallsDoWhatTheySay }
     ensures spawns { EveryMachine SpawnsAreLimited }
     ensures wakers { EveryMachine WakersWakeTheirOwn }
+    ensures own { EveryMachine ActsOnItsFuture }
     ensures outside { EveryMachine OutsideWakersAreCalled }
+    ensures given { EveryMachine PollsKeepTheirWakers }
+    ensures why { EveryMachine ClosingSaysWhy }
     ensures order { EveryMachine DropsInOrder }
     ensures wakes_order { EveryMachine WakesInOrder }
     ensures leaks { EveryExecution LeakWakes }
@@ -122,7 +131,10 @@ fn laws_of_calls()
     calls_do_what_they_say();
     spawns_are_limited();
     wakers_wake_their_own();
+    wakes_and_copies_are_of_their_futures();
     outside_wakers_are_called();
+    polls_keep_their_wakers();
+    closings_say_why();
     the_closing_drop_keeps_the_order();
     the_closing_drop_wakes_in_order();
     leaks_wake_each_future();

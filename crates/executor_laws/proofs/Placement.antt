@@ -21,3 +21,4 @@ pub mod Bound
 pub mod BoundSteps
 pub mod BoundWays
 pub mod Placing
+pub mod RunAnswers

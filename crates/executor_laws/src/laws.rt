@@ -3,7 +3,7 @@ ghost use Rattle.std.specs.Prelude.{ℕ, List};
 ghost use Rattle.executor_model.specs.declared.kind.Kind.{Kind};
 ghost use Rattle.executor_model.specs.declared.step.Step.{Step};
 ghost use Rattle.executor_model.specs.EveryTrace.{EveryTrace};
-ghost use Rattle.executor_model.specs.Executions.{EveryMachine};
+ghost use Rattle.executor_model.specs.Executions.{EveryExecution, EveryMachine};
 ghost use Rattle.executor_model.specs.Steps.{Machine, step, stepped};
 ghost use Rattle.executor_laws.specs.AtOnce.{NoComesAtOnce};
 ghost use Rattle.executor_laws.specs.Continued.{IsContinued};
@@ -16,6 +16,7 @@ ghost use Rattle.executor_laws.specs.AtRest.{EmptinessIsExact, TicksAreExact};
 ghost use Rattle.executor_laws.specs.LoneAnswers.{IsLoneEmptinessExact, IsLoneTickExact};
 ghost use Rattle.executor_laws.specs.Places.{StandsWithKeeper};
 ghost use Rattle.executor_laws.specs.Reach.{IsInReach, IsReachedInOrder};
+ghost use Rattle.executor_laws.specs.RunAnswers.{IsReadyAtItsEnd};
 ghost use Rattle.executor_laws.specs.RunReach.{IsKeptReached, IsReachedByRuns, LeavesCommon};
 ghost use Rattle.executor_laws.specs.Ticks.{IsTickExact};
 
@@ -70,6 +71,13 @@ pub fn some_standing_is_called()
 /// is called, unless its own last poll was refused for want of memory.
 pub fn keepers_are_called()
     ensures { EveryTrace KeeperIsCalled }
+{}
+
+/// Whatever the parties do, a poll of a run is answered that its own future is ready only where the run has ended, so that its
+/// own queue has gone from the list of queues. So a poll of a run whose queue is still there isn't answered so, whatever it
+/// found.
+pub fn runs_are_ready_at_their_end()
+    ensures { EveryExecution IsReadyAtItsEnd }
 {}
 
 /// Where no call is in progress and the drop of the executor hasn't begun, the Runnable of a due future stands in the

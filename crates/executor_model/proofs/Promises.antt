@@ -15,3 +15,4 @@ pub mod SpawnLimits
 pub mod OwnWakers
 pub mod OwnWakes
 pub mod OutsideCalls
+pub mod OwnFutures

@@ -24,3 +24,4 @@ pub mod LastWakers
 pub mod Leaking
 pub mod LeakWithin
 pub mod LeakWakes
+pub mod LastTold

@@ -73,7 +73,7 @@ HasDetached f own = has (is_detached f) own ≡ true
 abbrev pub HasAccepted : Trace → Type 0
 HasAccepted own = (f : ℕ) × (has (is_accepted f) own ≡ true)
 
--- it woke a future, unless some future, whichever, was over before it ended; of a kept waker WakersMean says which
+-- it woke a future, unless some future, whichever, was over before it ended; WakersMean and OwnFutures say which
 abbrev pub HasWoken : Trace → Trace → Type 0
 HasWoken own past = (f : ℕ) × ((has (is_woken f) own ≡ true) ⊎ MayBeOver f past)
 

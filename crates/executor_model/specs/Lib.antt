@@ -45,3 +45,6 @@ pub mod OutsideWakers
 pub mod ClosingOrder
 pub mod ClosingWakes
 pub mod LeakWakes
+pub mod GivenWakers
+pub mod LastTold
+pub mod OwnFutures

@@ -5,7 +5,10 @@ ghost use Rattle.executor_model.specs.ClosingWakes.{WakesInOrder};
 ghost use Rattle.executor_model.specs.EveryTrace.{EveryTrace};
 ghost use Rattle.executor_model.specs.Executions.{EveryExecution, EveryMachine};
 ghost use Rattle.executor_model.specs.LeakWakes.{LeakWakes};
+ghost use Rattle.executor_model.specs.GivenWakers.{PollsKeepTheirWakers};
+ghost use Rattle.executor_model.specs.LastTold.{ClosingSaysWhy};
 ghost use Rattle.executor_model.specs.OutsideWakers.{OutsideWakersAreCalled};
+ghost use Rattle.executor_model.specs.OwnFutures.{ActsOnItsFuture};
 ghost use Rattle.executor_model.specs.SpawnsMean.{SpawnsAreLimited};
 ghost use Rattle.executor_model.specs.WakersMean.{WakersWakeTheirOwn};
 
@@ -38,6 +41,27 @@ pub fn wakers_wake_their_own()
 /// user code of that waker, before anything else.
 pub fn outside_wakers_are_called()
     ensures { EveryMachine OutsideWakersAreCalled }
+{}
+
+/// Whatever the parties do, a poll of a handle, of a tick or of a run keeps the waker that it was given, which is the waker
+/// of the poll in which its party stood as the call began, or the one from outside that the call names: what the machine
+/// keeps of that poll has no other waker, and no other is called for it.
+pub fn polls_keep_their_wakers()
+    ensures { EveryMachine PollsKeepTheirWakers }
+{}
+
+/// Whatever the parties do, a step that closes the open task of a future, whether it lets the last waker go, detaches the
+/// future, or ends a poll that leaves none, says why itself: it tells that nobody is left who could wake the future, or that
+/// it was cancelled, unless the drop of the executor has begun, which closes each task.
+pub fn closings_say_why()
+    ensures { EveryMachine ClosingSaysWhy }
+{}
+
+/// Whatever the parties do, a wake, by the waker of the poll in which its party stands or by a kept one, wakes the future of
+/// that waker, in its party's first step behind its beginning, unless that future was over before; and a copy of such a waker
+/// is kept as a waker of that future, in that step, where memory isn't wanted.
+pub fn wakes_and_copies_are_of_their_futures()
+    ensures { EveryMachine ActsOnItsFuture }
 {}
 
 /// Whatever the parties do, futures are numbered in the order in which they are accepted, and those that are dropped since

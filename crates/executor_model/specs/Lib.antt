@@ -40,6 +40,7 @@ pub mod Deeds
 pub mod Calls
 pub mod CallsMean
 pub mod SpawnsMean
+pub mod SpawnWants
 pub mod WakersMean
 pub mod OutsideWakers
 pub mod ClosingOrder

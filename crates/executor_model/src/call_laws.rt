@@ -6,6 +6,7 @@ ghost use Rattle.executor_model.specs.EveryTrace.{EveryTrace};
 ghost use Rattle.executor_model.specs.Executions.{EveryMachine};
 ghost use Rattle.executor_model.specs.OutsideWakers.{OutsideWakersAreCalled};
 ghost use Rattle.executor_model.specs.SpawnsMean.{SpawnsAreLimited};
+ghost use Rattle.executor_model.specs.SpawnWants.{SpawnsWantAsTold};
 ghost use Rattle.executor_model.specs.WakersMean.{WakersWakeTheirOwn};
 
 /// Whatever the parties do, each call that has ended was answered with one of its own answers, and did what its name
@@ -25,6 +26,13 @@ pub fn calls_do_what_they_say()
 /// undropped than the limit: so a spawn that asks for a place where as many are undropped is not made.
 pub fn spawns_are_limited()
     ensures { EveryMachine SpawnsAreLimited }
+{}
+
+/// Whatever the parties do, a spawn is answered that memory is wanted only by a step that is told so, and only where fewer
+/// futures than the limit are undropped. One that asks for a place, where fewer are undropped or were dropped in a call
+/// that hasn't ended, is answered so at once where memory is refused, and takes its future in where it isn't.
+pub fn spawns_want_memory_as_told()
+    ensures { EveryMachine SpawnsWantAsTold }
 {}
 
 /// Whatever the parties do, a kept waker that is one of a future stays so until it is used up, and each wake by it that

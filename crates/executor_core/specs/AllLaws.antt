@@ -30,6 +30,7 @@ use Rattle.executor_model.specs.Executions.{HasOneRunnable, IsCounted}
 use Rattle.executor_model.specs.SleepersAgree.{SleepersAgree}
 use Rattle.executor_model.specs.SleepersTold.{SleepersAreTold}
 use Rattle.executor_model.specs.SpawnsMean.{SpawnsAreLimited}
+use Rattle.executor_model.specs.SpawnWants.{SpawnsWantAsTold}
 use Rattle.executor_model.specs.Steps.{Machine, run, start, step, stepped}
 use Rattle.executor_model.specs.TableKeeps.{EntryOutlastsDrop, IsTableBound}
 use Rattle.executor_model.specs.WakersMean.{WakersWakeTheirOwn}
@@ -138,6 +139,8 @@ pub record AllLaws (s : Machine) : Type 0 where
   pub calls : (p : ℕ) → CallsDoWhatTheySay p s.world.trace
   -- an answer that the executor is full is given where it is, and no more futures are undropped than its limit
   pub spawns : SpawnsAreLimited s
+  -- want of memory is answered to a spawn only by a step that is told so, and only where the executor isn't full
+  pub spawn_wants : SpawnsWantAsTold s
   -- a kept waker stays its future's, and a wake by it wakes that
   pub wakers : WakersWakeTheirOwn s
   -- an outside waker that is told of as called is called

@@ -13,6 +13,7 @@ ghost use Rattle.executor_model.specs.OutputOnce.{OutputGoesOnce};
 ghost use Rattle.executor_model.specs.Executions.{EveryMachine};
 ghost use Rattle.executor_model.specs.OutsideWakers.{OutsideWakersAreCalled};
 ghost use Rattle.executor_model.specs.SpawnsMean.{SpawnsAreLimited};
+ghost use Rattle.executor_model.specs.SpawnWants.{SpawnsWantAsTold};
 ghost use Rattle.executor_model.specs.WakersMean.{WakersWakeTheirOwn};
 ghost use Rattle.executor_laws.specs.Called.{KeeperIsCalled, SomeStandingIsCalled};
 ghost use Rattle.executor_core.specs.AllLaws.{AllLaws};
@@ -26,7 +27,8 @@ use executor_laws::laws::{
 };
 use executor_model::call_laws::{
     calls_do_what_they_say, outside_wakers_are_called, spawns_are_limited,
-    the_closing_drop_keeps_the_order, the_closing_drop_wakes_in_order, wakers_wake_their_own,
+    spawns_want_memory_as_told, the_closing_drop_keeps_the_order, the_closing_drop_wakes_in_order,
+    wakers_wake_their_own,
 };
 use executor_model::laws::{
     emptiness_is_exact, futures_are_in_their_places, no_append_is_refused_full, one_runnable,
@@ -112,6 +114,7 @@ fn laws_of_traces()
 fn laws_of_calls()
     ensures calls { EveryTrace CallsDoWhatTheySay }
     ensures spawns { EveryMachine SpawnsAreLimited }
+    ensures spawn_wants { EveryMachine SpawnsWantAsTold }
     ensures wakers { EveryMachine WakersWakeTheirOwn }
     ensures outside { EveryMachine OutsideWakersAreCalled }
     ensures order { EveryMachine DropsInOrder }
@@ -119,6 +122,7 @@ fn laws_of_calls()
 {
     calls_do_what_they_say();
     spawns_are_limited();
+    spawns_want_memory_as_told();
     wakers_wake_their_own();
     outside_wakers_are_called();
     the_closing_drop_keeps_the_order();

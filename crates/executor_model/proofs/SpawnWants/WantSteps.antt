@@ -1,17 +1,16 @@
 -- For spawns_want_memory_as_told.
 -- Where one thing is done for a spawn and the end of a call for want of memory comes first then, it asked for a place.
-use Rattle.std.proofs.Common.{◌≡◌, ◌⊎◌, ◌∙◌, ℕ, ◌+◌, List, [], ◌∷◌, ◌++◌, Bool, true, false}
-use Rattle.std.proofs.Common.{inl, inr, ⊎_elim, refl, sym, ap, subst, arith}
+use Rattle.std.proofs.Common.{◌≡◌, ◌∙◌, ℕ, List, [], ◌∷◌, ◌++◌, true, false}
+use Rattle.std.proofs.Common.{⊎_elim, refl, sym, ap, subst, arith}
 use Rattle.std.proofs.lemmas.List.{append_assoc}
-use Rattle.std.specs.Prelude.{Option, Some, None, reverse}
+use Rattle.std.specs.Prelude.{Some, reverse}
 use Rattle.executor_model.specs.declared.call.Call.TheVariants as call
 use Rattle.executor_model.specs.declared.op.Op.{Op}
 use Rattle.executor_model.specs.declared.op.Op.TheVariants as op
 use Rattle.executor_model.specs.declared.op.TableOp.TheVariants as table_op
-use Rattle.executor_model.specs.Calls.{Begun, calls}
+use Rattle.executor_model.specs.Calls.{Begun}
 use Rattle.executor_model.specs.SpawnWants.{IsSpawning}
 use Rattle.executor_model.specs.Steps.{Machine, stack}
-use Rattle.executor_model.specs.Trace.{Trace}
 use Rattle.executor_model.specs.Weights.{weigh}
 use Rattle.executor_model.proofs.Promises.CallFrames.{Tied}
 use Rattle.executor_model.proofs.Promises.CallServes.{misfit}

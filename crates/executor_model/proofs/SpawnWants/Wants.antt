@@ -1,8 +1,7 @@
 -- For spawns_want_memory_as_told.
 -- A spawn is answered that memory is wanted where its step is told so and the executor isn't full, and nowhere else.
-use Rattle.std.proofs.Common.{◌≡◌, ◌⊎◌, ◌∙◌, ℕ, ◌<◌, ◌≤◌, List, [], ◌∷◌, ◌++◌, length, Bool, true, false, not, ltb}
-use Rattle.std.proofs.Common.{refl, sym, ap, subst, arith, append-nil, Err, Ok}
-use Rattle.std.proofs.lemmas.Bool.Decides.{nat_tests}
+use Rattle.std.proofs.Common.{◌≡◌, ◌∙◌, ℕ, List, [], ◌∷◌, ◌++◌, length, Bool, true, false, not, ltb}
+use Rattle.std.proofs.Common.{refl, sym, ap, subst, arith, append-nil}
 use Rattle.std.proofs.lemmas.List.{append_assoc, append_cancel_left, reverse-append}
 use Rattle.std.specs.Prelude.{Option, Some, None, nat_lt, reverse}
 use Rattle.std.specs.List.{list_any}
@@ -12,7 +11,6 @@ use Rattle.executor_model.specs.declared.call.Reply.{Reply}
 use Rattle.executor_model.specs.declared.call.Reply.TheVariants as reply
 use Rattle.executor_model.specs.declared.event.Event.{Event}
 use Rattle.executor_model.specs.declared.event.Event.TheVariants as event
-use Rattle.executor_model.specs.declared.op.Hold.{Hold}
 use Rattle.executor_model.specs.declared.op.Op.{Op}
 use Rattle.executor_model.specs.declared.op.Hold.TheVariants as hold
 use Rattle.executor_model.specs.declared.op.Op.TheVariants as op
@@ -29,9 +27,9 @@ use Rattle.executor_model.specs.Acts.{enter_by}
 use Rattle.executor_model.specs.Doing.{act}
 use Rattle.executor_model.specs.Limit.{Asks, IsLimitExact, IsUndropped, ReachLimit}
 use Rattle.executor_model.specs.Entries.{Remains}
-use Rattle.executor_model.specs.Refusals.{IsWantToldOf, ends_for_want}
+use Rattle.executor_model.specs.Refusals.{ends_for_want}
 use Rattle.executor_model.specs.SpawnWants.{Answers, IsSpawning, SpawnsWantAsTold, is_refused}
-use Rattle.executor_model.specs.Steps.{Machine, Part, accepts, begun, end_of, go_refusal, answer_refusal, gone_on, mine, onto}
+use Rattle.executor_model.specs.Steps.{Machine, accepts, begun, end_of, go_refusal, answer_refusal, gone_on, mine, onto}
 use Rattle.executor_model.specs.Steps.{below_top, part_after, part_refusal, party_of, react, refusal, run, settled_by, stack}
 use Rattle.executor_model.specs.Steps.{start, step, step_by, stepped, top, unless}
 use Rattle.executor_model.specs.Trace.{Trace, has}
@@ -44,8 +42,6 @@ use Rattle.executor_model.proofs.Quiet.CallsGroups.{calls-act}
 use Rattle.executor_model.proofs.Quiet.Resting.{opens}
 use Rattle.executor_model.proofs.Steps.Deeds.{ends_one, grows-act, grows-begun, grows-react}
 use Rattle.executor_model.proofs.Steps.Lift.{none_refused, topped}
-use Rattle.executor_model.proofs.Steps.Ways.{Made, Way, made}
-use Rattle.executor_model.proofs.Steps.Ways.Way.{acted, called, reacted}
 use Rattle.executor_model.proofs.Table.Spawning.{asked, in-range, limits, says-full, step-trace}
 use Rattle.executor_model.proofs.SpawnWants.Tops.{Tops, first, flipped, top-first, tops}
 use Rattle.executor_model.proofs.SpawnWants.WantFrames.{Askings, askings, unended, want_of}
@@ -263,7 +259,7 @@ found s p here f k t a = found-step s p here f k a.0 t (refusal s t) refl a.1
 -- the law
 
 module _ (s : Machine) (here : Tops s) (f : Askings s) (exact : IsLimitExact s) where
-  any_hint : Hint
+  abbrev any_hint : Hint
   any_hint = record { refused = false; same = false; start = 0 }
 
   few : (p : ℕ) (t : Step) → IsSpawning p s.world.trace → Answers s t p reply.NoMemory →

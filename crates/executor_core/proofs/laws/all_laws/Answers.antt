@@ -51,6 +51,7 @@ returns c limit kind parties steps =
       want = c.want_of_memory_is_told_of.ensures s.world;
       calls = c.laws_of_calls.ensures.calls limit kind parties steps;
       spawns = c.laws_of_calls.ensures.spawns limit kind parties steps;
+      spawn_wants = c.laws_of_calls.ensures.spawn_wants limit kind parties steps;
       wakers = c.laws_of_calls.ensures.wakers limit kind parties steps;
       outside = c.laws_of_calls.ensures.outside limit kind parties steps;
       order = c.laws_of_calls.ensures.order limit kind parties steps;

@@ -9,6 +9,7 @@ use Rattle.executor_model.specs.AwaiterKept.{AwaiterIsKept}
 use Rattle.executor_model.specs.CallsMean.{CallsDoWhatTheySay}
 use Rattle.executor_model.specs.ClosingOrder.{DropsInOrder}
 use Rattle.executor_model.specs.ClosingWakes.{WakesInOrder}
+use Rattle.executor_model.specs.CopiesMean.{CopiesAreCounted}
 use Rattle.executor_model.specs.DroppedAtRest.{IsDroppedAtRest}
 use Rattle.executor_model.specs.DroppedOnce.{DropComesOnce, IsDroppedByTheEnd}
 use Rattle.executor_model.specs.EarlyDrop.{EarlyDropHasCause, LastWakerIsLast}
@@ -34,6 +35,7 @@ use Rattle.executor_model.specs.SpawnWants.{SpawnsWantAsTold}
 use Rattle.executor_model.specs.Steps.{Machine, run, start, step, stepped}
 use Rattle.executor_model.specs.TableKeeps.{EntryOutlastsDrop, IsTableBound}
 use Rattle.executor_model.specs.WakersMean.{WakersWakeTheirOwn}
+use Rattle.executor_model.specs.WalksRound.{WalksGoRound}
 use Rattle.executor_laws.specs.Called.{KeeperIsCalled, SomeStandingIsCalled}
 use Rattle.executor_laws.specs.AtOnce.{NoComesAtOnce}
 use Rattle.executor_laws.specs.Continued.{IsContinued}
@@ -107,6 +109,8 @@ pub record AllLaws (s : Machine) : Type 0 where
   pub own_runner : (r : ℕ) → OwnQueueHasRunner s r
   -- and is never more than 512
   pub own_bound : (r : ℕ) → IsWithinBound s r
+  -- a walk comes to the own queue of each other run in the list
+  pub round : WalksGoRound s
   -- of the table, the queue, the limit and memory
 
   -- the table has those that are undropped, or whose drop has still to take the entry out, once each
@@ -143,6 +147,8 @@ pub record AllLaws (s : Machine) : Type 0 where
   pub spawn_wants : SpawnsWantAsTold s
   -- a kept waker stays its future's, and a wake by it wakes that
   pub wakers : WakersWakeTheirOwn s
+  -- a copy that is made adds one kept waker, who uses a waker up takes that out, and nothing else changes which are kept
+  pub copies : CopiesAreCounted s
   -- an outside waker that is told of as called is called
   pub outside : OutsideWakersAreCalled s
   -- the executor's drop drops the futures in the order of acceptance, and wakes them so

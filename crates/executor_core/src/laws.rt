@@ -1,6 +1,7 @@
 //! All laws of every machine, in one record.
 ghost use Rattle.executor_model.specs.AskedPolls.{IsWokenBetweenPolls};
 ghost use Rattle.executor_model.specs.AwaiterKept.{AwaiterIsKept};
+ghost use Rattle.executor_model.specs.CopiesMean.{CopiesAreCounted};
 ghost use Rattle.executor_model.specs.DroppedAtRest.{IsDroppedAtRest};
 ghost use Rattle.executor_model.specs.DroppedOnce.{DropComesOnce, IsDroppedByTheEnd};
 ghost use Rattle.executor_model.specs.EarlyDrop.{EarlyDropHasCause, LastWakerIsLast};
@@ -26,7 +27,7 @@ use executor_laws::laws::{
     runs_reach_futures, some_standing_is_called, ticks_are_exact, traces_continue,
 };
 use executor_model::call_laws::{
-    calls_do_what_they_say, outside_wakers_are_called, spawns_are_limited,
+    calls_do_what_they_say, copies_are_counted, outside_wakers_are_called, spawns_are_limited,
     spawns_want_memory_as_told, the_closing_drop_keeps_the_order, the_closing_drop_wakes_in_order,
     wakers_wake_their_own,
 };
@@ -35,7 +36,7 @@ use executor_model::laws::{
     outputs_are_kept, outputs_are_settled, own_queues_agree, quiet_emptiness_is_exact,
     references_are_counted, refused_calls_change_nothing, sleepers_agree, sleepers_are_told,
     table_and_queue_agree, the_limit_is_exact, the_table_is_kept, wakes_and_drops_take_no_memory,
-    wakes_are_handed_on, want_of_memory_is_told_of,
+    wakes_are_handed_on, walks_go_round, want_of_memory_is_told_of,
 };
 use executor_model::trace_laws::{
     awaiters_are_kept, closing_drops_each_future_once, dropped_executors_drop_each_future_once,
@@ -56,6 +57,7 @@ pub fn all_laws()
     sleepers_agree();
     sleepers_are_told();
     own_queues_agree();
+    walks_go_round();
     table_and_queue_agree();
     the_table_is_kept();
     futures_are_in_their_places();
@@ -116,6 +118,7 @@ fn laws_of_calls()
     ensures spawns { EveryMachine SpawnsAreLimited }
     ensures spawn_wants { EveryMachine SpawnsWantAsTold }
     ensures wakers { EveryMachine WakersWakeTheirOwn }
+    ensures copies { EveryMachine CopiesAreCounted }
     ensures outside { EveryMachine OutsideWakersAreCalled }
     ensures order { EveryMachine DropsInOrder }
     ensures wakes_order { EveryMachine WakesInOrder }
@@ -124,6 +127,7 @@ fn laws_of_calls()
     spawns_are_limited();
     spawns_want_memory_as_told();
     wakers_wake_their_own();
+    copies_are_counted();
     outside_wakers_are_called();
     the_closing_drop_keeps_the_order();
     the_closing_drop_wakes_in_order();

@@ -2,6 +2,7 @@
 ghost use Rattle.executor_model.specs.CallsMean.{CallsDoWhatTheySay};
 ghost use Rattle.executor_model.specs.ClosingOrder.{DropsInOrder};
 ghost use Rattle.executor_model.specs.ClosingWakes.{WakesInOrder};
+ghost use Rattle.executor_model.specs.CopiesMean.{CopiesAreCounted};
 ghost use Rattle.executor_model.specs.EveryTrace.{EveryTrace};
 ghost use Rattle.executor_model.specs.Executions.{EveryMachine};
 ghost use Rattle.executor_model.specs.OutsideWakers.{OutsideWakersAreCalled};
@@ -39,6 +40,15 @@ pub fn spawns_want_memory_as_told()
 /// has ended woke that future, unless that was over before the wake ended.
 pub fn wakers_wake_their_own()
     ensures { EveryMachine WakersWakeTheirOwn }
+{}
+
+/// Whatever the parties do, kept wakers come and go one by one. A step that answers a copy of a waker that it was made adds
+/// one kept waker, behind the others, and one reference of its task, which had fewer than 2^40; one that answers it that
+/// memory is wanted adds none, and is told so, or a task has 2^40 references. A call that uses a waker up takes that out as it
+/// begins, and leaves the others. No other step changes which wakers are kept. A reference that is let go is one less,
+/// unless it is the last of a task without handle.
+pub fn copies_are_counted()
+    ensures { EveryMachine CopiesAreCounted }
 {}
 
 /// Whatever the parties do, a step that tells that a waker from outside of the executor is called leads its party into the

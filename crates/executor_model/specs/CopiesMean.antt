@@ -9,7 +9,7 @@ use Rattle.executor_model.specs.declared.call.Reply.TheVariants.{Made, NoMemory}
 use Rattle.executor_model.specs.declared.op.Op.TheVariants as op
 use Rattle.executor_model.specs.declared.step.Hint.{Hint}
 use Rattle.executor_model.specs.declared.step.Step.{Step}
-use Rattle.executor_model.specs.declared.step.Step.TheVariants.{Begin, Go, Answer}
+use Rattle.executor_model.specs.declared.step.Step.TheVariants.{Begin, Go}
 use Rattle.executor_model.specs.Calls.{Begun, calls}
 use Rattle.executor_model.specs.SpawnWants.{Answers, is_refused}
 use Rattle.executor_model.specs.Steps.{Machine, refusal, stack, step, stepped, top}

@@ -1,7 +1,7 @@
 -- For copies_are_counted.
 -- A copy of a waker has one thing to do, and then to end.
-use Rattle.std.proofs.Common.{◌≡◌, ◌∙◌, ℕ, ◌+◌, ◌<◌, List, [], ◌∷◌, ◌++◌, length, Bool, true, false, ◌&&◌, ◌||◌}
-use Rattle.std.proofs.Common.{cond, refl, sym, ap, subst, arith}
+use Rattle.std.proofs.Common.{◌≡◌, ◌∙◌, ℕ, ◌<◌, List, [], ◌∷◌, ◌++◌, length, Bool, true, false}
+use Rattle.std.proofs.Common.{refl, sym, ap, subst, arith}
 use Rattle.std.specs.Prelude.{Option, Some, None, reverse}
 use Rattle.executor_model.specs.declared.kind.Kind.{Kind}
 use Rattle.executor_model.specs.declared.call.Call.{Call}
@@ -33,7 +33,6 @@ use Rattle.executor_model.proofs.Promises.CallServes.{misfit}
 use Rattle.executor_model.proofs.Promises.FrameWays.{frames-end, frames-start, frames-way}
 use Rattle.executor_model.proofs.Quiet.Calls.{is_end}
 use Rattle.executor_model.proofs.Quiet.CallsDone.{fit-begun}
-use Rattle.executor_model.proofs.SpawnWants.WantFrames.{unended}
 use Rattle.executor_model.proofs.Steps.Lift.{good-start, unsettled}
 use Rattle.executor_model.proofs.Steps.Lists.{weigh-append}
 use Rattle.executor_model.proofs.Steps.Ways.{Way, along}

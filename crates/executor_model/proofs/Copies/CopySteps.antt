@@ -1,7 +1,7 @@
 -- For copies_are_counted.
 -- What the step of a copy does, and which steps change the kept wakers.
-use Rattle.std.proofs.Common.{◌≡◌, ◌⊎◌, ◌∙◌, ℕ, suc, ◌-◌, ◌+◌, ◌<◌, ◌≤◌, List, [], ◌∷◌, ◌++◌, length, set, Bool, true, false, ◌&&◌, not, ltb, eqb}
-use Rattle.std.proofs.Common.{get_or, refl, sym, ap, subst, arith, inl, inr, ⊎_elim, get_or-set_same}
+use Rattle.std.proofs.Common.{◌≡◌, ◌⊎◌, ◌∙◌, ℕ, suc, ◌-◌, ◌<◌, ◌≤◌, List, [], ◌∷◌, ◌++◌, length, set, Bool, true, false, not}
+use Rattle.std.proofs.Common.{get_or, refl, sym, ap, arith, inl, inr, ⊎_elim, get_or-set_same}
 use Rattle.std.proofs.lemmas.Bool.Decides.{nat_tests}
 use Rattle.std.proofs.lemmas.List.{get_or_past}
 use Rattle.std.specs.Prelude.{Option, Some, None, nat_lt, reverse}
@@ -22,18 +22,17 @@ use Rattle.executor_model.specs.declared.op.TableOp.TheVariants as table_op
 use Rattle.executor_model.specs.declared.op.Waker.{Waker}
 use Rattle.executor_model.specs.declared.op.WakerOp.TheVariants as waker_op
 use Rattle.executor_model.specs.declared.step.Hint.{Hint}
-use Rattle.executor_model.specs.declared.step.Step.{Step}
-use Rattle.executor_model.specs.declared.step.Step.TheVariants.{Begin, Go, Answer}
+use Rattle.executor_model.specs.declared.step.Step.TheVariants.{Go}
 use Rattle.executor_model.specs.declared.step.StepError.{StepError}
 use Rattle.executor_model.specs.declared.step.StepError.TheVariants.{NoSuch}
 use Rattle.executor_model.specs.Acts.{copy_by, drop_next_by, enter_by, is_last_waker, is_refused, is_told, told_of}
 use Rattle.executor_model.specs.CopiesMean.{AddsNone, AddsOne}
 use Rattle.executor_model.specs.Doing.{act}
-use Rattle.executor_model.specs.Steps.{Machine, below_top, begun, end_of, future_of, go_refusal, gone_on, is_some, kept, mine, onto}
+use Rattle.executor_model.specs.Steps.{Machine, below_top, begun, end_of, future_of, go_refusal, gone_on, is_some, kept, onto}
 use Rattle.executor_model.specs.Steps.{refusal, settled, settled_by, stack, step, step_by, stepped, top, unless, with_future}
-use Rattle.executor_model.specs.World.{Done, World, blank, done, log, log_if, put, task}
+use Rattle.executor_model.specs.World.{Done, World, blank, log, task}
 use Rattle.executor_model.proofs.Steps.Placing.{Spots, places, same-spots}
-use Rattle.executor_model.proofs.Steps.Tests.{left-false, right-false}
+use Rattle.executor_model.proofs.Steps.Tests.{right-false}
 use Rattle.executor_model.proofs.Table.Spawning.{in-range, top-last}
 
 -- the party goes on with what is on top
@@ -98,8 +97,11 @@ adds-none w h f held a p e = record { wakers = refl; tasks = refl; cause = by h.
 
     by : (b : Bool) → h.refused ≡ b → (b ≡ true) ⊎ ((g : ℕ) × (most_references ≤ (task w g).references))
     by true z = inl refl
-    by false z = inr (f, many (task w f).references (sym (ap (λ (c : Bool). let r : Bool =
-        or_by c (not (nat_lt (task w f).references most_references)) in r) z) ∙ e))
+    by false z = inr (
+      f,
+      many (task w f).references (sym (ap (λ (c : Bool). let r : Bool =
+          or_by c (not (nat_lt (task w f).references most_references)) in r) z) ∙ e),
+    )
       where
         or_by : Bool → Bool → Bool
         or_by true c = true

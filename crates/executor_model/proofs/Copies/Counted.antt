@@ -1,10 +1,10 @@
 -- For copies_are_counted.
 -- A copy that is made adds one waker and one reference, and a call that uses a waker up takes it out.
-use Rattle.std.proofs.Common.{◌≡◌, ◌⊎◌, ◌∙◌, ℕ, ◌<◌, List, [], ◌∷◌, ◌++◌, length, set, Bool, true, false, ◌&&◌, eqb, cond}
-use Rattle.std.proofs.Common.{refl, sym, ap, subst, arith, Ok, Result}
+use Rattle.std.proofs.Common.{◌≡◌, ◌∙◌, ℕ, List, [], ◌∷◌, ◌++◌, set, Bool, true, false, ◌&&◌}
+use Rattle.std.proofs.Common.{refl, sym, ap, subst, arith, Result}
 use Rattle.std.proofs.lemmas.Bool.Decides.{nat_tests}
 use Rattle.std.proofs.lemmas.List.{append_cancel_left}
-use Rattle.std.specs.Prelude.{Option, Some, None, nat_lt, reverse}
+use Rattle.std.specs.Prelude.{Option, Some, None, reverse}
 use Rattle.executor_model.specs.declared.kind.Kind.{Kind}
 use Rattle.executor_model.specs.declared.call.Call.{Call}
 use Rattle.executor_model.specs.declared.call.Call.TheVariants as call
@@ -14,14 +14,12 @@ use Rattle.executor_model.specs.declared.event.Event.TheVariants as event
 use Rattle.executor_model.specs.declared.op.Hold.{Hold}
 use Rattle.executor_model.specs.declared.op.Op.{Op}
 use Rattle.executor_model.specs.declared.op.Op.TheVariants as op
-use Rattle.executor_model.specs.declared.op.Waker.{Waker}
 use Rattle.executor_model.specs.declared.op.WakerOp.TheVariants as waker_op
 use Rattle.executor_model.specs.declared.step.Hint.{Hint}
 use Rattle.executor_model.specs.declared.step.Step.{Step}
 use Rattle.executor_model.specs.declared.step.Step.TheVariants.{Begin, Go, Answer}
 use Rattle.executor_model.specs.declared.step.StepError.{StepError}
 use Rattle.executor_model.specs.declared.step.StepError.TheVariants.{NoSuch, WrongAnswer}
-use Rattle.executor_model.specs.declared.step.UserEnd.{UserEnd}
 use Rattle.executor_model.specs.Acts.{copy_by, is_refused}
 use Rattle.executor_model.specs.Calls.{Begun, calls}
 use Rattle.executor_model.specs.CopiesMean.{AddsNone, AddsOne, CopiesAreCounted, IsCopying, begins_use, is_copy, uses_up}
@@ -33,16 +31,16 @@ use Rattle.executor_model.specs.Steps.{below_top, end_of, is_free, kept, mine, o
 use Rattle.executor_model.specs.Steps.{start, step, step_by, stepped, top, unless}
 use Rattle.executor_model.specs.Trace.{Trace}
 use Rattle.executor_model.specs.Weights.{weigh}
-use Rattle.executor_model.specs.World.{Done, World, log, task}
+use Rattle.executor_model.specs.World.{World, log, task}
 use Rattle.executor_model.proofs.Copies.CopyFrames.{AllCounting, Any, Copying, Counting, all-counting, counting-later}
 use Rattle.executor_model.proofs.Copies.CopyFrames.Copying.{asks, ends}
 use Rattle.executor_model.proofs.Copies.CopySteps.{act-wakers, adds-none, adds-one, begun-wakers, copy-world, copy_reply, is_copying}
 use Rattle.executor_model.proofs.Copies.CopySteps.{onto-wakers, released-one, uses, with-used}
-use Rattle.executor_model.proofs.Copies.Endings.{Own, last-event, no-end-top, whose}
+use Rattle.executor_model.proofs.Copies.Endings.{Own, last-event, whose}
 use Rattle.executor_model.proofs.Promises.CallAnswers.{served}
 use Rattle.executor_model.proofs.Promises.CallFrames.{Tied}
-use Rattle.executor_model.proofs.Promises.CallServes.{copies, misfit, serves}
-use Rattle.executor_model.proofs.Quiet.Calls.{calling_of, is_end}
+use Rattle.executor_model.proofs.Promises.CallServes.{copies, misfit}
+use Rattle.executor_model.proofs.Quiet.Calls.{calling_of}
 use Rattle.executor_model.proofs.SpawnWants.Tops.{Tops, first, flipped, top-first, tops}
 use Rattle.executor_model.proofs.Steps.Lift.{none_refused, topped}
 use Rattle.executor_model.proofs.Steps.Placing.{Spots, same-react}

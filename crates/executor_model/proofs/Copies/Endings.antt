@@ -13,7 +13,7 @@ use Rattle.executor_model.specs.declared.step.Step.{Step}
 use Rattle.executor_model.specs.declared.step.StepError.{StepError}
 use Rattle.executor_model.specs.declared.step.StepError.TheVariants.{NoSuch}
 use Rattle.executor_model.specs.SpawnWants.{Answers}
-use Rattle.executor_model.specs.Steps.{Machine, Part, end_of, mine, onto, part_after, part_refusal, party_of, refusal}
+use Rattle.executor_model.specs.Steps.{Machine, Part, end_of, mine, part_after, party_of, refusal}
 use Rattle.executor_model.specs.Steps.{settled_by, stack, step, step_by, stepped, top, unless}
 use Rattle.executor_model.specs.Trace.{Trace, has}
 use Rattle.executor_model.specs.World.{Done, World, log}

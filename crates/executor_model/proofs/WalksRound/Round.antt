@@ -1,6 +1,6 @@
 -- For walks_go_round.
 -- So a walk that finds nothing comes to each of them.
-use Rattle.std.proofs.Common.{◌≡◌, ◌≢◌, ◌⊎◌, ℕ, zero, suc, ◌%◌, ◌<◌, ◌≤◌, List, [], ◌∷◌, length, Bool, true, false, eqb}
+use Rattle.std.proofs.Common.{◌≡◌, ◌≢◌, ◌⊎◌, ℕ, zero, suc, ◌%◌, ◌≤◌, List, [], ◌∷◌, length, Bool, true, false, eqb}
 use Rattle.std.proofs.Common.{◌∙◌, ⊎_elim, refl, sym, subst, arith}
 use Rattle.std.proofs.Math.Nat.{mod-lt}
 use Rattle.std.proofs.lemmas.Bool.Decides.{nat_tests}
@@ -15,7 +15,7 @@ use Rattle.executor_model.specs.declared.step.Hint.{Hint}
 use Rattle.executor_model.specs.declared.step.Step.{Step}
 use Rattle.executor_model.specs.ActsOfRuns.{next_place, queue_at, walk}
 use Rattle.executor_model.specs.Sound.{times}
-use Rattle.executor_model.specs.Steps.{Machine, run, start}
+use Rattle.executor_model.specs.Steps.{run, start}
 use Rattle.executor_model.specs.WalksRound.{ComesTo, WalksGoRound, theft}
 use Rattle.executor_model.specs.WalksRound.ComesTo.{at_once, behind}
 use Rattle.executor_model.specs.World.{World}

@@ -45,6 +45,7 @@ use Rattle.executor_laws.specs.LoneAnswers.{IsLoneEmptinessExact, IsLoneTickExac
 use Rattle.executor_laws.specs.Places.{StandsWithKeeper}
 use Rattle.executor_laws.specs.Reach.{IsInReach, IsReachedInOrder}
 use Rattle.executor_laws.specs.RunReach.{IsKeptReached, IsReachedByRuns, LeavesCommon}
+use Rattle.executor_laws.specs.RunSearch.{FindsDue}
 use Rattle.executor_laws.specs.Ticks.{IsTickExact}
 
 pub record AllLaws (s : Machine) : Type 0 where
@@ -165,6 +166,8 @@ pub record AllLaws (s : Machine) : Type 0 where
   pub places_of_due : StandsWithKeeper s
   -- a lone poll of a run takes what the run keeps, and else what is common
   pub by_runs : IsReachedByRuns s
+  -- and else one that another run keeps: it finds a due future wherever one stands
+  pub finds_due : FindsDue s
   -- and all that it keeps
   pub kept_reached : IsKeptReached s
   -- what a run kept is common once it was dropped alone

@@ -22,7 +22,8 @@ use executor_laws::laws::{
     common_futures_are_in_reach, dropped_runs_leave_common_futures,
     due_futures_stand_with_their_keepers, keepers_are_called, kept_futures_are_in_reach,
     lone_calls_are_exact, lone_calls_end, no_comes_at_once, queueings_are_counted,
-    runs_reach_futures, some_standing_is_called, ticks_are_exact, traces_continue,
+    runs_find_due_futures, runs_reach_futures, some_standing_is_called, ticks_are_exact,
+    traces_continue,
 };
 use executor_model::call_laws::{
     calls_do_what_they_say, outside_wakers_are_called, spawns_are_limited,
@@ -72,6 +73,7 @@ pub fn all_laws()
     arrival_order_needs_fewer_ticks();
     due_futures_stand_with_their_keepers();
     runs_reach_futures();
+    runs_find_due_futures();
     kept_futures_are_in_reach();
     dropped_runs_leave_common_futures();
     lone_calls_are_exact();

@@ -12,3 +12,4 @@ pub mod Reach
 pub mod LoneAnswers
 pub mod AtRest
 pub mod RunReach
+pub mod RunSearch

@@ -13,3 +13,4 @@ pub mod LoneAnswers
 pub mod AtRest
 pub mod RunReach
 pub mod RunSearch
+pub mod RunPolls

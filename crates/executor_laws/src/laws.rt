@@ -17,6 +17,7 @@ ghost use Rattle.executor_laws.specs.LoneAnswers.{IsLoneEmptinessExact, IsLoneTi
 ghost use Rattle.executor_laws.specs.Places.{StandsWithKeeper};
 ghost use Rattle.executor_laws.specs.Reach.{IsInReach, IsReachedInOrder};
 ghost use Rattle.executor_laws.specs.RunReach.{IsKeptReached, IsReachedByRuns, LeavesCommon};
+ghost use Rattle.executor_laws.specs.RunPolls.{KeepersCanBePolled};
 ghost use Rattle.executor_laws.specs.RunSearch.{FindsDue};
 ghost use Rattle.executor_laws.specs.Ticks.{IsTickExact};
 
@@ -128,6 +129,12 @@ pub fn arrival_order_needs_fewer_ticks()
 /// or the drop of a future: of one that the run keeps, where it keeps one; else of one that is common, where one is.
 pub fn runs_reach_futures()
     ensures { EveryMachine IsReachedByRuns }
+{}
+
+/// Where no call is in progress, the drop of the executor hasn't begun and a run keeps a future, each party can poll the run
+/// alone, by any outside waker, to the end of that poll, in which the run's own future isn't ready.
+pub fn keepers_can_be_polled()
+    ensures { EveryMachine KeepersCanBePolled }
 {}
 
 /// A run finds a future in whichever queue it stands. Where no call is in progress, the drop of the executor hasn't begun

@@ -47,6 +47,7 @@ use Rattle.executor_model.proofs.OwnQueues.UsingSteps.{AllUsed, used-ends, used-
 use Rattle.executor_model.proofs.OwnQueues.UsingWorlds.{is_over_stage}
 use Rattle.executor_model.proofs.Steps.Lift.{good-start, split, unsettled, weigh_all-idle}
 use Rattle.executor_model.proofs.Steps.Lists.{same_cases, weigh_all-below, weigh_all-push}
+use Rattle.executor_laws.proofs.Walks.Stages.{Staged, ended-old, listed-old, push-old, set-other, set-same}
 use Rattle.executor_model.proofs.Steps.Ways.{Way, along}
 use Rattle.executor_model.proofs.Steps.Ways.Way.{acted, called, reacted}
 
@@ -74,39 +75,6 @@ busy-few r o = by (registers o)
 few-busy : (r : ℕ) (os : List Op) → weigh (busy_of r) os ≤ weigh (polling_of r) os
 few-busy r [] = omega arith
 few-busy r (o ∷ os) = omega (arith, busy-few r o, few-busy r os)
-
--- stages, as a list
-
-abbrev Staged : List Stage → ℕ → Type 0
-Staged ss r = get_or ss r Ended ≢ New
-
-new-there : (ss : List Stage) (q : ℕ) → get_or ss q Ended ≡ New → q < length ss
-new-there [] q e = absurd (cc)
-new-there (s ∷ ss) zero e = omega arith
-new-there (s ∷ ss) (suc q) e = omega (arith, new-there ss q e)
-
-set-other : (ss : List Stage) (q r : ℕ) (x : Stage) → x ≢ New → Staged ss r → Staged (set ss q x) r
-set-other [] q r x n h = h
-set-other (s ∷ ss) zero zero x n h = n
-set-other (s ∷ ss) zero (suc r) x n h = h
-set-other (s ∷ ss) (suc q) zero x n h = h
-set-other (s ∷ ss) (suc q) (suc r) x n h = set-other ss q r x n h
-
-push-old : (ss : List Stage) (r : ℕ) → r < length ss → Staged ss r → Staged (ss ++ New ∷ []) r
-push-old [] r l h = absurd (omega (arith, l))
-push-old (s ∷ ss) zero l h = h
-push-old (s ∷ ss) (suc r) l h = push-old ss r (omega (arith, l)) h
-
-set-same : (ss : List Stage) (q : ℕ) (x : Stage) → x ≢ New → Staged (set ss q x) q
-set-same [] q x n = λ (e : Ended ≡ New). absurd (cc)
-set-same (s ∷ ss) zero x n = n
-set-same (s ∷ ss) (suc q) x n = set-same ss q x n
-
-listed-old : Listed ≢ New
-listed-old e = absurd (cc)
-
-ended-old : Ended ≢ New
-ended-old e = absurd (cc)
 
 -- what is done keeps it, beside others who do so many such parts
 
@@ -235,8 +203,9 @@ enrolled-make false w = record {
       let known : 1 ≤ m + length (own_of w r) → r < length w.runs =
       λ z. inside r (length w.runs) (λ l. over r m none born z l) in
       let one : length ((runs.make_run_by false w).world.runs) ≡ length w.runs + 1 =
-      sym (stages-count (runs.make_run_by false w).world.runs) ∙ (ap (λ (ss : List Stage). length ss) (stages-push w.runs) ∙ (more (stages w.runs) ∙
-      ap (λ (k : ℕ). k + 1) (stages-count w.runs))) in (
+      sym (stages-count (runs.make_run_by false w).world.runs)
+      ∙ (ap (λ (ss : List Stage). length ss) (stages-push w.runs)
+      ∙ (more (stages w.runs) ∙ ap (λ (k : ℕ). k + 1) (stages-count w.runs))) in (
         λ z. omega (arith, one, known (omega (arith, z, n))),
         λ z. subst (λ (ss : List Stage). Staged ss r) (sym (stages-push w.runs)) (push-old (stages w.runs) r
             (omega (arith, stages-count w.runs, known (omega (arith, z, n)))) (staged (omega (arith, z, n)))),

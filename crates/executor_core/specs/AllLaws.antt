@@ -48,6 +48,8 @@ use Rattle.executor_laws.specs.LoneAnswers.{IsLoneEmptinessExact, IsLoneTickExac
 use Rattle.executor_laws.specs.Places.{StandsWithKeeper}
 use Rattle.executor_laws.specs.Reach.{IsInReach, IsReachedInOrder}
 use Rattle.executor_laws.specs.RunReach.{IsKeptReached, IsReachedByRuns, LeavesCommon}
+use Rattle.executor_laws.specs.RunPolls.{KeepersCanBePolled}
+use Rattle.executor_laws.specs.RunSearch.{FindsDue}
 use Rattle.executor_laws.specs.Ticks.{IsTickExact}
 
 pub record AllLaws (s : Machine) : Type 0 where
@@ -174,8 +176,12 @@ pub record AllLaws (s : Machine) : Type 0 where
   pub places_of_due : StandsWithKeeper s
   -- a lone poll of a run takes what the run keeps, and else what is common
   pub by_runs : IsReachedByRuns s
+  -- and else one that another run keeps: it finds a due future wherever one stands
+  pub finds_due : FindsDue s
   -- and all that it keeps
   pub kept_reached : IsKeptReached s
+  -- a run that keeps a future can be polled so
+  pub keepers_polled : KeepersCanBePolled s
   -- what a run kept is common once it was dropped alone
   pub left : LeavesCommon s
   -- a lone call is answered as it is

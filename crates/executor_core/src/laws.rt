@@ -22,9 +22,10 @@ ghost use Rattle.executor_core.specs.AllLaws.{AllLaws};
 use executor_laws::laws::{
     arrival_order_needs_fewer_ticks, calls_at_rest_are_exact, calls_end,
     common_futures_are_in_reach, dropped_runs_leave_common_futures,
-    due_futures_stand_with_their_keepers, keepers_are_called, kept_futures_are_in_reach,
-    lone_calls_are_exact, lone_calls_end, no_comes_at_once, queueings_are_counted,
-    runs_reach_futures, some_standing_is_called, ticks_are_exact, traces_continue,
+    due_futures_stand_with_their_keepers, keepers_are_called, keepers_can_be_polled,
+    kept_futures_are_in_reach, lone_calls_are_exact, lone_calls_end, no_comes_at_once, queueings_are_counted,
+    runs_find_due_futures, runs_reach_futures, some_standing_is_called, ticks_are_exact,
+    traces_continue,
 };
 use executor_model::call_laws::{
     calls_do_what_they_say, copies_are_counted, outside_wakers_are_called, spawns_are_limited,
@@ -76,7 +77,9 @@ pub fn all_laws()
     arrival_order_needs_fewer_ticks();
     due_futures_stand_with_their_keepers();
     runs_reach_futures();
+    runs_find_due_futures();
     kept_futures_are_in_reach();
+    keepers_can_be_polled();
     dropped_runs_leave_common_futures();
     lone_calls_are_exact();
     queueings_are_counted();

@@ -7,3 +7,4 @@ pub mod Reach
 pub mod RunReach
 pub mod Termination
 pub mod Wakeups
+pub mod Walks

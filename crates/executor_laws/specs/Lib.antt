@@ -12,3 +12,5 @@ pub mod Reach
 pub mod LoneAnswers
 pub mod AtRest
 pub mod RunReach
+pub mod RunSearch
+pub mod RunPolls

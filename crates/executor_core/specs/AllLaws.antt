@@ -50,6 +50,7 @@ use Rattle.executor_laws.specs.Reach.{IsInReach, IsReachedInOrder}
 use Rattle.executor_laws.specs.RunReach.{IsKeptReached, IsReachedByRuns, LeavesCommon}
 use Rattle.executor_laws.specs.RunPolls.{KeepersCanBePolled}
 use Rattle.executor_laws.specs.RunSearch.{FindsDue}
+use Rattle.executor_laws.specs.RunTurns.{IsCommonReached}
 use Rattle.executor_laws.specs.Ticks.{IsTickExact}
 
 pub record AllLaws (s : Machine) : Type 0 where
@@ -180,6 +181,8 @@ pub record AllLaws (s : Machine) : Type 0 where
   pub finds_due : FindsDue s
   -- and all that it keeps
   pub kept_reached : IsKeptReached s
+  -- a list of such polls takes each common future
+  pub common_reached : IsCommonReached s
   -- a run that keeps a future can be polled so
   pub keepers_polled : KeepersCanBePolled s
   -- what a run kept is common once it was dropped alone

@@ -21,7 +21,8 @@ ghost use Rattle.executor_core.specs.AllLaws.{AllLaws};
 
 use executor_laws::laws::{
     arrival_order_needs_fewer_ticks, calls_at_rest_are_exact, calls_end,
-    common_futures_are_in_reach, dropped_runs_leave_common_futures,
+    common_futures_are_in_reach, common_futures_are_in_reach_of_runs,
+    dropped_runs_leave_common_futures,
     due_futures_stand_with_their_keepers, keepers_are_called, keepers_can_be_polled,
     kept_futures_are_in_reach, lone_calls_are_exact, lone_calls_end, no_comes_at_once, queueings_are_counted,
     runs_find_due_futures, runs_reach_futures, some_standing_is_called, ticks_are_exact,
@@ -74,6 +75,7 @@ pub fn all_laws()
     lone_calls_end();
     ticks_are_exact();
     common_futures_are_in_reach();
+    common_futures_are_in_reach_of_runs();
     arrival_order_needs_fewer_ticks();
     due_futures_stand_with_their_keepers();
     runs_reach_futures();

@@ -14,3 +14,4 @@ pub mod AtRest
 pub mod RunReach
 pub mod RunSearch
 pub mod RunPolls
+pub mod RunTurns

@@ -19,6 +19,7 @@ ghost use Rattle.executor_laws.specs.Reach.{IsInReach, IsReachedInOrder};
 ghost use Rattle.executor_laws.specs.RunReach.{IsKeptReached, IsReachedByRuns, LeavesCommon};
 ghost use Rattle.executor_laws.specs.RunPolls.{KeepersCanBePolled};
 ghost use Rattle.executor_laws.specs.RunSearch.{FindsDue};
+ghost use Rattle.executor_laws.specs.RunTurns.{IsCommonReached};
 ghost use Rattle.executor_laws.specs.Ticks.{IsTickExact};
 
 /// Calls end. In each machine to which steps of a new one lead, each step that begins no further call
@@ -150,6 +151,14 @@ pub fn runs_find_due_futures()
 /// those, whatever other user code answers in them and whatever the run keeps meanwhile.
 pub fn kept_futures_are_in_reach()
     ensures { EveryMachine IsKeptReached }
+{}
+
+/// A run takes first what stands in its own queue, then what is common, and what it moves from there keeps its turn: as many
+/// polls of the run, made alone and with its own future not ready in any, as it keeps futures and are common at their start
+/// begin the poll or the drop of each that was common, whatever other user code answers in them and whatever becomes common
+/// meanwhile.
+pub fn common_futures_are_in_reach_of_runs()
+    ensures { EveryMachine IsCommonReached }
 {}
 
 /// Where no call is in progress, the drop of the executor hasn't begun, and a party drops a run alone, whatever user

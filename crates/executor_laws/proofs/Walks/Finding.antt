@@ -48,10 +48,10 @@ enrolled-here s y = subst Enrolled (sym y.is) (enrolled y.limit y.kind y.parties
 pub listed-here : (s : Machine) (r : ℕ) → Reached s → ListAgrees s r
 listed-here s r y = subst (λ (m : Machine). ListAgrees m r) (sym y.is) (lists-agree y.limit y.kind y.parties y.steps r)
 
-room-here : (s : Machine) (r : ℕ) → Reached s → HasOwnRoom s r
+pub room-here : (s : Machine) (r : ℕ) → Reached s → HasOwnRoom s r
 room-here s r y = subst (λ (m : Machine). HasOwnRoom m r) (sym y.is) (has-own-room y.limit y.kind y.parties y.steps r)
 
-itself : (r : ℕ) → (same r r ≡ 1) × (eqb r r ≡ true)
+pub itself : (r : ℕ) → (same r r ≡ 1) × (eqb r r ≡ true)
 itself r = ⊎_elim
     (λ (x : (same r r ≡ 1) × (eqb r r ≡ true) × (r ≡ r)). (x.0, x.1))
     (λ (x : (same r r ≡ 0) × (eqb r r ≡ false) × (r ≢ r)). absurd (x.2 refl)) (same_cases r r)

@@ -25,7 +25,8 @@ use Rattle.executor_model.specs.Trace.{Trace}
 use Rattle.executor_model.specs.World.{Done, World, done, own_of, put_own}
 use Rattle.executor_model.proofs.Table.Spawning.{top-last}
 use Rattle.executor_laws.proofs.RunReach.RunFinds.{Heading, Heads, heads-found}
-use Rattle.executor_laws.proofs.Walks.Ahead.{Ahead, InList, WalksOn, all-ahead, in-list, theft, walks-on}
+use Rattle.executor_model.proofs.WalksRound.Ahead.{Ahead, InList, WalksOn, all-ahead, in-list, walks-on}
+use Rattle.executor_model.specs.WalksRound.{theft}
 
 -- another queue, which isn't empty
 abbrev pub Full : RunPoll → World → ℕ → Type 0

@@ -27,7 +27,8 @@ use Rattle.executor_model.specs.Doing.{act}
 use Rattle.executor_model.specs.SpawnWants.{Answers}
 use Rattle.executor_model.specs.SpawnWants as wants
 use Rattle.executor_model.specs.Steps.{Machine, accepts, after, answer_refusal, begin_refusal, begun, go_refusal, gone_on, has_all}
-use Rattle.executor_model.specs.Steps.{below_top, end_of, is_free, kept, mine, onto, part_after, part_refusal, party_of, react, refusal, run, stack}
+use Rattle.executor_model.specs.Steps.{below_top, end_of, is_free, kept, mine, onto, part_after, part_refusal, party_of, react}
+use Rattle.executor_model.specs.Steps.{refusal, run, stack}
 use Rattle.executor_model.specs.Steps.{start, step, step_by, stepped, top, unless}
 use Rattle.executor_model.specs.Trace.{Trace}
 use Rattle.executor_model.specs.Weights.{weigh}

@@ -69,6 +69,7 @@ returns c limit kind parties steps =
       by_runs = c.runs_reach_futures.ensures limit kind parties steps;
       finds_due = c.runs_find_due_futures.ensures limit kind parties steps;
       kept_reached = c.kept_futures_are_in_reach.ensures limit kind parties steps;
+      common_reached = c.common_futures_are_in_reach_of_runs.ensures limit kind parties steps;
       keepers_polled = c.keepers_can_be_polled.ensures limit kind parties steps;
       left = c.dropped_runs_leave_common_futures.ensures limit kind parties steps;
       lone_ticks = c.lone_calls_are_exact.ensures.ticks limit kind parties steps;

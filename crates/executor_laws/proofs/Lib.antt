@@ -6,4 +6,6 @@ pub mod Queueings
 pub mod Reach
 pub mod RunReach
 pub mod Termination
+pub mod Turns
 pub mod Wakeups
+pub mod Walks

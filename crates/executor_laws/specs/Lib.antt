@@ -13,3 +13,6 @@ pub mod LoneAnswers
 pub mod AtRest
 pub mod RunReach
 pub mod RunAnswers
+pub mod RunSearch
+pub mod RunPolls
+pub mod RunTurns

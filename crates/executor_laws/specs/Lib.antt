@@ -12,3 +12,6 @@ pub mod Reach
 pub mod LoneAnswers
 pub mod AtRest
 pub mod RunReach
+pub mod StepsOfCalls
+pub mod SeenByCalls
+pub mod CallsFollow

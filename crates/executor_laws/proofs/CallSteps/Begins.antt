@@ -36,17 +36,23 @@ calls-begin p w here call.Spawn = refl
 calls-begin p w here call.TryTick = refl
 calls-begin p w here call.IsEmpty = refl
 calls-begin p w here (call.Wake k) =
-    of-future w (kept w k) (λ f. done (used_up w k) (op.Move move.Wake f ∷ op.End reply.Done hold.Nothing ∷ [])) (λ f. asked.Wake f) (λ f. refl)
+    of-future w (kept w k) (λ f. done (used_up w k) (op.Move move.Wake f ∷ op.End reply.Done hold.Nothing ∷ []))
+    (λ f. asked.Wake f) (λ f. refl)
 calls-begin p w here (call.WakeByRef k) =
-    of-future w (kept w k) (λ f. done w (op.Move move.WakeByReference f ∷ op.End reply.Done (hold.Waker k) ∷ [])) (λ f. asked.WakeByRef f) (λ f. refl)
+    of-future w (kept w k) (λ f. done w (op.Move move.WakeByReference f ∷ op.End reply.Done (hold.Waker k) ∷ []))
+    (λ f. asked.WakeByRef f) (λ f. refl)
 calls-begin p w here (call.Copy k) =
-    of-future w (kept w k) (λ f. done w (op.Waker (waker_op.CopyWaker f (hold.Waker k)) ∷ [])) (λ f. asked.Copy f) (λ f. refl)
+    of-future w (kept w k) (λ f. done w (op.Waker (waker_op.CopyWaker f (hold.Waker k)) ∷ []))
+    (λ f. asked.Copy f) (λ f. refl)
 calls-begin p w here (call.DropWaker k) =
-    of-future w (kept w k) (λ f. done (used_up w k) (op.Move move.Release f ∷ op.End reply.Done hold.Nothing ∷ [])) (λ f. asked.DropWaker f) (λ f. refl)
+    of-future w (kept w k) (λ f. done (used_up w k) (op.Move move.Release f ∷ op.End reply.Done hold.Nothing ∷ []))
+    (λ f. asked.DropWaker f) (λ f. refl)
 calls-begin p w here call.Keep =
-    of-future w (future_of here) (λ f. done w (op.Waker (waker_op.CopyWaker f hold.Nothing) ∷ [])) (λ f. asked.Copy f) (λ f. refl)
+    of-future w (future_of here) (λ f. done w (op.Waker (waker_op.CopyWaker f hold.Nothing) ∷ []))
+    (λ f. asked.Copy f) (λ f. refl)
 calls-begin p w here call.WakeSelf =
-    of-future w (future_of here) (λ f. done w (op.Move move.WakeByReference f ∷ op.End reply.Done hold.Nothing ∷ [])) (λ f. asked.WakeByRef f) (λ f. refl)
+    of-future w (future_of here) (λ f. done w (op.Move move.WakeByReference f ∷ op.End reply.Done hold.Nothing ∷ []))
+    (λ f. asked.WakeByRef f) (λ f. refl)
 calls-begin p w here (call.PollHandle f b) = refl
 calls-begin p w here (call.Cancel f) = refl
 calls-begin p w here (call.Detach f) = refl

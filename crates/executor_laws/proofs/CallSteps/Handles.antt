@@ -17,7 +17,8 @@ use Rattle.executor_model.specs.declared.op.WakerOp.{WakerOp}
 use Rattle.executor_model.specs.declared.op.WakerOp.TheVariants as waker_op
 use Rattle.executor_model.specs.declared.step.Hint.{Hint}
 use Rattle.executor_model.specs.Acts.{answered as model_answered, copy_awaiter_by, copy_by, end_register_by, is_copy_refused, is_refused}
-use Rattle.executor_model.specs.Acts.{let_go, let_go_by, look_again_by, look_by, notify_by, polled as polled_now, register_by, reply_of as model_reply, told as model_told}
+use Rattle.executor_model.specs.Acts.{let_go, let_go_by, look_again_by, look_by, notify_by, polled as polled_now, register_by}
+use Rattle.executor_model.specs.Acts.{reply_of as model_reply, told as model_told}
 use Rattle.executor_model.specs.Carried.{awaiter_ops}
 use Rattle.executor_model.specs.Doing.{handle_act, waker_act}
 use Rattle.executor_model.specs.World.{World, awaiter_of, task}

@@ -27,9 +27,11 @@ use Rattle.executor_model.specs.declared.step.Hint.{Hint}
 use Rattle.task_moves.specs.declared.moves.owed.Move.TheVariants as move
 use Rattle.executor_model.specs.Acts.{tell}
 use Rattle.executor_model.specs.ActsOfSleepers.{found_by}
-use Rattle.executor_model.specs.ActsOfRuns.{call_by_reference, counted_by, counted_to, found, free_places, kept_by, look_own_by, make_room_by}
+use Rattle.executor_model.specs.ActsOfRuns.{call_by_reference, counted_by, counted_to, found, free_places, kept_by, look_own_by}
+use Rattle.executor_model.specs.ActsOfRuns.{make_room_by}
 use Rattle.executor_model.specs.ActsOfRuns.{make_run_by, next_place, queue_at, reschedule_by, run_by, run_found, search_common_by}
-use Rattle.executor_model.specs.ActsOfRuns.{search_own_by, share, source_of, steal_by, steal_length_by, steal_put_by, steal_take_by, stolen, wake_own, walk}
+use Rattle.executor_model.specs.ActsOfRuns.{search_own_by, share, source_of, steal_by, steal_length_by, steal_put_by}
+use Rattle.executor_model.specs.ActsOfRuns.{steal_take_by, stolen, wake_own, walk}
 use Rattle.executor_model.specs.Doing.{list_act, run_act, steal_act}
 use Rattle.executor_model.specs.World.{World, Run, Ticker, Awake, Asleep, Left, log, no_run, own_of, put_own, run_of}
 use Rattle.call_steps.specs.declared.names.TickOrRun.TheVariants as of_who
@@ -42,9 +44,11 @@ use Rattle.call_steps.specs.declared.step.tick.TickStep.TheVariants as tick_step
 use Rattle.call_steps.specs.Next.{next, next_call, next_list, next_run, next_steal, next_write}
 use Rattle.call_steps.specs.Sleeping as sleeping
 use Rattle.call_steps.specs.Stealing as stealing
-use Rattle.executor_laws.specs.SeenByCalls.{first, found as seen_found, looked_own, put_where, seen_list, seen_run, seen_steal, sleeps, standing}
+use Rattle.executor_laws.specs.SeenByCalls.{first, found as seen_found, looked_own, put_where, seen_list, seen_run, seen_steal}
+use Rattle.executor_laws.specs.SeenByCalls.{sleeps, standing}
 use Rattle.executor_laws.specs.SeenByCalls.{taken_from, unless_refused, walked, woken}
-use Rattle.executor_laws.specs.StepsOfCalls.{list_step_of, poll_of, reply_of, run_step_of, section_of, steal_of, steal_step_of, steps_of, then_of}
+use Rattle.executor_laws.specs.StepsOfCalls.{list_step_of, poll_of, reply_of, run_step_of, section_of, steal_of, steal_step_of}
+use Rattle.executor_laws.specs.StepsOfCalls.{steps_of, then_of}
 use Rattle.executor_laws.specs.StepsOfCalls.{waker_of}
 use Rattle.executor_laws.proofs.CallSteps.Owing.{both, of-move}
 
@@ -137,7 +141,11 @@ of-walk x queues at (suc left) more =
     elim (queue_at queues at == x.run) as (λ (own : Bool).
     steps_of (elim own [
       | true ↦ walk x queues (next_place queues at) left
-      | false ↦ op.Steal (steal_op.Length (record { poll = x; from = Own (queue_at queues at); then = then.Walk (next_place queues at) left })) ∷ []
+      | false ↦ op.Steal (steal_op.Length (record {
+        poll = x;
+        from = Own (queue_at queues at);
+        then = then.Walk (next_place queues at) left;
+      })) ∷ []
     ])
     ≡ next_run (run_step.LookOwn (poll_of x) more) (elim own [
       | true ↦ walked x.run queues (next_place queues at) left
@@ -154,7 +162,11 @@ of-locked x queues at (suc left) =
     elim (queue_at queues at == x.run) as (λ (own : Bool).
     steps_of (elim own [
       | true ↦ walk x queues (next_place queues at) left
-      | false ↦ op.Steal (steal_op.Length (record { poll = x; from = Own (queue_at queues at); then = then.Walk (next_place queues at) left })) ∷ []
+      | false ↦ op.Steal (steal_op.Length (record {
+        poll = x;
+        from = Own (queue_at queues at);
+        then = then.Walk (next_place queues at) left;
+      })) ∷ []
     ])
     ≡ next_list (list_step.LockRead (poll_of x)) (elim own [
       | true ↦ walked x.run queues (next_place queues at) left

@@ -1,3 +1,6 @@
+pub mod StepsOfCalls
+pub mod SeenByCalls
+pub mod CallsFollow
 pub mod Costs
 pub mod Remaining
 pub mod GoingOn
@@ -12,6 +15,3 @@ pub mod Reach
 pub mod LoneAnswers
 pub mod AtRest
 pub mod RunReach
-pub mod StepsOfCalls
-pub mod SeenByCalls
-pub mod CallsFollow

@@ -1,3 +1,4 @@
+pub mod CallSteps
 pub mod Exactness
 pub mod Keepers
 pub mod Placement

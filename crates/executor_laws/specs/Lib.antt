@@ -1,3 +1,6 @@
+pub mod StepsOfCalls
+pub mod SeenByCalls
+pub mod CallsFollow
 pub mod Costs
 pub mod Remaining
 pub mod GoingOn

@@ -14,6 +14,7 @@ use Rattle.executor_model.specs.DroppedOnce.{DropComesOnce, IsDroppedByTheEnd}
 use Rattle.executor_model.specs.EarlyDrop.{EarlyDropHasCause, LastWakerIsLast}
 use Rattle.executor_model.specs.Emptiness.{IsEmptinessExact, IsQuietEmptinessExact}
 use Rattle.executor_model.specs.Entries.{FindsPlace, OwnAgrees, QueueAgrees, TableAgrees}
+use Rattle.executor_model.specs.FinishedRuns.{FinishedAtOnce}
 use Rattle.executor_model.specs.GivenWakers.{PollsKeepTheirWakers}
 use Rattle.executor_model.specs.HandingOn.{HandsOn, IsOnItsWay}
 use Rattle.executor_model.specs.InPlace.{IsInPlace}
@@ -152,6 +153,8 @@ pub record AllLaws (s : Machine) : Type 0 where
   pub given : PollsKeepTheirWakers s
   -- a step that closes an open task says why: nobody is left who could wake its future, or it was cancelled
   pub why : ClosingSaysWhy s
+  -- a call is answered that a run is finished only as it begins, where it polls a run that had ended
+  pub finished : FinishedAtOnce s
   -- the executor's drop drops the futures in the order of acceptance, and wakes them so
   pub order : DropsInOrder s
   pub wakes_order : WakesInOrder s

@@ -47,3 +47,4 @@ pub mod ClosingWakes
 pub mod GivenWakers
 pub mod LastTold
 pub mod OwnFutures
+pub mod FinishedRuns

@@ -1,5 +1,5 @@
 -- A poll of a run is answered that the run is finished only as it begins, and only where the run had ended before.
-use Rattle.std.specs.Prelude.{◌≡◌, ℕ, ◌==◌, Bool, true, false, ◌++◌}
+use Rattle.std.specs.Prelude.{◌≡◌, ℕ, Bool, true, false, ◌++◌}
 use Rattle.executor_model.specs.declared.call.By.{By}
 use Rattle.executor_model.specs.declared.call.Call.TheVariants.{PollRun}
 use Rattle.executor_model.specs.declared.call.Reply.TheVariants.{Finished}

@@ -1,29 +1,23 @@
 -- For runs_are_finished_at_once.
 -- Nothing that is done, but the beginning of a poll of a run that has ended, leads to the answer that a run is finished.
-use Rattle.std.proofs.Common.{◌≡◌, ◌⊎◌, ℕ, zero, ◌+◌, ◌<◌, ◌≤◌, List, [], ◌∷◌, ◌++◌, length, set, Bool, true, false}
-use Rattle.std.proofs.Common.{not}
-use Rattle.std.proofs.Common.{◌&&◌, ◌||◌, ltb, refl, sym, ap, subst, inl, inr, ⊎_elim, arith, ◌∙◌, append-nil}
-use Rattle.std.proofs.Common.{get_or-set_same}
-use Rattle.std.proofs.lemmas.Bool.Decides.{nat_tests}
-use Rattle.std.proofs.lemmas.List.{append_assoc, append_cancel_left}
-use Rattle.std.specs.Prelude.{◌%◌, Option, Some, None, reverse}
+use Rattle.std.proofs.Common.{◌≡◌, ℕ, ◌+◌, List, [], ◌∷◌, ◌++◌, length, Bool, true, false}
+use Rattle.std.proofs.Common.{◌&&◌, ◌||◌, refl, ap, arith}
+use Rattle.std.specs.Prelude.{◌%◌, Option, Some, None, is_none}
 use Rattle.task_moves.specs.declared.moves.owed.Answer.{Answer}
 use Rattle.task_moves.specs.declared.moves.owed.Answer.TheVariants as given
 use Rattle.task_moves.specs.declared.moves.owed.Move.{Move}
 use Rattle.task_moves.specs.declared.moves.owed.Move.TheVariants as move
 use Rattle.task_moves.specs.declared.moves.owed.Moved.{Moved}
+use Rattle.task_moves.specs.Moves as moves
 use Rattle.task_moves.specs.Moves.{after}
-use Rattle.executor_parts.specs.Sleepers.{last_waker, waker_at, waker_of}
+use Rattle.executor_parts.specs.Sleepers.{waker_at, waker_of}
 use Rattle.executor_model.specs.declared.call.By.{By}
 use Rattle.executor_model.specs.declared.call.Call.{Call}
 use Rattle.executor_model.specs.declared.call.Call.TheVariants as call
 use Rattle.executor_model.specs.declared.call.Reply.{Reply}
 use Rattle.executor_model.specs.declared.call.Reply.TheVariants as reply
 use Rattle.executor_model.specs.declared.event.Answer.TheVariants as answer
-use Rattle.executor_model.specs.declared.event.Event.{Event}
 use Rattle.executor_model.specs.declared.event.Event.TheVariants as event
-use Rattle.executor_model.specs.declared.kind.Kind.{Kind}
-use Rattle.executor_model.specs.declared.op.ClosingOp.{ClosingOp}
 use Rattle.executor_model.specs.declared.op.ClosingOp.TheVariants as closing_op
 use Rattle.executor_model.specs.declared.op.HandleOp.{HandleOp}
 use Rattle.executor_model.specs.declared.op.HandleOp.TheVariants as handle_op
@@ -34,7 +28,6 @@ use Rattle.executor_model.specs.declared.op.ListOp.TheVariants as list_op
 use Rattle.executor_model.specs.declared.op.Op.{Op}
 use Rattle.executor_model.specs.declared.op.Op.TheVariants as op
 use Rattle.executor_model.specs.declared.op.Polled.TheVariants as of
-use Rattle.executor_model.specs.declared.op.QueueOp.{QueueOp}
 use Rattle.executor_model.specs.declared.op.QueueOp.TheVariants as queue_op
 use Rattle.executor_model.specs.declared.op.RunOp.{RunOp}
 use Rattle.executor_model.specs.declared.op.RunOp.TheVariants as run_op
@@ -52,16 +45,11 @@ use Rattle.executor_model.specs.declared.op.UserOp.{UserOp}
 use Rattle.executor_model.specs.declared.op.UserOp.TheVariants as user_op
 use Rattle.executor_model.specs.declared.op.Waker.{Waker}
 use Rattle.executor_model.specs.declared.op.Waker.TheVariants.{Task, Outside}
-use Rattle.executor_model.specs.declared.op.WakerOp.{WakerOp}
 use Rattle.executor_model.specs.declared.op.WakerOp.TheVariants as waker_op
 use Rattle.executor_model.specs.declared.step.Hint.{Hint}
-use Rattle.executor_model.specs.declared.step.Step.{Step}
-use Rattle.executor_model.specs.declared.step.Step.TheVariants as steps_of
-use Rattle.executor_model.specs.declared.step.StepError.{StepError}
-use Rattle.executor_model.specs.declared.step.StepError.TheVariants as error
 use Rattle.executor_model.specs.declared.step.UserEnd.{UserEnd}
 use Rattle.executor_model.specs.declared.step.UserEnd.TheVariants as end
-use Rattle.executor_model.specs.Acts.{answered, append_by, call_waker, copy_awaiter_by, copy_by, drain_by, drop_next_by}
+use Rattle.executor_model.specs.Acts.{answered, append_by, copy_awaiter_by, copy_by, drain_by, drop_next_by}
 use Rattle.executor_model.specs.Acts.{emptiness}
 use Rattle.executor_model.specs.Acts.{end_register_by, enter_by, is_last_waker, is_told, leave_by, let_go}
 use Rattle.executor_model.specs.Acts.{look_again_by, look_by, move_by}
@@ -74,30 +62,22 @@ use Rattle.executor_model.specs.ActsOfSleepers.{sleep_again_by, sleep_anew_by, s
 use Rattle.executor_model.specs.ActsOfSleepers.{tell_and_return, wake_up_by}
 use Rattle.executor_model.specs.Carried.{awaiter_ops}
 use Rattle.executor_model.specs.Doing.{act, handle_act, list_act, run_act, search_by_who, table_act, tick_act, user_act}
-use Rattle.executor_model.specs.FinishedRuns.{FinishedAtOnce, says_finished}
-use Rattle.executor_model.specs.Steps.{Machine, Part, begun, below_top, drop_run, end_of, future_of, gone_on, kept}
-use Rattle.executor_model.specs.Steps.{mine, onto, part_after}
-use Rattle.executor_model.specs.Steps.{part_refusal, party_of, poll_run, react, refusal, run, settled_by, stack, start}
-use Rattle.executor_model.specs.Steps.{step, step_by, stepped, top}
-use Rattle.executor_model.specs.Steps.{idle, unless, with_future, with_part}
+use Rattle.executor_model.specs.Steps.{begun, drop_run, future_of, kept}
+use Rattle.executor_model.specs.Steps.{mine}
+use Rattle.executor_model.specs.Steps.{poll_run, react}
+use Rattle.executor_model.specs.Steps.{with_future}
 use Rattle.executor_model.specs.Steps.{waker_of as own_waker}
-use Rattle.executor_model.specs.Trace.{Trace, has}
-use Rattle.executor_model.specs.Weights.{weigh, weigh_all}
+use Rattle.executor_model.specs.Weights.{weigh}
 use Rattle.executor_model.specs.World.{World, Ticker, Awake, Asleep, Left, Stage, New, Listed, Ended, Done, among}
-use Rattle.executor_model.specs.World.{awaiter_of, done, log}
+use Rattle.executor_model.specs.World.{awaiter_of, log}
 use Rattle.executor_model.specs.World.{run_of, task}
-use Rattle.executor_model.proofs.Quiet.Calls.{is_end}
 use Rattle.executor_model.proofs.Steps.Asides.{Aside, aside-awaiter, aside-closing, aside-entry, aside-leak_next}
 use Rattle.executor_model.proofs.Steps.Asides.{aside-leak_out}
 use Rattle.executor_model.proofs.Steps.Asides.{aside-let_go, aside-let_go_by, aside-owed, aside-told}
-use Rattle.executor_model.proofs.Steps.Deeds.{begins_one, ends_one, grows-act, grows-begun, grows-react}
-use Rattle.executor_model.proofs.Steps.Lift.{topped, weigh_all-idle}
-use Rattle.executor_model.proofs.Steps.Lists.{weigh-append, weigh-reverse, weigh_all-set}
+use Rattle.executor_model.proofs.Steps.Lists.{weigh-append}
 use Rattle.executor_model.proofs.Steps.RunsNext.{BlindToSearches, common-unseen, look-unseen, own-unseen, steal-unseen}
 use Rattle.executor_model.proofs.Steps.RunsNext.{walk-unseen}
 use Rattle.executor_model.proofs.Steps.SleepersNext.{Unseen, call-unseen, goes-unseen, sleeper-unseen, tell-unseen}
-use Rattle.executor_model.proofs.Steps.TraceMore.{has-append}
-use Rattle.executor_model.proofs.Table.Spawning.{top-last}
 
 -- one where this ends a call so, or leads to such an end
 
@@ -237,11 +217,13 @@ fin-notify true w f mine = refl
 fin-notify false w f mine = refl
 
 fin-handle : (p : ℕ) (h : Hint) (o : HandleOp) (w : World) → weigh fin (handle_act p h o w).next ≡ 0
-fin-handle p h (handle_op.Look f a) w = fin-look _ p w f a _
+fin-handle p h (handle_op.Look f a) w =
+    fin-look (moves.poll (task w f)).owed.answer p w f a (moves.poll (task w f))
 fin-handle p h (handle_op.CopyAwaiter f a) w = fin-copy_awaiter _ p w f a
 fin-handle p h (handle_op.Register f a k) w = fin-register _ w f a k
 fin-handle p h (handle_op.EndRegister f a k) w = fin-end_register _ w f a k
-fin-handle p h (handle_op.LookAgain f) w = fin-again _ p w f _
+fin-handle p h (handle_op.LookAgain f) w =
+    fin-again (moves.look_again (task w f)).owed.answer p w f (moves.look_again (task w f))
 fin-handle p h (handle_op.Notify f mine) w = fin-notify _ w f mine
 fin-handle p h (handle_op.EndNotify f mine) w = aside-told fin aside (mine && h.same) f (awaiter_of w f)
 fin-handle p h (handle_op.LetGo f) w = aside-let_go_by fin aside _ w f
@@ -291,9 +273,10 @@ fin-leave_sleepers : (x : Ticker) (w : World) (who : TickOrRun) → weigh fin (l
 fin-leave_sleepers Awake w who = refl
 fin-leave_sleepers (Asleep n) w who = omega (
   arith,
-  weigh-append fin (sleeper_goes (waker_of n w.sleepers.wakers)) (tell_and_return _),
+  weigh-append fin (sleeper_goes (waker_of n w.sleepers.wakers))
+      (tell_and_return (is_none (waker_of n w.sleepers.wakers))),
   goes-unseen fin (λ f. refl) (waker_of n w.sleepers.wakers),
-  tell-unseen fin refl refl _,
+  tell-unseen fin refl refl (is_none (waker_of n w.sleepers.wakers)),
 )
 fin-leave_sleepers Left w who = refl
 

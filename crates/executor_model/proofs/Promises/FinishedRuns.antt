@@ -1,99 +1,43 @@
 -- For runs_are_finished_at_once.
 -- A step that tells that a run is finished is the beginning of a poll of a run that has ended.
-use Rattle.std.proofs.Common.{◌≡◌, ◌⊎◌, ℕ, zero, ◌+◌, ◌<◌, ◌≤◌, List, [], ◌∷◌, ◌++◌, length, set, Bool, true, false}
-use Rattle.std.proofs.Common.{not}
-use Rattle.std.proofs.Common.{◌&&◌, ◌||◌, ltb, refl, sym, ap, subst, inl, inr, ⊎_elim, arith, ◌∙◌, append-nil}
-use Rattle.std.proofs.Common.{get_or-set_same}
+use Rattle.std.proofs.Common.{◌≡◌, ℕ, ◌<◌, List, [], ◌∷◌, ◌++◌, length, Bool, true, false}
+use Rattle.std.proofs.Common.{◌||◌, ltb, refl, sym, ap, subst, arith, ◌∙◌, append-nil}
 use Rattle.std.proofs.lemmas.Bool.Decides.{nat_tests}
 use Rattle.std.proofs.lemmas.List.{append_assoc, append_cancel_left}
-use Rattle.std.specs.Prelude.{◌%◌, Option, Some, None, reverse}
-use Rattle.task_moves.specs.declared.moves.owed.Answer.{Answer}
-use Rattle.task_moves.specs.declared.moves.owed.Answer.TheVariants as given
-use Rattle.task_moves.specs.declared.moves.owed.Move.{Move}
-use Rattle.task_moves.specs.declared.moves.owed.Move.TheVariants as move
-use Rattle.task_moves.specs.Moves.{after}
-use Rattle.executor_parts.specs.Sleepers.{last_waker, waker_at, waker_of}
+use Rattle.std.specs.Prelude.{Option, Some, None, reverse}
 use Rattle.executor_model.specs.declared.call.By.{By}
 use Rattle.executor_model.specs.declared.call.Call.{Call}
 use Rattle.executor_model.specs.declared.call.Call.TheVariants as call
 use Rattle.executor_model.specs.declared.call.Reply.{Reply}
 use Rattle.executor_model.specs.declared.call.Reply.TheVariants as reply
-use Rattle.executor_model.specs.declared.event.Answer.TheVariants as answer
 use Rattle.executor_model.specs.declared.event.Event.{Event}
 use Rattle.executor_model.specs.declared.event.Event.TheVariants as event
 use Rattle.executor_model.specs.declared.kind.Kind.{Kind}
-use Rattle.executor_model.specs.declared.op.ClosingOp.{ClosingOp}
-use Rattle.executor_model.specs.declared.op.ClosingOp.TheVariants as closing_op
-use Rattle.executor_model.specs.declared.op.HandleOp.{HandleOp}
-use Rattle.executor_model.specs.declared.op.HandleOp.TheVariants as handle_op
 use Rattle.executor_model.specs.declared.op.Hold.{Hold}
 use Rattle.executor_model.specs.declared.op.Hold.TheVariants as hold
-use Rattle.executor_model.specs.declared.op.ListOp.{ListOp}
-use Rattle.executor_model.specs.declared.op.ListOp.TheVariants as list_op
 use Rattle.executor_model.specs.declared.op.Op.{Op}
 use Rattle.executor_model.specs.declared.op.Op.TheVariants as op
-use Rattle.executor_model.specs.declared.op.Polled.TheVariants as of
-use Rattle.executor_model.specs.declared.op.QueueOp.{QueueOp}
-use Rattle.executor_model.specs.declared.op.QueueOp.TheVariants as queue_op
-use Rattle.executor_model.specs.declared.op.RunOp.{RunOp}
-use Rattle.executor_model.specs.declared.op.RunOp.TheVariants as run_op
-use Rattle.executor_model.specs.declared.op.RunPoll.{RunPoll}
-use Rattle.executor_model.specs.declared.op.Section.{Section}
-use Rattle.executor_model.specs.declared.op.Section.TheVariants as section
-use Rattle.executor_model.specs.declared.op.Sleeping.{Sleeping}
-use Rattle.executor_model.specs.declared.op.TableOp.{TableOp}
-use Rattle.executor_model.specs.declared.op.TableOp.TheVariants as table_op
-use Rattle.executor_model.specs.declared.op.TickOp.{TickOp}
-use Rattle.executor_model.specs.declared.op.TickOp.TheVariants as tick_op
-use Rattle.executor_model.specs.declared.op.TickOrRun.{TickOrRun}
-use Rattle.executor_model.specs.declared.op.TickOrRun.TheVariants as tick_or_run
-use Rattle.executor_model.specs.declared.op.UserOp.{UserOp}
-use Rattle.executor_model.specs.declared.op.UserOp.TheVariants as user_op
-use Rattle.executor_model.specs.declared.op.Waker.{Waker}
-use Rattle.executor_model.specs.declared.op.Waker.TheVariants.{Task, Outside}
-use Rattle.executor_model.specs.declared.op.WakerOp.{WakerOp}
-use Rattle.executor_model.specs.declared.op.WakerOp.TheVariants as waker_op
 use Rattle.executor_model.specs.declared.step.Hint.{Hint}
 use Rattle.executor_model.specs.declared.step.Step.{Step}
 use Rattle.executor_model.specs.declared.step.Step.TheVariants as steps_of
 use Rattle.executor_model.specs.declared.step.StepError.{StepError}
 use Rattle.executor_model.specs.declared.step.StepError.TheVariants as error
-use Rattle.executor_model.specs.declared.step.UserEnd.{UserEnd}
-use Rattle.executor_model.specs.declared.step.UserEnd.TheVariants as end
-use Rattle.executor_model.specs.Acts.{answered, append_by, call_waker, copy_awaiter_by, copy_by, drain_by, drop_next_by}
-use Rattle.executor_model.specs.Acts.{emptiness}
-use Rattle.executor_model.specs.Acts.{end_register_by, enter_by, is_last_waker, is_told, leave_by, let_go}
-use Rattle.executor_model.specs.Acts.{look_again_by, look_by, move_by}
-use Rattle.executor_model.specs.Acts.{notify_by, polled, register_by, reply_of, stands_alone, take_by, told_of, wake}
-use Rattle.executor_model.specs.Acts.{wake_next_by, closing_ops}
-use Rattle.executor_model.specs.ActsOfRuns.{call_by_reference, make_room_by, make_run_by, reschedule_by, wake_own}
-use Rattle.executor_model.specs.ActsOfSleepers.{copy_sleeper_by, fall_asleep_by, leave_sleepers_by, make_tick_by}
-use Rattle.executor_model.specs.ActsOfSleepers.{pend_as, search_by}
-use Rattle.executor_model.specs.ActsOfSleepers.{sleep_again_by, sleep_anew_by, sleep_listed_by, sleeper_goes}
-use Rattle.executor_model.specs.ActsOfSleepers.{tell_and_return, wake_up_by}
-use Rattle.executor_model.specs.Carried.{awaiter_ops}
-use Rattle.executor_model.specs.Doing.{act, handle_act, list_act, run_act, search_by_who, table_act, tick_act, user_act}
+use Rattle.executor_model.specs.Doing.{act}
 use Rattle.executor_model.specs.FinishedRuns.{FinishedAtOnce, says_finished}
-use Rattle.executor_model.specs.Steps.{Machine, Part, begun, below_top, drop_run, end_of, future_of, gone_on, kept}
+use Rattle.executor_model.specs.Steps.{Machine, Part, begun, below_top, end_of, gone_on}
 use Rattle.executor_model.specs.Steps.{mine, onto, part_after}
-use Rattle.executor_model.specs.Steps.{part_refusal, party_of, poll_run, react, refusal, run, settled_by, stack, start}
+use Rattle.executor_model.specs.Steps.{part_refusal, party_of, react, refusal, run, settled_by, stack, start}
 use Rattle.executor_model.specs.Steps.{step, step_by, stepped, top}
-use Rattle.executor_model.specs.Steps.{idle, unless, with_future, with_part}
+use Rattle.executor_model.specs.Steps.{unless}
 use Rattle.executor_model.specs.Trace.{Trace, has}
 use Rattle.executor_model.specs.Weights.{weigh, weigh_all}
-use Rattle.executor_model.specs.World.{World, Ticker, Awake, Asleep, Left, Stage, New, Listed, Ended, Done, among}
-use Rattle.executor_model.specs.World.{awaiter_of, done, log}
-use Rattle.executor_model.specs.World.{run_of, task}
+use Rattle.executor_model.specs.World.{World, Ended, Done}
+use Rattle.executor_model.specs.World.{done, log}
+use Rattle.executor_model.specs.World.{run_of}
 use Rattle.executor_model.proofs.Quiet.Calls.{is_end}
-use Rattle.executor_model.proofs.Steps.Asides.{Aside, aside-awaiter, aside-closing, aside-entry, aside-leak_next}
-use Rattle.executor_model.proofs.Steps.Asides.{aside-leak_out}
-use Rattle.executor_model.proofs.Steps.Asides.{aside-let_go, aside-let_go_by, aside-owed, aside-told}
-use Rattle.executor_model.proofs.Steps.Deeds.{begins_one, ends_one, grows-act, grows-begun, grows-react}
+use Rattle.executor_model.proofs.Steps.Deeds.{ends_one, grows-act, grows-begun, grows-react}
 use Rattle.executor_model.proofs.Steps.Lift.{topped, weigh_all-idle}
 use Rattle.executor_model.proofs.Steps.Lists.{weigh-append, weigh-reverse, weigh_all-set}
-use Rattle.executor_model.proofs.Steps.RunsNext.{BlindToSearches, common-unseen, look-unseen, own-unseen, steal-unseen}
-use Rattle.executor_model.proofs.Steps.RunsNext.{walk-unseen}
-use Rattle.executor_model.proofs.Steps.SleepersNext.{Unseen, call-unseen, goes-unseen, sleeper-unseen, tell-unseen}
 use Rattle.executor_model.proofs.Steps.TraceMore.{has-append}
 use Rattle.executor_model.proofs.Table.Spawning.{top-last}
 use Rattle.executor_model.proofs.Promises.FinishedActs.{Leads, begins, fin, fin-act, fin-react, fin_reply}
@@ -111,11 +55,12 @@ no-end _ z = refl
 
 none-said : (es : Trace) → has ends_one es ≡ false → has says_finished es ≡ false
 none-said [] z = refl
-none-said (e ∷ es) z = by (ends_one e) refl z
+none-said (e ∷ es) z = by (ends_one e) refl z (none-said es)
   where
-    by : (b : Bool) → ends_one e ≡ b → (b || has ends_one es) ≡ false → (says_finished e || has says_finished es) ≡ false
-    by true q k = absurd (cc)
-    by false q k = ap (λ (x : Bool). x || has says_finished es) (no-end e q) ∙ none-said es k
+    by : (b : Bool) → ends_one e ≡ b → (b || has ends_one es) ≡ false →
+        (has ends_one es ≡ false → has says_finished es ≡ false) → (says_finished e || has says_finished es) ≡ false
+    by true q k n = absurd (cc)
+    by false q k n = ap (λ (x : Bool). x || has says_finished es) (no-end e q) ∙ n k
 
 said-other : (p : ℕ) (a : Reply) → fin_reply a ≡ 0 → says_finished (event.CallEnded p a) ≡ false
 said-other p reply.Finished z = absurd (omega (arith, z))
@@ -211,8 +156,11 @@ moves-on : (w : World) (os : List Op) (t : Step) → weigh fin os ≡ 0 → Move
 moves-on w os (steps_of.Go p h) z = calmly (on-settles p w os (top os) (λ o. act p h o w) refl z
     (λ x k. (fin-act p h x w k, quiet-act p h x w (is_end x) refl k)))
 moves-on w os (steps_of.Answer p u) z = calmly (on-settles p w os (top os) (λ o. react p o u w) refl z
-    (λ x k. (fin-react p x u w, (let g = grows-react p x u w in
-    record { more = g.more; is = g.is; unsaid = none-said g.more g.none_ends }))))
+    (λ x k. (
+      fin-react p x u w,
+      (let g = grows-react p x u w in
+          record { more = g.more; is = g.is; unsaid = none-said g.more g.none_ends }),
+    )))
 moves-on w os (steps_of.Begin p c) z = by (begins p w (mine (top os)) c)
   where
     d : Done

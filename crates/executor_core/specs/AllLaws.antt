@@ -9,6 +9,7 @@ use Rattle.executor_model.specs.AwaiterKept.{AwaiterIsKept}
 use Rattle.executor_model.specs.CallsMean.{CallsDoWhatTheySay}
 use Rattle.executor_model.specs.ClosingOrder.{DropsInOrder}
 use Rattle.executor_model.specs.ClosingWakes.{WakesInOrder}
+use Rattle.executor_model.specs.LeakWakes.{LeakWakes}
 use Rattle.executor_model.specs.DroppedAtRest.{IsDroppedAtRest}
 use Rattle.executor_model.specs.DroppedOnce.{DropComesOnce, IsDroppedByTheEnd}
 use Rattle.executor_model.specs.EarlyDrop.{EarlyDropHasCause, LastWakerIsLast}
@@ -158,6 +159,8 @@ pub record AllLaws (s : Machine) : Type 0 where
   -- the executor's drop drops the futures in the order of acceptance, and wakes them so
   pub order : DropsInOrder s
   pub wakes_order : WakesInOrder s
+  -- once a leak has ended, it has woken each future that was there as it began and isn't dropped
+  pub leaks : (f : ℕ) → LeakWakes s f
   -- each step that goes on lowers a number
   pub lowered : EachStepLowers s
   -- so a list of these is no longer than that

@@ -13,7 +13,8 @@ ghost use Rattle.executor_model.specs.GivenWakers.{PollsKeepTheirWakers};
 ghost use Rattle.executor_model.specs.LastTold.{ClosingSaysWhy};
 ghost use Rattle.executor_model.specs.LawfulPolls.{HasLawfulPolls};
 ghost use Rattle.executor_model.specs.OutputOnce.{OutputGoesOnce};
-ghost use Rattle.executor_model.specs.Executions.{EveryMachine};
+ghost use Rattle.executor_model.specs.Executions.{EveryExecution, EveryMachine};
+ghost use Rattle.executor_model.specs.LeakWakes.{LeakWakes};
 ghost use Rattle.executor_model.specs.OutsideWakers.{OutsideWakersAreCalled};
 ghost use Rattle.executor_model.specs.OwnFutures.{ActsOnItsFuture};
 ghost use Rattle.executor_model.specs.SpawnsMean.{SpawnsAreLimited};
@@ -30,10 +31,10 @@ use executor_laws::laws::{
     traces_continue,
 };
 use executor_model::call_laws::{
-    calls_do_what_they_say, closings_say_why, outside_wakers_are_called, polls_keep_their_wakers,
-    runs_are_finished_at_once,
-    spawns_are_limited, the_closing_drop_keeps_the_order, the_closing_drop_wakes_in_order,
-    wakers_wake_their_own, wakes_and_copies_are_of_their_futures,
+    calls_do_what_they_say, closings_say_why, leaks_wake_each_future, outside_wakers_are_called,
+    polls_keep_their_wakers, runs_are_finished_at_once, spawns_are_limited,
+    the_closing_drop_keeps_the_order, the_closing_drop_wakes_in_order, wakers_wake_their_own,
+    wakes_and_copies_are_of_their_futures,
 };
 use executor_model::laws::{
     emptiness_is_exact, futures_are_in_their_places, no_append_is_refused_full, one_runnable,
@@ -128,6 +129,7 @@ fn laws_of_calls()
     ensures finished { EveryMachine FinishedAtOnce }
     ensures order { EveryMachine DropsInOrder }
     ensures wakes_order { EveryMachine WakesInOrder }
+    ensures leaks { EveryExecution LeakWakes }
 {
     calls_do_what_they_say();
     spawns_are_limited();
@@ -139,4 +141,5 @@ fn laws_of_calls()
     runs_are_finished_at_once();
     the_closing_drop_keeps_the_order();
     the_closing_drop_wakes_in_order();
+    leaks_wake_each_future();
 }

@@ -23,3 +23,5 @@ pub mod LeakCounts
 pub mod LastWakers
 pub mod Leaking
 pub mod LastTold
+pub mod LeakWithin
+pub mod LeakWakes

@@ -48,3 +48,4 @@ pub mod GivenWakers
 pub mod LastTold
 pub mod OwnFutures
 pub mod FinishedRuns
+pub mod LeakWakes

@@ -3,10 +3,11 @@ ghost use Rattle.executor_model.specs.CallsMean.{CallsDoWhatTheySay};
 ghost use Rattle.executor_model.specs.ClosingOrder.{DropsInOrder};
 ghost use Rattle.executor_model.specs.ClosingWakes.{WakesInOrder};
 ghost use Rattle.executor_model.specs.EveryTrace.{EveryTrace};
-ghost use Rattle.executor_model.specs.Executions.{EveryMachine};
+ghost use Rattle.executor_model.specs.Executions.{EveryExecution, EveryMachine};
 ghost use Rattle.executor_model.specs.FinishedRuns.{FinishedAtOnce};
 ghost use Rattle.executor_model.specs.GivenWakers.{PollsKeepTheirWakers};
 ghost use Rattle.executor_model.specs.LastTold.{ClosingSaysWhy};
+ghost use Rattle.executor_model.specs.LeakWakes.{LeakWakes};
 ghost use Rattle.executor_model.specs.OutsideWakers.{OutsideWakersAreCalled};
 ghost use Rattle.executor_model.specs.OwnFutures.{ActsOnItsFuture};
 ghost use Rattle.executor_model.specs.SpawnsMean.{SpawnsAreLimited};
@@ -81,4 +82,10 @@ pub fn the_closing_drop_keeps_the_order()
 /// stays the first until a step wakes it and takes it out; it isn't woken where its task was completed or closed.
 pub fn the_closing_drop_wakes_in_order()
     ensures { EveryMachine WakesInOrder }
+{}
+
+/// Whatever the parties do, once a leak of the executor has ended, each future that was accepted before it began and isn't
+/// dropped was woken by it.
+pub fn leaks_wake_each_future()
+    ensures { EveryExecution LeakWakes }
 {}

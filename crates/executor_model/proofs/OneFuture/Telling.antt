@@ -349,7 +349,7 @@ cause-one f (DropBegun p) s h = inr (inr (inr (inl refl)))
 cause-one f _ s h = inl h
 
 -- what comes before the first
-before-cons : (q : Event → Bool) (e : Event) (es : Trace) → q e ≡ false →
+pub before-cons : (q : Event → Bool) (e : Event) (es : Trace) → q e ≡ false →
     before_first q (e ∷ es) ≡ e ∷ before_first q es
 before-cons q e es h = ap (λ (c : Bool). take (cond (not c) (1 + position_or_len q es) 0) (e ∷ es)) h
     ∙ ap (λ (n : ℕ). take n (e ∷ es)) (let z : 1 + position_or_len q es ≡ suc (position_or_len q es) = omega arith in z)

@@ -121,6 +121,23 @@ none_refused w ss o c n =
     (not (is_owners c) || is_unborrowed w ss) n in
     (f.0, f.1, f.2, drop-unborrowed c (is_unborrowed w ss) f.3, drop-owned c w.is_static f.4)
 
+-- who begins a call on the executor finds no leak in progress, and its owner's calls are asked of one that isn't static
+pub calm_owned : (w : World) (ss : List (List Op)) (o : Option Op) (c : Call) → begin_refusal w ss o c ≡ None →
+    ((not (is_on_executor c) || is_unused leaking_of ss) ≡ true) × (not (is_owners c && w.is_static) ≡ true)
+calm_owned w ss o c n = go (is_free o) (has_all w ss o c) (not (w.gone && is_on_executor c))
+    (not (is_on_executor c) || is_unused leaking_of ss) (not (is_owners c && w.is_static))
+    (not (is_owners c) || is_unborrowed w ss) n
+  where
+    go : (a b g l k d : Bool) →
+        unless a Busy (unless b NoSuch (unless g Gone (unless l Gone (unless k Gone (unless d Borrowed None))))) ≡ None →
+        (l ≡ true) × (k ≡ true)
+    go true true true true true d e = (refl, refl)
+    go true true true true false d e = absurd (cc)
+    go true true true false k d e = absurd (cc)
+    go true true false l k d e = absurd (cc)
+    go true false g l k d e = absurd (cc)
+    go false b g l k d e = absurd (cc)
+
 -- who may drop the executor finds no call that uses it
 pub unused : (c : Call) (w : World) (ss : List (List Op)) → (not (is_drop c) || is_unborrowed w ss) ≡ true →
     (not (is_drop c) || is_unused borrowing_of ss) ≡ true

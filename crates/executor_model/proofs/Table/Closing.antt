@@ -423,7 +423,7 @@ module _ (s : Machine) (fine : Good s) (h : Ordered s) where
     after-way old d e (called c q r n z) =
         subst (λ (y : Done). After y.world) (sym z) (after-call c (none_refused s.world s.parties (top (stack s p)) c n).2)
 
-ordered-moves : (s : Machine) (p : ℕ) (old rest : List Op) (d : Done) → Good s → p < length s.parties →
+pub ordered-moves : (s : Machine) (p : ℕ) (old rest : List Op) (d : Done) → Good s → p < length s.parties →
     stack s p ≡ rest ++ reverse old → Way s p old rest d → Ordered s → Ordered (unsettled s p rest d)
 ordered-moves s p old rest d fine l e way h =
     let a = after-way s fine h p rest l old d e way in
@@ -447,7 +447,7 @@ ordered-moves s p old rest d fine l e way h =
         (λ (x : (s.world.is_static ≡ false) × (old ≡ op.Closing closing_op.LeakOut ∷ [])). x.0)
         (static-effects s.world s.parties old d (effects-way s p old rest d fine l e way))
 
-ordered-ends : (s : Machine) (p : ℕ) (a : Reply) (held : Hold) (below : List Op) → p < length s.parties →
+pub ordered-ends : (s : Machine) (p : ℕ) (a : Reply) (held : Hold) (below : List Op) → p < length s.parties →
     stack s p ≡ below ++ reverse (op.End a held ∷ []) → Ordered s →
     Ordered (unsettled s p below (done (log s.world (event.CallEnded p a)) []))
 ordered-ends s p a held below l e h =
@@ -464,7 +464,7 @@ ordered-ends s p a held below l e h =
       unwoken = λ i z. h.unwoken i (sym (since-same es end refl) ∙ z);
     }
 
-ordered-start : (limit : ℕ) (kind : Kind) (n : ℕ) → Ordered (start limit kind n)
+pub ordered-start : (limit : ℕ) (kind : Kind) (n : ℕ) → Ordered (start limit kind n)
 ordered-start limit kind n = record {
   placed = placed-start limit kind n;
   accepted = tt;

@@ -162,7 +162,7 @@ begun-start limit kind n = λ m. absurd (omega (arith, m, weigh_all-idle leaks_o
 
 -- where nobody is left who could wake a future of an owned executor, a leak had begun, or the drop
 
-none-leaks : (more : Trace) → has begins_one more ≡ false → has is_leak_begun more ≡ false
+pub none-leaks : (more : Trace) → has begins_one more ≡ false → has is_leak_begun more ≡ false
 none-leaks [] z = refl
 none-leaks (e ∷ more) z = ap (λ (b : Bool). b || has is_leak_begun more)
     (not-leak e (left-false (begins_one e) (has begins_one more) z))

@@ -58,6 +58,7 @@ returns c limit kind parties steps =
       finished = c.laws_of_calls.ensures.finished limit kind parties steps;
       order = c.laws_of_calls.ensures.order limit kind parties steps;
       wakes_order = c.laws_of_calls.ensures.wakes_order limit kind parties steps;
+      leaks = c.laws_of_calls.ensures.leaks limit kind parties steps;
       lowered = c.calls_end.ensures.lowered limit kind parties steps;
       ended = c.calls_end.ensures.ended limit kind parties steps;
       goes = c.calls_end.ensures.goes s;

@@ -1,0 +1,633 @@
+-- For leaks_wake_each_future.
+-- A leak goes through all wakers that it took out of the table, and tells of each.
+use Rattle.std.proofs.Common.{◌≡◌, ◌⊎◌, ⊎_elim, ℕ, ◌+◌, ◌<◌, ◌≤◌, List, [], ◌∷◌, ◌++◌, length, Bool, true, false}
+use Rattle.std.proofs.Common.{◌&&◌, ◌||◌, not, cond, eqb, inl, inr, refl, sym, ap, ◌∙◌, subst, arith, take}
+use Rattle.std.proofs.lemmas.Bool.Decides.{nat_tests}
+use Rattle.std.proofs.lemmas.List.{append_assoc}
+use Rattle.std.specs.List.{before_first, position_or_len}
+use Rattle.std.specs.Prelude.{None, Option, count_by, reverse}
+use Rattle.executor_model.specs.declared.call.Call.{Call}
+use Rattle.executor_model.specs.declared.call.Call.TheVariants as call
+use Rattle.executor_model.specs.declared.call.Reply.{Reply}
+use Rattle.executor_model.specs.declared.event.Event.{Event}
+use Rattle.executor_model.specs.declared.event.Event.TheVariants as event
+use Rattle.executor_model.specs.declared.kind.Kind.{Kind}
+use Rattle.executor_model.specs.declared.op.ClosingOp.TheVariants as closing_op
+use Rattle.executor_model.specs.declared.op.Hold.{Hold}
+use Rattle.executor_model.specs.declared.op.Op.{Op}
+use Rattle.executor_model.specs.declared.op.Op.TheVariants as op
+use Rattle.executor_model.specs.declared.op.RunOp.TheVariants as run_op
+use Rattle.executor_model.specs.declared.op.SleeperOp.TheVariants as sleeper_op
+use Rattle.executor_model.specs.declared.op.TableOp.TheVariants as table_op
+use Rattle.executor_model.specs.declared.op.UserOp.TheVariants as user_op
+use Rattle.executor_model.specs.declared.op.Waker.{Waker}
+use Rattle.executor_model.specs.declared.op.WakerOp.TheVariants as waker_op
+use Rattle.executor_model.specs.declared.step.Hint.{Hint}
+use Rattle.executor_model.specs.declared.step.Step.{Step}
+use Rattle.executor_model.specs.declared.step.UserEnd.{UserEnd}
+use Rattle.task_moves.specs.declared.moves.owed.Move.TheVariants as move
+use Rattle.executor_model.specs.Acts.{drop_next_by, enter_by, leak_next_by, leak_out_by, leaking_ops, leave_by, wake}
+use Rattle.executor_model.specs.Acts.{wake_next_by}
+use Rattle.executor_model.specs.Doing.{act}
+use Rattle.executor_model.specs.Good.{Good}
+use Rattle.executor_model.specs.LeakWakes.{LeakWakes, before_leak}
+use Rattle.executor_model.specs.Rows.{leaking_of}
+use Rattle.executor_model.specs.Sound.{times}
+use Rattle.executor_model.specs.Steps.{Machine, accepts, begin_refusal, begun, is_on_executor, is_owners, is_unused, mine}
+use Rattle.executor_model.specs.Steps.{run, stack, start, top}
+use Rattle.executor_model.specs.Trace.{Trace, has, is_accepted, is_drop_begun, is_dropped, is_leak_begun, is_leaked}
+use Rattle.executor_model.specs.Weights.{same, weigh, weigh_all}
+use Rattle.executor_model.specs.World.{World, Done, done, log}
+use Rattle.executor_model.proofs.OneFuture.EffectsWays.{effects-way}
+use Rattle.executor_model.proofs.OneFuture.Extras.{waking_of}
+use Rattle.executor_model.proofs.OneFuture.Telling.{accepted-counts, before-cons, begun-has, counted-there, fallen-counts}
+use Rattle.executor_model.proofs.OneFuture.Telling.{same-cond, there-or-none}
+use Rattle.executor_model.proofs.Promises.CallPromises.{has-left, has-right}
+use Rattle.executor_model.proofs.Steps.Begins.{calm_owned}
+use Rattle.executor_model.proofs.Quiet.Calls.{is_end}
+use Rattle.executor_model.proofs.Steps.Deeds.{grows-act, grows-begun, grows-react}
+use Rattle.executor_model.proofs.Steps.Growing.{split}
+use Rattle.executor_model.proofs.Steps.Hushed.{Hushed, Hushes, hushed-act, hushed-called, hushed-react}
+use Rattle.executor_model.proofs.Steps.Hushed.{is_hushed}
+use Rattle.executor_model.proofs.Steps.Lift.{good-start, none_refused, unsettled, weigh_all-idle}
+use Rattle.executor_model.proofs.Steps.Listing.{Entries, entries-move, same-begun, same-entries, same-react}
+use Rattle.executor_model.proofs.Steps.Lists.{same_cases, times-append, weigh-append, weigh_all-below, weigh_all-push}
+use Rattle.executor_model.proofs.Steps.Tests.{or-left}
+use Rattle.executor_model.proofs.Steps.TraceMore.{has-append}
+use Rattle.executor_model.proofs.Steps.Ways.{Way, along}
+use Rattle.executor_model.proofs.Steps.Ways.Way.{acted, called, reacted}
+use Rattle.executor_model.proofs.Table.Closing.{Ordered, ordered-ends, ordered-moves, ordered-start}
+use Rattle.executor_model.proofs.Table.LeakCounts.{goes-act, goes-begun, goes-leak_next, goes-leak_out, goes-react, goes_of}
+use Rattle.executor_model.proofs.Table.LeakCounts.{is_leaking, leaks_of}
+use Rattle.executor_model.proofs.Table.LeakWithin.{Withins, going-less, going_of, withins-end, withins-moves, withins-start}
+use Rattle.executor_model.proofs.Table.Leaking.{none-leaks, static-effects}
+
+-- the next one is to be woken
+abbrev nexts_of : Op → ℕ
+nexts_of o = goes_of 0 1 o
+
+-- what stood before the first stays that
+
+before-here : (q : Event → Bool) (e : Event) (es : Trace) → q e ≡ true → before_first q (e ∷ es) ≡ []
+before-here q e es h = ap (λ (c : Bool). take (cond (not c) (1 + position_or_len q es) 0) (e ∷ es)) h
+
+before-append : (q : Event → Bool) (es more : Trace) → has q es ≡ true → before_first q (es ++ more) ≡ before_first q es
+before-append q [] more h = absurd (cc)
+before-append q (e ∷ es) more h = by (q e) refl h (before-append q es more)
+  where
+    by : (b : Bool) → q e ≡ b → (b || has q es) ≡ true → (has q es ≡ true → before_first q (es ++ more) ≡ before_first q es) →
+        before_first q (e ∷ (es ++ more)) ≡ before_first q (e ∷ es)
+    by true z k ih = before-here q e (es ++ more) z ∙ sym (before-here q e es z)
+    by false z k ih = before-cons q e (es ++ more) z
+        ∙ (ap (λ (xs : Trace). e ∷ xs) (ih k) ∙ sym (before-cons q e es z))
+
+before-has : (t q : Event → Bool) (es : Trace) → has t (before_first q es) ≡ true → has t es ≡ true
+before-has t q [] h = h
+before-has t q (e ∷ es) h = by (q e) refl (before-has t q es)
+  where
+    by : (b : Bool) → q e ≡ b → (has t (before_first q es) ≡ true → has t es ≡ true) → has t (e ∷ es) ≡ true
+    by true z ih = absurd (let no : false ≡ true = sym (ap (has t) (before-here q e es z)) ∙ h in cc)
+    by false z ih = either (t e) refl (ap (has t) (sym (before-cons q e es z)) ∙ h)
+      where
+        either : (c : Bool) → t e ≡ c → (t e || has t (before_first q es)) ≡ true → (t e || has t es) ≡ true
+        either true i k = ap (λ (b : Bool). b || has t es) i
+        either false i k = ap (λ (b : Bool). b || has t es) i ∙ ih (sym (ap (λ (b : Bool). b || has t (before_first q es)) i) ∙ k)
+
+before-told : (t : Event → Bool) (es more : Trace) → has t more ≡ false → has t (es ++ more) ≡ true → has t es ≡ true
+before-told t es more n h = by (has t es) refl
+  where
+    by : (b : Bool) → has t es ≡ b → has t es ≡ true
+    by true e = e
+    by false e = absurd (let no : false ≡ true = sym (has-append t es more e n) ∙ h in cc)
+
+untold-before : (t : Event → Bool) (es more : Trace) → has t (es ++ more) ≡ false → has t es ≡ false
+untold-before t es more h = by (has t es) refl
+  where
+    by : (b : Bool) → has t es ≡ b → has t es ≡ false
+    by false e = e
+    by true e = absurd (let no : true ≡ false = sym (has-left t es more e) ∙ h in cc)
+
+same-has : (t : Event → Bool) (es more : Trace) → has t more ≡ false → has t (es ++ more) ≡ has t es
+same-has t es more n = by (has t es) refl
+  where
+    by : (b : Bool) → has t es ≡ b → has t (es ++ more) ≡ has t es
+    by true e = has-left t es more e ∙ sym e
+    by false e = has-append t es more e n ∙ sym e
+
+-- at every moment
+
+record Leaks (s : Machine) : Type 0 where
+  pub ordered : Ordered s
+  pub within : Withins s
+  pub single : weigh_all leaks_of s.parties ≤ 1
+  pub opened : 1 ≤ weigh_all leaks_of s.parties → (s.world.is_static ≡ false) × (s.world.gone ≡ false)
+  pub begun : has is_leak_begun s.world.trace ≡ true →
+      (1 ≤ weigh_all leaks_of s.parties) ⊎ ((s.world.is_static ≡ true) × (s.world.gone ≡ false))
+  pub goes_on : s.world.gone ≡ false → (s.world.waking ≡ []) ⊎ (1 ≤ weigh_all nexts_of s.parties)
+  pub woken : (f : ℕ) → has is_leak_begun s.world.trace ≡ true →
+      has (is_accepted f) (before_leak s.world.trace) ≡ true → has (is_dropped f) s.world.trace ≡ false →
+      (1 ≤ weigh_all leaks_of s.parties)
+      ⊎ ((1 ≤ times f s.world.waking) ⊎ (has (is_leaked f) s.world.trace ≡ true))
+
+begun-is : (s : Machine) → Ordered s → has is_drop_begun s.world.trace ≡ s.world.gone
+begun-is s h = sym (begun-has 0 s.world.trace) ∙ (h.placed.leaves 0).begun
+
+-- no call leads to the beginning of a drop but that of the executor
+hushed-drop : (e : Event) → is_hushed e ≡ true → is_drop_begun e ≡ false
+hushed-drop (event.DropBegun p) z = absurd (cc)
+hushed-drop _ z = refl
+
+drops-none : (p : ℕ) (o : Op) → Hushes is_drop_begun hushed-drop p o
+drops-none p (op.Waker (waker_op.CallAwaiter f a k)) = refl
+drops-none p (op.Sleeper (sleeper_op.CallSleeper n)) = refl
+drops-none p (op.Run (run_op.WakeOwn r)) = refl
+drops-none p (op.Table table_op.Enter) = λ f. refl
+drops-none p (op.User (user_op.BeginDrop f)) = refl
+drops-none p (op.Closing closing_op.DropNext) = λ f. refl
+drops-none p _ = tt
+
+same-self : (f : ℕ) → same f f ≡ 1
+same-self f = grind (arith, same_cases)
+
+module _ (s : Machine) (p : ℕ) (old rest : List Op) (d : Done) (l : p < length s.parties)
+    (e : stack s p ≡ rest ++ reverse old) (k : Leaks s) (after : Ordered (unsettled s p rest d))
+    (within : Withins (unsettled s p rest d)) where
+  now : (v : Op → ℕ) → weigh_all v (unsettled s p rest d).parties + weigh v old ≡ weigh_all v s.parties + weigh v d.next
+  now v = omega (arith, weigh_all-push v s.parties p rest d.next l, split v s.parties p old rest l e)
+
+  not-gone : s.world.gone ≡ true → has is_leak_begun s.world.trace ≡ true → ⊥
+  not-gone g h = ⊎_elim
+      (λ (x : 1 ≤ weigh_all leaks_of s.parties). let no : true ≡ false = sym g ∙ (k.opened x).1 in absurd (cc))
+      (λ (x : (s.world.is_static ≡ true) × (s.world.gone ≡ false)).
+      let no : true ≡ false = sym g ∙ x.1 in absurd (cc)) (k.begun h)
+
+  -- nothing begins, and who is to be woken stays so or is told of
+  stays : (more : Trace) → d.world.trace ≡ s.world.trace ++ more → has is_leak_begun more ≡ false →
+      d.world.is_static ≡ s.world.is_static → d.world.gone ≡ s.world.gone →
+      weigh leaks_of old ≡ 0 → weigh leaks_of d.next ≡ 0 →
+      (d.world.gone ≡ false → (d.world.waking ≡ []) ⊎ (1 ≤ weigh_all nexts_of (unsettled s p rest d).parties)) →
+      ((f : ℕ) → s.world.gone ≡ false → 1 ≤ times f s.world.waking →
+      (1 ≤ times f d.world.waking) ⊎ (has (is_leaked f) d.world.trace ≡ true)) → Leaks (unsettled s p rest d)
+  stays more t n static gone a b on keeps = record {
+    ordered = after;
+    within = within;
+    single = omega (arith, k.single, now leaks_of, a, b);
+    opened = λ x. let y = k.opened (omega (arith, x, now leaks_of, a, b)) in (static ∙ y.0, gone ∙ y.1);
+    begun = λ h. ⊎_elim
+        (λ (x : 1 ≤ weigh_all leaks_of s.parties). inl (omega (arith, x, now leaks_of, a, b)))
+        (λ (x : (s.world.is_static ≡ true) × (s.world.gone ≡ false)). inr (static ∙ x.0, gone ∙ x.1)) (k.begun (was h));
+    goes_on = on;
+    woken = λ f h c u. ⊎_elim
+        (λ (x : 1 ≤ weigh_all leaks_of s.parties). inl (omega (arith, x, now leaks_of, a, b)))
+        (λ (x : (1 ≤ times f s.world.waking) ⊎ (has (is_leaked f) s.world.trace ≡ true)). inr (⊎_elim
+        (λ (y : 1 ≤ times f s.world.waking). keeps f (open-still (was h)) y)
+        (λ (y : has (is_leaked f) s.world.trace ≡ true).
+        inr (subst (λ (es : Trace). has (is_leaked f) es ≡ true) (sym t) (has-left (is_leaked f) s.world.trace more y))) x))
+        (k.woken f (was h)
+        (subst (λ (es : Trace). has (is_accepted f) es ≡ true)
+        (ap before_leak t ∙ before-append is_leak_begun s.world.trace more (was h)) c)
+        (untold-before (is_dropped f) s.world.trace more (subst (λ (es : Trace). has (is_dropped f) es ≡ false) t u)));
+  }
+    where
+      was : has is_leak_begun d.world.trace ≡ true → has is_leak_begun s.world.trace ≡ true
+      was h = before-told is_leak_begun s.world.trace more n (subst (λ (es : Trace). has is_leak_begun es ≡ true) t h)
+
+      open-still : has is_leak_begun s.world.trace ≡ true → s.world.gone ≡ false
+      open-still h = by s.world.gone (λ g. not-gone g h)
+        where
+          by : (b : Bool) → (b ≡ true → ⊥) → b ≡ false
+          by false m = refl
+          by true m = absurd (m refl)
+
+  -- nobody is woken, or the drop of the executor has begun
+  calm : (more : Trace) → d.world.trace ≡ s.world.trace ++ more → has is_leak_begun more ≡ false →
+      d.world.is_static ≡ s.world.is_static → d.world.gone ≡ s.world.gone →
+      (d.world.waking ≡ s.world.waking) ⊎ (s.world.gone ≡ true) → weigh going_of old ≡ 0 → weigh going_of d.next ≡ 0 →
+      Leaks (unsettled s p rest d)
+  calm more t n static gone c a b = stays more t n static gone
+      (omega (arith, a, less-leaks old)) (omega (arith, b, less-leaks d.next))
+      (λ m. ⊎_elim
+      (λ (x : d.world.waking ≡ s.world.waking). ⊎_elim
+      (λ (y : s.world.waking ≡ []). inl (x ∙ y))
+      (λ (y : 1 ≤ weigh_all nexts_of s.parties).
+      inr (omega (arith, y, now nexts_of, a, b, less-nexts old, less-nexts d.next))) (k.goes_on (sym gone ∙ m)))
+      (λ (x : s.world.gone ≡ true). absurd (let no : true ≡ false = sym x ∙ (sym gone ∙ m) in cc)) c)
+      (λ f g y. ⊎_elim
+      (λ (x : d.world.waking ≡ s.world.waking). inl (omega (arith, ap (times f) x, y)))
+      (λ (x : s.world.gone ≡ true). absurd (let no : true ≡ false = sym x ∙ g in cc)) c)
+    where
+      leaks-least : (o : Op) → leaks_of o ≤ going_of o
+      leaks-least (op.Closing closing_op.LeakOut) = omega arith
+      leaks-least _ = omega arith
+
+      nexts-least : (o : Op) → nexts_of o ≤ going_of o
+      nexts-least (op.Closing closing_op.LeakNext) = omega arith
+      nexts-least _ = omega arith
+
+      less-leaks : (os : List Op) → weigh leaks_of os ≤ weigh going_of os
+      less-leaks [] = omega arith
+      less-leaks (o ∷ os) = omega (arith, leaks-least o, less-leaks os)
+
+      less-nexts : (os : List Op) → weigh nexts_of os ≤ weigh going_of os
+      less-nexts [] = omega arith
+      less-nexts (o ∷ os) = omega (arith, nexts-least o, less-nexts os)
+
+  there : old ≡ op.Closing closing_op.LeakOut ∷ [] → 1 ≤ weigh_all leaks_of s.parties
+  there q = omega (arith, split leaks_of s.parties p old rest l e, ap (weigh leaks_of) q)
+
+  none-counted : (test : Event → Bool) (es : Trace) → has test es ≡ false → count_by test es ≡ 0
+  none-counted test es h = ⊎_elim
+      (λ (x : (has test es ≡ true) × (1 ≤ count_by test es)). absurd (let no : true ≡ false = sym x.0 ∙ h in cc))
+      (λ (x : (has test es ≡ false) × (count_by test es ≡ 0)). x.1) (there-or-none test es)
+
+  -- whoever was accepted and isn't dropped has an entry
+  entered : (f : ℕ) → s.world.gone ≡ false → has (is_accepted f) s.world.trace ≡ true →
+      has (is_dropped f) s.world.trace ≡ false → 1 ≤ times f s.world.table
+  entered f g a u = omega (
+    arith,
+    (k.ordered.placed.leaves f).table (inl g),
+    fallen-counts f s.world.trace,
+    none-counted (is_dropped f) s.world.trace u,
+    accepted-counts f s.world.trace,
+    counted-there (is_accepted f) s.world.trace a,
+  )
+
+  -- the wakers are taken out of the table
+  leaks-out : (i n : Bool) → s.world.is_static ≡ i → s.world.gone ≡ n → old ≡ op.Closing closing_op.LeakOut ∷ [] →
+      d ≡ leak_out_by (i || n) s.world → Leaks (unsettled s p rest d)
+  leaks-out true n i g q z = absurd (let no : true ≡ false = sym i ∙ (k.opened (there q)).0 in cc)
+  leaks-out false true i g q z = absurd (let no : true ≡ false = sym g ∙ (k.opened (there q)).1 in cc)
+  leaks-out false false i g q z =
+      let one : weigh leaks_of old ≡ 1 = ap (weigh leaks_of) q in
+      let none : weigh leaks_of d.next ≡ 0 =
+      ap (λ (c : Done). weigh leaks_of c.next) z ∙ omega (arith, goes-leak_out 1 0 false s.world) in
+      let trace : d.world.trace ≡ s.world.trace = ap (λ (c : Done). c.world.trace) z in
+      record {
+        ordered = after;
+        within = within;
+        single = omega (arith, k.single, now leaks_of, none);
+        opened = λ x. absurd (omega (arith, x, k.single, now leaks_of, one, none));
+        begun = λ h. inr (ap (λ (c : Done). c.world.is_static) z, ap (λ (c : Done). c.world.gone) z ∙ g);
+        goes_on = λ m. more (s.world.waking ++ s.world.table) refl;
+        woken = λ f h c u. inr (inl (omega (
+          arith,
+          ap (λ (x : Done). times f x.world.waking) z,
+          times-append f s.world.waking s.world.table,
+          entered f g
+              (before-has (is_accepted f) is_leak_begun s.world.trace
+              (subst (λ (es : Trace). has (is_accepted f) (before_leak es) ≡ true) trace c))
+              (subst (λ (es : Trace). has (is_dropped f) es ≡ false) trace u),
+        )));
+      }
+    where
+      more : (ws : List ℕ) → s.world.waking ++ s.world.table ≡ ws →
+          (d.world.waking ≡ []) ⊎ (1 ≤ weigh_all nexts_of (unsettled s p rest d).parties)
+      more [] j = inl (ap (λ (c : Done). c.world.waking) z ∙ j)
+      more (x ∷ ws) j = inr (omega (
+        arith,
+        now nexts_of,
+        split nexts_of s.parties p old rest l e,
+        ap (weigh nexts_of) q,
+        ap (λ (c : Done). weigh nexts_of c.next) z,
+        ap (λ (xs : List ℕ). weigh nexts_of (leaking_ops xs)) j,
+      ))
+
+  -- the next is woken
+  leaks-next : (b : Bool) (ls : List ℕ) → s.world.gone ≡ b → s.world.waking ≡ ls →
+      old ≡ op.Closing closing_op.LeakNext ∷ [] → d ≡ leak_next_by b p s.world ls → (more : Trace) →
+      d.world.trace ≡ s.world.trace ++ more → has is_leak_begun more ≡ false → d.world.is_static ≡ s.world.is_static →
+      d.world.gone ≡ s.world.gone → Leaks (unsettled s p rest d)
+  leaks-next true ls g i q z more t n static gone = stays more t n static gone (ap (weigh leaks_of) q)
+      (ap (λ (c : Done). weigh leaks_of c.next) z)
+      (λ m. absurd (let no : true ≡ false = sym g ∙ (sym gone ∙ m) in cc))
+      (λ f x y. absurd (let no : true ≡ false = sym g ∙ x in cc))
+  leaks-next false [] g i q z more t n static gone = stays more t n static gone (ap (weigh leaks_of) q)
+      (ap (λ (c : Done). weigh leaks_of c.next) z) (λ m. inl (ap (λ (c : Done). c.world.waking) z ∙ i))
+      (λ f x y. absurd (omega (arith, y, ap (times f) i)))
+  leaks-next false (f ∷ gs) g i q z more t n static gone = stays more t n static gone (ap (weigh leaks_of) q)
+      (ap (λ (c : Done). weigh leaks_of c.next) z ∙ omega (arith, goes-leak_next 1 0 false p s.world (f ∷ gs)))
+      (λ m. on gs refl) (λ h x y. keeps h (eqb h f) refl y)
+    where
+      u : World
+      u = record s.world { waking = gs }
+
+      left : d.world.waking ≡ gs
+      left = ap (λ (c : Done). c.world.waking) z ∙ sym (ap (λ (x : Entries). x.waking) (entries-move true move.Wake p u f))
+
+      on : (ws : List ℕ) → gs ≡ ws → (d.world.waking ≡ []) ⊎ (1 ≤ weigh_all nexts_of (unsettled s p rest d).parties)
+      on [] j = inl (left ∙ j)
+      on (x ∷ ws) j = inr (omega (
+        arith,
+        now nexts_of,
+        split nexts_of s.parties p old rest l e,
+        ap (weigh nexts_of) q,
+        ap (λ (c : Done). weigh nexts_of c.next) z,
+        weigh-append nexts_of (wake p u f).next (leaking_ops gs),
+        ap (λ (xs : List ℕ). weigh nexts_of (leaking_ops xs)) j,
+      ))
+
+      keeps : (h : ℕ) (b : Bool) → eqb h f ≡ b → 1 ≤ times h s.world.waking →
+          (1 ≤ times h d.world.waking) ⊎ (has (is_leaked h) d.world.trace ≡ true)
+      keeps h true j y = inr (subst (λ (es : Trace). has (is_leaked h) es ≡ true)
+          (sym (ap (λ (c : Done). c.world.trace) z))
+          (has-right (is_leaked h) (wake_next_by p s.world (f ∷ gs)).world.trace (event.Leaked p f ∷ [])
+          (or-left (eqb h f) false j)))
+      keeps h false j y = inl (omega (
+        arith,
+        y,
+        ap (times h) i,
+        ap (times h) left,
+        same-cond h f,
+        ap (λ (b : Bool). let n : ℕ = cond b 1 0 in n) j,
+      ))
+
+  gone-same : Hushed is_drop_begun hushed-drop s.world d.world → d.world.gone ≡ s.world.gone
+  gone-same x = sym (begun-is (unsettled s p rest d) after)
+      ∙ (ap (has is_drop_begun) x.is ∙ (same-has is_drop_begun s.world.trace x.more x.none ∙ begun-is s k.ordered))
+
+  -- who to wake is changed by a leak alone, before the drop of the executor begins
+  waking-act : Good s → (h : Hint) (o : Op) → is_leaking o ≡ false → old ≡ o ∷ [] →
+      ((act p h o s.world).world.waking ≡ s.world.waking) ⊎ (s.world.gone ≡ true)
+  waking-act fine h (op.Closing closing_op.LeakOut) n q = absurd (cc)
+  waking-act fine h (op.Closing closing_op.LeakNext) n q = absurd (cc)
+  waking-act fine h (op.Table table_op.Enter) n q = inl (enter-waking _ _)
+    where
+      enter-waking : (b c : Bool) → (enter_by b c p s.world).world.waking ≡ s.world.waking
+      enter-waking true c = refl
+      enter-waking false true = refl
+      enter-waking false false = refl
+  waking-act fine h (op.Table (table_op.LeaveTable f)) n q = inl (leave-waking _)
+    where
+      leave-waking : (b : Bool) → (leave_by b s.world f).world.waking ≡ s.world.waking
+      leave-waking true = refl
+      leave-waking false = refl
+  waking-act fine h (op.Closing closing_op.TakeOut) n q = inl refl
+  waking-act fine h (op.Closing closing_op.DropNext) n q = drop-waking s.world.leaving refl
+    where
+      drop-waking : (ls : List ℕ) → s.world.leaving ≡ ls →
+          ((drop_next_by p s.world ls).world.waking ≡ s.world.waking) ⊎ (s.world.gone ≡ true)
+      drop-waking [] i = inl refl
+      drop-waking (f ∷ ls) i = inr ((fine.sound f).ousted (omega (arith, ap (times f) i, same-self f)))
+  waking-act fine h (op.Closing closing_op.WakeNext) n q =
+      inr ((k.ordered.placed.leaves 0).left (omega (
+        arith,
+        split waking_of s.parties p old rest l e,
+        ap (weigh waking_of) q,
+      ))).0
+  waking-act fine h o n q = inl (sym (ap (λ (x : Entries). x.waking) (same-entries p h o s.world refl)))
+
+none-going : (o : Op) → is_leaking o ≡ false → going_of o ≡ 0
+none-going (op.Closing closing_op.LeakOut) n = absurd (cc)
+none-going (op.Closing closing_op.LeakNext) n = absurd (cc)
+none-going _ n = refl
+
+user-going : (o : Op) (u : UserEnd) → accepts o u ≡ true → is_leaking o ≡ false
+user-going (op.User x) u a = refl
+user-going _ u a = absurd (cc)
+
+-- what is done begins no leak
+act-more : (s : Machine) (p : ℕ) (h : Hint) (o : Op) (b : Bool) → is_end o ≡ b → (more : Trace)
+    × ((act p h o s.world).world.trace ≡ s.world.trace ++ more) × (has is_leak_begun more ≡ false)
+act-more s p h o false n = let g = grows-act p h o s.world n in (g.more, g.is, none-leaks g.more g.none_begins)
+act-more s p h (op.End a held) true n = (event.CallEnded p a ∷ [], refl, refl)
+act-more s p h _ true n = absurd (cc)
+
+none-used : (n : ℕ) → eqb n 0 ≡ true → n ≡ 0
+none-used n e = grind (arith, nat_tests)
+
+-- each way in which a party goes on
+
+module _ (s : Machine) (p : ℕ) (old rest : List Op) (d : Done) (l : p < length s.parties)
+    (e : stack s p ≡ rest ++ reverse old) (k : Leaks s) (fine : Good s) (way : Way s p old rest d) where
+  after : Ordered (unsettled s p rest d)
+  after = ordered-moves s p old rest d fine l e way k.ordered
+
+  within : Withins (unsettled s p rest d)
+  within = withins-moves s p old rest d l e way k.within
+
+  static-same : (old ≡ op.Closing closing_op.LeakOut ∷ [] → ⊥) → d.world.is_static ≡ s.world.is_static
+  static-same m = ⊎_elim (λ (x : d.world.is_static ≡ s.world.is_static). x)
+      (λ (x : (s.world.is_static ≡ false) × (old ≡ op.Closing closing_op.LeakOut ∷ [])). absurd (m x.1))
+      (static-effects s.world s.parties old d (effects-way s p old rest d fine l e way))
+
+  not-out : (o : Op) → old ≡ o ∷ [] → is_leaking o ≡ false → old ≡ op.Closing closing_op.LeakOut ∷ [] → ⊥
+  not-out o q n i =
+      let j : o ≡ op.Closing closing_op.LeakOut =
+      (let y : o ∷ [] ≡ op.Closing closing_op.LeakOut ∷ [] = sym q ∙ i in cc) in
+      let no : true ≡ false = sym (ap is_leaking j) ∙ n in cc
+
+  by-act : (h : Hint) (o : Op) (b : Bool) → is_leaking o ≡ b → old ≡ o ∷ [] → d ≡ act p h o s.world →
+      Leaks (unsettled s p rest d)
+  by-act h (op.Closing closing_op.LeakOut) true n q z =
+      leaks-out s p old rest d l e k after within s.world.is_static s.world.gone refl refl q z
+  by-act h (op.Closing closing_op.LeakNext) true n q z =
+      let m = act-more s p h (op.Closing closing_op.LeakNext) false refl in
+      leaks-next s p old rest d l e k after within s.world.gone s.world.waking refl refl q z m.0
+      (ap (λ (c : Done). c.world.trace) z ∙ m.1) m.2
+      (static-same (λ i. let no : op.Closing closing_op.LeakNext ∷ [] ≡ op.Closing closing_op.LeakOut ∷ [] = sym q ∙ i in cc))
+      (gone-same s p old rest d l e k after within
+      (subst (λ (c : Done). Hushed is_drop_begun hushed-drop s.world c.world) (sym z)
+      (hushed-act is_drop_begun hushed-drop p h (op.Closing closing_op.LeakNext) s.world tt)))
+  by-act h _ true n q z = absurd (cc)
+  by-act h o false n q z =
+      let m = act-more s p h o (is_end o) refl in
+      calm s p old rest d l e k after within m.0 (ap (λ (c : Done). c.world.trace) z ∙ m.1) m.2
+      (static-same (not-out o q n))
+      (gone-same s p old rest d l e k after within
+      (subst (λ (c : Done). Hushed is_drop_begun hushed-drop s.world c.world) (sym z)
+      (hushed-act is_drop_begun hushed-drop p h o s.world (drops-none p o))))
+      (⊎_elim (λ (x : (act p h o s.world).world.waking ≡ s.world.waking).
+      let y : (d.world.waking ≡ s.world.waking) ⊎ (s.world.gone ≡ true) = inl (ap (λ (c : Done). c.world.waking) z ∙ x) in y)
+      (λ (x : s.world.gone ≡ true). let y : (d.world.waking ≡ s.world.waking) ⊎ (s.world.gone ≡ true) = inr x in y)
+      (waking-act s p old rest d l e k after within fine h o n q))
+      (omega (arith, ap (weigh going_of) q, none-going o n))
+      (ap (λ (c : Done). weigh going_of c.next) z ∙ goes-act 1 1 p h o s.world n)
+
+  -- a leak may begin, and so may the drop of the executor, only where no leak is in progress
+  module _ (c : Call) (r : begin_refusal s.world s.parties (top (stack s p)) c ≡ None) where
+    calm-now : is_on_executor c ≡ true → weigh_all going_of s.parties ≡ 0
+    calm-now i =
+        let x : (not (is_on_executor c) || is_unused leaking_of s.parties) ≡ true =
+        (calm_owned s.world s.parties (top (stack s p)) c r).0 in
+        omega (
+          arith,
+          none-used (weigh_all leaking_of s.parties)
+              (ap (λ (b : Bool). not b || is_unused leaking_of s.parties) (sym i) ∙ x),
+          going-less s k.within,
+        )
+
+    owned-now : is_owners c ≡ true → s.world.is_static ≡ false
+    owned-now i =
+        let x : not (is_owners c && s.world.is_static) ≡ true = (calm_owned s.world s.parties (top (stack s p)) c r).1 in
+        by s.world.is_static (ap (λ (b : Bool). not (b && s.world.is_static)) (sym i) ∙ x)
+      where
+        by : (b : Bool) → not b ≡ true → b ≡ false
+        by false z = refl
+        by true z = absurd (cc)
+
+  leaks-least : (o : Op) → leaks_of o ≤ going_of o
+  leaks-least (op.Closing closing_op.LeakOut) = omega arith
+  leaks-least _ = omega arith
+
+  leak-begins : old ≡ [] → begin_refusal s.world s.parties (top (stack s p)) call.Leak ≡ None →
+      d ≡ begun p (log s.world (event.CallBegun p call.Leak)) (mine (top (stack s p))) call.Leak →
+      Leaks (unsettled s p rest d)
+  leak-begins q r z =
+      let none : weigh_all leaks_of s.parties ≡ 0 =
+      omega (arith, calm-now call.Leak r refl, weigh_all-below leaks_of going_of leaks-least s.parties) in
+      let before : weigh leaks_of old ≡ 0 = ap (weigh leaks_of) q in
+      let next : weigh leaks_of d.next ≡ 1 = ap (λ (c : Done). weigh leaks_of c.next) z in
+      let here : 1 ≤ weigh_all leaks_of (unsettled s p rest d).parties =
+      omega (arith, now s p old rest d l e k after within leaks_of, none, before, next) in
+      record {
+        ordered = after;
+        within = within;
+        single = omega (arith, now s p old rest d l e k after within leaks_of, none, before, next);
+        opened = λ x. (
+          ap (λ (c : Done). c.world.is_static) z ∙ owned-now call.Leak r refl,
+          ap (λ (c : Done). c.world.gone) z
+              ∙ open-now s.world.gone (none_refused s.world s.parties (top (stack s p)) call.Leak r).2,
+        );
+        begun = λ h. inl here;
+        goes_on = λ m. ⊎_elim
+            (λ (x : s.world.waking ≡ []). inl (ap (λ (c : Done). c.world.waking) z ∙ x))
+            (λ (x : 1 ≤ weigh_all nexts_of s.parties). inr (omega (
+              arith,
+              x,
+              now s p old rest d l e k after within nexts_of,
+              ap (weigh nexts_of) q,
+            ))) (k.goes_on (sym (ap (λ (c : Done). c.world.gone) z) ∙ m));
+        woken = λ f h c u. inl here;
+      }
+    where
+      open-now : (b : Bool) → not (b && true) ≡ true → b ≡ false
+      open-now false j = refl
+      open-now true j = absurd (cc)
+
+  drop-begins : old ≡ [] → begin_refusal s.world s.parties (top (stack s p)) call.DropExecutor ≡ None →
+      d ≡ begun p (log s.world (event.CallBegun p call.DropExecutor)) (mine (top (stack s p))) call.DropExecutor →
+      Leaks (unsettled s p rest d)
+  drop-begins q r z =
+      let none : weigh_all leaks_of s.parties ≡ 0 =
+      omega (arith, calm-now call.DropExecutor r refl, weigh_all-below leaks_of going_of leaks-least s.parties) in
+      let before : weigh leaks_of old ≡ 0 = ap (weigh leaks_of) q in
+      let next : weigh leaks_of d.next ≡ 0 = ap (λ (c : Done). weigh leaks_of c.next) z in
+      record {
+        ordered = after;
+        within = within;
+        single = omega (arith, now s p old rest d l e k after within leaks_of, none, before, next);
+        opened = λ x. absurd (omega (arith, x, now s p old rest d l e k after within leaks_of, none, before, next));
+        begun = λ h. absurd (unleaked none h);
+        goes_on = λ m. absurd (let no : true ≡ false = sym (ap (λ (c : Done). c.world.gone) z) ∙ m in cc);
+        woken = λ f h c u. absurd (unleaked none h);
+      }
+    where
+      more : Trace
+      more = event.CallBegun p call.DropExecutor ∷ event.DropBegun p ∷ []
+
+      trace : d.world.trace ≡ s.world.trace ++ more
+      trace = ap (λ (c : Done). c.world.trace) z
+          ∙ append_assoc s.world.trace (event.CallBegun p call.DropExecutor ∷ []) (event.DropBegun p ∷ [])
+
+      unleaked : weigh_all leaks_of s.parties ≡ 0 → has is_leak_begun d.world.trace ≡ true → ⊥
+      unleaked none h = ⊎_elim
+          (λ (x : 1 ≤ weigh_all leaks_of s.parties). let no : ⊥ = absurd (omega (arith, x, none)) in no)
+          (λ (x : (s.world.is_static ≡ true) × (s.world.gone ≡ false)).
+          let no : true ≡ false = sym x.0 ∙ owned-now call.DropExecutor r refl in cc)
+          (k.begun (before-told is_leak_begun s.world.trace more refl
+          (subst (λ (es : Trace). has is_leak_begun es ≡ true) trace h)))
+
+  by-call : (c : Call) → old ≡ [] → begin_refusal s.world s.parties (top (stack s p)) c ≡ None →
+      d ≡ begun p (log s.world (event.CallBegun p c)) (mine (top (stack s p))) c → Leaks (unsettled s p rest d)
+  by-call call.Leak q r z = leak-begins q r z
+  by-call call.DropExecutor q r z = drop-begins q r z
+  by-call c q r z =
+      let w : World = log s.world (event.CallBegun p c) in
+      let here : Option Waker = mine (top (stack s p)) in
+      let g = grows-begun p w here c in
+      calm s p old rest d l e k after within (event.CallBegun p c ∷ g.more)
+      (ap (λ (x : Done). x.world.trace) z ∙ (g.is ∙ append_assoc s.world.trace (event.CallBegun p c ∷ []) g.more))
+      (none-leaks g.more g.none_begins)
+      (static-same (λ i. let no : [] ≡ op.Closing closing_op.LeakOut ∷ [] = sym q ∙ i in cc))
+      (gone-same s p old rest d l e k after within
+      (subst (λ (x : Done). Hushed is_drop_begun hushed-drop s.world x.world) (sym z)
+      (hushed-called is_drop_begun hushed-drop p s.world here c tt)))
+      (inl (ap (λ (x : Done). x.world.waking) z ∙ sym (ap (λ (x : Entries). x.waking) (same-begun p w here c))))
+      (ap (weigh going_of) q)
+      (ap (λ (x : Done). weigh going_of x.next) z ∙ ⊎_elim
+      (λ (x : weigh going_of (begun p w here c).next ≡ 0). x)
+      (λ (x : c ≡ call.Leak). absurd (cc)) (goes-begun 1 1 p w here c))
+
+leaks-moves : (s : Machine) (p : ℕ) (old rest : List Op) (d : Done) → Good s → p < length s.parties →
+    stack s p ≡ rest ++ reverse old → Way s p old rest d → Leaks s → Leaks (unsettled s p rest d)
+leaks-moves s p old rest d fine l e (acted h o q z) k =
+    by-act s p old rest d l e k fine (acted h o q z) h o (is_leaking o) refl q z
+leaks-moves s p old rest d fine l e (called c q r n z) k =
+    by-call s p old rest d l e k fine (called c q r n z) c q n z
+leaks-moves s p old rest d fine l e (reacted o u a q z) k =
+    let way : Way s p old rest d = reacted o u a q z in
+    let g = grows-react p o u s.world in
+    let i : is_leaking o ≡ false = user-going o u a in
+    let a1 : Ordered (unsettled s p rest d) = after s p old rest d l e k fine way in
+    let w1 : Withins (unsettled s p rest d) = within s p old rest d l e k fine way in
+    calm s p old rest d l e k a1 w1 g.more (ap (λ (c : Done). c.world.trace) z ∙ g.is)
+    (none-leaks g.more g.none_begins)
+    (static-same s p old rest d l e k fine way (not-out s p old rest d l e k fine way o q i))
+    (gone-same s p old rest d l e k a1 w1
+    (subst (λ (c : Done). Hushed is_drop_begun hushed-drop s.world c.world) (sym z)
+    (hushed-react is_drop_begun hushed-drop p o u s.world)))
+    (inl (ap (λ (c : Done). c.world.waking) z ∙ sym (ap (λ (x : Entries). x.waking) (same-react p o u s.world a))))
+    (omega (arith, ap (weigh going_of) q, none-going o i))
+    (ap (λ (c : Done). weigh going_of c.next) z ∙ goes-react 1 1 p o u s.world)
+
+leaks-ends : (s : Machine) (p : ℕ) (a : Reply) (held : Hold) (below : List Op) → p < length s.parties →
+    stack s p ≡ below ++ reverse (op.End a held ∷ []) → Leaks s →
+    Leaks (unsettled s p below (done (log s.world (event.CallEnded p a)) []))
+leaks-ends s p a held below l e k =
+    let d : Done = done (log s.world (event.CallEnded p a)) [] in
+    calm s p (op.End a held ∷ []) below d l e k (ordered-ends s p a held below l e k.ordered)
+    (withins-end s p a held below l e k.within) (event.CallEnded p a ∷ []) refl refl refl refl (inl refl) refl refl
+
+leaks-start : (limit : ℕ) (kind : Kind) (n : ℕ) → Leaks (start limit kind n)
+leaks-start limit kind n = record {
+  ordered = ordered-start limit kind n;
+  within = withins-start limit kind n;
+  single = omega (arith, weigh_all-idle leaks_of n);
+  opened = λ x. absurd (omega (arith, x, weigh_all-idle leaks_of n));
+  begun = λ h. absurd (cc);
+  goes_on = λ m. inl refl;
+  woken = λ f h c u. absurd (cc);
+}
+
+leaks : (limit : ℕ) (kind : Kind) (parties : ℕ) (steps : List Step) → Leaks (run steps (start limit kind parties))
+leaks limit kind parties steps = along Leaks leaks-moves leaks-ends steps (start limit kind parties)
+    (good-start limit kind parties) (leaks-start limit kind parties)
+
+ended : (s : Machine) (f : ℕ) → Leaks s → LeakWakes s f
+ended s f k x c u =
+    let none : weigh_all going_of s.parties ≡ 0 = omega (arith, x.ended, going-less s k.within) in
+    let none_first : weigh_all leaks_of s.parties ≡ 0 = omega (arith, none, weigh_all-below leaks_of going_of leaks-few s.parties) in
+    let none_next : weigh_all nexts_of s.parties ≡ 0 = omega (arith, none, weigh_all-below nexts_of going_of nexts-few s.parties) in
+    ⊎_elim
+    (λ (y : 1 ≤ weigh_all leaks_of s.parties). absurd (omega (arith, y, none_first)))
+    (λ (y : (1 ≤ times f s.world.waking) ⊎ (has (is_leaked f) s.world.trace ≡ true)). ⊎_elim
+    (λ (z : 1 ≤ times f s.world.waking). absurd (omega (arith, z, ap (times f) (awake none_first none_next))))
+    (λ (z : has (is_leaked f) s.world.trace ≡ true). z) y) (k.woken f x.begun c u)
+  where
+    leaks-few : (o : Op) → leaks_of o ≤ going_of o
+    leaks-few (op.Closing closing_op.LeakOut) = omega arith
+    leaks-few _ = omega arith
+
+    nexts-few : (o : Op) → nexts_of o ≤ going_of o
+    nexts-few (op.Closing closing_op.LeakNext) = omega arith
+    nexts-few _ = omega arith
+
+    awake : weigh_all leaks_of s.parties ≡ 0 → weigh_all nexts_of s.parties ≡ 0 → s.world.waking ≡ []
+    awake a b = ⊎_elim
+        (λ (y : 1 ≤ weigh_all leaks_of s.parties). absurd (omega (arith, y, a)))
+        (λ (y : (s.world.is_static ≡ true) × (s.world.gone ≡ false)). ⊎_elim (λ (z : s.world.waking ≡ []). z)
+        (λ (z : 1 ≤ weigh_all nexts_of s.parties). absurd (omega (arith, z, b))) (k.goes_on y.1)) (k.begun x.begun)
+
+pub leaks-wake : (limit : ℕ) (kind : Kind) (parties : ℕ) (steps : List Step) (f : ℕ) →
+    LeakWakes (run steps (start limit kind parties)) f
+leaks-wake limit kind parties steps f = ended (run steps (start limit kind parties)) f (leaks limit kind parties steps)

@@ -177,10 +177,10 @@ pub record AllLaws (s : Machine) : Type 0 where
   pub in_reach : IsInReach s
   -- in the order of the queue
   pub in_order : IsReachedInOrder s
-  -- a due future stands with its keeper, and else in the executor's queue
-  pub places_of_due : StandsWithKeeper s
   -- a poll of a run is answered that its own future is ready only where the run has ended
   pub run_answers : (r : ℕ) → IsReadyAtItsEnd s r
+  -- a due future stands with its keeper, and else in the executor's queue
+  pub places_of_due : StandsWithKeeper s
   -- a lone poll of a run takes what the run keeps, and else what is common
   pub by_runs : IsReachedByRuns s
   -- and all that it keeps

@@ -10,6 +10,7 @@ use Rattle.executor_model.specs.CallsMean.{CallsDoWhatTheySay}
 use Rattle.executor_model.specs.ClosingOrder.{DropsInOrder}
 use Rattle.executor_model.specs.ClosingWakes.{WakesInOrder}
 use Rattle.executor_model.specs.LeakWakes.{LeakWakes}
+use Rattle.executor_model.specs.CopiesMean.{CopiesAreCounted}
 use Rattle.executor_model.specs.DroppedAtRest.{IsDroppedAtRest}
 use Rattle.executor_model.specs.DroppedOnce.{DropComesOnce, IsDroppedByTheEnd}
 use Rattle.executor_model.specs.EarlyDrop.{EarlyDropHasCause, LastWakerIsLast}
@@ -35,9 +36,11 @@ use Rattle.executor_model.specs.Executions.{HasOneRunnable, IsCounted}
 use Rattle.executor_model.specs.SleepersAgree.{SleepersAgree}
 use Rattle.executor_model.specs.SleepersTold.{SleepersAreTold}
 use Rattle.executor_model.specs.SpawnsMean.{SpawnsAreLimited}
+use Rattle.executor_model.specs.SpawnWants.{SpawnsWantAsTold}
 use Rattle.executor_model.specs.Steps.{Machine, run, start, step, stepped}
 use Rattle.executor_model.specs.TableKeeps.{EntryOutlastsDrop, IsTableBound}
 use Rattle.executor_model.specs.WakersMean.{WakersWakeTheirOwn}
+use Rattle.executor_model.specs.WalksRound.{WalksGoRound}
 use Rattle.executor_laws.specs.Called.{KeeperIsCalled, SomeStandingIsCalled}
 use Rattle.executor_laws.specs.AtOnce.{NoComesAtOnce}
 use Rattle.executor_laws.specs.Continued.{IsContinued}
@@ -51,6 +54,9 @@ use Rattle.executor_laws.specs.Places.{StandsWithKeeper}
 use Rattle.executor_laws.specs.Reach.{IsInReach, IsReachedInOrder}
 use Rattle.executor_laws.specs.RunAnswers.{IsReadyAtItsEnd}
 use Rattle.executor_laws.specs.RunReach.{IsKeptReached, IsReachedByRuns, LeavesCommon}
+use Rattle.executor_laws.specs.RunPolls.{KeepersCanBePolled}
+use Rattle.executor_laws.specs.RunSearch.{FindsDue}
+use Rattle.executor_laws.specs.RunTurns.{IsCommonReached}
 use Rattle.executor_laws.specs.Ticks.{IsTickExact}
 
 pub record AllLaws (s : Machine) : Type 0 where
@@ -112,6 +118,8 @@ pub record AllLaws (s : Machine) : Type 0 where
   pub own_runner : (r : ℕ) → OwnQueueHasRunner s r
   -- and is never more than 512
   pub own_bound : (r : ℕ) → IsWithinBound s r
+  -- a walk comes to the own queue of each other run in the list
+  pub round : WalksGoRound s
   -- of the table, the queue, the limit and memory
 
   -- the table has those that are undropped, or whose drop has still to take the entry out, once each
@@ -144,10 +152,14 @@ pub record AllLaws (s : Machine) : Type 0 where
   pub calls : (p : ℕ) → CallsDoWhatTheySay p s.world.trace
   -- an answer that the executor is full is given where it is, and no more futures are undropped than its limit
   pub spawns : SpawnsAreLimited s
+  -- want of memory is answered to a spawn only by a step that is told so, and only where the executor isn't full
+  pub spawn_wants : SpawnsWantAsTold s
   -- a kept waker stays its future's, and a wake by it wakes that
   pub wakers : WakersWakeTheirOwn s
   -- a wake, of itself too, wakes its own future, unless that is over, and a copy is kept as a waker of its own
   pub own_futures : ActsOnItsFuture s
+  -- a copy that is made adds one kept waker, who uses a waker up takes that out, and nothing else changes which are kept
+  pub copies : CopiesAreCounted s
   -- an outside waker that is told of as called is called
   pub outside : OutsideWakersAreCalled s
   -- a poll keeps the waker that it was given, and no other is called for it
@@ -183,8 +195,14 @@ pub record AllLaws (s : Machine) : Type 0 where
   pub places_of_due : StandsWithKeeper s
   -- a lone poll of a run takes what the run keeps, and else what is common
   pub by_runs : IsReachedByRuns s
+  -- and else one that another run keeps: it finds a due future wherever one stands
+  pub finds_due : FindsDue s
   -- and all that it keeps
   pub kept_reached : IsKeptReached s
+  -- a list of such polls takes each common future
+  pub common_reached : IsCommonReached s
+  -- a run that keeps a future can be polled so
+  pub keepers_polled : KeepersCanBePolled s
   -- what a run kept is common once it was dropped alone
   pub left : LeavesCommon s
   -- a lone call is answered as it is

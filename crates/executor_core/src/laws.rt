@@ -1,6 +1,7 @@
 //! All laws of every machine, in one record.
 ghost use Rattle.executor_model.specs.AskedPolls.{IsWokenBetweenPolls};
 ghost use Rattle.executor_model.specs.AwaiterKept.{AwaiterIsKept};
+ghost use Rattle.executor_model.specs.CopiesMean.{CopiesAreCounted};
 ghost use Rattle.executor_model.specs.DroppedAtRest.{IsDroppedAtRest};
 ghost use Rattle.executor_model.specs.DroppedOnce.{DropComesOnce, IsDroppedByTheEnd};
 ghost use Rattle.executor_model.specs.EarlyDrop.{EarlyDropHasCause, LastWakerIsLast};
@@ -18,30 +19,31 @@ ghost use Rattle.executor_model.specs.LeakWakes.{LeakWakes};
 ghost use Rattle.executor_model.specs.OutsideWakers.{OutsideWakersAreCalled};
 ghost use Rattle.executor_model.specs.OwnFutures.{ActsOnItsFuture};
 ghost use Rattle.executor_model.specs.SpawnsMean.{SpawnsAreLimited};
+ghost use Rattle.executor_model.specs.SpawnWants.{SpawnsWantAsTold};
 ghost use Rattle.executor_model.specs.WakersMean.{WakersWakeTheirOwn};
 ghost use Rattle.executor_laws.specs.Called.{KeeperIsCalled, SomeStandingIsCalled};
 ghost use Rattle.executor_core.specs.AllLaws.{AllLaws};
 
 use executor_laws::laws::{
     arrival_order_needs_fewer_ticks, calls_at_rest_are_exact, calls_end,
-    common_futures_are_in_reach, dropped_runs_leave_common_futures,
-    due_futures_stand_with_their_keepers, keepers_are_called, kept_futures_are_in_reach,
-    lone_calls_are_exact, lone_calls_end, no_comes_at_once, queueings_are_counted,
-    runs_are_ready_at_their_end, runs_reach_futures, some_standing_is_called, ticks_are_exact,
-    traces_continue,
+    common_futures_are_in_reach, common_futures_are_in_reach_of_runs,
+    dropped_runs_leave_common_futures, due_futures_stand_with_their_keepers, keepers_are_called,
+    keepers_can_be_polled, kept_futures_are_in_reach, lone_calls_are_exact, lone_calls_end,
+    no_comes_at_once, queueings_are_counted, runs_are_ready_at_their_end, runs_find_due_futures,
+    runs_reach_futures, some_standing_is_called, ticks_are_exact, traces_continue,
 };
 use executor_model::call_laws::{
-    calls_do_what_they_say, closings_say_why, leaks_wake_each_future, outside_wakers_are_called,
-    polls_keep_their_wakers, runs_are_finished_at_once, spawns_are_limited,
-    the_closing_drop_keeps_the_order, the_closing_drop_wakes_in_order, wakers_wake_their_own,
-    wakes_and_copies_are_of_their_futures,
+    calls_do_what_they_say, closings_say_why, copies_are_counted, leaks_wake_each_future,
+    outside_wakers_are_called, polls_keep_their_wakers, runs_are_finished_at_once,
+    spawns_are_limited, spawns_want_memory_as_told, the_closing_drop_keeps_the_order,
+    the_closing_drop_wakes_in_order, wakers_wake_their_own, wakes_and_copies_are_of_their_futures,
 };
 use executor_model::laws::{
     emptiness_is_exact, futures_are_in_their_places, no_append_is_refused_full, one_runnable,
     outputs_are_kept, outputs_are_settled, own_queues_agree, quiet_emptiness_is_exact,
     references_are_counted, refused_calls_change_nothing, sleepers_agree, sleepers_are_told,
     table_and_queue_agree, the_limit_is_exact, the_table_is_kept, wakes_and_drops_take_no_memory,
-    wakes_are_handed_on, want_of_memory_is_told_of,
+    wakes_are_handed_on, walks_go_round, want_of_memory_is_told_of,
 };
 use executor_model::trace_laws::{
     awaiters_are_kept, closing_drops_each_future_once, dropped_executors_drop_each_future_once,
@@ -62,6 +64,7 @@ pub fn all_laws()
     sleepers_agree();
     sleepers_are_told();
     own_queues_agree();
+    walks_go_round();
     table_and_queue_agree();
     the_table_is_kept();
     futures_are_in_their_places();
@@ -77,11 +80,14 @@ pub fn all_laws()
     lone_calls_end();
     ticks_are_exact();
     common_futures_are_in_reach();
+    common_futures_are_in_reach_of_runs();
     arrival_order_needs_fewer_ticks();
     runs_are_ready_at_their_end();
     due_futures_stand_with_their_keepers();
     runs_reach_futures();
+    runs_find_due_futures();
     kept_futures_are_in_reach();
+    keepers_can_be_polled();
     dropped_runs_leave_common_futures();
     lone_calls_are_exact();
     queueings_are_counted();
@@ -121,8 +127,10 @@ fn laws_of_traces()
 fn laws_of_calls()
     ensures calls { EveryTrace CallsDoWhatTheySay }
     ensures spawns { EveryMachine SpawnsAreLimited }
+    ensures spawn_wants { EveryMachine SpawnsWantAsTold }
     ensures wakers { EveryMachine WakersWakeTheirOwn }
     ensures own { EveryMachine ActsOnItsFuture }
+    ensures copies { EveryMachine CopiesAreCounted }
     ensures outside { EveryMachine OutsideWakersAreCalled }
     ensures given { EveryMachine PollsKeepTheirWakers }
     ensures why { EveryMachine ClosingSaysWhy }
@@ -133,8 +141,10 @@ fn laws_of_calls()
 {
     calls_do_what_they_say();
     spawns_are_limited();
+    spawns_want_memory_as_told();
     wakers_wake_their_own();
     wakes_and_copies_are_of_their_futures();
+    copies_are_counted();
     outside_wakers_are_called();
     polls_keep_their_wakers();
     closings_say_why();

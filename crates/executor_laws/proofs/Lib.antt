@@ -1,3 +1,4 @@
+pub mod CallSteps
 pub mod Exactness
 pub mod Keepers
 pub mod Placement
@@ -6,4 +7,6 @@ pub mod Queueings
 pub mod Reach
 pub mod RunReach
 pub mod Termination
+pub mod Turns
 pub mod Wakeups
+pub mod Walks

@@ -1,3 +1,6 @@
+pub mod StepsOfCalls
+pub mod SeenByCalls
+pub mod CallsFollow
 pub mod Costs
 pub mod Remaining
 pub mod GoingOn
@@ -13,3 +16,6 @@ pub mod LoneAnswers
 pub mod AtRest
 pub mod RunReach
 pub mod RunAnswers
+pub mod RunSearch
+pub mod RunPolls
+pub mod RunTurns

@@ -18,6 +18,9 @@ ghost use Rattle.executor_laws.specs.Places.{StandsWithKeeper};
 ghost use Rattle.executor_laws.specs.Reach.{IsInReach, IsReachedInOrder};
 ghost use Rattle.executor_laws.specs.RunAnswers.{IsReadyAtItsEnd};
 ghost use Rattle.executor_laws.specs.RunReach.{IsKeptReached, IsReachedByRuns, LeavesCommon};
+ghost use Rattle.executor_laws.specs.RunPolls.{KeepersCanBePolled};
+ghost use Rattle.executor_laws.specs.RunSearch.{FindsDue};
+ghost use Rattle.executor_laws.specs.RunTurns.{IsCommonReached};
 ghost use Rattle.executor_laws.specs.Ticks.{IsTickExact};
 
 /// Calls end. In each machine to which steps of a new one lead, each step that begins no further call
@@ -137,11 +140,33 @@ pub fn runs_reach_futures()
     ensures { EveryMachine IsReachedByRuns }
 {}
 
+/// Where no call is in progress, the drop of the executor hasn't begun and a run keeps a future, each party can poll the run
+/// alone, by any outside waker, to the end of that poll, in which the run's own future isn't ready.
+pub fn keepers_can_be_polled()
+    ensures { EveryMachine KeepersCanBePolled }
+{}
+
+/// A run finds a future in whichever queue it stands. Where no call is in progress, the drop of the executor hasn't begun
+/// and some future is due, each poll of a run that is made alone, and in which the run's own future isn't ready, whatever
+/// other user code answers in it, begins the poll or the drop of a future that was due, also where only other runs keep
+/// some. So a poll that takes none leaves none that another run could give it.
+pub fn runs_find_due_futures()
+    ensures { EveryMachine FindsDue }
+{}
+
 /// What a run keeps is in reach of it. A run's own queue is first in, first out: as many polls of the run, made alone
 /// and with its own future not ready in any, as it keeps futures at their start begin the poll or the drop of each of
 /// those, whatever other user code answers in them and whatever the run keeps meanwhile.
 pub fn kept_futures_are_in_reach()
     ensures { EveryMachine IsKeptReached }
+{}
+
+/// A run takes first what stands in its own queue, then what is common, and what it moves from there keeps its turn: as many
+/// polls of the run, made alone and with its own future not ready in any, as it keeps futures and are common at their start
+/// begin the poll or the drop of each that was common, whatever other user code answers in them and whatever becomes common
+/// meanwhile.
+pub fn common_futures_are_in_reach_of_runs()
+    ensures { EveryMachine IsCommonReached }
 {}
 
 /// Where no call is in progress, the drop of the executor hasn't begun, and a party drops a run alone, whatever user

@@ -2,4 +2,5 @@
 //! stand beside its invariant. A crate of its own so that its proofs are checked beside others.
 #![tactic(auto)]
 
+pub mod following;
 pub mod laws;

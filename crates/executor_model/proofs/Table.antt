@@ -22,6 +22,6 @@ pub mod ClosingWakes
 pub mod LeakCounts
 pub mod LastWakers
 pub mod Leaking
-pub mod LastTold
 pub mod LeakWithin
 pub mod LeakWakes
+pub mod LastTold

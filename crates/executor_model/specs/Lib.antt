@@ -33,6 +33,7 @@ pub mod AwaiterKept
 pub mod Keeper
 pub mod Standing
 pub mod OwnQueues
+pub mod WalksRound
 pub mod HandingOn
 pub mod SleepersAgree
 pub mod SleepersTold
@@ -40,12 +41,14 @@ pub mod Deeds
 pub mod Calls
 pub mod CallsMean
 pub mod SpawnsMean
+pub mod SpawnWants
+pub mod CopiesMean
 pub mod WakersMean
 pub mod OutsideWakers
 pub mod ClosingOrder
 pub mod ClosingWakes
+pub mod LeakWakes
 pub mod GivenWakers
 pub mod LastTold
 pub mod OwnFutures
 pub mod FinishedRuns
-pub mod LeakWakes

@@ -2,15 +2,17 @@
 ghost use Rattle.executor_model.specs.CallsMean.{CallsDoWhatTheySay};
 ghost use Rattle.executor_model.specs.ClosingOrder.{DropsInOrder};
 ghost use Rattle.executor_model.specs.ClosingWakes.{WakesInOrder};
+ghost use Rattle.executor_model.specs.CopiesMean.{CopiesAreCounted};
 ghost use Rattle.executor_model.specs.EveryTrace.{EveryTrace};
 ghost use Rattle.executor_model.specs.Executions.{EveryExecution, EveryMachine};
+ghost use Rattle.executor_model.specs.LeakWakes.{LeakWakes};
 ghost use Rattle.executor_model.specs.FinishedRuns.{FinishedAtOnce};
 ghost use Rattle.executor_model.specs.GivenWakers.{PollsKeepTheirWakers};
 ghost use Rattle.executor_model.specs.LastTold.{ClosingSaysWhy};
-ghost use Rattle.executor_model.specs.LeakWakes.{LeakWakes};
 ghost use Rattle.executor_model.specs.OutsideWakers.{OutsideWakersAreCalled};
 ghost use Rattle.executor_model.specs.OwnFutures.{ActsOnItsFuture};
 ghost use Rattle.executor_model.specs.SpawnsMean.{SpawnsAreLimited};
+ghost use Rattle.executor_model.specs.SpawnWants.{SpawnsWantAsTold};
 ghost use Rattle.executor_model.specs.WakersMean.{WakersWakeTheirOwn};
 
 /// Whatever the parties do, each call that has ended was answered with one of its own answers, and did what its name
@@ -32,10 +34,26 @@ pub fn spawns_are_limited()
     ensures { EveryMachine SpawnsAreLimited }
 {}
 
+/// Whatever the parties do, a spawn is answered that memory is wanted only by a step that is told so, and only where fewer
+/// futures than the limit are undropped. One that asks for a place, where fewer are undropped or were dropped in a call
+/// that hasn't ended, is answered so at once where memory is refused, and takes its future in where it isn't.
+pub fn spawns_want_memory_as_told()
+    ensures { EveryMachine SpawnsWantAsTold }
+{}
+
 /// Whatever the parties do, a kept waker that is one of a future stays so until it is used up, and each wake by it that
 /// has ended woke that future, unless that was over before the wake ended.
 pub fn wakers_wake_their_own()
     ensures { EveryMachine WakersWakeTheirOwn }
+{}
+
+/// Whatever the parties do, kept wakers come and go one by one. A step that answers a copy of a waker that it was made adds
+/// one kept waker, behind the others, and one reference of its task, which had fewer than 2^40; one that answers it that
+/// memory is wanted adds none, and is told so, or a task has 2^40 references. A call that uses a waker up takes that out as it
+/// begins, and leaves the others. No other step changes which wakers are kept. A reference that is let go is one less,
+/// unless it is the last of a task without handle.
+pub fn copies_are_counted()
+    ensures { EveryMachine CopiesAreCounted }
 {}
 
 /// Whatever the parties do, a step that tells that a waker from outside of the executor is called leads its party into the

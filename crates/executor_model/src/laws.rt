@@ -16,6 +16,7 @@ ghost use Rattle.executor_model.specs.Executions.{EveryMachine, EveryExecution, 
 ghost use Rattle.executor_model.specs.SleepersAgree.{SleepersAgree};
 ghost use Rattle.executor_model.specs.SleepersTold.{SleepersAreTold};
 ghost use Rattle.executor_model.specs.TableKeeps.{EntryOutlastsDrop, IsTableBound};
+ghost use Rattle.executor_model.specs.WalksRound.{WalksGoRound};
 ghost use Rattle.executor_model.specs.World.{World};
 
 /// Whatever the parties do, a task's count is its living wakers, and one for a Runnable, a run or a
@@ -156,4 +157,10 @@ pub fn own_queues_agree()
     ensures empty { EveryExecution IsEmptyMeanwhile }
     ensures kept { EveryExecution OwnQueueHasRunner }
     ensures bounded { EveryExecution IsWithinBound }
+{}
+
+/// Whatever the parties do, a run's walk, wherever it starts, comes to the own queue of each other run in the list, as long
+/// as the run finds its own queue empty behind each steal.
+pub fn walks_go_round()
+    ensures { EveryMachine WalksGoRound }
 {}

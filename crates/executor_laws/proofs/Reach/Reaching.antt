@@ -142,7 +142,7 @@ place f (g ∷ xs) k = ⊎_elim
 
 module _ (s : Machine) (r : Reached s) (rest : IsAtRest s) where
   -- the queue isn't longer than a list that has each common future
-  not-longer : (commons : List ℕ) → HasCommons s.world.trace commons → length s.world.queue.items ≤ length commons
+  pub not-longer : (commons : List ℕ) → HasCommons s.world.trace commons → length s.world.queue.items ≤ length commons
   not-longer commons k = no-longer s.world.queue.items commons (λ g. by g (times g s.world.queue.items) refl)
     where
       by : (g n : ℕ) → times g s.world.queue.items ≡ n → times g s.world.queue.items ≤ times g commons

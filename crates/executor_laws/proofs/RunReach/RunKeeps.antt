@@ -63,7 +63,7 @@ pub record So (before : Trace) (w : World) : Type 0 where
   pub trace : w.trace ≡ before ++ meanwhile
   pub there : w.gone ≡ false
 
-so-more : (before : Trace) (w v : World) → So before w → More w.trace v.trace → v.gone ≡ w.gone → So before v
+pub so-more : (before : Trace) (w v : World) → So before w → More w.trace v.trace → v.gone ≡ w.gone → So before v
 so-more before w v k m g = record {
   meanwhile = k.meanwhile ++ m.more;
   trace = m.is ∙ (ap (λ (es : Trace). es ++ m.more) k.trace ∙ append_assoc before k.meanwhile m.more);
@@ -312,24 +312,24 @@ module _ (s : Machine) (y : Reached s) (rest : IsAtRest s) (r p : ℕ) (b : By) 
 
 -- lists of such polls
 
-grows-polls : (r : ℕ) (ts : List LoneRunPoll) (s new : Machine) → AreLonePolls r ts s new → Grows s new
+pub grows-polls : (r : ℕ) (ts : List LoneRunPoll) (s new : Machine) → AreLonePolls r ts s new → Grows s new
 grows-polls r [] s new e =
     record { grown = []; trace = sym (ap (λ (m : Machine). m.world.trace) e) ∙ sym (append-nil s.world.trace) }
 grows-polls r (t ∷ ts) s new k =
     grows-and s k.0 new (run-grows (Begin t.party (call.PollRun r t.by) ∷ t.steps) s k.0 k.1.call.made)
     (grows-polls r ts k.0 new k.2)
 
-takes-now : (f : ℕ) (s next new : Machine) → Taken f s.world.trace next.world.trace → Grows next new → Takes f s new
+pub takes-now : (f : ℕ) (s next new : Machine) → Taken f s.world.trace next.world.trace → Grows next new → Takes f s new
 takes-now f s next new t g = record {
   grows = grows-and s next new (record { grown = t.events; trace = t.is }) g;
   taken = list_any-append (takes f) t.events g.grown ∙ or-left _ _ t.taken;
 }
 
-takes-between : (f : ℕ) (s new : Machine) → Takes f s new → has (takes f) (since s new) ≡ true
+pub takes-between : (f : ℕ) (s new : Machine) → Takes f s new → has (takes f) (since s new) ≡ true
 takes-between f s new x = ap (λ (es : Trace). has (takes f) (drop (length s.world.trace) es)) x.grows.trace
     ∙ (ap (has (takes f)) (drop-append_seam s.world.trace x.grows.grown) ∙ x.taken)
 
-takes-later : (f : ℕ) (s next new : Machine) → Grows s next → Takes f next new → Takes f s new
+pub takes-later : (f : ℕ) (s next new : Machine) → Grows s next → Takes f next new → Takes f s new
 takes-later f s next new g t = record {
   grows = grows-and s next new g t.grows;
   taken = list_any-append (takes f) g.grown t.grows.grown ∙ or-right _ _ t.taken;
@@ -377,7 +377,7 @@ takes-place (t ∷ ts) s new y rest r f (suc n) z l k =
 
 module _ (s : Machine) (y : Reached s) (rest : IsAtRest s) (r : ℕ) where
   -- the queue isn't longer than a list that has each future that is kept
-  not-longer : (keeps : List ℕ) → HasKept r s.world.trace keeps → length (own_of s.world r) ≤ length keeps
+  pub not-longer : (keeps : List ℕ) → HasKept r s.world.trace keeps → length (own_of s.world r) ≤ length keeps
   not-longer keeps h = no-longer (own_of s.world r) keeps (λ g. by g (times g (own_of s.world r)) refl)
     where
       by : (g n : ℕ) → times g (own_of s.world r) ≡ n → times g (own_of s.world r) ≤ times g keeps

@@ -66,14 +66,14 @@ own : (p : ℕ) → eqb p p ≡ true
 own p = grind (arith, nat_tests)
 
 -- the steps by which p goes on to the end
-record Finish (p : ℕ) (s : Machine) : Type 0 where
+pub record Finish (p : ℕ) (s : Machine) : Type 0 where
   pub steps : List Step
   pub new : Machine
   pub onward : are_onward_of p steps ≡ true
   pub made : run_all steps s ≡ Ok new
   pub quiet : IsQuiet new.world.trace
 
-abbrev OthersRest : ℕ → Machine → Type 0
+abbrev pub OthersRest : ℕ → Machine → Type 0
 OthersRest p s = (q : ℕ) → q ≢ p → stack s q ≡ []
 
 all-rest : (p : ℕ) (s : Machine) → OthersRest p s → stack s p ≡ [] → (q : ℕ) → stack s q ≡ []
@@ -132,14 +132,14 @@ goes-first p s t o e f = record {
   quiet = f.quiet;
 }
 
-still-rest : (p : ℕ) (s : Machine) (t : Step) → party_of t ≡ p → OthersRest p s → OthersRest p (after s t)
+pub still-rest : (p : ℕ) (s : Machine) (t : Step) → party_of t ≡ p → OthersRest p s → OthersRest p (after s t)
 still-rest p s t e k q n = get_or-set_other s.parties (party_of t) q _ [] (λ x. n (x ∙ e)) ∙ k q n
 
-still-party : (p : ℕ) (s : Machine) (t : Step) → p < length s.parties → p < length (after s t).parties
+pub still-party : (p : ℕ) (s : Machine) (t : Step) → p < length s.parties → p < length (after s t).parties
 still-party p s t l = omega
     (arith, l, length-set s.parties (party_of t) (part_after s.world (stack s (party_of t)) t).todo)
 
-finishes : (n p : ℕ) (s : Machine) → Reached s → p < length s.parties → OthersRest p s → remaining s ≤ n →
+pub finishes : (n p : ℕ) (s : Machine) → Reached s → p < length s.parties → OthersRest p s → remaining s ≤ n →
     (o : Option Op) →
     top (stack s p) ≡ o → Finish p s
 finishes n p s r l k m None e =

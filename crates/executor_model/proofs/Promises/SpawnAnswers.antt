@@ -72,7 +72,7 @@ full-misfit c e (op.End reply.Full held) =
     omega (arith, z)
 full-misfit c e _ = omega arith
 
-only-enter : (o : Op) → calling_of o ≡ 1 → serves o call.Spawn ≡ true → is_end o ≡ false → is_enter o ≡ true
+pub only-enter : (o : Op) → calling_of o ≡ 1 → serves o call.Spawn ≡ true → is_end o ≡ false → is_enter o ≡ true
 only-enter (op.Table table_op.Enter) a e n = refl
 only-enter (op.List (list_op.LockWrite section.MakeRun)) a e n = absurd (cc)
 only-enter (op.List (list_op.LockWrite (section.Register x))) a e n = absurd (cc)

@@ -75,7 +75,7 @@ asked-trace false false p w rest =
     (op.Queue (queue_op.Append (length w.tasks)))) in
     ap (λ (x : Option Op). (settled_by (end_of x) p (enter_by false false p w).world os).world.trace) e
 
-step-trace : (s : Machine) (p : ℕ) (h : Hint) → p < length s.parties → Asks s p →
+pub step-trace : (s : Machine) (p : ℕ) (h : Hint) → p < length s.parties → Asks s p →
     (stepped s (step s (Go p h))).world.trace ≡ s.world.trace
     ++ asked (not (nat_lt (length s.world.table) s.world.limit)) h.refused p s.world ∷ []
 unfolding step
@@ -88,7 +88,7 @@ step-trace s p h l e =
     ∙ asked-trace (not (nat_lt (length s.world.table) s.world.limit)) h.refused p s.world (below_top (stack s p)))
 
 -- which is full exactly where the table is
-says-full : (b c : Bool) (p : ℕ) (w : World) (es : Trace) →
+pub says-full : (b c : Bool) (p : ℕ) (w : World) (es : Trace) →
     es ++ asked b c p w ∷ [] ≡ es ++ event.CallEnded p reply.Full ∷ [] → b ≡ true
 says-full true c p w es e = refl
 says-full false true p w es e =

@@ -1,0 +1,7 @@
+pub mod Owing
+pub mod Sleeping
+pub mod Stealing
+pub mod Closing
+pub mod Next
+pub mod Begins
+pub mod Todo

@@ -1,0 +1,108 @@
+//! A call in progress, as contracts follow it. It has no bytes.
+ghost use Rattle.std.specs.Prelude.{◌≡◌};
+ghost use Rattle.call_steps.specs.Begins.{begins};
+ghost use Rattle.call_steps.specs.Todo.{todo_of};
+
+use crate::asked::Asked;
+use crate::reply::Reply;
+use crate::saw::Saw;
+use std::marker::Model;
+use std::mem;
+use std::snapshot::Snapshot;
+
+/// How a call has gone so far.
+#[derive(Drop)]
+pub enum Past<F, T> {
+    /// It began, and was asked for this.
+    Begun(Snapshot<Asked<F, T>>),
+    /// It did what was to be done next, and saw this.
+    Did(Snapshot<Saw<F, T>>, Snapshot<Past<F, T>>),
+}
+
+/// A call in progress. Contracts see what it has still to do, the next thing first.
+#[must_use]
+pub struct Call<F, T> {
+    past: Snapshot<Past<F, T>>,
+}
+
+impl<F, T> Model for Call<F, T> {
+    ghost use Rattle.std.specs.Prelude.{List};
+    ghost use Rattle.call_steps.specs.declared.step.CallStep.{CallStep};
+    ghost use Rattle.call_steps.specs.Todo.{todo_of};
+
+    ghost Value = { List (CallStep F T) };
+
+    ghost view = { λ c. todo_of c.past.value };
+}
+
+/// How a call ended, which that call alone can say. Only contracts read it.
+#[derive(Drop)]
+pub struct Last {
+    reply: Reply,
+}
+
+impl Model for Last {
+    ghost use Rattle.call_steps.specs.declared.reply.Reply.{Reply};
+
+    ghost Value = { Reply };
+
+    ghost view = { λ l. l.reply };
+}
+
+impl Last {
+    ghost use Rattle.std.specs.Prelude.{◌≡◌};
+
+    /// What was answered.
+    pub fn reply(self) -> Reply
+        ensures { result ≡ self }
+    {
+        let Last { reply } = self;
+        reply
+    }
+}
+
+impl<F: Copy, T: Copy> Call<F, T> {
+    ghost use Rattle.std.specs.Prelude.{◌≡◌, [], ◌∷◌};
+    ghost use Rattle.call_steps.specs.declared.step.CallStep.TheVariants as step;
+    ghost use Rattle.call_steps.specs.Begins.{begins};
+    ghost use Rattle.call_steps.specs.Todo.{following};
+
+    /// A call that is asked for this.
+    pub fn begin(asked: Asked<F, T>) -> Self
+        ensures { result ≡ begins asked }
+    {
+        Call {
+            past: begun(&asked),
+        }
+    }
+
+    /// What was to be done next is done, and this was seen.
+    pub fn follow(&mut self, saw: Saw<F, T>)
+        ensures { self.new ≡ following saw self.old }
+    {
+        let past = mem::replace(&mut self.past, begun(&Asked::Spawn));
+        self.past = Snapshot::of(&Past::Did(Snapshot::of(&saw), past));
+    }
+
+    /// The call ends with this answer, which is all that is left of it.
+    pub fn end(self, reply: Reply) -> Last
+        requires { self ≡ step.End reply ∷ [] }
+        ensures { result ≡ reply }
+    {
+        let Call { past: _ } = self;
+        Last { reply }
+    }
+
+    /// A part of a call ends that answers nothing, with nothing left to do.
+    pub fn close(self)
+        requires { self ≡ [] }
+    {
+        let Call { past: _ } = self;
+    }
+}
+
+fn begun<F: Copy, T: Copy>(asked: &Asked<F, T>) -> Snapshot<Past<F, T>>
+    ensures { todo_of result.value ≡ begins asked.now }
+{
+    Snapshot::of(&Past::Begun(Snapshot::of(asked)))
+}

@@ -1,0 +1,20 @@
+//! What a call on the executor does next, by what it sees: the steps of the machine's calls, one after the other, by whatever
+//! names futures, ticks and runs go.
+#![tactic(auto)]
+
+mod asked;
+mod call;
+mod names;
+mod reply;
+mod saw;
+mod step;
+
+pub use asked::Asked;
+pub use call::{Call, Last};
+pub use names::{RunPoll, Section, Sleeping, Source, Stage, Steal, Then, TickOrRun, Waker};
+pub use reply::Reply;
+pub use saw::{Saw, Standing};
+pub use step::{
+    CallStep, ClosingStep, HandleStep, ListStep, QueueStep, RunStep, SleeperStep, StealStep,
+    TableStep, TickStep, UserStep, WakerStep,
+};

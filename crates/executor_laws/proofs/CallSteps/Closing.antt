@@ -1,0 +1,68 @@
+-- The executor's drop and its leak go as `call_steps` says.
+use Rattle.std.proofs.Common.{◌≡◌, ℕ, Bool, true, false, ◌||◌, List, [], ◌∷◌, ◌++◌, length, refl}
+use Rattle.task_moves.specs.declared.moves.owed.Move.TheVariants as move
+use Rattle.executor_model.specs.declared.op.ClosingOp.{ClosingOp}
+use Rattle.executor_model.specs.declared.op.ClosingOp.TheVariants as closing_op
+use Rattle.executor_model.specs.declared.op.Op.TheVariants as op
+use Rattle.executor_model.specs.declared.op.UserOp.TheVariants as user_op
+use Rattle.executor_model.specs.Acts.{closing_ops, drain_by, drop_next_by, leak_next_by, leak_out_by, leaking_ops, wake, wake_next_by}
+use Rattle.executor_model.specs.Doing.{closing_act}
+use Rattle.executor_model.specs.World.{World}
+use Rattle.call_steps.specs.declared.saw.Saw.TheVariants as saw
+use Rattle.call_steps.specs.declared.step.CallStep.TheVariants as step
+use Rattle.call_steps.specs.declared.step.table.ClosingStep.TheVariants as closing_step
+use Rattle.call_steps.specs.Closing.{closing, leaking}
+use Rattle.call_steps.specs.Next.{next, next_closing}
+use Rattle.executor_laws.specs.SeenByCalls.{dropped, first, seen_closing, unless_gone, wakes}
+use Rattle.executor_laws.specs.StepsOfCalls.{closing_step_of, steps_of}
+use Rattle.executor_laws.proofs.CallSteps.Owing.{both, of-move}
+
+of-closing : (fs ws : List ℕ) → steps_of (closing_ops fs ws) ≡ closing (length fs) (length ws)
+of-closing (f ∷ fs) ws = refl
+of-closing [] (f ∷ ws) = refl
+of-closing [] [] = refl
+
+of-leaking : (ws : List ℕ) → steps_of (leaking_ops ws) ≡ leaking (length ws)
+of-leaking (f ∷ ws) = refl
+of-leaking [] = refl
+
+of-drop : (p : ℕ) (w : World) (fs : List ℕ) →
+    steps_of (drop_next_by p w fs).next ≡ next_closing closing_step.DropNext (dropped fs w.waking)
+of-drop p w [] = refl
+of-drop p w (f ∷ fs) =
+    both (op.User (user_op.Drop f) ∷ []) (closing_ops fs (w.waking ++ f ∷ [])) _ _ refl (of-closing fs (w.waking ++ f ∷ []))
+
+of-wake : (p : ℕ) (w : World) (ws : List ℕ) →
+    steps_of (wake_next_by p w ws).next ≡ next_closing closing_step.WakeNext (wakes ws w)
+of-wake p w [] = refl
+of-wake p w (f ∷ ws) =
+    both (wake p (record w { waking = ws }) f).next (closing_ops [] ws) _ _
+    (of-move true move.Wake p (record w { waking = ws }) f) (of-closing [] ws)
+
+of-drain : (p : ℕ) (w : World) (fs : List ℕ) → steps_of (drain_by p w fs).next ≡ next_closing closing_step.Drain (first fs)
+of-drain p w [] = refl
+of-drain p w (f ∷ fs) = refl
+
+of-leak-out : (b : Bool) (w : World) →
+    steps_of (leak_out_by b w).next
+    ≡ next_closing closing_step.LeakOut (unless_gone b (saw.Closes 0 (length (w.waking ++ w.table))))
+of-leak-out true w = refl
+of-leak-out false w = of-leaking (w.waking ++ w.table)
+
+of-leak : (b : Bool) (p : ℕ) (w : World) (ws : List ℕ) →
+    steps_of (leak_next_by b p w ws).next ≡ next_closing closing_step.LeakNext (unless_gone b (wakes ws w))
+of-leak true p w ws = refl
+of-leak false p w [] = refl
+of-leak false p w (f ∷ ws) =
+    both (wake p (record w { waking = ws }) f).next (leaking_ops ws) _ _
+    (of-move true move.Wake p (record w { waking = ws }) f) (of-leaking ws)
+
+pub of-closings : (p : ℕ) (o : ClosingOp) (w : World) →
+    steps_of (closing_act p o w).next ≡ next (step.Closing (closing_step_of o)) (seen_closing o w)
+of-closings p closing_op.TakeOut w = of-closing w.table w.waking
+of-closings p closing_op.DropNext w = of-drop p w w.leaving
+of-closings p closing_op.WakeNext w = of-wake p w w.waking
+of-closings p closing_op.Close w = refl
+of-closings p closing_op.Drain w = of-drain p w w.queue.items
+of-closings p closing_op.LeakOut w = of-leak-out (w.is_static || w.gone) w
+of-closings p closing_op.LeakNext w = of-leak w.gone p w w.waking

@@ -16,6 +16,7 @@ use Rattle.executor_model.specs.DroppedOnce.{DropComesOnce, IsDroppedByTheEnd}
 use Rattle.executor_model.specs.EarlyDrop.{EarlyDropHasCause, LastWakerIsLast}
 use Rattle.executor_model.specs.Emptiness.{IsEmptinessExact, IsQuietEmptinessExact}
 use Rattle.executor_model.specs.Entries.{FindsPlace, OwnAgrees, QueueAgrees, TableAgrees}
+use Rattle.executor_model.specs.FinishedRuns.{FinishedAtOnce}
 use Rattle.executor_model.specs.GivenWakers.{PollsKeepTheirWakers}
 use Rattle.executor_model.specs.HandingOn.{HandsOn, IsOnItsWay}
 use Rattle.executor_model.specs.InPlace.{IsInPlace}
@@ -165,6 +166,8 @@ pub record AllLaws (s : Machine) : Type 0 where
   pub given : PollsKeepTheirWakers s
   -- a step that closes an open task says why: nobody is left who could wake its future, or it was cancelled
   pub why : ClosingSaysWhy s
+  -- a call is answered that a run is finished only as it begins, where it polls a run that had ended
+  pub finished : FinishedAtOnce s
   -- the executor's drop drops the futures in the order of acceptance, and wakes them so
   pub order : DropsInOrder s
   pub wakes_order : WakesInOrder s
@@ -186,10 +189,10 @@ pub record AllLaws (s : Machine) : Type 0 where
   pub in_reach : IsInReach s
   -- in the order of the queue
   pub in_order : IsReachedInOrder s
-  -- a due future stands with its keeper, and else in the executor's queue
-  pub places_of_due : StandsWithKeeper s
   -- a poll of a run is answered that its own future is ready only where the run has ended
   pub run_answers : (r : ℕ) → IsReadyAtItsEnd s r
+  -- a due future stands with its keeper, and else in the executor's queue
+  pub places_of_due : StandsWithKeeper s
   -- a lone poll of a run takes what the run keeps, and else what is common
   pub by_runs : IsReachedByRuns s
   -- and else one that another run keeps: it finds a due future wherever one stands

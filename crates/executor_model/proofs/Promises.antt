@@ -16,3 +16,5 @@ pub mod OwnWakers
 pub mod OwnWakes
 pub mod OutsideCalls
 pub mod OwnFutures
+pub mod FinishedActs
+pub mod FinishedRuns

@@ -51,3 +51,4 @@ pub mod LeakWakes
 pub mod GivenWakers
 pub mod LastTold
 pub mod OwnFutures
+pub mod FinishedRuns

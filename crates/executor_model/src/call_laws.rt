@@ -6,6 +6,7 @@ ghost use Rattle.executor_model.specs.CopiesMean.{CopiesAreCounted};
 ghost use Rattle.executor_model.specs.EveryTrace.{EveryTrace};
 ghost use Rattle.executor_model.specs.Executions.{EveryExecution, EveryMachine};
 ghost use Rattle.executor_model.specs.LeakWakes.{LeakWakes};
+ghost use Rattle.executor_model.specs.FinishedRuns.{FinishedAtOnce};
 ghost use Rattle.executor_model.specs.GivenWakers.{PollsKeepTheirWakers};
 ghost use Rattle.executor_model.specs.LastTold.{ClosingSaysWhy};
 ghost use Rattle.executor_model.specs.OutsideWakers.{OutsideWakersAreCalled};
@@ -66,6 +67,12 @@ pub fn outside_wakers_are_called()
 /// keeps of that poll has no other waker, and no other is called for it.
 pub fn polls_keep_their_wakers()
     ensures { EveryMachine PollsKeepTheirWakers }
+{}
+
+/// Whatever the parties do, a step that tells that a call is answered that a run is finished is the beginning of a poll of that
+/// run, which had ended before.
+pub fn runs_are_finished_at_once()
+    ensures { EveryMachine FinishedAtOnce }
 {}
 
 /// Whatever the parties do, a step that closes the open task of a future, whether it lets the last waker go, detaches the

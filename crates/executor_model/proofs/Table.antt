@@ -23,4 +23,5 @@ pub mod LeakCounts
 pub mod LastWakers
 pub mod Leaking
 pub mod LeakWithin
+pub mod LeakStays
 pub mod LeakWakes

@@ -23,5 +23,6 @@ pub mod LeakCounts
 pub mod LastWakers
 pub mod Leaking
 pub mod LeakWithin
+pub mod LeakStays
 pub mod LeakWakes
 pub mod LastTold

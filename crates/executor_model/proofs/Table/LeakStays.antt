@@ -1,66 +1,48 @@
 -- For leaks_wake_each_future.
 -- What holds of a leak at every moment, and what keeps it: who is to be woken stays so or is told of.
 use Rattle.std.proofs.Common.{◌≡◌, ◌⊎◌, ⊎_elim, ℕ, ◌+◌, ◌<◌, ◌≤◌, List, [], ◌∷◌, ◌++◌, length, Bool, true, false}
-use Rattle.std.proofs.Common.{◌&&◌, ◌||◌, not, cond, eqb, inl, inr, refl, sym, ap, ◌∙◌, subst, arith, take}
-use Rattle.std.proofs.lemmas.Bool.Decides.{nat_tests}
-use Rattle.std.proofs.lemmas.List.{append_assoc}
+use Rattle.std.proofs.Common.{◌||◌, not, cond, eqb, inl, inr, refl, sym, ap, ◌∙◌, subst, arith, take}
 use Rattle.std.specs.List.{before_first, position_or_len}
-use Rattle.std.specs.Prelude.{None, Option, count_by, reverse}
-use Rattle.executor_model.specs.declared.call.Call.{Call}
-use Rattle.executor_model.specs.declared.call.Call.TheVariants as call
-use Rattle.executor_model.specs.declared.call.Reply.{Reply}
+use Rattle.std.specs.Prelude.{count_by, reverse}
 use Rattle.executor_model.specs.declared.event.Event.{Event}
 use Rattle.executor_model.specs.declared.event.Event.TheVariants as event
-use Rattle.executor_model.specs.declared.kind.Kind.{Kind}
 use Rattle.executor_model.specs.declared.op.ClosingOp.TheVariants as closing_op
-use Rattle.executor_model.specs.declared.op.Hold.{Hold}
 use Rattle.executor_model.specs.declared.op.Op.{Op}
 use Rattle.executor_model.specs.declared.op.Op.TheVariants as op
 use Rattle.executor_model.specs.declared.op.RunOp.TheVariants as run_op
 use Rattle.executor_model.specs.declared.op.SleeperOp.TheVariants as sleeper_op
 use Rattle.executor_model.specs.declared.op.TableOp.TheVariants as table_op
 use Rattle.executor_model.specs.declared.op.UserOp.TheVariants as user_op
-use Rattle.executor_model.specs.declared.op.Waker.{Waker}
 use Rattle.executor_model.specs.declared.op.WakerOp.TheVariants as waker_op
 use Rattle.executor_model.specs.declared.step.Hint.{Hint}
-use Rattle.executor_model.specs.declared.step.Step.{Step}
-use Rattle.executor_model.specs.declared.step.UserEnd.{UserEnd}
 use Rattle.task_moves.specs.declared.moves.owed.Move.TheVariants as move
 use Rattle.executor_model.specs.Acts.{drop_next_by, enter_by, leak_next_by, leak_out_by, leaking_ops, leave_by, wake}
 use Rattle.executor_model.specs.Acts.{wake_next_by}
 use Rattle.executor_model.specs.Doing.{act}
 use Rattle.executor_model.specs.Good.{Good}
-use Rattle.executor_model.specs.LeakWakes.{LeakWakes, before_leak}
-use Rattle.executor_model.specs.Rows.{leaking_of}
+use Rattle.executor_model.specs.LeakWakes.{before_leak}
 use Rattle.executor_model.specs.Sound.{times}
-use Rattle.executor_model.specs.Steps.{Machine, accepts, begin_refusal, begun, is_on_executor, is_owners, is_unused, mine}
-use Rattle.executor_model.specs.Steps.{run, stack, start, top}
+use Rattle.executor_model.specs.Steps.{Machine}
+use Rattle.executor_model.specs.Steps.{stack}
 use Rattle.executor_model.specs.Trace.{Trace, has, is_accepted, is_drop_begun, is_dropped, is_leak_begun, is_leaked}
 use Rattle.executor_model.specs.Weights.{same, weigh, weigh_all}
-use Rattle.executor_model.specs.World.{World, Done, done, log}
-use Rattle.executor_model.proofs.OneFuture.EffectsWays.{effects-way}
+use Rattle.executor_model.specs.World.{World, Done}
 use Rattle.executor_model.proofs.OneFuture.Extras.{waking_of}
 use Rattle.executor_model.proofs.OneFuture.Telling.{accepted-counts, before-cons, begun-has, counted-there, fallen-counts}
 use Rattle.executor_model.proofs.OneFuture.Telling.{same-cond, there-or-none}
 use Rattle.executor_model.proofs.Promises.CallPromises.{has-left, has-right}
-use Rattle.executor_model.proofs.Steps.Begins.{calm_owned}
-use Rattle.executor_model.proofs.Quiet.Calls.{is_end}
-use Rattle.executor_model.proofs.Steps.Deeds.{grows-act, grows-begun, grows-react}
 use Rattle.executor_model.proofs.Steps.Growing.{split}
-use Rattle.executor_model.proofs.Steps.Hushed.{Hushed, Hushes, hushed-act, hushed-called, hushed-react}
+use Rattle.executor_model.proofs.Steps.Hushed.{Hushed, Hushes}
 use Rattle.executor_model.proofs.Steps.Hushed.{is_hushed}
-use Rattle.executor_model.proofs.Steps.Lift.{good-start, none_refused, unsettled, weigh_all-idle}
-use Rattle.executor_model.proofs.Steps.Listing.{Entries, entries-move, same-begun, same-entries, same-react}
-use Rattle.executor_model.proofs.Steps.Lists.{same_cases, times-append, weigh-append, weigh_all-below, weigh_all-push}
+use Rattle.executor_model.proofs.Steps.Lift.{unsettled}
+use Rattle.executor_model.proofs.Steps.Listing.{Entries, entries-move, same-entries}
+use Rattle.executor_model.proofs.Steps.Lists.{same_cases, times-append, weigh-append, weigh_all-push}
 use Rattle.executor_model.proofs.Steps.Tests.{or-left}
 use Rattle.executor_model.proofs.Steps.TraceMore.{has-append}
-use Rattle.executor_model.proofs.Steps.Ways.{Way, along}
-use Rattle.executor_model.proofs.Steps.Ways.Way.{acted, called, reacted}
-use Rattle.executor_model.proofs.Table.Closing.{Ordered, ordered-ends, ordered-moves, ordered-start}
-use Rattle.executor_model.proofs.Table.LeakCounts.{goes-act, goes-begun, goes-leak_next, goes-leak_out, goes-react, goes_of}
+use Rattle.executor_model.proofs.Table.Closing.{Ordered}
+use Rattle.executor_model.proofs.Table.LeakCounts.{goes-leak_next, goes-leak_out, goes_of}
 use Rattle.executor_model.proofs.Table.LeakCounts.{is_leaking, leaks_of}
-use Rattle.executor_model.proofs.Table.LeakWithin.{Withins, going-less, going_of, withins-end, withins-moves, withins-start}
-use Rattle.executor_model.proofs.Table.Leaking.{none-leaks, static-effects}
+use Rattle.executor_model.proofs.Table.LeakWithin.{Withins, going_of}
 
 -- the next one is to be woken
 abbrev pub nexts_of : Op → ℕ

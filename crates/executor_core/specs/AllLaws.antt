@@ -54,6 +54,7 @@ use Rattle.executor_laws.specs.Places.{StandsWithKeeper}
 use Rattle.executor_laws.specs.Reach.{IsInReach, IsReachedInOrder}
 use Rattle.executor_laws.specs.RunAnswers.{IsReadyAtItsEnd}
 use Rattle.executor_laws.specs.RunReach.{IsKeptReached, IsReachedByRuns, LeavesCommon}
+use Rattle.executor_laws.specs.RunFew.{PollsFew}
 use Rattle.executor_laws.specs.RunPolls.{KeepersCanBePolled}
 use Rattle.executor_laws.specs.RunSearch.{FindsDue}
 use Rattle.executor_laws.specs.RunTurns.{IsCommonReached}
@@ -203,6 +204,8 @@ pub record AllLaws (s : Machine) : Type 0 where
   pub common_reached : IsCommonReached s
   -- a run that keeps a future can be polled so
   pub keepers_polled : KeepersCanBePolled s
+  -- a lone poll of a run polls 200 futures at most
+  pub polls_few : PollsFew s
   -- what a run kept is common once it was dropped alone
   pub left : LeavesCommon s
   -- a lone call is answered as it is

@@ -30,7 +30,8 @@ use executor_laws::laws::{
     dropped_runs_leave_common_futures, due_futures_stand_with_their_keepers, keepers_are_called,
     keepers_can_be_polled, kept_futures_are_in_reach, lone_calls_are_exact, lone_calls_end,
     no_comes_at_once, queueings_are_counted, runs_are_ready_at_their_end, runs_find_due_futures,
-    runs_reach_futures, some_standing_is_called, ticks_are_exact, traces_continue,
+    runs_poll_few_futures, runs_reach_futures, some_standing_is_called, ticks_are_exact,
+    traces_continue,
 };
 use executor_model::call_laws::{
     calls_do_what_they_say, closings_say_why, copies_are_counted, leaks_wake_each_future,
@@ -86,6 +87,7 @@ pub fn all_laws()
     due_futures_stand_with_their_keepers();
     runs_reach_futures();
     runs_find_due_futures();
+    runs_poll_few_futures();
     kept_futures_are_in_reach();
     keepers_can_be_polled();
     dropped_runs_leave_common_futures();

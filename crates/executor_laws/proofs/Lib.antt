@@ -1,5 +1,6 @@
 pub mod CallSteps
 pub mod Exactness
+pub mod Fewness
 pub mod Keepers
 pub mod Placement
 pub mod Promptness

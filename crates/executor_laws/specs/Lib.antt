@@ -19,3 +19,4 @@ pub mod RunAnswers
 pub mod RunSearch
 pub mod RunPolls
 pub mod RunTurns
+pub mod RunFew

@@ -18,6 +18,7 @@ ghost use Rattle.executor_laws.specs.Places.{StandsWithKeeper};
 ghost use Rattle.executor_laws.specs.Reach.{IsInReach, IsReachedInOrder};
 ghost use Rattle.executor_laws.specs.RunAnswers.{IsReadyAtItsEnd};
 ghost use Rattle.executor_laws.specs.RunReach.{IsKeptReached, IsReachedByRuns, LeavesCommon};
+ghost use Rattle.executor_laws.specs.RunFew.{PollsFew};
 ghost use Rattle.executor_laws.specs.RunPolls.{KeepersCanBePolled};
 ghost use Rattle.executor_laws.specs.RunSearch.{FindsDue};
 ghost use Rattle.executor_laws.specs.RunTurns.{IsCommonReached};
@@ -138,6 +139,12 @@ pub fn arrival_order_needs_fewer_ticks()
 /// or the drop of a future: of one that the run keeps, where it keeps one; else of one that is common, where one is.
 pub fn runs_reach_futures()
     ensures { EveryMachine IsReachedByRuns }
+{}
+
+/// Where no call is in progress and the drop of the executor hasn't begun, a poll of a run that is made alone, and in which
+/// the run's own future isn't ready, whatever other user code answers in it, polls 200 futures at most, each time counted.
+pub fn runs_poll_few_futures()
+    ensures { EveryMachine PollsFew }
 {}
 
 /// Where no call is in progress, the drop of the executor hasn't begun and a run keeps a future, each party can poll the run

@@ -44,6 +44,7 @@ use Rattle.executor_model.proofs.OneFuture.Telling.{begun-has}
 use Rattle.executor_model.proofs.Steps.Reached.{Reached, deep-here, good-here, reached-more, reached-step, run-first}
 use Rattle.executor_laws.specs.LoneEnds.{are_onward_of, is_onward_of}
 use Rattle.executor_laws.specs.Reach.{since, takes}
+use Rattle.executor_laws.specs.RunFew.{polls_in}
 use Rattle.executor_laws.specs.RunReach.{IsLonePoll, IsReachedByRuns, Keeps, TakesKept, TakesOneCommon, first_answer}
 use Rattle.executor_laws.proofs.Reach.LoneSteps.{HasEntry}
 use Rattle.executor_laws.proofs.Reach.LoneTicks.{idle-none, in-range, left-true, of-party, stack-set}
@@ -116,6 +117,7 @@ module _ (p : ℕ) (before : Trace) (x : RunPoll) (own common : List ℕ) (new :
     pub common_is : w.queue.items ≡ common
     pub meanwhile : Trace
     pub trace : w.trace ≡ before ++ meanwhile
+    pub calm : polls_in meanwhile ≡ 0
     pub there : w.gone ≡ false
 
   -- and the party has this to do
@@ -176,6 +178,7 @@ module _ (p : ℕ) (before : Trace) (x : RunPoll) (own common : List ℕ) (new :
               common_is = a.so_far.common_is;
               meanwhile = a.so_far.meanwhile;
               trace = a.so_far.trace;
+              calm = a.so_far.calm;
               there = a.so_far.there;
             };
             todo = stack-set p s d l;
@@ -200,6 +203,7 @@ module _ (p : ℕ) (before : Trace) (x : RunPoll) (own common : List ℕ) (new :
               common_is = ap (λ q. q.items) (registered-queue st s.world x.run) ∙ a.so_far.common_is;
               meanwhile = a.so_far.meanwhile;
               trace = registered-trace st s.world x.run ∙ a.so_far.trace;
+              calm = a.so_far.calm;
               there = registered-gone st s.world x.run ∙ a.so_far.there;
             };
             todo = stack-set p s d l;
@@ -222,6 +226,7 @@ module _ (p : ℕ) (before : Trace) (x : RunPoll) (own common : List ℕ) (new :
               common_is = a.so_far.common_is;
               meanwhile = a.so_far.meanwhile;
               trace = a.so_far.trace;
+              calm = a.so_far.calm;
               there = a.so_far.there;
             };
             todo = stack-set p s d l;
@@ -357,6 +362,7 @@ module _ (s : Machine) (r : Reached s) (rest : IsAtRest s) (n p : ℕ) (b : By) 
         common_is = refl;
         meanwhile = told;
         trace = trace-is;
+        calm = refl;
         there = here s (good-here s r) (heard-here s r) (deep-here s r) (bonded-here s r) rest;
       }
 

@@ -57,7 +57,7 @@ use Rattle.executor_model.proofs.OwnQueues.RunsAside.{Rest, frame-act, is_run}
 use Rattle.executor_model.proofs.Steps.Ways.{Way, acted, reacted, called, along}
 use Rattle.executor_laws.proofs.Termination.SpendingRuns.{TakesFew}
 
-abbrev RunsStay : World → World → Type 0
+abbrev pub RunsStay : World → World → Type 0
 RunsStay w v = v.runs ≡ w.runs
 
 -- what speaks of no run leaves the runs as they are
@@ -82,7 +82,7 @@ runs-drain : (p : ℕ) (w : World) (q : List ℕ) → RunsStay w (acts.drain_by 
 runs-drain p w [] = refl
 runs-drain p w (f ∷ rest) = refl
 
-runs-act : (p : ℕ) (h : Hint) (o : Op) (w : World) → is_run o ≡ false → RunsStay w (act p h o w).world
+pub runs-act : (p : ℕ) (h : Hint) (o : Op) (w : World) → is_run o ≡ false → RunsStay w (act p h o w).world
 runs-act p h (op.Queue queue_op.Take) w n = runs-take _ w
 runs-act p h (op.Queue (queue_op.Append f)) w n = runs-append _ w f
 runs-act p h (op.Sleeper sleeper_op.ExchangeFlag) w n = runs-exchange _ w

@@ -74,6 +74,7 @@ returns c limit kind parties steps =
       run_answers = c.runs_are_ready_at_their_end.ensures limit kind parties steps;
       by_runs = c.runs_reach_futures.ensures limit kind parties steps;
       finds_due = c.runs_find_due_futures.ensures limit kind parties steps;
+      polls_few = c.runs_poll_few_futures.ensures limit kind parties steps;
       kept_reached = c.kept_futures_are_in_reach.ensures limit kind parties steps;
       common_reached = c.common_futures_are_in_reach_of_runs.ensures limit kind parties steps;
       keepers_polled = c.keepers_can_be_polled.ensures limit kind parties steps;

@@ -1,0 +1,353 @@
+-- For runs_poll_few_futures.
+-- What is done beside a run begins a poll only where a future was to be taken up, and leads to no other that is.
+use Rattle.std.proofs.Common.{◌≡◌, ◌∙◌, ℕ, zero, suc, ◌+◌, ◌≤◌, List, [], ◌∷◌, ◌++◌, Bool, true, false, not, cond, ◌&&◌}
+use Rattle.std.proofs.Common.{get_or, length, refl, sym, ap, arith, append-nil, set}
+use Rattle.std.proofs.Math.ListN.{length-set}
+use Rattle.std.specs.Prelude.{Option, Some, None}
+use Rattle.task_moves.specs.Moves as moves
+use Rattle.task_moves.specs.declared.schedule_info.ScheduleInfo.{ScheduleInfo}
+use Rattle.task_moves.specs.declared.moves.owed.Move.{Move}
+use Rattle.task_moves.specs.declared.moves.owed.Move.TheVariants as move
+use Rattle.task_moves.specs.declared.moves.owed.FutureDebt.{FutureDebt}
+use Rattle.task_moves.specs.declared.moves.owed.FutureDebt.TheVariants.{DropFuture, PollFuture}
+use Rattle.task_moves.specs.declared.moves.owed.AwaiterDebt.{AwaiterDebt}
+use Rattle.task_moves.specs.declared.moves.owed.AwaiterDebt.TheVariants.{NotifyAwaiter, NotifyOther}
+use Rattle.task_moves.specs.declared.moves.owed.Owed.{Owed}
+use Rattle.executor_model.specs.declared.event.Answer.TheVariants as answer
+use Rattle.executor_model.specs.declared.event.Event.{Event}
+use Rattle.executor_model.specs.declared.event.Event.TheVariants as event
+use Rattle.executor_model.specs.declared.op.Awaiter.{Awaiter}
+use Rattle.executor_model.specs.declared.op.ClosingOp.TheVariants as closing_op
+use Rattle.executor_model.specs.declared.op.HandleOp.TheVariants as handle_op
+use Rattle.executor_model.specs.declared.op.ListOp.TheVariants as list_op
+use Rattle.executor_model.specs.declared.op.Op.{Op}
+use Rattle.executor_model.specs.declared.op.Op.TheVariants as op
+use Rattle.executor_model.specs.declared.op.Polled.{Polled}
+use Rattle.executor_model.specs.declared.op.Polled.TheVariants as of
+use Rattle.executor_model.specs.declared.op.QueueOp.TheVariants as queue_op
+use Rattle.executor_model.specs.declared.op.RunOp.TheVariants as run_op
+use Rattle.executor_model.specs.declared.op.Sleeping.{Sleeping}
+use Rattle.executor_model.specs.declared.op.SleeperOp.{SleeperOp}
+use Rattle.executor_model.specs.declared.op.SleeperOp.TheVariants as sleeper_op
+use Rattle.executor_model.specs.declared.op.StealOp.TheVariants as steal_op
+use Rattle.executor_model.specs.declared.op.TableOp.TheVariants as table_op
+use Rattle.executor_model.specs.declared.op.TickOp.TheVariants as tick_op
+use Rattle.executor_model.specs.declared.op.TickOrRun.{TickOrRun}
+use Rattle.executor_model.specs.declared.op.TickOrRun.TheVariants as tick_or_run
+use Rattle.executor_model.specs.declared.op.UserOp.TheVariants as user_op
+use Rattle.executor_model.specs.declared.op.Waker.{Waker}
+use Rattle.executor_model.specs.declared.op.Waker.TheVariants.{Task, Outside}
+use Rattle.executor_model.specs.declared.op.WakerOp.TheVariants as waker_op
+use Rattle.executor_model.specs.declared.step.Hint.{Hint}
+use Rattle.executor_model.specs.declared.step.UserEnd.{UserEnd}
+use Rattle.executor_model.specs.declared.step.UserEnd.TheVariants as end
+use Rattle.executor_model.specs.Acts.{
+  append_by,
+  call_waker,
+  entry_goes,
+  is_last_waker,
+  is_told,
+  leave_by,
+  let_go,
+  let_go_by,
+  move_by,
+  notify_by,
+  stands_alone,
+  told,
+  told_of,
+  waker_goes,
+}
+use Rattle.executor_model.specs.ActsOfSleepers.{exchange_by, hand_out_by, wake_up_by}
+use Rattle.executor_model.specs.Carried.{awaiter_ops, drops, emptied_ops, future_ops, next_ops, output_ops, owed_ops, schedule_ops}
+use Rattle.executor_model.specs.Doing.{act, sleeper_act}
+use Rattle.executor_model.specs.Steps.{accepts, react, waits}
+use Rattle.executor_model.specs.Trace.{Trace, has}
+use Rattle.executor_model.specs.Weights.{weigh}
+use Rattle.executor_model.specs.World.{Asleep, Awake, Left, Run, Ticker, World, among, awaiter_of, log, log_if, no_run, run_of, runs_with, task}
+use Rattle.executor_parts.specs.Sleepers.{waker_of}
+use Rattle.executor_model.proofs.Steps.Lists.{weigh-append}
+use Rattle.executor_model.proofs.Steps.SleepersNext.{goes-unseen}
+use Rattle.executor_model.proofs.Steps.Tests.{left-false, right-false}
+use Rattle.executor_model.proofs.Steps.TraceGrows.{Allows, grows-act, grows-react, is_ordinary}
+use Rattle.executor_laws.specs.RunFew.{begins_poll, polls_in}
+use Rattle.executor_laws.proofs.RunReach.RunSteps.{side_of}
+use Rattle.executor_laws.proofs.Termination.TakingFew.{runs-act}
+
+-- a future is to be taken up
+abbrev pub ups : Op → ℕ
+ups (op.Move move.TakeUp f) = 1
+ups _ = 0
+
+-- what a move owes leads to none
+
+ups-schedule : (f : ℕ) (o : Option ScheduleInfo) → weigh ups (schedule_ops f o) ≡ 0
+ups-schedule f (Some i) = refl
+ups-schedule f None = refl
+
+ups-future : (there : Bool) (f : ℕ) (o : Option FutureDebt) → weigh ups (future_ops there f o) ≡ 0
+ups-future there f (Some PollFuture) = refl
+ups-future true f (Some DropFuture) = refl
+ups-future false f (Some DropFuture) = refl
+ups-future there f None = refl
+
+ups-output : (b : Bool) (f : ℕ) → weigh ups (output_ops b f) ≡ 0
+ups-output true f = refl
+ups-output false f = refl
+
+ups-awaiter : (f : ℕ) (o : Option AwaiterDebt) → weigh ups (awaiter_ops f o) ≡ 0
+ups-awaiter f (Some NotifyAwaiter) = refl
+ups-awaiter f (Some NotifyOther) = refl
+ups-awaiter f _ = refl
+
+ups-next : (f : ℕ) (o : Option Move) → weigh ups (next_ops f o) ≡ 0
+ups-next f (Some move.Release) = refl
+ups-next f (Some move.SettleClosed) = refl
+ups-next f (Some move.GiveUp) = refl
+ups-next f (Some move.EndClosed) = refl
+ups-next f (Some move.Detach) = refl
+ups-next f _ = refl
+
+ups-emptied : (b : Bool) (f : ℕ) → weigh ups (emptied_ops b f) ≡ 0
+ups-emptied true f = refl
+ups-emptied false f = refl
+
+both : (xs ys : List Op) → weigh ups xs ≡ 0 → weigh ups ys ≡ 0 → weigh ups (xs ++ ys) ≡ 0
+both xs ys a b = omega (arith, weigh-append ups xs ys, a, b)
+
+ups-owed : (there : Bool) (f : ℕ) (o : Owed) → weigh ups (owed_ops there f o) ≡ 0
+ups-owed there f o =
+    both _ _ (both _ _ (both _ _ (both _ _ (both _ _ (ups-schedule f o.schedule) (ups-future there f o.future))
+    (ups-output o.drop_output f)) (ups-awaiter f o.awaiter)) (ups-next f o.next))
+    (ups-emptied (o.empty_cell && drops o.future) f)
+
+ups-move : (b : Bool) (m : Move) (p : ℕ) (w : World) (f : ℕ) → weigh ups (move_by b m p w f).next ≡ 0
+ups-move true m p w f =
+    ups-owed (among f (told_of (is_last_waker m (task w f)) (is_told m (task w f)) m p w f).table) f
+    (moves.after m (task w f)).owed
+ups-move false m p w f = refl
+
+-- nor does anything else beside
+
+ups-append : (b : Bool) (w : World) (f : ℕ) → weigh ups (append_by b w f).next ≡ 0
+ups-append true w f = refl
+ups-append false w f = refl
+
+ups-entry : (b : Bool) (f : ℕ) → weigh ups (entry_goes b f) ≡ 0
+ups-entry true f = refl
+ups-entry false f = refl
+
+ups-leave : (b : Bool) (w : World) (f : ℕ) → weigh ups (leave_by b w f).next ≡ 0
+ups-leave true w f = ups-entry w.is_static f
+ups-leave false w f = refl
+
+ups-notify : (b : Bool) (w : World) (f : ℕ) (mine : Bool) → weigh ups (notify_by b w f mine).next ≡ 0
+ups-notify true w f mine = refl
+ups-notify false w f mine = refl
+
+ups-goes : (a : Waker) → weigh ups (waker_goes a) ≡ 0
+ups-goes (Task g) = refl
+ups-goes (Outside x) = refl
+
+ups-let : (o : Option Awaiter) → weigh ups (let_go o) ≡ 0
+ups-let None = refl
+ups-let (Some a) = ups-goes a.waker
+
+ups-let_go : (b : Bool) (w : World) (f : ℕ) → weigh ups (let_go_by b w f).next ≡ 0
+ups-let_go true w f = refl
+ups-let_go false w f = ups-let (awaiter_of w f)
+
+ups-told : (same : Bool) (f : ℕ) (o : Option Awaiter) → weigh ups (told same f o) ≡ 0
+ups-told same f None = refl
+ups-told true f (Some a) = ups-let (Some a)
+ups-told false f (Some a) = refl
+
+ups-call : (p : ℕ) (w : World) (o : Polled) (a : Waker) (k : ℕ) → weigh ups (call_waker p w o a k).next ≡ 0
+ups-call p w o (Task g) k = ups-move true move.Wake p (log w (event.WakerCalled p o k (Task g))) g
+ups-call p w o (Outside x) k = refl
+
+ups-exchange : (b : Bool) (w : World) → weigh ups (exchange_by b w).next ≡ 0
+ups-exchange true w = refl
+ups-exchange false w = refl
+
+ups-hand_out : (b : Bool) (o : Option Sleeping) (w : World) → weigh ups (hand_out_by b o w).next ≡ 0
+ups-hand_out true None w = refl
+ups-hand_out true (Some s) w = refl
+ups-hand_out false o w = refl
+
+ups-sleeper : (p : ℕ) (o : SleeperOp) (w : World) → weigh ups (sleeper_act p o w).next ≡ 0
+ups-sleeper p sleeper_op.ExchangeFlag w = ups-exchange _ w
+ups-sleeper p sleeper_op.HandOut w = ups-hand_out _ _ w
+ups-sleeper p (sleeper_op.CallSleeper s) w = ups-call p w _ s.waker s.poll
+
+ups-up : (x : Ticker) (w : World) (who : TickOrRun) → weigh ups (wake_up_by x w who).next ≡ 0
+ups-up Awake w who = refl
+ups-up (Asleep n) w who = goes-unseen ups (λ f. refl) (waker_of n w.sleepers.wakers)
+ups-up Left w who = refl
+
+pub ups-act : (p : ℕ) (h : Hint) (o : Op) (w : World) → waits o ≡ false → side_of o ≡ 0 → weigh ups (act p h o w).next ≡ 0
+ups-act p h (op.Queue (queue_op.Append f)) w n z = ups-append _ w f
+ups-act p h (op.Move m f) w n z = ups-move (stands_alone m) m p w f
+ups-act p h (op.Table (table_op.LeaveTable f)) w n z = ups-leave _ w f
+ups-act p h (op.Handle (handle_op.Notify f mine)) w n z = ups-notify _ w f mine
+ups-act p h (op.Handle (handle_op.EndNotify f mine)) w n z = ups-told _ f (awaiter_of w f)
+ups-act p h (op.Handle (handle_op.LetGo f)) w n z = ups-let_go _ w f
+ups-act p h (op.Waker (waker_op.CallAwaiter f a k)) w n z = ups-call p w (of.Handle f) a k
+ups-act p h (op.Sleeper o) w n z = ups-sleeper p o w
+ups-act p h (op.Tick (tick_op.WakeUp who)) w n z = ups-up _ w who
+ups-act p h (op.Tick _) w n z = absurd (cc)
+ups-act p h (op.List list_op.UnlockRead) w n z = refl
+ups-act p h (op.List _) w n z = absurd (cc)
+ups-act p h (op.Steal o) w n z = absurd (cc)
+ups-act p h (op.Run run_op.ReturnRoom) w n z = refl
+ups-act p h (op.Run _) w n z = absurd (cc)
+ups-act p h (op.Table table_op.Enter) w n z = absurd (cc)
+ups-act p h (op.Table table_op.LookAtTable) w n z = absurd (cc)
+ups-act p h (op.Queue queue_op.Take) w n z = absurd (cc)
+ups-act p h (op.User (user_op.Poll f)) w n z = absurd (cc)
+ups-act p h (op.User (user_op.Drop f)) w n z = absurd (cc)
+ups-act p h (op.User (user_op.DropOutput f)) w n z = absurd (cc)
+ups-act p h (op.User (user_op.CallOutside x)) w n z = absurd (cc)
+ups-act p h (op.User (user_op.PollOwn x)) w n z = absurd (cc)
+ups-act p h (op.User (user_op.DropOwn r)) w n z = absurd (cc)
+ups-act p h (op.Waker (waker_op.CopyWaker f held)) w n z = absurd (cc)
+ups-act p h (op.Handle (handle_op.Look f a)) w n z = absurd (cc)
+ups-act p h (op.Handle (handle_op.CopyAwaiter f a)) w n z = absurd (cc)
+ups-act p h (op.Handle (handle_op.Register f a k)) w n z = absurd (cc)
+ups-act p h (op.Handle (handle_op.EndRegister f a k)) w n z = absurd (cc)
+ups-act p h (op.Handle (handle_op.LookAgain f)) w n z = absurd (cc)
+ups-act p h (op.Closing closing_op.TakeOut) w n z = absurd (cc)
+ups-act p h (op.Closing closing_op.DropNext) w n z = absurd (cc)
+ups-act p h (op.Closing closing_op.WakeNext) w n z = absurd (cc)
+ups-act p h (op.Closing closing_op.Close) w n z = absurd (cc)
+ups-act p h (op.Closing closing_op.Drain) w n z = absurd (cc)
+ups-act p h (op.Closing closing_op.LeakOut) w n z = absurd (cc)
+ups-act p h (op.Closing closing_op.LeakNext) w n z = absurd (cc)
+ups-act p h (op.End a held) w n z = absurd (cc)
+ups-act p h _ w n z = refl
+
+pub ups-react : (p : ℕ) (o : Op) (u : UserEnd) (w : World) → accepts o u ≡ true → side_of o ≡ 0 →
+    weigh ups (react p o u w).next ≡ 0
+ups-react p (op.User (user_op.Poll f)) (end.Polled answer.Pending) w a z = refl
+ups-react p (op.User (user_op.Poll f)) (end.Polled answer.Ready) w a z = refl
+ups-react p (op.User (user_op.Drop f)) end.Done w a z = refl
+ups-react p (op.User (user_op.DropOutput f)) end.Done w a z = refl
+ups-react p (op.User (user_op.CallOutside x)) end.Done w a z = refl
+ups-react p (op.User (user_op.PollOwn x)) u w a z = absurd (cc)
+ups-react p (op.User (user_op.DropOwn r)) u w a z = absurd (cc)
+ups-react p _ _ w a z = absurd (cc)
+
+-- how many polls begin
+
+pub record Polls (w v : World) (n : ℕ) : Type 0 where
+  pub more : Trace
+  pub is : v.trace ≡ w.trace ++ more
+  pub few : polls_in more ≤ n
+
+none-in : (es : Trace) → has begins_poll es ≡ false → polls_in es ≡ 0
+none-in [] z = refl
+none-in (e ∷ es) z =
+    let a : cond (begins_poll e) 1 0 ≡ 0 =
+    ap {B = ℕ} (λ (b : Bool). cond b 1 0) (left-false (begins_poll e) (has begins_poll es) z) in
+    omega (arith, a, none-in es (right-false (begins_poll e) (has begins_poll es) z))
+
+pub polls-append : (xs ys : Trace) → polls_in (xs ++ ys) ≡ polls_in xs + polls_in ys
+polls-append [] ys = omega arith
+polls-append (x ∷ xs) ys = omega (arith, polls-append xs ys)
+
+ordinary-none : (e : Event) → is_ordinary e ≡ true → begins_poll e ≡ false
+ordinary-none (event.PollBegun p f) z = absurd (cc)
+ordinary-none _ z = refl
+
+abbrev takes : Op → Bool
+takes (op.Move move.TakeUp f) = true
+takes _ = false
+
+taken-up : (b : Bool) (p : ℕ) (w : World) (f : ℕ) (v : World) → v.trace ≡ (log_if b w (event.PollBegun p f)).trace →
+    Polls w v 1
+taken-up true p w f v e = record { more = event.PollBegun p f ∷ []; is = e; few = omega arith }
+taken-up false p w f v e = record { more = []; is = e ∙ sym (append-nil w.trace); few = omega arith }
+
+others : (p : ℕ) (h : Hint) (o : Op) (w : World) → takes o ≡ false → (n : ℕ) → Polls w (act p h o w).world n
+others p h o w t n =
+    let g = grows-act begins_poll ordinary-none p h o w (allows o t) in
+    record { more = g.more; is = g.is; few = omega (arith, none-in g.more g.none) }
+  where
+    allows : (x : Op) → takes x ≡ false → Allows begins_poll ordinary-none p x
+    allows (op.Move move.TakeUp f) e = absurd (cc)
+    allows (op.Steal (steal_op.Put s more f)) e = refl
+    allows (op.End a held) e = refl
+    allows _ e = tt
+
+pub polls-act : (p : ℕ) (h : Hint) (o : Op) (w : World) → Polls w (act p h o w).world (ups o)
+polls-act p h (op.Move move.TakeUp f) w = taken-up (not (task w f).closed) p w f _ refl
+polls-act p h o w = by (takes o) refl
+  where
+    up : (x : Op) → takes x ≡ true → Polls w (act p h x w).world (ups x)
+    up (op.Move move.TakeUp f) e = taken-up (not (task w f).closed) p w f _ refl
+    up _ e = absurd (cc)
+
+    by : (b : Bool) → takes o ≡ b → Polls w (act p h o w).world (ups o)
+    by true e = up o e
+    by false e = others p h o w e (ups o)
+
+pub polls-react : (p : ℕ) (o : Op) (u : UserEnd) (w : World) → accepts o u ≡ true → (n : ℕ) → Polls w (react p o u w).world n
+polls-react p o u w a n =
+    let g = grows-react begins_poll ordinary-none p o u w a in
+    record { more = g.more; is = g.is; few = omega (arith, none-in g.more g.none) }
+
+-- what is beside leaves the counts of the runs
+
+pub record TakenSame (w v : World) : Type 0 where
+  pub taken : (r : ℕ) → (run_of v r).taken ≡ (run_of w r).taken
+  pub count : length v.runs ≡ length w.runs
+
+pub same-runs : (w v : World) → v.runs ≡ w.runs → TakenSame w v
+same-runs w v e = record {
+  taken = λ r. ap (λ (rs : List Run). (get_or rs r no_run).taken) e;
+  count = ap (λ (rs : List Run). length rs) e;
+}
+
+set-taken : (rs : List Run) (q : ℕ) (y : Run) → y.taken ≡ (get_or rs q no_run).taken → (r : ℕ) →
+    (get_or (set rs q y) r no_run).taken ≡ (get_or rs r no_run).taken
+set-taken [] q y e r = refl
+set-taken (x ∷ rs) zero y e zero = e
+set-taken (x ∷ rs) zero y e (suc r) = refl
+set-taken (x ∷ rs) (suc q) y e zero = refl
+set-taken (x ∷ rs) (suc q) y e (suc r) = set-taken rs q y e r
+
+pub put-same : (w v : World) (q : ℕ) (y : Run) → y.taken ≡ (run_of w q).taken → v.runs ≡ set w.runs q y → TakenSame w v
+put-same w v q y e i = record {
+  taken = λ r. ap (λ (rs : List Run). (get_or rs r no_run).taken) i ∙ set-taken w.runs q y e r;
+  count = ap (λ (rs : List Run). length rs) i ∙ length-set w.runs q y;
+}
+
+pub placed : (w v : World) (who : TickOrRun) (x : Ticker) → v.runs ≡ runs_with w.runs who x → TakenSame w v
+placed w v (tick_or_run.Tick t) x e = same-runs w v e
+placed w v (tick_or_run.Run q) x e = put-same w v q (record (run_of w q) { place = x }) refl e
+
+up-same : (x : Ticker) (w : World) (who : TickOrRun) → TakenSame w (wake_up_by x w who).world
+up-same (Asleep n) w who = placed w (wake_up_by (Asleep n) w who).world who Awake refl
+up-same Awake w who = same-runs w w refl
+up-same Left w who = same-runs w w refl
+
+pub side-same : (p : ℕ) (h : Hint) (o : Op) (w : World) → side_of o ≡ 0 → TakenSame w (act p h o w).world
+side-same p h (op.Tick (tick_op.WakeUp who)) w z = up-same _ w who
+side-same p h (op.Tick _) w z = absurd (cc)
+side-same p h (op.List list_op.UnlockRead) w z = same-runs w _ refl
+side-same p h (op.List _) w z = absurd (cc)
+side-same p h (op.Steal o) w z = absurd (cc)
+side-same p h (op.Run run_op.ReturnRoom) w z = same-runs w _ refl
+side-same p h (op.Run _) w z = absurd (cc)
+side-same p h (op.User (user_op.PollOwn x)) w z = absurd (cc)
+side-same p h o w z = same-runs w (act p h o w).world (runs-act p h o w refl)
+
+pub react-same : (p : ℕ) (o : Op) (u : UserEnd) (w : World) → accepts o u ≡ true → TakenSame w (react p o u w).world
+react-same p (op.User (user_op.Poll f)) (end.Polled answer.Pending) w a = same-runs w _ refl
+react-same p (op.User (user_op.Poll f)) (end.Polled answer.Ready) w a = same-runs w _ refl
+react-same p (op.User (user_op.Drop f)) end.Done w a = same-runs w _ refl
+react-same p (op.User (user_op.DropOutput f)) end.Done w a = same-runs w _ refl
+react-same p (op.User (user_op.CallOutside x)) end.Done w a = same-runs w _ refl
+react-same p (op.User (user_op.PollOwn x)) (end.Polled answer.Pending) w a = same-runs w _ refl
+react-same p (op.User (user_op.PollOwn x)) (end.Polled answer.Ready) w a = same-runs w _ refl
+react-same p (op.User (user_op.DropOwn r)) end.Done w a = same-runs w _ refl
+react-same p _ _ w a = absurd (cc)

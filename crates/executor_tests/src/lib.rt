@@ -5,9 +5,13 @@
 #[cfg(test)]
 mod borrowed;
 #[cfg(test)]
+mod duties;
+#[cfg(test)]
 mod hello;
 #[cfg(test)]
 mod kinds;
+#[cfg(test)]
+mod locks;
 #[cfg(test)]
 mod many;
 #[cfg(test)]

@@ -9,6 +9,8 @@ mod executor;
 #[cfg(test)]
 mod parts;
 #[cfg(test)]
+mod queued;
+#[cfg(test)]
 mod ready;
 #[cfg(test)]
 mod refusals;

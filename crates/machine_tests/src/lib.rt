@@ -6,3 +6,5 @@
 mod refusals;
 #[cfg(test)]
 mod rows;
+#[cfg(test)]
+mod scripts;

@@ -11,4 +11,6 @@ mod texts;
 #[cfg(test)]
 mod threads;
 #[cfg(test)]
+mod waits;
+#[cfg(test)]
 mod words;

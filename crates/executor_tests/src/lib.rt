@@ -5,8 +5,6 @@
 #[cfg(test)]
 mod borrowed;
 #[cfg(test)]
-mod duties;
-#[cfg(test)]
 mod hello;
 #[cfg(test)]
 mod kinds;

@@ -1,15 +1,12 @@
 //! Threads that really overlap. A thread whose loop passes its bound fails the test.
 use crate::parts::{Counts, Job, Meddler, TestRealm, Work};
-use crate::stage::{End, Planned, Stage};
+use crate::stage::{End, MOST_TURNS, Planned, Stage};
 use async_task::{Returning, StoredTask};
 use std::process::Abort;
 use std::sync::Wait;
 use std::sync::atomic::AtomicU64;
 use std::sync::atomic::Ordering::SeqCst;
 use std::thread;
-
-/// How many turns a loop may take.
-const MOST_TURNS: u64 = 10_000_000;
 
 impl<F: Planned<R>, R: Abort + Wait + Copy + Drop + 'static> Stage<F, R> {
     /// Ticks until the executor is empty, and says whether it came to that.

@@ -9,8 +9,6 @@ mod executor;
 #[cfg(test)]
 mod parts;
 #[cfg(test)]
-mod queued;
-#[cfg(test)]
 mod ready;
 #[cfg(test)]
 mod refusals;

@@ -34,29 +34,29 @@ fn thirds(alloc: Global) -> Result<Vec<Job>, AllocError>
     Ok(list)
 }
 
-#[test]
-fn as_many_jobs_as_there_may_be_on_one_worker(rt: HostRuntime) -> Result<(), Fail> {
+// Whether all of them come back where so many workers do them.
+fn come_back(rt: HostRuntime, workers: usize) -> Result<bool, Fail>
+    requires { (0 < workers) × (workers ≤ 64) }
+{
     let realm = JobRealm::<HostRuntime>::leak(rt, rt.alloc())?;
     let list = thirds(rt.alloc())?;
-    let ended = run_jobs::<HostPlace, HostRuntime>(rt, rt.alloc(), realm, &list, 1, Open);
-    assert!(rt; ended.is_ok());
+    Ok(run_jobs::<HostPlace, HostRuntime>(rt, rt.alloc(), realm, &list, workers, Open).is_ok())
+}
+
+#[test]
+fn as_many_jobs_as_there_may_be_on_one_worker(rt: HostRuntime) -> Result<(), Fail> {
+    assert!(rt; come_back(rt, 1)?);
     Ok(())
 }
 
 #[test]
 fn as_many_jobs_as_there_may_be_on_four_workers(rt: HostRuntime) -> Result<(), Fail> {
-    let realm = JobRealm::<HostRuntime>::leak(rt, rt.alloc())?;
-    let list = thirds(rt.alloc())?;
-    let ended = run_jobs::<HostPlace, HostRuntime>(rt, rt.alloc(), realm, &list, 4, Open);
-    assert!(rt; ended.is_ok());
+    assert!(rt; come_back(rt, 4)?);
     Ok(())
 }
 
 #[test]
 fn as_many_jobs_as_there_may_be_on_64_workers(rt: HostRuntime) -> Result<(), Fail> {
-    let realm = JobRealm::<HostRuntime>::leak(rt, rt.alloc())?;
-    let list = thirds(rt.alloc())?;
-    let ended = run_jobs::<HostPlace, HostRuntime>(rt, rt.alloc(), realm, &list, 64, Open);
-    assert!(rt; ended.is_ok());
+    assert!(rt; come_back(rt, 64)?);
     Ok(())
 }

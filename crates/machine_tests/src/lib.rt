@@ -1,5 +1,5 @@
-//! Tests of the step machine, against what `executor_core` gives its users. A crate of its own so that they are proved
-//! beside it, and it only once.
+//! Tests of the step machine and of the language of its scripts, against what `executor_core` and `script` give their users. A
+//! crate of its own so that they are proved beside these, and these only once.
 #![tactic(auto)]
 
 #[cfg(test)]

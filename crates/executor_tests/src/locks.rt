@@ -9,33 +9,24 @@ use std::sync::atomic::{AtomicBool, AtomicU64};
 use std::thread;
 
 /// What one thread asks of the other.
-#[derive(Drop)]
+#[derive(Default, Drop)]
 pub struct Asks {
     asked: AtomicU64,
     answered: AtomicU64,
     missed: AtomicU64,
-    is_over: AtomicBool,
+    /// Whether the other thread is there.
+    is_on: AtomicBool,
 }
 
 impl Asks {
-    /// Nobody is there to answer, so nothing is asked.
-    pub fn of_nobody() -> Asks {
-        Asks {
-            asked: AtomicU64::new(0),
-            answered: AtomicU64::new(0),
-            missed: AtomicU64::new(0),
-            is_over: AtomicBool::new(true),
-        }
-    }
-
-    pub fn are_over(&self) -> bool {
-        self.is_over.load(SeqCst)
+    pub fn are_on(&self) -> bool {
+        self.is_on.load(SeqCst)
     }
 
     /// Waits until the other thread has taken each lock, and given it back. It counts where that never came. The future of the run
     /// by which the locks are taken asks nothing.
     pub fn ask(&self, name: u64) {
-        if self.are_over() | (name == OWN) {
+        if !self.are_on() | (name == OWN) {
             return;
         }
         let asked = self.asked.fetch_add(1, SeqCst);
@@ -54,7 +45,7 @@ impl<F: Planned<R>, R: Abort + Wait + Copy + Drop + 'static> Stage<F, R> {
     fn take_locks(&self) {
         let asks = &self.notes.asks;
         for _ in 0..MOST_TURNS {
-            if asks.are_over() {
+            if !asks.are_on() {
                 return;
             }
             let asked = asks.asked.load(SeqCst);
@@ -86,7 +77,7 @@ impl<F: Planned<R>, R: Abort + Wait + Copy + Drop + 'static> Stage<F, R> {
         let mut run = self.run_of(self.job(1, Work::Pend), 0);
         let is_well = has_ticked & (self.poll(&mut run) == End::Pending);
         drop(run);
-        self.notes.asks.is_over.store(true, SeqCst);
+        self.notes.asks.is_on.store(false, SeqCst);
         is_well
     }
 }
@@ -96,7 +87,7 @@ impl<F: Planned<R>, R: Abort + Wait + Copy + Drop + 'static> Stage<F, R> {
 fn code_of_a_user_runs_under_no_lock(rt: HostRuntime) {
     let stage = Stage::<Job<_>, _>::new(rt, rt.alloc(), TestRealm::leak(rt, rt.alloc()), 4);
     let asks = &stage.notes.asks;
-    asks.is_over.store(false, SeqCst);
+    asks.is_on.store(true, SeqCst);
     let (_, is_well) = thread::join(&rt, || stage.take_locks(), || stage.ask_all());
     let (missed, asked) = (asks.missed.load(SeqCst), asks.asked.load(SeqCst));
     assert!(rt;

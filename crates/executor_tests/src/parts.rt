@@ -9,7 +9,7 @@ use std::sync::atomic::Ordering::SeqCst;
 use std::sync::{Arc, Wait};
 
 /// What has happened to one future, or to several.
-#[derive(Drop)]
+#[derive(Default, Drop)]
 pub struct Counts {
     pub polls: AtomicU64,
     pub drops: AtomicU64,
@@ -21,19 +21,6 @@ pub struct Counts {
     inside: AtomicU64,
     /// How often a poll of it began while another was in progress.
     pub overlaps: AtomicU64,
-}
-
-impl Counts {
-    fn none() -> Counts {
-        Counts {
-            polls: AtomicU64::new(0),
-            drops: AtomicU64::new(0),
-            made: AtomicU64::new(0),
-            lost: AtomicU64::new(0),
-            inside: AtomicU64::new(0),
-            overlaps: AtomicU64::new(0),
-        }
-    }
 }
 
 /// What has happened so far.
@@ -61,16 +48,16 @@ impl Notes {
     pub fn new(alloc: Global, count: usize) -> Result<Arc<Notes, Global>, AllocError> {
         let mut each = Vec::with_capacity(alloc, count)?;
         for _ in 0..count {
-            each.push(Counts::none())?;
+            each.push(Counts::default())?;
         }
         let notes = Notes {
             each,
-            others: Counts::none(),
+            others: Counts::default(),
             dropped: AtomicU64::new(0),
             given: AtomicU64::new(0),
             rings: AtomicU64::new(0),
             copies: AtomicU64::new(u64::MAX),
-            asks: Asks::of_nobody(),
+            asks: Asks::default(),
         };
         Ok(Arc::new(alloc, notes)?)
     }
@@ -170,7 +157,7 @@ impl Wake for Bell {
 
     // One that asks is copied again, so that the copy before is dropped.
     fn will_wake(&self, _other: &Self) -> bool {
-        self.notes.asks.are_over()
+        !self.notes.asks.are_on()
     }
 }
 

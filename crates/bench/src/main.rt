@@ -116,10 +116,7 @@ where
     Ok(())
 }
 
-/// Stands in a line for what a run took, where that line is to be the same in each run.
-const TOOK: Duration = Duration::from_micros(1_250_100);
-
-/// Runs a workload, and prints its line, as if it had taken 1.2501 seconds, with what it moved.
+/// Runs a workload, and prints its line, as if it had taken 1.2501 seconds, with what it moved: the same in each run.
 fn check<L, P, J, R>(rt: &R, realms: &Realms<R>, workload: Workload, ops: u64) -> Result<(), Fault>
 where
     L: Chain<R> + Future<Waker<R>, Output = u64> + Drop,
@@ -131,7 +128,7 @@ where
     let line = Line {
         name: workload.name(),
         ops,
-        took: TOOK,
+        took: Duration::from_micros(1_250_100),
     };
     println!(rt; "{line} moved {}", timing.moved)?;
     Ok(())

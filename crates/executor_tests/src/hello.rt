@@ -1,5 +1,5 @@
 //! A program with two threads, as a user writes it: the README shows what stands here.
-use async_executor::Executor;
+use async_executor::{ExTask, Executor, Run};
 use async_task::{Future, Poll, Realm, Wake};
 use blocking::{ThreadWaker, block_on};
 use std::test::Fail;
@@ -22,6 +22,17 @@ impl<K: Wake> Future<K> for Double {
     }
 }
 
+/// Blocks on a run until its handle has an output.
+fn wait(
+    rt: HostRuntime,
+    run: Run<'_, Double, u64, ThreadWaker, HostRuntime, ExTask<u64, ThreadWaker, HostRuntime>>,
+) -> Option<u64> {
+    match block_on(&rt, rt.alloc(), run) {
+        Ok(Ok(Ok(output))) => Some(output),
+        _ => None,
+    }
+}
+
 #[test]
 fn two_threads_run_an_executor(rt: HostRuntime) -> Result<(), Fail> {
     let (alloc, realm) = (rt.alloc(), Realm::leak(rt, rt.alloc())?);
@@ -35,12 +46,7 @@ fn two_threads_run_an_executor(rt: HostRuntime) -> Result<(), Fail> {
     let (Ok(one), Ok(two)) = (executor.run(one), executor.run(two)) else {
         panic!(rt; "refused");
     };
-    let (one, two) = thread::join(
-        &rt,
-        || block_on(&rt, alloc, one),
-        || block_on(&rt, alloc, two),
-    );
-    assert!(rt; matches!(one, Ok(Ok(Ok(2)))));
-    assert!(rt; matches!(two, Ok(Ok(Ok(4)))));
+    let both = thread::join(&rt, || wait(rt, one), || wait(rt, two));
+    assert!(rt; both == (Some(2), Some(4)));
     Ok(())
 }

@@ -3,8 +3,6 @@
 #![tactic(auto)]
 
 #[cfg(test)]
-mod borrowed;
-#[cfg(test)]
 mod hello;
 #[cfg(test)]
 mod kinds;

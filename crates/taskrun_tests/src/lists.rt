@@ -2,7 +2,7 @@
 ghost use Rattle.std.specs.Prelude.{◌<◌, ◌≤◌, All, IfOk, length};
 ghost use Rattle.job_text.specs.Answers.{IsInRange};
 
-use crate::{Answer, Job, JobPlace, JobRealm, Open, run_jobs};
+use jobs::{Answer, Job, JobPlace, JobRealm, Open, run_jobs};
 use std::alloc::{AllocError, Global};
 use std::test::Fail;
 

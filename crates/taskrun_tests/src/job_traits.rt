@@ -1,5 +1,5 @@
 //! What the types of jobs are, beside their calls.
-use crate::{Answer, Job, JobsError};
+use jobs::{Answer, Job, JobsError};
 use std::fmt::Debug;
 
 /// Copies, compares, and is written for a reader of the code.

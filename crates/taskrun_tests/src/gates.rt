@@ -1,5 +1,5 @@
 //! What stands at the first poll of each job.
-use crate::{Gate, Job, JobPlace, JobRealm, run_jobs};
+use jobs::{Gate, Job, JobPlace, JobRealm, run_jobs};
 use std::sync::atomic::Ordering::SeqCst;
 use std::sync::atomic::{AtomicBool, AtomicU64};
 use std::test::Fail;

@@ -1,12 +1,12 @@
 //! What a worker leaves where it ends before its job has come back.
-use crate::desk::{Awaits, Desk};
-use crate::gate::Gate;
-use crate::site::{JobRealm, Site};
-use crate::site_desk::SiteDesk;
-use crate::worker::Worker;
 use async_task::{Future, Poll};
 use blocking::block_on;
 use job_text::Job;
+use jobs::desk::{Awaits, Desk};
+use jobs::gate::Gate;
+use jobs::site::{JobRealm, Site};
+use jobs::site_desk::SiteDesk;
+use jobs::worker::Worker;
 use std::sync::Wait;
 use std::sync::atomic::AtomicU64;
 use std::sync::atomic::Ordering::SeqCst;

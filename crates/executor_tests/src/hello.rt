@@ -1,5 +1,5 @@
 //! A program with two threads, as a user writes it: the README shows what stands here.
-use async_executor::{ExTask, Executor, Run};
+use async_executor::Executor;
 use async_task::{Future, Poll, Realm, Wake};
 use blocking::{ThreadWaker, block_on};
 use std::test::Fail;
@@ -22,31 +22,24 @@ impl<K: Wake> Future<K> for Double {
     }
 }
 
-/// Blocks on a run until its handle has an output.
-fn wait(
-    rt: HostRuntime,
-    run: Run<'_, Double, u64, ThreadWaker, HostRuntime, ExTask<u64, ThreadWaker, HostRuntime>>,
-) -> Option<u64> {
-    match block_on(&rt, rt.alloc(), run) {
-        Ok(Ok(Ok(output))) => Some(output),
-        _ => None,
-    }
-}
-
+/// Each thread spawns a future, and blocks on a run until that one has its output.
 #[test]
 fn two_threads_run_an_executor(rt: HostRuntime) -> Result<(), Fail> {
     let (alloc, realm) = (rt.alloc(), Realm::leak(rt, rt.alloc())?);
     let executor = Executor::<Double, u64, ThreadWaker, HostRuntime>::new(rt, alloc, realm, 100)?;
-    let (Ok(one), Ok(two)) = (
-        executor.spawn(Double(1, false)),
-        executor.spawn(Double(2, false)),
-    ) else {
-        panic!(rt; "refused");
+    let play = &|party| {
+        let Ok(task) = executor.spawn(Double(party as u64, false)) else {
+            return None;
+        };
+        let Ok(run) = executor.run(task) else {
+            return None;
+        };
+        match block_on(&rt, alloc, run) {
+            Ok(Ok(Ok(output))) => Some(output),
+            _ => None,
+        }
     };
-    let (Ok(one), Ok(two)) = (executor.run(one), executor.run(two)) else {
-        panic!(rt; "refused");
-    };
-    let both = thread::join(&rt, || wait(rt, one), || wait(rt, two));
-    assert!(rt; both == (Some(2), Some(4)));
+    let outputs = thread::map_indices(&rt, alloc, 2, play)?;
+    assert!(rt; outputs.as_slice() == [Some(0), Some(2)]);
     Ok(())
 }

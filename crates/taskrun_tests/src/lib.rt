@@ -1,11 +1,9 @@
-//! Tests of the step machine and of the language of its scripts, against what `executor_core` and `script` give their users. A
-//! crate of its own so that they are proved beside these, and these only once.
+//! Tests of what the program `taskrun` stands on: the step machine, the language of its scripts, and jobs on worker threads, against
+//! what `executor_core`, `script` and `jobs` give their users. A crate of its own so that these are proved once.
 #![tactic(auto)]
 
 #[cfg(test)]
 mod gates;
-#[cfg(test)]
-mod job_traits;
 #[cfg(test)]
 mod lists;
 #[cfg(test)]

@@ -12,6 +12,8 @@ pub enum Asked {
     All,
     /// To run one, with so many operations.
     One(Workload, u64),
+    /// To run each with so many operations, and to say what they moved.
+    Check(u64),
 }
 
 /// What these words ask.
@@ -23,13 +25,14 @@ pub fn read_words(words: &[String]) -> Result<Asked, Fault> {
             let workload = named(word)?;
             Ok(Asked::One(workload, workload.usual_ops()))
         }
+        [word, count] if word.as_str() == "check" => Ok(Asked::Check(operations(count)?)),
         [word, count] => Ok(Asked::One(named(word)?, operations(count)?)),
         _ => Err(Fault::Usage),
     }
 }
 
 /// The workload of this name.
-fn named(name: &str) -> Result<Workload, Fault> {
+pub fn named(name: &str) -> Result<Workload, Fault> {
     Workload::named(name).ok_or(Fault::Usage)
 }
 

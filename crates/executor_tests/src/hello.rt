@@ -22,25 +22,24 @@ impl<K: Wake> Future<K> for Double {
     }
 }
 
+/// Each thread spawns a future, and blocks on a run until that one has its output.
 #[test]
 fn two_threads_run_an_executor(rt: HostRuntime) -> Result<(), Fail> {
     let (alloc, realm) = (rt.alloc(), Realm::leak(rt, rt.alloc())?);
     let executor = Executor::<Double, u64, ThreadWaker, HostRuntime>::new(rt, alloc, realm, 100)?;
-    let (Ok(one), Ok(two)) = (
-        executor.spawn(Double(1, false)),
-        executor.spawn(Double(2, false)),
-    ) else {
-        panic!(rt; "refused");
+    let play = &|party| {
+        let Ok(task) = executor.spawn(Double(party as u64, false)) else {
+            return None;
+        };
+        let Ok(run) = executor.run(task) else {
+            return None;
+        };
+        match block_on(&rt, alloc, run) {
+            Ok(Ok(Ok(output))) => Some(output),
+            _ => None,
+        }
     };
-    let (Ok(one), Ok(two)) = (executor.run(one), executor.run(two)) else {
-        panic!(rt; "refused");
-    };
-    let (one, two) = thread::join(
-        &rt,
-        || block_on(&rt, alloc, one),
-        || block_on(&rt, alloc, two),
-    );
-    assert!(rt; matches!(one, Ok(Ok(Ok(2)))));
-    assert!(rt; matches!(two, Ok(Ok(Ok(4)))));
+    let outputs = thread::map_indices(&rt, alloc, 2, play)?;
+    assert!(rt; outputs.as_slice() == [Some(0), Some(2)]);
     Ok(())
 }

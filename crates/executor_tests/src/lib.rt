@@ -3,11 +3,11 @@
 #![tactic(auto)]
 
 #[cfg(test)]
-mod borrowed;
-#[cfg(test)]
 mod hello;
 #[cfg(test)]
 mod kinds;
+#[cfg(test)]
+mod locks;
 #[cfg(test)]
 mod many;
 #[cfg(test)]

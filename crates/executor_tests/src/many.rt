@@ -47,12 +47,16 @@ impl<R: Wait + Copy + Drop + 'static> Future<TestWaker<R>> for InOrder<R> {
 }
 
 impl<F: Planned<R>, R: Abort + Wait + Copy + Drop + 'static> Stage<F, R> {
-    /// Spawns so many futures in one call: what awaits them in order, and the name of the one that was refused since the
-    /// executor is full.
-    fn in_order(&self, count: u64) -> (InOrder<R>, Option<u64>) {
+    /// Spawns so many futures in one call, which are ready or wait for ever: what awaits them in order, and the name of the one
+    /// that was refused since the executor is full.
+    fn in_order(&self, count: u64, are_ready: bool) -> (InOrder<R>, Option<u64>) {
         let mut futures = Vec::new(self.alloc);
         for name in 0..count {
-            if futures.push(self.ready(name)).is_err() {
+            let work = match are_ready {
+                true => Work::Yield(0, name),
+                false => Work::Pend,
+            };
+            if futures.push(self.job(name, work)).is_err() {
                 panic!(self.rt; "memory");
             }
         }
@@ -103,7 +107,7 @@ fn a_run_awaits_fifty_thousand_handles_in_order(rt: HostRuntime) {
     let stage = Stage::<Job<_>, _>::new(rt, rt.alloc(), TestRealm::leak(rt, rt.alloc()), 50_000);
     let mut are_well = true;
     for (count, refused, came) in [(0, None, (0, 0)), (50_001, Some(50_000), (50_000, 250))] {
-        let (future, was_refused) = stage.in_order(count);
+        let (future, was_refused) = stage.in_order(count, true);
         are_well = are_well
             & (was_refused == refused)
             & (stage.run_to_its_end(future, 999) == came);
@@ -113,6 +117,38 @@ fn a_run_awaits_fifty_thousand_handles_in_order(rt: HostRuntime) {
         are_well = are_well & is_well & (each.lost.load(SeqCst) == 1);
     }
     assert!(rt; are_well & stage.is_empty());
+}
+
+impl<F: Planned<R>, R: Abort + Wait + Copy + Drop + 'static> Stage<F, R> {
+    /// Ticks until nothing is due, and says how many futures were dropped so far.
+    fn dropped(&self) -> u64 {
+        for _ in 0..100 {
+            if !self.executor.try_tick() {
+                break;
+            }
+        }
+        self.notes.dropped.load(SeqCst)
+    }
+}
+
+/// Handles that are left are dropped, which cancels their tasks; one that is let go at rest cancels its task once another
+/// future is handed in.
+#[test]
+fn what_is_let_go_is_cancelled(rt: HostRuntime) {
+    let stage = Stage::<Job<_>, _>::new(rt, rt.alloc(), TestRealm::leak(rt, rt.alloc()), 8);
+    let (future, _) = stage.in_order(3, false);
+    let is_left = stage.dropped() == 0;
+    drop(future);
+    let is_dropped = stage.dropped() == 3;
+    drop(stage.spawn(stage.job(3, Work::Pend)));
+    let is_let_go = stage.dropped() == 3;
+    let last = stage.spawn(stage.job(4, Work::Pend));
+    let is_closed = stage.dropped() == 4;
+    if let Some(last) = last {
+        stage.drop_handle(last);
+    }
+    let is_over = (stage.dropped() == 5) & stage.is_empty();
+    assert!(rt; is_left & is_dropped & is_let_go & is_closed & is_over);
 }
 
 /// Makes an executor, spawns a future on it, and drops both: the text of where the task lay.

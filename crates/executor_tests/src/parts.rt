@@ -1,4 +1,5 @@
 //! What the tests' futures are, and what is noted of them.
+use crate::locks::Asks;
 use async_executor::{ExRealm, ExTask, ExWaker, Executor, StaticExecutor};
 use async_task::{Future, Poll, Returning, StoredTask, Wake};
 use std::alloc::{AllocError, Global};
@@ -8,7 +9,7 @@ use std::sync::atomic::Ordering::SeqCst;
 use std::sync::{Arc, Wait};
 
 /// What has happened to one future, or to several.
-#[derive(Drop)]
+#[derive(Default, Drop)]
 pub struct Counts {
     pub polls: AtomicU64,
     pub drops: AtomicU64,
@@ -20,19 +21,6 @@ pub struct Counts {
     inside: AtomicU64,
     /// How often a poll of it began while another was in progress.
     pub overlaps: AtomicU64,
-}
-
-impl Counts {
-    fn none() -> Counts {
-        Counts {
-            polls: AtomicU64::new(0),
-            drops: AtomicU64::new(0),
-            made: AtomicU64::new(0),
-            lost: AtomicU64::new(0),
-            inside: AtomicU64::new(0),
-            overlaps: AtomicU64::new(0),
-        }
-    }
 }
 
 /// What has happened so far.
@@ -50,6 +38,9 @@ pub struct Notes {
     pub rings: AtomicU64,
     /// How many copies of outside wakers may still be made.
     pub copies: AtomicU64,
+    /// What is asked of another thread by each poll and drop of a future that isn't a run's, and by each call, copy and drop of an
+    /// outside waker.
+    pub asks: Asks,
 }
 
 impl Notes {
@@ -57,15 +48,16 @@ impl Notes {
     pub fn new(alloc: Global, count: usize) -> Result<Arc<Notes, Global>, AllocError> {
         let mut each = Vec::with_capacity(alloc, count)?;
         for _ in 0..count {
-            each.push(Counts::none())?;
+            each.push(Counts::default())?;
         }
         let notes = Notes {
             each,
-            others: Counts::none(),
+            others: Counts::default(),
             dropped: AtomicU64::new(0),
             given: AtomicU64::new(0),
             rings: AtomicU64::new(0),
             copies: AtomicU64::new(u64::MAX),
+            asks: Asks::default(),
         };
         Ok(Arc::new(alloc, notes)?)
     }
@@ -79,6 +71,7 @@ impl Notes {
     }
 
     fn drop_comes(&self, name: u64) {
+        self.asks.ask(name);
         self.of(name).drops.fetch_add(1, SeqCst);
         if (name as usize) < self.each.len() {
             self.dropped.fetch_add(1, SeqCst);
@@ -86,6 +79,7 @@ impl Notes {
     }
 
     fn poll_begins(&self, name: u64) {
+        self.asks.ask(name);
         let counts = self.of(name);
         counts.polls.fetch_add(1, SeqCst);
         if counts.inside.fetch_add(1, SeqCst) != 0 {
@@ -125,9 +119,15 @@ impl Drop for Gift {
 }
 
 /// A waker from outside, which counts its calls.
-#[derive(Drop)]
 pub struct Bell {
     pub notes: Arc<Notes, Global>,
+}
+
+impl Drop for Bell {
+    fn drop(self) {
+        let Bell { notes } = self;
+        notes.asks.ask(0);
+    }
 }
 
 impl Wake for Bell {
@@ -138,10 +138,12 @@ impl Wake for Bell {
     }
 
     fn wake_by_ref(&self) {
+        self.notes.asks.ask(0);
         self.notes.rings.fetch_add(1, SeqCst);
     }
 
     fn clone(&self) -> Option<Self> {
+        self.notes.asks.ask(0);
         let left = self.notes.copies.load(SeqCst);
         if left == 0 {
             return None;
@@ -153,9 +155,9 @@ impl Wake for Bell {
         }
     }
 
-    fn will_wake(&self, other: &Self) -> bool {
-        let _ = other;
-        true
+    // One that asks is copied again, so that the copy before is dropped.
+    fn will_wake(&self, _other: &Self) -> bool {
+        !self.notes.asks.are_on()
     }
 }
 

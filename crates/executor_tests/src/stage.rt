@@ -13,7 +13,10 @@ use std::sync::atomic::Ordering::SeqCst;
 use std::sync::{Arc, Wait};
 
 /// The name of the futures that runs wait for.
-const OWN: u64 = u64::MAX;
+pub const OWN: u64 = u64::MAX;
+
+/// How many turns a loop may take.
+pub const MOST_TURNS: u64 = 10_000_000;
 
 /// A future that a test spawns.
 pub trait Planned<R: Wait + Copy + Drop + 'static>: Future<TestWaker<R>, Output = Gift> + Drop {
@@ -192,7 +195,12 @@ impl<F: Planned<R>, R: Abort + Wait + Copy + Drop + 'static> Stage<F, R> {
 
     /// A run whose own future does this, or nothing where it was refused.
     pub fn run(&self, own: Work, seed: u64) -> Seat<'_, F, R> {
-        match self.executor.run_from(self.job(OWN, own), seed) {
+        self.run_of(self.job(OWN, own), seed)
+    }
+
+    /// A run of this future, or nothing where it was refused.
+    pub fn run_of(&self, own: F, seed: u64) -> Seat<'_, F, R> {
+        match self.executor.run_from(own, seed) {
             Ok(run) => Seat::Run(run),
             Err(_) => Seat::Free,
         }

@@ -1,6 +1,6 @@
 //! Texts of an executor and of errors, and what may move to other threads or be shared with them.
 use crate::parts::{Job, TestExecutor, TestRealm, TestTask, Work};
-use crate::stage::{Planned, Stage};
+use crate::stage::{MOST_TURNS, Planned, Stage};
 use async_executor::{NoMemory, RunError, SpawnError};
 use std::alloc::Global;
 use std::fmt::Debug;
@@ -48,9 +48,6 @@ fn the_text_of_an_executor(rt: HostRuntime) {
     let is_shown_lasting = is_shown(rt.alloc(), &fixed.executor, lasting);
     assert!(rt; is_shown_fresh & is_shown_busy & is_shown_idle & is_shown_lasting);
 }
-
-/// How many turns a loop may take.
-const MOST_TURNS: u64 = 10_000_000;
 
 /// Uses each lock of the executor again and again until it is told to stop, and says whether it was.
 fn use_locks<F, R>(stage: &Stage<F, R>, is_over: &AtomicBool) -> bool

@@ -1,6 +1,6 @@
 //! Threads that really overlap. A thread whose loop passes its bound fails the test.
 use crate::parts::{Counts, Job, Meddler, TestRealm, Work};
-use crate::stage::{End, Planned, Stage};
+use crate::stage::{End, MOST_TURNS, Planned, Stage};
 use async_task::{Returning, StoredTask};
 use std::process::Abort;
 use std::sync::Wait;
@@ -8,8 +8,8 @@ use std::sync::atomic::AtomicU64;
 use std::sync::atomic::Ordering::SeqCst;
 use std::thread;
 
-/// How many turns a loop may take.
-const MOST_TURNS: u64 = 10_000_000;
+/// How often a tick waits for a spawn. Each time two threads give way to each other, and so to all that the machine does.
+const ROUNDS: u64 = 500;
 
 impl<F: Planned<R>, R: Abort + Wait + Copy + Drop + 'static> Stage<F, R> {
     /// Ticks until the executor is empty, and says whether it came to that.
@@ -182,9 +182,9 @@ fn a_sleeping_tick_is_called_by_a_spawn_on_another_thread(rt: HostRuntime) {
     let slumbering = AtomicU64::new(0);
     let (ticked, spawned) = thread::join(
         &rt,
-        || stage.tick_when_called(&slumbering, 10_000),
-        || stage.spawn_when_asleep(&slumbering, 10_000),
+        || stage.tick_when_called(&slumbering, ROUNDS),
+        || stage.spawn_when_asleep(&slumbering, ROUNDS),
     );
     let dropped = stage.notes.of(0).drops.load(SeqCst);
-    assert!(rt; ticked & spawned & (dropped == 10_000));
+    assert!(rt; ticked & spawned & (dropped == ROUNDS));
 }

@@ -8,8 +8,6 @@ mod place;
 mod running;
 mod site;
 mod site_desk;
-#[cfg(test)]
-mod tests;
 mod work;
 mod worker;
 

@@ -65,7 +65,7 @@ where
     ghost use Rattle.jobs.specs.Bringing.{BeginsNumber, Gives};
 
     /// A site with these jobs, numbered from 0, none of which is begun.
-    pub(crate) fn new(
+    pub fn new(
         rt: R,
         alloc: Global,
         realm: &'static JobRealm<R>,
@@ -87,6 +87,16 @@ where
             }),
             Err(_) => Err(NoMemory),
         }
+    }
+
+    /// Polls a job that was begun and is due, if one is, and says whether one was.
+    pub fn try_tick(&self) -> bool {
+        self.executor.try_tick()
+    }
+
+    /// Whether each job that was begun is over.
+    pub fn is_empty(&self) -> bool {
+        self.executor.is_empty()
     }
 
     /// Pops a job and spawns it.

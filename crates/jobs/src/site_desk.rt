@@ -26,7 +26,8 @@ where
     G: Drop,
     R: Wait + Copy + Drop + 'static,
 {
-    pub(crate) fn at(site: &'e Site<G, R>) -> Self {
+    /// At this site.
+    pub fn at(site: &'e Site<G, R>) -> Self {
         SiteDesk {
             site,
             awaited: None,

@@ -14,7 +14,7 @@ pub struct Worker<D: Desk + Drop, R> {
 
 impl<D: Desk + Drop, R> Worker<D, R> {
     /// At this desk.
-    pub(crate) fn at(rt: R, alloc: Global, desk: D) -> Self {
+    pub fn at(rt: R, alloc: Global, desk: D) -> Self {
         Worker {
             rt,
             log: Log::new(alloc, desk),

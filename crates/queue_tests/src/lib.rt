@@ -1,5 +1,5 @@
-//! Tests of the queues, against what `concurrent_queue` gives its users. A crate of its own so that they are proved
-//! beside it, and it only once.
+//! Tests of the queues and of what waits, against what `concurrent_queue` and `waiting` give their users. A crate of its own so
+//! that they are proved beside these, and these only once.
 #![tactic(auto)]
 
 #[cfg(test)]
@@ -10,5 +10,7 @@ mod parties;
 mod texts;
 #[cfg(test)]
 mod threads;
+#[cfg(test)]
+mod waits;
 #[cfg(test)]
 mod words;

@@ -1,4 +1,4 @@
-//! A queue of tasks that are to be run: what it refuses, and what it closes.
+//! A queue of tasks that are to be run: what it refuses, what it closes, and that it runs what it accepts beside another thread.
 use crate::calls::{holds, same};
 use crate::parts::Sum;
 use async_task::{Awaiter, Future, Nobody, Poll, Realm, TaskError};
@@ -6,6 +6,7 @@ use ready_queue::{Places, QueueRunnable, QueueTask, ReadyQueue, SpawnError};
 use std::process::Abort;
 use std::sync::Wait;
 use std::test::Fail;
+use std::thread;
 
 type TestQueue<R> = ReadyQueue<Sum, u64, Nobody, R>;
 
@@ -86,5 +87,52 @@ fn a_closed_queue_closes_its_tasks(rt: HostRuntime) -> Result<(), Fail> {
     run(runnable);
     gives(&rt, &mut first, CLOSED);
     is_refused(&rt, &queue, 5, false);
+    Ok(())
+}
+
+/// How many futures each of two threads hands in.
+const ROUNDS: u64 = 2_000;
+
+/// How often a future is handed in, and its handle polled, before the test gives up.
+const MOST_TURNS: u64 = 1_000_000;
+
+/// Hands a future that gives way once in, once there is room for it, or says that none came.
+fn handed_in<R: Wait + Copy + Drop + 'static>(queue: &TestQueue<R>) -> Option<TestTask<R>> {
+    for _ in 0..MOST_TURNS {
+        match queue.spawn(Sum { left: 1, sum: 0 }) {
+            Ok(task) => return Some(task),
+            Err(_) => thread::yield_now(),
+        }
+    }
+    None
+}
+
+/// Hands a future in, and says whether it was accepted and run to its end.
+fn is_run<R: Wait + Copy + Drop + 'static>(queue: &TestQueue<R>) -> bool {
+    let Some(mut task) = handed_in(queue) else {
+        return false;
+    };
+    for _ in 0..MOST_TURNS {
+        queue.run();
+        match task.poll(&Awaiter::Outside(Nobody)) {
+            Poll::Ready(output) => return output == Ok(1),
+            Poll::Pending => thread::yield_now(),
+        }
+    }
+    false
+}
+
+/// Whether each of so many futures, handed in one after the other, is accepted and run to its end.
+fn are_run<R: Wait + Copy + Drop + 'static>(queue: &TestQueue<R>) -> bool {
+    (0..ROUNDS).all(|_| is_run(queue))
+}
+
+/// Two threads hand in futures where there is room for one: each that is accepted is run to its end.
+#[test]
+fn what_is_accepted_beside_another_thread_is_run(rt: HostRuntime) -> Result<(), Fail> {
+    let (realm, places) = (Realm::leak(rt, rt.alloc())?, Places::leak(rt.alloc(), 1)?);
+    let queue = ReadyQueue::new(rt, realm, places);
+    let both = thread::join(&rt, || are_run(&queue), || are_run(&queue));
+    same(&rt, both, (true, true));
     Ok(())
 }

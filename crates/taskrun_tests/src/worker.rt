@@ -1,12 +1,7 @@
 //! What a worker leaves where it ends before its job has come back.
-use crate::desk::{Awaits, Desk};
-use crate::gate::Gate;
-use crate::site::{JobRealm, Site};
-use crate::site_desk::SiteDesk;
-use crate::worker::Worker;
 use async_task::{Future, Poll};
 use blocking::block_on;
-use job_text::Job;
+use jobs::{Awaits, Desk, Gate, Job, JobRealm, Site, SiteDesk, Worker};
 use std::sync::Wait;
 use std::sync::atomic::AtomicU64;
 use std::sync::atomic::Ordering::SeqCst;
@@ -48,7 +43,7 @@ fn a_worker_that_is_dropped_gives_its_job_up(rt: HostRuntime) -> Result<(), Fail
         PolledOnce(Worker::at(rt, alloc, SiteDesk::at(&site))),
     );
     assert!(rt; matches!(has_waited, Ok(true)));
-    let has_dropped = site.executor.try_tick();
-    assert!(rt; has_dropped & site.executor.is_empty() & (counted.0.load(SeqCst) == 0));
+    let has_dropped = site.try_tick();
+    assert!(rt; has_dropped & site.is_empty() & (counted.0.load(SeqCst) == 0));
     Ok(())
 }

@@ -1,5 +1,4 @@
-//! What no script of `cases` says: a text that is no UTF-8, the longest one, first lines, and refused memory.
-
+//! What no script of `cases` says of the language of scripts: a text that is no UTF-8, the longest one, and refused memory.
 use script::{ParseError, parse};
 use std::alloc::AllocGlobal;
 use std::process::Abort;
@@ -28,23 +27,6 @@ fn the_last_line_and_the_first_bad_one(rt: HostRuntime) {
     assert_eq!(rt; commands, Ok(9_999));
     let commands = commands_of_ten_thousand_lines(&rt, "try");
     assert_eq!(rt; commands, Err(ParseError::BadLine(10_001)));
-}
-
-#[test]
-fn the_first_line_says_the_kind(rt: HostRuntime) {
-    for (text, is_static) in [
-        ("limit 1", Some(false)),
-        ("limit 1 static\nend", Some(true)),
-        ("limit 1 statics", None),
-        ("limit 1 static static", None),
-        ("limit static", None),
-    ] {
-        match parse(rt.alloc(), text.as_bytes()) {
-            Ok(Some(script)) => assert!(rt; is_static == Some(script.is_static)),
-            Err(error) => assert!(rt; is_static.is_none() && error == ParseError::BadLine(1)),
-            Ok(None) => panic!(rt; "no line"),
-        }
-    }
 }
 
 /// With any of the parser's allocations refused this is still passed.

@@ -1,3 +1,4 @@
+//! What waits, between threads: each loop is bounded, and each answer the same whatever the schedule.
 use blocking::{ThreadWaker, block_on};
 use std::alloc::AllocError;
 use std::sync::atomic::AtomicU64;

@@ -2,8 +2,9 @@
 ghost use Rattle.std.specs.Prelude.{◌<◌, ◌≤◌, All, IfOk, length};
 ghost use Rattle.job_text.specs.Answers.{IsInRange};
 
-use jobs::{Answer, Job, JobPlace, JobRealm, Open, run_jobs};
+use jobs::{Answer, Job, JobPlace, JobRealm, JobsError, Open, run_jobs};
 use std::alloc::{AllocError, Global};
+use std::fmt::Debug;
 use std::test::Fail;
 
 type HostPlace = JobPlace<Open, HostRuntime>;
@@ -35,28 +36,27 @@ fn thirds(alloc: Global) -> Result<Vec<Job>, AllocError>
 }
 
 #[test]
-fn as_many_jobs_as_there_may_be_on_one_worker(rt: HostRuntime) -> Result<(), Fail> {
+fn as_many_jobs_as_there_may_be_on_1_4_and_64_workers(rt: HostRuntime) -> Result<(), Fail> {
     let realm = JobRealm::<HostRuntime>::leak(rt, rt.alloc())?;
     let list = thirds(rt.alloc())?;
-    let ended = run_jobs::<HostPlace, HostRuntime>(rt, rt.alloc(), realm, &list, 1, Open);
-    assert!(rt; ended.is_ok());
+    let on_one = run_jobs::<HostPlace, HostRuntime>(rt, rt.alloc(), realm, &list, 1, Open);
+    let on_four = run_jobs::<HostPlace, HostRuntime>(rt, rt.alloc(), realm, &list, 4, Open);
+    let on_64 = run_jobs::<HostPlace, HostRuntime>(rt, rt.alloc(), realm, &list, 64, Open);
+    assert!(rt; on_one.is_ok() & on_four.is_ok() & on_64.is_ok());
     Ok(())
 }
 
-#[test]
-fn as_many_jobs_as_there_may_be_on_four_workers(rt: HostRuntime) -> Result<(), Fail> {
-    let realm = JobRealm::<HostRuntime>::leak(rt, rt.alloc())?;
-    let list = thirds(rt.alloc())?;
-    let ended = run_jobs::<HostPlace, HostRuntime>(rt, rt.alloc(), realm, &list, 4, Open);
-    assert!(rt; ended.is_ok());
-    Ok(())
+/// Copies, compares, and is written for a reader of the code.
+fn is_plain<T: Clone + Copy + PartialEq + Eq + Debug + Send + Sync + Drop>(value: T) -> bool {
+    let copy = value;
+    copy == value
 }
 
 #[test]
-fn as_many_jobs_as_there_may_be_on_64_workers(rt: HostRuntime) -> Result<(), Fail> {
-    let realm = JobRealm::<HostRuntime>::leak(rt, rt.alloc())?;
-    let list = thirds(rt.alloc())?;
-    let ended = run_jobs::<HostPlace, HostRuntime>(rt, rt.alloc(), realm, &list, 64, Open);
-    assert!(rt; ended.is_ok());
-    Ok(())
+fn jobs_answers_and_errors_are_plain_values(rt: HostRuntime) {
+    assert!(rt; is_plain(Job::Sum(1)) & is_plain(Job::Mul(1, 2)));
+    assert!(rt; is_plain(Answer::Value(1)) & is_plain(Answer::TooLarge));
+    assert!(rt; is_plain(JobsError::NoThread) & is_plain(JobsError::NoMemory));
+    assert!(rt; is_plain(JobsError::Missing(3)));
+    assert!(rt; (Job::Sum(1) != Job::Mul(1, 1)) & (JobsError::Missing(1) != JobsError::Missing(2)));
 }

@@ -9,7 +9,7 @@ use std::thread;
 const MOST_TURNS: u64 = 10_000_000;
 
 /// Counts the jobs that meet it, by number; each of two waits here for the other.
-#[derive(Drop)]
+#[derive(Default, Drop)]
 struct Both {
     first: AtomicU64,
     second: AtomicU64,
@@ -44,12 +44,7 @@ fn two_workers_have_two_jobs_at_a_time_and_each_meets_the_gate_once(
     rt: HostRuntime,
 ) -> Result<(), Fail> {
     let realm = JobRealm::<HostRuntime>::leak(rt, rt.alloc())?;
-    let both = Both {
-        first: AtomicU64::new(0),
-        second: AtomicU64::new(0),
-        others: AtomicU64::new(0),
-        has_failed: AtomicBool::new(false),
-    };
+    let both = Both::default();
     let list = [Job::Sum(1_000_000), Job::Mul(2, 3)];
     let ended = run_jobs::<BothPlace<'_>, HostRuntime>(rt, rt.alloc(), realm, &list, 2, &both);
     let met = (both.first.load(SeqCst), both.second.load(SeqCst));

@@ -1,3 +1,0 @@
-//! Names, lines and shares, and what each workload moves.
-mod lines;
-mod runs;

@@ -1,0 +1,97 @@
+//! Code of a user runs while no lock of the executor is held: futures and wakers that wait, in each of their calls, until
+//! another thread has taken each lock. A lock that is held lets the wait come to its bound.
+use crate::parts::{Job, TestRealm, Work};
+use crate::stage::{End, MOST_TURNS, OWN, Planned, Stage};
+use std::process::Abort;
+use std::sync::Wait;
+use std::sync::atomic::Ordering::SeqCst;
+use std::sync::atomic::{AtomicBool, AtomicU64};
+use std::thread;
+
+/// What one thread asks of the other.
+#[derive(Default, Drop)]
+pub struct Asks {
+    asked: AtomicU64,
+    answered: AtomicU64,
+    missed: AtomicU64,
+    /// Whether the other thread is there.
+    is_on: AtomicBool,
+}
+
+impl Asks {
+    pub fn are_on(&self) -> bool {
+        self.is_on.load(SeqCst)
+    }
+
+    /// Waits until the other thread has taken each lock, and given it back. It counts where that never came. The future of the run
+    /// by which the locks are taken asks nothing.
+    pub fn ask(&self, name: u64) {
+        if !self.are_on() | (name == OWN) {
+            return;
+        }
+        let asked = self.asked.fetch_add(1, SeqCst);
+        for _ in 0..MOST_TURNS {
+            if self.answered.load(SeqCst) > asked {
+                return;
+            }
+            thread::yield_now();
+        }
+        self.missed.fetch_add(1, SeqCst);
+    }
+}
+
+impl<F: Planned<R>, R: Abort + Wait + Copy + Drop + 'static> Stage<F, R> {
+    /// Takes each lock of the executor when it is asked: the table's, the sleepers', and that of the runs' queues.
+    fn take_locks(&self) {
+        let asks = &self.notes.asks;
+        for _ in 0..MOST_TURNS {
+            if !asks.are_on() {
+                return;
+            }
+            let asked = asks.asked.load(SeqCst);
+            if asks.answered.load(SeqCst) < asked {
+                let _ = self.is_empty();
+                drop(self.tick());
+                drop(self.run(Work::Pend, 0));
+                asks.answered.store(asked, SeqCst);
+            }
+            thread::yield_now();
+        }
+    }
+
+    /// Lets a tick lie down and be told, cancels what it polled, and says whether all was as it has to be.
+    fn tick_and_ask(&self) -> bool {
+        let mut tick = self.tick();
+        let lies = (self.poll(&mut tick) == End::Pending) & (self.poll(&mut tick) == End::Pending);
+        let Some(task) = self.spawn(self.job(0, Work::Pend)) else {
+            return false;
+        };
+        let is_ready = self.poll(&mut tick) == End::Ready;
+        self.drop_handle(task);
+        lies & is_ready & self.executor.try_tick()
+    }
+
+    /// Makes all calls that lead to code of a user.
+    fn ask_all(&self) -> bool {
+        let has_ticked = self.tick_and_ask();
+        let mut run = self.run_of(self.job(1, Work::Pend), 0);
+        let is_well = has_ticked & (self.poll(&mut run) == End::Pending);
+        drop(run);
+        self.notes.asks.is_on.store(false, SeqCst);
+        is_well
+    }
+}
+
+/// No lock is held in a poll, a wake, a copy or a drop.
+#[test]
+fn code_of_a_user_runs_under_no_lock(rt: HostRuntime) {
+    let stage = Stage::<Job<_>, _>::new(rt, rt.alloc(), TestRealm::leak(rt, rt.alloc()), 4);
+    let asks = &stage.notes.asks;
+    asks.is_on.store(true, SeqCst);
+    let (_, is_well) = thread::join(&rt, || stage.take_locks(), || stage.ask_all());
+    let (missed, asked) = (asks.missed.load(SeqCst), asks.asked.load(SeqCst));
+    assert!(rt;
+        is_well & (missed == 0) & (asked >= 12),
+        "{missed} of {asked}"
+    );
+}

@@ -118,7 +118,8 @@ module _ (w : World) (x : Sleeping) (r : Bool) where
   fallen_asleep-at Left e = stays w x.who Left _ _ e
 
   pub fallen_asleep-world : (k : Ticker) → k ≡ place_of w x.who →
-      after w x.who (falling.fall_asleep k x (flagged w r)).place (falling.fall_asleep k x (flagged w r)).flagged ≡ (acts.fall_asleep w x).world
+      after w x.who (falling.fall_asleep k x (flagged w r)).place (falling.fall_asleep k x (flagged w r)).flagged
+      ≡ (acts.fall_asleep w x).world
   fallen_asleep-world k e = fallen_asleep-at k (sym e) ∙ ap (λ (p : Ticker). (acts.fall_asleep_by p w x).world) e
 
   anew-next : (b : Bool) → fell_asleep_ops x (falling.anew b x (flagged w r)).fell_asleep ≡ (acts.sleep_anew_by b w x).next

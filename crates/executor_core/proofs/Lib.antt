@@ -8,6 +8,7 @@ pub mod Finding
 pub mod Listing
 pub mod Cells
 pub mod Seating
+mod Rising
 pub mod TicksPlaces
 pub mod Rooms
 pub mod TicksLeaving

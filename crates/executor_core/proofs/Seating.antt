@@ -26,10 +26,10 @@ module _ {F : Type 0} where
   at_past : (k : ℕ) (e : Entry F ℕ) (es : List (Entry F ℕ)) → e.key ≢ k → entry_at k (e ∷ es) ≡ entry_at k es
   at_past k e es differs = let t : eqb k e.key ≡ false = grind (arith, nat_tests) in rw (t, entry_at)
 
-  went_here : (k : ℕ) (e : Entry F ℕ) (es : List (Entry F ℕ)) → e.key ≡ k → without_entry k (e ∷ es) ≡ es
+  pub went_here : (k : ℕ) (e : Entry F ℕ) (es : List (Entry F ℕ)) → e.key ≡ k → without_entry k (e ∷ es) ≡ es
   went_here k e es same = let t : eqb k e.key ≡ true = grind (arith, nat_tests) in rw (t, without_entry)
 
-  went_past : (k : ℕ) (e : Entry F ℕ) (es : List (Entry F ℕ)) → e.key ≢ k →
+  pub went_past : (k : ℕ) (e : Entry F ℕ) (es : List (Entry F ℕ)) → e.key ≢ k →
       without_entry k (e ∷ es) ≡ e ∷ without_entry k es
   went_past k e es differs = let t : eqb k e.key ≡ false = grind (arith, nat_tests) in rw (t, without_entry)
 

@@ -1,5 +1,5 @@
 -- What a contract sees of the entries of the machine's futures, and how they lie.
-use Rattle.std.specs.Prelude.{◌≡◌, ℕ, ◌<◌, ◌≤◌, Bool, true, false, List, [], ◌∷◌}
+use Rattle.std.specs.Prelude.{◌≡◌, ℕ, suc, ◌<◌, ◌≤◌, Bool, true, false, List, [], ◌∷◌}
 use Rattle.std.specs.Prelude.{length, map, slice_get, Option, Some, None}
 use Rattle.executor_parts.specs.Places.{Entry, place_of}
 use Rattle.executor_parts.specs.declared.places.EntryPlace.{EntryPlace}
@@ -47,6 +47,11 @@ place_in seats f = place_by (slice_get seats f)
 abbrev pub AreSeated : {F : Type 0} → List Seat → List (Entry F ℕ) → Type 0
 AreSeated seats [] = Unit {0}
 AreSeated seats (e ∷ es) = (place_in seats e.waker ≡ Some (place_of e)) × AreSeated seats es
+
+-- each is at least n, and above those before it
+abbrev pub IsRising : ℕ → List ℕ → Type 0
+IsRising n [] = Unit {0}
+IsRising n (x ∷ xs) = (n ≤ x) × IsRising (suc x) xs
 
 -- the futures of these entries
 abbrev pub futures_of : {F : Type 0} → List (Entry F ℕ) → List ℕ

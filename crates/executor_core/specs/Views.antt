@@ -32,7 +32,8 @@ world_of s = record {
   trace = s.trace.items;
 }
 
--- the lists may have one more each, the wakers to be woken all of the table beside, and the trace five; one more reader of the list of queues can be counted
+-- the lists may have one more each, the wakers to be woken all of the table beside, and the trace five; one more reader of
+-- the list of queues can be counted
 pub record HasRoom (s : Store) : Type 0 where
   pub tasks : vec_len s.tasks + 1 ≤ vec_capacity s.tasks
   pub awaiters : vec_len s.awaiters + 1 ≤ vec_capacity s.awaiters

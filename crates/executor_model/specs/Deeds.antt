@@ -3,7 +3,8 @@ use Rattle.std.specs.Prelude.{ℕ, ◌==◌, Bool, filter}
 use Rattle.executor_model.specs.declared.event.Event.{Event}
 use Rattle.executor_model.specs.declared.event.Event.TheVariants.{CallBegun, CallEnded, Accepted, PollBegun, Answered}
 use Rattle.executor_model.specs.declared.event.Event.TheVariants.{Woken, Cancelled, Detached, LastWaker, Leaked}
-use Rattle.executor_model.specs.declared.event.Event.TheVariants.{Dropped, OutputDropped, OutputGiven, HandlePolled, WakerCalled, TickPolled}
+use Rattle.executor_model.specs.declared.event.Event.TheVariants.{Dropped, OutputDropped, OutputGiven, HandlePolled}
+use Rattle.executor_model.specs.declared.event.Event.TheVariants.{WakerCalled, TickPolled}
 use Rattle.executor_model.specs.declared.event.Event.TheVariants.{TickDropped, RunPolled, RunDropped, Kept}
 use Rattle.executor_model.specs.declared.event.Event.TheVariants.{DropBegun, DropEnded}
 use Rattle.executor_model.specs.Trace.{Trace}

@@ -4,7 +4,8 @@ use Rattle.std.specs.Prelude.{◌≡◌, ◌⊎◌, ℕ, true, false}
 use Rattle.std.specs.List.{before_first}
 use Rattle.executor_model.specs.declared.kind.Kind.{Kind}
 use Rattle.executor_model.specs.declared.kind.Kind.TheVariants.{Static}
-use Rattle.executor_model.specs.Trace.{Trace, has, is_ready, is_cancelled, is_detached, is_last_waker, is_leak_begun, is_dropped, is_drop_begun}
+use Rattle.executor_model.specs.Trace.{Trace, has, is_ready, is_cancelled, is_detached, is_last_waker, is_leak_begun}
+use Rattle.executor_model.specs.Trace.{is_dropped, is_drop_begun}
 
 -- what happened before the drop of future f
 abbrev pub before_drop : ℕ → Trace → Trace

@@ -45,9 +45,9 @@ pub fn the_closing_drop_keeps_the_order()
     ensures { EveryMachine DropsInOrder }
 {}
 
-/// Whatever the parties do, the futures that the drop of the executor has dropped and has still to wake stand in the order
-/// of acceptance, and those that it has still to drop behind them. The first of those stays the first until a step wakes it
-/// and takes it out; it isn't woken where its task was completed or closed.
+/// Whatever the parties do, the futures that the drop of the executor has dropped and has still to wake, or that a leak has
+/// still to wake, stand in the order of acceptance, and those that the drop has still to drop behind them. The first of those
+/// stays the first until a step wakes it and takes it out; it isn't woken where its task was completed or closed.
 pub fn the_closing_drop_wakes_in_order()
     ensures { EveryMachine WakesInOrder }
 {}

@@ -39,7 +39,8 @@ impl TicksAndRuns {
     pub fn reserve(&mut self) -> Result<(), AllocError>
         ensures ticks { self.new.ticks.places ≡ self.old.ticks.places }
         ensures runs { self.new.runs ≡ record self.old.runs { has_room = self.new.runs.has_room } }
-        ensures flagged_sleepers { self.new.flagged_sleepers ≡ record self.old.flagged_sleepers { has_room = self.new.flagged_sleepers.has_room } }
+        ensures flagged_sleepers { self.new.flagged_sleepers
+            ≡ record self.old.flagged_sleepers { has_room = self.new.flagged_sleepers.has_room } }
         ensures room { OnOk result (HasRoom self.new) }
         ensures succeeds { HasRoom self.old → IsOk result }
     {
@@ -63,9 +64,11 @@ impl TicksAndRuns {
         ensures fell_asleep { result
             ≡ (falling.fall_asleep (where_is self.old.ticks self.old.runs sleeping.who) sleeping self.old.flagged_sleepers).fell_asleep }
         ensures sleepers { self.new.flagged_sleepers.sleepers
-            ≡ (falling.fall_asleep (where_is self.old.ticks self.old.runs sleeping.who) sleeping self.old.flagged_sleepers).flagged.sleepers }
+            ≡ (falling.fall_asleep (where_is self.old.ticks self.old.runs sleeping.who) sleeping
+                self.old.flagged_sleepers).flagged.sleepers }
         ensures flag { self.new.flagged_sleepers.notified
-            ≡ (falling.fall_asleep (where_is self.old.ticks self.old.runs sleeping.who) sleeping self.old.flagged_sleepers).flagged.notified }
+            ≡ (falling.fall_asleep (where_is self.old.ticks self.old.runs sleeping.who) sleeping
+                self.old.flagged_sleepers).flagged.notified }
         ensures ticks { self.new.ticks ≡ record self.old.ticks {
           places =
               ticks_with self.old.ticks.places sleeping.who

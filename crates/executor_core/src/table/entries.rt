@@ -31,7 +31,7 @@ struct Seat {
 
 impl Model for Entries {
     ghost use Rattle.std.specs.Prelude.{◌≡◌, map, nat_lt, ◌&&◌, vec_len, vec_capacity};
-    ghost use Rattle.executor_core.specs.Entered.{Entered, AreSeated, futures_of, present_of};
+    ghost use Rattle.executor_core.specs.Entered.{Entered, AreSeated, IsRising, futures_of, present_of};
 
     ghost Value = { Entered };
 
@@ -46,7 +46,8 @@ impl Model for Entries {
     } };
 
     ghost invariant = { λ e. AreSeated e.seats.items e.table.entries × AreSeated e.seats.items e.leaving.entries
-        × (e.leaving.limit ≡ e.table.limit) };
+        × (e.leaving.limit ≡ e.table.limit) × IsRising 0 (futures_of e.table.entries)
+        × IsRising 0 (futures_of e.leaving.entries) };
 }
 
 /// Where this future has an entry, if it has one.

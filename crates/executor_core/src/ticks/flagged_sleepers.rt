@@ -125,7 +125,8 @@ fn fall_asleep_again(
     sleeper: &Sleeper,
     sleeping: Sleeping,
 ) -> FellAsleep
-    ensures fell_asleep { result ≡ (falling.fall_asleep (Asleep sleeper.now.number) sleeping (flagged sleepers.old notified.old)).fell_asleep }
+    ensures fell_asleep { result
+        ≡ (falling.fall_asleep (Asleep sleeper.now.number) sleeping (flagged sleepers.old notified.old)).fell_asleep }
     ensures sleepers { sleepers.new
         ≡ (falling.fall_asleep (Asleep sleeper.now.number) sleeping (flagged sleepers.old notified.old)).flagged.sleepers }
     ensures flag { notified.new

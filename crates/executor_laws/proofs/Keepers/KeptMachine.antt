@@ -2,7 +2,7 @@
 -- After each list of steps a future that a run kept last stands in that run's own queue, or somebody has it in hand, or
 -- it was ready or dropped, or the run is over.
 use Rattle.std.proofs.Common.{◌≡◌, ◌⊎◌, ℕ, zero, suc, ◌<◌, ◌≤◌, List, [], ◌∷◌, ◌++◌, length, Bool, true, false}
-use Rattle.std.proofs.Common.{◌&&◌, ◌||◌, not, refl, subst, inl, inr, ⊎_elim, arith}
+use Rattle.std.proofs.Common.{not, refl, subst, inl, inr, ⊎_elim, arith}
 use Rattle.std.specs.Prelude.{Option, Some, None, reverse}
 use Rattle.task_moves.specs.declared.moves.owed.Move.TheVariants as move
 use Rattle.executor_model.specs.declared.call.Call.{Call}
@@ -21,8 +21,8 @@ use Rattle.executor_model.specs.Doing.{act}
 use Rattle.executor_model.specs.Good.{Good}
 use Rattle.executor_model.specs.OwnQueues.{filling_of}
 use Rattle.executor_model.specs.Rows.{running_of}
-use Rattle.executor_model.specs.Steps.{Machine, stack, run, start, begun, has_all, is_drop, is_free, is_on_executor}
-use Rattle.executor_model.specs.Steps.{is_unborrowed, mine, react, top}
+use Rattle.executor_model.specs.Steps.{Machine, stack, run, start, begun, has_all}
+use Rattle.executor_model.specs.Steps.{mine, react, top}
 use Rattle.executor_model.specs.World.{Done, done, log}
 use Rattle.executor_model.proofs.Polls.AskingExecutions.{Heard, heard-ends, heard-moves, heard-start}
 use Rattle.executor_model.proofs.Steps.Lift.{first-true, good-start, none_refused, split, unsettled, weigh_all-idle}

@@ -1,7 +1,7 @@
 -- For due_futures_stand_with_their_keepers.
 -- So each step of a machine does, whatever it is.
 use Rattle.std.proofs.Common.{◌≡◌, ◌⊎◌, ◌∙◌, inl, inr, ⊎_elim, ℕ, zero, suc, ◌<◌, ◌≤◌, List, [], ◌∷◌}
-use Rattle.std.proofs.Common.{◌++◌, length, set, get_or, Bool, true, false, ◌&&◌, ◌||◌, not, ltb, refl}
+use Rattle.std.proofs.Common.{◌++◌, length, set, get_or, Bool, true, false, ◌||◌, ltb, refl}
 use Rattle.std.proofs.Common.{sym, ap, subst, arith, get_or-set_same}
 use Rattle.std.proofs.lemmas.List.{length-append, get_or_past}
 use Rattle.std.specs.Prelude.{Option, Some, None, reverse}
@@ -37,8 +37,8 @@ use Rattle.executor_model.specs.Good.{Good}
 use Rattle.executor_model.specs.OwnQueues.{filling_of}
 use Rattle.executor_model.specs.Rows.{appends_of, ending_of, polls_of, running_of}
 use Rattle.executor_model.specs.Sound.{pend, times}
-use Rattle.executor_model.specs.Steps.{Machine, accepts, begun, drop_run, future_of, has_all, is_drop, is_free}
-use Rattle.executor_model.specs.Steps.{is_on_executor, is_there, is_unborrowed, kept, mine, poll_run, react, run, stack, start}
+use Rattle.executor_model.specs.Steps.{Machine, accepts, begun, drop_run, future_of, has_all}
+use Rattle.executor_model.specs.Steps.{is_there, kept, mine, poll_run, react, run, stack, start}
 use Rattle.executor_model.specs.Steps.{top, with_future}
 use Rattle.executor_model.specs.Weights.{weigh, weigh_all}
 use Rattle.executor_model.specs.World.{World, Stage, New, Listed, Ended, Run, Done, blank, done, log, new_run, no_run}

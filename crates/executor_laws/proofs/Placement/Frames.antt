@@ -2,7 +2,7 @@
 -- Each call of a party that is in progress has one thing on the party's stack that answers it, and that of a run's poll
 -- answers that.
 use Rattle.std.proofs.Common.{◌≡◌, ◌≢◌, ◌⊎◌, ◌∙◌, inl, inr, ℕ, ◌+◌, ◌<◌, ◌≤◌, List, [], ◌∷◌, ◌++◌}
-use Rattle.std.proofs.Common.{length, drop, set, get_or, Bool, true, false, ◌&&◌, ◌||◌, not, eqb, cond, refl, sym, ap}
+use Rattle.std.proofs.Common.{length, drop, set, get_or, Bool, true, false, eqb, cond, refl, sym, ap}
 use Rattle.std.proofs.Common.{subst, arith, append-nil}
 use Rattle.std.proofs.lemmas.Bool.Decides.{nat_tests}
 use Rattle.std.proofs.lemmas.List.{append_assoc, reverse-append, reverse-reverse}
@@ -30,8 +30,8 @@ use Rattle.executor_model.specs.declared.step.UserEnd.{UserEnd}
 use Rattle.executor_model.specs.declared.step.UserEnd.TheVariants as end
 use Rattle.executor_model.specs.Doing.{act}
 use Rattle.executor_model.specs.Good.{Good}
-use Rattle.executor_model.specs.Steps.{Machine, accepts, begun, drop_run, future_of, has_all, is_drop, is_free, is_on_executor}
-use Rattle.executor_model.specs.Steps.{is_unborrowed, kept, mine, poll_run, react, run, stack, start, top, waker_of}
+use Rattle.executor_model.specs.Steps.{Machine, accepts, begun, drop_run, future_of}
+use Rattle.executor_model.specs.Steps.{kept, mine, poll_run, react, run, stack, start, top, waker_of}
 use Rattle.executor_model.specs.Steps.{with_future}
 use Rattle.executor_model.specs.Trace.{Trace, has}
 use Rattle.executor_model.specs.Weights.{same, weigh}

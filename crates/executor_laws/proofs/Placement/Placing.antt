@@ -13,7 +13,8 @@ use Rattle.executor_model.specs.Due.{IsDue}
 use Rattle.executor_model.specs.Emptiness.{IsAtRest}
 use Rattle.executor_model.specs.Good.{Good}
 use Rattle.executor_model.specs.Keeper.{IsCommon, IsKeeper, is_run_drop}
-use Rattle.executor_model.specs.Rows.{appends_of, closing_of, drops_of, ending_of, giving_of, leaking_of, polls_of, ready_of, settling_of, waiting_of}
+use Rattle.executor_model.specs.Rows.{appends_of, closing_of, drops_of, ending_of, giving_of, leaking_of, polls_of}
+use Rattle.executor_model.specs.Rows.{ready_of, settling_of, waiting_of}
 use Rattle.executor_model.specs.Sound.{pend, queued, times, times_in}
 use Rattle.executor_model.specs.Steps.{Machine, run, stack, start}
 use Rattle.executor_model.specs.Trace.{Trace, has, is_accepted, is_dropped, is_ready}

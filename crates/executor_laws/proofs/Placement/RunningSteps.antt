@@ -1,7 +1,7 @@
 -- For due_futures_stand_with_their_keepers.
 -- Each step keeps what holds of each run at every moment.
 use Rattle.std.proofs.Common.{◌≡◌, ℕ, ◌+◌, ◌<◌, ◌≤◌, List, [], ◌∷◌}
-use Rattle.std.proofs.Common.{◌++◌, length, get_or, Bool, true, false, ◌&&◌, ◌||◌, not, eqb, ltb, cond, refl}
+use Rattle.std.proofs.Common.{◌++◌, length, get_or, Bool, true, false, eqb, ltb, cond, refl}
 use Rattle.std.proofs.Common.{ap, subst, arith}
 use Rattle.std.proofs.lemmas.Bool.Decides.{nat_tests}
 use Rattle.std.specs.Prelude.{Option, Some, None, reverse}
@@ -21,8 +21,8 @@ use Rattle.executor_model.specs.declared.step.UserEnd.{UserEnd}
 use Rattle.executor_model.specs.ActsOfRuns as runs
 use Rattle.executor_model.specs.Doing.{act}
 use Rattle.executor_model.specs.OwnQueues.{filling_of}
-use Rattle.executor_model.specs.Steps.{Machine, accepts, begun, has_all, is_drop, is_free, is_on_executor}
-use Rattle.executor_model.specs.Steps.{future_of, is_unborrowed, kept, mine, react, stack, top, with_future}
+use Rattle.executor_model.specs.Steps.{Machine, accepts, begun, has_all}
+use Rattle.executor_model.specs.Steps.{future_of, kept, mine, react, stack, top, with_future}
 use Rattle.executor_model.specs.World.{World, Run, Done, log, no_run, run_of}
 use Rattle.executor_model.proofs.Steps.Lift.{first-true, none_refused, split, unsettled}
 use Rattle.executor_model.proofs.OwnQueues.OwnRooms.{Roomy}

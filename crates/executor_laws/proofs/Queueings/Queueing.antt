@@ -5,7 +5,6 @@ use Rattle.std.proofs.Common.{true, false, ◌&&◌, not, ltb, refl, sym, ap, �
 use Rattle.std.proofs.lemmas.Bool.Decides.{nat_tests}
 use Rattle.std.specs.Prelude.{Option, Some, None, reverse}
 use Rattle.queue_steps.specs.ClosableQueue.{ClosableQueue, most_accepted, HasRoom, appended, taken, shut}
-use Rattle.task_moves.specs.declared.moves.owed.Answer.{Answer}
 use Rattle.executor_model.specs.declared.call.Call.{Call}
 use Rattle.executor_model.specs.declared.call.Call.TheVariants as call
 use Rattle.executor_model.specs.declared.call.Reply.{Reply}
@@ -16,7 +15,6 @@ use Rattle.executor_model.specs.declared.op.Waker.{Waker}
 use Rattle.executor_model.specs.declared.op.Op.{Op}
 use Rattle.executor_model.specs.declared.op.Op.TheVariants as op
 use Rattle.executor_model.specs.declared.op.ClosingOp.TheVariants as closing_op
-use Rattle.executor_model.specs.declared.op.Polled.{Polled}
 use Rattle.executor_model.specs.declared.op.Polled.TheVariants as of
 use Rattle.executor_model.specs.declared.op.RunOp.{RunOp}
 use Rattle.executor_model.specs.declared.op.RunOp.TheVariants as run_op

@@ -35,7 +35,8 @@ use Rattle.executor_laws.specs.Costs.{steps_of}
 use Rattle.executor_laws.specs.Remaining.{stored, steps_of_task, steps_of_tasks, steps_of_runs, notified_of, ups}
 use Rattle.executor_laws.specs.Remaining.{steps_kept, steps_of_leak}
 use Rattle.executor_model.proofs.Steps.Lists.{weigh-append}
-use Rattle.executor_laws.proofs.Termination.Spending.{Spends, kept-parts, leak-less, leak-more, tasks-push, one_stored, stored-push, without-one}
+use Rattle.executor_laws.proofs.Termination.Spending.{Spends, kept-parts, leak-less, leak-more, tasks-push, one_stored}
+use Rattle.executor_laws.proofs.Termination.Spending.{stored-push, without-one}
 use Rattle.executor_laws.proofs.Termination.Spending.{kept-put, kept-put_awaiter, kept-log, kept-log_if}
 use Rattle.executor_laws.proofs.Termination.Spending.{notify_other-steps, spends-logged, costs-waking, closed-spent}
 use Rattle.executor_model.specs.Acts.{leak_next_by, leak_out_by, leaking_ops}

@@ -34,7 +34,8 @@ use Rattle.executor_laws.proofs.Termination.SpendingActs.{spends-append, spends-
 use Rattle.executor_laws.proofs.Termination.SpendingActs.{kept-as, spends-look, spends-again, spends-copy, spends-copy_awaiter}
 use Rattle.executor_laws.proofs.Termination.SpendingActs.{spends-register, spends-end_register, spends-notify}
 use Rattle.executor_laws.proofs.Termination.SpendingActs.{spends-end_notify, spends-let_go, spends-wake, spends-call, spends-take_out}
-use Rattle.executor_laws.proofs.Termination.SpendingActs.{spends-drop_next, spends-leak_next, spends-leak_out, spends-wake_next, spends-drain}
+use Rattle.executor_laws.proofs.Termination.SpendingActs.{spends-drop_next, spends-leak_next, spends-leak_out}
+use Rattle.executor_laws.proofs.Termination.SpendingActs.{spends-wake_next, spends-drain}
 use Rattle.executor_laws.proofs.Termination.SpendingTicks.{spends-sleeper}
 
 -- who settles a task that was closed, does so where it is over

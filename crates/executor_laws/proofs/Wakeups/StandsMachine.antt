@@ -1,7 +1,7 @@
 -- For some_standing_is_called.
 -- After each list of steps what holds of each tick and run holds still.
 use Rattle.std.proofs.Common.{◌≡◌, ◌∙◌, ℕ, zero, suc, ◌<◌, List, [], ◌∷◌, ◌++◌, length, get_or, Bool, true, false}
-use Rattle.std.proofs.Common.{◌&&◌, ◌||◌, not, refl, sym, ap, subst, arith}
+use Rattle.std.proofs.Common.{refl, sym, ap, subst, arith}
 use Rattle.std.specs.Prelude.{reverse}
 use Rattle.executor_model.specs.declared.kind.Kind.{Kind}
 use Rattle.executor_model.specs.declared.op.Op.{Op}
@@ -13,8 +13,8 @@ use Rattle.executor_model.specs.declared.op.TickOrRun.TheVariants as tick_or_run
 use Rattle.executor_model.specs.World.{Done}
 use Rattle.executor_model.specs.Doing.{act}
 use Rattle.executor_model.specs.Good.{Good}
-use Rattle.executor_model.specs.Steps.{Machine, stack, run, start, top, is_free, has_all, is_on_executor, is_drop}
-use Rattle.executor_model.specs.Steps.{is_unborrowed, idle}
+use Rattle.executor_model.specs.Steps.{Machine, stack, run, start, top}
+use Rattle.executor_model.specs.Steps.{idle}
 use Rattle.executor_model.proofs.Quiet.Calls.{is_end}
 use Rattle.executor_model.proofs.Steps.Lift.{unsettled, good-start, none_refused}
 use Rattle.executor_model.proofs.Sleepers.SleepersFollowingExecutions.{Followed, followed-moves, followed-start}

@@ -37,8 +37,8 @@ use Rattle.executor_model.specs.ActsOfRuns.{search_own}
 use Rattle.executor_model.specs.Doing.{act, run_act, search_by_who, steal_act}
 use Rattle.executor_model.specs.Rows.{Row, ousting_of}
 use Rattle.executor_model.specs.Good.{Good}
-use Rattle.executor_model.specs.Steps.{Machine, stack, top, run, start, mine, is_free, has_all, is_on_executor}
-use Rattle.executor_model.specs.Steps.{is_drop, is_unborrowed, future_of, kept, with_future, accepts, begun, react}
+use Rattle.executor_model.specs.Steps.{Machine, stack, top, run, start, mine, is_on_executor}
+use Rattle.executor_model.specs.Steps.{is_drop, future_of, kept, with_future, accepts, begun, react}
 use Rattle.executor_model.proofs.Steps.Cases.{by_bool, by_list}
 use Rattle.executor_model.proofs.Steps.Lists.{weigh-append, weigh_all-push}
 use Rattle.executor_model.proofs.Steps.Lift.{split, unsettled, good-start, none_refused, open_executor, weigh_all-idle}

@@ -1,7 +1,7 @@
 -- For awaiters_are_kept.
 -- In each execution the waker of who waits is stored, called or about to be called.
 use Rattle.std.proofs.Common.{◌≡◌, ◌⊎◌, ℕ, zero, suc, ◌+◌, ◌<◌, ◌≤◌, List, [], ◌∷◌, ◌++◌}
-use Rattle.std.proofs.Common.{length, set, Bool, true, false, ◌&&◌, ◌||◌, not, cond, eqb}
+use Rattle.std.proofs.Common.{length, set, Bool, true, false, ◌&&◌, not, cond, eqb}
 use Rattle.std.proofs.Common.{refl, sym, ap, ◌∙◌, subst, inl, inr, ⊎_elim, arith}
 use Rattle.std.specs.Prelude.{reverse}
 use Rattle.executor_model.specs.declared.kind.Kind.{Kind}
@@ -27,8 +27,8 @@ use Rattle.executor_model.specs.Sound.{Pend, pend, with_ops}
 use Rattle.executor_model.specs.Good.{Good}
 use Rattle.executor_model.specs.Rows.{handling_of}
 use Rattle.executor_model.specs.Rows.{past_of}
-use Rattle.executor_model.specs.Steps.{Machine, stack, idle, run, start, mine, top, is_free, has_all, has_handle}
-use Rattle.executor_model.specs.Steps.{is_on_executor, is_drop, is_unborrowed, accepts, begun, react}
+use Rattle.executor_model.specs.Steps.{Machine, stack, idle, run, start, mine, top, has_all, has_handle}
+use Rattle.executor_model.specs.Steps.{accepts, begun, react}
 use Rattle.task_moves.specs.Moves as moves
 use Rattle.executor_model.proofs.Steps.Lists.{same_is, past_is}
 use Rattle.executor_model.proofs.Steps.Lift.{split, unsettled, good-start, none_refused}

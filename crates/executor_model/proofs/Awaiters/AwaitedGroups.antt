@@ -87,7 +87,8 @@ awaits-act p h (op.Move move.EndReady f) w n u z m =
     awaits-end_ready _ _ w f refl refl (own _ f (op.Move move.EndReady f) (omega arith) z)
 awaits-act p h (op.Move move.EndPending f) w n u z m =
     awaits-last (is_last_waker move.EndPending (task w f)) p f w w (moves.end_pending (task w f))
-    (op.Move move.EndPending f ∷ []) (awaits-end_pending _ _ _ _ w f refl refl refl refl (own _ f (op.Move move.EndPending f) (omega arith) z))
+    (op.Move move.EndPending f ∷ [])
+    (awaits-end_pending _ _ _ _ w f refl refl refl refl (own _ f (op.Move move.EndPending f) (omega arith) z))
 awaits-act p h (op.Move move.EndClosed f) w n u z m =
     awaits-end_closed _ w f refl (own _ f (op.Move move.EndClosed f) (omega arith) z)
 awaits-act p h (op.Move move.DropRunnable f) w n u z m =

@@ -1,8 +1,7 @@
 -- For one_runnable and references_are_counted.
 -- Each thing that is done leaves numbers that are futures', by groups.
-use Rattle.std.proofs.Common.{ℕ, [], ◌∷◌, length, true, false, not, ◌&&◌, refl, arith}
+use Rattle.std.proofs.Common.{ℕ, [], ◌∷◌, length, true, false, refl, arith}
 use Rattle.task_moves.specs.declared.moves.owed.Move.TheVariants as move
-use Rattle.task_moves.specs.Moves as moves
 use Rattle.executor_model.specs.declared.event.Event.TheVariants as event
 use Rattle.executor_model.specs.declared.op.Op.{Op}
 use Rattle.executor_model.specs.declared.op.Op.TheVariants as op
@@ -15,10 +14,10 @@ use Rattle.executor_model.specs.declared.op.TickOp.TheVariants as tick_op
 use Rattle.executor_model.specs.declared.op.UserOp.TheVariants as user_op
 use Rattle.executor_model.specs.declared.op.WakerOp.TheVariants as waker_op
 use Rattle.executor_model.specs.declared.step.Hint.{Hint}
-use Rattle.executor_model.specs.World.{World, task}
+use Rattle.executor_model.specs.World.{World}
 use Rattle.executor_model.specs.Acts.{stands_alone}
 use Rattle.executor_model.specs.Doing.{act}
-use Rattle.executor_model.proofs.Counts.Fitting.{Grows, shaped, grows-again, grows-append, grows-call}
+use Rattle.executor_model.proofs.Counts.Fitting.{Grows, grows-again, grows-append, grows-call}
 use Rattle.executor_model.proofs.Counts.Fitting.{grows-copy, grows-copy_awaiter, grows-drain, grows-drop_next}
 use Rattle.executor_model.proofs.Counts.Fitting.{grows-end_notify, grows-end_register, grows-enter, grows-inside}
 use Rattle.executor_model.proofs.Counts.Fitting.{grows-leave, grows-logged, grows-look, grows-let_go, grows-move, grows-notify}

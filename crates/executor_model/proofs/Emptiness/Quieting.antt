@@ -142,6 +142,7 @@ quiet-emptiness s fine h d = record {
   only = λ r p t l q. all-dropped s fine h d r p l t q;
 }
 
-pub quiet-empties : (limit : ℕ) (kind : Kind) (parties : ℕ) (steps : List Step) → IsQuietEmptinessExact (run steps (start limit kind parties))
+pub quiet-empties : (limit : ℕ) (kind : Kind) (parties : ℕ) (steps : List Step) →
+    IsQuietEmptinessExact (run steps (start limit kind parties))
 quiet-empties limit kind parties steps = quiet-emptiness (run steps (start limit kind parties)) (good limit kind parties steps)
     (placed limit kind parties steps) (deep limit kind parties steps)

@@ -44,7 +44,7 @@ use Rattle.executor_model.specs.Steps.{begun, drop_run, future_of, kept, poll_ru
 use Rattle.executor_model.proofs.Memory.Unasking.{none-let_go_by, both, none-again, none-append, none-call, none-carried, none-closing}
 use Rattle.executor_model.proofs.Memory.Unasking.{none-drain, none-drop_next, none-end_register, none-leave}
 use Rattle.executor_model.proofs.Memory.Unasking.{none-look_at_table, none-notify, none-register, none-take}
-use Rattle.executor_model.proofs.Memory.Unasking.{none-told, none-wake, none-leak_next, none-leak_out, none-wake_next, none-wake}
+use Rattle.executor_model.proofs.Memory.Unasking.{none-told, none-leak_next, none-leak_out, none-wake_next}
 use Rattle.executor_model.proofs.Memory.SleepersMemory.{none-sleeper, none-up, none-leave_sleepers, finds-without}
 use Rattle.executor_model.proofs.Memory.RunsUntold.{Untold, untold-common, untold-finds, untold-search, untold-steal}
 

@@ -27,8 +27,8 @@ use Rattle.executor_model.specs.World.{World, Done, done, log}
 use Rattle.executor_model.specs.Sound.{Pend, pend, with_ops}
 use Rattle.executor_model.specs.Good.{Good}
 use Rattle.executor_model.specs.Rows.{past_of, borrowing_of}
-use Rattle.executor_model.specs.Steps.{Machine, run, stack, mine, top, accepts, begun, react, has_all, is_drop, is_free}
-use Rattle.executor_model.specs.Steps.{idle, is_on_executor, is_unborrowed, is_unused, start}
+use Rattle.executor_model.specs.Steps.{Machine, run, stack, mine, top, accepts, begun, react, is_drop}
+use Rattle.executor_model.specs.Steps.{idle, is_on_executor, is_unused, start}
 use Rattle.executor_model.specs.Weights.{weigh, weigh_all}
 use Rattle.executor_model.proofs.Steps.Lists.{weigh_all-push}
 use Rattle.executor_model.proofs.Steps.Lift.{split, split-pend, push-pend, unsettled, none_refused, open_executor}

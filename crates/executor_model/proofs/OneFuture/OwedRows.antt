@@ -12,7 +12,8 @@ use Rattle.task_moves.specs.declared.moves.owed.AwaiterDebt.TheVariants as debt
 use Rattle.task_moves.specs.declared.moves.owed.Owed.{Owed}
 use Rattle.executor_model.specs.declared.op.Op.{Op}
 use Rattle.executor_model.specs.declared.op.Op.TheVariants as op
-use Rattle.executor_model.specs.Carried.{schedule_ops, drop_ops, drops, emptied_ops, future_ops, output_ops, awaiter_ops, next_ops, owed_ops}
+use Rattle.executor_model.specs.Carried.{schedule_ops, drop_ops, drops, emptied_ops, future_ops, output_ops, awaiter_ops}
+use Rattle.executor_model.specs.Carried.{next_ops, owed_ops}
 use Rattle.executor_model.specs.Weights.{same, weigh}
 use Rattle.executor_model.specs.Rows.{borrowing_of, waiting_of, polls_of, ending_of, ready_of, closing_of, settling_of}
 use Rattle.executor_model.specs.Rows.{giving_of, drops_of, releases_of, copies_of, ousting_of}

@@ -29,6 +29,7 @@ goes-once : (g : ℕ) (w : World) (r : Pend) (y : Extra) → Given (seen w g r y
 unfolding outputs
 goes-once g w r y h = omega (arith, h.once)
 
-pub output-goes-once : (limit : ℕ) (kind : Kind) (n : ℕ) (ts : List Step) (f : ℕ) → OutputGoesOnce f (run ts (start limit kind n)).world.trace
+pub output-goes-once : (limit : ℕ) (kind : Kind) (n : ℕ) (ts : List Step) (f : ℕ) →
+    OutputGoesOnce f (run ts (start limit kind n)).world.trace
 output-goes-once limit kind n ts f =
     goes-once f (run ts (start limit kind n)).world _ _ (each-run Given out-act given-end none-given limit kind n ts f)

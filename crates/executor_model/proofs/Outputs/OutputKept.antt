@@ -183,6 +183,7 @@ output-kept s f d h quiet k p x t l =
     gives-output s p f x l (rests s d quiet p) (output-waits s f h (λ q. rests s d quiet q) k)
     (all-rest (handling_of f) s.parties (λ q. rests s d quiet q)) t
 
-pub outputs-kept : (limit : ℕ) (kind : Kind) (parties : ℕ) (steps : List Step) (f : ℕ) → OutputIsKept (run steps (start limit kind parties)) f
+pub outputs-kept : (limit : ℕ) (kind : Kind) (parties : ℕ) (steps : List Step) (f : ℕ) →
+    OutputIsKept (run steps (start limit kind parties)) f
 outputs-kept limit kind parties steps f = output-kept (run steps (start limit kind parties)) f (deep limit kind parties steps)
     (stores limit kind parties steps)

@@ -31,7 +31,6 @@ use Rattle.executor_model.specs.World.{own_of, put_own}
 use Rattle.executor_model.proofs.Steps.Lift.{split, unsettled}
 use Rattle.executor_model.proofs.Steps.Lists.{same_cases, weigh_all-push}
 use Rattle.executor_model.proofs.OwnQueues.OwnCounts.{counts-begun, counts-empty, counts-react}
-use Rattle.executor_model.proofs.OwnQueues.RunsAside.{is_run}
 use Rattle.executor_model.proofs.OwnQueues.RunsDone.{to_walk, walk_ends, walk_on}
 use Rattle.executor_model.proofs.OwnQueues.RunsDone.{Deed, keeps, takes, lacks, shares, grows, wakes, lists, deed-act, is_loud, loud}
 use Rattle.executor_model.proofs.OwnQueues.RunsDone.{loud-weigh, walks-by, Stole, More, no_more, one_more, Walks, Missing}

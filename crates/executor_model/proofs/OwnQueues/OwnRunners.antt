@@ -2,7 +2,7 @@
 -- What stands in a run's own queue belongs to a run in its poll or its drop, or to one whose last poll called its own
 -- waker.
 use Rattle.std.proofs.Common.{◌≡◌, ◌≢◌, ◌⊎◌, ◌∙◌, ℕ, ◌+◌, ◌<◌, ◌≤◌, List, [], ◌∷◌, ◌++◌, length, set}
-use Rattle.std.proofs.Common.{Bool, true, false, ◌&&◌, ◌||◌, not, eqb, cond, refl, sym, ap, subst, inl, inr, ⊎_elim}
+use Rattle.std.proofs.Common.{Bool, true, false, ◌||◌, eqb, cond, refl, sym, ap, subst, inl, inr, ⊎_elim}
 use Rattle.std.proofs.Common.{arith}
 use Rattle.std.proofs.lemmas.Bool.Decides.{nat_tests}
 use Rattle.std.specs.Prelude.{Option, Some, None, reverse}
@@ -26,8 +26,8 @@ use Rattle.executor_model.specs.Doing.{act}
 use Rattle.executor_model.specs.Good.{Good}
 use Rattle.executor_model.specs.OwnQueues.{OwnQueueHasRunner}
 use Rattle.executor_model.specs.Rows.{running_of}
-use Rattle.executor_model.specs.Steps.{Machine, accepts, begun, drop_run, future_of, has_all, has_run, is_drop, is_free}
-use Rattle.executor_model.specs.Steps.{is_on_executor, is_unborrowed, is_there, kept, mine, poll_run}
+use Rattle.executor_model.specs.Steps.{Machine, accepts, begun, drop_run, future_of, has_all, has_run}
+use Rattle.executor_model.specs.Steps.{is_there, kept, mine, poll_run}
 use Rattle.executor_model.specs.Steps.{react, run, stack}
 use Rattle.executor_model.specs.Steps.{start, top, waker_of, with_future}
 use Rattle.executor_model.specs.Trace.{Trace}

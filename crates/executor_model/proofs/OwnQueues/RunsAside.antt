@@ -30,7 +30,7 @@ use Rattle.executor_model.specs.declared.op.WakerOp.TheVariants as waker_op
 use Rattle.executor_model.specs.declared.step.Hint.{Hint}
 use Rattle.executor_model.specs.Acts as acts
 use Rattle.executor_model.specs.ActsOfSleepers.{exchange_by, hand_out_by, polled_as}
-use Rattle.executor_model.specs.Carried.{carried, awaiter_ops}
+use Rattle.executor_model.specs.Carried.{awaiter_ops}
 use Rattle.executor_model.specs.Doing.{act}
 use Rattle.executor_model.specs.Weights.{weigh}
 use Rattle.executor_model.specs.World.{World, Ticker, Stage, Ended, Run, Lock, Done, log, log_if, task, put}

@@ -23,7 +23,7 @@ use Rattle.executor_model.specs.OwnQueues.{IsUsedOnce}
 use Rattle.executor_model.specs.Rows.{borrowing_of, running_of}
 use Rattle.executor_model.specs.Sound.{times, times_in}
 use Rattle.executor_model.specs.Steps.{Machine, begun, has_all, has_run, is_drop}
-use Rattle.executor_model.specs.Steps.{is_free, is_on_executor, is_there, is_unborrowed, is_unused, lives, mine}
+use Rattle.executor_model.specs.Steps.{is_there, is_unborrowed, is_unused, lives, mine}
 use Rattle.executor_model.specs.Steps.{react, run, stack, start, top}
 use Rattle.executor_model.specs.Weights.{weigh_all}
 use Rattle.executor_model.specs.World.{World, Run, Done, done, log, no_run, own_of, run_of}

@@ -23,8 +23,10 @@ use Rattle.executor_model.specs.OutputOnce.{is_output_given}
 use Rattle.executor_model.specs.Trace.{Trace, has, is_cancelled, is_detached, is_drop_begun, is_drop_ended, is_dropped}
 use Rattle.executor_model.specs.Trace.{is_poll, is_ready, is_woken, is_last_waker}
 use Rattle.executor_model.specs.Weights.{same, weigh}
-pub use Rattle.executor_model.proofs.Promises.CallServes.{spawns, tries, asks, copies, polls_handle, makes_tick, makes_run, polls, polls_run}
-pub use Rattle.executor_model.proofs.Promises.CallServes.{polls_by, leaves, serves_section, serves_list, serves_run, serves_tick, serves_handle, serves, misfit}
+pub use Rattle.executor_model.proofs.Promises.CallServes.{spawns, tries, asks, copies, polls_handle, makes_tick, makes_run}
+pub use Rattle.executor_model.proofs.Promises.CallServes.{polls, polls_run}
+pub use Rattle.executor_model.proofs.Promises.CallServes.{polls_by, leaves, serves_section, serves_list, serves_run}
+pub use Rattle.executor_model.proofs.Promises.CallServes.{serves_tick, serves_handle, serves, misfit}
 use Rattle.executor_model.proofs.OneFuture.Extras.{detaches_of}
 use Rattle.executor_model.proofs.Steps.Lists.{weigh-append}
 use Rattle.executor_model.proofs.Steps.Tests.{or-left, or-right}

@@ -1,7 +1,7 @@
 -- For calls_do_what_they_say.
 -- Calls do what they say: each thing that is done for a call does its part of what that promises.
 use Rattle.std.proofs.Common.{◌≡◌, ◌≢◌, ◌⊎◌, ◌∙◌, ℕ, ◌+◌, ◌≤◌, List, [], ◌∷◌, ◌++◌, length, Bool, true, false, ◌&&◌}
-use Rattle.std.proofs.Common.{◌||◌, append_assoc, eqb, not, inl, inr, ⊎_elim, refl, sym, ap, subst, arith}
+use Rattle.std.proofs.Common.{append_assoc, eqb, not, inl, inr, ⊎_elim, refl, sym, ap, subst, arith}
 use Rattle.task_moves.specs.Moves as moves
 use Rattle.task_moves.specs.Moves.{is_over}
 use Rattle.task_moves.specs.declared.moves.owed.Move.TheVariants as move

@@ -1,6 +1,6 @@
 -- For spawns_are_limited.
 -- Who has still to take an entry out of the table is a call in progress that itself began that future's drop.
-use Rattle.std.proofs.Common.{◌≡◌, ◌≢◌, ◌⊎◌, ℕ, zero, suc, ◌+◌, ◌<◌, ◌≤◌, List, [], ◌∷◌, ◌++◌, length, get_or, true, ◌||◌}
+use Rattle.std.proofs.Common.{◌≡◌, ◌≢◌, ◌⊎◌, ℕ, zero, suc, ◌<◌, ◌≤◌, List, [], ◌∷◌, ◌++◌, length, get_or, true, ◌||◌}
 use Rattle.std.proofs.Common.{false}
 use Rattle.std.proofs.Common.{eqb, inl, inr, ⊎_elim, refl, subst, ap, ◌∙◌, arith}
 use Rattle.std.proofs.lemmas.List.{append_assoc, append_cancel_left}

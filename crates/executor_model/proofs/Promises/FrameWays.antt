@@ -1,6 +1,6 @@
 -- For spawns_are_limited and wakers_wake_their_own.
 -- What is kept of each call and its frame (proofs/Promises/CallFrames) in each way in which a party goes on.
-use Rattle.std.proofs.Common.{◌≡◌, ℕ, ◌<◌, List, [], ◌∷◌, ◌++◌, length, Bool, true, false, ◌&&◌, ◌||◌, not, refl}
+use Rattle.std.proofs.Common.{◌≡◌, ℕ, ◌<◌, List, [], ◌∷◌, ◌++◌, length, Bool, true, false, refl}
 use Rattle.std.proofs.Common.{ap, subst, sym}
 use Rattle.std.specs.Prelude.{Option, reverse}
 use Rattle.executor_model.specs.declared.kind.Kind.{Kind}
@@ -15,7 +15,7 @@ use Rattle.executor_model.specs.declared.step.Hint.{Hint}
 use Rattle.executor_model.specs.declared.step.UserEnd.{UserEnd}
 use Rattle.executor_model.specs.Calls.{Begun, Each, Ended, calls}
 use Rattle.executor_model.specs.Doing.{act}
-use Rattle.executor_model.specs.Steps.{Machine, accepts, begun, has_all, is_drop, is_free, is_on_executor, is_unborrowed, mine, react}
+use Rattle.executor_model.specs.Steps.{Machine, accepts, begun, has_all, mine, react}
 use Rattle.executor_model.specs.Steps.{stack, start, top}
 use Rattle.executor_model.specs.Trace.{Trace}
 use Rattle.executor_model.specs.World.{World, Done, done, log}

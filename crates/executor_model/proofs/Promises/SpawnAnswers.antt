@@ -1,6 +1,6 @@
 -- For spawns_are_limited.
 -- A spawn is answered that the executor is full where it is, and no more futures are undropped than its limit.
-use Rattle.std.proofs.Common.{◌≡◌, ◌⊎◌, ℕ, ◌+◌, ◌≤◌, List, [], ◌∷◌, ◌++◌, Bool, true, false}
+use Rattle.std.proofs.Common.{◌≡◌, ◌⊎◌, ℕ, ◌≤◌, List, [], ◌∷◌, ◌++◌, Bool, true, false}
 use Rattle.std.proofs.Common.{cond, ⊎_elim, refl, subst, sym, ap, ◌∙◌, append-nil, arith}
 use Rattle.std.proofs.lemmas.List.{append_assoc, reverse-append, reverse-reverse}
 use Rattle.std.specs.Prelude.{reverse}
@@ -33,7 +33,7 @@ use Rattle.executor_model.specs.SpawnsMean.{AreMany, FullAt, FullFrom, TookPlace
 use Rattle.executor_model.specs.Steps.{Machine, accepts, react, stack}
 use Rattle.executor_model.specs.Trace.{Trace, has}
 use Rattle.executor_model.specs.Weights.{weigh, weigh_all}
-use Rattle.executor_model.specs.World.{World, Done}
+use Rattle.executor_model.specs.World.{World}
 use Rattle.executor_model.proofs.Promises.CallAnswers.{no-poll, served}
 use Rattle.executor_model.proofs.Promises.CallFits.{fit-act}
 use Rattle.executor_model.proofs.Promises.CallFrames.{Frame, Tied}

@@ -55,7 +55,7 @@ use Rattle.executor_model.proofs.Steps.Settled.{along-settled}
 use Rattle.executor_model.proofs.Steps.Ways.{Way}
 use Rattle.executor_model.proofs.Steps.Ways.Way.{acted, called, reacted}
 use Rattle.executor_model.proofs.Table.Entering.{counts, counts-none, table-agrees}
-use Rattle.executor_model.proofs.Table.LeavingExecutions.{Placed, placed}
+use Rattle.executor_model.proofs.Table.LeavingExecutions.{Placed}
 use Rattle.executor_model.proofs.Table.Spawning.{has-table-by, top-last}
 use Rattle.executor_model.proofs.OneFuture.Effects.Effect.{leaks, leaks_out}
 

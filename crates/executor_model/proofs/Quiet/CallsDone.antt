@@ -1,7 +1,7 @@
 -- For calls_do_what_they_say.
 -- Calls do what they say: as each begins, it promises it, and each thing that is done keeps that.
-use Rattle.std.proofs.Common.{◌≡◌, ⊎_elim, ℕ, ◌+◌, ◌<◌, ◌≤◌, List, [], ◌∷◌, ◌++◌, length, Bool, true, false, ◌&&◌, ◌||◌, cond, eqb, inl}
-use Rattle.std.proofs.Common.{not, refl, ap, subst, arith}
+use Rattle.std.proofs.Common.{◌≡◌, ⊎_elim, ℕ, ◌+◌, ◌<◌, ◌≤◌, List, [], ◌∷◌, ◌++◌, length, Bool, true, false, ◌&&◌, cond, eqb, inl}
+use Rattle.std.proofs.Common.{refl, ap, subst, arith}
 use Rattle.std.proofs.lemmas.Bool.Decides.{nat_tests}
 use Rattle.std.proofs.lemmas.List.{append_cancel_left}
 use Rattle.std.specs.Prelude.{Option, Some, None, reverse}
@@ -24,8 +24,8 @@ use Rattle.executor_model.specs.Calls.{calls}
 use Rattle.executor_model.specs.CallsMean.{CallsDoWhatTheySay, EachIsRight, IsAnsweredRight}
 use Rattle.executor_model.specs.Doing.{act}
 use Rattle.executor_model.specs.Good.{Good}
-use Rattle.executor_model.specs.Steps.{Machine, begun, drop_run, future_of, has_all, is_drop, is_free, is_some}
-use Rattle.executor_model.specs.Steps.{is_on_executor, is_unborrowed, kept, mine, poll_run, react, run, stack, start, top}
+use Rattle.executor_model.specs.Steps.{Machine, begun, drop_run, future_of, has_all, is_some}
+use Rattle.executor_model.specs.Steps.{kept, mine, poll_run, react, run, stack, start, top}
 use Rattle.executor_model.specs.Steps.{with_future}
 use Rattle.executor_model.specs.Rows.{borrowing_of, waiting_of}
 use Rattle.executor_model.specs.Sound.{pend, times}

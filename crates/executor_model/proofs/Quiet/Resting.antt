@@ -1,7 +1,7 @@
 -- For quiet_emptiness_is_exact, outputs_are_kept, awaiters_are_kept and own_queues_agree.
 -- At a quiet trace no party has anything to do.
 use Rattle.std.proofs.Common.{◌≡◌, ◌≢◌, ◌⊎◌, ℕ, zero, suc, ◌+◌, ◌<◌, List, [], ◌∷◌, ◌++◌, length, set, get_or}
-use Rattle.std.proofs.Common.{Bool, true, false, ◌&&◌, ◌||◌, not, cond, eqb, refl, sym, ap, ◌∙◌, subst, inl}
+use Rattle.std.proofs.Common.{Bool, true, false, ◌&&◌, cond, eqb, refl, sym, ap, ◌∙◌, subst, inl}
 use Rattle.std.proofs.Common.{inr, ⊎_elim, arith, get_or-set_same, get_or-set_other}
 use Rattle.std.specs.Prelude.{Option, Some, None, reverse}
 use mathlib.Core.List.{reverse_aux}
@@ -36,9 +36,9 @@ use Rattle.executor_model.specs.World.{World, Done, done, log, run_of}
 use Rattle.executor_model.specs.Doing.{act}
 use Rattle.executor_model.specs.Weights.{same, weigh, weigh_all}
 use Rattle.executor_model.specs.Good.{Good}
-use Rattle.executor_model.specs.Steps.{Machine, stack, run, start, idle, mine, future_of, top, is_free, is_some}
+use Rattle.executor_model.specs.Steps.{Machine, stack, run, start, idle, mine, future_of, top, is_some}
 use Rattle.executor_model.specs.Steps.{has_all}
-use Rattle.executor_model.specs.Steps.{is_on_executor, is_drop, is_unborrowed, accepts, begun, react, with_future, kept}
+use Rattle.executor_model.specs.Steps.{accepts, begun, react, with_future, kept}
 use Rattle.executor_model.proofs.Steps.Lists.{same_cases, weigh-append, weigh-reverse}
 use Rattle.executor_model.proofs.Steps.Lift.{unsettled, good-start, none_refused}
 use Rattle.executor_model.proofs.Steps.Ways.{Way, along}

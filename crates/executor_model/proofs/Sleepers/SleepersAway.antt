@@ -3,7 +3,6 @@
 use Rattle.std.proofs.Common.{◌≡◌, ◌∙◌, ℕ, zero, suc, ◌+◌, ◌≤◌, List, [], ◌∷◌, length, drop, Bool, true}
 use Rattle.std.proofs.Common.{false, eqb, refl, sym, ap, arith}
 use Rattle.executor_parts.specs.Sleepers.{Sleepers}
-use Rattle.task_moves.specs.declared.moves.owed.Move.{Move}
 use Rattle.task_moves.specs.declared.moves.owed.Move.TheVariants as move
 use Rattle.executor_model.specs.declared.event.Event.TheVariants as event
 use Rattle.executor_model.specs.declared.call.Reply.{Reply}
@@ -40,7 +39,8 @@ use Rattle.executor_model.proofs.Steps.Lists.{weigh-append, weigh-below}
 use Rattle.executor_model.proofs.Steps.RunsNext.{BlindToSearches, found-unseen, more-unseen, stolen-unseen, walk-unseen}
 use Rattle.executor_model.proofs.Steps.Lift.{no_hint}
 use Rattle.executor_model.proofs.OwnQueues.RunsAside.{Frame, Rest, bustle_of, frame-act, frame-call}
-use Rattle.executor_model.proofs.Sleepers.SleepersWakingUp.{wakes_up-append, wakes_up-by, wakes_up-none, wakes_up-run, wakes_up_of, wakes_up_well}
+use Rattle.executor_model.proofs.Sleepers.SleepersWakingUp.{wakes_up-append, wakes_up-by, wakes_up-none, wakes_up-run}
+use Rattle.executor_model.proofs.Sleepers.SleepersWakingUp.{wakes_up_of, wakes_up_well}
 use Rattle.executor_model.proofs.Sleepers.TickLists.{places, places-same}
 use Rattle.executor_model.specs.SleepersAgree.{hands_of, room_of}
 

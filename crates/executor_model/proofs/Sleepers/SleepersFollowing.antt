@@ -150,7 +150,8 @@ below a b e = grind (arith, nat_tests)
 above : (a b : ℕ) → ltb a b ≡ false → b ≤ a
 above a b e = grind (arith, nat_tests)
 
-fallen_asleep-down : (b : SleepersSeen) (s : Sleeping) (k m : ℕ) → ticker_seen b s.who ≡ Awake → ltb b.sleepers.count b.sleepers.rooms ≡ true →
+fallen_asleep-down : (b : SleepersSeen) (s : Sleeping) (k m : ℕ) → ticker_seen b s.who ≡ Awake →
+    ltb b.sleepers.count b.sleepers.rooms ≡ true →
     Follows b k m → (let t : Sleepers Sleeping = put_to_sleep s b.sleepers in
     Follows (placed b s.who (Asleep (next_number b.sleepers)) t (flag_of t)) k m)
 fallen_asleep-down b s k m e r f =
@@ -203,7 +204,8 @@ follows-unlisted w who n k m e q f =
     let s : Sleeping = record { waker = Outside 0; who = who; poll = 0 } in
     let now : Keeps (again_by None n s (as_sleepers (sleepers_seen w) f.numbers k)) =
     subst (λ (o : Option ℕ). Keeps (again_by o n s (as_sleepers (sleepers_seen w) f.numbers k))) q
-    (keeps (FallAsleepAgain n s) (as_sleepers (sleepers_seen w) f.numbers k) (mine (sleepers_seen w) who n k m (in-flagged w who (Asleep n) e) f)
+    (keeps (FallAsleepAgain n s) (as_sleepers (sleepers_seen w) f.numbers k)
+    (mine (sleepers_seen w) who n k m (in-flagged w who (Asleep n) e) f)
     f.kept) in
     omega (arith, now.agree.listed, length-append w.sleepers.wakers ((n, s) ∷ []))
 

@@ -59,10 +59,12 @@ use Rattle.executor_model.proofs.Steps.SleepersNext.{goes-unseen, tell-unseen}
 use Rattle.executor_model.proofs.Steps.Ways.{Way, acted, reacted, called, along}
 use Rattle.executor_model.specs.SleepersAgree.{SleepersAgree, hands_of, room_of}
 use Rattle.executor_model.proofs.Steps.RunsNext.{walk-unseen}
-use Rattle.executor_model.proofs.Sleepers.SleepersAway.{sleepers_seen, sleepers_seen-run, Away, away-act, away-call, away-own, is_seen_asleep}
+use Rattle.executor_model.proofs.Sleepers.SleepersAway.{sleepers_seen, sleepers_seen-run, Away, away-act, away-call}
+use Rattle.executor_model.proofs.Sleepers.SleepersAway.{away-own, is_seen_asleep}
 use Rattle.executor_model.proofs.Sleepers.SleepersAway.{no-owes-searching}
 use Rattle.executor_model.proofs.Sleepers.SleepersAway.{owes-hands, owes-rooms, owes_of, wakes_up-walk}
-use Rattle.executor_model.proofs.Sleepers.SleepersWakingUp.{WakesUpWell, wakes_up-append, wakes_up-none, wakes_up-push, wakes_up-rest, wakes_up-set}
+use Rattle.executor_model.proofs.Sleepers.SleepersWakingUp.{WakesUpWell, wakes_up-append, wakes_up-none, wakes_up-push}
+use Rattle.executor_model.proofs.Sleepers.SleepersWakingUp.{wakes_up-rest, wakes_up-set}
 use Rattle.executor_model.proofs.Sleepers.SleepersWakingUp.{wakes_up_of, wakes_up_well}
 use Rattle.executor_model.proofs.Sleepers.TickLists.{slumbering-places, places, rooms-places, times-apart, up_rooms-all}
 use Rattle.executor_model.proofs.Sleepers.TickLists.{used_all-apart}

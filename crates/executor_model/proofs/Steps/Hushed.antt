@@ -38,8 +38,8 @@ use Rattle.executor_model.specs.declared.step.Hint.{Hint}
 use Rattle.executor_model.specs.declared.step.UserEnd.{UserEnd}
 use Rattle.executor_model.specs.declared.step.UserEnd.TheVariants as end
 use Rattle.executor_model.specs.Acts.{append_by, call_waker, copy_awaiter_by, copy_by, drain_by, drop_next_by, end_register_by}
-use Rattle.executor_model.specs.Acts.{enter_by, is_last_waker, is_told, leave_by, let_go_by, look_again_by, look_by, move_by}
-use Rattle.executor_model.specs.Acts.{notify_by, register_by, take_by, told_as, wake_next_by}
+use Rattle.executor_model.specs.Acts.{enter_by, is_last_waker, is_told, leak_next_by, leak_out_by, leave_by, let_go_by, look_again_by}
+use Rattle.executor_model.specs.Acts.{look_by, move_by, notify_by, register_by, take_by, told_as, wake_next_by}
 use Rattle.executor_model.specs.ActsOfRuns.{call_by_reference, kept_by, steal_put_by, wake_own}
 use Rattle.executor_model.specs.ActsOfSleepers.{exchange_by, hand_out_by, polled_as}
 use Rattle.executor_model.specs.Doing.{act, steal_act}
@@ -183,6 +183,17 @@ module _ (t : Event → Bool) (u : (e : Event) → is_hushed e ≡ true → t e 
       let v : World = record w { waking = rest } in
       both w v _ (hushed w v refl) (hushed-move true move.Wake p v f)
 
+  hushed-leak_out : (b : Bool) (w : World) → Hushed w (leak_out_by b w).world
+  hushed-leak_out true w = hushed _ _ refl
+  hushed-leak_out false w = hushed w (leak_out_by false w).world refl
+
+  pub hushed-leak_next : (b : Bool) (p : ℕ) (w : World) (ls : List ℕ) → Hushed w (leak_next_by b p w ls).world
+  hushed-leak_next true p w ls = hushed _ _ refl
+  hushed-leak_next false p w [] = hushed _ _ refl
+  hushed-leak_next false p w (f ∷ rest) =
+      let v : World = (wake_next_by p w (f ∷ rest)).world in
+      both w v _ (hushed-wake_next p w (f ∷ rest)) (one v (log v (event.Leaked p f)) (event.Leaked p f) refl (u _ refl))
+
   hushed-drain : (p : ℕ) (w : World) (q : List ℕ) → Hushed w (drain_by p w q).world
   hushed-drain p w [] = one _ _ (event.DropEnded p) refl (u _ refl)
   hushed-drain p w (f ∷ rest) = hushed _ _ refl
@@ -252,6 +263,8 @@ module _ (t : Event → Bool) (u : (e : Event) → is_hushed e ≡ true → t e 
   hushed-act p h (op.Closing closing_op.DropNext) w z = hushed-drop_next p w w.leaving z
   hushed-act p h (op.Closing closing_op.WakeNext) w z = hushed-wake_next p w w.waking
   hushed-act p h (op.Closing closing_op.Drain) w z = hushed-drain p w w.queue.items
+  hushed-act p h (op.Closing closing_op.LeakOut) w z = hushed-leak_out _ w
+  hushed-act p h (op.Closing closing_op.LeakNext) w z = hushed-leak_next _ p w w.waking
   hushed-act p h (op.End r held) w z = one _ _ (event.CallEnded p r) refl (u _ refl)
   hushed-act p h _ w z = hushed _ _ refl
 

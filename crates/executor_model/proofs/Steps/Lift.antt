@@ -1,7 +1,7 @@
 -- For all laws.
 -- A step leaves a good machine good.
 use Rattle.std.proofs.Common.{◌≡◌, ℕ, zero, suc, ◌+◌, ◌-◌, ◌<◌, List, [], ◌∷◌, ◌++◌, length, set}
-use Rattle.std.proofs.Common.{get_or, take, Bool, true, false, ◌&&◌, ◌||◌, not, ltb, refl, sym, ap, ◌∙◌}
+use Rattle.std.proofs.Common.{get_or, take, Bool, true, false, ltb, refl, sym, ap, ◌∙◌}
 use Rattle.std.proofs.Common.{subst, arith, append-nil, get_or-set_same}
 use Rattle.std.proofs.Math.ListN.{length-set}
 use Rattle.std.proofs.lemmas.Bool.Decides.{nat_tests}
@@ -28,8 +28,8 @@ use Rattle.executor_model.specs.Weights.{weigh, weigh_all, waker_past}
 use Rattle.executor_model.specs.Sound.{Sound, pend}
 use Rattle.executor_model.specs.Good.{Good}
 use Rattle.executor_model.specs.Rows.{past_of}
-use Rattle.executor_model.specs.Steps.{Machine, stack, top, below_top, is_free, mine, has_all}
-use Rattle.executor_model.specs.Steps.{is_on_executor, is_drop, is_unborrowed, unless, begin_refusal}
+use Rattle.executor_model.specs.Steps.{Machine, stack, top, below_top, mine}
+use Rattle.executor_model.specs.Steps.{unless, begin_refusal}
 use Rattle.executor_model.specs.Steps.{answer_refusal, accepts, party_of, part_refusal, refusal}
 use Rattle.executor_model.specs.Steps.{begun, react, end_of, settled_by}
 use Rattle.executor_model.specs.Steps.{onto, gone_on, part_after}

@@ -63,6 +63,8 @@ lists (op.Table (table_op.LeaveTable f)) = true
 lists (op.Closing closing_op.TakeOut) = true
 lists (op.Closing closing_op.DropNext) = true
 lists (op.Closing closing_op.WakeNext) = true
+lists (op.Closing closing_op.LeakOut) = true
+lists (op.Closing closing_op.LeakNext) = true
 lists _ = false
 
 entries-log_if : (b : Bool) (w : World) (e : Event) → entries w ≡ entries (log_if b w e)
@@ -164,6 +166,8 @@ same-entries p h (op.Table (table_op.LeaveTable f)) w n = absurd (cc)
 same-entries p h (op.Closing closing_op.TakeOut) w n = absurd (cc)
 same-entries p h (op.Closing closing_op.DropNext) w n = absurd (cc)
 same-entries p h (op.Closing closing_op.WakeNext) w n = absurd (cc)
+same-entries p h (op.Closing closing_op.LeakOut) w n = absurd (cc)
+same-entries p h (op.Closing closing_op.LeakNext) w n = absurd (cc)
 same-entries p h (op.Move m f) w n = entries-move _ m p w f
 same-entries p h (op.Waker (waker_op.CopyWaker f held)) w n = entries-copy _ w f held
 same-entries p h (op.Queue queue_op.Take) w n = entries-take _ w

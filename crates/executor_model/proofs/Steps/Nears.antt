@@ -36,7 +36,8 @@ use Rattle.executor_model.specs.Doing.{act}
 use Rattle.executor_model.specs.Steps.{begun, drop_run, future_of, kept, poll_run, with_future}
 use Rattle.executor_model.specs.Weights.{weigh}
 use Rattle.executor_model.specs.World.{World, Stage, New, Listed, Ended, Done, awaiter_of, log, run_of, task}
-use Rattle.executor_model.proofs.Steps.Asides.{aside-entry, Aside, aside-awaiter, aside-closing, aside-leak_next, aside-leak_out, aside-let_go, aside-let_go_by, aside-owed, aside-told}
+use Rattle.executor_model.proofs.Steps.Asides.{aside-entry, Aside, aside-awaiter, aside-closing, aside-leak_next}
+use Rattle.executor_model.proofs.Steps.Asides.{aside-leak_out, aside-let_go, aside-let_go_by, aside-owed, aside-told}
 use Rattle.executor_model.proofs.Steps.Lists.{weigh-append}
 use Rattle.executor_model.proofs.Steps.RunsNext.{BlindToRuns, list-blind, run-blind, steal-blind, tick-blind}
 use Rattle.executor_model.proofs.Steps.SleepersNext.{Blind, Unseen, sleeper-unseen}

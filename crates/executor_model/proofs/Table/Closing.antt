@@ -1,7 +1,8 @@
 -- For the_closing_drop_keeps_the_order and the_closing_drop_wakes_in_order.
--- The table has the futures in the order of acceptance, so the executor's drop, which goes through it, drops them so.
+-- The table has the futures in the order of acceptance, so the executor's drop, which goes through it, drops them so; and a
+-- leak wakes them so.
 use Rattle.std.proofs.Common.{◌≡◌, ◌⊎◌, ℕ, ◌+◌, ◌<◌, ◌≤◌, List, [], ◌∷◌, ◌++◌, length, Bool, true, false, not, inl, inr}
-use Rattle.std.proofs.Common.{◌&&◌, ◌||◌, cond, eqb}
+use Rattle.std.proofs.Common.{◌&&◌, ◌||◌, cond, eqb, zero, suc}
 use Rattle.std.specs.Prelude.{fold}
 use Rattle.std.proofs.Common.{⊎_elim, refl, sym, ap, ◌∙◌, subst, arith, append-nil}
 use Rattle.std.proofs.lemmas.List.{append_assoc}
@@ -26,28 +27,31 @@ use Rattle.executor_model.specs.declared.op.UserOp.TheVariants as user_op
 use Rattle.executor_model.specs.declared.op.WakerOp.TheVariants as waker_op
 use Rattle.executor_model.specs.declared.step.Hint.{Hint}
 use Rattle.executor_model.specs.declared.step.Step.{Step}
-use Rattle.executor_model.specs.Acts.{closing_ops, drop_next_by, enter_by, leave_by, move_by, wake_next_by}
+use Rattle.executor_model.specs.Acts.{closing_ops, drop_next_by, enter_by, leak_next_by, leak_out_by, leave_by, move_by}
+use Rattle.executor_model.specs.Acts.{wake_next_by}
 use Rattle.executor_model.specs.ClosingOrder.{Ascends, DropsInOrder, accepted_in, dropped_in, dropped_since}
 use Rattle.executor_model.specs.Doing.{act}
 use Rattle.executor_model.specs.Good.{Good}
 use Rattle.executor_model.specs.Rows.{borrowing_of, drops_of, leaves_of, ousting_of}
 use Rattle.executor_model.specs.Sound.{times}
-use Rattle.executor_model.specs.Steps.{Machine, begun, is_drop, is_free, is_on_executor, is_unborrowed, has_all, mine, react, run, stack}
+use Rattle.executor_model.specs.Steps.{Machine, begun, is_on_executor, mine, react, run, stack}
 use Rattle.executor_model.specs.Steps.{start, top}
 use Rattle.executor_model.specs.Trace.{Trace, has, is_accepted, is_drop_begun}
 use Rattle.executor_model.specs.Weights.{same, weigh, weigh_all}
 use Rattle.executor_model.specs.World.{World, Done, done, log, task}
 use Rattle.executor_model.proofs.OneFuture.Effects.{Effect}
 use Rattle.executor_model.proofs.OneFuture.Effects.Effect.{passes, turns, refuses, enters, unlists, drops, takes_out, drops_next}
+use Rattle.executor_model.proofs.OneFuture.Effects.Effect.{leaks_out, leaks}
 use Rattle.executor_model.proofs.OneFuture.EffectsWays.{Effects, effects-way}
 use Rattle.executor_model.proofs.OneFuture.EffectsWays.Effects.{does, pends, readies, closes}
 use Rattle.executor_model.proofs.OneFuture.Extras.{no_extra}
 use Rattle.executor_model.proofs.OneFuture.Stories.{story}
 use Rattle.executor_model.proofs.OneFuture.Telling.{accepted-counts, begun-has, same-cond}
 use Rattle.executor_model.proofs.OneFuture.Views.{none}
-use Rattle.executor_model.proofs.Steps.Asides.{Aside, aside-entry, aside-owed}
+use Rattle.executor_model.proofs.Steps.Asides.{Aside, aside-entry, aside-leaking, aside-owed}
 use Rattle.executor_model.proofs.Steps.Growing.{split}
-use Rattle.executor_model.proofs.Steps.Hushed.{Hushed, Hushes, hushed-act, hushed-called, hushed-react, hushed-wake_next}
+use Rattle.executor_model.proofs.Steps.Hushed.{Hushed, Hushes, hushed-act, hushed-called, hushed-leak_next, hushed-react}
+use Rattle.executor_model.proofs.Steps.Hushed.{hushed-wake_next}
 use Rattle.executor_model.proofs.Steps.Lift.{good-start, none_refused, unsettled}
 use Rattle.executor_model.proofs.Steps.Listing.{Entries, entries, entries-move, lists, same-begun, same-entries, same-react}
 use Rattle.executor_model.proofs.Steps.Lists.{same_cases, weigh-append, weigh_all-push}
@@ -56,6 +60,7 @@ use Rattle.executor_model.proofs.Steps.Ways.Way.{acted, called, reacted}
 use Rattle.executor_model.proofs.Table.Ascending.{accepted-append, accepted-same, ascends-left, ascends-push, ascends-without}
 use Rattle.executor_model.proofs.Table.Ascending.{hushed-order, nothing-there, since-append, since-late, since-none, since-same}
 use Rattle.executor_model.proofs.Table.Ascending.{tells_order}
+use Rattle.executor_model.proofs.Table.Leaking.{static-effects}
 use Rattle.executor_model.proofs.Table.LeavingExecutions.{Placed, placed-ends, placed-moves, placed-start}
 
 -- nothing leads to the taking out of the table but the beginning of the executor's drop
@@ -100,6 +105,8 @@ ousts-effect w old _ (unlists f e) = omega (arith, aside-entry ousting_of ousts-
 ousts-effect w old d (drops p f) = omega arith
 ousts-effect w old d takes_out = omega (arith, ousts-closing w.table w.waking)
 ousts-effect w old d (drops_next p f rest e) = omega (arith, ousts-closing rest (w.waking ++ f ∷ []))
+ousts-effect w old d (leaks_out s n) = omega (arith, aside-leaking ousting_of refl (w.waking ++ w.table))
+ousts-effect w old _ (leaks d p f e a) = ousts-effect w (op.Closing closing_op.LeakNext ∷ []) d e
 
 ousts : (w : World) (ss : List (List Op)) (old : List Op) (d : Done) → Effects w ss old d →
     (weigh ousting_of d.next ≤ weigh ousting_of old) ⊎ (w.gone ≡ false)
@@ -120,7 +127,8 @@ pub record Ordered (s : Machine) : Type 0 where
   pub closing : Ascends (dropped_since s.world.trace ++ s.world.leaving)
   pub first : 1 ≤ weigh_all ousting_of s.parties → dropped_since s.world.trace ≡ []
   pub waits : Ascends (s.world.waking ++ s.world.leaving)
-  pub unwoken : dropped_since s.world.trace ≡ [] → s.world.waking ≡ []
+  -- a machine that isn't static has no leak
+  pub unwoken : s.world.is_static ≡ false → dropped_since s.world.trace ≡ [] → s.world.waking ≡ []
 
 some-last : (xs : List ℕ) (f : ℕ) → xs ++ f ∷ [] ≡ [] → ⊥
 some-last [] f e = absurd (cc)
@@ -148,7 +156,7 @@ module _ (s : Machine) (fine : Good s) (h : Ordered s) where
     pub closing : Ascends (dropped_since v.trace ++ v.leaving)
     pub first : (s.world.gone ≡ false) ⊎ (1 ≤ weigh_all ousting_of s.parties) → dropped_since v.trace ≡ []
     pub waits : Ascends (v.waking ++ v.leaving)
-    pub unwoken : dropped_since v.trace ≡ [] → v.waking ≡ []
+    pub unwoken : s.world.is_static ≡ false → v.is_static ≡ false → dropped_since v.trace ≡ [] → v.waking ≡ []
 
   begun-is : has is_drop_begun s.world.trace ≡ s.world.gone
   begun-is = sym (begun-has 0 s.world.trace) ∙ (h.placed.leaves 0).begun
@@ -168,8 +176,8 @@ module _ (s : Machine) (fine : Good s) (h : Ordered s) where
         (ap (λ (x : Entries). x.leaving) e) h.closing);
     first = λ x. ap dropped_since k.is ∙ (since-same s.world.trace k.more k.none ∙ was x);
     waits = subst (λ (x : Entries). Ascends (x.waking ++ x.leaving)) e h.waits;
-    unwoken = λ z. sym (ap (λ (x : Entries). x.waking) e)
-        ∙ h.unwoken (sym (ap dropped_since k.is ∙ since-same s.world.trace k.more k.none) ∙ z);
+    unwoken = λ i j z. sym (ap (λ (x : Entries). x.waking) e)
+        ∙ h.unwoken i (sym (ap dropped_since k.is ∙ since-same s.world.trace k.more k.none) ∙ z);
   }
 
   -- a future is taken in
@@ -206,7 +214,7 @@ module _ (s : Machine) (fine : Good s) (h : Ordered s) where
         closing = subst (λ (xs : List ℕ). Ascends (xs ++ s.world.leaving)) (sym (same-late e refl refl)) h.closing;
         first = λ x. same-late e refl refl ∙ was x;
         waits = h.waits;
-        unwoken = λ z. h.unwoken (sym (same-late e refl refl) ∙ z);
+        unwoken = λ i j z. h.unwoken i (sym (same-late e refl refl) ∙ z);
       }
 
   -- an entry is taken out
@@ -217,7 +225,7 @@ module _ (s : Machine) (fine : Good s) (h : Ordered s) where
     closing = h.closing;
     first = was;
     waits = h.waits;
-    unwoken = h.unwoken;
+    unwoken = λ i j z. h.unwoken i z;
   }
   after-leave false f = unchanged
 
@@ -234,20 +242,22 @@ module _ (s : Machine) (fine : Good s) (h : Ordered s) where
         closing = subst (λ (xs : List ℕ). Ascends (xs ++ s.world.leaving)) (sym z) h.closing;
         first = λ x. z ∙ was x;
         waits = h.waits;
-        unwoken = λ k. h.unwoken (sym z ∙ k);
+        unwoken = λ i j k. h.unwoken i (sym z ∙ k);
       }
 
   -- the table is taken out
   after-out : 1 ≤ weigh_all ousting_of s.parties →
       After (record s.world { table = s.world.leaving; leaving = s.world.table })
   after-out l =
-      let none : s.world.leaving ≡ [] = nothing-there s.world.leaving (λ g. (h.placed.leaves g).before l) in record {
+      let none : s.world.leaving ≡ [] = nothing-there s.world.leaving (λ g. (h.placed.leaves g).before l) in
+      let gone : s.world.gone ≡ true = (fine.sound 0).ousted (omega (arith, l)) in
+      let owned : s.world.is_static ≡ false = (fine.sound 0).owned gone in record {
         accepted = h.accepted;
         table = subst Ascends (sym none) tt;
         closing = subst (λ (xs : List ℕ). Ascends (xs ++ s.world.table)) (sym (h.first l)) h.table;
         first = was;
-        waits = subst (λ (xs : List ℕ). Ascends (xs ++ s.world.table)) (sym (h.unwoken (h.first l))) h.table;
-        unwoken = h.unwoken;
+        waits = subst (λ (xs : List ℕ). Ascends (xs ++ s.world.table)) (sym (h.unwoken owned (h.first l))) h.table;
+        unwoken = λ i j z. h.unwoken i z;
       }
 
   -- the next is dropped
@@ -271,17 +281,13 @@ module _ (s : Machine) (fine : Good s) (h : Ordered s) where
             let r : ⊥ = absurd (omega (arith, there, (h.placed.leaves f).before l)) in r) x);
         waits = subst Ascends (sym (append_assoc s.world.waking (f ∷ []) rest))
             (subst (λ (xs : List ℕ). Ascends (s.world.waking ++ xs)) e h.waits);
-        unwoken = λ k. absurd (some-last (dropped_since s.world.trace) f (sym z ∙ k));
+        unwoken = λ i j k. absurd (some-last (dropped_since s.world.trace) f (sym z ∙ k));
       }
 
-  -- the next is woken
-  after-wake : (p : ℕ) (ls : List ℕ) → s.world.waking ≡ ls → After (wake_next_by p s.world ls).world
-  after-wake p [] e = unchanged
-  after-wake p (f ∷ rest) e =
-      let v : World = record s.world { waking = rest } in
-      let now : World = (wake_next_by p s.world (f ∷ rest)).world in
-      let k = hushed-wake_next tells_order hushed-order p s.world (f ∷ rest) in
-      let same_lists : entries v ≡ entries now = entries-move true move.Wake p v f in
+  -- the first of those that are to be woken goes
+  after-woken : (f : ℕ) (rest : List ℕ) (now : World) → s.world.waking ≡ f ∷ rest →
+      entries (record s.world { waking = rest }) ≡ entries now → Hushed tells_order hushed-order s.world now → After now
+  after-woken f rest now e same_lists k =
       let z : dropped_since now.trace ≡ dropped_since s.world.trace =
       ap dropped_since k.is ∙ since-same s.world.trace k.more k.none in record {
         accepted = subst Ascends (sym (ap accepted_in k.is ∙ accepted-same s.world.trace k.more k.none)) h.accepted;
@@ -292,8 +298,48 @@ module _ (s : Machine) (fine : Good s) (h : Ordered s) where
         first = λ x. z ∙ was x;
         waits = subst (λ (x : Entries). Ascends (x.waking ++ x.leaving)) same_lists
             (subst (λ (xs : List ℕ). Ascends (xs ++ s.world.leaving)) e h.waits).1;
-        unwoken = λ y. let no : f ∷ rest ≡ [] = sym e ∙ h.unwoken (sym z ∙ y) in absurd (cc);
+        unwoken = λ i j y. let no : f ∷ rest ≡ [] = sym e ∙ h.unwoken i (sym z ∙ y) in absurd (cc);
       }
+
+  after-wake : (p : ℕ) (ls : List ℕ) → s.world.waking ≡ ls → After (wake_next_by p s.world ls).world
+  after-wake p [] e = unchanged
+  after-wake p (f ∷ rest) e =
+      after-woken f rest (wake_next_by p s.world (f ∷ rest)).world e
+      (entries-move true move.Wake p (record s.world { waking = rest }) f)
+      (hushed-wake_next tells_order hushed-order p s.world (f ∷ rest))
+
+  after-leak_next : (b : Bool) (p : ℕ) (ls : List ℕ) → s.world.waking ≡ ls → After (leak_next_by b p s.world ls).world
+  after-leak_next true p ls e = unchanged
+  after-leak_next false p [] e = unchanged
+  after-leak_next false p (f ∷ rest) e =
+      after-woken f rest (leak_next_by false p s.world (f ∷ rest)).world e
+      (entries-move true move.Wake p (record s.world { waking = rest }) f)
+      (hushed-leak_next tells_order hushed-order false p s.world (f ∷ rest))
+
+  -- all are to be woken that have an entry
+  after-leak_out : (i n : Bool) → s.world.is_static ≡ i → s.world.gone ≡ n → After (leak_out_by (i || n) s.world).world
+  after-leak_out true n i g = unchanged
+  after-leak_out false true i g = unchanged
+  after-leak_out false false i g =
+      let awake : s.world.waking ≡ [] = h.unwoken i (was (inl g)) in
+      let none : s.world.leaving ≡ [] = nothing-there s.world.leaving (λ k. not-ousted s.world.gone k g
+      (λ (l : 1 ≤ times k s.world.leaving). (fine.sound k).ousted (omega (arith, l)))) in record {
+        accepted = h.accepted;
+        table = h.table;
+        closing = h.closing;
+        first = was;
+        waits = subst (λ (xs : List ℕ). Ascends ((xs ++ s.world.table) ++ s.world.leaving)) (sym awake)
+            (subst (λ (xs : List ℕ). Ascends (s.world.table ++ xs)) (sym none)
+            (subst Ascends (sym (append-nil s.world.table)) h.table));
+        unwoken = λ x y z. absurd (cc);
+      }
+    where
+      not-ousted : (b : Bool) (k : ℕ) → b ≡ false → (1 ≤ times k s.world.leaving → b ≡ true) → times k s.world.leaving ≡ 0
+      not-ousted b k z m = by (times k s.world.leaving) m
+        where
+          by : (n : ℕ) → (1 ≤ n → b ≡ true) → n ≡ 0
+          by zero q = refl
+          by (suc n) q = let no : true ≡ false = sym (q (omega arith)) ∙ z in absurd (cc)
 
   -- the executor's drop begins
   after-begun : (p : ℕ) → s.world.gone ≡ false →
@@ -312,7 +358,7 @@ module _ (s : Machine) (fine : Good s) (h : Ordered s) where
         closing = subst (λ (xs : List ℕ). Ascends (xs ++ s.world.leaving)) (since-none s.world.trace q ∙ sym z) h.closing;
         first = λ x. z;
         waits = h.waits;
-        unwoken = λ k. h.unwoken (since-none s.world.trace q);
+        unwoken = λ i j k. h.unwoken i (since-none s.world.trace q);
       }
 
   -- each thing that is done
@@ -348,6 +394,8 @@ module _ (s : Machine) (fine : Good s) (h : Ordered s) where
         after-out (omega (arith, split ousting_of s.parties p (op.Closing closing_op.TakeOut ∷ []) rest l e))
     after-act t (op.Closing closing_op.DropNext) e = after-next p s.world.leaving refl
     after-act t (op.Closing closing_op.WakeNext) e = after-wake p s.world.waking refl
+    after-act t (op.Closing closing_op.LeakOut) e = after-leak_out s.world.is_static s.world.gone refl refl
+    after-act t (op.Closing closing_op.LeakNext) e = after-leak_next _ p s.world.waking refl
     after-act t (op.User (user_op.BeginDrop f)) e = after-drop p f (open-drop f e)
     after-act t (op.Waker (waker_op.CallAwaiter f a k)) e = plain t (op.Waker (waker_op.CallAwaiter f a k)) refl refl
     after-act t (op.Sleeper (sleeper_op.CallSleeper x)) e = plain t (op.Sleeper (sleeper_op.CallSleeper x)) refl refl
@@ -373,10 +421,7 @@ module _ (s : Machine) (fine : Good s) (h : Ordered s) where
         subst (λ (x : Done). After x.world) (sym z) (stays (react p o u s.world).world (same-react p o u s.world a)
         (hushed-react tells_order hushed-order p o u s.world))
     after-way old d e (called c q r n z) =
-        let x : _ = none_refused (is_free (top (stack s p))) (has_all s.world s.parties (top (stack s p)) c)
-        (not (s.world.gone && is_on_executor c)) (not (is_drop c && s.world.is_static))
-        (not (is_drop c) || is_unborrowed s.world s.parties) n in
-        subst (λ (y : Done). After y.world) (sym z) (after-call c x.2)
+        subst (λ (y : Done). After y.world) (sym z) (after-call c (none_refused s.world s.parties (top (stack s p)) c n).2)
 
 ordered-moves : (s : Machine) (p : ℕ) (old rest : List Op) (d : Done) → Good s → p < length s.parties →
     stack s p ≡ rest ++ reverse old → Way s p old rest d → Ordered s → Ordered (unsettled s p rest d)
@@ -389,13 +434,18 @@ ordered-moves s p old rest d fine l e way h =
       table = a.table;
       closing = a.closing;
       waits = a.waits;
-      unwoken = a.unwoken;
+      unwoken = λ i k. a.unwoken (owned-before i) i k;
       first = λ n. a.first (⊎_elim
           (λ (x : weigh ousting_of d.next ≤ weigh ousting_of old).
           let y : (s.world.gone ≡ false) ⊎ (1 ≤ weigh_all ousting_of s.parties) = inr (omega (arith, x, n, now, before)) in y)
           (λ (x : s.world.gone ≡ false). let y : (s.world.gone ≡ false) ⊎ (1 ≤ weigh_all ousting_of s.parties) = inl x in y)
           (ousts s.world s.parties old d (effects-way s p old rest d fine l e way)));
     }
+  where
+    owned-before : d.world.is_static ≡ false → s.world.is_static ≡ false
+    owned-before i = ⊎_elim (λ (x : d.world.is_static ≡ s.world.is_static). sym x ∙ i)
+        (λ (x : (s.world.is_static ≡ false) × (old ≡ op.Closing closing_op.LeakOut ∷ [])). x.0)
+        (static-effects s.world s.parties old d (effects-way s p old rest d fine l e way))
 
 ordered-ends : (s : Machine) (p : ℕ) (a : Reply) (held : Hold) (below : List Op) → p < length s.parties →
     stack s p ≡ below ++ reverse (op.End a held ∷ []) → Ordered s →
@@ -411,7 +461,7 @@ ordered-ends s p a held below l e h =
       closing = subst (λ (xs : List ℕ). Ascends (xs ++ s.world.leaving)) (sym (since-same es end refl)) h.closing;
       first = λ n. since-same es end refl ∙ h.first (omega (arith, n, now, before));
       waits = h.waits;
-      unwoken = λ z. h.unwoken (sym (since-same es end refl) ∙ z);
+      unwoken = λ i z. h.unwoken i (sym (since-same es end refl) ∙ z);
     }
 
 ordered-start : (limit : ℕ) (kind : Kind) (n : ℕ) → Ordered (start limit kind n)
@@ -422,7 +472,7 @@ ordered-start limit kind n = record {
   closing = tt;
   first = λ x. refl;
   waits = tt;
-  unwoken = λ x. refl;
+  unwoken = λ i x. refl;
 }
 
 pub ordered : (limit : ℕ) (kind : Kind) (parties : ℕ) (steps : List Step) → Ordered (run steps (start limit kind parties))

@@ -1,5 +1,5 @@
 -- For the_closing_drop_wakes_in_order.
--- Whoever is first among those that the executor's drop has still to wake stays so until it is woken.
+-- Whoever is first among those that the executor's drop or its leak has still to wake stays so until it is woken.
 use Rattle.std.proofs.Common.{◌≡◌, ◌⊎◌, ℕ, List, [], ◌∷◌, ◌++◌, length, Bool, true, false, not, eqb, inl, inr, ltb, refl, sym}
 use Rattle.std.proofs.Common.{ap, ◌∙◌, subst, arith, append-nil, ⊎_elim}
 use Rattle.std.proofs.lemmas.Bool.Decides.{nat_tests}
@@ -7,6 +7,7 @@ use Rattle.std.proofs.lemmas.List.{append_assoc, append_cancel_left}
 use Rattle.std.specs.Prelude.{Option, Some, None, reverse}
 use Rattle.task_moves.specs.Moves.{is_over}
 use Rattle.task_moves.specs.declared.moves.owed.Move.TheVariants as move
+use Rattle.executor_model.specs.declared.event.Event.{Event}
 use Rattle.executor_model.specs.declared.event.Event.TheVariants as event
 use Rattle.executor_model.specs.declared.kind.Kind.{Kind}
 use Rattle.executor_model.specs.declared.op.ClosingOp.TheVariants as closing_op
@@ -17,7 +18,7 @@ use Rattle.executor_model.specs.declared.step.Hint.{Hint}
 use Rattle.executor_model.specs.declared.step.Step.{Step}
 use Rattle.executor_model.specs.declared.step.StepError.{StepError}
 use Rattle.executor_model.specs.declared.step.StepError.TheVariants.{NoSuch}
-use Rattle.executor_model.specs.Acts.{drop_next_by, enter_by, leave_by, wake_next_by}
+use Rattle.executor_model.specs.Acts.{drop_next_by, enter_by, leak_next_by, leak_out_by, leave_by, wake_next_by}
 use Rattle.executor_model.specs.ClosingWakes.{StaysFirst, WakesInOrder}
 use Rattle.executor_model.specs.Doing.{act}
 use Rattle.executor_model.specs.Steps.{Machine, Part, end_of, mine, part_after, part_refusal, party_of, refusal, run}
@@ -26,11 +27,29 @@ use Rattle.executor_model.specs.Trace.{Trace, has, is_woken}
 use Rattle.executor_model.specs.World.{World, Done, log, log_if, task}
 use Rattle.executor_model.proofs.Promises.CallPromises.{has-left}
 use Rattle.executor_model.proofs.Promises.OutsideCalls.{way-more}
+use Rattle.executor_model.proofs.Steps.Hushed.{hushed-wake_next}
 use Rattle.executor_model.proofs.Steps.Listing.{Entries, entries, entries-move, same-begun, same-entries, same-react}
 use Rattle.executor_model.proofs.Steps.Tests.{or-left}
 use Rattle.executor_model.proofs.Steps.Ways.{Made, Way, made}
 use Rattle.executor_model.proofs.Steps.Ways.Way.{acted, called, reacted}
 use Rattle.executor_model.proofs.Table.Closing.{ordered}
+
+-- what is told behind that changes nothing of it
+more-later : (w v u : World) (f : ℕ) (fs : List ℕ) (before more last : Trace) → u.waking ≡ v.waking →
+    more ≡ before ++ last → StaysFirst w v f fs before → StaysFirst w u f fs more
+more-later w v u f fs before more last q i h = ⊎_elim
+    (λ (x : (added : List ℕ) × (v.waking ≡ (f ∷ fs) ++ added)).
+    let r : StaysFirst w u f fs more = inl (x.0, q ∙ x.1) in r)
+    (λ (x : (v.waking ≡ fs) × ((has (is_woken f) before ≡ true) ⊎ (is_over (task w f) ≡ true))).
+    let r : StaysFirst w u f fs more = inr (
+      q ∙ x.0,
+      ⊎_elim
+          (λ (y : has (is_woken f) before ≡ true).
+          let z : (has (is_woken f) more ≡ true) ⊎ (is_over (task w f) ≡ true) =
+          inl (ap (has (is_woken f)) i ∙ has-left (is_woken f) before last y) in z)
+          (λ (y : is_over (task w f) ≡ true).
+          let z : (has (is_woken f) more ≡ true) ⊎ (is_over (task w f) ≡ true) = inr y in z) x.1,
+    ) in r) h
 
 module _ (w : World) (f : ℕ) (rest : List ℕ) (e : w.waking ≡ f ∷ rest) where
   -- nobody was woken, and none has come
@@ -73,6 +92,26 @@ module _ (w : World) (f : ℕ) (rest : List ℕ) (e : w.waking ≡ f ∷ rest) w
             (told-so (not (is_over (task w g))) p g gs ∙ ap (λ (n : ℕ). (log_if (not (is_over (task w n))) w (event.Woken p n)).trace) i) t,
       )
 
+  first-leaks : (b : Bool) (p : ℕ) (ls : List ℕ) (more : Trace) → ls ≡ f ∷ rest →
+      (leak_next_by b p w ls).world.trace ≡ w.trace ++ more → StaysFirst w (leak_next_by b p w ls).world f rest more
+  first-leaks true p ls more q t = as-before w more refl
+  first-leaks false p [] more q t = absurd (cc)
+  first-leaks false p (g ∷ gs) more q t =
+      let v : World = (wake_next_by p w (g ∷ gs)).world in
+      let last : Trace = event.Leaked p g ∷ [] in
+      let k = hushed-wake_next (λ (x : Event). false) (λ x z. refl) p w (g ∷ gs) in
+      more-later w v (leak_next_by false p w (g ∷ gs)).world f rest k.more more last refl
+      (append_cancel_left w.trace more (k.more ++ last)
+      (sym t ∙ (ap (λ (xs : Trace). xs ++ last) k.is ∙ append_assoc w.trace k.more last)))
+      (first-wakes p (g ∷ gs) k.more q k.is)
+
+  leaks-so : (v : World) (more : Trace) → v.waking ≡ w.waking ++ w.table → StaysFirst w v f rest more
+  leaks-so v more q = inl (w.table, q ∙ ap (λ (xs : List ℕ). xs ++ w.table) e)
+
+  first-leaks_out : (b : Bool) (more : Trace) → StaysFirst w (leak_out_by b w).world f rest more
+  first-leaks_out true more = as-before w more refl
+  first-leaks_out false more = leaks-so (leak_out_by false w).world more refl
+
   first-drops : (p : ℕ) (ls : List ℕ) (more : Trace) → StaysFirst w (drop_next_by p w ls).world f rest more
   first-drops p [] more = as-before w more refl
   first-drops p (g ∷ gs) more = inl (g ∷ [], ap (λ (xs : List ℕ). xs ++ g ∷ []) e)
@@ -94,6 +133,8 @@ module _ (w : World) (f : ℕ) (rest : List ℕ) (e : w.waking ≡ f ∷ rest) w
       as-before (act p h (op.Closing closing_op.TakeOut) w).world more refl
   first-act p h (op.Closing closing_op.DropNext) more t = first-drops p w.leaving more
   first-act p h (op.Closing closing_op.WakeNext) more t = first-wakes p w.waking more e t
+  first-act p h (op.Closing closing_op.LeakOut) more t = first-leaks_out _ more
+  first-act p h (op.Closing closing_op.LeakNext) more t = first-leaks _ p w.waking more e t
   first-act p h o more t = listed-so (act p h o w).world more (same-entries p h o w refl)
 
 first-way : (s : Machine) (p : ℕ) (old rest : List Op) (d : Done) → Way s p old rest d → (f : ℕ) (fs : List ℕ) →
@@ -109,22 +150,6 @@ first-way s p old rest d (called c q r n z) f fs e more t =
     ∙ ap (λ (x : Done). entries x.world) (sym z))
 
 -- and then the call ends, where its end is all that is left of it
-
-more-later : (w v u : World) (f : ℕ) (fs : List ℕ) (before more last : Trace) → u.waking ≡ v.waking →
-    more ≡ before ++ last → StaysFirst w v f fs before → StaysFirst w u f fs more
-more-later w v u f fs before more last q i h = ⊎_elim
-    (λ (x : (added : List ℕ) × (v.waking ≡ (f ∷ fs) ++ added)).
-    let r : StaysFirst w u f fs more = inl (x.0, q ∙ x.1) in r)
-    (λ (x : (v.waking ≡ fs) × ((has (is_woken f) before ≡ true) ⊎ (is_over (task w f) ≡ true))).
-    let r : StaysFirst w u f fs more = inr (
-      q ∙ x.0,
-      ⊎_elim
-          (λ (y : has (is_woken f) before ≡ true).
-          let z : (has (is_woken f) more ≡ true) ⊎ (is_over (task w f) ≡ true) =
-          inl (ap (has (is_woken f)) i ∙ has-left (is_woken f) before last y) in z)
-          (λ (y : is_over (task w f) ≡ true).
-          let z : (has (is_woken f) more ≡ true) ⊎ (is_over (task w f) ≡ true) = inr y in z) x.1,
-    ) in r) h
 
 first-settled : (w v : World) (p : ℕ) (os : List Op) (o : Option Op) (f : ℕ) (fs : List ℕ) (before more : Trace) →
     v.trace ≡ w.trace ++ before → StaysFirst w v f fs before →

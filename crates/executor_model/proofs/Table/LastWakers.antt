@@ -1,8 +1,8 @@
 -- For early_drops_have_causes and last_wakers_are_of_detached_futures.
 -- Where nobody is left who could wake a future, and the drop of the executor hasn't begun, a leak of an owned executor had
 -- begun by then.
-use Rattle.std.proofs.Common.{◌≡◌, ◌⊎◌, ℕ, zero, suc, List, [], ◌∷◌, ◌++◌, Bool, true, false, ◌&&◌, ◌||◌, not, take}
-use Rattle.std.proofs.Common.{refl, sym, ap, ◌∙◌, subst, inl, inr, ⊎_elim}
+use Rattle.std.proofs.Common.{◌≡◌, ◌⊎◌, ℕ, zero, suc, [], ◌∷◌, ◌++◌, Bool, true, false, ◌&&◌, ◌||◌, not, take}
+use Rattle.std.proofs.Common.{refl, sym, ap, ◌∙◌, inl, inr, ⊎_elim}
 use Rattle.executor_model.specs.declared.event.Event.{Event}
 use Rattle.executor_model.specs.Trace.{Trace, has, is_drop_begun, is_last_waker, is_leak_begun}
 use Rattle.executor_model.proofs.OneFuture.Stories.{Story, hears, story, story_from, untold}

@@ -1,6 +1,6 @@
 -- For early_drops_have_causes and last_wakers_are_of_detached_futures.
 -- A machine is static where it was made so, or a leak of its executor has begun.
-use Rattle.std.proofs.Common.{◌≡◌, ◌⊎◌, ℕ, ◌+◌, ◌<◌, ◌≤◌, List, [], ◌∷◌, ◌++◌, length, take, Bool, true, false, ◌||◌, inl, inr, ⊎_elim}
+use Rattle.std.proofs.Common.{◌≡◌, ◌⊎◌, ℕ, ◌<◌, ◌≤◌, List, [], ◌∷◌, ◌++◌, length, take, Bool, true, false, ◌||◌, inl, inr, ⊎_elim}
 use Rattle.std.proofs.Common.{refl, sym, subst, ap, ◌∙◌, arith}
 use Rattle.std.specs.Prelude.{Option, reverse}
 use Rattle.task_moves.specs.declared.moves.owed.Move.{Move}
@@ -15,12 +15,11 @@ use Rattle.executor_model.specs.declared.op.ClosingOp.TheVariants as closing_op
 use Rattle.executor_model.specs.declared.op.Hold.{Hold}
 use Rattle.executor_model.specs.declared.op.Op.{Op}
 use Rattle.executor_model.specs.declared.op.Op.TheVariants as op
-use Rattle.executor_model.specs.declared.step.Hint.{Hint}
 use Rattle.executor_model.specs.declared.step.Step.{Step}
 use Rattle.executor_model.specs.Acts.{is_last_waker, is_told, move_by}
 use Rattle.executor_model.specs.Doing.{act}
 use Rattle.executor_model.specs.Good.{Good}
-use Rattle.executor_model.specs.Steps.{Machine, begun, mine, react, run, stack, start, top}
+use Rattle.executor_model.specs.Steps.{Machine, begun, mine, run, stack, start, top}
 use Rattle.executor_model.specs.Trace.{Trace, has, is_drop_begun, is_leak_begun}
 use Rattle.executor_model.specs.Weights.{weigh, weigh_all}
 use Rattle.executor_model.specs.declared.op.Waker.{Waker}
@@ -50,8 +49,9 @@ use Rattle.executor_model.proofs.Table.LeavingExecutions.{Placed, placed-ends, p
 
 -- nothing but a leak makes a machine static
 
-abbrev Becomes : World → List Op → Done → Type 0
-Becomes w old d = (d.world.is_static ≡ w.is_static) ⊎ (old ≡ op.Closing closing_op.LeakOut ∷ [])
+abbrev pub Becomes : World → List Op → Done → Type 0
+Becomes w old d = (d.world.is_static ≡ w.is_static)
+    ⊎ ((w.is_static ≡ false) × (old ≡ op.Closing closing_op.LeakOut ∷ []))
 
 static-moved : (m : Move) (p : ℕ) (w : World) (f : ℕ) → (move_by true m p w f).world.is_static ≡ w.is_static
 static-moved m p w f =
@@ -67,10 +67,10 @@ static-effect w old d (unlists f e) = inl refl
 static-effect w old d (drops p f) = inl refl
 static-effect w old d takes_out = inl refl
 static-effect w old d (drops_next p f rest e) = inl refl
-static-effect w old d (leaks_out s n) = inr refl
+static-effect w old d (leaks_out s n) = inr (s, refl)
 static-effect w old _ (leaks d p f e a) = static-effect w (op.Closing closing_op.LeakNext ∷ []) d e
 
-static-effects : (w : World) (ss : List (List Op)) (old : List Op) (d : Done) → Effects w ss old d → Becomes w old d
+pub static-effects : (w : World) (ss : List (List Op)) (old : List Op) (d : Done) → Effects w ss old d → Becomes w old d
 static-effects w ss old d (does e) = static-effect w old d e
 static-effects w ss old d (pends p f) = inl refl
 static-effects w ss old d (readies p f) = inl refl
@@ -273,8 +273,8 @@ module _ (kind : Kind) where
       stack s p ≡ rest ++ reverse old → Way s p old rest d → Known s → IsOfKind kind (unsettled s p rest d)
   kind-moves s p old rest d fine l e way k = λ t. ⊎_elim
       (λ (x : d.world.is_static ≡ s.world.is_static). later s d.world (leak-stays s p old rest d way) (k.2 (sym x ∙ t)))
-      (λ (x : old ≡ op.Closing closing_op.LeakOut ∷ []).
-      inr (leak-stays s p old rest d way (leak-told s p old rest l e x k.1)))
+      (λ (x : (s.world.is_static ≡ false) × (old ≡ op.Closing closing_op.LeakOut ∷ [])).
+      inr (leak-stays s p old rest d way (leak-told s p old rest l e x.1 k.1)))
       (static-effects s.world s.parties old d (effects-way s p old rest d fine l e way))
 
   kind-ends : (s : Machine) (p : ℕ) (a : Reply) (held : Hold) (below : List Op) → IsOfKind kind s →

@@ -218,7 +218,8 @@ spotted-start limit kind n = record {
 }
 
 spotted : (limit : ℕ) (kind : Kind) (n : ℕ) (ts : List Step) → Spotted (run ts (start limit kind n))
-spotted limit kind n ts = along Spotted spotted-moves spotted-ends ts (start limit kind n) (good-start limit kind n) (spotted-start limit kind n)
+spotted limit kind n ts =
+    along Spotted spotted-moves spotted-ends ts (start limit kind n) (good-start limit kind n) (spotted-start limit kind n)
 
 -- of a machine
 

@@ -29,7 +29,8 @@ use Rattle.executor_model.proofs.Table.Borrowing.{uses_of, Tidy, tidy-light}
 use Rattle.executor_model.proofs.Table.Tidying.{light-again, light-append, light-call, light-carried, light-closing}
 use Rattle.executor_model.proofs.Table.Tidying.{light-copy, light-copy_awaiter, light-drain, light-drop_next}
 use Rattle.executor_model.proofs.Table.Tidying.{light-end_register, light-enter, light-look, light-notify, light-owed}
-use Rattle.executor_model.proofs.Table.Tidying.{light-register, light-let_go_by, light-told, light-wake, light-wake_next, no-cancel, no-detach}
+use Rattle.executor_model.proofs.Table.Tidying.{light-register, light-let_go_by, light-told, light-wake, light-wake_next}
+use Rattle.executor_model.proofs.Table.Tidying.{no-cancel, no-detach}
 use Rattle.executor_model.proofs.Table.Tidying.{no-give_up, no-release, no-wake, tidy-take, tidy-using}
 use Rattle.executor_model.proofs.Table.RunsTidying.{light-drop_run, light-poll_run, tidy-list, tidy-run, tidy-steal}
 use Rattle.executor_model.proofs.Table.SleepersTidying.{tidy-sleeper, tidy-tick}

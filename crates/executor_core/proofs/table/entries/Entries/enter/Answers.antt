@@ -1,5 +1,6 @@
 use Rattle.std.proofs.Common.{◌≡◌, true, length, sym, ◌∙◌, arith}
 use Rattle.executor_core.specs.declared.table.entries.Seat.{Seat}
+use Rattle.executor_core.proofs.Rising.{rising_push}
 use Rattle.executor_core.proofs.Seating.{seated_push, seated_more, place_new, length-insides, present_push}
 use Rattle.executor_core.proofs.table.entries.Entries.enter.Goals as goal
 
@@ -14,6 +15,8 @@ invariant_of-self c =
           (seated_more c.self.inside.seats.items seat _ c.self.invariant.0),
       seated_more c.self.inside.seats.items seat _ c.self.invariant.1,
       c.self.invariant.2 ∙ sym c.enter.ensures.limit,
+      rising_push c.self.inside.seats.items _ _ 0 c.self.invariant.0 (sym next) (omega arith) c.self.invariant.3,
+      c.self.invariant.4,
     )
 
 pub returns-clause-present : goal.returns-clause-present

@@ -1,4 +1,5 @@
 use Rattle.std.proofs.Common.{sym}
+use Rattle.executor_core.proofs.Rising.{rising_without}
 use Rattle.executor_core.proofs.Seating.{key_found, left_found, seated_without}
 use Rattle.executor_core.proofs.Seating.{is_among, futures_without, without_absent, present_without}
 use Rattle.executor_core.proofs.table.entries.Entries.leave.Goals as goal
@@ -8,6 +9,8 @@ invariant_of-self c = (
   rw (c.leave.ensures.left, left_found _ _ _ c.in-Some.ensures.found) (seated_without _ _ _ c.self.invariant.0),
   c.self.invariant.1,
   cc,
+  rw (c.leave.ensures.left, left_found _ _ _ c.in-Some.ensures.found) (rising_without 0 _ _ c.self.invariant.3),
+  c.self.invariant.4,
 )
 
 pub returns-clause-was : goal.returns-clause-was

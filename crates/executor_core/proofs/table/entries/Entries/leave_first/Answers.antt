@@ -1,12 +1,14 @@
-use Rattle.std.proofs.Common.{◌≡◌, false, Some, subst}
+use Rattle.std.proofs.Common.{◌≡◌, suc, false, Some, subst, arith}
 use Rattle.executor_core.specs.declared.table.entries.Seat.{Seat}
-use Rattle.executor_core.specs.Entered.{place_in, AreSeated}
+use Rattle.executor_core.specs.Entered.{place_in, AreSeated, IsRising, futures_of}
+use Rattle.executor_core.proofs.Rising.{rising_less}
 use Rattle.executor_core.proofs.Seating.{seated_written, seat_read, is_known, insides_set}
 use Rattle.executor_core.proofs.table.entries.Entries.leave_first.Goals as goal
 
 pub invariant_of-self-2 : goal.invariant_of-self-2
 invariant_of-self-2 c =
     let seated = subst (AreSeated c.self.inside.seats.items) c.in-Some.ensures.some.2 c.self.invariant.1 in
+    let rising = subst (λ es. IsRising 0 (futures_of es)) c.in-Some.ensures.some.2 c.self.invariant.4 in
     let known = is_known c.self.inside.seats.items c.in-Some.parts.1 _ seated.0 in
     let seat : Seat = record { place = c.index_mut.result.now.place; inside = false } in
     let same : place_in c.self.inside.seats.items c.in-Some.parts.1 ≡ Some seat.place =
@@ -14,6 +16,8 @@ invariant_of-self-2 c =
       seated_written c.self.inside.seats.items c.in-Some.parts.1 seat _ same c.self.invariant.0,
       seated_written c.self.inside.seats.items c.in-Some.parts.1 seat _ same seated.1,
       cc,
+      c.self.invariant.3,
+      rising_less 0 (suc c.in-Some.parts.1) _ (omega arith) rising.1,
     )
 
 pub returns-clause-inside : goal.returns-clause-inside

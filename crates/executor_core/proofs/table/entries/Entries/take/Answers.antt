@@ -1,6 +1,6 @@
-use Rattle.std.proofs.Common.{◌≡◌, ◌<◌, false, Some, length, arith}
+use Rattle.std.proofs.Common.{◌≡◌, ◌<◌, false, Some, length, sym, subst, arith}
 use Rattle.executor_core.specs.declared.table.entries.Seat.{Seat}
-use Rattle.executor_core.specs.Entered.{place_in}
+use Rattle.executor_core.specs.Entered.{IsRising, place_in}
 use Rattle.executor_core.proofs.Seating.{seated_written, seat_read, insides_set, length-insides}
 use Rattle.executor_core.proofs.table.entries.Entries.take.Goals as goal
 
@@ -14,6 +14,8 @@ invariant_of-self c =
       seated_written c.self.inside.seats.items c.args.f seat _ same c.take_from.ensures.seated,
       seated_written c.self.inside.seats.items c.args.f seat _ same c.self.invariant.1,
       cc,
+      subst (IsRising 0) (sym c.take_from.ensures.futures) c.self.invariant.3,
+      c.self.invariant.4,
     )
 
 pub returns-clause-inside : goal.returns-clause-inside

@@ -1,7 +1,7 @@
 -- The futures of a table stand there in the order of their numbers, so who goes through the numbers finds them in the order
 -- of the table.
-use Rattle.std.proofs.Common.{◌≡◌, ◌⊎◌, ℕ, suc, ◌<◌, ◌≤◌, Bool, true, false, ltb, List, [], ◌∷◌, ◌++◌, length}
-use Rattle.std.proofs.Common.{refl, sym, ap, ◌∙◌, subst, inl, inr, arith, append-nil}
+use Rattle.std.proofs.Common.{◌≡◌, ℕ, suc, ◌+◌, ◌<◌, ◌≤◌, Bool, true, false, ltb, List, [], ◌∷◌, ◌++◌, length}
+use Rattle.std.proofs.Common.{refl, sym, ap, ◌∙◌, subst, inl, inr, arith, append-nil, length-append}
 use Rattle.std.proofs.lemmas.Bool.{cases_eq}
 use Rattle.std.proofs.lemmas.Bool.Decides.{nat_tests}
 use Rattle.executor_model.specs.World.{among}
@@ -69,24 +69,25 @@ none-below m n (x ∷ xs) l h =
 -- where n is looked for, it comes behind those below it
 pub low-next : (m n : ℕ) (xs : List ℕ) → IsRising m xs → low (suc n) xs ≡ low n xs ++ one_if (among n xs) n
 low-next m n [] h = refl
-low-next m n (x ∷ xs) h = by (ltb x n) (ltb n x) refl refl
+low-next m n (x ∷ xs) h = by (ltb x n) (ltb n x) refl refl (low-next (suc x) n xs h.1)
   where
-    by : (a b : Bool) → ltb x n ≡ a → ltb n x ≡ b → low (suc n) (x ∷ xs) ≡ low n (x ∷ xs) ++ one_if (among n (x ∷ xs)) n
-    by true b e f =
+    by : (a b : Bool) → ltb x n ≡ a → ltb n x ≡ b → low (suc n) xs ≡ low n xs ++ one_if (among n xs) n →
+        low (suc n) (x ∷ xs) ≡ low n (x ∷ xs) ++ one_if (among n (x ∷ xs)) n
+    by true b e f k =
         let l : x < n = grind (arith, nat_tests) in
         let differs : among n (x ∷ xs) ≡ among n xs = among_no n x xs (λ (q : x ≡ n). omega (arith, l, q)) in
         low-here (suc n) x xs (omega (arith, l))
-        ∙ (ap (λ (ys : List ℕ). x ∷ ys) (low-next (suc x) n xs h.1)
+        ∙ (ap (λ (ys : List ℕ). x ∷ ys) k
         ∙ (ap (λ (c : Bool). x ∷ low n xs ++ one_if c n) (sym differs)
         ∙ ap (λ (ys : List ℕ). ys ++ one_if (among n (x ∷ xs)) n) (sym (low-here n x xs l))))
-    by false true e f =
+    by false true e f k =
         let l : n < x = grind (arith, nat_tests) in
         let none : among n (x ∷ xs) ≡ false =
         among_no n x xs (λ (q : x ≡ n). omega (arith, l, q)) ∙ none-below (suc x) n xs (omega (arith, l)) h.1 in
         low-past (suc n) x xs (omega (arith, l)) ∙ (low-none (suc x) (suc n) xs (omega (arith, l)) h.1
         ∙ (sym (low-past n x xs (omega (arith, l)) ∙ low-none (suc x) n xs (omega (arith, l)) h.1)
         ∙ (sym (append-nil (low n (x ∷ xs))) ∙ ap (λ (c : Bool). low n (x ∷ xs) ++ one_if c n) (sym none))))
-    by false false e f =
+    by false false e f k =
         let same : x ≡ n = grind (arith, nat_tests) in
         let there : among n (x ∷ xs) ≡ true = among_yes n x xs same in
         let before : low n (x ∷ xs) ≡ [] =
@@ -99,11 +100,11 @@ low-next m n (x ∷ xs) h = by (ltb x n) (ltb n x) refl refl
 
 pub low-length : (n : ℕ) (xs : List ℕ) → length (low n xs) ≤ length xs
 low-length n [] = omega arith
-low-length n (x ∷ xs) = by (ltb x n)
+low-length n (x ∷ xs) = by (ltb x n) (low-length n xs)
   where
-    by : (b : Bool) → length (low_by b x (low n xs)) ≤ suc (length xs)
-    by true = omega (arith, low-length n xs)
-    by false = omega (arith, low-length n xs)
+    by : (b : Bool) → length (low n xs) ≤ length xs → length (low_by b x (low n xs)) ≤ suc (length xs)
+    by true k = omega (arith, k)
+    by false k = omega (arith, k)
 
 -- at the end all were found
 pub low-all : {F : Type 0} (seats : List Seat) (es : List (Entry F ℕ)) → AreSeated seats es →
@@ -112,3 +113,22 @@ low-all seats [] seated = refl
 low-all seats (e ∷ es) seated =
     low-here (length seats) e.waker (futures_of es) (is_known seats e.waker (place_of e) seated.0)
     ∙ ap (λ (ys : List ℕ). e.waker ∷ ys) (low-all seats es seated.1)
+
+-- what a step of that adds to the list
+
+pub low-found : (n : ℕ) (xs : List ℕ) → IsRising 0 xs → among n xs ≡ true → low (n + 1) xs ≡ low n xs ++ n ∷ []
+low-found n xs h t =
+    let e : n + 1 ≡ suc n = omega arith in
+    ap (λ (k : ℕ). low k xs) e ∙ (low-next 0 n xs h ∙ ap (λ (b : Bool). low n xs ++ one_if b n) t)
+
+pub low-passed : (n : ℕ) (xs : List ℕ) → IsRising 0 xs → among n xs ≡ false → low (n + 1) xs ≡ low n xs
+low-passed n xs h t =
+    let e : n + 1 ≡ suc n = omega arith in
+    ap (λ (k : ℕ). low k xs) e
+    ∙ (low-next 0 n xs h ∙ (ap (λ (b : Bool). low n xs ++ one_if b n) t ∙ append-nil (low n xs)))
+
+-- who is still to be listed has a place
+pub low-room : (n : ℕ) (xs : List ℕ) → IsRising 0 xs → among n xs ≡ true → length (low n xs) < length xs
+low-room n xs h t =
+    let one : length (low n xs ++ n ∷ []) ≡ length (low n xs) + 1 = length-append (low n xs) (n ∷ []) in
+    omega (arith, one, ap length (low-found n xs h t), low-length (n + 1) xs)

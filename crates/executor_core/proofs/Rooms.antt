@@ -1,5 +1,5 @@
 -- Who wakes up leaves as much room, and one sleeper less at most.
-use Rattle.std.proofs.Common.{◌≡◌, ℕ, ◌+◌, ◌-◌, ◌≤◌, ltb, Bool, true, false, List, [], ◌∷◌, ◌++◌, length, refl, arith}
+use Rattle.std.proofs.Common.{◌≡◌, ℕ, ◌+◌, ◌-◌, ◌≤◌, ltb, Bool, true, false, [], ◌∷◌, ◌++◌, length, refl, arith}
 use Rattle.std.specs.Prelude.{Option, Some, None}
 use Rattle.executor_parts.specs.Sleepers.{Sleepers, freed, position_of, woken_up, without_entry}
 use Rattle.executor_model.specs.declared.op.Sleeping.{Sleeping}

@@ -1,5 +1,5 @@
 -- Lists of places.
-use Rattle.std.proofs.Common.{◌≡◌, List, [], ◌∷◌, map, Bool, ◌||◌, refl, ap}
+use Rattle.std.proofs.Common.{◌≡◌, List, [], ◌∷◌, map, ◌||◌, refl, ap}
 use Rattle.std.specs.List.{list_any}
 use Rattle.executor_model.specs.Steps.{lives}
 use Rattle.executor_core.specs.declared.ticks.ticker.Ticker.{Ticker}

@@ -1,5 +1,5 @@
 -- What a contract sees of the places of ticks, and of the sleepers among whom they fall asleep.
-use Rattle.std.specs.Prelude.{ℕ, ◌+◌, ◌-◌, ◌<◌, ◌≤◌, Bool, true, false, List, Option, None, Some, slice_index_or}
+use Rattle.std.specs.Prelude.{ℕ, ◌-◌, ◌<◌, Bool, true, false, List, Option, None, Some, slice_index_or}
 use Rattle.executor_parts.specs.Sleepers.{Sleepers}
 use Rattle.executor_parts.specs.declared.sleepers.Room.{Room}
 use Rattle.executor_model.specs.declared.op.Sleeping.{Sleeping}

@@ -1,6 +1,7 @@
 //! The machine.
 ghost use Rattle.std.specs.Prelude.{◌≡◌, ◌⊎◌, ℕ, ◌+◌, ◌<◌, ◌≤◌, Some, None, Ok, Err, vec_len, vec_capacity};
-ghost use Rattle.std.specs.Prelude.{OnOk, IfOk, IfErr, IfSome};
+ghost use Rattle.std.specs.Prelude.{OnOk, IfOk, IfErr, IfSome, true};
+ghost use Rattle.std.specs.VecDeque.{deque_len, deque_capacity};
 ghost use Rattle.std.specs.Prelude.{MatchOption, slice_get, take, List, length, map};
 ghost use Rattle.executor_model.specs.Steps as steps;
 ghost use Rattle.executor_model.specs.Executions.{run_all};
@@ -43,7 +44,19 @@ impl Model for Machine {
         (record { world = world_of m.store; parties = map (λ v. v.items) m.parties.items }) };
 }
 
-/// Room for one more in each list. What the store stands for stays.
+/// Room for so many more, and one.
+fn reserves(list: &mut VecDeque<u64>, more: usize) -> bool
+    ensures items { list.new.items ≡ list.old.items }
+    ensures room { result ≡ true → deque_len list.new + (more + 1) ≤ deque_capacity list.new }
+{
+    match more.checked_add(1) {
+        Some(all) => list.reserve(all).is_ok(),
+        None => false,
+    }
+}
+
+/// Room for one more in each list, and for all wakers of the table in that of those to be woken. What the store stands for
+/// stays.
 fn make_room(store: &mut Store) -> Result<(), StepError>
     ensures same { world_of store.new ≡ world_of store.old }
     ensures ok { OnOk result (HasRoom store.new) }
@@ -53,10 +66,7 @@ fn make_room(store: &mut Store) -> Result<(), StepError>
         && store.awaiters.reserve(1).is_ok()
         && store.queue.reserve(1).is_ok()
         && store.entries.reserve().is_ok()
-        && store
-            .waking
-            .reserve(store.entries.len().saturating_add(1))
-            .is_ok()
+        && reserves(&mut store.waking, store.entries.len())
         && store.wakers.reserve(1).is_ok()
         && store.ticks_and_runs.reserve().is_ok()
         && store.ticks_and_runs.runs.counts_on()

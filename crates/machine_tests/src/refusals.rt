@@ -1,7 +1,8 @@
 //! What a script can't say: each refusal but the machine's own want of memory, with the state unchanged; copies of wakers
 //! and wakes by value; a tick that a task polls by its own waker; and a later request for memory that is refused.
 use crate::rows::Row::{
-    self, Answered, Begins, Ends, Goes, GoesRefused, Makes, New, Refused, Stands, Unanswered,
+    self, Answered, Begins, Ends, Goes, GoesRefused, Makes, New, NewStatic, Refused, Stands,
+    Unanswered,
 };
 use crate::rows::{DONE, PENDING, READY, plays};
 use executor_model::Call::{
@@ -77,25 +78,28 @@ const ROWS: &[Row] = &[
     Makes(0, Detach(0), &[], Reply::Done),
     Makes(0, TryTick, &[DONE], Reply::Yes),
     Makes(0, IsEmpty, &[], Reply::Yes),
+    NewStatic, // nobody drops or leaks a static executor, and a future that nobody can wake goes once it was polled
+    Refused(0, &[Leak, DropExecutor], Gone),
+    Makes(0, Spawn, &[], Reply::Made),
+    Makes(0, Detach(0), &[], Reply::Done),
+    Makes(0, TryTick, &[PENDING, DONE], Reply::Yes),
+    Makes(0, IsEmpty, &[], Reply::Yes),
     New, // an executor in use is borrowed
     Begins(1, IsEmpty),
-    Refused(0, &[Leak], StepError::Borrowed),
-    Ends(1, &[], Reply::Yes),
-    Begins(1, IsEmpty),
-    Refused(0, &[DropExecutor], StepError::Borrowed),
+    Refused(0, &[Leak, DropExecutor], StepError::Borrowed),
     Ends(1, &[], Reply::Yes),
     Begins(1, TryTick),
-    Refused(0, &[DropExecutor], StepError::Borrowed),
+    Refused(0, &[Leak, DropExecutor], StepError::Borrowed),
     Ends(1, &[], Reply::No),
     Begins(1, Spawn),
-    Refused(0, &[DropExecutor], StepError::Borrowed),
+    Refused(0, &[Leak, DropExecutor], StepError::Borrowed),
     Ends(1, &[], Reply::Made),
     Begins(1, NewTick),
-    Refused(0, &[DropExecutor], StepError::Borrowed),
+    Refused(0, &[Leak, DropExecutor], StepError::Borrowed),
     Ends(1, &[], Reply::Made),
     Makes(1, DropTick(0), &[], Reply::Done),
     Begins(1, NewRun),
-    Refused(0, &[DropExecutor], StepError::Borrowed),
+    Refused(0, &[Leak, DropExecutor], StepError::Borrowed),
     Ends(1, &[], Reply::Made),
     New, // a party without a call is idle
     Stands(0, StepError::Idle),

@@ -14,6 +14,8 @@ pub const DONE: UserEnd = UserEnd::Done;
 pub enum Row {
     /// A list begins, on a new machine.
     New,
+    /// A list begins, on a new static machine.
+    NewStatic,
     /// It begins a call.
     Begins(u32, Call),
     /// It takes so many steps.
@@ -88,7 +90,7 @@ fn are_refused(machine: &mut Machine, party: u32, calls: &[Call], error: StepErr
 
 fn is_met(machine: &mut Machine, row: Row) -> bool {
     match row {
-        Row::New => true,
+        Row::New | Row::NewStatic => true,
         Row::Begins(party, call) => has_begun(machine, party, call),
         Row::Goes(party, steps) => has_gone(machine, party, steps),
         Row::GoesRefused(party) => machine.step(go(party, true)).is_ok(),
@@ -105,19 +107,28 @@ fn is_met(machine: &mut Machine, row: Row) -> bool {
     }
 }
 
+// The kind of the machine on which a list begins with this row.
+fn new_kind(row: Row) -> Option<Kind> {
+    match row {
+        Row::New => Some(Kind::Owned),
+        Row::NewStatic => Some(Kind::Static),
+        _ => None,
+    }
+}
+
 // A machine of three parties with places for two futures.
-fn new_machine<R: AllocGlobal + Abort>(rt: &R) -> Machine {
-    Machine::new(rt.alloc(), 2, Kind::Owned, 3).expect(rt, "room for three parties")
+fn new_machine<R: AllocGlobal + Abort>(rt: &R, kind: Kind) -> Machine {
+    Machine::new(rt.alloc(), 2, kind, 3).expect(rt, "room for three parties")
 }
 
 /// Each list of these rows is played on a machine of its own.
 pub fn plays<R: AllocGlobal + Abort>(rt: &R, rows: &[Row]) {
-    let mut machine = new_machine(rt);
+    let mut machine = new_machine(rt, Kind::Owned);
     let (mut list, mut number) = (0u64, 0u64);
     for row in rows {
         number = number.saturating_add(1);
-        if matches!(row, Row::New) {
-            machine = new_machine(rt);
+        if let Some(kind) = new_kind(*row) {
+            machine = new_machine(rt, kind);
             (list, number) = (list.saturating_add(1), 0);
         }
         assert!(rt; is_met(&mut machine, *row), "list {list}: row {number}");

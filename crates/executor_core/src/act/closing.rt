@@ -11,7 +11,7 @@ ghost use Rattle.executor_model.specs.Good.{IsKnown, CanGrow, IsHeld, HasPlace, 
 ghost use Rattle.executor_model.specs.Good.{IsKnownWaker, CanWake, ClosingNeeds};
 ghost use Rattle.executor_core.specs.Views.{world_of, HasRoom, HasRoomToEnd, HasSpace, Does};
 
-use crate::act::task::move_task;
+use crate::act::task::{leak_task, move_task};
 use crate::store::Store;
 use executor_model::{ClosingOp, Event, Op, UserOp};
 use task_moves::moves::Move;
@@ -126,10 +126,7 @@ fn leak_next(store: &mut Store, todo: &mut Vec<Op>, party: u32)
     if !store.waking.is_empty() {
         todo.push_reserved(Op::Closing(ClosingOp::LeakNext));
     }
-    move_task(store, todo, party, Move::Wake, f);
-    store
-        .trace
-        .push_reserved(Event::Leaked { party, future: f });
+    leak_task(store, todo, party, f);
 }
 
 /// The queue is closed.

@@ -97,3 +97,20 @@ pub fn move_task(store: &mut Store, todo: &mut Vec<Op>, party: u32, kind: Move, 
     }
     carry_out(store, todo, f, moves::after(kind, state));
 }
+
+/// The leak calls the waker of this future, and it is told of behind the wake.
+pub fn leak_task(store: &mut Store, todo: &mut Vec<Op>, party: u32, f: u64)
+    requires room { vec_len store.old.trace + 3 ≤ vec_capacity store.old.trace }
+    requires space { vec_len todo.old + 6 ≤ vec_capacity todo.old }
+    requires needs { CanGrow (world_of store.old) f }
+    ensures { Does (acts.leaked party f (acts.wake party (world_of store.old) f)) store.new todo.old.items todo.new.items }
+{
+    let state = state_of(store, f);
+    if is_told(Move::Wake, state) {
+        store.trace.push_reserved(Event::Woken { party, future: f });
+    }
+    store
+        .trace
+        .push_reserved(Event::Leaked { party, future: f });
+    carry_out(store, todo, f, moves::after(Move::Wake, state));
+}

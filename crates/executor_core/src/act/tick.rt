@@ -89,8 +89,8 @@ fn search(store: &mut Store, todo: &mut Vec<Op>, s: Sleeping)
     }
 }
 
-/// The poll of a tick takes the first Runnable, where there is one, tells another sleeper, and runs it. Else it sleeps
-/// down.
+/// The poll of a tick takes the first Runnable, where there is one, tells another sleeper, and runs it. Else it falls
+/// asleep.
 fn search_tick(store: &mut Store, todo: &mut Vec<Op>, s: Sleeping)
     requires room { HasRoom store.old }
     requires space { HasSpace todo.old }

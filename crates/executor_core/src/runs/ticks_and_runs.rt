@@ -65,10 +65,10 @@ impl TicksAndRuns {
             ≡ (falling.fall_asleep (where_is self.old.ticks self.old.runs sleeping.who) sleeping self.old.flagged_sleepers).fell_asleep }
         ensures sleepers { self.new.flagged_sleepers.sleepers
             ≡ (falling.fall_asleep (where_is self.old.ticks self.old.runs sleeping.who) sleeping
-                self.old.flagged_sleepers).flagged.sleepers }
+            self.old.flagged_sleepers).flagged.sleepers }
         ensures flag { self.new.flagged_sleepers.notified
             ≡ (falling.fall_asleep (where_is self.old.ticks self.old.runs sleeping.who) sleeping
-                self.old.flagged_sleepers).flagged.notified }
+            self.old.flagged_sleepers).flagged.notified }
         ensures ticks { self.new.ticks ≡ record self.old.ticks {
           places =
               ticks_with self.old.ticks.places sleeping.who

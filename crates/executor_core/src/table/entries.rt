@@ -1,6 +1,7 @@
 //! The entries of the machine's futures, by the numbers of these.
 ghost use Rattle.std.specs.Prelude.{◌≡◌, ◌≢◌, ℕ, ◌<◌, ◌==◌, ◌++◌, true, false, List, [], ◌∷◌, length, slice_set};
-ghost use Rattle.std.specs.Prelude.{OnOk, IsOk, IfOk, IfErr, IfSome, IfNone, Some, map, ◌+◌, ◌≤◌, deque_len, deque_capacity};
+ghost use Rattle.std.specs.Prelude.{OnOk, IsOk, IfOk, IfErr, IfSome, IfNone, Some, map, ◌+◌, ◌≤◌};
+ghost use Rattle.std.specs.VecDeque.{deque_len, deque_capacity};
 ghost use Rattle.executor_model.specs.World.{without, among};
 ghost use Rattle.executor_parts.specs.Order.{IsApart};
 ghost use Rattle.executor_parts.specs.Places.{entry_in, waker_of};

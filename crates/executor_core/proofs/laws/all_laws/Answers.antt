@@ -1,5 +1,4 @@
-use Rattle.std.proofs.Common.{List, subst, sym}
-use Rattle.executor_model.specs.declared.step.Step.{Step}
+use Rattle.std.proofs.Common.{subst, sym}
 use Rattle.executor_model.specs.EarlyDrop.{EarlyDropHasCause, LastWakerIsLast}
 use Rattle.executor_model.specs.Steps.{Machine, run, start}
 use Rattle.executor_core.proofs.laws.all_laws.Goals as goal

@@ -1,4 +1,4 @@
-use Rattle.std.proofs.Common.{ℕ, ◌+◌, eqb, cond, ap, sym, ◌∙◌, set, map, refl, arith}
+use Rattle.std.proofs.Common.{◌+◌, eqb, cond, ap, sym, ◌∙◌, set, map, refl, arith}
 use Rattle.executor_model.specs.World.{Run, no_run}
 use Rattle.executor_core.specs.Counted.{Counted}
 use Rattle.executor_core.specs.Runs.{as_run}

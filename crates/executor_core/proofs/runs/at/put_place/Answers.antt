@@ -1,5 +1,5 @@
 use Rattle.std.proofs.Common.{ap, sym, ◌∙◌, set, map, refl, arith}
-use Rattle.executor_model.specs.World.{Run, Ticker, no_run}
+use Rattle.executor_model.specs.World.{Run, no_run}
 use Rattle.executor_core.specs.declared.ticks.ticker.Ticker.{Ticker as TickerOfCode}
 use Rattle.executor_core.specs.Ticks.{as_ticker, is_asleep}
 use Rattle.executor_core.specs.Runs.{as_run}

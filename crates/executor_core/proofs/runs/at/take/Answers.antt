@@ -1,4 +1,4 @@
-use Rattle.std.proofs.Common.{◌≡◌, ℕ, List, [], ◌∷◌, get_or, length, ap, sym, ◌∙◌, set, map, refl, arith}
+use Rattle.std.proofs.Common.{◌≡◌, ℕ, List, [], ◌∷◌, get_or, ap, sym, ◌∙◌, set, map, refl, arith}
 use Rattle.executor_core.specs.declared.runs.run.Run.{Run}
 use Rattle.executor_core.specs.Runs.{as_run}
 use Rattle.executor_core.proofs.Lists.{length-mapped, read, read-written, same, where-none, where-some, written}

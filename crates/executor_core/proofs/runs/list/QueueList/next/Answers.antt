@@ -1,6 +1,5 @@
-use Rattle.std.proofs.Common.{◌-◌, ℕ, List, ap, sym, ◌∙◌}
+use Rattle.std.proofs.Common.{◌-◌, ℕ, ap, sym, ◌∙◌}
 use Rattle.std.specs.Prelude.{Some}
-use Rattle.executor_model.specs.declared.op.Op.{Op}
 use Rattle.executor_model.specs.ActsOfRuns.{walk}
 use Rattle.executor_core.specs.Walks.{goes_to}
 use Rattle.executor_core.proofs.Walking.{passes, stops}

@@ -55,7 +55,14 @@ impl Family {
     /// The files of `data/` with its scripts. Families share some.
     pub fn files(self) -> &'static [&'static str] {
         match self {
-            Family::Machine => &["calls.txt", "steps.txt", "static.txt", "static-steps.txt"],
+            Family::Machine => &[
+                "calls.txt",
+                "steps.txt",
+                "static.txt",
+                "static-steps.txt",
+                "leak.txt",
+                "leak-steps.txt",
+            ],
             Family::Executor => &["calls.txt"],
             Family::Static => &["static.txt", "leak.txt"],
             Family::Queue | Family::Exclusive => &["queue.txt"],
@@ -94,7 +101,7 @@ impl Family {
         match self {
             Family::Machine => machine(rt.alloc(), script),
             Family::Executor => shown_by_executor(players.executors.play(script)),
-            Family::Static => shown_by_executor(players.executors.play_leaks(script)),
+            Family::Static => shown_by_executor(players.executors.play(script)),
             Family::Queue => shown_by_queue(play_shared(rt, rt.alloc(), script)),
             Family::Exclusive => shown_by_queue(play_exclusive(rt.alloc(), script)),
             Family::Task => shown_by_tasks(players.tasks.play(script)),

@@ -7,16 +7,8 @@ use crate::player::Player;
 use crate::seat::{ScriptRun, ScriptTick, SitRun, SitTick};
 use crate::shelf::{Keep, SharedShelf};
 use crate::sitting::Seats;
-use crate::stage::Stage;
 use script::{Command, Plain, Request, Word};
 use std::sync::Wait;
-
-/// A script's commands, of which those at these places are `leak`, in place of `end`.
-#[derive(Clone, Copy)]
-pub struct Commands<'a> {
-    pub all: &'a [Command],
-    pub leaks: &'a [usize],
-}
 
 /// Where the commands on an executor stop.
 #[derive(Clone, Copy)]
@@ -52,36 +44,12 @@ fn whole(command: &Command) -> Option<&Plain> {
     }
 }
 
-impl Commands<'_> {
-    fn is_leak(&self, place: usize) -> bool {
-        self.leaks.iter().any(|leak| *leak == place)
-    }
-
-    /// The executor ends by the command at this place.
-    fn stop_at(&self, place: usize) -> Stop {
-        if self.is_leak(place) {
-            Stop::Leak(place)
-        } else {
-            Stop::End(place)
-        }
-    }
-
-    /// Shows how the command at this place ended.
-    fn show(&self, stage: &Stage, place: usize, plain: &Plain, answer: Answer) {
-        if self.is_leak(place) {
-            stage.show_end(b"leak", b"not possible");
-        } else {
-            show_end(stage, plain.word(), answer);
-        }
-    }
-}
-
 /// Plays the commands until one drops the executor or leaks it.
 pub fn play_open<'a, F, H, K, R>(
     player: &mut Player<H, K>,
     shelf: &'a SharedShelf,
     executor: &'a ScriptExecutor<F, R>,
-    commands: Commands<'_>,
+    commands: &[Command],
 ) -> Stop
 where
     F: Planned<H, R>,
@@ -100,7 +68,7 @@ pub fn play_leaked<'a, F, H, K, R>(
     player: &mut Player<H, K>,
     shelf: &'a SharedShelf,
     executor: &'a ScriptStatic<F, R>,
-    commands: Commands<'_>,
+    commands: &[Command],
     from: usize,
 )
 where
@@ -118,7 +86,7 @@ where
 fn play_on<D, T, N, H, K>(
     player: &mut Player<H, K>,
     desk: &D,
-    commands: Commands<'_>,
+    commands: &[Command],
     from: usize,
 ) -> Stop
 where
@@ -129,40 +97,35 @@ where
     K: Keep,
 {
     let mut seats: Seats<T, N> = Seats::new(player.alloc);
-    for (place, command) in commands.all.iter().enumerate().skip(from) {
+    for (place, command) in commands.iter().enumerate().skip(from) {
         if let Some(plain) = whole(command) {
-            if is_end(plain) && desk.may_end() && seats.are_free() {
-                return commands.stop_at(place);
+            if desk.may_end() && seats.are_free() {
+                match plain {
+                    Plain::End => return Stop::End(place),
+                    Plain::Leak => return Stop::Leak(place),
+                    _ => {}
+                }
             }
             let answer = player.call(desk, &mut seats, plain);
             player.keeper.let_replaced_go();
-            commands.show(&player.stage, place, plain, answer);
+            show_end(&player.stage, plain.word(), answer);
         }
     }
     player.stage.end();
     Stop::Over
 }
 
-fn is_end(plain: &Plain) -> bool {
-    matches!(plain, Plain::End)
-}
-
 /// The executor is dropped, by the command at this place: shows that, and plays what follows.
-pub fn play_closed<H, K>(player: &mut Player<H, K>, commands: Commands<'_>, place: usize)
+pub fn play_closed<H, K>(player: &mut Player<H, K>, commands: &[Command], place: usize)
 where
     H: Hold,
     K: Keep,
 {
     show_end(&player.stage, Word::End, Answer::Done);
-    for (place, command) in commands
-        .all
-        .iter()
-        .enumerate()
-        .skip(place.saturating_add(1))
-    {
+    for command in commands.iter().skip(place.saturating_add(1)) {
         if let Some(plain) = whole(command) {
             let answer = player.call_on_handle(plain);
-            commands.show(&player.stage, place, plain, answer);
+            show_end(&player.stage, plain.word(), answer);
         }
     }
     player.stage.end();

@@ -7,7 +7,6 @@ mod desk;
 mod errors;
 mod future;
 mod handle;
-mod leaks;
 mod outside;
 mod own;
 mod player;

@@ -1,7 +1,8 @@
 //! From the text of a script to the text of what it does.
 ghost use Rattle.std.specs.Prelude.{◌<◌};
 
-use crate::commands::{Commands, Stop, first_not_whole, play_closed, play_leaked, play_open};
+use crate::answer::{Answer, show_end};
+use crate::commands::{Stop, first_not_whole, play_closed, play_leaked, play_open};
 use crate::desk::{ScriptExecutor, ScriptStatic};
 use crate::errors::PlayError;
 use crate::future::Planned;
@@ -11,18 +12,17 @@ use crate::player::Player;
 use crate::shelf::{Keep, KeepIn, SharedShelf, Shelf};
 use crate::stage::{Shared, Stage};
 use async_executor::{Executor, StaticExecutor};
-use script::parse;
+use script::{Command, Word, parse};
 use std::alloc::Global;
 use std::rc::Rc;
 use std::sync::Wait;
 
-/// Plays a script in a realm, as `Plays` says. Those of its commands at these places are `leak`, in place of `end`.
+/// Plays a script in a realm, as `Plays` says.
 pub fn play_script<F, H, K, R>(
     rt: R,
     alloc: Global,
     realm: &'static ScriptRealm<R>,
     script: &[u8],
-    leaks: &[usize],
 ) -> Result<Vec<u8>, PlayError>
 where
     F: Planned<H, R>,
@@ -40,10 +40,6 @@ where
         return Err(PlayError::NoMemory);
     }
     let stage = Stage::new(alloc)?;
-    let commands = Commands {
-        all: script.commands.as_slice(),
-        leaks,
-    };
     play_in::<F, H, K, R>(
         rt,
         alloc,
@@ -51,7 +47,7 @@ where
         &stage,
         script.is_static,
         script.limit as usize,
-        commands,
+        script.commands.as_slice(),
     );
     Ok(stage.take_text()?)
 }
@@ -64,7 +60,7 @@ fn play_in<F, H, K, R>(
     stage: &Shared,
     is_static: bool,
     limit: usize,
-    commands: Commands<'_>,
+    commands: &[Command],
 )
 where
     F: Planned<H, R>,
@@ -117,7 +113,7 @@ fn play_static<F, H, K, R>(
     player: Player<H, K>,
     shelf: &SharedShelf,
     executor: ScriptStatic<F, R>,
-    commands: Commands<'_>,
+    commands: &[Command],
 )
 where
     F: Planned<H, R>,
@@ -135,7 +131,7 @@ fn play_owned<F, H, K, R>(
     player: Player<H, K>,
     shelf: &SharedShelf,
     executor: ScriptExecutor<F, R>,
-    commands: Commands<'_>,
+    commands: &[Command],
 )
 where
     F: Planned<H, R>,
@@ -152,7 +148,7 @@ where
         }
         Stop::Leak(place) => {
             let executor = executor.leak();
-            player.stage.show_end(b"leak", b"done");
+            show_end(&player.stage, Word::Leak, Answer::Done);
             play_leaked(
                 &mut player,
                 &*shelf,

@@ -3,7 +3,6 @@
 use crate::errors::PlayError;
 use crate::future::{Planned, Scripted};
 use crate::handle::{Handle, HoldIn};
-use crate::leaks::read_leaks;
 use crate::outside::ScriptRealm;
 use crate::playing::play_script;
 use crate::shelf::{KeepIn, Keeper};
@@ -13,14 +12,12 @@ use std::sync::Wait;
 
 /// Where scripts are played, each on an executor of its own.
 pub trait Plays {
-    /// Plays a script of `taskrun sim` on an executor of its own, owned or static, and gives the text of what happens: that of the simulator. It
-    /// takes whole calls of one party; `begin`, `go`, `finish` and `refuse` are `NotWhole`. Before anything is played the first
-    /// bad line is refused, and then the first that isn't whole. A static executor has no `end`, and `empty` is answered there by
-    /// the player's own count of drops.
+    /// Plays a script of `taskrun sim` on an executor of its own, owned or static, and gives the text of what happens: that of
+    /// the simulator. It takes whole calls of one party; `begin`, `go`, `finish` and `refuse` are `NotWhole`. Before anything is
+    /// played the first bad line is refused, and then the first that isn't whole. Behind a `leak` the executor is the static one
+    /// that this gives. A static executor has no `end` and no `leak`, and `empty` is answered there by the player's own count of
+    /// drops.
     fn play(&self, script: &[u8]) -> Result<Vec<u8>, PlayError>;
-
-    /// The same of a script that may have lines `leak`, by which its executor becomes a static one.
-    fn play_leaks(&self, script: &[u8]) -> Result<Vec<u8>, PlayError>;
 }
 
 /// Where the futures of scripts are `F`, their handles `H`, and who keeps their wakers `K`. The tasks of all scripts lie in the
@@ -44,17 +41,6 @@ where
     R: Wait + Copy + Drop + 'static,
 {
     fn play(&self, script: &[u8]) -> Result<Vec<u8>, PlayError> {
-        play_script::<F, H, K, R>(self.rt, self.alloc, self.realm, script, &[])
-    }
-
-    fn play_leaks(&self, script: &[u8]) -> Result<Vec<u8>, PlayError> {
-        let leaks = read_leaks(self.alloc, script)?;
-        play_script::<F, H, K, R>(
-            self.rt,
-            self.alloc,
-            self.realm,
-            leaks.text.as_slice(),
-            leaks.places.as_slice(),
-        )
+        play_script::<F, H, K, R>(self.rt, self.alloc, self.realm, script)
     }
 }

@@ -130,8 +130,8 @@ AreGood-says limit is_static commands (first ∷ later) says short few = (
 )
 
 -- a script has no bad line
-pub IsScript-none : (text : List ℕ) (limit number : ℕ) (is_static : Bool) (commands : List Command) → IsScript text limit is_static commands →
-    ¬ (IsFirstBadLine text number)
+pub IsScript-none : (text : List ℕ) (limit number : ℕ) (is_static : Bool) (commands : List Command) →
+    IsScript text limit is_static commands → ¬ (IsFirstBadLine text number)
 IsScript-none text limit number is_static commands is =
     IsFirstBad-none IsGood text number (AreGood-says limit is_static commands (lines_of text) is.says is.short is.few)
 

@@ -65,6 +65,7 @@ IsSpelled-one (plain.Run name twice) (plain.Run name' twice') words p q =
     cc
 IsSpelled-one (plain.PollRun name) (plain.PollRun name') words p q = cc
 IsSpelled-one (plain.DropRun name) (plain.DropRun name') words p q = cc
+IsSpelled-one plain.Leak plain.Leak words p q = refl
 IsSpelled-one plain.End plain.End words p q = refl
 IsSpelled-one plain other words p q = grind arith
 

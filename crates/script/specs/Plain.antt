@@ -6,7 +6,7 @@ use Rattle.script.specs.declared.item.Item.TheVariants.{Twice}
 use Rattle.script.specs.declared.plain.Plain.{Plain}
 use Rattle.script.specs.declared.plain.Plain.TheVariants.{Spawn, Try, Empty, Wake, Unkeep, Poll, Cancel}
 use Rattle.script.specs.declared.plain.Plain.TheVariants.{Detach, Drop, Tick, PollTick, DropTick}
-use Rattle.script.specs.declared.plain.Plain.TheVariants.{Run, PollRun, DropRun, End}
+use Rattle.script.specs.declared.plain.Plain.TheVariants.{Run, PollRun, DropRun, Leak, End}
 use Rattle.script.specs.declared.word.Word.{Word}
 use Rattle.script.specs.declared.word.Word.TheVariants as word
 
@@ -40,6 +40,7 @@ IsSpelled (Run name twice) words =
     × IsTwice twice spelled
 IsSpelled (PollRun name) words = (words ≡ codes "pollrun" ∷ name ∷ []) × IsName name
 IsSpelled (DropRun name) words = (words ≡ codes "droprun" ∷ name ∷ []) × IsName name
+IsSpelled Leak words = words ≡ codes "leak" ∷ []
 IsSpelled End words = words ≡ codes "end" ∷ []
 
 -- the word under which a command's answer is printed
@@ -59,4 +60,5 @@ word_of (DropTick name) = word.DropTick
 word_of (Run name twice) = word.Run
 word_of (PollRun name) = word.PollRun
 word_of (DropRun name) = word.DropRun
+word_of Leak = word.Leak
 word_of End = word.End

@@ -2,7 +2,7 @@
 use Rattle.std.specs.Prelude.{ℕ, List, codes}
 use Rattle.script.specs.declared.word.Word.{Word}
 use Rattle.script.specs.declared.word.Word.TheVariants.{Spawn, Try, Empty, Wake, Unkeep, Poll, Cancel, Detach, Drop}
-use Rattle.script.specs.declared.word.Word.TheVariants.{Tick, PollTick, DropTick, Run, PollRun, DropRun, End, Begin, Go, Finish}
+use Rattle.script.specs.declared.word.Word.TheVariants.{Tick, PollTick, DropTick, Run, PollRun, DropRun, Leak, End, Begin, Go, Finish}
 
 abbrev pub word_text : Word → List ℕ
 word_text Spawn = codes "spawn"
@@ -20,6 +20,7 @@ word_text DropTick = codes "droptick"
 word_text Run = codes "run"
 word_text PollRun = codes "pollrun"
 word_text DropRun = codes "droprun"
+word_text Leak = codes "leak"
 word_text End = codes "end"
 word_text Begin = codes "begin"
 word_text Go = codes "go"

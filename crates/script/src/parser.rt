@@ -1,6 +1,7 @@
 //! A text read as a script.
 
-ghost use Rattle.std.specs.Prelude.{◌≡◌, ◌≢◌, ◌↔◌, Bool, ℕ, suc, ◌+◌, ◌<◌, [], List, None, Ok, Err, IfNone, IfOk, IfSome, IsErrOf, IsOkUnless};
+ghost use Rattle.std.specs.Prelude.{◌≡◌, ◌≢◌, ◌↔◌, Bool, ℕ, suc, ◌+◌, ◌<◌, [], List, None, Ok, Err};
+ghost use Rattle.std.specs.Prelude.{IfNone, IfOk, IfSome, IsErrOf, IsOkUnless};
 ghost use Rattle.script.specs.Script.{kind_words, IsFirstLine, IsCommand, IsShort, IsScript};
 ghost use Rattle.script.specs.BadLine.{IsGood, IsFirstBadLine};
 ghost use Rattle.script.specs.declared.command.Command.{Command};

@@ -46,6 +46,8 @@ pub enum Plain {
     PollRun(Name),
     /// `droprun r`: the run is dropped.
     DropRun(Name),
+    /// `leak`: the executor is made a static one.
+    Leak,
     /// `end`: the executor is dropped.
     End,
 }
@@ -73,6 +75,7 @@ impl Plain {
             Plain::Run { .. } => Word::Run,
             Plain::PollRun(_) => Word::PollRun,
             Plain::DropRun(_) => Word::DropRun,
+            Plain::Leak => Word::Leak,
             Plain::End => Word::End,
         }
     }
@@ -95,6 +98,8 @@ pub fn read_plain(
         Ok(words.is_empty().then_some(Plain::Try))
     } else if first == b"empty".as_slice() {
         Ok(words.is_empty().then_some(Plain::Empty))
+    } else if first == b"leak".as_slice() {
+        Ok(words.is_empty().then_some(Plain::Leak))
     } else if first == b"end".as_slice() {
         Ok(words.is_empty().then_some(Plain::End))
     } else {
@@ -108,6 +113,7 @@ fn read_named(first: &[u8], words: Words<'_>) -> Option<Plain>
     requires spawn { first.now ≢ codes "spawn" }
     requires try_tick { first.now ≢ codes "try" }
     requires empty { first.now ≢ codes "empty" }
+    requires leak { first.now ≢ codes "leak" }
     requires end { first.now ≢ codes "end" }
     ensures found { IfSome result (λ plain. IsSpelled plain (first.now ∷ words.entry)) }
     ensures none { IfNone result ((plain : Plain) → ¬ (IsSpelled plain (first.now ∷ words.entry))) }
@@ -135,6 +141,7 @@ fn read_on_tick(first: &[u8], words: Words<'_>) -> Option<Plain>
     requires spawn { first.now ≢ codes "spawn" }
     requires try_tick { first.now ≢ codes "try" }
     requires empty { first.now ≢ codes "empty" }
+    requires leak { first.now ≢ codes "leak" }
     requires end { first.now ≢ codes "end" }
     requires wake { first.now ≢ codes "wake" }
     requires unkeep { first.now ≢ codes "unkeep" }
@@ -162,6 +169,7 @@ fn read_on_run(first: &[u8], words: Words<'_>) -> Option<Plain>
     requires spawn { first.now ≢ codes "spawn" }
     requires try_tick { first.now ≢ codes "try" }
     requires empty { first.now ≢ codes "empty" }
+    requires leak { first.now ≢ codes "leak" }
     requires end { first.now ≢ codes "end" }
     requires wake { first.now ≢ codes "wake" }
     requires unkeep { first.now ≢ codes "unkeep" }

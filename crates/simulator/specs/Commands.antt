@@ -138,6 +138,7 @@ call_of s (plain.DropTick name) = on (number_of s.ticks name) (λ t. call.DropTi
 call_of s (plain.Run name twice) = call_of_run (is_free s name && is_holdable s twice)
 call_of s (plain.PollRun name) = on (number_of s.run_names name) poll_of_run
 call_of s (plain.DropRun name) = on (number_of s.run_names name) (λ r. call.DropRun r)
+call_of s plain.Leak = Some call.Leak
 call_of s plain.End = Some call.DropExecutor
 
 -- what the script knows once a command has begun

@@ -174,3 +174,20 @@ try: false
 ";
     shows(&rt, script, text);
 }
+
+#[test]
+fn a_leak_wakes_whom_the_table_alone_could_wake(rt: HostRuntime) {
+    let script = "limit 1\nspawn a pend\ntry\nleak\ntry\ntry\n";
+    let text = "\
+spawn: ok
+poll a
+pending a
+try: true
+leak: done
+poll a
+pending a
+try: true
+try: false
+";
+    shows(&rt, script, text);
+}

@@ -212,6 +212,7 @@ impl<'a> Player<'a> {
             Plain::Run { name, twice } => self.call_of_run(*name, *twice),
             Plain::PollRun(name) => self.run_named(*name).map(poll_of_run),
             Plain::DropRun(name) => self.run_named(*name).map(Call::DropRun),
+            Plain::Leak => Some(Call::Leak),
             Plain::End => Some(Call::DropExecutor),
         }
     }

@@ -65,7 +65,7 @@ fn named(plain: &Plain) -> Option<Name>
         | Plain::Cancel(name)
         | Plain::Detach(name)
         | Plain::Drop(name) => Some(*name),
-        Plain::Spawn { .. } | Plain::Try | Plain::Empty | Plain::End => None,
+        Plain::Spawn { .. } | Plain::Try | Plain::Empty | Plain::Leak | Plain::End => None,
         Plain::Tick(_) | Plain::PollTick(_) | Plain::DropTick(_) => None,
         Plain::Run { .. } | Plain::PollRun(_) | Plain::DropRun(_) => None,
     }

@@ -36,4 +36,5 @@ no_bad_line {X = X} (Err e) error number memory fault same =
 pub returns-in_err-text-clause-good_lines : goal.returns-in_err-text-clause-good_lines
 returns-in_err-text-clause-good_lines g c = λ number.
     of_all _ c.in_ok-input.input.items _ c.in_ok-input.ensures.whole (λ good.
-    no_bad_line _ c.in_err-text.field-0.0 number (c.in_err-text.ensures.good_input (rw c.as_slice.ensures.value good)) c.from_residual-in_err-text.ensures.1)
+    no_bad_line _ c.in_err-text.field-0.0 number (c.in_err-text.ensures.good_input (rw c.as_slice.ensures.value good))
+    c.from_residual-in_err-text.ensures.1)

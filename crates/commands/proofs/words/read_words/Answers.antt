@@ -30,7 +30,13 @@ returns-then-eq-clause-found c =
 
 pub returns-in-Some-clause-found : goal.returns-in-Some-clause-found
 returns-in-Some-clause-found c =
-    let two = map_two string_bytes c.args.words.now c.word-item-then-words-lt3.result c.count-item.result c.in-len2.len_at_least c.in-len2.len_below c.word-item-then-words-lt3.is c.count-item.is in
+    let two = map_two string_bytes c.args.words.now c.word-item-then-words-lt3.result c.count-item.result
+    c.in-len2.len_at_least c.in-len2.len_below c.word-item-then-words-lt3.is c.count-item.is in
     let wanted = is_wanted c.eq-in-len2.result c.as_str-in-len2.result.now _ c.eq-in-len2.ensures c.if-eq-2.true in
-    let number = c.in-Some.ensures.found in
-    (string_bytes c.count-item.result, two ∙ ap (λ word. word ∷ string_bytes c.count-item.result ∷ []) (sym c.as_str-in-len2.ensures.value ∙ wanted), rw (← c.as_bytes.ensures.value) number.0, number.1, number.2)
+    let number = c.in-Some.ensures.found in (
+      string_bytes c.count-item.result,
+      two ∙ ap (λ word. word ∷ string_bytes c.count-item.result ∷ []) (sym c.as_str-in-len2.ensures.value ∙ wanted),
+      rw (← c.as_bytes.ensures.value) number.0,
+      number.1,
+      number.2,
+    )

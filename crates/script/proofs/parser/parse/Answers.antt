@@ -39,7 +39,8 @@ returns-in_err-command-clause-bad c = λ number is.
     let same : c.in_err-command.field-0.0 ≡ BadLine number = cc in
     let bad = c.in_err-command.ensures.bad number (ap Err same) in
     let counted : c.len.result ≡ length c.loop-line.commands.items = search rules in
-    HasParsed-bad c.in-Some-read_opening.opening.limit number c.in-Some-read_opening.opening.is_static c.loop-line.commands.items c.args.text.now
+    let opening = c.in-Some-read_opening.opening in
+    HasParsed-bad opening.limit number opening.is_static c.loop-line.commands.items c.args.text.now
     c.in-Some-line.line.now c.loop-line.line-iterator c.next-in-loop-line.new.self c.loop-line.invariant
     c.in-Some-line.ensures.steps (rw (← counted) bad.0) (rw (← counted) bad.1)
 
@@ -54,15 +55,19 @@ loop-line-preserved c =
     let commands = c.loop-line.commands.items in
     let pushed : c.push.new.self.items ≡ commands ++ c.in_ok-command.command ∷ [] = grind (arith, common_steps) in
     let counted : c.len.result ≡ length commands = search rules in
-    rw pushed (HasParsed-push c.in-Some-read_opening.opening.limit c.in-Some-read_opening.opening.is_static commands c.args.text.now c.loop-line.line-iterator
+    let opening = c.in-Some-read_opening.opening in
+    rw pushed (HasParsed-push opening.limit opening.is_static commands c.args.text.now c.loop-line.line-iterator
     c.next-in-loop-line.new.self c.in_ok-command.command c.in-Some-line.line.now c.loop-line.invariant
     c.in-Some-line.ensures.steps c.in_ok-command.ensures.good.0 (rw (← counted) c.in_ok-command.ensures.good.1))
 
 pub returns-clause-script : goal.returns-clause-script
 returns-clause-script c =
-    HasParsed-all c.in-Some-read_opening.opening.limit c.in-Some-read_opening.opening.is_static c.loop-line.commands.items c.args.text.now c.loop-line.line-iterator
+    let opening = c.in-Some-read_opening.opening in
+    HasParsed-all opening.limit opening.is_static c.loop-line.commands.items c.args.text.now c.loop-line.line-iterator
     c.loop-line.invariant c.in-None.ensures.steps.0
 
 pub returns-clause-only : goal.returns-clause-only
 returns-clause-only c = λ limit is_static commands is.
-    IsScript-one c.args.text.now c.in-Some-read_opening.opening.limit limit c.in-Some-read_opening.opening.is_static is_static c.loop-line.commands.items commands (returns-clause-script c) is
+    let opening = c.in-Some-read_opening.opening in
+    IsScript-one c.args.text.now opening.limit limit opening.is_static is_static c.loop-line.commands.items commands
+    (returns-clause-script c) is

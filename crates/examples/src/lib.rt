@@ -3,14 +3,8 @@
 #![tactic(auto)]
 
 #[cfg(test)]
-mod actor;
-#[cfg(test)]
 mod first_task;
 #[cfg(test)]
 mod pipeline;
-#[cfg(test)]
-mod thread_pool;
-#[cfg(test)]
-mod timer;
 #[cfg(test)]
 mod two_kinds;

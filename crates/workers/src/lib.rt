@@ -6,8 +6,10 @@ mod fault;
 mod from;
 mod join_all;
 mod running;
+#[cfg(test)]
+mod tests;
 
-pub use crew::{Crew, Team, run_workers};
+pub use crew::run_workers;
 pub use fault::Fault;
 pub use join_all::JoinAll;
 pub use running::{answer, complete, run_until};

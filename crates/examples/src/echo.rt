@@ -1,13 +1,12 @@
 //! Echo over pipes in memory: ten connections, each a pipe to the server and one back, with a future at either end. The server's
 //! end sends back what it hears. A client sends 10, then the next lower number each time, until 0 came back.
-#![tactic(auto)]
-
-use async_executor::{ExWaker, Executor};
-use async_task::{Future, Poll, Realm};
+use async_executor::ExWaker;
+use async_task::{Future, Poll};
 use blocking::ThreadWaker;
-use std::{io, sync};
+use std::alloc::Global;
+use std::io;
+use std::sync::Wait;
 use waiting::channel::{self, Receiver, Sender};
-use workers::{Fault, JoinAll, run_until};
 
 type Waker<R> = ExWaker<u64, ThreadWaker, R>;
 
@@ -15,9 +14,9 @@ type Pipes<R> = (Sender<u64, Waker<R>, R>, Receiver<u64, Waker<R>, R>);
 
 /// An end: its pipes, what it sends next, how much lower it sends a number back than it came, and how many came.
 #[derive(Drop)]
-struct End<R: sync::Wait + Copy + Drop + 'static>(R, Pipes<R>, Option<u64>, u64, u64);
+pub struct End<R: Wait + Copy + Drop + 'static>(R, Pipes<R>, Option<u64>, u64, u64);
 
-impl<R: sync::Wait + Copy + Drop + 'static> Future<Waker<R>> for End<R> {
+impl<R: Wait + Copy + Drop + 'static> Future<Waker<R>> for End<R> {
     type Output = u64;
 
     fn poll(&mut self, waker: &Waker<R>) -> Poll<u64> {
@@ -41,18 +40,14 @@ impl<R: sync::Wait + Copy + Drop + 'static> Future<Waker<R>> for End<R> {
     }
 }
 
-fn main(rt: HostRuntime) -> io::Result<()> {
-    let (alloc, realm) = (rt.alloc(), Realm::leak(rt, rt.alloc())?);
-    let server = Executor::new(rt, alloc, realm, 20)?;
-    let mut ends = Vec::new(alloc);
+/// The ends of ten connections.
+pub fn ends<R: Wait + Copy + Drop + 'static>(rt: R, alloc: Global) -> io::Result<Vec<End<R>>> {
+    let mut ends = Vec::with_capacity(alloc, 20)?;
     for _ in 0..10 {
-        let (to, come) = channel::bounded(rt, alloc, 4).map_err(Fault::from)?;
-        let (back, from) = channel::bounded(rt, alloc, 4).map_err(Fault::from)?;
+        let (to, come) = channel::bounded(rt, alloc, 4)?;
+        let (back, from) = channel::bounded(rt, alloc, 4)?;
         ends.push(End(rt, (back, come), None, 0, 0))?;
         ends.push(End(rt, (to, from), Some(10), 1, 0))?;
     }
-    let (handles, _) = server.spawn_many(&mut ends.into_iter());
-    let all = JoinAll::new(rt, alloc, realm, handles);
-    let heard = run_until(&rt, alloc, &server, 0, all)?.map_err(Fault::from)?;
-    println!(rt; "{heard:?}")
+    Ok(ends)
 }

@@ -36,7 +36,7 @@ impl<R: Wait + Copy + Drop + 'static> Future<Waker<R>> for Account<R> {
 }
 
 /// Three clients send the deposits 1 to 100 each; then the mailbox is closed.
-pub fn deposit<R: Threads + Sync + Wait + Copy + Drop + 'static>(
+pub fn deposit<R: Threads + Send + Sync + Wait + Copy + Drop + 'static>(
     rt: &R,
     alloc: Global,
     mailbox: &Sender<u64, Waker<R>, R>,

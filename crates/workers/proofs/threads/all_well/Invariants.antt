@@ -3,4 +3,4 @@ use Rattle.std.specs.Prelude.{vec_items}
 use Rattle.workers.proofs.threads.all_well.Given as goal
 
 abbrev pub invariant-loop-end : goal.invariant-loop-end
-invariant-loop-end l = map Ok (vec_items l.outputs) ≡ l.yielded
+invariant-loop-end g l = map Ok (vec_items l.outputs) ≡ l.yielded

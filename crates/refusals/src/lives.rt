@@ -2,6 +2,7 @@
 use crate::calls::{Spawned, executor, memory, poll_run, poll_tick, run, spawn, spawn_three, tick};
 use crate::parts::{Bell, TestExecutor, TestRealm, TestTask, TestWaker};
 use crate::report::Report;
+use crate::waits::wait;
 use async_executor::Handles;
 use async_task::{Awaiter, Future, Poll};
 use std::alloc::Global;
@@ -33,6 +34,7 @@ pub fn live<R: Wait + Copy + Drop + 'static>(
     is_so
         & leak(rt, alloc, realm, &waker, report)
         & close(executor, &waker, report)
+        & wait(rt, alloc, report)
         & memory(alloc, report).is_some()
 }
 

@@ -1,4 +1,4 @@
-//! Makes each call of an executor that takes memory, does two jobs as `taskrun jobs 2` does, and goes on after a refusal: the one
+//! Makes each call of an executor and of what waits that takes memory, does two jobs as `taskrun jobs 2` does, and goes on after a refusal: the one
 //! request for memory that is refused is met by one call, which answers so, and everything is as before.
 //!
 //! Standard input has the number of requests that are made first, for nothing: so the same program meets a refusal wherever
@@ -10,6 +10,7 @@ mod lives;
 mod parts;
 mod report;
 mod two_jobs;
+mod waits;
 
 use jobs::{JobPlace, JobRealm, Open};
 use lives::live;

@@ -12,6 +12,13 @@ pub enum Call {
     Run,
     PollOfRun,
     SpawnMany,
+    /// Those of `waiting`.
+    Event,
+    Listen,
+    Oneshot,
+    Channel,
+    Recv,
+    Send,
     /// None of an executor: the realm of jobs.
     JobRealm,
     /// None of an executor: what `taskrun jobs 2` does.
@@ -33,6 +40,12 @@ impl fmt::Display for Call {
             Call::Run => "run",
             Call::PollOfRun => "poll of a run",
             Call::SpawnMany => "spawn_many",
+            Call::Event => "event",
+            Call::Listen => "listen",
+            Call::Oneshot => "oneshot",
+            Call::Channel => "channel",
+            Call::Recv => "recv",
+            Call::Send => "send",
             Call::JobRealm => "realm of jobs",
             Call::Jobs => "jobs",
             Call::Own => "its own",

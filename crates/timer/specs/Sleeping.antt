@@ -1,12 +1,21 @@
--- What each call does with the places of those who sleep.
-use Rattle.std.specs.Prelude.{◌≡◌, ℕ, Option, Some, None}
+-- What each call does with those who sleep, and with their places.
+use Rattle.std.specs.Prelude.{◌≡◌, ℕ, true, false, List, [], Option, Some, None}
 use Rattle.slab.specs.Slab.{Slab, get, Updates}
+use Rattle.timer.specs.Order.{IsDue, Turns, entries}
+use Rattle.timer.specs.declared.agenda.Turn.TheVariants as turn
+use Rattle.timer.specs.declared.deadlines.Deadlines.{Deadlines}
 use Rattle.timer.specs.declared.deadlines.Place.{Place}
 use Rattle.timer.specs.declared.deadlines.Place.TheVariants.{Asleep, Due}
 use Rattle.timer.specs.declared.deadlines.Looked.{Looked}
 use Rattle.timer.specs.declared.deadlines.Looked.TheVariants as looked
+use Rattle.timer.specs.declared.deadlines.Next.{Next}
+use Rattle.timer.specs.declared.deadlines.Next.TheVariants as next
 
 module _ {K : Type 0} where
+  -- when each of those who sleep is due, with its place
+  abbrev pub sleepers : Deadlines K → List (ℕ × ℕ)
+  sleepers s = entries s.agenda.heap
+
   -- the waker of who sleeps at this place
   abbrev pub waker_at : Option (Place K) → Option K
   waker_at (Some (Asleep waker)) = waker
@@ -19,3 +28,24 @@ module _ {K : Type 0} where
       (bed.place ≡ place) × (get old place ≡ Some (Asleep before)) × (get new place ≡ Some (Asleep waker))
   HasLooked place waker old new (looked.Due back) =
       (back ≡ waker) × (waker_at (get old place) ≡ None) × Updates old new place None
+
+  -- who stands at this place is due from now on, if anyone does
+  abbrev pub made_due : Option (Place K) → Option (Place K)
+  made_due (Some place) = Some Due
+  made_due None = None
+
+  -- who sleeps at this place is due from now on, and its waker comes out
+  pub record IsDueAt (place : ℕ) (old new : Deadlines K) (waker : Option K) : Type 0 where
+    pub places : Updates old.places new.places place (made_due (get old.places place))
+    pub waker_out : waker ≡ waker_at (get old.places place)
+    pub agenda : new.agenda ≡ old.agenda
+    pub is_closed : new.is_closed ≡ old.is_closed
+
+  -- what a driver found at this time: one who was due, and is told; or nobody is due yet, or sleeps, and all is as before
+  abbrev pub HasTold : ℕ → Deadlines K → Deadlines K → Next K → Type 0
+  HasTold now old new (next.Told waker) =
+      (place : ℕ) × IsDue now place (sleepers old) (sleepers new) × Updates old.places new.places place (made_due (get old.places place))
+      × (waker ≡ waker_at (get old.places place))
+  HasTold now old new (next.In rest) = Turns now (sleepers old) (sleepers new) (turn.In rest) × (new.places ≡ old.places)
+  HasTold now old new next.Nobody = (sleepers old ≡ []) × (old.is_closed ≡ false) × (new.places ≡ old.places)
+  HasTold now old new next.Closed = (sleepers old ≡ []) × (old.is_closed ≡ true) × (new.places ≡ old.places)

@@ -1,26 +1,26 @@
 //! Those who sleep, and when each is due.
-ghost use Rattle.std.specs.Prelude.{◌≡◌, IfOk, OnErr, Err, false, true, None, Some};
-ghost use Rattle.std.specs.BinaryHeap.{heap_items};
+ghost use Rattle.std.specs.Prelude.{◌≡◌, ◌∷◌, [], Err, IfOk, IsPermutation, None, OnErr, Some, false, true};
+ghost use Rattle.std.specs.Duration.{as_nanos};
 ghost use Rattle.slab.specs.Slab.{get, Updates};
-ghost use Rattle.timer.specs.Sleeping.{HasLooked, waker_at};
+ghost use Rattle.timer.specs.Order.{Stay};
+ghost use Rattle.timer.specs.Sleeping.{HasLooked, HasTold, IsDueAt, sleepers, waker_at};
 ghost use Rattle.timer.specs.declared.deadlines.Place.TheVariants.{Asleep};
 ghost use Rattle.timer.specs.declared.deadlines.Refused.TheVariants.{Closed};
 
+use crate::agenda::{Agenda, Turn};
 use slab::Slab;
 use std::alloc::{AllocError, Global};
-use std::cmp::Reverse;
-use std::collections::BinaryHeap;
 use std::mem;
 use std::time::Duration;
 
-/// Those who sleep, at most as many as the limit says: a heap of deadlines, and a place for each with the waker that it left last.
+/// Those who sleep, at most as many as the limit says: when each is due, and a place for each with the waker that it left last.
 /// Each call is one section of whoever locks it, and none but `with_room` takes memory. None calls or drops a waker: what comes
 /// out is to be called or dropped once the lock is given back.
 #[derive(Drop)]
 pub struct Deadlines<K> {
     limit: usize,
     is_closed: bool,
-    heap: BinaryHeap<Reverse<(Duration, usize)>>,
+    agenda: Agenda,
     places: Slab<Place<K>>,
 }
 
@@ -62,8 +62,8 @@ pub enum Looked<K> {
 pub enum Next<K> {
     /// One was due, and is so marked. The waker that it left, to be called once the lock is given back.
     Told(Option<K>),
-    /// Nobody is due before this.
-    At(Duration),
+    /// Nobody is due before so many nanoseconds have passed.
+    In(u128),
     /// Nobody sleeps.
     Nobody,
     /// Nobody sleeps, and nobody may any more.
@@ -75,14 +75,15 @@ impl<K: Drop> Deadlines<K> {
     pub fn with_room(alloc: Global, limit: usize) -> Result<Self, AllocError>
         ensures limit { IfOk result (λ s. s.limit ≡ limit) }
         ensures open { IfOk result (λ s. s.is_closed ≡ false) }
+        ensures nobody { IfOk result (λ s. sleepers s ≡ []) }
     {
-        let heap = BinaryHeap::with_capacity(alloc, limit)?;
+        let agenda = Agenda::with_room(alloc, limit)?;
         let mut places = Slab::new(alloc);
         places.reserve(limit)?;
         Ok(Deadlines {
             limit,
             is_closed: false,
-            heap,
+            agenda,
             places,
         })
     }
@@ -90,17 +91,18 @@ impl<K: Drop> Deadlines<K> {
     /// One more sleeps, until it is due at this time.
     pub fn enter(&mut self, due: Duration) -> Result<Bed, Refused>
         ensures asleep { IfOk result (λ bed. get self.new.places bed.place ≡ Some (Asleep None)) }
+        ensures due { IfOk result (λ bed. IsPermutation ((as_nanos due, bed.place) ∷ sleepers self.old) (sleepers self.new)) }
         ensures closed { self.old.is_closed ≡ true → result ≡ Err Closed }
-        ensures refused { OnErr result (heap_items self.new.heap ≡ heap_items self.old.heap) }
+        ensures refused { OnErr result (sleepers self.new ≡ sleepers self.old) }
     {
         if self.is_closed {
             return Err(Refused::Closed);
         }
-        if self.places.len() >= self.limit || self.heap.len() >= self.limit {
+        if self.places.len() >= self.limit || self.agenda.len() >= self.limit {
             return Err(Refused::Full);
         }
         match self.places.insert(Place::Asleep(None)) {
-            Ok(place) => match self.heap.push(Reverse((due, place))) {
+            Ok(place) => match self.agenda.add(due.as_nanos(), place) {
                 Ok(()) => Ok(Bed { place }),
                 Err(_) => {
                     let _ = self.places.try_remove(place);
@@ -113,7 +115,8 @@ impl<K: Drop> Deadlines<K> {
 
     /// Whether it is due. Where it isn't, it leaves this waker in the place of the one before.
     pub fn look(&mut self, bed: Bed, waker: Option<K>) -> Looked<K>
-        ensures { HasLooked bed.place waker self.old.places self.new.places result }
+        ensures looked { HasLooked bed.place waker self.old.places self.new.places result }
+        ensures others { sleepers self.new ≡ sleepers self.old }
     {
         let Bed { place } = bed;
         match self.places.try_remove(place) {
@@ -129,36 +132,38 @@ impl<K: Drop> Deadlines<K> {
     pub fn leave(&mut self, bed: Bed) -> Option<K>
         ensures waker { result ≡ waker_at (get self.old.places bed.place) }
         ensures left { Updates self.old.places self.new.places bed.place None }
+        ensures others { Stay bed.place (sleepers self.old) (sleepers self.new) }
     {
         let Bed { place } = bed;
+        self.agenda.forget(place);
         match self.places.try_remove(place) {
-            Some(Place::Asleep(waker)) => {
-                self.heap.retain(|Reverse((_, other))| *other != place);
-                waker
-            }
+            Some(Place::Asleep(waker)) => waker,
             Some(Place::Due) | None => None,
         }
     }
 
-    /// Marks the one who is due first as due, where its time has come.
-    pub fn tell(&mut self, now: Duration) -> Next<K> {
-        let due = match self.heap.peek() {
-            Some(Reverse((due, _))) => *due,
-            None if self.is_closed => return Next::Closed,
-            None => return Next::Nobody,
-        };
-        if now < due {
-            return Next::At(due);
+    /// Tells the one who is due first, where its time has come: it is marked as due.
+    pub fn tell(&mut self, now: Duration) -> Next<K>
+        ensures { HasTold (as_nanos now) self.old self.new result }
+    {
+        match self.agenda.turn(now.as_nanos()) {
+            Turn::Of(place) => Next::Told(self.wake_up(place)),
+            Turn::In(rest) => Next::In(rest),
+            Turn::Nobodys if self.is_closed => Next::Closed,
+            Turn::Nobodys => Next::Nobody,
         }
-        let Some(Reverse((_, place))) = self.heap.pop() else {
-            return Next::Nobody;
-        };
+    }
+
+    /// Marks who sleeps at this place as due: its waker.
+    fn wake_up(&mut self, place: usize) -> Option<K>
+        ensures { IsDueAt place self.old self.new result }
+    {
         match self.places.get_mut(place) {
             Some(place) => match mem::replace(place, Place::Due) {
-                Place::Asleep(waker) => Next::Told(waker),
-                Place::Due => Next::Told(None),
+                Place::Asleep(waker) => waker,
+                Place::Due => None,
             },
-            None => Next::Told(None),
+            None => None,
         }
     }
 

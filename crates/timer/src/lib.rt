@@ -1,6 +1,7 @@
 //! Sleeping: a timer, whose thread calls those who sleep once their time has come, for any waker.
 #![tactic(auto)]
 
+mod agenda;
 mod deadlines;
 mod errors;
 mod making;

@@ -74,7 +74,7 @@ where
                     Duration::ZERO
                 }
                 Next::Told(None) => Duration::ZERO,
-                Next::At(due) => due.saturating_sub(passed),
+                Next::In(rest) => Duration::from_nanos(u64::try_from(rest).unwrap_or(u64::MAX)),
                 Next::Nobody => Duration::MAX,
                 Next::Closed => return,
             };

@@ -1,13 +1,15 @@
 //! Threads that run one executor together, each until a future of its own is ready; and one error for all that may refuse.
 #![tactic(auto)]
 
-mod crew;
 mod fault;
 mod from;
 mod join_all;
 mod running;
+#[cfg(test)]
+mod tests;
+mod threads;
 
-pub use crew::{Crew, Team, run_workers};
 pub use fault::Fault;
 pub use join_all::JoinAll;
 pub use running::{answer, complete, run_until};
+pub use threads::run_workers;

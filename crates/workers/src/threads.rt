@@ -1,0 +1,46 @@
+//! Threads that work together.
+ghost use Rattle.std.specs.Fork.{GivesEach};
+ghost use Rattle.std.specs.Prelude.{◌≡◌, IfOk, Ok, map};
+
+use crate::fault::Fault;
+use std::alloc::Global;
+use std::thread::{self, Threads};
+
+/// Lets so many threads work, each on its number from 0 on, and joins them: what each came back with, in order, or the fault of
+/// the first that has one.
+///
+/// Where a thread can't be made its work is done by another, behind that one's own.
+pub fn run_workers<X, R, M>(
+    rt: &R,
+    alloc: Global,
+    workers: usize,
+    work: &M,
+) -> Result<Vec<X>, Fault>
+where
+    X: Send + Drop,
+    R: Threads + Sync,
+    M: Fn(usize) -> Result<X, Fault> + Sync,
+    requires { M.IsAlwaysCallable work.now }
+    ensures { IfOk result (λ outputs. GivesEach M.Fn work.now workers (map Ok outputs.items)) }
+{
+    match thread::map_indices(rt, alloc, workers, work) {
+        Ok(ends) => all_well(alloc, ends),
+        Err(_) => Err(Fault::NoMemory),
+    }
+}
+
+/// What each came back with, where all did so well; else the first fault.
+fn all_well<X: Drop>(alloc: Global, ends: Vec<Result<X, Fault>>) -> Result<Vec<X>, Fault>
+    ensures { IfOk result (λ outputs. map Ok outputs.items ≡ ends.items) }
+{
+    let mut outputs = Vec::new(alloc);
+    for end in ends {
+        match end {
+            Ok(output) => if outputs.push(output).is_err() {
+                return Err(Fault::NoMemory);
+            },
+            Err(fault) => return Err(fault),
+        }
+    }
+    Ok(outputs)
+}

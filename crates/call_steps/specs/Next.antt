@@ -1,5 +1,5 @@
 -- What comes next in a call, by what was done and by what that saw. What was not seen leads to nothing.
-use Rattle.std.specs.Prelude.{◌++◌, Bool, true, false, not, Option, Some, None, is_none, List, [], ◌∷◌}
+use Rattle.std.specs.Prelude.{◌++◌, true, false, Option, Some, None, is_none, List, [], ◌∷◌}
 use Rattle.task_moves.specs.declared.moves.owed.Answer.{Answer}
 use Rattle.task_moves.specs.declared.moves.owed.Move.TheVariants as move
 use Rattle.task_moves.specs.declared.moves.owed.Owed.{Owed}

@@ -1,5 +1,5 @@
 -- What ticks and runs do next that have found a Runnable, or nothing.
-use Rattle.std.specs.Prelude.{ℕ, ◌+◌, ◌==◌, Bool, true, false, List, [], ◌∷◌, ◌++◌}
+use Rattle.std.specs.Prelude.{◌+◌, ◌==◌, Bool, true, false, List, [], ◌∷◌, ◌++◌}
 use Rattle.task_moves.specs.declared.moves.owed.Move.TheVariants as move
 use Rattle.call_steps.specs.declared.names.RunPoll.{RunPoll}
 use Rattle.call_steps.specs.declared.names.Sleeping.{Sleeping}

@@ -1,25 +1,21 @@
 //! Echo over pipes in memory: ten connections, each a pipe to the server and one back, with a future at either end. The server's
 //! end sends back what it hears. A client sends 10, then the next lower number each time, until 0 came back.
-use async_executor::ExWaker;
-use async_task::{Future, Poll};
-use blocking::ThreadWaker;
+use async_task::{Future, Poll, Wake};
 use std::alloc::Global;
 use std::io;
 use std::sync::Wait;
 use waiting::channel::{self, Receiver, Sender};
 
-type Waker<R> = ExWaker<u64, ThreadWaker, R>;
-
-type Pipes<R> = (Sender<u64, Waker<R>, R>, Receiver<u64, Waker<R>, R>);
+type Pipes<K, R> = (Sender<u64, K, R>, Receiver<u64, K, R>);
 
 /// An end: its pipes, what it sends next, how much lower it sends a number back than it came, and how many came.
 #[derive(Drop)]
-pub struct End<R: Wait + Copy + Drop + 'static>(R, Pipes<R>, Option<u64>, u64, u64);
+pub struct End<K: Wake + Drop, R: Wait + Copy + Drop>(R, Pipes<K, R>, Option<u64>, u64, u64);
 
-impl<R: Wait + Copy + Drop + 'static> Future<Waker<R>> for End<R> {
+impl<K: Wake + Drop, R: Wait + Copy + Drop> Future<K> for End<K, R> {
     type Output = u64;
 
-    fn poll(&mut self, waker: &Waker<R>) -> Poll<u64> {
+    fn poll(&mut self, waker: &K) -> Poll<u64> {
         let rt = self.0;
         for _ in rt.forever() {
             if let Poll::Pending = self.1.0.poll_send(waker, &mut self.2) {
@@ -41,7 +37,10 @@ impl<R: Wait + Copy + Drop + 'static> Future<Waker<R>> for End<R> {
 }
 
 /// The ends of ten connections.
-pub fn ends<R: Wait + Copy + Drop + 'static>(rt: R, alloc: Global) -> io::Result<Vec<End<R>>> {
+pub fn ends<K: Wake + Drop, R: Wait + Copy + Drop>(
+    rt: R,
+    alloc: Global,
+) -> io::Result<Vec<End<K, R>>> {
     let mut ends = Vec::with_capacity(alloc, 20)?;
     for _ in 0..10 {
         let (to, come) = channel::bounded(rt, alloc, 4)?;

@@ -1,5 +1,5 @@
-//! Makes each call of an executor and of what waits that takes memory, does two jobs as `taskrun jobs 2` does, and goes on after a refusal: the one
-//! request for memory that is refused is met by one call, which answers so, and everything is as before.
+//! Makes each call of an executor and of what waits that takes memory, does two jobs as `taskrun jobs 2` does, and goes on after a
+//! refusal: the one request for memory that is refused is met by one call, which answers so, and everything is as before.
 //!
 //! Standard input has the number of requests that are made first, for nothing: so the same program meets a refusal wherever
 //! `tools/refuse-memory` wants it. It prints which call was refused, and has status 1 where one gave a wrong answer.

@@ -22,7 +22,8 @@ pub nobody_before : (x : Reverse (ℕ × ℕ)) (xs : List (Reverse (ℕ × ℕ))
     All (λ other. x.0.0 ≤ other.0) (map (λ deadline. deadline.0) xs)
 nobody_before x [] h = All-nil (λ other. x.0.0 ≤ other.0)
 nobody_before x (y ∷ ys) h =
-    All-cons (λ other. x.0.0 ≤ other.0) y.0 (map (λ deadline. deadline.0) ys) (at_most y.0.0 x.0.0 (first_not_lt _ _ h.0)) (nobody_before x ys h.1)
+    let here = at_most y.0.0 x.0.0 (first_not_lt _ _ h.0) in
+    All-cons (λ other. x.0.0 ≤ other.0) y.0 (map (λ deadline. deadline.0) ys) here (nobody_before x ys h.1)
 
 -- what is first of a list that isn't empty is one thing
 pub one_first : {X : Type 0} (xs : List X) (x y : X) → 0 < length xs → x ≡ slice_index_or xs 0 x → y ≡ slice_index_or xs 0 y → x ≡ y

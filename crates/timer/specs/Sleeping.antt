@@ -1,6 +1,7 @@
 -- What each call does with those who sleep, and with their places.
-use Rattle.std.specs.Prelude.{◌≡◌, ℕ, true, false, List, [], Option, Some, None}
-use Rattle.slab.specs.Slab.{Slab, get, Updates}
+use Rattle.std.specs.Prelude.{◌≡◌, ◌<◌, ℕ, true, false, List, [], Option, Some, None}
+use Rattle.std.specs.BinaryHeap.{heap_len, heap_capacity}
+use Rattle.slab.specs.Slab.{Slab, HasRoomFor, Updates, get, slab_len}
 use Rattle.timer.specs.Order.{IsDue, Turns, entries}
 use Rattle.timer.specs.declared.agenda.Turn.TheVariants as turn
 use Rattle.timer.specs.declared.deadlines.Deadlines.{Deadlines}
@@ -15,6 +16,14 @@ module _ {K : Type 0} where
   -- when each of those who sleep is due, with its place
   abbrev pub sleepers : Deadlines K → List (ℕ × ℕ)
   sleepers s = entries s.agenda.heap
+
+  -- one more may sleep: it is open, fewer sleep than the limit says, and there is memory for a place and an entry
+  pub record HasRoom (s : Deadlines K) : Type 0 where
+    pub is_open : s.is_closed ≡ false
+    pub place : slab_len s.places < s.limit
+    pub entry : heap_len s.agenda.heap < s.limit
+    pub memory_of_place : HasRoomFor s.places 1
+    pub memory_of_entry : heap_len s.agenda.heap < heap_capacity s.agenda.heap
 
   -- the waker of who sleeps at this place
   abbrev pub waker_at : Option (Place K) → Option K

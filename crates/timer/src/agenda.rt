@@ -1,6 +1,6 @@
 ghost use Rattle.std.proofs.Props.{props};
-ghost use Rattle.std.specs.BinaryHeap.{IsHeap, heap_items};
-ghost use Rattle.std.specs.Prelude.{◌≡◌, ◌∷◌, [], IfOk, IsPermutation, OnErr, OnOk};
+ghost use Rattle.std.specs.BinaryHeap.{IsHeap, heap_capacity, heap_items, heap_len};
+ghost use Rattle.std.specs.Prelude.{◌≡◌, ◌<◌, ◌≤◌, ◌∷◌, [], IfOk, IsOk, IsPermutation, OnErr, OnOk};
 ghost use Rattle.timer.specs.Order.{Stay, Turns, entries, later_first};
 
 use std::alloc::{AllocError, Global};
@@ -28,13 +28,16 @@ pub enum Turn {
 impl Agenda {
     /// With room for so many.
     pub fn with_room(alloc: Global, limit: usize) -> Result<Self, AllocError>
-        ensures { IfOk result (λ agenda. entries agenda.heap ≡ []) }
+        ensures nobody { IfOk result (λ agenda. entries agenda.heap ≡ []) }
+        ensures room { IfOk result (λ agenda. limit ≤ heap_capacity agenda.heap) }
     {
         let heap = BinaryHeap::with_capacity(alloc, limit)?;
         Ok(Agenda { heap })
     }
 
-    pub fn len(&self) -> usize {
+    pub fn len(&self) -> usize
+        ensures { result ≡ heap_len self.now.heap }
+    {
         self.heap.len()
     }
 
@@ -42,6 +45,7 @@ impl Agenda {
     pub fn add(&mut self, due: u128, place: usize) -> Result<(), AllocError>
         ensures added { OnOk result (IsPermutation ((due, place) ∷ entries self.old.heap) (entries self.new.heap)) }
         ensures refused { OnErr result (entries self.new.heap ≡ entries self.old.heap) }
+        ensures room { heap_len self.old.heap < heap_capacity self.old.heap → IsOk result }
     {
         match self.heap.push(Reverse((due, place))) {
             Ok(()) => Ok(()),

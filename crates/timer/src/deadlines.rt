@@ -1,9 +1,10 @@
 //! Those who sleep, and when each is due.
-ghost use Rattle.std.specs.Prelude.{◌≡◌, ◌∷◌, [], Err, IfOk, IsPermutation, None, OnErr, Some, false, true};
+ghost use Rattle.std.specs.Prelude.{◌≡◌, ◌≤◌, ◌∷◌, [], Err, IfOk, IsOk, IsPermutation, None, OnErr, Some, false, true};
+ghost use Rattle.std.specs.BinaryHeap.{heap_capacity};
 ghost use Rattle.std.specs.Duration.{as_nanos};
-ghost use Rattle.slab.specs.Slab.{get, Updates};
+ghost use Rattle.slab.specs.Slab.{HasRoomFor, Updates, get};
 ghost use Rattle.timer.specs.Order.{Stay};
-ghost use Rattle.timer.specs.Sleeping.{HasLooked, HasTold, IsDueAt, sleepers, waker_at};
+ghost use Rattle.timer.specs.Sleeping.{HasLooked, HasRoom, HasTold, IsDueAt, sleepers, waker_at};
 ghost use Rattle.timer.specs.declared.deadlines.Place.TheVariants.{Asleep};
 ghost use Rattle.timer.specs.declared.deadlines.Refused.TheVariants.{Closed};
 
@@ -76,6 +77,7 @@ impl<K: Drop> Deadlines<K> {
         ensures limit { IfOk result (λ s. s.limit ≡ limit) }
         ensures open { IfOk result (λ s. s.is_closed ≡ false) }
         ensures nobody { IfOk result (λ s. sleepers s ≡ []) }
+        ensures room { IfOk result (λ s. HasRoomFor s.places limit × (limit ≤ heap_capacity s.agenda.heap)) }
     {
         let agenda = Agenda::with_room(alloc, limit)?;
         let mut places = Slab::new(alloc);
@@ -92,7 +94,9 @@ impl<K: Drop> Deadlines<K> {
     pub fn enter(&mut self, due: Duration) -> Result<Bed, Refused>
         ensures asleep { IfOk result (λ bed. get self.new.places bed.place ≡ Some (Asleep None)) }
         ensures due { IfOk result (λ bed. IsPermutation ((as_nanos due, bed.place) ∷ sleepers self.old) (sleepers self.new)) }
+        ensures enters { HasRoom self.old → IsOk result }
         ensures closed { self.old.is_closed ≡ true → result ≡ Err Closed }
+        ensures open { result ≡ Err Closed → self.old.is_closed ≡ true }
         ensures refused { OnErr result (sleepers self.new ≡ sleepers self.old) }
     {
         if self.is_closed {

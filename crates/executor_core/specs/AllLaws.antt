@@ -19,6 +19,7 @@ use Rattle.executor_model.specs.Entries.{FindsPlace, OwnAgrees, QueueAgrees, Tab
 use Rattle.executor_model.specs.FinishedRuns.{FinishedAtOnce}
 use Rattle.executor_model.specs.GivenWakers.{PollsKeepTheirWakers}
 use Rattle.executor_model.specs.HandingOn.{HandsOn, IsOnItsWay}
+use Rattle.executor_model.specs.InHands.{IsInHands}
 use Rattle.executor_model.specs.InPlace.{IsInPlace}
 use Rattle.executor_model.specs.LastTold.{ClosingSaysWhy}
 use Rattle.executor_model.specs.LawfulPolls.{HasLawfulPolls}
@@ -167,6 +168,8 @@ pub record AllLaws (s : Machine) : Type 0 where
   pub given : PollsKeepTheirWakers s
   -- a step that closes an open task says why: nobody is left who could wake its future, or it was cancelled
   pub why : ClosingSaysWhy s
+  -- an open one has its handle, or a waker of its future lives, or a Runnable, an unfinished run or a closing call is there
+  pub in_hands : (f : ℕ) → IsInHands s f
   -- a call is answered that a run is finished only as it begins, where it polls a run that had ended
   pub finished : FinishedAtOnce s
   -- the executor's drop drops the futures in the order of acceptance, and wakes them so

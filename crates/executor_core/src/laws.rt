@@ -11,6 +11,7 @@ ghost use Rattle.executor_model.specs.ClosingWakes.{WakesInOrder};
 ghost use Rattle.executor_model.specs.CallsMean.{CallsDoWhatTheySay};
 ghost use Rattle.executor_model.specs.FinishedRuns.{FinishedAtOnce};
 ghost use Rattle.executor_model.specs.GivenWakers.{PollsKeepTheirWakers};
+ghost use Rattle.executor_model.specs.InHands.{IsInHands};
 ghost use Rattle.executor_model.specs.LastTold.{ClosingSaysWhy};
 ghost use Rattle.executor_model.specs.LawfulPolls.{HasLawfulPolls};
 ghost use Rattle.executor_model.specs.OutputOnce.{OutputGoesOnce};
@@ -35,9 +36,10 @@ use executor_laws::laws::{
 };
 use executor_model::call_laws::{
     calls_do_what_they_say, closings_say_why, copies_are_counted, leaks_wake_each_future,
-    outside_wakers_are_called, polls_keep_their_wakers, runs_are_finished_at_once,
-    spawns_are_limited, spawns_want_memory_as_told, the_closing_drop_keeps_the_order,
-    the_closing_drop_wakes_in_order, wakers_wake_their_own, wakes_and_copies_are_of_their_futures,
+    open_futures_are_in_hands, outside_wakers_are_called, polls_keep_their_wakers,
+    runs_are_finished_at_once, spawns_are_limited, spawns_want_memory_as_told,
+    the_closing_drop_keeps_the_order, the_closing_drop_wakes_in_order, wakers_wake_their_own,
+    wakes_and_copies_are_of_their_futures,
 };
 use executor_model::laws::{
     emptiness_is_exact, futures_are_in_their_places, no_append_is_refused_full, one_runnable,
@@ -136,6 +138,7 @@ fn laws_of_calls()
     ensures outside { EveryMachine OutsideWakersAreCalled }
     ensures given { EveryMachine PollsKeepTheirWakers }
     ensures why { EveryMachine ClosingSaysWhy }
+    ensures in_hands { EveryExecution IsInHands }
     ensures finished { EveryMachine FinishedAtOnce }
     ensures order { EveryMachine DropsInOrder }
     ensures wakes_order { EveryMachine WakesInOrder }
@@ -150,6 +153,7 @@ fn laws_of_calls()
     outside_wakers_are_called();
     polls_keep_their_wakers();
     closings_say_why();
+    open_futures_are_in_hands();
     runs_are_finished_at_once();
     the_closing_drop_keeps_the_order();
     the_closing_drop_wakes_in_order();

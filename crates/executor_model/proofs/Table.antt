@@ -26,3 +26,4 @@ pub mod LeakWithin
 pub mod LeakStays
 pub mod LeakWakes
 pub mod LastTold
+pub mod InHands

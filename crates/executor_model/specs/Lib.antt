@@ -50,5 +50,6 @@ pub mod ClosingWakes
 pub mod LeakWakes
 pub mod GivenWakers
 pub mod LastTold
+pub mod InHands
 pub mod OwnFutures
 pub mod FinishedRuns

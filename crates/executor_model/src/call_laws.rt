@@ -8,6 +8,7 @@ ghost use Rattle.executor_model.specs.Executions.{EveryExecution, EveryMachine};
 ghost use Rattle.executor_model.specs.LeakWakes.{LeakWakes};
 ghost use Rattle.executor_model.specs.FinishedRuns.{FinishedAtOnce};
 ghost use Rattle.executor_model.specs.GivenWakers.{PollsKeepTheirWakers};
+ghost use Rattle.executor_model.specs.InHands.{IsInHands};
 ghost use Rattle.executor_model.specs.LastTold.{ClosingSaysWhy};
 ghost use Rattle.executor_model.specs.OutsideWakers.{OutsideWakersAreCalled};
 ghost use Rattle.executor_model.specs.OwnFutures.{ActsOnItsFuture};
@@ -80,6 +81,14 @@ pub fn runs_are_finished_at_once()
 /// it was cancelled, unless the drop of the executor has begun, which closes each task.
 pub fn closings_say_why()
     ensures { EveryMachine ClosingSaysWhy }
+{}
+
+/// Whatever the parties do, somebody can ask for each accepted future whose task is open: its handle is there, or a waker of
+/// it lives, or a Runnable, an unfinished run or a closing call of it is there. So a step that lets the last waker of a
+/// detached future go, detaches one that has none, or ends a poll that leaves none, closes the task, and no open future is
+/// forgotten.
+pub fn open_futures_are_in_hands()
+    ensures { EveryExecution IsInHands }
 {}
 
 /// Whatever the parties do, a wake, by the waker of the poll in which its party stands or by a kept one, wakes the future of

@@ -78,12 +78,17 @@ pub record Handles (x y : Seen) : Type 0 where
 pub record Queues (x y : Seen) : Type 0 where
   pub common : (y.common + y.extra.appends ≤ x.common + x.extra.appends) ⊎ (1 ≤ x.extra.runs)
 
+-- its references: none goes
+pub record Refers (x y : Seen) : Type 0 where
+  pub more : x.state.references ≤ y.state.references
+
 pub record Goes (x y : Seen) : Type 0 where
   pub passes : Passes x y
   pub stays : Stays x y
   pub gives : Gives x y
   pub handles : Handles x y
   pub queues : Queues x y
+  pub refers : Refers x y
 
 abbrev pub GoesBy : World → List Op → Done → Type 0
 GoesBy w old d = (g : ℕ) (r : Pend) (y : Extra) →

@@ -215,7 +215,7 @@ strays-more g s (e ∷ es) = omega (arith, strays-one g e s, strays-more g (hear
 
 -- whether it was detached, and nobody was left who could wake it
 
-detached-from : (g : ℕ) (s : Story) (es : Trace) → (story_from g s es).detached ≡ (s.detached || has (is_detached g) es)
+pub detached-from : (g : ℕ) (s : Story) (es : Trace) → (story_from g s es).detached ≡ (s.detached || has (is_detached g) es)
 detached-from g s [] = or-false s.detached
 detached-from g s (Detached p f ∷ es) = detached-from g (hears g (Detached p f) s) es ∙ or-with (eqb g f) s.detached _
 detached-from g s (Answered p f Ready ∷ es) = detached-from g (hears g (Answered p f Ready) s) es

@@ -58,6 +58,7 @@ returns c limit kind parties steps =
       outside = c.laws_of_calls.ensures.outside limit kind parties steps;
       given = c.laws_of_calls.ensures.given limit kind parties steps;
       why = c.laws_of_calls.ensures.why limit kind parties steps;
+      in_hands = c.laws_of_calls.ensures.in_hands limit kind parties steps;
       finished = c.laws_of_calls.ensures.finished limit kind parties steps;
       order = c.laws_of_calls.ensures.order limit kind parties steps;
       wakes_order = c.laws_of_calls.ensures.wakes_order limit kind parties steps;

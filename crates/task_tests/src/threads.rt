@@ -3,7 +3,7 @@ use crate::calls::{Stage, holds, same};
 use crate::parts::{
     Counts, Tasks, TestTask, TestWaker, drop_cancel, drop_task, drop_waker, next, ran,
 };
-use async_task::{Poll, TaskError, Wake};
+use async_task::{Future, Poll, TaskError, Wake};
 use std::alloc::Global;
 use std::process::Abort;
 use std::sync::atomic::AtomicU64;

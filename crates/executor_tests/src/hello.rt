@@ -40,6 +40,6 @@ fn two_threads_run_an_executor(rt: HostRuntime) -> Result<(), Fail> {
         }
     };
     let outputs = thread::map_indices(&rt, alloc, 2, play)?;
-    assert!(rt; outputs.as_slice() == [Some(0), Some(2)]);
+    assert!(rt; outputs.as_slice() == [Some(0), Some(2)].as_slice());
     Ok(())
 }

@@ -180,7 +180,7 @@ pub enum Work {
     /// Wakes itself this often, and then gives the number.
     Yield(u64, u64),
     /// Gives way, then does something with the handle that it has, if any, and gives its own name. That says what it does: half of
-    /// them await the other's output, or its end, one in four detaches it, and one in four drops the handle, which cancels it.
+    /// them await the other's output, or its end, one in four detaches it, and one in four cancels it.
     Meddle(Meddler),
 }
 
@@ -274,11 +274,10 @@ impl Meddler {
         let Some(task) = stored.redeem(rt, realm) else {
             return true;
         };
-        match name % 4 {
-            0 | 1 => return self.awaits(task, notes, waker),
-            2 => drop(task.detach()),
-            _ => drop(task),
+        if name % 4 < 2 {
+            return self.awaits(task, notes, waker);
         }
+        give_up(name, task, waker);
         true
     }
 
@@ -300,6 +299,15 @@ impl Meddler {
             Poll::Ready(Err(_)) => true,
             Poll::Pending => false,
         }
+    }
+}
+
+/// Detaches the task of half of the names, and cancels the others': by a poll, whose output may come, or by the handle's drop.
+fn give_up<R: Wait + Copy + Drop + 'static>(name: u64, task: TestTask<R>, waker: &TestWaker<R>) {
+    match name % 8 {
+        2 | 6 => drop(task.detach()),
+        3 => drop(task.cancel().poll(waker)),
+        _ => drop(task),
     }
 }
 

@@ -3,14 +3,12 @@ use crate::calls::{Stage, holds, same};
 use crate::parts::{
     Counts, Tasks, TestTask, TestWaker, drop_cancel, drop_task, drop_waker, next, ran,
 };
-use async_task::{Awaiter, Future, Nobody, Poll, Realm, TaskError, Wake};
-use ready_queue::{Places, ReadyQueue};
+use async_task::{Future, Poll, TaskError, Wake};
 use std::alloc::Global;
 use std::process::Abort;
 use std::sync::atomic::AtomicU64;
 use std::sync::atomic::Ordering::SeqCst;
 use std::sync::{Arc, Wait};
-use std::test::Fail;
 use std::thread;
 
 /// How many turns a loop may take.
@@ -196,45 +194,4 @@ fn a_cancel_meets_a_run(rt: HostRuntime) {
     runner.expect(&rt, "a thread").join(&rt);
     same(&rt, stage.counts.future_drops.load(SeqCst), CANCELS);
     same(&rt, stage.counts.schedule_drops.load(SeqCst), CANCELS);
-}
-
-type Share = Arc<u64, Global>;
-
-/// Gives one more share of what it has at once.
-#[derive(Drop)]
-struct Gives(Share);
-
-impl<K> Future<K> for Gives {
-    type Output = Option<Share>;
-
-    fn poll(&mut self, _waker: &K) -> Poll<Option<Share>> {
-        Poll::Ready(Arc::try_clone(&self.0).ok())
-    }
-}
-
-type Queue<R> = ReadyQueue<Gives, Option<Share>, Nobody, R>;
-
-/// Runs what is queued, or cancels a task, whose output may come.
-fn plays<R: Wait + Copy + Drop + 'static>(queue: &Queue<R>, party: usize, share: &Share) {
-    if party == 0 {
-        queue.run();
-    } else if let Ok(share) = Arc::try_clone(share) {
-        if let Ok(task) = queue.spawn(Gives(share)) {
-            let _ = task.cancel().poll(&Awaiter::Outside(Nobody));
-        }
-    }
-}
-
-/// Two threads cancel while a third runs: each output comes or is dropped, once, as nobody has a share in the end but the test.
-#[test]
-fn no_output_is_lost_or_kept(rt: HostRuntime) -> Result<(), Fail> {
-    let (realm, places) = (Realm::leak(rt, rt.alloc())?, Places::leak(rt.alloc(), 64)?);
-    let (queue, share) = (Queue::new(rt, realm, places), Arc::new(rt.alloc(), 0u64)?);
-    let play = &|party| for _ in 0..CANCELS {
-        plays(&queue, party, &share)
-    };
-    thread::map_indices(&rt, rt.alloc(), 3, play)?;
-    queue.run();
-    same(&rt, Arc::strong_count(&share), 1);
-    Ok(())
 }

@@ -27,6 +27,7 @@ use Rattle.solo.specs.declared.cells.After.TheVariants.{Queue, Rest, Drop as Dro
 use Rattle.solo.specs.Table.{Accepts, Refuses}
 use Rattle.solo.specs.Cells.{choose, changed, asked, tidied}
 use Rattle.solo.specs.Cells as cells
+use Rattle.solo.specs.OwnQueues as own
 use Rattle.solo.specs.Turns as turns
 use Rattle.solo.specs.Turns.{turned, swept}
 
@@ -58,6 +59,7 @@ module _ {F T X : Type 0} where
     pub leaving : s.leaving ≡ new_queue (Some limit) (count_of_new limit)
     pub sleepers : s.sleepers ≡ record { count = 0; rooms = 0; wakers = []; free = [] }
     pub notified : s.notified ≡ true
+    pub runs : s.runs ≡ own.none
     pub kind_of : s.kind ≡ kind
     pub accepted : s.accepted ≡ 0
 
@@ -68,7 +70,7 @@ module _ {F T X : Type 0} where
   abbrev pub Accepting : F → Solo F T X → Result Task (SpawnError F) → Solo F T X → Type 0
   Accepting future old (Ok task) new =
       Accepts old.accepted (counts old.kind) future old.table old.cells task new.table new.cells
-      × (new ≡ record old { table = new.table; cells = new.cells; accepted = new.accepted })
+      × (new ≡ record old { table = new.table; cells = new.cells; accepted = own.one_more old.accepted })
   Accepting future old (Err refused) new =
       Refuses future old.table old.cells new.table new.cells refused × (new ≡ record old { table = new.table; cells = new.cells })
 

@@ -77,11 +77,10 @@ impl<F, T, X> Solo<F, T, X> {
         let mut left = count;
         while left > 0 {
             left -= 1;
-            let found = self.look_at(number, at);
-            if found.is_some() {
-                return found;
+            match self.look_at(number, at) {
+                Some(task) => return Some(task),
+                None => at = next_place(at, count),
             }
-            at = next_place(at, count);
         }
         None
     }

@@ -1,6 +1,6 @@
 use Rattle.std.specs.Prelude.{◌≡◌}
 use Rattle.solo.specs.Steals.{round}
-use Rattle.solo.proofs.steals.Solo.walk_round.Given as goal
+use Rattle.solo.proofs.solo.Solo.walk_round.Given as goal
 
 abbrev pub decreases-loop-left : goal.decreases-loop-left
 decreases-loop-left g l = l.left

@@ -1,7 +1,7 @@
 use Rattle.std.specs.Prelude.{◌≡◌}
 use Rattle.solo.specs.declared.names.Kind.TheVariants.{Static}
 use Rattle.solo.proofs.Leaking.{Turned}
-use Rattle.solo.proofs.closing.Solo.leak.Given as goal
+use Rattle.solo.proofs.solo.Solo.leak.Given as goal
 
 -- so many wakers were taken out, and nothing else
 abbrev pub invariant-loop-step : goal.invariant-loop-step

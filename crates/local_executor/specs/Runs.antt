@@ -1,7 +1,7 @@
 -- What a poll of a run answers.
 use Rattle.std.specs.Prelude.{◌≡◌, Option, None, IsSome, Result, Ok, Err}
-use Rattle.async_task.specs.declared.future.Poll.{Poll}
-use Rattle.async_task.specs.declared.future.Poll.TheVariants.{Ready, Pending}
+use Rattle.async_task.specs.declared.poll.Poll.{Poll}
+use Rattle.async_task.specs.declared.poll.Poll.TheVariants.{Ready, Pending}
 use Rattle.local_executor.specs.declared.errors.RunError.{RunError}
 use Rattle.local_executor.specs.declared.errors.RunError.TheVariants.{NoMemory, Finished}
 

@@ -22,6 +22,7 @@ pub type ScriptTick<'a, R> = LocalTick<'a, Scripted<R>, Gift, Bell, R>;
 pub type ScriptRun<'a, R> = LocalRun<'a, Scripted<R>, Gift, Bell, R, Own<R>>;
 
 /// An executor of a script, of either kind.
+#[derive(Drop)]
 pub enum Desk<'a, R: Wait + Copy + Drop> {
     Owned(&'a ScriptExecutor<R>),
     Static(&'a ScriptStatic<R>),

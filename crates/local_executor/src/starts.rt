@@ -1,5 +1,5 @@
 //! Where a run's walks round the queues of other runs start.
-ghost use Rattle.std.specs.Prelude.{◌≡◌, cond};
+ghost use Rattle.std.specs.Prelude.{◌≡◌};
 ghost use Rattle.local_executor.specs.Starts.{drawn, seeded, used_up};
 
 use rand_core::SeedableRng;
@@ -19,7 +19,7 @@ impl Starts {
     pub fn new(seed: u64) -> Starts
         ensures { result ≡ drawn (seeded seed) }
     {
-        let mut words = Xoshiro256PlusPlus::seed_from_u64(seed);
+        let mut words = words_of(seed);
         let next = words.next_word();
         Starts { words, next }
     }
@@ -39,4 +39,11 @@ impl Starts {
             self.next = self.words.next_word();
         }
     }
+}
+
+/// The generator that is made of this number.
+fn words_of(seed: u64) -> Xoshiro256PlusPlus
+    ensures { result ≡ seeded seed }
+{
+    Xoshiro256PlusPlus::seed_from_u64(seed)
 }

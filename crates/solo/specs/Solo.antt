@@ -1,5 +1,6 @@
 -- What each call of an executor of one owner does, and what it hands out.
-use Rattle.std.specs.Prelude.{◌≡◌, ℕ, ◌==◌, ◌||◌, Bool, true, false, [], Option, Some, None, is_some, Result, Ok, Err, length, slice_get, unwrap_or}
+use Rattle.std.specs.Prelude.{◌≡◌, ℕ, ◌==◌, ◌||◌, Bool, true, false, [], Option, Some, None, is_some, Result, Ok, Err, length}
+use Rattle.std.specs.Prelude.{slice_get, unwrap_or}
 use Rattle.queue_steps.specs.ClosableQueue.{new_queue, count_of_new, taken as without_first}
 use Rattle.executor_parts.specs.declared.places.EntryPlace.{EntryPlace}
 use Rattle.executor_parts.specs.Places.{entry_in, set_future, displaced}

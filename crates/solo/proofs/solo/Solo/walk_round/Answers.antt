@@ -9,5 +9,7 @@ loop-left-preserved g c =
     ∙ ap
     (λ (at : ℕ). round c.args.count c.args.number (c.loop-left.left - 1) at (looked c.args.number c.loop-left.at c.loop-left.self))
     c.next_place-at.ensures
-    ∙ sym (round-on c.args.count c.args.number c.loop-left.left c.loop-left.at c.loop-left.self c.loop-left-test.true (sym c.look_at.ensures.task ∙ c.in-None.is))
+    ∙ sym (round-on c.args.count c.args.number c.loop-left.left c.loop-left.at c.loop-left.self c.loop-left-test.true (
+    sym c.look_at.ensures.task ∙ c.in-None.is
+    ))
     ∙ c.loop-left.invariant

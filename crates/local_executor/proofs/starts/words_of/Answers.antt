@@ -4,4 +4,4 @@ use Rattle.local_executor.proofs.starts.words_of.Goals as goal
 
 pub returns : goal.returns
 unfolding seeded
-returns g c = c.seed_from_u64.ensures
+returns c = c.seed_from_u64.ensures

@@ -74,9 +74,17 @@ impl<'a, R: Wait + Copy + Drop> Seats<'a, R> {
         if player.knows(name) || !player.has_handle_if(twice) {
             return Answer::NotPossible;
         }
-        let own = Own {
-            twice: player.take_held(twice),
-        };
+        let held = player.take_held(twice);
+        self.hand_over(player, desk, name, Own { twice: held })
+    }
+
+    fn hand_over(
+        &mut self,
+        player: &mut Player<R>,
+        desk: &Desk<'a, R>,
+        name: Name,
+        own: Own<R>,
+    ) -> Answer {
         match desk.run(own) {
             Ok(run) => {
                 player.learn(name);

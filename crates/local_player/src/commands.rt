@@ -71,11 +71,17 @@ impl<'a, R: Wait + Copy + Drop> Seats<'a, R> {
         name: Name,
         twice: Option<Name>,
     ) -> Answer {
-        if player.knows(name) || !player.has_handle_if(twice) {
+        if player.knows(name) {
             return Answer::NotPossible;
         }
-        let held = player.take_held(twice);
-        self.hand_over(player, desk, name, Own { twice: held })
+        match twice {
+            Some(twice) if !player.has_handle(twice) => Answer::NotPossible,
+            Some(twice) => {
+                let held = player.take_held(twice);
+                self.hand_over(player, desk, name, Own { twice: held })
+            }
+            None => self.hand_over(player, desk, name, Own { twice: None }),
+        }
     }
 
     fn hand_over(

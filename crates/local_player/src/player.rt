@@ -97,19 +97,13 @@ impl<R: Wait + Copy + Drop> Player<R> {
         }
     }
 
-    /// The handle of this name is there, if one is named.
-    pub fn has_handle_if(&self, name: Option<Name>) -> bool {
-        match name {
-            Some(name) => self.handles.contains_key(&name),
-            None => true,
-        }
+    /// Whether the handle of this name is there.
+    pub fn has_handle(&self, name: Name) -> bool {
+        self.handles.contains_key(&name)
     }
 
-    /// Takes the handle of this name, if one is named.
-    pub fn take_held(&mut self, name: Option<Name>) -> Option<Held<R>> {
-        let Some(name) = name else {
-            return None;
-        };
+    /// Takes the handle of this name.
+    pub fn take_held(&mut self, name: Name) -> Option<Held<R>> {
         match self.handles.remove(&name) {
             Some(handle) => Some(Held { name, handle }),
             None => None,

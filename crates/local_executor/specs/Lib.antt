@@ -1,2 +1,4 @@
 pub mod Accepting
 pub mod Spawning
+pub mod Starts
+pub mod Runs

@@ -34,6 +34,24 @@ where
     unreachable!()
 }
 
+/// An executor is leaked: it counts no wakers of its own any more. Each that it counted is called, in the order of acceptance: its
+/// task is queued, or was before. It takes no memory.
+pub fn leak<W, R>(link: &Link<W, R>, unlocked: &mut Unlocked)
+where
+    W: Wake + Drop,
+    R: Wait + Copy + Drop,
+{
+    sections::leak(link.lock(unlocked).get());
+    for _ in link.rt().forever() {
+        let woken = sections::leak_next(link.lock(unlocked).get());
+        let Some(told) = woken else {
+            return;
+        };
+        link.pay_told(told, unlocked);
+    }
+    unreachable!()
+}
+
 /// Does what one step of the end has handed out.
 fn end_one<F, T, W, R>(
     link: &Link<W, R>,

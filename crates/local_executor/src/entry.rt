@@ -1,27 +1,31 @@
 //! What a user has and calls. Each call begins with nothing locked or open, which it says by an `Unlocked`: none but these can
 //! make one.
-ghost use Rattle.std.specs.Prelude.{◌≡◌, ◌<◌, IfErr, length};
+ghost use Rattle.std.specs.Prelude.{◌≡◌, ◌<◌, Some, IfOk, IfErr, length};
 ghost use Rattle.std.specs.Iterator.{IsFinite};
 ghost use Rattle.solo.specs.Solo.{refused};
 ghost use Rattle.local_executor.specs.Spawning.{SpawnsMany};
+ghost use Rattle.local_executor.specs.Starts.{drawn, seeded};
 
+use crate::body::Body;
 use crate::debug::show;
 use crate::errors::LocalError;
-use crate::link::Link;
-use crate::store::Store;
 use crate::{ending, making};
 use async_task::{Future, NoMemory, Wake};
-use solo::SpawnError;
+use solo::{Kind, SpawnError};
 use std::alloc::Global;
 use std::fmt;
 use std::random::RandomSource;
 use std::sync::Wait;
 
 mod handles;
+mod run;
+mod static_executor;
 mod tick;
 mod wakers;
 
 pub use handles::{LocalCancel, LocalFallible, LocalHandle};
+pub use run::LocalRun;
+pub use static_executor::StaticLocalExecutor;
 pub use tick::LocalTick;
 pub use wakers::{LocalExWaker, LocalWaker};
 
@@ -47,9 +51,7 @@ where
     W: Wake + Drop,
     R: Wait + Copy + Drop,
 {
-    pub(crate) link: Link<W, R>,
-    pub(crate) store: Store<F, T>,
-    pub(crate) alloc: Global,
+    pub(crate) body: Body<F, T, W, R>,
 }
 
 impl<F, T, W, R> LocalExecutor<F, T, W, R>
@@ -67,12 +69,15 @@ where
         R: RandomSource,
         requires { 0 < limit }
     {
-        making::executor(rt, alloc, limit)
+        match making::body(rt, alloc, limit, Kind::Owned) {
+            Ok(body) => Ok(LocalExecutor { body }),
+            Err(error) => Err(error),
+        }
     }
 
     /// Whether each future that was accepted is dropped. It takes no memory.
     pub fn is_empty(&self) -> bool {
-        self.has_none(&mut Unlocked::at_entry())
+        self.body.has_none(&mut Unlocked::at_entry())
     }
 
     /// Hands the executor a future. Its task is queued, and the handle is answered: a future with the output, whose drop
@@ -81,7 +86,7 @@ where
     pub fn spawn(&self, future: F) -> Result<LocalHandle<T, W, R>, SpawnError<F>>
         ensures { IfErr result (λ error. refused error ≡ future) }
     {
-        self.hand_in(future, &mut Unlocked::at_entry())
+        self.body.hand_in(future, &mut Unlocked::at_entry())
     }
 
     /// Hands the executor one future after the other, until the iterator ends or one is refused. The handles of those that
@@ -95,7 +100,7 @@ where
         requires { I.can_next futures.old × IsFinite (I.remaining futures.old) }
         ensures { SpawnsMany I.next_gives futures.old futures.new (length handles.old.items) (length handles.new.items) result }
     {
-        for _ in self.link.rt().forever() {
+        for _ in self.body.link.rt().forever() {
             let Some(future) = futures.next() else {
                 return Ok(());
             };
@@ -112,12 +117,43 @@ where
 
     /// Runs one task, where one is queued, and says whether it did. It doesn't wait for one, and takes no memory.
     pub fn try_tick(&self) -> bool {
-        self.run_one(&mut Unlocked::at_entry())
+        self.body.run_one(&mut Unlocked::at_entry())
     }
 
     /// A future that waits for a future of the executor which is to be polled, and polls it once.
     pub fn tick(&self) -> Result<LocalTick<'_, F, T, W, R>, NoMemory> {
-        self.make_tick(&mut Unlocked::at_entry())
+        self.body.make_tick(&mut Unlocked::at_entry())
+    }
+
+    /// A future that runs the executor's futures until this one is ready, and has its output then. For want of memory the
+    /// future comes back.
+    pub fn run<G>(&self, future: G) -> Result<LocalRun<'_, F, T, W, R, G>, G>
+    where
+        G: Future<LocalExWaker<W, R>> + Drop,
+        ensures back { IfErr result (λ back. back ≡ future) }
+        ensures future { IfOk result (λ run. run.future ≡ Some future) }
+        ensures starts { IfOk result (λ run. run.starts ≡ drawn (seeded 0)) }
+    {
+        self.body.make_run(future, 0, &mut Unlocked::at_entry())
+    }
+
+    /// As `run`, with another seed for the places at which it begins to look for tasks of other runs.
+    pub fn run_from<G>(&self, future: G, seed: u64) -> Result<LocalRun<'_, F, T, W, R, G>, G>
+    where
+        G: Future<LocalExWaker<W, R>> + Drop,
+        ensures back { IfErr result (λ back. back ≡ future) }
+        ensures future { IfOk result (λ run. run.future ≡ Some future) }
+        ensures starts { IfOk result (λ run. run.starts ≡ drawn (seeded seed)) }
+    {
+        self.body.make_run(future, seed, &mut Unlocked::at_entry())
+    }
+
+    /// Makes it a static executor, whose futures nobody has to drop. Each future that was accepted is queued to be polled once
+    /// more, in the order of acceptance. It takes no memory.
+    pub fn leak(self) -> StaticLocalExecutor<F, T, W, R> {
+        let LocalExecutor { body } = self;
+        ending::leak(&body.link, &mut Unlocked::at_entry());
+        StaticLocalExecutor { body }
     }
 }
 
@@ -131,11 +167,12 @@ where
     /// Drops each future, in the order of acceptance, and closes each task that isn't over: who awaits it is called. It takes no
     /// memory.
     fn drop(self) {
-        let LocalExecutor {
+        let LocalExecutor { body } = self;
+        let Body {
             link,
             store,
             alloc: _,
-        } = self;
+        } = body;
         ending::end(link, store.into_futures(), &mut Unlocked::at_entry());
     }
 }
@@ -150,6 +187,11 @@ where
     R: Wait + Copy + Drop,
 {
     fn fmt<O: fmt::Write>(&self, f: &mut fmt::Formatter<O>) -> fmt::Result {
-        show(&self.link, "LocalExecutor", f, &mut Unlocked::at_entry())
+        show(
+            &self.body.link,
+            "LocalExecutor",
+            f,
+            &mut Unlocked::at_entry(),
+        )
     }
 }

@@ -10,3 +10,12 @@ pub enum LocalError {
     #[error("no random number")]
     NoRandom,
 }
+
+/// Why a run gives no output at this poll.
+#[derive(Clone, Copy, Debug, PartialEq, Eq, Drop)]
+pub enum RunError {
+    /// No copy of the waker could be had. What the poll did before stays done, and the run can be polled again.
+    NoMemory,
+    /// The run gave its output at an earlier poll.
+    Finished,
+}

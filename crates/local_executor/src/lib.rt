@@ -1,6 +1,7 @@
 //! Executors of one thread: their futures and outputs stay on it, and their wakers may be called from any.
 #![tactic(auto)]
 
+mod body;
 mod copying;
 mod debug;
 mod ending;
@@ -16,15 +17,18 @@ mod making;
 mod names;
 mod out;
 mod output;
+mod run;
 mod running;
 mod sections;
 mod spawning;
+mod starts;
 mod store;
 mod ticking;
 
 pub use async_task::{NoMemory, TaskError};
 pub use entry::{
-    LocalCancel, LocalExWaker, LocalExecutor, LocalFallible, LocalHandle, LocalTick, LocalWaker,
+    LocalCancel, LocalExWaker, LocalExecutor, LocalFallible, LocalHandle, LocalRun, LocalTick,
+    LocalWaker, StaticLocalExecutor,
 };
-pub use errors::LocalError;
+pub use errors::{LocalError, RunError};
 pub use solo::SpawnError;

@@ -1,11 +1,16 @@
-//! How executors and ticks are made: all memory that they need later is taken here.
-ghost use Rattle.std.specs.Prelude.{◌<◌};
+//! How executors, ticks and runs are made: all memory that they need later is taken here.
+ghost use Rattle.std.specs.Prelude.{◌≡◌, ◌<◌, Some, IfOk, IfErr};
+ghost use Rattle.local_executor.specs.Starts.{drawn, seeded};
 
-use crate::entry::{LocalExWaker, LocalExecutor, LocalTick, Unlocked};
+use crate::body::Body;
+use crate::entry::{LocalExWaker, LocalRun, LocalTick, Unlocked};
 use crate::errors::LocalError;
+use crate::foreign::Foreign;
 use crate::link::Link;
 use crate::locks::Guarded;
+use crate::run::Running;
 use crate::sections;
+use crate::starts::Starts;
 use crate::store::Store;
 use async_task::{Future, NoMemory, Wake};
 use solo::{Kind, Solo};
@@ -13,12 +18,13 @@ use std::alloc::Global;
 use std::random::RandomSource;
 use std::sync::{Arc, Wait};
 
-/// A new executor.
-pub fn executor<F, T, W, R>(
+/// What a new executor has.
+pub fn body<F, T, W, R>(
     rt: R,
     alloc: Global,
     limit: usize,
-) -> Result<LocalExecutor<F, T, W, R>, LocalError>
+    kind: Kind,
+) -> Result<Body<F, T, W, R>, LocalError>
 where
     F: Drop,
     T: Drop,
@@ -26,18 +32,15 @@ where
     R: RandomSource + Wait + Copy + Drop,
     requires { 0 < limit }
 {
-    let id = match drawn(&rt) {
+    let id = match drawn_by(&rt) {
         Some(id) => id,
         None => return Err(LocalError::NoRandom),
     };
-    let (Ok(tasks), Ok(store)) = (
-        Solo::new(alloc, limit, Kind::Owned),
-        Store::new(alloc, limit),
-    ) else {
+    let (Ok(tasks), Ok(store)) = (Solo::new(alloc, limit, kind), Store::new(alloc, limit)) else {
         return Err(LocalError::NoMemory);
     };
     match Arc::new(alloc, Guarded::new(tasks)) {
-        Ok(shared) => Ok(LocalExecutor {
+        Ok(shared) => Ok(Body {
             link: Link::new(shared, id, rt),
             store,
             alloc,
@@ -47,7 +50,7 @@ where
 }
 
 /// A number that the system draws.
-fn drawn<R: RandomSource>(rt: &R) -> Option<u64> {
+fn drawn_by<R: RandomSource>(rt: &R) -> Option<u64> {
     let mut bytes = [0; 8];
     match rt.fill_bytes(&mut bytes) {
         Ok(()) => Some(u64::from_ne_bytes(bytes)),
@@ -55,7 +58,7 @@ fn drawn<R: RandomSource>(rt: &R) -> Option<u64> {
     }
 }
 
-impl<F, T, W, R> LocalExecutor<F, T, W, R>
+impl<F, T, W, R> Body<F, T, W, R>
 where
     F: Future<LocalExWaker<W, R>, Output = T> + Drop,
     T: Drop,
@@ -79,6 +82,31 @@ where
                 ticker: Some(ticker),
             }),
             Err(_) => Err(NoMemory),
+        }
+    }
+
+    /// A run, which is awake. For want of memory the future comes back.
+    pub(crate) fn make_run<G>(
+        &self,
+        future: G,
+        seed: u64,
+        unlocked: &mut Unlocked,
+    ) -> Result<LocalRun<'_, F, T, W, R, G>, G>
+    where
+        G: Future<LocalExWaker<W, R>> + Drop,
+        ensures back { IfErr result (λ back. back ≡ future) }
+        ensures future { IfOk result (λ run. run.future ≡ Some future) }
+        ensures starts { IfOk result (λ run. run.starts ≡ drawn (seeded seed)) }
+    {
+        let made = sections::run(self.link.lock(unlocked).get());
+        match made {
+            Ok((runner, ticker)) => Ok(LocalRun {
+                executor: self,
+                future: Some(Foreign::of(future)),
+                running: Some(Running { runner, ticker }),
+                starts: Starts::new(seed),
+            }),
+            Err(_) => Err(future),
         }
     }
 }

@@ -3,7 +3,7 @@ ghost use Rattle.std.specs.Prelude.{◌≡◌};
 
 use crate::foreign::{Foreign, came_out};
 use executor_parts::EntryPlace;
-use solo::{Dropped, Owed, Polled, SoloWaker, Taken, Ticked, Told};
+use solo::{Dropped, Owed, Polled, Ran, SoloWaker, Taken, Ticked, Told};
 
 /// A waker that comes out.
 pub fn waker_out<W>(waker: SoloWaker<W>) -> SoloWaker<Foreign<W>>
@@ -87,6 +87,22 @@ pub fn ticked_out<W>(ticked: Ticked<EntryPlace, W>) -> Ticked<EntryPlace, Foreig
         old: came_out(old),
         spare: if_waker_out(spare),
         returned,
+    }
+}
+
+/// What a run's look hands out.
+pub fn ran_out<W>(ran: Ran<EntryPlace, W>) -> Ran<EntryPlace, Foreign<W>>
+    ensures { result ≡ ran }
+{
+    let Ran {
+        ticked,
+        gives_way,
+        has_walked,
+    } = ran;
+    Ran {
+        ticked: ticked_out(ticked),
+        gives_way,
+        has_walked,
     }
 }
 

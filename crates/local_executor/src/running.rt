@@ -1,6 +1,7 @@
 //! How a task is run: its future is polled, or dropped where the task is closed. Each look at the store, and each at what stands
 /// under the lock, is a section of its own.
-use crate::entry::{LocalExWaker, LocalExecutor, Unlocked};
+use crate::body::Body;
+use crate::entry::{LocalExWaker, Unlocked};
 use crate::foreign::{Foreign, let_go};
 use crate::futures::{Left, TakenOut};
 use crate::handle::drops_output;
@@ -11,7 +12,7 @@ use executor_parts::EntryPlace;
 use solo::{Back, Found, Lent, Taken};
 use std::sync::Wait;
 
-impl<F, T, W, R> LocalExecutor<F, T, W, R>
+impl<F, T, W, R> Body<F, T, W, R>
 where
     F: Future<LocalExWaker<W, R>, Output = T> + Drop,
     T: Drop,
@@ -81,7 +82,7 @@ where
     }
 }
 
-impl<F, T, W, R> LocalExecutor<F, T, W, R>
+impl<F, T, W, R> Body<F, T, W, R>
 where
     F: Drop,
     T: Drop,

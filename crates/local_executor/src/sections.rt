@@ -1,18 +1,21 @@
 //! What is done under the lock: each section is one call of `Solo`. No code of a user runs here: what comes out is `Foreign`.
-ghost use Rattle.std.specs.Prelude.{◌≡◌, IfSome, IfNone, OnSome, OnOk, IfErr, is_none};
+ghost use Rattle.std.specs.Prelude.{◌≡◌, IfSome, IfNone, OnSome, IfOk, OnOk, IfErr, is_none};
 ghost use Rattle.task_moves.specs.declared.local_task.answers.Back.TheVariants.{Ready, Pending};
 ghost use Rattle.solo.specs.declared.names.SoloWaker.TheVariants.{Task as OfTask};
 ghost use Rattle.solo.specs.Solo as solo;
 ghost use Rattle.solo.specs.Ticks as ticks;
 ghost use Rattle.solo.specs.Closing as closing;
+ghost use Rattle.solo.specs.Runs as runs;
 
 use crate::foreign::Foreign;
 use crate::names::Tasks;
-use crate::out::{dropped_out, owed_out, polled_out, taken_out, ticked_out, told_out, waker_in};
+use crate::out::{
+    dropped_out, owed_out, polled_out, ran_out, taken_out, ticked_out, told_out, waker_in,
+};
 use executor_parts::EntryPlace;
 use solo::{
-    Back, Dropped, Lent, Owed, Polled, SoloWaker, SpawnError, Spawned, Taken, Task, Ticked, Ticker,
-    Told,
+    Back, Dropped, Leaving, Lent, Missed, Owed, Polled, Ran, RunLeft, Runner, SoloWaker,
+    SpawnError, Spawned, Taken, Task, Ticked, Ticker, Told,
 };
 use std::alloc::AllocError;
 
@@ -213,4 +216,89 @@ pub fn tick_leave<W>(tasks: &mut Tasks<W>, ticker: Ticker) -> Dropped<Foreign<W>
     ensures dropped { result ≡ ticks.leave_answer ticker tasks.old }
 {
     dropped_out(tasks.tick_leave(ticker))
+}
+
+/// It becomes a static executor.
+pub fn leak<W>(tasks: &mut Tasks<W>)
+    ensures { tasks.new ≡ closing.leaked tasks.old }
+{
+    tasks.leak();
+}
+
+/// One more of the wakers that a leak has taken out is called.
+pub fn leak_next<W>(tasks: &mut Tasks<W>) -> Option<Told<Foreign<W>>>
+    ensures tasks { tasks.new ≡ closing.leak_woken tasks.old }
+    ensures told { result ≡ closing.leak_answer tasks.old }
+{
+    match tasks.leak_next() {
+        Some(told) => Some(told_out(told)),
+        None => None,
+    }
+}
+
+/// A new run.
+pub fn run<W>(tasks: &mut Tasks<W>) -> Result<(Runner, Ticker), AllocError>
+    ensures ok { OnOk result (tasks.new ≡ runs.made tasks.old) }
+    ensures runner { IfOk result (λ both. both ≡ (runs.new_runner tasks.old.runs.made, runs.awake)) }
+    ensures err { IfErr result (λ _. tasks.new ≡ tasks.old) }
+{
+    tasks.run()
+}
+
+/// The first poll of a run begins.
+pub fn run_begin<W>(tasks: &mut Tasks<W>, runner: &Runner)
+    ensures { tasks.new ≡ runs.begun runner.now tasks.old }
+{
+    tasks.run_begin(runner);
+}
+
+/// A run looks for a task, and its ticker comes back where there is none.
+pub fn run_search<W>(
+    tasks: &mut Tasks<W>,
+    runner: &mut Runner,
+    ticker: Ticker,
+    start: u64,
+) -> Result<Ran<EntryPlace, Foreign<W>>, Missed>
+    ensures tasks { tasks.new ≡ runs.searched runner.old ticker start tasks.old }
+    ensures runner { runner.new ≡ runs.runner_after runner.old start tasks.old }
+    ensures ran { result ≡ runs.search_answer runner.old ticker start tasks.old }
+{
+    match tasks.run_search(runner, ticker, start) {
+        Ok(ran) => Ok(ran_out(ran)),
+        Err(missed) => Err(missed),
+    }
+}
+
+/// A run looks for a task, or falls asleep with a waker.
+pub fn run_take<W>(
+    tasks: &mut Tasks<W>,
+    runner: &mut Runner,
+    ticker: Ticker,
+    waker: SoloWaker<Foreign<W>>,
+    start: u64,
+) -> Ran<EntryPlace, Foreign<W>>
+    ensures tasks { tasks.new ≡ runs.took runner.old ticker waker start tasks.old }
+    ensures runner { runner.new ≡ runs.runner_after runner.old start tasks.old }
+    ensures ran { result ≡ runs.take_answer runner.old ticker waker start tasks.old }
+{
+    ran_out(tasks.run_take(runner, ticker, waker_in(waker), start))
+}
+
+/// A run begins to leave.
+pub fn run_leave<W>(tasks: &mut Tasks<W>, runner: Runner, ticker: Ticker) -> Leaving
+    ensures tasks { tasks.new ≡ runs.left runner tasks.old }
+    ensures leaving { result ≡ runs.leave_answer runner ticker tasks.old }
+{
+    tasks.run_leave(runner, ticker)
+}
+
+/// One more of what a run that leaves has to do.
+pub fn run_drain<W>(tasks: &mut Tasks<W>, leaving: Leaving) -> RunLeft<Foreign<W>>
+    ensures tasks { tasks.new ≡ runs.drained leaving tasks.old }
+    ensures left { result ≡ runs.drain_answer leaving tasks.old }
+{
+    match tasks.run_drain(leaving) {
+        RunLeft::Scheduled(rest, told) => RunLeft::Scheduled(rest, told_out(told)),
+        RunLeft::Gone(dropped) => RunLeft::Gone(dropped_out(dropped)),
+    }
 }

@@ -3,7 +3,8 @@ ghost use Rattle.std.specs.Prelude.{◌≡◌, IfOk, IfErr};
 ghost use Rattle.solo.specs.Solo.{refused};
 ghost use Rattle.local_executor.specs.Accepting.{Accepts, IsRefusedAt};
 
-use crate::entry::{LocalExWaker, LocalExecutor, LocalHandle, Unlocked};
+use crate::body::Body;
+use crate::entry::{LocalExWaker, LocalHandle, Unlocked};
 use crate::foreign::Foreign;
 use crate::handle::Held;
 use crate::names::{Futures, Tasks};
@@ -72,7 +73,7 @@ impl<F: Drop, T: Drop, W> Both<'_, F, T, W> {
     }
 }
 
-impl<F, T, W, R> LocalExecutor<F, T, W, R>
+impl<F, T, W, R> Body<F, T, W, R>
 where
     F: Future<LocalExWaker<W, R>, Output = T> + Drop,
     T: Drop,

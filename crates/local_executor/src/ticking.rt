@@ -1,6 +1,7 @@
 //! How a tick looks for a task, falls asleep and leaves.
+use crate::body::Body;
 use crate::copying::{Copied, copy_for};
-use crate::entry::{LocalExWaker, LocalExecutor, LocalTick, Unlocked};
+use crate::entry::{LocalExWaker, LocalTick, Unlocked};
 use crate::foreign::{Foreign, let_go};
 use crate::link::Link;
 use crate::sections;
@@ -81,7 +82,7 @@ where
     }
 }
 
-impl<F, T, W, R> LocalExecutor<F, T, W, R>
+impl<F, T, W, R> Body<F, T, W, R>
 where
     F: Drop,
     T: Drop,
@@ -118,7 +119,11 @@ where
     }
 
     /// What a look hands out is called and dropped.
-    fn looked(&self, ticked: Ticked<EntryPlace, Foreign<W>>, unlocked: &mut Unlocked) -> Looked {
+    pub(crate) fn looked(
+        &self,
+        ticked: Ticked<EntryPlace, Foreign<W>>,
+        unlocked: &mut Unlocked,
+    ) -> Looked {
         let Ticked {
             ticker,
             look,

@@ -9,8 +9,10 @@ mod hello;
 mod many;
 mod moving;
 #[cfg(test)]
+mod runs;
+#[cfg(test)]
 mod texts;
 #[cfg(test)]
 mod threads;
 
-pub use moving::{Ready, send_last_waker, send_waker};
+pub use moving::{Never, Ready, send_last_waker, send_waker, send_waker_of_static};

@@ -1,6 +1,8 @@
 //! Of an executor of one thread only its wakers may go to another thread. The edits in `wrong/` send what else there is.
 use async_task::{Future, Nobody, Poll, Wake};
-use local_executor::{LocalExWaker, LocalExecutor, LocalHandle, LocalTick};
+use local_executor::{
+    LocalExWaker, LocalExecutor, LocalHandle, LocalRun, LocalTick, StaticLocalExecutor,
+};
 use std::sync::Wait;
 
 /// Gives its number. It may itself go to any thread.
@@ -13,6 +15,19 @@ impl<K: Wake> Future<K> for Ready {
     fn poll(&mut self, waker: &K) -> Poll<u64> {
         let _ = waker;
         Poll::Ready(self.0)
+    }
+}
+
+/// Is never ready. It may itself go to any thread.
+#[derive(Drop)]
+pub struct Never;
+
+impl<K: Wake> Future<K> for Never {
+    type Output = u64;
+
+    fn poll(&mut self, waker: &K) -> Poll<u64> {
+        let _ = waker;
+        Poll::Pending
     }
 }
 
@@ -41,4 +56,15 @@ pub fn send_last_waker<R: Wait + Copy + Drop + Send + Sync>(
 ) {
     send(last);
     drop(executor);
+}
+
+/// Sends a waker, and keeps a run and its static executor here.
+pub fn send_waker_of_static<R: Wait + Copy + Drop + Send + Sync>(
+    executor: &StaticLocalExecutor<Ready, u64, Nobody, R>,
+    run: LocalRun<'_, Ready, u64, Nobody, R, Never>,
+    own_waker: LocalExWaker<Nobody, R>,
+) {
+    send(own_waker);
+    drop(run);
+    executor.try_tick();
 }

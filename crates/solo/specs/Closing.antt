@@ -1,12 +1,13 @@
 -- The end of an executor of one owner.
-use Rattle.std.specs.Prelude.{Option, Some, None, slice_get}
-use Rattle.queue_steps.specs.ClosableQueue.{taken as without_first, shut}
+use Rattle.std.specs.Prelude.{List, [], ◌∷◌, map, Option, Some, None, slice_get}
+use Rattle.queue_steps.specs.ClosableQueue.{ClosableQueue, taken as without_first, shut}
 use Rattle.executor_parts.specs.declared.places.EntryPlace.{EntryPlace}
-use Rattle.executor_parts.specs.Places.{entry_in, set_future, future_of}
+use Rattle.executor_parts.specs.Places.{Entry, entry_in, set_future, future_of, unwoken}
 use Rattle.task_moves.specs.declared.local_task.answers.Finish.{Finish}
 use Rattle.task_moves.specs.declared.local_task.answers.Finish.TheVariants.{Nothing as NoAwaiter}
 use Rattle.solo.specs.declared.names.Task.{Task}
 use Rattle.solo.specs.declared.names.SoloWaker.{SoloWaker}
+use Rattle.solo.specs.declared.names.Kind.TheVariants.{Static}
 use Rattle.solo.specs.declared.owed.Owed.{Owed}
 use Rattle.solo.specs.declared.owed.Told.{Told}
 use Rattle.solo.specs.declared.closing.Awaited.{Awaited}
@@ -18,6 +19,15 @@ use Rattle.solo.specs.Cells as cells
 use Rattle.solo.specs.Turns as turns
 use Rattle.solo.specs.Turns.{turned, swept}
 use Rattle.solo.specs.Solo.{called, dropped, hands, woken, wake_answer, popped}
+
+abbrev pub pushed_if : Option Task → ClosableQueue Task → ClosableQueue Task
+pushed_if (Some task) line = pushed task line
+pushed_if None line = line
+
+-- the wakers that entries count come last, in order
+abbrev pub pushed_all : {F : Type 0} → List (Entry F (Option Task)) → ClosableQueue Task → ClosableQueue Task
+pushed_all [] line = line
+pushed_all (e ∷ es) line = pushed_all es (pushed_if e.waker line)
 
 abbrev pub awaited : {X : Type 0} → Finish (SoloWaker X) → Awaited X
 awaited finish = record { awaiter = called finish; old = dropped finish }
@@ -68,6 +78,18 @@ module _ {F T X : Type 0} where
   abbrev pub retract_answer : Task → Solo F T X → Owed F T X
   retract_answer task s = retract_answer_by (asked cells.retract_answer None task s.cells) task (turned cells.retracted task s)
 
+  -- a waker that came out of the table is to be called, if there is one
+  abbrev pub to_wake : Option Task → Solo F T X → Solo F T X
+  to_wake waker s = record s { leaving = pushed_if waker s.leaving }
+
+  -- it is static from now on, and no entry counts a waker; those that did are to be called, in the order of acceptance
+  abbrev pub leaked : Solo F T X → Solo F T X
+  leaked s = record s {
+    kind = Static;
+    table = record s.table { entries = map unwoken s.table.entries };
+    leaving = pushed_all s.table.entries s.leaving;
+  }
+
   abbrev pub leaving_woken : Task → Solo F T X → Solo F T X
   leaving_woken task s = swept task (turns.loosed task (woken task s))
 
@@ -102,6 +124,21 @@ module _ {F T X : Type 0} where
   abbrev pub first_left : Solo F T X → Solo F T X
   first_left s = record s { leaving = without_first s.leaving }
 
+  abbrev pub leak_woken_by : Option Task → Solo F T X → Solo F T X
+  leak_woken_by (Some task) s = leaving_woken task s
+  leak_woken_by None s = s
+
+  abbrev pub leak_answer_by : Option Task → Solo F T X → Option (Told X)
+  leak_answer_by (Some task) s = Some (leaving_answer task s)
+  leak_answer_by None s = None
+
+  -- the first waker that a leak has taken out is called
+  abbrev pub leak_woken : Solo F T X → Solo F T X
+  leak_woken s = leak_woken_by (slice_get s.leaving.items 0) (first_left s)
+
+  abbrev pub leak_answer : Solo F T X → Option (Told X)
+  leak_answer s = leak_answer_by (slice_get s.leaving.items 0) (first_left s)
+
   -- the task of the first future that was handed out is woken; then those that are left in the queue
   abbrev pub leaving_drained : Solo F T X → Solo F T X
   leaving_drained s = drained_waking (slice_get s.leaving.items 0) (first_left s)
@@ -112,11 +149,11 @@ module _ {F T X : Type 0} where
   abbrev pub first_going : Solo F T X → Solo F T X
   first_going s = record s { going = rest_table s.going }
 
-  abbrev pub drained_by : Option (Option F × Task) → Solo F T X → Solo F T X
-  drained_by (Some parts) s = record s { leaving = pushed parts.1 s.leaving }
+  abbrev pub drained_by : Option (Option F × Option Task) → Solo F T X → Solo F T X
+  drained_by (Some parts) s = to_wake parts.1 s
   drained_by None s = leaving_drained s
 
-  abbrev pub drain_answer_by : Option (Option F × Task) → Solo F T X → Option (Owed F T X)
+  abbrev pub drain_answer_by : Option (Option F × Option Task) → Solo F T X → Option (Owed F T X)
   drain_answer_by (Some parts) s = Some (hands parts.0 None turns.silent)
   drain_answer_by None s = drain_leaving_answer s
 

@@ -1,7 +1,10 @@
 pub mod Line
 pub mod Cells
 pub mod Table
+pub mod OwnQueues
 pub mod Turns
 pub mod Solo
 pub mod Ticks
 pub mod Closing
+pub mod Steals
+pub mod Runs

@@ -1,5 +1,6 @@
 -- What each call of an executor of one owner does, and what it hands out.
-use Rattle.std.specs.Prelude.{◌≡◌, ℕ, ◌==◌, ◌||◌, Bool, true, false, [], Option, Some, None, is_some, Result, Ok, Err, length, slice_get, unwrap_or}
+use Rattle.std.specs.Prelude.{◌≡◌, ℕ, ◌==◌, ◌||◌, Bool, true, false, [], Option, Some, None, is_some, Result, Ok, Err, length}
+use Rattle.std.specs.Prelude.{slice_get, unwrap_or}
 use Rattle.queue_steps.specs.ClosableQueue.{new_queue, count_of_new, taken as without_first}
 use Rattle.executor_parts.specs.declared.places.EntryPlace.{EntryPlace}
 use Rattle.executor_parts.specs.Places.{entry_in, set_future, displaced}
@@ -27,6 +28,7 @@ use Rattle.solo.specs.declared.cells.After.TheVariants.{Queue, Rest, Drop as Dro
 use Rattle.solo.specs.Table.{Accepts, Refuses}
 use Rattle.solo.specs.Cells.{choose, changed, asked, tidied}
 use Rattle.solo.specs.Cells as cells
+use Rattle.solo.specs.OwnQueues as own
 use Rattle.solo.specs.Turns as turns
 use Rattle.solo.specs.Turns.{turned, swept}
 
@@ -58,6 +60,7 @@ module _ {F T X : Type 0} where
     pub leaving : s.leaving ≡ new_queue (Some limit) (count_of_new limit)
     pub sleepers : s.sleepers ≡ record { count = 0; rooms = 0; wakers = []; free = [] }
     pub notified : s.notified ≡ true
+    pub runs : s.runs ≡ own.none
     pub kind_of : s.kind ≡ kind
     pub accepted : s.accepted ≡ 0
 
@@ -68,7 +71,7 @@ module _ {F T X : Type 0} where
   abbrev pub Accepting : F → Solo F T X → Result Task (SpawnError F) → Solo F T X → Type 0
   Accepting future old (Ok task) new =
       Accepts old.accepted (counts old.kind) future old.table old.cells task new.table new.cells
-      × (new ≡ record old { table = new.table; cells = new.cells; accepted = new.accepted })
+      × (new ≡ record old { table = new.table; cells = new.cells; accepted = own.one_more old.accepted })
   Accepting future old (Err refused) new =
       Refuses future old.table old.cells new.table new.cells refused × (new ≡ record old { table = new.table; cells = new.cells })
 

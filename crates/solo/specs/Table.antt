@@ -1,4 +1,4 @@
--- The futures that aren't dropped, in the order in which they were accepted, each with its task.
+-- The futures that aren't dropped, in the order in which they were accepted, each with a waker, where entries count one.
 use Rattle.std.specs.Prelude.{◌≡◌, ℕ, ◌<◌, ◌≤◌, Bool, true, List, [], ◌∷◌, ◌++◌, length, Option, Some, None}
 use Rattle.slab.specs.Slab.{get, Updates, HasRoomFor}
 use Rattle.executor_parts.specs.Places.{Entry, entry_in, left_by, parts_of}
@@ -10,23 +10,27 @@ use Rattle.solo.specs.declared.cells.Cells.{Cells}
 use Rattle.solo.specs.Cells as cells
 
 pub record TableValue (F : Type 0) : Type 0 where
-  pub entries : List (Entry F Task)
+  pub entries : List (Entry F (Option Task))
   -- at most so many
   pub limit : ℕ
   -- one more may enter without memory
   pub has_room : Bool
 
+-- the waker that an entry counts, where it counts one
+abbrev pub counted_waker : Bool → Task → Option Task
+counted_waker held task = cells.choose held (Some task) None
+
 module _ {F : Type 0} where
-  abbrev pub first_parts : List (Entry F Task) → Option (Option F × Task)
+  abbrev pub first_parts : List (Entry F (Option Task)) → Option (Option F × Option Task)
   first_parts [] = None
   first_parts (e ∷ es) = Some (e.future, e.waker)
 
-  abbrev pub rest_of : List (Entry F Task) → List (Entry F Task)
+  abbrev pub rest_of : List (Entry F (Option Task)) → List (Entry F (Option Task))
   rest_of [] = []
   rest_of (e ∷ es) = es
 
   -- an entry that goes leaves its room
-  abbrev pub room_after : Option (Option F × Task) → Bool → Bool
+  abbrev pub room_after : Option (Option F × Option Task) → Bool → Bool
   room_after None had = had
   room_after (Some parts) had = true
 
@@ -39,15 +43,17 @@ module _ {F : Type 0} where
   abbrev pub rest_table : TableValue F → TableValue F
   rest_table t = record t { entries = rest_of t.entries; has_room = room_after (first_parts t.entries) t.has_room }
 
-  abbrev pub new_entry : EntryPlace → F → Task → Entry F Task
-  new_entry place future task = record { key = place.key; stamp = place.stamp; future = Some future; waker = task }
+  abbrev pub new_entry : EntryPlace → F → Option Task → Entry F (Option Task)
+  new_entry place future waker = record { key = place.key; stamp = place.stamp; future = Some future; waker = waker }
 
 module _ {F T X : Type 0} where
   -- below the limit, a future comes last in the table, and its task among the cells
-  pub record Accepts (number : ℕ) (held : Bool) (future : F) (old : TableValue F) (cells_before : Cells T X) (task : Task) (new : TableValue F) (cells_after : Cells T X) : Type 0 where
+  pub record Accepts (number : ℕ) (held : Bool) (future : F) (old : TableValue F) (cells_before : Cells T X) (task : Task)
+      (new : TableValue F) (cells_after : Cells T X) : Type 0 where
     pub below : length old.entries < old.limit
     pub place : EntryPlace
-    pub entered : new ≡ record old { entries = old.entries ++ new_entry place future task ∷ []; has_room = new.has_room }
+    pub entered :
+        new ≡ record old { entries = old.entries ++ new_entry place future (counted_waker held task) ∷ []; has_room = new.has_room }
     pub numbered : task.number ≡ number
     pub was_free : get cells_before.slab task.key ≡ None
     pub cell : Updates cells_before.slab cells_after.slab task.key (cells.entered number place held)

@@ -6,8 +6,6 @@ use Rattle.executor_parts.specs.Sleepers.{last_waker, without_last}
 use Rattle.task_moves.specs.declared.local_task.answers.Start.{Start}
 use Rattle.task_moves.specs.declared.local_task.answers.Start.TheVariants.{Poll, Drop}
 use Rattle.solo.specs.declared.names.Task.{Task}
-use Rattle.solo.specs.declared.names.Kind.{Kind}
-use Rattle.solo.specs.declared.names.Kind.TheVariants.{Owned, Static}
 use Rattle.solo.specs.declared.names.SoloWaker.{SoloWaker}
 use Rattle.solo.specs.declared.names.SoloWaker.TheVariants.{Task as OfTask, Outside}
 use Rattle.solo.specs.declared.owed.Told.{Told}
@@ -73,7 +71,8 @@ module _ {F T X : Type 0} where
   abbrev pub handed : Solo F T X → Solo F T X
   handed s = choose (is_full s) (handed_by (last_waker s.sleepers.wakers) (record s { sleepers = without_last s.sleepers })) s
 
-  -- a sleeper is told: whoever turns the flag from false to true calls the one who fell asleep last, where all sleepers have their wakers
+  -- a sleeper is told: whoever turns the flag from false to true calls the one who fell asleep last, where all sleepers have their
+  -- wakers
   abbrev pub told : Solo F T X → Solo F T X
   told s = choose s.notified s (handed (record s { notified = true }))
 
@@ -121,23 +120,18 @@ module _ {F T X : Type 0} where
   abbrev pub begin_answer : Task → Solo F T X → Found F
   begin_answer task s = found_by task (asked cells.start_answer None task s.cells) s
 
-  abbrev pub let_go_by : Kind → Task → Solo F T X → Solo F T X
-  let_go_by Owned task s = let_go task s
-  let_go_by Static task s = s
+  -- an entry's waker goes, if it has one
+  abbrev pub let_go_if : Option Task → Solo F T X → Solo F T X
+  let_go_if (Some task) s = let_go task s
+  let_go_if None s = s
 
-  abbrev pub let_go_counted : Task → Solo F T X → Solo F T X
-  let_go_counted task s = let_go_by s.kind task s
+  abbrev pub let_go_if_answer : Option Task → Solo F T X → Told X
+  let_go_if_answer (Some task) s = let_go_answer task s
+  let_go_if_answer None s = silent
 
-  abbrev pub let_go_answer_by : Kind → Task → Solo F T X → Told X
-  let_go_answer_by Owned task s = let_go_answer task s
-  let_go_answer_by Static task s = silent
-
-  abbrev pub let_go_counted_answer : Task → Solo F T X → Told X
-  let_go_counted_answer task s = let_go_answer_by s.kind task s
-
-  abbrev pub left_by_parts : Option (Option F × Task) → Solo F T X → Solo F T X
+  abbrev pub left_by_parts : Option (Option F × Option Task) → Solo F T X → Solo F T X
   left_by_parts None s = s
-  left_by_parts (Some parts) s = let_go_counted parts.1 s
+  left_by_parts (Some parts) s = let_go_if parts.1 s
 
   abbrev pub without : EntryPlace → Solo F T X → Solo F T X
   without place s = record s { table = left_table place s.table }
@@ -146,9 +140,9 @@ module _ {F T X : Type 0} where
   abbrev pub left : EntryPlace → Solo F T X → Solo F T X
   left place s = left_by_parts (parts_of (entry_in place s.table.entries)) (without place s)
 
-  abbrev pub left_answer_by : Option (Option F × Task) → Solo F T X → Left F X
+  abbrev pub left_answer_by : Option (Option F × Option Task) → Solo F T X → Left F X
   left_answer_by None s = record { future = None; told = silent }
-  left_answer_by (Some parts) s = record { future = parts.0; told = let_go_counted_answer parts.1 s }
+  left_answer_by (Some parts) s = record { future = parts.0; told = let_go_if_answer parts.1 s }
 
   abbrev pub left_answer : EntryPlace → Solo F T X → Left F X
   left_answer place s = left_answer_by (parts_of (entry_in place s.table.entries)) (without place s)

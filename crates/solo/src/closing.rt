@@ -1,8 +1,8 @@
-//! The end of an executor: its futures are taken out and dropped, and its tasks closed.
+//! The end of an executor: its futures are taken out and dropped, and its tasks closed. Or it never ends: it is leaked.
 ghost use Rattle.std.specs.Prelude.{◌≡◌};
 ghost use Rattle.solo.specs.Closing as closing;
 
-use crate::names::{SoloWaker, Task};
+use crate::names::{Kind, SoloWaker, Task};
 use crate::owed::{Lent, Owed, Told, hands, silent};
 use crate::solo::Solo;
 use task_moves::local_task::Finish;
@@ -51,11 +51,42 @@ impl<F, T, X> Solo<F, T, X> {
         ensures owed { result ≡ closing.drain_answer self.old }
     {
         match self.going.leave_first() {
-            Some((future, task)) => {
-                self.leaving.push(task);
+            Some((future, waker)) => {
+                self.will_wake(waker);
                 Some(hands(future, None, silent()))
             }
             None => self.drain_leaving(),
+        }
+    }
+
+    /// A waker that came out of the table is to be called, if there is one.
+    fn will_wake(&mut self, waker: Option<Task>)
+        ensures { self.new ≡ closing.to_wake waker self.old }
+    {
+        if let Some(task) = waker {
+            self.leaving.push(task);
+        }
+    }
+
+    /// It becomes a static executor, which counts no waker of its futures. Those that it counted are taken out, for `leak_next`.
+    pub fn leak(&mut self)
+        ensures { self.new ≡ closing.leaked self.old }
+    {
+        self.kind = Kind::Static;
+        for _step in 0..self.table.len() {
+            let waker = self.table.turn();
+            self.will_wake(waker);
+        }
+    }
+
+    /// One more of the wakers that a leak has taken out is called, in the order of acceptance: its task is queued, or was before.
+    pub fn leak_next(&mut self) -> Option<Told<X>>
+        ensures solo { self.new ≡ closing.leak_woken self.old }
+        ensures told { result ≡ closing.leak_answer self.old }
+    {
+        match self.leaving.pop() {
+            Some(task) => Some(self.wake_leaving(task)),
+            None => None,
         }
     }
 

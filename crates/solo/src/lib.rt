@@ -6,7 +6,10 @@ mod closing;
 mod line;
 mod names;
 mod owed;
+mod own_queues;
+mod runs;
 mod solo;
+mod steals;
 mod table;
 #[cfg(test)]
 mod tests;
@@ -15,6 +18,7 @@ mod turns;
 
 pub use names::{Kind, SoloWaker, Task};
 pub use owed::{Found, Lent, Owed, SpawnError, Spawned, Taken, Told};
+pub use runs::{Leaving, Missed, Ran, RunLeft, Runner};
 pub use solo::Solo;
 pub use task_moves::local_task::{Back, Polled};
 pub use ticks::{Dropped, Look, Ticked, Ticker};

@@ -1,5 +1,6 @@
 //! The executor, and its calls on tasks and futures.
 ghost use Rattle.std.specs.Prelude.{◌≡◌, ◌<◌, IfOk, length, true};
+ghost use Rattle.solo.specs.OwnQueues as own;
 ghost use Rattle.solo.specs.Solo as solo;
 
 use crate::cells::{After, Cells, Ended};
@@ -7,6 +8,7 @@ use crate::closing::{Awaited, after_finish};
 use crate::line::Line;
 use crate::names::{Kind, SoloWaker, Task};
 use crate::owed::{Found, Lent, Owed, SpawnError, Spawned, Taken, Told, hands, silent};
+use crate::own_queues::OwnQueues;
 use crate::table::Table;
 use crate::turns::Left;
 use executor_parts::Sleepers;
@@ -16,7 +18,7 @@ use task_moves::local_task::{Back, Cancel, Detach, Polled};
 
 /// An executor of one owner. It polls, drops and calls nothing itself: each call hands out what its owner has to.
 ///
-/// Its tasks are numbered from 0 in the order in which their futures were accepted. `spawn` and `tick` alone take memory.
+/// Its tasks are numbered from 0 in the order in which their futures were accepted. `spawn`, `tick` and `run` alone take memory.
 #[derive(Drop)]
 pub struct Solo<F, T, X> {
     pub(crate) cells: Cells<T, X>,
@@ -31,6 +33,8 @@ pub struct Solo<F, T, X> {
     pub(crate) sleepers: Sleepers<SoloWaker<X>>,
     // A sleeper is told, or nobody sleeps.
     pub(crate) notified: bool,
+    // The own queues of runs.
+    pub(crate) runs: OwnQueues,
     pub(crate) kind: Kind,
     // How many futures were accepted.
     pub(crate) accepted: u64,
@@ -52,6 +56,7 @@ impl<F, T, X> Solo<F, T, X> {
                     leaving,
                     sleepers: Sleepers::new(alloc),
                     notified: true,
+                    runs: OwnQueues::new(alloc),
                     kind,
                     accepted: 0,
                 }),
@@ -82,7 +87,14 @@ impl<F, T, X> Solo<F, T, X> {
         self.line.len()
     }
 
-    /// How many ticks sleep.
+    /// How many tasks stand in the own queue at this place of the list that runs walk round, if there is one.
+    pub fn run_length(&self, at: usize) -> Option<usize>
+        ensures { result ≡ own.length_at at self.now.runs }
+    {
+        self.runs.length_at(at)
+    }
+
+    /// How many ticks and runs sleep.
     pub fn sleeper_count(&self) -> usize
         ensures { result ≡ self.now.sleepers.count }
     {

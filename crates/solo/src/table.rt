@@ -1,6 +1,6 @@
-//! The futures of an executor that aren't dropped, in the order in which they were accepted, each with its task.
+//! The futures of an executor that aren't dropped, in the order in which they were accepted, each with a waker, where entries count one.
 ghost use Rattle.std.specs.Prelude.{◌≡◌, ◌==◌, [], length, IfErr, IfOk, Some, None};
-ghost use Rattle.executor_parts.specs.Places.{entry_in, set_future, future_of, parts_of, displaced};
+ghost use Rattle.executor_parts.specs.Places.{entry_in, set_future, future_of, parts_of, displaced, turned, first_waker};
 ghost use Rattle.solo.specs.Table.{first_parts, left_table, rest_table, Accepts, Refuses};
 
 use crate::cells::Cells;
@@ -13,7 +13,7 @@ use std::marker::Model;
 /// The table of futures, of which a contract sees the entries and their limit.
 #[derive(Drop)]
 pub struct Table<F> {
-    places: Places<F, Task>,
+    places: Places<F, Option<Task>>,
 }
 
 impl<F> Model for Table<F> {
@@ -55,7 +55,8 @@ impl<F> Table<F> {
         match cells.reserve() {
             Ok(()) => {
                 let task = cells.insert(number, vacancy.place(), is_held);
-                self.places.enter(vacancy, future, task);
+                let waker = if is_held { Some(task) } else { None };
+                self.places.enter(vacancy, future, waker);
                 Ok(task)
             }
             Err(_) => {
@@ -81,8 +82,8 @@ impl<F> Table<F> {
         self.places.put_back(place, future)
     }
 
-    /// An entry goes.
-    pub fn leave(&mut self, place: EntryPlace) -> Option<(Option<F>, Task)>
+    /// An entry goes, and with it its waker, if it has one.
+    pub fn leave(&mut self, place: EntryPlace) -> Option<(Option<F>, Option<Task>)>
         ensures table { self.new ≡ left_table place self.old }
         ensures parts { result ≡ parts_of (entry_in place self.old.entries) }
     {
@@ -90,11 +91,19 @@ impl<F> Table<F> {
     }
 
     /// The first entry goes.
-    pub fn leave_first(&mut self) -> Option<(Option<F>, Task)>
+    pub fn leave_first(&mut self) -> Option<(Option<F>, Option<Task>)>
         ensures table { self.new ≡ rest_table self.old }
         ensures parts { result ≡ first_parts self.old.entries }
     {
         self.places.leave_first()
+    }
+
+    /// The first entry comes last, and its waker is taken out.
+    pub fn turn(&mut self) -> Option<Task>
+        ensures table { self.new ≡ record self.old { entries = turned self.old.entries } }
+        ensures waker { result ≡ first_waker self.old.entries }
+    {
+        self.places.turn()
     }
 
     /// All entries change places with those of another table.

@@ -119,7 +119,7 @@ impl<F, T, X> Solo<F, T, X> {
     }
 
     /// A sleeper is told, where this call hasn't told one.
-    fn tell_unless(&mut self, told: Option<X>) -> Option<X>
+    pub(crate) fn tell_unless(&mut self, told: Option<X>) -> Option<X>
         ensures solo { self.new ≡ ticks.told_unless told self.old }
         ensures sleeper { result ≡ ticks.tell_unless_answer told self.old }
     {
@@ -150,7 +150,7 @@ impl<F, T, X> Solo<F, T, X> {
         }
     }
 
-    fn wake_up(&mut self, ticker: Ticker) -> WokeUp<X>
+    pub(crate) fn wake_up(&mut self, ticker: Ticker) -> WokeUp<X>
         ensures solo { self.new ≡ ticks.woke_up ticker self.old }
         ensures dropped { result.dropped ≡ ticks.wake_up_answer ticker self.old }
     {
@@ -174,7 +174,7 @@ impl<F, T, X> Solo<F, T, X> {
         }
     }
 
-    fn fall_asleep(&mut self, ticker: Ticker, waker: SoloWaker<X>) -> Ticked<F, X>
+    pub(crate) fn fall_asleep(&mut self, ticker: Ticker, waker: SoloWaker<X>) -> Ticked<F, X>
         ensures solo { self.new ≡ ticks.fallen_asleep ticker waker self.old }
         ensures ticked { result ≡ ticks.sleep_answer ticker waker self.old }
     {

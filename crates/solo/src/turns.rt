@@ -3,7 +3,7 @@
 ghost use Rattle.std.specs.Prelude.{◌≡◌};
 ghost use Rattle.solo.specs.Turns as turns;
 
-use crate::names::{Kind, SoloWaker, Task};
+use crate::names::{SoloWaker, Task};
 use crate::owed::{Found, Lent, Told, silent};
 use crate::solo::Solo;
 use executor_parts::{EntryPlace, exchange_flag};
@@ -117,9 +117,9 @@ impl<F, T, X> Solo<F, T, X> {
         ensures left { result ≡ turns.left_answer place self.old }
     {
         match self.table.leave(place) {
-            Some((future, task)) => Left {
+            Some((future, waker)) => Left {
                 future,
-                told: self.let_go_counted(task),
+                told: self.let_go_if(waker),
             },
             None => Left {
                 future: None,
@@ -128,14 +128,14 @@ impl<F, T, X> Solo<F, T, X> {
         }
     }
 
-    /// The waker of an entry that went is released, where entries count one.
-    pub(crate) fn let_go_counted(&mut self, task: Task) -> Told<X>
-        ensures solo { self.new ≡ turns.let_go_counted task self.old }
-        ensures told { result ≡ turns.let_go_counted_answer task self.old }
+    /// The waker of an entry that went is released, if it had one.
+    fn let_go_if(&mut self, waker: Option<Task>) -> Told<X>
+        ensures solo { self.new ≡ turns.let_go_if waker self.old }
+        ensures told { result ≡ turns.let_go_if_answer waker self.old }
     {
-        match self.kind {
-            Kind::Owned => self.let_go(task),
-            Kind::Static => silent(),
+        match waker {
+            Some(task) => self.let_go(task),
+            None => silent(),
         }
     }
 }

@@ -1,5 +1,6 @@
 //! Ticks of an executor of one thread.
-use crate::entry::{LocalExWaker, LocalExecutor, Unlocked};
+use crate::body::Body;
+use crate::entry::{LocalExWaker, Unlocked};
 use crate::ticking;
 use async_task::{Future, NoMemory, Poll, Wake};
 use solo::Ticker;
@@ -8,7 +9,7 @@ use std::sync::Wait;
 /// Waits for a future that is to be polled, and polls it once: a future with output `Ok(())`. After it was ready it serves as a
 /// new one. Its drop passes on to another tick or run what it had been told.
 ///
-/// It is made by `LocalExecutor::tick`.
+/// It is made by `LocalExecutor::tick` or `StaticLocalExecutor::tick`.
 #[must_use]
 pub struct LocalTick<'a, F, T, W, R>
 where
@@ -17,7 +18,7 @@ where
     W: Wake + Drop,
     R: Wait + Copy + Drop,
 {
-    pub(crate) executor: &'a LocalExecutor<F, T, W, R>,
+    pub(crate) executor: &'a Body<F, T, W, R>,
     /// It is out only while the tick is polled.
     pub(crate) ticker: Option<Ticker>,
 }

@@ -1,0 +1,20 @@
+//! What an executor that ends and one that never does have in common.
+use crate::link::Link;
+use crate::store::Store;
+use async_task::Wake;
+use std::alloc::Global;
+use std::sync::Wait;
+
+/// The way to the lock, and the futures.
+#[derive(Drop)]
+pub struct Body<F, T, W, R>
+where
+    F: Drop,
+    T: Drop,
+    W: Wake + Drop,
+    R: Wait + Copy + Drop,
+{
+    pub link: Link<W, R>,
+    pub store: Store<F, T>,
+    pub alloc: Global,
+}

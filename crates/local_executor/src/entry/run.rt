@@ -1,0 +1,72 @@
+//! Runs of an executor of one thread.
+ghost use Rattle.local_executor.specs.Runs.{IsRunAnswer};
+
+use crate::body::Body;
+use crate::entry::{LocalExWaker, Unlocked};
+use crate::errors::RunError;
+use crate::foreign::Foreign;
+use crate::run::{self, Running};
+use crate::starts::Starts;
+use async_task::{Future, Poll, Wake};
+use std::sync::Wait;
+
+/// Runs the executor's futures until a future of its own is ready: a future with that one's output. Its drop gives back to the
+/// executor what it had taken to itself.
+///
+/// It is made by `LocalExecutor::run` or `StaticLocalExecutor::run`.
+#[must_use]
+pub struct LocalRun<'a, F, T, W, R, G>
+where
+    F: Drop,
+    T: Drop,
+    W: Wake + Drop,
+    R: Wait + Copy + Drop,
+    G: Drop,
+{
+    pub(crate) executor: &'a Body<F, T, W, R>,
+    /// The future that it runs for, until that is ready.
+    pub(crate) future: Option<Foreign<G>>,
+    /// It is out only while the run is polled, and gone once that was ready.
+    pub(crate) running: Option<Running>,
+    pub(crate) starts: Starts,
+}
+
+impl<F, T, W, R, G> Future<LocalExWaker<W, R>> for LocalRun<'_, F, T, W, R, G>
+where
+    F: Future<LocalExWaker<W, R>, Output = T> + Drop,
+    T: Drop,
+    W: Wake + Drop,
+    R: Wait + Copy + Drop,
+    G: Future<LocalExWaker<W, R>> + Drop,
+{
+    type Output = Result<G::Output, RunError>;
+
+    /// Polls its future, and is ready where that is. Else it runs tasks, until it finds none or ran 200 since it last let others
+    /// go first.
+    fn poll(&mut self, waker: &LocalExWaker<W, R>) -> Poll<Result<G::Output, RunError>>
+        ensures { IsRunAnswer self.old.future self.new.future result }
+    {
+        self.go_on(waker, &mut Unlocked::at_entry())
+    }
+}
+
+impl<F, T, W, R, G> Drop for LocalRun<'_, F, T, W, R, G>
+where
+    F: Drop,
+    T: Drop,
+    W: Wake + Drop,
+    R: Wait + Copy + Drop,
+    G: Drop,
+{
+    /// Drops its future, schedules what is left in its own queue, and leaves the sleepers. A run that was never polled only
+    /// drops its future and gives its room back.
+    fn drop(self) {
+        let LocalRun {
+            executor,
+            future,
+            running,
+            starts: _,
+        } = self;
+        run::end(&executor.link, future, running, &mut Unlocked::at_entry());
+    }
+}

@@ -1,0 +1,122 @@
+//! The executor of one thread that never ends, as a user has it.
+ghost use Rattle.std.specs.Prelude.{◌≡◌, ◌<◌, Some, IfOk, IfErr};
+ghost use Rattle.solo.specs.Solo.{refused};
+ghost use Rattle.local_executor.specs.Starts.{drawn, seeded};
+
+use super::{LocalExWaker, LocalHandle, LocalRun, LocalTick, Unlocked};
+use crate::body::Body;
+use crate::debug::show;
+use crate::errors::LocalError;
+use crate::making;
+use async_task::{Future, NoMemory, Wake};
+use solo::{Kind, SpawnError};
+use std::alloc::Global;
+use std::random::RandomSource;
+use std::sync::Wait;
+use std::{fmt, mem};
+
+/// An executor of futures `F`, whose outputs are `T`, on one thread, which never ends: what it still holds when it goes is leaked.
+/// It counts no wakers of its own: a detached future that nobody can wake any more is dropped by the executor.
+pub struct StaticLocalExecutor<F, T, W, R>
+where
+    F: Drop,
+    T: Drop,
+    W: Wake + Drop,
+    R: Wait + Copy + Drop,
+{
+    pub(crate) body: Body<F, T, W, R>,
+}
+
+impl<F, T, W, R> StaticLocalExecutor<F, T, W, R>
+where
+    F: Future<LocalExWaker<W, R>, Output = T> + Drop,
+    T: Drop,
+    W: Wake + Drop,
+    R: Wait + Copy + Drop,
+{
+    /// An executor with places for so many futures, as `LocalExecutor::new` makes one.
+    pub fn new(rt: R, alloc: Global, limit: usize) -> Result<Self, LocalError>
+    where
+        R: RandomSource,
+        requires { 0 < limit }
+    {
+        match making::body(rt, alloc, limit, Kind::Static) {
+            Ok(body) => Ok(StaticLocalExecutor { body }),
+            Err(error) => Err(error),
+        }
+    }
+
+    /// Hands the executor a future. Its task is queued, and the handle is answered: a future with the output, whose drop
+    /// cancels the task. `Full` where as many accepted futures as the limit are not dropped yet, and only then want of memory
+    /// for the task. The future comes back.
+    pub fn spawn(&self, future: F) -> Result<LocalHandle<T, W, R>, SpawnError<F>>
+        ensures { IfErr result (λ error. refused error ≡ future) }
+    {
+        self.body.hand_in(future, &mut Unlocked::at_entry())
+    }
+
+    /// Runs one task, where one is queued, and says whether it did. It doesn't wait for one, and takes no memory.
+    pub fn try_tick(&self) -> bool {
+        self.body.run_one(&mut Unlocked::at_entry())
+    }
+
+    /// A future that waits for a future of the executor which is to be polled, and polls it once.
+    pub fn tick(&self) -> Result<LocalTick<'_, F, T, W, R>, NoMemory> {
+        self.body.make_tick(&mut Unlocked::at_entry())
+    }
+
+    /// A future that runs the executor's futures until this one is ready, and has its output then. For want of memory the
+    /// future comes back.
+    pub fn run<G>(&self, future: G) -> Result<LocalRun<'_, F, T, W, R, G>, G>
+    where
+        G: Future<LocalExWaker<W, R>> + Drop,
+        ensures back { IfErr result (λ back. back ≡ future) }
+        ensures future { IfOk result (λ run. run.future ≡ Some future) }
+        ensures starts { IfOk result (λ run. run.starts ≡ drawn (seeded 0)) }
+    {
+        self.body.make_run(future, 0, &mut Unlocked::at_entry())
+    }
+
+    /// As `run`, with another seed for the places at which it begins to look for tasks of other runs.
+    pub fn run_from<G>(&self, future: G, seed: u64) -> Result<LocalRun<'_, F, T, W, R, G>, G>
+    where
+        G: Future<LocalExWaker<W, R>> + Drop,
+        ensures back { IfErr result (λ back. back ≡ future) }
+        ensures future { IfOk result (λ run. run.future ≡ Some future) }
+        ensures starts { IfOk result (λ run. run.starts ≡ drawn (seeded seed)) }
+    {
+        self.body.make_run(future, seed, &mut Unlocked::at_entry())
+    }
+}
+
+impl<F, T, W, R> Drop for StaticLocalExecutor<F, T, W, R>
+where
+    F: Drop,
+    T: Drop,
+    W: Wake + Drop,
+    R: Wait + Copy + Drop,
+{
+    /// What it still holds is leaked.
+    fn drop(self) {
+        let StaticLocalExecutor { body } = self;
+        mem::forget(body);
+    }
+}
+
+/// As that of a `LocalExecutor`.
+impl<F, T, W, R> fmt::Debug for StaticLocalExecutor<F, T, W, R>
+where
+    F: Drop,
+    T: Drop,
+    W: Wake + Drop,
+    R: Wait + Copy + Drop,
+{
+    fn fmt<O: fmt::Write>(&self, f: &mut fmt::Formatter<O>) -> fmt::Result {
+        show(
+            &self.body.link,
+            "StaticLocalExecutor",
+            f,
+            &mut Unlocked::at_entry(),
+        )
+    }
+}

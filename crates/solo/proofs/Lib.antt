@@ -1,0 +1,2 @@
+mod Stealing
+mod Leaking

@@ -5,6 +5,7 @@ use crate::{
 };
 use std::alloc::AllocGlobal;
 use std::process::Abort;
+use std::sync::Wait;
 use std::test::Fail;
 
 /// Futures that give way as often as their numbers say.
@@ -168,9 +169,9 @@ fn ran_in_turn(
 }
 
 /// A run leaves.
-fn leave(solo: &mut Numbers, runner: Runner, ticker: Ticker) -> bool {
+fn leave(rt: &impl Wait, solo: &mut Numbers, runner: Runner, ticker: Ticker) -> bool {
     let mut leaving = solo.run_leave(runner, ticker);
-    for _ in 0..1000 {
+    for _ in rt.forever() {
         match solo.run_drain(leaving) {
             RunLeft::Scheduled(
                 rest,
@@ -234,7 +235,7 @@ fn a_run_takes_each_in_turn(rt: HostRuntime) -> Result<(), Fail> {
         gives_way,
     } = run_all(&mut solo, &mut runner, ticker, 4);
     assert!(&rt; are_in_turn & !gives_way & (count == 8));
-    assert!(&rt; leave(&mut solo, runner, ticker) & solo.is_empty());
+    assert!(&rt; leave(&rt, &mut solo, runner, ticker) & solo.is_empty());
     Ok(())
 }
 
@@ -257,7 +258,7 @@ fn a_run_lets_others_go_first(rt: HostRuntime) -> Result<(), Fail> {
     assert!(&rt; are_in_turn & gives_way & (count == 200));
     let Taken { found, sleeper: _ } = solo.take();
     assert!(&rt; poll(&mut solo, found) == None);
-    assert!(&rt; leave(&mut solo, runner, ticker) & !solo.is_empty());
+    assert!(&rt; leave(&rt, &mut solo, runner, ticker) & !solo.is_empty());
     let Taken { found, sleeper: _ } = solo.take();
     assert!(&rt; poll(&mut solo, found) == Some(200));
     assert!(&rt; solo.is_empty());

@@ -124,7 +124,12 @@ fn is_run<R: Wait + Copy + Drop + 'static>(queue: &TestQueue<R>) -> bool {
 
 /// Whether each of so many futures, handed in one after the other, is accepted and run to its end.
 fn are_run<R: Wait + Copy + Drop + 'static>(queue: &TestQueue<R>) -> bool {
-    (0..ROUNDS).all(|_| is_run(queue))
+    for _ in 0..ROUNDS {
+        if !is_run(queue) {
+            return false;
+        }
+    }
+    true
 }
 
 /// Two threads hand in futures where there is room for one: each that is accepted is run to its end.

@@ -1,54 +1,78 @@
-//! An actor: an account with a mailbox of four places. Three clients, each on a thread, send it deposits.
-use async_executor::ExWaker;
-use async_task::{Future, Poll};
+//! An actor: an account serves deposits. Its client sends to its mailbox, and waits for each reply in its own.
+use async_executor::{ExWaker, Executor};
+use async_task::{Future, Poll, Realm, Wake};
 use blocking::{ThreadWaker, block_on};
-use std::alloc::Global;
+use concurrent_queue::ConcurrentQueue;
+use std::alloc::{AllocError, Global};
 use std::sync::Wait;
-use std::thread::{self, Threads};
-use waiting::channel::{Receiver, Sender};
+use std::{io, thread};
 
-type Waker<R> = ExWaker<u64, ThreadWaker, R>;
-
-/// Its mailbox, and its balance.
+/// Messages, and a place for the waker that their receiver left last.
 #[derive(Drop)]
-pub struct Account<R: Wait + Copy + Drop + 'static>(R, Receiver<u64, Waker<R>, R>, u64);
+struct Mailbox<K>(ConcurrentQueue<u64>, ConcurrentQueue<K>);
 
-impl<R: Wait + Copy + Drop + 'static> Account<R> {
-    pub fn new(rt: R, mailbox: Receiver<u64, Waker<R>, R>) -> Self {
-        Account(rt, mailbox, 0)
+impl<K: Wake + Drop> Mailbox<K> {
+    fn send<R: Wait>(&self, rt: &R, message: u64) {
+        let _ = self.0.push(rt, message);
+        let _ = self.1.pop(rt).map(|waker| waker.wake());
     }
 }
 
-impl<R: Wait + Copy + Drop + 'static> Future<Waker<R>> for Account<R> {
+fn leak_mailbox<'a, K: Drop + 'a>(alloc: Global) -> io::Result<&'a Mailbox<K>> {
+    let place = ConcurrentQueue::bounded(alloc, 1).map_err(|_| AllocError)?;
+    Ok(Box::leak(Box::new(alloc, Mailbox(ConcurrentQueue::unbounded(alloc), place))?))
+}
+
+/// The next message. The waker is left before the look, so that what comes later calls it.
+#[derive(Drop)]
+struct Receive<K: 'static, R>(&'static Mailbox<K>, R);
+
+impl<K: Wake + Drop + 'static, R: Wait> Future<K> for Receive<K, R> {
     type Output = u64;
 
-    fn poll(&mut self, waker: &Waker<R>) -> Poll<u64> {
-        let rt = self.0;
-        for _ in rt.forever() {
-            match self.1.poll_recv(waker) {
-                Poll::Pending => return Poll::Pending,
-                Poll::Ready(Ok(amount)) => self.2 = self.2.saturating_add(amount),
-                Poll::Ready(Err(_)) => return Poll::Ready(self.2),
-            }
-        }
-        unreachable!()
+    fn poll(&mut self, waker: &K) -> Poll<u64> {
+        let _ = waker.clone().map(|copy| self.0.1.force_push(&self.1, copy));
+        self.0.0.pop(&self.1).map_or(Poll::Pending, Poll::Ready)
     }
 }
 
-/// Three clients send the deposits 1 to 100 each; then the mailbox is closed.
-pub fn deposit<R: Threads + Send + Sync + Wait + Copy + Drop + 'static>(
-    rt: &R,
-    alloc: Global,
-    mailbox: &Sender<u64, Waker<R>, R>,
-) {
-    let client = |_: usize| {
-        let Ok(mut mailbox) = mailbox.clone() else {
-            return;
-        };
-        for amount in 1..=100 {
-            let _ = block_on::<Waker<R>, _, _>(rt, alloc, mailbox.send(amount));
+/// What it receives; its client's mailbox; how many deposits are to come, and its balance.
+#[derive(Drop)]
+struct Account<R: Wait + Copy + Drop + 'static>(
+    Receive<ExWaker<u64, ThreadWaker, R>, R>,
+    &'static Mailbox<ThreadWaker>,
+    (u64, u64),
+);
+
+impl<R: Wait + Copy + Drop + 'static> Future<ExWaker<u64, ThreadWaker, R>> for Account<R> {
+    type Output = u64;
+
+    fn poll(&mut self, waker: &ExWaker<u64, ThreadWaker, R>) -> Poll<u64> {
+        for _ in 0..self.2.0 {
+            let Poll::Ready(amount) = self.0.poll(waker) else {
+                return Poll::Pending;
+            };
+            self.2 = (self.2.0.saturating_sub(1), self.2.1.saturating_add(amount));
+            self.1.send(&self.0.1, self.2.1);
         }
+        Poll::Ready(self.2.1)
+    }
+}
+
+#[test]
+fn an_account_serves_a_hundred_deposits(rt: HostRuntime) -> io::Result<()> {
+    let alloc = rt.alloc();
+    let (client, account) = (leak_mailbox(alloc)?, leak_mailbox(alloc)?);
+    let bank = Executor::new(rt, alloc, Realm::leak(rt, alloc)?, 1)?;
+    let serving = Account(Receive(account, rt), client, (100, 0));
+    let task = bank.spawn(serving).map_err(|_| AllocError)?;
+    let run = bank.run(task).map_err(|_| AllocError)?;
+    let deposit = || for amount in 1..=100 {
+        account.send(&rt, amount);
+        let _ = block_on::<ThreadWaker, _, _>(&rt, alloc, Receive(client, rt));
     };
-    let _ = thread::map_indices(rt, alloc, 3, &client);
-    mailbox.close();
+    let serve = || block_on(&rt, alloc, run).ok()?.ok()?.ok();
+    let (balance, ()) = thread::join(&rt, serve, deposit);
+    assert!(rt; matches!(balance, Some(5_050)));
+    Ok(())
 }

@@ -1,0 +1,16 @@
+//! Programs to start from, a file each to copy. Each is a test, as its runtime value is one that may wait and start threads
+//! in `main` and in tests alone: a program has `fn main` there.
+#![tactic(auto)]
+
+#[cfg(test)]
+mod actor;
+#[cfg(test)]
+mod first_task;
+#[cfg(test)]
+mod pipeline;
+#[cfg(test)]
+mod thread_pool;
+#[cfg(test)]
+mod timer;
+#[cfg(test)]
+mod two_kinds;

@@ -7,7 +7,7 @@ use crate::player::Player;
 use crate::seat::{ScriptRun, ScriptTick, SitRun, SitTick};
 use crate::shelf::{Keep, SharedShelf};
 use crate::sitting::Seats;
-use script::{Command, Plain, Request, Word};
+use script::{Command, Plain, Refusal, Request, Word};
 use std::sync::Wait;
 
 /// Where the commands on an executor stop.
@@ -36,7 +36,7 @@ fn whole(command: &Command) -> Option<&Plain> {
     match command {
         Command::Whole(
             Request {
-                refused: false,
+                refusal: Refusal::Nothing,
                 plain,
             },
         ) => Some(plain),

@@ -110,6 +110,7 @@ impl<H: Drop> Scripted<H> {
             }
             Item::Ready(number) => Some(number),
             Item::Twice(name) => self.poll_held(name, waker),
+            Item::Stop(_) | Item::Nest => None,
         }
     }
 

@@ -9,6 +9,7 @@ mod names;
 mod parser;
 mod party;
 mod plain;
+mod refusal;
 mod word;
 
 pub use command::{Command, Request};
@@ -18,6 +19,7 @@ pub use name::Name;
 pub use names::Names;
 pub use parser::parse;
 pub use plain::Plain;
+pub use refusal::Refusal;
 pub use text_lines::{ParseError, Words};
 pub use word::Word;
 

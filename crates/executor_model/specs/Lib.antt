@@ -27,6 +27,7 @@ pub mod AskedPolls
 pub mod Emptiness
 pub mod Memory
 pub mod Refusals
+pub mod Numbered
 pub mod OutputKept
 pub mod OutputSettled
 pub mod AwaiterKept

@@ -1,20 +1,32 @@
--- Words that are none of the items, and none of the commands.
+-- Words that are none of the items, none of the commands, and no refusal.
 use Rattle.std.proofs.Common.{◌≢◌, ℕ, List, ◌∷◌, codes}
 use Rattle.script.specs.Item.{IsItem}
 use Rattle.script.specs.Plain.{IsSpelled}
+use Rattle.script.specs.Refusal.{IsRefusing}
 use Rattle.script.specs.declared.item.Item.{Item}
-use Rattle.script.specs.declared.item.Item.TheVariants.{Pend, WakeSelf, Keep, Ready, Twice}
+use Rattle.script.specs.declared.item.Item.TheVariants.{Pend, WakeSelf, Keep, Ready, Twice, Stop, Nest}
 use Rattle.script.specs.declared.plain.Plain.{Plain}
 use Rattle.script.specs.declared.plain.Plain.TheVariants as plain
+use Rattle.script.specs.declared.refusal.Refusal.{Refusal}
+use Rattle.script.specs.declared.refusal.Refusal.TheVariants.{Nothing, Each, Only}
 
 pub no_item : (item : Item) (word : List ℕ) → word ≢ codes "pend" → word ≢ codes "self" → word ≢ codes "keep" →
-    ((value : ℕ) → ¬ (IsItem (Ready value) word)) → ((name : List ℕ) → ¬ (IsItem (Twice name) word)) →
-    ¬ (IsItem item word)
-no_item Pend word pend itself keep ready twice is = pend is
-no_item WakeSelf word pend itself keep ready twice is = itself is
-no_item Keep word pend itself keep ready twice is = keep is
-no_item (Ready value) word pend itself keep ready twice is = ready value is
-no_item (Twice name) word pend itself keep ready twice is = twice name is
+    word ≢ codes "nest" → ((value : ℕ) → ¬ (IsItem (Ready value) word)) → ((name : List ℕ) → ¬ (IsItem (Twice name) word)) →
+    ((name : List ℕ) → ¬ (IsItem (Stop name) word)) → ¬ (IsItem item word)
+no_item Pend word pend itself keep nest ready twice stop is = pend is
+no_item WakeSelf word pend itself keep nest ready twice stop is = itself is
+no_item Keep word pend itself keep nest ready twice stop is = keep is
+no_item (Ready value) word pend itself keep nest ready twice stop is = ready value is
+no_item (Twice name) word pend itself keep nest ready twice stop is = twice name is
+no_item (Stop name) word pend itself keep nest ready twice stop is = stop name is
+no_item Nest word pend itself keep nest ready twice stop is = nest is
+
+-- a word that is neither `refuse` nor `refuse@<k>` refuses nothing
+pub no_refusal : (refusal : Refusal) (word : List ℕ) → word ≢ codes "refuse" →
+    ((number : ℕ) → ¬ (IsRefusing (Only number) word)) → ¬ (IsRefusing refusal word)
+no_refusal Nothing word each only is = is
+no_refusal Each word each only is = each is
+no_refusal (Only number) word each only is = only number is
 
 pub no_plain : (command : Plain) (first : List ℕ) (words : List (List ℕ)) → first ≢ codes "spawn" →
     first ≢ codes "try" → first ≢ codes "empty" → first ≢ codes "wake" → first ≢ codes "unkeep" →

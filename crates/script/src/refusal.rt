@@ -2,6 +2,7 @@
 
 ghost use Rattle.std.specs.Prelude.{ℕ, List, IfNone, IfSome};
 ghost use Rattle.script.specs.Refusal.{IsRefusing};
+ghost use Rattle.script.specs.declared.refusal.Refusal.TheVariants.{Only};
 
 use text_lines::read_number;
 
@@ -21,6 +22,7 @@ impl Refusal {
     ghost use Rattle.script.specs.declared.refusal.Refusal.{Refusal};
 
     /// What this word refuses, where it stands in front of a command for that.
+    #[tactic(auto, using(crate::proofs::Unread::no_refusal))]
     pub fn from_word(word: &[u8]) -> Option<Refusal>
         ensures found { IfSome result (λ refusal. IsRefusing refusal word.now) }
         ensures none { IfNone result ((refusal : Refusal) → ¬ (IsRefusing refusal word.now)) }
@@ -28,7 +30,17 @@ impl Refusal {
         if word == b"refuse".as_slice() {
             return Some(Refusal::Each);
         }
-        let number = word.strip_prefix(b"refuse@").and_then(|word| read_number(word))?;
-        (1 <= number && number <= 100).then_some(Refusal::Only(number))
+        read_numbered(word)
     }
+}
+
+/// What this word refuses, where it names one request.
+fn read_numbered(word: &[u8]) -> Option<Refusal>
+    ensures found { IfSome result (λ refusal. IsRefusing refusal word.now) }
+    ensures none { IfNone result ((number : ℕ) → ¬ (IsRefusing (Only number) word.now)) }
+{
+    let number = word
+        .strip_prefix(b"refuse@")
+        .and_then(|word| read_number(word))?;
+    (1 <= number && number <= 100).then_some(Refusal::Only(number))
 }

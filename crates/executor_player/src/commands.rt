@@ -48,7 +48,7 @@ fn whole(command: &Command) -> Option<&Plain> {
 /// A future is spawned that runs another in its poll.
 fn nests(plain: &Plain) -> bool {
     match plain {
-        Plain::Spawn { items, .. } => items.as_slice().contains(&Item::Nest),
+        Plain::Spawn { items, .. } => items.as_slice().iter().any(|item| *item == Item::Nest),
         _ => false,
     }
 }

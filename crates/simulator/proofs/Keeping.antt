@@ -183,14 +183,15 @@ module _ (continues : (m : Machine) (t : Step) →
   unfolding turns.given
   fair-given f w s k = k
 
-  fair-counted_in : (d : Option Doing) (p : ℕ) (o : Op) (s : Player) → IsFair first s →
-      IsFair first (asking.counted_in d p o s)
-  fair-counted_in (Some doing) p o s k = k
-  fair-counted_in None p o s k = k
+  fair-counted_in : (d : Option Doing) (b : Bool) (p : ℕ) (s : Player) → IsFair first s →
+      IsFair first (asking.counted_in d b p s)
+  fair-counted_in (Some doing) true p s k = k
+  fair-counted_in (Some doing) false p s k = k
+  fair-counted_in None b p s k = k
 
   fair-counted : (p : ℕ) (o : Op) (s : Player) → IsFair first s → IsFair first (asking.counted p o s)
   unfolding asking.counted
-  fair-counted p o s k = fair-counted_in (party s p).doing p o s k
+  fair-counted p o s k = fair-counted_in (party s p).doing _ p s k
 
   fair-go : (p : ℕ) (o : Op) (s : Player) → IsFair first s → IsFair first (turns.go p o s)
   unfolding turns.go

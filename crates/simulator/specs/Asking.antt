@@ -29,13 +29,11 @@ is_refusing s (Some doing) o = is_refused (refusal_of (request_at s doing.comman
 is_refusing s None o = false
 
 -- a step that asks for memory is counted
-abbrev pub counted_by : Bool → Doing → Doing
-counted_by true doing = record doing { to_go = doing.to_go - 1 }
-counted_by false doing = doing
-
-abbrev pub counted_in : Option Doing → ℕ → Op → Player → Player
-counted_in (Some doing) p o s = set_party p (record (party s p) { doing = Some (counted_by (asks o) doing) }) s
-counted_in None p o s = s
+abbrev pub counted_in : Option Doing → Bool → ℕ → Player → Player
+counted_in (Some doing) true p s =
+    set_party p (record (party s p) { doing = Some (record doing { to_go = doing.to_go - 1 }) }) s
+counted_in (Some doing) false p s = s
+counted_in None asked p s = s
 
 unfoldable pub counted : ℕ → Op → Player → Player
-counted p o s = counted_in (party s p).doing p o s
+counted p o s = counted_in (party s p).doing (asks o) p s

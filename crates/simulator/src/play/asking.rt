@@ -61,8 +61,10 @@ impl<'a> Player<'a> {
     }
 
     /// This step of the party is counted, where it asks for memory.
+    #[tactic(auto, unfolding(crate::specs::Asking::counted))]
     pub fn count_request(&mut self, p: u32, op: Op)
-        ensures { self.new ≡ asking.counted p op self.old }
+        ensures new { self.new ≡ asking.counted p op self.old }
+        ensures steps { self.new.tried ≡ self.old.tried }
     {
         if let Some(doing) = self.party(p).doing {
             if asks(op) {

@@ -25,6 +25,7 @@ impl<'a> Player<'a> {
     }
 
     /// The future has a queued task taken up, where that is possible.
+    #[tactic(auto, unfolding(crate::specs::Turn::nest, crate::specs::Turn::ask))]
     pub fn poll_nest(&mut self, p: u32, f: u64) -> Result<(), AllocError>
         ensures new { OnOk result (self.new ≡ turns.nest p f self.old) }
         ensures grows { OnOk result (length self.old.tried < length self.new.tried) }

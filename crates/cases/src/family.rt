@@ -66,7 +66,7 @@ impl Family {
                 "nested.txt",
             ],
             Family::Executor => &["calls.txt", "stops.txt"],
-            Family::Static => &["static.txt", "leak.txt"],
+            Family::Static => &["static.txt", "leak.txt", "static-stops.txt"],
             Family::Queue | Family::Exclusive => &["queue.txt"],
             Family::Task | Family::LocalTask => &["task.txt"],
         }

@@ -137,8 +137,7 @@ SpellsBehind-one : (refusal other : Refusal) (plain plain' : Plain) (words : Lis
     SpellsBehind refusal plain words → SpellsBehind other plain' words → (refusal ≡ other) × (plain ≡ plain')
 SpellsBehind-one refusal other plain plain' words p q =
     let same : p.word ≡ q.word = let e = p.parts in let e' = q.parts in cc in
-    let rest : p.rest ≡ q.rest = let e = p.parts in let e' = q.parts in cc in
-    (
+    let rest : p.rest ≡ q.rest = let e = p.parts in let e' = q.parts in cc in (
       IsRefusing-one refusal other p.word p.refusing (rw same q.refusing),
       IsSpelled-one plain plain' p.rest p.spelled (rw rest q.spelled),
     )
@@ -157,13 +156,13 @@ SpellsAs-one : (refusal other : Refusal) (plain plain' : Plain) (words : List (L
 SpellsAs-one refusal other plain plain' words p q =
     elim (SpellsAs-cases refusal plain words p) [
       | inl none ↦ elim (SpellsAs-cases other plain' words q) [
-          | inl none' ↦ (none.0 ∙ sym none'.0, IsSpelled-one plain plain' words none.1 none'.1)
-          | inr behind ↦ absurd (IsSpelled-refusing other plain behind.word words behind.rest behind.parts behind.refusing none.1)
-        ]
+        | inl none' ↦ (none.0 ∙ sym none'.0, IsSpelled-one plain plain' words none.1 none'.1)
+        | inr behind ↦ absurd (IsSpelled-refusing other plain behind.word words behind.rest behind.parts behind.refusing none.1)
+      ]
       | inr behind ↦ elim (SpellsAs-cases other plain' words q) [
-          | inl none ↦ absurd (IsSpelled-refusing refusal plain' behind.word words behind.rest behind.parts behind.refusing none.1)
-          | inr behind' ↦ SpellsBehind-one refusal other plain plain' words behind behind'
-        ]
+        | inl none ↦ absurd (IsSpelled-refusing refusal plain' behind.word words behind.rest behind.parts behind.refusing none.1)
+        | inr behind' ↦ SpellsBehind-one refusal other plain plain' words behind behind'
+      ]
     ]
 
 SpellsRequest-one : (request other : Request) (words : List (List ℕ)) → SpellsRequest request words →

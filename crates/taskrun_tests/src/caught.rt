@@ -244,8 +244,10 @@ fn catch_drop(machine: &mut Machine, scene: Scene, steps: u32) -> Option<bool> {
 // Behind each number of steps, up to all of them.
 fn catch_at_each_step<R: AllocGlobal + Abort>(rt: &R, scene: Scene, is_drop: bool) {
     for steps in 0..MOST_STEPS {
-        let mut machine =
-            Machine::new(rt.alloc(), scene.limit, Kind::Owned, 3).expect(rt, "room for a machine");
+        let mut machine = Machine::new(rt.alloc(), scene.limit, Kind::Owned, 3).expect(
+            rt,
+            "room for a machine",
+        );
         let caught = if is_drop {
             catch_drop(&mut machine, scene, steps)
         } else {

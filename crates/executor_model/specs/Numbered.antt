@@ -59,4 +59,4 @@ pub record RefusalsAreNumbered (s : Machine) : Type 0 where
   -- so it has its trace, and what comes behind it comes behind that
   pub trace : (p k : ℕ) (ts us : List Step) → requests p s (refused_at 0 p s ts) < k →
       (more : Trace) × ((run (refused_at k p s (ts ++ us)) s).world.trace ≡
-        (run (refused_at 0 p s ts) s).world.trace ++ more)
+      (run (refused_at 0 p s ts) s).world.trace ++ more)

@@ -25,12 +25,7 @@ pub struct Player<H: Drop, K: Drop> {
 }
 
 impl<H: Hold, K: Keep> Player<H, K> {
-    pub fn new(
-        alloc: Global,
-        stage: Shared,
-        keeper: K,
-        handles: SharedHandles<H>,
-    ) -> Player<H, K> {
+    pub fn new(alloc: Global, stage: Shared, keeper: K, handles: SharedHandles<H>) -> Player<H, K> {
         Player {
             alloc,
             stage,

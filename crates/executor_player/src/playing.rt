@@ -103,7 +103,11 @@ where
     K: KeepIn<R>,
     R: Wait + Copy + Drop + 'static,
 {
-    match (Rc::clone(stage), Rc::clone(shelf), Handles::new(alloc, stage)) {
+    match (
+        Rc::clone(stage),
+        Rc::clone(shelf),
+        Handles::new(alloc, stage),
+    ) {
         (Ok(stage), Ok(shelf), Ok(handles)) => {
             Some(Player::new(alloc, stage, K::of(rt, realm, shelf), handles))
         }

@@ -8,7 +8,7 @@ use Rattle.call_steps.specs.declared.names.Then.TheVariants as then
 use Rattle.call_steps.specs.declared.names.TickOrRun.{TickOrRun}
 use Rattle.call_steps.specs.declared.names.TickOrRun.TheVariants.{Tick, Run}
 use Rattle.call_steps.specs.declared.reply.Reply.TheVariants as reply
-use Rattle.call_steps.specs.declared.saw.Standing.{Standing}
+use Rattle.call_steps.specs.declared.saw.Searcher.{Searcher}
 use Rattle.call_steps.specs.declared.step.CallStep.{CallStep}
 use Rattle.call_steps.specs.declared.step.CallStep.TheVariants as step
 use Rattle.call_steps.specs.declared.step.run.RunStep.TheVariants as run_step
@@ -35,17 +35,17 @@ module _ {F T : Type 0} where
   run_by true x f = step.Move move.TakeUp f ∷ step.Run (run_step.WakeOwn x) ∷ []
   run_by false x f = step.Move move.TakeUp f ∷ step.Tick (tick_step.Search (asleep x)) ∷ []
 
-  abbrev pub run_found : Standing → RunPoll F T → F → List (CallStep F T)
+  abbrev pub run_found : Searcher → RunPoll F T → F → List (CallStep F T)
   run_found at x f = run_by (at.taken + 1 == 200) x f
 
   -- at every 64th that it counts, it steals from the executor's queue before it runs that
-  abbrev pub counted_by : Bool → Standing → RunPoll F T → F → List (CallStep F T)
+  abbrev pub counted_by : Bool → Searcher → RunPoll F T → F → List (CallStep F T)
   counted_by true at x f =
       step.Steal (steal_step.Length (record { poll = x; from = Common; then = then.Run f })) ∷ []
   counted_by false at x f = run_found at x f
 
   -- it wakes up if it sleeps, tells a sleeper and counts what it has found
-  abbrev pub found_by_run : Standing → RunPoll F T → F → List (CallStep F T)
+  abbrev pub found_by_run : Searcher → RunPoll F T → F → List (CallStep F T)
   found_by_run at x f = woken_up at.sleeps (Run x.run) tell ++ counted_by (at.counted + 1 == 64) at x f
 
   -- a tick runs what it has found, after it told another sleeper, and then it is ready
@@ -55,11 +55,11 @@ module _ {F T : Type 0} where
       (step.Sleeper sleeper_step.ExchangeFlag ∷ step.Move move.TakeUp f ∷ step.End reply.Ready ∷ [])
 
   -- a tick has found it in the executor's queue, or a run in its own
-  abbrev pub found_as : TickOrRun T → Standing → Sleeping F T → F → List (CallStep F T)
+  abbrev pub found_as : TickOrRun T → Searcher → Sleeping F T → F → List (CallStep F T)
   found_as (Tick t) at s f = found_by_tick at.sleeps (Tick t) f
   found_as (Run r) at s f = found_by_run at (record { run = r; waker = s.waker }) f
 
-  abbrev pub found : Standing → Sleeping F T → F → List (CallStep F T)
+  abbrev pub found : Searcher → Sleeping F T → F → List (CallStep F T)
   found at s f = found_as s.who at s f
 
   abbrev pub found_nothing : TickOrRun T → Sleeping F T → List (CallStep F T)

@@ -5,7 +5,7 @@ use Rattle.call_steps.specs.declared.names.Source.TheVariants.{Own}
 use Rattle.call_steps.specs.declared.names.Steal.{Steal}
 use Rattle.call_steps.specs.declared.names.Then.{Then}
 use Rattle.call_steps.specs.declared.names.Then.TheVariants as then
-use Rattle.call_steps.specs.declared.saw.Standing.{Standing}
+use Rattle.call_steps.specs.declared.saw.Searcher.{Searcher}
 use Rattle.call_steps.specs.declared.step.CallStep.{CallStep}
 use Rattle.call_steps.specs.declared.step.CallStep.TheVariants as step
 use Rattle.call_steps.specs.declared.step.run.ListStep.TheVariants as list_step
@@ -20,21 +20,21 @@ share n free = cond (nat_lt ((n + 1) / 2) free) ((n + 1) / 2) free
 
 module _ {F T : Type 0} where
   -- a steal has ended
-  abbrev pub stolen_as : Then F → Standing → RunPoll F T → List (CallStep F T)
+  abbrev pub stolen_as : Then F → Searcher → RunPoll F T → List (CallStep F T)
   stolen_as (then.Found f) at x = found_by_run at x f
   stolen_as (then.Run f) at x = run_found at x f
   stolen_as (then.Walk left) at x = step.Run (run_step.LookOwn x left) ∷ []
 
-  abbrev pub stolen : Standing → Steal F T → List (CallStep F T)
+  abbrev pub stolen : Searcher → Steal F T → List (CallStep F T)
   stolen at s = stolen_as s.then at s.poll
 
   -- where the source is empty, nothing more is done
-  abbrev pub of_length : ℕ → Standing → Steal F T → List (CallStep F T)
+  abbrev pub of_length : ℕ → Searcher → Steal F T → List (CallStep F T)
   of_length zero at s = stolen at s
   of_length (suc n) at s = step.Steal (steal_step.OwnLength s (suc n)) ∷ []
 
   -- so many are still to be taken
-  abbrev pub steal_on : ℕ → Standing → Steal F T → List (CallStep F T)
+  abbrev pub steal_on : ℕ → Searcher → Steal F T → List (CallStep F T)
   steal_on zero at s = stolen at s
   steal_on (suc more) at s = step.Steal (steal_step.Take s more) ∷ []
 

@@ -33,9 +33,9 @@ pub enum Asked<F, T> {
     DropTick(T),
     /// A run is made.
     NewRun,
-    /// A run that stands so is polled.
+    /// A run at this stage is polled.
     PollRun(RunPoll<F, T>, Stage),
-    /// A run that stands so is dropped.
+    /// A run at this stage is dropped.
     DropRun(T, Stage),
     /// The executor is made static.
     Leak,

@@ -13,7 +13,7 @@ pub use asked::Asked;
 pub use call::{Call, Last};
 pub use names::{RunPoll, Section, Sleeping, Source, Stage, Steal, Then, TickOrRun, Waker};
 pub use reply::Reply;
-pub use saw::{Saw, Standing};
+pub use saw::{Saw, Searcher};
 pub use step::{
     CallStep, ClosingStep, HandleStep, ListStep, QueueStep, RunStep, SleeperStep, StealStep,
     TableStep, TickStep, UserStep, WakerStep,

@@ -1,10 +1,10 @@
 use crate::names::{Sleeping, Waker};
 use task_moves::moves::Owed;
 
-/// How who has found a Runnable stands: whether it sleeps, and of a run how many it has counted since the last 64th, and taken
-/// since it last let others go first.
+/// A tick or run that searches: whether it sleeps; and of a run, how many it has counted since the last 64th, and taken since it
+/// last let others go first.
 #[derive(Clone, Copy)]
-pub struct Standing {
+pub struct Searcher {
     pub sleeps: bool,
     pub counted: u64,
     pub taken: u64,
@@ -25,8 +25,8 @@ pub enum Saw<F, T> {
     Entered(F),
     /// The first Runnable is this future's.
     Found(F),
-    /// The same, and who found it stands so.
-    FoundBy(F, Standing),
+    /// The same, found by this one.
+    FoundBy(F, Searcher),
     /// The task has moved; whether the table has its future; what is owed.
     Moved(bool, Owed),
     /// The polled future is not ready yet.
@@ -49,14 +49,14 @@ pub enum Saw<F, T> {
     Left(Option<Waker<F>>),
     /// Somebody is at the awaiter, or not; and this old one goes, where there is one.
     Awaiter(bool, Option<Waker<F>>),
-    /// So many are there, or so many places are free; the run stands so.
-    Number(u64, Standing),
-    /// A steal found nothing more, and the run stands so.
-    StealEnds(Standing),
-    /// The own queue took the Runnable, and the run stands so.
-    Fits(Standing),
+    /// So many are there, or so many places are free, for this run.
+    Number(u64, Searcher),
+    /// This run's steal found nothing more.
+    StealEnds(Searcher),
+    /// The own queue of this run took the Runnable.
+    Fits(Searcher),
     /// It didn't.
-    Refused(Standing),
+    Refused(Searcher),
     /// The walk comes to the own queue of this run, with so many still to go to behind it.
     Queue(T, u64),
     /// So many futures are to be dropped, and so many wakers to be woken.

@@ -45,7 +45,7 @@ use Rattle.executor_model.specs.ActsOfRuns.{queue_at, next_place, source_of, fre
 use Rattle.call_steps.specs.declared.names.Waker.{Waker as WakerOf}
 use Rattle.call_steps.specs.declared.saw.Saw.{Saw}
 use Rattle.call_steps.specs.declared.saw.Saw.TheVariants as saw
-use Rattle.call_steps.specs.declared.saw.Standing.{Standing}
+use Rattle.call_steps.specs.declared.saw.Searcher.{Searcher}
 use Rattle.executor_laws.specs.StepsOfCalls.{waker_of as called, sleeping_of}
 
 abbrev pub Seen : Type 0
@@ -146,13 +146,13 @@ sleeps Awake = false
 sleeps (Asleep n) = true
 sleeps Left = false
 
--- how it stands; a tick counts nothing
-abbrev pub standing : World → TickOrRun → Standing
-standing w (Tick t) = record { sleeps = sleeps (tick_of w t); counted = 0; taken = 0 }
-standing w (Run r) =
+-- a tick counts nothing
+abbrev pub searcher : World → TickOrRun → Searcher
+searcher w (Tick t) = record { sleeps = sleeps (tick_of w t); counted = 0; taken = 0 }
+searcher w (Run r) =
     record { sleeps = sleeps (run_of w r).place; counted = (run_of w r).counted; taken = (run_of w r).taken }
 
-abbrev pub found : List ℕ → Standing → Seen
+abbrev pub found : List ℕ → Searcher → Seen
 found [] at = saw.Nothing
 found (f ∷ fs) at = saw.FoundBy f at
 
@@ -186,7 +186,7 @@ left Left w = saw.Nothing
 
 abbrev pub seen_tick : Hint → TickOp → World → Seen
 seen_tick h tick_op.MakeTick w = unless_refused h.refused
-seen_tick h (tick_op.Search s) w = found (searched w s.who) (standing w s.who)
+seen_tick h (tick_op.Search s) w = found (searched w s.who) (searcher w s.who)
 seen_tick h (tick_op.CopyWaker s) w = unless_refused (is_copy_refused h w s.waker)
 seen_tick h (tick_op.FallAsleep s) w = fell_asleep (place_of w s.who) w
 seen_tick h (tick_op.WakeUp who) w = woke_up (place_of w who) w
@@ -213,23 +213,23 @@ seen_list h _ w = saw.Nothing
 
 -- steals and runs
 
-abbrev pub taken_from : List ℕ → Standing → Seen
+abbrev pub taken_from : List ℕ → Searcher → Seen
 taken_from [] at = saw.StealEnds at
 taken_from (f ∷ fs) at = saw.Found f
 
-abbrev pub put_where : Bool → Standing → Seen
+abbrev pub put_where : Bool → Searcher → Seen
 put_where true at = saw.Fits at
 put_where false at = saw.Refused at
 
 abbrev pub seen_steal : StealOp → World → Seen
-seen_steal (steal_op.Length s) w = saw.Number (length (source_of w s.from)) (standing w (Run s.poll.run))
-seen_steal (steal_op.OwnLength s n) w = saw.Number (free_places w s.poll.run) (standing w (Run s.poll.run))
-seen_steal (steal_op.Take s more) w = taken_from (source_of w s.from) (standing w (Run s.poll.run))
+seen_steal (steal_op.Length s) w = saw.Number (length (source_of w s.from)) (searcher w (Run s.poll.run))
+seen_steal (steal_op.OwnLength s n) w = saw.Number (free_places w s.poll.run) (searcher w (Run s.poll.run))
+seen_steal (steal_op.Take s more) w = taken_from (source_of w s.from) (searcher w (Run s.poll.run))
 seen_steal (steal_op.Put s more f) w =
-    put_where (nat_lt 0 (free_places w s.poll.run)) (standing w (Run s.poll.run))
+    put_where (nat_lt 0 (free_places w s.poll.run)) (searcher w (Run s.poll.run))
 
 -- in a walk a run finds what it stole, or goes on
-abbrev pub looked_own : List ℕ → Standing → Seen → Seen
+abbrev pub looked_own : List ℕ → Searcher → Seen → Seen
 looked_own [] at further = further
 looked_own (f ∷ fs) at further = saw.FoundBy f at
 
@@ -238,7 +238,7 @@ seen_run h run_op.MakeRoom w = unless_refused h.refused
 seen_run h run_op.ReturnRoom w = saw.Nothing
 seen_run h (run_op.SearchCommon x) w = first w.queue.items
 seen_run h (run_op.LookOwn x at more) w =
-    looked_own (own_of w x.run) (standing w (Run x.run)) (walked x.run w.listed at more)
+    looked_own (own_of w x.run) (searcher w (Run x.run)) (walked x.run w.listed at more)
 seen_run h (run_op.WakeOwn x) w = woken move.WakeByReference w x.waker
 seen_run h (run_op.Reschedule r a) w = first (own_of w r)
 

@@ -17,7 +17,7 @@ use Rattle.call_steps.specs.declared.step.CallStep.TheVariants as step
 use Rattle.call_steps.specs.declared.step.tick.TickStep.TheVariants as tick_step
 use Rattle.call_steps.specs.Next.{next}
 use Rattle.executor_laws.specs.CallsFollow.{ActsFollow, AnswersFollow}
-use Rattle.executor_laws.specs.SeenByCalls.{found, searched, seen_tick, standing}
+use Rattle.executor_laws.specs.SeenByCalls.{found, searched, seen_tick, searcher}
 use Rattle.executor_laws.specs.StepsOfCalls.{steps_of, tick_step_of, waker_of, who_of}
 use Rattle.executor_laws.proofs.CallSteps.Closing.{of-closings}
 use Rattle.executor_laws.proofs.CallSteps.Falling.{of-copy, of-falling, of-leaving, of-make, of-sleepers, of-ticks-search, of-waking}
@@ -28,7 +28,7 @@ use Rattle.executor_laws.proofs.CallSteps.Tables.{of-queue, of-table}
 
 of-search : (who : TickOrRun) (w : World) (k : ℕ) (a : Waker) →
     steps_of (search w (record { waker = a; who = who; poll = k })).next
-    ≡ next (step.Tick (tick_step.Search (record { waker = waker_of a; who = who_of who }))) (found (searched w who) (standing w who))
+    ≡ next (step.Tick (tick_step.Search (record { waker = waker_of a; who = who_of who }))) (found (searched w who) (searcher w who))
 of-search (Tick t) w k a = of-ticks-search w t k a
 of-search (Run r) w k a = of-own (own_of w r) w r k a
 

@@ -21,7 +21,7 @@ use Rattle.call_steps.specs.Next.{next, next_sleeper, next_tick}
 use Rattle.call_steps.specs.Owing.{released}
 use Rattle.call_steps.specs.Sleeping.{tell_and_return as tells_and_returns}
 use Rattle.executor_laws.specs.SeenByCalls.{allowed, fell_asleep, found, going, handed_out, laid, laid_again, left, seen_sleeper}
-use Rattle.executor_laws.specs.SeenByCalls.{sleeps, standing, unless_refused, woke_up}
+use Rattle.executor_laws.specs.SeenByCalls.{sleeps, searcher, unless_refused, woke_up}
 use Rattle.executor_laws.specs.StepsOfCalls.{sleeper_step_of, sleeping_of, steps_of, waker_of as called, who_of}
 use Rattle.executor_laws.proofs.CallSteps.Owing.{both, of-call, of-waker}
 
@@ -60,7 +60,7 @@ of-search-at Left w (f ∷ fs) t k a = refl
 pub of-ticks-search : (w : World) (t k : ℕ) (a : Waker) →
     steps_of (search w (record { waker = a; who = Tick t; poll = k })).next
     ≡ next_tick (tick_step.Search (record { waker = called a; who = of_who.Tick t }))
-    (found w.queue.items (standing w (Tick t)))
+    (found w.queue.items (searcher w (Tick t)))
 of-ticks-search w t k a = of-search-at (tick_of w t) w w.queue.items t k a
 
 pub of-copy : (b : Bool) (w : World) (s : Sleeping) →

@@ -45,7 +45,7 @@ use Rattle.call_steps.specs.Next.{next, next_call, next_list, next_run, next_ste
 use Rattle.call_steps.specs.Sleeping as sleeping
 use Rattle.call_steps.specs.Stealing as stealing
 use Rattle.executor_laws.specs.SeenByCalls.{first, found as seen_found, looked_own, put_where, seen_list, seen_run, seen_steal}
-use Rattle.executor_laws.specs.SeenByCalls.{sleeps, standing}
+use Rattle.executor_laws.specs.SeenByCalls.{sleeps, searcher}
 use Rattle.executor_laws.specs.SeenByCalls.{taken_from, unless_refused, walked, woken}
 use Rattle.executor_laws.specs.StepsOfCalls.{list_step_of, poll_of, reply_of, run_step_of, section_of, steal_of, steal_step_of}
 use Rattle.executor_laws.specs.StepsOfCalls.{steps_of, then_of}
@@ -66,14 +66,14 @@ taken-same (x ∷ rs) zero n = refl
 taken-same (x ∷ rs) (suc r) n = taken-same rs r n
 
 of-counted-on : (w : World) (x : RunPoll) (f n : ℕ) →
-    steps_of (run_found (counted_to w x.run n) x f).next ≡ sleeping.run_found (standing w (RunOf x.run)) (poll_of x) f
+    steps_of (run_found (counted_to w x.run n) x f).next ≡ sleeping.run_found (searcher w (RunOf x.run)) (poll_of x) f
 of-counted-on w x f n =
     subst (λ (taken : ℕ). steps_of (run_found (counted_to w x.run n) x f).next ≡ sleeping.run_by (taken + 1 == 200) (poll_of x) f)
     (taken-same w.runs x.run n)
     (of-run ((run_of (counted_to w x.run n) x.run).taken + 1 == 200) (counted_to w x.run n) x f)
 
 of-counted : (b : Bool) (w : World) (x : RunPoll) (f : ℕ) →
-    steps_of (counted_by b w x f).next ≡ sleeping.counted_by b (standing w (RunOf x.run)) (poll_of x) f
+    steps_of (counted_by b w x f).next ≡ sleeping.counted_by b (searcher w (RunOf x.run)) (poll_of x) f
 of-counted true w x f = refl
 of-counted false w x f = of-counted-on w x f ((run_of w x.run).counted + 1)
 
@@ -83,44 +83,44 @@ of-first (Asleep n) r = refl
 of-first Left r = refl
 
 of-found : (w : World) (x : RunPoll) (f : ℕ) →
-    steps_of (found w x f).next ≡ sleeping.found_by_run (standing w (RunOf x.run)) (poll_of x) f
+    steps_of (found w x f).next ≡ sleeping.found_by_run (searcher w (RunOf x.run)) (poll_of x) f
 of-found w x f =
     both (found_by (run_of w x.run).place (RunOf x.run) tell) (counted_by ((run_of w x.run).counted + 1 == 64) w x f).next _ _
     (of-first (run_of w x.run).place x.run) (of-counted ((run_of w x.run).counted + 1 == 64) w x f)
 
 pub of-own : (fs : List ℕ) (w : World) (r k : ℕ) (a : Waker) →
     steps_of (search_own_by fs w (record { run = r; waker = a; poll = k })).next
-    ≡ next (step.Tick (tick_step.Search (record { waker = waker_of a; who = of_who.Run r }))) (seen_found fs (standing w (RunOf r)))
+    ≡ next (step.Tick (tick_step.Search (record { waker = waker_of a; who = of_who.Run r }))) (seen_found fs (searcher w (RunOf r)))
 of-own [] w r k a = refl
 of-own (f ∷ fs) w r k a = of-found (put_own w r fs) (record { run = r; waker = a; poll = k }) f
 
 -- steals
 
 of-stolen : (t : Then) (w : World) (x : RunPoll) →
-    steps_of (stolen t w x).next ≡ stealing.stolen_as (then_of t) (standing w (RunOf x.run)) (poll_of x)
+    steps_of (stolen t w x).next ≡ stealing.stolen_as (then_of t) (searcher w (RunOf x.run)) (poll_of x)
 of-stolen (then.Found f) w x = of-found w x f
 of-stolen (then.Run f) w x = of-run ((run_of w x.run).taken + 1 == 200) w x f
 of-stolen (then.Walk at left) w x = refl
 
 of-length : (n : ℕ) (w : World) (s : Steal) →
-    steps_of (steal_length_by n w s).next ≡ stealing.of_length n (standing w (RunOf s.poll.run)) (steal_of s)
+    steps_of (steal_length_by n w s).next ≡ stealing.of_length n (searcher w (RunOf s.poll.run)) (steal_of s)
 of-length zero w s = of-stolen s.then w s.poll
 of-length (suc n) w s = refl
 
 of-steal : (n : ℕ) (w : World) (s : Steal) →
-    steps_of (steal_by n w s).next ≡ stealing.steal_on n (standing w (RunOf s.poll.run)) (steal_of s)
+    steps_of (steal_by n w s).next ≡ stealing.steal_on n (searcher w (RunOf s.poll.run)) (steal_of s)
 of-steal zero w s = of-stolen s.then w s.poll
 of-steal (suc n) w s = refl
 
 of-take : (fs : List ℕ) (w : World) (s : Steal) (more : ℕ) →
     steps_of (steal_take_by fs w s more).next
-    ≡ next_steal (steal_step.Take (steal_of s) more) (taken_from fs (standing w (RunOf s.poll.run)))
+    ≡ next_steal (steal_step.Take (steal_of s) more) (taken_from fs (searcher w (RunOf s.poll.run)))
 of-take [] w s more = of-stolen s.then w s.poll
 of-take (f ∷ fs) w s more = refl
 
 of-put : (b : Bool) (p : ℕ) (w : World) (s : Steal) (more f : ℕ) →
     steps_of (steal_put_by b p w s more f).next
-    ≡ next_steal (steal_step.Put (steal_of s) more f) (put_where b (standing w (RunOf s.poll.run)))
+    ≡ next_steal (steal_step.Put (steal_of s) more f) (put_where b (searcher w (RunOf s.poll.run)))
 of-put true p w s more f = of-steal more (kept_by p w s.poll.run f) s
 of-put false p w s more f =
     both (op.Queue (queue_op.Append f) ∷ []) (stolen s.then w s.poll).next _ _ refl (of-stolen s.then w s.poll)
@@ -203,7 +203,7 @@ of-common (f ∷ fs) w x = refl
 
 of-look-own : (fs : List ℕ) (w : World) (x : RunPoll) (at left : ℕ) →
     steps_of (look_own_by fs w x at left).next
-    ≡ next_run (run_step.LookOwn (poll_of x) left) (looked_own fs (standing w (RunOf x.run)) (walked x.run w.listed at left))
+    ≡ next_run (run_step.LookOwn (poll_of x) left) (looked_own fs (searcher w (RunOf x.run)) (walked x.run w.listed at left))
 of-look-own [] w x at left = of-walk x w.listed at left left
 of-look-own (f ∷ fs) w x at left =
     both (op.List list_op.UnlockRead ∷ []) (found (put_own w x.run fs) x f).next _ _ refl (of-found (put_own w x.run fs) x f)

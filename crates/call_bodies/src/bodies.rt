@@ -1,15 +1,13 @@
 //! Each finds what it is told.
-ghost use Rattle.std.specs.Prelude.{◌≡◌, ◌∷◌, [], Some, is_some};
+ghost use Rattle.std.specs.Prelude.{◌≡◌, Some};
 ghost use Rattle.task_moves.specs.declared.moves.owed.Move.TheVariants as move;
-ghost use Rattle.call_steps.specs.declared.reply.Reply.TheVariants as reply;
-ghost use Rattle.call_steps.specs.declared.saw.Saw.TheVariants as saw;
 ghost use Rattle.call_steps.specs.declared.step.CallStep.TheVariants as step;
 ghost use Rattle.call_steps.specs.declared.step.tick.SleeperStep.TheVariants as sleeper_step;
 ghost use Rattle.call_steps.specs.declared.step.table.QueueStep.TheVariants as queue_step;
 ghost use Rattle.call_steps.specs.Todo.{following, top, below};
 ghost use Rattle.call_bodies.specs.Shapes.{allowed, called, due, paid, taken, woken, IsDue};
 
-use call_steps::{Asked, Call, Last, Reply, Saw, Sleeping, Searcher, TickOrRun, Waker};
+use call_steps::{Asked, Call, Last, Reply, Saw, Searcher, Sleeping, TickOrRun, Waker};
 use std::sync::Wait;
 use task_moves::ScheduleInfo;
 use task_moves::moves::Owed;

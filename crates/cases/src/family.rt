@@ -62,9 +62,11 @@ impl Family {
                 "static-steps.txt",
                 "leak.txt",
                 "leak-steps.txt",
+                "refusals.txt",
+                "nested.txt",
             ],
-            Family::Executor => &["calls.txt"],
-            Family::Static => &["static.txt", "leak.txt"],
+            Family::Executor => &["calls.txt", "stops.txt"],
+            Family::Static => &["static.txt", "leak.txt", "static-stops.txt"],
             Family::Queue | Family::Exclusive => &["queue.txt"],
             Family::Task | Family::LocalTask => &["task.txt"],
         }

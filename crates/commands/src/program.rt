@@ -66,6 +66,8 @@ mod faults;
 #[cfg(test)]
 mod job_tests;
 #[cfg(test)]
+mod refusal_scripts;
+#[cfg(test)]
 mod run_scripts;
 #[cfg(test)]
 mod scripts;

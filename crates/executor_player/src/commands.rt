@@ -7,7 +7,7 @@ use crate::player::Player;
 use crate::seat::{ScriptRun, ScriptTick, SitRun, SitTick};
 use crate::shelf::{Keep, SharedShelf};
 use crate::sitting::Seats;
-use script::{Command, Plain, Request, Word};
+use script::{Command, Item, Plain, Refusal, Request, Word};
 use std::sync::Wait;
 
 /// Where the commands on an executor stop.
@@ -31,16 +31,25 @@ pub fn first_not_whole(commands: &[Command]) -> Option<u64> {
     None
 }
 
-/// The call of a command, where it is a whole one of one party and is refused no memory.
+/// The call of a command, where it is a whole one of one party, is refused no memory, and spawns no future that runs another in
+/// its poll: that would need the executor, whose type has the future's.
 fn whole(command: &Command) -> Option<&Plain> {
     match command {
         Command::Whole(
             Request {
-                refused: false,
+                refusal: Refusal::Nothing,
                 plain,
             },
-        ) => Some(plain),
+        ) if !nests(plain) => Some(plain),
         _ => None,
+    }
+}
+
+/// A future is spawned that runs another in its poll.
+fn nests(plain: &Plain) -> bool {
+    match plain {
+        Plain::Spawn { items, .. } => items.as_slice().iter().any(|item| *item == Item::Nest),
+        _ => false,
     }
 }
 

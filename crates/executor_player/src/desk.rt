@@ -2,6 +2,7 @@
 use crate::answer::Answer;
 use crate::future::{Planned, Scripted};
 use crate::handle::{Held, HoldIn};
+use crate::handles::SharedHandles;
 use crate::outside::{Bell, Gift, ScriptTask};
 use crate::shelf::SharedShelf;
 use async_executor::{Executor, SpawnError, StaticExecutor};
@@ -20,8 +21,10 @@ pub type ScriptStatic<F, R> = StaticExecutor<F, Gift, Bell, R>;
 pub struct Plan<H: Drop> {
     pub name: Name,
     pub items: Vec<Item>,
-    /// The handles that its items name.
+    /// The handles that its items hold.
     pub held: Vec<Held<H>>,
+    /// Those that it may drop.
+    pub handles: SharedHandles<H>,
 }
 
 /// A future wasn't accepted: why, and the handles that it was to hold.
@@ -120,13 +123,19 @@ where
 
 /// A future, as it is planned.
 fn scripted<H: Drop>(shelf: &SharedShelf, plan: Plan<H>) -> Result<Scripted<H>, Refused<H>> {
-    let Plan { name, items, held } = plan;
+    let Plan {
+        name,
+        items,
+        held,
+        handles,
+    } = plan;
     match Rc::clone(shelf) {
         Ok(shelf) => Ok(Scripted {
             name,
             items,
             next: 0,
             held,
+            handles,
             shelf,
         }),
         Err(_) => Err(Refused {

@@ -1,5 +1,6 @@
 //! The futures that a script spawns.
 use crate::handle::{Held, HoldIn, poll_twice};
+use crate::handles::SharedHandles;
 use crate::outside::{Gift, ScriptWaker};
 use crate::shelf::SharedShelf;
 use async_task::{Awaiter, Future, Poll, Returning, Wake};
@@ -26,6 +27,8 @@ pub struct Scripted<H: Drop> {
     pub next: usize,
     /// The handles that its items name, each once, in the order of the items.
     pub held: Vec<Held<H>>,
+    /// The handles that it may drop.
+    pub handles: SharedHandles<H>,
     /// Where its wakers are kept.
     pub shelf: SharedShelf,
 }
@@ -37,12 +40,14 @@ impl<H: Drop> Drop for Scripted<H> {
             items,
             next: _,
             held,
+            handles,
             shelf,
         } = self;
         drop(items);
         shelf.count_out();
         shelf.stage.show_on(b"drop", name);
         drop(held);
+        drop(handles);
     }
 }
 
@@ -83,9 +88,11 @@ where
             items,
             next: _,
             held,
+            handles,
             shelf,
         } = self;
         drop(items);
+        drop(handles);
         drop(shelf);
         held
     }
@@ -110,6 +117,12 @@ impl<H: Drop> Scripted<H> {
             }
             Item::Ready(number) => Some(number),
             Item::Twice(name) => self.poll_held(name, waker),
+            Item::Stop(name) => {
+                drop(self.handles.take(name));
+                None
+            }
+            // No script with one is played here.
+            Item::Nest => None,
         }
     }
 

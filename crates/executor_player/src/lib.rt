@@ -7,6 +7,7 @@ mod desk;
 mod errors;
 mod future;
 mod handle;
+mod handles;
 mod outside;
 mod own;
 mod player;

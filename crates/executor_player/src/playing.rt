@@ -7,6 +7,7 @@ use crate::desk::{ScriptExecutor, ScriptStatic};
 use crate::errors::PlayError;
 use crate::future::Planned;
 use crate::handle::{Hold, HoldIn};
+use crate::handles::Handles;
 use crate::outside::ScriptRealm;
 use crate::player::Player;
 use crate::shelf::{Keep, KeepIn, SharedShelf, Shelf};
@@ -102,8 +103,14 @@ where
     K: KeepIn<R>,
     R: Wait + Copy + Drop + 'static,
 {
-    match (Rc::clone(stage), Rc::clone(shelf)) {
-        (Ok(stage), Ok(shelf)) => Some(Player::new(alloc, stage, K::of(rt, realm, shelf))),
+    match (
+        Rc::clone(stage),
+        Rc::clone(shelf),
+        Handles::new(alloc, stage),
+    ) {
+        (Ok(stage), Ok(shelf), Ok(handles)) => {
+            Some(Player::new(alloc, stage, K::of(rt, realm, shelf), handles))
+        }
         _ => None,
     }
 }

@@ -1,20 +1,34 @@
--- Words that are none of the items, and none of the commands.
-use Rattle.std.proofs.Common.{◌≢◌, ℕ, List, ◌∷◌, codes}
+-- Words that are none of the items, none of the commands, no refusal and no request.
+use Rattle.std.proofs.Common.{◌≡◌, ◌≢◌, ℕ, List, ◌∷◌, codes}
 use Rattle.script.specs.Item.{IsItem}
 use Rattle.script.specs.Plain.{IsSpelled}
+use Rattle.script.specs.Refusal.{IsRefusing}
+use Rattle.script.specs.Command.{SpellsAs, SpellsRequest}
+use Rattle.script.specs.declared.command.Request.{Request}
 use Rattle.script.specs.declared.item.Item.{Item}
-use Rattle.script.specs.declared.item.Item.TheVariants.{Pend, WakeSelf, Keep, Ready, Twice}
+use Rattle.script.specs.declared.item.Item.TheVariants.{Pend, WakeSelf, Keep, Ready, Twice, Stop, Nest}
 use Rattle.script.specs.declared.plain.Plain.{Plain}
 use Rattle.script.specs.declared.plain.Plain.TheVariants as plain
+use Rattle.script.specs.declared.refusal.Refusal.{Refusal}
+use Rattle.script.specs.declared.refusal.Refusal.TheVariants.{Nothing, Each, Only}
 
 pub no_item : (item : Item) (word : List ℕ) → word ≢ codes "pend" → word ≢ codes "self" → word ≢ codes "keep" →
-    ((value : ℕ) → ¬ (IsItem (Ready value) word)) → ((name : List ℕ) → ¬ (IsItem (Twice name) word)) →
-    ¬ (IsItem item word)
-no_item Pend word pend itself keep ready twice is = pend is
-no_item WakeSelf word pend itself keep ready twice is = itself is
-no_item Keep word pend itself keep ready twice is = keep is
-no_item (Ready value) word pend itself keep ready twice is = ready value is
-no_item (Twice name) word pend itself keep ready twice is = twice name is
+    word ≢ codes "nest" → ((value : ℕ) → ¬ (IsItem (Ready value) word)) → ((name : List ℕ) → ¬ (IsItem (Twice name) word)) →
+    ((name : List ℕ) → ¬ (IsItem (Stop name) word)) → ¬ (IsItem item word)
+no_item Pend word pend itself keep nest ready twice stop is = pend is
+no_item WakeSelf word pend itself keep nest ready twice stop is = itself is
+no_item Keep word pend itself keep nest ready twice stop is = keep is
+no_item (Ready value) word pend itself keep nest ready twice stop is = ready value is
+no_item (Twice name) word pend itself keep nest ready twice stop is = twice name is
+no_item (Stop name) word pend itself keep nest ready twice stop is = stop name is
+no_item Nest word pend itself keep nest ready twice stop is = nest is
+
+-- a word that is neither `refuse` nor `refuse@<k>` refuses nothing
+pub no_refusal : (refusal : Refusal) (word : List ℕ) → word ≢ codes "refuse" →
+    ((number : ℕ) → ¬ (IsRefusing (Only number) word)) → ¬ (IsRefusing refusal word)
+no_refusal Nothing word each only is = is
+no_refusal Each word each only is = each is
+no_refusal (Only number) word each only is = only number is
 
 pub no_plain : (command : Plain) (first : List ℕ) (words : List (List ℕ)) → first ≢ codes "spawn" →
     first ≢ codes "try" → first ≢ codes "empty" → first ≢ codes "wake" → first ≢ codes "unkeep" →
@@ -39,3 +53,23 @@ no_plain (plain.PollRun name) first words _ _ _ _ _ _ _ _ _ _ _ _ _ not_pollrun 
 no_plain (plain.DropRun name) first words _ _ _ _ _ _ _ _ _ _ _ _ _ _ not_droprun _ _ is = let e = is.0 in not_droprun cc
 no_plain plain.Leak first words _ _ _ _ _ _ _ _ _ _ _ _ _ _ _ not_leak _ is = not_leak cc
 no_plain plain.End first words _ _ _ _ _ _ _ _ _ _ _ _ _ _ _ _ not_end is = not_end cc
+
+no_spelling : (refusal : Refusal) (plain : Plain) (first : List ℕ) (rest : List (List ℕ)) →
+    ((other : Refusal) → ¬ (IsRefusing other first)) → ¬ (IsSpelled plain (first ∷ rest)) →
+    ¬ (SpellsAs refusal plain (first ∷ rest))
+no_spelling Nothing plain first rest none unspelled is = unspelled is
+no_spelling Each plain first rest none unspelled is =
+    let parts = is.2 in
+    let same : first ≡ is.0 = cc in
+    none Each (rw same is.3)
+no_spelling (Only number) plain first rest none unspelled is =
+    let parts = is.2 in
+    let same : first ≡ is.0 = cc in
+    none (Only number) (rw same is.3)
+
+-- words of which the first refuses nothing
+pub no_request : (request : Request) (first : List ℕ) (rest : List (List ℕ)) →
+    ((refusal : Refusal) → ¬ (IsRefusing refusal first)) → ((command : Plain) → ¬ (IsSpelled command (first ∷ rest))) →
+    ¬ (SpellsRequest request (first ∷ rest))
+no_request request first rest none unspelled is =
+    no_spelling request.refusal request.plain first rest none (unspelled request.plain) is

@@ -1,19 +1,28 @@
 -- How a script writes its commands.
-use Rattle.std.specs.Prelude.{◌≡◌, ℕ, Bool, true, false, List, [], ◌∷◌, codes}
+use Rattle.std.specs.Prelude.{◌≡◌, ℕ, List, [], ◌∷◌, codes}
 use Rattle.script.specs.Party.{IsParty}
 use Rattle.script.specs.Plain.{IsSpelled}
+use Rattle.script.specs.Refusal.{IsRefusing}
 use Rattle.script.specs.declared.command.Command.{Command}
 use Rattle.script.specs.declared.command.Command.TheVariants.{Whole, Begin, Go, Finish}
 use Rattle.script.specs.declared.command.Request.{Request}
 use Rattle.script.specs.declared.plain.Plain.{Plain}
+use Rattle.script.specs.declared.refusal.Refusal.{Refusal}
+use Rattle.script.specs.declared.refusal.Refusal.TheVariants.{Nothing}
 
--- the words of a command that makes a call, where its memory is refused or not
-abbrev pub SpellsAs : Bool → Plain → List (List ℕ) → Type 0
-SpellsAs true plain words = (rest : List (List ℕ)) × (words ≡ codes "refuse" ∷ rest) × IsSpelled plain rest
-SpellsAs false plain words = IsSpelled plain words
+-- the words of a command that makes a call; in front of them stands which of its requests for memory are refused, where
+-- any is
+abbrev pub SpellsAs : Refusal → Plain → List (List ℕ) → Type 0
+SpellsAs Nothing plain words = IsSpelled plain words
+SpellsAs refusal plain words =
+    (word : List ℕ)
+    × (rest : List (List ℕ))
+    × (words ≡ word ∷ rest)
+    × IsRefusing refusal word
+    × IsSpelled plain rest
 
 abbrev pub SpellsRequest : Request → List (List ℕ) → Type 0
-SpellsRequest request words = SpellsAs request.refused request.plain words
+SpellsRequest request words = SpellsAs request.refusal request.plain words
 
 -- the words of a command
 abbrev pub Spells : Command → List (List ℕ) → Type 0

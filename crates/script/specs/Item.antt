@@ -4,7 +4,7 @@ use Rattle.std.specs.List.{AllZip}
 use Rattle.script.specs.Name.{IsName}
 use Rattle.text_lines.specs.Number.{IsNumber}
 use Rattle.script.specs.declared.item.Item.{Item}
-use Rattle.script.specs.declared.item.Item.TheVariants.{Pend, WakeSelf, Keep, Ready, Twice}
+use Rattle.script.specs.declared.item.Item.TheVariants.{Pend, WakeSelf, Keep, Ready, Twice, Stop, Nest}
 
 -- the word of an item
 abbrev pub IsItem : Item → List ℕ → Type 0
@@ -17,6 +17,8 @@ IsItem (Ready value) word =
     × IsNumber digits value
     × (value ≤ 1000000)
 IsItem (Twice name) word = (word ≡ codes "twice:" ++ name) × IsName name
+IsItem (Stop name) word = (word ≡ codes "stop:" ++ name) × IsName name
+IsItem Nest word = word ≡ codes "nest"
 
 -- 1 to 8 items, a word each
 pub record AreItems (items : List Item) (words : List (List ℕ)) : Type 0 where

@@ -5,7 +5,9 @@ pub mod Indexed
 pub mod Item
 pub mod Party
 pub mod Plain
+pub mod Refusal
 pub mod Command
 pub mod Script
 pub mod BadLine
 pub mod WordText
+pub mod EndingText

@@ -8,14 +8,15 @@ ghost use Rattle.script.specs.declared.command.Request.{Request};
 
 use crate::party::read_party;
 use crate::plain::{Plain, read_plain};
+use crate::refusal::Refusal;
 use std::alloc::{AllocError, Global};
 use text_lines::Words;
 
 /// A command that makes a call.
 #[derive(Debug, PartialEq, Eq, Drop)]
 pub struct Request {
-    /// `refuse <command>`: every request for memory in it is refused.
-    pub refused: bool,
+    /// Which of its requests for memory are refused.
+    pub refusal: Refusal,
     pub plain: Plain,
 }
 
@@ -57,6 +58,7 @@ impl Command {
 }
 
 /// The command that makes a call of this word and the words behind it, where they are one.
+#[tactic(auto, using(crate::proofs::Unread::no_request))]
 fn read_request(
     alloc: Global,
     first: &[u8],
@@ -67,22 +69,18 @@ fn read_request(
     ensures none { IfOk result (λ found.
         IfNone found ((request : Request) → ¬ (SpellsRequest request (first.now ∷ words.entry)))) }
 {
-    if first == b"refuse".as_slice() {
-        let Some(second) = words.next() else {
-            return Ok(None);
-        };
-        let plain = read_plain(alloc, second, words)?;
-        Ok(plain.map(|plain| Request {
-            refused: true,
-            plain,
-        }))
-    } else {
+    let Some(refusal) = Refusal::from_word(first) else {
         let plain = read_plain(alloc, first, words)?;
-        Ok(plain.map(|plain| Request {
-            refused: false,
+        return Ok(plain.map(|plain| Request {
+            refusal: Refusal::Nothing,
             plain,
-        }))
-    }
+        }));
+    };
+    let Some(second) = words.next() else {
+        return Ok(None);
+    };
+    let plain = read_plain(alloc, second, words)?;
+    Ok(plain.map(|plain| Request { refusal, plain }))
 }
 
 /// The command that these words say behind `begin`: a party, and what it begins.

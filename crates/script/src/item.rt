@@ -2,7 +2,7 @@
 
 ghost use Rattle.std.specs.Prelude.{ℕ, List, IfNone, IfSome};
 ghost use Rattle.script.specs.Item.{IsItem};
-ghost use Rattle.script.specs.declared.item.Item.TheVariants.{Ready, Twice};
+ghost use Rattle.script.specs.declared.item.Item.TheVariants.{Ready, Twice, Stop};
 
 use crate::name::Name;
 use text_lines::read_number;
@@ -22,6 +22,10 @@ pub enum Item {
     /// `twice:<g>`: it polls the handle of the future of this name, which it holds, and is ready with
     /// twice its output.
     Twice(Name),
+    /// `stop:<g>`: it drops the handle of the future of this name, where the script has it and no call uses it, and isn't ready.
+    Stop(Name),
+    /// `nest`: it has a queued task taken up, as `try` does, where that is possible, and isn't ready.
+    Nest,
 }
 
 impl Item {
@@ -40,9 +44,11 @@ impl Item {
             Some(Item::WakeSelf)
         } else if word == b"keep".as_slice() {
             Some(Item::Keep)
+        } else if word == b"nest".as_slice() {
+            Some(Item::Nest)
         } else {
-            match read_twice(word) {
-                Some(name) => Some(Item::Twice(name)),
+            match of_handle(word) {
+                Some(item) => Some(item),
                 None => ready(word),
             }
         }
@@ -55,6 +61,26 @@ pub fn read_twice(word: &[u8]) -> Option<Name>
     ensures none { IfNone result ((name : List ℕ) → ¬ (IsItem (Twice name) word.now)) }
 {
     word.strip_prefix(b"twice:").and_then(Name::new)
+}
+
+/// The name in this word, where it is an item that drops a handle.
+fn read_stop(word: &[u8]) -> Option<Name>
+    ensures found { IfSome result (λ name. IsItem (Stop name) word.now) }
+    ensures none { IfNone result ((name : List ℕ) → ¬ (IsItem (Stop name) word.now)) }
+{
+    word.strip_prefix(b"stop:").and_then(Name::new)
+}
+
+/// The item of this word, where it is one that names another's handle.
+fn of_handle(word: &[u8]) -> Option<Item>
+    ensures found { IfSome result (λ item. IsItem item word.now) }
+    ensures twice { IfNone result ((name : List ℕ) → ¬ (IsItem (Twice name) word.now)) }
+    ensures stop { IfNone result ((name : List ℕ) → ¬ (IsItem (Stop name) word.now)) }
+{
+    match read_twice(word) {
+        Some(name) => Some(Item::Twice(name)),
+        None => read_stop(word).map(Item::Stop),
+    }
 }
 
 /// The item of this word, where it is one that is ready.

@@ -2,6 +2,7 @@
 #![tactic(auto)]
 
 mod command;
+mod ending;
 mod item;
 mod items;
 mod name;
@@ -9,15 +10,18 @@ mod names;
 mod parser;
 mod party;
 mod plain;
+mod refusal;
 mod word;
 
 pub use command::{Command, Request};
+pub use ending::Ending;
 pub use item::Item;
 pub use items::Items;
 pub use name::Name;
 pub use names::Names;
 pub use parser::parse;
 pub use plain::Plain;
+pub use refusal::Refusal;
 pub use text_lines::{ParseError, Words};
 pub use word::Word;
 

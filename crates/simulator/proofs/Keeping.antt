@@ -42,6 +42,7 @@ use Rattle.simulator.specs.Play as play
 use Rattle.simulator.specs.Play.{Player, kind_of, plain_at, party, set_party, future, set_future, run, set_run, top, tried, taken}
 use Rattle.simulator.specs.Play.{shown, noted, accepted, accepted_by, accepted_as, replied, kept_at}
 use Rattle.simulator.specs.Play.{refused_at, unkept_by, item_of, last, later, ended}
+use Rattle.simulator.specs.Asking as asking
 use Rattle.simulator.specs.Turn as turns
 use Rattle.simulator.specs.Commands as commands
 use Rattle.simulator.specs.ScriptText.{happened}
@@ -182,9 +183,19 @@ module _ (continues : (m : Machine) (t : Step) →
   unfolding turns.given
   fair-given f w s k = k
 
+  fair-counted_in : (d : Option Doing) (b : Bool) (p : ℕ) (s : Player) → IsFair first s →
+      IsFair first (asking.counted_in d b p s)
+  fair-counted_in (Some doing) true p s k = k
+  fair-counted_in (Some doing) false p s k = k
+  fair-counted_in None b p s k = k
+
+  fair-counted : (p : ℕ) (o : Op) (s : Player) → IsFair first s → IsFair first (asking.counted p o s)
+  unfolding asking.counted
+  fair-counted p o s k = fair-counted_in (party s p).doing _ p s k
+
   fair-go : (p : ℕ) (o : Op) (s : Player) → IsFair first s → IsFair first (turns.go p o s)
   unfolding turns.go
-  fair-go p o s k = fair-tried _ s k
+  fair-go p o s k = fair-tried _ _ (fair-counted p o s k)
 
   fair-answer : (p : ℕ) (e : UserEnd) (s : Player) → IsFair first s → IsFair first (turns.answer p e s)
   unfolding turns.answer
@@ -221,6 +232,18 @@ module _ (continues : (m : Machine) (t : Step) →
   fair-named (Some g) p f s k = fair-other (future s f).stage p f g s k
   fair-named None p f s k = fair-pending p f s k
 
+  fair-stop_named : (o : Option ℕ) (p f : ℕ) (s : Player) → IsFair first s → IsFair first (turns.stop_named o p f s)
+  fair-stop_named (Some g) p f s k = fair-ask p f _ s k
+  fair-stop_named None p f s k = fair-pending p f s k
+
+  fair-nested : (b : Bool) (p f : ℕ) (s : Player) → IsFair first s → IsFair first (turns.nested b p f s)
+  fair-nested true p f s k = k
+  fair-nested false p f s k = fair-pending p f s k
+
+  fair-nest : (p f : ℕ) (s : Player) → IsFair first s → IsFair first (turns.nest p f s)
+  unfolding turns.nest
+  fair-nest p f s k = fair-nested _ p f _ (fair-ask p f _ s k)
+
   fair-poll_by : (i : Item) (st : Stage) (p f : ℕ) (s : Player) → IsFair first s →
       IsFair first (turns.poll_by i st p f s)
   fair-poll_by (item.Ready v) st p f s k = fair-ready p f v s k
@@ -232,6 +255,12 @@ module _ (continues : (m : Machine) (t : Step) →
   fair-poll_by item.Keep stage.Begun p f s k = fair-ask p f _ s k
   fair-poll_by item.Keep (stage.Replaced old) p f s k = fair-ask p f _ s k
   fair-poll_by item.Keep stage.Asked p f s k = fair-pending p f s k
+  fair-poll_by (item.Stop name) stage.Begun p f s k = fair-stop_named _ p f s k
+  fair-poll_by (item.Stop name) stage.Asked p f s k = fair-pending p f s k
+  fair-poll_by (item.Stop name) (stage.Replaced old) p f s k = fair-pending p f s k
+  fair-poll_by item.Nest stage.Begun p f s k = fair-nest p f s k
+  fair-poll_by item.Nest stage.Asked p f s k = fair-pending p f s k
+  fair-poll_by item.Nest (stage.Replaced old) p f s k = fair-pending p f s k
 
   fair-poll : (p f : ℕ) (s : Player) → IsFair first s → IsFair first (turns.poll p f s)
   unfolding turns.poll
@@ -405,7 +434,7 @@ module _ (continues : (m : Machine) (t : Step) →
   fair-begin_call : (p at : ℕ) (c : Plain) (w : Word) (x : Call) (s : Player) → IsFair first s →
       IsFair first (commands.begin_call p at c w x s)
   unfolding commands.begin_call
-  fair-begin_call p at c w x s k = fair-began (commands.is_possible (Begin p x) s) p at c w (tried (Begin p x) s)
+  fair-begin_call p at c w x s k = fair-began (play.is_possible (Begin p x) s) p at c w (tried (Begin p x) s)
       (fair-tried (Begin p x) s k)
 
   fair-begin_by : (o : Option Call) (p at : ℕ) (c : Plain) (w : Word) (s : Player) → IsFair first s →

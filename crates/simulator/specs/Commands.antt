@@ -1,17 +1,13 @@
 -- What a command of a script is: which call it begins, for which party, and how far that is taken.
 use Rattle.std.specs.Prelude.{◌≡◌, ℕ, zero, suc, ◌<◌, Bool, true, false, ◌&&◌, not, if◌then◌else◌}
-use Rattle.std.specs.Prelude.{Option, Some, None, is_some, Result, Ok, Err, List, [], ◌∷◌}
+use Rattle.std.specs.Prelude.{Option, Some, None, is_some, List, [], ◌∷◌}
 use Rattle.std.specs.List.{list_any, list_all}
 use Rattle.std.specs.Str.{bytes_eq}
 use Rattle.executor_model.specs.declared.call.By.TheVariants as by
 use Rattle.executor_model.specs.declared.call.Call.{Call}
 use Rattle.executor_model.specs.declared.call.Call.TheVariants as call
 use Rattle.executor_model.specs.declared.op.Waker.TheVariants.{Outside}
-use Rattle.executor_model.specs.declared.step.Step.{Step}
 use Rattle.executor_model.specs.declared.step.Step.TheVariants.{Begin}
-use Rattle.executor_model.specs.declared.step.StepError.{StepError}
-use Rattle.executor_model.specs.Steps as steps
-use Rattle.executor_model.specs.Steps.{Machine}
 use Rattle.script.specs.declared.command.Command.{Command}
 use Rattle.script.specs.declared.command.Command.TheVariants as command
 use Rattle.script.specs.declared.item.Item.{Item}
@@ -27,7 +23,9 @@ use Rattle.simulator.specs.declared.play.party.Doing.{Doing}
 use Rattle.simulator.specs.declared.play.party.Party.{Party}
 use Rattle.executor_core.specs.Refused.{waits_for_lock}
 use Rattle.simulator.specs.EventText.{outside_of_tick, outside_of_run}
-use Rattle.simulator.specs.Play.{Player, plain_at, future, set_future, party, top, ended, stop, tried}
+use Rattle.simulator.specs.Asking.{refusal_of, up_to}
+use Rattle.simulator.specs.Handles.{handle_of, is_available}
+use Rattle.simulator.specs.Play.{Player, request_at, plain_at, future, set_future, party, top, ended, stop, tried, is_possible}
 use Rattle.simulator.specs.Turn.{held, held_by, number_named, given, does, turn}
 
 -- the call with which a command begins, where the script has what the command speaks of
@@ -35,34 +33,6 @@ use Rattle.simulator.specs.Turn.{held, held_by, number_named, given, does, turn}
 abbrev pub kept_of : Player → Option ℕ → Option ℕ
 kept_of s (Some f) = (future s f).kept
 kept_of s None = None
-
--- the handle of this future, unless another future or a run holds it
-abbrev pub unheld : Player → Option ℕ → Option ℕ
-unheld s (Some f) = if (future s f).held then None else Some f
-unheld s None = None
-
--- a command on the handle of the future of this name
-abbrev pub is_on_handle : List ℕ → Option Plain → Bool
-is_on_handle name (Some (plain.Poll other)) = bytes_eq other name
-is_on_handle name (Some (plain.Cancel other)) = bytes_eq other name
-is_on_handle name (Some (plain.Detach other)) = bytes_eq other name
-is_on_handle name (Some (plain.Drop other)) = bytes_eq other name
-is_on_handle name _ = false
-
-abbrev pub is_using_by : Player → List ℕ → Option Doing → Bool
-is_using_by s name (Some doing) = is_on_handle name (plain_at s doing.command)
-is_using_by s name None = false
-
-abbrev pub is_using : Player → List ℕ → Party → Bool
-is_using s name x = is_using_by s name x.doing
-
--- a command holds the handle that it speaks of until it has ended, between its calls too
-abbrev pub is_used : Player → List ℕ → Bool
-is_used s name = list_any (λ x. is_using s name x) s.parties
-
--- the handle of the future of this name, where neither another future nor a run nor a command holds it
-abbrev pub handle_of : Player → List ℕ → Option ℕ
-handle_of s name = if is_used s name then None else unheld s (number_of s.names name)
 
 -- the command gives this name
 abbrev pub gives : List ℕ → Option Plain → Bool
@@ -84,15 +54,6 @@ is_free s name =
     not (is_some (number_of s.names name)) &&
     (not (is_some (number_of s.ticks name)) &&
     (not (is_some (number_of s.run_names name)) && not (list_any (λ x. is_making s name x) s.parties)))
-
-abbrev pub is_there : Player → Option ℕ → Bool
-is_there s (Some g) = steps.has_handle s.machine.world s.machine.parties g
-is_there s None = false
-
--- a handle that this item names is there, and neither held nor in use
-abbrev pub is_available : Player → Item → Bool
-is_available s (item.Twice name) = is_there s (handle_of s name)
-is_available s _ = true
 
 abbrev pub can_spawn : Player → List ℕ → List Item → Bool
 can_spawn s name items = is_free s name && list_all (λ i. is_available s i) items
@@ -158,17 +119,14 @@ started (plain.Unkeep name) s = unkept (number_of s.names name) s
 started (plain.Poll name) s = polled_by (number_of s.names name) s
 started _ s = s
 
+-- the command at this place has begun
+abbrev pub begun_at : Player → ℕ → Doing
+begun_at s at = record { command = at; polls = false; to_go = up_to (refusal_of (request_at s at)) }
+
 -- the call was possible, or not
 abbrev pub began : Bool → ℕ → ℕ → Plain → Word → Player → Player
-began true p at c word s = started c (does p (Some (record { command = at; polls = false })) s)
+began true p at c word s = started c (does p (Some (begun_at s at)) s)
 began false p at c word s = ended word NotPossible s
-
-abbrev pub is_ok : Result Machine StepError → Bool
-is_ok (Ok m) = true
-is_ok (Err e) = false
-
-unfoldable pub is_possible : Step → Player → Bool
-is_possible t s = is_ok (steps.step s.machine t)
 
 unfoldable pub begin_call : ℕ → ℕ → Plain → Word → Call → Player → Player
 begin_call p at c word k s = began (is_possible (Begin p k) s) p at c word (tried (Begin p k) s)

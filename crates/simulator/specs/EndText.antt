@@ -6,26 +6,29 @@ use Rattle.executor_model.specs.declared.call.Reply.TheVariants.{Pending, Ready,
 use Rattle.simulator.specs.declared.moment.Outcome.{Outcome}
 use Rattle.executor_model.specs.declared.call.Reply.{Reply}
 use Rattle.simulator.specs.declared.moment.Outcome.TheVariants.{Answered, Output, NotPossible, Waits}
+use Rattle.script.specs.declared.ending.Ending.{Ending}
+use Rattle.script.specs.declared.ending.Ending.TheVariants as ending
 use Rattle.script.specs.declared.word.Word.{Word}
+use Rattle.script.specs.EndingText.{ending_text}
 use Rattle.script.specs.WordText.{word_text}
 
-abbrev pub reply_text : Reply → List ℕ
-reply_text Made = codes "ok"
-reply_text Full = codes "full"
-reply_text Yes = codes "true"
-reply_text No = codes "false"
-reply_text Done = codes "done"
-reply_text NoMemory = codes "no memory"
-reply_text Pending = codes "pending"
-reply_text Ready = codes "ready"
-reply_text Cancelled = codes "cancelled"
-reply_text Finished = codes "finished"
+abbrev pub ending_of : Reply → Ending
+ending_of Made = ending.Made
+ending_of Full = ending.Full
+ending_of Yes = ending.Yes
+ending_of No = ending.No
+ending_of Done = ending.Done
+ending_of NoMemory = ending.NoMemory
+ending_of Pending = ending.Pending
+ending_of Ready = ending.Ready
+ending_of Cancelled = ending.Cancelled
+ending_of Finished = ending.Finished
 
 abbrev pub outcome_text : Outcome → List ℕ
-outcome_text (Answered reply) = reply_text reply
-outcome_text (Output value) = codes "ready " ++ decimal value
-outcome_text NotPossible = codes "not possible"
-outcome_text Waits = codes "waits"
+outcome_text (Answered reply) = ending_text (ending_of reply)
+outcome_text (Output value) = ending_text ending.Ready ++ codes " " ++ decimal value
+outcome_text NotPossible = ending_text ending.NotPossible
+outcome_text Waits = ending_text ending.Waits
 
 abbrev pub end_text : Word → Outcome → List ℕ
 end_text word outcome = word_text word ++ codes ": " ++ outcome_text outcome ++ codes "\n"

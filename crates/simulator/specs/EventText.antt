@@ -1,6 +1,7 @@
 -- What is printed of an event: polls, their answers and drops have a line each, and calls of outside wakers,
 -- and the rest none.
 use Rattle.std.specs.Prelude.{ℕ, ◌+◌, ◌-◌, ◌%◌, ◌^◌, List, [], ◌++◌, codes, slice_get, unwrap_or}
+use Rattle.executor_model.specs.declared.event.Answer.{Answer}
 use Rattle.executor_model.specs.declared.event.Answer.TheVariants.{Ready, Pending}
 use Rattle.executor_model.specs.declared.event.Event.{Event}
 use Rattle.executor_model.specs.declared.op.Waker.TheVariants.{Outside}
@@ -27,10 +28,13 @@ outside_name names ticks runs x = name_of names x ++ name_of ticks (outside_of_t
 abbrev pub line_on : List ℕ → List ℕ → List ℕ
 line_on happened name = happened ++ codes " " ++ name ++ codes "\n"
 
+abbrev pub answer_text : Answer → List ℕ
+answer_text Ready = codes "ready"
+answer_text Pending = codes "pending"
+
 abbrev pub event_text : List (List ℕ) → List (List ℕ) → List (List ℕ) → Event → List ℕ
 event_text names ticks runs (PollBegun party future) = line_on (codes "poll") (name_of names future)
-event_text names ticks runs (Answered party future Ready) = line_on (codes "ready") (name_of names future)
-event_text names ticks runs (Answered party future Pending) = line_on (codes "pending") (name_of names future)
+event_text names ticks runs (Answered party future answer) = line_on (answer_text answer) (name_of names future)
 event_text names ticks runs (Dropped party future) = line_on (codes "drop") (name_of names future)
 event_text names ticks runs (OutputDropped party future) = line_on (codes "lose") (name_of names future)
 event_text names ticks runs (WakerCalled party polled poll (Outside x)) = line_on (codes "call") (outside_name names ticks runs x)

@@ -1,4 +1,6 @@
 pub mod Play
+pub mod Asking
+pub mod Handles
 pub mod Turn
 pub mod Commands
 pub mod EventText

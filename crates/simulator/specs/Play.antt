@@ -222,6 +222,13 @@ shown es s = noted (last es) (record s { moments = s.moments ++ map Happened es 
 abbrev pub later : ℕ → List Event → List Event
 later n es = drop n es
 
+abbrev pub is_ok : Result Machine StepError → Bool
+is_ok (Ok m) = true
+is_ok (Err e) = false
+
+unfoldable pub is_possible : Step → Player → Bool
+is_possible t s = is_ok (steps.step s.machine t)
+
 abbrev pub taken : Result Machine StepError → Player → Player
 taken (Ok m) s = shown (later (length s.machine.world.trace) m.world.trace) (record s { machine = m })
 taken (Err e) s = s

@@ -23,7 +23,6 @@ use Rattle.script.specs.declared.item.Item.{Item}
 use Rattle.script.specs.declared.item.Item.TheVariants as item
 use Rattle.script.specs.declared.plain.Plain.{Plain}
 use Rattle.script.specs.declared.plain.Plain.TheVariants as plain
-use Rattle.script.specs.declared.command.Request.{Request}
 use Rattle.script.specs.declared.word.Word.{Word}
 use Rattle.script.specs.declared.word.Word.TheVariants as word
 use Rattle.script.specs.Names.{number_of}
@@ -35,23 +34,17 @@ use Rattle.simulator.specs.declared.play.future.Stage.TheVariants as stage
 use Rattle.simulator.specs.declared.play.future.Future.{Future}
 use Rattle.simulator.specs.declared.play.party.Doing.{Doing}
 use Rattle.simulator.specs.declared.play.runs.Run.{Run}
-use Rattle.simulator.specs.Play.{Player, request_at, plain_at, items_at, item_of, future, set_future}
+use Rattle.simulator.specs.Asking.{counted, is_refusing}
+use Rattle.simulator.specs.Handles.{free_handle, handle_of}
+use Rattle.simulator.specs.Play.{Player, plain_at, items_at, item_of, future, set_future, is_possible}
 use Rattle.simulator.specs.Play.{run, set_run, party, set_party, top, ended, tried, ticked_as, ran_as}
 
 -- the waker that the poll of f's handle was given
 unfoldable pub given : ℕ → Waker → Player → Player
 given f waker s = set_future f (record (future s f) { given = waker }) s
 
--- the machine goes on: with no memory where the command says so,
+-- the machine goes on: with no memory where the command says so, and each step that asks for memory is counted;
 -- and `will_wake` says yes between wakers of one kind and name
-
-abbrev pub is_refused : Option Request → Bool
-is_refused (Some r) = r.refused
-is_refused None = false
-
-abbrev pub is_refusing : Player → Option Doing → Bool
-is_refusing s (Some doing) = is_refused (request_at s doing.command)
-is_refusing s None = false
 
 abbrev pub is_same_waker : Waker → Waker → Bool
 is_same_waker (Task f) (Task g) = f == g
@@ -67,7 +60,8 @@ is_same s (op.Handle (handle_op.EndNotify f true)) = is_same_awaiter (awaiter_of
 is_same s _ = false
 
 unfoldable pub go : ℕ → Op → Player → Player
-go p o s = tried (Go p (record { refused = is_refusing s (party s p).doing; same = is_same s o; start = 0 })) s
+go p o s =
+    tried (Go p (record { refused = is_refusing s (party s p).doing o; same = is_same s o; start = 0 })) (counted p o s)
 
 unfoldable pub answer : ℕ → UserEnd → Player → Player
 answer p e s = tried (Answer p e) s
@@ -119,12 +113,27 @@ abbrev pub poll_named : Option ℕ → ℕ → ℕ → Player → Player
 poll_named (Some g) p f s = poll_other (future s f).stage p f g s
 poll_named None p f s = end_pending p f s
 
+-- the handle is dropped, where there is one to drop
+abbrev pub stop_named : Option ℕ → ℕ → ℕ → Player → Player
+stop_named (Some g) p f s = ask p f (call.DropHandle g) s
+stop_named None p f s = end_pending p f s
+
+-- a queued task was taken up, or that isn't possible
+abbrev pub nested : Bool → ℕ → ℕ → Player → Player
+nested true p f s = s
+nested false p f s = end_pending p f s
+
+unfoldable pub nest : ℕ → ℕ → Player → Player
+nest p f s = nested (is_possible (Begin p call.TryTick) s) p f (ask p f call.TryTick s)
+
 abbrev pub poll_by : Item → Stage → ℕ → ℕ → Player → Player
 poll_by (item.Ready v) st p f s = end_ready p f v s
 poll_by item.WakeSelf stage.Begun p f s = ask p f call.WakeSelf s
 poll_by item.Keep stage.Begun p f s = ask p f call.Keep s
 poll_by item.Keep (stage.Replaced old) p f s = ask p f (call.DropWaker old) s
 poll_by (item.Twice name) st p f s = poll_named (number_of s.names name) p f s
+poll_by (item.Stop name) stage.Begun p f s = stop_named (free_handle s (handle_of s name)) p f s
+poll_by item.Nest stage.Begun p f s = nest p f s
 poll_by _ st p f s = end_pending p f s
 
 unfoldable pub poll : ℕ → ℕ → Player → Player

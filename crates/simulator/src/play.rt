@@ -1,8 +1,11 @@
 //! Scripts are played on the step machine: each command is a call of a party, stepped as the script
 //! says.
 
+mod asking;
 mod commands;
 mod future;
+mod handles;
+mod inner;
 mod own;
 mod party;
 mod player;

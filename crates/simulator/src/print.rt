@@ -1,13 +1,14 @@
 //! The text of a run: a line for each poll, answer and drop, and one for the end of each command.
 
 ghost use Rattle.std.specs.Prelude.{◌≡◌, ◌++◌, codes, IfOk, OnOk};
-ghost use Rattle.simulator.specs.EndText.{end_text, outcome_text, reply_text};
-ghost use Rattle.simulator.specs.EventText.{event_text, line_on, name_of, outside_name, outside_of_run, outside_of_tick};
+ghost use Rattle.simulator.specs.EndText as ends;
+ghost use Rattle.simulator.specs.EndText.{end_text, outcome_text};
+ghost use Rattle.simulator.specs.EventText.{answer_text, event_text, line_on, name_of, outside_name, outside_of_run, outside_of_tick};
 ghost use Rattle.simulator.specs.Text.{moment_text, moments_text};
 
 use crate::moment::{Moment, Outcome};
 use executor_model::{Answer, Event, Reply, Waker};
-use script::{Names, Word};
+use script::{Ending, Names, Word};
 use std::alloc::{AllocError, Global};
 
 /// The number of the outside waker of a tick, and the tick of such a one. Those of futures are numbered as these are.
@@ -68,34 +69,29 @@ fn push_event(
 {
     match *event {
         Event::PollBegun { future, .. } => push_line_on(text, b"poll", future, names),
-        Event::Answered { future, answer, .. } => match answer {
-            Answer::Ready => push_line_on(text, b"ready", future, names),
-            Answer::Pending => push_line_on(text, b"pending", future, names),
-        },
+        Event::Answered { future, answer, .. } => push_line_on(
+            text,
+            answer_bytes(answer),
+            future,
+            names,
+        ),
         Event::Dropped { future, .. } => push_line_on(text, b"drop", future, names),
         Event::OutputDropped { future, .. } => push_line_on(text, b"lose", future, names),
         Event::WakerCalled {
             waker: Waker::Outside(x),
             ..
         } => push_call(text, x, names, ticks, runs),
-        Event::CallBegun { .. }
-        | Event::CallEnded { .. }
-        | Event::Accepted { .. }
-        | Event::Woken { .. }
-        | Event::Cancelled { .. }
-        | Event::Detached { .. }
-        | Event::LastWaker { .. }
-        | Event::Leaked { .. }
-        | Event::OutputGiven { .. }
-        | Event::HandlePolled { .. }
-        | Event::TickPolled { .. }
-        | Event::TickDropped { .. }
-        | Event::RunPolled { .. }
-        | Event::RunDropped { .. }
-        | Event::Kept { .. }
-        | Event::WakerCalled { .. }
-        | Event::DropBegun { .. }
-        | Event::DropEnded { .. } => Ok(()),
+        // Nothing is shown of the others.
+        _ => Ok(()),
+    }
+}
+
+fn answer_bytes(answer: Answer) -> &'static [u8]
+    ensures { result.now ≡ answer_text answer }
+{
+    match answer {
+        Answer::Ready => b"ready",
+        Answer::Pending => b"pending",
     }
 }
 
@@ -155,29 +151,31 @@ fn push_outcome(text: &mut Vec<u8>, outcome: Outcome) -> Result<(), AllocError>
     ensures { OnOk result (text.new.items ≡ text.old.items ++ outcome_text outcome) }
 {
     match outcome {
-        Outcome::Answered(reply) => text.extend_from_slice(reply_bytes(reply)),
+        Outcome::Answered(reply) => text.extend_from_slice(ending_of(reply).text()),
         Outcome::Output(value) => {
-            let digits = format!(in *text.allocator(); "ready {value}")?;
+            text.extend_from_slice(Ending::Ready.text())?;
+            let digits = format!(in *text.allocator(); " {value}")?;
             text.extend_from_slice(digits.as_bytes())
         }
-        Outcome::NotPossible => text.extend_from_slice(b"not possible"),
-        Outcome::Waits => text.extend_from_slice(b"waits"),
+        Outcome::NotPossible => text.extend_from_slice(Ending::NotPossible.text()),
+        Outcome::Waits => text.extend_from_slice(Ending::Waits.text()),
     }
 }
 
-fn reply_bytes(reply: Reply) -> &'static [u8]
-    ensures { result.now ≡ reply_text reply }
+/// How a command ended whose call was answered so.
+fn ending_of(reply: Reply) -> Ending
+    ensures { result ≡ ends.ending_of reply }
 {
     match reply {
-        Reply::Made => b"ok",
-        Reply::Full => b"full",
-        Reply::Yes => b"true",
-        Reply::No => b"false",
-        Reply::Done => b"done",
-        Reply::NoMemory => b"no memory",
-        Reply::Pending => b"pending",
-        Reply::Ready => b"ready",
-        Reply::Cancelled => b"cancelled",
-        Reply::Finished => b"finished",
+        Reply::Made => Ending::Made,
+        Reply::Full => Ending::Full,
+        Reply::Yes => Ending::Yes,
+        Reply::No => Ending::No,
+        Reply::Done => Ending::Done,
+        Reply::NoMemory => Ending::NoMemory,
+        Reply::Pending => Ending::Pending,
+        Reply::Ready => Ending::Ready,
+        Reply::Cancelled => Ending::Cancelled,
+        Reply::Finished => Ending::Finished,
     }
 }

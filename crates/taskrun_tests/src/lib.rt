@@ -3,6 +3,8 @@
 #![tactic(auto)]
 
 #[cfg(test)]
+mod caught;
+#[cfg(test)]
 mod gates;
 #[cfg(test)]
 mod lists;

@@ -3,17 +3,19 @@
 ghost use Rattle.std.specs.Prelude.{◌≡◌, ◌&&◌, OnOk};
 ghost use Rattle.std.specs.List.{list_all, list_any};
 ghost use Rattle.script.specs.Names.{number_of};
+ghost use Rattle.simulator.specs.Handles as handles;
 ghost use Rattle.simulator.specs.Play as play;
 ghost use Rattle.simulator.specs.Turn as turns;
 ghost use Rattle.simulator.specs.Commands as commands;
 
 use crate::moment::Outcome;
+use crate::play::asking::up_to;
 use crate::play::future::Future;
 use crate::play::party::{Doing, Party};
 use crate::play::player::Player;
 use crate::print::{waker_of_run, waker_of_tick};
 use executor_model::{By, Call, Step, Waker};
-use script::{Command, Item, Name, Plain, Word};
+use script::{Command, Item, Name, Plain, Refusal, Word};
 use std::alloc::AllocError;
 
 /// The poll of this tick, by the outside waker of its name.
@@ -147,13 +149,24 @@ impl<'a> Player<'a> {
         if !self.try_step(Step::Begin { party: p, call })? {
             return self.end(word, Outcome::NotPossible);
         }
-        let doing = Doing {
-            command: at,
-            polls: false,
-        };
-        self.set_doing(p, Some(doing));
+        self.set_doing(p, Some(self.begun_at(at)));
         self.start(plain);
         Ok(())
+    }
+
+    /// The command at this place has begun.
+    fn begun_at(&self, at: usize) -> Doing
+        ensures { result ≡ commands.begun_at self.now at }
+    {
+        let refusal = match self.request_at(at) {
+            Some(request) => request.refusal,
+            None => Refusal::Nothing,
+        };
+        Doing {
+            command: at,
+            polls: false,
+            to_go: up_to(refusal),
+        }
     }
 
     /// A command has begun.
@@ -248,7 +261,7 @@ impl<'a> Player<'a> {
     }
 
     fn call_of_poll(&self, name: Name) -> Option<Call>
-        ensures { result ≡ commands.on (commands.handle_of self.now name) (λ f. Call.PollHandle f (By.Outside f)) }
+        ensures { result ≡ commands.on (handles.handle_of self.now name) (λ f. Call.PollHandle f (By.Outside f)) }
     {
         let f = self.handle_of(name)?;
         Some(Call::PollHandle(f, By::Outside(f)))
@@ -259,49 +272,6 @@ impl<'a> Player<'a> {
         ensures { result ≡ commands.kept_of self.now (number_of self.now.names name) }
     {
         self.future(self.number_of(name)?).kept
-    }
-
-    /// The future of this name, whose handle neither another future nor a run nor a command holds.
-    fn handle_of(&self, name: Name) -> Option<u64>
-        ensures { result ≡ commands.handle_of self.now name }
-    {
-        if self.is_used(name) {
-            None
-        } else {
-            self.unheld(self.number_of(name))
-        }
-    }
-
-    /// The future, whose handle no other future and no run holds.
-    fn unheld(&self, f: Option<u64>) -> Option<u64>
-        ensures { result ≡ commands.unheld self.now f }
-    {
-        let f = f?;
-        if self.future(f).held { None } else { Some(f) }
-    }
-
-    /// A party has begun a command on the handle of the future of this name, and not ended it.
-    fn is_used(&self, name: Name) -> bool
-        ensures { result ≡ commands.is_used self.now name }
-    {
-        self.parties.iter().any(|party| self.is_using(name, *party))
-    }
-
-    fn is_using(&self, name: Name, party: Party) -> bool
-        ensures { result ≡ commands.is_using self.now name party }
-    {
-        match party.doing {
-            Some(doing) => match self.plain_at(doing.command) {
-                Some(
-                    Plain::Poll(other)
-                    | Plain::Cancel(other)
-                    | Plain::Detach(other)
-                    | Plain::Drop(other),
-                ) => *other == name,
-                _ => false,
-            },
-            None => false,
-        }
     }
 
     /// No future, tick or run has this name, and none is about to have it.
@@ -339,17 +309,8 @@ impl<'a> Player<'a> {
         }
     }
 
-    fn is_there(&self, g: Option<u64>) -> bool
-        ensures { result ≡ commands.is_there self.now g }
-    {
-        match g {
-            Some(g) => self.machine.has_handle(g),
-            None => false,
-        }
-    }
-
     fn are_available(&self, items: &[Item]) -> bool
-        ensures { result ≡ list_all (λ i. commands.is_available self.now i) items.now }
+        ensures { result ≡ list_all (λ i. handles.is_available self.now i) items.now }
     {
         items.iter().all(|item| self.is_available(*item))
     }
@@ -359,15 +320,5 @@ impl<'a> Player<'a> {
         ensures { result ≡ commands.can_spawn self.now name items.now }
     {
         self.is_free(name) && self.are_available(items)
-    }
-
-    /// A handle that this item names is there, and nobody holds or uses it.
-    fn is_available(&self, item: Item) -> bool
-        ensures { result ≡ commands.is_available self.now item }
-    {
-        match item {
-            Item::Twice(name) => self.is_there(self.handle_of(name)),
-            _ => true,
-        }
     }
 }

@@ -12,6 +12,9 @@ pub struct Doing {
     pub command: usize,
     /// It has cancelled, and polls the handle.
     pub polls: bool,
+    /// Of its requests for memory so many more come up to the one that alone is refused, that one counted; 0 where none is, or none
+    /// any more.
+    pub to_go: u64,
 }
 
 /// One party.

@@ -9,7 +9,7 @@ ghost use Rattle.executor_model.specs.Steps as steps;
 ghost use Rattle.script.specs.Names.{number_of};
 ghost use Rattle.simulator.specs.declared.moment.Moment.TheVariants.{Happened};
 ghost use Rattle.simulator.specs.Play as play;
-ghost use Rattle.simulator.specs.Commands.{is_possible};
+ghost use Rattle.simulator.specs.Play.{is_possible};
 
 use crate::moment::{Moment, Outcome};
 use crate::play::Played;
@@ -234,7 +234,7 @@ impl<'a> Player<'a> {
     }
 
     /// The machine tries this step, and what happens is shown. Says whether the step was possible.
-    #[tactic(auto, unfolding(crate::specs::Play::tried, crate::specs::Commands::is_possible))]
+    #[tactic(auto, unfolding(crate::specs::Play::tried, crate::specs::Play::is_possible))]
     pub fn try_step(&mut self, step: Step) -> Result<bool, AllocError>
         ensures new { OnOk result (self.new ≡ play.tried step self.old) }
         ensures possible { IfOk result (λ possible. possible ≡ is_possible step self.old) }

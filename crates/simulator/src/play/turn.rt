@@ -120,24 +120,13 @@ impl<'a> Player<'a> {
         ensures grows { OnOk result (length self.old.tried < length self.new.tried) }
     {
         let hint = Hint {
-            refused: self.is_refusing(self.party(p).doing),
+            refused: self.is_refusing(p, op),
             same: self.is_same(op),
             start: 0,
         };
+        self.count_request(p, op);
         self.try_step(Step::Go { party: p, hint })?;
         Ok(())
-    }
-
-    fn is_refusing(&self, doing: Option<Doing>) -> bool
-        ensures { result ≡ turns.is_refusing self.now doing }
-    {
-        match doing {
-            Some(doing) => match self.request_at(doing.command) {
-                Some(request) => request.refused,
-                None => false,
-            },
-            None => false,
-        }
     }
 
     /// The awaiter that is notified would wake the same as the waker of the poll that notifies it.
@@ -247,12 +236,20 @@ impl<'a> Player<'a> {
                 Stage::Replaced(old) => self.ask(p, f, Call::DropWaker(old)),
                 Stage::Asked => self.end_pending(p, f),
             },
+            Item::Stop(name) => match stage {
+                Stage::Begun => self.poll_stop(p, f, name),
+                _ => self.end_pending(p, f),
+            },
+            Item::Nest => match stage {
+                Stage::Begun => self.poll_nest(p, f),
+                _ => self.end_pending(p, f),
+            },
         }
     }
 
     /// The poll makes a call.
     #[tactic(auto, unfolding(crate::specs::Turn::ask))]
-    fn ask(&mut self, p: u32, f: u64, call: Call) -> Result<(), AllocError>
+    pub fn ask(&mut self, p: u32, f: u64, call: Call) -> Result<(), AllocError>
         ensures new { OnOk result (self.new ≡ turns.ask p f call self.old) }
         ensures grows { OnOk result (length self.old.tried < length self.new.tried) }
     {
@@ -293,7 +290,7 @@ impl<'a> Player<'a> {
     }
 
     #[tactic(auto, unfolding(crate::specs::Turn::end_pending))]
-    fn end_pending(&mut self, p: u32, f: u64) -> Result<(), AllocError>
+    pub fn end_pending(&mut self, p: u32, f: u64) -> Result<(), AllocError>
         ensures new { OnOk result (self.new ≡ turns.end_pending p f self.old) }
         ensures grows { OnOk result (length self.old.tried < length self.new.tried) }
     {

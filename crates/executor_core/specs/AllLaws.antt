@@ -46,7 +46,10 @@ use Rattle.executor_laws.specs.Called.{KeeperIsCalled, SomeStandingIsCalled}
 use Rattle.executor_laws.specs.AtOnce.{NoComesAtOnce}
 use Rattle.executor_laws.specs.Continued.{IsContinued}
 use Rattle.executor_laws.specs.GoingOn.{GoesOn, HolderGoesOn}
+use Rattle.executor_laws.specs.HandleAnswers.{CancelledMeansOver}
 use Rattle.executor_laws.specs.LoneEnds.{LoneCallsEnd}
+use Rattle.executor_laws.specs.Makings.{MadeIsMade}
+use Rattle.executor_laws.specs.NoAnswers.{NoMeansEmpty}
 use Rattle.executor_laws.specs.Queueings.{CountsQueueings}
 use Rattle.executor_laws.specs.Remaining.{EachListEnds, EachStepLowers}
 use Rattle.executor_laws.specs.AtRest.{EmptinessIsExact, TicksAreExact}
@@ -54,9 +57,10 @@ use Rattle.executor_laws.specs.LoneAnswers.{IsLoneEmptinessExact, IsLoneTickExac
 use Rattle.executor_laws.specs.Places.{StandsWithKeeper}
 use Rattle.executor_laws.specs.Reach.{IsInReach, IsReachedInOrder}
 use Rattle.executor_laws.specs.RunAnswers.{IsReadyAtItsEnd}
+use Rattle.executor_laws.specs.RunEnds.{EndsByItsOwn}
 use Rattle.executor_laws.specs.RunReach.{IsKeptReached, IsReachedByRuns, LeavesCommon}
 use Rattle.executor_laws.specs.RunFew.{PollsFew}
-use Rattle.executor_laws.specs.RunPolls.{KeepersCanBePolled}
+use Rattle.executor_laws.specs.RunPolls.{KeepersCanBePolled, RunsCanBePolled}
 use Rattle.executor_laws.specs.RunSearch.{FindsDue}
 use Rattle.executor_laws.specs.RunTurns.{IsCommonReached}
 use Rattle.executor_laws.specs.Ticks.{IsTickExact}
@@ -80,10 +84,12 @@ pub record AllLaws (s : Machine) : Type 0 where
   pub outputs_settled : (f : ℕ) → OutputIsSettled s f
   -- a future is dropped once at most
   pub drops : (f : ℕ) → DropComesOnce f s.world.trace
-  -- and early only for a cause, which the kind says of a machine that steps of a new one led to
+  -- and early only for a cause: a cancel, the executor's drop, or, where that is static or was leaked, that nobody was left
+  -- who could wake it
   pub causes : (limit : ℕ) (kind : Kind) (parties : ℕ) (steps : List Step) → s ≡ run steps (start limit kind parties) →
       (f : ℕ) → EarlyDropHasCause kind f s.world.trace
-  -- nobody is left who could wake it only where it is detached and the executor static, or its drop has begun
+  -- nobody is left who could wake it only where it is detached and the executor is static or a leak of it had begun, or
+  -- where its drop had begun
   pub last_wakers : (limit : ℕ) (kind : Kind) (parties : ℕ) (steps : List Step) → s ≡ run steps (start limit kind parties) →
       (f : ℕ) → LastWakerIsLast kind f s.world.trace
   -- and each accepted one once, where the drop of the executor has ended
@@ -164,7 +170,7 @@ pub record AllLaws (s : Machine) : Type 0 where
   pub copies : CopiesAreCounted s
   -- an outside waker that is told of as called is called
   pub outside : OutsideWakersAreCalled s
-  -- a poll keeps the waker that it was given, and no other is called for it
+  -- of a poll no other waker is kept than the one that it was given, and no other is called for it
   pub given : PollsKeepTheirWakers s
   -- a step that closes an open task says why: nobody is left who could wake its future, or it was cancelled
   pub why : ClosingSaysWhy s
@@ -172,11 +178,16 @@ pub record AllLaws (s : Machine) : Type 0 where
   pub in_hands : (f : ℕ) → IsInHands s f
   -- a call is answered that a run is finished only as it begins, where it polls a run that had ended
   pub finished : FinishedAtOnce s
-  -- the executor's drop drops the futures in the order of acceptance, and wakes them so
+  -- the executor's drop drops the futures in the order of acceptance, and it and a leak wake them so, but those whose task
+  -- is over
   pub order : DropsInOrder s
   pub wakes_order : WakesInOrder s
-  -- once a leak has ended, it has woken each future that was there as it began and isn't dropped
+  -- once a leak has ended, the trace tells that it called the waker of each future that was there as it began and isn't dropped
   pub leaks : (f : ℕ) → LeakWakes s f
+  -- a poll of a handle is answered that no output will come only where that is so
+  pub cancelled : (p : ℕ) → CancelledMeansOver p s.world.trace
+  -- a tick or run is answered that it was made only where its party's own steps have made it since its call began
+  pub made : MadeIsMade s
   -- each step that goes on lowers a number
   pub lowered : EachStepLowers s
   -- so a list of these is no longer than that
@@ -195,6 +206,8 @@ pub record AllLaws (s : Machine) : Type 0 where
   pub in_order : IsReachedInOrder s
   -- a poll of a run is answered that its own future is ready only where the run has ended
   pub run_answers : (r : ℕ) → IsReadyAtItsEnd s r
+  -- and a run ends, or is answered so, only where its own future was ready, or where it is dropped
+  pub run_ends : (r : ℕ) → EndsByItsOwn s r
   -- a due future stands with its keeper, and else in the executor's queue
   pub places_of_due : StandsWithKeeper s
   -- a lone poll of a run takes what the run keeps, and else what is common
@@ -207,6 +220,8 @@ pub record AllLaws (s : Machine) : Type 0 where
   pub common_reached : IsCommonReached s
   -- a run that keeps a future can be polled so
   pub keepers_polled : KeepersCanBePolled s
+  -- and so can each that lives and hasn't ended
+  pub runs_polled : RunsCanBePolled s
   -- a lone poll of a run polls 200 futures at most
   pub polls_few : PollsFew s
   -- what a run kept is common once it was dropped alone
@@ -225,3 +240,5 @@ pub record AllLaws (s : Machine) : Type 0 where
   pub emptiness_at_rest : (p : ℕ) → EmptinessIsExact p s.world.trace
   -- and nobody is answered no but at once
   pub at_once : (p : ℕ) → NoComesAtOnce p s.world.trace
+  -- nor, where a tick was tried, but by a step that finds the queue empty
+  pub no_means : NoMeansEmpty s

@@ -23,16 +23,21 @@ ghost use Rattle.executor_model.specs.SpawnsMean.{SpawnsAreLimited};
 ghost use Rattle.executor_model.specs.SpawnWants.{SpawnsWantAsTold};
 ghost use Rattle.executor_model.specs.WakersMean.{WakersWakeTheirOwn};
 ghost use Rattle.executor_laws.specs.Called.{KeeperIsCalled, SomeStandingIsCalled};
+ghost use Rattle.executor_laws.specs.HandleAnswers.{CancelledMeansOver};
+ghost use Rattle.executor_laws.specs.Makings.{MadeIsMade};
+ghost use Rattle.executor_laws.specs.NoAnswers.{NoMeansEmpty};
+ghost use Rattle.executor_laws.specs.RunEnds.{EndsByItsOwn};
 ghost use Rattle.executor_core.specs.AllLaws.{AllLaws};
 
 use executor_laws::laws::{
-    arrival_order_needs_fewer_ticks, calls_at_rest_are_exact, calls_end,
+    arrival_order_needs_fewer_ticks, calls_at_rest_are_exact, calls_end, cancelled_means_over,
     common_futures_are_in_reach, common_futures_are_in_reach_of_runs,
     dropped_runs_leave_common_futures, due_futures_stand_with_their_keepers, keepers_are_called,
     keepers_can_be_polled, kept_futures_are_in_reach, lone_calls_are_exact, lone_calls_end,
-    no_comes_at_once, queueings_are_counted, runs_are_ready_at_their_end, runs_find_due_futures,
-    runs_poll_few_futures, runs_reach_futures, some_standing_is_called, ticks_are_exact,
-    traces_continue,
+    no_comes_at_once, no_means_that_nothing_was_queued, queueings_are_counted,
+    runs_are_ready_at_their_end, runs_can_be_polled, runs_end_by_their_own_futures,
+    runs_find_due_futures, runs_poll_few_futures, runs_reach_futures, some_standing_is_called,
+    ticks_are_exact, traces_continue, what_is_made_is_new,
 };
 use executor_model::call_laws::{
     calls_do_what_they_say, closings_say_why, copies_are_counted, leaks_wake_each_future,
@@ -79,6 +84,7 @@ pub fn all_laws()
     refused_calls_change_nothing();
     want_of_memory_is_told_of();
     laws_of_calls();
+    laws_of_answers();
     calls_end();
     lone_calls_end();
     ticks_are_exact();
@@ -92,6 +98,7 @@ pub fn all_laws()
     runs_poll_few_futures();
     kept_futures_are_in_reach();
     keepers_can_be_polled();
+    runs_can_be_polled();
     dropped_runs_leave_common_futures();
     lone_calls_are_exact();
     queueings_are_counted();
@@ -158,4 +165,17 @@ fn laws_of_calls()
     the_closing_drop_keeps_the_order();
     the_closing_drop_wakes_in_order();
     leaks_wake_each_future();
+}
+
+/// Those of what an answer means.
+fn laws_of_answers()
+    ensures cancelled { EveryTrace CancelledMeansOver }
+    ensures made { EveryMachine MadeIsMade }
+    ensures ends { EveryExecution EndsByItsOwn }
+    ensures no { EveryMachine NoMeansEmpty }
+{
+    cancelled_means_over();
+    what_is_made_is_new();
+    runs_end_by_their_own_futures();
+    no_means_that_nothing_was_queued();
 }

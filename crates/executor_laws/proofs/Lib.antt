@@ -1,4 +1,5 @@
 pub mod CallSteps
+pub mod Cancels
 pub mod Exactness
 pub mod Fewness
 pub mod Keepers

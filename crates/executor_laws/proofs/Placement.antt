@@ -22,3 +22,4 @@ pub mod BoundSteps
 pub mod BoundWays
 pub mod Placing
 pub mod RunAnswers
+pub mod OwnReady

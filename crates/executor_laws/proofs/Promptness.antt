@@ -1,3 +1,6 @@
 -- Whoever is answered no is answered at once: no_comes_at_once.
 pub mod Prompting
 pub mod PromptExecutions
+pub mod Emptied
+pub mod Turns
+pub mod Makings

@@ -20,3 +20,7 @@ pub mod RunSearch
 pub mod RunPolls
 pub mod RunTurns
 pub mod RunFew
+pub mod RunEnds
+pub mod NoAnswers
+pub mod Makings
+pub mod HandleAnswers

@@ -8,18 +8,22 @@ ghost use Rattle.executor_model.specs.Steps.{Machine, step, stepped};
 ghost use Rattle.executor_laws.specs.AtOnce.{NoComesAtOnce};
 ghost use Rattle.executor_laws.specs.Continued.{IsContinued};
 ghost use Rattle.executor_laws.specs.GoingOn.{GoesOn, HolderGoesOn};
+ghost use Rattle.executor_laws.specs.HandleAnswers.{CancelledMeansOver};
 ghost use Rattle.executor_laws.specs.LoneEnds.{LoneCallsEnd};
 ghost use Rattle.executor_laws.specs.Queueings.{CountsQueueings};
 ghost use Rattle.executor_laws.specs.Remaining.{EachListEnds, EachStepLowers};
 ghost use Rattle.executor_laws.specs.Called.{KeeperIsCalled, SomeStandingIsCalled};
 ghost use Rattle.executor_laws.specs.AtRest.{EmptinessIsExact, TicksAreExact};
 ghost use Rattle.executor_laws.specs.LoneAnswers.{IsLoneEmptinessExact, IsLoneTickExact};
+ghost use Rattle.executor_laws.specs.Makings.{MadeIsMade};
+ghost use Rattle.executor_laws.specs.NoAnswers.{NoMeansEmpty};
 ghost use Rattle.executor_laws.specs.Places.{StandsWithKeeper};
 ghost use Rattle.executor_laws.specs.Reach.{IsInReach, IsReachedInOrder};
 ghost use Rattle.executor_laws.specs.RunAnswers.{IsReadyAtItsEnd};
 ghost use Rattle.executor_laws.specs.RunReach.{IsKeptReached, IsReachedByRuns, LeavesCommon};
+ghost use Rattle.executor_laws.specs.RunEnds.{EndsByItsOwn};
 ghost use Rattle.executor_laws.specs.RunFew.{PollsFew};
-ghost use Rattle.executor_laws.specs.RunPolls.{KeepersCanBePolled};
+ghost use Rattle.executor_laws.specs.RunPolls.{KeepersCanBePolled, RunsCanBePolled};
 ghost use Rattle.executor_laws.specs.RunSearch.{FindsDue};
 ghost use Rattle.executor_laws.specs.RunTurns.{IsCommonReached};
 ghost use Rattle.executor_laws.specs.Ticks.{IsTickExact};
@@ -63,6 +67,24 @@ pub fn no_comes_at_once()
     ensures { EveryTrace NoComesAtOnce }
 {}
 
+/// Whatever others do meanwhile, a try of a tick is answered no only by a step in which the executor's queue is empty.
+pub fn no_means_that_nothing_was_queued()
+    ensures { EveryMachine NoMeansEmpty }
+{}
+
+/// Whatever others do meanwhile, the next thing of a party that begins the making of a tick or of a run is its answer; and where
+/// that is that it was made, one of the party's own steps since then made it: one more, which lives, with the next number. So
+/// what is made wasn't there before, and no poll of a run was told of before.
+pub fn what_is_made_is_new()
+    ensures { EveryMachine MadeIsMade }
+{}
+
+/// A poll of a handle is answered that there is no output and will be none only where the future was cancelled, its output was
+/// given to a poll, or a call took the handle; or where nobody was left who could wake it, or the drop of the executor had begun.
+pub fn cancelled_means_over()
+    ensures { EveryTrace CancelledMeansOver }
+{}
+
 /// No wake of a tick or run is lost. A tick or run stands where it lives and its last poll was answered that nothing is
 /// ready; it is called where the waker of that poll was called since the poll began. Where no call is in progress, a
 /// future is due and some tick or run stands, one that stands is called, unless the last poll of a tick or run that
@@ -82,6 +104,13 @@ pub fn keepers_are_called()
 /// found.
 pub fn runs_are_ready_at_their_end()
     ensures { EveryExecution IsReadyAtItsEnd }
+{}
+
+/// Whatever the parties do, a run that lives, that no call uses and that hasn't ended ends later, and a poll of it is answered
+/// that its own future is ready, only where meanwhile the own future did answer so, or where the run is dropped. So a poll
+/// that finds nothing isn't answered so, and a run doesn't end by it.
+pub fn runs_end_by_their_own_futures()
+    ensures { EveryExecution EndsByItsOwn }
 {}
 
 /// Where no call is in progress and the drop of the executor hasn't begun, the Runnable of a due future stands in the
@@ -151,6 +180,12 @@ pub fn runs_poll_few_futures()
 /// alone, by any outside waker, to the end of that poll, in which the run's own future isn't ready.
 pub fn keepers_can_be_polled()
     ensures { EveryMachine KeepersCanBePolled }
+{}
+
+/// Where no call is in progress and the drop of the executor hasn't begun, each party can poll a run that lives and hasn't ended
+/// by a call that is made alone, with any outside waker, to the end of that poll, while the run's own future isn't ready.
+pub fn runs_can_be_polled()
+    ensures { EveryMachine RunsCanBePolled }
 {}
 
 /// A run finds a future in whichever queue it stands. Where no call is in progress, the drop of the executor hasn't begun

@@ -27,7 +27,7 @@ pub record Even (w v : World) : Type 0 where
   pub past : (r : ℕ) → is_past (run_of v r) ≡ is_past (run_of w r)
   pub count : length v.runs ≡ length w.runs
 
-same-stage : (w v : World) → hull w ≡ hull v → (r : ℕ) → (run_of v r).stage ≡ (run_of w r).stage
+pub same-stage : (w v : World) → hull w ≡ hull v → (r : ℕ) → (run_of v r).stage ≡ (run_of w r).stage
 same-stage w v e r = sym (stages-at v.runs r)
     ∙ (ap (λ (h : Hull). get_or h.stages r Ended) (sym e) ∙ stages-at w.runs r)
 

@@ -263,7 +263,7 @@ none-search r (tick_or_run.Run q) w s e =
     let x : RunPoll = record { run = q; waker = s.waker; poll = s.poll } in
     part-own (leaving_of r) (mild r) x 0 (part r x) (own_of w q) w
 
-none-by : (b : Bool) (r p : ℕ) (h : Hint) (o : Op) (w : World) → is_for_runs o ≡ b → leaves o ≡ false →
+pub none-by : (b : Bool) (r p : ℕ) (h : Hint) (o : Op) (w : World) → is_for_runs o ≡ b → leaves o ≡ false →
     weigh (leaving_of r) (act p h o w).next ≡ 0
 none-by false r p h o w n e = mild-next (leaving_of r) (mild r) p h o w n
 none-by true r p h (op.Tick (tick_op.Search s)) w n e = none-search r s.who w s refl

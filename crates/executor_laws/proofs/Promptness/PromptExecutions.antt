@@ -54,23 +54,23 @@ use Rattle.executor_laws.proofs.Promptness.Prompting.{fresh-log, deeds-other, de
 
 -- what p has to do, where it did this: nothing of it is answered no next; or what is on top may be,
 -- and p's call has begun last
-data Stands (p : ℕ) (os : List Op) (ds : Trace) : Type 0 where
+pub data Stands (p : ℕ) (os : List Op) (ds : Trace) : Type 0 where
   slow : weigh hasty os ≡ 0 → Stands p os ds
   quick : (rest : List Op) (o : Op) → os ≡ rest ++ o ∷ [] → quick_of o ≡ 1 → weigh hasty rest ≡ 0 →
       fresh p false ds ≡ true → Stands p os ds
 
-record Prompt (p : ℕ) (os : List Op) (ds : Trace) : Type 0 where
+pub record Prompt (p : ℕ) (os : List Op) (ds : Trace) : Type 0 where
   pub told : told p false ds ≡ true
   pub stands : Stands p os ds
 
-abbrev Prompts : Machine → Type 0
+abbrev pub Prompts : Machine → Type 0
 Prompts s = (q : ℕ) → Prompt q (stack s q) (deeds q s.world.trace)
 
 -- what is below the top isn't answered no next, and what is on top only where p's call has begun last
-abbrev Parted : ℕ → List Op → Op → Trace → Type 0
+abbrev pub Parted : ℕ → List Op → Op → Trace → Type 0
 Parted p rest o ds = (weigh hasty rest ≡ 0) × ((hasty o ≡ 0) ⊎ ((quick_of o ≡ 1) × (fresh p false ds ≡ true)))
 
-parted : (p : ℕ) (os rest : List Op) (o : Op) (ds : Trace) → os ≡ rest ++ o ∷ [] → Stands p os ds → Parted p rest o ds
+pub parted : (p : ℕ) (os rest : List Op) (o : Op) (ds : Trace) → os ≡ rest ++ o ∷ [] → Stands p os ds → Parted p rest o ds
 parted p os rest o ds e (slow z) =
     let k : weigh hasty rest + weigh hasty (o ∷ []) ≡ 0 = sym (weigh-append hasty rest (o ∷ []))
     ∙ (sym (ap (weigh hasty) e) ∙ z) in
@@ -98,7 +98,7 @@ turned s p rest d l others own h q = ⊎_elim
     (subst (λ (ds : Trace). Prompt q (stack s q) ds) (sym (others q x.2)) (h q)))
     (same_cases q p)
 
-slow-onto : (rest next : List Op) → weigh hasty rest ≡ 0 → weigh hasty next ≡ 0 → weigh hasty (rest ++ reverse next) ≡ 0
+pub slow-onto : (rest next : List Op) → weigh hasty rest ≡ 0 → weigh hasty next ≡ 0 → weigh hasty (rest ++ reverse next) ≡ 0
 slow-onto rest next z n = omega (arith, z, n, weigh-append hasty rest (reverse next), weigh-reverse hasty next)
 
 -- what p does goes on with nothing that is answered no next
@@ -176,13 +176,13 @@ own-act p h o w os x t = ⊎_elim
     (λ (k : (quick_of o ≡ 1) × (fresh p false (deeds p w.trace) ≡ true)). own-quick p h o w os k.0 x.0 k.1 t)
     x.1
 
-others-act : (p : ℕ) (h : Hint) (o : Op) (w : World) (b : Bool) → is_end o ≡ b → (q : ℕ) → q ≢ p →
+pub others-act : (p : ℕ) (h : Hint) (o : Op) (w : World) (b : Bool) → is_end o ≡ b → (q : ℕ) → q ≢ p →
     deeds q (act p h o w).world.trace ≡ deeds q w.trace
 others-act p h o w false n q k = deeds-other p q w (act p h o w).world (grows-act p h o w n) k
 others-act p h (op.End r held) w true n q k = deeds-other_log p q w.trace (event.CallEnded p r) refl k
 others-act p h _ w true n q k = absurd (cc)
 
-slow-react : (p : ℕ) (o : Op) (u : UserEnd) (w : World) → weigh hasty (react p o u w).next ≡ 0
+pub slow-react : (p : ℕ) (o : Op) (u : UserEnd) (w : World) → weigh hasty (react p o u w).next ≡ 0
 slow-react p (op.User (user_op.Poll f)) (end.Polled answer.Pending) w = refl
 slow-react p (op.User (user_op.Poll f)) (end.Polled answer.Ready) w = refl
 slow-react p (op.User (user_op.Poll f)) end.Done w = refl
@@ -262,7 +262,7 @@ own-begun p w here c os z t = record { told = told-begun p w here c t; stands = 
     go call.Leak = as-slow call.Leak refl
     go call.DropExecutor = as-slow call.DropExecutor refl
 
-others-begun : (p : ℕ) (w : World) (here : Option Waker) (c : Call) (q : ℕ) → q ≢ p →
+pub others-begun : (p : ℕ) (w : World) (here : Option Waker) (c : Call) (q : ℕ) → q ≢ p →
     deeds q (begun p (log w (event.CallBegun p c)) here c).world.trace ≡ deeds q w.trace
 others-begun p w here c q k =
     deeds-other p q (log w (event.CallBegun p c)) (begun p (log w (event.CallBegun p c)) here c).world
@@ -324,7 +324,7 @@ prompt-ends s p a held below l e h =
 prompt-start : (limit : ℕ) (kind : Kind) (n : ℕ) → Prompts (start limit kind n)
 prompt-start limit kind n q = record { told = refl; stands = slow (ap (weigh hasty) (idle-stack n q)) }
 
-prompt : (limit : ℕ) (kind : Kind) (n : ℕ) (ts : List Step) → Prompts (run ts (start limit kind n))
+pub prompt : (limit : ℕ) (kind : Kind) (n : ℕ) (ts : List Step) → Prompts (run ts (start limit kind n))
 prompt limit kind n ts = along Prompts prompt-moves prompt-ends ts (start limit kind n) (good-start limit kind n)
     (prompt-start limit kind n)
 

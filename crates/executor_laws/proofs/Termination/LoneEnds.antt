@@ -99,7 +99,7 @@ wants l (op.List (list_op.LockWrite s)) e = by l.writing e
 wants l (op.List (list_op.LockRead x)) e = inl e
 wants l _ e = absurd (cc)
 
-alone-free : (p : ℕ) (s : Machine) (o : Op) → Reached s → OthersRest p s → top (stack s p) ≡ Some o →
+pub alone-free : (p : ℕ) (s : Machine) (o : Op) → Reached s → OthersRest p s → top (stack s p) ≡ Some o →
     is_locked_out s.world.lock o ≡ false
 alone-free p s o r k e = by (is_locked_out s.world.lock o) refl
   where

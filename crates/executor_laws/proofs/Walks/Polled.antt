@@ -1,7 +1,7 @@
--- For keepers_can_be_polled.
--- A poll of a run that keeps a future can be made alone, to its end.
+-- For runs_can_be_polled and keepers_can_be_polled.
+-- A poll of a run that lives and hasn't ended can be made alone, to its end.
 use Rattle.std.proofs.Common.{◌≡◌, ◌∙◌, ℕ, ◌<◌, ◌≤◌, List, [], ◌∷◌, length, Bool, true, false, ◌&&◌, ◌||◌, not}
-use Rattle.std.proofs.Common.{◌++◌, eqb, refl, sym, ap, arith, ⊎_elim}
+use Rattle.std.proofs.Common.{◌++◌, eqb, refl, sym, ap, arith, ⊎_elim, Ok}
 use Rattle.std.proofs.lemmas.Bool.Decides.{nat_tests}
 use Rattle.std.specs.Prelude.{◌==◌, Option, Some, None, nat_lt}
 use Rattle.executor_model.specs.declared.call.By.TheVariants as by
@@ -12,36 +12,128 @@ use Rattle.executor_model.specs.declared.event.Event.TheVariants as event
 use Rattle.executor_model.specs.declared.kind.Kind.{Kind}
 use Rattle.executor_model.specs.declared.op.Op.{Op}
 use Rattle.executor_model.specs.declared.op.Op.TheVariants as op
+use Rattle.executor_model.specs.declared.op.ListOp.TheVariants as list_op
 use Rattle.executor_model.specs.declared.op.RunPoll.{RunPoll}
+use Rattle.executor_model.specs.declared.op.Section.TheVariants as section
 use Rattle.executor_model.specs.declared.op.UserOp.TheVariants as user_op
 use Rattle.executor_model.specs.declared.step.Step.{Step}
-use Rattle.executor_model.specs.declared.step.Step.TheVariants.{Answer, Begin}
+use Rattle.executor_model.specs.declared.step.Step.TheVariants.{Answer, Begin, Go}
 use Rattle.executor_model.specs.declared.step.StepError.TheVariants.{Gone, NoSuch}
 use Rattle.executor_model.specs.declared.step.UserEnd.TheVariants as end
 use Rattle.executor_model.specs.Emptiness.{IsAtRest}
+use Rattle.executor_model.specs.Executions.{run_all}
+use Rattle.executor_model.specs.Quiet.{IsQuiet}
 use Rattle.executor_model.specs.Rows.{leaking_of, running_of}
 use Rattle.executor_model.specs.Steps.{Machine, after, answer_refusal, begin_refusal, is_there, is_unused, onto, part_after, poll_run}
-use Rattle.executor_model.specs.Steps.{refusal, run, stack, start, top, unless, waker_of}
+use Rattle.executor_model.specs.Steps.{party_of, refusal, run, stack, start, top, unless, waits, waker_of}
 use Rattle.executor_model.specs.Sound.{times}
 use Rattle.executor_model.specs.Weights.{weigh_all}
 use Rattle.executor_model.specs.World.{Ended, Listed, New, Stage, World, done, log, own_of, run_of}
-use Rattle.executor_model.proofs.OwnQueues.RunsAside.{stages-at}
 use Rattle.executor_model.proofs.OwnQueues.Using.{emptying_of}
 use Rattle.executor_model.proofs.OwnQueues.UsingWorlds.{is_over_stage, is_past}
 use Rattle.executor_model.proofs.Quiet.Resting.{all-rest}
+use Rattle.executor_model.proofs.Steps.Lift.{no_hint}
 use Rattle.executor_model.proofs.Steps.Reached.{Reached, deep-here, good-here, reached-step, run-then}
 use Rattle.executor_laws.specs.LoneEnds.{are_onward_of}
 use Rattle.executor_laws.specs.Remaining.{remaining}
-use Rattle.executor_laws.specs.RunPolls.{KeepersCanBePolled}
-use Rattle.executor_laws.specs.RunReach.{IsLonePoll, Keeps}
+use Rattle.executor_laws.specs.RunPolls.{KeepersCanBePolled, RunsCanBePolled}
+use Rattle.executor_laws.specs.RunReach.{IsLonePoll, Keeps, first_answer}
 use Rattle.executor_laws.proofs.Placement.Placing.{here, idle, keeper-own}
 use Rattle.executor_laws.proofs.Reach.LoneTicks.{stack-set}
 use Rattle.executor_laws.proofs.Reach.Reached.{bonded-here, heard-here}
-use Rattle.executor_laws.proofs.Termination.LoneEnds.{Finish, finishes, still-party, still-rest}
+use Rattle.executor_laws.proofs.Termination.GoingOn.{goes-on}
+use Rattle.executor_laws.proofs.Termination.LoneEnds.{Finish, OthersRest, alone-free, finishes, still-party, still-rest}
 use Rattle.executor_laws.proofs.Walks.Finding.{enrolled-here}
 
+-- from here p can go on to the end, and what user code answers first is that the run's own future isn't ready
+record Lone (p : ℕ) (s : Machine) : Type 0 where
+  pub steps : List Step
+  pub new : Machine
+  pub onward : are_onward_of p steps ≡ true
+  pub made : run_all steps s ≡ Ok new
+  pub quiet : IsQuiet new.world.trace
+  pub pending : first_answer steps ≡ Some (end.Polled answer.Pending)
+
+-- a party that is alone
+record IsAlone (p : ℕ) (s : Machine) : Type 0 where
+  pub reached : Reached s
+  pub there : p < length s.parties
+  pub others : OthersRest p s
+
+module _ (p : ℕ) (x : RunPoll) where
+  own : eqb p p ≡ true
+  own = grind (arith, nat_tests)
+
+  still-alone : (s : Machine) (t : Step) → party_of t ≡ p → refusal s t ≡ None → IsAlone p s → IsAlone p (after s t)
+  still-alone s t i e a = record {
+    reached = reached-step s t e a.reached;
+    there = still-party p s t a.there;
+    others = still-rest p s t i a.others;
+  }
+
+  abbrev answers : Step
+  answers = Answer p (end.Polled answer.Pending)
+
+  -- where the own future is polled
+  at-own : (s : Machine) → IsAlone p s → top (stack s p) ≡ Some (op.User (user_op.PollOwn x)) → Lone p s
+  at-own s a e =
+      let b : nat_lt p (length s.parties) ≡ true = (let l : p < length s.parties = a.there in grind (arith, nat_tests)) in
+      let goes : refusal s answers ≡ None =
+      ap (λ (c : Bool). unless c NoSuch (answer_refusal (top (stack s p)) (end.Polled answer.Pending))) b
+      ∙ ap (λ (o : Option Op). answer_refusal o (end.Polled answer.Pending)) e in
+      let k : IsAlone p (after s answers) = still-alone s answers refl goes a in
+      let f : Finish p (after s answers) =
+      finishes (remaining (after s answers)) p (after s answers) k.reached k.there k.others (omega arith) _ refl in
+      record {
+        steps = answers ∷ f.steps;
+        new = f.new;
+        onward = ap (λ (c : Bool). c && are_onward_of p f.steps) own ∙ f.onward;
+        made = run-then answers f.steps s f.new goes f.made;
+        quiet = f.quiet;
+        pending = refl;
+      }
+
+  -- something that is no user code is done first
+  does-first : (s : Machine) (o : Op) (os : List Op) → IsAlone p s → top (stack s p) ≡ Some o → waits o ≡ false →
+      (part_after s.world (stack s p) (Go p no_hint)).todo ≡ os →
+      ((now : Machine) → IsAlone p now → stack now p ≡ os → Lone p now) → Lone p s
+  does-first s o os a e w todo k =
+      let t : Step = Go p no_hint in
+      let goes : refusal s t ≡ None =
+      (goes-on s p o a.there e).goes w (alone-free p s o a.reached a.others e) no_hint in
+      let f : Lone p (after s t) = k (after s t) (still-alone s t refl goes a)
+      (stack-set p s (part_after s.world (stack s p) t) a.there ∙ todo) in
+      record {
+        steps = t ∷ f.steps;
+        new = f.new;
+        onward = ap (λ (c : Bool). c && are_onward_of p f.steps) own ∙ f.onward;
+        made = run-then t f.steps s f.new goes f.made;
+        quiet = f.quiet;
+        pending = f.pending;
+      }
+
+  todo-of : (s : Machine) (os : List Op) → stack s p ≡ os →
+      (part_after s.world (stack s p) (Go p no_hint)).todo ≡ (part_after s.world os (Go p no_hint)).todo
+  todo-of s os e = ap (λ (ns : List Op). (part_after s.world ns (Go p no_hint)).todo) e
+
+  abbrev asks : Op
+  asks = op.User (user_op.PollOwn x)
+
+  -- a run's first poll brings its own queue into the list
+  at-unlock : (s : Machine) → IsAlone p s → stack s p ≡ asks ∷ op.List list_op.UnlockWrite ∷ [] → Lone p s
+  at-unlock s a e = does-first s (op.List list_op.UnlockWrite) (asks ∷ []) a (ap top e) refl (todo-of s _ e)
+      (λ now k i. at-own now k (ap top i))
+
+  at-write : (s : Machine) → IsAlone p s → stack s p ≡ op.List (list_op.Write (section.Register x)) ∷ [] → Lone p s
+  at-write s a e = does-first s (op.List (list_op.Write (section.Register x))) (asks ∷ op.List list_op.UnlockWrite ∷ []) a
+      (ap top e) refl (todo-of s _ e) at-unlock
+
+  at-lock : (s : Machine) → IsAlone p s → stack s p ≡ op.List (list_op.LockWrite (section.Register x)) ∷ [] → Lone p s
+  at-lock s a e = does-first s (op.List (list_op.LockWrite (section.Register x)))
+      (op.List (list_op.Write (section.Register x)) ∷ []) a (ap top e) refl (todo-of s _ e) at-write
+
 module _ (s : Machine) (r : Reached s) (rest : IsAtRest s) (p n x : ℕ) (l : p < length s.parties)
-    (alive : is_there (run_of s.world n) ≡ true) (listed : (run_of s.world n).stage ≡ Listed) where
+    (alive : is_there (run_of s.world n) ≡ true) (unended : ¬ ((run_of s.world n).stage ≡ Ended)) where
   idles : (q : ℕ) → stack s q ≡ []
   idles q = idle s (good-here s r) (heard-here s r) (deep-here s r) (bonded-here s r) rest q
 
@@ -75,45 +167,35 @@ module _ (s : Machine) (r : Reached s) (rest : IsAtRest s) (p n x : ℕ) (l : p 
   abbrev now : Machine
   now = after s (Begin p c)
 
-  asks-own : top (stack now p) ≡ Some (op.User (user_op.PollOwn poll))
-  asks-own = ap top (stack-set p s (part_after s.world (stack s p) (Begin p c)) l)
-      ∙ (ap (λ (os : List Op). top (part_after s.world os (Begin p c)).todo) (idles p)
-      ∙ ap (λ (t : Stage). top (onto p (done beginning (poll_run t poll)) []).todo) listed)
+  begun-stack : (t : Stage) → (run_of s.world n).stage ≡ t →
+      stack now p ≡ (onto p (done beginning (poll_run t poll)) []).todo
+  begun-stack t e = stack-set p s (part_after s.world (stack s p) (Begin p c)) l
+      ∙ (ap (λ (os : List Op). (part_after s.world os (Begin p c)).todo) (idles p)
+      ∙ ap (λ (t : Stage). (onto p (done beginning (poll_run t poll)) []).todo) e)
 
-  abbrev answers : Step
-  answers = Answer p (end.Polled answer.Pending)
+  alone : IsAlone p now
+  alone = record {
+    reached = reached-step s (Begin p c) begins r;
+    there = still-party p s (Begin p c) l;
+    others = still-rest p s (Begin p c) refl (λ q m. idles q);
+  }
 
-  l-now : p < length now.parties
-  l-now = still-party p s (Begin p c) l
-
-  goes-on : refusal now answers ≡ None
-  goes-on =
-      ap (λ (b : Bool). unless b NoSuch (answer_refusal (top (stack now p)) (end.Polled answer.Pending)))
-      (let z : nat_lt p (length now.parties) ≡ true = grind (arith, nat_tests, l-now) in z)
-      ∙ ap (λ (o : Option Op). answer_refusal o (end.Polled answer.Pending)) asks-own
+  by-stage : (t : Stage) → (run_of s.world n).stage ≡ t → Lone p now
+  by-stage New e = at-lock p poll now alone (begun-stack New e)
+  by-stage Listed e = at-own p poll now alone (ap top (begun-stack Listed e))
+  by-stage Ended e = absurd (unended e)
 
   pub lone-poll : (steps : List Step) × (new : Machine) × IsLonePoll p n (by.Outside x) steps s new
-  lone-poll =
-      let later : Machine = after now answers in
-      let y : Reached now = reached-step s (Begin p c) begins r in
-      let f : Finish p later = finishes (remaining later) p later (reached-step now answers goes-on y)
-      (still-party p now answers l-now)
-      (still-rest p now answers refl (still-rest p s (Begin p c) refl (λ q m. idles q))) (omega arith) _ refl in
-      let own : eqb p p ≡ true = grind (arith, nat_tests) in (
-        answers ∷ f.steps,
-        f.new,
-        record {
-          call = record {
-            made = run-then (Begin p c) (answers ∷ f.steps) s f.new begins
-                (run-then answers f.steps now f.new goes-on f.made);
-            alone = ap (λ (b : Bool). b && are_onward_of p f.steps) own ∙ f.onward;
-            ended = f.quiet;
-          };
-          pending = refl;
-        },
-      )
+  lone-poll = let f : Lone p now = by-stage (run_of s.world n).stage refl in (
+    f.steps,
+    f.new,
+    record {
+      call = record { made = run-then (Begin p c) f.steps s f.new begins f.made; alone = f.onward; ended = f.quiet };
+      pending = f.pending;
+    },
+  )
 
--- a run that keeps a future lives, its own future isn't ready, and its queue is in the list
+-- a run that keeps a future lives, and hasn't ended
 
 or-parts : (a b : Bool) → (a || b) ≡ false → (a ≡ false) × (b ≡ false)
 or-parts true b e = absurd (cc)
@@ -139,26 +221,21 @@ module _ (s : Machine) (y : Reached s) (rest : IsAtRest s) (r f : ℕ) (k : Keep
           )))
           (((enrolled-here s y).used r).emptied e)
 
-  is-listed : (run_of s.world r).stage ≡ Listed
-  is-listed = by (run_of s.world r).stage refl
-    where
-      many : (xs : List ℕ) → 1 ≤ times f xs → 1 ≤ length xs
-      many [] z = absurd (omega (arith, z))
-      many (g ∷ xs) z = omega arith
-
-      by : (t : Stage) → (run_of s.world r).stage ≡ t → t ≡ Listed
-      by New e = absurd ((enrolled-here s y).staged r (omega (arith, many (own_of s.world r) stands))
-          (stages-at s.world.runs r ∙ e))
-      by Listed e = refl
-      by Ended e = let no : true ≡ false = sym (ap is_over_stage e)
-          ∙ (or-parts (run_of s.world r).dropped (is_over_stage (run_of s.world r).stage) open_run).1 in absurd (cc)
+  unended-run : ¬ ((run_of s.world r).stage ≡ Ended)
+  unended-run e = let no : true ≡ false = sym (ap is_over_stage e)
+      ∙ (or-parts (run_of s.world r).dropped (is_over_stage (run_of s.world r).stage) open_run).1 in cc
 
   pub keeper-polled : (p x : ℕ) → p < length s.parties →
       (steps : List Step) × (new : Machine) × IsLonePoll p r (by.Outside x) steps s new
   keeper-polled p x l = lone-poll s y rest p r x l
-      (ap not (or-parts (run_of s.world r).dropped (is_over_stage (run_of s.world r).stage) open_run).0) is-listed
+      (ap not (or-parts (run_of s.world r).dropped (is_over_stage (run_of s.world r).stage) open_run).0) unended-run
 
 pub keepers-polled : (limit : ℕ) (kind : Kind) (parties : ℕ) (steps : List Step) →
     KeepersCanBePolled (run steps (start limit kind parties))
 keepers-polled limit kind parties steps = λ rest r f k p x l. keeper-polled (run steps (start limit kind parties))
     (record { limit = limit; kind = kind; parties = parties; steps = steps; is = refl }) rest r f k p x l
+
+pub runs-polled : (limit : ℕ) (kind : Kind) (parties : ℕ) (steps : List Step) →
+    RunsCanBePolled (run steps (start limit kind parties))
+runs-polled limit kind parties steps rest r alive unended p x l = lone-poll (run steps (start limit kind parties))
+    (record { limit = limit; kind = kind; parties = parties; steps = steps; is = refl }) rest p r x l alive unended

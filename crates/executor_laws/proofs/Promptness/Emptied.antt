@@ -1,0 +1,214 @@
+-- For no_means_that_nothing_was_queued.
+-- The step by which a try of a tick is answered no looks at the queue, and finds none there.
+use Rattle.std.proofs.Common.{◌≡◌, ◌∙◌, ⊎_elim, ℕ, List, [], ◌∷◌, ◌++◌, Bool, true, false, refl, sym, ap, subst, arith, append-nil, Result}
+use Rattle.std.proofs.lemmas.Bool.Decides.{nat_tests}
+use Rattle.std.proofs.lemmas.List.{append_assoc, append_cancel_left}
+use Rattle.std.specs.Prelude.{Option, Some, None, reverse}
+use Rattle.executor_model.specs.declared.call.Call.TheVariants as call
+use Rattle.executor_model.specs.declared.call.Reply.{Reply}
+use Rattle.executor_model.specs.declared.call.Reply.TheVariants as reply
+use Rattle.executor_model.specs.declared.event.Event.TheVariants as event
+use Rattle.executor_model.specs.declared.kind.Kind.{Kind}
+use Rattle.executor_model.specs.declared.op.Op.{Op}
+use Rattle.executor_model.specs.declared.op.Op.TheVariants as op
+use Rattle.executor_model.specs.declared.op.Hold.TheVariants as hold
+use Rattle.executor_model.specs.declared.op.QueueOp.TheVariants as queue_op
+use Rattle.executor_model.specs.declared.op.SleeperOp.TheVariants as sleeper_op
+use Rattle.executor_model.specs.declared.op.TableOp.TheVariants as table_op
+use Rattle.executor_model.specs.declared.step.Hint.{Hint}
+use Rattle.executor_model.specs.declared.step.Step.{Step}
+use Rattle.executor_model.specs.declared.step.Step.TheVariants.{Begin, Go, Answer}
+use Rattle.executor_model.specs.declared.step.StepError.{StepError}
+use Rattle.executor_model.specs.declared.step.StepError.TheVariants.{NoSuch}
+use Rattle.executor_model.specs.declared.step.UserEnd.{UserEnd}
+use Rattle.task_moves.specs.declared.moves.owed.Move.TheVariants as move
+use Rattle.executor_model.specs.Acts.{take_by}
+use Rattle.executor_model.specs.Calls.{Begun}
+use Rattle.executor_model.specs.Deeds.{deeds}
+use Rattle.executor_model.specs.Doing.{act}
+use Rattle.executor_model.specs.Steps.{Machine, after, below_top, end_of, gone_on, part_after, party_of, react}
+use Rattle.executor_model.specs.Steps.{refusal, run, settled_by, stack, start, step, stepped, top, unless}
+use Rattle.executor_model.specs.Trace.{Trace, has}
+use Rattle.executor_model.specs.Weights.{weigh}
+use Rattle.executor_model.specs.World.{World}
+use Rattle.executor_model.proofs.Copies.CopyFrames.{AllCounting, Any, Counting, all-counting, counting-later}
+use Rattle.executor_model.proofs.Copies.Endings.{Own, last-event, whose}
+use Rattle.executor_model.proofs.Promises.CallFrames.{Tied}
+use Rattle.executor_model.proofs.Promises.CallPromises.{has-right}
+use Rattle.executor_model.proofs.Promises.CallServes.{misfit}
+use Rattle.executor_model.proofs.Quiet.Calls.{calling_of}
+use Rattle.executor_model.proofs.SpawnWants.Tops.{Tops, flipped, tops}
+use Rattle.executor_model.proofs.Steps.Deeds.{ends_one, grows-act, grows-react, is_end}
+use Rattle.executor_model.proofs.Steps.Lift.{topped}
+use Rattle.executor_model.proofs.Steps.Lists.{weigh-append}
+use Rattle.executor_model.proofs.Steps.Stepping.{step-made}
+use Rattle.executor_model.proofs.Table.Spawning.{top-last}
+use Rattle.executor_laws.specs.LoneEnds.{is_onward_of}
+use Rattle.executor_laws.specs.NoAnswers.{IsIn, NoMeansEmpty}
+use Rattle.executor_laws.proofs.Promptness.PromptExecutions.{Parted, Prompts, parted, prompt, slow-onto, slow-react}
+use Rattle.executor_laws.proofs.Promptness.Prompting.{hasty, quick_of, slow-act}
+
+not-both : (b : Bool) → b ≡ true → b ≡ false → ⊥
+not-both true e f = absurd (cc)
+not-both false e f = absurd (cc)
+
+-- a call that ends so has its end on top
+said : (o : Option Reply) (p : ℕ) (a : Reply) (w : World) (os : List Op) (es more told : Trace) → w.trace ≡ es ++ more →
+    has ends_one more ≡ false → (settled_by o p w os).world.trace ≡ es ++ (told ++ event.CallEnded p a ∷ []) → o ≡ Some a
+said None p a w os es more told t n e =
+    let i : more ≡ told ++ event.CallEnded p a ∷ [] = append_cancel_left es _ _ (sym t ∙ e) in
+    absurd (not-both (has ends_one more)
+    (ap (has ends_one) i ∙ has-right ends_one told (event.CallEnded p a ∷ []) refl) n)
+said (Some b) p a w os es more told t n e =
+    let i : more ++ event.CallEnded p b ∷ [] ≡ told ++ event.CallEnded p a ∷ [] =
+    append_cancel_left es _ _ (sym (append_assoc es more (event.CallEnded p b ∷ []))
+    ∙ (ap (λ (xs : Trace). xs ++ event.CallEnded p b ∷ []) (sym t) ∙ e)) in
+    let j : event.CallEnded p b ≡ event.CallEnded p a = last-event more told _ _ i in
+    let k : b ≡ a = cc in ap (λ (x : Reply). Some x) k
+
+-- which isn't there where nothing is answered no next
+none-on-top : (os : List Op) (o : Option Op) → top os ≡ o → weigh hasty os ≡ 0 → end_of o ≡ Some reply.No → ⊥
+none-on-top os None e z k = absurd (cc)
+none-on-top os (Some (op.End a held)) e z k =
+    let i : a ≡ reply.No = cc in
+    absurd (omega (
+      arith,
+      z,
+      ap (weigh hasty) (topped os (op.End a held) e),
+      weigh-append hasty (below_top os) (op.End a held ∷ []),
+      ap (λ (b : Reply). hasty (op.End b held)) i,
+    ))
+none-on-top os (Some _) e z k = absurd (cc)
+
+taken-top : (below : List Op) (x y z : Op) → top (below ++ x ∷ y ∷ z ∷ []) ≡ Some z
+taken-top below x y z = ap top (sym (append_assoc below (x ∷ y ∷ []) (z ∷ []))) ∙ top-last (below ++ x ∷ y ∷ []) z
+
+module _ (s : Machine) (p : ℕ) (prompts : Prompts s) (here : Tops s) (f : AllCounting s)
+    (k : IsIn call.TryTick p s.world.trace) (told : Trace) where
+  unended : (o : Op) → top (stack s p) ≡ Some o → is_end o ≡ false
+  unended o e = by o (ap end_of (sym e) ∙ here.none p)
+    where
+      by : (x : Op) → end_of (Some x) ≡ None → is_end x ≡ false
+      by (op.End a held) z = absurd (cc)
+      by _ z = refl
+
+  -- no such call looks at the table
+  no-look : (rest : List Op) → stack s p ≡ rest ++ op.Table table_op.LookAtTable ∷ [] → ⊥
+  no-look rest e = by t.0 t.1 t.2 t.3.is t.3.none t.3.owes.fits
+    where
+      b : Begun
+      b = record { call = call.TryTick; own = k.own }
+
+      o : Op
+      o = op.Table table_op.LookAtTable
+
+      t : Tied Counting counting-later Any s.world.trace (b ∷ k.outer) (o ∷ reverse rest)
+      t = subst (λ (os : List Op). Tied Counting counting-later Any s.world.trace (b ∷ k.outer) os)
+          (ap (λ (os : List Op). reverse os) e ∙ flipped rest (o ∷ []))
+          (subst (λ (l : List Begun). Tied Counting counting-later Any s.world.trace l (reverse (stack s p))) k.is (f.tied p))
+
+      by : (front : List Op) (last : Op) (below : List Op) →
+          op.Table table_op.LookAtTable ∷ reverse rest ≡ front ++ last ∷ below →
+          weigh calling_of front ≡ 0 → weigh (misfit call.TryTick) (front ++ last ∷ []) ≡ 0 → ⊥
+      by [] last below i n z =
+          let j : op.Table table_op.LookAtTable ≡ last =
+          (let y : op.Table table_op.LookAtTable ∷ reverse rest ≡ last ∷ below = i in cc) in
+          absurd (omega (arith, z, ap (misfit call.TryTick) j))
+      by (x ∷ front) last below i n z =
+          let j : op.Table table_op.LookAtTable ≡ x =
+          (let y : op.Table table_op.LookAtTable ∷ reverse rest ≡ x ∷ (front ++ last ∷ below) = i in cc) in
+          absurd (omega (arith, n, ap calling_of j))
+
+  parts : (rest : List Op) (o : Op) → stack s p ≡ rest ++ o ∷ [] → Parted p rest o (deeds p s.world.trace)
+  parts rest o e = parted p (stack s p) rest o (deeds p s.world.trace) e (prompts p).stands
+
+  -- it takes from the queue, and finds it empty
+  by-take : (q : List ℕ) (rest : List Op) → s.world.queue.items ≡ q →
+      end_of (top (rest ++ reverse (take_by s.world q).next)) ≡ Some reply.No → q ≡ []
+  by-take [] rest i e = refl
+  by-take (g ∷ gs) rest i e =
+      let no : None ≡ Some reply.No = sym (ap end_of (taken-top rest (op.End reply.Yes hold.Executor)
+      (op.Move move.TakeUp g) (op.Sleeper sleeper_op.ExchangeFlag))) ∙ e in absurd (cc)
+
+  quick-act : (h : Hint) (o : Op) (rest : List Op) → stack s p ≡ rest ++ o ∷ [] → quick_of o ≡ 1 → is_end o ≡ false →
+      end_of (top (rest ++ reverse (act p h o s.world).next)) ≡ Some reply.No → s.world.queue.items ≡ []
+  quick-act h (op.Queue queue_op.Take) rest e c n z = by-take s.world.queue.items rest refl z
+  quick-act h (op.Table table_op.LookAtTable) rest e c n z = absurd (no-look rest e)
+  quick-act h (op.End a held) rest e c n z = absurd (cc)
+  quick-act h _ rest e c n z = absurd (cc)
+
+  on-act : (h : Hint) (o : Op) → top (stack s p) ≡ Some o →
+      end_of (top (below_top (stack s p) ++ reverse (act p h o s.world).next)) ≡ Some reply.No → s.world.queue.items ≡ []
+  on-act h o e z =
+      let i : stack s p ≡ below_top (stack s p) ++ o ∷ [] = topped (stack s p) o e in
+      let x = parts (below_top (stack s p)) o i in ⊎_elim
+      (λ (c : hasty o ≡ 0). absurd (none-on-top _ _ refl
+      (slow-onto (below_top (stack s p)) (act p h o s.world).next x.0 (slow-act p h o s.world c (unended o e))) z))
+      (λ (c : (quick_of o ≡ 1) × (_ ≡ true)). quick-act h o (below_top (stack s p)) i c.0 (unended o e) z)
+      x.1
+
+  on-react : (o : Op) (u : UserEnd) → top (stack s p) ≡ Some o →
+      end_of (top (below_top (stack s p) ++ reverse (react p o u s.world).next)) ≡ Some reply.No → ⊥
+  on-react o u e z =
+      let x = parts (below_top (stack s p)) o (topped (stack s p) o e) in
+      none-on-top _ _ refl (slow-onto (below_top (stack s p)) (react p o u s.world).next x.0 (slow-react p o u s.world)) z
+
+  abbrev Told : World → Type 0
+  Told w = w.trace ≡ s.world.trace ++ (told ++ event.CallEnded p reply.No ∷ [])
+
+  nothing : Told s.world → ⊥
+  nothing e = by told (append_cancel_left s.world.trace _ _ (sym e ∙ sym (append-nil s.world.trace)))
+    where
+      by : (xs : Trace) → xs ++ event.CallEnded p reply.No ∷ [] ≡ [] → ⊥
+      by [] q = absurd (cc)
+      by (x ∷ xs) q = absurd (cc)
+
+  on-go : (h : Hint) (o : Option Op) → top (stack s p) ≡ o →
+      Told (gone_on p s.world (stack s p) o (λ x. act p h x s.world)).world → s.world.queue.items ≡ []
+  on-go h None e t = absurd (nothing t)
+  on-go h (Some o) e t =
+      let g = grows-act p h o s.world (unended o e) in
+      on-act h o e (said (end_of (top (below_top (stack s p) ++ reverse (act p h o s.world).next))) p reply.No
+      (act p h o s.world).world _ s.world.trace g.more told g.is g.none_ends t)
+
+  on-answer : (u : UserEnd) (o : Option Op) → top (stack s p) ≡ o →
+      Told (gone_on p s.world (stack s p) o (λ x. react p x u s.world)).world → ⊥
+  on-answer u None e t = nothing t
+  on-answer u (Some o) e t =
+      let g = grows-react p o u s.world in
+      on-react o u e (said (end_of (top (below_top (stack s p) ++ reverse (react p o u s.world).next))) p reply.No
+      (react p o u s.world).world _ s.world.trace g.more told g.is g.none_ends t)
+
+past : (b : Bool) (r : Option StepError) → unless b NoSuch r ≡ None → r ≡ None
+past true r e = e
+past false r e = absurd (cc)
+
+stepped-is : (s : Machine) (t : Step) → refusal s t ≡ None → (stepped s (step s t)).world ≡ (after s t).world
+stepped-is s t e = ap (λ (r : Result Machine StepError). (stepped s r).world) (step-made s t e)
+
+emptied-by : (s : Machine) (p : ℕ) → Prompts s → Tops s → AllCounting s → IsIn call.TryTick p s.world.trace → (t : Step) →
+    is_onward_of p t ≡ true → (told : Trace) →
+    (part_after s.world (stack s (party_of t)) t).world.trace ≡ s.world.trace ++ (told ++ event.CallEnded p reply.No ∷ []) →
+    s.world.queue.items ≡ []
+emptied-by s p prompts here f k (Begin q c) n told e = absurd (cc)
+emptied-by s p prompts here f k (Go q h) n told e =
+    let i : q ≡ p = grind (arith, nat_tests) in
+    on-go s p prompts here f k told h (top (stack s p)) refl
+    (subst (λ (m : ℕ). (gone_on m s.world (stack s m) (top (stack s m)) (λ x. act m h x s.world)).world.trace
+    ≡ s.world.trace ++ (told ++ event.CallEnded p reply.No ∷ [])) i e)
+emptied-by s p prompts here f k (Answer q u) n told e =
+    let i : q ≡ p = grind (arith, nat_tests) in
+    absurd (on-answer s p prompts here f k told u (top (stack s p)) refl
+    (subst (λ (m : ℕ). (gone_on m s.world (stack s m) (top (stack s m)) (λ x. react m x u s.world)).world.trace
+    ≡ s.world.trace ++ (told ++ event.CallEnded p reply.No ∷ [])) i e))
+
+emptied : (s : Machine) → Prompts s → Tops s → AllCounting s → NoMeansEmpty s
+emptied s prompts here f p t n k a =
+    let o : Own s p t = whose s p t reply.No here a in
+    emptied-by s p prompts here f k t n a.0
+    (sym (ap (λ (w : World). w.trace) (stepped-is s t o.possible)) ∙ a.1)
+
+pub no-means-empty : (limit : ℕ) (kind : Kind) (parties : ℕ) (steps : List Step) →
+    NoMeansEmpty (run steps (start limit kind parties))
+no-means-empty limit kind parties steps = emptied (run steps (start limit kind parties))
+    (prompt limit kind parties steps) (tops limit kind parties steps) (all-counting limit kind parties steps)

@@ -6,7 +6,7 @@ ghost use Rattle.async_executor.specs.Stages.{given};
 
 use crate::call::{Call, Polled};
 use crate::closing::ClosesReturned;
-use crate::due::{pay, share};
+use crate::due::share;
 use crate::entry::Unlocked;
 use crate::errors::SpawnError;
 use crate::locks::Guarded;
@@ -168,12 +168,13 @@ where
     /// 1. Takes a Runnable from the queue. Where there is none: false.
     /// 2. Tells a sleeper, since there may be more.
     /// 3. Runs it: true.
+    #[inline(always)]
     pub(crate) fn run_one(&self, unlocked: &mut Unlocked) -> bool {
         let mut call = Call::begin();
         match self.state.take(&self.rt, &mut call) {
             Some(stored) => {
-                let due = self.state.notify(self.rt, self.realm, &mut call, unlocked);
-                pay(self.rt, due, unlocked);
+                self.state
+                    .notify_and_pay(self.rt, self.realm, &mut call, unlocked);
                 let last = self.poll_or_drop(stored, call, unlocked);
                 Polled::never().end(last);
                 true
@@ -186,11 +187,11 @@ where
     }
 
     /// Puts the Runnable of a new task into the queue, and tells a sleeper.
+    #[inline(always)]
     fn queue(&self, call: Call, runnable: ExRunnable<T, W, R>, unlocked: &mut Unlocked)
         requires { call ≡ given }
     {
         let runnable = runnable.into_scheduled();
-        let due = self.state.push(self.rt, call, runnable, unlocked);
-        pay(self.rt, due, unlocked);
+        self.state.push_and_pay(self.rt, call, runnable, unlocked);
     }
 }

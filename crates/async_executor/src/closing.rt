@@ -22,6 +22,7 @@ impl ClosesReturned {
     }
 
     /// Closes what was let go so far.
+    #[inline(always)]
     pub fn close<T, W, R>(
         &self,
         rt: R,

@@ -326,6 +326,7 @@ where
 {
     /// Appends the Runnable to the executor's queue, and tells a tick or run that sleeps. Once the executor's drop has begun it
     /// is dropped in its place.
+    #[inline(always)]
     fn schedule(&self, runnable: ExScheduled<T, W, R>, _info: ScheduleInfo) {
         self.queue(runnable, &mut Unlocked::at_entry());
     }

@@ -2,26 +2,28 @@
 ghost use Rattle.std.specs.Prelude.{◌≡◌};
 ghost use Rattle.executor_parts.specs.Sleepers.{flag_of};
 
+use crossbeam_utils::CachePadded;
 use crossbeam_utils::atomic::AtomicCell;
 use executor_parts::Sleepers;
 
 /// Whether a tick or run that sleeps has been told, or none sleeps. Each access is one call here. The word's type takes no
-/// ordering, so none can be named: each step of it is in the one order of all of them.
+/// ordering, so none can be named: each step of it is in the one order of all of them. It has its cache lines to itself.
 #[derive(Drop)]
 pub struct Flag {
-    word: AtomicCell<bool>,
+    word: CachePadded<AtomicCell<bool>>,
 }
 
 impl Flag {
     /// Of an executor where nobody sleeps.
     pub fn new() -> Flag {
         Flag {
-            word: AtomicCell::new(true),
+            word: CachePadded::new(AtomicCell::new(true)),
         }
     }
 
     /// Exchanges it from false to true, and says whether it was false. It is read first: one that reads true is as an exchange
     /// that fails, and leaves its cache line to all threads.
+    #[inline(always)]
     pub fn exchange(&self) -> bool {
         !self.word.load() && self.word.compare_exchange(false, true).is_ok()
     }

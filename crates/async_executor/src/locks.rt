@@ -1,11 +1,12 @@
 //! The locks of an executor: who takes one has an `Unlocked` lent for as long.
 use crate::entry::Unlocked;
+use crossbeam_utils::CachePadded;
 use std::sync::{Mutex, MutexGuard, RwLock, RwLockReadGuard, RwLockWriteGuard, Wait};
 
-/// What is guarded by a lock that one party has at a time.
+/// What is guarded by a lock that one party has at a time. It has its cache lines to itself.
 #[derive(Drop)]
 pub struct Guarded<T> {
-    lock: Mutex<T>,
+    lock: CachePadded<Mutex<T>>,
 }
 
 /// What a `Guarded` guards, until this is dropped.
@@ -17,16 +18,18 @@ pub struct Locked<'a, T> {
 impl<T> Guarded<T> {
     pub fn new(value: T) -> Self {
         Guarded {
-            lock: Mutex::new(value),
+            lock: CachePadded::new(Mutex::new(value)),
         }
     }
 
-    /// Takes the lock.
+    /// Takes the lock. It is tried first, where nothing waits.
+    #[inline(always)]
     pub fn lock<'a, R: Wait>(&'a self, rt: &R, unlocked: &'a mut Unlocked) -> Locked<'a, T> {
-        Locked {
-            guard: self.lock.lock(rt),
-            unlocked,
-        }
+        let guard = match self.lock.try_lock() {
+            Some(guard) => guard,
+            None => self.lock.lock(rt),
+        };
+        Locked { guard, unlocked }
     }
 
     /// Takes the lock, where it is free.
@@ -40,12 +43,13 @@ impl<T> Guarded<T> {
     /// What it guards, which nobody else has any more.
     pub fn into_inner(self) -> T {
         let Guarded { lock } = self;
-        lock.into_inner()
+        lock.into_inner().into_inner()
     }
 }
 
 impl<T> Locked<'_, T> {
     /// What the lock guards.
+    #[inline(always)]
     pub fn get(&mut self) -> &mut T {
         &mut *self.guard
     }
@@ -53,6 +57,7 @@ impl<T> Locked<'_, T> {
 
 impl<T> Drop for Locked<'_, T> {
     /// Gives the lock back.
+    #[inline(always)]
     fn drop(self) {
         let Locked { guard, unlocked: _ } = self;
         drop(guard);

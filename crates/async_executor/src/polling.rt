@@ -11,7 +11,7 @@ use crate::names::ExWaker;
 use crate::sections;
 use crate::sections::Taken;
 use crate::state::redeem;
-use crate::task_run::{Begun, Dropping, Polling, begin};
+use crate::task_run::{Begun, Dropping, Polling, Settled, begin};
 use async_task::{Back, Future, Poll, StoredRunnable, Wake};
 use executor_parts::EntryPlace;
 use std::sync::Wait;
@@ -24,6 +24,7 @@ where
     R: Wait + Copy + Drop + 'static,
 {
     /// Runs the task in hand, and ends the call.
+    #[inline(always)]
     pub(crate) fn poll_or_drop(
         &self,
         stored: StoredRunnable,
@@ -45,6 +46,7 @@ where
         last
     }
 
+    #[inline(always)]
     fn poll(&self, place: EntryPlace, polling: Polling<T, W, R>, unlocked: &mut Unlocked) {
         let taken = sections::take(self.table.lock(&self.rt, unlocked).get(), place);
         let back = match taken {
@@ -54,12 +56,18 @@ where
             },
             None => Back::Pending(place),
         };
-        if let Some((place, dropping)) = polling.settle(back, unlocked) {
-            self.drop_future(place, dropping, unlocked);
+        match polling.settle(back, unlocked) {
+            Settled::Over => {}
+            Settled::Woken(runnable) => {
+                self.state
+                    .push_and_pay(self.rt, Call::given(), runnable, unlocked);
+            }
+            Settled::Drop(place, dropping) => self.drop_future(place, dropping, unlocked),
         }
     }
 
     /// Polls a future that was taken out of this place, and puts it back, or drops it where it is ready.
+    #[inline(always)]
     fn poll_future(
         &self,
         place: EntryPlace,
@@ -89,6 +97,8 @@ where
         }
     }
 
+    #[cold]
+    #[inline(never)]
     fn drop_future(&self, place: EntryPlace, dropping: Dropping<T, W, R>, unlocked: &mut Unlocked) {
         let taken = sections::take(self.table.lock(&self.rt, unlocked).get(), place);
         if let Some(taken) = taken {
@@ -98,6 +108,7 @@ where
         dropping.finish(unlocked);
     }
 
+    #[inline(always)]
     fn leave(&self, place: EntryPlace, unlocked: &mut Unlocked) {
         let left = sections::leave(self.table.lock(&self.rt, unlocked).get(), place);
         if let Some((future, waker)) = left {

@@ -18,6 +18,7 @@ use std::sync::Wait;
 /// 1. Tests the limit.
 /// 2. Makes the task's cell, which has the number of the future's place. Without memory for it, the place is given back.
 /// 3. Enters the future, with a waker of the task, where the executor isn't static.
+#[inline(always)]
 pub fn accept<F, T, W, R>(
     table: &mut Places<F, TableWaker>,
     rt: R,
@@ -76,6 +77,7 @@ fn because<F>(refused: SpawnRefused, future: F) -> SpawnError<F>
 
 /// A task whose future is at this place, with its handle and what the table keeps beside the future: a waker, and none where
 /// the executor is static.
+#[inline(always)]
 fn made<T, W, R>(
     rt: R,
     realm: &'static ExRealm<T, W, R>,

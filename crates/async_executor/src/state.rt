@@ -76,6 +76,7 @@ impl<W: Drop> State<W> {
     }
 
     /// Takes the first Runnable of the executor's queue in hand, where there is one.
+    #[inline(always)]
     pub fn take<R: Wait>(&self, rt: &R, call: &mut Call) -> Option<StoredRunnable>
         requires free { call.old.holds ≡ false }
         requires told { call.old.owes ≡ false }
@@ -94,7 +95,8 @@ impl<W: Drop> State<W> {
     }
 
     /// Puts the Runnable in hand into the executor's queue, or answers it where that is closed.
-    fn append<R: Wait>(
+    #[inline(always)]
+    pub fn append<R: Wait>(
         &self,
         rt: &R,
         call: &mut Call,
@@ -118,7 +120,8 @@ impl<W: Drop> State<W> {
     }
 
     /// Exchanges the flag from false to true, and says whether it was false: then a waker is to be handed out.
-    fn exchange(&self, call: &mut Call) -> bool
+    #[inline(always)]
+    pub fn exchange(&self, call: &mut Call) -> bool
         requires { call.old.owes ≡ true }
         ensures { call.new ≡ record call.old { owes = false; won = result } }
     {
@@ -144,6 +147,19 @@ impl<W: Drop> State<W> {
         if !self.exchange(call) {
             return None;
         }
+        self.take_waker(rt, call, unlocked)
+    }
+
+    /// Takes, under the sleepers' lock, the waker added last, where it won the exchange of the flag.
+    pub fn take_waker<R: Wait>(
+        &self,
+        rt: &R,
+        call: &mut Call,
+        unlocked: &mut Unlocked,
+    ) -> Option<Foreign<SleeperWaker<W>>>
+        requires { call.old.won ≡ true }
+        ensures { call.new ≡ record call.old { won = false } }
+    {
         hand_out(self.sleepers.lock(rt, unlocked).get(), call)
     }
 
@@ -241,6 +257,7 @@ where
 
 /// The Runnable in hand, of its place. Where that is of another realm it goes back there, and nothing is in hand any
 /// more.
+#[inline(always)]
 pub fn redeem<T, W, R>(
     rt: R,
     realm: &'static ExRealm<T, W, R>,

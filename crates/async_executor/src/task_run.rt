@@ -1,7 +1,7 @@
 //! A task while it is run. Its end calls who awaits it, so it is lent an `Unlocked`.
 use crate::entry::Unlocked;
 use crate::names::{ExClosing, ExRunning, ExScheduled, ExWaker};
-use async_task::{Back, RunEnd, Started, Wake};
+use async_task::{Back, Due, RunEnd, Started, Wake};
 use executor_parts::EntryPlace;
 use std::sync::Wait;
 
@@ -41,7 +41,24 @@ where
     closing: ExClosing<T, W, R>,
 }
 
+/// How the poll of a task ends.
+#[must_use]
+pub enum Settled<T, W, R>
+where
+    T: Drop + 'static,
+    W: Wake + Drop + 'static,
+    R: Wait + Copy + Drop + 'static,
+{
+    /// Nothing is left to be done.
+    Over,
+    /// The task was woken meanwhile: it is to be queued.
+    Woken(ExScheduled<T, W, R>),
+    /// The task was closed meanwhile: the future at this place is dropped, and the run is then finished.
+    Drop(EntryPlace, Dropping<T, W, R>),
+}
+
 /// Begins the run of a task.
+#[inline(always)]
 pub fn begin<T, W, R>(scheduled: ExScheduled<T, W, R>) -> Begun<T, W, R>
 where
     T: Drop + 'static,
@@ -61,26 +78,24 @@ where
     R: Wait + Copy + Drop + 'static,
 {
     /// The waker that the future is polled with.
+    #[inline(always)]
     pub fn waker(&self) -> &ExWaker<T, W, R> {
         self.running.waker()
     }
 
-    /// Ends the run, with no lock held. Where the task was closed meanwhile, the answer is the place of its future, which is
-    /// dropped then.
-    pub fn settle(
-        self,
-        back: Back<EntryPlace, T>,
-        unlocked: &Unlocked,
-    ) -> Option<(EntryPlace, Dropping<T, W, R>)> {
+    /// Ends the run, with no lock held. A task that was woken meanwhile is the answer: its schedule value would put it into the
+    /// queue of the executor that runs it.
+    #[inline(always)]
+    pub fn settle(self, back: Back<EntryPlace, T>, unlocked: &Unlocked) -> Settled<T, W, R> {
         let _ = unlocked;
         let Polling { running } = self;
         match running.settle(back) {
-            RunEnd::Over => None,
-            RunEnd::Pause(pause) => {
-                pause.finish();
-                None
-            }
-            RunEnd::Drop(place, closing) => Some((place, Dropping { closing })),
+            RunEnd::Over => Settled::Over,
+            RunEnd::Pause(pause) => match pause.into_due() {
+                Some(Due { runnable, info: _ }) => Settled::Woken(runnable),
+                None => Settled::Over,
+            },
+            RunEnd::Drop(place, closing) => Settled::Drop(place, Dropping { closing }),
         }
     }
 }

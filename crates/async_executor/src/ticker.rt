@@ -91,8 +91,7 @@ impl Ticker {
             Some(runnable) => {
                 let mut call = call;
                 self.wake_up(rt, state, realm, &mut call, unlocked);
-                let due = state.notify(rt, realm, &mut call, unlocked);
-                pay(rt, due, unlocked);
+                state.notify_and_pay(rt, realm, &mut call, unlocked);
                 Found::Runnable(runnable, call)
             }
             None => self.after_nothing(rt, state, realm, call, waker, unlocked),
@@ -350,8 +349,7 @@ where
         pay(rt, due, unlocked);
     }
     if was_told {
-        let due = state.notify(rt, realm, &mut call, unlocked);
-        pay(rt, due, unlocked);
+        state.notify_and_pay(rt, realm, &mut call, unlocked);
     }
     call.end();
     room

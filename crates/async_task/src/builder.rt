@@ -39,6 +39,7 @@ impl<M> Builder<M> {
 
     /// A task in this realm: the Runnable that begins it, and its handle. For want of memory the
     /// future, the schedule value and the metadata come back.
+    #[inline(always)]
     pub fn spawn<F, T, S, W, R>(
         self,
         rt: R,
@@ -86,6 +87,7 @@ impl<M> Builder<M> {
 
 /// A task with no metadata in this realm: the Runnable that begins it, and its handle. For want of
 /// memory the future and the schedule value come back.
+#[inline(always)]
 pub fn spawn<F, T, S, W, R>(
     rt: R,
     realm: &'static Realm<F, T, S, (), W>,

@@ -152,6 +152,7 @@ where
     ghost use Rattle.std.specs.Prelude.{IfOk, IfSome};
 
     /// A new task, to be run. For want of memory everything comes back.
+    #[inline(always)]
     pub(crate) fn new(
         rt: R,
         realm: &'static Realm<F, T, S, M, W>,
@@ -234,6 +235,7 @@ where
     }
 
     /// The way to the task at this place, with the metadata that lie there.
+    #[inline(always)]
     pub fn find(rt: R, realm: &'static Realm<F, T, S, M, W>, place: usize) -> Option<Self>
         ensures { IfSome result
             (λ held. held.identity ≡ record { realm = realm.now.number; place = place }) }
@@ -312,6 +314,7 @@ where
 }
 
 /// The cell at a place that nobody else has. It is made where no task lay there before; for want of memory the place goes back.
+#[inline(always)]
 fn furnished<F, T, S, M, W>(
     realm: &'static Realm<F, T, S, M, W>,
     place: usize,
@@ -337,6 +340,7 @@ where
 
 /// A new task in a cell that nobody has. One that isn't empty, as its place was taken for a free one, is passed over. All
 /// comes back where there is no place.
+#[inline(always)]
 fn make<F, T, S, M, W, R>(
     rt: &R,
     realm: &'static Realm<F, T, S, M, W>,
@@ -376,6 +380,7 @@ where
 }
 
 /// A new task in this cell, where it is empty; else all comes back.
+#[inline(always)]
 fn fill<F, T, S, M, W, R>(
     rt: &R,
     cell: &'static Cell<F, T, S, M, W>,

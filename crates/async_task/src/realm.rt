@@ -67,6 +67,7 @@ impl<C: Drop> Cells<C> {
 
 impl<C: Drop + 'static> Cells<C> {
     /// The same, of cells that lie there for as long as the program runs.
+    #[inline(always)]
     pub(crate) fn lasting(&'static self, place: usize) -> Option<&'static C> {
         self.cell(place)
     }

@@ -1,8 +1,10 @@
-ghost use Rattle.std.specs.Prelude.{◌≡◌, IfOk};
+ghost use Rattle.std.specs.Prelude.{◌≡◌, IfOk, MatchOption, None, Some};
 ghost use Rattle.async_task.specs.Rests.{was_woken_by};
 ghost use Rattle.async_task.specs.Runs.{BeginsAt};
 
-use crate::cell::{Held, Kept, Remains, RunnableToken, Scheduled, pay_due, was_woken};
+use crate::cell::{
+    Due, Held, Kept, Remains, Rest, RunnableToken, Scheduled, Woken, pay_due, was_woken,
+};
 use crate::lent::LentWaker;
 use crate::look::TooManyReferences;
 use crate::poll::Future;
@@ -148,6 +150,7 @@ where
     }
 
     /// A waker of the task, unless it has 2^40 references already.
+    #[inline(always)]
     pub fn waker(&self) -> Result<TaskWaker<F, T, S, M, W, R>, TooManyReferences>
         ensures { IfOk result (λ waker. waker ≡ self.now) }
     {
@@ -158,6 +161,7 @@ where
     }
 
     /// The Runnable for a queue.
+    #[inline(always)]
     pub fn into_scheduled(self) -> Scheduled<F, T, S, M, W, R>
         ensures { result ≡ self }
     {
@@ -166,6 +170,7 @@ where
     }
 
     /// Takes the future out: to be polled, or to be dropped where the task is closed.
+    #[inline(always)]
     pub fn start(self) -> Started<F, T, S, M, W, R>
         ensures { BeginsAt self result }
     {
@@ -239,6 +244,7 @@ where
 {
     /// Ends the call. The answer is whether the task was woken during the poll, and was handed to its
     /// schedule value.
+    #[inline(always)]
     pub fn finish(self) -> bool
         ensures { result ≡ was_woken_by self.remains.owed.schedule }
     {
@@ -248,6 +254,28 @@ where
         let woken = was_woken(&rest);
         held.pay(rest);
         woken
+    }
+
+    /// Ends the call, as `finish` does, but for a task that was woken during the poll: it is the answer, for who knows where its
+    /// schedule value would queue it, and queues it there.
+    #[inline(always)]
+    pub fn into_due(self) -> Option<Due<F, T, S, M, W, R>>
+        ensures told { MatchOption result (self.remains.owed.schedule ≡ None)
+            (λ due. (due.runnable ≡ self.held) × (self.remains.owed.schedule ≡ Some due.info)) }
+    {
+        let Self { held, remains } = self;
+        let Remains { owed, left } = remains;
+        match held.left(owed, left) {
+            Rest::Queue(Woken { token, info }) => Some(Due {
+                runnable: Scheduled { held, token },
+                info,
+            }),
+            Rest::Drop(kept) => {
+                pay_due(held.let_go(kept));
+                None
+            }
+            Rest::Nothing => None,
+        }
     }
 }
 

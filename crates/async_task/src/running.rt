@@ -36,6 +36,7 @@ where
     W: Wake + Drop + 'static,
     R: Wait + Copy + Drop,
 {
+    #[inline(always)]
     pub(crate) fn poll(self, future: F) -> bool {
         let mut future = future;
         let back = match future.poll(&self.waker) {
@@ -69,6 +70,7 @@ where
     ghost use Rattle.async_task.specs.Runs.{EndsRun};
 
     /// The waker that the future is polled with.
+    #[inline(always)]
     pub fn waker(&self) -> &Awaiter<F, T, S, M, W, R>
         ensures { result.now ≡ self.now.waker }
     {
@@ -76,6 +78,7 @@ where
     }
 
     /// Ends the run. Where the future has given its output, it is dropped before this call.
+    #[inline(always)]
     pub fn settle(self, back: Back<F, T>) -> RunEnd<F, T, S, M, W, R>
         ensures { EndsRun self.run.cell.now.board.shared self.waker back result }
     {

@@ -210,6 +210,7 @@ where
         }
     }
 
+    #[inline(always)]
     fn wake_by_ref(&self) {
         match self {
             Awaiter::Task(waker) => waker.wake_by_ref(),

@@ -5,7 +5,11 @@ ghost use Rattle.concurrent_queue.specs.SharedQueue.{MayPush, MayForcePush};
 use crate::glimpse::Glimpse;
 use queue_steps::{ForcePushError, PopError, PushError, Representation, Unbounded as Chain};
 use std::alloc::Global;
-use std::sync::{Mutex, Wait};
+use std::sync::{Mutex, MutexGuard, Wait};
+use std::thread;
+
+/// How often a lock that another thread has is tried before it is waited for.
+const TRIES: u32 = 16;
 
 /// A closable queue without a limit, which threads share by `&`.
 #[derive(Drop)]
@@ -21,12 +25,34 @@ impl<T> Unbounded<T> {
         }
     }
 
+    /// Takes the lock. It is tried first, where nothing waits.
+    #[inline(always)]
+    fn locked<R: Wait>(&self, rt: &R) -> MutexGuard<'_, Chain<T>> {
+        match self.chain.try_lock() {
+            Some(chain) => chain,
+            None => self.locked_late(rt),
+        }
+    }
+
+    /// The same, where another thread has it: it is tried some times more, since a section is short, and then waited for.
+    #[cold]
+    #[inline(never)]
+    fn locked_late<R: Wait>(&self, rt: &R) -> MutexGuard<'_, Chain<T>> {
+        for _ in 0..TRIES {
+            thread::yield_now();
+            if let Some(chain) = self.chain.try_lock() {
+                return chain;
+            }
+        }
+        self.chain.lock(rt)
+    }
+
     // Of what the lock guards a section knows that it has no limit only once it has asked for the capacity.
     #[inline]
     pub(crate) fn push<R: Wait>(&self, rt: &R, value: T) -> Result<(), PushError<T>>
         ensures { MayPush None value result }
     {
-        let mut chain = self.chain.lock(rt);
+        let mut chain = self.locked(rt);
         let _capacity = chain.capacity();
         chain.push(value)?;
         Ok(())
@@ -39,39 +65,39 @@ impl<T> Unbounded<T> {
     ) -> Result<Option<T>, ForcePushError<T>>
         ensures { MayForcePush None value result }
     {
-        let mut chain = self.chain.lock(rt);
+        let mut chain = self.locked(rt);
         let _capacity = chain.capacity();
         chain.force_push(value)
     }
 
     #[inline]
     pub(crate) fn pop<R: Wait>(&self, rt: &R) -> Result<T, PopError> {
-        let item = self.chain.lock(rt).pop()?;
+        let item = self.locked(rt).pop()?;
         Ok(item)
     }
 
     pub(crate) fn close<R: Wait>(&self, rt: &R) -> bool {
-        self.chain.lock(rt).close()
+        self.locked(rt).close()
     }
 
     pub(crate) fn len<R: Wait>(&self, rt: &R) -> usize {
-        self.chain.lock(rt).len()
+        self.locked(rt).len()
     }
 
     pub(crate) fn is_empty<R: Wait>(&self, rt: &R) -> bool {
-        self.chain.lock(rt).is_empty()
+        self.locked(rt).is_empty()
     }
 
     pub(crate) fn is_full<R: Wait>(&self, rt: &R) -> bool
         ensures { result ≡ false }
     {
-        let chain = self.chain.lock(rt);
+        let chain = self.locked(rt);
         let _capacity = chain.capacity();
         chain.is_full()
     }
 
     pub(crate) fn is_closed<R: Wait>(&self, rt: &R) -> bool {
-        self.chain.lock(rt).is_closed()
+        self.locked(rt).is_closed()
     }
 
     /// The chain without its lock.

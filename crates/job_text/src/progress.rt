@@ -1,4 +1,4 @@
-ghost use Rattle.std.specs.Prelude.{◌≡◌, ◌+◌, ◌≤◌, ◌<◌, max, min, IfNone, IfSome};
+ghost use Rattle.std.specs.Prelude.{◌≡◌, ◌+◌, ◌*◌, ◌≤◌, ◌<◌, max, min, IfNone, IfSome};
 ghost use Rattle.job_text.specs.Answers.{IsInRange, answer_of, sum_below, terms_of};
 
 use crate::job::{Answer, Job, LARGEST_SUM, Solved, product};
@@ -90,12 +90,26 @@ impl Sum {
         requires { last ≤ 1000000 }
         ensures next { self.new.next ≡ max self.old.next (min (self.old.next + 1000) (last + 1)) }
     {
-        for _ in 0..TERMS_OF_ONE_STEP {
-            if self.next > last {
-                return;
-            }
-            self.total += self.next;
-            self.next += 1;
+        if self.next > last {
+            return;
         }
+        let left = last - self.next + 1;
+        let count = if left < TERMS_OF_ONE_STEP {
+            left
+        } else {
+            TERMS_OF_ONE_STEP
+        };
+        self.total += sum_of_terms(self.next, count);
+        self.next += count;
     }
+}
+
+/// So many terms from this one on, added up: half the sum of the first and the last, for each of them.
+fn sum_of_terms(first: u64, count: u64) -> u64
+    requires first { first ≤ 1000000 }
+    requires count { count ≤ 1000 }
+    ensures sum { sum_below first + result ≡ sum_below (first + count) }
+    ensures few { result ≤ 1001000 * count }
+{
+    (count * (2 * first + count) - count) / 2
 }

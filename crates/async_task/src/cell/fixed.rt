@@ -115,6 +115,7 @@ pub(crate) fn leave<S: Drop, M: Drop>(slot: &Slot<S, M>, claim: Claimed<'_, S, M
 }
 
 /// The task is over. True where nobody reads any more: what was there is dropped then.
+#[inline(always)]
 pub(crate) fn end<S: Drop, M: Drop, R: Wait>(rt: &R, slot: &Slot<S, M>) -> bool {
     let mut seen = PRESENT;
     for _ in rt.forever() {
@@ -136,6 +137,7 @@ pub(crate) fn end<S: Drop, M: Drop, R: Wait>(rt: &R, slot: &Slot<S, M>) -> bool 
 }
 
 /// Drops what is there, where nobody reads it.
+#[inline(always)]
 fn clear<S: Drop, M: Drop>(slot: &Slot<S, M>, seen: u64) -> bool
     requires { (seen % 4 < 3) × (readers seen ≡ 0) }
 {

@@ -26,6 +26,7 @@ where
     R: Wait + Copy + Drop,
 {
     /// A waker goes.
+    #[inline(always)]
     pub(crate) fn release_later(self, token: WakerToken<F, T, W>) -> Option<Due<F, T, S, M, W, R>>
         ensures { IfSome result (IsDueBy self) }
     {
@@ -205,6 +206,7 @@ where
     }
 
     /// The end of a run or of a closing call: the awaiter is called, and then the reference given up.
+    #[inline(always)]
     pub(crate) fn leave(&self, run: Result<PastRun<F, T, Kept<W>>, OwingRun<F, T, Kept<W>>>) {
         let (past, awaiter) = notified(&self.rt, run);
         pay_due(self.call_some(awaiter));
@@ -214,8 +216,9 @@ where
     /// A wake, with what it owes to the schedule value.
     #[inline(always)]
     pub(crate) fn wake_and_queue(&self) {
-        if let Ok(woken) = self.wake() {
-            self.queue(Some(woken));
+        if let Ok(Woken { token, info }) = self.wake() {
+            let held = self.share();
+            self.hand_over_apart(Scheduled { held, token }, info);
         }
     }
 
@@ -240,10 +243,17 @@ where
     }
 
     /// Hands the task to its schedule value, which a claim keeps where it is meanwhile.
+    #[inline(always)]
     pub(crate) fn hand_over(&self, runnable: Scheduled<F, T, S, M, W, R>, info: ScheduleInfo) {
         let claim = claim_present(&self.rt, &self.cell.fixed);
         read(&claim).schedule.schedule(runnable, info);
         self.leave_slot(claim);
+    }
+
+    /// The same, in code of its own, for who seldom has to.
+    #[inline(never)]
+    fn hand_over_apart(&self, runnable: Scheduled<F, T, S, M, W, R>, info: ScheduleInfo) {
+        self.hand_over(runnable, info);
     }
 }
 
@@ -260,6 +270,6 @@ where
 {
     if let Some(Due { runnable, info }) = due {
         let task = runnable.held.share();
-        task.hand_over(runnable, info);
+        task.hand_over_apart(runnable, info);
     }
 }

@@ -136,6 +136,7 @@ impl Returning<StoredWaker> {
     }
 
     /// Drops the waker, with the answer of `StoredWaker::release`. One of another realm goes back there.
+    #[inline(always)]
     pub fn release<F, T, S, M, W, R>(
         self,
         rt: R,

@@ -83,6 +83,7 @@ where
     R: Wait + Copy + Drop,
 {
     /// The Runnable for a queue.
+    #[inline(always)]
     pub fn store(self) -> StoredRunnable<M>
         ensures task { result.identity ≡ self.identity }
         ensures metadata { result.metadata ≡ self.metadata }
@@ -139,6 +140,7 @@ where
     R: Wait + Copy + Drop,
 {
     /// The Runnable, to be run.
+    #[inline(always)]
     pub fn into_runnable(self) -> Runnable<F, T, S, M, W, R>
         ensures { result ≡ self }
     {
@@ -170,6 +172,7 @@ impl<M> StoredRunnable<M> {
     }
 
     /// The Runnable that was stored. Where it is of another realm it comes back.
+    #[inline(always)]
     pub fn redeem<F, T, S, W, R>(
         self,
         rt: R,
@@ -321,6 +324,7 @@ impl StoredWaker {
     }
 
     /// Drops the waker. Where the task has to be queued then, it is the answer. A waker of another realm comes back.
+    #[inline(always)]
     pub fn release<F, T, S, M, W, R>(
         self,
         rt: R,
@@ -344,6 +348,7 @@ impl StoredWaker {
     }
 
     /// The way to the task, and the reference.
+    #[inline(always)]
     pub(crate) fn find<F, T, S, M, W, R>(
         self,
         rt: R,
@@ -410,6 +415,7 @@ where
 }
 
 /// Whether what rests is of this realm.
+#[inline(always)]
 fn is_of<F, T, S, M, W>(returns: &Returns, realm: &Realm<F, T, S, M, W>) -> bool
 where
     F: Drop,
@@ -423,6 +429,7 @@ where
 }
 
 /// The way to the task of what rests at this place, where that is of this realm.
+#[inline(always)]
 pub(crate) fn find<F, T, S, M, W, R>(
     rt: R,
     realm: &'static Realm<F, T, S, M, W>,
@@ -447,6 +454,7 @@ where
 }
 
 /// The same, where the task's metadata are at hand.
+#[inline(always)]
 pub(crate) fn find_with<F, T, S, M, W, R>(
     rt: R,
     realm: &'static Realm<F, T, S, M, W>,

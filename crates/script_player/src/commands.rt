@@ -1,0 +1,105 @@
+//! The commands of a script, one after the other.
+use crate::answer::{Answer, show_end};
+use crate::desk::Desk;
+use crate::errors::PlayError;
+use crate::handle::Hold;
+use crate::player::Player;
+use crate::shelf::Keep;
+use crate::sitting::Seats;
+use script::{Command, Plain, Request, Script, Word, parse};
+use std::alloc::Global;
+
+/// Where the commands on an executor stop.
+#[derive(Clone, Copy)]
+pub enum Stop {
+    /// Behind the last.
+    Over,
+    /// The executor is dropped by the one at this place.
+    End(usize),
+    /// The executor is leaked by the one at this place.
+    Leak(usize),
+}
+
+/// Reads a script of whole calls. None is one without a line. The first bad line is refused, and then the first that is no
+/// whole call of one party, or is refused memory.
+pub fn read_whole(alloc: Global, text: &[u8]) -> Result<Option<Script>, PlayError> {
+    let Some(script) = parse(alloc, text)? else {
+        return Ok(None);
+    };
+    match first_not_whole(script.commands.as_slice()) {
+        Some(line) => Err(PlayError::NotWhole(line)),
+        None => Ok(Some(script)),
+    }
+}
+
+/// The number of the first line that is no whole call.
+fn first_not_whole(commands: &[Command]) -> Option<u64> {
+    for (place, command) in commands.iter().enumerate() {
+        if whole(command).is_none() {
+            return Some((place as u64).saturating_add(2));
+        }
+    }
+    None
+}
+
+/// The call of a command, where it is a whole one of one party and is refused no memory.
+fn whole(command: &Command) -> Option<&Plain> {
+    match command {
+        Command::Whole(
+            Request {
+                refused: false,
+                plain,
+            },
+        ) => Some(plain),
+        _ => None,
+    }
+}
+
+/// Plays the commands from this place on, until one drops the executor or leaks it.
+pub fn play_on<D, T, N, H, K>(
+    player: &mut Player<H, K>,
+    desk: &D,
+    commands: &[Command],
+    from: usize,
+) -> Stop
+where
+    D: Desk<H, T, N>,
+    T: Drop,
+    N: Drop,
+    H: Hold,
+    K: Keep,
+{
+    let mut seats: Seats<T, N> = Seats::new(player.alloc);
+    for (place, command) in commands.iter().enumerate().skip(from) {
+        if let Some(plain) = whole(command) {
+            if desk.may_end() && seats.are_free() {
+                match plain {
+                    Plain::End => return Stop::End(place),
+                    Plain::Leak => return Stop::Leak(place),
+                    _ => {}
+                }
+            }
+            let answer = player.call(desk, &mut seats, plain);
+            player.keeper.let_replaced_go();
+            show_end(&player.stage, plain.word(), answer);
+        }
+    }
+    player.stage.end();
+    Stop::Over
+}
+
+/// The executor is dropped, by the command at this place: shows that, and plays what follows.
+pub fn play_closed<H, K>(player: &mut Player<H, K>, commands: &[Command], place: usize)
+where
+    H: Hold,
+    K: Keep,
+{
+    show_end(&player.stage, Word::End, Answer::Done);
+    for command in commands.iter().skip(place.saturating_add(1)) {
+        if let Some(plain) = whole(command) {
+            let answer = player.call_on_handle(plain);
+            show_end(&player.stage, plain.word(), answer);
+        }
+    }
+    player.stage.end();
+}

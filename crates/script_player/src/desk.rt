@@ -1,0 +1,71 @@
+//! What a script is played on.
+use crate::answer::Answer;
+use crate::future::Scripted;
+use crate::handle::Held;
+use crate::outside::Bell;
+use crate::own::Own;
+use crate::shelf::SharedShelf;
+use script::{Item, Name};
+use std::rc::Rc;
+
+/// What a future is made of.
+#[derive(Drop)]
+pub struct Plan<H: Drop> {
+    pub name: Name,
+    pub items: Vec<Item>,
+    /// The handles that its items name.
+    pub held: Vec<Held<H>>,
+}
+
+/// A future wasn't accepted: why, and the handles that it was to hold.
+#[derive(Drop)]
+pub struct Refused<H: Drop> {
+    pub answer: Answer,
+    pub held: Vec<Held<H>>,
+}
+
+/// An executor as a player sees it, whose handles are `H`, its ticks `T` and its runs `N`. What it has no words for, that a command
+/// isn't possible, the player finds itself.
+pub trait Desk<H: Drop, T: Drop, N: Drop> {
+    fn spawn(&self, plan: Plan<H>) -> Result<H, Refused<H>>;
+
+    fn try_tick(&self) -> bool;
+
+    fn is_empty(&self) -> bool;
+
+    /// Whether it can be dropped or leaked.
+    fn may_end(&self) -> bool;
+
+    /// A new tick, where there is memory for it.
+    fn tick(&self) -> Option<T>;
+
+    /// A new run. For want of memory its own future comes back.
+    fn run(&self, own: Own<H>) -> Result<N, Own<H>>;
+
+    /// Polls a tick by an outside waker.
+    fn poll_tick(&self, tick: &mut T, bell: Bell) -> Answer;
+
+    /// Polls a run by an outside waker.
+    fn poll_run(&self, run: &mut N, bell: Bell) -> Answer;
+}
+
+/// A future, as it is planned. Its wakers are kept on this shelf.
+pub fn scripted<H: Drop, S: Drop>(
+    shelf: &SharedShelf<S>,
+    plan: Plan<H>,
+) -> Result<Scripted<H, S>, Refused<H>> {
+    let Plan { name, items, held } = plan;
+    match Rc::clone(shelf) {
+        Ok(shelf) => Ok(Scripted {
+            name,
+            items,
+            next: 0,
+            held,
+            shelf,
+        }),
+        Err(_) => Err(Refused {
+            answer: Answer::NoMemory,
+            held,
+        }),
+    }
+}

@@ -1,0 +1,27 @@
+//! Plays scripts of whole calls, in the language of `taskrun sim`, on whatever has the calls of an executor.
+#![tactic(auto)]
+
+mod answer;
+mod commands;
+mod desk;
+mod errors;
+mod future;
+mod handle;
+mod outside;
+mod own;
+mod player;
+mod shelf;
+mod sitting;
+mod stage;
+
+pub use answer::{Answer, answer_of_cancel, answer_of_task, answer_of_tick, show_end};
+pub use commands::{Stop, play_closed, play_on, read_whole};
+pub use desk::{Desk, Plan, Refused, scripted};
+pub use errors::PlayError;
+pub use future::{KeptOf, Scripted};
+pub use handle::{Await, Held, Hold};
+pub use outside::{Bell, Gift};
+pub use own::Own;
+pub use player::Player;
+pub use shelf::{Keep, SharedShelf, Shelf};
+pub use stage::{Shared, Stage};

@@ -1,0 +1,9 @@
+pub mod Sleepers
+pub mod Prompt
+pub mod Ticks
+pub mod Runs
+pub mod Loosening
+pub mod Ending
+pub mod Courses
+pub mod Frames
+pub mod Counts

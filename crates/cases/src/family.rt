@@ -1,12 +1,16 @@
 //! The families of scripts: what plays them, and where they lie.
 
 use crate::players::Players;
-use crate::shown::{Shown, machine, shown_by_executor, shown_by_queue, shown_by_tasks};
+use crate::shown::{
+    Shown, machine, shown_by_executor, shown_by_local, shown_by_queue, shown_by_tasks,
+};
 use executor_player::Plays;
+use local_player::play_local;
 use queue_player::{play_exclusive, play_shared};
 use std::alloc::{AllocError, AllocGlobal};
+use std::random::RandomSource;
 use std::sync::Wait;
-use task_player::{PlaysTasks, play_local};
+use task_player::PlaysTasks;
 
 /// What plays a script.
 #[derive(Clone, Copy)]
@@ -17,6 +21,10 @@ pub enum Family {
     Executor,
     /// A running executor that is static, or that a script leaks.
     Static,
+    /// A running executor of one thread.
+    Local,
+    /// A running executor of one thread that is static, or that a script leaks.
+    StaticLocal,
     /// A queue that threads share.
     Queue,
     /// The queue of one owner.
@@ -29,10 +37,12 @@ pub enum Family {
 
 impl Family {
     /// All of them, in the order in which they are played.
-    pub const ALL: [Family; 7] = [
+    pub const ALL: [Family; 9] = [
         Family::Machine,
         Family::Executor,
         Family::Static,
+        Family::Local,
+        Family::StaticLocal,
         Family::Queue,
         Family::Exclusive,
         Family::Task,
@@ -45,6 +55,8 @@ impl Family {
             Family::Machine => "machine",
             Family::Executor => "executor",
             Family::Static => "static",
+            Family::Local => "local",
+            Family::StaticLocal => "static-local",
             Family::Queue => "queue",
             Family::Exclusive => "exclusive",
             Family::Task => "task",
@@ -65,8 +77,8 @@ impl Family {
                 "refusals.txt",
                 "nested.txt",
             ],
-            Family::Executor => &["calls.txt", "stops.txt"],
-            Family::Static => &["static.txt", "leak.txt", "static-stops.txt"],
+            Family::Executor | Family::Local => &["calls.txt", "stops.txt"],
+            Family::Static | Family::StaticLocal => &["static.txt", "leak.txt", "static-stops.txt"],
             Family::Queue | Family::Exclusive => &["queue.txt"],
             Family::Task | Family::LocalTask => &["task.txt"],
         }
@@ -76,8 +88,8 @@ impl Family {
     pub fn file_with_a_wrong_line(self) -> &'static str {
         match self {
             Family::Machine => "wrong-machine.txt",
-            Family::Executor => "wrong-executor.txt",
-            Family::Static => "wrong-static.txt",
+            Family::Executor | Family::Local => "wrong-executor.txt",
+            Family::Static | Family::StaticLocal => "wrong-static.txt",
             Family::Queue | Family::Exclusive => "wrong-queue.txt",
             Family::Task | Family::LocalTask => "wrong-task.txt",
         }
@@ -98,16 +110,19 @@ impl Family {
     where
         E: Plays,
         T: PlaysTasks,
-        R: AllocGlobal + Wait + Copy + Drop,
+        R: AllocGlobal + RandomSource + Wait + Copy + Drop,
     {
         match self {
             Family::Machine => machine(rt.alloc(), script),
             Family::Executor => shown_by_executor(players.executors.play(script)),
             Family::Static => shown_by_executor(players.executors.play(script)),
+            Family::Local | Family::StaticLocal => {
+                shown_by_local(play_local(rt, rt.alloc(), script))
+            }
             Family::Queue => shown_by_queue(play_shared(rt, rt.alloc(), script)),
             Family::Exclusive => shown_by_queue(play_exclusive(rt.alloc(), script)),
             Family::Task => shown_by_tasks(players.tasks.play(script)),
-            Family::LocalTask => shown_by_tasks(play_local(rt.alloc(), script)),
+            Family::LocalTask => shown_by_tasks(task_player::play_local(rt.alloc(), script)),
         }
     }
 }

@@ -18,6 +18,7 @@ use players::Players;
 use std::alloc::AllocGlobal;
 use std::marker::PhantomData;
 use std::process::ExitCode;
+use std::random::RandomSource;
 use std::rt::{Env, Files};
 use std::sync::Wait;
 use std::{env, fs};
@@ -60,7 +61,7 @@ fn run<E, T, R>(rt: R, players: &mut Players<E, T>) -> Result<(), Fault>
 where
     E: Plays,
     T: PlaysTasks,
-    R: AllocGlobal + Env + Files + Print + Wait + Copy + Drop,
+    R: AllocGlobal + Env + Files + Print + RandomSource + Wait + Copy + Drop,
 {
     let words: Vec<String> = env::args(&rt)?.skip(1).collect(rt.alloc())?;
     match words.as_slice() {
@@ -78,7 +79,7 @@ fn play_all<E, T, R>(rt: R, players: &mut Players<E, T>) -> Result<(), Fault>
 where
     E: Plays,
     T: PlaysTasks,
-    R: AllocGlobal + Files + Print + Wait + Copy + Drop,
+    R: AllocGlobal + Files + Print + RandomSource + Wait + Copy + Drop,
 {
     let mut ended = Ok(());
     for family in Family::ALL {
@@ -110,7 +111,7 @@ fn play_files<E, T, R>(
 where
     E: Plays,
     T: PlaysTasks,
-    R: AllocGlobal + Files + Print + Wait + Copy + Drop,
+    R: AllocGlobal + Files + Print + RandomSource + Wait + Copy + Drop,
 {
     let mut scripts = String::new(rt.alloc());
     for file in files {

@@ -46,6 +46,18 @@ pub fn shown_by_executor(shown: Result<Vec<u8>, PlayError>) -> Result<Shown, All
     }
 }
 
+/// What the player of an executor of one thread shows of a script, in the same way.
+pub fn shown_by_local(
+    shown: Result<Vec<u8>, local_player::PlayError>,
+) -> Result<Shown, AllocError> {
+    match shown {
+        Ok(text) => Ok(Shown::Text(text)),
+        Err(local_player::PlayError::BadLine(number)) => Ok(Shown::BadLine(number)),
+        Err(local_player::PlayError::NotWhole(number)) => Ok(Shown::BadLine(number)),
+        Err(local_player::PlayError::NoMemory) => Err(AllocError),
+    }
+}
+
 /// What a player of tasks shows of a script. The error is a want of memory.
 pub fn shown_by_tasks(shown: Result<Vec<u8>, task_player::PlayError>) -> Result<Shown, AllocError> {
     match shown {

@@ -8,6 +8,7 @@ use crate::shown::Shown;
 use executor_player::Plays;
 use std::alloc::AllocGlobal;
 use std::io::{self, Write};
+use std::random::RandomSource;
 use std::sync::Wait;
 use task_player::PlaysTasks;
 
@@ -40,7 +41,7 @@ pub fn judged<'a, E, T, R>(
 where
     E: Plays,
     T: PlaysTasks,
-    R: AllocGlobal + Wait + Copy + Drop,
+    R: AllocGlobal + RandomSource + Wait + Copy + Drop,
 {
     let mut verdict = Verdict {
         agreed: 0,

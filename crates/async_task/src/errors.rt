@@ -3,6 +3,7 @@ ghost use Rattle.std.specs.declared.io.ErrorKind.TheVariants.{OutOfMemory};
 ghost use Rattle.std.specs.Prelude.{◌≡◌};
 ghost use Rattle.async_task.specs.declared.errors.RealmError.TheVariants as realm;
 
+use crate::task::TaskError;
 use std::io::{self, ErrorKind};
 use thiserror::Error;
 
@@ -47,6 +48,20 @@ impl From<RealmError> for io::Error {
         match error {
             RealmError::NoMemory => ErrorKind::OutOfMemory.into(),
             RealmError::NoRandom => ErrorKind::Other.into(),
+        }
+    }
+}
+
+/// So that `?` takes it to an `io::Result`.
+impl From<TaskError> for io::Error {
+    ghost use Rattle.async_task.specs.Errors.{kind_of_task};
+
+    ghost from_gives = { λ why error. error_kind error ≡ kind_of_task why };
+
+    fn from(error: TaskError) -> io::Error {
+        match error {
+            TaskError::TaskClosed => ErrorKind::BrokenPipe.into(),
+            TaskError::NoMemory => ErrorKind::OutOfMemory.into(),
         }
     }
 }

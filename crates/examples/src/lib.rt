@@ -5,12 +5,16 @@
 #[cfg(test)]
 mod actor;
 #[cfg(test)]
+mod echo;
+#[cfg(test)]
 mod first_task;
+#[cfg(test)]
+mod hello;
 #[cfg(test)]
 mod pipeline;
 #[cfg(test)]
-mod thread_pool;
+mod sleepers;
 #[cfg(test)]
-mod timer;
+mod thread_pool;
 #[cfg(test)]
 mod two_kinds;

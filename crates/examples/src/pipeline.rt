@@ -4,12 +4,13 @@ ghost use Rattle.std.specs.Prelude.{◌<◌};
 
 use async_executor::Executor;
 use async_task::{Future, Poll, Realm, Wake};
-use blocking::{ThreadWaker, block_on};
+use blocking::ThreadWaker;
 use concurrent_queue::{ConcurrentQueue, PopError};
 use std::alloc::Global;
 use std::io::{self, ErrorKind};
 use std::sync::Wait;
 use std::thread;
+use workers::complete;
 
 /// A queue between two stages, which lasts as long as the program.
 type Belt = &'static ConcurrentQueue<u64>;
@@ -68,11 +69,8 @@ fn three_stages_double_a_thousand_numbers(rt: HostRuntime) -> io::Result<()> {
         return Err(ErrorKind::OutOfMemory.into());
     };
     one.detach();
-    let (Ok(two), Ok(three)) = (stages.run(two), stages.run(three)) else {
-        return Err(ErrorKind::OutOfMemory.into());
-    };
-    let other = || block_on(&rt, alloc, two);
-    let _ = thread::join(&rt, other, || block_on(&rt, alloc, three));
+    let other = || complete(&rt, alloc, &stages, two);
+    let _ = thread::join(&rt, other, || complete(&rt, alloc, &stages, three));
     let sum = end.try_iter(&rt).fold(0, u64::saturating_add);
     assert!(rt; sum == 4_004_000);
     Ok(())

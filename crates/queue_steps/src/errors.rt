@@ -6,10 +6,23 @@ ghost use Rattle.std.specs.Prelude.{◌≡◌, ◌↔◌, IsTrue};
 ghost use Rattle.queue_steps.specs.Errors.{IsFullError, IsClosedError, refused_by_push, refused_by_force_push};
 
 use std::fmt;
+use std::io::{self, ErrorKind};
 
 /// There was no memory for the places of a queue.
 #[derive(Clone, Copy, PartialEq, Eq, Debug)]
 pub struct NoMemory;
+
+/// So that `?` takes it to an `io::Result`.
+impl From<NoMemory> for io::Error {
+    ghost use Rattle.std.specs.IoError.{error_kind};
+    ghost use Rattle.std.specs.declared.io.ErrorKind.TheVariants.{OutOfMemory};
+
+    ghost from_gives = { λ _ error. error_kind error ≡ OutOfMemory };
+
+    fn from(_error: NoMemory) -> io::Error {
+        ErrorKind::OutOfMemory.into()
+    }
+}
 
 /// Why `pop` gave no item.
 #[derive(Clone, Copy, PartialEq, Eq, Debug)]

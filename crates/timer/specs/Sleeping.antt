@@ -17,6 +17,10 @@ module _ {K : Type 0} where
   abbrev pub sleepers : Deadlines K → List (ℕ × ℕ)
   sleepers s = entries s.agenda.heap
 
+  -- the terms stay: so many may sleep, as long as it is open
+  abbrev pub SameTerms : Deadlines K → Deadlines K → Type 0
+  SameTerms old new = (new.limit ≡ old.limit) × (new.is_closed ≡ old.is_closed)
+
   -- one more may sleep: it is open, fewer sleep than the limit says, and there is memory for a place and an entry
   pub record HasRoom (s : Deadlines K) : Type 0 where
     pub is_open : s.is_closed ≡ false
@@ -34,7 +38,7 @@ module _ {K : Type 0} where
   -- what one who sleeps at this place found: it sleeps on, with its new waker there; or it is due, and has left
   abbrev pub HasLooked : ℕ → Option K → Slab (Place K) → Slab (Place K) → Looked K → Type 0
   HasLooked place waker old new (looked.Sleeps bed before) =
-      (bed.place ≡ place) × (get old place ≡ Some (Asleep before)) × (get new place ≡ Some (Asleep waker))
+      (bed.place ≡ place) × (get old place ≡ Some (Asleep before)) × Updates old new place (Some (Asleep waker))
   HasLooked place waker old new (looked.Due back) =
       (back ≡ waker) × (waker_at (get old place) ≡ None) × Updates old new place None
 
@@ -48,7 +52,7 @@ module _ {K : Type 0} where
     pub places : Updates old.places new.places place (made_due (get old.places place))
     pub waker_out : waker ≡ waker_at (get old.places place)
     pub agenda : new.agenda ≡ old.agenda
-    pub is_closed : new.is_closed ≡ old.is_closed
+    pub terms : SameTerms old new
 
   -- what a driver found at this time: one who was due, and is told; or nobody is due yet, or sleeps, and all is as before
   abbrev pub HasTold : ℕ → Deadlines K → Deadlines K → Next K → Type 0

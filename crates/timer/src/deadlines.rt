@@ -2,9 +2,9 @@
 ghost use Rattle.std.specs.Prelude.{◌≡◌, ◌≤◌, ◌∷◌, [], Err, IfOk, IsOk, IsPermutation, None, OnErr, Some, false, true};
 ghost use Rattle.std.specs.BinaryHeap.{heap_capacity};
 ghost use Rattle.std.specs.Duration.{as_nanos};
-ghost use Rattle.slab.specs.Slab.{HasRoomFor, Updates, get};
+ghost use Rattle.slab.specs.Slab.{HasRoomFor, SameValues, Updates, get};
 ghost use Rattle.timer.specs.Order.{Stay};
-ghost use Rattle.timer.specs.Sleeping.{HasLooked, HasRoom, HasTold, IsDueAt, sleepers, waker_at};
+ghost use Rattle.timer.specs.Sleeping.{HasLooked, HasRoom, HasTold, IsDueAt, SameTerms, sleepers, waker_at};
 ghost use Rattle.timer.specs.declared.deadlines.Place.TheVariants.{Asleep};
 ghost use Rattle.timer.specs.declared.deadlines.Refused.TheVariants.{Closed};
 
@@ -92,12 +92,15 @@ impl<K: Drop> Deadlines<K> {
 
     /// One more sleeps, until it is due at this time.
     pub fn enter(&mut self, due: Duration) -> Result<Bed, Refused>
-        ensures asleep { IfOk result (λ bed. get self.new.places bed.place ≡ Some (Asleep None)) }
+        ensures asleep { IfOk result (λ bed. Updates self.old.places self.new.places bed.place (Some (Asleep None))) }
+        ensures new_place { IfOk result (λ bed. get self.old.places bed.place ≡ None) }
         ensures due { IfOk result (λ bed. IsPermutation ((as_nanos due, bed.place) ∷ sleepers self.old) (sleepers self.new)) }
         ensures enters { HasRoom self.old → IsOk result }
         ensures closed { self.old.is_closed ≡ true → result ≡ Err Closed }
         ensures open { result ≡ Err Closed → self.old.is_closed ≡ true }
         ensures refused { OnErr result (sleepers self.new ≡ sleepers self.old) }
+        ensures places { OnErr result (SameValues self.old.places self.new.places) }
+        ensures terms { SameTerms self.old self.new }
     {
         if self.is_closed {
             return Err(Refused::Closed);
@@ -121,6 +124,7 @@ impl<K: Drop> Deadlines<K> {
     pub fn look(&mut self, bed: Bed, waker: Option<K>) -> Looked<K>
         ensures looked { HasLooked bed.place waker self.old.places self.new.places result }
         ensures others { sleepers self.new ≡ sleepers self.old }
+        ensures terms { SameTerms self.old self.new }
     {
         let Bed { place } = bed;
         match self.places.try_remove(place) {
@@ -137,6 +141,7 @@ impl<K: Drop> Deadlines<K> {
         ensures waker { result ≡ waker_at (get self.old.places bed.place) }
         ensures left { Updates self.old.places self.new.places bed.place None }
         ensures others { Stay bed.place (sleepers self.old) (sleepers self.new) }
+        ensures terms { SameTerms self.old self.new }
     {
         let Bed { place } = bed;
         self.agenda.forget(place);
@@ -148,7 +153,8 @@ impl<K: Drop> Deadlines<K> {
 
     /// Tells the one who is due first, where its time has come: it is marked as due.
     pub fn tell(&mut self, now: Duration) -> Next<K>
-        ensures { HasTold (as_nanos now) self.old self.new result }
+        ensures told { HasTold (as_nanos now) self.old self.new result }
+        ensures terms { SameTerms self.old self.new }
     {
         match self.agenda.turn(now.as_nanos()) {
             Turn::Of(place) => Next::Told(self.wake_up(place)),

@@ -1,3 +1,4 @@
+pub mod Both
 pub mod Sending
 pub mod Slots
 pub mod Waiters

@@ -1,4 +1,8 @@
 //! Both of two futures.
+ghost use Rattle.std.specs.Prelude.{◌≡◌, IfSome, None};
+ghost use Rattle.waiting.specs.Both.{HasJoined, Stays, output_of};
+ghost use Rattle.waiting.specs.declared.both.Awaited.TheVariants as awaited;
+
 use async_task::{Future, Poll};
 use std::mem;
 
@@ -25,6 +29,7 @@ impl<F: Drop, T: Drop> Awaited<F, T> {
     fn go_on<K>(&mut self, waker: &K)
     where
         F: Future<K, Output = T>,
+        ensures { Stays self.old self.new }
     {
         if let Awaited::Waiting(future) = self {
             if let Poll::Ready(output) = future.poll(waker) {
@@ -34,13 +39,18 @@ impl<F: Drop, T: Drop> Awaited<F, T> {
     }
 
     /// The output, where it is there. It is given once.
-    fn give(&mut self) -> Option<T> {
+    fn give(&mut self) -> Option<T>
+        ensures output { result ≡ output_of self.old }
+        ensures given { IfSome result (λ _. self.new ≡ awaited.Given) }
+        ensures stays { result ≡ None → self.new ≡ self.old }
+    {
         match mem::replace(self, Awaited::Given) {
             Awaited::Done(output) => Some(output),
-            other => {
-                *self = other;
+            Awaited::Waiting(future) => {
+                *self = Awaited::Waiting(future);
                 None
             }
+            Awaited::Given => None,
         }
     }
 }
@@ -54,7 +64,9 @@ where
 {
     type Output = (X, Y);
 
-    fn poll(&mut self, waker: &K) -> Poll<(X, Y)> {
+    fn poll(&mut self, waker: &K) -> Poll<(X, Y)>
+        ensures { HasJoined self.old.first self.old.second self.new.first self.new.second result }
+    {
         self.first.go_on(waker);
         self.second.go_on(waker);
         let Awaited::Done(_) = &self.second else {

@@ -15,6 +15,20 @@ use std::alloc::Global;
 use std::sync::{Arc, Wait};
 
 /// A sender and a receiver of a channel that holds so many messages. It takes memory for all places.
+///
+/// ```
+/// let (mut sender, mut receiver) = channel::bounded::<u64, Nobody, _>(rt, rt.alloc(), 1)?;
+/// assert!(rt; matches!(receiver.poll_recv(&Nobody), Poll::Pending));
+/// assert!(rt; sender.try_send(1).is_ok());
+/// assert!(rt; matches!(sender.try_send(2), Err(TrySendError::Full(2))));
+/// let mut message = Some(3);
+/// assert!(rt; matches!(sender.poll_send(&Nobody, &mut message), Poll::Pending));
+/// assert!(rt; matches!(receiver.recv().poll(&Nobody), Poll::Ready(Ok(1))));
+/// assert!(rt; matches!(sender.poll_send(&Nobody, &mut message), Poll::Ready(Ok(()))));
+/// drop(sender);
+/// assert!(rt; matches!(receiver.poll_recv(&Nobody), Poll::Ready(Ok(3))));
+/// assert!(rt; matches!(receiver.try_recv(), Err(TryRecvError::Closed)));
+/// ```
 pub fn bounded<T, K, R>(
     rt: R,
     alloc: Global,

@@ -9,6 +9,15 @@ use std::sync::{Arc, Mutex, Wait};
 /// who waits for a fact listens first, then looks whether it holds, and then awaits the listener. Its waker's type is `K`.
 ///
 /// Wakers are called and dropped with no lock held, and a call takes no memory.
+///
+/// ```
+/// let event = Event::<Nobody, _>::new(rt, rt.alloc())?;
+/// let (first, mut second) = (event.listen()?, event.listen()?);
+/// assert!(rt; event.notify());
+/// assert!(rt; matches!(second.poll(&Nobody), Poll::Pending));
+/// drop(first);
+/// assert!(rt; matches!(second.poll(&Nobody), Poll::Ready(())));
+/// ```
 #[derive(Drop)]
 pub struct Event<K, R>
 where

@@ -28,6 +28,12 @@ pub fn yield_now() -> YieldNow
 }
 
 /// Awaits two futures at once. Takes no memory.
+///
+/// ```
+/// let mut both = join(ready(1u64), yield_now());
+/// assert!(rt; matches!(both.poll(&Nobody), Poll::Pending));
+/// assert!(rt; matches!(both.poll(&Nobody), Poll::Ready((1, ()))));
+/// ```
 pub fn join<A, X, B, Y>(first: A, second: B) -> Join<A, X, B, Y> {
     Join {
         first: Awaited::Waiting(first),
@@ -36,6 +42,12 @@ pub fn join<A, X, B, Y>(first: A, second: B) -> Join<A, X, B, Y> {
 }
 
 /// Awaits the first of two futures. Takes no memory.
+///
+/// ```
+/// let mut first = select(pending::<u64>(), yield_now());
+/// assert!(rt; matches!(first.poll(&Nobody), Poll::Pending));
+/// assert!(rt; matches!(first.poll(&Nobody), Poll::Ready(Either::Right(((), _)))));
+/// ```
 pub fn select<A, B>(first: A, second: B) -> Select<A, B>
     ensures { result.both ≡ Some (first, second) }
 {

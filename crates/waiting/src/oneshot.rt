@@ -35,6 +35,13 @@ where
 }
 
 /// A sender and its receiver. It takes memory for the place of the value, and no call after that does.
+///
+/// ```
+/// let (sender, mut receiver) = oneshot::channel::<u64, Nobody, _>(rt, rt.alloc())?;
+/// assert!(rt; matches!(receiver.poll(&Nobody), Poll::Pending));
+/// assert!(rt; sender.send(1).is_ok());
+/// assert!(rt; matches!(receiver.poll(&Nobody), Poll::Ready(Ok(1))));
+/// ```
 pub fn channel<T, K, R>(
     rt: R,
     alloc: Global,

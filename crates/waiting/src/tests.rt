@@ -1,41 +1,36 @@
+//! The examples of the doc comments, line by line, and what follows them.
 use crate::channel::{self, RecvError, TryRecvError, TrySendError};
 use crate::{Either, Event, join, oneshot, pending, ready, select, yield_now};
 use async_task::{Future, Nobody, Poll};
-use std::test::Fail;
+use std::io;
 
 #[test]
 fn both_and_the_first_of_two(rt: HostRuntime) {
     let mut both = join(ready(1u64), yield_now());
     assert!(rt; matches!(both.poll(&Nobody), Poll::Pending));
     assert!(rt; matches!(both.poll(&Nobody), Poll::Ready((1, ()))));
+
     let mut first = select(pending::<u64>(), yield_now());
     assert!(rt; matches!(first.poll(&Nobody), Poll::Pending));
     assert!(rt; matches!(first.poll(&Nobody), Poll::Ready(Either::Right(((), _)))));
 }
 
 #[test]
-fn a_dropped_listener_that_was_told_tells_the_next(rt: HostRuntime) -> Result<(), Fail> {
-    let Ok(event) = Event::<Nobody, _>::new(rt, rt.alloc()) else {
-        panic!(rt; "no memory");
-    };
-    let (Ok(first), Ok(mut second)) = (event.listen(), event.listen()) else {
-        panic!(rt; "no memory");
-    };
-    assert!(rt; matches!(second.poll(&Nobody), Poll::Pending));
+fn a_dropped_listener_that_was_told_tells_the_next(rt: HostRuntime) -> io::Result<()> {
+    let event = Event::<Nobody, _>::new(rt, rt.alloc())?;
+    let (first, mut second) = (event.listen()?, event.listen()?);
     assert!(rt; event.notify());
     assert!(rt; matches!(second.poll(&Nobody), Poll::Pending));
     drop(first);
     assert!(rt; matches!(second.poll(&Nobody), Poll::Ready(())));
+
     assert!(rt; !event.notify());
     Ok(())
 }
 
 #[test]
-fn a_channel_is_full_emptied_and_closed(rt: HostRuntime) -> Result<(), Fail> {
-    let Ok((mut sender, mut receiver)) = channel::bounded::<u64, Nobody, _>(rt, rt.alloc(), 1)
-    else {
-        panic!(rt; "no memory");
-    };
+fn a_channel_is_full_emptied_and_closed(rt: HostRuntime) -> io::Result<()> {
+    let (mut sender, mut receiver) = channel::bounded::<u64, Nobody, _>(rt, rt.alloc(), 1)?;
     assert!(rt; matches!(receiver.poll_recv(&Nobody), Poll::Pending));
     assert!(rt; sender.try_send(1).is_ok());
     assert!(rt; matches!(sender.try_send(2), Err(TrySendError::Full(2))));
@@ -45,31 +40,29 @@ fn a_channel_is_full_emptied_and_closed(rt: HostRuntime) -> Result<(), Fail> {
     assert!(rt; matches!(sender.poll_send(&Nobody, &mut message), Poll::Ready(Ok(()))));
     drop(sender);
     assert!(rt; matches!(receiver.poll_recv(&Nobody), Poll::Ready(Ok(3))));
+    assert!(rt; matches!(receiver.try_recv(), Err(TryRecvError::Closed)));
+
     assert!(rt;
         matches!(
             receiver.poll_recv(&Nobody),
             Poll::Ready(Err(RecvError::Closed))
         )
     );
-    assert!(rt; matches!(receiver.try_recv(), Err(TryRecvError::Closed)));
     Ok(())
 }
 
 #[test]
-fn a_oneshot_is_sent_refused_and_canceled(rt: HostRuntime) -> Result<(), Fail> {
-    let (Ok((one, mut first)), Ok((two, second)), Ok((three, mut third))) = (
-        oneshot::channel::<u64, Nobody, _>(rt, rt.alloc()),
-        oneshot::channel::<u64, Nobody, _>(rt, rt.alloc()),
-        oneshot::channel::<u64, Nobody, _>(rt, rt.alloc()),
-    ) else {
-        panic!(rt; "no memory");
-    };
-    assert!(rt; matches!(first.poll(&Nobody), Poll::Pending));
-    assert!(rt; one.send(1).is_ok());
-    assert!(rt; matches!(first.poll(&Nobody), Poll::Ready(Ok(1))));
-    drop(second);
-    assert!(rt; matches!(two.send(2), Err(2)));
-    drop(three);
-    assert!(rt; matches!(third.poll(&Nobody), Poll::Ready(Err(oneshot::Canceled))));
+fn a_oneshot_is_sent_refused_and_canceled(rt: HostRuntime) -> io::Result<()> {
+    let (sender, mut receiver) = oneshot::channel::<u64, Nobody, _>(rt, rt.alloc())?;
+    assert!(rt; matches!(receiver.poll(&Nobody), Poll::Pending));
+    assert!(rt; sender.send(1).is_ok());
+    assert!(rt; matches!(receiver.poll(&Nobody), Poll::Ready(Ok(1))));
+
+    let (second, gone) = oneshot::channel::<u64, Nobody, _>(rt, rt.alloc())?;
+    drop(gone);
+    assert!(rt; matches!(second.send(2), Err(2)));
+    let (third, mut waits) = oneshot::channel::<u64, Nobody, _>(rt, rt.alloc())?;
+    drop(third);
+    assert!(rt; matches!(waits.poll(&Nobody), Poll::Ready(Err(oneshot::Canceled))));
     Ok(())
 }

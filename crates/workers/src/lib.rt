@@ -8,6 +8,7 @@ mod running;
 #[cfg(test)]
 mod tests;
 mod threads;
+mod until;
 
 pub use fault::Fault;
 pub use join_all::JoinAll;

@@ -1,16 +1,18 @@
 //! A thread that runs an executor until one future is ready.
-ghost use Rattle.std.specs.Prelude.{◌≡◌};
+ghost use Rattle.std.specs.Prelude.{◌≡◌, ◌⊎◌, IfErr};
 ghost use Rattle.workers.specs.Faults.{answered};
+ghost use Rattle.workers.specs.declared.fault.Fault.TheVariants as fault;
 
 use crate::fault::Fault;
+use crate::until::Until;
 use async_executor::{ExWaker, Executor, RunError};
-use async_task::{Future, TaskError};
+use async_task::{Future, NoMemory, TaskError};
 use blocking::{ThreadWaker, block_on};
 use std::alloc::Global;
 use std::sync::Wait;
 
 /// Runs the executor on this thread until the future is ready, and answers its output. The seed says at which other runs it
-/// begins to look for work; each thread takes another.
+/// begins to look for work; each thread takes another. The one fault is want of memory.
 pub fn run_until<F, T, R, G>(
     rt: &R,
     alloc: Global,
@@ -24,11 +26,12 @@ where
     R: Wait + Copy + Drop + 'static,
     G: Future<ExWaker<T, ThreadWaker, R>> + Drop,
     G::Output: Drop,
+    ensures { IfErr result (λ why. why ≡ fault.NoMemory) }
 {
     match executor.run_from(future, seed) {
-        Ok(run) => match block_on(rt, alloc, run) {
+        Ok(run) => match block_on(rt, alloc, Until::of(run)) {
             Ok(Ok(output)) => Ok(output),
-            Ok(Err(error)) => Err(Fault::from(error)),
+            Ok(Err(NoMemory)) => Err(Fault::NoMemory),
             Err(_) => Err(Fault::NoMemory),
         },
         Err(_) => Err(Fault::NoMemory),
@@ -36,7 +39,7 @@ where
 }
 
 /// Runs the executor on this thread until the task is over, and answers the output of its future: `block_on` of a run of a handle,
-/// with one answer.
+/// with one answer. The faults are `NoMemory`, and `TaskClosed` where the task has no output to give.
 pub fn complete<F, T, R, G, U>(
     rt: &R,
     alloc: Global,
@@ -49,6 +52,7 @@ where
     R: Wait + Copy + Drop + 'static,
     G: Future<ExWaker<T, ThreadWaker, R>, Output = Result<U, TaskError>> + Drop,
     U: Drop,
+    ensures { IfErr result (λ why. (why ≡ fault.NoMemory) ⊎ (why ≡ fault.TaskClosed)) }
 {
     match run_until(rt, alloc, executor, 0, task) {
         Ok(Ok(output)) => Ok(output),

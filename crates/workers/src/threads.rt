@@ -1,13 +1,15 @@
 //! Threads that work together.
 ghost use Rattle.std.specs.Fork.{GivesEach};
-ghost use Rattle.std.specs.Prelude.{◌≡◌, IfOk, Ok, map};
+ghost use Rattle.std.specs.Prelude.{◌≡◌, ◌⊎◌, IfErr, IfOk, Ok, length, map};
+ghost use Rattle.workers.specs.Ends.{IsFirstFault, Stops};
+ghost use Rattle.workers.specs.declared.fault.Fault.TheVariants as fault;
 
 use crate::fault::Fault;
 use std::alloc::Global;
 use std::thread::{self, Threads};
 
 /// Lets so many threads work, each on its number from 0 on, and joins them: what each came back with, in order, or the fault of
-/// the first that has one.
+/// the first that has one. Where there is no memory for the threads or for the list it is `NoMemory`.
 ///
 /// Where a thread can't be made its work is done by another, behind that one's own.
 pub fn run_workers<X, R, M>(
@@ -21,7 +23,9 @@ where
     R: Threads + Sync,
     M: Fn(usize) -> Result<X, Fault> + Sync,
     requires { M.IsAlwaysCallable work.now }
-    ensures { IfOk result (λ outputs. GivesEach M.Fn work.now workers (map Ok outputs.items)) }
+    ensures outputs { IfOk result (λ outputs. GivesEach M.Fn work.now workers (map Ok outputs.items)) }
+    ensures each { IfOk result (λ outputs. length outputs.items ≡ workers) }
+    ensures why { IfErr result (λ why. (why ≡ fault.NoMemory) ⊎ IsFirstFault M.Fn work.now workers why) }
 {
     match thread::map_indices(rt, alloc, workers, work) {
         Ok(ends) => all_well(alloc, ends),
@@ -31,7 +35,8 @@ where
 
 /// What each came back with, where all did so well; else the first fault.
 fn all_well<X: Drop>(alloc: Global, ends: Vec<Result<X, Fault>>) -> Result<Vec<X>, Fault>
-    ensures { IfOk result (λ outputs. map Ok outputs.items ≡ ends.items) }
+    ensures outputs { IfOk result (λ outputs. map Ok outputs.items ≡ ends.items) }
+    ensures why { IfErr result (λ why. (why ≡ fault.NoMemory) ⊎ Stops ends.items why) }
 {
     let mut outputs = Vec::new(alloc);
     for end in ends {

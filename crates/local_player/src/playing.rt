@@ -7,8 +7,8 @@ use crate::keeper::Keeper;
 use local_executor::{LocalExecutor, StaticLocalExecutor};
 use script::{Command, Word};
 use script_player::{
-    Answer, PlayError, Player, Shared, SharedShelf, Shelf, Stage, Stop, play_closed, play_on,
-    read_whole, show_end,
+    Answer, Handles, PlayError, Player, Shared, SharedShelf, Shelf, Stage, Stop, play_closed,
+    play_on, read_whole, show_end,
 };
 use std::alloc::Global;
 use std::random::RandomSource;
@@ -86,8 +86,14 @@ fn new_player<R>(
 where
     R: Wait + Copy + Drop,
 {
-    match (Rc::clone(stage), Rc::clone(shelf)) {
-        (Ok(stage), Ok(shelf)) => Some(Player::new(alloc, stage, Keeper { shelf })),
+    match (
+        Rc::clone(stage),
+        Rc::clone(shelf),
+        Handles::new(alloc, stage),
+    ) {
+        (Ok(stage), Ok(shelf), Ok(handles)) => {
+            Some(Player::new(alloc, stage, Keeper { shelf }, handles))
+        }
         _ => None,
     }
 }

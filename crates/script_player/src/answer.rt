@@ -2,7 +2,7 @@
 use crate::outside::Gift;
 use crate::stage::Stage;
 use async_task::{NoMemory, Poll, TaskError};
-use script::Word;
+use script::{Ending, Word};
 
 /// How a command ended.
 #[derive(Clone, Copy)]
@@ -41,26 +41,25 @@ impl Answer {
 
 /// Shows how a command of this word ended.
 pub fn show_end(stage: &Stage, word: Word, answer: Answer) {
-    let word = word.text();
     match answer {
-        Answer::Output(number) => stage.show_number(word, number),
-        answer => stage.show_end(word, answer_text(answer)),
+        Answer::Output(number) => stage.show_output(word.text(), number),
+        answer => stage.show_end(word.text(), ending_of(answer).text()),
     }
 }
 
-fn answer_text(answer: Answer) -> &'static [u8] {
+fn ending_of(answer: Answer) -> Ending {
     match answer {
-        Answer::Made => b"ok",
-        Answer::Full => b"full",
-        Answer::NoMemory => b"no memory",
-        Answer::Yes => b"true",
-        Answer::No => b"false",
-        Answer::Done => b"done",
-        Answer::Pending => b"pending",
-        Answer::Ready | Answer::Output(_) => b"ready",
-        Answer::Cancelled => b"cancelled",
-        Answer::Finished => b"finished",
-        Answer::NotPossible => b"not possible",
+        Answer::Made => Ending::Made,
+        Answer::Full => Ending::Full,
+        Answer::NoMemory => Ending::NoMemory,
+        Answer::Yes => Ending::Yes,
+        Answer::No => Ending::No,
+        Answer::Done => Ending::Done,
+        Answer::Pending => Ending::Pending,
+        Answer::Ready | Answer::Output(_) => Ending::Ready,
+        Answer::Cancelled => Ending::Cancelled,
+        Answer::Finished => Ending::Finished,
+        Answer::NotPossible => Ending::NotPossible,
     }
 }
 

@@ -6,7 +6,7 @@ use crate::handle::Hold;
 use crate::player::Player;
 use crate::shelf::Keep;
 use crate::sitting::Seats;
-use script::{Command, Plain, Request, Script, Word, parse};
+use script::{Command, Item, Plain, Refusal, Request, Script, Word, parse};
 use std::alloc::Global;
 
 /// Where the commands on an executor stop.
@@ -21,7 +21,7 @@ pub enum Stop {
 }
 
 /// Reads a script of whole calls. None is one without a line. The first bad line is refused, and then the first that is no
-/// whole call of one party, or is refused memory.
+/// whole call of one party, is refused memory, or has an item `nest`.
 pub fn read_whole(alloc: Global, text: &[u8]) -> Result<Option<Script>, PlayError> {
     let Some(script) = parse(alloc, text)? else {
         return Ok(None);
@@ -42,16 +42,25 @@ fn first_not_whole(commands: &[Command]) -> Option<u64> {
     None
 }
 
-/// The call of a command, where it is a whole one of one party and is refused no memory.
+/// The call of a command, where it is a whole one of one party, is refused no memory, and spawns no future that runs another in
+/// its poll: that would need the executor, whose type has the future's.
 fn whole(command: &Command) -> Option<&Plain> {
     match command {
         Command::Whole(
             Request {
-                refused: false,
+                refusal: Refusal::Nothing,
                 plain,
             },
-        ) => Some(plain),
+        ) if !nests(plain) => Some(plain),
         _ => None,
+    }
+}
+
+/// A future is spawned that runs another in its poll.
+fn nests(plain: &Plain) -> bool {
+    match plain {
+        Plain::Spawn { items, .. } => items.as_slice().iter().any(|item| *item == Item::Nest),
+        _ => false,
     }
 }
 

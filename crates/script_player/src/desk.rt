@@ -2,6 +2,7 @@
 use crate::answer::Answer;
 use crate::future::Scripted;
 use crate::handle::Held;
+use crate::handles::SharedHandles;
 use crate::outside::Bell;
 use crate::own::Own;
 use crate::shelf::SharedShelf;
@@ -15,6 +16,8 @@ pub struct Plan<H: Drop> {
     pub items: Vec<Item>,
     /// The handles that its items name.
     pub held: Vec<Held<H>>,
+    /// The handles that it may drop.
+    pub handles: SharedHandles<H>,
 }
 
 /// A future wasn't accepted: why, and the handles that it was to hold.
@@ -54,13 +57,19 @@ pub fn scripted<H: Drop, S: Drop>(
     shelf: &SharedShelf<S>,
     plan: Plan<H>,
 ) -> Result<Scripted<H, S>, Refused<H>> {
-    let Plan { name, items, held } = plan;
+    let Plan {
+        name,
+        items,
+        held,
+        handles,
+    } = plan;
     match Rc::clone(shelf) {
         Ok(shelf) => Ok(Scripted {
             name,
             items,
             next: 0,
             held,
+            handles,
             shelf,
         }),
         Err(_) => Err(Refused {

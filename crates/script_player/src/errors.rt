@@ -7,7 +7,7 @@ use std::alloc::AllocError;
 pub enum PlayError {
     /// This line is the first bad one.
     BadLine(u64),
-    /// This line is the first that is no whole call of one party, or wants memory to be refused.
+    /// This line is the first that is no whole call of one party, wants memory to be refused, or has an item `nest`.
     NotWhole(u64),
     NoMemory,
 }

@@ -1,5 +1,6 @@
 //! The futures that a script spawns.
 use crate::handle::{Await, Held, poll_twice};
+use crate::handles::SharedHandles;
 use crate::outside::Gift;
 use crate::shelf::SharedShelf;
 use async_task::{Future, Poll, Wake};
@@ -19,6 +20,8 @@ pub struct Scripted<H: Drop, S: Drop> {
     pub next: usize,
     /// The handles that its items name, each once, in the order of the items.
     pub held: Vec<Held<H>>,
+    /// The handles that it may drop.
+    pub handles: SharedHandles<H>,
     /// Where its wakers are kept.
     pub shelf: SharedShelf<S>,
 }
@@ -30,12 +33,14 @@ impl<H: Drop, S: Drop> Drop for Scripted<H, S> {
             items,
             next: _,
             held,
+            handles,
             shelf,
         } = self;
         drop(items);
         shelf.count_out();
         shelf.stage.show_on(b"drop", name);
         drop(held);
+        drop(handles);
     }
 }
 
@@ -70,9 +75,11 @@ impl<H: Drop, S: Drop> Scripted<H, S> {
             items,
             next: _,
             held,
+            handles,
             shelf,
         } = self;
         drop(items);
+        drop(handles);
         drop(shelf);
         held
     }
@@ -96,6 +103,12 @@ impl<H: Drop, S: Drop> Scripted<H, S> {
             }
             Item::Ready(number) => Some(number),
             Item::Twice(name) => self.poll_held(name, waker),
+            Item::Stop(name) => {
+                drop(self.handles.take(name));
+                None
+            }
+            // No script with one is played here.
+            Item::Nest => None,
         }
     }
 

@@ -1,6 +1,7 @@
 //! The player of a script: what it has beside its executor, and its commands on handles and wakers.
 use crate::answer::Answer;
 use crate::handle::{Held, Hold};
+use crate::handles::SharedHandles;
 use crate::outside::Bell;
 use crate::shelf::Keep;
 use crate::stage::{Shared, Stage};
@@ -19,18 +20,18 @@ pub struct Player<H: Drop, K: Drop> {
     pub keeper: K,
     /// The names of the accepted futures, the ticks and the runs.
     names: Names,
-    /// The handle of each future, where no other future and no run holds it and it isn't let go.
-    handles: Named<H>,
+    /// Those that no future and no run holds, which futures drop too.
+    pub handles: SharedHandles<H>,
 }
 
 impl<H: Hold, K: Keep> Player<H, K> {
-    pub fn new(alloc: Global, stage: Shared, keeper: K) -> Player<H, K> {
+    pub fn new(alloc: Global, stage: Shared, keeper: K, handles: SharedHandles<H>) -> Player<H, K> {
         Player {
             alloc,
             stage,
             keeper,
             names: Names::new(alloc),
-            handles: BTreeMap::new(alloc),
+            handles,
         }
     }
 
@@ -72,7 +73,7 @@ impl<H: Hold, K: Keep> Player<H, K> {
     }
 
     pub fn has_handle(&self, name: Name) -> bool {
-        self.handles.contains_key(&name)
+        self.handles.has(name)
     }
 
     /// Takes the handles that these items name.
@@ -87,7 +88,7 @@ impl<H: Hold, K: Keep> Player<H, K> {
     }
 
     fn take_handle_into(&mut self, name: Name, held: &mut Vec<Held<H>>) {
-        if let Some(handle) = self.handles.remove(&name) {
+        if let Some(handle) = self.handles.take(name) {
             if held.push(Held { name, handle }).is_err() {
                 self.stage.lack_memory();
             }
@@ -95,7 +96,7 @@ impl<H: Hold, K: Keep> Player<H, K> {
     }
 
     pub fn take_held(&mut self, name: Name) -> Option<Held<H>> {
-        match self.handles.remove(&name) {
+        match self.handles.take(name) {
             Some(handle) => Some(Held { name, handle }),
             None => None,
         }
@@ -114,18 +115,18 @@ impl<H: Hold, K: Keep> Player<H, K> {
 
     /// The handle of the future of this name, which was accepted.
     pub fn put_handle(&mut self, name: Name, handle: H) {
-        put(&mut self.handles, name, handle, &self.stage);
+        self.handles.put(name, handle);
     }
 
     fn poll(&mut self, name: Name) -> Answer {
-        match self.handles.remove(&name) {
+        match self.handles.take(name) {
             Some(handle) => self.poll_handle(name, handle),
             None => Answer::NotPossible,
         }
     }
 
     fn cancel(&mut self, name: Name) -> Answer {
-        match self.handles.remove(&name) {
+        match self.handles.take(name) {
             Some(handle) => self.poll_handle(name, handle.cancel()),
             None => Answer::NotPossible,
         }
@@ -140,7 +141,7 @@ impl<H: Hold, K: Keep> Player<H, K> {
     }
 
     fn detach(&mut self, name: Name) -> Answer {
-        match self.handles.remove(&name) {
+        match self.handles.take(name) {
             Some(handle) => {
                 handle.detach();
                 Answer::Done
@@ -150,7 +151,7 @@ impl<H: Hold, K: Keep> Player<H, K> {
     }
 
     fn drop_handle(&mut self, name: Name) -> Answer {
-        match self.handles.remove(&name) {
+        match self.handles.take(name) {
             Some(handle) => {
                 drop(handle);
                 Answer::Done

@@ -9,6 +9,7 @@ use crate::shelf::Keep;
 use script::{Item, Name, Plain};
 use std::alloc::Global;
 use std::collections::BTreeMap;
+use std::rc::Rc;
 
 /// The ticks and runs of a script.
 #[derive(Drop)]
@@ -72,11 +73,15 @@ impl<H: Hold, K: Keep> Player<H, K> {
         let Ok(own_items) = Vec::from_slice(self.alloc, items) else {
             return Answer::NoMemory;
         };
+        let Ok(handles) = Rc::clone(&self.handles) else {
+            return Answer::NoMemory;
+        };
         let held = self.take_handles(items);
         match desk.spawn(Plan {
             name,
             items: own_items,
             held,
+            handles,
         }) {
             Ok(handle) => {
                 self.learn(name);

@@ -1,5 +1,5 @@
 //! What a script shows.
-use script::Name;
+use script::{Ending, Name};
 use std::alloc::{AllocError, Global};
 use std::cell::{Cell, RefCell};
 use std::rc::Rc;
@@ -51,9 +51,16 @@ impl Stage {
     }
 
     /// Shows that a command of this word was answered an output.
-    pub fn show_number(&self, word: &[u8], number: u64) {
-        match format!(in self.alloc; "ready {number}") {
-            Ok(answer) => self.show_end(word, answer.as_bytes()),
+    pub fn show_output(&self, word: &[u8], number: u64) {
+        match format!(in self.alloc; "{number}") {
+            Ok(digits) => {
+                self.append(word);
+                self.append(b": ");
+                self.append(Ending::Ready.text());
+                self.append(b" ");
+                self.append(digits.as_bytes());
+                self.append(b"\n");
+            }
             Err(_) => self.lack_memory(),
         }
     }

@@ -25,17 +25,10 @@ impl<F: Planned<R>, R: Wait + Copy + Drop + 'static> TestKind<F, R> {
     ) -> Result<TestKind<F, R>, NoMemory>
         requires { 0 < limit }
     {
-        if is_static {
-            match TestStatic::new(rt, alloc, realm, limit) {
-                Ok(executor) => Ok(TestKind::Static(executor)),
-                Err(NoMemory) => Err(NoMemory),
-            }
-        } else {
-            match TestExecutor::new(rt, alloc, realm, limit) {
-                Ok(executor) => Ok(TestKind::Owned(executor)),
-                Err(NoMemory) => Err(NoMemory),
-            }
-        }
+        Ok(match is_static {
+            true => TestKind::Static(TestStatic::new(rt, alloc, realm, limit)?),
+            false => TestKind::Owned(TestExecutor::new(rt, alloc, realm, limit)?),
+        })
     }
 
     pub fn spawn(&self, future: F) -> Result<TestTask<R>, SpawnError<F>> {

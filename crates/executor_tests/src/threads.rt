@@ -9,7 +9,10 @@ use std::sync::atomic::Ordering::SeqCst;
 use std::thread;
 
 /// How often a tick waits for a spawn. Each time two threads give way to each other, and so to all that the machine does.
-const ROUNDS: u64 = 500;
+const ROUNDS: u64 = 2_000;
+
+/// How many futures await, cancel and detach each other.
+const CHAIN: u64 = 40_000;
 
 impl<F: Planned<R>, R: Abort + Wait + Copy + Drop + 'static> Stage<F, R> {
     /// Ticks until the executor is empty, and says whether it came to that.
@@ -152,8 +155,8 @@ fn two_threads_tick_a_thousand_futures(rt: HostRuntime) {
 fn four_threads_run_futures_that_await_cancel_and_detach_each_other(rt: HostRuntime) {
     for is_static in [false, true] {
         let realm = TestRealm::leak(rt, rt.alloc());
-        let stage = Stage::<Job<_>, _>::of_kind(rt, rt.alloc(), realm, is_static, 10_000);
-        let last = stage.spawn_chain(10_000);
+        let stage = Stage::<Job<_>, _>::of_kind(rt, rt.alloc(), realm, is_static, CHAIN as usize);
+        let last = stage.spawn_chain(CHAIN);
         let mut are_well = last.is_some();
         if let Some(last) = last {
             stage.drop_handle(last);
@@ -170,7 +173,7 @@ fn four_threads_run_futures_that_await_cancel_and_detach_each_other(rt: HostRunt
         }
         let counts = stage.notes.each.as_slice();
         let given = stage.notes.given.load(SeqCst);
-        let is_well = are_well & each_is_well(counts, None) & (outputs(counts) < 10_000);
+        let is_well = are_well & each_is_well(counts, None) & (outputs(counts) < CHAIN);
         assert!(rt; is_well & (given > 0), "static: {is_static}");
     }
 }

@@ -91,7 +91,7 @@ fn a_closed_queue_closes_its_tasks(rt: HostRuntime) -> Result<(), Fail> {
 }
 
 /// How many futures each of two threads hands in.
-const ROUNDS: u64 = 2_000;
+const ROUNDS: u64 = 20_000;
 
 /// How often a future is handed in, and its handle polled, before the test gives up.
 const MOST_TURNS: u64 = 1_000_000;

@@ -1,7 +1,7 @@
 //! A future that leaves its waker, and what its test sees of it.
 use async_task::{Future, Nobody, Poll, Wake};
 use local_executor::LocalExWaker;
-use std::alloc::Global;
+use std::alloc::{AllocError, Global};
 use std::cell::{Cell, RefCell};
 use std::rc::Rc;
 use std::sync::Wait;
@@ -42,13 +42,7 @@ impl<R: Wait + Copy + Drop> Door<R> {
 }
 
 /// A door where nobody was.
-pub fn new_door<R: Wait + Copy + Drop>(alloc: Global) -> Option<Rc<Door<R>, Global>> {
-    let door = Door {
-        waker: RefCell::new(None),
-        polls: Cell::new(0),
-    };
-    match Rc::new(alloc, door) {
-        Ok(door) => Some(door),
-        Err(_) => None,
-    }
+pub fn new_door<R: Wait + Copy + Drop>(alloc: Global) -> Result<Rc<Door<R>, Global>, AllocError> {
+    let (waker, polls) = (RefCell::new(None), Cell::new(0));
+    Ok(Rc::new(alloc, Door { waker, polls })?)
 }

@@ -15,9 +15,7 @@ fn a_waker_is_called_10_000_times_while_its_executor_ticks(rt: HostRuntime) -> R
     let executor = LocalExecutor::<Visitor<HostRuntime>, u64, Nobody, HostRuntime>::new(
         rt, alloc, 1,
     )?;
-    let Some(door) = new_door::<HostRuntime>(alloc) else {
-        panic!(rt; "memory");
-    };
+    let door = new_door::<HostRuntime>(alloc)?;
     let Ok(handle) = executor.spawn(Visitor(door.clone()?)) else {
         panic!(rt; "refused");
     };
@@ -69,9 +67,7 @@ fn a_waker_outlives_its_executor_elsewhere(rt: HostRuntime) -> Result<(), Fail> 
     let executor = LocalExecutor::<Visitor<HostRuntime>, u64, Nobody, HostRuntime>::new(
         rt, alloc, 1,
     )?;
-    let Some(door) = new_door::<HostRuntime>(alloc) else {
-        panic!(rt; "memory");
-    };
+    let door = new_door::<HostRuntime>(alloc)?;
     let Ok(mut handle) = executor.spawn(Visitor(door.clone()?)) else {
         panic!(rt; "refused");
     };

@@ -11,8 +11,6 @@ mod runs;
 mod solo;
 mod steals;
 mod table;
-#[cfg(test)]
-mod tests;
 mod ticks;
 mod turns;
 

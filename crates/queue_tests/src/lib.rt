@@ -5,6 +5,8 @@
 #[cfg(test)]
 mod ended;
 #[cfg(test)]
+mod one_thread;
+#[cfg(test)]
 mod parties;
 #[cfg(test)]
 mod texts;

@@ -22,49 +22,37 @@ fn each_message_is_received_once(rt: HostRuntime) -> Result<(), Fail> {
     let Ok((sender, receiver)) = channel::bounded::<u64, ThreadWaker, _>(rt, alloc, 2) else {
         panic!(rt; "no memory");
     };
+    let sends = &|_| {
+        let Ok(mut mine) = sender.clone() else {
+            return 0;
+        };
+        let mut sent = 0u64;
+        for number in 1..=500 {
+            if let Ok(Ok(())) = block_on::<ThreadWaker, _, _>(&rt, alloc, mine.send(number)) {
+                sent = sent.saturating_add(number);
+            }
+        }
+        sent
+    };
     let send = || {
-        let ends = thread::map_indices(
-            &rt,
-            alloc,
-            2,
-            &|_| {
-                let Ok(mut mine) = sender.clone() else {
-                    return 0;
-                };
-                let mut sent = 0u64;
-                for number in 1..=500 {
-                    if let Ok(Ok(())) = block_on::<ThreadWaker, _, _>(
-                        &rt,
-                        alloc,
-                        mine.send(number),
-                    ) {
-                        sent = sent.saturating_add(number);
-                    }
-                }
-                sent
-            },
-        );
+        let ends = thread::map_indices(&rt, alloc, 2, sends);
         sender.close();
         total(ends)
     };
-    let receive = || total(thread::map_indices(
-        &rt,
-        alloc,
-        2,
-        &|_| {
-            let Ok(mut mine) = receiver.clone() else {
-                return 0;
+    let receives = &|_| {
+        let Ok(mut mine) = receiver.clone() else {
+            return 0;
+        };
+        let mut sum = 0u64;
+        for _ in 0..1_001 {
+            let Ok(Ok(number)) = block_on::<ThreadWaker, _, _>(&rt, alloc, mine.recv()) else {
+                return sum;
             };
-            let mut sum = 0u64;
-            for _ in 0..1_001 {
-                let Ok(Ok(number)) = block_on::<ThreadWaker, _, _>(&rt, alloc, mine.recv()) else {
-                    return sum;
-                };
-                sum = sum.saturating_add(number);
-            }
-            sum
-        },
-    ));
+            sum = sum.saturating_add(number);
+        }
+        sum
+    };
+    let receive = || total(thread::map_indices(&rt, alloc, 2, receives));
     let (sent, received) = thread::join(&rt, send, receive);
     assert!(rt; (sent == 250_500) & (received == 250_500));
     Ok(())
@@ -78,31 +66,27 @@ fn who_listens_is_told(rt: HostRuntime) -> Result<(), Fail> {
         panic!(rt; "no memory");
     };
     let number = AtomicU64::new(0);
-    let ends = thread::map_indices(
-        &rt,
-        alloc,
-        2,
-        &|own| {
-            let mut turns = 0u64;
-            for _ in 0..100_000 {
-                let Ok(listener) = event.listen() else {
-                    return turns;
-                };
-                let seen = number.load(SeqCst);
-                if turns == 200 {
-                    return turns;
-                }
-                if seen % 2 == own as u64 {
-                    number.store(seen.wrapping_add(1), SeqCst);
-                    event.notify_all();
-                    turns = turns.saturating_add(1);
-                } else {
-                    let _ = block_on::<ThreadWaker, _, _>(&rt, alloc, listener);
-                }
+    let takes_turns = &|own| {
+        let mut turns = 0u64;
+        for _ in 0..100_000 {
+            let Ok(listener) = event.listen() else {
+                return turns;
+            };
+            let seen = number.load(SeqCst);
+            if turns == 200 {
+                return turns;
             }
-            turns
-        },
-    );
+            if seen % 2 == own as u64 {
+                number.store(seen.wrapping_add(1), SeqCst);
+                event.notify_all();
+                turns = turns.saturating_add(1);
+            } else {
+                let _ = block_on::<ThreadWaker, _, _>(&rt, alloc, listener);
+            }
+        }
+        turns
+    };
+    let ends = thread::map_indices(&rt, alloc, 2, takes_turns);
     assert!(rt; (total(ends) == 400) & (number.load(SeqCst) == 400));
     Ok(())
 }

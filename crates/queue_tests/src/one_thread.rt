@@ -1,7 +1,8 @@
-use crate::channel::{self, RecvError, TryRecvError, TrySendError};
-use crate::{Either, Event, join, oneshot, pending, ready, select, yield_now};
+//! What waits, on one thread.
 use async_task::{Future, Nobody, Poll};
 use std::test::Fail;
+use waiting::channel::{self, RecvError, TryRecvError, TrySendError};
+use waiting::{Either, Event, join, oneshot, pending, ready, select, yield_now};
 
 #[test]
 fn both_and_the_first_of_two(rt: HostRuntime) {

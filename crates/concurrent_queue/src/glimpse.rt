@@ -6,7 +6,7 @@ use std::sync::Mutex;
 use std::{fmt, thread};
 
 /// How often a glimpse tries a lock, or a tail that moves, before it gives up.
-pub const TRIES: u32 = 10_000;
+pub const TRIES: u32 = 1_000;
 
 /// A queue's length and whether it is closed.
 #[derive(Clone, Copy, Debug)]

@@ -36,8 +36,11 @@ fn queues_and_walks_print_what_they_are(rt: HostRuntime) {
 
 // A glimpse takes no runtime value, so it can't wait for a lock that isn't free: then it gives up.
 #[test]
-fn a_text_looks_under_a_free_lock(rt: HostRuntime) {
+fn a_text_waits_for_no_lock(rt: HostRuntime) {
     let lock = Mutex::new(Unbounded::<u64>::new(rt.alloc()));
+    let held = lock.lock(&rt);
+    holds(&rt, Glimpse::under(&lock).is_none());
+    drop(held);
     let glimpse = Glimpse::under(&lock).map(|it| (it.len, it.is_closed));
     same(&rt, glimpse, Some((0, false)));
     debugs(&rt, &Locked, "<locked>");

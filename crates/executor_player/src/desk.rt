@@ -1,12 +1,11 @@
 //! The executors of a script.
-use crate::answer::Answer;
-use crate::future::{Planned, Scripted};
-use crate::handle::{Held, HoldIn};
-use crate::outside::{Bell, Gift, ScriptTask};
-use crate::shelf::SharedShelf;
-use async_executor::{Executor, SpawnError, StaticExecutor};
-use script::{Item, Name};
-use std::rc::Rc;
+use crate::future::Planned;
+use crate::handle::{HoldIn, ScriptTask, ScriptWaker};
+use async_executor::{Executor, Run, RunError, SpawnError, StaticExecutor, Tick};
+use async_task::{Awaiter, Future, Poll};
+use script_player::{
+    Answer, Bell, Desk, Gift, KeptOf, Own, Plan, Refused, SharedShelf, answer_of_tick, scripted,
+};
 use std::sync::Wait;
 
 /// The executor of a script.
@@ -15,60 +14,42 @@ pub type ScriptExecutor<F, R> = Executor<F, Gift, Bell, R>;
 /// The executor of a script that is static.
 pub type ScriptStatic<F, R> = StaticExecutor<F, Gift, Bell, R>;
 
-/// What a future is made of.
-#[derive(Drop)]
-pub struct Plan<H: Drop> {
-    pub name: Name,
-    pub items: Vec<Item>,
-    /// The handles that its items name.
-    pub held: Vec<Held<H>>,
-}
+/// A tick of a script.
+pub type ScriptTick<'a, F, R> = Tick<'a, F, Gift, Bell, R>;
 
-/// A future wasn't accepted: why, and the handles that it was to hold.
-#[derive(Drop)]
-pub struct Refused<H: Drop> {
-    pub answer: Answer,
-    pub held: Vec<Held<H>>,
-}
-
-/// An executor whose handles are `H`, as a player sees it.
-pub trait Desk<H: Drop> {
-    fn spawn(&self, plan: Plan<H>) -> Result<H, Refused<H>>;
-
-    fn try_tick(&self) -> bool;
-
-    fn is_empty(&self) -> bool;
-
-    /// Whether it can be dropped or leaked.
-    fn may_end(&self) -> bool;
-}
+/// A run of a script.
+pub type ScriptRun<'a, F, H, R> = Run<'a, F, Gift, Bell, R, Own<H>>;
 
 /// An executor of a script, and where the wakers of its futures are kept.
 #[derive(Drop)]
-pub struct OnExecutor<'a, F, R>
+pub struct OnExecutor<'a, F, S, R>
 where
     F: Drop,
+    S: Drop,
     R: Wait + Copy + Drop + 'static,
 {
     pub executor: &'a ScriptExecutor<F, R>,
-    pub shelf: &'a SharedShelf,
+    pub shelf: &'a SharedShelf<S>,
 }
 
 /// The same, of one that is static.
 #[derive(Drop)]
-pub struct OnStatic<'a, F, R>
+pub struct OnStatic<'a, F, S, R>
 where
     F: Drop,
+    S: Drop,
     R: Wait + Copy + Drop + 'static,
 {
     pub executor: &'a ScriptStatic<F, R>,
-    pub shelf: &'a SharedShelf,
+    pub shelf: &'a SharedShelf<S>,
 }
 
-impl<F, H, R> Desk<H> for OnExecutor<'_, F, R>
+impl<'a, F, H, S, R> Desk<H, ScriptTick<'a, F, R>, ScriptRun<'a, F, H, R>>
+    for OnExecutor<'a, F, S, R>
 where
-    F: Planned<H, R>,
+    F: Planned<H, S, R>,
     H: HoldIn<R>,
+    S: KeptOf<ScriptWaker<R>>,
     R: Wait + Copy + Drop + 'static,
 {
     fn spawn(&self, plan: Plan<H>) -> Result<H, Refused<H>> {
@@ -89,12 +70,37 @@ where
     fn may_end(&self) -> bool {
         true
     }
+
+    fn tick(&self) -> Option<ScriptTick<'a, F, R>> {
+        let executor = self.executor;
+        match executor.tick() {
+            Ok(tick) => Some(tick),
+            Err(_) => None,
+        }
+    }
+
+    fn run(&self, own: Own<H>) -> Result<ScriptRun<'a, F, H, R>, Own<H>> {
+        let executor = self.executor;
+        match executor.run(own) {
+            Ok(run) => Ok(run),
+            Err(own) => Err(own),
+        }
+    }
+
+    fn poll_tick(&self, tick: &mut ScriptTick<'a, F, R>, bell: Bell) -> Answer {
+        answer_of_tick(tick.poll(&Awaiter::Outside(bell)))
+    }
+
+    fn poll_run(&self, run: &mut ScriptRun<'a, F, H, R>, bell: Bell) -> Answer {
+        answer_of_run(run.poll(&Awaiter::Outside(bell)))
+    }
 }
 
-impl<F, H, R> Desk<H> for OnStatic<'_, F, R>
+impl<'a, F, H, S, R> Desk<H, ScriptTick<'a, F, R>, ScriptRun<'a, F, H, R>> for OnStatic<'a, F, S, R>
 where
-    F: Planned<H, R>,
+    F: Planned<H, S, R>,
     H: HoldIn<R>,
+    S: KeptOf<ScriptWaker<R>>,
     R: Wait + Copy + Drop + 'static,
 {
     fn spawn(&self, plan: Plan<H>) -> Result<H, Refused<H>> {
@@ -116,34 +122,41 @@ where
     fn may_end(&self) -> bool {
         false
     }
-}
 
-/// A future, as it is planned.
-fn scripted<H: Drop>(shelf: &SharedShelf, plan: Plan<H>) -> Result<Scripted<H>, Refused<H>> {
-    let Plan { name, items, held } = plan;
-    match Rc::clone(shelf) {
-        Ok(shelf) => Ok(Scripted {
-            name,
-            items,
-            next: 0,
-            held,
-            shelf,
-        }),
-        Err(_) => Err(Refused {
-            answer: Answer::NoMemory,
-            held,
-        }),
+    fn tick(&self) -> Option<ScriptTick<'a, F, R>> {
+        let executor = self.executor;
+        match executor.tick() {
+            Ok(tick) => Some(tick),
+            Err(_) => None,
+        }
+    }
+
+    fn run(&self, own: Own<H>) -> Result<ScriptRun<'a, F, H, R>, Own<H>> {
+        let executor = self.executor;
+        match executor.run(own) {
+            Ok(run) => Ok(run),
+            Err(own) => Err(own),
+        }
+    }
+
+    fn poll_tick(&self, tick: &mut ScriptTick<'a, F, R>, bell: Bell) -> Answer {
+        answer_of_tick(tick.poll(&Awaiter::Outside(bell)))
+    }
+
+    fn poll_run(&self, run: &mut ScriptRun<'a, F, H, R>, bell: Bell) -> Answer {
+        answer_of_run(run.poll(&Awaiter::Outside(bell)))
     }
 }
 
 /// What a spawn answers.
-fn answered<F, H, R>(
-    shelf: &SharedShelf,
+fn answered<F, H, S, R>(
+    shelf: &SharedShelf<S>,
     spawned: Result<ScriptTask<R>, SpawnError<F>>,
 ) -> Result<H, Refused<H>>
 where
-    F: Planned<H, R>,
+    F: Planned<H, S, R>,
     H: HoldIn<R>,
+    S: KeptOf<ScriptWaker<R>>,
     R: Wait + Copy + Drop + 'static,
 {
     match spawned {
@@ -159,5 +172,14 @@ where
             answer: Answer::NoMemory,
             held: future.into_held(),
         }),
+    }
+}
+
+fn answer_of_run(polled: Poll<Result<u64, RunError>>) -> Answer {
+    match polled {
+        Poll::Pending => Answer::Pending,
+        Poll::Ready(Ok(number)) => Answer::Output(number),
+        Poll::Ready(Err(RunError::NoMemory)) => Answer::NoMemory,
+        Poll::Ready(Err(RunError::Finished)) => Answer::Finished,
     }
 }

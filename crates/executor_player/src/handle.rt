@@ -1,47 +1,24 @@
-//! The handles of a script's futures.
-use crate::answer::Answer;
-use crate::outside::{Bell, Gift, ScriptCancel, ScriptTask, ScriptWaker};
-use async_task::{Awaiter, Future, NoMemory, Poll, TaskError};
-use script::Name;
+//! The handles of a script's futures, and what is kept of their wakers.
+use async_executor::{ExCancel, ExRealm, ExTask, ExWaker};
+use async_task::{Awaiter, Future, Returning, StoredWaker, Wake};
+use script_player::{Answer, Await, Bell, Gift, Hold, KeptOf, answer_of_cancel, answer_of_task};
 use std::sync::Wait;
 
-/// The handle of a future, as a player sees it. Its drop cancels the future.
-pub trait Hold: Drop {
-    /// Polls it by an outside waker.
-    fn poll_by(&mut self, bell: Bell) -> Answer;
+/// Where the tasks of a script lie.
+pub type ScriptRealm<R> = ExRealm<Gift, Bell, R>;
 
-    /// The handle that cancels the future at its next poll, or has done so.
-    fn cancel(self) -> Self;
+/// The waker that a script's futures, handles, ticks and runs are polled with.
+pub type ScriptWaker<R> = ExWaker<Gift, Bell, R>;
 
-    /// Lets the future run without a handle; one that was cancelled stays so.
-    fn detach(self);
-}
+/// A future's handle before it was cancelled.
+pub type ScriptTask<R> = ExTask<Gift, Bell, R>;
 
-/// The same, as futures see it.
-pub trait HoldIn<R: Wait + Copy + Drop + 'static>: Hold {
+/// A future's handle once it was cancelled.
+pub type ScriptCancel<R> = ExCancel<Gift, Bell, R>;
+
+/// The handle of a future of a running executor.
+pub trait HoldIn<R: Wait + Copy + Drop + 'static>: Hold + Await<ScriptWaker<R>> {
     fn of(task: ScriptTask<R>) -> Self;
-
-    fn poll(&mut self, waker: &ScriptWaker<R>) -> Answer;
-}
-
-/// Twice the output of a handle's future, or 0 where it was cancelled; none as long as neither is known.
-pub fn poll_twice<H, R>(handle: &mut H, waker: &ScriptWaker<R>) -> Option<u64>
-where
-    H: HoldIn<R>,
-    R: Wait + Copy + Drop + 'static,
-{
-    match handle.poll(waker) {
-        Answer::Output(number) => Some(number.saturating_mul(2)),
-        Answer::Cancelled => Some(0),
-        _ => None,
-    }
-}
-
-/// The handle of the future of this name, which another future holds.
-#[derive(Drop)]
-pub struct Held<H: Drop> {
-    pub name: Name,
-    pub handle: H,
 }
 
 /// The handle of a future.
@@ -56,7 +33,9 @@ impl<R: Wait + Copy + Drop + 'static> HoldIn<R> for Handle<R> {
     fn of(task: ScriptTask<R>) -> Self {
         Handle::Task(task)
     }
+}
 
+impl<R: Wait + Copy + Drop + 'static> Await<ScriptWaker<R>> for Handle<R> {
     fn poll(&mut self, waker: &ScriptWaker<R>) -> Answer {
         match self {
             Handle::Task(task) => answer_of_task(task.poll(waker)),
@@ -89,20 +68,19 @@ impl<R: Wait + Copy + Drop + 'static> Hold for Handle<R> {
     }
 }
 
-fn answer_of_task(polled: Poll<Result<Gift, TaskError>>) -> Answer {
-    match polled {
-        Poll::Pending => Answer::Pending,
-        Poll::Ready(Ok(gift)) => Answer::Output(gift.into_number()),
-        Poll::Ready(Err(TaskError::TaskClosed)) => Answer::Cancelled,
-        Poll::Ready(Err(TaskError::NoMemory)) => Answer::NoMemory,
-    }
+/// A waker of a future, at rest.
+#[derive(Drop)]
+pub struct Stored {
+    pub waker: Returning<StoredWaker>,
 }
 
-fn answer_of_cancel(polled: Poll<Result<Option<Gift>, NoMemory>>) -> Answer {
-    match polled {
-        Poll::Pending => Answer::Pending,
-        Poll::Ready(Ok(Some(gift))) => Answer::Output(gift.into_number()),
-        Poll::Ready(Ok(None)) => Answer::Cancelled,
-        Poll::Ready(Err(NoMemory)) => Answer::NoMemory,
+impl<R: Wait + Copy + Drop + 'static> KeptOf<ScriptWaker<R>> for Stored {
+    fn kept_of(waker: &ScriptWaker<R>) -> Option<Stored> {
+        match waker.clone() {
+            Some(Awaiter::Task(copy)) => Some(Stored {
+                waker: Returning::new(copy.store()),
+            }),
+            _ => None,
+        }
     }
 }

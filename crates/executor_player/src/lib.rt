@@ -1,22 +1,14 @@
 //! Plays scripts of whole calls, in the language of `taskrun sim`, on running executors, and gives the text of what happens.
 #![tactic(auto)]
 
-mod answer;
 mod commands;
 mod desk;
-mod errors;
 mod future;
 mod handle;
-mod outside;
-mod own;
-mod player;
+mod keeper;
 mod playing;
-mod seat;
-mod shelf;
-mod sitting;
-mod stage;
 mod theatre;
 
-pub use errors::PlayError;
-pub use outside::{Bell, Gift, ScriptRealm};
+pub use handle::ScriptRealm;
+pub use script_player::{Bell, Gift, PlayError};
 pub use theatre::{ExecutorPlayer, Plays, Theatre};

@@ -30,5 +30,6 @@ module _ {A X B Y : Type 0} where
 
   -- ready with both outputs, which are given then; or pending while one has none, and what is kept stays
   abbrev pub HasJoined : Awaited A X → Awaited B Y → Awaited A X → Awaited B Y → Poll (X × Y) → Type 0
-  HasJoined first second newfirst newsecond (Ready both) = MayGive first both.0 × MayGive second both.1 × (newfirst ≡ Given) × (newsecond ≡ Given)
+  HasJoined first second newfirst newsecond (Ready both) = MayGive first both.0 × MayGive second both.1
+      × (newfirst ≡ Given) × (newsecond ≡ Given)
   HasJoined first second newfirst newsecond Pending = Stays first newfirst × Stays second newsecond × IsPending newfirst newsecond

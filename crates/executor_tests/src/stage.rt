@@ -2,8 +2,10 @@
 //! cheap to prove. No request for memory is refused here, but for copies of wakers.
 ghost use Rattle.std.specs.Prelude.{◌<◌};
 
-use crate::kinds::TestKind;
-use crate::parts::{Bell, Gift, Job, Notes, TestExecutor, TestRealm, TestWaker, Work, drop_stored};
+use crate::parts::{
+    Bell, Gift, Job, Notes, TestExecutor, TestRealm, TestStatic, TestTask, TestWaker, Work,
+    drop_stored,
+};
 use async_executor::{Run, RunError, Tick};
 use async_task::{Awaiter, Future, NoMemory, Poll, RealmError, Returning, StoredTask};
 use std::alloc::Global;
@@ -63,6 +65,13 @@ where
     Run(Run<'a, F, Gift, Bell, R, F>),
 }
 
+/// An executor of either kind.
+#[derive(Drop)]
+pub enum TestKind<F: Drop, R: Wait + Copy + Drop + 'static> {
+    Owned(TestExecutor<F, R>),
+    Static(TestStatic<F, R>),
+}
+
 /// An executor with its notes.
 #[derive(Drop)]
 pub struct Stage<F: Drop, R: Wait + Copy + Drop + 'static> {
@@ -101,16 +110,21 @@ impl<F: Planned<R>, R: Abort + Wait + Copy + Drop + 'static> Stage<F, R> {
         let Ok(realm) = realm else {
             panic!(rt; "no realm");
         };
-        match TestKind::new(rt, alloc, realm, is_static, limit) {
-            Ok(executor) => Stage {
-                rt,
-                alloc,
-                realm,
-                notes: Notes::new(alloc, limit).expect(&rt, "memory"),
-                executor,
-                accepted: AtomicU64::new(0),
-            },
-            Err(_) => panic!(rt; "memory"),
+        let made = if is_static {
+            TestStatic::new(rt, alloc, realm, limit).map(TestKind::Static)
+        } else {
+            TestExecutor::new(rt, alloc, realm, limit).map(TestKind::Owned)
+        };
+        let Ok(executor) = made else {
+            panic!(rt; "memory");
+        };
+        Stage {
+            rt,
+            alloc,
+            realm,
+            notes: Notes::new(alloc, limit).expect(&rt, "memory"),
+            executor,
+            accepted: AtomicU64::new(0),
         }
     }
 
@@ -157,26 +171,41 @@ impl<F: Planned<R>, R: Abort + Wait + Copy + Drop + 'static> Stage<F, R> {
         })
     }
 
+    fn spawned(&self, future: F) -> Option<TestTask<R>> {
+        let spawned = match &self.executor {
+            TestKind::Owned(executor) => executor.spawn(future),
+            TestKind::Static(executor) => executor.spawn(future),
+        };
+        let Ok(task) = spawned else {
+            return None;
+        };
+        self.accepted.fetch_add(1, SeqCst);
+        Some(task)
+    }
+
     /// Spawns a future. Its handle is the answer, where it is accepted.
     pub fn spawn(&self, future: F) -> Option<Returning<StoredTask>> {
-        match self.executor.spawn(future) {
-            Ok(task) => {
-                self.accepted.fetch_add(1, SeqCst);
-                Some(Returning::new(task.store()))
-            }
-            Err(_) => None,
+        match self.spawned(future) {
+            Some(task) => Some(Returning::new(task.store())),
+            None => None,
         }
     }
 
     /// Spawns a future and gives its handle up, and says whether it was accepted.
     pub fn spawn_detached(&self, future: F) -> bool {
-        match self.executor.spawn(future) {
-            Ok(task) => {
-                self.accepted.fetch_add(1, SeqCst);
+        match self.spawned(future) {
+            Some(task) => {
                 task.detach();
                 true
             }
-            Err(_) => false,
+            None => false,
+        }
+    }
+
+    pub fn try_tick(&self) -> bool {
+        match &self.executor {
+            TestKind::Owned(executor) => executor.try_tick(),
+            TestKind::Static(executor) => executor.try_tick(),
         }
     }
 
@@ -187,7 +216,7 @@ impl<F: Planned<R>, R: Abort + Wait + Copy + Drop + 'static> Stage<F, R> {
 
     /// A tick, or nothing where it was refused.
     pub fn tick(&self) -> Seat<'_, F, R> {
-        match self.executor.tick() {
+        match self.owned().tick() {
             Ok(tick) => Seat::Tick(tick),
             Err(_) => Seat::Free,
         }
@@ -200,7 +229,11 @@ impl<F: Planned<R>, R: Abort + Wait + Copy + Drop + 'static> Stage<F, R> {
 
     /// A run of this future, or nothing where it was refused.
     pub fn run_of(&self, own: F, seed: u64) -> Seat<'_, F, R> {
-        match self.executor.run_from(own, seed) {
+        let made = match &self.executor {
+            TestKind::Owned(executor) => executor.run_from(own, seed),
+            TestKind::Static(executor) => executor.run_from(own, seed),
+        };
+        match made {
             Ok(run) => Seat::Run(run),
             Err(_) => Seat::Free,
         }

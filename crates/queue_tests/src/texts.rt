@@ -86,8 +86,8 @@ fn items_keep_what_their_type_promises(rt: HostRuntime) {
     same(&rt, value(queue.pop(&rt).ok()), 0);
 }
 
-// Pushes an item. A push that is refused has changed nothing, and the next one is accepted. The next two tests also pass where
-// any one allocation is refused: `rt try --test --fail-alloc N`.
+// Pushes an item. A push that is refused has changed nothing, and the next one is accepted. The next test also passes where any
+// one allocation is refused: `rt try --test --fail-alloc N`.
 fn push_or_push_again<R: Wait + Abort>(rt: &R, queue: &ConcurrentQueue<u64>, item: u64) {
     let before = queue.len(rt);
     if let Err(refused) = queue.push(rt, item) {
@@ -105,20 +105,6 @@ fn a_refused_shared_push_hands_back_the_value_and_changes_nothing(rt: HostRuntim
     }
     for item in 0..100u64 {
         same(&rt, queue.pop(&rt), Ok(item));
-    }
-}
-
-// Ten forced pushes find room, and leave the last four items.
-#[test]
-fn a_shared_ring_is_refused_whole_or_takes_no_more_memory(rt: HostRuntime) {
-    match ConcurrentQueue::bounded(rt.alloc(), 4) {
-        Err(refused) => same(&rt, refused, NoMemory),
-        Ok(queue) => {
-            for item in 0..10u64 {
-                holds(&rt, queue.force_push(&rt, item).is_ok());
-            }
-            same(&rt, queue.pop(&rt), Ok(6));
-        }
     }
 }
 

@@ -14,5 +14,3 @@ mod refusals;
 mod rows;
 #[cfg(test)]
 mod scripts;
-#[cfg(test)]
-mod worker;

@@ -1,6 +1,6 @@
 //! Lists of steps as rows, each with what comes of it, which one loop goes through.
 use executor_core::{Kind, Machine};
-use executor_model::{Answer, Call, Event, Hint, Reply, Step, StepError, UserEnd};
+use executor_model::{Answer, Call, Event, Hint, Op, Reply, Step, StepError, UserEnd, UserOp};
 use std::process::Abort;
 
 pub const PENDING: UserEnd = UserEnd::Polled(Answer::Pending);
@@ -14,18 +14,16 @@ pub const DONE: UserEnd = UserEnd::Done;
 pub enum Row {
     /// A list begins, on a new machine.
     New,
-    /// A list begins, on a new static machine.
-    NewStatic,
     /// It begins a call.
     Begins(u32, Call),
     /// It takes so many steps.
     Goes(u32, u32),
-    /// It takes a step in which a request for memory is refused.
-    GoesRefused(u32),
     /// It goes on until its calls have ended. User code ends in these ways, in turn, and the last call has this answer.
     Ends(u32, &'static [UserEnd], Reply),
     /// It makes a whole call, by both of these.
     Makes(u32, Call, &'static [UserEnd], Reply),
+    /// It makes a whole `TryTick`, whose future makes these whole calls in its poll, has these answers, and is pending.
+    Polls(u32, &'static [(Call, Reply)]),
     /// The call that it ended right before had this answer.
     Answered(Reply),
     /// It may begin none of these calls, and nothing changes.
@@ -36,7 +34,8 @@ pub enum Row {
     Unanswered(u32, UserEnd, StepError),
 }
 
-fn go(party: u32, refused: bool) -> Step {
+/// A party's next step, whose request for memory, if it makes one, may be refused.
+pub fn go(party: u32, refused: bool) -> Step {
     let (same, start) = (false, 0);
     let hint = Hint {
         refused,
@@ -70,8 +69,36 @@ fn finish(machine: &mut Machine, party: u32, ends: &[UserEnd]) -> Option<Reply> 
     None
 }
 
-fn has_begun(machine: &mut Machine, party: u32, call: Call) -> bool {
+/// Whether the party may begin the call.
+pub fn has_begun(machine: &mut Machine, party: u32, call: Call) -> bool {
     machine.run(&[Step::Begin { party, call }]).is_none()
+}
+
+fn is_in_poll(machine: &Machine, party: u32) -> bool {
+    matches!(machine.top(party), Some(Op::User(UserOp::Poll(_))))
+}
+
+/// The party goes on until it stands in the poll of a future. Says whether it came to that.
+pub fn comes_to_poll(machine: &mut Machine, party: u32) -> bool {
+    for _ in 0..128 {
+        if is_in_poll(machine, party) || machine.step(go(party, false)).is_err() {
+            break;
+        }
+    }
+    is_in_poll(machine, party)
+}
+
+// It makes the whole call in a poll that it stands in.
+fn makes_in_poll(machine: &mut Machine, party: u32, call: Call) -> Option<Reply> {
+    let is_made = has_begun(machine, party, call) && comes_to_poll(machine, party);
+    if is_made { last_reply(machine) } else { None }
+}
+
+fn polls(machine: &mut Machine, party: u32, calls: &[(Call, Reply)]) -> bool {
+    has_begun(machine, party, Call::TryTick)
+        && comes_to_poll(machine, party)
+        && calls.iter().all(|(call, reply)| makes_in_poll(machine, party, *call) == Some(*reply))
+        && finish(machine, party, &[PENDING]) == Some(Reply::Yes)
 }
 
 fn has_gone(machine: &mut Machine, party: u32, steps: u32) -> bool {
@@ -90,14 +117,14 @@ fn are_refused(machine: &mut Machine, party: u32, calls: &[Call], error: StepErr
 
 fn is_met(machine: &mut Machine, row: Row) -> bool {
     match row {
-        Row::New | Row::NewStatic => true,
+        Row::New => true,
         Row::Begins(party, call) => has_begun(machine, party, call),
         Row::Goes(party, steps) => has_gone(machine, party, steps),
-        Row::GoesRefused(party) => machine.step(go(party, true)).is_ok(),
         Row::Ends(party, ends, reply) => finish(machine, party, ends) == Some(reply),
         Row::Makes(party, call, ends, reply) => {
             has_begun(machine, party, call) && finish(machine, party, ends) == Some(reply)
         }
+        Row::Polls(party, calls) => polls(machine, party, calls),
         Row::Answered(reply) => last_reply(machine) == Some(reply),
         Row::Refused(party, calls, error) => are_refused(machine, party, calls, error),
         Row::Stands(party, error) => is_refused(machine, go(party, false), error),
@@ -107,28 +134,19 @@ fn is_met(machine: &mut Machine, row: Row) -> bool {
     }
 }
 
-// The kind of the machine on which a list begins with this row.
-fn new_kind(row: Row) -> Option<Kind> {
-    match row {
-        Row::New => Some(Kind::Owned),
-        Row::NewStatic => Some(Kind::Static),
-        _ => None,
-    }
+/// A machine of three parties with places for so many futures.
+pub fn new_machine<R: AllocGlobal + Abort>(rt: &R, limit: u64) -> Machine {
+    Machine::new(rt.alloc(), limit, Kind::Owned, 3).expect(rt, "room for three parties")
 }
 
-// A machine of three parties with places for two futures.
-fn new_machine<R: AllocGlobal + Abort>(rt: &R, kind: Kind) -> Machine {
-    Machine::new(rt.alloc(), 2, kind, 3).expect(rt, "room for three parties")
-}
-
-/// Each list of these rows is played on a machine of its own.
+/// Each list of these rows is played on a machine of its own, with places for two futures.
 pub fn plays<R: AllocGlobal + Abort>(rt: &R, rows: &[Row]) {
-    let mut machine = new_machine(rt, Kind::Owned);
+    let mut machine = new_machine(rt, 2);
     let (mut list, mut number) = (0u64, 0u64);
     for row in rows {
         number = number.saturating_add(1);
-        if let Some(kind) = new_kind(*row) {
-            machine = new_machine(rt, kind);
+        if let Row::New = *row {
+            machine = new_machine(rt, 2);
             (list, number) = (list.saturating_add(1), 0);
         }
         assert!(rt; is_met(&mut machine, *row), "list {list}: row {number}");

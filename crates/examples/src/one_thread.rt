@@ -1,4 +1,4 @@
-//! A program on one thread, as a user writes it: the README of `local_executor` shows what stands here.
+//! An executor of one thread: the README of `local_executor` shows what stands here.
 use async_task::{Future, Nobody, Poll, Wake};
 use local_executor::{LocalExWaker, LocalExecutor};
 use std::test::Fail;

@@ -1,4 +1,4 @@
-//! A program with two threads, as a user writes it: the README shows what stands here.
+//! Two threads that run one executor: the README of `async_executor` shows what stands here.
 use async_executor::Executor;
 use async_task::{Future, Poll, Realm, Wake};
 use blocking::{ThreadWaker, block_on};

@@ -1,7 +1,6 @@
-//! An executor of one future, as a user of this crate writes it: the README shows what stands here.
-//! It runs the future as long as that wakes itself, and polls its handle then.
-use crate::calls::same;
-use crate::parts::Sum;
+//! An executor of one's own, of one future: the README of `async_task` shows what stands here. It runs the future, that of
+//! `first_task`, as long as that wakes itself, and polls its handle then.
+use crate::first_task::Sum;
 use async_task::{
     Awaiter, Future, Nobody, Poll, Realm, Returning, Schedule, ScheduleInfo, Scheduled,
     StoredRunnable, TaskError, spawn,
@@ -46,6 +45,6 @@ pub fn run<R: Wait + Copy + Drop + 'static>(
 fn an_executor_of_one_future_runs_it_to_its_end(rt: HostRuntime) -> Result<(), Fail> {
     let realm = Realm::leak(rt, rt.alloc())?;
     let polled = run(rt, rt.alloc(), realm, Sum { left: 4, sum: 0 })?;
-    same(&rt, polled, Poll::Ready(Ok(10)));
+    assert!(rt; matches!(polled, Poll::Ready(Ok(10))));
     Ok(())
 }

@@ -244,12 +244,12 @@ impl<R: Wait + Copy + Drop + 'static> Job<R> {
                 waker.wake_by_ref();
                 None
             }
-            Work::Meddle(meddler) if !meddler.has_given_way => {
-                meddler.has_given_way = true;
-                waker.wake_by_ref();
-                None
-            }
             Work::Meddle(meddler) => {
+                if !meddler.has_given_way {
+                    meddler.has_given_way = true;
+                    waker.wake_by_ref();
+                    return None;
+                }
                 let Some(stored) = mem::replace(&mut meddler.other, None) else {
                     return Some(self.name);
                 };

@@ -49,8 +49,6 @@ pub enum End {
     NoMemory,
     /// The run gave its output before.
     Finished,
-    /// There is nothing to poll.
-    Nothing,
 }
 
 /// A tick or run.
@@ -60,7 +58,6 @@ where
     F: Drop,
     R: Wait + Copy + Drop + 'static,
 {
-    Free,
     Tick(Tick<'a, F, Gift, Bell, R>),
     Run(Run<'a, F, Gift, Bell, R, F>),
 }
@@ -110,13 +107,16 @@ impl<F: Planned<R>, R: Abort + Wait + Copy + Drop + 'static> Stage<F, R> {
         let Ok(realm) = realm else {
             panic!(rt; "no realm");
         };
-        let made = if is_static {
-            TestStatic::new(rt, alloc, realm, limit).map(TestKind::Static)
+        let executor = if is_static {
+            let Ok(executor) = TestStatic::new(rt, alloc, realm, limit) else {
+                panic!(rt; "memory");
+            };
+            TestKind::Static(executor)
         } else {
-            TestExecutor::new(rt, alloc, realm, limit).map(TestKind::Owned)
-        };
-        let Ok(executor) = made else {
-            panic!(rt; "memory");
+            let Ok(executor) = TestExecutor::new(rt, alloc, realm, limit) else {
+                panic!(rt; "memory");
+            };
+            TestKind::Owned(executor)
         };
         Stage {
             rt,
@@ -214,20 +214,20 @@ impl<F: Planned<R>, R: Abort + Wait + Copy + Drop + 'static> Stage<F, R> {
         drop_stored(self.rt, self.realm, stored);
     }
 
-    /// A tick, or nothing where it was refused.
+    /// A tick.
     pub fn tick(&self) -> Seat<'_, F, R> {
         match self.owned().tick() {
             Ok(tick) => Seat::Tick(tick),
-            Err(_) => Seat::Free,
+            Err(_) => panic!(self.rt; "memory"),
         }
     }
 
-    /// A run whose own future does this, or nothing where it was refused.
+    /// A run whose own future does this.
     pub fn run(&self, own: Work, seed: u64) -> Seat<'_, F, R> {
         self.run_of(self.job(OWN, own), seed)
     }
 
-    /// A run of this future, or nothing where it was refused.
+    /// A run of this future.
     pub fn run_of(&self, own: F, seed: u64) -> Seat<'_, F, R> {
         let made = match &self.executor {
             TestKind::Owned(executor) => executor.run_from(own, seed),
@@ -235,7 +235,7 @@ impl<F: Planned<R>, R: Abort + Wait + Copy + Drop + 'static> Stage<F, R> {
         };
         match made {
             Ok(run) => Seat::Run(run),
-            Err(_) => Seat::Free,
+            Err(_) => panic!(self.rt; "memory"),
         }
     }
 
@@ -243,7 +243,6 @@ impl<F: Planned<R>, R: Abort + Wait + Copy + Drop + 'static> Stage<F, R> {
     pub fn poll(&self, seat: &mut Seat<'_, F, R>) -> End {
         let waker = self.bell();
         match seat {
-            Seat::Free => End::Nothing,
             Seat::Tick(tick) => end_of_tick(tick.poll(&waker)),
             Seat::Run(run) => end_of_run(run.poll(&waker)),
         }

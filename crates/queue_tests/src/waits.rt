@@ -19,7 +19,7 @@ fn total(ends: Result<Vec<u64>, AllocError>) -> u64 {
 fn each_message_is_received_once(rt: HostRuntime) -> io::Result<()> {
     let alloc = rt.alloc();
     let (sender, receiver) = channel::bounded::<u64, ThreadWaker, _>(rt, alloc, 2)?;
-    let sends = &|_| {
+    let sends = |_| {
         let Ok(mut mine) = sender.clone() else {
             return 0;
         };
@@ -32,11 +32,11 @@ fn each_message_is_received_once(rt: HostRuntime) -> io::Result<()> {
         sent
     };
     let send = || {
-        let ends = thread::map_indices(&rt, alloc, 2, sends);
+        let ends = thread::map_indices(&rt, alloc, 2, &sends);
         sender.close();
         total(ends)
     };
-    let receives = &|_| {
+    let receives = |_| {
         let Ok(mut mine) = receiver.clone() else {
             return 0;
         };
@@ -49,7 +49,7 @@ fn each_message_is_received_once(rt: HostRuntime) -> io::Result<()> {
         }
         sum
     };
-    let receive = || total(thread::map_indices(&rt, alloc, 2, receives));
+    let receive = || total(thread::map_indices(&rt, alloc, 2, &receives));
     let (sent, received) = thread::join(&rt, send, receive);
     assert!(rt; (sent == 250_500) & (received == 250_500));
     Ok(())

@@ -1,6 +1,5 @@
 //! Wakers of an executor of one thread are called on other threads.
 use crate::door::{Visitor, new_door};
-use crate::moving::{Ready, send_last_waker, send_waker};
 use async_task::{Future, Nobody, Poll, Wake};
 use local_executor::{LocalExWaker, LocalExecutor, TaskError};
 use std::rc::Rc;
@@ -44,18 +43,6 @@ fn a_waker_is_called_10_000_times_while_its_executor_ticks(rt: HostRuntime) -> R
     assert!(rt; (door.polls.get() > 1) & !executor.try_tick());
     drop(handle);
     assert!(rt; executor.try_tick() & executor.is_empty());
-    Ok(())
-}
-
-#[test]
-fn wakers_may_go_to_another_thread(rt: HostRuntime) -> Result<(), Fail> {
-    let executor = LocalExecutor::<Ready, u64, Nobody, HostRuntime>::new(rt, rt.alloc(), 1)?;
-    let (Ok(handle), Ok(tick)) = (executor.spawn(Ready(1)), executor.tick()) else {
-        panic!(rt; "refused");
-    };
-    send_waker(&executor, handle, tick, LocalExWaker::Outside(Nobody));
-    assert!(rt; executor.is_empty());
-    send_last_waker(executor, LocalExWaker::Outside(Nobody));
     Ok(())
 }
 

@@ -2,7 +2,7 @@
 use crate::calls::{Stage, holds, same, shown};
 use crate::parts::{Tasks, drop_cancel, drop_waker};
 use async_task::{
-    Builder, Cells, NoMemory, Poll, RealmError, Schedule, ScheduleInfo, TaskError, WithInfo,
+    Builder, Cells, NoMemory, RealmError, Schedule, ScheduleInfo, TaskError, WithInfo,
 };
 use std::fmt::Debug;
 use std::io::{self, ErrorKind};
@@ -90,12 +90,17 @@ fn plain_types_are_copied_compared_and_shown(rt: HostRuntime) {
     same(&rt, Builder::default(), Builder::new());
 }
 
-/// The handles and wakers move to other threads and are shared with them, where the task's parts
-/// are.
+/// The handles and wakers move to other threads and are shared with them, where the task's parts are. Their texts have the marks of
+/// the task at that moment, which scripts compare.
 #[test]
 fn handles_move_and_are_shared(rt: HostRuntime) {
     let stage = Stage::new(rt, rt.alloc(), Tasks::leak(rt, rt.alloc()));
     let (runnable, task) = stage.task(0, false);
+    shown(
+        &rt,
+        &runnable,
+        "Runnable { scheduled: true, running: false, completed: false, closed: false, awaiter: false, task: true, ref_count: 1, metadata: 7 }",
+    );
     let runnable = moves_and_is_shared(runnable);
     let waker = moves_and_is_shared(stage.waker(&runnable));
     let task = moves_and_is_shared(moves_and_is_shared(task).fallible());
@@ -103,25 +108,4 @@ fn handles_move_and_are_shared(rt: HostRuntime) {
     stage.run(runnable);
     drop_waker(waker);
     stage.seen((0, 0, 1, 1));
-}
-
-/// A handle's text has the marks of its task at that moment, and how many references there are.
-#[test]
-fn a_handle_is_shown_with_the_marks_of_its_task(rt: HostRuntime) {
-    let stage = Stage::new(rt, rt.alloc(), Tasks::leak(rt, rt.alloc()));
-    let (runnable, mut task) = stage.task(0, false);
-    shown(
-        &rt,
-        &runnable,
-        "Runnable { scheduled: true, running: false, completed: false, closed: false, awaiter: false, task: true, ref_count: 1, metadata: 7 }",
-    );
-    stage.poll(&mut task, &stage.bell(false), Poll::Pending);
-    let waker = stage.waker(&runnable);
-    let task = task.fallible();
-    shown(
-        &rt,
-        &task,
-        "FallibleTask { scheduled: true, running: false, completed: false, closed: false, awaiter: true, task: true, ref_count: 2, metadata: 7 }",
-    );
-    drop_waker(waker);
 }

@@ -1,17 +1,55 @@
 //! Many of a kind, one after the other.
-use crate::parts::{Bell, Gift, Job, TestRealm, Work};
+use crate::parts::{Bell, Gift, Job, TestRealm, TestWaker, Work};
 use crate::stage::{Planned, Stage};
-use async_executor::SpawnError;
-use async_task::{Future, Poll};
+use async_executor::{Handles, SpawnError};
+use async_task::{Future, Poll, Returning, StoredTask};
+use std::mem;
 use std::process::Abort;
 use std::sync::Wait;
 use std::sync::atomic::Ordering::SeqCst;
-use workers::JoinAll;
+
+/// Awaits handles in order, and gives the number of outputs that came as numbered from 0 on.
+#[derive(Drop)]
+struct InOrder<R: Wait + Copy + Drop + 'static> {
+    rt: R,
+    realm: &'static TestRealm<R>,
+    handles: Handles<Gift, Bell, R>,
+    /// The handle that it waits for.
+    awaited: Option<Returning<StoredTask>>,
+    next: u64,
+}
+
+impl<R: Wait + Copy + Drop + 'static> Future<TestWaker<R>> for InOrder<R> {
+    type Output = u64;
+
+    fn poll(&mut self, waker: &TestWaker<R>) -> Poll<u64> {
+        for _ in 0..=self.handles.len() {
+            let task = match mem::replace(&mut self.awaited, None) {
+                Some(stored) => stored.redeem(self.rt, self.realm),
+                None => self.handles.pop_front(),
+            };
+            let Some(mut task) = task else {
+                return Poll::Ready(self.next);
+            };
+            match task.poll(waker) {
+                Poll::Ready(Ok(gift)) if gift.number() == self.next => {
+                    self.next = self.next.saturating_add(1);
+                }
+                Poll::Ready(_) => return Poll::Ready(self.next),
+                Poll::Pending => {
+                    self.awaited = Some(Returning::new(task.store()));
+                    return Poll::Pending;
+                }
+            }
+        }
+        Poll::Ready(self.next)
+    }
+}
 
 impl<F: Planned<R>, R: Abort + Wait + Copy + Drop + 'static> Stage<F, R> {
     /// Spawns so many futures in one call, which are ready or wait for ever: what awaits them in order, and the name of the one
     /// that was refused since the executor is full.
-    fn in_order(&self, count: u64, are_ready: bool) -> (JoinAll<Gift, Bell, R>, Option<u64>) {
+    fn in_order(&self, count: u64, are_ready: bool) -> (InOrder<R>, Option<u64>) {
         let mut futures = Vec::new(self.alloc);
         for name in 0..count {
             let work = match are_ready {
@@ -23,33 +61,39 @@ impl<F: Planned<R>, R: Abort + Wait + Copy + Drop + 'static> Stage<F, R> {
             }
         }
         let (handles, refused) = self.owned().spawn_many(&mut futures.into_iter());
+        let in_order = InOrder {
+            rt: self.rt,
+            realm: self.realm,
+            handles,
+            awaited: None,
+            next: 0,
+        };
         let refused = match refused {
             Err(SpawnError::Full(future)) => Some(future.name()),
             Err(SpawnError::NoMemory(_future)) => None,
             Ok(()) => None,
         };
-        (
-            JoinAll::new(self.rt, self.alloc, self.realm, handles),
-            refused,
-        )
+        (in_order, refused)
     }
 
-    /// Polls a run of what awaits others until that is ready, and so often at most: how many outputs came, and how many polls
-    /// were pending; none where they aren't numbered from 0 on.
-    fn run_to_its_end(&self, all: JoinAll<Gift, Bell, R>, most: u64) -> Option<(u64, u64)> {
-        let Ok(mut run) = self.owned().run(all) else {
-            return None;
+    /// Runs a future, and polls the run so often at most: its output, and how many polls were pending.
+    fn run_to_its_end<G>(&self, future: G, most: u64) -> (u64, u64)
+    where
+        G: Future<TestWaker<R>, Output = u64> + Drop,
+    {
+        let Ok(mut run) = self.owned().run(future) else {
+            return (0, 0);
         };
         let waker = self.bell();
-        let mut ended = None;
+        let mut ended = (0, most);
         for polls in 0..most {
-            if let Poll::Ready(outputs) = run.poll(&waker) {
-                if let Ok(Ok(gifts)) = outputs {
-                    let count = gifts.len() as u64;
-                    let are_numbered = gifts.iter().map(|gift| gift.number()).eq(0..count);
-                    ended = are_numbered.then_some((count, polls));
+            match run.poll(&waker) {
+                Poll::Ready(Ok(output)) => {
+                    ended = (output, polls);
+                    break;
                 }
-                break;
+                Poll::Ready(Err(_)) => break,
+                Poll::Pending => {}
             }
         }
         ended
@@ -66,7 +110,7 @@ fn a_run_awaits_fifty_thousand_handles_in_order(rt: HostRuntime) {
         let (future, was_refused) = stage.in_order(count, true);
         are_well = are_well
             & (was_refused == refused)
-            & (stage.run_to_its_end(future, 999) == Some(came));
+            & (stage.run_to_its_end(future, 999) == came);
     }
     for each in &stage.notes.each {
         let is_well = (each.polls.load(SeqCst), each.drops.load(SeqCst)) == (1, 1);

@@ -256,26 +256,27 @@ impl<R: Wait + Copy + Drop + 'static> Job<R> {
                 let Some(task) = stored.redeem(self.rt, self.realm) else {
                     return Some(self.name);
                 };
-                let is_done = meddler.meddles(self.name, task, &self.notes, waker);
-                is_done.then_some(self.name)
+                if self.name % 4 < 2 {
+                    return meddler
+                        .awaits(task, &self.notes, waker)
+                        .then_some(self.name);
+                }
+                give_up(self.name, task, waker);
+                Some(self.name)
             }
         }
     }
 }
 
 impl Meddler {
-    /// Does what the name says, and says whether that is done. Only who awaits goes on after that, and the handle stays.
-    fn meddles<R: Wait + Copy + Drop + 'static>(
+    /// Polls the other's handle, and says whether its task has ended. The handle stays.
+    fn awaits<R: Wait + Copy + Drop + 'static>(
         &mut self,
-        name: u64,
-        mut task: TestTask<R>,
+        task: TestTask<R>,
         notes: &Notes,
         waker: &TestWaker<R>,
     ) -> bool {
-        if name % 4 > 1 {
-            give_up(name, task, waker);
-            return true;
-        }
+        let mut task = task;
         let polled = task.poll(waker);
         self.other = Some(Returning::new(task.store()));
         match polled {

@@ -6,7 +6,7 @@ use crate::parts::{
     Bell, Gift, Job, Notes, TestExecutor, TestRealm, TestStatic, TestTask, TestWaker, Work,
     drop_stored,
 };
-use async_executor::{Run, RunError, Tick};
+use async_executor::{Run, RunError, SpawnError, Tick};
 use async_task::{Awaiter, Future, NoMemory, Poll, RealmError, Returning, StoredTask};
 use std::alloc::Global;
 use std::process::Abort;
@@ -171,34 +171,33 @@ impl<F: Planned<R>, R: Abort + Wait + Copy + Drop + 'static> Stage<F, R> {
         })
     }
 
-    fn spawned(&self, future: F) -> Option<TestTask<R>> {
-        let spawned = match &self.executor {
+    fn accept(&self, future: F) -> Result<TestTask<R>, SpawnError<F>> {
+        match &self.executor {
             TestKind::Owned(executor) => executor.spawn(future),
             TestKind::Static(executor) => executor.spawn(future),
-        };
-        let Ok(task) = spawned else {
-            return None;
-        };
-        self.accepted.fetch_add(1, SeqCst);
-        Some(task)
+        }
     }
 
     /// Spawns a future. Its handle is the answer, where it is accepted.
     pub fn spawn(&self, future: F) -> Option<Returning<StoredTask>> {
-        match self.spawned(future) {
-            Some(task) => Some(Returning::new(task.store())),
-            None => None,
+        match self.accept(future) {
+            Ok(task) => {
+                self.accepted.fetch_add(1, SeqCst);
+                Some(Returning::new(task.store()))
+            }
+            Err(_) => None,
         }
     }
 
     /// Spawns a future and gives its handle up, and says whether it was accepted.
     pub fn spawn_detached(&self, future: F) -> bool {
-        match self.spawned(future) {
-            Some(task) => {
+        match self.accept(future) {
+            Ok(task) => {
+                self.accepted.fetch_add(1, SeqCst);
                 task.detach();
                 true
             }
-            None => false,
+            Err(_) => false,
         }
     }
 

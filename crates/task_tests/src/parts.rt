@@ -212,8 +212,8 @@ pub fn next<R: Wait + Copy + Drop + 'static>(
     realm: &'static Tasks<R>,
     counts: &Counts,
 ) -> Option<TestRunnable<R>> {
-    let stored = counts.queue.lock(&rt).pop()?;
-    match stored.redeem(rt, realm) {
+    let stored = counts.queue.lock(&rt).pop();
+    match stored?.redeem(rt, realm) {
         Some(scheduled) => Some(scheduled.into_runnable()),
         None => None,
     }

@@ -12,7 +12,7 @@ use std::thread::Threads;
 
 type HostPlace = JobPlace<Open, HostRuntime>;
 
-const TWO_JOBS: &[u8] = b"sum 10\nmul 18446744073709551615 2\n";
+const TWO_JOBS: &str = "sum 10\nmul 18446744073709551615 2\n";
 
 const TWO_ANSWERS: &str = "0 55\n1 too large\n";
 
@@ -69,78 +69,119 @@ where
     }
 }
 
-/// The words behind the program's name, the input, and what is written or the fault.
-type Row = (
-    &'static [&'static str],
-    &'static [u8],
-    Result<&'static str, Fault>,
-);
-
-const ROWS: &[Row] = &[
-    // Answers come in order.
-    (&["jobs", "2"], TWO_JOBS, Ok(TWO_ANSWERS)),
-    (&["jobs", "1"], b"", Ok("")),
-    (&["jobs", "64"], b"sum 0", Ok("0 0\n")),
-    (
-        &["jobs", "3"],
-        b"sum 000007\nmul 0 00000000000000000009\n",
-        Ok("0 28\n1 0\n"),
-    ),
-    (
-        &["jobs", "1"],
-        b"mul 18446744073709551615 00000000000000000001",
-        Ok("0 18446744073709551615\n"),
-    ),
-    // The first bad line is named. Bytes that are no text are one.
-    (&["jobs", "2"], b"sum 1000001\n", Err(Fault::BadLine(1))),
-    (&["jobs", "2"], b"sum 1\n\nsum 2\n", Err(Fault::BadLine(2))),
-    (
-        &["jobs", "2"],
-        b"sum 1\nmul 18446744073709551616 1\nsum\n",
-        Err(Fault::BadLine(2)),
-    ),
-    (
-        &["jobs", "2"],
-        b"sum 000000000000000000001\n",
-        Err(Fault::BadLine(1)),
-    ),
-    (&["jobs", "2"], b"mul 1  2\n", Err(Fault::BadLine(1))),
-    (&["jobs", "2"], b"sum -1\n", Err(Fault::BadLine(1))),
-    (&["jobs", "2"], b"sum 1\r\n", Err(Fault::BadLine(1))),
-    (&["jobs", "2"], b"sum 1\nadd 1\n", Err(Fault::BadLine(2))),
-    (
-        &["jobs", "2"],
-        b"sum 1\n\xff\xfe\0\n",
-        Err(Fault::BadLine(2)),
-    ),
-    // A script is run where that is asked.
-    (&["sim"], b"limit 1\ntry\n", Ok("try: false\n")),
-    // Other words are a usage fault.
-    (&["jobs", "0"], TWO_JOBS, Err(Fault::Usage)),
-    (&["jobs", "65"], TWO_JOBS, Err(Fault::Usage)),
-    (&["jobs", "two"], TWO_JOBS, Err(Fault::Usage)),
-    (&["jobs", ""], TWO_JOBS, Err(Fault::Usage)),
-    (&["jobs", "+1"], TWO_JOBS, Err(Fault::Usage)),
-    (
-        &["jobs", "000000000000000000001"],
-        TWO_JOBS,
-        Err(Fault::Usage),
-    ),
-    (&["sim", "1"], TWO_JOBS, Err(Fault::Usage)),
-    (&["jobs"], TWO_JOBS, Err(Fault::Usage)),
-    (&["Sim"], TWO_JOBS, Err(Fault::Usage)),
-    (&[""], TWO_JOBS, Err(Fault::Usage)),
-];
+#[test]
+fn answers_come_in_order_or_the_first_bad_line_is_named(rt: HostRuntime) -> Result<(), Fail> {
+    let realm = JobRealm::<HostRuntime>::leak(rt, rt.alloc())?;
+    for (workers, input, want) in [
+        ("2", TWO_JOBS, Ok(TWO_ANSWERS)),
+        ("1", "", Ok("")),
+        ("64", "sum 0", Ok("0 0\n")),
+        (
+            "3",
+            "sum 000007\nmul 0 00000000000000000009\n",
+            Ok("0 28\n1 0\n"),
+        ),
+        (
+            "1",
+            "mul 18446744073709551615 00000000000000000001",
+            Ok("0 18446744073709551615\n"),
+        ),
+        ("2", "sum 1000001\n", Err(Fault::BadLine(1))),
+        ("2", "sum 1\n\nsum 2\n", Err(Fault::BadLine(2))),
+        (
+            "2",
+            "sum 1\nmul 18446744073709551616 1\nsum\n",
+            Err(Fault::BadLine(2)),
+        ),
+        ("2", "sum 000000000000000000001\n", Err(Fault::BadLine(1))),
+        ("2", "mul 1  2\n", Err(Fault::BadLine(1))),
+        ("2", "sum -1\n", Err(Fault::BadLine(1))),
+        ("2", "sum 1\r\n", Err(Fault::BadLine(1))),
+        ("2", "sum 1\nadd 1\n", Err(Fault::BadLine(2))),
+    ] {
+        let is_so = shows::<HostPlace, HostRuntime>(
+            rt,
+            rt.alloc(),
+            realm,
+            &["jobs", workers],
+            input.as_bytes(),
+            want,
+        );
+        assert!(rt; is_so, "{workers}: {input}");
+    }
+    Ok(())
+}
 
 #[test]
-fn each_input_has_its_answers_or_its_fault(rt: HostRuntime) -> Result<(), Fail> {
+fn bytes_that_are_no_text_are_a_bad_line(rt: HostRuntime) -> Result<(), Fail> {
     let realm = JobRealm::<HostRuntime>::leak(rt, rt.alloc())?;
-    let mut row = 0u64;
-    for (words, input, want) in ROWS {
-        let is_so = shows::<HostPlace, HostRuntime>(rt, rt.alloc(), realm, words, input, *want);
-        assert!(rt; is_so, "row {row}");
-        row = row.saturating_add(1);
+    let input = [115, 117, 109, 32, 49, 10, 255, 254, 0, 10];
+    let is_so = shows::<HostPlace, HostRuntime>(
+        rt,
+        rt.alloc(),
+        realm,
+        &["jobs", "2"],
+        &input,
+        Err(Fault::BadLine(2)),
+    );
+    assert!(rt; is_so);
+    Ok(())
+}
+
+#[test]
+fn other_pairs_of_words_are_a_usage_fault(rt: HostRuntime) -> Result<(), Fail> {
+    let realm = JobRealm::<HostRuntime>::leak(rt, rt.alloc())?;
+    for (first, second) in [
+        ("jobs", "0"),
+        ("jobs", "65"),
+        ("jobs", "two"),
+        ("jobs", ""),
+        ("jobs", "+1"),
+        ("jobs", "000000000000000000001"),
+        ("sim", "1"),
+    ] {
+        let is_so = shows::<HostPlace, HostRuntime>(
+            rt,
+            rt.alloc(),
+            realm,
+            &[first, second],
+            TWO_JOBS.as_bytes(),
+            Err(Fault::Usage),
+        );
+        assert!(rt; is_so, "{first} {second}");
     }
+    Ok(())
+}
+
+#[test]
+fn other_single_words_are_a_usage_fault(rt: HostRuntime) -> Result<(), Fail> {
+    let realm = JobRealm::<HostRuntime>::leak(rt, rt.alloc())?;
+    for word in ["jobs", "Sim", ""] {
+        let is_so = shows::<HostPlace, HostRuntime>(
+            rt,
+            rt.alloc(),
+            realm,
+            &[word],
+            TWO_JOBS.as_bytes(),
+            Err(Fault::Usage),
+        );
+        assert!(rt; is_so, "{word}");
+    }
+    Ok(())
+}
+
+#[test]
+fn a_script_is_run_where_that_is_asked(rt: HostRuntime) -> Result<(), Fail> {
+    let realm = JobRealm::<HostRuntime>::leak(rt, rt.alloc())?;
+    let is_so = shows::<HostPlace, HostRuntime>(
+        rt,
+        rt.alloc(),
+        realm,
+        &["sim"],
+        "limit 1\ntry\n".as_bytes(),
+        Ok("try: false\n"),
+    );
+    assert!(rt; is_so);
     Ok(())
 }
 
@@ -148,7 +189,7 @@ fn each_input_has_its_answers_or_its_fault(rt: HostRuntime) -> Result<(), Fail> 
 fn each_read_of_jobs_that_fails_ends_the_program(rt: HostRuntime) -> Result<(), Fail> {
     let realm = JobRealm::<HostRuntime>::leak(rt, rt.alloc())?;
     for reads_before in 0..TWO_JOBS.len() + 1 {
-        let text = TWO_JOBS;
+        let text = TWO_JOBS.as_bytes();
         let mut reader = FailingReader { text, reads_before };
         let mut written = Vec::new(rt.alloc());
         let ended = end::<HostPlace, HostRuntime, _, _>(
@@ -174,7 +215,7 @@ fn each_write_of_answers_that_fails_ends_the_program(rt: HostRuntime) -> Result<
             text: Vec::new(rt.alloc()),
             writes_before,
         };
-        let mut reader = TWO_JOBS;
+        let mut reader = TWO_JOBS.as_bytes();
         let ended = end::<HostPlace, HostRuntime, _, _>(
             rt,
             rt.alloc(),
@@ -227,9 +268,14 @@ fn a_hundred_thousand_lines_are_done(rt: HostRuntime) -> Result<(), Fail> {
 fn the_line_after_a_hundred_thousand_is_bad(rt: HostRuntime) -> Result<(), Fail> {
     let realm = JobRealm::<HostRuntime>::leak(rt, rt.alloc())?;
     let more = ones(rt.alloc(), 100_001)?;
-    let want = Err(Fault::BadLine(100_001));
-    let words = &["jobs", "4"];
-    let is_so = shows::<HostPlace, HostRuntime>(rt, rt.alloc(), realm, words, &more, want);
+    let is_so = shows::<HostPlace, HostRuntime>(
+        rt,
+        rt.alloc(),
+        realm,
+        &["jobs", "4"],
+        &more,
+        Err(Fault::BadLine(100_001)),
+    );
     assert!(rt; is_so);
     Ok(())
 }

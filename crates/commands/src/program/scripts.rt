@@ -2,25 +2,9 @@
 
 use super::tests::shows;
 
-const CAUGHT: &str = "\
-spawn: ok
-poll a
-pending a
-try: true
-drop a
-end: done
-wake: done
-poll: cancelled
-";
-
-/// Each script, and what its run shows.
-const SCRIPTS: [(&str, &str); 18] = [
-    // No lines show nothing, and the last line may lack its end.
-    ("", ""),
-    ("limit 1\ntry", "try: false\n"),
-    // A future waits for another and doubles its output.
-    (
-        "\
+#[test]
+fn a_future_waits_for_another_and_doubles_its_output(rt: HostRuntime) {
+    let script = "\
 limit 2
 spawn b self ready=5
 spawn a twice:b
@@ -30,8 +14,8 @@ try
 try
 try
 poll a
-",
-        "\
+";
+    let text = "\
 spawn: ok
 spawn: ok
 poll b
@@ -50,27 +34,44 @@ drop a
 try: true
 try: false
 poll: ready 10
-",
-    ),
-    // A wake is caught by the end before its steps.
-    (
-        "limit 1\nspawn a keep\ntry\nbegin 1 wake a\nend\nfinish 1\npoll a\n",
-        CAUGHT,
-    ),
-    // A wake is caught by the end when it has marked the task.
-    (
-        "limit 1\nspawn a keep\ntry\nbegin 1 wake a\ngo 1\nend\nfinish 1\npoll a\n",
-        CAUGHT,
-    ),
-    // A wake is caught by the end when it has queued the task.
-    (
-        "limit 1\nspawn a keep\ntry\nbegin 1 wake a\ngo 1\ngo 1\nend\nfinish 1\npoll a\n",
-        CAUGHT,
-    ),
-    // A wake that has told is over before the end.
-    (
-        "limit 1\nspawn a keep\ntry\nbegin 1 wake a\ngo 1\ngo 1\ngo 1\nend\nfinish 1\npoll a\n",
-        "\
+";
+    shows(&rt, script, text);
+}
+
+const CAUGHT: &str = "\
+spawn: ok
+poll a
+pending a
+try: true
+drop a
+end: done
+wake: done
+poll: cancelled
+";
+
+#[test]
+fn a_wake_is_caught_by_the_end_before_its_steps(rt: HostRuntime) {
+    let script = "limit 1\nspawn a keep\ntry\nbegin 1 wake a\nend\nfinish 1\npoll a\n";
+    shows(&rt, script, CAUGHT);
+}
+
+#[test]
+fn a_wake_is_caught_by_the_end_when_it_has_marked_the_task(rt: HostRuntime) {
+    let script = "limit 1\nspawn a keep\ntry\nbegin 1 wake a\ngo 1\nend\nfinish 1\npoll a\n";
+    shows(&rt, script, CAUGHT);
+}
+
+#[test]
+fn a_wake_is_caught_by_the_end_when_it_has_queued_the_task(rt: HostRuntime) {
+    let script = "limit 1\nspawn a keep\ntry\nbegin 1 wake a\ngo 1\ngo 1\nend\nfinish 1\npoll a\n";
+    shows(&rt, script, CAUGHT);
+}
+
+#[test]
+fn a_wake_that_has_told_is_over_before_the_end(rt: HostRuntime) {
+    let script =
+        "limit 1\nspawn a keep\ntry\nbegin 1 wake a\ngo 1\ngo 1\ngo 1\nend\nfinish 1\npoll a\n";
+    let text = "\
 spawn: ok
 poll a
 pending a
@@ -80,12 +81,14 @@ drop a
 end: done
 finish: not possible
 poll: cancelled
-",
-    ),
-    // A poll of refused memory leaves the output.
-    (
-        "limit 1\nspawn a ready=3\nrefuse poll a\ntry\npoll a\n",
-        "\
+";
+    shows(&rt, script, text);
+}
+
+#[test]
+fn a_poll_of_refused_memory_leaves_the_output(rt: HostRuntime) {
+    let script = "limit 1\nspawn a ready=3\nrefuse poll a\ntry\npoll a\n";
+    let text = "\
 spawn: ok
 poll: no memory
 poll a
@@ -93,22 +96,26 @@ ready a
 drop a
 try: true
 poll: ready 3
-",
-    ),
-    // A cancel whose poll is refused has cancelled.
-    (
-        "limit 1\nspawn a pend\nrefuse cancel a\ntry\npoll a\n",
-        "\
+";
+    shows(&rt, script, text);
+}
+
+#[test]
+fn a_cancel_whose_poll_is_refused_has_cancelled(rt: HostRuntime) {
+    let script = "limit 1\nspawn a pend\nrefuse cancel a\ntry\npoll a\n";
+    let text = "\
 spawn: ok
 cancel: no memory
 drop a
 try: true
 poll: cancelled
-",
-    ),
-    // An awaiter is called once and a held handle is in use.
-    (
-        "\
+";
+    shows(&rt, script, text);
+}
+
+#[test]
+fn an_awaiter_is_called_once_and_a_held_handle_is_in_use(rt: HostRuntime) {
+    let script = "\
 limit 2
 spawn a ready=1
 poll a
@@ -118,8 +125,8 @@ spawn b pend
 spawn c twice:b
 poll b
 detach c
-",
-        "\
+";
+    let text = "\
 spawn: ok
 poll: pending
 poll a
@@ -132,12 +139,14 @@ spawn: ok
 spawn: ok
 poll: not possible
 detach: done
-",
-    ),
-    // A static executor drops a detached future that nobody can wake.
-    (
-        "limit 1 static\nspawn p pend\ndetach p\ntry\nspawn q pend\n",
-        "\
+";
+    shows(&rt, script, text);
+}
+
+#[test]
+fn a_static_executor_drops_a_detached_future_that_nobody_can_wake(rt: HostRuntime) {
+    let script = "limit 1 static\nspawn p pend\ndetach p\ntry\nspawn q pend\n";
+    let text = "\
 spawn: ok
 detach: done
 poll p
@@ -145,12 +154,14 @@ pending p
 drop p
 try: true
 spawn: ok
-",
-    ),
-    // A static executor drops a detached future whose last waker goes.
-    (
-        "limit 1 static\nspawn k keep\ndetach k\ntry\nunkeep k\ntry\ntry\n",
-        "\
+";
+    shows(&rt, script, text);
+}
+
+#[test]
+fn a_static_executor_drops_a_detached_future_whose_last_waker_goes(rt: HostRuntime) {
+    let script = "limit 1 static\nspawn k keep\ndetach k\ntry\nunkeep k\ntry\ntry\n";
+    let text = "\
 spawn: ok
 detach: done
 poll k
@@ -160,12 +171,14 @@ unkeep: done
 drop k
 try: true
 try: false
-",
-    ),
-    // A leak wakes whom the table alone could wake.
-    (
-        "limit 1\nspawn a pend\ntry\nleak\ntry\ntry\n",
-        "\
+";
+    shows(&rt, script, text);
+}
+
+#[test]
+fn a_leak_wakes_whom_the_table_alone_could_wake(rt: HostRuntime) {
+    let script = "limit 1\nspawn a pend\ntry\nleak\ntry\ntry\n";
+    let text = "\
 spawn: ok
 poll a
 pending a
@@ -175,120 +188,6 @@ poll a
 pending a
 try: true
 try: false
-",
-    ),
-    // A full executor refuses until a future is dropped.
-    (
-        "\
-limit 1
-spawn a ready=1
-spawn b ready=2
-try
-spawn b ready=2
-",
-        "\
-spawn: ok
-spawn: full
-poll a
-ready a
-drop a
-try: true
-spawn: ok
-",
-    ),
-    // A dropped handle cancels the future unpolled.
-    (
-        "\
-limit 1
-spawn a pend
-drop a
-try
-try
-empty
-",
-        "\
-spawn: ok
-drop: done
-drop a
-try: true
-try: false
-empty: true
-",
-    ),
-    // The end drops in the order of acceptance.
-    (
-        "\
-limit 2
-spawn z ready=1
-spawn a keep
-try
-try
-spawn b pend
-end
-wake a
-try
-",
-        "\
-spawn: ok
-spawn: ok
-poll z
-ready z
-drop z
-try: true
-poll a
-pending a
-try: true
-spawn: ok
-drop a
-drop b
-end: done
-wake: done
-try: not possible
-",
-    ),
-    // A command that is not possible changes nothing.
-    (
-        "\
-limit 1
-spawn a pend
-wake a
-spawn a pend
-",
-        "\
-spawn: ok
-wake: not possible
-spawn: not possible
-",
-    ),
-    // The drop of a handle loses the output.
-    (
-        "\
-limit 1
-spawn a self ready=7
-try
-try
-drop a
-drop a
-",
-        "\
-spawn: ok
-poll a
-pending a
-try: true
-poll a
-ready a
-drop a
-try: true
-lose a
-drop: done
-drop: not possible
-",
-    ),
-];
-
-#[test]
-fn each_script_shows_its_text(rt: HostRuntime) {
-    for (script, text) in SCRIPTS {
-        shows(&rt, script, text);
-    }
+";
+    shows(&rt, script, text);
 }

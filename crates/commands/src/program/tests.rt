@@ -151,6 +151,123 @@ fn three_wakes_make_one_poll(rt: HostRuntime) {
 }
 
 #[test]
+fn a_full_executor_refuses_until_a_future_is_dropped(rt: HostRuntime) {
+    let script = "\
+limit 1
+spawn a ready=1
+spawn b ready=2
+try
+spawn b ready=2
+";
+    let text = "\
+spawn: ok
+spawn: full
+poll a
+ready a
+drop a
+try: true
+spawn: ok
+";
+    shows(&rt, script, text);
+}
+
+#[test]
+fn a_dropped_handle_cancels_the_future_unpolled(rt: HostRuntime) {
+    let script = "\
+limit 1
+spawn a pend
+drop a
+try
+try
+empty
+";
+    let text = "\
+spawn: ok
+drop: done
+drop a
+try: true
+try: false
+empty: true
+";
+    shows(&rt, script, text);
+}
+
+#[test]
+fn the_end_drops_in_the_order_of_acceptance(rt: HostRuntime) {
+    let script = "\
+limit 2
+spawn z ready=1
+spawn a keep
+try
+try
+spawn b pend
+end
+wake a
+try
+";
+    let text = "\
+spawn: ok
+spawn: ok
+poll z
+ready z
+drop z
+try: true
+poll a
+pending a
+try: true
+spawn: ok
+drop a
+drop b
+end: done
+wake: done
+try: not possible
+";
+    shows(&rt, script, text);
+}
+
+#[test]
+fn a_command_that_is_not_possible_changes_nothing(rt: HostRuntime) {
+    let script = "\
+limit 1
+spawn a pend
+wake a
+spawn a pend
+";
+    let text = "\
+spawn: ok
+wake: not possible
+spawn: not possible
+";
+    shows(&rt, script, text);
+}
+
+#[test]
+fn the_drop_of_a_handle_loses_the_output(rt: HostRuntime) {
+    let script = "\
+limit 1
+spawn a self ready=7
+try
+try
+drop a
+drop a
+";
+    let text = "\
+spawn: ok
+poll a
+pending a
+try: true
+poll a
+ready a
+drop a
+try: true
+lose a
+drop: done
+drop: not possible
+";
+    shows(&rt, script, text);
+}
+
+#[test]
 fn the_first_bad_line_is_named(rt: HostRuntime) {
     for (script, line) in [
         ("limit 0\n", 1),
@@ -163,6 +280,16 @@ fn the_first_bad_line_is_named(rt: HostRuntime) {
         let fault = shown(rt.alloc(), script).err();
         same(&rt, (script, fault), (script, Some(Fault::BadLine(line))));
     }
+}
+
+#[test]
+fn no_lines_show_nothing(rt: HostRuntime) {
+    shows(&rt, "", "");
+}
+
+#[test]
+fn the_last_line_may_lack_its_end(rt: HostRuntime) {
+    shows(&rt, "limit 1\ntry", "try: false\n");
 }
 
 #[test]

@@ -1,7 +1,7 @@
 use Rattle.std.proofs.Common.{ap, ◌∙◌}
 use Rattle.task_moves.specs.declared.moves.owed.Owed.{Owed}
 use Rattle.async_task.proofs.Idle.{woken_of, idle_give_up, if_rest}
-use Rattle.async_task.proofs.cell.Held.give_up.Goals as goal
+use Rattle.async_task.proofs.cell.site.Site.give_up.Goals as goal
 
 pub returns : goal.returns
 returns g c = let o = c.give_up-left.ensures.owes in

@@ -9,6 +9,8 @@ mod hello;
 mod many;
 mod moving;
 #[cfg(test)]
+mod nested;
+#[cfg(test)]
 mod owner;
 #[cfg(test)]
 mod runs;

@@ -1,5 +1,5 @@
-//! Futures that run others of their executor in their polls, and drop others' handles there and in their own drops, on an executor
-//! of any thread and on one of one thread. A future's type may not lead back to its executor's, so it is lent that as a `dyn`.
+//! Futures that run others of their executor and drop handles, in their polls and in their drops, on an executor of any thread and
+//! on one of one thread. A future's type can't lead back to its executor's, so it is lent that as a `dyn`.
 use async_executor::{ExRealm, ExTask, Executor};
 use async_task::{Future, Nobody, Poll, Wake};
 use local_executor::{LocalExecutor, LocalHandle};
@@ -17,33 +17,29 @@ trait Plays<H: Drop + 'static>: Ticks {
     fn start(&self, caller: Caller<H>) -> Option<H>;
 }
 
-impl<R: Wait + Copy + Drop + 'static> Ticks
-    for Executor<Caller<ExTask<u64, Nobody, R>>, u64, Nobody, R>
-{
+type Callers<R> = Executor<Caller<ExTask<u64, Nobody, R>>, u64, Nobody, R>;
+
+type LocalCallers<R> = LocalExecutor<Caller<LocalHandle<u64, Nobody, R>>, u64, Nobody, R>;
+
+impl<R: Wait + Copy + Drop + 'static> Ticks for Callers<R> {
     fn run_one(&self) -> bool {
         self.try_tick()
     }
 }
 
-impl<R: Wait + Copy + Drop + 'static> Plays<ExTask<u64, Nobody, R>>
-    for Executor<Caller<ExTask<u64, Nobody, R>>, u64, Nobody, R>
-{
+impl<R: Wait + Copy + Drop + 'static> Ticks for LocalCallers<R> {
+    fn run_one(&self) -> bool {
+        self.try_tick()
+    }
+}
+
+impl<R: Wait + Copy + Drop + 'static> Plays<ExTask<u64, Nobody, R>> for Callers<R> {
     fn start(&self, caller: Caller<ExTask<u64, Nobody, R>>) -> Option<ExTask<u64, Nobody, R>> {
         self.spawn(caller).ok()
     }
 }
 
-impl<R: Wait + Copy + Drop + 'static> Ticks
-    for LocalExecutor<Caller<LocalHandle<u64, Nobody, R>>, u64, Nobody, R>
-{
-    fn run_one(&self) -> bool {
-        self.try_tick()
-    }
-}
-
-impl<R: Wait + Copy + Drop + 'static> Plays<LocalHandle<u64, Nobody, R>>
-    for LocalExecutor<Caller<LocalHandle<u64, Nobody, R>>, u64, Nobody, R>
-{
+impl<R: Wait + Copy + Drop + 'static> Plays<LocalHandle<u64, Nobody, R>> for LocalCallers<R> {
     fn start(
         &self,
         caller: Caller<LocalHandle<u64, Nobody, R>>,
@@ -52,11 +48,32 @@ impl<R: Wait + Copy + Drop + 'static> Plays<LocalHandle<u64, Nobody, R>>
     }
 }
 
+/// What a future does at each poll.
+#[derive(Clone, Copy)]
+enum Act {
+    Pend,
+    Ready,
+    /// It runs a task of its executor.
+    Nest,
+    /// It drops its own handle.
+    Stop,
+    /// It has the first one's handle, and drops it with itself; its own is dropped at once.
+    Hold,
+}
+
 /// The handles by their places, and what is seen, each with the place of its future.
 #[derive(Drop)]
 struct Board<H: Drop + 'static> {
     handles: RefCell<Vec<Option<H>>>,
     seen: RefCell<Vec<(&'static str, usize)>>,
+}
+
+struct Caller<H: Drop + 'static> {
+    place: usize,
+    act: Act,
+    held: Option<H>,
+    board: &'static Board<H>,
+    executor: &'static dyn Ticks,
 }
 
 impl<H: Drop + 'static> Board<H> {
@@ -69,27 +86,6 @@ impl<H: Drop + 'static> Board<H> {
     fn take(&self, place: usize) -> Option<H> {
         self.handles.try_borrow_mut().ok()?.get_mut(place)?.take()
     }
-}
-
-/// What a future does at each poll.
-#[derive(Clone, Copy)]
-enum Act {
-    Pend,
-    Ready,
-    /// It runs a task of its executor.
-    Nest,
-    /// It drops the handle at this place.
-    Stop(usize),
-    /// It holds the handle at this place from the first, and drops it with itself.
-    Hold(usize),
-}
-
-struct Caller<H: Drop + 'static> {
-    place: usize,
-    act: Act,
-    held: Option<H>,
-    board: &'static Board<H>,
-    executor: &'static dyn Ticks,
 }
 
 impl<H: Drop + 'static> Drop for Caller<H> {
@@ -113,84 +109,75 @@ impl<H: Drop + 'static, K: Wake> Future<K> for Caller<H> {
         let _ = waker;
         self.board.see("poll", self.place);
         match self.act {
-            Act::Pend | Act::Hold(_) => {}
+            Act::Pend | Act::Hold => {}
             Act::Ready => return Poll::Ready(0),
             Act::Nest => drop(self.executor.run_one()),
-            Act::Stop(place) => drop(self.board.take(place)),
+            Act::Stop => drop(self.board.take(self.place)),
         }
         self.board.see("pending", self.place);
         Poll::Pending
     }
 }
 
-/// The futures of a row, the place of the handle that is dropped then, if any, and what is seen as all are run.
-struct Row(&'static [Act], Option<usize>, &'static [(&'static str, usize)]);
+/// What the futures of a row do, and what is seen as all are run.
+struct Row(&'static [Act], &'static [(&'static str, usize)]);
 
 const ROWS: &[Row] = &[
     // A future that drops its own handle is dropped behind its poll.
-    Row(&[Act::Stop(0)], None, &[("poll", 0), ("pending", 0), ("drop", 0)]),
+    Row(&[Act::Stop], &[("poll", 0), ("pending", 0), ("drop", 0)]),
     // A future runs another in its poll.
     Row(
         &[Act::Nest, Act::Ready],
-        None,
         &[("poll", 0), ("poll", 1), ("drop", 1), ("pending", 0)],
     ),
-    // A future that is dropped drops the handle that it holds, and so another future.
+    // A future that is dropped drops the handle that it has, and so another future.
     Row(
-        &[Act::Pend, Act::Hold(0)],
-        Some(1),
+        &[Act::Pend, Act::Hold],
         &[("poll", 0), ("pending", 0), ("drop", 1), ("drop", 0)],
     ),
 ];
 
-fn plays<H: Drop + 'static, E: Plays<H>>(
+fn is_met<H: Drop + 'static, E: Plays<H>>(
     alloc: Global,
     row: &Row,
-    executor: &E,
-    lent: &'static dyn Ticks,
+    starts: &E,
+    executor: &'static dyn Ticks,
 ) -> Result<bool, Fail> {
-    let Row(acts, dropped, expected) = row;
     let (handles, seen) = (RefCell::new(Vec::new(alloc)), RefCell::new(Vec::new(alloc)));
     let board: &'static Board<H> = Box::leak(Box::new(alloc, Board { handles, seen })?);
-    for (place, act) in acts.iter().enumerate() {
-        let held = match *act {
-            Act::Hold(other) => board.take(other),
-            _ => None,
-        };
-        let handle = executor.start(Caller {
+    for (place, act) in row.0.iter().enumerate() {
+        let (act, is_holding) = (*act, matches!(act, Act::Hold));
+        let caller = Caller {
             place,
-            act: *act,
-            held,
+            act,
+            held: if is_holding { board.take(0) } else { None },
             board,
-            executor: lent,
-        });
-        if let Ok(mut handles) = board.handles.try_borrow_mut() {
-            handles.push(handle)?;
+            executor,
+        };
+        let handle = starts.start(caller);
+        match board.handles.try_borrow_mut() {
+            Ok(mut handles) if !is_holding => handles.push(handle)?,
+            _ => drop(handle),
         }
-    }
-    if let Some(place) = dropped {
-        drop(board.take(*place));
     }
     for _ in 0..9 {
         executor.run_one();
     }
-    Ok(matches!(board.seen.try_borrow(), Ok(seen) if seen.as_slice() == *expected))
+    Ok(matches!(board.seen.try_borrow(), Ok(seen) if seen.as_slice() == row.1))
+}
+
+fn leaked<T: Drop>(alloc: Global, value: T) -> Result<&'static T, Fail> {
+    Ok(Box::leak(Box::new(alloc, value)?))
 }
 
 #[test]
 fn futures_call_their_executor(rt: HostRuntime) -> Result<(), Fail> {
     let (alloc, realm) = (rt.alloc(), ExRealm::leak(rt, rt.alloc())?);
     for row in ROWS {
-        let executor: &'static Executor<_, _, _, HostRuntime> = Box::leak(Box::new(
-            alloc,
-            Executor::new(rt, alloc, realm, 2)?,
-        )?);
-        assert!(rt; plays(alloc, row, executor, executor)?);
-        let executor: &'static LocalExecutor<_, _, _, HostRuntime> = Box::leak(Box::new(
-            alloc,
-            LocalExecutor::new(rt, alloc, 2)?,
-        )?);
-        assert!(rt; plays(alloc, row, executor, executor)?);
+        let executor: &'static Callers<_> = leaked(alloc, Executor::new(rt, alloc, realm, 2)?)?;
+        assert!(rt; is_met(alloc, row, executor, executor)?);
+        let executor: &'static LocalCallers<_> = leaked(alloc, LocalExecutor::new(rt, alloc, 2)?)?;
+        assert!(rt; is_met(alloc, row, executor, executor)?);
     }
     Ok(())
 }

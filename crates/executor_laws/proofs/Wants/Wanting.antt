@@ -101,8 +101,7 @@ module _ (s : Machine) (p : ℕ) (here : Tops s) (clean : weigh want (stack s p)
     where
       because : list_any ends_for_want (act p h o s.world).next ≡ true → (b : Bool) → asks o ≡ b → IsRefused p s (Go p h)
       because z true a =
-          let i : (p == p) ≡ true = grind (arith, nat_tests) in
-          (
+          let i : (p == p) ≡ true = grind (arith, nat_tests) in (
             ap (λ (b : Bool). b && asks_next (top (stack s p))) i ∙ (ap asks_next e ∙ a),
             ⊎_elim (λ (r : h.refused ≡ true). inl r) (λ (c : CopiesOneTooMany o s.world). inr (o, e, c))
                 ((want-is-told-of s.world p).goes_on h o n z),

@@ -1,8 +1,8 @@
 //! Futures that run others of their executor and drop handles, in their polls and in their drops, on an executor of any thread and
 //! on one of one thread. A future's type can't lead back to its executor's, so it is lent that as a `dyn`.
-use async_executor::{ExRealm, ExTask, Executor};
+use async_executor::{ExRealm, ExWaker, Executor};
 use async_task::{Future, Nobody, Poll, Wake};
-use local_executor::{LocalExecutor, LocalHandle};
+use local_executor::{LocalExWaker, LocalExecutor};
 use std::alloc::Global;
 use std::cell::RefCell;
 use std::sync::Wait;
@@ -12,39 +12,23 @@ trait Ticks {
     fn run_one(&self) -> bool;
 }
 
-/// An executor with handles of this type.
-trait Plays<H: Drop + 'static>: Ticks {
-    fn start(&self, caller: Caller<H>) -> Option<H>;
-}
-
-type Callers<R> = Executor<Caller<ExTask<u64, Nobody, R>>, u64, Nobody, R>;
-
-type LocalCallers<R> = LocalExecutor<Caller<LocalHandle<u64, Nobody, R>>, u64, Nobody, R>;
-
-impl<R: Wait + Copy + Drop + 'static> Ticks for Callers<R> {
+impl<F, R> Ticks for Executor<F, u64, Nobody, R>
+where
+    F: Future<ExWaker<u64, Nobody, R>, Output = u64> + Drop,
+    R: Wait + Copy + Drop + 'static,
+{
     fn run_one(&self) -> bool {
         self.try_tick()
     }
 }
 
-impl<R: Wait + Copy + Drop + 'static> Ticks for LocalCallers<R> {
+impl<F, R> Ticks for LocalExecutor<F, u64, Nobody, R>
+where
+    F: Future<LocalExWaker<Nobody, R>, Output = u64> + Drop,
+    R: Wait + Copy + Drop + 'static,
+{
     fn run_one(&self) -> bool {
         self.try_tick()
-    }
-}
-
-impl<R: Wait + Copy + Drop + 'static> Plays<ExTask<u64, Nobody, R>> for Callers<R> {
-    fn start(&self, caller: Caller<ExTask<u64, Nobody, R>>) -> Option<ExTask<u64, Nobody, R>> {
-        self.spawn(caller).ok()
-    }
-}
-
-impl<R: Wait + Copy + Drop + 'static> Plays<LocalHandle<u64, Nobody, R>> for LocalCallers<R> {
-    fn start(
-        &self,
-        caller: Caller<LocalHandle<u64, Nobody, R>>,
-    ) -> Option<LocalHandle<u64, Nobody, R>> {
-        self.spawn(caller).ok()
     }
 }
 
@@ -85,6 +69,34 @@ impl<H: Drop + 'static> Board<H> {
 
     fn take(&self, place: usize) -> Option<H> {
         self.handles.try_borrow_mut().ok()?.get_mut(place)?.take()
+    }
+
+    fn caller(&'static self, place: usize, act: Act, executor: &'static dyn Ticks) -> Caller<H> {
+        let held = match act {
+            Act::Hold => self.take(0),
+            _ => None,
+        };
+        Caller {
+            place,
+            act,
+            held,
+            board: self,
+            executor,
+        }
+    }
+
+    fn keep(&self, act: Act, handle: H) {
+        match (act, self.handles.try_borrow_mut()) {
+            (Act::Hold, _) | (_, Err(_)) => drop(handle),
+            (_, Ok(mut handles)) => drop(handles.push(Some(handle))),
+        }
+    }
+
+    fn shows(&self, executor: &'static dyn Ticks, expected: &[(&'static str, usize)]) -> bool {
+        for _ in 0..9 {
+            executor.run_one();
+        }
+        matches!(self.seen.try_borrow(), Ok(seen) if seen.as_slice() == expected)
     }
 }
 
@@ -137,47 +149,49 @@ const ROWS: &[Row] = &[
     ),
 ];
 
-fn is_met<H: Drop + 'static, E: Plays<H>>(
-    alloc: Global,
-    row: &Row,
-    starts: &E,
-    executor: &'static dyn Ticks,
-) -> Result<bool, Fail> {
-    let (handles, seen) = (RefCell::new(Vec::new(alloc)), RefCell::new(Vec::new(alloc)));
-    let board: &'static Board<H> = Box::leak(Box::new(alloc, Board { handles, seen })?);
-    for (place, act) in row.0.iter().enumerate() {
-        let (act, is_holding) = (*act, matches!(act, Act::Hold));
-        let caller = Caller {
-            place,
-            act,
-            held: if is_holding { board.take(0) } else { None },
-            board,
-            executor,
-        };
-        let handle = starts.start(caller);
-        match board.handles.try_borrow_mut() {
-            Ok(mut handles) if !is_holding => handles.push(handle)?,
-            _ => drop(handle),
-        }
-    }
-    for _ in 0..9 {
-        executor.run_one();
-    }
-    Ok(matches!(board.seen.try_borrow(), Ok(seen) if seen.as_slice() == row.1))
-}
-
 fn leaked<T: Drop>(alloc: Global, value: T) -> Result<&'static T, Fail> {
     Ok(Box::leak(Box::new(alloc, value)?))
+}
+
+fn new_board<H: Drop + 'static>(alloc: Global) -> Result<&'static Board<H>, Fail> {
+    let (handles, seen) = (RefCell::new(Vec::new(alloc)), RefCell::new(Vec::new(alloc)));
+    leaked(alloc, Board { handles, seen })
 }
 
 #[test]
 fn futures_call_their_executor(rt: HostRuntime) -> Result<(), Fail> {
     let (alloc, realm) = (rt.alloc(), ExRealm::leak(rt, rt.alloc())?);
-    for row in ROWS {
-        let executor: &'static Callers<_> = leaked(alloc, Executor::new(rt, alloc, realm, 2)?)?;
-        assert!(rt; is_met(alloc, row, executor, executor)?);
-        let executor: &'static LocalCallers<_> = leaked(alloc, LocalExecutor::new(rt, alloc, 2)?)?;
-        assert!(rt; is_met(alloc, row, executor, executor)?);
+    for Row(acts, expected) in ROWS {
+        let executor: &'static Executor<_, _, _, _> = leaked(
+            alloc,
+            Executor::new(rt, alloc, realm, 2)?,
+        )?;
+        let board = new_board(alloc)?;
+        for (place, act) in acts.iter().enumerate() {
+            if let Ok(handle) = executor.spawn(board.caller(place, *act, executor)) {
+                board.keep(*act, handle);
+            }
+        }
+        assert!(rt; board.shows(executor, expected));
+    }
+    Ok(())
+}
+
+#[test]
+fn futures_call_their_local_executor(rt: HostRuntime) -> Result<(), Fail> {
+    let alloc = rt.alloc();
+    for Row(acts, expected) in ROWS {
+        let executor: &'static LocalExecutor<_, _, _, _> = leaked(
+            alloc,
+            LocalExecutor::new(rt, alloc, 2)?,
+        )?;
+        let board = new_board(alloc)?;
+        for (place, act) in acts.iter().enumerate() {
+            if let Ok(handle) = executor.spawn(board.caller(place, *act, executor)) {
+                board.keep(*act, handle);
+            }
+        }
+        assert!(rt; board.shows(executor, expected));
     }
     Ok(())
 }

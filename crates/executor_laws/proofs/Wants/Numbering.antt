@@ -28,30 +28,34 @@ not-yet k (Answer q e) l = refl
 abbrev With : Bool → ℕ → ℕ → Machine → Step → List Step → List Step
 With b k p s t ts = told b k t ∷ refusing (left b k) p (stepped s (step s (told b k t))) ts
 
-same-steps : (p k : ℕ) (s : Machine) (ts : List Step) → requests p s (refusing 0 p s ts) < k →
-    refusing k p s ts ≡ refusing 0 p s ts
-same-steps p k s [] l = refl
-same-steps p k s (t ∷ ts) l = by (is_request p s t)
-    (subst (λ (b : Bool). cond b 1 0 + requests p (stepped s (step s (told (is_request p s t) 0 t)))
-    (refusing (left (is_request p s t) 0) p (stepped s (step s (told (is_request p s t) 0 t))) ts) < k)
-    (asks-so (is_request p s t) 0 p s t) l)
-  where
-    by : (b : Bool) → cond b 1 0 + requests p (stepped s (step s (told b 0 t)))
-        (refusing (left b 0) p (stepped s (step s (told b 0 t))) ts) < k →
-        With b k p s t ts ≡ With b 0 p s t ts
-    by false m =
-        let e : left false k ≡ k = omega arith in
-        ap (λ (n : ℕ). t ∷ refusing n p (stepped s (step s t)) ts) e
-        ∙ ap (λ (us : List Step). t ∷ us) (same-steps p k (stepped s (step s t)) ts (omega (arith, m)))
-    by true m =
-        let e : told true k t ≡ told true 0 t = not-yet k t (omega (arith, m)) in
-        ap (λ (u : Step). u ∷ refusing (left true k) p (stepped s (step s u)) ts) e
-        ∙ ap (λ (us : List Step). told true 0 t ∷ us)
-        (same-steps p (left true k) (stepped s (step s (told true 0 t))) ts (omega (arith, m)))
+abbrev Same : ℕ → List Step → Type 0
+Same p ts = (k : ℕ) (s : Machine) → requests p s (refusing 0 p s ts) < k → refusing k p s ts ≡ refusing 0 p s ts
+
+-- one step more
+same-by : (p k : ℕ) (s : Machine) (t : Step) (ts : List Step) → Same p ts → (b : Bool) →
+    cond b 1 0 + requests p (stepped s (step s (told b 0 t))) (refusing (left b 0) p (stepped s (step s (told b 0 t))) ts) < k →
+    With b k p s t ts ≡ With b 0 p s t ts
+same-by p k s t ts same false m =
+    let e : left false k ≡ k = omega arith in
+    ap (λ (n : ℕ). t ∷ refusing n p (stepped s (step s t)) ts) e
+    ∙ ap (λ (us : List Step). t ∷ us) (same k (stepped s (step s t)) (omega (arith, m)))
+same-by p k s t ts same true m =
+    let e : told true k t ≡ told true 0 t = not-yet k t (omega (arith, m)) in
+    ap (λ (u : Step). u ∷ refusing (left true k) p (stepped s (step s u)) ts) e
+    ∙ ap (λ (us : List Step). told true 0 t ∷ us) (same (left true k) (stepped s (step s (told true 0 t))) (omega (arith, m)))
+
+same-steps : (p : ℕ) (ts : List Step) → Same p ts
+same-steps p [] = λ k s l. refl
+same-steps p (t ∷ ts) = λ k s l.
+    let b : Bool = is_request p s t in
+    same-by p k s t ts (same-steps p ts) b
+    (subst (λ (c : Bool). cond c 1 0 + requests p (stepped s (step s (told b 0 t)))
+    (refusing (left b 0) p (stepped s (step s (told b 0 t))) ts) < k)
+    (asks-so b 0 p s t) l)
 
 pub same-up : (p k : ℕ) (s : Machine) (ts : List Step) → requests p s (refusing 0 p s ts) < k →
     run (refusing k p s ts) s ≡ run (refusing 0 p s ts) s
-same-up p k s ts l = ap (λ (us : List Step). run us s) (same-steps p k s ts l)
+same-up p k s ts l = ap (λ (us : List Step). run us s) (same-steps p ts k s l)
 
 -- what follows comes behind
 goes-on : (p k : ℕ) (s : Machine) (ts us : List Step) →

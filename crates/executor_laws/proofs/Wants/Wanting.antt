@@ -9,6 +9,7 @@ use Rattle.std.specs.Prelude.{Option, Some, None, cond, nat_lt, reverse}
 use Rattle.std.specs.List.{list_any}
 use Rattle.task_moves.specs.Moves.{most_references}
 use Rattle.executor_model.specs.declared.call.Call.{Call}
+use Rattle.executor_model.specs.declared.call.Reply.{Reply}
 use Rattle.executor_model.specs.declared.call.Reply.TheVariants as reply
 use Rattle.executor_model.specs.declared.event.Event.TheVariants as event
 use Rattle.executor_model.specs.declared.op.Op.{Op}
@@ -253,13 +254,13 @@ module _ (s : Machine) (p : ℕ) (t : Step) (here : Tops s) (clean : weigh want 
           inl (ap (weigh want)
           (get_or-set_other s.parties (party_of t) p (part_after s.world (stack s (party_of t)) t).todo [] n) ∙ clean)
 
+  clean-by : (r : Option StepError) → refusal s t ≡ r → Stays s p t (stepped s (step_by r s t))
+  clean-by (Some e) q = inl clean
+  clean-by None q = after-clean q
+
   step-clean : Stays s p t (stepped s (step s t))
   unfolding step
-  step-clean = by (refusal s t) refl
-    where
-      by : (r : Option StepError) → refusal s t ≡ r → Stays s p t (stepped s (step_by r s t))
-      by (Some e) q = inl clean
-      by None q = after-clean q
+  step-clean = clean-by (refusal s t) refl
 
 -- the answer
 
@@ -272,7 +273,7 @@ no-end os (Some (op.End a held)) e z k =
       z,
       ap (weigh want) (topped os (op.End a held) e),
       weigh-append want (below_top os) (op.End a held ∷ []),
-      ap (λ (b : _). want (op.End b held)) i,
+      ap (λ (b : Reply). want (op.End b held)) i,
     ))
 no-end os (Some _) e z k = absurd (cc)
 

@@ -70,7 +70,7 @@ none-wants (o ∷ os) e =
 no-want : (o : Op) → want o ≡ 0 → ends_for_want o ≡ false
 no-want o = by (ends_for_want o)
   where
-    by : (b : Bool) → cond b 1 0 ≡ 0 → b ≡ false
+    by : (b : Bool) → ◌≡◌ {A = ℕ} (cond b 1 0) 0 → b ≡ false
     by true e = absurd (omega (arith, e))
     by false e = refl
 

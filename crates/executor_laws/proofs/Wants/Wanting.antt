@@ -1,7 +1,7 @@
 -- For requests_are_numbered.
 -- Want of memory is answered to a party that was idle before only behind a request of it that was refused.
 use Rattle.std.proofs.Common.{◌≡◌, ◌≢◌, ◌⊎◌, ◌∙◌, ⊎_elim, inl, inr, ℕ, ◌<◌, ◌+◌, ◌==◌, List, [], ◌∷◌, ◌++◌, length}
-use Rattle.std.proofs.Common.{Bool, true, false, ◌&&◌, ◌||◌, not, eqb, ltb, refl, sym, ap, subst, arith, get_or, set}
+use Rattle.std.proofs.Common.{Bool, true, false, ◌&&◌, ◌||◌, not, eqb, ltb, refl, sym, ap, subst, arith}
 use Rattle.std.proofs.Common.{get_or-set_same, get_or-set_other, Result}
 use Rattle.std.proofs.lemmas.Bool.Decides.{nat_tests}
 use Rattle.std.proofs.lemmas.List.{append_assoc}
@@ -52,7 +52,7 @@ use Rattle.executor_model.proofs.Steps.Lists.{weigh-append, weigh-reverse}
 use Rattle.executor_model.proofs.Steps.Reached.{Reached}
 use Rattle.executor_model.proofs.Steps.Stepping.{step-made}
 use Rattle.executor_model.proofs.Steps.Tests.{left-false, right-false}
-use Rattle.executor_laws.specs.Numbered.{IsRefused, OneIsRefused, asks_next, ends_refused, is_request}
+use Rattle.executor_laws.specs.Numbered.{IsRefused, OneIsRefused, asks_next, ends_refused}
 use Rattle.executor_laws.proofs.Placement.OwnReady.{reached-on}
 use Rattle.executor_laws.proofs.Promptness.Emptied.{said}
 

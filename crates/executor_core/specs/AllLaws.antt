@@ -50,6 +50,7 @@ use Rattle.executor_laws.specs.HandleAnswers.{CancelledMeansOver}
 use Rattle.executor_laws.specs.LoneEnds.{LoneCallsEnd}
 use Rattle.executor_laws.specs.Makings.{MadeIsMade}
 use Rattle.executor_laws.specs.NoAnswers.{NoMeansEmpty}
+use Rattle.executor_laws.specs.Numbered.{RequestsAreNumbered}
 use Rattle.executor_laws.specs.Queueings.{CountsQueueings}
 use Rattle.executor_laws.specs.Remaining.{EachListEnds, EachStepLowers}
 use Rattle.executor_laws.specs.AtRest.{EmptinessIsExact, TicksAreExact}
@@ -154,6 +155,9 @@ pub record AllLaws (s : Machine) : Type 0 where
   pub refusals : (p : ℕ) → RefusedChangesNothing s.world p
   -- want of memory is answered only where the hint says so, or where a task has too many references
   pub want : (p : ℕ) → IsWantToldOf s.world p
+  -- and to a command only where one of its own requests was refused, or was for one reference too many; requests are numbered,
+  -- and up to the one that alone is refused all is as where none is
+  pub numbered : RequestsAreNumbered s
   -- of whole calls, and of what is reached
 
   -- each call that has ended was answered in its kind, and did itself what its name says

@@ -26,6 +26,7 @@ ghost use Rattle.executor_laws.specs.Called.{KeeperIsCalled, SomeStandingIsCalle
 ghost use Rattle.executor_laws.specs.HandleAnswers.{CancelledMeansOver};
 ghost use Rattle.executor_laws.specs.Makings.{MadeIsMade};
 ghost use Rattle.executor_laws.specs.NoAnswers.{NoMeansEmpty};
+ghost use Rattle.executor_laws.specs.Numbered.{RequestsAreNumbered};
 ghost use Rattle.executor_laws.specs.RunEnds.{EndsByItsOwn};
 ghost use Rattle.executor_core.specs.AllLaws.{AllLaws};
 
@@ -34,7 +35,7 @@ use executor_laws::laws::{
     common_futures_are_in_reach, common_futures_are_in_reach_of_runs,
     dropped_runs_leave_common_futures, due_futures_stand_with_their_keepers, keepers_are_called,
     keepers_can_be_polled, kept_futures_are_in_reach, lone_calls_are_exact, lone_calls_end,
-    no_comes_at_once, no_means_that_nothing_was_queued, queueings_are_counted,
+    no_comes_at_once, no_means_that_nothing_was_queued, queueings_are_counted, requests_are_numbered,
     runs_are_ready_at_their_end, runs_can_be_polled, runs_end_by_their_own_futures,
     runs_find_due_futures, runs_poll_few_futures, runs_reach_futures, some_standing_is_called,
     ticks_are_exact, traces_continue, what_is_made_is_new,
@@ -173,9 +174,11 @@ fn laws_of_answers()
     ensures made { EveryMachine MadeIsMade }
     ensures ends { EveryExecution EndsByItsOwn }
     ensures no { EveryMachine NoMeansEmpty }
+    ensures numbered { EveryMachine RequestsAreNumbered }
 {
     cancelled_means_over();
     what_is_made_is_new();
     runs_end_by_their_own_futures();
     no_means_that_nothing_was_queued();
+    requests_are_numbered();
 }

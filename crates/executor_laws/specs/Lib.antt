@@ -24,3 +24,4 @@ pub mod RunEnds
 pub mod NoAnswers
 pub mod Makings
 pub mod HandleAnswers
+pub mod Numbered

@@ -17,6 +17,7 @@ ghost use Rattle.executor_laws.specs.AtRest.{EmptinessIsExact, TicksAreExact};
 ghost use Rattle.executor_laws.specs.LoneAnswers.{IsLoneEmptinessExact, IsLoneTickExact};
 ghost use Rattle.executor_laws.specs.Makings.{MadeIsMade};
 ghost use Rattle.executor_laws.specs.NoAnswers.{NoMeansEmpty};
+ghost use Rattle.executor_laws.specs.Numbered.{RequestsAreNumbered};
 ghost use Rattle.executor_laws.specs.Places.{StandsWithKeeper};
 ghost use Rattle.executor_laws.specs.Reach.{IsInReach, IsReachedInOrder};
 ghost use Rattle.executor_laws.specs.RunAnswers.{IsReadyAtItsEnd};
@@ -77,6 +78,14 @@ pub fn no_means_that_nothing_was_queued()
 /// what is made wasn't there before, and no poll of a run was told of before.
 pub fn what_is_made_is_new()
     ensures { EveryMachine MadeIsMade }
+{}
+
+/// Whatever others do meanwhile, each step of a party that asks for memory is one request of the command that it is in, and nothing
+/// else is. A call of the command is answered that memory is wanted only where one of these was refused, or was one for the copy of
+/// a waker of a task that has 2^40 references. A command of which the k-th request is refused, and no other, is up to that request
+/// the command of which none is, and has its trace; a request that is refused ends the call that asked.
+pub fn requests_are_numbered()
+    ensures { EveryMachine RequestsAreNumbered }
 {}
 
 /// A poll of a handle is answered that there is no output and will be none only where the future was cancelled, its output was

@@ -49,6 +49,7 @@ returns c limit kind parties steps =
       no_memory = c.wakes_and_drops_take_no_memory.ensures s.world;
       refusals = c.refused_calls_change_nothing.ensures s.world;
       want = c.want_of_memory_is_told_of.ensures s.world;
+      numbered = c.laws_of_answers.ensures.numbered limit kind parties steps;
       calls = c.laws_of_calls.ensures.calls limit kind parties steps;
       spawns = c.laws_of_calls.ensures.spawns limit kind parties steps;
       spawn_wants = c.laws_of_calls.ensures.spawn_wants limit kind parties steps;

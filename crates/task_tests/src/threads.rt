@@ -17,8 +17,8 @@ const MOST_TURNS: u64 = 10_000_000;
 /// How often each of two threads wakes the task, and how many handles are awaited.
 const ROUNDS: u64 = 1_000;
 
-/// How many tasks are cancelled: 100,000 in each of three ways.
-const CANCELS: u64 = 300_000;
+/// How many tasks are cancelled.
+const CANCELS: u64 = 100_000;
 
 /// How many Runnables wait for the thread that runs them.
 const MOST_QUEUED: usize = 16;

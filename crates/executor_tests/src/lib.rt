@@ -9,8 +9,6 @@ mod locks;
 #[cfg(test)]
 mod many;
 #[cfg(test)]
-mod nested;
-#[cfg(test)]
 mod parts;
 #[cfg(test)]
 mod rows;

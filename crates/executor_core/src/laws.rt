@@ -37,13 +37,12 @@ ghost use Rattle.executor_core.specs.AllLaws.{AllLaws};
 use executor_laws::laws::{
     arrival_order_needs_fewer_ticks, calls_at_rest_are_exact, calls_end, cancelled_means_over,
     common_futures_are_in_reach, common_futures_are_in_reach_of_runs,
-    dropped_runs_leave_common_futures, due_futures_stand_with_their_keepers, keepers_are_called,
-    ended_runs_are_finished, keepers_can_be_polled, kept_futures_are_in_reach,
-    kept_futures_come_first, lone_calls_are_exact, lone_calls_end,
-    no_comes_at_once, no_means_that_nothing_was_queued, queueings_are_counted,
-    runs_are_ready_at_their_end, runs_can_be_polled, runs_end_by_their_own_futures,
-    runs_find_due_futures, runs_poll_few_futures, runs_reach_futures, runs_take_few_futures,
-    some_standing_is_called,
+    dropped_runs_leave_common_futures, due_futures_stand_with_their_keepers,
+    ended_runs_are_finished, keepers_are_called, keepers_can_be_polled, kept_futures_are_in_reach,
+    kept_futures_come_first, lone_calls_are_exact, lone_calls_end, no_comes_at_once,
+    no_means_that_nothing_was_queued, queueings_are_counted, runs_are_ready_at_their_end,
+    runs_can_be_polled, runs_end_by_their_own_futures, runs_find_due_futures,
+    runs_poll_few_futures, runs_reach_futures, runs_take_few_futures, some_standing_is_called,
     ticks_are_exact, traces_continue, what_is_made_is_new,
 };
 use executor_model::call_laws::{

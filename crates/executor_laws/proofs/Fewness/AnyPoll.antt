@@ -111,8 +111,7 @@ module _ (p q : ℕ) (old : List Op) where
     by-other : (t : Step) → p ≢ party_of t → part_refusal s.world s.parties (stack s (party_of t)) t ≡ None →
         After t None (with_part s (party_of t) (part_after s.world (stack s (party_of t)) t))
     by-other t m e =
-        let x : Part = part_after s.world (stack s (party_of t)) t in
-        (
+        let x : Part = part_after s.world (stack s (party_of t)) t in (
           n,
           subst (Stays q old n x.world) (sym (set-other p (party_of t) s x m))
               (going c side above is k z

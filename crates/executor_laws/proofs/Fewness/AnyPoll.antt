@@ -153,7 +153,7 @@ module _ (p q : ℕ) (old : List Op) where
     by-step : (t : Step) (refused : Option StepError) → refusal s t ≡ refused → After t refused (stepped s (step_by refused s t))
     by-step t (Some error) e = (n, going c side above is k z l st, omega (arith, none-refused t (top (stack s p))))
       where
-        none-refused : (t : Step) (o : Option Op) → cond (takes_up (Some error) p t o && eqb (depth (stack s p)) (depth old)) 1 0 ≡ 0
+        none-refused : (t : Step) (o : Option Op) → ◌≡◌ {A = ℕ} (cond (takes_up (Some error) p t o && eqb (depth (stack s p)) (depth old)) 1 0) 0
         none-refused t o = refl
     by-step t None e = by-party t (eqb (party_of t) p) refl
         (in-range (ltb (party_of t) (length s.parties)) (part_refusal s.world s.parties (stack s (party_of t)) t) e).1

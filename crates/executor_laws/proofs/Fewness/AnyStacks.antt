@@ -160,10 +160,10 @@ takes-ups : (p : ℕ) (k : Option StepError) (t : Step) (o : Op) (b : Bool) → 
 takes-ups p None (Go q h) (op.Move move.TakeUp f) b = if-both _ b
 takes-ups p _ _ _ b = omega arith
 
-takes-deeper : (a : Bool) (m n : ℕ) → n < m → cond (a && eqb m n) 1 0 ≡ 0
+takes-deeper : (a : Bool) (m n : ℕ) → n < m → ◌≡◌ {A = ℕ} (cond (a && eqb m n) 1 0) 0
 takes-deeper a m n l = by a (eqb m n) (let z : eqb m n ≡ false = grind (arith, nat_tests) in z)
   where
-    by : (a b : Bool) → b ≡ false → cond (a && b) 1 0 ≡ 0
+    by : (a b : Bool) → b ≡ false → ◌≡◌ {A = ℕ} (cond (a && b) 1 0) 0
     by true false e = refl
     by false b e = refl
     by true true e = absurd (cc)
@@ -230,12 +230,12 @@ abbrev pub counted : Option StepError → ℕ → List Op → Step → List Op �
 counted refused p old t os = cond (takes_up refused p t (top os) && eqb (depth os) (depth old)) 1 0
 
 begin-none : (refused : Option StepError) (p i : ℕ) (c : Call) (o : Option Op) (b : Bool) →
-    cond (takes_up refused p (Begin i c) o && b) 1 0 ≡ 0
+    ◌≡◌ {A = ℕ} (cond (takes_up refused p (Begin i c) o && b) 1 0) 0
 begin-none None p i c o b = refl
 begin-none (Some e) p i c o b = refl
 
 answer-none : (refused : Option StepError) (p i : ℕ) (u : UserEnd) (o : Option Op) (b : Bool) →
-    cond (takes_up refused p (Answer i u) o && b) 1 0 ≡ 0
+    ◌≡◌ {A = ℕ} (cond (takes_up refused p (Answer i u) o && b) 1 0) 0
 answer-none None p i u o b = refl
 answer-none (Some e) p i u o b = refl
 

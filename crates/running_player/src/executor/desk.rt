@@ -52,12 +52,16 @@ where
     R: Wait + Copy + Drop + 'static,
 {
     fn spawn(&self, plan: Plan<H>) -> Result<H, Refused<H>> {
-        let future = scripted(self.shelf, plan)?;
-        let spawned = match &self.executor {
-            OneOf::Owned(executor) => executor.spawn(F::planned(future)),
-            OneOf::Static(executor) => executor.spawn(F::planned(future)),
-        };
-        answered(self.shelf, spawned)
+        match scripted(self.shelf, plan) {
+            Ok(future) => {
+                let future = F::planned(future);
+                match &self.executor {
+                    OneOf::Owned(executor) => answered(self.shelf, executor.spawn(future)),
+                    OneOf::Static(executor) => answered(self.shelf, executor.spawn(future)),
+                }
+            }
+            Err(refused) => Err(refused),
+        }
     }
 
     fn try_tick(&self) -> bool {
@@ -83,19 +87,21 @@ where
     }
 
     fn tick(&self) -> Option<ScriptTick<'a, F, R>> {
-        let made = match &self.executor {
+        match &self.executor {
             OneOf::Owned(executor) => {
                 let executor: &'a ScriptExecutor<F, R> = *executor;
-                executor.tick()
+                match executor.tick() {
+                    Ok(tick) => Some(tick),
+                    Err(_) => None,
+                }
             }
             OneOf::Static(executor) => {
                 let executor: &'a ScriptStatic<F, R> = *executor;
-                executor.tick()
+                match executor.tick() {
+                    Ok(tick) => Some(tick),
+                    Err(_) => None,
+                }
             }
-        };
-        match made {
-            Ok(tick) => Some(tick),
-            Err(_) => None,
         }
     }
 
@@ -103,11 +109,17 @@ where
         match &self.executor {
             OneOf::Owned(executor) => {
                 let executor: &'a ScriptExecutor<F, R> = *executor;
-                executor.run(own)
+                match executor.run(own) {
+                    Ok(run) => Ok(run),
+                    Err(own) => Err(own),
+                }
             }
             OneOf::Static(executor) => {
                 let executor: &'a ScriptStatic<F, R> = *executor;
-                executor.run(own)
+                match executor.run(own) {
+                    Ok(run) => Ok(run),
+                    Err(own) => Err(own),
+                }
             }
         }
     }

@@ -1,8 +1,8 @@
 -- What no queueing, telling, waking or sleeping changes: the futures that there are, and how many were accepted.
 use Rattle.std.proofs.Common.{◌≡◌, ℕ, zero, suc, ◌+◌, ◌%◌, ◌==◌, nat_lt, Bool, true, false, List, [], ◌∷◌, length, Option, Some, None, slice_get, refl, sym, ap, subst}
 use Rattle.executor_parts.specs.declared.places.EntryPlace.{EntryPlace}
-use Rattle.executor_parts.specs.Places.{Entry, entry_in, where_there, with_future, without_entry, set_future, future_of, left_by as entry_left}
-use Rattle.executor_parts.specs.Sleepers.{last_waker, without_last, waker_of, woken_up, position_of, put_to_sleep, listed}
+use Rattle.executor_parts.specs.Places.{Entry, entry_in, where_there, with_future, set_future}
+use Rattle.executor_parts.specs.Sleepers.{last_waker, without_last, waker_of, position_of, listed}
 use Rattle.task_moves.specs.declared.local_task.answers.Start.{Start}
 use Rattle.task_moves.specs.declared.local_task.answers.Start.TheVariants.{Poll, Drop}
 use Rattle.solo.specs.declared.names.Task.{Task}
@@ -19,12 +19,12 @@ use Rattle.solo.specs.Line.{pushed, accepts}
 use Rattle.solo.specs.Table.{TableValue}
 use Rattle.solo.specs.Cells.{choose, asked}
 use Rattle.solo.specs.Cells as cells
-use Rattle.solo.specs.Turns.{turned, lined_if, marked, loosed, handed_by, is_full, handed, told, scheduled, scheduled_if, let_go, let_go_if}
+use Rattle.solo.specs.Turns.{turned, marked, handed_by, is_full, handed, told, scheduled, scheduled_if, let_go, let_go_if}
 use Rattle.solo.specs.Turns.{left_by_parts, out_of, begun}
 use Rattle.solo.specs.Solo.{popped}
 use Rattle.solo.specs.Ticks as ticks
-use Rattle.solo.specs.Steals.{moved, moved_on, first_of, without_first, kept, stolen, share, length_of, stolen_if, is_own, stolen_at, looked}
-use Rattle.solo.specs.Steals.{look_answer, round_on, round, next_place, walked, further_by, sought_by, sought, seek_answer, own_popped}
+use Rattle.solo.specs.Steals.{moved, first_of, without_first, kept, stolen, share, length_of, stolen_if, is_own, stolen_at, looked}
+use Rattle.solo.specs.Steals.{look_answer, round, next_place, further_by, sought_by, sought, seek_answer, own_popped}
 use Rattle.solo.specs.Runs as runs
 use Rattle.solo_laws.proofs.Prompt.{chosen}
 use Rattle.solo_laws.proofs.Runs.{moved_on_keeps, round_on_keeps}
@@ -49,14 +49,15 @@ module _ {F W : Type 0} where
   set_length place future es =
       there_length (entry_in place es) (with_future place.key future es) es (with_future_length place.key future es)
 
+module _ {F : Type 0} where
+  -- a statement of how many were accepted, how many futures both tables have, and both limits
+  abbrev pub counting : (ℕ → ℕ → ℕ → ℕ → Type 0) → ℕ → TableValue F → TableValue F → Type 0
+  counting Q a t g = Q a (length t.entries + length g.entries) t.limit g.limit
+
 module _ {F T X : Type 0} where
   -- what a statement says of an executor that reads how many were accepted, and its two tables
   abbrev pub Of : (ℕ → TableValue F → TableValue F → Type 0) → Solo F T X → Type 0
   Of P s = P s.accepted s.table s.going
-
-  -- of how many there are in both, and of both limits, and no more
-  abbrev pub counting : (ℕ → ℕ → ℕ → ℕ → Type 0) → ℕ → TableValue F → TableValue F → Type 0
-  counting Q a t g = Q a (length t.entries + length g.entries) t.limit g.limit
 
   module _ (P : ℕ → TableValue F → TableValue F → Type 0) where
     handed_by_of : (w : Option (SoloWaker X)) (s : Solo F T X) → Of P s → Of P (handed_by w s)

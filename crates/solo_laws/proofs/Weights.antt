@@ -44,18 +44,18 @@ use Rattle.solo_laws.specs.Weights.{weight_owed, weight_inside, handed_in, hande
 use Rattle.solo_laws.proofs.EntryWeights.{held, put_none, set_weight, left_weight, append_weight, displaced_weight, unwoken_weight}
 use Rattle.solo_laws.proofs.EntryWeights.{parts_weight, first_weight, poll_weight, drop_weight}
 use Rattle.solo_laws.proofs.Prompt.{chosen}
-use Rattle.solo_laws.proofs.Frames.{Of, told_of, scheduled_of, scheduled_if_of, let_go_of, left_by_of, woke_of, asleep_of, sought_of}
+use Rattle.solo_laws.proofs.Frames.{told_of, scheduled_of, scheduled_if_of, let_go_of, left_by_of, woke_of, asleep_of, sought_of}
 use Rattle.solo_laws.proofs.Frames.{stolen_of, tick_left_of, run_drained_of}
 
 none_in : {n m : ℕ} → n ≡ m → n ≡ 0 + m
 none_in {n} {m} is = omega (arith, is)
 
 module _ {F : Type 0} (weigh : F → ℕ) where
-  module _ {T X : Type 0} where
-    -- both tables weigh so much
-    abbrev Weighing : ℕ → ℕ → TableValue F → TableValue F → Type 0
-    Weighing n a t g = weight_in weigh t.entries + weight_in weigh g.entries ≡ n
+  -- both tables weigh so much
+  abbrev Weighing : ℕ → ℕ → TableValue F → TableValue F → Type 0
+  Weighing n a t g = weight_in weigh t.entries + weight_in weigh g.entries ≡ n
 
+  module _ {T X : Type 0} where
     abbrev inside : Solo F T X → ℕ
     inside s = weight_inside weigh s
 

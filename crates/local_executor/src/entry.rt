@@ -1,6 +1,6 @@
 //! What a user has and calls. Each call begins with nothing locked or open, which it says by an `Unlocked`: none but these can
 //! make one.
-ghost use Rattle.std.specs.Prelude.{◌≡◌, ◌<◌, Some, IfOk, IfErr, length};
+ghost use Rattle.std.specs.Prelude.{◌≡◌, ◌<◌, Some, IsSome, IfOk, IfErr, length};
 ghost use Rattle.std.specs.Iterator.{IsFinite};
 ghost use Rattle.solo.specs.Solo.{refused};
 ghost use Rattle.local_executor.specs.Spawning.{SpawnsMany};
@@ -121,7 +121,9 @@ where
     }
 
     /// A future that waits for a future of the executor which is to be polled, and polls it once.
-    pub fn tick(&self) -> Result<LocalTick<'_, F, T, W, R>, NoMemory> {
+    pub fn tick(&self) -> Result<LocalTick<'_, F, T, W, R>, NoMemory>
+        ensures { IfOk result (λ tick. IsSome tick.ticker) }
+    {
         self.body.make_tick(&mut Unlocked::at_entry())
     }
 

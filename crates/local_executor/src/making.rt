@@ -1,5 +1,5 @@
 //! How executors, ticks and runs are made: all memory that they need later is taken here.
-ghost use Rattle.std.specs.Prelude.{◌≡◌, ◌<◌, Some, IfOk, IfErr};
+ghost use Rattle.std.specs.Prelude.{◌≡◌, ◌<◌, Some, IsSome, IfOk, IfErr};
 ghost use Rattle.local_executor.specs.Starts.{drawn, seeded};
 
 use crate::body::Body;
@@ -74,7 +74,9 @@ where
     pub(crate) fn make_tick(
         &self,
         unlocked: &mut Unlocked,
-    ) -> Result<LocalTick<'_, F, T, W, R>, NoMemory> {
+    ) -> Result<LocalTick<'_, F, T, W, R>, NoMemory>
+        ensures { IfOk result (λ tick. IsSome tick.ticker) }
+    {
         let made = sections::tick(self.link.lock(unlocked).get());
         match made {
             Ok(ticker) => Ok(LocalTick {

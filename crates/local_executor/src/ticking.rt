@@ -1,4 +1,6 @@
 //! How a tick looks for a task, falls asleep and leaves.
+ghost use Rattle.std.specs.Prelude.{IsSome};
+
 use crate::body::Body;
 use crate::copying::{Copied, copy_for};
 use crate::entry::{LocalExWaker, LocalTick, Unlocked};
@@ -53,7 +55,9 @@ where
         &mut self,
         waker: &LocalExWaker<W, R>,
         unlocked: &mut Unlocked,
-    ) -> Poll<Result<(), NoMemory>> {
+    ) -> Poll<Result<(), NoMemory>>
+        ensures { IsSome self.old.ticker → IsSome self.new.ticker }
+    {
         let executor = self.executor;
         for _ in executor.link.rt().forever() {
             match self.step(waker, unlocked) {
@@ -69,7 +73,9 @@ where
         unreachable!()
     }
 
-    fn step(&mut self, waker: &LocalExWaker<W, R>, unlocked: &mut Unlocked) -> Step {
+    fn step(&mut self, waker: &LocalExWaker<W, R>, unlocked: &mut Unlocked) -> Step
+        ensures { IsSome self.old.ticker → IsSome self.new.ticker }
+    {
         let Some(ticker) = self.ticker.take() else {
             return Step::Pending;
         };

@@ -1,5 +1,5 @@
 //! The handles of tasks of an executor of one thread. They stay on its thread.
-ghost use Rattle.std.specs.Prelude.{◌≡◌};
+ghost use Rattle.std.specs.Prelude.{◌≡◌, false, true};
 
 use crate::entry::{LocalExWaker, Unlocked};
 use crate::foreign::Foreign;
@@ -60,7 +60,9 @@ impl<T: Drop, W: Wake + Drop, R: Wait + Copy + Drop> LocalHandle<T, W, R> {
     }
 
     /// What closes the task when it is first polled, and then has the output where there was one.
-    pub fn cancel(self) -> LocalCancel<T, W, R> {
+    pub fn cancel(self) -> LocalCancel<T, W, R>
+        ensures { result.is_cancelled ≡ false }
+    {
         let LocalHandle { held } = self;
         LocalCancel {
             held,
@@ -88,7 +90,9 @@ impl<T: Drop, W: Wake + Drop, R: Wait + Copy + Drop> LocalFallible<T, W, R> {
     }
 
     /// What closes the task when it is first polled, and then has the output where there was one.
-    pub fn cancel(self) -> LocalCancel<T, W, R> {
+    pub fn cancel(self) -> LocalCancel<T, W, R>
+        ensures { result.is_cancelled ≡ false }
+    {
         let LocalFallible { held } = self;
         LocalCancel {
             held,
@@ -136,7 +140,10 @@ where
 {
     type Output = Result<Option<T>, NoMemory>;
 
-    fn poll(&mut self, waker: &LocalExWaker<W, R>) -> Poll<Result<Option<T>, NoMemory>> {
+    /// Refused too, it has cancelled.
+    fn poll(&mut self, waker: &LocalExWaker<W, R>) -> Poll<Result<Option<T>, NoMemory>>
+        ensures { self.new.is_cancelled ≡ true }
+    {
         let mut unlocked = Unlocked::at_entry();
         if !self.is_cancelled {
             self.is_cancelled = true;

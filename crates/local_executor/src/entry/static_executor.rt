@@ -1,5 +1,5 @@
 //! The executor of one thread that never ends, as a user has it.
-ghost use Rattle.std.specs.Prelude.{◌≡◌, ◌<◌, Some, IfOk, IfErr};
+ghost use Rattle.std.specs.Prelude.{◌≡◌, ◌<◌, Some, IsSome, IfOk, IfErr};
 ghost use Rattle.solo.specs.Solo.{refused};
 ghost use Rattle.local_executor.specs.Starts.{drawn, seeded};
 
@@ -61,7 +61,9 @@ where
     }
 
     /// A future that waits for a future of the executor which is to be polled, and polls it once.
-    pub fn tick(&self) -> Result<LocalTick<'_, F, T, W, R>, NoMemory> {
+    pub fn tick(&self) -> Result<LocalTick<'_, F, T, W, R>, NoMemory>
+        ensures { IfOk result (λ tick. IsSome tick.ticker) }
+    {
         self.body.make_tick(&mut Unlocked::at_entry())
     }
 

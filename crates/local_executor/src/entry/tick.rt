@@ -1,4 +1,6 @@
 //! Ticks of an executor of one thread.
+ghost use Rattle.std.specs.Prelude.{IsSome};
+
 use crate::body::Body;
 use crate::entry::{LocalExWaker, Unlocked};
 use crate::ticking;
@@ -32,8 +34,10 @@ where
 {
     type Output = Result<(), NoMemory>;
 
-    /// Runs a task, and is ready, or falls asleep and is pending.
-    fn poll(&mut self, waker: &LocalExWaker<W, R>) -> Poll<Result<(), NoMemory>> {
+    /// Runs a task, and is ready, or falls asleep and is pending. Refused too, it keeps its room and can be polled again.
+    fn poll(&mut self, waker: &LocalExWaker<W, R>) -> Poll<Result<(), NoMemory>>
+        ensures { IsSome self.old.ticker → IsSome self.new.ticker }
+    {
         self.look(waker, &mut Unlocked::at_entry())
     }
 }

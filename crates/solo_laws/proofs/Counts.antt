@@ -1,5 +1,6 @@
 -- How many futures each call takes away, and how many there are after any list of calls.
-use Rattle.std.proofs.Common.{◌≡◌, inl, inr, ℕ, ◌+◌, ◌-◌, ◌^◌, ◌==◌, ◌<◌, ◌≤◌, min, Bool, true, false, List, [], ◌∷◌, ◌++◌, length, map, Option, Some, None, Ok, Err}
+use Rattle.std.proofs.Common.{◌≡◌, inl, inr, ℕ, ◌+◌, ◌-◌, ◌^◌, ◌==◌, ◌<◌, ◌≤◌, min, Bool, true, false, List, [], ◌∷◌, ◌++◌, length, map}
+use Rattle.std.proofs.Common.{Option, Some, None, Ok, Err}
 use Rattle.std.proofs.Common.{slice_get, is_some, refl, sym, ap, subst, ◌∙◌, arith, length-append}
 use Rattle.std.proofs.lemmas.List.{length-map}
 use Rattle.executor_parts.specs.declared.places.EntryPlace.{EntryPlace}
@@ -31,7 +32,8 @@ use Rattle.solo_laws.specs.Calls.{Cancel, Detach, Poll, Retract, MakeTick, TickT
 use Rattle.solo_laws.specs.Calls.{RunSearch, RunLeave, RunDrain, Leak, LeakNext, Close, Drain}
 use Rattle.solo_laws.specs.Futures.{futures, accepted_by, ended_by, ended_by_settle, sum_of, NoneIsLost, IsNumbered, ComesBack}
 use Rattle.solo_laws.proofs.Prompt.{chosen}
-use Rattle.solo_laws.proofs.Frames.{Of, counting, told_of, scheduled_of, scheduled_if_of, let_go_of, left_by_of, put_of, begun_of, tick_taken_of}
+use Rattle.solo_laws.proofs.Frames.{Of, counting, told_of, scheduled_of, scheduled_if_of, let_go_of, left_by_of, put_of, begun_of}
+use Rattle.solo_laws.proofs.Frames.{tick_taken_of}
 use Rattle.solo_laws.proofs.Frames.{tick_searched_of, tick_left_of, run_taken_of, run_searched_of, run_drained_of}
 
 plus_zero : (n : ℕ) → n + 0 ≡ n
@@ -96,7 +98,8 @@ module _ {F T X : Type 0} where
   retracted : (P : ℕ → ℕ → ℕ → ℕ → Type 0) (task : Task) (s : Solo F T X) → Of (counting P) s → Of (counting P) (closing.retracted task s)
   retracted P task s p = retracted_by P (asked cells.retract_answer None task s.cells) task (turned cells.retracted task s) p
 
-  taken_by : (P : ℕ → ℕ → ℕ → ℕ → Type 0) (first : Option Task) (s : Solo F T X) → Of (counting P) s → Of (counting P) (solo.taken_by first s)
+  taken_by : (P : ℕ → ℕ → ℕ → ℕ → Type 0) (first : Option Task) (s : Solo F T X) → Of (counting P) s
+      → Of (counting P) (solo.taken_by first s)
   taken_by P None s p = p
   taken_by P (Some task) s p = begun_of P task (turns.told s) (told_of (counting P) s p)
 
@@ -116,7 +119,8 @@ module _ {F T X : Type 0} where
       left_by_of (counting (By 1 s)) (parts_of (entry_in place s.table.entries)) (turns.without place s)
       (((refl, omega (arith, fewer)), omega (arith, most)), λ limit one two. (one, two))
 
-  leaving_of : (P : ℕ → ℕ → ℕ → ℕ → Type 0) (task : Task) (s : Solo F T X) → Of (counting P) s → Of (counting P) (closing.leaving_woken task s)
+  leaving_of : (P : ℕ → ℕ → ℕ → ℕ → Type 0) (task : Task) (s : Solo F T X) → Of (counting P) s
+      → Of (counting P) (closing.leaving_woken task s)
   leaving_of P task s p =
       let woken : Solo F T X = solo.woken task s in
       let q : Of (counting P) woken =
@@ -124,11 +128,13 @@ module _ {F T X : Type 0} where
       chosen (Of (counting P)) (asked cells.release_queues false task woken.cells)
       (record (turned cells.released task woken) { line = pushed task woken.line }) (turned cells.released task woken) q q
 
-  line_drained : (P : ℕ → ℕ → ℕ → ℕ → Type 0) (first : Option Task) (s : Solo F T X) → Of (counting P) s → Of (counting P) (closing.line_drained_by first s)
+  line_drained : (P : ℕ → ℕ → ℕ → ℕ → Type 0) (first : Option Task) (s : Solo F T X) → Of (counting P) s
+      → Of (counting P) (closing.line_drained_by first s)
   line_drained P (Some task) s p = retracted P task s p
   line_drained P None s p = p
 
-  waking : (P : ℕ → ℕ → ℕ → ℕ → Type 0) (first : Option Task) (s : Solo F T X) → Of (counting P) s → Of (counting P) (closing.drained_waking first s)
+  waking : (P : ℕ → ℕ → ℕ → ℕ → Type 0) (first : Option Task) (s : Solo F T X) → Of (counting P) s
+      → Of (counting P) (closing.drained_waking first s)
   waking P (Some task) s p = leaving_of P task s p
   waking P None s p = line_drained P (slice_get s.line.items 0) (solo.popped (closing.shut_line s)) p
 
@@ -145,7 +151,8 @@ module _ {F T X : Type 0} where
       drained_by (By 1 s) (first_parts s.going.entries) (closing.first_going s)
       (((refl, omega (arith, fewer)), omega (arith, most)), λ limit one two. (one, two))
 
-  leak_by : (P : ℕ → ℕ → ℕ → ℕ → Type 0) (first : Option Task) (s : Solo F T X) → Of (counting P) s → Of (counting P) (closing.leak_woken_by first s)
+  leak_by : (P : ℕ → ℕ → ℕ → ℕ → Type 0) (first : Option Task) (s : Solo F T X) → Of (counting P) s
+      → Of (counting P) (closing.leak_woken_by first s)
   leak_by P (Some task) s p = leaving_of P task s p
   leak_by P None s p = p
 
@@ -210,7 +217,8 @@ module _ {F T X : Type 0} where
           new_after.1,
         )
 
-    refused_keeps : (future : F) (refused : SpawnError F) (old new : Solo F T X) → solo.Spawns future old (Err refused) new → Keeps 0 old new
+    refused_keeps : (future : F) (refused : SpawnError F) (old new : Solo F T X) → solo.Spawns future old (Err refused) new
+        → Keeps 0 old new
     refused_keeps future (Full back) old new does =
         let table : length new.table.entries ≡ length old.table.entries = ap (λ t. length t.entries) does.0.2.table in
         let rest : length new.going.entries ≡ length old.going.entries = ap (λ (t : Solo F T X). length t.going.entries) does.1 in (
@@ -236,7 +244,8 @@ module _ {F T X : Type 0} where
         kept_at a e 1 old new (solo.finished lent old) is (entry_left_keeps lent.place old) c
     counted_after a e (Wake task) old new is c =
         kept_at a e 0 old new (solo.woken task old) is
-        (scheduled_if_of (counting (By 0 old)) (asked cells.wake_queues false task old.cells) task (turned cells.woken task old) (itself old)) c
+        (scheduled_if_of (counting (By 0 old)) (asked cells.wake_queues false task old.cells) task (turned cells.woken task old)
+        (itself old)) c
     counted_after a e (WakeAndRelease task) old new is c =
         kept_at a e 0 old new (solo.woken_and_released task old) is
         (scheduled_if_of (counting (By 0 old)) (solo.wakes_or_closes task old) task
@@ -246,11 +255,13 @@ module _ {F T X : Type 0} where
         kept_at a e 0 old new (solo.released task old) is (let_go_of (counting (By 0 old)) task old (itself old)) c
     counted_after a e (Cancel task) old new is c =
         kept_at a e 0 old new (solo.cancelled task old) is
-        (scheduled_if_of (counting (By 0 old)) (is_some (asked cells.cancel_queues None task old.cells)) task (turned cells.cancelled task old)
+        (scheduled_if_of (counting (By 0 old)) (is_some (asked cells.cancel_queues None task old.cells)) task
+        (turned cells.cancelled task old)
         (itself old)) c
     counted_after a e (Detach task) old new is c =
         kept_at a e 0 old new (solo.detached task old) is
-        (scheduled_if_of (counting (By 0 old)) (is_some (asked cells.detach_queues None task old.cells)) task (turned cells.detached task old)
+        (scheduled_if_of (counting (By 0 old)) (is_some (asked cells.detach_queues None task old.cells)) task
+        (turned cells.detached task old)
         (itself old)) c
     counted_after a e (Poll task waker) old new is c = kept_at a e 0 old new (solo.polled task waker old) is (itself old) c
     counted_after a e (Retract task) old new is c =
@@ -267,7 +278,8 @@ module _ {F T X : Type 0} where
     counted_after a e MakeRun old new (inr is) c = kept_at a e 0 old new old is (itself old) c
     counted_after a e (RunBegin runner) old new is c = kept_at a e 0 old new (runs.begun runner old) is (itself old) c
     counted_after a e (RunTake runner ticker waker start) old new is c =
-        kept_at a e 0 old new (runs.took runner ticker waker start old) is (run_taken_of (By 0 old) runner ticker waker start old (itself old)) c
+        kept_at a e 0 old new (runs.took runner ticker waker start old) is
+        (run_taken_of (By 0 old) runner ticker waker start old (itself old)) c
     counted_after a e (RunSearch runner ticker start) old new is c =
         kept_at a e 0 old new (runs.searched runner ticker start old) is (run_searched_of (By 0 old) runner ticker start old (itself old)) c
     counted_after a e (RunLeave runner) old new is c = kept_at a e 0 old new (runs.left runner old) is (itself old) c

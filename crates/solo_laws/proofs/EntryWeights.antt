@@ -115,10 +115,12 @@ module _ {F : Type 0} (weigh : F → ℕ) where
   first_weight [] = refl
   first_weight (e ∷ es) = omega arith
 
-  pub poll_weight : (task : Task) (place : EntryPlace) (future : Option F) → weight_found weigh (turns.poll_found task place future) ≡ weight_of weigh future
+  pub poll_weight : (task : Task) (place : EntryPlace) (future : Option F)
+      → weight_found weigh (turns.poll_found task place future) ≡ weight_of weigh future
   poll_weight task place None = refl
   poll_weight task place (Some future) = refl
 
-  pub drop_weight : (task : Task) (place : EntryPlace) (future : Option F) → weight_found weigh (turns.drop_found task place future) ≡ weight_of weigh future
+  pub drop_weight : (task : Task) (place : EntryPlace) (future : Option F)
+      → weight_found weigh (turns.drop_found task place future) ≡ weight_of weigh future
   drop_weight task place None = refl
   drop_weight task place (Some future) = refl

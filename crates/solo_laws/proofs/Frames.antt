@@ -1,5 +1,6 @@
 -- What no queueing, telling, waking or sleeping changes: the futures that there are, and how many were accepted.
-use Rattle.std.proofs.Common.{◌≡◌, ℕ, zero, suc, ◌+◌, ◌%◌, ◌==◌, nat_lt, Bool, true, false, List, [], ◌∷◌, length, Option, Some, None, slice_get, refl, sym, ap, subst}
+use Rattle.std.proofs.Common.{◌≡◌, ℕ, zero, suc, ◌+◌, ◌%◌, ◌==◌, nat_lt, Bool, true, false, List, [], ◌∷◌, length, Option, Some, None}
+use Rattle.std.proofs.Common.{slice_get, refl, sym, ap, subst}
 use Rattle.executor_parts.specs.declared.places.EntryPlace.{EntryPlace}
 use Rattle.executor_parts.specs.Places.{Entry, entry_in, where_there, with_future, set_future}
 use Rattle.executor_parts.specs.Sleepers.{last_waker, without_last, waker_of, position_of, listed}
@@ -199,24 +200,28 @@ module _ {F T X : Type 0} where
 
     found_of : (ticker : Ticker) (task : Task) (s : Solo F T X) → Of (counting Q) s → Of (counting Q) (ticks.found ticker task s)
     found_of ticker task s p =
-        begun_of task (ticks.told_unless (ticks.wake_up_answer ticker s).told.sleeper (ticks.woke_up ticker s)) (woke_of (counting Q) ticker s p)
+        begun_of task (ticks.told_unless (ticks.wake_up_answer ticker s).told.sleeper (ticks.woke_up ticker s))
+        (woke_of (counting Q) ticker s p)
 
     tick_by_of : (first : Option Task) (ticker : Ticker) (waker : SoloWaker X) (s : Solo F T X) → Of (counting Q) s
         → Of (counting Q) (ticks.taken_by first ticker waker s)
     tick_by_of (Some task) ticker waker s p = found_of ticker task s p
     tick_by_of None ticker waker s p = asleep_of (counting Q) ticker waker s p
 
-    pub tick_taken_of : (ticker : Ticker) (waker : SoloWaker X) (s : Solo F T X) → Of (counting Q) s → Of (counting Q) (ticks.taken ticker waker s)
+    pub tick_taken_of : (ticker : Ticker) (waker : SoloWaker X) (s : Solo F T X) → Of (counting Q) s
+        → Of (counting Q) (ticks.taken ticker waker s)
     tick_taken_of ticker waker s p = tick_by_of (slice_get s.line.items 0) ticker waker (popped s) p
 
-    search_by_of : (first : Option Task) (ticker : Ticker) (s : Solo F T X) → Of (counting Q) s → Of (counting Q) (ticks.searched_by first ticker s)
+    search_by_of : (first : Option Task) (ticker : Ticker) (s : Solo F T X) → Of (counting Q) s
+        → Of (counting Q) (ticks.searched_by first ticker s)
     search_by_of (Some task) ticker s p = found_of ticker task s p
     search_by_of None ticker s p = p
 
     pub tick_searched_of : (ticker : Ticker) (s : Solo F T X) → Of (counting Q) s → Of (counting Q) (ticks.searched ticker s)
     tick_searched_of ticker s p = search_by_of (slice_get s.line.items 0) ticker (popped s) p
 
-    run_found_of : (runner : Runner) (ticker : Ticker) (task : Task) (s : Solo F T X) → Of (counting Q) s → Of (counting Q) (runs.found runner ticker task s)
+    run_found_of : (runner : Runner) (ticker : Ticker) (task : Task) (s : Solo F T X) → Of (counting Q) s
+        → Of (counting Q) (runs.found runner ticker task s)
     run_found_of runner ticker task s p =
         let after : Solo F T X = runs.told ticker s in
         let told_after : Of (counting Q) after = woke_of (counting Q) ticker s p in

@@ -276,14 +276,17 @@ module _ {F : Type 0} (weigh : F → ℕ) where
         let after : inside new ≡ inside (turns.scheduled spawned.task s) = ap (λ (t : Solo F T X). inside t) does.2 in
         omega (arith, longer, table, rest, queued, after)
 
-    refused_same : (future : F) (refused : SpawnError F) (old new : Solo F T X) → solo.Spawns future old (Err refused) new → inside new ≡ inside old
+    refused_same : (future : F) (refused : SpawnError F) (old new : Solo F T X) → solo.Spawns future old (Err refused) new
+        → inside new ≡ inside old
     refused_same future (Full back) old new does =
-        let table : weight_in weigh new.table.entries ≡ weight_in weigh old.table.entries = ap (λ t. weight_in weigh t.entries) does.0.2.table in
+        let table : weight_in weigh new.table.entries ≡ weight_in weigh old.table.entries =
+        ap (λ t. weight_in weigh t.entries) does.0.2.table in
         let rest : weight_in weigh new.going.entries ≡ weight_in weigh old.going.entries =
         ap (λ (t : Solo F T X). weight_in weigh t.going.entries) does.1 in
         omega (arith, table, rest)
     refused_same future (NoMemory back) old new does =
-        let table : weight_in weigh new.table.entries ≡ weight_in weigh old.table.entries = ap (λ t. weight_in weigh t.entries) does.0.3.table in
+        let table : weight_in weigh new.table.entries ≡ weight_in weigh old.table.entries =
+        ap (λ t. weight_in weigh t.entries) does.0.3.table in
         let rest : weight_in weigh new.going.entries ≡ weight_in weigh old.going.entries =
         ap (λ (t : Solo F T X). weight_in weigh t.going.entries) does.1 in
         omega (arith, table, rest)

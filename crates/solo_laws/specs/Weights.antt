@@ -17,7 +17,8 @@ use Rattle.solo.specs.Solo as solo
 use Rattle.solo.specs.Ticks as ticks
 use Rattle.solo.specs.Runs as runs
 use Rattle.solo.specs.Closing as closing
-use Rattle.solo_laws.specs.Calls.{Call, Course, Spawn, Take, Settle, Finish, Cancel, Detach, Retract, TickTake, TickSearch, RunTake, RunSearch, Drain}
+use Rattle.solo_laws.specs.Calls.{Call, Course, Spawn, Take, Settle, Finish, Cancel, Detach, Retract, TickTake, TickSearch, RunTake}
+use Rattle.solo_laws.specs.Calls.{RunSearch, Drain}
 use Rattle.solo_laws.specs.Futures.{sum_of}
 
 module _ {F : Type 0} (weigh : F → ℕ) where

@@ -5,11 +5,13 @@ use std::process::Abort;
 use std::sync::Wait;
 
 // An item that can't be dropped, only taken apart.
-struct Held(u64);
+struct Held {
+    number: u64,
+}
 
 fn push<R: Wait + Abort>(rt: &R, queue: &ConcurrentQueue<Held>, number: u64) {
-    if let Err(refused) = queue.push(rt, Held(number)) {
-        let Held(_) = refused.into_inner();
+    if let Err(refused) = queue.push(rt, Held { number }) {
+        let Held { number: _ } = refused.into_inner();
         same(rt, "pushed", "refused");
     }
 }
@@ -17,7 +19,7 @@ fn push<R: Wait + Abort>(rt: &R, queue: &ConcurrentQueue<Held>, number: u64) {
 // Takes out what is left, which are the numbers from this one on, ends it, and answers how much it was.
 fn end<R: Abort>(rt: &R, mut left: Remains<Held>, first: u64) -> u64 {
     let mut count = 0u64;
-    while let Some(Held(number)) = left.next() {
+    while let Some(Held { number }) = left.next() {
         same(rt, number, first.wrapping_add(count));
         count = count.wrapping_add(1);
     }
@@ -30,7 +32,7 @@ fn taken_apart<R: Wait + Abort>(rt: &R, queue: ConcurrentQueue<Held>, held: u64)
     for number in 0..held {
         push(rt, &queue, number);
     }
-    if let Ok(Held(number)) = queue.pop(rt) {
+    if let Ok(Held { number }) = queue.pop(rt) {
         same(rt, number, 0);
         push(rt, &queue, held);
     }

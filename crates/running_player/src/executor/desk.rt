@@ -52,16 +52,12 @@ where
     R: Wait + Copy + Drop + 'static,
 {
     fn spawn(&self, plan: Plan<H>) -> Result<H, Refused<H>> {
-        match scripted(self.shelf, plan) {
-            Ok(future) => {
-                let future = F::planned(future);
-                match &self.executor {
-                    OneOf::Owned(executor) => answered(self.shelf, executor.spawn(future)),
-                    OneOf::Static(executor) => answered(self.shelf, executor.spawn(future)),
-                }
-            }
-            Err(refused) => Err(refused),
-        }
+        let future = scripted(self.shelf, plan)?;
+        let spawned = match &self.executor {
+            OneOf::Owned(executor) => executor.spawn(F::planned(future)),
+            OneOf::Static(executor) => executor.spawn(F::planned(future)),
+        };
+        answered(self.shelf, spawned)
     }
 
     fn try_tick(&self) -> bool {
@@ -87,21 +83,19 @@ where
     }
 
     fn tick(&self) -> Option<ScriptTick<'a, F, R>> {
-        match &self.executor {
+        let made = match &self.executor {
             OneOf::Owned(executor) => {
                 let executor: &'a ScriptExecutor<F, R> = *executor;
-                match executor.tick() {
-                    Ok(tick) => Some(tick),
-                    Err(_) => None,
-                }
+                executor.tick()
             }
             OneOf::Static(executor) => {
                 let executor: &'a ScriptStatic<F, R> = *executor;
-                match executor.tick() {
-                    Ok(tick) => Some(tick),
-                    Err(_) => None,
-                }
+                executor.tick()
             }
+        };
+        match made {
+            Ok(tick) => Some(tick),
+            Err(_) => None,
         }
     }
 
@@ -109,17 +103,11 @@ where
         match &self.executor {
             OneOf::Owned(executor) => {
                 let executor: &'a ScriptExecutor<F, R> = *executor;
-                match executor.run(own) {
-                    Ok(run) => Ok(run),
-                    Err(own) => Err(own),
-                }
+                executor.run(own)
             }
             OneOf::Static(executor) => {
                 let executor: &'a ScriptStatic<F, R> = *executor;
-                match executor.run(own) {
-                    Ok(run) => Ok(run),
-                    Err(own) => Err(own),
-                }
+                executor.run(own)
             }
         }
     }

@@ -148,7 +148,7 @@ where
     R: Wait + Copy + Drop + 'static,
 {
     let mut player = player;
-    match play_open(&mut player, &*shelf, &executor, commands) {
+    match play_open(&mut player, shelf, &executor, commands) {
         Stop::Over => drop(executor),
         Stop::End(place) => {
             drop(executor);
@@ -159,7 +159,7 @@ where
             show_end(&player.stage, Word::Leak, Answer::Done);
             play_leaked(
                 &mut player,
-                &*shelf,
+                shelf,
                 &executor,
                 commands,
                 place.saturating_add(1),

@@ -1,5 +1,5 @@
 //! Who calls the kept wakers of a script's futures, and lets them go.
-use crate::local::handle::Kept;
+use crate::handle::Kept;
 use async_task::Wake;
 use script::Name;
 use script_player::{Keep, SharedShelf};

@@ -1,9 +1,9 @@
 //! From the text of a script to the text of what it does.
 ghost use Rattle.std.specs.Prelude.{◌<◌};
 
-use crate::local::desk::{OnLocal, OneOf, ScriptExecutor, ScriptRun, ScriptStatic, ScriptTick};
-use crate::local::handle::{Handle, Kept};
-use crate::local::keeper::Keeper;
+use crate::desk::{OnLocal, OneOf, ScriptExecutor, ScriptRun, ScriptStatic, ScriptTick};
+use crate::handle::{Handle, Kept};
+use crate::keeper::Keeper;
 use local_executor::{LocalExecutor, StaticLocalExecutor};
 use script::{Command, Word};
 use script_player::{

@@ -1,10 +1,11 @@
 //! Where scripts are played, as code over any runtime type may know it. Such code gets no proof of calls on an executor whose
 //! futures hold handles: so it is generic over what `Plays`, and a program that has its runtime value says which that is.
-use crate::executor::future::Planned;
-use crate::executor::handle::{Handle, HoldIn, ScriptRealm, ScriptWaker, Stored};
-use crate::executor::keeper::{KeepIn, Keeper};
-use crate::executor::playing::play_script;
-use script_player::{KeptOf, PlayError, Scripted};
+use crate::errors::PlayError;
+use crate::future::{Planned, Scripted};
+use crate::handle::{Handle, HoldIn};
+use crate::outside::ScriptRealm;
+use crate::playing::play_script;
+use crate::shelf::{KeepIn, Keeper};
 use std::alloc::Global;
 use std::marker::PhantomData;
 use std::sync::Wait;
@@ -22,25 +23,24 @@ pub trait Plays {
 /// Where the futures of scripts are `F`, their handles `H`, and who keeps their wakers `K`. The tasks of all scripts lie in the
 /// realm. A program writes it as a struct where it has its `rt`: no call that takes the realm beside such types gets a proof.
 #[derive(Drop)]
-pub struct Theatre<F, H, S, K, R: Wait + Copy + Drop + 'static> {
+pub struct Theatre<F, H, K, R: Wait + Copy + Drop + 'static> {
     pub rt: R,
     pub alloc: Global,
     pub realm: &'static ScriptRealm<R>,
-    pub kinds: PhantomData<(F, H, S, K)>,
+    pub kinds: PhantomData<(F, H, K)>,
 }
 
 /// The one that a program names.
-pub type ExecutorPlayer<R> = Theatre<Scripted<Handle<R>, Stored>, Handle<R>, Stored, Keeper<R>, R>;
+pub type ExecutorPlayer<R> = Theatre<Scripted<Handle<R>>, Handle<R>, Keeper<R>, R>;
 
-impl<F, H, S, K, R> Plays for Theatre<F, H, S, K, R>
+impl<F, H, K, R> Plays for Theatre<F, H, K, R>
 where
-    F: Planned<H, S, R>,
+    F: Planned<H, R>,
     H: HoldIn<R>,
-    S: KeptOf<ScriptWaker<R>>,
-    K: KeepIn<S, R>,
+    K: KeepIn<R>,
     R: Wait + Copy + Drop + 'static,
 {
     fn play(&self, script: &[u8]) -> Result<Vec<u8>, PlayError> {
-        play_script::<F, H, S, K, R>(self.rt, self.alloc, self.realm, script)
+        play_script::<F, H, K, R>(self.rt, self.alloc, self.realm, script)
     }
 }

@@ -1,5 +1,5 @@
 //! The executors of a script.
-use crate::local::handle::{Handle, Kept};
+use crate::handle::{Handle, Kept};
 use async_task::{Future, Poll};
 use local_executor::{
     LocalExWaker, LocalExecutor, LocalHandle, LocalRun, LocalTick, RunError, SpawnError,

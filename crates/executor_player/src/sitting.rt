@@ -1,0 +1,174 @@
+//! The commands of a script on its executor, and on the ticks and runs of that.
+use crate::answer::Answer;
+use crate::desk::{Desk, Plan};
+use crate::handle::Hold;
+use crate::outside::Bell;
+use crate::own::Own;
+use crate::player::{Named, Player, put};
+use crate::seat::{Sit, SitRun, SitTick};
+use crate::shelf::Keep;
+use crate::stage::Shared;
+use script::{Item, Name, Plain};
+use std::alloc::Global;
+use std::collections::BTreeMap;
+use std::rc::Rc;
+
+/// The ticks and runs of a script.
+#[derive(Drop)]
+pub struct Seats<T: Drop, N: Drop> {
+    ticks: Named<T>,
+    runs: Named<N>,
+}
+
+impl<T: Drop, N: Drop> Seats<T, N> {
+    /// None yet.
+    pub fn new(alloc: Global) -> Seats<T, N> {
+        Seats {
+            ticks: BTreeMap::new(alloc),
+            runs: BTreeMap::new(alloc),
+        }
+    }
+
+    /// Whether each tick and run is dropped.
+    pub fn are_free(&self) -> bool {
+        self.ticks.is_empty() & self.runs.is_empty()
+    }
+}
+
+impl<H: Hold, K: Keep> Player<H, K> {
+    /// Makes the call of a command.
+    pub fn call<D, T, N>(&mut self, desk: &D, seats: &mut Seats<T, N>, plain: &Plain) -> Answer
+    where
+        D: Desk<H>,
+        T: SitTick<D>,
+        N: SitRun<D, H>,
+    {
+        match plain {
+            Plain::Spawn { name, items } => self.spawn(desk, *name, items.as_slice()),
+            Plain::Try => Answer::of(desk.try_tick()),
+            Plain::Empty => Answer::of(desk.is_empty()),
+            Plain::Tick(name) => self.make_tick(desk, &mut seats.ticks, *name),
+            Plain::Run { name, twice } => self.make_run(desk, &mut seats.runs, *name, *twice),
+            Plain::PollTick(name) => poll_seat(&mut seats.ticks, *name, &self.stage),
+            Plain::DropTick(name) => drop_seat(&mut seats.ticks, *name),
+            Plain::PollRun(name) => poll_seat(&mut seats.runs, *name, &self.stage),
+            Plain::DropRun(name) => drop_seat(&mut seats.runs, *name),
+            plain => self.call_on_handle(plain),
+        }
+    }
+
+    /// Spawns a future of this name, where that is free and the handles are there that the items name.
+    fn spawn<D: Desk<H>>(&mut self, desk: &D, name: Name, items: &[Item]) -> Answer {
+        if self.knows(name) || !self.has_handles(items) {
+            return Answer::NotPossible;
+        }
+        let Ok(own_items) = Vec::from_slice(self.alloc, items) else {
+            return Answer::NoMemory;
+        };
+        let Ok(handles) = Rc::clone(&self.handles) else {
+            return Answer::NoMemory;
+        };
+        let held = self.take_handles(items);
+        match desk.spawn(Plan {
+            name,
+            items: own_items,
+            held,
+            handles,
+        }) {
+            Ok(handle) => {
+                self.learn(name);
+                self.put_handle(name, handle);
+                Answer::Made
+            }
+            Err(refused) => {
+                self.put_all(refused.held);
+                refused.answer
+            }
+        }
+    }
+
+    fn make_tick<D, T: SitTick<D>>(
+        &mut self,
+        desk: &D,
+        ticks: &mut Named<T>,
+        name: Name,
+    ) -> Answer {
+        if self.knows(name) {
+            return Answer::NotPossible;
+        }
+        match T::at(desk) {
+            Some(tick) => self.sit(ticks, name, tick),
+            None => Answer::NoMemory,
+        }
+    }
+
+    fn sit<S: Drop>(&mut self, seats: &mut Named<S>, name: Name, seat: S) -> Answer {
+        self.learn(name);
+        put(seats, name, seat, &self.stage);
+        Answer::Made
+    }
+
+    /// Makes a run, whose own future holds the handle of this name, if any.
+    fn make_run<D, N: SitRun<D, H>>(
+        &mut self,
+        desk: &D,
+        runs: &mut Named<N>,
+        name: Name,
+        twice: Option<Name>,
+    ) -> Answer {
+        if self.knows(name) {
+            return Answer::NotPossible;
+        }
+        match twice {
+            Some(twice) if !self.has_handle(twice) => Answer::NotPossible,
+            Some(twice) => {
+                let held = self.take_held(twice);
+                self.hand_over(desk, runs, name, Own { twice: held })
+            }
+            None => self.hand_over(desk, runs, name, Own { twice: None }),
+        }
+    }
+
+    fn hand_over<D, N: SitRun<D, H>>(
+        &mut self,
+        desk: &D,
+        runs: &mut Named<N>,
+        name: Name,
+        own: Own<H>,
+    ) -> Answer {
+        match N::at(desk, own) {
+            Ok(run) => self.sit(runs, name, run),
+            Err(own) => {
+                let Own { twice } = own;
+                if let Some(held) = twice {
+                    self.put_held(held);
+                }
+                Answer::NoMemory
+            }
+        }
+    }
+}
+
+/// Polls a tick or run by the outside waker of its name.
+fn poll_seat<S: Sit>(seats: &mut Named<S>, name: Name, stage: &Shared) -> Answer {
+    match seats.remove(&name) {
+        Some(seat) => {
+            let mut seat = seat;
+            let answer = seat.poll_by(Bell::of(name, stage));
+            put(seats, name, seat, stage);
+            answer
+        }
+        None => Answer::NotPossible,
+    }
+}
+
+/// Drops a tick or run.
+fn drop_seat<S: Drop>(seats: &mut Named<S>, name: Name) -> Answer {
+    match seats.remove(&name) {
+        Some(seat) => {
+            drop(seat);
+            Answer::Done
+        }
+        None => Answer::NotPossible,
+    }
+}

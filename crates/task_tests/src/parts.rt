@@ -135,8 +135,11 @@ impl<R: Wait + Copy + Drop> Line<R> {
         counts.longest.fetch_max(queue.len() as u64, SeqCst);
         drop(queue);
         let sleeper = counts.sleepers.lock(&self.rt).pop();
-        match sleeper?.wake(self.rt, realm) {
-            Some(Due { runnable, info: _ }) => Some(runnable),
+        match sleeper {
+            Some(sleeper) => match sleeper.wake(self.rt, realm) {
+                Some(Due { runnable, info: _ }) => Some(runnable),
+                None => None,
+            },
             None => None,
         }
     }
@@ -213,8 +216,11 @@ pub fn next<R: Wait + Copy + Drop + 'static>(
     counts: &Counts,
 ) -> Option<TestRunnable<R>> {
     let stored = counts.queue.lock(&rt).pop();
-    match stored?.redeem(rt, realm) {
-        Some(scheduled) => Some(scheduled.into_runnable()),
+    match stored {
+        Some(stored) => match stored.redeem(rt, realm) {
+            Some(scheduled) => Some(scheduled.into_runnable()),
+            None => None,
+        },
         None => None,
     }
 }

@@ -25,6 +25,7 @@ pub mod RunTakes
 pub mod RunEnds
 pub mod EndedRuns
 pub mod NoAnswers
+pub mod PendingPolls
 pub mod Makings
 pub mod HandleAnswers
 pub mod Numbered

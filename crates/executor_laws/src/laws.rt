@@ -19,6 +19,7 @@ ghost use Rattle.executor_laws.specs.LoneAnswers.{IsLoneEmptinessExact, IsLoneTi
 ghost use Rattle.executor_laws.specs.Makings.{MadeIsMade};
 ghost use Rattle.executor_laws.specs.NoAnswers.{NoMeansEmpty};
 ghost use Rattle.executor_laws.specs.Numbered.{RequestsAreNumbered};
+ghost use Rattle.executor_laws.specs.PendingPolls.{RunsLookFirst, TicksLookFirst};
 ghost use Rattle.executor_laws.specs.Places.{StandsWithKeeper};
 ghost use Rattle.executor_laws.specs.Reach.{IsInReach, IsReachedInOrder};
 ghost use Rattle.executor_laws.specs.RunAnswers.{IsReadyAtItsEnd};
@@ -74,6 +75,15 @@ pub fn no_comes_at_once()
 /// Whatever others do meanwhile, a try of a tick is answered no only by a step in which the executor's queue is empty.
 pub fn no_means_that_nothing_was_queued()
     ensures { EveryMachine NoMeansEmpty }
+{}
+
+/// Whatever others do meanwhile, a poll of a tick is answered that nothing is ready only where it looked for a future, by a step
+/// in which the executor's queue was empty. A poll of a run is answered so only where it looked into its own queue, then into the
+/// executor's queue, and each was empty as it looked, and then went through the list of queues; or where it called its own
+/// waker, after 200 futures.
+pub fn nothing_is_ready_where_none_was_found()
+    ensures ticks { EveryMachine TicksLookFirst }
+    ensures runs { EveryMachine RunsLookFirst }
 {}
 
 /// Whatever others do meanwhile, the next thing of a party that begins the making of a tick or of a run is its answer; and where

@@ -47,10 +47,10 @@ use Rattle.executor_laws.proofs.Fewness.AnyStacks.Stays.{going, over}
 
 -- a step of the machine
 
-set-other : (p i : ℕ) (s : Machine) (x : Part) → p ≢ i → stack (with_part s i x) p ≡ stack s p
+pub set-other : (p i : ℕ) (s : Machine) (x : Part) → p ≢ i → stack (with_part s i x) p ≡ stack s p
 set-other p i s x n = get_or-set_other s.parties i p x.todo [] n
 
-set-same : (p : ℕ) (s : Machine) (x : Part) → p < length s.parties → stack (with_part s p x) p ≡ x.todo
+pub set-same : (p : ℕ) (s : Machine) (x : Part) → p < length s.parties → stack (with_part s p x) p ≡ x.todo
 set-same p s x l = get_or-set_same s.parties p x.todo [] l
 
 record Uses (q : ℕ) (s : Machine) : Type 0 where

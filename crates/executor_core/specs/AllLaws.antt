@@ -53,6 +53,7 @@ use Rattle.executor_laws.specs.LoneEnds.{LoneCallsEnd}
 use Rattle.executor_laws.specs.Makings.{MadeIsMade}
 use Rattle.executor_laws.specs.NoAnswers.{NoMeansEmpty}
 use Rattle.executor_laws.specs.Numbered.{RequestsAreNumbered}
+use Rattle.executor_laws.specs.PendingPolls.{RunsLookFirst, TicksLookFirst}
 use Rattle.executor_laws.specs.Queueings.{CountsQueueings}
 use Rattle.executor_laws.specs.Remaining.{EachListEnds, EachStepLowers}
 use Rattle.executor_laws.specs.AtRest.{EmptinessIsExact, TicksAreExact}
@@ -258,3 +259,6 @@ pub record AllLaws (s : Machine) : Type 0 where
   pub at_once : (p : ℕ) → NoComesAtOnce p s.world.trace
   -- nor, where a tick was tried, but by a step that finds the queue empty
   pub no_means : NoMeansEmpty s
+  -- and a poll of a tick or run is answered that nothing is ready only where it looked and found none
+  pub ticks_look : TicksLookFirst s
+  pub runs_look : RunsLookFirst s

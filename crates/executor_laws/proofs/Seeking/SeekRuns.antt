@@ -172,24 +172,31 @@ module _ (p : ℕ) (x : RunPoll) (old : List Op) where
   goes-before : (s : Machine) (u : Step) (d : Done) → Again d → Goes before s u d
   goes-before s u d k = goes_on before k (λ ts z. inr (inr z))
 
-  looks-own : (s : Machine) (h : Hint) → refusal s (Go p h) ≡ None → top (stack s p) ≡ Some (op.Tick (tick_op.Search (asleep x))) →
+  looks-own : (s : Machine) (h : Hint) → refusal s (Go p h) ≡ None →
+      top (stack s p) ≡ Some (op.Tick (tick_op.Search (asleep x))) →
       (q : List ℕ) → own_of s.world x.run ≡ q → Goes before s (Go p h) (search_own_by q s.world x)
   looks-own s h e o [] i = goes_on at_common (record { control = _; side = _; is = refl; kind = refl; light = refl })
       (λ ts z. ⊎_elim
-      (λ (y : CommonHadNone x p ts (stepped s (step s (Go p h)))). inl (record {
-        looks = record { hint = h; is = refl; possible = e; next = o };
-        none = i;
-      }, y))
+      (λ (y : CommonHadNone x p ts (stepped s (step s (Go p h)))). inl (
+        record {
+          looks = record { hint = h; is = refl; possible = e; next = o };
+          none = i;
+        },
+        y,
+      ))
       (λ (y : RunFoundNone x p ts (stepped s (step s (Go p h)))). inr (inr y)) z)
   looks-own s h e o (f ∷ rest) i = goes-before s (Go p h) _ (found-again (put_own s.world x.run rest) x f refl)
 
   looks-common : (s : Machine) (h : Hint) → refusal s (Go p h) ≡ None → top (stack s p) ≡ Some (op.Run (run_op.SearchCommon x)) →
       (q : List ℕ) → s.world.queue.items ≡ q → Goes at_common s (Go p h) (search_common_by q s.world x)
   looks-common s h e o [] i = goes_on at_list (record { control = _; side = _; is = refl; kind = refl; light = refl })
-      (λ ts z. inl (inl (record {
-        looks = record { hint = h; is = refl; possible = e; next = o };
-        none = i;
-      }, z)))
+      (λ ts z. inl (inl (
+        record {
+          looks = record { hint = h; is = refl; possible = e; next = o };
+          none = i;
+        },
+        z,
+      )))
   looks-common s h e o (f ∷ rest) i = goes_on before
       (record { control = _; side = _; is = refl; kind = (refl, tt); light = refl }) (λ ts z. inr (inr (inr z)))
 

@@ -367,8 +367,8 @@ module _ (p : ℕ) (old : List Op) (I : Type 0) (C : I → Op → Type 0) where
     seek f (t ∷ ts) s y i h a = by (λ j x z. seek f ts (stepped s (step s t)) (reached-on s (t ∷ []) y) j x z)
         (one f s (tops-here s y) i h t) a
       where
-        by : ((j : I) → Stays j (stack (stepped s (step s t)) p) → IsAnswered reply.Pending p old ts (stepped s (step s t)) → Q j ts (stepped s (step s t))) → Went i s t →
-            IsAnswered reply.Pending p old (t ∷ ts) s → Q i (t ∷ ts) s
+        by : ((j : I) → Stays j (stack (stepped s (step s t)) p) → IsAnswered reply.Pending p old ts (stepped s (step s t)) →
+            Q j ts (stepped s (step s t))) → Went i s t → IsAnswered reply.Pending p old (t ∷ ts) s → Q i (t ∷ ts) s
         by again (had_so k) z = k ts
         by again (went j (on x) k) z = ⊎_elim
             (λ (b : Answers s t p reply.Pending × (stack (stepped s (step s t)) p ≡ old)).

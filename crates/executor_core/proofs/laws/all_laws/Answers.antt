@@ -97,4 +97,6 @@ returns c limit kind parties steps =
       emptiness_at_rest = c.calls_at_rest_are_exact.ensures.emptiness limit kind parties steps;
       at_once = c.no_comes_at_once.ensures limit kind parties steps;
       no_means = c.laws_of_answers.ensures.no limit kind parties steps;
+      ticks_look = c.laws_of_answers.ensures.ticks_look limit kind parties steps;
+      runs_look = c.laws_of_answers.ensures.runs_look limit kind parties steps;
     }

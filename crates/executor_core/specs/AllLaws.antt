@@ -67,6 +67,7 @@ use Rattle.executor_laws.specs.RunFew.{PollsFew}
 use Rattle.executor_laws.specs.RunPolls.{KeepersCanBePolled, RunsCanBePolled}
 use Rattle.executor_laws.specs.RunSearch.{FindsDue}
 use Rattle.executor_laws.specs.RunTakes.{TakesUpFew}
+use Rattle.executor_laws.specs.TakesTold.{TakesAreTold}
 use Rattle.executor_laws.specs.RunTurns.{IsCommonReached}
 use Rattle.executor_laws.specs.Ticks.{IsTickExact}
 
@@ -241,6 +242,8 @@ pub record AllLaws (s : Machine) : Type 0 where
   pub polls_few : PollsFew s
   -- and any poll of a run takes 200 up at most
   pub takes_few : TakesUpFew s
+  -- what is taken up is polled, and told of, or dropped
+  pub takes_told : TakesAreTold s
   -- what a run kept is common once it was dropped alone
   pub left : LeavesCommon s
   -- a lone call is answered as it is

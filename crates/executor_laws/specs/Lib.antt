@@ -22,6 +22,7 @@ pub mod RunTurns
 pub mod KeptFirst
 pub mod RunFew
 pub mod RunTakes
+pub mod TakesTold
 pub mod RunEnds
 pub mod EndedRuns
 pub mod NoAnswers

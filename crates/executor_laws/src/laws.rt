@@ -31,6 +31,7 @@ ghost use Rattle.executor_laws.specs.RunPolls.{KeepersCanBePolled, RunsCanBePoll
 ghost use Rattle.executor_laws.specs.RunSearch.{FindsDue};
 ghost use Rattle.executor_laws.specs.RunTakes.{TakesUpFew};
 ghost use Rattle.executor_laws.specs.RunTurns.{IsCommonReached};
+ghost use Rattle.executor_laws.specs.TakesTold.{TakesAreTold};
 ghost use Rattle.executor_laws.specs.Ticks.{IsTickExact};
 
 /// Calls end. In each machine to which steps of a new one lead, each step that begins no further call
@@ -88,7 +89,7 @@ pub fn nothing_is_ready_where_none_was_found()
 
 /// Whatever others do meanwhile, the next thing of a party that begins the making of a tick or of a run is its answer; and where
 /// that is that it was made, one of the party's own steps since then made it: one more, which lives, with the next number. So
-/// what is made wasn't there before, and no poll of a run was told of before.
+/// what is made wasn't there before, and no poll of it has begun before.
 pub fn what_is_made_is_new()
     ensures { EveryMachine MadeIsMade }
 {}
@@ -211,6 +212,13 @@ pub fn runs_poll_few_futures()
 /// others do meanwhile, whatever user code answers, and whatever calls that begin inside of the poll take up.
 pub fn runs_take_few_futures()
     ensures { EveryMachine TakesUpFew }
+{}
+
+/// A step that takes a future up begins its poll, and tells of it; where the future is closed, its drop is the next thing that
+/// the party does, unless the drop of the executor drops it. No other step begins a poll of a future. So what counts as taken up
+/// is what the trace tells of.
+pub fn futures_are_polled_where_they_are_taken_up()
+    ensures { (s : Machine) → TakesAreTold s }
 {}
 
 /// Where no call is in progress, the drop of the executor hasn't begun and a run keeps a future, each party can poll the run

@@ -1,91 +1,78 @@
 //! What the program has to say.
-use std::fmt;
 
-/// A call that takes memory.
-#[derive(Clone, Copy)]
-pub enum Call {
-    Realm,
-    New,
-    Tick,
-    PollOfTick,
-    Spawn,
-    Run,
-    PollOfRun,
-    SpawnMany,
-    /// Those of `waiting`.
-    Event,
-    Listen,
-    Oneshot,
-    Channel,
-    Recv,
-    Send,
-    /// None of an executor: the realm of jobs.
-    JobRealm,
-    /// None of an executor: what `taskrun jobs 2` does.
-    Jobs,
-    /// None of an executor: the program's own waker.
-    Own,
-    /// None at all.
-    Nothing,
-}
-
-impl fmt::Display for Call {
-    fn fmt<O: fmt::Write>(&self, f: &mut fmt::Formatter<O>) -> fmt::Result {
-        f.write_str(match self {
-            Call::Realm => "realm",
-            Call::New => "new",
-            Call::Tick => "tick",
-            Call::PollOfTick => "poll of a tick",
-            Call::Spawn => "spawn",
-            Call::Run => "run",
-            Call::PollOfRun => "poll of a run",
-            Call::SpawnMany => "spawn_many",
-            Call::Event => "event",
-            Call::Listen => "listen",
-            Call::Oneshot => "oneshot",
-            Call::Channel => "channel",
-            Call::Recv => "recv",
-            Call::Send => "send",
-            Call::JobRealm => "realm of jobs",
-            Call::Jobs => "jobs",
-            Call::Own => "its own",
-            Call::Nothing => "nothing",
-        })
-    }
-}
+/// Of none of the calls: the program's own memory.
+pub const OWN: &str = "its own";
 
 /// Which call was refused, and whether all was as it has to be.
 #[derive(Drop)]
 pub struct Report {
-    refused: Call,
-    is_right: bool,
+    /// Whose calls are made.
+    place: &'static str,
+    /// Which of its calls is made, counted from 1, where they are rows.
+    row: u64,
+    refused: Option<Refused>,
+    wrong: Option<Wrong>,
+}
+
+/// Where something was wrong first.
+#[derive(Clone, Copy)]
+pub struct Wrong {
+    pub place: &'static str,
+    pub row: u64,
+}
+
+/// The name of a call, and whose it is.
+#[derive(Clone, Copy)]
+pub struct Refused {
+    pub place: &'static str,
+    pub call: &'static str,
 }
 
 impl Report {
     pub fn new() -> Report {
         Report {
-            refused: Call::Nothing,
-            is_right: true,
+            place: OWN,
+            row: 0,
+            refused: None,
+            wrong: None,
         }
     }
 
-    pub fn refused(&self) -> Call {
+    /// From now on calls of this are made.
+    pub fn come_to(&mut self, place: &'static str) {
+        self.place = place;
+        self.row = 0;
+    }
+
+    /// The next row is at hand.
+    pub fn go_on(&mut self) {
+        self.row = self.row.saturating_add(1);
+    }
+
+    pub fn refused(&self) -> Option<Refused> {
         self.refused
     }
 
-    pub fn is_right(&self) -> bool {
-        self.is_right
+    /// Nothing, where all is right.
+    pub fn wrong(&self) -> Option<Wrong> {
+        self.wrong
     }
 
     /// This call was refused, which is right where no other was: one request is refused in all.
-    pub fn is_refused(&mut self, call: Call) {
-        let is_first = matches!(self.refused, Call::Nothing);
-        self.refused = call;
+    pub fn is_refused(&mut self, call: &'static str) {
+        let is_first = self.refused.is_none();
+        let place = self.place;
+        self.refused = Some(Refused { place, call });
         self.expect(is_first);
     }
 
     /// What is so where all is right.
     pub fn expect(&mut self, is_so: bool) {
-        self.is_right = self.is_right & is_so;
+        if !is_so & self.wrong.is_none() {
+            self.wrong = Some(Wrong {
+                place: self.place,
+                row: self.row,
+            });
+        }
     }
 }

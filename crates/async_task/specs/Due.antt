@@ -1,6 +1,6 @@
 -- What is owed to a task's schedule value by a call that isn't the end of a poll.
 use Rattle.std.specs.Prelude.{◌≡◌}
-use Rattle.async_task.specs.Handles.{Handle}
+use Rattle.async_task.specs.Handles.{Resting}
 use Rattle.async_task.specs.declared.cell.scheduled.Due.{Due}
 use Rattle.std.specs.Prelude.{false}
 use Rattle.task_moves.specs.declared.schedule_info.ScheduleInfo.{ScheduleInfo}
@@ -9,7 +9,7 @@ use Rattle.task_moves.specs.declared.schedule_info.ScheduleInfo.{ScheduleInfo}
 abbrev pub WasIdle : ScheduleInfo → Type 0
 WasIdle info = info.woken_while_running ≡ false
 
--- it is the Runnable of this task
-pub record IsDueBy {F T S M W R : Type 0} (task : Handle M) (due : Due F T S M W R) : Type 0 where
-  pub runnable : due.runnable ≡ task
+-- it is the Runnable of the task that lies there
+pub record IsDueBy {F T S M W R : Type 0} (site : Resting) (due : Due F T S M W R) : Type 0 where
+  pub runnable : due.runnable.identity ≡ site.identity
   pub idle : WasIdle due.info

@@ -1,6 +1,5 @@
 //! The cell that all handles of one task share, and the way of a handle to it.
 ghost use Rattle.std.specs.Prelude.{◌≡◌, ◌↔◌, IfErr, IsTrue};
-ghost use Rattle.async_task.specs.Slots.{CanRead};
 
 mod calls;
 mod fixed;
@@ -8,9 +7,10 @@ mod paying;
 mod resting;
 mod returning;
 mod scheduled;
+mod site;
 mod turns;
 
-use crate::cell::fixed::{Claimed, Fixed, Slot, claim, end, leave, no_task_s, read};
+use crate::cell::fixed::{Fixed, Slot, no_task_s};
 pub(crate) use crate::cell::paying::pay_due;
 pub use crate::cell::resting::Detached;
 pub(crate) use crate::cell::resting::{
@@ -19,6 +19,7 @@ pub(crate) use crate::cell::resting::{
 pub use crate::cell::returning::{GoesBack, Returning, close_returned};
 pub(crate) use crate::cell::scheduled::find_with;
 pub use crate::cell::scheduled::{Due, Scheduled, StoredRunnable, StoredWaker};
+pub(crate) use crate::cell::site::Site;
 pub(crate) use crate::cell::turns::{Remains, Rest, Woken, paid, was_woken};
 use crate::realm::{Cells, Vacant};
 use crate::stored_task::StoredTask;
@@ -234,23 +235,12 @@ where
         }
     }
 
-    /// The way to the task at this place, with the metadata that lie there.
+    /// The place of the task, without its metadata.
     #[inline(always)]
-    pub fn find(rt: R, realm: &'static Realm<F, T, S, M, W>, place: usize) -> Option<Self>
-        ensures { IfSome result
-            (λ held. held.identity ≡ record { realm = realm.now.number; place = place }) }
+    pub(crate) fn site(&self) -> Site<F, T, S, M, W, R>
+        ensures { result.identity ≡ self.now.identity }
     {
-        match realm.lasting(place) {
-            Some(cell) => match claim(&rt, &cell.fixed) {
-                Some(claim) => {
-                    let held = Held::of(rt, realm, place, cell, read(&claim).metadata);
-                    held.leave_slot(claim);
-                    Some(held)
-                }
-                None => None,
-            },
-            None => None,
-        }
+        Site::of(self.rt, self.realm, self.place, self.cell)
     }
 
     /// The handle for a list.
@@ -293,23 +283,6 @@ where
         ensures { result.now ≡ self.now.metadata }
     {
         &self.metadata
-    }
-
-    /// The task is gone: its place is free, once nobody reads there any more.
-    pub(crate) fn empty(&self) {
-        if end(&self.rt, &self.cell.fixed) {
-            self.realm.release(self.place);
-        }
-    }
-
-    /// Ends a read of what never changes of the task.
-    #[inline(always)]
-    fn leave_slot(&self, claim: Claimed<'_, S, M>)
-        requires { CanRead claim }
-    {
-        if leave(&self.cell.fixed, claim) {
-            self.realm.release(self.place);
-        }
     }
 }
 

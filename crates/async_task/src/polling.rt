@@ -4,7 +4,7 @@ ghost use Rattle.async_task.specs.Polls.{found_by, FoundAt, gives, IsTold};
 ghost use Rattle.task_word.specs.Handles.{IsHandleOf};
 ghost use Rattle.task_word.specs.Tokens.{IsThere};
 
-use crate::cell::{Held, Kept, Place, Scheduled, TaskToken, kept, paid, pay_due};
+use crate::cell::{Held, Kept, Place, Scheduled, Site, TaskToken, kept, paid, pay_due};
 use crate::schedule::Schedule;
 use crate::wake::Wake;
 use crate::waker::Awaiter;
@@ -107,7 +107,7 @@ where
     } = waiting.register(&held.rt(), kept).1;
     pay_due(held.call_some(paid(to_call)));
     if let Some(before) = paid(to_drop) {
-        pay_due(held.let_go(before));
+        pay_due(Site::let_go(held.rt(), held.realm(), before));
     }
     let (owed, polled) = task.look_again(&held.rt());
     let (token, found) = answered(held, owed, polled);

@@ -3,7 +3,7 @@ ghost use Rattle.async_task.specs.Rests.{was_woken_by};
 ghost use Rattle.async_task.specs.Runs.{BeginsAt};
 
 use crate::cell::{
-    Due, Held, Kept, Remains, Rest, RunnableToken, Scheduled, Woken, pay_due, was_woken,
+    Due, Held, Kept, Remains, Rest, RunnableToken, Scheduled, Site, Woken, pay_due, was_woken,
 };
 use crate::lent::LentWaker;
 use crate::look::TooManyReferences;
@@ -228,7 +228,7 @@ where
         match closed {
             Closed::Runnable(closed) => held.leave(closed.settle(&held.rt()).1),
             Closed::Run(closed) => held.leave(closed.settle(&held.rt()).1),
-            Closed::Left(Remains { owed, left }) => held.pay(held.left(owed, left)),
+            Closed::Left(Remains { owed, left }) => held.pay(held.site().left(owed, left)),
         }
     }
 }
@@ -250,7 +250,7 @@ where
     {
         let Self { held, remains } = self;
         let Remains { owed, left } = remains;
-        let rest = held.left(owed, left);
+        let rest = held.site().left(owed, left);
         let woken = was_woken(&rest);
         held.pay(rest);
         woken
@@ -265,13 +265,13 @@ where
     {
         let Self { held, remains } = self;
         let Remains { owed, left } = remains;
-        match held.left(owed, left) {
+        match held.site().left(owed, left) {
             Rest::Queue(Woken { token, info }) => Some(Due {
                 runnable: Scheduled { held, token },
                 info,
             }),
             Rest::Drop(kept) => {
-                pay_due(held.let_go(kept));
+                pay_due(Site::let_go(held.rt(), held.realm(), kept));
                 None
             }
             Rest::Nothing => None,

@@ -76,7 +76,7 @@ impl<M> StoredTask<M> {
             parked,
         } = self;
         match find_with(rt, realm, returns, place, metadata) {
-            Some(held) => match held.unpark(parked) {
+            Some(held) => match held.site().unpark(parked) {
                 Ok((token, duty)) => Ok(Task::of(held, token, duty)),
                 Err(parked) => Err(StoredTask {
                     returns,

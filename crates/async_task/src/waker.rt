@@ -114,7 +114,7 @@ where
     fn wake(self) {
         let Self { held, token } = self;
         held.wake_and_queue();
-        held.pay(held.release(token));
+        held.pay(held.site().release(token));
     }
 
     fn wake_by_ref(&self) {
@@ -148,7 +148,7 @@ where
 {
     fn drop(self) {
         let Self { held, token } = self;
-        held.pay(held.release(token));
+        held.pay(held.site().release(token));
     }
 }
 

@@ -5,6 +5,7 @@
 #![tactic(auto)]
 
 mod line;
+mod local;
 mod runs;
 mod sim;
 mod steps;
@@ -15,6 +16,7 @@ use line::Line;
 use runs::Realms;
 use std::env;
 use std::process::ExitCode;
+use std::random::RandomSource;
 use std::rt::{Clock, Env};
 use std::sync::Wait;
 use std::thread::Threads;
@@ -64,7 +66,18 @@ where
     L: Chain<R> + Future<Waker<R>, Output = u64> + Drop,
     P: Worker<R> + Sync + Drop,
     J: JobSite<R, Gate = Open> + Sync + Drop,
-    R: AllocGlobal + Env + Print + Eprint + Clock + Wait + Threads + Sync + Copy + Drop + 'static,
+    R: AllocGlobal
+        + Env
+        + Print
+        + Eprint
+        + Clock
+        + RandomSource
+        + Wait
+        + Threads
+        + Sync
+        + Copy
+        + Drop
+        + 'static,
 {
     match arguments(rt)? {
         Asked::List => list(rt),
@@ -103,7 +116,17 @@ where
     L: Chain<R> + Future<Waker<R>, Output = u64> + Drop,
     P: Worker<R> + Sync + Drop,
     J: JobSite<R, Gate = Open> + Sync + Drop,
-    R: AllocGlobal + Print + Eprint + Clock + Wait + Threads + Sync + Copy + Drop + 'static,
+    R: AllocGlobal
+        + Print
+        + Eprint
+        + Clock
+        + RandomSource
+        + Wait
+        + Threads
+        + Sync
+        + Copy
+        + Drop
+        + 'static,
 {
     let timing = runs::run::<L, P, J, R>(workload.work(), rt, realms, ops)?;
     eprintln!(rt; "{} moved {}", workload.name(), timing.moved)?;
@@ -122,7 +145,7 @@ where
     L: Chain<R> + Future<Waker<R>, Output = u64> + Drop,
     P: Worker<R> + Sync + Drop,
     J: JobSite<R, Gate = Open> + Sync + Drop,
-    R: AllocGlobal + Print + Clock + Wait + Threads + Sync + Copy + Drop + 'static,
+    R: AllocGlobal + Print + Clock + RandomSource + Wait + Threads + Sync + Copy + Drop + 'static,
 {
     let timing = runs::run::<L, P, J, R>(workload.work(), rt, realms, ops)?;
     let line = Line {

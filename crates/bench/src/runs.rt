@@ -1,6 +1,7 @@
-use crate::{sim, steps};
+use crate::{local, sim, steps};
 use async_task::Future;
 use std::alloc::AllocGlobal;
+use std::random::RandomSource;
 use std::rt::Clock;
 use std::sync::Wait;
 use std::thread::Threads;
@@ -25,7 +26,7 @@ where
     L: Chain<R> + Future<Waker<R>, Output = u64> + Drop,
     P: Worker<R> + Sync + Drop,
     J: JobSite<R, Gate = Open> + Sync + Drop,
-    R: AllocGlobal + Clock + Wait + Threads + Sync + Copy + Drop + 'static,
+    R: AllocGlobal + Clock + RandomSource + Wait + Threads + Sync + Copy + Drop + 'static,
 {
     match work {
         Work::FetchAdd => base::fetch_add(rt, ops),
@@ -36,6 +37,7 @@ where
         Work::Script(pollers) => sim::lines(rt, pollers, ops),
         Work::Task(work) => task::time(work, *rt, rt.alloc(), realms.tasks, ops),
         Work::Executor(work) => executor::time::<L, P, R>(work, rt, realms.futures, ops),
+        Work::Local(work) => local::time(work, rt, ops),
         Work::Jobs(work) => job::time::<J, R>(work, rt, realms.jobs, ops),
     }
 }

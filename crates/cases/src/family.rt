@@ -1,12 +1,9 @@
 //! The families of scripts: what plays them, and where they lie.
 
 use crate::players::Players;
-use crate::shown::{
-    Shown, machine, shown_by_executor, shown_by_local, shown_by_queue, shown_by_tasks,
-};
-use executor_player::Plays;
-use local_player::play_local;
+use crate::shown::{Shown, machine, shown_by_executor, shown_by_queue, shown_by_tasks};
 use queue_player::{play_exclusive, play_shared};
+use running_player::{Plays, play_local};
 use std::alloc::{AllocError, AllocGlobal};
 use std::random::RandomSource;
 use std::sync::Wait;
@@ -114,10 +111,9 @@ impl Family {
     {
         match self {
             Family::Machine => machine(rt.alloc(), script),
-            Family::Executor => shown_by_executor(players.executors.play(script)),
-            Family::Static => shown_by_executor(players.executors.play(script)),
+            Family::Executor | Family::Static => shown_by_executor(players.executors.play(script)),
             Family::Local | Family::StaticLocal => {
-                shown_by_local(play_local(rt, rt.alloc(), script))
+                shown_by_executor(play_local(rt, rt.alloc(), script))
             }
             Family::Queue => shown_by_queue(play_shared(rt, rt.alloc(), script)),
             Family::Exclusive => shown_by_queue(play_exclusive(rt.alloc(), script)),

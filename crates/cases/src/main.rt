@@ -11,10 +11,10 @@ mod players;
 mod shown;
 mod verdict;
 
-use executor_player::{ExecutorPlayer, Plays, ScriptRealm};
 use family::Family;
 use fault::Fault;
 use players::Players;
+use running_player::{ExecutorPlayer, Plays, ScriptRealm};
 use std::alloc::AllocGlobal;
 use std::marker::PhantomData;
 use std::process::ExitCode;

@@ -3,7 +3,7 @@
 ghost use Rattle.std.specs.Prelude.{IfOk};
 ghost use Rattle.cases.specs.Owed.{IsShown};
 
-use executor_player::PlayError;
+use running_player::PlayError;
 use std::alloc::{AllocError, Global};
 
 /// What a player shows of a script.
@@ -43,18 +43,6 @@ pub fn shown_by_executor(shown: Result<Vec<u8>, PlayError>) -> Result<Shown, All
         Ok(text) => Ok(Shown::Text(text)),
         Err(PlayError::BadLine(number) | PlayError::NotWhole(number)) => Ok(Shown::BadLine(number)),
         Err(PlayError::NoMemory) => Err(AllocError),
-    }
-}
-
-/// What the player of an executor of one thread shows of a script, in the same way.
-pub fn shown_by_local(
-    shown: Result<Vec<u8>, local_player::PlayError>,
-) -> Result<Shown, AllocError> {
-    match shown {
-        Ok(text) => Ok(Shown::Text(text)),
-        Err(local_player::PlayError::BadLine(number)) => Ok(Shown::BadLine(number)),
-        Err(local_player::PlayError::NotWhole(number)) => Ok(Shown::BadLine(number)),
-        Err(local_player::PlayError::NoMemory) => Err(AllocError),
     }
 }
 

@@ -5,7 +5,7 @@ use crate::family::Family;
 use crate::fault::Fault;
 use crate::players::Players;
 use crate::shown::Shown;
-use executor_player::Plays;
+use running_player::Plays;
 use std::alloc::AllocGlobal;
 use std::io::{self, Write};
 use std::random::RandomSource;

@@ -5,9 +5,9 @@ use std::io;
 
 /// A future that adds the numbers from `left` down to 1, one a poll.
 #[derive(Drop)]
-struct Sum {
-    left: u64,
-    sum: u64,
+pub struct Sum {
+    pub left: u64,
+    pub sum: u64,
 }
 
 impl<K: Wake> Future<K> for Sum {

@@ -11,6 +11,10 @@ mod first_task;
 #[cfg(test)]
 mod hello;
 #[cfg(test)]
+mod one_thread;
+#[cfg(test)]
+mod own_executor;
+#[cfg(test)]
 mod pipeline;
 #[cfg(test)]
 mod sleepers;
@@ -18,3 +22,5 @@ mod sleepers;
 mod thread_pool;
 #[cfg(test)]
 mod two_kinds;
+#[cfg(test)]
+mod two_threads;

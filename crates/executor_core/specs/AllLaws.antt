@@ -45,11 +45,14 @@ use Rattle.executor_model.specs.WalksRound.{WalksGoRound}
 use Rattle.executor_laws.specs.Called.{KeeperIsCalled, SomeStandingIsCalled}
 use Rattle.executor_laws.specs.AtOnce.{NoComesAtOnce}
 use Rattle.executor_laws.specs.Continued.{IsContinued}
+use Rattle.executor_laws.specs.EndedRuns.{EndedIsFinished}
 use Rattle.executor_laws.specs.GoingOn.{GoesOn, HolderGoesOn}
 use Rattle.executor_laws.specs.HandleAnswers.{CancelledMeansOver}
+use Rattle.executor_laws.specs.KeptFirst.{TakesKeptFirst}
 use Rattle.executor_laws.specs.LoneEnds.{LoneCallsEnd}
 use Rattle.executor_laws.specs.Makings.{MadeIsMade}
 use Rattle.executor_laws.specs.NoAnswers.{NoMeansEmpty}
+use Rattle.executor_laws.specs.Numbered.{RequestsAreNumbered}
 use Rattle.executor_laws.specs.Queueings.{CountsQueueings}
 use Rattle.executor_laws.specs.Remaining.{EachListEnds, EachStepLowers}
 use Rattle.executor_laws.specs.AtRest.{EmptinessIsExact, TicksAreExact}
@@ -57,11 +60,12 @@ use Rattle.executor_laws.specs.LoneAnswers.{IsLoneEmptinessExact, IsLoneTickExac
 use Rattle.executor_laws.specs.Places.{StandsWithKeeper}
 use Rattle.executor_laws.specs.Reach.{IsInReach, IsReachedInOrder}
 use Rattle.executor_laws.specs.RunAnswers.{IsReadyAtItsEnd}
-use Rattle.executor_laws.specs.RunEnds.{EndsByItsOwn}
+use Rattle.executor_laws.specs.RunEnds.{EndsByItsOwn, EndsOnlyByItsOwn}
 use Rattle.executor_laws.specs.RunReach.{IsKeptReached, IsReachedByRuns, LeavesCommon}
 use Rattle.executor_laws.specs.RunFew.{PollsFew}
 use Rattle.executor_laws.specs.RunPolls.{KeepersCanBePolled, RunsCanBePolled}
 use Rattle.executor_laws.specs.RunSearch.{FindsDue}
+use Rattle.executor_laws.specs.RunTakes.{TakesUpFew}
 use Rattle.executor_laws.specs.RunTurns.{IsCommonReached}
 use Rattle.executor_laws.specs.Ticks.{IsTickExact}
 
@@ -154,6 +158,9 @@ pub record AllLaws (s : Machine) : Type 0 where
   pub refusals : (p : ℕ) → RefusedChangesNothing s.world p
   -- want of memory is answered only where the hint says so, or where a task has too many references
   pub want : (p : ℕ) → IsWantToldOf s.world p
+  -- and to a command only where one of its own requests was refused, or was for one reference too many; requests are numbered,
+  -- and up to the one that alone is refused all is as where none is
+  pub numbered : RequestsAreNumbered s
   -- of whole calls, and of what is reached
 
   -- each call that has ended was answered in its kind, and did itself what its name says
@@ -208,6 +215,11 @@ pub record AllLaws (s : Machine) : Type 0 where
   pub run_answers : (r : ℕ) → IsReadyAtItsEnd s r
   -- and a run ends, or is answered so, only where its own future was ready, or where it is dropped
   pub run_ends : (r : ℕ) → EndsByItsOwn s r
+  -- from the beginning on too, whatever calls use it
+  pub run_ends_only : (limit : ℕ) (kind : Kind) (parties : ℕ) (steps : List Step) → s ≡ run steps (start limit kind parties) →
+      (r : ℕ) → EndsOnlyByItsOwn limit kind parties steps r
+  -- a poll of a run that has ended is answered so
+  pub ended_runs : EndedIsFinished s
   -- a due future stands with its keeper, and else in the executor's queue
   pub places_of_due : StandsWithKeeper s
   -- a lone poll of a run takes what the run keeps, and else what is common
@@ -216,6 +228,8 @@ pub record AllLaws (s : Machine) : Type 0 where
   pub finds_due : FindsDue s
   -- and all that it keeps
   pub kept_reached : IsKeptReached s
+  -- before anything else
+  pub kept_first : TakesKeptFirst s
   -- a list of such polls takes each common future
   pub common_reached : IsCommonReached s
   -- a run that keeps a future can be polled so
@@ -224,6 +238,8 @@ pub record AllLaws (s : Machine) : Type 0 where
   pub runs_polled : RunsCanBePolled s
   -- a lone poll of a run polls 200 futures at most
   pub polls_few : PollsFew s
+  -- and any poll of a run takes 200 up at most
+  pub takes_few : TakesUpFew s
   -- what a run kept is common once it was dropped alone
   pub left : LeavesCommon s
   -- a lone call is answered as it is

@@ -1,4 +1,8 @@
 //! All laws of every machine, in one record.
+ghost use Rattle.std.specs.Prelude.{ℕ, List};
+ghost use Rattle.executor_model.specs.declared.kind.Kind.{Kind};
+ghost use Rattle.executor_model.specs.declared.step.Step.{Step};
+ghost use Rattle.executor_model.specs.Steps.{Machine};
 ghost use Rattle.executor_model.specs.AskedPolls.{IsWokenBetweenPolls};
 ghost use Rattle.executor_model.specs.AwaiterKept.{AwaiterIsKept};
 ghost use Rattle.executor_model.specs.CopiesMean.{CopiesAreCounted};
@@ -26,18 +30,21 @@ ghost use Rattle.executor_laws.specs.Called.{KeeperIsCalled, SomeStandingIsCalle
 ghost use Rattle.executor_laws.specs.HandleAnswers.{CancelledMeansOver};
 ghost use Rattle.executor_laws.specs.Makings.{MadeIsMade};
 ghost use Rattle.executor_laws.specs.NoAnswers.{NoMeansEmpty};
-ghost use Rattle.executor_laws.specs.RunEnds.{EndsByItsOwn};
+ghost use Rattle.executor_laws.specs.Numbered.{RequestsAreNumbered};
+ghost use Rattle.executor_laws.specs.EndedRuns.{EndedIsFinished};
+ghost use Rattle.executor_laws.specs.RunEnds.{EndsByItsOwn, EndsOnlyByItsOwn};
 ghost use Rattle.executor_core.specs.AllLaws.{AllLaws};
 
 use executor_laws::laws::{
     arrival_order_needs_fewer_ticks, calls_at_rest_are_exact, calls_end, cancelled_means_over,
     common_futures_are_in_reach, common_futures_are_in_reach_of_runs,
-    dropped_runs_leave_common_futures, due_futures_stand_with_their_keepers, keepers_are_called,
-    keepers_can_be_polled, kept_futures_are_in_reach, lone_calls_are_exact, lone_calls_end,
-    no_comes_at_once, no_means_that_nothing_was_queued, queueings_are_counted,
+    dropped_runs_leave_common_futures, due_futures_stand_with_their_keepers,
+    ended_runs_are_finished, keepers_are_called, keepers_can_be_polled, kept_futures_are_in_reach,
+    kept_futures_come_first, lone_calls_are_exact, lone_calls_end, no_comes_at_once,
+    no_means_that_nothing_was_queued, queueings_are_counted, requests_are_numbered,
     runs_are_ready_at_their_end, runs_can_be_polled, runs_end_by_their_own_futures,
-    runs_find_due_futures, runs_poll_few_futures, runs_reach_futures, some_standing_is_called,
-    ticks_are_exact, traces_continue, what_is_made_is_new,
+    runs_find_due_futures, runs_poll_few_futures, runs_reach_futures, runs_take_few_futures,
+    some_standing_is_called, ticks_are_exact, traces_continue, what_is_made_is_new,
 };
 use executor_model::call_laws::{
     calls_do_what_they_say, closings_say_why, copies_are_counted, leaks_wake_each_future,
@@ -96,7 +103,9 @@ pub fn all_laws()
     runs_reach_futures();
     runs_find_due_futures();
     runs_poll_few_futures();
+    runs_take_few_futures();
     kept_futures_are_in_reach();
+    kept_futures_come_first();
     keepers_can_be_polled();
     runs_can_be_polled();
     dropped_runs_leave_common_futures();
@@ -172,10 +181,16 @@ fn laws_of_answers()
     ensures cancelled { EveryTrace CancelledMeansOver }
     ensures made { EveryMachine MadeIsMade }
     ensures ends { EveryExecution EndsByItsOwn }
+    ensures ends_only { (limit : ℕ) (kind : Kind) (parties : ℕ) (steps : List Step) (r : ℕ) →
+        EndsOnlyByItsOwn limit kind parties steps r }
+    ensures finished { (s : Machine) → EndedIsFinished s }
     ensures no { EveryMachine NoMeansEmpty }
+    ensures numbered { EveryMachine RequestsAreNumbered }
 {
     cancelled_means_over();
     what_is_made_is_new();
     runs_end_by_their_own_futures();
+    ended_runs_are_finished();
     no_means_that_nothing_was_queued();
+    requests_are_numbered();
 }

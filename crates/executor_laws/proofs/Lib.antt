@@ -12,3 +12,4 @@ pub mod Termination
 pub mod Turns
 pub mod Wakeups
 pub mod Walks
+pub mod Wants

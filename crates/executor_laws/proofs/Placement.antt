@@ -23,3 +23,5 @@ pub mod BoundWays
 pub mod Placing
 pub mod RunAnswers
 pub mod OwnReady
+pub mod OwnAlways
+pub mod EndedRuns

@@ -7,3 +7,6 @@ pub mod RunLeaves
 pub mod RunDrops
 pub mod RunSteps
 pub mod RunKeeps
+pub mod TakenUp
+pub mod KeptLines
+pub mod KeptWalks

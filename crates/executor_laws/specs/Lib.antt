@@ -19,8 +19,12 @@ pub mod RunAnswers
 pub mod RunSearch
 pub mod RunPolls
 pub mod RunTurns
+pub mod KeptFirst
 pub mod RunFew
+pub mod RunTakes
 pub mod RunEnds
+pub mod EndedRuns
 pub mod NoAnswers
 pub mod Makings
 pub mod HandleAnswers
+pub mod Numbered

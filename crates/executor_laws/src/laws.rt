@@ -14,17 +14,21 @@ ghost use Rattle.executor_laws.specs.Queueings.{CountsQueueings};
 ghost use Rattle.executor_laws.specs.Remaining.{EachListEnds, EachStepLowers};
 ghost use Rattle.executor_laws.specs.Called.{KeeperIsCalled, SomeStandingIsCalled};
 ghost use Rattle.executor_laws.specs.AtRest.{EmptinessIsExact, TicksAreExact};
+ghost use Rattle.executor_laws.specs.KeptFirst.{TakesKeptFirst};
 ghost use Rattle.executor_laws.specs.LoneAnswers.{IsLoneEmptinessExact, IsLoneTickExact};
 ghost use Rattle.executor_laws.specs.Makings.{MadeIsMade};
 ghost use Rattle.executor_laws.specs.NoAnswers.{NoMeansEmpty};
+ghost use Rattle.executor_laws.specs.Numbered.{RequestsAreNumbered};
 ghost use Rattle.executor_laws.specs.Places.{StandsWithKeeper};
 ghost use Rattle.executor_laws.specs.Reach.{IsInReach, IsReachedInOrder};
 ghost use Rattle.executor_laws.specs.RunAnswers.{IsReadyAtItsEnd};
 ghost use Rattle.executor_laws.specs.RunReach.{IsKeptReached, IsReachedByRuns, LeavesCommon};
-ghost use Rattle.executor_laws.specs.RunEnds.{EndsByItsOwn};
+ghost use Rattle.executor_laws.specs.EndedRuns.{EndedIsFinished};
+ghost use Rattle.executor_laws.specs.RunEnds.{EndsByItsOwn, EndsOnlyByItsOwn};
 ghost use Rattle.executor_laws.specs.RunFew.{PollsFew};
 ghost use Rattle.executor_laws.specs.RunPolls.{KeepersCanBePolled, RunsCanBePolled};
 ghost use Rattle.executor_laws.specs.RunSearch.{FindsDue};
+ghost use Rattle.executor_laws.specs.RunTakes.{TakesUpFew};
 ghost use Rattle.executor_laws.specs.RunTurns.{IsCommonReached};
 ghost use Rattle.executor_laws.specs.Ticks.{IsTickExact};
 
@@ -79,6 +83,14 @@ pub fn what_is_made_is_new()
     ensures { EveryMachine MadeIsMade }
 {}
 
+/// Whatever others do meanwhile, each step of a party that asks for memory is one request of the command that it is in, and nothing
+/// else is. A call of the command is answered that memory is wanted only where one of these was refused, or was one for the copy of
+/// a waker of a task that has 2^40 references. A command of which the k-th request is refused, and no other, is up to that request
+/// the command of which none is, and has its trace; a request that is refused ends the call that asked.
+pub fn requests_are_numbered()
+    ensures { EveryMachine RequestsAreNumbered }
+{}
+
 /// A poll of a handle is answered that there is no output and will be none only where the future was cancelled, its output was
 /// given to a poll, or a call took the handle; or where nobody was left who could wake it, or the drop of the executor had begun.
 pub fn cancelled_means_over()
@@ -108,9 +120,18 @@ pub fn runs_are_ready_at_their_end()
 
 /// Whatever the parties do, a run that lives, that no call uses and that hasn't ended ends later, and a poll of it is answered
 /// that its own future is ready, only where meanwhile the own future did answer so, or where the run is dropped. So a poll
-/// that finds nothing isn't answered so, and a run doesn't end by it.
+/// that finds nothing isn't answered so, and a run doesn't end by it. And from the beginning on, whatever calls use it, a run
+/// that was made has ended, and a poll of it was answered so, only where its own future did, or where it was dropped.
 pub fn runs_end_by_their_own_futures()
-    ensures { EveryExecution EndsByItsOwn }
+    ensures since { EveryExecution EndsByItsOwn }
+    ensures always { (limit : ℕ) (kind : Kind) (parties : ℕ) (steps : List Step) (r : ℕ) →
+        EndsOnlyByItsOwn limit kind parties steps r }
+{}
+
+/// A poll of a run that has ended is answered that the run is finished, in the step by which it begins, and does nothing
+/// else.
+pub fn ended_runs_are_finished()
+    ensures { (s : Machine) → EndedIsFinished s }
 {}
 
 /// Where no call is in progress and the drop of the executor hasn't begun, the Runnable of a due future stands in the
@@ -176,6 +197,12 @@ pub fn runs_poll_few_futures()
     ensures { EveryMachine PollsFew }
 {}
 
+/// Any poll of a run takes 200 futures up at most, each time counted, and those too that it drops as they are closed: whatever
+/// others do meanwhile, whatever user code answers, and whatever calls that begin inside of the poll take up.
+pub fn runs_take_few_futures()
+    ensures { EveryMachine TakesUpFew }
+{}
+
 /// Where no call is in progress, the drop of the executor hasn't begun and a run keeps a future, each party can poll the run
 /// alone, by any outside waker, to the end of that poll, in which the run's own future isn't ready.
 pub fn keepers_can_be_polled()
@@ -201,6 +228,14 @@ pub fn runs_find_due_futures()
 /// those, whatever other user code answers in them and whatever the run keeps meanwhile.
 pub fn kept_futures_are_in_reach()
     ensures { EveryMachine IsKeptReached }
+{}
+
+/// Where no call is in progress and the drop of the executor hasn't begun, polls of a run that are made alone, one after the
+/// other, and in which the run's own future isn't ready, whatever other user code answers in them, take up first the futures
+/// that the run keeps, in the order in which they stand in its own queue: none that it didn't keep at the start comes before
+/// one that it kept.
+pub fn kept_futures_come_first()
+    ensures { EveryMachine TakesKeptFirst }
 {}
 
 /// A run takes first what stands in its own queue, then what is common, and what it moves from there keeps its turn: as many

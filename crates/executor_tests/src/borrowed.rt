@@ -23,12 +23,11 @@ impl<K: Wake> Future<K> for Says {
 fn a_borrowed_text_outlives_its_executor(rt: HostRuntime) -> Result<(), Fail> {
     let (alloc, realm) = (rt.alloc(), Realm::leak(rt, rt.alloc())?);
     let executor = Executor::<Says, Text, Nobody, HostRuntime>::new(rt, alloc, realm, 1)?;
-    let Ok(task) = executor.spawn(Says(Text("hello"))) else {
+    let Ok(mut task) = executor.spawn(Says(Text("hello"))) else {
         panic!(rt; "refused");
     };
     let has_ticked = executor.try_tick();
     drop(executor);
-    let mut task = task;
     let is_given = match task.poll(&Awaiter::Outside(Nobody)) {
         Poll::Ready(Ok(Text(text))) => text == "hello",
         _ => false,

@@ -5,10 +5,6 @@
 #[cfg(test)]
 mod borrowed;
 #[cfg(test)]
-mod hello;
-#[cfg(test)]
-mod kinds;
-#[cfg(test)]
 mod locks;
 #[cfg(test)]
 mod many;

@@ -68,7 +68,7 @@ impl<F: Planned<R>, R: Abort + Wait + Copy + Drop + 'static> Stage<F, R> {
         };
         let is_ready = self.poll(&mut tick) == End::Ready;
         self.drop_handle(task);
-        lies & is_ready & self.executor.try_tick()
+        lies & is_ready & self.try_tick()
     }
 
     /// Makes all calls that lead to code of a user.

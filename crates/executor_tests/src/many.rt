@@ -123,7 +123,7 @@ impl<F: Planned<R>, R: Abort + Wait + Copy + Drop + 'static> Stage<F, R> {
     /// Ticks until nothing is due, and says how many futures were dropped so far.
     fn dropped(&self) -> u64 {
         for _ in 0..100 {
-            if !self.executor.try_tick() {
+            if !self.try_tick() {
                 break;
             }
         }

@@ -245,42 +245,30 @@ impl<R: Wait + Copy + Drop + 'static> Job<R> {
                 None
             }
             Work::Meddle(meddler) => {
-                let name = self.name;
-                let is_done = meddler.is_done(self.rt, self.realm, name, &self.notes, waker);
-                is_done.then_some(name)
+                if !meddler.has_given_way {
+                    meddler.has_given_way = true;
+                    waker.wake_by_ref();
+                    return None;
+                }
+                let Some(stored) = mem::replace(&mut meddler.other, None) else {
+                    return Some(self.name);
+                };
+                let Some(task) = stored.redeem(self.rt, self.realm) else {
+                    return Some(self.name);
+                };
+                if self.name % 4 < 2 {
+                    return meddler
+                        .awaits(task, &self.notes, waker)
+                        .then_some(self.name);
+                }
+                give_up(self.name, task, waker);
+                Some(self.name)
             }
         }
     }
 }
 
 impl Meddler {
-    /// The first poll gives way, the second does what the name says. Only who awaits goes on after that.
-    fn is_done<R: Wait + Copy + Drop + 'static>(
-        &mut self,
-        rt: R,
-        realm: &'static TestRealm<R>,
-        name: u64,
-        notes: &Notes,
-        waker: &TestWaker<R>,
-    ) -> bool {
-        if !self.has_given_way {
-            self.has_given_way = true;
-            waker.wake_by_ref();
-            return false;
-        }
-        let Some(stored) = mem::replace(&mut self.other, None) else {
-            return true;
-        };
-        let Some(task) = stored.redeem(rt, realm) else {
-            return true;
-        };
-        if name % 4 < 2 {
-            return self.awaits(task, notes, waker);
-        }
-        give_up(name, task, waker);
-        true
-    }
-
     /// Polls the other's handle, and says whether its task has ended. The handle stays.
     fn awaits<R: Wait + Copy + Drop + 'static>(
         &mut self,

@@ -89,7 +89,7 @@ impl<F: Planned<R>, R: Abort + Wait + Copy + Drop + 'static> Stage<F, R> {
         for Turn(copies, end, rings) in turns {
             self.notes.copies.store(*copies, SeqCst);
             is_so = is_so & (self.poll(&mut seat) == *end);
-            is_so = is_so & other.spawn_detached(other.ready(0)) & other.executor.try_tick();
+            is_so = is_so & other.spawn_detached(other.ready(0)) & other.try_tick();
             is_so = is_so & self.spawn_detached(self.ready(0)) & (self.rings() == *rings);
         }
         is_so

@@ -2,9 +2,11 @@
 //! cheap to prove. No request for memory is refused here, but for copies of wakers.
 ghost use Rattle.std.specs.Prelude.{◌<◌};
 
-use crate::kinds::TestKind;
-use crate::parts::{Bell, Gift, Job, Notes, TestExecutor, TestRealm, TestWaker, Work, drop_stored};
-use async_executor::{Run, RunError, Tick};
+use crate::parts::{
+    Bell, Gift, Job, Notes, TestExecutor, TestRealm, TestStatic, TestTask, TestWaker, Work,
+    drop_stored,
+};
+use async_executor::{Run, RunError, SpawnError, Tick};
 use async_task::{Awaiter, Future, NoMemory, Poll, RealmError, Returning, StoredTask};
 use std::alloc::Global;
 use std::process::Abort;
@@ -47,8 +49,6 @@ pub enum End {
     NoMemory,
     /// The run gave its output before.
     Finished,
-    /// There is nothing to poll.
-    Nothing,
 }
 
 /// A tick or run.
@@ -58,9 +58,15 @@ where
     F: Drop,
     R: Wait + Copy + Drop + 'static,
 {
-    Free,
     Tick(Tick<'a, F, Gift, Bell, R>),
     Run(Run<'a, F, Gift, Bell, R, F>),
+}
+
+/// An executor of either kind.
+#[derive(Drop)]
+pub enum TestKind<F: Drop, R: Wait + Copy + Drop + 'static> {
+    Owned(TestExecutor<F, R>),
+    Static(TestStatic<F, R>),
 }
 
 /// An executor with its notes.
@@ -101,16 +107,24 @@ impl<F: Planned<R>, R: Abort + Wait + Copy + Drop + 'static> Stage<F, R> {
         let Ok(realm) = realm else {
             panic!(rt; "no realm");
         };
-        match TestKind::new(rt, alloc, realm, is_static, limit) {
-            Ok(executor) => Stage {
-                rt,
-                alloc,
-                realm,
-                notes: Notes::new(alloc, limit).expect(&rt, "memory"),
-                executor,
-                accepted: AtomicU64::new(0),
-            },
-            Err(_) => panic!(rt; "memory"),
+        let executor = if is_static {
+            let Ok(executor) = TestStatic::new(rt, alloc, realm, limit) else {
+                panic!(rt; "memory");
+            };
+            TestKind::Static(executor)
+        } else {
+            let Ok(executor) = TestExecutor::new(rt, alloc, realm, limit) else {
+                panic!(rt; "memory");
+            };
+            TestKind::Owned(executor)
+        };
+        Stage {
+            rt,
+            alloc,
+            realm,
+            notes: Notes::new(alloc, limit).expect(&rt, "memory"),
+            executor,
+            accepted: AtomicU64::new(0),
         }
     }
 
@@ -157,9 +171,16 @@ impl<F: Planned<R>, R: Abort + Wait + Copy + Drop + 'static> Stage<F, R> {
         })
     }
 
+    fn accept(&self, future: F) -> Result<TestTask<R>, SpawnError<F>> {
+        match &self.executor {
+            TestKind::Owned(executor) => executor.spawn(future),
+            TestKind::Static(executor) => executor.spawn(future),
+        }
+    }
+
     /// Spawns a future. Its handle is the answer, where it is accepted.
     pub fn spawn(&self, future: F) -> Option<Returning<StoredTask>> {
-        match self.executor.spawn(future) {
+        match self.accept(future) {
             Ok(task) => {
                 self.accepted.fetch_add(1, SeqCst);
                 Some(Returning::new(task.store()))
@@ -170,7 +191,7 @@ impl<F: Planned<R>, R: Abort + Wait + Copy + Drop + 'static> Stage<F, R> {
 
     /// Spawns a future and gives its handle up, and says whether it was accepted.
     pub fn spawn_detached(&self, future: F) -> bool {
-        match self.executor.spawn(future) {
+        match self.accept(future) {
             Ok(task) => {
                 self.accepted.fetch_add(1, SeqCst);
                 task.detach();
@@ -180,29 +201,40 @@ impl<F: Planned<R>, R: Abort + Wait + Copy + Drop + 'static> Stage<F, R> {
         }
     }
 
+    pub fn try_tick(&self) -> bool {
+        match &self.executor {
+            TestKind::Owned(executor) => executor.try_tick(),
+            TestKind::Static(executor) => executor.try_tick(),
+        }
+    }
+
     /// Drops a handle, which cancels its task.
     pub fn drop_handle(&self, stored: Returning<StoredTask>) {
         drop_stored(self.rt, self.realm, stored);
     }
 
-    /// A tick, or nothing where it was refused.
+    /// A tick.
     pub fn tick(&self) -> Seat<'_, F, R> {
-        match self.executor.tick() {
+        match self.owned().tick() {
             Ok(tick) => Seat::Tick(tick),
-            Err(_) => Seat::Free,
+            Err(_) => panic!(self.rt; "memory"),
         }
     }
 
-    /// A run whose own future does this, or nothing where it was refused.
+    /// A run whose own future does this.
     pub fn run(&self, own: Work, seed: u64) -> Seat<'_, F, R> {
         self.run_of(self.job(OWN, own), seed)
     }
 
-    /// A run of this future, or nothing where it was refused.
+    /// A run of this future.
     pub fn run_of(&self, own: F, seed: u64) -> Seat<'_, F, R> {
-        match self.executor.run_from(own, seed) {
+        let made = match &self.executor {
+            TestKind::Owned(executor) => executor.run_from(own, seed),
+            TestKind::Static(executor) => executor.run_from(own, seed),
+        };
+        match made {
             Ok(run) => Seat::Run(run),
-            Err(_) => Seat::Free,
+            Err(_) => panic!(self.rt; "memory"),
         }
     }
 
@@ -210,7 +242,6 @@ impl<F: Planned<R>, R: Abort + Wait + Copy + Drop + 'static> Stage<F, R> {
     pub fn poll(&self, seat: &mut Seat<'_, F, R>) -> End {
         let waker = self.bell();
         match seat {
-            Seat::Free => End::Nothing,
             Seat::Tick(tick) => end_of_tick(tick.poll(&waker)),
             Seat::Run(run) => end_of_run(run.poll(&waker)),
         }

@@ -1,6 +1,6 @@
 //! Texts of an executor and of errors, and what may move to other threads or be shared with them.
 use crate::parts::{Job, TestExecutor, TestRealm, TestTask, Work};
-use crate::stage::{MOST_TURNS, Planned, Stage};
+use crate::stage::{MOST_TURNS, Planned, Stage, TestKind};
 use async_executor::{NoMemory, RunError, SpawnError};
 use std::alloc::Global;
 use std::fmt::Debug;
@@ -27,25 +27,28 @@ fn the_text_of_an_executor(rt: HostRuntime) {
     let stage = Stage::<Job<_>, _>::new(rt, rt.alloc(), TestRealm::leak(rt, rt.alloc()), 1000);
     stage.spawn_detached(stage.ready(0));
     let fresh = "Executor { active: 1, global_tasks: 1, local_runners: [], sleepers: 0 }";
-    let is_shown_fresh = is_shown(rt.alloc(), &stage.executor, fresh);
+    let is_shown_fresh = is_shown(rt.alloc(), stage.owned(), fresh);
     for name in 1..1000 {
         stage.spawn_detached(stage.ready(name));
     }
     let mut run = stage.run(Work::Pend, 0);
     stage.poll(&mut run);
     let busy = "Executor { active: 800, global_tasks: 296, local_runners: [504], sleepers: 0 }";
-    let is_shown_busy = is_shown(rt.alloc(), &stage.executor, busy);
+    let is_shown_busy = is_shown(rt.alloc(), stage.owned(), busy);
     for _ in 0..5 {
         stage.poll(&mut run);
     }
     let idle = "Executor { active: 0, global_tasks: 0, local_runners: [0], sleepers: 1 }";
-    let is_shown_idle = is_shown(rt.alloc(), &stage.executor, idle);
+    let is_shown_idle = is_shown(rt.alloc(), stage.owned(), idle);
     drop(run);
     let realm = TestRealm::leak(rt, rt.alloc());
     let fixed = Stage::<Job<_>, _>::of_kind(rt, rt.alloc(), realm, true, 1);
     fixed.spawn_detached(fixed.ready(0));
     let lasting = "StaticExecutor { active: 0, global_tasks: 1, local_runners: [], sleepers: 0 }";
-    let is_shown_lasting = is_shown(rt.alloc(), &fixed.executor, lasting);
+    let is_shown_lasting = match &fixed.executor {
+        TestKind::Static(executor) => is_shown(rt.alloc(), executor, lasting),
+        TestKind::Owned(_) => false,
+    };
     assert!(rt; is_shown_fresh & is_shown_busy & is_shown_idle & is_shown_lasting);
 }
 
@@ -97,7 +100,7 @@ fn the_text_of_an_executor_has_locked_for_what_is_in_use(rt: HostRuntime) {
     let (used, seen) = thread::join(
         &rt,
         || use_locks(&stage, &is_over),
-        || sees_each_lock(rt.alloc(), &stage.executor, &is_over),
+        || sees_each_lock(rt.alloc(), stage.owned(), &is_over),
     );
     assert!(rt; used & seen);
 }
@@ -126,7 +129,7 @@ fn moves_and_is_shared<X: Send + Sync>(_value: &X) {}
 #[test]
 fn executors_and_handles_are_shared_and_ticks_and_runs_move(rt: HostRuntime) {
     let stage = Stage::<Job<_>, _>::new(rt, rt.alloc(), TestRealm::leak(rt, rt.alloc()), 2);
-    moves_and_is_shared(&stage.executor);
+    moves_and_is_shared(stage.owned());
     moves(&stage.tick());
     moves(&stage.run(Work::Pend, 0));
 }
@@ -135,12 +138,6 @@ fn executors_and_handles_are_shared_and_ticks_and_runs_move(rt: HostRuntime) {
 #[test]
 fn an_executor_of_too_many_places_is_refused(rt: HostRuntime) {
     let stage = Stage::<Job<_>, _>::new(rt, rt.alloc(), TestRealm::leak(rt, rt.alloc()), 1);
-    let is_refused = match TestExecutor::<Job<_>, _>::new(rt, rt.alloc(), stage.realm, usize::MAX) {
-        Ok(executor) => {
-            drop(executor);
-            false
-        }
-        Err(NoMemory) => true,
-    };
-    assert!(rt; is_refused);
+    let made = TestExecutor::<Job<_>, _>::new(rt, rt.alloc(), stage.realm, usize::MAX);
+    assert!(rt; made.is_err());
 }

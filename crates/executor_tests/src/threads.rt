@@ -18,7 +18,7 @@ impl<F: Planned<R>, R: Abort + Wait + Copy + Drop + 'static> Stage<F, R> {
     /// Ticks until the executor is empty, and says whether it came to that.
     fn tick_until_empty(&self) -> bool {
         for _ in 0..MOST_TURNS {
-            if !self.executor.try_tick() {
+            if !self.try_tick() {
                 if self.is_empty() {
                     return true;
                 }
@@ -105,30 +105,23 @@ fn passes(number: &AtomicU64, last: u64) -> bool {
     false
 }
 
-/// Each future was dropped once, it gave one output at most, and that was dropped once, wherever it went. No two polls of one
-/// overlapped. So many polls are wanted of each, where it is said.
-fn each_is_well(counts: &[Counts], polls: Option<u64>) -> bool {
+/// How many outputs were made; none where not all is well. Each future was dropped once, it gave one output at most, and that
+/// was dropped once, wherever it went. No two polls of one overlapped. So many polls are wanted of each, where it is said.
+fn outputs(counts: &[Counts], polls: Option<u64>) -> Option<u64> {
+    let mut outputs = 0u64;
     for each in counts {
-        let made = each.made.load(SeqCst);
+        let (made, polled) = (each.made.load(SeqCst), each.polls.load(SeqCst));
         let is_well = (each.overlaps.load(SeqCst) == 0)
             & (each.drops.load(SeqCst) == 1)
             & (made <= 1)
-            & (each.lost.load(SeqCst) == made);
-        let polled = each.polls.load(SeqCst);
-        if !is_well | (polls.unwrap_or(polled) != polled) {
-            return false;
+            & (each.lost.load(SeqCst) == made)
+            & (polls.unwrap_or(polled) == polled);
+        if !is_well {
+            return None;
         }
+        outputs = outputs.saturating_add(made);
     }
-    true
-}
-
-/// How many outputs were made.
-fn outputs(counts: &[Counts]) -> u64 {
-    let mut made = 0u64;
-    for each in counts {
-        made = made.saturating_add(each.made.load(SeqCst));
-    }
-    made
+    Some(outputs)
 }
 
 /// Each future is polled twice, dropped once, and its one output too, on an executor of either kind.
@@ -144,7 +137,7 @@ fn two_threads_tick_a_thousand_futures(rt: HostRuntime) {
             || stage.tick_until_empty(),
         );
         let counts = stage.notes.each.as_slice();
-        let is_well = each_is_well(counts, Some(2)) & (outputs(counts) == 1_000);
+        let is_well = outputs(counts, Some(2)) == Some(1_000);
         assert!(rt; are_spawned & one & other & is_well, "static: {is_static}");
     }
 }
@@ -173,7 +166,7 @@ fn four_threads_run_futures_that_await_cancel_and_detach_each_other(rt: HostRunt
         }
         let counts = stage.notes.each.as_slice();
         let given = stage.notes.given.load(SeqCst);
-        let is_well = are_well & each_is_well(counts, None) & (outputs(counts) < CHAIN);
+        let is_well = are_well & (outputs(counts, None).unwrap_or(CHAIN) < CHAIN);
         assert!(rt; is_well & (given > 0), "static: {is_static}");
     }
 }

@@ -19,6 +19,7 @@ impl<X> Model for Foreign<X> {
 }
 
 impl<X> Foreign<X> {
+    #[inline(always)]
     pub fn of(value: X) -> Self
         ensures { result ≡ value }
     {
@@ -42,6 +43,7 @@ impl<X> Foreign<X> {
     }
 
     /// Polls a future.
+    #[inline(always)]
     pub fn poll<K>(&mut self, waker: &K, unlocked: &Unlocked) -> Poll<X::Output>
     where
         X: Future<K>,
@@ -61,6 +63,7 @@ impl<X> Foreign<X> {
     }
 
     /// Drops the value.
+    #[inline(always)]
     pub fn let_go(self, unlocked: &Unlocked)
     where
         X: Drop,
@@ -72,6 +75,7 @@ impl<X> Foreign<X> {
 }
 
 /// The value that came out, where one did.
+#[inline(always)]
 pub fn came_out<X>(value: Option<X>) -> Option<Foreign<X>>
     ensures { result ≡ value }
 {
@@ -82,6 +86,7 @@ pub fn came_out<X>(value: Option<X>) -> Option<Foreign<X>>
 }
 
 /// Drops what came out, where something did.
+#[inline(always)]
 pub fn let_go<X: Drop>(value: Option<Foreign<X>>, unlocked: &Unlocked) {
     if let Some(value) = value {
         value.let_go(unlocked);

@@ -27,6 +27,7 @@ pub struct Left<F, T> {
 }
 
 /// Takes the future out of the entry at this place. None where there is no such entry, or the future is out.
+#[inline(always)]
 pub fn take<F, T>(futures: &mut Futures<F, T>, place: EntryPlace) -> Option<TakenOut<F>>
     ensures out { futures.new.entries ≡ set_future place None futures.old.entries }
     ensures taken { IfSome result (λ taken. (taken.place ≡ place) × (Some taken.future ≡ future_of (entry_in place futures.old.entries))) }
@@ -42,6 +43,7 @@ pub fn take<F, T>(futures: &mut Futures<F, T>, place: EntryPlace) -> Option<Take
 }
 
 /// Puts a future back into the entry that it was taken out of. Answers what has no place then.
+#[inline(always)]
 pub fn put_back<F, T>(futures: &mut Futures<F, T>, taken: TakenOut<F>) -> Option<Foreign<F>>
     ensures over { result ≡ displaced taken.future (entry_in taken.place futures.old.entries) }
     ensures back { futures.new.entries ≡ set_future taken.place (Some taken.future) futures.old.entries }
@@ -52,6 +54,7 @@ pub fn put_back<F, T>(futures: &mut Futures<F, T>, taken: TakenOut<F>) -> Option
 }
 
 /// The entry at this place goes.
+#[inline(always)]
 pub fn leave<F, T>(futures: &mut Futures<F, T>, place: EntryPlace) -> Option<Left<F, T>>
     ensures parts { IfSome result (λ left. parts_of (entry_in place futures.old.entries) ≡ Some (left.future, left.output)) }
     ensures left { futures.new.entries ≡ left_by place futures.old.entries }

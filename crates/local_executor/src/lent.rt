@@ -19,6 +19,7 @@ where
 
 impl<W: Wake + Drop, R: Wait + Copy + Drop> LentWaker<W, R> {
     /// Of the task that is about to be polled.
+    #[inline(always)]
     pub fn of(link: Link<W, R>, task: Task) -> Self {
         LentWaker {
             waker: LocalExWaker::Task(LocalWaker { link, task }),
@@ -26,11 +27,13 @@ impl<W: Wake + Drop, R: Wait + Copy + Drop> LentWaker<W, R> {
     }
 
     /// What the poll is lent.
+    #[inline(always)]
     pub fn waker(&self) -> &LocalExWaker<W, R> {
         &self.waker
     }
 
     /// The poll is over.
+    #[inline(always)]
     pub fn end(self, unlocked: &Unlocked) {
         let LentWaker { waker } = self;
         match waker {

@@ -34,6 +34,7 @@ impl<W: Drop, R: Wait + Copy + Drop> Link<W, R> {
     }
 
     /// One more. A count of 2^63 of them is out of reach: this waits there.
+    #[inline(always)]
     pub fn share(&self) -> Self {
         for _ in self.rt.forever() {
             if let Ok(shared) = Arc::try_clone(&self.shared) {
@@ -58,6 +59,7 @@ impl<W: Drop, R: Wait + Copy + Drop> Link<W, R> {
     }
 
     /// Takes the lock.
+    #[inline(always)]
     pub fn lock<'a>(&'a self, unlocked: &'a mut Unlocked) -> Locked<'a, Tasks<W>> {
         self.shared.lock(&self.rt, unlocked)
     }
@@ -75,6 +77,7 @@ impl<W: Drop, R: Wait + Copy + Drop> Link<W, R> {
 
 impl<W: Wake + Drop, R: Wait + Copy + Drop> Link<W, R> {
     /// Wakes a task, and calls who is told of it.
+    #[inline(always)]
     pub fn wake(&self, task: Task, unlocked: &mut Unlocked) {
         let told = sections::wake(self.lock(unlocked).get(), task);
         self.pay_told(told, unlocked);
@@ -105,6 +108,7 @@ impl<W: Wake + Drop, R: Wait + Copy + Drop> Link<W, R> {
     }
 
     /// What a queueing leaves.
+    #[inline(always)]
     pub fn pay_told(&self, told: Told<Foreign<W>>, unlocked: &mut Unlocked) {
         let next = wake_told(told, unlocked);
         self.turn_away(next, unlocked);
@@ -119,6 +123,7 @@ impl<W: Wake + Drop, R: Wait + Copy + Drop> Link<W, R> {
 
     /// What a call on a task leaves, beside a future and an output. What is to be finished once the future is dropped is the
     /// answer.
+    #[inline(always)]
     pub fn pay(
         &self,
         owed: Owed<EntryPlace, (), Foreign<W>>,
@@ -132,6 +137,7 @@ impl<W: Wake + Drop, R: Wait + Copy + Drop> Link<W, R> {
     }
 
     /// The same, where nothing is to be finished.
+    #[inline(always)]
     pub fn pay_all(&self, owed: Owed<EntryPlace, (), Foreign<W>>, unlocked: &mut Unlocked)
         requires { owed.rest ≡ None }
     {
@@ -141,48 +147,72 @@ impl<W: Wake + Drop, R: Wait + Copy + Drop> Link<W, R> {
         }
     }
 
-    /// Calls a waker, and answers what the queue has turned away.
+    /// Calls a waker, if there is one, and answers what the queue has turned away.
+    #[inline(always)]
     fn called(
         &self,
         waker: Option<SoloWaker<Foreign<W>>>,
         unlocked: &mut Unlocked,
     ) -> Option<Task> {
         match waker {
-            Some(SoloWaker::Task(task)) => {
-                let told = sections::wake_and_release(self.lock(unlocked).get(), task);
-                wake_told(told, unlocked)
-            }
-            Some(SoloWaker::Outside(waker)) => {
-                waker.wake(unlocked);
-                None
-            }
+            Some(waker) => self.call_one(waker, unlocked),
             None => None,
         }
     }
 
-    /// Drops a waker, and answers what the queue has turned away.
+    #[inline(never)]
+    fn call_one(&self, waker: SoloWaker<Foreign<W>>, unlocked: &mut Unlocked) -> Option<Task> {
+        match waker {
+            SoloWaker::Task(task) => {
+                let told = sections::wake_and_release(self.lock(unlocked).get(), task);
+                wake_told(told, unlocked)
+            }
+            SoloWaker::Outside(waker) => {
+                waker.wake(unlocked);
+                None
+            }
+        }
+    }
+
+    /// Drops a waker, if there is one, and answers what the queue has turned away.
+    #[inline(always)]
     fn dropped(
         &self,
         waker: Option<SoloWaker<Foreign<W>>>,
         unlocked: &mut Unlocked,
     ) -> Option<Task> {
         match waker {
-            Some(SoloWaker::Task(task)) => {
-                let told = sections::release(self.lock(unlocked).get(), task);
-                wake_told(told, unlocked)
-            }
-            Some(SoloWaker::Outside(waker)) => {
-                waker.let_go(unlocked);
-                None
-            }
+            Some(waker) => self.drop_one(waker, unlocked),
             None => None,
         }
     }
 
-    /// A task that the queue has turned away loses its turn, and so do those that its end leads to. Its executor has dropped its
-    /// future by then.
+    #[inline(never)]
+    fn drop_one(&self, waker: SoloWaker<Foreign<W>>, unlocked: &mut Unlocked) -> Option<Task> {
+        match waker {
+            SoloWaker::Task(task) => {
+                let told = sections::release(self.lock(unlocked).get(), task);
+                wake_told(told, unlocked)
+            }
+            SoloWaker::Outside(waker) => {
+                waker.let_go(unlocked);
+                None
+            }
+        }
+    }
+
+    /// A task that the queue has turned away, if one was, loses its turn.
+    #[inline(always)]
     fn turn_away(&self, task: Option<Task>, unlocked: &mut Unlocked) {
-        let mut next = task;
+        if let Some(task) = task {
+            self.lose_turns(task, unlocked);
+        }
+    }
+
+    /// A task loses its turn, and so do those that its end leads to. Its executor has dropped its future by then.
+    #[inline(never)]
+    fn lose_turns(&self, task: Task, unlocked: &mut Unlocked) {
+        let mut next = Some(task);
         for _ in self.rt.forever() {
             let Some(task) = next else {
                 return;
@@ -214,6 +244,7 @@ impl<W: Wake + Drop, R: Wait + Copy + Drop> Link<W, R> {
 
     /// First who sleeps is called, as the original does, and then who awaits the task, or its waker dropped: it is never both,
     /// nor are two tasks turned away.
+    #[inline(always)]
     fn paid(&self, owed: Owed<EntryPlace, (), Foreign<W>>, unlocked: &mut Unlocked) -> Paid
         ensures { result.rest ≡ owed.rest }
     {
@@ -237,6 +268,7 @@ impl<W: Wake + Drop, R: Wait + Copy + Drop> Link<W, R> {
 }
 
 /// Calls who sleeps, and answers what the queue has turned away.
+#[inline(always)]
 fn wake_told<W: Wake + Drop>(told: Told<Foreign<W>>, unlocked: &Unlocked) -> Option<Task> {
     let Told { sleeper, returned } = told;
     if let Some(sleeper) = sleeper {

@@ -21,12 +21,14 @@ impl<T> Guarded<T> {
         }
     }
 
-    /// Takes the lock.
+    /// Takes the lock. It is tried here first, as it is free but where another thread has it.
+    #[inline(always)]
     pub fn lock<'a, R: Wait>(&'a self, rt: &R, unlocked: &'a mut Unlocked) -> Locked<'a, T> {
-        Locked {
-            guard: self.lock.lock(rt),
-            unlocked,
-        }
+        let guard = match self.lock.try_lock() {
+            Some(guard) => guard,
+            None => self.lock.lock(rt),
+        };
+        Locked { guard, unlocked }
     }
 
     /// Takes the lock, where it is free.
@@ -40,6 +42,7 @@ impl<T> Guarded<T> {
 
 impl<T> Locked<'_, T> {
     /// What the lock guards.
+    #[inline(always)]
     pub fn get(&mut self) -> &mut T {
         &mut *self.guard
     }
@@ -47,6 +50,7 @@ impl<T> Locked<'_, T> {
 
 impl<T> Drop for Locked<'_, T> {
     /// Gives the lock back.
+    #[inline(always)]
     fn drop(self) {
         let Locked { guard, unlocked: _ } = self;
         drop(guard);

@@ -6,6 +6,7 @@ use executor_parts::EntryPlace;
 use solo::{Dropped, Owed, Polled, Ran, SoloWaker, Taken, Ticked, Told};
 
 /// A waker that comes out.
+#[inline(always)]
 pub fn waker_out<W>(waker: SoloWaker<W>) -> SoloWaker<Foreign<W>>
     ensures { result ≡ waker }
 {
@@ -16,6 +17,7 @@ pub fn waker_out<W>(waker: SoloWaker<W>) -> SoloWaker<Foreign<W>>
 }
 
 /// A waker that is put under the lock.
+#[inline(always)]
 pub fn waker_in<W>(waker: SoloWaker<Foreign<W>>) -> SoloWaker<W>
     ensures { result ≡ waker }
 {
@@ -26,6 +28,7 @@ pub fn waker_in<W>(waker: SoloWaker<Foreign<W>>) -> SoloWaker<W>
 }
 
 /// A waker that comes out, where one does.
+#[inline(always)]
 pub fn if_waker_out<W>(waker: Option<SoloWaker<W>>) -> Option<SoloWaker<Foreign<W>>>
     ensures { result ≡ waker }
 {
@@ -36,6 +39,7 @@ pub fn if_waker_out<W>(waker: Option<SoloWaker<W>>) -> Option<SoloWaker<Foreign<
 }
 
 /// What a queueing hands out.
+#[inline(always)]
 pub fn told_out<W>(told: Told<W>) -> Told<Foreign<W>>
     ensures { result ≡ told }
 {
@@ -58,6 +62,7 @@ pub fn dropped_out<W>(dropped: Dropped<W>) -> Dropped<Foreign<W>>
 }
 
 /// What a take hands out.
+#[inline(always)]
 pub fn taken_out<W>(taken: Taken<EntryPlace, W>) -> Taken<EntryPlace, Foreign<W>>
     ensures { result ≡ taken }
 {
@@ -107,6 +112,7 @@ pub fn ran_out<W>(ran: Ran<EntryPlace, W>) -> Ran<EntryPlace, Foreign<W>>
 }
 
 /// What a call on a task hands out.
+#[inline(always)]
 pub fn owed_out<W>(owed: Owed<EntryPlace, (), W>) -> Owed<EntryPlace, (), Foreign<W>>
     ensures { result ≡ owed }
 {

@@ -24,6 +24,7 @@ where
     /// 1. Takes a task from the queue. Where there is none: false.
     /// 2. Calls who sleeps and is told of the others.
     /// 3. Runs it: true.
+    #[inline(always)]
     pub(crate) fn run_one(&self, unlocked: &mut Unlocked) -> bool {
         let Taken { found, sleeper } = sections::take(self.link.lock(unlocked).get());
         if let Some(sleeper) = sleeper {
@@ -33,6 +34,7 @@ where
     }
 
     /// Runs what was found, and says whether that was a task.
+    #[inline(always)]
     pub(crate) fn run_found(&self, found: Found<EntryPlace>, unlocked: &mut Unlocked) -> bool {
         match found {
             Found::Nothing => false,
@@ -48,8 +50,9 @@ where
         }
     }
 
+    #[inline(always)]
     fn poll(&self, lent: Lent, place: EntryPlace, unlocked: &mut Unlocked) {
-        let taken = futures::take(self.store.open(unlocked).get(), place);
+        let taken = futures::take(self.store.open(&self.link.rt(), unlocked).get(), place);
         match taken {
             Some(taken) => self.poll_taken(lent, place, taken, unlocked),
             None => self.settle_pending(lent, place, unlocked),
@@ -57,6 +60,7 @@ where
     }
 
     /// Polls a future that was taken out of this place, and puts it back, or drops it where it is ready.
+    #[inline(always)]
     fn poll_taken(
         &self,
         lent: Lent,
@@ -74,7 +78,10 @@ where
                 self.settle_ready(lent, place, Foreign::of(output), unlocked);
             }
             Poll::Pending => {
-                let over = futures::put_back(self.store.open(unlocked).get(), taken);
+                let over = futures::put_back(
+                    self.store.open(&self.link.rt(), unlocked).get(),
+                    taken,
+                );
                 let_go(over, unlocked);
                 self.settle_pending(lent, place, unlocked);
             }
@@ -91,6 +98,7 @@ where
 {
     /// The poll of a future has given this output, and it is dropped: the output goes to its place, and is dropped where nobody
     /// is left to take it.
+    #[inline(never)]
     fn settle_ready(
         &self,
         lent: Lent,
@@ -98,7 +106,7 @@ where
         output: Foreign<T>,
         unlocked: &mut Unlocked,
     ) {
-        let left = futures::leave(self.store.open(unlocked).get(), place);
+        let left = futures::leave(self.store.open(&self.link.rt(), unlocked).get(), place);
         let given = match left {
             Some(
                 Left {
@@ -125,6 +133,7 @@ where
     }
 
     /// The poll of a future has given no output: it stays, or is dropped where its task is closed.
+    #[inline(always)]
     fn settle_pending(&self, lent: Lent, place: EntryPlace, unlocked: &mut Unlocked) {
         let owed = sections::settle(self.link.lock(unlocked).get(), lent, Back::Pending(place));
         if let Some(lent) = self.link.pay(owed, unlocked) {
@@ -133,12 +142,13 @@ where
     }
 
     /// Drops the future at this place, and ends its task.
+    #[inline(never)]
     fn drop_future(&self, lent: Lent, place: EntryPlace, unlocked: &mut Unlocked) {
-        let taken = futures::take(self.store.open(unlocked).get(), place);
+        let taken = futures::take(self.store.open(&self.link.rt(), unlocked).get(), place);
         if let Some(taken) = taken {
             taken.let_go(unlocked);
         }
-        let left = futures::leave(self.store.open(unlocked).get(), place);
+        let left = futures::leave(self.store.open(&self.link.rt(), unlocked).get(), place);
         if let Some(Left { future, output }) = left {
             let_go(future, unlocked);
             let_go(output.take(), unlocked);

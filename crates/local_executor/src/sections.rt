@@ -36,6 +36,7 @@ pub fn spawn<W>(
 }
 
 /// The first task of the queue leaves it.
+#[inline(always)]
 pub fn take<W>(tasks: &mut Tasks<W>) -> Taken<EntryPlace, Foreign<W>>
     ensures tasks { tasks.new ≡ solo.taken tasks.old }
     ensures taken { result ≡ solo.take_answer tasks.old }
@@ -44,6 +45,7 @@ pub fn take<W>(tasks: &mut Tasks<W>) -> Taken<EntryPlace, Foreign<W>>
 }
 
 /// A poll has ended.
+#[inline(always)]
 pub fn settle<W>(
     tasks: &mut Tasks<W>,
     lent: Lent,
@@ -72,6 +74,7 @@ pub fn retract<W>(tasks: &mut Tasks<W>, task: Task) -> Owed<EntryPlace, (), Fore
 }
 
 /// A task is woken.
+#[inline(always)]
 pub fn wake<W>(tasks: &mut Tasks<W>, task: Task) -> Told<Foreign<W>>
     ensures tasks { tasks.new ≡ solo.woken task tasks.old }
     ensures told { result ≡ solo.wake_answer task tasks.old }
@@ -96,6 +99,7 @@ pub fn hold<W>(tasks: &mut Tasks<W>, task: Task) -> bool
 }
 
 /// One waker less.
+#[inline(always)]
 pub fn release<W>(tasks: &mut Tasks<W>, task: Task) -> Told<Foreign<W>>
     ensures tasks { tasks.new ≡ solo.released task tasks.old }
     ensures told { result ≡ solo.release_answer task tasks.old }

@@ -69,7 +69,7 @@ impl<F: Drop, T: Drop, W> Both<'_, F, T, W> {
     ) -> Result<(Spawned<Foreign<W>>, Output<T>), SpawnError<F>>
         ensures { IfErr result (λ error. refused error ≡ future) }
     {
-        accept(&mut self.futures, self.locked.get(), alloc, future)
+        accept(&mut *self.futures, self.locked.get(), alloc, future)
     }
 }
 

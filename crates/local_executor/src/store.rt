@@ -1,32 +1,29 @@
 //! The futures of an executor, on its thread. Who looks at them has an `Unlocked` lent for as long, so no code of a user runs
-//! while they are away from their place.
+//! while they are open.
 use crate::entry::Unlocked;
 use crate::link::Link;
 use crate::locks::Locked;
 use crate::names::{Futures, Tasks};
 use executor_parts::Places;
 use std::alloc::{AllocError, Global};
-use std::cell::Cell;
+use std::cell::{RefCell, RefMut};
 use std::sync::Wait;
 
 /// Keeps the futures of an executor.
 #[derive(Drop)]
 pub struct Store<F, T> {
-    futures: Cell<Futures<F, T>>,
-    alloc: Global,
+    futures: RefCell<Futures<F, T>>,
 }
 
-/// The futures of a store, which has none until this is dropped.
+/// The futures of a store, which is open until this is dropped.
 pub struct Opened<'a, F: Drop, T: Drop> {
-    store: &'a Store<F, T>,
-    futures: Futures<F, T>,
+    futures: RefMut<'a, Futures<F, T>>,
     unlocked: &'a mut Unlocked,
 }
 
-/// The futures of a store, which has none until this is dropped, and what stands under the lock, which is taken as long.
+/// The futures of a store, which is open until this is dropped, and what stands under the lock, which is taken as long.
 pub struct Both<'a, F: Drop, T: Drop, W> {
-    store: &'a Store<F, T>,
-    pub futures: Futures<F, T>,
+    pub futures: RefMut<'a, Futures<F, T>>,
     pub locked: Locked<'a, Tasks<W>>,
 }
 
@@ -35,18 +32,28 @@ impl<F: Drop, T: Drop> Store<F, T> {
     pub fn new(alloc: Global, limit: usize) -> Result<Self, AllocError> {
         match Places::with_room(alloc, limit) {
             Ok(futures) => Ok(Store {
-                futures: Cell::new(futures),
-                alloc,
+                futures: RefCell::new(futures),
             }),
             Err(error) => Err(error),
         }
     }
 
-    /// Takes the futures, until what it answers is dropped. It takes no memory.
-    pub fn open<'a>(&'a self, unlocked: &'a mut Unlocked) -> Opened<'a, F, T> {
+    /// Opens it. It is closed whenever an `Unlocked` can be lent: where it were open this would wait.
+    #[inline(always)]
+    fn borrow<R: Wait>(&self, rt: &R) -> RefMut<'_, Futures<F, T>> {
+        for _ in rt.forever() {
+            if let Ok(futures) = self.futures.try_borrow_mut() {
+                return futures;
+            }
+        }
+        unreachable!()
+    }
+
+    /// Opens it, until what it answers is dropped. It takes no memory.
+    #[inline(always)]
+    pub fn open<'a, R: Wait>(&'a self, rt: &R, unlocked: &'a mut Unlocked) -> Opened<'a, F, T> {
         Opened {
-            store: self,
-            futures: self.futures.replace(Places::new(self.alloc, 0)),
+            futures: self.borrow(rt),
             unlocked,
         }
     }
@@ -62,47 +69,43 @@ impl<F: Drop, T: Drop> Store<F, T> {
         R: Wait + Copy + Drop,
     {
         Both {
-            store: self,
-            futures: self.futures.replace(Places::new(self.alloc, 0)),
+            futures: self.borrow(&link.rt()),
             locked: link.lock(unlocked),
         }
     }
 
     /// The futures, which nobody else has any more.
     pub fn into_futures(self) -> Futures<F, T> {
-        let Store { futures, alloc: _ } = self;
+        let Store { futures } = self;
         futures.into_inner()
     }
 }
 
 impl<F: Drop, T: Drop> Opened<'_, F, T> {
     /// The futures.
+    #[inline(always)]
     pub fn get(&mut self) -> &mut Futures<F, T> {
-        &mut self.futures
+        &mut *self.futures
     }
 }
 
 impl<F: Drop, T: Drop> Drop for Opened<'_, F, T> {
-    /// Puts the futures back.
+    /// Closes the store.
+    #[inline(always)]
     fn drop(self) {
         let Opened {
-            store,
             futures,
             unlocked: _,
         } = self;
-        drop(store.futures.replace(futures));
+        drop(futures);
     }
 }
 
 impl<F: Drop, T: Drop, W> Drop for Both<'_, F, T, W> {
-    /// Puts the futures back, and gives the lock back.
+    /// Closes the store, and gives the lock back.
     fn drop(self) {
-        let Both {
-            store,
-            futures,
-            locked,
-        } = self;
-        drop(store.futures.replace(futures));
+        let Both { futures, locked } = self;
+        drop(futures);
         drop(locked);
     }
 }

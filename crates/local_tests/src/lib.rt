@@ -4,8 +4,6 @@
 #[cfg(test)]
 mod door;
 #[cfg(test)]
-mod hello;
-#[cfg(test)]
 mod many;
 mod moving;
 #[cfg(test)]

@@ -17,8 +17,7 @@ fn spawn_many_local(rt: HostRuntime) -> Result<(), Fail> {
     }
     let waker = LocalExWaker::Outside(Nobody);
     let mut number: u64 = 0;
-    for handle in handles {
-        let mut handle = handle;
+    for mut handle in handles {
         assert!(rt; handle.poll(&waker) == Poll::Ready(Ok(number)));
         number = number.saturating_add(1);
     }

@@ -1,5 +1,5 @@
 //! Of an executor of one thread only its wakers may go to another thread. The edits in `wrong/` send what else there is.
-use async_task::{Future, Nobody, Poll, Wake};
+use async_task::{Future, Nobody, Poll};
 use local_executor::{
     LocalExWaker, LocalExecutor, LocalHandle, LocalRun, LocalTick, StaticLocalExecutor,
 };
@@ -9,11 +9,10 @@ use std::sync::Wait;
 #[derive(Drop)]
 pub struct Ready(pub u64);
 
-impl<K: Wake> Future<K> for Ready {
+impl<K> Future<K> for Ready {
     type Output = u64;
 
-    fn poll(&mut self, waker: &K) -> Poll<u64> {
-        let _ = waker;
+    fn poll(&mut self, _waker: &K) -> Poll<u64> {
         Poll::Ready(self.0)
     }
 }
@@ -22,11 +21,10 @@ impl<K: Wake> Future<K> for Ready {
 #[derive(Drop)]
 pub struct Never;
 
-impl<K: Wake> Future<K> for Never {
+impl<K> Future<K> for Never {
     type Output = u64;
 
-    fn poll(&mut self, waker: &K) -> Poll<u64> {
-        let _ = waker;
+    fn poll(&mut self, _waker: &K) -> Poll<u64> {
         Poll::Pending
     }
 }

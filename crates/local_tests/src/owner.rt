@@ -12,9 +12,15 @@ use std::test::Fail;
 /// Futures that give way as often as their numbers say.
 type Numbers = Solo<u64, u64, u64>;
 
-/// How far a run has come: whether each future that it polled was the one whose turn it was, how many it polled, and whether it
-/// lets others go first.
-type Polls = (Ticker, bool, u64, bool);
+/// How far a run has come.
+#[derive(Clone, Copy)]
+struct Polls {
+    /// Each future that it polled was the one whose turn it was.
+    are_in_turn: bool,
+    count: u64,
+    /// It lets others go first.
+    gives_way: bool,
+}
 
 /// Nobody sleeps here, and nothing came back.
 fn let_go(told: Told<u64>) {
@@ -84,35 +90,32 @@ fn end(solo: &mut Numbers, lent: Lent) {
 }
 
 /// Polls what a run finds, of so many futures in turn, until it finds nothing or lets others go first.
-fn run_all(solo: &mut Numbers, runner: &mut Runner, ticker: Ticker, round: u64) -> Polls {
-    let mut polls = (ticker, true, 0, false);
+fn run_all(solo: &mut Numbers, runner: &mut Runner, ticker: Ticker, round: u64) -> (Ticker, Polls) {
+    let mut ticker = ticker;
+    let mut polls = Polls {
+        are_in_turn: true,
+        count: 0,
+        gives_way: false,
+    };
     for _ in 0..1000 {
-        let (ticker, are_in_turn, count, gives_way) = polls;
-        if gives_way {
-            return (ticker, are_in_turn, count, gives_way);
+        if polls.gives_way {
+            return (ticker, polls);
         }
         match solo.run_search(runner, ticker, 0) {
-            Ok(ran) => polls = ran_in_turn(solo, ran, are_in_turn, count, round),
-            Err(
-                Missed {
+            Ok(ran) => ticker = ran_in_turn(solo, ran, &mut polls, round),
+            Err(missed) => {
+                let Missed {
                     ticker,
                     has_walked: _,
-                },
-            ) => {
-                return (ticker, are_in_turn, count, gives_way);
+                } = missed;
+                return (ticker, polls);
             }
         }
     }
-    polls
+    (ticker, polls)
 }
 
-fn ran_in_turn(
-    solo: &mut Numbers,
-    ran: Ran<u64, u64>,
-    were_in_turn: bool,
-    count: u64,
-    round: u64,
-) -> Polls {
+fn ran_in_turn(solo: &mut Numbers, ran: Ran<u64, u64>, polls: &mut Polls, round: u64) -> Ticker {
     let Ran {
         ticked,
         gives_way,
@@ -130,8 +133,12 @@ fn ran_in_turn(
         Look::Took(found) => poll(solo, found),
         Look::Again | Look::Nothing => None,
     };
-    let are_in_turn = were_in_turn && polled == count.checked_rem(round);
-    (ticker, are_in_turn, count.saturating_add(1), gives_way)
+    *polls = Polls {
+        are_in_turn: polls.are_in_turn && polled == polls.count.checked_rem(round),
+        count: polls.count.saturating_add(1),
+        gives_way,
+    };
+    ticker
 }
 
 /// A run leaves.
@@ -181,8 +188,8 @@ fn a_run_takes_each_in_turn(rt: HostRuntime) -> Result<(), Fail> {
     };
     let mut runner = runner;
     solo.run_begin(&runner);
-    let (ticker, are_in_turn, count, gives_way) = run_all(&mut solo, &mut runner, ticker, 4);
-    assert!(&rt; are_in_turn & !gives_way & (count == 8));
+    let (ticker, polls) = run_all(&mut solo, &mut runner, ticker, 4);
+    assert!(&rt; polls.are_in_turn & !polls.gives_way & (polls.count == 8));
     assert!(&rt; leave(&rt, &mut solo, runner, ticker) & solo.is_empty());
     Ok(())
 }
@@ -197,8 +204,8 @@ fn a_run_lets_others_go_first(rt: HostRuntime) -> Result<(), Fail> {
     };
     let mut runner = runner;
     solo.run_begin(&runner);
-    let (ticker, are_in_turn, count, gives_way) = run_all(&mut solo, &mut runner, ticker, 201);
-    assert!(&rt; are_in_turn & gives_way & (count == 200));
+    let (ticker, polls) = run_all(&mut solo, &mut runner, ticker, 201);
+    assert!(&rt; polls.are_in_turn & polls.gives_way & (polls.count == 200));
     let Taken { found, sleeper: _ } = solo.take();
     assert!(&rt; poll(&mut solo, found) == None);
     assert!(&rt; leave(&rt, &mut solo, runner, ticker) & !solo.is_empty());

@@ -1,6 +1,5 @@
 //! Wakers of an executor of one thread are called on other threads.
 use crate::door::{Visitor, new_door};
-use crate::moving::{Ready, send_last_waker, send_waker};
 use async_task::{Future, Nobody, Poll, Wake};
 use local_executor::{LocalExWaker, LocalExecutor, TaskError};
 use std::rc::Rc;
@@ -9,12 +8,13 @@ use std::sync::atomic::{AtomicBool, Ordering};
 use std::test::Fail;
 use std::thread;
 
+/// An executor of visitors.
+type House = LocalExecutor<Visitor<HostRuntime>, u64, Nobody, HostRuntime>;
+
 #[test]
 fn a_waker_is_called_10_000_times_while_its_executor_ticks(rt: HostRuntime) -> Result<(), Fail> {
     let alloc = rt.alloc();
-    let executor = LocalExecutor::<Visitor<HostRuntime>, u64, Nobody, HostRuntime>::new(
-        rt, alloc, 1,
-    )?;
+    let executor = House::new(rt, alloc, 1)?;
     let door = new_door::<HostRuntime>(alloc)?;
     let Ok(handle) = executor.spawn(Visitor(door.clone()?)) else {
         panic!(rt; "refused");
@@ -23,17 +23,15 @@ fn a_waker_is_called_10_000_times_while_its_executor_ticks(rt: HostRuntime) -> R
     let waker = door.take();
     let is_over = Arc::new(alloc, AtomicBool::new(false))?;
     let told = Arc::try_clone(&is_over)?;
-    let child = match thread::spawn(&rt, move || {
+    let wakes = move || {
         if let Some(waker) = &waker {
             for _ in 0..10_000 {
                 waker.wake_by_ref();
             }
         }
         told.store(true, Ordering::SeqCst);
-    }) {
-        Ok(child) => child,
-        Err(_) => panic!(rt; "no thread"),
     };
+    let child = thread::spawn(&rt, wakes).expect(&rt, "a thread");
     for _ in rt.forever() {
         // Where all wakes came before this look, none is still queued once it finds nothing.
         let was_over = is_over.load(Ordering::SeqCst);
@@ -42,31 +40,16 @@ fn a_waker_is_called_10_000_times_while_its_executor_ticks(rt: HostRuntime) -> R
         }
     }
     child.join(&rt);
-    assert!(rt; door.polls.get() > 1);
-    assert!(rt; !executor.try_tick());
+    assert!(rt; (door.polls.get() > 1) & !executor.try_tick());
     drop(handle);
     assert!(rt; executor.try_tick() & executor.is_empty());
     Ok(())
 }
 
 #[test]
-fn wakers_may_go_to_another_thread(rt: HostRuntime) -> Result<(), Fail> {
-    let executor = LocalExecutor::<Ready, u64, Nobody, HostRuntime>::new(rt, rt.alloc(), 1)?;
-    let (Ok(handle), Ok(tick)) = (executor.spawn(Ready(1)), executor.tick()) else {
-        panic!(rt; "refused");
-    };
-    send_waker(&executor, handle, tick, LocalExWaker::Outside(Nobody));
-    assert!(rt; executor.is_empty());
-    send_last_waker(executor, LocalExWaker::Outside(Nobody));
-    Ok(())
-}
-
-#[test]
 fn a_waker_outlives_its_executor_elsewhere(rt: HostRuntime) -> Result<(), Fail> {
     let alloc = rt.alloc();
-    let executor = LocalExecutor::<Visitor<HostRuntime>, u64, Nobody, HostRuntime>::new(
-        rt, alloc, 1,
-    )?;
+    let executor = House::new(rt, alloc, 1)?;
     let door = new_door::<HostRuntime>(alloc)?;
     let Ok(mut handle) = executor.spawn(Visitor(door.clone()?)) else {
         panic!(rt; "refused");
@@ -74,16 +57,13 @@ fn a_waker_outlives_its_executor_elsewhere(rt: HostRuntime) -> Result<(), Fail> 
     assert!(rt; executor.try_tick());
     let waker = door.take();
     drop(executor);
-    let child = match thread::spawn(&rt, move || {
+    let wakes = move || {
         if let Some(waker) = waker {
             waker.wake_by_ref();
             waker.wake();
         }
-    }) {
-        Ok(child) => child,
-        Err(_) => panic!(rt; "no thread"),
     };
-    child.join(&rt);
+    thread::spawn(&rt, wakes).expect(&rt, "a thread").join(&rt);
     assert!(rt; Rc::strong_count(&door) == 1);
     let waker = LocalExWaker::Outside(Nobody);
     assert!(rt; handle.poll(&waker) == Poll::Ready(Err(TaskError::TaskClosed)));

@@ -1,7 +1,9 @@
--- The requests for memory of a party's command, and which of them is refused.
-use Rattle.std.specs.Prelude.{ℕ, ◌-◌, ◌==◌, Bool, true, false, ◌&&◌, Option, Some, None}
+-- The requests for memory of a party's command, and which of them is refused: a script's number of one is the machine's, in the
+-- words of its law.
+use Rattle.std.specs.Prelude.{ℕ, Bool, true, false, Option, Some, None}
 use Rattle.executor_model.specs.Memory.{asks}
 use Rattle.executor_model.specs.declared.op.Op.{Op}
+use Rattle.executor_laws.specs.Numbered.{is_the_one, left}
 use Rattle.script.specs.declared.command.Request.{Request}
 use Rattle.script.specs.declared.refusal.Refusal.{Refusal}
 use Rattle.script.specs.declared.refusal.Refusal.TheVariants.{Nothing, Each, Only}
@@ -22,7 +24,7 @@ refusal_of None = Nothing
 abbrev pub is_refused : Refusal → Bool → ℕ → Bool
 is_refused Nothing asked to_go = false
 is_refused Each asked to_go = true
-is_refused (Only number) asked to_go = asked && (to_go == 1)
+is_refused (Only number) asked to_go = is_the_one asked to_go
 
 abbrev pub is_refusing : Player → Option Doing → Op → Bool
 is_refusing s (Some doing) o = is_refused (refusal_of (request_at s doing.command)) (asks o) doing.to_go
@@ -31,7 +33,7 @@ is_refusing s None o = false
 -- a step that asks for memory is counted
 abbrev pub counted_in : Option Doing → Bool → ℕ → Player → Player
 counted_in (Some doing) true p s =
-    set_party p (record (party s p) { doing = Some (record doing { to_go = doing.to_go - 1 }) }) s
+    set_party p (record (party s p) { doing = Some (record doing { to_go = left true doing.to_go }) }) s
 counted_in (Some doing) false p s = s
 counted_in None asked p s = s
 

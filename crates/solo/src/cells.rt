@@ -86,6 +86,7 @@ impl<T, X> Cells<T, X> {
     }
 
     /// Wakes the task. True where it is to be queued.
+    #[inline(always)]
     pub fn wake(&mut self, task: Task) -> bool
         ensures cells { self.new ≡ changed cells.woken task self.old }
         ensures queue { result ≡ asked cells.wake_queues false task self.old }
@@ -97,6 +98,7 @@ impl<T, X> Cells<T, X> {
     }
 
     /// One more waker. False, and nothing is changed, from 2^40 references on.
+    #[inline(always)]
     pub fn hold(&mut self, task: Task) -> bool
         ensures cells { self.new ≡ changed cells.held task self.old }
         ensures few { result ≡ asked cells.may_hold false task self.old }
@@ -108,6 +110,7 @@ impl<T, X> Cells<T, X> {
     }
 
     /// One waker less. True where the task is to be queued.
+    #[inline(always)]
     pub fn release(&mut self, task: Task) -> bool
         ensures cells { self.new ≡ changed cells.released task self.old }
         ensures queue { result ≡ asked cells.release_queues false task self.old }
@@ -186,6 +189,7 @@ impl<T, X> Cells<T, X> {
     }
 
     /// Begins the turn of a queued task: where its future is, and whether it is polled or dropped.
+    #[inline(always)]
     pub fn start(&mut self, task: Task) -> Option<Start<EntryPlace>>
         ensures cells { self.new ≡ changed cells.started task self.old }
         ensures answer { result ≡ asked cells.start_answer None task self.old }
@@ -203,6 +207,7 @@ impl<T, X> Cells<T, X> {
     }
 
     /// The poll gave an output, and the future is dropped. An output without a task that is being polled comes back.
+    #[inline(always)]
     pub fn settle_ready(&mut self, task: Task, output: T) -> Ended<T, X>
         ensures cells { self.new ≡ changed (cells.ended_ready output) task self.old }
         ensures output { result.output ≡ asked (cells.ready_drops output) (Some output) task self.old }
@@ -230,6 +235,7 @@ impl<T, X> Cells<T, X> {
     }
 
     /// The poll gave no output: the future comes back to this place, if it isn't dropped.
+    #[inline(always)]
     pub fn settle_pending(&mut self, task: Task, place: EntryPlace) -> After
         ensures cells { self.new ≡ changed (cells.ended_pending place) task self.old }
         ensures answer { result ≡ asked cells.pending_answer Unknown task self.old }
@@ -273,6 +279,7 @@ impl<T, X> Cells<T, X> {
     }
 
     /// Ends what began with a future that was to be dropped, which it is.
+    #[inline(always)]
     pub fn finish(&mut self, task: Task) -> Finish<SoloWaker<X>>
         ensures cells { self.new ≡ changed cells.finished task self.old }
         ensures answer { result ≡ asked cells.finish_answer Nothing task self.old }
@@ -290,6 +297,7 @@ impl<T, X> Cells<T, X> {
     }
 
     /// The task goes, where nobody can reach it and it holds nothing more.
+    #[inline(always)]
     pub fn tidy(&mut self, task: Task)
         ensures { self.new ≡ tidied task self.old }
     {

@@ -39,6 +39,7 @@ impl Line {
     }
 
     /// A task comes last. False where it is turned away, as the queue is closed or full.
+    #[inline(always)]
     pub fn push(&mut self, task: Task) -> bool
         ensures line { self.new ≡ pushed task self.old }
         ensures accepted { result ≡ accepts self.old }
@@ -50,6 +51,7 @@ impl Line {
     }
 
     /// The first task leaves.
+    #[inline(always)]
     pub fn pop(&mut self) -> Option<Task>
         ensures first { result ≡ slice_get self.old.items 0 }
         ensures line { self.new ≡ taken self.old }

@@ -94,6 +94,7 @@ pub struct Spawned<X> {
 }
 
 /// Nobody is told.
+#[inline(always)]
 pub fn silent<X>() -> Told<X>
     ensures { result ≡ turns.silent }
 {
@@ -104,6 +105,7 @@ pub fn silent<X>() -> Told<X>
 }
 
 /// A future, and what a queueing hands out.
+#[inline(always)]
 pub fn hands<F, T, X>(future: Option<F>, rest: Option<Lent>, told: Told<X>) -> Owed<F, T, X>
     ensures { result ≡ solo.hands future rest told }
 {

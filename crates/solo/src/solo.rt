@@ -135,6 +135,7 @@ impl<F, T, X> Solo<F, T, X> {
     }
 
     /// The first half of a `try_tick`: the first task of the queue, and a sleeper that is told of the others.
+    #[inline(always)]
     pub fn take(&mut self) -> Taken<F, X>
         ensures solo { self.new ≡ solo.taken self.old }
         ensures taken { result ≡ solo.take_answer self.old }
@@ -153,6 +154,7 @@ impl<F, T, X> Solo<F, T, X> {
     }
 
     /// Ends the poll of a future. One that has given its output is dropped before this call.
+    #[inline(always)]
     pub fn settle(&mut self, lent: Lent, back: Back<F, T>) -> Owed<F, T, X>
         ensures solo { self.new ≡ solo.settled lent back self.old }
         ensures owed { result ≡ solo.settle_answer lent back self.old }
@@ -163,6 +165,7 @@ impl<F, T, X> Solo<F, T, X> {
         }
     }
 
+    #[inline(always)]
     fn settle_ready(&mut self, lent: Lent, output: T) -> Owed<F, T, X>
         ensures solo { self.new ≡ solo.settled_ready lent output self.old }
         ensures owed { result ≡ solo.settle_ready_answer lent output self.old }
@@ -183,6 +186,7 @@ impl<F, T, X> Solo<F, T, X> {
         }
     }
 
+    #[inline(always)]
     fn settle_pending(&mut self, lent: Lent, future: F) -> Owed<F, T, X>
         ensures solo { self.new ≡ solo.settled_pending lent future self.old }
         ensures owed { result ≡ solo.settle_pending_answer lent future self.old }
@@ -200,6 +204,7 @@ impl<F, T, X> Solo<F, T, X> {
     }
 
     /// Ends what began with a future that was to be dropped, which it is.
+    #[inline(always)]
     pub fn finish(&mut self, lent: Lent) -> Owed<F, T, X>
         ensures solo { self.new ≡ solo.finished lent self.old }
         ensures owed { result ≡ solo.finish_answer lent self.old }
@@ -221,6 +226,7 @@ impl<F, T, X> Solo<F, T, X> {
     }
 
     /// Wakes a task, by reference: it is queued, where it was idle.
+    #[inline(always)]
     pub fn wake(&mut self, task: Task) -> Told<X>
         ensures solo { self.new ≡ solo.woken task self.old }
         ensures told { result ≡ solo.wake_answer task self.old }
@@ -275,6 +281,7 @@ impl<F, T, X> Solo<F, T, X> {
     }
 
     /// One more waker of the task. False, and nothing changes, from 2^40 references on.
+    #[inline(always)]
     pub fn hold(&mut self, task: Task) -> bool
         ensures solo { self.new ≡ solo.held task self.old }
         ensures few { result ≡ solo.may_hold task self.old }
@@ -283,6 +290,7 @@ impl<F, T, X> Solo<F, T, X> {
     }
 
     /// One waker less. A task that nobody could wake or ask for then is closed and queued.
+    #[inline(always)]
     pub fn release(&mut self, task: Task) -> Told<X>
         ensures solo { self.new ≡ solo.released task self.old }
         ensures told { result ≡ solo.release_answer task self.old }

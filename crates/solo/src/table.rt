@@ -67,6 +67,7 @@ impl<F> Table<F> {
     }
 
     /// A future is taken out, to be polled or dropped, if it is there.
+    #[inline(always)]
     pub fn take(&mut self, place: EntryPlace) -> Option<F>
         ensures table { self.new ≡ record self.old { entries = set_future place None self.old.entries } }
         ensures future { result ≡ future_of (entry_in place self.old.entries) }
@@ -75,6 +76,7 @@ impl<F> Table<F> {
     }
 
     /// A future is put back. What has no place then comes back.
+    #[inline(always)]
     pub fn put_back(&mut self, place: EntryPlace, future: F) -> Option<F>
         ensures table { self.new ≡ record self.old { entries = set_future place (Some future) self.old.entries } }
         ensures over { result ≡ displaced future (entry_in place self.old.entries) }
@@ -83,6 +85,7 @@ impl<F> Table<F> {
     }
 
     /// An entry goes, and with it its waker, if it has one.
+    #[inline(always)]
     pub fn leave(&mut self, place: EntryPlace) -> Option<(Option<F>, Option<Task>)>
         ensures table { self.new ≡ left_table place self.old }
         ensures parts { result ≡ parts_of (entry_in place self.old.entries) }

@@ -20,6 +20,7 @@ pub struct Left<F, X> {
 
 impl<F, T, X> Solo<F, T, X> {
     /// A sleeper is told, if no other was since the flag was last false. One that is a task is woken here.
+    #[inline(always)]
     pub(crate) fn tell(&mut self) -> Option<X>
         ensures solo { self.new ≡ turns.told self.old }
         ensures sleeper { result ≡ turns.told_waker self.old }
@@ -40,6 +41,7 @@ impl<F, T, X> Solo<F, T, X> {
     }
 
     /// A task that sleeps is woken, by its waker, which goes. The flag is true by now, so nobody else is told.
+    #[inline(never)]
     fn wake_sleeper(&mut self, task: Task)
         ensures { self.new ≡ turns.sleeper_woken task self.old }
     {
@@ -53,6 +55,7 @@ impl<F, T, X> Solo<F, T, X> {
     }
 
     /// A task is queued, and a sleeper told; or it comes back, and nobody is told.
+    #[inline(always)]
     pub(crate) fn schedule(&mut self, task: Task) -> Told<X>
         ensures solo { self.new ≡ turns.scheduled task self.old }
         ensures told { result ≡ turns.schedule_answer task self.old }
@@ -71,6 +74,7 @@ impl<F, T, X> Solo<F, T, X> {
     }
 
     /// A task is queued where it has to be.
+    #[inline(always)]
     pub(crate) fn schedule_if(&mut self, is_due: bool, task: Task) -> Told<X>
         ensures solo { self.new ≡ turns.scheduled_if is_due task self.old }
         ensures told { result ≡ turns.schedule_if_answer is_due task self.old }
@@ -83,6 +87,7 @@ impl<F, T, X> Solo<F, T, X> {
     }
 
     /// One waker of a task goes.
+    #[inline(always)]
     pub(crate) fn let_go(&mut self, task: Task) -> Told<X>
         ensures solo { self.new ≡ turns.let_go task self.old }
         ensures told { result ≡ turns.let_go_answer task self.old }
@@ -94,6 +99,7 @@ impl<F, T, X> Solo<F, T, X> {
     }
 
     /// The turn of a task begins: its future comes out of the table.
+    #[inline(always)]
     pub(crate) fn begin(&mut self, task: Task) -> Found<F>
         ensures solo { self.new ≡ turns.begun task self.old }
         ensures found { result ≡ turns.begin_answer task self.old }
@@ -112,6 +118,7 @@ impl<F, T, X> Solo<F, T, X> {
     }
 
     /// The entry of a future goes, which is dropped, and its waker with it, if it counts one.
+    #[inline(always)]
     pub(crate) fn leave(&mut self, place: EntryPlace) -> Left<F, X>
         ensures solo { self.new ≡ turns.left place self.old }
         ensures left { result ≡ turns.left_answer place self.old }
@@ -129,6 +136,7 @@ impl<F, T, X> Solo<F, T, X> {
     }
 
     /// The waker of an entry that went is released, if it had one.
+    #[inline(always)]
     fn let_go_if(&mut self, waker: Option<Task>) -> Told<X>
         ensures solo { self.new ≡ turns.let_go_if waker self.old }
         ensures told { result ≡ turns.let_go_if_answer waker self.old }

@@ -1,5 +1,5 @@
 -- The flag stands where a task is queued: of what the end of an executor does, and what goes on with a leak.
-use Rattle.std.proofs.Common.{◌≡◌, ℕ, Bool, true, false, Option, Some, None, slice_get, refl, sym, ap, subst}
+use Rattle.std.proofs.Common.{◌≡◌, Bool, true, false, Option, Some, None, slice_get}
 use Rattle.executor_parts.specs.declared.places.EntryPlace.{EntryPlace}
 use Rattle.executor_parts.specs.Places.{entry_in, future_of}
 use Rattle.executor_parts.specs.Sleepers.{last_waker, without_last}
@@ -11,11 +11,10 @@ use Rattle.solo.specs.Line.{pushed, accepts}
 use Rattle.solo.specs.Table.{first_parts}
 use Rattle.solo.specs.Cells.{choose, asked}
 use Rattle.solo.specs.Cells as cells
-use Rattle.solo.specs.Turns.{turned, lined_if, marked, loosed, handed_by, is_full, handed, told, scheduled, scheduled_if}
+use Rattle.solo.specs.Turns.{turned, lined_if, marked, loosed, handed_by, is_full, handed, told, scheduled}
 use Rattle.solo.specs.Solo.{popped, woken}
-use Rattle.solo.specs.Closing.{retracted_future, retracted_by, retracted, out, leaving_woken, line_drained_by, line_drained, shut_line}
-use Rattle.solo.specs.Closing.{drained_waking, leaving_drained, drained_by, drained, leak_woken_by, leak_woken, first_left, first_going}
-use Rattle.solo.specs.Closing.{to_wake}
+use Rattle.solo.specs.Closing.{retracted_future, retracted_by, retracted, out, leaving_woken, line_drained_by, shut_line}
+use Rattle.solo.specs.Closing.{drained_waking, drained_by, drained, leak_woken_by, leak_woken, first_left, first_going}
 use Rattle.solo_laws.proofs.Prompt.{Prompt, chosen, scheduled_if_prompt, popped_prompt}
 use Rattle.solo_laws.proofs.Loosening.{Rests, queues_not, others_woken, others_released, others_tidied, itself_woken}
 

@@ -1,8 +1,9 @@
--- What no queueing, telling, waking or sleeping changes: how many futures there are, and how many were accepted.
-use Rattle.std.proofs.Common.{◌≡◌, ℕ, zero, suc, ◌+◌, ◌%◌, ◌==◌, nat_lt, Bool, true, false, List, [], ◌∷◌, length, Option, Some, None, slice_get, refl, sym, ap, subst}
+-- What no queueing, telling, waking or sleeping changes: the futures that there are, and how many were accepted.
+use Rattle.std.proofs.Common.{◌≡◌, ℕ, zero, suc, ◌+◌, ◌%◌, ◌==◌, nat_lt, Bool, true, false, List, [], ◌∷◌, length, Option, Some, None}
+use Rattle.std.proofs.Common.{slice_get, refl, sym, ap, subst}
 use Rattle.executor_parts.specs.declared.places.EntryPlace.{EntryPlace}
-use Rattle.executor_parts.specs.Places.{Entry, entry_in, where_there, with_future, without_entry, set_future, future_of, left_by as entry_left}
-use Rattle.executor_parts.specs.Sleepers.{last_waker, without_last, waker_of, woken_up, position_of, put_to_sleep, listed}
+use Rattle.executor_parts.specs.Places.{Entry, entry_in, where_there, with_future, set_future}
+use Rattle.executor_parts.specs.Sleepers.{last_waker, without_last, waker_of, position_of, listed}
 use Rattle.task_moves.specs.declared.local_task.answers.Start.{Start}
 use Rattle.task_moves.specs.declared.local_task.answers.Start.TheVariants.{Poll, Drop}
 use Rattle.solo.specs.declared.names.Task.{Task}
@@ -16,16 +17,16 @@ use Rattle.solo.specs.declared.steals.Source.TheVariants.{Common, Own}
 use Rattle.solo.specs.declared.solo.Solo.{Solo}
 use Rattle.solo.specs.OwnQueues as own
 use Rattle.solo.specs.Line.{pushed, accepts}
+use Rattle.solo.specs.Table.{TableValue}
 use Rattle.solo.specs.Cells.{choose, asked}
 use Rattle.solo.specs.Cells as cells
-use Rattle.solo.specs.Turns.{turned, lined_if, marked, loosed, handed_by, is_full, handed, told, scheduled, scheduled_if, let_go, let_go_if}
+use Rattle.solo.specs.Turns.{turned, marked, handed_by, is_full, handed, told, scheduled, scheduled_if, let_go, let_go_if}
 use Rattle.solo.specs.Turns.{left_by_parts, out_of, begun}
 use Rattle.solo.specs.Solo.{popped}
 use Rattle.solo.specs.Ticks as ticks
-use Rattle.solo.specs.Steals.{moved, moved_on, first_of, without_first, kept, stolen, share, length_of, stolen_if, is_own, stolen_at, looked}
-use Rattle.solo.specs.Steals.{look_answer, round_on, round, next_place, walked, further_by, sought_by, sought, seek_answer, own_popped}
+use Rattle.solo.specs.Steals.{moved, first_of, without_first, kept, stolen, share, length_of, stolen_if, is_own, stolen_at, looked}
+use Rattle.solo.specs.Steals.{look_answer, round, next_place, further_by, sought_by, sought, seek_answer, own_popped}
 use Rattle.solo.specs.Runs as runs
-use Rattle.solo_laws.specs.Futures.{futures}
 use Rattle.solo_laws.proofs.Prompt.{chosen}
 use Rattle.solo_laws.proofs.Runs.{moved_on_keeps, round_on_keeps}
 
@@ -49,12 +50,17 @@ module _ {F W : Type 0} where
   set_length place future es =
       there_length (entry_in place es) (with_future place.key future es) es (with_future_length place.key future es)
 
-module _ {F T X : Type 0} where
-  -- what a statement says of an executor that reads those two numbers
-  abbrev pub Of : (ℕ → ℕ → Type 0) → Solo F T X → Type 0
-  Of P s = P s.accepted (futures s)
+module _ {F : Type 0} where
+  -- a statement of how many were accepted, how many futures both tables have, and both limits
+  abbrev pub counting : (ℕ → ℕ → ℕ → ℕ → Type 0) → ℕ → TableValue F → TableValue F → Type 0
+  counting Q a t g = Q a (length t.entries + length g.entries) t.limit g.limit
 
-  module _ (P : ℕ → ℕ → Type 0) where
+module _ {F T X : Type 0} where
+  -- what a statement says of an executor that reads how many were accepted, and its two tables
+  abbrev pub Of : (ℕ → TableValue F → TableValue F → Type 0) → Solo F T X → Type 0
+  Of P s = P s.accepted s.table s.going
+
+  module _ (P : ℕ → TableValue F → TableValue F → Type 0) where
     handed_by_of : (w : Option (SoloWaker X)) (s : Solo F T X) → Of P s → Of P (handed_by w s)
     handed_by_of (Some (OfTask task)) s p =
         let marked_of : Of P (marked task s) =
@@ -93,19 +99,6 @@ module _ {F T X : Type 0} where
     left_by_of None s p = p
     left_by_of (Some parts) s p = let_go_if_of parts.1 s p
 
-    pub put_of : (place : EntryPlace) (future : Option F) (s : Solo F T X) → Of P s
-        → Of P (record s { table = record s.table { entries = set_future place future s.table.entries } })
-    put_of place future s p =
-        subst (λ n. P s.accepted (n + length s.going.entries)) (sym (set_length place future s.table.entries)) p
-
-    out_of_of : (start : Option (Start EntryPlace)) (s : Solo F T X) → Of P s → Of P (out_of start s)
-    out_of_of (Some (Poll place)) s p = put_of place None s p
-    out_of_of (Some (Drop place)) s p = put_of place None s p
-    out_of_of None s p = p
-
-    pub begun_of : (task : Task) (s : Solo F T X) → Of P s → Of P (begun task s)
-    begun_of task s p = out_of_of (asked cells.start_answer None task s.cells) (turned cells.started task s) p
-
     told_unless_of : (w : Option X) (s : Solo F T X) → Of P s → Of P (ticks.told_unless w s)
     told_unless_of (Some w) s p = p
     told_unless_of None s p = told_of s p
@@ -119,15 +112,11 @@ module _ {F T X : Type 0} where
     up_of (Awake _) s p = p
     up_of (Asleep sleeper) s p = p
 
-    woke_of : (ticker : Ticker) (s : Solo F T X) → Of P s
+    pub woke_of : (ticker : Ticker) (s : Solo F T X) → Of P s
         → Of P (ticks.told_unless (ticks.wake_up_answer ticker s).told.sleeper (ticks.woke_up ticker s))
     woke_of ticker s p =
         told_unless_of (ticks.wake_up_answer ticker s).told.sleeper (ticks.woke_up ticker s)
         (waker_dropped_of (ticks.kept_by ticker s) (ticks.up ticker s) (up_of ticker s p))
-
-    found_of : (ticker : Ticker) (task : Task) (s : Solo F T X) → Of P s → Of P (ticks.found ticker task s)
-    found_of ticker task s p =
-        begun_of task (ticks.told_unless (ticks.wake_up_answer ticker s).told.sleeper (ticks.woke_up ticker s)) (woke_of ticker s p)
 
     anew_of : (b : Bool) (waker : SoloWaker X) (s : Solo F T X) → Of P s → Of P (ticks.lain_anew b waker s)
     anew_of true waker s p = p
@@ -139,25 +128,10 @@ module _ {F T X : Type 0} where
     again_of None number waker s p =
         chosen (Of P) (ticks.is_short s) (ticks.stored (listed number waker s.sleepers) s) s p p
 
-    asleep_of : (ticker : Ticker) (waker : SoloWaker X) (s : Solo F T X) → Of P s → Of P (ticks.fallen_asleep ticker waker s)
+    pub asleep_of : (ticker : Ticker) (waker : SoloWaker X) (s : Solo F T X) → Of P s → Of P (ticks.fallen_asleep ticker waker s)
     asleep_of (Awake _) waker s p = anew_of (nat_lt s.sleepers.count s.sleepers.rooms) waker s p
     asleep_of (Asleep sleeper) waker s p =
         again_of (position_of sleeper.number s.sleepers.wakers) sleeper.number waker s p
-
-    tick_by_of : (first : Option Task) (ticker : Ticker) (waker : SoloWaker X) (s : Solo F T X) → Of P s
-        → Of P (ticks.taken_by first ticker waker s)
-    tick_by_of (Some task) ticker waker s p = found_of ticker task s p
-    tick_by_of None ticker waker s p = asleep_of ticker waker s p
-
-    pub tick_taken_of : (ticker : Ticker) (waker : SoloWaker X) (s : Solo F T X) → Of P s → Of P (ticks.taken ticker waker s)
-    tick_taken_of ticker waker s p = tick_by_of (slice_get s.line.items 0) ticker waker (popped s) p
-
-    search_by_of : (first : Option Task) (ticker : Ticker) (s : Solo F T X) → Of P s → Of P (ticks.searched_by first ticker s)
-    search_by_of (Some task) ticker s p = found_of ticker task s p
-    search_by_of None ticker s p = p
-
-    pub tick_searched_of : (ticker : Ticker) (s : Solo F T X) → Of P s → Of P (ticks.searched ticker s)
-    tick_searched_of ticker s p = search_by_of (slice_get s.line.items 0) ticker (popped s) p
 
     leave_by_of : (w : Option (SoloWaker X)) (s : Solo F T X) → Of P s → Of P (ticks.left_by w s)
     leave_by_of None s p = told_of s p
@@ -180,7 +154,7 @@ module _ {F T X : Type 0} where
         (λ task. moved n source number (kept number task (without_first source s))) rest
         (λ task. moved_of n source number (kept number task (without_first source s)) rest)
 
-    stolen_of : (source : Source) (number : ℕ) (s : Solo F T X) → Of P s → Of P (stolen source number s)
+    pub stolen_of : (source : Source) (number : ℕ) (s : Solo F T X) → Of P s → Of P (stolen source number s)
     stolen_of source number s p = moved_of (share (length_of source s) (own.free_of number s.runs)) source number s p
 
     looked_of : (number at : ℕ) (s : Solo F T X) → Of P s → Of P (looked number at s)
@@ -203,39 +177,76 @@ module _ {F T X : Type 0} where
     sought_by_of (Some task) number start s p = p
     sought_by_of None number start s p = further_of (slice_get s.line.items 0) number start (popped s) p
 
-    sought_of : (number start : ℕ) (s : Solo F T X) → Of P s → Of P (sought number start s)
+    pub sought_of : (number start : ℕ) (s : Solo F T X) → Of P s → Of P (sought number start s)
     sought_of number start s p = sought_by_of (own.first_of number s.runs) number start (own_popped number s) p
-
-    run_found_of : (runner : Runner) (ticker : Ticker) (task : Task) (s : Solo F T X) → Of P s → Of P (runs.found runner ticker task s)
-    run_found_of runner ticker task s p =
-        let after : Solo F T X = runs.told ticker s in
-        let told_after : Of P after = woke_of ticker s p in
-        begun_of task (stolen_if (runs.is_steal_due runner) runner.number after)
-        (chosen (Of P) (runs.is_steal_due runner) (stolen Common runner.number after) after
-        (stolen_of Common runner.number after told_after) told_after)
-
-    run_by_of : (first : Option Task) (runner : Runner) (ticker : Ticker) (waker : SoloWaker X) (s : Solo F T X) → Of P s
-        → Of P (runs.took_by first runner ticker waker s)
-    run_by_of (Some task) runner ticker waker s p = run_found_of runner ticker task s p
-    run_by_of None runner ticker waker s p = asleep_of ticker waker s p
-
-    pub run_taken_of : (runner : Runner) (ticker : Ticker) (waker : SoloWaker X) (start : ℕ) (s : Solo F T X) → Of P s
-        → Of P (runs.took runner ticker waker start s)
-    run_taken_of runner ticker waker start s p =
-        run_by_of (seek_answer runner.number start s).task runner ticker waker (sought runner.number start s)
-        (sought_of runner.number start s p)
-
-    run_search_by_of : (first : Option Task) (runner : Runner) (ticker : Ticker) (s : Solo F T X) → Of P s
-        → Of P (runs.searched_by first runner ticker s)
-    run_search_by_of (Some task) runner ticker s p = run_found_of runner ticker task s p
-    run_search_by_of None runner ticker s p = p
-
-    pub run_searched_of : (runner : Runner) (ticker : Ticker) (start : ℕ) (s : Solo F T X) → Of P s
-        → Of P (runs.searched runner ticker start s)
-    run_searched_of runner ticker start s p =
-        run_search_by_of (seek_answer runner.number start s).task runner ticker (sought runner.number start s)
-        (sought_of runner.number start s p)
 
     pub run_drained_of : (first : Option Task) (ticker : Ticker) (s : Solo F T X) → Of P s → Of P (runs.drained_by first ticker s)
     run_drained_of (Some task) ticker s p = scheduled_of task s p
     run_drained_of None ticker s p = tick_left_of ticker s p
+
+  module _ (Q : ℕ → ℕ → ℕ → ℕ → Type 0) where
+    pub put_of : (place : EntryPlace) (future : Option F) (s : Solo F T X) → Of (counting Q) s
+        → Of (counting Q) (record s { table = record s.table { entries = set_future place future s.table.entries } })
+    put_of place future s p =
+        subst (λ n. Q s.accepted (n + length s.going.entries) s.table.limit s.going.limit) (sym (set_length place future s.table.entries)) p
+
+    out_of_of : (start : Option (Start EntryPlace)) (s : Solo F T X) → Of (counting Q) s → Of (counting Q) (out_of start s)
+    out_of_of (Some (Poll place)) s p = put_of place None s p
+    out_of_of (Some (Drop place)) s p = put_of place None s p
+    out_of_of None s p = p
+
+    pub begun_of : (task : Task) (s : Solo F T X) → Of (counting Q) s → Of (counting Q) (begun task s)
+    begun_of task s p = out_of_of (asked cells.start_answer None task s.cells) (turned cells.started task s) p
+
+    found_of : (ticker : Ticker) (task : Task) (s : Solo F T X) → Of (counting Q) s → Of (counting Q) (ticks.found ticker task s)
+    found_of ticker task s p =
+        begun_of task (ticks.told_unless (ticks.wake_up_answer ticker s).told.sleeper (ticks.woke_up ticker s))
+        (woke_of (counting Q) ticker s p)
+
+    tick_by_of : (first : Option Task) (ticker : Ticker) (waker : SoloWaker X) (s : Solo F T X) → Of (counting Q) s
+        → Of (counting Q) (ticks.taken_by first ticker waker s)
+    tick_by_of (Some task) ticker waker s p = found_of ticker task s p
+    tick_by_of None ticker waker s p = asleep_of (counting Q) ticker waker s p
+
+    pub tick_taken_of : (ticker : Ticker) (waker : SoloWaker X) (s : Solo F T X) → Of (counting Q) s
+        → Of (counting Q) (ticks.taken ticker waker s)
+    tick_taken_of ticker waker s p = tick_by_of (slice_get s.line.items 0) ticker waker (popped s) p
+
+    search_by_of : (first : Option Task) (ticker : Ticker) (s : Solo F T X) → Of (counting Q) s
+        → Of (counting Q) (ticks.searched_by first ticker s)
+    search_by_of (Some task) ticker s p = found_of ticker task s p
+    search_by_of None ticker s p = p
+
+    pub tick_searched_of : (ticker : Ticker) (s : Solo F T X) → Of (counting Q) s → Of (counting Q) (ticks.searched ticker s)
+    tick_searched_of ticker s p = search_by_of (slice_get s.line.items 0) ticker (popped s) p
+
+    run_found_of : (runner : Runner) (ticker : Ticker) (task : Task) (s : Solo F T X) → Of (counting Q) s
+        → Of (counting Q) (runs.found runner ticker task s)
+    run_found_of runner ticker task s p =
+        let after : Solo F T X = runs.told ticker s in
+        let told_after : Of (counting Q) after = woke_of (counting Q) ticker s p in
+        begun_of task (stolen_if (runs.is_steal_due runner) runner.number after)
+        (chosen (Of (counting Q)) (runs.is_steal_due runner) (stolen Common runner.number after) after
+        (stolen_of (counting Q) Common runner.number after told_after) told_after)
+
+    run_by_of : (first : Option Task) (runner : Runner) (ticker : Ticker) (waker : SoloWaker X) (s : Solo F T X) → Of (counting Q) s
+        → Of (counting Q) (runs.took_by first runner ticker waker s)
+    run_by_of (Some task) runner ticker waker s p = run_found_of runner ticker task s p
+    run_by_of None runner ticker waker s p = asleep_of (counting Q) ticker waker s p
+
+    pub run_taken_of : (runner : Runner) (ticker : Ticker) (waker : SoloWaker X) (start : ℕ) (s : Solo F T X) → Of (counting Q) s
+        → Of (counting Q) (runs.took runner ticker waker start s)
+    run_taken_of runner ticker waker start s p =
+        run_by_of (seek_answer runner.number start s).task runner ticker waker (sought runner.number start s)
+        (sought_of (counting Q) runner.number start s p)
+
+    run_search_by_of : (first : Option Task) (runner : Runner) (ticker : Ticker) (s : Solo F T X) → Of (counting Q) s
+        → Of (counting Q) (runs.searched_by first runner ticker s)
+    run_search_by_of (Some task) runner ticker s p = run_found_of runner ticker task s p
+    run_search_by_of None runner ticker s p = p
+
+    pub run_searched_of : (runner : Runner) (ticker : Ticker) (start : ℕ) (s : Solo F T X) → Of (counting Q) s
+        → Of (counting Q) (runs.searched runner ticker start s)
+    run_searched_of runner ticker start s p =
+        run_search_by_of (seek_answer runner.number start s).task runner ticker (sought runner.number start s)
+        (sought_of (counting Q) runner.number start s p)

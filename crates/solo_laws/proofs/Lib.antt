@@ -7,3 +7,5 @@ pub mod Ending
 pub mod Courses
 pub mod Frames
 pub mod Counts
+pub mod EntryWeights
+pub mod Weights

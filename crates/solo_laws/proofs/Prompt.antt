@@ -1,9 +1,9 @@
 -- While a task is queued the flag stands: of what each change of an executor of one owner is made of.
-use Rattle.std.proofs.Common.{◌≡◌, ℕ, ◌-◌, ◌<◌, ◌≤◌, ◌==◌, ◌&&◌, ◌||◌, nat_lt, not, Bool, true, false, List, length, drop, Option, Some, None}
-use Rattle.std.proofs.Common.{refl, sym, ap, subst, ◌∙◌, arith}
+use Rattle.std.proofs.Common.{◌≡◌, ℕ, ◌<◌, ◌≤◌, ◌==◌, ◌&&◌, ◌||◌, nat_lt, not, Bool, true, false, length, Option, Some, None}
+use Rattle.std.proofs.Common.{refl, sym, subst, ◌∙◌, arith}
 use Rattle.std.proofs.lemmas.Bool.Decides.{nat_tests}
 use Rattle.std.proofs.lemmas.List.{length-drop}
-use Rattle.executor_parts.specs.Sleepers.{Sleepers, flag_of, without_last, last_waker}
+use Rattle.executor_parts.specs.Sleepers.{flag_of, without_last, last_waker}
 use Rattle.executor_parts.specs.declared.places.EntryPlace.{EntryPlace}
 use Rattle.queue_steps.specs.ClosableQueue.{ClosableQueue}
 use Rattle.task_moves.specs.declared.local_task.answers.Start.{Start}
@@ -15,7 +15,7 @@ use Rattle.solo.specs.declared.solo.Solo.{Solo}
 use Rattle.solo.specs.Line.{pushed, pushed_by, accepts, has_place, is_spent}
 use Rattle.solo.specs.Cells.{choose, asked}
 use Rattle.solo.specs.Cells as cells
-use Rattle.solo.specs.Turns.{turned, swept, lined_if, marked, loosed, sleeper_woken, handed_by, is_full, handed, told, scheduled}
+use Rattle.solo.specs.Turns.{turned, lined_if, marked, handed_by, is_full, handed, told, scheduled}
 use Rattle.solo.specs.Turns.{scheduled_if, let_go, let_go_if, left_by_parts, without, left, out_of, begun}
 use Rattle.solo.specs.Solo.{popped}
 use Rattle.solo_laws.proofs.Sleepers.{Fits, last_fits, last_flag}

@@ -1,5 +1,5 @@
 -- The same of what runs do.
-use Rattle.std.proofs.Common.{◌≡◌, ℕ, zero, suc, ◌%◌, ◌<◌, ◌≤◌, Bool, true, false, List, length, drop, Option, Some, None, slice_get, refl, sym, ap, subst, ◌∙◌}
+use Rattle.std.proofs.Common.{◌≡◌, ℕ, zero, suc, ◌%◌, ◌<◌, ◌≤◌, Bool, true, length, Option, Some, None, slice_get, refl}
 use Rattle.queue_steps.specs.ClosableQueue.{ClosableQueue}
 use Rattle.executor_parts.specs.Sleepers.{Sleepers, flag_of}
 use Rattle.solo.specs.declared.names.Task.{Task}
@@ -7,17 +7,15 @@ use Rattle.solo.specs.declared.names.SoloWaker.{SoloWaker}
 use Rattle.solo.specs.declared.runs.Runner.{Runner}
 use Rattle.solo.specs.declared.runs.Leaving.{Leaving}
 use Rattle.solo.specs.declared.ticks.Ticker.{Ticker}
-use Rattle.solo.specs.declared.steals.Source.{Source}
 use Rattle.solo.specs.declared.steals.Source.TheVariants.{Common, Own}
 use Rattle.solo.specs.declared.solo.Solo.{Solo}
 use Rattle.solo.specs.OwnQueues as own
-use Rattle.solo.specs.Cells.{choose}
 use Rattle.solo.specs.Solo.{popped}
 use Rattle.solo.specs.Steals.{moved, moved_on, first_of, without_first, kept, stolen, share, length_of, stolen_if, is_own, stolen_at, looked}
-use Rattle.solo.specs.Steals.{look_answer, round_on, round, next_place, whole_round, walked, further_by, sought_further, sought_by}
-use Rattle.solo.specs.Steals.{sought, seek_answer, seek_answer_by, further_answer_by, walk_answer, own_popped}
+use Rattle.solo.specs.Steals.{look_answer, round_on, round, next_place, walked, further_by, sought_by}
+use Rattle.solo.specs.Steals.{sought, seek_answer, seek_answer_by, further_answer_by, own_popped}
 use Rattle.solo.specs.Runs.{told, found, took_by, took, searched_by, searched, is_steal_due, drained_by, drained, first_left}
-use Rattle.solo_laws.proofs.Prompt.{Sound, Awake, Prompt, awake_prompt, chosen, begun_prompt, popped_prompt, scheduled_prompt}
+use Rattle.solo_laws.proofs.Prompt.{Sound, Prompt, awake_prompt, chosen, begun_prompt, popped_prompt, scheduled_prompt}
 use Rattle.solo_laws.proofs.Ticks.{woke_awake, asleep_prompt, first_none, left_prompt}
 
 module _ {X : Type 0} where

@@ -1,10 +1,9 @@
 -- What changes of the sleepers do to their flag: nobody sleeps, or a sleeper has no waker left.
-use Rattle.std.proofs.Common.{◌≡◌, ◌⊎◌, inl, inr, ℕ, ◌+◌, ◌-◌, ◌<◌, ◌≤◌, ◌==◌, ◌||◌, nat_lt, Bool, true, false, List, ◌∷◌, [], ◌++◌, length}
-use Rattle.std.proofs.Common.{Option, Some, None, remove, take, drop, slice_get, slice_set, refl, sym, ap, subst, ◌∙◌, arith, length-append}
+use Rattle.std.proofs.Common.{◌≡◌, ◌⊎◌, ℕ, ◌+◌, ◌-◌, ◌<◌, ◌≤◌, ◌==◌, ◌||◌, nat_lt, Bool, true, false, List, ◌∷◌, [], ◌++◌, length}
+use Rattle.std.proofs.Common.{Option, Some, None, remove, refl, arith}
 use Rattle.std.proofs.lemmas.Bool.Decides.{nat_tests}
-use Rattle.std.proofs.lemmas.List.{length-take, length-drop, length-set}
+use Rattle.std.proofs.lemmas.List.{length-take}
 use Rattle.std.proofs.lemmas.List.Edits.{length-remove}
-use Rattle.std.proofs.lemmas.Option.{slice_get_within}
 use Rattle.executor_parts.specs.Sleepers.{Sleepers, flag_of, without_last, without_entry, freed, woken_up, waker_of, waker_at, waker_in}
 use Rattle.executor_parts.specs.Sleepers.{position_of, later}
 

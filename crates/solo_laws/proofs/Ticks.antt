@@ -1,8 +1,8 @@
 -- The same of what ticks do.
-use Rattle.std.proofs.Common.{◌≡◌, ℕ, ◌+◌, ◌-◌, ◌<◌, ◌≤◌, ◌==◌, ◌||◌, nat_lt, Bool, true, false, List, [], ◌∷◌, ◌++◌, length, drop, Option, Some, None}
-use Rattle.std.proofs.Common.{slice_get, slice_set, refl, sym, ap, subst, ◌∙◌, arith, length-append}
+use Rattle.std.proofs.Common.{◌≡◌, ℕ, ◌+◌, ◌-◌, ◌≤◌, ◌==◌, ◌||◌, nat_lt, Bool, true, false, List, [], ◌∷◌, length, drop, Option, Some, None}
+use Rattle.std.proofs.Common.{slice_get, refl, sym, subst, ◌∙◌, arith, length-append}
 use Rattle.std.proofs.lemmas.Bool.Decides.{nat_tests}
-use Rattle.std.proofs.lemmas.List.{length-set, length-drop}
+use Rattle.std.proofs.lemmas.List.{length-set}
 use Rattle.executor_parts.specs.Sleepers.{Sleepers, flag_of, woken_up, waker_of, position_of, put_to_sleep, next_number, listed}
 use Rattle.solo.specs.declared.names.Task.{Task}
 use Rattle.solo.specs.declared.names.SoloWaker.{SoloWaker}
@@ -14,14 +14,14 @@ use Rattle.solo.specs.declared.solo.Solo.{Solo}
 use Rattle.solo.specs.Line.{pushed, accepts}
 use Rattle.solo.specs.Cells.{choose, asked}
 use Rattle.solo.specs.Cells as cells
-use Rattle.solo.specs.Turns.{turned, swept, told, told_waker, scheduled, let_go, let_go_answer, schedule_answer, scheduled_if, begun}
+use Rattle.solo.specs.Turns.{turned, swept, told, told_waker, scheduled_if}
 use Rattle.solo.specs.Turns.{schedule_if_answer}
 use Rattle.solo.specs.Solo.{popped}
-use Rattle.solo.specs.Ticks.{given_back, roomy, stored, told_unless, waker_dropped, drop_waker_answer, kept_by, up, woke_up}
+use Rattle.solo.specs.Ticks.{stored, told_unless, waker_dropped, drop_waker_answer, kept_by, up, woke_up}
 use Rattle.solo.specs.Ticks.{wake_up_answer, found, lain_anew, is_short, replaced, lain_again, fallen_asleep, taken_by, taken}
 use Rattle.solo.specs.Ticks.{searched_by, searched, gone, left_by, left}
 use Rattle.solo_laws.proofs.Sleepers.{Fits, woken_fits, woken_flag}
-use Rattle.solo_laws.proofs.Prompt.{Sound, Awake, Prompt, awake_prompt, chosen, told_awake, let_go_prompt, begun_prompt, popped_prompt}
+use Rattle.solo_laws.proofs.Prompt.{Sound, Awake, Prompt, awake_prompt, told_awake, let_go_prompt, begun_prompt, popped_prompt}
 
 short_fits : (n count : ℕ) → nat_lt n count ≡ true → n + 1 ≤ count
 short_fits n count is = grind (arith, nat_tests)

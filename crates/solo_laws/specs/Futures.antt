@@ -3,7 +3,11 @@ use Rattle.std.specs.Prelude.{◌≡◌, ℕ, ◌+◌, ◌-◌, ◌^◌, ◌≤�
 use Rattle.task_moves.specs.declared.local_task.answers.Back.{Back}
 use Rattle.task_moves.specs.declared.local_task.answers.Back.TheVariants.{Ready, Pending}
 use Rattle.solo.specs.declared.owed.Spawned.{Spawned}
+use Rattle.solo.specs.declared.owed.SpawnError.{SpawnError}
+use Rattle.solo.specs.declared.owed.SpawnError.TheVariants.{Full, NoMemory}
 use Rattle.solo.specs.declared.solo.Solo.{Solo}
+use Rattle.solo.specs.Solo as solo
+use Rattle.solo.specs.Table.{Same}
 use Rattle.solo_laws.specs.Calls.{Call, Spawn, Settle, Finish, Drain}
 
 module _ {F T : Type 0} where
@@ -41,3 +45,15 @@ module _ {F T X : Type 0} where
   -- the next that is accepted has as its number how many were accepted before
   abbrev pub IsNumbered : List (Call F T X) → Spawned X → Type 0
   IsNumbered calls spawned = spawned.task.number ≡ min (sum_of accepted_by calls) (2 ^ 64 - 1)
+
+  -- `Full` where as many as the limit are accepted and not dropped, and want of memory only where fewer are
+  abbrev pub Reason : ℕ → SpawnError F → Solo F T X → Type 0
+  Reason limit (Full back) s = limit ≤ length s.table.entries
+  Reason limit (NoMemory back) s = length s.table.entries < limit
+
+  -- a refused future comes back, and nothing changes but room
+  pub record ComesBack (limit : ℕ) (future : F) (refused : SpawnError F) (old new : Solo F T X) : Type 0 where
+    pub back : solo.refused refused ≡ future
+    pub reason : Reason limit refused old
+    pub same : Same old.table old.cells new.table new.cells
+    pub others : new ≡ record old { table = new.table; cells = new.cells }

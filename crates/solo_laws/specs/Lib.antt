@@ -1,3 +1,4 @@
 pub mod Calls
 pub mod Sleeping
 pub mod Futures
+pub mod Weights

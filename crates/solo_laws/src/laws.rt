@@ -1,12 +1,14 @@
 //! Laws of every list of calls on an executor of one owner.
-ghost use Rattle.std.specs.Prelude.{ℕ, List, Ok};
+ghost use Rattle.std.specs.Prelude.{ℕ, List, Ok, Err};
 ghost use Rattle.solo.specs.Solo.{IsNew, Spawns};
 ghost use Rattle.solo.specs.declared.names.Kind.{Kind};
+ghost use Rattle.solo.specs.declared.owed.SpawnError.{SpawnError};
 ghost use Rattle.solo.specs.declared.owed.Spawned.{Spawned};
 ghost use Rattle.solo.specs.declared.solo.Solo.{Solo};
 ghost use Rattle.solo_laws.specs.Calls.{Call, Course};
-ghost use Rattle.solo_laws.specs.Futures.{NoneIsLost, IsNumbered};
+ghost use Rattle.solo_laws.specs.Futures.{ComesBack, IsNumbered, NoneIsLost};
 ghost use Rattle.solo_laws.specs.Sleeping.{SomeoneIsTold};
+ghost use Rattle.solo_laws.specs.Weights.{Balances};
 
 /// Whatever is called, and with whatever names: as long as a task is queued, nobody sleeps, or one who sleeps is told. So a queued
 /// task never waits while all who could take it sleep on.
@@ -28,4 +30,20 @@ pub fn tasks_are_numbered_in_order<F, T, X>()
     ensures { (limit : ℕ) (kind : Kind) (calls : List (Call F T X)) (first last : Solo F T X) → IsNew limit kind first
         → Course calls first last → (future : F) (spawned : Spawned X) (next : Solo F T X) → Spawns future last (Ok spawned) next
         → IsNumbered calls spawned }
+{}
+
+/// Whatever futures are taken to weigh, what was handed in weighs as much as what is inside and what was handed out. So a future
+/// that was accepted is inside or was handed out, to be polled or dropped, and never both; and it comes out once more only where
+/// it came back from a poll.
+pub fn what_goes_in_comes_out_once<F, T, X>()
+    ensures { (weigh : F → ℕ) (limit : ℕ) (kind : Kind) (calls : List (Call F T X)) (first last : Solo F T X)
+        → IsNew limit kind first → (does : Course calls first last) → Balances weigh calls first last does }
+{}
+
+/// Whatever was called before, a future that is refused comes back, and nothing changes but room: `Full` exactly where as many
+/// futures are accepted and not dropped as the limit says with which the executor was made, and want of memory only where fewer are.
+pub fn a_refused_future_comes_back<F, T, X>()
+    ensures { (limit : ℕ) (kind : Kind) (calls : List (Call F T X)) (first last : Solo F T X) → IsNew limit kind first
+        → Course calls first last → (future : F) (refused : SpawnError F) (next : Solo F T X)
+        → Spawns future last (Err refused) next → ComesBack limit future refused last next }
 {}

@@ -63,23 +63,16 @@ impl<R: Abort + Wait + Copy + Drop + 'static> Stage<R> {
         Arc::try_clone(&self.counts).expect(&self.rt, "memory")
     }
 
-    /// What a task is made of that is Pending so many times.
-    pub fn parts(&self, left: u64, wakes_itself: bool) -> (Countdown, Line<R>) {
+    /// A task whose future is Pending so many times, with metadata 7.
+    pub fn task(&self, left: u64, wakes_itself: bool) -> (TestRunnable<R>, TestTask<R>) {
+        let (rt, counts) = (self.rt, self.counts_too());
         let future = Countdown {
             left,
             wakes_itself,
-            counts: self.counts_too(),
+            counts,
         };
-        let line = Line {
-            rt: self.rt,
-            counts: self.counts_too(),
-        };
-        (future, line)
-    }
-
-    /// A task of this, with metadata 7.
-    pub fn task(&self, left: u64, wakes_itself: bool) -> (TestRunnable<R>, TestTask<R>) {
-        let (future, line) = self.parts(left, wakes_itself);
+        let counts = self.counts_too();
+        let line = Line { rt, counts };
         match Builder::new()
             .metadata(7)
             .spawn(self.rt, self.realm, future, line)

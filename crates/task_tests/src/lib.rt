@@ -5,8 +5,6 @@
 #[cfg(test)]
 mod calls;
 #[cfg(test)]
-mod executor;
-#[cfg(test)]
 mod parts;
 #[cfg(test)]
 mod ready;
@@ -16,7 +14,5 @@ mod refusals;
 mod stored;
 #[cfg(test)]
 mod threads;
-#[cfg(test)]
-mod traits;
 #[cfg(test)]
 mod values;

@@ -27,8 +27,6 @@ pub struct Counts {
     pub rings: AtomicU64,
     /// The most Runnables that were in the queue at a time.
     pub longest: AtomicU64,
-    /// How many Runnables are in the queue, for who looks without its lock.
-    pub queued: AtomicU64,
     /// The Runnables that were scheduled and not taken yet.
     pub queue: Mutex<Vec<Returning<StoredRunnable<u64>>>>,
     /// Wakers of tasks of the same queue: the next that is scheduled wakes the last of them.
@@ -50,7 +48,6 @@ impl Counts {
                 schedule_drops: AtomicU64::new(0),
                 rings: AtomicU64::new(0),
                 longest: AtomicU64::new(0),
-                queued: AtomicU64::new(0),
                 queue: Mutex::new(Vec::with_capacity(alloc, 8)?),
                 sleepers: Mutex::new(Vec::new(alloc)),
             },
@@ -136,14 +133,10 @@ impl<R: Wait + Copy + Drop> Line<R> {
         let mut queue = counts.queue.lock(&self.rt);
         let _ = queue.push(Returning::new(runnable.store()));
         counts.longest.fetch_max(queue.len() as u64, SeqCst);
-        counts.queued.fetch_add(1, SeqCst);
         drop(queue);
         let sleeper = counts.sleepers.lock(&self.rt).pop();
-        match sleeper {
-            Some(sleeper) => match sleeper.wake(self.rt, realm) {
-                Some(Due { runnable, info: _ }) => Some(runnable),
-                None => None,
-            },
+        match sleeper?.wake(self.rt, realm) {
+            Some(Due { runnable, info: _ }) => Some(runnable),
             None => None,
         }
     }
@@ -220,14 +213,8 @@ pub fn next<R: Wait + Copy + Drop + 'static>(
     counts: &Counts,
 ) -> Option<TestRunnable<R>> {
     let stored = counts.queue.lock(&rt).pop();
-    match stored {
-        Some(stored) => {
-            counts.queued.fetch_sub(1, SeqCst);
-            match stored.redeem(rt, realm) {
-                Some(scheduled) => Some(scheduled.into_runnable()),
-                None => None,
-            }
-        }
+    match stored?.redeem(rt, realm) {
+        Some(scheduled) => Some(scheduled.into_runnable()),
         None => None,
     }
 }

@@ -21,7 +21,7 @@ const ROUNDS: u64 = 1_000;
 const CANCELS: u64 = 100_000;
 
 /// How many Runnables wait for the thread that runs them.
-const MOST_QUEUED: u64 = 16;
+const MOST_QUEUED: usize = 16;
 
 /// Waits until the counter has come so far.
 fn waits_until<R: Abort>(rt: &R, counter: &AtomicU64, least: u64) {
@@ -45,11 +45,9 @@ fn runs_until<R: Abort + Wait + Copy + Drop + 'static>(
     let mut idle = 0u64;
     for _ in rt.forever() {
         let is_last = counter.load(SeqCst) >= least;
-        if counts.queued.load(SeqCst) > 0 {
-            if let Some(runnable) = next(rt, realm, counts) {
-                ran(runnable);
-                idle = 0;
-            }
+        if let Some(runnable) = next(rt, realm, counts) {
+            ran(runnable);
+            idle = 0;
         } else if is_last {
             return;
         } else if idle == MOST_TURNS {
@@ -176,7 +174,8 @@ fn is_given_up<R: Abort + Wait + Copy + Drop + 'static>(stage: &Stage<R>, number
             drop_cancel(cancel);
         }
     }
-    if stage.counts.queued.load(SeqCst) > MOST_QUEUED {
+    let queued = stage.counts.queue.lock(&stage.rt).len();
+    if queued > MOST_QUEUED {
         stage.run_what_is_there(1);
     }
 }

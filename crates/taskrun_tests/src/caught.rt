@@ -1,16 +1,17 @@
 //! Calls that the drop of the executor catches in their middle, at each of their steps; and the drop, caught so by each call.
-use executor_core::{Kind, Machine};
+use crate::rows::{DONE, PENDING, READY, comes_to_poll, go, has_begun, new_machine};
+use executor_core::Machine;
 use executor_model::Call::{
     self, Cancel, DropExecutor, DropHandle, DropRun, DropTick, Keep, NewRun, NewTick, PollHandle,
     PollRun, PollTick, Spawn, TryTick, Wake, WakeByRef,
 };
-use executor_model::{Answer, By, Event, Hint, Op, Polled, Reply, Step, UserEnd, UserOp};
+use executor_model::{By, Event, Op, Polled, Reply, Step, UserOp};
 use std::process::Abort;
 
-/// Who drops the executor, who makes the call, and who does the rest.
-const DROPPER: u32 = 0;
+/// Who makes the call that is caught, who catches it by one that it makes whole, and who does the rest.
+const FIRST: u32 = 0;
 
-const CALLER: u32 = 1;
+const SECOND: u32 = 1;
 
 const OTHER: u32 = 2;
 
@@ -40,36 +41,18 @@ struct Scene {
     call: Call,
     /// The call's requests for memory are refused.
     refused: bool,
+    /// The call catches the drop, and not the drop the call.
+    catches: bool,
 }
 
 // A party takes its next step, where it has one. Polls are pending.
 fn goes(machine: &mut Machine, party: u32, refused: bool) -> bool {
-    let (same, start) = (false, 0);
-    let hint = Hint {
-        refused,
-        same,
-        start,
-    };
-    let step = match machine.top(party) {
+    let end = match machine.top(party) {
         None => return false,
-        Some(Op::User(UserOp::Poll(_) | UserOp::PollOwn(_))) => {
-            let end = UserEnd::Polled(Answer::Pending);
-            Step::Answer { party, end }
-        }
-        Some(
-            Op::User(
-                UserOp::Drop(_)
-                | UserOp::DropOutput(_)
-                | UserOp::CallOutside(_)
-                | UserOp::DropOwn(_),
-            ),
-        ) => {
-            let end = UserEnd::Done;
-            Step::Answer { party, end }
-        }
-        Some(_) => Step::Go { party, hint },
+        Some(Op::User(UserOp::Poll(_) | UserOp::PollOwn(_))) => PENDING,
+        Some(_) => DONE,
     };
-    machine.step(step).is_ok()
+    machine.step(go(party, refused)).is_ok() || machine.step(Step::Answer { party, end }).is_ok()
 }
 
 // A party takes so many steps, or as many as it has. Says whether it has taken them all.
@@ -77,183 +60,141 @@ fn goes_so_far(machine: &mut Machine, party: u32, steps: u32, refused: bool) -> 
     (0..steps).all(|_| goes(machine, party, refused))
 }
 
-fn begins(machine: &mut Machine, party: u32, call: Call) -> bool {
-    machine.step(Step::Begin { party, call }).is_ok()
-}
-
 // A party's calls come to their end.
 fn ends(machine: &mut Machine, party: u32, refused: bool) -> bool {
     !goes_so_far(machine, party, MOST_STEPS, refused) && machine.top(party).is_none()
 }
 
-fn makes(machine: &mut Machine, party: u32, call: Call) -> bool {
-    begins(machine, party, call) && ends(machine, party, false)
+fn makes(machine: &mut Machine, call: Call) -> bool {
+    has_begun(machine, OTHER, call) && ends(machine, OTHER, false)
 }
 
-// A future is taken up, and the party stands in its poll.
+fn make(machine: &mut Machine, calls: &[Call]) -> bool {
+    calls.iter().all(|call| makes(machine, *call))
+}
+
 fn stands_in_poll(machine: &mut Machine) -> bool {
-    if !begins(machine, OTHER, TryTick) {
-        return false;
-    }
-    for _ in 0..MOST_STEPS {
-        if let Some(Op::User(UserOp::Poll(_))) = machine.top(OTHER) {
-            return true;
-        }
-        if !goes(machine, OTHER, false) {
-            return false;
-        }
-    }
-    false
+    has_begun(machine, OTHER, TryTick) && comes_to_poll(machine, OTHER)
 }
 
 // A future is polled, makes this call in its poll, and isn't ready.
 fn polls_with(machine: &mut Machine, call: Call) -> bool {
-    stands_in_poll(machine) && makes(machine, OTHER, call)
+    stands_in_poll(machine) && makes(machine, call)
 }
 
 fn is_awaited(machine: &mut Machine, limit: u64) -> bool {
     if limit == 1 {
-        makes(machine, OTHER, PollHandle(0, By::Outside(1)))
+        makes(machine, PollHandle(0, By::Outside(1)))
     } else {
         polls_with(machine, PollHandle(0, By::Mine))
     }
 }
 
-fn fall_asleep(machine: &mut Machine) -> bool {
-    makes(machine, OTHER, NewTick)
-        && makes(machine, OTHER, NewRun)
-        && makes(machine, OTHER, PollTick(0, By::Outside(3)))
-        && makes(machine, OTHER, PollRun(0, By::Outside(4)))
-}
+const FALL_ASLEEP: &[Call] = &[
+    NewTick,
+    NewRun,
+    PollTick(0, By::Outside(3)),
+    PollRun(0, By::Outside(4)),
+];
 
-fn leave(machine: &mut Machine) -> bool {
-    makes(machine, OTHER, DropTick(0)) && makes(machine, OTHER, DropRun(0))
+fn leave(machine: &mut Machine, scene: Scene) -> bool {
+    !scene.sleepers || make(machine, &[DropTick(0), DropRun(0)])
 }
 
 fn is_ready(machine: &mut Machine) -> bool {
-    let end = UserEnd::Polled(Answer::Ready);
+    let (party, end) = (OTHER, READY);
     stands_in_poll(machine)
-        && machine.step(Step::Answer { party: OTHER, end }).is_ok()
-        && ends(machine, OTHER, false)
+        && machine.step(Step::Answer { party, end }).is_ok()
+        && ends(machine, party, false)
 }
 
 fn stand(machine: &mut Machine, stands: Stands) -> bool {
     match stands {
         Stands::Idle => true,
-        Stands::Queued => makes(machine, OTHER, WakeByRef(0)),
-        Stands::Ready => makes(machine, OTHER, WakeByRef(0)) && is_ready(machine),
+        Stands::Queued => makes(machine, WakeByRef(0)),
+        Stands::Ready => makes(machine, WakeByRef(0)) && is_ready(machine),
     }
 }
 
 // The scene stands, but for the call.
 fn is_set(machine: &mut Machine, scene: Scene) -> bool {
-    (0..scene.limit).all(|_| makes(machine, OTHER, Spawn))
+    (0..scene.limit).all(|_| makes(machine, Spawn))
         && polls_with(machine, Keep)
         && is_awaited(machine, scene.limit)
-        && (!scene.sleepers || fall_asleep(machine))
+        && (!scene.sleepers || make(machine, FALL_ASLEEP))
         && stand(machine, scene.stands)
 }
 
-fn drops_of(trace: &[Event], future: u64) -> usize {
-    trace
-        .iter()
-        .filter(|event| match event {
-            Event::Dropped { future: other, .. } => *other == future,
-            _ => false,
-        })
-        .count()
-}
-
-// The first answer to this party from this place on.
-fn answered(trace: &[Event], place: usize, party: u32) -> Option<Reply> {
-    trace.iter().skip(place).find_map(|event| match event {
-        Event::CallEnded {
-            party: other,
-            reply,
-        } if *other == party => Some(*reply),
-        _ => None,
-    })
-}
-
-fn was_called(trace: &[Event], place: usize, future: u64) -> bool {
-    trace.iter().skip(place).any(|event| match event {
-        Event::WakerCalled {
-            polled: Polled::Handle(other),
-            poll,
-            ..
-        } => *other == future && *poll == place as u64,
-        _ => false,
-    })
-}
-
-// The last poll of the future's handle, where that is there: its place, and who made it.
-fn last_poll(trace: &[Event], future: u64) -> Option<(usize, u32)> {
-    let mut last = None;
-    for (place, event) in trace.iter().enumerate() {
+fn is_dropped_once(trace: &[Event], future: u64) -> bool {
+    let mut drops = 0u64;
+    for event in trace {
         match event {
-            Event::HandlePolled {
-                party,
-                future: other,
-            } if *other == future => last = Some((place, *party)),
-            Event::Detached { future: other, .. } if *other == future => return None,
+            Event::Dropped { future: other, .. } if *other == future => {
+                drops = drops.saturating_add(1);
+            }
             _ => {}
         }
     }
-    last
+    drops == 1
 }
 
-// The waker of the last poll of the handle was called, where that was told to wait.
+// The waker of the last poll of the future's handle was called, where that was told to wait and the handle is there.
 fn is_told(trace: &[Event], future: u64) -> bool {
-    match last_poll(trace, future) {
-        Some((place, party)) => {
-            answered(trace, place, party) != Some(Reply::Pending)
-                || was_called(trace, place, future)
+    let (mut asks, mut waits) = (None, None);
+    for (place, event) in trace.iter().enumerate() {
+        match event {
+            Event::HandlePolled { party, future: of } if *of == future => {
+                (asks, waits) = (Some(*party), Some(place as u64));
+            }
+            Event::CallEnded { party, reply } if asks == Some(*party) => {
+                asks = None;
+                if *reply != Reply::Pending {
+                    waits = None;
+                }
+            }
+            Event::WakerCalled { polled, poll, .. } => {
+                if *polled == Polled::Handle(future) && waits == Some(*poll) {
+                    waits = None;
+                }
+            }
+            Event::Detached { future: of, .. } if *of == future => waits = None,
+            _ => {}
         }
-        None => true,
     }
+    waits.is_none()
 }
 
 // Each future was dropped once, and who awaits one was called.
 fn is_settled(machine: &Machine, limit: u64) -> bool {
     let trace = machine.trace();
-    (0..limit).all(|future| drops_of(trace, future) == 1 && is_told(trace, future))
+    (0..limit).all(|future| is_dropped_once(trace, future) && is_told(trace, future))
 }
 
-// The call is caught behind so many steps. Says whether it has so many; none where something isn't as it should be.
-fn catch_call(machine: &mut Machine, scene: Scene, steps: u32) -> Option<bool> {
-    let begun = is_set(machine, scene) && begins(machine, CALLER, scene.call);
-    let goes_on = goes_so_far(machine, CALLER, steps, scene.refused);
-    let ended = (!scene.sleepers || leave(machine))
-        && makes(machine, DROPPER, DropExecutor)
-        && ends(machine, CALLER, scene.refused);
-    (begun && ended && is_settled(machine, scene.limit)).then_some(goes_on)
-}
-
-// The drop is caught behind so many steps, and the call is made whole.
-fn catch_drop(machine: &mut Machine, scene: Scene, steps: u32) -> Option<bool> {
+// The first call is caught behind so many steps, and the second is made whole. Who sleeps leaves before the drop. Says whether the
+// first has so many steps; none where something isn't as it should be.
+fn is_caught(machine: &mut Machine, scene: Scene, steps: u32) -> Option<bool> {
+    let (call, drop) = ((scene.call, scene.refused), (DropExecutor, false));
+    let (first, second) = if scene.catches {
+        (drop, call)
+    } else {
+        (call, drop)
+    };
     let begun = is_set(machine, scene)
-        && (!scene.sleepers || leave(machine))
-        && begins(machine, DROPPER, DropExecutor);
-    let goes_on = goes_so_far(machine, DROPPER, steps, false);
-    let ended = begins(machine, CALLER, scene.call)
-        && ends(machine, CALLER, scene.refused)
-        && ends(machine, DROPPER, false);
+        && (!scene.catches || leave(machine, scene))
+        && has_begun(machine, FIRST, first.0);
+    let goes_on = goes_so_far(machine, FIRST, steps, first.1);
+    let ended = (scene.catches || leave(machine, scene))
+        && has_begun(machine, SECOND, second.0)
+        && ends(machine, SECOND, second.1)
+        && ends(machine, FIRST, first.1);
     (begun && ended && is_settled(machine, scene.limit)).then_some(goes_on)
 }
 
 // Behind each number of steps, up to all of them.
-fn catch_at_each_step<R: AllocGlobal + Abort>(rt: &R, scene: Scene, is_drop: bool) {
+fn catch_at_each_step<R: AllocGlobal + Abort>(rt: &R, scene: Scene) {
     for steps in 0..MOST_STEPS {
-        let mut machine = Machine::new(rt.alloc(), scene.limit, Kind::Owned, 3).expect(
-            rt,
-            "room for a machine",
-        );
-        let caught = if is_drop {
-            catch_drop(&mut machine, scene, steps)
-        } else {
-            catch_call(&mut machine, scene, steps)
-        };
-        match caught {
+        let mut machine = new_machine(rt, scene.limit);
+        match is_caught(&mut machine, scene, steps) {
             Some(true) => {}
             Some(false) => return,
             None => panic!(rt; "{scene:?} behind {steps} steps"),
@@ -272,33 +213,29 @@ const CALLS: &[(Call, bool)] = &[
     (DropHandle(0), false),
 ];
 
-fn catch_each<R: AllocGlobal + Abort>(rt: &R, limit: u64, sleepers: bool, is_drop: bool) {
+fn catch_each<R: AllocGlobal + Abort>(rt: &R, limit: u64, sleepers: bool, catches: bool) {
     for stands in [Stands::Idle, Stands::Queued, Stands::Ready] {
         for (call, refused) in CALLS {
+            let (call, refused) = (*call, *refused);
             let scene = Scene {
                 limit,
                 sleepers,
                 stands,
-                call: *call,
-                refused: *refused,
+                call,
+                refused,
+                catches,
             };
-            catch_at_each_step(rt, scene, is_drop);
+            catch_at_each_step(rt, scene);
         }
     }
 }
 
 #[test]
-fn the_closing_drop_catches_calls(rt: HostRuntime) {
+fn the_closing_drop_catches_calls_and_calls_catch_it(rt: HostRuntime) {
     for limit in 1..3 {
-        catch_each(&rt, limit, false, false);
-        catch_each(&rt, limit, true, false);
-    }
-}
-
-#[test]
-fn calls_catch_the_closing_drop(rt: HostRuntime) {
-    for limit in 1..3 {
-        catch_each(&rt, limit, false, true);
-        catch_each(&rt, limit, true, true);
+        for catches in [false, true] {
+            catch_each(&rt, limit, false, catches);
+            catch_each(&rt, limit, true, catches);
+        }
     }
 }

@@ -1,5 +1,8 @@
-//! What stands at the first poll of each job.
-use jobs::{Gate, Job, JobPlace, JobRealm, run_jobs};
+//! What stands at the first poll of each job; and what a worker leaves where it ends before its job has come back.
+use async_task::{Future, Poll};
+use blocking::block_on;
+use jobs::{Awaits, Desk, Gate, Job, JobPlace, JobRealm, Site, SiteDesk, Worker, run_jobs};
+use std::sync::Wait;
 use std::sync::atomic::Ordering::SeqCst;
 use std::sync::atomic::{AtomicBool, AtomicU64};
 use std::test::Fail;
@@ -50,5 +53,32 @@ fn two_workers_have_two_jobs_at_a_time_and_each_meets_the_gate_once(
     let met = (both.first.load(SeqCst), both.second.load(SeqCst));
     let is_well = ended.is_ok() & !both.has_failed.load(SeqCst);
     assert!(rt; is_well & (met == (1, 1)) & (both.others.load(SeqCst) == 0));
+    Ok(())
+}
+
+/// Polls a worker once, and is ready: whether the worker waits for a job.
+#[derive(Drop)]
+struct PolledOnce<D: Desk + Drop, R>(Worker<D, R>);
+
+impl<K, D: Awaits<K> + Drop, R: Wait> Future<K> for PolledOnce<D, R> {
+    type Output = bool;
+
+    fn poll(&mut self, waker: &K) -> Poll<bool> {
+        Poll::Ready(matches!(self.0.poll(waker), Poll::Pending))
+    }
+}
+
+/// The job that it awaited is cancelled: it is dropped in its queue's turn, and not polled.
+#[test]
+fn a_worker_that_is_dropped_gives_its_job_up(rt: HostRuntime) -> Result<(), Fail> {
+    let (alloc, both) = (rt.alloc(), Both::default());
+    let realm = JobRealm::<HostRuntime>::leak(rt, alloc)?;
+    let list = [Job::Sum(1)];
+    let site = Site::new(rt, alloc, realm, &list, &both)?;
+    let worker = Worker::at(rt, alloc, SiteDesk::at(&site));
+    let has_waited = block_on(&rt, alloc, PolledOnce(worker));
+    assert!(rt; matches!(has_waited, Ok(true)));
+    let has_dropped = site.try_tick();
+    assert!(rt; has_dropped & site.is_empty() & (both.first.load(SeqCst) == 0));
     Ok(())
 }

@@ -9,10 +9,6 @@ mod gates;
 #[cfg(test)]
 mod lists;
 #[cfg(test)]
-mod refusals;
-#[cfg(test)]
 mod rows;
 #[cfg(test)]
 mod scripts;
-#[cfg(test)]
-mod worker;

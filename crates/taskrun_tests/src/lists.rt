@@ -1,9 +1,5 @@
 //! Lists of jobs and their answers, which are in order by the contract of `run_jobs`: that they come at all is shown here.
-ghost use Rattle.std.specs.Prelude.{◌<◌, ◌≤◌, All, IfOk, length};
-ghost use Rattle.job_text.specs.Answers.{IsInRange};
-
 use jobs::{Answer, Job, JobPlace, JobRealm, JobsError, Open, run_jobs};
-use std::alloc::{AllocError, Global};
 use std::fmt::Debug;
 use std::test::Fail;
 
@@ -18,31 +14,6 @@ fn a_sum_and_a_product_that_is_too_large(rt: HostRuntime) -> Result<(), Fail> {
         Ok(answers) => assert!(rt; answers.as_slice() == want.as_slice()),
         Err(_) => panic!(rt; "refused"),
     }
-    Ok(())
-}
-
-/// How many jobs there may be.
-const MOST_JOBS: u64 = 100_000;
-
-/// Products of each number with 3.
-fn thirds(alloc: Global) -> Result<Vec<Job>, AllocError>
-    ensures { IfOk result (λ list. All IsInRange list.items × (length list.items ≤ 100000)) }
-{
-    let mut list = Vec::new(alloc);
-    for number in 0..MOST_JOBS {
-        list.push(Job::Mul(number, 3))?;
-    }
-    Ok(list)
-}
-
-#[test]
-fn as_many_jobs_as_there_may_be_on_1_4_and_64_workers(rt: HostRuntime) -> Result<(), Fail> {
-    let realm = JobRealm::<HostRuntime>::leak(rt, rt.alloc())?;
-    let list = thirds(rt.alloc())?;
-    let on_one = run_jobs::<HostPlace, HostRuntime>(rt, rt.alloc(), realm, &list, 1, Open);
-    let on_four = run_jobs::<HostPlace, HostRuntime>(rt, rt.alloc(), realm, &list, 4, Open);
-    let on_64 = run_jobs::<HostPlace, HostRuntime>(rt, rt.alloc(), realm, &list, 64, Open);
-    assert!(rt; on_one.is_ok() & on_four.is_ok() & on_64.is_ok());
     Ok(())
 }
 

@@ -1,6 +1,12 @@
-//! Lists of steps as rows, each with what comes of it, which one loop goes through.
+//! What a script can't say, as rows that one loop goes through: a waker that another call uses, copies of wakers and wakes by
+//! value, and a tick that a task polls by its own waker. Where a step is refused, and by which error, the contract of
+//! `Machine::step` says.
+use Row::{Begins, Ends, Makes, New, Polls, Refused};
 use executor_core::{Kind, Machine};
-use executor_model::{Answer, Call, Event, Hint, Reply, Step, StepError, UserEnd};
+use executor_model::Call::{
+    self, Copy, DropWaker, Keep, NewTick, PollTick, Spawn, TryTick, Wake, WakeByRef, WakeSelf,
+};
+use executor_model::{Answer, By, Event, Hint, Op, Reply, Step, StepError, UserEnd, UserOp};
 use std::process::Abort;
 
 pub const PENDING: UserEnd = UserEnd::Polled(Answer::Pending);
@@ -11,32 +17,23 @@ pub const DONE: UserEnd = UserEnd::Done;
 
 /// What a party does, and what comes of it.
 #[derive(Clone, Copy)]
-pub enum Row {
+enum Row {
     /// A list begins, on a new machine.
     New,
-    /// A list begins, on a new static machine.
-    NewStatic,
     /// It begins a call.
     Begins(u32, Call),
-    /// It takes so many steps.
-    Goes(u32, u32),
-    /// It takes a step in which a request for memory is refused.
-    GoesRefused(u32),
     /// It goes on until its calls have ended. User code ends in these ways, in turn, and the last call has this answer.
     Ends(u32, &'static [UserEnd], Reply),
     /// It makes a whole call, by both of these.
     Makes(u32, Call, &'static [UserEnd], Reply),
-    /// The call that it ended right before had this answer.
-    Answered(Reply),
-    /// It may begin none of these calls, and nothing changes.
-    Refused(u32, &'static [Call], StepError),
-    /// It can't go on.
-    Stands(u32, StepError),
-    /// Its user code can't end in this way.
-    Unanswered(u32, UserEnd, StepError),
+    /// It makes a whole `TryTick`, whose future makes these whole calls in its poll, has these answers, and is pending.
+    Polls(u32, &'static [(Call, Reply)]),
+    /// It may not begin this call, and nothing changes.
+    Refused(u32, Call, StepError),
 }
 
-fn go(party: u32, refused: bool) -> Step {
+/// A party's next step, whose request for memory, if it makes one, may be refused.
+pub fn go(party: u32, refused: bool) -> Step {
     let (same, start) = (false, 0);
     let hint = Hint {
         refused,
@@ -70,67 +67,104 @@ fn finish(machine: &mut Machine, party: u32, ends: &[UserEnd]) -> Option<Reply> 
     None
 }
 
-fn has_begun(machine: &mut Machine, party: u32, call: Call) -> bool {
+/// Whether the party may begin the call.
+pub fn has_begun(machine: &mut Machine, party: u32, call: Call) -> bool {
     machine.run(&[Step::Begin { party, call }]).is_none()
 }
 
-fn has_gone(machine: &mut Machine, party: u32, steps: u32) -> bool {
-    (0..steps).all(|_| machine.step(go(party, false)).is_ok())
+fn is_in_poll(machine: &Machine, party: u32) -> bool {
+    matches!(machine.top(party), Some(Op::User(UserOp::Poll(_))))
 }
 
-// Whether the step is refused so, and changes nothing.
-fn is_refused(machine: &mut Machine, step: Step, error: StepError) -> bool {
+/// The party goes on until it stands in the poll of a future. Says whether it came to that.
+pub fn comes_to_poll(machine: &mut Machine, party: u32) -> bool {
+    for _ in 0..128 {
+        if is_in_poll(machine, party) || machine.step(go(party, false)).is_err() {
+            break;
+        }
+    }
+    is_in_poll(machine, party)
+}
+
+// It makes the whole call in a poll that it stands in.
+fn makes_in_poll(machine: &mut Machine, party: u32, call: Call) -> Option<Reply> {
+    let is_made = has_begun(machine, party, call) && comes_to_poll(machine, party);
+    if is_made { last_reply(machine) } else { None }
+}
+
+fn polls(machine: &mut Machine, party: u32, calls: &[(Call, Reply)]) -> bool {
+    has_begun(machine, party, Call::TryTick)
+        && comes_to_poll(machine, party)
+        && calls.iter().all(|(call, reply)| makes_in_poll(machine, party, *call) == Some(*reply))
+        && finish(machine, party, &[PENDING]) == Some(Reply::Yes)
+}
+
+fn is_refused(machine: &mut Machine, party: u32, call: Call, error: StepError) -> bool {
     let seen = machine.trace().len();
-    machine.step(step) == Err(error) && machine.trace().len() == seen
-}
-
-fn are_refused(machine: &mut Machine, party: u32, calls: &[Call], error: StepError) -> bool {
-    calls.iter().all(|call| is_refused(machine, Step::Begin { party, call: *call }, error))
+    machine.step(Step::Begin { party, call }) == Err(error) && machine.trace().len() == seen
 }
 
 fn is_met(machine: &mut Machine, row: Row) -> bool {
     match row {
-        Row::New | Row::NewStatic => true,
-        Row::Begins(party, call) => has_begun(machine, party, call),
-        Row::Goes(party, steps) => has_gone(machine, party, steps),
-        Row::GoesRefused(party) => machine.step(go(party, true)).is_ok(),
-        Row::Ends(party, ends, reply) => finish(machine, party, ends) == Some(reply),
-        Row::Makes(party, call, ends, reply) => {
+        New => true,
+        Begins(party, call) => has_begun(machine, party, call),
+        Ends(party, ends, reply) => finish(machine, party, ends) == Some(reply),
+        Makes(party, call, ends, reply) => {
             has_begun(machine, party, call) && finish(machine, party, ends) == Some(reply)
         }
-        Row::Answered(reply) => last_reply(machine) == Some(reply),
-        Row::Refused(party, calls, error) => are_refused(machine, party, calls, error),
-        Row::Stands(party, error) => is_refused(machine, go(party, false), error),
-        Row::Unanswered(party, end, error) => {
-            is_refused(machine, Step::Answer { party, end }, error)
-        }
+        Polls(party, calls) => polls(machine, party, calls),
+        Refused(party, call, error) => is_refused(machine, party, call, error),
     }
 }
 
-// The kind of the machine on which a list begins with this row.
-fn new_kind(row: Row) -> Option<Kind> {
-    match row {
-        Row::New => Some(Kind::Owned),
-        Row::NewStatic => Some(Kind::Static),
-        _ => None,
-    }
+/// A machine of three parties with places for so many futures.
+pub fn new_machine<R: AllocGlobal + Abort>(rt: &R, limit: u64) -> Machine {
+    Machine::new(rt.alloc(), limit, Kind::Owned, 3).expect(rt, "room for three parties")
 }
 
-// A machine of three parties with places for two futures.
-fn new_machine<R: AllocGlobal + Abort>(rt: &R, kind: Kind) -> Machine {
-    Machine::new(rt.alloc(), 2, kind, 3).expect(rt, "room for three parties")
-}
+const ROWS: &[Row] = &[
+    New, // a waker in use is not let go, and is copied
+    Makes(0, Spawn, &[], Reply::Made),
+    Polls(0, &[(Keep, Reply::Made)]),
+    Begins(1, WakeByRef(0)),
+    Refused(2, DropWaker(0), StepError::NoSuch),
+    Makes(2, Copy(0), &[], Reply::Made),
+    Ends(1, &[], Reply::Done),
+    Makes(2, DropWaker(0), &[], Reply::Done),
+    New, // a task polls a tick by its own waker, which wakes it where the tick is told
+    Makes(0, NewTick, &[], Reply::Made),
+    Makes(0, Spawn, &[], Reply::Made),
+    Polls(0, &[(PollTick(0, By::Mine), Reply::Pending)]),
+    Makes(0, Spawn, &[], Reply::Made),
+    Makes(0, TryTick, &[READY, DONE], Reply::Yes),
+    Makes(0, TryTick, &[READY, DONE], Reply::Yes),
+    Makes(0, TryTick, &[], Reply::No),
+    New, // copies of wakers, and wakes by value
+    Makes(0, Spawn, &[], Reply::Made),
+    Polls(0, &[(Keep, Reply::Made), (WakeSelf, Reply::Done)]),
+    Makes(0, Copy(0), &[], Reply::Made),
+    Makes(0, WakeByRef(1), &[], Reply::Done),
+    Makes(0, Wake(1), &[], Reply::Done),
+    Makes(0, DropWaker(0), &[], Reply::Done),
+    Makes(0, TryTick, &[READY, DONE], Reply::Yes),
+    Makes(0, TryTick, &[], Reply::No),
+];
 
-/// Each list of these rows is played on a machine of its own.
-pub fn plays<R: AllocGlobal + Abort>(rt: &R, rows: &[Row]) {
-    let mut machine = new_machine(rt, Kind::Owned);
+// Each list of these rows is played on a machine of its own, with places for two futures.
+fn plays<R: AllocGlobal + Abort>(rt: &R, rows: &[Row]) {
+    let mut machine = new_machine(rt, 2);
     let (mut list, mut number) = (0u64, 0u64);
     for row in rows {
         number = number.saturating_add(1);
-        if let Some(kind) = new_kind(*row) {
-            machine = new_machine(rt, kind);
+        if let New = *row {
+            machine = new_machine(rt, 2);
             (list, number) = (list.saturating_add(1), 0);
         }
         assert!(rt; is_met(&mut machine, *row), "list {list}: row {number}");
     }
+}
+
+#[test]
+fn each_row_is_met(rt: HostRuntime) {
+    plays(&rt, ROWS);
 }

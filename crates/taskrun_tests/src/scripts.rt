@@ -1,4 +1,4 @@
-//! What no script of `cases` says of the language of scripts: a text that is no UTF-8, the longest one, and refused memory.
+//! What no script of `cases` says of the language of scripts: a text that is no UTF-8, and the longest one.
 use script::{ParseError, parse};
 use std::alloc::AllocGlobal;
 use std::process::Abort;

@@ -20,6 +20,8 @@ pub enum Work {
     Task(TaskWork),
     /// Something on an executor.
     Executor(ExecutorWork),
+    /// Something on an executor of one thread, or of one owner.
+    Local(LocalWork),
     /// Something on a list of jobs.
     Jobs(JobWork),
 }
@@ -126,6 +128,20 @@ pub enum ExecutorWork {
     Run(Workers),
     /// A poll of one of 1,000 futures that give way again and again, run by so many threads.
     Storm(Workers),
+}
+
+/// What is done on an executor of one thread: as on any other, by this thread.
+#[derive(Clone, Copy)]
+pub enum LocalWork {
+    SpawnTick,
+    Ping,
+    SpawnMany,
+    AwaitChain,
+    DropFull,
+    Run,
+    Storm,
+    /// As `Ping`, on an executor of one owner.
+    PingSolo,
 }
 
 /// What is done on a list of jobs.

@@ -1,7 +1,6 @@
 ghost use Rattle.std.specs.Prelude.{◌<◌};
 
 use crate::work::ExecutorWork::{AwaitChain, DropFull, Ping, Run, SpawnMany, SpawnTick, Storm};
-use crate::work::JobWork;
 use crate::work::Pollers::{Runs, Ticks, Tries};
 use crate::work::Shape::{Ring8, Ring512, Ring1024, Single, Unbounded};
 use crate::work::TaskWork::{
@@ -9,9 +8,10 @@ use crate::work::TaskWork::{
 };
 use crate::work::Way::{Burst, Len, OneToOne, PushAndPop, TwoToTwo};
 use crate::work::Work::{
-    self, Exclusive, Executor, FetchAdd, Jobs, MachineStep, MutexLock, Queue, Script, Task,
+    self, Exclusive, Executor, FetchAdd, Jobs, Local, MachineStep, MutexLock, Queue, Script, Task,
 };
 use crate::work::Workers::{Four, One, Two};
+use crate::work::{JobWork, LocalWork};
 
 /// What `bench` times: its name, its usual number of operations, and what is done.
 ///
@@ -68,6 +68,14 @@ const ALL: &[Workload] = &[
     Workload("executor/storm-1", 2_000_000, Executor(Storm(One))),
     Workload("executor/storm-2", 2_000_000, Executor(Storm(Two))),
     Workload("executor/storm-4", 2_000_000, Executor(Storm(Four))),
+    Workload("executor/ping@solo", 10_000_000, Local(LocalWork::PingSolo)),
+    Workload("local/spawn-tick", 1_000_000, Local(LocalWork::SpawnTick)),
+    Workload("local/ping", 2_000_000, Local(LocalWork::Ping)),
+    Workload("local/spawn-many", 1_000_000, Local(LocalWork::SpawnMany)),
+    Workload("local/await-chain", 500_000, Local(LocalWork::AwaitChain)),
+    Workload("local/drop-full", 1_000_000, Local(LocalWork::DropFull)),
+    Workload("local/run", 500_000, Local(LocalWork::Run)),
+    Workload("local/storm", 2_000_000, Local(LocalWork::Storm)),
     Workload("jobs/parse", 2_000_000, Jobs(JobWork::Parse)),
     Workload("jobs/run-1", 200_000, Jobs(JobWork::Run(One))),
     Workload("jobs/run-2", 200_000, Jobs(JobWork::Run(Two))),

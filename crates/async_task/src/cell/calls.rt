@@ -58,7 +58,7 @@ where
     pub(crate) fn leave_cell(&self, task: TaskToken<F, T, W>) {
         let (owed, gone) = task.detach(&self.rt);
         match gone {
-            Ok(left) => self.pay(self.left(owed, left)),
+            Ok(left) => self.pay(self.site().left(owed, left)),
             Err(found) => self.leave_emptied(found),
         }
     }
@@ -72,7 +72,7 @@ where
             let (owed, gone) = task.detach(&self.rt);
             match gone {
                 Ok(left) => {
-                    self.pay(self.left(owed, left));
+                    self.pay(self.site().left(owed, left));
                     return;
                 }
                 Err(again) => found = again,

@@ -5,18 +5,18 @@ ghost use Rattle.async_task.specs.Due.{IsDueBy, WasIdle};
 ghost use Rattle.async_task.specs.Rests.{info_of};
 
 use crate::cell::fixed::{claim_present, read};
-use crate::cell::resting::{KeptWaker, Thing, rest};
+use crate::cell::resting::KeptWaker;
 use crate::cell::returning::GoesBack;
 use crate::cell::scheduled::{Due, Scheduled, StoredWaker};
 use crate::cell::turns::notified;
-use crate::cell::{Held, Kept, Rest, WakerToken, Woken};
+use crate::cell::{Held, Kept, Realm, Rest, Site, WakerToken, Woken};
 use crate::schedule::{Schedule, ScheduleInfo};
 use crate::wake::Wake;
 use crate::waker::TaskWaker;
 use std::sync::Wait;
 use task_word::tokens::{OwingRun, PastRun};
 
-impl<F, T, S, M, W, R> Held<F, T, S, M, W, R>
+impl<F, T, S, M, W, R> Site<F, T, S, M, W, R>
 where
     F: Drop + 'static,
     T: Drop + 'static,
@@ -33,7 +33,7 @@ where
         match self.release(token) {
             Rest::Queue(woken) => Some(self.due(woken)),
             Rest::Drop(kept) => {
-                self.let_go_quietly(kept);
+                Self::let_go_quietly(self.rt, self.realm, kept);
                 None
             }
             Rest::Nothing => None,
@@ -52,7 +52,7 @@ where
                 match self.release(token) {
                     // A task has one Runnable, so this is none: that two tokens are of one cell is not seen here.
                     Rest::Queue(woken) => self.give_back(woken),
-                    Rest::Drop(kept) => self.let_go_quietly(kept),
+                    Rest::Drop(kept) => Self::let_go_quietly(self.rt, self.realm, kept),
                     Rest::Nothing => {}
                 }
                 Some(self.due(woken))
@@ -61,39 +61,23 @@ where
         }
     }
 
-    /// The Runnable, and whom it is owed to.
-    fn due(self, woken: Woken<F, T, W>) -> Due<F, T, S, M, W, R>
-        requires { WasIdle woken.info }
-        ensures { IsDueBy self result }
-    {
-        let Woken { token, info } = woken;
-        Due {
-            runnable: Scheduled { held: self, token },
-            info,
-        }
-    }
-
-    /// A Runnable for which nobody is there goes back to its realm.
-    fn give_back(&self, woken: Woken<F, T, W>) {
-        let Woken { token, info: _ } = woken;
-        let rested = Thing::Runnable(rest(token));
-        self.realm.returns.keep(self.place, rested);
-    }
-
-    /// A waker that a cell kept, as a list keeps it.
-    fn kept_waker(&self, waker: KeptWaker) -> StoredWaker {
-        let realm = self.realm;
+    /// A waker that a cell of this realm kept, as a list keeps it.
+    fn kept_waker(realm: &'static Realm<F, T, S, M, W>, waker: KeptWaker) -> StoredWaker {
         let (place, stored) = waker.open();
         StoredWaker::at(&realm.returns, place, stored)
     }
 
-    /// Drops a waker that a cell kept, or was to keep. What is then owed to a schedule value is the answer.
+    /// Drops a waker that a cell of this realm kept, or was to keep. What is then owed to a schedule value is the answer.
     #[inline(always)]
-    pub(crate) fn let_go(&self, kept: Kept<W>) -> Option<Due<F, T, S, M, W, R>>
+    pub(crate) fn let_go(
+        rt: R,
+        realm: &'static Realm<F, T, S, M, W>,
+        kept: Kept<W>,
+    ) -> Option<Due<F, T, S, M, W, R>>
         ensures { IfSome result (λ due. WasIdle due.info) }
     {
         match kept {
-            Kept::Task(waker) => self.let_go_one(waker),
+            Kept::Task(waker) => Self::let_go_one(rt, realm, waker),
             Kept::Outside(waker) => {
                 drop(waker);
                 None
@@ -104,14 +88,18 @@ where
 
     /// The same of a waker of a task. Where it was the last of its task, whose cell kept a waker too, that goes next.
     #[inline(never)]
-    fn let_go_one(&self, waker: KeptWaker) -> Option<Due<F, T, S, M, W, R>>
+    fn let_go_one(
+        rt: R,
+        realm: &'static Realm<F, T, S, M, W>,
+        waker: KeptWaker,
+    ) -> Option<Due<F, T, S, M, W, R>>
         ensures { IfSome result (λ due. WasIdle due.info) }
     {
         let mut waker = waker;
-        for _ in self.rt.forever() {
-            match self.kept_waker(waker).find(self.rt, self.realm) {
-                Ok((task, token)) => match task.release(token) {
-                    Rest::Queue(woken) => return Some(task.due(woken)),
+        for _ in rt.forever() {
+            match Self::kept_waker(realm, waker).find(rt, realm) {
+                Ok((site, token)) => match site.release(token) {
+                    Rest::Queue(woken) => return Some(site.due(woken)),
                     Rest::Drop(Kept::Task(next)) => waker = next,
                     Rest::Drop(Kept::Outside(last)) => {
                         drop(last);
@@ -129,19 +117,23 @@ where
     }
 
     /// The same where nobody is there to hand a task to: its Runnable goes back to its realm.
-    fn let_go_quietly(&self, kept: Kept<W>) {
-        if let Some(Due { runnable, info: _ }) = self.let_go(kept) {
+    pub(crate) fn let_go_quietly(rt: R, realm: &'static Realm<F, T, S, M, W>, kept: Kept<W>) {
+        if let Some(Due { runnable, info: _ }) = Self::let_go(rt, realm, kept) {
             runnable.store().go_back();
         }
     }
 
     /// Calls a waker that a cell kept, which is gone then.
-    fn call(&self, kept: Kept<W>) -> Option<Due<F, T, S, M, W, R>>
+    fn call(
+        rt: R,
+        realm: &'static Realm<F, T, S, M, W>,
+        kept: Kept<W>,
+    ) -> Option<Due<F, T, S, M, W, R>>
         ensures { IfSome result (λ due. WasIdle due.info) }
     {
         match kept {
-            Kept::Task(waker) => match self.kept_waker(waker).find(self.rt, self.realm) {
-                Ok((task, token)) => task.wake_and_release_later(token),
+            Kept::Task(waker) => match Self::kept_waker(realm, waker).find(rt, realm) {
+                Ok((site, token)) => site.wake_and_release_later(token),
                 Err(waker) => {
                     waker.go_back();
                     None
@@ -154,14 +146,24 @@ where
             Kept::Nothing => None,
         }
     }
+}
 
-    /// The same, where one was there.
+impl<F, T, S, M, W, R> Held<F, T, S, M, W, R>
+where
+    F: Drop + 'static,
+    T: Drop + 'static,
+    S: Drop + 'static,
+    M: Copy + Drop + 'static,
+    W: Wake + Drop + 'static,
+    R: Wait + Copy + Drop,
+{
+    /// Calls a waker that a cell kept, where one was there.
     #[inline(always)]
     pub(crate) fn call_some(&self, kept: Option<Kept<W>>) -> Option<Due<F, T, S, M, W, R>>
         ensures { IfSome result (λ due. WasIdle due.info) }
     {
         match kept {
-            Some(kept) => self.call(kept),
+            Some(kept) => Site::call(self.rt, self.realm, kept),
             None => None,
         }
     }
@@ -176,10 +178,10 @@ where
     {
         let (past, awaiter) = notified(&self.rt, run);
         let due = self.call_some(awaiter);
-        match self.give_up(past) {
+        match self.site().give_up(past) {
             // The move that gives a reference up owes no Runnable.
-            Rest::Queue(woken) => self.give_back(woken),
-            Rest::Drop(kept) => self.let_go_quietly(kept),
+            Rest::Queue(woken) => self.site().give_back(woken),
+            Rest::Drop(kept) => Site::let_go_quietly(self.rt, self.realm, kept),
             Rest::Nothing => {}
         }
         due
@@ -200,7 +202,7 @@ where
     pub(crate) fn pay(&self, rest: Rest<F, T, W>) {
         match rest {
             Rest::Queue(woken) => self.queue(Some(woken)),
-            Rest::Drop(kept) => pay_due(self.let_go(kept)),
+            Rest::Drop(kept) => pay_due(Site::let_go(self.rt, self.realm, kept)),
             Rest::Nothing => {}
         }
     }
@@ -210,13 +212,13 @@ where
     pub(crate) fn leave(&self, run: Result<PastRun<F, T, Kept<W>>, OwingRun<F, T, Kept<W>>>) {
         let (past, awaiter) = notified(&self.rt, run);
         pay_due(self.call_some(awaiter));
-        self.pay(self.give_up(past));
+        self.pay(self.site().give_up(past));
     }
 
     /// A wake, with what it owes to the schedule value.
     #[inline(always)]
     pub(crate) fn wake_and_queue(&self) {
-        if let Ok(Woken { token, info }) = self.wake() {
+        if let Ok(Woken { token, info }) = self.site().wake() {
             let held = self.share();
             self.hand_over_apart(Scheduled { held, token }, info);
         }
@@ -247,7 +249,7 @@ where
     pub(crate) fn hand_over(&self, runnable: Scheduled<F, T, S, M, W, R>, info: ScheduleInfo) {
         let claim = claim_present(&self.rt, &self.cell.fixed);
         read(&claim).schedule.schedule(runnable, info);
-        self.leave_slot(claim);
+        self.site().leave_slot(claim);
     }
 
     /// The same, in code of its own, for who seldom has to.

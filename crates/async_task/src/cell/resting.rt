@@ -8,7 +8,7 @@ mod lost;
 
 pub use crate::cell::resting::lost::{Lost, Lot, Thing};
 use crate::cell::turns::owed_runnable;
-use crate::cell::{Held, Kept, RunnableToken, TaskToken, WakerToken, Woken, Word};
+use crate::cell::{Held, Kept, RunnableToken, Site, TaskToken, WakerToken, Woken, Word};
 use std::sync::Wait;
 use task_word::tokens::OwingTask;
 
@@ -130,7 +130,7 @@ where
     }
 }
 
-impl<F, T, S, M, W, R> Held<F, T, S, M, W, R>
+impl<F, T, S, M, W, R> Site<F, T, S, M, W, R>
 where
     F: Drop + 'static,
     T: Drop + 'static,
@@ -174,7 +174,17 @@ where
             Err(_) => Err(parked),
         }
     }
+}
 
+impl<F, T, S, M, W, R> Held<F, T, S, M, W, R>
+where
+    F: Drop + 'static,
+    T: Drop + 'static,
+    S: Drop + 'static,
+    M: Copy + Drop + 'static,
+    W: Drop + 'static,
+    R: Wait + Copy + Drop,
+{
     /// The step by which the handle cancels its task.
     #[inline(always)]
     pub(crate) fn begin_cancel(&self, task: TaskToken<F, T, W>, duty: Duty) -> CancelStep<F, T, W>

@@ -5,7 +5,7 @@ ghost use Rattle.async_task.specs.Handles.{task_of};
 
 use crate::cell::resting::{Lot, Thing};
 use crate::cell::scheduled::{Due, Scheduled, StoredRunnable, StoredWaker};
-use crate::cell::{Held, Realm, pay_due};
+use crate::cell::{Realm, Site, pay_due};
 use crate::schedule::Schedule;
 use crate::stored_task::StoredTask;
 use crate::task::Task;
@@ -126,8 +126,8 @@ impl Returning<StoredWaker> {
         ensures task { IfSome result (λ due. due.runnable.identity ≡ self.identity) }
         ensures idle { IfSome result (λ due. WasIdle due.info) }
     {
-        match self.into_inner().wake(rt, realm) {
-            Ok(due) => due,
+        match self.into_inner().find(rt, realm) {
+            Ok((site, token)) => site.wake_and_release_later(token),
             Err(stored) => {
                 stored.go_back();
                 None
@@ -152,8 +152,8 @@ impl Returning<StoredWaker> {
         ensures task { IfSome result (λ due. due.runnable.identity ≡ self.identity) }
         ensures idle { IfSome result (λ due. WasIdle due.info) }
     {
-        match self.into_inner().release(rt, realm) {
-            Ok(due) => due,
+        match self.into_inner().find(rt, realm) {
+            Ok((site, token)) => site.release_later(token),
             Err(stored) => {
                 stored.go_back();
                 None
@@ -252,9 +252,12 @@ where
 {
     let returns = &realm.returns;
     match thing {
-        Thing::Runnable(rested) => match Held::find(rt, realm, place) {
-            Some(held) => match held.resume(rested) {
-                Ok(token) => pay_due(Scheduled { held, token }.close()),
+        Thing::Runnable(rested) => match Site::at(rt, realm, place) {
+            Some(site) => match site.resume(rested) {
+                Ok(token) => {
+                    let held = site.held();
+                    pay_due(Scheduled { held, token }.close());
+                }
                 Err(rested) => returns.set_aside(Thing::Runnable(rested)),
             },
             None => returns.set_aside(Thing::Runnable(rested)),
@@ -263,9 +266,9 @@ where
             Ok(due) => pay_due(due),
             Err(stored) => stored.set_aside(),
         },
-        Thing::Handle(parked) => match Held::find(rt, realm, place) {
-            Some(held) => match held.unpark(parked) {
-                Ok((token, duty)) => drop(Task::of(held, token, duty)),
+        Thing::Handle(parked) => match Site::at(rt, realm, place) {
+            Some(site) => match site.unpark(parked) {
+                Ok((token, duty)) => drop(Task::of(site.held(), token, duty)),
                 Err(parked) => returns.set_aside(Thing::Handle(parked)),
             },
             None => returns.set_aside(Thing::Handle(parked)),

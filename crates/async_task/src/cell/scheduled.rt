@@ -4,7 +4,7 @@ ghost use Rattle.async_task.specs.Due.{WasIdle};
 use crate::cell::fixed::{claim_present, read};
 use crate::cell::resting::{Rested, Stored, Thing, rest, store};
 use crate::cell::returning::GoesBack;
-use crate::cell::{Held, Identity, Realm, RunnableToken, WakerToken};
+use crate::cell::{Held, Identity, Realm, RunnableToken, Site, WakerToken};
 use crate::realm::Returns;
 use crate::runnable::Runnable;
 use crate::schedule::{Schedule, ScheduleInfo, Shared};
@@ -107,7 +107,7 @@ where
     {
         let claim = claim_present(&self.held.rt, &self.held.cell.fixed);
         let one_more = read(&claim).schedule.share();
-        self.held.leave_slot(claim);
+        self.held.site().leave_slot(claim);
         one_more
     }
 
@@ -196,7 +196,7 @@ impl<M> StoredRunnable<M> {
             rested,
         } = self;
         let rested = match find_with(rt, realm, returns, place, metadata) {
-            Some(held) => match held.resume(rested) {
+            Some(held) => match held.site().resume(rested) {
                 Ok(token) => return Ok(Scheduled { held, token }),
                 Err(rested) => rested,
             },
@@ -293,7 +293,7 @@ impl StoredWaker {
         ensures back { IfErr result (λ back. back ≡ self) }
     {
         match self.find(rt, realm) {
-            Ok((held, token)) => Ok(TaskWaker::of(held, token)),
+            Ok((site, token)) => Ok(TaskWaker::of(site.held(), token)),
             Err(back) => Err(back),
         }
     }
@@ -318,7 +318,7 @@ impl StoredWaker {
         ensures back { IfErr result (λ back. back ≡ self) }
     {
         match self.find(rt, realm) {
-            Ok((task, token)) => Ok(task.wake_and_release_later(token)),
+            Ok((site, token)) => Ok(site.wake_and_release_later(token)),
             Err(back) => Err(back),
         }
     }
@@ -342,18 +342,18 @@ impl StoredWaker {
         ensures back { IfErr result (λ back. back ≡ self) }
     {
         match self.find(rt, realm) {
-            Ok((task, token)) => Ok(task.release_later(token)),
+            Ok((site, token)) => Ok(site.release_later(token)),
             Err(back) => Err(back),
         }
     }
 
-    /// The way to the task, and the reference.
+    /// Where the task lies, and the reference.
     #[inline(always)]
     pub(crate) fn find<F, T, S, M, W, R>(
         self,
         rt: R,
         realm: &'static Realm<F, T, S, M, W>,
-    ) -> Result<(Held<F, T, S, M, W, R>, WakerToken<F, T, W>), Self>
+    ) -> Result<(Site<F, T, S, M, W, R>, WakerToken<F, T, W>), Self>
     where
         F: Drop + 'static,
         T: Drop + 'static,
@@ -371,8 +371,8 @@ impl StoredWaker {
             stored,
         } = self;
         let stored = match find(rt, realm, returns, place) {
-            Some(held) => match held.redeem(stored) {
-                Ok(token) => return Ok((held, token)),
+            Some(site) => match site.redeem(stored) {
+                Ok(token) => return Ok((site, token)),
                 Err(stored) => stored,
             },
             None => stored,
@@ -428,14 +428,14 @@ where
     returns.number() == realm.number()
 }
 
-/// The way to the task of what rests at this place, where that is of this realm.
+/// Where the task of what rests at this place lies, where that is of this realm.
 #[inline(always)]
 pub(crate) fn find<F, T, S, M, W, R>(
     rt: R,
     realm: &'static Realm<F, T, S, M, W>,
     returns: &'static Returns,
     place: usize,
-) -> Option<Held<F, T, S, M, W, R>>
+) -> Option<Site<F, T, S, M, W, R>>
 where
     F: Drop + 'static,
     T: Drop + 'static,
@@ -443,17 +443,17 @@ where
     M: Copy + Drop + 'static,
     W: Drop + 'static,
     R: Wait + Copy + Drop,
-    ensures found { IfSome result (λ held. held.identity ≡ record { realm = returns.now.number; place = place }) }
-    ensures here { IfSome result (λ held. held.identity.realm ≡ realm.now.number) }
+    ensures found { IfSome result (λ site. site.identity ≡ record { realm = returns.now.number; place = place }) }
+    ensures here { IfSome result (λ site. site.identity.realm ≡ realm.now.number) }
 {
     if is_of(returns, realm) {
-        Held::find(rt, realm, place)
+        Site::at(rt, realm, place)
     } else {
         None
     }
 }
 
-/// The same, where the task's metadata are at hand.
+/// The way to that task, where its metadata are at hand.
 #[inline(always)]
 pub(crate) fn find_with<F, T, S, M, W, R>(
     rt: R,

@@ -6,7 +6,7 @@ ghost use Rattle.async_task.specs.Polls.{IsTold};
 ghost use Rattle.async_task.specs.Rests.{info_of, was_woken_by};
 ghost use Rattle.task_word.specs.Handles.{IsHandleOf};
 
-use crate::cell::{Held, Kept, RunnableToken, TaskToken, WakerToken};
+use crate::cell::{Held, Kept, RunnableToken, Site, TaskToken, WakerToken};
 use crate::look::{Look, StaysAwake, TooManyReferences};
 use crate::schedule::ScheduleInfo;
 use std::sync::Wait;
@@ -67,6 +67,31 @@ where
     W: Drop + 'static,
     R: Wait + Copy + Drop,
 {
+    /// One reference more, where that is allowed.
+    #[inline(always)]
+    pub(crate) fn hold(&self) -> Result<WakerToken<F, T, W>, TooManyReferences> {
+        match self.cell.word.copy(&self.rt).1 {
+            Ok(token) => Ok(token),
+            Err(trace) => Err(TooManyReferences { trace }),
+        }
+    }
+
+    /// How the task stands at this moment.
+    pub(crate) fn look(&self) -> Look {
+        let (state, trace) = self.cell.word.look();
+        Look { state, trace }
+    }
+}
+
+impl<F, T, S, M, W, R> Site<F, T, S, M, W, R>
+where
+    F: Drop + 'static,
+    T: Drop + 'static,
+    S: Drop + 'static,
+    M: Copy + Drop + 'static,
+    W: Drop + 'static,
+    R: Wait + Copy + Drop,
+{
     /// A wake: a Runnable is the answer where one is owed, and else what shows that none was.
     #[inline(always)]
     pub(crate) fn wake(&self) -> Result<Woken<F, T, W>, StaysAwake>
@@ -79,15 +104,6 @@ where
                 None => unreachable!(),
             },
             Err(trace) => Err(StaysAwake { trace }),
-        }
-    }
-
-    /// One reference more, where that is allowed.
-    #[inline(always)]
-    pub(crate) fn hold(&self) -> Result<WakerToken<F, T, W>, TooManyReferences> {
-        match self.cell.word.copy(&self.rt).1 {
-            Ok(token) => Ok(token),
-            Err(trace) => Err(TooManyReferences { trace }),
         }
     }
 
@@ -118,7 +134,7 @@ where
         ensures queued { is_some (info_of result) ≡ is_some owed.schedule }
     {
         if owed.empty_cell {
-            self.empty();
+            Self::empty(self.rt, self.realm, self.place, self.cell);
         }
         let Left { runnable, awaiter } = left;
         match awaiter {
@@ -131,12 +147,6 @@ where
                 None => Rest::Nothing,
             },
         }
-    }
-
-    /// How the task stands at this moment.
-    pub(crate) fn look(&self) -> Look {
-        let (state, trace) = self.cell.word.look();
-        Look { state, trace }
     }
 }
 

@@ -149,7 +149,7 @@ few-run_by false w x f r = record {
   count = length-set w.runs x.run (record (run_of w x.run) { taken = (run_of w x.run).taken + 1 });
 }
 
-counted-same : (w : World) (r n : ℕ) → TakenSame w (counted_to w r n)
+pub counted-same : (w : World) (r n : ℕ) → TakenSame w (counted_to w r n)
 counted-same w r n = put-same w (counted_to w r n) r (record (run_of w r) { counted = n }) refl refl
 
 ready-same : (q : ℕ) (w v : World) → TakenSame w v → Ready q w → Ready q v
@@ -283,7 +283,7 @@ few-look (f ∷ rest) w x at left r =
 
 -- falling asleep
 
-copied-same : (w : World) (a : Waker) → TakenSame w (copied w a)
+pub copied-same : (w : World) (a : Waker) → TakenSame w (copied w a)
 copied-same w (Task g) = same-runs w _ refl
 copied-same w (Outside x) = same-runs w _ refl
 

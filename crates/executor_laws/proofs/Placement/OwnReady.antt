@@ -14,6 +14,7 @@ use Rattle.executor_model.specs.declared.op.ListOp.TheVariants as list_op
 use Rattle.executor_model.specs.declared.op.Op.{Op}
 use Rattle.executor_model.specs.declared.op.Op.TheVariants as op
 use Rattle.executor_model.specs.declared.op.RunOp.TheVariants as run_op
+use Rattle.executor_model.specs.declared.op.RunPoll.{RunPoll}
 use Rattle.executor_model.specs.declared.op.Section.TheVariants as section
 use Rattle.executor_model.specs.declared.op.Steal.{Steal}
 use Rattle.executor_model.specs.declared.op.StealOp.TheVariants as steal_op
@@ -31,7 +32,7 @@ use Rattle.executor_model.specs.Doing.{act}
 use Rattle.executor_model.specs.Keeper.{is_run_drop}
 use Rattle.executor_model.specs.Rows.{running_of}
 use Rattle.executor_model.specs.Steps.{Machine, Part, accepts, answer_refusal, begun, below_top, drop_run, end_of, gone_on}
-use Rattle.executor_model.specs.Steps.{mine, onto, part_after, part_refusal, party_of, react, refusal, run, settled_by}
+use Rattle.executor_model.specs.Steps.{mine, onto, part_after, part_refusal, party_of, poll_run, react, refusal, run, settled_by}
 use Rattle.executor_model.specs.Steps.{stack, start, step, step_by, stepped, top, unless}
 use Rattle.executor_model.specs.Trace.{has}
 use Rattle.executor_model.specs.Weights.{same, weigh, weigh_all}
@@ -108,8 +109,15 @@ ready-drop r New q = refl
 ready-drop r Listed q = refl
 ready-drop r Ended q = refl
 
+-- a poll that begins isn't ready yet
+ready-poll : (r : ℕ) (t : Stage) (x : RunPoll) → weigh (readying_of r) (poll_run t x) ≡ 0
+ready-poll r New x = refl
+ready-poll r Listed x = refl
+ready-poll r Ended x = refl
+
 ready-begun : (r p : ℕ) (w : World) (o : Option Waker) (c : Call) (b : Bool) → drops_run c ≡ b →
     weigh (readying_of r) (begun p w o c).next ≡ 0
+ready-begun r p w o (call.PollRun q by) false e = ready-poll r (run_of w q).stage _
 ready-begun r p w o c false e = unready r (begun p w o c).next (none-begun r p w o c e)
 ready-begun r p w o (call.DropRun q) true e = ready-drop r (run_of w q).stage q
 ready-begun r p w o _ true e = absurd (cc)
@@ -198,7 +206,7 @@ stage-begun r p w o _ true n e = absurd (cc)
 
 -- a step: what its party has to do, and which run ends
 
-record Kept (r : ℕ) (w : World) (os : List Op) (x : Part) : Type 0 where
+pub record Kept (r : ℕ) (w : World) (os : List Op) (x : Part) : Type 0 where
   pub todo : weigh (readying_of r) x.todo ≡ 0
   pub stage : (run_of x.world r).stage ≡ Ended → ((run_of w r).stage ≡ Ended) ⊎ (1 ≤ weigh (dropping_of r) os)
 
@@ -269,44 +277,20 @@ module _ (r : ℕ) (w : World) (os : List Op) where
 -- no run ends but so
 
 -- nothing of what run r does that is ready is to be done, and it hasn't ended, unless it is dropped
-record Lasts (r : ℕ) (s : Machine) : Type 0 where
+pub record Lasts (r : ℕ) (s : Machine) : Type 0 where
   pub idle : weigh_all (readying_of r) s.parties ≡ 0
   pub stage : (run_of s.world r).stage ≡ Ended → has (is_run_drop r) s.world.trace ≡ true
 
-there : (b : Bool) (k : Option StepError) → unless b NoSuch k ≡ None → (b ≡ true) × (k ≡ None)
+pub there : (b : Bool) (k : Option StepError) → unless b NoSuch k ≡ None → (b ≡ true) × (k ≡ None)
 there true k e = (refl, e)
 there false k e = absurd (cc)
 
-module _ (r : ℕ) (s : Machine) (ran : RanIn s r) (h : Lasts r s) where
-  stays : (t : Step) → party_of t < length s.parties → Kept r s.world (stack s (party_of t)) (part_after s.world (stack s (party_of t)) t) →
-      (later : (has (is_run_drop r) s.world.trace ≡ true → has (is_run_drop r)
-      (part_after s.world (stack s (party_of t)) t).world.trace ≡ true)) →
-      Lasts r (record {
-        world = (part_after s.world (stack s (party_of t)) t).world;
-        parties = set s.parties (party_of t)
-            (part_after s.world (stack s (party_of t)) t).todo;
-      })
-  stays t l k later = record {
-    idle = omega (
-      arith,
-      h.idle,
-      k.todo,
-      weigh_all-set (readying_of r) s.parties (party_of t) (part_after s.world (stack s (party_of t)) t).todo l,
-    );
-    stage = λ e. later (⊎_elim (λ (x : (run_of s.world r).stage ≡ Ended). h.stage x)
-        (λ (x : 1 ≤ weigh (dropping_of r) (stack s (party_of t))). ran.dropping (omega (
-          arith,
-          x,
-          weigh_all-set (dropping_of r) s.parties (party_of t) [] l,
-        )))
-        (k.stage e));
-  }
-
-  on-part : (t : Step) → part_refusal s.world s.parties (stack s (party_of t)) t ≡ None → party_of t < length s.parties →
+module _ (r : ℕ) (s : Machine) (idle : weigh_all (readying_of r) s.parties ≡ 0) where
+  pub on-part : (t : Step) → part_refusal s.world s.parties (stack s (party_of t)) t ≡ None → party_of t < length s.parties →
       OwnIsReady r s t ⊎ Kept r s.world (stack s (party_of t)) (part_after s.world (stack s (party_of t)) t)
   on-part t e l =
       let z : weigh (readying_of r) (stack s (party_of t)) ≡ 0 =
-      omega (arith, h.idle, weigh_all-set (readying_of r) s.parties (party_of t) [] l) in by t e z
+      omega (arith, idle, weigh_all-set (readying_of r) s.parties (party_of t) [] l) in by t e z
     where
       by : (t : Step) → part_refusal s.world s.parties (stack s (party_of t)) t ≡ None →
           weigh (readying_of r) (stack s (party_of t)) ≡ 0 →
@@ -325,6 +309,36 @@ module _ (r : ℕ) (s : Machine) (ran : RanIn s r) (h : Lasts r s) where
           (λ (x : Kept r s.world (stack s p) (part_after s.world (stack s p) (steps_of.Answer p u))). inr x)
           (answered r s.world (stack s p) z p u (top (stack s p)) refl e)
 
+  pub idle-still : (t : Step) → party_of t < length s.parties →
+      Kept r s.world (stack s (party_of t)) (part_after s.world (stack s (party_of t)) t) →
+      weigh_all (readying_of r) (set s.parties (party_of t) (part_after s.world (stack s (party_of t)) t).todo) ≡ 0
+  idle-still t l k = omega (
+    arith,
+    idle,
+    k.todo,
+    weigh_all-set (readying_of r) s.parties (party_of t) (part_after s.world (stack s (party_of t)) t).todo l,
+  )
+
+module _ (r : ℕ) (s : Machine) (ran : RanIn s r) (h : Lasts r s) where
+  stays : (t : Step) → party_of t < length s.parties → Kept r s.world (stack s (party_of t)) (part_after s.world (stack s (party_of t)) t) →
+      (later : (has (is_run_drop r) s.world.trace ≡ true → has (is_run_drop r)
+      (part_after s.world (stack s (party_of t)) t).world.trace ≡ true)) →
+      Lasts r (record {
+        world = (part_after s.world (stack s (party_of t)) t).world;
+        parties = set s.parties (party_of t)
+            (part_after s.world (stack s (party_of t)) t).todo;
+      })
+  stays t l k later = record {
+    idle = idle-still r s h.idle t l k;
+    stage = λ e. later (⊎_elim (λ (x : (run_of s.world r).stage ≡ Ended). h.stage x)
+        (λ (x : 1 ≤ weigh (dropping_of r) (stack s (party_of t))). ran.dropping (omega (
+          arith,
+          x,
+          weigh_all-set (dropping_of r) s.parties (party_of t) [] l,
+        )))
+        (k.stage e));
+  }
+
   later-drop : (t : Step) → has (is_run_drop r) s.world.trace ≡ true →
       has (is_run_drop r) (stepped s (step s t)).world.trace ≡ true
   later-drop t e = let c = continues s t in
@@ -340,9 +354,9 @@ module _ (r : ℕ) (s : Machine) (ran : RanIn s r) (h : Lasts r s) where
       ⊎_elim
       (λ (y : OwnIsReady r s t). inl y)
       (λ (y : Kept r s.world (stack s (party_of t)) (part_after s.world (stack s (party_of t)) t)). inr (stays t l y later))
-      (on-part t x.1 l)
+      (on-part r s h.idle t x.1 l)
 
-  lasts-on : (t : Step) → OwnIsReady r s t ⊎ Lasts r (stepped s (step s t))
+  pub lasts-on : (t : Step) → OwnIsReady r s t ⊎ Lasts r (stepped s (step s t))
   unfolding step
   lasts-on t = by-step t (refusal s t) refl (later-drop t)
 
@@ -372,11 +386,11 @@ lasts r (t ∷ ts) s x h = ⊎_elim
     (lasts r ts (stepped s (step s t)) (reached-on s (t ∷ []) x) y))
     (lasts-on r s (ran-here s x r) h t)
 
-not-both : (b : Bool) → b ≡ true → b ≡ false → ⊥
+pub not-both : (b : Bool) → b ≡ true → b ≡ false → ⊥
 not-both true e f = absurd (cc)
 not-both false e f = absurd (cc)
 
-ended-here : (s : Machine) → Reached s → (r : ℕ) →
+pub ended-here : (s : Machine) → Reached s → (r : ℕ) →
     ((run_of s.world r).stage ≡ Ended) ⊎ WasAnsweredReady r s.world.trace → (run_of s.world r).stage ≡ Ended
 ended-here s x r k = ⊎_elim
     (λ (y : (run_of s.world r).stage ≡ Ended). y)

@@ -53,7 +53,7 @@ not-both true e f = absurd (cc)
 not-both false e f = absurd (cc)
 
 -- a call that ends so has its end on top
-said : (o : Option Reply) (p : ℕ) (a : Reply) (w : World) (os : List Op) (es more told : Trace) → w.trace ≡ es ++ more →
+pub said : (o : Option Reply) (p : ℕ) (a : Reply) (w : World) (os : List Op) (es more told : Trace) → w.trace ≡ es ++ more →
     has ends_one more ≡ false → (settled_by o p w os).world.trace ≡ es ++ (told ++ event.CallEnded p a ∷ []) → o ≡ Some a
 said None p a w os es more told t n e =
     let i : more ≡ told ++ event.CallEnded p a ∷ [] = append_cancel_left es _ _ (sym t ∙ e) in

@@ -90,7 +90,7 @@ there : (b : Bool) (k : Option StepError) → unless b NoSuch k ≡ None → (b 
 there true k e = (refl, e)
 there false k e = absurd (cc)
 
-next-is : (s : Machine) (t : Step) → refusal s t ≡ None → stepped s (step s t) ≡ after s t
+pub next-is : (s : Machine) (t : Step) → refusal s t ≡ None → stepped s (step s t) ≡ after s t
 next-is s t e = ap (λ (r : Result Machine StepError). stepped s r) (step-made s t e)
 
 turn-other : (s : Machine) (t : Step) (p : ℕ) (o : Op) → refusal s t ≡ None → p ≢ party_of t → Turn s t p o

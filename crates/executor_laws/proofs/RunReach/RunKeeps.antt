@@ -81,13 +81,13 @@ pub data Keeping (q f n : ℕ) (w : World) (os : List Op) : Type 0 where
 abbrev Keeps-on : ℕ → ℕ → ℕ → Part → Type 0
 Keeps-on q f n x = Keeping q f n x.world x.todo
 
-side-no-end : (o : Op) → side_of o ≡ 0 → end_of (Some o) ≡ None
+pub side-no-end : (o : Op) → side_of o ≡ 0 → end_of (Some o) ≡ None
 side-no-end o z = ⊎_elim
     (λ (e : o ≡ op.List list_op.UnlockRead). ap (λ (x : Op). end_of (Some x)) e)
     (λ (x : stray_of o ≡ 0). light-no-end o x)
     (side-kind o z)
 
-light-last : (side below : List Op) (o : Op) → side ≡ below ++ o ∷ [] → weigh side_of side ≡ 0 →
+pub light-last : (side below : List Op) (o : Op) → side ≡ below ++ o ∷ [] → weigh side_of side ≡ 0 →
     (weigh side_of below ≡ 0) × (side_of o ≡ 0)
 light-last side below o e z = (
   omega (arith, z, ap (weigh side_of) e, weigh-append side_of below (o ∷ [])),

@@ -33,7 +33,7 @@ use Rattle.executor_model.specs.Emptiness.{IsAtRest}
 use Rattle.executor_model.specs.Keeper.{IsCommon}
 use Rattle.executor_model.specs.Executions.{run_all}
 use Rattle.executor_model.specs.Sound.{queued, times}
-use Rattle.executor_model.specs.Steps.{Machine, Part, onto, part, part_after, poll_run, react, run, stack, start}
+use Rattle.executor_model.specs.Steps.{Machine, Part, after, onto, part, part_after, poll_run, react, run, stack, start}
 use Rattle.executor_model.specs.Steps.{waker_of, with_part}
 use Rattle.executor_model.specs.Trace.{Trace, has, is_accepted, is_drop_begun, is_dropped}
 use Rattle.executor_model.specs.World.{Done, Ended, Listed, New, Stage, World, among, done, log, own_of, put_own, run_of}
@@ -43,6 +43,7 @@ use Rattle.executor_model.proofs.OneFuture.Stories.{among_is}
 use Rattle.executor_model.proofs.OneFuture.Telling.{begun-has}
 use Rattle.executor_model.proofs.Steps.Reached.{Reached, deep-here, good-here, reached-more, reached-step, run-first}
 use Rattle.executor_laws.specs.LoneEnds.{are_onward_of, is_onward_of}
+use Rattle.executor_laws.specs.KeptFirst.{taken_up}
 use Rattle.executor_laws.specs.Reach.{since, takes}
 use Rattle.executor_laws.specs.RunFew.{polls_in}
 use Rattle.executor_laws.specs.RunReach.{IsLonePoll, IsReachedByRuns, Keeps, TakesKept, TakesOneCommon, first_answer}
@@ -52,6 +53,7 @@ use Rattle.executor_laws.proofs.Reach.Reached.{bonded-here, heard-here}
 use Rattle.executor_laws.proofs.Placement.Placing.{common-queue, here, idle, in-own, keeper-own, own-keeper, queue-common, queued-due}
 use Rattle.executor_laws.proofs.RunReach.RunFinds.{Heading, Heads, heads-found}
 use Rattle.executor_laws.proofs.RunReach.RunFinds.Heading.{stealing}
+use Rattle.executor_laws.proofs.RunReach.TakenUp.{answers-up, goes-up}
 use Rattle.executor_laws.proofs.RunReach.RunWalks.{Onward, Taken, from-heading, onward, with-heading}
 use Rattle.executor_laws.proofs.RunReach.RunWalks.Onward.{acted, answered}
 use Rattle.executor_laws.proofs.Reach.Searching.{takes-none}
@@ -126,22 +128,33 @@ module _ (p : ℕ) (before : Trace) (x : RunPoll) (own common : List ℕ) (new :
     pub so_far : Before s.world
     pub todo : stack s p ≡ os
 
-  -- it is about to search
-  pub record Arrived : Type 0 where
+  -- it is about to search, and has taken nothing up
+  pub record Arrived (ts : List Step) (s : Machine) : Type 0 where
     pub machine : Machine
     pub others : List Step
+    pub taken : taken_up p ts s ≡ taken_up p others machine
     pub here : At (op.Tick (tick_op.Search (asleep x)) ∷ []) machine
     pub onward : are_onward_of p others ≡ true
     pub made : run_all others machine ≡ Ok new
 
+  earlier : (ts others : List Step) (s v : Machine) → taken_up p ts s ≡ taken_up p others v → Arrived others v → Arrived ts s
+  earlier ts others s v e a = record {
+    machine = a.machine;
+    others = a.others;
+    taken = e ∙ a.taken;
+    here = a.here;
+    onward = a.onward;
+    made = a.made;
+  }
+
   -- the run's own future isn't ready
   at-own : (s : Machine) → At (op.User (user_op.PollOwn x) ∷ []) s → (ts : List Step) →
       first_answer ts ≡ Some (end.Polled answer.Pending) → are_onward_of p ts ≡ true → run_all ts s ≡ Ok new →
-      Arrived
+      Arrived ts s
   at-own s a ts c on n =
       go (onward p s new [] (op.User (user_op.PollOwn x)) ts a.todo a.reached idles on n)
     where
-      go : Onward p s new [] (op.User (user_op.PollOwn x)) ts → Arrived
+      go : Onward p s new [] (op.User (user_op.PollOwn x)) ts → Arrived ts s
       go (acted h others te z y n2 on2 l) = absurd (cc)
       go (answered u others te z y n2 on2 l) =
           let q : ◌≡◌ {A = Option UserEnd} (Some u) (Some (end.Polled answer.Pending)) = sym (ap first_answer te) ∙ c in
@@ -149,6 +162,8 @@ module _ (p : ℕ) (before : Trace) (x : RunPoll) (own common : List ℕ) (new :
           record {
             machine = with_part s p (part s.world (op.Tick (tick_op.Search (asleep x)) ∷ []));
             others = others;
+            taken = answers-up p s new [] (op.User (user_op.PollOwn x)) ts a.todo n u others te
+                ∙ ap (λ (w : UserEnd). taken_up p others (with_part s p (onto p (react p (op.User (user_op.PollOwn x)) w s.world) []))) v;
             here = record {
               reached = subst (λ (w : UserEnd).
                   Reached (with_part s p (onto p (react p (op.User (user_op.PollOwn x)) w s.world) []))) v y;
@@ -162,16 +177,17 @@ module _ (p : ℕ) (before : Trace) (x : RunPoll) (own common : List ℕ) (new :
 
   at-unlock : (s : Machine) → At (op.User (user_op.PollOwn x) ∷ op.List list_op.UnlockWrite ∷ []) s → (ts : List Step) →
       first_answer ts ≡ Some (end.Polled answer.Pending) → are_onward_of p ts ≡ true → run_all ts s ≡ Ok new →
-      Arrived
+      Arrived ts s
   at-unlock s a ts c on n =
       go (onward p s new (op.User (user_op.PollOwn x) ∷ []) (op.List list_op.UnlockWrite) ts a.todo a.reached idles on n)
     where
       go : Onward p s new (op.User (user_op.PollOwn x) ∷ []) (op.List list_op.UnlockWrite) ts →
-          Arrived
+          Arrived ts s
       go (answered u others te z y n2 on2 l) = absurd (cc)
       go (acted h others te z y n2 on2 l) =
           let d : Part = onto p (act p h (op.List list_op.UnlockWrite) s.world) (op.User (user_op.PollOwn x) ∷ []) in
-          at-own (with_part s p d) (record {
+          earlier ts others s (with_part s p d) (goes-up p s new (op.User (user_op.PollOwn x) ∷ []) (op.List list_op.UnlockWrite) ts a.todo n h others te)
+          (at-own (with_part s p d) (record {
             reached = y;
             so_far = record {
               own_is = a.so_far.own_is;
@@ -182,20 +198,21 @@ module _ (p : ℕ) (before : Trace) (x : RunPoll) (own common : List ℕ) (new :
               there = a.so_far.there;
             };
             todo = stack-set p s d l;
-          }) others (sym (ap first_answer te) ∙ c) on2 n2
+          }) others (sym (ap first_answer te) ∙ c) on2 n2)
 
   at-write : (s : Machine) → At (op.List (list_op.Write (section.Register x)) ∷ []) s → (ts : List Step) →
       first_answer ts ≡ Some (end.Polled answer.Pending) → are_onward_of p ts ≡ true → run_all ts s ≡ Ok new →
-      Arrived
+      Arrived ts s
   at-write s a ts c on n =
       go (onward p s new [] (op.List (list_op.Write (section.Register x))) ts a.todo a.reached idles on n)
     where
-      go : Onward p s new [] (op.List (list_op.Write (section.Register x))) ts → Arrived
+      go : Onward p s new [] (op.List (list_op.Write (section.Register x))) ts → Arrived ts s
       go (answered u others te z y n2 on2 l) = absurd (cc)
       go (acted h others te z y n2 on2 l) =
           let d : Part = onto p (act p h (op.List (list_op.Write (section.Register x))) s.world) [] in
           let st : Stage = (run_of s.world x.run).stage in
-          at-unlock (with_part s p d) (record {
+          earlier ts others s (with_part s p d) (goes-up p s new [] (op.List (list_op.Write (section.Register x))) ts a.todo n h others te)
+          (at-unlock (with_part s p d) (record {
             reached = y;
             so_far = record {
               own_is = ap (λ (qs : List (List ℕ)). get_or qs x.run []) (registered-own st s.world x.run)
@@ -207,19 +224,20 @@ module _ (p : ℕ) (before : Trace) (x : RunPoll) (own common : List ℕ) (new :
               there = registered-gone st s.world x.run ∙ a.so_far.there;
             };
             todo = stack-set p s d l;
-          }) others (sym (ap first_answer te) ∙ c) on2 n2
+          }) others (sym (ap first_answer te) ∙ c) on2 n2)
 
   at-lock : (s : Machine) → At (op.List (list_op.LockWrite (section.Register x)) ∷ []) s → (ts : List Step) →
       first_answer ts ≡ Some (end.Polled answer.Pending) → are_onward_of p ts ≡ true → run_all ts s ≡ Ok new →
-      Arrived
+      Arrived ts s
   at-lock s a ts c on n =
       go (onward p s new [] (op.List (list_op.LockWrite (section.Register x))) ts a.todo a.reached idles on n)
     where
-      go : Onward p s new [] (op.List (list_op.LockWrite (section.Register x))) ts → Arrived
+      go : Onward p s new [] (op.List (list_op.LockWrite (section.Register x))) ts → Arrived ts s
       go (answered u others te z y n2 on2 l) = absurd (cc)
       go (acted h others te z y n2 on2 l) =
           let d : Part = onto p (act p h (op.List (list_op.LockWrite (section.Register x))) s.world) [] in
-          at-write (with_part s p d) (record {
+          earlier ts others s (with_part s p d) (goes-up p s new [] (op.List (list_op.LockWrite (section.Register x))) ts a.todo n h others te)
+          (at-write (with_part s p d) (record {
             reached = y;
             so_far = record {
               own_is = a.so_far.own_is;
@@ -230,7 +248,7 @@ module _ (p : ℕ) (before : Trace) (x : RunPoll) (own common : List ℕ) (new :
               there = a.so_far.there;
             };
             todo = stack-set p s d l;
-          }) others (sym (ap first_answer te) ∙ c) on2 n2
+          }) others (sym (ap first_answer te) ∙ c) on2 n2)
 
 -- what the run finds first
 pub data First (f : ℕ) (own common : List ℕ) : Type 0 where
@@ -339,6 +357,9 @@ module _ (s : Machine) (r : Reached s) (rest : IsAtRest s) (n p : ℕ) (b : By) 
   abbrev from-stage : Stage → Machine
   from-stage st = with_part s p (begun-as st)
 
+  pub first-is : after s (Begin p (call.PollRun n b)) ≡ from-stage (run_of s.world n).stage
+  first-is = ap (λ (os : List Op). with_part s p (part_after s.world os (Begin p (call.PollRun n b)))) (idles p)
+
   on-begun : run_all steps (from-stage (run_of s.world n).stage) ≡ Ok new
   on-begun = sym (ap (λ (os : List Op). run_all steps
       (with_part s p (part_after s.world os (Begin p (call.PollRun n b))))) (idles p))
@@ -353,7 +374,10 @@ module _ (s : Machine) (r : Reached s) (rest : IsAtRest s) (n p : ℕ) (b : By) 
   trace-is : beginning.trace ≡ s.world.trace ++ told
   trace-is = append_assoc s.world.trace (event.CallBegun p (call.PollRun n b) ∷ []) (event.RunPolled p n ∷ [])
 
-  pub arrived : Arrived p s.world.trace poll (own_of s.world n) s.world.queue.items new new-idle
+  abbrev pub first-machine : Machine
+  first-machine = from-stage (run_of s.world n).stage
+
+  pub arrived : Arrived p s.world.trace poll (own_of s.world n) s.world.queue.items new new-idle steps first-machine
   arrived = by (run_of s.world n).stage refl
     where
       still : Before p s.world.trace poll (own_of s.world n) s.world.queue.items new new-idle beginning
@@ -366,7 +390,8 @@ module _ (s : Machine) (r : Reached s) (rest : IsAtRest s) (n p : ℕ) (b : By) 
         there = here s (good-here s r) (heard-here s r) (deep-here s r) (bonded-here s r) rest;
       }
 
-      by : (st : Stage) → (run_of s.world n).stage ≡ st → Arrived p s.world.trace poll (own_of s.world n) s.world.queue.items new new-idle
+      by : (st : Stage) → (run_of s.world n).stage ≡ st →
+          Arrived p s.world.trace poll (own_of s.world n) s.world.queue.items new new-idle steps (from-stage st)
       by New e = at-lock p s.world.trace poll (own_of s.world n) s.world.queue.items new new-idle
           (from-stage New) (record {
             reached = subst (λ (z : Stage). Reached (from-stage z)) e reached-begun;

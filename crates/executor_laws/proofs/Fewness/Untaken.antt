@@ -1,0 +1,254 @@
+-- For runs_take_few_futures.
+-- What isn't done by run q leaves how many q has taken.
+use Rattle.std.proofs.Common.{◌≡◌, ◌≢◌, ◌∙◌, ℕ, zero, suc, ◌+◌, List, [], ◌∷◌, ◌++◌, get_or, Bool, true, false, eqb}
+use Rattle.std.proofs.Common.{refl, sym, ap, arith, get_or-set_other, ⊎_elim}
+use Rattle.std.specs.Prelude.{Option, Some, None}
+use Rattle.task_moves.specs.declared.moves.owed.Move.TheVariants as move
+use Rattle.executor_model.specs.declared.call.Call.{Call}
+use Rattle.executor_model.specs.declared.call.Call.TheVariants as call
+use Rattle.executor_model.specs.declared.call.Reply.{Reply}
+use Rattle.executor_model.specs.declared.event.Event.TheVariants as event
+use Rattle.executor_model.specs.declared.op.ListOp.{ListOp}
+use Rattle.executor_model.specs.declared.op.ListOp.TheVariants as list_op
+use Rattle.executor_model.specs.declared.op.Op.{Op}
+use Rattle.executor_model.specs.declared.op.Op.TheVariants as op
+use Rattle.executor_model.specs.declared.op.Polled.TheVariants as of
+use Rattle.executor_model.specs.declared.op.RunOp.{RunOp}
+use Rattle.executor_model.specs.declared.op.RunOp.TheVariants as run_op
+use Rattle.executor_model.specs.declared.op.RunPoll.{RunPoll}
+use Rattle.executor_model.specs.declared.op.Section.TheVariants as section
+use Rattle.executor_model.specs.declared.op.Sleeping.{Sleeping}
+use Rattle.executor_model.specs.declared.op.Source.{Source}
+use Rattle.executor_model.specs.declared.op.Source.TheVariants.{Common, Own}
+use Rattle.executor_model.specs.declared.op.Steal.{Steal}
+use Rattle.executor_model.specs.declared.op.StealOp.{StealOp}
+use Rattle.executor_model.specs.declared.op.StealOp.TheVariants as steal_op
+use Rattle.executor_model.specs.declared.op.Then.{Then}
+use Rattle.executor_model.specs.declared.op.Then.TheVariants as then
+use Rattle.executor_model.specs.declared.op.TickOp.{TickOp}
+use Rattle.executor_model.specs.declared.op.TickOp.TheVariants as tick_op
+use Rattle.executor_model.specs.declared.op.TickOrRun.{TickOrRun}
+use Rattle.executor_model.specs.declared.op.TickOrRun.TheVariants as tick_or_run
+use Rattle.executor_model.specs.declared.op.UserOp.TheVariants as user_op
+use Rattle.executor_model.specs.declared.op.Waker.{Waker}
+use Rattle.executor_model.specs.declared.op.Waker.TheVariants.{Task, Outside}
+use Rattle.executor_model.specs.declared.step.Hint.{Hint}
+use Rattle.executor_model.specs.ActsOfRuns as runs
+use Rattle.executor_model.specs.ActsOfSleepers as of_sleepers
+use Rattle.executor_model.specs.Doing.{act, list_act, run_act, search_by_who, steal_act, tick_act}
+use Rattle.executor_model.specs.Rows.{running_of}
+use Rattle.executor_model.specs.Steps.{begun}
+use Rattle.executor_model.specs.Weights.{same}
+use Rattle.executor_model.specs.World.{Asleep, Awake, Ended, Left, Listed, New, Run, Stage, Ticker, World, log, new_run, no_run}
+use Rattle.executor_model.specs.World.{put_own, put_run, run_of}
+use Rattle.executor_model.proofs.Steps.Lift.{no_hint}
+use Rattle.executor_model.proofs.Steps.Lists.{same_cases}
+use Rattle.executor_laws.proofs.Fewness.FewSides.{TakenSame, placed, put-same, same-runs, side-same}
+use Rattle.executor_laws.proofs.Fewness.FewSteps.{copied-same}
+use Rattle.executor_laws.proofs.Placement.Leavings.{drops_run}
+use Rattle.executor_laws.proofs.Placement.RunningSteps.{runs-begun}
+use Rattle.executor_laws.proofs.Termination.TakingFew.{runs-act}
+
+-- run q has taken as many as before
+abbrev pub Untaken : ℕ → World → World → Type 0
+Untaken q w v = (run_of v q).taken ≡ (run_of w q).taken
+
+pub by-runs : (q : ℕ) (w v : World) → v.runs ≡ w.runs → Untaken q w v
+by-runs q w v e = ap (λ (rs : List Run). (get_or rs q no_run).taken) e
+
+put-other : (q r : ℕ) (w : World) (x : Run) → q ≢ r → Untaken q w (put_run w r x)
+put-other q r w x n = ap (λ (y : Run). y.taken) (get_or-set_other w.runs r q x no_run n)
+
+pub another : (q r : ℕ) → same q r ≡ 0 → q ≢ r
+another q r z e = ⊎_elim
+    (λ (x : (same q r ≡ 1) × (eqb q r ≡ true) × (q ≡ r)). absurd (one-none (same q r) x.0 z))
+    (λ (x : (same q r ≡ 0) × (eqb q r ≡ false) × (q ≢ r)). x.2 e)
+    (same_cases q r)
+  where
+    one-none : (n : ℕ) → n ≡ 1 → n ≡ 0 → ⊥
+    one-none n a b = omega (arith, a, b)
+
+-- what another run finds
+
+un-run_by : (q : ℕ) (b : Bool) (w : World) (x : RunPoll) (f : ℕ) → q ≢ x.run → Untaken q w (runs.run_by b w x f).world
+un-run_by q true w x f n = put-other q x.run w (record (run_of w x.run) { taken = 0 }) n
+un-run_by q false w x f n = put-other q x.run w (record (run_of w x.run) { taken = (run_of w x.run).taken + 1 }) n
+
+un-counted : (q : ℕ) (b : Bool) (w : World) (x : RunPoll) (f : ℕ) → q ≢ x.run → Untaken q w (runs.counted_by b w x f).world
+un-counted q true w x f n = put-other q x.run w (record (run_of w x.run) { counted = 0 }) n
+un-counted q false w x f n =
+    let v : World = runs.counted_to w x.run ((run_of w x.run).counted + 1) in
+    un-run_by q (eqb ((run_of v x.run).taken + 1) 200) v x f n
+    ∙ put-other q x.run w (record (run_of w x.run) { counted = (run_of w x.run).counted + 1 }) n
+
+un-found : (q : ℕ) (w : World) (x : RunPoll) (f : ℕ) → q ≢ x.run → Untaken q w (runs.found w x f).world
+un-found q w x f n = un-counted q _ w x f n
+
+un-stolen : (q : ℕ) (t : Then) (w : World) (x : RunPoll) → q ≢ x.run → Untaken q w (runs.stolen t w x).world
+un-stolen q (then.Found f) w x n = un-found q w x f n
+un-stolen q (then.Run f) w x n = un-run_by q _ w x f n
+un-stolen q (then.Walk at left) w x n = refl
+
+un-length : (q k : ℕ) (w : World) (s : Steal) → q ≢ s.poll.run → Untaken q w (runs.steal_length_by k w s).world
+un-length q zero w s n = un-stolen q s.then w s.poll n
+un-length q (suc k) w s n = refl
+
+un-more : (q k : ℕ) (w : World) (s : Steal) → q ≢ s.poll.run → Untaken q w (runs.steal_by k w s).world
+un-more q zero w s n = un-stolen q s.then w s.poll n
+un-more q (suc k) w s n = refl
+
+un-take : (q : ℕ) (xs : List ℕ) (w : World) (s : Steal) (more : ℕ) → q ≢ s.poll.run →
+    Untaken q w (runs.steal_take_by xs w s more).world
+un-take q [] w s more n = un-stolen q s.then w s.poll n
+un-take q (f ∷ rest) w s more n = by s.from
+  where
+    by : (a : Source) → Untaken q w (runs.without_first w a rest)
+    by Common = refl
+    by (Own r) = refl
+
+un-put : (q : ℕ) (b : Bool) (p : ℕ) (w : World) (s : Steal) (more f : ℕ) → q ≢ s.poll.run →
+    Untaken q w (runs.steal_put_by b p w s more f).world
+un-put q true p w s more f n = un-more q more (runs.kept_by p w s.poll.run f) s n
+un-put q false p w s more f n = un-stolen q s.then w s.poll n
+
+un-steal : (q p : ℕ) (o : StealOp) (w : World) → running_of q (op.Steal o) ≡ 0 → Untaken q w (steal_act p o w).world
+un-steal q p (steal_op.Length s) w z = un-length q _ w s (another q s.poll.run z)
+un-steal q p (steal_op.OwnLength s n) w z = un-more q _ w s (another q s.poll.run z)
+un-steal q p (steal_op.Take s more) w z = un-take q _ w s more (another q s.poll.run z)
+un-steal q p (steal_op.Put s more f) w z = un-put q _ p w s more f (another q s.poll.run z)
+
+un-own : (q : ℕ) (xs : List ℕ) (w : World) (x : RunPoll) → q ≢ x.run → Untaken q w (runs.search_own_by xs w x).world
+un-own q [] w x n = refl
+un-own q (f ∷ rest) w x n = un-found q (put_own w x.run rest) x f n
+
+un-look : (q : ℕ) (xs : List ℕ) (w : World) (x : RunPoll) (at left : ℕ) → q ≢ x.run →
+    Untaken q w (runs.look_own_by xs w x at left).world
+un-look q [] w x at left n = refl
+un-look q (f ∷ rest) w x at left n = un-found q (put_own w x.run rest) x f n
+
+un-common : (q : ℕ) (xs : List ℕ) (w : World) (x : RunPoll) → Untaken q w (runs.search_common_by xs w x).world
+un-common q [] w x = refl
+un-common q (f ∷ rest) w x = refl
+
+-- ticks and runs
+
+un-search : (q : ℕ) (x : Ticker) (w : World) (xs : List ℕ) (s : Sleeping) → Untaken q w (of_sleepers.search_by x w xs s).world
+un-search q x w [] s = refl
+un-search q x w (f ∷ rest) s = refl
+
+un-searches : (q : ℕ) (who : TickOrRun) (w : World) (s : Sleeping) → s.who ≡ who → running_of q (op.Tick (tick_op.Search s)) ≡ 0 →
+    Untaken q w (search_by_who who w s).world
+un-searches q (tick_or_run.Tick t) w s e z = un-search q _ w _ s
+un-searches q (tick_or_run.Run r) w s e z =
+    un-own q _ w (record { run = r; waker = s.waker; poll = s.poll })
+    (another q r (sym (ap (λ (y : TickOrRun). running_of q (op.Tick (tick_op.Search (record s { who = y })))) e) ∙ z))
+
+un-make : (q : ℕ) (b : Bool) (w : World) → Untaken q w (of_sleepers.make_tick_by b w).world
+un-make q true w = refl
+un-make q false w = refl
+
+un-copy : (q : ℕ) (b : Bool) (w : World) (s : Sleeping) → Untaken q w (of_sleepers.copy_sleeper_by b w s).world
+un-copy q true w s = refl
+un-copy q false w s = (copied-same w s.waker).taken q
+
+un-anew : (q : ℕ) (b : Bool) (w : World) (s : Sleeping) → Untaken q w (of_sleepers.sleep_anew_by b w s).world
+un-anew q true w s = (placed w (of_sleepers.sleep_anew_by true w s).world s.who _ refl).taken q
+un-anew q false w s = refl
+
+un-listed : (q : ℕ) (b : Bool) (w : World) (n : ℕ) (s : Sleeping) → Untaken q w (of_sleepers.sleep_listed_by b w n s).world
+un-listed q true w n s = refl
+un-listed q false w n s = refl
+
+un-again : (q : ℕ) (o : Option ℕ) (w : World) (n : ℕ) (s : Sleeping) → Untaken q w (of_sleepers.sleep_again_by o w n s).world
+un-again q None w n s = un-listed q _ w n s
+un-again q (Some at) w n s = refl
+
+un-sleep : (q : ℕ) (x : Ticker) (w : World) (s : Sleeping) → Untaken q w (of_sleepers.fall_asleep_by x w s).world
+un-sleep q Awake w s = un-anew q _ w s
+un-sleep q (Asleep n) w s = un-again q _ w n s
+un-sleep q Left w s = refl
+
+pub leave-same : (x : Ticker) (w : World) (who : TickOrRun) → TakenSame w (of_sleepers.leave_sleepers_by x w who).world
+leave-same Awake w who = placed w (of_sleepers.leave_sleepers_by Awake w who).world who Left refl
+leave-same (Asleep n) w who = placed w (of_sleepers.leave_sleepers_by (Asleep n) w who).world who Left refl
+leave-same Left w who = same-runs w w refl
+
+un-tick : (q : ℕ) (h : Hint) (o : TickOp) (w : World) → running_of q (op.Tick o) ≡ 0 → Untaken q w (tick_act h o w).world
+un-tick q h tick_op.MakeTick w z = un-make q _ w
+un-tick q h (tick_op.Search s) w z = un-searches q s.who w s refl z
+un-tick q h (tick_op.CopyWaker s) w z = un-copy q _ w s
+un-tick q h (tick_op.FallAsleep s) w z = un-sleep q _ w s
+un-tick q h (tick_op.WakeUp who) w z = (side-same 0 h (op.Tick (tick_op.WakeUp who)) w refl).taken q
+un-tick q h (tick_op.Leave who) w z = (leave-same _ w who).taken q
+
+-- what runs alone do
+
+un-room : (q : ℕ) (b : Bool) (w : World) → Untaken q w (runs.make_room_by b w).world
+un-room q true w = refl
+un-room q false w = refl
+
+un-wake : (q p : ℕ) (w : World) (a : Waker) → Untaken q w (runs.call_by_reference p w a).world
+un-wake q p w (Task g) =
+    by-runs q w (runs.call_by_reference p w (Task g)).world (runs-act p no_hint (op.Move move.WakeByReference g) w refl)
+un-wake q p w (Outside y) = refl
+
+pub reschedule-same : (xs : List ℕ) (w : World) (r : ℕ) (a : Reply) → TakenSame w (runs.reschedule_by xs w r a).world
+reschedule-same [] w r a = same-runs w w refl
+reschedule-same (f ∷ rest) w r a = same-runs w _ refl
+
+un-of-run : (q p : ℕ) (h : Hint) (o : RunOp) (w : World) → running_of q (op.Run o) ≡ 0 → Untaken q w (run_act p h o w).world
+un-of-run q p h run_op.MakeRoom w z = un-room q _ w
+un-of-run q p h run_op.ReturnRoom w z = refl
+un-of-run q p h (run_op.SearchCommon x) w z = un-common q _ w x
+un-of-run q p h (run_op.LookOwn x at left) w z = un-look q _ w x at left (another q x.run z)
+un-of-run q p h (run_op.WakeOwn x) w z = un-wake q p (log w (event.WakerCalled p (of.Run x.run) x.poll x.waker)) x.waker
+un-of-run q p h (run_op.Reschedule r a) w z = (reschedule-same _ w r a).taken q
+
+-- the list of queues
+
+push-taken : (rs : List Run) (q : ℕ) → (get_or (rs ++ new_run ∷ []) q no_run).taken ≡ (get_or rs q no_run).taken
+push-taken [] zero = refl
+push-taken [] (suc q) = refl
+push-taken (x ∷ rs) zero = refl
+push-taken (x ∷ rs) (suc q) = push-taken rs q
+
+un-made : (q : ℕ) (b : Bool) (w : World) → Untaken q w (runs.make_run_by b w).world
+un-made q true w = refl
+un-made q false w = push-taken w.runs q
+
+pub registered-same : (t : Stage) (w : World) (r : ℕ) → TakenSame w (runs.registered t w r)
+registered-same New w r = put-same w (runs.registered New w r) r (record (run_of w r) { stage = Listed }) refl refl
+registered-same Listed w r = same-runs w w refl
+registered-same Ended w r = same-runs w w refl
+
+pub unregistered-same : (w : World) (r : ℕ) → TakenSame w (runs.unregistered w r)
+unregistered-same w r = put-same w (runs.unregistered w r) r (record (run_of w r) { stage = Ended }) refl refl
+
+un-list : (q : ℕ) (h : Hint) (o : ListOp) (w : World) → Untaken q w (list_act h o w).world
+un-list q h (list_op.Write section.MakeRun) w = un-made q _ w
+un-list q h (list_op.Write (section.Register x)) w = (registered-same _ w x.run).taken q
+un-list q h (list_op.Write (section.Unregister r a)) w = (unregistered-same w r).taken q
+un-list q h (list_op.LockWrite s) w = refl
+un-list q h list_op.UnlockWrite w = refl
+un-list q h (list_op.LockRead x) w = refl
+un-list q h list_op.UnlockRead w = refl
+
+-- whatever is done that isn't run q's
+pub untaken : (q p : ℕ) (h : Hint) (o : Op) (w : World) → running_of q o ≡ 0 → Untaken q w (act p h o w).world
+untaken q p h (op.Tick o) w z = un-tick q h o w z
+untaken q p h (op.List o) w z = un-list q h o w
+untaken q p h (op.Steal o) w z = un-steal q p o w z
+untaken q p h (op.Run o) w z = un-of-run q p h o w z
+untaken q p h (op.User (user_op.PollOwn x)) w z = refl
+untaken q p h o w z = by-runs q w (act p h o w).world (runs-act p h o w refl)
+
+-- and as a call begins
+pub untaken-begun : (q p : ℕ) (w : World) (o : Option Waker) (c : Call) → Untaken q w (begun p (log w (event.CallBegun p c)) o c).world
+untaken-begun q p w o c = by (drops_run c) c refl
+  where
+    by : (b : Bool) (c : Call) → drops_run c ≡ b → Untaken q w (begun p (log w (event.CallBegun p c)) o c).world
+    by false c e = by-runs q w (begun p (log w (event.CallBegun p c)) o c).world (runs-begun p (log w (event.CallBegun p c)) o c e)
+    by true (call.DropRun r) e =
+        (put-same w (begun p (log w (event.CallBegun p (call.DropRun r))) o (call.DropRun r)).world r
+        (record (run_of w r) { dropped = true }) refl refl).taken q
+    by true _ e = absurd (cc)

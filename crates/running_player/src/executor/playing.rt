@@ -1,0 +1,213 @@
+//! From the text of a script to the text of what it does.
+ghost use Rattle.std.specs.Prelude.{◌<◌};
+
+use crate::executor::desk::{
+    OnExecutor, OneOf, ScriptExecutor, ScriptRun, ScriptStatic, ScriptTick,
+};
+use crate::executor::future::Planned;
+use crate::executor::handle::{HoldIn, ScriptRealm, ScriptWaker};
+use crate::executor::keeper::KeepIn;
+use async_executor::{Executor, StaticExecutor};
+use script::{Command, Word};
+use script_player::{
+    Answer, Handles, Hold, Keep, KeptOf, PlayError, Player, Shared, SharedShelf, Shelf, Stage,
+    Stop, play_closed, play_on, read_whole, show_end,
+};
+use std::alloc::Global;
+use std::rc::Rc;
+use std::sync::Wait;
+
+/// Plays a script in a realm, as `Plays` says.
+pub fn play_script<F, H, S, K, R>(
+    rt: R,
+    alloc: Global,
+    realm: &'static ScriptRealm<R>,
+    script: &[u8],
+) -> Result<Vec<u8>, PlayError>
+where
+    F: Planned<H, S, R>,
+    H: HoldIn<R>,
+    S: KeptOf<ScriptWaker<R>>,
+    K: KeepIn<S, R>,
+    R: Wait + Copy + Drop + 'static,
+{
+    let Some(script) = read_whole(alloc, script)? else {
+        return Ok(Vec::new(alloc));
+    };
+    if script.limit == 0 {
+        return Err(PlayError::NoMemory);
+    }
+    let stage = Stage::new(alloc)?;
+    play_in::<F, H, S, K, R>(
+        rt,
+        alloc,
+        realm,
+        &stage,
+        script.is_static,
+        script.limit as usize,
+        script.commands.as_slice(),
+    );
+    Ok(stage.take_text()?)
+}
+
+/// Plays the commands on a new executor of so many places.
+fn play_in<F, H, S, K, R>(
+    rt: R,
+    alloc: Global,
+    realm: &'static ScriptRealm<R>,
+    stage: &Shared,
+    is_static: bool,
+    limit: usize,
+    commands: &[Command],
+)
+where
+    F: Planned<H, S, R>,
+    H: HoldIn<R>,
+    S: KeptOf<ScriptWaker<R>>,
+    K: KeepIn<S, R>,
+    R: Wait + Copy + Drop + 'static,
+    requires { 0 < limit }
+{
+    let Ok(shelf) = Shelf::new(alloc, stage) else {
+        stage.lack_memory();
+        return;
+    };
+    let Some(player) = new_player::<H, S, K, R>(rt, alloc, realm, stage, &shelf) else {
+        stage.lack_memory();
+        return;
+    };
+    if is_static {
+        match StaticExecutor::new(rt, alloc, realm, limit) {
+            Ok(executor) => play_static::<F, H, S, K, R>(player, &shelf, executor, commands),
+            Err(_) => stage.lack_memory(),
+        }
+    } else {
+        match Executor::new(rt, alloc, realm, limit) {
+            Ok(executor) => play_owned::<F, H, S, K, R>(player, &shelf, executor, commands),
+            Err(_) => stage.lack_memory(),
+        }
+    }
+}
+
+fn new_player<H, S, K, R>(
+    rt: R,
+    alloc: Global,
+    realm: &'static ScriptRealm<R>,
+    stage: &Shared,
+    shelf: &SharedShelf<S>,
+) -> Option<Player<H, K>>
+where
+    H: Hold,
+    S: Drop,
+    K: KeepIn<S, R>,
+    R: Wait + Copy + Drop + 'static,
+{
+    match (
+        Rc::clone(stage),
+        Rc::clone(shelf),
+        Handles::new(alloc, stage),
+    ) {
+        (Ok(stage), Ok(shelf), Ok(handles)) => {
+            Some(Player::new(alloc, stage, K::of(rt, realm, shelf), handles))
+        }
+        _ => None,
+    }
+}
+
+/// Plays the commands on a static executor.
+fn play_static<F, H, S, K, R>(
+    player: Player<H, K>,
+    shelf: &SharedShelf<S>,
+    executor: ScriptStatic<F, R>,
+    commands: &[Command],
+)
+where
+    F: Planned<H, S, R>,
+    H: HoldIn<R>,
+    S: KeptOf<ScriptWaker<R>>,
+    K: Keep,
+    R: Wait + Copy + Drop + 'static,
+{
+    let mut player = player;
+    play_leaked(&mut player, shelf, &executor, commands, 0);
+    drop(executor);
+}
+
+/// Plays the commands on an executor, drops it or leaks it, and plays what follows.
+fn play_owned<F, H, S, K, R>(
+    player: Player<H, K>,
+    shelf: &SharedShelf<S>,
+    executor: ScriptExecutor<F, R>,
+    commands: &[Command],
+)
+where
+    F: Planned<H, S, R>,
+    H: HoldIn<R>,
+    S: KeptOf<ScriptWaker<R>>,
+    K: Keep,
+    R: Wait + Copy + Drop + 'static,
+{
+    let mut player = player;
+    match play_open(&mut player, &*shelf, &executor, commands) {
+        Stop::Over => drop(executor),
+        Stop::End(place) => {
+            drop(executor);
+            play_closed(&mut player, commands, place);
+        }
+        Stop::Leak(place) => {
+            let executor = executor.leak();
+            show_end(&player.stage, Word::Leak, Answer::Done);
+            play_leaked(
+                &mut player,
+                &*shelf,
+                &executor,
+                commands,
+                place.saturating_add(1),
+            );
+            drop(executor);
+        }
+    }
+}
+
+/// Plays the commands until one drops the executor or leaks it.
+fn play_open<'a, F, H, S, K, R>(
+    player: &mut Player<H, K>,
+    shelf: &'a SharedShelf<S>,
+    executor: &'a ScriptExecutor<F, R>,
+    commands: &[Command],
+) -> Stop
+where
+    F: Planned<H, S, R>,
+    H: HoldIn<R>,
+    S: KeptOf<ScriptWaker<R>>,
+    K: Keep,
+    R: Wait + Copy + Drop + 'static,
+{
+    let executor = OneOf::Owned(executor);
+    let desk = OnExecutor { executor, shelf };
+    play_on::<OnExecutor<'a, F, S, R>, ScriptTick<'a, F, R>, ScriptRun<'a, F, H, R>, H, K>(
+        player, &desk, commands, 0,
+    )
+}
+
+/// Plays the commands from this place on on a static executor, which none of them drops or leaks.
+fn play_leaked<'a, F, H, S, K, R>(
+    player: &mut Player<H, K>,
+    shelf: &'a SharedShelf<S>,
+    executor: &'a ScriptStatic<F, R>,
+    commands: &[Command],
+    from: usize,
+)
+where
+    F: Planned<H, S, R>,
+    H: HoldIn<R>,
+    S: KeptOf<ScriptWaker<R>>,
+    K: Keep,
+    R: Wait + Copy + Drop + 'static,
+{
+    let executor = OneOf::Static(executor);
+    let desk = OnExecutor { executor, shelf };
+    play_on::<OnExecutor<'a, F, S, R>, ScriptTick<'a, F, R>, ScriptRun<'a, F, H, R>, H, K>(
+        player, &desk, commands, from,
+    );
+}

@@ -1,8 +1,7 @@
 //! Executors that threads share.
-use crate::kinds::{LEFT, LONG, Many, Polled, ROWS, Row, Runs, Stage};
+use crate::kinds::{LEFT, LONG, Many, Polled, ROWS, Row, Runs, play};
 use crate::parts::{Bell, Drops, Job, shown};
-use crate::report::Report;
-use crate::rows::try_each;
+use crate::report::{Call, Place, Report};
 use async_executor::{
     ExCancel, ExFallible, ExRealm, ExTask, ExWaker, Executor, NoMemory, Run, RunError, SpawnError,
     StaticExecutor, Tick,
@@ -10,6 +9,7 @@ use async_executor::{
 use async_task::{Future, Poll, TaskError};
 use std::alloc::Global;
 use std::sync::Wait;
+use std::sync::atomic::Ordering::SeqCst;
 
 /// How many places an executor has.
 const LIMIT: usize = 4;
@@ -27,7 +27,7 @@ type TestTick<'a, R> = Tick<'a, Job, u64, Bell, R>;
 type TestRun<'a, R> = Run<'a, Job, u64, Bell, R, Job>;
 
 /// What the program's executors are made with.
-#[derive(Clone, Copy)]
+#[derive(Drop)]
 pub struct Ground<'a, R: Wait + Copy + Drop + 'static> {
     pub rt: R,
     pub alloc: Global,
@@ -84,7 +84,7 @@ pub fn of_tick(polled: Poll<Result<(), NoMemory>>) -> Polled {
 }
 
 /// An executor of either kind, and the waker that its ticks, runs and handles are polled by.
-#[derive(Clone, Copy)]
+#[derive(Drop)]
 enum OneOf<'a, R: Wait + Copy + Drop + 'static> {
     Owned(&'a TestExecutor<R>),
     Static(&'a TestStatic<R>),
@@ -94,14 +94,27 @@ enum OneOf<'a, R: Wait + Copy + Drop + 'static> {
 struct OnExecutor<'a, R: Wait + Copy + Drop + 'static> {
     executor: OneOf<'a, R>,
     waker: &'a TestWaker<R>,
+    drops: &'static Drops,
 }
 
 impl<'a, R> Runs<Handle<R>, TestTick<'a, R>, TestRun<'a, R>> for OnExecutor<'a, R>
 where
     R: Wait + Copy + Drop + 'static,
 {
+    fn job(&self, name: u64, wakes: u64) -> Job {
+        Job {
+            name,
+            wakes,
+            drops: self.drops,
+        }
+    }
+
+    fn drops(&self) -> u64 {
+        self.drops.load(SeqCst)
+    }
+
     fn spawn(&self, job: Job) -> Result<Handle<R>, Job> {
-        let spawned = match self.executor {
+        let spawned = match &self.executor {
             OneOf::Owned(executor) => executor.spawn(job),
             OneOf::Static(executor) => executor.spawn(job),
         };
@@ -111,58 +124,60 @@ where
         }
     }
 
-    fn spawn_many(&self, from: u64, end: u64, drops: &'static Drops) -> Option<Many> {
-        let OneOf::Owned(executor) = self.executor else {
-            return None;
-        };
-        let mut jobs = (from..end).map(|name| Job {
-            name,
-            wakes: 0,
-            drops,
-        });
-        let (handles, refused) = executor.spawn_many(&mut jobs);
-        let accepted = handles.len() as u64;
-        let back = match refused {
-            Ok(()) => None,
-            Err(SpawnError::NoMemory(job) | SpawnError::Full(job)) => Some(job.into_name()),
-        };
-        let next = match jobs.next() {
-            Some(job) => Some(job.into_name()),
-            None => None,
-        };
-        Some(Many {
-            accepted,
-            back,
-            next,
-        })
+    fn spawn_many(&self, from: u64, end: u64) -> Option<Many> {
+        match &self.executor {
+            OneOf::Owned(executor) => Some(many(executor, from, end, self.drops)),
+            OneOf::Static(_) => None,
+        }
     }
 
     fn tick(&self) -> Option<TestTick<'a, R>> {
-        let made = match self.executor {
-            OneOf::Owned(executor) => executor.tick(),
-            OneOf::Static(executor) => executor.tick(),
-        };
-        made.ok()
+        match &self.executor {
+            OneOf::Owned(executor) => {
+                let executor: &'a TestExecutor<R> = *executor;
+                match executor.tick() {
+                    Ok(tick) => Some(tick),
+                    Err(_) => None,
+                }
+            }
+            OneOf::Static(executor) => {
+                let executor: &'a TestStatic<R> = *executor;
+                match executor.tick() {
+                    Ok(tick) => Some(tick),
+                    Err(_) => None,
+                }
+            }
+        }
     }
 
     fn run(&self, own: Job, is_seeded: bool) -> Result<TestRun<'a, R>, Job> {
-        match (self.executor, is_seeded) {
-            (OneOf::Owned(executor), false) => executor.run(own),
-            (OneOf::Owned(executor), true) => executor.run_from(own, 1),
-            (OneOf::Static(executor), false) => executor.run(own),
-            (OneOf::Static(executor), true) => executor.run_from(own, 1),
+        match &self.executor {
+            OneOf::Owned(executor) => {
+                let executor: &'a TestExecutor<R> = *executor;
+                match is_seeded {
+                    true => executor.run_from(own, 1),
+                    false => executor.run(own),
+                }
+            }
+            OneOf::Static(executor) => {
+                let executor: &'a TestStatic<R> = *executor;
+                match is_seeded {
+                    true => executor.run_from(own, 1),
+                    false => executor.run(own),
+                }
+            }
         }
     }
 
     fn try_tick(&self) -> bool {
-        match self.executor {
+        match &self.executor {
             OneOf::Owned(executor) => executor.try_tick(),
             OneOf::Static(executor) => executor.try_tick(),
         }
     }
 
     fn is_empty(&self) -> Option<bool> {
-        match self.executor {
+        match &self.executor {
             OneOf::Owned(executor) => Some(executor.is_empty()),
             OneOf::Static(_) => None,
         }
@@ -201,23 +216,56 @@ where
 
     fn detach(&self, handle: Handle<R>) {
         match handle {
-            Handle::Task(task) => drop(task.detach()),
+            Handle::Task(task) => let_run(task),
             other => drop(other),
         }
     }
 
     fn shown(&self, all: bool) -> u64 {
-        let end = if all { "" } else { "local_runners" };
-        match self.executor {
-            OneOf::Owned(executor) => shown(executor, end),
-            OneOf::Static(executor) => shown(executor, end),
+        match &self.executor {
+            OneOf::Owned(executor) => shown(*executor, all),
+            OneOf::Static(executor) => shown(*executor, all),
         }
+    }
+}
+
+/// Its task goes on without a handle.
+fn let_run<R: Wait + Copy + Drop + 'static>(task: ExTask<u64, Bell, R>) {
+    drop(task.detach());
+}
+
+/// Spawns jobs of these names and drops their handles.
+fn many<R: Wait + Copy + Drop + 'static>(
+    executor: &TestExecutor<R>,
+    from: u64,
+    end: u64,
+    drops: &'static Drops,
+) -> Many {
+    let mut jobs = (from..end).map(|name| Job {
+        name,
+        wakes: 0,
+        drops,
+    });
+    let (handles, refused) = executor.spawn_many(&mut jobs);
+    let accepted = handles.len() as u64;
+    let back = match refused {
+        Ok(()) => None,
+        Err(SpawnError::NoMemory(job) | SpawnError::Full(job)) => Some(job.into_name()),
+    };
+    let next = match jobs.next() {
+        Some(job) => Some(job.into_name()),
+        None => None,
+    };
+    Many {
+        accepted,
+        back,
+        next,
     }
 }
 
 /// Makes these calls on an executor. The handle that is left is the answer.
 fn stage<'a, R: Wait + Copy + Drop + 'static>(
-    ground: Ground<'a, R>,
+    ground: &Ground<'a, R>,
     executor: OneOf<'a, R>,
     rows: &[Row],
     report: &mut Report,
@@ -225,22 +273,20 @@ fn stage<'a, R: Wait + Copy + Drop + 'static>(
     let on = OnExecutor {
         executor,
         waker: ground.waker,
+        drops: ground.drops,
     };
-    let mut stage: Stage<OnExecutor<'a, R>, Handle<R>, TestTick<'a, R>, TestRun<'a, R>> =
-        Stage::new(on, ground.drops);
-    try_each(&mut stage, rows, report);
-    stage.into_handle()
+    play::<OnExecutor<'a, R>, Handle<R>, TestTick<'a, R>, TestRun<'a, R>>(on, rows, report)
 }
 
 /// An executor, which is made once more where that is refused.
 fn owned<R: Wait + Copy + Drop + 'static>(
-    ground: Ground<'_, R>,
+    ground: &Ground<'_, R>,
     report: &mut Report,
 ) -> Option<TestExecutor<R>> {
     for _ in 0..2 {
         match Executor::new(ground.rt, ground.alloc, ground.realm, LIMIT) {
             Ok(executor) => return Some(executor),
-            Err(NoMemory) => report.is_refused("new"),
+            Err(NoMemory) => report.is_refused(Call::New),
         }
     }
     None
@@ -248,13 +294,13 @@ fn owned<R: Wait + Copy + Drop + 'static>(
 
 /// A static one.
 fn lasting<R: Wait + Copy + Drop + 'static>(
-    ground: Ground<'_, R>,
+    ground: &Ground<'_, R>,
     report: &mut Report,
 ) -> Option<TestStatic<R>> {
     for _ in 0..2 {
         match StaticExecutor::new(ground.rt, ground.alloc, ground.realm, LIMIT) {
             Ok(executor) => return Some(executor),
-            Err(NoMemory) => report.is_refused("new"),
+            Err(NoMemory) => report.is_refused(Call::New),
         }
     }
     None
@@ -263,15 +309,15 @@ fn lasting<R: Wait + Copy + Drop + 'static>(
 /// Makes all calls on a static executor, and on one that is not: that is leaked with a future in it, which goes on; another is
 /// dropped with a future in it, whose task is closed.
 pub fn try_executors<R: Wait + Copy + Drop + 'static>(
-    ground: Ground<'_, R>,
+    ground: &Ground<'_, R>,
     report: &mut Report,
 ) -> bool {
-    report.come_to("StaticExecutor");
+    report.come_to(Place::StaticExecutor);
     let Some(executor) = lasting(ground, report) else {
         return false;
     };
     drop(stage(ground, OneOf::Static(&executor), ROWS, report));
-    report.come_to("Executor");
+    report.come_to(Place::Executor);
     let Some(executor) = owned(ground, report) else {
         return false;
     };
@@ -289,7 +335,7 @@ pub fn try_executors<R: Wait + Copy + Drop + 'static>(
 }
 
 /// An executor is dropped with a future in it.
-fn ends<R: Wait + Copy + Drop + 'static>(ground: Ground<'_, R>, report: &mut Report) -> bool {
+fn ends<R: Wait + Copy + Drop + 'static>(ground: &Ground<'_, R>, report: &mut Report) -> bool {
     let Some(executor) = owned(ground, report) else {
         return false;
     };

@@ -1,7 +1,7 @@
 //! What all kinds of executors have in common, and the rows of calls on one.
-use crate::parts::{Drops, Job};
-use crate::rows::{Ended, Look, Trial, poll_ended};
-use std::sync::atomic::Ordering::SeqCst;
+use crate::parts::Job;
+use crate::report::{Call, Report};
+use crate::rows::{Ended, Look, Trial, poll_ended, try_each};
 
 /// How a poll ended.
 #[derive(Clone, Copy, PartialEq, Eq)]
@@ -26,11 +26,17 @@ pub struct Many {
 
 /// An executor of any kind, whose handles are `H`, its ticks `T` and its runs `N`. They are polled by its own outside waker.
 pub trait Runs<H: Drop, T: Drop, N: Drop> {
+    /// A future of this name that wakes itself so often.
+    fn job(&self, name: u64, wakes: u64) -> Job;
+
+    /// How many futures were dropped.
+    fn drops(&self) -> u64;
+
     /// A refused future comes back.
     fn spawn(&self, job: Job) -> Result<H, Job>;
 
     /// Spawns jobs of these names and drops their handles. A static executor has no such call: nothing.
-    fn spawn_many(&self, from: u64, end: u64, drops: &'static Drops) -> Option<Many>;
+    fn spawn_many(&self, from: u64, end: u64) -> Option<Many>;
 
     fn tick(&self) -> Option<T>;
 
@@ -163,9 +169,8 @@ pub const LEFT: &[Row] = &[Row::Spawn(18, 1), Row::TryTick(true)];
 
 /// An executor, and what was made of it.
 #[derive(Drop)]
-pub struct Stage<E, H, T, N> {
+struct Stage<E, H, T, N> {
     executor: E,
-    drops: &'static Drops,
     handle: Option<H>,
     tick: Option<T>,
     run: Option<N>,
@@ -182,10 +187,9 @@ where
     T: Drop,
     N: Drop,
 {
-    pub fn new(executor: E, drops: &'static Drops) -> Stage<E, H, T, N> {
+    fn new(executor: E) -> Stage<E, H, T, N> {
         Stage {
             executor,
-            drops,
             handle: None,
             tick: None,
             run: None,
@@ -194,19 +198,10 @@ where
         }
     }
 
-    /// The handle that is left.
-    pub fn into_handle(self) -> Option<H> {
-        self.handle
-    }
-
     fn job(&mut self, name: u64, wakes: u64) -> Job {
         match self.back.take() {
             Some(job) => job,
-            None => Job {
-                name,
-                wakes,
-                drops: self.drops,
-            },
+            None => self.executor.job(name, wakes),
         }
     }
 
@@ -245,7 +240,7 @@ where
 
     /// Where the call is refused the handles so far were answered, the next future came back, and the rest is in the iterator.
     fn spawn_many(&mut self) -> Ended {
-        let Some(many) = self.executor.spawn_many(self.next, 4, self.drops) else {
+        let Some(many) = self.executor.spawn_many(self.next, 4) else {
             return Ended::Well;
         };
         self.next = self.next.saturating_add(many.accepted);
@@ -288,6 +283,19 @@ where
     }
 }
 
+/// Makes these calls on an executor. The handle that is left is the answer.
+pub fn play<E, H, T, N>(executor: E, rows: &[Row], report: &mut Report) -> Option<H>
+where
+    E: Runs<H, T, N> + Drop,
+    H: Drop,
+    T: Drop,
+    N: Drop,
+{
+    let mut stage: Stage<E, H, T, N> = Stage::new(executor);
+    try_each(&mut stage, rows, report);
+    stage.handle.take()
+}
+
 /// Drops what is there.
 fn let_go<T: Drop>(place: &mut Option<T>) -> Ended {
     match place.take() {
@@ -308,22 +316,22 @@ where
 {
     type Row = Row;
 
-    fn name(&self, row: Row) -> &'static str {
+    fn name(&self, row: Row) -> Call {
         match row {
-            Row::Spawn(_, _) => "spawn",
-            Row::SpawnMany => "spawn_many",
-            Row::Tick => "tick",
-            Row::Run => "run",
-            Row::RunFrom => "run_from",
-            Row::PollTick(_) => "poll of a tick",
-            Row::PollRun(_) | Row::WorkRun(_) => "poll of a run",
-            Row::Poll(_) => "poll of a handle",
-            _ => "a call that takes no memory",
+            Row::Spawn(_, _) => Call::Spawn,
+            Row::SpawnMany => Call::SpawnMany,
+            Row::Tick => Call::Tick,
+            Row::Run => Call::Run,
+            Row::RunFrom => Call::RunFrom,
+            Row::PollTick(_) => Call::PollTick,
+            Row::PollRun(_) | Row::WorkRun(_) => Call::PollRun,
+            Row::Poll(_) => Call::PollHandle,
+            _ => Call::Other,
         }
     }
 
     fn look(&self, row: Row) -> Look {
-        let (shown, drops) = (self.executor.shown(false), self.drops.load(SeqCst));
+        let (shown, drops) = (self.executor.shown(false), self.executor.drops());
         match row {
             Row::SpawnMany => Look { shown: 0, drops },
             Row::WorkRun(_) => Look { shown: 0, drops: 0 },

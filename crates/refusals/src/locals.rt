@@ -1,17 +1,17 @@
 //! Executors of one thread.
 use crate::executors::{of_fallible, of_task, of_tick};
-use crate::kinds::{LEFT, LONG, Many, Polled, ROWS, Row, Runs, Stage};
+use crate::kinds::{LEFT, LONG, Many, Polled, ROWS, Row, Runs, play};
 use crate::parts::{Bell, Drops, Job, shown};
-use crate::report::Report;
-use crate::rows::try_each;
+use crate::report::{Call, Place, Report};
 use async_task::{Future, Poll};
 use local_executor::{
-    LocalCancel, LocalError, LocalExWaker, LocalExecutor, LocalFallible, LocalHandle, LocalRun,
-    LocalTick, RunError, SpawnError, StaticLocalExecutor,
+    LocalCancel, LocalExWaker, LocalExecutor, LocalFallible, LocalHandle, LocalRun, LocalTick,
+    RunError, SpawnError, StaticLocalExecutor,
 };
 use std::alloc::Global;
 use std::random::RandomSource;
 use std::sync::Wait;
+use std::sync::atomic::Ordering::SeqCst;
 
 /// How many places an executor has.
 const LIMIT: usize = 4;
@@ -27,7 +27,7 @@ type TestTick<'a, R> = LocalTick<'a, Job, u64, Bell, R>;
 type TestRun<'a, R> = LocalRun<'a, Job, u64, Bell, R, Job>;
 
 /// What the program's executors are made with.
-#[derive(Clone, Copy)]
+#[derive(Drop)]
 pub struct LocalGround<'a, R: Wait + Copy + Drop + 'static> {
     pub rt: R,
     pub alloc: Global,
@@ -54,7 +54,7 @@ impl<R: Wait + Copy + Drop + 'static> Handle<R> {
 }
 
 /// An executor of either kind, and the waker that its ticks, runs and handles are polled by.
-#[derive(Clone, Copy)]
+#[derive(Drop)]
 enum OneOf<'a, R: Wait + Copy + Drop + 'static> {
     Owned(&'a TestExecutor<R>),
     Static(&'a TestStatic<R>),
@@ -65,14 +65,27 @@ struct OnExecutor<'a, R: Wait + Copy + Drop + 'static> {
     executor: OneOf<'a, R>,
     alloc: Global,
     waker: &'a TestLocalWaker<R>,
+    drops: &'static Drops,
 }
 
 impl<'a, R> Runs<Handle<R>, TestTick<'a, R>, TestRun<'a, R>> for OnExecutor<'a, R>
 where
     R: Wait + Copy + Drop + 'static,
 {
+    fn job(&self, name: u64, wakes: u64) -> Job {
+        Job {
+            name,
+            wakes,
+            drops: self.drops,
+        }
+    }
+
+    fn drops(&self) -> u64 {
+        self.drops.load(SeqCst)
+    }
+
     fn spawn(&self, job: Job) -> Result<Handle<R>, Job> {
-        let spawned = match self.executor {
+        let spawned = match &self.executor {
             OneOf::Owned(executor) => executor.spawn(job),
             OneOf::Static(executor) => executor.spawn(job),
         };
@@ -82,59 +95,60 @@ where
         }
     }
 
-    fn spawn_many(&self, from: u64, end: u64, drops: &'static Drops) -> Option<Many> {
-        let OneOf::Owned(executor) = self.executor else {
-            return None;
-        };
-        let mut jobs = (from..end).map(|name| Job {
-            name,
-            wakes: 0,
-            drops,
-        });
-        let mut handles = Vec::new(self.alloc);
-        let refused = executor.spawn_many(&mut jobs, &mut handles);
-        let accepted = handles.len() as u64;
-        let back = match refused {
-            Ok(()) => None,
-            Err(SpawnError::NoMemory(job) | SpawnError::Full(job)) => Some(job.into_name()),
-        };
-        let next = match jobs.next() {
-            Some(job) => Some(job.into_name()),
-            None => None,
-        };
-        Some(Many {
-            accepted,
-            back,
-            next,
-        })
+    fn spawn_many(&self, from: u64, end: u64) -> Option<Many> {
+        match &self.executor {
+            OneOf::Owned(executor) => Some(many(executor, self.alloc, from, end, self.drops)),
+            OneOf::Static(_) => None,
+        }
     }
 
     fn tick(&self) -> Option<TestTick<'a, R>> {
-        let made = match self.executor {
-            OneOf::Owned(executor) => executor.tick(),
-            OneOf::Static(executor) => executor.tick(),
-        };
-        made.ok()
+        match &self.executor {
+            OneOf::Owned(executor) => {
+                let executor: &'a TestExecutor<R> = *executor;
+                match executor.tick() {
+                    Ok(tick) => Some(tick),
+                    Err(_) => None,
+                }
+            }
+            OneOf::Static(executor) => {
+                let executor: &'a TestStatic<R> = *executor;
+                match executor.tick() {
+                    Ok(tick) => Some(tick),
+                    Err(_) => None,
+                }
+            }
+        }
     }
 
     fn run(&self, own: Job, is_seeded: bool) -> Result<TestRun<'a, R>, Job> {
-        match (self.executor, is_seeded) {
-            (OneOf::Owned(executor), false) => executor.run(own),
-            (OneOf::Owned(executor), true) => executor.run_from(own, 1),
-            (OneOf::Static(executor), false) => executor.run(own),
-            (OneOf::Static(executor), true) => executor.run_from(own, 1),
+        match &self.executor {
+            OneOf::Owned(executor) => {
+                let executor: &'a TestExecutor<R> = *executor;
+                match is_seeded {
+                    true => executor.run_from(own, 1),
+                    false => executor.run(own),
+                }
+            }
+            OneOf::Static(executor) => {
+                let executor: &'a TestStatic<R> = *executor;
+                match is_seeded {
+                    true => executor.run_from(own, 1),
+                    false => executor.run(own),
+                }
+            }
         }
     }
 
     fn try_tick(&self) -> bool {
-        match self.executor {
+        match &self.executor {
             OneOf::Owned(executor) => executor.try_tick(),
             OneOf::Static(executor) => executor.try_tick(),
         }
     }
 
     fn is_empty(&self) -> Option<bool> {
-        match self.executor {
+        match &self.executor {
             OneOf::Owned(executor) => Some(executor.is_empty()),
             OneOf::Static(_) => None,
         }
@@ -179,17 +193,47 @@ where
     }
 
     fn shown(&self, all: bool) -> u64 {
-        let end = if all { "" } else { "local_runners" };
-        match self.executor {
-            OneOf::Owned(executor) => shown(executor, end),
-            OneOf::Static(executor) => shown(executor, end),
+        match &self.executor {
+            OneOf::Owned(executor) => shown(*executor, all),
+            OneOf::Static(executor) => shown(*executor, all),
         }
+    }
+}
+
+/// Spawns jobs of these names and drops their handles.
+fn many<R: Wait + Copy + Drop + 'static>(
+    executor: &TestExecutor<R>,
+    alloc: Global,
+    from: u64,
+    end: u64,
+    drops: &'static Drops,
+) -> Many {
+    let mut jobs = (from..end).map(|name| Job {
+        name,
+        wakes: 0,
+        drops,
+    });
+    let mut handles = Vec::new(alloc);
+    let refused = executor.spawn_many(&mut jobs, &mut handles);
+    let accepted = handles.len() as u64;
+    let back = match refused {
+        Ok(()) => None,
+        Err(SpawnError::NoMemory(job) | SpawnError::Full(job)) => Some(job.into_name()),
+    };
+    let next = match jobs.next() {
+        Some(job) => Some(job.into_name()),
+        None => None,
+    };
+    Many {
+        accepted,
+        back,
+        next,
     }
 }
 
 /// Makes these calls on an executor. The handle that is left is the answer.
 fn stage<'a, R: Wait + Copy + Drop + 'static>(
-    ground: LocalGround<'a, R>,
+    ground: &LocalGround<'a, R>,
     executor: OneOf<'a, R>,
     rows: &[Row],
     report: &mut Report,
@@ -198,23 +242,20 @@ fn stage<'a, R: Wait + Copy + Drop + 'static>(
         executor,
         alloc: ground.alloc,
         waker: ground.waker,
+        drops: ground.drops,
     };
-    let mut stage: Stage<OnExecutor<'a, R>, Handle<R>, TestTick<'a, R>, TestRun<'a, R>> =
-        Stage::new(on, ground.drops);
-    try_each(&mut stage, rows, report);
-    stage.into_handle()
+    play::<OnExecutor<'a, R>, Handle<R>, TestTick<'a, R>, TestRun<'a, R>>(on, rows, report)
 }
 
 /// An executor, which is made once more where that is refused.
 fn owned<R: RandomSource + Wait + Copy + Drop + 'static>(
-    ground: LocalGround<'_, R>,
+    ground: &LocalGround<'_, R>,
     report: &mut Report,
 ) -> Option<TestExecutor<R>> {
     for _ in 0..2 {
         match LocalExecutor::new(ground.rt, ground.alloc, LIMIT) {
             Ok(executor) => return Some(executor),
-            Err(LocalError::NoMemory) => report.is_refused("new"),
-            Err(LocalError::NoRandom) => return None,
+            Err(_) => report.is_refused(Call::New),
         }
     }
     None
@@ -222,14 +263,13 @@ fn owned<R: RandomSource + Wait + Copy + Drop + 'static>(
 
 /// A static one.
 fn lasting<R: RandomSource + Wait + Copy + Drop + 'static>(
-    ground: LocalGround<'_, R>,
+    ground: &LocalGround<'_, R>,
     report: &mut Report,
 ) -> Option<TestStatic<R>> {
     for _ in 0..2 {
         match StaticLocalExecutor::new(ground.rt, ground.alloc, LIMIT) {
             Ok(executor) => return Some(executor),
-            Err(LocalError::NoMemory) => report.is_refused("new"),
-            Err(LocalError::NoRandom) => return None,
+            Err(_) => report.is_refused(Call::New),
         }
     }
     None
@@ -238,15 +278,15 @@ fn lasting<R: RandomSource + Wait + Copy + Drop + 'static>(
 /// Makes all calls on a static executor, and on one that is not: that is leaked with a future in it, which goes on; another is
 /// dropped with a future in it, whose task is closed.
 pub fn try_locals<R: RandomSource + Wait + Copy + Drop + 'static>(
-    ground: LocalGround<'_, R>,
+    ground: &LocalGround<'_, R>,
     report: &mut Report,
 ) -> bool {
-    report.come_to("StaticLocalExecutor");
+    report.come_to(Place::StaticLocalExecutor);
     let Some(executor) = lasting(ground, report) else {
         return false;
     };
     drop(stage(ground, OneOf::Static(&executor), ROWS, report));
-    report.come_to("LocalExecutor");
+    report.come_to(Place::LocalExecutor);
     let Some(executor) = owned(ground, report) else {
         return false;
     };
@@ -265,7 +305,7 @@ pub fn try_locals<R: RandomSource + Wait + Copy + Drop + 'static>(
 
 /// An executor is dropped with a future in it.
 fn ends<R: RandomSource + Wait + Copy + Drop + 'static>(
-    ground: LocalGround<'_, R>,
+    ground: &LocalGround<'_, R>,
     report: &mut Report,
 ) -> bool {
     let Some(executor) = owned(ground, report) else {

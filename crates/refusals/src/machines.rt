@@ -1,4 +1,5 @@
 //! The step machine.
+use crate::report;
 use crate::rows::{Ended, Look, Trial};
 use executor_core::{Kind, Machine};
 use executor_model::{Answer, By, Call, Hint, Step, StepError, UserEnd};
@@ -102,10 +103,10 @@ const GO: Step = Step::Go {
 impl Trial for Machines {
     type Row = MachineRow;
 
-    fn name(&self, row: MachineRow) -> &'static str {
+    fn name(&self, row: MachineRow) -> report::Call {
         match row {
-            MachineRow::New(_) => "new",
-            _ => "step",
+            MachineRow::New(_) => report::Call::New,
+            _ => report::Call::Step,
         }
     }
 

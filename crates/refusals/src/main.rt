@@ -27,7 +27,7 @@ use machines::{MACHINE_ROWS, Machines};
 use parts::{Bell, Drops};
 use program_runs::{SIM, TWO_JOBS, do_case};
 use queues::{QUEUE_ROWS, Queues};
-use report::{OWN, Refused, Report, Wrong};
+use report::{Call, Place, Refused, Report, Wrong};
 use rows::try_each;
 use solos::{SOLO_ROWS, Solos};
 use std::alloc::{AllocGlobal, Global};
@@ -40,7 +40,7 @@ use tasks::{TASK_ROWS, TaskRealm, Tasks};
 use waits::wait;
 
 /// Where tasks lie.
-#[derive(Clone, Copy)]
+#[derive(Drop)]
 struct Realms<R: Wait + Copy + Drop + 'static> {
     tasks: &'static TaskRealm,
     executors: &'static TestRealm<R>,
@@ -51,21 +51,21 @@ fn main(rt: HostRuntime) -> ExitCode {
     let alloc = rt.alloc();
     spend(alloc, spare_requests(&rt));
     let mut report = Report::new();
-    report.come_to("realm");
+    report.come_to(Place::Realm);
     // Code that makes a realm and works on it gets no proof where it is generic, so all are made here.
     let (mut tasks, mut executors, mut jobs) = (None, None, None);
     for _ in 0..2 {
         if tasks.is_none() {
             tasks = TaskRealm::leak(rt, alloc).ok();
-            note(tasks.is_none(), "of tasks", &mut report);
+            note(tasks.is_none(), Call::TaskRealm, &mut report);
         }
         if executors.is_none() {
             executors = TestRealm::<HostRuntime>::leak(rt, alloc).ok();
-            note(executors.is_none(), "of executors", &mut report);
+            note(executors.is_none(), Call::ExecutorRealm, &mut report);
         }
         if jobs.is_none() {
             jobs = JobRealm::<HostRuntime>::leak(rt, alloc).ok();
-            note(jobs.is_none(), "of jobs", &mut report);
+            note(jobs.is_none(), Call::JobRealm, &mut report);
         }
     }
     let (Some(tasks), Some(executors), Some(jobs)) = (tasks, executors, jobs) else {
@@ -76,13 +76,18 @@ fn main(rt: HostRuntime) -> ExitCode {
         executors,
         jobs,
     };
-    let is_so = try_all::<JobPlace<Open, HostRuntime>, HostRuntime>(rt, alloc, realms, &mut report);
+    let is_so = try_all::<JobPlace<Open, HostRuntime>, HostRuntime>(
+        rt,
+        alloc,
+        &realms,
+        &mut report,
+    );
     report.expect(is_so);
     tell(&rt, &report)
 }
 
 /// Notes a call that was refused, where it was.
-fn note(is_refused: bool, call: &'static str, report: &mut Report) {
+fn note(is_refused: bool, call: Call, report: &mut Report) {
     if is_refused {
         report.is_refused(call);
     }
@@ -90,7 +95,7 @@ fn note(is_refused: bool, call: &'static str, report: &mut Report) {
 
 /// Makes all calls, and says whether all was as it has to be. The last request for memory before the jobs is the program's own: so
 /// one that a call made which can't be refused would stand between those that were.
-fn try_all<P, R>(rt: R, alloc: Global, realms: Realms<R>, report: &mut Report) -> bool
+fn try_all<P, R>(rt: R, alloc: Global, realms: &Realms<R>, report: &mut Report) -> bool
 where
     P: JobSite<R, Gate = Open> + Sync + Drop,
     R: Threads + RandomSource + Sync + Wait + Copy + Drop + 'static,
@@ -116,11 +121,11 @@ fn try_parts<R: Wait + Copy + Drop>(
     drops: &'static Drops,
     report: &mut Report,
 ) {
-    report.come_to("queue");
+    report.come_to(Place::Queue);
     try_each(&mut Queues::new(rt, alloc, drops), QUEUE_ROWS, report);
-    report.come_to("Solo");
+    report.come_to(Place::Solo);
     try_each(&mut Solos::new(rt, alloc, drops), SOLO_ROWS, report);
-    report.come_to("Machine");
+    report.come_to(Place::Machine);
     try_each(&mut Machines::new(alloc), MACHINE_ROWS, report);
 }
 
@@ -135,7 +140,7 @@ fn try_tasks<R: Wait + Copy + Drop + 'static>(
         return false;
     };
     let waker = Awaiter::Outside(bell);
-    report.come_to("task");
+    report.come_to(Place::Task);
     try_each(&mut Tasks::new(rt, realm, &waker, drops), TASK_ROWS, report);
     true
 }
@@ -158,7 +163,7 @@ fn try_shared<R: Wait + Copy + Drop + 'static>(
         waker: &waker,
         drops,
     };
-    try_executors(ground, report)
+    try_executors(&ground, report)
 }
 
 fn try_local<R: RandomSource + Wait + Copy + Drop + 'static>(
@@ -177,7 +182,7 @@ fn try_local<R: RandomSource + Wait + Copy + Drop + 'static>(
         waker: &waker,
         drops,
     };
-    try_locals(ground, report)
+    try_locals(&ground, report)
 }
 
 /// Memory of the program's own, which none of the calls asks for.
@@ -185,7 +190,7 @@ fn own<T: Default + Drop>(alloc: Global, report: &mut Report) -> Option<Box<T>> 
     for _ in 0..2 {
         match Box::new(alloc, T::default()) {
             Ok(memory) => return Some(memory),
-            Err(_) => report.is_refused(OWN),
+            Err(_) => report.is_refused(Call::Own),
         }
     }
     None
@@ -203,7 +208,12 @@ fn bell(alloc: Global, report: &mut Report) -> Option<Bell> {
 fn tell<R: Print>(rt: &R, report: &Report) -> ExitCode {
     let printed = match report.refused() {
         None => println!(rt; "refused: nothing"),
-        Some(Refused { place: _, call }) if call == OWN => println!(rt; "refused: {call}"),
+        Some(
+            Refused {
+                place: _,
+                call: Call::Own,
+            },
+        ) => println!(rt; "refused: {}", Call::Own),
         Some(Refused { place, call }) => println!(rt; "refused: {place}: {call}"),
     };
     if let Some(Wrong { place, row }) = report.wrong() {

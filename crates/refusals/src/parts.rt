@@ -81,18 +81,21 @@ impl Wake for Bell {
     }
 }
 
+/// The field of an executor from which on a poll of a tick or a run may change what it shows, even if it is refused.
+const SLEEPING: &str = "local_runners";
+
 /// A number made of a text, or of what stands in it before a word.
 #[derive(Drop)]
 struct Digest {
     number: u64,
-    /// The text is left from this word on.
-    end: &'static str,
+    /// The text is left from `SLEEPING` on.
+    has_end: bool,
     has_ended: bool,
 }
 
 impl Write for Digest {
     fn write_str(&mut self, text: &str) -> fmt::Result {
-        self.has_ended = self.has_ended | (text == self.end);
+        self.has_ended = self.has_ended | (self.has_end & (text == SLEEPING));
         if !self.has_ended {
             for byte in text.as_bytes() {
                 self.number = self.number.wrapping_mul(31).wrapping_add(*byte as u64);
@@ -102,12 +105,12 @@ impl Write for Digest {
     }
 }
 
-/// A number made of what a value shows by `Debug`, up to the field of this name: two looks agree where it shows the same. It takes
-/// no memory.
-pub fn shown<D: fmt::Debug>(value: &D, end: &'static str) -> u64 {
+/// A number made of what a value shows by `Debug`, or of what stands before its runs' own queues and its sleepers: two looks agree
+/// where it shows the same. It takes no memory.
+pub fn shown<D: fmt::Debug>(value: &D, all: bool) -> u64 {
     let mut digest = Digest {
         number: 7,
-        end,
+        has_end: !all,
         has_ended: false,
     };
     let _ = write!(digest, "{value:?}");

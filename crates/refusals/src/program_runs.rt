@@ -1,6 +1,6 @@
 //! What `taskrun` does with these words on this input: `jobs 2` on two jobs, and `sim` on a short script. One request for memory
 //! may be refused meanwhile: then the fault is want of memory or of threads, its status 3, and nothing was written.
-use crate::report::Report;
+use crate::report::{Call, Place, Report};
 use commands::program::program;
 use jobs::{JobRealm, JobSite, Open};
 use std::alloc::{AllocError, Global};
@@ -11,7 +11,7 @@ use std::thread::Threads;
 #[derive(Clone, Copy)]
 pub struct Case {
     /// Its name, where it is refused.
-    pub name: &'static str,
+    pub name: Call,
     /// The arguments.
     words: &'static [&'static str],
     /// What is read.
@@ -21,7 +21,7 @@ pub struct Case {
 }
 
 pub const SIM: Case = Case {
-    name: "sim",
+    name: Call::Sim,
     words: &["sim"],
     input: "limit 1\ntick t\npolltick t\nspawn x ready=1\npolltick t\npoll x\nempty\n",
     output: "tick: ok\npolltick: pending\ncall t\nspawn: ok\npoll x\nready x\ndrop x\npolltick: ready\npoll: ready 1\nempty: true\n",
@@ -29,7 +29,7 @@ pub const SIM: Case = Case {
 
 /// Two threads do the jobs, whose schedule says which of them makes a request.
 pub const TWO_JOBS: Case = Case {
-    name: "jobs 2",
+    name: Call::TwoJobs,
     words: &["jobs", "2"],
     input: "sum 10\nmul 18446744073709551615 2\n",
     output: "0 55\n1 too large\n",
@@ -61,7 +61,7 @@ where
     P: JobSite<R, Gate = Open> + Sync + Drop,
     R: Threads + Sync + Wait + Copy + Drop + 'static,
 {
-    report.come_to("taskrun");
+    report.come_to(Place::Taskrun);
     for _ in 0..2 {
         match try_once::<P, R>(rt, alloc, realm, case) {
             Ended::Well => return true,

@@ -1,5 +1,6 @@
 //! Queues: shared ones and those of one owner.
 use crate::parts::{Drops, Job};
+use crate::report::Call;
 use crate::rows::{Ended, Look, Trial};
 use concurrent_queue::{ConcurrentQueue, Exclusive, ForcePushError, NoMemory, PushError};
 use std::alloc::Global;
@@ -187,12 +188,12 @@ impl<R: Wait + Copy + Drop> Queues<R> {
 impl<R: Wait + Copy + Drop> Trial for Queues<R> {
     type Row = QueueRow;
 
-    fn name(&self, row: QueueRow) -> &'static str {
+    fn name(&self, row: QueueRow) -> Call {
         match row {
-            QueueRow::Slot => "slot",
-            QueueRow::Ring | QueueRow::OwnRing => "ring",
-            QueueRow::ForcePush => "force_push",
-            _ => "push",
+            QueueRow::Slot => Call::Slot,
+            QueueRow::Ring | QueueRow::OwnRing => Call::Ring,
+            QueueRow::ForcePush => Call::ForcePush,
+            _ => Call::Push,
         }
     }
 

@@ -1,13 +1,117 @@
 //! What the program has to say.
+use std::fmt;
 
-/// Of none of the calls: the program's own memory.
-pub const OWN: &str = "its own";
+/// Whose calls are made.
+#[derive(Clone, Copy)]
+pub enum Place {
+    /// The program's.
+    Own,
+    Realm,
+    Queue,
+    Solo,
+    Machine,
+    Task,
+    StaticExecutor,
+    Executor,
+    StaticLocalExecutor,
+    LocalExecutor,
+    Waiting,
+    Taskrun,
+}
+
+impl fmt::Display for Place {
+    fn fmt<O: fmt::Write>(&self, f: &mut fmt::Formatter<O>) -> fmt::Result {
+        f.write_str(match self {
+            Place::Own => "its own",
+            Place::Realm => "realm",
+            Place::Queue => "queue",
+            Place::Solo => "Solo",
+            Place::Machine => "Machine",
+            Place::Task => "task",
+            Place::StaticExecutor => "StaticExecutor",
+            Place::Executor => "Executor",
+            Place::StaticLocalExecutor => "StaticLocalExecutor",
+            Place::LocalExecutor => "LocalExecutor",
+            Place::Waiting => "waiting",
+            Place::Taskrun => "taskrun",
+        })
+    }
+}
+
+/// A call.
+#[derive(Clone, Copy)]
+pub enum Call {
+    /// None of those that are tried: the program's own memory.
+    Own,
+    TaskRealm,
+    ExecutorRealm,
+    JobRealm,
+    Slot,
+    Ring,
+    Push,
+    ForcePush,
+    New,
+    Step,
+    Spawn,
+    Build,
+    SpawnMany,
+    Tick,
+    Run,
+    RunFrom,
+    PollTick,
+    PollRun,
+    PollHandle,
+    Event,
+    Listen,
+    Oneshot,
+    Channel,
+    Recv,
+    Send,
+    Sim,
+    TwoJobs,
+    Other,
+}
+
+impl fmt::Display for Call {
+    fn fmt<O: fmt::Write>(&self, f: &mut fmt::Formatter<O>) -> fmt::Result {
+        f.write_str(match self {
+            Call::Own => "its own",
+            Call::TaskRealm => "of tasks",
+            Call::ExecutorRealm => "of executors",
+            Call::JobRealm => "of jobs",
+            Call::Slot => "slot",
+            Call::Ring => "ring",
+            Call::Push => "push",
+            Call::ForcePush => "force_push",
+            Call::New => "new",
+            Call::Step => "step",
+            Call::Spawn => "spawn",
+            Call::Build => "Builder::spawn",
+            Call::SpawnMany => "spawn_many",
+            Call::Tick => "tick",
+            Call::Run => "run",
+            Call::RunFrom => "run_from",
+            Call::PollTick => "poll of a tick",
+            Call::PollRun => "poll of a run",
+            Call::PollHandle => "poll of a handle",
+            Call::Event => "event",
+            Call::Listen => "listen",
+            Call::Oneshot => "oneshot",
+            Call::Channel => "channel",
+            Call::Recv => "recv",
+            Call::Send => "send",
+            Call::Sim => "sim",
+            Call::TwoJobs => "jobs 2",
+            Call::Other => "a call that takes no memory",
+        })
+    }
+}
 
 /// Which call was refused, and whether all was as it has to be.
 #[derive(Drop)]
 pub struct Report {
     /// Whose calls are made.
-    place: &'static str,
+    place: Place,
     /// Which of its calls is made, counted from 1, where they are rows.
     row: u64,
     refused: Option<Refused>,
@@ -17,21 +121,21 @@ pub struct Report {
 /// Where something was wrong first.
 #[derive(Clone, Copy)]
 pub struct Wrong {
-    pub place: &'static str,
+    pub place: Place,
     pub row: u64,
 }
 
 /// The name of a call, and whose it is.
 #[derive(Clone, Copy)]
 pub struct Refused {
-    pub place: &'static str,
-    pub call: &'static str,
+    pub place: Place,
+    pub call: Call,
 }
 
 impl Report {
     pub fn new() -> Report {
         Report {
-            place: OWN,
+            place: Place::Own,
             row: 0,
             refused: None,
             wrong: None,
@@ -39,7 +143,7 @@ impl Report {
     }
 
     /// From now on calls of this are made.
-    pub fn come_to(&mut self, place: &'static str) {
+    pub fn come_to(&mut self, place: Place) {
         self.place = place;
         self.row = 0;
     }
@@ -59,7 +163,7 @@ impl Report {
     }
 
     /// This call was refused, which is right where no other was: one request is refused in all.
-    pub fn is_refused(&mut self, call: &'static str) {
+    pub fn is_refused(&mut self, call: Call) {
         let is_first = self.refused.is_none();
         let place = self.place;
         self.refused = Some(Refused { place, call });

@@ -1,6 +1,6 @@
 //! What one loop does with each row: it makes a call, and where that is refused it sees that all is as before, and makes it again.
 use crate::kinds::Polled;
-use crate::report::Report;
+use crate::report::{Call, Report};
 
 /// How a call ended.
 #[derive(Clone, Copy)]
@@ -35,7 +35,7 @@ pub trait Trial {
     type Row: Copy;
 
     /// Its name, where it is refused.
-    fn name(&self, row: Self::Row) -> &'static str;
+    fn name(&self, row: Self::Row) -> Call;
 
     /// What shows before and after. What a refused call of this row may change, as its documents say, is left out.
     fn look(&self, row: Self::Row) -> Look;

@@ -1,5 +1,6 @@
 //! The executor of one owner.
 use crate::parts::{Drops, Job};
+use crate::report::Call;
 use crate::rows::{Ended, Look, Trial};
 use solo::{Dropped, Kind, RunLeft, Solo, SpawnError, Spawned, Told};
 use std::alloc::Global;
@@ -132,12 +133,12 @@ fn mix(sum: u64, number: usize) -> u64 {
 impl<R: Wait + Copy + Drop> Trial for Solos<R> {
     type Row = SoloRow;
 
-    fn name(&self, row: SoloRow) -> &'static str {
+    fn name(&self, row: SoloRow) -> Call {
         match row {
-            SoloRow::New(_) => "new",
-            SoloRow::Spawn => "spawn",
-            SoloRow::Tick => "tick",
-            SoloRow::Run => "run",
+            SoloRow::New(_) => Call::New,
+            SoloRow::Spawn => Call::Spawn,
+            SoloRow::Tick => Call::Tick,
+            SoloRow::Run => Call::Run,
         }
     }
 

@@ -2,10 +2,11 @@
 use crate::executors::{of_fallible, of_task};
 use crate::kinds::Polled;
 use crate::parts::{Bell, Drops, Job};
+use crate::report::Call;
 use crate::rows::{Ended, Look, Trial, poll_ended};
 use async_task::{
-    Awaiter, Builder, Cancel, FallibleTask, Future, Parts, Realm, Runnable, Schedule, ScheduleInfo,
-    Scheduled, Task, spawn,
+    Awaiter, Builder, Cancel, FallibleTask, Future, Parts, Realm, Returning, Runnable, Schedule,
+    ScheduleInfo, Scheduled, Task, spawn,
 };
 use std::sync::Wait;
 use std::sync::atomic::Ordering::SeqCst;
@@ -19,7 +20,7 @@ where
     R: Wait + Copy + Drop,
 {
     fn schedule(&self, runnable: Scheduled<Job, u64, Close, (), Bell, R>, _info: ScheduleInfo) {
-        drop(runnable.into_runnable());
+        drop(Returning::new(runnable.store()));
     }
 }
 
@@ -194,11 +195,11 @@ impl<'a, R: Wait + Copy + Drop + 'static> Tasks<'a, R> {
 impl<R: Wait + Copy + Drop + 'static> Trial for Tasks<'_, R> {
     type Row = TaskRow;
 
-    fn name(&self, row: TaskRow) -> &'static str {
+    fn name(&self, row: TaskRow) -> Call {
         match row {
-            TaskRow::Spawn(_) => "spawn",
-            TaskRow::Build(_) => "Builder::spawn",
-            _ => "poll of a handle",
+            TaskRow::Spawn(_) => Call::Spawn,
+            TaskRow::Build(_) => Call::Build,
+            _ => Call::PollHandle,
         }
     }
 

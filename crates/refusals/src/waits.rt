@@ -1,6 +1,6 @@
 //! Each call of `waiting` that takes memory: what a refusal of it answers. The call is made once more then. Calls that take none
 //! stand between them.
-use crate::report::Report;
+use crate::report::{Call, Place, Report};
 use async_task::{Future, Nobody, Poll};
 use std::alloc::Global;
 use std::sync::Wait;
@@ -9,7 +9,7 @@ use waiting::{Event, oneshot};
 
 /// Makes each call, and says whether all was as it has to be.
 pub fn wait<R: Wait + Copy + Drop>(rt: R, alloc: Global, report: &mut Report) -> bool {
-    report.come_to("waiting");
+    report.come_to(Place::Waiting);
     listen(rt, alloc, report) & hand_over(rt, alloc, report) & exchange(rt, alloc, report)
 }
 
@@ -17,7 +17,7 @@ pub fn wait<R: Wait + Copy + Drop>(rt: R, alloc: Global, report: &mut Report) ->
 fn listen<R: Wait + Copy + Drop>(rt: R, alloc: Global, report: &mut Report) -> bool {
     let mut made = Event::<Nobody, R>::new(rt, alloc);
     if made.is_err() {
-        report.is_refused("event");
+        report.is_refused(Call::Event);
         made = Event::new(rt, alloc);
     }
     let Ok(event) = made else {
@@ -25,7 +25,7 @@ fn listen<R: Wait + Copy + Drop>(rt: R, alloc: Global, report: &mut Report) -> b
     };
     let mut listening = event.listen();
     if listening.is_err() {
-        report.is_refused("listen");
+        report.is_refused(Call::Listen);
         report.expect(!event.notify());
         listening = event.listen();
     }
@@ -41,7 +41,7 @@ fn listen<R: Wait + Copy + Drop>(rt: R, alloc: Global, report: &mut Report) -> b
 fn hand_over<R: Wait + Copy + Drop>(rt: R, alloc: Global, report: &mut Report) -> bool {
     let mut made = oneshot::channel::<u64, Nobody, R>(rt, alloc);
     if made.is_err() {
-        report.is_refused("oneshot");
+        report.is_refused(Call::Oneshot);
         made = oneshot::channel(rt, alloc);
     }
     let Ok((sender, mut receiver)) = made else {
@@ -56,7 +56,7 @@ fn hand_over<R: Wait + Copy + Drop>(rt: R, alloc: Global, report: &mut Report) -
 fn exchange<R: Wait + Copy + Drop>(rt: R, alloc: Global, report: &mut Report) -> bool {
     let mut made = channel::bounded::<u64, Nobody, R>(rt, alloc, 1);
     if made.is_err() {
-        report.is_refused("channel");
+        report.is_refused(Call::Channel);
         made = channel::bounded(rt, alloc, 1);
     }
     let Ok((mut sender, mut receiver)) = made else {
@@ -73,7 +73,7 @@ fn receive<R: Wait + Copy + Drop>(
 ) -> bool {
     let mut polled = receiver.poll_recv(&Nobody);
     if let Poll::Ready(Err(RecvError::NoMemory)) = polled {
-        report.is_refused("recv");
+        report.is_refused(Call::Recv);
         polled = receiver.poll_recv(&Nobody);
     }
     matches!(polled, Poll::Pending)
@@ -91,7 +91,7 @@ fn send<R: Wait + Copy + Drop>(
     let mut message = Some(2);
     let mut polled = sender.poll_send(&Nobody, &mut message);
     if let Poll::Ready(Err(SendError::NoMemory(()))) = polled {
-        report.is_refused("send");
+        report.is_refused(Call::Send);
         report.expect(matches!(message, Some(2)));
         polled = sender.poll_send(&Nobody, &mut message);
     }

@@ -1,10 +1,9 @@
 -- The turns of searches, and what a try of a tick takes that is made alone.
-use Rattle.std.specs.Prelude.{◌≡◌, ℕ, zero, suc, ◌+◌, ◌<◌, ◌≤◌, Bool, true, false, ◌==◌, Some, List, [], ◌∷◌, length}
+use Rattle.std.specs.Prelude.{◌≡◌, ℕ, zero, suc, ◌+◌, ◌≤◌, true, Some, List, [], ◌∷◌, length}
 use Rattle.std.specs.Prelude.{All, drop, slice_get, take}
 use Rattle.executor_parts.specs.declared.mark.Mark.{Mark}
 use Rattle.executor_parts.specs.declared.mark.Mark.TheVariants.{Plain, Urgent}
 use Rattle.executor_model.specs.declared.call.Call.TheVariants.{Spawn}
-use Rattle.executor_model.specs.declared.event.Event.{Event}
 use Rattle.executor_model.specs.declared.event.Event.TheVariants.{Accepted, Looked}
 use Rattle.executor_model.specs.declared.step.Step.{Step}
 use Rattle.executor_model.specs.Calls.{Begun, calls}
@@ -13,7 +12,7 @@ use Rattle.executor_model.specs.Keeper.{IsCommon}
 use Rattle.executor_model.specs.Steps.{Machine}
 use Rattle.executor_model.specs.Trace.{Trace, has}
 use Rattle.executor_model.specs.World.{mark_of, queue_of}
-use Rattle.executor_laws.specs.Reach.{IsLoneTick, since, takes}
+use Rattle.executor_laws.specs.Reach.{IsLoneTick, names, since, takes}
 
 -- the marks that the turns named, in order
 abbrev pub looked : Trace → List Mark
@@ -40,17 +39,6 @@ IsMarkedAsSpawned s = (p f place : ℕ) → slice_get s.world.trace place ≡ So
 -- each queue has futures of its mark alone
 abbrev pub AreQueuedByMark : Machine → Type 0
 AreQueuedByMark s = (m : Mark) → All (λ f. mark_of s.world f ≡ m) (queue_of s.world m).items
-
-abbrev pub same_mark : Mark → Mark → Bool
-same_mark Plain Plain = true
-same_mark Urgent Urgent = true
-same_mark Plain Urgent = false
-same_mark Urgent Plain = false
-
--- a turn names this mark
-abbrev pub names : Mark → Event → Bool
-names m (Looked p n) = same_mark m n
-names m _ = false
 
 -- it takes the first future of the queue of this mark, which was common
 pub record TakesFirst (m : Mark) (s new : Machine) : Type 0 where

@@ -1,7 +1,7 @@
 -- Where there is something to do, a sleeper is told of it.
-use Rattle.std.specs.Prelude.{◌⊎◌, ℕ, ◌≤◌, length}
+use Rattle.std.specs.Prelude.{◌⊎◌, ℕ, ◌≤◌, length, cond}
 use Rattle.executor_parts.specs.declared.mark.Mark.{Mark}
-use Rattle.executor_parts.specs.declared.mark.Mark.TheVariants.{Plain, Urgent}
+use Rattle.executor_parts.specs.Marks.{same_mark}
 use Rattle.executor_model.specs.declared.op.Look.{Look}
 use Rattle.executor_model.specs.declared.op.Look.TheVariants.{First, Second}
 use Rattle.executor_model.specs.declared.op.Op.{Op}
@@ -31,16 +31,10 @@ tells_steal (steal_op.OwnLength s n) = tells_then s.then
 tells_steal (steal_op.Take s more) = tells_then s.then
 tells_steal (steal_op.Put s more f) = tells_then s.then
 
-abbrev pub same_mark : Mark → Mark → ℕ
-same_mark Plain Plain = 1
-same_mark Urgent Urgent = 1
-same_mark Plain Urgent = 0
-same_mark Urgent Plain = 0
-
 -- a first look that finds nothing is followed by one at the other queue
 abbrev pub tells_look : Mark → Look → ℕ
 tells_look m (First n) = 1
-tells_look m (Second n) = same_mark m n
+tells_look m (Second n) = cond (same_mark m n) 1 0
 
 -- a party has still to exchange the flag, to hand out, or to look at the queue of this mark in its search
 abbrev pub tells_of : Mark → Op → ℕ

@@ -7,14 +7,14 @@ ghost use Rattle.executor_parts.specs.Places.{unwoken};
 
 use crate::body::Body;
 use crate::call::Call;
-use crate::due::pay;
+use crate::due::close_and_pay;
 use crate::entry::{Executor, Unlocked};
 use crate::foreign::Foreign;
 use crate::leaving::Leaving;
 use crate::locks::Guarded;
 use crate::names::{ExRealm, ExWaker, TableWaker};
 use crate::sections;
-use crate::state::{State, close};
+use crate::state::State;
 use async_task::{Future, NoMemory, Returning, StoredWaker, Wake};
 use executor_parts::Places;
 use std::alloc::Global;
@@ -168,12 +168,13 @@ where
 {
     let mut call = call;
     for _ in rt.forever() {
-        let Some(stored) = state.take(&rt, &mut call) else {
+        let Some(stored) = state.look(&rt, &mut call) else {
             call.end();
             return;
         };
-        let due = close(rt, realm, &mut call, stored, unlocked);
-        pay(rt, due, unlocked);
+        let mut steps = call.close(&stored);
+        close_and_pay(rt, realm, &mut steps, stored, unlocked);
+        steps.close();
     }
     unreachable!()
 }

@@ -27,6 +27,7 @@ mod sleeping;
 mod spawning;
 mod state;
 mod steal;
+mod steps;
 mod task_run;
 mod tick;
 mod ticker;

@@ -1,6 +1,9 @@
 //! How a task of the executor is run: its future is polled, or dropped where the task is closed. Each look at the table is
 //! one section of its lock, and no lock is held while code of a user runs.
-ghost use Rattle.std.specs.Prelude.{◌≡◌};
+ghost use Rattle.std.specs.Prelude.{◌≡◌, Some};
+ghost use Rattle.task_moves.specs.declared.moves.owed.Move.TheVariants as move;
+ghost use Rattle.call_steps.specs.Todo.{below, top};
+ghost use Rattle.call_steps.specs.declared.step.CallStep.TheVariants as step;
 ghost use Rattle.async_executor.specs.Stages.{in_hand};
 
 use crate::body::Body;
@@ -11,6 +14,7 @@ use crate::names::ExWaker;
 use crate::sections;
 use crate::sections::Taken;
 use crate::state::redeem;
+use crate::steps::Steps;
 use crate::task_run::{Begun, Dropping, Polling, Settled, begin};
 use async_task::{Back, Future, Poll, StoredRunnable, Wake};
 use executor_parts::EntryPlace;
@@ -23,9 +27,9 @@ where
     W: Wake + Drop + 'static,
     R: Wait + Copy + Drop + 'static,
 {
-    /// Runs the task in hand, and ends the call.
+    /// Runs the task in hand of a tick or run, and ends the call.
     #[inline(always)]
-    pub(crate) fn poll_or_drop(
+    pub(crate) fn run_found(
         &self,
         stored: StoredRunnable,
         call: Call,
@@ -34,16 +38,31 @@ where
         requires { call ≡ in_hand }
         ensures { result ≡ Ending.Ran }
     {
-        let mut call = call;
-        let Some(scheduled) = redeem(self.rt, self.realm, &mut call, stored) else {
-            return call.end_missed();
+        let (last, mut steps) = call.start(&stored);
+        self.poll_or_drop(stored, &mut steps, unlocked);
+        steps.close();
+        last
+    }
+
+    /// Runs a task that was found. What its run leads to is done in that.
+    #[inline(always)]
+    pub(crate) fn poll_or_drop(
+        &self,
+        stored: StoredRunnable,
+        steps: &mut Steps,
+        unlocked: &mut Unlocked,
+    )
+        requires { top steps.old ≡ Some (step.Move move.TakeUp stored.identity) }
+        ensures { steps.new ≡ below steps.old }
+    {
+        steps.see_moved(false);
+        let Some(scheduled) = redeem(self.rt, self.realm, stored) else {
+            return;
         };
-        let last = call.start();
         match begin(scheduled) {
             Begun::Poll(place, polling) => self.poll(place, polling, unlocked),
             Begun::Drop(place, dropping) => self.drop_future(place, dropping, unlocked),
         }
-        last
     }
 
     #[inline(always)]
@@ -58,10 +77,7 @@ where
         };
         match polling.settle(back, unlocked) {
             Settled::Over => {}
-            Settled::Woken(runnable) => {
-                self.state
-                    .push_and_pay(self.rt, Call::given(), runnable, unlocked);
-            }
+            Settled::Woken(runnable) => self.state.push_apart(self.rt, runnable, unlocked),
             Settled::Drop(place, dropping) => self.drop_future(place, dropping, unlocked),
         }
     }

@@ -167,8 +167,7 @@ impl Runner {
                 call.end();
                 return;
             };
-            let due = state.push_stored(rt, realm, call, stored, unlocked);
-            pay(rt, due, unlocked);
+            state.push_stored(rt, realm, call, stored, unlocked);
         }
         unreachable!()
     }
@@ -227,7 +226,7 @@ impl Runner {
         if let Some(runnable) = take(&self.own, &rt, call) {
             return Some(runnable);
         }
-        if let Some(runnable) = state.take(&rt, call) {
+        if let Some(runnable) = state.look(&rt, call) {
             let refused = steal(&rt, &state.queue, &self.own);
             drop_refused(rt, realm, refused, unlocked);
             return Some(runnable);

@@ -1,15 +1,19 @@
-ghost use Rattle.std.specs.Prelude.{◌≡◌, IfOk, IfErr, IfSome, is_ok};
+ghost use Rattle.std.specs.Prelude.{◌≡◌, ◌∷◌, [], IfOk, IfErr, IfSome};
+ghost use Rattle.call_steps.specs.Todo.{following};
+ghost use Rattle.call_steps.specs.declared.step.CallStep.TheVariants as step;
+ghost use Rattle.call_steps.specs.declared.step.table.TableStep.TheVariants as table_step;
 ghost use Rattle.async_executor.specs.Accepting.{Accepts, IsRefusedAt, refused_as, WakerFits};
 ghost use Rattle.async_executor.specs.Errors.{refused};
-ghost use Rattle.async_executor.specs.Stages.{begun, idle};
+ghost use Rattle.async_executor.specs.Steps.{accepted_as};
 ghost use Rattle.async_task.specs.Handles.{task_of};
 
-use crate::call::Call;
 use crate::closing::HasClosed;
 use crate::errors::SpawnError;
 use crate::names::{ExRealm, ExRunnable, ExTask, TableWaker};
 use crate::queue::ExQueue;
-use async_task::{Returning, Wake, spawn};
+use crate::steps::Steps;
+use async_task::{Returning, StoredRunnable, Wake, spawn};
+use call_steps::Saw;
 use executor_parts::{EntryPlace, Places, SpawnRefused};
 use std::sync::Wait;
 
@@ -23,19 +27,19 @@ pub fn accept<F, T, W, R>(
     table: &mut Places<F, TableWaker>,
     rt: R,
     realm: &'static ExRealm<T, W, R>,
-    call: &mut Call,
+    steps: &mut Steps,
     schedule: ExQueue<T, W, R>,
     is_static: bool,
     future: F,
     closed: HasClosed,
-) -> Result<(ExRunnable<T, W, R>, ExTask<T, W, R>), SpawnError<F>>
+) -> Result<(StoredRunnable, ExTask<T, W, R>), SpawnError<F>>
 where
     F: Drop,
     T: Drop + 'static,
     W: Wake + Drop + 'static,
     R: Wait + Copy + Drop + 'static,
-    requires { call.old ≡ begun }
-    ensures call { call.new ≡ record idle { holds = is_ok result } }
+    requires { steps.old ≡ step.Table table_step.Enter ∷ [] }
+    ensures steps { steps.new ≡ following (accepted_as result) steps.old }
     ensures here { IfOk result (λ both. both.1.identity.realm ≡ realm.now.number) }
     ensures accepted { IfOk result (λ both. Accepts is_static table.old table.new future (task_of both.1)) }
     ensures one_task { IfOk result (λ both. both.0 ≡ task_of both.1) }
@@ -47,19 +51,24 @@ where
     let vacancy = match table.vacancy() {
         Ok(vacancy) => vacancy,
         Err(refused) => {
-            call.accept(false);
-            return Err(because(refused, future));
+            let refused = because(refused, future);
+            match &refused {
+                SpawnError::Full(_) => steps.follow(Saw::Full),
+                SpawnError::NoMemory(_) => steps.follow(Saw::NoMemory),
+            }
+            return Err(refused);
         }
     };
     match made(rt, realm, schedule, is_static, vacancy.place()) {
         Some((runnable, task, waker)) => {
             table.enter(vacancy, future, waker);
-            call.accept(true);
-            Ok((runnable, task))
+            let stored = runnable.into_scheduled().store();
+            steps.follow(Saw::Entered(stored.identity()));
+            Ok((stored, task))
         }
         None => {
             vacancy.give_back();
-            call.accept(false);
+            steps.follow(Saw::NoMemory);
             Err(SpawnError::NoMemory(future))
         }
     }

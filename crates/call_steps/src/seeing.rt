@@ -1,0 +1,82 @@
+//! What running calls see most often.
+ghost use Rattle.std.specs.Prelude.{◌≡◌, Some};
+ghost use Rattle.task_moves.specs.declared.moves.owed.Move.TheVariants as move;
+ghost use Rattle.call_steps.specs.declared.step.CallStep.TheVariants as step;
+ghost use Rattle.call_steps.specs.Seeing.{due, first, moved, seen};
+ghost use Rattle.call_steps.specs.Todo.{below, following, top};
+
+use crate::call::Call;
+use crate::names::Waker;
+use crate::saw::Saw;
+use task_moves::ScheduleInfo;
+use task_moves::moves::{AwaiterDebt, Owed};
+
+/// Nothing is owed.
+const NOTHING: Owed = Owed {
+    schedule: None,
+    future: None,
+    drop_output: false,
+    awaiter: None,
+    next: None,
+    answer: None,
+    empty_cell: false,
+};
+
+impl<F: Copy, T: Copy> Call<F, T> {
+    /// It was there, or was made; or not.
+    #[inline(always)]
+    pub fn see(&mut self, there: bool)
+        ensures { self.new ≡ following (seen there) self.old }
+    {
+        if there {
+            self.follow(Saw::Something);
+        } else {
+            self.follow(Saw::Nothing);
+        }
+    }
+
+    /// The first Runnable of a queue was this future's, or there was none.
+    #[inline(always)]
+    pub fn see_first(&mut self, found: Option<F>)
+        ensures { self.new ≡ following (first found) self.old }
+    {
+        match found {
+            Some(future) => self.follow(Saw::Found(future)),
+            None => self.follow(Saw::Nothing),
+        }
+    }
+
+    /// A task has moved, and all that it owed was paid in that, but for its Runnable, where that is due.
+    #[inline(always)]
+    pub fn see_moved(&mut self, is_due: bool)
+        ensures { self.new ≡ following (moved is_due) self.old }
+    {
+        let schedule = if is_due {
+            Some(ScheduleInfo {
+                woken_while_running: false,
+            })
+        } else {
+            None
+        };
+        self.follow(Saw::Moved(false, Owed { schedule, ..NOTHING }));
+    }
+
+    /// A Runnable of the first future was closed. The second awaited that one, and was woken: its Runnable is due.
+    pub fn see_awaiter_woken(&mut self, closed: F, awaiter: F)
+        requires { top self.old ≡ Some (step.Move move.DropRunnable closed) }
+        ensures { self.new ≡ due (Some awaiter) (below self.old) }
+    {
+        let _ = closed;
+        let awaiter_debt = Some(AwaiterDebt::NotifyAwaiter);
+        self.follow(Saw::Moved(
+            false,
+            Owed {
+                awaiter: awaiter_debt,
+                ..NOTHING
+            },
+        ));
+        self.follow(Saw::Awaiter(false, None));
+        self.follow(Saw::Awaiter(false, Some(Waker::Task(awaiter))));
+        self.see_moved(true);
+    }
+}

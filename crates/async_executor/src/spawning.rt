@@ -2,7 +2,7 @@ ghost use Rattle.std.specs.Prelude.{◌≡◌, ◌∷◌, [], IfOk, IfErr, IfSom
 ghost use Rattle.call_steps.specs.Todo.{following};
 ghost use Rattle.call_steps.specs.declared.step.CallStep.TheVariants as step;
 ghost use Rattle.call_steps.specs.declared.step.table.TableStep.TheVariants as table_step;
-ghost use Rattle.async_executor.specs.Accepting.{Accepts, IsRefusedAt, refused_as, WakerFits};
+ghost use Rattle.async_executor.specs.Accepting.{Accepts, IsRefusedAt, WakerFits};
 ghost use Rattle.async_executor.specs.Errors.{refused};
 ghost use Rattle.async_executor.specs.Steps.{accepted_as};
 ghost use Rattle.async_task.specs.Handles.{task_of};
@@ -50,13 +50,13 @@ where
     closed.spend();
     let vacancy = match table.vacancy() {
         Ok(vacancy) => vacancy,
-        Err(refused) => {
-            let refused = because(refused, future);
-            match &refused {
-                SpawnError::Full(_) => steps.follow(Saw::Full),
-                SpawnError::NoMemory(_) => steps.follow(Saw::NoMemory),
-            }
-            return Err(refused);
+        Err(SpawnRefused::Full) => {
+            steps.follow(Saw::Full);
+            return Err(SpawnError::Full(future));
+        }
+        Err(SpawnRefused::NoMemory) => {
+            steps.follow(Saw::NoMemory);
+            return Err(SpawnError::NoMemory(future));
         }
     };
     match made(rt, realm, schedule, is_static, vacancy.place()) {
@@ -71,16 +71,6 @@ where
             steps.follow(Saw::NoMemory);
             Err(SpawnError::NoMemory(future))
         }
-    }
-}
-
-/// Why the table refused a future, which goes back.
-fn because<F>(refused: SpawnRefused, future: F) -> SpawnError<F>
-    ensures { result ≡ refused_as refused future }
-{
-    match refused {
-        SpawnRefused::Full => SpawnError::Full(future),
-        SpawnRefused::NoMemory => SpawnError::NoMemory(future),
     }
 }
 

@@ -1,5 +1,6 @@
 -- What a running call sees, and how that leaves what it has still to do.
 use Rattle.std.specs.Prelude.{◌≡◌, Bool, true, false, Option, Some, None, List, ◌∷◌}
+use Rattle.task_moves.specs.declared.moves.owed.FutureDebt.{FutureDebt}
 use Rattle.task_moves.specs.declared.moves.owed.Owed.{Owed}
 use Rattle.task_moves.specs.declared.schedule_info.ScheduleInfo.{ScheduleInfo}
 use Rattle.call_steps.specs.declared.names.Sleeping.{Sleeping}
@@ -28,6 +29,18 @@ owes is_due = record {
   empty_cell = false;
 }
 
+-- this is owed to the future
+abbrev pub owes_future : FutureDebt → Owed
+owes_future debt = record {
+  schedule = None;
+  future = Some debt;
+  drop_output = false;
+  awaiter = None;
+  next = None;
+  answer = None;
+  empty_cell = false;
+}
+
 module _ {F T : Type 0} where
   -- it was there, or not
   abbrev pub seen : Bool → Saw F T
@@ -42,6 +55,10 @@ module _ {F T : Type 0} where
   -- a task has moved, and all was paid but a Runnable, where that is due
   abbrev pub moved : Bool → Saw F T
   moved is_due = saw.Moved false (owes is_due)
+
+  -- a task has moved, and this is owed to its future
+  abbrev pub futured : FutureDebt → Saw F T
+  futured debt = saw.Moved true (owes_future debt)
 
   -- the waker that was handed out is called first
   abbrev pub called : Option (Sleeping F T) → List (CallStep F T) → List (CallStep F T)

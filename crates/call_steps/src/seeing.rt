@@ -2,14 +2,14 @@
 ghost use Rattle.std.specs.Prelude.{◌≡◌, Some};
 ghost use Rattle.task_moves.specs.declared.moves.owed.Move.TheVariants as move;
 ghost use Rattle.call_steps.specs.declared.step.CallStep.TheVariants as step;
-ghost use Rattle.call_steps.specs.Seeing.{due, first, moved, seen};
+ghost use Rattle.call_steps.specs.Seeing.{due, futured, moved, seen};
 ghost use Rattle.call_steps.specs.Todo.{below, following, top};
 
 use crate::call::Call;
 use crate::names::Waker;
 use crate::saw::Saw;
 use task_moves::ScheduleInfo;
-use task_moves::moves::{AwaiterDebt, Owed};
+use task_moves::moves::{AwaiterDebt, FutureDebt, Owed};
 
 /// Nothing is owed.
 const NOTHING: Owed = Owed {
@@ -35,17 +35,6 @@ impl<F: Copy, T: Copy> Call<F, T> {
         }
     }
 
-    /// The first Runnable of a queue was this future's, or there was none.
-    #[inline(always)]
-    pub fn see_first(&mut self, found: Option<F>)
-        ensures { self.new ≡ following (first found) self.old }
-    {
-        match found {
-            Some(future) => self.follow(Saw::Found(future)),
-            None => self.follow(Saw::Nothing),
-        }
-    }
-
     /// A task has moved, and all that it owed was paid in that, but for its Runnable, where that is due.
     #[inline(always)]
     pub fn see_moved(&mut self, is_due: bool)
@@ -58,7 +47,22 @@ impl<F: Copy, T: Copy> Call<F, T> {
         } else {
             None
         };
-        self.follow(Saw::Moved(false, Owed { schedule, ..NOTHING }));
+        self.follow(Saw::Moved(
+            false,
+            Owed {
+                schedule,
+                ..NOTHING
+            },
+        ));
+    }
+
+    /// A task has moved: this is owed to its future, and all else was paid in that.
+    #[inline(always)]
+    pub fn see_future(&mut self, debt: FutureDebt)
+        ensures { self.new ≡ following (futured debt) self.old }
+    {
+        let future = Some(debt);
+        self.follow(Saw::Moved(true, Owed { future, ..NOTHING }));
     }
 
     /// A Runnable of the first future was closed. The second awaited that one, and was woken: its Runnable is due.

@@ -7,6 +7,7 @@ use Rattle.async_executor.specs.declared.task_run.Settled.{Settled}
 use Rattle.async_executor.specs.declared.task_run.Settled.TheVariants as settled
 use Rattle.async_task.specs.declared.cell.Identity.{Identity}
 use Rattle.async_task.specs.declared.poll.Poll.{Poll}
+use Rattle.async_task.specs.declared.wake.Wake.{Ghosts}
 use Rattle.async_task.specs.declared.poll.Poll.TheVariants.{Ready, Pending}
 use Rattle.call_steps.specs.declared.saw.Saw.{Saw}
 use Rattle.call_steps.specs.declared.saw.Saw.TheVariants as saw
@@ -26,7 +27,7 @@ abbrev pub Todo : Type 0
 Todo = List (CallStep Identity (Unit {0}))
 
 -- what a run begins with: its future is taken out, to be polled or dropped
-abbrev pub begun_as : {T W R : Type 0} → Begun T W R → Identity → Todo → Todo
+abbrev pub begun_as : {T W R : Type 0} {wakes : Ghosts W} → Begun T W R wakes → Identity → Todo → Todo
 begun_as (begun.Poll place polling) f rest = step.Table (table_step.TakeToPoll f) ∷ rest
 begun_as (begun.Drop place dropping) f rest = step.Table (table_step.TakeToDrop f) ∷ rest
 

@@ -1,5 +1,5 @@
 -- How a call on the executor goes, step by step: futures have the names of their tasks.
-use Rattle.std.specs.Prelude.{Option, Some, None, List, ◌∷◌, [], Result, Ok, Err}
+use Rattle.std.specs.Prelude.{Option, Some, None, Result, Ok, Err}
 use Rattle.async_task.specs.Handles.{Handle}
 use Rattle.async_task.specs.declared.cell.Identity.{Identity}
 use Rattle.async_task.specs.declared.cell.scheduled.Due.{Due}

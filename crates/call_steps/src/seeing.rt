@@ -1,5 +1,5 @@
 //! What running calls see most often.
-ghost use Rattle.std.specs.Prelude.{◌≡◌, Some};
+ghost use Rattle.std.specs.Prelude.{◌≡◌, Some, None, false};
 ghost use Rattle.task_moves.specs.declared.moves.owed.Move.TheVariants as move;
 ghost use Rattle.call_steps.specs.declared.step.CallStep.TheVariants as step;
 ghost use Rattle.call_steps.specs.Seeing.{due, futured, moved, seen};
@@ -10,17 +10,6 @@ use crate::names::Waker;
 use crate::saw::Saw;
 use task_moves::ScheduleInfo;
 use task_moves::moves::{AwaiterDebt, FutureDebt, Owed};
-
-/// Nothing is owed.
-const NOTHING: Owed = Owed {
-    schedule: None,
-    future: None,
-    drop_output: false,
-    awaiter: None,
-    next: None,
-    answer: None,
-    empty_cell: false,
-};
 
 impl<F: Copy, T: Copy> Call<F, T> {
     /// It was there, or was made; or not.
@@ -40,20 +29,14 @@ impl<F: Copy, T: Copy> Call<F, T> {
     pub fn see_moved(&mut self, is_due: bool)
         ensures { self.new ≡ following (moved is_due) self.old }
     {
-        let schedule = if is_due {
-            Some(ScheduleInfo {
+        if is_due {
+            let info = ScheduleInfo {
                 woken_while_running: false,
-            })
+            };
+            self.follow(Saw::Moved(false, owing(Some(info), None, None)));
         } else {
-            None
-        };
-        self.follow(Saw::Moved(
-            false,
-            Owed {
-                schedule,
-                ..NOTHING
-            },
-        ));
+            self.follow(Saw::Moved(false, owing(None, None, None)));
+        }
     }
 
     /// A task has moved: this is owed to its future, and all else was paid in that.
@@ -61,8 +44,7 @@ impl<F: Copy, T: Copy> Call<F, T> {
     pub fn see_future(&mut self, debt: FutureDebt)
         ensures { self.new ≡ following (futured debt) self.old }
     {
-        let future = Some(debt);
-        self.follow(Saw::Moved(true, Owed { future, ..NOTHING }));
+        self.follow(Saw::Moved(true, owing(None, Some(debt), None)));
     }
 
     /// A Runnable of the first future was closed. The second awaited that one, and was woken: its Runnable is due.
@@ -71,16 +53,38 @@ impl<F: Copy, T: Copy> Call<F, T> {
         ensures { self.new ≡ due (Some awaiter) (below self.old) }
     {
         let _ = closed;
-        let awaiter_debt = Some(AwaiterDebt::NotifyAwaiter);
-        self.follow(Saw::Moved(
-            false,
-            Owed {
-                awaiter: awaiter_debt,
-                ..NOTHING
-            },
-        ));
+        let told = Some(AwaiterDebt::NotifyAwaiter);
+        self.follow(Saw::Moved(false, owing(None, None, told)));
         self.follow(Saw::Awaiter(false, None));
         self.follow(Saw::Awaiter(false, Some(Waker::Task(awaiter))));
         self.see_moved(true);
+    }
+}
+
+/// What a task owes that has moved.
+#[inline(always)]
+fn owing(
+    schedule: Option<ScheduleInfo>,
+    future: Option<FutureDebt>,
+    awaiter: Option<AwaiterDebt>,
+) -> Owed
+    ensures { result ≡ record {
+      schedule = schedule;
+      future = future;
+      drop_output = false;
+      awaiter = awaiter;
+      next = None;
+      answer = None;
+      empty_cell = false;
+    } }
+{
+    Owed {
+        schedule,
+        future,
+        drop_output: false,
+        awaiter,
+        next: None,
+        answer: None,
+        empty_cell: false,
     }
 }

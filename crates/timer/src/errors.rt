@@ -56,6 +56,17 @@ impl From<SleepError> for io::Error {
     }
 }
 
+/// So that `?` takes it to an `io::Result`.
+impl From<Elapsed> for io::Error {
+    ghost use Rattle.std.specs.declared.io.ErrorKind.TheVariants.{TimedOut};
+
+    ghost from_gives = { λ _ error. error_kind error ≡ TimedOut };
+
+    fn from(_elapsed: Elapsed) -> io::Error {
+        ErrorKind::TimedOut.into()
+    }
+}
+
 impl From<Refused> for SleepError {
     ghost use Rattle.timer.specs.Errors.{of_refused};
 

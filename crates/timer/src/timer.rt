@@ -1,3 +1,6 @@
+ghost use Rattle.std.specs.Arc.{arc_value};
+ghost use Rattle.std.specs.Prelude.{◌≡◌, IfOk, IsSome};
+
 use crate::deadlines::{Deadlines, Next};
 use crate::errors::{SleepError, TimerError};
 use crate::nap::Sleep;
@@ -41,7 +44,10 @@ where
     }
 
     /// A future that is ready once so much time has passed from now on. It takes no memory.
-    pub fn sleep(&self, duration: Duration) -> Result<Sleep<K, R>, SleepError> {
+    pub fn sleep(&self, duration: Duration) -> Result<Sleep<K, R>, SleepError>
+        ensures here { IfOk result (λ sleep. arc_value sleep.shared ≡ arc_value self.now.shared) }
+        ensures waits { IfOk result (λ sleep. IsSome sleep.bed) }
+    {
         let Ok(shared) = Arc::try_clone(&self.shared) else {
             return Err(SleepError::Full);
         };

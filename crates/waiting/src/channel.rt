@@ -1,7 +1,9 @@
 //! Bounded channels, for any number of senders and receivers. After `async-channel`.
-ghost use Rattle.std.specs.Prelude.{◌<◌};
+ghost use Rattle.std.specs.Arc.{arc_value};
+ghost use Rattle.std.specs.Prelude.{◌≡◌, ◌<◌, IfOk};
 
 mod errors;
+mod line;
 mod receiver;
 mod sender;
 mod shared;
@@ -39,6 +41,7 @@ where
     K: Wake + Drop,
     R: Wait + Copy + Drop,
     requires { 0 < places }
+    ensures { IfOk result (λ ends. arc_value ends.0.shared ≡ arc_value ends.1.shared) }
 {
     let shared = match Shared::new(rt, alloc, places) {
         Ok(shared) => shared,

@@ -1,3 +1,6 @@
+ghost use Rattle.std.specs.Arc.{arc_value};
+ghost use Rattle.std.specs.Prelude.{◌≡◌, IfOk};
+
 use crate::listener::Listener;
 use crate::waiters::{Call, Waiters};
 use async_task::{NoMemory, Wake};
@@ -42,7 +45,9 @@ where
     }
 
     /// The same event, for another who tells or waits; refused where it has too many already. Takes no memory.
-    pub fn clone(&self) -> Result<Self, NoMemory> {
+    pub fn clone(&self) -> Result<Self, NoMemory>
+        ensures same { IfOk result (λ event. arc_value event.waiters ≡ arc_value self.now.waiters) }
+    {
         match Arc::try_clone(&self.waiters) {
             Ok(waiters) => Ok(Event {
                 waiters,
@@ -53,7 +58,9 @@ where
     }
 
     /// Listens from now on: a future that is ready once it was told. It takes memory for its place in the list.
-    pub fn listen(&self) -> Result<Listener<K, R>, NoMemory> {
+    pub fn listen(&self) -> Result<Listener<K, R>, NoMemory>
+        ensures here { IfOk result (λ listener. arc_value listener.event.waiters ≡ arc_value self.now.waiters) }
+    {
         let event = match self.clone() {
             Ok(event) => event,
             Err(error) => return Err(error),

@@ -1,6 +1,5 @@
 //! The first of two futures.
-ghost use Rattle.std.specs.Prelude.{◌≡◌, None};
-ghost use Rattle.async_task.specs.declared.poll.Poll.TheVariants as poll;
+ghost use Rattle.waiting.specs.First.{HasSelected};
 
 use async_task::{Future, Poll};
 
@@ -26,7 +25,7 @@ where
     type Output = Either<(A::Output, B), (B::Output, A)>;
 
     fn poll(&mut self, waker: &K) -> Poll<Either<(A::Output, B), (B::Output, A)>>
-        ensures spent { self.old.both ≡ None → result ≡ poll.Pending }
+        ensures { HasSelected self.old.both self.new.both result }
     {
         let Some((mut first, mut second)) = self.both.take() else {
             return Poll::Pending;

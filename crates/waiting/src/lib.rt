@@ -6,6 +6,7 @@ mod both;
 pub mod channel;
 mod event;
 mod first;
+mod kinds;
 mod listener;
 mod making;
 mod now;

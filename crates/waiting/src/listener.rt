@@ -1,3 +1,6 @@
+ghost use Rattle.async_task.specs.declared.poll.Poll.TheVariants as poll;
+ghost use Rattle.std.specs.Prelude.{◌≡◌, None, Some, IsSome};
+
 use crate::event::Event;
 use crate::waiters::{Left, Listening, Looked};
 use async_task::{Future, Poll, Wake};
@@ -23,7 +26,10 @@ where
     K: Wake + Drop,
     R: Wait + Copy + Drop,
 {
-    pub(crate) fn new(rt: R, event: Event<K, R>, listening: Listening) -> Self {
+    pub(crate) fn new(rt: R, event: Event<K, R>, listening: Listening) -> Self
+        ensures event { result.event ≡ event }
+        ensures listens { result.listening ≡ Some listening }
+    {
         Listener {
             event,
             rt,
@@ -55,7 +61,11 @@ where
     /// 1. Takes a copy of the waker.
     /// 2. Looks whether it was told, and else leaves the copy, under the lock.
     /// 3. Drops the waker that it had left before, with no lock held.
-    fn poll(&mut self, waker: &K) -> Poll<()> {
+    fn poll(&mut self, waker: &K) -> Poll<()>
+        ensures again { self.old.listening ≡ None → result ≡ poll.Ready tt }
+        ensures told { result ≡ poll.Ready tt → self.new.listening ≡ None }
+        ensures waits { result ≡ poll.Pending → IsSome self.new.listening }
+    {
         let Some(listening) = self.listening.take() else {
             return Poll::Ready(());
         };

@@ -1,5 +1,6 @@
 //! The futures by the names of their functions.
 ghost use Rattle.std.specs.Prelude.{◌≡◌, false, Some};
+ghost use Rattle.waiting.specs.declared.both.Awaited.TheVariants as awaited;
 
 use crate::both::{Awaited, Join};
 use crate::first::Select;
@@ -34,7 +35,10 @@ pub fn yield_now() -> YieldNow
 /// assert!(rt; matches!(both.poll(&Nobody), Poll::Pending));
 /// assert!(rt; matches!(both.poll(&Nobody), Poll::Ready((1, ()))));
 /// ```
-pub fn join<A, X, B, Y>(first: A, second: B) -> Join<A, X, B, Y> {
+pub fn join<A, X, B, Y>(first: A, second: B) -> Join<A, X, B, Y>
+    ensures first { result.first ≡ awaited.Waiting first }
+    ensures second { result.second ≡ awaited.Waiting second }
+{
     Join {
         first: Awaited::Waiting(first),
         second: Awaited::Waiting(second),

@@ -1,5 +1,6 @@
 //! One value, from one sender to one receiver. After `oneshot` of `futures`.
-ghost use Rattle.std.specs.Prelude.{◌≡◌, IfErr};
+ghost use Rattle.std.specs.Arc.{arc_value};
+ghost use Rattle.std.specs.Prelude.{◌≡◌, IfErr, IfOk};
 
 use crate::slot::{Received, Slot};
 use async_task::{Future, NoMemory, Poll, Wake};
@@ -50,6 +51,7 @@ where
     T: Drop,
     K: Wake + Drop,
     R: Wait + Copy + Drop,
+    ensures { IfOk result (λ ends. arc_value ends.0.slot ≡ arc_value ends.1.slot) }
 {
     let Ok(slot) = Arc::new(alloc, Mutex::new(Slot::Empty)) else {
         return Err(NoMemory);

@@ -1,3 +1,6 @@
+ghost use Rattle.std.specs.Arc.{arc_value};
+ghost use Rattle.std.specs.Prelude.{◌≡◌, None, IfOk};
+
 use crate::channel::errors::{RecvError, TryRecvError};
 use crate::channel::shared::{Shared, Turn, go_on};
 use crate::listener::Listener;
@@ -33,7 +36,10 @@ where
     K: Wake + Drop,
     R: Wait + Copy + Drop,
 {
-    pub(crate) fn new(shared: Arc<Shared<T, K, R>>) -> Self {
+    pub(crate) fn new(shared: Arc<Shared<T, K, R>>) -> Self
+        ensures shared { result.shared ≡ shared }
+        ensures waits_not { result.waiting ≡ None }
+    {
         Receiver {
             shared,
             waiting: None,
@@ -41,7 +47,9 @@ where
     }
 
     /// One more receiver; refused where there are too many. It takes no memory.
-    pub fn clone(&self) -> Result<Self, NoMemory> {
+    pub fn clone(&self) -> Result<Self, NoMemory>
+        ensures same { IfOk result (λ receiver. arc_value receiver.shared ≡ arc_value self.now.shared) }
+    {
         match Arc::try_clone(&self.shared) {
             Ok(shared) => {
                 shared.receivers.fetch_add(1, SeqCst);

@@ -1,4 +1,5 @@
-ghost use Rattle.std.specs.Prelude.{◌≡◌, Some, IfErr};
+ghost use Rattle.std.specs.Arc.{arc_value};
+ghost use Rattle.std.specs.Prelude.{◌≡◌, None, Some, IfErr, IfOk};
 ghost use Rattle.waiting.specs.Sending.{try_sent, HasTried, IsBack, IsSentOrBack};
 
 use crate::channel::errors::{SendError, TrySendError};
@@ -48,7 +49,10 @@ where
     K: Wake + Drop,
     R: Wait + Copy + Drop,
 {
-    pub(crate) fn new(shared: Arc<Shared<T, K, R>>) -> Self {
+    pub(crate) fn new(shared: Arc<Shared<T, K, R>>) -> Self
+        ensures shared { result.shared ≡ shared }
+        ensures waits_not { result.waiting ≡ None }
+    {
         Sender {
             shared,
             waiting: None,
@@ -56,7 +60,9 @@ where
     }
 
     /// One more sender; refused where there are too many. It takes no memory.
-    pub fn clone(&self) -> Result<Self, NoMemory> {
+    pub fn clone(&self) -> Result<Self, NoMemory>
+        ensures same { IfOk result (λ sender. arc_value sender.shared ≡ arc_value self.now.shared) }
+    {
         match Arc::try_clone(&self.shared) {
             Ok(shared) => {
                 shared.senders.fetch_add(1, SeqCst);

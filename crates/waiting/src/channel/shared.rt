@@ -2,10 +2,10 @@ ghost use Rattle.std.specs.Prelude.{◌≡◌, ◌<◌, IfErr};
 ghost use Rattle.waiting.specs.Sending.{try_sent};
 
 use crate::channel::errors::{TryRecvError, TrySendError};
+use crate::channel::line::Line;
 use crate::event::Event;
 use crate::listener::Listener;
 use async_task::{Future, NoMemory, Poll, Wake};
-use concurrent_queue::{ConcurrentQueue, PopError, PushError};
 use std::alloc::Global;
 use std::sync::Wait;
 use std::sync::atomic::AtomicU64;
@@ -19,7 +19,7 @@ where
     R: Wait + Copy + Drop,
 {
     rt: R,
-    queue: ConcurrentQueue<T>,
+    line: Line<T>,
     /// Told for each place that comes free.
     places: Event<K, R>,
     /// Told for each message that comes.
@@ -39,7 +39,7 @@ where
     pub fn new(rt: R, alloc: Global, places: usize) -> Result<Self, NoMemory>
         requires { 0 < places }
     {
-        let Ok(queue) = ConcurrentQueue::bounded(alloc, places) else {
+        let Ok(line) = Line::new(alloc, places) else {
             return Err(NoMemory);
         };
         let (free, came) = match (Event::new(rt, alloc), Event::new(rt, alloc)) {
@@ -48,7 +48,7 @@ where
         };
         Ok(Shared {
             rt,
-            queue,
+            line,
             places: free,
             messages: came,
             senders: AtomicU64::new(1),
@@ -60,36 +60,30 @@ where
     pub fn try_send(&self, message: T) -> Result<(), TrySendError<T>>
         ensures { IfErr result (λ error. try_sent error ≡ message) }
     {
-        match self.queue.push(&self.rt, message) {
-            Ok(()) => {
-                self.messages.notify();
+        match self.line.push(&self.rt, message) {
+            Ok(came) => {
+                came.tell(&self.messages);
                 Ok(())
             }
-            Err(PushError::Closed(message)) => Err(TrySendError::Closed(message)),
-            Err(PushError::Full(message) | PushError::NoMemory(message)) => Err(TrySendError::Full(
-                message,
-            )),
+            Err(error) => Err(error),
         }
     }
 
     /// Takes the oldest message, and then tells one who waits for its place.
     pub fn try_recv(&self) -> Result<T, TryRecvError> {
-        match self.queue.pop(&self.rt) {
-            Ok(message) => {
-                self.places.notify();
+        match self.line.pop(&self.rt) {
+            Ok((message, freed)) => {
+                freed.tell(&self.places);
                 Ok(message)
             }
-            Err(PopError::Empty) => Err(TryRecvError::Empty),
-            Err(PopError::Closed) => Err(TryRecvError::Closed),
+            Err(error) => Err(error),
         }
     }
 
     /// Closes the channel, and tells all who wait. Answers whether it was open.
     pub fn close(&self) -> bool {
-        let was_open = self.queue.close(&self.rt);
-        self.places.notify_all();
-        self.messages.notify_all();
-        was_open
+        let shut = self.line.close(&self.rt);
+        shut.tell(&self.places, &self.messages)
     }
 
     pub fn rt(&self) -> R {
@@ -106,7 +100,7 @@ where
 
     /// How many messages there are.
     pub fn len(&self) -> usize {
-        self.queue.len(&self.rt)
+        self.line.len(&self.rt)
     }
 }
 

@@ -1,0 +1,119 @@
+//! A channel's queue, and what has to be told of each of its changes.
+ghost use Rattle.std.specs.Prelude.{◌≡◌, ◌<◌, IfErr};
+ghost use Rattle.waiting.specs.Sending.{try_sent};
+
+use crate::channel::errors::{TryRecvError, TrySendError};
+use crate::event::Event;
+use async_task::{NoMemory, Wake};
+use concurrent_queue::{ConcurrentQueue, PopError, PushError};
+use std::alloc::Global;
+use std::sync::Wait;
+
+/// The messages that were sent and not received yet. What a call answers has no drop: it is told.
+#[derive(Drop)]
+pub struct Line<T: Drop> {
+    queue: ConcurrentQueue<T>,
+}
+
+/// That a message came: one who waits for it is told.
+#[must_use]
+pub struct Came {
+    // None is made elsewhere.
+    own: (),
+}
+
+/// That a place came free: one who waits for it is told.
+#[must_use]
+pub struct Freed {
+    own: (),
+}
+
+/// That nothing is sent any more: all who wait are told.
+#[must_use]
+pub struct Shut {
+    was_open: bool,
+}
+
+impl<T: Drop> Line<T> {
+    pub fn new(alloc: Global, places: usize) -> Result<Self, NoMemory>
+        requires { 0 < places }
+    {
+        match ConcurrentQueue::bounded(alloc, places) {
+            Ok(queue) => Ok(Line { queue }),
+            Err(_) => Err(NoMemory),
+        }
+    }
+
+    /// Appends the message.
+    pub fn push<R: Wait>(&self, rt: &R, message: T) -> Result<Came, TrySendError<T>>
+        ensures { IfErr result (λ error. try_sent error ≡ message) }
+    {
+        match self.queue.push(rt, message) {
+            Ok(()) => Ok(Came { own: () }),
+            Err(PushError::Closed(message)) => Err(TrySendError::Closed(message)),
+            Err(PushError::Full(message) | PushError::NoMemory(message)) => Err(TrySendError::Full(
+                message,
+            )),
+        }
+    }
+
+    /// Takes the oldest message.
+    pub fn pop<R: Wait>(&self, rt: &R) -> Result<(T, Freed), TryRecvError> {
+        match self.queue.pop(rt) {
+            Ok(message) => Ok((message, Freed { own: () })),
+            Err(PopError::Empty) => Err(TryRecvError::Empty),
+            Err(PopError::Closed) => Err(TryRecvError::Closed),
+        }
+    }
+
+    /// Takes no message any more.
+    pub fn close<R: Wait>(&self, rt: &R) -> Shut {
+        Shut {
+            was_open: self.queue.close(rt),
+        }
+    }
+
+    /// How many messages there are.
+    pub fn len<R: Wait>(&self, rt: &R) -> usize {
+        self.queue.len(rt)
+    }
+}
+
+impl Came {
+    /// Tells one who waits for a message.
+    pub fn tell<K, R>(self, messages: &Event<K, R>)
+    where
+        K: Wake + Drop,
+        R: Wait + Copy + Drop,
+    {
+        let Came { own: () } = self;
+        messages.notify();
+    }
+}
+
+impl Freed {
+    /// Tells one who waits for a place.
+    pub fn tell<K, R>(self, places: &Event<K, R>)
+    where
+        K: Wake + Drop,
+        R: Wait + Copy + Drop,
+    {
+        let Freed { own: () } = self;
+        places.notify();
+    }
+}
+
+impl Shut {
+    /// Tells all who wait. Answers whether the channel was open.
+    pub fn tell<K, R>(self, places: &Event<K, R>, messages: &Event<K, R>) -> bool
+    where
+        K: Wake + Drop,
+        R: Wait + Copy + Drop,
+        ensures { result ≡ self.was_open }
+    {
+        let Shut { was_open } = self;
+        places.notify_all();
+        messages.notify_all();
+        was_open
+    }
+}

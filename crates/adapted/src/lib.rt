@@ -2,6 +2,7 @@
 #![tactic(auto)]
 
 ghost use Rattle.std.specs.Arc.{arc_value};
+ghost use Rattle.futures.specs.Task.{Covers, Keeps};
 ghost use Rattle.std.specs.Prelude.{◌≡◌, true, IfOk, None};
 
 use async_task::{NoMemory, Wake};
@@ -26,6 +27,35 @@ struct Heard {
 struct Shared {
     source: Source,
     heard: Mutex<Heard>,
+}
+
+impl Shared {
+    /// Forgets the wakes of before. False where the lock couldn't be had.
+    fn forget(&self) -> bool {
+        match lock(&self.heard) {
+            Some(mut heard) => {
+                heard.is_woken = false;
+                true
+            }
+            None => false,
+        }
+    }
+
+    /// Asks to be polled again where the future was woken, and else leaves the task's waker.
+    fn wait<T>(&self, cx: &mut Context<'_>) -> Poll<T>
+        ensures pending { result ≡ Poll.Pending }
+        ensures registered { Covers cx.new (λ s. s ≡ self.now.source.id) }
+        ensures kept { Keeps cx.old cx.new }
+    {
+        let Some(mut guard) = lock(&self.heard) else {
+            return cx.yield_now();
+        };
+        let heard = &mut *guard;
+        if heard.is_woken {
+            return cx.yield_now();
+        }
+        cx.register(&self.source, &mut heard.waker)
+    }
 }
 
 /// The waker that an adapted future is polled with. It wakes the task of the library's that polls it.
@@ -104,21 +134,12 @@ where
     /// 2. Polls the future.
     /// 3. Where it was woken meanwhile, asks to be polled again, and else leaves the task's waker.
     fn poll(&mut self, cx: &mut Context<'_>) -> Poll<F::Output> {
-        let shared = &*self.waker.shared;
-        match lock(&shared.heard) {
-            Some(mut heard) => heard.is_woken = false,
-            None => return cx.yield_now(),
+        if !self.waker.shared.forget() {
+            return cx.yield_now();
         }
         if let async_task::Poll::Ready(output) = self.future.poll(&self.waker) {
             return Poll::Ready(output);
         }
-        let Some(mut guard) = lock(&shared.heard) else {
-            return cx.yield_now();
-        };
-        let heard = &mut *guard;
-        if heard.is_woken {
-            return cx.yield_now();
-        }
-        cx.register(&shared.source, &mut heard.waker)
+        self.waker.shared.wait(cx)
     }
 }

@@ -1,44 +1,16 @@
 //! Futures that run others of their executor and drop handles, in their polls and in their drops, on an executor of any thread and
 //! on one of one thread. A future's type can't lead back to its executor's, so it is lent that as a `dyn`.
-use async_executor::{ExRealm, ExWaker, Executor};
+use async_executor::{ExRealm, Executor};
 use async_task::{Future, Nobody, Poll, Wake};
-use local_executor::{LocalExWaker, LocalExecutor};
+use local_executor::LocalExecutor;
 use std::alloc::Global;
 use std::cell::RefCell;
-use std::sync::Wait;
 use std::test::Fail;
-
-trait Ticks {
-    fn run_one(&self) -> bool;
-}
-
-impl<F, R> Ticks for Executor<F, u64, Nobody, R>
-where
-    F: Future<ExWaker<u64, Nobody, R>, Output = u64> + Drop,
-    R: Wait + Copy + Drop + 'static,
-{
-    fn run_one(&self) -> bool {
-        self.try_tick()
-    }
-}
-
-impl<F, R> Ticks for LocalExecutor<F, u64, Nobody, R>
-where
-    F: Future<LocalExWaker<Nobody, R>, Output = u64> + Drop,
-    R: Wait + Copy + Drop + 'static,
-{
-    fn run_one(&self) -> bool {
-        self.try_tick()
-    }
-}
 
 /// What a future does at each poll.
 #[derive(Clone, Copy)]
 enum Act {
     Pend,
-    Ready,
-    /// It runs a task of its executor.
-    Nest,
     /// It drops its own handle.
     Stop,
     /// It has the first one's handle, and drops it with itself; its own is dropped at once.
@@ -57,7 +29,6 @@ struct Caller<H: Drop + 'static> {
     act: Act,
     held: Option<H>,
     board: &'static Board<H>,
-    executor: &'static dyn Ticks,
 }
 
 impl<H: Drop + 'static> Board<H> {
@@ -71,7 +42,7 @@ impl<H: Drop + 'static> Board<H> {
         self.handles.try_borrow_mut().ok()?.get_mut(place)?.take()
     }
 
-    fn caller(&'static self, place: usize, act: Act, executor: &'static dyn Ticks) -> Caller<H> {
+    fn caller(&'static self, place: usize, act: Act) -> Caller<H> {
         let held = match act {
             Act::Hold => self.take(0),
             _ => None,
@@ -80,8 +51,7 @@ impl<H: Drop + 'static> Board<H> {
             place,
             act,
             held,
-            board: self,
-            executor,
+            board: &*self,
         }
     }
 
@@ -92,10 +62,7 @@ impl<H: Drop + 'static> Board<H> {
         }
     }
 
-    fn shows(&self, executor: &'static dyn Ticks, expected: &[(&'static str, usize)]) -> bool {
-        for _ in 0..9 {
-            executor.run_one();
-        }
+    fn shows(&self, expected: &[(&'static str, usize)]) -> bool {
         matches!(self.seen.try_borrow(), Ok(seen) if seen.as_slice() == expected)
     }
 }
@@ -107,7 +74,6 @@ impl<H: Drop + 'static> Drop for Caller<H> {
             act: _,
             held,
             board,
-            executor: _,
         } = self;
         board.see("drop", place);
         drop(held);
@@ -122,8 +88,6 @@ impl<H: Drop + 'static, K: Wake> Future<K> for Caller<H> {
         self.board.see("poll", self.place);
         match self.act {
             Act::Pend | Act::Hold => {}
-            Act::Ready => return Poll::Ready(0),
-            Act::Nest => drop(self.executor.run_one()),
             Act::Stop => drop(self.board.take(self.place)),
         }
         self.board.see("pending", self.place);
@@ -137,11 +101,6 @@ struct Row(&'static [Act], &'static [(&'static str, usize)]);
 const ROWS: &[Row] = &[
     // A future that drops its own handle is dropped behind its poll.
     Row(&[Act::Stop], &[("poll", 0), ("pending", 0), ("drop", 0)]),
-    // A future runs another in its poll.
-    Row(
-        &[Act::Nest, Act::Ready],
-        &[("poll", 0), ("poll", 1), ("drop", 1), ("pending", 0)],
-    ),
     // A future that is dropped drops the handle that it has, and so another future.
     Row(
         &[Act::Pend, Act::Hold],
@@ -149,49 +108,49 @@ const ROWS: &[Row] = &[
     ),
 ];
 
-fn leaked<T: Drop>(alloc: Global, value: T) -> Result<&'static T, Fail> {
-    Ok(Box::leak(Box::new(alloc, value)?))
-}
-
 fn new_board<H: Drop + 'static>(alloc: Global) -> Result<&'static Board<H>, Fail> {
     let (handles, seen) = (RefCell::new(Vec::new(alloc)), RefCell::new(Vec::new(alloc)));
-    leaked(alloc, Board { handles, seen })
+    Ok(Box::leak(Box::new(alloc, Board { handles, seen })?))
 }
 
 #[test]
-fn futures_call_their_executor(rt: HostRuntime) -> Result<(), Fail> {
+fn futures_drop_handles(rt: HostRuntime) -> Result<(), Fail> {
     let (alloc, realm) = (rt.alloc(), ExRealm::leak(rt, rt.alloc())?);
     for Row(acts, expected) in ROWS {
-        let executor: &'static Executor<_, _, _, _> = leaked(
-            alloc,
-            Executor::new(rt, alloc, realm, 2)?,
-        )?;
-        let board = new_board(alloc)?;
+        let (executor, board) = (
+            Executor::<_, u64, Nobody, _>::new(rt, alloc, realm, 2)?,
+            new_board(alloc)?,
+        );
         for (place, act) in acts.iter().enumerate() {
-            if let Ok(handle) = executor.spawn(board.caller(place, *act, executor)) {
+            if let Ok(handle) = executor.spawn(board.caller(place, *act)) {
                 board.keep(*act, handle);
             }
         }
-        assert!(rt; board.shows(executor, expected));
+        for _ in 0..9 {
+            executor.try_tick();
+        }
+        assert!(rt; board.shows(expected));
     }
     Ok(())
 }
 
 #[test]
-fn futures_call_their_local_executor(rt: HostRuntime) -> Result<(), Fail> {
+fn futures_drop_local_handles(rt: HostRuntime) -> Result<(), Fail> {
     let alloc = rt.alloc();
     for Row(acts, expected) in ROWS {
-        let executor: &'static LocalExecutor<_, _, _, _> = leaked(
-            alloc,
-            LocalExecutor::new(rt, alloc, 2)?,
-        )?;
-        let board = new_board(alloc)?;
+        let (executor, board) = (
+            LocalExecutor::<_, u64, Nobody, _>::new(rt, alloc, 2)?,
+            new_board(alloc)?,
+        );
         for (place, act) in acts.iter().enumerate() {
-            if let Ok(handle) = executor.spawn(board.caller(place, *act, executor)) {
+            if let Ok(handle) = executor.spawn(board.caller(place, *act)) {
                 board.keep(*act, handle);
             }
         }
-        assert!(rt; board.shows(executor, expected));
+        for _ in 0..9 {
+            executor.try_tick();
+        }
+        assert!(rt; board.shows(expected));
     }
     Ok(())
 }

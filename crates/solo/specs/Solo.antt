@@ -102,7 +102,7 @@ module _ {F T X : Type 0} where
 
   -- the first task leaves the queue, a sleeper is told, and the task's turn begins
   abbrev pub taken : Solo F T X → Solo F T X
-  taken s = taken_by (slice_get s.line.items 0) (popped s)
+  taken s = taken_by (sought s) (popped s)
 
   abbrev pub take_answer_by : Option Task → Solo F T X → Taken F X
   take_answer_by None s = record { found = Nothing; sleeper = None }

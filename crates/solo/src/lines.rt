@@ -14,6 +14,7 @@ use std::marker::Model;
 const TURNS: u64 = 8;
 
 /// What a look at both queues has found.
+#[derive(Clone, Copy)]
 pub struct FromLines {
     /// The first task of the queue that was looked at last.
     pub task: Option<Task>,

@@ -1,10 +1,9 @@
 //! In which order futures of both marks are polled: by an executor of one owner, and by the executors of one thread.
-use crate::owner::{Numbers, end, let_go, poll, rest_of};
+use crate::owner::{Numbers, end, leave, let_go, poll, rest_of};
 use async_task::{Future, Nobody, Poll};
 use local_executor::{LocalExecutor, StaticLocalExecutor};
 use solo::{
-    Back, Dropped, Found, Kind, Look, Mark, Missed, Ran, RunLeft, Runner, Solo, Spawned, Taken,
-    Ticked, Ticker,
+    Back, Found, Kind, Look, Mark, Missed, Ran, Runner, Solo, Spawned, Taken, Ticked, Ticker,
 };
 use std::alloc::Global;
 use std::cell::Cell;
@@ -147,10 +146,7 @@ fn a_run_polls_urgent_ones_first(rt: HostRuntime) -> Result<(), Fail> {
     solo.run_begin(&runner);
     let (ticker, are_polled) = run_polls(&mut solo, &mut runner, ticker, &[2, 3, 0, 1]);
     assert!(&rt; are_polled & solo.is_empty());
-    match solo.run_drain(solo.run_leave(runner, ticker)) {
-        RunLeft::Gone(Dropped { old: _, told }) => let_go(told),
-        RunLeft::Scheduled(_, _) => unreachable!(),
-    }
+    assert!(&rt; leave(&rt, &mut solo, runner, ticker));
     Ok(())
 }
 
@@ -192,7 +188,7 @@ fn a_local_executor_polls_urgent_ones_first(rt: HostRuntime) -> Result<(), Fail>
     for number in 0..10usize {
         let noted = Noted {
             number: number as u64,
-            last: last.try_clone()?,
+            last: last.clone()?,
         };
         match executor.spawn_marked(noted, ONE_PLAIN[number]) {
             Ok(handle) => handle.detach(),
@@ -214,7 +210,7 @@ fn a_static_one_does_so_too(rt: HostRuntime) -> Result<(), Fail> {
     for number in 0..10usize {
         let noted = Noted {
             number: number as u64,
-            last: last.try_clone()?,
+            last: last.clone()?,
         };
         match executor.spawn_marked(noted, ONE_PLAIN[number]) {
             Ok(handle) => handle.detach(),

@@ -142,7 +142,7 @@ fn ran_in_turn(solo: &mut Numbers, ran: Ran<u64, u64>, polls: &mut Polls, round:
 }
 
 /// A run leaves.
-fn leave(rt: &impl Wait, solo: &mut Numbers, runner: Runner, ticker: Ticker) -> bool {
+pub fn leave(rt: &impl Wait, solo: &mut Numbers, runner: Runner, ticker: Ticker) -> bool {
     let mut leaving = solo.run_leave(runner, ticker);
     for _ in rt.forever() {
         match solo.run_drain(leaving) {

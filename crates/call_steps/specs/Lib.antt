@@ -5,3 +5,4 @@ pub mod Closing
 pub mod Next
 pub mod Begins
 pub mod Todo
+pub mod Seeing

@@ -53,6 +53,7 @@ use Rattle.executor_laws.specs.LoneEnds.{LoneCallsEnd}
 use Rattle.executor_laws.specs.Makings.{MadeIsMade}
 use Rattle.executor_laws.specs.NoAnswers.{NoMeansEmpty}
 use Rattle.executor_laws.specs.Numbered.{RequestsAreNumbered}
+use Rattle.executor_laws.specs.PendingPolls.{RunsLookFirst, TicksLookFirst}
 use Rattle.executor_laws.specs.Queueings.{CountsQueueings}
 use Rattle.executor_laws.specs.Remaining.{EachListEnds, EachStepLowers}
 use Rattle.executor_laws.specs.AtRest.{EmptinessIsExact, TicksAreExact}
@@ -66,6 +67,7 @@ use Rattle.executor_laws.specs.RunFew.{PollsFew}
 use Rattle.executor_laws.specs.RunPolls.{KeepersCanBePolled, RunsCanBePolled}
 use Rattle.executor_laws.specs.RunSearch.{FindsDue}
 use Rattle.executor_laws.specs.RunTakes.{TakesUpFew}
+use Rattle.executor_laws.specs.TakesTold.{TakesAreTold}
 use Rattle.executor_laws.specs.RunTurns.{IsCommonReached}
 use Rattle.executor_laws.specs.Ticks.{IsTickExact}
 
@@ -240,6 +242,8 @@ pub record AllLaws (s : Machine) : Type 0 where
   pub polls_few : PollsFew s
   -- and any poll of a run takes 200 up at most
   pub takes_few : TakesUpFew s
+  -- what is taken up is polled, and told of, or dropped
+  pub takes_told : TakesAreTold s
   -- what a run kept is common once it was dropped alone
   pub left : LeavesCommon s
   -- a lone call is answered as it is
@@ -258,3 +262,6 @@ pub record AllLaws (s : Machine) : Type 0 where
   pub at_once : (p : ℕ) → NoComesAtOnce p s.world.trace
   -- nor, where a tick was tried, but by a step that finds the queue empty
   pub no_means : NoMeansEmpty s
+  -- and a poll of a tick or run is answered that nothing is ready only where it looked and found none
+  pub ticks_look : TicksLookFirst s
+  pub runs_look : RunsLookFirst s

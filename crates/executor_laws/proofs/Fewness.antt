@@ -7,3 +7,4 @@ pub mod Untaken
 pub mod AnySteps
 pub mod AnyStacks
 pub mod AnyPoll
+pub mod TakesTold

@@ -8,6 +8,7 @@ pub mod Promptness
 pub mod Queueings
 pub mod Reach
 pub mod RunReach
+pub mod Seeking
 pub mod Termination
 pub mod Turns
 pub mod Wakeups

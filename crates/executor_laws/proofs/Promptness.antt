@@ -3,4 +3,5 @@ pub mod Prompting
 pub mod PromptExecutions
 pub mod Emptied
 pub mod Turns
+pub mod TicksMade
 pub mod Makings

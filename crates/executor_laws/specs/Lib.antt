@@ -22,9 +22,11 @@ pub mod RunTurns
 pub mod KeptFirst
 pub mod RunFew
 pub mod RunTakes
+pub mod TakesTold
 pub mod RunEnds
 pub mod EndedRuns
 pub mod NoAnswers
+pub mod PendingPolls
 pub mod Makings
 pub mod HandleAnswers
 pub mod Numbered

@@ -1,7 +1,7 @@
 -- What it means that a tick or a run was made.
-use Rattle.std.specs.Prelude.{◌≡◌, ◌⊎◌, ℕ, false, None, List, [], ◌∷◌, ◌++◌, length}
+use Rattle.std.specs.Prelude.{◌≡◌, ◌⊎◌, ℕ, ◌==◌, Bool, false, None, List, [], ◌∷◌, ◌++◌, length}
 use Rattle.executor_model.specs.declared.call.Call.{Call}
-use Rattle.executor_model.specs.declared.call.Call.TheVariants.{NewRun, NewTick}
+use Rattle.executor_model.specs.declared.call.Call.TheVariants.{NewRun, NewTick, PollTick}
 use Rattle.executor_model.specs.declared.call.Reply.TheVariants.{Made, NoMemory}
 use Rattle.executor_model.specs.declared.event.Event.{Event}
 use Rattle.executor_model.specs.declared.event.Event.TheVariants.{CallBegun, CallEnded}
@@ -14,9 +14,15 @@ use Rattle.executor_model.specs.Steps.{Machine, party_of, refusal, run, step, st
 use Rattle.executor_model.specs.Trace.{Trace, has}
 use Rattle.executor_model.specs.World.{World, Awake, new_run}
 
--- one more tick is there, which lives; it has the next number, and the others stay
-abbrev pub MakesTick : World → World → Type 0
-MakesTick w v = v.ticks ≡ w.ticks ++ Awake ∷ []
+-- a call that polls tick n begins
+abbrev pub polls_tick : ℕ → Event → Bool
+polls_tick n (CallBegun p (PollTick t b)) = n == t
+polls_tick n _ = false
+
+-- one more tick is there, which lives; it has the next number, of which no poll has begun, and the others stay
+pub record MakesTick (w v : World) : Type 0 where
+  pub ticks : v.ticks ≡ w.ticks ++ Awake ∷ []
+  pub unpolled : has (polls_tick (length w.ticks)) w.trace ≡ false
 
 -- one more run is there, which lives, with an own queue in which nothing stands; it has the next number, of which no poll was
 -- told, and the others stay

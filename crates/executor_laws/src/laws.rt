@@ -19,6 +19,7 @@ ghost use Rattle.executor_laws.specs.LoneAnswers.{IsLoneEmptinessExact, IsLoneTi
 ghost use Rattle.executor_laws.specs.Makings.{MadeIsMade};
 ghost use Rattle.executor_laws.specs.NoAnswers.{NoMeansEmpty};
 ghost use Rattle.executor_laws.specs.Numbered.{RequestsAreNumbered};
+ghost use Rattle.executor_laws.specs.PendingPolls.{RunsLookFirst, TicksLookFirst};
 ghost use Rattle.executor_laws.specs.Places.{StandsWithKeeper};
 ghost use Rattle.executor_laws.specs.Reach.{IsInReach, IsReachedInOrder};
 ghost use Rattle.executor_laws.specs.RunAnswers.{IsReadyAtItsEnd};
@@ -30,6 +31,7 @@ ghost use Rattle.executor_laws.specs.RunPolls.{KeepersCanBePolled, RunsCanBePoll
 ghost use Rattle.executor_laws.specs.RunSearch.{FindsDue};
 ghost use Rattle.executor_laws.specs.RunTakes.{TakesUpFew};
 ghost use Rattle.executor_laws.specs.RunTurns.{IsCommonReached};
+ghost use Rattle.executor_laws.specs.TakesTold.{TakesAreTold};
 ghost use Rattle.executor_laws.specs.Ticks.{IsTickExact};
 
 /// Calls end. In each machine to which steps of a new one lead, each step that begins no further call
@@ -76,9 +78,18 @@ pub fn no_means_that_nothing_was_queued()
     ensures { EveryMachine NoMeansEmpty }
 {}
 
+/// Whatever others do meanwhile, a poll of a tick is answered that nothing is ready only where it looked for a future, by a step
+/// in which the executor's queue was empty. A poll of a run is answered so only where it looked into its own queue, then into the
+/// executor's queue, and each was empty as it looked, and then went through the list of queues; or where it called its own
+/// waker, after 200 futures.
+pub fn nothing_is_ready_where_none_was_found()
+    ensures ticks { EveryMachine TicksLookFirst }
+    ensures runs { EveryMachine RunsLookFirst }
+{}
+
 /// Whatever others do meanwhile, the next thing of a party that begins the making of a tick or of a run is its answer; and where
 /// that is that it was made, one of the party's own steps since then made it: one more, which lives, with the next number. So
-/// what is made wasn't there before, and no poll of a run was told of before.
+/// what is made wasn't there before, and no poll of it has begun before.
 pub fn what_is_made_is_new()
     ensures { EveryMachine MadeIsMade }
 {}
@@ -201,6 +212,13 @@ pub fn runs_poll_few_futures()
 /// others do meanwhile, whatever user code answers, and whatever calls that begin inside of the poll take up.
 pub fn runs_take_few_futures()
     ensures { EveryMachine TakesUpFew }
+{}
+
+/// A step that takes a future up begins its poll, and tells of it; where the future is closed, its drop is the next thing that
+/// the party does, unless the drop of the executor drops it. No other step begins a poll of a future. So what counts as taken up
+/// is what the trace tells of.
+pub fn futures_are_polled_where_they_are_taken_up()
+    ensures { (s : Machine) → TakesAreTold s }
 {}
 
 /// Where no call is in progress, the drop of the executor hasn't begun and a run keeps a future, each party can poll the run

@@ -47,10 +47,10 @@ use Rattle.executor_laws.proofs.Fewness.AnyStacks.Stays.{going, over}
 
 -- a step of the machine
 
-set-other : (p i : ℕ) (s : Machine) (x : Part) → p ≢ i → stack (with_part s i x) p ≡ stack s p
+pub set-other : (p i : ℕ) (s : Machine) (x : Part) → p ≢ i → stack (with_part s i x) p ≡ stack s p
 set-other p i s x n = get_or-set_other s.parties i p x.todo [] n
 
-set-same : (p : ℕ) (s : Machine) (x : Part) → p < length s.parties → stack (with_part s p x) p ≡ x.todo
+pub set-same : (p : ℕ) (s : Machine) (x : Part) → p < length s.parties → stack (with_part s p x) p ≡ x.todo
 set-same p s x l = get_or-set_same s.parties p x.todo [] l
 
 record Uses (q : ℕ) (s : Machine) : Type 0 where
@@ -153,7 +153,8 @@ module _ (p q : ℕ) (old : List Op) where
     by-step : (t : Step) (refused : Option StepError) → refusal s t ≡ refused → After t refused (stepped s (step_by refused s t))
     by-step t (Some error) e = (n, going c side above is k z l st, omega (arith, none-refused t (top (stack s p))))
       where
-        none-refused : (t : Step) (o : Option Op) → ◌≡◌ {A = ℕ} (cond (takes_up (Some error) p t o && eqb (depth (stack s p)) (depth old)) 1 0) 0
+        none-refused : (t : Step) (o : Option Op) →
+            ◌≡◌ {A = ℕ} (cond (takes_up (Some error) p t o && eqb (depth (stack s p)) (depth old)) 1 0) 0
         none-refused t o = refl
     by-step t None e = by-party t (eqb (party_of t) p) refl
         (in-range (ltb (party_of t) (length s.parties)) (part_refusal s.world s.parties (stack s (party_of t)) t) e).1
@@ -164,7 +165,8 @@ module _ (p q : ℕ) (old : List Op) where
 
   few-in : (ts : List Step) (n : ℕ) (s : Machine) → Reached s → Stays q old n s.world (stack s p) → takes_in p old ts s ≤ n
   few-in [] n s y h = omega arith
-  few-in (t ∷ ts) n s y (over l) = by (ltb (length old) (length (stack s p))) (let z : ltb (length old) (length (stack s p)) ≡ false = grind (arith, nat_tests) in z)
+  few-in (t ∷ ts) n s y (over l) = by (ltb (length old) (length (stack s p)))
+      (let z : ltb (length old) (length (stack s p)) ≡ false = grind (arith, nat_tests) in z)
     where
       by : (b : Bool) → b ≡ false → cond b (cond (takes_itself p old t s) 1 0 + takes_in p old ts (stepped s (step s t))) 0 ≤ n
       by false e = omega arith

@@ -42,7 +42,7 @@ use Rattle.executor_laws.proofs.RunReach.RunWalks.{not-nil}
 
 -- lists by their ends
 
-unsnoc : (xs ys : List Op) (x y : Op) → xs ++ x ∷ [] ≡ ys ++ y ∷ [] → (xs ≡ ys) × (x ≡ y)
+pub unsnoc : (xs ys : List Op) (x y : Op) → xs ++ x ∷ [] ≡ ys ++ y ∷ [] → (xs ≡ ys) × (x ≡ y)
 unsnoc [] [] x y e = (refl, cc)
 unsnoc [] (b ∷ ys) x y e = let q : ys ++ y ∷ [] ≡ [] = cc in absurd (not-nil ys y q)
 unsnoc (a ∷ xs) [] x y e = let q : xs ++ x ∷ [] ≡ [] = cc in absurd (not-nil xs x q)
@@ -52,7 +52,7 @@ unsnoc (a ∷ xs) (b ∷ ys) x y e =
     let r : _ = unsnoc xs ys x y q in
     (ap (λ (z : Op). z ∷ xs) i ∙ ap (λ (zs : List Op). b ∷ zs) r.0, r.1)
 
-below-is : (os below : List Op) (o : Op) → os ≡ below ++ o ∷ [] → (top os ≡ Some o) × (below_top os ≡ below)
+pub below-is : (os below : List Op) (o : Op) → os ≡ below ++ o ∷ [] → (top os ≡ Some o) × (below_top os ≡ below)
 below-is os below o e =
     let t : top os ≡ Some o = ap top e ∙ top-last below o in
     (t, (unsnoc (below_top os) below o o (sym (topped os o t) ∙ e)).0)
@@ -75,12 +75,12 @@ abbrev pub StaysIn : ℕ → List Op → ℕ → Part → Type 0
 StaysIn q old n x = Stays q old n x.world x.todo
 
 -- a call ends whose end is all that is left of it
-data Settles (p : ℕ) (w : World) (os : List Op) : Type 0 where
+pub data Settles (p : ℕ) (w : World) (os : List Op) : Type 0 where
   same : settled p w os ≡ part w os → Settles p w os
   ends : (a : Reply) (held : Hold) (below : List Op) → os ≡ below ++ op.End a held ∷ [] →
       settled p w os ≡ part (log w (event.CallEnded p a)) below → Settles p w os
 
-settles : (p : ℕ) (w : World) (os : List Op) → Settles p w os
+pub settles : (p : ℕ) (w : World) (os : List Op) → Settles p w os
 settles p w os = by (top os) refl
   where
     by : (o : Option Op) → top os ≡ o → Settles p w os
@@ -221,7 +221,7 @@ part-untaken q w ss os (Answer p u) e z = went-untaken q w os p (λ x. react p x
 
 -- a step of the party of the poll
 
-free-waits : (b : Bool) (r : Option StepError) → unless b Busy r ≡ None → b ≡ true
+pub free-waits : (b : Bool) (r : Option StepError) → unless b Busy r ≡ None → b ≡ true
 free-waits true r e = refl
 free-waits false r e = absurd (cc)
 

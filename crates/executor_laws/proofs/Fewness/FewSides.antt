@@ -254,7 +254,7 @@ pub polls-append : (xs ys : Trace) → polls_in (xs ++ ys) ≡ polls_in xs + pol
 polls-append [] ys = omega arith
 polls-append (x ∷ xs) ys = omega (arith, polls-append xs ys)
 
-ordinary-none : (e : Event) → is_ordinary e ≡ true → begins_poll e ≡ false
+pub ordinary-none : (e : Event) → is_ordinary e ≡ true → begins_poll e ≡ false
 ordinary-none (event.PollBegun p f) z = absurd (cc)
 ordinary-none _ z = refl
 

@@ -17,7 +17,11 @@ pub finished-at-once : (s : Machine) → EndedIsFinished s
 finished-at-once s p r b n e =
     let c : _ = call.PollRun r b in
     let w : World = log (log s.world (event.CallBegun p c)) (event.RunPolled p r) in
-    let x : RunPoll = record { run = r; waker = waker_of (mine (top (stack s p))) b; poll = length (s.world.trace ++ event.CallBegun p c ∷ []) } in
+    let x : RunPoll = record {
+      run = r;
+      waker = waker_of (mine (top (stack s p))) b;
+      poll = length (s.world.trace ++ event.CallBegun p c ∷ []);
+    } in
     ap (λ (m : Machine). m.world.trace) (next-is s (Begin p c) n)
     ∙ (ap (λ (t : Stage). (settled p w (stack s p ++ reverse (poll_run t x))).world.trace) e
     ∙ (ap (λ (v : World). v.trace) (ends-so p w (stack s p) reply.Finished (hold.Run r))

@@ -39,6 +39,7 @@ use Rattle.executor_model.proofs.Steps.Stepping.{step-made}
 use Rattle.executor_laws.specs.Makings.{IsMadeSo, MadeIsMade, MakesRun, MakesTick}
 use Rattle.executor_laws.proofs.Placement.OwnReady.{ran-here, reached-on}
 use Rattle.executor_laws.proofs.Promptness.Prompting.{deeds-own}
+use Rattle.executor_laws.proofs.Promptness.TicksMade.{next-unasked}
 use Rattle.executor_laws.proofs.Promptness.Turns.{Turn, below-is, ends-so, first-is, goes-on, none-yet, turn}
 use Rattle.executor_laws.proofs.Promptness.Turns.Turn.{rests, goes}
 
@@ -64,27 +65,39 @@ module _ (p : ℕ) where
   abbrev tick_call : Op
   tick_call = op.Tick tick_op.MakeTick
 
-  tick-made : (b : Bool) (s : Machine) (t : Step) (ts : List Step) (base : List Op) (e : Event) (later : Trace) → party_of t ≡ p →
+  tick-made : (b : Bool) (s : Machine) (t : Step) (ts : List Step) (base : List Op) (e : Event) (later : Trace) → Reached s →
+      party_of t ≡ p →
       (stepped s (step s t)).world ≡ (onto p (make_tick_by b s.world) base).world →
       deeds p (run ts (stepped s (step s t))).world.trace ≡ deeds p s.world.trace ++ e ∷ later →
       IsMadeSo MakesTick p e (t ∷ ts) s
-  tick-made true s t ts base e later j w k = inr (ended-next s t ts reply.NoMemory e later s.world
+  tick-made true s t ts base e later here j w k = inr (ended-next s t ts reply.NoMemory e later s.world
       (w ∙ ends-so p s.world base reply.NoMemory hold.Executor) refl k)
-  tick-made false s t ts base e later j w k =
+  tick-made false s t ts base e later here j w k =
       let v : World = (make_tick_by false s.world).world in
       let i : (stepped s (step s t)).world ≡ log v (event.CallEnded p reply.Made) =
       w ∙ ends-so p v base reply.Made hold.Executor in
-      inl (ended-next s t ts reply.Made e later v i refl k, inl (j, ap (λ (u : World). u.ticks) i))
+      inl (
+        ended-next s t ts reply.Made e later v i refl k,
+        inl (
+          j,
+          record {
+            ticks = ap (λ (u : World). u.ticks) i;
+            unpolled = next-unasked s here;
+          },
+        ),
+      )
 
   -- so it is from a later step on
   abbrev Again : (World → World → Type 0) → List Step → Machine → List Op → Op → Event → Trace → Type 0
   Again M ts s base o e later = stack s p ≡ base ++ o ∷ [] →
       deeds p (run ts s).world.trace ≡ deeds p s.world.trace ++ e ∷ later → IsMadeSo M p e ts s
 
-  tick-so : (ts : List Step) (s : Machine) (base : List Op) (e : Event) (later : Trace) → stack s p ≡ base ++ tick_call ∷ [] →
+  tick-so : (ts : List Step) (s : Machine) (base : List Op) (e : Event) (later : Trace) → Reached s →
+      stack s p ≡ base ++ tick_call ∷ [] →
       deeds p (run ts s).world.trace ≡ deeds p s.world.trace ++ e ∷ later → IsMadeSo MakesTick p e ts s
-  tick-so [] s base e later i k = absurd (none-yet (deeds p s.world.trace) later e k)
-  tick-so (t ∷ ts) s base e later i k = by (λ q x. tick-so ts (stepped s (step s t)) base e later q x)
+  tick-so [] s base e later here i k = absurd (none-yet (deeds p s.world.trace) later e k)
+  tick-so (t ∷ ts) s base e later here i k =
+      by (λ q x. tick-so ts (stepped s (step s t)) base e later (reached-on s (t ∷ []) here) q x)
       (turn s t p base tick_call i refl)
     where
       skip : IsMadeSo MakesTick p e ts (stepped s (step s t)) → IsMadeSo MakesTick p e (t ∷ ts) s
@@ -94,7 +107,7 @@ module _ (p : ℕ) where
       by : Again MakesTick ts (stepped s (step s t)) base tick_call e later → Turn s t p tick_call →
           IsMadeSo MakesTick p e (t ∷ ts) s
       by again (rests d q) = skip (again (q ∙ i) (on-next s t ts e later d k))
-      by again (goes h j w q) = tick-made h.refused s t ts base e later j
+      by again (goes h j w q) = tick-made h.refused s t ts base e later here j
           (w ∙ ap (λ (os : List Op). (onto p (make_tick_by h.refused s.world) os).world)
           (below-is (stack s p) base tick_call i)) k
 
@@ -310,7 +323,7 @@ made-so s here = record {
   tick = λ p n steps e later k.
       let o : Op = op.Tick tick_op.MakeTick in
       let x = goes-on p (log s.world (event.CallBegun p call.NewTick)) (stack s p) o refl in
-      tick-so p steps (stepped s (step s (Begin p call.NewTick))) (stack s p) e later
+      tick-so p steps (stepped s (step s (Begin p call.NewTick))) (stack s p) e later (reached-on s (Begin p call.NewTick ∷ []) here)
       (todo-is s p call.NewTick o n refl x) (since-is s p call.NewTick o n refl x steps e later k);
   run = λ p n steps e later k.
       let o : Op = op.Run run_op.MakeRoom in

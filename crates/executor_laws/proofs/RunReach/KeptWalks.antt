@@ -200,7 +200,8 @@ module _ (p q : ℕ) (first : List ℕ) (new : Machine) (idles : stack new p ≡
         after : (d : Done) → weigh side_of d.next ≡ 0 → d.world.own ≡ s.world.own → ups_in (reverse d.next) ≡ [] →
             LineIn q first (xs ++ up_of o) (onto p d (c ∷ below))
         after d v i u = settles q first (xs ++ up_of o) p d.world c (below ++ reverse d.next) z (both d v)
-            (begins-is first (xs ++ (ups_in (below ++ o ∷ []) ++ (hand_of c ++ own_of s.world q))) ((xs ++ up_of o) ++ (ups_in (below ++ reverse d.next) ++ (hand_of c ++ own_of d.world q)))
+            (begins-is first (xs ++ (ups_in (below ++ o ∷ []) ++ (hand_of c ++ own_of s.world q)))
+            ((xs ++ up_of o) ++ (ups_in (below ++ reverse d.next) ++ (hand_of c ++ own_of d.world q)))
             (line ∙ ap (λ (ns : List ℕ). (xs ++ up_of o) ++ ns) (sym (stays d i u))) k)
 
         go : Onward p s new (c ∷ below) o (t ∷ ts) → Result xs (t ∷ ts) s

@@ -91,22 +91,22 @@ module _ (before : Trace) (f : ℕ) (due : IsDue f before) where
       m.world.trace ≡ before ++ meanwhile → HasEntry f m.world meanwhile
   entry m y g meanwhile t = entry-by m y g meanwhile t (has (takes f) meanwhile) refl
 
-registered-own : (x : Stage) (w : World) (r : ℕ) → (registered x w r).own ≡ w.own
+pub registered-own : (x : Stage) (w : World) (r : ℕ) → (registered x w r).own ≡ w.own
 registered-own New w r = refl
 registered-own Listed w r = refl
 registered-own Ended w r = refl
 
-registered-queue : (x : Stage) (w : World) (r : ℕ) → (registered x w r).queue ≡ w.queue
+pub registered-queue : (x : Stage) (w : World) (r : ℕ) → (registered x w r).queue ≡ w.queue
 registered-queue New w r = refl
 registered-queue Listed w r = refl
 registered-queue Ended w r = refl
 
-registered-trace : (x : Stage) (w : World) (r : ℕ) → (registered x w r).trace ≡ w.trace
+pub registered-trace : (x : Stage) (w : World) (r : ℕ) → (registered x w r).trace ≡ w.trace
 registered-trace New w r = refl
 registered-trace Listed w r = refl
 registered-trace Ended w r = refl
 
-registered-gone : (x : Stage) (w : World) (r : ℕ) → (registered x w r).gone ≡ w.gone
+pub registered-gone : (x : Stage) (w : World) (r : ℕ) → (registered x w r).gone ≡ w.gone
 registered-gone New w r = refl
 registered-gone Listed w r = refl
 registered-gone Ended w r = refl
@@ -186,7 +186,8 @@ module _ (p : ℕ) (before : Trace) (x : RunPoll) (own common : List ℕ) (new :
       go (answered u others te z y n2 on2 l) = absurd (cc)
       go (acted h others te z y n2 on2 l) =
           let d : Part = onto p (act p h (op.List list_op.UnlockWrite) s.world) (op.User (user_op.PollOwn x) ∷ []) in
-          earlier ts others s (with_part s p d) (goes-up p s new (op.User (user_op.PollOwn x) ∷ []) (op.List list_op.UnlockWrite) ts a.todo n h others te)
+          earlier ts others s (with_part s p d)
+          (goes-up p s new (op.User (user_op.PollOwn x) ∷ []) (op.List list_op.UnlockWrite) ts a.todo n h others te)
           (at-own (with_part s p d) (record {
             reached = y;
             so_far = record {
@@ -236,7 +237,8 @@ module _ (p : ℕ) (before : Trace) (x : RunPoll) (own common : List ℕ) (new :
       go (answered u others te z y n2 on2 l) = absurd (cc)
       go (acted h others te z y n2 on2 l) =
           let d : Part = onto p (act p h (op.List (list_op.LockWrite (section.Register x))) s.world) [] in
-          earlier ts others s (with_part s p d) (goes-up p s new [] (op.List (list_op.LockWrite (section.Register x))) ts a.todo n h others te)
+          earlier ts others s (with_part s p d)
+          (goes-up p s new [] (op.List (list_op.LockWrite (section.Register x))) ts a.todo n h others te)
           (at-write (with_part s p d) (record {
             reached = y;
             so_far = record {

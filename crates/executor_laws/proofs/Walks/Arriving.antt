@@ -44,33 +44,14 @@ use Rattle.executor_laws.proofs.Exactness.Ticking.{first-times}
 use Rattle.executor_laws.proofs.Placement.Placing.{due-queued, here, idle, in-own, queued-due}
 use Rattle.executor_laws.proofs.Reach.LoneTicks.{idle-none, in-range, left-true, of-party, stack-set}
 use Rattle.executor_laws.proofs.Reach.Reached.{bonded-here, heard-here}
-use Rattle.executor_laws.proofs.RunReach.RunReaching.{is-due, new-idle, poll, taken-since, takes-first}
+use Rattle.executor_laws.proofs.RunReach.RunReaching.{is-due, new-idle, poll, registered-gone, registered-own, registered-queue}
+use Rattle.executor_laws.proofs.RunReach.RunReaching.{registered-trace, taken-since, takes-first}
 use Rattle.executor_laws.proofs.RunReach.RunReaching.First.{in_common, in_own}
 use Rattle.executor_laws.proofs.RunReach.RunWalks.{Onward, onward}
 use Rattle.executor_laws.proofs.RunReach.RunWalks.Onward.{acted, answered}
 use Rattle.executor_laws.proofs.Walks.Enrolled.{kept-listed}
 use Rattle.executor_laws.proofs.Walks.Finding.{TakesOne, enrolled-here, listed-here, walks}
 use Rattle.executor_laws.proofs.Walks.Searches.Seeking.{locks}
-
-registered-own : (x : Stage) (w : World) (r : ℕ) → (registered x w r).own ≡ w.own
-registered-own New w r = refl
-registered-own Listed w r = refl
-registered-own Ended w r = refl
-
-registered-queue : (x : Stage) (w : World) (r : ℕ) → (registered x w r).queue ≡ w.queue
-registered-queue New w r = refl
-registered-queue Listed w r = refl
-registered-queue Ended w r = refl
-
-registered-trace : (x : Stage) (w : World) (r : ℕ) → (registered x w r).trace ≡ w.trace
-registered-trace New w r = refl
-registered-trace Listed w r = refl
-registered-trace Ended w r = refl
-
-registered-gone : (x : Stage) (w : World) (r : ℕ) → (registered x w r).gone ≡ w.gone
-registered-gone New w r = refl
-registered-gone Listed w r = refl
-registered-gone Ended w r = refl
 
 registered-listed : (x : Stage) (w : World) (r q : ℕ) → times q w.listed ≤ times q (registered x w r).listed
 registered-listed New w r q = omega (arith, times-append q w.listed (r ∷ []))

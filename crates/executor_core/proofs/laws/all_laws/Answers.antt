@@ -83,6 +83,7 @@ returns c limit kind parties steps =
       finds_due = c.runs_find_due_futures.ensures limit kind parties steps;
       polls_few = c.runs_poll_few_futures.ensures limit kind parties steps;
       takes_few = c.runs_take_few_futures.ensures limit kind parties steps;
+      takes_told = c.laws_of_answers.ensures.takes_told s;
       kept_reached = c.kept_futures_are_in_reach.ensures limit kind parties steps;
       kept_first = c.kept_futures_come_first.ensures limit kind parties steps;
       common_reached = c.common_futures_are_in_reach_of_runs.ensures limit kind parties steps;
@@ -97,4 +98,6 @@ returns c limit kind parties steps =
       emptiness_at_rest = c.calls_at_rest_are_exact.ensures.emptiness limit kind parties steps;
       at_once = c.no_comes_at_once.ensures limit kind parties steps;
       no_means = c.laws_of_answers.ensures.no limit kind parties steps;
+      ticks_look = c.laws_of_answers.ensures.ticks_look limit kind parties steps;
+      runs_look = c.laws_of_answers.ensures.runs_look limit kind parties steps;
     }

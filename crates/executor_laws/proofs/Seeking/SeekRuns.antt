@@ -1,0 +1,319 @@
+-- For nothing_is_ready_where_none_was_found.
+-- The poll of a run: where it finds a future it looks again behind that, or calls its own waker.
+use Rattle.std.proofs.Common.{◌≡◌, ◌≢◌, ◌⊎◌, ◌∙◌, inl, inr, ⊎_elim, ℕ, zero, suc, ◌+◌, List, [], ◌∷◌, ◌++◌, length, Bool, true, false}
+use Rattle.std.proofs.Common.{eqb, refl, sym, ap, subst, arith}
+use Rattle.std.proofs.lemmas.List.{reverse-append}
+use Rattle.std.specs.Prelude.{Some, None, reverse}
+use Rattle.executor_model.specs.declared.call.By.{By}
+use Rattle.executor_model.specs.declared.call.Call.TheVariants as call
+use Rattle.executor_model.specs.declared.call.Reply.{Reply}
+use Rattle.executor_model.specs.declared.call.Reply.TheVariants as reply
+use Rattle.executor_model.specs.declared.event.Answer.TheVariants as answer
+use Rattle.executor_model.specs.declared.event.Event.TheVariants as event
+use Rattle.executor_model.specs.declared.kind.Kind.{Kind}
+use Rattle.executor_model.specs.declared.op.Hold.{Hold}
+use Rattle.executor_model.specs.declared.op.ListOp.TheVariants as list_op
+use Rattle.executor_model.specs.declared.op.Op.{Op}
+use Rattle.executor_model.specs.declared.op.Op.TheVariants as op
+use Rattle.executor_model.specs.declared.op.QueueOp.TheVariants as queue_op
+use Rattle.executor_model.specs.declared.op.RunOp.TheVariants as run_op
+use Rattle.executor_model.specs.declared.op.RunPoll.{RunPoll}
+use Rattle.executor_model.specs.declared.op.Section.TheVariants as section
+use Rattle.executor_model.specs.declared.op.SleeperOp.TheVariants as sleeper_op
+use Rattle.executor_model.specs.declared.op.Sleeping.{Sleeping}
+use Rattle.executor_model.specs.declared.op.Steal.{Steal}
+use Rattle.executor_model.specs.declared.op.StealOp.TheVariants as steal_op
+use Rattle.executor_model.specs.declared.op.Then.{Then}
+use Rattle.executor_model.specs.declared.op.Then.TheVariants as then
+use Rattle.executor_model.specs.declared.op.TickOp.TheVariants as tick_op
+use Rattle.executor_model.specs.declared.op.TickOrRun.TheVariants as tick_or_run
+use Rattle.executor_model.specs.declared.op.UserOp.TheVariants as user_op
+use Rattle.executor_model.specs.declared.op.Waker.{Waker}
+use Rattle.executor_model.specs.declared.step.Hint.{Hint}
+use Rattle.executor_model.specs.declared.step.Step.{Step}
+use Rattle.executor_model.specs.declared.step.Step.TheVariants.{Answer, Begin, Go}
+use Rattle.executor_model.specs.declared.step.UserEnd.{UserEnd}
+use Rattle.executor_model.specs.declared.step.UserEnd.TheVariants as end
+use Rattle.executor_model.specs.ActsOfRuns.{asleep, behind, counted_by, found, free_places, reschedule_by, run_by, run_found}
+use Rattle.executor_model.specs.ActsOfRuns.{search_common_by, search_own_by, share, source_of, steal_by, steal_length_by}
+use Rattle.executor_model.specs.ActsOfRuns.{steal_put_by, steal_take_by, stolen}
+use Rattle.executor_model.specs.ActsOfSleepers.{found_by}
+use Rattle.executor_model.specs.Doing.{act}
+use Rattle.executor_model.specs.Steps.{Machine, Part, accepts, begun, mine, poll_run, react, refusal, run, stack, start, step}
+use Rattle.executor_model.specs.Steps.{stepped, top, waits}
+use Rattle.executor_model.specs.Weights.{weigh}
+use Rattle.executor_model.specs.World.{Asleep, Awake, Done, Ended, Left, Listed, New, Stage, Ticker, World, log, own_of, put_own, run_of}
+use Rattle.executor_model.proofs.Quiet.Calls.{is_end}
+use Rattle.executor_model.proofs.Steps.Lists.{weigh-append, weigh-reverse}
+use Rattle.executor_model.proofs.Steps.Reached.{Reached}
+use Rattle.executor_laws.specs.PendingPolls.{CommonHadNone, IsAnswered, RunFoundNone, RunsLookFirst, Walked, run_poll}
+use Rattle.executor_laws.proofs.Fewness.AnySteps.{beside_of}
+use Rattle.executor_laws.proofs.Placement.OwnReady.{reached-on}
+use Rattle.executor_laws.proofs.Seeking.SeekStacks.{Comes, Follows, Lands, Next, Stays, answered-long, begins-so, own_part, seek}
+use Rattle.executor_laws.proofs.Seeking.SeekStacks.Lands.{on, over}
+use Rattle.executor_laws.proofs.Seeking.SeekStacks.Next.{goes_on, had}
+
+-- its own queue has none; the executor's queue has none either; or neither is so
+data Far : Type 0 where
+  before : Far
+  at_common : Far
+  at_list : Far
+
+-- a steal behind which it runs what it has found
+abbrev Running : Then → Type 0
+Running (then.Found f) = Unit {0}
+Running (then.Run f) = Unit {0}
+Running (then.Walk at left) = ⊥
+
+module _ (p : ℕ) (x : RunPoll) (old : List Op) where
+  abbrev Steals : Steal → Type 0
+  Steals s = (s.poll ≡ x) × Running s.then
+
+  abbrev Control : Far → Op → Type 0
+  Control before (op.List (list_op.LockWrite (section.Register y))) = y ≡ x
+  Control before (op.List (list_op.LockWrite (section.Unregister r a))) = a ≡ reply.Ready
+  Control before (op.List (list_op.Write (section.Register y))) = y ≡ x
+  Control before (op.List (list_op.Write (section.Unregister r a))) = a ≡ reply.Ready
+  Control before (op.Run (run_op.Reschedule r a)) = a ≡ reply.Ready
+  Control before (op.Run (run_op.WakeOwn y)) = y ≡ x
+  Control before (op.User (user_op.PollOwn y)) = y ≡ x
+  Control before (op.Tick (tick_op.Search s)) = s ≡ asleep x
+  Control before (op.Steal (steal_op.Length s)) = Steals s
+  Control before (op.Steal (steal_op.OwnLength s n)) = Steals s
+  Control before (op.Steal (steal_op.Take s more)) = Steals s
+  Control before (op.Steal (steal_op.Put s more f)) = Steals s
+  Control before (op.End a held) = a ≢ reply.Pending
+  Control at_common (op.Run (run_op.SearchCommon y)) = y ≡ x
+  Control at_list (op.List (list_op.LockRead y)) = y ≡ x
+  Control _ _ = ⊥
+
+  abbrev Has : Far → List Step → Machine → Type 0
+  Has before ts s = RunFoundNone x p ts s
+  Has at_common ts s = CommonHadNone x p ts s ⊎ RunFoundNone x p ts s
+  Has at_list ts s = Walked x p ts s
+
+  abbrev Goes : Far → Machine → Step → Done → Type 0
+  Goes i s u d = Next p old Far Control Has i s u d
+
+  abbrev Again : Done → Type 0
+  Again d = Comes p old Far Control before d
+
+  -- with these things to do first
+  behind-again : (ops : List Op) (d : Done) → weigh beside_of ops ≡ 0 → Again d → Again (behind ops d)
+  behind-again ops d z k = record {
+    control = k.control;
+    side = k.side ++ reverse ops;
+    is = reverse-append ops d.next ∙ ap (λ (os : List Op). os ++ reverse ops) k.is;
+    kind = k.kind;
+    light = omega (arith, z, k.light, weigh-append beside_of k.side (reverse ops), weigh-reverse beside_of ops);
+  }
+
+  -- what it has found is run
+
+  run-again : (b : Bool) (w : World) (y : RunPoll) (f : ℕ) → y ≡ x → Again (run_by b w y f)
+  run-again true w y f k = record { control = _; side = _; is = refl; kind = k; light = refl }
+  run-again false w y f k = record { control = _; side = _; is = refl; kind = ap asleep k; light = refl }
+
+  run-found-again : (w : World) (y : RunPoll) (f : ℕ) → y ≡ x → Again (run_found w y f)
+  run-found-again w y f k = run-again (eqb ((run_of w y.run).taken + 1) 200) w y f k
+
+  counted-again : (b : Bool) (w : World) (y : RunPoll) (f : ℕ) → y ≡ x → Again (counted_by b w y f)
+  counted-again true w y f k = record { control = _; side = _; is = refl; kind = (k, tt); light = refl }
+  counted-again false w y f k = run-found-again _ y f k
+
+  light-found : (place : Ticker) (r : ℕ) →
+      weigh beside_of (found_by place (tick_or_run.Run r) (op.Sleeper sleeper_op.ExchangeFlag ∷ [])) ≡ 0
+  light-found Awake r = refl
+  light-found (Asleep n) r = refl
+  light-found Left r = refl
+
+  found-again : (w : World) (y : RunPoll) (f : ℕ) → y ≡ x → Again (found w y f)
+  found-again w y f k = behind-again
+      (found_by (run_of w y.run).place (tick_or_run.Run y.run) (op.Sleeper sleeper_op.ExchangeFlag ∷ []))
+      (counted_by (eqb ((run_of w y.run).counted + 1) 64) w y f) (light-found (run_of w y.run).place y.run)
+      (counted-again (eqb ((run_of w y.run).counted + 1) 64) w y f k)
+
+  -- a steal goes on, or has ended
+
+  stolen-again : (t : Then) (w : World) (y : RunPoll) → y ≡ x → Running t → Again (stolen t w y)
+  stolen-again (then.Found f) w y k r = found-again w y f k
+  stolen-again (then.Run f) w y k r = run-found-again w y f k
+  stolen-again (then.Walk at left) w y k r = absurd r
+
+  length-again : (n : ℕ) (w : World) (s : Steal) → Steals s → Again (steal_length_by n w s)
+  length-again zero w s k = stolen-again s.then w s.poll k.0 k.1
+  length-again (suc n) w s k = record { control = _; side = _; is = refl; kind = k; light = refl }
+
+  steal-again : (n : ℕ) (w : World) (s : Steal) → Steals s → Again (steal_by n w s)
+  steal-again zero w s k = stolen-again s.then w s.poll k.0 k.1
+  steal-again (suc n) w s k = record { control = _; side = _; is = refl; kind = k; light = refl }
+
+  take-again : (q : List ℕ) (w : World) (s : Steal) (more : ℕ) → Steals s → Again (steal_take_by q w s more)
+  take-again [] w s more k = stolen-again s.then w s.poll k.0 k.1
+  take-again (f ∷ rest) w s more k = record { control = _; side = _; is = refl; kind = k; light = refl }
+
+  put-again : (b : Bool) (w : World) (s : Steal) (more f : ℕ) → Steals s → Again (steal_put_by b p w s more f)
+  put-again true w s more f k = steal-again more _ s k
+  put-again false w s more f k = behind-again (op.Queue (queue_op.Append f) ∷ []) (stolen s.then w s.poll) refl
+      (stolen-again s.then w s.poll k.0 k.1)
+
+  -- its own future was ready
+
+  not-pending : (a : Reply) → a ≡ reply.Ready → a ≢ reply.Pending
+  not-pending a k = λ e. let no : reply.Ready ≡ reply.Pending = sym k ∙ e in cc
+
+  reschedules : (q : List ℕ) (w : World) (r : ℕ) (a : Reply) → a ≡ reply.Ready → Again (reschedule_by q w r a)
+  reschedules [] w r a k = record { control = _; side = _; is = refl; kind = not-pending a k; light = refl }
+  reschedules (f ∷ rest) w r a k = record { control = _; side = _; is = refl; kind = k; light = refl }
+
+  -- a step of its own
+
+  -- it goes on as it did before
+  goes-before : (s : Machine) (u : Step) (d : Done) → Again d → Goes before s u d
+  goes-before s u d k = goes_on before k (λ ts z. inr (inr z))
+
+  looks-own : (s : Machine) (h : Hint) → refusal s (Go p h) ≡ None →
+      top (stack s p) ≡ Some (op.Tick (tick_op.Search (asleep x))) →
+      (q : List ℕ) → own_of s.world x.run ≡ q → Goes before s (Go p h) (search_own_by q s.world x)
+  looks-own s h e o [] i = goes_on at_common (record { control = _; side = _; is = refl; kind = refl; light = refl })
+      (λ ts z. ⊎_elim
+      (λ (y : CommonHadNone x p ts (stepped s (step s (Go p h)))). inl (
+        record {
+          looks = record { hint = h; is = refl; possible = e; next = o };
+          none = i;
+        },
+        y,
+      ))
+      (λ (y : RunFoundNone x p ts (stepped s (step s (Go p h)))). inr (inr y)) z)
+  looks-own s h e o (f ∷ rest) i = goes-before s (Go p h) _ (found-again (put_own s.world x.run rest) x f refl)
+
+  looks-common : (s : Machine) (h : Hint) → refusal s (Go p h) ≡ None → top (stack s p) ≡ Some (op.Run (run_op.SearchCommon x)) →
+      (q : List ℕ) → s.world.queue.items ≡ q → Goes at_common s (Go p h) (search_common_by q s.world x)
+  looks-common s h e o [] i = goes_on at_list (record { control = _; side = _; is = refl; kind = refl; light = refl })
+      (λ ts z. inl (inl (
+        record {
+          looks = record { hint = h; is = refl; possible = e; next = o };
+          none = i;
+        },
+        z,
+      )))
+  looks-common s h e o (f ∷ rest) i = goes_on before
+      (record { control = _; side = _; is = refl; kind = (refl, tt); light = refl }) (λ ts z. inr (inr (inr z)))
+
+  acts-before : (s : Machine) (h : Hint) (c : Op) → refusal s (Go p h) ≡ None → top (stack s p) ≡ Some c →
+      waits c ≡ false → is_end c ≡ false → Control before c → Goes before s (Go p h) (act p h c s.world)
+  acts-before s h (op.List (list_op.LockWrite (section.Register y))) e o w n k =
+      goes-before s (Go p h) _ (record { control = _; side = _; is = refl; kind = k; light = refl })
+  acts-before s h (op.List (list_op.LockWrite (section.Unregister r a))) e o w n k =
+      goes-before s (Go p h) _ (record { control = _; side = _; is = refl; kind = k; light = refl })
+  acts-before s h (op.List (list_op.Write (section.Register y))) e o w n k =
+      goes-before s (Go p h) _ (record { control = _; side = _; is = refl; kind = k; light = refl })
+  acts-before s h (op.List (list_op.Write (section.Unregister r a))) e o w n k =
+      goes-before s (Go p h) _ (record { control = _; side = _; is = refl; kind = k; light = refl })
+  acts-before s h (op.Run (run_op.Reschedule r a)) e o w n k =
+      goes-before s (Go p h) _ (reschedules (own_of s.world r) s.world r a k)
+  acts-before s h (op.Run (run_op.WakeOwn y)) e o w n k = had (λ ts. inr (inl (record {
+    hint = h;
+    is = refl;
+    possible = e;
+    next = o ∙ ap (λ (v : RunPoll). Some (op.Run (run_op.WakeOwn v))) k;
+  })))
+  acts-before s h (op.User (user_op.PollOwn y)) e o w n k = absurd (cc)
+  acts-before s h (op.Tick (tick_op.Search y)) e o w n k =
+      subst (λ (v : Sleeping). Goes before s (Go p h) (act p h (op.Tick (tick_op.Search v)) s.world)) (sym k)
+      (looks-own s h e (o ∙ ap (λ (v : Sleeping). Some (op.Tick (tick_op.Search v))) k) (own_of s.world x.run) refl)
+  acts-before s h (op.Steal (steal_op.Length y)) e o w n k =
+      goes-before s (Go p h) _ (length-again (length (source_of s.world y.from)) s.world y k)
+  acts-before s h (op.Steal (steal_op.OwnLength y m)) e o w n k =
+      goes-before s (Go p h) _ (steal-again (share m (free_places s.world y.poll.run)) s.world y k)
+  acts-before s h (op.Steal (steal_op.Take y more)) e o w n k =
+      goes-before s (Go p h) _ (take-again (source_of s.world y.from) s.world y more k)
+  acts-before s h (op.Steal (steal_op.Put y more f)) e o w n k = goes-before s (Go p h) _ (put-again _ s.world y more f k)
+  acts-before s h (op.End a held) e o w n k = absurd (cc)
+  acts-before s h _ e o w n k = absurd k
+
+  acts : (i : Far) (s : Machine) (h : Hint) (c : Op) → refusal s (Go p h) ≡ None → top (stack s p) ≡ Some c →
+      waits c ≡ false → is_end c ≡ false → Control i c → Goes i s (Go p h) (act p h c s.world)
+  acts before s h c e o w n k = acts-before s h c e o w n k
+  acts at_common s h (op.Run (run_op.SearchCommon y)) e o w n k =
+      subst (λ (v : RunPoll). Goes at_common s (Go p h) (act p h (op.Run (run_op.SearchCommon v)) s.world)) (sym k)
+      (looks-common s h e (o ∙ ap (λ (v : RunPoll). Some (op.Run (run_op.SearchCommon v))) k) s.world.queue.items refl)
+  acts at_common s h _ e o w n k = absurd k
+  acts at_list s h (op.List (list_op.LockRead y)) e o w n k = had (λ ts. inl (record {
+    hint = h;
+    is = refl;
+    possible = e;
+    next = o ∙ ap (λ (v : RunPoll). Some (op.List (list_op.LockRead v))) k;
+  }))
+  acts at_list s h _ e o w n k = absurd k
+
+  own-reacts : (s : Machine) (u : UserEnd) (y : RunPoll) → accepts (op.User (user_op.PollOwn y)) u ≡ true → y ≡ x →
+      Goes before s (Answer p u) (react p (op.User (user_op.PollOwn y)) u s.world)
+  own-reacts s (end.Polled answer.Pending) y v k = goes-before s _ _
+      (record { control = _; side = _; is = refl; kind = ap asleep k; light = refl })
+  own-reacts s (end.Polled answer.Ready) y v k = goes-before s _ _
+      (record { control = _; side = _; is = refl; kind = refl; light = refl })
+  own-reacts s end.Done y v k = absurd (cc)
+
+  reacts-before : (s : Machine) (u : UserEnd) (c : Op) → accepts c u ≡ true → Control before c →
+      Goes before s (Answer p u) (react p c u s.world)
+  reacts-before s u (op.User (user_op.PollOwn y)) v k = own-reacts s u y v k
+  reacts-before s u (op.User (user_op.Poll f)) v k = absurd k
+  reacts-before s u (op.User (user_op.BeginDrop f)) v k = absurd k
+  reacts-before s u (op.User (user_op.Drop f)) v k = absurd k
+  reacts-before s u (op.User (user_op.BeginDropOutput f)) v k = absurd k
+  reacts-before s u (op.User (user_op.DropOutput f)) v k = absurd k
+  reacts-before s u (op.User (user_op.CallOutside y)) v k = absurd k
+  reacts-before s u (op.User (user_op.DropOwn r)) v k = absurd k
+  reacts-before s u _ v k = absurd (cc)
+
+  reacts : (i : Far) (s : Machine) (u : UserEnd) (c : Op) → accepts c u ≡ true → Control i c →
+      Goes i s (Answer p u) (react p c u s.world)
+  reacts before s u c v k = reacts-before s u c v k
+  reacts at_common s u (op.Run (run_op.SearchCommon y)) v k = absurd (cc)
+  reacts at_common s u _ v k = absurd k
+  reacts at_list s u (op.List (list_op.LockRead y)) v k = absurd (cc)
+  reacts at_list s u _ v k = absurd k
+
+  later : (i : Far) (s : Machine) (u : Step) (ts : List Step) → Has i ts (stepped s (step s u)) → Has i (u ∷ ts) s
+  later before s u ts z = inr (inr z)
+  later at_common s u ts (inl z) = inl (inr z)
+  later at_common s u ts (inr z) = inr (inr (inr z))
+  later at_list s u ts z = inr z
+
+  ends : (i : Far) (a : Reply) (held : Hold) → Control i (op.End a held) → a ≢ reply.Pending
+  ends before a held k = k
+  ends at_common a held k = absurd k
+  ends at_list a held k = absurd k
+
+  follows : Follows p old Far Control Has
+  follows = record { later = later; acts = acts; reacts = reacts; ends = ends }
+
+  run-sought : (ts : List Step) (s : Machine) → Reached s → Lands p old Far Control before (own_part p s) →
+      IsAnswered reply.Pending p old ts s → RunFoundNone x p ts s
+  run-sought ts s y (on h) a = seek p old Far Control Has follows ts s y before h a
+  run-sought ts s y (over r held v k w l) a = absurd (omega (arith, answered-long reply.Pending p old ts s a, l))
+
+  begins : (t : Stage) (d : Done) → d.next ≡ poll_run t x → Again d
+  begins New d e = record { control = _; side = []; is = ap (λ (os : List Op). reverse os) e; kind = refl; light = refl }
+  begins Listed d e = record { control = _; side = []; is = ap (λ (os : List Op). reverse os) e; kind = refl; light = refl }
+  begins Ended d e = record {
+    control = _;
+    side = [];
+    is = ap (λ (os : List Op). reverse os) e;
+    kind = λ i. let no : reply.Finished ≡ reply.Pending = i in cc;
+    light = refl;
+  }
+
+sought : (s : Machine) → Reached s → RunsLookFirst s
+sought s y p r b e ts a =
+    let x : RunPoll = run_poll p r b s in
+    run-sought p x (stack s p) ts (stepped s (step s (Begin p (call.PollRun r b))))
+    (reached-on s (Begin p (call.PollRun r b) ∷ []) y)
+    (begins-so p Far (Control p x (stack s p)) before s (call.PollRun r b) e
+    (begins p x (stack s p) (run_of s.world r).stage _ refl)) a
+
+pub runs-look-first : (limit : ℕ) (kind : Kind) (parties : ℕ) (steps : List Step) →
+    RunsLookFirst (run steps (start limit kind parties))
+runs-look-first limit kind parties steps = sought (run steps (start limit kind parties))
+    (record { limit = limit; kind = kind; parties = parties; steps = steps; is = refl })

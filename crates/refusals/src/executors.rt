@@ -1,7 +1,8 @@
 //! Executors that threads share.
-use crate::kinds::{LEFT, LONG, Many, Polled, ROWS, Row, Runs, play};
+use crate::kinds::{LEFT, LONG, Many, Polled, ROWS, Row, Runs, Stage, Turn};
 use crate::parts::{Bell, Drops, Job, shown};
 use crate::report::{Call, Place, Report};
+use crate::rows::try_each;
 use async_executor::{
     ExCancel, ExFallible, ExRealm, ExTask, ExWaker, Executor, NoMemory, Run, RunError, SpawnError,
     StaticExecutor, Tick,
@@ -9,7 +10,6 @@ use async_executor::{
 use async_task::{Future, Poll, TaskError};
 use std::alloc::Global;
 use std::sync::Wait;
-use std::sync::atomic::Ordering::SeqCst;
 
 /// How many places an executor has.
 const LIMIT: usize = 4;
@@ -52,6 +52,30 @@ impl<R: Wait + Copy + Drop + 'static> Handle<R> {
             Handle::Cancel(cancel) => of_fallible(cancel.poll(waker)),
         }
     }
+
+    fn fallible(self) -> Self {
+        match self {
+            Handle::Task(task) => Handle::Fallible(task.fallible()),
+            Handle::Fallible(task) => Handle::Fallible(task),
+            Handle::Cancel(cancel) => Handle::Cancel(cancel),
+        }
+    }
+
+    fn cancel(self) -> Self {
+        match self {
+            Handle::Task(task) => Handle::Cancel(task.cancel()),
+            Handle::Fallible(task) => Handle::Fallible(task),
+            Handle::Cancel(cancel) => Handle::Cancel(cancel),
+        }
+    }
+
+    fn detach(self) {
+        match self {
+            Handle::Task(task) => drop(task.detach()),
+            Handle::Fallible(task) => drop(task),
+            Handle::Cancel(cancel) => drop(cancel),
+        }
+    }
 }
 
 /// What a poll of a handle ends with.
@@ -83,43 +107,43 @@ pub fn of_tick(polled: Poll<Result<(), NoMemory>>) -> Polled {
     }
 }
 
-/// An executor of either kind, and the waker that its ticks, runs and handles are polled by.
+/// An executor of either kind.
 #[derive(Drop)]
 enum OneOf<'a, R: Wait + Copy + Drop + 'static> {
     Owned(&'a TestExecutor<R>),
     Static(&'a TestStatic<R>),
 }
 
+/// An executor, what was made of it, and the waker that this is polled by.
 #[derive(Drop)]
-struct OnExecutor<'a, R: Wait + Copy + Drop + 'static> {
+struct OnExecutor<'a, 'w, R: Wait + Copy + Drop + 'static> {
     executor: OneOf<'a, R>,
-    waker: &'a TestWaker<R>,
+    waker: &'w TestWaker<R>,
     drops: &'static Drops,
+    handle: Option<Handle<R>>,
+    tick: Option<TestTick<'a, R>>,
+    run: Option<TestRun<'a, R>>,
 }
 
-impl<'a, R> Runs<Handle<R>, TestTick<'a, R>, TestRun<'a, R>> for OnExecutor<'a, R>
-where
-    R: Wait + Copy + Drop + 'static,
-{
-    fn job(&self, name: u64, wakes: u64) -> Job {
-        Job {
-            name,
-            wakes,
-            drops: self.drops,
-        }
+impl<'a, 'w, R: Wait + Copy + Drop + 'static> OnExecutor<'a, 'w, R> {
+    /// The handle that is left.
+    fn into_handle(self) -> Option<Handle<R>> {
+        let OnExecutor { handle, .. } = self;
+        handle
     }
+}
 
-    fn drops(&self) -> u64 {
-        self.drops.load(SeqCst)
-    }
-
-    fn spawn(&self, job: Job) -> Result<Handle<R>, Job> {
+impl<'a, 'w, R: Wait + Copy + Drop + 'static> Runs for OnExecutor<'a, 'w, R> {
+    fn spawn(&mut self, job: Job) -> Result<(), Job> {
         let spawned = match &self.executor {
             OneOf::Owned(executor) => executor.spawn(job),
             OneOf::Static(executor) => executor.spawn(job),
         };
         match spawned {
-            Ok(task) => Ok(Handle::Task(task)),
+            Ok(task) => {
+                self.handle = Some(Handle::Task(task));
+                Ok(())
+            }
             Err(SpawnError::NoMemory(job) | SpawnError::Full(job)) => Err(job),
         }
     }
@@ -131,27 +155,28 @@ where
         }
     }
 
-    fn tick(&self) -> Option<TestTick<'a, R>> {
-        match &self.executor {
+    fn tick(&mut self) -> bool {
+        let made = match &self.executor {
             OneOf::Owned(executor) => {
                 let executor: &'a TestExecutor<R> = *executor;
-                match executor.tick() {
-                    Ok(tick) => Some(tick),
-                    Err(_) => None,
-                }
+                executor.tick()
             }
             OneOf::Static(executor) => {
                 let executor: &'a TestStatic<R> = *executor;
-                match executor.tick() {
-                    Ok(tick) => Some(tick),
-                    Err(_) => None,
-                }
+                executor.tick()
             }
+        };
+        match made {
+            Ok(tick) => {
+                self.tick = Some(tick);
+                true
+            }
+            Err(_) => false,
         }
     }
 
-    fn run(&self, own: Job, is_seeded: bool) -> Result<TestRun<'a, R>, Job> {
-        match &self.executor {
+    fn run(&mut self, own: Job, is_seeded: bool) -> Result<(), Job> {
+        let made = match &self.executor {
             OneOf::Owned(executor) => {
                 let executor: &'a TestExecutor<R> = *executor;
                 match is_seeded {
@@ -166,6 +191,13 @@ where
                     false => executor.run(own),
                 }
             }
+        };
+        match made {
+            Ok(run) => {
+                self.run = Some(run);
+                Ok(())
+            }
+            Err(own) => Err(own),
         }
     }
 
@@ -183,41 +215,63 @@ where
         }
     }
 
-    fn poll_tick(&self, tick: &mut TestTick<'a, R>) -> Polled {
-        of_tick(tick.poll(self.waker))
+    fn poll_tick(&mut self) -> Option<Polled> {
+        match &mut self.tick {
+            Some(tick) => Some(of_tick(tick.poll(self.waker))),
+            None => None,
+        }
     }
 
-    fn poll_run(&self, run: &mut TestRun<'a, R>) -> Polled {
-        match run.poll(self.waker) {
+    fn poll_run(&mut self) -> Option<Polled> {
+        let polled = match &mut self.run {
+            Some(run) => run.poll(self.waker),
+            None => return None,
+        };
+        Some(match polled {
             Poll::Pending => Polled::Pending,
             Poll::Ready(Ok(number)) => Polled::Gave(number),
             Poll::Ready(Err(RunError::NoMemory)) => Polled::Refused,
             Poll::Ready(Err(RunError::Finished)) => Polled::Finished,
+        })
+    }
+
+    fn poll_handle(&mut self) -> Option<Polled> {
+        match &mut self.handle {
+            Some(handle) => Some(handle.poll(self.waker)),
+            None => None,
         }
     }
 
-    fn poll_handle(&self, handle: &mut Handle<R>) -> Polled {
-        handle.poll(self.waker)
+    fn turn(&mut self, turn: Turn) -> bool {
+        let Some(handle) = self.handle.take() else {
+            return false;
+        };
+        match turn {
+            Turn::Fallible => self.handle = Some(handle.fallible()),
+            Turn::Cancel => self.handle = Some(handle.cancel()),
+            Turn::Detach => handle.detach(),
+            Turn::Drop => drop(handle),
+        }
+        true
     }
 
-    fn fallible(&self, handle: Handle<R>) -> Handle<R> {
-        match handle {
-            Handle::Task(task) => Handle::Fallible(task.fallible()),
-            other => other,
+    fn drop_tick(&mut self) -> bool {
+        match self.tick.take() {
+            Some(tick) => {
+                drop(tick);
+                true
+            }
+            None => false,
         }
     }
 
-    fn cancel(&self, handle: Handle<R>) -> Handle<R> {
-        match handle {
-            Handle::Task(task) => Handle::Cancel(task.cancel()),
-            other => other,
-        }
-    }
-
-    fn detach(&self, handle: Handle<R>) {
-        match handle {
-            Handle::Task(task) => let_run(task),
-            other => drop(other),
+    fn drop_run(&mut self) -> bool {
+        match self.run.take() {
+            Some(run) => {
+                drop(run);
+                true
+            }
+            None => false,
         }
     }
 
@@ -227,11 +281,6 @@ where
             OneOf::Static(executor) => shown(*executor, all),
         }
     }
-}
-
-/// Its task goes on without a handle.
-fn let_run<R: Wait + Copy + Drop + 'static>(task: ExTask<u64, Bell, R>) {
-    drop(task.detach());
 }
 
 /// Spawns jobs of these names and drops their handles.
@@ -264,18 +313,28 @@ fn many<R: Wait + Copy + Drop + 'static>(
 }
 
 /// Makes these calls on an executor. The handle that is left is the answer.
-fn stage<'a, R: Wait + Copy + Drop + 'static>(
-    ground: &Ground<'a, R>,
+fn play<'a, 'w, R: Wait + Copy + Drop + 'static>(
+    ground: &Ground<'w, R>,
     executor: OneOf<'a, R>,
     rows: &[Row],
     report: &mut Report,
 ) -> Option<Handle<R>> {
-    let on = OnExecutor {
-        executor,
-        waker: ground.waker,
+    let mut stage = Stage {
+        executor: OnExecutor {
+            executor,
+            waker: ground.waker,
+            drops: ground.drops,
+            handle: None,
+            tick: None,
+            run: None,
+        },
         drops: ground.drops,
+        back: None,
+        next: 1,
     };
-    play::<OnExecutor<'a, R>, Handle<R>, TestTick<'a, R>, TestRun<'a, R>>(on, rows, report)
+    try_each(&mut stage, rows, report);
+    let Stage { executor, .. } = stage;
+    executor.into_handle()
 }
 
 /// An executor, which is made once more where that is refused.
@@ -316,16 +375,16 @@ pub fn try_executors<R: Wait + Copy + Drop + 'static>(
     let Some(executor) = lasting(ground, report) else {
         return false;
     };
-    drop(stage(ground, OneOf::Static(&executor), ROWS, report));
+    drop(play(ground, OneOf::Static(&executor), ROWS, report));
     report.come_to(Place::Executor);
     let Some(executor) = owned(ground, report) else {
         return false;
     };
-    drop(stage(ground, OneOf::Owned(&executor), ROWS, report));
-    drop(stage(ground, OneOf::Owned(&executor), LONG, report));
-    let left = stage(ground, OneOf::Owned(&executor), LEFT, report);
+    drop(play(ground, OneOf::Owned(&executor), ROWS, report));
+    drop(play(ground, OneOf::Owned(&executor), LONG, report));
+    let left = play(ground, OneOf::Owned(&executor), LEFT, report);
     let executor = executor.leak();
-    drop(stage(
+    drop(play(
         ground,
         OneOf::Static(&executor),
         &[Row::TryTick(true), Row::Drain],
@@ -339,7 +398,7 @@ fn ends<R: Wait + Copy + Drop + 'static>(ground: &Ground<'_, R>, report: &mut Re
     let Some(executor) = owned(ground, report) else {
         return false;
     };
-    let left = stage(ground, OneOf::Owned(&executor), LEFT, report);
+    let left = play(ground, OneOf::Owned(&executor), LEFT, report);
     drop(executor);
     is_left_with(left, ground.waker, Polled::Closed)
 }

@@ -1,7 +1,8 @@
 //! What all kinds of executors have in common, and the rows of calls on one.
-use crate::parts::Job;
-use crate::report::{Call, Report};
-use crate::rows::{Ended, Look, Trial, poll_ended, try_each};
+use crate::parts::{Drops, Job};
+use crate::report::Call;
+use crate::rows::{Ended, Look, Trial, poll_ended};
+use std::sync::atomic::Ordering::SeqCst;
 
 /// How a poll ended.
 #[derive(Clone, Copy, PartialEq, Eq)]
@@ -24,44 +25,50 @@ pub struct Many {
     pub next: Option<u64>,
 }
 
-/// An executor of any kind, whose handles are `H`, its ticks `T` and its runs `N`. They are polled by its own outside waker.
-pub trait Runs<H: Drop, T: Drop, N: Drop> {
-    /// A future of this name that wakes itself so often.
-    fn job(&self, name: u64, wakes: u64) -> Job;
-
-    /// How many futures were dropped.
-    fn drops(&self) -> u64;
-
-    /// A refused future comes back.
-    fn spawn(&self, job: Job) -> Result<H, Job>;
+/// An executor of any kind, with one handle, one tick and one run of it, each where it was made. They are polled by its own outside
+/// waker. What isn't there has no answer, or false.
+pub trait Runs: Drop {
+    /// The handle is kept. A refused future comes back.
+    fn spawn(&mut self, job: Job) -> Result<(), Job>;
 
     /// Spawns jobs of these names and drops their handles. A static executor has no such call: nothing.
     fn spawn_many(&self, from: u64, end: u64) -> Option<Many>;
 
-    fn tick(&self) -> Option<T>;
+    /// Whether it could be made.
+    fn tick(&mut self) -> bool;
 
     /// A refused future comes back. The first is by `run`, the second by `run_from`.
-    fn run(&self, own: Job, is_seeded: bool) -> Result<N, Job>;
+    fn run(&mut self, own: Job, is_seeded: bool) -> Result<(), Job>;
 
     fn try_tick(&self) -> bool;
 
     /// Nothing, where there is no such call.
     fn is_empty(&self) -> Option<bool>;
 
-    fn poll_tick(&self, tick: &mut T) -> Polled;
+    fn poll_tick(&mut self) -> Option<Polled>;
 
-    fn poll_run(&self, run: &mut N) -> Polled;
+    fn poll_run(&mut self) -> Option<Polled>;
 
-    fn poll_handle(&self, handle: &mut H) -> Polled;
+    fn poll_handle(&mut self) -> Option<Polled>;
 
-    fn fallible(&self, handle: H) -> H;
+    /// The handle becomes another, or it goes.
+    fn turn(&mut self, turn: Turn) -> bool;
 
-    fn cancel(&self, handle: H) -> H;
+    fn drop_tick(&mut self) -> bool;
 
-    fn detach(&self, handle: H);
+    fn drop_run(&mut self) -> bool;
 
     /// A number made of what it shows: all, or all before its runs' own queues and its sleepers.
     fn shown(&self, all: bool) -> u64;
+}
+
+/// What becomes of a handle.
+#[derive(Clone, Copy)]
+pub enum Turn {
+    Fallible,
+    Cancel,
+    Detach,
+    Drop,
 }
 
 /// A call on an executor.
@@ -82,10 +89,8 @@ pub enum Row {
     WorkRun(Polled),
     /// The kept handle is polled.
     Poll(Polled),
-    Fallible,
-    Cancel,
-    Detach,
-    DropHandle,
+    /// The kept handle becomes another, or it goes.
+    Turn(Turn),
     DropTick,
     DropRun,
     /// Whether a task was run.
@@ -102,7 +107,7 @@ pub const ROWS: &[Row] = &[
     Row::PollTick(Polled::Gave(0)),
     Row::Poll(Polled::Gave(7)),
     Row::Poll(Polled::Closed),
-    Row::DropHandle,
+    Row::Turn(Turn::Drop),
     Row::DropTick,
     Row::Spawn(8, 1),
     Row::Poll(Polled::Pending),
@@ -110,40 +115,40 @@ pub const ROWS: &[Row] = &[
     Row::Poll(Polled::Pending),
     Row::TryTick(true),
     Row::Poll(Polled::Gave(8)),
-    Row::DropHandle,
+    Row::Turn(Turn::Drop),
     Row::Spawn(9, 0),
-    Row::Fallible,
+    Row::Turn(Turn::Fallible),
     Row::Poll(Polled::Pending),
     Row::Drain,
     Row::Poll(Polled::Gave(9)),
-    Row::DropHandle,
+    Row::Turn(Turn::Drop),
     Row::Spawn(10, 0),
-    Row::Cancel,
+    Row::Turn(Turn::Cancel),
     Row::Poll(Polled::Pending),
     Row::TryTick(true),
     Row::Poll(Polled::Closed),
-    Row::DropHandle,
+    Row::Turn(Turn::Drop),
     Row::Run,
     Row::PollRun(Polled::Pending),
     Row::SpawnMany,
     Row::Spawn(11, 0),
     Row::WorkRun(Polled::Pending),
     Row::Poll(Polled::Gave(11)),
-    Row::DropHandle,
+    Row::Turn(Turn::Drop),
     Row::DropRun,
     Row::RunFrom,
     Row::DropRun,
     Row::Drain,
     Row::Spawn(12, 1),
-    Row::Detach,
+    Row::Turn(Turn::Detach),
     Row::Drain,
     Row::Spawn(13, 1),
-    Row::DropHandle,
+    Row::Turn(Turn::Drop),
     Row::Drain,
     Row::Tick, // a tick that was told is dropped, and what it was told of is still due
     Row::PollTick(Polled::Pending),
     Row::Spawn(14, 0),
-    Row::Detach,
+    Row::Turn(Turn::Detach),
     Row::DropTick,
     Row::TryTick(true),
     Row::Drain,
@@ -152,11 +157,11 @@ pub const ROWS: &[Row] = &[
 /// A run takes 200 in a poll, and these are 240: it is dropped, and they are still due.
 pub const LONG: &[Row] = &[
     Row::Spawn(15, 79),
-    Row::Detach,
+    Row::Turn(Turn::Detach),
     Row::Spawn(16, 79),
-    Row::Detach,
+    Row::Turn(Turn::Detach),
     Row::Spawn(17, 79),
-    Row::Detach,
+    Row::Turn(Turn::Detach),
     Row::RunFrom,
     Row::WorkRun(Polled::Pending),
     Row::DropRun,
@@ -167,75 +172,55 @@ pub const LONG: &[Row] = &[
 /// The rows behind which a future is left with its handle.
 pub const LEFT: &[Row] = &[Row::Spawn(18, 1), Row::TryTick(true)];
 
-/// An executor, and what was made of it.
+/// An executor, and what is known of the calls on it.
 #[derive(Drop)]
-struct Stage<E, H, T, N> {
-    executor: E,
-    handle: Option<H>,
-    tick: Option<T>,
-    run: Option<N>,
+pub struct Stage<E: Drop> {
+    pub executor: E,
+    pub drops: &'static Drops,
     /// A future that a refused call handed back.
-    back: Option<Job>,
+    pub back: Option<Job>,
     /// The name of the next that is spawned among many.
-    next: u64,
+    pub next: u64,
 }
 
-impl<E, H, T, N> Stage<E, H, T, N>
-where
-    E: Runs<H, T, N> + Drop,
-    H: Drop,
-    T: Drop,
-    N: Drop,
-{
-    fn new(executor: E) -> Stage<E, H, T, N> {
-        Stage {
-            executor,
-            handle: None,
-            tick: None,
-            run: None,
-            back: None,
-            next: 1,
-        }
-    }
-
+impl<E: Runs> Stage<E> {
     fn job(&mut self, name: u64, wakes: u64) -> Job {
         match self.back.take() {
             Some(job) => job,
-            None => self.executor.job(name, wakes),
+            None => Job {
+                name,
+                wakes,
+                drops: self.drops,
+            },
         }
     }
 
-    /// Refused, where the future of this name came back.
-    fn came_back(&mut self, job: Job, name: u64) -> Ended {
-        let is_same = job.name == name;
-        self.back = Some(job);
-        if is_same {
-            Ended::Refused
-        } else {
-            Ended::Wrong
+    /// Well, or refused where the future of this name came back.
+    fn accepted(&mut self, made: Result<(), Job>, name: u64) -> Ended {
+        match made {
+            Ok(()) => Ended::Well,
+            Err(job) => {
+                let is_same = job.name == name;
+                self.back = Some(job);
+                if is_same {
+                    Ended::Refused
+                } else {
+                    Ended::Wrong
+                }
+            }
         }
     }
 
     fn spawn(&mut self, name: u64, wakes: u64) -> Ended {
         let job = self.job(name, wakes);
-        match self.executor.spawn(job) {
-            Ok(handle) => {
-                self.handle = Some(handle);
-                Ended::Well
-            }
-            Err(job) => self.came_back(job, name),
-        }
+        let made = self.executor.spawn(job);
+        self.accepted(made, name)
     }
 
     fn make_run(&mut self, is_seeded: bool) -> Ended {
         let job = self.job(0, u64::MAX);
-        match self.executor.run(job, is_seeded) {
-            Ok(run) => {
-                self.run = Some(run);
-                Ended::Well
-            }
-            Err(job) => self.came_back(job, 0),
-        }
+        let made = self.executor.run(job, is_seeded);
+        self.accepted(made, 0)
     }
 
     /// Where the call is refused the handles so far were answered, the next future came back, and the rest is in the iterator.
@@ -267,53 +252,9 @@ where
         }
         Ended::Wrong
     }
-
-    /// The kept handle becomes another.
-    fn turn(&mut self, row: Row) -> Ended {
-        let Some(handle) = self.handle.take() else {
-            return Ended::Wrong;
-        };
-        match row {
-            Row::Fallible => self.handle = Some(self.executor.fallible(handle)),
-            Row::Cancel => self.handle = Some(self.executor.cancel(handle)),
-            Row::Detach => self.executor.detach(handle),
-            _ => drop(handle),
-        }
-        Ended::Well
-    }
 }
 
-/// Makes these calls on an executor. The handle that is left is the answer.
-pub fn play<E, H, T, N>(executor: E, rows: &[Row], report: &mut Report) -> Option<H>
-where
-    E: Runs<H, T, N> + Drop,
-    H: Drop,
-    T: Drop,
-    N: Drop,
-{
-    let mut stage: Stage<E, H, T, N> = Stage::new(executor);
-    try_each(&mut stage, rows, report);
-    stage.handle.take()
-}
-
-/// Drops what is there.
-fn let_go<T: Drop>(place: &mut Option<T>) -> Ended {
-    match place.take() {
-        Some(value) => {
-            drop(value);
-            Ended::Well
-        }
-        None => Ended::Wrong,
-    }
-}
-
-impl<E, H, T, N> Trial for Stage<E, H, T, N>
-where
-    E: Runs<H, T, N> + Drop,
-    H: Drop,
-    T: Drop,
-    N: Drop,
-{
+impl<E: Runs> Trial for Stage<E> {
     type Row = Row;
 
     fn name(&self, row: Row) -> Call {
@@ -331,7 +272,7 @@ where
     }
 
     fn look(&self, row: Row) -> Look {
-        let (shown, drops) = (self.executor.shown(false), self.executor.drops());
+        let (shown, drops) = (self.executor.shown(false), self.drops.load(SeqCst));
         match row {
             Row::SpawnMany => Look { shown: 0, drops },
             Row::WorkRun(_) => Look { shown: 0, drops: 0 },
@@ -347,39 +288,23 @@ where
         match row {
             Row::Spawn(name, wakes) => self.spawn(name, wakes),
             Row::SpawnMany => self.spawn_many(),
-            Row::Tick => match self.executor.tick() {
-                Some(tick) => {
-                    self.tick = Some(tick);
+            Row::Tick => {
+                if self.executor.tick() {
                     Ended::Well
+                } else {
+                    Ended::Refused
                 }
-                None => Ended::Refused,
-            },
+            }
             Row::Run => self.make_run(false),
             Row::RunFrom => self.make_run(true),
-            Row::PollTick(wanted) => {
-                let polled = match &mut self.tick {
-                    Some(tick) => Some(self.executor.poll_tick(tick)),
-                    None => None,
-                };
-                poll_ended(polled, wanted)
-            }
+            Row::PollTick(wanted) => poll_ended(self.executor.poll_tick(), wanted),
             Row::PollRun(wanted) | Row::WorkRun(wanted) => {
-                let polled = match &mut self.run {
-                    Some(run) => Some(self.executor.poll_run(run)),
-                    None => None,
-                };
-                poll_ended(polled, wanted)
+                poll_ended(self.executor.poll_run(), wanted)
             }
-            Row::Poll(wanted) => {
-                let polled = match &mut self.handle {
-                    Some(handle) => Some(self.executor.poll_handle(handle)),
-                    None => None,
-                };
-                poll_ended(polled, wanted)
-            }
-            Row::Fallible | Row::Cancel | Row::Detach | Row::DropHandle => self.turn(row),
-            Row::DropTick => let_go(&mut self.tick),
-            Row::DropRun => let_go(&mut self.run),
+            Row::Poll(wanted) => poll_ended(self.executor.poll_handle(), wanted),
+            Row::Turn(turn) => Ended::of(self.executor.turn(turn)),
+            Row::DropTick => Ended::of(self.executor.drop_tick()),
+            Row::DropRun => Ended::of(self.executor.drop_run()),
             Row::TryTick(wanted) => Ended::of(self.executor.try_tick() == wanted),
             Row::Drain => self.drain(),
         }

@@ -1,8 +1,7 @@
 //! What all kinds of executors have in common, and the rows of calls on one.
-use crate::parts::{Drops, Job};
-use crate::report::Call;
-use crate::rows::{Ended, Look, Trial, poll_ended};
-use std::sync::atomic::Ordering::SeqCst;
+use crate::parts::Job;
+use crate::report::{Call, Report};
+use crate::rows::{Ended, Look, Trial, poll_ended, try_each};
 
 /// How a poll ended.
 #[derive(Clone, Copy, PartialEq, Eq)]
@@ -25,38 +24,35 @@ pub struct Many {
     pub next: Option<u64>,
 }
 
-/// An executor of any kind, with one handle, one tick and one run of it, each where it was made. They are polled by its own outside
-/// waker. What isn't there has no answer, or false.
-pub trait Runs: Drop {
-    /// The handle is kept. A refused future comes back.
-    fn spawn(&mut self, job: Job) -> Result<(), Job>;
+/// An executor of any kind, whose handles are `H`, its ticks `T` and its runs `N`. They are polled by its own outside waker.
+pub trait Runs<H: Drop, T: Drop, N: Drop> {
+    /// A future of this name that wakes itself so often.
+    fn job(&self, name: u64, wakes: u64) -> Job;
+
+    /// How many futures were dropped.
+    fn drops(&self) -> u64;
+
+    /// A refused future comes back.
+    fn spawn(&self, job: Job) -> Result<H, Job>;
 
     /// Spawns jobs of these names and drops their handles. A static executor has no such call: nothing.
     fn spawn_many(&self, from: u64, end: u64) -> Option<Many>;
 
-    /// Whether it could be made.
-    fn tick(&mut self) -> bool;
+    fn tick(&self) -> Option<T>;
 
     /// A refused future comes back. The first is by `run`, the second by `run_from`.
-    fn run(&mut self, own: Job, is_seeded: bool) -> Result<(), Job>;
+    fn run(&self, own: Job, is_seeded: bool) -> Result<N, Job>;
 
     fn try_tick(&self) -> bool;
 
     /// Nothing, where there is no such call.
     fn is_empty(&self) -> Option<bool>;
 
-    fn poll_tick(&mut self) -> Option<Polled>;
+    fn poll_tick(&self, tick: &mut T) -> Polled;
 
-    fn poll_run(&mut self) -> Option<Polled>;
+    fn poll_run(&self, run: &mut N) -> Polled;
 
-    fn poll_handle(&mut self) -> Option<Polled>;
-
-    /// The handle becomes another, or it goes.
-    fn turn(&mut self, turn: Turn) -> bool;
-
-    fn drop_tick(&mut self) -> bool;
-
-    fn drop_run(&mut self) -> bool;
+    fn poll_handle(&self, handle: &mut H) -> Polled;
 
     /// A number made of what it shows: all, or all before its runs' own queues and its sleepers.
     fn shown(&self, all: bool) -> u64;
@@ -69,6 +65,12 @@ pub enum Turn {
     Cancel,
     Detach,
     Drop,
+}
+
+/// A handle, of which code that is generic over it lets go: what it holds stands at lifetimes that other code can't hand on.
+pub trait Turns: Drop {
+    /// It becomes another, or it goes.
+    fn turned(self, turn: Turn) -> Option<Self>;
 }
 
 /// A call on an executor.
@@ -172,55 +174,76 @@ pub const LONG: &[Row] = &[
 /// The rows behind which a future is left with its handle.
 pub const LEFT: &[Row] = &[Row::Spawn(18, 1), Row::TryTick(true)];
 
-/// An executor, and what is known of the calls on it.
+/// An executor, and what was made of it.
 #[derive(Drop)]
-pub struct Stage<E: Drop> {
-    pub executor: E,
-    pub drops: &'static Drops,
+pub struct Stage<E, H, T, N> {
+    executor: E,
+    /// The kept handle.
+    pub handle: Option<H>,
+    tick: Option<T>,
+    run: Option<N>,
     /// A future that a refused call handed back.
-    pub back: Option<Job>,
+    back: Option<Job>,
     /// The name of the next that is spawned among many.
-    pub next: u64,
+    next: u64,
 }
 
-impl<E: Runs> Stage<E> {
-    fn job(&mut self, name: u64, wakes: u64) -> Job {
-        match self.back.take() {
-            Some(job) => job,
-            None => Job {
-                name,
-                wakes,
-                drops: self.drops,
-            },
+impl<E, H, T, N> Stage<E, H, T, N>
+where
+    E: Runs<H, T, N> + Drop,
+    H: Turns,
+    T: Drop,
+    N: Drop,
+{
+    pub fn new(executor: E) -> Stage<E, H, T, N> {
+        Stage {
+            executor,
+            handle: None,
+            tick: None,
+            run: None,
+            back: None,
+            next: 1,
         }
     }
 
-    /// Well, or refused where the future of this name came back.
-    fn accepted(&mut self, made: Result<(), Job>, name: u64) -> Ended {
-        match made {
-            Ok(()) => Ended::Well,
-            Err(job) => {
-                let is_same = job.name == name;
-                self.back = Some(job);
-                if is_same {
-                    Ended::Refused
-                } else {
-                    Ended::Wrong
-                }
-            }
+    fn job(&mut self, name: u64, wakes: u64) -> Job {
+        match self.back.take() {
+            Some(job) => job,
+            None => self.executor.job(name, wakes),
+        }
+    }
+
+    /// Refused, where the future of this name came back.
+    fn came_back(&mut self, job: Job, name: u64) -> Ended {
+        let is_same = job.name == name;
+        self.back = Some(job);
+        if is_same {
+            Ended::Refused
+        } else {
+            Ended::Wrong
         }
     }
 
     fn spawn(&mut self, name: u64, wakes: u64) -> Ended {
         let job = self.job(name, wakes);
-        let made = self.executor.spawn(job);
-        self.accepted(made, name)
+        match self.executor.spawn(job) {
+            Ok(handle) => {
+                self.handle = Some(handle);
+                Ended::Well
+            }
+            Err(job) => self.came_back(job, name),
+        }
     }
 
     fn make_run(&mut self, is_seeded: bool) -> Ended {
         let job = self.job(0, u64::MAX);
-        let made = self.executor.run(job, is_seeded);
-        self.accepted(made, 0)
+        match self.executor.run(job, is_seeded) {
+            Ok(run) => {
+                self.run = Some(run);
+                Ended::Well
+            }
+            Err(job) => self.came_back(job, 0),
+        }
     }
 
     /// Where the call is refused the handles so far were answered, the next future came back, and the rest is in the iterator.
@@ -252,9 +275,48 @@ impl<E: Runs> Stage<E> {
         }
         Ended::Wrong
     }
+
+    fn turn(&mut self, turn: Turn) -> Ended {
+        match self.handle.take() {
+            Some(handle) => {
+                self.handle = handle.turned(turn);
+                Ended::Well
+            }
+            None => Ended::Wrong,
+        }
+    }
 }
 
-impl<E: Runs> Trial for Stage<E> {
+/// Makes these calls on an executor.
+pub fn play<E, H, T, N>(executor: E, rows: &[Row], report: &mut Report)
+where
+    E: Runs<H, T, N> + Drop,
+    H: Turns,
+    T: Drop,
+    N: Drop,
+{
+    let mut stage: Stage<E, H, T, N> = Stage::new(executor);
+    try_each(&mut stage, rows, report);
+}
+
+/// Drops what is there.
+fn let_go<T: Drop>(place: &mut Option<T>) -> Ended {
+    match place.take() {
+        Some(value) => {
+            drop(value);
+            Ended::Well
+        }
+        None => Ended::Wrong,
+    }
+}
+
+impl<E, H, T, N> Trial for Stage<E, H, T, N>
+where
+    E: Runs<H, T, N> + Drop,
+    H: Turns,
+    T: Drop,
+    N: Drop,
+{
     type Row = Row;
 
     fn name(&self, row: Row) -> Call {
@@ -272,7 +334,7 @@ impl<E: Runs> Trial for Stage<E> {
     }
 
     fn look(&self, row: Row) -> Look {
-        let (shown, drops) = (self.executor.shown(false), self.drops.load(SeqCst));
+        let (shown, drops) = (self.executor.shown(false), self.executor.drops());
         match row {
             Row::SpawnMany => Look { shown: 0, drops },
             Row::WorkRun(_) => Look { shown: 0, drops: 0 },
@@ -288,23 +350,39 @@ impl<E: Runs> Trial for Stage<E> {
         match row {
             Row::Spawn(name, wakes) => self.spawn(name, wakes),
             Row::SpawnMany => self.spawn_many(),
-            Row::Tick => {
-                if self.executor.tick() {
+            Row::Tick => match self.executor.tick() {
+                Some(tick) => {
+                    self.tick = Some(tick);
                     Ended::Well
-                } else {
-                    Ended::Refused
                 }
-            }
+                None => Ended::Refused,
+            },
             Row::Run => self.make_run(false),
             Row::RunFrom => self.make_run(true),
-            Row::PollTick(wanted) => poll_ended(self.executor.poll_tick(), wanted),
-            Row::PollRun(wanted) | Row::WorkRun(wanted) => {
-                poll_ended(self.executor.poll_run(), wanted)
+            Row::PollTick(wanted) => {
+                let polled = match &mut self.tick {
+                    Some(tick) => Some(self.executor.poll_tick(tick)),
+                    None => None,
+                };
+                poll_ended(polled, wanted)
             }
-            Row::Poll(wanted) => poll_ended(self.executor.poll_handle(), wanted),
-            Row::Turn(turn) => Ended::of(self.executor.turn(turn)),
-            Row::DropTick => Ended::of(self.executor.drop_tick()),
-            Row::DropRun => Ended::of(self.executor.drop_run()),
+            Row::PollRun(wanted) | Row::WorkRun(wanted) => {
+                let polled = match &mut self.run {
+                    Some(run) => Some(self.executor.poll_run(run)),
+                    None => None,
+                };
+                poll_ended(polled, wanted)
+            }
+            Row::Poll(wanted) => {
+                let polled = match &mut self.handle {
+                    Some(handle) => Some(self.executor.poll_handle(handle)),
+                    None => None,
+                };
+                poll_ended(polled, wanted)
+            }
+            Row::Turn(turn) => self.turn(turn),
+            Row::DropTick => let_go(&mut self.tick),
+            Row::DropRun => let_go(&mut self.run),
             Row::TryTick(wanted) => Ended::of(self.executor.try_tick() == wanted),
             Row::Drain => self.drain(),
         }

@@ -1,6 +1,6 @@
 //! Executors of one thread.
 use crate::executors::{of_fallible, of_task, of_tick};
-use crate::kinds::{LEFT, LONG, Many, Polled, ROWS, Row, Runs, Stage, Turn};
+use crate::kinds::{LEFT, LONG, Many, Polled, ROWS, Row, Runs, Stage, Turn, Turns, play};
 use crate::parts::{Bell, Drops, Job, shown};
 use crate::report::{Call, Place, Report};
 use crate::rows::try_each;
@@ -12,6 +12,7 @@ use local_executor::{
 use std::alloc::Global;
 use std::random::RandomSource;
 use std::sync::Wait;
+use std::sync::atomic::Ordering::SeqCst;
 
 /// How many places an executor has.
 const LIMIT: usize = 4;
@@ -51,28 +52,18 @@ impl<R: Wait + Copy + Drop + 'static> Handle<R> {
             Handle::Cancel(cancel) => of_fallible(cancel.poll(waker)),
         }
     }
+}
 
-    fn fallible(self) -> Self {
-        match self {
-            Handle::Task(task) => Handle::Fallible(task.fallible()),
-            Handle::Fallible(task) => Handle::Fallible(task),
-            Handle::Cancel(cancel) => Handle::Cancel(cancel),
-        }
-    }
-
-    fn cancel(self) -> Self {
-        match self {
-            Handle::Task(task) => Handle::Cancel(task.cancel()),
-            Handle::Fallible(task) => Handle::Fallible(task),
-            Handle::Cancel(cancel) => Handle::Cancel(cancel),
-        }
-    }
-
-    fn detach(self) {
-        match self {
-            Handle::Task(task) => task.detach(),
-            Handle::Fallible(task) => drop(task),
-            Handle::Cancel(cancel) => drop(cancel),
+impl<R: Wait + Copy + Drop + 'static> Turns for Handle<R> {
+    fn turned(self, turn: Turn) -> Option<Self> {
+        match (self, turn) {
+            (Handle::Task(task), Turn::Fallible) => Some(Handle::Fallible(task.fallible())),
+            (Handle::Task(task), Turn::Cancel) => Some(Handle::Cancel(task.cancel())),
+            (Handle::Task(task), Turn::Detach) => {
+                task.detach();
+                None
+            }
+            _ => None,
         }
     }
 }
@@ -84,37 +75,38 @@ enum OneOf<'a, R: Wait + Copy + Drop + 'static> {
     Static(&'a TestStatic<R>),
 }
 
-/// An executor, what was made of it, and the waker that this is polled by.
+/// An executor, and the waker that its ticks, runs and handles are polled by.
 #[derive(Drop)]
 struct OnExecutor<'a, 'w, R: Wait + Copy + Drop + 'static> {
     executor: OneOf<'a, R>,
     alloc: Global,
     waker: &'w TestLocalWaker<R>,
     drops: &'static Drops,
-    handle: Option<Handle<R>>,
-    tick: Option<TestTick<'a, R>>,
-    run: Option<TestRun<'a, R>>,
 }
 
-impl<'a, 'w, R: Wait + Copy + Drop + 'static> OnExecutor<'a, 'w, R> {
-    /// The handle that is left.
-    fn into_handle(self) -> Option<Handle<R>> {
-        let OnExecutor { handle, .. } = self;
-        handle
+impl<'a, 'w, R> Runs<Handle<R>, TestTick<'a, R>, TestRun<'a, R>> for OnExecutor<'a, 'w, R>
+where
+    R: Wait + Copy + Drop + 'static,
+{
+    fn job(&self, name: u64, wakes: u64) -> Job {
+        Job {
+            name,
+            wakes,
+            drops: self.drops,
+        }
     }
-}
 
-impl<'a, 'w, R: Wait + Copy + Drop + 'static> Runs for OnExecutor<'a, 'w, R> {
-    fn spawn(&mut self, job: Job) -> Result<(), Job> {
+    fn drops(&self) -> u64 {
+        self.drops.load(SeqCst)
+    }
+
+    fn spawn(&self, job: Job) -> Result<Handle<R>, Job> {
         let spawned = match &self.executor {
             OneOf::Owned(executor) => executor.spawn(job),
             OneOf::Static(executor) => executor.spawn(job),
         };
         match spawned {
-            Ok(task) => {
-                self.handle = Some(Handle::Task(task));
-                Ok(())
-            }
+            Ok(task) => Ok(Handle::Task(task)),
             Err(SpawnError::NoMemory(job) | SpawnError::Full(job)) => Err(job),
         }
     }
@@ -126,28 +118,27 @@ impl<'a, 'w, R: Wait + Copy + Drop + 'static> Runs for OnExecutor<'a, 'w, R> {
         }
     }
 
-    fn tick(&mut self) -> bool {
-        let made = match &self.executor {
+    fn tick(&self) -> Option<TestTick<'a, R>> {
+        match &self.executor {
             OneOf::Owned(executor) => {
                 let executor: &'a TestExecutor<R> = *executor;
-                executor.tick()
+                match executor.tick() {
+                    Ok(tick) => Some(tick),
+                    Err(_) => None,
+                }
             }
             OneOf::Static(executor) => {
                 let executor: &'a TestStatic<R> = *executor;
-                executor.tick()
+                match executor.tick() {
+                    Ok(tick) => Some(tick),
+                    Err(_) => None,
+                }
             }
-        };
-        match made {
-            Ok(tick) => {
-                self.tick = Some(tick);
-                true
-            }
-            Err(_) => false,
         }
     }
 
-    fn run(&mut self, own: Job, is_seeded: bool) -> Result<(), Job> {
-        let made = match &self.executor {
+    fn run(&self, own: Job, is_seeded: bool) -> Result<TestRun<'a, R>, Job> {
+        match &self.executor {
             OneOf::Owned(executor) => {
                 let executor: &'a TestExecutor<R> = *executor;
                 match is_seeded {
@@ -162,13 +153,6 @@ impl<'a, 'w, R: Wait + Copy + Drop + 'static> Runs for OnExecutor<'a, 'w, R> {
                     false => executor.run(own),
                 }
             }
-        };
-        match made {
-            Ok(run) => {
-                self.run = Some(run);
-                Ok(())
-            }
-            Err(own) => Err(own),
         }
     }
 
@@ -186,64 +170,21 @@ impl<'a, 'w, R: Wait + Copy + Drop + 'static> Runs for OnExecutor<'a, 'w, R> {
         }
     }
 
-    fn poll_tick(&mut self) -> Option<Polled> {
-        match &mut self.tick {
-            Some(tick) => Some(of_tick(tick.poll(self.waker))),
-            None => None,
-        }
+    fn poll_tick(&self, tick: &mut TestTick<'a, R>) -> Polled {
+        of_tick(tick.poll(self.waker))
     }
 
-    fn poll_run(&mut self) -> Option<Polled> {
-        let polled = match &mut self.run {
-            Some(run) => run.poll(self.waker),
-            None => return None,
-        };
-        Some(match polled {
+    fn poll_run(&self, run: &mut TestRun<'a, R>) -> Polled {
+        match run.poll(self.waker) {
             Poll::Pending => Polled::Pending,
             Poll::Ready(Ok(number)) => Polled::Gave(number),
             Poll::Ready(Err(RunError::NoMemory)) => Polled::Refused,
             Poll::Ready(Err(RunError::Finished)) => Polled::Finished,
-        })
-    }
-
-    fn poll_handle(&mut self) -> Option<Polled> {
-        match &mut self.handle {
-            Some(handle) => Some(handle.poll(self.waker)),
-            None => None,
         }
     }
 
-    fn turn(&mut self, turn: Turn) -> bool {
-        let Some(handle) = self.handle.take() else {
-            return false;
-        };
-        match turn {
-            Turn::Fallible => self.handle = Some(handle.fallible()),
-            Turn::Cancel => self.handle = Some(handle.cancel()),
-            Turn::Detach => handle.detach(),
-            Turn::Drop => drop(handle),
-        }
-        true
-    }
-
-    fn drop_tick(&mut self) -> bool {
-        match self.tick.take() {
-            Some(tick) => {
-                drop(tick);
-                true
-            }
-            None => false,
-        }
-    }
-
-    fn drop_run(&mut self) -> bool {
-        match self.run.take() {
-            Some(run) => {
-                drop(run);
-                true
-            }
-            None => false,
-        }
+    fn poll_handle(&self, handle: &mut Handle<R>) -> Polled {
+        handle.poll(self.waker)
     }
 
     fn shown(&self, all: bool) -> u64 {
@@ -285,30 +226,32 @@ fn many<R: Wait + Copy + Drop + 'static>(
     }
 }
 
-/// Makes these calls on an executor. The handle that is left is the answer.
-fn play<'a, 'w, R: Wait + Copy + Drop + 'static>(
+/// An executor to make calls on.
+fn on<'a, 'w, R: Wait + Copy + Drop + 'static>(
     ground: &LocalGround<'w, R>,
     executor: OneOf<'a, R>,
-    rows: &[Row],
+) -> OnExecutor<'a, 'w, R> {
+    OnExecutor {
+        executor,
+        alloc: ground.alloc,
+        waker: ground.waker,
+        drops: ground.drops,
+    }
+}
+
+/// The handle that is left behind calls on an executor.
+fn leave<'a, R: Wait + Copy + Drop + 'static>(
+    ground: &LocalGround<'_, R>,
+    executor: &'a TestExecutor<R>,
     report: &mut Report,
 ) -> Option<Handle<R>> {
-    let mut stage = Stage {
-        executor: OnExecutor {
-            executor,
-            alloc: ground.alloc,
-            waker: ground.waker,
-            drops: ground.drops,
-            handle: None,
-            tick: None,
-            run: None,
-        },
-        drops: ground.drops,
-        back: None,
-        next: 1,
-    };
-    try_each(&mut stage, rows, report);
-    let Stage { executor, .. } = stage;
-    executor.into_handle()
+    let mut stage: Stage<_, Handle<R>, TestTick<'a, R>, TestRun<'a, R>> = Stage::new(on(
+        ground,
+        OneOf::Owned(executor),
+    ));
+    try_each(&mut stage, LEFT, report);
+    let Stage { handle, .. } = stage;
+    handle
 }
 
 /// An executor, which is made once more where that is refused.
@@ -349,21 +292,20 @@ pub fn try_locals<R: RandomSource + Wait + Copy + Drop + 'static>(
     let Some(executor) = lasting(ground, report) else {
         return false;
     };
-    drop(play(ground, OneOf::Static(&executor), ROWS, report));
+    play(on(ground, OneOf::Static(&executor)), ROWS, report);
     report.come_to(Place::LocalExecutor);
     let Some(executor) = owned(ground, report) else {
         return false;
     };
-    drop(play(ground, OneOf::Owned(&executor), ROWS, report));
-    drop(play(ground, OneOf::Owned(&executor), LONG, report));
-    let left = play(ground, OneOf::Owned(&executor), LEFT, report);
+    play(on(ground, OneOf::Owned(&executor)), ROWS, report);
+    play(on(ground, OneOf::Owned(&executor)), LONG, report);
+    let left = leave(ground, &executor, report);
     let executor = executor.leak();
-    drop(play(
-        ground,
-        OneOf::Static(&executor),
+    play(
+        on(ground, OneOf::Static(&executor)),
         &[Row::TryTick(true), Row::Drain],
         report,
-    ));
+    );
     is_left_with(left, ground.waker, Polled::Gave(18)) & ends(ground, report)
 }
 
@@ -375,7 +317,7 @@ fn ends<R: RandomSource + Wait + Copy + Drop + 'static>(
     let Some(executor) = owned(ground, report) else {
         return false;
     };
-    let left = play(ground, OneOf::Owned(&executor), LEFT, report);
+    let left = leave(ground, &executor, report);
     drop(executor);
     is_left_with(left, ground.waker, Polled::Closed)
 }

@@ -235,6 +235,16 @@ where
         }
     }
 
+    fn make_tick(&mut self) -> Ended {
+        match self.executor.tick() {
+            Some(tick) => {
+                self.tick = Some(tick);
+                Ended::Well
+            }
+            None => Ended::Refused,
+        }
+    }
+
     fn make_run(&mut self, is_seeded: bool) -> Ended {
         let job = self.job(0, u64::MAX);
         match self.executor.run(job, is_seeded) {
@@ -350,13 +360,7 @@ where
         match row {
             Row::Spawn(name, wakes) => self.spawn(name, wakes),
             Row::SpawnMany => self.spawn_many(),
-            Row::Tick => match self.executor.tick() {
-                Some(tick) => {
-                    self.tick = Some(tick);
-                    Ended::Well
-                }
-                None => Ended::Refused,
-            },
+            Row::Tick => self.make_tick(),
             Row::Run => self.make_run(false),
             Row::RunFrom => self.make_run(true),
             Row::PollTick(wanted) => {

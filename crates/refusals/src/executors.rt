@@ -1,8 +1,7 @@
 //! Executors that threads share.
-use crate::kinds::{LEFT, LONG, Many, Polled, ROWS, Row, Runs, Stage, Turn, Turns, play};
+use crate::kinds::{LONG, Many, Polled, ROWS, Row, Runs, Turn, Turns, play};
 use crate::parts::{Bell, Drops, Job, shown};
 use crate::report::{Call, Place, Report};
-use crate::rows::try_each;
 use async_executor::{
     ExCancel, ExFallible, ExRealm, ExTask, ExWaker, Executor, NoMemory, Run, RunError, SpawnError,
     StaticExecutor, Tick,
@@ -265,19 +264,32 @@ fn on<'a, 'w, R: Wait + Copy + Drop + 'static>(
     }
 }
 
-/// The handle that is left behind calls on an executor.
-fn leave<'a, R: Wait + Copy + Drop + 'static>(
+/// The handle of a future that is left in an executor, polled once.
+fn leave<R: Wait + Copy + Drop + 'static>(
     ground: &Ground<'_, R>,
-    executor: &'a TestExecutor<R>,
+    executor: &TestExecutor<R>,
     report: &mut Report,
 ) -> Option<Handle<R>> {
-    let mut stage: Stage<_, Handle<R>, TestTick<'a, R>, TestRun<'a, R>> = Stage::new(on(
-        ground,
-        OneOf::Owned(executor),
-    ));
-    try_each(&mut stage, LEFT, report);
-    let Stage { handle, .. } = stage;
-    handle
+    report.go_on();
+    let mut job = Job {
+        name: 18,
+        wakes: 1,
+        drops: ground.drops,
+    };
+    for _ in 0..2 {
+        match executor.spawn(job) {
+            Ok(task) => {
+                report.go_on();
+                report.expect(executor.try_tick());
+                return Some(Handle::Task(task));
+            }
+            Err(SpawnError::NoMemory(back) | SpawnError::Full(back)) => {
+                report.is_refused(Call::Spawn);
+                job = back;
+            }
+        }
+    }
+    None
 }
 
 /// An executor, which is made once more where that is refused.

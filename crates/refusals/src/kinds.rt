@@ -171,15 +171,12 @@ pub const LONG: &[Row] = &[
     Row::Drain,
 ];
 
-/// The rows behind which a future is left with its handle.
-pub const LEFT: &[Row] = &[Row::Spawn(18, 1), Row::TryTick(true)];
-
 /// An executor, and what was made of it.
 #[derive(Drop)]
-pub struct Stage<E, H, T, N> {
+struct Stage<E, H, T, N> {
     executor: E,
     /// The kept handle.
-    pub handle: Option<H>,
+    handle: Option<H>,
     tick: Option<T>,
     run: Option<N>,
     /// A future that a refused call handed back.
@@ -195,7 +192,7 @@ where
     T: Drop,
     N: Drop,
 {
-    pub fn new(executor: E) -> Stage<E, H, T, N> {
+    fn new(executor: E) -> Stage<E, H, T, N> {
         Stage {
             executor,
             handle: None,

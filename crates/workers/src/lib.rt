@@ -3,6 +3,8 @@
 
 mod fault;
 mod from;
+mod from_places;
+mod from_waits;
 mod join_all;
 mod running;
 #[cfg(test)]

@@ -25,8 +25,8 @@ pub enum Fault {
     /// A queue, a channel or a timer is closed, or the sender of a value went without sending.
     #[error("closed: nothing more is taken, or comes")]
     Closed,
-    /// A channel has no message yet.
-    #[error("empty: no message is there")]
+    /// A channel has no message yet, or a queue no item.
+    #[error("empty: nothing is there")]
     Empty,
     /// The time was up before the future was ready.
     #[error("the time is up")]

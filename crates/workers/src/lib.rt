@@ -4,6 +4,7 @@
 mod fault;
 mod from;
 mod from_places;
+mod from_queues;
 mod from_waits;
 mod join_all;
 mod running;

@@ -9,3 +9,9 @@ pub mod Frames
 pub mod Counts
 pub mod EntryWeights
 pub mod Weights
+pub mod Named
+pub mod Fitness
+pub mod OwnPlaces
+pub mod Standing
+pub mod Once
+pub mod OnceCourses

@@ -15,3 +15,7 @@ pub mod OwnPlaces
 pub mod Standing
 pub mod Once
 pub mod OnceCourses
+pub mod Kept
+pub mod Giving
+pub mod CellFrames
+pub mod Given

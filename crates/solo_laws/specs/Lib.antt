@@ -3,3 +3,4 @@ pub mod Sleeping
 pub mod Futures
 pub mod Weights
 pub mod Queueing
+pub mod Outputs

@@ -8,6 +8,7 @@ ghost use Rattle.solo.specs.declared.owed.Spawned.{Spawned};
 ghost use Rattle.solo.specs.declared.solo.Solo.{Solo};
 ghost use Rattle.solo_laws.specs.Calls.{Call, Course};
 ghost use Rattle.solo_laws.specs.Futures.{ComesBack, IsNumbered, NoneIsLost};
+ghost use Rattle.solo_laws.specs.Outputs.{OutputsBalance};
 ghost use Rattle.solo_laws.specs.Queueing.{StandsOnce};
 ghost use Rattle.solo_laws.specs.Sleeping.{SomeoneIsTold};
 ghost use Rattle.solo_laws.specs.Weights.{Balances};
@@ -57,4 +58,12 @@ pub fn a_refused_future_comes_back<F, T, X>()
 pub fn a_task_stands_in_one_queue<F, T, X>()
     ensures { (task : Task) (limit : ℕ) (kind : Kind) (calls : List (Call F T X)) (first last : Solo F T X)
         → IsNew limit kind first → (does : Course calls first last) → StandsOnce task calls first last does }
+{}
+
+/// Whatever outputs are taken to weigh, what polls gave weighs as much as what is inside and what was handed out, to be dropped or
+/// to who polls the handle. So an output that a poll gave is kept for the handle, is given to it or is dropped, and only one of these,
+/// once.
+pub fn an_output_is_given_or_dropped_once<F, T, X>()
+    ensures { (weigh : T → ℕ) (limit : ℕ) (kind : Kind) (calls : List (Call F T X)) (first last : Solo F T X)
+        → IsNew limit kind first → (does : Course calls first last) → OutputsBalance weigh calls first last does }
 {}

@@ -7,8 +7,6 @@ mod door;
 mod many;
 mod moving;
 #[cfg(test)]
-mod owner;
-#[cfg(test)]
 mod runs;
 #[cfg(test)]
 mod texts;

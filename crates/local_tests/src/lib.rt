@@ -7,6 +7,8 @@ mod door;
 mod many;
 mod moving;
 #[cfg(test)]
+mod nested;
+#[cfg(test)]
 mod runs;
 #[cfg(test)]
 mod texts;

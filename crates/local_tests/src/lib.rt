@@ -9,8 +9,6 @@ mod moving;
 #[cfg(test)]
 mod nested;
 #[cfg(test)]
-mod owner;
-#[cfg(test)]
 mod runs;
 #[cfg(test)]
 mod texts;

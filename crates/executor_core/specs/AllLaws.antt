@@ -1,6 +1,7 @@
 -- All that holds of each machine to which steps of a new one lead, whatever its parties do: a line a law. Of a future f,
 -- of a run r, of a party p.
 use Rattle.std.specs.Prelude.{◌≡◌, ℕ, List}
+use Rattle.executor_parts.specs.declared.mark.Mark.{Mark}
 use Rattle.executor_model.specs.declared.kind.Kind.{Kind}
 use Rattle.executor_model.specs.declared.step.Hint.{Hint}
 use Rattle.executor_model.specs.declared.step.Step.{Step}
@@ -251,8 +252,8 @@ pub record AllLaws (s : Machine) : Type 0 where
   pub lone_emptiness : IsLoneEmptinessExact s
   -- however steps of a new machine led here, no more Runnables were queued than those steps, and the queue is one that
   -- counts them
-  pub queueings : (limit : ℕ) (kind : Kind) (parties : ℕ) (steps : List Step) → s ≡ run steps (start limit kind parties) →
-      CountsQueueings limit kind parties steps
+  pub queueings : (m : Mark) (limit : ℕ) (kind : Kind) (parties : ℕ) (steps : List Step) →
+      s ≡ run steps (start limit kind parties) → CountsQueueings m limit kind parties steps
   -- what has happened stays
   pub continued : (t : Step) → IsContinued s.world.trace (stepped s (step s t)).world.trace
   -- a call that begins at rest is answered at once, as it is

@@ -1,5 +1,6 @@
 //! Laws of every execution of the machine, of any number of parties and any list of steps.
 ghost use Rattle.std.specs.Prelude.{ℕ, List};
+ghost use Rattle.executor_parts.specs.declared.mark.Mark.{Mark};
 ghost use Rattle.executor_model.specs.declared.kind.Kind.{Kind};
 ghost use Rattle.executor_model.specs.declared.step.Step.{Step};
 ghost use Rattle.executor_model.specs.EveryTrace.{EveryTrace};
@@ -54,11 +55,12 @@ pub fn lone_calls_end()
     ensures { EveryMachine LoneCallsEnd }
 {}
 
-/// No more Runnables are queued in the executor's queue than steps taken. As long as fewer than 2^61 were queued, that
+/// No more Runnables are queued in either of the executor's queues than steps taken. As long as fewer than 2^61 were queued, that
 /// queue is a closable queue that counts what it accepts, and may accept one more. No Runnable is kept
 /// out of it but by its close, and none is taken from it where it is empty, by a steal neither.
 pub fn queueings_are_counted()
-    ensures { (limit : ℕ) (kind : Kind) (parties : ℕ) (steps : List Step) → CountsQueueings limit kind parties steps }
+    ensures { (m : Mark) (limit : ℕ) (kind : Kind) (parties : ℕ) (steps : List Step) →
+        CountsQueueings m limit kind parties steps }
 {}
 
 /// Whatever a party does, what has happened stays, and more may come behind it.
@@ -73,7 +75,7 @@ pub fn no_comes_at_once()
     ensures { EveryTrace NoComesAtOnce }
 {}
 
-/// Whatever others do meanwhile, a try of a tick is answered no only by a step in which the executor's queue is empty.
+/// Whatever others do meanwhile, a try of a tick is answered no only where it has found each of the executor's queues empty.
 pub fn no_means_that_nothing_was_queued()
     ensures { EveryMachine NoMeansEmpty }
 {}
@@ -189,8 +191,9 @@ pub fn common_futures_are_in_reach()
     lone_calls_end();
 }
 
-/// The executor's queue is first in, first out: as many calls that look for a future and are made alone as
-/// futures are common at their start begin the poll or the drop of each of those, whatever becomes common meanwhile.
+/// Each of the executor's queues is first in, first out: calls that look for a future and are made alone, and in which as many
+/// turns name a mark as futures of that mark are common at their start, begin the poll or the drop of each of those, whatever
+/// becomes common meanwhile. Where all futures are plain, as many calls do as futures are common.
 pub fn arrival_order_needs_fewer_ticks()
     ensures { EveryMachine IsReachedInOrder }
 {}

@@ -3,6 +3,7 @@
 use Rattle.std.proofs.Common.{◌≡◌, ℕ, ◌+◌, ◌<◌, ◌≤◌, List, [], ◌∷◌, ◌++◌, true, false, arith}
 use Rattle.std.proofs.lemmas.Bool.Decides.{nat_tests}
 use Rattle.std.specs.Prelude.{slice_set}
+use Rattle.executor_parts.specs.declared.mark.Mark.{Mark}
 use Rattle.task_moves.specs.declared.moves.owed.Move.{Move}
 use Rattle.task_moves.specs.declared.moves.owed.Move.TheVariants as move
 use Rattle.task_moves.proofs.Cases.{by_move}
@@ -79,8 +80,8 @@ KeepsOutput w old d = (g : ℕ) (r : Pend) (y : Extra) → Sure (seen w g (with_
     Given (seen w g (with_ops g old r) (with_extra g old y)) →
     Given (seen d.world g (with_ops g d.next r) (with_extra g d.next y))
 
-out-enters : (p : ℕ) (w : World) → KeepsOutput w (op.Table table_op.Enter ∷ []) (enter_by false false p w)
-out-enters p w g r y b h = grind (arith, same_is, fresh_is, read_push, outputs-push)
+out-enters : (mark : Mark) (p : ℕ) (w : World) → KeepsOutput w (op.Table (table_op.Enter mark) ∷ []) (enter_by false false mark p w)
+out-enters mark p w g r y b h = grind (arith, same_is, fresh_is, read_push, outputs-push)
 
 out-drops : (p f : ℕ) (w : World) → KeepsOutput w (op.User (user_op.BeginDrop f) ∷ []) (begin_drop p w f)
 out-drops p f w g r y b h = grind (arith, outputs-push)

@@ -4,6 +4,7 @@
 use Rattle.std.proofs.Common.{◌≡◌, ◌≤◌, ℕ, List, [], ◌∷◌, ◌++◌, length, Bool, true, false}
 use Rattle.std.proofs.Common.{refl, arith}
 use Rattle.std.specs.Prelude.{Option, Some, None}
+use Rattle.executor_parts.specs.declared.mark.Mark.{Mark}
 use Rattle.task_moves.specs.declared.moves.owed.Answer.{Answer}
 use Rattle.task_moves.specs.declared.moves.owed.Move.TheVariants as move
 use Rattle.task_moves.specs.declared.moves.owed.Moved.{Moved}
@@ -134,7 +135,7 @@ section-few r (section.Unregister q a) = same-few r q
 
 running-few : (r : ℕ) (o : Op) → running_of r o ≤ calling_of o
 running-few r (op.Move move.Wake f) = omega arith
-running-few r (op.Table table_op.Enter) = omega arith
+running-few r (op.Table (table_op.Enter mark)) = omega arith
 running-few r (op.Queue queue_op.Take) = omega arith
 running-few r (op.User (user_op.PollOwn x)) = same-few r x.run
 running-few r (op.Waker (waker_op.CopyWaker f held)) = omega arith
@@ -235,10 +236,10 @@ module _ (v : Op → ℕ) (m : Mild v) where
     mild-none (op.Move move.TakeUp f) refl,
   )
 
-  mild-enter : (b c : Bool) (p : ℕ) (w : World) → weigh v (acts.enter_by b c p w).next ≡ 0
-  mild-enter true c p w = omega (arith, m.executor)
-  mild-enter false true p w = omega (arith, m.executor)
-  mild-enter false false p w = omega (arith, m.spawned, mild-none (op.Queue (queue_op.Append (length w.tasks))) refl)
+  mild-enter : (b c : Bool) (mark : Mark) (p : ℕ) (w : World) → weigh v (acts.enter_by b c mark p w).next ≡ 0
+  mild-enter true c mark p w = omega (arith, m.executor)
+  mild-enter false true mark p w = omega (arith, m.executor)
+  mild-enter false false mark p w = omega (arith, m.spawned, mild-none (op.Queue (queue_op.Append (length w.tasks))) refl)
 
   mild-answered : (p : ℕ) (w : World) (f : ℕ) (x : Moved) (a : Answer) → weigh v (acts.answered p w f x a).next ≡ 0
   mild-answered p w f x a = omega (
@@ -287,7 +288,7 @@ module _ (v : Op → ℕ) (m : Mild v) where
   mild-make false w = omega (arith, m.executor)
 
   pub mild-next : (p : ℕ) (h : Hint) (o : Op) (w : World) → is_for_runs o ≡ false → weigh v (act p h o w).next ≡ 0
-  mild-next p h (op.Table table_op.Enter) w n = mild-enter _ _ p w
+  mild-next p h (op.Table (table_op.Enter mark)) w n = mild-enter _ _ _ p w
   mild-next p h (op.Queue queue_op.Take) w n = mild-take _ w
   mild-next p h (op.Table table_op.LookAtTable) w n = omega (arith, m.executor (acts.emptiness w.table))
   mild-next p h (op.Handle (handle_op.Look f a)) w n =

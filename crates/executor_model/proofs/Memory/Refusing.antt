@@ -5,6 +5,7 @@ use Rattle.std.proofs.Common.{refl, sym, ap, ◌∙◌, inl, inr, ⊎_elim, arit
 use Rattle.std.proofs.lemmas.Bool.Decides.{nat_tests}
 use Rattle.std.specs.List.{list_any}
 use Rattle.std.specs.Prelude.{Option, Some, None, nat_lt}
+use Rattle.executor_model.specs.declared.op.Look.TheVariants.{First, Second}
 use Rattle.task_moves.specs.Moves as moves
 use Rattle.task_moves.specs.Moves.{most_references, is_going}
 use Rattle.executor_parts.specs.Sleepers.{Sleepers, waker_at}
@@ -101,13 +102,14 @@ module _ (p : ℕ) (w : World) where
   make-unchanged true e = refl
   make-unchanged false e = absurd (cc)
 
-  search-unchanged : (x : Ticker) (q : List ℕ) (s : Sleeping) →
-      list_any may_refuse (of_sleepers.search_by x w q s).next ≡ true →
-      (of_sleepers.search_by x w q s).world ≡ w
-  search-unchanged x [] s e = refl
-  search-unchanged Awake (f ∷ rest) s e = absurd (cc)
-  search-unchanged (Asleep n) (f ∷ rest) s e = absurd (cc)
-  search-unchanged Left (f ∷ rest) s e = absurd (cc)
+  search-unchanged : (look : Look) (x : Ticker) (q : List ℕ) (s : Sleeping) →
+      list_any may_refuse (of_sleepers.look_tick_by x w look q s).next ≡ true →
+      (of_sleepers.look_tick_by x w look q s).world ≡ w
+  search-unchanged (First mark) x [] s e = refl
+  search-unchanged (Second mark) x [] s e = refl
+  search-unchanged look Awake (f ∷ rest) s e = absurd (cc)
+  search-unchanged look (Asleep n) (f ∷ rest) s e = absurd (cc)
+  search-unchanged look Left (f ∷ rest) s e = absurd (cc)
 
   copies-unchanged : (b : Bool) (s : Sleeping) →
       list_any ends_for_want (of_sleepers.copy_sleeper_by b w s).next ≡ true →
@@ -161,9 +163,9 @@ module _ (p : ℕ) (w : World) where
   tick-sleeps (Asleep n) s = again-sleeps _ n s
   tick-sleeps Left s = refl
 
-  who-unchanged : (who : TickOrRun) (s : Sleeping) → s.who ≡ who →
-      list_any may_refuse (search_by_who who w s).next ≡ true → is_run_poll who ≡ false →
-      (search_by_who who w s).world ≡ w
+  who-unchanged : (who : TickOrRun) (p : ℕ) (s : Sleeping) → s.who ≡ who →
+      list_any may_refuse (search_by_who who p w s).next ≡ true → is_run_poll who ≡ false →
+      (search_by_who who p w s).world ≡ w
   who-unchanged (tick_or_run.Tick t) s q e r = search-unchanged _ _ s e
   who-unchanged (tick_or_run.Run x) s q e r = absurd (cc)
 
@@ -176,6 +178,7 @@ module _ (p : ℕ) (w : World) where
   unchanged h (op.Handle (handle_op.CopyAwaiter f a)) e n r = awaiter-unchanged _ f a e
   unchanged h (op.Tick tick_op.MakeTick) e n r = make-unchanged h.refused e
   unchanged h (op.Tick (tick_op.Search s)) e n r = who-unchanged s.who s refl e r
+  unchanged h (op.Tick (tick_op.Look s look)) e n r = refl
   unchanged h (op.Tick (tick_op.CopyWaker s)) e n r = absurd (cc)
   unchanged h (op.Tick (tick_op.FallAsleep s)) e n r = absurd (cc)
   unchanged h (op.User (user_op.PollOwn x)) e n r = absurd (cc)
@@ -288,12 +291,13 @@ module _ (p : ℕ) (w : World) where
   make-told true e = refl
   make-told false e = absurd (cc)
 
-  search-told : (x : Ticker) (q : List ℕ) (s : Sleeping) →
-      list_any ends_for_want (of_sleepers.search_by x w q s).next ≡ true → ⊥
-  search-told x [] s e = absurd (cc)
-  search-told Awake (f ∷ rest) s e = absurd (cc)
-  search-told (Asleep n) (f ∷ rest) s e = absurd (cc)
-  search-told Left (f ∷ rest) s e = absurd (cc)
+  search-told : (look : Look) (x : Ticker) (q : List ℕ) (s : Sleeping) →
+      list_any ends_for_want (of_sleepers.look_tick_by x w look q s).next ≡ true → ⊥
+  search-told (First mark) x [] s e = absurd (cc)
+  search-told (Second mark) x [] s e = absurd (cc)
+  search-told look Awake (f ∷ rest) s e = absurd (cc)
+  search-told look (Asleep n) (f ∷ rest) s e = absurd (cc)
+  search-told look Left (f ∷ rest) s e = absurd (cc)
 
   anew-told : (b : Bool) (s : Sleeping) → list_any ends_for_want (of_sleepers.sleep_anew_by b w s).next ≡ true → ⊥
   anew-told true s e = absurd (cc)
@@ -351,8 +355,8 @@ module _ (p : ℕ) (w : World) where
   sleeper-told h (Outside x) t k e =
       inl (outside-copied-told h.refused (record { waker = Outside x; who = t; poll = k }) e)
 
-  who-told : (who : TickOrRun) (s : Sleeping) → list_any ends_for_want (search_by_who who w s).next ≡ true → ⊥
-  who-told (tick_or_run.Tick t) s e = search-told _ w.queue.items s e
+  who-told : (who : TickOrRun) (p : ℕ) (s : Sleeping) → list_any ends_for_want (search_by_who who p w s).next ≡ true → ⊥
+  who-told (tick_or_run.Tick t) s e = search-told _ p w.queue.items s e
   who-told (tick_or_run.Run r) s e =
       not-both _ e (untold-search ends_for_want untold-want w (record { run = r; waker = s.waker; poll = s.poll }))
 
@@ -386,7 +390,8 @@ module _ (p : ℕ) (w : World) where
       list_any ends_for_want (run_act p h o w).next ≡ true → h.refused ≡ true
   run-told h run_op.MakeRoom n e = room-told h.refused e
   run-told h run_op.ReturnRoom n e = absurd (cc)
-  run-told h (run_op.SearchCommon x) n e = absurd (not-both _ e (untold-common ends_for_want untold-want w x))
+  run-told h (run_op.TakeTurn x) n e = absurd (not-both _ e (untold-common ends_for_want untold-want w x))
+  run-told h (run_op.SearchCommon x look) n e = absurd (not-both _ e (untold-common ends_for_want untold-want w x))
   run-told h (run_op.LookOwn x at left) n e =
       absurd (not-both _ e (untold-look ends_for_want untold-want (λ s. refl) w x at left))
   run-told h (run_op.WakeOwn x) n e =
@@ -411,6 +416,7 @@ module _ (p : ℕ) (w : World) where
   told h (op.Handle (handle_op.CopyAwaiter f (Outside x))) n e = inl (outside-told h.refused f (Outside x) e)
   told h (op.Tick tick_op.MakeTick) n e = inl (make-told h.refused e)
   told h (op.Tick (tick_op.Search s)) n e = absurd (who-told s.who s e)
+  told h (op.Tick (tick_op.Look s look)) n e = absurd (who-told s.who s e)
   told h (op.Tick (tick_op.CopyWaker s)) n e = sleeper-told h s.waker s.who s.poll e
   told h (op.Tick (tick_op.FallAsleep s)) n e = absurd (sleep-told (place_of w s.who) s e)
   told h (op.User (user_op.PollOwn x)) n e = absurd (cc)

@@ -2,6 +2,7 @@
 -- What a run does where it searches, steals and runs what it has found leads to nothing that these tests are for.
 use Rattle.std.proofs.Common.{◌≡◌, ℕ, zero, suc, ◌+◌, List, [], ◌∷◌, ◌++◌, Bool, true, false, ◌||◌, eqb, refl, ap, ◌∙◌}
 use Rattle.std.specs.List.{list_any}
+use Rattle.executor_model.specs.declared.op.Look.TheVariants.{First, Second}
 use Rattle.task_moves.specs.declared.moves.owed.Move.TheVariants as move
 use Rattle.executor_model.specs.declared.op.ListOp.TheVariants as list_op
 use Rattle.executor_model.specs.declared.op.Op.{Op}
@@ -75,6 +76,7 @@ module _ (t : Op → Bool) (u : Untold t) where
 
   pub untold-stolen : (n : Then) (w : World) (x : RunPoll) → list_any t (stolen n w x).next ≡ false
   untold-stolen (then.Found f) w x = untold-found w x f
+  untold-stolen (then.StealPlain f) w x = refl
   untold-stolen (then.Run f) w x = untold-run_by _ w x f
   untold-stolen (then.Walk at left) w x = alone (op.Run (run_op.LookOwn x at left)) (u.look x at left)
 
@@ -109,9 +111,10 @@ module _ (t : Op → Bool) (u : Untold t) where
   pub untold-search : (w : World) (x : RunPoll) → list_any t (search_own w x).next ≡ false
   untold-search w x = untold-own _ w x
 
-  untold-common_by : (q : List ℕ) (w : World) (x : RunPoll) → list_any t (search_common_by q w x).next ≡ false
-  untold-common_by [] w x = alone (op.List (list_op.LockRead x)) (u.lock x)
-  untold-common_by (f ∷ rest) w x =
+  untold-common_by : (look : Look) (q : List ℕ) (w : World) (x : RunPoll) → list_any t (search_common_by q w x look).next ≡ false
+  untold-common_by (First mark) [] w x = alone (op.List (list_op.LockRead x)) (u.lock x)
+  untold-common_by (Second mark) [] w x = alone (op.List (list_op.LockRead x)) (u.lock x)
+  untold-common_by look (f ∷ rest) w x =
       let o = steal_op.Length (record { poll = x; from = Common; then = then.Found f }) in alone (op.Steal o)
       (u.steal o)
 

@@ -14,6 +14,8 @@ use Rattle.executor_model.specs.declared.call.Reply.{Reply}
 use Rattle.executor_model.specs.declared.call.Reply.TheVariants as reply
 use Rattle.executor_model.specs.declared.op.Hold.TheVariants as hold
 use Rattle.std.specs.List.{list_any}
+use Rattle.executor_model.specs.World.{queue_of}
+use Rattle.executor_model.specs.Acts.{mark_in}
 use Rattle.executor_model.specs.declared.event.Answer.TheVariants as polled
 use Rattle.executor_model.specs.declared.event.Event.TheVariants as event
 use Rattle.executor_model.specs.declared.op.Op.{Op}
@@ -92,7 +94,8 @@ none-move false m p w f = refl
 
 none-act : (p : ℕ) (w : World) (h : Hint) (o : Op) → may_refuse o ≡ false → AsksForNone (act p h o w).next
 none-act p w h (op.Table (table_op.Enter mark)) e = absurd (cc)
-none-act p w h (op.Queue queue_op.Take) e = none-take w w.queue.items
+none-act p w h (op.Queue queue_op.TakeTurn) e = refl
+none-act p w h (op.Queue (queue_op.Take look)) e = none-take w (queue_of w (mark_in look)).items
 none-act p w h (op.Table table_op.LookAtTable) e = none-look_at_table w w.table
 none-act p w h (op.Queue (queue_op.Append f)) e = none-append _ w f
 none-act p w h (op.Move m f) e = none-move _ m p w f
@@ -110,6 +113,7 @@ none-act p w h (op.Waker (waker_op.CallAwaiter f a k)) e = none-call p w f a k
 none-act p w h (op.Sleeper o) e = none-sleeper p o w
 none-act p w h (op.Tick tick_op.MakeTick) e = absurd (cc)
 none-act p w h (op.Tick (tick_op.Search s)) e = absurd (cc)
+none-act p w h (op.Tick (tick_op.Look s look)) e = absurd (cc)
 none-act p w h (op.Tick (tick_op.CopyWaker s)) e = absurd (cc)
 none-act p w h (op.Tick (tick_op.FallAsleep s)) e = absurd (cc)
 none-act p w h (op.Tick (tick_op.WakeUp t)) e = none-up _ w t
@@ -120,7 +124,7 @@ none-act p w h (op.Run o) e = none-run p h o w e
 none-act p w h (op.Closing closing_op.TakeOut) e = none-closing w.table w.waking
 none-act p w h (op.Closing closing_op.DropNext) e = none-drop_next p w w.leaving
 none-act p w h (op.Closing closing_op.WakeNext) e = none-wake_next p w w.waking
-none-act p w h (op.Closing closing_op.Drain) e = none-drain p w w.queue.items
+none-act p w h (op.Closing (closing_op.Drain mark)) e = none-drain p w (queue_of w mark).items
 none-act p w h (op.Closing closing_op.LeakOut) e = none-leak_out _ w
 none-act p w h (op.Closing closing_op.LeakNext) e = none-leak_next _ p w w.waking
 none-act p w h (op.User (user_op.BeginDrop f)) e = refl

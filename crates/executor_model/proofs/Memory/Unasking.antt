@@ -4,6 +4,7 @@ use Rattle.std.proofs.Common.{ℕ, List, [], ◌∷◌, ◌++◌, Bool, true, fa
 use Rattle.std.proofs.lemmas.List.Folds.{list_any-append}
 use Rattle.std.specs.List.{list_any}
 use Rattle.std.specs.Prelude.{Option, Some, None}
+use Rattle.executor_parts.specs.declared.mark.Mark.{Mark}
 use Rattle.task_moves.specs.declared.moves.owed.Move.{Move}
 use Rattle.task_moves.specs.declared.moves.owed.Move.TheVariants as move
 use Rattle.task_moves.specs.declared.moves.owed.FutureDebt.{FutureDebt}
@@ -110,9 +111,9 @@ pub none-take : (w : World) (items : List ℕ) → AsksForNone (acts.take_by w i
 none-take w [] = refl
 none-take w (f ∷ rest) = refl
 
-pub none-append : (b : Bool) (w : World) (f : ℕ) → AsksForNone (acts.append_by b w f).next
-none-append true w f = refl
-none-append false w f = refl
+pub none-append : (b : Bool) (w : World) (mark : Mark) (f : ℕ) → AsksForNone (acts.append_by b w mark f).next
+none-append true w mark f = refl
+none-append false w mark f = refl
 
 pub none-look_at_table : (w : World) (table : List ℕ) → AsksForNone (op.End (acts.emptiness table) hold.Executor ∷ [])
 none-look_at_table w [] = refl

@@ -383,9 +383,9 @@ apart-drain Urgent p w [] = apart w _ refl refl
 apart-drain Plain p w [] = apart w _ refl refl
 apart-drain mark p w (f ∷ rest) = apart w _ refl refl
 
-apart-append : (b : Bool) (w : World) (f : ℕ) → Apart w (acts.append_by b w f)
-apart-append true w f = apart w _ refl refl
-apart-append false w f = apart w _ refl refl
+apart-append : (b : Bool) (w : World) (mark : Mark) (f : ℕ) → Apart w (acts.append_by b w mark f)
+apart-append true w mark f = apart w _ refl refl
+apart-append false w mark f = apart w _ refl refl
 
 apart-exchange : (b : Bool) (w : World) → Apart w (exchange_by b w)
 apart-exchange true w = apart w _ refl refl
@@ -399,7 +399,7 @@ apart-hand_out true (Some s) w = apart w _ refl refl
 pub apart-act : (p : ℕ) (h : Hint) (o : Op) (w : World) → is_run o ≡ false → Apart w (act p h o w)
 apart-act p h (op.Queue queue_op.TakeTurn) w n = refl
 apart-act p h (op.Queue (queue_op.Take look)) w n = apart-take look _ w
-apart-act p h (op.Queue (queue_op.Append f)) w n = apart-append _ w f
+apart-act p h (op.Queue (queue_op.Append f)) w n = apart-append _ w _ f
 apart-act p h (op.User (user_op.PollOwn x)) w n = absurd (cc)
 apart-act p h (op.Sleeper sleeper_op.ExchangeFlag) w n = apart-exchange _ w
 apart-act p h (op.Sleeper sleeper_op.HandOut) w n = apart-hand_out _ _ w

@@ -162,9 +162,9 @@ fin-take (First mark) [] w = refl
 fin-take (Second mark) [] w = refl
 fin-take look (f ∷ rest) w = refl
 
-fin-append : (b : Bool) (w : World) (f : ℕ) → weigh fin (append_by b w f).next ≡ 0
-fin-append true w f = refl
-fin-append false w f = refl
+fin-append : (b : Bool) (w : World) (mark : Mark) (f : ℕ) → weigh fin (append_by b w mark f).next ≡ 0
+fin-append true w mark f = refl
+fin-append false w mark f = refl
 
 fin-user : (p : ℕ) (o : UserOp) (w : World) → weigh fin (user_act p o w).next ≡ 0
 fin-user p (user_op.BeginDrop f) w = refl
@@ -366,7 +366,7 @@ fin-act p h (op.Move m f) w z = fin-move (stands_alone m) m p w f
 fin-act p h (op.Table o) w z = fin-table p h o w
 fin-act p h (op.Queue queue_op.TakeTurn) w z = refl
 fin-act p h (op.Queue (queue_op.Take look)) w z = fin-take look _ w
-fin-act p h (op.Queue (queue_op.Append f)) w z = fin-append _ w f
+fin-act p h (op.Queue (queue_op.Append f)) w z = fin-append _ w _ f
 fin-act p h (op.User o) w z = fin-user p o w
 fin-act p h (op.Waker (waker_op.CopyWaker f held)) w z = fin-copy _ w f held
 fin-act p h (op.Waker (waker_op.CallAwaiter f a k)) w z = call-unseen fin unseen p w (of.Handle f) a k

@@ -197,9 +197,9 @@ none-owed f there o = aside-owed calling_of no-call f there o
 
 -- each thing to do, but for the end of a call
 
-pub calls-append : (b : Bool) (w : World) (f : ℕ) → Calls w (op.Queue (queue_op.Append f)) (append_by b w f)
-calls-append true w f = inside w _ _ refl (steady-same _ _ refl) refl
-calls-append false w f = inside w _ _ refl (steady-same _ _ refl) refl
+pub calls-append : (b : Bool) (w : World) (mark : Mark) (f : ℕ) → Calls w (op.Queue (queue_op.Append f)) (append_by b w mark f)
+calls-append true w mark f = inside w _ _ refl (steady-same _ _ refl) refl
+calls-append false w mark f = inside w _ _ refl (steady-same _ _ refl) refl
 
 pub calls-take : (look : Look) (q : List ℕ) (w : World) → Calls w (op.Queue (queue_op.Take look)) (take_by w look q)
 calls-take (First mark) [] w = answers w _ _ refl (steady-same _ _ refl) (single _ refl)

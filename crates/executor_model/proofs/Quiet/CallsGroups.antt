@@ -60,7 +60,7 @@ calls-act p h (op.Table (table_op.Enter mark)) w n = calls-enter _ _ _ p w
 calls-act p h (op.Queue queue_op.TakeTurn) w n = refl
 calls-act p h (op.Queue (queue_op.Take look)) w n = calls-take look _ w
 calls-act p h (op.Table table_op.LookAtTable) w n = answers w _ _ refl (steady-same _ _ refl) (single _ refl)
-calls-act p h (op.Queue (queue_op.Append f)) w n = calls-append _ w f
+calls-act p h (op.Queue (queue_op.Append f)) w n = calls-append _ w _ f
 calls-act p h (op.Move m f) w n = calls-move _ m p w f
 calls-act p h (op.User (user_op.BeginDrop f)) w n =
     inside w _ _ refl (steady-log _ _ (event.Dropped p f) refl (λ q. refl) (λ q. refl)) refl

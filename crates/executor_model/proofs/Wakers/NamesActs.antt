@@ -95,9 +95,9 @@ module _ (k : ℕ) (a : Waker) where
   takes (Second mark) [] w h = (h, (tt, tt))
   takes look (f ∷ rest) w h = (record { awaiters = h.awaiters; sleepers = h.sleepers; told = h.told }, (tt, (tt, (tt, tt))))
 
-  pub appends : (b : Bool) (w : World) (f : ℕ) → Stored k a w → Ends k a (append_by b w f)
-  appends true w f h = (record { awaiters = h.awaiters; sleepers = h.sleepers; told = h.told }, (tt, tt))
-  appends false w f h = (h, (tt, tt))
+  pub appends : (b : Bool) (w : World) (mark : Mark) (f : ℕ) → Stored k a w → Ends k a (append_by b w mark f)
+  appends true w mark f h = (record { awaiters = h.awaiters; sleepers = h.sleepers; told = h.told }, (tt, tt))
+  appends false w mark f h = (h, (tt, tt))
 
   pub copies : (b : Bool) (w : World) (f : ℕ) (held : Hold) → Stored k a w → Ends k a (copy_by b w f held)
   copies true w f held h = (h, (tt, tt))

@@ -352,7 +352,7 @@ module _ (k : ℕ) (a : Waker) where
   names-act p c (op.Table (table_op.LeaveTable f)) w n h r = leaves k a _ w f h
   names-act p c (op.Queue queue_op.TakeTurn) w n h r = refl
   names-act p c (op.Queue (queue_op.Take look)) w n h r = takes look k a _ w h
-  names-act p c (op.Queue (queue_op.Append f)) w n h r = appends k a _ w f h
+  names-act p c (op.Queue (queue_op.Append f)) w n h r = appends k a _ w _ f h
   names-act p c (op.User o) w n h r = users p c o w h r
   names-act p c (op.Waker (waker_op.CopyWaker f held)) w n h r = copies k a _ w f held h
   names-act p c (op.Waker (waker_op.CallAwaiter f b j)) w n h r = calls-waker k a p w (of.Handle f) b j r h

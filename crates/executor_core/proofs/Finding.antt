@@ -79,8 +79,8 @@ ready_ops x f = op.Sleeper sleeper_op.ExchangeFlag ∷ op.Move move.TakeUp f ∷
 pub found-tick : (w : World) (x : Sleeping) (f : ℕ) (rest : List ℕ) (sleeps : Bool) → w.queue.items ≡ f ∷ rest →
     sleeps ≡ is_asleep (place_of w x.who) →
     search_tick w x
-    ≡ done (record w { queue = record w.queue { items = drop 1 w.queue.items } }) (wakes_up sleeps x.who ++ ready_ops x f)
+    ≡ done (record w { queue = record w.queues { items = drop 1 w.queue.items } }) (wakes_up sleeps x.who ++ ready_ops x f)
 found-tick w x f rest sleeps e l =
     ap (λ (q : List ℕ). search_by (place_of w x.who) w q x) e
-    ∙ ap (λ (ops : List Op). done (record w { queue = record w.queue { items = drop 1 w.queue.items } }) ops)
+    ∙ ap (λ (ops : List Op). done (record w { queue = record w.queues { items = drop 1 w.queue.items } }) ops)
     (wakes_up-first (place_of w x.who) x.who sleeps (ready_ops x f) l)

@@ -1,6 +1,7 @@
 -- What is done with the table and the queue goes as `call_steps` says.
 use Rattle.std.proofs.Common.{◌≡◌, ℕ, Bool, true, false, ◌&&◌, not, List, [], ◌∷◌, length, refl, sym}
 use Rattle.std.specs.Prelude.{nat_lt}
+use Rattle.executor_parts.specs.declared.mark.Mark.{Mark}
 use Rattle.executor_model.specs.declared.op.QueueOp.{QueueOp}
 use Rattle.executor_model.specs.declared.op.QueueOp.TheVariants as queue_op
 use Rattle.executor_model.specs.declared.op.TableOp.{TableOp}
@@ -16,10 +17,10 @@ use Rattle.call_steps.specs.Next.{next, next_queue, next_table}
 use Rattle.executor_laws.specs.SeenByCalls.{allowed, entry, entry_with_waker, first, some_there, seen_queue, seen_table}
 use Rattle.executor_laws.specs.StepsOfCalls.{queue_step_of, reply_of, steps_of, table_step_of}
 
-of-enter : (x y : Bool) (p : ℕ) (w : World) → steps_of (enter_by x y p w).next ≡ next_table table_step.Enter (entry x y w)
+of-enter : (x y : Bool) (mark : Mark) (p : ℕ) (w : World) → steps_of (enter_by x y mark p w).next ≡ next_table table_step.Enter (entry x y w)
 of-enter true y p w = refl
-of-enter false true p w = refl
-of-enter false false p w = refl
+of-enter false true mark p w = refl
+of-enter false false mark p w = refl
 
 of-look : (fs : List ℕ) → next_table table_step.LookAtTable (some_there fs) ≡ step.End (reply_of (emptiness fs)) ∷ []
 of-look [] = refl
@@ -45,7 +46,7 @@ of-append false w f = refl
 
 pub of-table : (p : ℕ) (h : Hint) (o : TableOp) (w : World) →
     steps_of (table_act p h o w).next ≡ next (step.Table (table_step_of o)) (seen_table h o w)
-of-table p h table_op.Enter w = of-enter (not (nat_lt (length w.table) w.limit)) h.refused p w
+of-table p h (table_op.Enter mark) w = of-enter (not (nat_lt (length w.table) w.limit)) h.refused p w
 of-table p h table_op.LookAtTable w = sym (of-look w.table)
 of-table p h (table_op.TakeToPoll f) w = refl
 of-table p h (table_op.PutBack f) w = refl

@@ -172,7 +172,7 @@ pub keeps-act : (p : ℕ) (h : Hint) (o : Op) (w : World) → is_apart o ≡ tru
 keeps-act p h (op.Move m g) w n j k = keeps-plain p h (op.Move m g) w refl (λ f. load-move m g f n)
 keeps-act p h (op.Table (table_op.TakeToDrop g)) w n j k =
     of-idle w _ _ (idle w _ refl refl refl) (λ r. refl) (λ r. refl) (λ f. omega arith)
-keeps-act p h (op.Table table_op.Enter) w n j k = keeps-plain p h (op.Table table_op.Enter) w refl (λ f. refl)
+keeps-act p h (op.Table (table_op.Enter mark)) w n j k = keeps-plain p h (op.Table (table_op.Enter mark)) w refl (λ f. refl)
 keeps-act p h (op.Table table_op.LookAtTable) w n j k =
     keeps-plain p h (op.Table table_op.LookAtTable) w refl (λ f. refl)
 keeps-act p h (op.Table (table_op.TakeToPoll g)) w n j k =

@@ -101,28 +101,28 @@ or-true false t z = ap is_over_stage z
 -- a call begins: the tasks and the queue stay
 record Idles (w : World) (d : Done) : Type 0 where
   pub tasks : d.world.tasks ≡ w.tasks
-  pub queue : d.world.queue ≡ w.queue
+  pub queue : d.world.queues ≡ w.queues
   pub appends : (g : ℕ) → weigh (appends_of g) d.next ≡ 0
   pub polls : (g : ℕ) → weigh (polls_of g) d.next ≡ 0
   pub ending : (g : ℕ) → weigh (ending_of g) d.next ≡ 0
 
-idles : (w v : World) (next : List Op) → v.tasks ≡ w.tasks → v.queue ≡ w.queue →
+idles : (w v : World) (next : List Op) → v.tasks ≡ w.tasks → v.queues ≡ w.queues →
     ((g : ℕ) → weigh (appends_of g) next ≡ 0) → ((g : ℕ) → weigh (polls_of g) next ≡ 0) →
     ((g : ℕ) → weigh (ending_of g) next ≡ 0) → Idles w (done v next)
 idles w v next a b x y z = record { tasks = a; queue = b; appends = x; polls = y; ending = z }
 
-idles-with : (w v : World) (x : Option ℕ) (d : ℕ → Done) → v.tasks ≡ w.tasks → v.queue ≡ w.queue →
+idles-with : (w v : World) (x : Option ℕ) (d : ℕ → Done) → v.tasks ≡ w.tasks → v.queues ≡ w.queues →
     ((f : ℕ) → Idles w (d f)) → Idles w (with_future v x d)
 idles-with w v None d a b k = idles w v [] a b (λ g. refl) (λ g. refl) (λ g. refl)
 idles-with w v (Some f) d a b k = k f
 
-idles-poll : (w v : World) (t : Stage) (x : RunPoll) → v.tasks ≡ w.tasks → v.queue ≡ w.queue →
+idles-poll : (w v : World) (t : Stage) (x : RunPoll) → v.tasks ≡ w.tasks → v.queues ≡ w.queues →
     Idles w (done v (poll_run t x))
 idles-poll w v New x a b = idles w v _ a b (λ g. refl) (λ g. refl) (λ g. refl)
 idles-poll w v Listed x a b = idles w v _ a b (λ g. refl) (λ g. refl) (λ g. refl)
 idles-poll w v Ended x a b = idles w v _ a b (λ g. refl) (λ g. refl) (λ g. refl)
 
-idles-drop : (w v : World) (t : Stage) (q : ℕ) → v.tasks ≡ w.tasks → v.queue ≡ w.queue → Idles w (done v (drop_run t q))
+idles-drop : (w v : World) (t : Stage) (q : ℕ) → v.tasks ≡ w.tasks → v.queues ≡ w.queues → Idles w (done v (drop_run t q))
 idles-drop w v New q a b = idles w v _ a b (λ g. refl) (λ g. refl) (λ g. refl)
 idles-drop w v Listed q a b = idles w v _ a b (λ g. refl) (λ g. refl) (λ g. refl)
 idles-drop w v Ended q a b = idles w v _ a b (λ g. refl) (λ g. refl) (λ g. refl)

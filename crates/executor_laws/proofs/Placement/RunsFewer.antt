@@ -10,7 +10,7 @@ use Rattle.executor_model.proofs.Awaiters.RunsQueue.Takes.{stays, first}
 pub record Fewer (w v : World) : Type 0 where
   pub items : (g : ℕ) → times g v.queue.items ≤ times g w.queue.items
 
-pub untouched : (w v : World) → v.queue ≡ w.queue → Fewer w v
+pub untouched : (w v : World) → v.queues ≡ w.queues → Fewer w v
 untouched w v e = record {
   items = λ g. omega (arith, ap (λ (q : ClosableQueue ℕ). times g q.items) e);
 }

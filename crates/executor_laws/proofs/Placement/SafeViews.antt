@@ -6,6 +6,7 @@ use Rattle.std.proofs.Common.{◌∙◌, arith}
 use Rattle.std.proofs.lemmas.Bool.Decides.{nat_tests}
 use Rattle.std.proofs.lemmas.List.{length-append}
 use Rattle.std.specs.Prelude.{slice_set}
+use Rattle.executor_parts.specs.declared.mark.Mark.{Mark}
 use Rattle.task_moves.specs.declared.moves.owed.Move.{Move}
 use Rattle.task_moves.specs.declared.moves.owed.Move.TheVariants as move
 use Rattle.task_moves.proofs.Cases.{by_move}
@@ -126,8 +127,8 @@ entered_is : (b : Bool) → ((entered b).scheduled ≡ true) × ((entered b).run
 entered_is true = (refl, refl, refl, refl)
 entered_is false = (refl, refl, refl, refl)
 
-away-enters : (p : ℕ) (w : World) → KeepsAway w (op.Table table_op.Enter ∷ []) (enter_by false false p w)
-away-enters p w g r y b h =
+away-enters : (mark : Mark) (p : ℕ) (w : World) → KeepsAway w (op.Table (table_op.Enter mark) ∷ []) (enter_by false false mark p w)
+away-enters mark p w g r y b h =
     let e = entered_is w.is_static in grind (arith, same_is, fresh_is, read_push, times-append, length-append)
 
 away-unlists : (w : World) (f : ℕ) → KeepsAway w (op.Table (table_op.LeaveTable f) ∷ []) (leave_by true w f)

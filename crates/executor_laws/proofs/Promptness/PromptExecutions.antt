@@ -236,7 +236,7 @@ own-begun p w here c os z t = record { told = told-begun p w here c t; stands = 
     as-slow x n = slow (slow-onto os (begun p (v x) here x).next z n)
 
     go : (x : Call) → Stands p (os ++ reverse (begun p (v x) here x).next) (deeds p (begun p (v x) here x).world.trace)
-    go call.Spawn = as-slow call.Spawn refl
+    go (call.Spawn mark) = as-slow (call.Spawn mark) refl
     go call.TryTick = quick os (op.Queue queue_op.Take) refl refl z
         (fresh-log p w.trace (event.CallBegun p call.TryTick) refl
         ∙ self-begun p call.TryTick)

@@ -6,6 +6,7 @@ use Rattle.std.proofs.lemmas.Bool.Decides.{nat_tests}
 use Rattle.std.proofs.lemmas.List.Elements.{filter-append}
 use Rattle.std.specs.List.{filter}
 use Rattle.std.specs.Prelude.{Option, Some, None, is_none}
+use Rattle.executor_parts.specs.declared.mark.Mark.{Mark}
 use Rattle.executor_parts.specs.Sleepers.{waker_at, waker_of}
 use Rattle.task_moves.specs.declared.moves.owed.Answer.{Answer}
 use Rattle.task_moves.specs.declared.moves.owed.Answer.TheVariants.{Refused, Pending, Closed, Output}
@@ -276,10 +277,10 @@ slow-end_register : (b : Bool) (w : World) (f : ℕ) (a : Waker) (k : ℕ) →
 slow-end_register true w f a k = omega (arith, slow-let_go f (awaiter_of w f))
 slow-end_register false w f a k = slow-let_go f (awaiter_of w f)
 
-slow-enter : (b c : Bool) (p : ℕ) (w : World) → weigh hasty (enter_by b c p w).next ≡ 0
-slow-enter true c p w = refl
-slow-enter false true p w = refl
-slow-enter false false p w = refl
+slow-enter : (b c : Bool) (mark : Mark) (p : ℕ) (w : World) → weigh hasty (enter_by b c mark p w).next ≡ 0
+slow-enter true c mark p w = refl
+slow-enter false true mark p w = refl
+slow-enter false false mark p w = refl
 
 slow-copy : (b : Bool) (w : World) (f : ℕ) (held : Hold) → weigh hasty (copy_by b w f held).next ≡ 0
 slow-copy true w f held = refl
@@ -414,7 +415,7 @@ slow-run p h (run_op.Reschedule r a) w z = slow-reschedule _ w r a z
 -- of what answers a call
 slow-calling : (p : ℕ) (h : Hint) (o : Op) (w : World) → calling_of o ≡ 1 → hasty o ≡ 0 → is_end o ≡ false →
     weigh hasty (act p h o w).next ≡ 0
-slow-calling p h (op.Table table_op.Enter) w c z n = slow-enter _ _ p w
+slow-calling p h (op.Table (table_op.Enter mark)) w c z n = slow-enter _ _ _ p w
 slow-calling p h (op.Waker (waker_op.CopyWaker f held)) w c z n = slow-copy _ w f held
 slow-calling p h (op.Handle (handle_op.Look f a)) w c z n =
     slow-look (moves.poll (task w f)).owed.answer p w f a (moves.poll (task w f))

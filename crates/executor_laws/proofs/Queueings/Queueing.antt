@@ -68,24 +68,24 @@ data Turns (o : Op) (q new : ClosableQueue ℕ) : Type 0 where
   shuts : new ≡ shut q → Turns o q new
 
 turns-append : (c : Bool) (l : Bool) (w : World) (f : ℕ) → w.queue.closed ≡ c →
-    Turns (op.Queue (queue_op.Append f)) w.queue (append_by (not c && l) w f).world.queue
+    Turns (op.Queue (queue_op.Append f)) w.queues (append_by (not c && l) w f).world.queues
 turns-append true l w f e = same refl
 turns-append false true w f e = more f refl e refl
 turns-append false false w f e = same refl
 
 turns-take : (w : World) (items : List ℕ) → w.queue.items ≡ items →
-    Turns (op.Queue queue_op.Take) w.queue (take_by w items).world.queue
+    Turns (op.Queue queue_op.Take) w.queues (take_by w items).world.queues
 turns-take w [] e = same refl
 turns-take w (f ∷ rest) e = less f rest e refl
 
 turns-drain : (p : ℕ) (w : World) (items : List ℕ) → w.queue.items ≡ items →
-    Turns (op.Closing closing_op.Drain) w.queue (drain_by p w items).world.queue
+    Turns (op.Closing closing_op.Drain) w.queues (drain_by p w items).world.queues
 turns-drain p w [] e = same refl
 turns-drain p w (f ∷ rest) e = less f rest e refl
 
 -- of what a tick does, the search alone takes
 turns-search : (x : Ticker) (w : World) (items : List ℕ) (s : Sleeping) → w.queue.items ≡ items →
-    Turns (op.Tick (tick_op.Search s)) w.queue (search_by x w items s).world.queue
+    Turns (op.Tick (tick_op.Search s)) w.queues (search_by x w items s).world.queues
 turns-search x w [] s e = same refl
 turns-search x w (f ∷ rest) s e = less f rest e refl
 
@@ -93,24 +93,24 @@ turns-search x w (f ∷ rest) s e = less f rest e refl
 
 turns-stolen : (from : Source) (q : List ℕ) (w : World) (s : Steal) (left : ℕ) → s.from ≡ from →
     runs.source_of w from ≡ q →
-    Turns (op.Steal (steal_op.Take s left)) w.queue (runs.steal_take_by q w s left).world.queue
+    Turns (op.Steal (steal_op.Take s left)) w.queues (runs.steal_take_by q w s left).world.queues
 turns-stolen from [] w s left i e = same (queue-stolen s.then w s.poll)
 turns-stolen Common (f ∷ rest) w s left i e =
     less f rest e (ap (λ (a : Source). (runs.without_first w a rest).queue) i)
 turns-stolen (Own r) (f ∷ rest) w s left i e = same (ap (λ (a : Source). (runs.without_first w a rest).queue) i)
 
-turns-steal : (p : ℕ) (o : StealOp) (w : World) → Turns (op.Steal o) w.queue (steal_act p o w).world.queue
+turns-steal : (p : ℕ) (o : StealOp) (w : World) → Turns (op.Steal o) w.queues (steal_act p o w).world.queues
 turns-steal p (steal_op.Length s) w = same (queue-length _ w s)
 turns-steal p (steal_op.OwnLength s n) w = same (queue-more _ w s)
 turns-steal p (steal_op.Take s left) w = turns-stolen s.from _ w s left refl refl
 turns-steal p (steal_op.Put s left f) w = same (queue-put _ p w s left f)
 
 turns-common : (q : List ℕ) (w : World) (x : RunPoll) → w.queue.items ≡ q →
-    Turns (op.Run (run_op.SearchCommon x)) w.queue (runs.search_common_by q w x).world.queue
+    Turns (op.Run (run_op.SearchCommon x)) w.queues (runs.search_common_by q w x).world.queues
 turns-common [] w x e = same refl
 turns-common (f ∷ rest) w x e = less f rest e refl
 
-turns-run : (p : ℕ) (h : Hint) (o : RunOp) (w : World) → Turns (op.Run o) w.queue (run_act p h o w).world.queue
+turns-run : (p : ℕ) (h : Hint) (o : RunOp) (w : World) → Turns (op.Run o) w.queues (run_act p h o w).world.queues
 turns-run p h run_op.MakeRoom w = same (queue-room _ w)
 turns-run p h run_op.ReturnRoom w = same refl
 turns-run p h (run_op.SearchCommon x) w = turns-common _ w x refl
@@ -120,17 +120,17 @@ turns-run p h (run_op.WakeOwn x) w =
 turns-run p h (run_op.Reschedule r a) w = same (queue-reschedule _ w r a)
 
 turns-searches : (who : TickOrRun) (w : World) (s : Sleeping) →
-    Turns (op.Tick (tick_op.Search s)) w.queue (search_by_who who w s).world.queue
+    Turns (op.Tick (tick_op.Search s)) w.queues (search_by_who who w s).world.queues
 turns-searches (tick_or_run.Tick t) w s = turns-search _ w w.queue.items s refl
 turns-searches (tick_or_run.Run r) w s = same (queue-own _ w _)
 
 turns-tick : (h : Hint) (o : TickOp) (w : World) (b : Bool) → searches o ≡ b →
-    Turns (op.Tick o) w.queue (tick_act h o w).world.queue
+    Turns (op.Tick o) w.queues (tick_act h o w).world.queues
 turns-tick h (tick_op.Search s) w b e = turns-searches s.who w s
 turns-tick h o w false e = same (sym (ap (λ (r : Rest). r.queue) (tick-rest h o w e)))
 turns-tick h _ w true e = absurd (cc)
 
-turns-act : (p : ℕ) (h : Hint) (o : Op) (w : World) → Turns o w.queue (act p h o w).world.queue
+turns-act : (p : ℕ) (h : Hint) (o : Op) (w : World) → Turns o w.queues (act p h o w).world.queues
 turns-act p h (op.Queue queue_op.Take) w = turns-take w w.queue.items refl
 turns-act p h (op.Queue (queue_op.Append f)) w = turns-append w.queue.closed _ w f refl
 turns-act p h (op.Sleeper o) w = same (sym (ap (λ (r : Rest). r.queue) (sleeper-rest p o w)))
@@ -143,19 +143,19 @@ turns-act p h (op.Closing closing_op.Drain) w = turns-drain p w w.queue.items re
 turns-act p h (op.User (user_op.PollOwn x)) w = same refl
 turns-act p h o w = same (ap (λ (r : Whole). r.queue) (sym (frame-act p h o w refl).rest))
 
-reacts : (p : ℕ) (o : Op) (u : UserEnd) (w : World) → (react p o u w).world.queue ≡ w.queue
+reacts : (p : ℕ) (o : Op) (u : UserEnd) (w : World) → (react p o u w).world.queues ≡ w.queues
 reacts p (op.User (user_op.Poll f)) (end.Polled answer.Pending) w = refl
 reacts p (op.User (user_op.Poll f)) (end.Polled answer.Ready) w = refl
 reacts p (op.User (user_op.PollOwn x)) (end.Polled answer.Pending) w = refl
 reacts p (op.User (user_op.PollOwn x)) (end.Polled answer.Ready) w = refl
 reacts p _ _ w = refl
 
-with-future : (w : World) (x : Option ℕ) (d : ℕ → Done) → ((f : ℕ) → (d f).world.queue ≡ w.queue) →
-    (with_future w x d).world.queue ≡ w.queue
+with-future : (w : World) (x : Option ℕ) (d : ℕ → Done) → ((f : ℕ) → (d f).world.queues ≡ w.queues) →
+    (with_future w x d).world.queues ≡ w.queues
 with-future w None d k = refl
 with-future w (Some f) d k = k f
 
-begins : (p : ℕ) (w : World) (here : Option Waker) (c : Call) → (begun p w here c).world.queue ≡ w.queue
+begins : (p : ℕ) (w : World) (here : Option Waker) (c : Call) → (begun p w here c).world.queues ≡ w.queues
 begins p w here (call.Wake k) = with-future w (kept w k) _ (λ f. refl)
 begins p w here (call.WakeByRef k) = with-future w (kept w k) _ (λ f. refl)
 begins p w here (call.Copy k) = with-future w (kept w k) _ (λ f. refl)
@@ -165,20 +165,20 @@ begins p w here call.WakeSelf = with-future w (future_of here) _ (λ f. refl)
 begins p w here _ = refl
 
 -- the end of a call leaves it
-settles : (p : ℕ) (w : World) (os : List Op) (r : Option Reply) → (settled_by r p w os).world.queue ≡ w.queue
+settles : (p : ℕ) (w : World) (os : List Op) (r : Option Reply) → (settled_by r p w os).world.queues ≡ w.queues
 settles p w os None = refl
 settles p w os (Some r) = refl
 
 -- what a step does to the queue
 data Steps (s : Machine) (new : ClosableQueue ℕ) : Type 0 where
-  as-was : new ≡ s.world.queue → Steps s new
+  as-was : new ≡ s.world.queues → Steps s new
   longer : (p f : ℕ) → top (stack s p) ≡ Some (op.Queue (queue_op.Append f)) → s.world.queue.closed ≡ false →
-      new ≡ appended s.world.queue f → Steps s new
-  shorter : (f : ℕ) (rest : List ℕ) → s.world.queue.items ≡ f ∷ rest → new ≡ taken s.world.queue → Steps s new
-  shut-by : new ≡ shut s.world.queue → Steps s new
+      new ≡ appended s.world.queues f → Steps s new
+  shorter : (f : ℕ) (rest : List ℕ) → s.world.queue.items ≡ f ∷ rest → new ≡ taken s.world.queues → Steps s new
+  shut-by : new ≡ shut s.world.queues → Steps s new
 
 by-act : (s : Machine) (p : ℕ) (o : Op) (v new : ClosableQueue ℕ) → top (stack s p) ≡ Some o → new ≡ v →
-    Turns o s.world.queue v →
+    Turns o s.world.queues v →
     Steps s new
 by-act s p o v new e q (same x) = as-was (q ∙ x)
 by-act s p o v new e q (more f x c y) = longer p f (e ∙ ap (λ (z : Op). Some z) x) c (q ∙ y)
@@ -186,20 +186,20 @@ by-act s p o v new e q (less f rest x y) = shorter f rest x (q ∙ y)
 by-act s p o v new e q (shuts y) = shut-by (q ∙ y)
 
 by-go : (s : Machine) (p : ℕ) (h : Hint) (x : Option Op) → top (stack s p) ≡ x →
-    Steps s (gone_on p s.world (stack s p) x (λ o. act p h o s.world)).world.queue
+    Steps s (gone_on p s.world (stack s p) x (λ o. act p h o s.world)).world.queues
 by-go s p h None e = as-was refl
 by-go s p h (Some o) e =
-    by-act s p o (act p h o s.world).world.queue _ e (settles p (act p h o s.world).world
+    by-act s p o (act p h o s.world).world.queues _ e (settles p (act p h o s.world).world
     (below_top (stack s p) ++ reverse (act p h o s.world).next) _) (turns-act p h o s.world)
 
 by-answer : (s : Machine) (p : ℕ) (u : UserEnd) (x : Option Op) →
-    Steps s (gone_on p s.world (stack s p) x (λ o. react p o u s.world)).world.queue
+    Steps s (gone_on p s.world (stack s p) x (λ o. react p o u s.world)).world.queues
 by-answer s p u None = as-was refl
 by-answer s p u (Some o) =
     as-was (settles p (react p o u s.world).world (below_top (stack s p) ++ reverse (react p o u s.world).next) _
     ∙ reacts p o u s.world)
 
-by-after : (s : Machine) (t : Step) → Steps s (after s t).world.queue
+by-after : (s : Machine) (t : Step) → Steps s (after s t).world.queues
 by-after s (Begin p c) =
     let w : World = log s.world (event.CallBegun p c) in
     let d : Done = begun p w (mine (top (stack s p))) c in
@@ -207,13 +207,13 @@ by-after s (Begin p c) =
 by-after s (Go p h) = by-go s p h (top (stack s p)) refl
 by-after s (step_is.Answer p u) = by-answer s p u (top (stack s p))
 
-by-step : (s : Machine) (t : Step) → Steps s (stepped s (step s t)).world.queue
+by-step : (s : Machine) (t : Step) → Steps s (stepped s (step s t)).world.queues
 by-step s t = go (refusal s t) refl
   where
-    go : (r : Option StepError) → refusal s t ≡ r → Steps s (stepped s (step s t)).world.queue
-    go None e = subst (λ (x : Result Machine StepError). Steps s (stepped s x).world.queue) (sym (step-made s t e))
+    go : (r : Option StepError) → refusal s t ≡ r → Steps s (stepped s (step s t)).world.queues
+    go None e = subst (λ (x : Result Machine StepError). Steps s (stepped s x).world.queues) (sym (step-made s t e))
         (by-after s t)
-    go (Some error) e = subst (λ (x : Result Machine StepError). Steps s (stepped s x).world.queue)
+    go (Some error) e = subst (λ (x : Result Machine StepError). Steps s (stepped s x).world.queues)
         (sym (step-refused s t error e))
         (as-was refl)
 
@@ -241,7 +241,7 @@ queueings-most : (ts : List Step) (s : Machine) → queueings ts s ≤ length ts
 queueings-most [] s = omega arith
 queueings-most (t ∷ ts) s = omega (
   arith,
-  queued-most s (stepped s (step s t)).world.queue (by-step s t),
+  queued-most s (stepped s (step s t)).world.queues (by-step s t),
   queueings-most ts (stepped s (step s t)),
 )
 
@@ -267,38 +267,38 @@ module _ (limit : ℕ) (kind : Kind) (parties : ℕ) (steps : List Step) where
   count = queueings steps (start limit kind parties)
 
   -- one step later
-  later : (t : Step) (q : ClosableQueue ℕ) (n : ℕ) → (stepped now (step now t)).world.queue ≡ q →
+  later : (t : Step) (q : ClosableQueue ℕ) (n : ℕ) → (stepped now (step now t)).world.queues ≡ q →
       length q.items - length now.world.queue.items ≡ n →
       counted_after limit kind parties (steps ++ t ∷ []) ≡ counting (count + n) q
   later t q n e k =
-      ap (λ (m : ℕ). counting m (run (steps ++ t ∷ []) (start limit kind parties)).world.queue)
+      ap (λ (m : ℕ). counting m (run (steps ++ t ∷ []) (start limit kind parties)).world.queues)
       (queueings-push steps t (start limit kind parties)
       ∙ ap (λ (m : ℕ). count + m) (ap (λ (v : ClosableQueue ℕ). length v.items - length now.world.queue.items) e ∙ k))
-      ∙ ap (counting (count + n)) (ap (λ (m : Machine). m.world.queue) (run-push steps t (start limit kind parties)) ∙ e)
+      ∙ ap (counting (count + n)) (ap (λ (m : Machine). m.world.queues) (run-push steps t (start limit kind parties)) ∙ e)
 
-  has-room : (p f : ℕ) → top (stack now p) ≡ Some (op.Queue (queue_op.Append f)) → HasRoom now.world.queue
+  has-room : (p f : ℕ) → top (stack now p) ≡ Some (op.Queue (queue_op.Append f)) → HasRoom now.world.queues
   has-room p f e = finds-place now f (good limit kind parties steps) (placed limit kind parties steps) p e
 
   same-count : (q : ClosableQueue ℕ) → counting (count + 0) q ≡ counting count q
   same-count q = ap (λ (m : ℕ). counting m q) (let z : count + 0 ≡ count = omega arith in z)
 
-  changes-by : count < most_accepted → (t : Step) (q : ClosableQueue ℕ) → (stepped now (step now t)).world.queue ≡ q →
+  changes-by : count < most_accepted → (t : Step) (q : ClosableQueue ℕ) → (stepped now (step now t)).world.queues ≡ q →
       Steps now q →
       Changes (counted_after limit kind parties steps) (counted_after limit kind parties (steps ++ t ∷ []))
-  changes-by few t q e (as-was x) = stays (later t now.world.queue 0 (e ∙ x) (omega arith) ∙ same-count now.world.queue)
+  changes-by few t q e (as-was x) = stays (later t now.world.queues 0 (e ∙ x) (omega arith) ∙ same-count now.world.queues)
   changes-by few t q e (longer p f a c x) =
       appends f c (has-room p f a) few
-      (later t (appended now.world.queue f) 1 (e ∙ x) (count-more now.world.queue.items f))
+      (later t (appended now.world.queues f) 1 (e ∙ x) (count-more now.world.queue.items f))
   changes-by few t q e (shorter f rest a x) =
-      takes f rest a (later t (taken now.world.queue) 0 (e ∙ x) (count-less now.world.queue.items)
-      ∙ same-count (taken now.world.queue))
+      takes f rest a (later t (taken now.world.queues) 0 (e ∙ x) (count-less now.world.queue.items)
+      ∙ same-count (taken now.world.queues))
   changes-by few t q e (shut-by x) =
-      closes (later t (shut now.world.queue) 0 (e ∙ x) (omega arith) ∙ same-count (shut now.world.queue))
+      closes (later t (shut now.world.queues) 0 (e ∙ x) (omega arith) ∙ same-count (shut now.world.queues))
 
   -- who is about to append does
   appends-now : (p : ℕ) (h : Hint) (f : ℕ) → top (stack now p) ≡ Some (op.Queue (queue_op.Append f)) →
       now.world.queue.closed ≡ false →
-      (stepped now (step now (Go p h))).world.queue ≡ appended now.world.queue f
+      (stepped now (step now (Go p h))).world.queues ≡ appended now.world.queues f
   appends-now p h f e c =
       let l : p < length now.parties = in-range now p (op.Queue (queue_op.Append f)) e in
       let b : ltb p (length now.parties) ≡ true = grind (arith, nat_tests) in
@@ -312,11 +312,11 @@ module _ (limit : ℕ) (kind : Kind) (parties : ℕ) (steps : List Step) where
       let free : (not now.world.queue.closed && ltb (length now.world.queue.items) now.world.limit) ≡ true =
       ap (λ (x : Bool). not x && ltb (length now.world.queue.items) now.world.limit) c
       ∙ (let z : ltb (length now.world.queue.items) now.world.limit ≡ true = grind (arith, nat_tests) in z) in
-      ap (λ (x : Result Machine StepError). (stepped now x).world.queue) (step-made now (Go p h) r)
-      ∙ (ap (λ (x : Option Op). (gone_on p now.world (stack now p) x (λ o. act p h o now.world)).world.queue) e
+      ap (λ (x : Result Machine StepError). (stepped now x).world.queues) (step-made now (Go p h) r)
+      ∙ (ap (λ (x : Option Op). (gone_on p now.world (stack now p) x (λ o. act p h o now.world)).world.queues) e
       ∙ (settles p (act p h (op.Queue (queue_op.Append f)) now.world).world
       (below_top (stack now p) ++ reverse (act p h (op.Queue (queue_op.Append f)) now.world).next) _
-      ∙ ap (λ (x : Bool). (append_by x now.world f).world.queue) free))
+      ∙ ap (λ (x : Bool). (append_by x now.world f).world.queues) free))
 
 pub counts-queueings : (limit : ℕ) (kind : Kind) (parties : ℕ) (steps : List Step) → CountsQueueings limit kind parties steps
 counts-queueings limit kind parties steps = record {
@@ -324,6 +324,6 @@ counts-queueings limit kind parties steps = record {
   new = refl;
   changes = λ few t. changes-by limit kind parties steps few t _ refl (by-step (run steps (start limit kind parties)) t);
   appends = λ few p h f e c. later limit kind parties steps (Go p h)
-      (appended (run steps (start limit kind parties)).world.queue f) 1
+      (appended (run steps (start limit kind parties)).world.queues f) 1
       (appends-now limit kind parties steps p h f e c) (count-more (run steps (start limit kind parties)).world.queue.items f);
 }

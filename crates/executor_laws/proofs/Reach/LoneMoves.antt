@@ -49,7 +49,7 @@ use Rattle.executor_model.specs.ActsOfSleepers.{exchange_by, hand_out_by}
 
 -- what belongs to no such call whose future is taken
 abbrev pub stray_of : Op → ℕ
-stray_of (op.Table table_op.Enter) = 1
+stray_of (op.Table (table_op.Enter mark)) = 1
 stray_of (op.Queue queue_op.Take) = 1
 stray_of (op.Table table_op.LookAtTable) = 1
 stray_of (op.Waker (waker_op.CopyWaker f held)) = 1
@@ -101,7 +101,7 @@ no-stray = record {
 }
 
 -- queue, trace and the executor stay
-still : (w v : World) (next : List Op) → v.queue ≡ w.queue → v.trace ≡ w.trace → v.gone ≡ w.gone →
+still : (w v : World) (next : List Op) → v.queues ≡ w.queues → v.trace ≡ w.trace → v.gone ≡ w.gone →
     weigh stray_of next ≡ 0 →
     Inner w (done v next)
 still w v next q t g z = record {
@@ -115,7 +115,7 @@ still w v next q t g z = record {
 }
 
 -- something happens
-abbrev pub logged : (w v : World) (e : Event) (next : List Op) → v.queue ≡ w.queue → v.trace ≡ w.trace ++ e ∷ [] →
+abbrev pub logged : (w v : World) (e : Event) (next : List Op) → v.queues ≡ w.queues → v.trace ≡ w.trace ++ e ∷ [] →
     v.gone ≡ w.gone →
     weigh stray_of next ≡ 0 → Inner w (done v next)
 logged w v e next q t g z = record {
@@ -237,7 +237,7 @@ inner-act p h (op.List o) w n z = absurd (cc)
 inner-act p h (op.Steal o) w n z = absurd (cc)
 inner-act p h (op.Run run_op.ReturnRoom) w n z = still w (return_room w).world [] refl refl refl refl
 inner-act p h (op.Run o) w n z = absurd (cc)
-inner-act p h (op.Table table_op.Enter) w n z = absurd (cc)
+inner-act p h (op.Table (table_op.Enter mark)) w n z = absurd (cc)
 inner-act p h (op.Table table_op.LookAtTable) w n z = absurd (cc)
 inner-act p h (op.Queue queue_op.Take) w n z = absurd (cc)
 inner-act p h (op.User (user_op.Poll f)) w n z = absurd (cc)

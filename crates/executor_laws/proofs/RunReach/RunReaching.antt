@@ -96,7 +96,7 @@ registered-own New w r = refl
 registered-own Listed w r = refl
 registered-own Ended w r = refl
 
-pub registered-queue : (x : Stage) (w : World) (r : ℕ) → (registered x w r).queue ≡ w.queue
+pub registered-queue : (x : Stage) (w : World) (r : ℕ) → (registered x w r).queue ≡ w.queues
 registered-queue New w r = refl
 registered-queue Listed w r = refl
 registered-queue Ended w r = refl

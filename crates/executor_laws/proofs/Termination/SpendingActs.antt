@@ -4,6 +4,7 @@ use Rattle.std.proofs.Common.{◌≡◌, ℕ, ◌+◌, ◌*◌, ◌<◌, ◌≤�
 use Rattle.std.proofs.Common.{Bool, true, false, ◌&&◌, ◌||◌, refl, ap, arith}
 use Rattle.std.proofs.lemmas.List.{length_push, length-append}
 use Rattle.std.specs.Prelude.{Option, Some, None}
+use Rattle.executor_parts.specs.declared.mark.Mark.{Mark}
 use Rattle.queue_steps.specs.ClosableQueue.{appended, taken}
 use Rattle.task_moves.specs.declared.moves.state.State.{State}
 use Rattle.task_moves.specs.declared.moves.owed.Moved.{Moved}
@@ -45,7 +46,7 @@ use Rattle.executor_model.specs.Acts.{leak_next_by, leak_out_by, leaking_ops}
 
 pub spends-append : (b : Bool) (w : World) (f : ℕ) → Spends w 43 (append_by b w f)
 spends-append true w f =
-    omega (arith, kept-parts w, kept-parts (record w { queue = appended w.queue f }), length_push w.queue.items f)
+    omega (arith, kept-parts w, kept-parts (record w { queue = appended w.queues f }), length_push w.queue.items f)
 spends-append false w f = omega arith
 
 pub spends-take : (w : World) (q : List ℕ) → w.queue.items ≡ q → Spends w 113 (take_by w q)
@@ -53,7 +54,7 @@ spends-take w [] e = omega arith
 spends-take w (f ∷ rest) e = omega (
   arith,
   kept-parts w,
-  kept-parts (record w { queue = taken w.queue }),
+  kept-parts (record w { queue = taken w.queues }),
   ap length e,
   ap (λ (xs : List ℕ). length (drop 1 xs)) e,
 )
@@ -62,13 +63,13 @@ entered-steps : (b : Bool) → steps_of_task (entered b) ≡ steps_of_task (ente
 entered-steps true = refl
 entered-steps false = refl
 
-pub spends-enter : (b c : Bool) (p : ℕ) (w : World) → Spends w 142 (enter_by b c p w)
-spends-enter true c p w = omega arith
-spends-enter false true p w = omega arith
-spends-enter false false p w = omega (
+pub spends-enter : (b c : Bool) (mark : Mark) (p : ℕ) (w : World) → Spends w 142 (enter_by b c mark p w)
+spends-enter true c mark p w = omega arith
+spends-enter false true mark p w = omega arith
+spends-enter false false mark p w = omega (
   arith,
   kept-parts w,
-  kept-parts (enter_by false false p w).world,
+  kept-parts (enter_by false false mark p w).world,
   length_push w.table (length w.tasks),
   leak-more w.is_static (length w.table + length w.leaving) (length (w.table ++ length w.tasks ∷ []) + length w.leaving)
       (omega (arith, length_push w.table (length w.tasks))),
@@ -366,7 +367,7 @@ spends-drain p w [] e = omega (arith, kept-log w (event.DropEnded p))
 spends-drain p w (f ∷ rest) e = omega (
   arith,
   kept-parts w,
-  kept-parts (record w { queue = taken w.queue }),
+  kept-parts (record w { queue = taken w.queues }),
   ap length e,
   ap (λ (xs : List ℕ). length (drop 1 xs)) e,
 )

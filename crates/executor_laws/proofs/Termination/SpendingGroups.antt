@@ -76,7 +76,7 @@ pub spends-act : (p : ℕ) (h : Hint) (o : Op) (w : World) → waits o ≡ false
     Settles w o →
     Spends w (steps_of o) (act p h o w)
 spends-act p h (op.Move m f) w n r l k = spends-move m p w f l.0.0 k
-spends-act p h (op.Table table_op.Enter) w n r l k = spends-enter _ _ p w
+spends-act p h (op.Table (table_op.Enter mark)) w n r l k = spends-enter _ _ _ p w
 spends-act p h (op.Queue queue_op.Take) w n r l k = spends-take w _ refl
 spends-act p h (op.Queue (queue_op.Append f)) w n r l k = spends-append _ w f
 spends-act p h (op.Table (table_op.TakeToPoll f)) w n r l k =

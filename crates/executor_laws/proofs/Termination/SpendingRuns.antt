@@ -253,7 +253,7 @@ pays-take from (f ∷ rest) w s more i e c = walks (omega (arith, by s.from)) (o
 
     by : (a : Source) → steps_kept (runs.without_first w a rest) ≤ steps_kept w
     by Common =
-        omega (arith, kept-parts w, kept-parts (record w { queue = taken w.queue }), fewer w.queue.items)
+        omega (arith, kept-parts w, kept-parts (record w { queue = taken w.queues }), fewer w.queue.items)
     by (Own r) = omega (arith, kept-put_own w r rest)
 
 kept-kept : (p : ℕ) (w : World) (r f : ℕ) → steps_kept (runs.kept_by p w r f) ≡ steps_kept w
@@ -344,7 +344,7 @@ pays-common (f ∷ rest) w x e =
     spends (omega (
       arith,
       kept-parts w,
-      kept-parts (record w { queue = taken w.queue }),
+      kept-parts (record w { queue = taken w.queues }),
       ap length e,
       ap (λ (xs : List ℕ). length (drop 1 xs)) e,
     ))

@@ -189,7 +189,7 @@ spends-search x w (f ∷ rest) s t i e = omega (
   wakes_up-steps x s.who
       (op.Sleeper sleeper_op.ExchangeFlag ∷ op.Move move.TakeUp f ∷ op.End reply.Ready (held_as s.who) ∷ []),
   kept-parts w,
-  kept-parts (record w { queue = taken w.queue }),
+  kept-parts (record w { queue = taken w.queues }),
   ap length e,
   ap (λ (xs : List ℕ). length (drop 1 xs)) e,
 )

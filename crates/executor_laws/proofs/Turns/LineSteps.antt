@@ -167,20 +167,20 @@ holds-stolen (then.Walk at left) w x k = absurd k
 
 -- the executor's queue stays
 
-run-queue : (b : Bool) (w : World) (x : RunPoll) (f : ℕ) → (run_by b w x f).world.queue ≡ w.queue
+run-queue : (b : Bool) (w : World) (x : RunPoll) (f : ℕ) → (run_by b w x f).world.queues ≡ w.queues
 run-queue true w x f = refl
 run-queue false w x f = refl
 
-counted-queue : (b : Bool) (w : World) (x : RunPoll) (f : ℕ) → (counted_by b w x f).world.queue ≡ w.queue
+counted-queue : (b : Bool) (w : World) (x : RunPoll) (f : ℕ) → (counted_by b w x f).world.queues ≡ w.queues
 counted-queue true w x f = refl
 counted-queue false w x f = run-queue _ (counted_to w x.run _) x f
 
-stolen-queue : (t : Then) (w : World) (x : RunPoll) → (stolen t w x).world.queue ≡ w.queue
+stolen-queue : (t : Then) (w : World) (x : RunPoll) → (stolen t w x).world.queues ≡ w.queues
 stolen-queue (then.Found f) w x = counted-queue _ w x f
 stolen-queue (then.Run f) w x = run-queue _ w x f
 stolen-queue (then.Walk at left) w x = refl
 
-same-line : (q f n : ℕ) (c e : Op) (w v : World) → hand_of c ≡ hand_of e → v.own ≡ w.own → v.queue ≡ w.queue →
+same-line : (q f n : ℕ) (c e : Op) (w v : World) → hand_of c ≡ hand_of e → v.own ≡ w.own → v.queues ≡ w.queues →
     InLine f n (line q c w) → InLine f n (line q e v)
 same-line q f n c e w v h o i k = record {
   front = k.front;
@@ -203,7 +203,7 @@ pub record After (q f n : ℕ) (w : World) (d : Done) : Type 0 where
   pub gone : d.world.gone ≡ w.gone
 
 after-holds : (q f n : ℕ) (w : World) (d : Done) (c : Op) (v : World) → Holds q d.next → hand_of c ≡ [] →
-    d.world.own ≡ v.own → d.world.queue ≡ v.queue → d.world.gone ≡ w.gone → InLine f n (line q c v) → After q f n w d
+    d.world.own ≡ v.own → d.world.queues ≡ v.queues → d.world.gone ≡ w.gone → InLine f n (line q c v) → After q f n w d
 after-holds q f n w d c v h e o i g k = record {
   goes = on h.control h.side h.is h.kind h.light
       (same-line q f n c h.control v d.world (e ∙ sym h.hand) o i k);

@@ -3,6 +3,7 @@
 -- any of these.
 use Rattle.std.proofs.Common.{◌≡◌, ◌∙◌, ℕ, List, [], ◌∷◌, ◌++◌, length, Bool, true, false, refl, ap, arith}
 use Rattle.std.specs.Prelude.{Option, Some, None}
+use Rattle.executor_parts.specs.declared.mark.Mark.{Mark}
 use Rattle.task_moves.specs.Moves as moves
 use Rattle.task_moves.specs.declared.moves.owed.Answer.{Answer}
 use Rattle.task_moves.specs.declared.moves.owed.Move.{Move}
@@ -152,10 +153,10 @@ beside-call p w f (Outside x) k =
 
 -- the table and the queue
 
-beside-enter : (b c : Bool) (p : ℕ) (w : World) → Beside w (acts.enter_by b c p w)
-beside-enter true c p w = besides w _ (λ t. refl) refl
-beside-enter false true p w = besides w _ (λ t. refl) refl
-beside-enter false false p w = besides w _ (λ t. view-log t w (event.Accepted p (length w.tasks)) (λ t n s. refl)) refl
+beside-enter : (b c : Bool) (mark : Mark) (p : ℕ) (w : World) → Beside w (acts.enter_by b c mark p w)
+beside-enter true c mark p w = besides w _ (λ t. refl) refl
+beside-enter false true mark p w = besides w _ (λ t. refl) refl
+beside-enter false false mark p w = besides w _ (λ t. view-log t w (event.Accepted p (length w.tasks)) (λ t n s. refl)) refl
 
 entry-sits : (b : Bool) (f : ℕ) → weigh sits_of (acts.entry_goes b f) ≡ 0
 entry-sits true f = refl
@@ -272,7 +273,7 @@ is_sits _ = false
 
 pub beside-act : (p : ℕ) (h : Hint) (o : Op) (w : World) → is_sits o ≡ false → Beside w (act p h o w)
 beside-act p h (op.Move m f) w n = beside-move _ m p w w f (λ t. refl)
-beside-act p h (op.Table table_op.Enter) w n = beside-enter _ _ p w
+beside-act p h (op.Table (table_op.Enter mark)) w n = beside-enter _ _ _ p w
 beside-act p h (op.Table (table_op.LeaveTable f)) w n = beside-leave _ w f
 beside-act p h (op.Table o) w n = besides w _ (λ t. refl) refl
 beside-act p h (op.Queue queue_op.Take) w n = beside-take _ w

@@ -55,7 +55,7 @@ held-run r _ = refl
 
 one-tick : (t : ℕ) (o : Op) → used_of (tick_or_run.Tick t) o ≡ ticking_of t o
 one-tick t (op.Move move.Wake f) = refl
-one-tick t (op.Table table_op.Enter) = refl
+one-tick t (op.Table (table_op.Enter mark)) = refl
 one-tick t (op.Queue queue_op.Take) = refl
 one-tick t (op.User (user_op.PollOwn x)) = refl
 one-tick t (op.Waker (waker_op.CopyWaker f held)) = refl
@@ -74,7 +74,7 @@ one-tick t _ = refl
 
 one-run : (r : ℕ) (o : Op) → used_of (tick_or_run.Run r) o ≡ running_of r o
 one-run r (op.Move move.Wake f) = refl
-one-run r (op.Table table_op.Enter) = refl
+one-run r (op.Table (table_op.Enter mark)) = refl
 one-run r (op.Queue queue_op.Take) = refl
 one-run r (op.User (user_op.PollOwn x)) = refl
 one-run r (op.Waker (waker_op.CopyWaker f held)) = refl

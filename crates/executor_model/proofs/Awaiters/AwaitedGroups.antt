@@ -66,7 +66,7 @@ own_waker w o z x e =
 pub awaits-act : (p : ℕ) (h : Hint) (o : Op) (w : World) → length w.awaiters ≡ length w.tasks →
     pasts (length w.tasks) w.waking ≡ 0 → weigh (past_of (length w.tasks)) (o ∷ []) ≡ 0 → is_end o ≡ false →
     KeepsBy w (o ∷ []) (act p h o w) (asked p h o w)
-awaits-act p h (op.Table table_op.Enter) w n u z m = awaits-enter _ _ p w n
+awaits-act p h (op.Table (table_op.Enter mark)) w n u z m = awaits-enter _ _ _ p w n
 awaits-act p h (op.Queue queue_op.Take) w n u z m = awaits-take _ w refl
 awaits-act p h (op.Queue (queue_op.Append f)) w n u z m = awaits-append _ w f
 awaits-act p h (op.Move move.WakeByReference f) w n u z m =

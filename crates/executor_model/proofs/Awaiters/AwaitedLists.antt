@@ -3,6 +3,7 @@
 -- most of what is done leads to nothing of these.
 use Rattle.std.proofs.Common.{◌≡◌, ℕ, List, [], ◌∷◌, ◌++◌, Bool, true, false, refl, ap, arith}
 use Rattle.std.specs.Prelude.{Option, Some, None}
+use Rattle.executor_parts.specs.declared.mark.Mark.{Mark}
 use Rattle.task_moves.specs.declared.moves.state.State.{State}
 use Rattle.task_moves.specs.declared.moves.owed.Move.TheVariants as move
 use Rattle.task_moves.specs.declared.moves.owed.AwaiterDebt.{AwaiterDebt}
@@ -129,10 +130,10 @@ plain-take : (q : List ℕ) (w : World) → weigh rough_of (take_by w q).next �
 plain-take [] w = refl
 plain-take (f ∷ rest) w = refl
 
-plain-enter : (b c : Bool) (p : ℕ) (w : World) → weigh rough_of (enter_by b c p w).next ≡ 0
-plain-enter true c p w = refl
-plain-enter false true p w = refl
-plain-enter false false p w = refl
+plain-enter : (b c : Bool) (mark : Mark) (p : ℕ) (w : World) → weigh rough_of (enter_by b c mark p w).next ≡ 0
+plain-enter true c mark p w = refl
+plain-enter false true mark p w = refl
+plain-enter false false mark p w = refl
 
 plain-copy : (b : Bool) (w : World) (f : ℕ) (held : Hold) → weigh rough_of (copy_by b w f held).next ≡ 0
 plain-copy true w f held = refl
@@ -234,7 +235,7 @@ is_special (op.Closing closing_op.Drain) = true
 is_special _ = false
 
 pub plain-act : (p : ℕ) (h : Hint) (o : Op) (w : World) → is_special o ≡ false → weigh rough_of (act p h o w).next ≡ 0
-plain-act p h (op.Table table_op.Enter) w n = plain-enter _ _ p w
+plain-act p h (op.Table (table_op.Enter mark)) w n = plain-enter _ _ _ p w
 plain-act p h (op.Queue queue_op.Take) w n = plain-take _ w
 plain-act p h (op.Queue (queue_op.Append f)) w n = plain-append _ w f
 plain-act p h (op.Move move.WakeByReference f) w n =

@@ -45,8 +45,8 @@ awaits-take = by_list _
     (λ f rest w e g r yy mm bb h. let z : same g f + times g (drop 1 w.queue.items) ≡ times g w.queue.items =
     times-drop g f rest w.queue.items e in grind (arith, same_is))
 
-pub awaits-enter : (b c : Bool) (p : ℕ) (w : World) → length w.awaiters ≡ length w.tasks →
-    KeepsAwaits w (op.Table table_op.Enter ∷ []) (enter_by b c p w)
+pub awaits-enter : (b c : Bool) (mark : Mark) (p : ℕ) (w : World) → length w.awaiters ≡ length w.tasks →
+    KeepsAwaits w (op.Table (table_op.Enter mark) ∷ []) (enter_by b c mark p w)
 awaits-enter = by_bool _
     (λ c p w l g r yy mm bb h. grind arith)
     (by_bool _

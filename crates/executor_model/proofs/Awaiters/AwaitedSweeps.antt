@@ -3,6 +3,7 @@
 use Rattle.std.proofs.Common.{◌≡◌, ◌⊎◌, ℕ, ◌+◌, ◌<◌, ◌≤◌, List, [], ◌∷◌, ◌++◌, length}
 use Rattle.std.proofs.Common.{Bool, true, false, not, refl, sym, ap, ◌∙◌, subst, arith}
 use Rattle.std.specs.Prelude.{Option, Some, None}
+use Rattle.executor_parts.specs.declared.mark.Mark.{Mark}
 use Rattle.queue_steps.specs.ClosableQueue.{ClosableQueue}
 use Rattle.task_moves.specs.declared.moves.owed.Answer.{Answer}
 use Rattle.task_moves.specs.declared.moves.owed.Moved.{Moved}
@@ -126,7 +127,7 @@ rough-more : (o : Op) → ousting_of o + (dropping_of o + (rousing_of o + (shutt
 rough-more (op.Closing closing_op.TakeOut) = omega arith
 rough-more (op.Handle (handle_op.Notify f true)) = omega arith
 rough-more (op.Move move.Wake f) = omega arith
-rough-more (op.Table table_op.Enter) = omega arith
+rough-more (op.Table (table_op.Enter mark)) = omega arith
 rough-more (op.Queue queue_op.Take) = omega arith
 rough-more (op.User (user_op.Drop f)) = omega arith
 rough-more (op.Waker (waker_op.CopyWaker f held)) = omega arith
@@ -182,10 +183,10 @@ same-let_go : (b : Bool) (w : World) (f : ℕ) → lists w ≡ lists (let_go_by 
 same-let_go true w f = refl
 same-let_go false w f = refl
 
-same-enter : (b c : Bool) (p : ℕ) (w : World) → lists w ≡ lists (enter_by b c p w).world
-same-enter true c p w = refl
-same-enter false true p w = refl
-same-enter false false p w = refl
+same-enter : (b c : Bool) (mark : Mark) (p : ℕ) (w : World) → lists w ≡ lists (enter_by b c mark p w).world
+same-enter true c mark p w = refl
+same-enter false true mark p w = refl
+same-enter false false mark p w = refl
 
 same-leave : (b : Bool) (w : World) (f : ℕ) → lists w ≡ lists (leave_by b w f).world
 same-leave true w f = refl
@@ -269,7 +270,7 @@ kept-own p w x old =
 kept-list : (h : Hint) (o : ListOp) (w : World) → Kept w (op.List o ∷ []) (list_act h o w)
 kept-list h o w = by-list Kept kept-moves kept-put h o w
 
-same-lists : (w : World) (old : List Op) (d : Done) → Kept w old d → d.world.queue ≡ w.queue → lists w ≡ lists d.world
+same-lists : (w : World) (old : List Op) (d : Done) → Kept w old d → d.world.queues ≡ w.queues → lists w ≡ lists d.world
 same-lists w old d k q = λ i. record {
   gone = sym k.gone i;
   leaving = (let e : length w.leaving ≡ length d.world.leaving = ap length (sym k.leaving) in e) i;
@@ -297,7 +298,7 @@ is_sweeping (op.Closing closing_op.LeakNext) = true
 is_sweeping _ = false
 
 pub same-act : (p : ℕ) (h : Hint) (o : Op) (w : World) → is_sweeping o ≡ false → lists w ≡ lists (act p h o w).world
-same-act p h (op.Table table_op.Enter) w n = same-enter _ _ p w
+same-act p h (op.Table (table_op.Enter mark)) w n = same-enter _ _ _ p w
 same-act p h (op.Move m f) w n = same-move _ m p w f
 same-act p h (op.Table (table_op.LeaveTable f)) w n = same-leave _ w f
 same-act p h (op.Waker (waker_op.CopyWaker f held)) w n = same-copy _ w f held
@@ -376,7 +377,7 @@ no-self (op.List o) n = omega (arith, ap (λ (x : Row). x.ousting) (plain-list o
 no-self (op.Steal o) n = absurd (cc)
 no-self (op.Run o) n = absurd (cc)
 no-self (op.Move move.Wake f) n = refl
-no-self (op.Table table_op.Enter) n = refl
+no-self (op.Table (table_op.Enter mark)) n = refl
 no-self (op.Queue queue_op.Take) n = refl
 no-self (op.User (user_op.Drop f)) n = refl
 no-self (op.Waker (waker_op.CopyWaker f held)) n = refl

@@ -32,30 +32,30 @@ use Rattle.executor_model.specs.Doing.{list_act, run_act, steal_act}
 
 -- a run leaves the queue, or takes its first
 pub data Takes (w v : World) : Type 0 where
-  stays : v.queue ≡ w.queue → Takes w v
-  first : v.queue ≡ taken w.queue → Takes w v
+  stays : v.queues ≡ w.queues → Takes w v
+  first : v.queues ≡ taken w.queues → Takes w v
 
-queue-run_by : (b : Bool) (w : World) (x : RunPoll) (f : ℕ) → (run_by b w x f).world.queue ≡ w.queue
+queue-run_by : (b : Bool) (w : World) (x : RunPoll) (f : ℕ) → (run_by b w x f).world.queues ≡ w.queues
 queue-run_by true w x f = refl
 queue-run_by false w x f = refl
 
-queue-counted : (b : Bool) (w : World) (x : RunPoll) (f : ℕ) → (counted_by b w x f).world.queue ≡ w.queue
+queue-counted : (b : Bool) (w : World) (x : RunPoll) (f : ℕ) → (counted_by b w x f).world.queues ≡ w.queues
 queue-counted true w x f = refl
 queue-counted false w x f = queue-run_by _ _ x f
 
-queue-found : (w : World) (x : RunPoll) (f : ℕ) → (found w x f).world.queue ≡ w.queue
+queue-found : (w : World) (x : RunPoll) (f : ℕ) → (found w x f).world.queues ≡ w.queues
 queue-found w x f = queue-counted _ w x f
 
-pub queue-stolen : (t : Then) (w : World) (x : RunPoll) → (stolen t w x).world.queue ≡ w.queue
+pub queue-stolen : (t : Then) (w : World) (x : RunPoll) → (stolen t w x).world.queues ≡ w.queues
 queue-stolen (then.Found f) w x = queue-found w x f
 queue-stolen (then.Run f) w x = queue-run_by _ w x f
 queue-stolen (then.Walk at left) w x = refl
 
-pub queue-length : (n : ℕ) (w : World) (s : Steal) → (steal_length_by n w s).world.queue ≡ w.queue
+pub queue-length : (n : ℕ) (w : World) (s : Steal) → (steal_length_by n w s).world.queues ≡ w.queues
 queue-length zero w s = queue-stolen s.then w s.poll
 queue-length (suc n) w s = refl
 
-pub queue-more : (n : ℕ) (w : World) (s : Steal) → (steal_by n w s).world.queue ≡ w.queue
+pub queue-more : (n : ℕ) (w : World) (s : Steal) → (steal_by n w s).world.queues ≡ w.queues
 queue-more zero w s = queue-stolen s.then w s.poll
 queue-more (suc n) w s = refl
 
@@ -65,8 +65,8 @@ takes-take from [] w x t more = stays (queue-stolen t w x)
 takes-take Common (f ∷ rest) w x t more = first refl
 takes-take (Own r) (f ∷ rest) w x t more = stays refl
 
-pub queue-put : (b : Bool) (p : ℕ) (w : World) (s : Steal) (more f : ℕ) → (steal_put_by b p w s more f).world.queue
-    ≡ w.queue
+pub queue-put : (b : Bool) (p : ℕ) (w : World) (s : Steal) (more f : ℕ) → (steal_put_by b p w s more f).world.queues
+    ≡ w.queues
 queue-put true p w s more f = queue-more more (kept_by p w s.poll.run f) s
 queue-put false p w s more f = queue-stolen s.then w s.poll
 
@@ -76,7 +76,7 @@ takes-steal p (steal_op.OwnLength s n) w = stays (queue-more _ w s)
 takes-steal p (steal_op.Take s more) w = takes-take s.from _ w s.poll s.then more
 takes-steal p (steal_op.Put s more f) w = stays (queue-put _ p w s more f)
 
-pub queue-own : (q : List ℕ) (w : World) (x : RunPoll) → (search_own_by q w x).world.queue ≡ w.queue
+pub queue-own : (q : List ℕ) (w : World) (x : RunPoll) → (search_own_by q w x).world.queues ≡ w.queues
 queue-own [] w x = refl
 queue-own (f ∷ rest) w x = queue-found (put_own w x.run rest) x f
 
@@ -87,37 +87,37 @@ pub takes-common : (q : List ℕ) (w : World) (x : RunPoll) → Takes w (search_
 takes-common [] w x = stays refl
 takes-common (f ∷ rest) w x = first refl
 
-pub queue-look : (q : List ℕ) (w : World) (x : RunPoll) (at left : ℕ) → (look_own_by q w x at left).world.queue ≡ w.queue
+pub queue-look : (q : List ℕ) (w : World) (x : RunPoll) (at left : ℕ) → (look_own_by q w x at left).world.queues ≡ w.queues
 queue-look [] w x at left = refl
 queue-look (f ∷ rest) w x at left = queue-found (put_own w x.run rest) x f
 
-pub queue-room : (b : Bool) (w : World) → (make_room_by b w).world.queue ≡ w.queue
+pub queue-room : (b : Bool) (w : World) → (make_room_by b w).world.queues ≡ w.queues
 queue-room true w = refl
 queue-room false w = refl
 
-queue-make : (b : Bool) (w : World) → (make_run_by b w).world.queue ≡ w.queue
+queue-make : (b : Bool) (w : World) → (make_run_by b w).world.queues ≡ w.queues
 queue-make true w = refl
 queue-make false w = refl
 
-queue-registered : (t : Stage) (w : World) (r : ℕ) → (registered t w r).queue ≡ w.queue
+queue-registered : (t : Stage) (w : World) (r : ℕ) → (registered t w r).queue ≡ w.queues
 queue-registered New w r = refl
 queue-registered Listed w r = refl
 queue-registered Ended w r = refl
 
-pub queue-list : (h : Hint) (o : ListOp) (w : World) → (list_act h o w).world.queue ≡ w.queue
+pub queue-list : (h : Hint) (o : ListOp) (w : World) → (list_act h o w).world.queues ≡ w.queues
 queue-list h (list_op.Write section.MakeRun) w = queue-make h.refused w
 queue-list h (list_op.Write (section.Register x)) w = queue-registered _ w x.run
 queue-list h _ w = refl
 
-pub queue-reschedule : (q : List ℕ) (w : World) (r : ℕ) (a : Reply) → (reschedule_by q w r a).world.queue ≡ w.queue
+pub queue-reschedule : (q : List ℕ) (w : World) (r : ℕ) (a : Reply) → (reschedule_by q w r a).world.queues ≡ w.queues
 queue-reschedule [] w r a = refl
 queue-reschedule (f ∷ rest) w r a = refl
 
-queue-log_if : (b : Bool) (w : World) (e : Event) → (log_if b w e).queue ≡ w.queue
+queue-log_if : (b : Bool) (w : World) (e : Event) → (log_if b w e).queue ≡ w.queues
 queue-log_if true w e = refl
 queue-log_if false w e = refl
 
-pub queue-by_reference : (p : ℕ) (w : World) (a : Waker) → (call_by_reference p w a).world.queue ≡ w.queue
+pub queue-by_reference : (p : ℕ) (w : World) (a : Waker) → (call_by_reference p w a).world.queues ≡ w.queues
 queue-by_reference p w (Task f) = queue-log_if _ w (event.Woken p f)
 queue-by_reference p w (Outside y) = refl
 

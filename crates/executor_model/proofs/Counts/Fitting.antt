@@ -4,6 +4,7 @@ use Rattle.std.proofs.Common.{◌≡◌, ℕ, ◌+◌, ◌≤◌, ◌<◌, List,
 use Rattle.std.proofs.Common.{drop, refl, sym, ap, ◌∙◌, subst, arith, length-append}
 use Rattle.std.proofs.Math.ListN.{length-set}
 use Rattle.std.specs.Prelude.{Option, Some, None, slice_set}
+use Rattle.executor_parts.specs.declared.mark.Mark.{Mark}
 use Rattle.task_moves.specs.declared.moves.state.State.{State}
 use Rattle.task_moves.specs.declared.moves.owed.Moved.{Moved}
 use Rattle.task_moves.specs.declared.moves.owed.Owed.{Owed}
@@ -107,7 +108,7 @@ grows-take = by_list _
     (λ f rest w e h k. let z : past (length w.tasks) f + pasts (length w.tasks) (drop 1 w.queue.items)
     ≡ pasts (length w.tasks) w.queue.items = pasts-drop (length w.tasks) f rest w.queue.items e in grind arith)
 
-pub grows-enter : (b c : Bool) (p : ℕ) (w : World) → Grows w (op.Table table_op.Enter ∷ []) (enter_by b c p w)
+pub grows-enter : (b c : Bool) (mark : Mark) (p : ℕ) (w : World) → Grows w (op.Table (table_op.Enter mark) ∷ []) (enter_by b c mark p w)
 grows-enter = by_bool _
     (λ c p w h k. grind arith)
     (by_bool _

@@ -29,7 +29,7 @@ use Rattle.executor_model.proofs.Counts.SleepersFitting.{grows-make_tick, grows-
 use Rattle.executor_model.proofs.Counts.SleepersFitting.{grows-fall_asleep, grows-wake_up, grows-leave_sleepers}
 
 pub grows-act : (p : ℕ) (c : Hint) (o : Op) (w : World) → Grows w (o ∷ []) (act p c o w)
-grows-act p c (op.Table table_op.Enter) w h k = grows-enter _ _ p w h k
+grows-act p c (op.Table (table_op.Enter mark)) w h k = grows-enter _ _ _ p w h k
 grows-act p c (op.Queue queue_op.Take) w h k = grows-take _ w refl h k
 grows-act p c (op.Queue (queue_op.Append f)) w h k = grows-append _ w f h k
 grows-act p c (op.Move m f) w h k = grows-move (stands_alone m) m p w f h k

@@ -69,8 +69,8 @@ none-output w f = both (awaiter_ops f (moves.notify_other_if (task w f).awaiter)
 -- nothing has changed
 
 module _ (p : ℕ) (w : World) where
-  enter-unchanged : (full refused : Bool) → list_any may_refuse (acts.enter_by full refused p w).next ≡ true →
-      (acts.enter_by full refused p w).world ≡ w
+  enter-unchanged : (full refused : Bool) → list_any may_refuse (acts.enter_by full refused mark p w).next ≡ true →
+      (acts.enter_by full refused mark p w).world ≡ w
   enter-unchanged true refused e = refl
   enter-unchanged false true e = refl
   enter-unchanged false false e = absurd (cc)
@@ -246,7 +246,7 @@ untold-want = record {
 }
 
 module _ (p : ℕ) (w : World) where
-  enter-told : (full refused : Bool) → list_any ends_for_want (acts.enter_by full refused p w).next ≡ true →
+  enter-told : (full refused : Bool) → list_any ends_for_want (acts.enter_by full refused mark p w).next ≡ true →
       refused ≡ true
   enter-told true refused e = absurd (cc)
   enter-told false true e = refl

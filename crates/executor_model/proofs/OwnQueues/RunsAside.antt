@@ -3,6 +3,7 @@
 use Rattle.std.proofs.Common.{◌≡◌, ◌∙◌, ◌+◌, ℕ, zero, suc, List, [], ◌∷◌, ◌++◌, get_or, set, Bool, true, false}
 use Rattle.std.proofs.Common.{refl, sym, ap, arith}
 use Rattle.std.specs.Prelude.{Option, Some, None}
+use Rattle.executor_parts.specs.declared.mark.Mark.{Mark}
 use Rattle.task_moves.specs.Moves as moves
 use Rattle.task_moves.specs.declared.moves.owed.Answer.{Answer}
 use Rattle.task_moves.specs.declared.moves.owed.Move.{Move}
@@ -36,7 +37,7 @@ use Rattle.executor_model.specs.Weights.{weigh}
 use Rattle.executor_model.specs.World.{World, Ticker, Stage, Ended, Run, Lock, Done, log, log_if, task, put}
 use Rattle.executor_model.specs.World.{put_run, run_of, no_run, new_run, runs_with, New, among, awaiter_of}
 use Rattle.executor_parts.specs.Sleepers.{Sleepers}
-use Rattle.queue_steps.specs.ClosableQueue.{ClosableQueue}
+use Rattle.executor_model.specs.Queues.{Queues}
 use Rattle.executor_model.specs.SleepersAgree.{hands_of}
 use Rattle.executor_model.proofs.Steps.Lists.{weigh-append, weigh-below}
 use Rattle.executor_model.proofs.Steps.Asides.{aside-entry, Aside, aside-awaiter, aside-owed, aside-let_go, aside-told, aside-closing}
@@ -142,7 +143,7 @@ runs_of _ = 0
 -- what the world has beside futures and the trace
 pub record Rest : Type 0 where
   pub limit : ℕ
-  pub queue : ClosableQueue ℕ
+  pub queue : Queues
   pub ticks : List Ticker
   pub runs : List Run
   pub own : List (List ℕ)
@@ -215,10 +216,10 @@ frame-call p w o (Outside x) k = frame w _ refl refl
 
 -- the table
 
-frame-enter : (b c : Bool) (p : ℕ) (w : World) → Frame w (acts.enter_by b c p w)
-frame-enter true c p w = frame w _ refl refl
-frame-enter false true p w = frame w _ refl refl
-frame-enter false false p w = frame w _ refl refl
+frame-enter : (b c : Bool) (mark : Mark) (p : ℕ) (w : World) → Frame w (acts.enter_by b c mark p w)
+frame-enter true c mark p w = frame w _ refl refl
+frame-enter false true mark p w = frame w _ refl refl
+frame-enter false false mark p w = frame w _ refl refl
 
 frame-leave : (b : Bool) (w : World) (f : ℕ) → Frame w (acts.leave_by b w f)
 frame-leave true w f = frame w _ refl (aside-entry bustle_of none w.is_static f)

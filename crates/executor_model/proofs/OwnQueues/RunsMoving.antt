@@ -32,7 +32,7 @@ use Rattle.executor_model.specs.ActsOfSleepers.{sleep_anew_by, fall_asleep_by, s
 use Rattle.executor_model.specs.Doing.{tick_act}
 use Rattle.executor_model.specs.Weights.{weigh}
 use Rattle.executor_model.specs.declared.op.Awaiter.{Awaiter}
-use Rattle.queue_steps.specs.ClosableQueue.{ClosableQueue}
+use Rattle.executor_model.specs.Queues.{Queues}
 use Rattle.executor_model.specs.Trace.{Trace}
 use Rattle.executor_model.specs.World.{World, Ticker, Awake, Asleep, Left, run_of, runs_with}
 use Rattle.executor_model.proofs.Steps.Lists.{weigh-append}
@@ -78,7 +78,7 @@ pub record Wide : Type 0 where
   pub limit : ℕ
   pub awaiters : List (Option Awaiter)
   pub inside : List Bool
-  pub queue : ClosableQueue ℕ
+  pub queue : Queues
   pub table : List ℕ
   pub leaving : List ℕ
   pub waking : List ℕ

@@ -4,6 +4,7 @@
 use Rattle.std.proofs.Common.{◌≡◌, ◌≤◌, ℕ, List, [], ◌∷◌, ◌++◌, length, Bool, true, false}
 use Rattle.std.proofs.Common.{refl, arith}
 use Rattle.std.specs.Prelude.{Option, Some, None}
+use Rattle.executor_parts.specs.declared.mark.Mark.{Mark}
 use Rattle.task_moves.specs.declared.moves.owed.Answer.{Answer}
 use Rattle.task_moves.specs.declared.moves.owed.Move.TheVariants as move
 use Rattle.task_moves.specs.declared.moves.owed.Moved.{Moved}
@@ -235,10 +236,10 @@ module _ (v : Op → ℕ) (m : Mild v) where
     mild-none (op.Move move.TakeUp f) refl,
   )
 
-  mild-enter : (b c : Bool) (p : ℕ) (w : World) → weigh v (acts.enter_by b c p w).next ≡ 0
-  mild-enter true c p w = omega (arith, m.executor)
-  mild-enter false true p w = omega (arith, m.executor)
-  mild-enter false false p w = omega (arith, m.spawned, mild-none (op.Queue (queue_op.Append (length w.tasks))) refl)
+  mild-enter : (b c : Bool) (mark : Mark) (p : ℕ) (w : World) → weigh v (acts.enter_by b c mark p w).next ≡ 0
+  mild-enter true c mark p w = omega (arith, m.executor)
+  mild-enter false true mark p w = omega (arith, m.executor)
+  mild-enter false false mark p w = omega (arith, m.spawned, mild-none (op.Queue (queue_op.Append (length w.tasks))) refl)
 
   mild-answered : (p : ℕ) (w : World) (f : ℕ) (x : Moved) (a : Answer) → weigh v (acts.answered p w f x a).next ≡ 0
   mild-answered p w f x a = omega (

@@ -4,6 +4,7 @@ use Rattle.std.proofs.Common.{◌≡◌, ◌⊎◌, ◌∙◌, ℕ, ◌≤◌, L
 use Rattle.std.proofs.Common.{cond, eqb, inl, inr, ⊎_elim, refl, sym, subst, arith}
 use Rattle.std.proofs.lemmas.List.{append_assoc}
 use Rattle.std.specs.Prelude.{Option, Some, None}
+use Rattle.executor_parts.specs.declared.mark.Mark.{Mark}
 use Rattle.executor_parts.specs.Sleepers.{waker_at}
 use Rattle.task_moves.specs.Moves as moves
 use Rattle.task_moves.specs.Moves.{is_over}
@@ -71,11 +72,11 @@ no-poll (tick_or_run.Run r) c a b e = let no : true ≡ false = sym e ∙ b in a
 
 -- a spawn
 
-enters : (a b : Bool) (p : ℕ) (w : World) (more : Trace) → (enter_by a b p w).world.trace ≡ w.trace ++ more →
-    (weigh made_of (enter_by a b p w).next ≡ 0) ⊎ HasAccepted more
-enters true b p w more g = inl refl
-enters false true p w more g = inl refl
-enters false false p w more g = inr (
+enters : (a b : Bool) (mark : Mark) (p : ℕ) (w : World) (more : Trace) → (enter_by a b mark p w).world.trace ≡ w.trace ++ more →
+    (weigh made_of (enter_by a b mark p w).next ≡ 0) ⊎ HasAccepted more
+enters true b mark p w more g = inl refl
+enters false true mark p w more g = inl refl
+enters false false mark p w more g = inr (
   length w.tasks,
   subst (λ (t : Trace). has (is_accepted (length w.tasks)) t ≡ true)
       (added w.trace more (event.Accepted p (length w.tasks) ∷ []) _ g refl)

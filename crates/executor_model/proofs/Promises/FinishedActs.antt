@@ -3,6 +3,7 @@
 use Rattle.std.proofs.Common.{◌≡◌, ℕ, ◌+◌, List, [], ◌∷◌, ◌++◌, length, Bool, true, false}
 use Rattle.std.proofs.Common.{◌&&◌, ◌||◌, refl, ap, arith}
 use Rattle.std.specs.Prelude.{◌%◌, Option, Some, None, is_none}
+use Rattle.executor_parts.specs.declared.mark.Mark.{Mark}
 use Rattle.task_moves.specs.declared.moves.owed.Answer.{Answer}
 use Rattle.task_moves.specs.declared.moves.owed.Answer.TheVariants as given
 use Rattle.task_moves.specs.declared.moves.owed.Move.{Move}
@@ -133,10 +134,10 @@ unseen = record { hand = refl; call = λ s. refl; outside = λ x. refl; wake = �
 
 -- by groups
 
-fin-enter : (a b : Bool) (p : ℕ) (w : World) → weigh fin (enter_by a b p w).next ≡ 0
-fin-enter true b p w = refl
-fin-enter false true p w = refl
-fin-enter false false p w = refl
+fin-enter : (a b : Bool) (mark : Mark) (p : ℕ) (w : World) → weigh fin (enter_by a b mark p w).next ≡ 0
+fin-enter true b mark p w = refl
+fin-enter false true mark p w = refl
+fin-enter false false mark p w = refl
 
 fin-emptiness : (q : List ℕ) → fin_reply (emptiness q) + 0 ≡ 0
 fin-emptiness [] = refl

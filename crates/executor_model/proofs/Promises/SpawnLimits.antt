@@ -163,8 +163,8 @@ module _ (n : ℕ) (s : Machine) (p : ℕ) (old rest : List Op) (fine : Good s) 
     );
     many = full-now n s p rest fine l (subst (λ (os : List Op). stack s p ≡ rest ++ reverse os) q e) k z;
   })
-  entered false true z q = inl (none-more (enter_by false true p s.world) refl)
-  entered false false z q = inl (none-more (enter_by false false p s.world) refl)
+  entered false true z q = inl (none-more (enter_by false true mark p s.world) refl)
+  entered false false z q = inl (none-more (enter_by false false mark p s.world) refl)
 
   answer-acted : (h : Hint) (o : Op) (b : Bool) → is_enter o ≡ b → is_end o ≡ false → old ≡ o ∷ [] → Serves o →
       (weigh_all full_of (unsettled s p rest (act p h o s.world)).parties ≡ 0)

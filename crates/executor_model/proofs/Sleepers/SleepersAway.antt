@@ -75,10 +75,10 @@ pub record Away (w : World) (d : Done) : Type 0 where
   pub wakes_up : wakes_up_well d.next ≡ true
   pub queue : length d.world.queue.items ≤ length w.queue.items
 
-same-queue : (w v : World) → v.queue ≡ w.queue → length v.queue.items ≤ length w.queue.items
+same-queue : (w v : World) → v.queues ≡ w.queues → length v.queue.items ≤ length w.queue.items
 same-queue w v e = omega (arith, ap (λ q. length q.items) e)
 
-pub away : (w : World) (d : Done) → sleepers_seen w ≡ sleepers_seen d.world → d.world.queue ≡ w.queue → weigh stirs_of d.next ≡ 0 →
+pub away : (w : World) (d : Done) → sleepers_seen w ≡ sleepers_seen d.world → d.world.queues ≡ w.queues → weigh stirs_of d.next ≡ 0 →
     Away w d
 away w d b q h = record {
   sleepers_seen = b;
@@ -88,7 +88,7 @@ away w d b q h = record {
 }
 
 -- of what a run does
-away-run : (w : World) (d : Done) → sleepers_seen w ≡ sleepers_seen d.world → d.world.queue ≡ w.queue → weigh owes_of d.next ≡ 0 →
+away-run : (w : World) (d : Done) → sleepers_seen w ≡ sleepers_seen d.world → d.world.queues ≡ w.queues → weigh owes_of d.next ≡ 0 →
     wakes_up_well d.next ≡ true → Away w d
 away-run w d b q h r = record { sleepers_seen = b; owes = h; wakes_up = r; queue = same-queue w d.world q }
 
@@ -155,7 +155,7 @@ no-owes-searching = record {
 -- what is found is run: the queue and the places stay
 pub record Stays (w v : World) : Type 0 where
   pub sleepers_seen : sleepers_seen w ≡ sleepers_seen v
-  pub queue : v.queue ≡ w.queue
+  pub queue : v.queues ≡ w.queues
 
 stays-both : (u v w : World) → Stays u v → Stays v w → Stays u w
 stays-both u v w a b = record { sleepers_seen = a.sleepers_seen ∙ b.sleepers_seen; queue = b.queue ∙ a.queue }

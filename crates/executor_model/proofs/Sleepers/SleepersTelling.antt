@@ -319,23 +319,23 @@ tells-returned w =
     }
 
 make-still : (b : Bool) (w : World) → ((make_run_by b w).world.sleepers ≡ w.sleepers) ×
-    ((make_run_by b w).world.queue ≡ w.queue)
+    ((make_run_by b w).world.queues ≡ w.queues)
 make-still true w = (refl, refl)
 make-still false w = (refl, refl)
 
 register-still : (t : Stage) (w : World) (r : ℕ) → ((registered t w r).sleepers ≡ w.sleepers) ×
-    ((registered t w r).queue ≡ w.queue)
+    ((registered t w r).queue ≡ w.queues)
 register-still New w r = (refl, refl)
 register-still Listed w r = (refl, refl)
 register-still Ended w r = (refl, refl)
 
 list-still : (h : Hint) (o : ListOp) (w : World) →
-    ((list_act h o w).world.sleepers ≡ w.sleepers) × ((list_act h o w).world.queue ≡ w.queue)
+    ((list_act h o w).world.sleepers ≡ w.sleepers) × ((list_act h o w).world.queues ≡ w.queues)
 list-still h (list_op.Write section.MakeRun) w = make-still h.refused w
 list-still h (list_op.Write (section.Register x)) w = register-still _ w x.run
 list-still h _ w = (refl, refl)
 
-told-still : (w v : World) (i j : ℕ) → v.sleepers ≡ w.sleepers → v.queue ≡ w.queue → i ≤ j → Told w i → Told v j
+told-still : (w v : World) (i j : ℕ) → v.sleepers ≡ w.sleepers → v.queues ≡ w.queues → i ≤ j → Told w i → Told v j
 told-still w v i j e q l t =
     let c : w.sleepers.count ≡ v.sleepers.count = ap (λ s. s.count) (sym e) in
     let n : length w.sleepers.wakers ≡ length v.sleepers.wakers = ap (λ s. length s.wakers) (sym e) in
@@ -432,7 +432,7 @@ tells-react p (op.User (user_op.PollOwn x)) (end.Polled answer.Ready) w a = quie
 tells-react p (op.User (user_op.DropOwn r)) end.Done w a = quiet w _ _ _ refl (omega arith) refl
 tells-react p _ _ w a = absurd (cc)
 
-tells-with : (w v : World) (x : Option ℕ) (d : ℕ → Done) → sleepers_seen w ≡ sleepers_seen v → v.queue ≡ w.queue →
+tells-with : (w v : World) (x : Option ℕ) (d : ℕ → Done) → sleepers_seen w ≡ sleepers_seen v → v.queues ≡ w.queues →
     ((f : ℕ) → Tells w [] (d f)) → Tells w [] (with_future v x d)
 tells-with w v None d e q n = quiet w v _ _ e (omega (arith, ap (λ (c : ClosableQueue ℕ). length c.items) q)) refl
 tells-with w v (Some f) d e q n = n f

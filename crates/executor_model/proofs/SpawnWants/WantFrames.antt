@@ -3,6 +3,7 @@
 use Rattle.std.proofs.Common.{◌≡◌, ◌⊎◌, ◌∙◌, ℕ, ◌<◌, ◌≤◌, List, [], ◌∷◌, ◌++◌, length, Bool, true, false}
 use Rattle.std.proofs.Common.{inl, inr, ⊎_elim, refl, sym, ap, subst, arith}
 use Rattle.std.specs.Prelude.{Option, reverse}
+use Rattle.executor_parts.specs.declared.mark.Mark.{Mark}
 use Rattle.executor_model.specs.declared.kind.Kind.{Kind}
 use Rattle.executor_model.specs.declared.call.Call.{Call}
 use Rattle.executor_model.specs.declared.call.Call.TheVariants as call
@@ -125,10 +126,10 @@ module _ (c : Call) (o : Op) (rest next : List Op) (k : Passes o next) (n : is_e
 
 -- what a spawn asks
 
-enter-wants : (b r : Bool) (p : ℕ) (w : World) → Wants (enter_by b r p w).next
+enter-wants : (b r : Bool) (mark : Mark) (p : ℕ) (w : World) → Wants (enter_by b r mark p w).next
 enter-wants true r p w = inl refl
-enter-wants false true p w = inr refl
-enter-wants false false p w = inl refl
+enter-wants false true mark p w = inr refl
+enter-wants false false mark p w = inl refl
 
 pub enter-is : (o : Op) → is_enter o ≡ true → o ≡ op.Table (table_op.Enter m)
 enter-is (op.Table (table_op.Enter m)) e = refl
@@ -142,7 +143,7 @@ asks-place _ o s z n e = absurd (cc)
 act-wants : (c : Call) (p : ℕ) (h : Hint) (o : Op) (w : World) → is_end o ≡ false → spawns c ≡ true →
     calling_of o ≡ 1 → misfit c o ≡ 0 → Wants (act p h o w).next
 act-wants c p h o w n s z e = subst (λ (x : Op). Wants (act p h x w).next) (sym (asks-place c o s z n e))
-    (enter-wants _ h.refused p w)
+    (enter-wants _ h.refused _ p w)
 
 user-wants : (c : Call) (o : Op) (u : UserEnd) (next : List Op) → accepts o u ≡ true → is_end o ≡ false →
     spawns c ≡ true → calling_of o ≡ 1 → misfit c o ≡ 0 → Wants next

@@ -145,7 +145,7 @@ module _ (s : Machine) (p q : ℕ) (here : Tops s) (f : Askings s) (k : IsSpawni
       let r = refuses (is_full s.world) h.refused x.0 (reverse rest)
       (ap (λ (y : Op). first ((act q h y s.world).next ++ reverse rest)) (sym i) ∙ x.1) x.2 in (z.0, i, r.0, r.1)
     where
-      refuses : (b c : Bool) (y : Op) (below : List Op) → first ((enter_by b c q s.world).next ++ below) ≡ Some y →
+      refuses : (b c : Bool) (y : Op) (below : List Op) → first ((enter_by b c mark q s.world).next ++ below) ≡ Some y →
           want_of y ≡ 1 → (c ≡ true) × (b ≡ false)
       refuses false true y below v u = (refl, refl)
       refuses true c y below v u =

@@ -275,7 +275,7 @@ sound-begun w p ss others here = by_call _
 pub begins : (w : World) (p : ℕ) (ss : List (List Op)) (o : Option Op) (here : Option Waker) (c : Call) →
     ((a : Waker) → here ≡ Some a → waker_past (length w.tasks) a ≡ 0) → has_all w ss o c ≡ true →
     Grows w [] (begun p (log w (event.CallBegun p c)) here c)
-begins w p ss o here call.Spawn k has = grows-begun w p _ _ (λ h. refl)
+begins w p ss o here (call.Spawn mark) k has = grows-begun w p _ _ (λ h. refl)
 begins w p ss o here call.TryTick k has = grows-begun w p _ _ (λ h. refl)
 begins w p ss o here call.IsEmpty k has = grows-begun w p _ _ (λ h. refl)
 begins w p ss o here (call.Wake n) k has = begins-kept w p (call.Wake n) n _ _ refl

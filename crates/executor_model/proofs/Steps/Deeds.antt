@@ -5,6 +5,7 @@ use Rattle.std.proofs.Common.{refl, sym, ap, ◌∙◌, append-nil, arith}
 use Rattle.std.proofs.lemmas.Bool.Decides.{nat_tests}
 use Rattle.std.proofs.lemmas.List.{append_assoc}
 use Rattle.std.specs.Prelude.{Option, Some, None}
+use Rattle.executor_parts.specs.declared.mark.Mark.{Mark}
 use Rattle.task_moves.specs.declared.moves.owed.Answer.{Answer}
 use Rattle.task_moves.specs.declared.moves.owed.Moved.{Moved}
 use Rattle.task_moves.specs.Moves as moves
@@ -139,10 +140,10 @@ grows-take : {p : ℕ} (q : List ℕ) (w : World) → Grows p w (take_by w q).wo
 grows-take [] w = grows-same _ _ refl
 grows-take (f ∷ rest) w = grows-same _ _ refl
 
-grows-enter : (b c : Bool) (p : ℕ) (w : World) → Grows p w (enter_by b c p w).world
-grows-enter true c p w = grows-same _ _ refl
-grows-enter false true p w = grows-same _ _ refl
-grows-enter false false p w = grows-log _ _ (event.Accepted p (length w.tasks)) refl refl refl
+grows-enter : (b c : Bool) (mark : Mark) (p : ℕ) (w : World) → Grows p w (enter_by b c mark p w).world
+grows-enter true c mark p w = grows-same _ _ refl
+grows-enter false true mark p w = grows-same _ _ refl
+grows-enter false false mark p w = grows-log _ _ (event.Accepted p (length w.tasks)) refl refl refl
 
 grows-leave : {p : ℕ} (b : Bool) (w : World) (f : ℕ) → Grows p w (leave_by b w f).world
 grows-leave true w f = grows-same _ _ refl
@@ -270,7 +271,7 @@ grows-run p h (run_op.WakeOwn x) w = grows-wake_own p w x
 grows-run p h (run_op.Reschedule r a) w = grows-same w _ (moves-reschedule _ w r a refl).same.trace
 
 pub grows-act : (p : ℕ) (h : Hint) (o : Op) (w : World) → is_end o ≡ false → Grows p w (act p h o w).world
-grows-act p h (op.Table table_op.Enter) w n = grows-enter _ _ p w
+grows-act p h (op.Table (table_op.Enter mark)) w n = grows-enter _ _ _ p w
 grows-act p h (op.Queue queue_op.Take) w n = grows-take _ w
 grows-act p h (op.Queue (queue_op.Append f)) w n = grows-append _ w f
 grows-act p h (op.Move m f) w n = grows-move _ m p w f

@@ -4,6 +4,7 @@
 use Rattle.std.proofs.Common.{◌≡◌, ℕ, List, [], ◌∷◌, ◌++◌, length, Bool, true, false, refl, sym, ap, ◌∙◌, append-nil}
 use Rattle.std.proofs.lemmas.List.{append_assoc, append_cancel_left}
 use Rattle.std.specs.Prelude.{Option, Some, None}
+use Rattle.executor_parts.specs.declared.mark.Mark.{Mark}
 use Rattle.task_moves.specs.declared.moves.owed.Answer.{Answer}
 use Rattle.task_moves.specs.declared.moves.owed.Moved.{Moved}
 use Rattle.task_moves.specs.Moves as moves
@@ -105,11 +106,11 @@ module _ (t : Event → Bool) (u : (e : Event) → is_hushed e ≡ true → t e 
   hushed-take [] w = hushed _ _ refl
   hushed-take (f ∷ rest) w = hushed _ _ refl
 
-  hushed-enter : (b c : Bool) (p : ℕ) (w : World) → ((f : ℕ) → t (event.Accepted p f) ≡ false) →
-      Hushed w (enter_by b c p w).world
-  hushed-enter true c p w z = hushed _ _ refl
-  hushed-enter false true p w z = hushed _ _ refl
-  hushed-enter false false p w z = one _ _ (event.Accepted p (length w.tasks)) refl (z (length w.tasks))
+  hushed-enter : (b c : Bool) (mark : Mark) (p : ℕ) (w : World) → ((f : ℕ) → t (event.Accepted p f) ≡ false) →
+      Hushed w (enter_by b c mark p w).world
+  hushed-enter true c mark p w z = hushed _ _ refl
+  hushed-enter false true mark p w z = hushed _ _ refl
+  hushed-enter false false mark p w z = one _ _ (event.Accepted p (length w.tasks)) refl (z (length w.tasks))
 
   hushed-leave : (b : Bool) (w : World) (f : ℕ) → Hushed w (leave_by b w f).world
   hushed-leave true w f = hushed _ _ refl
@@ -224,13 +225,13 @@ module _ (t : Event → Bool) (u : (e : Event) → is_hushed e ≡ true → t e 
   Hushes p (op.Waker (waker_op.CallAwaiter f a k)) = t (event.WakerCalled p (of.Handle f) k a) ≡ false
   Hushes p (op.Sleeper (sleeper_op.CallSleeper s)) = t (event.WakerCalled p (polled_as s.who) s.poll s.waker) ≡ false
   Hushes p (op.Run (run_op.WakeOwn x)) = t (event.WakerCalled p (of.Run x.run) x.poll x.waker) ≡ false
-  Hushes p (op.Table table_op.Enter) = (f : ℕ) → t (event.Accepted p f) ≡ false
+  Hushes p (op.Table (table_op.Enter mark)) = (f : ℕ) → t (event.Accepted p f) ≡ false
   Hushes p (op.User (user_op.BeginDrop f)) = t (event.Dropped p f) ≡ false
   Hushes p (op.Closing closing_op.DropNext) = (f : ℕ) → t (event.Dropped p f) ≡ false
   Hushes p _ = Unit {0}
 
   pub hushed-act : (p : ℕ) (h : Hint) (o : Op) (w : World) → Hushes p o → Hushed w (act p h o w).world
-  hushed-act p h (op.Table table_op.Enter) w z = hushed-enter _ _ p w z
+  hushed-act p h (op.Table (table_op.Enter mark)) w z = hushed-enter _ _ _ p w z
   hushed-act p h (op.Table (table_op.LeaveTable f)) w z = hushed-leave _ w f
   hushed-act p h (op.Queue queue_op.Take) w z = hushed-take _ w
   hushed-act p h (op.Queue (queue_op.Append f)) w z = hushed-append _ w f

@@ -58,7 +58,7 @@ abbrev entries_in : Rest → Entries
 entries_in r = record { table = r.table; leaving = r.leaving; waking = r.waking }
 
 abbrev pub lists : Op → Bool
-lists (op.Table table_op.Enter) = true
+lists (op.Table (table_op.Enter mark)) = true
 lists (op.Table (table_op.LeaveTable f)) = true
 lists (op.Closing closing_op.TakeOut) = true
 lists (op.Closing closing_op.DropNext) = true
@@ -161,7 +161,7 @@ entries-let_go true w f = refl
 entries-let_go false w f = refl
 
 pub same-entries : (p : ℕ) (h : Hint) (o : Op) (w : World) → lists o ≡ false → entries w ≡ entries (act p h o w).world
-same-entries p h (op.Table table_op.Enter) w n = absurd (cc)
+same-entries p h (op.Table (table_op.Enter mark)) w n = absurd (cc)
 same-entries p h (op.Table (table_op.LeaveTable f)) w n = absurd (cc)
 same-entries p h (op.Closing closing_op.TakeOut) w n = absurd (cc)
 same-entries p h (op.Closing closing_op.DropNext) w n = absurd (cc)

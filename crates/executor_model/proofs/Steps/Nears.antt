@@ -2,6 +2,7 @@
 -- Which things that are done lead to user code of a future, or to its way back: no others do.
 use Rattle.std.proofs.Common.{◌≡◌, ℕ, List, [], ◌∷◌, ◌++◌, Bool, true, false, refl, arith}
 use Rattle.std.specs.Prelude.{Option, Some, None}
+use Rattle.executor_parts.specs.declared.mark.Mark.{Mark}
 use Rattle.task_moves.specs.declared.moves.owed.Answer.{Answer}
 use Rattle.task_moves.specs.declared.moves.owed.Move.{Move}
 use Rattle.task_moves.specs.declared.moves.owed.Move.TheVariants as move
@@ -118,10 +119,10 @@ near-take : (q : List ℕ) (w : World) → weigh near_of (take_by w q).next ≡ 
 near-take [] w = refl
 near-take (f ∷ rest) w = refl
 
-near-enter : (b c : Bool) (p : ℕ) (w : World) → weigh near_of (enter_by b c p w).next ≡ 0
-near-enter true c p w = refl
-near-enter false true p w = refl
-near-enter false false p w = refl
+near-enter : (b c : Bool) (mark : Mark) (p : ℕ) (w : World) → weigh near_of (enter_by b c mark p w).next ≡ 0
+near-enter true c mark p w = refl
+near-enter false true mark p w = refl
+near-enter false false mark p w = refl
 
 near-leave : (b : Bool) (w : World) (f : ℕ) → weigh near_of (leave_by b w f).next ≡ 0
 near-leave true w f = aside-entry near_of near-aside w.is_static f
@@ -215,7 +216,7 @@ near-reschedule w (f ∷ rest) r a = refl
 
 pub near-act : (p : ℕ) (h : Hint) (o : Op) (w : World) → leads_near o ≡ false → weigh near_of (act p h o w).next ≡ 0
 near-act p h (op.Move m f) w n = near-move (stands_alone m) m p w f
-near-act p h (op.Table table_op.Enter) w n = near-enter _ _ p w
+near-act p h (op.Table (table_op.Enter mark)) w n = near-enter _ _ _ p w
 near-act p h (op.Table table_op.LookAtTable) w n = refl
 near-act p h (op.Table (table_op.TakeToPoll f)) w n = absurd (cc)
 near-act p h (op.Table (table_op.PutBack f)) w n = refl

@@ -55,7 +55,7 @@ abbrev spots_in : Rest → Spots
 spots_in r = record { inside = r.inside; wakers = r.wakers }
 
 abbrev pub places : Op → Bool
-places (op.Table table_op.Enter) = true
+places (op.Table (table_op.Enter mark)) = true
 places (op.Table (table_op.TakeToPoll f)) = true
 places (op.Table (table_op.PutBack f)) = true
 places (op.Table (table_op.TakeToDrop f)) = true
@@ -170,7 +170,7 @@ spots-let_go true w f = refl
 spots-let_go false w f = refl
 
 pub same-spots : (p : ℕ) (h : Hint) (o : Op) (w : World) → places o ≡ false → spots w ≡ spots (act p h o w).world
-same-spots p h (op.Table table_op.Enter) w n = absurd (cc)
+same-spots p h (op.Table (table_op.Enter mark)) w n = absurd (cc)
 same-spots p h (op.Table (table_op.TakeToPoll f)) w n = absurd (cc)
 same-spots p h (op.Table (table_op.PutBack f)) w n = absurd (cc)
 same-spots p h (op.Table (table_op.TakeToDrop f)) w n = absurd (cc)

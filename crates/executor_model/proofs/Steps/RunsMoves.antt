@@ -81,7 +81,7 @@ same-here w rs qs ls l = record {
 }
 
 -- and so they are where the first of the executor's queue was taken
-pub same-taken : (w : World) → Same w (record w { queue = taken w.queue })
+pub same-taken : (w : World) → Same w (record w { queue = taken w.queues })
 same-taken w = record {
   limit = refl;
   closed = refl;

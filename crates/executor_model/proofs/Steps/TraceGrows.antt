@@ -4,6 +4,7 @@ use Rattle.std.proofs.Common.{◌≡◌, ◌∙◌, ℕ, List, [], ◌∷◌, �
 use Rattle.std.proofs.Common.{refl, sym, ap, append-nil}
 use Rattle.std.proofs.lemmas.List.{append_assoc}
 use Rattle.std.specs.Prelude.{Option, Some, None}
+use Rattle.executor_parts.specs.declared.mark.Mark.{Mark}
 use Rattle.task_moves.specs.Moves as moves
 use Rattle.task_moves.specs.declared.moves.owed.Answer.{Answer}
 use Rattle.task_moves.specs.declared.moves.owed.Move.{Move}
@@ -123,11 +124,11 @@ module _ (t : Event → Bool) (u : (e : Event) → is_ordinary e ≡ true → t 
   grows-call p w o (Outside x) k =
       grows-log w (log w (event.WakerCalled p o k (Outside x))) (event.WakerCalled p o k (Outside x)) refl refl
 
-  grows-enter : (b c : Bool) (p : ℕ) (w : World) → Grows w (acts.enter_by b c p w).world
-  grows-enter true c p w = grows w w refl
-  grows-enter false true p w = grows w w refl
-  grows-enter false false p w =
-      grows-log w (acts.enter_by false false p w).world (event.Accepted p (length w.tasks)) refl refl
+  grows-enter : (b c : Bool) (mark : Mark) (p : ℕ) (w : World) → Grows w (acts.enter_by b c mark p w).world
+  grows-enter true c mark p w = grows w w refl
+  grows-enter false true mark p w = grows w w refl
+  grows-enter false false mark p w =
+      grows-log w (acts.enter_by false false mark p w).world (event.Accepted p (length w.tasks)) refl refl
 
   grows-leave : (b : Bool) (w : World) (f : ℕ) → Grows w (acts.leave_by b w f).world
   grows-leave true w f = grows w (acts.leave_by true w f).world refl
@@ -271,7 +272,7 @@ module _ (t : Event → Bool) (u : (e : Event) → is_ordinary e ≡ true → t 
   pub grows-act : (p : ℕ) (h : Hint) (o : Op) (w : World) → Allows p o → Grows w (act p h o w).world
   grows-act p h (op.Move move.TakeUp f) w z = grows-told true move.TakeUp p w w f z (grows w w refl)
   grows-act p h (op.Move m f) w z = grows-move (acts.stands_alone m) m p w w f refl (grows w w refl)
-  grows-act p h (op.Table table_op.Enter) w z = grows-enter _ _ p w
+  grows-act p h (op.Table (table_op.Enter mark)) w z = grows-enter _ _ _ p w
   grows-act p h (op.Table (table_op.LeaveTable f)) w z = grows-leave _ w f
   grows-act p h (op.Queue queue_op.Take) w z = grows-take _ w
   grows-act p h (op.Queue (queue_op.Append f)) w z = grows-append _ w f

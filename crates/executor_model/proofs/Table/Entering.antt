@@ -193,7 +193,7 @@ module _ (s : Machine) (f : ℕ) (fine : Good s) (h : Placed s) where
 
   pub finds-place : FindsPlace s f
   finds-place p e = ⊎_elim
-      (λ (l : p < length s.parties). room None s.world.queue (h.leaves f).capacity
+      (λ (l : p < length s.parties). room None s.world.queues (h.leaves f).capacity
       (has-place s p f (below_top (stack s p)) l (topped (stack s p) (op.Queue (queue_op.Append f)) e) fine h))
       (λ (l : length s.parties ≤ p). let z : stack s p ≡ [] = get_or_past s.parties p [] l in
       let no : slice_get (let os : List Op = [] in os) 0 ≡ Some (op.Queue (queue_op.Append f)) = sym (ap top z) ∙ e in

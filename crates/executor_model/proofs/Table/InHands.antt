@@ -5,6 +5,7 @@ use Rattle.std.proofs.Common.{inl, inr, ⊎_elim}
 use Rattle.std.proofs.lemmas.Bool.Decides.{nat_tests}
 use Rattle.std.proofs.lemmas.List.{length-append}
 use Rattle.std.specs.Prelude.{slice_set}
+use Rattle.executor_parts.specs.declared.mark.Mark.{Mark}
 use Rattle.task_moves.specs.declared.moves.owed.Move.{Move}
 use Rattle.task_moves.specs.declared.moves.owed.Move.TheVariants as move
 use Rattle.task_moves.proofs.Cases.{by_move}
@@ -102,8 +103,8 @@ handled : (b : Bool) → (entered b).handle ≡ true
 handled true = refl
 handled false = refl
 
-hands-enters : (p : ℕ) (w : World) → KeepsHands w (op.Table table_op.Enter ∷ []) (enter_by false false p w)
-hands-enters p w g r y b h = let k = handled w.is_static in grind (arith, same_is, fresh_is, read_push, length-append, story-push)
+hands-enters : (mark : Mark) (p : ℕ) (w : World) → KeepsHands w (op.Table (table_op.Enter mark) ∷ []) (enter_by false false mark p w)
+hands-enters mark p w g r y b h = let k = handled w.is_static in grind (arith, same_is, fresh_is, read_push, length-append, story-push)
 
 hands-drops : (p f : ℕ) (w : World) → KeepsHands w (op.User (user_op.BeginDrop f) ∷ []) (begin_drop p w f)
 hands-drops p f w g r y b h = grind (arith, story-push)

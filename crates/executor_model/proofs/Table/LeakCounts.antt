@@ -2,6 +2,7 @@
 -- Who is about to take the wakers out of the table has begun a leak: nothing that is done leads there.
 use Rattle.std.proofs.Common.{◌≡◌, ◌⊎◌, ◌≤◌, ◌||◌, ℕ, List, [], ◌∷◌, ◌++◌, Bool, true, false, inl, inr, refl, arith}
 use Rattle.std.specs.Prelude.{Option, Some, None}
+use Rattle.executor_parts.specs.declared.mark.Mark.{Mark}
 use Rattle.task_moves.specs.declared.moves.owed.Answer.{Answer}
 use Rattle.task_moves.specs.declared.moves.owed.Move.{Move}
 use Rattle.task_moves.specs.declared.moves.owed.Move.TheVariants as move
@@ -122,10 +123,10 @@ module _ (first more : ℕ) where
   goes-take [] w = refl
   goes-take (f ∷ rest) w = refl
 
-  goes-enter : (b c : Bool) (p : ℕ) (w : World) → weigh (goes_of first more) (enter_by b c p w).next ≡ 0
-  goes-enter true c p w = refl
-  goes-enter false true p w = refl
-  goes-enter false false p w = refl
+  goes-enter : (b c : Bool) (mark : Mark) (p : ℕ) (w : World) → weigh (goes_of first more) (enter_by b c mark p w).next ≡ 0
+  goes-enter true c mark p w = refl
+  goes-enter false true mark p w = refl
+  goes-enter false false mark p w = refl
 
   goes-leave : (b : Bool) (w : World) (f : ℕ) → weigh (goes_of first more) (leave_by b w f).next ≡ 0
   goes-leave true w f = aside-entry (goes_of first more) goes-aside w.is_static f
@@ -229,7 +230,7 @@ module _ (first more : ℕ) where
   pub goes-act : (p : ℕ) (h : Hint) (o : Op) (w : World) → is_leaking o ≡ false →
       weigh (goes_of first more) (act p h o w).next ≡ 0
   goes-act p h (op.Move m f) w n = goes-move (stands_alone m) m p w f
-  goes-act p h (op.Table table_op.Enter) w n = goes-enter _ _ p w
+  goes-act p h (op.Table (table_op.Enter mark)) w n = goes-enter _ _ _ p w
   goes-act p h (op.Table table_op.LookAtTable) w n = refl
   goes-act p h (op.Table (table_op.TakeToPoll f)) w n = refl
   goes-act p h (op.Table (table_op.PutBack f)) w n = refl

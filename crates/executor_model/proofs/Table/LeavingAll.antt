@@ -5,6 +5,7 @@
 use Rattle.std.proofs.Common.{◌≡◌, ℕ, ◌+◌, ◌<◌, List, [], ◌∷◌, ◌++◌, length, true, false, ◌&&◌, not, refl, ap, arith}
 use Rattle.std.proofs.lemmas.List.{length-append}
 use Rattle.std.specs.Prelude.{nat_lt, slice_set}
+use Rattle.executor_parts.specs.declared.mark.Mark.{Mark}
 use Rattle.task_moves.specs.declared.moves.owed.Move.TheVariants as move
 use Rattle.executor_model.specs.declared.call.Call.TheVariants as call
 use Rattle.executor_model.specs.declared.call.Reply.{Reply}
@@ -40,9 +41,9 @@ leaves-refuses : (w : World) (f : ℕ) → w.queue.closed ≡ true →
     KeepsLeaves w (op.Queue (queue_op.Append f) ∷ []) (append_by false w f)
 leaves-refuses w f c g r y b h = grind (arith, same_is)
 
-leaves-enters : (p : ℕ) (w : World) → (w.gone ≡ false → (g : ℕ) → length (story g w.trace).standing < w.limit) →
-    KeepsLeaves w (op.Table table_op.Enter ∷ []) (enter_by false false p w)
-leaves-enters p w l g r y b h =
+leaves-enters : (mark : Mark) (p : ℕ) (w : World) → (w.gone ≡ false → (g : ℕ) → length (story g w.trace).standing < w.limit) →
+    KeepsLeaves w (op.Table (table_op.Enter mark) ∷ []) (enter_by false false mark p w)
+leaves-enters mark p w l g r y b h =
     let n : w.gone ≡ false = grind arith in
     let z : length (story g w.trace).standing < w.limit = l n g in
     grind (arith, same_is, fresh_is, read_push, times-append, length-append, story-push)
@@ -85,7 +86,7 @@ leaves-leaked d p f g r y a h = leaked-keeps Entered (λ x a h. grind arith) d.w
 abbrev pub NeedsPlaces : World → Op → Type 0
 NeedsPlaces w (op.Queue (queue_op.Append f)) = (not w.queue.closed && nat_lt (length w.queue.items) w.limit) ≡ false →
     w.queue.closed ≡ true
-NeedsPlaces w (op.Table table_op.Enter) = not (nat_lt (length w.table) w.limit) ≡ false → w.gone ≡ false → (g : ℕ) →
+NeedsPlaces w (op.Table (table_op.Enter mark)) = not (nat_lt (length w.table) w.limit) ≡ false → w.gone ≡ false → (g : ℕ) →
     length (story g w.trace).standing < w.limit
 NeedsPlaces w _ = Unit {0}
 
@@ -97,7 +98,7 @@ leaves-effect w old _ n (turns d m p f v more i j k s a e) g r y b h =
     (λ x y z. base-passes x y z.passes) (λ x y z c. entered-passes x y z.passes z.stays) w old d m p f v more i
     (λ q u. j) s a e g r y b h
 leaves-effect w old d n (refuses f e) g r y b h = leaves-refuses w f (n (op.Queue (queue_op.Append f)) refl e) g r y b h
-leaves-effect w old d n (enters p e) g r y b h = leaves-enters p w (n (op.Table table_op.Enter) refl e) g r y b h
+leaves-effect w old d n (enters p e) g r y b h = leaves-enters p w (n (op.Table (table_op.Enter mark)) refl e) g r y b h
 leaves-effect w old d n (unlists f e) g r y b h = leaves-unlists w f e g r y b h
 leaves-effect w old d n (drops p f) g r y b h = leaves-drops p f w g r y b h
 leaves-effect w old d n takes_out g r y b h = leaves-takes_out _ _ w refl g r y b h

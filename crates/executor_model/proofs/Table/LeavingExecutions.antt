@@ -81,7 +81,7 @@ needs-places : (s : Machine) (p : ℕ) (o : Op) (rest : List Op) → p < length 
     stack s p ≡ rest ++ reverse (o ∷ []) → Good s → Placed s → NeedsPlaces s.world o
 needs-places s p (op.Queue (queue_op.Append f)) rest l e good h =
     no-room s.world.queue.closed _ _ (has-place s p f rest l e good h)
-needs-places s p (op.Table table_op.Enter) rest l e good h =
+needs-places s p (op.Table (table_op.Enter mark)) rest l e good h =
     λ b n g. let x : length s.world.table < s.world.limit = grind (arith, nat_tests) in
     omega (arith, x, has-entries s n h g)
 needs-places s p _ rest l e good h = tt

@@ -3,6 +3,7 @@
 -- Each thing that is done leads to uses of the executor only inside of a call that holds it.
 use Rattle.std.proofs.Common.{◌≡◌, ℕ, List, [], ◌∷◌, ◌++◌, Bool, true, false, refl, ap, arith}
 use Rattle.std.specs.Prelude.{Option, Some, None}
+use Rattle.executor_parts.specs.declared.mark.Mark.{Mark}
 use Rattle.task_moves.specs.declared.moves.state.State.{State}
 use Rattle.task_moves.specs.declared.moves.owed.FutureDebt.{FutureDebt}
 use Rattle.task_moves.specs.declared.moves.owed.AwaiterDebt.{AwaiterDebt}
@@ -88,10 +89,10 @@ pub tidy-take : (q : List ℕ) (w : World) → Tidy (op.Queue queue_op.Take ∷ 
 tidy-take [] w = record { keeps = λ h. refl }
 tidy-take (f ∷ rest) w = record { keeps = λ h. refl }
 
-pub light-enter : (b c : Bool) (p : ℕ) (w : World) → weigh uses_of (enter_by b c p w).next ≡ 0
-light-enter true c p w = refl
-light-enter false true p w = refl
-light-enter false false p w = refl
+pub light-enter : (b c : Bool) (mark : Mark) (p : ℕ) (w : World) → weigh uses_of (enter_by b c mark p w).next ≡ 0
+light-enter true c mark p w = refl
+light-enter false true mark p w = refl
+light-enter false false mark p w = refl
 
 pub light-copy : (b : Bool) (w : World) (f : ℕ) (held : Hold) → weigh uses_of (copy_by b w f held).next ≡ 0
 light-copy true w f held = refl

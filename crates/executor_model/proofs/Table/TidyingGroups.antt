@@ -42,7 +42,7 @@ NeedsNoEntry w (op.Move move.DropRunnable f) = among f w.table ≡ false
 NeedsNoEntry w _ = Unit {0}
 
 pub tidy-act : (p : ℕ) (h : Hint) (o : Op) (w : World) → NeedsNoEntry w o → Tidy (o ∷ []) (act p h o w).next
-tidy-act p h (op.Table table_op.Enter) w n = tidy-light _ _ (light-enter _ _ p w)
+tidy-act p h (op.Table (table_op.Enter mark)) w n = tidy-light _ _ (light-enter _ _ _ p w)
 tidy-act p h (op.Queue queue_op.Take) w n = tidy-take _ w
 tidy-act p h (op.Queue (queue_op.Append f)) w n = tidy-light _ _ (light-append _ w f)
 tidy-act p h (op.Move move.WakeByReference f) w n =

@@ -2,6 +2,7 @@
 -- What is done with tasks, the table, the queue, handles and sleepers names a poll by its own waker, where what was to do does.
 use Rattle.std.proofs.Common.{◌≡◌, ℕ, List, [], ◌∷◌, ◌++◌, length, Bool, true, false, refl, ◌&&◌}
 use Rattle.std.specs.Prelude.{Option, Some, None}
+use Rattle.executor_parts.specs.declared.mark.Mark.{Mark}
 use Rattle.task_moves.specs.declared.moves.owed.Answer.{Answer}
 use Rattle.task_moves.specs.declared.moves.owed.Move.{Move}
 use Rattle.task_moves.specs.declared.moves.owed.Move.TheVariants as move
@@ -67,10 +68,10 @@ module _ (k : ℕ) (a : Waker) where
 
   -- the table and the queue
 
-  pub enters : (b c : Bool) (p : ℕ) (w : World) → Stored k a w → Ends k a (enter_by b c p w)
-  enters true c p w h = (h, (tt, tt))
-  enters false true p w h = (h, (tt, tt))
-  enters false false p w h = (
+  pub enters : (b c : Bool) (mark : Mark) (p : ℕ) (w : World) → Stored k a w → Ends k a (enter_by b c mark p w)
+  enters true c mark p w h = (h, (tt, tt))
+  enters false true mark p w h = (h, (tt, tt))
+  enters false false mark p w h = (
     record {
       awaiters = every-append (RightSlot k a) w.awaiters (None ∷ []) h.awaiters (tt, tt);
       sleepers = h.sleepers;

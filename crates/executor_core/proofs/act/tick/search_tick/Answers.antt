@@ -27,7 +27,7 @@ returns c =
     let sleeps = c.sleeps-sleeps.result in
     let e : _ = found-tick w x f c.pop_front.new.self.items sleeps (search rules) c.sleeps-sleeps.ensures in
     record {
-      world = ap (λ (q : List ℕ). let v : World = record w { queue = record w.queue { items = q } } in v)
+      world = ap (λ (q : List ℕ). let v : World = record w { queue = record w.queues { items = q } } in v)
           c.pop_front.ensures.rest ∙ ap (λ (d : Done). d.world) (sym e);
       next = c.push_wake_up.ensures.items ∙ (ap (λ (l : List Op). l ++ reverse (wakes_up sleeps x.who))
           (c.push_reserved-4.ensures.items ∙ (ap (λ (l : List Op). l ++ op.Sleeper sleeper_op.ExchangeFlag ∷ [])

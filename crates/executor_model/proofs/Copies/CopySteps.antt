@@ -133,7 +133,7 @@ next-wakers (f ∷ rest) p w = refl
 act-by : (b : Bool) (p : ℕ) (h : Hint) (o : Op) (w : World) → places o ≡ b → is_copying o ≡ false →
     (act p h o w).world.wakers ≡ w.wakers
 act-by false p h o w e n = sym (ap (λ (x : Spots). x.wakers) (same-spots p h o w e))
-act-by true p h (op.Table (table_op.Enter m)) w e n = enter-wakers _ _ p w
+act-by true p h (op.Table (table_op.Enter mark)) w e n = enter-wakers _ _ _ p w
 act-by true p h (op.Table (table_op.TakeToPoll f)) w e n = refl
 act-by true p h (op.Table (table_op.PutBack f)) w e n = refl
 act-by true p h (op.Table (table_op.TakeToDrop f)) w e n = refl

@@ -169,7 +169,7 @@ module _ (p : ℕ) (w : World) where
 
   unchanged : (h : Hint) (o : Op) → list_any may_refuse (act p h o w).next ≡ true → falls_asleep o ≡ false →
       is_of_run o ≡ false → (act p h o w).world ≡ w
-  unchanged h (op.Table (table_op.Enter m)) e n r = enter-unchanged _ h.refused e
+  unchanged h (op.Table (table_op.Enter mark)) e n r = enter-unchanged _ h.refused e
   unchanged h (op.Waker (waker_op.CopyWaker f held)) e n r = copy-unchanged _ f held e
   unchanged h (op.Handle (handle_op.Look f a)) e n r =
       look-unchanged (task w f).closed (is_going (task w f)) (task w f).completed f a e
@@ -191,7 +191,7 @@ module _ (p : ℕ) (w : World) where
 
   begins-unchanged : (here : Option Waker) (c : Call) → takes_no_memory c ≡ false → is_search c ≡ false →
       (begun p w here c).world ≡ w
-  begins-unchanged here (call.Spawn m) e n = refl
+  begins-unchanged here (call.Spawn mark) e n = refl
   begins-unchanged here (call.Copy k) e n =
       with-unchanged (kept w k) (λ f. done w (op.Waker (waker_op.CopyWaker f (hold.Waker k)) ∷ [])) (λ f. refl)
   begins-unchanged here call.Keep e n =
@@ -397,7 +397,7 @@ module _ (p : ℕ) (w : World) where
 
   told : (h : Hint) (o : Op) → ends_for_want o ≡ false → list_any ends_for_want (act p h o w).next ≡ true →
       (h.refused ≡ true) ⊎ CopiesOneTooMany o w
-  told h (op.Table (table_op.Enter m)) n e = inl (enter-told _ h.refused e)
+  told h (op.Table (table_op.Enter mark)) n e = inl (enter-told _ h.refused e)
   told h (op.Waker (waker_op.CopyWaker f held)) n e =
       ⊎_elim (λ (x : h.refused ≡ true). inl x)
       (λ (x : nat_lt (task w f).references most_references ≡ false). inr (many (task w f).references x))

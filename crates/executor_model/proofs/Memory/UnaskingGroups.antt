@@ -91,7 +91,7 @@ none-move true m p w f =
 none-move false m p w f = refl
 
 none-act : (p : ℕ) (w : World) (h : Hint) (o : Op) → may_refuse o ≡ false → AsksForNone (act p h o w).next
-none-act p w h (op.Table (table_op.Enter m)) e = absurd (cc)
+none-act p w h (op.Table (table_op.Enter mark)) e = absurd (cc)
 none-act p w h (op.Queue queue_op.TakeTurn) e = refl
 none-act p w h (op.Queue (queue_op.Take l)) e = none-take w l (queue_of w (mark_in l)).items
 none-act p w h (op.Table table_op.LookAtTable) e = none-look_at_table w w.table
@@ -132,7 +132,7 @@ none-act p w h _ e = refl
 
 same-act : (p : ℕ) (w : World) (h : Hint) (refused : Bool) (o : Op) → asks o ≡ false →
     act p (record h { refused = refused }) o w ≡ act p h o w
-same-act p w h refused (op.Table (table_op.Enter m)) e = absurd (cc)
+same-act p w h refused (op.Table (table_op.Enter mark)) e = absurd (cc)
 same-act p w h refused (op.Waker (waker_op.CopyWaker f held)) e = absurd (cc)
 same-act p w h refused (op.Handle (handle_op.CopyAwaiter f a)) e = absurd (cc)
 same-act p w h refused (op.Tick tick_op.MakeTick) e = absurd (cc)

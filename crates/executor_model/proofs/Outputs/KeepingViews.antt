@@ -81,8 +81,8 @@ KeepsStored w old d = (g : ℕ) (r : Pend) (y : Extra) → Sure (seen w g (with_
 stored-refuses : (w : World) (f : ℕ) → KeepsStored w (op.Queue (queue_op.Append f) ∷ []) (append_by false w f)
 stored-refuses w f g r y k h = grind (arith, same_is)
 
-stored-enters : (p : ℕ) (w : World) → KeepsStored w (op.Table (table_op.Enter m) ∷ []) (enter_by false false p w)
-stored-enters p w g r y k h = let b = footing _ k in
+stored-enters : (mark : Mark) (p : ℕ) (w : World) → KeepsStored w (op.Table (table_op.Enter mark) ∷ []) (enter_by false false mark p w)
+stored-enters mark p w g r y k h = let b = footing _ k in
     grind (arith, same_is, fresh_is, read_push, length-append, readies-push, spent-push)
 
 stored-unlists : (w : World) (f : ℕ) → KeepsStored w (op.Table (table_op.LeaveTable f) ∷ []) (leave_by true w f)

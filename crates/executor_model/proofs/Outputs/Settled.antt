@@ -83,8 +83,8 @@ KeepsSettled w old d = (g : ℕ) (r : Pend) (y : Extra) → Sure (seen w g (with
     Settled (seen w g (with_ops g old r) (with_extra g old y)) →
     Settled (seen d.world g (with_ops g d.next r) (with_extra g d.next y))
 
-settle-enters : (p : ℕ) (w : World) → KeepsSettled w (op.Table (table_op.Enter m) ∷ []) (enter_by false false p w)
-settle-enters p w g r y b h = grind (arith, same_is, fresh_is, read_push, outputs-push, readies-push)
+settle-enters : (mark : Mark) (p : ℕ) (w : World) → KeepsSettled w (op.Table (table_op.Enter mark) ∷ []) (enter_by false false mark p w)
+settle-enters mark p w g r y b h = grind (arith, same_is, fresh_is, read_push, outputs-push, readies-push)
 
 settle-drops : (p f : ℕ) (w : World) → KeepsSettled w (op.User (user_op.BeginDrop f) ∷ []) (begin_drop p w f)
 settle-drops p f w g r y b h = grind (arith, outputs-push, readies-push)

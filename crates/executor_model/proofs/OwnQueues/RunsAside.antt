@@ -317,7 +317,7 @@ is_lone _ = true
 
 pub frame-act : (p : ℕ) (h : Hint) (o : Op) (w : World) → is_lone o ≡ true → Frame w (act p h o w)
 frame-act p h (op.Move m f) w n = frame-move _ m p w w f refl
-frame-act p h (op.Table (table_op.Enter m)) w n = frame-enter _ _ p w
+frame-act p h (op.Table (table_op.Enter mark)) w n = frame-enter _ _ _ p w
 frame-act p h (op.Table (table_op.LeaveTable f)) w n = frame-leave _ w f
 frame-act p h (op.Waker (waker_op.CopyWaker f held)) w n = frame-copy _ w f held
 frame-act p h (op.Waker (waker_op.CallAwaiter f a k)) w n = frame-call p w (of.Handle f) a k

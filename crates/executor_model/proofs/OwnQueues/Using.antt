@@ -135,7 +135,7 @@ section-few r (section.Unregister q a) = same-few r q
 
 running-few : (r : ℕ) (o : Op) → running_of r o ≤ calling_of o
 running-few r (op.Move move.Wake f) = omega arith
-running-few r (op.Table (table_op.Enter m)) = omega arith
+running-few r (op.Table (table_op.Enter mark)) = omega arith
 running-few r (op.Queue queue_op.Take) = omega arith
 running-few r (op.User (user_op.PollOwn x)) = same-few r x.run
 running-few r (op.Waker (waker_op.CopyWaker f held)) = omega arith
@@ -288,7 +288,7 @@ module _ (v : Op → ℕ) (m : Mild v) where
   mild-make false w = omega (arith, m.executor)
 
   pub mild-next : (p : ℕ) (h : Hint) (o : Op) (w : World) → is_for_runs o ≡ false → weigh v (act p h o w).next ≡ 0
-  mild-next p h (op.Table (table_op.Enter m)) w n = mild-enter _ _ p w
+  mild-next p h (op.Table (table_op.Enter mark)) w n = mild-enter _ _ _ p w
   mild-next p h (op.Queue queue_op.Take) w n = mild-take _ w
   mild-next p h (op.Table table_op.LookAtTable) w n = omega (arith, m.executor (acts.emptiness w.table))
   mild-next p h (op.Handle (handle_op.Look f a)) w n =

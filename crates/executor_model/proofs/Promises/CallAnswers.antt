@@ -83,10 +83,10 @@ enters false false mark p w more g = inr (
       (or-left (eqb (length w.tasks) (length w.tasks)) false (itself (length w.tasks))),
 )
 
-spawns-by : (p : ℕ) (h : Hint) (o : Op) (w : World) (more : Trace) → calling_of o ≡ 1 → serves o (call.Spawn m) ≡ true →
+spawns-by : (p : ℕ) (h : Hint) (o : Op) (w : World) (more : Trace) → calling_of o ≡ 1 → serves o (call.Spawn mark) ≡ true →
     is_end o ≡ false → (act p h o w).world.trace ≡ w.trace ++ more →
     (weigh made_of (act p h o w).next ≡ 0) ⊎ HasAccepted more
-spawns-by p h (op.Table (table_op.Enter m)) w more a e n g = enters _ _ p w more g
+spawns-by p h (op.Table (table_op.Enter mark)) w more a e n g = enters _ _ _ p w more g
 spawns-by p h (op.List (list_op.LockWrite section.MakeRun)) w more a e n g = absurd (cc)
 spawns-by p h (op.List (list_op.LockWrite (section.Register x))) w more a e n g = absurd (cc)
 spawns-by p h (op.List (list_op.LockWrite (section.Unregister r x))) w more a e n g = absurd (cc)
@@ -102,9 +102,9 @@ spawns-by p h (op.Table table_op.LookAtTable) w more a e n g = absurd (cc)
 spawns-by p h (op.Queue queue_op.Take) w more a e n g = absurd (cc)
 spawns-by p h (op.Waker (waker_op.CopyWaker x held)) w more a e n g = absurd (cc)
 spawns-by p h (op.Tick tick_op.MakeTick) w more a e n g = absurd (cc)
-spawns-by p h (op.Tick (tick_op.Search s)) w more a e n g = absurd (no-poll s.who (call.Spawn m) refl refl e)
-spawns-by p h (op.Tick (tick_op.CopyWaker s)) w more a e n g = absurd (no-poll s.who (call.Spawn m) refl refl e)
-spawns-by p h (op.Tick (tick_op.FallAsleep s)) w more a e n g = absurd (no-poll s.who (call.Spawn m) refl refl e)
+spawns-by p h (op.Tick (tick_op.Search s)) w more a e n g = absurd (no-poll s.who (call.Spawn mark) refl refl e)
+spawns-by p h (op.Tick (tick_op.CopyWaker s)) w more a e n g = absurd (no-poll s.who (call.Spawn mark) refl refl e)
+spawns-by p h (op.Tick (tick_op.FallAsleep s)) w more a e n g = absurd (no-poll s.who (call.Spawn mark) refl refl e)
 spawns-by p h (op.User (user_op.PollOwn x)) w more a e n g = absurd (cc)
 spawns-by p h (op.List (list_op.LockRead x)) w more a e n g = absurd (cc)
 spawns-by p h (op.Steal o) w more a e n g = absurd (cc)
@@ -120,12 +120,12 @@ pub served : (b : Bool) → (let n : ℕ = cond b 0 1 in n) ≡ 0 → b ≡ true
 served true e = refl
 served false e = absurd (omega (arith, e))
 
-pub spawn-turns : (p : ℕ) (h : Hint) (o : Op) (w : World) (more : Trace) → is_end o ≡ false → misfit (call.Spawn m) o ≡ 0 →
+pub spawn-turns : (p : ℕ) (h : Hint) (o : Op) (w : World) (more : Trace) → is_end o ≡ false → misfit (call.Spawn mark) o ≡ 0 →
     (act p h o w).world.trace ≡ w.trace ++ more → (weigh made_of (act p h o w).next ≡ 0) ⊎ HasAccepted more
 spawn-turns p h o w more n e g = ⊎_elim
     (λ (z : calling_of o ≡ 0).
     inl (omega (arith, weigh-below made_of calling_of few-made (act p h o w).next, (calls-act p h o w n).passes.none z)))
-    (λ (z : calling_of o ≡ 1). spawns-by p h o w more z (served (serves o (call.Spawn m)) e) n g) (calling-is o)
+    (λ (z : calling_of o ≡ 1). spawns-by p h o w more z (served (serves o (call.Spawn mark)) e) n g) (calling-is o)
 
 -- a poll of a handle
 
@@ -212,7 +212,7 @@ polls-by p h (op.List (list_op.LockWrite (section.Unregister r x))) w f b more c
 polls-by p h (op.List (list_op.Write section.MakeRun)) w f b more c e n t = absurd (cc)
 polls-by p h (op.List (list_op.Write (section.Register x))) w f b more c e n t = absurd (cc)
 polls-by p h (op.List (list_op.Write (section.Unregister r x))) w f b more c e n t = absurd (cc)
-polls-by p h (op.Table (table_op.Enter m)) w f b more c e n t = absurd (cc)
+polls-by p h (op.Table (table_op.Enter mark)) w f b more c e n t = absurd (cc)
 polls-by p h (op.Table table_op.LookAtTable) w f b more c e n t = absurd (cc)
 polls-by p h (op.Queue queue_op.Take) w f b more c e n t = absurd (cc)
 polls-by p h (op.Waker (waker_op.CopyWaker x held)) w f b more c e n t = absurd (cc)
@@ -253,7 +253,7 @@ few-yes _ = omega arith
 tries-by : (p : ℕ) (h : Hint) (o : Op) (w : World) → calling_of o ≡ 1 → serves o call.TryTick ≡ true →
     is_end o ≡ false → (weigh yes_of (act p h o w).next ≡ 0) ⊎ (1 ≤ weigh taking_of (act p h o w).next)
 tries-by p h (op.Queue queue_op.Take) w a e n = takes _ w
-tries-by p h (op.Table (table_op.Enter m)) w a e n = absurd (cc)
+tries-by p h (op.Table (table_op.Enter mark)) w a e n = absurd (cc)
 tries-by p h (op.Table table_op.LookAtTable) w a e n = absurd (cc)
 tries-by p h (op.Waker (waker_op.CopyWaker x held)) w a e n = absurd (cc)
 tries-by p h (op.Handle (handle_op.Look x k)) w a e n = absurd (cc)
@@ -335,7 +335,7 @@ ticks-by : (p : ℕ) (h : Hint) (o : Op) (t : ℕ) (b : By) (w : World) → call
 ticks-by p h (op.Tick (tick_op.Search s)) t b w a e n = ticks-who s.who t b w s e
 ticks-by p h (op.Tick (tick_op.CopyWaker s)) t b w a e n = inl (copy-unready _ w s)
 ticks-by p h (op.Tick (tick_op.FallAsleep s)) t b w a e n = inl (sleep-unready _ w s)
-ticks-by p h (op.Table (table_op.Enter m)) t b w a e n = absurd (cc)
+ticks-by p h (op.Table (table_op.Enter mark)) t b w a e n = absurd (cc)
 ticks-by p h (op.Table table_op.LookAtTable) t b w a e n = absurd (cc)
 ticks-by p h (op.Queue queue_op.Take) t b w a e n = absurd (cc)
 ticks-by p h (op.Waker (waker_op.CopyWaker x held)) t b w a e n = absurd (cc)

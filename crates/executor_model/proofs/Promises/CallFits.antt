@@ -85,7 +85,7 @@ few c o = ⊎_elim (λ (z : calling_of o ≡ 0). omega (arith, z, plain o z))
     (λ (z : calling_of o ≡ 1). omega (arith, z, one-at-most (serves o c))) (calling-is o)
   where
     plain : (o : Op) → calling_of o ≡ 0 → misfit c o ≡ 0
-    plain (op.Table (table_op.Enter m)) z = absurd (omega (arith, z))
+    plain (op.Table (table_op.Enter mark)) z = absurd (omega (arith, z))
     plain (op.Queue queue_op.Take) z = absurd (omega (arith, z))
     plain (op.Table table_op.LookAtTable) z = absurd (omega (arith, z))
     plain (op.Waker (waker_op.CopyWaker f held)) z = absurd (omega (arith, z))
@@ -125,10 +125,10 @@ fit-aside c = record {
 
 -- calls but polls of ticks and runs
 
-fit-enter : (c : Call) (a b : Bool) (p : ℕ) (w : World) → spawns c ≡ true → weigh (misfit c) (enter_by a b p w).next ≡ 0
-fit-enter (call.Spawn m) true b p w e = refl
-fit-enter (call.Spawn m) false true p w e = refl
-fit-enter (call.Spawn m) false false p w e = refl
+fit-enter : (c : Call) (a b : Bool) (mark : Mark) (p : ℕ) (w : World) → spawns c ≡ true → weigh (misfit c) (enter_by a b mark p w).next ≡ 0
+fit-enter (call.Spawn mark) true b p w e = refl
+fit-enter (call.Spawn mark) false true p w e = refl
+fit-enter (call.Spawn mark) false false p w e = refl
 fit-enter _ a b p w e = absurd (cc)
 
 fit-take : (c : Call) (q : List ℕ) (w : World) → tries c ≡ true → weigh (misfit c) (take_by w q).next ≡ 0
@@ -356,7 +356,7 @@ fit-reschedule c (f ∷ rest) w r a e = omega (arith, zero (leaves c && is_reply
 -- of what answers a call
 fit-calling : (c : Call) (p : ℕ) (h : Hint) (o : Op) (w : World) → calling_of o ≡ 1 → serves o c ≡ true →
     is_end o ≡ false → weigh (misfit c) (act p h o w).next ≡ 0
-fit-calling c p h (op.Table (table_op.Enter m)) w a e n = fit-enter c _ _ p w e
+fit-calling c p h (op.Table (table_op.Enter mark)) w a e n = fit-enter c _ _ _ p w e
 fit-calling c p h (op.Queue queue_op.Take) w a e n = fit-take c _ w e
 fit-calling c p h (op.Table table_op.LookAtTable) w a e n = omega (arith, fit-emptiness c w.table e)
 fit-calling c p h (op.Waker (waker_op.CopyWaker f held)) w a e n = fit-copy c _ w f held e

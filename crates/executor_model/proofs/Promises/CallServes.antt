@@ -24,7 +24,7 @@ use Rattle.executor_model.specs.declared.op.UserOp.TheVariants as user_op
 use Rattle.executor_model.specs.declared.op.WakerOp.TheVariants as waker_op
 
 abbrev pub spawns : Call → Bool
-spawns (call.Spawn m) = true
+spawns (call.Spawn mark) = true
 spawns _ = false
 
 abbrev pub tries : Call → Bool
@@ -107,7 +107,7 @@ serves_handle (handle_op.LookAgain f) c = polls_handle f c
 serves_handle _ c = true
 
 abbrev pub serves : Op → Call → Bool
-serves (op.Table (table_op.Enter m)) c = spawns c
+serves (op.Table (table_op.Enter mark)) c = spawns c
 serves (op.Table table_op.LookAtTable) c = asks c
 serves (op.Queue queue_op.Take) c = tries c
 serves (op.Waker (waker_op.CopyWaker f held)) c = copies c

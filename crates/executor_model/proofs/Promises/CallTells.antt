@@ -142,7 +142,7 @@ tells-by p h (op.List (list_op.LockWrite (section.Unregister r x))) w f b more c
 tells-by p h (op.List (list_op.Write section.MakeRun)) w f b more c e n t = absurd (cc)
 tells-by p h (op.List (list_op.Write (section.Register x))) w f b more c e n t = absurd (cc)
 tells-by p h (op.List (list_op.Write (section.Unregister r x))) w f b more c e n t = absurd (cc)
-tells-by p h (op.Table (table_op.Enter m)) w f b more c e n t = absurd (cc)
+tells-by p h (op.Table (table_op.Enter mark)) w f b more c e n t = absurd (cc)
 tells-by p h (op.Table table_op.LookAtTable) w f b more c e n t = absurd (cc)
 tells-by p h (op.Queue queue_op.Take) w f b more c e n t = absurd (cc)
 tells-by p h (op.Waker (waker_op.CopyWaker x held)) w f b more c e n t = absurd (cc)

@@ -198,7 +198,7 @@ pub turns-act : (s : Machine) (p : ℕ) (h : Hint) (o : Op) (c : Call) (more : T
     is_end o ≡ false →
     misfit c o ≡ 0 → (act p h o s.world).world.trace ≡ s.world.trace ++ more →
     Turns c s.world.trace more o (act p h o s.world).next
-turns-act s p h o (call.Spawn m) more k x n e g = spawn-turns p h o s.world more n e g
+turns-act s p h o (call.Spawn mark) more k x n e g = spawn-turns p h o s.world more n e g
 turns-act s p h o call.TryTick more k x n e g =
     (yes-turn p h o s.world n e, taking-turn p h o s.world more x g)
 turns-act s p h o (call.PollTick t b) more k x n e g =
@@ -220,7 +220,7 @@ turns-act s p h o _ more k x n e g = tt
 quiet-turns : (c : Call) (past more : Trace) (o : Op) (next : List Op) → weigh made_of next ≡ 0 →
     weigh ready_of next ≡ 0 → weigh yes_of next ≡ 0 → weigh told_of next ≡ 0 → taking_of o ≡ 0 → wakes_of o ≡ 0 → closes_of o ≡ 0 →
     ((f : ℕ) → cancels_of f o ≡ 0) → ((f : ℕ) → detaches_of f o ≡ 0) → Turns c past more o next
-quiet-turns (call.Spawn m) past more o next a b y d t w c x z = inl a
+quiet-turns (call.Spawn mark) past more o next a b y d t w c x z = inl a
 quiet-turns call.TryTick past more o next a b y d t w c x z = (inl y, inl (omega (arith, t)))
 quiet-turns (call.PollTick i by) past more o next a b y d t w c x z = (inl b, inl (omega (arith, t)))
 quiet-turns (call.Wake k) past more o next a b y d t w c x z = inl (omega (arith, w))

@@ -148,7 +148,7 @@ fin-leave true w f = aside-entry fin aside w.is_static f
 fin-leave false w f = refl
 
 fin-table : (p : ℕ) (h : Hint) (o : TableOp) (w : World) → weigh fin (table_act p h o w).next ≡ 0
-fin-table p h (table_op.Enter m) w = fin-enter _ _ p w
+fin-table p h (table_op.Enter mark) w = fin-enter _ _ _ p w
 fin-table p h table_op.LookAtTable w = fin-emptiness w.table
 fin-table p h (table_op.TakeToPoll f) w = refl
 fin-table p h (table_op.PutBack f) w = refl

@@ -61,7 +61,7 @@ turned-drop_next (f ∷ rest) p w = still refl
 
 turned-act : (b : Bool) (p : ℕ) (h : Hint) (o : Op) (w : World) → places o ≡ b → Turned w (act p h o w).world
 turned-act false p h o w e = still (sym (ap (λ (x : Spots). x.wakers) (same-spots p h o w e)))
-turned-act true p h (op.Table (table_op.Enter m)) w e = turned-enter _ _ p w
+turned-act true p h (op.Table (table_op.Enter mark)) w e = turned-enter _ _ _ p w
 turned-act true p h (op.Table (table_op.TakeToPoll f)) w e = still refl
 turned-act true p h (op.Table (table_op.PutBack f)) w e = still refl
 turned-act true p h (op.Table (table_op.TakeToDrop f)) w e = still refl

@@ -53,7 +53,7 @@ full_of (op.End reply.Full held) = 1
 full_of _ = 0
 
 abbrev pub is_enter : Op → Bool
-is_enter (op.Table (table_op.Enter m)) = true
+is_enter (op.Table (table_op.Enter mark)) = true
 is_enter _ = false
 
 -- who gives it
@@ -63,7 +63,7 @@ few-full (op.End reply.Full held) = omega arith
 few-full _ = omega arith
 
 not-full : (c : Call) → spawns c ≡ false → is_reply c reply.Full ≡ false
-not-full (call.Spawn m) e = absurd (cc)
+not-full (call.Spawn mark) e = absurd (cc)
 not-full _ e = refl
 
 pub full-misfit : (c : Call) → spawns c ≡ false → (o : Op) → full_of o ≤ misfit c o
@@ -72,8 +72,8 @@ full-misfit c e (op.End reply.Full held) =
     omega (arith, z)
 full-misfit c e _ = omega arith
 
-pub only-enter : (o : Op) → calling_of o ≡ 1 → serves o (call.Spawn m) ≡ true → is_end o ≡ false → is_enter o ≡ true
-only-enter (op.Table (table_op.Enter m)) a e n = refl
+pub only-enter : (o : Op) → calling_of o ≡ 1 → serves o (call.Spawn mark) ≡ true → is_end o ≡ false → is_enter o ≡ true
+only-enter (op.Table (table_op.Enter mark)) a e n = refl
 only-enter (op.List (list_op.LockWrite section.MakeRun)) a e n = absurd (cc)
 only-enter (op.List (list_op.LockWrite (section.Register x))) a e n = absurd (cc)
 only-enter (op.List (list_op.LockWrite (section.Unregister r x))) a e n = absurd (cc)
@@ -89,9 +89,9 @@ only-enter (op.Table table_op.LookAtTable) a e n = absurd (cc)
 only-enter (op.Queue queue_op.Take) a e n = absurd (cc)
 only-enter (op.Waker (waker_op.CopyWaker x held)) a e n = absurd (cc)
 only-enter (op.Tick tick_op.MakeTick) a e n = absurd (cc)
-only-enter (op.Tick (tick_op.Search s)) a e n = absurd (no-poll s.who (call.Spawn m) refl refl e)
-only-enter (op.Tick (tick_op.CopyWaker s)) a e n = absurd (no-poll s.who (call.Spawn m) refl refl e)
-only-enter (op.Tick (tick_op.FallAsleep s)) a e n = absurd (no-poll s.who (call.Spawn m) refl refl e)
+only-enter (op.Tick (tick_op.Search s)) a e n = absurd (no-poll s.who (call.Spawn mark) refl refl e)
+only-enter (op.Tick (tick_op.CopyWaker s)) a e n = absurd (no-poll s.who (call.Spawn mark) refl refl e)
+only-enter (op.Tick (tick_op.FallAsleep s)) a e n = absurd (no-poll s.who (call.Spawn mark) refl refl e)
 only-enter (op.User (user_op.PollOwn x)) a e n = absurd (cc)
 only-enter (op.List (list_op.LockRead x)) a e n = absurd (cc)
 only-enter (op.Steal o) a e n = absurd (cc)
@@ -111,11 +111,11 @@ spawn-next false c s p h o w n e k =
       weigh-below full_of (misfit c) (full-misfit c s) (act p h o w).next,
       fit-act c p h o w n e,
     )
-spawn-next true (call.Spawn m) s p h o w n e k = ⊎_elim
+spawn-next true (call.Spawn mark) s p h o w n e k = ⊎_elim
     (λ (z : calling_of o ≡ 0).
     omega (arith, weigh-below full_of calling_of few-full (act p h o w).next, (calls-act p h o w n).passes.none z))
     (λ (z : calling_of o ≡ 1).
-    let no : true ≡ false = sym (only-enter o z (served (serves o (call.Spawn m)) e) n) ∙ k in absurd (cc)) (calling-is o)
+    let no : true ≡ false = sym (only-enter o z (served (serves o (call.Spawn mark)) e) n) ∙ k in absurd (cc)) (calling-is o)
 spawn-next true _ s p h o w n e k = absurd (cc)
 
 pub full-react : (p : ℕ) (o : Op) (u : UserEnd) (w : World) → accepts o u ≡ true → weigh full_of (react p o u w).next ≡ 0

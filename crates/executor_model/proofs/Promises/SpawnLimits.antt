@@ -91,12 +91,12 @@ took-place s f m k = ⊎_elim
     (λ (x : 1 ≤ weigh_all (leaves_of f) s.parties). k x) m.remains
 
 full-now : (n : ℕ) (s : Machine) (p : ℕ) (rest : List Op) → Good s → p < length s.parties →
-    stack s p ≡ rest ++ reverse (op.Table (table_op.Enter m) ∷ []) → Between n s →
+    stack s p ≡ rest ++ reverse (op.Table (table_op.Enter mark) ∷ []) → Between n s →
     not (nat_lt (length s.world.table) s.world.limit) ≡ true → AreMany n (TookPlace s.world.trace)
 full-now n s p rest fine l e k b =
     let placed : Placed s = k.held.placed in
     let uses : 1 ≤ weigh_all borrowing_of s.parties =
-    omega (arith, split borrowing_of s.parties p (op.Table (table_op.Enter m) ∷ []) rest l e) in
+    omega (arith, split borrowing_of s.parties p (op.Table (table_op.Enter mark) ∷ []) rest l e) in
     let full : s.world.limit ≤ length s.world.table = grind (arith, nat_tests, b) in
     record {
       futures = s.world.table;
@@ -111,7 +111,7 @@ called-next : (p : ℕ) (w : World) (here : Option Waker) (c : Call) → weigh f
 called-next p w here c = by (spawns c) refl
   where
     spawned : (c : Call) → spawns c ≡ true → weigh full_of (begun p w here c).next ≡ 0
-    spawned (call.Spawn m) e = refl
+    spawned (call.Spawn mark) e = refl
     spawned _ e = absurd (cc)
 
     by : (b : Bool) → spawns c ≡ b → weigh full_of (begun p w here c).next ≡ 0
@@ -147,9 +147,9 @@ module _ (n : ℕ) (s : Machine) (p : ℕ) (old rest : List Op) (fine : Good s) 
     answer = b;
   }
 
-  entered : (b c : Bool) → not (nat_lt (length s.world.table) s.world.limit) ≡ b → old ≡ op.Table (table_op.Enter m) ∷ [] →
-      (weigh_all full_of (unsettled s p rest (enter_by b c p s.world)).parties ≡ 0)
-      ⊎ Told n (unsettled s p rest (enter_by b c p s.world)) p
+  entered : (b c : Bool) → not (nat_lt (length s.world.table) s.world.limit) ≡ b → old ≡ op.Table (table_op.Enter mark) ∷ [] →
+      (weigh_all full_of (unsettled s p rest (enter_by b c mark p s.world)).parties ≡ 0)
+      ⊎ Told n (unsettled s p rest (enter_by b c mark p s.world)) p
   entered true c z q = inr (record {
     below = rest;
     held = hold.Executor;
@@ -171,7 +171,7 @@ module _ (n : ℕ) (s : Machine) (p : ℕ) (old rest : List Op) (fine : Good s) 
       ⊎ Told n (unsettled s p rest (act p h o s.world)) p
   answer-acted h o false i u q x = inl (none-more (act p h o s.world)
       (spawn-next (spawns x.call) x.call refl p h o s.world u x.fits i))
-  answer-acted h (op.Table (table_op.Enter m)) true i u q x = entered _ _ refl q
+  answer-acted h (op.Table (table_op.Enter mark)) true i u q x = entered _ _ refl q
   answer-acted h _ true i u q x = absurd (cc)
 
   by-act : (h : Hint) (o : Op) (b : Bool) → is_end o ≡ b → old ≡ o ∷ [] →

@@ -46,7 +46,7 @@ use Rattle.executor_model.proofs.Steps.Asides.{aside-leak_next, aside-leak_out}
 
 -- what has still to answer its call
 abbrev pub calling_of : Op → ℕ
-calling_of (op.Table (table_op.Enter m)) = 1
+calling_of (op.Table (table_op.Enter mark)) = 1
 calling_of (op.Queue queue_op.Take) = 1
 calling_of (op.Table table_op.LookAtTable) = 1
 calling_of (op.Waker (waker_op.CopyWaker f held)) = 1
@@ -202,10 +202,10 @@ calls-take (f ∷ rest) w =
     answers w _ _ refl (steady-same _ _ refl)
     (then (op.Sleeper sleeper_op.ExchangeFlag ∷ op.Move move.TakeUp f ∷ []) _ refl refl)
 
-pub calls-enter : (b c : Bool) (p : ℕ) (w : World) → Calls w (op.Table (table_op.Enter m)) (enter_by b c p w)
-calls-enter true c p w = answers w _ _ refl (steady-same _ _ refl) (single _ refl)
-calls-enter false true p w = answers w _ _ refl (steady-same _ _ refl) (single _ refl)
-calls-enter false false p w =
+pub calls-enter : (b c : Bool) (mark : Mark) (p : ℕ) (w : World) → Calls w (op.Table (table_op.Enter mark)) (enter_by b c mark p w)
+calls-enter true c mark p w = answers w _ _ refl (steady-same _ _ refl) (single _ refl)
+calls-enter false true mark p w = answers w _ _ refl (steady-same _ _ refl) (single _ refl)
+calls-enter false false mark p w =
     answers w _ _ refl (steady-log _ _ (event.Accepted p (length w.tasks)) refl (λ q. refl) (λ q. refl))
     (then (op.Queue (queue_op.Append (length w.tasks)) ∷ []) _ refl refl)
 

@@ -55,7 +55,7 @@ calls-let_go false w f =
     inside w _ _ refl (steady-same _ _ refl) (aside-let_go calling_of no-call (awaiter_of w f))
 
 pub calls-act : (p : ℕ) (h : Hint) (o : Op) (w : World) → is_end o ≡ false → Calls w o (act p h o w)
-calls-act p h (op.Table (table_op.Enter m)) w n = calls-enter _ _ p w
+calls-act p h (op.Table (table_op.Enter mark)) w n = calls-enter _ _ _ p w
 calls-act p h (op.Queue queue_op.Take) w n = calls-take _ w
 calls-act p h (op.Table table_op.LookAtTable) w n = answers w _ _ refl (steady-same _ _ refl) (single _ refl)
 calls-act p h (op.Queue (queue_op.Append f)) w n = calls-append _ w f

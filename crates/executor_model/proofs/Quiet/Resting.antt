@@ -81,7 +81,7 @@ counts-answering next a =
     ap (weigh calling_of) a.is ∙ omega (arith, weigh-append calling_of a.front (a.last ∷ []), a.none, a.call)
 
 pub calling-is : (o : Op) → (calling_of o ≡ 0) ⊎ (calling_of o ≡ 1)
-calling-is (op.Table (table_op.Enter m)) = inr refl
+calling-is (op.Table (table_op.Enter mark)) = inr refl
 calling-is (op.Queue queue_op.Take) = inr refl
 calling-is (op.Table table_op.LookAtTable) = inr refl
 calling-is (op.Waker (waker_op.CopyWaker f held)) = inr refl
@@ -233,7 +233,7 @@ left-true false b e = absurd (cc)
 
 pub opens : (p : ℕ) (w : World) (ss : List (List Op)) (o : Option Op) (c : Call) → has_all w ss o c ≡ true →
     Opens w p c (begun p (log w (event.CallBegun p c)) (mine o) c)
-opens p w ss o (call.Spawn m) k = (steady-same _ _ refl, single _ refl)
+opens p w ss o (call.Spawn mark) k = (steady-same _ _ refl, single _ refl)
 opens p w ss o call.TryTick k = (steady-same _ _ refl, single _ refl)
 opens p w ss o call.IsEmpty k = (steady-same _ _ refl, single _ refl)
 opens p w ss o (call.Wake n) k =

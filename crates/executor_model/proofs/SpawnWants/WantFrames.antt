@@ -131,13 +131,13 @@ enter-wants true r p w = inl refl
 enter-wants false true mark p w = inr refl
 enter-wants false false mark p w = inl refl
 
-pub enter-is : (o : Op) → is_enter o ≡ true → o ≡ op.Table (table_op.Enter m)
-enter-is (op.Table (table_op.Enter m)) e = refl
+pub enter-is : (o : Op) → is_enter o ≡ true → o ≡ op.Table (table_op.Enter mark)
+enter-is (op.Table (table_op.Enter mark)) e = refl
 enter-is _ e = absurd (cc)
 
 pub asks-place : (c : Call) (o : Op) → spawns c ≡ true → calling_of o ≡ 1 → is_end o ≡ false → misfit c o ≡ 0 →
-    o ≡ op.Table (table_op.Enter m)
-asks-place (call.Spawn m) o s z n e = enter-is o (only-enter o z (served (serves o (call.Spawn m)) e) n)
+    o ≡ op.Table (table_op.Enter mark)
+asks-place (call.Spawn mark) o s z n e = enter-is o (only-enter o z (served (serves o (call.Spawn mark)) e) n)
 asks-place _ o s z n e = absurd (cc)
 
 act-wants : (c : Call) (p : ℕ) (h : Hint) (o : Op) (w : World) → is_end o ≡ false → spawns c ≡ true →
@@ -148,8 +148,8 @@ act-wants c p h o w n s z e = subst (λ (x : Op). Wants (act p h x w).next) (sym
 user-wants : (c : Call) (o : Op) (u : UserEnd) (next : List Op) → accepts o u ≡ true → is_end o ≡ false →
     spawns c ≡ true → calling_of o ≡ 1 → misfit c o ≡ 0 → Wants next
 user-wants c o u next a n s z e =
-    let i : o ≡ op.Table (table_op.Enter m) = asks-place c o s z n e in
-    let no : accepts (op.Table (table_op.Enter m)) u ≡ true = ap (λ (x : Op). accepts x u) (sym i) ∙ a in absurd (cc)
+    let i : o ≡ op.Table (table_op.Enter mark) = asks-place c o s z n e in
+    let no : accepts (op.Table (table_op.Enter mark)) u ≡ true = ap (λ (x : Op). accepts x u) (sym i) ∙ a in absurd (cc)
 
 pub unended : (o : Op) (u : UserEnd) → accepts o u ≡ true → is_end o ≡ false
 unended (op.User x) u a = refl
@@ -173,7 +173,7 @@ way-on s p old rest d (called c q r n z) o e m b below k =
     let no : [] ≡ o ∷ [] = sym q ∙ e in absurd (cc)
 
 begun-wants : (p : ℕ) (w : World) (here : Option Waker) (c : Call) → spawns c ≡ true → Wants (begun p w here c).next
-begun-wants p w here (call.Spawn m) s = inl refl
+begun-wants p w here (call.Spawn mark) s = inl refl
 begun-wants p w here _ s = absurd (cc)
 
 -- at every moment

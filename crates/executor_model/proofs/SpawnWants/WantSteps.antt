@@ -28,11 +28,11 @@ pub record InSpawn (os : List Op) : Type 0 where
   pub is : os ≡ front ++ last ∷ below
   pub none : weigh calling_of front ≡ 0
   pub answers : calling_of last ≡ 1
-  pub spawning : Spawning (call.Spawn m) (front ++ last ∷ [])
+  pub spawning : Spawning (call.Spawn mark) (front ++ last ∷ [])
 
 pub in-spawn : (s : Machine) (p : ℕ) → Askings s → IsSpawning p s.world.trace → InSpawn (reverse (stack s p))
 in-spawn s p f k =
-    let b : Begun = record { call = (call.Spawn m); own = k.own } in
+    let b : Begun = record { call = (call.Spawn mark); own = k.own } in
     let t : Tied Asking asking-later Any s.world.trace (b ∷ k.outer) (reverse (stack s p)) =
     subst (λ (l : List Begun). Tied Asking asking-later Any s.world.trace l (reverse (stack s p))) k.is (f.tied p) in
     record {
@@ -54,7 +54,7 @@ first-of (y ∷ xs) below last x z e = let i : y ≡ x = cc in omega (arith, z, 
 module _ (o x : Op) (rest next : List Op) (k : Passes o next) (n : is_end o ≡ false) (w : want_of x ≡ 1)
     (e : first (next ++ rest) ≡ Some x) where
   in-front : (y : Op) (fs below : List Op) (last : Op) → o ∷ rest ≡ y ∷ (fs ++ last ∷ below) →
-      weigh calling_of (y ∷ fs) ≡ 0 → Spawning (call.Spawn m) (y ∷ (fs ++ last ∷ [])) → o ≡ op.Table (table_op.Enter m)
+      weigh calling_of (y ∷ fs) ≡ 0 → Spawning (call.Spawn mark) (y ∷ (fs ++ last ∷ [])) → o ≡ op.Table (table_op.Enter mark)
   in-front y fs below last is none h =
       let i : o ≡ y = cc in
       let j : rest ≡ fs ++ last ∷ below = cc in
@@ -72,13 +72,13 @@ module _ (o x : Op) (rest next : List Op) (k : Passes o next) (n : is_end o ≡ 
       ap first (append_assoc next fs (last ∷ below)) ∙ (ap (λ (os : List Op). first (next ++ os)) (sym j) ∙ e) in
       absurd (omega (arith, w, first-of (next ++ fs) below last x all q))
 
-  pub asked : InSpawn (o ∷ rest) → o ≡ op.Table (table_op.Enter m)
+  pub asked : InSpawn (o ∷ rest) → o ≡ op.Table (table_op.Enter mark)
   asked h = by h.front h.is h.none h.spawning
     where
       by : (front : List Op) → o ∷ rest ≡ front ++ h.last ∷ h.below → weigh calling_of front ≡ 0 →
-          Spawning (call.Spawn m) (front ++ h.last ∷ []) → o ≡ op.Table (table_op.Enter m)
+          Spawning (call.Spawn mark) (front ++ h.last ∷ []) → o ≡ op.Table (table_op.Enter mark)
       by [] is none y =
           let i : o ≡ h.last = (let q : o ∷ rest ≡ h.last ∷ h.below = is in cc) in
-          asks-place (call.Spawn m) o refl (ap calling_of i ∙ h.answers) n
-          (omega (arith, ap (misfit (call.Spawn m)) i, y.fits))
+          asks-place (call.Spawn mark) o refl (ap calling_of i ∙ h.answers) n
+          (omega (arith, ap (misfit (call.Spawn mark)) i, y.fits))
       by (z ∷ fs) is none y = in-front z fs h.below h.last is none y

@@ -133,14 +133,14 @@ module _ (s : Machine) (p q : ℕ) (here : Tops s) (f : Askings s) (k : IsSpawni
 
   by-act : (h : Hint) (o : Op) (rest : List Op) → stack s q ≡ rest ++ reverse (o ∷ []) →
       (onto q (act q h o s.world) rest).world.trace ≡ s.world.trace ++ (told ++ event.CallEnded p reply.NoMemory ∷ []) →
-      (p ≡ q) × (o ≡ op.Table (table_op.Enter m)) × (h.refused ≡ true) × (is_full s.world ≡ false)
+      (p ≡ q) × (o ≡ op.Table (table_op.Enter mark)) × (h.refused ≡ true) × (is_full s.world ≡ false)
   by-act h o rest e t =
       let n : is_end o ≡ false = unended-top o rest e in
       let g = grows-act q h o s.world n in
       let z : Ends p q (end_of (top (rest ++ reverse (act q h o s.world).next))) =
       was-end rest (act q h o s.world) (record { more = g.more; is = g.is; none = g.none_ends }) t in
       let x = comes-first rest (act q h o s.world) z.1 in
-      let i : o ≡ op.Table (table_op.Enter m) = asked-place o x.0 (reverse rest) (act q h o s.world).next
+      let i : o ≡ op.Table (table_op.Enter mark) = asked-place o x.0 (reverse rest) (act q h o s.world).next
       (calls-act q h o s.world n).passes n x.2 x.1 (frame o rest e z.0) in
       let r = refuses (is_full s.world) h.refused x.0 (reverse rest)
       (ap (λ (y : Op). first ((act q h y s.world).next ++ reverse rest)) (sym i) ∙ x.1) x.2 in (z.0, i, r.0, r.1)
@@ -162,9 +162,9 @@ module _ (s : Machine) (p q : ℕ) (here : Tops s) (f : Askings s) (k : IsSpawni
       let z : Ends p q (end_of (top (rest ++ reverse (react q o u s.world).next))) =
       was-end rest (react q o u s.world) (record { more = g.more; is = g.is; none = g.none_ends }) t in
       let x = comes-first rest (react q o u s.world) z.1 in
-      let i : o ≡ op.Table (table_op.Enter m) = asked-place o x.0 (reverse rest) (react q o u s.world).next
+      let i : o ≡ op.Table (table_op.Enter mark) = asked-place o x.0 (reverse rest) (react q o u s.world).next
       (passes-react q o u s.world a) n x.2 x.1 (frame o rest e z.0) in
-      let no : accepts (op.Table (table_op.Enter m)) u ≡ true = ap (λ (y : Op). accepts y u) (sym i) ∙ a in absurd (cc)
+      let no : accepts (op.Table (table_op.Enter mark)) u ≡ true = ap (λ (y : Op). accepts y u) (sym i) ∙ a in absurd (cc)
 
   by-begin : (c : Call) (rest : List Op) (d : Done) → Answering d.next → list_any ends_for_want d.next ≡ false →
       Tells s.world d →
@@ -267,12 +267,12 @@ module _ (s : Machine) (here : Tops s) (f : Askings s) (exact : IsLimitExact s) 
   few p t k a r =
       let x : Found s t p = found s p here f k t a in
       let full : is_full s.world ≡ true = says-full (is_full s.world) false p s.world s.world.trace
-      (sym (step-trace s p any_hint (in-range s p (op.Table (table_op.Enter m)) x.asks) x.asks) ∙ exact.always p any_hint x.asks r) in
+      (sym (step-trace s p any_hint (in-range s p (op.Table (table_op.Enter mark)) x.asks) x.asks) ∙ exact.always p any_hint x.asks r) in
       not-both (is_full s.world) full x.free
 
   module _ (p : ℕ) (h : Hint) (asks : Asks s p) (none : ¬ ReachLimit s (λ g. Remains g s)) where
     told-trace : (stepped s (step s (Go p h))).world.trace ≡ s.world.trace ++ asked (is_full s.world) h.refused p s.world ∷ []
-    told-trace = step-trace s p h (in-range s p (op.Table (table_op.Enter m)) asks) asks
+    told-trace = step-trace s p h (in-range s p (op.Table (table_op.Enter mark)) asks) asks
 
     free : is_full s.world ≡ false
     free = by (is_full s.world) refl

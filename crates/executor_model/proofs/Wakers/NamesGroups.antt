@@ -339,7 +339,7 @@ module _ (k : ℕ) (a : Waker) where
   -- each thing that is done
   pub names-act : (p : ℕ) (c : Hint) (o : Op) (w : World) → Newly k a c w o → Keeps w o (act p c o w)
   names-act p c (op.Move m f) w n h r = moves-task k a (stands_alone m) m p w f h
-  names-act p c (op.Table (table_op.Enter m)) w n h r = enters k a _ _ p w h
+  names-act p c (op.Table (table_op.Enter mark)) w n h r = enters k a _ _ _ p w h
   names-act p c (op.Table table_op.LookAtTable) w n h r = (h, (tt, tt))
   names-act p c (op.Table (table_op.TakeToPoll f)) w n h r = (same-store w _ refl refl refl h, (tt, tt))
   names-act p c (op.Table (table_op.PutBack f)) w n h r = (same-store w _ refl refl refl h, (tt, tt))

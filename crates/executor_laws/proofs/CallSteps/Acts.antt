@@ -32,14 +32,15 @@ of-search : (who : TickOrRun) (w : World) (k : ℕ) (a : Waker) →
 of-search (Tick t) w k a = of-ticks-search w t k a
 of-search (Run r) w k a = of-own (own_of w r) w r k a
 
-of-ticks : (h : Hint) (o : TickOp) (w : World) →
-    steps_of (tick_act h o w).next ≡ next (step.Tick (tick_step_of o)) (seen_tick h o w)
-of-ticks h tick_op.MakeTick w = of-make h.refused w
-of-ticks h (tick_op.Search s) w = of-search s.who w s.poll s.waker
-of-ticks h (tick_op.CopyWaker s) w = of-copy (is_copy_refused h w s.waker) w s
-of-ticks h (tick_op.FallAsleep s) w = of-falling (place_of w s.who) w s
-of-ticks h (tick_op.WakeUp who) w = of-waking (place_of w who) w who
-of-ticks h (tick_op.Leave who) w = of-leaving (place_of w who) w who
+of-ticks : (p : ℕ) (h : Hint) (o : TickOp) (w : World) →
+    steps_of (tick_act p h o w).next ≡ next (step.Tick (tick_step_of o)) (seen_tick h o w)
+of-ticks p h tick_op.MakeTick w = of-make h.refused w
+of-ticks p h (tick_op.Search s) w = of-search s.who w s.poll s.waker
+of-ticks p h (tick_op.Look s look) w = refl
+of-ticks p h (tick_op.CopyWaker s) w = of-copy (is_copy_refused h w s.waker) w s
+of-ticks p h (tick_op.FallAsleep s) w = of-falling (place_of w s.who) w s
+of-ticks p h (tick_op.WakeUp who) w = of-waking (place_of w who) w who
+of-ticks p h (tick_op.Leave who) w = of-leaving (place_of w who) w who
 
 no : {A : Type 0} → true ≡ false → A
 no e = absurd (cc)
@@ -62,7 +63,7 @@ acts-follow p h (op.User (user_op.DropOwn r)) w is = no is
 acts-follow p h (op.Waker o) w is = of-wakers p h o w
 acts-follow p h (op.Handle o) w is = of-handles p h o w
 acts-follow p h (op.Sleeper o) w is = of-sleepers p o w
-acts-follow p h (op.Tick o) w is = of-ticks h o w
+acts-follow p h (op.Tick o) w is = of-ticks p h o w
 acts-follow p h (op.List o) w is = of-lists h o w
 acts-follow p h (op.Steal o) w is = of-steals p o w
 acts-follow p h (op.Run o) w is = of-runs p h o w

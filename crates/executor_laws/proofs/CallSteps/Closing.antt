@@ -1,5 +1,6 @@
 -- The executor's drop and its leak go as `call_steps` says.
 use Rattle.std.proofs.Common.{◌≡◌, ℕ, Bool, true, false, ◌||◌, List, [], ◌∷◌, ◌++◌, length, refl}
+use Rattle.executor_model.specs.World.{queue_of}
 use Rattle.task_moves.specs.declared.moves.owed.Move.TheVariants as move
 use Rattle.executor_model.specs.declared.op.ClosingOp.{ClosingOp}
 use Rattle.executor_model.specs.declared.op.ClosingOp.TheVariants as closing_op
@@ -62,7 +63,7 @@ pub of-closings : (p : ℕ) (o : ClosingOp) (w : World) →
 of-closings p closing_op.TakeOut w = of-closing w.table w.waking
 of-closings p closing_op.DropNext w = of-drop p w w.leaving
 of-closings p closing_op.WakeNext w = of-wake p w w.waking
-of-closings p closing_op.Close w = refl
-of-closings p closing_op.Drain w = of-drain p w w.queue.items
+of-closings p (closing_op.Close mark) w = refl
+of-closings p (closing_op.Drain mark) w = of-drain p w (queue_of w mark).items
 of-closings p closing_op.LeakOut w = of-leak-out (w.is_static || w.gone) w
 of-closings p closing_op.LeakNext w = of-leak w.gone p w w.waking

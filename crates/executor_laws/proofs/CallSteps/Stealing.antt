@@ -1,6 +1,8 @@
 -- How runs search, steal and walk, and the list of their queues, go as `call_steps` says.
 use Rattle.std.proofs.Common.{◌≡◌, ℕ, zero, suc, ◌+◌, ◌%◌, ◌==◌, Bool, true, false, List, [], ◌∷◌, length, get_or, set, refl, subst}
 use Rattle.std.specs.Prelude.{nat_lt}
+use Rattle.executor_model.specs.World.{queue_of}
+use Rattle.executor_model.specs.Acts.{mark_in}
 use Rattle.executor_model.specs.declared.call.Reply.{Reply}
 use Rattle.executor_model.specs.declared.call.Reply.TheVariants as reply
 use Rattle.executor_model.specs.declared.event.Event.TheVariants as event
@@ -99,6 +101,7 @@ of-own (f ∷ fs) w r k a = of-found (put_own w r fs) (record { run = r; waker =
 of-stolen : (t : Then) (w : World) (x : RunPoll) →
     steps_of (stolen t w x).next ≡ stealing.stolen_as (then_of t) (searcher w (RunOf x.run)) (poll_of x)
 of-stolen (then.Found f) w x = of-found w x f
+of-stolen (then.StealPlain f) w x = refl
 of-stolen (then.Run f) w x = of-run ((run_of w x.run).taken + 1 == 200) w x f
 of-stolen (then.Walk at left) w x = refl
 
@@ -230,7 +233,8 @@ pub of-runs : (p : ℕ) (h : Hint) (o : RunOp) (w : World) →
     steps_of (run_act p h o w).next ≡ next (step.Run (run_step_of o)) (seen_run h o w)
 of-runs p h run_op.MakeRoom w = of-room h.refused w
 of-runs p h run_op.ReturnRoom w = refl
-of-runs p h (run_op.SearchCommon x) w = of-common w.queue.items w x
+of-runs p h (run_op.TakeTurn x) w = refl
+of-runs p h (run_op.SearchCommon x look) w = of-common (queue_of w (mark_in look)).items w x
 of-runs p h (run_op.LookOwn x at left) w = of-look-own (own_of w x.run) w x at left
 of-runs p h (run_op.WakeOwn x) w = of-wake-own p w x
 of-runs p h (run_op.Reschedule r a) w = of-reschedule (own_of w r) w r a

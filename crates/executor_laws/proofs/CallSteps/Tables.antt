@@ -1,6 +1,8 @@
 -- What is done with the table and the queue goes as `call_steps` says.
 use Rattle.std.proofs.Common.{◌≡◌, ℕ, Bool, true, false, ◌&&◌, not, List, [], ◌∷◌, length, refl, sym}
 use Rattle.std.specs.Prelude.{nat_lt}
+use Rattle.executor_model.specs.World.{queue_of}
+use Rattle.executor_model.specs.Acts.{mark_in}
 use Rattle.executor_parts.specs.declared.mark.Mark.{Mark}
 use Rattle.executor_model.specs.declared.op.QueueOp.{QueueOp}
 use Rattle.executor_model.specs.declared.op.QueueOp.TheVariants as queue_op
@@ -54,5 +56,6 @@ of-table p h (table_op.TakeToDrop f) w = refl
 of-table p h (table_op.LeaveTable f) w = of-leave (among f w.table) w f
 
 pub of-queue : (o : QueueOp) (w : World) → steps_of (queue_act o w).next ≡ next (step.Queue (queue_step_of o)) (seen_queue o w)
-of-queue queue_op.Take w = of-take w w.queue.items
+of-queue queue_op.TakeTurn w = refl
+of-queue (queue_op.Take look) w = of-take w (queue_of w (mark_in look)).items
 of-queue (queue_op.Append f) w = of-append (not w.queue.closed && nat_lt (length w.queue.items) w.limit) w f

@@ -5,6 +5,9 @@ use Rattle.std.proofs.Common.{refl, sym, ap, subst, arith, get_or-set_same}
 use Rattle.std.proofs.Math.ListN.{length-set}
 use Rattle.std.proofs.lemmas.List.{reverse-append}
 use Rattle.std.specs.Prelude.{Option, Some, None, reverse}
+use Rattle.executor_model.specs.declared.op.Look.TheVariants.{First, Second}
+use Rattle.executor_model.specs.World.{queue_of}
+use Rattle.executor_model.specs.Acts.{mark_in}
 use Rattle.task_moves.specs.declared.moves.owed.Move.TheVariants as move
 use Rattle.executor_model.specs.declared.call.Reply.TheVariants as reply
 use Rattle.executor_model.specs.declared.event.Event.TheVariants as event
@@ -67,9 +70,11 @@ steal_in (steal_op.Put s more f) = s
 -- what run q itself does
 abbrev pub Doing : ℕ → Op → Type 0
 Doing q (op.Tick (tick_op.Search s)) = s.who ≡ tick_or_run.Run q
+Doing q (op.Tick (tick_op.Look s look)) = refl
 Doing q (op.Tick (tick_op.CopyWaker s)) = s.who ≡ tick_or_run.Run q
 Doing q (op.Tick (tick_op.FallAsleep s)) = s.who ≡ tick_or_run.Run q
-Doing q (op.Run (run_op.SearchCommon x)) = x.run ≡ q
+Doing q (op.Run (run_op.TakeTurn x)) = refl
+Doing q (op.Run (run_op.SearchCommon x look)) = x.run ≡ q
 Doing q (op.Run (run_op.LookOwn x at left)) = x.run ≡ q
 Doing q (op.Run (run_op.WakeOwn x)) = x.run ≡ q
 Doing q (op.List (list_op.LockRead x)) = x.run ≡ q
@@ -183,6 +188,7 @@ few-found w x f r =
 
 few-stolen : (t : Then) (w : World) (x : RunPoll) → Ready x.run w → Few x.run (left_of x.run w) w (stolen t w x)
 few-stolen (then.Found f) w x r = few-found w x f r
+few-stolen (then.StealPlain f) w x r = few-run_by _ w x f r
 few-stolen (then.Run f) w x r = few-run_by _ w x f r
 few-stolen (then.Walk at left) w x r =
     few-one x.run w w (op.Run (run_op.LookOwn x at left)) refl (same-runs w w refl) (omega arith)
@@ -267,9 +273,10 @@ few-own (f ∷ rest) w x r =
     let v : World = put_own w x.run rest in
     few-from x.run w v (found v x f) (same-runs w v refl) (few-found v x f r)
 
-few-common : (xs : List ℕ) (w : World) (x : RunPoll) → Few x.run (left_of x.run w) w (search_common_by xs w x)
-few-common [] w x = few-one x.run w w (op.List (list_op.LockRead x)) refl (same-runs w w refl) (omega arith)
-few-common (f ∷ rest) w x = few-one x.run w (search_common_by (f ∷ rest) w x).world
+few-common : (look : Look) (xs : List ℕ) (w : World) (x : RunPoll) → Few x.run (left_of x.run w) w (search_common_by xs w x look)
+few-common (First mark) [] w x = few-one x.run w w (op.List (list_op.LockRead x)) refl (same-runs w w refl) (omega arith)
+few-common (Second mark) [] w x = few-one x.run w w (op.List (list_op.LockRead x)) refl (same-runs w w refl) (omega arith)
+few-common look (f ∷ rest) w x = few-one x.run w (search_common_by (f ∷ rest) w x look).world
     (op.Steal (steal_op.Length (record { poll = x; from = Common; then = then.Found f }))) refl
     (same-runs w _ refl) (omega arith)
 
@@ -376,13 +383,15 @@ pub data Goes (q n : ℕ) (w : World) (d : Done) : Type 0 where
 
 pub few-doing : (q p : ℕ) (h : Hint) (c : Op) (w : World) → Doing q c → Ready q w → Goes q (budget q c w) w (act p h c w)
 few-doing q p h (op.Tick (tick_op.Search s)) w e r =
-    subst (λ (who : TickOrRun). Goes q (left_of q w) w (search_by_who who w s)) (sym e)
+    subst (λ (who : TickOrRun). Goes q (left_of q w) w (search_by_who who p w s)) (sym e)
     (on (few-own (own_of w q) w (record { run = q; waker = s.waker; poll = s.poll }) r))
+few-doing q p h (op.Tick (tick_op.Look s look)) w e r = refl
 few-doing q p h (op.Tick (tick_op.CopyWaker s)) w e r = on (few-copy q _ w s e)
 few-doing q p h (op.Tick (tick_op.FallAsleep s)) w e r = on (few-sleep q (place_of w s.who) w s e)
-few-doing q p h (op.Run (run_op.SearchCommon x)) w e r =
-    subst (λ (k : ℕ). Goes k (left_of k w) w (act p h (op.Run (run_op.SearchCommon x)) w)) e
-    (on (few-common w.queue.items w x))
+few-doing q p h (op.Run (run_op.TakeTurn x)) w e r = refl
+few-doing q p h (op.Run (run_op.SearchCommon x look)) w e r =
+    subst (λ (k : ℕ). Goes k (left_of k w) w (act p h (op.Run (run_op.SearchCommon x look)) w)) e
+    (on (few-common look (queue_of w (mark_in look)).items w x))
 few-doing q p h (op.Run (run_op.LookOwn x at left)) w e r =
     subst (λ (k : ℕ). Goes k (left_of k w) w (act p h (op.Run (run_op.LookOwn x at left)) w)) e
     (on (few-look (own_of w x.run) w x at left (subst (λ (k : ℕ). Ready k w) (sym e) r)))

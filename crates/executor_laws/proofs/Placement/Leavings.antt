@@ -4,6 +4,9 @@
 use Rattle.std.proofs.Common.{◌≡◌, ◌∙◌, ℕ, zero, suc, ◌≤◌, ◌%◌, List, [], ◌∷◌}
 use Rattle.std.proofs.Common.{length, Bool, true, false, refl, arith}
 use Rattle.std.specs.Prelude.{Option, Some, None}
+use Rattle.executor_model.specs.declared.op.Look.TheVariants.{First, Second}
+use Rattle.executor_model.specs.World.{queue_of}
+use Rattle.executor_model.specs.Acts.{mark_in}
 use Rattle.executor_parts.specs.Sleepers.{waker_at}
 use Rattle.task_moves.specs.Moves as moves
 use Rattle.executor_model.specs.declared.call.Call.{Call}
@@ -41,7 +44,7 @@ use Rattle.executor_model.specs.declared.step.UserEnd.TheVariants as end
 use Rattle.executor_model.specs.Acts.{copy_by}
 use Rattle.executor_model.specs.ActsOfRuns.{call_by_reference, make_room_by, make_run_by, reschedule_by, steal_by, wake_own}
 use Rattle.executor_model.specs.ActsOfSleepers.{copy_sleeper_by, sleep_again_by, sleep_anew_by, fall_asleep_by}
-use Rattle.executor_model.specs.ActsOfSleepers.{sleep_listed_by, pend_as, search_by, sleeper_goes}
+use Rattle.executor_model.specs.ActsOfSleepers.{sleep_listed_by, pend_as, look_tick_by, sleeper_goes}
 use Rattle.executor_model.specs.Doing.{act, list_act, run_act, search_by_who}
 use Rattle.executor_model.specs.Rows.{running_of}
 use Rattle.executor_model.specs.Steps.{accepts, begun, drop_run, future_of, kept, poll_run, react, with_future}
@@ -170,13 +173,14 @@ leaves (op.Run (run_op.Reschedule q a)) = true
 leaves (op.End a held) = true
 leaves _ = false
 
-search-none : (r : ℕ) (x : Ticker) (w : World) (q : List ℕ) (s : Sleeping) (t : ℕ) → s.who ≡ tick_or_run.Tick t →
-    weigh (leaving_of r) (search_by x w q s).next ≡ 0
-search-none r x w [] s t e = refl
-search-none r x w (f ∷ rest) s t e = by x s.who t e
+search-none : (look : Look) (r : ℕ) (x : Ticker) (w : World) (q : List ℕ) (s : Sleeping) (t : ℕ) → s.who ≡ tick_or_run.Tick t →
+    weigh (leaving_of r) (look_tick_by x w look q s).next ≡ 0
+search-none (First mark) r x w [] s t e = refl
+search-none (Second mark) r x w [] s t e = refl
+search-none look r x w (f ∷ rest) s t e = by x s.who t e
   where
     by : (x : Ticker) (who : TickOrRun) (t : ℕ) → who ≡ tick_or_run.Tick t →
-        weigh (leaving_of r) (search_by x w (f ∷ rest) (record s { who = who })).next ≡ 0
+        weigh (leaving_of r) (look_tick_by x w look (f ∷ rest) (record s { who = who })).next ≡ 0
     by Awake (tick_or_run.Tick u) t e = refl
     by (Asleep n) (tick_or_run.Tick u) t e = refl
     by Left (tick_or_run.Tick u) t e = refl
@@ -250,23 +254,25 @@ none-run : (r p : ℕ) (h : Hint) (o : RunOp) (w : World) → leaves (op.Run o) 
     weigh (leaving_of r) (run_act p h o w).next ≡ 0
 none-run r p h run_op.MakeRoom w e = none-room r h.refused w
 none-run r p h run_op.ReturnRoom w e = refl
-none-run r p h (run_op.SearchCommon x) w e = part-common (leaving_of r) (mild r) x 0 (part r x) w.queue.items w
+none-run r p h (run_op.TakeTurn x) w e = refl
+none-run r p h (run_op.SearchCommon x look) w e = part-common (leaving_of r) (mild r) x 0 (part r x) (queue_of w (mark_in look)).items w
 none-run r p h (run_op.LookOwn x at left) w e =
     part-look (leaving_of r) (mild r) x 0 (part r x) (own_of w x.run) w at left
 none-run r p h (run_op.WakeOwn x) w e = none-own r p w x
 none-run r p h (run_op.Reschedule q a) w e = absurd (cc)
 
-none-search : (r : ℕ) (who : TickOrRun) (w : World) (s : Sleeping) → s.who ≡ who →
-    weigh (leaving_of r) (search_by_who who w s).next ≡ 0
-none-search r (tick_or_run.Tick t) w s e = search-none r _ w w.queue.items s t e
-none-search r (tick_or_run.Run q) w s e =
+none-search : (r : ℕ) (who : TickOrRun) (p : ℕ) (w : World) (s : Sleeping) → s.who ≡ who →
+    weigh (leaving_of r) (search_by_who who p w s).next ≡ 0
+none-search r (tick_or_run.Tick t) p w s e = search-none r _ w w.queue.items s t e
+none-search r (tick_or_run.Run q) p w s e =
     let x : RunPoll = record { run = q; waker = s.waker; poll = s.poll } in
     part-own (leaving_of r) (mild r) x 0 (part r x) (own_of w q) w
 
 pub none-by : (b : Bool) (r p : ℕ) (h : Hint) (o : Op) (w : World) → is_for_runs o ≡ b → leaves o ≡ false →
     weigh (leaving_of r) (act p h o w).next ≡ 0
 none-by false r p h o w n e = mild-next (leaving_of r) (mild r) p h o w n
-none-by true r p h (op.Tick (tick_op.Search s)) w n e = none-search r s.who w s refl
+none-by true r p h (op.Tick (tick_op.Search s)) w n e = none-search r s.who p w s refl
+none-by true r p h (op.Tick (tick_op.Look s look)) w n e = refl
 none-by true r p h (op.Tick (tick_op.CopyWaker s)) w n e = none-copy r _ w s
 none-by true r p h (op.Tick (tick_op.FallAsleep s)) w n e = none-sleep r s _ w
 none-by true r p h (op.User (user_op.PollOwn x)) w n e = refl
@@ -294,6 +300,7 @@ leaving-more r zero w x = weighs-stolen (leaving_of r) x.poll 0 0 found x.then w
 
     none : (t : Then) → by_then 0 0 t ≡ 0
     none (then.Found f) = refl
+    none (then.StealPlain f) = refl
     none (then.Run f) = refl
     none (then.Walk at left) = refl
 leaving-more r (suc n) w x = refl

@@ -69,7 +69,7 @@ safe-other p h o w n u z m e = safe-effect w (o ∷ []) (act p h o w)
 
 safe-search : (who : TickOrRun) (p : ℕ) (h : Hint) (w : World) (s : Sleeping) → length w.awaiters ≡ length w.tasks →
     pasts (length w.tasks) w.waking ≡ 0 → weigh (past_of (length w.tasks)) (op.Tick (tick_op.Search s) ∷ []) ≡ 0 →
-    s.who ≡ who → KeepsSafe w (op.Tick (tick_op.Search s) ∷ []) (search_by_who s.who w s)
+    s.who ≡ who → KeepsSafe w (op.Tick (tick_op.Search s) ∷ []) (search_by_who s.who p w s)
 safe-search (tick_or_run.Tick t) p h w s n u z e =
     safe-other p h (op.Tick (tick_op.Search s)) w n u z tt (ap runs_of_who e)
 safe-search (tick_or_run.Run r) p h w s n u z e = rw e (safe-search_own w s r e)
@@ -83,8 +83,10 @@ safe-act p h (op.Steal o) w n u z m = safe-steal p o w m
 safe-act p h (op.Run (run_op.WakeOwn x)) w n u z m = safe-other p h (op.Run (run_op.WakeOwn x)) w n u z m refl
 safe-act p h (op.Run run_op.MakeRoom) w n u z m = safe-run p h run_op.MakeRoom w tt
 safe-act p h (op.Run run_op.ReturnRoom) w n u z m = safe-run p h run_op.ReturnRoom w tt
-safe-act p h (op.Run (run_op.SearchCommon x)) w n u z m = safe-run p h (run_op.SearchCommon x) w tt
+safe-act p h (op.Run (run_op.TakeTurn x)) w n u z m = refl
+safe-act p h (op.Run (run_op.SearchCommon x look)) w n u z m = safe-run p h (run_op.SearchCommon x look) w tt
 safe-act p h (op.Run (run_op.LookOwn x at left)) w n u z m = safe-run p h (run_op.LookOwn x at left) w tt
 safe-act p h (op.Run (run_op.Reschedule r a)) w n u z m = absurd (cc)
 safe-act p h (op.Tick (tick_op.Search s)) w n u z m = safe-search s.who p h w s n u z refl
+safe-act p h (op.Tick (tick_op.Look s look)) w n u z m = refl
 safe-act p h o w n u z m = safe-other p h o w n u z m refl

@@ -132,7 +132,8 @@ module _ (s : Machine) (p : ℕ) (prompts : Prompts s) (here : Tops s) (f : AllC
 
   quick-act : (h : Hint) (o : Op) (rest : List Op) → stack s p ≡ rest ++ o ∷ [] → quick_of o ≡ 1 → is_end o ≡ false →
       end_of (top (rest ++ reverse (act p h o s.world).next)) ≡ Some reply.No → s.world.queue.items ≡ []
-  quick-act h (op.Queue queue_op.Take) rest e c n z = by-take s.world.queue.items rest refl z
+  quick-act h (op.Queue queue_op.TakeTurn) rest e c n z = refl
+  quick-act h (op.Queue (queue_op.Take look)) rest e c n z = by-take s.world.queue.items rest refl z
   quick-act h (op.Table table_op.LookAtTable) rest e c n z = absurd (no-look rest e)
   quick-act h (op.End a held) rest e c n z = absurd (cc)
   quick-act h _ rest e c n z = absurd (cc)

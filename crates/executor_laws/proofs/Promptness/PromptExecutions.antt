@@ -6,6 +6,9 @@ use Rattle.std.proofs.Common.{inr, ⊎_elim, arith, get_or-set_same, get_or-set_
 use Rattle.std.proofs.lemmas.Bool.Decides.{nat_tests}
 use Rattle.std.proofs.lemmas.List.{append_cancel_right}
 use Rattle.std.specs.Prelude.{Option, Some, None, reverse}
+use Rattle.executor_model.specs.declared.op.Look.TheVariants.{First, Second}
+use Rattle.executor_model.specs.World.{queue_of}
+use Rattle.executor_model.specs.Acts.{mark_in}
 use Rattle.executor_model.specs.declared.call.Call.{Call}
 use Rattle.executor_model.specs.declared.call.Call.TheVariants as call
 use Rattle.executor_model.specs.declared.call.Reply.{Reply}
@@ -132,12 +135,13 @@ own-end p w rest r held x t = record {
 
 -- one thing is done
 
-own-take : (p : ℕ) (w : World) (q : List ℕ) (os : List Op) → weigh hasty os ≡ 0 →
+own-take : (look : Look) (p : ℕ) (w : World) (q : List ℕ) (os : List Op) → weigh hasty os ≡ 0 →
     fresh p false (deeds p w.trace) ≡ true →
     told p false (deeds p w.trace) ≡ true →
-    Prompt p (os ++ reverse (take_by w q).next) (deeds p (take_by w q).world.trace)
-own-take p w [] os z f t = record { told = t; stands = quick os (op.End reply.No hold.Executor) refl refl z f }
-own-take p w (g ∷ gs) os z f t =
+    Prompt p (os ++ reverse (take_by w look q).next) (deeds p (take_by w look q).world.trace)
+own-take (First mark) p w [] os z f t = record { told = t; stands = quick os (op.End reply.No hold.Executor) refl refl z f }
+own-take (Second mark) p w [] os z f t = record { told = t; stands = quick os (op.End reply.No hold.Executor) refl refl z f }
+own-take look p w (g ∷ gs) os z f t =
     record {
       told = t;
       stands = slow (slow-onto os
@@ -155,7 +159,8 @@ own-look p w (g ∷ gs) os z f t = record { told = t; stands = quick os (op.End 
 own-quick : (p : ℕ) (h : Hint) (o : Op) (w : World) (os : List Op) → quick_of o ≡ 1 → weigh hasty os ≡ 0 →
     fresh p false (deeds p w.trace) ≡ true → told p false (deeds p w.trace) ≡ true →
     Prompt p (os ++ reverse (act p h o w).next) (deeds p (act p h o w).world.trace)
-own-quick p h (op.Queue queue_op.Take) w os c z f t = own-take p w w.queue.items os z f t
+own-quick p h (op.Queue queue_op.TakeTurn) w os c z f t = refl
+own-quick p h (op.Queue (queue_op.Take look)) w os c z f t = own-take look p w (queue_of w (mark_in look)).items os z f t
 own-quick p h (op.Table table_op.LookAtTable) w os c z f t = own-look p w w.table os z f t
 own-quick p h (op.End r held) w os c z f t = own-end p w os r held (z, inr (c, f)) t
 own-quick p h _ w os c z f t = absurd (cc)

@@ -6,6 +6,7 @@ use Rattle.std.proofs.lemmas.Bool.Decides.{nat_tests}
 use Rattle.std.proofs.lemmas.List.Elements.{filter-append}
 use Rattle.std.specs.List.{filter}
 use Rattle.std.specs.Prelude.{Option, Some, None, is_none}
+use Rattle.executor_model.specs.declared.op.Look.TheVariants.{First, Second}
 use Rattle.executor_parts.specs.declared.mark.Mark.{Mark}
 use Rattle.executor_parts.specs.Sleepers.{waker_at, waker_of}
 use Rattle.task_moves.specs.declared.moves.owed.Answer.{Answer}
@@ -50,7 +51,7 @@ use Rattle.executor_model.specs.World.{World, Ticker, Awake, Asleep, Left, log, 
 use Rattle.executor_model.specs.Carried.{awaiter_ops}
 use Rattle.executor_model.specs.Acts.{enter_by, copy_by, answered, polled, look_by, let_go, look_again_by}
 use Rattle.executor_model.specs.Acts.{copy_awaiter_by, register_by, end_register_by}
-use Rattle.executor_model.specs.ActsOfSleepers.{make_tick_by, search_by, copy_sleeper_by, pend_as, sleep_anew_by}
+use Rattle.executor_model.specs.ActsOfSleepers.{make_tick_by, look_tick_by, copy_sleeper_by, pend_as, sleep_anew_by}
 use Rattle.executor_model.specs.ActsOfSleepers.{sleeper_goes, sleep_listed_by, sleep_again_by, fall_asleep_by, wake_up_by}
 use Rattle.executor_model.specs.ActsOfSleepers.{tell_and_return, leave_sleepers_by}
 use Rattle.executor_model.specs.ActsOfRuns as runs
@@ -73,7 +74,8 @@ is_refusal _ = 0
 
 -- what is answered no next, if it is
 abbrev pub quick_of : Op → ℕ
-quick_of (op.Queue queue_op.Take) = 1
+quick_of (op.Queue queue_op.TakeTurn) = 1
+quick_of (op.Queue (queue_op.Take look)) = 1
 quick_of (op.Table table_op.LookAtTable) = 1
 quick_of (op.End r held) = is_refusal r
 quick_of _ = 0
@@ -212,7 +214,8 @@ few-refusals reply.No = omega arith
 few-refusals _ = omega arith
 
 hasty-calling : (o : Op) → hasty o ≤ calling_of o
-hasty-calling (op.Queue queue_op.Take) = omega arith
+hasty-calling (op.Queue queue_op.TakeTurn) = omega arith
+hasty-calling (op.Queue (queue_op.Take look)) = omega arith
 hasty-calling (op.Table table_op.LookAtTable) = omega arith
 hasty-calling (op.End r held) = omega (arith, few-refusals r)
 hasty-calling (op.List (list_op.LockWrite (section.Unregister r a))) = omega (arith, few-refusals a)
@@ -293,11 +296,12 @@ slow-make : (b : Bool) (w : World) → weigh hasty (make_tick_by b w).next ≡ 0
 slow-make true w = refl
 slow-make false w = refl
 
-slow-search : (x : Ticker) (w : World) (q : List ℕ) (s : Sleeping) → weigh hasty (search_by x w q s).next ≡ 0
-slow-search x w [] s = refl
-slow-search Awake w (f ∷ rest) s = refl
-slow-search (Asleep n) w (f ∷ rest) s = refl
-slow-search Left w (f ∷ rest) s = refl
+slow-search : (look : Look) (x : Ticker) (w : World) (q : List ℕ) (s : Sleeping) → weigh hasty (look_tick_by x w look q s).next ≡ 0
+slow-search (First mark) x w [] s = refl
+slow-search (Second mark) x w [] s = refl
+slow-search look Awake w (f ∷ rest) s = refl
+slow-search look (Asleep n) w (f ∷ rest) s = refl
+slow-search look Left w (f ∷ rest) s = refl
 
 slow-copy_sleeper : (b : Bool) (w : World) (s : Sleeping) → weigh hasty (copy_sleeper_by b w s).next ≡ 0
 slow-copy_sleeper true w s = refl
@@ -355,17 +359,18 @@ searching = record {
   wake = λ x. refl;
 }
 
-slow-searches : (who : TickOrRun) (w : World) (s : Sleeping) → weigh hasty (search_by_who who w s).next ≡ 0
-slow-searches (tick_or_run.Tick t) w s = slow-search (place_of w s.who) w w.queue.items s
-slow-searches (tick_or_run.Run r) w s = own-unseen hasty searching _ w _
+slow-searches : (who : TickOrRun) (p : ℕ) (w : World) (s : Sleeping) → weigh hasty (search_by_who who p w s).next ≡ 0
+slow-searches (tick_or_run.Tick t) p w s = slow-search (place_of w s.who) w w.queue.items s
+slow-searches (tick_or_run.Run r) p w s = own-unseen hasty searching _ w _
 
-slow-tick : (h : Hint) (o : TickOp) (w : World) → weigh hasty (tick_act h o w).next ≡ 0
-slow-tick h tick_op.MakeTick w = slow-make _ w
-slow-tick h (tick_op.Search s) w = slow-searches s.who w s
-slow-tick h (tick_op.CopyWaker s) w = slow-copy_sleeper _ w s
-slow-tick h (tick_op.FallAsleep s) w = slow-sleep _ w s
-slow-tick h (tick_op.WakeUp who) w = slow-up _ w who
-slow-tick h (tick_op.Leave who) w = slow-leave _ w who
+slow-tick : (p : ℕ) (h : Hint) (o : TickOp) (w : World) → weigh hasty (tick_act p h o w).next ≡ 0
+slow-tick p h tick_op.MakeTick w = slow-make _ w
+slow-tick p h (tick_op.Search s) w = slow-searches s.who p w s
+slow-tick p h (tick_op.Look s look) w = refl
+slow-tick p h (tick_op.CopyWaker s) w = slow-copy_sleeper _ w s
+slow-tick p h (tick_op.FallAsleep s) w = slow-sleep _ w s
+slow-tick p h (tick_op.WakeUp who) w = slow-up _ w who
+slow-tick p h (tick_op.Leave who) w = slow-leave _ w who
 
 slow-made : (b : Bool) (w : World) → weigh hasty (runs.make_run_by b w).next ≡ 0
 slow-made true w = refl
@@ -400,7 +405,8 @@ slow-room false w = refl
 slow-run : (p : ℕ) (h : Hint) (o : RunOp) (w : World) → hasty (op.Run o) ≡ 0 → weigh hasty (run_act p h o w).next ≡ 0
 slow-run p h run_op.MakeRoom w z = slow-room _ w
 slow-run p h run_op.ReturnRoom w z = refl
-slow-run p h (run_op.SearchCommon x) w z = common-unseen hasty searching _ w x
+slow-run p h (run_op.TakeTurn x) w z = refl
+slow-run p h (run_op.SearchCommon x look) w z = common-unseen hasty searching _ w x
 slow-run p h (run_op.LookOwn x at left) w z = look-unseen hasty searching _ w x at left
 slow-run p h (run_op.WakeOwn x) w z =
     let v : World = log w (event.WakerCalled p (of.Run x.run) x.poll x.waker) in
@@ -424,7 +430,7 @@ slow-calling p h (op.Handle (handle_op.Register f a k)) w c z n = slow-register 
 slow-calling p h (op.Handle (handle_op.EndRegister f a k)) w c z n = slow-end_register _ w f a k
 slow-calling p h (op.Handle (handle_op.LookAgain f)) w c z n =
     slow-again (moves.look_again (task w f)).owed.answer p w f (moves.look_again (task w f))
-slow-calling p h (op.Tick o) w c z n = slow-tick h o w
+slow-calling p h (op.Tick o) w c z n = slow-tick p h o w
 slow-calling p h (op.List o) w c z n = slow-list h o w z
 slow-calling p h (op.Steal o) w c z n = steal-unseen hasty searching (λ f. refl) p o w
 slow-calling p h (op.Run o) w c z n = slow-run p h o w z

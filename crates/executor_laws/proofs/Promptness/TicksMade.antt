@@ -5,6 +5,7 @@ use Rattle.std.proofs.Common.{refl, sym, ap, subst, arith, length-append, get_or
 use Rattle.std.proofs.lemmas.Bool.Decides.{nat_tests}
 use Rattle.std.proofs.lemmas.List.{get_or_past, length-set}
 use Rattle.std.specs.Prelude.{Option, Some, None, reverse}
+use Rattle.executor_model.specs.declared.op.Look.TheVariants.{First, Second}
 use Rattle.task_moves.specs.declared.moves.owed.Move.TheVariants as move
 use Rattle.executor_model.specs.declared.call.Call.{Call}
 use Rattle.executor_model.specs.declared.call.Call.TheVariants as call
@@ -40,7 +41,7 @@ use Rattle.executor_parts.specs.Sleepers.{next_number}
 use Rattle.executor_model.specs.Acts.{append_by}
 use Rattle.executor_model.specs.ActsOfRuns.{make_room_by, make_run_by, registered, search_own_by}
 use Rattle.executor_model.specs.ActsOfSleepers.{copy_sleeper_by, exchange_by, fall_asleep_by, hand_out_by, leave_sleepers_by}
-use Rattle.executor_model.specs.ActsOfSleepers.{make_tick_by, polled_as, search_by, sleep_again_by, sleep_anew_by, sleep_listed_by}
+use Rattle.executor_model.specs.ActsOfSleepers.{make_tick_by, polled_as, look_tick_by, sleep_again_by, sleep_anew_by, sleep_listed_by}
 use Rattle.executor_model.specs.ActsOfSleepers.{wake_up_by}
 use Rattle.executor_model.specs.Doing.{act, list_act, search_by_who, sleeper_act, tick_act}
 use Rattle.executor_model.specs.Good.{Good}
@@ -94,13 +95,14 @@ keeps-make : (b : Bool) (w : World) → Keeps w (make_tick_by b w).world
 keeps-make true w = record { few = omega arith }
 keeps-make false w = record { few = omega (arith, length-append w.ticks (Awake ∷ [])) }
 
-keeps-search : (x : Ticker) (w : World) (q : List ℕ) (s : Sleeping) → Keeps w (search_by x w q s).world
-keeps-search x w [] s = record { few = omega arith }
-keeps-search x w (f ∷ rest) s = record { few = omega arith }
+keeps-search : (look : Look) (x : Ticker) (w : World) (q : List ℕ) (s : Sleeping) → Keeps w (look_tick_by x w look q s).world
+keeps-search (First mark) x w [] s = record { few = omega arith }
+keeps-search (Second mark) x w [] s = record { few = omega arith }
+keeps-search look x w (f ∷ rest) s = record { few = omega arith }
 
-keeps-who : (who : TickOrRun) (w : World) (s : Sleeping) → Keeps w (search_by_who who w s).world
-keeps-who (tick_or_run.Tick t) w s = keeps-search _ w _ s
-keeps-who (tick_or_run.Run r) w s =
+keeps-who : (who : TickOrRun) (p : ℕ) (w : World) (s : Sleeping) → Keeps w (search_by_who who p w s).world
+keeps-who (tick_or_run.Tick t) p w s = keeps-search _ w _ s
+keeps-who (tick_or_run.Run r) p w s =
     seen-keeps w _ (away-own (own_of w r) w (record { run = r; waker = s.waker; poll = s.poll }))
 
 keeps-copied : (b : Bool) (w : World) (a : Waker) (who : TickOrRun) (poll : ℕ) →
@@ -136,13 +138,14 @@ keeps-leave (Asleep n) w who = record { few = with-length w.ticks who Left }
 keeps-leave Awake w who = record { few = with-length w.ticks who Left }
 keeps-leave Left w who = record { few = omega arith }
 
-keeps-tick : (h : Hint) (o : TickOp) (w : World) → Keeps w (tick_act h o w).world
-keeps-tick h tick_op.MakeTick w = keeps-make h.refused w
-keeps-tick h (tick_op.Search s) w = keeps-who s.who w s
-keeps-tick h (tick_op.CopyWaker s) w = keeps-copied _ w s.waker s.who s.poll
-keeps-tick h (tick_op.FallAsleep s) w = keeps-asleep _ w s
-keeps-tick h (tick_op.WakeUp who) w = keeps-up _ w who
-keeps-tick h (tick_op.Leave who) w = keeps-leave _ w who
+keeps-tick : (p : ℕ) (h : Hint) (o : TickOp) (w : World) → Keeps w (tick_act p h o w).world
+keeps-tick p h tick_op.MakeTick w = keeps-make h.refused w
+keeps-tick p h (tick_op.Search s) w = keeps-who s.who p w s
+keeps-tick p h (tick_op.Look s look) w = refl
+keeps-tick p h (tick_op.CopyWaker s) w = keeps-copied _ w s.waker s.who s.poll
+keeps-tick p h (tick_op.FallAsleep s) w = keeps-asleep _ w s
+keeps-tick p h (tick_op.WakeUp who) w = keeps-up _ w who
+keeps-tick p h (tick_op.Leave who) w = keeps-leave _ w who
 
 keeps-made : (b : Bool) (w : World) → Keeps w (make_run_by b w).world
 keeps-made true w = record { few = omega arith }
@@ -169,7 +172,7 @@ keeps-room false w = record { few = omega arith }
 keeps-seen : (p : ℕ) (h : Hint) (o : Op) (w : World) → is_seen_asleep o ≡ true → Keeps w (act p h o w).world
 keeps-seen p h (op.Queue (queue_op.Append f)) w z = keeps-append _ w f
 keeps-seen p h (op.Sleeper o) w z = keeps-sleeper p o w
-keeps-seen p h (op.Tick o) w z = keeps-tick h o w
+keeps-seen p h (op.Tick o) w z = keeps-tick p h o w
 keeps-seen p h (op.List o) w z = keeps-list h o w
 keeps-seen p h (op.Run run_op.MakeRoom) w z = keeps-room h.refused w
 keeps-seen p h (op.Run run_op.ReturnRoom) w z = record { few = omega arith }

@@ -4,6 +4,9 @@ use Rattle.std.proofs.Common.{◌≡◌, ℕ, ◌+◌, ◌-◌, ◌<◌, ◌≤�
 use Rattle.std.proofs.Common.{true, false, ◌&&◌, not, ltb, refl, sym, ap, ◌∙◌, subst, arith, length-append, Result}
 use Rattle.std.proofs.lemmas.Bool.Decides.{nat_tests}
 use Rattle.std.specs.Prelude.{Option, Some, None, reverse}
+use Rattle.executor_model.specs.declared.op.Look.TheVariants.{First, Second}
+use Rattle.executor_model.specs.World.{queue_of}
+use Rattle.executor_model.specs.Acts.{mark_in}
 use Rattle.queue_steps.specs.ClosableQueue.{ClosableQueue, most_accepted, HasRoom, appended, taken, shut}
 use Rattle.executor_model.specs.declared.call.Call.{Call}
 use Rattle.executor_model.specs.declared.call.Call.TheVariants as call
@@ -105,41 +108,45 @@ turns-steal p (steal_op.OwnLength s n) w = same (queue-more _ w s)
 turns-steal p (steal_op.Take s left) w = turns-stolen s.from _ w s left refl refl
 turns-steal p (steal_op.Put s left f) w = same (queue-put _ p w s left f)
 
-turns-common : (q : List ℕ) (w : World) (x : RunPoll) → w.queue.items ≡ q →
-    Turns (op.Run (run_op.SearchCommon x)) w.queues (runs.search_common_by q w x).world.queues
-turns-common [] w x e = same refl
-turns-common (f ∷ rest) w x e = less f rest e refl
+turns-common : (look : Look) (q : List ℕ) (w : World) (x : RunPoll) → (queue_of w (mark_in look)).items ≡ q →
+    Turns (op.Run (run_op.SearchCommon x look)) w.queues (runs.search_common_by q w x look).world.queues
+turns-common (First mark) [] w x e = same refl
+turns-common (Second mark) [] w x e = same refl
+turns-common look (f ∷ rest) w x e = less f rest e refl
 
 turns-run : (p : ℕ) (h : Hint) (o : RunOp) (w : World) → Turns (op.Run o) w.queues (run_act p h o w).world.queues
 turns-run p h run_op.MakeRoom w = same (queue-room _ w)
 turns-run p h run_op.ReturnRoom w = same refl
-turns-run p h (run_op.SearchCommon x) w = turns-common _ w x refl
+turns-run p h (run_op.TakeTurn x) w = refl
+turns-run p h (run_op.SearchCommon x look) w = turns-common look _ w x refl
 turns-run p h (run_op.LookOwn x at left) w = same (queue-look _ w x at left)
 turns-run p h (run_op.WakeOwn x) w =
     same (queue-by_reference p (log w (event.WakerCalled p (of.Run x.run) x.poll x.waker)) x.waker)
 turns-run p h (run_op.Reschedule r a) w = same (queue-reschedule _ w r a)
 
-turns-searches : (who : TickOrRun) (w : World) (s : Sleeping) →
-    Turns (op.Tick (tick_op.Search s)) w.queues (search_by_who who w s).world.queues
-turns-searches (tick_or_run.Tick t) w s = turns-search _ w w.queue.items s refl
-turns-searches (tick_or_run.Run r) w s = same (queue-own _ w _)
+turns-searches : (who : TickOrRun) (p : ℕ) (w : World) (s : Sleeping) →
+    Turns (op.Tick (tick_op.Search s)) w.queues (search_by_who who p w s).world.queues
+turns-searches (tick_or_run.Tick t) p w s = turns-search _ w w.queue.items s refl
+turns-searches (tick_or_run.Run r) p w s = same (queue-own _ w _)
 
-turns-tick : (h : Hint) (o : TickOp) (w : World) (b : Bool) → searches o ≡ b →
-    Turns (op.Tick o) w.queues (tick_act h o w).world.queues
-turns-tick h (tick_op.Search s) w b e = turns-searches s.who w s
-turns-tick h o w false e = same (sym (ap (λ (r : Rest). r.queue) (tick-rest h o w e)))
-turns-tick h _ w true e = absurd (cc)
+turns-tick : (p : ℕ) (h : Hint) (o : TickOp) (w : World) (b : Bool) → searches o ≡ b →
+    Turns (op.Tick o) w.queues (tick_act p h o w).world.queues
+turns-tick p h (tick_op.Search s) w b e = turns-searches s.who p w s
+turns-tick p h (tick_op.Look s look) w b e = refl
+turns-tick p h o w false e = same (sym (ap (λ (r : Rest). r.queue) (tick-rest p h o w e)))
+turns-tick p h _ w true e = absurd (cc)
 
 turns-act : (p : ℕ) (h : Hint) (o : Op) (w : World) → Turns o w.queues (act p h o w).world.queues
-turns-act p h (op.Queue queue_op.Take) w = turns-take w w.queue.items refl
+turns-act p h (op.Queue queue_op.TakeTurn) w = refl
+turns-act p h (op.Queue (queue_op.Take look)) w = turns-take w (queue_of w (mark_in look)).items refl
 turns-act p h (op.Queue (queue_op.Append f)) w = turns-append w.queue.closed _ w f refl
 turns-act p h (op.Sleeper o) w = same (sym (ap (λ (r : Rest). r.queue) (sleeper-rest p o w)))
-turns-act p h (op.Tick o) w = turns-tick h o w (searches o) refl
+turns-act p h (op.Tick o) w = turns-tick p h o w (searches o) refl
 turns-act p h (op.List o) w = same (queue-list h o w)
 turns-act p h (op.Steal o) w = turns-steal p o w
 turns-act p h (op.Run o) w = turns-run p h o w
-turns-act p h (op.Closing closing_op.Close) w = shuts refl
-turns-act p h (op.Closing closing_op.Drain) w = turns-drain p w w.queue.items refl
+turns-act p h (op.Closing (closing_op.Close mark)) w = shuts refl
+turns-act p h (op.Closing (closing_op.Drain mark)) w = turns-drain p w (queue_of w mark).items refl
 turns-act p h (op.User (user_op.PollOwn x)) w = same refl
 turns-act p h o w = same (ap (λ (r : Whole). r.queue) (sym (frame-act p h o w refl).rest))
 

@@ -5,6 +5,9 @@ use Rattle.std.proofs.Common.{Bool, true, false, eqb, refl, sym, ap, subst, arit
 use Rattle.std.proofs.Common.{get_or-set_other}
 use Rattle.std.proofs.lemmas.List.{reverse-append}
 use Rattle.std.specs.Prelude.{Option, Some, None, reverse}
+use Rattle.executor_model.specs.declared.op.Look.TheVariants.{First, Second}
+use Rattle.executor_model.specs.World.{queue_of}
+use Rattle.executor_model.specs.Acts.{mark_in}
 use Rattle.executor_parts.specs.Sleepers.{waker_at}
 use Rattle.task_moves.specs.declared.moves.owed.Move.TheVariants as move
 use Rattle.executor_model.specs.declared.call.Reply.TheVariants as reply
@@ -53,6 +56,7 @@ use Rattle.executor_laws.proofs.RunReach.TakenUp.{up_of}
 
 abbrev pub hand_then : Then → List ℕ
 hand_then (then.Found f) = f ∷ []
+hand_then (then.StealPlain f) = refl
 hand_then (then.Run f) = f ∷ []
 hand_then (then.Walk at left) = []
 
@@ -164,6 +168,7 @@ lines-found w x f =
 
 lines-stolen : (t : Then) (w : World) (x : RunPoll) → Lines x.run (hand_then t ++ own_of w x.run) (stolen t w x)
 lines-stolen (then.Found f) w x = lines-found w x f
+lines-stolen (then.StealPlain f) w x = refl
 lines-stolen (then.Run f) w x = lines-run_by _ w x f
 lines-stolen (then.Walk at left) w x = one x.run w (op.Run (run_op.LookOwn x at left)) refl
 
@@ -234,11 +239,12 @@ lines-own [] w x e = one x.run w (op.Run (run_op.SearchCommon x)) refl
 lines-own (f ∷ rest) w x e = lines-first w x f rest e
 
 -- its own queue is empty then
-lines-common : (xs : List ℕ) (w : World) (x : RunPoll) → own_of w x.run ≡ [] → Lines x.run (own_of w x.run) (search_common_by xs w x)
-lines-common [] w x e = one x.run w (op.List (list_op.LockRead x)) refl
-lines-common (f ∷ rest) w x e =
+lines-common : (look : Look) (xs : List ℕ) (w : World) (x : RunPoll) → own_of w x.run ≡ [] → Lines x.run (own_of w x.run) (search_common_by xs w x look)
+lines-common (First mark) [] w x e = one x.run w (op.List (list_op.LockRead x)) refl
+lines-common (Second mark) [] w x e = one x.run w (op.List (list_op.LockRead x)) refl
+lines-common look (f ∷ rest) w x e =
     let c : Op = op.Steal (steal_op.Length (record { poll = x; from = Common; then = then.Found f })) in
-    let v : World = (search_common_by (f ∷ rest) w x).world in
+    let v : World = (search_common_by (f ∷ rest) w x look).world in
     record {
       control = c;
       side = [];
@@ -356,13 +362,15 @@ pub data Goes (q : ℕ) (front : List ℕ) (d : Done) : Type 0 where
 pub lines-act : (q p : ℕ) (h : Hint) (c : Op) (w : World) → Control q c →
     ((x : RunPoll) → c ≡ op.Run (run_op.SearchCommon x) → own_of w x.run ≡ []) → Goes q (hand_of c ++ own_of w q) (act p h c w)
 lines-act q p h (op.Tick (tick_op.Search s)) w e k =
-    subst (λ (who : TickOrRun). Goes q (own_of w q) (search_by_who who w s)) (sym e)
+    subst (λ (who : TickOrRun). Goes q (own_of w q) (search_by_who who p w s)) (sym e)
     (on (lines-own (own_of w q) w (record { run = q; waker = s.waker; poll = s.poll }) refl))
+lines-act q p h (op.Tick (tick_op.Look s look)) w e k = refl
 lines-act q p h (op.Tick (tick_op.CopyWaker s)) w e k = on (lines-copy q _ w s e)
 lines-act q p h (op.Tick (tick_op.FallAsleep s)) w e k = on (lines-sleep q (place_of w s.who) w s e)
-lines-act q p h (op.Run (run_op.SearchCommon x)) w e k =
-    subst (λ (n : ℕ). Goes n (own_of w n) (act p h (op.Run (run_op.SearchCommon x)) w)) e
-    (on (lines-common w.queue.items w x (k x refl)))
+lines-act q p h (op.Run (run_op.TakeTurn x)) w e k = refl
+lines-act q p h (op.Run (run_op.SearchCommon x look)) w e k =
+    subst (λ (n : ℕ). Goes n (own_of w n) (act p h (op.Run (run_op.SearchCommon x look)) w)) e
+    (on (lines-common look (queue_of w (mark_in look)).items w x (k x refl)))
 lines-act q p h (op.Run (run_op.LookOwn x at left)) w e k =
     subst (λ (n : ℕ). Goes n (own_of w n) (act p h (op.Run (run_op.LookOwn x at left)) w)) e
     (on (lines-look (own_of w x.run) w x at left refl))

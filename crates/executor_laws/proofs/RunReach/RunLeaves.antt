@@ -45,6 +45,7 @@ use Rattle.executor_laws.proofs.RunReach.RunWalks.{both-light, light}
 -- a side thing that is done
 pub own-act : (p : ℕ) (h : Hint) (o : Op) (w : World) → stray_of o ≡ 0 → (act p h o w).world.own ≡ w.own
 own-act p h (op.Tick (tick_op.Search s)) w z = absurd (omega (arith, z))
+own-act p h (op.Tick (tick_op.Look s look)) w z = absurd (omega (arith, z))
 own-act p h (op.Tick (tick_op.CopyWaker s)) w z = absurd (omega (arith, z))
 own-act p h (op.Tick (tick_op.FallAsleep s)) w z = absurd (omega (arith, z))
 own-act p h (op.User (user_op.PollOwn x)) w z = absurd (omega (arith, z))

@@ -5,6 +5,9 @@ use Rattle.std.proofs.Common.{get_or, get_or-set_same, get_or-set_other, Bool, t
 use Rattle.std.proofs.Common.{append_assoc}
 use Rattle.std.proofs.lemmas.List.{reverse-append}
 use Rattle.std.specs.Prelude.{Option, Some, None, reverse}
+use Rattle.executor_model.specs.declared.op.Look.TheVariants.{First, Second}
+use Rattle.executor_model.specs.World.{queue_of}
+use Rattle.executor_model.specs.Acts.{mark_in}
 use Rattle.task_moves.specs.declared.moves.owed.Move.TheVariants as move
 use Rattle.executor_model.specs.declared.call.Reply.TheVariants as reply
 use Rattle.executor_model.specs.declared.event.Event.TheVariants as event
@@ -115,9 +118,11 @@ steal_of (steal_op.Put s more f) = s
 
 abbrev pub Control : ℕ → Op → Type 0
 Control q (op.Tick (tick_op.Search s)) = s.who ≡ tick_or_run.Run q
+Control q (op.Tick (tick_op.Look s look)) = refl
 Control q (op.Tick (tick_op.CopyWaker s)) = s.who ≡ tick_or_run.Run q
 Control q (op.Tick (tick_op.FallAsleep s)) = s.who ≡ tick_or_run.Run q
-Control q (op.Run (run_op.SearchCommon x)) = x.run ≡ q
+Control q (op.Run (run_op.TakeTurn x)) = refl
+Control q (op.Run (run_op.SearchCommon x look)) = x.run ≡ q
 Control q (op.Run (run_op.LookOwn x at left)) = x.run ≡ q
 Control q (op.Run (run_op.WakeOwn x)) = x.run ≡ q
 Control q (op.List (list_op.LockRead x)) = x.run ≡ q
@@ -174,6 +179,7 @@ holds-found q w x f e =
 
 holds-stolen : (q : ℕ) (t : Then) (w : World) (x : RunPoll) → x.run ≡ q → Holds q (stolen t w x).next
 holds-stolen q (then.Found f) w x e = holds-found q w x f e
+holds-stolen q (then.StealPlain f) w x e = refl
 holds-stolen q (then.Run f) w x e = holds-run_by q _ w x f e
 holds-stolen q (then.Walk at left) w x e = holds-one q (op.Run (run_op.LookOwn x at left)) e
 
@@ -408,9 +414,10 @@ holds-sleep q (Asleep m) w s e = holds-again q _ w m s e
 holds-sleep q Left w s e =
     holds-behind q (op.Sleeper (sleeper_op.CallSleeper s) ∷ []) _ refl (holds-one q _ refl)
 
-holds-common : (q : ℕ) (xs : List ℕ) (w : World) (x : RunPoll) → x.run ≡ q → Holds q (search_common_by xs w x).next
-holds-common q [] w x e = holds-one q (op.List (list_op.LockRead x)) e
-holds-common q (f ∷ xs) w x e =
+holds-common : (look : Look) (q : ℕ) (xs : List ℕ) (w : World) (x : RunPoll) → x.run ≡ q → Holds q (search_common_by xs w x look).next
+holds-common (First mark) q [] w x e = holds-one q (op.List (list_op.LockRead x)) e
+holds-common (Second mark) q [] w x e = holds-one q (op.List (list_op.LockRead x)) e
+holds-common look q (f ∷ xs) w x e =
     holds-one q (op.Steal (steal_op.Length (record { poll = x; from = Common; then = then.Found f }))) (e, refl)
 
 after-called : (q f n p : ℕ) (h : Hint) (a : Waker) (w v : World) (r : ℕ) → v.own ≡ w.own → v.gone ≡ w.gone →
@@ -437,19 +444,21 @@ after-called q f n p h (Outside y) w v r o z k = record {
 pub after-control : (q f n p : ℕ) (h : Hint) (c : Op) (w : World) → Control q c → Tracked q f n w →
     After q f n w (act p h c w)
 after-control q f n p h (op.Tick (tick_op.Search s)) w e k =
-    subst (λ (who : TickOrRun). After q f n w (search_by_who who w s)) (sym e)
+    subst (λ (who : TickOrRun). After q f n w (search_by_who who p w s)) (sym e)
     (after-own q f n n (own_of w q) w (record { run = q; waker = s.waker; poll = s.poll }) refl refl
     (λ l i. omega (arith, i)) k)
+after-control q f n p h (op.Tick (tick_op.Look s look)) w e k = refl
 after-control q f n p h (op.Tick (tick_op.CopyWaker s)) w e k = after-copy q f n _ w s e k
 after-control q f n p h (op.Tick (tick_op.FallAsleep s)) w e k = record {
   goes = on (holds-sleep q (place_of w s.who) w s e)
       (same-own q f n w (fall_asleep_by (place_of w s.who) w s).world (idle-sleep (place_of w s.who) w s).own k);
   gone = (idle-sleep (place_of w s.who) w s).gone;
 }
-after-control q f n p h (op.Run (run_op.SearchCommon x)) w e k = record {
-  goes = on (holds-common q w.queue.items w x e)
-      (same-own q f n w (search_common_by w.queue.items w x).world (idle-common w.queue.items w x).own k);
-  gone = (idle-common w.queue.items w x).gone;
+after-control q f n p h (op.Run (run_op.TakeTurn x)) w e k = refl
+after-control q f n p h (op.Run (run_op.SearchCommon x look)) w e k = record {
+  goes = on (holds-common look q (queue_of w (mark_in look)).items w x e)
+      (same-own q f n w (search_common_by (queue_of w (mark_in look)).items w x).world (idle-common look (queue_of w (mark_in look)).items w x).own k);
+  gone = (idle-common look (queue_of w (mark_in look)).items w x).gone;
 }
 after-control q f n p h (op.Run (run_op.LookOwn x at left)) w e k =
     after-look q f n (own_of w x.run) w x at left e refl k

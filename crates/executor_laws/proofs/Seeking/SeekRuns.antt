@@ -62,6 +62,7 @@ data Far : Type 0 where
 -- a steal behind which it runs what it has found
 abbrev Running : Then → Type 0
 Running (then.Found f) = Unit {0}
+Running (then.StealPlain f) = refl
 Running (then.Run f) = Unit {0}
 Running (then.Walk at left) = ⊥
 
@@ -78,6 +79,7 @@ module _ (p : ℕ) (x : RunPoll) (old : List Op) where
   Control before (op.Run (run_op.WakeOwn y)) = y ≡ x
   Control before (op.User (user_op.PollOwn y)) = y ≡ x
   Control before (op.Tick (tick_op.Search s)) = s ≡ asleep x
+  Control before (op.Tick (tick_op.Look s look)) = refl
   Control before (op.Steal (steal_op.Length s)) = Steals s
   Control before (op.Steal (steal_op.OwnLength s n)) = Steals s
   Control before (op.Steal (steal_op.Take s more)) = Steals s
@@ -137,6 +139,7 @@ module _ (p : ℕ) (x : RunPoll) (old : List Op) where
 
   stolen-again : (t : Then) (w : World) (y : RunPoll) → y ≡ x → Running t → Again (stolen t w y)
   stolen-again (then.Found f) w y k r = found-again w y f k
+  stolen-again (then.StealPlain f) w y k r = refl
   stolen-again (then.Run f) w y k r = run-found-again w y f k
   stolen-again (then.Walk at left) w y k r = absurd r
 

@@ -2,6 +2,7 @@
 -- What ticks and runs both do pays a step of those that remain, or one of a walk.
 use Rattle.std.proofs.Common.{◌≡◌, ℕ, ◌≤◌, List, [], ◌∷◌, Bool, true, false, refl, ap, arith}
 use Rattle.std.specs.Prelude.{Option, Some, None, is_none}
+use Rattle.executor_model.specs.declared.op.Look.TheVariants.{First, Second}
 use Rattle.executor_parts.specs.Sleepers.{waker_at, waker_of}
 use Rattle.executor_model.specs.declared.op.Op.TheVariants as op
 use Rattle.executor_model.specs.declared.op.TickOrRun.{TickOrRun}
@@ -12,7 +13,7 @@ use Rattle.executor_model.specs.declared.op.TickOp.TheVariants as tick_op
 use Rattle.executor_model.specs.declared.op.Waker.{Waker}
 use Rattle.executor_model.specs.declared.op.Waker.TheVariants.{Task, Outside}
 use Rattle.executor_model.specs.declared.step.Hint.{Hint}
-use Rattle.executor_model.specs.ActsOfSleepers.{make_tick_by, search_by, copy_sleeper_by, pend_as, sleep_anew_by}
+use Rattle.executor_model.specs.ActsOfSleepers.{make_tick_by, look_tick_by, copy_sleeper_by, pend_as, sleep_anew_by}
 use Rattle.executor_model.specs.ActsOfSleepers.{sleeper_goes}
 use Rattle.executor_model.specs.ActsOfSleepers.{sleep_listed_by, sleep_again_by, fall_asleep_by, wake_up_by, tell_and_return}
 use Rattle.executor_model.specs.ActsOfSleepers.{leave_sleepers_by}
@@ -42,9 +43,9 @@ blind-left v = record {
 }
 
 -- nothing of it is left to schedule
-unleft-tick : (h : Hint) (o : TickOp) (w : World) → is_search o ≡ false →
-    weigh (left_by (tick_act h o w).world) (tick_act h o w).next ≡ 0
-unleft-tick h o w e = slumbering-blind (left_by (tick_act h o w).world) (blind-left (tick_act h o w).world) h o w e
+unleft-tick : (p : ℕ) (h : Hint) (o : TickOp) (w : World) → is_search o ≡ false →
+    weigh (left_by (tick_act p h o w).world) (tick_act p h o w).next ≡ 0
+unleft-tick p h o w e = slumbering-blind (left_by (tick_act p h o w).world) (blind-left (tick_act p h o w).world) h o w e
 
 -- the steps on the way to a walk
 
@@ -60,11 +61,12 @@ walk-make : (b : Bool) (w : World) → weigh walk_of (make_tick_by b w).next ≤
 walk-make true w = omega arith
 walk-make false w = omega arith
 
-walk-search : (x : Ticker) (w : World) (q : List ℕ) (s : Sleeping) → weigh walk_of (search_by x w q s).next ≤ 2
-walk-search x w [] s = omega arith
-walk-search Awake w (f ∷ rest) s = omega arith
-walk-search (Asleep n) w (f ∷ rest) s = omega arith
-walk-search Left w (f ∷ rest) s = omega arith
+walk-search : (look : Look) (x : Ticker) (w : World) (q : List ℕ) (s : Sleeping) → weigh walk_of (look_tick_by x w look q s).next ≤ 2
+walk-search (First mark) x w [] s = omega arith
+walk-search (Second mark) x w [] s = omega arith
+walk-search look Awake w (f ∷ rest) s = omega arith
+walk-search look (Asleep n) w (f ∷ rest) s = omega arith
+walk-search look Left w (f ∷ rest) s = omega arith
 
 walk-anew : (b : Bool) (w : World) (s : Sleeping) → weigh walk_of (sleep_anew_by b w s).next ≤ 2
 walk-anew true w s = omega arith
@@ -107,9 +109,9 @@ walk-leave Left w who = omega arith
 
 -- a search, and a copy of a waker
 
-pays-search : (who : TickOrRun) (w : World) (s : Sleeping) → s.who ≡ who → CanPay w (op.Tick (tick_op.Search s)) →
-    Pays w (op.Tick (tick_op.Search s)) (search_by_who who w s)
-pays-search (tick_or_run.Tick t) w s i c =
+pays-search : (who : TickOrRun) (p : ℕ) (w : World) (s : Sleeping) → s.who ≡ who → CanPay w (op.Tick (tick_op.Search s)) →
+    Pays w (op.Tick (tick_op.Search s)) (search_by_who who p w s)
+pays-search (tick_or_run.Tick t) p w s i c =
     let x : Ticker = place_of w s.who in
     let d : Done = search_by x w w.queue.items s in
     spends (omega (
@@ -119,7 +121,7 @@ pays-search (tick_or_run.Tick t) w s i c =
       search-blind (left_by d.world) (blind-left d.world) (λ f. refl) x w w.queue.items s,
     ))
     (omega (arith, walk-search x w w.queue.items s))
-pays-search (tick_or_run.Run r) w s i c = pays-own _ w s r i c
+pays-search (tick_or_run.Run r) p w s i c = pays-own _ w s r i c
 
 pays-copy : (b : Bool) (who : TickOrRun) (w : World) (s : Sleeping) → s.who ≡ who → IsKnownWaker w s.waker →
     Pays w (op.Tick (tick_op.CopyWaker s)) (copy_sleeper_by b w s)
@@ -130,19 +132,20 @@ pays-copy false (tick_or_run.Tick t) w s i l =
 pays-copy false (tick_or_run.Run r) w s i l =
     walks (omega (arith, ap steps_of_copy i, ap steps_of_sleeping i, kept-copy_sleeper false w s l)) (omega arith)
 
-pub pays-tick : (h : Hint) (o : TickOp) (w : World) → TickNeeds w o → CanPay w (op.Tick o) →
-    Pays w (op.Tick o) (tick_act h o w)
-pays-tick h tick_op.MakeTick w l c =
-    spends (omega (arith, spends-make h.refused w, unleft-tick h tick_op.MakeTick w refl))
+pub pays-tick : (p : ℕ) (h : Hint) (o : TickOp) (w : World) → TickNeeds w o → CanPay w (op.Tick o) →
+    Pays w (op.Tick o) (tick_act p h o w)
+pays-tick p h tick_op.MakeTick w l c =
+    spends (omega (arith, spends-make h.refused w, unleft-tick p h tick_op.MakeTick w refl))
     (omega (arith, walk-make h.refused w))
-pays-tick h (tick_op.Search s) w l c = pays-search s.who w s refl c
-pays-tick h (tick_op.CopyWaker s) w l c = pays-copy (is_copy_refused h w s.waker) s.who w s refl l
-pays-tick h (tick_op.FallAsleep s) w l c =
-    spends (omega (arith, spends-sleep (place_of w s.who) w s refl, unleft-tick h (tick_op.FallAsleep s) w refl))
+pays-tick p h (tick_op.Search s) w l c = pays-search s.who p w s refl c
+pays-tick p h (tick_op.Look s look) w l c = refl
+pays-tick p h (tick_op.CopyWaker s) w l c = pays-copy (is_copy_refused h w s.waker) s.who w s refl l
+pays-tick p h (tick_op.FallAsleep s) w l c =
+    spends (omega (arith, spends-sleep (place_of w s.who) w s refl, unleft-tick p h (tick_op.FallAsleep s) w refl))
     (omega (arith, walk-sleep (place_of w s.who) w s))
-pays-tick h (tick_op.WakeUp who) w l c =
-    spends (omega (arith, spends-up (place_of w who) w who, unleft-tick h (tick_op.WakeUp who) w refl))
+pays-tick p h (tick_op.WakeUp who) w l c =
+    spends (omega (arith, spends-up (place_of w who) w who, unleft-tick p h (tick_op.WakeUp who) w refl))
     (omega (arith, walk-up (place_of w who) w who))
-pays-tick h (tick_op.Leave who) w l c =
-    spends (omega (arith, spends-leave_sleepers (place_of w who) w who, unleft-tick h (tick_op.Leave who) w refl))
+pays-tick p h (tick_op.Leave who) w l c =
+    spends (omega (arith, spends-leave_sleepers (place_of w who) w who, unleft-tick p h (tick_op.Leave who) w refl))
     (omega (arith, walk-leave (place_of w who) w who))

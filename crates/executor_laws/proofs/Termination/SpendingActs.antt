@@ -4,6 +4,10 @@ use Rattle.std.proofs.Common.{◌≡◌, ℕ, ◌+◌, ◌*◌, ◌<◌, ◌≤�
 use Rattle.std.proofs.Common.{Bool, true, false, ◌&&◌, ◌||◌, refl, ap, arith}
 use Rattle.std.proofs.lemmas.List.{length_push, length-append}
 use Rattle.std.specs.Prelude.{Option, Some, None}
+use Rattle.executor_parts.specs.declared.mark.Mark.TheVariants.{Plain, Urgent}
+use Rattle.executor_model.specs.declared.op.Look.TheVariants.{First, Second}
+use Rattle.executor_model.specs.World.{put_queue, queue_of}
+use Rattle.executor_model.specs.Acts.{mark_in}
 use Rattle.executor_parts.specs.declared.mark.Mark.{Mark}
 use Rattle.queue_steps.specs.ClosableQueue.{appended, taken}
 use Rattle.task_moves.specs.declared.moves.state.State.{State}
@@ -49,12 +53,13 @@ spends-append true w f =
     omega (arith, kept-parts w, kept-parts (record w { queue = appended w.queues f }), length_push w.queue.items f)
 spends-append false w f = omega arith
 
-pub spends-take : (w : World) (q : List ℕ) → w.queue.items ≡ q → Spends w 113 (take_by w q)
-spends-take w [] e = omega arith
-spends-take w (f ∷ rest) e = omega (
+pub spends-take : (look : Look) (w : World) (q : List ℕ) → (queue_of w (mark_in look)).items ≡ q → Spends w 113 (take_by w look q)
+spends-take (First mark) w [] e = omega arith
+spends-take (Second mark) w [] e = omega arith
+spends-take look w (f ∷ rest) e = omega (
   arith,
   kept-parts w,
-  kept-parts (record w { queue = taken w.queues }),
+  kept-parts (put_queue w (mark_in look) (taken (queue_of w (mark_in look)))),
   ap length e,
   ap (λ (xs : List ℕ). length (drop 1 xs)) e,
 )
@@ -362,12 +367,13 @@ spends-leak_next false p w (f ∷ rest) l e =
       spends-followed v 26 1 (wake p v f) (leaking_ops rest) (spends-wake p v f (l f rest e).0) (leaking-steps rest),
     )
 
-pub spends-drain : (p : ℕ) (w : World) (q : List ℕ) → w.queue.items ≡ q → Spends w 1 (drain_by p w q)
-spends-drain p w [] e = omega (arith, kept-log w (event.DropEnded p))
-spends-drain p w (f ∷ rest) e = omega (
+pub spends-drain : (mark : Mark) (p : ℕ) (w : World) (q : List ℕ) → (queue_of w mark).items ≡ q → Spends w 1 (drain_by p w mark q)
+spends-drain Urgent p w [] e = omega (arith, kept-log w (event.DropEnded p))
+spends-drain Plain p w [] e = omega (arith, kept-log w (event.DropEnded p))
+spends-drain mark p w (f ∷ rest) e = omega (
   arith,
   kept-parts w,
-  kept-parts (record w { queue = taken w.queues }),
+  kept-parts (put_queue w mark (taken (queue_of w mark))),
   ap length e,
   ap (λ (xs : List ℕ). length (drop 1 xs)) e,
 )

@@ -77,7 +77,8 @@ pub spends-act : (p : ℕ) (h : Hint) (o : Op) (w : World) → waits o ≡ false
     Spends w (steps_of o) (act p h o w)
 spends-act p h (op.Move m f) w n r l k = spends-move m p w f l.0.0 k
 spends-act p h (op.Table (table_op.Enter mark)) w n r l k = spends-enter _ _ _ p w
-spends-act p h (op.Queue queue_op.Take) w n r l k = spends-take w _ refl
+spends-act p h (op.Queue queue_op.TakeTurn) w n r l k = refl
+spends-act p h (op.Queue (queue_op.Take look)) w n r l k = spends-take look w _ refl
 spends-act p h (op.Queue (queue_op.Append f)) w n r l k = spends-append _ w f
 spends-act p h (op.Table (table_op.TakeToPoll f)) w n r l k =
     spends-as w _ 47 (op.User (user_op.Poll f) ∷ []) (kept-as w _ refl refl refl refl refl refl refl refl refl refl)
@@ -114,10 +115,10 @@ spends-act p h (op.User (user_op.DropOwn x)) w n r l k = absurd (cc)
 spends-act p h (op.Closing closing_op.TakeOut) w n r l k = spends-take_out w
 spends-act p h (op.Closing closing_op.DropNext) w n r l k = spends-drop_next p w _ refl
 spends-act p h (op.Closing closing_op.WakeNext) w n r l k = spends-wake_next p w _ l refl
-spends-act p h (op.Closing closing_op.Close) w n r l k =
-    spends-as w _ 2 (op.Closing closing_op.Drain ∷ []) (kept-as w _ refl refl refl refl refl refl refl refl refl refl)
+spends-act p h (op.Closing (closing_op.Close mark)) w n r l k =
+    spends-as w _ 2 (op.Closing (closing_op.Drain mark) ∷ []) (kept-as w _ refl refl refl refl refl refl refl refl refl refl)
     (omega arith)
-spends-act p h (op.Closing closing_op.Drain) w n r l k = spends-drain p w _ refl
+spends-act p h (op.Closing (closing_op.Drain mark)) w n r l k = spends-drain mark p w _ refl
 spends-act p h (op.Closing closing_op.LeakOut) w n r l k = spends-leak_out w.is_static w.gone w refl
 spends-act p h (op.Closing closing_op.LeakNext) w n r l k = spends-leak_next _ p w _ l refl
 spends-act p h (op.End a held) w n r l k = omega (arith, kept-log w (event.CallEnded p a))

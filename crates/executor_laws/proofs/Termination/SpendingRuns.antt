@@ -3,6 +3,9 @@
 use Rattle.std.proofs.Common.{◌≡◌, ℕ, zero, suc, ◌+◌, ◌-◌, ◌*◌, ◌<◌, ◌≤◌, ◌/◌, ◌%◌, List, [], ◌∷◌, ◌++◌, length, set}
 use Rattle.std.proofs.Common.{get_or, get_or-set_same, drop, Bool, true, false, ltb, eqb, cond, refl, ap, ◌∙◌, arith}
 use Rattle.std.proofs.lemmas.Bool.Decides.{nat_tests}
+use Rattle.executor_model.specs.declared.op.Look.TheVariants.{First, Second}
+use Rattle.executor_model.specs.World.{put_queue, queue_of}
+use Rattle.executor_model.specs.Acts.{mark_in}
 use Rattle.queue_steps.specs.ClosableQueue.{taken}
 use Rattle.task_moves.specs.Moves as moves
 use Rattle.executor_model.specs.declared.call.Reply.{Reply}
@@ -202,6 +205,7 @@ pays-stolen o (then.Found f) w v x l k i e n =
     let d : Done = runs.found v x f in
     spends (omega (arith, i, e, kept-found v x f l k, left-stolen d.world (then.Found f) v x))
     (omega (arith, walk-found v x f))
+pays-stolen o (then.StealPlain f) w v x l k i e n = refl
 pays-stolen o (then.Run f) w v x l k i e n =
     let b : Bool = eqb ((run_of v x.run).taken + 1) 200 in
     let d : Done = runs.run_by b v x f in
@@ -337,14 +341,15 @@ pays-look (f ∷ rest) w x at left c =
     ))
     (omega (arith, walk-found v x f))
 
-pays-common : (q : List ℕ) (w : World) (x : RunPoll) → w.queue.items ≡ q →
-    Pays w (op.Run (run_op.SearchCommon x)) (runs.search_common_by q w x)
-pays-common [] w x e = walks (omega arith) (omega arith)
-pays-common (f ∷ rest) w x e =
+pays-common : (look : Look) (q : List ℕ) (w : World) (x : RunPoll) → (queue_of w (mark_in look)).items ≡ q →
+    Pays w (op.Run (run_op.SearchCommon x look)) (runs.search_common_by q w x look)
+pays-common (First mark) [] w x e = walks (omega arith) (omega arith)
+pays-common (Second mark) [] w x e = walks (omega arith) (omega arith)
+pays-common look (f ∷ rest) w x e =
     spends (omega (
       arith,
       kept-parts w,
-      kept-parts (record w { queue = taken w.queues }),
+      kept-parts (put_queue w (mark_in look) (taken (queue_of w (mark_in look)))),
       ap length e,
       ap (λ (xs : List ℕ). length (drop 1 xs)) e,
     ))
@@ -412,7 +417,8 @@ pub pays-run : (p : ℕ) (h : Hint) (o : RunOp) (w : World) → RunNeeds w o →
     Pays w (op.Run o) (run_act p h o w)
 pays-run p h run_op.MakeRoom w n c = pays-room _ w
 pays-run p h run_op.ReturnRoom w n c = pays-return w
-pays-run p h (run_op.SearchCommon x) w n c = pays-common _ w x refl
+pays-run p h (run_op.TakeTurn x) w n c = refl
+pays-run p h (run_op.SearchCommon x look) w n c = pays-common look _ w x refl
 pays-run p h (run_op.LookOwn x at left) w n c = pays-look _ w x at left c
 pays-run p h (run_op.WakeOwn x) w n c = pays-wake p w x n
 pays-run p h (run_op.Reschedule r a) w n c = pays-reschedule _ w r a refl

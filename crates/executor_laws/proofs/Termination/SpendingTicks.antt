@@ -7,6 +7,9 @@ use Rattle.std.proofs.lemmas.Bool.Decides.{nat_tests}
 use Rattle.std.proofs.lemmas.List.{length_push}
 use Rattle.std.proofs.lemmas.List.Edits.{length-remove}
 use Rattle.std.specs.Prelude.{Option, Some, None, is_none, remove}
+use Rattle.executor_model.specs.declared.op.Look.TheVariants.{First, Second}
+use Rattle.executor_model.specs.World.{put_queue, queue_of}
+use Rattle.executor_model.specs.Acts.{mark_in}
 use Rattle.executor_parts.specs.Sleepers.{Sleepers, position_of, without_last, waker_at, waker_of, next_number}
 use Rattle.executor_parts.specs.Sleepers.{put_to_sleep, listed, without_entry, freed, woken_up}
 use Rattle.queue_steps.specs.ClosableQueue.{taken}
@@ -21,7 +24,7 @@ use Rattle.executor_model.specs.declared.op.SleeperOp.{SleeperOp}
 use Rattle.executor_model.specs.declared.op.SleeperOp.TheVariants as sleeper_op
 use Rattle.executor_model.specs.World.{World, Ticker, Awake, Asleep, Left, Run, no_run, place_of, ticks_with, runs_with}
 use Rattle.executor_model.specs.ActsOfSleepers.{exchange_by, call_of, hand_out_by, make_tick_by, found_by, held_as}
-use Rattle.executor_model.specs.ActsOfSleepers.{polled_as, search_by, copy_sleeper_by, pend_as, sleep_anew_by, sleeper_goes}
+use Rattle.executor_model.specs.ActsOfSleepers.{polled_as, look_tick_by, copy_sleeper_by, pend_as, sleep_anew_by, sleeper_goes}
 use Rattle.executor_model.specs.ActsOfSleepers.{sleep_listed_by, sleep_again_by, fall_asleep_by, wake_up_by, given_back, tell_and_return}
 use Rattle.executor_model.specs.ActsOfSleepers.{leave_sleepers_by}
 use Rattle.executor_model.specs.Doing.{sleeper_act}
@@ -181,15 +184,16 @@ wakes_up-steps Awake who more = omega arith
 wakes_up-steps (Asleep n) who more = omega arith
 wakes_up-steps Left who more = omega arith
 
-pub spends-search : (x : Ticker) (w : World) (q : List ℕ) (s : Sleeping) (t : ℕ) → s.who ≡ tick_or_run.Tick t →
-    w.queue.items ≡ q → Spends w 141 (search_by x w q s)
-spends-search x w [] s t i e = omega (arith, ap steps_of_copy i)
-spends-search x w (f ∷ rest) s t i e = omega (
+pub spends-search : (look : Look) (x : Ticker) (w : World) (q : List ℕ) (s : Sleeping) (t : ℕ) → s.who ≡ tick_or_run.Tick t →
+    (queue_of w (mark_in look)).items ≡ q → Spends w 141 (look_tick_by x w look q s)
+spends-search (First mark) x w [] s t i e = omega (arith, ap steps_of_copy i)
+spends-search (Second mark) x w [] s t i e = omega (arith, ap steps_of_copy i)
+spends-search look x w (f ∷ rest) s t i e = omega (
   arith,
   wakes_up-steps x s.who
       (op.Sleeper sleeper_op.ExchangeFlag ∷ op.Move move.TakeUp f ∷ op.End reply.Ready (held_as s.who) ∷ []),
   kept-parts w,
-  kept-parts (record w { queue = taken w.queues }),
+  kept-parts (put_queue w (mark_in look) (taken (queue_of w (mark_in look)))),
   ap length e,
   ap (λ (xs : List ℕ). length (drop 1 xs)) e,
 )

@@ -5,6 +5,9 @@ use Rattle.std.proofs.Common.{◌≡◌, ◌∙◌, ◌⊎◌, inl, inr, ⊎_eli
 use Rattle.std.proofs.Common.{get_or, get_or-set_same, Bool, true, false, ltb, refl, sym, ap, subst, arith, append-nil, append_assoc}
 use Rattle.std.proofs.lemmas.List.{reverse-append}
 use Rattle.std.specs.Prelude.{reverse}
+use Rattle.executor_model.specs.declared.op.Look.TheVariants.{First, Second}
+use Rattle.executor_model.specs.World.{queue_of}
+use Rattle.executor_model.specs.Acts.{mark_in}
 use Rattle.task_moves.specs.declared.moves.owed.Move.TheVariants as move
 use Rattle.executor_model.specs.declared.call.Reply.TheVariants as reply
 use Rattle.executor_model.specs.declared.event.Event.TheVariants as event
@@ -94,6 +97,7 @@ line-empty f n k = by k.front k.is
 
 abbrev pub NoWalk : Then → Type 0
 NoWalk (then.Found f) = true ≡ true
+NoWalk (then.StealPlain f) = refl
 NoWalk (then.Run f) = true ≡ true
 NoWalk (then.Walk at left) = ⊥
 
@@ -108,7 +112,9 @@ OfCommon q s = (s.poll.run ≡ q) × (s.from ≡ Common) × NoWalk s.then
 
 abbrev pub Doing : ℕ → Op → Type 0
 Doing q (op.Tick (tick_op.Search s)) = s.who ≡ tick_or_run.Run q
-Doing q (op.Run (run_op.SearchCommon x)) = x.run ≡ q
+Doing q (op.Tick (tick_op.Look s look)) = refl
+Doing q (op.Run (run_op.TakeTurn x)) = refl
+Doing q (op.Run (run_op.SearchCommon x look)) = x.run ≡ q
 Doing q (op.Run (run_op.WakeOwn x)) = x.run ≡ q
 Doing q (op.Steal o) = OfCommon q (steal_in o)
 Doing q (op.End a held) = true ≡ true
@@ -162,6 +168,7 @@ holds-found w x f =
 
 holds-stolen : (t : Then) (w : World) (x : RunPoll) → NoWalk t → Holds x.run (stolen t w x).next
 holds-stolen (then.Found f) w x k = holds-found w x f
+holds-stolen (then.StealPlain f) w x k = refl
 holds-stolen (then.Run f) w x k = holds-run_by _ w x f
 holds-stolen (then.Walk at left) w x k = absurd k
 
@@ -177,6 +184,7 @@ counted-queue false w x f = run-queue _ (counted_to w x.run _) x f
 
 stolen-queue : (t : Then) (w : World) (x : RunPoll) → (stolen t w x).world.queues ≡ w.queues
 stolen-queue (then.Found f) w x = counted-queue _ w x f
+stolen-queue (then.StealPlain f) w x = refl
 stolen-queue (then.Run f) w x = run-queue _ w x f
 stolen-queue (then.Walk at left) w x = refl
 
@@ -246,12 +254,14 @@ after-missing f n w x o k = subst (λ (ys : List ℕ). After x.run f n w (search
 })
 
 -- a search in the executor's queue
-pub after-common : (f n m : ℕ) (xs : List ℕ) (w : World) (x : RunPoll) → w.queue.items ≡ xs → own_of w x.run ≡ [] →
-    ((l : ℕ) → suc l ≤ n → l ≤ m) → InLine f n (own_of w x.run ++ w.queue.items) →
-    After x.run f m w (search_common_by xs w x)
-after-common f n m [] w x i o j k =
-    absurd (line-empty f n (subst (InLine f n) (ap (λ (ys : List ℕ). ys ++ w.queue.items) o ∙ i) k))
-after-common f n m (h ∷ rest) w x i o j k = ⊎_elim
+pub after-common : (look : Look) (f n m : ℕ) (xs : List ℕ) (w : World) (x : RunPoll) → (queue_of w (mark_in look)).items ≡ xs → own_of w x.run ≡ [] →
+    ((l : ℕ) → suc l ≤ n → l ≤ m) → InLine f n (own_of w x.run ++ (queue_of w (mark_in look)).items) →
+    After x.run f m w (search_common_by xs w x look)
+after-common (First mark) f n m [] w x i o j k =
+    absurd (line-empty f n (subst (InLine f n) (ap (λ (ys : List ℕ). ys ++ (queue_of w (mark_in (First mark))).items) o ∙ i) k))
+after-common (Second mark) f n m [] w x i o j k =
+    absurd (line-empty f n (subst (InLine f n) (ap (λ (ys : List ℕ). ys ++ (queue_of w (mark_in (Second mark))).items) o ∙ i) k))
+after-common look f n m (h ∷ rest) w x i o j k = ⊎_elim
     (λ (y : h ≡ f). record {
       goes = finds (record {
         heading = stealing (steal_op.Length (record { poll = x; from = Common; then = then.Found h })) [] refl (sym y) refl;
@@ -268,7 +278,7 @@ after-common f n m (h ∷ rest) w x i o j k = ⊎_elim
           (subst (λ (ys : List ℕ). InLine f m (ys ++ rest)) (sym o) y));
       gone = refl;
     })
-    (line-first f n m h rest j (subst (InLine f n) (ap (λ (ys : List ℕ). ys ++ w.queue.items) o ∙ i) k))
+    (line-first f n m h rest j (subst (InLine f n) (ap (λ (ys : List ℕ). ys ++ (queue_of w (mark_in look)).items) o ∙ i) k))
 
 -- a steal
 

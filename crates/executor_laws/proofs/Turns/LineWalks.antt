@@ -4,6 +4,8 @@ use Rattle.std.proofs.Common.{◌≡◌, ◌∙◌, ◌⊎◌, inl, inr, ⊎_eli
 use Rattle.std.proofs.Common.{get_or, Bool, true, false, eqb, ltb, refl, sym, ap, subst, arith, append_assoc, Ok}
 use Rattle.std.proofs.lemmas.Bool.Decides.{nat_tests}
 use Rattle.std.specs.Prelude.{Option, Some, None, cond, reverse}
+use Rattle.executor_model.specs.World.{queue_of}
+use Rattle.executor_model.specs.Acts.{mark_in}
 use Rattle.executor_model.specs.declared.call.Reply.{Reply}
 use Rattle.executor_model.specs.declared.op.Op.{Op}
 use Rattle.executor_model.specs.declared.op.Op.TheVariants as op
@@ -115,12 +117,14 @@ same-steal s e = ap (λ (x : Source). let y : Steal = record { poll = s.poll; fr
 after-doing : (q f n p : ℕ) (h : Hint) (c : Op) (w : World) → Doing q c → Facts q c w → InLine f n (line q c w) →
     After q f n w (act p h c w)
 after-doing q f n p h (op.Tick (tick_op.Search s)) w e k z =
-    subst (λ (who : TickOrRun). After q f n w (search_by_who who w s)) (sym e)
+    subst (λ (who : TickOrRun). After q f n w (search_by_who who p w s)) (sym e)
     (after-search f n w (record { run = q; waker = s.waker; poll = s.poll }) z)
-after-doing q f n p h (op.Run (run_op.SearchCommon x)) w e k z =
-    subst (λ (r : ℕ). After r f n w (act p h (op.Run (run_op.SearchCommon x)) w)) e
-    (after-common f n n w.queue.items w x refl (k.empty x refl) (λ l i. omega (arith, i))
-    (subst (λ (r : ℕ). InLine f n (own_of w r ++ w.queue.items)) (sym e) z))
+after-doing q f n p h (op.Tick (tick_op.Look s look)) w e k z = refl
+after-doing q f n p h (op.Run (run_op.TakeTurn x)) w e k z = refl
+after-doing q f n p h (op.Run (run_op.SearchCommon x look)) w e k z =
+    subst (λ (r : ℕ). After r f n w (act p h (op.Run (run_op.SearchCommon x look)) w)) e
+    (after-common look f n n (queue_of w (mark_in look)).items w x refl (k.empty x refl) (λ l i. omega (arith, i))
+    (subst (λ (r : ℕ). InLine f n (own_of w r ++ (queue_of w (mark_in look)).items)) (sym e) z))
 after-doing q f n p h (op.Run (run_op.WakeOwn x)) w e k z =
     subst (λ (r : ℕ). After r f n w (act p h (op.Run (run_op.WakeOwn x)) w)) e
     (after-wake f n p h w x (subst (λ (r : ℕ). InLine f n (own_of w r ++ w.queue.items)) (sym e) z))

@@ -92,19 +92,20 @@ search-who t (tick_or_run.Run q) k a w = let x : RunPoll = record { run = q; wak
     stands-walks t w x (op.Tick (tick_op.Search (runs.asleep x)) ∷ []) (runs.search_own w x) (stage-search t x) refl
     (λ j. omega arith) (walks-search w x)
 
-stands-tick : (t : TickOrRun) (h : Hint) (o : TickOp) (w : World) → HasSlept w →
+stands-tick : (t : TickOrRun) (p : ℕ) (h : Hint) (o : TickOp) (w : World) → HasSlept w →
     (1 ≤ borrowing_of (op.Tick o) → w.gone ≡ false) → IsLive (op.Tick o) w →
-    KeepsStands t w (op.Tick o ∷ []) (tick_act h o w)
-stands-tick t h tick_op.MakeTick w slept g live = stands-make h.refused t w slept (g (omega arith))
-stands-tick t h (tick_op.Search s) w slept g live = search-who t s.who s.poll s.waker w
-stands-tick t h (tick_op.CopyWaker s) w slept g live =
+    KeepsStands t w (op.Tick o ∷ []) (tick_act p h o w)
+stands-tick t p h tick_op.MakeTick w slept g live = stands-make h.refused t w slept (g (omega arith))
+stands-tick t p h (tick_op.Search s) w slept g live = search-who t s.who s.poll s.waker w
+stands-tick t p h (tick_op.Look s look) w slept g live = refl
+stands-tick t p h (tick_op.CopyWaker s) w slept g live =
     stands-copy (is_copy_refused h w s.waker) t s.who s.poll s.waker w
     (live-who s.who w (λ r e. live r (let z : is_run r s.who ≡ 1 = ap (is_run r) e ∙ same_self r in omega (arith, z))))
-stands-tick t h (tick_op.FallAsleep s) w slept g live =
+stands-tick t p h (tick_op.FallAsleep s) w slept g live =
     stands-fall_asleep t s.who s.poll s.waker w slept
     (live-who s.who w (λ r e. live r (let z : is_run r s.who ≡ 1 = ap (is_run r) e ∙ same_self r in omega (arith, z))))
-stands-tick t h (tick_op.WakeUp u) w slept g live = stands-wake_up t u w slept
-stands-tick t h (tick_op.Leave u) w slept g live = stands-leave t u w slept
+stands-tick t p h (tick_op.WakeUp u) w slept g live = stands-wake_up t u w slept
+stands-tick t p h (tick_op.Leave u) w slept g live = stands-leave t u w slept
 
 stands-write : (t : TickOrRun) (h : Hint) (s : Section) (w : World) → HasSlept w →
     (1 ≤ borrowing_of (op.List (list_op.Write s)) → w.gone ≡ false) →
@@ -131,8 +132,9 @@ stands-run : (t : TickOrRun) (p : ℕ) (h : Hint) (o : RunOp) (w : World) → Is
     KeepsStands t w (op.Run o ∷ []) (run_act p h o w)
 stands-run t p h run_op.MakeRoom w live = stands-room h.refused t w
 stands-run t p h run_op.ReturnRoom w live = stands-return t w
-stands-run t p h (run_op.SearchCommon x) w live =
-    stands-walks t w x (op.Run (run_op.SearchCommon x) ∷ []) (runs.search_common w x) (stage-common t x) refl
+stands-run t p h (run_op.TakeTurn x) w live = refl
+stands-run t p h (run_op.SearchCommon x look) w live =
+    stands-walks t w x (op.Run (run_op.SearchCommon x look) ∷ []) (runs.search_common w x) (stage-common t x) refl
     (λ k. omega arith) (walks-search_common w x)
 stands-run t p h (run_op.LookOwn x at left) w live =
     stands-walks t w x (op.Run (run_op.LookOwn x at left) ∷ []) (runs.look_own w x at left)
@@ -143,7 +145,7 @@ stands-run t p h (run_op.Reschedule q a) w live = stands-reschedule t w q a
 
 pub stands-act : (t : TickOrRun) (p : ℕ) (h : Hint) (o : Op) (w : World) → HasSlept w →
     (1 ≤ borrowing_of o → w.gone ≡ false) → IsLive o w → is_end o ≡ false → KeepsStands t w (o ∷ []) (act p h o w)
-stands-act t p h (op.Tick o) w slept g live n = stands-tick t h o w slept g live
+stands-act t p h (op.Tick o) w slept g live n = stands-tick t p h o w slept g live
 stands-act t p h (op.Sleeper sleeper_op.HandOut) w slept g live n = stands-hand_out _ t w
 stands-act t p h (op.Sleeper (sleeper_op.CallSleeper s)) w slept g live n = stands-call t s.who p s.poll s.waker w
 stands-act t p h (op.Sleeper sleeper_op.ExchangeFlag) w slept g live n =

@@ -2,6 +2,7 @@
 -- Where a run searches, steals and walks, its poll goes on.
 use Rattle.std.proofs.Common.{◌≡◌, ◌⊎◌, ◌∙◌, ℕ, zero, suc, ◌+◌, ◌%◌, ◌≤◌, List, [], ◌∷◌, ◌++◌, length, Bool, true}
 use Rattle.std.proofs.Common.{false, eqb, refl, sym, ap, subst, inl, inr, ⊎_elim, arith}
+use Rattle.executor_model.specs.declared.op.Look.TheVariants.{First, Second}
 use Rattle.task_moves.specs.declared.moves.owed.Move.TheVariants as move
 use Rattle.executor_model.specs.declared.call.Reply.TheVariants as reply
 use Rattle.executor_model.specs.declared.event.Event.TheVariants as event
@@ -208,6 +209,7 @@ module _ (t : TickOrRun) (x : RunPoll) where
 
   pub stage-stolen : (n : Then) (w : World) → Stage t x (runs.stolen n w x).next
   stage-stolen (then.Found f) w = stage-found w f
+  stage-stolen (then.StealPlain f) w = refl
   stage-stolen (then.Run f) w = stage-run_by _ w f
   stage-stolen (then.Walk at left) w = stage-look t x at left
 
@@ -266,6 +268,7 @@ calm-found w x f = calm-counted _ w x f
 
 calm-stolen : (n : Then) (w : World) (x : RunPoll) → Calm w (runs.stolen n w x).world
 calm-stolen (then.Found f) w x = calm-found w x f
+calm-stolen (then.StealPlain f) w x = refl
 calm-stolen (then.Run f) w x = calm-run_by _ w x f
 calm-stolen (then.Walk at left) w x = calm-same w w refl refl refl refl refl
 
@@ -339,13 +342,15 @@ walks-own (f ∷ rest) w x e = let v = put_own w x.run rest in
 pub walks-search : (w : World) (x : RunPoll) → Walks w x (runs.search_own w x)
 walks-search w x = walks-own _ w x refl
 
-walks-common : (q : List ℕ) (w : World) (x : RunPoll) → Walks w x (runs.search_common_by q w x)
-walks-common [] w x = walks w x (runs.search_common_by [] w x) (λ t. stage-read t x)
+walks-common : (look : Look) (q : List ℕ) (w : World) (x : RunPoll) → Walks w x (runs.search_common_by q w x look)
+walks-common (First mark) [] w x = walks w x (runs.search_common_by [] w x (First mark)) (λ t. stage-read t x)
     (calm-same w w refl refl refl refl refl) (same-own w w refl)
-walks-common (f ∷ rest) w x = walks w x (runs.search_common_by (f ∷ rest) w x)
+walks-common (Second mark) [] w x = walks w x (runs.search_common_by [] w x (Second mark)) (λ t. stage-read t x)
+    (calm-same w w refl refl refl refl refl) (same-own w w refl)
+walks-common look (f ∷ rest) w x = walks w x (runs.search_common_by (f ∷ rest) w x look)
     (λ t. stage-steal t (steal_op.Length (record { poll = x; from = Common; then = then.Found f })))
-    (calm-same w (runs.search_common_by (f ∷ rest) w x).world refl refl refl refl refl)
-    (same-own w (runs.search_common_by (f ∷ rest) w x).world refl)
+    (calm-same w (runs.search_common_by (f ∷ rest) w x look).world refl refl refl refl refl)
+    (same-own w (runs.search_common_by (f ∷ rest) w x look).world refl)
 
 pub walks-search_common : (w : World) (x : RunPoll) → Walks w x (runs.search_common w x)
 walks-search_common w x = walks-common _ w x

@@ -94,7 +94,10 @@ module _ (p : ℕ) (before : Trace) (x : RunPoll) (owns : List (List ℕ)) (qs :
     at-common s a ts on n =
         go (onward p s new [] (op.Run (run_op.SearchCommon x)) ts a.todo a.reached idles on n)
       where
-        go : Onward p s new [] (op.Run (run_op.SearchCommon x)) ts → Arrived
+        go : Onward p s new [] (op.Run (run_op.TakeTurn x)) ts → Arrived
+        go (answered u others te z y n2 on2 l) = refl
+      where
+        go : Onward p s new [] (op.Run (run_op.SearchCommon x look)) ts → Arrived
         go (answered u others te z y n2 on2 l) = absurd (cc)
         go (acted h others te z y n2 on2 l) =
             let v : Part = part s.world (op.List (list_op.LockRead x) ∷ []) in

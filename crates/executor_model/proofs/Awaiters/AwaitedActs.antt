@@ -5,6 +5,7 @@ use Rattle.std.proofs.Common.{eqb, drop, refl, sym, ap, subst, ◌≤◌, inl, i
 use Rattle.std.proofs.lemmas.Bool.Decides.{nat_tests}
 use Rattle.std.proofs.lemmas.List.{length-set}
 use Rattle.std.specs.Prelude.{Option, Some, None, slice_set}
+use Rattle.executor_model.specs.World.{queue_of}
 use Rattle.task_moves.specs.declared.moves.owed.Answer.{Answer}
 use Rattle.task_moves.specs.Moves as moves
 use Rattle.executor_model.specs.declared.event.Answer.TheVariants as answer
@@ -288,12 +289,12 @@ awaits-leak_out false false w e = awaits-leaks (w.waking ++ w.table) w e
 pub awaits-close : (w : World) → KeepsAwaits w (op.Closing closing_op.Close ∷ []) (close w)
 awaits-close w g r yy mm bb h = grind arith
 
-pub awaits-drain : (q : List ℕ) (p : ℕ) (w : World) → w.queue.items ≡ q →
-    KeepsAwaits w (op.Closing closing_op.Drain ∷ []) (drain_by p w q)
-awaits-drain = by_list _
+pub awaits-drain : (mark : Mark) (q : List ℕ) (p : ℕ) (w : World) → (queue_of w mark).items ≡ q →
+    KeepsAwaits w (op.Closing (closing_op.Drain mark) ∷ []) (drain_by p w mark q)
+awaits-drain mark = by_list _
     (λ p w e g r yy mm bb h. grind (arith, heard-push))
-    (λ f rest p w e g r yy mm bb h. let z : same g f + times g (drop 1 w.queue.items) ≡ times g w.queue.items =
-    times-drop g f rest w.queue.items e in grind (arith, same_is))
+    (λ f rest p w e g r yy mm bb h. let z : same g f + times g (drop 1 (queue_of w mark).items) ≡ times g (queue_of w mark).items =
+    times-drop g f rest (queue_of w mark).items e in grind (arith, same_is))
 
 -- the answers of user code
 pub awaits-pending : (p : ℕ) (w : World) (f : ℕ) →

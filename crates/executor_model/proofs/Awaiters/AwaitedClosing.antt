@@ -4,6 +4,10 @@ use Rattle.std.proofs.Common.{◌≡◌, ℕ, suc, ◌+◌, ◌<◌, ◌≤◌, 
 use Rattle.std.proofs.Common.{Bool, true, false, ◌&&◌, ◌||◌, not, refl, sym, ap, ◌∙◌, subst, inl, inr, ⊎_elim, arith}
 use Rattle.std.proofs.lemmas.List.{length-append}
 use Rattle.std.specs.Prelude.{Option, Some, None, reverse}
+use Rattle.executor_parts.specs.declared.mark.Mark.{Mark}
+use Rattle.executor_model.specs.declared.op.Look.TheVariants.{First, Second}
+use Rattle.executor_model.specs.World.{queue_of}
+use Rattle.executor_model.specs.Acts.{mark_in}
 use Rattle.executor_model.specs.declared.kind.Kind.{Kind}
 use Rattle.executor_model.specs.declared.call.Call.{Call}
 use Rattle.executor_model.specs.declared.call.Call.TheVariants as call
@@ -30,7 +34,7 @@ use Rattle.executor_model.specs.declared.step.UserEnd.{UserEnd}
 use Rattle.executor_model.specs.declared.step.UserEnd.TheVariants as end
 use Rattle.executor_model.specs.World.{World, Ticker, Awake, Asleep, Left, Done, done, log}
 use Rattle.executor_model.specs.Acts.{append_by, take_by}
-use Rattle.executor_model.specs.ActsOfSleepers.{search_by}
+use Rattle.executor_model.specs.ActsOfSleepers.{look_tick_by}
 use Rattle.executor_model.specs.Acts.{closing_ops, drop_next_by, wake, wake_next_by, close}
 use Rattle.executor_model.specs.Acts.{drain_by}
 use Rattle.executor_model.specs.ActsOfRuns.{search_own}
@@ -70,20 +74,21 @@ sweeps-append = by_bool _
     (λ w f c r h. let z : w.queue.closed ≡ false = c refl in grind (arith, length-append))
     (λ w f c r h. grind arith)
 
-sweeps-take : (q : List ℕ) (w : World) → w.queue.items ≡ q → KeepsSweeps w (op.Queue queue_op.Take ∷ []) (take_by w q)
-sweeps-take = by_list _
+sweeps-take : (look : Look) (q : List ℕ) (w : World) → (queue_of w (mark_in look)).items ≡ q → KeepsSweeps w (op.Queue (queue_op.Take look) ∷ []) (take_by w look q)
+sweeps-take look = by_list _
     (λ w e r h. grind arith)
-    (λ f rest w e r h. let z : suc (length (drop 1 w.queue.items)) ≡ length w.queue.items = rw e refl in grind arith)
+    (λ f rest w e r h. let z : suc (length (drop 1 (queue_of w (mark_in look)).items)) ≡ length (queue_of w (mark_in look)).items = rw e refl in grind arith)
 
-sweeps-search : (x : Ticker) (q : List ℕ) (w : World) (s : Sleeping) → w.queue.items ≡ q →
-    KeepsSweeps w (op.Tick (tick_op.Search s) ∷ []) (search_by x w q s)
-sweeps-search x [] w s e r h = grind arith
-sweeps-search Awake (f ∷ rest) w s e r h =
-    let z : suc (length (drop 1 w.queue.items)) ≡ length w.queue.items = rw e refl in grind arith
-sweeps-search (Asleep n) (f ∷ rest) w s e r h =
-    let z : suc (length (drop 1 w.queue.items)) ≡ length w.queue.items = rw e refl in grind arith
-sweeps-search Left (f ∷ rest) w s e r h =
-    let z : suc (length (drop 1 w.queue.items)) ≡ length w.queue.items = rw e refl in grind arith
+sweeps-search : (look : Look) (x : Ticker) (q : List ℕ) (w : World) (s : Sleeping) → (queue_of w (mark_in look)).items ≡ q →
+    KeepsSweeps w (op.Tick (tick_op.Look s look) ∷ []) (look_tick_by x w look q s)
+sweeps-search (First mark) x [] w s e r h = grind arith
+sweeps-search (Second mark) x [] w s e r h = grind arith
+sweeps-search look Awake (f ∷ rest) w s e r h =
+    let z : suc (length (drop 1 (queue_of w (mark_in look)).items)) ≡ length (queue_of w (mark_in look)).items = rw e refl in grind arith
+sweeps-search look (Asleep n) (f ∷ rest) w s e r h =
+    let z : suc (length (drop 1 (queue_of w (mark_in look)).items)) ≡ length (queue_of w (mark_in look)).items = rw e refl in grind arith
+sweeps-search look Left (f ∷ rest) w s e r h =
+    let z : suc (length (drop 1 (queue_of w (mark_in look)).items)) ≡ length (queue_of w (mark_in look)).items = rw e refl in grind arith
 
 -- a run takes from the queue at most
 sweeps-less : (w : World) (o : Op) (d : Done) → Kept w (o ∷ []) d → Fewer w d.world → NoSteps (o ∷ []) →
@@ -114,10 +119,10 @@ sweeps-run p h o w =
     (fewer w _ (takes-run p h o w)) (omega (arith, ap (λ (x : Row). x.ousting) (plain-run o)))
     (no-steps _ (plain-act p h (op.Run o) w refl))
 
-sweeps-search_who : (h : Hint) (who : TickOrRun) (w : World) (s : Sleeping) → s.who ≡ who →
-    KeepsSweeps w (op.Tick (tick_op.Search s) ∷ []) (search_by_who who w s)
-sweeps-search_who h (tick_or_run.Tick t) w s e = sweeps-search _ _ w s refl
-sweeps-search_who h (tick_or_run.Run q) w s e =
+sweeps-search_who : (h : Hint) (who : TickOrRun) (p : ℕ) (w : World) (s : Sleeping) → s.who ≡ who →
+    KeepsSweeps w (op.Tick (tick_op.Search s) ∷ []) (search_by_who who p w s)
+sweeps-search_who h (tick_or_run.Tick t) p w s e = sweeps-search _ _ w s refl
+sweeps-search_who h (tick_or_run.Run q) p w s e =
     let x : RunPoll = record { run = q; waker = s.waker; poll = s.poll } in
     sweeps-less w (op.Tick (tick_op.Search s)) (search_own w x) (by-search Kept kept-moves kept-put w q s e)
     (fewer w _ (takes-search w x)) refl (no-steps _ (plain-act 0 h
@@ -181,11 +186,11 @@ sweeps-wake_next = λ p w. by_list _
 sweeps-close : (w : World) → KeepsSweeps w (op.Closing closing_op.Close ∷ []) (close w)
 sweeps-close w r h = grind arith
 
-sweeps-drain : (q : List ℕ) (p : ℕ) (w : World) → w.queue.items ≡ q →
-    KeepsSweeps w (op.Closing closing_op.Drain ∷ []) (drain_by p w q)
-sweeps-drain = by_list _
-    (λ p w e r h. let z : length w.queue.items ≡ 0 = ap length e in grind arith)
-    (λ f rest p w e r h. let z : suc (length (drop 1 w.queue.items)) ≡ length w.queue.items = rw e refl in grind arith)
+sweeps-drain : (mark : Mark) (q : List ℕ) (p : ℕ) (w : World) → (queue_of w mark).items ≡ q →
+    KeepsSweeps w (op.Closing (closing_op.Drain mark) ∷ []) (drain_by p w mark q)
+sweeps-drain mark = by_list _
+    (λ p w e r h. let z : length (queue_of w mark).items ≡ 0 = ap length e in grind arith)
+    (λ f rest p w e r h. let z : suc (length (drop 1 (queue_of w mark).items)) ≡ length (queue_of w mark).items = rw e refl in grind arith)
 
 -- a leak goes on only before the drop begins, and there is no such step then
 sweeps-open : (w : World) (old : List Op) (d : Done) → w.gone ≡ false → d.world.gone ≡ false → NoSteps old →
@@ -225,16 +230,18 @@ sweeps-act : (b : Bool) (p : ℕ) (h : Hint) (o : Op) (w : World) → is_sweepin
     KeepsSweeps w (o ∷ []) (act p h o w)
 sweeps-act false p h o w n = sweeps-still w (o ∷ []) (act p h o w) (same-act p h o w n) (no-self o n)
     (no-act p h o w _ refl n)
-sweeps-act true p h (op.Queue queue_op.Take) w n = sweeps-take _ w refl
+sweeps-act true p h (op.Queue queue_op.TakeTurn) w n = refl
+sweeps-act true p h (op.Queue (queue_op.Take look)) w n = sweeps-take look _ w refl
 sweeps-act true p h (op.Queue (queue_op.Append f)) w n = sweeps-append _ w f (open-queue w.queue.closed _)
-sweeps-act true p h (op.Tick (tick_op.Search s)) w n = sweeps-search_who h s.who w s refl
+sweeps-act true p h (op.Tick (tick_op.Search s)) w n = sweeps-search_who h s.who p w s refl
+sweeps-act true p h (op.Tick (tick_op.Look s look)) w n = refl
 sweeps-act true p h (op.Steal o) w n = sweeps-steal p h o w
 sweeps-act true p h (op.Run o) w n = sweeps-run p h o w
 sweeps-act true p h (op.Closing closing_op.TakeOut) w n = sweeps-take_out _ _ w refl refl
 sweeps-act true p h (op.Closing closing_op.DropNext) w n = sweeps-drop_next p w _ refl
 sweeps-act true p h (op.Closing closing_op.WakeNext) w n = sweeps-wake_next p w _ refl
-sweeps-act true p h (op.Closing closing_op.Close) w n = sweeps-close w
-sweeps-act true p h (op.Closing closing_op.Drain) w n = sweeps-drain _ p w refl
+sweeps-act true p h (op.Closing (closing_op.Close mark)) w n = sweeps-close w
+sweeps-act true p h (op.Closing (closing_op.Drain mark)) w n = sweeps-drain mark _ p w refl
 sweeps-act true p h (op.Closing closing_op.LeakOut) w n = sweeps-leak_out w.is_static w.gone w refl
 sweeps-act true p h (op.Closing closing_op.LeakNext) w n = sweeps-leak_next _ p w _ refl
 sweeps-act true p h _ w n = absurd (cc)

@@ -4,6 +4,9 @@ use Rattle.std.proofs.Common.{◌≡◌, ℕ, ◌+◌, ◌<◌, List, [], ◌∷
 use Rattle.std.proofs.Common.{eqb, drop, arith}
 use Rattle.std.proofs.lemmas.Bool.Decides.{nat_tests}
 use Rattle.std.proofs.lemmas.List.{length-set, length-append}
+use Rattle.executor_model.specs.declared.op.Look.{Look}
+use Rattle.executor_model.specs.World.{queue_of}
+use Rattle.executor_model.specs.Acts.{mark_in}
 use Rattle.task_moves.specs.declared.moves.owed.Moved.{Moved}
 use Rattle.task_moves.specs.Moves as moves
 use Rattle.executor_model.specs.declared.event.Event.TheVariants as event
@@ -38,12 +41,12 @@ awaits-append = by_bool _
     (λ w f g r yy mm bb h. grind (arith, same_is, times-append))
     (λ w f g r yy mm bb h. grind (arith, same_is))
 
-pub awaits-take : (q : List ℕ) (w : World) → w.queue.items ≡ q →
-    KeepsAwaits w (op.Queue queue_op.Take ∷ []) (take_by w q)
-awaits-take = by_list _
+pub awaits-take : (look : Look) (q : List ℕ) (w : World) → (queue_of w (mark_in look)).items ≡ q →
+    KeepsAwaits w (op.Queue (queue_op.Take look) ∷ []) (take_by w look q)
+awaits-take look = by_list _
     (λ w e g r yy mm bb h. grind arith)
-    (λ f rest w e g r yy mm bb h. let z : same g f + times g (drop 1 w.queue.items) ≡ times g w.queue.items =
-    times-drop g f rest w.queue.items e in grind (arith, same_is))
+    (λ f rest w e g r yy mm bb h. let z : same g f + times g (drop 1 (queue_of w (mark_in look)).items) ≡ times g (queue_of w (mark_in look)).items =
+    times-drop g f rest (queue_of w (mark_in look)).items e in grind (arith, same_is))
 
 pub awaits-enter : (b c : Bool) (mark : Mark) (p : ℕ) (w : World) → length w.awaiters ≡ length w.tasks →
     KeepsAwaits w (op.Table (table_op.Enter mark) ∷ []) (enter_by b c mark p w)

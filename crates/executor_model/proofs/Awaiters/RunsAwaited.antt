@@ -89,10 +89,10 @@ pub awaits-list : (h : Hint) (o : ListOp) (w : World) → KeepsAwaits w (op.List
 awaits-list h o w = by-list KeepsAwaits awaits-moves awaits-kept h o w
 
 -- a tick looks at the executor's queue, a run at its own
-pub awaits-search_who : (who : TickOrRun) (w : World) (s : Sleeping) → s.who ≡ who →
-    KeepsAwaits w (op.Tick (tick_op.Search s) ∷ []) (search_by_who who w s)
-awaits-search_who (tick_or_run.Tick t) w s e = awaits-search _ _ w s refl
-awaits-search_who (tick_or_run.Run r) w s e = by-search KeepsAwaits awaits-moves awaits-kept w r s e
+pub awaits-search_who : (who : TickOrRun) (p : ℕ) (w : World) (s : Sleeping) → s.who ≡ who →
+    KeepsAwaits w (op.Tick (tick_op.Search s) ∷ []) (search_by_who who p w s)
+awaits-search_who (tick_or_run.Tick t) p w s e = awaits-search _ _ w s refl
+awaits-search_who (tick_or_run.Run r) p w s e = by-search KeepsAwaits awaits-moves awaits-kept w r s e
 
 abbrev ends : RunPoll → List Op
 ends x = op.End reply.Pending (hold.Run x.run) ∷ []

@@ -2,6 +2,7 @@
 -- What a run does takes from the executor's queue at most, and neither closes nor opens it.
 use Rattle.std.proofs.Common.{◌≡◌, ◌≤◌, ℕ, zero, suc, List, [], ◌∷◌, length, drop, Bool, true, false, refl, sym, ap, subst}
 use Rattle.std.proofs.Common.{arith}
+use Rattle.executor_model.specs.declared.op.Look.TheVariants.{First, Second}
 use Rattle.queue_steps.specs.ClosableQueue.{ClosableQueue, taken}
 use Rattle.executor_model.specs.declared.call.Reply.{Reply}
 use Rattle.executor_model.specs.declared.event.Event.{Event}
@@ -48,6 +49,7 @@ queue-found w x f = queue-counted _ w x f
 
 pub queue-stolen : (t : Then) (w : World) (x : RunPoll) → (stolen t w x).world.queues ≡ w.queues
 queue-stolen (then.Found f) w x = queue-found w x f
+queue-stolen (then.StealPlain f) w x = refl
 queue-stolen (then.Run f) w x = queue-run_by _ w x f
 queue-stolen (then.Walk at left) w x = refl
 
@@ -83,9 +85,10 @@ queue-own (f ∷ rest) w x = queue-found (put_own w x.run rest) x f
 pub takes-search : (w : World) (x : RunPoll) → Takes w (search_own w x).world
 takes-search w x = stays (queue-own _ w x)
 
-pub takes-common : (q : List ℕ) (w : World) (x : RunPoll) → Takes w (search_common_by q w x).world
-takes-common [] w x = stays refl
-takes-common (f ∷ rest) w x = first refl
+pub takes-common : (look : Look) (q : List ℕ) (w : World) (x : RunPoll) → Takes w (search_common_by q w x look).world
+takes-common (First mark) [] w x = stays refl
+takes-common (Second mark) [] w x = stays refl
+takes-common look (f ∷ rest) w x = first refl
 
 pub queue-look : (q : List ℕ) (w : World) (x : RunPoll) (at left : ℕ) → (look_own_by q w x at left).world.queues ≡ w.queues
 queue-look [] w x at left = refl
@@ -124,7 +127,8 @@ queue-by_reference p w (Outside y) = refl
 pub takes-run : (p : ℕ) (h : Hint) (o : RunOp) (w : World) → Takes w (run_act p h o w).world
 takes-run p h run_op.MakeRoom w = stays (queue-room h.refused w)
 takes-run p h run_op.ReturnRoom w = stays refl
-takes-run p h (run_op.SearchCommon x) w = takes-common _ w x
+takes-run p h (run_op.TakeTurn x) w = refl
+takes-run p h (run_op.SearchCommon x look) w = takes-common look _ w x
 takes-run p h (run_op.LookOwn x at left) w = stays (queue-look _ w x at left)
 takes-run p h (run_op.WakeOwn x) w =
     stays (queue-by_reference p (log w (event.WakerCalled p (of.Run x.run) x.poll x.waker)) x.waker)

@@ -78,5 +78,5 @@ rest_in x = record {
   gone = x.coat.gone;
 }
 
-pub tick-rest : (h : Hint) (o : TickOp) (w : World) → searches o ≡ false → rest_of w ≡ rest_of (tick_act h o w).world
-tick-rest h o w n = ap rest_in (wide-tick h o w n)
+pub tick-rest : (p : ℕ) (h : Hint) (o : TickOp) (w : World) → searches o ≡ false → rest_of w ≡ rest_of (tick_act p h o w).world
+tick-rest p h o w n = ap rest_in (wide-tick p h o w n)

@@ -4,6 +4,9 @@ use Rattle.std.proofs.Common.{◌≡◌, ℕ, ◌+◌, ◌≤◌, ◌<◌, List,
 use Rattle.std.proofs.Common.{drop, refl, sym, ap, ◌∙◌, subst, arith, length-append}
 use Rattle.std.proofs.Math.ListN.{length-set}
 use Rattle.std.specs.Prelude.{Option, Some, None, slice_set}
+use Rattle.executor_model.specs.declared.op.Look.{Look}
+use Rattle.executor_model.specs.World.{queue_of}
+use Rattle.executor_model.specs.Acts.{mark_in}
 use Rattle.executor_parts.specs.declared.mark.Mark.{Mark}
 use Rattle.task_moves.specs.declared.moves.state.State.{State}
 use Rattle.task_moves.specs.declared.moves.owed.Moved.{Moved}
@@ -102,11 +105,11 @@ grows-append = by_bool _
     (λ w f h k. grind arith)
     (λ w f h k. grind arith)
 
-pub grows-take : (q : List ℕ) (w : World) → w.queue.items ≡ q → Grows w (op.Queue queue_op.Take ∷ []) (take_by w q)
-grows-take = by_list _
+pub grows-take : (look : Look) (q : List ℕ) (w : World) → (queue_of w (mark_in look)).items ≡ q → Grows w (op.Queue (queue_op.Take look) ∷ []) (take_by w look q)
+grows-take look = by_list _
     (λ w e h k. grind arith)
-    (λ f rest w e h k. let z : past (length w.tasks) f + pasts (length w.tasks) (drop 1 w.queue.items)
-    ≡ pasts (length w.tasks) w.queue.items = pasts-drop (length w.tasks) f rest w.queue.items e in grind arith)
+    (λ f rest w e h k. let z : past (length w.tasks) f + pasts (length w.tasks) (drop 1 (queue_of w (mark_in look)).items)
+    ≡ pasts (length w.tasks) (queue_of w (mark_in look)).items = pasts-drop (length w.tasks) f rest (queue_of w (mark_in look)).items e in grind arith)
 
 pub grows-enter : (b c : Bool) (mark : Mark) (p : ℕ) (w : World) → Grows w (op.Table (table_op.Enter mark) ∷ []) (enter_by b c mark p w)
 grows-enter = by_bool _
@@ -360,12 +363,12 @@ grows-wake_next p w (f ∷ rest) e h k =
     (grows-carried w (log_if b v (event.Woken p f)) f (moves.wake (task w f)) (same-log b v (event.Woken p f))
     (fits-log b v (event.Woken p f) fv) (omega (arith, z)))
 
-pub grows-drain : (q : List ℕ) (p : ℕ) (w : World) → w.queue.items ≡ q →
-    Grows w (op.Closing closing_op.Drain ∷ []) (drain_by p w q)
-grows-drain = by_list _
+pub grows-drain : (mark : Mark) (q : List ℕ) (p : ℕ) (w : World) → (queue_of w mark).items ≡ q →
+    Grows w (op.Closing (closing_op.Drain mark) ∷ []) (drain_by p w mark q)
+grows-drain mark = by_list _
     (λ p w e h k. grind arith)
-    (λ f rest p w e h k. let z : past (length w.tasks) f + pasts (length w.tasks) (drop 1 w.queue.items)
-    ≡ pasts (length w.tasks) w.queue.items = pasts-drop (length w.tasks) f rest w.queue.items e in grind arith)
+    (λ f rest p w e h k. let z : past (length w.tasks) f + pasts (length w.tasks) (drop 1 (queue_of w mark).items)
+    ≡ pasts (length w.tasks) (queue_of w mark).items = pasts-drop (length w.tasks) f rest (queue_of w mark).items e in grind arith)
 
 pub grows-same : (w : World) (os : List Op) → Grows w os (done w os)
 grows-same w os h k = grind arith

@@ -74,7 +74,8 @@ quiet-empty : (r : ℕ) (o : Op) → is_loud o ≡ false → empty_of r o ≡ 0
 quiet-empty r (op.Tick (tick_op.CopyWaker s)) e = absurd (cc)
 quiet-empty r (op.Tick (tick_op.FallAsleep s)) e = absurd (cc)
 quiet-empty r (op.List o) e = absurd (cc)
-quiet-empty r (op.Run (run_op.SearchCommon x)) e = absurd (cc)
+quiet-empty r (op.Run (run_op.TakeTurn x)) e = absurd (cc)
+quiet-empty r (op.Run (run_op.SearchCommon x look)) e = absurd (cc)
 quiet-empty r _ e = refl
 
 stays-of : (w : World) (o : Op) (d : Done) → Shorter w d.world →
@@ -170,7 +171,8 @@ empty-way s p old rest d (called c q r n z) =
 
 -- who has found the own queue empty uses the run
 empty-uses : (r : ℕ) (o : Op) → running_of r o ≡ 0 → empty_of r o ≡ 0
-empty-uses r (op.Run (run_op.SearchCommon x)) z = z
+empty-uses r (op.Run (run_op.TakeTurn x)) z = z
+empty-uses r (op.Run (run_op.SearchCommon x look)) z = z
 empty-uses r (op.List (list_op.LockRead x)) z = z
 empty-uses r (op.Tick (tick_op.CopyWaker s)) z = z
 empty-uses r (op.Tick (tick_op.FallAsleep s)) z = z

@@ -64,6 +64,7 @@ keeps_run r _ = 0
 abbrev pub keeps_of : ℕ → Op → ℕ
 keeps_of r (op.User (user_op.PollOwn x)) = same r x.run
 keeps_of r (op.Tick (tick_op.Search s)) = is_run r s.who
+keeps_of r (op.Tick (tick_op.Look s look)) = is_run r s.who
 keeps_of r (op.List o) = keeps_list r o
 keeps_of r (op.Steal o) = same r (poll_in o).run
 keeps_of r (op.Run o) = keeps_run r o
@@ -72,6 +73,7 @@ keeps_of r _ = 0
 pub keeps-uses : (r : ℕ) (o : Op) → keeps_of r o ≤ running_of r o
 keeps-uses r (op.User (user_op.PollOwn x)) = omega arith
 keeps-uses r (op.Tick (tick_op.Search s)) = omega arith
+keeps-uses r (op.Tick (tick_op.Look s look)) = omega arith
 keeps-uses r (op.List (list_op.LockWrite section.MakeRun)) = omega arith
 keeps-uses r (op.List (list_op.Write section.MakeRun)) = omega arith
 keeps-uses r (op.Steal (steal_op.Length s)) = omega arith
@@ -98,6 +100,7 @@ stays w old d s f = record { on = λ r z p l. inl (omega (arith, l, s.own r), f 
 quiet-keeps : (r : ℕ) (o : Op) → is_loud o ≡ false → keeps_of r o ≡ 0
 quiet-keeps r (op.User (user_op.PollOwn x)) e = absurd (cc)
 quiet-keeps r (op.Tick (tick_op.Search s)) e = absurd (cc)
+quiet-keeps r (op.Tick (tick_op.Look s look)) e = absurd (cc)
 quiet-keeps r (op.List o) e = absurd (cc)
 quiet-keeps r (op.Steal o) e = absurd (cc)
 quiet-keeps r (op.Run (run_op.LookOwn x at left)) e = absurd (cc)
@@ -141,6 +144,7 @@ missing-keeps r q o os _ = omega arith
 leads-keeps : (r : ℕ) (o : Op) (os : List Op) → Leads o os → keeps_of r o ≤ weigh (keeps_of r) os
 leads-keeps r o os (quiet _ e) = omega (arith, quiet-keeps r o e)
 leads-keeps r o os (slumbering (tick_op.Search s) e) = absurd (cc)
+leads-keeps r o os (slumbering (tick_op.Look s look) e) = absurd (cc)
 leads-keeps r o os (hits s t e) = omega (arith, ap (is_run r) e)
 leads-keeps r o os (copies s t e) = omega (arith, ap (is_run r) e)
 leads-keeps r o os (finds x z) = omega (arith, stole-keeps r x 0 os z)

@@ -3,6 +3,8 @@
 use Rattle.std.proofs.Common.{◌≡◌, ◌∙◌, ◌+◌, ℕ, zero, suc, List, [], ◌∷◌, ◌++◌, get_or, set, Bool, true, false}
 use Rattle.std.proofs.Common.{refl, sym, ap, arith}
 use Rattle.std.specs.Prelude.{Option, Some, None}
+use Rattle.executor_parts.specs.declared.mark.Mark.TheVariants.{Plain, Urgent}
+use Rattle.executor_model.specs.declared.op.Look.TheVariants.{First, Second}
 use Rattle.executor_parts.specs.declared.mark.Mark.{Mark}
 use Rattle.task_moves.specs.Moves as moves
 use Rattle.task_moves.specs.declared.moves.owed.Answer.{Answer}
@@ -311,8 +313,8 @@ is_lone (op.Tick o) = false
 is_lone (op.List o) = false
 is_lone (op.Steal o) = false
 is_lone (op.Run o) = false
-is_lone (op.Closing closing_op.Close) = false
-is_lone (op.Closing closing_op.Drain) = false
+is_lone (op.Closing (closing_op.Close mark)) = false
+is_lone (op.Closing (closing_op.Drain mark)) = false
 is_lone _ = true
 
 pub frame-act : (p : ℕ) (h : Hint) (o : Op) (w : World) → is_lone o ≡ true → Frame w (act p h o w)
@@ -345,8 +347,8 @@ frame-act p h (op.Tick o) w n = absurd (cc)
 frame-act p h (op.List o) w n = absurd (cc)
 frame-act p h (op.Steal o) w n = absurd (cc)
 frame-act p h (op.Run o) w n = absurd (cc)
-frame-act p h (op.Closing closing_op.Close) w n = absurd (cc)
-frame-act p h (op.Closing closing_op.Drain) w n = absurd (cc)
+frame-act p h (op.Closing (closing_op.Close mark)) w n = absurd (cc)
+frame-act p h (op.Closing (closing_op.Drain mark)) w n = absurd (cc)
 frame-act p h _ w n = frame w _ refl refl
 
 -- it stays, and nothing of a run or tick follows
@@ -371,13 +373,15 @@ apart-frame w d f = apart w d (ap coat_of f.rest)
 
 -- the queue, and who hands out
 
-apart-take : (q : List ℕ) (w : World) → Apart w (acts.take_by w q)
-apart-take [] w = apart w _ refl refl
-apart-take (f ∷ rest) w = apart w _ refl refl
+apart-take : (look : Look) (q : List ℕ) (w : World) → Apart w (acts.take_by w look q)
+apart-take (First mark) [] w = apart w _ refl refl
+apart-take (Second mark) [] w = apart w _ refl refl
+apart-take look (f ∷ rest) w = apart w _ refl refl
 
-apart-drain : (p : ℕ) (w : World) (q : List ℕ) → Apart w (acts.drain_by p w q)
-apart-drain p w [] = apart w _ refl refl
-apart-drain p w (f ∷ rest) = apart w _ refl refl
+apart-drain : (mark : Mark) (p : ℕ) (w : World) (q : List ℕ) → Apart w (acts.drain_by p w mark q)
+apart-drain Urgent p w [] = apart w _ refl refl
+apart-drain Plain p w [] = apart w _ refl refl
+apart-drain mark p w (f ∷ rest) = apart w _ refl refl
 
 apart-append : (b : Bool) (w : World) (f : ℕ) → Apart w (acts.append_by b w f)
 apart-append true w f = apart w _ refl refl
@@ -393,7 +397,8 @@ apart-hand_out true None w = apart w _ refl refl
 apart-hand_out true (Some s) w = apart w _ refl refl
 
 pub apart-act : (p : ℕ) (h : Hint) (o : Op) (w : World) → is_run o ≡ false → Apart w (act p h o w)
-apart-act p h (op.Queue queue_op.Take) w n = apart-take _ w
+apart-act p h (op.Queue queue_op.TakeTurn) w n = refl
+apart-act p h (op.Queue (queue_op.Take look)) w n = apart-take look _ w
 apart-act p h (op.Queue (queue_op.Append f)) w n = apart-append _ w f
 apart-act p h (op.User (user_op.PollOwn x)) w n = absurd (cc)
 apart-act p h (op.Sleeper sleeper_op.ExchangeFlag) w n = apart-exchange _ w
@@ -402,8 +407,8 @@ apart-act p h (op.Tick o) w n = absurd (cc)
 apart-act p h (op.List o) w n = absurd (cc)
 apart-act p h (op.Steal o) w n = absurd (cc)
 apart-act p h (op.Run o) w n = absurd (cc)
-apart-act p h (op.Closing closing_op.Close) w n = apart w _ refl refl
-apart-act p h (op.Closing closing_op.Drain) w n = apart-drain p w _
+apart-act p h (op.Closing (closing_op.Close mark)) w n = apart w _ refl refl
+apart-act p h (op.Closing (closing_op.Drain mark)) w n = apart-drain mark p w _
 apart-act p h o w n = apart-frame w (act p h o w) (frame-act p h o w refl)
 
 -- a count that is nothing where none of these is

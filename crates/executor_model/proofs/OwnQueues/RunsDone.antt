@@ -5,6 +5,7 @@ use Rattle.std.proofs.Common.{◌≡◌, ℕ, zero, suc, ◌+◌, ◌/◌, ◌�
 use Rattle.std.proofs.Common.{cond, refl, sym, subst, arith, ◌∙◌}
 use Rattle.std.proofs.lemmas.Bool.Decides.{nat_tests}
 use Rattle.std.specs.Prelude.{Option, Some, None, is_none}
+use Rattle.executor_model.specs.declared.op.Look.TheVariants.{First, Second}
 use Rattle.executor_parts.specs.Sleepers.{waker_at, waker_of}
 use Rattle.task_moves.specs.declared.moves.owed.Move.TheVariants as move
 use Rattle.executor_model.specs.declared.call.Reply.{Reply}
@@ -41,7 +42,7 @@ use Rattle.executor_model.specs.Acts.{is_copy_refused, waker_goes}
 use Rattle.executor_model.specs.ActsOfRuns as runs
 use Rattle.executor_model.specs.ActsOfSleepers.{copy_sleeper_by, found_by, wake_up_by, leave_sleepers_by, sleep_again_by}
 use Rattle.executor_model.specs.ActsOfSleepers.{sleep_anew_by, fall_asleep_by, sleep_listed_by, make_tick_by, pend_as}
-use Rattle.executor_model.specs.ActsOfSleepers.{search_by, sleeper_goes, tell_and_return}
+use Rattle.executor_model.specs.ActsOfSleepers.{look_tick_by, sleeper_goes, tell_and_return}
 use Rattle.executor_model.specs.Doing.{act, list_act, run_act, search_by_who, steal_act, tick_act}
 use Rattle.executor_model.specs.OwnQueues.{walks_steal, walks_then}
 use Rattle.executor_model.specs.Weights.{weigh}
@@ -55,6 +56,7 @@ use Rattle.executor_model.proofs.OwnQueues.RunsMoving.{coat-tick, is_search, wal
 
 abbrev pub is_loud_tick : TickOp → Bool
 is_loud_tick (tick_op.Search s) = true
+is_loud_tick (tick_op.Look s look) = true
 is_loud_tick (tick_op.CopyWaker s) = true
 is_loud_tick (tick_op.FallAsleep s) = true
 is_loud_tick _ = false
@@ -212,6 +214,7 @@ stole-found w x f =
 
 pub stole-by : (t : Then) (w : World) (x : RunPoll) → Stole x (walks_then t) (loud (runs.stolen t w x).next)
 stole-by (then.Found f) w x = stole-found w x f
+stole-by (then.StealPlain f) w x = refl
 stole-by (then.Run f) w x = stole-run_by _ w x f
 stole-by (then.Walk at left) w x = to_walk at left
 
@@ -260,10 +263,11 @@ deed-steal p (steal_op.Put s k f) w = deed-put _ p w s k f
 
 -- what a run alone does
 
-deed-common : (q : List ℕ) (w : World) (x : RunPoll) →
-    Deed w (op.Run (run_op.SearchCommon x)) (runs.search_common_by q w x)
-deed-common [] w x = keeps refl (locks x)
-deed-common (f ∷ rest) w x = keeps refl (common x f)
+deed-common : (look : Look) (q : List ℕ) (w : World) (x : RunPoll) →
+    Deed w (op.Run (run_op.SearchCommon x look)) (runs.search_common_by q w x look)
+deed-common (First mark) [] w x = keeps refl (locks x)
+deed-common (Second mark) [] w x = keeps refl (locks x)
+deed-common look (f ∷ rest) w x = keeps refl (common x f)
 
 deed-look : (q : List ℕ) (w : World) (x : RunPoll) (at left : ℕ) → own_of w x.run ≡ q →
     Deed w (op.Run (run_op.LookOwn x at left)) (runs.look_own_by q w x at left)
@@ -302,7 +306,8 @@ deed-wake p w (Task g) r k =
 deed-run : (p : ℕ) (h : Hint) (o : RunOp) (w : World) → Deed w (op.Run o) (run_act p h o w)
 deed-run p h run_op.MakeRoom w = deed-room _ w
 deed-run p h run_op.ReturnRoom w = keeps refl (quiet _ refl)
-deed-run p h (run_op.SearchCommon x) w = deed-common _ w x
+deed-run p h (run_op.TakeTurn x) w = refl
+deed-run p h (run_op.SearchCommon x look) w = deed-common look _ w x
 deed-run p h (run_op.LookOwn x at left) w = deed-look _ w x at left refl
 deed-run p h (run_op.WakeOwn x) w = deed-wake p w x.waker x.run x.poll
 deed-run p h (run_op.Reschedule r a) w = deed-reschedule _ w r a refl
@@ -372,12 +377,13 @@ leads-make : (b : Bool) (w : World) → Leads (op.Tick tick_op.MakeTick) (loud (
 leads-make true w = slumbering _ refl
 leads-make false w = slumbering _ refl
 
-leads-search : (x : Ticker) (q : List ℕ) (w : World) (s : Sleeping) (t : ℕ) → s.who ≡ tick_or_run.Tick t →
-    Leads (op.Tick (tick_op.Search s)) (loud (search_by x w q s).next)
-leads-search x [] w s t e = copies s t e
-leads-search Awake (f ∷ rest) w s t e = hits s t e
-leads-search (Asleep n) (f ∷ rest) w s t e = hits s t e
-leads-search Left (f ∷ rest) w s t e = hits s t e
+leads-search : (look : Look) (x : Ticker) (q : List ℕ) (w : World) (s : Sleeping) (t : ℕ) → s.who ≡ tick_or_run.Tick t →
+    Leads (op.Tick (tick_op.Look s look)) (loud (look_tick_by x w look q s).next)
+leads-search (First mark) x [] w s t e = copies s t e
+leads-search (Second mark) x [] w s t e = copies s t e
+leads-search look Awake (f ∷ rest) w s t e = hits s t e
+leads-search look (Asleep n) (f ∷ rest) w s t e = hits s t e
+leads-search look Left (f ∷ rest) w s t e = hits s t e
 
 deed-own : (q : List ℕ) (w : World) (x : RunPoll) → own_of w x.run ≡ q →
     Deed w (op.Tick (tick_op.Search (runs.asleep x))) (runs.search_own_by q w x)
@@ -387,20 +393,21 @@ deed-own (f ∷ rest) w x e =
 
 deed-search : (who : TickOrRun) (a : Waker) (k : ℕ) (w : World) →
     Deed w (op.Tick (tick_op.Search (record { waker = a; who = who; poll = k })))
-    (search_by_who who w (record { waker = a; who = who; poll = k }))
+    (search_by_who who p w (record { waker = a; who = who; poll = k }))
 deed-search (tick_or_run.Tick t) a k w =
     let s : Sleeping = record { waker = a; who = tick_or_run.Tick t; poll = k } in
     keeps (coat-search (place_of w s.who) w.queue.items w s) (leads-search (place_of w s.who) w.queue.items w s t refl)
 deed-search (tick_or_run.Run r) a k w = deed-own _ w (record { run = r; waker = a; poll = k }) refl
 
-deed-tick : (h : Hint) (o : TickOp) (w : World) → Deed w (op.Tick o) (tick_act h o w)
-deed-tick h (tick_op.Search s) w = deed-search s.who s.waker s.poll w
-deed-tick h tick_op.MakeTick w = keeps (coat-tick h tick_op.MakeTick w refl) (leads-make h.refused w)
-deed-tick h (tick_op.CopyWaker s) w =
-    keeps (coat-tick h (tick_op.CopyWaker s) w refl) (leads-copy (is_copy_refused h w s.waker) w s)
-deed-tick h (tick_op.FallAsleep s) w = keeps (coat-tick h (tick_op.FallAsleep s) w refl) (leads-sleep (place_of w s.who) w s)
-deed-tick h (tick_op.WakeUp t) w = keeps (coat-tick h (tick_op.WakeUp t) w refl) (leads-up (place_of w t) w t)
-deed-tick h (tick_op.Leave t) w = keeps (coat-tick h (tick_op.Leave t) w refl) (leads-leave (place_of w t) w t)
+deed-tick : (p : ℕ) (h : Hint) (o : TickOp) (w : World) → Deed w (op.Tick o) (tick_act p h o w)
+deed-tick p h (tick_op.Search s) w = deed-search s.who s.waker s.poll w
+deed-tick p h (tick_op.Look s look) w = refl
+deed-tick p h tick_op.MakeTick w = keeps (coat-tick p h tick_op.MakeTick w refl) (leads-make h.refused w)
+deed-tick p h (tick_op.CopyWaker s) w =
+    keeps (coat-tick p h (tick_op.CopyWaker s) w refl) (leads-copy (is_copy_refused h w s.waker) w s)
+deed-tick p h (tick_op.FallAsleep s) w = keeps (coat-tick p h (tick_op.FallAsleep s) w refl) (leads-sleep (place_of w s.who) w s)
+deed-tick p h (tick_op.WakeUp t) w = keeps (coat-tick p h (tick_op.WakeUp t) w refl) (leads-up (place_of w t) w t)
+deed-tick p h (tick_op.Leave t) w = keeps (coat-tick p h (tick_op.Leave t) w refl) (leads-leave (place_of w t) w t)
 
 -- each thing to do
 
@@ -409,7 +416,7 @@ deed-by false p h o w e =
     let a = apart-act p h o w e in
     keeps a.coat (subst (Leads o) (sym (quiet-all (act p h o w).next a.runs)) (quiet o (quiet-aside o e)))
 deed-by true p h (op.User (user_op.PollOwn x)) w e = keeps refl (polls x)
-deed-by true p h (op.Tick o) w e = deed-tick h o w
+deed-by true p h (op.Tick o) w e = deed-tick p h o w
 deed-by true p h (op.List o) w e = lists h o
 deed-by true p h (op.Steal o) w e = deed-steal p o w
 deed-by true p h (op.Run o) w e = deed-run p h o w

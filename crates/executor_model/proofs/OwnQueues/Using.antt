@@ -4,6 +4,7 @@
 use Rattle.std.proofs.Common.{◌≡◌, ◌≤◌, ℕ, List, [], ◌∷◌, ◌++◌, length, Bool, true, false}
 use Rattle.std.proofs.Common.{refl, arith}
 use Rattle.std.specs.Prelude.{Option, Some, None}
+use Rattle.executor_model.specs.declared.op.Look.TheVariants.{First, Second}
 use Rattle.executor_parts.specs.declared.mark.Mark.{Mark}
 use Rattle.task_moves.specs.declared.moves.owed.Answer.{Answer}
 use Rattle.task_moves.specs.declared.moves.owed.Move.TheVariants as move
@@ -62,13 +63,15 @@ polling_list r (list_op.LockRead x) = same r x.run
 polling_list r _ = 0
 
 abbrev pub polling_run : ℕ → RunOp → ℕ
-polling_run r (run_op.SearchCommon x) = same r x.run
+polling_run r (run_op.TakeTurn x) = same r x.run
+polling_run r (run_op.SearchCommon x look) = same r x.run
 polling_run r (run_op.LookOwn x at left) = same r x.run
 polling_run r (run_op.WakeOwn x) = same r x.run
 polling_run r _ = 0
 
 abbrev pub polling_of : ℕ → Op → ℕ
 polling_of r (op.Tick (tick_op.Search s)) = is_run r s.who
+polling_of r (op.Tick (tick_op.Look s look)) = is_run r s.who
 polling_of r (op.Tick (tick_op.CopyWaker s)) = is_run r s.who
 polling_of r (op.Tick (tick_op.FallAsleep s)) = is_run r s.who
 polling_of r (op.User (user_op.PollOwn x)) = same r x.run
@@ -99,6 +102,7 @@ lending_of r _ = 0
 -- what uses a run, or may
 abbrev pub is_for_runs : Op → Bool
 is_for_runs (op.Tick (tick_op.Search s)) = true
+is_for_runs (op.Tick (tick_op.Look s look)) = true
 is_for_runs (op.Tick (tick_op.CopyWaker s)) = true
 is_for_runs (op.Tick (tick_op.FallAsleep s)) = true
 is_for_runs (op.User (user_op.PollOwn x)) = true
@@ -136,12 +140,14 @@ section-few r (section.Unregister q a) = same-few r q
 running-few : (r : ℕ) (o : Op) → running_of r o ≤ calling_of o
 running-few r (op.Move move.Wake f) = omega arith
 running-few r (op.Table (table_op.Enter mark)) = omega arith
-running-few r (op.Queue queue_op.Take) = omega arith
+running-few r (op.Queue queue_op.TakeTurn) = omega arith
+running-few r (op.Queue (queue_op.Take look)) = omega arith
 running-few r (op.User (user_op.PollOwn x)) = same-few r x.run
 running-few r (op.Waker (waker_op.CopyWaker f held)) = omega arith
 running-few r (op.Handle (handle_op.LookAgain f)) = omega arith
 running-few r (op.Sleeper sleeper_op.HandOut) = omega arith
 running-few r (op.Tick (tick_op.Search s)) = is-few r s.who
+running-few r (op.Tick (tick_op.Look s look)) = is-few r s.who
 running-few r (op.Tick (tick_op.CopyWaker s)) = is-few r s.who
 running-few r (op.Tick (tick_op.FallAsleep s)) = is-few r s.who
 running-few r (op.List (list_op.LockWrite s)) = section-few r s
@@ -151,21 +157,24 @@ running-few r (op.Steal (steal_op.Length s)) = same-few r s.poll.run
 running-few r (op.Steal (steal_op.OwnLength s n)) = same-few r s.poll.run
 running-few r (op.Steal (steal_op.Take s more)) = same-few r s.poll.run
 running-few r (op.Steal (steal_op.Put s more f)) = same-few r s.poll.run
-running-few r (op.Run (run_op.SearchCommon x)) = same-few r x.run
+running-few r (op.Run (run_op.TakeTurn x)) = same-few r x.run
+running-few r (op.Run (run_op.SearchCommon x look)) = same-few r x.run
 running-few r (op.Run (run_op.LookOwn x at left)) = same-few r x.run
 running-few r (op.Run (run_op.WakeOwn x)) = same-few r x.run
 running-few r (op.Run (run_op.Reschedule q a)) = same-few r q
-running-few r (op.Closing closing_op.Drain) = omega arith
+running-few r (op.Closing (closing_op.Drain mark)) = omega arith
 running-few r (op.End a held) = holds-few r held
 running-few r _ = omega arith
 
 pub polling-uses : (r : ℕ) (o : Op) → polling_of r o ≤ running_of r o
 polling-uses r (op.Tick (tick_op.Search s)) = omega arith
+polling-uses r (op.Tick (tick_op.Look s look)) = omega arith
 polling-uses r (op.User (user_op.PollOwn x)) = omega arith
 polling-uses r (op.List (list_op.LockWrite section.MakeRun)) = omega arith
 polling-uses r (op.List (list_op.Write section.MakeRun)) = omega arith
 polling-uses r (op.Steal (steal_op.Length s)) = omega arith
-polling-uses r (op.Run (run_op.SearchCommon x)) = omega arith
+polling-uses r (op.Run (run_op.TakeTurn x)) = omega arith
+polling-uses r (op.Run (run_op.SearchCommon x look)) = omega arith
 polling-uses r _ = omega arith
 
 pub emptying-uses : (r : ℕ) (o : Op) → emptying_of r o ≤ running_of r o
@@ -227,9 +236,10 @@ module _ (v : Op → ℕ) (m : Mild v) where
     goes = λ f. mild-none (op.Handle (handle_op.LetGo f)) refl;
   }
 
-  mild-take : (q : List ℕ) (w : World) → weigh v (acts.take_by w q).next ≡ 0
-  mild-take [] w = omega (arith, m.executor)
-  mild-take (f ∷ rest) w = omega (
+  mild-take : (look : Look) (q : List ℕ) (w : World) → weigh v (acts.take_by w look q).next ≡ 0
+  mild-take (First mark) [] w = omega (arith, m.executor)
+  mild-take (Second mark) [] w = omega (arith, m.executor)
+  mild-take look (f ∷ rest) w = omega (
     arith,
     m.executor,
     mild-none (op.Sleeper sleeper_op.ExchangeFlag) refl,
@@ -289,7 +299,8 @@ module _ (v : Op → ℕ) (m : Mild v) where
 
   pub mild-next : (p : ℕ) (h : Hint) (o : Op) (w : World) → is_for_runs o ≡ false → weigh v (act p h o w).next ≡ 0
   mild-next p h (op.Table (table_op.Enter mark)) w n = mild-enter _ _ _ p w
-  mild-next p h (op.Queue queue_op.Take) w n = mild-take _ w
+  mild-next p h (op.Queue queue_op.TakeTurn) w n = refl
+  mild-next p h (op.Queue (queue_op.Take look)) w n = mild-take look _ w
   mild-next p h (op.Table table_op.LookAtTable) w n = omega (arith, m.executor (acts.emptiness w.table))
   mild-next p h (op.Handle (handle_op.Look f a)) w n =
       mild-look (moves.poll (task w f)).owed.answer p w f a (moves.poll (task w f))
@@ -300,6 +311,7 @@ module _ (v : Op → ℕ) (m : Mild v) where
       mild-again (moves.look_again (task w f)).owed.answer p w f (moves.look_again (task w f))
   mild-next p h (op.Tick tick_op.MakeTick) w n = mild-make h.refused w
   mild-next p h (op.Tick (tick_op.Search s)) w n = absurd (cc)
+  mild-next p h (op.Tick (tick_op.Look s look)) w n = absurd (cc)
   mild-next p h (op.Tick (tick_op.CopyWaker s)) w n = absurd (cc)
   mild-next p h (op.Tick (tick_op.FallAsleep s)) w n = absurd (cc)
   mild-next p h (op.User (user_op.PollOwn x)) w n = absurd (cc)

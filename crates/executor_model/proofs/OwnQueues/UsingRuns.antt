@@ -2,6 +2,7 @@
 -- What a part of a run's poll leads to, counted by a count that sees each part of it alike.
 use Rattle.std.proofs.Common.{◌≡◌, ℕ, zero, suc, ◌+◌, List, [], ◌∷◌, length, set, get_or, Bool, true, false, eqb}
 use Rattle.std.proofs.Common.{refl, ap, ◌∙◌, arith}
+use Rattle.executor_model.specs.declared.op.Look.TheVariants.{First, Second}
 use Rattle.task_moves.specs.declared.moves.owed.Move.TheVariants as move
 use Rattle.executor_model.specs.declared.op.ListOp.{ListOp}
 use Rattle.executor_model.specs.declared.op.ListOp.TheVariants as list_op
@@ -87,6 +88,7 @@ module _ (v : Op → ℕ) (m : Mild v) (x : RunPoll) (n : ℕ) (c : Part v x n) 
 
   part-stolen : (t : Then) (w : World) → weigh v (stolen t w x).next ≡ n
   part-stolen (then.Found f) w = part-found w f
+  part-stolen (then.StealPlain f) w = refl
   part-stolen (then.Run f) w = part-run_by _ w f
   part-stolen (then.Walk at left) w = omega (arith, c.look at left)
 
@@ -129,9 +131,10 @@ module _ (v : Op → ℕ) (m : Mild v) (x : RunPoll) (n : ℕ) (c : Part v x n) 
   part-own [] w = omega (arith, c.common)
   part-own (f ∷ rest) w = part-found (put_own w x.run rest) f
 
-  pub part-common : (q : List ℕ) (w : World) → weigh v (search_common_by q w x).next ≡ n
-  part-common [] w = omega (arith, c.lock)
-  part-common (f ∷ rest) w = omega (arith, c.begin Common (then.Found f))
+  pub part-common : (look : Look) (q : List ℕ) (w : World) → weigh v (search_common_by q w x look).next ≡ n
+  part-common (First mark) [] w = omega (arith, c.lock)
+  part-common (Second mark) [] w = omega (arith, c.lock)
+  part-common look (f ∷ rest) w = omega (arith, c.begin Common (then.Found f))
 
   pub part-look : (q : List ℕ) (w : World) (at left : ℕ) → weigh v (look_own_by q w x at left).next ≡ n
   part-look [] w at left = part-walk w.listed at left
@@ -179,8 +182,8 @@ idle-stolen t w x = idle-coat w (stolen t w x).world (coat-stolen t w x)
 pub idle-more : (n : ℕ) (w : World) (s : Steal) → Idle w (steal_by n w s).world
 idle-more n w s = idle-coat w (steal_by n w s).world (coat-more n w s)
 
-pub idle-common : (q : List ℕ) (w : World) (x : RunPoll) → Idle w (search_common_by q w x).world
-idle-common q w x = idle-coat w (search_common_by q w x).world (coat-common q w x)
+pub idle-common : (look : Look) (q : List ℕ) (w : World) (x : RunPoll) → Idle w (search_common_by q w x look).world
+idle-common look q w x = idle-coat w (search_common_by q w x look).world (coat-common q w x)
 
 -- all but what is done to the list, and the end of a steal that comes into an own queue
 abbrev pub is_even : Op → Bool

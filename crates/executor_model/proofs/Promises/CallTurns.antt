@@ -2,6 +2,9 @@
 -- Calls do what they say: each thing that is done for a call does its part of what that promises.
 use Rattle.std.proofs.Common.{◌≡◌, ◌≢◌, ◌⊎◌, ◌∙◌, ℕ, ◌+◌, ◌≤◌, List, [], ◌∷◌, ◌++◌, length, Bool, true, false, ◌&&◌}
 use Rattle.std.proofs.Common.{append_assoc, eqb, not, inl, inr, ⊎_elim, refl, sym, ap, subst, arith}
+use Rattle.executor_parts.specs.declared.mark.Mark.TheVariants.{Plain, Urgent}
+use Rattle.executor_parts.specs.declared.mark.Mark.{Mark}
+use Rattle.executor_model.specs.World.{queue_of}
 use Rattle.task_moves.specs.Moves as moves
 use Rattle.task_moves.specs.Moves.{is_over}
 use Rattle.task_moves.specs.declared.moves.owed.Move.TheVariants as move
@@ -176,11 +179,13 @@ wakes-on (f ∷ rest) p w k =
     let v : World = record w { waking = rest } in
     omega (arith, weigh-append closes_of (wake p v f).next (closing_ops [] rest), one-closes [] rest)
 
-drains-on : (q : List ℕ) (p : ℕ) (w : World) (more : Trace) → (drain_by p w q).world.trace ≡ w.trace ++ more →
-    (1 ≤ weigh closes_of (drain_by p w q).next) ⊎ (has is_drop_ended more ≡ true)
-drains-on [] p w more t = inr (subst (λ (x : Trace). has is_drop_ended x ≡ true)
+drains-on : (mark : Mark) (q : List ℕ) (p : ℕ) (w : World) (more : Trace) → (drain_by p w mark q).world.trace ≡ w.trace ++ more →
+    (1 ≤ weigh closes_of (drain_by p w mark q).next) ⊎ (has is_drop_ended more ≡ true)
+drains-on Urgent [] p w more t = inr (subst (λ (x : Trace). has is_drop_ended x ≡ true)
     (added w.trace more (event.DropEnded p ∷ []) _ t refl) refl)
-drains-on (f ∷ rest) p w more t = inl (omega arith)
+drains-on Plain [] p w more t = inr (subst (λ (x : Trace). has is_drop_ended x ≡ true)
+    (added w.trace more (event.DropEnded p ∷ []) _ t refl) refl)
+drains-on mark (f ∷ rest) p w more t = inl (omega arith)
 
 close-turn : (p : ℕ) (h : Hint) (o : Op) (w : World) (more : Trace) → Finds w o →
     (act p h o w).world.trace ≡ w.trace ++ more →
@@ -188,8 +193,8 @@ close-turn : (p : ℕ) (h : Hint) (o : Op) (w : World) (more : Trace) → Finds 
 close-turn p h (op.Closing closing_op.TakeOut) w more k t = inl (omega (arith, one-closes w.table w.waking))
 close-turn p h (op.Closing closing_op.DropNext) w more k t = inl (drops-on w.leaving p w k)
 close-turn p h (op.Closing closing_op.WakeNext) w more k t = inl (wakes-on w.waking p w k)
-close-turn p h (op.Closing closing_op.Close) w more k t = inl (omega arith)
-close-turn p h (op.Closing closing_op.Drain) w more k t = drains-on w.queue.items p w more t
+close-turn p h (op.Closing (closing_op.Close mark)) w more k t = inl (omega arith)
+close-turn p h (op.Closing (closing_op.Drain mark)) w more k t = drains-on mark (queue_of w mark).items p w more t
 close-turn p h (op.Closing closing_op.LeakOut) w more k t = inl (omega arith)
 close-turn p h (op.Closing closing_op.LeakNext) w more k t = inl (omega arith)
 close-turn p h _ w more k t = inl (omega arith)

@@ -6,6 +6,8 @@ use Rattle.std.proofs.Common.{Bool, true, false, cond, refl, sym, ap, ◌∙◌,
 use Rattle.std.proofs.lemmas.List.{append_assoc}
 use Rattle.std.proofs.lemmas.List.Sums.{sum_by_push}
 use Rattle.std.specs.Prelude.{Option, Some, None, count_by}
+use Rattle.executor_parts.specs.declared.mark.Mark.TheVariants.{Plain, Urgent}
+use Rattle.executor_model.specs.declared.op.Look.TheVariants.{First, Second}
 use Rattle.executor_parts.specs.declared.mark.Mark.{Mark}
 use Rattle.task_moves.specs.declared.moves.owed.Owed.{Owed}
 use Rattle.task_moves.specs.declared.moves.owed.Move.TheVariants as move
@@ -47,7 +49,8 @@ use Rattle.executor_model.proofs.Steps.Asides.{aside-leak_next, aside-leak_out}
 -- what has still to answer its call
 abbrev pub calling_of : Op → ℕ
 calling_of (op.Table (table_op.Enter mark)) = 1
-calling_of (op.Queue queue_op.Take) = 1
+calling_of (op.Queue queue_op.TakeTurn) = 1
+calling_of (op.Queue (queue_op.Take look)) = 1
 calling_of (op.Table table_op.LookAtTable) = 1
 calling_of (op.Waker (waker_op.CopyWaker f held)) = 1
 calling_of (op.Handle (handle_op.Look f a)) = 1
@@ -57,6 +60,7 @@ calling_of (op.Handle (handle_op.EndRegister f a k)) = 1
 calling_of (op.Handle (handle_op.LookAgain f)) = 1
 calling_of (op.Tick tick_op.MakeTick) = 1
 calling_of (op.Tick (tick_op.Search s)) = 1
+calling_of (op.Tick (tick_op.Look s look)) = 1
 calling_of (op.Tick (tick_op.CopyWaker s)) = 1
 calling_of (op.Tick (tick_op.FallAsleep s)) = 1
 calling_of (op.User (user_op.PollOwn x)) = 1
@@ -65,7 +69,8 @@ calling_of (op.List (list_op.Write s)) = 1
 calling_of (op.List (list_op.LockRead x)) = 1
 calling_of (op.Steal o) = 1
 calling_of (op.Run run_op.MakeRoom) = 1
-calling_of (op.Run (run_op.SearchCommon x)) = 1
+calling_of (op.Run (run_op.TakeTurn x)) = 1
+calling_of (op.Run (run_op.SearchCommon x look)) = 1
 calling_of (op.Run (run_op.LookOwn x at left)) = 1
 calling_of (op.Run (run_op.WakeOwn x)) = 1
 calling_of (op.Run (run_op.Reschedule r a)) = 1
@@ -196,9 +201,10 @@ pub calls-append : (b : Bool) (w : World) (f : ℕ) → Calls w (op.Queue (queue
 calls-append true w f = inside w _ _ refl (steady-same _ _ refl) refl
 calls-append false w f = inside w _ _ refl (steady-same _ _ refl) refl
 
-pub calls-take : (q : List ℕ) (w : World) → Calls w (op.Queue queue_op.Take) (take_by w q)
-calls-take [] w = answers w _ _ refl (steady-same _ _ refl) (single _ refl)
-calls-take (f ∷ rest) w =
+pub calls-take : (look : Look) (q : List ℕ) (w : World) → Calls w (op.Queue (queue_op.Take look)) (take_by w look q)
+calls-take (First mark) [] w = answers w _ _ refl (steady-same _ _ refl) (single _ refl)
+calls-take (Second mark) [] w = answers w _ _ refl (steady-same _ _ refl) (single _ refl)
+calls-take look (f ∷ rest) w =
     answers w _ _ refl (steady-same _ _ refl)
     (then (op.Sleeper sleeper_op.ExchangeFlag ∷ op.Move move.TakeUp f ∷ []) _ refl refl)
 
@@ -315,9 +321,10 @@ calls-leak_next false p w (f ∷ rest) =
     (steady-log u _ (event.Leaked p f) refl (λ q. refl) (λ q. refl)))
     (aside-leak_next calling_of refl none-wake false p w (f ∷ rest))
 
-pub calls-drain : (p : ℕ) (w : World) (q : List ℕ) → Calls w (op.Closing closing_op.Drain) (drain_by p w q)
-calls-drain p w [] = inside w _ _ refl (steady-log _ _ (event.DropEnded p) refl (λ q. refl) (λ q. refl)) refl
-calls-drain p w (f ∷ rest) = inside w _ _ refl (steady-same _ _ refl) refl
+pub calls-drain : (mark : Mark) (p : ℕ) (w : World) (q : List ℕ) → Calls w (op.Closing (closing_op.Drain mark)) (drain_by p w mark q)
+calls-drain Urgent p w [] = inside w _ _ refl (steady-log _ _ (event.DropEnded p) refl (λ q. refl) (λ q. refl)) refl
+calls-drain Plain p w [] = inside w _ _ refl (steady-log _ _ (event.DropEnded p) refl (λ q. refl) (λ q. refl)) refl
+calls-drain mark p w (f ∷ rest) = inside w _ _ refl (steady-same _ _ refl) refl
 
 abbrev pub is_end : Op → Bool
 is_end (op.End r held) = true

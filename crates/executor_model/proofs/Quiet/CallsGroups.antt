@@ -1,6 +1,7 @@
 -- For quiet_emptiness_is_exact, outputs_are_kept, awaiters_are_kept and own_queues_agree.
 -- Each thing that is done answers its call or nothing, by groups.
 use Rattle.std.proofs.Common.{◌≡◌, ℕ, Bool, true, false, refl}
+use Rattle.executor_model.specs.World.{queue_of}
 use Rattle.task_moves.specs.declared.moves.owed.Move.{Move}
 use Rattle.task_moves.specs.declared.moves.owed.Move.TheVariants as move
 use Rattle.task_moves.specs.Moves as moves
@@ -56,7 +57,8 @@ calls-let_go false w f =
 
 pub calls-act : (p : ℕ) (h : Hint) (o : Op) (w : World) → is_end o ≡ false → Calls w o (act p h o w)
 calls-act p h (op.Table (table_op.Enter mark)) w n = calls-enter _ _ _ p w
-calls-act p h (op.Queue queue_op.Take) w n = calls-take _ w
+calls-act p h (op.Queue queue_op.TakeTurn) w n = refl
+calls-act p h (op.Queue (queue_op.Take look)) w n = calls-take look _ w
 calls-act p h (op.Table table_op.LookAtTable) w n = answers w _ _ refl (steady-same _ _ refl) (single _ refl)
 calls-act p h (op.Queue (queue_op.Append f)) w n = calls-append _ w f
 calls-act p h (op.Move m f) w n = calls-move _ m p w f
@@ -78,7 +80,7 @@ calls-act p h (op.Handle (handle_op.EndNotify f mine)) w n =
 calls-act p h (op.Handle (handle_op.LetGo f)) w n = calls-let_go _ w f
 calls-act p h (op.Waker (waker_op.CallAwaiter f a k)) w n = calls-call p w f a k
 calls-act p h (op.Sleeper o) w n = calls-sleeper p o w
-calls-act p h (op.Tick o) w n = calls-tick h o w
+calls-act p h (op.Tick o) w n = calls-tick p h o w
 calls-act p h (op.List o) w n = calls-list h o w
 calls-act p h (op.Steal o) w n = calls-steal p o w
 calls-act p h (op.Run o) w n = calls-run p h o w
@@ -87,7 +89,7 @@ calls-act p h (op.Closing closing_op.TakeOut) w n =
     inside w _ _ refl (steady-same _ _ refl) (aside-closing calling_of (λ o. refl) w.table w.waking)
 calls-act p h (op.Closing closing_op.DropNext) w n = calls-drop_next p w w.leaving
 calls-act p h (op.Closing closing_op.WakeNext) w n = calls-wake_next p w w.waking
-calls-act p h (op.Closing closing_op.Drain) w n = calls-drain p w w.queue.items
+calls-act p h (op.Closing (closing_op.Drain mark)) w n = calls-drain mark p w (queue_of w mark).items
 calls-act p h (op.Closing closing_op.LeakOut) w n = calls-leak_out _ w
 calls-act p h (op.Closing closing_op.LeakNext) w n = calls-leak_next _ p w w.waking
 calls-act p h (op.End r held) w n = absurd (cc)

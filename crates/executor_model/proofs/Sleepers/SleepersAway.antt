@@ -2,6 +2,11 @@
 -- What is no part of the sleepers, of a tick or of a run's making leaves the sleepers, and who sleeps, as they are.
 use Rattle.std.proofs.Common.{◌≡◌, ◌∙◌, ℕ, zero, suc, ◌+◌, ◌≤◌, List, [], ◌∷◌, length, drop, Bool, true}
 use Rattle.std.proofs.Common.{false, eqb, refl, sym, ap, arith}
+use Rattle.executor_parts.specs.declared.mark.Mark.TheVariants.{Plain, Urgent}
+use Rattle.executor_parts.specs.declared.mark.Mark.{Mark}
+use Rattle.executor_model.specs.declared.op.Look.TheVariants.{First, Second}
+use Rattle.executor_model.specs.World.{queue_of}
+use Rattle.executor_model.specs.Acts.{mark_in}
 use Rattle.executor_parts.specs.Sleepers.{Sleepers}
 use Rattle.task_moves.specs.declared.moves.owed.Move.TheVariants as move
 use Rattle.executor_model.specs.declared.event.Event.TheVariants as event
@@ -118,13 +123,15 @@ away-call p w o a k = away-frame w (acts.call_waker p w o a k) (frame-call p w o
 shorter : (f : ℕ) (rest xs : List ℕ) → xs ≡ f ∷ rest → length (drop 1 xs) ≤ length xs
 shorter f rest xs e = rw e (omega arith)
 
-away-take : (q : List ℕ) (w : World) → w.queue.items ≡ q → Away w (acts.take_by w q)
-away-take [] w e = away w _ refl refl refl
-away-take (f ∷ rest) w e = record { sleepers_seen = refl; owes = refl; wakes_up = refl; queue = shorter f rest w.queue.items e }
+away-take : (look : Look) (q : List ℕ) (w : World) → (queue_of w (mark_in look)).items ≡ q → Away w (acts.take_by w look q)
+away-take (First mark) [] w e = away w _ refl refl refl
+away-take (Second mark) [] w e = away w _ refl refl refl
+away-take look (f ∷ rest) w e = record { sleepers_seen = refl; owes = refl; wakes_up = refl; queue = shorter f rest (queue_of w (mark_in look)).items e }
 
-away-drain : (p : ℕ) (w : World) (q : List ℕ) → w.queue.items ≡ q → Away w (acts.drain_by p w q)
-away-drain p w [] e = away w _ refl refl refl
-away-drain p w (f ∷ rest) e = record { sleepers_seen = refl; owes = refl; wakes_up = refl; queue = shorter f rest w.queue.items e }
+away-drain : (mark : Mark) (p : ℕ) (w : World) (q : List ℕ) → (queue_of w mark).items ≡ q → Away w (acts.drain_by p w mark q)
+away-drain Urgent p w [] e = away w _ refl refl refl
+away-drain Plain p w [] e = away w _ refl refl refl
+away-drain mark p w (f ∷ rest) e = record { sleepers_seen = refl; owes = refl; wakes_up = refl; queue = shorter f rest (queue_of w mark).items e }
 
 -- runs
 
@@ -176,6 +183,7 @@ stays-found w x f = stays-counted _ w x f
 
 pub stays-stolen : (t : Then) (w : World) (x : RunPoll) → Stays w (runs.stolen t w x).world
 stays-stolen (then.Found f) w x = stays-found w x f
+stays-stolen (then.StealPlain f) w x = refl
 stays-stolen (then.Run f) w x = stays-run_by _ w x f
 stays-stolen (then.Walk at left) w x = record { sleepers_seen = refl; queue = refl }
 
@@ -185,6 +193,7 @@ stays-more (suc n) w s = record { sleepers_seen = refl; queue = refl }
 
 wakes_up-stolen : (t : Then) (w : World) (x : RunPoll) → wakes_up_well (runs.stolen t w x).next ≡ true
 wakes_up-stolen (then.Found f) w x = wakes_up-run w x f
+wakes_up-stolen (then.StealPlain f) w x = refl
 wakes_up-stolen (then.Run f) w x = wakes_up-by _ w x f
 wakes_up-stolen (then.Walk at left) w x = refl
 
@@ -248,9 +257,10 @@ away-steal p (steal_op.OwnLength s n) w = away-stays w _ (stays-more _ w s)
 away-steal p (steal_op.Take s more) w = away-without s.from _ w s more refl refl
 away-steal p (steal_op.Put s more f) w = away-put _ p w s more f
 
-away-common : (q : List ℕ) (w : World) (x : RunPoll) → w.queue.items ≡ q → Away w (runs.search_common_by q w x)
-away-common [] w x e = away w _ refl refl refl
-away-common (f ∷ rest) w x e = record { sleepers_seen = refl; owes = refl; wakes_up = refl; queue = shorter f rest w.queue.items e }
+away-common : (look : Look) (q : List ℕ) (w : World) (x : RunPoll) → (queue_of w (mark_in look)).items ≡ q → Away w (runs.search_common_by q w x look)
+away-common (First mark) [] w x e = away w _ refl refl refl
+away-common (Second mark) [] w x e = away w _ refl refl refl
+away-common look (f ∷ rest) w x e = record { sleepers_seen = refl; owes = refl; wakes_up = refl; queue = shorter f rest (queue_of w (mark_in look)).items e }
 
 away-looks : (q : List ℕ) (w : World) (x : RunPoll) (at left : ℕ) → Away w (runs.look_own_by q w x at left)
 away-looks [] w x at left = away-run w _ refl refl (walk-unseen owes_of no-owes-searching x w.listed at left)
@@ -300,18 +310,20 @@ is_seen_asleep (op.Run run_op.ReturnRoom) = true
 is_seen_asleep _ = false
 
 pub away-act : (p : ℕ) (h : Hint) (o : Op) (w : World) → is_seen_asleep o ≡ false → Away w (act p h o w)
-away-act p h (op.Queue queue_op.Take) w n = away-take _ w refl
+away-act p h (op.Queue queue_op.TakeTurn) w n = refl
+away-act p h (op.Queue (queue_op.Take look)) w n = away-take look _ w refl
 away-act p h (op.Queue (queue_op.Append f)) w n = absurd (cc)
 away-act p h (op.User (user_op.PollOwn x)) w n = away w _ refl refl refl
-away-act p h (op.Closing closing_op.Close) w n = record { sleepers_seen = refl; owes = refl; wakes_up = refl; queue = omega arith }
-away-act p h (op.Closing closing_op.Drain) w n = away-drain p w _ refl
+away-act p h (op.Closing (closing_op.Close mark)) w n = record { sleepers_seen = refl; owes = refl; wakes_up = refl; queue = omega arith }
+away-act p h (op.Closing (closing_op.Drain mark)) w n = away-drain mark p w _ refl
 away-act p h (op.Sleeper o) w n = absurd (cc)
 away-act p h (op.Tick o) w n = absurd (cc)
 away-act p h (op.List o) w n = absurd (cc)
 away-act p h (op.Steal o) w n = away-steal p o w
 away-act p h (op.Run run_op.MakeRoom) w n = absurd (cc)
 away-act p h (op.Run run_op.ReturnRoom) w n = absurd (cc)
-away-act p h (op.Run (run_op.SearchCommon x)) w n = away-common _ w x refl
+away-act p h (op.Run (run_op.TakeTurn x)) w n = refl
+away-act p h (op.Run (run_op.SearchCommon x look)) w n = away-common look _ w x refl
 away-act p h (op.Run (run_op.LookOwn x at left)) w n = away-looks _ w x at left
 away-act p h (op.Run (run_op.WakeOwn x)) w n = away-by_reference p w x x.waker
 away-act p h (op.Run (run_op.Reschedule r a)) w n = away-reschedule _ w r a

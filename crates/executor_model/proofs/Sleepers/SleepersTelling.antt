@@ -6,6 +6,9 @@ use Rattle.std.proofs.lemmas.Bool.Decides.{nat_tests}
 use Rattle.std.proofs.lemmas.List.{length-set, length-take-le}
 use Rattle.std.proofs.lemmas.List.Edits.{length-remove}
 use Rattle.std.specs.Prelude.{◌-◌, Option, Some, None, is_none, remove, slice_get}
+use Rattle.executor_model.specs.declared.op.Look.TheVariants.{First, Second}
+use Rattle.executor_model.specs.World.{queue_of}
+use Rattle.executor_model.specs.Acts.{mark_in}
 use Rattle.queue_steps.specs.ClosableQueue.{ClosableQueue}
 use Rattle.executor_parts.specs.Sleepers.{Sleepers, last_waker, waker_in, waker_at, waker_of}
 use Rattle.executor_parts.specs.Sleepers.{position_of, without_entry, freed, woken_up}
@@ -47,7 +50,7 @@ use Rattle.executor_model.specs.ActsOfRuns.{search_common_by, search_own_by, ste
 use Rattle.executor_model.specs.ActsOfRuns.{steal_take_by, stolen}
 use Rattle.executor_model.specs.Doing.{act}
 use Rattle.executor_model.specs.Acts.{copied}
-use Rattle.executor_model.specs.ActsOfSleepers.{search_by, copy_sleeper_by, sleep_anew_by, sleeper_goes}
+use Rattle.executor_model.specs.ActsOfSleepers.{look_tick_by, copy_sleeper_by, sleep_anew_by, sleeper_goes}
 use Rattle.executor_model.specs.ActsOfSleepers.{sleep_listed_by, sleep_again_by, fall_asleep_by, wake_up_by, given_back}
 use Rattle.executor_model.specs.ActsOfSleepers.{tell_and_return}
 use Rattle.executor_model.specs.ActsOfSleepers.{leave_sleepers_by}
@@ -149,16 +152,21 @@ tells-make : (b : Bool) (w : World) → Tells w (op.Tick tick_op.MakeTick ∷ []
 tells-make true w = quiet w _ _ _ refl (omega arith) refl
 tells-make false w = record { on = λ i j k a m x y u l r g t. record { told = λ p q. grind arith } }
 
-tells-search : (x : Ticker) (q : List ℕ) (w : World) (s : Sleeping) → w.queue.items ≡ q →
-    Tells w (op.Tick (tick_op.Search s) ∷ []) (search_by x w q s)
-tells-search x [] w s e =
+tells-search : (look : Look) (x : Ticker) (q : List ℕ) (w : World) (s : Sleeping) → (queue_of w (mark_in look)).items ≡ q →
+    Tells w (op.Tick (tick_op.Look s look) ∷ []) (look_tick_by x w look q s)
+tells-search (First mark) x [] w s e =
     record {
       on = λ i j k a m x y u l r g t.
-          record { told = λ p q. absurd (let z : length w.queue.items ≡ 0 = ap length e in omega (arith, p, z)) };
+          record { told = λ p q. absurd (let z : length (queue_of w (mark_in (First mark))).items ≡ 0 = ap length e in omega (arith, p, z)) };
     }
-tells-search Awake (f ∷ rest) w s e = loud w _ _ _ (omega arith)
-tells-search (Asleep n) (f ∷ rest) w s e = loud w _ _ _ (omega arith)
-tells-search Left (f ∷ rest) w s e = loud w _ _ _ (omega arith)
+tells-search (Second mark) x [] w s e =
+    record {
+      on = λ i j k a m x y u l r g t.
+          record { told = λ p q. absurd (let z : length (queue_of w (mark_in (Second mark))).items ≡ 0 = ap length e in omega (arith, p, z)) };
+    }
+tells-search look Awake (f ∷ rest) w s e = loud w _ _ _ (omega arith)
+tells-search look (Asleep n) (f ∷ rest) w s e = loud w _ _ _ (omega arith)
+tells-search look Left (f ∷ rest) w s e = loud w _ _ _ (omega arith)
 
 tells-copied : (a : Waker) (w : World) →
     (sleepers_seen w ≡ sleepers_seen (copied w a)) × (length (copied w a).queue.items ≤ length w.queue.items)
@@ -291,19 +299,24 @@ tells-own [] w s x = loud w _ _ _ (omega arith)
 tells-own (f ∷ rest) w s x = loud w (found (put_own w x.run rest) x f).world _ (found (put_own w x.run rest) x f).next
     (tells-found (put_own w x.run rest) x f)
 
-tells-search_who : (who : TickOrRun) (w : World) (s : Sleeping) →
-    Tells w (op.Tick (tick_op.Search s) ∷ []) (search_by_who who w s)
-tells-search_who (tick_or_run.Tick t) w s = tells-search _ _ w s refl
-tells-search_who (tick_or_run.Run r) w s = tells-own _ w s _
+tells-search_who : (who : TickOrRun) (p : ℕ) (w : World) (s : Sleeping) →
+    Tells w (op.Tick (tick_op.Search s) ∷ []) (search_by_who who p w s)
+tells-search_who (tick_or_run.Tick t) p w s = tells-search _ _ w s refl
+tells-search_who (tick_or_run.Run r) p w s = tells-own _ w s _
 
-tells-common : (q : List ℕ) (w : World) (x : RunPoll) → w.queue.items ≡ q →
-    Tells w (op.Run (run_op.SearchCommon x) ∷ []) (search_common_by q w x)
-tells-common [] w x e =
+tells-common : (look : Look) (q : List ℕ) (w : World) (x : RunPoll) → (queue_of w (mark_in look)).items ≡ q →
+    Tells w (op.Run (run_op.SearchCommon x look) ∷ []) (search_common_by q w x look)
+tells-common (First mark) [] w x e =
     record {
       on = λ i j k a m y z u l r g t.
-          record { told = λ p q. absurd (let z : length w.queue.items ≡ 0 = ap length e in omega (arith, p, z)) };
+          record { told = λ p q. absurd (let z : length (queue_of w (mark_in (First mark))).items ≡ 0 = ap length e in omega (arith, p, z)) };
     }
-tells-common (f ∷ rest) w x e = loud w _ _ _ (omega arith)
+tells-common (Second mark) [] w x e =
+    record {
+      on = λ i j k a m y z u l r g t.
+          record { told = λ p q. absurd (let z : length (queue_of w (mark_in (Second mark))).items ≡ 0 = ap length e in omega (arith, p, z)) };
+    }
+tells-common look (f ∷ rest) w x e = loud w _ _ _ (omega arith)
 
 tells-room : (b : Bool) (w : World) → Tells w (op.Run run_op.MakeRoom ∷ []) (make_room_by b w)
 tells-room true w = quiet w _ _ _ refl (omega arith) refl
@@ -351,6 +364,7 @@ tells-list h o w = let s = list-still h o w in
 
 tells-stolen : (t : Then) (w : World) (x : RunPoll) → tells_then t ≤ weigh tells_of (stolen t w x).next
 tells-stolen (then.Found f) w x = tells-found w x f
+tells-stolen (then.StealPlain f) w x = omega arith
 tells-stolen (then.Run f) w x = omega arith
 tells-stolen (then.Walk at left) w x = omega arith
 
@@ -378,25 +392,28 @@ tells-steal p (steal_op.OwnLength s n) w = tells-more _ w s
 tells-steal p (steal_op.Take s more) w = tells-take _ w s more
 tells-steal p (steal_op.Put s more f) w = tells-put _ p w s more f
 
-tells-tick : (h : Hint) (o : TickOp) (w : World) → Tells w (op.Tick o ∷ []) (tick_act h o w)
-tells-tick h tick_op.MakeTick w = tells-make _ w
-tells-tick h (tick_op.Search s) w = tells-search_who s.who w s
-tells-tick h (tick_op.CopyWaker s) w = tells-copy _ w s
-tells-tick h (tick_op.FallAsleep s) w = tells-sleep _ w s
-tells-tick h (tick_op.WakeUp t) w = tells-up _ w t
-tells-tick h (tick_op.Leave t) w = tells-leave _ w t
+tells-tick : (p : ℕ) (h : Hint) (o : TickOp) (w : World) → Tells w (op.Tick o ∷ []) (tick_act p h o w)
+tells-tick p h tick_op.MakeTick w = tells-make _ w
+tells-tick p h (tick_op.Search s) w = tells-search_who s.who p w s
+tells-tick p h (tick_op.Look s look) w = refl
+tells-tick p h (tick_op.CopyWaker s) w = tells-copy _ w s
+tells-tick p h (tick_op.FallAsleep s) w = tells-sleep _ w s
+tells-tick p h (tick_op.WakeUp t) w = tells-up _ w t
+tells-tick p h (tick_op.Leave t) w = tells-leave _ w t
 
 -- a steal, and a run that looks at the executor's queue
 abbrev hunts : Op → Bool
 hunts (op.Steal o) = true
-hunts (op.Run (run_op.SearchCommon x)) = true
+hunts (op.Run (run_op.TakeTurn x)) = true
+hunts (op.Run (run_op.SearchCommon x look)) = true
 hunts _ = false
 
 no-tells : (o : Op) → is_seen_asleep o ≡ false → hunts o ≡ false → tells_of o ≡ 0
 no-tells (op.Sleeper o) e q = absurd (cc)
 no-tells (op.Tick o) e q = absurd (cc)
 no-tells (op.Steal o) e q = absurd (cc)
-no-tells (op.Run (run_op.SearchCommon x)) e q = absurd (cc)
+no-tells (op.Run (run_op.TakeTurn x)) e q = absurd (cc)
+no-tells (op.Run (run_op.SearchCommon x look)) e q = absurd (cc)
 no-tells _ e q = refl
 
 tells-hunt : (b : Bool) (p : ℕ) (h : Hint) (o : Op) (w : World) → is_seen_asleep o ≡ false → hunts o ≡ b →
@@ -408,14 +425,15 @@ tells-hunt true p h (op.Steal o) w n e =
     let a : Away w (steal_act p o w) = away-act p h (op.Steal o) w n in
     steady w (steal_act p o w).world (op.Steal o ∷ []) (steal_act p o w).next a.sleepers_seen a.queue
     (omega (arith, tells-steal p o w))
-tells-hunt true p h (op.Run (run_op.SearchCommon x)) w n e = tells-common _ w x refl
+tells-hunt true p h (op.Run (run_op.TakeTurn x)) w n e = refl
+tells-hunt true p h (op.Run (run_op.SearchCommon x look)) w n e = tells-common look _ w x refl
 tells-hunt true p h _ w n e = absurd (cc)
 
 pub tells-act : (b : Bool) (p : ℕ) (h : Hint) (o : Op) (w : World) → is_seen_asleep o ≡ b → Tells w (o ∷ []) (act p h o w)
 tells-act false p h o w n = tells-hunt _ p h o w n refl
 tells-act true p h (op.Queue (queue_op.Append g)) w n = tells-append _ w g
 tells-act true p h (op.Sleeper o) w n = tells-sleeper p o w
-tells-act true p h (op.Tick o) w n = tells-tick h o w
+tells-act true p h (op.Tick o) w n = tells-tick p h o w
 tells-act true p h (op.List o) w n = tells-list h o w
 tells-act true p h (op.Run run_op.MakeRoom) w n = tells-room _ w
 tells-act true p h (op.Run run_op.ReturnRoom) w n = tells-returned w

@@ -28,7 +28,8 @@ use Rattle.executor_model.proofs.Sleepers.SleepersTelling.{Told, Ground, Tells, 
 -- who hands out tells
 hands-tell : (o : Op) → hands_of o ≤ tells_of o
 hands-tell (op.Sleeper sleeper_op.ExchangeFlag) = omega arith
-hands-tell (op.Queue queue_op.Take) = omega arith
+hands-tell (op.Queue queue_op.TakeTurn) = omega arith
+hands-tell (op.Queue (queue_op.Take look)) = omega arith
 hands-tell _ = omega arith
 
 hands-all : (ss : List (List Op)) → weigh_all hands_of ss ≤ weigh_all tells_of ss

@@ -3,6 +3,9 @@
 -- futures.
 use Rattle.std.proofs.Common.{◌≡◌, ℕ, zero, suc, ◌+◌, ◌<◌, List, [], ◌∷◌, ◌++◌, length, get_or, set, drop, Bool}
 use Rattle.std.proofs.Common.{true, false, eqb, refl, ap, ◌∙◌, ◌%◌, arith}
+use Rattle.executor_model.specs.declared.op.Look.TheVariants.{First, Second}
+use Rattle.executor_model.specs.World.{queue_of}
+use Rattle.executor_model.specs.Acts.{mark_in}
 use Rattle.executor_model.specs.declared.call.Reply.{Reply}
 use Rattle.executor_model.specs.declared.op.ListOp.{ListOp}
 use Rattle.executor_model.specs.declared.op.ListOp.TheVariants as list_op
@@ -150,6 +153,7 @@ waiting-found g w x f =
 pub waiting-stolen : (g : ℕ) (t : Then) (w : World) (x : RunPoll) →
     weigh (waiting_of g) (stolen t w x).next ≡ then_waiting g t
 waiting-stolen g (then.Found f) w x = waiting-found g w x f
+waiting-stolen g (then.StealPlain f) w x = refl
 waiting-stolen g (then.Run f) w x = waiting-run_by g _ w x f
 waiting-stolen g (then.Walk at left) w x = refl
 
@@ -213,11 +217,13 @@ queued-found g w x f = queued-counted g _ w x f
 
 pub same-stolen : (t : Then) (w : World) (x : RunPoll) → Same w (stolen t w x).world
 same-stolen (then.Found f) w x = same-found w x f
+same-stolen (then.StealPlain f) w x = refl
 same-stolen (then.Run f) w x = same-run_by _ w x f
 same-stolen (then.Walk at left) w x = same-here w _ _ _ _
 
 pub queued-stolen : (g : ℕ) (t : Then) (w : World) (x : RunPoll) → queued (stolen t w x).world g ≡ queued w g
 queued-stolen g (then.Found f) w x = queued-found g w x f
+queued-stolen g (then.StealPlain f) w x = refl
 queued-stolen g (then.Run f) w x = queued-run_by g _ w x f
 queued-stolen g (then.Walk at left) w x = refl
 
@@ -296,13 +302,14 @@ moves-own (f ∷ rest) w s r i e = let x : RunPoll = record { run = r; waker = s
   lent = λ z. absurd (omega (arith, z));
 }
 
-pub moves-common : (q : List ℕ) (w : World) (x : RunPoll) → w.queue.items ≡ q →
-    Moves w (op.Run (run_op.SearchCommon x) ∷ []) (search_common_by q w x)
-moves-common [] w x e = record { same = same-here w _ _ _ _; moved = λ g. refl; lent = λ z. absurd (omega (arith, z)) }
-moves-common (f ∷ rest) w x e = record {
+pub moves-common : (look : Look) (q : List ℕ) (w : World) (x : RunPoll) → (queue_of w (mark_in look)).items ≡ q →
+    Moves w (op.Run (run_op.SearchCommon x look) ∷ []) (search_common_by q w x look)
+moves-common (First mark) [] w x e = record { same = same-here w _ _ _ _; moved = λ g. refl; lent = λ z. absurd (omega (arith, z)) }
+moves-common (Second mark) [] w x e = record { same = same-here w _ _ _ _; moved = λ g. refl; lent = λ z. absurd (omega (arith, z)) }
+moves-common look (f ∷ rest) w x e = record {
   same = same-taken w;
-  moved = λ g. (let z : same g f + times g (drop 1 w.queue.items) ≡ times g w.queue.items =
-      times-drop g f rest w.queue.items e in omega (arith, z));
+  moved = λ g. (let z : same g f + times g (drop 1 (queue_of w (mark_in look)).items) ≡ times g (queue_of w (mark_in look)).items =
+      times-drop g f rest (queue_of w (mark_in look)).items e in omega (arith, z));
   lent = λ z. absurd (omega (arith, z));
 }
 

@@ -107,8 +107,9 @@ module _
     by-run p h run_op.MakeRoom w k =
         moves w _ _ (step-run run_op.MakeRoom) (λ v u. room-blind v u.blind h.refused w) (moves-make_room h.refused w)
     by-run p h run_op.ReturnRoom w k = moves w _ _ (step-run run_op.ReturnRoom) (λ v u. refl) (moves-return_room w)
-    by-run p h (run_op.SearchCommon x) w k =
-        moves w _ _ (step-run (run_op.SearchCommon x)) (λ v u. common-blind v u.blind _ w x) (moves-common _ w x refl)
+    by-run p h (run_op.TakeTurn x) w k = refl
+    by-run p h (run_op.SearchCommon x look) w k =
+        moves w _ _ (step-run (run_op.SearchCommon x look)) (λ v u. common-blind v u.blind _ w x) (moves-common look _ w x refl)
     by-run p h (run_op.LookOwn x at left) w k =
         moves w _ _ (step-run (run_op.LookOwn x at left)) (λ v u. look-blind v u.blind _ w x at left)
         (moves-look _ w x at left refl)

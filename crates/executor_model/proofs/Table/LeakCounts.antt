@@ -2,6 +2,8 @@
 -- Who is about to take the wakers out of the table has begun a leak: nothing that is done leads there.
 use Rattle.std.proofs.Common.{◌≡◌, ◌⊎◌, ◌≤◌, ◌||◌, ℕ, List, [], ◌∷◌, ◌++◌, Bool, true, false, inl, inr, refl, arith}
 use Rattle.std.specs.Prelude.{Option, Some, None}
+use Rattle.executor_parts.specs.declared.mark.Mark.TheVariants.{Plain, Urgent}
+use Rattle.executor_model.specs.declared.op.Look.TheVariants.{First, Second}
 use Rattle.executor_parts.specs.declared.mark.Mark.{Mark}
 use Rattle.task_moves.specs.declared.moves.owed.Answer.{Answer}
 use Rattle.task_moves.specs.declared.moves.owed.Move.{Move}
@@ -119,9 +121,10 @@ module _ (first more : ℕ) where
   goes-append true w f = refl
   goes-append false w f = refl
 
-  goes-take : (q : List ℕ) (w : World) → weigh (goes_of first more) (take_by w q).next ≡ 0
-  goes-take [] w = refl
-  goes-take (f ∷ rest) w = refl
+  goes-take : (look : Look) (q : List ℕ) (w : World) → weigh (goes_of first more) (take_by w look q).next ≡ 0
+  goes-take (First mark) [] w = refl
+  goes-take (Second mark) [] w = refl
+  goes-take look (f ∷ rest) w = refl
 
   goes-enter : (b c : Bool) (mark : Mark) (p : ℕ) (w : World) → weigh (goes_of first more) (enter_by b c mark p w).next ≡ 0
   goes-enter true c mark p w = refl
@@ -206,9 +209,10 @@ module _ (first more : ℕ) where
         goes-closing [] rest,
       )
 
-  goes-drain : (q : List ℕ) (p : ℕ) (w : World) → weigh (goes_of first more) (drain_by p w q).next ≡ 0
-  goes-drain [] p w = refl
-  goes-drain (f ∷ rest) p w = refl
+  goes-drain : (mark : Mark) (q : List ℕ) (p : ℕ) (w : World) → weigh (goes_of first more) (drain_by p w mark q).next ≡ 0
+  goes-drain Urgent [] p w = refl
+  goes-drain Plain [] p w = refl
+  goes-drain mark (f ∷ rest) p w = refl
 
   goes-reference : (p : ℕ) (w : World) (a : Waker) → weigh (goes_of first more) (call_by_reference p w a).next ≡ 0
   goes-reference p w (Task g) = goes-move true move.WakeByReference p w g
@@ -236,7 +240,8 @@ module _ (first more : ℕ) where
   goes-act p h (op.Table (table_op.PutBack f)) w n = refl
   goes-act p h (op.Table (table_op.TakeToDrop f)) w n = refl
   goes-act p h (op.Table (table_op.LeaveTable f)) w n = goes-leave _ w f
-  goes-act p h (op.Queue queue_op.Take) w n = goes-take _ w
+  goes-act p h (op.Queue queue_op.TakeTurn) w n = refl
+  goes-act p h (op.Queue (queue_op.Take look)) w n = goes-take look _ w
   goes-act p h (op.Queue (queue_op.Append f)) w n = goes-append _ w f
   goes-act p h (op.User (user_op.BeginDrop f)) w n = refl
   goes-act p h (op.User o) w n = refl
@@ -260,8 +265,8 @@ module _ (first more : ℕ) where
   goes-act p h (op.Closing closing_op.TakeOut) w n = goes-closing w.table w.waking
   goes-act p h (op.Closing closing_op.DropNext) w n = goes-drop_next _ p w
   goes-act p h (op.Closing closing_op.WakeNext) w n = goes-wake_next _ p w
-  goes-act p h (op.Closing closing_op.Close) w n = refl
-  goes-act p h (op.Closing closing_op.Drain) w n = goes-drain _ p w
+  goes-act p h (op.Closing (closing_op.Close mark)) w n = refl
+  goes-act p h (op.Closing (closing_op.Drain mark)) w n = goes-drain mark _ p w
   goes-act p h (op.Closing closing_op.LeakOut) w n = absurd (cc)
   goes-act p h (op.Closing closing_op.LeakNext) w n = absurd (cc)
   goes-act p h (op.End a held) w n = refl

@@ -2,6 +2,8 @@
 -- What is done with tasks, the table, the queue, handles and sleepers names a poll by its own waker, where what was to do does.
 use Rattle.std.proofs.Common.{◌≡◌, ℕ, List, [], ◌∷◌, ◌++◌, length, Bool, true, false, refl, ◌&&◌}
 use Rattle.std.specs.Prelude.{Option, Some, None}
+use Rattle.executor_parts.specs.declared.mark.Mark.TheVariants.{Plain, Urgent}
+use Rattle.executor_model.specs.declared.op.Look.TheVariants.{First, Second}
 use Rattle.executor_parts.specs.declared.mark.Mark.{Mark}
 use Rattle.task_moves.specs.declared.moves.owed.Answer.{Answer}
 use Rattle.task_moves.specs.declared.moves.owed.Move.{Move}
@@ -88,9 +90,10 @@ module _ (k : ℕ) (a : Waker) where
   leaves true w f h = (record { awaiters = h.awaiters; sleepers = h.sleepers; told = h.told }, goes w.is_static f)
   leaves false w f h = (h, tt)
 
-  pub takes : (q : List ℕ) (w : World) → Stored k a w → Ends k a (take_by w q)
-  takes [] w h = (h, (tt, tt))
-  takes (f ∷ rest) w h = (record { awaiters = h.awaiters; sleepers = h.sleepers; told = h.told }, (tt, (tt, (tt, tt))))
+  pub takes : (look : Look) (q : List ℕ) (w : World) → Stored k a w → Ends k a (take_by w look q)
+  takes (First mark) [] w h = (h, (tt, tt))
+  takes (Second mark) [] w h = (h, (tt, tt))
+  takes look (f ∷ rest) w h = (record { awaiters = h.awaiters; sleepers = h.sleepers; told = h.told }, (tt, (tt, (tt, tt))))
 
   pub appends : (b : Bool) (w : World) (f : ℕ) → Stored k a w → Ends k a (append_by b w f)
   appends true w f h = (record { awaiters = h.awaiters; sleepers = h.sleepers; told = h.told }, (tt, tt))
@@ -228,7 +231,8 @@ module _ (k : ℕ) (a : Waker) where
       (moves-task true move.Wake p v f (record { awaiters = h.awaiters; sleepers = h.sleepers; told = h.told })) (leaking rest) in
       (stored-log k a d.world (event.Leaked p f) e.0 tt, e.1)
 
-  pub drains : (q : List ℕ) (p : ℕ) (w : World) → Stored k a w → Ends k a (drain_by p w q)
-  drains [] p w h = (stored-log k a w (event.DropEnded p) h tt, tt)
-  drains (f ∷ rest) p w h =
+  pub drains : (mark : Mark) (q : List ℕ) (p : ℕ) (w : World) → Stored k a w → Ends k a (drain_by p w mark q)
+  drains Urgent [] p w h = (stored-log k a w (event.DropEnded p) h tt, tt)
+  drains Plain [] p w h = (stored-log k a w (event.DropEnded p) h tt, tt)
+  drains mark (f ∷ rest) p w h =
       (record { awaiters = h.awaiters; sleepers = h.sleepers; told = h.told }, (tt, (tt, tt)))

@@ -142,8 +142,8 @@ module _ (t : Event → Bool) (u : (e : Event) → is_ordinary e ≡ true → t 
   grows-take look (f ∷ rest) w = grows w (acts.take_by w look (f ∷ rest)).world refl
 
   grows-append : (b : Bool) (w : World) (f : ℕ) → Grows w (acts.append_by b w f).world
-  grows-append true w f = grows w (acts.append_by true w f).world refl
-  grows-append false w f = grows w w refl
+  grows-append true w mark f = grows w (acts.append_by true w f).world refl
+  grows-append false w mark f = grows w w refl
 
   grows-copy : (b : Bool) (w : World) (f : ℕ) (held : Hold) → Grows w (acts.copy_by b w f held).world
   grows-copy true w f held = grows w w refl
@@ -281,7 +281,7 @@ module _ (t : Event → Bool) (u : (e : Event) → is_ordinary e ≡ true → t 
   grows-act p h (op.Table (table_op.LeaveTable f)) w z = grows-leave _ w f
   grows-act p h (op.Queue queue_op.TakeTurn) w z = refl
   grows-act p h (op.Queue (queue_op.Take look)) w z = grows-take look _ w
-  grows-act p h (op.Queue (queue_op.Append f)) w z = grows-append _ w f
+  grows-act p h (op.Queue (queue_op.Append f)) w z = grows-append _ w _ f
   grows-act p h (op.User (user_op.BeginDrop f)) w z =
       grows-log w (acts.begin_drop p w f).world (event.Dropped p f) refl refl
   grows-act p h (op.User (user_op.BeginDropOutput f)) w z =

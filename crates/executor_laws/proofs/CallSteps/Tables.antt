@@ -42,9 +42,9 @@ of-take : (w : World) (fs : List ℕ) → steps_of (take_by w fs).next ≡ next_
 of-take w [] = refl
 of-take w (f ∷ fs) = refl
 
-of-append : (b : Bool) (w : World) (f : ℕ) → steps_of (append_by b w f).next ≡ next_queue (queue_step.Append f) (allowed b)
-of-append true w f = refl
-of-append false w f = refl
+of-append : (b : Bool) (w : World) (mark : Mark) (f : ℕ) → steps_of (append_by b w mark f).next ≡ next_queue (queue_step.Append f) (allowed b)
+of-append true w mark f = refl
+of-append false w mark f = refl
 
 pub of-table : (p : ℕ) (h : Hint) (o : TableOp) (w : World) →
     steps_of (table_act p h o w).next ≡ next (step.Table (table_step_of o)) (seen_table h o w)

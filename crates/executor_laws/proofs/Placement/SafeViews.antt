@@ -119,8 +119,8 @@ KeepsAway w old d = (g : ℕ) (r : Pend) (y : Extra) → Ground (seen w g (with_
     Away (seen w g (with_ops g old r) (with_extra g old y)) →
     Away (seen d.world g (with_ops g d.next r) (with_extra g d.next y))
 
-away-refuses : (w : World) (f : ℕ) → KeepsAway w (op.Queue (queue_op.Append f) ∷ []) (append_by false w f)
-away-refuses w f g r y b h = grind (arith, same_is)
+away-refuses : (w : World) (mark : Mark) (f : ℕ) → KeepsAway w (op.Queue (queue_op.Append f) ∷ []) (append_by false w mark f)
+away-refuses w mark f g r y b h = grind (arith, same_is)
 
 entered_is : (b : Bool) → ((entered b).scheduled ≡ true) × ((entered b).running ≡ false) ×
     ((entered b).closed ≡ false) × ((entered b).completed ≡ false)
@@ -173,7 +173,7 @@ away-effect w old d n (passes s) g r y z b h = away-passes _ _ z (s g r y).passe
 away-effect w old _ n (turns d m p f v more i j k s a e) g r y z b h =
     turned-after Ground Away Needs away-moved away-loose d m p f v more i (λ q u. needs m f w v old q u j n k) a e g r y
     (ground-passes _ _ (s g r y).passes b) (away-passes _ _ z (s g r y).passes (s g r y).queues h)
-away-effect w old d n (refuses f e) g r y z b h = away-refuses w f g r y b h
+away-effect w old d n (refuses f e) g r y z b h = away-refuses w _ f g r y b h
 away-effect w old d n (enters p e) g r y z b h = away-enters p w g r y b h
 away-effect w old d n (unlists f e) g r y z b h = away-unlists w f g r y b h
 away-effect w old d n (drops p f) g r y z b h = away-drops p f w g r y b h

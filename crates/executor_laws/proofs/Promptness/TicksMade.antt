@@ -5,6 +5,7 @@ use Rattle.std.proofs.Common.{refl, sym, ap, subst, arith, length-append, get_or
 use Rattle.std.proofs.lemmas.Bool.Decides.{nat_tests}
 use Rattle.std.proofs.lemmas.List.{get_or_past, length-set}
 use Rattle.std.specs.Prelude.{Option, Some, None, reverse}
+use Rattle.executor_parts.specs.declared.mark.Mark.{Mark}
 use Rattle.executor_model.specs.declared.op.Look.TheVariants.{First, Second}
 use Rattle.task_moves.specs.declared.moves.owed.Move.TheVariants as move
 use Rattle.executor_model.specs.declared.call.Call.{Call}
@@ -73,9 +74,9 @@ with-length ts (tick_or_run.Run r) x = omega arith
 seen-keeps : (w : World) (d : Done) → Away w d → Keeps w d.world
 seen-keeps w d a = record { few = omega (arith, ap (λ (v : SleepersSeen). length v.ticks) a.sleepers_seen) }
 
-keeps-append : (b : Bool) (w : World) (f : ℕ) → Keeps w (append_by b w f).world
-keeps-append true w f = record { few = omega arith }
-keeps-append false w f = record { few = omega arith }
+keeps-append : (b : Bool) (w : World) (mark : Mark) (f : ℕ) → Keeps w (append_by b w mark f).world
+keeps-append true w mark f = record { few = omega arith }
+keeps-append false w mark f = record { few = omega arith }
 
 keeps-exchange : (b : Bool) (w : World) → Keeps w (exchange_by b w).world
 keeps-exchange true w = record { few = omega arith }
@@ -170,7 +171,7 @@ keeps-room true w = record { few = omega arith }
 keeps-room false w = record { few = omega arith }
 
 keeps-seen : (p : ℕ) (h : Hint) (o : Op) (w : World) → is_seen_asleep o ≡ true → Keeps w (act p h o w).world
-keeps-seen p h (op.Queue (queue_op.Append f)) w z = keeps-append _ w f
+keeps-seen p h (op.Queue (queue_op.Append f)) w z = keeps-append _ w _ f
 keeps-seen p h (op.Sleeper o) w z = keeps-sleeper p o w
 keeps-seen p h (op.Tick o) w z = keeps-tick p h o w
 keeps-seen p h (op.List o) w z = keeps-list h o w

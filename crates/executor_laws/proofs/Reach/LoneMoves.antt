@@ -4,6 +4,7 @@
 use Rattle.std.proofs.Common.{◌≡◌, ℕ, List, [], ◌∷◌, ◌++◌, Bool, true, false, refl}
 use Rattle.std.proofs.Common.{sym, ap, ◌∙◌, append-nil, append_assoc}
 use Rattle.std.specs.Prelude.{Option, Some, None}
+use Rattle.executor_parts.specs.declared.mark.Mark.{Mark}
 use Rattle.task_moves.specs.declared.moves.owed.Move.TheVariants as move
 use Rattle.task_moves.specs.declared.moves.owed.Moved.{Moved}
 use Rattle.task_moves.specs.Moves as moves
@@ -157,10 +158,10 @@ inner-told : (last b : Bool) (w : World) (e c : Event) (f : ℕ) (m : Moved) →
 inner-told last true w e c f m = then-inner w e (carried (log_if last (log w e) c) f m) (inner-logged last (log w e) c f m)
 inner-told last false w e c f m = inner-logged last w c f m
 
-inner-append : (b : Bool) (w : World) (f : ℕ) → Inner w (append_by b w f)
-inner-append true w f =
+inner-append : (b : Bool) (w : World) (mark : Mark) (f : ℕ) → Inner w (append_by b w mark f)
+inner-append true w mark f =
     record { plain = refl; added = f ∷ []; queue = refl; events = []; trace = sym (append-nil w.trace); there = refl }
-inner-append false w f = still w w _ refl refl refl refl
+inner-append false w mark f = still w w _ refl refl refl refl
 
 entry-inner : (b : Bool) (f : ℕ) → weigh stray_of (entry_goes b f) ≡ 0
 entry-inner true f = refl
@@ -208,7 +209,7 @@ inner-up (Asleep n) w who =
 inner-up Left w who = still w w [] refl refl refl refl
 
 pub inner-act : (p : ℕ) (h : Hint) (o : Op) (w : World) → waits o ≡ false → stray_of o ≡ 0 → Inner w (act p h o w)
-inner-act p h (op.Queue (queue_op.Append f)) w n z = inner-append _ w f
+inner-act p h (op.Queue (queue_op.Append f)) w n z = inner-append _ w _ f
 inner-act p h (op.Move move.WakeByReference f) w n z =
     inner-logged _ w (event.Woken p f) f (moves.wake_by_reference (task w f))
 inner-act p h (op.Move move.Wake f) w n z = inner-logged _ w (event.Woken p f) f (moves.wake (task w f))

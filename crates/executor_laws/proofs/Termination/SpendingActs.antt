@@ -48,10 +48,10 @@ use Rattle.executor_model.specs.Acts.{leak_next_by, leak_out_by, leaking_ops}
 
 -- queue and table
 
-pub spends-append : (b : Bool) (w : World) (f : ℕ) → Spends w 43 (append_by b w f)
-spends-append true w f =
-    omega (arith, kept-parts w, kept-parts (record w { queue = appended w.queues f }), length_push w.queue.items f)
-spends-append false w f = omega arith
+pub spends-append : (b : Bool) (w : World) (mark : Mark) (f : ℕ) → Spends w 43 (append_by b w mark f)
+spends-append true w mark f =
+    omega (arith, kept-parts w, kept-parts (put_queue w mark (appended (queue_of w mark) f)), length_push w.queue.items f)
+spends-append false w mark f = omega arith
 
 pub spends-take : (look : Look) (w : World) (q : List ℕ) → (queue_of w (mark_in look)).items ≡ q → Spends w 113 (take_by w look q)
 spends-take (First mark) w [] e = omega arith

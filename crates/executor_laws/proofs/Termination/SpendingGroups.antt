@@ -79,7 +79,7 @@ spends-act p h (op.Move m f) w n r l k = spends-move m p w f l.0.0 k
 spends-act p h (op.Table (table_op.Enter mark)) w n r l k = spends-enter _ _ _ p w
 spends-act p h (op.Queue queue_op.TakeTurn) w n r l k = refl
 spends-act p h (op.Queue (queue_op.Take look)) w n r l k = spends-take look w _ refl
-spends-act p h (op.Queue (queue_op.Append f)) w n r l k = spends-append _ w f
+spends-act p h (op.Queue (queue_op.Append f)) w n r l k = spends-append _ w _ f
 spends-act p h (op.Table (table_op.TakeToPoll f)) w n r l k =
     spends-as w _ 47 (op.User (user_op.Poll f) ∷ []) (kept-as w _ refl refl refl refl refl refl refl refl refl refl)
     (omega arith)

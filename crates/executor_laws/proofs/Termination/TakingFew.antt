@@ -70,9 +70,9 @@ runs-take (First mark) [] w = refl
 runs-take (Second mark) [] w = refl
 runs-take look (f ∷ rest) w = refl
 
-runs-append : (b : Bool) (w : World) (f : ℕ) → RunsStay w (acts.append_by b w f).world
-runs-append true w f = refl
-runs-append false w f = refl
+runs-append : (b : Bool) (w : World) (mark : Mark) (f : ℕ) → RunsStay w (acts.append_by b w mark f).world
+runs-append true w mark f = refl
+runs-append false w mark f = refl
 
 runs-exchange : (b : Bool) (w : World) → RunsStay w (of_sleepers.exchange_by b w).world
 runs-exchange true w = refl
@@ -90,7 +90,7 @@ runs-drain mark p w (f ∷ rest) = refl
 pub runs-act : (p : ℕ) (h : Hint) (o : Op) (w : World) → is_run o ≡ false → RunsStay w (act p h o w).world
 runs-act p h (op.Queue queue_op.TakeTurn) w n = refl
 runs-act p h (op.Queue (queue_op.Take look)) w n = runs-take look _ w
-runs-act p h (op.Queue (queue_op.Append f)) w n = runs-append _ w f
+runs-act p h (op.Queue (queue_op.Append f)) w n = runs-append _ w _ f
 runs-act p h (op.Sleeper sleeper_op.ExchangeFlag) w n = runs-exchange _ w
 runs-act p h (op.Sleeper sleeper_op.HandOut) w n = runs-hand_out _ _ w
 runs-act p h (op.User (user_op.PollOwn x)) w n = absurd (cc)

@@ -174,9 +174,9 @@ beside-take (First mark) [] w = besides w _ (λ t. refl) refl
 beside-take (Second mark) [] w = besides w _ (λ t. refl) refl
 beside-take look (f ∷ rest) w = besides w _ (λ t. refl) refl
 
-beside-append : (b : Bool) (w : World) (f : ℕ) → Beside w (acts.append_by b w f)
-beside-append true w f = besides w _ (λ t. refl) refl
-beside-append false w f = besides w _ (λ t. refl) refl
+beside-append : (b : Bool) (w : World) (mark : Mark) (f : ℕ) → Beside w (acts.append_by b w mark f)
+beside-append true w mark f = besides w _ (λ t. refl) refl
+beside-append false w mark f = besides w _ (λ t. refl) refl
 
 beside-exchange : (b : Bool) (w : World) → Beside w (exchange_by b w)
 beside-exchange true w = besides w _ (λ t. refl) refl
@@ -283,7 +283,7 @@ beside-act p h (op.Table (table_op.LeaveTable f)) w n = beside-leave _ w f
 beside-act p h (op.Table o) w n = besides w _ (λ t. refl) refl
 beside-act p h (op.Queue queue_op.TakeTurn) w n = refl
 beside-act p h (op.Queue (queue_op.Take look)) w n = beside-take look _ w
-beside-act p h (op.Queue (queue_op.Append f)) w n = beside-append _ w f
+beside-act p h (op.Queue (queue_op.Append f)) w n = beside-append _ w _ f
 beside-act p h (op.User (user_op.BeginDrop f)) w n = besides w _ (λ t. view-log t w (event.Dropped p f) (λ t n s. refl))
     refl
 beside-act p h (op.User (user_op.BeginDropOutput f)) w n =

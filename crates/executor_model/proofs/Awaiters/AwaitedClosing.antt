@@ -68,8 +68,8 @@ open-queue : (c l : Bool) → (not c && l) ≡ true → c ≡ false
 open-queue false l e = refl
 open-queue true l e = absurd (cc)
 
-sweeps-append : (b : Bool) (w : World) (f : ℕ) → (b ≡ true → w.queue.closed ≡ false) →
-    KeepsSweeps w (op.Queue (queue_op.Append f) ∷ []) (append_by b w f)
+sweeps-append : (b : Bool) (w : World) (mark : Mark) (f : ℕ) → (b ≡ true → w.queue.closed ≡ false) →
+    KeepsSweeps w (op.Queue (queue_op.Append f) ∷ []) (append_by b w mark f)
 sweeps-append = by_bool _
     (λ w f c r h. let z : w.queue.closed ≡ false = c refl in grind (arith, length-append))
     (λ w f c r h. grind arith)
@@ -232,7 +232,7 @@ sweeps-act false p h o w n = sweeps-still w (o ∷ []) (act p h o w) (same-act p
     (no-act p h o w _ refl n)
 sweeps-act true p h (op.Queue queue_op.TakeTurn) w n = refl
 sweeps-act true p h (op.Queue (queue_op.Take look)) w n = sweeps-take look _ w refl
-sweeps-act true p h (op.Queue (queue_op.Append f)) w n = sweeps-append _ w f (open-queue w.queue.closed _)
+sweeps-act true p h (op.Queue (queue_op.Append f)) w n = sweeps-append _ w _ f (open-queue w.queue.closed _)
 sweeps-act true p h (op.Tick (tick_op.Search s)) w n = sweeps-search_who h s.who p w s refl
 sweeps-act true p h (op.Tick (tick_op.Look s look)) w n = refl
 sweeps-act true p h (op.Steal o) w n = sweeps-steal p h o w

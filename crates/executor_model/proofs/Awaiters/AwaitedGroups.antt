@@ -69,7 +69,7 @@ pub awaits-act : (p : ℕ) (h : Hint) (o : Op) (w : World) → length w.awaiters
 awaits-act p h (op.Table (table_op.Enter mark)) w n u z m = awaits-enter _ _ _ p w n
 awaits-act p h (op.Queue queue_op.TakeTurn) w n u z m = refl
 awaits-act p h (op.Queue (queue_op.Take look)) w n u z m = awaits-take look _ w refl
-awaits-act p h (op.Queue (queue_op.Append f)) w n u z m = awaits-append _ w f
+awaits-act p h (op.Queue (queue_op.Append f)) w n u z m = awaits-append _ w _ f
 awaits-act p h (op.Move move.WakeByReference f) w n u z m =
     awaits-wake_by_reference (moves.is_over (task w f)) _ _ p w f refl refl
     (own _ f (op.Move move.WakeByReference f) (omega arith) z)

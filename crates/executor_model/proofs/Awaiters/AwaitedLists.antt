@@ -123,9 +123,9 @@ no-detach true b s = refl
 no-detach false true s = refl
 no-detach false false s = refl
 
-plain-append : (b : Bool) (w : World) (f : ℕ) → weigh rough_of (append_by b w f).next ≡ 0
-plain-append true w f = refl
-plain-append false w f = refl
+plain-append : (b : Bool) (w : World) (mark : Mark) (f : ℕ) → weigh rough_of (append_by b w mark f).next ≡ 0
+plain-append true w mark f = refl
+plain-append false w mark f = refl
 
 plain-take : (look : Look) (q : List ℕ) (w : World) → weigh rough_of (take_by w look q).next ≡ 0
 plain-take (First mark) [] w = refl
@@ -240,7 +240,7 @@ pub plain-act : (p : ℕ) (h : Hint) (o : Op) (w : World) → is_special o ≡ f
 plain-act p h (op.Table (table_op.Enter mark)) w n = plain-enter _ _ _ p w
 plain-act p h (op.Queue queue_op.TakeTurn) w n = refl
 plain-act p h (op.Queue (queue_op.Take look)) w n = plain-take look _ w
-plain-act p h (op.Queue (queue_op.Append f)) w n = plain-append _ w f
+plain-act p h (op.Queue (queue_op.Append f)) w n = plain-append _ w _ f
 plain-act p h (op.Move move.WakeByReference f) w n =
     plain-carried f _ (moves.wake_by_reference (task w f)) (no-wake _ _ (task w f))
 plain-act p h (op.Move move.Wake f) w n = plain-wake p w f

@@ -4,6 +4,7 @@ use Rattle.std.proofs.Common.{◌≡◌, ℕ, ◌+◌, ◌<◌, List, [], ◌∷
 use Rattle.std.proofs.Common.{eqb, drop, arith}
 use Rattle.std.proofs.lemmas.Bool.Decides.{nat_tests}
 use Rattle.std.proofs.lemmas.List.{length-set, length-append}
+use Rattle.executor_parts.specs.declared.mark.Mark.{Mark}
 use Rattle.executor_model.specs.declared.op.Look.{Look}
 use Rattle.executor_model.specs.World.{queue_of}
 use Rattle.executor_model.specs.Acts.{mark_in}
@@ -36,7 +37,7 @@ use Rattle.executor_model.proofs.Counts.Counting.{cancel_going, cancel_idle, can
 use Rattle.executor_model.proofs.Awaiters.Awaited.{Awaiting, Mark, heard-push, with_awaiting, Footing}
 use Rattle.executor_model.proofs.Awaiters.Awaited.{Awaits, KeepsAwaits, kept_push}
 
-pub awaits-append : (b : Bool) (w : World) (f : ℕ) → KeepsAwaits w (op.Queue (queue_op.Append f) ∷ []) (append_by b w f)
+pub awaits-append : (b : Bool) (w : World) (mark : Mark) (f : ℕ) → KeepsAwaits w (op.Queue (queue_op.Append f) ∷ []) (append_by b w mark f)
 awaits-append = by_bool _
     (λ w f g r yy mm bb h. grind (arith, same_is, times-append))
     (λ w f g r yy mm bb h. grind (arith, same_is))

@@ -100,7 +100,7 @@ grows-carried w v f m l h z =
 below : (n f : ℕ) → past n f ≡ 0 → f < n
 below n f e = grind (arith, past_is)
 
-pub grows-append : (b : Bool) (w : World) (f : ℕ) → Grows w (op.Queue (queue_op.Append f) ∷ []) (append_by b w f)
+pub grows-append : (b : Bool) (w : World) (mark : Mark) (f : ℕ) → Grows w (op.Queue (queue_op.Append f) ∷ []) (append_by b w mark f)
 grows-append = by_bool _
     (λ w f h k. grind arith)
     (λ w f h k. grind arith)

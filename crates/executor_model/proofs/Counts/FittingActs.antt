@@ -32,7 +32,7 @@ pub grows-act : (p : ℕ) (c : Hint) (o : Op) (w : World) → Grows w (o ∷ [])
 grows-act p c (op.Table (table_op.Enter mark)) w h k = grows-enter _ _ _ p w h k
 grows-act p c (op.Queue queue_op.TakeTurn) w h k = refl
 grows-act p c (op.Queue (queue_op.Take look)) w h k = grows-take look _ w refl h k
-grows-act p c (op.Queue (queue_op.Append f)) w h k = grows-append _ w f h k
+grows-act p c (op.Queue (queue_op.Append f)) w h k = grows-append _ w _ f h k
 grows-act p c (op.Move m f) w h k = grows-move (stands_alone m) m p w f h k
 grows-act p c (op.Table (table_op.TakeToPoll f)) w h k =
     grows-inside w f false [] (op.User (user_op.Poll f) ∷ []) (omega (arith, k)) h

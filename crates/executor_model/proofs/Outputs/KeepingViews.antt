@@ -78,8 +78,8 @@ KeepsStored w old d = (g : ℕ) (r : Pend) (y : Extra) → Sure (seen w g (with_
     Stored (seen w g (with_ops g old r) (with_extra g old y)) →
     Stored (seen d.world g (with_ops g d.next r) (with_extra g d.next y))
 
-stored-refuses : (w : World) (f : ℕ) → KeepsStored w (op.Queue (queue_op.Append f) ∷ []) (append_by false w f)
-stored-refuses w f g r y k h = grind (arith, same_is)
+stored-refuses : (w : World) (mark : Mark) (f : ℕ) → KeepsStored w (op.Queue (queue_op.Append f) ∷ []) (append_by false w mark f)
+stored-refuses w mark f g r y k h = grind (arith, same_is)
 
 stored-enters : (mark : Mark) (p : ℕ) (w : World) → KeepsStored w (op.Table (table_op.Enter mark) ∷ []) (enter_by false false mark p w)
 stored-enters mark p w g r y k h = let b = footing _ k in
@@ -120,7 +120,7 @@ stored-effect w old _ (turns d m p f v more i j n s a e) g r y k h =
     turned-keeps Sure Stored (λ m x. stands_alone m ≡ true) stored-moved stored-loose
     (λ x y z. sound-passes x y z.passes) (λ x y z b. stored-passes x y z.passes z.handles (footing x b)) w old d m p f v
     more i (λ q u. j) s a e g r y k h
-stored-effect w old d (refuses f e) g r y k h = stored-refuses w f g r y k h
+stored-effect w old d (refuses f e) g r y k h = stored-refuses w _ f g r y k h
 stored-effect w old d (enters p e) g r y k h = stored-enters p w g r y k h
 stored-effect w old d (unlists f e) g r y k h = stored-unlists w f g r y k h
 stored-effect w old d (drops p f) g r y k h = stored-drops p f w g r y k h

@@ -5,6 +5,7 @@ use Rattle.std.proofs.Common.{true, false, ltb, eqb}
 use Rattle.std.proofs.Common.{refl, sym, ap, subst, ⊎_elim, ◌⊎◌, inl, inr, ◌||◌, arith}
 use Rattle.std.proofs.lemmas.Bool.Decides.{nat_tests}
 use Rattle.std.specs.Prelude.{Option, Some, None, is_none, reverse}
+use Rattle.executor_parts.specs.declared.mark.Mark.{Mark}
 use Rattle.executor_model.specs.declared.op.Look.TheVariants.{First, Second}
 use Rattle.executor_parts.specs.Sleepers.{flag_of, position_of, waker_at, waker_of}
 use Rattle.executor_parts.proofs.Agreeing.{first}
@@ -113,9 +114,9 @@ goes o = goes-unseen owes_of (λ f. refl) o
 goes-well : (o : Option Sleeping) → wakes_up_well (sleeper_goes o) ≡ true
 goes-well o = wakes_up-none (sleeper_goes o) (goes-unseen wakes_up_of (λ f. refl) o)
 
-follow-append : (b : Bool) (w : World) (f : ℕ) → Follow w (op.Queue (queue_op.Append f) ∷ []) (append_by b w f)
-follow-append true w f = still w _ _ _ refl refl refl refl
-follow-append false w f = still w _ _ _ refl refl refl refl
+follow-append : (b : Bool) (w : World) (mark : Mark) (f : ℕ) → Follow w (op.Queue (queue_op.Append f) ∷ []) (append_by b w mark f)
+follow-append true w mark f = still w _ _ _ refl refl refl refl
+follow-append false w mark f = still w _ _ _ refl refl refl refl
 
 follow-exchange : (b : Bool) (w : World) → w.notified ≡ b →
     Follow w (op.Sleeper sleeper_op.ExchangeFlag ∷ []) (exchange_by b w)

@@ -6,6 +6,7 @@ use Rattle.std.proofs.lemmas.Bool.Decides.{nat_tests}
 use Rattle.std.proofs.lemmas.List.{length-set, length-take-le}
 use Rattle.std.proofs.lemmas.List.Edits.{length-remove}
 use Rattle.std.specs.Prelude.{◌-◌, Option, Some, None, is_none, remove, slice_get}
+use Rattle.executor_parts.specs.declared.mark.Mark.{Mark}
 use Rattle.executor_model.specs.declared.op.Look.TheVariants.{First, Second}
 use Rattle.executor_model.specs.World.{queue_of}
 use Rattle.executor_model.specs.Acts.{mark_in}
@@ -105,9 +106,9 @@ loud : (w v : World) (old next : List Op) → 1 ≤ weigh tells_of next → Tell
 loud w v old next z =
     record { on = λ i j k a m x y u l r g t. record { told = λ p q. let b : 1 ≤ j = omega (arith, y, z) in inr b } }
 
-tells-append : (b : Bool) (w : World) (f : ℕ) → Tells w (op.Queue (queue_op.Append f) ∷ []) (append_by b w f)
-tells-append true w f = loud w _ _ _ (omega arith)
-tells-append false w f = quiet w _ _ _ refl (omega arith) refl
+tells-append : (b : Bool) (w : World) (mark : Mark) (f : ℕ) → Tells w (op.Queue (queue_op.Append f) ∷ []) (append_by b w mark f)
+tells-append true w mark f = loud w _ _ _ (omega arith)
+tells-append false w mark f = quiet w _ _ _ refl (omega arith) refl
 
 tells-exchange : (b : Bool) (w : World) → w.notified ≡ b →
     Tells w (op.Sleeper sleeper_op.ExchangeFlag ∷ []) (exchange_by b w)

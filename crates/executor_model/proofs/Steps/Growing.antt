@@ -110,7 +110,7 @@ module _ (n m : ℕ) (h : n ≤ m) where
 
   more-then : (t : Then) → then_past n t ≡ 0 → then_past m t ≡ 0
   more-then (then.Found f) z = more-one f z
-  more-then (then.StealPlain f) z = refl
+  more-then (then.StealPlain f) z = more-one f z
   more-then (then.Run f) z = more-one f z
   more-then (then.Walk at left) z = refl
 

@@ -4,6 +4,9 @@
 use Rattle.std.proofs.Common.{◌≡◌, ℕ, List, [], ◌∷◌, ◌++◌, length, Bool, true, false, refl, sym, ap, ◌∙◌, append-nil}
 use Rattle.std.proofs.lemmas.List.{append_assoc, append_cancel_left}
 use Rattle.std.specs.Prelude.{Option, Some, None}
+use Rattle.executor_model.specs.Acts.{turned}
+use Rattle.executor_parts.specs.Marks.{first_of}
+use Rattle.executor_model.specs.declared.op.Look.{Look}
 use Rattle.executor_parts.specs.declared.mark.Mark.TheVariants.{Plain, Urgent}
 use Rattle.executor_model.specs.declared.op.Look.TheVariants.{First, Second}
 use Rattle.executor_model.specs.World.{queue_of}
@@ -101,14 +104,17 @@ module _ (t : Event → Bool) (u : (e : Event) → is_hushed e ≡ true → t e 
   hushed-let_go true w f = hushed _ _ refl
   hushed-let_go false w f = hushed _ _ refl
 
-  hushed-append : (b : Bool) (w : World) (f : ℕ) → Hushed w (append_by b w f).world
-  hushed-append true w f = hushed _ _ refl
-  hushed-append false w f = hushed _ _ refl
+  hushed-append : (b : Bool) (w : World) (mark : Mark) (f : ℕ) → Hushed w (append_by b w mark f).world
+  hushed-append true w mark f = hushed _ _ refl
+  hushed-append false w mark f = hushed _ _ refl
 
   hushed-take : (look : Look) (q : List ℕ) (w : World) → Hushed w (take_by w look q).world
   hushed-take (First mark) [] w = hushed _ _ refl
   hushed-take (Second mark) [] w = hushed _ _ refl
   hushed-take look (f ∷ rest) w = hushed _ _ refl
+
+  hushed-turn : (p : ℕ) (w : World) → Hushed w (turned p w)
+  hushed-turn p w = one _ _ (event.Looked p (first_of w.urgent_turns)) refl (u _ refl)
 
   hushed-enter : (b c : Bool) (mark : Mark) (p : ℕ) (w : World) → ((f : ℕ) → t (event.Accepted p f) ≡ false) →
       Hushed w (enter_by b c mark p w).world
@@ -200,7 +206,7 @@ module _ (t : Event → Bool) (u : (e : Event) → is_hushed e ≡ true → t e 
       both w v _ (hushed-wake_next p w (f ∷ rest)) (one v (log v (event.Leaked p f)) (event.Leaked p f) refl (u _ refl))
 
   hushed-drain : (mark : Mark) (p : ℕ) (w : World) (q : List ℕ) → Hushed w (drain_by p w mark q).world
-  hushed-drain Urgent p w [] = one _ _ (event.DropEnded p) refl (u _ refl)
+  hushed-drain Urgent p w [] = hushed _ _ refl
   hushed-drain Plain p w [] = one _ _ (event.DropEnded p) refl (u _ refl)
   hushed-drain mark p w (f ∷ rest) = hushed _ _ refl
 
@@ -238,9 +244,9 @@ module _ (t : Event → Bool) (u : (e : Event) → is_hushed e ≡ true → t e 
   pub hushed-act : (p : ℕ) (h : Hint) (o : Op) (w : World) → Hushes p o → Hushed w (act p h o w).world
   hushed-act p h (op.Table (table_op.Enter mark)) w z = hushed-enter _ _ _ p w z
   hushed-act p h (op.Table (table_op.LeaveTable f)) w z = hushed-leave _ w f
-  hushed-act p h (op.Queue queue_op.TakeTurn) w z = refl
+  hushed-act p h (op.Queue queue_op.TakeTurn) w z = hushed-turn p w
   hushed-act p h (op.Queue (queue_op.Take look)) w z = hushed-take look _ w
-  hushed-act p h (op.Queue (queue_op.Append f)) w z = hushed-append _ w f
+  hushed-act p h (op.Queue (queue_op.Append f)) w z = hushed-append _ w _ f
   hushed-act p h (op.Move m f) w z = hushed-move _ m p w f
   hushed-act p h (op.User (user_op.BeginDrop f)) w z = one _ _ (event.Dropped p f) refl z
   hushed-act p h (op.User (user_op.BeginDropOutput f)) w z = one _ _ (event.OutputDropped p f) refl (u _ refl)
@@ -258,12 +264,16 @@ module _ (t : Event → Bool) (u : (e : Event) → is_hushed e ≡ true → t e 
   hushed-act p h (op.Sleeper sleeper_op.ExchangeFlag) w z = hushed-exchange _ w
   hushed-act p h (op.Sleeper sleeper_op.HandOut) w z = hushed-hand_out _ _ w
   hushed-act p h (op.Sleeper (sleeper_op.CallSleeper s)) w z = hushed-call p w (polled_as s.who) s.waker s.poll z
-  hushed-act p h (op.Tick o) w z = hushed _ _ (tick-trace p h o w)
+  hushed-act p h (op.Tick o) w z = ⊎_elim
+      (λ (e : (tick_act p h o w).world.trace ≡ w.trace). hushed w _ e)
+      (λ (e : (tick_act p h o w).world.trace ≡ w.trace ++ event.Looked p (first_of w.urgent_turns) ∷ []).
+      one w _ (event.Looked p (first_of w.urgent_turns)) e (u _ refl))
+      (tick-trace p h o w)
   hushed-act p h (op.List o) w z = hushed w _ (moves-list h o w).same.trace
   hushed-act p h (op.Steal o) w z = hushed-steal p o w
   hushed-act p h (op.Run run_op.MakeRoom) w z = hushed w _ (moves-make_room _ w).same.trace
   hushed-act p h (op.Run run_op.ReturnRoom) w z = hushed w _ (moves-return_room w).same.trace
-  hushed-act p h (op.Run (run_op.TakeTurn x)) w z = refl
+  hushed-act p h (op.Run (run_op.TakeTurn x)) w z = hushed-turn p w
   hushed-act p h (op.Run (run_op.SearchCommon x look)) w z = hushed w _ (moves-common look _ w x refl).same.trace
   hushed-act p h (op.Run (run_op.LookOwn x at left)) w z = hushed w _ (moves-look _ w x at left refl).same.trace
   hushed-act p h (op.Run (run_op.WakeOwn x)) w z = hushed-wake_own p w x z

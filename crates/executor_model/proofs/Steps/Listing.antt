@@ -3,6 +3,7 @@
 -- wake: the rest leave all three as they were.
 use Rattle.std.proofs.Common.{◌≡◌, ℕ, ◌<◌, List, [], ◌∷◌, length, Bool, true, false, refl, sym, ap, ◌∙◌}
 use Rattle.std.specs.Prelude.{Option, Some, None}
+use Rattle.executor_model.specs.declared.op.Look.{Look}
 use Rattle.executor_parts.specs.declared.mark.Mark.TheVariants.{Plain, Urgent}
 use Rattle.executor_parts.specs.declared.mark.Mark.{Mark}
 use Rattle.executor_model.specs.declared.op.Look.TheVariants.{First, Second}
@@ -74,9 +75,9 @@ entries-log_if : (b : Bool) (w : World) (e : Event) → entries w ≡ entries (l
 entries-log_if true w e = refl
 entries-log_if false w e = refl
 
-entries-append : (b : Bool) (w : World) (f : ℕ) → entries w ≡ entries (append_by b w f).world
-entries-append true w f = refl
-entries-append false w f = refl
+entries-append : (b : Bool) (w : World) (mark : Mark) (f : ℕ) → entries w ≡ entries (append_by b w mark f).world
+entries-append true w mark f = refl
+entries-append false w mark f = refl
 
 entries-take : (look : Look) (q : List ℕ) (w : World) → entries w ≡ entries (take_by w look q).world
 entries-take (First mark) [] w = refl
@@ -178,7 +179,7 @@ same-entries p h (op.Move m f) w n = entries-move _ m p w f
 same-entries p h (op.Waker (waker_op.CopyWaker f held)) w n = entries-copy _ w f held
 same-entries p h (op.Queue queue_op.TakeTurn) w n = refl
 same-entries p h (op.Queue (queue_op.Take look)) w n = entries-take look _ w
-same-entries p h (op.Queue (queue_op.Append f)) w n = entries-append _ w f
+same-entries p h (op.Queue (queue_op.Append f)) w n = entries-append _ w _ f
 same-entries p h (op.Handle (handle_op.Look f a)) w n =
     entries-look (moves.poll (task w f)).owed.answer p w f a (moves.poll (task w f))
 same-entries p h (op.Handle (handle_op.CopyAwaiter f a)) w n = entries-copy_awaiter _ p w f a

@@ -2,6 +2,7 @@
 -- Which things that are done lead to user code of a future, or to its way back: no others do.
 use Rattle.std.proofs.Common.{◌≡◌, ℕ, List, [], ◌∷◌, ◌++◌, Bool, true, false, refl, arith}
 use Rattle.std.specs.Prelude.{Option, Some, None}
+use Rattle.executor_model.specs.declared.op.Look.{Look}
 use Rattle.executor_parts.specs.declared.mark.Mark.TheVariants.{Plain, Urgent}
 use Rattle.executor_model.specs.declared.op.Look.TheVariants.{First, Second}
 use Rattle.executor_parts.specs.declared.mark.Mark.{Mark}
@@ -113,9 +114,9 @@ near-sleepers = record {
   wake = λ p w f. near-move true move.Wake p w f;
 }
 
-near-append : (b : Bool) (w : World) (f : ℕ) → weigh near_of (append_by b w f).next ≡ 0
-near-append true w f = refl
-near-append false w f = refl
+near-append : (b : Bool) (w : World) (mark : Mark) (f : ℕ) → weigh near_of (append_by b w mark f).next ≡ 0
+near-append true w mark f = refl
+near-append false w mark f = refl
 
 near-take : (look : Look) (q : List ℕ) (w : World) → weigh near_of (take_by w look q).next ≡ 0
 near-take (First mark) [] w = refl
@@ -228,7 +229,7 @@ near-act p h (op.Table (table_op.TakeToDrop f)) w n = absurd (cc)
 near-act p h (op.Table (table_op.LeaveTable f)) w n = near-leave _ w f
 near-act p h (op.Queue queue_op.TakeTurn) w n = refl
 near-act p h (op.Queue (queue_op.Take look)) w n = near-take look _ w
-near-act p h (op.Queue (queue_op.Append f)) w n = near-append _ w f
+near-act p h (op.Queue (queue_op.Append f)) w n = near-append _ w _ f
 near-act p h (op.User o) w n = absurd (cc)
 near-act p h (op.Waker (waker_op.CopyWaker f held)) w n = near-copy _ w f held
 near-act p h (op.Waker (waker_op.CallAwaiter f a k)) w n = near-call p w f a k
@@ -243,7 +244,7 @@ near-act p h (op.Handle (handle_op.Notify f mine)) w n = near-notify _ w f mine
 near-act p h (op.Handle (handle_op.LetGo f)) w n = aside-let_go_by near_of near-aside _ w f
 near-act p h (op.Handle (handle_op.EndNotify f mine)) w n = aside-told near_of near-aside _ f (awaiter_of w f)
 near-act p h (op.Sleeper o) w n = sleeper-unseen near_of near-sleepers p o w
-near-act p h (op.Tick o) w n = tick-blind near_of near-ticks near-runs h o w
+near-act p h (op.Tick o) w n = tick-blind near_of near-ticks near-runs p h o w
 near-act p h (op.List o) w n = list-blind near_of near-runs h o w
 near-act p h (op.Steal o) w n = steal-blind near_of near-runs (λ f. refl) p o w
 near-act p h (op.Run o) w n = run-blind near_of near-runs p h o w (λ x. near-wake_own p w x) (λ q r a. near-reschedule w q r a)

@@ -2,6 +2,7 @@
 -- Which things that are done change the kept wakers, or which futures are in their places: the rest leave both as they were.
 use Rattle.std.proofs.Common.{◌≡◌, ℕ, ◌<◌, List, [], ◌∷◌, length, Bool, true, false, refl, sym, ap, ◌∙◌}
 use Rattle.std.specs.Prelude.{Option, Some, None}
+use Rattle.executor_model.specs.declared.op.Look.{Look}
 use Rattle.executor_parts.specs.declared.mark.Mark.TheVariants.{Plain, Urgent}
 use Rattle.executor_parts.specs.declared.mark.Mark.{Mark}
 use Rattle.executor_model.specs.declared.op.Look.TheVariants.{First, Second}
@@ -70,9 +71,9 @@ spots-log_if : (b : Bool) (w : World) (e : Event) → spots w ≡ spots (log_if 
 spots-log_if true w e = refl
 spots-log_if false w e = refl
 
-spots-append : (b : Bool) (w : World) (f : ℕ) → spots w ≡ spots (append_by b w f).world
-spots-append true w f = refl
-spots-append false w f = refl
+spots-append : (b : Bool) (w : World) (mark : Mark) (f : ℕ) → spots w ≡ spots (append_by b w mark f).world
+spots-append true w mark f = refl
+spots-append false w mark f = refl
 
 spots-take : (look : Look) (q : List ℕ) (w : World) → spots w ≡ spots (take_by w look q).world
 spots-take (First mark) [] w = refl
@@ -162,7 +163,7 @@ spots-tick look (Asleep n) w (f ∷ rest) s = refl
 spots-tick look Left w (f ∷ rest) s = refl
 
 spots-search : (who : TickOrRun) (p : ℕ) (w : World) (s : Sleeping) → s.who ≡ who → spots w ≡ spots (search_by_who who p w s).world
-spots-search (tick_or_run.Tick t) p w s e = spots-tick _ w _ s
+spots-search (tick_or_run.Tick t) p w s e = refl
 spots-search (tick_or_run.Run r) p w s e = by-search SameSpots spots-moves spots-put w r s e
 
 spots-move : (b : Bool) (m : Move) (p : ℕ) (w : World) (f : ℕ) → spots w ≡ spots (move_by b m p w f).world
@@ -186,7 +187,7 @@ same-spots p h (op.Move m f) w n = spots-move _ m p w f
 same-spots p h (op.Table (table_op.LeaveTable f)) w n = spots-leave _ w f
 same-spots p h (op.Queue queue_op.TakeTurn) w n = refl
 same-spots p h (op.Queue (queue_op.Take look)) w n = spots-take look _ w
-same-spots p h (op.Queue (queue_op.Append f)) w n = spots-append _ w f
+same-spots p h (op.Queue (queue_op.Append f)) w n = spots-append _ w _ f
 same-spots p h (op.Handle (handle_op.Look f a)) w n =
     spots-look (moves.poll (task w f)).owed.answer p w f a (moves.poll (task w f))
 same-spots p h (op.Handle (handle_op.CopyAwaiter f a)) w n = spots-copy_awaiter _ p w f a
@@ -200,14 +201,14 @@ same-spots p h (op.Waker (waker_op.CallAwaiter f a k)) w n = spots-call p w (of.
 same-spots p h (op.Sleeper o) w n = ap spots_in (sleeper-rest p o w)
 same-spots p h (op.Tick tick_op.MakeTick) w n = ap spots_in (tick-rest p h tick_op.MakeTick w refl)
 same-spots p h (op.Tick (tick_op.Search s)) w n = spots-search s.who p w s refl
-same-spots p h (op.Tick (tick_op.Look s look)) w n = refl
+same-spots p h (op.Tick (tick_op.Look s look)) w n = spots-tick look _ w _ s
 same-spots p h (op.Tick (tick_op.CopyWaker s)) w n = ap spots_in (tick-rest p h (tick_op.CopyWaker s) w refl)
 same-spots p h (op.Tick (tick_op.FallAsleep s)) w n = ap spots_in (tick-rest p h (tick_op.FallAsleep s) w refl)
 same-spots p h (op.Tick (tick_op.WakeUp t)) w n = ap spots_in (tick-rest p h (tick_op.WakeUp t) w refl)
 same-spots p h (op.Tick (tick_op.Leave t)) w n = ap spots_in (tick-rest p h (tick_op.Leave t) w refl)
 same-spots p h (op.List o) w n = by-list SameSpots spots-moves spots-put h o w
 same-spots p h (op.Steal o) w n = by-steal SameSpots spots-moves spots-put p o w
-same-spots p h (op.Run o) w n = by-run SameSpots spots-moves spots-put p h o w (λ x e. spots-own p w x)
+same-spots p h (op.Run o) w n = by-run SameSpots spots-moves spots-put p h o w (λ x e. spots-own p w x) (λ x. refl)
 same-spots p h (op.Closing closing_op.WakeNext) w n = spots-wake_next _ p w
 same-spots p h (op.Closing (closing_op.Drain mark)) w n = spots-drain mark _ p w
 same-spots p h (op.Closing closing_op.LeakOut) w n = spots-leak_out _ w

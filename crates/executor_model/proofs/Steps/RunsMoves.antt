@@ -1,10 +1,12 @@
 -- For all laws.
 -- What a run does moves Runnables from one queue to another or into a hand, and changes nothing else that is kept of
 -- futures.
-use Rattle.std.proofs.Common.{◌≡◌, ℕ, zero, suc, ◌+◌, ◌<◌, List, [], ◌∷◌, ◌++◌, length, get_or, set, drop, Bool}
+use Rattle.std.proofs.Common.{◌≡◌, ℕ, zero, suc, ◌+◌, ◌<◌, List, [], ◌∷◌, ◌++◌, length, get_or, set, Bool}
 use Rattle.std.proofs.Common.{true, false, eqb, refl, ap, ◌∙◌, ◌%◌, arith}
 use Rattle.executor_model.specs.declared.op.Look.TheVariants.{First, Second}
-use Rattle.executor_model.specs.World.{queue_of}
+use Rattle.executor_model.specs.declared.op.Look.{Look}
+use Rattle.executor_model.specs.World.{put_queue, queue_of}
+use Rattle.executor_parts.specs.declared.mark.Mark.{Mark}
 use Rattle.executor_model.specs.Acts.{mark_in}
 use Rattle.executor_model.specs.declared.call.Reply.{Reply}
 use Rattle.executor_model.specs.declared.op.ListOp.{ListOp}
@@ -45,13 +47,14 @@ use Rattle.executor_model.specs.ActsOfRuns.{steal_by, steal_take_by, make_room_b
 use Rattle.executor_model.specs.Rows.{waiting_of, borrowing_of, then_waiting}
 use Rattle.executor_model.specs.Sound.{times, times_in, queued}
 use Rattle.executor_model.specs.Weights.{same, weigh}
-use Rattle.executor_model.proofs.Steps.Lists.{times-drop, weigh-append}
+use Rattle.executor_model.proofs.Steps.Lists.{weigh-append}
+use Rattle.executor_model.proofs.Steps.QueuesByMark.{capacity-first, closed-first, times-first}
 
 -- the lists that are kept of futures are the same
 pub record Same (w v : World) : Type 0 where
   pub limit : v.limit ≡ w.limit
-  pub closed : v.queue.closed ≡ w.queue.closed
-  pub capacity : v.queue.capacity ≡ w.queue.capacity
+  pub closed : (m : Mark) → (queue_of v m).closed ≡ (queue_of w m).closed
+  pub capacity : (m : Mark) → (queue_of v m).capacity ≡ (queue_of w m).capacity
   pub tasks : v.tasks ≡ w.tasks
   pub awaiters : v.awaiters ≡ w.awaiters
   pub inside : v.inside ≡ w.inside
@@ -68,8 +71,8 @@ pub same-here : (w : World) (rs : List Run) (qs : List (List ℕ)) (ls : List �
     Same w (record w { runs = rs; own = qs; listed = ls; lock = l })
 same-here w rs qs ls l = record {
   limit = refl;
-  closed = refl;
-  capacity = refl;
+  closed = λ m. refl;
+  capacity = λ m. refl;
   tasks = refl;
   awaiters = refl;
   inside = refl;
@@ -83,12 +86,12 @@ same-here w rs qs ls l = record {
   trace = refl;
 }
 
--- and so they are where the first of the executor's queue was taken
-pub same-taken : (w : World) → Same w (record w { queue = taken w.queues })
-same-taken w = record {
+-- and so they are where the first of one of the executor's queues was taken
+pub same-taken : (mark : Mark) (w : World) → Same w (put_queue w mark (taken (queue_of w mark)))
+same-taken mark w = record {
   limit = refl;
-  closed = refl;
-  capacity = refl;
+  closed = λ m. closed-first mark m w.queues;
+  capacity = λ m. capacity-first mark m w.queues;
   tasks = refl;
   awaiters = refl;
   inside = refl;
@@ -153,7 +156,7 @@ waiting-found g w x f =
 pub waiting-stolen : (g : ℕ) (t : Then) (w : World) (x : RunPoll) →
     weigh (waiting_of g) (stolen t w x).next ≡ then_waiting g t
 waiting-stolen g (then.Found f) w x = waiting-found g w x f
-waiting-stolen g (then.StealPlain f) w x = refl
+waiting-stolen g (then.StealPlain f) w x = omega arith
 waiting-stolen g (then.Run f) w x = waiting-run_by g _ w x f
 waiting-stolen g (then.Walk at left) w x = refl
 
@@ -186,8 +189,8 @@ queued-run_by g false w x f = refl
 pub same-trans : {u v w : World} → Same u v → Same v w → Same u w
 same-trans a b = record {
   limit = b.limit ∙ a.limit;
-  closed = b.closed ∙ a.closed;
-  capacity = b.capacity ∙ a.capacity;
+  closed = λ m. b.closed m ∙ a.closed m;
+  capacity = λ m. b.capacity m ∙ a.capacity m;
   tasks = b.tasks ∙ a.tasks;
   awaiters = b.awaiters ∙ a.awaiters;
   inside = b.inside ∙ a.inside;
@@ -217,7 +220,7 @@ queued-found g w x f = queued-counted g _ w x f
 
 pub same-stolen : (t : Then) (w : World) (x : RunPoll) → Same w (stolen t w x).world
 same-stolen (then.Found f) w x = same-found w x f
-same-stolen (then.StealPlain f) w x = refl
+same-stolen (then.StealPlain f) w x = same-here w _ _ _ _
 same-stolen (then.Run f) w x = same-run_by _ w x f
 same-stolen (then.Walk at left) w x = same-here w _ _ _ _
 
@@ -267,10 +270,9 @@ moves-take from [] w x t more e = record {
   moved = λ g. omega (arith, queued-stolen g t w x, waiting-stolen g t w x);
   lent = λ z. absurd (omega (arith, z));
 }
-moves-take Common (f ∷ rest) w x t more e = record {
-  same = same-taken w;
-  moved = λ g. (let z : same g f + times g (drop 1 w.queue.items) ≡ times g w.queue.items =
-      times-drop g f rest w.queue.items e in omega (arith, z));
+moves-take (Common mark) (f ∷ rest) w x t more e = record {
+  same = same-taken mark w;
+  moved = λ g. omega (arith, times-first g f rest mark w.queues e);
   lent = λ z. absurd (omega (arith, z));
 }
 moves-take (Own r) (f ∷ rest) w x t more e = record {
@@ -307,9 +309,8 @@ pub moves-common : (look : Look) (q : List ℕ) (w : World) (x : RunPoll) → (q
 moves-common (First mark) [] w x e = record { same = same-here w _ _ _ _; moved = λ g. refl; lent = λ z. absurd (omega (arith, z)) }
 moves-common (Second mark) [] w x e = record { same = same-here w _ _ _ _; moved = λ g. refl; lent = λ z. absurd (omega (arith, z)) }
 moves-common look (f ∷ rest) w x e = record {
-  same = same-taken w;
-  moved = λ g. (let z : same g f + times g (drop 1 (queue_of w (mark_in look)).items) ≡ times g (queue_of w (mark_in look)).items =
-      times-drop g f rest (queue_of w (mark_in look)).items e in omega (arith, z));
+  same = same-taken (mark_in look) w;
+  moved = λ g. omega (arith, times-first g f rest (mark_in look) w.queues e);
   lent = λ z. absurd (omega (arith, z));
 }
 
@@ -394,8 +395,8 @@ moves-list h _ w = record { same = same-here w _ _ _ _; moved = λ g. refl; lent
 pub same-rooms : (w : World) (s : Sleepers Sleeping) → s.wakers ≡ w.sleepers.wakers → Same w (record w { sleepers = s })
 same-rooms w s e = record {
   limit = refl;
-  closed = refl;
-  capacity = refl;
+  closed = λ m. refl;
+  capacity = λ m. refl;
   tasks = refl;
   awaiters = refl;
   inside = refl;

@@ -1,6 +1,9 @@
 -- For calls_do_what_they_say.
--- What ticks and runs both do is no event: their polls and drops are told of as they begin.
-use Rattle.std.proofs.Common.{◌≡◌, ℕ, List, [], ◌∷◌, refl, ap, sym}
+-- What ticks and runs both do is no event but a turn: their polls and drops are told of as they begin.
+use Rattle.std.proofs.Common.{◌≡◌, ◌⊎◌, inl, inr, ℕ, List, [], ◌∷◌, ◌++◌, refl, ap, sym}
+use Rattle.executor_parts.specs.Marks.{first_of}
+use Rattle.executor_model.specs.declared.event.Event.TheVariants as event
+use Rattle.executor_model.specs.declared.op.Look.{Look}
 use Rattle.executor_model.specs.declared.op.Look.TheVariants.{First, Second}
 use Rattle.executor_model.specs.declared.op.Sleeping.{Sleeping}
 use Rattle.executor_model.specs.declared.op.TickOp.{TickOp}
@@ -26,11 +29,15 @@ own-trace : (q : List ℕ) (w : World) (x : RunPoll) → (search_own_by q w x).w
 own-trace [] w x = refl
 own-trace (f ∷ rest) w x = (same-found (put_own w x.run rest) x f).trace
 
-searches-trace : (who : TickOrRun) (p : ℕ) (w : World) (s : Sleeping) → (search_by_who who p w s).world.trace ≡ w.trace
-searches-trace (tick_or_run.Tick t) p w s = search-trace _ w _ s
-searches-trace (tick_or_run.Run r) p w s = own-trace _ w _
+-- no event, or that of a turn
+abbrev pub TurnsAtMost : ℕ → World → World → Type 0
+TurnsAtMost p w v = (v.trace ≡ w.trace) ⊎ (v.trace ≡ w.trace ++ event.Looked p (first_of w.urgent_turns) ∷ [])
 
-pub tick-trace : (p : ℕ) (h : Hint) (o : TickOp) (w : World) → (tick_act p h o w).world.trace ≡ w.trace
+searches-trace : (who : TickOrRun) (p : ℕ) (w : World) (s : Sleeping) → TurnsAtMost p w (search_by_who who p w s).world
+searches-trace (tick_or_run.Tick t) p w s = inr refl
+searches-trace (tick_or_run.Run r) p w s = inl (own-trace _ w _)
+
+pub tick-trace : (p : ℕ) (h : Hint) (o : TickOp) (w : World) → TurnsAtMost p w (tick_act p h o w).world
 tick-trace p h (tick_op.Search s) w = searches-trace s.who p w s
-tick-trace p h (tick_op.Look s look) w = refl
-tick-trace p h o w = ap (λ (x : Wide). x.trace) (sym (wide-tick p h o w refl))
+tick-trace p h (tick_op.Look s look) w = inl (search-trace look _ w _ s)
+tick-trace p h o w = inl (ap (λ (x : Wide). x.trace) (sym (wide-tick p h o w refl)))

@@ -4,6 +4,9 @@ use Rattle.std.proofs.Common.{◌≡◌, ◌∙◌, ℕ, List, [], ◌∷◌, �
 use Rattle.std.proofs.Common.{refl, sym, ap, append-nil}
 use Rattle.std.proofs.lemmas.List.{append_assoc}
 use Rattle.std.specs.Prelude.{Option, Some, None}
+use Rattle.executor_model.specs.Acts.{turned}
+use Rattle.executor_parts.specs.Marks.{first_of}
+use Rattle.executor_model.specs.declared.op.Look.{Look}
 use Rattle.executor_parts.specs.declared.mark.Mark.TheVariants.{Plain, Urgent}
 use Rattle.executor_model.specs.declared.op.Look.TheVariants.{First, Second}
 use Rattle.executor_parts.specs.declared.mark.Mark.{Mark}
@@ -141,8 +144,8 @@ module _ (t : Event → Bool) (u : (e : Event) → is_ordinary e ≡ true → t 
   grows-take (Second mark) [] w = grows w w refl
   grows-take look (f ∷ rest) w = grows w (acts.take_by w look (f ∷ rest)).world refl
 
-  grows-append : (b : Bool) (w : World) (f : ℕ) → Grows w (acts.append_by b w f).world
-  grows-append true w mark f = grows w (acts.append_by true w f).world refl
+  grows-append : (b : Bool) (w : World) (mark : Mark) (f : ℕ) → Grows w (acts.append_by b w mark f).world
+  grows-append true w mark f = grows w (acts.append_by true w mark f).world refl
   grows-append false w mark f = grows w w refl
 
   grows-copy : (b : Bool) (w : World) (f : ℕ) (held : Hold) → Grows w (acts.copy_by b w f held).world
@@ -218,7 +221,7 @@ module _ (t : Event → Bool) (u : (e : Event) → is_ordinary e ≡ true → t 
       (grows-log v (log v (event.Leaked p f)) (event.Leaked p f) refl refl)
 
   grows-drain : (mark : Mark) (p : ℕ) (w : World) (q : List ℕ) → Grows w (acts.drain_by p w mark q).world
-  grows-drain Urgent p w [] = grows-log w (acts.drain_by p w Urgent []).world (event.DropEnded p) refl refl
+  grows-drain Urgent p w [] = grows w w refl
   grows-drain Plain p w [] = grows-log w (acts.drain_by p w Plain []).world (event.DropEnded p) refl refl
   grows-drain mark p w (f ∷ rest) = grows w (acts.drain_by p w mark (f ∷ rest)).world refl
 
@@ -236,6 +239,10 @@ module _ (t : Event → Bool) (u : (e : Event) → is_ordinary e ≡ true → t 
   grows-search (First mark) x [] w s = grows w w refl
   grows-search (Second mark) x [] w s = grows w w refl
   grows-search look x (f ∷ rest) w s = grows w (sleepers.look_tick_by x w look (f ∷ rest) s).world refl
+
+  -- a turn
+  grows-turn : (p : ℕ) (w : World) → Grows w (turned p w)
+  grows-turn p w = grows-log w (turned p w) (event.Looked p (first_of w.urgent_turns)) refl refl
 
   -- runs
 
@@ -264,7 +271,7 @@ module _ (t : Event → Bool) (u : (e : Event) → is_ordinary e ≡ true → t 
       (grows-log w v (event.WakerCalled p (of.Run x.run) x.poll x.waker) refl refl) (grows-reference p v x.waker)
 
   grows-who : (who : TickOrRun) (p : ℕ) (w : World) (s : Sleeping) → Grows w (search_by_who who p w s).world
-  grows-who (tick_or_run.Tick t) p w s = grows-search _ w.queue.items w s
+  grows-who (tick_or_run.Tick t) p w s = grows-turn p w
   grows-who (tick_or_run.Run q) p w s = grows-own _ w (record { run = q; waker = s.waker; poll = s.poll })
 
   -- what it adds beside is known
@@ -279,7 +286,7 @@ module _ (t : Event → Bool) (u : (e : Event) → is_ordinary e ≡ true → t 
   grows-act p h (op.Move m f) w z = grows-move (acts.stands_alone m) m p w w f refl (grows w w refl)
   grows-act p h (op.Table (table_op.Enter mark)) w z = grows-enter _ _ _ p w
   grows-act p h (op.Table (table_op.LeaveTable f)) w z = grows-leave _ w f
-  grows-act p h (op.Queue queue_op.TakeTurn) w z = refl
+  grows-act p h (op.Queue queue_op.TakeTurn) w z = grows-turn p w
   grows-act p h (op.Queue (queue_op.Take look)) w z = grows-take look _ w
   grows-act p h (op.Queue (queue_op.Append f)) w z = grows-append _ w _ f
   grows-act p h (op.User (user_op.BeginDrop f)) w z =
@@ -301,7 +308,7 @@ module _ (t : Event → Bool) (u : (e : Event) → is_ordinary e ≡ true → t 
   grows-act p h (op.Sleeper sleeper_op.HandOut) w z = grows-hand_out _ _ w
   grows-act p h (op.Sleeper (sleeper_op.CallSleeper s)) w z = grows-call p w (sleepers.polled_as s.who) s.waker s.poll
   grows-act p h (op.Tick (tick_op.Search s)) w z = grows-who s.who p w s
-  grows-act p h (op.Tick (tick_op.Look s look)) w z = refl
+  grows-act p h (op.Tick (tick_op.Look s look)) w z = grows-search look _ _ w s
   grows-act p h (op.Tick o) w z =
       grows w (tick_act p h o w).world (ap (λ (x : Wide). x.trace) (sym (wide-tick p h o w refl)))
   grows-act p h (op.List o) w z = grows w (list_act h o w).world (moves-list h o w).same.trace
@@ -315,7 +322,7 @@ module _ (t : Event → Bool) (u : (e : Event) → is_ordinary e ≡ true → t 
   grows-act p h (op.Steal (steal_op.Put s more f)) w z = grows-put _ p w s more f z
   grows-act p h (op.Run run_op.MakeRoom) w z =
       grows w (act p h (op.Run run_op.MakeRoom) w).world (moves-make_room _ w).same.trace
-  grows-act p h (op.Run (run_op.TakeTurn x)) w z = refl
+  grows-act p h (op.Run (run_op.TakeTurn x)) w z = grows-turn p w
   grows-act p h (op.Run (run_op.SearchCommon x look)) w z =
       grows w (act p h (op.Run (run_op.SearchCommon x look)) w).world (moves-common look _ w x refl).same.trace
   grows-act p h (op.Run (run_op.LookOwn x at left)) w z =

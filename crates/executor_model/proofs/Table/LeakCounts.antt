@@ -117,9 +117,9 @@ module _ (first more : ℕ) where
     wake = λ p w f. goes-move true move.Wake p w f;
   }
 
-  goes-append : (b : Bool) (w : World) (f : ℕ) → weigh (goes_of first more) (append_by b w f).next ≡ 0
-  goes-append true w f = refl
-  goes-append false w f = refl
+  goes-append : (b : Bool) (w : World) (mark : Mark) (f : ℕ) → weigh (goes_of first more) (append_by b w mark f).next ≡ 0
+  goes-append true w mark f = refl
+  goes-append false w mark f = refl
 
   goes-take : (look : Look) (q : List ℕ) (w : World) → weigh (goes_of first more) (take_by w look q).next ≡ 0
   goes-take (First mark) [] w = refl
@@ -242,7 +242,7 @@ module _ (first more : ℕ) where
   goes-act p h (op.Table (table_op.LeaveTable f)) w n = goes-leave _ w f
   goes-act p h (op.Queue queue_op.TakeTurn) w n = refl
   goes-act p h (op.Queue (queue_op.Take look)) w n = goes-take look _ w
-  goes-act p h (op.Queue (queue_op.Append f)) w n = goes-append _ w f
+  goes-act p h (op.Queue (queue_op.Append f)) w n = goes-append _ w _ f
   goes-act p h (op.User (user_op.BeginDrop f)) w n = refl
   goes-act p h (op.User o) w n = refl
   goes-act p h (op.Waker (waker_op.CopyWaker f held)) w n = goes-copy _ w f held

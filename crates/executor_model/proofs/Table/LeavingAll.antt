@@ -37,9 +37,9 @@ use Rattle.executor_model.specs.Acts.{leak_out_by, leaked}
 use Rattle.executor_model.proofs.OneFuture.MoveViews.{HasAsked, leaked-keeps, leaks_out-keeps}
 use Rattle.executor_model.proofs.OneFuture.Effects.Effect.{leaks, leaks_out}
 
-leaves-refuses : (w : World) (f : ℕ) → w.queue.closed ≡ true →
-    KeepsLeaves w (op.Queue (queue_op.Append f) ∷ []) (append_by false w f)
-leaves-refuses w f c g r y b h = grind (arith, same_is)
+leaves-refuses : (w : World) (mark : Mark) (f : ℕ) → w.queue.closed ≡ true →
+    KeepsLeaves w (op.Queue (queue_op.Append f) ∷ []) (append_by false w mark f)
+leaves-refuses w mark f c g r y b h = grind (arith, same_is)
 
 leaves-enters : (mark : Mark) (p : ℕ) (w : World) → (w.gone ≡ false → (g : ℕ) → length (story g w.trace).standing < w.limit) →
     KeepsLeaves w (op.Table (table_op.Enter mark) ∷ []) (enter_by false false mark p w)
@@ -97,7 +97,7 @@ leaves-effect w old _ n (turns d m p f v more i j k s a e) g r y b h =
     turned-keeps Base Entered (λ m x. stands_alone m ≡ true) entered-moved entered-loose
     (λ x y z. base-passes x y z.passes) (λ x y z c. entered-passes x y z.passes z.stays) w old d m p f v more i
     (λ q u. j) s a e g r y b h
-leaves-effect w old d n (refuses f e) g r y b h = leaves-refuses w f (n (op.Queue (queue_op.Append f)) refl e) g r y b h
+leaves-effect w old d n (refuses f e) g r y b h = leaves-refuses w _ f (n (op.Queue (queue_op.Append f)) refl e) g r y b h
 leaves-effect w old d n (enters p e) g r y b h = leaves-enters p w (n (op.Table (table_op.Enter mark)) refl e) g r y b h
 leaves-effect w old d n (unlists f e) g r y b h = leaves-unlists w f e g r y b h
 leaves-effect w old d n (drops p f) g r y b h = leaves-drops p f w g r y b h

@@ -83,9 +83,9 @@ no-detach true b s = refl
 no-detach false true s = refl
 no-detach false false s = refl
 
-pub light-append : (b : Bool) (w : World) (f : ℕ) → weigh uses_of (append_by b w f).next ≡ 0
-light-append true w f = refl
-light-append false w f = refl
+pub light-append : (b : Bool) (w : World) (mark : Mark) (f : ℕ) → weigh uses_of (append_by b w mark f).next ≡ 0
+light-append true w mark f = refl
+light-append false w mark f = refl
 
 pub tidy-take : (look : Look) (q : List ℕ) (w : World) → Tidy (op.Queue (queue_op.Take look) ∷ []) (take_by w look q).next
 tidy-take (First mark) [] w = record { keeps = λ h. refl }

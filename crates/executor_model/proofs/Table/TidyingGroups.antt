@@ -46,7 +46,7 @@ pub tidy-act : (p : ℕ) (h : Hint) (o : Op) (w : World) → NeedsNoEntry w o �
 tidy-act p h (op.Table (table_op.Enter mark)) w n = tidy-light _ _ (light-enter _ _ _ p w)
 tidy-act p h (op.Queue queue_op.TakeTurn) w n = refl
 tidy-act p h (op.Queue (queue_op.Take look)) w n = tidy-take look _ w
-tidy-act p h (op.Queue (queue_op.Append f)) w n = tidy-light _ _ (light-append _ w f)
+tidy-act p h (op.Queue (queue_op.Append f)) w n = tidy-light _ _ (light-append _ w _ f)
 tidy-act p h (op.Move move.WakeByReference f) w n =
     tidy-light _ _ (light-carried f _ (moves.wake_by_reference (task w f)) (no-wake _ _ (task w f)))
 tidy-act p h (op.Move move.Wake f) w n = tidy-light _ _ (light-wake p w f)

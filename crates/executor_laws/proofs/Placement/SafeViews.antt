@@ -174,7 +174,7 @@ away-effect w old _ n (turns d m p f v more i j k s a e) g r y z b h =
     turned-after Ground Away Needs away-moved away-loose d m p f v more i (λ q u. needs m f w v old q u j n k) a e g r y
     (ground-passes _ _ (s g r y).passes b) (away-passes _ _ z (s g r y).passes (s g r y).queues h)
 away-effect w old d n (refuses f e) g r y z b h = away-refuses w _ f g r y b h
-away-effect w old d n (enters p e) g r y z b h = away-enters p w g r y b h
+away-effect w old d n (enters mark p e) g r y z b h = away-enters mark p w g r y b h
 away-effect w old d n (unlists f e) g r y z b h = away-unlists w f g r y b h
 away-effect w old d n (drops p f) g r y z b h = away-drops p f w g r y b h
 away-effect w old d n takes_out g r y z b h = away-takes_out w.table w.waking w g r y b h

@@ -121,7 +121,7 @@ stored-effect w old _ (turns d m p f v more i j n s a e) g r y k h =
     (λ x y z. sound-passes x y z.passes) (λ x y z b. stored-passes x y z.passes z.handles (footing x b)) w old d m p f v
     more i (λ q u. j) s a e g r y k h
 stored-effect w old d (refuses f e) g r y k h = stored-refuses w _ f g r y k h
-stored-effect w old d (enters p e) g r y k h = stored-enters p w g r y k h
+stored-effect w old d (enters mark p e) g r y k h = stored-enters mark p w g r y k h
 stored-effect w old d (unlists f e) g r y k h = stored-unlists w f g r y k h
 stored-effect w old d (drops p f) g r y k h = stored-drops p f w g r y k h
 stored-effect w old d takes_out g r y k h = stored-takes_out w.table w.waking w g r y k h

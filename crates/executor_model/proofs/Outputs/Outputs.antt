@@ -114,7 +114,7 @@ out-effect w old _ (turns d m p f v more i j n s a e) g r y b h =
     turned-keeps Sure Given (λ m x. stands_alone m ≡ true) given-moved given-loose (λ x y z. sound-passes x y z.passes)
     (λ x y z b. given-passes x y z.passes z.gives) w old d m p f v more i (λ q u. j) s a e g r y b h
 out-effect w old d (refuses f e) g r y b h = grind arith
-out-effect w old d (enters p e) g r y b h = out-enters p w g r y b h
+out-effect w old d (enters mark p e) g r y b h = out-enters mark p w g r y b h
 out-effect w old d (unlists f e) g r y b h = grind arith
 out-effect w old d (drops p f) g r y b h = out-drops p f w g r y b h
 out-effect w old d takes_out g r y b h = out-takes_out w.table w.waking w g r y b h

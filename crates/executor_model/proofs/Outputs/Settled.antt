@@ -117,7 +117,7 @@ settle-effect w old _ (turns d m p f v more i j n s a e) g r y b h =
     turned-keeps Sure Settled (λ m x. stands_alone m ≡ true) settled-moved settled-loose (λ x y z. sound-passes x y z.passes)
     (λ x y z b. settled-passes x y z.passes z.gives z.handles) w old d m p f v more i (λ q u. j) s a e g r y b h
 settle-effect w old d (refuses f e) g r y b h = grind arith
-settle-effect w old d (enters p e) g r y b h = settle-enters p w g r y b h
+settle-effect w old d (enters mark p e) g r y b h = settle-enters mark p w g r y b h
 settle-effect w old d (unlists f e) g r y b h = grind arith
 settle-effect w old d (drops p f) g r y b h = settle-drops p f w g r y b h
 settle-effect w old d takes_out g r y b h = settle-takes_out w.table w.waking w g r y b h

@@ -68,7 +68,7 @@ limit-effect w old _ (turns d m p f v more i j k s a e) =
     ap (λ (x : World). x.limit) a ∙ (ap (λ (x : World). x.limit) (told-world (is_last_waker m (task v f)) (is_told m (task v f)) m p v f)
     ∙ (s 0 none no_extra).stays.limit)
 limit-effect w old d (refuses f e) = refl
-limit-effect w old d (enters p e) = refl
+limit-effect w old d (enters mark p e) = refl
 limit-effect w old d (unlists f e) = refl
 limit-effect w old d (drops p f) = refl
 limit-effect w old d takes_out = refl

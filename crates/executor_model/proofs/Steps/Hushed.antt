@@ -1,7 +1,7 @@
 -- For outside_wakers_are_called, the_closing_drop_keeps_the_order and the_closing_drop_wakes_in_order.
 -- What is added to the trace passes no test that only the call of a waker, the acceptance or drop of a future, or the
 -- beginning of the executor's drop passes, where the thing that is done is none of these.
-use Rattle.std.proofs.Common.{◌≡◌, ℕ, List, [], ◌∷◌, ◌++◌, length, Bool, true, false, refl, sym, ap, ◌∙◌, append-nil}
+use Rattle.std.proofs.Common.{◌≡◌, ℕ, List, [], ◌∷◌, ◌++◌, length, Bool, true, false, refl, sym, ap, ◌∙◌, ⊎_elim, append-nil}
 use Rattle.std.proofs.lemmas.List.{append_assoc, append_cancel_left}
 use Rattle.std.specs.Prelude.{Option, Some, None}
 use Rattle.executor_model.specs.Acts.{turned}
@@ -49,7 +49,7 @@ use Rattle.executor_model.specs.Acts.{enter_by, is_last_waker, is_told, leak_nex
 use Rattle.executor_model.specs.Acts.{look_by, move_by, notify_by, register_by, take_by, told_as, wake_next_by}
 use Rattle.executor_model.specs.ActsOfRuns.{call_by_reference, kept_by, steal_put_by, wake_own}
 use Rattle.executor_model.specs.ActsOfSleepers.{exchange_by, hand_out_by, polled_as}
-use Rattle.executor_model.specs.Doing.{act, steal_act}
+use Rattle.executor_model.specs.Doing.{act, steal_act, tick_act}
 use Rattle.executor_model.specs.Steps.{begun, future_of, kept, react, with_future}
 use Rattle.executor_model.specs.Trace.{Trace, has}
 use Rattle.executor_model.specs.World.{World, Done, log, log_if, put, task}

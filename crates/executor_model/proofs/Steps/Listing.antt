@@ -154,7 +154,7 @@ entries-tick look (Asleep n) w (f ∷ rest) s = refl
 entries-tick look Left w (f ∷ rest) s = refl
 
 entries-search : (who : TickOrRun) (p : ℕ) (w : World) (s : Sleeping) → s.who ≡ who → entries w ≡ entries (search_by_who who p w s).world
-entries-search (tick_or_run.Tick t) p w s e = entries-tick _ w _ s
+entries-search (tick_or_run.Tick t) p w s e = refl
 entries-search (tick_or_run.Run r) p w s e = by-search SameEntries entries-moves entries-put w r s e
 
 pub entries-move : (b : Bool) (m : Move) (p : ℕ) (w : World) (f : ℕ) → entries w ≡ entries (move_by b m p w f).world
@@ -193,14 +193,14 @@ same-entries p h (op.Waker (waker_op.CallAwaiter f a k)) w n = entries-call p w 
 same-entries p h (op.Sleeper o) w n = ap entries_in (sleeper-rest p o w)
 same-entries p h (op.Tick tick_op.MakeTick) w n = ap entries_in (tick-rest p h tick_op.MakeTick w refl)
 same-entries p h (op.Tick (tick_op.Search s)) w n = entries-search s.who p w s refl
-same-entries p h (op.Tick (tick_op.Look s look)) w n = refl
+same-entries p h (op.Tick (tick_op.Look s look)) w n = entries-tick look _ w _ s
 same-entries p h (op.Tick (tick_op.CopyWaker s)) w n = ap entries_in (tick-rest p h (tick_op.CopyWaker s) w refl)
 same-entries p h (op.Tick (tick_op.FallAsleep s)) w n = ap entries_in (tick-rest p h (tick_op.FallAsleep s) w refl)
 same-entries p h (op.Tick (tick_op.WakeUp t)) w n = ap entries_in (tick-rest p h (tick_op.WakeUp t) w refl)
 same-entries p h (op.Tick (tick_op.Leave t)) w n = ap entries_in (tick-rest p h (tick_op.Leave t) w refl)
 same-entries p h (op.List o) w n = by-list SameEntries entries-moves entries-put h o w
 same-entries p h (op.Steal o) w n = by-steal SameEntries entries-moves entries-put p o w
-same-entries p h (op.Run o) w n = by-run SameEntries entries-moves entries-put p h o w (λ x e. entries-own p w x)
+same-entries p h (op.Run o) w n = by-run SameEntries entries-moves entries-put p h o w (λ x e. entries-own p w x) (λ x. refl)
 same-entries p h (op.Closing (closing_op.Drain mark)) w n = entries-drain mark _ p w
 same-entries p h (op.User (user_op.BeginDrop f)) w n = refl
 same-entries p h _ w n = refl

@@ -1,6 +1,6 @@
 -- For all laws.
 -- What stands in the executor's two queues together, and what is kept of each, where the queue of one mark changes.
-use Rattle.std.proofs.Common.{◌≡◌, ◌≢◌, ◌⊎◌, inl, inr, ◌∙◌, ℕ, ◌+◌, ◌≤◌, List, [], ◌∷◌, ◌++◌, length, drop, Bool, refl, arith}
+use Rattle.std.proofs.Common.{◌≡◌, ◌≢◌, ◌⊎◌, inl, inr, ◌∙◌, ℕ, ◌+◌, ◌≤◌, List, [], ◌∷◌, ◌++◌, length, drop, Bool, true, false, ◌||◌, refl, arith}
 use Rattle.std.proofs.Common.{length-append}
 use Rattle.std.specs.Prelude.{Option}
 use Rattle.queue_steps.specs.ClosableQueue.{ClosableQueue, appended, taken, shut}
@@ -122,6 +122,26 @@ length-first f rest Plain qs e = omega (
   length-drop f rest qs.plain.items e,
   length-all qs,
 )
+
+-- one of them is closed
+abbrev pub is_any_shut : Queues → Bool
+is_any_shut qs = qs.urgent.closed || qs.plain.closed
+
+pub any-shut : (m : Mark) (qs : Queues) → (queue_in m qs).closed ≡ true → is_any_shut qs ≡ true
+any-shut Urgent qs e = rw e refl
+any-shut Plain qs e = by qs.urgent.closed
+  where
+    by : (b : Bool) → (b || qs.plain.closed) ≡ true
+    by true = refl
+    by false = e
+
+pub any-last : (m : Mark) (f : ℕ) (qs : Queues) → is_any_shut (with_last m f qs) ≡ is_any_shut qs
+any-last Urgent f qs = refl
+any-last Plain f qs = refl
+
+pub any-first : (m : Mark) (qs : Queues) → is_any_shut (without_first_of m qs) ≡ is_any_shut qs
+any-first Urgent qs = refl
+any-first Plain qs = refl
 
 -- the queue of a mark that was put there, and of the other one
 

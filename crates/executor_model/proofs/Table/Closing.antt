@@ -101,7 +101,7 @@ ousts-effect w old _ (turns d m p f v rest i j k s a e) =
       weigh-append ousting_of (move_by true m p v f).next rest,
     )
 ousts-effect w old d (refuses f e) = omega arith
-ousts-effect w old d (enters p e) = omega arith
+ousts-effect w old d (enters mark p e) = omega arith
 ousts-effect w old _ (unlists f e) = omega (arith, aside-entry ousting_of ousts-aside w.is_static f)
 ousts-effect w old d (drops p f) = omega arith
 ousts-effect w old d takes_out = omega (arith, ousts-closing w.table w.waking)

@@ -137,7 +137,7 @@ hands-effect w old _ (turns d m p f v more i j n s a e) g r y b h =
     turned-keeps Sure InHands (λ m x. stands_alone m ≡ true) hands-moved hands-loose (λ x y z. sound-passes x y z.passes)
     (λ x y z b. hands-passes x y z) w old d m p f v more i (λ q u. j) s a e g r y b h
 hands-effect w old d (refuses f e) g r y b h = grind arith
-hands-effect w old d (enters p e) g r y b h = hands-enters p w g r y b h
+hands-effect w old d (enters mark p e) g r y b h = hands-enters mark p w g r y b h
 hands-effect w old d (unlists f e) g r y b h = grind arith
 hands-effect w old d (drops p f) g r y b h = hands-drops p f w g r y b h
 hands-effect w old d takes_out g r y b h = hands-takes_out w.table w.waking w g r y b h

@@ -97,7 +97,7 @@ falls-effect w old _ g (turns d m p f v more i j k s a e) = inl (
     ∙ (logged-falls (is_told m (task v f)) v m p f g ∙ ⊎_elim (λ x. ap (λ (s : Story). s.fallen) x) (λ x. ap (λ (s : Story). s.fallen) x.1)
     (s g none no_extra).stays.story)))
 falls-effect w old d g (refuses f e) = inl refl
-falls-effect w old d g (enters p e) =
+falls-effect w old d g (enters mark p e) =
     inl (ap (λ (s : Story). s.fallen) (story-push g w.trace (event.Accepted p (length w.tasks))))
 falls-effect w old d g (unlists f e) = inl refl
 falls-effect w old d g (drops p f) = inr (op.User (user_op.BeginDrop f), (refl, refl))

@@ -8,6 +8,7 @@ use Rattle.std.specs.Prelude.{Option, Some, None, nat_lt}
 use Rattle.task_moves.specs.Moves as moves
 use Rattle.task_moves.specs.Moves.{most_references, is_going}
 use Rattle.executor_parts.specs.Sleepers.{Sleepers, waker_at}
+use Rattle.executor_parts.specs.declared.mark.Mark.{Mark}
 use Rattle.executor_model.specs.declared.call.Call.{Call}
 use Rattle.executor_model.specs.declared.call.Call.TheVariants as call
 use Rattle.executor_model.specs.declared.call.Reply.{Reply}
@@ -71,11 +72,11 @@ none-output w f = both (awaiter_ops f (moves.notify_other_if (task w f).awaiter)
 -- nothing has changed
 
 module _ (p : ℕ) (w : World) where
-  enter-unchanged : (full refused : Bool) → list_any may_refuse (acts.enter_by full refused mark p w).next ≡ true →
+  enter-unchanged : (full refused : Bool) (mark : Mark) → list_any may_refuse (acts.enter_by full refused mark p w).next ≡ true →
       (acts.enter_by full refused mark p w).world ≡ w
-  enter-unchanged true refused e = refl
-  enter-unchanged false true e = refl
-  enter-unchanged false false e = absurd (cc)
+  enter-unchanged true refused mark e = refl
+  enter-unchanged false true mark e = refl
+  enter-unchanged false false mark e = absurd (cc)
 
   copy-unchanged : (b : Bool) (f : ℕ) (held : Hold) → list_any may_refuse (acts.copy_by b w f held).next ≡ true →
       (acts.copy_by b w f held).world ≡ w
@@ -179,7 +180,7 @@ module _ (p : ℕ) (w : World) where
 
   unchanged : (h : Hint) (o : Op) → list_any may_refuse (act p h o w).next ≡ true → falls_asleep o ≡ false →
       is_of_run o ≡ false → takes_turn o ≡ false → (act p h o w).world ≡ w
-  unchanged h (op.Table (table_op.Enter mark)) e n r k = enter-unchanged _ h.refused e
+  unchanged h (op.Table (table_op.Enter mark)) e n r k = enter-unchanged _ h.refused mark e
   unchanged h (op.Waker (waker_op.CopyWaker f held)) e n r k = copy-unchanged _ f held e
   unchanged h (op.Handle (handle_op.Look f a)) e n r k =
       look-unchanged (task w f).closed (is_going (task w f)) (task w f).completed f a e
@@ -258,11 +259,11 @@ untold-want = record {
 }
 
 module _ (p : ℕ) (w : World) where
-  enter-told : (full refused : Bool) → list_any ends_for_want (acts.enter_by full refused mark p w).next ≡ true →
+  enter-told : (full refused : Bool) (mark : Mark) → list_any ends_for_want (acts.enter_by full refused mark p w).next ≡ true →
       refused ≡ true
-  enter-told true refused e = absurd (cc)
-  enter-told false true e = refl
-  enter-told false false e = absurd (cc)
+  enter-told true refused mark e = absurd (cc)
+  enter-told false true mark e = refl
+  enter-told false false mark e = absurd (cc)
 
   -- refused by the hint, or for the number of references
   copy-told : (refused small : Bool) (f : ℕ) (held : Hold) →
@@ -411,7 +412,7 @@ module _ (p : ℕ) (w : World) where
 
   told : (h : Hint) (o : Op) → ends_for_want o ≡ false → list_any ends_for_want (act p h o w).next ≡ true →
       (h.refused ≡ true) ⊎ CopiesOneTooMany o w
-  told h (op.Table (table_op.Enter mark)) n e = inl (enter-told _ h.refused e)
+  told h (op.Table (table_op.Enter mark)) n e = inl (enter-told _ h.refused mark e)
   told h (op.Waker (waker_op.CopyWaker f held)) n e =
       ⊎_elim (λ (x : h.refused ≡ true). inl x)
       (λ (x : nat_lt (task w f).references most_references ≡ false). inr (many (task w f).references x))

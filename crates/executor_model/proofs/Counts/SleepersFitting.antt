@@ -3,6 +3,8 @@
 use Rattle.std.proofs.Common.{◌≡◌, ℕ, List, [], ◌∷◌, length, Bool, true, false, not, refl, ap, arith}
 use Rattle.std.proofs.Math.ListN.{length-set}
 use Rattle.std.specs.Prelude.{Option, Some, None, is_none}
+use Rattle.executor_model.proofs.Steps.QueuesByMark.{pasts-first}
+use Rattle.executor_model.specs.declared.op.Look.{Look}
 use Rattle.executor_model.specs.declared.op.Look.TheVariants.{First, Second}
 use Rattle.executor_model.specs.World.{queue_of}
 use Rattle.executor_model.specs.Acts.{mark_in}
@@ -29,7 +31,7 @@ use Rattle.executor_model.specs.Weights.{weigh, waker_past}
 use Rattle.executor_model.specs.Good.{Fits}
 use Rattle.executor_model.specs.Rows.{past_of}
 use Rattle.executor_model.proofs.Counts.Fitting.{Grown, Grows, Shaped, shaped, fits-log, same-log, grows-carried, past_goes}
-use Rattle.executor_model.proofs.Steps.Lists.{pasts-drop, weigh-append}
+use Rattle.executor_model.proofs.Steps.Lists.{weigh-append}
 use Rattle.executor_model.proofs.Steps.SleepersLists.{held, sleepers-last}
 use Rattle.executor_model.proofs.Steps.SleepersLists.{sleepers-woken_up, sleepers-set}
 
@@ -91,9 +93,12 @@ pub grows-search : (look : Look) (x : Ticker) (q : List ℕ) (w : World) (s : Sl
     Grows w (op.Tick (tick_op.Look s look) ∷ []) (look_tick_by x w look q s)
 grows-search (First mark) x [] w s e h k = grind arith
 grows-search (Second mark) x [] w s e h k = grind arith
-grows-search look Awake (f ∷ rest) w s e h k = let z = pasts-drop (length w.tasks) f rest (queue_of w (mark_in look)).items e in grind arith
-grows-search look (Asleep n) (f ∷ rest) w s e h k = let z = pasts-drop (length w.tasks) f rest (queue_of w (mark_in look)).items e in grind arith
-grows-search look Left (f ∷ rest) w s e h k = let z = pasts-drop (length w.tasks) f rest (queue_of w (mark_in look)).items e in grind arith
+grows-search look Awake (f ∷ rest) w s e h k =
+    let z = pasts-first (length w.tasks) f rest (mark_in look) w.queues e in grind arith
+grows-search look (Asleep n) (f ∷ rest) w s e h k =
+    let z = pasts-first (length w.tasks) f rest (mark_in look) w.queues e in grind arith
+grows-search look Left (f ∷ rest) w s e h k =
+    let z = pasts-first (length w.tasks) f rest (mark_in look) w.queues e in grind arith
 
 pub grows-copy_sleeper : (b : Bool) (a : Waker) (t : TickOrRun) (m : ℕ) (w : World) →
     Grows w (op.Tick (tick_op.CopyWaker (record { waker = a; who = t; poll = m })) ∷ [])

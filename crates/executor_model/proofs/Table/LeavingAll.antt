@@ -5,6 +5,8 @@
 use Rattle.std.proofs.Common.{◌≡◌, ℕ, ◌+◌, ◌<◌, List, [], ◌∷◌, ◌++◌, length, true, false, ◌&&◌, not, refl, ap, arith}
 use Rattle.std.proofs.lemmas.List.{length-append}
 use Rattle.std.specs.Prelude.{nat_lt, slice_set}
+use Rattle.executor_model.proofs.Steps.QueuesByMark.{is_any_shut}
+use Rattle.executor_model.specs.Acts.{takes_more}
 use Rattle.executor_parts.specs.declared.mark.Mark.{Mark}
 use Rattle.task_moves.specs.declared.moves.owed.Move.TheVariants as move
 use Rattle.executor_model.specs.declared.call.Call.TheVariants as call
@@ -20,7 +22,7 @@ use Rattle.executor_model.specs.declared.op.Op.TheVariants as op
 use Rattle.executor_model.specs.declared.op.QueueOp.TheVariants as queue_op
 use Rattle.executor_model.specs.declared.op.TableOp.TheVariants as table_op
 use Rattle.executor_model.specs.declared.op.UserOp.TheVariants as user_op
-use Rattle.executor_model.specs.World.{World, Done, done, log, among}
+use Rattle.executor_model.specs.World.{World, Done, done, log, among, queue_of, mark_of}
 use Rattle.executor_model.specs.Acts.{append_by, begin_drop, closing_ops, enter_by, leave_by, stands_alone}
 use Rattle.executor_model.specs.Weights.{same}
 use Rattle.executor_model.specs.Sound.{Pend, times, with_ops}
@@ -37,7 +39,7 @@ use Rattle.executor_model.specs.Acts.{leak_out_by, leaked}
 use Rattle.executor_model.proofs.OneFuture.MoveViews.{HasAsked, leaked-keeps, leaks_out-keeps}
 use Rattle.executor_model.proofs.OneFuture.Effects.Effect.{leaks, leaks_out}
 
-leaves-refuses : (w : World) (mark : Mark) (f : ℕ) → w.queue.closed ≡ true →
+leaves-refuses : (w : World) (mark : Mark) (f : ℕ) → is_any_shut w.queues ≡ true →
     KeepsLeaves w (op.Queue (queue_op.Append f) ∷ []) (append_by false w mark f)
 leaves-refuses w mark f c g r y b h = grind (arith, same_is)
 
@@ -82,10 +84,10 @@ leaves-leaked : (d : Done) (p f g : ℕ) (r : Pend) (y : Extra) → HasAsked d.w
     Entered (seen (leaked p f d).world g r y)
 leaves-leaked d p f g r y a h = leaked-keeps Entered (λ x a h. grind arith) d.world p f g r y a h
 
--- what it needs beside: room for a Runnable, or a closed queue; and room for a future
+-- what it needs beside: room for a Runnable, or one of the queues closed; and room for a future
 abbrev pub NeedsPlaces : World → Op → Type 0
-NeedsPlaces w (op.Queue (queue_op.Append f)) = (not w.queue.closed && nat_lt (length w.queue.items) w.limit) ≡ false →
-    w.queue.closed ≡ true
+NeedsPlaces w (op.Queue (queue_op.Append f)) = takes_more (queue_of w (mark_of w f)) w.limit ≡ false →
+    is_any_shut w.queues ≡ true
 NeedsPlaces w (op.Table (table_op.Enter mark)) = not (nat_lt (length w.table) w.limit) ≡ false → w.gone ≡ false → (g : ℕ) →
     length (story g w.trace).standing < w.limit
 NeedsPlaces w _ = Unit {0}

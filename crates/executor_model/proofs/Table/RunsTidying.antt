@@ -4,6 +4,7 @@
 use Rattle.std.proofs.Common.{◌≡◌, ℕ, zero, suc, List, [], ◌∷◌, ◌++◌, Bool, true, false, eqb, reverse, refl, ap}
 use Rattle.std.proofs.Common.{◌+◌, ◌%◌, length, arith}
 use Rattle.std.proofs.lemmas.List.{reverse-append}
+use Rattle.executor_model.specs.declared.op.Look.{Look}
 use Rattle.executor_model.specs.declared.op.Look.TheVariants.{First, Second}
 use Rattle.task_moves.specs.Moves as moves
 use Rattle.executor_model.specs.declared.call.Reply.{Reply}
@@ -185,7 +186,7 @@ light-reschedule (f ∷ rest) w r a = refl
 pub tidy-run : (p : ℕ) (h : Hint) (o : RunOp) (w : World) → Tidy (op.Run o ∷ []) (run_act p h o w).next
 tidy-run p h run_op.MakeRoom w = tidy-light _ _ (light-room h.refused w)
 tidy-run p h run_op.ReturnRoom w = tidy-light _ _ refl
-tidy-run p h (run_op.TakeTurn x) w = refl
+tidy-run p h (run_op.TakeTurn x) w = tidy-light _ _ refl
 tidy-run p h (run_op.SearchCommon x look) w = tidy-light _ _ (light-common look _ w x)
 tidy-run p h (run_op.LookOwn x at left) w = tidy-look _ w x at left
 tidy-run p h (run_op.WakeOwn x) w =

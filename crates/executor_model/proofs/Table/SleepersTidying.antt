@@ -2,6 +2,7 @@
 -- and closing_drops_each_future_once.
 -- What tells sleepers, and what a tick does, uses the executor only where it is held.
 use Rattle.std.proofs.Common.{◌≡◌, ℕ, List, [], ◌∷◌, refl}
+use Rattle.executor_model.specs.declared.op.Look.{Look}
 use Rattle.executor_model.specs.declared.op.Look.TheVariants.{First, Second}
 use Rattle.task_moves.specs.declared.moves.owed.Move.TheVariants as move
 use Rattle.executor_model.specs.declared.call.Reply.TheVariants as reply
@@ -67,13 +68,13 @@ tidy-search look Left w (f ∷ rest) s =
 
 tidy-search_who : (who : TickOrRun) (p : ℕ) (w : World) (s : Sleeping) →
     Tidy (op.Tick (tick_op.Search s) ∷ []) (search_by_who who p w s).next
-tidy-search_who (tick_or_run.Tick t) p w s = tidy-search _ w _ s
+tidy-search_who (tick_or_run.Tick t) p w s = tidy-light _ _ refl
 tidy-search_who (tick_or_run.Run r) p w s = tidy-search_own _ w (record { run = r; waker = s.waker; poll = s.poll })
 
 pub tidy-tick : (p : ℕ) (h : Hint) (o : TickOp) (w : World) → Tidy (op.Tick o ∷ []) (tick_act p h o w).next
 tidy-tick p h tick_op.MakeTick w = tidy-light _ _ (make-blind uses_of blind _ w)
 tidy-tick p h (tick_op.Search s) w = tidy-search_who s.who p w s
-tidy-tick p h (tick_op.Look s look) w = refl
+tidy-tick p h (tick_op.Look s look) w = tidy-search look _ w _ s
 tidy-tick p h (tick_op.CopyWaker s) w = tidy-light _ _ (copy-blind uses_of blind _ w s)
 tidy-tick p h (tick_op.FallAsleep s) w = tidy-light _ _ (sleep-blind uses_of blind _ w s)
 tidy-tick p h (tick_op.WakeUp t) w = tidy-light _ _ (up-blind uses_of blind _ w t)

@@ -83,10 +83,10 @@ unfolding step
 step-trace s p h l e =
     let r : refusal s (Go p h) ≡ None =
     ap (λ (b : Bool). unless b NoSuch (go_refusal s.world (top (stack s p))))
-    (let z : nat_lt p (length s.parties) ≡ true = grind (arith, nat_tests) in z) ∙ ap (go_refusal s.world) e in
+    (let z : nat_lt p (length s.parties) ≡ true = grind (arith, nat_tests) in z) ∙ ap (go_refusal s.world) e.1 in
     ap (λ (x : Option StepError). (stepped s (step_by x s (Go p h))).world.trace) r
-    ∙ (ap (λ (o : Option Op). (gone_on p s.world (stack s p) o (λ x. act p h x s.world)).world.trace) e
-    ∙ asked-trace (not (nat_lt (length s.world.table) s.world.limit)) h.refused p s.world (below_top (stack s p)))
+    ∙ (ap (λ (o : Option Op). (gone_on p s.world (stack s p) o (λ x. act p h x s.world)).world.trace) e.1
+    ∙ asked-trace (not (nat_lt (length s.world.table) s.world.limit)) h.refused e.0 p s.world (below_top (stack s p)))
 
 -- which is full exactly where the table is
 pub says-full : (b c : Bool) (p : ℕ) (w : World) (es : Trace) →
@@ -119,8 +119,8 @@ module _ (s : Machine) (fine : Good s) (h : Placed s) where
   uses-executor : (p : ℕ) → Asks s p → 1 ≤ weigh_all borrowing_of s.parties
   uses-executor p e = omega (
     arith,
-    split borrowing_of s.parties p (op.Table (table_op.Enter mark) ∷ []) (below_top (stack s p))
-        (in-range s p (op.Table (table_op.Enter mark)) e) (topped (stack s p) (op.Table (table_op.Enter mark)) e),
+    split borrowing_of s.parties p (op.Table (table_op.Enter e.0) ∷ []) (below_top (stack s p))
+        (in-range s p (op.Table (table_op.Enter e.0)) e.1) (topped (stack s p) (op.Table (table_op.Enter e.0)) e.1),
   )
 
   has-table : (p : ℕ) → Asks s p → HasTable s
@@ -146,12 +146,12 @@ module _ (s : Machine) (fine : Good s) (h : Placed s) where
     always = λ p t e r.
         let n : length r.futures ≤ length s.world.table = no-longer r.futures s.world.table (at-most p e r) in
         let b : not (nat_lt (length s.world.table) s.world.limit) ≡ true = grind (arith, nat_tests, n, r.many) in
-        step-trace s p t (in-range s p (op.Table (table_op.Enter mark)) e) e
+        step-trace s p t (in-range s p (op.Table (table_op.Enter e.0)) e.1) e
         ∙ ap (λ (x : Bool). s.world.trace ++ asked x t.refused p s.world ∷ []) b;
     only = λ p t e q.
         let b : not (nat_lt (length s.world.table) s.world.limit) ≡ true =
         says-full _ t.refused p s.world s.world.trace
-        (sym (step-trace s p t (in-range s p (op.Table (table_op.Enter mark)) e) e) ∙ q) in
+        (sym (step-trace s p t (in-range s p (op.Table (table_op.Enter e.0)) e.1) e) ∙ q) in
         record {
           futures = s.world.table;
           different = λ f. (table-agrees s f fine h).once;

@@ -44,7 +44,7 @@ NeedsNoEntry w _ = Unit {0}
 
 pub tidy-act : (p : ℕ) (h : Hint) (o : Op) (w : World) → NeedsNoEntry w o → Tidy (o ∷ []) (act p h o w).next
 tidy-act p h (op.Table (table_op.Enter mark)) w n = tidy-light _ _ (light-enter _ _ _ p w)
-tidy-act p h (op.Queue queue_op.TakeTurn) w n = refl
+tidy-act p h (op.Queue queue_op.TakeTurn) w n = record { keeps = λ h. h }
 tidy-act p h (op.Queue (queue_op.Take look)) w n = tidy-take look _ w
 tidy-act p h (op.Queue (queue_op.Append f)) w n = tidy-light _ _ (light-append _ w _ f)
 tidy-act p h (op.Move move.WakeByReference f) w n =

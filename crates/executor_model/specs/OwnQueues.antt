@@ -92,6 +92,7 @@ abbrev pub empty_of : ℕ → Op → ℕ
 empty_of r (op.Run (run_op.TakeTurn x)) = same r x.run
 empty_of r (op.Run (run_op.SearchCommon x l)) = same r x.run
 empty_of r (op.List (list_op.LockRead x)) = same r x.run
+empty_of r (op.Tick (tick_op.Look s l)) = is_run r s.who
 empty_of r (op.Tick (tick_op.CopyWaker s)) = is_run r s.who
 empty_of r (op.Tick (tick_op.FallAsleep s)) = is_run r s.who
 empty_of r _ = 0

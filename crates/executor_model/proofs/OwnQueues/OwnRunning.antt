@@ -36,7 +36,7 @@ use Rattle.executor_model.proofs.OwnQueues.RunsAside.{Hull, apart-act}
 use Rattle.executor_model.proofs.OwnQueues.RunsDone.{to_walk, misses_last}
 use Rattle.executor_model.proofs.OwnQueues.RunsDone.{Deed, keeps, takes, lacks, shares, grows, wakes, lists, deed-act, is_loud, loud}
 use Rattle.executor_model.proofs.OwnQueues.RunsDone.{loud-weigh, poll_in, Stole, More, no_more, one_more, Missing}
-use Rattle.executor_model.proofs.OwnQueues.RunsDone.{Leads, quiet, slumbering, hits, copies, finds, stole, looks}
+use Rattle.executor_model.proofs.OwnQueues.RunsDone.{Leads, quiet, slumbering, turns, finds, stole, looks}
 use Rattle.executor_model.proofs.OwnQueues.RunsSeen.{seen, Seen, seen-act}
 use Rattle.executor_model.proofs.OwnQueues.RunsWatched.{Watched, watched, watched-push}
 use Rattle.executor_model.proofs.OwnQueues.Using.{polling_of}
@@ -64,7 +64,6 @@ keeps_run r _ = 0
 abbrev pub keeps_of : ℕ → Op → ℕ
 keeps_of r (op.User (user_op.PollOwn x)) = same r x.run
 keeps_of r (op.Tick (tick_op.Search s)) = is_run r s.who
-keeps_of r (op.Tick (tick_op.Look s look)) = is_run r s.who
 keeps_of r (op.List o) = keeps_list r o
 keeps_of r (op.Steal o) = same r (poll_in o).run
 keeps_of r (op.Run o) = keeps_run r o
@@ -73,7 +72,6 @@ keeps_of r _ = 0
 pub keeps-uses : (r : ℕ) (o : Op) → keeps_of r o ≤ running_of r o
 keeps-uses r (op.User (user_op.PollOwn x)) = omega arith
 keeps-uses r (op.Tick (tick_op.Search s)) = omega arith
-keeps-uses r (op.Tick (tick_op.Look s look)) = omega arith
 keeps-uses r (op.List (list_op.LockWrite section.MakeRun)) = omega arith
 keeps-uses r (op.List (list_op.Write section.MakeRun)) = omega arith
 keeps-uses r (op.Steal (steal_op.Length s)) = omega arith
@@ -100,7 +98,6 @@ stays w old d s f = record { on = λ r z p l. inl (omega (arith, l, s.own r), f 
 quiet-keeps : (r : ℕ) (o : Op) → is_loud o ≡ false → keeps_of r o ≡ 0
 quiet-keeps r (op.User (user_op.PollOwn x)) e = absurd (cc)
 quiet-keeps r (op.Tick (tick_op.Search s)) e = absurd (cc)
-quiet-keeps r (op.Tick (tick_op.Look s look)) e = absurd (cc)
 quiet-keeps r (op.List o) e = absurd (cc)
 quiet-keeps r (op.Steal o) e = absurd (cc)
 quiet-keeps r (op.Run (run_op.LookOwn x at left)) e = absurd (cc)
@@ -145,8 +142,7 @@ leads-keeps : (r : ℕ) (o : Op) (os : List Op) → Leads o os → keeps_of r o 
 leads-keeps r o os (quiet _ e) = omega (arith, quiet-keeps r o e)
 leads-keeps r o os (slumbering (tick_op.Search s) e) = absurd (cc)
 leads-keeps r o os (slumbering (tick_op.Look s look) e) = absurd (cc)
-leads-keeps r o os (hits s t e) = omega (arith, ap (is_run r) e)
-leads-keeps r o os (copies s t e) = omega (arith, ap (is_run r) e)
+leads-keeps r o os (turns s t look e) = omega (arith, ap (is_run r) e)
 leads-keeps r o os (finds x z) = omega (arith, stole-keeps r x 0 os z)
 leads-keeps r o os (stole a z) = omega (arith, stole-keeps r _ _ os z)
 leads-keeps r o _ (looks x at left {os = os} z) = omega (arith, stole-keeps r x 0 os z)

@@ -4,6 +4,7 @@ use Rattle.std.proofs.Common.{◌≡◌, ◌∙◌, ◌+◌, ℕ, zero, suc, Lis
 use Rattle.std.proofs.Common.{refl, sym, ap, arith}
 use Rattle.std.specs.Prelude.{Option, Some, None}
 use Rattle.executor_parts.specs.declared.mark.Mark.TheVariants.{Plain, Urgent}
+use Rattle.executor_model.specs.declared.op.Look.{Look}
 use Rattle.executor_model.specs.declared.op.Look.TheVariants.{First, Second}
 use Rattle.executor_parts.specs.declared.mark.Mark.{Mark}
 use Rattle.task_moves.specs.Moves as moves
@@ -383,6 +384,10 @@ apart-drain Urgent p w [] = apart w _ refl refl
 apart-drain Plain p w [] = apart w _ refl refl
 apart-drain mark p w (f ∷ rest) = apart w _ refl refl
 
+apart-close : (mark : Mark) (w : World) → Apart w (acts.close w mark)
+apart-close Urgent w = apart w _ refl refl
+apart-close Plain w = apart w _ refl refl
+
 apart-append : (b : Bool) (w : World) (mark : Mark) (f : ℕ) → Apart w (acts.append_by b w mark f)
 apart-append true w mark f = apart w _ refl refl
 apart-append false w mark f = apart w _ refl refl
@@ -397,7 +402,7 @@ apart-hand_out true None w = apart w _ refl refl
 apart-hand_out true (Some s) w = apart w _ refl refl
 
 pub apart-act : (p : ℕ) (h : Hint) (o : Op) (w : World) → is_run o ≡ false → Apart w (act p h o w)
-apart-act p h (op.Queue queue_op.TakeTurn) w n = refl
+apart-act p h (op.Queue queue_op.TakeTurn) w n = apart w _ refl refl
 apart-act p h (op.Queue (queue_op.Take look)) w n = apart-take look _ w
 apart-act p h (op.Queue (queue_op.Append f)) w n = apart-append _ w _ f
 apart-act p h (op.User (user_op.PollOwn x)) w n = absurd (cc)
@@ -407,7 +412,7 @@ apart-act p h (op.Tick o) w n = absurd (cc)
 apart-act p h (op.List o) w n = absurd (cc)
 apart-act p h (op.Steal o) w n = absurd (cc)
 apart-act p h (op.Run o) w n = absurd (cc)
-apart-act p h (op.Closing (closing_op.Close mark)) w n = apart w _ refl refl
+apart-act p h (op.Closing (closing_op.Close mark)) w n = apart-close mark w
 apart-act p h (op.Closing (closing_op.Drain mark)) w n = apart-drain mark p w _
 apart-act p h o w n = apart-frame w (act p h o w) (frame-act p h o w refl)
 

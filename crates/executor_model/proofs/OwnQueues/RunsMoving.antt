@@ -5,6 +5,8 @@
 use Rattle.std.proofs.Common.{◌≡◌, ◌∙◌, ℕ, zero, suc, ◌+◌, List, [], ◌∷◌, Bool, true, false, eqb}
 use Rattle.std.proofs.Common.{refl, ap, arith}
 use Rattle.std.specs.Prelude.{Option, Some, None}
+use Rattle.executor_parts.specs.declared.mark.Mark.TheVariants.{Plain, Urgent}
+use Rattle.executor_model.specs.declared.op.Look.{Look}
 use Rattle.executor_model.specs.declared.op.Look.TheVariants.{First, Second}
 use Rattle.task_moves.specs.declared.moves.owed.Move.TheVariants as move
 use Rattle.executor_model.specs.declared.op.ListOp.TheVariants as list_op
@@ -189,12 +191,15 @@ pub record Weighs (v : Op → ℕ) (x : RunPoll) (found walks : ℕ) : Type 0 wh
   pub take_up : (f : ℕ) → v (op.Move move.TakeUp f) ≡ 0
   pub search : v (op.Tick (tick_op.Search (runs.asleep x))) ≡ found
   pub wake : v (op.Run (run_op.WakeOwn x)) ≡ found
-  pub steal : (f : ℕ) → v (op.Steal (steal_op.Length (record { poll = x; from = Common; then = then.Run f }))) ≡ found
+  pub steal : (f : ℕ) →
+      v (op.Steal (steal_op.Length (record { poll = x; from = Common Urgent; then = then.StealPlain f }))) ≡ found
+  pub steal_plain : (f : ℕ) →
+      v (op.Steal (steal_op.Length (record { poll = x; from = Common Plain; then = then.Run f }))) ≡ found
   pub look : (at left : ℕ) → v (op.Run (run_op.LookOwn x at left)) ≡ walks
 
 abbrev pub by_then : ℕ → ℕ → Then → ℕ
 by_then found walks (then.Found f) = found
-by_then found walks (then.StealPlain f) = refl
+by_then found walks (then.StealPlain f) = found
 by_then found walks (then.Run f) = found
 by_then found walks (then.Walk at left) = walks
 
@@ -231,7 +236,7 @@ module _ (v : Op → ℕ) (x : RunPoll) (n m : ℕ) (z : Weighs v x n m) where
 
   pub weighs-stolen : (t : Then) (w : World) → weigh v (runs.stolen t w x).next ≡ by_then n m t
   weighs-stolen (then.Found f) w = weighs-found w f
-  weighs-stolen (then.StealPlain f) w = refl
+  weighs-stolen (then.StealPlain f) w = omega (arith, z.steal_plain f)
   weighs-stolen (then.Run f) w = weighs-run_by _ w f
   weighs-stolen (then.Walk at left) w = omega (arith, z.look at left)
 

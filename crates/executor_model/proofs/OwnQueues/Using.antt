@@ -4,6 +4,8 @@
 use Rattle.std.proofs.Common.{◌≡◌, ◌≤◌, ℕ, List, [], ◌∷◌, ◌++◌, length, Bool, true, false}
 use Rattle.std.proofs.Common.{refl, arith}
 use Rattle.std.specs.Prelude.{Option, Some, None}
+use Rattle.executor_parts.specs.Marks.{first_of, other}
+use Rattle.executor_model.specs.declared.op.Look.{Look}
 use Rattle.executor_model.specs.declared.op.Look.TheVariants.{First, Second}
 use Rattle.executor_parts.specs.declared.mark.Mark.{Mark}
 use Rattle.task_moves.specs.declared.moves.owed.Answer.{Answer}
@@ -120,6 +122,7 @@ pub record Mild (v : Op → ℕ) : Type 0 where
   pub spawned : (a : Reply) (f : ℕ) → v (op.End a (hold.Spawned f)) ≡ 0
   pub handle : (a : Reply) (f : ℕ) → v (op.End a (hold.Handle f)) ≡ 0
   pub handles : (o : HandleOp) → v (op.Handle o) ≡ 0
+  pub take : (look : Look) → v (op.Queue (queue_op.Take look)) ≡ 0
 
 same-few : (r q : ℕ) → same r q ≤ 1
 same-few r q = grind (arith, same_is)
@@ -194,6 +197,7 @@ mild-running r = record {
   spawned = λ a f. refl;
   handle = λ a f. refl;
   handles = by;
+  take = λ look. refl;
 }
   where
     by : (o : HandleOp) → running_of r (op.Handle o) ≡ 0
@@ -207,6 +211,7 @@ mild-polling r = record {
   spawned = λ a f. refl;
   handle = λ a f. refl;
   handles = λ o. refl;
+  take = λ look. refl;
 }
 
 pub mild-lending : (r : ℕ) → Mild (lending_of r)
@@ -216,6 +221,7 @@ mild-lending r = record {
   spawned = λ a f. refl;
   handle = λ a f. refl;
   handles = λ o. refl;
+  take = λ look. refl;
 }
 
 -- what uses no run leads to nothing that does
@@ -237,7 +243,7 @@ module _ (v : Op → ℕ) (m : Mild v) where
   }
 
   mild-take : (look : Look) (q : List ℕ) (w : World) → weigh v (acts.take_by w look q).next ≡ 0
-  mild-take (First mark) [] w = omega (arith, m.executor)
+  mild-take (First mark) [] w = omega (arith, m.take (Second (other mark)))
   mild-take (Second mark) [] w = omega (arith, m.executor)
   mild-take look (f ∷ rest) w = omega (
     arith,
@@ -299,7 +305,7 @@ module _ (v : Op → ℕ) (m : Mild v) where
 
   pub mild-next : (p : ℕ) (h : Hint) (o : Op) (w : World) → is_for_runs o ≡ false → weigh v (act p h o w).next ≡ 0
   mild-next p h (op.Table (table_op.Enter mark)) w n = mild-enter _ _ _ p w
-  mild-next p h (op.Queue queue_op.TakeTurn) w n = refl
+  mild-next p h (op.Queue queue_op.TakeTurn) w n = omega (arith, m.take (First (first_of w.urgent_turns)))
   mild-next p h (op.Queue (queue_op.Take look)) w n = mild-take look _ w
   mild-next p h (op.Table table_op.LookAtTable) w n = omega (arith, m.executor (acts.emptiness w.table))
   mild-next p h (op.Handle (handle_op.Look f a)) w n =

@@ -260,7 +260,7 @@ used-begun p w here (call.Spawn mark) r x a b f =
     used-other w (log w (event.CallBegun p (call.Spawn mark))) (op.Table (table_op.Enter mark) ∷ []) refl refl refl
     (λ q. record { uses = omega arith; polls = omega arith; empties = omega arith; lends = refl }) r x a b
 used-begun p w here call.TryTick r x a b f =
-    used-other w (log w (event.CallBegun p call.TryTick)) (op.Queue queue_op.Take ∷ []) refl refl refl
+    used-other w (log w (event.CallBegun p call.TryTick)) (op.Queue queue_op.TakeTurn ∷ []) refl refl refl
     (λ q. record { uses = omega arith; polls = omega arith; empties = omega arith; lends = refl }) r x a b
 used-begun p w here call.IsEmpty r x a b f =
     used-other w (log w (event.CallBegun p call.IsEmpty)) (op.Table table_op.LookAtTable ∷ []) refl refl refl

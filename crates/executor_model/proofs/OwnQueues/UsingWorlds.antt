@@ -86,7 +86,7 @@ pub idle-copy_sleeper : (b : Bool) (w : World) (s : Sleeping) → Idle w (of_sle
 idle-copy_sleeper b w s = idle-coat w (of_sleepers.copy_sleeper_by b w s).world (coat-copy b w s)
 
 pub idle-search : (look : Look) (x : Ticker) (w : World) (q : List ℕ) (s : Sleeping) → Idle w (of_sleepers.look_tick_by x w look q s).world
-idle-search look x w q s = idle-coat w (of_sleepers.look_tick_by x w look q s).world (coat-search x q w s)
+idle-search look x w q s = idle-coat w (of_sleepers.look_tick_by x w look q s).world (coat-search look x q w s)
 
 pub idle-act : (p : ℕ) (h : Hint) (o : Op) (w : World) → is_for_runs o ≡ false → Idle w (act p h o w).world
 idle-act p h (op.User (user_op.PollOwn x)) w n = absurd (cc)

@@ -4,6 +4,7 @@ use Rattle.std.proofs.Common.{◌≡◌, ◌⊎◌, ◌∙◌, ℕ, ◌≤◌, L
 use Rattle.std.proofs.Common.{cond, eqb, inl, inr, ⊎_elim, refl, sym, subst, arith}
 use Rattle.std.proofs.lemmas.List.{append_assoc}
 use Rattle.std.specs.Prelude.{Option, Some, None}
+use Rattle.executor_model.specs.declared.op.Look.{Look}
 use Rattle.executor_model.specs.declared.op.Look.TheVariants.{First, Second}
 use Rattle.executor_parts.specs.declared.mark.Mark.{Mark}
 use Rattle.executor_parts.specs.Sleepers.{waker_at}
@@ -84,52 +85,52 @@ enters false false mark p w more g = inr (
       (or-left (eqb (length w.tasks) (length w.tasks)) false (itself (length w.tasks))),
 )
 
-spawns-by : (p : ℕ) (h : Hint) (o : Op) (w : World) (more : Trace) → calling_of o ≡ 1 → serves o (call.Spawn mark) ≡ true →
+spawns-by : (mark : Mark) (p : ℕ) (h : Hint) (o : Op) (w : World) (more : Trace) → calling_of o ≡ 1 → serves o (call.Spawn mark) ≡ true →
     is_end o ≡ false → (act p h o w).world.trace ≡ w.trace ++ more →
     (weigh made_of (act p h o w).next ≡ 0) ⊎ HasAccepted more
-spawns-by p h (op.Table (table_op.Enter mark)) w more a e n g = enters _ _ _ p w more g
-spawns-by p h (op.List (list_op.LockWrite section.MakeRun)) w more a e n g = absurd (cc)
-spawns-by p h (op.List (list_op.LockWrite (section.Register x))) w more a e n g = absurd (cc)
-spawns-by p h (op.List (list_op.LockWrite (section.Unregister r x))) w more a e n g = absurd (cc)
-spawns-by p h (op.List (list_op.Write section.MakeRun)) w more a e n g = absurd (cc)
-spawns-by p h (op.List (list_op.Write (section.Register x))) w more a e n g = absurd (cc)
-spawns-by p h (op.List (list_op.Write (section.Unregister r x))) w more a e n g = absurd (cc)
-spawns-by p h (op.Handle (handle_op.Look x k)) w more a e n g = absurd (cc)
-spawns-by p h (op.Handle (handle_op.CopyAwaiter x k)) w more a e n g = absurd (cc)
-spawns-by p h (op.Handle (handle_op.Register x k i)) w more a e n g = absurd (cc)
-spawns-by p h (op.Handle (handle_op.EndRegister x k i)) w more a e n g = absurd (cc)
-spawns-by p h (op.Handle (handle_op.LookAgain x)) w more a e n g = absurd (cc)
-spawns-by p h (op.Table table_op.LookAtTable) w more a e n g = absurd (cc)
-spawns-by p h (op.Queue queue_op.TakeTurn) w more a e n g = absurd (cc)
-spawns-by p h (op.Queue (queue_op.Take look)) w more a e n g = absurd (cc)
-spawns-by p h (op.Waker (waker_op.CopyWaker x held)) w more a e n g = absurd (cc)
-spawns-by p h (op.Tick tick_op.MakeTick) w more a e n g = absurd (cc)
-spawns-by p h (op.Tick (tick_op.Search s)) w more a e n g = absurd (no-poll s.who (call.Spawn mark) refl refl e)
-spawns-by p h (op.Tick (tick_op.Look s look)) w more a e n g = absurd (no-poll s.who (call.Spawn mark) refl refl e)
-spawns-by p h (op.Tick (tick_op.CopyWaker s)) w more a e n g = absurd (no-poll s.who (call.Spawn mark) refl refl e)
-spawns-by p h (op.Tick (tick_op.FallAsleep s)) w more a e n g = absurd (no-poll s.who (call.Spawn mark) refl refl e)
-spawns-by p h (op.User (user_op.PollOwn x)) w more a e n g = absurd (cc)
-spawns-by p h (op.List (list_op.LockRead x)) w more a e n g = absurd (cc)
-spawns-by p h (op.Steal o) w more a e n g = absurd (cc)
-spawns-by p h (op.Run run_op.MakeRoom) w more a e n g = absurd (cc)
-spawns-by p h (op.Run (run_op.TakeTurn x)) w more a e n g = absurd (cc)
-spawns-by p h (op.Run (run_op.SearchCommon x look)) w more a e n g = absurd (cc)
-spawns-by p h (op.Run (run_op.LookOwn x at left)) w more a e n g = absurd (cc)
-spawns-by p h (op.Run (run_op.WakeOwn x)) w more a e n g = absurd (cc)
-spawns-by p h (op.Run (run_op.Reschedule r x)) w more a e n g = absurd (cc)
-spawns-by p h (op.End r held) w more a e n g = absurd (cc)
-spawns-by p h _ w more a e n g = absurd (cc)
+spawns-by mark p h (op.Table (table_op.Enter m)) w more a e n g = enters _ _ _ p w more g
+spawns-by mark p h (op.List (list_op.LockWrite section.MakeRun)) w more a e n g = absurd (cc)
+spawns-by mark p h (op.List (list_op.LockWrite (section.Register x))) w more a e n g = absurd (cc)
+spawns-by mark p h (op.List (list_op.LockWrite (section.Unregister r x))) w more a e n g = absurd (cc)
+spawns-by mark p h (op.List (list_op.Write section.MakeRun)) w more a e n g = absurd (cc)
+spawns-by mark p h (op.List (list_op.Write (section.Register x))) w more a e n g = absurd (cc)
+spawns-by mark p h (op.List (list_op.Write (section.Unregister r x))) w more a e n g = absurd (cc)
+spawns-by mark p h (op.Handle (handle_op.Look x k)) w more a e n g = absurd (cc)
+spawns-by mark p h (op.Handle (handle_op.CopyAwaiter x k)) w more a e n g = absurd (cc)
+spawns-by mark p h (op.Handle (handle_op.Register x k i)) w more a e n g = absurd (cc)
+spawns-by mark p h (op.Handle (handle_op.EndRegister x k i)) w more a e n g = absurd (cc)
+spawns-by mark p h (op.Handle (handle_op.LookAgain x)) w more a e n g = absurd (cc)
+spawns-by mark p h (op.Table table_op.LookAtTable) w more a e n g = absurd (cc)
+spawns-by mark p h (op.Queue queue_op.TakeTurn) w more a e n g = absurd (cc)
+spawns-by mark p h (op.Queue (queue_op.Take look)) w more a e n g = absurd (cc)
+spawns-by mark p h (op.Waker (waker_op.CopyWaker x held)) w more a e n g = absurd (cc)
+spawns-by mark p h (op.Tick tick_op.MakeTick) w more a e n g = absurd (cc)
+spawns-by mark p h (op.Tick (tick_op.Search s)) w more a e n g = absurd (no-poll s.who (call.Spawn mark) refl refl e)
+spawns-by mark p h (op.Tick (tick_op.Look s look)) w more a e n g = absurd (no-poll s.who (call.Spawn mark) refl refl e)
+spawns-by mark p h (op.Tick (tick_op.CopyWaker s)) w more a e n g = absurd (no-poll s.who (call.Spawn mark) refl refl e)
+spawns-by mark p h (op.Tick (tick_op.FallAsleep s)) w more a e n g = absurd (no-poll s.who (call.Spawn mark) refl refl e)
+spawns-by mark p h (op.User (user_op.PollOwn x)) w more a e n g = absurd (cc)
+spawns-by mark p h (op.List (list_op.LockRead x)) w more a e n g = absurd (cc)
+spawns-by mark p h (op.Steal o) w more a e n g = absurd (cc)
+spawns-by mark p h (op.Run run_op.MakeRoom) w more a e n g = absurd (cc)
+spawns-by mark p h (op.Run (run_op.TakeTurn x)) w more a e n g = absurd (cc)
+spawns-by mark p h (op.Run (run_op.SearchCommon x look)) w more a e n g = absurd (cc)
+spawns-by mark p h (op.Run (run_op.LookOwn x at left)) w more a e n g = absurd (cc)
+spawns-by mark p h (op.Run (run_op.WakeOwn x)) w more a e n g = absurd (cc)
+spawns-by mark p h (op.Run (run_op.Reschedule r x)) w more a e n g = absurd (cc)
+spawns-by mark p h (op.End r held) w more a e n g = absurd (cc)
+spawns-by mark p h _ w more a e n g = absurd (cc)
 
 pub served : (b : Bool) → (let n : ℕ = cond b 0 1 in n) ≡ 0 → b ≡ true
 served true e = refl
 served false e = absurd (omega (arith, e))
 
-pub spawn-turns : (p : ℕ) (h : Hint) (o : Op) (w : World) (more : Trace) → is_end o ≡ false → misfit (call.Spawn mark) o ≡ 0 →
+pub spawn-turns : (mark : Mark) (p : ℕ) (h : Hint) (o : Op) (w : World) (more : Trace) → is_end o ≡ false → misfit (call.Spawn mark) o ≡ 0 →
     (act p h o w).world.trace ≡ w.trace ++ more → (weigh made_of (act p h o w).next ≡ 0) ⊎ HasAccepted more
-spawn-turns p h o w more n e g = ⊎_elim
+spawn-turns mark p h o w more n e g = ⊎_elim
     (λ (z : calling_of o ≡ 0).
     inl (omega (arith, weigh-below made_of calling_of few-made (act p h o w).next, (calls-act p h o w n).passes.none z)))
-    (λ (z : calling_of o ≡ 1). spawns-by p h o w more z (served (serves o (call.Spawn mark)) e) n g) (calling-is o)
+    (λ (z : calling_of o ≡ 1). spawns-by mark p h o w more z (served (serves o (call.Spawn mark)) e) n g) (calling-is o)
 
 -- a poll of a handle
 
@@ -260,7 +261,7 @@ few-yes _ = omega arith
 
 tries-by : (p : ℕ) (h : Hint) (o : Op) (w : World) → calling_of o ≡ 1 → serves o call.TryTick ≡ true →
     is_end o ≡ false → (weigh yes_of (act p h o w).next ≡ 0) ⊎ (1 ≤ weigh taking_of (act p h o w).next)
-tries-by p h (op.Queue queue_op.TakeTurn) w a e n = refl
+tries-by p h (op.Queue queue_op.TakeTurn) w a e n = inl refl
 tries-by p h (op.Queue (queue_op.Take look)) w a e n = takes look _ w
 tries-by p h (op.Table (table_op.Enter mark)) w a e n = absurd (cc)
 tries-by p h (op.Table table_op.LookAtTable) w a e n = absurd (cc)
@@ -312,8 +313,8 @@ ticks-search look Left (f ∷ rest) w s = inr (omega arith)
 
 ticks-who : (who : TickOrRun) (p : ℕ) (t : ℕ) (b : By) (w : World) (s : Sleeping) → polls_by who (call.PollTick t b) ≡ true →
     (weigh ready_of (search_by_who who p w s).next ≡ 0) ⊎ (1 ≤ weigh taking_of (search_by_who who p w s).next)
-ticks-who (tick_or_run.Tick u) t b w s e = ticks-search (place_of w s.who) w.queue.items w s
-ticks-who (tick_or_run.Run r) t b w s e = absurd (cc)
+ticks-who (tick_or_run.Tick u) p t b w s e = inl refl
+ticks-who (tick_or_run.Run r) p t b w s e = absurd (cc)
 
 copy-unready : (b : Bool) (w : World) (s : Sleeping) → weigh ready_of (copy_sleeper_by b w s).next ≡ 0
 copy-unready true w s = refl
@@ -344,8 +345,8 @@ sleep-unready Left w s = refl
 ticks-by : (p : ℕ) (h : Hint) (o : Op) (t : ℕ) (b : By) (w : World) → calling_of o ≡ 1 →
     serves o (call.PollTick t b) ≡ true → is_end o ≡ false →
     (weigh ready_of (act p h o w).next ≡ 0) ⊎ (1 ≤ weigh taking_of (act p h o w).next)
-ticks-by p h (op.Tick (tick_op.Search s)) t b w a e n = ticks-who s.who t b w s e
-ticks-by p h (op.Tick (tick_op.Look s look)) t b w a e n = refl
+ticks-by p h (op.Tick (tick_op.Search s)) t b w a e n = ticks-who s.who p t b w s e
+ticks-by p h (op.Tick (tick_op.Look s look)) t b w a e n = ticks-search look _ _ w s
 ticks-by p h (op.Tick (tick_op.CopyWaker s)) t b w a e n = inl (copy-unready _ w s)
 ticks-by p h (op.Tick (tick_op.FallAsleep s)) t b w a e n = inl (sleep-unready _ w s)
 ticks-by p h (op.Table (table_op.Enter mark)) t b w a e n = absurd (cc)

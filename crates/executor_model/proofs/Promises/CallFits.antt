@@ -3,6 +3,7 @@
 use Rattle.std.proofs.Common.{◌≡◌, ℕ, ◌≤◌, List, [], ◌∷◌, ◌++◌, Bool, true, false, ◌&&◌}
 use Rattle.std.proofs.Common.{cond, ⊎_elim, refl, arith}
 use Rattle.std.specs.Prelude.{Option, Some, None}
+use Rattle.executor_model.specs.declared.op.Look.{Look}
 use Rattle.executor_model.specs.declared.op.Look.TheVariants.{First, Second}
 use Rattle.executor_parts.specs.declared.mark.Mark.{Mark}
 use Rattle.executor_parts.specs.Sleepers.{waker_at}
@@ -325,7 +326,8 @@ module _ (c : Call) (k : Runs c) where
     steal = λ o. own;
     lock = λ x. own;
     unlock = refl;
-    common = λ x. own;
+    turn = λ x. own;
+    common = λ x look. own;
     look = λ x at left. own;
     wake = λ x. own;
   }
@@ -351,7 +353,7 @@ module _ (c : Call) (k : Runs c) where
 
 fit-who : (c : Call) (who : TickOrRun) (p : ℕ) (w : World) (s : Sleeping) → polls_by who c ≡ true → polls_by s.who c ≡ true →
     weigh (misfit c) (search_by_who who p w s).next ≡ 0
-fit-who c (tick_or_run.Tick t) p w s a e = fit-search c s e (place_of w s.who) w w.queue.items
+fit-who c (tick_or_run.Tick t) p w s a e = omega (arith, here c s e)
 fit-who c (tick_or_run.Run r) p w s a e = own-unseen (misfit c) (searching c (polling c a)) _ w _
 
 fit-reschedule : (c : Call) (q : List ℕ) (w : World) (r : ℕ) (a : Reply) → (leaves c && is_reply c a) ≡ true →
@@ -363,7 +365,7 @@ fit-reschedule c (f ∷ rest) w r a e = omega (arith, zero (leaves c && is_reply
 fit-calling : (c : Call) (p : ℕ) (h : Hint) (o : Op) (w : World) → calling_of o ≡ 1 → serves o c ≡ true →
     is_end o ≡ false → weigh (misfit c) (act p h o w).next ≡ 0
 fit-calling c p h (op.Table (table_op.Enter mark)) w a e n = fit-enter c _ _ _ p w e
-fit-calling c p h (op.Queue queue_op.TakeTurn) w a e n = refl
+fit-calling c p h (op.Queue queue_op.TakeTurn) w a e n = omega (arith, zero (tries c) e)
 fit-calling c p h (op.Queue (queue_op.Take look)) w a e n = fit-take look c _ w e
 fit-calling c p h (op.Table table_op.LookAtTable) w a e n = omega (arith, fit-emptiness c w.table e)
 fit-calling c p h (op.Waker (waker_op.CopyWaker f held)) w a e n = fit-copy c _ w f held e
@@ -376,7 +378,7 @@ fit-calling c p h (op.Handle (handle_op.LookAgain f)) w a e n =
     fit-again c (moves.look_again (task w f)).owed.answer p w f (moves.look_again (task w f)) e
 fit-calling c p h (op.Tick tick_op.MakeTick) w a e n = fit-make c _ w e
 fit-calling c p h (op.Tick (tick_op.Search s)) w a e n = fit-who c s.who p w s e e
-fit-calling c p h (op.Tick (tick_op.Look s look)) w a e n = refl
+fit-calling c p h (op.Tick (tick_op.Look s look)) w a e n = fit-search c s e look _ w _
 fit-calling c p h (op.Tick (tick_op.CopyWaker s)) w a e n = fit-copy_sleeper c s e _ w
 fit-calling c p h (op.Tick (tick_op.FallAsleep s)) w a e n = fit-sleep c s e _ w
 fit-calling c p h (op.User (user_op.PollOwn x)) w a e n = omega (arith, zero (polls_run c) e)
@@ -392,9 +394,9 @@ fit-calling c p h (op.List (list_op.LockRead x)) w a e n =
     walk-unseen (misfit c) (searching c (polling c e)) x w.listed _ _
 fit-calling c p h (op.Steal o) w a e n = steal-unseen (misfit c) (searching c (polling c e)) (λ f. refl) p o w
 fit-calling c p h (op.Run run_op.MakeRoom) w a e n = fit-room c _ w e
-fit-calling c p h (op.Run (run_op.TakeTurn x)) w a e n = refl
+fit-calling c p h (op.Run (run_op.TakeTurn x)) w a e n = omega (arith, zero (polls_run c) e)
 fit-calling c p h (op.Run (run_op.SearchCommon x look)) w a e n =
-    common-unseen (misfit c) (searching c (polling c e)) _ w x
+    common-unseen (misfit c) (searching c (polling c e)) look _ w x
 fit-calling c p h (op.Run (run_op.LookOwn x at left)) w a e n =
     look-unseen (misfit c) (searching c (polling c e)) _ w x at left
 fit-calling c p h (op.Run (run_op.WakeOwn x)) w a e n = fit-wake_own c (polling c e) p h w x

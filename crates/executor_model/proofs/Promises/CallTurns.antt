@@ -181,8 +181,7 @@ wakes-on (f ∷ rest) p w k =
 
 drains-on : (mark : Mark) (q : List ℕ) (p : ℕ) (w : World) (more : Trace) → (drain_by p w mark q).world.trace ≡ w.trace ++ more →
     (1 ≤ weigh closes_of (drain_by p w mark q).next) ⊎ (has is_drop_ended more ≡ true)
-drains-on Urgent [] p w more t = inr (subst (λ (x : Trace). has is_drop_ended x ≡ true)
-    (added w.trace more (event.DropEnded p ∷ []) _ t refl) refl)
+drains-on Urgent [] p w more t = inl (omega arith)
 drains-on Plain [] p w more t = inr (subst (λ (x : Trace). has is_drop_ended x ≡ true)
     (added w.trace more (event.DropEnded p ∷ []) _ t refl) refl)
 drains-on mark (f ∷ rest) p w more t = inl (omega arith)
@@ -193,7 +192,8 @@ close-turn : (p : ℕ) (h : Hint) (o : Op) (w : World) (more : Trace) → Finds 
 close-turn p h (op.Closing closing_op.TakeOut) w more k t = inl (omega (arith, one-closes w.table w.waking))
 close-turn p h (op.Closing closing_op.DropNext) w more k t = inl (drops-on w.leaving p w k)
 close-turn p h (op.Closing closing_op.WakeNext) w more k t = inl (wakes-on w.waking p w k)
-close-turn p h (op.Closing (closing_op.Close mark)) w more k t = inl (omega arith)
+close-turn p h (op.Closing (closing_op.Close Urgent)) w more k t = inl (omega arith)
+close-turn p h (op.Closing (closing_op.Close Plain)) w more k t = inl (omega arith)
 close-turn p h (op.Closing (closing_op.Drain mark)) w more k t = drains-on mark (queue_of w mark).items p w more t
 close-turn p h (op.Closing closing_op.LeakOut) w more k t = inl (omega arith)
 close-turn p h (op.Closing closing_op.LeakNext) w more k t = inl (omega arith)
@@ -203,7 +203,7 @@ pub turns-act : (s : Machine) (p : ℕ) (h : Hint) (o : Op) (c : Call) (more : T
     is_end o ≡ false →
     misfit c o ≡ 0 → (act p h o s.world).world.trace ≡ s.world.trace ++ more →
     Turns c s.world.trace more o (act p h o s.world).next
-turns-act s p h o (call.Spawn mark) more k x n e g = spawn-turns p h o s.world more n e g
+turns-act s p h o (call.Spawn mark) more k x n e g = spawn-turns mark p h o s.world more n e g
 turns-act s p h o call.TryTick more k x n e g =
     (yes-turn p h o s.world n e, taking-turn p h o s.world more x g)
 turns-act s p h o (call.PollTick t b) more k x n e g =

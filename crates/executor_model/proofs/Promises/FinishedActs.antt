@@ -4,6 +4,7 @@ use Rattle.std.proofs.Common.{◌≡◌, ℕ, ◌+◌, List, [], ◌∷◌, ◌+
 use Rattle.std.proofs.Common.{◌&&◌, ◌||◌, refl, ap, arith}
 use Rattle.std.specs.Prelude.{◌%◌, Option, Some, None, is_none}
 use Rattle.executor_parts.specs.declared.mark.Mark.TheVariants.{Plain, Urgent}
+use Rattle.executor_model.specs.declared.op.Look.{Look}
 use Rattle.executor_model.specs.declared.op.Look.TheVariants.{First, Second}
 use Rattle.executor_parts.specs.declared.mark.Mark.{Mark}
 use Rattle.task_moves.specs.declared.moves.owed.Answer.{Answer}
@@ -57,7 +58,7 @@ use Rattle.executor_model.specs.Acts.{emptiness}
 use Rattle.executor_model.specs.Acts.{end_register_by, enter_by, is_last_waker, is_told, leave_by, let_go}
 use Rattle.executor_model.specs.Acts.{look_again_by, look_by, move_by}
 use Rattle.executor_model.specs.Acts.{notify_by, polled, register_by, reply_of, stands_alone, take_by, told_of, wake}
-use Rattle.executor_model.specs.Acts.{wake_next_by, closing_ops}
+use Rattle.executor_model.specs.Acts.{wake_next_by, close, closing_ops}
 use Rattle.executor_model.specs.ActsOfRuns.{call_by_reference, make_room_by, make_run_by, reschedule_by, wake_own}
 use Rattle.executor_model.specs.ActsOfSleepers.{copy_sleeper_by, fall_asleep_by, leave_sleepers_by, make_tick_by}
 use Rattle.executor_model.specs.ActsOfSleepers.{pend_as, look_tick_by}
@@ -121,7 +122,8 @@ searching = record {
   steal = λ o. refl;
   lock = λ x. refl;
   unlock = refl;
-  common = λ x. refl;
+  turn = λ x. refl;
+  common = λ x look. refl;
   look = λ x at left. refl;
   wake = λ x. refl;
 }
@@ -244,7 +246,7 @@ fin-search look (Asleep n) w (f ∷ rest) s = refl
 fin-search look Left w (f ∷ rest) s = refl
 
 fin-search_who : (who : TickOrRun) (p : ℕ) (w : World) (s : Sleeping) → weigh fin (search_by_who who p w s).next ≡ 0
-fin-search_who (tick_or_run.Tick t) p w s = fin-search _ w w.queue.items s
+fin-search_who (tick_or_run.Tick t) p w s = refl
 fin-search_who (tick_or_run.Run r) p w s = own-unseen fin searching _ w (record { run = r; waker = s.waker; poll = s.poll })
 
 fin-copy_sleeper : (b : Bool) (w : World) (s : Sleeping) → weigh fin (copy_sleeper_by b w s).next ≡ 0
@@ -288,7 +290,7 @@ fin-leave_sleepers Left w who = refl
 fin-tick : (p : ℕ) (h : Hint) (o : TickOp) (w : World) → weigh fin (tick_act p h o w).next ≡ 0
 fin-tick p h tick_op.MakeTick w = fin-make h.refused w
 fin-tick p h (tick_op.Search s) w = fin-search_who s.who p w s
-fin-tick p h (tick_op.Look s look) w = refl
+fin-tick p h (tick_op.Look s look) w = fin-search look _ w _ s
 fin-tick p h (tick_op.CopyWaker s) w = fin-copy_sleeper _ w s
 fin-tick p h (tick_op.FallAsleep s) w = fin-sleep _ w s
 fin-tick p h (tick_op.WakeUp who) w = fin-up _ w who
@@ -332,7 +334,7 @@ fin-run : (p : ℕ) (h : Hint) (o : RunOp) (w : World) → fin (op.Run o) ≡ 0 
 fin-run p h run_op.MakeRoom w z = fin-room h.refused w
 fin-run p h run_op.ReturnRoom w z = refl
 fin-run p h (run_op.TakeTurn x) w z = refl
-fin-run p h (run_op.SearchCommon x look) w z = common-unseen fin searching _ w x
+fin-run p h (run_op.SearchCommon x look) w z = common-unseen fin searching look _ w x
 fin-run p h (run_op.LookOwn x at left) w z = look-unseen fin searching _ w x at left
 fin-run p h (run_op.WakeOwn x) w z = fin-wake_own p w x
 fin-run p h (run_op.Reschedule r a) w z = fin-reschedule _ w r a z
@@ -354,6 +356,10 @@ fin-wake_next (f ∷ rest) p w =
       fin-move true move.Wake p v f,
       closing-none [] rest,
     )
+
+fin-close : (mark : Mark) (w : World) → weigh fin (close w mark).next ≡ 0
+fin-close Urgent w = refl
+fin-close Plain w = refl
 
 fin-drain : (mark : Mark) (q : List ℕ) (p : ℕ) (w : World) → weigh fin (drain_by p w mark q).next ≡ 0
 fin-drain Urgent [] p w = refl
@@ -379,7 +385,7 @@ fin-act p h (op.Run o) w z = fin-run p h o w z
 fin-act p h (op.Closing closing_op.TakeOut) w z = closing-none w.table w.waking
 fin-act p h (op.Closing closing_op.DropNext) w z = fin-drop_next _ p w
 fin-act p h (op.Closing closing_op.WakeNext) w z = fin-wake_next _ p w
-fin-act p h (op.Closing (closing_op.Close mark)) w z = refl
+fin-act p h (op.Closing (closing_op.Close mark)) w z = fin-close mark w
 fin-act p h (op.Closing (closing_op.Drain mark)) w z = fin-drain mark _ p w
 fin-act p h (op.Closing closing_op.LeakOut) w z = aside-leak_out fin refl (w.is_static || w.gone) w
 fin-act p h (op.Closing closing_op.LeakNext) w z =

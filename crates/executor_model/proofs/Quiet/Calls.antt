@@ -7,6 +7,8 @@ use Rattle.std.proofs.lemmas.List.{append_assoc}
 use Rattle.std.proofs.lemmas.List.Sums.{sum_by_push}
 use Rattle.std.specs.Prelude.{Option, Some, None, count_by}
 use Rattle.executor_parts.specs.declared.mark.Mark.TheVariants.{Plain, Urgent}
+use Rattle.executor_parts.specs.Marks.{first_of}
+use Rattle.executor_model.specs.declared.op.Look.{Look}
 use Rattle.executor_model.specs.declared.op.Look.TheVariants.{First, Second}
 use Rattle.executor_parts.specs.declared.mark.Mark.{Mark}
 use Rattle.task_moves.specs.declared.moves.owed.Owed.{Owed}
@@ -38,7 +40,7 @@ use Rattle.executor_model.specs.World.{World, Done, log, log_if, task, put, awai
 use Rattle.executor_model.specs.Carried.{owed_ops, awaiter_ops}
 use Rattle.executor_model.specs.Acts.{append_by, take_by, enter_by, leave_by, copy_by, look_by, look_again_by}
 use Rattle.executor_model.specs.Acts.{copy_awaiter_by, register_by, let_go, end_register_by, notify_by}
-use Rattle.executor_model.specs.Acts.{call_awaiter, closing_ops, drop_next_by, wake, wake_next_by, drain_by}
+use Rattle.executor_model.specs.Acts.{call_awaiter, close, closing_ops, drop_next_by, take_turn, wake, wake_next_by, drain_by}
 use Rattle.executor_model.specs.Weights.{same, weigh}
 use Rattle.executor_model.proofs.Steps.Lists.{weigh-append}
 use Rattle.executor_model.proofs.Steps.Asides.{aside-entry, Aside, aside-awaiter, aside-owed, aside-let_go, aside-closing}
@@ -197,9 +199,17 @@ none-owed f there o = aside-owed calling_of no-call f there o
 
 -- each thing to do, but for the end of a call
 
-pub calls-append : (b : Bool) (w : World) (mark : Mark) (f : ℕ) → Calls w (op.Queue (queue_op.Append f)) (append_by b w mark f)
+pub calls-append : (b : Bool) (w : World) (mark : Mark) (f : ℕ) →
+    Calls w (op.Queue (queue_op.Append f)) (append_by b w mark f)
 calls-append true w mark f = inside w _ _ refl (steady-same _ _ refl) refl
 calls-append false w mark f = inside w _ _ refl (steady-same _ _ refl) refl
+
+-- a turn leads to one look, which answers as it does
+pub calls-turn : (p : ℕ) (w : World) (o : Op) (looks : Look → Op) → calling_of o ≡ 1 →
+    ((look : Look) → calling_of (looks look) ≡ 1) → Calls w o (take_turn p w looks)
+calls-turn p w o looks z n =
+    answers w o (take_turn p w looks) z
+    (steady-log w _ (event.Looked p (first_of w.urgent_turns)) refl (λ q. refl) (λ q. refl)) (single _ (n _))
 
 pub calls-take : (look : Look) (q : List ℕ) (w : World) → Calls w (op.Queue (queue_op.Take look)) (take_by w look q)
 calls-take (First mark) [] w = answers w _ _ refl (steady-same _ _ refl) (single _ refl)
@@ -321,8 +331,12 @@ calls-leak_next false p w (f ∷ rest) =
     (steady-log u _ (event.Leaked p f) refl (λ q. refl) (λ q. refl)))
     (aside-leak_next calling_of refl none-wake false p w (f ∷ rest))
 
+pub calls-close : (mark : Mark) (w : World) → Calls w (op.Closing (closing_op.Close mark)) (close w mark)
+calls-close Urgent w = inside w _ _ refl (steady-same _ _ refl) refl
+calls-close Plain w = inside w _ _ refl (steady-same _ _ refl) refl
+
 pub calls-drain : (mark : Mark) (p : ℕ) (w : World) (q : List ℕ) → Calls w (op.Closing (closing_op.Drain mark)) (drain_by p w mark q)
-calls-drain Urgent p w [] = inside w _ _ refl (steady-log _ _ (event.DropEnded p) refl (λ q. refl) (λ q. refl)) refl
+calls-drain Urgent p w [] = inside w _ _ refl (steady-same _ _ refl) refl
 calls-drain Plain p w [] = inside w _ _ refl (steady-log _ _ (event.DropEnded p) refl (λ q. refl) (λ q. refl)) refl
 calls-drain mark p w (f ∷ rest) = inside w _ _ refl (steady-same _ _ refl) refl
 

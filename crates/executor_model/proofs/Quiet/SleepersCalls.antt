@@ -2,6 +2,7 @@
 -- What tells sleepers answers no call; what a tick does leads to one answer.
 use Rattle.std.proofs.Common.{◌≡◌, ℕ, List, [], ◌∷◌, Bool, true, false, refl}
 use Rattle.std.specs.Prelude.{Option, Some, None, is_none}
+use Rattle.executor_model.specs.declared.op.Look.{Look}
 use Rattle.executor_model.specs.declared.op.Look.TheVariants.{First, Second}
 use Rattle.task_moves.specs.declared.moves.owed.Move.TheVariants as move
 use Rattle.executor_parts.specs.Sleepers.{waker_at, waker_of}
@@ -26,7 +27,7 @@ use Rattle.executor_model.specs.ActsOfSleepers.{copy_sleeper_by, sleep_anew_by, 
 use Rattle.executor_model.specs.ActsOfSleepers.{fall_asleep_by, wake_up_by, tell_and_return, leave_sleepers_by}
 use Rattle.executor_model.specs.Doing.{search_by_who, sleeper_act, tick_act}
 use Rattle.executor_model.proofs.Quiet.Calls.{calling_of, Steady, steady-same, steady-log, steady-and, steady-wake, Answering}
-use Rattle.executor_model.proofs.Quiet.Calls.{Calls, inside, answers, single, then, none-wake, none-both}
+use Rattle.executor_model.proofs.Quiet.Calls.{Calls, calls-turn, inside, answers, single, then, none-wake, none-both}
 use Rattle.executor_model.proofs.Quiet.RunsCalls.{calls-search_run}
 use Rattle.executor_model.proofs.Steps.SleepersNext.{Unseen, goes-unseen, tell-unseen, sleeper-unseen}
 
@@ -61,14 +62,15 @@ pub calls-sleeper : (p : ℕ) (o : SleeperOp) (w : World) → Calls w (op.Sleepe
 calls-sleeper p o w = inside w (op.Sleeper o) (sleeper_act p o w) (idle o) (steady-sleeper p o w)
     (sleeper-unseen calling_of unseen p o w)
 
-found : (x : Ticker) (w : World) (f : ℕ) (rest : List ℕ) (s : Sleeping) → Answering (search_by x w (f ∷ rest) s).next
-found Awake w f rest s =
+found : (x : Ticker) (w : World) (look : Look) (f : ℕ) (rest : List ℕ) (s : Sleeping) →
+    Answering (look_tick_by x w look (f ∷ rest) s).next
+found Awake w look f rest s =
     then (op.Sleeper sleeper_op.ExchangeFlag ∷ op.Move move.TakeUp f ∷ [])
     (op.End reply.Ready (held_as s.who)) refl refl
-found (Asleep n) w f rest s =
+found (Asleep n) w look f rest s =
     then (op.Tick (tick_op.WakeUp s.who) ∷ op.Sleeper sleeper_op.ExchangeFlag ∷ op.Move move.TakeUp f ∷ [])
     (op.End reply.Ready (held_as s.who)) refl refl
-found Left w f rest s =
+found Left w look f rest s =
     then (op.Sleeper sleeper_op.ExchangeFlag ∷ op.Move move.TakeUp f ∷ [])
     (op.End reply.Ready (held_as s.who)) refl refl
 
@@ -80,11 +82,12 @@ calls-search : (look : Look) (x : Ticker) (w : World) (q : List ℕ) (s : Sleepi
     Calls w (op.Tick (tick_op.Look s look)) (look_tick_by x w look q s)
 calls-search (First mark) x w [] s = answers w _ _ refl (steady-same _ _ refl) (single _ refl)
 calls-search (Second mark) x w [] s = answers w _ _ refl (steady-same _ _ refl) (single _ refl)
-calls-search look x w (f ∷ rest) s = answers w _ _ refl (steady-same _ _ refl) (found x w f rest s)
+calls-search look x w (f ∷ rest) s = answers w _ _ refl (steady-same _ _ refl) (found x w look f rest s)
 
 calls-search_who : (who : TickOrRun) (p : ℕ) (w : World) (s : Sleeping) → s.who ≡ who →
     Calls w (op.Tick (tick_op.Search s)) (search_by_who who p w s)
-calls-search_who (tick_or_run.Tick t) p w s e = calls-search _ w _ s
+calls-search_who (tick_or_run.Tick t) p w s e =
+    calls-turn p w (op.Tick (tick_op.Search s)) (λ look. op.Tick (tick_op.Look s look)) refl (λ look. refl)
 calls-search_who (tick_or_run.Run r) p w s e = calls-search_run w r s e
 
 steady-copied : (w : World) (a : Waker) → Steady w (copied w a)
@@ -137,7 +140,7 @@ calls-leave_sleepers Left w t = inside w _ _ refl (steady-same _ _ refl) refl
 pub calls-tick : (p : ℕ) (h : Hint) (o : TickOp) (w : World) → Calls w (op.Tick o) (tick_act p h o w)
 calls-tick p h tick_op.MakeTick w = calls-make _ w
 calls-tick p h (tick_op.Search s) w = calls-search_who s.who p w s refl
-calls-tick p h (tick_op.Look s look) w = refl
+calls-tick p h (tick_op.Look s look) w = calls-search look _ w _ s
 calls-tick p h (tick_op.CopyWaker s) w = calls-copy _ w s
 calls-tick p h (tick_op.FallAsleep s) w = calls-sleep _ w s
 calls-tick p h (tick_op.WakeUp t) w = calls-up _ w t

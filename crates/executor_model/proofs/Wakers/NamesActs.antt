@@ -3,6 +3,8 @@
 use Rattle.std.proofs.Common.{◌≡◌, ℕ, List, [], ◌∷◌, ◌++◌, length, Bool, true, false, refl, ◌&&◌}
 use Rattle.std.specs.Prelude.{Option, Some, None}
 use Rattle.executor_parts.specs.declared.mark.Mark.TheVariants.{Plain, Urgent}
+use Rattle.executor_parts.specs.Marks.{first_of, turn_after}
+use Rattle.executor_model.specs.declared.op.Look.{Look}
 use Rattle.executor_model.specs.declared.op.Look.TheVariants.{First, Second}
 use Rattle.executor_parts.specs.declared.mark.Mark.{Mark}
 use Rattle.task_moves.specs.declared.moves.owed.Answer.{Answer}
@@ -20,7 +22,7 @@ use Rattle.executor_model.specs.declared.op.Waker.{Waker}
 use Rattle.executor_model.specs.declared.op.Waker.TheVariants.{Task, Outside}
 use Rattle.executor_model.specs.declared.step.Hint.{Hint}
 use Rattle.executor_model.specs.Acts.{answered, append_by, call_waker, closing_ops, copied, copy_awaiter_by, copy_by}
-use Rattle.executor_model.specs.Acts.{drain_by}
+use Rattle.executor_model.specs.Acts.{close, drain_by, turned}
 use Rattle.executor_model.specs.Acts.{drop_next_by, end_notify, end_register_by, enter_by, entry_goes, followed}
 use Rattle.executor_model.specs.Acts.{is_last_waker}
 use Rattle.executor_model.specs.Acts.{is_output, is_told, leak_next_by, leak_out_by, leaking_ops, leave_by}
@@ -94,6 +96,11 @@ module _ (k : ℕ) (a : Waker) where
   takes (First mark) [] w h = (h, (tt, tt))
   takes (Second mark) [] w h = (h, (tt, tt))
   takes look (f ∷ rest) w h = (record { awaiters = h.awaiters; sleepers = h.sleepers; told = h.told }, (tt, (tt, (tt, tt))))
+
+  pub turns : (p : ℕ) (w : World) → Stored k a w → Stored k a (turned p w)
+  turns p w h =
+      stored-log k a (record w { urgent_turns = turn_after w.urgent_turns }) (event.Looked p (first_of w.urgent_turns))
+      (record { awaiters = h.awaiters; sleepers = h.sleepers; told = h.told }) tt
 
   pub appends : (b : Bool) (w : World) (mark : Mark) (f : ℕ) → Stored k a w → Ends k a (append_by b w mark f)
   appends true w mark f h = (record { awaiters = h.awaiters; sleepers = h.sleepers; told = h.told }, (tt, tt))
@@ -231,8 +238,12 @@ module _ (k : ℕ) (a : Waker) where
       (moves-task true move.Wake p v f (record { awaiters = h.awaiters; sleepers = h.sleepers; told = h.told })) (leaking rest) in
       (stored-log k a d.world (event.Leaked p f) e.0 tt, e.1)
 
+  pub shuts : (mark : Mark) (w : World) → Stored k a w → Ends k a (close w mark)
+  shuts Urgent w h = (record { awaiters = h.awaiters; sleepers = h.sleepers; told = h.told }, (tt, tt))
+  shuts Plain w h = (record { awaiters = h.awaiters; sleepers = h.sleepers; told = h.told }, (tt, tt))
+
   pub drains : (mark : Mark) (q : List ℕ) (p : ℕ) (w : World) → Stored k a w → Ends k a (drain_by p w mark q)
-  drains Urgent [] p w h = (stored-log k a w (event.DropEnded p) h tt, tt)
+  drains Urgent [] p w h = (h, (tt, tt))
   drains Plain [] p w h = (stored-log k a w (event.DropEnded p) h tt, tt)
   drains mark (f ∷ rest) p w h =
       (record { awaiters = h.awaiters; sleepers = h.sleepers; told = h.told }, (tt, (tt, tt)))

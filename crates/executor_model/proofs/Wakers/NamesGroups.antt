@@ -3,6 +3,7 @@
 use Rattle.std.proofs.Common.{◌≡◌, ℕ, zero, suc, ◌+◌, List, [], ◌∷◌, ◌++◌, length, Bool, true, false, refl, subst}
 use Rattle.std.proofs.Common.{sym, eqb}
 use Rattle.std.specs.Prelude.{◌-◌, ◌%◌, Option, Some, None, is_none}
+use Rattle.executor_model.specs.declared.op.Look.{Look}
 use Rattle.executor_model.specs.declared.op.Look.TheVariants.{First, Second}
 use Rattle.task_moves.specs.declared.moves.owed.Move.TheVariants as move
 use Rattle.executor_parts.specs.Sleepers.{Sleepers, last_waker, position_of, waker_at, waker_of, without_entry}
@@ -67,7 +68,7 @@ use Rattle.executor_model.proofs.Wakers.NamesActs.{drops-next, ends-notify}
 use Rattle.executor_model.proofs.Wakers.NamesActs.{ends-register, enters, leaks-next, leaks-out, leaves}
 use Rattle.executor_model.proofs.Wakers.NamesActs.{lets-go-emptied, looks}
 use Rattle.executor_model.proofs.Wakers.NamesActs.{looks-again, moves-task, notifies, registers, stored-copied, takes}
-use Rattle.executor_model.proofs.Wakers.NamesActs.{waker-goes, wakes-next}
+use Rattle.executor_model.proofs.Wakers.NamesActs.{shuts, turns, waker-goes, wakes-next}
 
 -- what a thing to do that names a poll by its place only now needs of its waker
 abbrev pub Newly : ℕ → Waker → Hint → World → Op → Type 0
@@ -218,7 +219,7 @@ module _ (k : ℕ) (a : Waker) where
 
   has-stolen : (t : Then) (w : World) (x : RunPoll) → Right k a x.poll x.waker → Stored k a w → Ends k a (stolen t w x)
   has-stolen (then.Found f) w x r h = has-found w x f r h
-  has-stolen (then.StealPlain f) w x r h = refl
+  has-stolen (then.StealPlain f) w x r h = (h, (r, tt))
   has-stolen (then.Run f) w x r h = runs-found _ w x f r h
   has-stolen (then.Walk at left) w x r h = (h, (r, tt))
 
@@ -239,7 +240,7 @@ module _ (k : ℕ) (a : Waker) where
       by false n = (r, tt)
 
   first-out : (from : Source) (w : World) (rest : List ℕ) → Stored k a w → Stored k a (without_first w from rest)
-  first-out Common w rest h = same-store w _ refl refl refl h
+  first-out (Common mark) w rest h = same-store w _ refl refl refl h
   first-out (Own r) w rest h = same-store w _ refl refl refl h
 
   steals-length : (n : ℕ) (w : World) (s : Steal) → Right k a s.poll.poll s.poll.waker → Stored k a w →
@@ -292,7 +293,7 @@ module _ (k : ℕ) (a : Waker) where
 
   searches-who : (who : TickOrRun) (p : ℕ) (w : World) (s : Sleeping) → Right k a s.poll s.waker → Stored k a w →
       Ends k a (search_by_who who p w s)
-  searches-who (tick_or_run.Tick t) p w s r h = searches _ _ w s r h
+  searches-who (tick_or_run.Tick t) p w s r h = (turns k a p w h, (r, tt))
   searches-who (tick_or_run.Run n) p w s r h =
       searches-own _ w (record { run = n; waker = s.waker; poll = s.poll }) r h
 
@@ -329,7 +330,7 @@ module _ (k : ℕ) (a : Waker) where
   runs : (p : ℕ) (c : Hint) (o : RunOp) (w : World) → Keeps w (op.Run o) (run_act p c o w)
   runs p c run_op.MakeRoom w h r = makes-room c.refused w h
   runs p c run_op.ReturnRoom w h r = (same-store w _ refl (given_back-same w.sleepers) refl h, tt)
-  runs p c (run_op.TakeTurn x) w h r = refl
+  runs p c (run_op.TakeTurn x) w h r = (turns k a p w h, (r, tt))
   runs p c (run_op.SearchCommon x look) w h r = searches-common look _ w x r h
   runs p c (run_op.LookOwn x at left) w h r = looks-own _ w x at left r h
   runs p c (run_op.WakeOwn x) w h r = wakes-own p w x r h
@@ -350,8 +351,8 @@ module _ (k : ℕ) (a : Waker) where
   names-act p c (op.Table (table_op.PutBack f)) w n h r = (same-store w _ refl refl refl h, (tt, tt))
   names-act p c (op.Table (table_op.TakeToDrop f)) w n h r = (same-store w _ refl refl refl h, (tt, tt))
   names-act p c (op.Table (table_op.LeaveTable f)) w n h r = leaves k a _ w f h
-  names-act p c (op.Queue queue_op.TakeTurn) w n h r = refl
-  names-act p c (op.Queue (queue_op.Take look)) w n h r = takes look k a _ w h
+  names-act p c (op.Queue queue_op.TakeTurn) w n h r = (turns k a p w h, (tt, tt))
+  names-act p c (op.Queue (queue_op.Take look)) w n h r = takes k a look _ w h
   names-act p c (op.Queue (queue_op.Append f)) w n h r = appends k a _ w _ f h
   names-act p c (op.User o) w n h r = users p c o w h r
   names-act p c (op.Waker (waker_op.CopyWaker f held)) w n h r = copies k a _ w f held h
@@ -369,7 +370,7 @@ module _ (k : ℕ) (a : Waker) where
   names-act p c (op.Sleeper (sleeper_op.CallSleeper s)) w n h r = calls-waker k a p w (polled_as s.who) s.waker s.poll r h
   names-act p c (op.Tick tick_op.MakeTick) w n h r = makes-tick _ w h
   names-act p c (op.Tick (tick_op.Search s)) w n h r = searches-who s.who p w s r h
-  names-act p c (op.Tick (tick_op.Look s look)) w n h r = refl
+  names-act p c (op.Tick (tick_op.Look s look)) w n h r = searches look _ _ w s r h
   names-act p c (op.Tick (tick_op.CopyWaker s)) w n h r = copies-sleeper _ w s r h
   names-act p c (op.Tick (tick_op.FallAsleep s)) w n h r = falls-asleep _ w s r h
   names-act p c (op.Tick (tick_op.WakeUp t)) w n h r = wakes-up _ w t h
@@ -385,8 +386,8 @@ module _ (k : ℕ) (a : Waker) where
   names-act p c (op.Closing closing_op.TakeOut) w n h r = (same-store w _ refl refl refl h, (closes k a w.table w.waking))
   names-act p c (op.Closing closing_op.DropNext) w n h r = drops-next k a _ p w h
   names-act p c (op.Closing closing_op.WakeNext) w n h r = wakes-next k a _ p w h
-  names-act p c (op.Closing (closing_op.Close mark)) w n h r = (same-store w _ refl refl refl h, (tt, tt))
-  names-act p c (op.Closing (closing_op.Drain mark)) w n h r = drains k a _ p w h
+  names-act p c (op.Closing (closing_op.Close mark)) w n h r = shuts k a mark w h
+  names-act p c (op.Closing (closing_op.Drain mark)) w n h r = drains k a mark _ p w h
   names-act p c (op.Closing closing_op.LeakOut) w n h r = leaks-out k a _ w h
   names-act p c (op.Closing closing_op.LeakNext) w n h r = leaks-next k a _ _ p w h
   names-act p c (op.End b held) w n h r = (stored-log k a w (event.CallEnded p b) h tt, tt)

@@ -54,9 +54,13 @@ use Rattle.executor_model.proofs.Steps.RunsPlain.{plain-run, plain-steal}
 use Rattle.executor_model.proofs.Awaiters.RunsQueue.{Fewer, fewer, takes-run, takes-search, takes-steal}
 use Rattle.executor_model.proofs.Steps.RunsWays.{by-run, by-search, by-steal}
 use Rattle.executor_model.proofs.Awaiters.AwaitedLists.{plain-act, plain-begun, plain-wake}
-use Rattle.executor_model.proofs.Awaiters.AwaitedSweeps.{KeepsSweeps, Kept, Lists, NoSteps, Sweeps, draining_of, dropping_of}
+use Rattle.executor_model.proofs.Awaiters.AwaitedSweeps.{KeepsSweeps, Kept, Lists, NoSteps, Sweep, Sweeps, dropping_of}
+use Rattle.executor_model.proofs.Awaiters.AwaitedSweeps.{draining_plain_of, draining_urgent_of, shuts_left, steps_of}
+use Rattle.executor_model.proofs.Awaiters.AwaitedSweeps.{shutting_plain_of, shutting_urgent_of}
+use Rattle.executor_model.proofs.Awaiters.RunsQueue.Takes.{first}
+use Rattle.queue_steps.specs.ClosableQueue.{taken}
 use Rattle.executor_model.proofs.Awaiters.AwaitedSweeps.{is_sweeping, kept-moves, kept-own, kept-put, lists, no-act, no-self}
-use Rattle.executor_model.proofs.Awaiters.AwaitedSweeps.{no-steps, rousing_of, same-act, same-log_if, shutting_of, sweep}
+use Rattle.executor_model.proofs.Awaiters.AwaitedSweeps.{no-steps, rousing_of, same-act, same-log_if, sweep}
 use Rattle.executor_model.proofs.Awaiters.AwaitedSweeps.{sweeps-still, with-none, with_sweep}
 use Rattle.executor_model.specs.Acts.{leak_next_by, leak_out_by}
 use Rattle.executor_model.proofs.Steps.Asides.{aside-leak_next, aside-leak_out}

@@ -1,7 +1,7 @@
 -- For sleepers_agree and sleepers_are_told.
 -- What is no part of the sleepers, of a tick or of a run's making leaves the sleepers, and who sleeps, as they are.
 use Rattle.std.proofs.Common.{◌≡◌, ◌∙◌, ℕ, zero, suc, ◌+◌, ◌≤◌, List, [], ◌∷◌, length, Bool, true}
-use Rattle.std.proofs.Common.{false, eqb, refl, sym, ap, arith}
+use Rattle.std.proofs.Common.{false, eqb, refl, sym, ap, subst, arith}
 use Rattle.executor_model.proofs.Steps.QueuesByMark.{items-shut, fewer-first}
 use Rattle.executor_model.specs.Queues.{Queues, queue_in}
 use Rattle.executor_model.specs.declared.op.Look.{Look}

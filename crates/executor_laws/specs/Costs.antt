@@ -45,10 +45,10 @@ abbrev pub steps_of_move : Move → ℕ
 steps_of_move move.WakeByReference = 13
 steps_of_move move.Wake = 26
 steps_of_move move.Release = 13
-steps_of_move move.TakeUp = 91
+steps_of_move move.TakeUp = 95
 steps_of_move move.SettleClosed = 4
 steps_of_move move.EndReady = 9
-steps_of_move move.EndPending = 44
+steps_of_move move.EndPending = 46
 steps_of_move move.EndClosed = 4
 steps_of_move move.DropRunnable = 10
 steps_of_move move.Cancel = 15
@@ -56,10 +56,10 @@ steps_of_move move.Detach = 13
 steps_of_move _ = 1
 
 abbrev pub steps_of_table : TableOp → ℕ
-steps_of_table (table_op.Enter m) = 142
+steps_of_table (table_op.Enter m) = 146
 steps_of_table table_op.LookAtTable = 2
-steps_of_table (table_op.TakeToPoll f) = 47
-steps_of_table (table_op.PutBack f) = 45
+steps_of_table (table_op.TakeToPoll f) = 49
+steps_of_table (table_op.PutBack f) = 47
 steps_of_table (table_op.TakeToDrop f) = 5
 steps_of_table (table_op.LeaveTable f) = 1
 
@@ -69,15 +69,15 @@ looks_left (First m) = 2
 looks_left (Second m) = 1
 
 abbrev pub steps_of_queue : QueueOp → ℕ
-steps_of_queue queue_op.TakeTurn = 115
-steps_of_queue (queue_op.Take l) = 112 + looks_left l
-steps_of_queue (queue_op.Append f) = 43
+steps_of_queue queue_op.TakeTurn = 121
+steps_of_queue (queue_op.Take l) = 118 + looks_left l
+steps_of_queue (queue_op.Append f) = 45
 
 abbrev pub steps_of_user : UserOp → ℕ
-steps_of_user (user_op.Poll f) = 46
+steps_of_user (user_op.Poll f) = 48
 steps_of_user (user_op.BeginDrop f) = 3
 steps_of_user (user_op.BeginDropOutput f) = 2
-steps_of_user (user_op.PollOwn x) = 30108
+steps_of_user (user_op.PollOwn x) = 32108
 steps_of_user _ = 1
 
 abbrev pub steps_of_waker : WakerOp → ℕ
@@ -95,53 +95,53 @@ steps_of_handle (handle_op.EndNotify f mine) = 1
 steps_of_handle (handle_op.LetGo f) = 1
 
 abbrev pub steps_of_sleeper : SleeperOp → ℕ
-steps_of_sleeper sleeper_op.ExchangeFlag = 31
-steps_of_sleeper sleeper_op.HandOut = 30
+steps_of_sleeper sleeper_op.ExchangeFlag = 33
+steps_of_sleeper sleeper_op.HandOut = 32
 steps_of_sleeper (sleeper_op.CallSleeper s) = 26
 
--- of a poll of a tick, and of a run: a run takes up to 200 futures from where it counts anew, each in 150 steps: it
+-- of a poll of a tick, and of a run: a run takes up to 200 futures from where it counts anew, each in 160 steps: it
 -- wakes up, tells a sleeper, takes the future up and searches on; and what else a poll does takes no more than 150
 abbrev pub steps_of_search : TickOrRun → ℕ
 steps_of_search (tick_or_run.Tick t) = 143
-steps_of_search (tick_or_run.Run r) = 30105
+steps_of_search (tick_or_run.Run r) = 32105
 
 abbrev pub steps_of_copy : TickOrRun → ℕ
 steps_of_copy (tick_or_run.Tick t) = 140
-steps_of_copy (tick_or_run.Run r) = 30102
+steps_of_copy (tick_or_run.Run r) = 32102
 
 abbrev pub steps_of_sleeping : TickOrRun → ℕ
 steps_of_sleeping (tick_or_run.Tick t) = 139
-steps_of_sleeping (tick_or_run.Run r) = 30102
+steps_of_sleeping (tick_or_run.Run r) = 32102
 
 abbrev pub steps_of_tick : TickOp → ℕ
 steps_of_tick tick_op.MakeTick = 7
 steps_of_tick (tick_op.Search s) = steps_of_search s.who
-steps_of_tick (tick_op.Look s l) = 140 + looks_left l
+steps_of_tick (tick_op.Look s l) = steps_of_copy s.who + looks_left l
 steps_of_tick (tick_op.CopyWaker s) = steps_of_copy s.who
 steps_of_tick (tick_op.FallAsleep s) = steps_of_sleeping s.who
 steps_of_tick (tick_op.WakeUp who) = 19
 steps_of_tick (tick_op.Leave who) = 45
 
 -- a run comes up, and with 200 futures that it may take; at its first poll it comes into the list; and where it goes
--- from there, each of 512 Runnables takes 45 steps to be scheduled
+-- from there, each of 512 Runnables takes 46 steps to be scheduled
 abbrev pub steps_of_section : Section → ℕ
-steps_of_section section.MakeRun = 30012
-steps_of_section (section.Register x) = 30113
-steps_of_section (section.Unregister r a) = 23090
+steps_of_section section.MakeRun = 32012
+steps_of_section (section.Register x) = 32113
+steps_of_section (section.Unregister r a) = 23602
 
 abbrev pub steps_of_list : ListOp → ℕ
 steps_of_list (list_op.LockWrite s) = 1 + steps_of_section s
 steps_of_list (list_op.Write s) = steps_of_section s
 steps_of_list list_op.UnlockWrite = 1
-steps_of_list (list_op.LockRead x) = 30105
+steps_of_list (list_op.LockRead x) = 32105
 steps_of_list list_op.UnlockRead = 1
 
 -- of a steal, by what it goes on with
 abbrev pub steps_then : Then → ℕ
-steps_then (then.Found f) = 30104
-steps_then (then.StealPlain f) = 30052
-steps_then (then.Run f) = 30051
-steps_then (then.Walk at left) = 30104
+steps_then (then.Found f) = 32104
+steps_then (then.StealPlain f) = 32042
+steps_then (then.Run f) = 32041
+steps_then (then.Walk at left) = 32104
 
 abbrev pub steps_of_steal : StealOp → ℕ
 steps_of_steal (steal_op.Length s) = steps_then s.then
@@ -150,11 +150,11 @@ steps_of_steal (steal_op.Take s more) = steps_then s.then
 steps_of_steal (steal_op.Put s more f) = steps_then s.then
 
 abbrev pub steps_of_run : RunOp → ℕ
-steps_of_run run_op.MakeRoom = 30014
+steps_of_run run_op.MakeRoom = 32014
 steps_of_run run_op.ReturnRoom = 1
-steps_of_run (run_op.TakeTurn x) = 30105
-steps_of_run (run_op.SearchCommon x l) = 30105
-steps_of_run (run_op.LookOwn x at left) = 30104
+steps_of_run (run_op.TakeTurn x) = 32105
+steps_of_run (run_op.SearchCommon x l) = 32105
+steps_of_run (run_op.LookOwn x at left) = 32104
 steps_of_run (run_op.WakeOwn x) = 15
 steps_of_run (run_op.Reschedule r a) = 47
 

@@ -37,7 +37,7 @@ appends_left s = appends_by (s.completed || s.closed) s.scheduled
 
 -- the steps that a task may lead to: those of its output's drop, and of its appends
 abbrev pub steps_of_task : State → ℕ
-steps_of_task s = 3 * keeps_output s + 43 * appends_left s
+steps_of_task s = 3 * keeps_output s + 45 * appends_left s
 
 abbrev pub steps_of_tasks : List State → ℕ
 steps_of_tasks [] = 0
@@ -60,7 +60,7 @@ ups (x ∷ xs) = up_of x + ups xs
 -- the steps of a run: it searches once more where it falls asleep, and may take so many futures until it lets others go
 -- first
 abbrev pub steps_of_place : Run → ℕ
-steps_of_place x = 5 * up_of x.place + 150 * (200 - x.taken)
+steps_of_place x = 5 * up_of x.place + 160 * (200 - x.taken)
 
 abbrev pub steps_of_runs : List Run → ℕ
 steps_of_runs [] = 0
@@ -80,9 +80,9 @@ steps_kept w =
     (26 * stored w.awaiters + (steps_of_tasks w.tasks + (5 * notified_of w.sleepers + (5 * ups w.ticks +
     steps_of_runs w.runs)))))))
 
--- of all: a Runnable that a run has still to schedule takes 45 steps, with what its append leads to
+-- of all: a Runnable that a run has still to schedule takes 46 steps, with what its append leads to
 abbrev pub steps_left : Machine → ℕ
-steps_left s = steps_kept s.world + (weigh_all steps_of s.parties + 45 * weigh_all (left_by s.world) s.parties)
+steps_left s = steps_kept s.world + (weigh_all steps_of s.parties + 46 * weigh_all (left_by s.world) s.parties)
 
 -- the queues that are in the list, or that a poll is about to bring there: no walk goes to more
 abbrev pub queues_of : Machine → ℕ

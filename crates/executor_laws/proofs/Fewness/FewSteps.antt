@@ -5,6 +5,7 @@ use Rattle.std.proofs.Common.{refl, sym, ap, subst, arith, get_or-set_same}
 use Rattle.std.proofs.Math.ListN.{length-set}
 use Rattle.std.proofs.lemmas.List.{reverse-append}
 use Rattle.std.specs.Prelude.{Option, Some, None, reverse}
+use Rattle.executor_model.specs.declared.op.Look.{Look}
 use Rattle.executor_model.specs.declared.op.Look.TheVariants.{First, Second}
 use Rattle.executor_model.specs.World.{queue_of}
 use Rattle.executor_model.specs.Acts.{mark_in}

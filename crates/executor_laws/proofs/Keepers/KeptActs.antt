@@ -2,6 +2,7 @@
 -- What each thing to do and the end of user code leave of the own queues, and of who has a kept future in hand.
 use Rattle.std.proofs.Common.{◌≡◌, ℕ, ◌+◌, ◌%◌, ◌<◌, ◌≤◌, List, [], ◌∷◌, length, Bool, true, false, refl, inl, arith}
 use Rattle.std.specs.Prelude.{not, Option, Some, None}
+use Rattle.executor_model.specs.declared.op.Look.{Look}
 use Rattle.executor_model.specs.declared.op.Look.TheVariants.{First, Second}
 use Rattle.executor_parts.specs.Sleepers.{waker_at}
 use Rattle.task_moves.specs.declared.moves.owed.Move.{Move}

@@ -167,6 +167,7 @@ weighs-quits r x = record {
   search = refl;
   wake = refl;
   steal = λ f. refl;
+  steal_plain = λ f. refl;
   look = λ at left. refl;
 }
 

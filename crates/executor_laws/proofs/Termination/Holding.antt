@@ -4,6 +4,9 @@ use Rattle.std.proofs.Common.{◌≡◌, ◌∙◌, ℕ, zero, suc, ◌+◌, ◌
 use Rattle.std.proofs.Common.{get_or, take, Bool, true, false, ltb, refl, sym, ap, subst, arith}
 use Rattle.std.proofs.lemmas.List.{append_assoc, reverse-append}
 use Rattle.std.specs.Prelude.{Option, Some, None, reverse, slice_get}
+use Rattle.executor_model.specs.ActsOfSleepers.{look_tick}
+use Rattle.executor_model.specs.Acts.{mark_in}
+use Rattle.executor_model.specs.declared.op.Look.{Look}
 use Rattle.executor_model.specs.declared.op.Look.TheVariants.{First, Second}
 use Rattle.executor_model.specs.declared.call.Call.{Call}
 use Rattle.executor_model.specs.declared.call.Reply.{Reply}
@@ -45,7 +48,7 @@ use Rattle.executor_model.specs.OwnQueues.{filling_of, reads_of, writes_of}
 use Rattle.executor_model.specs.Steps.{Machine, accepts, begun, below_top, is_free, mine, react, run, stack, start, top}
 use Rattle.executor_model.specs.Steps.{unless, waits}
 use Rattle.executor_model.specs.Weights.{weigh, weigh_all}
-use Rattle.executor_model.specs.World.{World, Done, done, log, place_of, put_own}
+use Rattle.executor_model.specs.World.{World, Done, done, log, place_of, put_own, queue_of}
 use Rattle.executor_model.proofs.Steps.Lift.{good-start, split, topped, unsettled, weigh_all-idle}
 use Rattle.executor_model.proofs.Steps.Lists.{weigh-append, weigh-reverse}
 use Rattle.executor_model.proofs.OwnQueues.OwnCounts.{counts-begun, counts-react, counts-reads, counts-writes}
@@ -95,6 +98,7 @@ found-held x = record {
   search = refl;
   wake = refl;
   steal = λ f. refl;
+  steal_plain = λ f. refl;
   look = λ at left. refl;
 }
 
@@ -143,14 +147,14 @@ first-own (f ∷ rest) w x = let v : World = put_own w x.run rest in
 
 first-search : (who : TickOrRun) (p : ℕ) (w : World) (s : Sleeping) → FirstHolds (search_by_who who p w s).next
 first-search (tick_or_run.Tick t) p w s =
-    none-held (search_by_who (tick_or_run.Tick t) p w s).next
-    (search-blind held_of blind-held (λ f. refl) (place_of w s.who) w w.queue.items s)
+    refl
 first-search (tick_or_run.Run r) p w s = first-own _ w _
 
 first-tick : (p : ℕ) (h : Hint) (o : TickOp) (w : World) (b : Bool) → is_search o ≡ b → FirstHolds (tick_act p h o w).next
-first-tick p h o w false e = none-held (tick_act p h o w).next (slumbering-blind held_of blind-held h o w e)
+first-tick p h o w false e = none-held (tick_act p h o w).next (slumbering-blind held_of blind-held p h o w e)
 first-tick p h (tick_op.Search s) w true e = first-search s.who p w s
-first-tick p h (tick_op.Look s look) w true e = refl
+first-tick p h (tick_op.Look s look) w true e = none-held (look_tick w s look).next
+    (search-blind held_of blind-held look (λ f. refl) (place_of w s.who) w (queue_of w (mark_in look)).items s)
 first-tick p h _ w true e = absurd (cc)
 
 first-walk : (x : RunPoll) (qs : List ℕ) (at left : ℕ) → FirstHolds (runs.walk x qs at left)

@@ -4,6 +4,7 @@ use Rattle.std.proofs.Common.{◌≡◌, ℕ, zero, suc, ◌+◌, ◌<◌, List,
 use Rattle.std.proofs.Common.{Bool, true, false, eqb, refl, ap, sym, arith}
 use Rattle.std.proofs.lemmas.Bool.Decides.{nat_tests}
 use Rattle.std.specs.Prelude.{Option, Some, None, reverse}
+use Rattle.executor_model.specs.declared.op.Look.{Look}
 use Rattle.executor_parts.specs.declared.mark.Mark.TheVariants.{Plain, Urgent}
 use Rattle.executor_parts.specs.declared.mark.Mark.{Mark}
 use Rattle.executor_model.specs.declared.op.Look.TheVariants.{First, Second}
@@ -202,7 +203,7 @@ pauses-found w x f k = pauses-counted _ w x f k
 
 pauses-stolen : (t : Then) (w : World) (x : RunPoll) → Pauses w (runs.stolen t w x).world
 pauses-stolen (then.Found f) w x k = pauses-found w x f k
-pauses-stolen (then.StealPlain f) w x k = refl
+pauses-stolen (then.StealPlain f) w x k = k
 pauses-stolen (then.Run f) w x k = pauses-run_by _ w x f refl k
 pauses-stolen (then.Walk at left) w x k = k
 
@@ -219,7 +220,7 @@ pauses-take [] w s more k = pauses-stolen s.then w s.poll k
 pauses-take (f ∷ rest) w s more k = by s.from
   where
     by : (a : Source) → TakesFew (runs.without_first w a rest)
-    by Common = k
+    by (Common mark) = k
     by (Own r) = k
 
 pauses-put : (b : Bool) (p : ℕ) (w : World) (s : Steal) (more f : ℕ) →
@@ -238,13 +239,13 @@ pauses-own [] w x k = k
 pauses-own (f ∷ rest) w x k = pauses-found (put_own w x.run rest) x f k
 
 pauses-searches : (who : TickOrRun) (p : ℕ) (w : World) (s : Sleeping) → Pauses w (search_by_who who p w s).world
-pauses-searches (tick_or_run.Tick t) p w s k = pauses-search _ w _ s k
+pauses-searches (tick_or_run.Tick t) p w s k = k
 pauses-searches (tick_or_run.Run r) p w s k = pauses-own _ w _ k
 
 pauses-tick : (p : ℕ) (h : Hint) (o : TickOp) (w : World) → Pauses w (tick_act p h o w).world
 pauses-tick p h tick_op.MakeTick w k = pauses-make _ w k
 pauses-tick p h (tick_op.Search s) w k = pauses-searches s.who p w s k
-pauses-tick p h (tick_op.Look s look) w k = refl
+pauses-tick p h (tick_op.Look s look) w k = pauses-search look _ w _ s k
 pauses-tick p h (tick_op.CopyWaker s) w k = pauses-copy _ w s k
 pauses-tick p h (tick_op.FallAsleep s) w k = pauses-sleep _ w s k
 pauses-tick p h (tick_op.WakeUp who) w k = pauses-up _ w who k
@@ -275,7 +276,7 @@ pauses-reschedule (f ∷ rest) w r a k = k
 pauses-of-run : (p : ℕ) (h : Hint) (o : RunOp) (w : World) → Pauses w (run_act p h o w).world
 pauses-of-run p h run_op.MakeRoom w k = pauses-room _ w k
 pauses-of-run p h run_op.ReturnRoom w k = k
-pauses-of-run p h (run_op.TakeTurn x) w k = refl
+pauses-of-run p h (run_op.TakeTurn x) w k = k
 pauses-of-run p h (run_op.SearchCommon x look) w k = pauses-common look _ w x k
 pauses-of-run p h (run_op.LookOwn x at left) w k = pauses-look _ w x at left k
 pauses-of-run p h (run_op.WakeOwn x) w k =

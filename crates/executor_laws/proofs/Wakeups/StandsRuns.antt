@@ -2,6 +2,7 @@
 -- Where a run searches, steals and walks, its poll goes on.
 use Rattle.std.proofs.Common.{◌≡◌, ◌⊎◌, ◌∙◌, ℕ, zero, suc, ◌+◌, ◌%◌, ◌≤◌, List, [], ◌∷◌, ◌++◌, length, Bool, true}
 use Rattle.std.proofs.Common.{false, eqb, refl, sym, ap, subst, inl, inr, ⊎_elim, arith}
+use Rattle.executor_model.specs.declared.op.Look.{Look}
 use Rattle.executor_model.specs.declared.op.Look.TheVariants.{First, Second}
 use Rattle.task_moves.specs.declared.moves.owed.Move.TheVariants as move
 use Rattle.executor_model.specs.declared.call.Reply.TheVariants as reply

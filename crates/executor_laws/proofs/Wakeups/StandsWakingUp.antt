@@ -2,6 +2,7 @@
 -- What is done lets nobody wake up or leave but one that is in use.
 use Rattle.std.proofs.Common.{◌≡◌, ℕ, List, [], ◌∷◌, ◌++◌, Bool, true, false, refl, arith}
 use Rattle.std.specs.Prelude.{Option, Some, None, is_none}
+use Rattle.executor_model.specs.declared.op.Look.{Look}
 use Rattle.executor_model.specs.declared.op.Look.TheVariants.{First, Second}
 use Rattle.executor_parts.specs.Sleepers.{waker_at, waker_of}
 use Rattle.executor_model.specs.declared.call.Reply.{Reply}

@@ -130,7 +130,8 @@ ties-act true g p h (op.Handle (handle_op.Notify f mine)) w n = ties-notify _ mi
 ties-act true g p h (op.Closing closing_op.TakeOut) w n = ties-light g _ _ (none-closing g w.table w.waking)
 ties-act true g p h (op.Closing closing_op.DropNext) w n = ties-drop_next g p w w.leaving
 ties-act true g p h (op.Closing closing_op.WakeNext) w n = ties-wake_next g p w w.waking
-ties-act true g p h (op.Closing (closing_op.Close mark)) w n = ties-light g _ _ refl
+ties-act true g p h (op.Closing (closing_op.Close Urgent)) w n = ties-light g _ _ refl
+ties-act true g p h (op.Closing (closing_op.Close Plain)) w n = ties-light g _ _ refl
 ties-act true g p h (op.Closing (closing_op.Drain mark)) w n = ties-drain mark g p w (queue_of w mark).items
 ties-act true g p h _ w n = absurd (cc)
 

@@ -2,8 +2,13 @@
 -- What a run does takes from the executor's queue at most, and neither closes nor opens it.
 use Rattle.std.proofs.Common.{◌≡◌, ◌≤◌, ℕ, zero, suc, List, [], ◌∷◌, length, drop, Bool, true, false, refl, sym, ap, subst}
 use Rattle.std.proofs.Common.{arith}
+use Rattle.executor_model.proofs.Steps.QueuesByMark.{without_first_of, closed-first}
+use Rattle.executor_model.specs.Queues.{Queues, queue_in}
+use Rattle.executor_model.specs.Acts.{mark_in}
+use Rattle.executor_parts.specs.declared.mark.Mark.TheVariants.{Plain, Urgent}
+use Rattle.executor_parts.specs.declared.mark.Mark.{Mark}
+use Rattle.executor_model.specs.declared.op.Look.{Look}
 use Rattle.executor_model.specs.declared.op.Look.TheVariants.{First, Second}
-use Rattle.queue_steps.specs.ClosableQueue.{ClosableQueue, taken}
 use Rattle.executor_model.specs.declared.call.Reply.{Reply}
 use Rattle.executor_model.specs.declared.event.Event.{Event}
 use Rattle.executor_model.specs.declared.event.Event.TheVariants as event
@@ -24,17 +29,17 @@ use Rattle.executor_model.specs.declared.op.Then.TheVariants as then
 use Rattle.executor_model.specs.declared.op.Waker.{Waker}
 use Rattle.executor_model.specs.declared.op.Waker.TheVariants.{Task, Outside}
 use Rattle.executor_model.specs.declared.step.Hint.{Hint}
-use Rattle.executor_model.specs.World.{World, Stage, New, Listed, Ended, log, log_if, put_own}
+use Rattle.executor_model.specs.World.{World, Stage, New, Listed, Ended, log, log_if, put_own, queue_of}
 use Rattle.executor_model.specs.ActsOfRuns.{call_by_reference, counted_by, found, kept_by, look_own_by, make_room_by}
 use Rattle.executor_model.specs.ActsOfRuns.{make_run_by, registered}
 use Rattle.executor_model.specs.ActsOfRuns.{reschedule_by, run_by, search_common_by, search_own, search_own_by}
 use Rattle.executor_model.specs.ActsOfRuns.{steal_by, steal_length_by, steal_put_by, steal_take_by, stolen}
 use Rattle.executor_model.specs.Doing.{list_act, run_act, steal_act}
 
--- a run leaves the queue, or takes its first
+-- a run leaves the queues, or takes the first of one
 pub data Takes (w v : World) : Type 0 where
   stays : v.queues ≡ w.queues → Takes w v
-  first : v.queues ≡ taken w.queues → Takes w v
+  first : (mark : Mark) → v.queues ≡ without_first_of mark w.queues → Takes w v
 
 queue-run_by : (b : Bool) (w : World) (x : RunPoll) (f : ℕ) → (run_by b w x f).world.queues ≡ w.queues
 queue-run_by true w x f = refl
@@ -88,7 +93,7 @@ takes-search w x = stays (queue-own _ w x)
 pub takes-common : (look : Look) (q : List ℕ) (w : World) (x : RunPoll) → Takes w (search_common_by q w x look).world
 takes-common (First mark) [] w x = stays refl
 takes-common (Second mark) [] w x = stays refl
-takes-common look (f ∷ rest) w x = first refl
+takes-common look (f ∷ rest) w x = first (mark_in look) refl
 
 pub queue-look : (q : List ℕ) (w : World) (x : RunPoll) (at left : ℕ) → (look_own_by q w x at left).world.queues ≡ w.queues
 queue-look [] w x at left = refl
@@ -102,7 +107,7 @@ queue-make : (b : Bool) (w : World) → (make_run_by b w).world.queues ≡ w.que
 queue-make true w = refl
 queue-make false w = refl
 
-queue-registered : (t : Stage) (w : World) (r : ℕ) → (registered t w r).queue ≡ w.queues
+queue-registered : (t : Stage) (w : World) (r : ℕ) → (registered t w r).queues ≡ w.queues
 queue-registered New w r = refl
 queue-registered Listed w r = refl
 queue-registered Ended w r = refl
@@ -116,7 +121,7 @@ pub queue-reschedule : (q : List ℕ) (w : World) (r : ℕ) (a : Reply) → (res
 queue-reschedule [] w r a = refl
 queue-reschedule (f ∷ rest) w r a = refl
 
-queue-log_if : (b : Bool) (w : World) (e : Event) → (log_if b w e).queue ≡ w.queues
+queue-log_if : (b : Bool) (w : World) (e : Event) → (log_if b w e).queues ≡ w.queues
 queue-log_if true w e = refl
 queue-log_if false w e = refl
 
@@ -127,7 +132,7 @@ queue-by_reference p w (Outside y) = refl
 pub takes-run : (p : ℕ) (h : Hint) (o : RunOp) (w : World) → Takes w (run_act p h o w).world
 takes-run p h run_op.MakeRoom w = stays (queue-room h.refused w)
 takes-run p h run_op.ReturnRoom w = stays refl
-takes-run p h (run_op.TakeTurn x) w = refl
+takes-run p h (run_op.TakeTurn x) w = stays refl
 takes-run p h (run_op.SearchCommon x look) w = takes-common look _ w x
 takes-run p h (run_op.LookOwn x at left) w = stays (queue-look _ w x at left)
 takes-run p h (run_op.WakeOwn x) w =
@@ -135,19 +140,26 @@ takes-run p h (run_op.WakeOwn x) w =
 takes-run p h (run_op.Reschedule r a) w = stays (queue-reschedule _ w r a)
 
 pub record Fewer (w v : World) : Type 0 where
-  pub closed : v.queue.closed ≡ w.queue.closed
-  pub items : length v.queue.items ≤ length w.queue.items
+  pub closed : (m : Mark) → (queue_of v m).closed ≡ (queue_of w m).closed
+  pub items : (m : Mark) → length (queue_of v m).items ≤ length (queue_of w m).items
 
 drop-less : (xs : List ℕ) → length (drop 1 xs) ≤ length xs
 drop-less [] = omega arith
 drop-less (x ∷ xs) = omega arith
 
+less-first : (m n : Mark) (qs : Queues) →
+    length (queue_in n (without_first_of m qs)).items ≤ length (queue_in n qs).items
+less-first Urgent Urgent qs = drop-less qs.urgent.items
+less-first Urgent Plain qs = omega arith
+less-first Plain Urgent qs = omega arith
+less-first Plain Plain qs = drop-less qs.plain.items
+
 pub fewer : (w v : World) → Takes w v → Fewer w v
 fewer w v (stays e) = record {
-  closed = ap (λ (q : ClosableQueue ℕ). q.closed) e;
-  items = omega (arith, ap (λ (q : ClosableQueue ℕ). length q.items) e);
+  closed = λ m. ap (λ (qs : Queues). (queue_in m qs).closed) e;
+  items = λ m. omega (arith, ap (λ (qs : Queues). length (queue_in m qs).items) e);
 }
-fewer w v (first e) = record {
-  closed = ap (λ (q : ClosableQueue ℕ). q.closed) e;
-  items = subst (λ (q : ClosableQueue ℕ). length q.items ≤ length w.queue.items) (sym e) (drop-less w.queue.items);
+fewer w v (first mark e) = record {
+  closed = λ m. ap (λ (qs : Queues). (queue_in m qs).closed) e ∙ closed-first mark m w.queues;
+  items = λ m. omega (arith, ap (λ (qs : Queues). length (queue_in m qs).items) e, less-first mark m w.queues);
 }

@@ -5,6 +5,7 @@ use Rattle.std.proofs.Common.{true, false, ltb, eqb}
 use Rattle.std.proofs.Common.{refl, sym, ap, subst, ⊎_elim, ◌⊎◌, inl, inr, ◌||◌, arith}
 use Rattle.std.proofs.lemmas.Bool.Decides.{nat_tests}
 use Rattle.std.specs.Prelude.{Option, Some, None, is_none, reverse}
+use Rattle.executor_model.specs.declared.op.Look.{Look}
 use Rattle.executor_parts.specs.declared.mark.Mark.{Mark}
 use Rattle.executor_model.specs.declared.op.Look.TheVariants.{First, Second}
 use Rattle.executor_parts.specs.Sleepers.{flag_of, position_of, waker_at, waker_of}
@@ -170,7 +171,7 @@ follow-search look Left (f ∷ rest) w s = still w _ _ _ refl refl refl refl
 
 follow-search_who : (who : TickOrRun) (p : ℕ) (w : World) (s : Sleeping) →
     Follow w (op.Tick (tick_op.Search s) ∷ []) (search_by_who who p w s)
-follow-search_who (tick_or_run.Tick t) p w s = follow-search _ _ w s
+follow-search_who (tick_or_run.Tick t) p w s = still w _ _ _ refl refl refl refl
 follow-search_who (tick_or_run.Run r) p w s = follow-away w _ _ refl
     (away-own _ w (record { run = r; waker = s.waker; poll = s.poll }))
 
@@ -254,7 +255,7 @@ follow-leave Left w t e = still w _ _ _ refl refl refl refl
 follow-tick : (p : ℕ) (h : Hint) (o : TickOp) (w : World) → Follow w (op.Tick o ∷ []) (tick_act p h o w)
 follow-tick p h tick_op.MakeTick w = follow-make _ w
 follow-tick p h (tick_op.Search s) w = follow-search_who s.who p w s
-follow-tick p h (tick_op.Look s look) w = refl
+follow-tick p h (tick_op.Look s look) w = follow-search look _ _ w s
 follow-tick p h (tick_op.CopyWaker s) w = follow-copy _ w s
 follow-tick p h (tick_op.FallAsleep s) w = follow-sleep _ w s refl
 follow-tick p h (tick_op.WakeUp t) w = follow-up _ w t refl
@@ -319,7 +320,7 @@ no-owes _ e = refl
 
 pub follow-act : (b : Bool) (p : ℕ) (h : Hint) (o : Op) (w : World) → is_seen_asleep o ≡ b → Follow w (o ∷ []) (act p h o w)
 follow-act false p h o w n = follow-away w (o ∷ []) (act p h o w) (omega (arith, no-owes o n)) (away-act p h o w n)
-follow-act true p h (op.Queue (queue_op.Append g)) w n = follow-append _ w g
+follow-act true p h (op.Queue (queue_op.Append g)) w n = follow-append _ w _ g
 follow-act true p h (op.Sleeper o) w n = follow-sleeper p o w
 follow-act true p h (op.Tick o) w n = follow-tick p h o w
 follow-act true p h (op.List o) w n = follow-list h o w

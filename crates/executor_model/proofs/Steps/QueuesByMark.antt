@@ -1,6 +1,6 @@
 -- For all laws.
 -- What stands in the executor's two queues together, and what is kept of each, where the queue of one mark changes.
-use Rattle.std.proofs.Common.{◌≡◌, ◌≢◌, ◌⊎◌, inl, inr, ◌∙◌, ℕ, ◌+◌, ◌≤◌, List, [], ◌∷◌, ◌++◌, length, drop, Bool, true, false, ◌||◌, refl, arith}
+use Rattle.std.proofs.Common.{◌≡◌, ◌≢◌, ◌⊎◌, inl, inr, ◌∙◌, ℕ, suc, ◌+◌, ◌≤◌, List, [], ◌∷◌, ◌++◌, length, drop, Bool, true, false, ◌||◌, refl, arith}
 use Rattle.std.proofs.Common.{length-append}
 use Rattle.std.specs.Prelude.{Option}
 use Rattle.queue_steps.specs.ClosableQueue.{ClosableQueue, appended, taken, shut}
@@ -17,7 +17,7 @@ pub pasts-append : (n : ℕ) (xs ys : List ℕ) → pasts n (xs ++ ys) ≡ pasts
 pasts-append n [] ys = omega arith
 pasts-append n (x ∷ xs) ys = omega (arith, pasts-append n xs ys)
 
-length-drop : (f : ℕ) (rest xs : List ℕ) → xs ≡ f ∷ rest → 1 + length (drop 1 xs) ≡ length xs
+length-drop : (f : ℕ) (rest xs : List ℕ) → xs ≡ f ∷ rest → suc (length (drop 1 xs)) ≡ length xs
 length-drop f rest xs e = rw e refl
 
 -- the queue of mark m has one more
@@ -109,7 +109,7 @@ pub length-all : (qs : Queues) → length (all_in qs) ≡ length qs.urgent.items
 length-all qs = length-append qs.urgent.items qs.plain.items
 
 pub length-first : (f : ℕ) (rest : List ℕ) (m : Mark) (qs : Queues) → (queue_in m qs).items ≡ f ∷ rest →
-    1 + length (all_in (without_first_of m qs)) ≡ length (all_in qs)
+    suc (length (all_in (without_first_of m qs))) ≡ length (all_in qs)
 length-first f rest Urgent qs e = omega (
   arith,
   length-append (drop 1 qs.urgent.items) qs.plain.items,

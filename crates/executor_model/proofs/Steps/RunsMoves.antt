@@ -39,7 +39,7 @@ use Rattle.executor_parts.specs.Sleepers.{Sleepers}
 use Rattle.executor_model.specs.Doing.{list_act}
 use Rattle.executor_model.proofs.Steps.SleepersLists.{given_back-same}
 use Rattle.executor_model.specs.ActsOfRuns.{behind, lock_read, return_room}
-use Rattle.executor_model.specs.ActsOfRuns.{run_by, counted_by, found, make_run_by, registered, walk, next_place}
+use Rattle.executor_model.specs.ActsOfRuns.{run_by, counted_by, counted_to, found, make_run_by, registered, walk, next_place}
 use Rattle.executor_model.specs.ActsOfRuns.{queue_at}
 use Rattle.executor_model.specs.ActsOfRuns.{search_own_by, search_common_by, look_own_by, source_of, stolen}
 use Rattle.executor_model.specs.ActsOfRuns.{steal_length_by}
@@ -210,7 +210,9 @@ same-counted false w x f = same-trans (same-here w _ _ _ _) (same-run_by _ _ x f
 
 queued-counted : (g : ℕ) (b : Bool) (w : World) (x : RunPoll) (f : ℕ) → queued (counted_by b w x f).world g ≡ queued w g
 queued-counted g true w x f = refl
-queued-counted g false w x f = queued-run_by g _ _ x f
+queued-counted g false w x f =
+    let v : World = counted_to w x.run ((run_of w x.run).counted + 1) in
+    queued-run_by g (eqb ((run_of v x.run).taken + 1) 200) v x f
 
 pub same-found : (w : World) (x : RunPoll) (f : ℕ) → Same w (found w x f).world
 same-found w x f = same-counted _ w x f

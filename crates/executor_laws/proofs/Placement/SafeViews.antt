@@ -21,7 +21,7 @@ use Rattle.executor_model.specs.Acts.{append_by, begin_drop, closing_ops, enter_
 use Rattle.executor_model.specs.Acts.{stands_alone}
 use Rattle.executor_model.specs.Sound.{Pend, with_ops}
 use Rattle.executor_model.specs.Weights.{weigh}
-use Rattle.executor_model.specs.World.{World, Done, done, log, task, without}
+use Rattle.executor_model.specs.World.{World, Done, done, log, task, without, mark_of}
 use Rattle.executor_model.proofs.Steps.Lists.{fresh_is, read_push, same_is, times-append}
 use Rattle.executor_model.proofs.OneFuture.Extras.{Extra, no_extra, runs_of, with_extra}
 use Rattle.executor_model.proofs.OneFuture.Views.{Seen, seen, before, after}
@@ -173,7 +173,7 @@ away-effect w old d n (passes s) g r y z b h = away-passes _ _ z (s g r y).passe
 away-effect w old _ n (turns d m p f v more i j k s a e) g r y z b h =
     turned-after Ground Away Needs away-moved away-loose d m p f v more i (λ q u. needs m f w v old q u j n k) a e g r y
     (ground-passes _ _ (s g r y).passes b) (away-passes _ _ z (s g r y).passes (s g r y).queues h)
-away-effect w old d n (refuses f e) g r y z b h = away-refuses w _ f g r y b h
+away-effect w old d n (refuses f e) g r y z b h = away-refuses w (mark_of w f) f g r y b h
 away-effect w old d n (enters mark p e) g r y z b h = away-enters mark p w g r y b h
 away-effect w old d n (unlists f e) g r y z b h = away-unlists w f g r y b h
 away-effect w old d n (drops p f) g r y z b h = away-drops p f w g r y b h

@@ -7,7 +7,7 @@ use Rattle.std.proofs.lemmas.List.{length-set}
 use Rattle.std.specs.Prelude.{Option, Some, None, slice_set}
 use Rattle.executor_model.proofs.Steps.QueuesByMark.{times-first}
 use Rattle.executor_parts.specs.declared.mark.Mark.TheVariants.{Plain, Urgent}
-use Rattle.executor_parts.specs.declared.mark.Mark as marked
+use Rattle.executor_parts.specs.declared.mark.Mark as of_mark
 use Rattle.executor_model.specs.World.{queue_of}
 use Rattle.task_moves.specs.declared.moves.owed.Answer.{Answer}
 use Rattle.task_moves.specs.Moves as moves
@@ -289,11 +289,11 @@ awaits-leak_out true n w e = λ g r yy mm bb h. grind arith
 awaits-leak_out false true w e = λ g r yy mm bb h. grind arith
 awaits-leak_out false false w e = awaits-leaks (w.waking ++ w.table) w e
 
-pub awaits-close : (mark : marked.Mark) (w : World) → KeepsAwaits w (op.Closing (closing_op.Close mark) ∷ []) (close w mark)
+pub awaits-close : (mark : of_mark.Mark) (w : World) → KeepsAwaits w (op.Closing (closing_op.Close mark) ∷ []) (close w mark)
 awaits-close Urgent w g r yy mm bb h = grind arith
 awaits-close Plain w g r yy mm bb h = grind arith
 
-pub awaits-drain : (mark : marked.Mark) (q : List ℕ) (p : ℕ) (w : World) → (queue_of w mark).items ≡ q →
+pub awaits-drain : (mark : of_mark.Mark) (q : List ℕ) (p : ℕ) (w : World) → (queue_of w mark).items ≡ q →
     KeepsAwaits w (op.Closing (closing_op.Drain mark) ∷ []) (drain_by p w mark q)
 awaits-drain Urgent [] p w e g r yy mm bb h = grind arith
 awaits-drain Plain [] p w e g r yy mm bb h = grind (arith, heard-push)

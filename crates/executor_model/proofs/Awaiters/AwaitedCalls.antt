@@ -4,7 +4,7 @@ use Rattle.std.proofs.Common.{◌≡◌, ◌≢◌, ℕ, zero, suc, ◌+◌, ◌
 use Rattle.std.proofs.Common.{Bool, true, false, ◌&&◌, cond, eqb, refl, sym, ap, ◌∙◌, arith}
 use Rattle.std.proofs.lemmas.Bool.Decides.{nat_tests}
 use Rattle.std.specs.Prelude.{Option, Some, None}
-use Rattle.executor_parts.specs.declared.mark.Mark as marked
+use Rattle.executor_parts.specs.declared.mark.Mark as of_mark
 use Rattle.executor_model.specs.declared.call.By.{By}
 use Rattle.executor_model.specs.declared.call.Call.{Call}
 use Rattle.executor_model.specs.declared.call.Call.TheVariants as call
@@ -53,7 +53,7 @@ begins-with : (w : World) (p : ℕ) (c : Call) (x : Option ℕ) (d : ℕ → Don
 begins-with w p c None d k = begins-nothing w p c
 begins-with w p c (Some f) d k = k f
 
-begins-spawn : (mark : marked.Mark) (w : World) (p : ℕ) →
+begins-spawn : (mark : of_mark.Mark) (w : World) (p : ℕ) →
     KeepsBegun w p (done (log w (event.CallBegun p (call.Spawn mark))) (op.Table (table_op.Enter mark) ∷ []))
 begins-spawn mark w p g r y m b h = grind (arith, heard-push)
 

@@ -6,7 +6,7 @@ use Rattle.std.proofs.lemmas.Bool.Decides.{nat_tests}
 use Rattle.std.proofs.lemmas.List.{length-set, length-append}
 use Rattle.executor_model.proofs.Steps.QueuesByMark.{times-last, times-first}
 use Rattle.executor_model.specs.declared.op.Look.TheVariants.{First, Second}
-use Rattle.executor_parts.specs.declared.mark.Mark as marked
+use Rattle.executor_parts.specs.declared.mark.Mark as of_mark
 use Rattle.executor_model.specs.declared.op.Look.{Look}
 use Rattle.executor_model.specs.World.{queue_of}
 use Rattle.executor_model.specs.Acts.{mark_in, take_turn}
@@ -39,7 +39,7 @@ use Rattle.executor_model.proofs.Counts.Counting.{cancel_going, cancel_idle, can
 use Rattle.executor_model.proofs.Awaiters.Awaited.{Awaiting, Mark, heard-push, with_awaiting, Footing}
 use Rattle.executor_model.proofs.Awaiters.Awaited.{Awaits, KeepsAwaits, kept_push}
 
-pub awaits-append : (b : Bool) (w : World) (mark : marked.Mark) (f : ℕ) → KeepsAwaits w (op.Queue (queue_op.Append f) ∷ []) (append_by b w mark f)
+pub awaits-append : (b : Bool) (w : World) (mark : of_mark.Mark) (f : ℕ) → KeepsAwaits w (op.Queue (queue_op.Append f) ∷ []) (append_by b w mark f)
 awaits-append = by_bool _
     (λ w mark f g r yy mm bb h. let z = times-last g f mark w.queues in grind (arith, same_is))
     (λ w mark f g r yy mm bb h. grind (arith, same_is))
@@ -56,7 +56,7 @@ awaits-take (Second mark) [] w e g r yy mm bb h = grind arith
 awaits-take look (f ∷ rest) w e g r yy mm bb h =
     let z = times-first g f rest (mark_in look) w.queues e in grind (arith, same_is)
 
-pub awaits-enter : (b c : Bool) (mark : marked.Mark) (p : ℕ) (w : World) → length w.awaiters ≡ length w.tasks →
+pub awaits-enter : (b c : Bool) (mark : of_mark.Mark) (p : ℕ) (w : World) → length w.awaiters ≡ length w.tasks →
     KeepsAwaits w (op.Table (table_op.Enter mark) ∷ []) (enter_by b c mark p w)
 awaits-enter = by_bool _
     (λ c mark p w l g r yy mm bb h. grind arith)

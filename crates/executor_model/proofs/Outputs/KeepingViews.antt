@@ -20,7 +20,7 @@ use Rattle.executor_model.specs.declared.op.Op.TheVariants as op
 use Rattle.executor_model.specs.declared.op.QueueOp.TheVariants as queue_op
 use Rattle.executor_model.specs.declared.op.TableOp.TheVariants as table_op
 use Rattle.executor_model.specs.declared.op.UserOp.TheVariants as user_op
-use Rattle.executor_model.specs.World.{World, Done, done, log}
+use Rattle.executor_model.specs.World.{World, Done, done, log, mark_of}
 use Rattle.executor_model.specs.Acts.{append_by, begin_drop, closing_ops, enter_by, leave_by, stands_alone}
 use Rattle.executor_model.specs.Sound.{Pend, with_ops}
 use Rattle.executor_model.proofs.Steps.Lists.{fresh_is, read_push, same_is}
@@ -120,7 +120,7 @@ stored-effect w old _ (turns d m p f v more i j n s a e) g r y k h =
     turned-keeps Sure Stored (λ m x. stands_alone m ≡ true) stored-moved stored-loose
     (λ x y z. sound-passes x y z.passes) (λ x y z b. stored-passes x y z.passes z.handles (footing x b)) w old d m p f v
     more i (λ q u. j) s a e g r y k h
-stored-effect w old d (refuses f e) g r y k h = stored-refuses w _ f g r y k h
+stored-effect w old d (refuses f e) g r y k h = stored-refuses w (mark_of w f) f g r y k h
 stored-effect w old d (enters mark p e) g r y k h = stored-enters mark p w g r y k h
 stored-effect w old d (unlists f e) g r y k h = stored-unlists w f g r y k h
 stored-effect w old d (drops p f) g r y k h = stored-drops p f w g r y k h

@@ -134,7 +134,7 @@ fit-enter : (c : Call) (a b : Bool) (mark : Mark) (p : ℕ) (w : World) → spaw
 fit-enter (call.Spawn mark) true b p w e = refl
 fit-enter (call.Spawn mark) false true p w e = refl
 fit-enter (call.Spawn mark) false false p w e = refl
-fit-enter _ a b p w e = absurd (cc)
+fit-enter _ a b mark p w e = absurd (cc)
 
 fit-take : (look : Look) (c : Call) (q : List ℕ) (w : World) → tries c ≡ true → weigh (misfit c) (take_by w look q).next ≡ 0
 fit-take (First mark) call.TryTick [] w e = refl

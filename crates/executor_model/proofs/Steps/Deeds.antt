@@ -303,9 +303,9 @@ grows-act p h (op.Handle (handle_op.LetGo f)) w n = grows-let_go _ w f
 grows-act p h (op.Waker (waker_op.CallAwaiter f a k)) w n = grows-call p w (of.Handle f) a k
 grows-act p h (op.Sleeper o) w n = grows-sleeper p o w
 grows-act p h (op.Tick o) w n = ⊎_elim
-    (λ (e : (tick_act p h o w).world.trace ≡ w.trace). grows-same {p} _ _ e)
+    (λ (e : (tick_act p h o w).world.trace ≡ w.trace). grows-same {p = p} _ _ e)
     (λ (e : (tick_act p h o w).world.trace ≡ w.trace ++ event.Looked p (first_of w.urgent_turns) ∷ []).
-    grows-log {p} _ _ (event.Looked p (first_of w.urgent_turns)) e refl refl)
+    grows-log {p = p} _ _ (event.Looked p (first_of w.urgent_turns)) e refl refl)
     (tick-trace p h o w)
 grows-act p h (op.List o) w n = grows-same w _ (moves-list h o w).same.trace
 grows-act p h (op.Steal o) w n = grows-steal p o w

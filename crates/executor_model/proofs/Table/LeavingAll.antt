@@ -99,7 +99,8 @@ leaves-effect w old _ n (turns d m p f v more i j k s a e) g r y b h =
     turned-keeps Base Entered (λ m x. stands_alone m ≡ true) entered-moved entered-loose
     (λ x y z. base-passes x y z.passes) (λ x y z c. entered-passes x y z.passes z.stays) w old d m p f v more i
     (λ q u. j) s a e g r y b h
-leaves-effect w old d n (refuses f e) g r y b h = leaves-refuses w _ f (n (op.Queue (queue_op.Append f)) refl e) g r y b h
+leaves-effect w old d n (refuses f e) g r y b h = leaves-refuses w (mark_of w f) f
+    (n (op.Queue (queue_op.Append f)) refl e) g r y b h
 leaves-effect w old d n (enters mark p e) g r y b h = leaves-enters mark p w (n (op.Table (table_op.Enter mark)) refl e) g r y b h
 leaves-effect w old d n (unlists f e) g r y b h = leaves-unlists w f e g r y b h
 leaves-effect w old d n (drops p f) g r y b h = leaves-drops p f w g r y b h

@@ -3,6 +3,7 @@
 -- Each thing that is done uses the executor only where it is held, by groups.
 use Rattle.std.proofs.Common.{◌≡◌, ℕ, [], ◌∷◌, Bool, true, false, refl, ap}
 use Rattle.std.specs.Prelude.{Option, Some, None}
+use Rattle.executor_parts.specs.declared.mark.Mark.TheVariants.{Plain, Urgent}
 use Rattle.executor_model.specs.World.{queue_of}
 use Rattle.task_moves.specs.declared.moves.owed.Move.TheVariants as move
 use Rattle.task_moves.specs.Moves as moves
@@ -95,6 +96,8 @@ tidy-act p h (op.Run o) w n = tidy-run p h o w
 tidy-act p h (op.Closing closing_op.TakeOut) w n = tidy-light _ _ (light-closing w.table w.waking)
 tidy-act p h (op.Closing closing_op.DropNext) w n = tidy-light _ _ (light-drop_next p w w.leaving)
 tidy-act p h (op.Closing closing_op.WakeNext) w n = tidy-light _ _ (light-wake_next p w w.waking)
+tidy-act p h (op.Closing (closing_op.Close Urgent)) w n = tidy-light _ _ refl
+tidy-act p h (op.Closing (closing_op.Close Plain)) w n = tidy-light _ _ refl
 tidy-act p h (op.Closing (closing_op.Drain mark)) w n = tidy-light _ _ (light-drain mark p w (queue_of w mark).items)
 tidy-act p h (op.Closing closing_op.LeakOut) w n = tidy-light _ _ (aside-leak_out uses_of refl _ w)
 tidy-act p h (op.Closing closing_op.LeakNext) w n =

@@ -1,6 +1,7 @@
 -- For keepers_are_called.
 -- What a run's search and its steals leave of the own queues and of who has a kept future in hand.
 use Rattle.std.proofs.Common.{◌≡◌, ℕ, zero, suc, ◌+◌, ◌≤◌, List, [], ◌∷◌, length, get_or, set, false, refl, ap, arith}
+use Rattle.executor_model.specs.declared.op.Look.{Look}
 use Rattle.executor_model.specs.declared.op.Look.TheVariants.{First, Second}
 use Rattle.executor_model.specs.declared.op.Op.{Op}
 use Rattle.executor_model.specs.declared.op.Op.TheVariants as op
@@ -113,7 +114,7 @@ load-source from [] w s more f r i e = omega (
   own-same w (runs.stolen s.then w s.poll).world (hull-stolen s.then w s.poll) f r,
   load-stolen f s.then w s.poll,
 )
-load-source Common (g ∷ rest) w s more f r i e =
+load-source (Common mark) (g ∷ rest) w s more f r i e =
     omega (arith, ap (λ (a : Source). times f (own_of (runs.without_first w a rest) r)) i)
 load-source (Own q) (g ∷ rest) w s more f r i e = omega (
   arith,

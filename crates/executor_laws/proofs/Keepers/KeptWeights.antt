@@ -155,6 +155,7 @@ mild-quits r = record {
   spawned = λ a f. refl;
   handle = λ a f. refl;
   handles = λ o. refl;
+  take = λ look. refl;
 }
 
 -- searches lead to nothing of it
@@ -167,6 +168,7 @@ weighs-quits r x = record {
   search = refl;
   wake = refl;
   steal = λ f. refl;
+  steal_plain = λ f. refl;
   look = λ at left. refl;
 }
 

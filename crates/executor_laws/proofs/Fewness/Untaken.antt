@@ -106,7 +106,7 @@ un-take q [] w s more n = un-stolen q s.then w s.poll n
 un-take q (f ∷ rest) w s more n = by s.from
   where
     by : (a : Source) → Untaken q w (runs.without_first w a rest)
-    by Common = refl
+    by (Common mark) = refl
     by (Own r) = refl
 
 un-put : (q : ℕ) (b : Bool) (p : ℕ) (w : World) (s : Steal) (more f : ℕ) → q ≢ s.poll.run →
@@ -136,13 +136,14 @@ un-common look q (f ∷ rest) w x = refl
 
 -- ticks and runs
 
-un-search : (q : ℕ) (x : Ticker) (w : World) (xs : List ℕ) (s : Sleeping) → Untaken q w (of_sleepers.search_by x w xs s).world
-un-search q x w [] s = refl
-un-search q x w (f ∷ rest) s = refl
+un-look-tick : (look : Look) (q : ℕ) (x : Ticker) (w : World) (xs : List ℕ) (s : Sleeping) →
+    Untaken q w (of_sleepers.look_tick_by x w look xs s).world
+un-look-tick look q x w [] s = refl
+un-look-tick look q x w (f ∷ rest) s = refl
 
 un-searches : (q : ℕ) (who : TickOrRun) (p : ℕ) (w : World) (s : Sleeping) → s.who ≡ who → running_of q (op.Tick (tick_op.Search s)) ≡ 0 →
     Untaken q w (search_by_who who p w s).world
-un-searches q (tick_or_run.Tick t) p w s e z = un-search q _ w _ s
+un-searches q (tick_or_run.Tick t) p w s e z = refl
 un-searches q (tick_or_run.Run r) p w s e z =
     un-own q _ w (record { run = r; waker = s.waker; poll = s.poll })
     (another q r (sym (ap (λ (y : TickOrRun). running_of q (op.Tick (tick_op.Search (record s { who = y })))) e) ∙ z))
@@ -180,7 +181,7 @@ leave-same Left w who = same-runs w w refl
 un-tick : (q : ℕ) (p : ℕ) (h : Hint) (o : TickOp) (w : World) → running_of q (op.Tick o) ≡ 0 → Untaken q w (tick_act p h o w).world
 un-tick q p h tick_op.MakeTick w z = un-make q _ w
 un-tick q p h (tick_op.Search s) w z = un-searches q s.who p w s refl z
-un-tick q p h (tick_op.Look s look) w z = refl
+un-tick q p h (tick_op.Look s look) w z = un-look-tick look q _ w _ s
 un-tick q p h (tick_op.CopyWaker s) w z = un-copy q _ w s
 un-tick q p h (tick_op.FallAsleep s) w z = un-sleep q _ w s
 un-tick q p h (tick_op.WakeUp who) w z = (side-same 0 h (op.Tick (tick_op.WakeUp who)) w refl).taken q

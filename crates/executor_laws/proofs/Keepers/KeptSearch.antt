@@ -114,7 +114,7 @@ load-source from [] w s more f r i e = omega (
   own-same w (runs.stolen s.then w s.poll).world (hull-stolen s.then w s.poll) f r,
   load-stolen f s.then w s.poll,
 )
-load-source Common (g ∷ rest) w s more f r i e =
+load-source (Common mark) (g ∷ rest) w s more f r i e =
     omega (arith, ap (λ (a : Source). times f (own_of (runs.without_first w a rest) r)) i)
 load-source (Own q) (g ∷ rest) w s more f r i e = omega (
   arith,

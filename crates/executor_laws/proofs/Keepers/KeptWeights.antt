@@ -155,6 +155,7 @@ mild-quits r = record {
   spawned = λ a f. refl;
   handle = λ a f. refl;
   handles = λ o. refl;
+  take = λ look. refl;
 }
 
 -- searches lead to nothing of it

@@ -5,7 +5,7 @@ use Rattle.std.proofs.Common.{◌++◌, length, set, get_or, Bool, true, false, 
 use Rattle.std.proofs.Common.{sym, ap, subst, arith, get_or-set_same}
 use Rattle.std.proofs.lemmas.List.{length-append, get_or_past}
 use Rattle.std.specs.Prelude.{Option, Some, None, reverse}
-use Rattle.queue_steps.specs.ClosableQueue.{ClosableQueue}
+use Rattle.executor_model.specs.Queues.{Queues, all_in}
 use Rattle.task_moves.specs.declared.moves.state.State.{State}
 use Rattle.task_moves.specs.declared.moves.owed.Move.TheVariants as move
 use Rattle.executor_model.specs.declared.call.Call.{Call}
@@ -147,7 +147,7 @@ idles-begun p w o _ = idles w _ _ refl refl (λ g. refl) (λ g. refl) (λ g. ref
 keeps-idle : (w : World) (d : Done) → Idles w d → KeepsSafe w [] d
 keeps-idle w d i g r n b h = record {
   none = omega (arith, i.appends g, h.none);
-  queued = ap (λ (q : ClosableQueue ℕ). times g q.items) i.queue ∙ h.queued;
+  queued = ap (λ (qs : Queues). times g (all_in qs)) i.queue ∙ h.queued;
   resting = omega (arith, i.polls g, i.ending g, h.resting);
   marked = subst
       (λ (x : State). x.closed ≡ false → x.completed ≡ false → (x.scheduled ≡ true) × (x.running ≡ false))

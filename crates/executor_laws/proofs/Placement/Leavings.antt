@@ -4,6 +4,7 @@
 use Rattle.std.proofs.Common.{◌≡◌, ◌∙◌, ℕ, zero, suc, ◌≤◌, ◌%◌, List, [], ◌∷◌}
 use Rattle.std.proofs.Common.{length, Bool, true, false, refl, arith}
 use Rattle.std.specs.Prelude.{Option, Some, None}
+use Rattle.executor_model.specs.declared.op.Look.{Look}
 use Rattle.executor_model.specs.declared.op.Look.TheVariants.{First, Second}
 use Rattle.executor_model.specs.World.{queue_of}
 use Rattle.executor_model.specs.Acts.{mark_in}
@@ -137,6 +138,7 @@ mild r = record {
   spawned = by_spawned;
   handle = by_handle;
   handles = λ o. refl;
+  take = λ look. refl;
 }
   where
     by_executor : (a : Reply) → leaving_of r (op.End a hold.Executor) ≡ 0
@@ -159,7 +161,8 @@ part r x = record {
   own_length = λ from t m. refl;
   take = λ from t m. refl;
   put = λ from t m f. refl;
-  common = refl;
+  turn = refl;
+  common = λ look. refl;
   look = λ at left. refl;
   own = refl;
   lock = refl;
@@ -171,20 +174,8 @@ leaves (op.List (list_op.LockWrite (section.Unregister q a))) = true
 leaves (op.List (list_op.Write (section.Unregister q a))) = true
 leaves (op.Run (run_op.Reschedule q a)) = true
 leaves (op.End a held) = true
+leaves (op.Tick (tick_op.Look s look)) = true
 leaves _ = false
-
-search-none : (look : Look) (r : ℕ) (x : Ticker) (w : World) (q : List ℕ) (s : Sleeping) (t : ℕ) → s.who ≡ tick_or_run.Tick t →
-    weigh (leaving_of r) (look_tick_by x w look q s).next ≡ 0
-search-none (First mark) r x w [] s t e = refl
-search-none (Second mark) r x w [] s t e = refl
-search-none look r x w (f ∷ rest) s t e = by x s.who t e
-  where
-    by : (x : Ticker) (who : TickOrRun) (t : ℕ) → who ≡ tick_or_run.Tick t →
-        weigh (leaving_of r) (look_tick_by x w look (f ∷ rest) (record s { who = who })).next ≡ 0
-    by Awake (tick_or_run.Tick u) t e = refl
-    by (Asleep n) (tick_or_run.Tick u) t e = refl
-    by Left (tick_or_run.Tick u) t e = refl
-    by x (tick_or_run.Run u) t e = absurd (cc)
 
 module _ (r : ℕ) (s : Sleeping) where
   pends : weigh (leaving_of r) (pend_as s.who) ≡ 0
@@ -255,7 +246,8 @@ none-run : (r p : ℕ) (h : Hint) (o : RunOp) (w : World) → leaves (op.Run o) 
 none-run r p h run_op.MakeRoom w e = none-room r h.refused w
 none-run r p h run_op.ReturnRoom w e = refl
 none-run r p h (run_op.TakeTurn x) w e = refl
-none-run r p h (run_op.SearchCommon x look) w e = part-common (leaving_of r) (mild r) x 0 (part r x) (queue_of w (mark_in look)).items w
+none-run r p h (run_op.SearchCommon x look) w e =
+    part-common (leaving_of r) (mild r) x 0 (part r x) look (queue_of w (mark_in look)).items w
 none-run r p h (run_op.LookOwn x at left) w e =
     part-look (leaving_of r) (mild r) x 0 (part r x) (own_of w x.run) w at left
 none-run r p h (run_op.WakeOwn x) w e = none-own r p w x
@@ -263,7 +255,7 @@ none-run r p h (run_op.Reschedule q a) w e = absurd (cc)
 
 none-search : (r : ℕ) (who : TickOrRun) (p : ℕ) (w : World) (s : Sleeping) → s.who ≡ who →
     weigh (leaving_of r) (search_by_who who p w s).next ≡ 0
-none-search r (tick_or_run.Tick t) p w s e = search-none r _ w w.queue.items s t e
+none-search r (tick_or_run.Tick t) p w s e = refl
 none-search r (tick_or_run.Run q) p w s e =
     let x : RunPoll = record { run = q; waker = s.waker; poll = s.poll } in
     part-own (leaving_of r) (mild r) x 0 (part r x) (own_of w q) w
@@ -272,7 +264,7 @@ pub none-by : (b : Bool) (r p : ℕ) (h : Hint) (o : Op) (w : World) → is_for_
     weigh (leaving_of r) (act p h o w).next ≡ 0
 none-by false r p h o w n e = mild-next (leaving_of r) (mild r) p h o w n
 none-by true r p h (op.Tick (tick_op.Search s)) w n e = none-search r s.who p w s refl
-none-by true r p h (op.Tick (tick_op.Look s look)) w n e = refl
+none-by true r p h (op.Tick (tick_op.Look s look)) w n e = absurd (cc)
 none-by true r p h (op.Tick (tick_op.CopyWaker s)) w n e = none-copy r _ w s
 none-by true r p h (op.Tick (tick_op.FallAsleep s)) w n e = none-sleep r s _ w
 none-by true r p h (op.User (user_op.PollOwn x)) w n e = refl
@@ -295,6 +287,7 @@ leaving-more r zero w x = weighs-stolen (leaving_of r) x.poll 0 0 found x.then w
       search = refl;
       wake = refl;
       steal = λ f. refl;
+      steal_plain = λ f. refl;
       look = λ at left. refl;
     }
 
@@ -339,6 +332,15 @@ abbrev pub is_unregister : Op → Bool
 is_unregister (op.List (list_op.Write (section.Unregister q a))) = true
 is_unregister _ = false
 
+-- a look goes on with nothing of these, but that it may be ready
+leaves-look : (look : Look) (r : ℕ) (x : Ticker) (w : World) (q : List ℕ) (s : Sleeping) →
+    Leaves r (op.Tick (tick_op.Look s look) ∷ []) (look_tick_by x w look q s).next
+leaves-look (First mark) r x w [] s = record { off = omega arith; dropping = omega arith; readying = omega arith }
+leaves-look (Second mark) r x w [] s = record { off = omega arith; dropping = omega arith; readying = omega arith }
+leaves-look look r Awake w (f ∷ rest) s = record { off = omega arith; dropping = omega arith; readying = omega arith }
+leaves-look look r (Asleep n) w (f ∷ rest) s = record { off = omega arith; dropping = omega arith; readying = omega arith }
+leaves-look look r Left w (f ∷ rest) s = record { off = omega arith; dropping = omega arith; readying = omega arith }
+
 leaves-by : (b : Bool) (r p : ℕ) (h : Hint) (o : Op) (w : World) → leaves o ≡ b → is_end o ≡ false →
     is_unregister o ≡ false → Leaves r (o ∷ []) (act p h o w).next
 leaves-by false r p h o w e n m =
@@ -347,6 +349,7 @@ leaves-by true r p h (op.List (list_op.LockWrite (section.Unregister q a))) w e 
     record { off = omega arith; dropping = omega arith; readying = omega arith }
 leaves-by true r p h (op.List (list_op.Write (section.Unregister q a))) w e n m = absurd (cc)
 leaves-by true r p h (op.Run (run_op.Reschedule q a)) w e n m = leaves-reschedule r (own_of w q) w q a
+leaves-by true r p h (op.Tick (tick_op.Look s look)) w e n m = leaves-look look r _ w _ s
 leaves-by true r p h (op.End a held) w e n m = absurd (cc)
 leaves-by true r p h _ w e n m = absurd (cc)
 

@@ -6,6 +6,7 @@ use Rattle.std.proofs.lemmas.Bool.Decides.{nat_tests}
 use Rattle.std.proofs.lemmas.List.{get_or_past, length-set}
 use Rattle.std.specs.Prelude.{Option, Some, None, reverse}
 use Rattle.executor_parts.specs.declared.mark.Mark.{Mark}
+use Rattle.executor_model.specs.declared.op.Look.{Look}
 use Rattle.executor_model.specs.declared.op.Look.TheVariants.{First, Second}
 use Rattle.task_moves.specs.declared.moves.owed.Move.TheVariants as move
 use Rattle.executor_model.specs.declared.call.Call.{Call}
@@ -102,7 +103,7 @@ keeps-search (Second mark) x w [] s = record { few = omega arith }
 keeps-search look x w (f ∷ rest) s = record { few = omega arith }
 
 keeps-who : (who : TickOrRun) (p : ℕ) (w : World) (s : Sleeping) → Keeps w (search_by_who who p w s).world
-keeps-who (tick_or_run.Tick t) p w s = keeps-search _ w _ s
+keeps-who (tick_or_run.Tick t) p w s = record { few = omega arith }
 keeps-who (tick_or_run.Run r) p w s =
     seen-keeps w _ (away-own (own_of w r) w (record { run = r; waker = s.waker; poll = s.poll }))
 
@@ -142,7 +143,7 @@ keeps-leave Left w who = record { few = omega arith }
 keeps-tick : (p : ℕ) (h : Hint) (o : TickOp) (w : World) → Keeps w (tick_act p h o w).world
 keeps-tick p h tick_op.MakeTick w = keeps-make h.refused w
 keeps-tick p h (tick_op.Search s) w = keeps-who s.who p w s
-keeps-tick p h (tick_op.Look s look) w = refl
+keeps-tick p h (tick_op.Look s look) w = keeps-search look _ w _ s
 keeps-tick p h (tick_op.CopyWaker s) w = keeps-copied _ w s.waker s.who s.poll
 keeps-tick p h (tick_op.FallAsleep s) w = keeps-asleep _ w s
 keeps-tick p h (tick_op.WakeUp who) w = keeps-up _ w who

@@ -131,9 +131,9 @@ fit-aside c = record {
 -- calls but polls of ticks and runs
 
 fit-enter : (c : Call) (a b : Bool) (mark : Mark) (p : ℕ) (w : World) → spawns c ≡ true → weigh (misfit c) (enter_by a b mark p w).next ≡ 0
-fit-enter (call.Spawn mark) true b p w e = refl
-fit-enter (call.Spawn mark) false true p w e = refl
-fit-enter (call.Spawn mark) false false p w e = refl
+fit-enter (call.Spawn m) true b mark p w e = refl
+fit-enter (call.Spawn m) false true mark p w e = refl
+fit-enter (call.Spawn m) false false mark p w e = refl
 fit-enter _ a b mark p w e = absurd (cc)
 
 fit-take : (look : Look) (c : Call) (q : List ℕ) (w : World) → tries c ≡ true → weigh (misfit c) (take_by w look q).next ≡ 0

@@ -7,6 +7,7 @@ use Rattle.executor_model.specs.declared.op.Look.{Look}
 use Rattle.executor_parts.specs.declared.mark.Mark.TheVariants.{Plain, Urgent}
 use Rattle.executor_model.specs.declared.op.Look.TheVariants.{First, Second}
 use Rattle.executor_parts.specs.declared.mark.Mark.{Mark}
+use Rattle.executor_parts.specs.Marks.{first_of, turn_after}
 use Rattle.task_moves.specs.Moves as moves
 use Rattle.task_moves.specs.declared.moves.owed.Answer.{Answer}
 use Rattle.task_moves.specs.declared.moves.owed.Move.{Move}
@@ -100,6 +101,11 @@ view-log t w e z = ap (λ (s : Watched). let v : View = record (view t w) { seen
 pub view-log_if : (b : Bool) (t : TickOrRun) (w : World) (e : Event) → IsSilent e → view t (log_if b w e) ≡ view t w
 view-log_if true t w e z = view-log t w e z
 view-log_if false t w e z = refl
+
+-- and so is a turn
+pub view-turned : (t : TickOrRun) (p : ℕ) (w : World) → view t (acts.turned p w) ≡ view t w
+view-turned t p w = view-log t (record w { urgent_turns = turn_after w.urgent_turns })
+    (event.Looked p (first_of w.urgent_turns)) (λ u n s. refl)
 
 pub record Beside (w : World) (d : Done) : Type 0 where
   pub view : (t : TickOrRun) → view t d.world ≡ view t w
@@ -282,7 +288,7 @@ beside-act p h (op.Move m f) w n = beside-move _ m p w w f (λ t. refl)
 beside-act p h (op.Table (table_op.Enter mark)) w n = beside-enter _ _ _ p w
 beside-act p h (op.Table (table_op.LeaveTable f)) w n = beside-leave _ w f
 beside-act p h (op.Table o) w n = besides w _ (λ t. refl) refl
-beside-act p h (op.Queue queue_op.TakeTurn) w n = refl
+beside-act p h (op.Queue queue_op.TakeTurn) w n = besides w _ (λ t. view-turned t p w) refl
 beside-act p h (op.Queue (queue_op.Take look)) w n = beside-take look _ w
 beside-act p h (op.Queue (queue_op.Append f)) w n = beside-append _ w _ f
 beside-act p h (op.User (user_op.BeginDrop f)) w n = besides w _ (λ t. view-log t w (event.Dropped p f) (λ t n s. refl))

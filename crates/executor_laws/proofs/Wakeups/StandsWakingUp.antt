@@ -53,6 +53,7 @@ use Rattle.executor_laws.proofs.Wakeups.StandsAsleep.{nothing-goes}
 use Rattle.executor_laws.proofs.Wakeups.StandsNothing.{nothing-of}
 use Rattle.executor_laws.proofs.Wakeups.StandsOwn.{held-other}
 use Rattle.executor_laws.proofs.Wakeups.StandsRuns.{walks-lock, walks-look_own, walks-search, walks-search_common, walks-steal}
+use Rattle.executor_laws.proofs.Wakeups.StandsRuns.{walks-turn}
 use Rattle.executor_laws.proofs.Wakeups.StandsTied.{Tied, tied-append, tied-cons, tied-nil, tied-none}
 
 -- who has found something, and sleeps, wakes up before it is told
@@ -64,9 +65,9 @@ tied-found look Left t w (f ∷ rest) s = tied-none t _ refl
 tied-found look (Asleep n) t w (f ∷ rest) s =
     tied-cons t (op.Tick (tick_op.WakeUp s.who)) _ (λ k. omega (arith, k, held-other t s.who)) (tied-none t _ refl)
 
-tied-search : (who t : TickOrRun) (k : ℕ) (a : Waker) (w : World) → Tied t (search w (asleep a who k)).next
-tied-search (tick_or_run.Tick u) t k a w = tied-found _ t w _ (asleep a (tick_or_run.Tick u) k)
-tied-search (tick_or_run.Run q) t k a w =
+tied-search : (who t : TickOrRun) (p k : ℕ) (a : Waker) (w : World) → Tied t (search p w (asleep a who k)).next
+tied-search (tick_or_run.Tick u) t p k a w = tied-none t _ refl
+tied-search (tick_or_run.Run q) t p k a w =
     ((walks-search w (record { run = q; waker = a; poll = k })).stage t).tied
 
 tied-goes : (t : TickOrRun) (o : Option Sleeping) (ys : List Op) → weigh (waking_up_of t) ys ≡ 0 →
@@ -119,8 +120,8 @@ tied-make false t w = tied-none t _ refl
 
 tied-tick : (t : TickOrRun) (p : ℕ) (h : Hint) (o : TickOp) (w : World) → Tied t (tick_act p h o w).next
 tied-tick t p h tick_op.MakeTick w = tied-make h.refused t w
-tied-tick t p h (tick_op.Search s) w = tied-search s.who t s.poll s.waker w
-tied-tick t p h (tick_op.Look s look) w = refl
+tied-tick t p h (tick_op.Search s) w = tied-search s.who t p s.poll s.waker w
+tied-tick t p h (tick_op.Look s look) w = tied-found look _ t w _ s
 tied-tick t p h (tick_op.CopyWaker s) w = tied-copy (is_copy_refused h w s.waker) t w s
 tied-tick t p h (tick_op.FallAsleep s) w = tied-sleep _ t w s
 tied-tick t p h (tick_op.WakeUp u) w = tied-up _ t w u
@@ -177,8 +178,8 @@ tied-wake t p w x = let v : World = log w (event.WakerCalled p (of.Run x.run) x.
 tied-run : (t : TickOrRun) (p : ℕ) (h : Hint) (o : RunOp) (w : World) → Tied t (run_act p h o w).next
 tied-run t p h run_op.MakeRoom w = tied-room h.refused t w
 tied-run t p h run_op.ReturnRoom w = tied-none t _ refl
-tied-run t p h (run_op.TakeTurn x) w = refl
-tied-run t p h (run_op.SearchCommon x look) w = ((walks-search_common w x).stage t).tied
+tied-run t p h (run_op.TakeTurn x) w = ((walks-turn p w x).stage t).tied
+tied-run t p h (run_op.SearchCommon x look) w = ((walks-search_common w x look).stage t).tied
 tied-run t p h (run_op.LookOwn x at left) w = ((walks-look_own w x at left).stage t).tied
 tied-run t p h (run_op.WakeOwn x) w = tied-wake t p w x
 tied-run t p h (run_op.Reschedule q a) w = tied-scheduled _ t w q a

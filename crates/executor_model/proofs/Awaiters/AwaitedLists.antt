@@ -279,7 +279,7 @@ plain-act p h (op.Run o) w n = run-blind rough_of blind-rough p h o w (plain-own
 plain-act p h (op.Tick o) w n =
     tick-blind rough_of (record
     { tick = λ o. refl; exchange = refl; returns = refl; call = λ s. refl; release = λ f. refl; end = λ r t. refl; made = λ r. refl })
-    blind-rough h o w
+    blind-rough p h o w
 plain-act p h (op.Handle (handle_op.Look f a)) w n = absurd (cc)
 plain-act p h (op.Handle (handle_op.LookAgain f)) w n = absurd (cc)
 plain-act p h (op.Handle (handle_op.Notify f mine)) w n = absurd (cc)

@@ -1,7 +1,7 @@
 -- For awaiters_are_kept and calls_do_what_they_say.
 -- What a run does takes from the executor's queue at most, and neither closes nor opens it.
 use Rattle.std.proofs.Common.{◌≡◌, ◌≤◌, ℕ, zero, suc, List, [], ◌∷◌, length, drop, Bool, true, false, refl, sym, ap, subst}
-use Rattle.std.proofs.Common.{arith}
+use Rattle.std.proofs.Common.{◌∙◌, arith}
 use Rattle.executor_model.proofs.Steps.QueuesByMark.{without_first_of, closed-first}
 use Rattle.executor_model.specs.Queues.{Queues, queue_in}
 use Rattle.executor_model.specs.Acts.{mark_in}
@@ -69,7 +69,7 @@ queue-more (suc n) w s = refl
 takes-take : (from : Source) (q : List ℕ) (w : World) (x : RunPoll) (t : Then) (more : ℕ) →
     Takes w (steal_take_by q w (record { poll = x; from = from; then = t }) more).world
 takes-take from [] w x t more = stays (queue-stolen t w x)
-takes-take Common (f ∷ rest) w x t more = first refl
+takes-take (Common mark) (f ∷ rest) w x t more = first mark refl
 takes-take (Own r) (f ∷ rest) w x t more = stays refl
 
 pub queue-put : (b : Bool) (p : ℕ) (w : World) (s : Steal) (more f : ℕ) → (steal_put_by b p w s more f).world.queues

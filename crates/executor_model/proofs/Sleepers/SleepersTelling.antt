@@ -1,7 +1,7 @@
 -- For sleepers_are_told.
 -- Where a Runnable stands in one of the executor's queues and a tick or run sleeps, a sleeper is notified or will be told.
 use Rattle.std.proofs.Common.{◌≡◌, ℕ, zero, suc, ◌+◌, ◌<◌, ◌≤◌, List, [], ◌∷◌, ◌++◌, length, take, Bool, true, false}
-use Rattle.std.proofs.Common.{ltb, eqb, refl, sym, ap, subst, inl, inr, ◌⊎◌, arith}
+use Rattle.std.proofs.Common.{ltb, eqb, refl, sym, ap, subst, inl, inr, ◌⊎◌, ⊎_elim, arith}
 use Rattle.std.proofs.lemmas.Bool.Decides.{nat_tests}
 use Rattle.std.proofs.lemmas.List.{length-set, length-take-le}
 use Rattle.std.proofs.lemmas.List.Edits.{length-remove}
@@ -268,10 +268,10 @@ module _ (mark : Mark) where
       Tells w (op.Tick (tick_op.Leave t) ∷ []) (leave_sleepers_by (Asleep n) w t)
   tells-left None w t n e =
       let o = waker_of n w.sleepers.wakers in
-      let told : weigh tells_of (tell_and_return (is_none o)) ≡ 1 =
-      ap (λ (x : Option Sleeping). weigh tells_of (tell_and_return (is_none x))) e in
+      let told : weigh (tells_of mark) (tell_and_return (is_none o)) ≡ 1 =
+      ap (λ (x : Option Sleeping). weigh (tells_of mark) (tell_and_return (is_none x))) e in
       loud w _ _ _
-      (omega (arith, told, weigh-append tells_of (sleeper_goes o) (tell_and_return (is_none o))))
+      (omega (arith, told, weigh-append (tells_of mark) (sleeper_goes o) (tell_and_return (is_none o))))
   tells-left (Some x) w t n e = record {
     on = λ i j k a m p q u l r g h. record {
       told = λ b c.
@@ -300,12 +300,12 @@ module _ (mark : Mark) where
   -- runs
 
   tells-wakes_up : (x : Ticker) (who : TickOrRun) (more : List Op) →
-      1 ≤ weigh tells_of (found_by x who (op.Sleeper sleeper_op.ExchangeFlag ∷ more))
+      1 ≤ weigh (tells_of mark) (found_by x who (op.Sleeper sleeper_op.ExchangeFlag ∷ more))
   tells-wakes_up Awake who more = omega arith
   tells-wakes_up (Asleep n) who more = omega arith
   tells-wakes_up Left who more = omega arith
 
-  tells-found : (w : World) (x : RunPoll) (f : ℕ) → 1 ≤ weigh tells_of (found w x f).next
+  tells-found : (w : World) (x : RunPoll) (f : ℕ) → 1 ≤ weigh (tells_of mark) (found w x f).next
   tells-found w x f =
       let first = found_by (run_of w x.run).place (tick_or_run.Run x.run) (op.Sleeper sleeper_op.ExchangeFlag ∷ []) in
       omega (
@@ -377,31 +377,31 @@ module _ (mark : Mark) where
 
   -- a steal that tells goes on with what tells
 
-  tells-stolen : (t : Then) (w : World) (x : RunPoll) → tells_then t ≤ weigh tells_of (stolen t w x).next
+  tells-stolen : (t : Then) (w : World) (x : RunPoll) → tells_then t ≤ weigh (tells_of mark) (stolen t w x).next
   tells-stolen (then.Found f) w x = tells-found w x f
   tells-stolen (then.StealPlain f) w x = omega arith
   tells-stolen (then.Run f) w x = omega arith
   tells-stolen (then.Walk at left) w x = omega arith
 
-  tells-more : (n : ℕ) (w : World) (s : Steal) → tells_then s.then ≤ weigh tells_of (steal_by n w s).next
+  tells-more : (n : ℕ) (w : World) (s : Steal) → tells_then s.then ≤ weigh (tells_of mark) (steal_by n w s).next
   tells-more zero w s = tells-stolen s.then w s.poll
   tells-more (suc n) w s = omega arith
 
-  tells-length : (n : ℕ) (w : World) (s : Steal) → tells_then s.then ≤ weigh tells_of (steal_length_by n w s).next
+  tells-length : (n : ℕ) (w : World) (s : Steal) → tells_then s.then ≤ weigh (tells_of mark) (steal_length_by n w s).next
   tells-length zero w s = tells-stolen s.then w s.poll
   tells-length (suc n) w s = omega arith
 
   tells-take : (q : List ℕ) (w : World) (s : Steal) (more : ℕ) →
-      tells_then s.then ≤ weigh tells_of (steal_take_by q w s more).next
+      tells_then s.then ≤ weigh (tells_of mark) (steal_take_by q w s more).next
   tells-take [] w s more = tells-stolen s.then w s.poll
   tells-take (f ∷ rest) w s more = omega arith
 
   tells-put : (b : Bool) (p : ℕ) (w : World) (s : Steal) (more f : ℕ) →
-      tells_then s.then ≤ weigh tells_of (steal_put_by b p w s more f).next
+      tells_then s.then ≤ weigh (tells_of mark) (steal_put_by b p w s more f).next
   tells-put true p w s more f = tells-more more (kept_by p w s.poll.run f) s
   tells-put false p w s more f = omega (arith, tells-stolen s.then w s.poll)
 
-  tells-steal : (p : ℕ) (o : StealOp) (w : World) → tells_steal o ≤ weigh tells_of (steal_act p o w).next
+  tells-steal : (p : ℕ) (o : StealOp) (w : World) → tells_steal o ≤ weigh (tells_of mark) (steal_act p o w).next
   tells-steal p (steal_op.Length s) w = tells-length _ w s
   tells-steal p (steal_op.OwnLength s n) w = tells-more _ w s
   tells-steal p (steal_op.Take s more) w = tells-take _ w s more

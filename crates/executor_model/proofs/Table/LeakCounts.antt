@@ -259,7 +259,7 @@ module _ (first more : ℕ) where
   goes-act p h (op.Handle (handle_op.LetGo f)) w n = aside-let_go_by (goes_of first more) goes-aside _ w f
   goes-act p h (op.Handle (handle_op.EndNotify f mine)) w n = aside-told (goes_of first more) goes-aside _ f (awaiter_of w f)
   goes-act p h (op.Sleeper o) w n = sleeper-unseen (goes_of first more) goes-sleepers p o w
-  goes-act p h (op.Tick o) w n = tick-blind (goes_of first more) goes-ticks goes-runs h o w
+  goes-act p h (op.Tick o) w n = tick-blind (goes_of first more) goes-ticks goes-runs p h o w
   goes-act p h (op.List o) w n = list-blind (goes_of first more) goes-runs h o w
   goes-act p h (op.Steal o) w n = steal-blind (goes_of first more) goes-runs (λ f. refl) p o w
   goes-act p h (op.Run o) w n = run-blind (goes_of first more) goes-runs p h o w (λ x. goes-wake_own p w x) (λ q r a. goes-reschedule w q r a)

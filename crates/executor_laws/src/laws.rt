@@ -80,10 +80,10 @@ pub fn no_means_that_nothing_was_queued()
     ensures { EveryMachine NoMeansEmpty }
 {}
 
-/// Whatever others do meanwhile, a poll of a tick is answered that nothing is ready only where it looked for a future, by a step
-/// in which the executor's queue was empty. A poll of a run is answered so only where it looked into its own queue, then into the
-/// executor's queue, and each was empty as it looked, and then went through the list of queues; or where it called its own
-/// waker, after 200 futures.
+/// Whatever others do meanwhile, a poll of a tick is answered that nothing is ready only where it looked for a future into each of
+/// the executor's queues, by two steps in each of which the queue was empty at which it looked. A poll of a run is answered so only
+/// where it looked into its own queue, then into each of the executor's queues, and each was empty as it looked, and then went
+/// through the list of queues; or where it called its own waker, after 200 futures.
 pub fn nothing_is_ready_where_none_was_found()
     ensures ticks { EveryMachine TicksLookFirst }
     ensures runs { EveryMachine RunsLookFirst }

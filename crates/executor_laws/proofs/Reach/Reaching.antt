@@ -37,32 +37,34 @@ use Rattle.executor_laws.proofs.Exactness.Ticking.{first-times}
 use Rattle.executor_laws.proofs.Reach.Searching.{First, first-taken, reached-new, at-rest}
 
 module _ (s : Machine) (r : Reached s) (rest : IsAtRest s) where
+  -- where a future is common, some queue isn't empty
+  pub common-spot : (f : ℕ) → IsCommon f s.world.trace → Spot s.world
+  common-spot f common = ⊎_elim
+      (λ (e : AllEmpty s.world). absurd (omega (
+        arith,
+        common-queue s (good-here s r) (heard-here s r) (deep-here s r) (bonded-here s r) rest f common,
+        none-queued s.world (first_of s.world.urgent_turns) f e.0 e.1,
+      )))
+      (λ (x : Spot s.world). x)
+      (spot s.world)
+
+  pub spot-common : (x : Spot s.world) → IsCommon x.future s.world.trace
+  spot-common x = queue-common s (good-here s r) (heard-here s r) (deep-here s r) (bonded-here s r) rest x.future
+      (first-queued s.world x.mark x.future x.rest x.is)
+
   -- a call that looks takes a future that was common
   pub takes-common : (f : ℕ) → IsCommon f s.world.trace → (p : ℕ) (c : Call) (a : Reply) → found_answer c ≡ Some a →
       (steps : List Step) (new : Machine) → IsLoneCall p c steps s new → TakesCommon p c a s new
-  takes-common f common p c a e steps new k = go s.world.queue.items refl
-    where
-      go : (items : List ℕ) → s.world.queue.items ≡ items → TakesCommon p c a s new
-      go [] q =
-          absurd
-          (omega (
-            arith,
-            common-queue s (good-here s r) (heard-here s r) (deep-here s r) (bonded-here s r) rest f common,
-            ap (times f) q,
-          ))
-      go (g ∷ xs) q =
-          let t : First g xs p c a s new = first-taken s r rest p c a e steps new k g xs q in
-          record {
-            future = g;
-            common = queue-common s (good-here s r) (heard-here s r) (deep-here s r) (bonded-here s r) rest g (omega (
-              arith,
-              ap (times g) q,
-              first-times g xs,
-            ));
-            meanwhile = t.meanwhile;
-            events = t.events;
-            taken = t.taken;
-          }
+  takes-common f common p c a e steps new k =
+      let x : Spot s.world = common-spot f common in
+      let t : First x.mark x.future p c a s new = first-taken s r rest p c a e steps new k x in
+      record {
+        future = x.future;
+        common = spot-common x;
+        meanwhile = t.meanwhile;
+        events = t.events;
+        taken = t.taken;
+      }
 
 -- lists of such calls
 
@@ -95,33 +97,141 @@ has-around : (f p : ℕ) (c : Call) (a : Reply) (es : Trace) → has (takes f) e
     has (takes f) (event.CallBegun p c ∷ (es ++ event.CallEnded p a ∷ [])) ≡ true
 has-around f p c a es e = list_any-append (takes f) es (event.CallEnded p a ∷ []) ∙ ap (λ (b : Bool). b || false) e
 
--- the first in the queue is taken first
-takes-place : (ts : List LoneSearch) (s new : Machine) → Reached s → IsAtRest s →
-    (front : List ℕ) (f : ℕ) (back : List ℕ) →
-    s.world.queue.items ≡ front ++ f ∷ back → length front < length ts → AreLoneSearches ts s new → Takes f s new
-takes-place [] s new r rest front f back q l k = absurd (omega (arith, l))
-takes-place (t ∷ ts) s new r rest [] f back q l k =
-    let x : First f back t.party t.call t.found s k.0 = first-taken s r rest t.party t.call t.found t.searches t.steps
-    k.0 k.1 f back q in
-    let y : Grows k.0 new = grows ts k.0 new k.2 in
-    let event-list : Trace = event.CallBegun t.party t.call ∷ (x.meanwhile ++ event.CallEnded t.party t.found ∷ []) in
-    record {
-      grows = grows-and s k.0 new (record { grown = event-list; trace = x.events }) y;
-      taken = list_any-append (takes f) event-list y.grown
-          ∙ or-left _ _ (has-around f t.party t.call t.found x.meanwhile x.taken);
-    }
-takes-place (t ∷ ts) s new r rest (g ∷ front) f back q l k =
-    let x : First g (front ++ f ∷ back) t.party t.call t.found s k.0 =
-    first-taken s r rest t.party t.call t.found t.searches t.steps k.0 k.1 g (front ++ f ∷ back) q in
-    let e : Grows s k.0 = run-grows (Begin t.party t.call ∷ t.steps) s k.0 k.1.made in
-    let y : Takes f k.0 new =
-    takes-place ts k.0 new (reached-new s r rest t.party t.call t.steps k.0 k.1)
-    (at-rest s r rest t.party t.call t.steps k.0 k.1 x.there) front f (back ++ x.added)
-    (x.queue ∙ append_assoc front (f ∷ back) x.added) (omega (arith, l)) k.2 in
-    record {
-      grows = grows-and s k.0 new e y.grows;
-      taken = list_any-append (takes f) e.grown y.grows.grown ∙ or-right _ _ y.taken;
-    }
+-- what a search does that finds a future
+found-events : (m : Mark) (f p : ℕ) (c : Call) (a : Reply) (s new : Machine) → First m f p c a s new → Grows s new
+found-events m f p c a s new x = record {
+  grown = event.CallBegun p c ∷ (x.meanwhile ++ event.CallEnded p a ∷ []);
+  trace = x.events;
+}
+
+-- one turn is taken by it
+one-turn : (m : Mark) (f p : ℕ) (c : Call) (a : Reply) (s new : Machine) (x : First m f p c a s new) (n : Mark) →
+    named n (found-events m f p c a s new x).grown ≡ cond (same_mark n (first_of s.world.urgent_turns)) 1 0
+one-turn m f p c a s new x n = omega (arith, named-append n x.meanwhile (event.CallEnded p a ∷ []), x.turn n)
+
+-- where a search finds its future, by the place of another in the queue of mark m
+pub data Where (m : Mark) (front : List ℕ) (f : ℕ) (back : List ℕ) (w : World) (x : Spot w) : Type 0 where
+  -- it takes that one
+  takes_it : x.mark ≡ m → x.future ≡ f → front ≡ [] → left_in x.mark w m ≡ back → Where m front f back w x
+  -- it takes one before it
+  takes_before : (g : ℕ) (less : List ℕ) → front ≡ g ∷ less → left_in x.mark w m ≡ less ++ f ∷ back →
+      Where m front f back w x
+  -- it takes from the other queue, which its turn named
+  takes_other : x.mark ≡ other m → first_of w.urgent_turns ≡ other m → left_in x.mark w m ≡ front ++ f ∷ back →
+      Where m front f back w x
+
+first-is : (f g : ℕ) (xs ys : List ℕ) → f ∷ xs ≡ g ∷ ys → (f ≡ g) × (xs ≡ ys)
+first-is f g xs ys e = (cc, cc)
+
+other-twice : (m : Mark) → other (other m) ≡ m
+other-twice Plain = refl
+other-twice Urgent = refl
+
+where-found : (m : Mark) (front : List ℕ) (f : ℕ) (back : List ℕ) (w : World) (x : Spot w) →
+    (queue_of w m).items ≡ front ++ f ∷ back → Where m front f back w x
+where-found m front f back w x q = ⊎_elim
+    (λ (e : x.mark ≡ m). here e front q)
+    (λ (e : x.mark ≡ other m). ⊎_elim
+    (λ (t : x.mark ≡ first_of w.urgent_turns). takes_other e (sym t ∙ e) (there e))
+    (λ (t : (x.mark ≡ other (first_of w.urgent_turns)) × ((queue_of w (first_of w.urgent_turns)).items ≡ [])).
+    let same : first_of w.urgent_turns ≡ m =
+    sym (other-twice (first_of w.urgent_turns)) ∙ (ap other (sym t.0 ∙ e) ∙ other-twice m) in
+    absurd (not-empty front (sym q ∙ (ap (λ (n : Mark). (queue_of w n).items) (sym same) ∙ t.1))))
+    x.turn)
+    (mark-cases m x.mark)
+  where
+    not-empty : (front : List ℕ) → front ++ f ∷ back ≡ [] → ⊥
+    not-empty [] e = absurd (cc)
+    not-empty (g ∷ front) e = absurd (cc)
+
+    there : x.mark ≡ other m → left_in x.mark w m ≡ front ++ f ∷ back
+    there e = ap (λ (n : Mark). left_in n w m) e
+        ∙ (ap (left_in (other m) w) (sym (other-twice m))
+        ∙ (left-other (other m) w ∙ (ap (λ (n : Mark). (queue_of w n).items) (other-twice m) ∙ q)))
+
+    here : x.mark ≡ m → (front : List ℕ) → (queue_of w m).items ≡ front ++ f ∷ back → Where m front f back w x
+    here e [] z =
+        let y : _ = first-is x.future f x.rest back (sym (ap (λ (n : Mark). (queue_of w n).items) (sym e) ∙ x.is) ∙ z) in
+        takes_it e y.0 refl (ap (λ (n : Mark). left_in n w m) e ∙ left-same m f back w z)
+    here e (g ∷ less) z = takes_before g less refl
+        (ap (λ (n : Mark). left_in n w m) e ∙ left-same m g (less ++ f ∷ back) w z)
+
+module _ (m : Mark) (f : ℕ) where
+  -- the first in a queue is taken first, by so many turns that name that queue
+  takes-place : (ts : List LoneSearch) (s new : Machine) → Reached s → IsAtRest s → (front back : List ℕ) →
+      (queue_of s.world m).items ≡ front ++ f ∷ back → (k : AreLoneSearches ts s new) →
+      length front < named m (grows ts s new k).grown → Takes f s new
+  takes-place [] s new r rest front back q k l = absurd (omega (arith, l))
+  takes-place (t ∷ ts) s new r rest front back q k l =
+      let x : Spot s.world =
+      common-spot s r rest f (queue-common s (good-here s r) (heard-here s r) (deep-here s r) (bonded-here s r) rest f
+      (queued-place s.world front back q)) in
+      let a : First x.mark x.future t.party t.call t.found s k.0 =
+      first-taken s r rest t.party t.call t.found t.searches t.steps k.0 k.1 x in
+      let e : Grows s k.0 = run-grows (Begin t.party t.call ∷ t.steps) s k.0 k.1.made in
+      let same_events : e.grown ≡ event.CallBegun t.party t.call ∷ (a.meanwhile ++ event.CallEnded t.party t.found ∷ []) =
+      append_cancel_left s.world.trace e.grown _ (sym e.trace ∙ a.events) in
+      let count : named m (grows (t ∷ ts) s new k).grown
+          ≡ cond (same_mark m (first_of s.world.urgent_turns)) 1 0 + named m (grows ts k.0 new k.2).grown =
+      omega (
+        arith,
+        named-append m e.grown (grows ts k.0 new k.2).grown,
+        ap (named m) same_events,
+        one-turn x.mark x.future t.party t.call t.found s k.0 a m,
+      ) in
+      on x a e same_events count (where-found m front f back s.world x q)
+    where
+      queued-place : (w : World) (front back : List ℕ) → (queue_of w m).items ≡ front ++ f ∷ back → 1 ≤ times f (queued_in w)
+      queued-place w front back q = omega (
+        arith,
+        times-one f m w.queues,
+        ap (times f) q,
+        times-append f front (f ∷ back),
+        first-times f back,
+      )
+
+      again : (x : Spot s.world) → First x.mark x.future t.party t.call t.found s k.0 → Grows s k.0 →
+          (less more : List ℕ) → (queue_of k.0.world m).items ≡ less ++ f ∷ more →
+          length less < named m (grows ts k.0 new k.2).grown → Takes f s new
+      again x a e less more i n =
+          let y : Takes f k.0 new =
+          takes-place ts k.0 new (reached-new s r rest t.party t.call t.steps k.0 k.1)
+          (at-rest s r rest t.party t.call t.steps k.0 k.1 a.there) less more i k.2 n in
+          record {
+            grows = grows-and s k.0 new e y.grows;
+            taken = list_any-append (takes f) e.grown y.grows.grown ∙ or-right _ _ y.taken;
+          }
+
+      on : (x : Spot s.world) → (a : First x.mark x.future t.party t.call t.found s k.0) → (e : Grows s k.0) →
+          e.grown ≡ event.CallBegun t.party t.call ∷ (a.meanwhile ++ event.CallEnded t.party t.found ∷ []) →
+          named m (grows (t ∷ ts) s new k).grown
+          ≡ cond (same_mark m (first_of s.world.urgent_turns)) 1 0 + named m (grows ts k.0 new k.2).grown →
+          Where m front f back s.world x → Takes f s new
+      on x a e i c (takes_it _ g _ _) = record {
+        grows = grows-and s k.0 new e (grows ts k.0 new k.2);
+        taken = list_any-append (takes f) e.grown (grows ts k.0 new k.2).grown
+            ∙ or-left _ _ (ap (has (takes f)) i
+            ∙ has-around f t.party t.call t.found a.meanwhile
+            (ap (λ (y : ℕ). has (takes y) a.meanwhile) (sym g) ∙ a.taken));
+      }
+      on x a e i c (takes_before g less z j) = again x a e less (back ++ a.added m)
+          (a.queue m ∙ (ap (λ (ys : List ℕ). ys ++ a.added m) j ∙ append_assoc less (f ∷ back) (a.added m)))
+          (omega (arith, l, c, ap length z, at-most (same_mark m (first_of s.world.urgent_turns))))
+      on x a e i c (takes_other z d j) = again x a e front (back ++ a.added m)
+          (a.queue m ∙ (ap (λ (ys : List ℕ). ys ++ a.added m) j ∙ append_assoc front (f ∷ back) (a.added m)))
+          (omega (arith, l, c, ap (λ (n : Mark). cond (same_mark m n) 1 0) d, apart m))
+
+      at-most : (b : Bool) → cond b 1 0 ≤ 1
+      at-most true = omega arith
+      at-most false = omega arith
+
+      apart : (m : Mark) → cond (same_mark m (other m)) 1 0 ≡ 0
+      apart Plain = refl
+      apart Urgent = refl
+
+  -- where the other queue is empty all the while, each search takes from this one
+  module _ (alone : (ts : List LoneSearch) (s new : Machine) → Reached s → AreLoneSearches ts s new →
+      (queue_of new.world (other m)).items ≡ [] → (queue_of s.world (other m)).items ≡ []) where
 
 pub record QueuePlace (f : ℕ) (xs : List ℕ) : Type 0 where
   pub front : List ℕ

@@ -1,6 +1,6 @@
 -- What a run or tick does in a store with what it has found.
 use Rattle.std.proofs.Common.{◌≡◌, ℕ, ◌+◌, ◌==◌, List, [], ◌∷◌, ◌++◌, Bool, true, false, cond, drop, refl, sym, ap, ◌∙◌}
-use Rattle.std.specs.Prelude.{reverse}
+use Rattle.std.specs.Prelude.{Some, reverse, slice_get}
 use Rattle.task_moves.specs.declared.moves.owed.Move.TheVariants as move
 use Rattle.executor_model.specs.declared.call.Reply.TheVariants as reply
 use Rattle.executor_model.specs.declared.op.Op.{Op}
@@ -78,6 +78,10 @@ found-next t n more k who sleeps e =
 -- what a tick does once it has found something
 abbrev pub ready_ops : Sleeping → ℕ → List Op
 ready_ops x f = op.Sleeper sleeper_op.ExchangeFlag ∷ op.Move move.TakeUp f ∷ op.End reply.Ready (held_as x.who) ∷ []
+
+pub first-there : (q : List ℕ) (f : ℕ) → slice_get q 0 ≡ Some f → q ≡ f ∷ drop 1 q
+first-there [] f e = absurd (cc)
+first-there (x ∷ q) f e = ap (λ (y : ℕ). y ∷ q) (let z : x ≡ f = cc in z)
 
 pub found-tick : (w : World) (x : Sleeping) (look : Look) (f : ℕ) (rest : List ℕ) (sleeps : Bool) →
     (queue_of w (mark_in look)).items ≡ f ∷ rest → sleeps ≡ is_asleep (place_of w x.who) →

@@ -17,6 +17,7 @@ ghost use Rattle.executor_laws.specs.Called.{KeeperIsCalled, SomeStandingIsCalle
 ghost use Rattle.executor_laws.specs.AtRest.{EmptinessIsExact, TicksAreExact};
 ghost use Rattle.executor_laws.specs.KeptFirst.{TakesKeptFirst};
 ghost use Rattle.executor_laws.specs.LoneAnswers.{IsLoneEmptinessExact, IsLoneTickExact};
+ghost use Rattle.executor_laws.specs.Looks.{AreQueuedByMark, OneOfEightIsPlain};
 ghost use Rattle.executor_laws.specs.Makings.{MadeIsMade};
 ghost use Rattle.executor_laws.specs.NoAnswers.{NoMeansEmpty};
 ghost use Rattle.executor_laws.specs.Numbered.{RequestsAreNumbered};
@@ -271,4 +272,15 @@ pub fn common_futures_are_in_reach_of_runs()
 /// code answers in it, each future that the run kept is common behind that.
 pub fn dropped_runs_leave_common_futures()
     ensures { EveryMachine LeavesCommon }
+{}
+
+/// Of any eight turns in a row that searches take, whoever takes them, exactly one looks at the plain queue first.
+pub fn one_turn_of_eight_is_plain()
+    ensures { EveryMachine OneOfEightIsPlain }
+{}
+
+/// In each of the executor's queues stand futures of its mark alone: a future that was spawned urgent is queued as such, however
+/// often it is woken.
+pub fn futures_are_queued_by_their_marks()
+    ensures { EveryMachine AreQueuedByMark }
 {}

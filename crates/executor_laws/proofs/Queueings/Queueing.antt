@@ -184,7 +184,7 @@ settles p w os None = refl
 settles p w os (Some r) = refl
 
 -- what a step does to the queue of this mark
-data Steps (m : Mark) (s : Machine) (new : ClosableQueue ℕ) : Type 0 where
+pub data Steps (m : Mark) (s : Machine) (new : ClosableQueue ℕ) : Type 0 where
   as-was : new ≡ queue_of s.world m → Steps m s new
   longer : (p f : ℕ) → top (stack s p) ≡ Some (op.Queue (queue_op.Append f)) → mark_of s.world f ≡ m →
       (queue_of s.world m).closed ≡ false →
@@ -248,7 +248,7 @@ by-after m s (Begin p c) =
 by-after m s (Go p h) = by-go m s p h (top (stack s p)) refl
 by-after m s (step_is.Answer p u) = by-answer m s p u (top (stack s p))
 
-by-step : (m : Mark) (s : Machine) (t : Step) → Steps m s (queue_of (stepped s (step s t)).world m)
+pub by-step : (m : Mark) (s : Machine) (t : Step) → Steps m s (queue_of (stepped s (step s t)).world m)
 by-step m s t = go (refusal s t) refl
   where
     go : (r : Option StepError) → refusal s t ≡ r → Steps m s (queue_of (stepped s (step s t)).world m)

@@ -5,5 +5,6 @@ pub mod LoneMoves
 pub mod LoneSteps
 pub mod LoneTicks
 pub mod LoneBegins
+pub mod Marked
 pub mod Searching
 pub mod Reaching

@@ -22,6 +22,7 @@ pub mod Ways
 pub mod Settled
 pub mod Placing
 pub mod Listing
+pub mod Marking
 pub mod Nears
 pub mod Pushes
 pub mod Reached

@@ -102,7 +102,7 @@ module _ (s : Machine) (p : ℕ) (l : p < length s.parties) (n : s.world.gone �
   within : (x : List Op) (ss : List (List Op)) → p < length ss → p < length (set ss p x)
   within x ss m = omega (arith, m, length-set ss p x)
 
-  in-ticking : p < length (ticking s p).parties
+  pub in-ticking : p < length (ticking s p).parties
   in-ticking = within (op.Queue queue_op.TakeTurn ∷ []) s.parties l
 
   pub in-turning : p < length (turning s p).parties
@@ -111,16 +111,26 @@ module _ (s : Machine) (p : ℕ) (l : p < length s.parties) (n : s.world.gone �
   pub in-seconding : p < length (seconding s p).parties
   in-seconding = within (op.Queue (queue_op.Take (Second (other (turn_of s)))) ∷ []) (turning s p).parties in-turning
 
-  turned-alone : (t : Hint) → stepped (ticking s p) (step (ticking s p) (Go p t)) ≡ turning s p
+  pub turned-alone : (t : Hint) → stepped (ticking s p) (step (ticking s p) (Go p t)) ≡ turning s p
   turned-alone t = goes-alone (ticking s p) p t (op.Queue queue_op.TakeTurn ∷ []) in-ticking
       (get_or-set_same s.parties p (op.Queue queue_op.TakeTurn ∷ []) [] l) refl
 
-  looked-first : (t : Hint) (items : List ℕ) → (queue_of s.world (turn_of s)).items ≡ items →
+  pub looked-first : (t : Hint) (items : List ℕ) → (queue_of s.world (turn_of s)).items ≡ items →
       stepped (turning s p) (step (turning s p) (Go p t))
       ≡ with_part (turning s p) p (onto p (take_by (turning s p).world (First (turn_of s)) items) [])
   looked-first t items q = goes-alone (turning s p) p t (op.Queue (queue_op.Take (First (turn_of s))) ∷ []) in-turning
       (get_or-set_same (ticking s p).parties p (op.Queue (queue_op.Take (First (turn_of s))) ∷ []) [] in-ticking) refl
       ∙ ap (λ (xs : List ℕ). with_part (turning s p) p (onto p (take_by (turning s p).world (First (turn_of s)) xs) [])) q
+
+  pub looked-second : (t : Hint) (items : List ℕ) → (queue_of s.world (other (turn_of s))).items ≡ items →
+      stepped (seconding s p) (step (seconding s p) (Go p t))
+      ≡ with_part (seconding s p) p (onto p (take_by (seconding s p).world (Second (other (turn_of s))) items) [])
+  looked-second t items q =
+      goes-alone (seconding s p) p t (op.Queue (queue_op.Take (Second (other (turn_of s)))) ∷ []) in-seconding
+      (get_or-set_same (turning s p).parties p (op.Queue (queue_op.Take (Second (other (turn_of s)))) ∷ []) [] in-turning)
+      refl
+      ∙ ap (λ (xs : List ℕ). with_part (seconding s p) p
+      (onto p (take_by (seconding s p).world (Second (other (turn_of s))) xs) [])) q
 
   pub first-on : (t : Hint) (items : List ℕ) → (queue_of s.world (turn_of s)).items ≡ items →
       run (ticks false p t) s
@@ -135,11 +145,7 @@ module _ (s : Machine) (p : ℕ) (l : p < length s.parties) (n : s.world.gone �
   second-on t items none q = ap (λ (m : Machine). run (Go p t ∷ Go p t ∷ Go p t ∷ []) m) begun-alone
       ∙ (ap (λ (m : Machine). run (Go p t ∷ Go p t ∷ []) m) (turned-alone t)
       ∙ (ap (λ (m : Machine). run (Go p t ∷ []) m) (looked-first t [] none)
-      ∙ (goes-alone (seconding s p) p t (op.Queue (queue_op.Take (Second (other (turn_of s)))) ∷ []) in-seconding
-      (get_or-set_same (turning s p).parties p (op.Queue (queue_op.Take (Second (other (turn_of s)))) ∷ []) [] in-turning)
-      refl
-      ∙ ap (λ (xs : List ℕ). with_part (seconding s p) p
-      (onto p (take_by (seconding s p).world (Second (other (turn_of s))) xs) [])) q)))
+      ∙ looked-second t items q))
 
   pub finds-nothing : (t : Hint) → (queue_of s.world (turn_of s)).items ≡ [] →
       (queue_of s.world (other (turn_of s))).items ≡ [] → FindsNothing s p t
@@ -149,7 +155,7 @@ module _ (s : Machine) (p : ℕ) (l : p < length s.parties) (n : s.world.gone �
       ∙ append_assoc s.world.trace (event.CallBegun p call.TryTick ∷ [])
       (event.Looked p (turn_of s) ∷ event.CallEnded p reply.No ∷ []))
 
-  abbrev taking_up : ℕ → List Op
+  abbrev pub taking_up : ℕ → List Op
   taking_up f = op.End reply.Yes hold.Executor ∷ op.Move move.TakeUp f ∷ op.Sleeper sleeper_op.ExchangeFlag ∷ []
 
   finds-first : (t : Hint) (f : ℕ) (xs : List ℕ) → (queue_of s.world (turn_of s)).items ≡ f ∷ xs →

@@ -1,11 +1,16 @@
 -- For common_futures_are_in_reach and arrival_order_needs_fewer_ticks.
 -- Lone calls that look for a future reach the common ones.
-use Rattle.std.proofs.Common.{◌≡◌, ◌≢◌, eqb, ℕ, zero, suc, ◌<◌, ◌≤◌, List, [], ◌∷◌, ◌++◌, length}
-use Rattle.std.proofs.Common.{drop, Bool, true, false, ◌||◌, refl, sym, ap, ◌∙◌, ⊎_elim, arith}
+use Rattle.std.proofs.Common.{◌≡◌, ◌≢◌, ◌⊎◌, eqb, ltb, ℕ, zero, suc, ◌+◌, ◌<◌, ◌≤◌, List, [], ◌∷◌, ◌++◌, length, get_or}
+use Rattle.std.proofs.Common.{drop, Bool, true, false, cond, ◌||◌, refl, sym, ap, subst, ◌∙◌, inl, inr, ⊎_elim, arith}
 use Rattle.std.proofs.Common.{append-nil, append_assoc, length-append, Ok}
 use Rattle.std.proofs.Math.Seq.{drop-append_seam}
+use Rattle.std.proofs.lemmas.Bool.Decides.{nat_tests}
+use Rattle.std.proofs.lemmas.List.{append_cancel_left, get_or_past}
 use Rattle.std.proofs.lemmas.List.Folds.{list_any-append}
-use Rattle.std.specs.Prelude.{Some}
+use Rattle.std.specs.Prelude.{All, Some, filter}
+use Rattle.executor_parts.specs.declared.mark.Mark.{Mark}
+use Rattle.executor_parts.specs.declared.mark.Mark.TheVariants.{Plain, Urgent}
+use Rattle.executor_parts.specs.Marks.{first_of, other, same_mark}
 use Rattle.executor_model.specs.declared.call.By.TheVariants as by
 use Rattle.executor_model.specs.declared.call.Call.{Call}
 use Rattle.executor_model.specs.declared.call.Call.TheVariants as call
@@ -21,7 +26,9 @@ use Rattle.executor_model.specs.Executions.{run_all, EveryMachine}
 use Rattle.executor_model.specs.Weights.{same}
 use Rattle.executor_model.specs.Sound.{times}
 use Rattle.executor_model.specs.Steps.{Machine, run, start}
-use Rattle.executor_model.proofs.Steps.Lists.{same_cases}
+use Rattle.executor_model.specs.World.{World, mark_of, queue_of, queued_in}
+use Rattle.executor_model.proofs.Steps.Lists.{same_cases, times-append}
+use Rattle.executor_model.proofs.Steps.QueuesByMark.{mark-cases, times-all, times-one}
 use Rattle.executor_model.proofs.OneFuture.Stories.{no-longer}
 use Rattle.executor_model.proofs.Table.Entering.{queue-agrees}
 use Rattle.executor_model.proofs.Steps.TraceSteps.{IsContinued, run-continues}
@@ -29,12 +36,14 @@ use Rattle.executor_model.proofs.Steps.Reached.{Reached, run-of, good-here, deep
 use Rattle.executor_model.proofs.Steps.Tests.{or-left, or-right}
 use Rattle.executor_laws.specs.LoneEnds.{IsLoneCall, LoneCallsEnd}
 use Rattle.executor_laws.specs.Reach.{found_answer, LoneSearch, AreLoneSearches, takes, TakesCommon}
-use Rattle.executor_laws.specs.Reach.{since, HasCommons, IsInReach, IsReachedInOrder}
+use Rattle.executor_laws.specs.Reach.{names, since, HasCommons, HasCommonsOf, IsInReach, IsReachedInOrder}
 use Rattle.executor_laws.proofs.Reach.LoneBegins.{poll-begins, tick-begins}
 use Rattle.executor_laws.proofs.Reach.Reached.{bonded-here, heard-here}
 use Rattle.executor_laws.proofs.Placement.Placing.{common-queue, queue-common}
-use Rattle.executor_laws.proofs.Exactness.Ticking.{first-times}
-use Rattle.executor_laws.proofs.Reach.Searching.{First, first-taken, reached-new, at-rest}
+use Rattle.executor_laws.proofs.Exactness.Ticking.{first-queued, first-times, none-queued}
+use Rattle.executor_laws.proofs.Reach.Marked.{all-before, marked-here}
+use Rattle.executor_laws.proofs.Reach.Searching.{AllEmpty, First, Spot, at-rest, first-taken, left-other, left-same, left_in, named}
+use Rattle.executor_laws.proofs.Reach.Searching.{named-append, named-filter, reached-new, spot}
 
 module _ (s : Machine) (r : Reached s) (rest : IsAtRest s) where
   -- where a future is common, some queue isn't empty
@@ -229,10 +238,6 @@ module _ (m : Mark) (f : ℕ) where
       apart Plain = refl
       apart Urgent = refl
 
-  -- where the other queue is empty all the while, each search takes from this one
-  module _ (alone : (ts : List LoneSearch) (s new : Machine) → Reached s → AreLoneSearches ts s new →
-      (queue_of new.world (other m)).items ≡ [] → (queue_of s.world (other m)).items ≡ []) where
-
 pub record QueuePlace (f : ℕ) (xs : List ℕ) : Type 0 where
   pub front : List ℕ
   pub back : List ℕ
@@ -250,39 +255,163 @@ place f (g ∷ xs) k = ⊎_elim
     )) in record { front = g ∷ y.front; back = y.back; is = ap (λ (ys : List ℕ). g ∷ ys) y.is })
     (same_cases f g)
 
-module _ (s : Machine) (r : Reached s) (rest : IsAtRest s) where
-  -- the queue isn't longer than a list that has each common future
-  pub not-longer : (commons : List ℕ) → HasCommons s.world.trace commons → length s.world.queue.items ≤ length commons
-  not-longer commons k = no-longer s.world.queue.items commons (λ g. by g (times g s.world.queue.items) refl)
+since-is : (s new : Machine) → (x : Grows s new) → since s new ≡ x.grown
+since-is s new x = ap (λ (es : Trace). drop (length s.world.trace) es) x.trace ∙ drop-append_seam s.world.trace x.grown
+
+-- the marks stay
+plain-before : (ts : List LoneSearch) (s new : Machine) → AreLoneSearches ts s new → All (λ m. m ≡ Plain) new.world.marks →
+    All (λ m. m ≡ Plain) s.world.marks
+plain-before [] s new e plain = subst (λ (x : Machine). All (λ m. m ≡ Plain) x.world.marks) (sym e) plain
+plain-before (t ∷ ts) s new k plain = all-before s k.0 (Begin t.party t.call ∷ t.steps) k.1.made
+    (plain-before ts k.0 new k.2 plain)
+
+mark-plain : (ms : List Mark) → All (λ m. m ≡ Plain) ms → (f : ℕ) → get_or ms f Plain ≡ Plain
+mark-plain ms k f = by (ltb f (length ms)) refl
+  where
+    by : (b : Bool) → ltb f (length ms) ≡ b → get_or ms f Plain ≡ Plain
+    by true e = k f Plain (grind (arith, nat_tests))
+    by false e = get_or_past ms f Plain (grind (arith, nat_tests))
+
+-- no future is urgent, so none is queued there
+none-urgent : (s : Machine) → Reached s → All (λ m. m ≡ Plain) s.world.marks → (queue_of s.world Urgent).items ≡ []
+none-urgent s r plain = by (queue_of s.world Urgent).items refl
+  where
+    by : (xs : List ℕ) → (queue_of s.world Urgent).items ≡ xs → xs ≡ []
+    by [] e = refl
+    by (g ∷ xs) e =
+        let no : Plain ≡ Urgent = sym (mark-plain s.world.marks plain g)
+        ∙ marked-here s r Urgent g (omega (arith, ap (times g) e, first-times g xs)) in absurd (cc)
+
+-- a search then takes what is first in the plain queue
+module _ (f : ℕ) where
+  takes-plain : (ts : List LoneSearch) (s new : Machine) → Reached s → IsAtRest s → (front back : List ℕ) →
+      (queue_of s.world Plain).items ≡ front ++ f ∷ back → (k : AreLoneSearches ts s new) →
+      All (λ m. m ≡ Plain) new.world.marks → length front < length ts → Takes f s new
+  takes-plain [] s new r rest front back q k plain l = absurd (omega (arith, l))
+  takes-plain (t ∷ ts) s new r rest front back q k plain l =
+      let common : IsCommon f s.world.trace = queue-common s (good-here s r) (heard-here s r) (deep-here s r)
+      (bonded-here s r) rest f (omega (
+        arith,
+        times-one f Plain s.world.queues,
+        ap (times f) q,
+        times-append f front (f ∷ back),
+        first-times f back,
+      )) in
+      let x : Spot s.world = common-spot s r rest f common in
+      on x (first-taken s r rest t.party t.call t.found t.searches t.steps k.0 k.1 x)
+      (where-found Plain front f back s.world x q)
     where
-      by : (g n : ℕ) → times g s.world.queue.items ≡ n → times g s.world.queue.items ≤ times g commons
+      e : Grows s k.0
+      e = run-grows (Begin t.party t.call ∷ t.steps) s k.0 k.1.made
+
+      empty : (queue_of s.world Urgent).items ≡ []
+      empty = none-urgent s r (plain-before (t ∷ ts) s new k plain)
+
+      on : (x : Spot s.world) → (a : First x.mark x.future t.party t.call t.found s k.0) →
+          Where Plain front f back s.world x → Takes f s new
+      on x a (takes_it _ g _ _) = record {
+        grows = grows-and s k.0 new (found-events x.mark x.future t.party t.call t.found s k.0 a) (grows ts k.0 new k.2);
+        taken = list_any-append (takes f)
+            (event.CallBegun t.party t.call ∷ (a.meanwhile ++ event.CallEnded t.party t.found ∷ []))
+            (grows ts k.0 new k.2).grown
+            ∙ or-left _ _ (has-around f t.party t.call t.found a.meanwhile
+            (ap (λ (y : ℕ). has (takes y) a.meanwhile) (sym g) ∙ a.taken));
+      }
+      on x a (takes_before g less z j) =
+          let y : Takes f k.0 new =
+          takes-plain ts k.0 new (reached-new s r rest t.party t.call t.steps k.0 k.1)
+          (at-rest s r rest t.party t.call t.steps k.0 k.1 a.there) less (back ++ a.added Plain)
+          (a.queue Plain
+          ∙ (ap (λ (ys : List ℕ). ys ++ a.added Plain) j ∙ append_assoc less (f ∷ back) (a.added Plain))) k.2 plain
+          (omega (arith, l, ap length z)) in
+          record {
+            grows = grows-and s k.0 new e y.grows;
+            taken = list_any-append (takes f) e.grown y.grows.grown ∙ or-right _ _ y.taken;
+          }
+      on x a (takes_other z d j) =
+          let no : x.future ∷ x.rest ≡ [] =
+          sym x.is ∙ (ap (λ (n : Mark). (queue_of s.world n).items) z ∙ empty) in absurd (cc)
+
+times-both : (m : Mark) (f : ℕ) (w : World) → times f (queued_in w)
+    ≡ times f (queue_of w m).items + times f (queue_of w (other m)).items
+times-both Urgent f w = times-all f w.queues
+times-both Plain f w = omega (arith, times-all f w.queues)
+
+-- the futures of this mark
+
+module _ (s : Machine) (r : Reached s) (rest : IsAtRest s) (m : Mark) where
+  -- its queue isn't longer than a list that has each of them that is common
+  pub not-longer : (commons : List ℕ) → HasCommonsOf m s commons → length (queue_of s.world m).items ≤ length commons
+  not-longer commons k =
+      no-longer (queue_of s.world m).items commons (λ g. by g (times g (queue_of s.world m).items) refl)
+    where
+      by : (g n : ℕ) → times g (queue_of s.world m).items ≡ n → times g (queue_of s.world m).items ≤ times g commons
       by g zero e = omega (arith, e)
       by g (suc n) e =
           let common : IsCommon g s.world.trace = queue-common s (good-here s r) (heard-here s r) (deep-here s r)
-          (bonded-here s r) rest g (omega (arith, e)) in
+          (bonded-here s r) rest g (omega (arith, e, times-one g m s.world.queues)) in
           omega (
             arith,
+            times-one g m s.world.queues,
             (queue-agrees s g (good-here s r) (heard-here s r).placed).once,
-            k g common,
+            k g common (marked-here s r m g (omega (arith, e))),
           )
 
-  takes-all : (commons : List ℕ) → HasCommons s.world.trace commons → (searches : List LoneSearch) (new : Machine) →
-      AreLoneSearches searches s new → length commons ≤ length searches → (f : ℕ) → IsCommon f s.world.trace →
-      has (takes f) (since s new) ≡ true
-  takes-all commons k searches new t l f c =
-      let spot : QueuePlace f s.world.queue.items =
-      place f s.world.queue.items
-      (common-queue s (good-here s r) (heard-here s r) (deep-here s r) (bonded-here s r) rest f c) in
+  -- each of them that is common is in it
+  pub in-queue : (f : ℕ) → IsCommon f s.world.trace → mark_of s.world f ≡ m → 1 ≤ times f (queue_of s.world m).items
+  in-queue f c e = by (times f (queue_of s.world (other m)).items) refl
+    where
+      apart : (m : Mark) → m ≡ other m → ⊥
+      apart Plain z = absurd (cc)
+      apart Urgent z = absurd (cc)
+
+      by : (n : ℕ) → times f (queue_of s.world (other m)).items ≡ n → 1 ≤ times f (queue_of s.world m).items
+      by zero z = omega (
+        arith,
+        z,
+        common-queue s (good-here s r) (heard-here s r) (deep-here s r) (bonded-here s r) rest f c,
+        times-both m f s.world,
+      )
+      by (suc n) z = absurd (apart m (sym e ∙ marked-here s r (other m) f (omega (arith, z))))
+
+  takes-all : (commons : List ℕ) → HasCommonsOf m s commons → (searches : List LoneSearch) (new : Machine) →
+      AreLoneSearches searches s new → length commons ≤ length (filter (names m) (since s new)) → (f : ℕ) →
+      IsCommon f s.world.trace → mark_of s.world f ≡ m → has (takes f) (since s new) ≡ true
+  takes-all commons k searches new t l f c e =
+      let place-of : QueuePlace f (queue_of s.world m).items = place f (queue_of s.world m).items (in-queue f c e) in
+      let all : Grows s new = grows searches s new t in
+      let grown-is : since s new ≡ all.grown = since-is s new all in
       let x : Takes f s new =
-      takes-place searches s new r rest spot.front f spot.back spot.is (omega (
+      takes-place m f searches s new r rest place-of.front place-of.back place-of.is t (omega (
         arith,
         l,
+        ap (λ (es : Trace). length (filter (names m) es)) grown-is,
+        named-filter m all.grown,
         not-longer commons k,
-        ap length spot.is,
-        length-append spot.front (f ∷ spot.back),
-      )) t in
-      ap (λ (es : Trace). has (takes f) (drop (length s.world.trace) es)) x.grows.trace
-      ∙ (ap (has (takes f)) (drop-append_seam s.world.trace x.grows.grown) ∙ x.taken)
+        ap length place-of.is,
+        length-append place-of.front (f ∷ place-of.back),
+      )) in
+      ap (has (takes f)) (since-is s new x.grows) ∙ x.taken
+
+-- where all are plain, each search takes from the plain queue
+
+module _ (s : Machine) (r : Reached s) (rest : IsAtRest s) where
+  all-plain : (commons : List ℕ) → HasCommons s.world.trace commons → (searches : List LoneSearch) (new : Machine) →
+      AreLoneSearches searches s new → All (λ m. m ≡ Plain) new.world.marks → length commons ≤ length searches →
+      (f : ℕ) → IsCommon f s.world.trace → has (takes f) (since s new) ≡ true
+  all-plain commons k searches new t plain l f c =
+      let first : All (λ m. m ≡ Plain) s.world.marks = plain-before searches s new t plain in
+      let place-of : QueuePlace f (queue_of s.world Plain).items =
+      place f (queue_of s.world Plain).items (in-queue s r rest Plain f c (mark-plain s.world.marks first f)) in
+      let x : Takes f s new =
+      takes-plain f searches s new r rest place-of.front place-of.back place-of.is t plain (omega (
+        arith,
+        l,
+        not-longer s r rest Plain commons (λ g d e. k g d),
+        ap length place-of.is,
+        length-append place-of.front (f ∷ place-of.back),
+      )) in
+      ap (has (takes f)) (since-is s new x.grows) ∙ x.taken
 
 in-reach : (s : Machine) → Reached s → LoneCallsEnd s → IsInReach s
 in-reach s r ends = record {
@@ -301,6 +430,9 @@ reaches ends limit kind parties steps =
     (ends limit kind parties steps)
 
 pub reaches-in-order : (limit : ℕ) (kind : Kind) (parties : ℕ) (steps : List Step) → IsReachedInOrder (run steps (start limit kind parties))
-reaches-in-order limit kind parties steps = λ rest commons k searches new t l f c.
-    takes-all (run steps (start limit kind parties))
-    (record { limit = limit; kind = kind; parties = parties; steps = steps; is = refl }) rest commons k searches new t l f c
+reaches-in-order limit kind parties steps =
+    let s : Machine = run steps (start limit kind parties) in
+    let r : Reached s = record { limit = limit; kind = kind; parties = parties; steps = steps; is = refl } in record {
+      by_mark = λ rest m commons k searches new t l f c e. takes-all s r rest m commons k searches new t l f c e;
+      plain = λ rest commons k searches new t plain l f c. all-plain s r rest commons k searches new t plain l f c;
+    }

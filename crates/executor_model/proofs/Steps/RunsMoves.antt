@@ -56,6 +56,7 @@ pub record Same (w v : World) : Type 0 where
   pub closed : (m : Mark) → (queue_of v m).closed ≡ (queue_of w m).closed
   pub capacity : (m : Mark) → (queue_of v m).capacity ≡ (queue_of w m).capacity
   pub tasks : v.tasks ≡ w.tasks
+  pub marks : v.marks ≡ w.marks
   pub awaiters : v.awaiters ≡ w.awaiters
   pub inside : v.inside ≡ w.inside
   pub table : v.table ≡ w.table
@@ -74,6 +75,7 @@ same-here w rs qs ls l = record {
   closed = λ m. refl;
   capacity = λ m. refl;
   tasks = refl;
+  marks = refl;
   awaiters = refl;
   inside = refl;
   table = refl;
@@ -93,6 +95,7 @@ same-taken mark w = record {
   closed = λ m. closed-first mark m w.queues;
   capacity = λ m. capacity-first mark m w.queues;
   tasks = refl;
+  marks = refl;
   awaiters = refl;
   inside = refl;
   table = refl;
@@ -192,6 +195,7 @@ same-trans a b = record {
   closed = λ m. b.closed m ∙ a.closed m;
   capacity = λ m. b.capacity m ∙ a.capacity m;
   tasks = b.tasks ∙ a.tasks;
+  marks = b.marks ∙ a.marks;
   awaiters = b.awaiters ∙ a.awaiters;
   inside = b.inside ∙ a.inside;
   table = b.table ∙ a.table;
@@ -400,6 +404,7 @@ same-rooms w s e = record {
   closed = λ m. refl;
   capacity = λ m. refl;
   tasks = refl;
+  marks = refl;
   awaiters = refl;
   inside = refl;
   table = refl;

@@ -181,7 +181,7 @@ module _ (m : Mark) (f : ℕ) where
       let same_events : e.grown ≡ event.CallBegun t.party t.call ∷ (a.meanwhile ++ event.CallEnded t.party t.found ∷ []) =
       append_cancel_left s.world.trace e.grown _ (sym e.trace ∙ a.events) in
       let count : named m (grows (t ∷ ts) s new k).grown
-          ≡ cond (same_mark m (first_of s.world.urgent_turns)) 1 0 + named m (grows ts k.0 new k.2).grown =
+      ≡ cond (same_mark m (first_of s.world.urgent_turns)) 1 0 + named m (grows ts k.0 new k.2).grown =
       omega (
         arith,
         named-append m e.grown (grows ts k.0 new k.2).grown,

@@ -276,20 +276,23 @@ pub data First (f : ℕ) (own : List ℕ) (base : World) : Type 0 where
 -- what stays of the queues and the turns
 same-spot : (w v : World) → v.queues ≡ w.queues → v.urgent_turns ≡ w.urgent_turns → (x : Spot w) →
     (y : Spot v) × (y.future ≡ x.future)
-same-spot w v q t x = (record {
-  mark = x.mark;
-  future = x.future;
-  rest = x.rest;
-  is = ap (λ (qs : Queues). (queue_in x.mark qs).items) q ∙ x.is;
-  turn = ⊎_elim
-      (λ (e : x.mark ≡ first_of w.urgent_turns). inl (e ∙ ap first_of (sym t)))
-      (λ (e : (x.mark ≡ other (first_of w.urgent_turns)) × ((queue_of w (first_of w.urgent_turns)).items ≡ [])). inr (
-        e.0 ∙ ap (λ (n : ℕ). other (first_of n)) (sym t),
-        ap (λ (n : ℕ). (queue_of v (first_of n)).items) t
-            ∙ (ap (λ (qs : Queues). (queue_in (first_of w.urgent_turns) qs).items) q ∙ e.1),
-      ))
-      x.turn;
-}, refl)
+same-spot w v q t x = (
+  record {
+    mark = x.mark;
+    future = x.future;
+    rest = x.rest;
+    is = ap (λ (qs : Queues). (queue_in x.mark qs).items) q ∙ x.is;
+    turn = ⊎_elim
+        (λ (e : x.mark ≡ first_of w.urgent_turns). inl (e ∙ ap first_of (sym t)))
+        (λ (e : (x.mark ≡ other (first_of w.urgent_turns)) × ((queue_of w (first_of w.urgent_turns)).items ≡ [])). inr (
+          e.0 ∙ ap (λ (n : ℕ). other (first_of n)) (sym t),
+          ap (λ (n : ℕ). (queue_of v (first_of n)).items) t
+              ∙ (ap (λ (qs : Queues). (queue_in (first_of w.urgent_turns) qs).items) q ∙ e.1),
+        ))
+        x.turn;
+  },
+  refl,
+)
 
 module _ (p f : ℕ) (before : Trace) (due : IsDue f before) (x : RunPoll) (new : Machine) (idles : stack new p ≡ []) where
   -- the run has it in hand
@@ -352,7 +355,7 @@ module _ (p f : ℕ) (before : Trace) (due : IsDue f before) (x : RunPoll) (new 
       go (answered u others te z y n2 on2 l) = absurd (cc)
       go (acted h others te z y n2 on2 l) =
           let q : search_common_by (queue_of s.world m).items s.world x (look_at.First m)
-              ≡ done s.world (op.Run (run_op.SearchCommon x (look_at.Second (other m))) ∷ []) =
+          ≡ done s.world (op.Run (run_op.SearchCommon x (look_at.Second (other m))) ∷ []) =
           ap (λ (ys : List ℕ). search_common_by ys s.world x (look_at.First m)) none in
           at-look (with_part s p next) (look_at.Second (other m)) rest e others (record {
             reached = subst (λ (d : Done). Reached (with_part s p (onto p d []))) q y;
@@ -376,7 +379,7 @@ module _ (p f : ℕ) (before : Trace) (due : IsDue f before) (x : RunPoll) (new 
           let next : Part =
           part (turned p s.world) (op.Run (run_op.SearchCommon x (look_at.First (first_of s.world.urgent_turns))) ∷ []) in
           let o : On (op.Run (run_op.SearchCommon x (look_at.First (first_of s.world.urgent_turns)))) others
-              (with_part s p next) = record {
+          (with_part s p next) = record {
             reached = y2;
             meanwhile = a.meanwhile ++ event.Looked p (first_of s.world.urgent_turns) ∷ [];
             trace = ap (λ (es : Trace). es ++ event.Looked p (first_of s.world.urgent_turns) ∷ []) a.trace

@@ -65,125 +65,125 @@ less n l k = omega (arith, k)
 
 module _ (s : Machine) (y : Reached s) (rest : IsAtRest s) (r p : ℕ) (b : By) (steps : List Step) (new : Machine)
     (k : IsLonePoll p r b steps s new) (plain : All (λ m. m ≡ Plain) new.world.marks) (f : ℕ) (due : IsDue f s.world.trace)
-    where
-  abbrev x : RunPoll
-  x = poll s y rest r p b steps new k
+  where
+    abbrev x : RunPoll
+    x = poll s y rest r p b steps new k
 
-  idles : stack new p ≡ []
-  idles = new-idle s y rest r p b steps new k
+    idles : stack new p ≡ []
+    idles = new-idle s y rest r p b steps new k
 
-  -- it looks at the executor's plain queue
-  from-look : (look : Look) → mark_in look ≡ Plain → (m : Machine) (others : List Step) → Reached m →
-      So s.world.trace m.world → own_of m.world r ≡ [] → stack m p ≡ op.Run (run_op.SearchCommon x look) ∷ [] →
-      are_onward_of p others ≡ true → run_all others m ≡ Ok new →
-      (n : ℕ) → InLine f (suc n) (own_of m.world r ++ m.world.queues.plain.items) → Outcome r f n s.world.trace new
-  from-look look e m others z so none todo on made n q =
-      go (onward p m new [] (op.Run (run_op.SearchCommon x look)) others todo z idles on made)
-    where
-      found-so : (queue_of m.world (mark_in look)).items ≡ m.world.queues.plain.items
-      found-so = ap (λ (k : Mark). (queue_of m.world k).items) e
+    -- it looks at the executor's plain queue
+    from-look : (look : Look) → mark_in look ≡ Plain → (m : Machine) (others : List Step) → Reached m →
+        So s.world.trace m.world → own_of m.world r ≡ [] → stack m p ≡ op.Run (run_op.SearchCommon x look) ∷ [] →
+        are_onward_of p others ≡ true → run_all others m ≡ Ok new →
+        (n : ℕ) → InLine f (suc n) (own_of m.world r ++ m.world.queues.plain.items) → Outcome r f n s.world.trace new
+    from-look look e m others z so none todo on made n q =
+        go (onward p m new [] (op.Run (run_op.SearchCommon x look)) others todo z idles on made)
+      where
+        found-so : (queue_of m.world (mark_in look)).items ≡ m.world.queues.plain.items
+        found-so = ap (λ (k : Mark). (queue_of m.world k).items) e
 
-      a : After r f n m.world (search_common_by (queue_of m.world (mark_in look)).items m.world x look)
-      a = after-look look e f (suc n) n (queue_of m.world (mark_in look)).items m.world x (sym found-so) none (less n) q
+        a : After r f n m.world (search_common_by (queue_of m.world (mark_in look)).items m.world x look)
+        a = after-look look e f (suc n) n (queue_of m.world (mark_in look)).items m.world x (sym found-so) none (less n) q
 
-      go : Onward p m new [] (op.Run (run_op.SearchCommon x look)) others → Outcome r f n s.world.trace new
-      go (answered u others2 te v y2 n2 on2 l) = absurd (cc)
-      go (acted h others2 te w y2 n2 on2 l) =
-          let d : Done = search_common_by (queue_of m.world (mark_in look)).items m.world x look in
-          walks p r f n s.world.trace new idles plain (entry s.world.trace f due) others2 (with_part m p (onto p d [])) y2
-          (so-more s.world.trace m.world (onto p d []).world so
-          (more-onto m.world.trace p d [] (more-act p h (op.Run (run_op.SearchCommon x look)) m.world))
-          (gone-onto p d [] ∙ a.gone))
-          (subst (Waiting r f n (onto p d []).world) (sym (stack-set p m (onto p d []) l))
-          (after-part r f n p m.world d a.goes)) on2 n2
+        go : Onward p m new [] (op.Run (run_op.SearchCommon x look)) others → Outcome r f n s.world.trace new
+        go (answered u others2 te v y2 n2 on2 l) = absurd (cc)
+        go (acted h others2 te w y2 n2 on2 l) =
+            let d : Done = search_common_by (queue_of m.world (mark_in look)).items m.world x look in
+            walks p r f n s.world.trace new idles plain (entry s.world.trace f due) others2 (with_part m p (onto p d [])) y2
+            (so-more s.world.trace m.world (onto p d []).world so
+            (more-onto m.world.trace p d [] (more-act p h (op.Run (run_op.SearchCommon x look)) m.world))
+            (gone-onto p d [] ∙ a.gone))
+            (subst (Waiting r f n (onto p d []).world) (sym (stack-set p m (onto p d []) l))
+            (after-part r f n p m.world d a.goes)) on2 n2
 
-  -- before that at the urgent one, which is empty
-  from-first : (k : Mark) (m : Machine) (others : List Step) → Reached m → So s.world.trace m.world →
-      own_of m.world r ≡ [] → stack m p ≡ op.Run (run_op.SearchCommon x (First k)) ∷ [] →
-      are_onward_of p others ≡ true → run_all others m ≡ Ok new →
-      (n : ℕ) → InLine f (suc n) (own_of m.world r ++ m.world.queues.plain.items) → Outcome r f n s.world.trace new
-  from-first Plain m others z so none todo on made n q = from-look (First Plain) refl m others z so none todo on made n q
-  from-first Urgent m others z so none todo on made n q =
-      go (onward p m new [] (op.Run (run_op.SearchCommon x (First Urgent))) others todo z idles on made)
-    where
-      go : Onward p m new [] (op.Run (run_op.SearchCommon x (First Urgent))) others → Outcome r f n s.world.trace new
-      go (answered u others2 te v y2 n2 on2 l) = absurd (cc)
-      go (acted h others2 te w y2 n2 on2 l) =
-          let v : Part = part m.world (op.Run (run_op.SearchCommon x (Second Plain)) ∷ []) in
-          let e : search_common_by m.world.queues.urgent.items m.world x (First Urgent)
-              ≡ done m.world (op.Run (run_op.SearchCommon x (Second Plain)) ∷ []) =
-          ap (λ (ys : List ℕ). search_common_by ys m.world x (First Urgent))
-          (none-urgent m z (all-before m new others made plain)) in
-          from-look (Second Plain) refl (with_part m p v) others2
-          (subst (λ (d : Done). Reached (with_part m p (onto p d []))) e y2) so none (stack-set p m v l) on2
-          (sym (ap (λ (d : Done). run_all others2 (with_part m p (onto p d []))) e) ∙ n2) n q
+    -- before that at the urgent one, which is empty
+    from-first : (k : Mark) (m : Machine) (others : List Step) → Reached m → So s.world.trace m.world →
+        own_of m.world r ≡ [] → stack m p ≡ op.Run (run_op.SearchCommon x (First k)) ∷ [] →
+        are_onward_of p others ≡ true → run_all others m ≡ Ok new →
+        (n : ℕ) → InLine f (suc n) (own_of m.world r ++ m.world.queues.plain.items) → Outcome r f n s.world.trace new
+    from-first Plain m others z so none todo on made n q = from-look (First Plain) refl m others z so none todo on made n q
+    from-first Urgent m others z so none todo on made n q =
+        go (onward p m new [] (op.Run (run_op.SearchCommon x (First Urgent))) others todo z idles on made)
+      where
+        go : Onward p m new [] (op.Run (run_op.SearchCommon x (First Urgent))) others → Outcome r f n s.world.trace new
+        go (answered u others2 te v y2 n2 on2 l) = absurd (cc)
+        go (acted h others2 te w y2 n2 on2 l) =
+            let v : Part = part m.world (op.Run (run_op.SearchCommon x (Second Plain)) ∷ []) in
+            let e : search_common_by m.world.queues.urgent.items m.world x (First Urgent)
+            ≡ done m.world (op.Run (run_op.SearchCommon x (Second Plain)) ∷ []) =
+            ap (λ (ys : List ℕ). search_common_by ys m.world x (First Urgent))
+            (none-urgent m z (all-before m new others made plain)) in
+            from-look (Second Plain) refl (with_part m p v) others2
+            (subst (λ (d : Done). Reached (with_part m p (onto p d []))) e y2) so none (stack-set p m v l) on2
+            (sym (ap (λ (d : Done). run_all others2 (with_part m p (onto p d []))) e) ∙ n2) n q
 
-  -- it takes its turn
-  from-turn : (m : Machine) (others : List Step) → Reached m → So s.world.trace m.world → own_of m.world r ≡ [] →
-      stack m p ≡ op.Run (run_op.TakeTurn x) ∷ [] → are_onward_of p others ≡ true → run_all others m ≡ Ok new →
-      (n : ℕ) → InLine f (suc n) (own_of m.world r ++ m.world.queues.plain.items) → Outcome r f n s.world.trace new
-  from-turn m others z so none todo on made n q =
-      go (onward p m new [] (op.Run (run_op.TakeTurn x)) others todo z idles on made)
-    where
-      go : Onward p m new [] (op.Run (run_op.TakeTurn x)) others → Outcome r f n s.world.trace new
-      go (answered u others2 te v y2 n2 on2 l) = absurd (cc)
-      go (acted h others2 te w y2 n2 on2 l) =
-          let first : Mark = first_of m.world.urgent_turns in
-          let v : Part = part (turned p m.world) (op.Run (run_op.SearchCommon x (First first)) ∷ []) in
-          from-first first (with_part m p v) others2 y2 (record {
-            meanwhile = so.meanwhile ++ event.Looked p first ∷ [];
-            trace = ap (λ (es : Trace). es ++ event.Looked p first ∷ []) so.trace
-                ∙ append_assoc s.world.trace so.meanwhile (event.Looked p first ∷ []);
-            there = so.there;
-          }) none (stack-set p m v l) on2 n2 n q
+    -- it takes its turn
+    from-turn : (m : Machine) (others : List Step) → Reached m → So s.world.trace m.world → own_of m.world r ≡ [] →
+        stack m p ≡ op.Run (run_op.TakeTurn x) ∷ [] → are_onward_of p others ≡ true → run_all others m ≡ Ok new →
+        (n : ℕ) → InLine f (suc n) (own_of m.world r ++ m.world.queues.plain.items) → Outcome r f n s.world.trace new
+    from-turn m others z so none todo on made n q =
+        go (onward p m new [] (op.Run (run_op.TakeTurn x)) others todo z idles on made)
+      where
+        go : Onward p m new [] (op.Run (run_op.TakeTurn x)) others → Outcome r f n s.world.trace new
+        go (answered u others2 te v y2 n2 on2 l) = absurd (cc)
+        go (acted h others2 te w y2 n2 on2 l) =
+            let first : Mark = first_of m.world.urgent_turns in
+            let v : Part = part (turned p m.world) (op.Run (run_op.SearchCommon x (First first)) ∷ []) in
+            from-first first (with_part m p v) others2 y2 (record {
+              meanwhile = so.meanwhile ++ event.Looked p first ∷ [];
+              trace = ap (λ (es : Trace). es ++ event.Looked p first ∷ []) so.trace
+                  ∙ append_assoc s.world.trace so.meanwhile (event.Looked p first ∷ []);
+              there = so.there;
+            }) none (stack-set p m v l) on2 n2 n q
 
-  -- it searches in its own queue
-  from-search : (m : Machine) (others : List Step) → Reached m → So s.world.trace m.world →
-      stack m p ≡ op.Tick (tick_op.Search (asleep x)) ∷ [] → are_onward_of p others ≡ true →
-      run_all others m ≡ Ok new → (n : ℕ) → InLine f (suc n) (own_of m.world r ++ m.world.queues.plain.items) →
-      Outcome r f n s.world.trace new
-  from-search m others z so todo on made n q = by (own_of m.world r) refl
-    where
-      by : (own : List ℕ) → own_of m.world r ≡ own → Outcome r f n s.world.trace new
-      by [] o = go (onward p m new [] (op.Tick (tick_op.Search (asleep x))) others todo z idles on made)
-        where
-          go : Onward p m new [] (op.Tick (tick_op.Search (asleep x))) others → Outcome r f n s.world.trace new
-          go (answered u others2 te v y2 n2 on2 l) = absurd (cc)
-          go (acted h others2 te w y2 n2 on2 l) =
-              let v : Part = part m.world (op.Run (run_op.TakeTurn x) ∷ []) in
-              let e : search_own_by (own_of m.world r) m.world x ≡ done m.world (op.Run (run_op.TakeTurn x) ∷ []) =
-              ap (λ (ys : List ℕ). search_own_by ys m.world x) o in
-              from-turn (with_part m p v) others2
-              (subst (λ (d : Done). Reached (with_part m p (onto p d []))) e y2) so o (stack-set p m v l) on2
-              (sym (ap (λ (d : Done). run_all others2 (with_part m p (onto p d []))) e) ∙ n2) n q
-      by (g ∷ ys) o = go (onward p m new [] (op.Tick (tick_op.Search (asleep x))) others todo z idles on made)
-        where
-          a : After r f n m.world (search_own_by (own_of m.world r) m.world x)
-          a = after-own f (suc n) n (own_of m.world r) m.world x refl (less n) q
-              (let i : 1 ≤ length (own_of m.world r) = omega (arith, ap (λ (zs : List ℕ). length zs) o) in i)
+    -- it searches in its own queue
+    from-search : (m : Machine) (others : List Step) → Reached m → So s.world.trace m.world →
+        stack m p ≡ op.Tick (tick_op.Search (asleep x)) ∷ [] → are_onward_of p others ≡ true →
+        run_all others m ≡ Ok new → (n : ℕ) → InLine f (suc n) (own_of m.world r ++ m.world.queues.plain.items) →
+        Outcome r f n s.world.trace new
+    from-search m others z so todo on made n q = by (own_of m.world r) refl
+      where
+        by : (own : List ℕ) → own_of m.world r ≡ own → Outcome r f n s.world.trace new
+        by [] o = go (onward p m new [] (op.Tick (tick_op.Search (asleep x))) others todo z idles on made)
+          where
+            go : Onward p m new [] (op.Tick (tick_op.Search (asleep x))) others → Outcome r f n s.world.trace new
+            go (answered u others2 te v y2 n2 on2 l) = absurd (cc)
+            go (acted h others2 te w y2 n2 on2 l) =
+                let v : Part = part m.world (op.Run (run_op.TakeTurn x) ∷ []) in
+                let e : search_own_by (own_of m.world r) m.world x ≡ done m.world (op.Run (run_op.TakeTurn x) ∷ []) =
+                ap (λ (ys : List ℕ). search_own_by ys m.world x) o in
+                from-turn (with_part m p v) others2
+                (subst (λ (d : Done). Reached (with_part m p (onto p d []))) e y2) so o (stack-set p m v l) on2
+                (sym (ap (λ (d : Done). run_all others2 (with_part m p (onto p d []))) e) ∙ n2) n q
+        by (g ∷ ys) o = go (onward p m new [] (op.Tick (tick_op.Search (asleep x))) others todo z idles on made)
+          where
+            a : After r f n m.world (search_own_by (own_of m.world r) m.world x)
+            a = after-own f (suc n) n (own_of m.world r) m.world x refl (less n) q
+                (let i : 1 ≤ length (own_of m.world r) = omega (arith, ap (λ (zs : List ℕ). length zs) o) in i)
 
-          go : Onward p m new [] (op.Tick (tick_op.Search (asleep x))) others → Outcome r f n s.world.trace new
-          go (answered u others2 te v y2 n2 on2 l) = absurd (cc)
-          go (acted h others2 te w y2 n2 on2 l) =
-              let d : Done = search_own_by (own_of m.world r) m.world x in
-              walks p r f n s.world.trace new idles plain (entry s.world.trace f due) others2 (with_part m p (onto p d [])) y2
-              (so-more s.world.trace m.world (onto p d []).world so
-              (more-onto m.world.trace p d [] (more-act p h (op.Tick (tick_op.Search (asleep x))) m.world))
-              (gone-onto p d [] ∙ a.gone))
-              (subst (Waiting r f n (onto p d []).world) (sym (stack-set p m (onto p d []) l))
-              (after-part r f n p m.world d a.goes)) on2 n2
+            go : Onward p m new [] (op.Tick (tick_op.Search (asleep x))) others → Outcome r f n s.world.trace new
+            go (answered u others2 te v y2 n2 on2 l) = absurd (cc)
+            go (acted h others2 te w y2 n2 on2 l) =
+                let d : Done = search_own_by (own_of m.world r) m.world x in
+                walks p r f n s.world.trace new idles plain (entry s.world.trace f due) others2 (with_part m p (onto p d [])) y2
+                (so-more s.world.trace m.world (onto p d []).world so
+                (more-onto m.world.trace p d [] (more-act p h (op.Tick (tick_op.Search (asleep x))) m.world))
+                (gone-onto p d [] ∙ a.gone))
+                (subst (Waiting r f n (onto p d []).world) (sym (stack-set p m (onto p d []) l))
+                (after-part r f n p m.world d a.goes)) on2 n2
 
-  nearer : (n : ℕ) → InLine f (suc n) (own_of s.world r ++ s.world.queues.plain.items) → Outcome r f n s.world.trace new
-  nearer n q =
-      let a = arrived s y rest r p b steps new k in
-      from-search a.machine a.others a.here.reached (record {
-        meanwhile = a.here.so_far.meanwhile;
-        trace = a.here.so_far.trace;
-        there = a.here.so_far.there;
-      }) a.here.todo a.onward a.made n
-      (subst (λ (xs : List ℕ). InLine f (suc n) (xs ++ a.machine.world.queues.plain.items)) (sym a.here.so_far.own_is)
-      (subst (λ (xs : List ℕ). InLine f (suc n) (own_of s.world r ++ xs))
-      (sym (ap (λ (qs : Queues). qs.plain.items) a.here.so_far.common_is)) q))
+    nearer : (n : ℕ) → InLine f (suc n) (own_of s.world r ++ s.world.queues.plain.items) → Outcome r f n s.world.trace new
+    nearer n q =
+        let a = arrived s y rest r p b steps new k in
+        from-search a.machine a.others a.here.reached (record {
+          meanwhile = a.here.so_far.meanwhile;
+          trace = a.here.so_far.trace;
+          there = a.here.so_far.there;
+        }) a.here.todo a.onward a.made n
+        (subst (λ (xs : List ℕ). InLine f (suc n) (xs ++ a.machine.world.queues.plain.items)) (sym a.here.so_far.own_is)
+        (subst (λ (xs : List ℕ). InLine f (suc n) (own_of s.world r ++ xs))
+        (sym (ap (λ (qs : Queues). qs.plain.items) a.here.so_far.common_is)) q))
 
 -- lists of such polls
 

@@ -108,7 +108,7 @@ module _ (p : ℕ) (before : Trace) (x : RunPoll) (owns : List (List ℕ)) (qs :
         go (acted h others te z y n2 on2 l) =
             let v : Part = part s.world (op.List (list_op.LockRead x) ∷ []) in
             let q : search_common_by (queue_of s.world m).items s.world x (look_at.Second m)
-                ≡ done s.world (op.List (list_op.LockRead x) ∷ []) =
+            ≡ done s.world (op.List (list_op.LockRead x) ∷ []) =
             ap (λ (ys : List ℕ). search_common_by ys s.world x (look_at.Second m)) (a.so_far.common_is m) in
             record {
               machine = with_part s p v;
@@ -134,7 +134,7 @@ module _ (p : ℕ) (before : Trace) (x : RunPoll) (owns : List (List ℕ)) (qs :
         go (acted h others te z y n2 on2 l) =
             let v : Part = part s.world (op.Run (run_op.SearchCommon x (look_at.Second (other m))) ∷ []) in
             let q : search_common_by (queue_of s.world m).items s.world x (look_at.First m)
-                ≡ done s.world (op.Run (run_op.SearchCommon x (look_at.Second (other m))) ∷ []) =
+            ≡ done s.world (op.Run (run_op.SearchCommon x (look_at.Second (other m))) ∷ []) =
             ap (λ (ys : List ℕ). search_common_by ys s.world x (look_at.First m)) (a.so_far.common_is m) in
             at-second (with_part s p v) (other m) (record {
               reached = subst (λ (d : Done). Reached (with_part s p (onto p d []))) q y;

@@ -343,10 +343,12 @@ tick-turns limit kind parties steps p before next b =
     let d : Deep s = deep-there limit kind parties steps p [] before next b in
     let e : Bonded s = bonded-there limit kind parties steps p [] before next b in
     let r : IsAtRest s = rest-there limit kind parties steps p [] before next b in
-    let l : p < length s.parties = in-there limit kind parties steps p [] before next b in
-    (turn_of s, (turn-next s fine h d e r p l next b.later b.alone
-    (begun-there limit kind parties steps p [] before next b).behind
-    (ticks-there limit kind parties steps p [] before next b)).is)
+    let l : p < length s.parties = in-there limit kind parties steps p [] before next b in (
+      turn_of s,
+      (turn-next s fine h d e r p l next b.later b.alone
+          (begun-there limit kind parties steps p [] before next b).behind
+          (ticks-there limit kind parties steps p [] before next b)).is,
+    )
 
 tick-told : (limit : ℕ) (kind : Kind) (parties : ℕ) (steps : List Step) (p : ℕ) (before : Trace) (next : Event) (m : Mark) →
     BeginsAtRest p call.TryTick (event.Looked p m ∷ []) before next (run steps (start limit kind parties)).world.trace →

@@ -265,8 +265,13 @@ module _ (r : ℕ) (w : World) (os : List Op) where
     went p h None e = record { todo = z; stage = λ k. inl k }
     went p h (Some o) e = onto-kept p (act p h o w) (below_top os)
         (omega (arith, z, below (readying_of r) o e))
-        (omega (arith, z, below (readying_of r) o e, ready-act (leaves o) r p h o w refl
-            (omega (arith, i, below (astray r) o e))))
+        (omega (
+          arith,
+          z,
+          below (readying_of r) o e,
+          ready-act (leaves o) r p h o w refl
+              (omega (arith, i, below (astray r) o e)),
+        ))
         (λ k. ⊎_elim
         (λ (x : (run_of w r).stage ≡ Ended). inl x)
         (λ (x : 1 ≤ readying_of r o + dropping_of r o).
@@ -306,41 +311,41 @@ there true k e = (refl, e)
 there false k e = absurd (cc)
 
 module _ (r : ℕ) (s : Machine) (apart : weigh_all (astray r) s.parties ≡ 0) (idle : weigh_all (readying_of r) s.parties ≡ 0)
-    where
-  pub on-part : (t : Step) → part_refusal s.world s.parties (stack s (party_of t)) t ≡ None → party_of t < length s.parties →
-      OwnIsReady r s t ⊎ Kept r s.world (stack s (party_of t)) (part_after s.world (stack s (party_of t)) t)
-  on-part t e l =
-      let z : weigh (readying_of r) (stack s (party_of t)) ≡ 0 =
-      omega (arith, idle, weigh_all-set (readying_of r) s.parties (party_of t) [] l) in
-      let i : weigh (astray r) (stack s (party_of t)) ≡ 0 =
-      omega (arith, apart, weigh_all-set (astray r) s.parties (party_of t) [] l) in by t e z i
-    where
-      by : (t : Step) → part_refusal s.world s.parties (stack s (party_of t)) t ≡ None →
-          weigh (readying_of r) (stack s (party_of t)) ≡ 0 → weigh (astray r) (stack s (party_of t)) ≡ 0 →
-          OwnIsReady r s t ⊎ Kept r s.world (stack s (party_of t)) (part_after s.world (stack s (party_of t)) t)
-      by (steps_of.Begin p c) e z i = inr (begins r s.world (stack s p) z i p c (mine (top (stack s p))))
-      by (steps_of.Go p hint) e z i = inr (went r s.world (stack s p) z i p hint (top (stack s p)) refl)
-      by (steps_of.Answer p u) e z i = ⊎_elim
-          (λ (x : (x : _) × (top (stack s p) ≡ Some (op.User (user_op.PollOwn x))) × (u ≡ end.Polled answer.Ready) × (x.run ≡ r)).
-          inl (record {
-            party = p;
-            poll = x.0;
-            is = ap (λ (y : UserEnd). steps_of.Answer p y) x.2;
-            stands = x.1;
-            own = x.3;
-          }))
-          (λ (x : Kept r s.world (stack s p) (part_after s.world (stack s p) (steps_of.Answer p u))). inr x)
-          (answered r s.world (stack s p) z i p u (top (stack s p)) refl e)
+  where
+    pub on-part : (t : Step) → part_refusal s.world s.parties (stack s (party_of t)) t ≡ None → party_of t < length s.parties →
+        OwnIsReady r s t ⊎ Kept r s.world (stack s (party_of t)) (part_after s.world (stack s (party_of t)) t)
+    on-part t e l =
+        let z : weigh (readying_of r) (stack s (party_of t)) ≡ 0 =
+        omega (arith, idle, weigh_all-set (readying_of r) s.parties (party_of t) [] l) in
+        let i : weigh (astray r) (stack s (party_of t)) ≡ 0 =
+        omega (arith, apart, weigh_all-set (astray r) s.parties (party_of t) [] l) in by t e z i
+      where
+        by : (t : Step) → part_refusal s.world s.parties (stack s (party_of t)) t ≡ None →
+            weigh (readying_of r) (stack s (party_of t)) ≡ 0 → weigh (astray r) (stack s (party_of t)) ≡ 0 →
+            OwnIsReady r s t ⊎ Kept r s.world (stack s (party_of t)) (part_after s.world (stack s (party_of t)) t)
+        by (steps_of.Begin p c) e z i = inr (begins r s.world (stack s p) z i p c (mine (top (stack s p))))
+        by (steps_of.Go p hint) e z i = inr (went r s.world (stack s p) z i p hint (top (stack s p)) refl)
+        by (steps_of.Answer p u) e z i = ⊎_elim
+            (λ (x : (x : _) × (top (stack s p) ≡ Some (op.User (user_op.PollOwn x))) × (u ≡ end.Polled answer.Ready) × (x.run ≡ r)).
+            inl (record {
+              party = p;
+              poll = x.0;
+              is = ap (λ (y : UserEnd). steps_of.Answer p y) x.2;
+              stands = x.1;
+              own = x.3;
+            }))
+            (λ (x : Kept r s.world (stack s p) (part_after s.world (stack s p) (steps_of.Answer p u))). inr x)
+            (answered r s.world (stack s p) z i p u (top (stack s p)) refl e)
 
-  pub idle-still : (t : Step) → party_of t < length s.parties →
-      Kept r s.world (stack s (party_of t)) (part_after s.world (stack s (party_of t)) t) →
-      weigh_all (readying_of r) (set s.parties (party_of t) (part_after s.world (stack s (party_of t)) t).todo) ≡ 0
-  idle-still t l k = omega (
-    arith,
-    idle,
-    k.todo,
-    weigh_all-set (readying_of r) s.parties (party_of t) (part_after s.world (stack s (party_of t)) t).todo l,
-  )
+    pub idle-still : (t : Step) → party_of t < length s.parties →
+        Kept r s.world (stack s (party_of t)) (part_after s.world (stack s (party_of t)) t) →
+        weigh_all (readying_of r) (set s.parties (party_of t) (part_after s.world (stack s (party_of t)) t).todo) ≡ 0
+    idle-still t l k = omega (
+      arith,
+      idle,
+      k.todo,
+      weigh_all-set (readying_of r) s.parties (party_of t) (part_after s.world (stack s (party_of t)) t).todo l,
+    )
 
 module _ (r : ℕ) (s : Machine) (ran : RanIn s r) (apart : weigh_all (astray r) s.parties ≡ 0) (h : Lasts r s) where
   stays : (t : Step) → party_of t < length s.parties → Kept r s.world (stack s (party_of t)) (part_after s.world (stack s (party_of t)) t) →

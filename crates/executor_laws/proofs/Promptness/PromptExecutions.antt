@@ -88,9 +88,10 @@ parted p os rest o ds e (quick under x q i z f) =
     let s : Some x ≡ Some o = sym (top-last under x) ∙ (ap top (sym q ∙ e) ∙ top-last rest o) in
     let v : x ≡ o = cc in
     let r : under ≡ rest = append_cancel_right under rest (o ∷ [])
-    (ap (λ (y : Op). under ++ y ∷ []) (sym v) ∙ (sym q ∙ e)) in
-    (sym (ap (weigh hasty) r) ∙ z,
-    inr (ap quick_of (sym v) ∙ i, ap (λ (y : Op). fits y (fresh p Other ds)) (sym v) ∙ f))
+    (ap (λ (y : Op). under ++ y ∷ []) (sym v) ∙ (sym q ∙ e)) in (
+      sym (ap (weigh hasty) r) ∙ z,
+      inr (ap quick_of (sym v) ∙ i, ap (λ (y : Op). fits y (fresh p Other ds)) (sym v) ∙ f),
+    )
 
 -- a party turns to other things
 

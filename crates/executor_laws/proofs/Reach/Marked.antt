@@ -140,7 +140,7 @@ module _ (s : Machine) (fine : Good s) (h : Marked s) (m : Mark) (f : ℕ) where
   was-there k = (
     h.queued m f k,
     (let l : f < length s.world.tasks = known-in (length s.world.tasks) f (queued_in s.world) fine.fits.queue
-    (omega (arith, k, times-one f m s.world.queues)) in omega (arith, l, h.known)),
+        (omega (arith, k, times-one f m s.world.queues)) in omega (arith, l, h.known)),
   )
 
   less-first : (xs : List ℕ) → times f (drop 1 xs) ≤ times f xs
@@ -155,7 +155,7 @@ module _ (s : Machine) (fine : Good s) (h : Marked s) (m : Mark) (f : ℕ) where
       let n : g < length s.world.tasks = grind (arith, past_is) in (
         ap (mark_of s.world) x.2 ∙ j,
         (let y : f < length s.world.tasks = subst (λ (z : ℕ). z < length s.world.tasks) (sym x.2) n in
-        omega (arith, y, h.known)),
+            omega (arith, y, h.known)),
       ))
       (λ (x : (same f g ≡ 0) × (eqb f g ≡ false) × (f ≢ g)). was-there (omega (
         arith,

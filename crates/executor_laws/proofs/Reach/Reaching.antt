@@ -181,7 +181,7 @@ module _ (m : Mark) (f : ℕ) where
       let same_events : e.grown ≡ event.CallBegun t.party t.call ∷ (a.meanwhile ++ event.CallEnded t.party t.found ∷ []) =
       append_cancel_left s.world.trace e.grown _ (sym e.trace ∙ a.events) in
       let count : named m (grows (t ∷ ts) s new k).grown
-          ≡ cond (same_mark m (first_of s.world.urgent_turns)) 1 0 + named m (grows ts k.0 new k.2).grown =
+      ≡ cond (same_mark m (first_of s.world.urgent_turns)) 1 0 + named m (grows ts k.0 new k.2).grown =
       omega (
         arith,
         named-append m e.grown (grows ts k.0 new k.2).grown,
@@ -259,13 +259,13 @@ since-is : (s new : Machine) → (x : Grows s new) → since s new ≡ x.grown
 since-is s new x = ap (λ (es : Trace). drop (length s.world.trace) es) x.trace ∙ drop-append_seam s.world.trace x.grown
 
 -- the marks stay
-plain-before : (ts : List LoneSearch) (s new : Machine) → AreLoneSearches ts s new → All (λ m. m ≡ Plain) new.world.marks →
+pub plain-before : (ts : List LoneSearch) (s new : Machine) → AreLoneSearches ts s new → All (λ m. m ≡ Plain) new.world.marks →
     All (λ m. m ≡ Plain) s.world.marks
 plain-before [] s new e plain = subst (λ (x : Machine). All (λ m. m ≡ Plain) x.world.marks) (sym e) plain
 plain-before (t ∷ ts) s new k plain = all-before s k.0 (Begin t.party t.call ∷ t.steps) k.1.made
     (plain-before ts k.0 new k.2 plain)
 
-mark-plain : (ms : List Mark) → All (λ m. m ≡ Plain) ms → (f : ℕ) → get_or ms f Plain ≡ Plain
+pub mark-plain : (ms : List Mark) → All (λ m. m ≡ Plain) ms → (f : ℕ) → get_or ms f Plain ≡ Plain
 mark-plain ms k f = by (ltb f (length ms)) refl
   where
     by : (b : Bool) → ltb f (length ms) ≡ b → get_or ms f Plain ≡ Plain
@@ -273,7 +273,7 @@ mark-plain ms k f = by (ltb f (length ms)) refl
     by false e = get_or_past ms f Plain (grind (arith, nat_tests))
 
 -- no future is urgent, so none is queued there
-none-urgent : (s : Machine) → Reached s → All (λ m. m ≡ Plain) s.world.marks → (queue_of s.world Urgent).items ≡ []
+pub none-urgent : (s : Machine) → Reached s → All (λ m. m ≡ Plain) s.world.marks → (queue_of s.world Urgent).items ≡ []
 none-urgent s r plain = by (queue_of s.world Urgent).items refl
   where
     by : (xs : List ℕ) → (queue_of s.world Urgent).items ≡ xs → xs ≡ []

@@ -83,8 +83,11 @@ named-filter m (e ∷ es) = omega (arith, one (names m e), named-filter m es)
 
 named-none : (m : Mark) (es : Trace) → has is_turn es ≡ false → named m es ≡ 0
 named-none m [] k = refl
-named-none m (e ∷ es) k = omega (arith, quiet e (left-no (is_turn e) (has is_turn es) k).0,
-    named-none m es (left-no (is_turn e) (has is_turn es) k).1)
+named-none m (e ∷ es) k = omega (
+  arith,
+  quiet e (left-no (is_turn e) (has is_turn es) k).0,
+  named-none m es (left-no (is_turn e) (has is_turn es) k).1,
+)
   where
     left-no : (a b : Bool) → (a || b) ≡ false → (a ≡ false) × (b ≡ false)
     left-no true b q = absurd (cc)
@@ -287,9 +290,9 @@ module _ (p : ℕ) (new : Machine) (idle : stack new p ≡ []) (first : Op) (loo
     (settles : (v : World) (look : Look) → settled p v (looks look ∷ []) ≡ part v (looks look ∷ []))
     (turns : (h : Hint) (v : World) → act p h first v ≡ take_turn p v looks)
     (misses : (h : Hint) (v : World) (look : Look) → (queue_of v (mark_in look)).items ≡ [] →
-        act p h (looks look) v ≡ done v (missed look looks nothing))
+    act p h (looks look) v ≡ done v (missed look looks nothing))
     (hits : (h : Hint) (v : World) (look : Look) (f : ℕ) (xs : List ℕ) → (queue_of v (mark_in look)).items ≡ f ∷ xs →
-        act p h (looks look) v ≡ done (put_queue v (mark_in look) (taken (queue_of v (mark_in look)))) (hit v f))
+    act p h (looks look) v ≡ done (put_queue v (mark_in look) (taken (queue_of v (mark_in look)))) (hit v f))
     (w : World) where
   abbrev named_by : Mark
   named_by = first_of w.urgent_turns

@@ -118,17 +118,25 @@ sweeps-taken : (w : World) (mark : Mark) (o : Op) (next : List Op) → NoSteps (
 sweeps-taken w mark o next a b = sweeps-less w o _ (kept-taken w mark o next) (fewer w _ (first mark refl)) a b
 
 sweeps-take : (look : Look) (q : List ℕ) (w : World) → KeepsSweeps w (op.Queue (queue_op.Take look) ∷ []) (take_by w look q)
-sweeps-take (First mark) [] w = sweeps-same w w _ _ refl refl refl
-sweeps-take (Second mark) [] w = sweeps-same w w _ _ refl refl refl
-sweeps-take look (f ∷ rest) w = sweeps-taken w (mark_in look) _ _ refl refl
+sweeps-take (First mark) [] w = sweeps-same w w (op.Queue (queue_op.Take (First mark))) (take_by w (First mark) []).next
+    refl refl refl
+sweeps-take (Second mark) [] w = sweeps-same w w (op.Queue (queue_op.Take (Second mark))) (take_by w (Second mark) []).next
+    refl refl refl
+sweeps-take look (f ∷ rest) w =
+    sweeps-taken w (mark_in look) (op.Queue (queue_op.Take look)) (take_by w look (f ∷ rest)).next refl refl
 
 sweeps-search : (look : Look) (x : Ticker) (q : List ℕ) (w : World) (s : Sleeping) →
     KeepsSweeps w (op.Tick (tick_op.Look s look) ∷ []) (look_tick_by x w look q s)
-sweeps-search (First mark) x [] w s = sweeps-same w w _ _ refl refl refl
-sweeps-search (Second mark) x [] w s = sweeps-same w w _ _ refl refl refl
-sweeps-search look Awake (f ∷ rest) w s = sweeps-taken w (mark_in look) _ _ refl refl
-sweeps-search look (Asleep n) (f ∷ rest) w s = sweeps-taken w (mark_in look) _ _ refl refl
-sweeps-search look Left (f ∷ rest) w s = sweeps-taken w (mark_in look) _ _ refl refl
+sweeps-search (First mark) x [] w s = sweeps-same w w (op.Tick (tick_op.Look s (First mark)))
+    (look_tick_by x w (First mark) [] s).next refl refl refl
+sweeps-search (Second mark) x [] w s = sweeps-same w w (op.Tick (tick_op.Look s (Second mark)))
+    (look_tick_by x w (Second mark) [] s).next refl refl refl
+sweeps-search look Awake (f ∷ rest) w s = sweeps-taken w (mark_in look) (op.Tick (tick_op.Look s look))
+    (look_tick_by Awake w look (f ∷ rest) s).next refl refl
+sweeps-search look (Asleep n) (f ∷ rest) w s = sweeps-taken w (mark_in look) (op.Tick (tick_op.Look s look))
+    (look_tick_by (Asleep n) w look (f ∷ rest) s).next refl refl
+sweeps-search look Left (f ∷ rest) w s = sweeps-taken w (mark_in look) (op.Tick (tick_op.Look s look))
+    (look_tick_by Left w look (f ∷ rest) s).next refl refl
 
 sweeps-steal : (p : ℕ) (h : Hint) (o : StealOp) (w : World) → KeepsSweeps w (op.Steal o ∷ []) (steal_act p o w)
 sweeps-steal p h o w = sweeps-less w (op.Steal o) (steal_act p o w) (by-steal Kept kept-moves kept-put p o w)
@@ -144,7 +152,8 @@ sweeps-run p h o w =
 
 sweeps-search_who : (h : Hint) (who : TickOrRun) (p : ℕ) (w : World) (s : Sleeping) → s.who ≡ who →
     KeepsSweeps w (op.Tick (tick_op.Search s) ∷ []) (search_by_who who p w s)
-sweeps-search_who h (tick_or_run.Tick t) p w s e = sweeps-same w (turned p w) _ _ refl refl refl
+sweeps-search_who h (tick_or_run.Tick t) p w s e = sweeps-same w (turned p w) (op.Tick (tick_op.Search s))
+    (search_by_who (tick_or_run.Tick t) p w s).next refl refl refl
 sweeps-search_who h (tick_or_run.Run q) p w s e =
     let x : RunPoll = record { run = q; waker = s.waker; poll = s.poll } in
     sweeps-less w (op.Tick (tick_op.Search s)) (search_own w x) (by-search Kept kept-moves kept-put w q s e)

@@ -266,7 +266,8 @@ module _ (first more : ℕ) where
   goes-act p h (op.Closing closing_op.TakeOut) w n = goes-closing w.table w.waking
   goes-act p h (op.Closing closing_op.DropNext) w n = goes-drop_next _ p w
   goes-act p h (op.Closing closing_op.WakeNext) w n = goes-wake_next _ p w
-  goes-act p h (op.Closing (closing_op.Close mark)) w n = refl
+  goes-act p h (op.Closing (closing_op.Close Urgent)) w n = refl
+  goes-act p h (op.Closing (closing_op.Close Plain)) w n = refl
   goes-act p h (op.Closing (closing_op.Drain mark)) w n = goes-drain mark _ p w
   goes-act p h (op.Closing closing_op.LeakOut) w n = absurd (cc)
   goes-act p h (op.Closing closing_op.LeakNext) w n = absurd (cc)

@@ -1,7 +1,7 @@
--- For one_turn_of_eight_is_plain and futures_are_queued_by_their_marks.
--- What each thing that is done does to the marks and to the count of turns.
+-- For one_turn_of_eight_is_plain.
+-- What each thing that is done does to the count of turns.
 use Rattle.std.proofs.Common.{◌≡◌, ℕ, zero, suc, ◌+◌, List, [], ◌∷◌, ◌++◌, length, Bool, true, false, Result, refl, sym, ap, ◌∙◌}
-use Rattle.std.proofs.Common.{subst, arith, length-append}
+use Rattle.std.proofs.Common.{subst}
 use Rattle.std.specs.Prelude.{Option, Some, None, reverse}
 use Rattle.task_moves.specs.declared.moves.owed.Answer.{Answer}
 use Rattle.task_moves.specs.declared.moves.owed.Moved.{Moved}
@@ -54,7 +54,7 @@ use Rattle.executor_model.specs.declared.step.StepError.{StepError}
 use Rattle.executor_model.specs.declared.step.UserEnd.{UserEnd}
 use Rattle.executor_model.specs.declared.step.UserEnd.TheVariants as end
 use Rattle.executor_model.specs.Acts.{append_by, copied, copy_awaiter_by, copy_by, drain_by, drop_next_by, end_register_by}
-use Rattle.executor_model.specs.Acts.{enter_by, entered, is_output, leak_next_by, leak_out_by, leave_by, let_go_by, look_again_by}
+use Rattle.executor_model.specs.Acts.{enter_by, is_output, leak_next_by, leak_out_by, leave_by, let_go_by, look_again_by}
 use Rattle.executor_model.specs.Acts.{look_by, notify_by, register_by, take_by, wake_next_by}
 use Rattle.executor_model.specs.ActsOfRuns.{call_by_reference, counted_by, counted_to, found, kept_by, look_own_by, make_room_by}
 use Rattle.executor_model.specs.ActsOfRuns.{make_run_by, registered, reschedule_by, run_by, search_common_by, search_own_by}
@@ -70,35 +70,34 @@ use Rattle.executor_model.specs.World.{World, Ticker, Awake, Asleep, Left, Stage
 use Rattle.executor_model.specs.World.{put_own, queue_of, run_of, task}
 use Rattle.executor_model.proofs.Steps.Stepping.{step-refused, step-made}
 use Rattle.executor_laws.proofs.Marking.MarkSteps.{Changes, Keeps, changes-turned, keeps, keeps-and, keeps-call, keeps-copied}
-use Rattle.executor_laws.proofs.Marking.MarkSteps.{keeps-event, keeps-log, keeps-log_if, keeps-move, keeps-put, keeps-task}
+use Rattle.executor_laws.proofs.Marking.MarkSteps.{keeps-event, keeps-log, keeps-log_if, keeps-move, keeps-put}
 use Rattle.executor_laws.proofs.Marking.MarkSteps.{keeps-wake}
-use Rattle.executor_laws.proofs.Marking.MarkSteps.Changes.{none, turn, entry}
+use Rattle.executor_laws.proofs.Marking.MarkSteps.Changes.{none, turn}
 
 -- the table and the executor's queues
 
 m-append : (b : Bool) (w : World) (m : Mark) (f : ℕ) → Keeps w (append_by b w m f).world
-m-append true w m f = keeps _ _ refl refl refl refl
-m-append false w m f = keeps _ _ refl refl refl refl
+m-append true w m f = keeps _ _ refl refl
+m-append false w m f = keeps _ _ refl refl
 
 m-take : (look : Look) (q : List ℕ) (w : World) → Keeps w (take_by w look q).world
-m-take look [] w = keeps _ _ refl refl refl refl
-m-take look (f ∷ rest) w = keeps _ _ refl refl refl refl
+m-take look [] w = keeps _ _ refl refl
+m-take look (f ∷ rest) w = keeps _ _ refl refl
 
-m-enter : (b c : Bool) (m : Mark) (p : ℕ) (w : World) → Changes w (enter_by b c m p w).world
-m-enter true c m p w = none (keeps _ _ refl refl refl refl)
-m-enter false true m p w = none (keeps _ _ refl refl refl refl)
-m-enter false false m p w = entry m refl refl (length-append w.tasks (entered w.is_static ∷ []))
-    (keeps-log w (event.Accepted p (length w.tasks)) refl).named
+m-enter : (b c : Bool) (m : Mark) (p : ℕ) (w : World) → Keeps w (enter_by b c m p w).world
+m-enter true c m p w = keeps _ _ refl refl
+m-enter false true m p w = keeps _ _ refl refl
+m-enter false false m p w = keeps-event _ _ (event.Accepted p (length w.tasks)) refl refl refl
 
 m-leave : (b : Bool) (w : World) (f : ℕ) → Keeps w (leave_by b w f).world
-m-leave true w f = keeps _ _ refl refl refl refl
-m-leave false w f = keeps _ _ refl refl refl refl
+m-leave true w f = keeps _ _ refl refl
+m-leave false w f = keeps _ _ refl refl
 
 -- wakers and handles
 
 m-copy : (b : Bool) (w : World) (f : ℕ) (held : Hold) → Keeps w (copy_by b w f held).world
-m-copy true w f held = keeps _ _ refl refl refl refl
-m-copy false w f held = keeps-task _ _ f _ refl refl refl refl
+m-copy true w f held = keeps _ _ refl refl
+m-copy false w f held = keeps _ _ refl refl
 
 m-answered : (b : Bool) (p : ℕ) (w : World) (f : ℕ) (m : Moved) →
     Keeps w (log_if b (put w f m.state) (event.OutputGiven p f))
@@ -106,44 +105,44 @@ m-answered b p w f m = let v : World = put w f m.state in
     keeps-and w v _ (keeps-put w f m.state) (keeps-log_if b v (event.OutputGiven p f) refl)
 
 m-look : (o : Option Answer) (p : ℕ) (w : World) (f : ℕ) (a : Waker) (m : Moved) → Keeps w (look_by o p w f a m).world
-m-look None p w f a m = keeps _ _ refl refl refl refl
+m-look None p w f a m = keeps _ _ refl refl
 m-look (Some x) p w f a m = let v : World = log w (event.HandlePolled p f) in
     keeps-and w v _ (keeps-log w (event.HandlePolled p f) refl) (m-answered (is_output x) p v f m)
 
 m-again : (o : Option Answer) (p : ℕ) (w : World) (f : ℕ) (m : Moved) → Keeps w (look_again_by o p w f m).world
-m-again None p w f m = keeps _ _ refl refl refl refl
+m-again None p w f m = keeps _ _ refl refl
 m-again (Some x) p w f m = m-answered (is_output x) p w f m
 
 m-copy_awaiter : (b : Bool) (p : ℕ) (w : World) (f : ℕ) (a : Waker) → Keeps w (copy_awaiter_by b p w f a).world
-m-copy_awaiter true p w f a = keeps _ _ refl refl refl refl
+m-copy_awaiter true p w f a = keeps _ _ refl refl
 m-copy_awaiter false p w f a = let v : World = copied w a in
     keeps-and w v _ (keeps-copied w a) (keeps-log v (event.HandlePolled p f) refl)
 
 m-register : (b : Bool) (w : World) (f : ℕ) (a : Waker) (k : ℕ) → Keeps w (register_by b w f a k).world
-m-register true w f a k = keeps-task _ _ f _ refl refl refl refl
-m-register false w f a k = keeps-task _ _ f _ refl refl refl refl
+m-register true w f a k = keeps _ _ refl refl
+m-register false w f a k = keeps _ _ refl refl
 
 m-end_register : (b : Bool) (w : World) (f : ℕ) (a : Waker) (k : ℕ) → Keeps w (end_register_by b w f a k).world
-m-end_register true w f a k = keeps-task _ _ f _ refl refl refl refl
-m-end_register false w f a k = keeps-task _ _ f _ refl refl refl refl
+m-end_register true w f a k = keeps _ _ refl refl
+m-end_register false w f a k = keeps _ _ refl refl
 
 m-notify : (b : Bool) (w : World) (f : ℕ) (mine : Bool) → Keeps w (notify_by b w f mine).world
-m-notify true w f mine = keeps-task _ _ f _ refl refl refl refl
-m-notify false w f mine = keeps-task _ _ f _ refl refl refl refl
+m-notify true w f mine = keeps _ _ refl refl
+m-notify false w f mine = keeps _ _ refl refl
 
 m-let_go : (b : Bool) (w : World) (f : ℕ) → Keeps w (let_go_by b w f).world
-m-let_go true w f = keeps _ _ refl refl refl refl
-m-let_go false w f = keeps-task _ _ f _ refl refl refl refl
+m-let_go true w f = keeps _ _ refl refl
+m-let_go false w f = keeps _ _ refl refl
 
 -- the sleepers
 
 m-exchange : (b : Bool) (w : World) → Keeps w (exchange_by b w).world
-m-exchange true w = keeps _ _ refl refl refl refl
-m-exchange false w = keeps _ _ refl refl refl refl
+m-exchange true w = keeps _ _ refl refl
+m-exchange false w = keeps _ _ refl refl
 
 m-hand_out : (b : Bool) (o : Option Sleeping) (w : World) → Keeps w (hand_out_by b o w).world
-m-hand_out true o w = keeps _ _ refl refl refl refl
-m-hand_out false o w = keeps _ _ refl refl refl refl
+m-hand_out true o w = keeps _ _ refl refl
+m-hand_out false o w = keeps _ _ refl refl
 
 m-sleeper : (p : ℕ) (o : SleeperOp) (w : World) → Keeps w (sleeper_act p o w).world
 m-sleeper p sleeper_op.ExchangeFlag w = m-exchange _ w
@@ -153,60 +152,60 @@ m-sleeper p (sleeper_op.CallSleeper s) w = keeps-call p w (polled_as s.who) s.wa
 -- the executor's drop and leak
 
 m-drop_next : (p : ℕ) (w : World) (ls : List ℕ) → Keeps w (drop_next_by p w ls).world
-m-drop_next p w [] = keeps _ _ refl refl refl refl
-m-drop_next p w (f ∷ rest) = keeps-event _ _ (event.Dropped p f) refl refl refl refl refl
+m-drop_next p w [] = keeps _ _ refl refl
+m-drop_next p w (f ∷ rest) = keeps-event _ _ (event.Dropped p f) refl refl refl
 
 m-wake_next : (p : ℕ) (w : World) (ws : List ℕ) → Keeps w (wake_next_by p w ws).world
-m-wake_next p w [] = keeps _ _ refl refl refl refl
+m-wake_next p w [] = keeps _ _ refl refl
 m-wake_next p w (f ∷ rest) = let v : World = record w { waking = rest } in
-    keeps-and w v _ (keeps w v refl refl refl refl) (keeps-wake p v f)
+    keeps-and w v _ (keeps w v refl refl) (keeps-wake p v f)
 
 m-leak_out : (b : Bool) (w : World) → Keeps w (leak_out_by b w).world
-m-leak_out true w = keeps _ _ refl refl refl refl
-m-leak_out false w = keeps _ _ refl refl refl refl
+m-leak_out true w = keeps _ _ refl refl
+m-leak_out false w = keeps _ _ refl refl
 
 m-leak_next : (b : Bool) (p : ℕ) (w : World) (ws : List ℕ) → Keeps w (leak_next_by b p w ws).world
-m-leak_next true p w ws = keeps _ _ refl refl refl refl
-m-leak_next false p w [] = keeps _ _ refl refl refl refl
+m-leak_next true p w ws = keeps _ _ refl refl
+m-leak_next false p w [] = keeps _ _ refl refl
 m-leak_next false p w (f ∷ rest) = let v : World = (wake_next_by p w (f ∷ rest)).world in
     keeps-and w v _ (m-wake_next p w (f ∷ rest)) (keeps-log v (event.Leaked p f) refl)
 
 m-drain : (m : Mark) (p : ℕ) (w : World) (q : List ℕ) → Keeps w (drain_by p w m q).world
-m-drain Urgent p w [] = keeps _ _ refl refl refl refl
+m-drain Urgent p w [] = keeps _ _ refl refl
 m-drain Plain p w [] = keeps-log w (event.DropEnded p) refl
-m-drain m p w (f ∷ rest) = keeps _ _ refl refl refl refl
+m-drain m p w (f ∷ rest) = keeps _ _ refl refl
 
 -- runs
 
 m-run_by : (b : Bool) (w : World) (x : RunPoll) (f : ℕ) → Keeps w (run_by b w x f).world
-m-run_by true w x f = keeps _ _ refl refl refl refl
-m-run_by false w x f = keeps _ _ refl refl refl refl
+m-run_by true w x f = keeps _ _ refl refl
+m-run_by false w x f = keeps _ _ refl refl
 
 m-counted : (b : Bool) (w : World) (x : RunPoll) (f : ℕ) → Keeps w (counted_by b w x f).world
-m-counted true w x f = keeps _ _ refl refl refl refl
+m-counted true w x f = keeps _ _ refl refl
 m-counted false w x f = let v : World = counted_to w x.run ((run_of w x.run).counted + 1) in
-    keeps-and w v _ (keeps w v refl refl refl refl) (m-run_by _ v x f)
+    keeps-and w v _ (keeps w v refl refl) (m-run_by _ v x f)
 
 m-found : (w : World) (x : RunPoll) (f : ℕ) → Keeps w (found w x f).world
 m-found w x f = m-counted _ w x f
 
 m-stolen : (t : Then) (w : World) (x : RunPoll) → Keeps w (stolen t w x).world
 m-stolen (then.Found f) w x = m-found w x f
-m-stolen (then.StealPlain f) w x = keeps _ _ refl refl refl refl
+m-stolen (then.StealPlain f) w x = keeps _ _ refl refl
 m-stolen (then.Run f) w x = m-run_by _ w x f
-m-stolen (then.Walk at left) w x = keeps _ _ refl refl refl refl
+m-stolen (then.Walk at left) w x = keeps _ _ refl refl
 
 m-length : (n : ℕ) (w : World) (s : Steal) → Keeps w (steal_length_by n w s).world
 m-length zero w s = m-stolen s.then w s.poll
-m-length (suc n) w s = keeps _ _ refl refl refl refl
+m-length (suc n) w s = keeps _ _ refl refl
 
 m-more : (n : ℕ) (w : World) (s : Steal) → Keeps w (steal_by n w s).world
 m-more zero w s = m-stolen s.then w s.poll
-m-more (suc n) w s = keeps _ _ refl refl refl refl
+m-more (suc n) w s = keeps _ _ refl refl
 
 m-first : (from : Source) (w : World) (rest : List ℕ) → Keeps w (without_first w from rest)
-m-first (Common m) w rest = keeps _ _ refl refl refl refl
-m-first (Own r) w rest = keeps _ _ refl refl refl refl
+m-first (Common m) w rest = keeps _ _ refl refl
+m-first (Own r) w rest = keeps _ _ refl refl
 
 m-taken : (q : List ℕ) (w : World) (s : Steal) (more : ℕ) → Keeps w (steal_take_by q w s more).world
 m-taken [] w s more = m-stolen s.then w s.poll
@@ -214,7 +213,7 @@ m-taken (f ∷ rest) w s more = m-first s.from w rest
 
 m-put : (b : Bool) (p : ℕ) (w : World) (s : Steal) (more f : ℕ) → Keeps w (steal_put_by b p w s more f).world
 m-put true p w s more f = let v : World = kept_by p w s.poll.run f in
-    keeps-and w v _ (keeps-event w v (event.Kept p f s.poll.run) refl refl refl refl refl) (m-more more v s)
+    keeps-and w v _ (keeps-event w v (event.Kept p f s.poll.run) refl refl refl) (m-more more v s)
 m-put false p w s more f = m-stolen s.then w s.poll
 
 m-steal : (p : ℕ) (o : StealOp) (w : World) → Keeps w (steal_act p o w).world
@@ -224,38 +223,38 @@ m-steal p (steal_op.Take s more) w = m-taken _ w s more
 m-steal p (steal_op.Put s more f) w = m-put _ p w s more f
 
 m-own : (q : List ℕ) (w : World) (x : RunPoll) → Keeps w (search_own_by q w x).world
-m-own [] w x = keeps _ _ refl refl refl refl
+m-own [] w x = keeps _ _ refl refl
 m-own (f ∷ rest) w x = let v : World = put_own w x.run rest in
-    keeps-and w v _ (keeps w v refl refl refl refl) (m-found v x f)
+    keeps-and w v _ (keeps w v refl refl) (m-found v x f)
 
 m-common : (look : Look) (q : List ℕ) (w : World) (x : RunPoll) → Keeps w (search_common_by q w x look).world
-m-common look [] w x = keeps _ _ refl refl refl refl
-m-common look (f ∷ rest) w x = keeps _ _ refl refl refl refl
+m-common look [] w x = keeps _ _ refl refl
+m-common look (f ∷ rest) w x = keeps _ _ refl refl
 
 m-look_own : (q : List ℕ) (w : World) (x : RunPoll) (at left : ℕ) → Keeps w (look_own_by q w x at left).world
-m-look_own [] w x at left = keeps _ _ refl refl refl refl
+m-look_own [] w x at left = keeps _ _ refl refl
 m-look_own (f ∷ rest) w x at left = let v : World = put_own w x.run rest in
-    keeps-and w v _ (keeps w v refl refl refl refl) (m-found v x f)
+    keeps-and w v _ (keeps w v refl refl) (m-found v x f)
 
 m-reference : (p : ℕ) (w : World) (a : Waker) → Keeps w (call_by_reference p w a).world
 m-reference p w (Task g) = keeps-move true move.WakeByReference p w g
-m-reference p w (Outside y) = keeps _ _ refl refl refl refl
+m-reference p w (Outside y) = keeps _ _ refl refl
 
 m-wake_own : (p : ℕ) (w : World) (x : RunPoll) → Keeps w (wake_own p w x).world
 m-wake_own p w x = let v : World = log w (event.WakerCalled p (of.Run x.run) x.poll x.waker) in
     keeps-and w v _ (keeps-log w (event.WakerCalled p (of.Run x.run) x.poll x.waker) refl) (m-reference p v x.waker)
 
 m-reschedule : (q : List ℕ) (w : World) (r : ℕ) (a : Reply) → Keeps w (reschedule_by q w r a).world
-m-reschedule [] w r a = keeps _ _ refl refl refl refl
-m-reschedule (f ∷ rest) w r a = keeps _ _ refl refl refl refl
+m-reschedule [] w r a = keeps _ _ refl refl
+m-reschedule (f ∷ rest) w r a = keeps _ _ refl refl
 
 m-room : (b : Bool) (w : World) → Keeps w (make_room_by b w).world
-m-room true w = keeps _ _ refl refl refl refl
-m-room false w = keeps _ _ refl refl refl refl
+m-room true w = keeps _ _ refl refl
+m-room false w = keeps _ _ refl refl
 
 m-run : (p : ℕ) (h : Hint) (o : RunOp) (w : World) → Changes w (run_act p h o w).world
 m-run p h run_op.MakeRoom w = none (m-room _ w)
-m-run p h run_op.ReturnRoom w = none (keeps _ _ refl refl refl refl)
+m-run p h run_op.ReturnRoom w = none (keeps _ _ refl refl)
 m-run p h (run_op.TakeTurn x) w = changes-turned p w
 m-run p h (run_op.SearchCommon x look) w = none (m-common look _ w x)
 m-run p h (run_op.LookOwn x at left) w = none (m-look_own _ w x at left)
@@ -265,67 +264,67 @@ m-run p h (run_op.Reschedule r a) w = none (m-reschedule _ w r a)
 -- the list of queues
 
 m-make_run : (b : Bool) (w : World) → Keeps w (make_run_by b w).world
-m-make_run true w = keeps _ _ refl refl refl refl
-m-make_run false w = keeps _ _ refl refl refl refl
+m-make_run true w = keeps _ _ refl refl
+m-make_run false w = keeps _ _ refl refl
 
 m-registered : (t : Stage) (w : World) (r : ℕ) → Keeps w (registered t w r)
-m-registered New w r = keeps _ _ refl refl refl refl
-m-registered Listed w r = keeps _ _ refl refl refl refl
-m-registered Ended w r = keeps _ _ refl refl refl refl
+m-registered New w r = keeps _ _ refl refl
+m-registered Listed w r = keeps _ _ refl refl
+m-registered Ended w r = keeps _ _ refl refl
 
 m-list : (h : Hint) (o : ListOp) (w : World) → Keeps w (list_act h o w).world
-m-list h (list_op.LockWrite s) w = keeps _ _ refl refl refl refl
+m-list h (list_op.LockWrite s) w = keeps _ _ refl refl
 m-list h (list_op.Write section.MakeRun) w = m-make_run _ w
 m-list h (list_op.Write (section.Register x)) w = m-registered _ w x.run
-m-list h (list_op.Write (section.Unregister r a)) w = keeps _ _ refl refl refl refl
-m-list h list_op.UnlockWrite w = keeps _ _ refl refl refl refl
-m-list h (list_op.LockRead x) w = keeps _ _ refl refl refl refl
-m-list h list_op.UnlockRead w = keeps _ _ refl refl refl refl
+m-list h (list_op.Write (section.Unregister r a)) w = keeps _ _ refl refl
+m-list h list_op.UnlockWrite w = keeps _ _ refl refl
+m-list h (list_op.LockRead x) w = keeps _ _ refl refl
+m-list h list_op.UnlockRead w = keeps _ _ refl refl
 
 -- ticks and runs
 
 m-make_tick : (b : Bool) (w : World) → Keeps w (make_tick_by b w).world
-m-make_tick true w = keeps _ _ refl refl refl refl
-m-make_tick false w = keeps _ _ refl refl refl refl
+m-make_tick true w = keeps _ _ refl refl
+m-make_tick false w = keeps _ _ refl refl
 
 m-search : (who : TickOrRun) (p : ℕ) (w : World) (s : Sleeping) → Changes w (search_by_who who p w s).world
 m-search (tick_or_run.Tick t) p w s = changes-turned p w
 m-search (tick_or_run.Run r) p w s = none (m-own _ w _)
 
 m-look_tick : (look : Look) (x : Ticker) (w : World) (q : List ℕ) (s : Sleeping) → Keeps w (look_tick_by x w look q s).world
-m-look_tick look x w [] s = keeps _ _ refl refl refl refl
-m-look_tick look x w (f ∷ rest) s = keeps _ _ refl refl refl refl
+m-look_tick look x w [] s = keeps _ _ refl refl
+m-look_tick look x w (f ∷ rest) s = keeps _ _ refl refl
 
 m-copy_sleeper : (b : Bool) (w : World) (s : Sleeping) → Keeps w (copy_sleeper_by b w s).world
-m-copy_sleeper true w s = keeps _ _ refl refl refl refl
+m-copy_sleeper true w s = keeps _ _ refl refl
 m-copy_sleeper false w s = keeps-copied w s.waker
 
 m-anew : (b : Bool) (w : World) (s : Sleeping) → Keeps w (sleep_anew_by b w s).world
-m-anew true w s = keeps _ _ refl refl refl refl
-m-anew false w s = keeps _ _ refl refl refl refl
+m-anew true w s = keeps _ _ refl refl
+m-anew false w s = keeps _ _ refl refl
 
 m-listed : (b : Bool) (w : World) (n : ℕ) (s : Sleeping) → Keeps w (sleep_listed_by b w n s).world
-m-listed true w n s = keeps _ _ refl refl refl refl
-m-listed false w n s = keeps _ _ refl refl refl refl
+m-listed true w n s = keeps _ _ refl refl
+m-listed false w n s = keeps _ _ refl refl
 
 m-sleep_again : (o : Option ℕ) (w : World) (n : ℕ) (s : Sleeping) → Keeps w (sleep_again_by o w n s).world
-m-sleep_again (Some at) w n s = keeps _ _ refl refl refl refl
+m-sleep_again (Some at) w n s = keeps _ _ refl refl
 m-sleep_again None w n s = m-listed _ w n s
 
 m-fall_asleep : (x : Ticker) (w : World) (s : Sleeping) → Keeps w (fall_asleep_by x w s).world
 m-fall_asleep Awake w s = m-anew _ w s
 m-fall_asleep (Asleep n) w s = m-sleep_again _ w n s
-m-fall_asleep Left w s = keeps _ _ refl refl refl refl
+m-fall_asleep Left w s = keeps _ _ refl refl
 
 m-wake_up : (x : Ticker) (w : World) (who : TickOrRun) → Keeps w (wake_up_by x w who).world
-m-wake_up Awake w who = keeps _ _ refl refl refl refl
-m-wake_up (Asleep n) w who = keeps _ _ refl refl refl refl
-m-wake_up Left w who = keeps _ _ refl refl refl refl
+m-wake_up Awake w who = keeps _ _ refl refl
+m-wake_up (Asleep n) w who = keeps _ _ refl refl
+m-wake_up Left w who = keeps _ _ refl refl
 
 m-leave_sleepers : (x : Ticker) (w : World) (who : TickOrRun) → Keeps w (leave_sleepers_by x w who).world
-m-leave_sleepers Awake w who = keeps _ _ refl refl refl refl
-m-leave_sleepers (Asleep n) w who = keeps _ _ refl refl refl refl
-m-leave_sleepers Left w who = keeps _ _ refl refl refl refl
+m-leave_sleepers Awake w who = keeps _ _ refl refl
+m-leave_sleepers (Asleep n) w who = keeps _ _ refl refl
+m-leave_sleepers Left w who = keeps _ _ refl refl
 
 m-tick : (p : ℕ) (h : Hint) (o : TickOp) (w : World) → Changes w (tick_act p h o w).world
 m-tick p h tick_op.MakeTick w = none (m-make_tick _ w)
@@ -340,7 +339,7 @@ m-tick p h (tick_op.Leave who) w = none (m-leave_sleepers _ w who)
 
 changes-act : (p : ℕ) (h : Hint) (o : Op) (w : World) → Changes w (act p h o w).world
 changes-act p h (op.Move m f) w = none (keeps-move _ m p w f)
-changes-act p h (op.Table (table_op.Enter m)) w = m-enter _ _ m p w
+changes-act p h (op.Table (table_op.Enter m)) w = none (m-enter _ _ m p w)
 changes-act p h (op.Table (table_op.LeaveTable f)) w = none (m-leave _ w f)
 changes-act p h (op.Queue queue_op.TakeTurn) w = changes-turned p w
 changes-act p h (op.Queue (queue_op.Take look)) w = none (m-take look _ w)
@@ -357,7 +356,7 @@ changes-act p h (op.Handle (handle_op.EndRegister f a k)) w = none (m-end_regist
 changes-act p h (op.Handle (handle_op.LookAgain f)) w =
     none (m-again (moves.look_again (task w f)).owed.answer p w f (moves.look_again (task w f)))
 changes-act p h (op.Handle (handle_op.Notify f mine)) w = none (m-notify _ w f mine)
-changes-act p h (op.Handle (handle_op.EndNotify f mine)) w = none (keeps-task _ _ f _ refl refl refl refl)
+changes-act p h (op.Handle (handle_op.EndNotify f mine)) w = none (keeps _ _ refl refl)
 changes-act p h (op.Handle (handle_op.LetGo f)) w = none (m-let_go _ w f)
 changes-act p h (op.Sleeper o) w = none (m-sleeper p o w)
 changes-act p h (op.Tick o) w = m-tick p h o w
@@ -370,50 +369,49 @@ changes-act p h (op.Closing (closing_op.Drain m)) w = none (m-drain m p w (queue
 changes-act p h (op.Closing closing_op.LeakOut) w = none (m-leak_out _ w)
 changes-act p h (op.Closing closing_op.LeakNext) w = none (m-leak_next _ p w w.waking)
 changes-act p h (op.End r held) w = none (keeps-log w (event.CallEnded p r) refl)
-changes-act p h _ w = none (keeps _ _ refl refl refl refl)
+changes-act p h _ w = none (keeps _ _ refl refl)
 
 m-react : (p : ℕ) (o : Op) (u : UserEnd) (w : World) → Keeps w (react p o u w).world
 m-react p (op.User (user_op.Poll f)) (end.Polled answer.Pending) w = keeps-log w (event.Answered p f answer.Pending) refl
 m-react p (op.User (user_op.Poll f)) (end.Polled answer.Ready) w = keeps-log w (event.Answered p f answer.Ready) refl
-m-react p (op.User (user_op.Poll f)) end.Done w = keeps _ _ refl refl refl refl
-m-react p (op.User (user_op.PollOwn x)) (end.Polled answer.Pending) w = keeps _ _ refl refl refl refl
-m-react p (op.User (user_op.PollOwn x)) (end.Polled answer.Ready) w = keeps _ _ refl refl refl refl
-m-react p (op.User (user_op.PollOwn x)) end.Done w = keeps _ _ refl refl refl refl
-m-react p _ _ w = keeps _ _ refl refl refl refl
+m-react p (op.User (user_op.Poll f)) end.Done w = keeps _ _ refl refl
+m-react p (op.User (user_op.PollOwn x)) (end.Polled answer.Pending) w = keeps _ _ refl refl
+m-react p (op.User (user_op.PollOwn x)) (end.Polled answer.Ready) w = keeps _ _ refl refl
+m-react p (op.User (user_op.PollOwn x)) end.Done w = keeps _ _ refl refl
+m-react p _ _ w = keeps _ _ refl refl
 
 m-with : (w : World) (o : Option ℕ) (d : ℕ → Done) → ((f : ℕ) → Keeps w (d f).world) → Keeps w (with_future w o d).world
 m-with w (Some f) d k = k f
-m-with w None d k = keeps _ _ refl refl refl refl
+m-with w None d k = keeps _ _ refl refl
 
 m-begun : (p : ℕ) (w : World) (here : Option Waker) (c : Call) → Keeps w (begun p w here c).world
-m-begun p w here (call.Wake k) = m-with w (kept w k) _ (λ f. keeps _ _ refl refl refl refl)
-m-begun p w here (call.WakeByRef k) = m-with w (kept w k) _ (λ f. keeps _ _ refl refl refl refl)
-m-begun p w here (call.Copy k) = m-with w (kept w k) _ (λ f. keeps _ _ refl refl refl refl)
-m-begun p w here (call.DropWaker k) = m-with w (kept w k) _ (λ f. keeps _ _ refl refl refl refl)
-m-begun p w here call.Keep = m-with w (future_of here) _ (λ f. keeps _ _ refl refl refl refl)
-m-begun p w here call.WakeSelf = m-with w (future_of here) _ (λ f. keeps _ _ refl refl refl refl)
+m-begun p w here (call.Wake k) = m-with w (kept w k) _ (λ f. keeps _ _ refl refl)
+m-begun p w here (call.WakeByRef k) = m-with w (kept w k) _ (λ f. keeps _ _ refl refl)
+m-begun p w here (call.Copy k) = m-with w (kept w k) _ (λ f. keeps _ _ refl refl)
+m-begun p w here (call.DropWaker k) = m-with w (kept w k) _ (λ f. keeps _ _ refl refl)
+m-begun p w here call.Keep = m-with w (future_of here) _ (λ f. keeps _ _ refl refl)
+m-begun p w here call.WakeSelf = m-with w (future_of here) _ (λ f. keeps _ _ refl refl)
 m-begun p w here (call.PollTick t b) = keeps-log w (event.TickPolled p t) refl
 m-begun p w here (call.DropTick t) = keeps-log w (event.TickDropped p t) refl
 m-begun p w here (call.PollRun r b) = keeps-log w (event.RunPolled p r) refl
-m-begun p w here (call.DropRun r) = keeps-event _ _ (event.RunDropped p r) refl refl refl refl refl
-m-begun p w here call.DropExecutor = keeps-event _ _ (event.DropBegun p) refl refl refl refl refl
-m-begun p w here _ = keeps _ _ refl refl refl refl
+m-begun p w here (call.DropRun r) = keeps-event _ _ (event.RunDropped p r) refl refl refl
+m-begun p w here call.DropExecutor = keeps-event _ _ (event.DropBegun p) refl refl refl
+m-begun p w here _ = keeps _ _ refl refl
 
 -- each step
 
 m-settled : (r : Option Reply) (p : ℕ) (w : World) (os : List Op) → Keeps w (settled_by r p w os).world
-m-settled None p w os = keeps _ _ refl refl refl refl
+m-settled None p w os = keeps _ _ refl refl
 m-settled (Some r) p w os = keeps-log w (event.CallEnded p r) refl
 
 -- behind it things are kept
 pub changes-and : (w v u : World) → Changes w v → Keeps v u → Changes w u
 changes-and w v u (none k) z = none (keeps-and w v u k z)
-changes-and w v u (turn a b c d) z = turn (z.turns ∙ a) (z.marks ∙ b) (z.tasks ∙ c) (z.named ∙ d)
-changes-and w v u (entry m a b c d) z = entry m (z.turns ∙ a) (z.marks ∙ b) (z.tasks ∙ c) (z.named ∙ d)
+changes-and w v u (turn a b) z = turn (z.turns ∙ a) (z.named ∙ b)
 
 m-gone : (p : ℕ) (w : World) (os : List Op) (x : Option Op) (d : Op → Done) → ((o : Op) → Changes w (d o).world) →
     Changes w (gone_on p w os x d).world
-m-gone p w os None d k = none (keeps _ _ refl refl refl refl)
+m-gone p w os None d k = none (keeps _ _ refl refl)
 m-gone p w os (Some o) d k = changes-and w (d o).world _ (k o)
     (m-settled _ p (d o).world (below_top os ++ reverse (d o).next))
 
@@ -435,4 +433,4 @@ changes-step s t = go (refusal s t) refl
     go None e = subst (λ (x : Result Machine StepError). Changes s.world (stepped s x).world) (sym (step-made s t e))
         (m-after s t)
     go (Some error) e = subst (λ (x : Result Machine StepError). Changes s.world (stepped s x).world)
-        (sym (step-refused s t error e)) (none (keeps _ _ refl refl refl refl))
+        (sym (step-refused s t error e)) (none (keeps _ _ refl refl))

@@ -1,9 +1,7 @@
--- For one_turn_of_eight_is_plain and futures_are_queued_by_their_marks.
--- What changes the marks and the count of turns: a turn counts one and names the queue that it looks at first, an acceptance adds
--- a mark, and what else changes a world keeps them.
-use Rattle.std.proofs.Common.{◌≡◌, ℕ, ◌+◌, List, [], ◌∷◌, ◌++◌, length, Bool, true, false, refl, ap, ◌∙◌, append-nil}
-use Rattle.std.proofs.lemmas.List.{length-set}
-use Rattle.std.specs.Prelude.{slice_set}
+-- For one_turn_of_eight_is_plain.
+-- What changes the count of turns: a turn counts one and names the queue that it looks at first, and what else changes a world
+-- keeps it.
+use Rattle.std.proofs.Common.{◌≡◌, ℕ, List, [], ◌∷◌, ◌++◌, Bool, true, false, refl, ap, ◌∙◌, append-nil}
 use Rattle.task_moves.specs.declared.moves.owed.Move.{Move}
 use Rattle.task_moves.specs.declared.moves.owed.Move.TheVariants as move
 use Rattle.task_moves.specs.declared.moves.state.State.{State}
@@ -27,57 +25,32 @@ looked-append (_ ∷ xs) ys = looked-append xs ys
 
 pub record Keeps (w v : World) : Type 0 where
   pub turns : v.urgent_turns ≡ w.urgent_turns
-  pub marks : v.marks ≡ w.marks
-  pub tasks : length v.tasks ≡ length w.tasks
   pub named : looked v.trace ≡ looked w.trace
 
-pub keeps : (w v : World) → v.urgent_turns ≡ w.urgent_turns → v.marks ≡ w.marks → v.tasks ≡ w.tasks → v.trace ≡ w.trace →
-    Keeps w v
-keeps w v a b c d = record {
-  turns = a;
-  marks = b;
-  tasks = ap (λ (xs : List State). length xs) c;
-  named = ap looked d;
-}
+pub keeps : (w v : World) → v.urgent_turns ≡ w.urgent_turns → v.trace ≡ w.trace → Keeps w v
+keeps w v a d = record { turns = a; named = ap looked d }
 
 pub keeps-and : (w v u : World) → Keeps w v → Keeps v u → Keeps w u
-keeps-and w v u a b = record {
-  turns = b.turns ∙ a.turns;
-  marks = b.marks ∙ a.marks;
-  tasks = b.tasks ∙ a.tasks;
-  named = b.named ∙ a.named;
-}
-
--- a task is put
-pub keeps-task : (w v : World) (f : ℕ) (s : State) → v.urgent_turns ≡ w.urgent_turns → v.marks ≡ w.marks →
-    v.tasks ≡ slice_set w.tasks f s → v.trace ≡ w.trace → Keeps w v
-keeps-task w v f s a b c d = record {
-  turns = a;
-  marks = b;
-  tasks = ap (λ (xs : List State). length xs) c ∙ length-set w.tasks f s;
-  named = ap looked d;
-}
+keeps-and w v u a b = record { turns = b.turns ∙ a.turns; named = b.named ∙ a.named }
 
 -- it is told of what is no turn
-pub keeps-event : (w v : World) (e : Event) → v.urgent_turns ≡ w.urgent_turns → v.marks ≡ w.marks → v.tasks ≡ w.tasks →
-    v.trace ≡ w.trace ++ e ∷ [] → looked (e ∷ []) ≡ [] → Keeps w v
-keeps-event w v e a b c d z = record {
+pub keeps-event : (w v : World) (e : Event) → v.urgent_turns ≡ w.urgent_turns → v.trace ≡ w.trace ++ e ∷ [] →
+    looked (e ∷ []) ≡ [] → Keeps w v
+keeps-event w v e a d z = record {
   turns = a;
-  marks = b;
-  tasks = ap (λ (xs : List State). length xs) c;
   named = ap looked d ∙ (looked-append w.trace (e ∷ [])
       ∙ (ap (λ (ms : List Mark). looked w.trace ++ ms) z ∙ append-nil (looked w.trace)));
 }
 
 pub keeps-log : (w : World) (e : Event) → looked (e ∷ []) ≡ [] → Keeps w (log w e)
-keeps-log w e z = keeps-event w (log w e) e refl refl refl refl z
+keeps-log w e z = keeps-event w (log w e) e refl refl z
 
 pub keeps-log_if : (b : Bool) (w : World) (e : Event) → looked (e ∷ []) ≡ [] → Keeps w (log_if b w e)
 keeps-log_if true w e z = keeps-log w e z
-keeps-log_if false w e z = keeps w w refl refl refl refl
+keeps-log_if false w e z = keeps w w refl refl
 
 pub keeps-put : (w : World) (f : ℕ) (s : State) → Keeps w (put w f s)
-keeps-put w f s = keeps-task w (put w f s) f s refl refl refl refl
+keeps-put w f s = keeps w (put w f s) refl refl
 
 -- the moves of a task
 
@@ -96,7 +69,7 @@ keeps-move true m p w f =
     (keeps-and v u (put u f (moves.after m (task w f)).state)
     (keeps-log_if (is_last_waker m (task w f)) v (event.LastWaker p f) refl)
     (keeps-put u f (moves.after m (task w f)).state))
-keeps-move false m p w f = keeps w w refl refl refl refl
+keeps-move false m p w f = keeps w w refl refl
 
 pub keeps-wake : (p : ℕ) (w : World) (f : ℕ) → Keeps w (wake p w f).world
 keeps-wake p w f = keeps-move true move.Wake p w f
@@ -108,15 +81,13 @@ keeps-call p w o (Outside x) k = keeps-log w (event.WakerCalled p o k (Outside x
 
 pub keeps-copied : (w : World) (a : Waker) → Keeps w (copied w a)
 keeps-copied w (Task g) = keeps-put w g _
-keeps-copied w (Outside x) = keeps w w refl refl refl refl
+keeps-copied w (Outside x) = keeps w w refl refl
 
 -- what a thing to do does to them
 pub data Changes (w v : World) : Type 0 where
   none : Keeps w v → Changes w v
-  turn : v.urgent_turns ≡ turn_after w.urgent_turns → v.marks ≡ w.marks → length v.tasks ≡ length w.tasks →
-      looked v.trace ≡ looked w.trace ++ first_of w.urgent_turns ∷ [] → Changes w v
-  entry : (m : Mark) → v.urgent_turns ≡ w.urgent_turns → v.marks ≡ w.marks ++ m ∷ [] → length v.tasks ≡ length w.tasks + 1 →
-      looked v.trace ≡ looked w.trace → Changes w v
+  turn : v.urgent_turns ≡ turn_after w.urgent_turns → looked v.trace ≡ looked w.trace ++ first_of w.urgent_turns ∷ [] →
+      Changes w v
 
 pub changes-turned : (p : ℕ) (w : World) → Changes w (turned p w)
-changes-turned p w = turn refl refl refl (looked-append w.trace (event.Looked p (first_of w.urgent_turns) ∷ []))
+changes-turned p w = turn refl (looked-append w.trace (event.Looked p (first_of w.urgent_turns) ∷ []))

@@ -11,7 +11,7 @@ use Rattle.executor_model.specs.World.{World}
 use Rattle.executor_laws.specs.Looks.{looked, plains, OneOfEightIsPlain}
 use Rattle.executor_laws.proofs.Marking.MarkActs.{changes-step}
 use Rattle.executor_laws.proofs.Marking.MarkSteps.{Changes}
-use Rattle.executor_laws.proofs.Marking.MarkSteps.Changes.{none, turn, entry}
+use Rattle.executor_laws.proofs.Marking.MarkSteps.Changes.{none, turn}
 
 -- so many turns from this count on name these
 named_from : ℕ → ℕ → List Mark
@@ -70,12 +70,11 @@ record Counted (w : World) : Type 0 where
 
 counted-step : (w v : World) → Counted w → Changes w v → Counted v
 counted-step w v c (none k) = record { turns = c.turns; named = k.named ∙ c.named; left = k.turns ∙ c.left }
-counted-step w v c (turn a b d e) = record {
+counted-step w v c (turn a e) = record {
   turns = suc c.turns;
   named = e ∙ ((λ i. c.named i ++ first_of (c.left i) ∷ []) ∙ sym (named-last c.turns 7));
   left = a ∙ (ap turn_after c.left ∙ sym (count-after c.turns 7));
 }
-counted-step w v c (entry m a b d e) = record { turns = c.turns; named = e ∙ c.named; left = a ∙ c.left }
 
 counted-run : (ts : List Step) (s : Machine) → Counted s.world → Counted (run ts s).world
 counted-run [] s c = c

@@ -8,3 +8,4 @@ pub mod LoneBegins
 pub mod Marked
 pub mod Searching
 pub mod Reaching
+pub mod ByTurn

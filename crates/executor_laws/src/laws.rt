@@ -17,7 +17,7 @@ ghost use Rattle.executor_laws.specs.Called.{KeeperIsCalled, SomeStandingIsCalle
 ghost use Rattle.executor_laws.specs.AtRest.{EmptinessIsExact, TicksAreExact};
 ghost use Rattle.executor_laws.specs.KeptFirst.{TakesKeptFirst};
 ghost use Rattle.executor_laws.specs.LoneAnswers.{IsLoneEmptinessExact, IsLoneTickExact};
-ghost use Rattle.executor_laws.specs.Looks.{AreQueuedByMark, OneOfEightIsPlain};
+ghost use Rattle.executor_laws.specs.Looks.{AreQueuedByMark, OneOfEightIsPlain, TakesByItsTurn};
 ghost use Rattle.executor_laws.specs.Makings.{MadeIsMade};
 ghost use Rattle.executor_laws.specs.NoAnswers.{NoMeansEmpty};
 ghost use Rattle.executor_laws.specs.Numbered.{RequestsAreNumbered};
@@ -162,8 +162,8 @@ pub fn ticks_are_exact()
 {}
 
 /// Where a call begins while no other is in progress and the drop of the executor hasn't begun, and no
-/// other begins before something else happens, the next event says it all. A tick is answered at once
-/// that there is nothing to do exactly where no future is common. Who asks whether the executor is empty is
+/// other begins before something else happens, the next event says it all. A tick takes a turn at once, and is then
+/// answered at once that there is nothing to do exactly where no future is common. Who asks whether the executor is empty is
 /// answered at once, and yes exactly where each accepted future is dropped. So it is for each party.
 pub fn calls_at_rest_are_exact()
     ensures ticks { EveryTrace TicksAreExact }
@@ -260,10 +260,10 @@ pub fn kept_futures_come_first()
     ensures { EveryMachine TakesKeptFirst }
 {}
 
-/// A run takes first what stands in its own queue, then what is common, and what it moves from there keeps its turn: as many
-/// polls of the run, made alone and with its own future not ready in any, as it keeps futures and are common at their start
-/// begin the poll or the drop of each that was common, whatever other user code answers in them and whatever becomes common
-/// meanwhile.
+/// A run takes first what stands in its own queue, then what is common, and where all futures are plain, what it moves from
+/// there keeps its turn: as many polls of the run, made alone and with its own future not ready in any, as it keeps futures and
+/// are common at their start begin the poll or the drop of each that was common, whatever other user code answers in them and
+/// whatever becomes common meanwhile.
 pub fn common_futures_are_in_reach_of_runs()
     ensures { EveryMachine IsCommonReached }
 {}
@@ -283,4 +283,10 @@ pub fn one_turn_of_eight_is_plain()
 /// often it is woken.
 pub fn futures_are_queued_by_their_marks()
     ensures { EveryMachine AreQueuedByMark }
+{}
+
+/// Where no call is in progress and the drop of the executor hasn't begun, a tick that is tried alone, and whose turn names the
+/// mark of some common future, begins the poll or the drop of the first future of that mark's queue, which was common.
+pub fn lone_ticks_take_by_their_turn()
+    ensures { EveryMachine TakesByItsTurn }
 {}

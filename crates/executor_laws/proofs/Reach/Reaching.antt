@@ -102,19 +102,19 @@ pub record Takes (f : ℕ) (s new : Machine) : Type 0 where
   pub grows : Grows s new
   pub taken : has (takes f) grows.grown ≡ true
 
-has-around : (f p : ℕ) (c : Call) (a : Reply) (es : Trace) → has (takes f) es ≡ true →
+pub has-around : (f p : ℕ) (c : Call) (a : Reply) (es : Trace) → has (takes f) es ≡ true →
     has (takes f) (event.CallBegun p c ∷ (es ++ event.CallEnded p a ∷ [])) ≡ true
 has-around f p c a es e = list_any-append (takes f) es (event.CallEnded p a ∷ []) ∙ ap (λ (b : Bool). b || false) e
 
 -- what a search does that finds a future
-found-events : (m : Mark) (f p : ℕ) (c : Call) (a : Reply) (s new : Machine) → First m f p c a s new → Grows s new
+pub found-events : (m : Mark) (f p : ℕ) (c : Call) (a : Reply) (s new : Machine) → First m f p c a s new → Grows s new
 found-events m f p c a s new x = record {
   grown = event.CallBegun p c ∷ (x.meanwhile ++ event.CallEnded p a ∷ []);
   trace = x.events;
 }
 
 -- one turn is taken by it
-one-turn : (m : Mark) (f p : ℕ) (c : Call) (a : Reply) (s new : Machine) (x : First m f p c a s new) (n : Mark) →
+pub one-turn : (m : Mark) (f p : ℕ) (c : Call) (a : Reply) (s new : Machine) (x : First m f p c a s new) (n : Mark) →
     named n (found-events m f p c a s new x).grown ≡ cond (same_mark n (first_of s.world.urgent_turns)) 1 0
 one-turn m f p c a s new x n = omega (arith, named-append n x.meanwhile (event.CallEnded p a ∷ []), x.turn n)
 
@@ -255,7 +255,7 @@ place f (g ∷ xs) k = ⊎_elim
     )) in record { front = g ∷ y.front; back = y.back; is = ap (λ (ys : List ℕ). g ∷ ys) y.is })
     (same_cases f g)
 
-since-is : (s new : Machine) → (x : Grows s new) → since s new ≡ x.grown
+pub since-is : (s new : Machine) → (x : Grows s new) → since s new ≡ x.grown
 since-is s new x = ap (λ (es : Trace). drop (length s.world.trace) es) x.trace ∙ drop-append_seam s.world.trace x.grown
 
 -- the marks stay

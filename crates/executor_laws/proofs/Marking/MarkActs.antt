@@ -1,12 +1,13 @@
--- For one_turn_of_eight_is_plain.
--- What each thing that is done does to the count of turns.
+-- For one_turn_of_eight_is_plain and futures_are_marked_as_spawned.
+-- What each thing that is done does to the count of turns and to what was accepted.
 use Rattle.std.proofs.Common.{◌≡◌, ℕ, zero, suc, ◌+◌, List, [], ◌∷◌, ◌++◌, length, Bool, true, false, Result, refl, sym, ap, ◌∙◌}
-use Rattle.std.proofs.Common.{subst}
+use Rattle.std.proofs.Common.{subst, append-nil, append_assoc}
 use Rattle.std.specs.Prelude.{Option, Some, None, reverse}
 use Rattle.task_moves.specs.declared.moves.owed.Answer.{Answer}
 use Rattle.task_moves.specs.declared.moves.owed.Moved.{Moved}
 use Rattle.task_moves.specs.declared.moves.owed.Move.TheVariants as move
 use Rattle.task_moves.specs.Moves as moves
+use Rattle.executor_parts.specs.Marks.{first_of, turn_after}
 use Rattle.executor_parts.specs.declared.mark.Mark.{Mark}
 use Rattle.executor_parts.specs.declared.mark.Mark.TheVariants.{Plain, Urgent}
 use Rattle.executor_model.specs.declared.call.Call.{Call}
@@ -63,16 +64,19 @@ use Rattle.executor_model.specs.ActsOfRuns.{without_first}
 use Rattle.executor_model.specs.ActsOfSleepers.{copy_sleeper_by, exchange_by, fall_asleep_by, hand_out_by, leave_sleepers_by}
 use Rattle.executor_model.specs.ActsOfSleepers.{look_tick_by, make_tick_by, polled_as, sleep_again_by, sleep_anew_by}
 use Rattle.executor_model.specs.ActsOfSleepers.{sleep_listed_by, wake_up_by}
+use Rattle.executor_model.specs.ClosingOrder.{accepted_in}
 use Rattle.executor_model.specs.Doing.{act, list_act, run_act, search_by_who, sleeper_act, steal_act, tick_act}
 use Rattle.executor_model.specs.Steps.{Machine, after, begun, below_top, future_of, gone_on, kept, mine, react, refusal, settled_by}
 use Rattle.executor_model.specs.Steps.{stack, step, stepped, top, with_future}
+use Rattle.executor_model.specs.Trace.{Trace}
 use Rattle.executor_model.specs.World.{World, Ticker, Awake, Asleep, Left, Stage, New, Listed, Ended, Done, log, log_if, put}
 use Rattle.executor_model.specs.World.{put_own, queue_of, run_of, task}
 use Rattle.executor_model.proofs.Steps.Stepping.{step-refused, step-made}
+use Rattle.executor_laws.specs.Looks.{looked}
 use Rattle.executor_laws.proofs.Marking.MarkSteps.{Changes, Keeps, changes-turned, keeps, keeps-and, keeps-call, keeps-copied}
 use Rattle.executor_laws.proofs.Marking.MarkSteps.{keeps-event, keeps-log, keeps-log_if, keeps-move, keeps-put}
-use Rattle.executor_laws.proofs.Marking.MarkSteps.{keeps-wake}
-use Rattle.executor_laws.proofs.Marking.MarkSteps.Changes.{none, turn}
+use Rattle.executor_laws.proofs.Marking.MarkSteps.{keeps-wake, looked-append}
+use Rattle.executor_laws.proofs.Marking.MarkSteps.Changes.{none, turn, entry}
 
 -- the table and the executor's queues
 
@@ -84,10 +88,12 @@ m-take : (look : Look) (q : List ℕ) (w : World) → Keeps w (take_by w look q)
 m-take look [] w = keeps _ _ refl refl
 m-take look (f ∷ rest) w = keeps _ _ refl refl
 
-m-enter : (b c : Bool) (m : Mark) (p : ℕ) (w : World) → Keeps w (enter_by b c m p w).world
-m-enter true c m p w = keeps _ _ refl refl
-m-enter false true m p w = keeps _ _ refl refl
-m-enter false false m p w = keeps-event _ _ (event.Accepted p (length w.tasks)) refl refl refl
+m-enter : (b c : Bool) (m : Mark) (p : ℕ) (w : World) →
+    Changes p (op.Table (table_op.Enter m)) w (enter_by b c m p w).world
+m-enter true c m p w = none (keeps _ _ refl refl)
+m-enter false true m p w = none (keeps _ _ refl refl)
+m-enter false false m p w = entry m refl refl refl refl (looked-append w.trace (event.Accepted p (length w.tasks) ∷ [])
+    ∙ append-nil (looked w.trace))
 
 m-leave : (b : Bool) (w : World) (f : ℕ) → Keeps w (leave_by b w f).world
 m-leave true w f = keeps _ _ refl refl
@@ -102,12 +108,12 @@ m-copy false w f held = keeps _ _ refl refl
 m-answered : (b : Bool) (p : ℕ) (w : World) (f : ℕ) (m : Moved) →
     Keeps w (log_if b (put w f m.state) (event.OutputGiven p f))
 m-answered b p w f m = let v : World = put w f m.state in
-    keeps-and w v _ (keeps-put w f m.state) (keeps-log_if b v (event.OutputGiven p f) refl)
+    keeps-and w v _ (keeps-put w f m.state) (keeps-log_if b v (event.OutputGiven p f) (refl, refl))
 
 m-look : (o : Option Answer) (p : ℕ) (w : World) (f : ℕ) (a : Waker) (m : Moved) → Keeps w (look_by o p w f a m).world
 m-look None p w f a m = keeps _ _ refl refl
 m-look (Some x) p w f a m = let v : World = log w (event.HandlePolled p f) in
-    keeps-and w v _ (keeps-log w (event.HandlePolled p f) refl) (m-answered (is_output x) p v f m)
+    keeps-and w v _ (keeps-log w (event.HandlePolled p f) (refl, refl)) (m-answered (is_output x) p v f m)
 
 m-again : (o : Option Answer) (p : ℕ) (w : World) (f : ℕ) (m : Moved) → Keeps w (look_again_by o p w f m).world
 m-again None p w f m = keeps _ _ refl refl
@@ -116,7 +122,7 @@ m-again (Some x) p w f m = m-answered (is_output x) p w f m
 m-copy_awaiter : (b : Bool) (p : ℕ) (w : World) (f : ℕ) (a : Waker) → Keeps w (copy_awaiter_by b p w f a).world
 m-copy_awaiter true p w f a = keeps _ _ refl refl
 m-copy_awaiter false p w f a = let v : World = copied w a in
-    keeps-and w v _ (keeps-copied w a) (keeps-log v (event.HandlePolled p f) refl)
+    keeps-and w v _ (keeps-copied w a) (keeps-log v (event.HandlePolled p f) (refl, refl))
 
 m-register : (b : Bool) (w : World) (f : ℕ) (a : Waker) (k : ℕ) → Keeps w (register_by b w f a k).world
 m-register true w f a k = keeps _ _ refl refl
@@ -153,7 +159,7 @@ m-sleeper p (sleeper_op.CallSleeper s) w = keeps-call p w (polled_as s.who) s.wa
 
 m-drop_next : (p : ℕ) (w : World) (ls : List ℕ) → Keeps w (drop_next_by p w ls).world
 m-drop_next p w [] = keeps _ _ refl refl
-m-drop_next p w (f ∷ rest) = keeps-event _ _ (event.Dropped p f) refl refl refl
+m-drop_next p w (f ∷ rest) = keeps-event _ _ (event.Dropped p f) refl refl (refl, refl)
 
 m-wake_next : (p : ℕ) (w : World) (ws : List ℕ) → Keeps w (wake_next_by p w ws).world
 m-wake_next p w [] = keeps _ _ refl refl
@@ -168,11 +174,11 @@ m-leak_next : (b : Bool) (p : ℕ) (w : World) (ws : List ℕ) → Keeps w (leak
 m-leak_next true p w ws = keeps _ _ refl refl
 m-leak_next false p w [] = keeps _ _ refl refl
 m-leak_next false p w (f ∷ rest) = let v : World = (wake_next_by p w (f ∷ rest)).world in
-    keeps-and w v _ (m-wake_next p w (f ∷ rest)) (keeps-log v (event.Leaked p f) refl)
+    keeps-and w v _ (m-wake_next p w (f ∷ rest)) (keeps-log v (event.Leaked p f) (refl, refl))
 
 m-drain : (m : Mark) (p : ℕ) (w : World) (q : List ℕ) → Keeps w (drain_by p w m q).world
 m-drain Urgent p w [] = keeps _ _ refl refl
-m-drain Plain p w [] = keeps-log w (event.DropEnded p) refl
+m-drain Plain p w [] = keeps-log w (event.DropEnded p) (refl, refl)
 m-drain m p w (f ∷ rest) = keeps _ _ refl refl
 
 -- runs
@@ -213,7 +219,7 @@ m-taken (f ∷ rest) w s more = m-first s.from w rest
 
 m-put : (b : Bool) (p : ℕ) (w : World) (s : Steal) (more f : ℕ) → Keeps w (steal_put_by b p w s more f).world
 m-put true p w s more f = let v : World = kept_by p w s.poll.run f in
-    keeps-and w v _ (keeps-event w v (event.Kept p f s.poll.run) refl refl refl) (m-more more v s)
+    keeps-and w v _ (keeps-event w v (event.Kept p f s.poll.run) refl refl (refl, refl)) (m-more more v s)
 m-put false p w s more f = m-stolen s.then w s.poll
 
 m-steal : (p : ℕ) (o : StealOp) (w : World) → Keeps w (steal_act p o w).world
@@ -242,7 +248,7 @@ m-reference p w (Outside y) = keeps _ _ refl refl
 
 m-wake_own : (p : ℕ) (w : World) (x : RunPoll) → Keeps w (wake_own p w x).world
 m-wake_own p w x = let v : World = log w (event.WakerCalled p (of.Run x.run) x.poll x.waker) in
-    keeps-and w v _ (keeps-log w (event.WakerCalled p (of.Run x.run) x.poll x.waker) refl) (m-reference p v x.waker)
+    keeps-and w v _ (keeps-log w (event.WakerCalled p (of.Run x.run) x.poll x.waker) (refl, refl)) (m-reference p v x.waker)
 
 m-reschedule : (q : List ℕ) (w : World) (r : ℕ) (a : Reply) → Keeps w (reschedule_by q w r a).world
 m-reschedule [] w r a = keeps _ _ refl refl
@@ -252,10 +258,10 @@ m-room : (b : Bool) (w : World) → Keeps w (make_room_by b w).world
 m-room true w = keeps _ _ refl refl
 m-room false w = keeps _ _ refl refl
 
-m-run : (p : ℕ) (h : Hint) (o : RunOp) (w : World) → Changes w (run_act p h o w).world
+m-run : (p : ℕ) (h : Hint) (o : RunOp) (w : World) → Changes p (op.Run o) w (run_act p h o w).world
 m-run p h run_op.MakeRoom w = none (m-room _ w)
 m-run p h run_op.ReturnRoom w = none (keeps _ _ refl refl)
-m-run p h (run_op.TakeTurn x) w = changes-turned p w
+m-run p h (run_op.TakeTurn x) w = changes-turned p _ w
 m-run p h (run_op.SearchCommon x look) w = none (m-common look _ w x)
 m-run p h (run_op.LookOwn x at left) w = none (m-look_own _ w x at left)
 m-run p h (run_op.WakeOwn x) w = none (m-wake_own p w x)
@@ -287,8 +293,9 @@ m-make_tick : (b : Bool) (w : World) → Keeps w (make_tick_by b w).world
 m-make_tick true w = keeps _ _ refl refl
 m-make_tick false w = keeps _ _ refl refl
 
-m-search : (who : TickOrRun) (p : ℕ) (w : World) (s : Sleeping) → Changes w (search_by_who who p w s).world
-m-search (tick_or_run.Tick t) p w s = changes-turned p w
+m-search : (who : TickOrRun) (p : ℕ) (w : World) (s : Sleeping) →
+    Changes p (op.Tick (tick_op.Search s)) w (search_by_who who p w s).world
+m-search (tick_or_run.Tick t) p w s = changes-turned p _ w
 m-search (tick_or_run.Run r) p w s = none (m-own _ w _)
 
 m-look_tick : (look : Look) (x : Ticker) (w : World) (q : List ℕ) (s : Sleeping) → Keeps w (look_tick_by x w look q s).world
@@ -326,7 +333,7 @@ m-leave_sleepers Awake w who = keeps _ _ refl refl
 m-leave_sleepers (Asleep n) w who = keeps _ _ refl refl
 m-leave_sleepers Left w who = keeps _ _ refl refl
 
-m-tick : (p : ℕ) (h : Hint) (o : TickOp) (w : World) → Changes w (tick_act p h o w).world
+m-tick : (p : ℕ) (h : Hint) (o : TickOp) (w : World) → Changes p (op.Tick o) w (tick_act p h o w).world
 m-tick p h tick_op.MakeTick w = none (m-make_tick _ w)
 m-tick p h (tick_op.Search s) w = m-search s.who p w s
 m-tick p h (tick_op.Look s look) w = none (m-look_tick look _ w _ s)
@@ -337,15 +344,15 @@ m-tick p h (tick_op.Leave who) w = none (m-leave_sleepers _ w who)
 
 -- each thing to do
 
-changes-act : (p : ℕ) (h : Hint) (o : Op) (w : World) → Changes w (act p h o w).world
+changes-act : (p : ℕ) (h : Hint) (o : Op) (w : World) → Changes p o w (act p h o w).world
 changes-act p h (op.Move m f) w = none (keeps-move _ m p w f)
-changes-act p h (op.Table (table_op.Enter m)) w = none (m-enter _ _ m p w)
+changes-act p h (op.Table (table_op.Enter m)) w = m-enter _ _ m p w
 changes-act p h (op.Table (table_op.LeaveTable f)) w = none (m-leave _ w f)
-changes-act p h (op.Queue queue_op.TakeTurn) w = changes-turned p w
+changes-act p h (op.Queue queue_op.TakeTurn) w = changes-turned p _ w
 changes-act p h (op.Queue (queue_op.Take look)) w = none (m-take look _ w)
 changes-act p h (op.Queue (queue_op.Append f)) w = none (m-append _ w _ f)
-changes-act p h (op.User (user_op.BeginDrop f)) w = none (keeps-log w (event.Dropped p f) refl)
-changes-act p h (op.User (user_op.BeginDropOutput f)) w = none (keeps-log w (event.OutputDropped p f) refl)
+changes-act p h (op.User (user_op.BeginDrop f)) w = none (keeps-log w (event.Dropped p f) (refl, refl))
+changes-act p h (op.User (user_op.BeginDropOutput f)) w = none (keeps-log w (event.OutputDropped p f) (refl, refl))
 changes-act p h (op.Waker (waker_op.CopyWaker f held)) w = none (m-copy _ w f held)
 changes-act p h (op.Waker (waker_op.CallAwaiter f a k)) w = none (keeps-call p w (of.Handle f) a k)
 changes-act p h (op.Handle (handle_op.Look f a)) w =
@@ -368,12 +375,12 @@ changes-act p h (op.Closing closing_op.WakeNext) w = none (m-wake_next p w w.wak
 changes-act p h (op.Closing (closing_op.Drain m)) w = none (m-drain m p w (queue_of w m).items)
 changes-act p h (op.Closing closing_op.LeakOut) w = none (m-leak_out _ w)
 changes-act p h (op.Closing closing_op.LeakNext) w = none (m-leak_next _ p w w.waking)
-changes-act p h (op.End r held) w = none (keeps-log w (event.CallEnded p r) refl)
+changes-act p h (op.End r held) w = none (keeps-log w (event.CallEnded p r) (refl, refl))
 changes-act p h _ w = none (keeps _ _ refl refl)
 
 m-react : (p : ℕ) (o : Op) (u : UserEnd) (w : World) → Keeps w (react p o u w).world
-m-react p (op.User (user_op.Poll f)) (end.Polled answer.Pending) w = keeps-log w (event.Answered p f answer.Pending) refl
-m-react p (op.User (user_op.Poll f)) (end.Polled answer.Ready) w = keeps-log w (event.Answered p f answer.Ready) refl
+m-react p (op.User (user_op.Poll f)) (end.Polled answer.Pending) w = keeps-log w (event.Answered p f answer.Pending) (refl, refl)
+m-react p (op.User (user_op.Poll f)) (end.Polled answer.Ready) w = keeps-log w (event.Answered p f answer.Ready) (refl, refl)
 m-react p (op.User (user_op.Poll f)) end.Done w = keeps _ _ refl refl
 m-react p (op.User (user_op.PollOwn x)) (end.Polled answer.Pending) w = keeps _ _ refl refl
 m-react p (op.User (user_op.PollOwn x)) (end.Polled answer.Ready) w = keeps _ _ refl refl
@@ -391,46 +398,65 @@ m-begun p w here (call.Copy k) = m-with w (kept w k) _ (λ f. keeps _ _ refl ref
 m-begun p w here (call.DropWaker k) = m-with w (kept w k) _ (λ f. keeps _ _ refl refl)
 m-begun p w here call.Keep = m-with w (future_of here) _ (λ f. keeps _ _ refl refl)
 m-begun p w here call.WakeSelf = m-with w (future_of here) _ (λ f. keeps _ _ refl refl)
-m-begun p w here (call.PollTick t b) = keeps-log w (event.TickPolled p t) refl
-m-begun p w here (call.DropTick t) = keeps-log w (event.TickDropped p t) refl
-m-begun p w here (call.PollRun r b) = keeps-log w (event.RunPolled p r) refl
-m-begun p w here (call.DropRun r) = keeps-event _ _ (event.RunDropped p r) refl refl refl
-m-begun p w here call.DropExecutor = keeps-event _ _ (event.DropBegun p) refl refl refl
+m-begun p w here (call.PollTick t b) = keeps-log w (event.TickPolled p t) (refl, refl)
+m-begun p w here (call.DropTick t) = keeps-log w (event.TickDropped p t) (refl, refl)
+m-begun p w here (call.PollRun r b) = keeps-log w (event.RunPolled p r) (refl, refl)
+m-begun p w here (call.DropRun r) = keeps-event _ _ (event.RunDropped p r) refl refl (refl, refl)
+m-begun p w here call.DropExecutor = keeps-event _ _ (event.DropBegun p) refl refl (refl, refl)
 m-begun p w here _ = keeps _ _ refl refl
 
 -- each step
 
+-- what a step does to them
+pub data Steps (s : Machine) (v : World) : Type 0 where
+  stays : Keeps s.world v → Steps s v
+  counts : v.urgent_turns ≡ turn_after s.world.urgent_turns →
+      looked v.trace ≡ looked s.world.trace ++ first_of s.world.urgent_turns ∷ [] →
+      accepted_in v.trace ≡ accepted_in s.world.trace → Steps s v
+  enters : (p : ℕ) (m : Mark) (more : Trace) → top (stack s p) ≡ Some (op.Table (table_op.Enter m)) →
+      v.urgent_turns ≡ s.world.urgent_turns → v.marks ≡ s.world.marks ++ m ∷ [] →
+      v.trace ≡ s.world.trace ++ event.Accepted p (length s.world.tasks) ∷ more → accepted_in more ≡ [] →
+      looked v.trace ≡ looked s.world.trace → Steps s v
+
 m-settled : (r : Option Reply) (p : ℕ) (w : World) (os : List Op) → Keeps w (settled_by r p w os).world
 m-settled None p w os = keeps _ _ refl refl
-m-settled (Some r) p w os = keeps-log w (event.CallEnded p r) refl
+m-settled (Some r) p w os = keeps-log w (event.CallEnded p r) (refl, refl)
 
--- behind it things are kept
-pub changes-and : (w v u : World) → Changes w v → Keeps v u → Changes w u
-changes-and w v u (none k) z = none (keeps-and w v u k z)
-changes-and w v u (turn a b) z = turn (z.turns ∙ a) (z.named ∙ b)
+settled-steps : (r : Option Reply) (s : Machine) (p : ℕ) (o : Op) (v : World) (os : List Op) → top (stack s p) ≡ Some o →
+    Changes p o s.world v → Steps s (settled_by r p v os).world
+settled-steps r s p o v os e (none k) =
+    stays (keeps-and s.world v (settled_by r p v os).world k (m-settled r p v os))
+settled-steps r s p o v os e (turn a b c) = let k : Keeps v (settled_by r p v os).world = m-settled r p v os in
+    counts (k.turns ∙ a) (k.named ∙ b) (k.accepted ∙ c)
+settled-steps None s p o v os e (entry m i a b c d) =
+    enters p m [] (e ∙ ap (λ (x : Op). Some x) i) a b c refl d
+settled-steps (Some r) s p o v os e (entry m i a b c d) =
+    enters p m (event.CallEnded p r ∷ []) (e ∙ ap (λ (x : Op). Some x) i) a b
+    (ap (λ (es : Trace). es ++ event.CallEnded p r ∷ []) c
+    ∙ append_assoc s.world.trace (event.Accepted p (length s.world.tasks) ∷ []) (event.CallEnded p r ∷ []))
+    refl ((m-settled (Some r) p v os).named ∙ d)
 
-m-gone : (p : ℕ) (w : World) (os : List Op) (x : Option Op) (d : Op → Done) → ((o : Op) → Changes w (d o).world) →
-    Changes w (gone_on p w os x d).world
-m-gone p w os None d k = none (keeps _ _ refl refl)
-m-gone p w os (Some o) d k = changes-and w (d o).world _ (k o)
-    (m-settled _ p (d o).world (below_top os ++ reverse (d o).next))
+m-gone : (s : Machine) (p : ℕ) (x : Option Op) (d : Op → Done) → top (stack s p) ≡ x →
+    ((o : Op) → Changes p o s.world (d o).world) → Steps s (gone_on p s.world (stack s p) x d).world
+m-gone s p None d e k = stays (keeps _ _ refl refl)
+m-gone s p (Some o) d e k =
+    settled-steps _ s p o (d o).world (below_top (stack s p) ++ reverse (d o).next) e (k o)
 
-m-after : (s : Machine) (t : Step) → Changes s.world (after s t).world
+m-after : (s : Machine) (t : Step) → Steps s (after s t).world
 m-after s (step_is.Begin p c) =
     let w : World = log s.world (event.CallBegun p c) in
     let d : Done = begun p w (mine (top (stack s p))) c in
-    none (keeps-and s.world w _ (keeps-log s.world (event.CallBegun p c) refl)
+    stays (keeps-and s.world w _ (keeps-log s.world (event.CallBegun p c) (refl, refl))
     (keeps-and w d.world _ (m-begun p w (mine (top (stack s p))) c) (m-settled _ p d.world (stack s p ++ reverse d.next))))
 m-after s (step_is.Go p h) =
-    m-gone p s.world (stack s p) (top (stack s p)) (λ o. act p h o s.world) (λ o. changes-act p h o s.world)
+    m-gone s p (top (stack s p)) (λ o. act p h o s.world) refl (λ o. changes-act p h o s.world)
 m-after s (step_is.Answer p u) =
-    m-gone p s.world (stack s p) (top (stack s p)) (λ o. react p o u s.world) (λ o. none (m-react p o u s.world))
+    m-gone s p (top (stack s p)) (λ o. react p o u s.world) refl (λ o. none (m-react p o u s.world))
 
-pub changes-step : (s : Machine) (t : Step) → Changes s.world (stepped s (step s t)).world
+pub changes-step : (s : Machine) (t : Step) → Steps s (stepped s (step s t)).world
 changes-step s t = go (refusal s t) refl
   where
-    go : (r : Option StepError) → refusal s t ≡ r → Changes s.world (stepped s (step s t)).world
-    go None e = subst (λ (x : Result Machine StepError). Changes s.world (stepped s x).world) (sym (step-made s t e))
-        (m-after s t)
-    go (Some error) e = subst (λ (x : Result Machine StepError). Changes s.world (stepped s x).world)
-        (sym (step-refused s t error e)) (none (keeps _ _ refl refl))
+    go : (r : Option StepError) → refusal s t ≡ r → Steps s (stepped s (step s t)).world
+    go None e = subst (λ (x : Result Machine StepError). Steps s (stepped s x).world) (sym (step-made s t e)) (m-after s t)
+    go (Some error) e = subst (λ (x : Result Machine StepError). Steps s (stepped s x).world)
+        (sym (step-refused s t error e)) (stays (keeps _ _ refl refl))

@@ -9,9 +9,8 @@ use Rattle.executor_model.specs.declared.step.Step.{Step}
 use Rattle.executor_model.specs.Steps.{Machine, run, start, step, stepped}
 use Rattle.executor_model.specs.World.{World}
 use Rattle.executor_laws.specs.Looks.{looked, plains, OneOfEightIsPlain}
-use Rattle.executor_laws.proofs.Marking.MarkActs.{changes-step}
-use Rattle.executor_laws.proofs.Marking.MarkSteps.{Changes}
-use Rattle.executor_laws.proofs.Marking.MarkSteps.Changes.{none, turn}
+use Rattle.executor_laws.proofs.Marking.MarkActs.{Steps, changes-step}
+use Rattle.executor_laws.proofs.Marking.MarkActs.Steps.{stays, counts, enters}
 
 -- so many turns from this count on name these
 named_from : ℕ → ℕ → List Mark
@@ -68,9 +67,10 @@ record Counted (w : World) : Type 0 where
   pub named : looked w.trace ≡ named_from turns 7
   pub left : w.urgent_turns ≡ count_after turns 7
 
-counted-step : (w v : World) → Counted w → Changes w v → Counted v
-counted-step w v c (none k) = record { turns = c.turns; named = k.named ∙ c.named; left = k.turns ∙ c.left }
-counted-step w v c (turn a e) = record {
+counted-step : (s : Machine) (v : World) → Counted s.world → Steps s v → Counted v
+counted-step s v c (stays k) = record { turns = c.turns; named = k.named ∙ c.named; left = k.turns ∙ c.left }
+counted-step s v c (enters p m more i a b d z e) = record { turns = c.turns; named = e ∙ c.named; left = a ∙ c.left }
+counted-step s v c (counts a e z) = record {
   turns = suc c.turns;
   named = e ∙ ((λ i. c.named i ++ first_of (c.left i) ∷ []) ∙ sym (named-last c.turns 7));
   left = a ∙ (ap turn_after c.left ∙ sym (count-after c.turns 7));
@@ -79,7 +79,7 @@ counted-step w v c (turn a e) = record {
 counted-run : (ts : List Step) (s : Machine) → Counted s.world → Counted (run ts s).world
 counted-run [] s c = c
 counted-run (t ∷ ts) s c =
-    counted-run ts (stepped s (step s t)) (counted-step s.world (stepped s (step s t)).world c (changes-step s t))
+    counted-run ts (stepped s (step s t)) (counted-step s (stepped s (step s t)).world c (changes-step s t))
 
 one-plain : (w : World) → Counted w → (before : ℕ) → before + 8 ≤ length (looked w.trace) →
     plains (take 8 (drop before (looked w.trace))) ≡ 1

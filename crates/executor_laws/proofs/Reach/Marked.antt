@@ -78,7 +78,7 @@ grown-part w ss os (step_is.Answer p u) e = grown-went w os p (λ x. react p x u
 pub grown-after : (s : Machine) (t : Step) → refusal s t ≡ None → Grown s.world (after s t).world
 grown-after s t e = grown-part s.world s.parties (stack s _) t (there _ _ e).1
 
-grown-step : (s : Machine) (t : Step) → Grown s.world (stepped s (step s t)).world
+pub grown-step : (s : Machine) (t : Step) → Grown s.world (stepped s (step s t)).world
 grown-step s t = go (refusal s t) refl
   where
     go : (r : Option StepError) → refusal s t ≡ r → Grown s.world (stepped s (step s t)).world

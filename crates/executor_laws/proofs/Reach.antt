@@ -8,4 +8,6 @@ pub mod LoneBegins
 pub mod Marked
 pub mod Searching
 pub mod Reaching
+pub mod Counting
+pub mod InReach
 pub mod ByTurn

@@ -37,7 +37,6 @@ use Rattle.executor_model.proofs.Steps.Tests.{or-left, or-right}
 use Rattle.executor_laws.specs.LoneEnds.{IsLoneCall, LoneCallsEnd}
 use Rattle.executor_laws.specs.Reach.{found_answer, LoneSearch, AreLoneSearches, takes, TakesCommon}
 use Rattle.executor_laws.specs.Reach.{names, since, HasCommons, HasCommonsOf, IsInReach, IsReachedInOrder}
-use Rattle.executor_laws.proofs.Reach.LoneBegins.{poll-begins, tick-begins}
 use Rattle.executor_laws.proofs.Reach.Reached.{bonded-here, heard-here}
 use Rattle.executor_laws.proofs.Placement.Placing.{common-queue, queue-common}
 use Rattle.executor_laws.proofs.Exactness.Ticking.{first-queued, first-times, none-queued}
@@ -92,7 +91,7 @@ grows-and s next new x y = record {
       ∙ (ap (λ (es : Trace). es ++ y.grown) x.trace ∙ append_assoc s.world.trace x.grown y.grown);
 }
 
-grows : (ts : List LoneSearch) (s new : Machine) → AreLoneSearches ts s new → Grows s new
+pub grows : (ts : List LoneSearch) (s new : Machine) → AreLoneSearches ts s new → Grows s new
 grows [] s new e =
     record { grown = []; trace = sym (ap (λ (m : Machine). m.world.trace) e) ∙ sym (append-nil s.world.trace) }
 grows (t ∷ ts) s new k = grows-and s k.0 new (run-grows (Begin t.party t.call ∷ t.steps) s k.0 k.1.made)
@@ -412,22 +411,6 @@ module _ (s : Machine) (r : Reached s) (rest : IsAtRest s) where
         length-append place-of.front (f ∷ place-of.back),
       )) in
       ap (has (takes f)) (since-is s new x.grows) ∙ x.taken
-
-in-reach : (s : Machine) → Reached s → LoneCallsEnd s → IsInReach s
-in-reach s r ends = record {
-  each = λ rest f common p c a e steps new k. takes-common s r rest f common p c a e steps new k;
-  all = λ rest commons k searches new t comings m l f c. takes-all s r rest commons k searches new t (omega (arith, l))
-      f c;
-  can = λ rest p l. ends.can rest.quiet p call.TryTick (tick-begins s r rest p l);
-  polls = λ rest p l t x alive. ends.can rest.quiet p (call.PollTick t (by.Outside x))
-      (poll-begins s r rest p t x l alive);
-}
-
-pub reaches : EveryMachine LoneCallsEnd → (limit : ℕ) (kind : Kind) (parties : ℕ) (steps : List Step) →
-    IsInReach (run steps (start limit kind parties))
-reaches ends limit kind parties steps =
-    in-reach (run steps (start limit kind parties)) (record { limit = limit; kind = kind; parties = parties; steps = steps; is = refl })
-    (ends limit kind parties steps)
 
 pub reaches-in-order : (limit : ℕ) (kind : Kind) (parties : ℕ) (steps : List Step) → IsReachedInOrder (run steps (start limit kind parties))
 reaches-in-order limit kind parties steps =

@@ -51,7 +51,7 @@ use Rattle.executor_laws.specs.GoingOn.{GoesOn, HolderGoesOn}
 use Rattle.executor_laws.specs.HandleAnswers.{CancelledMeansOver}
 use Rattle.executor_laws.specs.KeptFirst.{TakesKeptFirst}
 use Rattle.executor_laws.specs.LoneEnds.{LoneCallsEnd}
-use Rattle.executor_laws.specs.Looks.{AreQueuedByMark, OneOfEightIsPlain}
+use Rattle.executor_laws.specs.Looks.{AreQueuedByMark, IsMarkedAsSpawned, OneOfEightIsPlain}
 use Rattle.executor_laws.specs.Makings.{MadeIsMade}
 use Rattle.executor_laws.specs.NoAnswers.{NoMeansEmpty}
 use Rattle.executor_laws.specs.Numbered.{RequestsAreNumbered}
@@ -257,6 +257,8 @@ pub record AllLaws (s : Machine) : Type 0 where
       s ≡ run steps (start limit kind parties) → CountsQueueings m limit kind parties steps
   -- of eight turns in a row exactly one looks at the plain queue first
   pub turns : OneOfEightIsPlain s
+  -- a future has the mark of its spawn
+  pub marked : IsMarkedAsSpawned s
   -- each of the executor's queues has futures of its mark alone
   pub by_marks : AreQueuedByMark s
   -- what has happened stays

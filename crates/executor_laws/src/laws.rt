@@ -17,7 +17,7 @@ ghost use Rattle.executor_laws.specs.Called.{KeeperIsCalled, SomeStandingIsCalle
 ghost use Rattle.executor_laws.specs.AtRest.{EmptinessIsExact, TicksAreExact};
 ghost use Rattle.executor_laws.specs.KeptFirst.{TakesKeptFirst};
 ghost use Rattle.executor_laws.specs.LoneAnswers.{IsLoneEmptinessExact, IsLoneTickExact};
-ghost use Rattle.executor_laws.specs.Looks.{AreQueuedByMark, OneOfEightIsPlain, TakesByItsTurn};
+ghost use Rattle.executor_laws.specs.Looks.{AreQueuedByMark, IsMarkedAsSpawned, OneOfEightIsPlain, TakesByItsTurn};
 ghost use Rattle.executor_laws.specs.Makings.{MadeIsMade};
 ghost use Rattle.executor_laws.specs.NoAnswers.{NoMeansEmpty};
 ghost use Rattle.executor_laws.specs.Numbered.{RequestsAreNumbered};
@@ -277,6 +277,11 @@ pub fn dropped_runs_leave_common_futures()
 /// Of any eight turns in a row that searches take, whoever takes them, exactly one looks at the plain queue first.
 pub fn one_turn_of_eight_is_plain()
     ensures { EveryMachine OneOfEightIsPlain }
+{}
+
+/// A future has the mark of the spawn by which it was taken in.
+pub fn futures_are_marked_as_spawned()
+    ensures { EveryMachine IsMarkedAsSpawned }
 {}
 
 /// In each of the executor's queues stand futures of its mark alone: a future that was spawned urgent is queued as such, however

@@ -94,6 +94,7 @@ returns c limit kind parties steps =
       lone_emptiness = c.lone_calls_are_exact.ensures.emptiness limit kind parties steps;
       queueings = λ m l k n ts e. c.queueings_are_counted.ensures m l k n ts;
       turns = c.one_turn_of_eight_is_plain.ensures limit kind parties steps;
+      marked = c.futures_are_marked_as_spawned.ensures limit kind parties steps;
       by_marks = c.futures_are_queued_by_their_marks.ensures limit kind parties steps;
       continued = c.traces_continue.ensures s;
       ticks_at_rest = c.calls_at_rest_are_exact.ensures.ticks limit kind parties steps;

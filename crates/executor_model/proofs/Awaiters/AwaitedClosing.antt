@@ -272,7 +272,8 @@ sweeps-act : (b : Bool) (p : ℕ) (h : Hint) (o : Op) (w : World) → is_sweepin
     KeepsSweeps w (o ∷ []) (act p h o w)
 sweeps-act false p h o w n = sweeps-still w (o ∷ []) (act p h o w) (same-act p h o w n) (no-self o n)
     (no-act p h o w _ refl n)
-sweeps-act true p h (op.Queue queue_op.TakeTurn) w n = sweeps-same w (turned p w) _ _ refl refl refl
+sweeps-act true p h (op.Queue queue_op.TakeTurn) w n =
+    sweeps-same w (turned p w) (op.Queue queue_op.TakeTurn) (act p h (op.Queue queue_op.TakeTurn) w).next refl refl refl
 sweeps-act true p h (op.Queue (queue_op.Take look)) w n = sweeps-take look _ w
 sweeps-act true p h (op.Queue (queue_op.Append f)) w n = sweeps-append _ w (mark_of w f) f
     (open-queue (queue_of w (mark_of w f)).closed _)

@@ -32,11 +32,11 @@ returns c =
     let sleeps = c.sleeps-sleeps.result in
     let qs = (queue_of w (mark_in look)).items in
     let first : slice_get qs 0 ≡ Some f =
-    subst (λ (n : Mark). slice_get (queue_in n w.queues).items 0 ≡ Some f) c.mark_in.ensures c.take.ensures.some in
+    subst (λ (n : Mark). slice_get (queue_in n w.queues).items 0 ≡ Some f) c.mark_in.ensures c.in-Some.ensures.some in
     let e : _ = found-tick w x look f (drop 1 qs) sleeps (first-there qs f first) c.sleeps-sleeps.ensures in
     record {
       world = ap (λ (q : Queues). let v : World = record w { queues = q } in v)
-          (c.take.ensures.rest
+          (c.in-Some.ensures.rest
           ∙ ap (λ (n : Mark). with_queue n (taken (queue_in n w.queues)) w.queues) c.mark_in.ensures)
           ∙ ap (λ (d : Done). d.world) (sym e);
       next = c.push_wake_up.ensures.items ∙ (ap (λ (l : List Op). l ++ reverse (wakes_up sleeps x.who))

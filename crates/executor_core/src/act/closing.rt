@@ -161,7 +161,7 @@ fn drain(store: &mut Store, todo: &mut Vec<Op>, party: u32, mark: Mark)
 
 /// Nothing is left in this queue.
 fn end_drain(store: &mut Store, todo: &mut Vec<Op>, party: u32, mark: Mark)
-    requires room { HasRoomToEnd store.old }
+    requires room { vec_len store.old.trace + 2 ≤ vec_capacity store.old.trace }
     requires space { HasSpace todo.old }
     ensures { Does (acts.drained party (world_of store.old) mark) store.new todo.old.items todo.new.items }
 {

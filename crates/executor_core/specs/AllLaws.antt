@@ -51,7 +51,7 @@ use Rattle.executor_laws.specs.GoingOn.{GoesOn, HolderGoesOn}
 use Rattle.executor_laws.specs.HandleAnswers.{CancelledMeansOver}
 use Rattle.executor_laws.specs.KeptFirst.{TakesKeptFirst}
 use Rattle.executor_laws.specs.LoneEnds.{LoneCallsEnd}
-use Rattle.executor_laws.specs.Looks.{AreQueuedByMark, IsMarkedAsSpawned, OneOfEightIsPlain}
+use Rattle.executor_laws.specs.Looks.{AreQueuedByMark, IsMarkedAsSpawned, OneOfEightIsPlain, TakesByItsTurn}
 use Rattle.executor_laws.specs.Makings.{MadeIsMade}
 use Rattle.executor_laws.specs.NoAnswers.{NoMeansEmpty}
 use Rattle.executor_laws.specs.Numbered.{RequestsAreNumbered}
@@ -261,6 +261,8 @@ pub record AllLaws (s : Machine) : Type 0 where
   pub marked : IsMarkedAsSpawned s
   -- each of the executor's queues has futures of its mark alone
   pub by_marks : AreQueuedByMark s
+  -- a lone try of a tick takes the first future of the queue that its turn names
+  pub by_turn : TakesByItsTurn s
   -- what has happened stays
   pub continued : (t : Step) → IsContinued s.world.trace (stepped s (step s t)).world.trace
   -- a call that begins at rest is answered at once, as it is

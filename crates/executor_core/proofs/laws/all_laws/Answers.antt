@@ -96,6 +96,7 @@ returns c limit kind parties steps =
       turns = c.one_turn_of_eight_is_plain.ensures limit kind parties steps;
       marked = c.futures_are_marked_as_spawned.ensures limit kind parties steps;
       by_marks = c.futures_are_queued_by_their_marks.ensures limit kind parties steps;
+      by_turn = c.lone_ticks_take_by_their_turn.ensures limit kind parties steps;
       continued = c.traces_continue.ensures s;
       ticks_at_rest = c.calls_at_rest_are_exact.ensures.ticks limit kind parties steps;
       emptiness_at_rest = c.calls_at_rest_are_exact.ensures.emptiness limit kind parties steps;

@@ -28,11 +28,12 @@ use Rattle.executor_laws.proofs.Reach.Searching.{First, Spot, first-taken, named
 -- what is told is counted
 counted : (m : Mark) (es : Trace) → has (names m) es ≡ true → 1 ≤ named m es
 counted m [] e = absurd (cc)
-counted m (e ∷ es) k = by (names m e) k
+counted m (e ∷ es) k = by (names m e) (λ q. counted m es q) k
   where
-    by : (b : Bool) → (b || has (names m) es) ≡ true → 1 ≤ cond b 1 0 + named m es
-    by true q = omega arith
-    by false q = omega (arith, counted m es q)
+    by : (b : Bool) → (has (names m) es ≡ true → 1 ≤ named m es) → (b || has (names m) es) ≡ true →
+        1 ≤ cond b 1 0 + named m es
+    by true h q = omega arith
+    by false h q = omega (arith, h q)
 
 same-one : (m n : Mark) → 1 ≤ cond (same_mark m n) 1 0 → m ≡ n
 same-one Plain Plain k = refl

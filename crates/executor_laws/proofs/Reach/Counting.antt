@@ -78,12 +78,12 @@ record Split (t : Event → Bool) (es : Trace) : Type 0 where
 
 split-at : (t : Event → Bool) (es : Trace) → has t es ≡ true → Split t es
 split-at t [] k = absurd (cc)
-split-at t (e ∷ es) k = by (t e) refl k
+split-at t (e ∷ es) k = by (t e) refl (λ j. split-at t es j) k
   where
-    by : (b : Bool) → t e ≡ b → (b || has t es) ≡ true → Split t (e ∷ es)
-    by true q j = record { before = []; this = e; after = es; is = refl; holds = q }
-    by false q j =
-        let x : Split t es = split-at t es j in
+    by : (b : Bool) → t e ≡ b → (has t es ≡ true → Split t es) → (b || has t es) ≡ true → Split t (e ∷ es)
+    by true q h j = record { before = []; this = e; after = es; is = refl; holds = q }
+    by false q h j =
+        let x : Split t es = h j in
         record {
           before = e ∷ x.before;
           this = x.this;
@@ -209,12 +209,13 @@ others_from to (c ∷ cs) = cond (ltb c.place to) (others_from to cs) (c ∷ oth
 
 both-parts : (to : ℕ) (cs : List Coming) → length (futures_before to cs) + length (others_from to cs) ≡ length cs
 both-parts to [] = refl
-both-parts to (c ∷ cs) = by (ltb c.place to)
+both-parts to (c ∷ cs) = by (ltb c.place to) (both-parts to cs)
   where
-    by : (b : Bool) → length (cond b (c.future ∷ futures_before to cs) (futures_before to cs))
+    by : (b : Bool) → length (futures_before to cs) + length (others_from to cs) ≡ length cs →
+        length (cond b (c.future ∷ futures_before to cs) (futures_before to cs))
         + length (cond b (others_from to cs) (c ∷ others_from to cs)) ≡ suc (length cs)
-    by true = omega (arith, both-parts to cs)
-    by false = omega (arith, both-parts to cs)
+    by true h = omega (arith, h)
+    by false h = omega (arith, h)
 
 coming-is : (g place : ℕ) (c : Coming) → is_coming g place c ≡ true → (c.future ≡ g) × (c.place ≡ place)
 coming-is g place c k = by (c.future == g) (c.place == place) refl refl k
@@ -227,7 +228,7 @@ coming-is g place c k = by (c.future == g) (c.place == place) refl refl k
 early-in : (g place to : ℕ) (cs : List Coming) → list_any (is_coming g place) cs ≡ true → place < to →
     1 ≤ times g (futures_before to cs)
 early-in g place to [] k l = absurd (cc)
-early-in g place to (c ∷ cs) k l = by (is_coming g place c) refl k
+early-in g place to (c ∷ cs) k l = by (is_coming g place c) refl (λ i. early-in g place to cs i l) k
   where
     here : (b : Bool) → c.place < to → ltb c.place to ≡ b → c.future ≡ g →
         1 ≤ times g (cond b (c.future ∷ futures_before to cs) (futures_before to cs))
@@ -239,17 +240,19 @@ early-in g place to (c ∷ cs) k l = by (is_coming g place c) refl k
     more true i = omega (arith, i)
     more false i = i
 
-    by : (b : Bool) → is_coming g place c ≡ b → (b || list_any (is_coming g place) cs) ≡ true →
+    by : (b : Bool) → is_coming g place c ≡ b →
+        (list_any (is_coming g place) cs ≡ true → 1 ≤ times g (futures_before to cs)) →
+        (b || list_any (is_coming g place) cs) ≡ true →
         1 ≤ times g (cond (ltb c.place to) (c.future ∷ futures_before to cs) (futures_before to cs))
-    by true e i =
+    by true e h i =
         let x : (c.future ≡ g) × (c.place ≡ place) = coming-is g place c e in
         here (ltb c.place to) (omega (arith, l, x.1)) refl x.0
-    by false e i = more (ltb c.place to) (early-in g place to cs i l)
+    by false e h i = more (ltb c.place to) (h i)
 
 late-in : (g place to : ℕ) (cs : List Coming) → list_any (is_coming g place) cs ≡ true → to ≤ place →
     list_any (is_coming g place) (others_from to cs) ≡ true
 late-in g place to [] k l = absurd (cc)
-late-in g place to (c ∷ cs) k l = by (is_coming g place c) refl k
+late-in g place to (c ∷ cs) k l = by (is_coming g place c) refl (λ i. late-in g place to cs i l) k
   where
     here : (b : Bool) → to ≤ c.place → ltb c.place to ≡ b → is_coming g place c ≡ true →
         list_any (is_coming g place) (cond b (others_from to cs) (c ∷ others_from to cs)) ≡ true
@@ -265,12 +268,14 @@ late-in g place to (c ∷ cs) k l = by (is_coming g place c) refl k
         ends true = refl
         ends false = refl
 
-    by : (b : Bool) → is_coming g place c ≡ b → (b || list_any (is_coming g place) cs) ≡ true →
+    by : (b : Bool) → is_coming g place c ≡ b →
+        (list_any (is_coming g place) cs ≡ true → list_any (is_coming g place) (others_from to cs) ≡ true) →
+        (b || list_any (is_coming g place) cs) ≡ true →
         list_any (is_coming g place) (cond (ltb c.place to) (others_from to cs) (c ∷ others_from to cs)) ≡ true
-    by true e i =
+    by true e h i =
         let x : (c.future ≡ g) × (c.place ≡ place) = coming-is g place c e in
         here (ltb c.place to) (omega (arith, l, x.1)) refl e
-    by false e i = more (ltb c.place to) (late-in g place to cs i l)
+    by false e h i = more (ltb c.place to) (h i)
 
 -- no more are queued in a search than become common in it
 

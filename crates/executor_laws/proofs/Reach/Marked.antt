@@ -19,13 +19,13 @@ use Rattle.executor_model.specs.declared.step.Hint.{Hint}
 use Rattle.executor_model.specs.declared.step.Step.{Step}
 use Rattle.executor_model.specs.declared.step.Step.TheVariants as step_is
 use Rattle.executor_model.specs.declared.step.StepError.{StepError}
-use Rattle.executor_model.specs.Acts.{enter_by}
+use Rattle.executor_model.specs.Acts.{enter_by, entered}
 use Rattle.executor_model.specs.Doing.{act}
 use Rattle.executor_model.specs.Executions.{run_all}
 use Rattle.executor_model.specs.Good.{Good, pasts}
 use Rattle.executor_model.specs.Rows.{past_of}
 use Rattle.executor_model.specs.Sound.{times}
-use Rattle.executor_model.specs.Steps.{Machine, after, answer_refusal, begun, gone_on, mine, part_after, part_refusal, react, refusal}
+use Rattle.executor_model.specs.Steps.{Machine, after, answer_refusal, begun, below_top, gone_on, mine, part_after, part_refusal, react, refusal}
 use Rattle.executor_model.specs.Steps.{run, settled_by, stack, start, step, stepped, top}
 use Rattle.executor_model.specs.Weights.{past, same, weigh, weigh_all}
 use Rattle.executor_model.specs.World.{World, Done, log, mark_of, queue_of, queued_in}
@@ -48,7 +48,7 @@ pub data Grown (w v : World) : Type 0 where
 grown-enter : (b c : Bool) (m : Mark) (p : ℕ) (w : World) → Grown w (enter_by b c m p w).world
 grown-enter true c m p w = kept refl
 grown-enter false true m p w = kept refl
-grown-enter false false m p w = one m refl (omega (arith, length-append w.tasks (_ ∷ [])))
+grown-enter false false m p w = one m refl (omega (arith, length-append w.tasks (entered w.is_static ∷ [])))
 
 grown-act : (b : Bool) (p : ℕ) (h : Hint) (o : Op) (w : World) → lists o ≡ b → Grown w (act p h o w).world
 grown-act false p h o w n = kept (same-entries p h o w n)
@@ -121,7 +121,7 @@ known-top n s p g z e = by (ltb p (length s.parties)) refl
           z,
           weigh_all-set (past_of n) s.parties p [] l,
           ap (weigh (past_of n)) (topped (stack s p) (op.Queue (queue_op.Append g)) e),
-          weigh-append (past_of n) _ (op.Queue (queue_op.Append g) ∷ []),
+          weigh-append (past_of n) (below_top (stack s p)) (op.Queue (queue_op.Append g) ∷ []),
         )
     by false q =
         let l : length s.parties ≤ p = grind (arith, nat_tests) in

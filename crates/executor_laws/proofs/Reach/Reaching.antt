@@ -106,7 +106,7 @@ pub has-around : (f p : ℕ) (c : Call) (a : Reply) (es : Trace) → has (takes 
 has-around f p c a es e = list_any-append (takes f) es (event.CallEnded p a ∷ []) ∙ ap (λ (b : Bool). b || false) e
 
 -- what a search does that finds a future
-pub found-events : (m : Mark) (f p : ℕ) (c : Call) (a : Reply) (s new : Machine) → First m f p c a s new → Grows s new
+abbrev pub found-events : (m : Mark) (f p : ℕ) (c : Call) (a : Reply) (s new : Machine) → First m f p c a s new → Grows s new
 found-events m f p c a s new x = record {
   grown = event.CallBegun p c ∷ (x.meanwhile ++ event.CallEnded p a ∷ []);
   trace = x.events;
@@ -187,7 +187,10 @@ module _ (m : Mark) (f : ℕ) where
         ap (named m) same_events,
         one-turn x.mark x.future t.party t.call t.found s k.0 a m,
       ) in
-      on x a e same_events count (where-found m front f back s.world x q)
+      on x a e same_events count
+      (λ less more i n. takes-place ts k.0 new (reached-new s r rest t.party t.call t.steps k.0 k.1)
+      (at-rest s r rest t.party t.call t.steps k.0 k.1 a.there) less more i k.2 n)
+      (where-found m front f back s.world x q)
     where
       queued-place : (w : World) (front back : List ℕ) → (queue_of w m).items ≡ front ++ f ∷ back → 1 ≤ times f (queued_in w)
       queued-place w front back q = omega (
@@ -198,42 +201,38 @@ module _ (m : Mark) (f : ℕ) where
         first-times f back,
       )
 
-      again : (x : Spot s.world) → First x.mark x.future t.party t.call t.found s k.0 → Grows s k.0 →
-          (less more : List ℕ) → (queue_of k.0.world m).items ≡ less ++ f ∷ more →
-          length less < named m (grows ts k.0 new k.2).grown → Takes f s new
-      again x a e less more i n =
-          let y : Takes f k.0 new =
-          takes-place ts k.0 new (reached-new s r rest t.party t.call t.steps k.0 k.1)
-          (at-rest s r rest t.party t.call t.steps k.0 k.1 a.there) less more i k.2 n in
-          record {
-            grows = grows-and s k.0 new e y.grows;
-            taken = list_any-append (takes f) e.grown y.grows.grown ∙ or-right _ _ y.taken;
-          }
+      again : Grows s k.0 → Takes f k.0 new → Takes f s new
+      again e y = record {
+        grows = grows-and s k.0 new e y.grows;
+        taken = list_any-append (takes f) e.grown y.grows.grown ∙ or-right _ _ y.taken;
+      }
 
       on : (x : Spot s.world) → (a : First x.mark x.future t.party t.call t.found s k.0) → (e : Grows s k.0) →
           e.grown ≡ event.CallBegun t.party t.call ∷ (a.meanwhile ++ event.CallEnded t.party t.found ∷ []) →
           named m (grows (t ∷ ts) s new k).grown
           ≡ cond (same_mark m (first_of s.world.urgent_turns)) 1 0 + named m (grows ts k.0 new k.2).grown →
+          ((less more : List ℕ) → (queue_of k.0.world m).items ≡ less ++ f ∷ more →
+          length less < named m (grows ts k.0 new k.2).grown → Takes f k.0 new) →
           Where m front f back s.world x → Takes f s new
-      on x a e i c (takes_it _ g _ _) = record {
+      on x a e i c further (takes_it _ g _ _) = record {
         grows = grows-and s k.0 new e (grows ts k.0 new k.2);
         taken = list_any-append (takes f) e.grown (grows ts k.0 new k.2).grown
             ∙ or-left _ _ (ap (has (takes f)) i
             ∙ has-around f t.party t.call t.found a.meanwhile
             (ap (λ (y : ℕ). has (takes y) a.meanwhile) (sym g) ∙ a.taken));
       }
-      on x a e i c (takes_before g less z j) = again x a e less (back ++ a.added m)
+      on x a e i c further (takes_before g less z j) = again e (further less (back ++ a.added m)
           (a.queue m ∙ (ap (λ (ys : List ℕ). ys ++ a.added m) j ∙ append_assoc less (f ∷ back) (a.added m)))
-          (omega (arith, l, c, ap length z, at-most (same_mark m (first_of s.world.urgent_turns))))
-      on x a e i c (takes_other z d j) = again x a e front (back ++ a.added m)
+          (omega (arith, l, c, ap length z, at-most (same_mark m (first_of s.world.urgent_turns)))))
+      on x a e i c further (takes_other z d j) = again e (further front (back ++ a.added m)
           (a.queue m ∙ (ap (λ (ys : List ℕ). ys ++ a.added m) j ∙ append_assoc front (f ∷ back) (a.added m)))
-          (omega (arith, l, c, ap (λ (n : Mark). cond (same_mark m n) 1 0) d, apart m))
+          (omega (arith, l, c, ap (λ (n : Mark). let i : ℕ = cond (same_mark m n) 1 0 in i) d, apart m)))
 
       at-most : (b : Bool) → cond b 1 0 ≤ 1
       at-most true = omega arith
       at-most false = omega arith
 
-      apart : (m : Mark) → cond (same_mark m (other m)) 1 0 ≡ 0
+      apart : (m : Mark) → (let i : ℕ = cond (same_mark m (other m)) 1 0 in i) ≡ 0
       apart Plain = refl
       apart Urgent = refl
 
@@ -297,7 +296,11 @@ module _ (f : ℕ) where
         first-times f back,
       )) in
       let x : Spot s.world = common-spot s r rest f common in
-      on x (first-taken s r rest t.party t.call t.found t.searches t.steps k.0 k.1 x)
+      let a : First x.mark x.future t.party t.call t.found s k.0 =
+      first-taken s r rest t.party t.call t.found t.searches t.steps k.0 k.1 x in
+      on x a
+      (λ less more i n. takes-plain ts k.0 new (reached-new s r rest t.party t.call t.steps k.0 k.1)
+      (at-rest s r rest t.party t.call t.steps k.0 k.1 a.there) less more i k.2 plain n)
       (where-found Plain front f back s.world x q)
     where
       e : Grows s k.0
@@ -307,8 +310,9 @@ module _ (f : ℕ) where
       empty = none-urgent s r (plain-before (t ∷ ts) s new k plain)
 
       on : (x : Spot s.world) → (a : First x.mark x.future t.party t.call t.found s k.0) →
-          Where Plain front f back s.world x → Takes f s new
-      on x a (takes_it _ g _ _) = record {
+          ((less more : List ℕ) → (queue_of k.0.world Plain).items ≡ less ++ f ∷ more → length less < length ts →
+          Takes f k.0 new) → Where Plain front f back s.world x → Takes f s new
+      on x a further (takes_it _ g _ _) = record {
         grows = grows-and s k.0 new (found-events x.mark x.future t.party t.call t.found s k.0 a) (grows ts k.0 new k.2);
         taken = list_any-append (takes f)
             (event.CallBegun t.party t.call ∷ (a.meanwhile ++ event.CallEnded t.party t.found ∷ []))
@@ -316,18 +320,16 @@ module _ (f : ℕ) where
             ∙ or-left _ _ (has-around f t.party t.call t.found a.meanwhile
             (ap (λ (y : ℕ). has (takes y) a.meanwhile) (sym g) ∙ a.taken));
       }
-      on x a (takes_before g less z j) =
-          let y : Takes f k.0 new =
-          takes-plain ts k.0 new (reached-new s r rest t.party t.call t.steps k.0 k.1)
-          (at-rest s r rest t.party t.call t.steps k.0 k.1 a.there) less (back ++ a.added Plain)
+      on x a further (takes_before g less z j) =
+          let y : Takes f k.0 new = further less (back ++ a.added Plain)
           (a.queue Plain
-          ∙ (ap (λ (ys : List ℕ). ys ++ a.added Plain) j ∙ append_assoc less (f ∷ back) (a.added Plain))) k.2 plain
+          ∙ (ap (λ (ys : List ℕ). ys ++ a.added Plain) j ∙ append_assoc less (f ∷ back) (a.added Plain)))
           (omega (arith, l, ap length z)) in
           record {
             grows = grows-and s k.0 new e y.grows;
             taken = list_any-append (takes f) e.grown y.grows.grown ∙ or-right _ _ y.taken;
           }
-      on x a (takes_other z d j) =
+      on x a further (takes_other z d j) =
           let no : x.future ∷ x.rest ≡ [] =
           sym x.is ∙ (ap (λ (n : Mark). (queue_of s.world n).items) z ∙ empty) in absurd (cc)
 

@@ -93,7 +93,7 @@ named-none m (e ∷ es) k = omega (
     left-no true b q = absurd (cc)
     left-no false b q = (refl, q)
 
-    quiet : (e : Event) → is_turn e ≡ false → cond (names m e) 1 0 ≡ 0
+    quiet : (e : Event) → is_turn e ≡ false → (let n : ℕ = cond (names m e) 1 0 in n) ≡ 0
     quiet (event.Looked p n) q = absurd (cc)
     quiet _ q = refl
 
@@ -386,7 +386,8 @@ module _ (s : Machine) (r : Reached s) (rest : IsAtRest s) (p : ℕ) (steps : Li
       let told : Trace = event.CallBegun p call.TryTick ∷ more in
       let a : _ = finds-one p new (new-idle s r rest p call.TryTick steps new k) (op.Queue queue_op.TakeTurn) takes_one
       (op.End reply.No hold.Executor ∷ []) taking_up unanswered (λ look u. refl) (λ v look. refl) (λ h v. refl)
-      tick-misses tick-hits calling x taking in
+      tick-misses tick-hits calling
+      (record { mark = x.mark; future = x.future; rest = x.rest; is = x.is; turn = x.turn }) taking in
       first-of s r rest p call.TryTick steps new k x.mark x.future x.rest x.is told refl reply.Yes more refl refl
       (λ n. omega arith)
       (from-found s r rest p call.TryTick steps new k x.mark x.future x.rest x.is told refl reply.Yes hold.Executor
@@ -487,7 +488,8 @@ module _ (s : Machine) (r : Reached s) (rest : IsAtRest s) (p t : ℕ) (b : By) 
     found-so : FoundBy (tick_of s.world t)
     found-so = finds-one p new idle-new (op.Tick (tick_op.Search polled-by)) looks_so
         (op.Tick (tick_op.CopyWaker polled-by) ∷ []) found_one unanswered (λ look u. refl) (λ v look. refl)
-        (λ h v. refl) poll-misses poll-hits beginning x searching
+        (λ h v. refl) poll-misses poll-hits beginning
+        (record { mark = x.mark; future = x.future; rest = x.rest; is = x.is; turn = x.turn }) searching
 
     goes-there : (under : List Op) (o : Op) (y : Ticker) → FoundBy y →
         (onto p (found-by y) []).todo

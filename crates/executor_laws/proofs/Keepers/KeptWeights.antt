@@ -100,6 +100,7 @@ load-found f w x g =
 pub load-stolen : (f : ℕ) (t : Then) (w : World) (x : RunPoll) →
     weigh (load_of f) (runs.stolen t w x).next ≡ then_waiting f t
 load-stolen f (then.Found g) w x = load-found f w x g
+load-stolen f (then.StealPlain g) w x = omega arith
 load-stolen f (then.Run g) w x = load-run_by f _ w x g
 load-stolen f (then.Walk at left) w x = refl
 

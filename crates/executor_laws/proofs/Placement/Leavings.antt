@@ -2,7 +2,7 @@
 -- Who leaves the list of queues, as the run's own future was ready or the run is dropped, goes on to leave it until its
 -- call ends; and nobody else begins to.
 use Rattle.std.proofs.Common.{◌≡◌, ◌∙◌, ℕ, zero, suc, ◌≤◌, ◌%◌, List, [], ◌∷◌}
-use Rattle.std.proofs.Common.{length, Bool, true, false, refl, arith}
+use Rattle.std.proofs.Common.{length, Bool, true, false, refl, ap, arith}
 use Rattle.std.specs.Prelude.{Option, Some, None}
 use Rattle.executor_model.specs.declared.op.Look.{Look}
 use Rattle.executor_model.specs.declared.op.Look.TheVariants.{First, Second}
@@ -45,11 +45,11 @@ use Rattle.executor_model.specs.declared.step.UserEnd.TheVariants as end
 use Rattle.executor_model.specs.Acts.{copy_by}
 use Rattle.executor_model.specs.ActsOfRuns.{call_by_reference, make_room_by, make_run_by, reschedule_by, steal_by, wake_own}
 use Rattle.executor_model.specs.ActsOfSleepers.{copy_sleeper_by, sleep_again_by, sleep_anew_by, fall_asleep_by}
-use Rattle.executor_model.specs.ActsOfSleepers.{sleep_listed_by, pend_as, look_tick_by, sleeper_goes}
+use Rattle.executor_model.specs.ActsOfSleepers.{sleep_listed_by, held_as, pend_as, look_tick_by, sleeper_goes}
 use Rattle.executor_model.specs.Doing.{act, list_act, run_act, search_by_who}
 use Rattle.executor_model.specs.Rows.{running_of}
 use Rattle.executor_model.specs.Steps.{accepts, begun, drop_run, future_of, kept, poll_run, react, with_future}
-use Rattle.executor_model.specs.Weights.{same, weigh}
+use Rattle.executor_model.specs.Weights.{is_run, same, weigh}
 use Rattle.executor_model.specs.World.{World, Ticker, Awake, Asleep, Left, Stage, New, Listed, Ended, Done, log, own_of, task}
 use Rattle.executor_model.proofs.Steps.Asides.{aside-owed}
 use Rattle.executor_model.proofs.Quiet.Calls.{calling_of}
@@ -65,6 +65,7 @@ use Rattle.executor_laws.proofs.Placement.Answering.{is_end, readying_of}
 abbrev pub off_of : ℕ → Op → ℕ
 off_of r (op.Run (run_op.Reschedule q reply.Ready)) = same r q
 off_of r (op.End reply.Ready (hold.Run q)) = same r q
+off_of r (op.Tick (tick_op.Look s look)) = is_run r s.who
 off_of r _ = 0
 
 -- it leaves as it is dropped
@@ -90,6 +91,7 @@ leaving_of r (op.List (list_op.LockWrite s)) = leaving_section r s
 leaving_of r (op.List (list_op.Write s)) = leaving_section r s
 leaving_of r (op.Run (run_op.Reschedule q a)) = same r q
 leaving_of r (op.End reply.Ready (hold.Run q)) = same r q
+leaving_of r (op.Tick (tick_op.Look s look)) = is_run r s.who
 leaving_of r _ = 0
 
 same-few : (r q : ℕ) → same r q ≤ 1
@@ -124,11 +126,16 @@ section-few : (r : ℕ) (s : Section) → leaving_section r s ≤ 1
 section-few r (section.Unregister q a) = same-few r q
 section-few r _ = omega arith
 
+who-few : (r : ℕ) (who : TickOrRun) → is_run r who ≤ 1
+who-few r (tick_or_run.Tick t) = omega arith
+who-few r (tick_or_run.Run q) = same-few r q
+
 few : (r : ℕ) (o : Op) → leaving_of r o ≤ calling_of o
 few r (op.List (list_op.LockWrite s)) = section-few r s
 few r (op.List (list_op.Write s)) = section-few r s
 few r (op.Run (run_op.Reschedule q a)) = same-few r q
 few r (op.End reply.Ready (hold.Run q)) = same-few r q
+few r (op.Tick (tick_op.Look s look)) = who-few r s.who
 few r _ = omega arith
 
 mild : (r : ℕ) → Mild (leaving_of r)
@@ -255,7 +262,7 @@ none-run r p h (run_op.Reschedule q a) w e = absurd (cc)
 
 none-search : (r : ℕ) (who : TickOrRun) (p : ℕ) (w : World) (s : Sleeping) → s.who ≡ who →
     weigh (leaving_of r) (search_by_who who p w s).next ≡ 0
-none-search r (tick_or_run.Tick t) p w s e = refl
+none-search r (tick_or_run.Tick t) p w s e = omega (arith, ap (is_run r) e)
 none-search r (tick_or_run.Run q) p w s e =
     let x : RunPoll = record { run = q; waker = s.waker; poll = s.poll } in
     part-own (leaving_of r) (mild r) x 0 (part r x) (own_of w q) w
@@ -332,14 +339,18 @@ abbrev pub is_unregister : Op → Bool
 is_unregister (op.List (list_op.Write (section.Unregister q a))) = true
 is_unregister _ = false
 
+off-held : (r : ℕ) (who : TickOrRun) → off_of r (op.End reply.Ready (held_as who)) ≡ is_run r who
+off-held r (tick_or_run.Tick u) = refl
+off-held r (tick_or_run.Run u) = refl
+
 -- a look goes on with nothing of these, but that it may be ready
 leaves-look : (look : Look) (r : ℕ) (x : Ticker) (w : World) (q : List ℕ) (s : Sleeping) →
     Leaves r (op.Tick (tick_op.Look s look) ∷ []) (look_tick_by x w look q s).next
 leaves-look (First mark) r x w [] s = record { off = omega arith; dropping = omega arith; readying = omega arith }
 leaves-look (Second mark) r x w [] s = record { off = omega arith; dropping = omega arith; readying = omega arith }
-leaves-look look r Awake w (f ∷ rest) s = record { off = omega arith; dropping = omega arith; readying = omega arith }
-leaves-look look r (Asleep n) w (f ∷ rest) s = record { off = omega arith; dropping = omega arith; readying = omega arith }
-leaves-look look r Left w (f ∷ rest) s = record { off = omega arith; dropping = omega arith; readying = omega arith }
+leaves-look look r Awake w (f ∷ rest) s = record { off = omega (arith, off-held r s.who); dropping = omega arith; readying = omega arith }
+leaves-look look r (Asleep n) w (f ∷ rest) s = record { off = omega (arith, off-held r s.who); dropping = omega arith; readying = omega arith }
+leaves-look look r Left w (f ∷ rest) s = record { off = omega (arith, off-held r s.who); dropping = omega arith; readying = omega arith }
 
 leaves-by : (b : Bool) (r p : ℕ) (h : Hint) (o : Op) (w : World) → leaves o ≡ b → is_end o ≡ false →
     is_unregister o ≡ false → Leaves r (o ∷ []) (act p h o w).next

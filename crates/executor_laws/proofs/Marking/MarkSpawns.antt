@@ -209,7 +209,7 @@ data Spot (xs ys : Trace) (k : ℕ) (e : Event) : Type 0 where
   behind : (n : ℕ) → k ≡ length xs + n → slice_get ys n ≡ Some e → Spot xs ys k e
 
 spot : (xs ys : Trace) (k : ℕ) (e : Event) → slice_get (xs ++ ys) k ≡ Some e → Spot xs ys k e
-spot [] ys k e h = behind k refl h
+spot [] ys k e h = behind k (omega arith) h
 spot (x ∷ xs) ys zero e h = before h refl
 spot (x ∷ xs) ys (suc k) e h = by (spot xs ys k e h)
   where

@@ -13,12 +13,12 @@ use Rattle.executor_laws.proofs.Marking.MarkActs.{Steps, changes-step}
 use Rattle.executor_laws.proofs.Marking.MarkActs.Steps.{stays, counts, enters}
 
 -- so many turns from this count on name these
-named_from : ℕ → ℕ → List Mark
+abbrev named_from : ℕ → ℕ → List Mark
 named_from zero t = []
 named_from (suc n) t = first_of t ∷ named_from n (turn_after t)
 
 -- and then the count is this
-count_after : ℕ → ℕ → ℕ
+abbrev count_after : ℕ → ℕ → ℕ
 count_after zero t = t
 count_after (suc n) t = count_after n (turn_after t)
 
@@ -34,9 +34,10 @@ named-length : (n t : ℕ) → length (named_from n t) ≡ n
 named-length zero t = refl
 named-length (suc n) t = ap suc (named-length n (turn_after t))
 
-named-later : (b n t : ℕ) → drop b (named_from (b + n) t) ≡ named_from n (count_after b t)
-named-later zero n t = refl
-named-later (suc b) n t = named-later b n (turn_after t)
+named-later : (b n k t : ℕ) → n ≡ k + b → drop b (named_from n t) ≡ named_from k (count_after b t)
+named-later zero n k t e = ap (λ (m : ℕ). named_from m t) (let z : n ≡ k = omega (arith, e) in z)
+named-later (suc b) zero k t e = absurd (omega (arith, e))
+named-later (suc b) (suc n) k t e = named-later b n k (turn_after t) (omega (arith, e))
 
 turn-few : (t : ℕ) → t ≤ 7 → turn_after t ≤ 7
 turn-few zero h = omega arith
@@ -46,7 +47,11 @@ count-few : (n t : ℕ) → t ≤ 7 → count_after n t ≤ 7
 count-few zero t h = h
 count-few (suc n) t h = count-few n (turn_after t) (turn-few t h)
 
-first-eight : (n t : ℕ) → take 8 (named_from (8 + n) t) ≡ named_from 8 t
+-- eight and more
+abbrev eight_and : ℕ → ℕ
+eight_and n = suc (suc (suc (suc (suc (suc (suc (suc n)))))))
+
+first-eight : (n t : ℕ) → take 8 (named_from (eight_and n) t) ≡ named_from 8 t
 first-eight n t = refl
 
 -- one by one
@@ -85,10 +90,11 @@ one-plain : (w : World) → Counted w → (before : ℕ) → before + 8 ≤ leng
     plains (take 8 (drop before (looked w.trace))) ≡ 1
 one-plain w c b h =
     let more : ℕ = c.turns - (b + 8) in
-    let all : c.turns ≡ b + (8 + more) = omega (arith, h, ap (λ (ms : List Mark). length ms) c.named, named-length c.turns 7) in
-    ap (λ (ms : List Mark). plains (take 8 (drop b ms))) (c.named ∙ ap (λ (n : ℕ). named_from n 7) all)
-    ∙ (ap (λ (ms : List Mark). plains (take 8 ms)) (named-later b (8 + more) 7)
-    ∙ eight (count_after b 7) (count-few b 7 (omega arith)))
+    let all : c.turns ≡ eight_and more + b =
+    omega (arith, h, ap (λ (ms : List Mark). length ms) c.named, named-length c.turns 7) in
+    ap (λ (ms : List Mark). plains (take 8 (drop b ms))) c.named
+    ∙ (ap (λ (ms : List Mark). plains (take 8 ms)) (named-later b c.turns (eight_and more) 7 all)
+    ∙ (ap plains (first-eight more (count_after b 7)) ∙ eight (count_after b 7) (count-few b 7 (omega arith))))
 
 pub one-of-eight : (limit : ℕ) (kind : Kind) (parties : ℕ) (steps : List Step) →
     OneOfEightIsPlain (run steps (start limit kind parties))

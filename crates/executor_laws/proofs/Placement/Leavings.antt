@@ -306,6 +306,7 @@ leaving-more r zero w x = weighs-stolen (leaving_of r) x.poll 0 0 found x.then w
 leaving-more r (suc n) w x = refl
 
 not-leaving : (r : ℕ) (o : Op) → leaves o ≡ false → leaving_of r o ≡ 0
+not-leaving r (op.Tick (tick_op.Look s look)) e = absurd (cc)
 not-leaving r (op.List (list_op.LockWrite (section.Unregister q a))) e = absurd (cc)
 not-leaving r (op.List (list_op.Write (section.Unregister q a))) e = absurd (cc)
 not-leaving r (op.Run (run_op.Reschedule q a)) e = absurd (cc)

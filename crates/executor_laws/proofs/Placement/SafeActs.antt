@@ -1,11 +1,13 @@
 -- For due_futures_stand_with_their_keepers.
 -- Each thing that is done keeps a future away from the executor's queue (proofs/Placement/Safe), where it begins no poll of it and
 -- brings nothing into a run's own queue or from there.
-use Rattle.std.proofs.Common.{◌≡◌, ℕ, ◌+◌, ◌<◌, [], ◌∷◌, length, Bool, true, false, refl, ap, subst, arith}
+use Rattle.std.proofs.Common.{◌≡◌, ℕ, ◌+◌, ◌<◌, List, [], ◌∷◌, length, Bool, true, false, refl, ap, subst, arith}
 use Rattle.std.proofs.lemmas.List.{length-set}
 use Rattle.task_moves.specs.declared.moves.owed.Move.TheVariants as move
 use Rattle.executor_model.specs.declared.event.Answer.TheVariants as answer
 use Rattle.executor_model.specs.declared.event.Event.TheVariants as event
+use Rattle.executor_model.specs.declared.op.Look.{Look}
+use Rattle.executor_model.specs.declared.op.Look.TheVariants.{First, Second}
 use Rattle.executor_model.specs.declared.op.Op.{Op}
 use Rattle.executor_model.specs.declared.op.Op.TheVariants as op
 use Rattle.executor_model.specs.declared.op.RunOp.TheVariants as run_op
@@ -16,6 +18,8 @@ use Rattle.executor_model.specs.declared.op.TableOp.TheVariants as table_op
 use Rattle.executor_model.specs.declared.op.TickOp.TheVariants as tick_op
 use Rattle.executor_model.specs.declared.op.UserOp.TheVariants as user_op
 use Rattle.executor_model.specs.declared.step.Hint.{Hint}
+use Rattle.executor_model.specs.Acts.{mark_in}
+use Rattle.executor_model.specs.ActsOfSleepers.{look_tick_by}
 use Rattle.executor_model.specs.Doing.{act, search_by_who}
 use Rattle.executor_model.specs.Good.{pasts}
 use Rattle.executor_model.specs.Rows.{appends_of, past_of}
@@ -27,6 +31,7 @@ use Rattle.executor_model.proofs.Counts.Counting.{taken_up}
 use Rattle.executor_model.proofs.OneFuture.Effects.{effect-act}
 use Rattle.executor_model.proofs.OneFuture.Extras.{runs_of, runs_of_who}
 use Rattle.executor_model.proofs.Steps.Lists.{read_put, same_is}
+use Rattle.executor_model.proofs.Steps.QueuesByMark.{times-first}
 use Rattle.executor_laws.proofs.Placement.Safe.{Floor, KeepsSafe, Safe}
 use Rattle.executor_laws.proofs.Placement.SafeRuns.{safe-look, is_put, is_reschedule}
 use Rattle.executor_laws.proofs.Placement.SafeRuns.{safe-list, safe-run, safe-search_own, safe-steal}
@@ -74,6 +79,18 @@ safe-search : (who : TickOrRun) (p : ℕ) (h : Hint) (w : World) (s : Sleeping) 
 safe-search (tick_or_run.Tick t) p h w s n u z e =
     safe-other p h (op.Tick (tick_op.Search s)) w n u z tt (ap runs_of_who e)
 safe-search (tick_or_run.Run r) p h w s n u z e = rw e (safe-search_own w s r e)
+
+-- a look takes one from a queue at most
+safe-look : (look : Look) (x : Ticker) (q : List ℕ) (w : World) (s : Sleeping) → (queue_of w (mark_in look)).items ≡ q →
+    KeepsSafe w (op.Tick (tick_op.Look s look) ∷ []) (look_tick_by x w look q s)
+safe-look (First mark) x [] w s e g r n b h = grind arith
+safe-look (Second mark) x [] w s e g r n b h = grind arith
+safe-look look Awake (f ∷ rest) w s e g r n b h =
+    let z = times-first g f rest (mark_in look) w.queues e in grind (arith, same_is)
+safe-look look (Asleep k) (f ∷ rest) w s e g r n b h =
+    let z = times-first g f rest (mark_in look) w.queues e in grind (arith, same_is)
+safe-look look Left (f ∷ rest) w s e g r n b h =
+    let z = times-first g f rest (mark_in look) w.queues e in grind (arith, same_is)
 
 -- each thing to do that speaks of futures that are there
 pub safe-act : (p : ℕ) (h : Hint) (o : Op) (w : World) → length w.awaiters ≡ length w.tasks →

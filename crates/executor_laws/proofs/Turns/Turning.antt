@@ -50,7 +50,7 @@ use Rattle.executor_laws.proofs.Reach.Searching.{Spot, at-rest}
 use Rattle.executor_laws.proofs.RunReach.RunKeeps.{So, grows-polls, so-more, takes-between, takes-later, takes-now}
 use Rattle.executor_laws.proofs.RunReach.RunKeeps as keeping
 use Rattle.executor_laws.proofs.RunReach.RunLeaves.{gone-onto}
-use Rattle.executor_laws.proofs.RunReach.RunReaching.{First, arrived, entry, is-due, new-idle, poll, reached-new, takes-first}
+use Rattle.executor_laws.proofs.RunReach.RunReaching.{First as Finds, arrived, entry, is-due, new-idle, poll, reached-new, takes-first}
 use Rattle.executor_laws.proofs.RunReach.RunReaching.First.{in_common, in_own}
 use Rattle.executor_laws.proofs.RunReach.RunWalks.{Onward, onward}
 use Rattle.executor_laws.proofs.RunReach.RunWalks.Onward.{acted, answered}
@@ -235,7 +235,7 @@ module _ (t : LoneRunPoll) (ts : List LoneRunPoll) (s new : Machine) (y : Reache
   first-one : InLine f 0 (own_of s.world r ++ s.world.queues.plain.items) → Takes f s new
   first-one z = by z.front z.is z.few (own_of s.world r) refl
     where
-      now : First f (own_of s.world r) s.world → Takes f s new
+      now : Finds f (own_of s.world r) s.world → Takes f s new
       now first = takes-now f s k.0 new
           (takes-first s y rest r t.party t.by t.steps k.0 k.1 f (still-due 0 z) first) (grows-polls r ts k.0 new k.2)
 

@@ -265,7 +265,7 @@ beside-leak_next false p w (f ∷ rest) =
     (none-both (acts.wake p v f).next (acts.leaking_ops rest) m.none (aside-leaking sits_of refl rest))
 
 beside-drain : (mark : Mark) (p : ℕ) (w : World) (q : List ℕ) → Beside w (acts.drain_by p w mark q)
-beside-drain Urgent p w [] = besides w _ (λ t. view-log t w (event.DropEnded p) (λ t n s. refl)) refl
+beside-drain Urgent p w [] = besides w _ (λ t. refl) refl
 beside-drain Plain p w [] = besides w _ (λ t. view-log t w (event.DropEnded p) (λ t n s. refl)) refl
 beside-drain mark p w (f ∷ rest) = besides w _ (λ t. refl) refl
 

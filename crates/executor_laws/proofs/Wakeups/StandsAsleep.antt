@@ -124,7 +124,8 @@ look-self : (look : Look) (t : TickOrRun) (k : ℕ) (a : Waker) (w : World) →
     (look_tick w (asleep a t k) look)
 look-self look (tick_or_run.Tick u) k a w =
     look-own look (place_of w (tick_or_run.Tick u)) u k a w (queue_of w (mark_in look)).items refl
-look-self look (tick_or_run.Run q) k a w = no-look look q k a w _
+look-self look (tick_or_run.Run q) k a w =
+    no-look look q k a w (look_tick w (asleep a (tick_or_run.Run q) k) look)
 
 pub stands-look : (look : Look) (t u : TickOrRun) (k : ℕ) (a : Waker) (w : World) →
     KeepsStands t w (op.Tick (tick_op.Look (asleep a u k) look) ∷ []) (look_tick w (asleep a u k) look)

@@ -261,7 +261,7 @@ module _ (s : Machine) (fine : Good s) (hs : Heard s) (ds : Deep s) (told : Slee
     unrefused u so = none u (unleft u so)
 
     -- somebody who sleeps has no entry
-    of_missing : (mark : Mark) → 1 ≤ length (queue_of s.world m).items → 1 ≤ s.world.sleepers.count → OneCalled s.world.trace
+    of_missing : (mark : Mark) → 1 ≤ length (queue_of s.world mark).items → 1 ≤ s.world.sleepers.count → OneCalled s.world.trace
     of_missing mark queued some =
         let few : length s.world.sleepers.wakers < s.world.sleepers.count =
         ⊎_elim (λ (x : SomeoneNotified s). x) (λ (x : 1 ≤ weigh_all (tells_of mark) s.parties). absurd
@@ -319,7 +319,7 @@ module _ (s : Machine) (fine : Good s) (hs : Heard s) (ds : Deep s) (told : Slee
             1 ≤ n + m + times_in f s.world.own → OneCalled s.world.trace
         by (suc n) m a b k = of_common Urgent (omega (arith, a, times-length f (queue_of s.world Urgent).items))
         by zero (suc m) a b k = of_common Plain (omega (arith, b, times-length f (queue_of s.world Plain).items))
-        by zero zero a b k = of_own k
+        by zero zero a b k = of_own (omega (arith, k))
 
 pub some-called : (limit : ℕ) (kind : Kind) (parties : ℕ) (steps : List Step) (f : ℕ) →
     SomeStandingIsCalled f (run steps (start limit kind parties)).world.trace

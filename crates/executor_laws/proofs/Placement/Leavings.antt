@@ -311,7 +311,6 @@ not-leaving r (op.List (list_op.LockWrite (section.Unregister q a))) e = absurd 
 not-leaving r (op.List (list_op.Write (section.Unregister q a))) e = absurd (cc)
 not-leaving r (op.Run (run_op.Reschedule q a)) e = absurd (cc)
 not-leaving r (op.End a held) e = absurd (cc)
-not-leaving r (op.Tick (tick_op.Look s look)) e = absurd (cc)
 not-leaving r _ e = refl
 
 -- how what has to do with leaving goes on

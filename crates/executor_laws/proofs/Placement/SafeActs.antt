@@ -25,7 +25,6 @@ use Rattle.executor_model.specs.Good.{pasts}
 use Rattle.executor_model.specs.Rows.{appends_of, past_of}
 use Rattle.executor_model.specs.Sound.{Pend, with_ops}
 use Rattle.executor_model.specs.Weights.{same, weigh}
-use Rattle.executor_model.specs.Acts.{mark_in}
 use Rattle.executor_model.specs.World.{World, done, log, task, place_of, queue_of}
 use Rattle.executor_model.proofs.Counts.Counting.{taken_up}
 use Rattle.executor_model.proofs.OneFuture.Effects.{effect-act}
@@ -81,15 +80,15 @@ safe-search (tick_or_run.Tick t) p h w s n u z e =
 safe-search (tick_or_run.Run r) p h w s n u z e = rw e (safe-search_own w s r e)
 
 -- a look takes one from a queue at most
-safe-look : (look : Look) (x : Ticker) (q : List ℕ) (w : World) (s : Sleeping) → (queue_of w (mark_in look)).items ≡ q →
+safe-looks : (look : Look) (x : Ticker) (q : List ℕ) (w : World) (s : Sleeping) → (queue_of w (mark_in look)).items ≡ q →
     KeepsSafe w (op.Tick (tick_op.Look s look) ∷ []) (look_tick_by x w look q s)
-safe-look (First mark) x [] w s e g r n b h = grind arith
-safe-look (Second mark) x [] w s e g r n b h = grind arith
-safe-look look Awake (f ∷ rest) w s e g r n b h =
+safe-looks (First mark) x [] w s e g r n b h = grind arith
+safe-looks (Second mark) x [] w s e g r n b h = grind arith
+safe-looks look Awake (f ∷ rest) w s e g r n b h =
     let z = times-first g f rest (mark_in look) w.queues e in grind (arith, same_is)
-safe-look look (Asleep k) (f ∷ rest) w s e g r n b h =
+safe-looks look (Asleep k) (f ∷ rest) w s e g r n b h =
     let z = times-first g f rest (mark_in look) w.queues e in grind (arith, same_is)
-safe-look look Left (f ∷ rest) w s e g r n b h =
+safe-looks look Left (f ∷ rest) w s e g r n b h =
     let z = times-first g f rest (mark_in look) w.queues e in grind (arith, same_is)
 
 -- each thing to do that speaks of futures that are there

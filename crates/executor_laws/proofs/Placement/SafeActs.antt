@@ -26,6 +26,7 @@ use Rattle.executor_model.specs.Rows.{appends_of, past_of}
 use Rattle.executor_model.specs.Sound.{Pend, with_ops}
 use Rattle.executor_model.specs.Weights.{same, weigh}
 use Rattle.executor_model.specs.World.{World, done, log, task, place_of, queue_of}
+use Rattle.executor_model.specs.World.{Ticker, Awake, Asleep, Left}
 use Rattle.executor_model.proofs.Counts.Counting.{taken_up}
 use Rattle.executor_model.proofs.OneFuture.Effects.{effect-act}
 use Rattle.executor_model.proofs.OneFuture.Extras.{runs_of, runs_of_who}

@@ -44,8 +44,8 @@ use Rattle.executor_model.specs.declared.step.UserEnd.{UserEnd}
 use Rattle.executor_model.specs.declared.step.UserEnd.TheVariants as end
 use Rattle.executor_model.specs.Acts.{copy_by}
 use Rattle.executor_model.specs.ActsOfRuns.{call_by_reference, make_room_by, make_run_by, reschedule_by, steal_by, wake_own}
-use Rattle.executor_model.specs.ActsOfSleepers.{held_as, copy_sleeper_by, sleep_again_by, sleep_anew_by, fall_asleep_by}
-use Rattle.executor_model.specs.ActsOfSleepers.{sleep_listed_by, pend_as, look_tick_by, sleeper_goes}
+use Rattle.executor_model.specs.ActsOfSleepers.{copy_sleeper_by, sleep_again_by, sleep_anew_by, fall_asleep_by}
+use Rattle.executor_model.specs.ActsOfSleepers.{sleep_listed_by, held_as, pend_as, look_tick_by, sleeper_goes}
 use Rattle.executor_model.specs.Doing.{act, list_act, run_act, search_by_who}
 use Rattle.executor_model.specs.Rows.{running_of}
 use Rattle.executor_model.specs.Steps.{accepts, begun, drop_run, future_of, kept, poll_run, react, with_future}
@@ -340,21 +340,18 @@ abbrev pub is_unregister : Op → Bool
 is_unregister (op.List (list_op.Write (section.Unregister q a))) = true
 is_unregister _ = false
 
-off-held : (r : ℕ) (who : TickOrRun) → off_of r (op.End reply.Ready (held_as who)) ≤ is_run r who
-off-held r (tick_or_run.Tick u) = omega arith
-off-held r (tick_or_run.Run u) = omega arith
+off-held : (r : ℕ) (who : TickOrRun) → off_of r (op.End reply.Ready (held_as who)) ≡ is_run r who
+off-held r (tick_or_run.Tick u) = refl
+off-held r (tick_or_run.Run u) = refl
 
 -- a look goes on with nothing of these, but that it may be ready
 leaves-look : (look : Look) (r : ℕ) (x : Ticker) (w : World) (q : List ℕ) (s : Sleeping) →
     Leaves r (op.Tick (tick_op.Look s look) ∷ []) (look_tick_by x w look q s).next
 leaves-look (First mark) r x w [] s = record { off = omega arith; dropping = omega arith; readying = omega arith }
 leaves-look (Second mark) r x w [] s = record { off = omega arith; dropping = omega arith; readying = omega arith }
-leaves-look look r Awake w (f ∷ rest) s =
-    record { off = omega (arith, off-held r s.who); dropping = omega arith; readying = omega arith }
-leaves-look look r (Asleep n) w (f ∷ rest) s =
-    record { off = omega (arith, off-held r s.who); dropping = omega arith; readying = omega arith }
-leaves-look look r Left w (f ∷ rest) s =
-    record { off = omega (arith, off-held r s.who); dropping = omega arith; readying = omega arith }
+leaves-look look r Awake w (f ∷ rest) s = record { off = omega (arith, off-held r s.who); dropping = omega arith; readying = omega arith }
+leaves-look look r (Asleep n) w (f ∷ rest) s = record { off = omega (arith, off-held r s.who); dropping = omega arith; readying = omega arith }
+leaves-look look r Left w (f ∷ rest) s = record { off = omega (arith, off-held r s.who); dropping = omega arith; readying = omega arith }
 
 leaves-by : (b : Bool) (r p : ℕ) (h : Hint) (o : Op) (w : World) → leaves o ≡ b → is_end o ≡ false →
     is_unregister o ≡ false → Leaves r (o ∷ []) (act p h o w).next

@@ -25,15 +25,14 @@ use Rattle.executor_model.specs.Good.{pasts}
 use Rattle.executor_model.specs.Rows.{appends_of, past_of}
 use Rattle.executor_model.specs.Sound.{Pend, with_ops}
 use Rattle.executor_model.specs.Weights.{same, weigh}
-use Rattle.executor_model.specs.World.{World, done, log, task, place_of, queue_of}
-use Rattle.executor_model.specs.World.{Ticker, Awake, Asleep, Left}
+use Rattle.executor_model.specs.World.{World, Ticker, Awake, Asleep, Left, done, log, queue_of, task}
 use Rattle.executor_model.proofs.Counts.Counting.{taken_up}
 use Rattle.executor_model.proofs.OneFuture.Effects.{effect-act}
 use Rattle.executor_model.proofs.OneFuture.Extras.{runs_of, runs_of_who}
 use Rattle.executor_model.proofs.Steps.Lists.{read_put, same_is}
 use Rattle.executor_model.proofs.Steps.QueuesByMark.{times-first}
 use Rattle.executor_laws.proofs.Placement.Safe.{Floor, KeepsSafe, Safe}
-use Rattle.executor_laws.proofs.Placement.SafeRuns.{safe-look, is_put, is_reschedule}
+use Rattle.executor_laws.proofs.Placement.SafeRuns.{is_put, is_reschedule}
 use Rattle.executor_laws.proofs.Placement.SafeRuns.{safe-list, safe-run, safe-search_own, safe-steal}
 use Rattle.executor_laws.proofs.Placement.SafeViews.{safe-effect}
 
@@ -81,15 +80,15 @@ safe-search (tick_or_run.Tick t) p h w s n u z e =
 safe-search (tick_or_run.Run r) p h w s n u z e = rw e (safe-search_own w s r e)
 
 -- a look takes one from a queue at most
-safe-looks : (look : Look) (x : Ticker) (q : List ℕ) (w : World) (s : Sleeping) → (queue_of w (mark_in look)).items ≡ q →
+safe-look : (look : Look) (x : Ticker) (q : List ℕ) (w : World) (s : Sleeping) → (queue_of w (mark_in look)).items ≡ q →
     KeepsSafe w (op.Tick (tick_op.Look s look) ∷ []) (look_tick_by x w look q s)
-safe-looks (First mark) x [] w s e g r n b h = grind arith
-safe-looks (Second mark) x [] w s e g r n b h = grind arith
-safe-looks look Awake (f ∷ rest) w s e g r n b h =
+safe-look (First mark) x [] w s e g r n b h = grind arith
+safe-look (Second mark) x [] w s e g r n b h = grind arith
+safe-look look Awake (f ∷ rest) w s e g r n b h =
     let z = times-first g f rest (mark_in look) w.queues e in grind (arith, same_is)
-safe-looks look (Asleep k) (f ∷ rest) w s e g r n b h =
+safe-look look (Asleep k) (f ∷ rest) w s e g r n b h =
     let z = times-first g f rest (mark_in look) w.queues e in grind (arith, same_is)
-safe-looks look Left (f ∷ rest) w s e g r n b h =
+safe-look look Left (f ∷ rest) w s e g r n b h =
     let z = times-first g f rest (mark_in look) w.queues e in grind (arith, same_is)
 
 -- each thing to do that speaks of futures that are there
@@ -106,5 +105,5 @@ safe-act p h (op.Run (run_op.SearchCommon x look)) w n u z m = safe-run p h (run
 safe-act p h (op.Run (run_op.LookOwn x at left)) w n u z m = safe-run p h (run_op.LookOwn x at left) w tt
 safe-act p h (op.Run (run_op.Reschedule r a)) w n u z m = absurd (cc)
 safe-act p h (op.Tick (tick_op.Search s)) w n u z m = safe-search s.who p h w s n u z refl
-safe-act p h (op.Tick (tick_op.Look s look)) w n u z m = safe-look look (place_of w s.who) w (queue_of w (mark_in look)).items s
+safe-act p h (op.Tick (tick_op.Look s look)) w n u z m = safe-look look _ _ w s refl
 safe-act p h o w n u z m = safe-other p h o w n u z m refl

@@ -2,17 +2,8 @@
 -- What a run does keeps a future away from the executor's queue, but for what it schedules.
 use Rattle.std.proofs.Common.{◌≡◌, ℕ, zero, suc, List, [], ◌∷◌, length, Bool, true, false}
 use Rattle.std.proofs.Common.{refl, sym, ap, subst, get_or, arith}
-use Rattle.executor_parts.specs.Marks.{first_of, other}
-use Rattle.executor_model.specs.declared.op.Look.{Look}
-use Rattle.executor_model.specs.declared.op.Look.TheVariants as look_at
-use Rattle.executor_model.specs.declared.call.Reply.TheVariants as reply
-use Rattle.executor_model.specs.declared.op.Hold.TheVariants as hold
-use Rattle.executor_model.specs.declared.op.SleeperOp.TheVariants as sleeper_op
-use Rattle.executor_model.specs.declared.op.TickOrRun.{TickOrRun}
-use Rattle.task_moves.specs.declared.moves.owed.Move.TheVariants as move
-use Rattle.executor_model.specs.ActsOfSleepers.{found_by, held_as, look_tick_by}
-use Rattle.executor_model.specs.World.{Asleep, Awake, Left, Ticker}
-use Rattle.executor_model.proofs.Awaiters.RunsQueue.Takes.{first as takes_first}
+use Rattle.executor_parts.specs.Marks.{first_of}
+use Rattle.executor_model.specs.declared.op.Look.TheVariants.{First}
 use Rattle.executor_model.specs.World.{queue_of}
 use Rattle.executor_model.specs.Acts.{mark_in}
 use Rattle.task_moves.specs.declared.moves.state.State.{State}
@@ -163,44 +154,6 @@ Stays (run_op.WakeOwn x) = ⊥
 Stays (run_op.Reschedule t a) = ⊥
 Stays _ = Unit {0}
 
-plain-found : (x : Ticker) (who : TickOrRun) (f : ℕ) → AllPlain
-    (found_by x who (op.Sleeper sleeper_op.ExchangeFlag ∷ op.Move move.TakeUp f ∷ op.End reply.Ready (held_as who) ∷ []))
-plain-found Awake (tick_or_run.Tick t) f v z = omega (
-  arith,
-  z (op.Sleeper sleeper_op.ExchangeFlag) refl,
-  z (op.Move move.TakeUp f) refl,
-  z (op.End reply.Ready (hold.Tick t)) refl,
-)
-plain-found Awake (tick_or_run.Run r) f v z = omega (
-  arith,
-  z (op.Sleeper sleeper_op.ExchangeFlag) refl,
-  z (op.Move move.TakeUp f) refl,
-  z (op.End reply.Ready (hold.Run r)) refl,
-)
-plain-found Left who f v z = plain-found Awake who f v z
-plain-found (Asleep n) who f v z = omega (arith, z (op.Tick (tick_op.WakeUp who)) refl, plain-found Awake who f v z)
-
-appends-found : (g : ℕ) (x : Ticker) (who : TickOrRun) (f : ℕ) → weigh (appends_of g)
-    (found_by x who (op.Sleeper sleeper_op.ExchangeFlag ∷ op.Move move.TakeUp f ∷ op.End reply.Ready (held_as who) ∷ []))
-    ≡ 0
-appends-found g Awake who f = refl
-appends-found g (Asleep n) who f = refl
-appends-found g Left who f = refl
-
--- a look at one of the executor's queues, as a tick looks
-pub safe-look : (look : Look) (x : Ticker) (w : World) (q : List ℕ) (s : Sleeping) →
-    KeepsSafe w (op.Tick (tick_op.Look s look) ∷ []) (look_tick_by x w look q s)
-safe-look (look_at.First m) x w [] s =
-    safe-fewer w (op.Tick (tick_op.Look s (look_at.First m)) ∷ []) (look_tick_by x w (look_at.First m) [] s)
-    (untouched w w refl) refl (λ g. refl) (λ v z. omega (arith, z (op.Tick (tick_op.Look s (look_at.Second (other m)))) refl))
-safe-look (look_at.Second m) x w [] s =
-    safe-fewer w (op.Tick (tick_op.Look s (look_at.Second m)) ∷ []) (look_tick_by x w (look_at.Second m) [] s)
-    (untouched w w refl) refl (λ g. refl) (λ v z. omega (arith, z (op.Tick (tick_op.CopyWaker s)) refl))
-safe-look look x w (f ∷ rest) s =
-    safe-fewer w (op.Tick (tick_op.Look s look) ∷ []) (look_tick_by x w look (f ∷ rest) s)
-    (fewer w (look_tick_by x w look (f ∷ rest) s).world (takes_first (mark_in look) refl)) refl
-    (λ g. appends-found g x s.who f) (plain-found x s.who f)
-
 pub safe-run : (p : ℕ) (h : Hint) (o : RunOp) (w : World) → Stays o → KeepsSafe w (op.Run o ∷ []) (run_act p h o w)
 safe-run p h run_op.MakeRoom w e =
     let d = run_act p h run_op.MakeRoom w in
@@ -213,7 +166,7 @@ safe-run p h run_op.ReturnRoom w e =
 safe-run p h (run_op.TakeTurn x) w e =
     let d = run_act p h (run_op.TakeTurn x) w in
     safe-fewer w (op.Run (run_op.TakeTurn x) ∷ []) d (untouched w d.world refl) refl (λ g. refl)
-    (λ v z. omega (arith, z (op.Run (run_op.SearchCommon x (look_at.First (first_of w.urgent_turns)))) refl))
+    (λ v z. omega (arith, z (op.Run (run_op.SearchCommon x (First (first_of w.urgent_turns)))) refl))
 safe-run p h (run_op.SearchCommon x look) w e =
     let d = run_act p h (run_op.SearchCommon x look) w in
     safe-fewer w (op.Run (run_op.SearchCommon x look) ∷ []) d (fewer w _ (takes-common look (queue_of w (mark_in look)).items w x))

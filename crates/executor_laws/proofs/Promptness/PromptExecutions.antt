@@ -375,8 +375,8 @@ or-off : (a : Bool) → (a || false) ≡ true → a ≡ true
 or-off true e = refl
 or-off false e = absurd (cc)
 
-own-party : (p q : ℕ) → eqb p q ≡ true → q ≡ p
-own-party p q k = grind (arith, nat_tests)
+own-is : (p q : ℕ) → eqb p q ≡ true → q ≡ p
+own-is p q k = grind (arith, nat_tests)
 
 -- which event came last
 last-began : (p : ℕ) (n : Last) (es : Trace) (e : Event) → last_after p n e ≡ Began →
@@ -385,7 +385,7 @@ last-began p n es (event.CallBegun q c) k = by (eqb p q) refl k
   where
     by : (b : Bool) → eqb p q ≡ b → last_by b p n (event.CallBegun q c) ≡ Began →
         (d : Call) × (es ++ event.CallBegun q c ∷ [] ≡ es ++ event.CallBegun p d ∷ [])
-    by true i j = (c, ap (λ (m : ℕ). es ++ event.CallBegun m c ∷ []) (own-party p q i))
+    by true i j = (c, ap (λ (m : ℕ). es ++ event.CallBegun m c ∷ []) (own-is p q i))
     by false i j = absurd (cc)
 last-began p n es (event.Looked q m) k = by (eqb p q) n k
   where
@@ -409,7 +409,7 @@ last-turned p n (event.Looked q m) k = by (eqb p q) n refl k
   where
     by : (b : Bool) (n : Last) → eqb p q ≡ b → cond b (on_turn n) Other ≡ Turned →
         (n ≡ Began) × ((x : Mark) × (event.Looked q m ≡ event.Looked p x))
-    by true Began i j = (refl, (m, ap (λ (o : ℕ). event.Looked o m) (own-party p q i)))
+    by true Began i j = (refl, (m, ap (λ (o : ℕ). event.Looked o m) (own-is p q i)))
     by true Turned i j = absurd (cc)
     by true Other i j = absurd (cc)
     by false n i j = absurd (cc)

@@ -348,7 +348,7 @@ not-all (t ∷ ts) s new r rest k f q n cs h =
     let rest0 : IsAtRest k0 = at-rest s r rest t.party t.call t.steps k0 k.1 a.there in
     let e : Grows s k0 = run-grows (Begin t.party t.call ∷ t.steps) s k0 k.1.made in
     let y : Grows k0 new = grows ts k0 new k.2 in
-    let none : has (takes f) e.grown || has (takes f) y.grown ≡ false = sym (list_any-append (takes f) e.grown y.grown) ∙ n in
+    let none : (has (takes f) e.grown || has (takes f) y.grown) ≡ false = sym (list_any-append (takes f) e.grown y.grown) ∙ n in
     let own_events : e.grown ≡ event.CallBegun t.party t.call ∷ (a.meanwhile ++ event.CallEnded t.party t.found ∷ []) =
     append_cancel_left s.world.trace e.grown _ (sym e.trace ∙ a.events) in
     let apart : same f x.future ≡ 0 = ⊎_elim

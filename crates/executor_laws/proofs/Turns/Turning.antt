@@ -12,7 +12,7 @@ use Rattle.executor_model.specs.declared.call.Call.TheVariants as call
 use Rattle.executor_model.specs.declared.kind.Kind.{Kind}
 use Rattle.executor_model.specs.declared.event.Event.TheVariants as event
 use Rattle.executor_model.specs.declared.op.Look.{Look}
-use Rattle.executor_model.specs.declared.op.Look.TheVariants as look_at
+use Rattle.executor_model.specs.declared.op.Look.TheVariants.{First, Second}
 use Rattle.executor_model.specs.declared.op.Op.TheVariants as op
 use Rattle.executor_model.specs.declared.op.RunOp.TheVariants as run_op
 use Rattle.executor_model.specs.declared.op.RunPoll.{RunPoll}
@@ -99,22 +99,22 @@ module _ (s : Machine) (y : Reached s) (rest : IsAtRest s) (r p : ℕ) (b : By) 
 
     -- before that at the urgent one, which is empty
     from-first : (k : Mark) (m : Machine) (others : List Step) → Reached m → So s.world.trace m.world →
-        own_of m.world r ≡ [] → stack m p ≡ op.Run (run_op.SearchCommon x (look_at.First k)) ∷ [] →
+        own_of m.world r ≡ [] → stack m p ≡ op.Run (run_op.SearchCommon x (First k)) ∷ [] →
         are_onward_of p others ≡ true → run_all others m ≡ Ok new →
         (n : ℕ) → InLine f (suc n) (own_of m.world r ++ m.world.queues.plain.items) → Outcome r f n s.world.trace new
-    from-first Plain m others z so none todo on made n q = from-look (look_at.First Plain) refl m others z so none todo on made n q
+    from-first Plain m others z so none todo on made n q = from-look (First Plain) refl m others z so none todo on made n q
     from-first Urgent m others z so none todo on made n q =
-        go (onward p m new [] (op.Run (run_op.SearchCommon x (look_at.First Urgent))) others todo z idles on made)
+        go (onward p m new [] (op.Run (run_op.SearchCommon x (First Urgent))) others todo z idles on made)
       where
-        go : Onward p m new [] (op.Run (run_op.SearchCommon x (look_at.First Urgent))) others → Outcome r f n s.world.trace new
+        go : Onward p m new [] (op.Run (run_op.SearchCommon x (First Urgent))) others → Outcome r f n s.world.trace new
         go (answered u others2 te v y2 n2 on2 l) = absurd (cc)
         go (acted h others2 te w y2 n2 on2 l) =
-            let v : Part = part m.world (op.Run (run_op.SearchCommon x (look_at.Second Plain)) ∷ []) in
-            let e : search_common_by m.world.queues.urgent.items m.world x (look_at.First Urgent)
-            ≡ done m.world (op.Run (run_op.SearchCommon x (look_at.Second Plain)) ∷ []) =
-            ap (λ (ys : List ℕ). search_common_by ys m.world x (look_at.First Urgent))
+            let v : Part = part m.world (op.Run (run_op.SearchCommon x (Second Plain)) ∷ []) in
+            let e : search_common_by m.world.queues.urgent.items m.world x (First Urgent)
+            ≡ done m.world (op.Run (run_op.SearchCommon x (Second Plain)) ∷ []) =
+            ap (λ (ys : List ℕ). search_common_by ys m.world x (First Urgent))
             (none-urgent m z (all-before m new others made plain)) in
-            from-look (look_at.Second Plain) refl (with_part m p v) others2
+            from-look (Second Plain) refl (with_part m p v) others2
             (subst (λ (d : Done). Reached (with_part m p (onto p d []))) e y2) so none (stack-set p m v l) on2
             (sym (ap (λ (d : Done). run_all others2 (with_part m p (onto p d []))) e) ∙ n2) n q
 
@@ -129,7 +129,7 @@ module _ (s : Machine) (y : Reached s) (rest : IsAtRest s) (r p : ℕ) (b : By) 
         go (answered u others2 te v y2 n2 on2 l) = absurd (cc)
         go (acted h others2 te w y2 n2 on2 l) =
             let first : Mark = first_of m.world.urgent_turns in
-            let v : Part = part (turned p m.world) (op.Run (run_op.SearchCommon x (look_at.First first)) ∷ []) in
+            let v : Part = part (turned p m.world) (op.Run (run_op.SearchCommon x (First first)) ∷ []) in
             from-first first (with_part m p v) others2 y2 (record {
               meanwhile = so.meanwhile ++ event.Looked p first ∷ [];
               trace = ap (λ (es : Trace). es ++ event.Looked p first ∷ []) so.trace

@@ -91,7 +91,7 @@ grows-and s next new x y = record {
       ∙ (ap (λ (es : Trace). es ++ y.grown) x.trace ∙ append_assoc s.world.trace x.grown y.grown);
 }
 
-pub grows : (ts : List LoneSearch) (s new : Machine) → AreLoneSearches ts s new → Grows s new
+abbrev pub grows : (ts : List LoneSearch) (s new : Machine) → AreLoneSearches ts s new → Grows s new
 grows [] s new e =
     record { grown = []; trace = sym (ap (λ (m : Machine). m.world.trace) e) ∙ sym (append-nil s.world.trace) }
 grows (t ∷ ts) s new k = grows-and s k.0 new (run-grows (Begin t.party t.call ∷ t.steps) s k.0 k.1.made)
@@ -164,6 +164,14 @@ where-found m front f back w x q = ⊎_elim
     here e (g ∷ less) z = takes_before g less refl
         (ap (λ (n : Mark). left_in n w m) e ∙ left-same m g (less ++ f ∷ back) w z)
 
+one-at-most : (b : Bool) → cond b 1 0 ≤ 1
+one-at-most true = omega arith
+one-at-most false = omega arith
+
+other-none : (m : Mark) → (let i : ℕ = cond (same_mark m (other m)) 1 0 in i) ≡ 0
+other-none Plain = refl
+other-none Urgent = refl
+
 module _ (m : Mark) (f : ℕ) where
   -- the first in a queue is taken first, by so many turns that name that queue
   takes-place : (ts : List LoneSearch) (s new : Machine) → Reached s → IsAtRest s → (front back : List ℕ) →
@@ -223,18 +231,10 @@ module _ (m : Mark) (f : ℕ) where
       }
       on x a e i c further (takes_before g less z j) = again e (further less (back ++ a.added m)
           (a.queue m ∙ (ap (λ (ys : List ℕ). ys ++ a.added m) j ∙ append_assoc less (f ∷ back) (a.added m)))
-          (omega (arith, l, c, ap length z, at-most (same_mark m (first_of s.world.urgent_turns)))))
+          (omega (arith, l, c, ap length z, one-at-most (same_mark m (first_of s.world.urgent_turns)))))
       on x a e i c further (takes_other z d j) = again e (further front (back ++ a.added m)
           (a.queue m ∙ (ap (λ (ys : List ℕ). ys ++ a.added m) j ∙ append_assoc front (f ∷ back) (a.added m)))
-          (omega (arith, l, c, ap (λ (n : Mark). let i : ℕ = cond (same_mark m n) 1 0 in i) d, apart m)))
-
-      at-most : (b : Bool) → cond b 1 0 ≤ 1
-      at-most true = omega arith
-      at-most false = omega arith
-
-      apart : (m : Mark) → (let i : ℕ = cond (same_mark m (other m)) 1 0 in i) ≡ 0
-      apart Plain = refl
-      apart Urgent = refl
+          (omega (arith, l, c, ap (λ (n : Mark). let i : ℕ = cond (same_mark m n) 1 0 in i) d, other-none m)))
 
 pub record QueuePlace (f : ℕ) (xs : List ℕ) : Type 0 where
   pub front : List ℕ

@@ -50,7 +50,7 @@ module _ (s : Machine) (r : Reached s) (rest : IsAtRest s) (p : ℕ) (steps : Li
   taken : First x.mark x.future p call.TryTick reply.Yes s new
   taken = first-taken s r rest p call.TryTick reply.Yes refl steps new k x
 
-  events : Trace
+  abbrev events : Trace
   events = (found-events x.mark x.future p call.TryTick reply.Yes s new taken).grown
 
   since-told : since s new ≡ events

@@ -1,7 +1,7 @@
 -- For common_futures_are_in_reach and arrival_order_needs_fewer_ticks.
 -- Lone calls that look for a future reach the common ones.
-use Rattle.std.proofs.Common.{◌≡◌, ◌≢◌, ◌⊎◌, eqb, ltb, ℕ, zero, suc, ◌+◌, ◌<◌, ◌≤◌, List, [], ◌∷◌, ◌++◌, length, get_or}
-use Rattle.std.proofs.Common.{drop, Bool, true, false, cond, ◌||◌, refl, sym, ap, subst, ◌∙◌, inl, inr, ⊎_elim, arith}
+use Rattle.std.proofs.Common.{◌≡◌, ◌≢◌, eqb, ltb, ℕ, zero, suc, ◌+◌, ◌<◌, ◌≤◌, List, [], ◌∷◌, ◌++◌, length, get_or}
+use Rattle.std.proofs.Common.{drop, Bool, true, false, cond, ◌||◌, refl, sym, ap, subst, ◌∙◌, ⊎_elim, arith}
 use Rattle.std.proofs.Common.{append-nil, append_assoc, length-append, Ok}
 use Rattle.std.proofs.Math.Seq.{drop-append_seam}
 use Rattle.std.proofs.lemmas.Bool.Decides.{nat_tests}
@@ -11,9 +11,7 @@ use Rattle.std.specs.Prelude.{All, Some, filter}
 use Rattle.executor_parts.specs.declared.mark.Mark.{Mark}
 use Rattle.executor_parts.specs.declared.mark.Mark.TheVariants.{Plain, Urgent}
 use Rattle.executor_parts.specs.Marks.{first_of, other, same_mark}
-use Rattle.executor_model.specs.declared.call.By.TheVariants as by
 use Rattle.executor_model.specs.declared.call.Call.{Call}
-use Rattle.executor_model.specs.declared.call.Call.TheVariants as call
 use Rattle.executor_model.specs.declared.call.Reply.{Reply}
 use Rattle.executor_model.specs.declared.event.Event.TheVariants as event
 use Rattle.executor_model.specs.declared.kind.Kind.{Kind}
@@ -22,7 +20,7 @@ use Rattle.executor_model.specs.declared.step.Step.TheVariants.{Begin}
 use Rattle.executor_model.specs.Trace.{Trace, has}
 use Rattle.executor_model.specs.Keeper.{IsCommon}
 use Rattle.executor_model.specs.Emptiness.{IsAtRest}
-use Rattle.executor_model.specs.Executions.{run_all, EveryMachine}
+use Rattle.executor_model.specs.Executions.{run_all}
 use Rattle.executor_model.specs.Weights.{same}
 use Rattle.executor_model.specs.Sound.{times}
 use Rattle.executor_model.specs.Steps.{Machine, run, start}
@@ -34,9 +32,9 @@ use Rattle.executor_model.proofs.Table.Entering.{queue-agrees}
 use Rattle.executor_model.proofs.Steps.TraceSteps.{IsContinued, run-continues}
 use Rattle.executor_model.proofs.Steps.Reached.{Reached, run-of, good-here, deep-here}
 use Rattle.executor_model.proofs.Steps.Tests.{or-left, or-right}
-use Rattle.executor_laws.specs.LoneEnds.{IsLoneCall, LoneCallsEnd}
+use Rattle.executor_laws.specs.LoneEnds.{IsLoneCall}
 use Rattle.executor_laws.specs.Reach.{found_answer, LoneSearch, AreLoneSearches, takes, TakesCommon}
-use Rattle.executor_laws.specs.Reach.{names, since, HasCommons, HasCommonsOf, IsInReach, IsReachedInOrder}
+use Rattle.executor_laws.specs.Reach.{names, since, HasCommons, HasCommonsOf, IsReachedInOrder}
 use Rattle.executor_laws.proofs.Reach.Reached.{bonded-here, heard-here}
 use Rattle.executor_laws.proofs.Placement.Placing.{common-queue, queue-common}
 use Rattle.executor_laws.proofs.Exactness.Ticking.{first-queued, first-times, none-queued}

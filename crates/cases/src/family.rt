@@ -2,11 +2,13 @@
 
 use crate::players::Players;
 use crate::shown::{
-    Shown, machine, shown_by_executor, shown_by_local, shown_by_queue, shown_by_tasks,
+    Shown, machine, shown_by_executor, shown_by_local, shown_by_queue, shown_by_solo,
+    shown_by_tasks,
 };
 use executor_player::Plays;
 use local_player::play_local;
 use queue_player::{play_exclusive, play_shared};
+use solo_player::play_solo;
 use std::alloc::{AllocError, AllocGlobal};
 use std::random::RandomSource;
 use std::sync::Wait;
@@ -25,6 +27,8 @@ pub enum Family {
     Local,
     /// A running executor of one thread that is static, or that a script leaks.
     StaticLocal,
+    /// An executor of one owner, of either kind.
+    Solo,
     /// A queue that threads share.
     Queue,
     /// The queue of one owner.
@@ -37,12 +41,13 @@ pub enum Family {
 
 impl Family {
     /// All of them, in the order in which they are played.
-    pub const ALL: [Family; 9] = [
+    pub const ALL: [Family; 10] = [
         Family::Machine,
         Family::Executor,
         Family::Static,
         Family::Local,
         Family::StaticLocal,
+        Family::Solo,
         Family::Queue,
         Family::Exclusive,
         Family::Task,
@@ -57,6 +62,7 @@ impl Family {
             Family::Static => "static",
             Family::Local => "local",
             Family::StaticLocal => "static-local",
+            Family::Solo => "solo",
             Family::Queue => "queue",
             Family::Exclusive => "exclusive",
             Family::Task => "task",
@@ -80,6 +86,13 @@ impl Family {
             ],
             Family::Executor | Family::Local => &["calls.txt", "stops.txt"],
             Family::Static | Family::StaticLocal => &["static.txt", "leak.txt", "static-stops.txt"],
+            Family::Solo => &[
+                "calls.txt",
+                "stops.txt",
+                "static.txt",
+                "leak.txt",
+                "static-stops.txt",
+            ],
             Family::Queue | Family::Exclusive => &["queue.txt"],
             Family::Task | Family::LocalTask => &["task.txt"],
         }
@@ -89,7 +102,7 @@ impl Family {
     pub fn file_with_a_wrong_line(self) -> &'static str {
         match self {
             Family::Machine => "wrong-machine.txt",
-            Family::Executor | Family::Local => "wrong-executor.txt",
+            Family::Executor | Family::Local | Family::Solo => "wrong-executor.txt",
             Family::Static | Family::StaticLocal => "wrong-static.txt",
             Family::Queue | Family::Exclusive => "wrong-queue.txt",
             Family::Task | Family::LocalTask => "wrong-task.txt",
@@ -120,6 +133,7 @@ impl Family {
             Family::Local | Family::StaticLocal => {
                 shown_by_local(play_local(rt, rt.alloc(), script))
             }
+            Family::Solo => shown_by_solo(play_solo(rt, rt.alloc(), script)),
             Family::Queue => shown_by_queue(play_shared(rt, rt.alloc(), script)),
             Family::Exclusive => shown_by_queue(play_exclusive(rt.alloc(), script)),
             Family::Task => shown_by_tasks(players.tasks.play(script)),

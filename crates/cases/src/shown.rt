@@ -58,6 +58,16 @@ pub fn shown_by_local(
     }
 }
 
+/// What the player of an executor of one owner shows of a script, in the same way.
+pub fn shown_by_solo(shown: Result<Vec<u8>, solo_player::PlayError>) -> Result<Shown, AllocError> {
+    match shown {
+        Ok(text) => Ok(Shown::Text(text)),
+        Err(solo_player::PlayError::BadLine(number)) => Ok(Shown::BadLine(number)),
+        Err(solo_player::PlayError::NotWhole(number)) => Ok(Shown::BadLine(number)),
+        Err(solo_player::PlayError::NoMemory) => Err(AllocError),
+    }
+}
+
 /// What a player of tasks shows of a script. The error is a want of memory.
 pub fn shown_by_tasks(shown: Result<Vec<u8>, task_player::PlayError>) -> Result<Shown, AllocError> {
     match shown {

@@ -55,6 +55,7 @@ use Rattle.executor_laws.specs.Looks.{AreQueuedByMark, IsMarkedAsSpawned, OneOfE
 use Rattle.executor_laws.specs.Makings.{MadeIsMade}
 use Rattle.executor_laws.specs.NoAnswers.{NoMeansEmpty}
 use Rattle.executor_laws.specs.Numbered.{RequestsAreNumbered}
+use Rattle.executor_laws.specs.HandlePolls.{DroppedIsSettled, HandlesLookFirst}
 use Rattle.executor_laws.specs.PendingPolls.{RunsLookFirst, TicksLookFirst}
 use Rattle.executor_laws.specs.Queueings.{CountsQueueings}
 use Rattle.executor_laws.specs.Remaining.{EachListEnds, EachStepLowers}
@@ -275,3 +276,6 @@ pub record AllLaws (s : Machine) : Type 0 where
   -- and a poll of a tick or run is answered that nothing is ready only where it looked and found none
   pub ticks_look : TicksLookFirst s
   pub runs_look : RunsLookFirst s
+  -- and a poll of a handle that there is no output yet only where something can still come
+  pub handles_look : HandlesLookFirst s
+  pub settled_at_rest : DroppedIsSettled s

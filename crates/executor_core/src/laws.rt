@@ -31,6 +31,7 @@ ghost use Rattle.executor_laws.specs.HandleAnswers.{CancelledMeansOver};
 ghost use Rattle.executor_laws.specs.Makings.{MadeIsMade};
 ghost use Rattle.executor_laws.specs.NoAnswers.{NoMeansEmpty};
 ghost use Rattle.executor_laws.specs.Numbered.{RequestsAreNumbered};
+ghost use Rattle.executor_laws.specs.HandlePolls.{DroppedIsSettled, HandlesLookFirst};
 ghost use Rattle.executor_laws.specs.PendingPolls.{RunsLookFirst, TicksLookFirst};
 ghost use Rattle.executor_laws.specs.TakesTold.{TakesAreTold};
 ghost use Rattle.executor_laws.specs.EndedRuns.{EndedIsFinished};
@@ -43,13 +44,14 @@ use executor_laws::laws::{
     dropped_runs_leave_common_futures, due_futures_stand_with_their_keepers,
     ended_runs_are_finished, futures_are_marked_as_spawned,
     futures_are_polled_where_they_are_taken_up, futures_are_queued_by_their_marks,
-    keepers_are_called, keepers_can_be_polled, kept_futures_are_in_reach, kept_futures_come_first,
-    lone_calls_are_exact, lone_calls_end, lone_ticks_take_by_their_turn, no_comes_at_once,
-    no_means_that_nothing_was_queued, nothing_is_ready_where_none_was_found,
-    one_turn_of_eight_is_plain, queueings_are_counted, requests_are_numbered,
-    runs_are_ready_at_their_end, runs_can_be_polled, runs_end_by_their_own_futures,
-    runs_find_due_futures, runs_poll_few_futures, runs_reach_futures, runs_take_few_futures,
-    some_standing_is_called, ticks_are_exact, traces_continue, what_is_made_is_new,
+    handles_wait_for_what_can_come, keepers_are_called, keepers_can_be_polled,
+    kept_futures_are_in_reach, kept_futures_come_first, lone_calls_are_exact, lone_calls_end,
+    lone_ticks_take_by_their_turn, no_comes_at_once, no_means_that_nothing_was_queued,
+    nothing_is_ready_where_none_was_found, one_turn_of_eight_is_plain, queueings_are_counted,
+    requests_are_numbered, runs_are_ready_at_their_end, runs_can_be_polled,
+    runs_end_by_their_own_futures, runs_find_due_futures, runs_poll_few_futures, runs_reach_futures,
+    runs_take_few_futures, some_standing_is_called, ticks_are_exact, traces_continue,
+    what_is_made_is_new,
 };
 use executor_model::call_laws::{
     calls_do_what_they_say, closings_say_why, copies_are_counted, leaks_wake_each_future,
@@ -196,6 +198,8 @@ fn laws_of_answers()
     ensures no { EveryMachine NoMeansEmpty }
     ensures ticks_look { EveryMachine TicksLookFirst }
     ensures runs_look { EveryMachine RunsLookFirst }
+    ensures handles_look { EveryMachine HandlesLookFirst }
+    ensures settled_at_rest { EveryMachine DroppedIsSettled }
     ensures takes_told { (s : Machine) → TakesAreTold s }
     ensures numbered { EveryMachine RequestsAreNumbered }
 {
@@ -205,6 +209,7 @@ fn laws_of_answers()
     ended_runs_are_finished();
     no_means_that_nothing_was_queued();
     nothing_is_ready_where_none_was_found();
+    handles_wait_for_what_can_come();
     futures_are_polled_where_they_are_taken_up();
     requests_are_numbered();
 }

@@ -28,6 +28,7 @@ pub mod RunEnds
 pub mod EndedRuns
 pub mod NoAnswers
 pub mod PendingPolls
+pub mod HandlePolls
 pub mod Makings
 pub mod HandleAnswers
 pub mod Numbered

@@ -10,6 +10,7 @@ ghost use Rattle.executor_laws.specs.AtOnce.{NoComesAtOnce};
 ghost use Rattle.executor_laws.specs.Continued.{IsContinued};
 ghost use Rattle.executor_laws.specs.GoingOn.{GoesOn, HolderGoesOn};
 ghost use Rattle.executor_laws.specs.HandleAnswers.{CancelledMeansOver};
+ghost use Rattle.executor_laws.specs.HandlePolls.{DroppedIsSettled, HandlesLookFirst};
 ghost use Rattle.executor_laws.specs.LoneEnds.{LoneCallsEnd};
 ghost use Rattle.executor_laws.specs.Queueings.{CountsQueueings};
 ghost use Rattle.executor_laws.specs.Remaining.{EachListEnds, EachStepLowers};
@@ -89,6 +90,15 @@ pub fn no_means_that_nothing_was_queued()
 pub fn nothing_is_ready_where_none_was_found()
     ensures ticks { EveryMachine TicksLookFirst }
     ensures runs { EveryMachine RunsLookFirst }
+{}
+
+/// Whatever others do meanwhile, a poll of a handle is answered that there is no output yet only where it looked a last time, its
+/// waker registered, by a step in which the task was unsettled: open and without an output, or closed with its future still to
+/// be dropped. Where no call is in progress and the drop of the executor hasn't begun, the task of each future that was
+/// dropped is settled. So who polls the handle of a dropped future then is given its output, or told that none will come.
+pub fn handles_wait_for_what_can_come()
+    ensures looked { EveryMachine HandlesLookFirst }
+    ensures settled { EveryMachine DroppedIsSettled }
 {}
 
 /// Whatever others do meanwhile, the next thing of a party that begins the making of a tick or of a run is its answer; and where

@@ -11,10 +11,10 @@ use crate::site::{JobRealm, JobWaker, Site};
 use crate::site_desk::SiteDesk;
 use crate::worker::Worker;
 use async_task::NoMemory;
-use blocking::block_on;
 use job_text::{Job, Solved};
 use std::alloc::Global;
 use std::sync::Wait;
+use workers::run_until;
 
 /// What a worker's thread does.
 pub trait Labor<R: Wait> {
@@ -115,15 +115,9 @@ where
         seed: u64,
         desk: D,
     ) -> Result<Brought<D>, NoMemory> {
-        match self
-            .site
-            .executor
-            .run_from(Worker::at(*rt, self.alloc, desk), seed)
-        {
-            Ok(run) => match block_on(rt, self.alloc, run) {
-                Ok(Ok(brought)) => brought,
-                _ => Err(NoMemory),
-            },
+        let worker = Worker::at(*rt, self.alloc, desk);
+        match run_until(rt, self.alloc, &self.site.executor, seed, worker) {
+            Ok(brought) => brought,
             Err(_) => Err(NoMemory),
         }
     }

@@ -2,3 +2,4 @@ pub mod Accepting
 pub mod Spawning
 pub mod Starts
 pub mod Runs
+pub mod Kinds

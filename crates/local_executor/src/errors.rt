@@ -1,4 +1,9 @@
 //! Why calls are refused.
+ghost use Rattle.std.specs.IoError.{error_kind};
+ghost use Rattle.std.specs.Prelude.{◌≡◌};
+ghost use Rattle.local_executor.specs.Kinds.{of_making, of_run};
+
+use std::io::{self, ErrorKind};
 use thiserror::Error;
 
 /// Why there is no new executor.
@@ -18,4 +23,28 @@ pub enum RunError {
     NoMemory,
     /// The run gave its output at an earlier poll.
     Finished,
+}
+
+/// So that `?` takes it to an `io::Result`.
+impl From<LocalError> for io::Error {
+    ghost from_gives = { λ why error. error_kind error ≡ of_making why };
+
+    fn from(error: LocalError) -> io::Error {
+        match error {
+            LocalError::NoMemory => ErrorKind::OutOfMemory.into(),
+            LocalError::NoRandom => ErrorKind::Other.into(),
+        }
+    }
+}
+
+/// So that `?` takes it to an `io::Result`.
+impl From<RunError> for io::Error {
+    ghost from_gives = { λ why error. error_kind error ≡ of_run why };
+
+    fn from(error: RunError) -> io::Error {
+        match error {
+            RunError::NoMemory => ErrorKind::OutOfMemory.into(),
+            RunError::Finished => ErrorKind::UnexpectedEof.into(),
+        }
+    }
 }

@@ -7,7 +7,7 @@ mod door;
 mod many;
 mod moving;
 #[cfg(test)]
-mod owner;
+mod nested;
 #[cfg(test)]
 mod runs;
 #[cfg(test)]

@@ -1,59 +1,226 @@
-//! Makes each call of an executor and of what waits that takes memory, does two jobs as `taskrun jobs 2` does, and goes on after a
-//! refusal: the one request for memory that is refused is met by one call, which answers so, and everything is as before.
+//! Makes each call that can be refused memory, and goes on after a refusal: the one request that is refused is met by one call,
+//! which answers so, and everything is as before.
 //!
 //! Standard input has the number of requests that are made first, for nothing: so the same program meets a refusal wherever
 //! `tools/refuse-memory` wants it. It prints which call was refused, and has status 1 where one gave a wrong answer.
 #![tactic(auto)]
 
-mod calls;
-mod lives;
+mod executors;
+mod kinds;
+mod locals;
+mod machines;
 mod parts;
+mod program_runs;
+mod queues;
 mod report;
-mod two_jobs;
+mod rows;
+mod solos;
+mod tasks;
 mod waits;
 
-use jobs::{JobPlace, JobRealm, Open};
-use lives::live;
-use parts::TestRealm;
-use report::{Call, Report};
+use async_task::Awaiter;
+use executors::{Ground, TestRealm, try_executors};
+use jobs::{JobPlace, JobRealm, JobSite, Open};
+use local_executor::LocalExWaker;
+use locals::{LocalGround, try_locals};
+use machines::{MACHINE_ROWS, Machines};
+use parts::{Bell, Drops};
+use program_runs::{SIM, TWO_JOBS, do_case};
+use queues::{QUEUE_ROWS, Queues};
+use report::{Call, Place, Refused, Report, Wrong};
+use rows::try_each;
+use solos::{SOLO_ROWS, Solos};
 use std::alloc::{AllocGlobal, Global};
 use std::io::Read;
 use std::process::ExitCode;
-use two_jobs::do_jobs;
+use std::random::RandomSource;
+use std::sync::Wait;
+use std::thread::Threads;
+use tasks::{TASK_ROWS, TaskRealm, Tasks};
+use waits::wait;
+
+/// Where tasks lie.
+#[derive(Drop)]
+struct Realms<R: Wait + Copy + Drop + 'static> {
+    tasks: &'static TaskRealm,
+    executors: &'static TestRealm<R>,
+    jobs: &'static JobRealm<R>,
+}
 
 fn main(rt: HostRuntime) -> ExitCode {
     let alloc = rt.alloc();
     spend(alloc, spare_requests(&rt));
     let mut report = Report::new();
-    let mut realm = TestRealm::leak(rt, alloc);
-    if realm.is_err() {
-        report.is_refused(Call::Realm);
-        realm = TestRealm::leak(rt, alloc);
-    }
-    let is_so = match realm {
-        Ok(realm) => live(rt, alloc, realm, &mut report),
-        Err(_) => false,
-    };
-    report.expect(is_so);
-    let mut realm = JobRealm::<HostRuntime>::leak(rt, alloc);
-    if realm.is_err() {
-        report.is_refused(Call::JobRealm);
-        realm = JobRealm::<HostRuntime>::leak(rt, alloc);
-    }
-    let is_so = match realm {
-        Ok(realm) => {
-            do_jobs::<JobPlace<Open, HostRuntime>, HostRuntime>(rt, alloc, realm, &mut report)
+    report.come_to(Place::Realm);
+    // Code that makes a realm and works on it gets no proof where it is generic, so all are made here.
+    let (mut tasks, mut executors, mut jobs) = (None, None, None);
+    for _ in 0..2 {
+        if tasks.is_none() {
+            tasks = TaskRealm::leak(rt, alloc).ok();
+            note(tasks.is_none(), Call::TaskRealm, &mut report);
         }
-        Err(_) => false,
+        if executors.is_none() {
+            executors = TestRealm::<HostRuntime>::leak(rt, alloc).ok();
+            note(executors.is_none(), Call::ExecutorRealm, &mut report);
+        }
+        if jobs.is_none() {
+            jobs = JobRealm::<HostRuntime>::leak(rt, alloc).ok();
+            note(jobs.is_none(), Call::JobRealm, &mut report);
+        }
+    }
+    let (Some(tasks), Some(executors), Some(jobs)) = (tasks, executors, jobs) else {
+        return ExitCode::FAILURE;
     };
+    let realms = Realms {
+        tasks,
+        executors,
+        jobs,
+    };
+    let is_so = try_all::<JobPlace<Open, HostRuntime>, HostRuntime>(
+        rt,
+        alloc,
+        &realms,
+        &mut report,
+    );
     report.expect(is_so);
     tell(&rt, &report)
 }
 
-/// Prints which call was refused. A failure where an answer was wrong, or that can't be printed.
+/// Notes a call that was refused, where it was.
+fn note(is_refused: bool, call: Call, report: &mut Report) {
+    if is_refused {
+        report.is_refused(call);
+    }
+}
+
+/// Makes all calls, and says whether all was as it has to be. The last request for memory before the jobs is the program's own: so
+/// one that a call made which can't be refused would stand between those that were.
+fn try_all<P, R>(rt: R, alloc: Global, realms: &Realms<R>, report: &mut Report) -> bool
+where
+    P: JobSite<R, Gate = Open> + Sync + Drop,
+    R: Threads + RandomSource + Sync + Wait + Copy + Drop + 'static,
+{
+    let Some(drops) = own::<Drops>(alloc, report) else {
+        return false;
+    };
+    let drops: &'static Drops = Box::leak(drops);
+    try_parts(rt, alloc, drops, report);
+    try_tasks(rt, alloc, realms.tasks, drops, report)
+        & try_shared(rt, alloc, realms.executors, drops, report)
+        & try_local(rt, alloc, drops, report)
+        & wait(rt, alloc, report)
+        & do_case::<P, R>(rt, alloc, realms.jobs, SIM, report)
+        & own::<u64>(alloc, report).is_some()
+        & do_case::<P, R>(rt, alloc, realms.jobs, TWO_JOBS, report)
+}
+
+/// Queues, the executor of one owner and the step machine.
+fn try_parts<R: Wait + Copy + Drop>(
+    rt: R,
+    alloc: Global,
+    drops: &'static Drops,
+    report: &mut Report,
+) {
+    report.come_to(Place::Queue);
+    try_each(&mut Queues::new(rt, alloc, drops), QUEUE_ROWS, report);
+    report.come_to(Place::Solo);
+    try_each(&mut Solos::new(rt, alloc, drops), SOLO_ROWS, report);
+    report.come_to(Place::Machine);
+    try_each(&mut Machines::new(alloc), MACHINE_ROWS, report);
+}
+
+fn try_tasks<R: Wait + Copy + Drop + 'static>(
+    rt: R,
+    alloc: Global,
+    realm: &'static TaskRealm,
+    drops: &'static Drops,
+    report: &mut Report,
+) -> bool {
+    let Some(bell) = bell(alloc, report) else {
+        return false;
+    };
+    let waker = Awaiter::Outside(bell);
+    report.come_to(Place::Task);
+    try_each(&mut Tasks::new(rt, realm, &waker, drops), TASK_ROWS, report);
+    true
+}
+
+fn try_shared<R: Wait + Copy + Drop + 'static>(
+    rt: R,
+    alloc: Global,
+    realm: &'static TestRealm<R>,
+    drops: &'static Drops,
+    report: &mut Report,
+) -> bool {
+    let Some(bell) = bell(alloc, report) else {
+        return false;
+    };
+    let waker = Awaiter::Outside(bell);
+    let ground = Ground {
+        rt,
+        alloc,
+        realm,
+        waker: &waker,
+        drops,
+    };
+    try_executors(&ground, report)
+}
+
+fn try_local<R: RandomSource + Wait + Copy + Drop + 'static>(
+    rt: R,
+    alloc: Global,
+    drops: &'static Drops,
+    report: &mut Report,
+) -> bool {
+    let Some(bell) = bell(alloc, report) else {
+        return false;
+    };
+    let waker = LocalExWaker::Outside(bell);
+    let ground = LocalGround {
+        rt,
+        alloc,
+        waker: &waker,
+        drops,
+    };
+    try_locals(&ground, report)
+}
+
+/// Memory of the program's own, which none of the calls asks for.
+fn own<T: Default + Drop>(alloc: Global, report: &mut Report) -> Option<Box<T>> {
+    for _ in 0..2 {
+        match Box::new(alloc, T::default()) {
+            Ok(memory) => return Some(memory),
+            Err(_) => report.is_refused(Call::Own),
+        }
+    }
+    None
+}
+
+/// A waker from outside.
+fn bell(alloc: Global, report: &mut Report) -> Option<Bell> {
+    match own::<u64>(alloc, report) {
+        Some(memory) => Some(Bell { alloc, memory }),
+        None => None,
+    }
+}
+
+/// Prints which call was refused, and what was wrong first. A failure where something was, or that can't be printed.
 fn tell<R: Print>(rt: &R, report: &Report) -> ExitCode {
-    let has_failed = println!(rt; "refused: {}", report.refused()).is_err();
-    if has_failed | !report.is_right() {
+    let printed = match report.refused() {
+        None => println!(rt; "refused: nothing"),
+        Some(
+            Refused {
+                place: _,
+                call: Call::Own,
+            },
+        ) => println!(rt; "refused: {}", Call::Own),
+        Some(Refused { place, call }) => println!(rt; "refused: {place}: {call}"),
+    };
+    if let Some(Wrong { place, row }) = report.wrong() {
+        let _ = println!(rt; "wrong: {place}: row {row}");
+        return ExitCode::FAILURE;
+    }
+    if printed.is_err() {
         return ExitCode::FAILURE;
     }
     ExitCode::SUCCESS

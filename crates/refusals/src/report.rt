@@ -1,55 +1,108 @@
 //! What the program has to say.
 use std::fmt;
 
-/// A call that takes memory.
+/// Whose calls are made.
+#[derive(Clone, Copy)]
+pub enum Place {
+    /// The program's.
+    Own,
+    Realm,
+    Queue,
+    Solo,
+    Machine,
+    Task,
+    StaticExecutor,
+    Executor,
+    StaticLocalExecutor,
+    LocalExecutor,
+    Waiting,
+    Taskrun,
+}
+
+impl fmt::Display for Place {
+    fn fmt<O: fmt::Write>(&self, f: &mut fmt::Formatter<O>) -> fmt::Result {
+        f.write_str(match self {
+            Place::Own => "its own",
+            Place::Realm => "realm",
+            Place::Queue => "queue",
+            Place::Solo => "Solo",
+            Place::Machine => "Machine",
+            Place::Task => "task",
+            Place::StaticExecutor => "StaticExecutor",
+            Place::Executor => "Executor",
+            Place::StaticLocalExecutor => "StaticLocalExecutor",
+            Place::LocalExecutor => "LocalExecutor",
+            Place::Waiting => "waiting",
+            Place::Taskrun => "taskrun",
+        })
+    }
+}
+
+/// A call.
 #[derive(Clone, Copy)]
 pub enum Call {
-    Realm,
+    /// None of those that are tried: the program's own memory.
+    Own,
+    TaskRealm,
+    ExecutorRealm,
+    JobRealm,
+    Slot,
+    Ring,
+    Push,
+    ForcePush,
     New,
-    Tick,
-    PollOfTick,
+    Step,
     Spawn,
-    Run,
-    PollOfRun,
+    Build,
     SpawnMany,
-    /// Those of `waiting`.
+    Tick,
+    Run,
+    RunFrom,
+    PollTick,
+    PollRun,
+    PollHandle,
     Event,
     Listen,
     Oneshot,
     Channel,
     Recv,
     Send,
-    /// None of an executor: the realm of jobs.
-    JobRealm,
-    /// None of an executor: what `taskrun jobs 2` does.
-    Jobs,
-    /// None of an executor: the program's own waker.
-    Own,
-    /// None at all.
-    Nothing,
+    Sim,
+    TwoJobs,
+    Other,
 }
 
 impl fmt::Display for Call {
     fn fmt<O: fmt::Write>(&self, f: &mut fmt::Formatter<O>) -> fmt::Result {
         f.write_str(match self {
-            Call::Realm => "realm",
+            Call::Own => "its own",
+            Call::TaskRealm => "of tasks",
+            Call::ExecutorRealm => "of executors",
+            Call::JobRealm => "of jobs",
+            Call::Slot => "slot",
+            Call::Ring => "ring",
+            Call::Push => "push",
+            Call::ForcePush => "force_push",
             Call::New => "new",
-            Call::Tick => "tick",
-            Call::PollOfTick => "poll of a tick",
+            Call::Step => "step",
             Call::Spawn => "spawn",
-            Call::Run => "run",
-            Call::PollOfRun => "poll of a run",
+            Call::Build => "Builder::spawn",
             Call::SpawnMany => "spawn_many",
+            Call::Tick => "tick",
+            Call::Run => "run",
+            Call::RunFrom => "run_from",
+            Call::PollTick => "poll of a tick",
+            Call::PollRun => "poll of a run",
+            Call::PollHandle => "poll of a handle",
             Call::Event => "event",
             Call::Listen => "listen",
             Call::Oneshot => "oneshot",
             Call::Channel => "channel",
             Call::Recv => "recv",
             Call::Send => "send",
-            Call::JobRealm => "realm of jobs",
-            Call::Jobs => "jobs",
-            Call::Own => "its own",
-            Call::Nothing => "nothing",
+            Call::Sim => "sim",
+            Call::TwoJobs => "jobs 2",
+            Call::Other => "a call that takes no memory",
         })
     }
 }
@@ -57,35 +110,73 @@ impl fmt::Display for Call {
 /// Which call was refused, and whether all was as it has to be.
 #[derive(Drop)]
 pub struct Report {
-    refused: Call,
-    is_right: bool,
+    /// Whose calls are made.
+    place: Place,
+    /// Which of its calls is made, counted from 1, where they are rows.
+    row: u64,
+    refused: Option<Refused>,
+    wrong: Option<Wrong>,
+}
+
+/// Where something was wrong first.
+#[derive(Clone, Copy)]
+pub struct Wrong {
+    pub place: Place,
+    pub row: u64,
+}
+
+/// The name of a call, and whose it is.
+#[derive(Clone, Copy)]
+pub struct Refused {
+    pub place: Place,
+    pub call: Call,
 }
 
 impl Report {
     pub fn new() -> Report {
         Report {
-            refused: Call::Nothing,
-            is_right: true,
+            place: Place::Own,
+            row: 0,
+            refused: None,
+            wrong: None,
         }
     }
 
-    pub fn refused(&self) -> Call {
+    /// From now on calls of this are made.
+    pub fn come_to(&mut self, place: Place) {
+        self.place = place;
+        self.row = 0;
+    }
+
+    /// The next row is at hand.
+    pub fn go_on(&mut self) {
+        self.row = self.row.saturating_add(1);
+    }
+
+    pub fn refused(&self) -> Option<Refused> {
         self.refused
     }
 
-    pub fn is_right(&self) -> bool {
-        self.is_right
+    /// Nothing, where all is right.
+    pub fn wrong(&self) -> Option<Wrong> {
+        self.wrong
     }
 
     /// This call was refused, which is right where no other was: one request is refused in all.
     pub fn is_refused(&mut self, call: Call) {
-        let is_first = matches!(self.refused, Call::Nothing);
-        self.refused = call;
+        let is_first = self.refused.is_none();
+        let place = self.place;
+        self.refused = Some(Refused { place, call });
         self.expect(is_first);
     }
 
     /// What is so where all is right.
     pub fn expect(&mut self, is_so: bool) {
-        self.is_right = self.is_right & is_so;
+        if !is_so & self.wrong.is_none() {
+            self.wrong = Some(Wrong {
+                place: self.place,
+                row: self.row,
+            });
+        }
     }
 }

@@ -8,3 +8,4 @@ pub mod Ticks
 pub mod Closing
 pub mod Steals
 pub mod Runs
+pub mod Kinds

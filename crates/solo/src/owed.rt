@@ -5,6 +5,7 @@ ghost use Rattle.solo.specs.Turns as turns;
 
 use crate::names::{SoloWaker, Task};
 use executor_parts::EntryPlace;
+use std::io::{self, ErrorKind};
 
 /// A future that is out, to be polled or dropped. It has no drop: it goes back by `settle`, or by `finish` once its future is
 /// dropped.
@@ -80,6 +81,21 @@ impl<F> SpawnError<F> {
     {
         match self {
             SpawnError::Full(future) | SpawnError::NoMemory(future) => future,
+        }
+    }
+}
+
+/// So that `?` takes it to an `io::Result`. A full executor is `WouldBlock`: there may be a place later.
+impl<F: Drop> From<SpawnError<F>> for io::Error {
+    ghost use Rattle.std.specs.IoError.{error_kind};
+    ghost use Rattle.solo.specs.Kinds.{of_spawn};
+
+    ghost from_gives = { λ refused error. error_kind error ≡ of_spawn refused };
+
+    fn from(refused: SpawnError<F>) -> io::Error {
+        match refused {
+            SpawnError::Full(_) => ErrorKind::WouldBlock.into(),
+            SpawnError::NoMemory(_) => ErrorKind::OutOfMemory.into(),
         }
     }
 }

@@ -9,3 +9,13 @@ pub mod Frames
 pub mod Counts
 pub mod EntryWeights
 pub mod Weights
+pub mod Named
+pub mod Fitness
+pub mod OwnPlaces
+pub mod Standing
+pub mod Once
+pub mod OnceCourses
+pub mod Kept
+pub mod Giving
+pub mod CellFrames
+pub mod Given

@@ -48,7 +48,7 @@ module _ {T A : Type 0} where
   pub released_waits : (t : AbstractTask T A) → waits t ≡ false → waits (abstract.release t) ≡ false
   released_waits t is = ap waits (released_is t is) ∙ is
 
-  none_told : (t u : AbstractTask T A) → u.infos ≡ t.infos → is_some (info_of t u) ≡ false
+  pub none_told : (t u : AbstractTask T A) → u.infos ≡ t.infos → is_some (info_of t u) ≡ false
   none_told t u same =
       let past : slice_get u.infos (length t.infos) ≡ None =
       slice_get_past u.infos (length t.infos) (let long = ap (λ (infos : List Bool). length infos) same in omega (arith, long)) in
@@ -111,7 +111,7 @@ module _ {T X : Type 0} where
   some_there (Some d) c is = refl
   some_there None c is = absurd cc
 
-  with_cell : (s : Slab (Cell T X)) (key : ℕ) (c d : Cell T X) → get s key ≡ Some c
+  pub with_cell : (s : Slab (Cell T X)) (key : ℕ) (c d : Cell T X) → get s key ≡ Some c
       → Updates s (with_value s key d) key (Some d)
   with_cell s key c d is = Updates-with_value s key d (some_there (get s key) c is)
 
@@ -155,7 +155,7 @@ module _ {T X : Type 0} where
   pub itself_woken : (task : Task) (s : Cells T X) → Rests task (changed cells.woken task s)
   itself_woken task s = itself_in task (get s.slab task.key) s.slab refl
 
-  without_cell : (s new : Slab (Cell T X)) (key : ℕ) (found : Option (Cell T X)) (other : Task) → get s key ≡ found
+  pub without_cell : (s new : Slab (Cell T X)) (key : ℕ) (found : Option (Cell T X)) (other : Task) → get s key ≡ found
       → asked_by cells.is_spent false other found ≡ true → new.slots ≡ slice_set s.slots key None → Updates s new key None
   without_cell s new key None other is spent slots = absurd cc
   without_cell s new key (Some c) other is spent slots =

@@ -23,7 +23,7 @@ use Rattle.solo_laws.proofs.Sleepers.{Fits, last_fits, last_flag}
 full_flag : (n count : ℕ) → n ≤ count → (n == count) ≡ false → ((count == 0) || nat_lt n count) ≡ true
 full_flag n count within is = grind (arith, nat_tests)
 
-pushed_by_refused : (p spent : Bool) (task : Task) (q : ClosableQueue Task) → (p && not spent) ≡ false
+pub pushed_by_refused : (p spent : Bool) (task : Task) (q : ClosableQueue Task) → (p && not spent) ≡ false
     → (pushed_by p spent task q).items ≡ q.items
 pushed_by_refused true true task q is = refl
 pushed_by_refused true false task q is = absurd cc

@@ -2,3 +2,5 @@ pub mod Calls
 pub mod Sleeping
 pub mod Futures
 pub mod Weights
+pub mod Queueing
+pub mod Outputs

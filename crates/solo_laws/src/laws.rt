@@ -2,11 +2,14 @@
 ghost use Rattle.std.specs.Prelude.{ℕ, List, Ok, Err};
 ghost use Rattle.solo.specs.Solo.{IsNew, Spawns};
 ghost use Rattle.solo.specs.declared.names.Kind.{Kind};
+ghost use Rattle.solo.specs.declared.names.Task.{Task};
 ghost use Rattle.solo.specs.declared.owed.SpawnError.{SpawnError};
 ghost use Rattle.solo.specs.declared.owed.Spawned.{Spawned};
 ghost use Rattle.solo.specs.declared.solo.Solo.{Solo};
 ghost use Rattle.solo_laws.specs.Calls.{Call, Course};
 ghost use Rattle.solo_laws.specs.Futures.{ComesBack, IsNumbered, NoneIsLost};
+ghost use Rattle.solo_laws.specs.Outputs.{OutputsBalance};
+ghost use Rattle.solo_laws.specs.Queueing.{StandsOnce};
 ghost use Rattle.solo_laws.specs.Sleeping.{SomeoneIsTold};
 ghost use Rattle.solo_laws.specs.Weights.{Balances};
 
@@ -46,4 +49,21 @@ pub fn a_refused_future_comes_back<F, T, X>()
     ensures { (limit : ℕ) (kind : Kind) (calls : List (Call F T X)) (first last : Solo F T X) → IsNew limit kind first
         → Course calls first last → (future : F) (refused : SpawnError F) (next : Solo F T X)
         → Spawns future last (Err refused) next → ComesBack limit future refused last next }
+{}
+
+/// A task stands in the executor's queue and in the own queues of runs, and in what was handed out, once more at most than it was
+/// brought back: handed out is one that the queue turned away and one that a run which leaves has left in its own queue, and brought
+/// back one that loses its turn and one that such a run queues again. So where nothing is brought back but what was handed out,
+/// and that once, a task stands in one queue, and there once.
+pub fn a_task_stands_in_one_queue<F, T, X>()
+    ensures { (task : Task) (limit : ℕ) (kind : Kind) (calls : List (Call F T X)) (first last : Solo F T X)
+        → IsNew limit kind first → (does : Course calls first last) → StandsOnce task calls first last does }
+{}
+
+/// Whatever outputs are taken to weigh, what polls gave weighs as much as what is inside and what was handed out, to be dropped or
+/// to who polls the handle. So an output that a poll gave is kept for the handle, is given to it or is dropped, and only one of these,
+/// once.
+pub fn an_output_is_given_or_dropped_once<F, T, X>()
+    ensures { (weigh : T → ℕ) (limit : ℕ) (kind : Kind) (calls : List (Call F T X)) (first last : Solo F T X)
+        → IsNew limit kind first → (does : Course calls first last) → OutputsBalance weigh calls first last does }
 {}

@@ -2,22 +2,31 @@
 //! prints what they do, line by line.
 #![tactic(auto)]
 
+mod shown;
+
 use commands::Fault;
 use commands::program::program;
 use jobs::{JobPlace, JobRealm, JobSite, Open};
+use shown::{Shown, Teller};
 use std::alloc::Global;
-use std::io::ErrorKind;
+use std::io::{ErrorKind, IsTerminal};
 use std::process::ExitCode;
 use std::rt::Env;
 use std::sync::Wait;
 use std::thread::Threads;
 use std::{env, io};
 
+/// The place where jobs are done, and one that tells how far they are.
+type Place = JobPlace<Open, HostRuntime>;
+
+type ShownPlace = Shown<JobPlace<Teller<HostRuntime>, HostRuntime>, HostRuntime>;
+
 fn main(rt: HostRuntime) -> ExitCode {
     // Generic code that makes a realm and works on it gets no proof, so it is made here, before it is known whether there are
     // jobs.
     let ended = match JobRealm::<HostRuntime>::leak(rt, rt.alloc()) {
-        Ok(realm) => run::<JobPlace<Open, HostRuntime>, HostRuntime>(rt, realm),
+        Ok(realm) if rt.stderr().is_terminal() => run::<ShownPlace, HostRuntime>(rt, realm),
+        Ok(realm) => run::<Place, HostRuntime>(rt, realm),
         Err(error) => Err(Fault::from(error)),
     };
     match ended {

@@ -1,5 +1,7 @@
 -- What each call does with those who sleep, and with their places.
-use Rattle.std.specs.Prelude.{◌≡◌, ◌<◌, ℕ, true, false, List, [], Option, Some, None}
+use Rattle.std.specs.Prelude.{◌≡◌, ◌+◌, ◌<◌, ℕ, min, true, false, List, [], Option, Some, None}
+use Rattle.std.specs.Duration.{as_nanos, max_nanos}
+use Rattle.std.specs.declared.time.Duration.{Duration}
 use Rattle.std.specs.BinaryHeap.{heap_len, heap_capacity}
 use Rattle.slab.specs.Slab.{Slab, HasRoomFor, Updates, get, slab_len}
 use Rattle.timer.specs.Order.{IsDue, Turns, entries}
@@ -11,6 +13,10 @@ use Rattle.timer.specs.declared.deadlines.Looked.{Looked}
 use Rattle.timer.specs.declared.deadlines.Looked.TheVariants as looked
 use Rattle.timer.specs.declared.deadlines.Next.{Next}
 use Rattle.timer.specs.declared.deadlines.Next.TheVariants as next
+
+-- due so long after some time; where that is later than a duration tells, at the last time that one does
+abbrev pub IsDueAfter : Duration → ℕ → Type 0
+IsDueAfter duration due = (now : ℕ) × (due ≡ min (now + as_nanos duration) max_nanos)
 
 module _ {K : Type 0} where
   -- when each of those who sleep is due, with its place
@@ -35,11 +41,11 @@ module _ {K : Type 0} where
   waker_at (Some Due) = None
   waker_at None = None
 
-  -- what one who sleeps at this place found: it sleeps on, with its new waker there; or it is due, and has left
-  abbrev pub HasLooked : ℕ → Option K → Slab (Place K) → Slab (Place K) → Looked K → Type 0
-  HasLooked place waker old new (looked.Sleeps bed before) =
-      (bed.place ≡ place) × (get old place ≡ Some (Asleep before)) × Updates old new place (Some (Asleep waker))
-  HasLooked place waker old new (looked.Due back) =
+  -- what one who sleeps at this place found: it sleeps on until then, with its new waker there; or it is due, and has left
+  abbrev pub HasLooked : ℕ → ℕ → Option K → Slab (Place K) → Slab (Place K) → Looked K → Type 0
+  HasLooked place due waker old new (looked.Sleeps bed before) =
+      (bed.place ≡ place) × (bed.due ≡ due) × (get old place ≡ Some (Asleep before)) × Updates old new place (Some (Asleep waker))
+  HasLooked place due waker old new (looked.Due back) =
       (back ≡ waker) × (waker_at (get old place) ≡ None) × Updates old new place None
 
   -- who stands at this place is due from now on, if anyone does

@@ -38,6 +38,8 @@ pub enum Place<K> {
 #[must_use]
 pub struct Bed {
     place: usize,
+    /// When it is due, in nanoseconds.
+    due: u128,
 }
 
 /// Why one may not sleep here.
@@ -95,6 +97,7 @@ impl<K: Drop> Deadlines<K> {
         ensures asleep { IfOk result (λ bed. Updates self.old.places self.new.places bed.place (Some (Asleep None))) }
         ensures new_place { IfOk result (λ bed. get self.old.places bed.place ≡ None) }
         ensures due { IfOk result (λ bed. IsPermutation ((as_nanos due, bed.place) ∷ sleepers self.old) (sleepers self.new)) }
+        ensures until { IfOk result (λ bed. bed.due ≡ as_nanos due) }
         ensures enters { HasRoom self.old → IsOk result }
         ensures closed { self.old.is_closed ≡ true → result ≡ Err Closed }
         ensures open { result ≡ Err Closed → self.old.is_closed ≡ true }
@@ -108,9 +111,10 @@ impl<K: Drop> Deadlines<K> {
         if self.places.len() >= self.limit || self.agenda.len() >= self.limit {
             return Err(Refused::Full);
         }
+        let due = due.as_nanos();
         match self.places.insert(Place::Asleep(None)) {
-            Ok(place) => match self.agenda.add(due.as_nanos(), place) {
-                Ok(()) => Ok(Bed { place }),
+            Ok(place) => match self.agenda.add(due, place) {
+                Ok(()) => Ok(Bed { place, due }),
                 Err(_) => {
                     let _ = self.places.try_remove(place);
                     Err(Refused::Full)
@@ -122,15 +126,15 @@ impl<K: Drop> Deadlines<K> {
 
     /// Whether it is due. Where it isn't, it leaves this waker in the place of the one before.
     pub fn look(&mut self, bed: Bed, waker: Option<K>) -> Looked<K>
-        ensures looked { HasLooked bed.place waker self.old.places self.new.places result }
+        ensures looked { HasLooked bed.place bed.due waker self.old.places self.new.places result }
         ensures others { sleepers self.new ≡ sleepers self.old }
         ensures terms { SameTerms self.old self.new }
     {
-        let Bed { place } = bed;
+        let Bed { place, due } = bed;
         match self.places.try_remove(place) {
             Some(Place::Asleep(before)) => {
                 let place = self.places.insert_reserved(Place::Asleep(waker));
-                Looked::Sleeps(Bed { place }, before)
+                Looked::Sleeps(Bed { place, due }, before)
             }
             Some(Place::Due) | None => Looked::Due(waker),
         }
@@ -143,7 +147,7 @@ impl<K: Drop> Deadlines<K> {
         ensures others { Stay bed.place (sleepers self.old) (sleepers self.new) }
         ensures terms { SameTerms self.old self.new }
     {
-        let Bed { place } = bed;
+        let Bed { place, due: _ } = bed;
         self.agenda.forget(place);
         match self.places.try_remove(place) {
             Some(Place::Asleep(waker)) => waker,

@@ -1,4 +1,8 @@
 //! A future that has only so much time.
+ghost use Rattle.async_task.specs.declared.poll.Poll.TheVariants as poll;
+ghost use Rattle.std.specs.Prelude.{◌≡◌, Err, IsSome, None};
+ghost use Rattle.timer.specs.declared.errors.Elapsed.{Elapsed};
+
 use crate::errors::Elapsed;
 use crate::nap::Sleep;
 use async_task::{Future, Poll, Wake};
@@ -24,7 +28,10 @@ where
 {
     type Output = Result<F::Output, Elapsed>;
 
-    fn poll(&mut self, waker: &K) -> Poll<Result<F::Output, Elapsed>> {
+    fn poll(&mut self, waker: &K) -> Poll<Result<F::Output, Elapsed>>
+        ensures up { (why : Elapsed) → result ≡ poll.Ready (Err why) → self.new.sleep.bed ≡ None }
+        ensures in_time { result ≡ poll.Pending → IsSome self.new.sleep.bed }
+    {
         if let Poll::Ready(output) = self.future.poll(waker) {
             return Poll::Ready(Ok(output));
         }

@@ -1,5 +1,6 @@
 ghost use Rattle.std.specs.Arc.{arc_value};
-ghost use Rattle.std.specs.Prelude.{◌≡◌, IfOk, IsSome};
+ghost use Rattle.std.specs.Prelude.{◌≡◌, IfOk, IfSome, IsSome};
+ghost use Rattle.timer.specs.Sleeping.{IsDueAfter};
 
 use crate::deadlines::{Deadlines, Next};
 use crate::errors::{SleepError, TimerError};
@@ -47,6 +48,7 @@ where
     pub fn sleep(&self, duration: Duration) -> Result<Sleep<K, R>, SleepError>
         ensures here { IfOk result (λ sleep. arc_value sleep.shared ≡ arc_value self.now.shared) }
         ensures waits { IfOk result (λ sleep. IsSome sleep.bed) }
+        ensures due { IfOk result (λ sleep. IfSome sleep.bed (λ bed. IsDueAfter duration bed.due)) }
     {
         let Ok(shared) = Arc::try_clone(&self.shared) else {
             return Err(SleepError::Full);

@@ -11,7 +11,13 @@ use Rattle.async_executor.specs.declared.errors.SpawnError.TheVariants as spawn
 use Rattle.async_executor.specs.declared.errors.RunError.{RunError}
 use Rattle.async_executor.specs.declared.errors.RunError.TheVariants as run
 use Rattle.workers.specs.declared.fault.Fault.{Fault}
-use Rattle.workers.specs.declared.fault.Fault.TheVariants.{Full, NoMemory, TaskClosed, Finished, NoRandom}
+use Rattle.ready_queue.specs.declared.errors.SpawnError.{SpawnError as QueueSpawnError}
+use Rattle.ready_queue.specs.declared.errors.SpawnError.TheVariants as queue
+use Rattle.timer.specs.declared.errors.TimerError.{TimerError}
+use Rattle.timer.specs.declared.errors.TimerError.TheVariants as timer
+use Rattle.timer.specs.declared.errors.SleepError.{SleepError}
+use Rattle.timer.specs.declared.errors.SleepError.TheVariants as sleep
+use Rattle.workers.specs.declared.fault.Fault.TheVariants.{Full, NoMemory, TaskClosed, Finished, NoRandom, Closed, Empty, Elapsed, NoClock}
 
 abbrev pub of_spawn : {F : Type 0} → SpawnError F → Fault
 of_spawn (spawn.Full _) = Full
@@ -29,6 +35,19 @@ abbrev pub of_realm : RealmError → Fault
 of_realm realm.NoMemory = NoMemory
 of_realm realm.NoRandom = NoRandom
 
+abbrev pub of_queue_spawn : {F : Type 0} → QueueSpawnError F → Fault
+of_queue_spawn (queue.Full _) = Full
+of_queue_spawn (queue.Closed _) = Closed
+of_queue_spawn (queue.NoMemory _) = NoMemory
+
+abbrev pub of_timer : TimerError → Fault
+of_timer timer.NoMemory = NoMemory
+of_timer timer.NoClock = NoClock
+
+abbrev pub of_sleep : SleepError → Fault
+of_sleep sleep.Full = Full
+of_sleep sleep.Closed = Closed
+
 -- the one answer of three: a parker that couldn't be had is want of memory
 abbrev pub answered : {T G : Type 0} → Result (Result (Result T TaskError) RunError) G → Result T Fault
 answered (Ok (Ok (Ok output))) = Ok output
@@ -43,3 +62,7 @@ kind_of NoMemory = kind.OutOfMemory
 kind_of TaskClosed = kind.BrokenPipe
 kind_of Finished = kind.UnexpectedEof
 kind_of NoRandom = kind.Other
+kind_of Closed = kind.BrokenPipe
+kind_of Empty = kind.WouldBlock
+kind_of Elapsed = kind.TimedOut
+kind_of NoClock = kind.Other

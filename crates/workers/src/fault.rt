@@ -7,8 +7,8 @@ use thiserror::Error;
 /// Why something was refused, or has no output to give: the one error of what a program calls.
 #[derive(Clone, Copy, Debug, PartialEq, Eq, Drop, Error)]
 pub enum Fault {
-    /// The executor has as many futures as its limit says.
-    #[error("the executor is full: each place that its limit gives has a future")]
+    /// Each place is taken: of an executor, a queue, a channel or a timer.
+    #[error("full: each place is taken")]
     Full,
     /// There was no memory for what was wanted, or no copy of a waker could be had.
     #[error("out of memory")]
@@ -22,6 +22,18 @@ pub enum Fault {
     /// The system gave no random number, of which a realm has its own.
     #[error("no random number")]
     NoRandom,
+    /// A queue, a channel or a timer is closed, or the sender of a value went without sending.
+    #[error("closed: nothing more is taken, or comes")]
+    Closed,
+    /// A channel has no message yet, or a queue no item.
+    #[error("empty: nothing is there")]
+    Empty,
+    /// The time was up before the future was ready.
+    #[error("the time is up")]
+    Elapsed,
+    /// A timer's clock.
+    #[error("the clock can't be read")]
+    NoClock,
 }
 
 /// So that `?` takes it to an `io::Result`.
@@ -37,6 +49,10 @@ impl From<Fault> for io::Error {
             Fault::TaskClosed => ErrorKind::BrokenPipe.into(),
             Fault::Finished => ErrorKind::UnexpectedEof.into(),
             Fault::NoRandom => ErrorKind::Other.into(),
+            Fault::Closed => ErrorKind::BrokenPipe.into(),
+            Fault::Empty => ErrorKind::WouldBlock.into(),
+            Fault::Elapsed => ErrorKind::TimedOut.into(),
+            Fault::NoClock => ErrorKind::Other.into(),
         }
     }
 }

@@ -1,4 +1,4 @@
-//! What `?` takes to a `Fault`.
+//! What `?` takes to a `Fault`: the errors of executors and tasks.
 ghost use Rattle.std.specs.Prelude.{◌≡◌};
 ghost use Rattle.workers.specs.Faults.{of_realm, of_run, of_spawn, of_task};
 ghost use Rattle.workers.specs.declared.fault.Fault.TheVariants as fault;
@@ -56,15 +56,6 @@ impl From<NoMemory> for Fault {
     ghost from_gives = { λ _ given. given ≡ fault.NoMemory };
 
     fn from(_error: NoMemory) -> Fault {
-        Fault::NoMemory
-    }
-}
-
-/// Of a queue.
-impl From<concurrent_queue::NoMemory> for Fault {
-    ghost from_gives = { λ _ given. given ≡ fault.NoMemory };
-
-    fn from(_error: concurrent_queue::NoMemory) -> Fault {
         Fault::NoMemory
     }
 }

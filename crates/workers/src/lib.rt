@@ -3,6 +3,9 @@
 
 mod fault;
 mod from;
+mod from_places;
+mod from_queues;
+mod from_waits;
 mod join_all;
 mod running;
 #[cfg(test)]

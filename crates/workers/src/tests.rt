@@ -1,4 +1,5 @@
-use crate::run_workers;
+use crate::{Fault, run_workers};
+use std::alloc::Global;
 use std::sync::atomic::AtomicUsize;
 use std::sync::atomic::Ordering::SeqCst;
 use std::test::Fail;
@@ -35,4 +36,44 @@ fn each_worker_has_a_thread_of_its_own(rt: HostRuntime) -> Result<(), Fail> {
     };
     assert!(rt; all_came(ends));
     Ok(())
+}
+
+/// Whether this is its text.
+fn is_told(alloc: Global, fault: Fault, want: &str) -> bool {
+    match format!(in alloc; "{fault}") {
+        Ok(text) => text.as_str() == want,
+        Err(_) => false,
+    }
+}
+
+/// Whether each of these faults has its text.
+fn are_told(alloc: Global, rows: &[(Fault, &str)]) -> bool {
+    for (fault, want) in rows {
+        if !is_told(alloc, *fault, *want) {
+            return false;
+        }
+    }
+    true
+}
+
+#[test]
+fn each_fault_has_its_text(rt: HostRuntime) {
+    let rows = [
+        (Fault::Full, "full: each place is taken"),
+        (Fault::NoMemory, "out of memory"),
+        (
+            Fault::TaskClosed,
+            "the task is closed: it was cancelled, or its output was given before",
+        ),
+        (
+            Fault::Finished,
+            "the run has ended: it gave its output before",
+        ),
+        (Fault::NoRandom, "no random number"),
+        (Fault::Closed, "closed: nothing more is taken, or comes"),
+        (Fault::Empty, "empty: nothing is there"),
+        (Fault::Elapsed, "the time is up"),
+        (Fault::NoClock, "the clock can't be read"),
+    ];
+    assert!(rt; are_told(rt.alloc(), &rows));
 }

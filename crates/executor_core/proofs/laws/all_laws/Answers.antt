@@ -104,4 +104,6 @@ returns c limit kind parties steps =
       no_means = c.laws_of_answers.ensures.no limit kind parties steps;
       ticks_look = c.laws_of_answers.ensures.ticks_look limit kind parties steps;
       runs_look = c.laws_of_answers.ensures.runs_look limit kind parties steps;
+      handles_look = c.laws_of_answers.ensures.handles_look limit kind parties steps;
+      settled_at_rest = c.laws_of_answers.ensures.settled_at_rest limit kind parties steps;
     }

@@ -1,0 +1,77 @@
+//! How far jobs are, on a terminal.
+ghost use Rattle.std.specs.Prelude.{All};
+ghost use Rattle.job_text.specs.Answers.{IsInRange};
+
+use async_task::NoMemory;
+use jobs::{Gate, Job, JobRealm, JobSite, Labor, Open, Solved};
+use std::alloc::Global;
+use std::marker::PhantomData;
+use std::sync::Wait;
+
+/// Of how many jobs on it is told how far they are.
+const MANY: u64 = 1_000;
+
+/// Tells on standard error of the first job and of each further tenth of them as it is begun, where there are many.
+#[derive(Clone, Copy)]
+pub struct Teller<R> {
+    rt: R,
+    jobs: u64,
+}
+
+impl<R: Eprint> Gate for Teller<R> {
+    fn meet(&self, job: u64) {
+        if self.jobs >= MANY && job % (self.jobs / 10) == 0 {
+            // Who can't be told does the jobs nevertheless.
+            let _ = eprintln!(self.rt; "{job} of {} jobs are begun", self.jobs);
+        }
+    }
+}
+
+/// A place that tells how far its jobs are. What is done there is another place's.
+#[derive(Drop)]
+pub struct Shown<P, R> {
+    place: P,
+    rt: PhantomData<R>,
+}
+
+impl<P, R> JobSite<R> for Shown<P, R>
+where
+    P: JobSite<R, Gate = Teller<R>>,
+    R: Eprint + Wait + Copy + Drop + 'static,
+{
+    type Gate = Open;
+
+    fn new(
+        rt: R,
+        alloc: Global,
+        realm: &'static JobRealm<R>,
+        jobs: &[Job],
+        _gate: Open,
+    ) -> Result<Self, NoMemory>
+        requires { All IsInRange jobs.now }
+    {
+        let teller = Teller {
+            rt,
+            jobs: jobs.len() as u64,
+        };
+        match P::new(rt, alloc, realm, jobs, teller) {
+            Ok(place) => Ok(Shown {
+                place,
+                rt: PhantomData,
+            }),
+            Err(refused) => Err(refused),
+        }
+    }
+}
+
+impl<P, R> Labor<R> for Shown<P, R>
+where
+    P: Labor<R>,
+    R: Wait,
+{
+    ghost brings = { λ shown solved. P.brings shown.place solved };
+
+    fn work(&self, rt: &R, seed: u64) -> Result<Vec<Solved>, NoMemory> {
+        self.place.work(rt, seed)
+    }
+}

@@ -1,6 +1,6 @@
 //! Work on the step machine.
 use executor_core::{Kind, Machine};
-use executor_model::{Answer, Call, Hint, Step, UserEnd};
+use executor_model::{Answer, Call, Hint, Mark, Step, UserEnd};
 use std::alloc::{AllocError, Global};
 use std::rt::Clock;
 use std::time::Instant;
@@ -56,7 +56,7 @@ fn script(alloc: Global, ops: u64) -> Result<Vec<Step>, AllocError> {
 /// The whole life of a thousand futures, of which the first has this number. Their kept wakers have the same numbers.
 fn thousand(steps: &mut Vec<Step>, first: u64) -> Result<(), AllocError> {
     for _ in 0..FUTURES {
-        call(steps, Call::Spawn, 3)?;
+        call(steps, Call::Spawn(Mark::Plain), 3)?;
     }
     for _ in 0..FUTURES {
         call(steps, Call::TryTick, 4)?;

@@ -37,8 +37,8 @@ module _ {F T : Type 0} where
   drop_run Ended r = step.Tick (tick_step.Leave (tick_or_run.Run r)) ∷ step.End reply.Done ∷ []
 
   abbrev pub begins : Asked F T → List (CallStep F T)
-  begins asked.Spawn = step.Table table_step.Enter ∷ []
-  begins asked.TryTick = step.Queue queue_step.Take ∷ []
+  begins (asked.Spawn m) = step.Table (table_step.Enter m) ∷ []
+  begins asked.TryTick = step.Queue queue_step.TakeTurn ∷ []
   begins asked.IsEmpty = step.Table table_step.LookAtTable ∷ []
   begins (asked.Wake f) = step.Move move.Wake f ∷ step.End reply.Done ∷ []
   begins (asked.WakeByRef f) = step.Move move.WakeByReference f ∷ step.End reply.Done ∷ []

@@ -1,4 +1,5 @@
 pub mod Owing
+pub mod Looking
 pub mod Sleeping
 pub mod Stealing
 pub mod Closing

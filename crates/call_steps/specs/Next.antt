@@ -3,6 +3,7 @@ use Rattle.std.specs.Prelude.{◌++◌, true, false, Option, Some, None, is_none
 use Rattle.task_moves.specs.declared.moves.owed.Answer.{Answer}
 use Rattle.task_moves.specs.declared.moves.owed.Move.TheVariants as move
 use Rattle.task_moves.specs.declared.moves.owed.Owed.{Owed}
+use Rattle.call_steps.specs.declared.names.Look.TheVariants.{First}
 use Rattle.call_steps.specs.declared.names.Section.{Section}
 use Rattle.call_steps.specs.declared.names.Section.TheVariants.{MakeRun, Register, Unregister}
 use Rattle.call_steps.specs.declared.names.Source.TheVariants.{Common}
@@ -37,9 +38,11 @@ use Rattle.call_steps.specs.declared.step.tick.TickStep.TheVariants as tick_step
 use Rattle.call_steps.specs.declared.names.TickOrRun.TheVariants as tick_or_run
 use Rattle.call_steps.specs.declared.step.user.UserStep.{UserStep}
 use Rattle.call_steps.specs.declared.step.user.UserStep.TheVariants as user_step
-use Rattle.call_steps.specs.Closing.{closing, leaking}
+use Rattle.call_steps.specs.Closing.{closed, closing, drained, leaking}
+use Rattle.call_steps.specs.Looking.{mark_in, missed}
 use Rattle.call_steps.specs.Owing.{answered, owed, released, told}
-use Rattle.call_steps.specs.Sleeping.{asleep, found, found_by_run, found_nothing, sleep_nowhere, tell, tell_and_return}
+use Rattle.call_steps.specs.Sleeping.{asleep, found, found_by_run, found_by_tick, found_nothing}
+use Rattle.call_steps.specs.Sleeping.{sleep_nowhere, tell, tell_and_return, took_turn}
 use Rattle.call_steps.specs.Stealing.{of_length, share, steal_on, stolen, walk_ends, walk_to}
 
 module _ {F T : Type 0} where
@@ -54,9 +57,9 @@ module _ {F T : Type 0} where
   next_call waker.Outside _ = step.User user_step.CallOutside ∷ []
 
   abbrev pub next_table : TableStep F → Saw F T → List (CallStep F T)
-  next_table table_step.Enter (saw.Entered f) = step.Queue (queue_step.Append f) ∷ step.End reply.Made ∷ []
-  next_table table_step.Enter saw.Full = step.End reply.Full ∷ []
-  next_table table_step.Enter saw.NoMemory = step.End reply.NoMemory ∷ []
+  next_table (table_step.Enter m) (saw.Entered f) = step.Queue (queue_step.Append f) ∷ step.End reply.Made ∷ []
+  next_table (table_step.Enter m) saw.Full = step.End reply.Full ∷ []
+  next_table (table_step.Enter m) saw.NoMemory = step.End reply.NoMemory ∷ []
   next_table table_step.LookAtTable saw.Nothing = step.End reply.Yes ∷ []
   next_table table_step.LookAtTable saw.Something = step.End reply.No ∷ []
   next_table (table_step.TakeToPoll f) _ = step.User (user_step.Poll f) ∷ []
@@ -66,8 +69,10 @@ module _ {F T : Type 0} where
   next_table _ _ = []
 
   abbrev pub next_queue : QueueStep F → Saw F T → List (CallStep F T)
-  next_queue queue_step.Take saw.Nothing = step.End reply.No ∷ []
-  next_queue queue_step.Take (saw.Found f) =
+  next_queue queue_step.TakeTurn (saw.Turn m) = step.Queue (queue_step.Take (First m)) ∷ []
+  next_queue (queue_step.Take l) saw.Nothing =
+      missed l (λ x. step.Queue (queue_step.Take x)) (step.End reply.No ∷ [])
+  next_queue (queue_step.Take l) (saw.Found f) =
       step.Sleeper sleeper_step.ExchangeFlag ∷ step.Move move.TakeUp f ∷ step.End reply.Yes ∷ []
   next_queue (queue_step.Append f) saw.Something = tell
   next_queue (queue_step.Append f) saw.Nothing = step.Move move.DropRunnable f ∷ []
@@ -127,6 +132,10 @@ module _ {F T : Type 0} where
   next_tick tick_step.MakeTick saw.NoMemory = step.End reply.NoMemory ∷ []
   next_tick (tick_step.Search s) saw.Nothing = found_nothing s.who s
   next_tick (tick_step.Search s) (saw.FoundBy f at) = found at s f
+  next_tick (tick_step.Search s) (saw.Turn m) = took_turn s.who s m
+  next_tick (tick_step.Look s l) saw.Nothing =
+      missed l (λ x. step.Tick (tick_step.Look s x)) (step.Tick (tick_step.CopyWaker s) ∷ [])
+  next_tick (tick_step.Look s l) (saw.FoundBy f at) = found_by_tick at.sleeps s.who f
   next_tick (tick_step.CopyWaker s) saw.Something = step.Tick (tick_step.FallAsleep s) ∷ []
   next_tick (tick_step.CopyWaker s) saw.NoMemory = step.End reply.NoMemory ∷ []
   next_tick (tick_step.FallAsleep s) saw.Anew = step.Tick (tick_step.Search s) ∷ []
@@ -164,9 +173,11 @@ module _ {F T : Type 0} where
   abbrev pub next_run : RunStep F T → Saw F T → List (CallStep F T)
   next_run run_step.MakeRoom saw.Something = step.List (list_step.LockWrite MakeRun) ∷ []
   next_run run_step.MakeRoom saw.NoMemory = step.End reply.NoMemory ∷ []
-  next_run (run_step.SearchCommon x) saw.Nothing = step.List (list_step.LockRead x) ∷ []
-  next_run (run_step.SearchCommon x) (saw.Found f) =
-      step.Steal (steal_step.Length (record { poll = x; from = Common; then = then.Found f })) ∷ []
+  next_run (run_step.TakeTurn x) (saw.Turn m) = step.Run (run_step.SearchCommon x (First m)) ∷ []
+  next_run (run_step.SearchCommon x l) saw.Nothing =
+      missed l (λ y. step.Run (run_step.SearchCommon x y)) (step.List (list_step.LockRead x) ∷ [])
+  next_run (run_step.SearchCommon x l) (saw.Found f) =
+      step.Steal (steal_step.Length (record { poll = x; from = Common (mark_in l); then = then.Found f })) ∷ []
   next_run (run_step.LookOwn x left) (saw.FoundBy f at) = step.List list_step.UnlockRead ∷ found_by_run at x f
   next_run (run_step.LookOwn x left) saw.Nothing = walk_ends x
   next_run (run_step.LookOwn x left) (saw.Queue r more) = walk_to r more x
@@ -182,9 +193,10 @@ module _ {F T : Type 0} where
   next_closing closing_step.DropNext (saw.Drops f futures wakers) =
       step.User (user_step.Drop f) ∷ closing futures wakers
   next_closing closing_step.WakeNext (saw.Wakes f there o wakers) = owed there f o ++ closing 0 wakers
-  next_closing closing_step.Close _ = step.Closing closing_step.Drain ∷ []
-  next_closing closing_step.Drain (saw.Found f) =
-      step.Move move.DropRunnable f ∷ step.Closing closing_step.Drain ∷ []
+  next_closing (closing_step.Close m) _ = closed m
+  next_closing (closing_step.Drain m) (saw.Found f) =
+      step.Move move.DropRunnable f ∷ step.Closing (closing_step.Drain m) ∷ []
+  next_closing (closing_step.Drain m) saw.Nothing = drained m
   next_closing closing_step.LeakOut (saw.Closes futures wakers) = leaking wakers
   next_closing closing_step.LeakNext (saw.Wakes f there o wakers) = owed there f o ++ leaking wakers
   next_closing _ _ = []

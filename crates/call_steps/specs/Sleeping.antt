@@ -1,8 +1,11 @@
 -- What ticks and runs do next that have found a Runnable, or nothing.
 use Rattle.std.specs.Prelude.{◌+◌, ◌==◌, Bool, true, false, List, [], ◌∷◌, ◌++◌}
+use Rattle.executor_parts.specs.declared.mark.Mark.{Mark}
+use Rattle.executor_parts.specs.declared.mark.Mark.TheVariants.{Urgent}
 use Rattle.task_moves.specs.declared.moves.owed.Move.TheVariants as move
 use Rattle.call_steps.specs.declared.names.RunPoll.{RunPoll}
 use Rattle.call_steps.specs.declared.names.Sleeping.{Sleeping}
+use Rattle.call_steps.specs.declared.names.Look.TheVariants.{First}
 use Rattle.call_steps.specs.declared.names.Source.TheVariants.{Common}
 use Rattle.call_steps.specs.declared.names.Then.TheVariants as then
 use Rattle.call_steps.specs.declared.names.TickOrRun.{TickOrRun}
@@ -38,10 +41,11 @@ module _ {F T : Type 0} where
   abbrev pub run_found : Searcher → RunPoll F T → F → List (CallStep F T)
   run_found at x f = run_by (at.taken + 1 == 200) x f
 
-  -- at every 64th that it counts, it steals from the executor's queue before it runs that
+  -- at every 64th that it counts, it steals from the executor's urgent queue, and then from its plain one, before it runs
+  -- that
   abbrev pub counted_by : Bool → Searcher → RunPoll F T → F → List (CallStep F T)
   counted_by true at x f =
-      step.Steal (steal_step.Length (record { poll = x; from = Common; then = then.Run f })) ∷ []
+      step.Steal (steal_step.Length (record { poll = x; from = Common Urgent; then = then.StealPlain f })) ∷ []
   counted_by false at x f = run_found at x f
 
   -- it wakes up if it sleeps, tells a sleeper and counts what it has found
@@ -54,17 +58,23 @@ module _ {F T : Type 0} where
       woken_up sleeps who
       (step.Sleeper sleeper_step.ExchangeFlag ∷ step.Move move.TakeUp f ∷ step.End reply.Ready ∷ [])
 
-  -- a tick has found it in the executor's queue, or a run in its own
+  -- a run has found it in its own queue
   abbrev pub found_as : TickOrRun T → Searcher → Sleeping F T → F → List (CallStep F T)
-  found_as (Tick t) at s f = found_by_tick at.sleeps (Tick t) f
+  found_as (Tick t) at s f = []
   found_as (Run r) at s f = found_by_run at (record { run = r; waker = s.waker }) f
 
   abbrev pub found : Searcher → Sleeping F T → F → List (CallStep F T)
   found at s f = found_as s.who at s f
 
+  -- a run that has found nothing there takes a turn
   abbrev pub found_nothing : TickOrRun T → Sleeping F T → List (CallStep F T)
-  found_nothing (Tick t) s = step.Tick (tick_step.CopyWaker s) ∷ []
-  found_nothing (Run r) s = step.Run (run_step.SearchCommon (record { run = r; waker = s.waker })) ∷ []
+  found_nothing (Tick t) s = []
+  found_nothing (Run r) s = step.Run (run_step.TakeTurn (record { run = r; waker = s.waker })) ∷ []
+
+  -- a tick has taken a turn
+  abbrev pub took_turn : TickOrRun T → Sleeping F T → Mark → List (CallStep F T)
+  took_turn (Tick t) s m = step.Tick (tick_step.Look s (First m)) ∷ []
+  took_turn (Run r) s m = []
 
   -- there is no place to sleep, which never happens: its waker is called at once
   abbrev pub sleep_nowhere : Sleeping F T → List (CallStep F T)

@@ -1,7 +1,8 @@
 -- How a steal goes on, and a walk.
 use Rattle.std.specs.Prelude.{ℕ, zero, suc, ◌+◌, ◌/◌, nat_lt, cond, List, [], ◌∷◌}
+use Rattle.executor_parts.specs.declared.mark.Mark.TheVariants.{Plain}
 use Rattle.call_steps.specs.declared.names.RunPoll.{RunPoll}
-use Rattle.call_steps.specs.declared.names.Source.TheVariants.{Own}
+use Rattle.call_steps.specs.declared.names.Source.TheVariants.{Common, Own}
 use Rattle.call_steps.specs.declared.names.Steal.{Steal}
 use Rattle.call_steps.specs.declared.names.Then.{Then}
 use Rattle.call_steps.specs.declared.names.Then.TheVariants as then
@@ -22,6 +23,8 @@ module _ {F T : Type 0} where
   -- a steal has ended
   abbrev pub stolen_as : Then F → Searcher → RunPoll F T → List (CallStep F T)
   stolen_as (then.Found f) at x = found_by_run at x f
+  stolen_as (then.StealPlain f) at x =
+      step.Steal (steal_step.Length (record { poll = x; from = Common Plain; then = then.Run f })) ∷ []
   stolen_as (then.Run f) at x = run_found at x f
   stolen_as (then.Walk left) at x = step.Run (run_step.LookOwn x left) ∷ []
 

@@ -1,10 +1,11 @@
 use crate::names::{RunPoll, Sleeping, Stage, Waker};
+use executor_parts::Mark;
 
 /// What a call is asked to do, as it begins.
 #[derive(Clone, Copy)]
 pub enum Asked<F, T> {
-    /// A future is handed to the executor.
-    Spawn,
+    /// A future of this mark is handed to the executor.
+    Spawn(Mark),
     /// The executor is asked to run one future that is due.
     TryTick,
     /// The executor is asked whether each accepted future is dropped.

@@ -80,7 +80,7 @@ impl<F: Copy, T: Copy> Call<F, T> {
     pub fn follow(&mut self, saw: Saw<F, T>)
         ensures { self.new ≡ following saw self.old }
     {
-        let past = mem::replace(&mut self.past, begun(&Asked::Spawn));
+        let past = mem::replace(&mut self.past, begun(&Asked::TryTick));
         self.past = Snapshot::of(&Past::Did(Snapshot::of(&saw), past));
     }
 

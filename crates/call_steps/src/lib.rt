@@ -11,7 +11,7 @@ mod step;
 
 pub use asked::Asked;
 pub use call::{Call, Last};
-pub use names::{RunPoll, Section, Sleeping, Source, Stage, Steal, Then, TickOrRun, Waker};
+pub use names::{Look, RunPoll, Section, Sleeping, Source, Stage, Steal, Then, TickOrRun, Waker};
 pub use reply::Reply;
 pub use saw::{Saw, Searcher};
 pub use step::{

@@ -1,4 +1,5 @@
 use crate::reply::Reply;
+use executor_parts::Mark;
 
 /// A waker: of the task of this future, or from outside of the executor.
 #[derive(Clone, Copy)]
@@ -47,11 +48,20 @@ pub enum Section<F, T> {
     Unregister(T, Reply),
 }
 
+/// One of the two looks of a search at the executor's queues.
+#[derive(Clone, Copy)]
+pub enum Look {
+    /// At the queue that the turn names. Where nothing is there, the other one is looked at.
+    First(Mark),
+    /// At the other one.
+    Second(Mark),
+}
+
 /// A queue that a run steals from.
 #[derive(Clone, Copy)]
 pub enum Source<T> {
-    /// The executor's queue.
-    Common,
+    /// The executor's queue of this mark.
+    Common(Mark),
     /// The own queue of this run.
     Own(T),
 }
@@ -61,6 +71,8 @@ pub enum Source<T> {
 pub enum Then<F> {
     /// With this future, which it has found.
     Found(F),
+    /// With this future, which it has counted too, once it has stolen from the executor's plain queue.
+    StealPlain(F),
     /// With this future, which it has counted too.
     Run(F),
     /// With its walk, where so many queues are still to go to.

@@ -1,4 +1,5 @@
 use crate::names::{Sleeping, Waker};
+use executor_parts::Mark;
 use task_moves::moves::Owed;
 
 /// A tick or run that searches: whether it sleeps; and of a run, how many it has counted since the last 64th, and taken since it
@@ -23,6 +24,8 @@ pub enum Saw<F, T> {
     NoMemory,
     /// This future came in.
     Entered(F),
+    /// The turn names the queue of this mark.
+    Turn(Mark),
     /// The first Runnable is this future's.
     Found(F),
     /// The same, found by this one.

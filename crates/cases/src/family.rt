@@ -82,6 +82,7 @@ impl Family {
                 "leak-steps.txt",
                 "refusals.txt",
                 "nested.txt",
+                "urgent.txt",
             ],
             Family::Executor | Family::Local => &["calls.txt", "stops.txt"],
             Family::Static | Family::StaticLocal => &["static.txt", "leak.txt", "static-stops.txt"],

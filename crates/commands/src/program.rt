@@ -75,3 +75,5 @@ mod scripts;
 mod tests;
 #[cfg(test)]
 mod tick_scripts;
+#[cfg(test)]
+mod urgent_scripts;

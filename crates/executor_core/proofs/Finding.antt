@@ -1,6 +1,6 @@
 -- What a run or tick does in a store with what it has found.
 use Rattle.std.proofs.Common.{◌≡◌, ℕ, ◌+◌, ◌==◌, List, [], ◌∷◌, ◌++◌, Bool, true, false, cond, drop, refl, sym, ap, ◌∙◌}
-use Rattle.std.specs.Prelude.{reverse}
+use Rattle.std.specs.Prelude.{Some, reverse, slice_get}
 use Rattle.task_moves.specs.declared.moves.owed.Move.TheVariants as move
 use Rattle.executor_model.specs.declared.call.Reply.TheVariants as reply
 use Rattle.executor_model.specs.declared.op.Op.{Op}
@@ -10,8 +10,11 @@ use Rattle.executor_model.specs.declared.op.TickOrRun.{TickOrRun}
 use Rattle.executor_model.specs.declared.op.SleeperOp.TheVariants as sleeper_op
 use Rattle.executor_model.specs.declared.op.Sleeping.{Sleeping}
 use Rattle.executor_model.specs.ActsOfRuns.{counted_by, counted_to, run_by, run_found}
-use Rattle.executor_model.specs.ActsOfSleepers.{found_by, held_as, search_by, search_tick}
-use Rattle.executor_model.specs.World.{World, Ticker, done, place_of, run_of}
+use Rattle.executor_model.specs.ActsOfSleepers.{found_by, held_as, look_tick, look_tick_by}
+use Rattle.executor_model.specs.World.{World, Ticker, done, place_of, put_queue, queue_of, run_of}
+use Rattle.executor_model.specs.Acts.{mark_in}
+use Rattle.executor_model.specs.declared.op.Look.{Look}
+use Rattle.queue_steps.specs.ClosableQueue.{taken}
 use Rattle.executor_core.specs.Ticks.{is_asleep}
 use Rattle.executor_core.specs.Running.{Running, put_in, run_in}
 use Rattle.executor_core.specs.declared.store.Store.{Store}
@@ -76,11 +79,15 @@ found-next t n more k who sleeps e =
 abbrev pub ready_ops : Sleeping → ℕ → List Op
 ready_ops x f = op.Sleeper sleeper_op.ExchangeFlag ∷ op.Move move.TakeUp f ∷ op.End reply.Ready (held_as x.who) ∷ []
 
-pub found-tick : (w : World) (x : Sleeping) (f : ℕ) (rest : List ℕ) (sleeps : Bool) → w.queue.items ≡ f ∷ rest →
-    sleeps ≡ is_asleep (place_of w x.who) →
-    search_tick w x
-    ≡ done (record w { queue = record w.queue { items = drop 1 w.queue.items } }) (wakes_up sleeps x.who ++ ready_ops x f)
-found-tick w x f rest sleeps e l =
-    ap (λ (q : List ℕ). search_by (place_of w x.who) w q x) e
-    ∙ ap (λ (ops : List Op). done (record w { queue = record w.queue { items = drop 1 w.queue.items } }) ops)
+pub first-there : (q : List ℕ) (f : ℕ) → slice_get q 0 ≡ Some f → q ≡ f ∷ drop 1 q
+first-there [] f e = absurd (cc)
+first-there (x ∷ q) f e = ap (λ (y : ℕ). y ∷ q) (let z : x ≡ f = cc in z)
+
+pub found-tick : (w : World) (x : Sleeping) (look : Look) (f : ℕ) (rest : List ℕ) (sleeps : Bool) →
+    (queue_of w (mark_in look)).items ≡ f ∷ rest → sleeps ≡ is_asleep (place_of w x.who) →
+    look_tick w x look
+    ≡ done (put_queue w (mark_in look) (taken (queue_of w (mark_in look)))) (wakes_up sleeps x.who ++ ready_ops x f)
+found-tick w x look f rest sleeps e l =
+    ap (λ (q : List ℕ). look_tick_by (place_of w x.who) w look q x) e
+    ∙ ap (λ (ops : List Op). done (put_queue w (mark_in look) (taken (queue_of w (mark_in look)))) ops)
     (wakes_up-first (place_of w x.who) x.who sleeps (ready_ops x f) l)

@@ -1,6 +1,7 @@
 -- All that holds of each machine to which steps of a new one lead, whatever its parties do: a line a law. Of a future f,
 -- of a run r, of a party p.
 use Rattle.std.specs.Prelude.{◌≡◌, ℕ, List}
+use Rattle.executor_parts.specs.declared.mark.Mark.{Mark}
 use Rattle.executor_model.specs.declared.kind.Kind.{Kind}
 use Rattle.executor_model.specs.declared.step.Hint.{Hint}
 use Rattle.executor_model.specs.declared.step.Step.{Step}
@@ -50,6 +51,7 @@ use Rattle.executor_laws.specs.GoingOn.{GoesOn, HolderGoesOn}
 use Rattle.executor_laws.specs.HandleAnswers.{CancelledMeansOver}
 use Rattle.executor_laws.specs.KeptFirst.{TakesKeptFirst}
 use Rattle.executor_laws.specs.LoneEnds.{LoneCallsEnd}
+use Rattle.executor_laws.specs.Looks.{AreQueuedByMark, IsMarkedAsSpawned, OneOfEightIsPlain, TakesByItsTurn}
 use Rattle.executor_laws.specs.Makings.{MadeIsMade}
 use Rattle.executor_laws.specs.NoAnswers.{NoMeansEmpty}
 use Rattle.executor_laws.specs.Numbered.{RequestsAreNumbered}
@@ -252,8 +254,16 @@ pub record AllLaws (s : Machine) : Type 0 where
   pub lone_emptiness : IsLoneEmptinessExact s
   -- however steps of a new machine led here, no more Runnables were queued than those steps, and the queue is one that
   -- counts them
-  pub queueings : (limit : ℕ) (kind : Kind) (parties : ℕ) (steps : List Step) → s ≡ run steps (start limit kind parties) →
-      CountsQueueings limit kind parties steps
+  pub queueings : (m : Mark) (limit : ℕ) (kind : Kind) (parties : ℕ) (steps : List Step) →
+      s ≡ run steps (start limit kind parties) → CountsQueueings m limit kind parties steps
+  -- of eight turns in a row exactly one looks at the plain queue first
+  pub turns : OneOfEightIsPlain s
+  -- a future has the mark of its spawn
+  pub marked : IsMarkedAsSpawned s
+  -- each of the executor's queues has futures of its mark alone
+  pub by_marks : AreQueuedByMark s
+  -- a lone try of a tick takes the first future of the queue that its turn names
+  pub by_turn : TakesByItsTurn s
   -- what has happened stays
   pub continued : (t : Step) → IsContinued s.world.trace (stepped s (step s t)).world.trace
   -- a call that begins at rest is answered at once, as it is

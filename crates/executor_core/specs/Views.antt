@@ -1,5 +1,5 @@
 -- What a store stands for, and room for what one thing to do may add.
-use Rattle.std.specs.Prelude.{◌≡◌, ◌+◌, ◌^◌, ◌<◌, ◌≤◌, true, Some, None, List, ◌++◌, length, map, reverse, vec_len, Vec}
+use Rattle.std.specs.Prelude.{◌≡◌, ◌+◌, ◌^◌, ◌<◌, ◌≤◌, true, List, ◌++◌, length, map, reverse, vec_len, Vec}
 use Rattle.std.specs.Global.{Global}
 use Rattle.std.specs.Vec.{vec_capacity}
 use Rattle.std.specs.VecDeque.{deque_len, deque_capacity}
@@ -16,7 +16,9 @@ world_of s = record {
   tasks = s.tasks.items;
   awaiters = s.awaiters.items;
   inside = s.entries.inside;
-  queue = record { items = s.queue.items; capacity = Some s.entries.limit; closed = s.closed; accepted = None };
+  marks = s.marks.items;
+  queues = s.queues.queues;
+  urgent_turns = s.urgent_turns;
   table = s.entries.table;
   leaving = s.entries.leaving;
   waking = s.waking.items;
@@ -37,7 +39,8 @@ world_of s = record {
 pub record HasRoom (s : Store) : Type 0 where
   pub tasks : vec_len s.tasks + 1 ≤ vec_capacity s.tasks
   pub awaiters : vec_len s.awaiters + 1 ≤ vec_capacity s.awaiters
-  pub queue : deque_len s.queue + 1 ≤ deque_capacity s.queue
+  pub marks : vec_len s.marks + 1 ≤ vec_capacity s.marks
+  pub queues : s.queues.has_room ≡ true
   pub entries : s.entries.has_room ≡ true
   pub waking : deque_len s.waking + (length s.entries.table + 1) ≤ deque_capacity s.waking
   pub wakers : vec_len s.wakers + 1 ≤ vec_capacity s.wakers

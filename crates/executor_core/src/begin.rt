@@ -50,8 +50,8 @@ pub fn begin(store: &mut Store, todo: &mut Vec<Op>, party: u32, here: Option<Wak
     ensures { Does (steps.begun party (world_of store.old) here call) store.new todo.old.items todo.new.items }
 {
     match call {
-        Call::Spawn => todo.push_reserved(Op::Table(TableOp::Enter)),
-        Call::TryTick => todo.push_reserved(Op::Queue(QueueOp::Take)),
+        Call::Spawn(mark) => todo.push_reserved(Op::Table(TableOp::Enter(mark))),
+        Call::TryTick => todo.push_reserved(Op::Queue(QueueOp::TakeTurn)),
         Call::IsEmpty => todo.push_reserved(Op::Table(TableOp::LookAtTable)),
         Call::Leak => {
             todo.push_reserved(Op::End(Reply::Done, Hold::Leaking));

@@ -9,6 +9,7 @@ use crate::store::Store;
 use executor_model::{
     Op, RunOp, RunPoll, SleeperOp, Sleeping, Source, Steal, StealOp, Then, TickOp, TickOrRun,
 };
+use executor_parts::Mark;
 use task_moves::moves::Move;
 
 /// How a run falls asleep in this poll.
@@ -50,7 +51,8 @@ pub fn push_run(store: &mut Store, todo: &mut Vec<Op>, x: RunPoll, f: u64)
     todo.push_reserved(Op::Move(Move::TakeUp, f));
 }
 
-/// The run counts what it has found, and runs that. At every 64th it steals from the executor's queue before.
+/// The run counts what it has found, and runs that. At every 64th it steals from the executor's urgent queue
+/// before, and then from the plain one.
 fn push_counted(store: &mut Store, todo: &mut Vec<Op>, x: RunPoll, f: u64)
     requires room { HasRoomToEnd store.old }
     requires space { vec_len todo.old + 2 ≤ vec_capacity todo.old }
@@ -62,8 +64,8 @@ fn push_counted(store: &mut Store, todo: &mut Vec<Op>, x: RunPoll, f: u64)
     if full {
         todo.push_reserved(Op::Steal(StealOp::Length(Steal {
             poll: x,
-            from: Source::Common,
-            then: Then::Run(f),
+            from: Source::Common(Mark::Urgent),
+            then: Then::StealPlain(f),
         })));
     } else {
         push_run(store, todo, x, f);

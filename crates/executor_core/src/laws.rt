@@ -42,14 +42,16 @@ use executor_laws::laws::{
     arrival_order_needs_fewer_ticks, calls_at_rest_are_exact, calls_end, cancelled_means_over,
     common_futures_are_in_reach, common_futures_are_in_reach_of_runs,
     dropped_runs_leave_common_futures, due_futures_stand_with_their_keepers,
-    ended_runs_are_finished, futures_are_polled_where_they_are_taken_up,
+    ended_runs_are_finished, futures_are_marked_as_spawned,
+    futures_are_polled_where_they_are_taken_up, futures_are_queued_by_their_marks,
     handles_wait_for_what_can_come, keepers_are_called, keepers_can_be_polled,
     kept_futures_are_in_reach, kept_futures_come_first, lone_calls_are_exact, lone_calls_end,
-    no_comes_at_once, no_means_that_nothing_was_queued, nothing_is_ready_where_none_was_found,
-    queueings_are_counted, requests_are_numbered, runs_are_ready_at_their_end, runs_can_be_polled,
-    runs_end_by_their_own_futures, runs_find_due_futures, runs_poll_few_futures,
-    runs_reach_futures, runs_take_few_futures, some_standing_is_called, ticks_are_exact,
-    traces_continue, what_is_made_is_new,
+    lone_ticks_take_by_their_turn, no_comes_at_once, no_means_that_nothing_was_queued,
+    nothing_is_ready_where_none_was_found, one_turn_of_eight_is_plain, queueings_are_counted,
+    requests_are_numbered, runs_are_ready_at_their_end, runs_can_be_polled,
+    runs_end_by_their_own_futures, runs_find_due_futures, runs_poll_few_futures, runs_reach_futures,
+    runs_take_few_futures, some_standing_is_called, ticks_are_exact, traces_continue,
+    what_is_made_is_new,
 };
 use executor_model::call_laws::{
     calls_do_what_they_say, closings_say_why, copies_are_counted, leaks_wake_each_future,
@@ -116,6 +118,10 @@ pub fn all_laws()
     dropped_runs_leave_common_futures();
     lone_calls_are_exact();
     queueings_are_counted();
+    one_turn_of_eight_is_plain();
+    futures_are_marked_as_spawned();
+    futures_are_queued_by_their_marks();
+    lone_ticks_take_by_their_turn();
     traces_continue();
     calls_at_rest_are_exact();
     no_comes_at_once();

@@ -10,6 +10,7 @@ pub mod laws;
 mod machine;
 mod part;
 mod possible;
+mod queues;
 mod runs;
 mod search;
 mod store;
@@ -17,6 +18,6 @@ mod table;
 mod ticks;
 mod uses;
 
-pub use executor_model::Kind;
+pub use executor_model::{Kind, Mark};
 pub use executor_parts::{EntryPlace, Places, SpawnRefused, Vacancy};
 pub use machine::Machine;

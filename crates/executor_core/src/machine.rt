@@ -14,6 +14,7 @@ ghost use Rattle.executor_core.specs.Refused.{IsRefused, waits_for_lock};
 use crate::laws::all_laws;
 use crate::part::take_part;
 use crate::possible::{go_waits, has_handle, part_refusal};
+use crate::queues::Queues;
 use crate::runs::TicksAndRuns;
 use crate::store::Store;
 use crate::table::Entries;
@@ -64,7 +65,8 @@ fn make_room(store: &mut Store) -> Result<(), StepError>
 {
     let room = store.tasks.reserve(1).is_ok()
         && store.awaiters.reserve(1).is_ok()
-        && store.queue.reserve(1).is_ok()
+        && store.marks.reserve(1).is_ok()
+        && store.queues.reserve().is_ok()
         && store.entries.reserve().is_ok()
         && reserves(&mut store.waking, store.entries.len())
         && store.wakers.reserve(1).is_ok()
@@ -121,8 +123,9 @@ fn empty(alloc: Global, limit: u64, kind: Kind) -> Store
         is_static: is_static(kind),
         tasks: Vec::new(alloc),
         awaiters: Vec::new(alloc),
-        queue: VecDeque::new(alloc),
-        closed: false,
+        marks: Vec::new(alloc),
+        queues: Queues::new(alloc, limit),
+        urgent_turns: 7,
         entries: Entries::new(alloc, limit),
         waking: VecDeque::new(alloc),
         wakers: Vec::new(alloc),

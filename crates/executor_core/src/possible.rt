@@ -108,7 +108,7 @@ fn has_all(store: &Store, parties: &[Vec<Op>], top: Option<Op>, call: Call) -> b
     ensures { result ≡ steps.has_all (world_of store.now) (map (λ v. v.items) parties.now) top call }
 {
     match call {
-        Call::Spawn => true,
+        Call::Spawn(_) => true,
         Call::TryTick => true,
         Call::IsEmpty => true,
         Call::Wake(k) => kept(store, k).is_some() && is_unused(parties, Use::Waker(k)),
@@ -136,7 +136,7 @@ fn is_on_executor(call: Call) -> bool
     ensures { result ≡ steps.is_on_executor call }
 {
     match call {
-        Call::Spawn => true,
+        Call::Spawn(_) => true,
         Call::TryTick => true,
         Call::IsEmpty => true,
         Call::NewTick => true,

@@ -1,12 +1,13 @@
-//! How a run searches: its own queue, the executor's queue, and round the list of queues.
+//! How a run searches: its own queue, the executor's queues, and round the list of queues.
 ghost use Rattle.std.specs.Prelude.{◌≡◌, ◌+◌, ◌≤◌, ◌++◌, reverse, vec_len, vec_capacity};
 ghost use Rattle.executor_model.specs.ActsOfRuns as runs;
 ghost use Rattle.executor_core.specs.Views.{world_of, HasRoom, HasSpace, Does};
 
+use crate::act::queue::{mark_in, take_turn};
 use crate::found::{asleep, push_found};
 use crate::runs::Found;
 use crate::store::Store;
-use executor_model::{ListOp, Op, RunOp, RunPoll, Source, Steal, StealOp, Then, TickOp};
+use executor_model::{ListOp, Look, Op, RunOp, RunPoll, Source, Steal, StealOp, Then, TickOp};
 
 /// The first Runnable of the own queue is taken, where there is one.
 pub fn search_own(store: &mut Store, todo: &mut Vec<Op>, x: RunPoll)
@@ -16,23 +17,38 @@ pub fn search_own(store: &mut Store, todo: &mut Vec<Op>, x: RunPoll)
 {
     match store.ticks_and_runs.runs.take(x.run) {
         Some(f) => push_found(store, todo, x, f),
-        None => todo.push_reserved(Op::Run(RunOp::SearchCommon(x))),
+        None => todo.push_reserved(Op::Run(RunOp::TakeTurn(x))),
     }
 }
 
-/// The first Runnable of the executor's queue is taken, where there is one, and a steal from there follows.
-pub fn search_common(store: &mut Store, todo: &mut Vec<Op>, x: RunPoll)
+/// A turn is taken, and the executor's queue is looked at that it names.
+pub fn take_turn_of_run(store: &mut Store, todo: &mut Vec<Op>, party: u32, x: RunPoll)
     requires room { HasRoom store.old }
     requires space { HasSpace todo.old }
-    ensures { Does (runs.search_common (world_of store.old) x) store.new todo.old.items todo.new.items }
+    ensures { Does (runs.take_turn_of_run party (world_of store.old) x) store.new todo.old.items todo.new.items }
 {
-    match store.queue.pop_front() {
+    let look = take_turn(store, party);
+    todo.push_reserved(Op::Run(RunOp::SearchCommon(x, look)));
+}
+
+/// The first Runnable of one of the executor's queues is taken, where there is one, and a steal from there follows. Else the other
+/// one is looked at, where that was not done.
+pub fn search_common(store: &mut Store, todo: &mut Vec<Op>, x: RunPoll, look: Look)
+    requires room { HasRoom store.old }
+    requires space { HasSpace todo.old }
+    ensures { Does (runs.search_common (world_of store.old) x look) store.new todo.old.items todo.new.items }
+{
+    let mark = mark_in(look);
+    match store.queues.take(mark) {
         Some(f) => todo.push_reserved(Op::Steal(StealOp::Length(Steal {
             poll: x,
-            from: Source::Common,
+            from: Source::Common(mark),
             then: Then::Found(f),
         }))),
-        None => todo.push_reserved(Op::List(ListOp::LockRead(x))),
+        None => todo.push_reserved(match look {
+            Look::First(mark) => Op::Run(RunOp::SearchCommon(x, Look::Second(mark.other()))),
+            Look::Second(_) => Op::List(ListOp::LockRead(x)),
+        }),
     }
 }
 

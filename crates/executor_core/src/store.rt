@@ -1,6 +1,8 @@
+use crate::queues::Queues;
 use crate::runs::TicksAndRuns;
 use crate::table::Entries;
 use executor_model::{Awaiter, Event};
+use executor_parts::Mark;
 use std::collections::VecDeque;
 use task_moves::moves::State;
 
@@ -9,13 +11,16 @@ use task_moves::moves::State;
 pub struct Store {
     /// Nobody drops the executor, and an entry of its table has no waker.
     pub is_static: bool,
-    /// By the numbers of the futures: the marks and the count of each task.
+    /// By the numbers of the futures: the flags and the count of each task.
     pub tasks: Vec<State>,
     /// The awaiter that each task keeps.
     pub awaiters: Vec<Option<Awaiter>>,
-    /// The Runnables, by their futures.
-    pub queue: VecDeque<u64>,
-    pub closed: bool,
+    /// The mark of each future.
+    pub marks: Vec<Mark>,
+    /// The Runnables, by their marks and futures.
+    pub queues: Queues,
+    /// So many turns look at the urgent queue first, before one looks at the plain one.
+    pub urgent_turns: u64,
     /// The table, where each future has an entry, with the limit of undropped futures, and what the
     /// executor's drop has taken out of it and not yet dropped.
     pub entries: Entries,

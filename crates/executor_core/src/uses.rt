@@ -149,6 +149,7 @@ fn borrows_in_tick(op: TickOp) -> bool
     match op {
         TickOp::MakeTick => true,
         TickOp::Search(_) => true,
+        TickOp::Look(_, _) => true,
         TickOp::CopyWaker(_) => true,
         TickOp::FallAsleep(_) => true,
         TickOp::WakeUp(_) => false,
@@ -182,8 +183,9 @@ fn borrows(op: Op) -> bool
     ensures { result ≡ not (rows.borrowing_of op == 0) }
 {
     match op {
-        Op::Table(TableOp::Enter) => true,
-        Op::Queue(QueueOp::Take) => true,
+        Op::Table(TableOp::Enter(_)) => true,
+        Op::Queue(QueueOp::TakeTurn) => true,
+        Op::Queue(QueueOp::Take(_)) => true,
         Op::Table(TableOp::LookAtTable) => true,
         Op::Move(Move::TakeUp, _) => true,
         Op::Table(TableOp::TakeToPoll(_)) => true,
@@ -244,6 +246,7 @@ fn ticks(op: Op, t: u64) -> bool
 {
     match op {
         Op::Tick(TickOp::Search(s)) => is_tick(s.who, t),
+        Op::Tick(TickOp::Look(s, _)) => is_tick(s.who, t),
         Op::Tick(TickOp::CopyWaker(s)) => is_tick(s.who, t),
         Op::Tick(TickOp::FallAsleep(s)) => is_tick(s.who, t),
         Op::End(_, held) => holds(held, Use::Tick(t)),
@@ -309,7 +312,8 @@ fn is_of(op: RunOp, r: u64) -> bool
     match op {
         RunOp::MakeRoom => false,
         RunOp::ReturnRoom => false,
-        RunOp::SearchCommon(x) => r == x.run,
+        RunOp::TakeTurn(x) => r == x.run,
+        RunOp::SearchCommon(x, _) => r == x.run,
         RunOp::LookOwn(x, _, _) => r == x.run,
         RunOp::WakeOwn(x) => r == x.run,
         RunOp::Reschedule(q, _) => r == q,
@@ -323,6 +327,7 @@ fn runs(op: Op, r: u64) -> bool
     match op {
         Op::User(UserOp::PollOwn(x)) => r == x.run,
         Op::Tick(TickOp::Search(s)) => is_run(s.who, r),
+        Op::Tick(TickOp::Look(s, _)) => is_run(s.who, r),
         Op::Tick(TickOp::CopyWaker(s)) => is_run(s.who, r),
         Op::Tick(TickOp::FallAsleep(s)) => is_run(s.who, r),
         Op::List(op) => lists(op, r),

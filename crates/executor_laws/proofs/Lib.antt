@@ -3,6 +3,7 @@ pub mod Cancels
 pub mod Exactness
 pub mod Fewness
 pub mod Keepers
+pub mod Marking
 pub mod Placement
 pub mod Promptness
 pub mod Queueings

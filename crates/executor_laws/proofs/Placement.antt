@@ -21,6 +21,7 @@ pub mod Bound
 pub mod BoundSteps
 pub mod BoundWays
 pub mod Placing
+pub mod OfTicks
 pub mod RunAnswers
 pub mod OwnReady
 pub mod OwnAlways

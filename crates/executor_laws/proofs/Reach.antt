@@ -5,5 +5,10 @@ pub mod LoneMoves
 pub mod LoneSteps
 pub mod LoneTicks
 pub mod LoneBegins
+pub mod Marked
+pub mod Spots
 pub mod Searching
 pub mod Reaching
+pub mod Counting
+pub mod InReach
+pub mod ByTurn

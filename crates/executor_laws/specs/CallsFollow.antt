@@ -42,7 +42,7 @@ asked_with (Some f) a = Some (a f)
 
 -- what a call is asked, by a party in whose poll this waker was given
 abbrev pub asked_of : World → Option Waker → Call → Option (Asked ℕ ℕ)
-asked_of w here call.Spawn = Some asked.Spawn
+asked_of w here (call.Spawn m) = Some (asked.Spawn m)
 asked_of w here call.TryTick = Some asked.TryTick
 asked_of w here call.IsEmpty = Some asked.IsEmpty
 asked_of w here (call.Wake k) = asked_with (kept w k) (λ f. asked.Wake f)

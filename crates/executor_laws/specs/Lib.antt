@@ -12,6 +12,7 @@ pub mod Called
 pub mod Places
 pub mod Ticks
 pub mod Reach
+pub mod Looks
 pub mod LoneAnswers
 pub mod AtRest
 pub mod RunReach

@@ -1,12 +1,16 @@
--- A poll of a tick or of a run is answered that nothing is ready only where it looked for a future and none was there, whatever
--- others do meanwhile.
+-- A poll of a tick or of a run is answered that nothing is ready only where it looked for a future in each of the executor's
+-- queues and none was there, whatever others do meanwhile.
 use Rattle.std.specs.Prelude.{◌≡◌, ◌⊎◌, ℕ, ◌<◌, None, Some, List, [], ◌∷◌, ◌++◌, length}
+use Rattle.executor_parts.specs.Marks.{other}
+use Rattle.executor_parts.specs.declared.mark.Mark.{Mark}
 use Rattle.executor_model.specs.declared.call.By.{By}
 use Rattle.executor_model.specs.declared.call.Call.TheVariants.{PollRun, PollTick}
 use Rattle.executor_model.specs.declared.call.Reply.{Reply}
 use Rattle.executor_model.specs.declared.call.Reply.TheVariants.{Pending}
 use Rattle.executor_model.specs.declared.event.Event.TheVariants.{CallBegun}
 use Rattle.executor_model.specs.declared.op.ListOp.TheVariants as list_op
+use Rattle.executor_model.specs.declared.op.Look.{Look}
+use Rattle.executor_model.specs.declared.op.Look.TheVariants.{First, Second}
 use Rattle.executor_model.specs.declared.op.Op.{Op}
 use Rattle.executor_model.specs.declared.op.Op.TheVariants as op
 use Rattle.executor_model.specs.declared.op.RunOp.TheVariants as run_op
@@ -17,10 +21,11 @@ use Rattle.executor_model.specs.declared.op.TickOrRun.TheVariants as tick_or_run
 use Rattle.executor_model.specs.declared.step.Hint.{Hint}
 use Rattle.executor_model.specs.declared.step.Step.{Step}
 use Rattle.executor_model.specs.declared.step.Step.TheVariants.{Begin, Go}
+use Rattle.executor_model.specs.Acts.{mark_in}
 use Rattle.executor_model.specs.ActsOfRuns.{asleep}
 use Rattle.executor_model.specs.SpawnWants.{Answers}
 use Rattle.executor_model.specs.Steps.{Machine, mine, refusal, stack, step, stepped, top, waker_of}
-use Rattle.executor_model.specs.World.{own_of}
+use Rattle.executor_model.specs.World.{own_of, queue_of}
 
 -- the call that party p began above these things ends by one of these steps, and is answered so
 abbrev pub IsAnswered : Reply → ℕ → List Op → List Step → Machine → Type 0
@@ -35,15 +40,22 @@ pub record Does (o : Op) (p : ℕ) (s : Machine) (t : Step) : Type 0 where
   pub possible : refusal s t ≡ None
   pub next : top (stack s p) ≡ Some o
 
--- by this step a tick's poll looks for a future, and none is in the executor's queue
-pub record TickFindsNone (x : Sleeping) (p : ℕ) (s : Machine) (t : Step) : Type 0 where
-  pub looks : Does (op.Tick (tick_op.Search x)) p s t
-  pub none : s.world.queue.items ≡ []
+-- by this step a tick's poll looks so for a future, and none is in the queue of the executor at which it looks
+pub record TickFindsNone (look : Look) (x : Sleeping) (p : ℕ) (s : Machine) (t : Step) : Type 0 where
+  pub looks : Does (op.Tick (tick_op.Look x look)) p s t
+  pub none : (queue_of s.world (mark_in look)).items ≡ []
 
--- by one of these steps it does
+-- by one of these steps its second look finds none in the queue of this mark
+abbrev pub TickSecondNone : Mark → Sleeping → ℕ → List Step → Machine → Type 0
+TickSecondNone m x p [] s = ⊥
+TickSecondNone m x p (t ∷ ts) s = TickFindsNone (Second m) x p s t ⊎ TickSecondNone m x p ts (stepped s (step s t))
+
+-- by one of these steps its first look finds none, and then its second look finds none in the other queue
 abbrev pub TickFoundNone : Sleeping → ℕ → List Step → Machine → Type 0
 TickFoundNone x p [] s = ⊥
-TickFoundNone x p (t ∷ ts) s = TickFindsNone x p s t ⊎ TickFoundNone x p ts (stepped s (step s t))
+TickFoundNone x p (t ∷ ts) s =
+    ((m : Mark) × TickFindsNone (First m) x p s t × TickSecondNone (other m) x p ts (stepped s (step s t)))
+    ⊎ TickFoundNone x p ts (stepped s (step s t))
 
 -- the poll of tick t that party p would begin so
 abbrev pub tick_poll : ℕ → ℕ → By → Machine → Sleeping
@@ -58,14 +70,14 @@ TicksLookFirst s = (p t : ℕ) (b : By) → refusal s (Begin p (PollTick t b)) �
     IsAnswered Pending p (stack s p) steps (stepped s (step s (Begin p (PollTick t b)))) →
     TickFoundNone (tick_poll p t b s) p steps (stepped s (step s (Begin p (PollTick t b))))
 
--- a run's poll looks into its own queue by this step, then into the executor's queue by this step, and none is there
+-- a run's poll looks into its own queue by this step, then so into one of the executor's queues by this step, and none is there
 pub record OwnHasNone (x : RunPoll) (p : ℕ) (s : Machine) (t : Step) : Type 0 where
   pub looks : Does (op.Tick (tick_op.Search (asleep x))) p s t
   pub none : own_of s.world x.run ≡ []
 
-pub record CommonHasNone (x : RunPoll) (p : ℕ) (s : Machine) (t : Step) : Type 0 where
-  pub looks : Does (op.Run (run_op.SearchCommon x)) p s t
-  pub none : s.world.queue.items ≡ []
+pub record CommonHasNone (look : Look) (x : RunPoll) (p : ℕ) (s : Machine) (t : Step) : Type 0 where
+  pub looks : Does (op.Run (run_op.SearchCommon x look)) p s t
+  pub none : (queue_of s.world (mark_in look)).items ≡ []
 
 -- it begins a walk through the list of queues
 abbrev pub Walks : RunPoll → ℕ → Machine → Step → Type 0
@@ -79,13 +91,20 @@ abbrev pub Walked : RunPoll → ℕ → List Step → Machine → Type 0
 Walked x p [] s = ⊥
 Walked x p (t ∷ ts) s = Walks x p s t ⊎ Walked x p ts (stepped s (step s t))
 
--- the executor's queue had none, and then it walked
+-- at its second look the queue of this mark had none, and then it walked
+abbrev pub OtherHadNone : Mark → RunPoll → ℕ → List Step → Machine → Type 0
+OtherHadNone m x p [] s = ⊥
+OtherHadNone m x p (t ∷ ts) s =
+    (CommonHasNone (Second m) x p s t × Walked x p ts (stepped s (step s t))) ⊎ OtherHadNone m x p ts (stepped s (step s t))
+
+-- at its first look one of the executor's queues had none, then the other one had none, and then it walked
 abbrev pub CommonHadNone : RunPoll → ℕ → List Step → Machine → Type 0
 CommonHadNone x p [] s = ⊥
 CommonHadNone x p (t ∷ ts) s =
-    (CommonHasNone x p s t × Walked x p ts (stepped s (step s t))) ⊎ CommonHadNone x p ts (stepped s (step s t))
+    ((m : Mark) × CommonHasNone (First m) x p s t × OtherHadNone (other m) x p ts (stepped s (step s t)))
+    ⊎ CommonHadNone x p ts (stepped s (step s t))
 
--- its own queue had none, then the executor's queue had none, and then it walked; or it called its own waker
+-- its own queue had none, then each of the executor's queues had none, and then it walked; or it called its own waker
 abbrev pub RunFoundNone : RunPoll → ℕ → List Step → Machine → Type 0
 RunFoundNone x p [] s = ⊥
 RunFoundNone x p (t ∷ ts) s = (OwnHasNone x p s t × CommonHadNone x p ts (stepped s (step s t)))

@@ -1,8 +1,9 @@
--- How many Runnables were queued in the executor's queue; and that it is one that counts them, for as long as such a
--- queue may.
+-- How many Runnables were queued in each of the executor's queues; and that it is one that counts them, for as long as such
+-- a queue may.
 use Rattle.std.specs.Prelude.{◌≡◌, ℕ, ◌+◌, ◌-◌, ◌<◌, ◌≤◌, false, Some, List, [], ◌∷◌, ◌++◌, length}
 use Rattle.queue_steps.specs.ClosableQueue.{ClosableQueue, most_accepted, new_queue, HasRoom}
 use Rattle.queue_steps.specs.ClosableQueue.{IsUnspent, appended, taken, shut}
+use Rattle.executor_parts.specs.declared.mark.Mark.{Mark}
 use Rattle.executor_model.specs.declared.kind.Kind.{Kind}
 use Rattle.executor_model.specs.declared.op.Op.TheVariants as op
 use Rattle.executor_model.specs.declared.op.QueueOp.TheVariants as queue_op
@@ -10,16 +11,17 @@ use Rattle.executor_model.specs.declared.step.Hint.{Hint}
 use Rattle.executor_model.specs.declared.step.Step.{Step}
 use Rattle.executor_model.specs.declared.step.Step.TheVariants.{Go}
 use Rattle.executor_model.specs.Steps.{Machine, stack, top, step, stepped, run, start}
+use Rattle.executor_model.specs.World.{mark_of, queue_of}
 
--- a step appends as many Runnables as the queue gets longer by, one or none
-abbrev pub queued_by : Step → Machine → ℕ
-queued_by t s = length (stepped s (step s t)).world.queue.items - length s.world.queue.items
+-- a step appends as many Runnables as the queue of this mark gets longer by, one or none
+abbrev pub queued_by : Mark → Step → Machine → ℕ
+queued_by m t s = length (queue_of (stepped s (step s t)).world m).items - length (queue_of s.world m).items
 
 -- the appends to the queue by these steps, of a new machine: those of acceptances, of wakes that scheduled, of
 -- closings, and of what runs that went had left
-abbrev pub queueings : List Step → Machine → ℕ
-queueings [] s = 0
-queueings (t ∷ ts) s = queued_by t s + queueings ts (stepped s (step s t))
+abbrev pub queueings : Mark → List Step → Machine → ℕ
+queueings m [] s = 0
+queueings m (t ∷ ts) s = queued_by m t s + queueings m ts (stepped s (step s t))
 
 -- the queue, which has accepted so many
 abbrev pub counting : ℕ → ClosableQueue ℕ → ClosableQueue ℕ
@@ -34,22 +36,24 @@ pub data Changes (q new : ClosableQueue ℕ) : Type 0 where
   closes : new ≡ shut q → Changes q new
 
 -- after these steps of a new machine
-abbrev pub counted_after : ℕ → Kind → ℕ → List Step → ClosableQueue ℕ
-counted_after limit kind parties steps =
-    counting (queueings steps (start limit kind parties)) (run steps (start limit kind parties)).world.queue
+abbrev pub counted_after : Mark → ℕ → Kind → ℕ → List Step → ClosableQueue ℕ
+counted_after m limit kind parties steps = counting
+    (queueings m steps (start limit kind parties))
+    (queue_of (run steps (start limit kind parties)).world m)
 
 -- these steps queue fewer than a queue may accept
-abbrev pub AreFewQueueings : ℕ → Kind → ℕ → List Step → Type 0
-AreFewQueueings limit kind parties steps = queueings steps (start limit kind parties) < most_accepted
+abbrev pub AreFewQueueings : Mark → ℕ → Kind → ℕ → List Step → Type 0
+AreFewQueueings m limit kind parties steps = queueings m steps (start limit kind parties) < most_accepted
 
 -- there are no more than steps; the queue of a new machine is a new queue that counts; each step changes it as a
 -- closable queue changes; and a Runnable that is to be appended is, unless the queue is closed
-pub record CountsQueueings (limit : ℕ) (kind : Kind) (parties : ℕ) (steps : List Step) : Type 0 where
-  pub most : queueings steps (start limit kind parties) ≤ length steps
-  pub new : counted_after limit kind parties [] ≡ new_queue (Some limit) (Some 0)
-  pub changes : AreFewQueueings limit kind parties steps → (t : Step) →
-      Changes (counted_after limit kind parties steps) (counted_after limit kind parties (steps ++ t ∷ []))
-  pub appends : AreFewQueueings limit kind parties steps → (p : ℕ) (h : Hint) (f : ℕ) →
+pub record CountsQueueings (m : Mark) (limit : ℕ) (kind : Kind) (parties : ℕ) (steps : List Step) : Type 0 where
+  pub most : queueings m steps (start limit kind parties) ≤ length steps
+  pub new : counted_after m limit kind parties [] ≡ new_queue (Some limit) (Some 0)
+  pub changes : AreFewQueueings m limit kind parties steps → (t : Step) →
+      Changes (counted_after m limit kind parties steps) (counted_after m limit kind parties (steps ++ t ∷ []))
+  pub appends : AreFewQueueings m limit kind parties steps → (p : ℕ) (h : Hint) (f : ℕ) →
       top (stack (run steps (start limit kind parties)) p) ≡ Some (op.Queue (queue_op.Append f)) →
-      (counted_after limit kind parties steps).closed ≡ false →
-      counted_after limit kind parties (steps ++ Go p h ∷ []) ≡ appended (counted_after limit kind parties steps) f
+      mark_of (run steps (start limit kind parties)).world f ≡ m →
+      (counted_after m limit kind parties steps).closed ≡ false →
+      counted_after m limit kind parties (steps ++ Go p h ∷ []) ≡ appended (counted_after m limit kind parties steps) f

@@ -1,21 +1,24 @@
 -- Which futures are reached by calls that look for one and are made alone.
-use Rattle.std.specs.Prelude.{◌≡◌, ◌==◌, ℕ, suc, ◌+◌, ◌≤◌, ◌<◌, Bool, true, ◌&&◌, ◌||◌}
+use Rattle.std.specs.Prelude.{◌≡◌, ◌==◌, ℕ, suc, ◌+◌, ◌≤◌, ◌<◌, Bool, true, false, ◌&&◌, ◌||◌, All, filter}
 use Rattle.std.specs.Prelude.{Option, Some, None, List, [], ◌∷◌, ◌++◌, length, drop, take}
 use Rattle.std.specs.List.{list_any}
+use Rattle.executor_parts.specs.declared.mark.Mark.{Mark}
+use Rattle.executor_parts.specs.declared.mark.Mark.TheVariants.{Plain}
+use Rattle.executor_parts.specs.Marks.{same_mark}
 use Rattle.executor_model.specs.declared.call.By.TheVariants.{Outside}
 use Rattle.executor_model.specs.declared.call.Call.{Call}
 use Rattle.executor_model.specs.declared.call.Call.TheVariants.{PollTick, TryTick}
 use Rattle.executor_model.specs.declared.call.Reply.{Reply}
 use Rattle.executor_model.specs.declared.call.Reply.TheVariants.{Ready, Yes}
 use Rattle.executor_model.specs.declared.event.Event.{Event}
-use Rattle.executor_model.specs.declared.event.Event.TheVariants.{CallBegun, CallEnded}
+use Rattle.executor_model.specs.declared.event.Event.TheVariants.{CallBegun, CallEnded, Looked}
 use Rattle.executor_model.specs.declared.step.Step.{Step}
 use Rattle.executor_model.specs.Emptiness.{IsAtRest}
 use Rattle.executor_model.specs.Keeper.{IsCommon}
 use Rattle.executor_model.specs.Sound.{times}
 use Rattle.executor_model.specs.Steps.{Machine, lives}
 use Rattle.executor_model.specs.Trace.{Trace, has, is_poll, is_dropped}
-use Rattle.executor_model.specs.World.{tick_of}
+use Rattle.executor_model.specs.World.{mark_of, tick_of}
 use Rattle.executor_laws.specs.LoneEnds.{IsLoneCall}
 
 abbrev pub IsLoneTick : ℕ → List Step → Machine → Machine → Type 0
@@ -99,9 +102,23 @@ pub record IsInReach (s : Machine) : Type 0 where
   pub polls : IsAtRest s → (p : ℕ) → p < length s.parties → (t x : ℕ) → lives (tick_of s.world t) ≡ true →
       (steps : List Step) × (new : Machine) × IsLoneCall p (PollTick t (Outside x)) steps s new
 
--- the queue is first in, first out, so as many such calls as futures are common at their start take each of those,
--- whatever becomes common meanwhile
-abbrev pub IsReachedInOrder : Machine → Type 0
-IsReachedInOrder s = IsAtRest s → (commons : List ℕ) → HasCommons s.world.trace commons →
-    (searches : List LoneSearch) (new : Machine) → AreLoneSearches searches s new → length commons ≤ length searches →
-    (f : ℕ) → IsCommon f s.world.trace → has (takes f) (since s new) ≡ true
+-- a turn names this mark
+abbrev pub names : Mark → Event → Bool
+names m (Looked p n) = same_mark m n
+names m _ = false
+
+-- the list has each future of this mark that is common
+abbrev pub HasCommonsOf : Mark → Machine → List ℕ → Type 0
+HasCommonsOf m s commons = (f : ℕ) → IsCommon f s.world.trace → mark_of s.world f ≡ m → 1 ≤ times f commons
+
+-- each queue is first in, first out, so such calls in which as many turns name a mark as futures of it are common at their
+-- start take each of those, whatever becomes common meanwhile; and where all futures are plain, as many calls do
+pub record IsReachedInOrder (s : Machine) : Type 0 where
+  pub by_mark : IsAtRest s → (m : Mark) (commons : List ℕ) → HasCommonsOf m s commons →
+      (searches : List LoneSearch) (new : Machine) → AreLoneSearches searches s new →
+      length commons ≤ length (filter (names m) (since s new)) →
+      (f : ℕ) → IsCommon f s.world.trace → mark_of s.world f ≡ m → has (takes f) (since s new) ≡ true
+  pub plain : IsAtRest s → (commons : List ℕ) → HasCommons s.world.trace commons →
+      (searches : List LoneSearch) (new : Machine) → AreLoneSearches searches s new →
+      All (λ m. m ≡ Plain) new.world.marks → length commons ≤ length searches →
+      (f : ℕ) → IsCommon f s.world.trace → has (takes f) (since s new) ≡ true

@@ -13,7 +13,7 @@ use Rattle.executor_model.specs.declared.step.Step.TheVariants.{Begin, Go, Answe
 use Rattle.executor_model.specs.Executions.{run_all}
 use Rattle.executor_model.specs.Steps.{Machine, refusal, after}
 use Rattle.executor_model.specs.Weights.{weigh_all}
-use Rattle.executor_model.specs.World.{World, Ticker, Awake, Asleep, Left, Run}
+use Rattle.executor_model.specs.World.{World, Ticker, Awake, Asleep, Left, Run, queued_in}
 use Rattle.executor_laws.specs.Costs.{left_by, registers_of, steps_of, walk_of}
 
 -- the steps that are left, but those of walks and steals
@@ -37,7 +37,7 @@ appends_left s = appends_by (s.completed || s.closed) s.scheduled
 
 -- the steps that a task may lead to: those of its output's drop, and of its appends
 abbrev pub steps_of_task : State → ℕ
-steps_of_task s = 3 * keeps_output s + 43 * appends_left s
+steps_of_task s = 3 * keeps_output s + 45 * appends_left s
 
 abbrev pub steps_of_tasks : List State → ℕ
 steps_of_tasks [] = 0
@@ -60,7 +60,7 @@ ups (x ∷ xs) = up_of x + ups xs
 -- the steps of a run: it searches once more where it falls asleep, and may take so many futures until it lets others go
 -- first
 abbrev pub steps_of_place : Run → ℕ
-steps_of_place x = 3 * up_of x.place + 150 * (200 - x.taken)
+steps_of_place x = 5 * up_of x.place + 160 * (200 - x.taken)
 
 abbrev pub steps_of_runs : List Run → ℕ
 steps_of_runs [] = 0
@@ -75,14 +75,14 @@ steps_of_leak false n = 26 * n
 -- drop, stored awaiters, tasks, sleepers, ticks and runs
 unfoldable pub steps_kept : World → ℕ
 steps_kept w =
-    11 * length w.queue.items + (28 * (length w.table + length w.leaving) +
+    11 * length (queued_in w) + (28 * (length w.table + length w.leaving) +
     (steps_of_leak w.is_static (length w.table + length w.leaving) + (26 * length w.waking +
-    (26 * stored w.awaiters + (steps_of_tasks w.tasks + (3 * notified_of w.sleepers + (3 * ups w.ticks +
+    (26 * stored w.awaiters + (steps_of_tasks w.tasks + (5 * notified_of w.sleepers + (5 * ups w.ticks +
     steps_of_runs w.runs)))))))
 
--- of all: a Runnable that a run has still to schedule takes 45 steps, with what its append leads to
+-- of all: a Runnable that a run has still to schedule takes 46 steps, with what its append leads to
 abbrev pub steps_left : Machine → ℕ
-steps_left s = steps_kept s.world + (weigh_all steps_of s.parties + 45 * weigh_all (left_by s.world) s.parties)
+steps_left s = steps_kept s.world + (weigh_all steps_of s.parties + 46 * weigh_all (left_by s.world) s.parties)
 
 -- the queues that are in the list, or that a poll is about to bring there: no walk goes to more
 abbrev pub queues_of : Machine → ℕ

@@ -1,6 +1,7 @@
 -- What the step of a call sees that an operation of the machine is.
 use Rattle.std.specs.Prelude.{ℕ, zero, suc, ◌%◌, ◌==◌, Bool, true, false, ◌&&◌, ◌||◌, not, Option, Some, None, List, [], ◌∷◌}
 use Rattle.std.specs.Prelude.{◌++◌, length, nat_lt}
+use Rattle.executor_parts.specs.Marks.{first_of}
 use Rattle.executor_parts.specs.Sleepers.{position_of, waker_at, waker_of, last_waker}
 use Rattle.task_moves.specs.declared.moves.owed.Move.{Move}
 use Rattle.task_moves.specs.declared.moves.owed.Move.TheVariants as move
@@ -40,7 +41,8 @@ use Rattle.executor_model.specs.declared.step.Hint.{Hint}
 use Rattle.executor_model.specs.declared.step.UserEnd.{UserEnd}
 use Rattle.executor_model.specs.declared.step.UserEnd.TheVariants as end
 use Rattle.executor_model.specs.World.{World, Ticker, Awake, Asleep, Left, task, awaiter_of, among, tick_of, run_of, own_of, place_of}
-use Rattle.executor_model.specs.Acts.{stands_alone, is_refused, is_copy_refused}
+use Rattle.executor_model.specs.World.{mark_of, queue_of}
+use Rattle.executor_model.specs.Acts.{stands_alone, is_refused, is_copy_refused, mark_in, takes_more}
 use Rattle.executor_model.specs.ActsOfRuns.{queue_at, next_place, source_of, free_places}
 use Rattle.call_steps.specs.declared.names.Waker.{Waker as WakerOf}
 use Rattle.call_steps.specs.declared.saw.Saw.{Saw}
@@ -94,14 +96,15 @@ entry_with_waker true false = saw.Something
 entry_with_waker _ _ = saw.Nothing
 
 abbrev pub seen_table : Hint → TableOp → World → Seen
-seen_table h table_op.Enter w = entry (not (nat_lt (length w.table) w.limit)) h.refused w
+seen_table h (table_op.Enter m) w = entry (not (nat_lt (length w.table) w.limit)) h.refused w
 seen_table h table_op.LookAtTable w = some_there w.table
 seen_table h (table_op.LeaveTable f) w = entry_with_waker (among f w.table) w.is_static
 seen_table h _ w = saw.Nothing
 
 abbrev pub seen_queue : QueueOp → World → Seen
-seen_queue queue_op.Take w = first w.queue.items
-seen_queue (queue_op.Append f) w = allowed (not w.queue.closed && nat_lt (length w.queue.items) w.limit)
+seen_queue queue_op.TakeTurn w = saw.Turn (first_of w.urgent_turns)
+seen_queue (queue_op.Take l) w = first (queue_of w (mark_in l)).items
+seen_queue (queue_op.Append f) w = allowed (takes_more (queue_of w (mark_of w f)) w.limit)
 
 -- wakers and handles
 
@@ -156,10 +159,10 @@ abbrev pub found : List ℕ → Searcher → Seen
 found [] at = saw.Nothing
 found (f ∷ fs) at = saw.FoundBy f at
 
--- where a search begins
-abbrev pub searched : World → TickOrRun → List ℕ
-searched w (Tick t) = w.queue.items
-searched w (Run r) = own_of w r
+-- how a search begins: a tick sees a turn, and a run its own queue
+abbrev pub searched : World → TickOrRun → Seen
+searched w (Tick t) = saw.Turn (first_of w.urgent_turns)
+searched w (Run r) = found (own_of w r) (searcher w (Run r))
 
 abbrev pub laid : Bool → Seen
 laid true = saw.Anew
@@ -186,7 +189,8 @@ left Left w = saw.Nothing
 
 abbrev pub seen_tick : Hint → TickOp → World → Seen
 seen_tick h tick_op.MakeTick w = unless_refused h.refused
-seen_tick h (tick_op.Search s) w = found (searched w s.who) (searcher w s.who)
+seen_tick h (tick_op.Search s) w = searched w s.who
+seen_tick h (tick_op.Look s l) w = found (queue_of w (mark_in l)).items (searcher w s.who)
 seen_tick h (tick_op.CopyWaker s) w = unless_refused (is_copy_refused h w s.waker)
 seen_tick h (tick_op.FallAsleep s) w = fell_asleep (place_of w s.who) w
 seen_tick h (tick_op.WakeUp who) w = woke_up (place_of w who) w
@@ -236,7 +240,8 @@ looked_own (f ∷ fs) at further = saw.FoundBy f at
 abbrev pub seen_run : Hint → RunOp → World → Seen
 seen_run h run_op.MakeRoom w = unless_refused h.refused
 seen_run h run_op.ReturnRoom w = saw.Nothing
-seen_run h (run_op.SearchCommon x) w = first w.queue.items
+seen_run h (run_op.TakeTurn x) w = saw.Turn (first_of w.urgent_turns)
+seen_run h (run_op.SearchCommon x l) w = first (queue_of w (mark_in l)).items
 seen_run h (run_op.LookOwn x at more) w =
     looked_own (own_of w x.run) (searcher w (Run x.run)) (walked x.run w.listed at more)
 seen_run h (run_op.WakeOwn x) w = woken move.WakeByReference w x.waker
@@ -260,8 +265,8 @@ abbrev pub seen_closing : ClosingOp → World → Seen
 seen_closing closing_op.TakeOut w = saw.Closes (length w.table) (length w.waking)
 seen_closing closing_op.DropNext w = dropped w.leaving w.waking
 seen_closing closing_op.WakeNext w = wakes w.waking w
-seen_closing closing_op.Close w = saw.Nothing
-seen_closing closing_op.Drain w = first w.queue.items
+seen_closing (closing_op.Close m) w = saw.Nothing
+seen_closing (closing_op.Drain m) w = first (queue_of w m).items
 seen_closing closing_op.LeakOut w = unless_gone (w.is_static || w.gone) (saw.Closes 0 (length (w.waking ++ w.table)))
 seen_closing closing_op.LeakNext w = unless_gone w.gone (wakes w.waking w)
 

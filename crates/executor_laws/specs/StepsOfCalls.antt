@@ -9,6 +9,8 @@ use Rattle.executor_model.specs.declared.op.HandleOp.{HandleOp}
 use Rattle.executor_model.specs.declared.op.HandleOp.TheVariants as handle_op
 use Rattle.executor_model.specs.declared.op.ListOp.{ListOp}
 use Rattle.executor_model.specs.declared.op.ListOp.TheVariants as list_op
+use Rattle.executor_model.specs.declared.op.Look.{Look}
+use Rattle.executor_model.specs.declared.op.Look.TheVariants as look
 use Rattle.executor_model.specs.declared.op.Op.{Op}
 use Rattle.executor_model.specs.declared.op.Op.TheVariants as op
 use Rattle.executor_model.specs.declared.op.QueueOp.{QueueOp}
@@ -40,6 +42,8 @@ use Rattle.executor_model.specs.declared.op.Waker.{Waker}
 use Rattle.executor_model.specs.declared.op.Waker.TheVariants as waker
 use Rattle.executor_model.specs.declared.op.WakerOp.{WakerOp}
 use Rattle.executor_model.specs.declared.op.WakerOp.TheVariants as waker_op
+use Rattle.call_steps.specs.declared.names.Look.{Look as LookOf}
+use Rattle.call_steps.specs.declared.names.Look.TheVariants as of_look
 use Rattle.call_steps.specs.declared.names.RunPoll.{RunPoll as PollOf}
 use Rattle.call_steps.specs.declared.names.Section.{Section as SectionOf}
 use Rattle.call_steps.specs.declared.names.Section.TheVariants as of_section
@@ -111,12 +115,17 @@ section_of section.MakeRun = of_section.MakeRun
 section_of (section.Register x) = of_section.Register (poll_of x)
 section_of (section.Unregister r a) = of_section.Unregister r (reply_of a)
 
+abbrev pub look_of : Look → LookOf
+look_of (look.First m) = of_look.First m
+look_of (look.Second m) = of_look.Second m
+
 abbrev pub source_of : Source → SourceOf ℕ
-source_of source.Common = of_source.Common
+source_of (source.Common m) = of_source.Common m
 source_of (source.Own r) = of_source.Own r
 
 abbrev pub then_of : Then → ThenOf ℕ
 then_of (then.Found f) = of_then.Found f
+then_of (then.StealPlain f) = of_then.StealPlain f
 then_of (then.Run f) = of_then.Run f
 then_of (then.Walk at left) = of_then.Walk left
 
@@ -124,7 +133,7 @@ abbrev pub steal_of : Steal → StealOf ℕ ℕ
 steal_of s = record { poll = poll_of s.poll; from = source_of s.from; then = then_of s.then }
 
 abbrev pub table_step_of : TableOp → TableStep ℕ
-table_step_of table_op.Enter = table_step.Enter
+table_step_of (table_op.Enter m) = table_step.Enter m
 table_step_of table_op.LookAtTable = table_step.LookAtTable
 table_step_of (table_op.TakeToPoll f) = table_step.TakeToPoll f
 table_step_of (table_op.PutBack f) = table_step.PutBack f
@@ -132,7 +141,8 @@ table_step_of (table_op.TakeToDrop f) = table_step.TakeToDrop f
 table_step_of (table_op.LeaveTable f) = table_step.LeaveTable f
 
 abbrev pub queue_step_of : QueueOp → QueueStep ℕ
-queue_step_of queue_op.Take = queue_step.Take
+queue_step_of queue_op.TakeTurn = queue_step.TakeTurn
+queue_step_of (queue_op.Take l) = queue_step.Take (look_of l)
 queue_step_of (queue_op.Append f) = queue_step.Append f
 
 abbrev pub user_step_of : UserOp → UserStep ℕ ℕ
@@ -167,6 +177,7 @@ sleeper_step_of (sleeper_op.CallSleeper s) = sleeper_step.CallSleeper (sleeping_
 abbrev pub tick_step_of : TickOp → TickStep ℕ ℕ
 tick_step_of tick_op.MakeTick = tick_step.MakeTick
 tick_step_of (tick_op.Search s) = tick_step.Search (sleeping_of s)
+tick_step_of (tick_op.Look s l) = tick_step.Look (sleeping_of s) (look_of l)
 tick_step_of (tick_op.CopyWaker s) = tick_step.CopyWaker (sleeping_of s)
 tick_step_of (tick_op.FallAsleep s) = tick_step.FallAsleep (sleeping_of s)
 tick_step_of (tick_op.WakeUp who) = tick_step.WakeUp (who_of who)
@@ -188,7 +199,8 @@ steal_step_of (steal_op.Put s more f) = steal_step.Put (steal_of s) more f
 abbrev pub run_step_of : RunOp → RunStep ℕ ℕ
 run_step_of run_op.MakeRoom = run_step.MakeRoom
 run_step_of run_op.ReturnRoom = run_step.ReturnRoom
-run_step_of (run_op.SearchCommon x) = run_step.SearchCommon (poll_of x)
+run_step_of (run_op.TakeTurn x) = run_step.TakeTurn (poll_of x)
+run_step_of (run_op.SearchCommon x l) = run_step.SearchCommon (poll_of x) (look_of l)
 run_step_of (run_op.LookOwn x at left) = run_step.LookOwn (poll_of x) left
 run_step_of (run_op.WakeOwn x) = run_step.WakeOwn (poll_of x)
 run_step_of (run_op.Reschedule r a) = run_step.Reschedule r (reply_of a)
@@ -197,8 +209,8 @@ abbrev pub closing_step_of : ClosingOp → ClosingStep
 closing_step_of closing_op.TakeOut = closing_step.TakeOut
 closing_step_of closing_op.DropNext = closing_step.DropNext
 closing_step_of closing_op.WakeNext = closing_step.WakeNext
-closing_step_of closing_op.Close = closing_step.Close
-closing_step_of closing_op.Drain = closing_step.Drain
+closing_step_of (closing_op.Close m) = closing_step.Close m
+closing_step_of (closing_op.Drain m) = closing_step.Drain m
 closing_step_of closing_op.LeakOut = closing_step.LeakOut
 closing_step_of closing_op.LeakNext = closing_step.LeakNext
 

@@ -1,5 +1,6 @@
 //! Laws of every execution of the machine, of any number of parties and any list of steps.
 ghost use Rattle.std.specs.Prelude.{ℕ, List};
+ghost use Rattle.executor_parts.specs.declared.mark.Mark.{Mark};
 ghost use Rattle.executor_model.specs.declared.kind.Kind.{Kind};
 ghost use Rattle.executor_model.specs.declared.step.Step.{Step};
 ghost use Rattle.executor_model.specs.EveryTrace.{EveryTrace};
@@ -17,6 +18,7 @@ ghost use Rattle.executor_laws.specs.Called.{KeeperIsCalled, SomeStandingIsCalle
 ghost use Rattle.executor_laws.specs.AtRest.{EmptinessIsExact, TicksAreExact};
 ghost use Rattle.executor_laws.specs.KeptFirst.{TakesKeptFirst};
 ghost use Rattle.executor_laws.specs.LoneAnswers.{IsLoneEmptinessExact, IsLoneTickExact};
+ghost use Rattle.executor_laws.specs.Looks.{AreQueuedByMark, IsMarkedAsSpawned, OneOfEightIsPlain, TakesByItsTurn};
 ghost use Rattle.executor_laws.specs.Makings.{MadeIsMade};
 ghost use Rattle.executor_laws.specs.NoAnswers.{NoMeansEmpty};
 ghost use Rattle.executor_laws.specs.Numbered.{RequestsAreNumbered};
@@ -55,11 +57,12 @@ pub fn lone_calls_end()
     ensures { EveryMachine LoneCallsEnd }
 {}
 
-/// No more Runnables are queued in the executor's queue than steps taken. As long as fewer than 2^61 were queued, that
+/// No more Runnables are queued in either of the executor's queues than steps taken. As long as fewer than 2^61 were queued, that
 /// queue is a closable queue that counts what it accepts, and may accept one more. No Runnable is kept
 /// out of it but by its close, and none is taken from it where it is empty, by a steal neither.
 pub fn queueings_are_counted()
-    ensures { (limit : ℕ) (kind : Kind) (parties : ℕ) (steps : List Step) → CountsQueueings limit kind parties steps }
+    ensures { (m : Mark) (limit : ℕ) (kind : Kind) (parties : ℕ) (steps : List Step) →
+        CountsQueueings m limit kind parties steps }
 {}
 
 /// Whatever a party does, what has happened stays, and more may come behind it.
@@ -69,20 +72,21 @@ pub fn traces_continue()
 {}
 
 /// Whoever is answered no is answered at once. Of what a party did, in whatever calls, an answer no stands
-/// right behind the beginning of the call that it answers; others may do anything meanwhile.
+/// right behind the beginning of the call that it answers, or behind the one turn that follows that; others
+/// may do anything meanwhile.
 pub fn no_comes_at_once()
     ensures { EveryTrace NoComesAtOnce }
 {}
 
-/// Whatever others do meanwhile, a try of a tick is answered no only by a step in which the executor's queue is empty.
+/// Whatever others do meanwhile, a try of a tick is answered no only where it has found each of the executor's queues empty.
 pub fn no_means_that_nothing_was_queued()
     ensures { EveryMachine NoMeansEmpty }
 {}
 
-/// Whatever others do meanwhile, a poll of a tick is answered that nothing is ready only where it looked for a future, by a step
-/// in which the executor's queue was empty. A poll of a run is answered so only where it looked into its own queue, then into the
-/// executor's queue, and each was empty as it looked, and then went through the list of queues; or where it called its own
-/// waker, after 200 futures.
+/// Whatever others do meanwhile, a poll of a tick is answered that nothing is ready only where it looked for a future into each of
+/// the executor's queues, by two steps in each of which the queue was empty at which it looked. A poll of a run is answered so only
+/// where it looked into its own queue, then into each of the executor's queues, and each was empty as it looked, and then went
+/// through the list of queues; or where it called its own waker, after 200 futures.
 pub fn nothing_is_ready_where_none_was_found()
     ensures ticks { EveryMachine TicksLookFirst }
     ensures runs { EveryMachine RunsLookFirst }
@@ -155,8 +159,8 @@ pub fn ended_runs_are_finished()
     ensures { (s : Machine) → EndedIsFinished s }
 {}
 
-/// Where no call is in progress and the drop of the executor hasn't begun, the Runnable of a due future stands in the
-/// executor's queue exactly where the future is common, and in a run's own queue exactly where that run is its keeper.
+/// Where no call is in progress and the drop of the executor hasn't begun, the Runnable of a due future stands in
+/// one of the executor's queues exactly where the future is common, and in a run's own queue exactly where that run is its keeper.
 pub fn due_futures_stand_with_their_keepers()
     ensures { EveryMachine StandsWithKeeper }
 {}
@@ -169,8 +173,8 @@ pub fn ticks_are_exact()
 {}
 
 /// Where a call begins while no other is in progress and the drop of the executor hasn't begun, and no
-/// other begins before something else happens, the next event says it all. A tick is answered at once
-/// that there is nothing to do exactly where no future is common. Who asks whether the executor is empty is
+/// other begins before something else happens, the next event says it all. A tick takes a turn at once, and is then
+/// answered at once that there is nothing to do exactly where no future is common. Who asks whether the executor is empty is
 /// answered at once, and yes exactly where each accepted future is dropped. So it is for each party.
 pub fn calls_at_rest_are_exact()
     ensures ticks { EveryTrace TicksAreExact }
@@ -199,8 +203,9 @@ pub fn common_futures_are_in_reach()
     lone_calls_end();
 }
 
-/// The executor's queue is first in, first out: as many calls that look for a future and are made alone as
-/// futures are common at their start begin the poll or the drop of each of those, whatever becomes common meanwhile.
+/// Each of the executor's queues is first in, first out: calls that look for a future and are made alone, and in which as many
+/// turns name a mark as futures of that mark are common at their start, begin the poll or the drop of each of those, whatever
+/// becomes common meanwhile. Where all futures are plain, as many calls do as futures are common.
 pub fn arrival_order_needs_fewer_ticks()
     ensures { EveryMachine IsReachedInOrder }
 {}
@@ -266,10 +271,10 @@ pub fn kept_futures_come_first()
     ensures { EveryMachine TakesKeptFirst }
 {}
 
-/// A run takes first what stands in its own queue, then what is common, and what it moves from there keeps its turn: as many
-/// polls of the run, made alone and with its own future not ready in any, as it keeps futures and are common at their start
-/// begin the poll or the drop of each that was common, whatever other user code answers in them and whatever becomes common
-/// meanwhile.
+/// A run takes first what stands in its own queue, then what is common, and where all futures are plain, what it moves from
+/// there keeps its turn: as many polls of the run, made alone and with its own future not ready in any, as it keeps futures and
+/// are common at their start begin the poll or the drop of each that was common, whatever other user code answers in them and
+/// whatever becomes common meanwhile.
 pub fn common_futures_are_in_reach_of_runs()
     ensures { EveryMachine IsCommonReached }
 {}
@@ -278,4 +283,26 @@ pub fn common_futures_are_in_reach_of_runs()
 /// code answers in it, each future that the run kept is common behind that.
 pub fn dropped_runs_leave_common_futures()
     ensures { EveryMachine LeavesCommon }
+{}
+
+/// Of any eight turns in a row that searches take, whoever takes them, exactly one looks at the plain queue first.
+pub fn one_turn_of_eight_is_plain()
+    ensures { EveryMachine OneOfEightIsPlain }
+{}
+
+/// A future has the mark of the spawn by which it was taken in.
+pub fn futures_are_marked_as_spawned()
+    ensures { EveryMachine IsMarkedAsSpawned }
+{}
+
+/// In each of the executor's queues stand futures of its mark alone: a future that was spawned urgent is queued as such, however
+/// often it is woken.
+pub fn futures_are_queued_by_their_marks()
+    ensures { EveryMachine AreQueuedByMark }
+{}
+
+/// Where no call is in progress and the drop of the executor hasn't begun, a tick that is tried alone, and whose turn names the
+/// mark of some common future, begins the poll or the drop of the first future of that mark's queue, which was common.
+pub fn lone_ticks_take_by_their_turn()
+    ensures { EveryMachine TakesByItsTurn }
 {}

@@ -1,6 +1,7 @@
 -- What all laws use of a step, of what it leads to, and of lists: for all laws.
 pub mod Cases
 pub mod Lists
+pub mod QueuesByMark
 pub mod Owed
 pub mod Asides
 pub mod SleepersLists
@@ -21,6 +22,7 @@ pub mod Ways
 pub mod Settled
 pub mod Placing
 pub mod Listing
+pub mod Marking
 pub mod Nears
 pub mod Pushes
 pub mod Reached

@@ -2,7 +2,10 @@
 -- and a task's change is its table of moves; neither is said again here.
 use Rattle.std.specs.Prelude.{ℕ, ◌+◌, ◌==◌, Bool, true, false, ◌&&◌, ◌||◌, not, Option, Some, None, List, [], ◌∷◌}
 use Rattle.std.specs.Prelude.{◌++◌, length, slice_set, nat_lt}
-use Rattle.queue_steps.specs.ClosableQueue.{appended, taken, shut}
+use Rattle.queue_steps.specs.ClosableQueue.{ClosableQueue, appended, taken, shut}
+use Rattle.executor_parts.specs.declared.mark.Mark.{Mark}
+use Rattle.executor_parts.specs.declared.mark.Mark.TheVariants as mark
+use Rattle.executor_parts.specs.Marks.{other, first_of, turn_after}
 use Rattle.task_moves.specs.declared.moves.state.State.{State}
 use Rattle.task_moves.specs.declared.moves.owed.Answer.{Answer}
 use Rattle.task_moves.specs.declared.moves.owed.Answer.TheVariants.{Refused, Pending, Closed, Output}
@@ -26,13 +29,15 @@ use Rattle.executor_model.specs.declared.op.ClosingOp.TheVariants as closing_op
 use Rattle.executor_model.specs.declared.op.HandleOp.TheVariants as handle_op
 use Rattle.task_moves.specs.declared.moves.owed.Move.{Move}
 use Rattle.task_moves.specs.declared.moves.owed.Move.TheVariants as move
+use Rattle.executor_model.specs.declared.op.Look.{Look}
+use Rattle.executor_model.specs.declared.op.Look.TheVariants.{First, Second}
 use Rattle.executor_model.specs.declared.op.QueueOp.TheVariants as queue_op
 use Rattle.executor_model.specs.declared.op.SleeperOp.TheVariants as sleeper_op
 use Rattle.executor_model.specs.declared.op.TableOp.TheVariants as table_op
 use Rattle.executor_model.specs.declared.op.UserOp.TheVariants as user_op
 use Rattle.executor_model.specs.declared.op.WakerOp.TheVariants as waker_op
 use Rattle.executor_model.specs.declared.step.Hint.{Hint}
-use Rattle.executor_model.specs.World.{World, Done, done, log, log_if, task, put, awaiter_of}
+use Rattle.executor_model.specs.World.{World, Done, done, log, log_if, task, put, awaiter_of, mark_of, queue_of, put_queue}
 use Rattle.executor_model.specs.World.{put_awaiter, without, among}
 use Rattle.executor_model.specs.Carried.{carried, awaiter_ops}
 
@@ -40,24 +45,48 @@ use Rattle.executor_model.specs.Carried.{carried, awaiter_ops}
 abbrev pub tell : List Op
 tell = op.Sleeper sleeper_op.ExchangeFlag ∷ []
 
--- the queue
+-- the queues
 
-abbrev pub append_by : Bool → World → ℕ → Done
-append_by true w f = done (record w { queue = appended w.queue f }) tell
-append_by false w f = done w (op.Move move.DropRunnable f ∷ [])
+abbrev pub append_by : Bool → World → Mark → ℕ → Done
+append_by true w m f = done (put_queue w m (appended (queue_of w m) f)) tell
+append_by false w m f = done w (op.Move move.DropRunnable f ∷ [])
 
--- a Runnable that comes back is dropped
+-- whether the queue takes one more
+abbrev pub takes_more : ClosableQueue ℕ → ℕ → Bool
+takes_more q limit = not q.closed && nat_lt (length q.items) limit
+
+-- a Runnable goes to the queue of its mark; one that comes back is dropped
+abbrev pub append_to : World → Mark → ℕ → Done
+append_to w m f = append_by (takes_more (queue_of w m) w.limit) w m f
+
 abbrev pub append : World → ℕ → Done
-append w f = append_by (not w.queue.closed && nat_lt (length w.queue.items) w.limit) w f
+append w f = append_to w (mark_of w f) f
 
-abbrev pub take_by : World → List ℕ → Done
-take_by w [] = done w (op.End reply.No hold.Executor ∷ [])
-take_by w (f ∷ rest) = done (record w { queue = taken w.queue })
+-- a turn is taken, and told of
+abbrev pub turned : ℕ → World → World
+turned p w = log (record w { urgent_turns = turn_after w.urgent_turns }) (event.Looked p (first_of w.urgent_turns))
+
+-- then the search looks at the queue that it names, and where that is empty at the other one
+abbrev pub take_turn : ℕ → World → (Look → Op) → Done
+take_turn p w looks = done (turned p w) (looks (First (first_of w.urgent_turns)) ∷ [])
+
+abbrev pub mark_in : Look → Mark
+mark_in (First m) = m
+mark_in (Second m) = m
+
+-- nothing was there
+abbrev pub missed : Look → (Look → Op) → List Op → List Op
+missed (First m) looks nothing = looks (Second (other m)) ∷ []
+missed (Second m) looks nothing = nothing
+
+abbrev pub take_by : World → Look → List ℕ → Done
+take_by w l [] = done w (missed l (λ x. op.Queue (queue_op.Take x)) (op.End reply.No hold.Executor ∷ []))
+take_by w l (f ∷ rest) = done (put_queue w (mark_in l) (taken (queue_of w (mark_in l))))
     (op.Sleeper sleeper_op.ExchangeFlag ∷ op.Move move.TakeUp f ∷ op.End reply.Yes hold.Executor ∷ [])
 
 -- the first Runnable is taken, if there is one
-abbrev pub take_first : World → Done
-take_first w = take_by w w.queue.items
+abbrev pub take_first : World → Look → Done
+take_first w l = take_by w l (queue_of w (mark_in l)).items
 
 -- the table
 
@@ -67,20 +96,21 @@ entered true = made
 entered false = record made { references = 2 }
 
 -- there are as many undropped futures as may be, or memory is refused, or neither
-abbrev pub enter_by : Bool → Bool → ℕ → World → Done
-enter_by true refused p w = done w (op.End reply.Full hold.Executor ∷ [])
-enter_by false true p w = done w (op.End reply.NoMemory hold.Executor ∷ [])
-enter_by false false p w = done
+abbrev pub enter_by : Bool → Bool → Mark → ℕ → World → Done
+enter_by true refused m p w = done w (op.End reply.Full hold.Executor ∷ [])
+enter_by false true m p w = done w (op.End reply.NoMemory hold.Executor ∷ [])
+enter_by false false m p w = done
     (log (record w {
       tasks = w.tasks ++ entered w.is_static ∷ [];
       awaiters = w.awaiters ++ None ∷ [];
       inside = w.inside ++ true ∷ [];
+      marks = w.marks ++ m ∷ [];
       table = w.table ++ length w.tasks ∷ [];
     }) (event.Accepted p (length w.tasks)))
     (op.Queue (queue_op.Append (length w.tasks)) ∷ op.End reply.Made (hold.Spawned (length w.tasks)) ∷ [])
 
-abbrev pub enter : ℕ → Hint → World → Done
-enter p h w = enter_by (not (nat_lt (length w.table) w.limit)) h.refused p w
+abbrev pub enter : Mark → ℕ → Hint → World → Done
+enter m p h w = enter_by (not (nat_lt (length w.table) w.limit)) h.refused m p w
 
 abbrev pub emptiness : List ℕ → Reply
 emptiness [] = reply.Yes
@@ -312,11 +342,11 @@ call_awaiter p w f a k = call_waker p w (of.Handle f) a k
 
 -- the executor's drop
 
--- first each future, then each waker, then the queue
+-- first each future, then each waker, then the queues
 abbrev pub closing_ops : List ℕ → List ℕ → List Op
 closing_ops (f ∷ fs) ws = op.Closing closing_op.DropNext ∷ []
 closing_ops [] (f ∷ ws) = op.Closing closing_op.WakeNext ∷ []
-closing_ops [] [] = op.Closing closing_op.Close ∷ []
+closing_ops [] [] = op.Closing (closing_op.Close mark.Urgent) ∷ []
 
 -- the table is exchanged for the list of those that were taken out, which is empty until then
 abbrev pub take_out : World → Done
@@ -372,13 +402,22 @@ leak_next_by false p w (f ∷ rest) = leaked p f (followed (wake p (record w { w
 abbrev pub leak_next : ℕ → World → Done
 leak_next p w = leak_next_by w.gone p w w.waking
 
-abbrev pub close : World → Done
-close w = done (record w { queue = shut w.queue }) (op.Closing closing_op.Drain ∷ [])
+-- behind the urgent queue the plain one is closed; then both are drained, the urgent one first
+abbrev pub closed_next : Mark → List Op
+closed_next mark.Urgent = op.Closing (closing_op.Close mark.Plain) ∷ []
+closed_next mark.Plain = op.Closing (closing_op.Drain mark.Urgent) ∷ []
 
-abbrev pub drain_by : ℕ → World → List ℕ → Done
-drain_by p w [] = done (log w (event.DropEnded p)) []
-drain_by p w (f ∷ rest) = done (record w { queue = taken w.queue })
-    (op.Move move.DropRunnable f ∷ op.Closing closing_op.Drain ∷ [])
+abbrev pub close : World → Mark → Done
+close w m = done (put_queue w m (shut (queue_of w m))) (closed_next m)
 
-abbrev pub drain : ℕ → World → Done
-drain p w = drain_by p w w.queue.items
+abbrev pub drained : ℕ → World → Mark → Done
+drained p w mark.Urgent = done w (op.Closing (closing_op.Drain mark.Plain) ∷ [])
+drained p w mark.Plain = done (log w (event.DropEnded p)) []
+
+abbrev pub drain_by : ℕ → World → Mark → List ℕ → Done
+drain_by p w m [] = drained p w m
+drain_by p w m (f ∷ rest) = done (put_queue w m (taken (queue_of w m)))
+    (op.Move move.DropRunnable f ∷ op.Closing (closing_op.Drain m) ∷ [])
+
+abbrev pub drain : ℕ → World → Mark → Done
+drain p w m = drain_by p w m (queue_of w m).items

@@ -22,8 +22,8 @@ is_done _ = false
 
 -- the answers of each call
 abbrev pub is_reply : Call → Reply → Bool
-is_reply call.Spawn reply.Full = true
-is_reply call.Spawn r = is_made r
+is_reply (call.Spawn m) reply.Full = true
+is_reply (call.Spawn m) r = is_made r
 is_reply call.TryTick reply.Yes = true
 is_reply call.TryTick reply.No = true
 is_reply call.IsEmpty reply.Yes = true
@@ -91,7 +91,7 @@ HasPolled f own = has (is_handle_poll f) own ≡ true
 
 -- what was done where a call was answered so
 abbrev pub IsWhatItSays : Call → Reply → Trace → Trace → Type 0
-IsWhatItSays call.Spawn reply.Made own past = HasAccepted own
+IsWhatItSays (call.Spawn m) reply.Made own past = HasAccepted own
 IsWhatItSays call.TryTick reply.Yes own past = HasTaken own
 IsWhatItSays (call.PollTick t b) reply.Ready own past = HasTaken own
 IsWhatItSays (call.Wake k) r own past = HasWoken own past

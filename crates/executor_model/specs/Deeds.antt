@@ -5,7 +5,7 @@ use Rattle.executor_model.specs.declared.event.Event.TheVariants.{CallBegun, Cal
 use Rattle.executor_model.specs.declared.event.Event.TheVariants.{Woken, Cancelled, Detached, LastWaker, Leaked}
 use Rattle.executor_model.specs.declared.event.Event.TheVariants.{Dropped, OutputDropped, OutputGiven, HandlePolled}
 use Rattle.executor_model.specs.declared.event.Event.TheVariants.{WakerCalled, TickPolled}
-use Rattle.executor_model.specs.declared.event.Event.TheVariants.{TickDropped, RunPolled, RunDropped, Kept}
+use Rattle.executor_model.specs.declared.event.Event.TheVariants.{TickDropped, RunPolled, RunDropped, Kept, Looked}
 use Rattle.executor_model.specs.declared.event.Event.TheVariants.{DropBegun, DropEnded}
 use Rattle.executor_model.specs.Trace.{Trace}
 
@@ -31,6 +31,7 @@ doer (TickDropped p t) = p
 doer (RunPolled p r) = p
 doer (RunDropped p r) = p
 doer (Kept p f r) = p
+doer (Looked p m) = p
 doer (DropBegun p) = p
 doer (DropEnded p) = p
 

@@ -9,6 +9,7 @@ use Rattle.executor_model.specs.EarlyDrop.{before_drop}
 use Rattle.executor_model.specs.Sound.{times, times_in}
 use Rattle.executor_model.specs.Rows.{drops_of, leaves_of, ousting_of}
 use Rattle.executor_model.specs.Steps.{Machine, stack, top}
+use Rattle.executor_model.specs.World.{mark_of, queue_of, queued_in}
 
 -- the drop of the executor hasn't yet taken the table out
 abbrev pub HasTable : Machine → Type 0
@@ -25,21 +26,21 @@ pub record TableAgrees (s : Machine) (f : ℕ) : Type 0 where
   pub entered : HasTable s → Remains f s → times f s.world.table ≡ 1
   pub only : HasTable s → 1 ≤ times f s.world.table → Remains f s
 
--- a Runnable in the queue is one of a future that was accepted and isn't dropped but by the executor's drop,
+-- a Runnable in the executor's queues is one of a future that was accepted and isn't dropped but by the executor's drop,
 -- and its only one there
 pub record QueueAgrees (s : Machine) (f : ℕ) : Type 0 where
-  pub once : times f s.world.queue.items ≤ 1
-  pub accepted : 1 ≤ times f s.world.queue.items → has (is_accepted f) s.world.trace ≡ true
-  pub undropped : 1 ≤ times f s.world.queue.items → has (is_dropped f) s.world.trace ≡ true →
+  pub once : times f (queued_in s.world) ≤ 1
+  pub accepted : 1 ≤ times f (queued_in s.world) → has (is_accepted f) s.world.trace ≡ true
+  pub undropped : 1 ≤ times f (queued_in s.world) → has (is_dropped f) s.world.trace ≡ true →
       has is_drop_begun s.world.trace ≡ true
-  pub by_closing : 1 ≤ times f s.world.queue.items → has (is_dropped f) s.world.trace ≡ true →
+  pub by_closing : 1 ≤ times f (queued_in s.world) → has (is_dropped f) s.world.trace ≡ true →
       has is_drop_begun (before_drop f s.world.trace) ≡ true
   -- once that has begun, no other call drops a future
   pub alone : has is_drop_begun s.world.trace ≡ true → weigh_all (drops_of f) s.parties ≡ 0
 
 -- and so is one in a run's own queue, and the only one in all queues
 pub record OwnAgrees (s : Machine) (f : ℕ) : Type 0 where
-  pub once : times f s.world.queue.items + times_in f s.world.own ≤ 1
+  pub once : times f (queued_in s.world) + times_in f s.world.own ≤ 1
   pub accepted : 1 ≤ times_in f s.world.own → has (is_accepted f) s.world.trace ≡ true
   pub undropped : 1 ≤ times_in f s.world.own → has (is_dropped f) s.world.trace ≡ true →
       has is_drop_begun s.world.trace ≡ true
@@ -48,4 +49,4 @@ pub record OwnAgrees (s : Machine) (f : ℕ) : Type 0 where
 
 -- a party that is about to append a Runnable finds a place for it
 abbrev pub FindsPlace : Machine → ℕ → Type 0
-FindsPlace s f = (p : ℕ) → top (stack s p) ≡ Some (op.Queue (queue_op.Append f)) → HasRoom s.world.queue
+FindsPlace s f = (p : ℕ) → top (stack s p) ≡ Some (op.Queue (queue_op.Append f)) → HasRoom (queue_of s.world (mark_of s.world f))

@@ -6,6 +6,7 @@ pub mod Quiet
 pub mod DroppedOnce
 pub mod DroppedAtRest
 pub mod OutputOnce
+pub mod Queues
 pub mod World
 pub mod Carried
 pub mod Acts

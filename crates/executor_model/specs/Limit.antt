@@ -1,5 +1,6 @@
 -- A spawn is answered that the executor is full exactly where it is.
 use Rattle.std.specs.Prelude.{◌≡◌, ℕ, ◌≤◌, false, true, Some, List, [], ◌∷◌, ◌++◌, length}
+use Rattle.executor_parts.specs.declared.mark.Mark.{Mark}
 use Rattle.executor_model.specs.declared.call.Reply.TheVariants.{Full}
 use Rattle.executor_model.specs.declared.event.Event.TheVariants.{CallEnded}
 use Rattle.executor_model.specs.declared.op.Op.TheVariants as op
@@ -13,7 +14,7 @@ use Rattle.executor_model.specs.Entries.{Remains}
 
 -- party p is a spawn that has still to ask for a place
 abbrev pub Asks : Machine → ℕ → Type 0
-Asks s p = top (stack s p) ≡ Some (op.Table table_op.Enter)
+Asks s p = (m : Mark) × (top (stack s p) ≡ Some (op.Table (table_op.Enter m)))
 
 -- its next step, told h, answers that the executor is full
 abbrev pub AnswersFull : Machine → ℕ → Hint → Type 0

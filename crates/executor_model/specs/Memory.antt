@@ -17,6 +17,7 @@ use Rattle.executor_model.specs.declared.step.UserEnd.{UserEnd}
 use Rattle.executor_model.specs.declared.step.UserEnd.TheVariants as end
 use Rattle.executor_model.specs.declared.event.Answer.TheVariants as answer
 use Rattle.executor_model.specs.declared.op.ListOp.{ListOp}
+use Rattle.executor_model.specs.declared.op.Look.{Look}
 use Rattle.executor_model.specs.declared.op.ListOp.TheVariants as list_op
 use Rattle.executor_model.specs.declared.op.RunOp.{RunOp}
 use Rattle.executor_model.specs.declared.op.RunOp.TheVariants as run_op
@@ -27,16 +28,17 @@ use Rattle.executor_model.specs.declared.op.StealOp.{StealOp}
 use Rattle.executor_model.specs.declared.op.UserOp.TheVariants as user_op
 use Rattle.executor_model.specs.declared.op.Waker.{Waker}
 use Rattle.executor_model.specs.declared.op.Sleeping.{Sleeping}
-use Rattle.executor_model.specs.ActsOfRuns.{lock_write, look_own, search_common, search_own, write}
-use Rattle.executor_model.specs.ActsOfSleepers.{search_tick}
+use Rattle.executor_model.specs.ActsOfRuns.{lock_write, look_own, search_common, search_own, take_turn_of_run, write}
+use Rattle.executor_model.specs.Acts.{mark_in}
+use Rattle.executor_model.specs.ActsOfSleepers.{look_tick}
 use Rattle.executor_model.specs.Doing.{act, steal_act}
 use Rattle.executor_model.specs.Steps.{begun, react}
-use Rattle.executor_model.specs.World.{World, own_of}
+use Rattle.executor_model.specs.World.{World, own_of, queue_of}
 
 -- all calls but a spawn, the making of a tick or run, a copy of a waker, and a poll of a handle, a tick or a run,
 -- which copies the waker that it is given
 abbrev pub takes_no_memory : Call → Bool
-takes_no_memory call.Spawn = false
+takes_no_memory (call.Spawn m) = false
 takes_no_memory (call.Copy k) = false
 takes_no_memory call.Keep = false
 takes_no_memory (call.PollHandle f by) = false
@@ -64,19 +66,21 @@ list_may_refuse _ = false
 
 abbrev pub run_may_refuse : RunOp → Bool
 run_may_refuse run_op.MakeRoom = true
-run_may_refuse (run_op.SearchCommon x) = true
+run_may_refuse (run_op.TakeTurn x) = true
+run_may_refuse (run_op.SearchCommon x l) = true
 run_may_refuse (run_op.LookOwn x at left) = true
 run_may_refuse (run_op.Reschedule r a) = refuses a
 run_may_refuse _ = false
 
 -- it asks for memory or leads to what does, or it ends a call with a refusal
 abbrev pub may_refuse : Op → Bool
-may_refuse (op.Table table_op.Enter) = true
+may_refuse (op.Table (table_op.Enter m)) = true
 may_refuse (op.Waker (waker_op.CopyWaker f held)) = true
 may_refuse (op.Handle (handle_op.Look f waker)) = true
 may_refuse (op.Handle (handle_op.CopyAwaiter f waker)) = true
 may_refuse (op.Tick tick_op.MakeTick) = true
 may_refuse (op.Tick (tick_op.Search s)) = true
+may_refuse (op.Tick (tick_op.Look s l)) = true
 may_refuse (op.Tick (tick_op.CopyWaker s)) = true
 may_refuse (op.Tick (tick_op.FallAsleep s)) = true
 may_refuse (op.User (user_op.PollOwn x)) = true
@@ -90,14 +94,14 @@ may_refuse _ = false
 abbrev pub AsksForNone : List Op → Type 0
 AsksForNone next = list_any may_refuse next ≡ false
 
--- a poll of a tick that finds a future at its first search has nothing left to do that may refuse
+-- a poll of a tick that finds a future in one of the executor's queues has nothing left to do that may refuse
 abbrev pub FindsWithoutMemory : World → Type 0
-FindsWithoutMemory w = (f : ℕ) (rest : List ℕ) (s : Sleeping) → w.queue.items ≡ f ∷ rest →
-    AsksForNone (search_tick w s).next
+FindsWithoutMemory w = (f : ℕ) (rest : List ℕ) (s : Sleeping) (l : Look) → (queue_of w (mark_in l)).items ≡ f ∷ rest →
+    AsksForNone (look_tick w s l).next
 
 -- it asks for memory in its own step
 abbrev pub asks : Op → Bool
-asks (op.Table table_op.Enter) = true
+asks (op.Table (table_op.Enter m)) = true
 asks (op.Waker (waker_op.CopyWaker f held)) = true
 asks (op.Handle (handle_op.CopyAwaiter f waker)) = true
 asks (op.Tick tick_op.MakeTick) = true
@@ -108,7 +112,7 @@ asks _ = false
 
 -- a poll of a run asks for no memory until its own future has answered; where that is ready nothing is left to do that
 -- may refuse. Then it asks for memory only where a search ends that has found no future: neither a look at its own
--- queue and the executor's, nor a steal leads to a request, nor, in a walk, a look that finds a future
+-- queue and the executor's two, nor a turn, nor a steal leads to a request, nor, in a walk, a look that finds a future
 pub record RunsWithoutMemory (w : World) (p : ℕ) : Type 0 where
   pub begins : (here : Option Waker) (r : ℕ) (b : By) → list_any asks (begun p w here (call.PollRun r b)).next ≡ false
   pub locks : (x : RunPoll) → list_any asks (lock_write w (section.Register x)).next ≡ false
@@ -117,7 +121,8 @@ pub record RunsWithoutMemory (w : World) (p : ℕ) : Type 0 where
   pub pending : (x : RunPoll) →
       list_any asks (react p (op.User (user_op.PollOwn x)) (end.Polled answer.Pending) w).next ≡ false
   pub own : (x : RunPoll) → list_any asks (search_own w x).next ≡ false
-  pub common : (x : RunPoll) → list_any asks (search_common w x).next ≡ false
+  pub turns : (x : RunPoll) → list_any asks (take_turn_of_run p w x).next ≡ false
+  pub common : (x : RunPoll) (l : Look) → list_any asks (search_common w x l).next ≡ false
   pub steals : (o : StealOp) → list_any asks (steal_act p o w).next ≡ false
   pub looks : (f : ℕ) (rest : List ℕ) (x : RunPoll) (at left : ℕ) → own_of w x.run ≡ f ∷ rest →
       list_any asks (look_own w x at left).next ≡ false

@@ -62,6 +62,7 @@ writes_of _ = 0
 
 abbrev pub walks_then : Then → ℕ
 walks_then (then.Found f) = 0
+walks_then (then.StealPlain f) = 0
 walks_then (then.Run f) = 0
 walks_then (then.Walk at left) = 1
 
@@ -88,8 +89,10 @@ pub record LockAgrees (s : Machine) : Type 0 where
 
 -- run r has found its own queue empty, and searches on or falls asleep
 abbrev pub empty_of : ℕ → Op → ℕ
-empty_of r (op.Run (run_op.SearchCommon x)) = same r x.run
+empty_of r (op.Run (run_op.TakeTurn x)) = same r x.run
+empty_of r (op.Run (run_op.SearchCommon x l)) = same r x.run
 empty_of r (op.List (list_op.LockRead x)) = same r x.run
+empty_of r (op.Tick (tick_op.Look s l)) = is_run r s.who
 empty_of r (op.Tick (tick_op.CopyWaker s)) = is_run r s.who
 empty_of r (op.Tick (tick_op.FallAsleep s)) = is_run r s.who
 empty_of r _ = 0

@@ -1,5 +1,5 @@
 -- What a refused call changes, and where want of memory is answered.
-use Rattle.std.specs.Prelude.{◌≡◌, ◌⊎◌, ℕ, ◌≤◌, Bool, true, false, Option}
+use Rattle.std.specs.Prelude.{◌≡◌, ◌⊎◌, ℕ, ◌≤◌, Bool, true, false, not, Option}
 use Rattle.std.specs.List.{list_any}
 use Rattle.task_moves.specs.Moves.{most_references}
 use Rattle.executor_model.specs.declared.call.By.{By}
@@ -24,6 +24,7 @@ use Rattle.executor_model.specs.declared.op.Waker.{Waker}
 use Rattle.executor_model.specs.declared.op.Waker.TheVariants.{Task, Outside}
 use Rattle.executor_model.specs.declared.step.Hint.{Hint}
 use Rattle.executor_model.specs.declared.step.UserEnd.{UserEnd}
+use Rattle.executor_model.specs.Acts.{turned}
 use Rattle.executor_model.specs.ActsOfRuns.{make_room_by, return_room, write}
 use Rattle.executor_model.specs.ActsOfSleepers.{copy_sleeper, fall_asleep}
 use Rattle.executor_model.specs.Doing.{act}
@@ -62,6 +63,11 @@ is_of_run (op.Steal o) = true
 is_of_run (op.Run o) = true
 is_of_run _ = false
 
+-- a tick takes a turn
+abbrev pub takes_turn : Op → Bool
+takes_turn (op.Tick (tick_op.Search s)) = not (is_run_poll s.who)
+takes_turn _ = false
+
 -- a tick or run copies its waker, or falls asleep with the copy
 abbrev pub falls_asleep : Op → Bool
 falls_asleep (op.Tick (tick_op.CopyWaker s)) = true
@@ -69,8 +75,8 @@ falls_asleep (op.Tick (tick_op.FallAsleep s)) = true
 falls_asleep _ = false
 
 -- a call that may be refused changes nothing as it begins, and nothing as long as it may still be refused or where it
--- is: what follows asks for memory, or ends the call with a refusal. A poll of a tick or run is told of as it begins;
--- a copy of its waker that is refused changes nothing; and where it fell asleep, that is kept, which changes the sleepers,
+-- is: what follows asks for memory, or ends the call with a refusal. A poll of a tick or run is told of as it begins, and
+-- each search of a tick takes a turn, which is told of; a copy of its waker that is refused changes nothing; and where it fell asleep, that is kept, which changes the sleepers,
 -- their flag and where it is alone. A poll of a run keeps what it did before. The making of a run that is refused makes
 -- nothing, and gives the room back that it had
 pub record RefusedChangesNothing (w : World) (p : ℕ) : Type 0 where
@@ -81,8 +87,8 @@ pub record RefusedChangesNothing (w : World) (p : ℕ) : Type 0 where
   pub runs : (here : Option Waker) (r : ℕ) (b : By) →
       (begun p w here (call.PollRun r b)).world ≡ log w (event.RunPolled p r)
   pub goes_on : (h : Hint) (o : Op) → list_any may_refuse (act p h o w).next ≡ true → falls_asleep o ≡ false →
-      is_of_run o ≡ false →
-      (act p h o w).world ≡ w
+      is_of_run o ≡ false → takes_turn o ≡ false → (act p h o w).world ≡ w
+  pub turns : (h : Hint) (o : Op) → takes_turn o ≡ true → (act p h o w).world ≡ turned p w
   pub copies : (h : Hint) (s : Sleeping) → list_any ends_for_want (copy_sleeper h w s).next ≡ true →
       (copy_sleeper h w s).world ≡ w
   pub sleeps : (s : Sleeping) → (fall_asleep w s).world ≡ record w {

@@ -9,7 +9,7 @@ use Rattle.executor_model.specs.declared.op.Awaiter.{Awaiter}
 use Rattle.executor_model.specs.declared.op.Op.{Op}
 use Rattle.executor_model.specs.declared.op.Sleeping.{Sleeping}
 use Rattle.executor_model.specs.Trace.{Trace}
-use Rattle.executor_model.specs.World.{World, task}
+use Rattle.executor_model.specs.World.{World, queued_in, task}
 use Rattle.executor_model.specs.Weights.{same, weigh, weigh_all, weigh_sleepers, wakes}
 use Rattle.executor_model.specs.Rows.{waiting_of, polls_of, ending_of, ready_of, closing_of, settling_of, giving_of}
 use Rattle.executor_model.specs.Rows.{drops_of, releases_of, copies_of, borrowing_of, ousting_of}
@@ -23,9 +23,9 @@ abbrev pub times_in : ℕ → List (List ℕ) → ℕ
 times_in g [] = 0
 times_in g (q ∷ qs) = times g q + times_in g qs
 
--- how many Runnables of g stand in the executor's queue and the runs' own together
+-- how many Runnables of g stand in the executor's queues and the runs' own together
 abbrev pub queued : World → ℕ → ℕ
-queued w g = times g w.queue.items + times_in g w.own
+queued w g = times g (queued_in w) + times_in g w.own
 
 -- how many of these kept wakers wake g
 abbrev pub wakers_of : ℕ → List (Option ℕ) → ℕ

@@ -1,5 +1,6 @@
 -- Where a spawn is answered that memory is wanted: only where memory was refused, and only where the executor isn't full.
 use Rattle.std.specs.Prelude.{◌≡◌, ℕ, Bool, true, false, List, [], ◌∷◌, ◌++◌, length}
+use Rattle.executor_parts.specs.declared.mark.Mark.{Mark}
 use Rattle.executor_model.specs.declared.call.Call.TheVariants.{Spawn}
 use Rattle.executor_model.specs.declared.call.Reply.{Reply}
 use Rattle.executor_model.specs.declared.call.Reply.TheVariants.{NoMemory}
@@ -15,9 +16,10 @@ use Rattle.executor_model.specs.Trace.{Trace}
 
 -- the innermost call of party p that is in progress is a spawn
 pub record IsSpawning (p : ℕ) (trace : Trace) : Type 0 where
+  pub mark : Mark
   pub own : Trace
   pub outer : List Begun
-  pub is : (calls p trace).begun ≡ record { call = Spawn; own = own } ∷ outer
+  pub is : (calls p trace).begun ≡ record { call = Spawn mark; own = own } ∷ outer
 
 -- the step is told that memory is refused
 abbrev pub is_refused : Step → Bool

@@ -2,7 +2,6 @@
 use Rattle.std.specs.Prelude.{ℕ, zero, suc, ◌-◌, ◌==◌, Bool, true, false, ◌&&◌, ◌||◌, not}
 use Rattle.std.specs.Prelude.{Option, Some, None, Result, Ok, Err, List, [], ◌∷◌, ◌++◌, length, slice_get}
 use Rattle.std.specs.Prelude.{slice_index_or, slice_set, take, reverse, nat_lt}
-use Rattle.queue_steps.specs.ClosableQueue.{new_queue}
 use Rattle.std.specs.List.{list_any}
 use Rattle.executor_model.specs.declared.call.By.{By}
 use Rattle.executor_model.specs.declared.call.By.TheVariants as by
@@ -39,6 +38,7 @@ use Rattle.executor_model.specs.declared.step.StepError.TheVariants.{Busy, NoSuc
 use Rattle.executor_model.specs.declared.step.StepError.TheVariants.{WrongAnswer, Waits}
 use Rattle.executor_model.specs.declared.step.UserEnd.{UserEnd}
 use Rattle.executor_model.specs.declared.step.UserEnd.TheVariants as end
+use Rattle.executor_model.specs.Queues.{new_queues}
 use Rattle.executor_model.specs.World.{World, Ticker, Awake, Asleep, Left, Stage, New, Listed, Ended, Run, Lock, Done}
 use Rattle.executor_model.specs.World.{done, log}
 use Rattle.executor_model.specs.World.{task, tick_of, run_of, put_run}
@@ -132,7 +132,7 @@ has_run w ss r = is_there (run_of w r) && is_unused (running_of r) ss
 
 -- what the call speaks of is there
 abbrev pub has_all : World → List (List Op) → Option Op → Call → Bool
-has_all w ss o call.Spawn = true
+has_all w ss o (call.Spawn m) = true
 has_all w ss o call.TryTick = true
 has_all w ss o call.IsEmpty = true
 has_all w ss o (call.Wake k) = is_some (kept w k) && is_unused (lending_of k) ss
@@ -155,7 +155,7 @@ has_all w ss o call.Leak = true
 has_all w ss o call.DropExecutor = true
 
 abbrev pub is_on_executor : Call → Bool
-is_on_executor call.Spawn = true
+is_on_executor (call.Spawn m) = true
 is_on_executor call.TryTick = true
 is_on_executor call.IsEmpty = true
 is_on_executor call.NewTick = true
@@ -266,8 +266,8 @@ drop_run Ended r = op.Tick (tick_op.Leave (tick_or_run.Run r)) ∷ op.End reply.
 
 -- what a call changes as it begins, and what it will do
 abbrev pub begun : ℕ → World → Option Waker → Call → Done
-begun p w here call.Spawn = done w (op.Table table_op.Enter ∷ [])
-begun p w here call.TryTick = done w (op.Queue queue_op.Take ∷ [])
+begun p w here (call.Spawn m) = done w (op.Table (table_op.Enter m) ∷ [])
+begun p w here call.TryTick = done w (op.Queue queue_op.TakeTurn ∷ [])
 begun p w here call.IsEmpty = done w (op.Table table_op.LookAtTable ∷ [])
 begun p w here (call.Wake k) =
     with_future w (kept w k) (λ f. done (used_up w k) (op.Move move.Wake f ∷ op.End reply.Done hold.Nothing ∷ []))
@@ -386,7 +386,9 @@ start limit kind n = record {
     tasks = [];
     awaiters = [];
     inside = [];
-    queue = new_queue (Some limit) None;
+    marks = [];
+    queues = new_queues (Some limit);
+    urgent_turns = 7;
     table = [];
     leaving = [];
     waking = [];

@@ -2,6 +2,8 @@
 use Rattle.std.specs.Prelude.{ℕ, ◌==◌, Bool, true, false, Option, None, List, [], ◌∷◌, ◌++◌, slice_index_or, slice_set}
 use Rattle.task_moves.specs.declared.moves.state.State.{State}
 use Rattle.queue_steps.specs.ClosableQueue.{ClosableQueue}
+use Rattle.executor_parts.specs.declared.mark.Mark.{Mark}
+use Rattle.executor_parts.specs.declared.mark.Mark.TheVariants.{Plain}
 use Rattle.executor_parts.specs.Sleepers.{Sleepers, flag_of}
 use Rattle.executor_model.specs.declared.event.Event.{Event}
 use Rattle.executor_model.specs.declared.op.Op.{Op}
@@ -9,6 +11,7 @@ use Rattle.executor_model.specs.declared.op.Awaiter.{Awaiter}
 use Rattle.executor_model.specs.declared.op.TickOrRun.{TickOrRun}
 use Rattle.executor_model.specs.declared.op.TickOrRun.TheVariants as tick_or_run
 use Rattle.executor_model.specs.declared.op.Sleeping.{Sleeping}
+use Rattle.executor_model.specs.Queues.{Queues, queue_in, with_queue, all_in}
 use Rattle.executor_model.specs.Trace.{Trace}
 
 -- a tick or run is awake, or is among the sleepers under this number, or has left them
@@ -42,13 +45,16 @@ pub record World : Type 0 where
   pub is_static : Bool
   -- as many accepted futures may be undropped
   pub limit : ℕ
-  -- by the numbers of the futures: the task's marks and count, its stored awaiter,
-  -- and whether the future is in its place in the table
+  -- by the numbers of the futures: what the task has of flags and count, its stored awaiter, whether the future is in its
+  -- place in the table, and its mark
   pub tasks : List State
   pub awaiters : List (Option Awaiter)
   pub inside : List Bool
-  -- the Runnables, by their futures
-  pub queue : ClosableQueue ℕ
+  pub marks : List Mark
+  -- the Runnables, by their marks and futures; and so many turns look at the urgent ones first, before one looks at the
+  -- plain ones first
+  pub queues : Queues
+  pub urgent_turns : ℕ
   -- the futures that have an entry in the table, in the order of acceptance
   pub table : List ℕ
   -- the futures that the executor's drop has taken out and not yet dropped, each with its waker,
@@ -104,6 +110,21 @@ awaiter_of w f = slice_index_or w.awaiters f None
 
 abbrev pub put_awaiter : World → ℕ → Option Awaiter → World
 put_awaiter w f a = record w { awaiters = slice_set w.awaiters f a }
+
+-- the mark of future f
+abbrev pub mark_of : World → ℕ → Mark
+mark_of w f = slice_index_or w.marks f Plain
+
+-- the executor's queue of this mark
+abbrev pub queue_of : World → Mark → ClosableQueue ℕ
+queue_of w m = queue_in m w.queues
+
+abbrev pub put_queue : World → Mark → ClosableQueue ℕ → World
+put_queue w m q = record w { queues = with_queue m q w.queues }
+
+-- what stands in the executor's queues
+abbrev pub queued_in : World → List ℕ
+queued_in w = all_in w.queues
 
 abbrev pub tick_of : World → ℕ → Ticker
 tick_of w t = slice_index_or w.ticks t Left

@@ -1,8 +1,10 @@
+use executor_parts::Mark;
+
 /// A call that a party makes. Futures, ticks, runs and wakers are numbered from 0, in the order in which they were made.
 #[derive(Clone, Copy, Debug, PartialEq, Eq)]
 pub enum Call {
-    /// A future is handed to the executor.
-    Spawn,
+    /// A future of this mark is handed to the executor.
+    Spawn(Mark),
     /// The executor is asked to run one future that is due.
     TryTick,
     /// The executor is asked whether each accepted future is dropped.

@@ -1,5 +1,6 @@
 use crate::call::{Call, Reply};
 use crate::op::{Polled, Waker};
+use executor_parts::Mark;
 
 /// What ends a piece of user code.
 #[derive(Clone, Copy, Debug, PartialEq, Eq)]
@@ -101,6 +102,11 @@ pub enum Event {
     RunDropped {
         party: u32,
         run: u64,
+    },
+    /// The party took a turn, and looks at the executor's queue of this mark first.
+    Looked {
+        party: u32,
+        mark: Mark,
     },
     /// The future's Runnable came into the own queue of this run.
     Kept {

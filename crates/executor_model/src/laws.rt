@@ -33,7 +33,7 @@ pub fn one_runnable()
 
 /// Whatever the parties do, until the drop of the executor takes the table out, an accepted future has one
 /// entry there where it is undropped or the call that dropped it has still to take the entry out; no other
-/// has one. A Runnable in the queue is one of an accepted future, and its only one there, and that future
+/// has one. A Runnable in one of the executor's queues is one of an accepted future, and its only one there, and that future
 /// is undropped or was dropped by the drop of the executor: after that began, and once it has begun no other
 /// call has a future to drop. So it is with a Runnable in a run's own queue, and a future has one at most in all queues.
 pub fn table_and_queue_agree()
@@ -55,7 +55,7 @@ pub fn futures_are_in_their_places()
     ensures { EveryExecution IsInPlace }
 {}
 
-/// Whatever the parties do, whoever is about to append a Runnable to the queue finds a place for it.
+/// Whatever the parties do, whoever is about to append a Runnable to the queue of its mark finds a place for it.
 pub fn no_append_is_refused_full()
     ensures { EveryExecution FindsPlace }
 {}
@@ -89,8 +89,8 @@ pub fn wakes_and_drops_take_no_memory()
     ensures { (w : World) (p : ℕ) → NeedsNoMemory w p }
 {}
 
-/// A refused call changes nothing but that the trace has its beginning and its end: none of what a party
-/// does from the call's beginning to the refusal does. A poll of a run keeps what it did before it was refused, and
+/// A refused call changes nothing but that the trace has its beginning and its end, and that each search of a tick takes a
+/// turn: none of what else a party does from the call's beginning to the refusal does. A poll of a run keeps what it did before it was refused, and
 /// the making of a run that is refused gives the room back that it had.
 pub fn refused_calls_change_nothing()
     ensures { (w : World) (p : ℕ) → RefusedChangesNothing w p }
@@ -136,7 +136,7 @@ pub fn sleepers_agree()
     ensures { EveryMachine SleepersAgree }
 {}
 
-/// Whatever the parties do, where a Runnable stands in the queue and a tick or run is among the sleepers, a sleeper
+/// Whatever the parties do, where a Runnable stands in one of the executor's queues and a tick or run is among the sleepers, a sleeper
 /// is notified, or a party has still to exchange the flag, to hand out or to search. Who has still to call a waker
 /// that was handed out isn't needed.
 pub fn sleepers_are_told()

@@ -13,9 +13,10 @@ pub mod trace_laws;
 
 pub use call::{By, Call, Reply};
 pub use event::{Answer, Event};
+pub use executor_parts::Mark;
 pub use kind::Kind;
 pub use op::{
-    Awaiter, ClosingOp, HandleOp, Hold, ListOp, Op, Polled, QueueOp, RunOp, RunPoll, Section,
+    Awaiter, ClosingOp, HandleOp, Hold, ListOp, Look, Op, Polled, QueueOp, RunOp, RunPoll, Section,
     SleeperOp, Sleeping, Source, Steal, StealOp, TableOp, Then, TickOp, TickOrRun, UserOp, Waker,
     WakerOp,
 };

@@ -1,4 +1,5 @@
 use crate::call::Reply;
+use executor_parts::Mark;
 use task_moves::moves::Move;
 
 /// A waker that a poll of a handle or of a tick was given.
@@ -78,8 +79,8 @@ pub enum Hold {
 /// What a party does with the table.
 #[derive(Clone, Copy, Debug)]
 pub enum TableOp {
-    /// It takes a new future in, and a waker of it.
-    Enter,
+    /// It takes a new future of this mark in, and a waker of it.
+    Enter(Mark),
     /// It is asked whether it is empty.
     LookAtTable,
     /// The future is taken out, to be polled.
@@ -92,12 +93,23 @@ pub enum TableOp {
     LeaveTable(u64),
 }
 
-/// What a party does with the queue.
+/// One of the two looks of a search at the executor's queues.
+#[derive(Clone, Copy, Debug, PartialEq, Eq)]
+pub enum Look {
+    /// At the queue that the turn names. Where nothing is there, the other one is looked at.
+    First(Mark),
+    /// At the other one.
+    Second(Mark),
+}
+
+/// What a party does with the executor's queues.
 #[derive(Clone, Copy, Debug)]
 pub enum QueueOp {
+    /// A turn is taken, which names the queue that is looked at first.
+    TakeTurn,
     /// The first Runnable is taken.
-    Take,
-    /// A Runnable of this future is appended.
+    Take(Look),
+    /// A Runnable of this future is appended to the queue of its mark.
     Append(u64),
 }
 
@@ -167,8 +179,10 @@ pub enum SleeperOp {
 pub enum TickOp {
     /// A tick is made, with room to sleep in.
     MakeTick,
-    /// It searches from the beginning: the first Runnable is taken, by a run that of its own queue.
+    /// It searches from the beginning: a tick takes a turn, and a run the first Runnable of its own queue.
     Search(Sleeping),
+    /// A tick takes the first Runnable of one of the executor's queues.
+    Look(Sleeping, Look),
     /// The waker is copied, to fall asleep with.
     CopyWaker(Sleeping),
     /// It falls asleep with the copy, or falls asleep again.
@@ -208,8 +222,8 @@ pub enum ListOp {
 /// A queue that a run steals from.
 #[derive(Clone, Copy, Debug, PartialEq, Eq)]
 pub enum Source {
-    /// The executor's queue.
-    Common,
+    /// The executor's queue of this mark.
+    Common(Mark),
     /// The own queue of this run.
     Own(u64),
 }
@@ -219,6 +233,8 @@ pub enum Source {
 pub enum Then {
     /// With this future, which it has found.
     Found(u64),
+    /// With this future, which it has counted too, once it has stolen from the executor's plain queue.
+    StealPlain(u64),
     /// With this future, which it has counted too.
     Run(u64),
     /// With its walk, from this place of the list on, where so many queues are still to go to.
@@ -254,8 +270,10 @@ pub enum RunOp {
     /// Room is given back: that which was just made, as the rest was refused, or that of a tick or run which slept and has left
     /// the sleepers.
     ReturnRoom,
-    /// The first Runnable of the executor's queue is taken.
-    SearchCommon(RunPoll),
+    /// A turn is taken, which names the executor's queue that is looked at first.
+    TakeTurn(RunPoll),
+    /// The first Runnable of one of the executor's queues is taken.
+    SearchCommon(RunPoll, Look),
     /// In a walk, the first Runnable of the own queue is taken. The walk goes on from this place of the list, where so
     /// many queues are still to go to.
     LookOwn(RunPoll, u64, u64),
@@ -274,10 +292,10 @@ pub enum ClosingOp {
     DropNext,
     /// It wakes the next waker.
     WakeNext,
-    /// It closes the queue.
-    Close,
-    /// It takes the next Runnable, and ends where there is none.
-    Drain,
+    /// It closes the queue of this mark, the urgent one first.
+    Close(Mark),
+    /// It takes the next Runnable of this queue, the urgent one first, and ends where there is none in the plain one.
+    Drain(Mark),
     /// The leak takes all wakers out of the table, which has none from then on.
     LeakOut,
     /// It wakes the next one.

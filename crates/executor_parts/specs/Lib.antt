@@ -1,3 +1,4 @@
+pub mod Marks
 pub mod Order
 pub mod Places
 pub mod Sleepers

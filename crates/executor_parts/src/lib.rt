@@ -3,9 +3,11 @@
 #![tactic(auto)]
 
 pub mod laws;
+mod mark;
 mod order;
 mod places;
 mod sleepers;
 
+pub use mark::Mark;
 pub use places::{EntryPlace, Places, SpawnRefused, Vacancy};
 pub use sleepers::{Again, Room, Sleeper, Sleepers, Slept, Unreserved, WokenUp, exchange_flag};

@@ -2,7 +2,7 @@
 use crate::report;
 use crate::rows::{Ended, Look, Trial};
 use executor_core::{Kind, Machine};
-use executor_model::{Answer, By, Call, Hint, Step, StepError, UserEnd};
+use executor_model::{Answer, By, Call, Hint, Mark, Step, StepError, UserEnd};
 use std::alloc::Global;
 
 /// A call on it.
@@ -24,11 +24,11 @@ pub enum MachineRow {
 /// a tick and a run are made and polled.
 pub const MACHINE_ROWS: &[MachineRow] = &[
     MachineRow::New(Kind::Static),
-    MachineRow::Begin(Call::Spawn),
+    MachineRow::Begin(Call::Spawn(Mark::Plain)),
     MachineRow::Go,
     MachineRow::Finish,
     MachineRow::New(Kind::Owned),
-    MachineRow::Begin(Call::Spawn),
+    MachineRow::Begin(Call::Spawn(Mark::Plain)),
     MachineRow::Go,
     MachineRow::Finish,
     MachineRow::Begin(Call::PollHandle(0, By::Outside(1))),

@@ -4,11 +4,13 @@ use Rattle.std.specs.List.{AllZip}
 use Rattle.text_lines.specs.Number.{IsNumber}
 use Rattle.text_lines.proofs.One.{IsNumber-one, AllZip-one}
 use Rattle.script.specs.Item.{IsItem, AreItems}
-use Rattle.script.specs.Plain.{IsTwice, IsSpelled}
+use Rattle.script.specs.Plain.{IsTwice, IsSpelled, spawn_word}
 use Rattle.script.specs.Refusal.{IsRefusing}
 use Rattle.script.specs.Party.{IsParty}
 use Rattle.script.specs.Command.{SpellsAs, SpellsRequest, Spells}
 use Rattle.script.specs.declared.command.Request.{Request}
+use Rattle.executor_parts.specs.declared.mark.Mark.{Mark}
+use Rattle.executor_parts.specs.declared.mark.Mark.TheVariants as mark
 use Rattle.script.specs.declared.plain.Plain.{Plain}
 use Rattle.script.specs.declared.plain.Plain.TheVariants as plain
 use Rattle.script.specs.declared.refusal.Refusal.{Refusal}
@@ -46,8 +48,16 @@ IsTwice-one (Some held) (Some held') words more same p q =
 IsTwice-one None (Some held) words more same p q = let e = q.1 in cc
 IsTwice-one (Some held) None words more same p q = let e = p.1 in cc
 
+spawn_word-one : (m n : Mark) → spawn_word m ≡ spawn_word n → m ≡ n
+spawn_word-one mark.Plain mark.Plain e = refl
+spawn_word-one mark.Urgent mark.Urgent e = refl
+spawn_word-one mark.Plain mark.Urgent e = grind arith
+spawn_word-one mark.Urgent mark.Plain e = grind arith
+
 IsSpelled-one : (plain other : Plain) (words : List (List ℕ)) → IsSpelled plain words → IsSpelled other words → plain ≡ other
-IsSpelled-one (plain.Spawn name items) (plain.Spawn name' items') words p q =
+IsSpelled-one (plain.Spawn m name items) (plain.Spawn m' name' items') words p q =
+    let first : spawn_word m ≡ spawn_word m' = cc in
+    let marks : m ≡ m' = spawn_word-one m m' first in
     let names : name ≡ name' = cc in
     let rest : p.0 ≡ q.0 = cc in
     let same : items ≡ items' = AreItems-one items items' p.0 q.0 rest p.3 q.3 in

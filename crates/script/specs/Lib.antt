@@ -4,10 +4,10 @@ pub mod Names
 pub mod Indexed
 pub mod Item
 pub mod Party
+pub mod WordText
 pub mod Plain
 pub mod Refusal
 pub mod Command
 pub mod Script
 pub mod BadLine
-pub mod WordText
 pub mod EndingText

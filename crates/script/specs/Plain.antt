@@ -1,5 +1,6 @@
 -- How a script writes the commands that make calls.
 use Rattle.std.specs.Prelude.{◌≡◌, ℕ, Option, Some, None, List, [], ◌∷◌, codes}
+use Rattle.executor_parts.specs.declared.mark.Mark.{Mark}
 use Rattle.script.specs.Name.{IsName}
 use Rattle.script.specs.Item.{IsItem, AreItems}
 use Rattle.script.specs.declared.item.Item.TheVariants.{Twice}
@@ -9,17 +10,22 @@ use Rattle.script.specs.declared.plain.Plain.TheVariants.{Detach, Drop, Tick, Po
 use Rattle.script.specs.declared.plain.Plain.TheVariants.{Run, PollRun, DropRun, Leak, End}
 use Rattle.script.specs.declared.word.Word.{Word}
 use Rattle.script.specs.declared.word.Word.TheVariants as word
+use Rattle.script.specs.WordText.{word_of_spawn, word_text}
 
 -- the words behind the name of a run: none, or the item that polls the handle of the future of this name
 abbrev pub IsTwice : Option (List ℕ) → List (List ℕ) → Type 0
 IsTwice None words = words ≡ []
 IsTwice (Some held) words = (word : List ℕ) × (words ≡ word ∷ []) × IsItem (Twice held) word
 
+-- the first word of a spawn with this mark
+abbrev pub spawn_word : Mark → List ℕ
+spawn_word m = word_text (word_of_spawn m)
+
 -- the words of a command
 abbrev pub IsSpelled : Plain → List (List ℕ) → Type 0
-IsSpelled (Spawn name items) words =
+IsSpelled (Spawn m name items) words =
     (spelled : List (List ℕ))
-    × (words ≡ codes "spawn" ∷ name ∷ spelled)
+    × (words ≡ spawn_word m ∷ name ∷ spelled)
     × IsName name
     × AreItems items spelled
 IsSpelled Try words = words ≡ codes "try" ∷ []
@@ -45,7 +51,7 @@ IsSpelled End words = words ≡ codes "end" ∷ []
 
 -- the word under which a command's answer is printed
 abbrev pub word_of : Plain → Word
-word_of (Spawn name items) = word.Spawn
+word_of (Spawn m name items) = word_of_spawn m
 word_of Try = word.Try
 word_of Empty = word.Empty
 word_of (Wake name) = word.Wake

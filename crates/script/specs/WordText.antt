@@ -1,11 +1,19 @@
 -- The text of the first word of a command.
 use Rattle.std.specs.Prelude.{ℕ, List, codes}
+use Rattle.executor_parts.specs.declared.mark.Mark.{Mark}
+use Rattle.executor_parts.specs.declared.mark.Mark.TheVariants as mark
 use Rattle.script.specs.declared.word.Word.{Word}
-use Rattle.script.specs.declared.word.Word.TheVariants.{Spawn, Try, Empty, Wake, Unkeep, Poll, Cancel, Detach, Drop}
+use Rattle.script.specs.declared.word.Word.TheVariants.{Spawn, Urgent, Try, Empty, Wake, Unkeep, Poll, Cancel, Detach, Drop}
 use Rattle.script.specs.declared.word.Word.TheVariants.{Tick, PollTick, DropTick, Run, PollRun, DropRun, Leak, End, Begin, Go, Finish}
+
+-- that of a spawn with this mark
+abbrev pub word_of_spawn : Mark → Word
+word_of_spawn mark.Plain = Spawn
+word_of_spawn mark.Urgent = Urgent
 
 abbrev pub word_text : Word → List ℕ
 word_text Spawn = codes "spawn"
+word_text Urgent = codes "urgent"
 word_text Try = codes "try"
 word_text Empty = codes "empty"
 word_text Wake = codes "wake"

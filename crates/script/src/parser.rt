@@ -14,7 +14,7 @@ use text_lines::{Lines, ParseError, Words, read_number};
 /// How many futures a script may ask places for.
 const MOST_PLACES: u64 = 1_000_000;
 
-/// How many bytes a line may have. The longest command so far, a spawn of 8 values, has 230.
+/// How many bytes a line may have. The longest command so far, an urgent spawn of 8 values, has 231.
 const LONGEST_LINE: usize = 256;
 
 /// How many lines a script may have.

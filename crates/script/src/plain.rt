@@ -2,21 +2,26 @@
 
 ghost use Rattle.std.specs.Prelude.{◌≡◌, ◌≢◌, ℕ, Option, [], ◌∷◌, List, IfNone, IfOk, IfSome, codes};
 ghost use Rattle.script.specs.Name.{IsName};
-ghost use Rattle.script.specs.Plain.{IsTwice, IsSpelled};
+ghost use Rattle.script.specs.Plain.{IsTwice, IsSpelled, spawn_word};
 ghost use Rattle.script.specs.declared.plain.Plain.{Plain};
 
 use crate::item::read_twice;
 use crate::items::Items;
 use crate::name::Name;
 use crate::word::Word;
+use executor_parts::Mark;
 use std::alloc::{AllocError, Global};
 use text_lines::Words;
 
 /// A command that makes a call, or two.
 #[derive(Debug, PartialEq, Eq, Drop)]
 pub enum Plain {
-    /// `spawn f i1 .. ik`: a future with 1 to 8 items.
-    Spawn { name: Name, items: Items },
+    /// `spawn f i1 .. ik`: a plain future with 1 to 8 items. `urgent f i1 .. ik`: an urgent one.
+    Spawn {
+        mark: Mark,
+        name: Name,
+        items: Items,
+    },
     /// `try`: one queued task is taken up.
     Try,
     /// `empty`: whether each accepted future has been dropped.
@@ -41,7 +46,10 @@ pub enum Plain {
     DropTick(Name),
     /// `run r`: a run is made, whose own future is never ready. `run r twice:f`: its own future polls the handle of the future
     /// of this name, which it holds, and is ready with twice its output.
-    Run { name: Name, twice: Option<Name> },
+    Run {
+        name: Name,
+        twice: Option<Name>,
+    },
     /// `pollrun r`: the run is polled, by the outside waker of this name.
     PollRun(Name),
     /// `droprun r`: the run is dropped.
@@ -60,7 +68,7 @@ impl Plain {
         ensures { result ≡ word_of self.now }
     {
         match self {
-            Plain::Spawn { .. } => Word::Spawn,
+            Plain::Spawn { mark, .. } => Word::of_spawn(*mark),
             Plain::Try => Word::Try,
             Plain::Empty => Word::Empty,
             Plain::Wake(_) => Word::Wake,
@@ -93,7 +101,9 @@ pub fn read_plain(
         IfNone found ((plain : Plain) → ¬ (IsSpelled plain (first.now ∷ words.entry)))) }
 {
     if first == b"spawn".as_slice() {
-        spawn(alloc, words)
+        spawn(alloc, Mark::Plain, words)
+    } else if first == b"urgent".as_slice() {
+        spawn(alloc, Mark::Urgent, words)
     } else if first == b"try".as_slice() {
         Ok(words.is_empty().then_some(Plain::Try))
     } else if first == b"empty".as_slice() {
@@ -111,6 +121,7 @@ pub fn read_plain(
 #[tactic(auto, using(crate::proofs::Unread::no_plain))]
 fn read_named(first: &[u8], words: Words<'_>) -> Option<Plain>
     requires spawn { first.now ≢ codes "spawn" }
+    requires urgent { first.now ≢ codes "urgent" }
     requires try_tick { first.now ≢ codes "try" }
     requires empty { first.now ≢ codes "empty" }
     requires leak { first.now ≢ codes "leak" }
@@ -139,6 +150,7 @@ fn read_named(first: &[u8], words: Words<'_>) -> Option<Plain>
 #[tactic(auto, using(crate::proofs::Unread::no_plain))]
 fn read_on_tick(first: &[u8], words: Words<'_>) -> Option<Plain>
     requires spawn { first.now ≢ codes "spawn" }
+    requires urgent { first.now ≢ codes "urgent" }
     requires try_tick { first.now ≢ codes "try" }
     requires empty { first.now ≢ codes "empty" }
     requires leak { first.now ≢ codes "leak" }
@@ -167,6 +179,7 @@ fn read_on_tick(first: &[u8], words: Words<'_>) -> Option<Plain>
 #[tactic(auto, using(crate::proofs::Unread::no_plain))]
 fn read_on_run(first: &[u8], words: Words<'_>) -> Option<Plain>
     requires spawn { first.now ≢ codes "spawn" }
+    requires urgent { first.now ≢ codes "urgent" }
     requires try_tick { first.now ≢ codes "try" }
     requires empty { first.now ≢ codes "empty" }
     requires leak { first.now ≢ codes "leak" }
@@ -216,18 +229,18 @@ fn twice(mut words: Words<'_>) -> Option<Option<Name>>
     words.is_empty().then_some(Some(name))
 }
 
-/// The command that these words say behind `spawn`: a name, and its items.
-fn spawn(alloc: Global, mut words: Words<'_>) -> Result<Option<Plain>, AllocError>
+/// The command that these words say behind `spawn` or `urgent`: a name, and its items.
+fn spawn(alloc: Global, mark: Mark, mut words: Words<'_>) -> Result<Option<Plain>, AllocError>
     ensures found { IfOk result (λ found.
-        IfSome found (λ plain. IsSpelled plain (codes "spawn" ∷ words.entry))) }
+        IfSome found (λ plain. IsSpelled plain (spawn_word mark ∷ words.entry))) }
     ensures none { IfOk result (λ found.
-        IfNone found ((plain : Plain) → ¬ (IsSpelled plain (codes "spawn" ∷ words.entry)))) }
+        IfNone found ((plain : Plain) → ¬ (IsSpelled plain (spawn_word mark ∷ words.entry)))) }
 {
     let Some(name) = words.next().and_then(Name::new) else {
         return Ok(None);
     };
     let items = Items::from_words(alloc, words)?;
-    Ok(items.map(|items| Plain::Spawn { name, items }))
+    Ok(items.map(|items| Plain::Spawn { mark, name, items }))
 }
 
 /// The name that these words are, where they are one name.

@@ -1,10 +1,13 @@
 ghost use Rattle.std.specs.Prelude.{◌≡◌};
-ghost use Rattle.script.specs.WordText.{word_text};
+ghost use Rattle.script.specs.WordText.{word_of_spawn, word_text};
+
+use executor_parts::Mark;
 
 /// The first word of a command, under which its answer is printed.
 #[derive(Clone, Copy, Debug, PartialEq, Eq)]
 pub enum Word {
     Spawn,
+    Urgent,
     Try,
     Empty,
     Wake,
@@ -27,12 +30,23 @@ pub enum Word {
 }
 
 impl Word {
+    /// That of a spawn with this mark.
+    pub fn of_spawn(mark: Mark) -> Word
+        ensures { result ≡ word_of_spawn mark }
+    {
+        match mark {
+            Mark::Plain => Word::Spawn,
+            Mark::Urgent => Word::Urgent,
+        }
+    }
+
     /// Its text.
     pub fn text(self) -> &'static [u8]
         ensures { result.now ≡ word_text self }
     {
         match self {
             Word::Spawn => b"spawn",
+            Word::Urgent => b"urgent",
             Word::Try => b"try",
             Word::Empty => b"empty",
             Word::Wake => b"wake",

@@ -42,7 +42,11 @@ impl<H: Hold, K: Keep> Player<H, K> {
         N: Drop,
     {
         match plain {
-            Plain::Spawn { name, items } => self.spawn::<D, T, N>(desk, *name, items.as_slice()),
+            Plain::Spawn { name, items, .. } => self.spawn::<D, T, N>(
+                desk,
+                *name,
+                items.as_slice(),
+            ),
             Plain::Try => Answer::of(desk.try_tick()),
             Plain::Empty => Answer::of(desk.is_empty()),
             Plain::Tick(name) => self.make_tick::<D, T, N>(desk, &mut seats.ticks, *name),

@@ -91,7 +91,7 @@ learns-as None name at s = record { machine = refl; tried = refl; moments = refl
 learns-as (Some f) name at s = own s
 
 learns-by : (o : Option Plain) (at : ℕ) (s : Player) → Same s (accepted_by o at s)
-learns-by (Some (plain.Spawn name items)) at s = learns-as (number_of s.names name) name at s
+learns-by (Some (plain.Spawn m name items)) at s = learns-as (number_of s.names name) name at s
 learns-by None at s = own s
 learns-by (Some _) at s = own s
 
@@ -380,7 +380,7 @@ module _ (continues : (m : Machine) (t : Step) →
       IsFair first (turns.settled_as o p doing s)
   unfolding turns.settled_as
   fair-settled_as (Some (plain.Cancel name)) p doing s k = fair-polls_next doing.polls p doing s k
-  fair-settled_as (Some (plain.Spawn name items)) p doing s k =
+  fair-settled_as (Some (plain.Spawn m name items)) p doing s k =
       fair-closed p doing (turns.given_back (turns.is_made (party s p).reply) items s)
       (fair-given_back (turns.is_made (party s p).reply) items s k)
   fair-settled_as (Some (plain.Tick name)) p doing s k =
@@ -420,7 +420,7 @@ module _ (continues : (m : Machine) (t : Step) →
 
   fair-started : (c : Plain) (s : Player) → IsFair first s → IsFair first (commands.started c s)
   unfolding commands.started
-  fair-started (plain.Spawn name items) s k = fair-held items true s k
+  fair-started (plain.Spawn m name items) s k = fair-held items true s k
   fair-started (plain.Run name twice) s k = fair-held_by (turns.number_named s twice) true s k
   fair-started (plain.Unkeep name) s k = fair-unkept (number_of s.names name) s k
   fair-started (plain.Poll name) s k = fair-polled (number_of s.names name) s k

@@ -36,7 +36,7 @@ kept_of s None = None
 
 -- the command gives this name
 abbrev pub gives : List ℕ → Option Plain → Bool
-gives name (Some (plain.Spawn other items)) = bytes_eq other name
+gives name (Some (plain.Spawn m other items)) = bytes_eq other name
 gives name (Some (plain.Tick other)) = bytes_eq other name
 gives name (Some (plain.Run other twice)) = bytes_eq other name
 gives name _ = false
@@ -84,7 +84,7 @@ abbrev pub poll_of_run : ℕ → Call
 poll_of_run r = call.PollRun r (by.Outside (outside_of_run r))
 
 unfoldable pub call_of : Player → Plain → Option Call
-call_of s (plain.Spawn name items) = if can_spawn s name items then Some call.Spawn else None
+call_of s (plain.Spawn m name items) = if can_spawn s name items then Some (call.Spawn m) else None
 call_of s plain.Try = Some call.TryTick
 call_of s plain.Empty = Some call.IsEmpty
 call_of s (plain.Wake name) = on (kept_of s (number_of s.names name)) (λ k. call.WakeByRef k)
@@ -113,7 +113,7 @@ polled_by (Some f) s = given f (Outside f) s
 polled_by None s = s
 
 unfoldable pub started : Plain → Player → Player
-started (plain.Spawn name items) s = held items true s
+started (plain.Spawn m name items) s = held items true s
 started (plain.Run name twice) s = held_by (number_named s twice) true s
 started (plain.Unkeep name) s = unkept (number_of s.names name) s
 started (plain.Poll name) s = polled_by (number_of s.names name) s

@@ -71,7 +71,7 @@ abbrev pub plain_at : Player → ℕ → Option Plain
 plain_at s at = plain_of (request_at s at)
 
 abbrev pub spawned : Option Plain → List Item
-spawned (Some (plain.Spawn name items)) = items
+spawned (Some (plain.Spawn m name items)) = items
 spawned _ = []
 
 -- what the future does that was spawned by the command at this place
@@ -155,7 +155,7 @@ accepted_as None name at s = record s { names = s.names ++ name ∷ []; futures 
 accepted_as (Some f) name at s = s
 
 abbrev pub accepted_by : Option Plain → ℕ → Player → Player
-accepted_by (Some (plain.Spawn name items)) at s = accepted_as (number_of s.names name) name at s
+accepted_by (Some (plain.Spawn m name items)) at s = accepted_as (number_of s.names name) name at s
 accepted_by _ at s = s
 
 unfoldable pub accepted : Option Doing → Player → Player

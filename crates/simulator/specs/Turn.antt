@@ -315,7 +315,7 @@ polls_next false p doing s = does p (Some (record doing { polls = true })) s
 
 unfoldable pub settled_as : Option Plain → ℕ → Doing → Player → Player
 settled_as (Some (plain.Cancel name)) p doing s = polls_next doing.polls p doing s
-settled_as (Some (plain.Spawn name items)) p doing s = closed p doing (given_back (is_made (party s p).reply) items s)
+settled_as (Some (plain.Spawn m name items)) p doing s = closed p doing (given_back (is_made (party s p).reply) items s)
 settled_as (Some (plain.Tick name)) p doing s = closed p doing (ticked (is_made (party s p).reply) name s)
 settled_as (Some (plain.Run name twice)) p doing s = closed p doing (ran (is_made (party s p).reply) name twice s)
 settled_as _ p doing s = closed p doing s

@@ -23,7 +23,13 @@ use Rattle.task_moves.specs.AbstractTask.Phase.{Idle, Queued, Polling, PollingWo
 use Rattle.task_moves.specs.AbstractTask.PendingEnd.{Drops, Queues, Forgets, Rests}
 use Rattle.task_moves.specs.Moves.{is_going, most_references}
 
-pub record LocalValue (F T A : Type 0) : Type 0 where
+pub record LocalValue (F T A M : Type 0) : Type 0 where
+  pub task : AbstractTask T A
+  pub future : FuturePlace F
+  pub metadata : M
+
+-- how the end of a poll leaves a task, and where its future is then
+pub record Ended (F T A : Type 0) : Type 0 where
   pub task : AbstractTask T A
   pub future : FuturePlace F
 
@@ -140,19 +146,19 @@ module _ {T A : Type 0} where
   abbrev pub finish_answer : AbstractTask T A → Finish A
   finish_answer t = let end = finish t in finish_answer_by end.called end.let_go
 
-module _ {F T A : Type 0} where
-  -- the task has become this one, its owner is told, and its future is where it was
-  abbrev pub with_task : LocalValue F T A → AbstractTask T A → LocalValue F T A
-  with_task value task = record value { task = told task }
+-- the task has become this one, its owner is told, and its future is where it was
+abbrev pub with_task : {F T A M : Type 0} → LocalValue F T A M → AbstractTask T A → LocalValue F T A M
+with_task value task = record value { task = told task }
 
-  abbrev pub settle_pending_by : abstract.PendingEnd → F → AbstractTask T A → LocalValue F T A
+module _ {F T A : Type 0} where
+  abbrev pub settle_pending_by : abstract.PendingEnd → F → AbstractTask T A → Ended F T A
   settle_pending_by Drops f t = record { task = t; future = Dropping }
   settle_pending_by Queues f t = record { task = abstract.queue true t; future = Home f }
   settle_pending_by Forgets f t = record { task = record t { phase = Finished; closed = true }; future = Dropping }
   settle_pending_by Rests f t = record { task = record t { phase = Idle }; future = Home f }
 
   -- how the end of a poll leaves the task, until a future that has to be dropped is dropped
-  abbrev pub settle : Back F T → AbstractTask T A → LocalValue F T A
+  abbrev pub settle : Back F T → AbstractTask T A → Ended F T A
   settle (Ready v) t = record { task = (abstract.end_ready v t).task; future = Gone }
   settle (Pending f) t = settle_pending_by (abstract.pending_end t) f t
 
@@ -177,7 +183,7 @@ is_queued Queued = true
 is_queued _ = false
 
 -- its turn is there, and its future is in its place
-abbrev pub is_ready_to_start : {F T A : Type 0} → LocalValue F T A → Bool
+abbrev pub is_ready_to_start : {F T A M : Type 0} → LocalValue F T A M → Bool
 is_ready_to_start value = is_home value.future && is_queued value.task.phase
 
 module _ {T A : Type 0} where
@@ -203,6 +209,6 @@ module _ {T A : Type 0} where
   must_wait t = waits_by (abstract.polled t)
 
 -- it is over and holds nothing more: nobody could reach it, its future is dropped, its output is gone and nobody awaits it
-abbrev pub is_spent : {F T A : Type 0} → LocalValue F T A → Bool
+abbrev pub is_spent : {F T A M : Type 0} → LocalValue F T A M → Bool
 is_spent value =
     is_gone value.future && (is_unreachable value.task && (not (is_some value.task.output) && not (is_some value.task.awaiter)))

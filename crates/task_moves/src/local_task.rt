@@ -18,26 +18,41 @@ use std::marker::Model;
 ///
 /// The rules are those of the crate `async-task`. Each change is one of `moves`.
 #[derive(Drop)]
-pub struct LocalTask<F, T, A> {
+pub struct LocalTask<F, T, A, M = ()> {
     state: State,
     /// The move that `finish` makes.
     next: Option<Move>,
     future: FuturePlace<F>,
     output: Option<T>,
     awaiter: Option<A>,
+    metadata: M,
 }
 
-impl<F, T, A> Model for LocalTask<F, T, A> {
+impl<F, T, A, M> Model for LocalTask<F, T, A, M> {
     ghost use Rattle.task_moves.specs.LocalTask.{LocalValue, IsSound, task_of};
 
-    ghost Value = { LocalValue F T A };
+    ghost Value = { LocalValue F T A M };
 
-    ghost view = { λ l. record { task = task_of l.state l.output l.awaiter; future = l.future } };
+    ghost view = { λ l. record { task = task_of l.state l.output l.awaiter; future = l.future; metadata = l.metadata } };
 
     ghost invariant = { λ l. IsSound F T A l.state l.next l.future l.output l.awaiter };
 }
 
 impl<F, T, A> LocalTask<F, T, A> {
+    ghost use Rattle.std.specs.Prelude.{◌≡◌};
+    ghost use Rattle.task_moves.specs.declared.local_task.answers.FuturePlace.TheVariants.{Home};
+    ghost use Rattle.task_moves.specs.AbstractTask as abstract;
+
+    /// A new task without metadata: it has its handle and no waker, and its owner queues it.
+    pub fn new(future: F) -> Self
+        ensures task { result.task ≡ abstract.spawned 0 }
+        ensures future { result.future ≡ Home future }
+    {
+        LocalTask::marked(future, ())
+    }
+}
+
+impl<F, T, A, M> LocalTask<F, T, A, M> {
     ghost use Rattle.std.specs.Prelude.{◌≡◌, ◌<◌, ◌^◌, ◌↔◌, true, false, not, IsTrue};
     ghost use Rattle.task_moves.specs.declared.local_task.answers.FuturePlace.TheVariants.{Home, Lent, Dropping, Gone};
     ghost use Rattle.task_moves.specs.declared.local_task.answers.Back.TheVariants.{Ready, Pending};
@@ -46,9 +61,9 @@ impl<F, T, A> LocalTask<F, T, A> {
     ghost use Rattle.task_moves.specs.LocalTask.{told, with_task, info_of, is_home};
     ghost use Rattle.task_moves.specs.LocalTask.{future_in, is_poll, started, references_of};
 
-    /// A new task: it has its handle and no waker, and its owner queues it.
-    pub fn new(future: F) -> Self
-        ensures { result ≡ record { task = abstract.spawned 0; future = Home future } }
+    /// A new task that keeps this metadata as long as it is there: it has its handle and no waker, and its owner queues it.
+    pub fn marked(future: F, metadata: M) -> Self
+        ensures { result ≡ record { task = abstract.spawned 0; future = Home future; metadata = metadata } }
     {
         LocalTask {
             state: moves::make(),
@@ -56,7 +71,15 @@ impl<F, T, A> LocalTask<F, T, A> {
             future: FuturePlace::Home(future),
             output: None,
             awaiter: None,
+            metadata,
         }
+    }
+
+    /// The metadata that the task was made with.
+    pub fn metadata(&self) -> &M
+        ensures { result.now ≡ self.now.metadata }
+    {
+        &self.metadata
     }
 
     /// Takes the future of a queued task out: to be polled, or to be dropped where the task is
@@ -66,6 +89,7 @@ impl<F, T, A> LocalTask<F, T, A> {
         requires home { is_home self.old.future ≡ true }
         ensures task { self.new.task ≡ abstract.begin_run self.old.task }
         ensures place { self.new.future ≡ started self.old.task.closed }
+        ensures metadata { self.new.metadata ≡ self.old.metadata }
         ensures future { self.old.future ≡ Home (future_in result) }
         ensures open { is_poll result ≡ not self.old.task.closed }
     {
@@ -85,6 +109,7 @@ impl<F, T, A> LocalTask<F, T, A> {
         requires lent { self.old.future ≡ Lent }
         ensures task { self.new.task ≡ told (local.settle back self.old.task).task }
         ensures place { self.new.future ≡ (local.settle back self.old.task).future }
+        ensures metadata { self.new.metadata ≡ self.old.metadata }
         ensures answer { result ≡ local.settle_answer back self.old.task }
     {
         match back {
@@ -97,6 +122,7 @@ impl<F, T, A> LocalTask<F, T, A> {
         requires lent { self.old.future ≡ Lent }
         ensures task { self.new.task ≡ told (abstract.end_ready output self.old.task).task }
         ensures place { self.new.future ≡ Gone }
+        ensures metadata { self.new.metadata ≡ self.old.metadata }
         ensures answer { result ≡ local.settle_answer (Ready output) self.old.task }
     {
         let ended = moves::end_ready(self.state);
@@ -121,6 +147,7 @@ impl<F, T, A> LocalTask<F, T, A> {
         requires lent { self.old.future ≡ Lent }
         ensures task { self.new.task ≡ told (local.settle (Pending future) self.old.task).task }
         ensures place { self.new.future ≡ (local.settle (Pending future) self.old.task).future }
+        ensures metadata { self.new.metadata ≡ self.old.metadata }
         ensures answer { result ≡ local.settle_answer (Pending future) self.old.task }
     {
         let ended = moves::end_pending(self.state);
@@ -148,6 +175,7 @@ impl<F, T, A> LocalTask<F, T, A> {
         requires home { is_home self.old.future ≡ true }
         ensures task { self.new.task ≡ record self.old.task { closed = true } }
         ensures place { self.new.future ≡ Dropping }
+        ensures metadata { self.new.metadata ≡ self.old.metadata }
         ensures future { self.old.future ≡ Home result }
     {
         let dropped = moves::drop_runnable(self.state);
@@ -161,6 +189,7 @@ impl<F, T, A> LocalTask<F, T, A> {
         requires dropped { self.old.future ≡ Dropping }
         ensures task { self.new.task ≡ (local.finish self.old.task).task }
         ensures place { self.new.future ≡ Gone }
+        ensures metadata { self.new.metadata ≡ self.old.metadata }
         ensures answer { result ≡ local.finish_answer self.old.task }
     {
         put(&mut self.future, FuturePlace::Gone);

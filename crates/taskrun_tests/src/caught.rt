@@ -5,7 +5,7 @@ use executor_model::Call::{
     self, Cancel, DropExecutor, DropHandle, DropRun, DropTick, Keep, NewRun, NewTick, PollHandle,
     PollRun, PollTick, Spawn, TryTick, Wake, WakeByRef,
 };
-use executor_model::{By, Event, Op, Polled, Reply, Step, UserOp};
+use executor_model::{By, Event, Mark, Op, Polled, Reply, Step, UserOp};
 use std::process::Abort;
 
 /// Who makes the call that is caught, who catches it by one that it makes whole, and who does the rest.
@@ -118,7 +118,7 @@ fn stand(machine: &mut Machine, stands: Stands) -> bool {
 
 // The scene stands, but for the call.
 fn is_set(machine: &mut Machine, scene: Scene) -> bool {
-    (0..scene.limit).all(|_| makes(machine, Spawn))
+    (0..scene.limit).all(|_| makes(machine, Spawn(Mark::Plain)))
         && polls_with(machine, Keep)
         && is_awaited(machine, scene.limit)
         && (!scene.sleepers || make(machine, FALL_ASLEEP))

@@ -6,7 +6,7 @@ use executor_core::{Kind, Machine};
 use executor_model::Call::{
     self, Copy, DropWaker, Keep, NewTick, PollTick, Spawn, TryTick, Wake, WakeByRef, WakeSelf,
 };
-use executor_model::{Answer, By, Event, Hint, Op, Reply, Step, StepError, UserEnd, UserOp};
+use executor_model::{Answer, By, Event, Hint, Mark, Op, Reply, Step, StepError, UserEnd, UserOp};
 use std::process::Abort;
 
 pub const PENDING: UserEnd = UserEnd::Polled(Answer::Pending);
@@ -124,7 +124,7 @@ pub fn new_machine<R: AllocGlobal + Abort>(rt: &R, limit: u64) -> Machine {
 
 const ROWS: &[Row] = &[
     New, // a waker in use is not let go, and is copied
-    Makes(0, Spawn, &[], Reply::Made),
+    Makes(0, Spawn(Mark::Plain), &[], Reply::Made),
     Polls(0, &[(Keep, Reply::Made)]),
     Begins(1, WakeByRef(0)),
     Refused(2, DropWaker(0), StepError::NoSuch),
@@ -133,14 +133,14 @@ const ROWS: &[Row] = &[
     Makes(2, DropWaker(0), &[], Reply::Done),
     New, // a task polls a tick by its own waker, which wakes it where the tick is told
     Makes(0, NewTick, &[], Reply::Made),
-    Makes(0, Spawn, &[], Reply::Made),
+    Makes(0, Spawn(Mark::Plain), &[], Reply::Made),
     Polls(0, &[(PollTick(0, By::Mine), Reply::Pending)]),
-    Makes(0, Spawn, &[], Reply::Made),
+    Makes(0, Spawn(Mark::Plain), &[], Reply::Made),
     Makes(0, TryTick, &[READY, DONE], Reply::Yes),
     Makes(0, TryTick, &[READY, DONE], Reply::Yes),
     Makes(0, TryTick, &[], Reply::No),
     New, // copies of wakers, and wakes by value
-    Makes(0, Spawn, &[], Reply::Made),
+    Makes(0, Spawn(Mark::Plain), &[], Reply::Made),
     Polls(0, &[(Keep, Reply::Made), (WakeSelf, Reply::Done)]),
     Makes(0, Copy(0), &[], Reply::Made),
     Makes(0, WakeByRef(1), &[], Reply::Done),

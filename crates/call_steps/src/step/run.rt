@@ -1,4 +1,4 @@
-use crate::names::{RunPoll, Section, Steal};
+use crate::names::{Look, RunPoll, Section, Steal};
 use crate::reply::Reply;
 
 /// What a call does with the list of the runs' own queues.
@@ -33,8 +33,10 @@ pub enum RunStep<F, T> {
     MakeRoom,
     /// Room is given back.
     ReturnRoom,
-    /// The first Runnable of the executor's queue is taken.
-    SearchCommon(RunPoll<F, T>),
+    /// A turn is taken, which names the executor's queue that is looked at first.
+    TakeTurn(RunPoll<F, T>),
+    /// The first Runnable of one of the executor's queues is taken.
+    SearchCommon(RunPoll<F, T>, Look),
     /// In a walk, the first Runnable of the own queue is taken, where so many queues are still to go to.
     LookOwn(RunPoll<F, T>, u64),
     /// The waker that the poll was given is called, and stays.

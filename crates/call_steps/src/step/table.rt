@@ -1,7 +1,10 @@
+use crate::names::Look;
+use executor_parts::Mark;
+
 /// What a call does with the table.
 pub enum TableStep<F> {
-    /// It takes a new future in, and a waker of it.
-    Enter,
+    /// It takes a new future of this mark in, and a waker of it.
+    Enter(Mark),
     /// It is asked whether it is empty.
     LookAtTable,
     /// The future is taken out, to be polled.
@@ -14,11 +17,13 @@ pub enum TableStep<F> {
     LeaveTable(F),
 }
 
-/// What a call does with the executor's queue.
+/// What a call does with the executor's queues.
 pub enum QueueStep<F> {
+    /// A turn is taken, which names the queue that is looked at first.
+    TakeTurn,
     /// The first Runnable is taken.
-    Take,
-    /// A Runnable of this future is appended.
+    Take(Look),
+    /// A Runnable of this future is appended to the queue of its mark.
     Append(F),
 }
 
@@ -30,10 +35,10 @@ pub enum ClosingStep {
     DropNext,
     /// It wakes the next waker.
     WakeNext,
-    /// It closes the queue.
-    Close,
-    /// It takes the next Runnable, and ends where there is none.
-    Drain,
+    /// It closes the queue of this mark, the urgent one first.
+    Close(Mark),
+    /// It takes the next Runnable of this queue, the urgent one first, and ends where there is none in the plain one.
+    Drain(Mark),
     /// The leak takes all wakers out of the table, which has none from then on.
     LeakOut,
     /// It wakes the next one.

@@ -1,4 +1,4 @@
-use crate::names::{Sleeping, TickOrRun};
+use crate::names::{Look, Sleeping, TickOrRun};
 
 /// How a sleeper is told that there is something to do.
 pub enum SleeperStep<F, T> {
@@ -14,8 +14,10 @@ pub enum SleeperStep<F, T> {
 pub enum TickStep<F, T> {
     /// A tick is made, with room to sleep in.
     MakeTick,
-    /// It searches from the beginning: the first Runnable is taken, by a run that of its own queue.
+    /// It searches from the beginning: a tick takes a turn, and a run the first Runnable of its own queue.
     Search(Sleeping<F, T>),
+    /// A tick takes the first Runnable of one of the executor's queues.
+    Look(Sleeping<F, T>, Look),
     /// The waker is copied, to fall asleep with.
     CopyWaker(Sleeping<F, T>),
     /// It falls asleep with the copy, or falls asleep again.

@@ -55,8 +55,8 @@ const NESTED: [(&str, &str); 4] = [
     // Two futures drop each other's handles in polls that overlap.
     (
         "\
-limit 2\nspawn a stop:b\nspawn b stop:a\nbegin 1 try\ngo 1\ngo 1\ngo 1\nbegin 2 try\ngo 2\ngo 2\n\
-go 2\nfinish 1\nfinish 2\ntry\nempty\n",
+limit 2\nspawn a stop:b\nspawn b stop:a\nbegin 1 try\ngo 1\ngo 1\ngo 1\ngo 1\ngo 1\nbegin 2 try\n\
+go 2\ngo 2\ngo 2\ngo 2\ngo 2\nfinish 1\nfinish 2\ntry\nempty\n",
         "\
 spawn: ok\nspawn: ok\npoll a\npoll b\npending a\ntry: true\npending b\ndrop b\ntry: true\ndrop a\n\
 try: true\nempty: true\n",

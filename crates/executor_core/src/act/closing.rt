@@ -14,6 +14,7 @@ ghost use Rattle.executor_core.specs.Views.{world_of, HasRoom, HasRoomToEnd, Has
 use crate::act::task::{leak_task, move_task};
 use crate::store::Store;
 use executor_model::{ClosingOp, Event, Op, UserOp};
+use executor_parts::Mark;
 use task_moves::moves::Move;
 
 /// The party does this part of the executor's drop.
@@ -27,14 +28,14 @@ pub fn act(store: &mut Store, todo: &mut Vec<Op>, party: u32, op: ClosingOp)
         ClosingOp::TakeOut => take_out(store, todo),
         ClosingOp::DropNext => drop_next(store, todo, party),
         ClosingOp::WakeNext => wake_next(store, todo, party),
-        ClosingOp::Close => close(store, todo),
-        ClosingOp::Drain => drain(store, todo, party),
+        ClosingOp::Close(mark) => close(store, todo, mark),
+        ClosingOp::Drain(mark) => drain(store, todo, party, mark),
         ClosingOp::LeakOut => leak_out(store, todo),
         ClosingOp::LeakNext => leak_next(store, todo, party),
     }
 }
 
-/// What the executor's drop does next: first each future, then each waker, then the queue.
+/// What the executor's drop does next: first each future, then each waker, then the queues.
 fn next_closing(store: &Store) -> Op
     ensures { result ∷ [] ≡ acts.closing_ops store.now.entries.leaving store.now.waking.items }
 {
@@ -43,7 +44,7 @@ fn next_closing(store: &Store) -> Op
     } else if !store.waking.is_empty() {
         Op::Closing(ClosingOp::WakeNext)
     } else {
-        Op::Closing(ClosingOp::Close)
+        Op::Closing(ClosingOp::Close(Mark::Urgent))
     }
 }
 
@@ -87,7 +88,7 @@ fn wake_next(store: &mut Store, todo: &mut Vec<Op>, party: u32)
         return;
     };
     todo.push_reserved(if store.waking.is_empty() {
-        Op::Closing(ClosingOp::Close)
+        Op::Closing(ClosingOp::Close(Mark::Urgent))
     } else {
         Op::Closing(ClosingOp::WakeNext)
     });
@@ -129,27 +130,43 @@ fn leak_next(store: &mut Store, todo: &mut Vec<Op>, party: u32)
     leak_task(store, todo, party, f);
 }
 
-/// The queue is closed.
-fn close(store: &mut Store, todo: &mut Vec<Op>)
+/// The queue of this mark is closed: behind the urgent one the plain one; then both are drained.
+fn close(store: &mut Store, todo: &mut Vec<Op>, mark: Mark)
     requires room { HasRoom store.old }
     requires space { HasSpace todo.old }
-    ensures { Does (acts.close (world_of store.old)) store.new todo.old.items todo.new.items }
+    ensures { Does (acts.close (world_of store.old) mark) store.new todo.old.items todo.new.items }
 {
-    store.closed = true;
-    todo.push_reserved(Op::Closing(ClosingOp::Drain));
+    store.queues.close(mark);
+    todo.push_reserved(Op::Closing(match mark {
+        Mark::Urgent => ClosingOp::Close(Mark::Plain),
+        Mark::Plain => ClosingOp::Drain(Mark::Urgent),
+    }));
 }
 
-/// The next Runnable is taken to be dropped, and where there is none the drop has ended.
-fn drain(store: &mut Store, todo: &mut Vec<Op>, party: u32)
+/// The next Runnable of this queue is taken to be dropped. Where there is none, the plain one follows the urgent one, and behind
+/// that the drop has ended.
+fn drain(store: &mut Store, todo: &mut Vec<Op>, party: u32, mark: Mark)
     requires room { HasRoom store.old }
     requires space { HasSpace todo.old }
-    ensures { Does (acts.drain party (world_of store.old)) store.new todo.old.items todo.new.items }
+    ensures { Does (acts.drain party (world_of store.old) mark) store.new todo.old.items todo.new.items }
 {
-    match store.queue.pop_front() {
+    match store.queues.take(mark) {
         Some(f) => {
-            todo.push_reserved(Op::Closing(ClosingOp::Drain));
+            todo.push_reserved(Op::Closing(ClosingOp::Drain(mark)));
             todo.push_reserved(Op::Move(Move::DropRunnable, f));
         }
-        None => store.trace.push_reserved(Event::DropEnded { party }),
+        None => end_drain(store, todo, party, mark),
+    }
+}
+
+/// Nothing is left in this queue.
+fn end_drain(store: &mut Store, todo: &mut Vec<Op>, party: u32, mark: Mark)
+    requires room { vec_len store.old.trace + 2 ≤ vec_capacity store.old.trace }
+    requires space { HasSpace todo.old }
+    ensures { Does (acts.drained party (world_of store.old) mark) store.new todo.old.items todo.new.items }
+{
+    match mark {
+        Mark::Urgent => todo.push_reserved(Op::Closing(ClosingOp::Drain(Mark::Plain))),
+        Mark::Plain => store.trace.push_reserved(Event::DropEnded { party }),
     }
 }

@@ -6,7 +6,7 @@ ghost use Rattle.executor_model.specs.Good.{CanWake, RunNeeds};
 ghost use Rattle.executor_core.specs.Views.{world_of, HasRoom, HasSpace, Does};
 
 use crate::act::waker::call_by_reference;
-use crate::search::{look_own, search_common};
+use crate::search::{look_own, search_common, take_turn_of_run};
 use crate::store::Store;
 use executor_model::{
     Event, Hint, Hold, ListOp, Op, Polled, QueueOp, Reply, RunOp, RunPoll, Section, TickOp,
@@ -23,7 +23,8 @@ pub fn act(store: &mut Store, todo: &mut Vec<Op>, party: u32, hint: Hint, op: Ru
     match op {
         RunOp::MakeRoom => make_room(store, todo, hint),
         RunOp::ReturnRoom => store.ticks_and_runs.flagged_sleepers.give_room_back(),
-        RunOp::SearchCommon(x) => search_common(store, todo, x),
+        RunOp::TakeTurn(x) => take_turn_of_run(store, todo, party, x),
+        RunOp::SearchCommon(x, look) => search_common(store, todo, x, look),
         RunOp::LookOwn(x, at, left) => look_own(store, todo, x, at, left),
         RunOp::WakeOwn(x) => wake_own(store, todo, party, x),
         RunOp::Reschedule(r, reply) => reschedule(store, todo, r, reply),

@@ -7,6 +7,7 @@ ghost use Rattle.executor_core.specs.Views.{world_of, HasRoom, HasRoomToEnd, Has
 use crate::found::{push_found, push_run};
 use crate::store::Store;
 use executor_model::{Event, Op, QueueOp, RunOp, Source, Steal, StealOp, Then};
+use executor_parts::Mark;
 
 /// The party does this part of a steal.
 pub fn act(store: &mut Store, todo: &mut Vec<Op>, party: u32, op: StealOp)
@@ -32,6 +33,11 @@ fn end(store: &mut Store, todo: &mut Vec<Op>, s: Steal)
 {
     match s.then {
         Then::Found(f) => push_found(store, todo, s.poll, f),
+        Then::StealPlain(f) => todo.push_reserved(Op::Steal(StealOp::Length(Steal {
+            poll: s.poll,
+            from: Source::Common(Mark::Plain),
+            then: Then::Run(f),
+        }))),
         Then::Run(f) => push_run(store, todo, s.poll, f),
         Then::Walk(at, left) => { todo.push_reserved(Op::Run(RunOp::LookOwn(s.poll, at, left))) }
     }
@@ -42,7 +48,7 @@ fn source_len(store: &Store, from: Source) -> u64
     ensures { result ≡ length (runs.source_of (world_of store.now) from) }
 {
     match from {
-        Source::Common => store.queue.len() as u64,
+        Source::Common(mark) => store.queues.len(mark),
         Source::Own(r) => store.ticks_and_runs.runs.own_len(r),
     }
 }
@@ -58,7 +64,7 @@ fn take_first(store: &mut Store, from: Source) -> Option<u64>
     ensures room { HasRoomToEnd store.old → HasRoomToEnd store.new }
 {
     match from {
-        Source::Common => store.queue.pop_front(),
+        Source::Common(mark) => store.queues.take(mark),
         Source::Own(r) => store.ticks_and_runs.runs.take(r),
     }
 }

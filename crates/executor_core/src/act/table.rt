@@ -13,7 +13,7 @@ ghost use Rattle.executor_core.specs.Views.{world_of, HasRoom, HasRoomToEnd, Has
 
 use crate::store::Store;
 use executor_model::{Event, Hint, Hold, Op, QueueOp, Reply, TableOp, UserOp};
-use executor_parts::SpawnRefused;
+use executor_parts::{Mark, SpawnRefused};
 use task_moves::moves::{Move, State};
 
 /// The party does this with the table.
@@ -25,7 +25,7 @@ pub fn act(store: &mut Store, todo: &mut Vec<Op>, party: u32, hint: Hint, op: Ta
     ensures { Does (doing.table_act party hint op (world_of store.old)) store.new todo.old.items todo.new.items }
 {
     match op {
-        TableOp::Enter => enter(store, todo, party, hint),
+        TableOp::Enter(mark) => enter(store, todo, mark, party, hint),
         TableOp::LookAtTable => look_at_table(store, todo),
         TableOp::TakeToPoll(f) => take_to_poll(store, todo, f),
         TableOp::PutBack(f) => put_back(store, todo, f),
@@ -34,12 +34,12 @@ pub fn act(store: &mut Store, todo: &mut Vec<Op>, party: u32, hint: Hint, op: Ta
     }
 }
 
-/// A new future is taken in, where there are not too many and memory is not refused.
-fn enter(store: &mut Store, todo: &mut Vec<Op>, party: u32, hint: Hint)
+/// A new future of this mark is taken in, where there are not too many and memory is not refused.
+fn enter(store: &mut Store, todo: &mut Vec<Op>, mark: Mark, party: u32, hint: Hint)
     requires fits { Fits (world_of store.old) }
     requires room { HasRoom store.old }
     requires space { HasSpace todo.old }
-    ensures { Does (acts.enter party hint (world_of store.old)) store.new todo.old.items todo.new.items }
+    ensures { Does (acts.enter mark party hint (world_of store.old)) store.new todo.old.items todo.new.items }
 {
     let vacancy = match store.entries.vacancy() {
         Ok(vacancy) => vacancy,
@@ -60,6 +60,7 @@ fn enter(store: &mut Store, todo: &mut Vec<Op>, party: u32, hint: Hint)
     let f = store.tasks.len() as u64;
     store.tasks.push_reserved(entered(store.is_static));
     store.awaiters.push_reserved(None);
+    store.marks.push_reserved(mark);
     store.entries.enter(vacancy, f);
     store
         .trace

@@ -6,25 +6,27 @@ ghost use Rattle.executor_model.specs.Good.{IsKnownWaker, TickNeeds};
 ghost use Rattle.executor_core.specs.WakingUp.{passed_on, wakes_up};
 ghost use Rattle.executor_core.specs.Views.{world_of, HasRoom, HasSpace, Does};
 
+use crate::act::queue::{mark_in, take_turn};
 use crate::act::waker::{copy, push_goes};
 use crate::search::search_own;
 use crate::store::Store;
 use crate::ticks::FellAsleep;
 use executor_model::{
-    Hint, Hold, Op, Reply, RunOp, RunPoll, SleeperOp, Sleeping, TickOp, TickOrRun,
+    Hint, Hold, Look, Op, Reply, RunOp, RunPoll, SleeperOp, Sleeping, TickOp, TickOrRun,
 };
 use task_moves::moves::Move;
 
 /// The party does this part of the making of a tick, or of a poll or the drop of a tick or run.
-pub fn act(store: &mut Store, todo: &mut Vec<Op>, hint: Hint, op: TickOp)
+pub fn act(store: &mut Store, todo: &mut Vec<Op>, party: u32, hint: Hint, op: TickOp)
     requires room { HasRoom store.old }
     requires space { HasSpace todo.old }
     requires needs { TickNeeds (world_of store.old) op }
-    ensures { Does (doing.tick_act hint op (world_of store.old)) store.new todo.old.items todo.new.items }
+    ensures { Does (doing.tick_act party hint op (world_of store.old)) store.new todo.old.items todo.new.items }
 {
     match op {
         TickOp::MakeTick => make_tick(store, todo, hint),
-        TickOp::Search(s) => search(store, todo, s),
+        TickOp::Search(s) => search(store, todo, party, s),
+        TickOp::Look(s, look) => look_tick(store, todo, s, look),
         TickOp::CopyWaker(s) => copy_waker(store, todo, hint, s),
         TickOp::FallAsleep(s) => fall_asleep(store, todo, s),
         TickOp::WakeUp(who) => wake_up(store, todo, who),
@@ -69,14 +71,17 @@ pub fn push_wake_up(todo: &mut Vec<Op>, sleeps: bool, who: TickOrRun)
     }
 }
 
-/// It searches from the beginning: a run its own queue first.
-fn search(store: &mut Store, todo: &mut Vec<Op>, s: Sleeping)
+/// It searches from the beginning: a tick takes a turn, and a run looks at its own queue.
+fn search(store: &mut Store, todo: &mut Vec<Op>, party: u32, s: Sleeping)
     requires room { HasRoom store.old }
     requires space { HasSpace todo.old }
-    ensures { Does (doing.search (world_of store.old) s) store.new todo.old.items todo.new.items }
+    ensures { Does (doing.search party (world_of store.old) s) store.new todo.old.items todo.new.items }
 {
     match s.who {
-        TickOrRun::Tick(_) => search_tick(store, todo, s),
+        TickOrRun::Tick(_) => {
+            let look = take_turn(store, party);
+            todo.push_reserved(Op::Tick(TickOp::Look(s, look)));
+        }
         TickOrRun::Run(r) => search_own(
             store,
             todo,
@@ -89,15 +94,18 @@ fn search(store: &mut Store, todo: &mut Vec<Op>, s: Sleeping)
     }
 }
 
-/// The poll of a tick takes the first Runnable, where there is one, tells another sleeper, and runs it. Else it falls
-/// asleep.
-fn search_tick(store: &mut Store, todo: &mut Vec<Op>, s: Sleeping)
+/// The poll of a tick takes the first Runnable, where there is one, tells another sleeper, and runs it. Else it looks at the
+/// other queue, where that was not done, and then it falls asleep.
+fn look_tick(store: &mut Store, todo: &mut Vec<Op>, s: Sleeping, look: Look)
     requires room { HasRoom store.old }
     requires space { HasSpace todo.old }
-    ensures { Does (sleepers.search_tick (world_of store.old) s) store.new todo.old.items todo.new.items }
+    ensures { Does (sleepers.look_tick (world_of store.old) s look) store.new todo.old.items todo.new.items }
 {
-    let Some(f) = store.queue.pop_front() else {
-        todo.push_reserved(Op::Tick(TickOp::CopyWaker(s)));
+    let Some(f) = store.queues.take(mark_in(look)) else {
+        todo.push_reserved(match look {
+            Look::First(mark) => Op::Tick(TickOp::Look(s, Look::Second(mark.other()))),
+            Look::Second(_) => Op::Tick(TickOp::CopyWaker(s)),
+        });
         return;
     };
     let sleeps = store.ticks_and_runs.sleeps(s.who);

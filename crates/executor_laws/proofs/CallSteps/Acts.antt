@@ -17,29 +17,30 @@ use Rattle.call_steps.specs.declared.step.CallStep.TheVariants as step
 use Rattle.call_steps.specs.declared.step.tick.TickStep.TheVariants as tick_step
 use Rattle.call_steps.specs.Next.{next}
 use Rattle.executor_laws.specs.CallsFollow.{ActsFollow, AnswersFollow}
-use Rattle.executor_laws.specs.SeenByCalls.{found, searched, seen_tick, searcher}
+use Rattle.executor_laws.specs.SeenByCalls.{searched, seen_tick}
 use Rattle.executor_laws.specs.StepsOfCalls.{steps_of, tick_step_of, waker_of, who_of}
 use Rattle.executor_laws.proofs.CallSteps.Closing.{of-closings}
-use Rattle.executor_laws.proofs.CallSteps.Falling.{of-copy, of-falling, of-leaving, of-make, of-sleepers, of-ticks-search, of-waking}
+use Rattle.executor_laws.proofs.CallSteps.Falling.{of-copy, of-falling, of-leaving, of-make, of-sleepers, of-ticks-look, of-waking}
 use Rattle.executor_laws.proofs.CallSteps.Handles.{of-handles, of-wakers}
 use Rattle.executor_laws.proofs.CallSteps.Owing.{of-move}
 use Rattle.executor_laws.proofs.CallSteps.Stealing.{of-lists, of-own, of-runs, of-steals}
 use Rattle.executor_laws.proofs.CallSteps.Tables.{of-queue, of-table}
 
-of-search : (who : TickOrRun) (w : World) (k : ℕ) (a : Waker) →
-    steps_of (search w (record { waker = a; who = who; poll = k })).next
-    ≡ next (step.Tick (tick_step.Search (record { waker = waker_of a; who = who_of who }))) (found (searched w who) (searcher w who))
-of-search (Tick t) w k a = of-ticks-search w t k a
-of-search (Run r) w k a = of-own (own_of w r) w r k a
+of-search : (who : TickOrRun) (p : ℕ) (w : World) (k : ℕ) (a : Waker) →
+    steps_of (search p w (record { waker = a; who = who; poll = k })).next
+    ≡ next (step.Tick (tick_step.Search (record { waker = waker_of a; who = who_of who }))) (searched w who)
+of-search (Tick t) p w k a = refl
+of-search (Run r) p w k a = of-own (own_of w r) w r k a
 
-of-ticks : (h : Hint) (o : TickOp) (w : World) →
-    steps_of (tick_act h o w).next ≡ next (step.Tick (tick_step_of o)) (seen_tick h o w)
-of-ticks h tick_op.MakeTick w = of-make h.refused w
-of-ticks h (tick_op.Search s) w = of-search s.who w s.poll s.waker
-of-ticks h (tick_op.CopyWaker s) w = of-copy (is_copy_refused h w s.waker) w s
-of-ticks h (tick_op.FallAsleep s) w = of-falling (place_of w s.who) w s
-of-ticks h (tick_op.WakeUp who) w = of-waking (place_of w who) w who
-of-ticks h (tick_op.Leave who) w = of-leaving (place_of w who) w who
+of-ticks : (p : ℕ) (h : Hint) (o : TickOp) (w : World) →
+    steps_of (tick_act p h o w).next ≡ next (step.Tick (tick_step_of o)) (seen_tick h o w)
+of-ticks p h tick_op.MakeTick w = of-make h.refused w
+of-ticks p h (tick_op.Search s) w = of-search s.who p w s.poll s.waker
+of-ticks p h (tick_op.Look s look) w = of-ticks-look look s.who w s.poll s.waker
+of-ticks p h (tick_op.CopyWaker s) w = of-copy (is_copy_refused h w s.waker) w s
+of-ticks p h (tick_op.FallAsleep s) w = of-falling (place_of w s.who) w s
+of-ticks p h (tick_op.WakeUp who) w = of-waking (place_of w who) w who
+of-ticks p h (tick_op.Leave who) w = of-leaving (place_of w who) w who
 
 no : {A : Type 0} → true ≡ false → A
 no e = absurd (cc)
@@ -50,7 +51,7 @@ no-more e = absurd (cc)
 pub acts-follow : ActsFollow
 acts-follow p h (op.Move m f) w is = of-move (stands_alone m) m p w f
 acts-follow p h (op.Table o) w is = of-table p h o w
-acts-follow p h (op.Queue o) w is = of-queue o w
+acts-follow p h (op.Queue o) w is = of-queue p o w
 acts-follow p h (op.User (user_op.BeginDrop f)) w is = refl
 acts-follow p h (op.User (user_op.BeginDropOutput f)) w is = refl
 acts-follow p h (op.User (user_op.Poll f)) w is = no is
@@ -62,7 +63,7 @@ acts-follow p h (op.User (user_op.DropOwn r)) w is = no is
 acts-follow p h (op.Waker o) w is = of-wakers p h o w
 acts-follow p h (op.Handle o) w is = of-handles p h o w
 acts-follow p h (op.Sleeper o) w is = of-sleepers p o w
-acts-follow p h (op.Tick o) w is = of-ticks h o w
+acts-follow p h (op.Tick o) w is = of-ticks p h o w
 acts-follow p h (op.List o) w is = of-lists h o w
 acts-follow p h (op.Steal o) w is = of-steals p o w
 acts-follow p h (op.Run o) w is = of-runs p h o w

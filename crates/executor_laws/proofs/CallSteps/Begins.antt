@@ -32,7 +32,7 @@ of-drop Listed r = refl
 of-drop Ended r = refl
 
 pub calls-begin : CallsBegin
-calls-begin p w here call.Spawn = refl
+calls-begin p w here (call.Spawn mark) = refl
 calls-begin p w here call.TryTick = refl
 calls-begin p w here call.IsEmpty = refl
 calls-begin p w here (call.Wake k) =

@@ -1,17 +1,21 @@
 -- The executor's drop and its leak go as `call_steps` says.
 use Rattle.std.proofs.Common.{◌≡◌, ℕ, Bool, true, false, ◌||◌, List, [], ◌∷◌, ◌++◌, length, refl}
+use Rattle.executor_parts.specs.declared.mark.Mark.{Mark}
+use Rattle.executor_parts.specs.declared.mark.Mark.TheVariants.{Plain, Urgent}
+use Rattle.executor_model.specs.World.{queue_of}
 use Rattle.task_moves.specs.declared.moves.owed.Move.TheVariants as move
 use Rattle.executor_model.specs.declared.op.ClosingOp.{ClosingOp}
 use Rattle.executor_model.specs.declared.op.ClosingOp.TheVariants as closing_op
 use Rattle.executor_model.specs.declared.op.Op.TheVariants as op
 use Rattle.executor_model.specs.declared.op.UserOp.TheVariants as user_op
-use Rattle.executor_model.specs.Acts.{closing_ops, drain_by, drop_next_by, leak_next_by, leak_out_by, leaking_ops, wake, wake_next_by}
+use Rattle.executor_model.specs.Acts.{close, closing_ops, drain_by, drop_next_by, leak_next_by, leak_out_by, leaking_ops, wake}
+use Rattle.executor_model.specs.Acts.{wake_next_by}
 use Rattle.executor_model.specs.Doing.{closing_act}
 use Rattle.executor_model.specs.World.{World}
 use Rattle.call_steps.specs.declared.saw.Saw.TheVariants as saw
 use Rattle.call_steps.specs.declared.step.CallStep.TheVariants as step
 use Rattle.call_steps.specs.declared.step.table.ClosingStep.TheVariants as closing_step
-use Rattle.call_steps.specs.Closing.{closing, leaking}
+use Rattle.call_steps.specs.Closing.{closed, closing, leaking}
 use Rattle.call_steps.specs.Next.{next, next_closing}
 use Rattle.executor_laws.specs.SeenByCalls.{dropped, first, seen_closing, unless_gone, wakes}
 use Rattle.executor_laws.specs.StepsOfCalls.{closing_step_of, steps_of}
@@ -39,9 +43,15 @@ of-wake p w (f ∷ ws) =
     both (wake p (record w { waking = ws }) f).next (closing_ops [] ws) _ _
     (of-move true move.Wake p (record w { waking = ws }) f) (of-closing [] ws)
 
-of-drain : (p : ℕ) (w : World) (fs : List ℕ) → steps_of (drain_by p w fs).next ≡ next_closing closing_step.Drain (first fs)
-of-drain p w [] = refl
-of-drain p w (f ∷ fs) = refl
+of-close : (w : World) (mark : Mark) → steps_of (close w mark).next ≡ closed mark
+of-close w Urgent = refl
+of-close w Plain = refl
+
+of-drain : (p : ℕ) (w : World) (mark : Mark) (fs : List ℕ) →
+    steps_of (drain_by p w mark fs).next ≡ next_closing (closing_step.Drain mark) (first fs)
+of-drain p w Urgent [] = refl
+of-drain p w Plain [] = refl
+of-drain p w mark (f ∷ fs) = refl
 
 of-leak-out : (b : Bool) (w : World) →
     steps_of (leak_out_by b w).next
@@ -62,7 +72,7 @@ pub of-closings : (p : ℕ) (o : ClosingOp) (w : World) →
 of-closings p closing_op.TakeOut w = of-closing w.table w.waking
 of-closings p closing_op.DropNext w = of-drop p w w.leaving
 of-closings p closing_op.WakeNext w = of-wake p w w.waking
-of-closings p closing_op.Close w = refl
-of-closings p closing_op.Drain w = of-drain p w w.queue.items
+of-closings p (closing_op.Close mark) w = of-close w mark
+of-closings p (closing_op.Drain mark) w = of-drain p w mark (queue_of w mark).items
 of-closings p closing_op.LeakOut w = of-leak-out (w.is_static || w.gone) w
 of-closings p closing_op.LeakNext w = of-leak w.gone p w w.waking

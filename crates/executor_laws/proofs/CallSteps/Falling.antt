@@ -6,14 +6,16 @@ use Rattle.executor_model.specs.declared.op.SleeperOp.{SleeperOp}
 use Rattle.executor_model.specs.declared.op.SleeperOp.TheVariants as sleeper_op
 use Rattle.executor_model.specs.declared.op.Sleeping.{Sleeping}
 use Rattle.executor_model.specs.declared.op.TickOrRun.{TickOrRun}
-use Rattle.executor_model.specs.declared.op.TickOrRun.TheVariants.{Tick}
+use Rattle.executor_model.specs.declared.op.Look.{Look}
+use Rattle.executor_model.specs.declared.op.Look.TheVariants.{First, Second}
+use Rattle.executor_model.specs.declared.op.TickOrRun.TheVariants.{Run, Tick}
 use Rattle.executor_model.specs.declared.op.Waker.{Waker}
 use Rattle.executor_model.specs.ActsOfSleepers.{copy_sleeper_by, exchange_by, fall_asleep_by, hand_out_by, leave_sleepers_by}
-use Rattle.executor_model.specs.ActsOfSleepers.{make_tick_by, pend_as, polled_as, search_by, sleep_again_by, sleep_anew_by}
+use Rattle.executor_model.specs.Acts.{mark_in}
+use Rattle.executor_model.specs.ActsOfSleepers.{look_tick, look_tick_by, make_tick_by, pend_as, polled_as, sleep_again_by, sleep_anew_by}
 use Rattle.executor_model.specs.ActsOfSleepers.{sleep_listed_by, sleeper_goes, tell_and_return, wake_up_by}
-use Rattle.executor_model.specs.Doing.{search, sleeper_act}
-use Rattle.executor_model.specs.World.{World, Ticker, Awake, Asleep, Left, tick_of}
-use Rattle.call_steps.specs.declared.names.TickOrRun.TheVariants as of_who
+use Rattle.executor_model.specs.Doing.{sleeper_act}
+use Rattle.executor_model.specs.World.{World, Ticker, Awake, Asleep, Left, queue_of, run_of, tick_of}
 use Rattle.call_steps.specs.declared.step.CallStep.TheVariants as step
 use Rattle.call_steps.specs.declared.step.tick.SleeperStep.TheVariants as sleeper_step
 use Rattle.call_steps.specs.declared.step.tick.TickStep.TheVariants as tick_step
@@ -22,7 +24,7 @@ use Rattle.call_steps.specs.Owing.{released}
 use Rattle.call_steps.specs.Sleeping.{tell_and_return as tells_and_returns}
 use Rattle.executor_laws.specs.SeenByCalls.{allowed, fell_asleep, found, going, handed_out, laid, laid_again, left, seen_sleeper}
 use Rattle.executor_laws.specs.SeenByCalls.{sleeps, searcher, unless_refused, woke_up}
-use Rattle.executor_laws.specs.StepsOfCalls.{sleeper_step_of, sleeping_of, steps_of, waker_of as called, who_of}
+use Rattle.executor_laws.specs.StepsOfCalls.{look_of, sleeper_step_of, sleeping_of, steps_of, waker_of as called, who_of}
 use Rattle.executor_laws.proofs.CallSteps.Owing.{both, of-call, of-waker}
 
 of-exchange : (b : Bool) (w : World) →
@@ -48,20 +50,23 @@ pub of-make : (b : Bool) (w : World) → steps_of (make_tick_by b w).next ≡ ne
 of-make true w = refl
 of-make false w = refl
 
-of-search-at : (x : Ticker) (w : World) (fs : List ℕ) (t k : ℕ) (a : Waker) →
-    steps_of (search_by x w fs (record { waker = a; who = Tick t; poll = k })).next
-    ≡ next_tick (tick_step.Search (record { waker = called a; who = of_who.Tick t }))
-    (found fs (record { sleeps = sleeps x; counted = 0; taken = 0 }))
-of-search-at x w [] t k a = refl
-of-search-at Awake w (f ∷ fs) t k a = refl
-of-search-at (Asleep n) w (f ∷ fs) t k a = refl
-of-search-at Left w (f ∷ fs) t k a = refl
+of-look-at : (look : Look) (x : Ticker) (w : World) (fs : List ℕ) (who : TickOrRun) (k : ℕ) (a : Waker) (counted taken : ℕ) →
+    steps_of (look_tick_by x w look fs (record { waker = a; who = who; poll = k })).next
+    ≡ next_tick (tick_step.Look (record { waker = called a; who = who_of who }) (look_of look))
+    (found fs (record { sleeps = sleeps x; counted = counted; taken = taken }))
+of-look-at (First mark) x w [] who k a counted taken = refl
+of-look-at (Second mark) x w [] who k a counted taken = refl
+of-look-at look Awake w (f ∷ fs) who k a counted taken = refl
+of-look-at look (Asleep n) w (f ∷ fs) who k a counted taken = refl
+of-look-at look Left w (f ∷ fs) who k a counted taken = refl
 
-pub of-ticks-search : (w : World) (t k : ℕ) (a : Waker) →
-    steps_of (search w (record { waker = a; who = Tick t; poll = k })).next
-    ≡ next_tick (tick_step.Search (record { waker = called a; who = of_who.Tick t }))
-    (found w.queue.items (searcher w (Tick t)))
-of-ticks-search w t k a = of-search-at (tick_of w t) w w.queue.items t k a
+pub of-ticks-look : (look : Look) (who : TickOrRun) (w : World) (k : ℕ) (a : Waker) →
+    steps_of (look_tick w (record { waker = a; who = who; poll = k }) look).next
+    ≡ next_tick (tick_step.Look (record { waker = called a; who = who_of who }) (look_of look))
+    (found (queue_of w (mark_in look)).items (searcher w who))
+of-ticks-look look (Tick t) w k a = of-look-at look (tick_of w t) w (queue_of w (mark_in look)).items (Tick t) k a 0 0
+of-ticks-look look (Run r) w k a =
+    of-look-at look (run_of w r).place w (queue_of w (mark_in look)).items (Run r) k a (run_of w r).counted (run_of w r).taken
 
 pub of-copy : (b : Bool) (w : World) (s : Sleeping) →
     steps_of (copy_sleeper_by b w s).next ≡ next_tick (tick_step.CopyWaker (sleeping_of s)) (unless_refused b)

@@ -1,10 +1,14 @@
 -- How runs search, steal and walk, and the list of their queues, go as `call_steps` says.
 use Rattle.std.proofs.Common.{◌≡◌, ℕ, zero, suc, ◌+◌, ◌%◌, ◌==◌, Bool, true, false, List, [], ◌∷◌, length, get_or, set, refl, subst}
 use Rattle.std.specs.Prelude.{nat_lt}
+use Rattle.executor_model.specs.World.{queue_of}
+use Rattle.executor_model.specs.Acts.{mark_in}
 use Rattle.executor_model.specs.declared.call.Reply.{Reply}
 use Rattle.executor_model.specs.declared.call.Reply.TheVariants as reply
 use Rattle.executor_model.specs.declared.event.Event.TheVariants as event
 use Rattle.executor_model.specs.declared.op.Hold.TheVariants as hold
+use Rattle.executor_model.specs.declared.op.Look.{Look}
+use Rattle.executor_model.specs.declared.op.Look.TheVariants.{First, Second}
 use Rattle.executor_model.specs.declared.op.ListOp.{ListOp}
 use Rattle.executor_model.specs.declared.op.ListOp.TheVariants as list_op
 use Rattle.executor_model.specs.declared.op.Op.TheVariants as op
@@ -48,7 +52,7 @@ use Rattle.executor_laws.specs.SeenByCalls.{first, found as seen_found, looked_o
 use Rattle.executor_laws.specs.SeenByCalls.{sleeps, searcher}
 use Rattle.executor_laws.specs.SeenByCalls.{taken_from, unless_refused, walked, woken}
 use Rattle.executor_laws.specs.StepsOfCalls.{list_step_of, poll_of, reply_of, run_step_of, section_of, steal_of, steal_step_of}
-use Rattle.executor_laws.specs.StepsOfCalls.{steps_of, then_of}
+use Rattle.executor_laws.specs.StepsOfCalls.{look_of, steps_of, then_of}
 use Rattle.executor_laws.specs.StepsOfCalls.{waker_of}
 use Rattle.executor_laws.proofs.CallSteps.Owing.{both, of-move}
 
@@ -99,6 +103,7 @@ of-own (f ∷ fs) w r k a = of-found (put_own w r fs) (record { run = r; waker =
 of-stolen : (t : Then) (w : World) (x : RunPoll) →
     steps_of (stolen t w x).next ≡ stealing.stolen_as (then_of t) (searcher w (RunOf x.run)) (poll_of x)
 of-stolen (then.Found f) w x = of-found w x f
+of-stolen (then.StealPlain f) w x = refl
 of-stolen (then.Run f) w x = of-run ((run_of w x.run).taken + 1 == 200) w x f
 of-stolen (then.Walk at left) w x = refl
 
@@ -196,10 +201,12 @@ of-room : (b : Bool) (w : World) → steps_of (make_room_by b w).next ≡ next_r
 of-room true w = refl
 of-room false w = refl
 
-of-common : (fs : List ℕ) (w : World) (x : RunPoll) →
-    steps_of (search_common_by fs w x).next ≡ next_run (run_step.SearchCommon (poll_of x)) (first fs)
-of-common [] w x = refl
-of-common (f ∷ fs) w x = refl
+of-common : (fs : List ℕ) (w : World) (x : RunPoll) (look : Look) →
+    steps_of (search_common_by fs w x look).next ≡ next_run (run_step.SearchCommon (poll_of x) (look_of look)) (first fs)
+of-common [] w x (First mark) = refl
+of-common [] w x (Second mark) = refl
+of-common (f ∷ fs) w x (First mark) = refl
+of-common (f ∷ fs) w x (Second mark) = refl
 
 of-look-own : (fs : List ℕ) (w : World) (x : RunPoll) (at left : ℕ) →
     steps_of (look_own_by fs w x at left).next
@@ -230,7 +237,8 @@ pub of-runs : (p : ℕ) (h : Hint) (o : RunOp) (w : World) →
     steps_of (run_act p h o w).next ≡ next (step.Run (run_step_of o)) (seen_run h o w)
 of-runs p h run_op.MakeRoom w = of-room h.refused w
 of-runs p h run_op.ReturnRoom w = refl
-of-runs p h (run_op.SearchCommon x) w = of-common w.queue.items w x
+of-runs p h (run_op.TakeTurn x) w = refl
+of-runs p h (run_op.SearchCommon x look) w = of-common (queue_of w (mark_in look)).items w x look
 of-runs p h (run_op.LookOwn x at left) w = of-look-own (own_of w x.run) w x at left
 of-runs p h (run_op.WakeOwn x) w = of-wake-own p w x
 of-runs p h (run_op.Reschedule r a) w = of-reschedule (own_of w r) w r a

@@ -1,6 +1,11 @@
 -- What is done with the table and the queue goes as `call_steps` says.
-use Rattle.std.proofs.Common.{◌≡◌, ℕ, Bool, true, false, ◌&&◌, not, List, [], ◌∷◌, length, refl, sym}
+use Rattle.std.proofs.Common.{◌≡◌, ℕ, Bool, true, false, not, List, [], ◌∷◌, length, refl, sym}
 use Rattle.std.specs.Prelude.{nat_lt}
+use Rattle.executor_model.specs.World.{mark_of, queue_of}
+use Rattle.executor_model.specs.Acts.{mark_in, takes_more}
+use Rattle.executor_model.specs.declared.op.Look.{Look}
+use Rattle.executor_model.specs.declared.op.Look.TheVariants.{First, Second}
+use Rattle.executor_parts.specs.declared.mark.Mark.{Mark}
 use Rattle.executor_model.specs.declared.op.QueueOp.{QueueOp}
 use Rattle.executor_model.specs.declared.op.QueueOp.TheVariants as queue_op
 use Rattle.executor_model.specs.declared.op.TableOp.{TableOp}
@@ -14,12 +19,13 @@ use Rattle.call_steps.specs.declared.step.table.QueueStep.TheVariants as queue_s
 use Rattle.call_steps.specs.declared.step.table.TableStep.TheVariants as table_step
 use Rattle.call_steps.specs.Next.{next, next_queue, next_table}
 use Rattle.executor_laws.specs.SeenByCalls.{allowed, entry, entry_with_waker, first, some_there, seen_queue, seen_table}
-use Rattle.executor_laws.specs.StepsOfCalls.{queue_step_of, reply_of, steps_of, table_step_of}
+use Rattle.executor_laws.specs.StepsOfCalls.{look_of, queue_step_of, reply_of, steps_of, table_step_of}
 
-of-enter : (x y : Bool) (p : ℕ) (w : World) → steps_of (enter_by x y p w).next ≡ next_table table_step.Enter (entry x y w)
-of-enter true y p w = refl
-of-enter false true p w = refl
-of-enter false false p w = refl
+of-enter : (x y : Bool) (mark : Mark) (p : ℕ) (w : World) →
+    steps_of (enter_by x y mark p w).next ≡ next_table (table_step.Enter mark) (entry x y w)
+of-enter true y mark p w = refl
+of-enter false true mark p w = refl
+of-enter false false mark p w = refl
 
 of-look : (fs : List ℕ) → next_table table_step.LookAtTable (some_there fs) ≡ step.End (reply_of (emptiness fs)) ∷ []
 of-look [] = refl
@@ -35,23 +41,28 @@ of-leave : (b : Bool) (w : World) (f : ℕ) →
 of-leave true w f = of-entry w.is_static f
 of-leave false w f = refl
 
-of-take : (w : World) (fs : List ℕ) → steps_of (take_by w fs).next ≡ next_queue queue_step.Take (first fs)
-of-take w [] = refl
-of-take w (f ∷ fs) = refl
+of-take : (w : World) (look : Look) (fs : List ℕ) →
+    steps_of (take_by w look fs).next ≡ next_queue (queue_step.Take (look_of look)) (first fs)
+of-take w (First mark) [] = refl
+of-take w (Second mark) [] = refl
+of-take w look (f ∷ fs) = refl
 
-of-append : (b : Bool) (w : World) (f : ℕ) → steps_of (append_by b w f).next ≡ next_queue (queue_step.Append f) (allowed b)
-of-append true w f = refl
-of-append false w f = refl
+of-append : (b : Bool) (w : World) (mark : Mark) (f : ℕ) →
+    steps_of (append_by b w mark f).next ≡ next_queue (queue_step.Append f) (allowed b)
+of-append true w mark f = refl
+of-append false w mark f = refl
 
 pub of-table : (p : ℕ) (h : Hint) (o : TableOp) (w : World) →
     steps_of (table_act p h o w).next ≡ next (step.Table (table_step_of o)) (seen_table h o w)
-of-table p h table_op.Enter w = of-enter (not (nat_lt (length w.table) w.limit)) h.refused p w
+of-table p h (table_op.Enter mark) w = of-enter (not (nat_lt (length w.table) w.limit)) h.refused mark p w
 of-table p h table_op.LookAtTable w = sym (of-look w.table)
 of-table p h (table_op.TakeToPoll f) w = refl
 of-table p h (table_op.PutBack f) w = refl
 of-table p h (table_op.TakeToDrop f) w = refl
 of-table p h (table_op.LeaveTable f) w = of-leave (among f w.table) w f
 
-pub of-queue : (o : QueueOp) (w : World) → steps_of (queue_act o w).next ≡ next (step.Queue (queue_step_of o)) (seen_queue o w)
-of-queue queue_op.Take w = of-take w w.queue.items
-of-queue (queue_op.Append f) w = of-append (not w.queue.closed && nat_lt (length w.queue.items) w.limit) w f
+pub of-queue : (p : ℕ) (o : QueueOp) (w : World) →
+    steps_of (queue_act p o w).next ≡ next (step.Queue (queue_step_of o)) (seen_queue o w)
+of-queue p queue_op.TakeTurn w = refl
+of-queue p (queue_op.Take look) w = of-take w look (queue_of w (mark_in look)).items
+of-queue p (queue_op.Append f) w = of-append (takes_more (queue_of w (mark_of w f)) w.limit) w (mark_of w f) f

@@ -1,12 +1,14 @@
 -- For ticks_are_exact, calls_at_rest_are_exact and lone_calls_are_exact.
 -- How a call is answered that begins at rest.
-use Rattle.std.proofs.Common.{◌≡◌, ◌≢◌, ◌⊎◌, ℕ, ◌<◌, ◌≤◌, List, [], ◌∷◌, ◌++◌, length, set, get_or}
+use Rattle.std.proofs.Common.{◌≡◌, ◌≢◌, ◌⊎◌, ℕ, ◌<◌, List, [], ◌∷◌, ◌++◌, length, set, get_or}
 use Rattle.std.proofs.Common.{Bool, true, false, ◌&&◌, not, ltb, refl, sym, ap, ◌∙◌, subst, inl, inr}
 use Rattle.std.proofs.Common.{⊎_elim, arith, get_or-set_same, get_or-set_other}
 use Rattle.std.proofs.Math.ListN.{length-set}
 use Rattle.std.proofs.lemmas.Bool.Decides.{nat_tests}
 use Rattle.std.proofs.lemmas.List.{append_assoc}
 use Rattle.std.specs.Prelude.{Option, Some, None}
+use Rattle.executor_parts.specs.declared.mark.Mark.{Mark}
+use Rattle.executor_parts.specs.Marks.{other}
 use Rattle.executor_model.specs.declared.call.Call.{Call}
 use Rattle.executor_model.specs.declared.call.Call.TheVariants as call
 use Rattle.executor_model.specs.declared.call.Reply.{Reply}
@@ -15,6 +17,7 @@ use Rattle.executor_model.specs.declared.event.Event.{Event}
 use Rattle.executor_model.specs.declared.event.Event.TheVariants as event
 use Rattle.executor_model.specs.declared.kind.Kind.{Kind}
 use Rattle.executor_model.specs.declared.op.Hold.TheVariants as hold
+use Rattle.executor_model.specs.declared.op.Look.TheVariants.{First, Second}
 use Rattle.executor_model.specs.declared.op.Op.{Op}
 use Rattle.executor_model.specs.declared.op.Op.TheVariants as op
 use Rattle.task_moves.specs.declared.moves.owed.Move.TheVariants as move
@@ -30,11 +33,11 @@ use Rattle.executor_model.specs.Trace.{Trace, has, is_drop_begun}
 use Rattle.executor_model.specs.Keeper.{IsCommon}
 use Rattle.executor_model.specs.Emptiness.{IsAtRest, IsQuietEmptinessExact, AnswersAlone, AllDropped, asks_alone}
 use Rattle.executor_model.specs.Quiet.{IsQuiet}
-use Rattle.executor_model.specs.Sound.{times}
 use Rattle.executor_model.specs.Good.{Good}
 use Rattle.executor_model.specs.Steps.{Machine, stack, top, unless, begin_refusal, part_refusal, refusal}
-use Rattle.executor_model.specs.Steps.{part_after, with_part, step_by, step, stepped, run, start}
-use Rattle.executor_model.proofs.Steps.Lists.{same_is}
+use Rattle.executor_model.specs.Steps.{onto, part, part_after, with_part, step_by, step, stepped, run, start}
+use Rattle.executor_model.specs.Acts.{take_by}
+use Rattle.executor_model.specs.World.{World, queue_of}
 use Rattle.executor_model.proofs.Steps.Lift.{good}
 use Rattle.executor_model.proofs.Steps.Stepping.{step-refused}
 use Rattle.executor_model.proofs.Emptiness.Quieting.{asking, quiet-empties}
@@ -42,14 +45,13 @@ use Rattle.executor_model.proofs.Polls.AskingExecutions.{Heard, heard}
 use Rattle.executor_model.proofs.Quiet.Resting.{Deep, deep}
 use Rattle.executor_model.proofs.Steps.TraceSteps.{IsContinued, run-continues}
 use Rattle.executor_laws.specs.AtRest.{BeginsAtRest, TicksAreExact, EmptinessIsExact}
-use Rattle.executor_laws.specs.Ticks.{ticks}
 use Rattle.executor_laws.proofs.Exactness.Finding.{Found, found, no-more}
 use Rattle.executor_laws.proofs.Exactness.Following.{IsAlone, first-of, follow}
 use Rattle.executor_laws.proofs.Exactness.Inside.{Inside, not-no}
 use Rattle.executor_laws.proofs.Placement.BoundWays.{Bonded, bonded}
 use Rattle.executor_laws.proofs.Placement.Placing.{unleaked, common-queue, here, idle, queue-common}
-use Rattle.executor_laws.proofs.Exactness.Ticking.{ticking, begun-alone}
-use Rattle.executor_laws.proofs.Exactness.Ticking.{gone-on-alone, finds-nothing, placed-there}
+use Rattle.executor_laws.proofs.Exactness.Ticking.{begun-alone, first-queued, in-seconding, in-ticking, in-turning, looked-first}
+use Rattle.executor_laws.proofs.Exactness.Ticking.{looked-second, none-queued, seconding, ticking, turn_of, turned-alone, turning}
 use Rattle.executor_model.specs.Rows.{leaking_of}
 use Rattle.executor_model.specs.Weights.{weigh_all}
 use Rattle.std.proofs.Common.{◌==◌}
@@ -104,66 +106,101 @@ module _ (s : Machine) (fine : Good s) (h : Heard s) (d : Deep s) (b : Bonded s)
   none : (q : ℕ) → stack s q ≡ []
   none q = idle s fine h d b rest q
 
-  two : (t : Hint) → run (ticks p t) s ≡ stepped (ticking s p) (step (ticking s p) (Go p t))
-  two t = ap (λ (m : Machine). stepped m (step m (Go p t))) (begun-alone s p l gone (none p) (unleaked s fine h d b rest))
+  leakless : weigh_all leaking_of s.parties ≡ 0
+  leakless = unleaked s fine h d b rest
 
   others : (os : List Op) (q : ℕ) → q ≢ p → get_or (set s.parties p os) q [] ≡ []
   others os q n = get_or-set_other s.parties p q os [] n ∙ none q
 
-  nothing-common : s.world.queue.items ≡ [] → (f : ℕ) → ¬ IsCommon f s.world.trace
-  nothing-common z f due = let k = common-queue s fine h d b rest f due in absurd (omega (arith, k, ap (times f) z))
+  abbrev look-first : List Op
+  look-first = op.Queue (queue_op.Take (First (turn_of s))) ∷ []
 
-  found-inside : (t : Hint) (f : ℕ) (xs : List ℕ) → s.world.queue.items ≡ f ∷ xs →
-      Inside p hold.Executor (run (ticks p t) s)
-  found-inside t f xs z = subst (Inside p hold.Executor) (sym (gone-on-alone s p l gone (none p) (unleaked s fine h d b rest) t (f ∷ xs) z))
-      (record {
-        within = omega (
-          arith,
-          l,
-          length-set s.parties p (op.Queue queue_op.Take ∷ []),
-          length-set (set s.parties p (op.Queue queue_op.Take ∷ [])) p
-              (op.End reply.Yes hold.Executor ∷ op.Move move.TakeUp f ∷ op.Sleeper sleeper_op.ExchangeFlag ∷ []),
-        );
-        rest = op.Move move.TakeUp f ∷ op.Sleeper sleeper_op.ExchangeFlag ∷ [];
-        here = placed-there s p l gone (none p) (unleaked s fine h d b rest)
-            (op.End reply.Yes hold.Executor ∷ op.Move move.TakeUp f ∷ op.Sleeper sleeper_op.ExchangeFlag ∷ []);
-        light = refl;
-        others = λ q n. get_or-set_other (set s.parties p (op.Queue queue_op.Take ∷ [])) p q
-            (op.End reply.Yes hold.Executor ∷ op.Move move.TakeUp f ∷ op.Sleeper sleeper_op.ExchangeFlag ∷ []) [] n
-            ∙ others (op.Queue queue_op.Take ∷ []) q n;
-      })
+  abbrev look-second : List Op
+  look-second = op.Queue (queue_op.Take (Second (other (turn_of s)))) ∷ []
 
-  tick-goes : (t : Hint) (ts : List Step) (items : List ℕ) → s.world.queue.items ≡ items →
-      (run ts (run (ticks p t) s)).world.trace ≡ (ticking s p).world.trace ++ e ∷ later → TickAnswered p s.world.trace e
-  tick-goes t ts [] z k =
-      let ended : (run (ticks p t) s).world.trace ≡ (ticking s p).world.trace ++ event.CallEnded p reply.No ∷ [] =
-      finds-nothing s p l gone (none p) (unleaked s fine h d b rest) t z
-      ∙ sym (append_assoc s.world.trace (event.CallBegun p call.TryTick ∷ []) (event.CallEnded p reply.No ∷ [])) in
-      let on : IsContinued ((ticking s p).world.trace ++ event.CallEnded p reply.No ∷ [])
-      (run ts (run (ticks p t) s)).world.trace =
-      subst (λ (xs : Trace). IsContinued xs (run ts (run (ticks p t) s)).world.trace) ended
-      (run-continues ts (run (ticks p t) s)) in
-      inl (
-        first-of (ticking s p).world.trace [] (run ts (run (ticks p t) s)).world.trace later e
-            (event.CallEnded p reply.No) on k,
-        nothing-common z,
-      )
-  tick-goes t ts (f ∷ xs) z k =
-      let short : (run (ticks p t) s).world.trace ≡ (ticking s p).world.trace =
-      ap (λ (m : Machine). m.world.trace) (gone-on-alone s p l gone (none p) (unleaked s fine h d b rest) t (f ∷ xs) z) in
-      inr (
-        not-no p hold.Executor e later alone ts (run (ticks p t) s) (found-inside t f xs z) (k
-            ∙ ap (λ (ys : Trace). ys ++ e ∷ later) (sym short)),
-        (f, queue-common s fine h d b rest f (subst (λ (ys : List ℕ). 1 ≤ times f ys) (sym z) (grind (arith, same_is)))),
-      )
+  others-turning : (q : ℕ) → q ≢ p → stack (turning s p) q ≡ []
+  others-turning q n = get_or-set_other (ticking s p).parties p q look-first [] n
+      ∙ others (op.Queue queue_op.TakeTurn ∷ []) q n
 
-  tick-next : (ts : List Step) → (run ts (ticking s p)).world.trace ≡ (ticking s p).world.trace ++ e ∷ later →
+  others-seconding : (q : ℕ) → q ≢ p → stack (seconding s p) q ≡ []
+  others-seconding q n = get_or-set_other (turning s p).parties p q look-second [] n ∙ others-turning q n
+
+  abbrev taking-up : ℕ → List Op
+  taking-up f = op.End reply.Yes hold.Executor ∷ op.Move move.TakeUp f ∷ op.Sleeper sleeper_op.ExchangeFlag ∷ []
+
+  -- it has found a future
+  found-inside : (m : Machine) (v : World) (f : ℕ) → p < length m.parties → ((q : ℕ) → q ≢ p → stack m q ≡ []) →
+      Inside p hold.Executor (with_part m p (part v (taking-up f)))
+  found-inside m v f i o = record {
+    within = omega (arith, i, length-set m.parties p (taking-up f));
+    rest = op.Move move.TakeUp f ∷ op.Sleeper sleeper_op.ExchangeFlag ∷ [];
+    here = get_or-set_same m.parties p (taking-up f) [] i;
+    light = refl;
+    others = λ q n. get_or-set_other m.parties p q (taking-up f) [] n ∙ o q n;
+  }
+
+  -- it looks at the second queue
+  second-next : (queue_of s.world (turn_of s)).items ≡ [] → (ts : List Step) →
+      (run ts (seconding s p)).world.trace ≡ (seconding s p).world.trace ++ e ∷ later → TickAnswered p s.world.trace e
+  second-next a ts k = follow (seconding s p) p (op.Queue (queue_op.Take (Second (other (turn_of s)))))
+      (get_or-set_same (turning s p).parties p look-second []
+      (in-turning s p l gone (none p) leakless))
+      others-seconding (λ u. refl) e later alone (TickAnswered p s.world.trace e)
+      (λ t us q. goes t us _ refl q) ts k
+    where
+      goes : (t : Hint) (us : List Step) (items : List ℕ) → (queue_of s.world (other (turn_of s))).items ≡ items →
+          (run us (stepped (seconding s p) (step (seconding s p) (Go p t)))).world.trace
+          ≡ (seconding s p).world.trace ++ e ∷ later → TickAnswered p s.world.trace e
+      goes t us [] z q =
+          let m : Machine = with_part (seconding s p) p
+          (onto p (take_by (seconding s p).world (Second (other (turn_of s))) []) []) in
+          let ran : (run us m).world.trace ≡ (seconding s p).world.trace ++ e ∷ later =
+          sym (ap (λ (x : Machine). (run us x).world.trace) (looked-second s p l gone (none p) leakless t [] z)) ∙ q in
+          inl (
+            first-of (seconding s p).world.trace [] (run us m).world.trace later e (event.CallEnded p reply.No)
+                (run-continues us m) ran,
+            λ f common. absurd (omega (
+              arith,
+              common-queue s fine h d b rest f common,
+              none-queued s.world (turn_of s) f a z,
+            )),
+          )
+      goes t us (f ∷ xs) z q =
+          let m : Machine = with_part (seconding s p) p
+          (onto p (take_by (seconding s p).world (Second (other (turn_of s))) (f ∷ xs)) []) in
+          let ran : (run us m).world.trace ≡ m.world.trace ++ e ∷ later =
+          sym (ap (λ (x : Machine). (run us x).world.trace) (looked-second s p l gone (none p) leakless t (f ∷ xs) z))
+          ∙ q in
+          inr (
+            not-no p hold.Executor e later alone us m
+                (found-inside (seconding s p) m.world f (in-seconding s p l gone (none p) leakless) others-seconding) ran,
+            (f, queue-common s fine h d b rest f (first-queued s.world (other (turn_of s)) f xs z)),
+          )
+
+  -- it looks at the first
+  first-next : (ts : List Step) → (run ts (turning s p)).world.trace ≡ (turning s p).world.trace ++ e ∷ later →
       TickAnswered p s.world.trace e
-  tick-next ts k = follow (ticking s p) p (op.Queue queue_op.Take)
-      (get_or-set_same s.parties p (op.Queue queue_op.Take ∷ []) [] l)
-      (others (op.Queue queue_op.Take ∷ [])) (λ u. refl) e later alone (TickAnswered p s.world.trace e)
-      (λ t us q. tick-goes t us s.world.queue.items refl (ap (λ (m : Machine). (run us m).world.trace) (two t) ∙ q)) ts
-      k
+  first-next ts k = follow (turning s p) p (op.Queue (queue_op.Take (First (turn_of s))))
+      (get_or-set_same (ticking s p).parties p look-first [] (in-ticking s p l gone (none p) leakless))
+      others-turning (λ u. refl) e later alone (TickAnswered p s.world.trace e)
+      (λ t us q. goes t us _ refl q) ts k
+    where
+      goes : (t : Hint) (us : List Step) (items : List ℕ) → (queue_of s.world (turn_of s)).items ≡ items →
+          (run us (stepped (turning s p) (step (turning s p) (Go p t)))).world.trace
+          ≡ (turning s p).world.trace ++ e ∷ later → TickAnswered p s.world.trace e
+      goes t us [] z q = second-next z us
+          (sym (ap (λ (x : Machine). (run us x).world.trace) (looked-first s p l gone (none p) leakless t [] z)) ∙ q)
+      goes t us (f ∷ xs) z q =
+          let m : Machine = with_part (turning s p) p
+          (onto p (take_by (turning s p).world (First (turn_of s)) (f ∷ xs)) []) in
+          let ran : (run us m).world.trace ≡ m.world.trace ++ e ∷ later =
+          sym (ap (λ (x : Machine). (run us x).world.trace) (looked-first s p l gone (none p) leakless t (f ∷ xs) z))
+          ∙ q in
+          inr (
+            not-no p hold.Executor e later alone us m
+                (found-inside (turning s p) m.world f (in-turning s p l gone (none p) leakless) others-turning) ran,
+            (f, queue-common s fine h d b rest f (first-queued s.world (turn_of s) f xs z)),
+          )
 
   asks-two : (t : Hint) → run (asks_alone p t) s ≡ stepped (asking s p) (step (asking s p) (Go p t))
   asks-two t = ap (λ (m : Machine). stepped m (step m (Go p t))) (asks s p l gone (none p) (unleaked s fine h d b rest))
@@ -198,10 +235,44 @@ module _ (s : Machine) (fine : Good s) (h : Heard s) (d : Deep s) (b : Bonded s)
       ))
       (exact.answered rest p t l)) ts k
 
+-- first it takes a turn
+
+module _ (s : Machine) (fine : Good s) (h : Heard s) (d : Deep s) (b : Bonded s) (rest : IsAtRest s) (p : ℕ) (l : p < length s.parties)
+    (e : Event) (later : Trace) (alone : IsAlone e) where
+  -- then what comes next is that turn, and this is left to run
+  record Turned (ts : List Step) : Type 0 where
+    is : e ≡ event.Looked p (turn_of s)
+    steps : List Step
+    left : (run steps (turning s p)).world.trace ≡ (turning s p).world.trace ++ later
+
+  turn-next : (ts : List Step) → (run ts (ticking s p)).world.trace ≡ (ticking s p).world.trace ++ e ∷ later → Turned ts
+  turn-next ts k = follow (ticking s p) p (op.Queue queue_op.TakeTurn)
+      (get_or-set_same s.parties p (op.Queue queue_op.TakeTurn ∷ []) [] l)
+      (λ q n. get_or-set_other s.parties p q (op.Queue queue_op.TakeTurn ∷ []) [] n ∙ idle s fine h d b rest q)
+      (λ u. refl) e later alone (Turned ts) goes ts k
+    where
+      goes : (t : Hint) (us : List Step) →
+          (run us (stepped (ticking s p) (step (ticking s p) (Go p t)))).world.trace
+          ≡ (ticking s p).world.trace ++ e ∷ later → Turned ts
+      goes t us q =
+          let ran : (run us (turning s p)).world.trace ≡ (ticking s p).world.trace ++ e ∷ later =
+          sym (ap (λ (x : Machine). (run us x).world.trace)
+          (turned-alone s p l (here s fine h d b rest) (idle s fine h d b rest p) (unleaked s fine h d b rest) t)) ∙ q in
+          let is : e ≡ event.Looked p (turn_of s) =
+          first-of (ticking s p).world.trace [] (run us (turning s p)).world.trace later e
+          (event.Looked p (turn_of s)) (run-continues us (turning s p)) ran in
+          record {
+            is = is;
+            steps = us;
+            left = ran
+                ∙ (ap (λ (x : Event). (ticking s p).world.trace ++ x ∷ later) is
+                ∙ sym (append_assoc (ticking s p).world.trace (event.Looked p (turn_of s) ∷ []) later));
+          }
+
 -- a run whose trace has the beginning of the call
 
-module _ (limit : ℕ) (kind : Kind) (parties : ℕ) (steps : List Step) (p : ℕ) (c : Call) (before : Trace) (next : Event)
-    (b : BeginsAtRest p c before next (run steps (start limit kind parties)).world.trace)
+module _ (limit : ℕ) (kind : Kind) (parties : ℕ) (steps : List Step) (p : ℕ) (c : Call) (turns before : Trace) (next : Event)
+    (b : BeginsAtRest p c turns before next (run steps (start limit kind parties)).world.trace)
     (f : Found p c before steps (start limit kind parties)) where
   abbrev moment : Machine
   moment = run f.steps (start limit kind parties)
@@ -215,43 +286,104 @@ module _ (limit : ℕ) (kind : Kind) (parties : ℕ) (steps : List Step) (p : �
   -- what is left to run, from the machine in which the call has begun
   runs-on : (m : Machine) → stepped moment (step moment (Begin p c)) ≡ m →
       m.world.trace ≡ moment.world.trace ++ event.CallBegun p c ∷ [] →
-      (run f.behind m).world.trace ≡ m.world.trace ++ next ∷ b.later
+      (run f.behind m).world.trace ≡ m.world.trace ++ (turns ++ next ∷ b.later)
   runs-on m e t =
       ap (λ (x : Machine). (run f.behind x).world.trace) (sym e)
       ∙ (ap (λ (x : Machine). x.world.trace) f.goes
       ∙ (b.parts
-      ∙ (ap (λ (xs : Trace). xs ++ event.CallBegun p c ∷ next ∷ b.later) (sym f.here)
-      ∙ (sym (append_assoc moment.world.trace (event.CallBegun p c ∷ []) (next ∷ b.later))
-      ∙ ap (λ (xs : Trace). xs ++ next ∷ b.later) (sym t)))))
+      ∙ (ap (λ (xs : Trace). xs ++ event.CallBegun p c ∷ (turns ++ next ∷ b.later)) (sym f.here)
+      ∙ (sym (append_assoc moment.world.trace (event.CallBegun p c ∷ []) (turns ++ next ∷ b.later))
+      ∙ ap (λ (xs : Trace). xs ++ (turns ++ next ∷ b.later)) (sym t)))))
 
-tick-told : (limit : ℕ) (kind : Kind) (parties : ℕ) (steps : List Step) (p : ℕ) (before : Trace) (next : Event) →
-    BeginsAtRest p call.TryTick before next (run steps (start limit kind parties)).world.trace → TickAnswered p before next
-tick-told limit kind parties steps p before next b =
+looked-alone : (p : ℕ) (m : Mark) → IsAlone (event.Looked p m)
+looked-alone p m q c z = absurd (cc)
+
+-- a run whose trace has the beginning of a tick
+
+module _ (limit : ℕ) (kind : Kind) (parties : ℕ) (steps : List Step) (p : ℕ) (turns before : Trace) (next : Event)
+    (b : BeginsAtRest p call.TryTick turns before next (run steps (start limit kind parties)).world.trace) where
+  begun-there : Found p call.TryTick before steps (start limit kind parties)
+  begun-there = found p call.TryTick before (turns ++ next ∷ b.later) steps (start limit kind parties) before refl b.parts
+
+  abbrev there : Machine
+  there = run begun-there.steps (start limit kind parties)
+
+  fine-there : Good there
+  fine-there = good limit kind parties begun-there.steps
+
+  heard-there : Heard there
+  heard-there = heard limit kind parties begun-there.steps
+
+  deep-there : Deep there
+  deep-there = deep limit kind parties begun-there.steps
+
+  bonded-there : Bonded there
+  bonded-there = bonded limit kind parties begun-there.steps
+
+  rest-there : IsAtRest there
+  rest-there = at-rest limit kind parties steps p call.TryTick turns before next b begun-there
+
+  in-there : p < length there.parties
+  in-there = party-there limit kind parties steps p call.TryTick turns before next b begun-there
+
+  ticks-there : (run begun-there.behind (ticking there p)).world.trace
+      ≡ (ticking there p).world.trace ++ (turns ++ next ∷ b.later)
+  ticks-there = runs-on limit kind parties steps p call.TryTick turns before next b begun-there (ticking there p)
+      (begun-alone there p in-there (here there fine-there heard-there deep-there bonded-there rest-there)
+      (idle there fine-there heard-there deep-there bonded-there rest-there p)
+      (unleaked there fine-there heard-there deep-there bonded-there rest-there)) refl
+
+tick-turns : (limit : ℕ) (kind : Kind) (parties : ℕ) (steps : List Step) (p : ℕ) (before : Trace) (next : Event) →
+    BeginsAtRest p call.TryTick [] before next (run steps (start limit kind parties)).world.trace →
+    (m : Mark) × (next ≡ event.Looked p m)
+tick-turns limit kind parties steps p before next b =
+    let s : Machine = there limit kind parties steps p [] before next b in
+    let fine : Good s = fine-there limit kind parties steps p [] before next b in
+    let h : Heard s = heard-there limit kind parties steps p [] before next b in
+    let d : Deep s = deep-there limit kind parties steps p [] before next b in
+    let e : Bonded s = bonded-there limit kind parties steps p [] before next b in
+    let r : IsAtRest s = rest-there limit kind parties steps p [] before next b in
+    let l : p < length s.parties = in-there limit kind parties steps p [] before next b in (
+      turn_of s,
+      (turn-next s fine h d e r p l next b.later b.alone
+          (begun-there limit kind parties steps p [] before next b).behind
+          (ticks-there limit kind parties steps p [] before next b)).is,
+    )
+
+tick-told : (limit : ℕ) (kind : Kind) (parties : ℕ) (steps : List Step) (p : ℕ) (before : Trace) (next : Event) (m : Mark) →
+    BeginsAtRest p call.TryTick (event.Looked p m ∷ []) before next (run steps (start limit kind parties)).world.trace →
+    TickAnswered p before next
+tick-told limit kind parties steps p before next m b =
+    let turns : Trace = event.Looked p m ∷ [] in
     let f : Found p call.TryTick before steps (start limit kind parties) =
-    found p call.TryTick before (next ∷ b.later) steps (start limit kind parties) before refl b.parts in
-    let s : Machine = run f.steps (start limit kind parties) in
-    let fine : Good s = good limit kind parties f.steps in
-    let h : Heard s = heard limit kind parties f.steps in
-    let d : Deep s = deep limit kind parties f.steps in
-    let e : Bonded s = bonded limit kind parties f.steps in
-    let r : IsAtRest s = at-rest limit kind parties steps p call.TryTick before next b f in
-    let l : p < length s.parties = party-there limit kind parties steps p call.TryTick before next b f in
+    begun-there limit kind parties steps p turns before next b in
+    let s : Machine = there limit kind parties steps p turns before next b in
+    let fine : Good s = fine-there limit kind parties steps p turns before next b in
+    let h : Heard s = heard-there limit kind parties steps p turns before next b in
+    let d : Deep s = deep-there limit kind parties steps p turns before next b in
+    let e : Bonded s = bonded-there limit kind parties steps p turns before next b in
+    let r : IsAtRest s = rest-there limit kind parties steps p turns before next b in
+    let l : p < length s.parties = in-there limit kind parties steps p turns before next b in
+    let x : Turned s fine h d e r p l (event.Looked p m) (next ∷ b.later) (looked-alone p m) f.behind =
+    turn-next s fine h d e r p l (event.Looked p m) (next ∷ b.later) (looked-alone p m) f.behind
+    (ticks-there limit kind parties steps p turns before next b) in
     subst (λ (es : Trace). TickAnswered p es next) f.here
-    (tick-next s fine h d e r p l next b.later b.alone f.behind
-    (runs-on limit kind parties steps p call.TryTick before next b f (ticking s p)
-    (begun-alone s p l (here s fine h d e r) (idle s fine h d e r p) (unleaked s fine h d e r)) refl))
+    (first-next s fine h d e r p l next b.later b.alone x.steps x.left)
 
 pub ticks-are-exact : (limit : ℕ) (kind : Kind) (parties : ℕ) (steps : List Step) (p : ℕ) →
     TicksAreExact p (run steps (start limit kind parties)).world.trace
-ticks-are-exact limit kind parties steps p before next b = ⊎_elim
-    (λ (x : (next ≡ event.CallEnded p reply.No) × ((f : ℕ) → ¬ IsCommon f before)). (λ e. x.1, λ n. x.0))
-    (λ (x : (next ≢ event.CallEnded p reply.No) × ((f : ℕ) × IsCommon f before)). let due : (f : ℕ) × IsCommon f before =
-    x.1 in
-    (λ e. absurd (x.0 e), λ n. absurd (n due.0 due.1)))
-    (tick-told limit kind parties steps p before next b)
+ticks-are-exact limit kind parties steps p = record {
+  turns = λ before next b. tick-turns limit kind parties steps p before next b;
+  no = λ before next m b. ⊎_elim
+      (λ (x : (next ≡ event.CallEnded p reply.No) × ((f : ℕ) → ¬ IsCommon f before)). (λ e. x.1, λ n. x.0))
+      (λ (x : (next ≢ event.CallEnded p reply.No) × ((f : ℕ) × IsCommon f before)). let due : (f : ℕ) × IsCommon f before =
+      x.1 in
+      (λ e. absurd (x.0 e), λ n. absurd (n due.0 due.1)))
+      (tick-told limit kind parties steps p before next m b);
+}
 
 empty-told : (limit : ℕ) (kind : Kind) (parties : ℕ) (steps : List Step) (p : ℕ) (before : Trace) (next : Event) →
-    BeginsAtRest p call.IsEmpty before next (run steps (start limit kind parties)).world.trace → EmptyAnswered p before next
+    BeginsAtRest p call.IsEmpty [] before next (run steps (start limit kind parties)).world.trace → EmptyAnswered p before next
 empty-told limit kind parties steps p before next b =
     let f : Found p call.IsEmpty before steps (start limit kind parties) =
     found p call.IsEmpty before (next ∷ b.later) steps (start limit kind parties) before refl b.parts in
@@ -260,11 +392,11 @@ empty-told limit kind parties steps p before next b =
     let h : Heard s = heard limit kind parties f.steps in
     let d : Deep s = deep limit kind parties f.steps in
     let e : Bonded s = bonded limit kind parties f.steps in
-    let r : IsAtRest s = at-rest limit kind parties steps p call.IsEmpty before next b f in
-    let l : p < length s.parties = party-there limit kind parties steps p call.IsEmpty before next b f in
+    let r : IsAtRest s = at-rest limit kind parties steps p call.IsEmpty [] before next b f in
+    let l : p < length s.parties = party-there limit kind parties steps p call.IsEmpty [] before next b f in
     subst (λ (es : Trace). EmptyAnswered p es next) f.here
     (asked-next s fine h d e r p l next b.later b.alone (quiet-empties limit kind parties f.steps) f.behind
-    (runs-on limit kind parties steps p call.IsEmpty before next b f (asking s p)
+    (runs-on limit kind parties steps p call.IsEmpty [] before next b f (asking s p)
     (asks s p l (here s fine h d e r) (idle s fine h d e r p) (unleaked s fine h d e r)) refl))
 
 pub emptiness-is-exact : (limit : ℕ) (kind : Kind) (parties : ℕ) (steps : List Step) (p : ℕ) →

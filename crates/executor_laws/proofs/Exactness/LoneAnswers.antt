@@ -4,8 +4,8 @@ use Rattle.std.proofs.Common.{◌≡◌, ◌⊎◌, ℕ, ◌<◌, List, [], ◌�
 use Rattle.std.proofs.Common.{subst, inl, inr, ⊎_elim, arith, Ok, get_or-set_same}
 use Rattle.std.proofs.Math.ListN.{length-set}
 use Rattle.std.proofs.lemmas.Bool.Decides.{nat_tests}
-use Rattle.std.proofs.lemmas.List.{append_assoc}
 use Rattle.std.specs.Prelude.{Some, None}
+use Rattle.executor_parts.specs.Marks.{first_of}
 use Rattle.executor_model.specs.declared.call.Call.{Call}
 use Rattle.executor_model.specs.declared.call.Call.TheVariants as call
 use Rattle.executor_model.specs.declared.call.Reply.{Reply}
@@ -23,7 +23,6 @@ use Rattle.executor_model.specs.Emptiness.{AllDropped, AnswersAlone, IsAtRest, I
 use Rattle.executor_model.specs.Keeper.{IsCommon}
 use Rattle.executor_model.specs.Acts.{look_at_table}
 use Rattle.executor_model.specs.Executions.{run_all}
-use Rattle.executor_model.specs.Sound.{times}
 use Rattle.executor_model.specs.World.{log}
 use Rattle.executor_model.specs.Steps.{Machine, stack, top, answer_refusal, onto, part_after}
 use Rattle.executor_model.specs.Steps.{with_part, after, refusal, run, start}
@@ -34,11 +33,11 @@ use Rattle.executor_laws.specs.LoneAnswers.{IsAnswered, IsLoneEmptinessExact, Is
 use Rattle.executor_laws.specs.LoneEnds.{are_onward_of, IsLoneCall}
 use Rattle.executor_laws.proofs.Reach.Reached.{bonded-here, heard-here}
 use Rattle.executor_laws.specs.Reach.{TakesCommon}
-use Rattle.executor_laws.proofs.Placement.Placing.{idle, queue-common}
-use Rattle.executor_laws.proofs.Exactness.Ticking.{first-times}
+use Rattle.executor_laws.proofs.Placement.Placing.{idle}
 use Rattle.executor_laws.proofs.Reach.LoneTicks.{left-true, in-range, of-party, after-is, no-more}
+use Rattle.executor_laws.proofs.Reach.Spots.{AllEmpty, Spot, spot}
 use Rattle.executor_laws.proofs.Reach.Searching.{First, first-taken, none-found}
-use Rattle.executor_laws.proofs.Reach.Reaching.{takes-common}
+use Rattle.executor_laws.proofs.Reach.Reaching.{spot-common, takes-common}
 
 -- a call has one answer
 
@@ -65,31 +64,24 @@ one-answer p c a b s new x y =
 
 module _ (s : Machine) (r : Reached s) (rest : IsAtRest s) (p : ℕ) (steps : List Step) (new : Machine)
     (k : IsLoneCall p call.TryTick steps s new) where
-  nothing : s.world.queue.items ≡ [] → IsAnswered p call.TryTick reply.No s new
-  nothing q = (
-    [],
-    sym (ap (λ (m : Machine). m.world.trace) (none-found s r rest p steps new k q))
-        ∙ append_assoc s.world.trace (event.CallBegun p call.TryTick ∷ []) (event.CallEnded p reply.No ∷ []),
-  )
+  nothing : AllEmpty s.world → IsAnswered p call.TryTick reply.No s new
+  nothing e = (event.Looked p (first_of s.world.urgent_turns) ∷ [], none-found s r rest p steps new k e)
 
-  something : (f : ℕ) (xs : List ℕ) → s.world.queue.items ≡ f ∷ xs → IsAnswered p call.TryTick reply.Yes s new
-  something f xs q = let t : First f xs p call.TryTick reply.Yes s new =
-      first-taken s r rest p call.TryTick reply.Yes refl steps new k f xs q in (t.meanwhile, t.events)
+  something : Spot s.world → IsAnswered p call.TryTick reply.Yes s new
+  something x = let t : First x.mark x.future p call.TryTick reply.Yes s new =
+      first-taken s r rest p call.TryTick reply.Yes refl steps new k x in (t.meanwhile, t.events)
 
-  tick-answered : (items : List ℕ) → s.world.queue.items ≡ items →
-      IsAnswered p call.TryTick reply.Yes s new ⊎ IsAnswered p call.TryTick reply.No s new
-  tick-answered [] q = inr (nothing q)
-  tick-answered (f ∷ xs) q = inl (something f xs q)
+  tick-answered : IsAnswered p call.TryTick reply.Yes s new ⊎ IsAnswered p call.TryTick reply.No s new
+  tick-answered = ⊎_elim
+      (λ (e : AllEmpty s.world). inr (nothing e))
+      (λ (x : Spot s.world). inl (something x))
+      (spot s.world)
 
-  tick-none : (items : List ℕ) → s.world.queue.items ≡ items → ((f : ℕ) → ¬ IsCommon f s.world.trace) →
-      IsAnswered p call.TryTick reply.No s new
-  tick-none [] q z = nothing q
-  tick-none (f ∷ xs) q z =
-      absurd (z f (queue-common s (good-here s r) (heard-here s r) (deep-here s r) (bonded-here s r) rest f (omega (
-        arith,
-        ap (times f) q,
-        first-times f xs,
-      ))))
+  tick-none : ((f : ℕ) → ¬ IsCommon f s.world.trace) → IsAnswered p call.TryTick reply.No s new
+  tick-none z = ⊎_elim
+      (λ (e : AllEmpty s.world). nothing e)
+      (λ (x : Spot s.world). absurd (z x.future (spot-common s r rest x)))
+      (spot s.world)
 
   tick-only : IsAnswered p call.TryTick reply.No s new → (f : ℕ) → ¬ IsCommon f s.world.trace
   tick-only a f c =
@@ -208,9 +200,9 @@ module _ (s : Machine) (r : Reached s) (rest : IsAtRest s) (p : ℕ) (steps : Li
 
 lone-tick : (s : Machine) → Reached s → IsLoneTickExact s
 lone-tick s r = record {
-  answered = λ rest p steps new k. tick-answered s r rest p steps new k s.world.queue.items refl;
+  answered = λ rest p steps new k. tick-answered s r rest p steps new k;
   no = λ rest p steps new k.
-      (λ a. tick-only s r rest p steps new k a, λ z. tick-none s r rest p steps new k s.world.queue.items refl z);
+      (λ a. tick-only s r rest p steps new k a, λ z. tick-none s r rest p steps new k z);
 }
 
 lone-emptiness : (s : Machine) → Reached s → IsLoneEmptinessExact s

@@ -1,17 +1,21 @@
 -- For ticks_are_exact, calls_at_rest_are_exact and lone_calls_are_exact.
 -- Where no call is in progress, a tick finds a future exactly where one is common.
-use Rattle.std.proofs.Common.{◌≡◌, ◌⊎◌, ℕ, ◌<◌, ◌≤◌, List, [], ◌∷◌, ◌++◌, length, set, get_or}
-use Rattle.std.proofs.Common.{Bool, true, false, ◌&&◌, not, refl, sym, ap, ◌∙◌, subst, inl, inr}
+use Rattle.std.proofs.Common.{◌≡◌, ◌⊎◌, ℕ, ◌<◌, ◌≤◌, List, [], ◌∷◌, ◌++◌, length, set}
+use Rattle.std.proofs.Common.{Bool, true, false, ◌&&◌, not, refl, sym, ap, ◌∙◌, inl, inr}
 use Rattle.std.proofs.Common.{arith, get_or-set_same, length-append}
 use Rattle.std.proofs.Math.ListN.{length-set}
 use Rattle.std.proofs.lemmas.Bool.Decides.{nat_tests}
 use Rattle.std.proofs.lemmas.List.{append_assoc}
 use Rattle.std.specs.Prelude.{Option, None, nat_lt}
+use Rattle.executor_parts.specs.declared.mark.Mark.{Mark}
+use Rattle.executor_parts.specs.declared.mark.Mark.TheVariants.{Plain, Urgent}
+use Rattle.executor_parts.specs.Marks.{first_of, other}
 use Rattle.executor_model.specs.declared.call.Call.TheVariants as call
 use Rattle.executor_model.specs.declared.call.Reply.TheVariants as reply
 use Rattle.executor_model.specs.declared.event.Event.TheVariants as event
 use Rattle.executor_model.specs.declared.kind.Kind.{Kind}
 use Rattle.executor_model.specs.declared.op.Hold.TheVariants as hold
+use Rattle.executor_model.specs.declared.op.Look.TheVariants.{First, Second}
 use Rattle.executor_model.specs.declared.op.Op.{Op}
 use Rattle.executor_model.specs.declared.op.Op.TheVariants as op
 use Rattle.task_moves.specs.declared.moves.owed.Move.TheVariants as move
@@ -24,14 +28,17 @@ use Rattle.executor_model.specs.declared.step.StepError.{StepError}
 use Rattle.executor_model.specs.declared.step.StepError.TheVariants.{NoSuch, Gone}
 use Rattle.executor_model.specs.Keeper.{IsCommon}
 use Rattle.executor_model.specs.Emptiness.{IsAtRest}
-use Rattle.executor_model.specs.World.{log}
-use Rattle.executor_model.specs.Acts.{take_by}
+use Rattle.executor_model.specs.Trace.{Trace}
+use Rattle.executor_model.specs.World.{World, log, queue_of, queued_in}
+use Rattle.executor_model.specs.Acts.{take_by, turned}
+use Rattle.executor_model.specs.ActsOfSleepers.{exchange_by}
 use Rattle.executor_model.specs.Sound.{times}
 use Rattle.executor_model.specs.Good.{Good}
 use Rattle.executor_model.specs.Steps.{Machine, stack, top, step, step_by, stepped, refusal, unless, begin_refusal}
-use Rattle.executor_model.specs.Steps.{go_refusal, onto, part_after, with_part, run, start}
+use Rattle.executor_model.specs.Steps.{go_refusal, onto, part, part_after, with_part, run, start}
 use Rattle.executor_model.proofs.Steps.Lists.{same_is}
 use Rattle.executor_model.proofs.Steps.Lift.{good}
+use Rattle.executor_model.proofs.Steps.QueuesByMark.{times-all, times-one}
 use Rattle.executor_model.proofs.Polls.AskingExecutions.{Heard, heard}
 use Rattle.executor_model.proofs.Quiet.Resting.{Deep, deep}
 use Rattle.executor_laws.specs.Ticks.{ticks, FindsNothing, FindsCommon, IsTickExact}
@@ -41,13 +48,39 @@ use Rattle.executor_model.specs.Rows.{leaking_of}
 use Rattle.executor_model.specs.Weights.{weigh_all}
 use Rattle.std.proofs.Common.{◌==◌}
 
--- the machine in which p has called a tick, and has still to take
+-- the machine in which p has called a tick, and has still to take its turn
 abbrev pub ticking : Machine → ℕ → Machine
 ticking s p =
     record {
       world = log s.world (event.CallBegun p call.TryTick);
-      parties = set s.parties p (op.Queue queue_op.Take ∷ []);
+      parties = set s.parties p (op.Queue queue_op.TakeTurn ∷ []);
     }
+
+-- which queue the turn names
+abbrev pub turn_of : Machine → Mark
+turn_of s = first_of s.world.urgent_turns
+
+-- it has taken its turn, and looks at that queue first
+abbrev pub turning : Machine → ℕ → Machine
+turning s p = with_part (ticking s p) p
+    (part (turned p (ticking s p).world) (op.Queue (queue_op.Take (First (turn_of s))) ∷ []))
+
+-- it looks at the other queue
+abbrev pub seconding : Machine → ℕ → Machine
+seconding s p = with_part (turning s p) p
+    (part (turning s p).world (op.Queue (queue_op.Take (Second (other (turn_of s)))) ∷ []))
+
+-- a step by which a party goes on
+pub goes-alone : (m : Machine) (p : ℕ) (t : Hint) (os : List Op) → p < length m.parties → stack m p ≡ os →
+    go_refusal m.world (top os) ≡ None → stepped m (step m (Go p t)) ≡ with_part m p (part_after m.world os (Go p t))
+unfolding step
+goes-alone m p t os l e g =
+    let there : nat_lt p (length m.parties) ≡ true = grind (arith, nat_tests) in
+    let r : refusal m (Go p t) ≡ None =
+    ap (λ (b : Bool). unless b NoSuch (go_refusal m.world (top (stack m p)))) there
+    ∙ (ap (λ (xs : List Op). go_refusal m.world (top xs)) e ∙ g) in
+    ap (λ (x : Option StepError). stepped m (step_by x m (Go p t))) r
+    ∙ ap (λ (xs : List Op). with_part m p (part_after m.world xs (Go p t))) e
 
 -- a tick alone
 
@@ -66,85 +99,178 @@ module _ (s : Machine) (p : ℕ) (l : p < length s.parties) (n : s.world.gone �
   begun-alone = ap (λ (x : Option StepError). stepped s (step_by x s (Begin p call.TryTick))) none-refused
       ∙ ap (λ (os : List Op). with_part s p (part_after s.world os (Begin p call.TryTick))) e
 
-  pub taking : stack (ticking s p) p ≡ op.Queue queue_op.Take ∷ []
-  taking = get_or-set_same s.parties p (op.Queue queue_op.Take ∷ []) [] l
+  within : (x : List Op) (ss : List (List Op)) → p < length ss → p < length (set ss p x)
+  within x ss m = omega (arith, m, length-set ss p x)
 
-  there : nat_lt p (length (ticking s p).parties) ≡ true
-  there = let m : p < length (set s.parties p (op.Queue queue_op.Take ∷ [])) =
-      omega (arith, l, length-set s.parties p (op.Queue queue_op.Take ∷ [])) in grind (arith, nat_tests)
+  pub in-ticking : p < length (ticking s p).parties
+  in-ticking = within (op.Queue queue_op.TakeTurn ∷ []) s.parties l
 
-  goes-on : (t : Hint) → refusal (ticking s p) (Go p t) ≡ None
-  goes-on t = ap (λ (b : Bool). unless b NoSuch (go_refusal (ticking s p).world (top (stack (ticking s p) p)))) there
-      ∙ ap (λ (os : List Op). go_refusal (ticking s p).world (top os)) taking
+  pub in-turning : p < length (turning s p).parties
+  in-turning = within (op.Queue (queue_op.Take (First (turn_of s))) ∷ []) (ticking s p).parties in-ticking
 
-  pub gone-on-alone : (t : Hint) (items : List ℕ) → s.world.queue.items ≡ items →
-      run (ticks p t) s ≡ with_part (ticking s p) p (onto p (take_by (ticking s p).world items) [])
-  unfolding step
-  gone-on-alone t items q =
-      ap (λ (m : Machine). stepped m (step m (Go p t))) begun-alone
-      ∙ (ap (λ (x : Option StepError). stepped (ticking s p) (step_by x (ticking s p) (Go p t))) (goes-on t)
-      ∙ (ap (λ (os : List Op). with_part (ticking s p) p (part_after (ticking s p).world os (Go p t))) taking
-      ∙ ap (λ (xs : List ℕ). with_part (ticking s p) p (onto p (take_by (ticking s p).world xs) [])) q))
+  pub in-seconding : p < length (seconding s p).parties
+  in-seconding = within (op.Queue (queue_op.Take (Second (other (turn_of s)))) ∷ []) (turning s p).parties in-turning
 
-  pub placed-there : (os : List Op) → get_or (set (ticking s p).parties p os) p [] ≡ os
-  placed-there os = get_or-set_same (ticking s p).parties p os []
-      (omega (arith, l, length-set s.parties p (op.Queue queue_op.Take ∷ [])))
+  pub turned-alone : (t : Hint) → stepped (ticking s p) (step (ticking s p) (Go p t)) ≡ turning s p
+  turned-alone t = goes-alone (ticking s p) p t (op.Queue queue_op.TakeTurn ∷ []) in-ticking
+      (get_or-set_same s.parties p (op.Queue queue_op.TakeTurn ∷ []) [] l) refl
 
-  pub finds-nothing : (t : Hint) → s.world.queue.items ≡ [] → FindsNothing s p t
-  finds-nothing t q = ap (λ (m : Machine). m.world.trace) (gone-on-alone t [] q)
-      ∙ append_assoc s.world.trace (event.CallBegun p call.TryTick ∷ []) (event.CallEnded p reply.No ∷ [])
+  pub looked-first : (t : Hint) (items : List ℕ) → (queue_of s.world (turn_of s)).items ≡ items →
+      stepped (turning s p) (step (turning s p) (Go p t))
+      ≡ with_part (turning s p) p (onto p (take_by (turning s p).world (First (turn_of s)) items) [])
+  looked-first t items q = goes-alone (turning s p) p t (op.Queue (queue_op.Take (First (turn_of s))) ∷ []) in-turning
+      (get_or-set_same (ticking s p).parties p (op.Queue (queue_op.Take (First (turn_of s))) ∷ []) [] in-ticking) refl
+      ∙ ap (λ (xs : List ℕ). with_part (turning s p) p (onto p (take_by (turning s p).world (First (turn_of s)) xs) [])) q
 
-  finds-one : (t : Hint) (f : ℕ) (xs : List ℕ) → s.world.queue.items ≡ f ∷ xs →
-      stack (run (ticks p t) s) p ≡ op.End reply.Yes hold.Executor ∷ op.Move move.TakeUp f
-      ∷ op.Sleeper sleeper_op.ExchangeFlag ∷ []
-  finds-one t f xs q = ap (λ (m : Machine). stack m p) (gone-on-alone t (f ∷ xs) q)
-      ∙ placed-there (op.End reply.Yes hold.Executor ∷ op.Move move.TakeUp f ∷ op.Sleeper sleeper_op.ExchangeFlag ∷ [])
+  pub looked-second : (t : Hint) (items : List ℕ) → (queue_of s.world (other (turn_of s))).items ≡ items →
+      stepped (seconding s p) (step (seconding s p) (Go p t))
+      ≡ with_part (seconding s p) p (onto p (take_by (seconding s p).world (Second (other (turn_of s))) items) [])
+  looked-second t items q =
+      goes-alone (seconding s p) p t (op.Queue (queue_op.Take (Second (other (turn_of s)))) ∷ []) in-seconding
+      (get_or-set_same (turning s p).parties p (op.Queue (queue_op.Take (Second (other (turn_of s)))) ∷ []) [] in-turning)
+      refl
+      ∙ ap (λ (xs : List ℕ). with_part (seconding s p) p
+      (onto p (take_by (seconding s p).world (Second (other (turn_of s))) xs) [])) q
 
-  not-nothing : (t : Hint) (f : ℕ) (xs : List ℕ) → s.world.queue.items ≡ f ∷ xs → ¬ FindsNothing s p t
-  not-nothing t f xs q z =
-      let short : (run (ticks p t) s).world.trace ≡ s.world.trace ++ event.CallBegun p call.TryTick ∷ [] =
-      ap (λ (m : Machine). m.world.trace) (gone-on-alone t (f ∷ xs) q) in
-      absurd (omega (
-        arith,
-        ap length (sym short ∙ z),
-        length-append s.world.trace (event.CallBegun p call.TryTick ∷ []),
-        length-append s.world.trace (event.CallBegun p call.TryTick ∷ event.CallEnded p reply.No ∷ []),
-      ))
+  pub first-on : (t : Hint) (items : List ℕ) → (queue_of s.world (turn_of s)).items ≡ items →
+      run (ticks false p t) s
+      ≡ with_part (turning s p) p (onto p (take_by (turning s p).world (First (turn_of s)) items) [])
+  first-on t items q = ap (λ (m : Machine). run (Go p t ∷ Go p t ∷ []) m) begun-alone
+      ∙ (ap (λ (m : Machine). run (Go p t ∷ []) m) (turned-alone t) ∙ looked-first t items q)
+
+  pub second-on : (t : Hint) (items : List ℕ) → (queue_of s.world (turn_of s)).items ≡ [] →
+      (queue_of s.world (other (turn_of s))).items ≡ items →
+      run (ticks true p t) s
+      ≡ with_part (seconding s p) p (onto p (take_by (seconding s p).world (Second (other (turn_of s))) items) [])
+  second-on t items none q = ap (λ (m : Machine). run (Go p t ∷ Go p t ∷ Go p t ∷ []) m) begun-alone
+      ∙ (ap (λ (m : Machine). run (Go p t ∷ Go p t ∷ []) m) (turned-alone t)
+      ∙ (ap (λ (m : Machine). run (Go p t ∷ []) m) (looked-first t [] none)
+      ∙ looked-second t items q))
+
+  pub finds-nothing : (t : Hint) → (queue_of s.world (turn_of s)).items ≡ [] →
+      (queue_of s.world (other (turn_of s))).items ≡ [] → FindsNothing s p t
+  finds-nothing t a b = ap (λ (m : Machine). m.world.trace) (second-on t [] a b)
+      ∙ (append_assoc (s.world.trace ++ event.CallBegun p call.TryTick ∷ []) (event.Looked p (turn_of s) ∷ [])
+      (event.CallEnded p reply.No ∷ [])
+      ∙ append_assoc s.world.trace (event.CallBegun p call.TryTick ∷ [])
+      (event.Looked p (turn_of s) ∷ event.CallEnded p reply.No ∷ []))
+
+  abbrev pub taking_up : ℕ → List Op
+  taking_up f = op.End reply.Yes hold.Executor ∷ op.Move move.TakeUp f ∷ op.Sleeper sleeper_op.ExchangeFlag ∷ []
+
+  finds-first : (t : Hint) (f : ℕ) (xs : List ℕ) → (queue_of s.world (turn_of s)).items ≡ f ∷ xs →
+      stack (run (ticks false p t) s) p ≡ taking_up f
+  finds-first t f xs q = ap (λ (m : Machine). stack m p) (first-on t (f ∷ xs) q)
+      ∙ get_or-set_same (turning s p).parties p (taking_up f) [] in-turning
+
+  finds-second : (t : Hint) (f : ℕ) (xs : List ℕ) → (queue_of s.world (turn_of s)).items ≡ [] →
+      (queue_of s.world (other (turn_of s))).items ≡ f ∷ xs → stack (run (ticks true p t) s) p ≡ taking_up f
+  finds-second t f xs none q = ap (λ (m : Machine). stack m p) (second-on t (f ∷ xs) none q)
+      ∙ get_or-set_same (seconding s p).parties p (taking_up f) [] in-seconding
+
+  -- a sleeper is told, of which the trace doesn't tell
+  tells : (b : Bool) (w : World) (f : ℕ) →
+      (onto p (exchange_by b w) (op.End reply.Yes hold.Executor ∷ op.Move move.TakeUp f ∷ [])).world.trace ≡ w.trace
+  tells true w f = refl
+  tells false w f = refl
+
+  abbrev turn-told : Trace
+  turn-told = (s.world.trace ++ event.CallBegun p call.TryTick ∷ []) ++ event.Looked p (turn_of s) ∷ []
+
+  told-first : (t : Hint) (f : ℕ) (xs : List ℕ) → (queue_of s.world (turn_of s)).items ≡ f ∷ xs →
+      (run (ticks true p t) s).world.trace ≡ turn-told
+  told-first t f xs q =
+      let m : Machine =
+      with_part (turning s p) p (onto p (take_by (turning s p).world (First (turn_of s)) (f ∷ xs)) []) in
+      ap (λ (x : Machine). (run (Go p t ∷ Go p t ∷ Go p t ∷ []) x).world.trace) begun-alone
+      ∙ (ap (λ (x : Machine). (run (Go p t ∷ Go p t ∷ []) x).world.trace) (turned-alone t)
+      ∙ (ap (λ (x : Machine). (run (Go p t ∷ []) x).world.trace) (looked-first t (f ∷ xs) q)
+      ∙ (ap (λ (x : Machine). x.world.trace)
+      (goes-alone m p t (taking_up f) (within (taking_up f) (turning s p).parties in-turning)
+      (get_or-set_same (turning s p).parties p (taking_up f) [] in-turning) refl)
+      ∙ tells _ m.world f)))
+
+  told-second : (t : Hint) (f : ℕ) (xs : List ℕ) → (queue_of s.world (turn_of s)).items ≡ [] →
+      (queue_of s.world (other (turn_of s))).items ≡ f ∷ xs → (run (ticks true p t) s).world.trace ≡ turn-told
+  told-second t f xs none q = ap (λ (m : Machine). m.world.trace) (second-on t (f ∷ xs) none q)
+
+  not-nothing : (t : Hint) → (run (ticks true p t) s).world.trace ≡ turn-told → ¬ FindsNothing s p t
+  not-nothing t short z = absurd (omega (
+    arith,
+    ap length (sym short ∙ z),
+    length-append (s.world.trace ++ event.CallBegun p call.TryTick ∷ []) (event.Looked p (turn_of s) ∷ []),
+    length-append s.world.trace (event.CallBegun p call.TryTick ∷ []),
+    length-append s.world.trace
+        (event.CallBegun p call.TryTick ∷ event.Looked p (turn_of s) ∷ event.CallEnded p reply.No ∷ []),
+  ))
 
 pub first-times : (f : ℕ) (xs : List ℕ) → 1 ≤ times f (f ∷ xs)
 first-times f xs = grind (arith, same_is)
 
+-- what is first in a queue is queued
+pub first-queued : (w : World) (m : Mark) (f : ℕ) (xs : List ℕ) → (queue_of w m).items ≡ f ∷ xs → 1 ≤ times f (queued_in w)
+first-queued w m f xs q = omega (arith, times-one f m w.queues, ap (times f) q, first-times f xs)
+
+-- what is queued isn't in queues that are empty
+pub none-queued : (w : World) (m : Mark) (f : ℕ) → (queue_of w m).items ≡ [] → (queue_of w (other m)).items ≡ [] →
+    times f (queued_in w) ≡ 0
+none-queued w Urgent f a b = omega (arith, times-all f w.queues, ap (times f) a, ap (times f) b)
+none-queued w Plain f a b = omega (arith, times-all f w.queues, ap (times f) a, ap (times f) b)
+
 module _ (s : Machine) (fine : Good s) (h : Heard s) (d : Deep s) (b : Bonded s) (r : IsAtRest s) where
-  first-common : (f : ℕ) (xs : List ℕ) → s.world.queue.items ≡ f ∷ xs → IsCommon f s.world.trace
-  first-common f xs q =
-      queue-common s fine h d b r f (subst (λ (ys : List ℕ). 1 ≤ times f ys) (sym q) (first-times f xs))
+  first-common : (m : Mark) (f : ℕ) (xs : List ℕ) → (queue_of s.world m).items ≡ f ∷ xs → IsCommon f s.world.trace
+  first-common m f xs q = queue-common s fine h d b r f (first-queued s.world m f xs q)
 
-  tick-answered : (p : ℕ) (t : Hint) → p < length s.parties → (items : List ℕ) → s.world.queue.items ≡ items →
-      FindsNothing s p t ⊎ FindsCommon s p t
-  tick-answered p t l [] q = inl (finds-nothing s p l (here s fine h d b r) (idle s fine h d b r p) (unleaked s fine h d b r) t q)
-  tick-answered p t l (f ∷ xs) q = inr record {
-    future = f;
-    common = first-common f xs q;
-    found = finds-one s p l (here s fine h d b r) (idle s fine h d b r p) (unleaked s fine h d b r) t f xs q;
-  }
+  module _ (p : ℕ) (t : Hint) (l : p < length s.parties) where
+    gone : s.world.gone ≡ false
+    gone = here s fine h d b r
 
-  tick-always : (p : ℕ) (t : Hint) → p < length s.parties → ((f : ℕ) → ¬ IsCommon f s.world.trace) →
-      (items : List ℕ) → s.world.queue.items ≡ items → FindsNothing s p t
-  tick-always p t l k [] q = finds-nothing s p l (here s fine h d b r) (idle s fine h d b r p) (unleaked s fine h d b r) t q
-  tick-always p t l k (f ∷ xs) q = absurd (k f (first-common f xs q))
+    idles : stack s p ≡ []
+    idles = idle s fine h d b r p
 
-  tick-only : (p : ℕ) (t : Hint) → p < length s.parties → FindsNothing s p t → (f : ℕ) → IsCommon f s.world.trace →
-      (items : List ℕ) → s.world.queue.items ≡ items → ⊥
-  tick-only p t l z f common [] q =
-      absurd (omega (arith, common-queue s fine h d b r f common, ap (times f) q))
-  tick-only p t l z f common (g ∷ xs) q =
-      not-nothing s p l (here s fine h d b r) (idle s fine h d b r p) (unleaked s fine h d b r) t g xs q z
+    leakless : weigh_all leaking_of s.parties ≡ 0
+    leakless = unleaked s fine h d b r
+
+    tick-answered : (xs ys : List ℕ) → (queue_of s.world (turn_of s)).items ≡ xs →
+        (queue_of s.world (other (turn_of s))).items ≡ ys → FindsNothing s p t ⊎ FindsCommon s p t
+    tick-answered [] [] q u = inl (finds-nothing s p l gone idles leakless t q u)
+    tick-answered [] (f ∷ ys) q u = inr record {
+      future = f;
+      common = first-common (other (turn_of s)) f ys u;
+      second = true;
+      found = finds-second s p l gone idles leakless t f ys q u;
+    }
+    tick-answered (f ∷ xs) ys q u = inr record {
+      future = f;
+      common = first-common (turn_of s) f xs q;
+      second = false;
+      found = finds-first s p l gone idles leakless t f xs q;
+    }
+
+    tick-always : ((f : ℕ) → ¬ IsCommon f s.world.trace) → (xs ys : List ℕ) →
+        (queue_of s.world (turn_of s)).items ≡ xs → (queue_of s.world (other (turn_of s))).items ≡ ys →
+        FindsNothing s p t
+    tick-always k [] [] q u = finds-nothing s p l gone idles leakless t q u
+    tick-always k [] (f ∷ ys) q u = absurd (k f (first-common (other (turn_of s)) f ys u))
+    tick-always k (f ∷ xs) ys q u = absurd (k f (first-common (turn_of s) f xs q))
+
+    tick-only : FindsNothing s p t → (f : ℕ) → IsCommon f s.world.trace → (xs ys : List ℕ) →
+        (queue_of s.world (turn_of s)).items ≡ xs → (queue_of s.world (other (turn_of s))).items ≡ ys → ⊥
+    tick-only z f common [] [] q u = absurd (omega (
+      arith,
+      common-queue s fine h d b r f common,
+      none-queued s.world (turn_of s) f q u,
+    ))
+    tick-only z f common [] (g ∷ ys) q u =
+        not-nothing s p l gone idles leakless t (told-second s p l gone idles leakless t g ys q u) z
+    tick-only z f common (g ∷ xs) ys q u =
+        not-nothing s p l gone idles leakless t (told-first s p l gone idles leakless t g xs q) z
 
 tick-exact : (s : Machine) → Good s → Heard s → Deep s → Bonded s → IsTickExact s
 tick-exact s fine h d b = record {
-  answered = λ r p t l. tick-answered s fine h d b r p t l s.world.queue.items refl;
-  always = λ r p t l k. tick-always s fine h d b r p t l k s.world.queue.items refl;
-  only = λ r p t l z f common. tick-only s fine h d b r p t l z f common s.world.queue.items refl;
+  answered = λ r p t l. tick-answered s fine h d b r p t l _ _ refl refl;
+  always = λ r p t l k. tick-always s fine h d b r p t l k _ _ refl refl;
+  only = λ r p t l z f common. tick-only s fine h d b r p t l z f common _ _ refl refl;
 }
 
 pub ticks-exact : (limit : ℕ) (kind : Kind) (parties : ℕ) (steps : List Step) → IsTickExact (run steps (start limit kind parties))

@@ -4,6 +4,7 @@ use Rattle.std.proofs.Common.{◌≡◌, ◌∙◌, ℕ, zero, suc, ◌+◌, ◌
 use Rattle.std.proofs.Common.{get_or, length, refl, sym, ap, arith, append-nil, set}
 use Rattle.std.proofs.Math.ListN.{length-set}
 use Rattle.std.specs.Prelude.{Option, Some, None}
+use Rattle.executor_parts.specs.declared.mark.Mark.{Mark}
 use Rattle.task_moves.specs.Moves as moves
 use Rattle.task_moves.specs.declared.schedule_info.ScheduleInfo.{ScheduleInfo}
 use Rattle.task_moves.specs.declared.moves.owed.Move.{Move}
@@ -63,7 +64,8 @@ use Rattle.executor_model.specs.Doing.{act, sleeper_act}
 use Rattle.executor_model.specs.Steps.{accepts, react, waits}
 use Rattle.executor_model.specs.Trace.{Trace, has}
 use Rattle.executor_model.specs.Weights.{weigh}
-use Rattle.executor_model.specs.World.{Asleep, Awake, Left, Run, Ticker, World, among, awaiter_of, log, log_if, no_run, run_of, runs_with, task}
+use Rattle.executor_model.specs.World.{Asleep, Awake, Left, Run, Ticker, World, among, awaiter_of, log, log_if, no_run, run_of}
+use Rattle.executor_model.specs.World.{runs_with, task}
 use Rattle.executor_parts.specs.Sleepers.{waker_of}
 use Rattle.executor_model.proofs.Steps.Lists.{weigh-append}
 use Rattle.executor_model.proofs.Steps.SleepersNext.{goes-unseen}
@@ -128,9 +130,9 @@ ups-move false m p w f = refl
 
 -- nor does anything else beside
 
-ups-append : (b : Bool) (w : World) (f : ℕ) → weigh ups (append_by b w f).next ≡ 0
-ups-append true w f = refl
-ups-append false w f = refl
+ups-append : (b : Bool) (w : World) (mark : Mark) (f : ℕ) → weigh ups (append_by b w mark f).next ≡ 0
+ups-append true w mark f = refl
+ups-append false w mark f = refl
 
 ups-entry : (b : Bool) (f : ℕ) → weigh ups (entry_goes b f) ≡ 0
 ups-entry true f = refl
@@ -185,7 +187,7 @@ ups-up (Asleep n) w who = goes-unseen ups (λ f. refl) (waker_of n w.sleepers.wa
 ups-up Left w who = refl
 
 pub ups-act : (p : ℕ) (h : Hint) (o : Op) (w : World) → waits o ≡ false → side_of o ≡ 0 → weigh ups (act p h o w).next ≡ 0
-ups-act p h (op.Queue (queue_op.Append f)) w n z = ups-append _ w f
+ups-act p h (op.Queue (queue_op.Append f)) w n z = ups-append _ w _ f
 ups-act p h (op.Move m f) w n z = ups-move (stands_alone m) m p w f
 ups-act p h (op.Table (table_op.LeaveTable f)) w n z = ups-leave _ w f
 ups-act p h (op.Handle (handle_op.Notify f mine)) w n z = ups-notify _ w f mine
@@ -200,9 +202,10 @@ ups-act p h (op.List _) w n z = absurd (cc)
 ups-act p h (op.Steal o) w n z = absurd (cc)
 ups-act p h (op.Run run_op.ReturnRoom) w n z = refl
 ups-act p h (op.Run _) w n z = absurd (cc)
-ups-act p h (op.Table table_op.Enter) w n z = absurd (cc)
+ups-act p h (op.Table (table_op.Enter mark)) w n z = absurd (cc)
 ups-act p h (op.Table table_op.LookAtTable) w n z = absurd (cc)
-ups-act p h (op.Queue queue_op.Take) w n z = absurd (cc)
+ups-act p h (op.Queue queue_op.TakeTurn) w n z = absurd (cc)
+ups-act p h (op.Queue (queue_op.Take look)) w n z = absurd (cc)
 ups-act p h (op.User (user_op.Poll f)) w n z = absurd (cc)
 ups-act p h (op.User (user_op.Drop f)) w n z = absurd (cc)
 ups-act p h (op.User (user_op.DropOutput f)) w n z = absurd (cc)
@@ -218,8 +221,8 @@ ups-act p h (op.Handle (handle_op.LookAgain f)) w n z = absurd (cc)
 ups-act p h (op.Closing closing_op.TakeOut) w n z = absurd (cc)
 ups-act p h (op.Closing closing_op.DropNext) w n z = absurd (cc)
 ups-act p h (op.Closing closing_op.WakeNext) w n z = absurd (cc)
-ups-act p h (op.Closing closing_op.Close) w n z = absurd (cc)
-ups-act p h (op.Closing closing_op.Drain) w n z = absurd (cc)
+ups-act p h (op.Closing (closing_op.Close mark)) w n z = absurd (cc)
+ups-act p h (op.Closing (closing_op.Drain mark)) w n z = absurd (cc)
 ups-act p h (op.Closing closing_op.LeakOut) w n z = absurd (cc)
 ups-act p h (op.Closing closing_op.LeakNext) w n z = absurd (cc)
 ups-act p h (op.End a held) w n z = absurd (cc)

@@ -3,6 +3,8 @@
 use Rattle.std.proofs.Common.{◌≡◌, ◌≢◌, ◌∙◌, ℕ, zero, suc, ◌+◌, List, [], ◌∷◌, ◌++◌, get_or, Bool, true, false, eqb}
 use Rattle.std.proofs.Common.{refl, sym, ap, arith, get_or-set_other, ⊎_elim}
 use Rattle.std.specs.Prelude.{Option, Some, None}
+use Rattle.executor_model.specs.declared.op.Look.{Look}
+use Rattle.executor_model.specs.declared.op.Look.TheVariants.{First, Second}
 use Rattle.task_moves.specs.declared.moves.owed.Move.TheVariants as move
 use Rattle.executor_model.specs.declared.call.Call.{Call}
 use Rattle.executor_model.specs.declared.call.Call.TheVariants as call
@@ -86,6 +88,7 @@ un-found q w x f n = un-counted q _ w x f n
 
 un-stolen : (q : ℕ) (t : Then) (w : World) (x : RunPoll) → q ≢ x.run → Untaken q w (runs.stolen t w x).world
 un-stolen q (then.Found f) w x n = un-found q w x f n
+un-stolen q (then.StealPlain f) w x n = refl
 un-stolen q (then.Run f) w x n = un-run_by q _ w x f n
 un-stolen q (then.Walk at left) w x n = refl
 
@@ -103,7 +106,7 @@ un-take q [] w s more n = un-stolen q s.then w s.poll n
 un-take q (f ∷ rest) w s more n = by s.from
   where
     by : (a : Source) → Untaken q w (runs.without_first w a rest)
-    by Common = refl
+    by (Common mark) = refl
     by (Own r) = refl
 
 un-put : (q : ℕ) (b : Bool) (p : ℕ) (w : World) (s : Steal) (more f : ℕ) → q ≢ s.poll.run →
@@ -126,20 +129,22 @@ un-look : (q : ℕ) (xs : List ℕ) (w : World) (x : RunPoll) (at left : ℕ) �
 un-look q [] w x at left n = refl
 un-look q (f ∷ rest) w x at left n = un-found q (put_own w x.run rest) x f n
 
-un-common : (q : ℕ) (xs : List ℕ) (w : World) (x : RunPoll) → Untaken q w (runs.search_common_by xs w x).world
-un-common q [] w x = refl
-un-common q (f ∷ rest) w x = refl
+un-common : (look : Look) (q : ℕ) (xs : List ℕ) (w : World) (x : RunPoll) → Untaken q w (runs.search_common_by xs w x look).world
+un-common (First mark) q [] w x = refl
+un-common (Second mark) q [] w x = refl
+un-common look q (f ∷ rest) w x = refl
 
 -- ticks and runs
 
-un-search : (q : ℕ) (x : Ticker) (w : World) (xs : List ℕ) (s : Sleeping) → Untaken q w (of_sleepers.search_by x w xs s).world
-un-search q x w [] s = refl
-un-search q x w (f ∷ rest) s = refl
+un-look-tick : (look : Look) (q : ℕ) (x : Ticker) (w : World) (xs : List ℕ) (s : Sleeping) →
+    Untaken q w (of_sleepers.look_tick_by x w look xs s).world
+un-look-tick look q x w [] s = refl
+un-look-tick look q x w (f ∷ rest) s = refl
 
-un-searches : (q : ℕ) (who : TickOrRun) (w : World) (s : Sleeping) → s.who ≡ who → running_of q (op.Tick (tick_op.Search s)) ≡ 0 →
-    Untaken q w (search_by_who who w s).world
-un-searches q (tick_or_run.Tick t) w s e z = un-search q _ w _ s
-un-searches q (tick_or_run.Run r) w s e z =
+un-searches : (q : ℕ) (who : TickOrRun) (p : ℕ) (w : World) (s : Sleeping) → s.who ≡ who → running_of q (op.Tick (tick_op.Search s)) ≡ 0 →
+    Untaken q w (search_by_who who p w s).world
+un-searches q (tick_or_run.Tick t) p w s e z = refl
+un-searches q (tick_or_run.Run r) p w s e z =
     un-own q _ w (record { run = r; waker = s.waker; poll = s.poll })
     (another q r (sym (ap (λ (y : TickOrRun). running_of q (op.Tick (tick_op.Search (record s { who = y })))) e) ∙ z))
 
@@ -173,13 +178,14 @@ leave-same Awake w who = placed w (of_sleepers.leave_sleepers_by Awake w who).wo
 leave-same (Asleep n) w who = placed w (of_sleepers.leave_sleepers_by (Asleep n) w who).world who Left refl
 leave-same Left w who = same-runs w w refl
 
-un-tick : (q : ℕ) (h : Hint) (o : TickOp) (w : World) → running_of q (op.Tick o) ≡ 0 → Untaken q w (tick_act h o w).world
-un-tick q h tick_op.MakeTick w z = un-make q _ w
-un-tick q h (tick_op.Search s) w z = un-searches q s.who w s refl z
-un-tick q h (tick_op.CopyWaker s) w z = un-copy q _ w s
-un-tick q h (tick_op.FallAsleep s) w z = un-sleep q _ w s
-un-tick q h (tick_op.WakeUp who) w z = (side-same 0 h (op.Tick (tick_op.WakeUp who)) w refl).taken q
-un-tick q h (tick_op.Leave who) w z = (leave-same _ w who).taken q
+un-tick : (q : ℕ) (p : ℕ) (h : Hint) (o : TickOp) (w : World) → running_of q (op.Tick o) ≡ 0 → Untaken q w (tick_act p h o w).world
+un-tick q p h tick_op.MakeTick w z = un-make q _ w
+un-tick q p h (tick_op.Search s) w z = un-searches q s.who p w s refl z
+un-tick q p h (tick_op.Look s look) w z = un-look-tick look q _ w _ s
+un-tick q p h (tick_op.CopyWaker s) w z = un-copy q _ w s
+un-tick q p h (tick_op.FallAsleep s) w z = un-sleep q _ w s
+un-tick q p h (tick_op.WakeUp who) w z = (side-same 0 h (op.Tick (tick_op.WakeUp who)) w refl).taken q
+un-tick q p h (tick_op.Leave who) w z = (leave-same _ w who).taken q
 
 -- what runs alone do
 
@@ -199,7 +205,8 @@ reschedule-same (f ∷ rest) w r a = same-runs w _ refl
 un-of-run : (q p : ℕ) (h : Hint) (o : RunOp) (w : World) → running_of q (op.Run o) ≡ 0 → Untaken q w (run_act p h o w).world
 un-of-run q p h run_op.MakeRoom w z = un-room q _ w
 un-of-run q p h run_op.ReturnRoom w z = refl
-un-of-run q p h (run_op.SearchCommon x) w z = un-common q _ w x
+un-of-run q p h (run_op.TakeTurn x) w z = refl
+un-of-run q p h (run_op.SearchCommon x look) w z = un-common look q _ w x
 un-of-run q p h (run_op.LookOwn x at left) w z = un-look q _ w x at left (another q x.run z)
 un-of-run q p h (run_op.WakeOwn x) w z = un-wake q p (log w (event.WakerCalled p (of.Run x.run) x.poll x.waker)) x.waker
 un-of-run q p h (run_op.Reschedule r a) w z = (reschedule-same _ w r a).taken q
@@ -235,7 +242,7 @@ un-list q h list_op.UnlockRead w = refl
 
 -- whatever is done that isn't run q's
 pub untaken : (q p : ℕ) (h : Hint) (o : Op) (w : World) → running_of q o ≡ 0 → Untaken q w (act p h o w).world
-untaken q p h (op.Tick o) w z = un-tick q h o w z
+untaken q p h (op.Tick o) w z = un-tick q p h o w z
 untaken q p h (op.List o) w z = un-list q h o w
 untaken q p h (op.Steal o) w z = un-steal q p o w z
 untaken q p h (op.Run o) w z = un-of-run q p h o w z

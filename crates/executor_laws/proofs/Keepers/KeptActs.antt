@@ -2,6 +2,8 @@
 -- What each thing to do and the end of user code leave of the own queues, and of who has a kept future in hand.
 use Rattle.std.proofs.Common.{◌≡◌, ℕ, ◌+◌, ◌%◌, ◌<◌, ◌≤◌, List, [], ◌∷◌, length, Bool, true, false, refl, inl, arith}
 use Rattle.std.specs.Prelude.{not, Option, Some, None}
+use Rattle.executor_model.specs.declared.op.Look.{Look}
+use Rattle.executor_model.specs.declared.op.Look.TheVariants.{First, Second}
 use Rattle.executor_parts.specs.Sleepers.{waker_at}
 use Rattle.task_moves.specs.declared.moves.owed.Move.{Move}
 use Rattle.task_moves.specs.declared.moves.owed.Move.TheVariants as move
@@ -32,7 +34,7 @@ use Rattle.executor_model.specs.declared.step.UserEnd.TheVariants as end
 use Rattle.executor_model.specs.Acts.{copy_by, is_copy_refused}
 use Rattle.executor_model.specs.ActsOfRuns as runs
 use Rattle.executor_model.specs.ActsOfSleepers.{copy_sleeper_by, sleep_again_by, sleep_anew_by, fall_asleep_by, sleep_listed_by}
-use Rattle.executor_model.specs.ActsOfSleepers.{pend_as, search_by, sleeper_goes}
+use Rattle.executor_model.specs.ActsOfSleepers.{pend_as, look_tick_by, sleeper_goes}
 use Rattle.executor_model.specs.Doing.{act, list_act, run_act, search, tick_act}
 use Rattle.executor_model.specs.Rows.{running_of}
 use Rattle.executor_model.specs.Steps.{accepts, react}
@@ -83,27 +85,38 @@ quits-sleep Awake r w s = quits-anew _ r w s
 quits-sleep (Asleep n) r w s = quits-again _ r w n s
 quits-sleep Left r w s = refl
 
-quits-search : (x : Ticker) (r : ℕ) (w : World) (q : List ℕ) (s : Sleeping) →
-    weigh (quits_of r) (search_by x w q s).next ≡ 0
-quits-search x r w [] s = refl
-quits-search Awake r w (f ∷ rest) s = refl
-quits-search (Asleep n) r w (f ∷ rest) s = refl
-quits-search Left r w (f ∷ rest) s = refl
+quits-search : (look : Look) (x : Ticker) (r : ℕ) (w : World) (q : List ℕ) (s : Sleeping) →
+    weigh (quits_of r) (look_tick_by x w look q s).next ≡ 0
+quits-search (First mark) x r w [] s = refl
+quits-search (Second mark) x r w [] s = refl
+quits-search look Awake r w (f ∷ rest) s = refl
+quits-search look (Asleep n) r w (f ∷ rest) s = refl
+quits-search look Left r w (f ∷ rest) s = refl
 
-keeps-search : (who : TickOrRun) (k : ℕ) (a : Waker) (w : World) →
-    Leads w (op.Tick (tick_op.Search (asleep a who k)) ∷ []) (search w (asleep a who k))
-keeps-search (tick_or_run.Tick u) k a w = of-idle w _ (search w (asleep a (tick_or_run.Tick u) k))
-    (idle-search _ w w.queue.items (asleep a (tick_or_run.Tick u) k)) (λ r. refl)
-    (λ r. quits-search _ r w w.queue.items (asleep a (tick_or_run.Tick u) k)) (λ f. omega arith)
-keeps-search (tick_or_run.Run q) k a w = let x : RunPoll = record { run = q; waker = a; poll = k } in
+-- what is found is in hand
+keeps-look : (look : Look) (f : ℕ) (x : Ticker) (w : World) (q : List ℕ) (s : Sleeping) →
+    weigh (load_of f) (op.Tick (tick_op.Look s look) ∷ []) ≤ weigh (load_of f) (look_tick_by x w look q s).next
+keeps-look (First mark) f x w [] s = omega arith
+keeps-look (Second mark) f x w [] s = omega arith
+keeps-look look f Awake w (g ∷ rest) s = omega arith
+keeps-look look f (Asleep n) w (g ∷ rest) s = omega arith
+keeps-look look f Left w (g ∷ rest) s = omega arith
+
+keeps-search : (who : TickOrRun) (p k : ℕ) (a : Waker) (w : World) →
+    Leads w (op.Tick (tick_op.Search (asleep a who k)) ∷ []) (search p w (asleep a who k))
+keeps-search (tick_or_run.Tick u) p k a w = of-idle w _ (search p w (asleep a (tick_or_run.Tick u) k))
+    (idle w _ refl refl refl) (λ r. refl) (λ r. refl) (λ f. omega arith)
+keeps-search (tick_or_run.Run q) p k a w = let x : RunPoll = record { run = q; waker = a; poll = k } in
     of-walks w x _ (runs.search_own w x) (walks-search w x) (λ r. refl) (λ r. quits-own _ w x r)
     (λ f r. omega (arith, load-own (own_of w q) w x f r refl))
 
-keeps-tick : (p : ℕ) (h : Hint) (o : TickOp) (w : World) → Leads w (op.Tick o ∷ []) (tick_act h o w)
-keeps-tick p h (tick_op.Search s) w = keeps-search s.who s.poll s.waker w
-keeps-tick p h (tick_op.CopyWaker s) w = of-idle w _ (tick_act h (tick_op.CopyWaker s) w)
+keeps-tick : (p : ℕ) (h : Hint) (o : TickOp) (w : World) → Leads w (op.Tick o ∷ []) (tick_act p h o w)
+keeps-tick p h (tick_op.Search s) w = keeps-search s.who p s.poll s.waker w
+keeps-tick p h (tick_op.Look s look) w = of-idle w _ (tick_act p h (tick_op.Look s look) w)
+    (idle-search look _ w _ s) (λ r. refl) (λ r. quits-search look _ r w _ s) (λ f. keeps-look look f _ w _ s)
+keeps-tick p h (tick_op.CopyWaker s) w = of-idle w _ (tick_act p h (tick_op.CopyWaker s) w)
     (idle-copy_sleeper (is_copy_refused h w s.waker) w s) (λ r. refl) (λ r. quits-copy _ r w s) (λ f. omega arith)
-keeps-tick p h (tick_op.FallAsleep s) w = of-idle w _ (tick_act h (tick_op.FallAsleep s) w)
+keeps-tick p h (tick_op.FallAsleep s) w = of-idle w _ (tick_act p h (tick_op.FallAsleep s) w)
     (idle-sleep _ w s) (λ r. refl) (λ r. quits-sleep _ r w s) (λ f. omega arith)
 keeps-tick p h tick_op.MakeTick w = keeps-plain p h (op.Tick tick_op.MakeTick) w refl (λ f. refl)
 keeps-tick p h (tick_op.WakeUp u) w = keeps-plain p h (op.Tick (tick_op.WakeUp u)) w refl (λ f. refl)
@@ -145,7 +158,9 @@ keeps-run : (p : ℕ) (h : Hint) (o : RunOp) (w : World) →
 keeps-run p h run_op.MakeRoom w k = keeps-room h.refused w
 keeps-run p h run_op.ReturnRoom w k =
     of-idle w _ _ (idle w _ refl refl refl) (λ r. refl) (λ r. refl) (λ f. omega arith)
-keeps-run p h (run_op.SearchCommon x) w k = keeps-common _ w x (walks-search_common w x)
+keeps-run p h (run_op.TakeTurn x) w k =
+    of-idle w _ _ (idle w _ refl refl refl) (λ r. refl) (λ r. refl) (λ f. omega arith)
+keeps-run p h (run_op.SearchCommon x look) w k = keeps-common look _ w x (walks-search_common w x look)
 keeps-run p h (run_op.LookOwn x at left) w k =
     of-walks w x _ (runs.look_own w x at left) (walks-look_own w x at left) (λ r. refl)
     (λ r. quits-look _ w x at left r) (λ f r. omega (arith, load-look (own_of w x.run) w x at left f r refl))
@@ -172,7 +187,7 @@ pub keeps-act : (p : ℕ) (h : Hint) (o : Op) (w : World) → is_apart o ≡ tru
 keeps-act p h (op.Move m g) w n j k = keeps-plain p h (op.Move m g) w refl (λ f. load-move m g f n)
 keeps-act p h (op.Table (table_op.TakeToDrop g)) w n j k =
     of-idle w _ _ (idle w _ refl refl refl) (λ r. refl) (λ r. refl) (λ f. omega arith)
-keeps-act p h (op.Table table_op.Enter) w n j k = keeps-plain p h (op.Table table_op.Enter) w refl (λ f. refl)
+keeps-act p h (op.Table (table_op.Enter mark)) w n j k = keeps-plain p h (op.Table (table_op.Enter mark)) w refl (λ f. refl)
 keeps-act p h (op.Table table_op.LookAtTable) w n j k =
     keeps-plain p h (op.Table table_op.LookAtTable) w refl (λ f. refl)
 keeps-act p h (op.Table (table_op.TakeToPoll g)) w n j k =

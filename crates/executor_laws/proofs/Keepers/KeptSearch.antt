@@ -1,6 +1,8 @@
 -- For keepers_are_called.
 -- What a run's search and its steals leave of the own queues and of who has a kept future in hand.
 use Rattle.std.proofs.Common.{◌≡◌, ℕ, zero, suc, ◌+◌, ◌≤◌, List, [], ◌∷◌, length, get_or, set, false, refl, ap, arith}
+use Rattle.executor_model.specs.declared.op.Look.{Look}
+use Rattle.executor_model.specs.declared.op.Look.TheVariants.{First, Second}
 use Rattle.executor_model.specs.declared.op.Op.{Op}
 use Rattle.executor_model.specs.declared.op.Op.TheVariants as op
 use Rattle.executor_model.specs.declared.op.RunOp.TheVariants as run_op
@@ -59,10 +61,11 @@ pub quits-own : (q : List ℕ) (w : World) (x : RunPoll) (r : ℕ) → weigh (qu
 quits-own [] w x r = refl
 quits-own (g ∷ rest) w x r = quits-found r (put_own w x.run rest) x g
 
-pub keeps-common : (q : List ℕ) (w : World) (x : RunPoll) → Walks w x (runs.search_common_by q w x) →
-    Leads w (op.Run (run_op.SearchCommon x) ∷ []) (runs.search_common_by q w x)
-keeps-common [] w x k = of-walks w x _ _ k (λ r. refl) (λ r. refl) (λ f r. omega arith)
-keeps-common (g ∷ rest) w x k = of-walks w x _ _ k (λ r. refl) (λ r. refl) (λ f r. omega arith)
+pub keeps-common : (look : Look) (q : List ℕ) (w : World) (x : RunPoll) → Walks w x (runs.search_common_by q w x look) →
+    Leads w (op.Run (run_op.SearchCommon x look) ∷ []) (runs.search_common_by q w x look)
+keeps-common (First mark) [] w x k = of-walks w x _ _ k (λ r. refl) (λ r. refl) (λ f r. omega arith)
+keeps-common (Second mark) [] w x k = of-walks w x _ _ k (λ r. refl) (λ r. refl) (λ f r. omega arith)
+keeps-common look (g ∷ rest) w x k = of-walks w x _ _ k (λ r. refl) (λ r. refl) (λ f r. omega arith)
 
 pub load-look : (q : List ℕ) (w : World) (x : RunPoll) (at left f r : ℕ) → own_of w x.run ≡ q →
     times f (own_of w r) ≤ times f (own_of (runs.look_own_by q w x at left).world r)
@@ -111,7 +114,7 @@ load-source from [] w s more f r i e = omega (
   own-same w (runs.stolen s.then w s.poll).world (hull-stolen s.then w s.poll) f r,
   load-stolen f s.then w s.poll,
 )
-load-source Common (g ∷ rest) w s more f r i e =
+load-source (Common mark) (g ∷ rest) w s more f r i e =
     omega (arith, ap (λ (a : Source). times f (own_of (runs.without_first w a rest) r)) i)
 load-source (Own q) (g ∷ rest) w s more f r i e = omega (
   arith,

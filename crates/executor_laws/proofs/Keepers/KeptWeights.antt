@@ -54,7 +54,8 @@ load_of f _ = 0
 pub drops-load : (f : ℕ) (o : Op) → drops_of f o ≤ load_of f o
 drops-load f (op.Move move.TakeUp g) = omega arith
 drops-load f (op.Table (table_op.TakeToDrop g)) = omega arith
-drops-load f (op.Queue queue_op.Take) = omega arith
+drops-load f (op.Queue queue_op.TakeTurn) = omega arith
+drops-load f (op.Queue (queue_op.Take look)) = omega arith
 drops-load f (op.User (user_op.BeginDrop g)) = omega arith
 drops-load f (op.Steal (steal_op.Length s)) = omega arith
 drops-load f (op.Waker (waker_op.CopyWaker g held)) = omega arith
@@ -62,7 +63,7 @@ drops-load f (op.Handle (handle_op.LookAgain g)) = omega arith
 drops-load f (op.Sleeper sleeper_op.HandOut) = omega arith
 drops-load f (op.Tick tick_op.MakeTick) = omega arith
 drops-load f (op.Run run_op.MakeRoom) = omega arith
-drops-load f (op.Closing closing_op.Drain) = omega arith
+drops-load f (op.Closing (closing_op.Drain mark)) = omega arith
 drops-load f (op.List (list_op.LockWrite section.MakeRun)) = omega arith
 drops-load f (op.List (list_op.Write section.MakeRun)) = omega arith
 drops-load f _ = omega arith
@@ -99,6 +100,7 @@ load-found f w x g =
 pub load-stolen : (f : ℕ) (t : Then) (w : World) (x : RunPoll) →
     weigh (load_of f) (runs.stolen t w x).next ≡ then_waiting f t
 load-stolen f (then.Found g) w x = load-found f w x g
+load-stolen f (then.StealPlain g) w x = omega arith
 load-stolen f (then.Run g) w x = load-run_by f _ w x g
 load-stolen f (then.Walk at left) w x = refl
 
@@ -154,6 +156,7 @@ mild-quits r = record {
   spawned = λ a f. refl;
   handle = λ a f. refl;
   handles = λ o. refl;
+  take = λ look. refl;
 }
 
 -- searches lead to nothing of it
@@ -166,6 +169,7 @@ weighs-quits r x = record {
   search = refl;
   wake = refl;
   steal = λ f. refl;
+  steal_plain = λ f. refl;
   look = λ at left. refl;
 }
 

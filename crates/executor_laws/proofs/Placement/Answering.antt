@@ -4,6 +4,10 @@
 use Rattle.std.proofs.Common.{◌≡◌, ◌∙◌, ℕ, ◌+◌, ◌≤◌, ◌%◌, List, [], ◌∷◌, ◌++◌}
 use Rattle.std.proofs.Common.{length, Bool, true, false, refl, sym, ap, arith}
 use Rattle.std.specs.Prelude.{Option, Some, None}
+use Rattle.executor_model.specs.declared.op.Look.{Look}
+use Rattle.executor_model.specs.declared.op.Look.TheVariants.{First, Second}
+use Rattle.executor_model.specs.World.{queue_of}
+use Rattle.executor_model.specs.Acts.{mark_in}
 use Rattle.executor_parts.specs.Sleepers.{waker_at}
 use Rattle.task_moves.specs.Moves as moves
 use Rattle.executor_model.specs.declared.call.Reply.{Reply}
@@ -39,7 +43,7 @@ use Rattle.executor_model.specs.declared.step.UserEnd.TheVariants as end
 use Rattle.executor_model.specs.Acts.{copy_by}
 use Rattle.executor_model.specs.ActsOfRuns.{call_by_reference, make_room_by, make_run_by, reschedule_by, wake_own}
 use Rattle.executor_model.specs.ActsOfSleepers.{copy_sleeper_by, held_as, sleep_again_by, sleep_anew_by, fall_asleep_by}
-use Rattle.executor_model.specs.ActsOfSleepers.{sleep_listed_by, pend_as, search_by, sleeper_goes}
+use Rattle.executor_model.specs.ActsOfSleepers.{sleep_listed_by, pend_as, look_tick_by, sleeper_goes}
 use Rattle.executor_model.specs.Doing.{act, list_act, run_act, search_by_who, steal_act}
 use Rattle.executor_model.specs.Steps.{accepts, react}
 use Rattle.executor_model.specs.Weights.{same, weigh, is_run}
@@ -101,6 +105,7 @@ mild r = record {
   spawned = by_spawned;
   handle = by_handle;
   handles = λ o. refl;
+  take = λ look. refl;
 }
   where
     by_executor : (a : Reply) → answers_of r (op.End a hold.Executor) ≡ 0
@@ -123,7 +128,8 @@ part r x = record {
   own_length = λ from t m. omega arith;
   take = λ from t m. omega arith;
   put = λ from t m f. omega arith;
-  common = omega arith;
+  turn = omega arith;
+  common = λ look. omega arith;
   look = λ at left. omega arith;
   own = omega arith;
   lock = omega arith;
@@ -141,6 +147,7 @@ as_much r o next e = record { most = omega (arith, e); least = omega (arith, e) 
 -- nothing was to be answered
 none-before : (r : ℕ) (o : Op) → is_for_runs o ≡ false → answers_of r o ≡ 0
 none-before r (op.Tick (tick_op.Search s)) n = absurd (cc)
+none-before r (op.Tick (tick_op.Look s look)) n = absurd (cc)
 none-before r (op.Tick (tick_op.CopyWaker s)) n = absurd (cc)
 none-before r (op.Tick (tick_op.FallAsleep s)) n = absurd (cc)
 none-before r (op.User (user_op.PollOwn x)) n = absurd (cc)
@@ -159,25 +166,26 @@ steal-is : (r : ℕ) (o : StealOp) → answers_of r (op.Steal o) ≡ same r (pol
 steal-is r (steal_op.Length s) = omega arith
 steal-is r _ = omega arith
 
--- a tick's search
-held : (r : ℕ) (who : TickOrRun) (t : ℕ) → who ≡ tick_or_run.Tick t → readying_of r (op.End reply.Ready (held_as who)) ≡ 0
-held r (tick_or_run.Tick u) t e = refl
-held r (tick_or_run.Run u) t e = absurd (cc)
+-- a tick's looks
+pub held : (r : ℕ) (who : TickOrRun) → readying_of r (op.End reply.Ready (held_as who)) ≡ is_run r who
+held r (tick_or_run.Tick u) = refl
+held r (tick_or_run.Run u) = refl
 
-search-none : (r : ℕ) (x : Ticker) (w : World) (q : List ℕ) (s : Sleeping) (t : ℕ) → s.who ≡ tick_or_run.Tick t →
-    weigh (answers_of r) (search_by x w q s).next ≡ 0
-search-none r x w [] s t e = omega (arith, ap (is_run r) e)
-search-none r Awake w (f ∷ rest) s t e = omega (arith, held r s.who t e)
-search-none r (Asleep n) w (f ∷ rest) s t e = omega (arith, held r s.who t e)
-search-none r Left w (f ∷ rest) s t e = omega (arith, held r s.who t e)
+hands-look : (look : Look) (r : ℕ) (x : Ticker) (w : World) (q : List ℕ) (s : Sleeping) →
+    weigh (answers_of r) (look_tick_by x w look q s).next ≡ is_run r s.who
+hands-look (First mark) r x w [] s = omega arith
+hands-look (Second mark) r x w [] s = omega arith
+hands-look look r Awake w (f ∷ rest) s = omega (arith, held r s.who)
+hands-look look r (Asleep n) w (f ∷ rest) s = omega (arith, held r s.who)
+hands-look look r Left w (f ∷ rest) s = omega (arith, held r s.who)
 
-hands-search : (r : ℕ) (who : TickOrRun) (w : World) (s : Sleeping) → s.who ≡ who →
-    Hands r (op.Tick (tick_op.Search s)) (search_by_who who w s).next
-hands-search r (tick_or_run.Tick t) w s e = as_much r (op.Tick (tick_op.Search s)) (search_by_who (tick_or_run.Tick t) w s).next
-    (omega (arith, search-none r (place_of w s.who) w w.queue.items s t e, ap (is_run r) e))
-hands-search r (tick_or_run.Run q) w s e =
+hands-search : (r : ℕ) (who : TickOrRun) (p : ℕ) (w : World) (s : Sleeping) → s.who ≡ who →
+    Hands r (op.Tick (tick_op.Search s)) (search_by_who who p w s).next
+hands-search r (tick_or_run.Tick t) p w s e =
+    as_much r (op.Tick (tick_op.Search s)) (search_by_who (tick_or_run.Tick t) p w s).next (omega arith)
+hands-search r (tick_or_run.Run q) p w s e =
     let x : RunPoll = record { run = q; waker = s.waker; poll = s.poll } in
-    as_much r (op.Tick (tick_op.Search s)) (search_by_who (tick_or_run.Run q) w s).next
+    as_much r (op.Tick (tick_op.Search s)) (search_by_who (tick_or_run.Run q) p w s).next
     (omega (arith, part-own (answers_of r) (mild r) x (same r q) (part r x) (own_of w q) w, ap (is_run r) e))
 
 -- it ends with another answer
@@ -295,9 +303,10 @@ reschedules r (f ∷ rest) w q _ = record { most = omega arith; least = omega ar
 hands-run : (r p : ℕ) (h : Hint) (o : RunOp) (w : World) → Hands r (op.Run o) (run_act p h o w).next
 hands-run r p h run_op.MakeRoom w = rooms r h.refused w
 hands-run r p h run_op.ReturnRoom w = as_much r (op.Run run_op.ReturnRoom) _ refl
-hands-run r p h (run_op.SearchCommon x) w =
-    as_much r (op.Run (run_op.SearchCommon x)) (run_act p h (run_op.SearchCommon x) w).next
-    (omega (arith, part-common (answers_of r) (mild r) x (same r x.run) (part r x) w.queue.items w))
+hands-run r p h (run_op.TakeTurn x) w = as_much r (op.Run (run_op.TakeTurn x)) _ (omega arith)
+hands-run r p h (run_op.SearchCommon x look) w =
+    as_much r (op.Run (run_op.SearchCommon x look)) (run_act p h (run_op.SearchCommon x look) w).next
+    (omega (arith, part-common (answers_of r) (mild r) x (same r x.run) (part r x) look (queue_of w (mark_in look)).items w))
 hands-run r p h (run_op.LookOwn x at left) w =
     as_much r (op.Run (run_op.LookOwn x at left)) (run_act p h (run_op.LookOwn x at left) w).next
     (omega (arith, part-look (answers_of r) (mild r) x (same r x.run) (part r x) (own_of w x.run) w at left))
@@ -311,7 +320,10 @@ is_end _ = false
 hands-by : (b : Bool) (r p : ℕ) (h : Hint) (o : Op) (w : World) → is_for_runs o ≡ b → is_end o ≡ false →
     Hands r o (act p h o w).next
 hands-by false r p h o w n e = hands-plain r p h o w n
-hands-by true r p h (op.Tick (tick_op.Search s)) w n e = hands-search r s.who w s refl
+hands-by true r p h (op.Tick (tick_op.Search s)) w n e = hands-search r s.who p w s refl
+hands-by true r p h (op.Tick (tick_op.Look s look)) w n e =
+    as_much r (op.Tick (tick_op.Look s look)) (act p h (op.Tick (tick_op.Look s look)) w).next
+    (omega (arith, hands-look look r (place_of w s.who) w (queue_of w (mark_in look)).items s))
 hands-by true r p h (op.Tick (tick_op.CopyWaker s)) w n e = hands-copy r _ w s
 hands-by true r p h (op.Tick (tick_op.FallAsleep s)) w n e = hands-sleep r s _ w
 hands-by true r p h (op.User (user_op.PollOwn x)) w n e = as_much r (op.User (user_op.PollOwn x)) _ (omega arith)

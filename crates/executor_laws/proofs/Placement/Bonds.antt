@@ -142,6 +142,7 @@ reads-push f es (event.TickPolled p c) s h = reads-more f es _ s refl refl refl 
 reads-push f es (event.TickDropped p c) s h = reads-more f es _ s refl refl refl h
 reads-push f es (event.RunPolled p c) s h = reads-more f es _ s refl refl refl h
 reads-push f es (event.WakerCalled p o k a) s h = reads-more f es _ s refl refl refl h
+reads-push f es (event.Looked p m) s h = reads-more f es _ s refl refl refl h
 reads-push f es (event.DropBegun p) s h = reads-more f es _ s refl refl refl h
 reads-push f es (event.DropEnded p) s h = reads-more f es _ s refl refl refl h
 

@@ -63,14 +63,14 @@ BoundIn s f = Bound s.world f (pend f s.parties) (weigh_all (appends_of f) s.par
 appends-wait : (g : ℕ) (o : Op) → appends_of g o ≤ waiting_of g o
 appends-wait g (op.Queue (queue_op.Append f)) = omega arith
 appends-wait g (op.Move move.Wake f) = omega arith
-appends-wait g (op.Table table_op.Enter) = omega arith
+appends-wait g (op.Table (table_op.Enter mark)) = omega arith
 appends-wait g (op.User (user_op.Poll f)) = omega arith
 appends-wait g (op.Waker (waker_op.CopyWaker f held)) = omega arith
 appends-wait g (op.Handle (handle_op.Look f a)) = omega arith
 appends-wait g (op.Sleeper sleeper_op.HandOut) = omega arith
 appends-wait g (op.Tick tick_op.MakeTick) = omega arith
 appends-wait g (op.Run run_op.MakeRoom) = omega arith
-appends-wait g (op.Closing closing_op.Close) = omega arith
+appends-wait g (op.Closing (closing_op.Close mark)) = omega arith
 appends-wait g (op.Steal (steal_op.Length s)) = omega arith
 appends-wait g (op.List (list_op.LockWrite section.MakeRun)) = omega arith
 appends-wait g (op.List (list_op.Write section.MakeRun)) = omega arith

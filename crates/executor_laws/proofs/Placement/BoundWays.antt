@@ -5,7 +5,7 @@ use Rattle.std.proofs.Common.{◌++◌, length, set, get_or, Bool, true, false, 
 use Rattle.std.proofs.Common.{sym, ap, subst, arith, get_or-set_same}
 use Rattle.std.proofs.lemmas.List.{length-append, get_or_past}
 use Rattle.std.specs.Prelude.{Option, Some, None, reverse}
-use Rattle.queue_steps.specs.ClosableQueue.{ClosableQueue}
+use Rattle.executor_model.specs.Queues.{Queues, all_in}
 use Rattle.task_moves.specs.declared.moves.state.State.{State}
 use Rattle.task_moves.specs.declared.moves.owed.Move.TheVariants as move
 use Rattle.executor_model.specs.declared.call.Call.{Call}
@@ -101,28 +101,28 @@ or-true false t z = ap is_over_stage z
 -- a call begins: the tasks and the queue stay
 record Idles (w : World) (d : Done) : Type 0 where
   pub tasks : d.world.tasks ≡ w.tasks
-  pub queue : d.world.queue ≡ w.queue
+  pub queue : d.world.queues ≡ w.queues
   pub appends : (g : ℕ) → weigh (appends_of g) d.next ≡ 0
   pub polls : (g : ℕ) → weigh (polls_of g) d.next ≡ 0
   pub ending : (g : ℕ) → weigh (ending_of g) d.next ≡ 0
 
-idles : (w v : World) (next : List Op) → v.tasks ≡ w.tasks → v.queue ≡ w.queue →
+idles : (w v : World) (next : List Op) → v.tasks ≡ w.tasks → v.queues ≡ w.queues →
     ((g : ℕ) → weigh (appends_of g) next ≡ 0) → ((g : ℕ) → weigh (polls_of g) next ≡ 0) →
     ((g : ℕ) → weigh (ending_of g) next ≡ 0) → Idles w (done v next)
 idles w v next a b x y z = record { tasks = a; queue = b; appends = x; polls = y; ending = z }
 
-idles-with : (w v : World) (x : Option ℕ) (d : ℕ → Done) → v.tasks ≡ w.tasks → v.queue ≡ w.queue →
+idles-with : (w v : World) (x : Option ℕ) (d : ℕ → Done) → v.tasks ≡ w.tasks → v.queues ≡ w.queues →
     ((f : ℕ) → Idles w (d f)) → Idles w (with_future v x d)
 idles-with w v None d a b k = idles w v [] a b (λ g. refl) (λ g. refl) (λ g. refl)
 idles-with w v (Some f) d a b k = k f
 
-idles-poll : (w v : World) (t : Stage) (x : RunPoll) → v.tasks ≡ w.tasks → v.queue ≡ w.queue →
+idles-poll : (w v : World) (t : Stage) (x : RunPoll) → v.tasks ≡ w.tasks → v.queues ≡ w.queues →
     Idles w (done v (poll_run t x))
 idles-poll w v New x a b = idles w v _ a b (λ g. refl) (λ g. refl) (λ g. refl)
 idles-poll w v Listed x a b = idles w v _ a b (λ g. refl) (λ g. refl) (λ g. refl)
 idles-poll w v Ended x a b = idles w v _ a b (λ g. refl) (λ g. refl) (λ g. refl)
 
-idles-drop : (w v : World) (t : Stage) (q : ℕ) → v.tasks ≡ w.tasks → v.queue ≡ w.queue → Idles w (done v (drop_run t q))
+idles-drop : (w v : World) (t : Stage) (q : ℕ) → v.tasks ≡ w.tasks → v.queues ≡ w.queues → Idles w (done v (drop_run t q))
 idles-drop w v New q a b = idles w v _ a b (λ g. refl) (λ g. refl) (λ g. refl)
 idles-drop w v Listed q a b = idles w v _ a b (λ g. refl) (λ g. refl) (λ g. refl)
 idles-drop w v Ended q a b = idles w v _ a b (λ g. refl) (λ g. refl) (λ g. refl)
@@ -147,7 +147,7 @@ idles-begun p w o _ = idles w _ _ refl refl (λ g. refl) (λ g. refl) (λ g. ref
 keeps-idle : (w : World) (d : Done) → Idles w d → KeepsSafe w [] d
 keeps-idle w d i g r n b h = record {
   none = omega (arith, i.appends g, h.none);
-  queued = ap (λ (q : ClosableQueue ℕ). times g q.items) i.queue ∙ h.queued;
+  queued = ap (λ (qs : Queues). times g (all_in qs)) i.queue ∙ h.queued;
   resting = omega (arith, i.polls g, i.ending g, h.resting);
   marked = subst
       (λ (x : State). x.closed ≡ false → x.completed ≡ false → (x.scheduled ≡ true) × (x.running ≡ false))
@@ -184,7 +184,8 @@ tame w (op.Steal (steal_op.Take x more)) e = refl
 tame w (op.Run (run_op.Reschedule q a)) e = absurd (cc)
 tame w (op.Run run_op.MakeRoom) e = refl
 tame w (op.Run run_op.ReturnRoom) e = refl
-tame w (op.Run (run_op.SearchCommon x)) e = refl
+tame w (op.Run (run_op.TakeTurn x)) e = refl
+tame w (op.Run (run_op.SearchCommon x look)) e = refl
 tame w (op.Run (run_op.LookOwn x at left)) e = refl
 tame w (op.Run (run_op.WakeOwn x)) e = refl
 tame w _ e = tt

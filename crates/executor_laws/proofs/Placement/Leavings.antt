@@ -2,8 +2,12 @@
 -- Who leaves the list of queues, as the run's own future was ready or the run is dropped, goes on to leave it until its
 -- call ends; and nobody else begins to.
 use Rattle.std.proofs.Common.{◌≡◌, ◌∙◌, ℕ, zero, suc, ◌≤◌, ◌%◌, List, [], ◌∷◌}
-use Rattle.std.proofs.Common.{length, Bool, true, false, refl, arith}
+use Rattle.std.proofs.Common.{length, Bool, true, false, refl, ap, arith}
 use Rattle.std.specs.Prelude.{Option, Some, None}
+use Rattle.executor_model.specs.declared.op.Look.{Look}
+use Rattle.executor_model.specs.declared.op.Look.TheVariants.{First, Second}
+use Rattle.executor_model.specs.World.{queue_of}
+use Rattle.executor_model.specs.Acts.{mark_in}
 use Rattle.executor_parts.specs.Sleepers.{waker_at}
 use Rattle.task_moves.specs.Moves as moves
 use Rattle.executor_model.specs.declared.call.Call.{Call}
@@ -41,11 +45,11 @@ use Rattle.executor_model.specs.declared.step.UserEnd.TheVariants as end
 use Rattle.executor_model.specs.Acts.{copy_by}
 use Rattle.executor_model.specs.ActsOfRuns.{call_by_reference, make_room_by, make_run_by, reschedule_by, steal_by, wake_own}
 use Rattle.executor_model.specs.ActsOfSleepers.{copy_sleeper_by, sleep_again_by, sleep_anew_by, fall_asleep_by}
-use Rattle.executor_model.specs.ActsOfSleepers.{sleep_listed_by, pend_as, search_by, sleeper_goes}
+use Rattle.executor_model.specs.ActsOfSleepers.{sleep_listed_by, held_as, pend_as, look_tick_by, sleeper_goes}
 use Rattle.executor_model.specs.Doing.{act, list_act, run_act, search_by_who}
 use Rattle.executor_model.specs.Rows.{running_of}
 use Rattle.executor_model.specs.Steps.{accepts, begun, drop_run, future_of, kept, poll_run, react, with_future}
-use Rattle.executor_model.specs.Weights.{same, weigh}
+use Rattle.executor_model.specs.Weights.{is_run, same, weigh}
 use Rattle.executor_model.specs.World.{World, Ticker, Awake, Asleep, Left, Stage, New, Listed, Ended, Done, log, own_of, task}
 use Rattle.executor_model.proofs.Steps.Asides.{aside-owed}
 use Rattle.executor_model.proofs.Quiet.Calls.{calling_of}
@@ -61,6 +65,7 @@ use Rattle.executor_laws.proofs.Placement.Answering.{is_end, readying_of}
 abbrev pub off_of : ℕ → Op → ℕ
 off_of r (op.Run (run_op.Reschedule q reply.Ready)) = same r q
 off_of r (op.End reply.Ready (hold.Run q)) = same r q
+off_of r (op.Tick (tick_op.Look s look)) = is_run r s.who
 off_of r _ = 0
 
 -- it leaves as it is dropped
@@ -86,6 +91,7 @@ leaving_of r (op.List (list_op.LockWrite s)) = leaving_section r s
 leaving_of r (op.List (list_op.Write s)) = leaving_section r s
 leaving_of r (op.Run (run_op.Reschedule q a)) = same r q
 leaving_of r (op.End reply.Ready (hold.Run q)) = same r q
+leaving_of r (op.Tick (tick_op.Look s look)) = is_run r s.who
 leaving_of r _ = 0
 
 same-few : (r q : ℕ) → same r q ≤ 1
@@ -114,17 +120,23 @@ leaving-uses r (op.List (list_op.LockWrite section.MakeRun)) = omega arith
 leaving-uses r (op.List (list_op.Write section.MakeRun)) = omega arith
 leaving-uses r (op.Run (run_op.Reschedule q a)) = omega arith
 leaving-uses r (op.End reply.Ready (hold.Run q)) = omega arith
+leaving-uses r (op.Tick (tick_op.Look s look)) = omega arith
 leaving-uses r _ = omega arith
 
 section-few : (r : ℕ) (s : Section) → leaving_section r s ≤ 1
 section-few r (section.Unregister q a) = same-few r q
 section-few r _ = omega arith
 
+who-few : (r : ℕ) (who : TickOrRun) → is_run r who ≤ 1
+who-few r (tick_or_run.Tick t) = omega arith
+who-few r (tick_or_run.Run q) = same-few r q
+
 few : (r : ℕ) (o : Op) → leaving_of r o ≤ calling_of o
 few r (op.List (list_op.LockWrite s)) = section-few r s
 few r (op.List (list_op.Write s)) = section-few r s
 few r (op.Run (run_op.Reschedule q a)) = same-few r q
 few r (op.End reply.Ready (hold.Run q)) = same-few r q
+few r (op.Tick (tick_op.Look s look)) = who-few r s.who
 few r _ = omega arith
 
 mild : (r : ℕ) → Mild (leaving_of r)
@@ -134,6 +146,7 @@ mild r = record {
   spawned = by_spawned;
   handle = by_handle;
   handles = λ o. refl;
+  take = λ look. refl;
 }
   where
     by_executor : (a : Reply) → leaving_of r (op.End a hold.Executor) ≡ 0
@@ -156,7 +169,8 @@ part r x = record {
   own_length = λ from t m. refl;
   take = λ from t m. refl;
   put = λ from t m f. refl;
-  common = refl;
+  turn = refl;
+  common = λ look. refl;
   look = λ at left. refl;
   own = refl;
   lock = refl;
@@ -168,19 +182,8 @@ leaves (op.List (list_op.LockWrite (section.Unregister q a))) = true
 leaves (op.List (list_op.Write (section.Unregister q a))) = true
 leaves (op.Run (run_op.Reschedule q a)) = true
 leaves (op.End a held) = true
+leaves (op.Tick (tick_op.Look s look)) = true
 leaves _ = false
-
-search-none : (r : ℕ) (x : Ticker) (w : World) (q : List ℕ) (s : Sleeping) (t : ℕ) → s.who ≡ tick_or_run.Tick t →
-    weigh (leaving_of r) (search_by x w q s).next ≡ 0
-search-none r x w [] s t e = refl
-search-none r x w (f ∷ rest) s t e = by x s.who t e
-  where
-    by : (x : Ticker) (who : TickOrRun) (t : ℕ) → who ≡ tick_or_run.Tick t →
-        weigh (leaving_of r) (search_by x w (f ∷ rest) (record s { who = who })).next ≡ 0
-    by Awake (tick_or_run.Tick u) t e = refl
-    by (Asleep n) (tick_or_run.Tick u) t e = refl
-    by Left (tick_or_run.Tick u) t e = refl
-    by x (tick_or_run.Run u) t e = absurd (cc)
 
 module _ (r : ℕ) (s : Sleeping) where
   pends : weigh (leaving_of r) (pend_as s.who) ≡ 0
@@ -250,23 +253,26 @@ none-run : (r p : ℕ) (h : Hint) (o : RunOp) (w : World) → leaves (op.Run o) 
     weigh (leaving_of r) (run_act p h o w).next ≡ 0
 none-run r p h run_op.MakeRoom w e = none-room r h.refused w
 none-run r p h run_op.ReturnRoom w e = refl
-none-run r p h (run_op.SearchCommon x) w e = part-common (leaving_of r) (mild r) x 0 (part r x) w.queue.items w
+none-run r p h (run_op.TakeTurn x) w e = refl
+none-run r p h (run_op.SearchCommon x look) w e =
+    part-common (leaving_of r) (mild r) x 0 (part r x) look (queue_of w (mark_in look)).items w
 none-run r p h (run_op.LookOwn x at left) w e =
     part-look (leaving_of r) (mild r) x 0 (part r x) (own_of w x.run) w at left
 none-run r p h (run_op.WakeOwn x) w e = none-own r p w x
 none-run r p h (run_op.Reschedule q a) w e = absurd (cc)
 
-none-search : (r : ℕ) (who : TickOrRun) (w : World) (s : Sleeping) → s.who ≡ who →
-    weigh (leaving_of r) (search_by_who who w s).next ≡ 0
-none-search r (tick_or_run.Tick t) w s e = search-none r _ w w.queue.items s t e
-none-search r (tick_or_run.Run q) w s e =
+none-search : (r : ℕ) (who : TickOrRun) (p : ℕ) (w : World) (s : Sleeping) → s.who ≡ who →
+    weigh (leaving_of r) (search_by_who who p w s).next ≡ 0
+none-search r (tick_or_run.Tick t) p w s e = omega (arith, ap (is_run r) e)
+none-search r (tick_or_run.Run q) p w s e =
     let x : RunPoll = record { run = q; waker = s.waker; poll = s.poll } in
     part-own (leaving_of r) (mild r) x 0 (part r x) (own_of w q) w
 
 pub none-by : (b : Bool) (r p : ℕ) (h : Hint) (o : Op) (w : World) → is_for_runs o ≡ b → leaves o ≡ false →
     weigh (leaving_of r) (act p h o w).next ≡ 0
 none-by false r p h o w n e = mild-next (leaving_of r) (mild r) p h o w n
-none-by true r p h (op.Tick (tick_op.Search s)) w n e = none-search r s.who w s refl
+none-by true r p h (op.Tick (tick_op.Search s)) w n e = none-search r s.who p w s refl
+none-by true r p h (op.Tick (tick_op.Look s look)) w n e = absurd (cc)
 none-by true r p h (op.Tick (tick_op.CopyWaker s)) w n e = none-copy r _ w s
 none-by true r p h (op.Tick (tick_op.FallAsleep s)) w n e = none-sleep r s _ w
 none-by true r p h (op.User (user_op.PollOwn x)) w n e = refl
@@ -289,16 +295,19 @@ leaving-more r zero w x = weighs-stolen (leaving_of r) x.poll 0 0 found x.then w
       search = refl;
       wake = refl;
       steal = λ f. refl;
+      steal_plain = λ f. refl;
       look = λ at left. refl;
     }
 
     none : (t : Then) → by_then 0 0 t ≡ 0
     none (then.Found f) = refl
+    none (then.StealPlain f) = refl
     none (then.Run f) = refl
     none (then.Walk at left) = refl
 leaving-more r (suc n) w x = refl
 
 not-leaving : (r : ℕ) (o : Op) → leaves o ≡ false → leaving_of r o ≡ 0
+not-leaving r (op.Tick (tick_op.Look s look)) e = absurd (cc)
 not-leaving r (op.List (list_op.LockWrite (section.Unregister q a))) e = absurd (cc)
 not-leaving r (op.List (list_op.Write (section.Unregister q a))) e = absurd (cc)
 not-leaving r (op.Run (run_op.Reschedule q a)) e = absurd (cc)
@@ -332,6 +341,20 @@ abbrev pub is_unregister : Op → Bool
 is_unregister (op.List (list_op.Write (section.Unregister q a))) = true
 is_unregister _ = false
 
+off-held : (r : ℕ) (who : TickOrRun) → off_of r (op.End reply.Ready (held_as who)) ≡ is_run r who
+off-held r (tick_or_run.Tick u) = refl
+off-held r (tick_or_run.Run u) = refl
+
+-- a look goes on with nothing of these, but that it may be ready
+leaves-look : (look : Look) (r : ℕ) (x : Ticker) (w : World) (q : List ℕ) (s : Sleeping) →
+    Leaves r (op.Tick (tick_op.Look s look) ∷ []) (look_tick_by x w look q s).next
+leaves-look (First mark) r x w [] s = record { off = omega arith; dropping = omega arith; readying = omega arith }
+leaves-look (Second mark) r x w [] s = record { off = omega arith; dropping = omega arith; readying = omega arith }
+leaves-look look r Awake w (f ∷ rest) s = record { off = omega (arith, off-held r s.who); dropping = omega arith; readying = omega arith }
+leaves-look look r (Asleep n) w (f ∷ rest) s =
+    record { off = omega (arith, off-held r s.who); dropping = omega arith; readying = omega arith }
+leaves-look look r Left w (f ∷ rest) s = record { off = omega (arith, off-held r s.who); dropping = omega arith; readying = omega arith }
+
 leaves-by : (b : Bool) (r p : ℕ) (h : Hint) (o : Op) (w : World) → leaves o ≡ b → is_end o ≡ false →
     is_unregister o ≡ false → Leaves r (o ∷ []) (act p h o w).next
 leaves-by false r p h o w e n m =
@@ -340,6 +363,7 @@ leaves-by true r p h (op.List (list_op.LockWrite (section.Unregister q a))) w e 
     record { off = omega arith; dropping = omega arith; readying = omega arith }
 leaves-by true r p h (op.List (list_op.Write (section.Unregister q a))) w e n m = absurd (cc)
 leaves-by true r p h (op.Run (run_op.Reschedule q a)) w e n m = leaves-reschedule r (own_of w q) w q a
+leaves-by true r p h (op.Tick (tick_op.Look s look)) w e n m = leaves-look look r _ w _ s
 leaves-by true r p h (op.End a held) w e n m = absurd (cc)
 leaves-by true r p h _ w e n m = absurd (cc)
 

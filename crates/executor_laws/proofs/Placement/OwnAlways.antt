@@ -1,6 +1,6 @@
 -- For runs_end_by_their_own_futures.
 -- From the beginning on no run ends but by its own future or by its drop, whatever calls use it meanwhile.
-use Rattle.std.proofs.Common.{◌≡◌, ◌⊎◌, ◌∙◌, inl, inr, ⊎_elim, ℕ, zero, suc, ◌+◌, ◌<◌, ◌≤◌, List, [], ◌∷◌, ◌++◌, length}
+use Rattle.std.proofs.Common.{◌≡◌, ◌⊎◌, ◌∙◌, inl, inr, ⊎_elim, ℕ, zero, suc, ◌<◌, ◌≤◌, List, [], ◌∷◌, ◌++◌, length}
 use Rattle.std.proofs.Common.{get_or, Bool, true, false, ltb, refl, sym, ap, arith}
 use Rattle.std.proofs.Math.ListN.{length-set}
 use Rattle.std.proofs.lemmas.Bool.Decides.{nat_tests}
@@ -39,8 +39,8 @@ use Rattle.executor_laws.proofs.Fewness.Untaken.{registered-same, unregistered-s
 use Rattle.executor_laws.proofs.Placement.Answering.{readying_of}
 use Rattle.executor_laws.proofs.Placement.Evens.{even-act, even-react}
 use Rattle.executor_laws.proofs.Placement.Leavings.{drops_run}
-use Rattle.executor_laws.proofs.Placement.OwnReady.{Kept, Lasts, ended-here, idle-still, lasts-on, not-both, on-part, ran-here, reached-on}
-use Rattle.executor_laws.proofs.Placement.OwnReady.{there}
+use Rattle.executor_laws.proofs.Placement.OwnReady.{Kept, Lasts, apart-here, ended-here, idle-still, lasts-on, not-both, on-part, ran-here}
+use Rattle.executor_laws.proofs.Placement.OwnReady.{reached-on, there}
 use Rattle.executor_laws.proofs.Placement.RunningSteps.{runs-begun}
 use Rattle.executor_laws.proofs.Reach.LoneSteps.{answers}
 
@@ -123,11 +123,11 @@ module _ (r : ℕ) (s : Machine) (here : Reached s) (h : Watched r s) where
       ⊎_elim
       (λ (y : OwnIsReady r s t). inl y)
       (λ (y : Kept r s.world (stack s (party_of t)) (part_after s.world (stack s (party_of t)) t)). inr (record {
-        idle = idle-still r s h.idle t m y;
+        idle = idle-still r s (apart-here s here r) h.idle t m y;
         stage = λ i j. absurd (born s.world (part_after s.world (stack s (party_of t)) t).world r
             (grown-part s.world s.parties (stack s (party_of t)) t x.1) l i j);
       }))
-      (on-part r s h.idle t x.1 m)
+      (on-part r s (apart-here s here r) h.idle t x.1 m)
 
   unmade-on : length s.world.runs ≤ r → (t : Step) → OwnIsReady r s t ⊎ Watched r (stepped s (step s t))
   unfolding step
@@ -138,7 +138,7 @@ module _ (r : ℕ) (s : Machine) (here : Reached s) (h : Watched r s) where
       (λ (l : r < length s.world.runs). ⊎_elim
       (λ (y : OwnIsReady r s t). inl y)
       (λ (y : Lasts r (stepped s (step s t))). inr (record { idle = y.idle; stage = λ i j. y.stage j }))
-      (lasts-on r s (ran-here s here r) (record { idle = h.idle; stage = λ j. h.stage l j }) t))
+      (lasts-on r s (ran-here s here r) (apart-here s here r) (record { idle = h.idle; stage = λ j. h.stage l j }) t))
       (λ (l : length s.world.runs ≤ r). unmade-on l t)
       (or-past r (length s.world.runs))
 

@@ -11,13 +11,17 @@ use Rattle.executor_model.specs.declared.call.Reply.TheVariants as reply
 use Rattle.executor_model.specs.declared.event.Answer.TheVariants as answer
 use Rattle.executor_model.specs.declared.event.Event.TheVariants as event
 use Rattle.executor_model.specs.declared.op.ListOp.TheVariants as list_op
+use Rattle.executor_model.specs.declared.op.Look.{Look}
+use Rattle.executor_model.specs.declared.op.Look.TheVariants.{First, Second}
 use Rattle.executor_model.specs.declared.op.Op.{Op}
 use Rattle.executor_model.specs.declared.op.Op.TheVariants as op
 use Rattle.executor_model.specs.declared.op.RunOp.TheVariants as run_op
 use Rattle.executor_model.specs.declared.op.RunPoll.{RunPoll}
 use Rattle.executor_model.specs.declared.op.Section.TheVariants as section
+use Rattle.executor_model.specs.declared.op.Sleeping.{Sleeping}
 use Rattle.executor_model.specs.declared.op.Steal.{Steal}
 use Rattle.executor_model.specs.declared.op.StealOp.TheVariants as steal_op
+use Rattle.executor_model.specs.declared.op.TickOp.TheVariants as tick_op
 use Rattle.executor_model.specs.declared.op.UserOp.TheVariants as user_op
 use Rattle.executor_model.specs.declared.op.Waker.{Waker}
 use Rattle.executor_model.specs.declared.step.Hint.{Hint}
@@ -27,7 +31,9 @@ use Rattle.executor_model.specs.declared.step.StepError.{StepError}
 use Rattle.executor_model.specs.declared.step.StepError.TheVariants.{NoSuch, WrongAnswer}
 use Rattle.executor_model.specs.declared.step.UserEnd.{UserEnd}
 use Rattle.executor_model.specs.declared.step.UserEnd.TheVariants as end
+use Rattle.executor_model.specs.Acts.{mark_in}
 use Rattle.executor_model.specs.ActsOfRuns as runs
+use Rattle.executor_model.specs.ActsOfSleepers.{look_tick_by}
 use Rattle.executor_model.specs.Doing.{act}
 use Rattle.executor_model.specs.Keeper.{is_run_drop}
 use Rattle.executor_model.specs.Rows.{running_of}
@@ -35,8 +41,10 @@ use Rattle.executor_model.specs.Steps.{Machine, Part, accepts, answer_refusal, b
 use Rattle.executor_model.specs.Steps.{mine, onto, part_after, part_refusal, party_of, poll_run, react, refusal, run, settled_by}
 use Rattle.executor_model.specs.Steps.{stack, start, step, step_by, stepped, top, unless}
 use Rattle.executor_model.specs.Trace.{has}
-use Rattle.executor_model.specs.Weights.{same, weigh, weigh_all}
-use Rattle.executor_model.specs.World.{World, Stage, New, Listed, Ended, Run, Done, log, new_run, no_run, put_own, run_of}
+use Rattle.executor_model.specs.Weights.{is_run, same, weigh, weigh_all}
+use Rattle.executor_model.specs.World.{World, Stage, New, Listed, Ended, Run, Done, Ticker, Asleep, Awake, Left, log, new_run}
+use Rattle.executor_model.specs.World.{no_run, place_of, put_own}
+use Rattle.executor_model.specs.World.{queue_of, run_of}
 use Rattle.executor_model.proofs.OwnQueues.RunsAside.{hull_of}
 use Rattle.executor_model.proofs.OwnQueues.RunsDone.{Deed, deed-act}
 use Rattle.executor_model.proofs.OwnQueues.UsingRuns.{is_even}
@@ -48,11 +56,12 @@ use Rattle.executor_model.proofs.Steps.Reached.{Reached}
 use Rattle.executor_model.proofs.Steps.Tests.{and-right}
 use Rattle.executor_model.proofs.Steps.TraceSteps.{continues}
 use Rattle.executor_laws.specs.RunEnds.{EndsByItsOwn, OwnIsReady, OwnWasReady, WasAnsweredReady}
-use Rattle.executor_laws.proofs.Placement.Answering.{readying_of}
+use Rattle.executor_laws.proofs.Placement.Answering.{held, readying_of}
 use Rattle.executor_laws.proofs.Placement.BoundWays.{bonded}
 use Rattle.executor_laws.proofs.Placement.Evens.{even-act, even-react, same-stage}
 use Rattle.executor_laws.proofs.Placement.Leavings.{dropping_of, drops_run, leaves, leaving-uses, leaving_of, none-begun, none-by}
 use Rattle.executor_laws.proofs.Placement.Leavings.{readying-leaves}
+use Rattle.executor_laws.proofs.Placement.OfTicks.{NoneAstray, astray, none-astray}
 use Rattle.executor_laws.proofs.Placement.RunAnswers.{ready-at-the-end}
 use Rattle.executor_laws.proofs.Placement.Running.{RanIn}
 use Rattle.executor_laws.proofs.Placement.RunningSteps.{runs-begun}
@@ -75,14 +84,25 @@ ready-unregister : (r q : ℕ) (a : Reply) →
 ready-unregister r q reply.Ready = omega arith
 ready-unregister r q _ = omega arith
 
-ready-act : (b : Bool) (r p : ℕ) (h : Hint) (o : Op) (w : World) → leaves o ≡ b →
+-- only a tick looks so
+ready-look : (look : Look) (r : ℕ) (x : Ticker) (w : World) (q : List ℕ) (s : Sleeping) → is_run r s.who ≡ 0 →
+    weigh (readying_of r) (look_tick_by x w look q s).next ≡ 0
+ready-look (First mark) r x w [] s z = refl
+ready-look (Second mark) r x w [] s z = refl
+ready-look look r Awake w (f ∷ rest) s z = omega (arith, held r s.who, z)
+ready-look look r (Asleep n) w (f ∷ rest) s z = omega (arith, held r s.who, z)
+ready-look look r Left w (f ∷ rest) s z = omega (arith, held r s.who, z)
+
+ready-act : (b : Bool) (r p : ℕ) (h : Hint) (o : Op) (w : World) → leaves o ≡ b → astray r o ≡ 0 →
     weigh (readying_of r) (act p h o w).next ≤ readying_of r o
-ready-act false r p h o w e = omega (arith, unready r (act p h o w).next (none-by _ r p h o w refl e))
-ready-act true r p h (op.List (list_op.LockWrite (section.Unregister q a))) w e = omega arith
-ready-act true r p h (op.List (list_op.Write (section.Unregister q a))) w e = ready-unregister r q a
-ready-act true r p h (op.Run (run_op.Reschedule q a)) w e = ready-reschedule r _ w q a
-ready-act true r p h (op.End a held) w e = omega arith
-ready-act true r p h _ w e = absurd (cc)
+ready-act false r p h o w e k = omega (arith, unready r (act p h o w).next (none-by _ r p h o w refl e))
+ready-act true r p h (op.List (list_op.LockWrite (section.Unregister q a))) w e k = omega arith
+ready-act true r p h (op.List (list_op.Write (section.Unregister q a))) w e k = ready-unregister r q a
+ready-act true r p h (op.Run (run_op.Reschedule q a)) w e k = ready-reschedule r _ w q a
+ready-act true r p h (op.End a held) w e k = omega arith
+ready-act true r p h (op.Tick (tick_op.Look s look)) w e k =
+    omega (arith, ready-look look r (place_of w s.who) w (queue_of w (mark_in look)).items s k)
+ready-act true r p h _ w e k = absurd (cc)
 
 -- but by the end of user code, where the own future is ready
 
@@ -238,7 +258,7 @@ module _ (r : ℕ) (w : World) (os : List Op) where
         weigh-reverse (readying_of r) d.next,
       )) k
 
-  module _ (z : weigh (readying_of r) os ≡ 0) where
+  module _ (z : weigh (readying_of r) os ≡ 0) (i : weigh (astray r) os ≡ 0) where
     below : (v : Op → ℕ) (o : Op) → top os ≡ Some o → weigh v os ≡ weigh v (below_top os) + v o
     below v o e = omega (arith, ap (weigh v) (topped os o e), weigh-append v (below_top os) (o ∷ []))
 
@@ -246,7 +266,13 @@ module _ (r : ℕ) (w : World) (os : List Op) where
     went p h None e = record { todo = z; stage = λ k. inl k }
     went p h (Some o) e = onto-kept p (act p h o w) (below_top os)
         (omega (arith, z, below (readying_of r) o e))
-        (omega (arith, z, below (readying_of r) o e, ready-act (leaves o) r p h o w refl))
+        (omega (
+          arith,
+          z,
+          below (readying_of r) o e,
+          ready-act (leaves o) r p h o w refl
+              (omega (arith, i, below (astray r) o e)),
+        ))
         (λ k. ⊎_elim
         (λ (x : (run_of w r).stage ≡ Ended). inl x)
         (λ (x : 1 ≤ readying_of r o + dropping_of r o).
@@ -285,41 +311,44 @@ pub there : (b : Bool) (k : Option StepError) → unless b NoSuch k ≡ None →
 there true k e = (refl, e)
 there false k e = absurd (cc)
 
-module _ (r : ℕ) (s : Machine) (idle : weigh_all (readying_of r) s.parties ≡ 0) where
-  pub on-part : (t : Step) → part_refusal s.world s.parties (stack s (party_of t)) t ≡ None → party_of t < length s.parties →
-      OwnIsReady r s t ⊎ Kept r s.world (stack s (party_of t)) (part_after s.world (stack s (party_of t)) t)
-  on-part t e l =
-      let z : weigh (readying_of r) (stack s (party_of t)) ≡ 0 =
-      omega (arith, idle, weigh_all-set (readying_of r) s.parties (party_of t) [] l) in by t e z
-    where
-      by : (t : Step) → part_refusal s.world s.parties (stack s (party_of t)) t ≡ None →
-          weigh (readying_of r) (stack s (party_of t)) ≡ 0 →
-          OwnIsReady r s t ⊎ Kept r s.world (stack s (party_of t)) (part_after s.world (stack s (party_of t)) t)
-      by (steps_of.Begin p c) e z = inr (begins r s.world (stack s p) z p c (mine (top (stack s p))))
-      by (steps_of.Go p hint) e z = inr (went r s.world (stack s p) z p hint (top (stack s p)) refl)
-      by (steps_of.Answer p u) e z = ⊎_elim
-          (λ (x : (x : _) × (top (stack s p) ≡ Some (op.User (user_op.PollOwn x))) × (u ≡ end.Polled answer.Ready) × (x.run ≡ r)).
-          inl (record {
-            party = p;
-            poll = x.0;
-            is = ap (λ (y : UserEnd). steps_of.Answer p y) x.2;
-            stands = x.1;
-            own = x.3;
-          }))
-          (λ (x : Kept r s.world (stack s p) (part_after s.world (stack s p) (steps_of.Answer p u))). inr x)
-          (answered r s.world (stack s p) z p u (top (stack s p)) refl e)
+module _ (r : ℕ) (s : Machine) (apart : weigh_all (astray r) s.parties ≡ 0) (idle : weigh_all (readying_of r) s.parties ≡ 0)
+  where
+    pub on-part : (t : Step) → part_refusal s.world s.parties (stack s (party_of t)) t ≡ None → party_of t < length s.parties →
+        OwnIsReady r s t ⊎ Kept r s.world (stack s (party_of t)) (part_after s.world (stack s (party_of t)) t)
+    on-part t e l =
+        let z : weigh (readying_of r) (stack s (party_of t)) ≡ 0 =
+        omega (arith, idle, weigh_all-set (readying_of r) s.parties (party_of t) [] l) in
+        let i : weigh (astray r) (stack s (party_of t)) ≡ 0 =
+        omega (arith, apart, weigh_all-set (astray r) s.parties (party_of t) [] l) in by t e z i
+      where
+        by : (t : Step) → part_refusal s.world s.parties (stack s (party_of t)) t ≡ None →
+            weigh (readying_of r) (stack s (party_of t)) ≡ 0 → weigh (astray r) (stack s (party_of t)) ≡ 0 →
+            OwnIsReady r s t ⊎ Kept r s.world (stack s (party_of t)) (part_after s.world (stack s (party_of t)) t)
+        by (steps_of.Begin p c) e z i = inr (begins r s.world (stack s p) z i p c (mine (top (stack s p))))
+        by (steps_of.Go p hint) e z i = inr (went r s.world (stack s p) z i p hint (top (stack s p)) refl)
+        by (steps_of.Answer p u) e z i = ⊎_elim
+            (λ (x : (x : _) × (top (stack s p) ≡ Some (op.User (user_op.PollOwn x))) × (u ≡ end.Polled answer.Ready) × (x.run ≡ r)).
+            inl (record {
+              party = p;
+              poll = x.0;
+              is = ap (λ (y : UserEnd). steps_of.Answer p y) x.2;
+              stands = x.1;
+              own = x.3;
+            }))
+            (λ (x : Kept r s.world (stack s p) (part_after s.world (stack s p) (steps_of.Answer p u))). inr x)
+            (answered r s.world (stack s p) z i p u (top (stack s p)) refl e)
 
-  pub idle-still : (t : Step) → party_of t < length s.parties →
-      Kept r s.world (stack s (party_of t)) (part_after s.world (stack s (party_of t)) t) →
-      weigh_all (readying_of r) (set s.parties (party_of t) (part_after s.world (stack s (party_of t)) t).todo) ≡ 0
-  idle-still t l k = omega (
-    arith,
-    idle,
-    k.todo,
-    weigh_all-set (readying_of r) s.parties (party_of t) (part_after s.world (stack s (party_of t)) t).todo l,
-  )
+    pub idle-still : (t : Step) → party_of t < length s.parties →
+        Kept r s.world (stack s (party_of t)) (part_after s.world (stack s (party_of t)) t) →
+        weigh_all (readying_of r) (set s.parties (party_of t) (part_after s.world (stack s (party_of t)) t).todo) ≡ 0
+    idle-still t l k = omega (
+      arith,
+      idle,
+      k.todo,
+      weigh_all-set (readying_of r) s.parties (party_of t) (part_after s.world (stack s (party_of t)) t).todo l,
+    )
 
-module _ (r : ℕ) (s : Machine) (ran : RanIn s r) (h : Lasts r s) where
+module _ (r : ℕ) (s : Machine) (ran : RanIn s r) (apart : weigh_all (astray r) s.parties ≡ 0) (h : Lasts r s) where
   stays : (t : Step) → party_of t < length s.parties → Kept r s.world (stack s (party_of t)) (part_after s.world (stack s (party_of t)) t) →
       (later : (has (is_run_drop r) s.world.trace ≡ true → has (is_run_drop r)
       (part_after s.world (stack s (party_of t)) t).world.trace ≡ true)) →
@@ -329,7 +358,7 @@ module _ (r : ℕ) (s : Machine) (ran : RanIn s r) (h : Lasts r s) where
             (part_after s.world (stack s (party_of t)) t).todo;
       })
   stays t l k later = record {
-    idle = idle-still r s h.idle t l k;
+    idle = idle-still r s apart h.idle t l k;
     stage = λ e. later (⊎_elim (λ (x : (run_of s.world r).stage ≡ Ended). h.stage x)
         (λ (x : 1 ≤ weigh (dropping_of r) (stack s (party_of t))). ran.dropping (omega (
           arith,
@@ -354,7 +383,7 @@ module _ (r : ℕ) (s : Machine) (ran : RanIn s r) (h : Lasts r s) where
       ⊎_elim
       (λ (y : OwnIsReady r s t). inl y)
       (λ (y : Kept r s.world (stack s (party_of t)) (part_after s.world (stack s (party_of t)) t)). inr (stays t l y later))
-      (on-part r s h.idle t x.1 l)
+      (on-part r s apart h.idle t x.1 l)
 
   pub lasts-on : (t : Step) → OwnIsReady r s t ⊎ Lasts r (stepped s (step s t))
   unfolding step
@@ -362,6 +391,9 @@ module _ (r : ℕ) (s : Machine) (ran : RanIn s r) (h : Lasts r s) where
 
 pub ran-here : (s : Machine) → Reached s → (r : ℕ) → RanIn s r
 ran-here s x r = subst (λ (m : Machine). RanIn m r) (sym x.is) ((bonded x.limit x.kind x.parties x.steps).ran r)
+
+pub apart-here : (s : Machine) → Reached s → NoneAstray s
+apart-here s x = subst NoneAstray (sym x.is) (none-astray x.limit x.kind x.parties x.steps)
 
 run-append : (xs ys : List Step) (s : Machine) → run (xs ++ ys) s ≡ run ys (run xs s)
 run-append [] ys s = refl
@@ -384,7 +416,7 @@ lasts r (t ∷ ts) s x h = ⊎_elim
     (λ (k : OwnWasReady r ts (stepped s (step s t))). inl (inr k))
     (λ (k : Lasts r (run ts (stepped s (step s t)))). inr k)
     (lasts r ts (stepped s (step s t)) (reached-on s (t ∷ []) x) y))
-    (lasts-on r s (ran-here s x r) h t)
+    (lasts-on r s (ran-here s x r) (apart-here s x r) h t)
 
 pub not-both : (b : Bool) → b ≡ true → b ≡ false → ⊥
 not-both true e f = absurd (cc)

@@ -19,7 +19,7 @@ use Rattle.executor_model.specs.Sound.{pend, queued, times, times_in}
 use Rattle.executor_model.specs.Steps.{Machine, run, stack, start}
 use Rattle.executor_model.specs.Trace.{Trace, has, is_accepted, is_dropped, is_ready}
 use Rattle.executor_model.specs.Weights.{weigh_all}
-use Rattle.executor_model.specs.World.{Ended, own_of, run_of, task}
+use Rattle.executor_model.specs.World.{Ended, own_of, queued_in, run_of, task}
 use Rattle.executor_model.proofs.Polls.AskingExecutions.{Heard, heard}
 use Rattle.executor_model.proofs.Steps.Lift.{good}
 use Rattle.executor_model.proofs.Quiet.Resting.{Deep, all-rest, deep, rests}
@@ -190,7 +190,7 @@ module _ (s : Machine) (fine : Good s) (h : Heard s) (d : Deep s) (b : Bonded s)
       bond-is f r k.party k.place s.world.trace k.kept k.last k.unpolled k.undropped in
       let kept : (bond f s.world.trace).kept ≡ true = ap (λ (x : Bond). x.kept) is in
       let run : (bond f s.world.trace).run ≡ r = ap (λ (x : Bond). x.run) is in
-      let away : times f s.world.queue.items ≡ 0 = ⊎_elim
+      let away : times f (queued_in s.world) ≡ 0 = ⊎_elim
       (λ (y : Safe s.world f (pend f s.parties) (weigh_all (appends_of f) s.parties)). y.queued)
       (λ (y : (run_of s.world (bond f s.world.trace).run).stage ≡ Ended). absurd (not-ready k
       (sym (ap (λ (n : ℕ). (run_of s.world n).stage) run) ∙ y) (sym (ap (λ (n : ℕ). has (is_run_drop n) s.world.trace)
@@ -209,8 +209,8 @@ module _ (s : Machine) (fine : Good s) (h : Heard s) (d : Deep s) (b : Bonded s)
           x)
           ((b.ran r).ended z)
 
-  -- what stands in the executor's queue has no keeper
-  pub queue-common : (f : ℕ) → 1 ≤ times f s.world.queue.items → IsCommon f s.world.trace
+  -- what stands in the executor's queues has no keeper
+  pub queue-common : (f : ℕ) → 1 ≤ times f (queued_in s.world) → IsCommon f s.world.trace
   queue-common f k =
       let due : IsDue f s.world.trace = queued-due f (omega (arith, k)) in record {
         due = due;
@@ -223,7 +223,7 @@ module _ (s : Machine) (fine : Good s) (h : Heard s) (d : Deep s) (b : Bonded s)
         );
       }
 
-  pub common-queue : (f : ℕ) → IsCommon f s.world.trace → 1 ≤ times f s.world.queue.items
+  pub common-queue : (f : ℕ) → IsCommon f s.world.trace → 1 ≤ times f (queued_in s.world)
   common-queue f c = ⊎_elim
       (λ (z : times_in f s.world.own ≡ 0). omega (arith, z, due-queued f c.due))
       (λ (z : 1 ≤ times_in f s.world.own).

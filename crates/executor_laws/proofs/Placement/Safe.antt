@@ -6,7 +6,7 @@ use Rattle.executor_model.specs.declared.op.Op.{Op}
 use Rattle.executor_model.specs.Rows.{appends_of}
 use Rattle.executor_model.specs.Sound.{Pend, Sound, living, queued, times, tokens, with_ops}
 use Rattle.executor_model.specs.Weights.{weigh}
-use Rattle.executor_model.specs.World.{World, Done, task}
+use Rattle.executor_model.specs.World.{World, Done, queued_in, task}
 
 -- what is used of that which holds of g
 pub record Floor (w : World) (g : ℕ) (p : Pend) : Type 0 where
@@ -31,7 +31,7 @@ floor w g p h = record {
 
 pub record Safe (w : World) (g : ℕ) (p : Pend) (appends : ℕ) : Type 0 where
   pub none : appends ≡ 0
-  pub queued : times g w.queue.items ≡ 0
+  pub queued : times g (queued_in w) ≡ 0
   pub resting : p.polls + p.ending ≡ 0
   pub marked : (task w g).closed ≡ false → (task w g).completed ≡ false →
       ((task w g).scheduled ≡ true) × ((task w g).running ≡ false)

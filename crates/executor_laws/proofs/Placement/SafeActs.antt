@@ -1,11 +1,13 @@
 -- For due_futures_stand_with_their_keepers.
 -- Each thing that is done keeps a future away from the executor's queue (proofs/Placement/Safe), where it begins no poll of it and
 -- brings nothing into a run's own queue or from there.
-use Rattle.std.proofs.Common.{◌≡◌, ℕ, ◌+◌, ◌<◌, [], ◌∷◌, length, Bool, true, false, refl, ap, subst, arith}
+use Rattle.std.proofs.Common.{◌≡◌, ℕ, ◌+◌, ◌<◌, List, [], ◌∷◌, length, Bool, true, false, refl, ap, subst, arith}
 use Rattle.std.proofs.lemmas.List.{length-set}
 use Rattle.task_moves.specs.declared.moves.owed.Move.TheVariants as move
 use Rattle.executor_model.specs.declared.event.Answer.TheVariants as answer
 use Rattle.executor_model.specs.declared.event.Event.TheVariants as event
+use Rattle.executor_model.specs.declared.op.Look.{Look}
+use Rattle.executor_model.specs.declared.op.Look.TheVariants.{First, Second}
 use Rattle.executor_model.specs.declared.op.Op.{Op}
 use Rattle.executor_model.specs.declared.op.Op.TheVariants as op
 use Rattle.executor_model.specs.declared.op.RunOp.TheVariants as run_op
@@ -16,16 +18,19 @@ use Rattle.executor_model.specs.declared.op.TableOp.TheVariants as table_op
 use Rattle.executor_model.specs.declared.op.TickOp.TheVariants as tick_op
 use Rattle.executor_model.specs.declared.op.UserOp.TheVariants as user_op
 use Rattle.executor_model.specs.declared.step.Hint.{Hint}
+use Rattle.executor_model.specs.Acts.{mark_in}
+use Rattle.executor_model.specs.ActsOfSleepers.{look_tick_by}
 use Rattle.executor_model.specs.Doing.{act, search_by_who}
 use Rattle.executor_model.specs.Good.{pasts}
 use Rattle.executor_model.specs.Rows.{appends_of, past_of}
 use Rattle.executor_model.specs.Sound.{Pend, with_ops}
 use Rattle.executor_model.specs.Weights.{same, weigh}
-use Rattle.executor_model.specs.World.{World, done, log, task}
+use Rattle.executor_model.specs.World.{World, Ticker, Awake, Asleep, Left, done, log, queue_of, task}
 use Rattle.executor_model.proofs.Counts.Counting.{taken_up}
 use Rattle.executor_model.proofs.OneFuture.Effects.{effect-act}
 use Rattle.executor_model.proofs.OneFuture.Extras.{runs_of, runs_of_who}
 use Rattle.executor_model.proofs.Steps.Lists.{read_put, same_is}
+use Rattle.executor_model.proofs.Steps.QueuesByMark.{times-first}
 use Rattle.executor_laws.proofs.Placement.Safe.{Floor, KeepsSafe, Safe}
 use Rattle.executor_laws.proofs.Placement.SafeRuns.{is_put, is_reschedule}
 use Rattle.executor_laws.proofs.Placement.SafeRuns.{safe-list, safe-run, safe-search_own, safe-steal}
@@ -69,10 +74,22 @@ safe-other p h o w n u z m e = safe-effect w (o ∷ []) (act p h o w)
 
 safe-search : (who : TickOrRun) (p : ℕ) (h : Hint) (w : World) (s : Sleeping) → length w.awaiters ≡ length w.tasks →
     pasts (length w.tasks) w.waking ≡ 0 → weigh (past_of (length w.tasks)) (op.Tick (tick_op.Search s) ∷ []) ≡ 0 →
-    s.who ≡ who → KeepsSafe w (op.Tick (tick_op.Search s) ∷ []) (search_by_who s.who w s)
+    s.who ≡ who → KeepsSafe w (op.Tick (tick_op.Search s) ∷ []) (search_by_who s.who p w s)
 safe-search (tick_or_run.Tick t) p h w s n u z e =
     safe-other p h (op.Tick (tick_op.Search s)) w n u z tt (ap runs_of_who e)
 safe-search (tick_or_run.Run r) p h w s n u z e = rw e (safe-search_own w s r e)
+
+-- a look takes one from a queue at most
+safe-look : (look : Look) (x : Ticker) (q : List ℕ) (w : World) (s : Sleeping) → (queue_of w (mark_in look)).items ≡ q →
+    KeepsSafe w (op.Tick (tick_op.Look s look) ∷ []) (look_tick_by x w look q s)
+safe-look (First mark) x [] w s e g r n b h = grind arith
+safe-look (Second mark) x [] w s e g r n b h = grind arith
+safe-look look Awake (f ∷ rest) w s e g r n b h =
+    let z = times-first g f rest (mark_in look) w.queues e in grind (arith, same_is)
+safe-look look (Asleep k) (f ∷ rest) w s e g r n b h =
+    let z = times-first g f rest (mark_in look) w.queues e in grind (arith, same_is)
+safe-look look Left (f ∷ rest) w s e g r n b h =
+    let z = times-first g f rest (mark_in look) w.queues e in grind (arith, same_is)
 
 -- each thing to do that speaks of futures that are there
 pub safe-act : (p : ℕ) (h : Hint) (o : Op) (w : World) → length w.awaiters ≡ length w.tasks →
@@ -83,8 +100,10 @@ safe-act p h (op.Steal o) w n u z m = safe-steal p o w m
 safe-act p h (op.Run (run_op.WakeOwn x)) w n u z m = safe-other p h (op.Run (run_op.WakeOwn x)) w n u z m refl
 safe-act p h (op.Run run_op.MakeRoom) w n u z m = safe-run p h run_op.MakeRoom w tt
 safe-act p h (op.Run run_op.ReturnRoom) w n u z m = safe-run p h run_op.ReturnRoom w tt
-safe-act p h (op.Run (run_op.SearchCommon x)) w n u z m = safe-run p h (run_op.SearchCommon x) w tt
+safe-act p h (op.Run (run_op.TakeTurn x)) w n u z m = safe-run p h (run_op.TakeTurn x) w tt
+safe-act p h (op.Run (run_op.SearchCommon x look)) w n u z m = safe-run p h (run_op.SearchCommon x look) w tt
 safe-act p h (op.Run (run_op.LookOwn x at left)) w n u z m = safe-run p h (run_op.LookOwn x at left) w tt
 safe-act p h (op.Run (run_op.Reschedule r a)) w n u z m = absurd (cc)
 safe-act p h (op.Tick (tick_op.Search s)) w n u z m = safe-search s.who p h w s n u z refl
+safe-act p h (op.Tick (tick_op.Look s look)) w n u z m = safe-look look _ _ w s refl
 safe-act p h o w n u z m = safe-other p h o w n u z m refl

@@ -2,6 +2,10 @@
 -- What a run does keeps a future away from the executor's queue, but for what it schedules.
 use Rattle.std.proofs.Common.{◌≡◌, ℕ, zero, suc, List, [], ◌∷◌, length, Bool, true, false}
 use Rattle.std.proofs.Common.{refl, sym, ap, subst, get_or, arith}
+use Rattle.executor_parts.specs.Marks.{first_of}
+use Rattle.executor_model.specs.declared.op.Look.TheVariants.{First}
+use Rattle.executor_model.specs.World.{queue_of}
+use Rattle.executor_model.specs.Acts.{mark_in}
 use Rattle.task_moves.specs.declared.moves.state.State.{State}
 use Rattle.executor_model.specs.declared.op.ListOp.{ListOp}
 use Rattle.executor_model.specs.declared.op.ListOp.TheVariants as list_op
@@ -159,11 +163,16 @@ safe-run p h run_op.MakeRoom w e =
 safe-run p h run_op.ReturnRoom w e =
     let d = run_act p h run_op.ReturnRoom w in
     safe-fewer w (op.Run run_op.ReturnRoom ∷ []) d (untouched w d.world refl) refl (λ g. refl) (λ v z. refl)
-safe-run p h (run_op.SearchCommon x) w e =
-    let d = run_act p h (run_op.SearchCommon x) w in
-    safe-fewer w (op.Run (run_op.SearchCommon x) ∷ []) d (fewer w _ (takes-common w.queue.items w x))
-    (moves-common w.queue.items w x refl).same.tasks
-    (λ g. common-blind (appends_of g) (blind-appends g) w.queue.items w x) (plain-after-common w x)
+safe-run p h (run_op.TakeTurn x) w e =
+    let d = run_act p h (run_op.TakeTurn x) w in
+    safe-fewer w (op.Run (run_op.TakeTurn x) ∷ []) d (untouched w d.world refl) refl (λ g. refl)
+    (λ v z. omega (arith, z (op.Run (run_op.SearchCommon x (First (first_of w.urgent_turns)))) refl))
+safe-run p h (run_op.SearchCommon x look) w e =
+    let d = run_act p h (run_op.SearchCommon x look) w in
+    safe-fewer w (op.Run (run_op.SearchCommon x look) ∷ []) d (fewer w _ (takes-common look (queue_of w (mark_in look)).items w x))
+    (moves-common look (queue_of w (mark_in look)).items w x refl).same.tasks
+    (λ g. common-blind (appends_of g) (blind-appends g) look (queue_of w (mark_in look)).items w x)
+    (plain-after-common w x look)
 safe-run p h (run_op.LookOwn x at left) w e =
     let d = run_act p h (run_op.LookOwn x at left) w in
     safe-fewer w (op.Run (run_op.LookOwn x at left) ∷ []) d (untouched w d.world (queue-look (own_of w x.run) w x at left))

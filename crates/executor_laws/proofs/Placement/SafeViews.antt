@@ -6,6 +6,7 @@ use Rattle.std.proofs.Common.{◌∙◌, arith}
 use Rattle.std.proofs.lemmas.Bool.Decides.{nat_tests}
 use Rattle.std.proofs.lemmas.List.{length-append}
 use Rattle.std.specs.Prelude.{slice_set}
+use Rattle.executor_parts.specs.declared.mark.Mark.{Mark}
 use Rattle.task_moves.specs.declared.moves.owed.Move.{Move}
 use Rattle.task_moves.specs.declared.moves.owed.Move.TheVariants as move
 use Rattle.task_moves.proofs.Cases.{by_move}
@@ -20,7 +21,7 @@ use Rattle.executor_model.specs.Acts.{append_by, begin_drop, closing_ops, enter_
 use Rattle.executor_model.specs.Acts.{stands_alone}
 use Rattle.executor_model.specs.Sound.{Pend, with_ops}
 use Rattle.executor_model.specs.Weights.{weigh}
-use Rattle.executor_model.specs.World.{World, Done, done, log, task, without}
+use Rattle.executor_model.specs.World.{World, Done, done, log, task, without, mark_of}
 use Rattle.executor_model.proofs.Steps.Lists.{fresh_is, read_push, same_is, times-append}
 use Rattle.executor_model.proofs.OneFuture.Extras.{Extra, no_extra, runs_of, with_extra}
 use Rattle.executor_model.proofs.OneFuture.Views.{Seen, seen, before, after}
@@ -118,16 +119,16 @@ KeepsAway w old d = (g : ℕ) (r : Pend) (y : Extra) → Ground (seen w g (with_
     Away (seen w g (with_ops g old r) (with_extra g old y)) →
     Away (seen d.world g (with_ops g d.next r) (with_extra g d.next y))
 
-away-refuses : (w : World) (f : ℕ) → KeepsAway w (op.Queue (queue_op.Append f) ∷ []) (append_by false w f)
-away-refuses w f g r y b h = grind (arith, same_is)
+away-refuses : (w : World) (mark : Mark) (f : ℕ) → KeepsAway w (op.Queue (queue_op.Append f) ∷ []) (append_by false w mark f)
+away-refuses w mark f g r y b h = grind (arith, same_is)
 
 entered_is : (b : Bool) → ((entered b).scheduled ≡ true) × ((entered b).running ≡ false) ×
     ((entered b).closed ≡ false) × ((entered b).completed ≡ false)
 entered_is true = (refl, refl, refl, refl)
 entered_is false = (refl, refl, refl, refl)
 
-away-enters : (p : ℕ) (w : World) → KeepsAway w (op.Table table_op.Enter ∷ []) (enter_by false false p w)
-away-enters p w g r y b h =
+away-enters : (mark : Mark) (p : ℕ) (w : World) → KeepsAway w (op.Table (table_op.Enter mark) ∷ []) (enter_by false false mark p w)
+away-enters mark p w g r y b h =
     let e = entered_is w.is_static in grind (arith, same_is, fresh_is, read_push, times-append, length-append)
 
 away-unlists : (w : World) (f : ℕ) → KeepsAway w (op.Table (table_op.LeaveTable f) ∷ []) (leave_by true w f)
@@ -172,8 +173,8 @@ away-effect w old d n (passes s) g r y z b h = away-passes _ _ z (s g r y).passe
 away-effect w old _ n (turns d m p f v more i j k s a e) g r y z b h =
     turned-after Ground Away Needs away-moved away-loose d m p f v more i (λ q u. needs m f w v old q u j n k) a e g r y
     (ground-passes _ _ (s g r y).passes b) (away-passes _ _ z (s g r y).passes (s g r y).queues h)
-away-effect w old d n (refuses f e) g r y z b h = away-refuses w f g r y b h
-away-effect w old d n (enters p e) g r y z b h = away-enters p w g r y b h
+away-effect w old d n (refuses f e) g r y z b h = away-refuses w (mark_of w f) f g r y b h
+away-effect w old d n (enters mark p e) g r y z b h = away-enters mark p w g r y b h
 away-effect w old d n (unlists f e) g r y z b h = away-unlists w f g r y b h
 away-effect w old d n (drops p f) g r y z b h = away-drops p f w g r y b h
 away-effect w old d n takes_out g r y z b h = away-takes_out w.table w.waking w g r y b h

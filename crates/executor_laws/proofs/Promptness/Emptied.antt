@@ -1,5 +1,5 @@
 -- For no_means_that_nothing_was_queued.
--- The step by which a try of a tick is answered no looks at the queue, and finds none there.
+-- The step by which a try of a tick is answered no is its second look, and finds none there.
 use Rattle.std.proofs.Common.{◌≡◌, ◌∙◌, ⊎_elim, ℕ, List, [], ◌∷◌, ◌++◌, Bool, true, false, refl, sym, ap, subst, arith, append-nil, Result}
 use Rattle.std.proofs.lemmas.Bool.Decides.{nat_tests}
 use Rattle.std.proofs.lemmas.List.{append_assoc, append_cancel_left}
@@ -22,7 +22,11 @@ use Rattle.executor_model.specs.declared.step.StepError.{StepError}
 use Rattle.executor_model.specs.declared.step.StepError.TheVariants.{NoSuch}
 use Rattle.executor_model.specs.declared.step.UserEnd.{UserEnd}
 use Rattle.task_moves.specs.declared.moves.owed.Move.TheVariants as move
-use Rattle.executor_model.specs.Acts.{take_by}
+use Rattle.executor_parts.specs.declared.mark.Mark.{Mark}
+use Rattle.executor_parts.specs.Marks.{first_of, other}
+use Rattle.executor_model.specs.declared.op.Look.{Look}
+use Rattle.executor_model.specs.declared.op.Look.TheVariants.{First, Second}
+use Rattle.executor_model.specs.Acts.{mark_in, take_by}
 use Rattle.executor_model.specs.Calls.{Begun}
 use Rattle.executor_model.specs.Deeds.{deeds}
 use Rattle.executor_model.specs.Doing.{act}
@@ -30,7 +34,7 @@ use Rattle.executor_model.specs.Steps.{Machine, after, below_top, end_of, gone_o
 use Rattle.executor_model.specs.Steps.{refusal, run, settled_by, stack, start, step, stepped, top, unless}
 use Rattle.executor_model.specs.Trace.{Trace, has}
 use Rattle.executor_model.specs.Weights.{weigh}
-use Rattle.executor_model.specs.World.{World}
+use Rattle.executor_model.specs.World.{World, queue_of}
 use Rattle.executor_model.proofs.Copies.CopyFrames.{AllCounting, Any, Counting, all-counting, counting-later}
 use Rattle.executor_model.proofs.Copies.Endings.{Own, last-event, whose}
 use Rattle.executor_model.proofs.Promises.CallFrames.{Tied}
@@ -44,9 +48,10 @@ use Rattle.executor_model.proofs.Steps.Lists.{weigh-append}
 use Rattle.executor_model.proofs.Steps.Stepping.{step-made}
 use Rattle.executor_model.proofs.Table.Spawning.{top-last}
 use Rattle.executor_laws.specs.LoneEnds.{is_onward_of}
-use Rattle.executor_laws.specs.NoAnswers.{IsIn, NoMeansEmpty}
+use Rattle.executor_laws.specs.NoAnswers.{IsIn, LooksSecond, NoMeansEmpty}
 use Rattle.executor_laws.proofs.Promptness.PromptExecutions.{Parted, Prompts, parted, prompt, slow-onto, slow-react}
 use Rattle.executor_laws.proofs.Promptness.Prompting.{hasty, quick_of, slow-act}
+use Rattle.executor_laws.proofs.Promptness.SecondLooks.{emptied-before}
 
 not-both : (b : Bool) → b ≡ true → b ≡ false → ⊥
 not-both true e f = absurd (cc)
@@ -122,23 +127,38 @@ module _ (s : Machine) (p : ℕ) (prompts : Prompts s) (here : Tops s) (f : AllC
   parts : (rest : List Op) (o : Op) → stack s p ≡ rest ++ o ∷ [] → Parted p rest o (deeds p s.world.trace)
   parts rest o e = parted p (stack s p) rest o (deeds p s.world.trace) e (prompts p).stands
 
-  -- it takes from the queue, and finds it empty
-  by-take : (q : List ℕ) (rest : List Op) → s.world.queue.items ≡ q →
-      end_of (top (rest ++ reverse (take_by s.world q).next)) ≡ Some reply.No → q ≡ []
-  by-take [] rest i e = refl
-  by-take (g ∷ gs) rest i e =
+  -- it is its second look, and finds the queue empty
+  abbrev Found : Type 0
+  Found = (m : Mark) × LooksSecond m p s × ((queue_of s.world m).items ≡ [])
+
+  -- what comes on top, and is no end
+  goes-on : (rest : List Op) (o : Op) → is_end o ≡ false → end_of (top (rest ++ o ∷ [])) ≡ Some reply.No → ⊥
+  goes-on rest o n e = by o n (sym (ap end_of (top-last rest o)) ∙ e)
+    where
+      by : (x : Op) → is_end x ≡ false → end_of (Some x) ≡ Some reply.No → ⊥
+      by (op.End a held) n e = absurd (cc)
+      by _ n e = absurd (cc)
+
+  by-take : (look : Look) (q : List ℕ) (rest : List Op) → stack s p ≡ rest ++ op.Queue (queue_op.Take look) ∷ [] →
+      (queue_of s.world (mark_in look)).items ≡ q →
+      end_of (top (rest ++ reverse (take_by s.world look q).next)) ≡ Some reply.No → Found
+  by-take (First m) [] rest e i z = absurd (goes-on rest (op.Queue (queue_op.Take (Second (other m)))) refl z)
+  by-take (Second m) [] rest e i z = (m, ap top e ∙ top-last rest (op.Queue (queue_op.Take (Second m))), i)
+  by-take look (g ∷ gs) rest e i z =
       let no : None ≡ Some reply.No = sym (ap end_of (taken-top rest (op.End reply.Yes hold.Executor)
-      (op.Move move.TakeUp g) (op.Sleeper sleeper_op.ExchangeFlag))) ∙ e in absurd (cc)
+      (op.Move move.TakeUp g) (op.Sleeper sleeper_op.ExchangeFlag))) ∙ z in absurd (cc)
 
   quick-act : (h : Hint) (o : Op) (rest : List Op) → stack s p ≡ rest ++ o ∷ [] → quick_of o ≡ 1 → is_end o ≡ false →
-      end_of (top (rest ++ reverse (act p h o s.world).next)) ≡ Some reply.No → s.world.queue.items ≡ []
-  quick-act h (op.Queue queue_op.Take) rest e c n z = by-take s.world.queue.items rest refl z
+      end_of (top (rest ++ reverse (act p h o s.world).next)) ≡ Some reply.No → Found
+  quick-act h (op.Queue queue_op.TakeTurn) rest e c n z =
+      absurd (goes-on rest (op.Queue (queue_op.Take (First (first_of s.world.urgent_turns)))) refl z)
+  quick-act h (op.Queue (queue_op.Take look)) rest e c n z = by-take look _ rest e refl z
   quick-act h (op.Table table_op.LookAtTable) rest e c n z = absurd (no-look rest e)
   quick-act h (op.End a held) rest e c n z = absurd (cc)
   quick-act h _ rest e c n z = absurd (cc)
 
   on-act : (h : Hint) (o : Op) → top (stack s p) ≡ Some o →
-      end_of (top (below_top (stack s p) ++ reverse (act p h o s.world).next)) ≡ Some reply.No → s.world.queue.items ≡ []
+      end_of (top (below_top (stack s p) ++ reverse (act p h o s.world).next)) ≡ Some reply.No → Found
   on-act h o e z =
       let i : stack s p ≡ below_top (stack s p) ++ o ∷ [] = topped (stack s p) o e in
       let x = parts (below_top (stack s p)) o i in ⊎_elim
@@ -164,7 +184,7 @@ module _ (s : Machine) (p : ℕ) (prompts : Prompts s) (here : Tops s) (f : AllC
       by (x ∷ xs) q = absurd (cc)
 
   on-go : (h : Hint) (o : Option Op) → top (stack s p) ≡ o →
-      Told (gone_on p s.world (stack s p) o (λ x. act p h x s.world)).world → s.world.queue.items ≡ []
+      Told (gone_on p s.world (stack s p) o (λ x. act p h x s.world)).world → Found
   on-go h None e t = absurd (nothing t)
   on-go h (Some o) e t =
       let g = grows-act p h o s.world (unended o e) in
@@ -189,7 +209,7 @@ stepped-is s t e = ap (λ (r : Result Machine StepError). (stepped s r).world) (
 emptied-by : (s : Machine) (p : ℕ) → Prompts s → Tops s → AllCounting s → IsIn call.TryTick p s.world.trace → (t : Step) →
     is_onward_of p t ≡ true → (told : Trace) →
     (part_after s.world (stack s (party_of t)) t).world.trace ≡ s.world.trace ++ (told ++ event.CallEnded p reply.No ∷ []) →
-    s.world.queue.items ≡ []
+    (m : Mark) × LooksSecond m p s × ((queue_of s.world m).items ≡ [])
 emptied-by s p prompts here f k (Begin q c) n told e = absurd (cc)
 emptied-by s p prompts here f k (Go q h) n told e =
     let i : q ≡ p = grind (arith, nat_tests) in
@@ -203,10 +223,13 @@ emptied-by s p prompts here f k (Answer q u) n told e =
     ≡ s.world.trace ++ (told ++ event.CallEnded p reply.No ∷ [])) i e))
 
 emptied : (s : Machine) → Prompts s → Tops s → AllCounting s → NoMeansEmpty s
-emptied s prompts here f p t n k a =
-    let o : Own s p t = whose s p t reply.No here a in
-    emptied-by s p prompts here f k t n a.0
-    (sym (ap (λ (w : World). w.trace) (stepped-is s t o.possible)) ∙ a.1)
+emptied s prompts here f = record {
+  second = λ p t n k a.
+      let o : Own s p t = whose s p t reply.No here a in
+      emptied-by s p prompts here f k t n a.0
+      (sym (ap (λ (w : World). w.trace) (stepped-is s t o.possible)) ∙ a.1);
+  first = emptied-before s prompts;
+}
 
 pub no-means-empty : (limit : ℕ) (kind : Kind) (parties : ℕ) (steps : List Step) →
     NoMeansEmpty (run steps (start limit kind parties))

@@ -1,11 +1,17 @@
 -- For no_comes_at_once.
 -- Whoever is answered no has done nothing since his call began, in each run.
 use Rattle.std.proofs.Common.{◌≡◌, ◌≢◌, ◌⊎◌, ℕ, ◌+◌, ◌<◌, List, [], ◌∷◌, ◌++◌, length}
-use Rattle.std.proofs.Common.{Bool, true, false, ◌||◌, ◌&&◌, not, eqb, refl, sym, ap, ◌∙◌, subst, inl}
+use Rattle.std.proofs.Common.{Bool, true, false, ◌||◌, ◌&&◌, not, cond, eqb, refl, sym, ap, ◌∙◌, subst, inl}
 use Rattle.std.proofs.Common.{inr, ⊎_elim, arith, get_or-set_same, get_or-set_other}
 use Rattle.std.proofs.lemmas.Bool.Decides.{nat_tests}
-use Rattle.std.proofs.lemmas.List.{append_cancel_right}
+use Rattle.std.proofs.lemmas.List.{append_assoc, append_cancel_right}
 use Rattle.std.specs.Prelude.{Option, Some, None, reverse}
+use Rattle.executor_parts.specs.declared.mark.Mark.{Mark}
+use Rattle.executor_parts.specs.Marks.{first_of, other}
+use Rattle.executor_model.specs.declared.op.Look.{Look}
+use Rattle.executor_model.specs.declared.op.Look.TheVariants.{First, Second}
+use Rattle.executor_model.specs.World.{queue_of}
+use Rattle.executor_model.specs.Acts.{mark_in}
 use Rattle.executor_model.specs.declared.call.Call.{Call}
 use Rattle.executor_model.specs.declared.call.Call.TheVariants as call
 use Rattle.executor_model.specs.declared.call.Reply.{Reply}
@@ -34,7 +40,7 @@ use Rattle.executor_model.specs.declared.step.UserEnd.TheVariants as end
 use Rattle.executor_model.specs.Quiet.{begins_call}
 use Rattle.executor_model.specs.Trace.{Trace}
 use Rattle.executor_model.specs.World.{World, Stage, New, Listed, Ended, Done, done, log, run_of}
-use Rattle.executor_model.specs.Acts.{take_by, emptiness}
+use Rattle.executor_model.specs.Acts.{take_by, take_turn, turned, emptiness}
 use Rattle.executor_model.specs.Doing.{act}
 use Rattle.executor_model.specs.Weights.{same, weigh}
 use Rattle.executor_model.specs.Good.{Good}
@@ -47,28 +53,31 @@ use Rattle.executor_model.proofs.Table.Spawning.{top-last}
 use Rattle.executor_model.proofs.Steps.Ways.{Way, along}
 use Rattle.executor_model.proofs.Steps.Ways.Way.{acted, reacted, called}
 use Rattle.executor_model.specs.Deeds.{deeds}
-use Rattle.executor_laws.specs.AtOnce.{NoComesAtOnce}
+use Rattle.executor_laws.specs.AtOnce.{HasJustBegun, NoComesAtOnce}
 use Rattle.executor_model.proofs.Steps.Deeds.{is_end, Grows, grows-act, grows-react, grows-begun}
-use Rattle.executor_laws.proofs.Promptness.Prompting.{hasty, quick_of, is_no, told, fresh, told-append, told-grows, told-log}
-use Rattle.executor_laws.proofs.Promptness.Prompting.{fresh-log, deeds-other, deeds-other_log, slow-act}
+use Rattle.executor_model.proofs.Polls.Dueness.{by_last}
+use Rattle.executor_laws.proofs.Promptness.Prompting.{Began, Last, Other, Turned, came_last, fits, has_begun, is_told, last_after}
+use Rattle.executor_laws.proofs.Promptness.Prompting.{last_by, may, on_turn}
+use Rattle.executor_laws.proofs.Promptness.Prompting.{hasty, quick_of, is_no, told, fresh, fresh-append, told-append}
+use Rattle.executor_laws.proofs.Promptness.Prompting.{fresh-log, told-grows, told-log, deeds-other, deeds-other_log, slow-act}
 
 -- what p has to do, where it did this: nothing of it is answered no next; or what is on top may be,
--- and p's call has begun last
+-- where what p did last lets it be
 pub data Stands (p : ℕ) (os : List Op) (ds : Trace) : Type 0 where
   slow : weigh hasty os ≡ 0 → Stands p os ds
   quick : (rest : List Op) (o : Op) → os ≡ rest ++ o ∷ [] → quick_of o ≡ 1 → weigh hasty rest ≡ 0 →
-      fresh p false ds ≡ true → Stands p os ds
+      fits o (fresh p Other ds) ≡ true → Stands p os ds
 
 pub record Prompt (p : ℕ) (os : List Op) (ds : Trace) : Type 0 where
-  pub told : told p false ds ≡ true
+  pub told : told p Other ds ≡ true
   pub stands : Stands p os ds
 
 abbrev pub Prompts : Machine → Type 0
 Prompts s = (q : ℕ) → Prompt q (stack s q) (deeds q s.world.trace)
 
--- what is below the top isn't answered no next, and what is on top only where p's call has begun last
+-- what is below the top isn't answered no next, and what is on top only where what p did last lets it be
 abbrev pub Parted : ℕ → List Op → Op → Trace → Type 0
-Parted p rest o ds = (weigh hasty rest ≡ 0) × ((hasty o ≡ 0) ⊎ ((quick_of o ≡ 1) × (fresh p false ds ≡ true)))
+Parted p rest o ds = (weigh hasty rest ≡ 0) × ((hasty o ≡ 0) ⊎ ((quick_of o ≡ 1) × (fits o (fresh p Other ds) ≡ true)))
 
 pub parted : (p : ℕ) (os rest : List Op) (o : Op) (ds : Trace) → os ≡ rest ++ o ∷ [] → Stands p os ds → Parted p rest o ds
 parted p os rest o ds e (slow z) =
@@ -79,16 +88,18 @@ parted p os rest o ds e (quick under x q i z f) =
     let s : Some x ≡ Some o = sym (top-last under x) ∙ (ap top (sym q ∙ e) ∙ top-last rest o) in
     let v : x ≡ o = cc in
     let r : under ≡ rest = append_cancel_right under rest (o ∷ [])
-    (ap (λ (y : Op). under ++ y ∷ []) (sym v) ∙ (sym q ∙ e)) in
-    (sym (ap (weigh hasty) r) ∙ z, inr (ap quick_of (sym v) ∙ i, f))
+    (ap (λ (y : Op). under ++ y ∷ []) (sym v) ∙ (sym q ∙ e)) in (
+      sym (ap (weigh hasty) r) ∙ z,
+      inr (ap quick_of (sym v) ∙ i, ap (λ (y : Op). fits y (fresh p Other ds)) (sym v) ∙ f),
+    )
 
 -- a party turns to other things
 
-turned : (s : Machine) (p : ℕ) (rest : List Op) (d : Done) → p < length s.parties →
+passes-on : (s : Machine) (p : ℕ) (rest : List Op) (d : Done) → p < length s.parties →
     ((q : ℕ) → q ≢ p → deeds q d.world.trace ≡ deeds q s.world.trace) →
     Prompt p (rest ++ reverse d.next) (deeds p d.world.trace) →
     Prompts s → Prompts (unsettled s p rest d)
-turned s p rest d l others own h q = ⊎_elim
+passes-on s p rest d l others own h q = ⊎_elim
     (λ (x : (same q p ≡ 1) × (eqb q p ≡ true) × (q ≡ p)). subst
     (λ (n : ℕ). Prompt n (stack (unsettled s p rest d) n) (deeds n d.world.trace)) (sym x.2)
     (subst (λ (os : List Op). Prompt p os (deeds p d.world.trace))
@@ -104,7 +115,7 @@ slow-onto rest next z n = omega (arith, z, n, weigh-append hasty rest (reverse n
 -- what p does goes on with nothing that is answered no next
 slowly : (p : ℕ) (w : World) (rest : List Op) (d : Done) → Grows p w d.world → weigh hasty rest ≡ 0 →
     weigh hasty d.next ≡ 0 →
-    told p false (deeds p w.trace) ≡ true → Prompt p (rest ++ reverse d.next) (deeds p d.world.trace)
+    is_told p w.trace ≡ true → Prompt p (rest ++ reverse d.next) (deeds p d.world.trace)
 slowly p w rest d g z n t = record { told = told-grows p w d.world g t; stands = slow (slow-onto rest d.next z n) }
 
 -- the end of a call: no, where it has begun last
@@ -122,22 +133,28 @@ fresh-if b o (inr k) = inr k.1
 
 own-end : (p : ℕ) (w : World) (rest : List Op) (r : Reply) (held : Hold) →
     Parted p rest (op.End r held) (deeds p w.trace) →
-    told p false (deeds p w.trace) ≡ true → Prompt p (rest ++ reverse []) (deeds p (log w (event.CallEnded p r)).trace)
+    is_told p w.trace ≡ true → Prompt p (rest ++ reverse []) (deeds p (log w (event.CallEnded p r)).trace)
 own-end p w rest r held x t = record {
   told = told-log p w.trace (event.CallEnded p r) refl
-      (may-end (fresh p false (deeds p w.trace)) r held
-      (fresh-if (fresh p false (deeds p w.trace)) (op.End r held) x.1) p) t;
+      (may-end (may (came_last p w.trace)) r held
+      (fresh-if (may (came_last p w.trace)) (op.End r held) x.1) p) t;
   stands = slow (slow-onto rest [] x.0 refl);
 }
 
 -- one thing is done
 
-own-take : (p : ℕ) (w : World) (q : List ℕ) (os : List Op) → weigh hasty os ≡ 0 →
-    fresh p false (deeds p w.trace) ≡ true →
-    told p false (deeds p w.trace) ≡ true →
-    Prompt p (os ++ reverse (take_by w q).next) (deeds p (take_by w q).world.trace)
-own-take p w [] os z f t = record { told = t; stands = quick os (op.End reply.No hold.Executor) refl refl z f }
-own-take p w (g ∷ gs) os z f t =
+or-true : (b : Bool) → (b || true) ≡ true
+or-true true = refl
+or-true false = refl
+
+own-take : (look : Look) (p : ℕ) (w : World) (q : List ℕ) (os : List Op) → weigh hasty os ≡ 0 →
+    may (came_last p w.trace) ≡ true → is_told p w.trace ≡ true →
+    Prompt p (os ++ reverse (take_by w look q).next) (deeds p (take_by w look q).world.trace)
+own-take (First mark) p w [] os z f t =
+    record { told = t; stands = quick os (op.Queue (queue_op.Take (Second (other mark)))) refl refl z f }
+own-take (Second mark) p w [] os z f t =
+    record { told = t; stands = quick os (op.End reply.No hold.Executor) refl refl z f }
+own-take look p w (g ∷ gs) os z f t =
     record {
       told = t;
       stands = slow (slow-onto os
@@ -145,35 +162,55 @@ own-take p w (g ∷ gs) os z f t =
     }
 
 own-look : (p : ℕ) (w : World) (q : List ℕ) (os : List Op) → weigh hasty os ≡ 0 →
-    fresh p false (deeds p w.trace) ≡ true →
-    told p false (deeds p w.trace) ≡ true →
+    may (came_last p w.trace) ≡ true → is_told p w.trace ≡ true →
     Prompt p (os ++ reverse (op.End (emptiness q) hold.Executor ∷ [])) (deeds p w.trace)
 own-look p w [] os z f t =
     record { told = t; stands = slow (slow-onto os (op.End reply.Yes hold.Executor ∷ []) z refl) }
 own-look p w (g ∷ gs) os z f t = record { told = t; stands = quick os (op.End reply.No hold.Executor) refl refl z f }
 
+-- a turn comes right behind the beginning of the call
+own-turn : (p : ℕ) (w : World) (os : List Op) → weigh hasty os ≡ 0 → has_begun (came_last p w.trace) ≡ true →
+    is_told p w.trace ≡ true →
+    Prompt p (os ++ reverse (take_turn p w (λ l. op.Queue (queue_op.Take l))).next) (deeds p (turned p w).trace)
+own-turn p w os z f t =
+    let m : Mark = first_of w.urgent_turns in
+    record {
+      told = told-log p w.trace (event.Looked p m) refl (or-true (may (came_last p w.trace))) t;
+      stands = quick os (op.Queue (queue_op.Take (First m))) refl refl z
+          (ap may (fresh-log p w.trace (event.Looked p m) refl) ∙ by (came_last p w.trace) (eqb p p) own f);
+    }
+  where
+    own : eqb p p ≡ true
+    own = grind (arith, nat_tests)
+
+    by : (b : Last) (c : Bool) → c ≡ true → has_begun b ≡ true → may (cond c (on_turn b) Other) ≡ true
+    by Began true e g = refl
+    by Turned c e g = absurd (cc)
+    by Other c e g = absurd (cc)
+    by b false e g = absurd (cc)
+
 own-quick : (p : ℕ) (h : Hint) (o : Op) (w : World) (os : List Op) → quick_of o ≡ 1 → weigh hasty os ≡ 0 →
-    fresh p false (deeds p w.trace) ≡ true → told p false (deeds p w.trace) ≡ true →
+    fits o (came_last p w.trace) ≡ true → is_told p w.trace ≡ true →
     Prompt p (os ++ reverse (act p h o w).next) (deeds p (act p h o w).world.trace)
-own-quick p h (op.Queue queue_op.Take) w os c z f t = own-take p w w.queue.items os z f t
+own-quick p h (op.Queue queue_op.TakeTurn) w os c z f t = own-turn p w os z f t
+own-quick p h (op.Queue (queue_op.Take look)) w os c z f t = own-take look p w (queue_of w (mark_in look)).items os z f t
 own-quick p h (op.Table table_op.LookAtTable) w os c z f t = own-look p w w.table os z f t
 own-quick p h (op.End r held) w os c z f t = own-end p w os r held (z, inr (c, f)) t
 own-quick p h _ w os c z f t = absurd (cc)
 
 own-slow : (p : ℕ) (h : Hint) (o : Op) (w : World) (os : List Op) (b : Bool) → is_end o ≡ b → hasty o ≡ 0 →
-    weigh hasty os ≡ 0 →
-    told p false (deeds p w.trace) ≡ true →
+    weigh hasty os ≡ 0 → is_told p w.trace ≡ true →
     Prompt p (os ++ reverse (act p h o w).next) (deeds p (act p h o w).world.trace)
 own-slow p h o w os false n c z t = slowly p w os (act p h o w) (grows-act p h o w n) z (slow-act p h o w c n) t
 own-slow p h (op.End r held) w os true n c z t = own-end p w os r held (z, inl c) t
 own-slow p h _ w os true n c z t = absurd (cc)
 
 own-act : (p : ℕ) (h : Hint) (o : Op) (w : World) (os : List Op) → Parted p os o (deeds p w.trace) →
-    told p false (deeds p w.trace) ≡ true →
+    is_told p w.trace ≡ true →
     Prompt p (os ++ reverse (act p h o w).next) (deeds p (act p h o w).world.trace)
 own-act p h o w os x t = ⊎_elim
     (λ (c : hasty o ≡ 0). own-slow p h o w os (is_end o) refl c x.0 t)
-    (λ (k : (quick_of o ≡ 1) × (fresh p false (deeds p w.trace) ≡ true)). own-quick p h o w os k.0 x.0 k.1 t)
+    (λ (k : (quick_of o ≡ 1) × (fits o (came_last p w.trace) ≡ true)). own-quick p h o w os k.0 x.0 k.1 t)
     x.1
 
 pub others-act : (p : ℕ) (h : Hint) (o : Op) (w : World) (b : Bool) → is_end o ≡ b → (q : ℕ) → q ≢ p →
@@ -208,22 +245,22 @@ slow-drop New r = refl
 slow-drop Listed r = refl
 slow-drop Ended r = refl
 
-told-begun : (p : ℕ) (w : World) (here : Option Waker) (c : Call) → told p false (deeds p w.trace) ≡ true →
-    told p false (deeds p (begun p (log w (event.CallBegun p c)) here c).world.trace) ≡ true
+told-begun : (p : ℕ) (w : World) (here : Option Waker) (c : Call) → is_told p w.trace ≡ true →
+    is_told p (begun p (log w (event.CallBegun p c)) here c).world.trace ≡ true
 told-begun p w here c t =
     told-grows p (log w (event.CallBegun p c)) (begun p (log w (event.CallBegun p c)) here c).world
     (grows-begun p (log w (event.CallBegun p c)) here c)
-    (told-log p w.trace (event.CallBegun p c) refl (or-true (fresh p false (deeds p w.trace))) t)
-  where
-    or-true : (b : Bool) → (b || true) ≡ true
-    or-true true = refl
-    or-true false = refl
+    (told-log p w.trace (event.CallBegun p c) refl (or-true (may (came_last p w.trace))) t)
 
 self-begun : (p : ℕ) (c : Call) → begins_call p (event.CallBegun p c) ≡ true
 self-begun p c = grind (arith, nat_tests)
 
+began : (p : ℕ) (es : Trace) (c : Call) → came_last p (es ++ event.CallBegun p c ∷ []) ≡ Began
+began p es c = fresh-log p es (event.CallBegun p c) refl
+    ∙ ap (λ (b : Bool). last_by b p (came_last p es) (event.CallBegun p c)) (self-begun p c)
+
 own-begun : (p : ℕ) (w : World) (here : Option Waker) (c : Call) (os : List Op) → weigh hasty os ≡ 0 →
-    told p false (deeds p w.trace) ≡ true →
+    is_told p w.trace ≡ true →
     Prompt p (os ++ reverse (begun p (log w (event.CallBegun p c)) here c).next)
     (deeds p (begun p (log w (event.CallBegun p c)) here c).world.trace)
 own-begun p w here c os z t = record { told = told-begun p w here c t; stands = go c }
@@ -236,13 +273,9 @@ own-begun p w here c os z t = record { told = told-begun p w here c t; stands = 
     as-slow x n = slow (slow-onto os (begun p (v x) here x).next z n)
 
     go : (x : Call) → Stands p (os ++ reverse (begun p (v x) here x).next) (deeds p (begun p (v x) here x).world.trace)
-    go call.Spawn = as-slow call.Spawn refl
-    go call.TryTick = quick os (op.Queue queue_op.Take) refl refl z
-        (fresh-log p w.trace (event.CallBegun p call.TryTick) refl
-        ∙ self-begun p call.TryTick)
-    go call.IsEmpty = quick os (op.Table table_op.LookAtTable) refl refl z
-        (fresh-log p w.trace (event.CallBegun p call.IsEmpty) refl
-        ∙ self-begun p call.IsEmpty)
+    go (call.Spawn mark) = as-slow (call.Spawn mark) refl
+    go call.TryTick = quick os (op.Queue queue_op.TakeTurn) refl refl z (ap has_begun (began p w.trace call.TryTick))
+    go call.IsEmpty = quick os (op.Table table_op.LookAtTable) refl refl z (ap may (began p w.trace call.IsEmpty))
     go (call.Wake k) = as-slow (call.Wake k) (slow-with (v (call.Wake k)) (kept w k) _ (λ f. refl))
     go (call.WakeByRef k) = as-slow (call.WakeByRef k) (slow-with (v (call.WakeByRef k)) (kept w k) _ (λ f. refl))
     go (call.Copy k) = as-slow (call.Copy k) (slow-with (v (call.Copy k)) (kept w k) _ (λ f. refl))
@@ -295,13 +328,13 @@ prompt-moves : (s : Machine) (p : ℕ) (old rest : List Op) (d : Done) → Good 
     Way s p old rest d → Prompts s → Prompts (unsettled s p rest d)
 prompt-moves s p old rest d good l e (acted t o q z) h =
     let e2 : stack s p ≡ rest ++ o ∷ [] = subst (λ (os : List Op). stack s p ≡ rest ++ reverse os) q e in
-    rw z (turned s p rest (act p t o s.world) l (others-act p t o s.world (is_end o) refl)
+    rw z (passes-on s p rest (act p t o s.world) l (others-act p t o s.world (is_end o) refl)
     (own-act p t o s.world rest (parted p (stack s p) rest o (deeds p s.world.trace) e2 (h p).stands) (h p).told) h)
 prompt-moves s p old rest d good l e (reacted o u a q z) h =
     let e2 : stack s p ≡ rest ++ o ∷ [] = subst (λ (os : List Op). stack s p ≡ rest ++ reverse os) q e in
     let x : Parted p rest o (deeds p s.world.trace) =
     parted p (stack s p) rest o (deeds p s.world.trace) e2 (h p).stands in
-    rw z (turned s p rest (react p o u s.world) l (λ n k. deeds-other p n s.world (react p o u s.world).world
+    rw z (passes-on s p rest (react p o u s.world) l (λ n k. deeds-other p n s.world (react p o u s.world).world
     (grows-react p o u s.world) k) (slowly p s.world rest (react p o u s.world) (grows-react p o u s.world) x.0
     (slow-react p o u s.world) (h p).told) h)
 prompt-moves s p old rest d good l e (called c q r n z) h =
@@ -309,14 +342,14 @@ prompt-moves s p old rest d good l e (called c q r n z) h =
     let free : is_free (top (stack s p)) ≡ true = first (is_free (top (stack s p))) Busy _ n in
     let w : weigh hasty rest ≡ 0 = ap (weigh hasty) r ∙ free-slow p (stack s p) (deeds p s.world.trace) free
     (h p).stands in
-    rw z (turned s p rest (begun p (log s.world (event.CallBegun p c)) here c) l (others-begun p s.world here c)
+    rw z (passes-on s p rest (begun p (log s.world (event.CallBegun p c)) here c) l (others-begun p s.world here c)
     (own-begun p s.world here c rest w (h p).told) h)
 
 prompt-ends : (s : Machine) (p : ℕ) (a : Reply) (held : Hold) (below : List Op) → p < length s.parties →
     stack s p ≡ below ++ reverse (op.End a held ∷ []) → Prompts s →
     Prompts (unsettled s p below (done (log s.world (event.CallEnded p a)) []))
 prompt-ends s p a held below l e h =
-    turned s p below (done (log s.world (event.CallEnded p a)) []) l
+    passes-on s p below (done (log s.world (event.CallEnded p a)) []) l
     (λ q k. deeds-other_log p q s.world.trace (event.CallEnded p a) refl k)
     (own-end p s.world below a held (parted p (stack s p) below (op.End a held) (deeds p s.world.trace) e (h p).stands)
     (h p).told) h
@@ -342,44 +375,83 @@ or-off : (a : Bool) → (a || false) ≡ true → a ≡ true
 or-off true e = refl
 or-off false e = absurd (cc)
 
--- a call of p has begun last
-last-begun : (p : ℕ) (b : Bool) (before : Trace) → fresh p b before ≡ true →
-    ((before ≡ []) × (b ≡ true)) ⊎ ((earlier : Trace) × (c : Call) × (before ≡ earlier ++ event.CallBegun p c ∷ []))
-last-begun p b [] e = inl (refl, e)
-last-begun p b (x ∷ es) e = ⊎_elim
-    (λ (k : (es ≡ []) × (begins_call p x ≡ true)). inr (alone x es k.0 k.1))
-    (λ (k : (earlier : Trace) × (c : Call) × (es ≡ earlier ++ event.CallBegun p c ∷ [])). inr (
-      x ∷ k.0,
-      k.1,
-      ap (λ (xs : Trace). x ∷ xs) k.2,
-    ))
-    (last-begun p (begins_call p x) es e)
-  where
-    mine : (q : ℕ) → eqb p q ≡ true → q ≡ p
-    mine q k = grind (arith, nat_tests)
+own-is : (p q : ℕ) → eqb p q ≡ true → q ≡ p
+own-is p q k = grind (arith, nat_tests)
 
-    alone : (y : Event) (ys : Trace) → ys ≡ [] → begins_call p y ≡ true →
-        (earlier : Trace) × (c : Call) × (y ∷ ys ≡ earlier ++ event.CallBegun p c ∷ [])
-    alone (event.CallBegun q c) ys z k = (
-      [],
-      c,
-      ap (λ (xs : Trace). event.CallBegun q c ∷ xs) z
-          ∙ ap (λ (n : ℕ). event.CallBegun n c ∷ []) (mine q k),
-    )
-    alone _ ys z k = absurd (cc)
+-- which event came last
+last-began : (p : ℕ) (n : Last) (es : Trace) (e : Event) → last_after p n e ≡ Began →
+    (c : Call) × (es ++ e ∷ [] ≡ es ++ event.CallBegun p c ∷ [])
+last-began p n es (event.CallBegun q c) k = by (eqb p q) refl k
+  where
+    by : (b : Bool) → eqb p q ≡ b → last_by b p n (event.CallBegun q c) ≡ Began →
+        (d : Call) × (es ++ event.CallBegun q c ∷ [] ≡ es ++ event.CallBegun p d ∷ [])
+    by true i j = (c, ap (λ (m : ℕ). es ++ event.CallBegun m c ∷ []) (own-is p q i))
+    by false i j = absurd (cc)
+last-began p n es (event.Looked q m) k = by (eqb p q) n k
+  where
+    by : (b : Bool) (n : Last) → cond b (on_turn n) Other ≡ Began →
+        (c : Call) × (es ++ event.Looked q m ∷ [] ≡ es ++ event.CallBegun p c ∷ [])
+    by true Began j = absurd (cc)
+    by true Turned j = absurd (cc)
+    by true Other j = absurd (cc)
+    by false n j = absurd (cc)
+last-began p n es _ k = absurd (cc)
+
+last-turned : (p : ℕ) (n : Last) (e : Event) → last_after p n e ≡ Turned →
+    (n ≡ Began) × ((m : Mark) × (e ≡ event.Looked p m))
+last-turned p n (event.CallBegun q c) k = by (eqb p q) k
+  where
+    by : (b : Bool) → last_by b p n (event.CallBegun q c) ≡ Turned →
+        (n ≡ Began) × ((m : Mark) × (event.CallBegun q c ≡ event.Looked p m))
+    by true j = absurd (cc)
+    by false j = absurd (cc)
+last-turned p n (event.Looked q m) k = by (eqb p q) n refl k
+  where
+    by : (b : Bool) (n : Last) → eqb p q ≡ b → cond b (on_turn n) Other ≡ Turned →
+        (n ≡ Began) × ((x : Mark) × (event.Looked q m ≡ event.Looked p x))
+    by true Began i j = (refl, (m, ap (λ (o : ℕ). event.Looked o m) (own-is p q i)))
+    by true Turned i j = absurd (cc)
+    by true Other i j = absurd (cc)
+    by false n i j = absurd (cc)
+last-turned p n _ k = absurd (cc)
+
+-- a call of p has begun last, or p has then taken a turn
+record Lasts (p : ℕ) (before : Trace) : Type 0 where
+  pub began : fresh p Other before ≡ Began → (earlier : Trace) × (c : Call) × (before ≡ earlier ++ event.CallBegun p c ∷ [])
+  pub turned : fresh p Other before ≡ Turned → HasJustBegun p before
+
+lasts : (p : ℕ) (before : Trace) → Lasts p before
+lasts p = by_last (Lasts p) (record { began = λ k. absurd (cc); turned = λ k. absurd (cc) }) (λ xs e h. record {
+  began = λ k. let x = last-began p (fresh p Other xs) xs e (sym (fresh-append p Other xs (e ∷ [])) ∙ k) in (xs, x.0, x.1);
+  turned = λ k.
+      let x = last-turned p (fresh p Other xs) e (sym (fresh-append p Other xs (e ∷ [])) ∙ k) in
+      let y = h.began x.0 in (
+        y.0,
+        y.1,
+        inr (
+          x.1.0,
+          ap (λ (z : Event). xs ++ z ∷ []) x.1.1
+              ∙ (ap (λ (zs : Trace). zs ++ event.Looked p x.1.0 ∷ []) y.2
+              ∙ append_assoc y.0 (event.CallBegun p y.1 ∷ []) (event.Looked p x.1.0 ∷ [])),
+        ),
+      );
+})
+
+just-begun : (p : ℕ) (before : Trace) → may (fresh p Other before) ≡ true → HasJustBegun p before
+just-begun p before k = by (fresh p Other before) refl k
+  where
+    by : (b : Last) → fresh p Other before ≡ b → may b ≡ true → HasJustBegun p before
+    by Began e m = let y = (lasts p before).began e in (y.0, y.1, inl y.2)
+    by Turned e m = (lasts p before).turned e
+    by Other e m = absurd (cc)
 
 pub no-comes-at-once : (limit : ℕ) (kind : Kind) (parties : ℕ) (steps : List Step) (p : ℕ) →
     NoComesAtOnce p (run steps (start limit kind parties)).world.trace
 no-comes-at-once limit kind parties steps p before later e =
-    let ds : Trace = deeds p (run steps (start limit kind parties)).world.trace in
-    let t : told p false (before ++ event.CallEnded p reply.No ∷ later) ≡ true = sym (ap (told p false) e)
+    let t : told p Other (before ++ event.CallEnded p reply.No ∷ later) ≡ true = sym (ap (told p Other) e)
     ∙ (prompt limit kind parties steps p).told in
-    let both : (told p false before && told p (fresh p false before) (event.CallEnded p reply.No ∷ later)) ≡ true =
-    sym (told-append p false before (event.CallEnded p reply.No ∷ later)) ∙ t in
-    let f : fresh p false before ≡ true =
-    or-off (fresh p false before)
-    (left-true (fresh p false before || false) _ (right-true (told p false before) _ both)) in
-    ⊎_elim
-    (λ (k : (before ≡ []) × (false ≡ true)). let z : false ≡ true = k.1 in absurd (cc))
-    (λ (k : (earlier : Trace) × (c : Call) × (before ≡ earlier ++ event.CallBegun p c ∷ [])). k)
-    (last-begun p false before f)
+    let both : (told p Other before && told p (fresh p Other before) (event.CallEnded p reply.No ∷ later)) ≡ true =
+    sym (told-append p Other before (event.CallEnded p reply.No ∷ later)) ∙ t in
+    just-begun p before
+    (or-off (may (fresh p Other before))
+    (left-true (may (fresh p Other before) || false) _ (right-true (told p Other before) _ both)))

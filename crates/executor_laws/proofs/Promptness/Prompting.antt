@@ -1,11 +1,14 @@
 -- For no_comes_at_once.
 -- A party that may be answered no next has done nothing since its call began.
 use Rattle.std.proofs.Common.{◌≡◌, ◌≢◌, ℕ, ◌≤◌, List, [], ◌∷◌, ◌++◌, Bool, true, false, ◌||◌, ◌&&◌, not}
-use Rattle.std.proofs.Common.{cond, refl, ap, ◌∙◌, ⊎_elim, arith, append-nil}
+use Rattle.std.proofs.Common.{cond, eqb, refl, ap, ◌∙◌, ⊎_elim, arith, append-nil}
 use Rattle.std.proofs.lemmas.Bool.Decides.{nat_tests}
 use Rattle.std.proofs.lemmas.List.Elements.{filter-append}
 use Rattle.std.specs.List.{filter}
 use Rattle.std.specs.Prelude.{Option, Some, None, is_none}
+use Rattle.executor_model.specs.declared.op.Look.{Look}
+use Rattle.executor_model.specs.declared.op.Look.TheVariants.{First, Second}
+use Rattle.executor_parts.specs.declared.mark.Mark.{Mark}
 use Rattle.executor_parts.specs.Sleepers.{waker_at, waker_of}
 use Rattle.task_moves.specs.declared.moves.owed.Answer.{Answer}
 use Rattle.task_moves.specs.declared.moves.owed.Answer.TheVariants.{Refused, Pending, Closed, Output}
@@ -45,11 +48,11 @@ use Rattle.executor_model.specs.declared.op.Waker.TheVariants.{Task, Outside}
 use Rattle.executor_model.specs.declared.step.Hint.{Hint}
 use Rattle.executor_model.specs.Quiet.{begins_call}
 use Rattle.executor_model.specs.Trace.{Trace, has}
-use Rattle.executor_model.specs.World.{World, Ticker, Awake, Asleep, Left, log, task, awaiter_of, place_of}
+use Rattle.executor_model.specs.World.{World, Ticker, Awake, Asleep, Left, log, task, awaiter_of}
 use Rattle.executor_model.specs.Carried.{awaiter_ops}
 use Rattle.executor_model.specs.Acts.{enter_by, copy_by, answered, polled, look_by, let_go, look_again_by}
 use Rattle.executor_model.specs.Acts.{copy_awaiter_by, register_by, end_register_by}
-use Rattle.executor_model.specs.ActsOfSleepers.{make_tick_by, search_by, copy_sleeper_by, pend_as, sleep_anew_by}
+use Rattle.executor_model.specs.ActsOfSleepers.{make_tick_by, look_tick_by, copy_sleeper_by, pend_as, sleep_anew_by}
 use Rattle.executor_model.specs.ActsOfSleepers.{sleeper_goes, sleep_listed_by, sleep_again_by, fall_asleep_by, wake_up_by}
 use Rattle.executor_model.specs.ActsOfSleepers.{tell_and_return, leave_sleepers_by}
 use Rattle.executor_model.specs.ActsOfRuns as runs
@@ -72,7 +75,8 @@ is_refusal _ = 0
 
 -- what is answered no next, if it is
 abbrev pub quick_of : Op → ℕ
-quick_of (op.Queue queue_op.Take) = 1
+quick_of (op.Queue queue_op.TakeTurn) = 1
+quick_of (op.Queue (queue_op.Take look)) = 1
 quick_of (op.Table table_op.LookAtTable) = 1
 quick_of (op.End r held) = is_refusal r
 quick_of _ = 0
@@ -84,19 +88,52 @@ hasty (op.List (list_op.Write (section.Unregister r a))) = is_refusal a
 hasty (op.Run (run_op.Reschedule r a)) = is_refusal a
 hasty o = quick_of o
 
--- of what p did: each answer no stands behind the beginning of a call, or stands first where b says so
+-- of what p did, b being the last before: each answer no stands behind the beginning of a call, or behind the turn after that
 abbrev pub is_no : Event → Bool
 is_no (event.CallEnded p reply.No) = true
 is_no _ = false
 
-abbrev pub told : ℕ → Bool → Trace → Bool
-told p b [] = true
-told p b (e ∷ es) = (b || not (is_no e)) && told p (begins_call p e) es
+-- what p did last: begin a call, or then take a turn, or anything else
+pub data Last : Type 0 where
+  Began : Last
+  Turned : Last
+  Other : Last
 
--- a call has begun last
-abbrev pub fresh : ℕ → Bool → Trace → Bool
+abbrev pub may : Last → Bool
+may Began = true
+may Turned = true
+may Other = false
+
+abbrev pub has_begun : Last → Bool
+has_begun Began = true
+has_begun _ = false
+
+abbrev pub on_turn : Last → Last
+on_turn Began = Turned
+on_turn Turned = Other
+on_turn Other = Other
+
+abbrev pub last_by : Bool → ℕ → Last → Event → Last
+last_by true p n e = Began
+last_by false p n (event.Looked q m) = cond (eqb p q) (on_turn n) Other
+last_by false p n _ = Other
+
+abbrev pub last_after : ℕ → Last → Event → Last
+last_after p n e = last_by (begins_call p e) p n e
+
+abbrev pub told : ℕ → Last → Trace → Bool
+told p b [] = true
+told p b (e ∷ es) = (may b || not (is_no e)) && told p (last_after p b e) es
+
+-- what came last
+abbrev pub fresh : ℕ → Last → Trace → Last
 fresh p b [] = b
-fresh p b (e ∷ es) = fresh p (begins_call p e) es
+fresh p b (e ∷ es) = fresh p (last_after p b e) es
+
+-- it may be done where this came last
+abbrev pub fits : Op → Last → Bool
+fits (op.Queue queue_op.TakeTurn) b = has_begun b
+fits _ b = may b
 
 and-assoc : (a b c : Bool) → (a && (b && c)) ≡ ((a && b) && c)
 and-assoc true b c = refl
@@ -111,25 +148,27 @@ either true c e = refl
 either false true e = absurd (cc)
 either false false e = refl
 
-pub told-append : (p : ℕ) (b : Bool) (xs ys : Trace) → told p b (xs ++ ys) ≡ (told p b xs && told p (fresh p b xs) ys)
+pub told-append : (p : ℕ) (b : Last) (xs ys : Trace) → told p b (xs ++ ys) ≡ (told p b xs && told p (fresh p b xs) ys)
 told-append p b [] ys = refl
-told-append p b (e ∷ xs) ys = ap (λ (x : Bool). (b || not (is_no e)) && x) (told-append p (begins_call p e) xs ys)
-    ∙ and-assoc (b || not (is_no e)) (told p (begins_call p e) xs) (told p (fresh p (begins_call p e) xs) ys)
+told-append p b (e ∷ xs) ys =
+    let n = last_after p b e in
+    ap (λ (x : Bool). (may b || not (is_no e)) && x) (told-append p n xs ys)
+    ∙ and-assoc (may b || not (is_no e)) (told p n xs) (told p (fresh p n xs) ys)
 
-fresh-append : (p : ℕ) (b : Bool) (xs ys : Trace) → fresh p b (xs ++ ys) ≡ fresh p (fresh p b xs) ys
+pub fresh-append : (p : ℕ) (b : Last) (xs ys : Trace) → fresh p b (xs ++ ys) ≡ fresh p (fresh p b xs) ys
 fresh-append p b [] ys = refl
-fresh-append p b (e ∷ xs) ys = fresh-append p (begins_call p e) xs ys
+fresh-append p b (e ∷ xs) ys = fresh-append p (last_after p b e) xs ys
 
 no-ends : (e : Event) → ends_one e ≡ false → is_no e ≡ false
 no-ends (event.CallEnded p r) k = absurd (cc)
 no-ends _ k = refl
 
 -- no call ends, so none is answered
-told-endless : (p : ℕ) (b : Bool) (es : Trace) → has ends_one es ≡ false → told p b es ≡ true
+told-endless : (p : ℕ) (b : Last) (es : Trace) → has ends_one es ≡ false → told p b es ≡ true
 told-endless p b [] k = refl
-told-endless p b (e ∷ es) k = both (b || not (is_no e)) (told p (begins_call p e) es)
-    (either b (is_no e) (no-ends e (left-false (ends_one e) (has ends_one es) k)))
-    (told-endless p (begins_call p e) es (right-false (ends_one e) (has ends_one es) k))
+told-endless p b (e ∷ es) k = both (may b || not (is_no e)) (told p (last_after p b e) es)
+    (either (may b) (is_no e) (no-ends e (left-false (ends_one e) (has ends_one es) k)))
+    (told-endless p (last_after p b e) es (right-false (ends_one e) (has ends_one es) k))
 
 -- what one party did of more
 
@@ -183,26 +222,32 @@ deeds-own p es e d = filter-push (is_by p) es e ∙ go (is_by p e) (self p e d)
     go true q = refl
     go false q = absurd (cc)
 
-pub told-grows : (p : ℕ) (w v : World) → Grows p w v → told p false (deeds p w.trace) ≡ true →
-    told p false (deeds p v.trace) ≡ true
+-- whether what p did is told so, and what came last
+abbrev pub is_told : ℕ → Trace → Bool
+is_told p es = told p Other (deeds p es)
+
+abbrev pub came_last : ℕ → Trace → Last
+came_last p es = fresh p Other (deeds p es)
+
+pub told-grows : (p : ℕ) (w v : World) → Grows p w v → is_told p w.trace ≡ true → is_told p v.trace ≡ true
 told-grows p w v g t =
-    ap (λ (xs : Trace). told p false (deeds p xs)) g.is
-    ∙ (ap (told p false) (filter-append (is_by p) w.trace g.more)
-    ∙ (told-append p false (deeds p w.trace) (filter (is_by p) g.more)
-    ∙ both (told p false (deeds p w.trace)) (told p (fresh p false (deeds p w.trace)) (filter (is_by p) g.more)) t
-    (told-endless p (fresh p false (deeds p w.trace)) (filter (is_by p) g.more)
+    ap (λ (xs : Trace). told p Other (deeds p xs)) g.is
+    ∙ (ap (told p Other) (filter-append (is_by p) w.trace g.more)
+    ∙ (told-append p Other (deeds p w.trace) (filter (is_by p) g.more)
+    ∙ both (is_told p w.trace) (told p (came_last p w.trace) (filter (is_by p) g.more)) t
+    (told-endless p (came_last p w.trace) (filter (is_by p) g.more)
     (filter-has (is_by p) ends_one g.more g.none_ends))))
 
-pub told-log : (p : ℕ) (es : Trace) (e : Event) → doer e ≡ p → (fresh p false (deeds p es) || not (is_no e)) ≡ true →
-    told p false (deeds p es) ≡ true → told p false (deeds p (es ++ e ∷ [])) ≡ true
+pub told-log : (p : ℕ) (es : Trace) (e : Event) → doer e ≡ p → (may (came_last p es) || not (is_no e)) ≡ true →
+    is_told p es ≡ true → is_told p (es ++ e ∷ []) ≡ true
 told-log p es e d k t =
-    ap (told p false) (deeds-own p es e d)
-    ∙ (told-append p false (deeds p es) (e ∷ [])
-    ∙ both (told p false (deeds p es)) ((fresh p false (deeds p es) || not (is_no e)) && true) t
-    (both (fresh p false (deeds p es) || not (is_no e)) true k refl))
+    ap (told p Other) (deeds-own p es e d)
+    ∙ (told-append p Other (deeds p es) (e ∷ [])
+    ∙ both (is_told p es) ((may (came_last p es) || not (is_no e)) && true) t
+    (both (may (came_last p es) || not (is_no e)) true k refl))
 
-pub fresh-log : (p : ℕ) (es : Trace) (e : Event) → doer e ≡ p → fresh p false (deeds p (es ++ e ∷ [])) ≡ begins_call p e
-fresh-log p es e d = ap (fresh p false) (deeds-own p es e d) ∙ fresh-append p false (deeds p es) (e ∷ [])
+pub fresh-log : (p : ℕ) (es : Trace) (e : Event) → doer e ≡ p → came_last p (es ++ e ∷ []) ≡ last_after p (came_last p es) e
+fresh-log p es e d = ap (fresh p Other) (deeds-own p es e d) ∙ fresh-append p Other (deeds p es) (e ∷ [])
 
 -- what is to do
 
@@ -211,7 +256,8 @@ few-refusals reply.No = omega arith
 few-refusals _ = omega arith
 
 hasty-calling : (o : Op) → hasty o ≤ calling_of o
-hasty-calling (op.Queue queue_op.Take) = omega arith
+hasty-calling (op.Queue queue_op.TakeTurn) = omega arith
+hasty-calling (op.Queue (queue_op.Take look)) = omega arith
 hasty-calling (op.Table table_op.LookAtTable) = omega arith
 hasty-calling (op.End r held) = omega (arith, few-refusals r)
 hasty-calling (op.List (list_op.LockWrite (section.Unregister r a))) = omega (arith, few-refusals a)
@@ -276,10 +322,10 @@ slow-end_register : (b : Bool) (w : World) (f : ℕ) (a : Waker) (k : ℕ) →
 slow-end_register true w f a k = omega (arith, slow-let_go f (awaiter_of w f))
 slow-end_register false w f a k = slow-let_go f (awaiter_of w f)
 
-slow-enter : (b c : Bool) (p : ℕ) (w : World) → weigh hasty (enter_by b c p w).next ≡ 0
-slow-enter true c p w = refl
-slow-enter false true p w = refl
-slow-enter false false p w = refl
+slow-enter : (b c : Bool) (mark : Mark) (p : ℕ) (w : World) → weigh hasty (enter_by b c mark p w).next ≡ 0
+slow-enter true c mark p w = refl
+slow-enter false true mark p w = refl
+slow-enter false false mark p w = refl
 
 slow-copy : (b : Bool) (w : World) (f : ℕ) (held : Hold) → weigh hasty (copy_by b w f held).next ≡ 0
 slow-copy true w f held = refl
@@ -292,11 +338,12 @@ slow-make : (b : Bool) (w : World) → weigh hasty (make_tick_by b w).next ≡ 0
 slow-make true w = refl
 slow-make false w = refl
 
-slow-search : (x : Ticker) (w : World) (q : List ℕ) (s : Sleeping) → weigh hasty (search_by x w q s).next ≡ 0
-slow-search x w [] s = refl
-slow-search Awake w (f ∷ rest) s = refl
-slow-search (Asleep n) w (f ∷ rest) s = refl
-slow-search Left w (f ∷ rest) s = refl
+slow-search : (look : Look) (x : Ticker) (w : World) (q : List ℕ) (s : Sleeping) → weigh hasty (look_tick_by x w look q s).next ≡ 0
+slow-search (First mark) x w [] s = refl
+slow-search (Second mark) x w [] s = refl
+slow-search look Awake w (f ∷ rest) s = refl
+slow-search look (Asleep n) w (f ∷ rest) s = refl
+slow-search look Left w (f ∷ rest) s = refl
 
 slow-copy_sleeper : (b : Bool) (w : World) (s : Sleeping) → weigh hasty (copy_sleeper_by b w s).next ≡ 0
 slow-copy_sleeper true w s = refl
@@ -349,22 +396,24 @@ searching = record {
   steal = λ o. refl;
   lock = λ x. refl;
   unlock = refl;
-  common = λ x. refl;
+  turn = λ x. refl;
+  common = λ x look. refl;
   look = λ x at left. refl;
   wake = λ x. refl;
 }
 
-slow-searches : (who : TickOrRun) (w : World) (s : Sleeping) → weigh hasty (search_by_who who w s).next ≡ 0
-slow-searches (tick_or_run.Tick t) w s = slow-search (place_of w s.who) w w.queue.items s
-slow-searches (tick_or_run.Run r) w s = own-unseen hasty searching _ w _
+slow-searches : (who : TickOrRun) (p : ℕ) (w : World) (s : Sleeping) → weigh hasty (search_by_who who p w s).next ≡ 0
+slow-searches (tick_or_run.Tick t) p w s = refl
+slow-searches (tick_or_run.Run r) p w s = own-unseen hasty searching _ w _
 
-slow-tick : (h : Hint) (o : TickOp) (w : World) → weigh hasty (tick_act h o w).next ≡ 0
-slow-tick h tick_op.MakeTick w = slow-make _ w
-slow-tick h (tick_op.Search s) w = slow-searches s.who w s
-slow-tick h (tick_op.CopyWaker s) w = slow-copy_sleeper _ w s
-slow-tick h (tick_op.FallAsleep s) w = slow-sleep _ w s
-slow-tick h (tick_op.WakeUp who) w = slow-up _ w who
-slow-tick h (tick_op.Leave who) w = slow-leave _ w who
+slow-tick : (p : ℕ) (h : Hint) (o : TickOp) (w : World) → weigh hasty (tick_act p h o w).next ≡ 0
+slow-tick p h tick_op.MakeTick w = slow-make _ w
+slow-tick p h (tick_op.Search s) w = slow-searches s.who p w s
+slow-tick p h (tick_op.Look s look) w = slow-search look _ w _ s
+slow-tick p h (tick_op.CopyWaker s) w = slow-copy_sleeper _ w s
+slow-tick p h (tick_op.FallAsleep s) w = slow-sleep _ w s
+slow-tick p h (tick_op.WakeUp who) w = slow-up _ w who
+slow-tick p h (tick_op.Leave who) w = slow-leave _ w who
 
 slow-made : (b : Bool) (w : World) → weigh hasty (runs.make_run_by b w).next ≡ 0
 slow-made true w = refl
@@ -399,7 +448,8 @@ slow-room false w = refl
 slow-run : (p : ℕ) (h : Hint) (o : RunOp) (w : World) → hasty (op.Run o) ≡ 0 → weigh hasty (run_act p h o w).next ≡ 0
 slow-run p h run_op.MakeRoom w z = slow-room _ w
 slow-run p h run_op.ReturnRoom w z = refl
-slow-run p h (run_op.SearchCommon x) w z = common-unseen hasty searching _ w x
+slow-run p h (run_op.TakeTurn x) w z = refl
+slow-run p h (run_op.SearchCommon x look) w z = common-unseen hasty searching look _ w x
 slow-run p h (run_op.LookOwn x at left) w z = look-unseen hasty searching _ w x at left
 slow-run p h (run_op.WakeOwn x) w z =
     let v : World = log w (event.WakerCalled p (of.Run x.run) x.poll x.waker) in
@@ -414,7 +464,7 @@ slow-run p h (run_op.Reschedule r a) w z = slow-reschedule _ w r a z
 -- of what answers a call
 slow-calling : (p : ℕ) (h : Hint) (o : Op) (w : World) → calling_of o ≡ 1 → hasty o ≡ 0 → is_end o ≡ false →
     weigh hasty (act p h o w).next ≡ 0
-slow-calling p h (op.Table table_op.Enter) w c z n = slow-enter _ _ p w
+slow-calling p h (op.Table (table_op.Enter mark)) w c z n = slow-enter _ _ _ p w
 slow-calling p h (op.Waker (waker_op.CopyWaker f held)) w c z n = slow-copy _ w f held
 slow-calling p h (op.Handle (handle_op.Look f a)) w c z n =
     slow-look (moves.poll (task w f)).owed.answer p w f a (moves.poll (task w f))
@@ -423,7 +473,7 @@ slow-calling p h (op.Handle (handle_op.Register f a k)) w c z n = slow-register 
 slow-calling p h (op.Handle (handle_op.EndRegister f a k)) w c z n = slow-end_register _ w f a k
 slow-calling p h (op.Handle (handle_op.LookAgain f)) w c z n =
     slow-again (moves.look_again (task w f)).owed.answer p w f (moves.look_again (task w f))
-slow-calling p h (op.Tick o) w c z n = slow-tick h o w
+slow-calling p h (op.Tick o) w c z n = slow-tick p h o w
 slow-calling p h (op.List o) w c z n = slow-list h o w z
 slow-calling p h (op.Steal o) w c z n = steal-unseen hasty searching (λ f. refl) p o w
 slow-calling p h (op.Run o) w c z n = slow-run p h o w z

@@ -1,10 +1,13 @@
 -- For what_is_made_is_new.
 -- Ticks are only added, and a poll of one begins only where it is there.
-use Rattle.std.proofs.Common.{◌≡◌, ◌≢◌, ◌∙◌, ℕ, zero, suc, ◌<◌, ◌≤◌, List, [], ◌∷◌, ◌++◌, length, Bool, true, false, ◌&&◌, eqb}
+use Rattle.std.proofs.Common.{◌≡◌, ◌∙◌, ℕ, ◌<◌, ◌≤◌, List, [], ◌∷◌, ◌++◌, length, Bool, true, false, ◌&&◌, eqb}
 use Rattle.std.proofs.Common.{refl, sym, ap, subst, arith, length-append, get_or}
 use Rattle.std.proofs.lemmas.Bool.Decides.{nat_tests}
 use Rattle.std.proofs.lemmas.List.{get_or_past, length-set}
 use Rattle.std.specs.Prelude.{Option, Some, None, reverse}
+use Rattle.executor_parts.specs.declared.mark.Mark.{Mark}
+use Rattle.executor_model.specs.declared.op.Look.{Look}
+use Rattle.executor_model.specs.declared.op.Look.TheVariants.{First, Second}
 use Rattle.task_moves.specs.declared.moves.owed.Move.TheVariants as move
 use Rattle.executor_model.specs.declared.call.Call.{Call}
 use Rattle.executor_model.specs.declared.call.Call.TheVariants as call
@@ -38,17 +41,17 @@ use Rattle.executor_model.specs.declared.step.UserEnd.{UserEnd}
 use Rattle.executor_model.specs.declared.step.UserEnd.TheVariants as end
 use Rattle.executor_parts.specs.Sleepers.{next_number}
 use Rattle.executor_model.specs.Acts.{append_by}
-use Rattle.executor_model.specs.ActsOfRuns.{make_room_by, make_run_by, registered, search_own_by}
+use Rattle.executor_model.specs.ActsOfRuns.{make_room_by, make_run_by, registered}
 use Rattle.executor_model.specs.ActsOfSleepers.{copy_sleeper_by, exchange_by, fall_asleep_by, hand_out_by, leave_sleepers_by}
-use Rattle.executor_model.specs.ActsOfSleepers.{make_tick_by, polled_as, search_by, sleep_again_by, sleep_anew_by, sleep_listed_by}
+use Rattle.executor_model.specs.ActsOfSleepers.{make_tick_by, polled_as, look_tick_by, sleep_again_by, sleep_anew_by, sleep_listed_by}
 use Rattle.executor_model.specs.ActsOfSleepers.{wake_up_by}
 use Rattle.executor_model.specs.Doing.{act, list_act, search_by_who, sleeper_act, tick_act}
 use Rattle.executor_model.specs.Good.{Good}
 use Rattle.executor_model.specs.Rows.{ticking_of}
 use Rattle.executor_model.specs.Steps.{Machine, accepts, begun, has_all, has_tick, lives, mine, react, run, stack, start, top}
-use Rattle.executor_model.specs.Steps.{begin_refusal, future_of, is_known, is_unused, kept, with_future}
-use Rattle.executor_model.specs.Trace.{Trace, has}
-use Rattle.executor_model.specs.World.{Asleep, Awake, Done, Ended, Left, Listed, New, Stage, Ticker, World, done, log, put_own, run_of}
+use Rattle.executor_model.specs.Steps.{future_of, is_known, is_unused, kept, with_future}
+use Rattle.executor_model.specs.Trace.{has}
+use Rattle.executor_model.specs.World.{Asleep, Awake, Done, Ended, Left, Listed, New, Stage, Ticker, World, done, log}
 use Rattle.executor_model.specs.World.{own_of, tick_of, ticks_with}
 use Rattle.executor_model.proofs.Sleepers.SleepersAway.{Away, SleepersSeen, away-act, away-call, away-own, is_seen_asleep}
 use Rattle.executor_model.proofs.Steps.Lift.{good-start, none_refused, unsettled}
@@ -72,9 +75,9 @@ with-length ts (tick_or_run.Run r) x = omega arith
 seen-keeps : (w : World) (d : Done) → Away w d → Keeps w d.world
 seen-keeps w d a = record { few = omega (arith, ap (λ (v : SleepersSeen). length v.ticks) a.sleepers_seen) }
 
-keeps-append : (b : Bool) (w : World) (f : ℕ) → Keeps w (append_by b w f).world
-keeps-append true w f = record { few = omega arith }
-keeps-append false w f = record { few = omega arith }
+keeps-append : (b : Bool) (w : World) (mark : Mark) (f : ℕ) → Keeps w (append_by b w mark f).world
+keeps-append true w mark f = record { few = omega arith }
+keeps-append false w mark f = record { few = omega arith }
 
 keeps-exchange : (b : Bool) (w : World) → Keeps w (exchange_by b w).world
 keeps-exchange true w = record { few = omega arith }
@@ -94,13 +97,14 @@ keeps-make : (b : Bool) (w : World) → Keeps w (make_tick_by b w).world
 keeps-make true w = record { few = omega arith }
 keeps-make false w = record { few = omega (arith, length-append w.ticks (Awake ∷ [])) }
 
-keeps-search : (x : Ticker) (w : World) (q : List ℕ) (s : Sleeping) → Keeps w (search_by x w q s).world
-keeps-search x w [] s = record { few = omega arith }
-keeps-search x w (f ∷ rest) s = record { few = omega arith }
+keeps-search : (look : Look) (x : Ticker) (w : World) (q : List ℕ) (s : Sleeping) → Keeps w (look_tick_by x w look q s).world
+keeps-search (First mark) x w [] s = record { few = omega arith }
+keeps-search (Second mark) x w [] s = record { few = omega arith }
+keeps-search look x w (f ∷ rest) s = record { few = omega arith }
 
-keeps-who : (who : TickOrRun) (w : World) (s : Sleeping) → Keeps w (search_by_who who w s).world
-keeps-who (tick_or_run.Tick t) w s = keeps-search _ w _ s
-keeps-who (tick_or_run.Run r) w s =
+keeps-who : (who : TickOrRun) (p : ℕ) (w : World) (s : Sleeping) → Keeps w (search_by_who who p w s).world
+keeps-who (tick_or_run.Tick t) p w s = record { few = omega arith }
+keeps-who (tick_or_run.Run r) p w s =
     seen-keeps w _ (away-own (own_of w r) w (record { run = r; waker = s.waker; poll = s.poll }))
 
 keeps-copied : (b : Bool) (w : World) (a : Waker) (who : TickOrRun) (poll : ℕ) →
@@ -136,13 +140,14 @@ keeps-leave (Asleep n) w who = record { few = with-length w.ticks who Left }
 keeps-leave Awake w who = record { few = with-length w.ticks who Left }
 keeps-leave Left w who = record { few = omega arith }
 
-keeps-tick : (h : Hint) (o : TickOp) (w : World) → Keeps w (tick_act h o w).world
-keeps-tick h tick_op.MakeTick w = keeps-make h.refused w
-keeps-tick h (tick_op.Search s) w = keeps-who s.who w s
-keeps-tick h (tick_op.CopyWaker s) w = keeps-copied _ w s.waker s.who s.poll
-keeps-tick h (tick_op.FallAsleep s) w = keeps-asleep _ w s
-keeps-tick h (tick_op.WakeUp who) w = keeps-up _ w who
-keeps-tick h (tick_op.Leave who) w = keeps-leave _ w who
+keeps-tick : (p : ℕ) (h : Hint) (o : TickOp) (w : World) → Keeps w (tick_act p h o w).world
+keeps-tick p h tick_op.MakeTick w = keeps-make h.refused w
+keeps-tick p h (tick_op.Search s) w = keeps-who s.who p w s
+keeps-tick p h (tick_op.Look s look) w = keeps-search look _ w _ s
+keeps-tick p h (tick_op.CopyWaker s) w = keeps-copied _ w s.waker s.who s.poll
+keeps-tick p h (tick_op.FallAsleep s) w = keeps-asleep _ w s
+keeps-tick p h (tick_op.WakeUp who) w = keeps-up _ w who
+keeps-tick p h (tick_op.Leave who) w = keeps-leave _ w who
 
 keeps-made : (b : Bool) (w : World) → Keeps w (make_run_by b w).world
 keeps-made true w = record { few = omega arith }
@@ -167,9 +172,9 @@ keeps-room true w = record { few = omega arith }
 keeps-room false w = record { few = omega arith }
 
 keeps-seen : (p : ℕ) (h : Hint) (o : Op) (w : World) → is_seen_asleep o ≡ true → Keeps w (act p h o w).world
-keeps-seen p h (op.Queue (queue_op.Append f)) w z = keeps-append _ w f
+keeps-seen p h (op.Queue (queue_op.Append f)) w z = keeps-append _ w _ f
 keeps-seen p h (op.Sleeper o) w z = keeps-sleeper p o w
-keeps-seen p h (op.Tick o) w z = keeps-tick h o w
+keeps-seen p h (op.Tick o) w z = keeps-tick p h o w
 keeps-seen p h (op.List o) w z = keeps-list h o w
 keeps-seen p h (op.Run run_op.MakeRoom) w z = keeps-room h.refused w
 keeps-seen p h (op.Run run_op.ReturnRoom) w z = record { few = omega arith }

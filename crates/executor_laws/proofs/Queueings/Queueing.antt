@@ -1,10 +1,17 @@
 -- For queueings_are_counted.
 -- Each step changes the queue as a closable queue changes.
-use Rattle.std.proofs.Common.{◌≡◌, ℕ, ◌+◌, ◌-◌, ◌<◌, ◌≤◌, List, [], ◌∷◌, ◌++◌, length, drop, Bool}
+use Rattle.std.proofs.Common.{◌≡◌, ◌⊎◌, inl, inr, ⊎_elim, ℕ, ◌+◌, ◌-◌, ◌<◌, ◌≤◌, List, [], ◌∷◌, ◌++◌, length, drop, Bool}
 use Rattle.std.proofs.Common.{true, false, ◌&&◌, not, ltb, refl, sym, ap, ◌∙◌, subst, arith, length-append, Result}
 use Rattle.std.proofs.lemmas.Bool.Decides.{nat_tests}
 use Rattle.std.specs.Prelude.{Option, Some, None, reverse}
-use Rattle.queue_steps.specs.ClosableQueue.{ClosableQueue, most_accepted, HasRoom, appended, taken, shut}
+use Rattle.executor_parts.specs.declared.mark.Mark.{Mark}
+use Rattle.executor_parts.specs.declared.mark.Mark.TheVariants.{Plain, Urgent}
+use Rattle.executor_model.specs.declared.op.Look.{Look}
+use Rattle.executor_model.specs.Queues.{Queues, queue_in, with_queue}
+use Rattle.executor_model.specs.World.{mark_of, queue_of}
+use Rattle.executor_model.specs.Acts.{append_to, mark_in, takes_more}
+use Rattle.executor_model.proofs.Steps.QueuesByMark.{queue-put-same, with_last, with_shut, without_first_of}
+use Rattle.queue_steps.specs.ClosableQueue.{ClosableQueue, most_accepted, HasRoom, appended, new_queue, taken, shut}
 use Rattle.executor_model.specs.declared.call.Call.{Call}
 use Rattle.executor_model.specs.declared.call.Call.TheVariants as call
 use Rattle.executor_model.specs.declared.call.Reply.{Reply}
@@ -42,7 +49,7 @@ use Rattle.executor_model.specs.declared.step.UserEnd.TheVariants as end
 use Rattle.executor_model.specs.World.{World, Ticker, Done, log}
 use Rattle.executor_model.specs.Acts.{append_by, take_by}
 use Rattle.executor_model.specs.Acts.{drain_by}
-use Rattle.executor_model.specs.ActsOfSleepers.{search_by}
+use Rattle.executor_model.specs.ActsOfSleepers.{look_tick_by}
 use Rattle.executor_model.specs.ActsOfRuns as runs
 use Rattle.executor_model.specs.Doing.{act, run_act, search_by_who, steal_act, tick_act}
 use Rattle.executor_model.specs.Steps.{Machine, stack, top, below_top, refusal, go_refusal, unless}
@@ -60,102 +67,109 @@ use Rattle.executor_model.proofs.Awaiters.SleepersWorlds.{Rest, sleeper-rest, ti
 use Rattle.executor_laws.specs.Queueings.{queued_by, queueings, counting, Changes, counted_after, CountsQueueings}
 use Rattle.executor_laws.specs.Queueings.Changes.{stays, appends, takes, closes}
 
--- what doing o does to the queue
-data Turns (o : Op) (q new : ClosableQueue ℕ) : Type 0 where
-  same : new ≡ q → Turns o q new
-  more : (f : ℕ) → o ≡ op.Queue (queue_op.Append f) → q.closed ≡ false → new ≡ appended q f → Turns o q new
-  less : (f : ℕ) (rest : List ℕ) → q.items ≡ f ∷ rest → new ≡ taken q → Turns o q new
-  shuts : new ≡ shut q → Turns o q new
+-- what doing o does to the queues
+data Turns (w : World) (o : Op) (new : Queues) : Type 0 where
+  same : new ≡ w.queues → Turns w o new
+  more : (f : ℕ) → o ≡ op.Queue (queue_op.Append f) → (queue_of w (mark_of w f)).closed ≡ false →
+      new ≡ with_last (mark_of w f) f w.queues → Turns w o new
+  less : (m : Mark) (f : ℕ) (rest : List ℕ) → (queue_of w m).items ≡ f ∷ rest → new ≡ without_first_of m w.queues →
+      Turns w o new
+  shuts : (m : Mark) → new ≡ with_shut m w.queues → Turns w o new
 
-turns-append : (c : Bool) (l : Bool) (w : World) (f : ℕ) → w.queue.closed ≡ c →
-    Turns (op.Queue (queue_op.Append f)) w.queue (append_by (not c && l) w f).world.queue
+turns-append : (c : Bool) (l : Bool) (w : World) (f : ℕ) → (queue_of w (mark_of w f)).closed ≡ c →
+    Turns w (op.Queue (queue_op.Append f)) (append_by (not c && l) w (mark_of w f) f).world.queues
 turns-append true l w f e = same refl
 turns-append false true w f e = more f refl e refl
 turns-append false false w f e = same refl
 
-turns-take : (w : World) (items : List ℕ) → w.queue.items ≡ items →
-    Turns (op.Queue queue_op.Take) w.queue (take_by w items).world.queue
-turns-take w [] e = same refl
-turns-take w (f ∷ rest) e = less f rest e refl
+turns-take : (w : World) (look : Look) (items : List ℕ) → (queue_of w (mark_in look)).items ≡ items →
+    Turns w (op.Queue (queue_op.Take look)) (take_by w look items).world.queues
+turns-take w look [] e = same refl
+turns-take w look (f ∷ rest) e = less (mark_in look) f rest e refl
 
-turns-drain : (p : ℕ) (w : World) (items : List ℕ) → w.queue.items ≡ items →
-    Turns (op.Closing closing_op.Drain) w.queue (drain_by p w items).world.queue
-turns-drain p w [] e = same refl
-turns-drain p w (f ∷ rest) e = less f rest e refl
+turns-drain : (mark : Mark) (p : ℕ) (w : World) (items : List ℕ) → (queue_of w mark).items ≡ items →
+    Turns w (op.Closing (closing_op.Drain mark)) (drain_by p w mark items).world.queues
+turns-drain Urgent p w [] e = same refl
+turns-drain Plain p w [] e = same refl
+turns-drain mark p w (f ∷ rest) e = less mark f rest e refl
 
--- of what a tick does, the search alone takes
-turns-search : (x : Ticker) (w : World) (items : List ℕ) (s : Sleeping) → w.queue.items ≡ items →
-    Turns (op.Tick (tick_op.Search s)) w.queue (search_by x w items s).world.queue
-turns-search x w [] s e = same refl
-turns-search x w (f ∷ rest) s e = less f rest e refl
+-- of what a tick does, its looks alone take
+turns-look : (look : Look) (x : Ticker) (w : World) (items : List ℕ) (s : Sleeping) →
+    (queue_of w (mark_in look)).items ≡ items →
+    Turns w (op.Tick (tick_op.Look s look)) (look_tick_by x w look items s).world.queues
+turns-look look x w [] s e = same refl
+turns-look look x w (f ∷ rest) s e = less (mark_in look) f rest e refl
 
 -- what a run does changes it by takes alone
 
 turns-stolen : (from : Source) (q : List ℕ) (w : World) (s : Steal) (left : ℕ) → s.from ≡ from →
     runs.source_of w from ≡ q →
-    Turns (op.Steal (steal_op.Take s left)) w.queue (runs.steal_take_by q w s left).world.queue
+    Turns w (op.Steal (steal_op.Take s left)) (runs.steal_take_by q w s left).world.queues
 turns-stolen from [] w s left i e = same (queue-stolen s.then w s.poll)
-turns-stolen Common (f ∷ rest) w s left i e =
-    less f rest e (ap (λ (a : Source). (runs.without_first w a rest).queue) i)
-turns-stolen (Own r) (f ∷ rest) w s left i e = same (ap (λ (a : Source). (runs.without_first w a rest).queue) i)
+turns-stolen (Common mark) (f ∷ rest) w s left i e =
+    less mark f rest e (ap (λ (a : Source). (runs.without_first w a rest).queues) i)
+turns-stolen (Own r) (f ∷ rest) w s left i e = same (ap (λ (a : Source). (runs.without_first w a rest).queues) i)
 
-turns-steal : (p : ℕ) (o : StealOp) (w : World) → Turns (op.Steal o) w.queue (steal_act p o w).world.queue
+turns-steal : (p : ℕ) (o : StealOp) (w : World) → Turns w (op.Steal o) (steal_act p o w).world.queues
 turns-steal p (steal_op.Length s) w = same (queue-length _ w s)
 turns-steal p (steal_op.OwnLength s n) w = same (queue-more _ w s)
 turns-steal p (steal_op.Take s left) w = turns-stolen s.from _ w s left refl refl
 turns-steal p (steal_op.Put s left f) w = same (queue-put _ p w s left f)
 
-turns-common : (q : List ℕ) (w : World) (x : RunPoll) → w.queue.items ≡ q →
-    Turns (op.Run (run_op.SearchCommon x)) w.queue (runs.search_common_by q w x).world.queue
-turns-common [] w x e = same refl
-turns-common (f ∷ rest) w x e = less f rest e refl
+turns-common : (look : Look) (q : List ℕ) (w : World) (x : RunPoll) → (queue_of w (mark_in look)).items ≡ q →
+    Turns w (op.Run (run_op.SearchCommon x look)) (runs.search_common_by q w x look).world.queues
+turns-common look [] w x e = same refl
+turns-common look (f ∷ rest) w x e = less (mark_in look) f rest e refl
 
-turns-run : (p : ℕ) (h : Hint) (o : RunOp) (w : World) → Turns (op.Run o) w.queue (run_act p h o w).world.queue
+turns-run : (p : ℕ) (h : Hint) (o : RunOp) (w : World) → Turns w (op.Run o) (run_act p h o w).world.queues
 turns-run p h run_op.MakeRoom w = same (queue-room _ w)
 turns-run p h run_op.ReturnRoom w = same refl
-turns-run p h (run_op.SearchCommon x) w = turns-common _ w x refl
+turns-run p h (run_op.TakeTurn x) w = same refl
+turns-run p h (run_op.SearchCommon x look) w = turns-common look _ w x refl
 turns-run p h (run_op.LookOwn x at left) w = same (queue-look _ w x at left)
 turns-run p h (run_op.WakeOwn x) w =
     same (queue-by_reference p (log w (event.WakerCalled p (of.Run x.run) x.poll x.waker)) x.waker)
 turns-run p h (run_op.Reschedule r a) w = same (queue-reschedule _ w r a)
 
-turns-searches : (who : TickOrRun) (w : World) (s : Sleeping) →
-    Turns (op.Tick (tick_op.Search s)) w.queue (search_by_who who w s).world.queue
-turns-searches (tick_or_run.Tick t) w s = turns-search _ w w.queue.items s refl
-turns-searches (tick_or_run.Run r) w s = same (queue-own _ w _)
+turns-searches : (who : TickOrRun) (p : ℕ) (w : World) (s : Sleeping) →
+    Turns w (op.Tick (tick_op.Search s)) (search_by_who who p w s).world.queues
+turns-searches (tick_or_run.Tick t) p w s = same refl
+turns-searches (tick_or_run.Run r) p w s = same (queue-own _ w _)
 
-turns-tick : (h : Hint) (o : TickOp) (w : World) (b : Bool) → searches o ≡ b →
-    Turns (op.Tick o) w.queue (tick_act h o w).world.queue
-turns-tick h (tick_op.Search s) w b e = turns-searches s.who w s
-turns-tick h o w false e = same (sym (ap (λ (r : Rest). r.queue) (tick-rest h o w e)))
-turns-tick h _ w true e = absurd (cc)
+turns-tick : (p : ℕ) (h : Hint) (o : TickOp) (w : World) (b : Bool) → searches o ≡ b →
+    Turns w (op.Tick o) (tick_act p h o w).world.queues
+turns-tick p h (tick_op.Search s) w b e = turns-searches s.who p w s
+turns-tick p h (tick_op.Look s look) w b e = turns-look look _ w _ s refl
+turns-tick p h o w false e = same (sym (ap (λ (r : Rest). r.queue) (tick-rest p h o w e)))
+turns-tick p h _ w true e = absurd (cc)
 
-turns-act : (p : ℕ) (h : Hint) (o : Op) (w : World) → Turns o w.queue (act p h o w).world.queue
-turns-act p h (op.Queue queue_op.Take) w = turns-take w w.queue.items refl
-turns-act p h (op.Queue (queue_op.Append f)) w = turns-append w.queue.closed _ w f refl
+turns-act : (p : ℕ) (h : Hint) (o : Op) (w : World) → Turns w o (act p h o w).world.queues
+turns-act p h (op.Queue queue_op.TakeTurn) w = same refl
+turns-act p h (op.Queue (queue_op.Take look)) w = turns-take w look _ refl
+turns-act p h (op.Queue (queue_op.Append f)) w = turns-append (queue_of w (mark_of w f)).closed _ w f refl
 turns-act p h (op.Sleeper o) w = same (sym (ap (λ (r : Rest). r.queue) (sleeper-rest p o w)))
-turns-act p h (op.Tick o) w = turns-tick h o w (searches o) refl
+turns-act p h (op.Tick o) w = turns-tick p h o w (searches o) refl
 turns-act p h (op.List o) w = same (queue-list h o w)
 turns-act p h (op.Steal o) w = turns-steal p o w
 turns-act p h (op.Run o) w = turns-run p h o w
-turns-act p h (op.Closing closing_op.Close) w = shuts refl
-turns-act p h (op.Closing closing_op.Drain) w = turns-drain p w w.queue.items refl
+turns-act p h (op.Closing (closing_op.Close mark)) w = shuts mark refl
+turns-act p h (op.Closing (closing_op.Drain mark)) w = turns-drain mark p w _ refl
 turns-act p h (op.User (user_op.PollOwn x)) w = same refl
 turns-act p h o w = same (ap (λ (r : Whole). r.queue) (sym (frame-act p h o w refl).rest))
 
-reacts : (p : ℕ) (o : Op) (u : UserEnd) (w : World) → (react p o u w).world.queue ≡ w.queue
+reacts : (p : ℕ) (o : Op) (u : UserEnd) (w : World) → (react p o u w).world.queues ≡ w.queues
 reacts p (op.User (user_op.Poll f)) (end.Polled answer.Pending) w = refl
 reacts p (op.User (user_op.Poll f)) (end.Polled answer.Ready) w = refl
 reacts p (op.User (user_op.PollOwn x)) (end.Polled answer.Pending) w = refl
 reacts p (op.User (user_op.PollOwn x)) (end.Polled answer.Ready) w = refl
 reacts p _ _ w = refl
 
-with-future : (w : World) (x : Option ℕ) (d : ℕ → Done) → ((f : ℕ) → (d f).world.queue ≡ w.queue) →
-    (with_future w x d).world.queue ≡ w.queue
+with-future : (w : World) (x : Option ℕ) (d : ℕ → Done) → ((f : ℕ) → (d f).world.queues ≡ w.queues) →
+    (with_future w x d).world.queues ≡ w.queues
 with-future w None d k = refl
 with-future w (Some f) d k = k f
 
-begins : (p : ℕ) (w : World) (here : Option Waker) (c : Call) → (begun p w here c).world.queue ≡ w.queue
+begins : (p : ℕ) (w : World) (here : Option Waker) (c : Call) → (begun p w here c).world.queues ≡ w.queues
 begins p w here (call.Wake k) = with-future w (kept w k) _ (λ f. refl)
 begins p w here (call.WakeByRef k) = with-future w (kept w k) _ (λ f. refl)
 begins p w here (call.Copy k) = with-future w (kept w k) _ (λ f. refl)
@@ -165,55 +179,82 @@ begins p w here call.WakeSelf = with-future w (future_of here) _ (λ f. refl)
 begins p w here _ = refl
 
 -- the end of a call leaves it
-settles : (p : ℕ) (w : World) (os : List Op) (r : Option Reply) → (settled_by r p w os).world.queue ≡ w.queue
+settles : (p : ℕ) (w : World) (os : List Op) (r : Option Reply) → (settled_by r p w os).world.queues ≡ w.queues
 settles p w os None = refl
 settles p w os (Some r) = refl
 
--- what a step does to the queue
-data Steps (s : Machine) (new : ClosableQueue ℕ) : Type 0 where
-  as-was : new ≡ s.world.queue → Steps s new
-  longer : (p f : ℕ) → top (stack s p) ≡ Some (op.Queue (queue_op.Append f)) → s.world.queue.closed ≡ false →
-      new ≡ appended s.world.queue f → Steps s new
-  shorter : (f : ℕ) (rest : List ℕ) → s.world.queue.items ≡ f ∷ rest → new ≡ taken s.world.queue → Steps s new
-  shut-by : new ≡ shut s.world.queue → Steps s new
+-- what a step does to the queue of this mark
+pub data Steps (m : Mark) (s : Machine) (new : ClosableQueue ℕ) : Type 0 where
+  as-was : new ≡ queue_of s.world m → Steps m s new
+  longer : (p f : ℕ) → top (stack s p) ≡ Some (op.Queue (queue_op.Append f)) → mark_of s.world f ≡ m →
+      (queue_of s.world m).closed ≡ false →
+      new ≡ appended (queue_of s.world m) f → Steps m s new
+  shorter : (f : ℕ) (rest : List ℕ) → (queue_of s.world m).items ≡ f ∷ rest → new ≡ taken (queue_of s.world m) → Steps m s new
+  shut-by : new ≡ shut (queue_of s.world m) → Steps m s new
 
-by-act : (s : Machine) (p : ℕ) (o : Op) (v new : ClosableQueue ℕ) → top (stack s p) ≡ Some o → new ≡ v →
-    Turns o s.world.queue v →
-    Steps s new
-by-act s p o v new e q (same x) = as-was (q ∙ x)
-by-act s p o v new e q (more f x c y) = longer p f (e ∙ ap (λ (z : Op). Some z) x) c (q ∙ y)
-by-act s p o v new e q (less f rest x y) = shorter f rest x (q ∙ y)
-by-act s p o v new e q (shuts y) = shut-by (q ∙ y)
+-- the queue of this mark, where that of a mark was put
+put-at : (m n : Mark) (q : ClosableQueue ℕ) (qs : Queues) →
+    ((n ≡ m) × (queue_in m (with_queue n q qs) ≡ q)) ⊎ (queue_in m (with_queue n q qs) ≡ queue_in m qs)
+put-at Urgent Urgent q qs = inl (refl, refl)
+put-at Urgent Plain q qs = inr refl
+put-at Plain Urgent q qs = inr refl
+put-at Plain Plain q qs = inl (refl, refl)
 
-by-go : (s : Machine) (p : ℕ) (h : Hint) (x : Option Op) → top (stack s p) ≡ x →
-    Steps s (gone_on p s.world (stack s p) x (λ o. act p h o s.world)).world.queue
-by-go s p h None e = as-was refl
-by-go s p h (Some o) e =
-    by-act s p o (act p h o s.world).world.queue _ e (settles p (act p h o s.world).world
+by-act : (m : Mark) (s : Machine) (p : ℕ) (o : Op) (v new : Queues) → top (stack s p) ≡ Some o → new ≡ v →
+    Turns s.world o v → Steps m s (queue_in m new)
+by-act m s p o v new e q (same x) = as-was (ap (queue_in m) (q ∙ x))
+by-act m s p o v new e q (more f x c y) =
+    let n : Mark = mark_of s.world f in
+    let now = ap (queue_in m) (q ∙ y) in ⊎_elim
+    (λ (i : (n ≡ m) × (queue_in m (with_last n f s.world.queues) ≡ appended (queue_of s.world n) f)).
+    longer p f (e ∙ ap (λ (z : Op). Some z) x) i.0 (ap (λ (k : Mark). (queue_of s.world k).closed) (sym i.0) ∙ c)
+    (now ∙ (i.1 ∙ ap (λ (k : Mark). appended (queue_of s.world k) f) i.0)))
+    (λ (i : queue_in m (with_last n f s.world.queues) ≡ queue_of s.world m). as-was (now ∙ i))
+    (put-at m n (appended (queue_of s.world n) f) s.world.queues)
+by-act m s p o v new e q (less n f rest x y) =
+    let now = ap (queue_in m) (q ∙ y) in ⊎_elim
+    (λ (i : (n ≡ m) × (queue_in m (without_first_of n s.world.queues) ≡ taken (queue_of s.world n))).
+    shorter f rest (ap (λ (k : Mark). (queue_of s.world k).items) (sym i.0) ∙ x)
+    (now ∙ (i.1 ∙ ap (λ (k : Mark). taken (queue_of s.world k)) i.0)))
+    (λ (i : queue_in m (without_first_of n s.world.queues) ≡ queue_of s.world m). as-was (now ∙ i))
+    (put-at m n (taken (queue_of s.world n)) s.world.queues)
+by-act m s p o v new e q (shuts n y) =
+    let now = ap (queue_in m) (q ∙ y) in ⊎_elim
+    (λ (i : (n ≡ m) × (queue_in m (with_shut n s.world.queues) ≡ shut (queue_of s.world n))).
+    shut-by (now ∙ (i.1 ∙ ap (λ (k : Mark). shut (queue_of s.world k)) i.0)))
+    (λ (i : queue_in m (with_shut n s.world.queues) ≡ queue_of s.world m). as-was (now ∙ i))
+    (put-at m n (shut (queue_of s.world n)) s.world.queues)
+
+by-go : (m : Mark) (s : Machine) (p : ℕ) (h : Hint) (x : Option Op) → top (stack s p) ≡ x →
+    Steps m s (queue_of (gone_on p s.world (stack s p) x (λ o. act p h o s.world)).world m)
+by-go m s p h None e = as-was refl
+by-go m s p h (Some o) e =
+    by-act m s p o (act p h o s.world).world.queues _ e (settles p (act p h o s.world).world
     (below_top (stack s p) ++ reverse (act p h o s.world).next) _) (turns-act p h o s.world)
 
-by-answer : (s : Machine) (p : ℕ) (u : UserEnd) (x : Option Op) →
-    Steps s (gone_on p s.world (stack s p) x (λ o. react p o u s.world)).world.queue
-by-answer s p u None = as-was refl
-by-answer s p u (Some o) =
-    as-was (settles p (react p o u s.world).world (below_top (stack s p) ++ reverse (react p o u s.world).next) _
-    ∙ reacts p o u s.world)
+by-answer : (m : Mark) (s : Machine) (p : ℕ) (u : UserEnd) (x : Option Op) →
+    Steps m s (queue_of (gone_on p s.world (stack s p) x (λ o. react p o u s.world)).world m)
+by-answer m s p u None = as-was refl
+by-answer m s p u (Some o) =
+    as-was (ap (queue_in m)
+    (settles p (react p o u s.world).world (below_top (stack s p) ++ reverse (react p o u s.world).next) _
+    ∙ reacts p o u s.world))
 
-by-after : (s : Machine) (t : Step) → Steps s (after s t).world.queue
-by-after s (Begin p c) =
+by-after : (m : Mark) (s : Machine) (t : Step) → Steps m s (queue_of (after s t).world m)
+by-after m s (Begin p c) =
     let w : World = log s.world (event.CallBegun p c) in
     let d : Done = begun p w (mine (top (stack s p))) c in
-    as-was (settles p d.world (stack s p ++ reverse d.next) _ ∙ begins p w (mine (top (stack s p))) c)
-by-after s (Go p h) = by-go s p h (top (stack s p)) refl
-by-after s (step_is.Answer p u) = by-answer s p u (top (stack s p))
+    as-was (ap (queue_in m) (settles p d.world (stack s p ++ reverse d.next) _ ∙ begins p w (mine (top (stack s p))) c))
+by-after m s (Go p h) = by-go m s p h (top (stack s p)) refl
+by-after m s (step_is.Answer p u) = by-answer m s p u (top (stack s p))
 
-by-step : (s : Machine) (t : Step) → Steps s (stepped s (step s t)).world.queue
-by-step s t = go (refusal s t) refl
+pub by-step : (m : Mark) (s : Machine) (t : Step) → Steps m s (queue_of (stepped s (step s t)).world m)
+by-step m s t = go (refusal s t) refl
   where
-    go : (r : Option StepError) → refusal s t ≡ r → Steps s (stepped s (step s t)).world.queue
-    go None e = subst (λ (x : Result Machine StepError). Steps s (stepped s x).world.queue) (sym (step-made s t e))
-        (by-after s t)
-    go (Some error) e = subst (λ (x : Result Machine StepError). Steps s (stepped s x).world.queue)
+    go : (r : Option StepError) → refusal s t ≡ r → Steps m s (queue_of (stepped s (step s t)).world m)
+    go None e = subst (λ (x : Result Machine StepError). Steps m s (queue_of (stepped s x).world m)) (sym (step-made s t e))
+        (by-after m s t)
+    go (Some error) e = subst (λ (x : Result Machine StepError). Steps m s (queue_of (stepped s x).world m))
         (sym (step-refused s t error e))
         (as-was refl)
 
@@ -223,34 +264,35 @@ count-less : (xs : List ℕ) → length (drop 1 xs) - length xs ≡ 0
 count-less [] = refl
 count-less (x ∷ xs) = omega arith
 
-queued-most : (s : Machine) (new : ClosableQueue ℕ) → Steps s new → length new.items - length s.world.queue.items ≤ 1
-queued-most s new (as-was x) = omega (arith, ap (λ (v : ClosableQueue ℕ). length v.items) x)
-queued-most s new (longer p f a c x) = omega (
+queued-most : (m : Mark) (s : Machine) (new : ClosableQueue ℕ) → Steps m s new →
+    length new.items - length (queue_of s.world m).items ≤ 1
+queued-most m s new (as-was x) = omega (arith, ap (λ (v : ClosableQueue ℕ). length v.items) x)
+queued-most m s new (longer p f a i c x) = omega (
   arith,
   ap (λ (v : ClosableQueue ℕ). length v.items) x,
-  length-append s.world.queue.items (f ∷ []),
+  length-append (queue_of s.world m).items (f ∷ []),
 )
-queued-most s new (shorter f rest a x) = omega (
+queued-most m s new (shorter f rest a x) = omega (
   arith,
-  ap (λ (v : ClosableQueue ℕ). length v.items - length s.world.queue.items) x,
-  count-less s.world.queue.items,
+  ap (λ (v : ClosableQueue ℕ). length v.items - length (queue_of s.world m).items) x,
+  count-less (queue_of s.world m).items,
 )
-queued-most s new (shut-by x) = omega (arith, ap (λ (v : ClosableQueue ℕ). length v.items) x)
+queued-most m s new (shut-by x) = omega (arith, ap (λ (v : ClosableQueue ℕ). length v.items) x)
 
-queueings-most : (ts : List Step) (s : Machine) → queueings ts s ≤ length ts
-queueings-most [] s = omega arith
-queueings-most (t ∷ ts) s = omega (
+queueings-most : (m : Mark) (ts : List Step) (s : Machine) → queueings m ts s ≤ length ts
+queueings-most m [] s = omega arith
+queueings-most m (t ∷ ts) s = omega (
   arith,
-  queued-most s (stepped s (step s t)).world.queue (by-step s t),
-  queueings-most ts (stepped s (step s t)),
+  queued-most m s (queue_of (stepped s (step s t)).world m) (by-step m s t),
+  queueings-most m ts (stepped s (step s t)),
 )
 
 -- as a queue that counts
 
-queueings-push : (ts : List Step) (t : Step) (s : Machine) →
-    queueings (ts ++ t ∷ []) s ≡ queueings ts s + queued_by t (run ts s)
-queueings-push [] t s = omega arith
-queueings-push (x ∷ ts) t s = omega (arith, queueings-push ts t (stepped s (step s x)))
+queueings-push : (m : Mark) (ts : List Step) (t : Step) (s : Machine) →
+    queueings m (ts ++ t ∷ []) s ≡ queueings m ts s + queued_by m t (run ts s)
+queueings-push m [] t s = omega arith
+queueings-push m (x ∷ ts) t s = omega (arith, queueings-push m ts t (stepped s (step s x)))
 
 run-push : (ts : List Step) (t : Step) (s : Machine) → run (ts ++ t ∷ []) s ≡ stepped (run ts s) (step (run ts s) t)
 run-push [] t s = refl
@@ -259,71 +301,81 @@ run-push (x ∷ ts) t s = run-push ts t (stepped s (step s x))
 count-more : (xs : List ℕ) (f : ℕ) → length (xs ++ f ∷ []) - length xs ≡ 1
 count-more xs f = omega (arith, length-append xs (f ∷ []))
 
-module _ (limit : ℕ) (kind : Kind) (parties : ℕ) (steps : List Step) where
+module _ (m : Mark) (limit : ℕ) (kind : Kind) (parties : ℕ) (steps : List Step) where
   abbrev now : Machine
   now = run steps (start limit kind parties)
 
+  abbrev here : ClosableQueue ℕ
+  here = queue_of now.world m
+
   abbrev count : ℕ
-  count = queueings steps (start limit kind parties)
+  count = queueings m steps (start limit kind parties)
 
   -- one step later
-  later : (t : Step) (q : ClosableQueue ℕ) (n : ℕ) → (stepped now (step now t)).world.queue ≡ q →
-      length q.items - length now.world.queue.items ≡ n →
-      counted_after limit kind parties (steps ++ t ∷ []) ≡ counting (count + n) q
+  later : (t : Step) (q : ClosableQueue ℕ) (n : ℕ) → queue_of (stepped now (step now t)).world m ≡ q →
+      length q.items - length here.items ≡ n →
+      counted_after m limit kind parties (steps ++ t ∷ []) ≡ counting (count + n) q
   later t q n e k =
-      ap (λ (m : ℕ). counting m (run (steps ++ t ∷ []) (start limit kind parties)).world.queue)
-      (queueings-push steps t (start limit kind parties)
-      ∙ ap (λ (m : ℕ). count + m) (ap (λ (v : ClosableQueue ℕ). length v.items - length now.world.queue.items) e ∙ k))
-      ∙ ap (counting (count + n)) (ap (λ (m : Machine). m.world.queue) (run-push steps t (start limit kind parties)) ∙ e)
+      ap (λ (i : ℕ). counting i (queue_of (run (steps ++ t ∷ []) (start limit kind parties)).world m))
+      (queueings-push m steps t (start limit kind parties)
+      ∙ ap (λ (i : ℕ). count + i) (ap (λ (v : ClosableQueue ℕ). length v.items - length here.items) e ∙ k))
+      ∙ ap (counting (count + n))
+      (ap (λ (x : Machine). queue_of x.world m) (run-push steps t (start limit kind parties)) ∙ e)
 
-  has-room : (p f : ℕ) → top (stack now p) ≡ Some (op.Queue (queue_op.Append f)) → HasRoom now.world.queue
-  has-room p f e = finds-place now f (good limit kind parties steps) (placed limit kind parties steps) p e
+  has-room : (p f : ℕ) → top (stack now p) ≡ Some (op.Queue (queue_op.Append f)) → mark_of now.world f ≡ m → HasRoom here
+  has-room p f e i = subst (λ (k : Mark). HasRoom (queue_of now.world k)) i
+      (finds-place now f (good limit kind parties steps) (placed limit kind parties steps) p e)
 
   same-count : (q : ClosableQueue ℕ) → counting (count + 0) q ≡ counting count q
-  same-count q = ap (λ (m : ℕ). counting m q) (let z : count + 0 ≡ count = omega arith in z)
+  same-count q = ap (λ (i : ℕ). counting i q) (let z : count + 0 ≡ count = omega arith in z)
 
-  changes-by : count < most_accepted → (t : Step) (q : ClosableQueue ℕ) → (stepped now (step now t)).world.queue ≡ q →
-      Steps now q →
-      Changes (counted_after limit kind parties steps) (counted_after limit kind parties (steps ++ t ∷ []))
-  changes-by few t q e (as-was x) = stays (later t now.world.queue 0 (e ∙ x) (omega arith) ∙ same-count now.world.queue)
-  changes-by few t q e (longer p f a c x) =
-      appends f c (has-room p f a) few
-      (later t (appended now.world.queue f) 1 (e ∙ x) (count-more now.world.queue.items f))
+  changes-by : count < most_accepted → (t : Step) (q : ClosableQueue ℕ) → queue_of (stepped now (step now t)).world m ≡ q →
+      Steps m now q →
+      Changes (counted_after m limit kind parties steps) (counted_after m limit kind parties (steps ++ t ∷ []))
+  changes-by few t q e (as-was x) = stays (later t here 0 (e ∙ x) (omega arith) ∙ same-count here)
+  changes-by few t q e (longer p f a i c x) =
+      appends f c (has-room p f a i) few (later t (appended here f) 1 (e ∙ x) (count-more here.items f))
   changes-by few t q e (shorter f rest a x) =
-      takes f rest a (later t (taken now.world.queue) 0 (e ∙ x) (count-less now.world.queue.items)
-      ∙ same-count (taken now.world.queue))
-  changes-by few t q e (shut-by x) =
-      closes (later t (shut now.world.queue) 0 (e ∙ x) (omega arith) ∙ same-count (shut now.world.queue))
+      takes f rest a (later t (taken here) 0 (e ∙ x) (count-less here.items) ∙ same-count (taken here))
+  changes-by few t q e (shut-by x) = closes (later t (shut here) 0 (e ∙ x) (omega arith) ∙ same-count (shut here))
 
   -- who is about to append does
   appends-now : (p : ℕ) (h : Hint) (f : ℕ) → top (stack now p) ≡ Some (op.Queue (queue_op.Append f)) →
-      now.world.queue.closed ≡ false →
-      (stepped now (step now (Go p h))).world.queue ≡ appended now.world.queue f
-  appends-now p h f e c =
+      mark_of now.world f ≡ m → here.closed ≡ false →
+      queue_of (stepped now (step now (Go p h))).world m ≡ appended here f
+  appends-now p h f e i c =
       let l : p < length now.parties = in-range now p (op.Queue (queue_op.Append f)) e in
       let b : ltb p (length now.parties) ≡ true = grind (arith, nat_tests) in
       let r : refusal now (Go p h) ≡ None =
       ap (λ (x : Bool). unless x NoSuch (go_refusal now.world (top (stack now p)))) b
       ∙ ap (go_refusal now.world) e in
-      let room : length now.world.queue.items < now.world.limit =
+      let room : length here.items < now.world.limit =
       has-place now p f (below_top (stack now p)) l (topped (stack now p) (op.Queue (queue_op.Append f)) e)
-      (good limit kind parties steps)
-      (placed limit kind parties steps) in
-      let free : (not now.world.queue.closed && ltb (length now.world.queue.items) now.world.limit) ≡ true =
-      ap (λ (x : Bool). not x && ltb (length now.world.queue.items) now.world.limit) c
-      ∙ (let z : ltb (length now.world.queue.items) now.world.limit ≡ true = grind (arith, nat_tests) in z) in
-      ap (λ (x : Result Machine StepError). (stepped now x).world.queue) (step-made now (Go p h) r)
-      ∙ (ap (λ (x : Option Op). (gone_on p now.world (stack now p) x (λ o. act p h o now.world)).world.queue) e
-      ∙ (settles p (act p h (op.Queue (queue_op.Append f)) now.world).world
-      (below_top (stack now p) ++ reverse (act p h (op.Queue (queue_op.Append f)) now.world).next) _
-      ∙ ap (λ (x : Bool). (append_by x now.world f).world.queue) free))
+      (good limit kind parties steps) (placed limit kind parties steps) m in
+      let free : takes_more here now.world.limit ≡ true =
+      ap (λ (x : Bool). not x && ltb (length here.items) now.world.limit) c
+      ∙ (let z : ltb (length here.items) now.world.limit ≡ true = grind (arith, nat_tests) in z) in
+      ap (λ (x : Result Machine StepError). queue_of (stepped now x).world m) (step-made now (Go p h) r)
+      ∙ (ap (λ (x : Option Op). queue_of (gone_on p now.world (stack now p) x (λ o. act p h o now.world)).world m) e
+      ∙ (ap (queue_in m) (settles p (act p h (op.Queue (queue_op.Append f)) now.world).world
+      (below_top (stack now p) ++ reverse (act p h (op.Queue (queue_op.Append f)) now.world).next) _)
+      ∙ (ap (λ (k : Mark). queue_of (append_to now.world k f).world m) i
+      ∙ (ap (λ (x : Bool). queue_of (append_by x now.world m f).world m) free
+      ∙ queue-put-same m (appended here f) now.world.queues))))
 
-pub counts-queueings : (limit : ℕ) (kind : Kind) (parties : ℕ) (steps : List Step) → CountsQueueings limit kind parties steps
-counts-queueings limit kind parties steps = record {
-  most = queueings-most steps (start limit kind parties);
-  new = refl;
-  changes = λ few t. changes-by limit kind parties steps few t _ refl (by-step (run steps (start limit kind parties)) t);
-  appends = λ few p h f e c. later limit kind parties steps (Go p h)
-      (appended (run steps (start limit kind parties)).world.queue f) 1
-      (appends-now limit kind parties steps p h f e c) (count-more (run steps (start limit kind parties)).world.queue.items f);
+pub counts-queueings : (m : Mark) (limit : ℕ) (kind : Kind) (parties : ℕ) (steps : List Step) →
+    CountsQueueings m limit kind parties steps
+counts-queueings m limit kind parties steps = record {
+  most = queueings-most m steps (start limit kind parties);
+  new = fresh m;
+  changes = λ few t.
+      changes-by m limit kind parties steps few t _ refl (by-step m (run steps (start limit kind parties)) t);
+  appends = λ few p h f e i c. later m limit kind parties steps (Go p h)
+      (appended (queue_of (run steps (start limit kind parties)).world m) f) 1
+      (appends-now m limit kind parties steps p h f e i c)
+      (count-more (queue_of (run steps (start limit kind parties)).world m).items f);
 }
+  where
+    fresh : (n : Mark) → counted_after n limit kind parties [] ≡ new_queue (Some limit) (Some 0)
+    fresh Urgent = refl
+    fresh Plain = refl

@@ -6,6 +6,7 @@ use Rattle.std.proofs.lemmas.Bool.Decides.{nat_tests}
 use Rattle.std.proofs.lemmas.List.{reverse-append, append_cancel_right}
 use Rattle.std.proofs.lemmas.List.Folds.{list_any-append}
 use Rattle.std.specs.Prelude.{Option, Some, None, reverse}
+use Rattle.executor_parts.specs.declared.mark.Mark.{Mark}
 use Rattle.task_moves.specs.Moves as moves
 use Rattle.executor_model.specs.declared.call.Reply.{Reply}
 use Rattle.executor_model.specs.declared.event.Event.TheVariants as event
@@ -20,7 +21,7 @@ use Rattle.executor_model.specs.declared.step.Step.TheVariants.{Go, Answer}
 use Rattle.executor_model.specs.declared.step.StepError.TheVariants.{Waits as IsLockedOut, WrongAnswer}
 use Rattle.executor_model.specs.declared.step.UserEnd.{UserEnd}
 use Rattle.executor_model.specs.Trace.{Trace, has}
-use Rattle.executor_model.specs.World.{World, Done, log_if, task, among}
+use Rattle.executor_model.specs.World.{World, Done, log_if, task, among, queue_of}
 use Rattle.executor_model.specs.Carried.{owed_ops, carried}
 use Rattle.executor_model.specs.Steps.{Part, top, below_top, waits, accepts, is_locked_out, unless, go_refusal, answer_refusal, react, part}
 use Rattle.executor_model.specs.Steps.{end_of, settled, settled_by, onto, gone_on, part_after}
@@ -29,7 +30,7 @@ use Rattle.executor_model.proofs.Steps.Lists.{weigh-append, weigh-reverse}
 use Rattle.executor_model.proofs.Steps.Lift.{topped}
 use Rattle.executor_model.proofs.Table.Spawning.{top-last}
 use Rattle.executor_laws.specs.Reach.{takes}
-use Rattle.executor_laws.proofs.Reach.LoneMoves.{stray_of, Inner, logged, inner-act, inner-carried, inner-react}
+use Rattle.executor_laws.proofs.Reach.LoneMoves.{stray_of, is_turn, Inner, logged, inner-act, inner-carried, inner-react}
 use Rattle.executor_model.specs.Doing.{act}
 use Rattle.executor_model.proofs.Steps.Tests.{or-left, or-right}
 
@@ -82,7 +83,7 @@ self f g e = grind (arith, nat_tests)
 taken-up : (p f g : ℕ) (w : World) (closed : Bool) → f ≡ g → among f w.table ≡ true →
     Advances f w (carried (log_if (not closed) w (event.PollBegun p g)) g (moves.take_up_by closed (task w g)))
 taken-up p f g w false e k = record {
-  inner = logged w _ (event.PollBegun p g) (op.Table (table_op.TakeToPoll g) ∷ []) refl refl refl refl;
+  inner = logged w _ (event.PollBegun p g) (op.Table (table_op.TakeToPoll g) ∷ []) refl refl refl refl refl;
   stage = inl (ap (λ (b : Bool). (b || false) || false) (self f g e));
 }
 taken-up p f g w true e k = record {
@@ -110,27 +111,29 @@ advances p f h (op.Table (table_op.TakeToDrop g)) w e k =
       };
     }
 advances p f h (op.User (user_op.BeginDrop g)) w e k = record {
-  inner = logged w _ (event.Dropped p g) (op.User (user_op.Drop g) ∷ op.Table (table_op.LeaveTable g) ∷ []) refl refl
-      refl refl;
+  inner = logged w _ (event.Dropped p g) (op.User (user_op.Drop g) ∷ op.Table (table_op.LeaveTable g) ∷ []) refl
+      refl refl refl refl;
   stage = inl (ap (λ (b : Bool). b || false) (self f g k));
 }
 advances p f h _ w e k = absurd k
 
 -- the call goes on: below this thing to do are those, and below them its answer
-pub record Going (f : ℕ) (xs : List ℕ) (before : Trace) (w : World) (below : List Op) (o : Op) : Type 0 where
+pub record Going (f : ℕ) (xs : Mark → List ℕ) (before : Trace) (w : World) (below : List Op) (o : Op) : Type 0 where
   pub plain : weigh stray_of (below ++ o ∷ []) ≡ 0
-  pub added : List ℕ
-  pub queue : w.queue.items ≡ xs ++ added
+  pub added : Mark → List ℕ
+  pub queue : (m : Mark) → (queue_of w m).items ≡ xs m ++ added m
   pub meanwhile : Trace
+  pub no_turn : has is_turn meanwhile ≡ false
   pub trace : w.trace ≡ before ++ meanwhile
   pub there : w.gone ≡ false
   pub stage : (has (takes f) meanwhile ≡ true) ⊎ (Next f o ⊎ Waits f below)
 
 -- it has ended
-pub record Ended (p : ℕ) (r : Reply) (f : ℕ) (xs : List ℕ) (before : Trace) (w : World) : Type 0 where
-  pub added : List ℕ
-  pub queue : w.queue.items ≡ xs ++ added
+pub record Ended (p : ℕ) (r : Reply) (f : ℕ) (xs : Mark → List ℕ) (before : Trace) (w : World) : Type 0 where
+  pub added : Mark → List ℕ
+  pub queue : (m : Mark) → (queue_of w m).items ≡ xs m ++ added m
   pub meanwhile : Trace
+  pub no_turn : has is_turn meanwhile ≡ false
   pub trace : w.trace ≡ before ++ (meanwhile ++ event.CallEnded p r ∷ [])
   pub taken : has (takes f) meanwhile ≡ true
   pub there : w.gone ≡ false
@@ -138,7 +141,7 @@ pub record Ended (p : ℕ) (r : Reply) (f : ℕ) (xs : List ℕ) (before : Trace
 abbrev pub answering : Reply → Hold → List Op → List Op
 answering r held os = op.End r held ∷ os
 
-pub data Arrives (p : ℕ) (r : Reply) (held : Hold) (f : ℕ) (xs : List ℕ) (before : Trace) (x : Part) : Type 0 where
+pub data Arrives (p : ℕ) (r : Reply) (held : Hold) (f : ℕ) (xs : Mark → List ℕ) (before : Trace) (x : Part) : Type 0 where
   going : (below : List Op) (o : Op) → x.todo ≡ answering r held (below ++ o ∷ []) → Going f xs before x.world below o →
       Arrives p r held f xs before x
   ended : x.todo ≡ [] → Ended p r f xs before x.world → Arrives p r held f xs before x
@@ -165,7 +168,7 @@ last-plain : (below : List Op) (o : Op) → weigh stray_of (below ++ o ∷ []) �
 last-plain below o e =
     (omega (arith, e, weigh-append stray_of below (o ∷ [])), omega (arith, e, weigh-append stray_of below (o ∷ [])))
 
-module _ (p : ℕ) (r : Reply) (held : Hold) (f : ℕ) (xs : List ℕ) (before : Trace) where
+module _ (p : ℕ) (r : Reply) (held : Hold) (f : ℕ) (xs : Mark → List ℕ) (before : Trace) where
   -- the answer isn't yet all that is left
   unsettled : (w : World) (below : List Op) (o : Op) → stray_of o ≡ 0 →
       settled p w (answering r held (below ++ o ∷ [])) ≡ part w (answering r held (below ++ o ∷ []))
@@ -183,9 +186,10 @@ module _ (p : ℕ) (r : Reply) (held : Hold) (f : ℕ) (xs : List ℕ) (before :
 
   -- how far the call is
   record Far (w : World) : Type 0 where
-    added : List ℕ
-    queue : w.queue.items ≡ xs ++ added
+    added : Mark → List ℕ
+    queue : (m : Mark) → (queue_of w m).items ≡ xs m ++ added m
     meanwhile : Trace
+    no_turn : has is_turn meanwhile ≡ false
     trace : w.trace ≡ before ++ meanwhile
     there : w.gone ≡ false
 
@@ -197,6 +201,7 @@ module _ (p : ℕ) (r : Reply) (held : Hold) (f : ℕ) (xs : List ℕ) (before :
         added = far.added;
         queue = far.queue;
         meanwhile = far.meanwhile;
+        no_turn = far.no_turn;
         trace = far.trace;
         there = far.there;
         stage = k;
@@ -213,6 +218,7 @@ module _ (p : ℕ) (r : Reply) (held : Hold) (f : ℕ) (xs : List ℕ) (before :
             added = far.added;
             queue = far.queue;
             meanwhile = far.meanwhile;
+            no_turn = far.no_turn;
             trace = ap (λ (es : Trace). es ++ event.CallEnded p r ∷ []) far.trace
                 ∙ append_assoc before far.meanwhile (event.CallEnded p r ∷ []);
             taken = k;
@@ -266,9 +272,11 @@ module _ (p : ℕ) (r : Reply) (held : Hold) (f : ℕ) (xs : List ℕ) (before :
     where
       far : Far d.world
       far = record {
-        added = k.added ++ i.added;
-        queue = i.queue ∙ (ap (λ (ys : List ℕ). ys ++ i.added) k.queue ∙ append_assoc xs k.added i.added);
+        added = λ m. k.added m ++ i.added m;
+        queue = λ m. i.queue m ∙ (ap (λ (ys : List ℕ). ys ++ i.added m) (k.queue m) ∙ append_assoc (xs m) (k.added m) (i.added m));
         meanwhile = k.meanwhile ++ i.events;
+        no_turn = list_any-append is_turn k.meanwhile i.events
+            ∙ (ap (λ (b : Bool). b || has is_turn i.events) k.no_turn ∙ i.no_turn);
         trace = i.trace ∙ (ap (λ (es : Trace). es ++ i.events) k.trace ∙ append_assoc before k.meanwhile i.events);
         there = i.there ∙ k.there;
       }

@@ -4,6 +4,7 @@ use Rattle.std.proofs.Common.{◌≡◌, ℕ, ◌<◌, List, [], ◌∷◌, ◌+
 use Rattle.std.proofs.Common.{refl, sym, ap, ◌∙◌, subst, arith, get_or-set_same, Ok}
 use Rattle.std.proofs.lemmas.Bool.Decides.{nat_tests}
 use Rattle.std.specs.Prelude.{Option, None}
+use Rattle.executor_parts.specs.declared.mark.Mark.{Mark}
 use Rattle.executor_model.specs.declared.call.Reply.{Reply}
 use Rattle.executor_model.specs.declared.op.Hold.{Hold}
 use Rattle.executor_model.specs.declared.op.Op.{Op}
@@ -78,7 +79,7 @@ after-is p s t e = ap (λ (q : ℕ). with_part s q (part_after s.world (stack s 
 pub stack-set : (p : ℕ) (s : Machine) (x : Part) → p < length s.parties → stack (with_part s p x) p ≡ x.todo
 stack-set p s x l = get_or-set_same s.parties p x.todo [] l
 
-module _ (p : ℕ) (r : Reply) (held : Hold) (f : ℕ) (xs : List ℕ) (before : Trace) (entry : (s : Machine) → Reached s →
+module _ (p : ℕ) (r : Reply) (held : Hold) (f : ℕ) (xs : Mark → List ℕ) (before : Trace) (entry : (s : Machine) → Reached s →
     s.world.gone ≡ false → (meanwhile : Trace) → s.world.trace ≡ before ++ meanwhile →
     HasEntry f s.world meanwhile) where
   on-step : (t : Step) (w : World) (ss : List (List Op)) (os below : List Op) (o : Op) → is_onward_of p t ≡ true →
@@ -161,3 +162,37 @@ goes-on p o s new e a y z (Answer q u ∷ ts) on n =
     let m : OfParty p s (Answer q u) = of-party p s (Answer q u) b.0 j.0 in
     let no : unless false WrongAnswer None ≡ None = sym (ap (λ (os : List Op). answer_refusal (top os) u) e
     ∙ ap (λ (x : Bool). unless x WrongAnswer None) (a u)) ∙ m.2 in absurd (cc)
+
+-- how far a call is: p has this to do, and nothing else has happened; then it goes on by these steps to its end
+pub record At (p : ℕ) (w : World) (os : List Op) (new : Machine) : Type 0 where
+  pub machine : Machine
+  pub reached : Reached machine
+  pub world : machine.world ≡ w
+  pub todo : stack machine p ≡ os
+  pub others : List Step
+  pub onward : are_onward_of p others ≡ true
+  pub made : run_all others machine ≡ Ok new
+
+pub record Next (p : ℕ) (o : Op) (w : World) (new : Machine) : Type 0 where
+  pub hint : Hint
+  pub at : At p (onto p (act p hint o w) []).world (onto p (act p hint o w) []).todo new
+
+-- the one thing that it has to do is done
+pub next : (p : ℕ) (o : Op) (w : World) (new : Machine) → ((u : UserEnd) → accepts o u ≡ false) → stack new p ≡ [] →
+    At p w (o ∷ []) new → Next p o w new
+next p o w new a z x = by (goes-on p o x.machine new x.todo a x.reached z x.others x.onward x.made)
+  where
+    by : GoneOn p o x.machine new → Next p o w new
+    by g = record {
+      hint = g.hint;
+      at = record {
+        machine = with_part x.machine p (onto p (act p g.hint o x.machine.world) []);
+        reached = g.reached;
+        world = ap (λ (v : World). (onto p (act p g.hint o v) []).world) x.world;
+        todo = stack-set p x.machine (onto p (act p g.hint o x.machine.world) []) g.within
+            ∙ ap (λ (v : World). (onto p (act p g.hint o v) []).todo) x.world;
+        others = g.others;
+        onward = g.onward;
+        made = g.made;
+      };
+    }

@@ -1,11 +1,14 @@
 -- For common_futures_are_in_reach and arrival_order_needs_fewer_ticks.
 -- A lone call that looks for a future takes the one that is first in the queue.
-use Rattle.std.proofs.Common.{◌≡◌, ℕ, ◌<◌, ◌≤◌, List, [], ◌∷◌, ◌++◌, length, set, drop}
+use Rattle.std.proofs.Common.{◌≡◌, ℕ, ◌<◌, ◌≤◌, List, [], ◌∷◌, ◌++◌, length, set, cond}
 use Rattle.std.proofs.Common.{Bool, true, false, ◌||◌, ltb, refl, sym, ap, ◌∙◌, subst, inl, inr, ⊎_elim}
 use Rattle.std.proofs.Common.{arith, get_or-set_same, append-nil, append_assoc, Ok}
 use Rattle.std.proofs.lemmas.Bool.Decides.{nat_tests}
 use Rattle.std.proofs.lemmas.List.Folds.{list_any-append}
 use Rattle.std.specs.Prelude.{Option, Some, None}
+use Rattle.executor_parts.specs.declared.mark.Mark.{Mark}
+use Rattle.executor_parts.specs.Marks.{first_of, other, same_mark}
+use Rattle.queue_steps.specs.ClosableQueue.{taken}
 use Rattle.executor_model.specs.declared.call.By.{By}
 use Rattle.executor_model.specs.declared.call.Call.{Call}
 use Rattle.executor_model.specs.declared.call.Call.TheVariants as call
@@ -14,6 +17,8 @@ use Rattle.executor_model.specs.declared.call.Reply.TheVariants as reply
 use Rattle.executor_model.specs.declared.event.Event.TheVariants as event
 use Rattle.executor_model.specs.declared.op.Hold.{Hold}
 use Rattle.executor_model.specs.declared.op.Hold.TheVariants as hold
+use Rattle.executor_model.specs.declared.op.Look.{Look}
+use Rattle.executor_model.specs.declared.op.Look.TheVariants as look_at
 use Rattle.executor_model.specs.declared.op.Op.{Op}
 use Rattle.executor_model.specs.declared.op.Op.TheVariants as op
 use Rattle.task_moves.specs.declared.moves.owed.Move.TheVariants as move
@@ -22,17 +27,21 @@ use Rattle.executor_model.specs.declared.op.TickOrRun.TheVariants as tick_or_run
 use Rattle.executor_model.specs.declared.op.Sleeping.{Sleeping}
 use Rattle.executor_model.specs.declared.op.SleeperOp.TheVariants as sleeper_op
 use Rattle.executor_model.specs.declared.op.TickOp.TheVariants as tick_op
+use Rattle.executor_model.specs.declared.step.Hint.{Hint}
 use Rattle.executor_model.specs.declared.step.Step.{Step}
 use Rattle.executor_model.specs.declared.step.Step.TheVariants.{Begin}
+use Rattle.executor_model.specs.declared.step.UserEnd.{UserEnd}
 use Rattle.executor_model.specs.Trace.{Trace, has, is_accepted, is_poll, is_dropped, is_drop_begun}
 use Rattle.executor_model.specs.Due.{IsDue}
 use Rattle.executor_model.specs.Emptiness.{IsAtRest}
-use Rattle.executor_model.specs.World.{World, Ticker, Awake, Asleep, Left, among, log, tick_of}
-use Rattle.executor_model.specs.Acts.{take_by}
+use Rattle.executor_model.specs.World.{World, Done, Ticker, Awake, Asleep, Left, among, done, log, put_queue, queue_of, tick_of}
+use Rattle.executor_model.specs.Acts.{mark_in, missed, take_by, take_turn, turned}
+use Rattle.executor_model.specs.ActsOfSleepers.{found_by, look_tick_by}
+use Rattle.executor_model.specs.Doing.{act}
 use Rattle.executor_model.specs.Executions.{run_all}
 use Rattle.executor_model.specs.Sound.{times}
 use Rattle.executor_model.specs.Good.{Good}
-use Rattle.executor_model.specs.Steps.{Machine, stack, onto, part_after, with_part, waker_of as given}
+use Rattle.executor_model.specs.Steps.{Machine, Part, accepts, stack, onto, part, part_after, settled, with_part, waker_of as given}
 use Rattle.executor_model.specs.Weights.{weigh}
 use Rattle.executor_model.proofs.OneFuture.Stories.{among_is}
 use Rattle.executor_model.proofs.OneFuture.Telling.{begun-has}
@@ -42,21 +51,23 @@ use Rattle.executor_model.proofs.Quiet.Resting.{rests}
 use Rattle.executor_laws.specs.LoneEnds.{are_onward_of, IsLoneCall}
 use Rattle.executor_laws.specs.Reach.{found_answer, takes}
 use Rattle.executor_laws.proofs.Placement.Placing.{here, idle, queue-common}
-use Rattle.executor_laws.proofs.Exactness.Ticking.{ticking, first-times}
+use Rattle.executor_laws.proofs.Exactness.Ticking.{ticking, first-queued}
 use Rattle.executor_laws.proofs.Reach.Reached.{bonded-here, heard-here}
 use Rattle.executor_laws.proofs.Reach.LoneMoves.{stray_of}
 use Rattle.executor_laws.proofs.Reach.LoneSteps.{Ended, HasEntry, answering}
-use Rattle.executor_laws.proofs.Reach.LoneTicks.{in-range, no-more, stack-set, walks, GoneOn, goes-on}
-use Rattle.executor_model.specs.ActsOfSleepers.{search_by}
+use Rattle.executor_laws.proofs.Reach.LoneTicks.{At, Next, in-range, next, no-more, walks}
 use Rattle.executor_model.proofs.Steps.Reached.{Reached, run-first, reached-more, reached-step, good-here, deep-here}
 use Rattle.executor_model.proofs.Steps.Tests.{or-left}
+use Rattle.executor_laws.proofs.Reach.Spots.{AllEmpty, Spot, left_in, named, named-append}
+use Rattle.executor_laws.proofs.Reach.Spots.{named-none}
 
 -- what a lone call that looks leads to, where there is a future to run
-pub record First (f : ℕ) (xs : List ℕ) (p : ℕ) (c : Call) (r : Reply) (s new : Machine) : Type 0 where
-  pub added : List ℕ
-  pub queue : new.world.queue.items ≡ xs ++ added
+pub record First (m : Mark) (f p : ℕ) (c : Call) (r : Reply) (s new : Machine) : Type 0 where
+  pub added : Mark → List ℕ
+  pub queue : (n : Mark) → (queue_of new.world n).items ≡ left_in m s.world n ++ added n
   pub meanwhile : Trace
   pub events : new.world.trace ≡ s.world.trace ++ event.CallBegun p c ∷ (meanwhile ++ event.CallEnded p r ∷ [])
+  pub turn : (n : Mark) → named n meanwhile ≡ cond (same_mark n (first_of s.world.urgent_turns)) 1 0
   pub taken : has (takes f) meanwhile ≡ true
   pub there : new.world.gone ≡ false
 
@@ -123,14 +134,14 @@ module _ (s : Machine) (r : Reached s) (rest : IsAtRest s) (p : ℕ) (c : Call) 
   }
 
   -- where f is first in the queue, it has its entry until it is taken
-  module _ (f : ℕ) (xs : List ℕ) (q : s.world.queue.items ≡ f ∷ xs) (told : Trace)
+  module _ (mark : Mark) (f : ℕ) (xs : List ℕ) (q : (queue_of s.world mark).items ≡ f ∷ xs) (told : Trace)
       (undropped : has (is_dropped f) told ≡ false) where
     abbrev before : Trace
     before = s.world.trace ++ told
 
     due : IsDue f s.world.trace
     due = (queue-common s fine all-heard (deep-here s r) (bonded-here s r) rest f
-        (omega (arith, ap (times f) q, first-times f xs))).due
+        (first-queued s.world mark f xs q)).due
 
     entry-by : (m : Machine) → Reached m → m.world.gone ≡ false → (meanwhile : Trace) →
         m.world.trace ≡ before ++ meanwhile →
@@ -162,26 +173,29 @@ module _ (s : Machine) (r : Reached s) (rest : IsAtRest s) (p : ℕ) (c : Call) 
     from-found : (a : Reply) (held : Hold) (m : Machine) (under : List Op) (o : Op) → Reached m →
         stack m p ≡ answering a held ((op.Move move.TakeUp f ∷ under) ++ o ∷ []) →
         weigh stray_of (under ++ o ∷ []) ≡ 0 →
-        m.world.queue.items ≡ xs → m.world.trace ≡ before → m.world.gone ≡ false → (ts : List Step) →
-        are_onward_of p ts ≡ true →
-        run_all ts m ≡ Ok new → Ended p a f xs before new.world
+        ((n : Mark) → (queue_of m.world n).items ≡ left_in mark s.world n) → m.world.trace ≡ before →
+        m.world.gone ≡ false → (ts : List Step) → are_onward_of p ts ≡ true → run_all ts m ≡ Ok new →
+        Ended p a f (left_in mark s.world) before new.world
     from-found a held m under o y e z i t g ts on n =
-        walks p a held f xs before entry ts m new (op.Move move.TakeUp f ∷ under) o y e (record {
+        walks p a held f (left_in mark s.world) before entry ts m new (op.Move move.TakeUp f ∷ under) o y e (record {
           plain = omega (arith, z);
-          added = [];
-          queue = i ∙ sym (append-nil xs);
+          added = λ n. [];
+          queue = λ n. i n ∙ sym (append-nil (left_in mark s.world n));
           meanwhile = [];
+          no_turn = refl;
           trace = t ∙ sym (append-nil before);
           there = g;
           stage = inr (inr record { under = under; is = refl });
         }) on n new-idle
 
     first-of : (a : Reply) (more : Trace) → told ≡ event.CallBegun p c ∷ more → has (takes f) more ≡ false →
-        Ended p a f xs before new.world → First f xs p c a s new
-    first-of a more e none l = record {
+        ((n : Mark) → named n more ≡ cond (same_mark n (first_of s.world.urgent_turns)) 1 0) →
+        Ended p a f (left_in mark s.world) before new.world → First mark f p c a s new
+    first-of a more e none one l = record {
       added = l.added;
       queue = l.queue;
       meanwhile = more ++ l.meanwhile;
+      turn = λ n. omega (arith, one n, named-append n more l.meanwhile, named-none n l.meanwhile l.no_turn);
       events = l.trace
           ∙ (append_assoc s.world.trace told (l.meanwhile ++ event.CallEnded p a ∷ [])
           ∙ ap (λ (es : Trace). s.world.trace ++ es)
@@ -193,6 +207,67 @@ module _ (s : Machine) (r : Reached s) (rest : IsAtRest s) (p : ℕ) (c : Call) 
       there = l.there;
     }
 
+-- p has taken its turn, and has looked at one queue, or at both
+module _ (p : ℕ) (new : Machine) (idle : stack new p ≡ []) (first : Op) (looks : Look → Op) (nothing : List Op)
+    (hit : World → ℕ → List Op) (unanswered-first : (u : UserEnd) → accepts first u ≡ false)
+    (unanswered-looks : (look : Look) (u : UserEnd) → accepts (looks look) u ≡ false)
+    (settles : (v : World) (look : Look) → settled p v (looks look ∷ []) ≡ part v (looks look ∷ []))
+    (turns : (h : Hint) (v : World) → act p h first v ≡ take_turn p v looks)
+    (misses : (h : Hint) (v : World) (look : Look) → (queue_of v (mark_in look)).items ≡ [] →
+    act p h (looks look) v ≡ done v (missed look looks nothing))
+    (hits : (h : Hint) (v : World) (look : Look) (f : ℕ) (xs : List ℕ) → (queue_of v (mark_in look)).items ≡ f ∷ xs →
+    act p h (looks look) v ≡ done (put_queue v (mark_in look) (taken (queue_of v (mark_in look)))) (hit v f))
+    (w : World) where
+  abbrev named_by : Mark
+  named_by = first_of w.urgent_turns
+
+  abbrev After : Done → Type 0
+  After d = At p (onto p d []).world (onto p d []).todo new
+
+  -- it has this to do alone
+  alone : (v : World) (look : Look) → After (done v (looks look ∷ [])) → At p v (looks look ∷ []) new
+  alone v look x = subst (λ (y : Part). At p y.world y.todo new) (settles v look) x
+
+  begins : At p w (first ∷ []) new → At p (turned p w) (looks (look_at.First named_by) ∷ []) new
+  begins x = let n : Next p first w new = next p first w new unanswered-first idle x in
+      alone (turned p w) (look_at.First named_by) (subst After (turns n.hint w) n.at)
+
+  seconds : (queue_of w named_by).items ≡ [] → At p w (first ∷ []) new →
+      At p (turned p w) (looks (look_at.Second (other named_by)) ∷ []) new
+  seconds q x =
+      let n : Next p (looks (look_at.First named_by)) (turned p w) new =
+      next p (looks (look_at.First named_by)) (turned p w) new (unanswered-looks (look_at.First named_by)) idle (begins x) in
+      alone (turned p w) (look_at.Second (other named_by)) (subst After (misses n.hint (turned p w) (look_at.First named_by) q) n.at)
+
+  pub finds-none : AllEmpty w → At p w (first ∷ []) new → After (done (turned p w) nothing)
+  finds-none e x =
+      let n : Next p (looks (look_at.Second (other named_by))) (turned p w) new =
+      next p (looks (look_at.Second (other named_by))) (turned p w) new (unanswered-looks (look_at.Second (other named_by))) idle
+      (seconds e.0 x) in
+      subst After (misses n.hint (turned p w) (look_at.Second (other named_by)) e.1) n.at
+
+  abbrev Finds : Mark → ℕ → Type 0
+  Finds m f = After (done (put_queue (turned p w) m (taken (queue_of (turned p w) m))) (hit (turned p w) f))
+
+  pub finds-one : (x : Spot w) → At p w (first ∷ []) new → Finds x.mark x.future
+  finds-one x a = ⊎_elim
+      (λ (e : x.mark ≡ named_by).
+      let q : (queue_of w named_by).items ≡ x.future ∷ x.rest =
+      subst (λ (m : Mark). (queue_of w m).items ≡ x.future ∷ x.rest) e x.is in
+      let n : Next p (looks (look_at.First named_by)) (turned p w) new =
+      next p (looks (look_at.First named_by)) (turned p w) new (unanswered-looks (look_at.First named_by)) idle (begins a) in
+      subst (λ (m : Mark). Finds m x.future) (sym e)
+      (subst After (hits n.hint (turned p w) (look_at.First named_by) x.future x.rest q) n.at))
+      (λ (e : (x.mark ≡ other named_by) × ((queue_of w named_by).items ≡ [])).
+      let q : (queue_of w (other named_by)).items ≡ x.future ∷ x.rest =
+      subst (λ (m : Mark). (queue_of w m).items ≡ x.future ∷ x.rest) e.0 x.is in
+      let n : Next p (looks (look_at.Second (other named_by))) (turned p w) new =
+      next p (looks (look_at.Second (other named_by))) (turned p w) new (unanswered-looks (look_at.Second (other named_by))) idle
+      (seconds e.1 a) in
+      subst (λ (m : Mark). Finds m x.future) (sym e.0)
+      (subst After (hits n.hint (turned p w) (look_at.Second (other named_by)) x.future x.rest q) n.at))
+      x.turn
+
 -- a tick is tried
 
 module _ (s : Machine) (r : Reached s) (rest : IsAtRest s) (p : ℕ) (steps : List Step) (new : Machine)
@@ -200,39 +275,76 @@ module _ (s : Machine) (r : Reached s) (rest : IsAtRest s) (p : ℕ) (steps : Li
   l : p < length s.parties
   l = in-parties s r rest p call.TryTick steps new k
 
-  taking : GoneOn p (op.Queue queue_op.Take) (ticking s p) new
-  taking = goes-on p (op.Queue queue_op.Take) (ticking s p) new
-      (get_or-set_same s.parties p (op.Queue queue_op.Take ∷ []) [] l) unanswered
-      (reached-begun s r rest p call.TryTick steps new k)
-      (new-idle s r rest p call.TryTick steps new k) steps k.alone (on-begun s r rest p call.TryTick steps new k)
+  abbrev takes_one : Look → Op
+  takes_one look = op.Queue (queue_op.Take look)
 
-  -- the machine after the first Runnable was taken, if there is one
-  abbrev taken-from : List ℕ → Machine
-  taken-from items = with_part (ticking s p) p (onto p (take_by (ticking s p).world items) [])
+  abbrev calling : World
+  calling = log s.world (event.CallBegun p call.TryTick)
 
-  first-tick : (f : ℕ) (xs : List ℕ) → s.world.queue.items ≡ f ∷ xs → First f xs p call.TryTick reply.Yes s new
-  first-tick f xs q =
-      let told : Trace = event.CallBegun p call.TryTick ∷ [] in
-      first-of s r rest p call.TryTick steps new k f xs q told refl reply.Yes [] refl refl
-      (from-found s r rest p call.TryTick steps new k f xs q told refl reply.Yes hold.Executor (taken-from (f ∷ xs)) []
-      (op.Sleeper sleeper_op.ExchangeFlag)
-      (subst (λ (items : List ℕ). Reached (taken-from items)) q taking.reached)
-      (stack-set p (ticking s p) (onto p (take_by (ticking s p).world (f ∷ xs)) []) taking.within)
-      refl (ap (drop 1) q) refl (still-there s r rest p call.TryTick steps new k) taking.others taking.onward
-      (sym (ap (λ (items : List ℕ). run_all taking.others (taken-from items)) q) ∙ taking.made))
+  taking : At p calling (op.Queue queue_op.TakeTurn ∷ []) new
+  taking = record {
+    machine = ticking s p;
+    reached = reached-begun s r rest p call.TryTick steps new k;
+    world = refl;
+    todo = get_or-set_same s.parties p (op.Queue queue_op.TakeTurn ∷ []) [] l;
+    others = steps;
+    onward = k.alone;
+    made = on-begun s r rest p call.TryTick steps new k;
+  }
+
+  abbrev taking_up : World → ℕ → List Op
+  taking_up v f = op.Sleeper sleeper_op.ExchangeFlag ∷ op.Move move.TakeUp f ∷ op.End reply.Yes hold.Executor ∷ []
+
+  tick-misses : (h : Hint) (v : World) (look : Look) → (queue_of v (mark_in look)).items ≡ [] →
+      act p h (takes_one look) v ≡ done v (missed look takes_one (op.End reply.No hold.Executor ∷ []))
+  tick-misses h v look q = ap (λ (xs : List ℕ). take_by v look xs) q
+
+  tick-hits : (h : Hint) (v : World) (look : Look) (f : ℕ) (xs : List ℕ) → (queue_of v (mark_in look)).items ≡ f ∷ xs →
+      act p h (takes_one look) v
+      ≡ done (put_queue v (mark_in look) (taken (queue_of v (mark_in look)))) (taking_up v f)
+  tick-hits h v look f xs q = ap (λ (ys : List ℕ). take_by v look ys) q
+
+  pub first-tick : (x : Spot s.world) → First x.mark x.future p call.TryTick reply.Yes s new
+  first-tick x =
+      let more : Trace = event.Looked p (first_of s.world.urgent_turns) ∷ [] in
+      let told : Trace = event.CallBegun p call.TryTick ∷ more in
+      let a : _ = finds-one p new (new-idle s r rest p call.TryTick steps new k) (op.Queue queue_op.TakeTurn) takes_one
+      (op.End reply.No hold.Executor ∷ []) taking_up unanswered (λ look u. refl) (λ v look. refl) (λ h v. refl)
+      tick-misses tick-hits calling
+      (record { mark = x.mark; future = x.future; rest = x.rest; is = x.is; turn = x.turn }) taking in
+      first-of s r rest p call.TryTick steps new k x.mark x.future x.rest x.is told refl reply.Yes more refl refl
+      (λ n. omega arith)
+      (from-found s r rest p call.TryTick steps new k x.mark x.future x.rest x.is told refl reply.Yes hold.Executor
+      a.machine [] (op.Sleeper sleeper_op.ExchangeFlag) a.reached a.todo refl
+      (λ n. ap (λ (v : World). (queue_of v n).items) a.world)
+      (ap (λ (v : World). v.trace) a.world
+      ∙ append_assoc s.world.trace (event.CallBegun p call.TryTick ∷ []) more)
+      (ap (λ (v : World). v.gone) a.world ∙ still-there s r rest p call.TryTick steps new k) a.others a.onward a.made)
 
   -- nothing is there to be taken
-  pub none-found : s.world.queue.items ≡ [] → taken-from [] ≡ new
-  none-found q = no-more p taking.others (taken-from []) new
-      (stack-set p (ticking s p) (onto p (take_by (ticking s p).world []) []) taking.within) taking.onward
-      (sym (ap (λ (items : List ℕ). run_all taking.others (taken-from items)) q) ∙ taking.made)
+  pub none-found : AllEmpty s.world → new.world.trace ≡
+      s.world.trace ++ event.CallBegun p call.TryTick ∷ event.Looked p (first_of s.world.urgent_turns)
+      ∷ event.CallEnded p reply.No ∷ []
+  none-found e =
+      let a : _ = finds-none p new (new-idle s r rest p call.TryTick steps new k) (op.Queue queue_op.TakeTurn) takes_one
+      (op.End reply.No hold.Executor ∷ []) taking_up unanswered (λ look u. refl) (λ v look. refl) (λ h v. refl)
+      tick-misses tick-hits calling e taking in
+      sym (ap (λ (m : Machine). m.world.trace) (no-more p a.others a.machine new a.todo a.onward a.made))
+      ∙ (ap (λ (v : World). v.trace) a.world
+      ∙ (append_assoc (s.world.trace ++ event.CallBegun p call.TryTick ∷ [])
+      (event.Looked p (first_of s.world.urgent_turns) ∷ []) (event.CallEnded p reply.No ∷ [])
+      ∙ append_assoc s.world.trace (event.CallBegun p call.TryTick ∷ [])
+      (event.Looked p (first_of s.world.urgent_turns) ∷ event.CallEnded p reply.No ∷ [])))
 
 -- a tick is polled
 
 module _ (s : Machine) (r : Reached s) (rest : IsAtRest s) (p t : ℕ) (b : By) (steps : List Step) (new : Machine)
-    (k : IsLoneCall p (call.PollTick t b) steps s new) (f : ℕ) (xs : List ℕ) (q : s.world.queue.items ≡ f ∷ xs) where
+    (k : IsLoneCall p (call.PollTick t b) steps s new) where
+  abbrev more-told : Trace
+  more-told = event.TickPolled p t ∷ event.Looked p (first_of s.world.urgent_turns) ∷ []
+
   abbrev told-so : Trace
-  told-so = event.CallBegun p (call.PollTick t b) ∷ event.TickPolled p t ∷ []
+  told-so = event.CallBegun p (call.PollTick t b) ∷ more-told
 
   abbrev beginning : World
   beginning = log (log s.world (event.CallBegun p (call.PollTick t b))) (event.TickPolled p t)
@@ -251,73 +363,92 @@ module _ (s : Machine) (r : Reached s) (rest : IsAtRest s) (p t : ℕ) (b : By) 
   idle-new : stack new p ≡ []
   idle-new = new-idle s r rest p (call.PollTick t b) steps new k
 
-  searching : GoneOn p (op.Tick (tick_op.Search polled-by)) polling new
-  searching = goes-on p (op.Tick (tick_op.Search polled-by)) polling new
-      (get_or-set_same s.parties p (op.Tick (tick_op.Search polled-by) ∷ []) []
-      (in-parties s r rest p (call.PollTick t b) steps new k)) unanswered
-      (reached-begun s r rest p (call.PollTick t b) steps new k) idle-new steps k.alone
-      (on-begun s r rest p (call.PollTick t b) steps new k)
+  abbrev looks_so : Look → Op
+  looks_so look = op.Tick (tick_op.Look polled-by look)
 
-  -- the machine after the search
-  abbrev found-from : Ticker → List ℕ → Machine
-  found-from x items = with_part polling p (onto p (search_by x beginning items polled-by) [])
+  searching : At p beginning (op.Tick (tick_op.Search polled-by) ∷ []) new
+  searching = record {
+    machine = polling;
+    reached = reached-begun s r rest p (call.PollTick t b) steps new k;
+    world = refl;
+    todo = get_or-set_same s.parties p (op.Tick (tick_op.Search polled-by) ∷ []) []
+        (in-parties s r rest p (call.PollTick t b) steps new k);
+    others = steps;
+    onward = k.alone;
+    made = on-begun s r rest p (call.PollTick t b) steps new k;
+  }
 
-  found-reached : (x : Ticker) → tick_of s.world t ≡ x → Reached (found-from x (f ∷ xs))
-  found-reached x e = subst (λ (items : List ℕ). Reached (found-from x items)) q
-      (subst (λ (y : Ticker). Reached (found-from y s.world.queue.items)) e searching.reached)
+  abbrev running_up : ℕ → List Op
+  running_up f = op.Sleeper sleeper_op.ExchangeFlag ∷ op.Move move.TakeUp f ∷ op.End reply.Ready (hold.Tick t) ∷ []
 
-  found-made : (x : Ticker) → tick_of s.world t ≡ x → run_all searching.others (found-from x (f ∷ xs)) ≡ Ok new
-  found-made x e = subst (λ (items : List ℕ). run_all searching.others (found-from x items) ≡ Ok new) q
-      (subst (λ (y : Ticker). run_all searching.others (found-from y s.world.queue.items) ≡ Ok new) e searching.made)
+  abbrev found_one : World → ℕ → List Op
+  found_one v f = found_by (tick_of v t) (tick_or_run.Tick t) (running_up f)
 
-  found-stack : (x : Ticker) →
-      stack (found-from x (f ∷ xs)) p ≡ (onto p (search_by x beginning (f ∷ xs) polled-by) []).todo
-  found-stack x = stack-set p polling (onto p (search_by x beginning (f ∷ xs) polled-by) []) searching.within
+  poll-misses : (h : Hint) (v : World) (look : Look) → (queue_of v (mark_in look)).items ≡ [] →
+      act p h (looks_so look) v ≡ done v (missed look looks_so (op.Tick (tick_op.CopyWaker polled-by) ∷ []))
+  poll-misses h v look q = ap (λ (xs : List ℕ). look_tick_by (tick_of v t) v look xs polled-by) q
 
-  trace-is : beginning.trace ≡ s.world.trace ++ told-so
-  trace-is = append_assoc s.world.trace (event.CallBegun p (call.PollTick t b) ∷ []) (event.TickPolled p t ∷ [])
+  poll-hits : (h : Hint) (v : World) (look : Look) (f : ℕ) (xs : List ℕ) → (queue_of v (mark_in look)).items ≡ f ∷ xs →
+      act p h (looks_so look) v
+      ≡ done (put_queue v (mark_in look) (taken (queue_of v (mark_in look)))) (found_one v f)
+  poll-hits h v look f xs q = ap (λ (ys : List ℕ). look_tick_by (tick_of v t) v look ys polled-by) q
 
-  from-there : (m : Machine) (under : List Op) (o : Op) → Reached m →
-      stack m p ≡ answering reply.Ready (hold.Tick t) ((op.Move move.TakeUp f ∷ under) ++ o ∷ []) →
-      weigh stray_of (under ++ o ∷ []) ≡ 0 → m.world.queue.items ≡ xs → m.world.trace ≡ beginning.trace →
-      m.world.gone ≡ false →
-      (ts : List Step) → are_onward_of p ts ≡ true → run_all ts m ≡ Ok new →
-      First f xs p (call.PollTick t b) reply.Ready s new
-  from-there m under o y e z i u g ts on n =
-      first-of s r rest p (call.PollTick t b) steps new k f xs q told-so refl reply.Ready (event.TickPolled p t ∷ [])
-      refl refl
-      (from-found s r rest p (call.PollTick t b) steps new k f xs q told-so refl reply.Ready (hold.Tick t) m under o y e
-      z i (u
-      ∙ trace-is) g ts on n)
+  trace-is : (turned p beginning).trace ≡ s.world.trace ++ told-so
+  trace-is = append_assoc (s.world.trace ++ event.CallBegun p (call.PollTick t b) ∷ []) (event.TickPolled p t ∷ [])
+      (event.Looked p (first_of s.world.urgent_turns) ∷ [])
+      ∙ append_assoc s.world.trace (event.CallBegun p (call.PollTick t b) ∷ []) more-told
 
-  there : s.world.gone ≡ false
-  there = still-there s r rest p (call.PollTick t b) steps new k
+  module _ (x : Spot s.world) where
+    abbrev world-then : World
+    world-then = put_queue (turned p beginning) x.mark (taken (queue_of (turned p beginning) x.mark))
 
-  first-poll : First f xs p (call.PollTick t b) reply.Ready s new
-  first-poll = by (tick_of s.world t) refl
-    where
-      by : (x : Ticker) → tick_of s.world t ≡ x → First f xs p (call.PollTick t b) reply.Ready s new
-      by Awake e = from-there (found-from Awake (f ∷ xs)) [] (op.Sleeper sleeper_op.ExchangeFlag) (found-reached Awake e)
-          (found-stack Awake) refl
-          (ap (drop 1) q) refl there searching.others searching.onward (found-made Awake e)
-      by Left e = from-there (found-from Left (f ∷ xs)) [] (op.Sleeper sleeper_op.ExchangeFlag) (found-reached Left e)
-          (found-stack Left) refl (ap (drop 1) q) refl there searching.others searching.onward (found-made Left e)
-      by (Asleep n) e = from-there (found-from (Asleep n) (f ∷ xs)) (op.Sleeper sleeper_op.ExchangeFlag ∷ [])
-          (op.Tick (tick_op.WakeUp (tick_or_run.Tick t))) (found-reached (Asleep n) e)
-          (found-stack (Asleep n)) refl (ap (drop 1) q) refl there searching.others searching.onward
-          (found-made (Asleep n) e)
+    -- what it has to do then, by whether the tick is asleep
+    abbrev found-by : Ticker → Done
+    found-by y = done world-then (found_by y (tick_or_run.Tick t) (running_up x.future))
+
+    abbrev FoundBy : Ticker → Type 0
+    FoundBy y = At p (onto p (found-by y) []).world (onto p (found-by y) []).todo new
+
+    found-so : FoundBy (tick_of s.world t)
+    found-so = finds-one p new idle-new (op.Tick (tick_op.Search polled-by)) looks_so
+        (op.Tick (tick_op.CopyWaker polled-by) ∷ []) found_one unanswered (λ look u. refl) (λ v look. refl)
+        (λ h v. refl) poll-misses poll-hits beginning
+        (record { mark = x.mark; future = x.future; rest = x.rest; is = x.is; turn = x.turn }) searching
+
+    goes-there : (under : List Op) (o : Op) (y : Ticker) → FoundBy y →
+        (onto p (found-by y) []).todo
+        ≡ answering reply.Ready (hold.Tick t) ((op.Move move.TakeUp x.future ∷ under) ++ o ∷ []) →
+        (onto p (found-by y) []).world ≡ world-then → weigh stray_of (under ++ o ∷ []) ≡ 0 →
+        First x.mark x.future p (call.PollTick t b) reply.Ready s new
+    goes-there under o y a e v z =
+        first-of s r rest p (call.PollTick t b) steps new k x.mark x.future x.rest x.is told-so refl reply.Ready
+        more-told refl refl (λ n. omega arith)
+        (from-found s r rest p (call.PollTick t b) steps new k x.mark x.future x.rest x.is told-so refl reply.Ready
+        (hold.Tick t) a.machine under o a.reached (a.todo ∙ e) z
+        (λ n. ap (λ (u : World). (queue_of u n).items) (a.world ∙ v))
+        (ap (λ (u : World). u.trace) (a.world ∙ v) ∙ trace-is)
+        (ap (λ (u : World). u.gone) (a.world ∙ v) ∙ still-there s r rest p (call.PollTick t b) steps new k)
+        a.others a.onward a.made)
+
+    pub first-poll : First x.mark x.future p (call.PollTick t b) reply.Ready s new
+    first-poll = by (tick_of s.world t) found-so
+      where
+        by : (y : Ticker) → FoundBy y → First x.mark x.future p (call.PollTick t b) reply.Ready s new
+        by Awake a = goes-there [] (op.Sleeper sleeper_op.ExchangeFlag) Awake a refl refl refl
+        by Left a = goes-there [] (op.Sleeper sleeper_op.ExchangeFlag) Left a refl refl refl
+        by (Asleep n) a = goes-there (op.Sleeper sleeper_op.ExchangeFlag ∷ [])
+            (op.Tick (tick_op.WakeUp (tick_or_run.Tick t))) (Asleep n) a refl refl refl
 
 same-reply : (a b : Reply) → ◌≡◌ {A = Option Reply} (Some a) (Some b) → a ≡ b
 same-reply a b e = cc
 
 pub first-taken : (s : Machine) → Reached s → IsAtRest s → (p : ℕ) (c : Call) (a : Reply) → found_answer c ≡ Some a →
-    (steps : List Step) (new : Machine) → IsLoneCall p c steps s new → (f : ℕ) (xs : List ℕ) →
-    s.world.queue.items ≡ f ∷ xs →
-    First f xs p c a s new
-first-taken s r rest p call.TryTick a e steps new k f xs q =
-    subst (λ (y : Reply). First f xs p call.TryTick y s new) (same-reply reply.Yes a e)
-    (first-tick s r rest p steps new k f xs q)
-first-taken s r rest p (call.PollTick t b) a e steps new k f xs q =
-    subst (λ (y : Reply). First f xs p (call.PollTick t b) y s new) (same-reply reply.Ready a e)
-    (first-poll s r rest p t b steps new k f xs q)
-first-taken s r rest p _ a e steps new k f xs q = absurd (cc)
+    (steps : List Step) (new : Machine) → IsLoneCall p c steps s new → (x : Spot s.world) →
+    First x.mark x.future p c a s new
+first-taken s r rest p call.TryTick a e steps new k x =
+    subst (λ (y : Reply). First x.mark x.future p call.TryTick y s new) (same-reply reply.Yes a e)
+    (first-tick s r rest p steps new k x)
+first-taken s r rest p (call.PollTick t b) a e steps new k x =
+    subst (λ (y : Reply). First x.mark x.future p (call.PollTick t b) y s new) (same-reply reply.Ready a e)
+    (first-poll s r rest p t b steps new k x)
+first-taken s r rest p _ a e steps new k x = absurd (cc)

@@ -1,10 +1,17 @@
 -- For kept_futures_come_first.
 -- What a run that is polled does takes the first of its own queue in hand, while one stands there, and puts others behind.
-use Rattle.std.proofs.Common.{◌≡◌, ◌≢◌, ◌⊎◌, ◌∙◌, ⊎_elim, ℕ, zero, suc, List, [], ◌∷◌, ◌++◌, length, set, get_or}
+use Rattle.std.proofs.Common.{◌≡◌, ◌≢◌, ◌∙◌, ⊎_elim, ℕ, zero, suc, List, [], ◌∷◌, ◌++◌, length, set, get_or}
 use Rattle.std.proofs.Common.{Bool, true, false, eqb, refl, sym, ap, subst, arith, append-nil, append_assoc, get_or-set_same}
 use Rattle.std.proofs.Common.{get_or-set_other}
 use Rattle.std.proofs.lemmas.List.{reverse-append}
 use Rattle.std.specs.Prelude.{Option, Some, None, reverse}
+use Rattle.executor_model.specs.declared.op.Look.{Look}
+use Rattle.executor_parts.specs.declared.mark.Mark.TheVariants.{Plain, Urgent}
+use Rattle.executor_parts.specs.Marks.{first_of, other}
+use Rattle.executor_model.specs.Acts.{turned}
+use Rattle.executor_model.specs.declared.op.Look.TheVariants.{First, Second}
+use Rattle.executor_model.specs.World.{queue_of}
+use Rattle.executor_model.specs.Acts.{mark_in}
 use Rattle.executor_parts.specs.Sleepers.{waker_at}
 use Rattle.task_moves.specs.declared.moves.owed.Move.TheVariants as move
 use Rattle.executor_model.specs.declared.call.Reply.TheVariants as reply
@@ -53,6 +60,7 @@ use Rattle.executor_laws.proofs.RunReach.TakenUp.{up_of}
 
 abbrev pub hand_then : Then → List ℕ
 hand_then (then.Found f) = f ∷ []
+hand_then (then.StealPlain f) = f ∷ []
 hand_then (then.Run f) = f ∷ []
 hand_then (then.Walk at left) = []
 
@@ -147,7 +155,7 @@ lines-run_by false w x f = record {
 
 lines-counted : (b : Bool) (w : World) (x : RunPoll) (f : ℕ) → Lines x.run (f ∷ own_of w x.run) (counted_by b w x f)
 lines-counted true w x f = one x.run (counted_to w x.run 0)
-    (op.Steal (steal_op.Length (record { poll = x; from = Common; then = then.Run f }))) (refl, refl)
+    (op.Steal (steal_op.Length (record { poll = x; from = Common Urgent; then = then.StealPlain f }))) (refl, refl)
 lines-counted false w x f = lines-run_by _ (counted_to w x.run _) x f
 
 found-side : (x : Ticker) (who : TickOrRun) → (weigh side_of (found_by x who (op.Sleeper sleeper_op.ExchangeFlag ∷ [])) ≡ 0)
@@ -164,6 +172,8 @@ lines-found w x f =
 
 lines-stolen : (t : Then) (w : World) (x : RunPoll) → Lines x.run (hand_then t ++ own_of w x.run) (stolen t w x)
 lines-stolen (then.Found f) w x = lines-found w x f
+lines-stolen (then.StealPlain f) w x =
+    one x.run w (op.Steal (steal_op.Length (record { poll = x; from = Common Plain; then = then.Run f }))) (refl, refl)
 lines-stolen (then.Run f) w x = lines-run_by _ w x f
 lines-stolen (then.Walk at left) w x = one x.run w (op.Run (run_op.LookOwn x at left)) refl
 
@@ -181,7 +191,7 @@ lines-steal_by zero w s k = lines-stolen s.then w s.poll
 lines-steal_by (suc n) w s k = one s.poll.run w (op.Steal (steal_op.Take s n)) (refl, k)
 
 own-without : (q : ℕ) (x : Source) (w : World) (rest : List ℕ) → NotOwn q x → own_of (without_first w x rest) q ≡ own_of w q
-own-without q Common w rest k = refl
+own-without q (Common mark) w rest k = refl
 own-without q (Own n) w rest k = get_or-set_other w.own n q rest [] (λ e. k (sym e))
 
 lines-take : (xs : List ℕ) (w : World) (s : Steal) (more : ℕ) → NotOwn s.poll.run s.from →
@@ -230,15 +240,17 @@ lines-first w x f rest e =
     (lines-found v x f)
 
 lines-own : (xs : List ℕ) (w : World) (x : RunPoll) → own_of w x.run ≡ xs → Lines x.run (own_of w x.run) (search_own_by xs w x)
-lines-own [] w x e = one x.run w (op.Run (run_op.SearchCommon x)) refl
+lines-own [] w x e = one x.run w (op.Run (run_op.TakeTurn x)) refl
 lines-own (f ∷ rest) w x e = lines-first w x f rest e
 
 -- its own queue is empty then
-lines-common : (xs : List ℕ) (w : World) (x : RunPoll) → own_of w x.run ≡ [] → Lines x.run (own_of w x.run) (search_common_by xs w x)
-lines-common [] w x e = one x.run w (op.List (list_op.LockRead x)) refl
-lines-common (f ∷ rest) w x e =
-    let c : Op = op.Steal (steal_op.Length (record { poll = x; from = Common; then = then.Found f })) in
-    let v : World = (search_common_by (f ∷ rest) w x).world in
+lines-common : (look : Look) (xs : List ℕ) (w : World) (x : RunPoll) → own_of w x.run ≡ [] →
+    Lines x.run (own_of w x.run) (search_common_by xs w x look)
+lines-common (First mark) [] w x e = one x.run w (op.Run (run_op.SearchCommon x (Second (other mark)))) refl
+lines-common (Second mark) [] w x e = one x.run w (op.List (list_op.LockRead x)) refl
+lines-common look (f ∷ rest) w x e =
+    let c : Op = op.Steal (steal_op.Length (record { poll = x; from = Common (mark_in look); then = then.Found f })) in
+    let v : World = (search_common_by (f ∷ rest) w x look).world in
     record {
       control = c;
       side = [];
@@ -354,15 +366,19 @@ pub data Goes (q : ℕ) (front : List ℕ) (d : Done) : Type 0 where
   over : d.next ≡ [] → own_of d.world q ≡ front → Goes q front d
 
 pub lines-act : (q p : ℕ) (h : Hint) (c : Op) (w : World) → Control q c →
-    ((x : RunPoll) → c ≡ op.Run (run_op.SearchCommon x) → own_of w x.run ≡ []) → Goes q (hand_of c ++ own_of w q) (act p h c w)
+    ((x : RunPoll) (look : Look) → c ≡ op.Run (run_op.SearchCommon x look) → own_of w x.run ≡ []) →
+    Goes q (hand_of c ++ own_of w q) (act p h c w)
 lines-act q p h (op.Tick (tick_op.Search s)) w e k =
-    subst (λ (who : TickOrRun). Goes q (own_of w q) (search_by_who who w s)) (sym e)
+    subst (λ (who : TickOrRun). Goes q (own_of w q) (search_by_who who p w s)) (sym e)
     (on (lines-own (own_of w q) w (record { run = q; waker = s.waker; poll = s.poll }) refl))
 lines-act q p h (op.Tick (tick_op.CopyWaker s)) w e k = on (lines-copy q _ w s e)
 lines-act q p h (op.Tick (tick_op.FallAsleep s)) w e k = on (lines-sleep q (place_of w s.who) w s e)
-lines-act q p h (op.Run (run_op.SearchCommon x)) w e k =
-    subst (λ (n : ℕ). Goes n (own_of w n) (act p h (op.Run (run_op.SearchCommon x)) w)) e
-    (on (lines-common w.queue.items w x (k x refl)))
+lines-act q p h (op.Run (run_op.TakeTurn x)) w e k =
+    subst (λ (n : ℕ). Goes n (own_of w n) (act p h (op.Run (run_op.TakeTurn x)) w)) e
+    (on (one x.run (turned p w) (op.Run (run_op.SearchCommon x (First (first_of w.urgent_turns)))) refl))
+lines-act q p h (op.Run (run_op.SearchCommon x look)) w e k =
+    subst (λ (n : ℕ). Goes n (own_of w n) (act p h (op.Run (run_op.SearchCommon x look)) w)) e
+    (on (lines-common look (queue_of w (mark_in look)).items w x (k x look refl)))
 lines-act q p h (op.Run (run_op.LookOwn x at left)) w e k =
     subst (λ (n : ℕ). Goes n (own_of w n) (act p h (op.Run (run_op.LookOwn x at left)) w)) e
     (on (lines-look (own_of w x.run) w x at left refl))

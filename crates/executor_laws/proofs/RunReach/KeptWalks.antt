@@ -1,8 +1,9 @@
 -- For kept_futures_come_first.
 -- So lone polls of a run take up what stands in its own queue before anything else.
-use Rattle.std.proofs.Common.{◌≡◌, ◌⊎◌, ◌∙◌, inl, inr, ⊎_elim, ℕ, ◌+◌, ◌<◌, ◌≤◌, List, [], ◌∷◌, ◌++◌, length, get_or}
+use Rattle.std.proofs.Common.{◌≡◌, ◌⊎◌, ◌∙◌, inl, inr, ⊎_elim, ℕ, ◌<◌, ◌≤◌, List, [], ◌∷◌, ◌++◌, length, get_or}
 use Rattle.std.proofs.Common.{Bool, true, false, refl, sym, ap, subst, arith, append-nil, append_assoc, Ok}
 use Rattle.std.specs.Prelude.{Option, Some, None, reverse}
+use Rattle.executor_model.specs.declared.op.Look.{Look}
 use Rattle.executor_model.specs.declared.call.By.{By}
 use Rattle.executor_model.specs.declared.call.Call.TheVariants as call
 use Rattle.executor_model.specs.declared.call.Reply.{Reply}
@@ -143,9 +144,10 @@ module _ (p q : ℕ) (first : List ℕ) (new : Machine) (idles : stack new p ≡
         again others x v ns te (subst (λ (zs : List ℕ). LineIn q first zs v)
         (sym (ap (λ (zs : List ℕ). xs ++ zs) i ∙ append-nil xs)) h) y2 n2 on2 l k
 
-    empty : (c : Op) → stack s p ≡ [] ++ c ∷ [] → p < length s.parties → (x : RunPoll) → c ≡ op.Run (run_op.SearchCommon x) →
+    empty : (c : Op) → stack s p ≡ [] ++ c ∷ [] → p < length s.parties → (x : RunPoll) (look : Look) →
+        c ≡ op.Run (run_op.SearchCommon x look) →
         own_of s.world x.run ≡ []
-    empty c e l x i =
+    empty c e l x look i =
         let z : IsEmptyMeanwhile s x.run = subst (λ (v : Machine). IsEmptyMeanwhile v x.run) (sym y.is)
         (is-empty-meanwhile y.limit y.kind y.parties y.steps x.run) in
         z (omega (

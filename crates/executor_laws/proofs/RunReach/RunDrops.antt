@@ -31,7 +31,8 @@ use Rattle.executor_model.specs.Steps.{Machine, Part, drop_run, onto, part_after
 use Rattle.executor_model.specs.Steps.{stack, start, with_part}
 use Rattle.executor_model.specs.Weights.{weigh, weigh_all}
 use Rattle.executor_model.specs.World.{Ended, Listed, New, Stage, World, done, log, own_of}
-use Rattle.executor_model.specs.World.{place_of, put_run, run_of}
+use Rattle.executor_model.specs.World.{mark_of, place_of, put_run, queue_of, queued_in, run_of}
+use Rattle.executor_model.proofs.Steps.QueuesByMark.{any-shut}
 use Rattle.executor_model.proofs.Table.LeavingExecutions.{has-place}
 use Rattle.executor_model.proofs.Steps.Lists.{weigh-reverse}
 use Rattle.executor_model.proofs.Quiet.Resting.{all-rest, rests}
@@ -56,7 +57,7 @@ use Rattle.executor_laws.proofs.RunReach.RunLeaves.Remains.{back, puts, leaves, 
 -- f stands in the executor's queue, which is there
 record Stands (f : ℕ) (m : Machine) : Type 0 where
   pub there : m.world.gone ≡ false
-  pub stands : 1 ≤ times f m.world.queue.items
+  pub stands : 1 ≤ times f (queued_in m.world)
 
 module _ (p r f : ℕ) (new : Machine) (idles : stack new p ≡ []) where
   module _ (t : Step) (ts : List Step) (s : Machine) (y : Reached s) (there : s.world.gone ≡ false)
@@ -74,7 +75,7 @@ module _ (p r f : ℕ) (new : Machine) (idles : stack new p ≡ []) where
 
     by-back : (a : Reply) (rest : List ℕ) (below : List Op) (o : Op) →
         stack s p ≡ (op.Run (run_op.Reschedule r a) ∷ below) ++ o ∷ [] → weigh stray_of below ≡ 0 → stray_of o ≡ 0 →
-        own_of s.world r ≡ rest → 1 ≤ times f s.world.queue.items + times f rest → Stands f new
+        own_of s.world r ≡ rest → 1 ≤ times f (queued_in s.world) + times f rest → Stands f new
     by-back a rest below o e z x w k =
         go (onward p s new (op.Run (run_op.Reschedule r a) ∷ below) o (t ∷ ts) e y idles on n)
       where
@@ -95,7 +96,7 @@ module _ (p r f : ℕ) (new : Machine) (idles : stack new p ≡ []) where
             (omega (arith, k, more-stands f s.world (react p o u s.world) i))) y2 n2 on2 l
 
     by-reschedule : (a : Reply) (rest : List ℕ) → stack s p ≡ [] ++ op.Run (run_op.Reschedule r a) ∷ [] →
-        own_of s.world r ≡ rest → 1 ≤ times f s.world.queue.items + times f rest → Stands f new
+        own_of s.world r ≡ rest → 1 ≤ times f (queued_in s.world) + times f rest → Stands f new
     by-reschedule a rest e w k =
         go (onward p s new [] (op.Run (run_op.Reschedule r a)) (t ∷ ts) e y idles on n)
       where
@@ -109,13 +110,14 @@ module _ (p r f : ℕ) (new : Machine) (idles : stack new p ≡ []) where
 
     by-puts : (a : Reply) (g : ℕ) (rest : List ℕ) →
         stack s p ≡ (op.Run (run_op.Reschedule r a) ∷ []) ++ op.Queue (queue_op.Append g) ∷ [] →
-        own_of s.world r ≡ rest → 1 ≤ times f s.world.queue.items + times f (g ∷ rest) → Stands f new
+        own_of s.world r ≡ rest → 1 ≤ times f (queued_in s.world) + times f (g ∷ rest) → Stands f new
     by-puts a g rest e w k =
         go (onward p s new (op.Run (run_op.Reschedule r a) ∷ []) (op.Queue (queue_op.Append g)) (t ∷ ts) e y idles on n)
       where
-        open_queue : s.world.queue.closed ≡ false
-        open_queue = not-true s.world.queue.closed
-            (λ z. let no : true ≡ false = sym (((heard-here s y).placed.leaves 0).shut z).0 ∙ there in cc)
+        open_queue : (queue_of s.world (mark_of s.world g)).closed ≡ false
+        open_queue = not-true (queue_of s.world (mark_of s.world g)).closed
+            (λ z. let no : true ≡ false =
+            sym (((heard-here s y).placed.leaves 0).shut (any-shut (mark_of s.world g) s.world.queues z)).0 ∙ there in cc)
 
         go : Onward p s new (op.Run (run_op.Reschedule r a) ∷ []) (op.Queue (queue_op.Append g)) (t ∷ ts) →
             Stands f new
@@ -127,13 +129,15 @@ module _ (p r f : ℕ) (new : Machine) (idles : stack new p ≡ []) where
             (onto p (act p h (op.Queue (queue_op.Append g)) s.world) (op.Run (run_op.Reschedule r a) ∷ [])) te
             (gone-onto p (act p h (op.Queue (queue_op.Append g)) s.world) (op.Run (run_op.Reschedule r a) ∷ [])
             ∙ (i.there ∙ there))
-            (from-append p r f g a _ s.world rest
-            (has-room s.world.queue.closed (length s.world.queue.items) s.world.limit open_queue
-            (has-place s p g (op.Run (run_op.Reschedule r a) ∷ []) l e (good-here s y) (heard-here s y).placed)) w k)
+            (from-append p r f g a _ s.world (mark_of s.world g) rest
+            (has-room (queue_of s.world (mark_of s.world g)).closed
+            (length (queue_of s.world (mark_of s.world g)).items) s.world.limit open_queue
+            (has-place s p g (op.Run (run_op.Reschedule r a) ∷ []) l e (good-here s y) (heard-here s y).placed
+            (mark_of s.world g))) w k)
             y2 n2 on2 l
 
     by-leaves : (a : Reply) (held : Hold) (who : TickOrRun) →
-        stack s p ≡ (op.End a held ∷ []) ++ op.Tick (tick_op.Leave who) ∷ [] → 1 ≤ times f s.world.queue.items →
+        stack s p ≡ (op.End a held ∷ []) ++ op.Tick (tick_op.Leave who) ∷ [] → 1 ≤ times f (queued_in s.world) →
         Stands f new
     by-leaves a held who e k =
         go (onward p s new (op.End a held ∷ []) (op.Tick (tick_op.Leave who)) (t ∷ ts) e y idles on n)
@@ -148,7 +152,7 @@ module _ (p r f : ℕ) (new : Machine) (idles : stack new p ≡ []) where
 
     by-ends : (a : Reply) (held : Hold) (below : List Op) (o : Op) →
         stack s p ≡ (op.End a held ∷ below) ++ o ∷ [] → weigh stray_of below ≡ 0 → stray_of o ≡ 0 →
-        1 ≤ times f s.world.queue.items → Stands f new
+        1 ≤ times f (queued_in s.world) → Stands f new
     by-ends a held below o e z x k =
         go (onward p s new (op.End a held ∷ below) o (t ∷ ts) e y idles on n)
       where
@@ -178,7 +182,7 @@ module _ (p r f : ℕ) (new : Machine) (idles : stack new p ≡ []) where
 
     side-back : (a : Reply) (rest : List ℕ) (side : List Op) →
         stack s p ≡ op.Run (run_op.Reschedule r a) ∷ side → weigh stray_of side ≡ 0 → own_of s.world r ≡ rest →
-        1 ≤ times f s.world.queue.items + times f rest → Stands f new
+        1 ≤ times f (queued_in s.world) + times f rest → Stands f new
     side-back a rest side e z w k = go (from-end side)
       where
         go : (side ≡ []) ⊎ Last side → Stands f new
@@ -223,7 +227,7 @@ module _ (p r f : ℕ) (new : Machine) (idles : stack new p ≡ []) where
   record At (os : List Op) (rest : List ℕ) (s : Machine) : Type 0 where
     pub reached : Reached s
     pub own : own_of s.world r ≡ rest
-    pub stands : 1 ≤ times f s.world.queue.items + times f rest
+    pub stands : 1 ≤ times f (queued_in s.world) + times f rest
     pub there : s.world.gone ≡ false
     pub todo : stack s p ≡ os
 

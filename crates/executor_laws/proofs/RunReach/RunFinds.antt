@@ -5,6 +5,7 @@ use Rattle.std.proofs.Common.{append-nil, append_assoc, arith}
 use Rattle.std.proofs.lemmas.List.{reverse-append}
 use Rattle.std.specs.Prelude.{Some, None, reverse}
 use Rattle.task_moves.specs.declared.moves.owed.Move.TheVariants as move
+use Rattle.executor_parts.specs.declared.mark.Mark.TheVariants.{Plain, Urgent}
 use Rattle.executor_model.specs.declared.event.Event.TheVariants as event
 use Rattle.executor_model.specs.declared.op.Op.{Op}
 use Rattle.executor_model.specs.declared.op.Op.TheVariants as op
@@ -38,6 +39,7 @@ use Rattle.executor_laws.proofs.Reach.LoneSteps.{Last, from-end}
 -- the steal ends with f in hand
 abbrev pub Finds : ℕ → Then → Type 0
 Finds f (then.Found g) = f ≡ g
+Finds f (then.StealPlain g) = f ≡ g
 Finds f (then.Run g) = f ≡ g
 Finds f (then.Walk at left) = ⊥
 
@@ -111,7 +113,7 @@ heads-run_found f w x = heads-run_by f _ w x
 
 heads-counted_by : (f : ℕ) (b : Bool) (w : World) (x : RunPoll) → Heads f w.trace w.gone (counted_by b w x f)
 heads-counted_by f true w x = record {
-  heading = stealing (steal_op.Length (record { poll = x; from = Common; then = then.Run f })) [] refl refl refl;
+  heading = stealing (steal_op.Length (record { poll = x; from = Common Urgent; then = then.StealPlain f })) [] refl refl refl;
   events = [];
   trace = sym (append-nil w.trace);
   there = refl;
@@ -132,6 +134,12 @@ heads-found f w x =
 
 heads-stolen : (f : ℕ) (h : Then) (w : World) (x : RunPoll) → Finds f h → Heads f w.trace w.gone (stolen h w x)
 heads-stolen f (then.Found g) w x k = subst (λ (n : ℕ). Heads f w.trace w.gone (found w x n)) k (heads-found f w x)
+heads-stolen f (then.StealPlain g) w x k = record {
+  heading = stealing (steal_op.Length (record { poll = x; from = Common Plain; then = then.Run g })) [] refl k refl;
+  events = [];
+  trace = sym (append-nil w.trace);
+  there = refl;
+}
 heads-stolen f (then.Run g) w x k =
     subst (λ (n : ℕ). Heads f w.trace w.gone (run_found w x n)) k (heads-run_found f w x)
 heads-stolen f (then.Walk at left) w x k = absurd k
@@ -154,11 +162,11 @@ heads-steal_by f zero w s k = heads-stolen f s.then w s.poll k
 heads-steal_by f (suc n) w s k = heads-steals f w.trace w.gone w (steal_op.Take s n) refl refl k
 
 without-trace : (x : Source) (w : World) (rest : List ℕ) → (without_first w x rest).trace ≡ w.trace
-without-trace Common w rest = refl
+without-trace (Common mark) w rest = refl
 without-trace (Own r) w rest = refl
 
 pub without-gone : (x : Source) (w : World) (rest : List ℕ) → (without_first w x rest).gone ≡ w.gone
-without-gone Common w rest = refl
+without-gone (Common mark) w rest = refl
 without-gone (Own r) w rest = refl
 
 heads-take : (f : ℕ) (xs : List ℕ) (w : World) (s : Steal) (more : ℕ) → Finds f s.then →

@@ -5,6 +5,7 @@ use Rattle.std.proofs.Common.{get_or, get_or-set_same, Bool, true, false, ◌&&�
 use Rattle.std.proofs.lemmas.Bool.Decides.{nat_tests}
 use Rattle.std.specs.Prelude.{Option, Some, None, reverse, nat_lt, is_none}
 use Rattle.executor_parts.specs.Sleepers.{waker_of}
+use Rattle.executor_parts.specs.declared.mark.Mark.{Mark}
 use Rattle.executor_model.specs.declared.call.Reply.{Reply}
 use Rattle.executor_model.specs.declared.event.Answer.TheVariants as answer
 use Rattle.executor_model.specs.declared.op.Hold.{Hold}
@@ -30,12 +31,13 @@ use Rattle.executor_model.specs.Sound.{times}
 use Rattle.executor_model.specs.Steps.{Part, end_of, onto, part, react, settled, settled_by}
 use Rattle.executor_model.specs.Steps.{top}
 use Rattle.executor_model.specs.Weights.{weigh}
-use Rattle.executor_model.specs.World.{Done, Left, Asleep, Ticker, Awake, World, own_of}
-use Rattle.executor_model.proofs.Steps.Lists.{times-append, weigh-append, weigh-reverse}
+use Rattle.executor_model.specs.World.{Done, Left, Asleep, Ticker, Awake, World, own_of, queued_in}
+use Rattle.executor_model.proofs.Steps.Lists.{weigh-append, weigh-reverse}
+use Rattle.executor_model.proofs.Steps.QueuesByMark.{times-last}
 use Rattle.executor_model.proofs.Steps.SleepersNext.{goes-unseen}
 use Rattle.executor_model.proofs.Table.Spawning.{top-last}
 use Rattle.executor_model.proofs.OwnQueues.UsingWorlds.{idle-act}
-use Rattle.executor_laws.proofs.Reach.LoneMoves.{Inner, stray_of}
+use Rattle.executor_laws.proofs.Reach.LoneMoves.{Inner, more-queued, stray_of}
 use Rattle.executor_laws.proofs.Reach.LoneSteps.{Last, from-end}
 use Rattle.executor_laws.proofs.RunReach.RunFinds.{light-no-end, top-of}
 use Rattle.executor_laws.proofs.RunReach.RunWalks.{both-light, light}
@@ -45,6 +47,7 @@ use Rattle.executor_laws.proofs.RunReach.RunWalks.{both-light, light}
 -- a side thing that is done
 pub own-act : (p : ℕ) (h : Hint) (o : Op) (w : World) → stray_of o ≡ 0 → (act p h o w).world.own ≡ w.own
 own-act p h (op.Tick (tick_op.Search s)) w z = absurd (omega (arith, z))
+own-act p h (op.Tick (tick_op.Look s look)) w z = absurd (omega (arith, z))
 own-act p h (op.Tick (tick_op.CopyWaker s)) w z = absurd (omega (arith, z))
 own-act p h (op.Tick (tick_op.FallAsleep s)) w z = absurd (omega (arith, z))
 own-act p h (op.User (user_op.PollOwn x)) w z = absurd (omega (arith, z))
@@ -71,28 +74,28 @@ within (q ∷ qs) zero g rest e = omega arith
 within (q ∷ qs) (suc r) g rest e = omega (arith, within qs r g rest e)
 
 -- f stands in the executor's queue no less often
-pub more-stands : (f : ℕ) (w : World) (d : Done) → Inner w d → times f w.queue.items ≤ times f d.world.queue.items
-more-stands f w d i = omega (arith, ap (times f) i.queue, times-append f w.queue.items i.added)
+pub more-stands : (f : ℕ) (w : World) (d : Done) → Inner w d → times f (queued_in w) ≤ times f (queued_in d.world)
+more-stands f w d i = omega (arith, more-queued f w d i)
 
 -- what is left of the call, its last thing on top: the queue of run r is to be emptied, and f stands there or in the
 -- executor's queue; or that is done, and f stands in the executor's queue
 pub data Remains (r f : ℕ) (w : World) (os : List Op) : Type 0 where
   back : (a : Reply) (rest : List ℕ) (side : List Op) → os ≡ op.Run (run_op.Reschedule r a) ∷ side →
-      weigh stray_of side ≡ 0 → own_of w r ≡ rest → 1 ≤ times f w.queue.items + times f rest → Remains r f w os
+      weigh stray_of side ≡ 0 → own_of w r ≡ rest → 1 ≤ times f (queued_in w) + times f rest → Remains r f w os
   puts : (a : Reply) (g : ℕ) (rest : List ℕ) → os ≡ op.Run (run_op.Reschedule r a) ∷ op.Queue (queue_op.Append g) ∷ [] →
-      own_of w r ≡ rest → 1 ≤ times f w.queue.items + times f (g ∷ rest) → Remains r f w os
+      own_of w r ≡ rest → 1 ≤ times f (queued_in w) + times f (g ∷ rest) → Remains r f w os
   leaves : (a : Reply) (held : Hold) (who : TickOrRun) → os ≡ op.End a held ∷ op.Tick (tick_op.Leave who) ∷ [] →
-      1 ≤ times f w.queue.items → Remains r f w os
+      1 ≤ times f (queued_in w) → Remains r f w os
   ends : (a : Reply) (held : Hold) (below : List Op) (o : Op) → os ≡ op.End a held ∷ (below ++ o ∷ []) →
-      weigh stray_of (below ++ o ∷ []) ≡ 0 → 1 ≤ times f w.queue.items → Remains r f w os
-  over : os ≡ [] → 1 ≤ times f w.queue.items → Remains r f w os
+      weigh stray_of (below ++ o ∷ []) ≡ 0 → 1 ≤ times f (queued_in w) → Remains r f w os
+  over : os ≡ [] → 1 ≤ times f (queued_in w) → Remains r f w os
 
 abbrev pub Rests : ℕ → ℕ → Part → Type 0
 Rests r f x = Remains r f x.world x.todo
 
 -- only side things and the end are left
 pub to-end : (p r f : ℕ) (a : Reply) (held : Hold) (w : World) (side : List Op) → weigh stray_of side ≡ 0 →
-    1 ≤ times f w.queue.items → Rests r f (settled p w (op.End a held ∷ side))
+    1 ≤ times f (queued_in w) → Rests r f (settled p w (op.End a held ∷ side))
 to-end p r f a held w side z k = go (from-end side)
   where
     go : (side ≡ []) ⊎ Last side → Rests r f (settled p w (op.End a held ∷ side))
@@ -109,7 +112,7 @@ to-end p r f a held w side z k = go (from-end side)
 
 -- the queue is emptied further
 pub from-queue : (p r f : ℕ) (a : Reply) (w : World) (xs rest : List ℕ) → own_of w r ≡ rest → xs ≡ rest →
-    1 ≤ times f w.queue.items + times f rest → Rests r f (onto p (reschedule_by xs w r a) [])
+    1 ≤ times f (queued_in w) + times f rest → Rests r f (onto p (reschedule_by xs w r a) [])
 from-queue p r f a w [] rest o e k =
     leaves a (hold.Run r) (tick_or_run.Run r) refl (omega (arith, k, ap (times f) (sym e)))
 from-queue p r f a w (g ∷ xs) rest o e k =
@@ -118,7 +121,7 @@ from-queue p r f a w (g ∷ xs) rest o e k =
 
 -- the run leaves the sleepers
 pub from-leaving : (p r f : ℕ) (a : Reply) (held : Hold) (x : Ticker) (w : World) (who : TickOrRun) →
-    1 ≤ times f w.queue.items → Rests r f (onto p (leave_sleepers_by x w who) (op.End a held ∷ []))
+    1 ≤ times f (queued_in w) → Rests r f (onto p (leave_sleepers_by x w who) (op.End a held ∷ []))
 from-leaving p r f a held Awake w who k = over refl k
 from-leaving p r f a held Left w who k = over refl k
 from-leaving p r f a held (Asleep n) w who k =
@@ -136,13 +139,13 @@ from-leaving p r f a held (Asleep n) w who k =
     tells false = refl
 
 -- a Runnable is appended
-pub from-append : (p r f g : ℕ) (a : Reply) (b : Bool) (w : World) (rest : List ℕ) → b ≡ true → own_of w r ≡ rest →
-    1 ≤ times f w.queue.items + times f (g ∷ rest) →
-    Rests r f (onto p (append_by b w g) (op.Run (run_op.Reschedule r a) ∷ []))
-from-append p r f g a true w rest e o k =
+pub from-append : (p r f g : ℕ) (a : Reply) (b : Bool) (w : World) (mark : Mark) (rest : List ℕ) → b ≡ true → own_of w r ≡ rest →
+    1 ≤ times f (queued_in w) + times f (g ∷ rest) →
+    Rests r f (onto p (append_by b w mark g) (op.Run (run_op.Reschedule r a) ∷ []))
+from-append p r f g a true w mark rest e o k =
     back a rest (op.Sleeper sleeper_op.ExchangeFlag ∷ []) refl refl o
-    (omega (arith, k, times-append f w.queue.items (g ∷ [])))
-from-append p r f g a false w rest e o k = absurd (cc)
+    (omega (arith, k, times-last f g mark w.queues))
+from-append p r f g a false w mark rest e o k = absurd (cc)
 
 pub has-room : (c : Bool) (n m : ℕ) → c ≡ false → n < m → (not c && nat_lt n m) ≡ true
 has-room true n m e l = absurd (cc)
@@ -165,7 +168,7 @@ gone-reschedule (g ∷ xs) w r a = refl
 
 -- what is left to do where side things were done
 pub back-again : (p r f : ℕ) (a : Reply) (d : Done) (below : List Op) (rest : List ℕ) → weigh stray_of below ≡ 0 →
-    weigh stray_of d.next ≡ 0 → own_of d.world r ≡ rest → 1 ≤ times f d.world.queue.items + times f rest →
+    weigh stray_of d.next ≡ 0 → own_of d.world r ≡ rest → 1 ≤ times f (queued_in d.world) + times f rest →
     Rests r f (onto p d (op.Run (run_op.Reschedule r a) ∷ below))
 back-again p r f a d below rest z x o k =
     let light-all : weigh stray_of (below ++ reverse d.next) ≡ 0 =

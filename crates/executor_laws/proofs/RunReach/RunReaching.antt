@@ -1,328 +1,227 @@
 -- For runs_reach_futures, kept_futures_are_in_reach and dropped_runs_leave_common_futures.
 -- A poll of a run that is made alone takes a future that the run keeps, or else one that is common.
-use Rattle.std.proofs.Common.{◌≡◌, ◌∙◌, inl, inr, ⊎_elim, ℕ, ◌<◌, ◌≤◌, List, [], ◌∷◌, ◌++◌, length, drop, get_or}
-use Rattle.std.proofs.Common.{Bool, true, false, ◌||◌, ltb, refl, sym, ap, subst, arith, append-nil, append_assoc, Ok}
+use Rattle.std.proofs.Common.{◌≡◌, ◌∙◌, inl, inr, ⊎_elim, ℕ, ◌<◌, ◌≤◌, List, [], ◌∷◌, ◌++◌, length, drop}
+use Rattle.std.proofs.Common.{true, false, ltb, refl, sym, ap, subst, arith, append-nil, append_assoc, Ok}
 use Rattle.std.proofs.lemmas.Bool.Decides.{nat_tests}
-use Rattle.std.proofs.lemmas.List.Folds.{list_any-append}
 use Rattle.std.proofs.Math.Seq.{drop-append_seam}
-use Rattle.std.specs.Prelude.{Option, Some, None, reverse}
+use Rattle.std.specs.Prelude.{Some, None, reverse}
+use Rattle.executor_parts.specs.declared.mark.Mark.{Mark}
+use Rattle.executor_parts.specs.Marks.{first_of, other}
 use Rattle.executor_model.specs.declared.call.By.{By}
 use Rattle.executor_model.specs.declared.call.Call.TheVariants as call
 use Rattle.executor_model.specs.declared.event.Answer.TheVariants as answer
 use Rattle.executor_model.specs.declared.event.Event.TheVariants as event
 use Rattle.executor_model.specs.declared.kind.Kind.{Kind}
-use Rattle.executor_model.specs.declared.op.ListOp.TheVariants as list_op
+use Rattle.executor_model.specs.declared.op.Look.{Look}
+use Rattle.executor_model.specs.declared.op.Look.TheVariants as look_at
 use Rattle.executor_model.specs.declared.op.Op.{Op}
 use Rattle.executor_model.specs.declared.op.Op.TheVariants as op
 use Rattle.executor_model.specs.declared.op.RunOp.TheVariants as run_op
 use Rattle.executor_model.specs.declared.op.RunPoll.{RunPoll}
-use Rattle.executor_model.specs.declared.op.Section.TheVariants as section
 use Rattle.executor_model.specs.declared.op.Source.TheVariants.{Common}
 use Rattle.executor_model.specs.declared.op.StealOp.TheVariants as steal_op
 use Rattle.executor_model.specs.declared.op.Then.TheVariants as then
 use Rattle.executor_model.specs.declared.op.TickOp.TheVariants as tick_op
-use Rattle.executor_model.specs.declared.op.UserOp.TheVariants as user_op
 use Rattle.executor_model.specs.declared.step.Step.{Step}
 use Rattle.executor_model.specs.declared.step.Step.TheVariants.{Begin}
-use Rattle.executor_model.specs.declared.step.UserEnd.{UserEnd}
 use Rattle.executor_model.specs.declared.step.UserEnd.TheVariants as end
-use Rattle.executor_model.specs.ActsOfRuns.{asleep, registered, search_common_by, search_own_by}
-use Rattle.executor_model.specs.Doing.{act}
+use Rattle.executor_model.specs.Acts.{mark_in, turned}
+use Rattle.executor_model.specs.ActsOfRuns.{asleep, search_common_by, search_own_by}
 use Rattle.executor_model.specs.Due.{IsDue}
 use Rattle.executor_model.specs.Emptiness.{IsAtRest}
 use Rattle.executor_model.specs.Keeper.{IsCommon}
 use Rattle.executor_model.specs.Executions.{run_all}
+use Rattle.executor_model.specs.Queues.{Queues, queue_in}
 use Rattle.executor_model.specs.Sound.{queued, times}
-use Rattle.executor_model.specs.Steps.{Machine, Part, after, onto, part, part_after, poll_run, react, run, stack, start}
+use Rattle.executor_model.specs.Steps.{Machine, Part, after, onto, part, part_after, poll_run, run, stack, start}
 use Rattle.executor_model.specs.Steps.{waker_of, with_part}
-use Rattle.executor_model.specs.Trace.{Trace, has, is_accepted, is_drop_begun, is_dropped}
-use Rattle.executor_model.specs.World.{Done, Ended, Listed, New, Stage, World, among, done, log, own_of, put_own, run_of}
-use Rattle.executor_model.proofs.Table.Entering.{table-agrees}
+use Rattle.executor_model.specs.Trace.{Trace, has}
+use Rattle.executor_model.specs.World.{Done, Ended, Listed, New, Stage, World, done, log, own_of, put_own, queue_of, run_of}
 use Rattle.executor_model.proofs.Quiet.Resting.{rests}
-use Rattle.executor_model.proofs.OneFuture.Stories.{among_is}
-use Rattle.executor_model.proofs.OneFuture.Telling.{begun-has}
 use Rattle.executor_model.proofs.Steps.Reached.{Reached, deep-here, good-here, reached-more, reached-step, run-first}
 use Rattle.executor_laws.specs.LoneEnds.{are_onward_of, is_onward_of}
-use Rattle.executor_laws.specs.KeptFirst.{taken_up}
 use Rattle.executor_laws.specs.Reach.{since, takes}
-use Rattle.executor_laws.specs.RunFew.{polls_in}
 use Rattle.executor_laws.specs.RunReach.{IsLonePoll, IsReachedByRuns, Keeps, TakesKept, TakesOneCommon, first_answer}
-use Rattle.executor_laws.proofs.Reach.LoneSteps.{HasEntry}
 use Rattle.executor_laws.proofs.Reach.LoneTicks.{idle-none, in-range, left-true, of-party, stack-set}
 use Rattle.executor_laws.proofs.Reach.Reached.{bonded-here, heard-here}
-use Rattle.executor_laws.proofs.Placement.Placing.{common-queue, here, idle, in-own, keeper-own, own-keeper, queue-common, queued-due}
+use Rattle.executor_laws.proofs.Placement.Placing.{here, idle, in-own, keeper-own, own-keeper, queued-due}
 use Rattle.executor_laws.proofs.RunReach.RunFinds.{Heading, Heads, heads-found}
 use Rattle.executor_laws.proofs.RunReach.RunFinds.Heading.{stealing}
-use Rattle.executor_laws.proofs.RunReach.TakenUp.{answers-up, goes-up}
 use Rattle.executor_laws.proofs.RunReach.RunWalks.{Onward, Taken, from-heading, onward, with-heading}
 use Rattle.executor_laws.proofs.RunReach.RunWalks.Onward.{acted, answered}
-use Rattle.executor_laws.proofs.Reach.Searching.{takes-none}
+use Rattle.executor_laws.proofs.Reach.Spots.{Spot}
 use Rattle.executor_laws.proofs.Exactness.Ticking.{first-times}
-
--- where f is due, it has its entry until it is taken
-
-or-left : (a b : Bool) → a ≡ true → (a || b) ≡ true
-or-left true b e = refl
-or-left false b e = absurd (cc)
-
-neither : (a b : Bool) → a ≡ false → b ≡ false → (a || b) ≡ false
-neither true b e k = absurd (cc)
-neither false b e k = k
-
-module _ (before : Trace) (f : ℕ) (due : IsDue f before) where
-  entry-by : (m : Machine) → Reached m → m.world.gone ≡ false → (meanwhile : Trace) →
-      m.world.trace ≡ before ++ meanwhile → (b : Bool) → has (takes f) meanwhile ≡ b → HasEntry f m.world meanwhile
-  entry-by m y g meanwhile t true e = inl e
-  entry-by m y g meanwhile t false e =
-      let kept : has (is_dropped f) m.world.trace ≡ false = ap (has (is_dropped f)) t
-      ∙ (list_any-append (is_dropped f) before meanwhile ∙ neither _ _ due.undropped (takes-none f meanwhile e)) in
-      let accepted : has (is_accepted f) m.world.trace ≡ true = ap (has (is_accepted f)) t
-      ∙ (list_any-append (is_accepted f) before meanwhile ∙ or-left _ _ due.accepted) in
-      let there : has is_drop_begun m.world.trace ≡ false = sym (begun-has 0 m.world.trace)
-      ∙ (((heard-here m y).placed.leaves 0).begun ∙ g) in
-      let one : times f m.world.table ≡ 1 =
-      (table-agrees m f (good-here m y) (heard-here m y).placed).entered (inl there)
-      (record { accepted = accepted; remains = inl kept }) in
-      inr (⊎_elim (λ (x : (among f m.world.table ≡ true) × (1 ≤ times f m.world.table)). x.0)
-      (λ (x : (among f m.world.table ≡ false) × (times f m.world.table ≡ 0)). absurd (omega (arith, x.1, one)))
-      (among_is f m.world.table))
-
-  pub entry : (m : Machine) → Reached m → m.world.gone ≡ false → (meanwhile : Trace) →
-      m.world.trace ≡ before ++ meanwhile → HasEntry f m.world meanwhile
-  entry m y g meanwhile t = entry-by m y g meanwhile t (has (takes f) meanwhile) refl
-
-pub registered-own : (x : Stage) (w : World) (r : ℕ) → (registered x w r).own ≡ w.own
-registered-own New w r = refl
-registered-own Listed w r = refl
-registered-own Ended w r = refl
-
-pub registered-queue : (x : Stage) (w : World) (r : ℕ) → (registered x w r).queue ≡ w.queue
-registered-queue New w r = refl
-registered-queue Listed w r = refl
-registered-queue Ended w r = refl
-
-pub registered-trace : (x : Stage) (w : World) (r : ℕ) → (registered x w r).trace ≡ w.trace
-registered-trace New w r = refl
-registered-trace Listed w r = refl
-registered-trace Ended w r = refl
-
-pub registered-gone : (x : Stage) (w : World) (r : ℕ) → (registered x w r).gone ≡ w.gone
-registered-gone New w r = refl
-registered-gone Listed w r = refl
-registered-gone Ended w r = refl
-
--- up to the search in its own queue
-module _ (p : ℕ) (before : Trace) (x : RunPoll) (own common : List ℕ) (new : Machine) (idles : stack new p ≡ []) where
-  -- nothing is found yet
-  pub record Before (w : World) : Type 0 where
-    pub own_is : own_of w x.run ≡ own
-    pub common_is : w.queue.items ≡ common
-    pub meanwhile : Trace
-    pub trace : w.trace ≡ before ++ meanwhile
-    pub calm : polls_in meanwhile ≡ 0
-    pub there : w.gone ≡ false
-
-  -- and the party has this to do
-  pub record At (os : List Op) (s : Machine) : Type 0 where
-    pub reached : Reached s
-    pub so_far : Before s.world
-    pub todo : stack s p ≡ os
-
-  -- it is about to search, and has taken nothing up
-  pub record Arrived (ts : List Step) (s : Machine) : Type 0 where
-    pub machine : Machine
-    pub others : List Step
-    pub taken : taken_up p ts s ≡ taken_up p others machine
-    pub here : At (op.Tick (tick_op.Search (asleep x)) ∷ []) machine
-    pub onward : are_onward_of p others ≡ true
-    pub made : run_all others machine ≡ Ok new
-
-  earlier : (ts others : List Step) (s v : Machine) → taken_up p ts s ≡ taken_up p others v → Arrived others v → Arrived ts s
-  earlier ts others s v e a = record {
-    machine = a.machine;
-    others = a.others;
-    taken = e ∙ a.taken;
-    here = a.here;
-    onward = a.onward;
-    made = a.made;
-  }
-
-  -- the run's own future isn't ready
-  at-own : (s : Machine) → At (op.User (user_op.PollOwn x) ∷ []) s → (ts : List Step) →
-      first_answer ts ≡ Some (end.Polled answer.Pending) → are_onward_of p ts ≡ true → run_all ts s ≡ Ok new →
-      Arrived ts s
-  at-own s a ts c on n =
-      go (onward p s new [] (op.User (user_op.PollOwn x)) ts a.todo a.reached idles on n)
-    where
-      go : Onward p s new [] (op.User (user_op.PollOwn x)) ts → Arrived ts s
-      go (acted h others te z y n2 on2 l) = absurd (cc)
-      go (answered u others te z y n2 on2 l) =
-          let q : ◌≡◌ {A = Option UserEnd} (Some u) (Some (end.Polled answer.Pending)) = sym (ap first_answer te) ∙ c in
-          let v : u ≡ end.Polled answer.Pending = cc in
-          record {
-            machine = with_part s p (part s.world (op.Tick (tick_op.Search (asleep x)) ∷ []));
-            others = others;
-            taken = answers-up p s new [] (op.User (user_op.PollOwn x)) ts a.todo n u others te
-                ∙ ap (λ (w : UserEnd). taken_up p others (with_part s p (onto p (react p (op.User (user_op.PollOwn x)) w s.world) []))) v;
-            here = record {
-              reached = subst (λ (w : UserEnd).
-                  Reached (with_part s p (onto p (react p (op.User (user_op.PollOwn x)) w s.world) []))) v y;
-              so_far = a.so_far;
-              todo = stack-set p s (part s.world (op.Tick (tick_op.Search (asleep x)) ∷ [])) l;
-            };
-            onward = on2;
-            made = sym (ap (λ (w : UserEnd).
-                run_all others (with_part s p (onto p (react p (op.User (user_op.PollOwn x)) w s.world) []))) v) ∙ n2;
-          }
-
-  at-unlock : (s : Machine) → At (op.User (user_op.PollOwn x) ∷ op.List list_op.UnlockWrite ∷ []) s → (ts : List Step) →
-      first_answer ts ≡ Some (end.Polled answer.Pending) → are_onward_of p ts ≡ true → run_all ts s ≡ Ok new →
-      Arrived ts s
-  at-unlock s a ts c on n =
-      go (onward p s new (op.User (user_op.PollOwn x) ∷ []) (op.List list_op.UnlockWrite) ts a.todo a.reached idles on n)
-    where
-      go : Onward p s new (op.User (user_op.PollOwn x) ∷ []) (op.List list_op.UnlockWrite) ts →
-          Arrived ts s
-      go (answered u others te z y n2 on2 l) = absurd (cc)
-      go (acted h others te z y n2 on2 l) =
-          let d : Part = onto p (act p h (op.List list_op.UnlockWrite) s.world) (op.User (user_op.PollOwn x) ∷ []) in
-          earlier ts others s (with_part s p d)
-          (goes-up p s new (op.User (user_op.PollOwn x) ∷ []) (op.List list_op.UnlockWrite) ts a.todo n h others te)
-          (at-own (with_part s p d) (record {
-            reached = y;
-            so_far = record {
-              own_is = a.so_far.own_is;
-              common_is = a.so_far.common_is;
-              meanwhile = a.so_far.meanwhile;
-              trace = a.so_far.trace;
-              calm = a.so_far.calm;
-              there = a.so_far.there;
-            };
-            todo = stack-set p s d l;
-          }) others (sym (ap first_answer te) ∙ c) on2 n2)
-
-  at-write : (s : Machine) → At (op.List (list_op.Write (section.Register x)) ∷ []) s → (ts : List Step) →
-      first_answer ts ≡ Some (end.Polled answer.Pending) → are_onward_of p ts ≡ true → run_all ts s ≡ Ok new →
-      Arrived ts s
-  at-write s a ts c on n =
-      go (onward p s new [] (op.List (list_op.Write (section.Register x))) ts a.todo a.reached idles on n)
-    where
-      go : Onward p s new [] (op.List (list_op.Write (section.Register x))) ts → Arrived ts s
-      go (answered u others te z y n2 on2 l) = absurd (cc)
-      go (acted h others te z y n2 on2 l) =
-          let d : Part = onto p (act p h (op.List (list_op.Write (section.Register x))) s.world) [] in
-          let st : Stage = (run_of s.world x.run).stage in
-          earlier ts others s (with_part s p d) (goes-up p s new [] (op.List (list_op.Write (section.Register x))) ts a.todo n h others te)
-          (at-unlock (with_part s p d) (record {
-            reached = y;
-            so_far = record {
-              own_is = ap (λ (qs : List (List ℕ)). get_or qs x.run []) (registered-own st s.world x.run)
-                  ∙ a.so_far.own_is;
-              common_is = ap (λ q. q.items) (registered-queue st s.world x.run) ∙ a.so_far.common_is;
-              meanwhile = a.so_far.meanwhile;
-              trace = registered-trace st s.world x.run ∙ a.so_far.trace;
-              calm = a.so_far.calm;
-              there = registered-gone st s.world x.run ∙ a.so_far.there;
-            };
-            todo = stack-set p s d l;
-          }) others (sym (ap first_answer te) ∙ c) on2 n2)
-
-  at-lock : (s : Machine) → At (op.List (list_op.LockWrite (section.Register x)) ∷ []) s → (ts : List Step) →
-      first_answer ts ≡ Some (end.Polled answer.Pending) → are_onward_of p ts ≡ true → run_all ts s ≡ Ok new →
-      Arrived ts s
-  at-lock s a ts c on n =
-      go (onward p s new [] (op.List (list_op.LockWrite (section.Register x))) ts a.todo a.reached idles on n)
-    where
-      go : Onward p s new [] (op.List (list_op.LockWrite (section.Register x))) ts → Arrived ts s
-      go (answered u others te z y n2 on2 l) = absurd (cc)
-      go (acted h others te z y n2 on2 l) =
-          let d : Part = onto p (act p h (op.List (list_op.LockWrite (section.Register x))) s.world) [] in
-          earlier ts others s (with_part s p d)
-          (goes-up p s new [] (op.List (list_op.LockWrite (section.Register x))) ts a.todo n h others te)
-          (at-write (with_part s p d) (record {
-            reached = y;
-            so_far = record {
-              own_is = a.so_far.own_is;
-              common_is = a.so_far.common_is;
-              meanwhile = a.so_far.meanwhile;
-              trace = a.so_far.trace;
-              calm = a.so_far.calm;
-              there = a.so_far.there;
-            };
-            todo = stack-set p s d l;
-          }) others (sym (ap first_answer te) ∙ c) on2 n2)
+use Rattle.executor_laws.proofs.Reach.Reaching.{common-spot, spot-common}
+use Rattle.executor_laws.proofs.RunReach.RunArrives.{Arrived, At, Before, at-lock, at-own, entry}
 
 -- what the run finds first
-pub data First (f : ℕ) (own common : List ℕ) : Type 0 where
-  in_own : (rest : List ℕ) → own ≡ f ∷ rest → First f own common
-  in_common : (rest : List ℕ) → own ≡ [] → common ≡ f ∷ rest → First f own common
+pub data First (f : ℕ) (own : List ℕ) (base : World) : Type 0 where
+  in_own : (rest : List ℕ) → own ≡ f ∷ rest → First f own base
+  in_common : own ≡ [] → (x : Spot base) → x.future ≡ f → First f own base
 
-module _ (p f : ℕ) (before : Trace) (due : IsDue f before) (x : RunPoll) (own common : List ℕ)
-    (first : First f own common) (new : Machine) (idles : stack new p ≡ []) where
+-- what stays of the queues and the turns
+same-spot : (w v : World) → v.queues ≡ w.queues → v.urgent_turns ≡ w.urgent_turns → (x : Spot w) →
+    (y : Spot v) × (y.future ≡ x.future)
+same-spot w v q t x = (
+  record {
+    mark = x.mark;
+    future = x.future;
+    rest = x.rest;
+    is = ap (λ (qs : Queues). (queue_in x.mark qs).items) q ∙ x.is;
+    turn = ⊎_elim
+        (λ (e : x.mark ≡ first_of w.urgent_turns). inl (e ∙ ap first_of (sym t)))
+        (λ (e : (x.mark ≡ other (first_of w.urgent_turns)) × ((queue_of w (first_of w.urgent_turns)).items ≡ [])). inr (
+          e.0 ∙ ap (λ (n : ℕ). other (first_of n)) (sym t),
+          ap (λ (n : ℕ). (queue_of v (first_of n)).items) t
+              ∙ (ap (λ (qs : Queues). (queue_in (first_of w.urgent_turns) qs).items) q ∙ e.1),
+        ))
+        x.turn;
+  },
+  refl,
+)
+
+module _ (p f : ℕ) (before : Trace) (due : IsDue f before) (x : RunPoll) (new : Machine) (idles : stack new p ≡ []) where
   -- the run has it in hand
-  from-found : (s : Machine) (d : Done) (others : List Step) → Before p before x own common new idles s.world →
-      Heads f s.world.trace s.world.gone d →
+  from-found : (s : Machine) (d : Done) (others : List Step) (meanwhile : Trace) → s.world.trace ≡ before ++ meanwhile →
+      s.world.gone ≡ false → Heads f s.world.trace s.world.gone d →
       Reached (with_part s p (onto p d [])) → run_all others (with_part s p (onto p d [])) ≡ Ok new →
       are_onward_of p others ≡ true → p < length s.parties → Taken f before new.world.trace
-  from-found s d others b h y n on l =
+  from-found s d others meanwhile t there h y n on l =
       let q : onto p d [] ≡ part d.world (reverse d.next) = with-heading p f d [] h.heading in
       from-heading p f before new idles (entry before f due) others (with_part s p (part d.world (reverse d.next)))
-      (subst (λ (z : Part). Reached (with_part s p z)) q y) (b.meanwhile ++ h.events)
-      (h.trace ∙ (ap (λ (es : Trace). es ++ h.events) b.trace ∙ append_assoc before b.meanwhile h.events))
-      (h.there ∙ b.there)
+      (subst (λ (z : Part). Reached (with_part s p z)) q y) (meanwhile ++ h.events)
+      (h.trace ∙ (ap (λ (es : Trace). es ++ h.events) t ∙ append_assoc before meanwhile h.events))
+      (h.there ∙ there)
       (subst (Heading f) (sym (stack-set p s (part d.world (reverse d.next)) l)) h.heading) on
       (sym (ap (λ (z : Part). run_all others (with_part s p z)) q) ∙ n)
 
-  at-common : (s : Machine) (rest : List ℕ) → common ≡ f ∷ rest →
-      At p before x own common new idles (op.Run (run_op.SearchCommon x) ∷ []) s →
-      (ts : List Step) → are_onward_of p ts ≡ true → run_all ts s ≡ Ok new → Taken f before new.world.trace
-  at-common s rest e a ts on n =
-      go (onward p s new [] (op.Run (run_op.SearchCommon x)) ts a.todo a.reached idles on n)
+  -- it has this to do, after it searched in its own queue
+  record On (o : Op) (ts : List Step) (s : Machine) : Type 0 where
+    reached : Reached s
+    meanwhile : Trace
+    trace : s.world.trace ≡ before ++ meanwhile
+    there : s.world.gone ≡ false
+    todo : stack s p ≡ o ∷ []
+    onward : are_onward_of p ts ≡ true
+    made : run_all ts s ≡ Ok new
+
+  -- it looks at a queue in which f is first
+  at-look : (s : Machine) (look : Look) (rest : List ℕ) → (queue_of s.world (mark_in look)).items ≡ f ∷ rest →
+      (ts : List Step) → On (op.Run (run_op.SearchCommon x look)) ts s → Taken f before new.world.trace
+  at-look s look rest e ts a =
+      go (onward p s new [] (op.Run (run_op.SearchCommon x look)) ts a.todo a.reached idles a.onward a.made)
     where
-      by : (items : List ℕ) → items ≡ f ∷ rest → Heads f s.world.trace s.world.gone (search_common_by items s.world x)
-      by items z = subst (λ (ys : List ℕ). Heads f s.world.trace s.world.gone (search_common_by ys s.world x)) (sym z)
+      by : (items : List ℕ) → items ≡ f ∷ rest → Heads f s.world.trace s.world.gone (search_common_by items s.world x look)
+      by items z = subst (λ (ys : List ℕ). Heads f s.world.trace s.world.gone (search_common_by ys s.world x look)) (sym z)
           (record {
-            heading = stealing (steal_op.Length (record { poll = x; from = Common; then = then.Found f })) [] refl refl
-                refl;
+            heading = stealing (steal_op.Length (record { poll = x; from = Common (mark_in look); then = then.Found f })) []
+                refl refl refl;
             events = [];
             trace = sym (append-nil s.world.trace);
             there = refl;
           })
 
-      go : Onward p s new [] (op.Run (run_op.SearchCommon x)) ts → Taken f before new.world.trace
+      go : Onward p s new [] (op.Run (run_op.SearchCommon x look)) ts → Taken f before new.world.trace
       go (answered u others te z y n2 on2 l) = absurd (cc)
       go (acted h others te z y n2 on2 l) =
-          from-found s (search_common_by s.world.queue.items s.world x) others a.so_far
-          (by s.world.queue.items (a.so_far.common_is ∙ e)) y n2 on2 l
+          from-found s (search_common_by (queue_of s.world (mark_in look)).items s.world x look) others a.meanwhile a.trace
+          a.there (by (queue_of s.world (mark_in look)).items e) y n2 on2 l
 
-  at-search : (s : Machine) → At p before x own common new idles (op.Tick (tick_op.Search (asleep x)) ∷ []) s → (ts : List Step) →
-      are_onward_of p ts ≡ true → run_all ts s ≡ Ok new → Taken f before new.world.trace
-  at-search s a ts on n =
-      go (onward p s new [] (op.Tick (tick_op.Search (asleep x))) ts a.todo a.reached idles on n)
+  -- it looks at one that is empty, and then at the other one, in which f is first
+  at-both : (s : Machine) (m : Mark) (rest : List ℕ) → (queue_of s.world m).items ≡ [] →
+      (queue_of s.world (other m)).items ≡ f ∷ rest → (ts : List Step) →
+      On (op.Run (run_op.SearchCommon x (look_at.First m))) ts s → Taken f before new.world.trace
+  at-both s m rest none e ts a =
+      go (onward p s new [] (op.Run (run_op.SearchCommon x (look_at.First m))) ts a.todo a.reached idles a.onward a.made)
     where
-      by-first : (others : List Step) → Reached (with_part s p (onto p (search_own_by own s.world x) [])) →
-          run_all others (with_part s p (onto p (search_own_by own s.world x) [])) ≡ Ok new →
-          are_onward_of p others ≡ true → p < length s.parties → First f own common → Taken f before new.world.trace
-      by-first others y n2 on2 l (in_own rest e) =
-          from-found s (search_own_by own s.world x) others a.so_far
-          (subst (λ (ys : List ℕ). Heads f s.world.trace s.world.gone (search_own_by ys s.world x)) (sym e)
-          (heads-found f (put_own s.world x.run rest) x)) y n2 on2 l
-      by-first others y n2 on2 l (in_common rest e k) =
-          let q : search_own_by own s.world x ≡ done s.world (op.Run (run_op.SearchCommon x) ∷ []) =
-          ap (λ (ys : List ℕ). search_own_by ys s.world x) e in
-          at-common (with_part s p (part s.world (op.Run (run_op.SearchCommon x) ∷ []))) rest k (record {
-            reached = subst (λ (d : Done). Reached (with_part s p (onto p d []))) q y;
-            so_far = a.so_far;
-            todo = stack-set p s (part s.world (op.Run (run_op.SearchCommon x) ∷ [])) l;
-          }) others on2 (sym (ap (λ (d : Done). run_all others (with_part s p (onto p d []))) q) ∙ n2)
+      next : Part
+      next = part s.world (op.Run (run_op.SearchCommon x (look_at.Second (other m))) ∷ [])
 
-      go : Onward p s new [] (op.Tick (tick_op.Search (asleep x))) ts → Taken f before new.world.trace
+      go : Onward p s new [] (op.Run (run_op.SearchCommon x (look_at.First m))) ts → Taken f before new.world.trace
       go (answered u others te z y n2 on2 l) = absurd (cc)
       go (acted h others te z y n2 on2 l) =
-          by-first others
-          (subst (λ (ys : List ℕ). Reached (with_part s p (onto p (search_own_by ys s.world x) []))) a.so_far.own_is y)
-          (sym (ap (λ (ys : List ℕ). run_all others (with_part s p (onto p (search_own_by ys s.world x) [])))
-          a.so_far.own_is) ∙ n2) on2 l first
+          let q : search_common_by (queue_of s.world m).items s.world x (look_at.First m)
+          ≡ done s.world (op.Run (run_op.SearchCommon x (look_at.Second (other m))) ∷ []) =
+          ap (λ (ys : List ℕ). search_common_by ys s.world x (look_at.First m)) none in
+          at-look (with_part s p next) (look_at.Second (other m)) rest e others (record {
+            reached = subst (λ (d : Done). Reached (with_part s p (onto p d []))) q y;
+            meanwhile = a.meanwhile;
+            trace = a.trace;
+            there = a.there;
+            todo = stack-set p s next l;
+            onward = on2;
+            made = sym (ap (λ (d : Done). run_all others (with_part s p (onto p d []))) q) ∙ n2;
+          })
+
+  -- it takes its turn
+  at-turn : (s : Machine) (y : Spot s.world) → y.future ≡ f → (ts : List Step) → On (op.Run (run_op.TakeTurn x)) ts s →
+      Taken f before new.world.trace
+  at-turn s y e ts a =
+      go (onward p s new [] (op.Run (run_op.TakeTurn x)) ts a.todo a.reached idles a.onward a.made)
+    where
+      go : Onward p s new [] (op.Run (run_op.TakeTurn x)) ts → Taken f before new.world.trace
+      go (answered u others te z y2 n2 on2 l) = absurd (cc)
+      go (acted h others te z y2 n2 on2 l) =
+          let next : Part =
+          part (turned p s.world) (op.Run (run_op.SearchCommon x (look_at.First (first_of s.world.urgent_turns))) ∷ []) in
+          let o : On (op.Run (run_op.SearchCommon x (look_at.First (first_of s.world.urgent_turns)))) others
+          (with_part s p next) = record {
+            reached = y2;
+            meanwhile = a.meanwhile ++ event.Looked p (first_of s.world.urgent_turns) ∷ [];
+            trace = ap (λ (es : Trace). es ++ event.Looked p (first_of s.world.urgent_turns) ∷ []) a.trace
+                ∙ append_assoc before a.meanwhile (event.Looked p (first_of s.world.urgent_turns) ∷ []);
+            there = a.there;
+            todo = stack-set p s next l;
+            onward = on2;
+            made = n2;
+          } in
+          let here : (queue_of s.world y.mark).items ≡ f ∷ y.rest = y.is ∙ ap (λ (g : ℕ). g ∷ y.rest) e in
+          ⊎_elim
+          (λ (i : y.mark ≡ first_of s.world.urgent_turns).
+          at-look (with_part s p next) (look_at.First (first_of s.world.urgent_turns)) y.rest
+          (subst (λ (m : Mark). (queue_of s.world m).items ≡ f ∷ y.rest) i here) others o)
+          (λ (i : (y.mark ≡ other (first_of s.world.urgent_turns))
+          × ((queue_of s.world (first_of s.world.urgent_turns)).items ≡ [])).
+          at-both (with_part s p next) (first_of s.world.urgent_turns) y.rest i.1
+          (subst (λ (m : Mark). (queue_of s.world m).items ≡ f ∷ y.rest) i.0 here) others o)
+          y.turn
+
+  module _ (own : List ℕ) (base : World) (first : First f own base) where
+    pub at-search : (s : Machine) → At p before x own base new idles (op.Tick (tick_op.Search (asleep x)) ∷ []) s →
+        (ts : List Step) → are_onward_of p ts ≡ true → run_all ts s ≡ Ok new → Taken f before new.world.trace
+    at-search s a ts on n =
+        go (onward p s new [] (op.Tick (tick_op.Search (asleep x))) ts a.todo a.reached idles on n)
+      where
+        by-first : (others : List Step) → Reached (with_part s p (onto p (search_own_by own s.world x) [])) →
+            run_all others (with_part s p (onto p (search_own_by own s.world x) [])) ≡ Ok new →
+            are_onward_of p others ≡ true → p < length s.parties → First f own base → Taken f before new.world.trace
+        by-first others y n2 on2 l (in_own rest e) =
+            from-found s (search_own_by own s.world x) others a.so_far.meanwhile a.so_far.trace a.so_far.there
+            (subst (λ (ys : List ℕ). Heads f s.world.trace s.world.gone (search_own_by ys s.world x)) (sym e)
+            (heads-found f (put_own s.world x.run rest) x)) y n2 on2 l
+        by-first others y n2 on2 l (in_common e spot i) =
+            let q : search_own_by own s.world x ≡ done s.world (op.Run (run_op.TakeTurn x) ∷ []) =
+            ap (λ (ys : List ℕ). search_own_by ys s.world x) e in
+            let found-there : (v : Spot s.world) × (v.future ≡ spot.future) =
+            same-spot base s.world a.so_far.common_is a.so_far.turn_is spot in
+            at-turn (with_part s p (part s.world (op.Run (run_op.TakeTurn x) ∷ []))) found-there.0 (found-there.1 ∙ i) others
+            (record {
+              reached = subst (λ (d : Done). Reached (with_part s p (onto p d []))) q y;
+              meanwhile = a.so_far.meanwhile;
+              trace = a.so_far.trace;
+              there = a.so_far.there;
+              todo = stack-set p s (part s.world (op.Run (run_op.TakeTurn x) ∷ [])) l;
+              onward = on2;
+              made = sym (ap (λ (d : Done). run_all others (with_part s p (onto p d []))) q) ∙ n2;
+            })
+
+        go : Onward p s new [] (op.Tick (tick_op.Search (asleep x))) ts → Taken f before new.world.trace
+        go (answered u others te z y n2 on2 l) = absurd (cc)
+        go (acted h others te z y n2 on2 l) =
+            by-first others
+            (subst (λ (ys : List ℕ). Reached (with_part s p (onto p (search_own_by ys s.world x) []))) a.so_far.own_is y)
+            (sym (ap (λ (ys : List ℕ). run_all others (with_part s p (onto p (search_own_by ys s.world x) [])))
+            a.so_far.own_is) ∙ n2) on2 l first
 
 module _ (s : Machine) (r : Reached s) (rest : IsAtRest s) (n p : ℕ) (b : By) (steps : List Step) (new : Machine)
     (k : IsLonePoll p n b steps s new) where
@@ -379,13 +278,14 @@ module _ (s : Machine) (r : Reached s) (rest : IsAtRest s) (n p : ℕ) (b : By) 
   abbrev pub first-machine : Machine
   first-machine = from-stage (run_of s.world n).stage
 
-  pub arrived : Arrived p s.world.trace poll (own_of s.world n) s.world.queue.items new new-idle steps first-machine
+  pub arrived : Arrived p s.world.trace poll (own_of s.world n) s.world new new-idle steps first-machine
   arrived = by (run_of s.world n).stage refl
     where
-      still : Before p s.world.trace poll (own_of s.world n) s.world.queue.items new new-idle beginning
+      still : Before p s.world.trace poll (own_of s.world n) s.world new new-idle beginning
       still = record {
         own_is = refl;
         common_is = refl;
+        turn_is = refl;
         meanwhile = told;
         trace = trace-is;
         calm = refl;
@@ -393,15 +293,15 @@ module _ (s : Machine) (r : Reached s) (rest : IsAtRest s) (n p : ℕ) (b : By) 
       }
 
       by : (st : Stage) → (run_of s.world n).stage ≡ st →
-          Arrived p s.world.trace poll (own_of s.world n) s.world.queue.items new new-idle steps (from-stage st)
-      by New e = at-lock p s.world.trace poll (own_of s.world n) s.world.queue.items new new-idle
+          Arrived p s.world.trace poll (own_of s.world n) s.world new new-idle steps (from-stage st)
+      by New e = at-lock p s.world.trace poll (own_of s.world n) s.world new new-idle
           (from-stage New) (record {
             reached = subst (λ (z : Stage). Reached (from-stage z)) e reached-begun;
             so_far = still;
             todo = stack-set p s (begun-as New) in-parties;
           }) steps k.pending k.call.alone
           (sym (ap (λ (z : Stage). run_all steps (from-stage z)) e) ∙ on-begun)
-      by Listed e = at-own p s.world.trace poll (own_of s.world n) s.world.queue.items new new-idle
+      by Listed e = at-own p s.world.trace poll (own_of s.world n) s.world new new-idle
           (from-stage Listed) (record {
             reached = subst (λ (z : Stage). Reached (from-stage z)) e reached-begun;
             so_far = still;
@@ -419,10 +319,10 @@ module _ (s : Machine) (r : Reached s) (rest : IsAtRest s) (n p : ℕ) (b : By) 
               idle-none q t m.world m.parties (stack m q) z first
               (of-party q m t first (run-first t ts m last e2).0).2
 
-  pub takes-first : (f : ℕ) → IsDue f s.world.trace → First f (own_of s.world n) s.world.queue.items →
+  pub takes-first : (f : ℕ) → IsDue f s.world.trace → First f (own_of s.world n) s.world →
       Taken f s.world.trace new.world.trace
   takes-first f due first =
-      at-search p f s.world.trace due poll (own_of s.world n) s.world.queue.items first new new-idle arrived.machine
+      at-search p f s.world.trace due poll new new-idle (own_of s.world n) s.world first arrived.machine
       arrived.here arrived.others arrived.onward arrived.made
 
   -- in the words of what happened between
@@ -460,11 +360,10 @@ module _ (s : Machine) (r : Reached s) (rest : IsAtRest s) (n p : ℕ) (b : By) 
           }
 
   takes-common : (f : ℕ) → IsCommon f s.world.trace → ((g : ℕ) → ¬ Keeps n g s.world.trace) → TakesOneCommon s new
-  takes-common f c none = by (own_of s.world n) refl s.world.queue.items refl
+  takes-common f c none = by (own_of s.world n) refl
     where
-      by : (own : List ℕ) → own_of s.world n ≡ own → (items : List ℕ) → s.world.queue.items ≡ items →
-          TakesOneCommon s new
-      by (g ∷ xs) e items q =
+      by : (own : List ℕ) → own_of s.world n ≡ own → TakesOneCommon s new
+      by (g ∷ xs) e =
           let one : 1 ≤ times g (own_of s.world n) =
           subst (λ (ys : List ℕ). 1 ≤ times g ys) (sym e) (first-times g xs) in
           let due : IsDue g s.world.trace = is-due g (omega (
@@ -476,16 +375,14 @@ module _ (s : Machine) (r : Reached s) (rest : IsAtRest s) (n p : ℕ) (b : By) 
             due = due;
             keeper = own-keeper s (good-here s r) (heard-here s r) (deep-here s r) (bonded-here s r) rest g n one;
           }))
-      by [] e [] q = absurd (omega (
-        arith,
-        common-queue s (good-here s r) (heard-here s r) (deep-here s r) (bonded-here s r) rest f c,
-        ap (times f) q,
-      ))
-      by [] e (g ∷ xs) q =
-          let there : IsCommon g s.world.trace =
-          queue-common s (good-here s r) (heard-here s r) (deep-here s r) (bonded-here s r) rest g
-          (subst (λ (ys : List ℕ). 1 ≤ times g ys) (sym q) (first-times g xs)) in
-          record { future = g; common = there; taken = taken-since g (takes-first g there.due (in_common xs e q)) }
+      by [] e =
+          let x : Spot s.world = common-spot s r rest f c in
+          let there : IsCommon x.future s.world.trace = spot-common s r rest x in
+          record {
+            future = x.future;
+            common = there;
+            taken = taken-since x.future (takes-first x.future there.due (in_common e x refl));
+          }
 
 by-runs : (s : Machine) → Reached s → IsReachedByRuns s
 by-runs s y = record {

@@ -5,6 +5,13 @@ use Rattle.std.proofs.Common.{get_or, get_or-set_same, get_or-set_other, Bool, t
 use Rattle.std.proofs.Common.{append_assoc}
 use Rattle.std.proofs.lemmas.List.{reverse-append}
 use Rattle.std.specs.Prelude.{Option, Some, None, reverse}
+use Rattle.executor_model.specs.declared.op.Look.{Look}
+use Rattle.executor_parts.specs.declared.mark.Mark.TheVariants.{Plain, Urgent}
+use Rattle.executor_parts.specs.Marks.{first_of, other}
+use Rattle.executor_model.specs.Acts.{turned}
+use Rattle.executor_model.specs.declared.op.Look.TheVariants.{First, Second}
+use Rattle.executor_model.specs.World.{queue_of}
+use Rattle.executor_model.specs.Acts.{mark_in}
 use Rattle.task_moves.specs.declared.moves.owed.Move.TheVariants as move
 use Rattle.executor_model.specs.declared.call.Reply.TheVariants as reply
 use Rattle.executor_model.specs.declared.event.Event.TheVariants as event
@@ -104,7 +111,7 @@ aside-react p o u w a z = by (side-kind o z)
 -- what run q itself does
 
 abbrev pub NotOwn : ℕ → Source → Type 0
-NotOwn q Common = true ≡ true
+NotOwn q (Common mark) = true ≡ true
 NotOwn q (Own n) = n ≢ q
 
 abbrev pub steal_of : StealOp → Steal
@@ -117,7 +124,8 @@ abbrev pub Control : ℕ → Op → Type 0
 Control q (op.Tick (tick_op.Search s)) = s.who ≡ tick_or_run.Run q
 Control q (op.Tick (tick_op.CopyWaker s)) = s.who ≡ tick_or_run.Run q
 Control q (op.Tick (tick_op.FallAsleep s)) = s.who ≡ tick_or_run.Run q
-Control q (op.Run (run_op.SearchCommon x)) = x.run ≡ q
+Control q (op.Run (run_op.TakeTurn x)) = x.run ≡ q
+Control q (op.Run (run_op.SearchCommon x look)) = x.run ≡ q
 Control q (op.Run (run_op.LookOwn x at left)) = x.run ≡ q
 Control q (op.Run (run_op.WakeOwn x)) = x.run ≡ q
 Control q (op.List (list_op.LockRead x)) = x.run ≡ q
@@ -159,7 +167,7 @@ holds-run_by q false w x f e =
 
 holds-counted_by : (q : ℕ) (b : Bool) (w : World) (x : RunPoll) (f : ℕ) → x.run ≡ q → Holds q (counted_by b w x f).next
 holds-counted_by q true w x f e =
-    holds-one q (op.Steal (steal_op.Length (record { poll = x; from = Common; then = then.Run f }))) (e, refl)
+    holds-one q (op.Steal (steal_op.Length (record { poll = x; from = Common Urgent; then = then.StealPlain f }))) (e, refl)
 holds-counted_by q false w x f e = holds-run_by q _ (counted_to w x.run _) x f e
 
 found-side : (x : Ticker) (who : TickOrRun) → weigh side_of (found_by x who (op.Sleeper sleeper_op.ExchangeFlag ∷ [])) ≡ 0
@@ -174,6 +182,8 @@ holds-found q w x f e =
 
 holds-stolen : (q : ℕ) (t : Then) (w : World) (x : RunPoll) → x.run ≡ q → Holds q (stolen t w x).next
 holds-stolen q (then.Found f) w x e = holds-found q w x f e
+holds-stolen q (then.StealPlain f) w x e =
+    holds-one q (op.Steal (steal_op.Length (record { poll = x; from = Common Plain; then = then.Run f }))) (e, refl)
 holds-stolen q (then.Run f) w x e = holds-run_by q _ w x f e
 holds-stolen q (then.Walk at left) w x e = holds-one q (op.Run (run_op.LookOwn x at left)) e
 
@@ -315,7 +325,7 @@ after-steal_by q f n (suc l) w s e k =
 
 tracked-without : (q f n : ℕ) (x : Source) (w : World) (rest : List ℕ) → NotOwn q x → Tracked q f n w →
     Tracked q f n (without_first w x rest)
-tracked-without q f n Common w rest e k = same-own q f n w (without_first w Common rest) refl k
+tracked-without q f n (Common mark) w rest e k = same-own q f n w (without_first w (Common mark) rest) refl k
 tracked-without q f n (Own m) w rest e k = record {
   front = k.front;
   later = k.later;
@@ -408,10 +418,12 @@ holds-sleep q (Asleep m) w s e = holds-again q _ w m s e
 holds-sleep q Left w s e =
     holds-behind q (op.Sleeper (sleeper_op.CallSleeper s) ∷ []) _ refl (holds-one q _ refl)
 
-holds-common : (q : ℕ) (xs : List ℕ) (w : World) (x : RunPoll) → x.run ≡ q → Holds q (search_common_by xs w x).next
-holds-common q [] w x e = holds-one q (op.List (list_op.LockRead x)) e
-holds-common q (f ∷ xs) w x e =
-    holds-one q (op.Steal (steal_op.Length (record { poll = x; from = Common; then = then.Found f }))) (e, refl)
+holds-common : (look : Look) (q : ℕ) (xs : List ℕ) (w : World) (x : RunPoll) → x.run ≡ q → Holds q (search_common_by xs w x look).next
+holds-common (First mark) q [] w x e = holds-one q (op.Run (run_op.SearchCommon x (Second (other mark)))) e
+holds-common (Second mark) q [] w x e = holds-one q (op.List (list_op.LockRead x)) e
+holds-common look q (f ∷ xs) w x e =
+    holds-one q (op.Steal (steal_op.Length (record { poll = x; from = Common (mark_in look); then = then.Found f })))
+    (e, refl)
 
 after-called : (q f n p : ℕ) (h : Hint) (a : Waker) (w v : World) (r : ℕ) → v.own ≡ w.own → v.gone ≡ w.gone →
     Tracked q f n w →
@@ -437,7 +449,7 @@ after-called q f n p h (Outside y) w v r o z k = record {
 pub after-control : (q f n p : ℕ) (h : Hint) (c : Op) (w : World) → Control q c → Tracked q f n w →
     After q f n w (act p h c w)
 after-control q f n p h (op.Tick (tick_op.Search s)) w e k =
-    subst (λ (who : TickOrRun). After q f n w (search_by_who who w s)) (sym e)
+    subst (λ (who : TickOrRun). After q f n w (search_by_who who p w s)) (sym e)
     (after-own q f n n (own_of w q) w (record { run = q; waker = s.waker; poll = s.poll }) refl refl
     (λ l i. omega (arith, i)) k)
 after-control q f n p h (op.Tick (tick_op.CopyWaker s)) w e k = after-copy q f n _ w s e k
@@ -446,10 +458,16 @@ after-control q f n p h (op.Tick (tick_op.FallAsleep s)) w e k = record {
       (same-own q f n w (fall_asleep_by (place_of w s.who) w s).world (idle-sleep (place_of w s.who) w s).own k);
   gone = (idle-sleep (place_of w s.who) w s).gone;
 }
-after-control q f n p h (op.Run (run_op.SearchCommon x)) w e k = record {
-  goes = on (holds-common q w.queue.items w x e)
-      (same-own q f n w (search_common_by w.queue.items w x).world (idle-common w.queue.items w x).own k);
-  gone = (idle-common w.queue.items w x).gone;
+after-control q f n p h (op.Run (run_op.TakeTurn x)) w e k = record {
+  goes = on (holds-one q (op.Run (run_op.SearchCommon x (First (first_of w.urgent_turns)))) e)
+      (same-own q f n w (turned p w) refl k);
+  gone = refl;
+}
+after-control q f n p h (op.Run (run_op.SearchCommon x look)) w e k = record {
+  goes = on (holds-common look q (queue_of w (mark_in look)).items w x e)
+      (same-own q f n w (search_common_by (queue_of w (mark_in look)).items w x look).world
+      (idle-common look (queue_of w (mark_in look)).items w x).own k);
+  gone = (idle-common look (queue_of w (mark_in look)).items w x).gone;
 }
 after-control q f n p h (op.Run (run_op.LookOwn x at left)) w e k =
     after-look q f n (own_of w x.run) w x at left e refl k

@@ -4,15 +4,17 @@ use Rattle.std.proofs.Common.{◌≡◌, ◌≢◌, ◌⊎◌, ◌∙◌, inl, i
 use Rattle.std.proofs.Common.{eqb, refl, sym, ap, subst, arith}
 use Rattle.std.proofs.lemmas.List.{reverse-append}
 use Rattle.std.specs.Prelude.{Some, None, reverse}
-use Rattle.executor_model.specs.declared.call.By.{By}
+use Rattle.executor_parts.specs.Marks.{other}
+use Rattle.executor_parts.specs.declared.mark.Mark.{Mark}
 use Rattle.executor_model.specs.declared.call.Call.TheVariants as call
 use Rattle.executor_model.specs.declared.call.Reply.{Reply}
 use Rattle.executor_model.specs.declared.call.Reply.TheVariants as reply
 use Rattle.executor_model.specs.declared.event.Answer.TheVariants as answer
-use Rattle.executor_model.specs.declared.event.Event.TheVariants as event
 use Rattle.executor_model.specs.declared.kind.Kind.{Kind}
 use Rattle.executor_model.specs.declared.op.Hold.{Hold}
 use Rattle.executor_model.specs.declared.op.ListOp.TheVariants as list_op
+use Rattle.executor_model.specs.declared.op.Look.{Look}
+use Rattle.executor_model.specs.declared.op.Look.TheVariants.{First, Second}
 use Rattle.executor_model.specs.declared.op.Op.{Op}
 use Rattle.executor_model.specs.declared.op.Op.TheVariants as op
 use Rattle.executor_model.specs.declared.op.QueueOp.TheVariants as queue_op
@@ -28,7 +30,6 @@ use Rattle.executor_model.specs.declared.op.Then.TheVariants as then
 use Rattle.executor_model.specs.declared.op.TickOp.TheVariants as tick_op
 use Rattle.executor_model.specs.declared.op.TickOrRun.TheVariants as tick_or_run
 use Rattle.executor_model.specs.declared.op.UserOp.TheVariants as user_op
-use Rattle.executor_model.specs.declared.op.Waker.{Waker}
 use Rattle.executor_model.specs.declared.step.Hint.{Hint}
 use Rattle.executor_model.specs.declared.step.Step.{Step}
 use Rattle.executor_model.specs.declared.step.Step.TheVariants.{Answer, Begin, Go}
@@ -39,29 +40,33 @@ use Rattle.executor_model.specs.ActsOfRuns.{search_common_by, search_own_by, sha
 use Rattle.executor_model.specs.ActsOfRuns.{steal_put_by, steal_take_by, stolen}
 use Rattle.executor_model.specs.ActsOfSleepers.{found_by}
 use Rattle.executor_model.specs.Doing.{act}
-use Rattle.executor_model.specs.Steps.{Machine, Part, accepts, begun, mine, poll_run, react, refusal, run, stack, start, step}
+use Rattle.executor_model.specs.Steps.{Machine, accepts, poll_run, react, refusal, run, stack, start, step}
 use Rattle.executor_model.specs.Steps.{stepped, top, waits}
 use Rattle.executor_model.specs.Weights.{weigh}
-use Rattle.executor_model.specs.World.{Asleep, Awake, Done, Ended, Left, Listed, New, Stage, Ticker, World, log, own_of, put_own, run_of}
+use Rattle.executor_model.specs.World.{Asleep, Awake, Done, Ended, Left, Listed, New, Stage, Ticker, World, own_of, put_own, queue_of}
+use Rattle.executor_model.specs.World.{run_of}
 use Rattle.executor_model.proofs.Quiet.Calls.{is_end}
 use Rattle.executor_model.proofs.Steps.Lists.{weigh-append, weigh-reverse}
 use Rattle.executor_model.proofs.Steps.Reached.{Reached}
-use Rattle.executor_laws.specs.PendingPolls.{CommonHadNone, IsAnswered, RunFoundNone, RunsLookFirst, Walked, run_poll}
+use Rattle.executor_laws.specs.PendingPolls.{CommonHadNone, IsAnswered, OtherHadNone, RunFoundNone, RunsLookFirst, Walked, run_poll}
 use Rattle.executor_laws.proofs.Fewness.AnySteps.{beside_of}
 use Rattle.executor_laws.proofs.Placement.OwnReady.{reached-on}
-use Rattle.executor_laws.proofs.Seeking.SeekStacks.{Comes, Follows, Lands, Next, Stays, answered-long, begins-so, own_part, seek}
+use Rattle.executor_laws.proofs.Seeking.SeekStacks.{Comes, Follows, Lands, Next, answered-long, begins-so, own_part, seek}
 use Rattle.executor_laws.proofs.Seeking.SeekStacks.Lands.{on, over}
 use Rattle.executor_laws.proofs.Seeking.SeekStacks.Next.{goes_on, had}
 
--- its own queue has none; the executor's queue has none either; or neither is so
+-- it looks on; its own queue has none; one of the executor's queues has none either, and it looks at that of this mark; or none
+-- of the three has one
 data Far : Type 0 where
   before : Far
   at_common : Far
+  second : Mark → Far
   at_list : Far
 
 -- a steal behind which it runs what it has found
 abbrev Running : Then → Type 0
 Running (then.Found f) = Unit {0}
+Running (then.StealPlain f) = Unit {0}
 Running (then.Run f) = Unit {0}
 Running (then.Walk at left) = ⊥
 
@@ -83,13 +88,16 @@ module _ (p : ℕ) (x : RunPoll) (old : List Op) where
   Control before (op.Steal (steal_op.Take s more)) = Steals s
   Control before (op.Steal (steal_op.Put s more f)) = Steals s
   Control before (op.End a held) = a ≢ reply.Pending
-  Control at_common (op.Run (run_op.SearchCommon y)) = y ≡ x
+  Control at_common (op.Run (run_op.TakeTurn y)) = y ≡ x
+  Control at_common (op.Run (run_op.SearchCommon y (First m))) = y ≡ x
+  Control (second m) (op.Run (run_op.SearchCommon y look)) = (y ≡ x) × (look ≡ Second m)
   Control at_list (op.List (list_op.LockRead y)) = y ≡ x
   Control _ _ = ⊥
 
   abbrev Has : Far → List Step → Machine → Type 0
   Has before ts s = RunFoundNone x p ts s
   Has at_common ts s = CommonHadNone x p ts s ⊎ RunFoundNone x p ts s
+  Has (second m) ts s = OtherHadNone m x p ts s ⊎ RunFoundNone x p ts s
   Has at_list ts s = Walked x p ts s
 
   abbrev Goes : Far → Machine → Step → Done → Type 0
@@ -137,6 +145,7 @@ module _ (p : ℕ) (x : RunPoll) (old : List Op) where
 
   stolen-again : (t : Then) (w : World) (y : RunPoll) → y ≡ x → Running t → Again (stolen t w y)
   stolen-again (then.Found f) w y k r = found-again w y f k
+  stolen-again (then.StealPlain f) w y k r = record { control = _; side = _; is = refl; kind = (k, tt); light = refl }
   stolen-again (then.Run f) w y k r = run-found-again w y f k
   stolen-again (then.Walk at left) w y k r = absurd r
 
@@ -187,9 +196,35 @@ module _ (p : ℕ) (x : RunPoll) (old : List Op) where
       (λ (y : RunFoundNone x p ts (stepped s (step s (Go p h)))). inr (inr y)) z)
   looks-own s h e o (f ∷ rest) i = goes-before s (Go p h) _ (found-again (put_own s.world x.run rest) x f refl)
 
-  looks-common : (s : Machine) (h : Hint) → refusal s (Go p h) ≡ None → top (stack s p) ≡ Some (op.Run (run_op.SearchCommon x)) →
-      (q : List ℕ) → s.world.queue.items ≡ q → Goes at_common s (Go p h) (search_common_by q s.world x)
-  looks-common s h e o [] i = goes_on at_list (record { control = _; side = _; is = refl; kind = refl; light = refl })
+  later-common : (s : Machine) (u : Step) (ts : List Step) → Has at_common ts (stepped s (step s u)) → Has at_common (u ∷ ts) s
+  later-common s u ts (inl z) = inl (inr z)
+  later-common s u ts (inr z) = inr (inr (inr z))
+
+  later-second : (m : Mark) (s : Machine) (u : Step) (ts : List Step) → Has (second m) ts (stepped s (step s u)) →
+      Has (second m) (u ∷ ts) s
+  later-second m s u ts (inl z) = inl (inr z)
+  later-second m s u ts (inr z) = inr (inr (inr z))
+
+  -- where its first look finds none
+  first-none : (m : Mark) (s : Machine) (h : Hint) → refusal s (Go p h) ≡ None →
+      top (stack s p) ≡ Some (op.Run (run_op.SearchCommon x (First m))) → (queue_of s.world m).items ≡ [] → (ts : List Step) →
+      Has (second (other m)) ts (stepped s (step s (Go p h))) → Has at_common (Go p h ∷ ts) s
+  first-none m s h e o i ts (inl z) =
+      inl (inl (m, record { looks = record { hint = h; is = refl; possible = e; next = o }; none = i }, z))
+  first-none m s h e o i ts (inr z) = inr (inr (inr z))
+
+  looks-first : (m : Mark) (s : Machine) (h : Hint) → refusal s (Go p h) ≡ None →
+      top (stack s p) ≡ Some (op.Run (run_op.SearchCommon x (First m))) → (q : List ℕ) → (queue_of s.world m).items ≡ q →
+      Goes at_common s (Go p h) (search_common_by q s.world x (First m))
+  looks-first m s h e o [] i = goes_on (second (other m))
+      (record { control = _; side = _; is = refl; kind = (refl, refl); light = refl }) (first-none m s h e o i)
+  looks-first m s h e o (f ∷ rest) i = goes_on before
+      (record { control = _; side = _; is = refl; kind = (refl, tt); light = refl }) (λ ts z. inr (inr (inr z)))
+
+  looks-second : (m : Mark) (s : Machine) (h : Hint) → refusal s (Go p h) ≡ None →
+      top (stack s p) ≡ Some (op.Run (run_op.SearchCommon x (Second m))) → (q : List ℕ) → (queue_of s.world m).items ≡ q →
+      Goes (second m) s (Go p h) (search_common_by q s.world x (Second m))
+  looks-second m s h e o [] i = goes_on at_list (record { control = _; side = _; is = refl; kind = refl; light = refl })
       (λ ts z. inl (inl (
         record {
           looks = record { hint = h; is = refl; possible = e; next = o };
@@ -197,7 +232,7 @@ module _ (p : ℕ) (x : RunPoll) (old : List Op) where
         },
         z,
       )))
-  looks-common s h e o (f ∷ rest) i = goes_on before
+  looks-second m s h e o (f ∷ rest) i = goes_on before
       (record { control = _; side = _; is = refl; kind = (refl, tt); light = refl }) (λ ts z. inr (inr (inr z)))
 
   acts-before : (s : Machine) (h : Hint) (c : Op) → refusal s (Go p h) ≡ None → top (stack s p) ≡ Some c →
@@ -235,10 +270,19 @@ module _ (p : ℕ) (x : RunPoll) (old : List Op) where
   acts : (i : Far) (s : Machine) (h : Hint) (c : Op) → refusal s (Go p h) ≡ None → top (stack s p) ≡ Some c →
       waits c ≡ false → is_end c ≡ false → Control i c → Goes i s (Go p h) (act p h c s.world)
   acts before s h c e o w n k = acts-before s h c e o w n k
-  acts at_common s h (op.Run (run_op.SearchCommon y)) e o w n k =
-      subst (λ (v : RunPoll). Goes at_common s (Go p h) (act p h (op.Run (run_op.SearchCommon v)) s.world)) (sym k)
-      (looks-common s h e (o ∙ ap (λ (v : RunPoll). Some (op.Run (run_op.SearchCommon v))) k) s.world.queue.items refl)
+  acts at_common s h (op.Run (run_op.TakeTurn y)) e o w n k =
+      goes_on at_common (record { control = _; side = _; is = refl; kind = k; light = refl }) (later-common s (Go p h))
+  acts at_common s h (op.Run (run_op.SearchCommon y (First m))) e o w n k =
+      subst (λ (v : RunPoll). Goes at_common s (Go p h) (act p h (op.Run (run_op.SearchCommon v (First m))) s.world)) (sym k)
+      (looks-first m s h e (o ∙ ap (λ (v : RunPoll). Some (op.Run (run_op.SearchCommon v (First m)))) k)
+      (queue_of s.world m).items refl)
   acts at_common s h _ e o w n k = absurd k
+  acts (second m) s h (op.Run (run_op.SearchCommon y look)) e o w n k =
+      subst (λ (v : RunPoll × Look). Goes (second m) s (Go p h) (act p h (op.Run (run_op.SearchCommon v.0 v.1)) s.world))
+      (λ i. (sym k.0 i, sym k.1 i))
+      (looks-second m s h e (o ∙ (λ i. Some (op.Run (run_op.SearchCommon (k.0 i) (k.1 i)))))
+      (queue_of s.world m).items refl)
+  acts (second m) s h _ e o w n k = absurd k
   acts at_list s h (op.List (list_op.LockRead y)) e o w n k = had (λ ts. inl (record {
     hint = h;
     is = refl;
@@ -270,20 +314,23 @@ module _ (p : ℕ) (x : RunPoll) (old : List Op) where
   reacts : (i : Far) (s : Machine) (u : UserEnd) (c : Op) → accepts c u ≡ true → Control i c →
       Goes i s (Answer p u) (react p c u s.world)
   reacts before s u c v k = reacts-before s u c v k
-  reacts at_common s u (op.Run (run_op.SearchCommon y)) v k = absurd (cc)
+  reacts at_common s u (op.Run o) v k = absurd (cc)
   reacts at_common s u _ v k = absurd k
+  reacts (second m) s u (op.Run o) v k = absurd (cc)
+  reacts (second m) s u _ v k = absurd k
   reacts at_list s u (op.List (list_op.LockRead y)) v k = absurd (cc)
   reacts at_list s u _ v k = absurd k
 
   later : (i : Far) (s : Machine) (u : Step) (ts : List Step) → Has i ts (stepped s (step s u)) → Has i (u ∷ ts) s
   later before s u ts z = inr (inr z)
-  later at_common s u ts (inl z) = inl (inr z)
-  later at_common s u ts (inr z) = inr (inr (inr z))
+  later at_common s u ts z = later-common s u ts z
+  later (second m) s u ts z = later-second m s u ts z
   later at_list s u ts z = inr z
 
   ends : (i : Far) (a : Reply) (held : Hold) → Control i (op.End a held) → a ≢ reply.Pending
   ends before a held k = k
   ends at_common a held k = absurd k
+  ends (second m) a held k = absurd k
   ends at_list a held k = absurd k
 
   follows : Follows p old Far Control Has

@@ -12,7 +12,7 @@ use Rattle.executor_model.specs.Sound.{Sound, pend, phase, queued, times, times_
 use Rattle.executor_model.specs.Sound.Phase.{Broken, Over}
 use Rattle.executor_model.specs.Steps.{Machine, run, stack, start}
 use Rattle.executor_model.specs.Trace.{has, is_drop_begun, is_dropped}
-use Rattle.executor_model.specs.World.{task}
+use Rattle.executor_model.specs.World.{queued_in, task}
 use Rattle.executor_model.proofs.OneFuture.Telling.{begun-has}
 use Rattle.executor_model.proofs.Polls.Lawful.{dropped-over}
 use Rattle.executor_model.proofs.Quiet.Resting.{all-rest, rests}
@@ -60,7 +60,7 @@ module _ (s : Machine) (y : Reached s) (r : IsAtRest s) (f : ℕ) (d : has (is_d
   unqueued : queued s.world f ≡ 0
   unqueued = omega (
     arith,
-    no-more (times f s.world.queue.items) (λ n. not-begun ((queue-agrees s f fine placed).undropped n d)),
+    no-more (times f (queued_in s.world)) (λ n. not-begun ((queue-agrees s f fine placed).undropped n d)),
     no-more (times_in f s.world.own) (λ n. not-begun ((own-agrees s f fine placed).undropped n d)),
   )
 

@@ -218,7 +218,7 @@ pays-apart p h o w r n l k =
 pays-by : (p : ℕ) (h : Hint) (o : Op) (w : World) (b : Bool) → is_run o ≡ b → waits o ≡ false → Needs w o →
     Settles w o → CanPay w o → Pays w o (act p h o w)
 pays-by p h o w false r n l k c = pays-apart p h o w r n l k
-pays-by p h (op.Tick o) w true r n l k c = pays-tick h o w l c
+pays-by p h (op.Tick o) w true r n l k c = pays-tick p h o w l c
 pays-by p h (op.List o) w true r n l k c = pays-list h o w c
 pays-by p h (op.Steal o) w true r n l k c = pays-steal p o w c
 pays-by p h (op.Run o) w true r n l k c = pays-run p h o w l c

@@ -4,6 +4,10 @@ use Rattle.std.proofs.Common.{◌≡◌, ◌∙◌, ℕ, zero, suc, ◌+◌, ◌
 use Rattle.std.proofs.Common.{get_or, take, Bool, true, false, ltb, refl, sym, ap, subst, arith}
 use Rattle.std.proofs.lemmas.List.{append_assoc, reverse-append}
 use Rattle.std.specs.Prelude.{Option, Some, None, reverse, slice_get}
+use Rattle.executor_model.specs.ActsOfSleepers.{look_tick}
+use Rattle.executor_model.specs.Acts.{mark_in}
+use Rattle.executor_model.specs.declared.op.Look.{Look}
+use Rattle.executor_model.specs.declared.op.Look.TheVariants.{First, Second}
 use Rattle.executor_model.specs.declared.call.Call.{Call}
 use Rattle.executor_model.specs.declared.call.Reply.{Reply}
 use Rattle.executor_model.specs.declared.call.Reply.TheVariants as reply
@@ -44,7 +48,7 @@ use Rattle.executor_model.specs.OwnQueues.{filling_of, reads_of, writes_of}
 use Rattle.executor_model.specs.Steps.{Machine, accepts, begun, below_top, is_free, mine, react, run, stack, start, top}
 use Rattle.executor_model.specs.Steps.{unless, waits}
 use Rattle.executor_model.specs.Weights.{weigh, weigh_all}
-use Rattle.executor_model.specs.World.{World, Done, done, log, place_of, put_own}
+use Rattle.executor_model.specs.World.{World, Done, done, log, place_of, put_own, queue_of}
 use Rattle.executor_model.proofs.Steps.Lift.{good-start, split, topped, unsettled, weigh_all-idle}
 use Rattle.executor_model.proofs.Steps.Lists.{weigh-append, weigh-reverse}
 use Rattle.executor_model.proofs.OwnQueues.OwnCounts.{counts-begun, counts-react, counts-reads, counts-writes}
@@ -94,6 +98,7 @@ found-held x = record {
   search = refl;
   wake = refl;
   steal = λ f. refl;
+  steal_plain = λ f. refl;
   look = λ at left. refl;
 }
 
@@ -102,6 +107,7 @@ found-none w x f = weighs-found held_of x 0 1 (found-held x) w f
 
 first-stolen : (t : Then) (w : World) (x : RunPoll) → FirstHolds (runs.stolen t w x).next
 first-stolen (then.Found f) w x = none-held (runs.found w x f).next (found-none w x f)
+first-stolen (then.StealPlain f) w x = refl
 first-stolen (then.Run f) w x =
     none-held (runs.stolen (then.Run f) w x).next (weighs-stolen held_of x 0 1 (found-held x) (then.Run f) w)
 first-stolen (then.Walk at left) w x = refl
@@ -139,16 +145,17 @@ first-own [] w x = refl
 first-own (f ∷ rest) w x = let v : World = put_own w x.run rest in
     none-held (runs.found v x f).next (found-none v x f)
 
-first-search : (who : TickOrRun) (w : World) (s : Sleeping) → FirstHolds (search_by_who who w s).next
-first-search (tick_or_run.Tick t) w s =
-    none-held (search_by_who (tick_or_run.Tick t) w s).next
-    (search-blind held_of blind-held (λ f. refl) (place_of w s.who) w w.queue.items s)
-first-search (tick_or_run.Run r) w s = first-own _ w _
+first-search : (who : TickOrRun) (p : ℕ) (w : World) (s : Sleeping) → FirstHolds (search_by_who who p w s).next
+first-search (tick_or_run.Tick t) p w s =
+    refl
+first-search (tick_or_run.Run r) p w s = first-own _ w _
 
-first-tick : (h : Hint) (o : TickOp) (w : World) (b : Bool) → is_search o ≡ b → FirstHolds (tick_act h o w).next
-first-tick h o w false e = none-held (tick_act h o w).next (slumbering-blind held_of blind-held h o w e)
-first-tick h (tick_op.Search s) w true e = first-search s.who w s
-first-tick h _ w true e = absurd (cc)
+first-tick : (p : ℕ) (h : Hint) (o : TickOp) (w : World) (b : Bool) → is_search o ≡ b → FirstHolds (tick_act p h o w).next
+first-tick p h o w false e = none-held (tick_act p h o w).next (slumbering-blind held_of blind-held p h o w e)
+first-tick p h (tick_op.Search s) w true e = first-search s.who p w s
+first-tick p h (tick_op.Look s look) w true e = none-held (look_tick w s look).next
+    (search-blind held_of blind-held look (λ f. refl) (place_of w s.who) w (queue_of w (mark_in look)).items s)
+first-tick p h _ w true e = absurd (cc)
 
 first-walk : (x : RunPoll) (qs : List ℕ) (at left : ℕ) → FirstHolds (runs.walk x qs at left)
 first-walk x = walk-by FirstHolds x refl (λ r at left. refl)
@@ -157,9 +164,10 @@ first-look : (q : List ℕ) (w : World) (x : RunPoll) (at left : ℕ) → FirstH
 first-look [] w x at left = first-walk x w.listed at left
 first-look (f ∷ rest) w x at left = found-none (put_own w x.run rest) x f
 
-first-common : (q : List ℕ) (w : World) (x : RunPoll) → FirstHolds (runs.search_common_by q w x).next
-first-common [] w x = refl
-first-common (f ∷ rest) w x = refl
+first-common : (look : Look) (q : List ℕ) (w : World) (x : RunPoll) → FirstHolds (runs.search_common_by q w x look).next
+first-common (First mark) [] w x = refl
+first-common (Second mark) [] w x = refl
+first-common look (f ∷ rest) w x = refl
 
 first-made : (b : Bool) (w : World) → FirstHolds (runs.make_run_by b w).next
 first-made true w = refl
@@ -191,7 +199,8 @@ first-room false w = refl
 first-run : (p : ℕ) (h : Hint) (o : RunOp) (w : World) → FirstHolds (run_act p h o w).next
 first-run p h run_op.MakeRoom w = first-room _ w
 first-run p h run_op.ReturnRoom w = refl
-first-run p h (run_op.SearchCommon x) w = first-common _ w x
+first-run p h (run_op.TakeTurn x) w = refl
+first-run p h (run_op.SearchCommon x look) w = first-common look _ w x
 first-run p h (run_op.LookOwn x at left) w = first-look _ w x at left
 first-run p h (run_op.WakeOwn x) w = first-wake p w x
 first-run p h (run_op.Reschedule r a) w = first-reschedule _ w r a
@@ -200,7 +209,7 @@ first-act : (p : ℕ) (h : Hint) (o : Op) (w : World) (b : Bool) → is_run o �
     FirstHolds (act p h o w).next
 first-act p h o w false e k =
     none-held (act p h o w).next (unseen held_of unheld (act p h o w).next (apart-act p h o w e).runs)
-first-act p h (op.Tick o) w true e k = first-tick h o w _ refl
+first-act p h (op.Tick o) w true e k = first-tick p h o w _ refl
 first-act p h (op.List o) w true e k = first-list h o w
 first-act p h (op.Steal o) w true e k = first-steal p o w k
 first-act p h (op.Run o) w true e k = first-run p h o w

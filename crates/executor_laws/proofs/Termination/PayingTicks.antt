@@ -2,6 +2,9 @@
 -- What ticks and runs both do pays a step of those that remain, or one of a walk.
 use Rattle.std.proofs.Common.{◌≡◌, ℕ, ◌≤◌, List, [], ◌∷◌, Bool, true, false, refl, ap, arith}
 use Rattle.std.specs.Prelude.{Option, Some, None, is_none}
+use Rattle.executor_laws.proofs.Termination.SpendingTicks.{spends-tick_turn}
+use Rattle.executor_model.specs.declared.op.Look.{Look}
+use Rattle.executor_model.specs.declared.op.Look.TheVariants.{First, Second}
 use Rattle.executor_parts.specs.Sleepers.{waker_at, waker_of}
 use Rattle.executor_model.specs.declared.op.Op.TheVariants as op
 use Rattle.executor_model.specs.declared.op.TickOrRun.{TickOrRun}
@@ -12,15 +15,15 @@ use Rattle.executor_model.specs.declared.op.TickOp.TheVariants as tick_op
 use Rattle.executor_model.specs.declared.op.Waker.{Waker}
 use Rattle.executor_model.specs.declared.op.Waker.TheVariants.{Task, Outside}
 use Rattle.executor_model.specs.declared.step.Hint.{Hint}
-use Rattle.executor_model.specs.ActsOfSleepers.{make_tick_by, search_by, copy_sleeper_by, pend_as, sleep_anew_by}
+use Rattle.executor_model.specs.ActsOfSleepers.{make_tick_by, look_tick_by, copy_sleeper_by, pend_as, sleep_anew_by}
 use Rattle.executor_model.specs.ActsOfSleepers.{sleeper_goes}
 use Rattle.executor_model.specs.ActsOfSleepers.{sleep_listed_by, sleep_again_by, fall_asleep_by, wake_up_by, tell_and_return}
 use Rattle.executor_model.specs.ActsOfSleepers.{leave_sleepers_by}
-use Rattle.executor_model.specs.Acts.{is_copy_refused, waker_goes}
+use Rattle.executor_model.specs.Acts.{is_copy_refused, waker_goes, mark_in}
 use Rattle.executor_model.specs.Doing.{search_by_who, tick_act}
 use Rattle.executor_model.specs.Good.{IsKnownWaker, TickNeeds}
 use Rattle.executor_model.specs.Weights.{weigh}
-use Rattle.executor_model.specs.World.{World, Ticker, Awake, Asleep, Left, Done, place_of}
+use Rattle.executor_model.specs.World.{World, Ticker, Awake, Asleep, Left, Done, place_of, queue_of}
 use Rattle.executor_model.proofs.Steps.Lists.{weigh-append}
 use Rattle.executor_model.proofs.OwnQueues.RunsMoving.{is_search, slumbering-blind}
 use Rattle.executor_model.proofs.Steps.SleepersNext.{Blind, search-blind}
@@ -42,9 +45,10 @@ blind-left v = record {
 }
 
 -- nothing of it is left to schedule
-unleft-tick : (h : Hint) (o : TickOp) (w : World) → is_search o ≡ false →
-    weigh (left_by (tick_act h o w).world) (tick_act h o w).next ≡ 0
-unleft-tick h o w e = slumbering-blind (left_by (tick_act h o w).world) (blind-left (tick_act h o w).world) h o w e
+unleft-tick : (p : ℕ) (h : Hint) (o : TickOp) (w : World) → is_search o ≡ false →
+    weigh (left_by (tick_act p h o w).world) (tick_act p h o w).next ≡ 0
+unleft-tick p h o w e =
+    slumbering-blind (left_by (tick_act p h o w).world) (blind-left (tick_act p h o w).world) p h o w e
 
 -- the steps on the way to a walk
 
@@ -56,35 +60,36 @@ walk-goes_of : (o : Option Sleeping) → weigh walk_of (sleeper_goes o) ≡ 0
 walk-goes_of None = refl
 walk-goes_of (Some s) = walk-goes s.waker
 
-walk-make : (b : Bool) (w : World) → weigh walk_of (make_tick_by b w).next ≤ 2
+walk-make : (b : Bool) (w : World) → weigh walk_of (make_tick_by b w).next ≤ 4
 walk-make true w = omega arith
 walk-make false w = omega arith
 
-walk-search : (x : Ticker) (w : World) (q : List ℕ) (s : Sleeping) → weigh walk_of (search_by x w q s).next ≤ 2
-walk-search x w [] s = omega arith
-walk-search Awake w (f ∷ rest) s = omega arith
-walk-search (Asleep n) w (f ∷ rest) s = omega arith
-walk-search Left w (f ∷ rest) s = omega arith
+walk-search : (look : Look) (x : Ticker) (w : World) (q : List ℕ) (s : Sleeping) → weigh walk_of (look_tick_by x w look q s).next ≤ 4
+walk-search (First mark) x w [] s = omega arith
+walk-search (Second mark) x w [] s = omega arith
+walk-search look Awake w (f ∷ rest) s = omega arith
+walk-search look (Asleep n) w (f ∷ rest) s = omega arith
+walk-search look Left w (f ∷ rest) s = omega arith
 
-walk-anew : (b : Bool) (w : World) (s : Sleeping) → weigh walk_of (sleep_anew_by b w s).next ≤ 2
+walk-anew : (b : Bool) (w : World) (s : Sleeping) → weigh walk_of (sleep_anew_by b w s).next ≤ 4
 walk-anew true w s = omega arith
 walk-anew false w s = omega arith
 
-walk-listed : (b : Bool) (w : World) (n : ℕ) (s : Sleeping) → weigh walk_of (sleep_listed_by b w n s).next ≤ 2
+walk-listed : (b : Bool) (w : World) (n : ℕ) (s : Sleeping) → weigh walk_of (sleep_listed_by b w n s).next ≤ 4
 walk-listed true w n s = omega arith
 walk-listed false w n s = omega arith
 
-walk-again : (o : Option ℕ) (w : World) (n : ℕ) (s : Sleeping) → weigh walk_of (sleep_again_by o w n s).next ≤ 2
+walk-again : (o : Option ℕ) (w : World) (n : ℕ) (s : Sleeping) → weigh walk_of (sleep_again_by o w n s).next ≤ 4
 walk-again None w n s = walk-listed _ w n s
 walk-again (Some at) w n s = let old = waker_at (Some at) w.sleepers.wakers in
     omega (arith, weigh-append walk_of (sleeper_goes old) (pend_as s.who), walk-goes_of old)
 
-walk-sleep : (x : Ticker) (w : World) (s : Sleeping) → weigh walk_of (fall_asleep_by x w s).next ≤ 2
+walk-sleep : (x : Ticker) (w : World) (s : Sleeping) → weigh walk_of (fall_asleep_by x w s).next ≤ 4
 walk-sleep Awake w s = walk-anew _ w s
 walk-sleep (Asleep n) w s = walk-again _ w n s
 walk-sleep Left w s = omega arith
 
-walk-up : (x : Ticker) (w : World) (who : TickOrRun) → weigh walk_of (wake_up_by x w who).next ≤ 2
+walk-up : (x : Ticker) (w : World) (who : TickOrRun) → weigh walk_of (wake_up_by x w who).next ≤ 4
 walk-up Awake w who = omega arith
 walk-up (Asleep n) w who = omega (arith, walk-goes_of (waker_of n w.sleepers.wakers))
 walk-up Left w who = omega arith
@@ -93,7 +98,7 @@ walk-tell : (b : Bool) → weigh walk_of (tell_and_return b) ≡ 0
 walk-tell true = refl
 walk-tell false = refl
 
-walk-leave : (x : Ticker) (w : World) (who : TickOrRun) → weigh walk_of (leave_sleepers_by x w who).next ≤ 2
+walk-leave : (x : Ticker) (w : World) (who : TickOrRun) → weigh walk_of (leave_sleepers_by x w who).next ≤ 4
 walk-leave Awake w who = omega arith
 walk-leave (Asleep n) w who =
     let old = waker_of n w.sleepers.wakers in
@@ -107,19 +112,22 @@ walk-leave Left w who = omega arith
 
 -- a search, and a copy of a waker
 
-pays-search : (who : TickOrRun) (w : World) (s : Sleeping) → s.who ≡ who → CanPay w (op.Tick (tick_op.Search s)) →
-    Pays w (op.Tick (tick_op.Search s)) (search_by_who who w s)
-pays-search (tick_or_run.Tick t) w s i c =
-    let x : Ticker = place_of w s.who in
-    let d : Done = search_by x w w.queue.items s in
+pays-search : (who : TickOrRun) (p : ℕ) (w : World) (s : Sleeping) → s.who ≡ who → CanPay w (op.Tick (tick_op.Search s)) →
+    Pays w (op.Tick (tick_op.Search s)) (search_by_who who p w s)
+pays-search (tick_or_run.Tick t) p w s i c =
+    spends (omega (arith, ap steps_of_search i, ap steps_of_copy i, spends-tick_turn p w s)) (omega arith)
+pays-search (tick_or_run.Run r) p w s i c = pays-own _ w s r i c
+
+pays-look : (look : Look) (q : List ℕ) (x : Ticker) (w : World) (s : Sleeping) → (queue_of w (mark_in look)).items ≡ q →
+    Pays w (op.Tick (tick_op.Look s look)) (look_tick_by x w look q s)
+pays-look look q x w s e =
+    let d : Done = look_tick_by x w look q s in
     spends (omega (
       arith,
-      ap steps_of_search i,
-      spends-search x w w.queue.items s t i refl,
-      search-blind (left_by d.world) (blind-left d.world) (λ f. refl) x w w.queue.items s,
+      spends-search look x w q s e,
+      search-blind (left_by d.world) (blind-left d.world) look (λ f. refl) x w q s,
     ))
-    (omega (arith, walk-search x w w.queue.items s))
-pays-search (tick_or_run.Run r) w s i c = pays-own _ w s r i c
+    (omega (arith, walk-search look x w q s))
 
 pays-copy : (b : Bool) (who : TickOrRun) (w : World) (s : Sleeping) → s.who ≡ who → IsKnownWaker w s.waker →
     Pays w (op.Tick (tick_op.CopyWaker s)) (copy_sleeper_by b w s)
@@ -130,19 +138,20 @@ pays-copy false (tick_or_run.Tick t) w s i l =
 pays-copy false (tick_or_run.Run r) w s i l =
     walks (omega (arith, ap steps_of_copy i, ap steps_of_sleeping i, kept-copy_sleeper false w s l)) (omega arith)
 
-pub pays-tick : (h : Hint) (o : TickOp) (w : World) → TickNeeds w o → CanPay w (op.Tick o) →
-    Pays w (op.Tick o) (tick_act h o w)
-pays-tick h tick_op.MakeTick w l c =
-    spends (omega (arith, spends-make h.refused w, unleft-tick h tick_op.MakeTick w refl))
+pub pays-tick : (p : ℕ) (h : Hint) (o : TickOp) (w : World) → TickNeeds w o → CanPay w (op.Tick o) →
+    Pays w (op.Tick o) (tick_act p h o w)
+pays-tick p h tick_op.MakeTick w l c =
+    spends (omega (arith, spends-make h.refused w, unleft-tick p h tick_op.MakeTick w refl))
     (omega (arith, walk-make h.refused w))
-pays-tick h (tick_op.Search s) w l c = pays-search s.who w s refl c
-pays-tick h (tick_op.CopyWaker s) w l c = pays-copy (is_copy_refused h w s.waker) s.who w s refl l
-pays-tick h (tick_op.FallAsleep s) w l c =
-    spends (omega (arith, spends-sleep (place_of w s.who) w s refl, unleft-tick h (tick_op.FallAsleep s) w refl))
+pays-tick p h (tick_op.Search s) w l c = pays-search s.who p w s refl c
+pays-tick p h (tick_op.Look s look) w l c = pays-look look _ (place_of w s.who) w s refl
+pays-tick p h (tick_op.CopyWaker s) w l c = pays-copy (is_copy_refused h w s.waker) s.who w s refl l
+pays-tick p h (tick_op.FallAsleep s) w l c =
+    spends (omega (arith, spends-sleep (place_of w s.who) w s refl, unleft-tick p h (tick_op.FallAsleep s) w refl))
     (omega (arith, walk-sleep (place_of w s.who) w s))
-pays-tick h (tick_op.WakeUp who) w l c =
-    spends (omega (arith, spends-up (place_of w who) w who, unleft-tick h (tick_op.WakeUp who) w refl))
+pays-tick p h (tick_op.WakeUp who) w l c =
+    spends (omega (arith, spends-up (place_of w who) w who, unleft-tick p h (tick_op.WakeUp who) w refl))
     (omega (arith, walk-up (place_of w who) w who))
-pays-tick h (tick_op.Leave who) w l c =
-    spends (omega (arith, spends-leave_sleepers (place_of w who) w who, unleft-tick h (tick_op.Leave who) w refl))
+pays-tick p h (tick_op.Leave who) w l c =
+    spends (omega (arith, spends-leave_sleepers (place_of w who) w who, unleft-tick p h (tick_op.Leave who) w refl))
     (omega (arith, walk-leave (place_of w who) w who))

@@ -1,8 +1,13 @@
 -- For calls_end and lone_calls_end.
 -- What each thing that is done spends of the steps that remain.
 use Rattle.std.proofs.Common.{◌≡◌, ℕ, zero, suc, ◌+◌, ◌*◌, ◌<◌, ◌≤◌, ◌==◌, List, [], ◌∷◌, ◌++◌, length, set, get_or}
+use Rattle.std.proofs.Common.{drop, length-append}
 use Rattle.std.proofs.Common.{Bool, true, false, ◌||◌, ◌&&◌, not, cond, refl, ap, ◌∙◌, arith}
 use Rattle.std.specs.Prelude.{Option, Some, None}
+use Rattle.executor_model.proofs.Steps.QueuesByMark.{with_last, without_first_of}
+use Rattle.executor_model.specs.Queues.{Queues, all_in}
+use Rattle.executor_parts.specs.declared.mark.Mark.TheVariants.{Plain, Urgent}
+use Rattle.executor_parts.specs.declared.mark.Mark.{Mark}
 use Rattle.task_moves.specs.declared.moves.state.State.{State}
 use Rattle.task_moves.specs.declared.moves.owed.Owed.{Owed}
 use Rattle.task_moves.specs.declared.moves.owed.Moved.{Moved}
@@ -11,7 +16,7 @@ use Rattle.task_moves.specs.Moves as moves
 use Rattle.task_moves.specs.Moves.{is_over}
 use Rattle.executor_model.specs.declared.event.Event.{Event}
 use Rattle.executor_model.specs.declared.op.Awaiter.{Awaiter}
-use Rattle.executor_model.specs.World.{World, Done, log, log_if, task, put, put_awaiter}
+use Rattle.executor_model.specs.World.{World, Done, log, log_if, task, put, put_awaiter, queued_in}
 use Rattle.executor_model.specs.World.{awaiter_of, blank, without, among}
 use Rattle.executor_model.specs.Carried.{carried, owed_ops, schedule_ops, drop_ops, future_ops}
 use Rattle.executor_model.specs.Carried.{output_ops, awaiter_ops, next_ops, drops, emptied_ops}
@@ -27,12 +32,45 @@ Spends w c d = steps_kept d.world + (weigh steps_of d.next + 1) ≤ steps_kept w
 
 -- what the machine keeps, one by one
 pub kept-parts : (w : World) →
-    steps_kept w ≡ 11 * length w.queue.items + (28 * (length w.table + length w.leaving) +
+    steps_kept w ≡ 11 * length (queued_in w) + (28 * (length w.table + length w.leaving) +
     (steps_of_leak w.is_static (length w.table + length w.leaving) + (26 * length w.waking +
-    (26 * stored w.awaiters + (steps_of_tasks w.tasks + (3 * notified_of w.sleepers + (3 * ups w.ticks +
+    (26 * stored w.awaiters + (steps_of_tasks w.tasks + (5 * notified_of w.sleepers + (5 * ups w.ticks +
     steps_of_runs w.runs)))))))
 unfolding steps_kept
 kept-parts w = refl
+
+-- in both queues together one more stands, or one less
+pub length-last : (f : ℕ) (m : Mark) (qs : Queues) → length (all_in (with_last m f qs)) ≡ length (all_in qs) + 1
+length-last f Urgent qs = omega (
+  arith,
+  length-append (qs.urgent.items ++ f ∷ []) qs.plain.items,
+  length-append qs.urgent.items (f ∷ []),
+  length-append qs.urgent.items qs.plain.items,
+)
+length-last f Plain qs = omega (
+  arith,
+  length-append qs.urgent.items (qs.plain.items ++ f ∷ []),
+  length-append qs.plain.items (f ∷ []),
+  length-append qs.urgent.items qs.plain.items,
+)
+
+drop-less : (xs : List ℕ) → length (drop 1 xs) ≤ length xs
+drop-less [] = omega arith
+drop-less (x ∷ xs) = omega arith
+
+pub length-less : (m : Mark) (qs : Queues) → length (all_in (without_first_of m qs)) ≤ length (all_in qs)
+length-less Urgent qs = omega (
+  arith,
+  length-append (drop 1 qs.urgent.items) qs.plain.items,
+  length-append qs.urgent.items qs.plain.items,
+  drop-less qs.urgent.items,
+)
+length-less Plain qs = omega (
+  arith,
+  length-append qs.urgent.items (drop 1 qs.plain.items),
+  length-append qs.urgent.items qs.plain.items,
+  drop-less qs.plain.items,
+)
 
 -- with fewer entries a leak takes no more, and with one more it takes so much more
 pub leak-less : (b : Bool) (n m : ℕ) → n ≤ m → steps_of_leak b n ≤ steps_of_leak b m
@@ -255,7 +293,7 @@ costs-release true false s e b f = omega (
   open-left (is_over s) s.scheduled e,
 )
 
-pub costs-take_up : (x : Bool) (s : State) → Costs s 91 (moves.take_up_by x s)
+pub costs-take_up : (x : Bool) (s : State) → Costs s 95 (moves.take_up_by x s)
 costs-take_up true s b f = omega (arith, owed-steps b f (moves.take_up_by true s).owed, drop-steps b f)
 costs-take_up false s b f = omega (arith, taken-left (is_over s) s.scheduled)
 
@@ -280,7 +318,7 @@ costs-end_ready s b f = omega (
   open-keeps true (s.closed || not s.handle),
 )
 
-pub costs-end_pending : (x y z : Bool) (s : State) → Costs s 44 (moves.end_pending_by x y z s)
+pub costs-end_pending : (x y z : Bool) (s : State) → Costs s 46 (moves.end_pending_by x y z s)
 costs-end_pending true y z s b f = omega (arith, owed-steps b f (moves.end_pending_by true y z s).owed, drop-steps b f)
 costs-end_pending false true z s b f = omega arith
 costs-end_pending false false true s b f = omega (

@@ -1,9 +1,18 @@
 -- For calls_end and lone_calls_end.
 -- Each thing that is done spends a step of those that remain.
-use Rattle.std.proofs.Common.{◌≡◌, ℕ, ◌+◌, ◌*◌, ◌<◌, ◌≤◌, List, [], ◌∷◌, ◌++◌, length, drop}
+use Rattle.std.proofs.Common.{◌≡◌, ℕ, ◌+◌, ◌*◌, ◌<◌, ◌≤◌, List, [], ◌∷◌, ◌++◌, length}
 use Rattle.std.proofs.Common.{Bool, true, false, ◌&&◌, ◌||◌, refl, ap, arith}
 use Rattle.std.proofs.lemmas.List.{length_push, length-append}
 use Rattle.std.specs.Prelude.{Option, Some, None}
+use Rattle.executor_laws.proofs.Termination.Spending.{length-last}
+use Rattle.executor_model.proofs.Steps.QueuesByMark.{length-first}
+use Rattle.executor_model.specs.declared.op.Look.{Look}
+use Rattle.executor_model.specs.declared.op.QueueOp.TheVariants as queue_op
+use Rattle.executor_parts.specs.declared.mark.Mark.TheVariants.{Plain, Urgent}
+use Rattle.executor_model.specs.declared.op.Look.TheVariants.{First, Second}
+use Rattle.executor_model.specs.World.{put_queue, queue_of, queued_in}
+use Rattle.executor_model.specs.Acts.{mark_in, take_turn, turned, close}
+use Rattle.executor_parts.specs.declared.mark.Mark.{Mark}
 use Rattle.queue_steps.specs.ClosableQueue.{appended, taken}
 use Rattle.task_moves.specs.declared.moves.state.State.{State}
 use Rattle.task_moves.specs.declared.moves.owed.Moved.{Moved}
@@ -31,7 +40,7 @@ use Rattle.executor_model.specs.Acts.{notify_by, told, end_notify, call_waker, c
 use Rattle.executor_model.specs.Acts.{drop_next_by, followed, wake, wake_next_by, drain_by}
 use Rattle.executor_model.specs.Weights.{weigh}
 use Rattle.executor_model.specs.Good.{CanGrow, CanWake, IsKnownWaker}
-use Rattle.executor_laws.specs.Costs.{steps_of}
+use Rattle.executor_laws.specs.Costs.{steps_of, looks_left, queues_left}
 use Rattle.executor_laws.specs.Remaining.{stored, steps_of_task, steps_of_tasks, steps_of_runs, notified_of, ups}
 use Rattle.executor_laws.specs.Remaining.{steps_kept, steps_of_leak}
 use Rattle.executor_model.proofs.Steps.Lists.{weigh-append}
@@ -43,32 +52,45 @@ use Rattle.executor_model.specs.Acts.{leak_next_by, leak_out_by, leaking_ops}
 
 -- queue and table
 
-pub spends-append : (b : Bool) (w : World) (f : ℕ) → Spends w 43 (append_by b w f)
-spends-append true w f =
-    omega (arith, kept-parts w, kept-parts (record w { queue = appended w.queue f }), length_push w.queue.items f)
-spends-append false w f = omega arith
+pub spends-append : (b : Bool) (w : World) (mark : Mark) (f : ℕ) → Spends w 45 (append_by b w mark f)
+spends-append true w mark f =
+    omega (arith, kept-parts w, kept-parts (put_queue w mark (appended (queue_of w mark) f)), length-last f mark w.queues)
+spends-append false w mark f = omega arith
 
-pub spends-take : (w : World) (q : List ℕ) → w.queue.items ≡ q → Spends w 113 (take_by w q)
-spends-take w [] e = omega arith
-spends-take w (f ∷ rest) e = omega (
+pub looks-some : (look : Look) → 1 ≤ looks_left look
+looks-some (First mark) = omega arith
+looks-some (Second mark) = omega arith
+
+pub spends-take : (look : Look) (w : World) (q : List ℕ) → (queue_of w (mark_in look)).items ≡ q →
+    Spends w (118 + looks_left look) (take_by w look q)
+spends-take (First mark) w [] e = omega arith
+spends-take (Second mark) w [] e = omega arith
+spends-take look w (f ∷ rest) e = omega (
   arith,
   kept-parts w,
-  kept-parts (record w { queue = taken w.queue }),
-  ap length e,
-  ap (λ (xs : List ℕ). length (drop 1 xs)) e,
+  kept-parts (put_queue w (mark_in look) (taken (queue_of w (mark_in look)))),
+  length-first f rest (mark_in look) w.queues e,
+  looks-some look,
 )
+
+-- a turn is an event
+pub kept-turned : (p : ℕ) (w : World) → steps_kept (turned p w) ≡ steps_kept w
+kept-turned p w = omega (arith, kept-parts w, kept-parts (turned p w))
+
+pub spends-turn : (p : ℕ) (w : World) → Spends w 121 (take_turn p w (λ l. op.Queue (queue_op.Take l)))
+spends-turn p w = omega (arith, kept-turned p w)
 
 entered-steps : (b : Bool) → steps_of_task (entered b) ≡ steps_of_task (entered false)
 entered-steps true = refl
 entered-steps false = refl
 
-pub spends-enter : (b c : Bool) (p : ℕ) (w : World) → Spends w 142 (enter_by b c p w)
-spends-enter true c p w = omega arith
-spends-enter false true p w = omega arith
-spends-enter false false p w = omega (
+pub spends-enter : (b c : Bool) (mark : Mark) (p : ℕ) (w : World) → Spends w 146 (enter_by b c mark p w)
+spends-enter true c mark p w = omega arith
+spends-enter false true mark p w = omega arith
+spends-enter false false mark p w = omega (
   arith,
   kept-parts w,
-  kept-parts (enter_by false false p w).world,
+  kept-parts (enter_by false false mark p w).world,
   length_push w.table (length w.tasks),
   leak-more w.is_static (length w.table + length w.leaving) (length (w.table ++ length w.tasks ∷ []) + length w.leaving)
       (omega (arith, length_push w.table (length w.tasks))),
@@ -104,7 +126,7 @@ leak-same : (w v : World) → v.table ≡ w.table → v.leaving ≡ w.leaving �
     ≡ steps_of_leak w.is_static (length w.table + length w.leaving)
 leak-same w v b c j = λ i. steps_of_leak (j i) (length (b i) + length (c i))
 
-pub kept-as : (w v : World) → v.queue.items ≡ w.queue.items → v.table ≡ w.table → v.leaving ≡ w.leaving →
+pub kept-as : (w v : World) → queued_in v ≡ queued_in w → v.table ≡ w.table → v.leaving ≡ w.leaving →
     v.is_static ≡ w.is_static → v.waking ≡ w.waking →
     v.awaiters ≡ w.awaiters → v.tasks ≡ w.tasks → v.sleepers ≡ w.sleepers → v.ticks ≡ w.ticks → v.runs ≡ w.runs →
     steps_kept v ≡ steps_kept w
@@ -278,16 +300,16 @@ spends-call p w o (Outside x) k l = omega (arith, kept-log w (event.WakerCalled 
 
 -- the drop of the executor
 
-closing-steps : (ls ws : List ℕ) → weigh steps_of (closing_ops ls ws) ≤ 4
+closing-steps : (ls ws : List ℕ) → weigh steps_of (closing_ops ls ws) ≤ 6
 closing-steps [] [] = omega arith
 closing-steps [] (x ∷ ws) = omega arith
 closing-steps (x ∷ ls) ws = omega arith
 
-waking-steps : (ws : List ℕ) → weigh steps_of (closing_ops [] ws) ≤ 3
+waking-steps : (ws : List ℕ) → weigh steps_of (closing_ops [] ws) ≤ 5
 waking-steps [] = omega arith
 waking-steps (x ∷ ws) = omega arith
 
-pub spends-take_out : (w : World) → Spends w 5 (take_out w)
+pub spends-take_out : (w : World) → Spends w 7 (take_out w)
 spends-take_out w = omega (
   arith,
   kept-parts w,
@@ -296,7 +318,7 @@ spends-take_out w = omega (
   closing-steps w.table w.waking,
 )
 
-pub spends-drop_next : (p : ℕ) (w : World) (ls : List ℕ) → w.leaving ≡ ls → Spends w 4 (drop_next_by p w ls)
+pub spends-drop_next : (p : ℕ) (w : World) (ls : List ℕ) → w.leaving ≡ ls → Spends w 6 (drop_next_by p w ls)
 spends-drop_next p w [] e = omega arith
 spends-drop_next p w (f ∷ rest) e = omega (
   arith,
@@ -314,7 +336,7 @@ spends-followed w c n d more k l = omega (arith, k, l, weigh-append steps_of d.n
 
 pub spends-wake_next : (p : ℕ) (w : World) (ws : List ℕ) →
     ((f : ℕ) (rest : List ℕ) → w.waking ≡ f ∷ rest → CanGrow w f) →
-    w.waking ≡ ws → Spends w 3 (wake_next_by p w ws)
+    w.waking ≡ ws → Spends w 5 (wake_next_by p w ws)
 spends-wake_next p w [] l e = omega arith
 spends-wake_next p w (f ∷ rest) l e =
     let v : World = record w { waking = rest } in
@@ -323,7 +345,7 @@ spends-wake_next p w (f ∷ rest) l e =
       kept-parts w,
       kept-parts v,
       ap length e,
-      spends-followed v 26 3 (wake p v f) (closing_ops [] rest) (spends-wake p v f (l f rest e).0) (waking-steps rest),
+      spends-followed v 26 5 (wake p v f) (closing_ops [] rest) (spends-wake p v f (l f rest e).0) (waking-steps rest),
     )
 
 -- a leak
@@ -361,12 +383,17 @@ spends-leak_next false p w (f ∷ rest) l e =
       spends-followed v 26 1 (wake p v f) (leaking_ops rest) (spends-wake p v f (l f rest e).0) (leaking-steps rest),
     )
 
-pub spends-drain : (p : ℕ) (w : World) (q : List ℕ) → w.queue.items ≡ q → Spends w 1 (drain_by p w q)
-spends-drain p w [] e = omega (arith, kept-log w (event.DropEnded p))
-spends-drain p w (f ∷ rest) e = omega (
+pub spends-drain : (mark : Mark) (p : ℕ) (w : World) (q : List ℕ) → (queue_of w mark).items ≡ q →
+    Spends w (1 + queues_left mark) (drain_by p w mark q)
+spends-drain Urgent p w [] e = omega arith
+spends-drain Plain p w [] e = omega (arith, kept-log w (event.DropEnded p))
+spends-drain mark p w (f ∷ rest) e = omega (
   arith,
   kept-parts w,
-  kept-parts (record w { queue = taken w.queue }),
-  ap length e,
-  ap (λ (xs : List ℕ). length (drop 1 xs)) e,
+  kept-parts (put_queue w mark (taken (queue_of w mark))),
+  length-first f rest mark w.queues e,
 )
+
+pub spends-close : (mark : Mark) (w : World) → Spends w (3 + queues_left mark) (close w mark)
+spends-close Urgent w = omega (arith, kept-parts w, kept-parts (close w Urgent).world)
+spends-close Plain w = omega (arith, kept-parts w, kept-parts (close w Plain).world)

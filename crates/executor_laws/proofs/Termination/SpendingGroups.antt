@@ -1,6 +1,7 @@
 -- For calls_end and lone_calls_end.
 -- Each thing that is done spends a step of those that remain, by groups; those of ticks and runs apart.
 use Rattle.std.proofs.Common.{◌≡◌, ℕ, ◌<◌, [], ◌∷◌, length, true, false, refl, arith}
+use Rattle.executor_laws.proofs.Termination.SpendingActs.{spends-turn, spends-close}
 use Rattle.task_moves.specs.Moves as moves
 use Rattle.task_moves.specs.Moves.{is_over}
 use Rattle.executor_model.specs.declared.event.Answer.TheVariants as answer
@@ -51,7 +52,7 @@ spends-move move.WakeByReference p w f l k =
 spends-move move.Wake p w f l k = spends-wake p w f l
 spends-move move.Release p w f l k =
     spends-logged _ w (event.LastWaker p f) f 13 (moves.release (task w f)) l (costs-release _ _ (task w f) refl)
-spends-move move.TakeUp p w f l k = spends-logged _ w (event.PollBegun p f) f 91 (moves.take_up (task w f)) l
+spends-move move.TakeUp p w f l k = spends-logged _ w (event.PollBegun p f) f 95 (moves.take_up (task w f)) l
     (costs-take_up _ (task w f))
 spends-move move.SettleClosed p w f l k =
     spends-carried w w f 4 (moves.settle_closed (task w f)) l refl refl (costs-settle_closed (task w f) k)
@@ -60,7 +61,7 @@ spends-move move.GiveUp p w f l k =
 spends-move move.EndReady p w f l k =
     spends-carried w w f 9 (moves.end_ready (task w f)) l refl refl (costs-end_ready (task w f))
 spends-move move.EndPending p w f l k =
-    spends-logged _ w (event.LastWaker p f) f 44 (moves.end_pending (task w f)) l (costs-end_pending _ _ _ (task w f))
+    spends-logged _ w (event.LastWaker p f) f 46 (moves.end_pending (task w f)) l (costs-end_pending _ _ _ (task w f))
 spends-move move.EndClosed p w f l k =
     spends-carried w w f 4 (moves.end_closed (task w f)) l refl refl (costs-end_closed (task w f) k)
 spends-move move.DropRunnable p w f l k =
@@ -76,15 +77,16 @@ pub spends-act : (p : ℕ) (h : Hint) (o : Op) (w : World) → waits o ≡ false
     Settles w o →
     Spends w (steps_of o) (act p h o w)
 spends-act p h (op.Move m f) w n r l k = spends-move m p w f l.0.0 k
-spends-act p h (op.Table table_op.Enter) w n r l k = spends-enter _ _ p w
-spends-act p h (op.Queue queue_op.Take) w n r l k = spends-take w _ refl
-spends-act p h (op.Queue (queue_op.Append f)) w n r l k = spends-append _ w f
+spends-act p h (op.Table (table_op.Enter mark)) w n r l k = spends-enter _ _ _ p w
+spends-act p h (op.Queue queue_op.TakeTurn) w n r l k = spends-turn p w
+spends-act p h (op.Queue (queue_op.Take look)) w n r l k = spends-take look w _ refl
+spends-act p h (op.Queue (queue_op.Append f)) w n r l k = spends-append _ w _ f
 spends-act p h (op.Table (table_op.TakeToPoll f)) w n r l k =
-    spends-as w _ 47 (op.User (user_op.Poll f) ∷ []) (kept-as w _ refl refl refl refl refl refl refl refl refl refl)
+    spends-as w _ 49 (op.User (user_op.Poll f) ∷ []) (kept-as w _ refl refl refl refl refl refl refl refl refl refl)
     (omega arith)
 spends-act p h (op.User (user_op.Poll f)) w n r l k = absurd (cc)
 spends-act p h (op.Table (table_op.PutBack f)) w n r l k =
-    spends-as w _ 45 (op.Move move.EndPending f ∷ []) (kept-as w _ refl refl refl refl refl refl refl refl refl refl)
+    spends-as w _ 47 (op.Move move.EndPending f ∷ []) (kept-as w _ refl refl refl refl refl refl refl refl refl refl)
     (omega arith)
 spends-act p h (op.Table (table_op.TakeToDrop f)) w n r l k =
     spends-as w _ 5 (take_to_drop w f).next (kept-as w _ refl refl refl refl refl refl refl refl refl refl) (omega arith)
@@ -114,10 +116,8 @@ spends-act p h (op.User (user_op.DropOwn x)) w n r l k = absurd (cc)
 spends-act p h (op.Closing closing_op.TakeOut) w n r l k = spends-take_out w
 spends-act p h (op.Closing closing_op.DropNext) w n r l k = spends-drop_next p w _ refl
 spends-act p h (op.Closing closing_op.WakeNext) w n r l k = spends-wake_next p w _ l refl
-spends-act p h (op.Closing closing_op.Close) w n r l k =
-    spends-as w _ 2 (op.Closing closing_op.Drain ∷ []) (kept-as w _ refl refl refl refl refl refl refl refl refl refl)
-    (omega arith)
-spends-act p h (op.Closing closing_op.Drain) w n r l k = spends-drain p w _ refl
+spends-act p h (op.Closing (closing_op.Close mark)) w n r l k = spends-close mark w
+spends-act p h (op.Closing (closing_op.Drain mark)) w n r l k = spends-drain mark p w _ refl
 spends-act p h (op.Closing closing_op.LeakOut) w n r l k = spends-leak_out w.is_static w.gone w refl
 spends-act p h (op.Closing closing_op.LeakNext) w n r l k = spends-leak_next _ p w _ l refl
 spends-act p h (op.End a held) w n r l k = omega (arith, kept-log w (event.CallEnded p a))

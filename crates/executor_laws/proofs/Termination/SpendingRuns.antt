@@ -1,8 +1,15 @@
 -- For calls_end and lone_calls_end.
 -- What a run does spends a step of those that remain, or one of its walk.
 use Rattle.std.proofs.Common.{◌≡◌, ℕ, zero, suc, ◌+◌, ◌-◌, ◌*◌, ◌<◌, ◌≤◌, ◌/◌, ◌%◌, List, [], ◌∷◌, ◌++◌, length, set}
-use Rattle.std.proofs.Common.{get_or, get_or-set_same, drop, Bool, true, false, ltb, eqb, cond, refl, ap, ◌∙◌, arith}
+use Rattle.std.proofs.Common.{get_or, get_or-set_same, Bool, true, false, ltb, eqb, cond, refl, ap, ◌∙◌, arith}
 use Rattle.std.proofs.lemmas.Bool.Decides.{nat_tests}
+use Rattle.executor_laws.proofs.Termination.SpendingActs.{kept-turned}
+use Rattle.executor_laws.proofs.Termination.Spending.{length-less}
+use Rattle.executor_model.proofs.Steps.QueuesByMark.{length-first}
+use Rattle.executor_model.specs.declared.op.Look.{Look}
+use Rattle.executor_model.specs.declared.op.Look.TheVariants.{First, Second}
+use Rattle.executor_model.specs.World.{put_queue, queue_of}
+use Rattle.executor_model.specs.Acts.{mark_in}
 use Rattle.queue_steps.specs.ClosableQueue.{taken}
 use Rattle.task_moves.specs.Moves as moves
 use Rattle.executor_model.specs.declared.call.Reply.{Reply}
@@ -53,11 +60,11 @@ use Rattle.executor_laws.proofs.Termination.SpendingTicks.{notified-back, wakes_
 
 -- what is left after it and one step came out of what was left; or as much is left, and a step less of the walk
 pub data Pays (w : World) (o : Op) (d : Done) : Type 0 where
-  spends : steps_kept d.world + (weigh steps_of d.next + 45 * weigh (left_by d.world) d.next) + 1
-      ≤ steps_kept w + (steps_of o + 45 * left_by w o) →
+  spends : steps_kept d.world + (weigh steps_of d.next + 46 * weigh (left_by d.world) d.next) + 1
+      ≤ steps_kept w + (steps_of o + 46 * left_by w o) →
       weigh walk_of d.next ≤ 1030 * length w.listed + 1026 → Pays w o d
-  walks : steps_kept d.world + (weigh steps_of d.next + 45 * weigh (left_by d.world) d.next)
-      ≤ steps_kept w + (steps_of o + 45 * left_by w o) →
+  walks : steps_kept d.world + (weigh steps_of d.next + 46 * weigh (left_by d.world) d.next)
+      ≤ steps_kept w + (steps_of o + 46 * left_by w o) →
       weigh walk_of d.next + 1 ≤ walk_of o → Pays w o d
 
 -- no run has taken 200 without letting others go first
@@ -105,7 +112,7 @@ kept-put_own w r q = omega (arith, kept-parts w, kept-parts (put_own w r q))
 
 kept-run_by : (b : Bool) (w : World) (x : RunPoll) (f : ℕ) → x.run < length w.runs → (run_of w x.run).taken < 200 →
     eqb ((run_of w x.run).taken + 1) 200 ≡ b →
-    steps_kept (runs.run_by b w x f).world + weigh steps_of (runs.run_by b w x f).next ≤ steps_kept w + 30050
+    steps_kept (runs.run_by b w x f).world + weigh steps_of (runs.run_by b w x f).next ≤ steps_kept w + 32040
 kept-run_by true w x f l k e =
     let last : (run_of w x.run).taken + 1 ≡ 200 = grind (arith, nat_tests) in
     omega (arith, last, kept-run w x.run (record (run_of w x.run) { taken = 0 }) l)
@@ -126,7 +133,7 @@ count-set (y ∷ rs) zero x = refl
 count-set (y ∷ rs) (suc r) x = omega (arith, count-set rs r x)
 
 kept-counted : (b : Bool) (w : World) (x : RunPoll) (f : ℕ) → x.run < length w.runs → (run_of w x.run).taken < 200 →
-    steps_kept (runs.counted_by b w x f).world + weigh steps_of (runs.counted_by b w x f).next ≤ steps_kept w + 30051
+    steps_kept (runs.counted_by b w x f).world + weigh steps_of (runs.counted_by b w x f).next ≤ steps_kept w + 32042
 kept-counted true w x f l k = omega (arith, kept-run_as w x.run (record (run_of w x.run) { counted = 0 }) refl)
 kept-counted false w x f l k =
     let y : Run = record (run_of w x.run) { counted = (run_of w x.run).counted + 1 } in
@@ -139,7 +146,7 @@ kept-counted false w x f l k =
     )
 
 kept-found : (w : World) (x : RunPoll) (f : ℕ) → x.run < length w.runs → (run_of w x.run).taken < 200 →
-    steps_kept (runs.found w x f).world + weigh steps_of (runs.found w x f).next ≤ steps_kept w + 30099
+    steps_kept (runs.found w x f).world + weigh steps_of (runs.found w x f).next ≤ steps_kept w + 32094
 kept-found w x f l k =
     let tells : List Op = op.Sleeper sleeper_op.ExchangeFlag ∷ [] in
     let first : List Op = found_by (run_of w x.run).place (tick_or_run.Run x.run) tells in
@@ -151,7 +158,7 @@ kept-found w x f l k =
       kept-counted b w x f l k,
     )
 
-walk-run_by : (b : Bool) (w : World) (x : RunPoll) (f : ℕ) → weigh walk_of (runs.run_by b w x f).next ≤ 2
+walk-run_by : (b : Bool) (w : World) (x : RunPoll) (f : ℕ) → weigh walk_of (runs.run_by b w x f).next ≤ 4
 walk-run_by true w x f = omega arith
 walk-run_by false w x f = omega arith
 
@@ -188,6 +195,7 @@ left-found v x = record {
   search = refl;
   wake = refl;
   steal = λ f. refl;
+  steal_plain = λ f. refl;
   look = λ at left. refl;
 }
 
@@ -202,6 +210,7 @@ pays-stolen o (then.Found f) w v x l k i e n =
     let d : Done = runs.found v x f in
     spends (omega (arith, i, e, kept-found v x f l k, left-stolen d.world (then.Found f) v x))
     (omega (arith, walk-found v x f))
+pays-stolen o (then.StealPlain f) w v x l k i e n = spends (omega (arith, i, e)) (omega arith)
 pays-stolen o (then.Run f) w v x l k i e n =
     let b : Bool = eqb ((run_of v x.run).taken + 1) 200 in
     let d : Done = runs.run_by b v x f in
@@ -247,13 +256,13 @@ pays-take from [] w s more i e c =
     (c.born s.poll.run (grind (arith, same_is))) (c.few s.poll.run) (omega arith) refl (omega arith)
 pays-take from (f ∷ rest) w s more i e c = walks (omega (arith, by s.from)) (omega arith)
   where
-    fewer : (xs : List ℕ) → length (drop 1 xs) ≤ length xs
-    fewer [] = omega arith
-    fewer (y ∷ ys) = omega arith
-
     by : (a : Source) → steps_kept (runs.without_first w a rest) ≤ steps_kept w
-    by Common =
-        omega (arith, kept-parts w, kept-parts (record w { queue = taken w.queue }), fewer w.queue.items)
+    by (Common mark) = omega (
+      arith,
+      kept-parts w,
+      kept-parts (put_queue w mark (taken (queue_of w mark))),
+      length-less mark w.queues,
+    )
     by (Own r) = omega (arith, kept-put_own w r rest)
 
 kept-kept : (p : ℕ) (w : World) (r f : ℕ) → steps_kept (runs.kept_by p w r f) ≡ steps_kept w
@@ -299,8 +308,8 @@ pays-own (f ∷ rest) w s r i c =
     ))
     (omega (arith, walk-found v x f))
 
-steps-walk : (x : RunPoll) (qs : List ℕ) (at left : ℕ) → weigh steps_of (runs.walk x qs at left) ≤ 30101
-steps-walk x = walk-by (λ os. weigh steps_of os ≤ 30101) x (omega arith) (λ r at left. omega arith)
+steps-walk : (x : RunPoll) (qs : List ℕ) (at left : ℕ) → weigh steps_of (runs.walk x qs at left) ≤ 32104
+steps-walk x = walk-by (λ os. weigh steps_of os ≤ 32104) x (omega arith) (λ r at left. omega arith)
 
 left-walk : (v : World) (x : RunPoll) (qs : List ℕ) (at left : ℕ) → weigh (left_by v) (runs.walk x qs at left) ≡ 0
 left-walk v x = walk-by (λ os. weigh (left_by v) os ≡ 0) x refl (λ r at left. refl)
@@ -337,16 +346,16 @@ pays-look (f ∷ rest) w x at left c =
     ))
     (omega (arith, walk-found v x f))
 
-pays-common : (q : List ℕ) (w : World) (x : RunPoll) → w.queue.items ≡ q →
-    Pays w (op.Run (run_op.SearchCommon x)) (runs.search_common_by q w x)
-pays-common [] w x e = walks (omega arith) (omega arith)
-pays-common (f ∷ rest) w x e =
+pays-common : (look : Look) (q : List ℕ) (w : World) (x : RunPoll) → (queue_of w (mark_in look)).items ≡ q →
+    Pays w (op.Run (run_op.SearchCommon x look)) (runs.search_common_by q w x look)
+pays-common (First mark) [] w x e = walks (omega arith) (omega arith)
+pays-common (Second mark) [] w x e = walks (omega arith) (omega arith)
+pays-common look (f ∷ rest) w x e =
     spends (omega (
       arith,
       kept-parts w,
-      kept-parts (record w { queue = taken w.queue }),
-      ap length e,
-      ap (λ (xs : List ℕ). length (drop 1 xs)) e,
+      kept-parts (put_queue w (mark_in look) (taken (queue_of w (mark_in look)))),
+      length-first f rest (mark_in look) w.queues e,
     ))
     (omega arith)
 
@@ -412,7 +421,8 @@ pub pays-run : (p : ℕ) (h : Hint) (o : RunOp) (w : World) → RunNeeds w o →
     Pays w (op.Run o) (run_act p h o w)
 pays-run p h run_op.MakeRoom w n c = pays-room _ w
 pays-run p h run_op.ReturnRoom w n c = pays-return w
-pays-run p h (run_op.SearchCommon x) w n c = pays-common _ w x refl
+pays-run p h (run_op.TakeTurn x) w n c = walks (omega (arith, kept-turned p w)) (omega arith)
+pays-run p h (run_op.SearchCommon x look) w n c = pays-common look _ w x refl
 pays-run p h (run_op.LookOwn x at left) w n c = pays-look _ w x at left c
 pays-run p h (run_op.WakeOwn x) w n c = pays-wake p w x n
 pays-run p h (run_op.Reschedule r a) w n c = pays-reschedule _ w r a refl

@@ -2,11 +2,18 @@
 -- What tells a sleeper, and what ticks and runs both do, spends a step of those that remain, but for a run's copy of
 -- its waker and its search.
 use Rattle.std.proofs.Common.{◌≡◌, ℕ, zero, suc, ◌+◌, ◌-◌, ◌*◌, ◌<◌, ◌≤◌, List, [], ◌∷◌, ◌++◌, length, set, get_or}
-use Rattle.std.proofs.Common.{take, drop, Bool, true, false, ltb, refl, ap, subst, arith}
+use Rattle.std.proofs.Common.{take, Bool, true, false, ltb, refl, ap, subst, arith}
 use Rattle.std.proofs.lemmas.Bool.Decides.{nat_tests}
 use Rattle.std.proofs.lemmas.List.{length_push}
 use Rattle.std.proofs.lemmas.List.Edits.{length-remove}
 use Rattle.std.specs.Prelude.{Option, Some, None, is_none, remove}
+use Rattle.executor_laws.proofs.Termination.SpendingActs.{looks-some, kept-turned}
+use Rattle.executor_model.proofs.Steps.QueuesByMark.{length-first}
+use Rattle.executor_model.specs.ActsOfSleepers.{search_tick}
+use Rattle.executor_model.specs.declared.op.Look.{Look}
+use Rattle.executor_model.specs.declared.op.Look.TheVariants.{First, Second}
+use Rattle.executor_model.specs.World.{put_queue, queue_of, queued_in}
+use Rattle.executor_model.specs.Acts.{mark_in}
 use Rattle.executor_parts.specs.Sleepers.{Sleepers, position_of, without_last, waker_at, waker_of, next_number}
 use Rattle.executor_parts.specs.Sleepers.{put_to_sleep, listed, without_entry, freed, woken_up}
 use Rattle.queue_steps.specs.ClosableQueue.{taken}
@@ -21,7 +28,7 @@ use Rattle.executor_model.specs.declared.op.SleeperOp.{SleeperOp}
 use Rattle.executor_model.specs.declared.op.SleeperOp.TheVariants as sleeper_op
 use Rattle.executor_model.specs.World.{World, Ticker, Awake, Asleep, Left, Run, no_run, place_of, ticks_with, runs_with}
 use Rattle.executor_model.specs.ActsOfSleepers.{exchange_by, call_of, hand_out_by, make_tick_by, found_by, held_as}
-use Rattle.executor_model.specs.ActsOfSleepers.{polled_as, search_by, copy_sleeper_by, pend_as, sleep_anew_by, sleeper_goes}
+use Rattle.executor_model.specs.ActsOfSleepers.{polled_as, look_tick_by, copy_sleeper_by, pend_as, sleep_anew_by, sleeper_goes}
 use Rattle.executor_model.specs.ActsOfSleepers.{sleep_listed_by, sleep_again_by, fall_asleep_by, wake_up_by, given_back, tell_and_return}
 use Rattle.executor_model.specs.ActsOfSleepers.{leave_sleepers_by}
 use Rattle.executor_model.specs.Doing.{sleeper_act}
@@ -29,7 +36,7 @@ use Rattle.executor_model.specs.Good.{IsKnownWaker, SleeperNeeds}
 use Rattle.executor_model.specs.Weights.{weigh}
 use Rattle.executor_model.proofs.Steps.Lists.{weigh-append}
 use Rattle.executor_model.proofs.Steps.SleepersLists.{position-within}
-use Rattle.executor_laws.specs.Costs.{steps_of, steps_of_copy, steps_of_sleeping, steps_of_search}
+use Rattle.executor_laws.specs.Costs.{steps_of, steps_of_copy, steps_of_sleeping, steps_of_search, looks_left}
 use Rattle.executor_laws.specs.Remaining.{notified_of, up_of, ups, steps_kept, steps_of_runs}
 use Rattle.executor_laws.proofs.Termination.Spending.{Spends, kept-parts}
 use Rattle.executor_laws.proofs.Termination.SpendingActs.{kept-as, spends-as, kept-copied, goes-steps, spends-call}
@@ -108,27 +115,27 @@ ups-push [] x = omega arith
 ups-push (y ∷ ts) x = omega (arith, ups-push ts x)
 
 places-set : (rs : List Run) (r : ℕ) (x : Ticker) →
-    steps_of_runs (set rs r (record (get_or rs r no_run) { place = x })) + 3 * up_of (get_or rs r no_run).place
-    ≤ steps_of_runs rs + 3 * up_of x
+    steps_of_runs (set rs r (record (get_or rs r no_run) { place = x })) + 5 * up_of (get_or rs r no_run).place
+    ≤ steps_of_runs rs + 5 * up_of x
 places-set [] r x = omega arith
 places-set (y ∷ rs) zero x = omega arith
 places-set (y ∷ rs) (suc r) x = omega (arith, places-set rs r x)
 
 -- the steps of ticks and runs
 abbrev pub steps_of_places : World → ℕ
-steps_of_places w = 3 * ups w.ticks + steps_of_runs w.runs
+steps_of_places w = 5 * ups w.ticks + steps_of_runs w.runs
 
 placed : (w : World) (who : TickOrRun) (x : Ticker) →
-    3 * ups (ticks_with w.ticks who x) + steps_of_runs (runs_with w.runs who x) + 3 * up_of (place_of w who)
-    ≤ steps_of_places w + 3 * up_of x
+    5 * ups (ticks_with w.ticks who x) + steps_of_runs (runs_with w.runs who x) + 5 * up_of (place_of w who)
+    ≤ steps_of_places w + 5 * up_of x
 placed w (tick_or_run.Tick t) x = omega (arith, ups-set w.ticks t x)
 placed w (tick_or_run.Run r) x = omega (arith, places-set w.runs r x)
 
 -- the world has changed in nothing that is kept but sleepers, ticks and runs
-pub kept-of : (w v : World) (n m : ℕ) → v.queue.items ≡ w.queue.items → v.table ≡ w.table → v.leaving ≡ w.leaving →
+pub kept-of : (w v : World) (n m : ℕ) → queued_in v ≡ queued_in w → v.table ≡ w.table → v.leaving ≡ w.leaving →
     v.is_static ≡ w.is_static → v.waking ≡ w.waking →
     v.awaiters ≡ w.awaiters → v.tasks ≡ w.tasks → notified_of v.sleepers ≤ n → steps_of_places v ≤ m →
-    steps_kept v + (3 * notified_of w.sleepers + steps_of_places w) ≤ steps_kept w + (3 * n + m)
+    steps_kept v + (5 * notified_of w.sleepers + steps_of_places w) ≤ steps_kept w + (5 * n + m)
 kept-of w v n m a b c j d e f g h =
     let u : World = record v { sleepers = w.sleepers; ticks = w.ticks; runs = w.runs } in
     let same : steps_kept u ≡ steps_kept w = kept-as w u a b c j d e f refl refl refl in
@@ -136,17 +143,17 @@ kept-of w v n m a b c j d e f g h =
 
 -- telling a sleeper
 
-spends-exchange : (b : Bool) (w : World) → Spends w 31 (exchange_by b w)
+spends-exchange : (b : Bool) (w : World) → Spends w 33 (exchange_by b w)
 spends-exchange true w = omega arith
 spends-exchange false w =
-    spends-as w _ 31 (op.Sleeper sleeper_op.HandOut ∷ []) (kept-as w _ refl refl refl refl refl refl refl refl refl refl)
+    spends-as w _ 33 (op.Sleeper sleeper_op.HandOut ∷ []) (kept-as w _ refl refl refl refl refl refl refl refl refl refl)
     (omega arith)
 
 call-steps : (o : Option Sleeping) → weigh steps_of (call_of o) ≤ 26
 call-steps None = omega arith
 call-steps (Some s) = omega arith
 
-spends-hand_out : (b : Bool) (o : Option Sleeping) (w : World) → Spends w 30 (hand_out_by b o w)
+spends-hand_out : (b : Bool) (o : Option Sleeping) (w : World) → Spends w 32 (hand_out_by b o w)
 spends-hand_out true o w = omega (
   arith,
   call-steps o,
@@ -167,35 +174,44 @@ goes-steps_of : (o : Option Sleeping) → weigh steps_of (sleeper_goes o) ≤ 13
 goes-steps_of None = omega arith
 goes-steps_of (Some s) = goes-steps s.waker
 
-pub spends-make : (b : Bool) (w : World) → Spends w 5 (make_tick_by b w)
+pub spends-make : (b : Bool) (w : World) → Spends w 7 (make_tick_by b w)
 spends-make true w = omega arith
 spends-make false w = omega (
   arith,
-  kept-of w (make_tick_by false w).world (notified_of w.sleepers) (steps_of_places w + 3) refl refl refl refl refl refl refl
+  kept-of w (make_tick_by false w).world (notified_of w.sleepers) (steps_of_places w + 5) refl refl refl refl refl refl refl
       (omega arith) (omega (arith, ups-push w.ticks Awake)),
 )
 
 pub wakes_up-steps : (x : Ticker) (who : TickOrRun) (more : List Op) →
-    weigh steps_of (found_by x who more) ≤ 17 + weigh steps_of more
+    weigh steps_of (found_by x who more) ≤ 19 + weigh steps_of more
 wakes_up-steps Awake who more = omega arith
 wakes_up-steps (Asleep n) who more = omega arith
 wakes_up-steps Left who more = omega arith
 
-pub spends-search : (x : Ticker) (w : World) (q : List ℕ) (s : Sleeping) (t : ℕ) → s.who ≡ tick_or_run.Tick t →
-    w.queue.items ≡ q → Spends w 141 (search_by x w q s)
-spends-search x w [] s t i e = omega (arith, ap steps_of_copy i)
-spends-search x w (f ∷ rest) s t i e = omega (
+copy-steps : (who : TickOrRun) → 140 ≤ steps_of_copy who
+copy-steps (tick_or_run.Tick t) = omega arith
+copy-steps (tick_or_run.Run r) = omega arith
+
+pub spends-search : (look : Look) (x : Ticker) (w : World) (q : List ℕ) (s : Sleeping) → (queue_of w (mark_in look)).items ≡ q →
+    Spends w (steps_of_copy s.who + looks_left look) (look_tick_by x w look q s)
+spends-search (First mark) x w [] s e = omega arith
+spends-search (Second mark) x w [] s e = omega arith
+spends-search look x w (f ∷ rest) s e = omega (
   arith,
   wakes_up-steps x s.who
       (op.Sleeper sleeper_op.ExchangeFlag ∷ op.Move move.TakeUp f ∷ op.End reply.Ready (held_as s.who) ∷ []),
   kept-parts w,
-  kept-parts (record w { queue = taken w.queue }),
-  ap length e,
-  ap (λ (xs : List ℕ). length (drop 1 xs)) e,
+  kept-parts (put_queue w (mark_in look) (taken (queue_of w (mark_in look)))),
+  length-first f rest (mark_in look) w.queues e,
+  looks-some look,
+  copy-steps s.who,
 )
 
+pub spends-tick_turn : (p : ℕ) (w : World) (s : Sleeping) → Spends w (steps_of_copy s.who + 3) (search_tick p w s)
+spends-tick_turn p w s = omega (arith, kept-turned p w)
+
 -- the copy of a waker comes in hand, and the steps of falling asleep are left
-pub slumbering-steps : (who : TickOrRun) → (139 ≤ steps_of_sleeping who) × (steps_of_search who + 1 ≤ steps_of_sleeping who + 3)
+pub slumbering-steps : (who : TickOrRun) → (139 ≤ steps_of_sleeping who) × (steps_of_search who + 1 ≤ steps_of_sleeping who + 5)
 slumbering-steps (tick_or_run.Tick t) = (omega arith, omega arith)
 slumbering-steps (tick_or_run.Run r) = (omega arith, omega arith)
 
@@ -211,7 +227,7 @@ spends-anew true w s e =
     let x : Ticker = Asleep (next_number w.sleepers) in
     omega (
       arith,
-      kept-of w (sleep_anew_by true w s).world (notified_of w.sleepers) (steps_of_places w - 3) refl refl refl refl refl refl
+      kept-of w (sleep_anew_by true w s).world (notified_of w.sleepers) (steps_of_places w - 5) refl refl refl refl refl refl
           refl
           (omega (arith, notified-fell_asleep s w.sleepers))
           (omega (arith, placed w s.who x, ap up_of e)),
@@ -259,20 +275,20 @@ spends-sleep Awake w s e = spends-anew _ w s e
 spends-sleep (Asleep n) w s e = spends-sleep_again _ w n s
 spends-sleep Left w s e = omega (arith, (slumbering-steps s.who).0)
 
-pub spends-up : (x : Ticker) (w : World) (who : TickOrRun) → Spends w 17 (wake_up_by x w who)
+pub spends-up : (x : Ticker) (w : World) (who : TickOrRun) → Spends w 19 (wake_up_by x w who)
 spends-up Awake w who = omega arith
 spends-up (Asleep n) w who =
     let old = waker_of n w.sleepers.wakers in
     omega (
       arith,
       goes-steps_of old,
-      kept-of w (wake_up_by (Asleep n) w who).world (notified_of w.sleepers) (steps_of_places w + 3) refl refl refl refl refl
+      kept-of w (wake_up_by (Asleep n) w who).world (notified_of w.sleepers) (steps_of_places w + 5) refl refl refl refl refl
           refl refl
           (notified-woken_up n w.sleepers) (omega (arith, placed w who Awake)),
     )
 spends-up Left w who = omega arith
 
-left-steps : (o : Option Sleeping) → weigh steps_of (sleeper_goes o ++ tell_and_return (is_none o)) ≤ 32
+left-steps : (o : Option Sleeping) → weigh steps_of (sleeper_goes o ++ tell_and_return (is_none o)) ≤ 34
 left-steps None = omega arith
 left-steps (Some s) = omega (arith, weigh-append steps_of (sleeper_goes (Some s)) (tell_and_return false), goes-steps s.waker)
 

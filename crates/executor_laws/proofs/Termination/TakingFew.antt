@@ -4,6 +4,10 @@ use Rattle.std.proofs.Common.{◌≡◌, ℕ, zero, suc, ◌+◌, ◌<◌, List,
 use Rattle.std.proofs.Common.{Bool, true, false, eqb, refl, ap, sym, arith}
 use Rattle.std.proofs.lemmas.Bool.Decides.{nat_tests}
 use Rattle.std.specs.Prelude.{Option, Some, None, reverse}
+use Rattle.executor_model.specs.declared.op.Look.{Look}
+use Rattle.executor_parts.specs.declared.mark.Mark.TheVariants.{Plain, Urgent}
+use Rattle.executor_parts.specs.declared.mark.Mark.{Mark}
+use Rattle.executor_model.specs.declared.op.Look.TheVariants.{First, Second}
 use Rattle.executor_parts.specs.Sleepers.{next_number}
 use Rattle.task_moves.specs.declared.moves.owed.Move.TheVariants as move
 use Rattle.executor_model.specs.declared.call.Call.{Call}
@@ -62,13 +66,14 @@ RunsStay w v = v.runs ≡ w.runs
 
 -- what speaks of no run leaves the runs as they are
 
-runs-take : (q : List ℕ) (w : World) → RunsStay w (acts.take_by w q).world
-runs-take [] w = refl
-runs-take (f ∷ rest) w = refl
+runs-take : (look : Look) (q : List ℕ) (w : World) → RunsStay w (acts.take_by w look q).world
+runs-take (First mark) [] w = refl
+runs-take (Second mark) [] w = refl
+runs-take look (f ∷ rest) w = refl
 
-runs-append : (b : Bool) (w : World) (f : ℕ) → RunsStay w (acts.append_by b w f).world
-runs-append true w f = refl
-runs-append false w f = refl
+runs-append : (b : Bool) (w : World) (mark : Mark) (f : ℕ) → RunsStay w (acts.append_by b w mark f).world
+runs-append true w mark f = refl
+runs-append false w mark f = refl
 
 runs-exchange : (b : Bool) (w : World) → RunsStay w (of_sleepers.exchange_by b w).world
 runs-exchange true w = refl
@@ -78,13 +83,15 @@ runs-hand_out : (b : Bool) (o : Option Sleeping) (w : World) → RunsStay w (of_
 runs-hand_out true o w = refl
 runs-hand_out false o w = refl
 
-runs-drain : (p : ℕ) (w : World) (q : List ℕ) → RunsStay w (acts.drain_by p w q).world
-runs-drain p w [] = refl
-runs-drain p w (f ∷ rest) = refl
+runs-drain : (mark : Mark) (p : ℕ) (w : World) (q : List ℕ) → RunsStay w (acts.drain_by p w mark q).world
+runs-drain Urgent p w [] = refl
+runs-drain Plain p w [] = refl
+runs-drain mark p w (f ∷ rest) = refl
 
 pub runs-act : (p : ℕ) (h : Hint) (o : Op) (w : World) → is_run o ≡ false → RunsStay w (act p h o w).world
-runs-act p h (op.Queue queue_op.Take) w n = runs-take _ w
-runs-act p h (op.Queue (queue_op.Append f)) w n = runs-append _ w f
+runs-act p h (op.Queue queue_op.TakeTurn) w n = refl
+runs-act p h (op.Queue (queue_op.Take look)) w n = runs-take look _ w
+runs-act p h (op.Queue (queue_op.Append f)) w n = runs-append _ w _ f
 runs-act p h (op.Sleeper sleeper_op.ExchangeFlag) w n = runs-exchange _ w
 runs-act p h (op.Sleeper sleeper_op.HandOut) w n = runs-hand_out _ _ w
 runs-act p h (op.User (user_op.PollOwn x)) w n = absurd (cc)
@@ -92,8 +99,8 @@ runs-act p h (op.Tick o) w n = absurd (cc)
 runs-act p h (op.List o) w n = absurd (cc)
 runs-act p h (op.Steal o) w n = absurd (cc)
 runs-act p h (op.Run o) w n = absurd (cc)
-runs-act p h (op.Closing closing_op.Close) w n = refl
-runs-act p h (op.Closing closing_op.Drain) w n = runs-drain p w _
+runs-act p h (op.Closing (closing_op.Close mark)) w n = refl
+runs-act p h (op.Closing (closing_op.Drain mark)) w n = runs-drain mark p w _
 runs-act p h o w n = ap (λ (r : Rest). r.runs) (sym (frame-act p h o w refl).rest)
 
 -- so few were taken still
@@ -136,9 +143,10 @@ pauses-make : (b : Bool) (w : World) → Pauses w (of_sleepers.make_tick_by b w)
 pauses-make true w k = k
 pauses-make false w k = k
 
-pauses-search : (x : Ticker) (w : World) (q : List ℕ) (s : Sleeping) → Pauses w (of_sleepers.search_by x w q s).world
-pauses-search x w [] s k = k
-pauses-search x w (f ∷ rest) s k = k
+pauses-search : (look : Look) (x : Ticker) (w : World) (q : List ℕ) (s : Sleeping) → Pauses w (of_sleepers.look_tick_by x w look q s).world
+pauses-search (First mark) x w [] s k = k
+pauses-search (Second mark) x w [] s k = k
+pauses-search look x w (f ∷ rest) s k = k
 
 pauses-copied : (w : World) (a : Waker) → Pauses w (acts.copied w a)
 pauses-copied w (Task g) k = k
@@ -195,6 +203,7 @@ pauses-found w x f k = pauses-counted _ w x f k
 
 pauses-stolen : (t : Then) (w : World) (x : RunPoll) → Pauses w (runs.stolen t w x).world
 pauses-stolen (then.Found f) w x k = pauses-found w x f k
+pauses-stolen (then.StealPlain f) w x k = k
 pauses-stolen (then.Run f) w x k = pauses-run_by _ w x f refl k
 pauses-stolen (then.Walk at left) w x k = k
 
@@ -211,7 +220,7 @@ pauses-take [] w s more k = pauses-stolen s.then w s.poll k
 pauses-take (f ∷ rest) w s more k = by s.from
   where
     by : (a : Source) → TakesFew (runs.without_first w a rest)
-    by Common = k
+    by (Common mark) = k
     by (Own r) = k
 
 pauses-put : (b : Bool) (p : ℕ) (w : World) (s : Steal) (more f : ℕ) →
@@ -229,21 +238,23 @@ pauses-own : (q : List ℕ) (w : World) (x : RunPoll) → Pauses w (runs.search_
 pauses-own [] w x k = k
 pauses-own (f ∷ rest) w x k = pauses-found (put_own w x.run rest) x f k
 
-pauses-searches : (who : TickOrRun) (w : World) (s : Sleeping) → Pauses w (search_by_who who w s).world
-pauses-searches (tick_or_run.Tick t) w s k = pauses-search _ w _ s k
-pauses-searches (tick_or_run.Run r) w s k = pauses-own _ w _ k
+pauses-searches : (who : TickOrRun) (p : ℕ) (w : World) (s : Sleeping) → Pauses w (search_by_who who p w s).world
+pauses-searches (tick_or_run.Tick t) p w s k = k
+pauses-searches (tick_or_run.Run r) p w s k = pauses-own _ w _ k
 
-pauses-tick : (h : Hint) (o : TickOp) (w : World) → Pauses w (tick_act h o w).world
-pauses-tick h tick_op.MakeTick w k = pauses-make _ w k
-pauses-tick h (tick_op.Search s) w k = pauses-searches s.who w s k
-pauses-tick h (tick_op.CopyWaker s) w k = pauses-copy _ w s k
-pauses-tick h (tick_op.FallAsleep s) w k = pauses-sleep _ w s k
-pauses-tick h (tick_op.WakeUp who) w k = pauses-up _ w who k
-pauses-tick h (tick_op.Leave who) w k = pauses-leave _ w who k
+pauses-tick : (p : ℕ) (h : Hint) (o : TickOp) (w : World) → Pauses w (tick_act p h o w).world
+pauses-tick p h tick_op.MakeTick w k = pauses-make _ w k
+pauses-tick p h (tick_op.Search s) w k = pauses-searches s.who p w s k
+pauses-tick p h (tick_op.Look s look) w k = pauses-search look _ w _ s k
+pauses-tick p h (tick_op.CopyWaker s) w k = pauses-copy _ w s k
+pauses-tick p h (tick_op.FallAsleep s) w k = pauses-sleep _ w s k
+pauses-tick p h (tick_op.WakeUp who) w k = pauses-up _ w who k
+pauses-tick p h (tick_op.Leave who) w k = pauses-leave _ w who k
 
-pauses-common : (q : List ℕ) (w : World) (x : RunPoll) → Pauses w (runs.search_common_by q w x).world
-pauses-common [] w x k = k
-pauses-common (f ∷ rest) w x k = k
+pauses-common : (look : Look) (q : List ℕ) (w : World) (x : RunPoll) → Pauses w (runs.search_common_by q w x look).world
+pauses-common (First mark) [] w x k = k
+pauses-common (Second mark) [] w x k = k
+pauses-common look (f ∷ rest) w x k = k
 
 pauses-look : (q : List ℕ) (w : World) (x : RunPoll) (at left : ℕ) → Pauses w (runs.look_own_by q w x at left).world
 pauses-look [] w x at left k = k
@@ -265,7 +276,8 @@ pauses-reschedule (f ∷ rest) w r a k = k
 pauses-of-run : (p : ℕ) (h : Hint) (o : RunOp) (w : World) → Pauses w (run_act p h o w).world
 pauses-of-run p h run_op.MakeRoom w k = pauses-room _ w k
 pauses-of-run p h run_op.ReturnRoom w k = k
-pauses-of-run p h (run_op.SearchCommon x) w k = pauses-common _ w x k
+pauses-of-run p h (run_op.TakeTurn x) w k = k
+pauses-of-run p h (run_op.SearchCommon x look) w k = pauses-common look _ w x k
 pauses-of-run p h (run_op.LookOwn x at left) w k = pauses-look _ w x at left k
 pauses-of-run p h (run_op.WakeOwn x) w k =
     pauses-wake p (log w (event.WakerCalled p (of.Run x.run) x.poll x.waker)) x.waker k
@@ -289,7 +301,7 @@ pauses-list h _ w k = k
 
 pauses-act-by : (p : ℕ) (h : Hint) (o : Op) (w : World) (b : Bool) → is_run o ≡ b → Pauses w (act p h o w).world
 pauses-act-by p h o w false e k = pauses-same w (act p h o w).world (runs-act p h o w e) k
-pauses-act-by p h (op.Tick o) w true e k = pauses-tick h o w k
+pauses-act-by p h (op.Tick o) w true e k = pauses-tick p h o w k
 pauses-act-by p h (op.List o) w true e k = pauses-list h o w k
 pauses-act-by p h (op.Steal o) w true e k = pauses-steal p o w k
 pauses-act-by p h (op.Run o) w true e k = pauses-of-run p h o w k

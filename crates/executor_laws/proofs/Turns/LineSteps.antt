@@ -5,6 +5,15 @@ use Rattle.std.proofs.Common.{◌≡◌, ◌∙◌, ◌⊎◌, inl, inr, ⊎_eli
 use Rattle.std.proofs.Common.{get_or, get_or-set_same, Bool, true, false, ltb, refl, sym, ap, subst, arith, append-nil, append_assoc}
 use Rattle.std.proofs.lemmas.List.{reverse-append}
 use Rattle.std.specs.Prelude.{reverse}
+use Rattle.executor_model.specs.declared.op.Look.TheVariants.{First, Second}
+use Rattle.executor_model.specs.declared.op.Look.{Look}
+use Rattle.executor_parts.specs.declared.mark.Mark.{Mark}
+use Rattle.executor_parts.specs.declared.mark.Mark.TheVariants.{Plain, Urgent}
+use Rattle.executor_parts.specs.Marks.{first_of}
+use Rattle.queue_steps.specs.ClosableQueue.{taken}
+use Rattle.executor_model.specs.Queues.{Queues}
+use Rattle.executor_model.specs.World.{done, put_queue, queue_of}
+use Rattle.executor_model.specs.Acts.{mark_in, take_turn, turned}
 use Rattle.task_moves.specs.declared.moves.owed.Move.TheVariants as move
 use Rattle.executor_model.specs.declared.call.Reply.TheVariants as reply
 use Rattle.executor_model.specs.declared.event.Event.TheVariants as event
@@ -51,7 +60,7 @@ hand_of _ = []
 
 -- the line of run q, which is about to do this
 abbrev pub line : ℕ → Op → World → List ℕ
-line q c w = own_of w q ++ (hand_of c ++ w.queue.items)
+line q c w = own_of w q ++ (hand_of c ++ w.queues.plain.items)
 
 -- f stands there, behind at most n others
 pub record InLine (f n : ℕ) (xs : List ℕ) : Type 0 where
@@ -94,6 +103,7 @@ line-empty f n k = by k.front k.is
 
 abbrev pub NoWalk : Then → Type 0
 NoWalk (then.Found f) = true ≡ true
+NoWalk (then.StealPlain f) = true ≡ true
 NoWalk (then.Run f) = true ≡ true
 NoWalk (then.Walk at left) = ⊥
 
@@ -104,11 +114,13 @@ steal_in (steal_op.Take s more) = s
 steal_in (steal_op.Put s more f) = s
 
 abbrev pub OfCommon : ℕ → Steal → Type 0
-OfCommon q s = (s.poll.run ≡ q) × (s.from ≡ Common) × NoWalk s.then
+OfCommon q s = (s.poll.run ≡ q) × ((mark : Mark) × (s.from ≡ Common mark)) × NoWalk s.then
 
 abbrev pub Doing : ℕ → Op → Type 0
 Doing q (op.Tick (tick_op.Search s)) = s.who ≡ tick_or_run.Run q
-Doing q (op.Run (run_op.SearchCommon x)) = x.run ≡ q
+Doing q (op.Run (run_op.TakeTurn x)) = x.run ≡ q
+Doing q (op.Run (run_op.SearchCommon x (First mark))) = x.run ≡ q
+Doing q (op.Run (run_op.SearchCommon x (Second Plain))) = x.run ≡ q
 Doing q (op.Run (run_op.WakeOwn x)) = x.run ≡ q
 Doing q (op.Steal o) = OfCommon q (steal_in o)
 Doing q (op.End a held) = true ≡ true
@@ -146,8 +158,8 @@ holds-run_by false w x f =
 
 holds-counted_by : (b : Bool) (w : World) (x : RunPoll) (f : ℕ) → Holds x.run (counted_by b w x f).next
 holds-counted_by true w x f =
-    holds-one x.run (op.Steal (steal_op.Length (record { poll = x; from = Common; then = then.Run f })))
-    (refl, refl, refl) refl
+    holds-one x.run (op.Steal (steal_op.Length (record { poll = x; from = Common Urgent; then = then.StealPlain f })))
+    (refl, (Urgent, refl), refl) refl
 holds-counted_by false w x f = holds-run_by _ (counted_to w x.run _) x f
 
 found-light : (x : Ticker) (who : TickOrRun) → weigh stray_of (found_by x who (op.Sleeper sleeper_op.ExchangeFlag ∷ [])) ≡ 0
@@ -162,32 +174,36 @@ holds-found w x f =
 
 holds-stolen : (t : Then) (w : World) (x : RunPoll) → NoWalk t → Holds x.run (stolen t w x).next
 holds-stolen (then.Found f) w x k = holds-found w x f
+holds-stolen (then.StealPlain f) w x k =
+    holds-one x.run (op.Steal (steal_op.Length (record { poll = x; from = Common Plain; then = then.Run f })))
+    (refl, (Plain, refl), refl) refl
 holds-stolen (then.Run f) w x k = holds-run_by _ w x f
 holds-stolen (then.Walk at left) w x k = absurd k
 
 -- the executor's queue stays
 
-run-queue : (b : Bool) (w : World) (x : RunPoll) (f : ℕ) → (run_by b w x f).world.queue ≡ w.queue
+run-queue : (b : Bool) (w : World) (x : RunPoll) (f : ℕ) → (run_by b w x f).world.queues ≡ w.queues
 run-queue true w x f = refl
 run-queue false w x f = refl
 
-counted-queue : (b : Bool) (w : World) (x : RunPoll) (f : ℕ) → (counted_by b w x f).world.queue ≡ w.queue
+counted-queue : (b : Bool) (w : World) (x : RunPoll) (f : ℕ) → (counted_by b w x f).world.queues ≡ w.queues
 counted-queue true w x f = refl
 counted-queue false w x f = run-queue _ (counted_to w x.run _) x f
 
-stolen-queue : (t : Then) (w : World) (x : RunPoll) → (stolen t w x).world.queue ≡ w.queue
+stolen-queue : (t : Then) (w : World) (x : RunPoll) → (stolen t w x).world.queues ≡ w.queues
 stolen-queue (then.Found f) w x = counted-queue _ w x f
+stolen-queue (then.StealPlain f) w x = refl
 stolen-queue (then.Run f) w x = run-queue _ w x f
 stolen-queue (then.Walk at left) w x = refl
 
-same-line : (q f n : ℕ) (c e : Op) (w v : World) → hand_of c ≡ hand_of e → v.own ≡ w.own → v.queue ≡ w.queue →
+same-line : (q f n : ℕ) (c e : Op) (w v : World) → hand_of c ≡ hand_of e → v.own ≡ w.own → v.queues ≡ w.queues →
     InLine f n (line q c w) → InLine f n (line q e v)
 same-line q f n c e w v h o i k = record {
   front = k.front;
   later = k.later;
-  is = ap (λ (qs : List (List ℕ)). get_or qs q [] ++ (hand_of e ++ v.queue.items)) o
-      ∙ (ap (λ z. own_of w q ++ (hand_of e ++ z.items)) i
-      ∙ (ap (λ (xs : List ℕ). own_of w q ++ (xs ++ w.queue.items)) (sym h) ∙ k.is));
+  is = ap (λ (qs : List (List ℕ)). get_or qs q [] ++ (hand_of e ++ v.queues.plain.items)) o
+      ∙ (ap (λ (z : Queues). own_of w q ++ (hand_of e ++ z.plain.items)) i
+      ∙ (ap (λ (xs : List ℕ). own_of w q ++ (xs ++ w.queues.plain.items)) (sym h) ∙ k.is));
   few = k.few;
 }
 
@@ -195,7 +211,7 @@ same-line q f n c e w v h o i k = record {
 pub data Goes (q f n : ℕ) (t : Trace) (g : Bool) (d : Done) : Type 0 where
   on : (c : Op) (side : List Op) → reverse d.next ≡ c ∷ side → Doing q c → weigh stray_of side ≡ 0 →
       InLine f n (line q c d.world) → Goes q f n t g d
-  over : d.next ≡ [] → InLine f n (own_of d.world q ++ d.world.queue.items) → Goes q f n t g d
+  over : d.next ≡ [] → InLine f n (own_of d.world q ++ d.world.queues.plain.items) → Goes q f n t g d
   finds : Heads f t g d → Goes q f n t g d
 
 pub record After (q f n : ℕ) (w : World) (d : Done) : Type 0 where
@@ -203,7 +219,7 @@ pub record After (q f n : ℕ) (w : World) (d : Done) : Type 0 where
   pub gone : d.world.gone ≡ w.gone
 
 after-holds : (q f n : ℕ) (w : World) (d : Done) (c : Op) (v : World) → Holds q d.next → hand_of c ≡ [] →
-    d.world.own ≡ v.own → d.world.queue ≡ v.queue → d.world.gone ≡ w.gone → InLine f n (line q c v) → After q f n w d
+    d.world.own ≡ v.own → d.world.queues ≡ v.queues → d.world.gone ≡ w.gone → InLine f n (line q c v) → After q f n w d
 after-holds q f n w d c v h e o i g k = record {
   goes = on h.control h.side h.is h.kind h.light
       (same-line q f n c h.control v d.world (e ∙ sym h.hand) o i k);
@@ -218,7 +234,7 @@ after-stolen f n t w x c e k z = after-holds x.run f n w (stolen t w x) c w (hol
 -- a search in the own queue
 
 pub after-own : (f n m : ℕ) (xs : List ℕ) (w : World) (x : RunPoll) → own_of w x.run ≡ xs →
-    ((l : ℕ) → suc l ≤ n → l ≤ m) → InLine f n (own_of w x.run ++ w.queue.items) →
+    ((l : ℕ) → suc l ≤ n → l ≤ m) → InLine f n (own_of w x.run ++ w.queues.plain.items) →
     1 ≤ length xs → After x.run f m w (search_own_by xs w x)
 after-own f n m [] w x o j k z = absurd (omega (arith, z))
 after-own f n m (h ∷ rest) w x o j k z = ⊎_elim
@@ -227,34 +243,37 @@ after-own f n m (h ∷ rest) w x o j k z = ⊎_elim
           (heads-found f (put_own w x.run rest) x));
       gone = (idle-stolen (then.Found h) (put_own w x.run rest) x).gone;
     })
-    (λ (y : InLine f m (rest ++ w.queue.items)).
+    (λ (y : InLine f m (rest ++ w.queues.plain.items)).
     let v : World = put_own w x.run rest in
     let c : Op = op.Tick (tick_op.Search (asleep x)) in
     after-holds x.run f m w (found v x h) c v (holds-found v x h) refl (idle-stolen (then.Found h) v x).own
     (stolen-queue (then.Found h) v x) (idle-stolen (then.Found h) v x).gone
-    (subst (λ (ys : List ℕ). InLine f m (ys ++ w.queue.items))
+    (subst (λ (ys : List ℕ). InLine f m (ys ++ w.queues.plain.items))
     (sym (get_or-set_same w.own x.run rest [] (within w.own x.run h rest o))) y))
-    (line-first f n m h (rest ++ w.queue.items) j
-    (subst (λ (ys : List ℕ). InLine f n (ys ++ w.queue.items)) o k))
+    (line-first f n m h (rest ++ w.queues.plain.items) j
+    (subst (λ (ys : List ℕ). InLine f n (ys ++ w.queues.plain.items)) o k))
 
 -- the own queue is empty
 pub after-missing : (f n : ℕ) (w : World) (x : RunPoll) → own_of w x.run ≡ [] →
-    InLine f n (own_of w x.run ++ w.queue.items) → After x.run f n w (search_own_by (own_of w x.run) w x)
+    InLine f n (own_of w x.run ++ w.queues.plain.items) → After x.run f n w (search_own_by (own_of w x.run) w x)
 after-missing f n w x o k = subst (λ (ys : List ℕ). After x.run f n w (search_own_by ys w x)) (sym o) (record {
-  goes = on (op.Run (run_op.SearchCommon x)) [] refl refl refl k;
+  goes = on (op.Run (run_op.TakeTurn x)) [] refl refl refl k;
   gone = refl;
 })
 
--- a search in the executor's queue
-pub after-common : (f n m : ℕ) (xs : List ℕ) (w : World) (x : RunPoll) → w.queue.items ≡ xs → own_of w x.run ≡ [] →
-    ((l : ℕ) → suc l ≤ n → l ≤ m) → InLine f n (own_of w x.run ++ w.queue.items) →
-    After x.run f m w (search_common_by xs w x)
-after-common f n m [] w x i o j k =
-    absurd (line-empty f n (subst (InLine f n) (ap (λ (ys : List ℕ). ys ++ w.queue.items) o ∙ i) k))
-after-common f n m (h ∷ rest) w x i o j k = ⊎_elim
+-- a search in the executor's plain queue finds the first of it
+
+abbrev pub common_steal : RunPoll → Mark → Then → Steal
+common_steal x mark t = record { poll = x; from = Common mark; then = t }
+
+after-found : (f n m h : ℕ) (rest : List ℕ) (w : World) (x : RunPoll) → w.queues.plain.items ≡ h ∷ rest →
+    own_of w x.run ≡ [] → ((l : ℕ) → suc l ≤ n → l ≤ m) → InLine f n (own_of w x.run ++ w.queues.plain.items) →
+    After x.run f m w (done (put_queue w Plain (taken w.queues.plain))
+    (op.Steal (steal_op.Length (common_steal x Plain (then.Found h))) ∷ []))
+after-found f n m h rest w x i o j k = ⊎_elim
     (λ (y : h ≡ f). record {
       goes = finds (record {
-        heading = stealing (steal_op.Length (record { poll = x; from = Common; then = then.Found h })) [] refl (sym y) refl;
+        heading = stealing (steal_op.Length (common_steal x Plain (then.Found h))) [] refl (sym y) refl;
         events = [];
         trace = sym (append-nil w.trace);
         there = refl;
@@ -262,82 +281,119 @@ after-common f n m (h ∷ rest) w x i o j k = ⊎_elim
       gone = refl;
     })
     (λ (y : InLine f m rest). record {
-      goes = on (op.Steal (steal_op.Length (record { poll = x; from = Common; then = then.Found h }))) [] refl
-          (refl, refl, refl) refl
+      goes = on (op.Steal (steal_op.Length (common_steal x Plain (then.Found h)))) [] refl
+          (refl, (Plain, refl), refl) refl
           (subst (λ (ys : List ℕ). InLine f m (own_of w x.run ++ ys)) (sym (ap (λ (ys : List ℕ). drop 1 ys) i))
           (subst (λ (ys : List ℕ). InLine f m (ys ++ rest)) (sym o) y));
       gone = refl;
     })
-    (line-first f n m h rest j (subst (InLine f n) (ap (λ (ys : List ℕ). ys ++ w.queue.items) o ∙ i) k))
+    (line-first f n m h rest j (subst (InLine f n) (ap (λ (ys : List ℕ). ys ++ w.queues.plain.items) o ∙ i) k))
+
+none-there : {A : Type 0} (f n : ℕ) (w : World) (x : RunPoll) → w.queues.plain.items ≡ [] → own_of w x.run ≡ [] →
+    InLine f n (own_of w x.run ++ w.queues.plain.items) → A
+none-there f n w x i o k =
+    absurd (line-empty f n (subst (InLine f n) (ap (λ (ys : List ℕ). ys ++ w.queues.plain.items) o ∙ i) k))
+
+-- whether it looks there first or second
+pub after-look : (look : Look) → mark_in look ≡ Plain → (f n m : ℕ) (xs : List ℕ) (w : World) (x : RunPoll) →
+    w.queues.plain.items ≡ xs → own_of w x.run ≡ [] → ((l : ℕ) → suc l ≤ n → l ≤ m) →
+    InLine f n (own_of w x.run ++ w.queues.plain.items) → After x.run f m w (search_common_by xs w x look)
+after-look (First Plain) e f n m [] w x i o j k = none-there f n w x i o k
+after-look (First Plain) e f n m (h ∷ rest) w x i o j k = after-found f n m h rest w x i o j k
+after-look (Second Plain) e f n m [] w x i o j k = none-there f n w x i o k
+after-look (Second Plain) e f n m (h ∷ rest) w x i o j k = after-found f n m h rest w x i o j k
+after-look (First Urgent) e f n m xs w x i o j k = absurd (cc)
+after-look (Second Urgent) e f n m xs w x i o j k = absurd (cc)
+
+-- the urgent queue is empty, and so it looks at the plain one
+pub after-urgent : (f n : ℕ) (xs : List ℕ) (w : World) (x : RunPoll) → xs ≡ [] →
+    InLine f n (own_of w x.run ++ w.queues.plain.items) →
+    After x.run f n w (search_common_by xs w x (First Urgent))
+after-urgent f n [] w x e k = record {
+  goes = on (op.Run (run_op.SearchCommon x (Second Plain))) [] refl refl refl k;
+  gone = refl;
+}
+after-urgent f n (h ∷ rest) w x e k = absurd (cc)
+
+-- it takes its turn
+pub after-turn : (f n p : ℕ) (w : World) (x : RunPoll) → InLine f n (own_of w x.run ++ w.queues.plain.items) →
+    After x.run f n w (take_turn p w (λ (look : Look). op.Run (run_op.SearchCommon x look)))
+after-turn f n p w x k = record {
+  goes = on_turn (first_of w.urgent_turns);
+  gone = refl;
+}
+  where
+    on_turn : (m : Mark) → Goes x.run f n w.trace w.gone (done (turned p w) (op.Run (run_op.SearchCommon x (First m)) ∷ []))
+    on_turn m = on (op.Run (run_op.SearchCommon x (First m))) [] refl refl refl k
 
 -- a steal
 
-abbrev pub common_steal : RunPoll → Then → Steal
-common_steal x t = record { poll = x; from = Common; then = t }
-
-after-length : (f n l : ℕ) (w : World) (x : RunPoll) (t : Then) → NoWalk t →
-    InLine f n (own_of w x.run ++ w.queue.items) → After x.run f n w (steal_length_by l w (common_steal x t))
-after-length f n zero w x t k z = after-stolen f n t w x (op.Tick (tick_op.Search (asleep x))) refl k z
-after-length f n (suc l) w x t k z = record {
-  goes = on (op.Steal (steal_op.OwnLength (common_steal x t) (suc l))) [] refl (refl, refl, k) refl z;
+after-length : (f n l : ℕ) (w : World) (x : RunPoll) (mark : Mark) (t : Then) → NoWalk t →
+    InLine f n (own_of w x.run ++ w.queues.plain.items) → After x.run f n w (steal_length_by l w (common_steal x mark t))
+after-length f n zero w x mark t k z = after-stolen f n t w x (op.Tick (tick_op.Search (asleep x))) refl k z
+after-length f n (suc l) w x mark t k z = record {
+  goes = on (op.Steal (steal_op.OwnLength (common_steal x mark t) (suc l))) [] refl (refl, (mark, refl), k) refl z;
   gone = refl;
 }
 
-after-steal_by : (f n l : ℕ) (w v : World) (x : RunPoll) (t : Then) → v.gone ≡ w.gone → (g : ℕ) → NoWalk t →
-    InLine f n (own_of v x.run ++ v.queue.items) → Goes x.run f n w.trace w.gone (steal_by l v (common_steal x t))
-    × ((steal_by l v (common_steal x t)).world.gone ≡ w.gone)
-after-steal_by f n zero w v x t e g k z =
+after-steal_by : (f n l : ℕ) (w v : World) (x : RunPoll) (mark : Mark) (t : Then) → v.gone ≡ w.gone → (g : ℕ) → NoWalk t →
+    InLine f n (own_of v x.run ++ v.queues.plain.items) → Goes x.run f n w.trace w.gone (steal_by l v (common_steal x mark t))
+    × ((steal_by l v (common_steal x mark t)).world.gone ≡ w.gone)
+after-steal_by f n zero w v x mark t e g k z =
     let h = holds-stolen t v x k in (
       on h.control h.side h.is h.kind h.light
           (same-line x.run f n (op.Tick (tick_op.Search (asleep x))) h.control v (stolen t v x).world (sym h.hand)
           (idle-stolen t v x).own (stolen-queue t v x) z),
       (idle-stolen t v x).gone ∙ e,
     )
-after-steal_by f n (suc l) w v x t e g k z =
-    (on (op.Steal (steal_op.Take (common_steal x t) l)) [] refl (refl, refl, k) refl z, e)
+after-steal_by f n (suc l) w v x mark t e g k z =
+    (on (op.Steal (steal_op.Take (common_steal x mark t) l)) [] refl (refl, (mark, refl), k) refl z, e)
 
-after-take : (f n : ℕ) (xs : List ℕ) (w : World) (x : RunPoll) (t : Then) (more : ℕ) → w.queue.items ≡ xs → NoWalk t →
-    InLine f n (own_of w x.run ++ w.queue.items) → After x.run f n w (steal_take_by xs w (common_steal x t) more)
-after-take f n [] w x t more i k z = after-stolen f n t w x (op.Tick (tick_op.Search (asleep x))) refl k z
-after-take f n (h ∷ rest) w x t more i k z = record {
-  goes = on (op.Steal (steal_op.Put (common_steal x t) more h)) [] refl (refl, refl, k) refl
+after-take : (f n : ℕ) (mark : Mark) (xs : List ℕ) (w : World) (x : RunPoll) (t : Then) (more : ℕ) →
+    (queue_of w mark).items ≡ xs → w.queues.urgent.items ≡ [] → NoWalk t →
+    InLine f n (own_of w x.run ++ w.queues.plain.items) →
+    After x.run f n w (steal_take_by xs w (common_steal x mark t) more)
+after-take f n mark [] w x t more i u k z = after-stolen f n t w x (op.Tick (tick_op.Search (asleep x))) refl k z
+after-take f n Urgent (h ∷ rest) w x t more i u k z = let no : h ∷ rest ≡ [] = sym i ∙ u in absurd (cc)
+after-take f n Plain (h ∷ rest) w x t more i u k z = record {
+  goes = on (op.Steal (steal_op.Put (common_steal x Plain t) more h)) [] refl (refl, (Plain, refl), k) refl
       (subst (λ (ys : List ℕ). InLine f n (own_of w x.run ++ (h ∷ ys))) (sym (ap (λ (ys : List ℕ). drop 1 ys) i))
       (subst (λ (ys : List ℕ). InLine f n (own_of w x.run ++ ys)) i z));
   gone = refl;
 }
 
-after-put : (f n p : ℕ) (b : Bool) (w : World) (x : RunPoll) (t : Then) (more h : ℕ) → b ≡ true →
-    x.run < length w.own → NoWalk t → InLine f n (own_of w x.run ++ (h ∷ w.queue.items)) →
-    After x.run f n w (steal_put_by b p w (common_steal x t) more h)
-after-put f n p false w x t more h b l k z = absurd (cc)
-after-put f n p true w x t more h b l k z =
+after-put : (f n p : ℕ) (b : Bool) (w : World) (x : RunPoll) (mark : Mark) (t : Then) (more h : ℕ) → b ≡ true →
+    x.run < length w.own → NoWalk t → InLine f n (own_of w x.run ++ (h ∷ w.queues.plain.items)) →
+    After x.run f n w (steal_put_by b p w (common_steal x mark t) more h)
+after-put f n p false w x mark t more h b l k z = absurd (cc)
+after-put f n p true w x mark t more h b l k z =
     let v : World = kept_by p w x.run h in
-    let y = after-steal_by f n more w v x t refl h k
-    (subst (λ (ys : List ℕ). InLine f n (ys ++ w.queue.items))
+    let y = after-steal_by f n more w v x mark t refl h k
+    (subst (λ (ys : List ℕ). InLine f n (ys ++ w.queues.plain.items))
     (sym (get_or-set_same w.own x.run (own_of w x.run ++ h ∷ []) [] l))
-    (subst (InLine f n) (sym (append_assoc (own_of w x.run) (h ∷ []) w.queue.items)) z)) in
+    (subst (InLine f n) (sym (append_assoc (own_of w x.run) (h ∷ []) w.queues.plain.items)) z)) in
     record { goes = y.0; gone = y.1 }
 
-pub after-steal : (f n p : ℕ) (o : StealOp) (w : World) (x : RunPoll) (t : Then) (h : Hint) →
-    steal_in o ≡ common_steal x t → NoWalk t → x.run < length w.own →
+pub after-steal : (f n p : ℕ) (o : StealOp) (w : World) (x : RunPoll) (mark : Mark) (t : Then) (h : Hint) →
+    w.queues.urgent.items ≡ [] → steal_in o ≡ common_steal x mark t → NoWalk t → x.run < length w.own →
     ((s : Steal) (more g : ℕ) → o ≡ steal_op.Put s more g → ltb 0 (free_places w x.run) ≡ true) →
     InLine f n (line x.run (op.Steal o) w) → After x.run f n w (act p h (op.Steal o) w)
-after-steal f n p (steal_op.Length s) w x t h e k l r z =
+after-steal f n p (steal_op.Length s) w x mark t h u e k l r z =
     subst (λ (y : Steal). After x.run f n w (act p h (op.Steal (steal_op.Length y)) w)) (sym e)
-    (after-length f n _ w x t k z)
-after-steal f n p (steal_op.OwnLength s j) w x t h e k l r z =
+    (after-length f n _ w x mark t k z)
+after-steal f n p (steal_op.OwnLength s j) w x mark t h u e k l r z =
     subst (λ (y : Steal). After x.run f n w (act p h (op.Steal (steal_op.OwnLength y j)) w)) (sym e)
-    (let y = after-steal_by f n _ w w x t refl 0 k z in record { goes = y.0; gone = y.1 })
-after-steal f n p (steal_op.Take s more) w x t h e k l r z =
+    (let y = after-steal_by f n _ w w x mark t refl 0 k z in record { goes = y.0; gone = y.1 })
+after-steal f n p (steal_op.Take s more) w x mark t h u e k l r z =
     subst (λ (y : Steal). After x.run f n w (act p h (op.Steal (steal_op.Take y more)) w)) (sym e)
-    (after-take f n w.queue.items w x t more refl k z)
-after-steal f n p (steal_op.Put s more g) w x t h e k l r z =
+    (after-take f n mark (queue_of w mark).items w x t more refl u k z)
+after-steal f n p (steal_op.Put s more g) w x mark t h u e k l r z =
     subst (λ (y : Steal). After x.run f n w (act p h (op.Steal (steal_op.Put y more g)) w)) (sym e)
-    (after-put f n p _ w x t more g (r s more g refl) l k z)
+    (after-put f n p _ w x mark t more g (r s more g refl) l k z)
 
 -- it calls its own waker
 
-pub after-wake : (f n p : ℕ) (h : Hint) (w : World) (x : RunPoll) → InLine f n (own_of w x.run ++ w.queue.items) →
+pub after-wake : (f n p : ℕ) (h : Hint) (w : World) (x : RunPoll) → InLine f n (own_of w x.run ++ w.queues.plain.items) →
     After x.run f n w (wake_own p w x)
 after-wake f n p h w x k = by x.waker
   where
@@ -352,11 +408,11 @@ after-wake f n p h w x k = by x.waker
           goes = on (op.End reply.Pending (hold.Run x.run)) (reverse d.next)
               (reverse-append d.next (op.End reply.Pending (hold.Run x.run) ∷ [])) refl
               (weigh-reverse stray_of d.next ∙ i.plain)
-              (subst (λ (qs : List (List ℕ)). InLine f n (get_or qs x.run [] ++ d.world.queue.items))
+              (subst (λ (qs : List (List ℕ)). InLine f n (get_or qs x.run [] ++ d.world.queues.plain.items))
               (sym (idle-act p h (op.Move move.WakeByReference g) u refl).own)
-              (subst (λ (ys : List ℕ). InLine f n (own_of w x.run ++ ys)) (sym i.queue)
-              (subst (InLine f n) (append_assoc (own_of w x.run) w.queue.items i.added)
-              (line-more f n (own_of w x.run ++ w.queue.items) i.added k))));
+              (subst (λ (ys : List ℕ). InLine f n (own_of w x.run ++ ys)) (sym (i.queue Plain))
+              (subst (InLine f n) (append_assoc (own_of w x.run) w.queues.plain.items (i.added Plain))
+              (line-more f n (own_of w x.run ++ w.queues.plain.items) (i.added Plain) k))));
           gone = (idle-act p h (op.Move move.WakeByReference g) u refl).gone;
         }
     by (Outside y) = record {

@@ -3,7 +3,11 @@
 use Rattle.std.proofs.Common.{◌≡◌, ◌∙◌, ◌⊎◌, inl, inr, ⊎_elim, ℕ, suc, ◌+◌, ◌<◌, ◌≤◌, List, [], ◌∷◌, ◌++◌, length}
 use Rattle.std.proofs.Common.{get_or, Bool, true, false, eqb, ltb, refl, sym, ap, subst, arith, append_assoc, Ok}
 use Rattle.std.proofs.lemmas.Bool.Decides.{nat_tests}
-use Rattle.std.specs.Prelude.{Option, Some, None, cond, reverse}
+use Rattle.std.specs.Prelude.{All, Option, Some, None, cond, reverse}
+use Rattle.executor_parts.specs.declared.mark.Mark.{Mark}
+use Rattle.executor_parts.specs.declared.mark.Mark.TheVariants.{Plain, Urgent}
+use Rattle.executor_model.specs.declared.op.Look.{Look}
+use Rattle.executor_model.specs.declared.op.Look.TheVariants.{First, Second}
 use Rattle.executor_model.specs.declared.call.Reply.{Reply}
 use Rattle.executor_model.specs.declared.op.Op.{Op}
 use Rattle.executor_model.specs.declared.op.Op.TheVariants as op
@@ -36,6 +40,8 @@ use Rattle.executor_model.proofs.Steps.TraceSteps.{more-act, more-onto, more-rea
 use Rattle.executor_model.proofs.Table.Spawning.{top-last}
 use Rattle.executor_laws.specs.LoneEnds.{are_onward_of, is_onward_of}
 use Rattle.executor_laws.proofs.Reach.LoneMoves.{Inner, inner-act, inner-react, stray_of}
+use Rattle.executor_laws.proofs.Reach.Marked.{all-before}
+use Rattle.executor_laws.proofs.Reach.Reaching.{none-urgent}
 use Rattle.executor_laws.proofs.Reach.LoneSteps.{HasEntry, Last, from-end}
 use Rattle.executor_laws.proofs.Reach.LoneTicks.{idle-none, left-true, of-party, stack-set}
 use Rattle.executor_laws.proofs.RunReach.RunFinds.{Heading, light-no-end}
@@ -43,8 +49,8 @@ use Rattle.executor_laws.proofs.RunReach.RunKeeps.{So, so-more}
 use Rattle.executor_laws.proofs.RunReach.RunLeaves.{gone-onto, own-act, own-react}
 use Rattle.executor_laws.proofs.RunReach.RunWalks.{Onward, Taken, both-light, from-heading, light, onward, with-heading}
 use Rattle.executor_laws.proofs.RunReach.RunWalks.Onward.{acted, answered}
-use Rattle.executor_laws.proofs.Turns.LineSteps.{After, Doing, Goes, InLine, after-common, after-missing, after-own, after-steal}
-use Rattle.executor_laws.proofs.Turns.LineSteps.{after-wake, hand_of, line, line-more, steal_in}
+use Rattle.executor_laws.proofs.Turns.LineSteps.{After, Doing, Goes, InLine, after-look, after-missing, after-own, after-steal}
+use Rattle.executor_laws.proofs.Turns.LineSteps.{after-turn, after-urgent, after-wake, hand_of, line, line-more, steal_in}
 use Rattle.executor_laws.proofs.Turns.LineSteps.Goes.{finds, on as on_with, over as over_with}
 use Rattle.executor_laws.proofs.Walks.Enrolled.{Enrolled}
 use Rattle.executor_laws.proofs.Walks.Finding.{enrolled-here, itself, room-here}
@@ -54,7 +60,7 @@ pub data Waiting (q f n : ℕ) (w : World) (os : List Op) : Type 0 where
   going : (c : Op) (side : List Op) → os ≡ c ∷ side → Doing q c → weigh stray_of side ≡ 0 → InLine f n (line q c w) →
       Waiting q f n w os
   found_it : Heading f os → Waiting q f n w os
-  over : os ≡ [] → InLine f n (own_of w q ++ w.queue.items) → Waiting q f n w os
+  over : os ≡ [] → InLine f n (own_of w q ++ w.queues.plain.items) → Waiting q f n w os
 
 abbrev Waits-on : ℕ → ℕ → ℕ → Part → Type 0
 Waits-on q f n x = Waiting q f n x.world x.todo
@@ -70,7 +76,7 @@ settles q f n p w c side k z t = go (from-end side)
     by-end : (o : Option Reply) → end_of (Some c) ≡ o → Waits-on q f n (settled_by o p w (c ∷ []))
     by-end None e = going c [] refl k refl t
     by-end (Some a) e = over refl
-        (subst (λ (xs : List ℕ). InLine f n (own_of w q ++ (xs ++ w.queue.items))) (ended-hand c a e) t)
+        (subst (λ (xs : List ℕ). InLine f n (own_of w q ++ (xs ++ w.queues.plain.items))) (ended-hand c a e) t)
 
     go : (side ≡ []) ⊎ Last side → Waits-on q f n (settled p w (c ∷ side))
     go (inl e) = subst (λ (os : List Op). Waits-on q f n (settled p w (c ∷ os))) (sym e) (by-end (end_of (Some c)) refl)
@@ -96,11 +102,12 @@ after-part q f n p w d (finds h) =
 
 -- what holds where it does this
 record Facts (q : ℕ) (c : Op) (w : World) : Type 0 where
-  pub empty : (x : RunPoll) → c ≡ op.Run (run_op.SearchCommon x) → own_of w x.run ≡ []
+  pub empty : (x : RunPoll) (look : Look) → c ≡ op.Run (run_op.SearchCommon x look) → own_of w x.run ≡ []
+  pub none : w.queues.urgent.items ≡ []
   pub known : (o : StealOp) → c ≡ op.Steal o → (steal_in o).poll.run < length w.own
   pub free : (s : Steal) (more g : ℕ) → c ≡ op.Steal (steal_op.Put s more g) → ltb 0 (free_places w s.poll.run) ≡ true
 
-after-search : (f n : ℕ) (w : World) (x : RunPoll) → InLine f n (own_of w x.run ++ w.queue.items) →
+after-search : (f n : ℕ) (w : World) (x : RunPoll) → InLine f n (own_of w x.run ++ w.queues.plain.items) →
     After x.run f n w (search_own_by (own_of w x.run) w x)
 after-search f n w x k = by (own_of w x.run) refl
   where
@@ -109,24 +116,36 @@ after-search f n w x k = by (own_of w x.run) refl
     by (h ∷ rest) o = after-own f n n (own_of w x.run) w x refl (λ l i. omega (arith, i)) k
         (let z : 1 ≤ length (own_of w x.run) = omega (arith, ap (λ (ys : List ℕ). length ys) o) in z)
 
-same-steal : (s : Steal) → s.from ≡ Common → s ≡ record { poll = s.poll; from = Common; then = s.then }
-same-steal s e = ap (λ (x : Source). let y : Steal = record { poll = s.poll; from = x; then = s.then } in y) e
+same-steal : (s : Steal) (mark : Mark) → s.from ≡ Common mark → s ≡ record { poll = s.poll; from = Common mark; then = s.then }
+same-steal s mark e = ap (λ (x : Source). let y : Steal = record { poll = s.poll; from = x; then = s.then } in y) e
 
 after-doing : (q f n p : ℕ) (h : Hint) (c : Op) (w : World) → Doing q c → Facts q c w → InLine f n (line q c w) →
     After q f n w (act p h c w)
 after-doing q f n p h (op.Tick (tick_op.Search s)) w e k z =
-    subst (λ (who : TickOrRun). After q f n w (search_by_who who w s)) (sym e)
+    subst (λ (who : TickOrRun). After q f n w (search_by_who who p w s)) (sym e)
     (after-search f n w (record { run = q; waker = s.waker; poll = s.poll }) z)
-after-doing q f n p h (op.Run (run_op.SearchCommon x)) w e k z =
-    subst (λ (r : ℕ). After r f n w (act p h (op.Run (run_op.SearchCommon x)) w)) e
-    (after-common f n n w.queue.items w x refl (k.empty x refl) (λ l i. omega (arith, i))
-    (subst (λ (r : ℕ). InLine f n (own_of w r ++ w.queue.items)) (sym e) z))
+after-doing q f n p h (op.Run (run_op.TakeTurn x)) w e k z =
+    subst (λ (r : ℕ). After r f n w (act p h (op.Run (run_op.TakeTurn x)) w)) e
+    (after-turn f n p w x (subst (λ (r : ℕ). InLine f n (own_of w r ++ w.queues.plain.items)) (sym e) z))
+after-doing q f n p h (op.Run (run_op.SearchCommon x (First Urgent))) w e k z =
+    subst (λ (r : ℕ). After r f n w (act p h (op.Run (run_op.SearchCommon x (First Urgent))) w)) e
+    (after-urgent f n w.queues.urgent.items w x k.none
+    (subst (λ (r : ℕ). InLine f n (own_of w r ++ w.queues.plain.items)) (sym e) z))
+after-doing q f n p h (op.Run (run_op.SearchCommon x (First Plain))) w e k z =
+    subst (λ (r : ℕ). After r f n w (act p h (op.Run (run_op.SearchCommon x (First Plain))) w)) e
+    (after-look (First Plain) refl f n n w.queues.plain.items w x refl (k.empty x (First Plain) refl)
+    (λ l i. omega (arith, i)) (subst (λ (r : ℕ). InLine f n (own_of w r ++ w.queues.plain.items)) (sym e) z))
+after-doing q f n p h (op.Run (run_op.SearchCommon x (Second Plain))) w e k z =
+    subst (λ (r : ℕ). After r f n w (act p h (op.Run (run_op.SearchCommon x (Second Plain))) w)) e
+    (after-look (Second Plain) refl f n n w.queues.plain.items w x refl (k.empty x (Second Plain) refl)
+    (λ l i. omega (arith, i)) (subst (λ (r : ℕ). InLine f n (own_of w r ++ w.queues.plain.items)) (sym e) z))
 after-doing q f n p h (op.Run (run_op.WakeOwn x)) w e k z =
     subst (λ (r : ℕ). After r f n w (act p h (op.Run (run_op.WakeOwn x)) w)) e
-    (after-wake f n p h w x (subst (λ (r : ℕ). InLine f n (own_of w r ++ w.queue.items)) (sym e) z))
+    (after-wake f n p h w x (subst (λ (r : ℕ). InLine f n (own_of w r ++ w.queues.plain.items)) (sym e) z))
 after-doing q f n p h (op.Steal o) w e k z =
     subst (λ (r : ℕ). After r f n w (act p h (op.Steal o) w)) e.0
-    (after-steal f n p o w (steal_in o).poll (steal_in o).then h (same-steal (steal_in o) e.1) e.2 (k.known o refl)
+    (after-steal f n p o w (steal_in o).poll e.1.0 (steal_in o).then h k.none (same-steal (steal_in o) e.1.0 e.1.1) e.2
+    (k.known o refl)
     (λ s more g i. subst (λ (y : StealOp). ltb 0 (free_places w (steal_in y).poll.run) ≡ true) (sym i)
     (k.free s more g (ap op.Steal i)))
     (subst (λ (r : ℕ). InLine f n (line r (op.Steal o) w)) (sym e.0) z))
@@ -140,9 +159,10 @@ no-user q _ u k a = absurd (cc)
 -- where the poll leads: f is taken, or it stands in the line behind at most n others
 pub data Outcome (q f n : ℕ) (before : Trace) (new : Machine) : Type 0 where
   taken : Taken f before new.world.trace → Outcome q f n before new
-  stands : InLine f n (own_of new.world q ++ new.world.queue.items) → So before new.world → Outcome q f n before new
+  stands : InLine f n (own_of new.world q ++ new.world.queues.plain.items) → So before new.world → Outcome q f n before new
 
 module _ (p q f n : ℕ) (before : Trace) (new : Machine) (idles : stack new p ≡ [])
+    (plain : All (λ m. m ≡ Plain) new.world.marks)
     (has-entry : (s : Machine) → Reached s → s.world.gone ≡ false → (meanwhile : Trace) →
     s.world.trace ≡ before ++ meanwhile → HasEntry f s.world meanwhile) where
   module _ (t : Step) (ts : List Step) (s : Machine) (y : Reached s) (k : So before s.world)
@@ -179,7 +199,8 @@ module _ (p q f n : ℕ) (before : Trace) (new : Machine) (idles : stack new p �
 
     facts : (c : Op) → stack s p ≡ [] ++ c ∷ [] → p < length s.parties → Facts q c s.world
     facts c e l = record {
-      empty = λ x i. (
+      none = none-urgent s y (all-before s new (t ∷ ts) m plain);
+      empty = λ x look i. (
           let z : IsEmptyMeanwhile s x.run = subst (λ (v : Machine). IsEmptyMeanwhile v x.run) (sym y.is)
           (is-empty-meanwhile y.limit y.kind y.parties y.steps x.run) in
           z (omega (
@@ -236,12 +257,12 @@ module _ (p q f n : ℕ) (before : Trace) (new : Machine) (idles : stack new p �
     line-beside : (c : Op) (d : Done) → Inner s.world d → d.world.own ≡ s.world.own → InLine f n (line q c s.world) →
         InLine f n (line q c d.world)
     line-beside c d i o z =
-        subst (λ (qs : List (List ℕ)). InLine f n (get_or qs q [] ++ (hand_of c ++ d.world.queue.items))) (sym o)
-        (subst (λ (xs : List ℕ). InLine f n (own_of s.world q ++ (hand_of c ++ xs))) (sym i.queue)
+        subst (λ (qs : List (List ℕ)). InLine f n (get_or qs q [] ++ (hand_of c ++ d.world.queues.plain.items))) (sym o)
+        (subst (λ (xs : List ℕ). InLine f n (own_of s.world q ++ (hand_of c ++ xs))) (sym (i.queue Plain))
         (subst (λ (xs : List ℕ). InLine f n (own_of s.world q ++ xs))
-        (append_assoc (hand_of c) s.world.queue.items i.added)
-        (subst (InLine f n) (append_assoc (own_of s.world q) (hand_of c ++ s.world.queue.items) i.added)
-        (line-more f n (line q c s.world) i.added z))))
+        (append_assoc (hand_of c) s.world.queues.plain.items (i.added Plain))
+        (subst (InLine f n) (append_assoc (own_of s.world q) (hand_of c ++ s.world.queues.plain.items) (i.added Plain))
+        (line-more f n (line q c s.world) (i.added Plain) z))))
 
     by-side : (c : Op) (below : List Op) (o : Op) → stack s p ≡ (c ∷ below) ++ o ∷ [] → Doing q c →
         weigh stray_of below ≡ 0 → stray_of o ≡ 0 → InLine f n (line q c s.world) → Outcome q f n before new
@@ -288,7 +309,7 @@ module _ (p q f n : ℕ) (before : Trace) (new : Machine) (idles : stack new p �
       are_onward_of p ts ≡ true → run_all ts s ≡ Ok new → Outcome q f n before new
   walks [] s y k (over e t) on m =
       let same_one : s ≡ new = cc in
-      stands (subst (λ (x : Machine). InLine f n (own_of x.world q ++ x.world.queue.items)) same_one t)
+      stands (subst (λ (x : Machine). InLine f n (own_of x.world q ++ x.world.queues.plain.items)) same_one t)
       (subst (λ (x : Machine). So before x.world) same_one k)
   walks [] s y k (going c side e z x t) on m =
       let same_one : s ≡ new = cc in

@@ -3,6 +3,11 @@
 -- any of these.
 use Rattle.std.proofs.Common.{◌≡◌, ◌∙◌, ℕ, List, [], ◌∷◌, ◌++◌, length, Bool, true, false, refl, ap, arith}
 use Rattle.std.specs.Prelude.{Option, Some, None}
+use Rattle.executor_model.specs.declared.op.Look.{Look}
+use Rattle.executor_parts.specs.declared.mark.Mark.TheVariants.{Plain, Urgent}
+use Rattle.executor_model.specs.declared.op.Look.TheVariants.{First, Second}
+use Rattle.executor_parts.specs.declared.mark.Mark.{Mark}
+use Rattle.executor_parts.specs.Marks.{first_of, turn_after}
 use Rattle.task_moves.specs.Moves as moves
 use Rattle.task_moves.specs.declared.moves.owed.Answer.{Answer}
 use Rattle.task_moves.specs.declared.moves.owed.Move.{Move}
@@ -72,6 +77,7 @@ abbrev pub sits_of : Op → ℕ
 sits_of (op.User (user_op.PollOwn x)) = 1
 sits_of (op.Tick tick_op.MakeTick) = 0
 sits_of (op.Tick (tick_op.Search s)) = 1
+sits_of (op.Tick (tick_op.Look s look)) = 1
 sits_of (op.Tick (tick_op.CopyWaker s)) = 1
 sits_of (op.Tick (tick_op.FallAsleep s)) = 1
 sits_of (op.Tick (tick_op.WakeUp t)) = 1
@@ -95,6 +101,11 @@ view-log t w e z = ap (λ (s : Watched). let v : View = record (view t w) { seen
 pub view-log_if : (b : Bool) (t : TickOrRun) (w : World) (e : Event) → IsSilent e → view t (log_if b w e) ≡ view t w
 view-log_if true t w e z = view-log t w e z
 view-log_if false t w e z = refl
+
+-- and so is a turn
+pub view-turned : (t : TickOrRun) (p : ℕ) (w : World) → view t (acts.turned p w) ≡ view t w
+view-turned t p w = view-log t (record w { urgent_turns = turn_after w.urgent_turns })
+    (event.Looked p (first_of w.urgent_turns)) (λ u n s. refl)
 
 pub record Beside (w : World) (d : Done) : Type 0 where
   pub view : (t : TickOrRun) → view t d.world ≡ view t w
@@ -152,10 +163,10 @@ beside-call p w f (Outside x) k =
 
 -- the table and the queue
 
-beside-enter : (b c : Bool) (p : ℕ) (w : World) → Beside w (acts.enter_by b c p w)
-beside-enter true c p w = besides w _ (λ t. refl) refl
-beside-enter false true p w = besides w _ (λ t. refl) refl
-beside-enter false false p w = besides w _ (λ t. view-log t w (event.Accepted p (length w.tasks)) (λ t n s. refl)) refl
+beside-enter : (b c : Bool) (mark : Mark) (p : ℕ) (w : World) → Beside w (acts.enter_by b c mark p w)
+beside-enter true c mark p w = besides w _ (λ t. refl) refl
+beside-enter false true mark p w = besides w _ (λ t. refl) refl
+beside-enter false false mark p w = besides w _ (λ t. view-log t w (event.Accepted p (length w.tasks)) (λ t n s. refl)) refl
 
 entry-sits : (b : Bool) (f : ℕ) → weigh sits_of (acts.entry_goes b f) ≡ 0
 entry-sits true f = refl
@@ -165,13 +176,14 @@ beside-leave : (b : Bool) (w : World) (f : ℕ) → Beside w (acts.leave_by b w 
 beside-leave true w f = besides w _ (λ t. refl) (entry-sits w.is_static f)
 beside-leave false w f = besides w _ (λ t. refl) refl
 
-beside-take : (q : List ℕ) (w : World) → Beside w (acts.take_by w q)
-beside-take [] w = besides w _ (λ t. refl) refl
-beside-take (f ∷ rest) w = besides w _ (λ t. refl) refl
+beside-take : (look : Look) (q : List ℕ) (w : World) → Beside w (acts.take_by w look q)
+beside-take (First mark) [] w = besides w _ (λ t. refl) refl
+beside-take (Second mark) [] w = besides w _ (λ t. refl) refl
+beside-take look (f ∷ rest) w = besides w _ (λ t. refl) refl
 
-beside-append : (b : Bool) (w : World) (f : ℕ) → Beside w (acts.append_by b w f)
-beside-append true w f = besides w _ (λ t. refl) refl
-beside-append false w f = besides w _ (λ t. refl) refl
+beside-append : (b : Bool) (w : World) (mark : Mark) (f : ℕ) → Beside w (acts.append_by b w mark f)
+beside-append true w mark f = besides w _ (λ t. refl) refl
+beside-append false w mark f = besides w _ (λ t. refl) refl
 
 beside-exchange : (b : Bool) (w : World) → Beside w (exchange_by b w)
 beside-exchange true w = besides w _ (λ t. refl) refl
@@ -252,9 +264,10 @@ beside-leak_next false p w (f ∷ rest) =
     besides w _ (λ t. view-log t (acts.wake p v f).world (event.Leaked p f) (λ t n s. refl) ∙ m.view t)
     (none-both (acts.wake p v f).next (acts.leaking_ops rest) m.none (aside-leaking sits_of refl rest))
 
-beside-drain : (p : ℕ) (w : World) (q : List ℕ) → Beside w (acts.drain_by p w q)
-beside-drain p w [] = besides w _ (λ t. view-log t w (event.DropEnded p) (λ t n s. refl)) refl
-beside-drain p w (f ∷ rest) = besides w _ (λ t. refl) refl
+beside-drain : (mark : Mark) (p : ℕ) (w : World) (q : List ℕ) → Beside w (acts.drain_by p w mark q)
+beside-drain Urgent p w [] = besides w _ (λ t. refl) refl
+beside-drain Plain p w [] = besides w _ (λ t. view-log t w (event.DropEnded p) (λ t n s. refl)) refl
+beside-drain mark p w (f ∷ rest) = besides w _ (λ t. refl) refl
 
 -- what has a place of its own
 abbrev pub is_sits : Op → Bool
@@ -272,11 +285,12 @@ is_sits _ = false
 
 pub beside-act : (p : ℕ) (h : Hint) (o : Op) (w : World) → is_sits o ≡ false → Beside w (act p h o w)
 beside-act p h (op.Move m f) w n = beside-move _ m p w w f (λ t. refl)
-beside-act p h (op.Table table_op.Enter) w n = beside-enter _ _ p w
+beside-act p h (op.Table (table_op.Enter mark)) w n = beside-enter _ _ _ p w
 beside-act p h (op.Table (table_op.LeaveTable f)) w n = beside-leave _ w f
 beside-act p h (op.Table o) w n = besides w _ (λ t. refl) refl
-beside-act p h (op.Queue queue_op.Take) w n = beside-take _ w
-beside-act p h (op.Queue (queue_op.Append f)) w n = beside-append _ w f
+beside-act p h (op.Queue queue_op.TakeTurn) w n = besides w _ (λ t. view-turned t p w) refl
+beside-act p h (op.Queue (queue_op.Take look)) w n = beside-take look _ w
+beside-act p h (op.Queue (queue_op.Append f)) w n = beside-append _ w _ f
 beside-act p h (op.User (user_op.BeginDrop f)) w n = besides w _ (λ t. view-log t w (event.Dropped p f) (λ t n s. refl))
     refl
 beside-act p h (op.User (user_op.BeginDropOutput f)) w n =
@@ -304,8 +318,9 @@ beside-act p h (op.Closing closing_op.TakeOut) w n =
     besides w _ (λ t. refl) (aside-closing sits_of (λ o. refl) w.table w.waking)
 beside-act p h (op.Closing closing_op.DropNext) w n = beside-drop_next p w _
 beside-act p h (op.Closing closing_op.WakeNext) w n = beside-wake_next p w _
-beside-act p h (op.Closing closing_op.Close) w n = besides w _ (λ t. refl) refl
-beside-act p h (op.Closing closing_op.Drain) w n = beside-drain p w _
+beside-act p h (op.Closing (closing_op.Close Urgent)) w n = besides w _ (λ t. refl) refl
+beside-act p h (op.Closing (closing_op.Close Plain)) w n = besides w _ (λ t. refl) refl
+beside-act p h (op.Closing (closing_op.Drain mark)) w n = beside-drain mark p w _
 beside-act p h (op.Closing closing_op.LeakOut) w n = beside-leak_out _ w
 beside-act p h (op.Closing closing_op.LeakNext) w n = beside-leak_next _ p w _
 beside-act p h (op.End r held) w n = absurd (cc)

@@ -50,7 +50,8 @@ used_list who list_op.UnlockRead = 0
 abbrev pub used_run : TickOrRun → RunOp → ℕ
 used_run who run_op.MakeRoom = 0
 used_run who run_op.ReturnRoom = 0
-used_run who (run_op.SearchCommon x) = is_it who (tick_or_run.Run x.run)
+used_run who (run_op.TakeTurn x) = is_it who (tick_or_run.Run x.run)
+used_run who (run_op.SearchCommon x look) = is_it who (tick_or_run.Run x.run)
 used_run who (run_op.LookOwn x at left) = is_it who (tick_or_run.Run x.run)
 used_run who (run_op.WakeOwn x) = is_it who (tick_or_run.Run x.run)
 used_run who (run_op.Reschedule q a) = is_it who (tick_or_run.Run q)
@@ -58,6 +59,7 @@ used_run who (run_op.Reschedule q a) = is_it who (tick_or_run.Run q)
 abbrev pub used_of : TickOrRun → Op → ℕ
 used_of who (op.User (user_op.PollOwn x)) = is_it who (tick_or_run.Run x.run)
 used_of who (op.Tick (tick_op.Search s)) = is_it who s.who
+used_of who (op.Tick (tick_op.Look s look)) = is_it who s.who
 used_of who (op.Tick (tick_op.CopyWaker s)) = is_it who s.who
 used_of who (op.Tick (tick_op.FallAsleep s)) = is_it who s.who
 used_of who (op.List o) = used_list who o
@@ -82,7 +84,8 @@ early_list who list_op.UnlockRead = 0
 abbrev pub early_run : TickOrRun → RunOp → ℕ
 early_run who run_op.MakeRoom = 0
 early_run who run_op.ReturnRoom = 0
-early_run who (run_op.SearchCommon x) = is_it who (tick_or_run.Run x.run)
+early_run who (run_op.TakeTurn x) = is_it who (tick_or_run.Run x.run)
+early_run who (run_op.SearchCommon x look) = is_it who (tick_or_run.Run x.run)
 early_run who (run_op.LookOwn x at left) = is_it who (tick_or_run.Run x.run)
 early_run who (run_op.WakeOwn x) = is_it who (tick_or_run.Run x.run)
 early_run who (run_op.Reschedule q a) = cond (is_ready a) (is_it who (tick_or_run.Run q)) 0
@@ -90,6 +93,7 @@ early_run who (run_op.Reschedule q a) = cond (is_ready a) (is_it who (tick_or_ru
 abbrev pub early_of : TickOrRun → Op → ℕ
 early_of who (op.User (user_op.PollOwn x)) = is_it who (tick_or_run.Run x.run)
 early_of who (op.Tick (tick_op.Search s)) = is_it who s.who
+early_of who (op.Tick (tick_op.Look s look)) = is_it who s.who
 early_of who (op.Tick (tick_op.CopyWaker s)) = is_it who s.who
 early_of who (op.Tick (tick_op.FallAsleep s)) = is_it who s.who
 early_of who (op.List o) = early_list who o
@@ -130,8 +134,8 @@ abbrev pub drops_of : TickOrRun → Op → ℕ
 drops_of who (op.Tick (tick_op.Leave u)) = drops_who who u
 drops_of who _ = 0
 
--- what there never is: a copy of a task's waker that would hold it, or a leaving that answers a poll which found
--- nothing
+-- what there never is: a copy of a task's waker that would hold it, a leaving that answers a poll which found nothing, or a
+-- run's look at the executor's queues as a tick looks
 abbrev pub odd_section : TickOrRun → Section → ℕ
 odd_section who section.MakeRun = 0
 odd_section who (section.Register x) = 0
@@ -146,7 +150,12 @@ abbrev pub odd_run : TickOrRun → RunOp → ℕ
 odd_run who (run_op.Reschedule q a) = cond (is_pending a || is_refusal a) (is_it who (tick_or_run.Run q)) 0
 odd_run who _ = 0
 
+abbrev pub odd_look : TickOrRun → TickOrRun → ℕ
+odd_look who (tick_or_run.Tick u) = 0
+odd_look who (tick_or_run.Run q) = is_it who (tick_or_run.Run q)
+
 abbrev pub odd_of : TickOrRun → Op → ℕ
+odd_of who (op.Tick (tick_op.Look s look)) = odd_look who s.who
 odd_of who (op.Waker (waker_op.CopyWaker f held)) = holds_it who held
 odd_of who (op.List o) = odd_list who o
 odd_of who (op.Run o) = odd_run who o
@@ -174,7 +183,8 @@ strays_list who k list_op.UnlockRead = 0
 abbrev pub strays_run : TickOrRun → ℕ → RunOp → ℕ
 strays_run who k run_op.MakeRoom = 0
 strays_run who k run_op.ReturnRoom = 0
-strays_run who k (run_op.SearchCommon x) = strays who k x
+strays_run who k (run_op.TakeTurn x) = strays who k x
+strays_run who k (run_op.SearchCommon x look) = strays who k x
 strays_run who k (run_op.LookOwn x at left) = strays who k x
 strays_run who k (run_op.WakeOwn x) = strays who k x
 strays_run who k (run_op.Reschedule q a) = 0
@@ -182,6 +192,7 @@ strays_run who k (run_op.Reschedule q a) = 0
 abbrev pub strays_of : TickOrRun → ℕ → Op → ℕ
 strays_of who k (op.User (user_op.PollOwn x)) = strays who k x
 strays_of who k (op.Tick (tick_op.Search s)) = stray who k s.who s.poll
+strays_of who k (op.Tick (tick_op.Look s look)) = stray who k s.who s.poll
 strays_of who k (op.Tick (tick_op.CopyWaker s)) = stray who k s.who s.poll
 strays_of who k (op.Tick (tick_op.FallAsleep s)) = stray who k s.who s.poll
 strays_of who k (op.List o) = strays_list who k o

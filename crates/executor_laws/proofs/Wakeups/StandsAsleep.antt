@@ -6,6 +6,9 @@ use Rattle.std.specs.Prelude.{Option, Some, None, slice_get}
 use Rattle.task_moves.specs.declared.moves.owed.Move.TheVariants as move
 use Rattle.executor_parts.specs.Sleepers.{put_to_sleep, position_of, waker_at, next_number}
 use Rattle.executor_model.specs.declared.call.Reply.TheVariants as reply
+use Rattle.executor_parts.specs.Marks.{first_of, other as other_mark}
+use Rattle.executor_model.specs.declared.op.Look.{Look}
+use Rattle.executor_model.specs.declared.op.Look.TheVariants.{First, Second}
 use Rattle.executor_model.specs.declared.op.Op.{Op}
 use Rattle.executor_model.specs.declared.op.Op.TheVariants as op
 use Rattle.executor_model.specs.declared.op.Sleeping.{Sleeping}
@@ -15,9 +18,10 @@ use Rattle.executor_model.specs.declared.op.Waker.{Waker}
 use Rattle.executor_model.specs.declared.op.Waker.TheVariants.{Task, Outside}
 use Rattle.executor_model.specs.declared.op.TickOrRun.{TickOrRun}
 use Rattle.executor_model.specs.declared.op.TickOrRun.TheVariants as tick_or_run
-use Rattle.executor_model.specs.World.{World, Ticker, Awake, Asleep, Left, Done, place_of, put_sleepers}
-use Rattle.executor_model.specs.Acts.{copied, waker_goes}
-use Rattle.executor_model.specs.ActsOfSleepers.{search_by, copy_sleeper_by, held_as, sleep_nowhere, pend_as, sleep_anew_by}
+use Rattle.executor_model.specs.World.{World, Ticker, Awake, Asleep, Left, Done, place_of, put_sleepers, queue_of}
+use Rattle.executor_model.specs.Acts.{copied, mark_in, waker_goes}
+use Rattle.executor_model.specs.ActsOfSleepers.{look_tick, look_tick_by, search_tick, copy_sleeper_by, held_as, sleep_nowhere}
+use Rattle.executor_model.specs.ActsOfSleepers.{pend_as, sleep_anew_by}
 use Rattle.executor_model.specs.ActsOfSleepers.{sleeper_goes, sleep_listed_by, sleep_again_by, fall_asleep_by}
 use Rattle.executor_model.specs.Weights.{same}
 use Rattle.executor_model.proofs.Steps.SleepersCounting.{asleep}
@@ -25,7 +29,8 @@ use Rattle.executor_model.specs.SleepersAgree.{sleeps}
 use Rattle.executor_laws.proofs.Wakeups.Listed.{Entry, sum, entry_of, kept_of, astray, misplaced_of, at_entry, sum-push, sum-set}
 use Rattle.executor_laws.proofs.Wakeups.Listed.{entry-in}
 use Rattle.executor_laws.proofs.Wakeups.Stands.{View, view, with_doing, Stands, KeepsStands, Nothing, keeps-same}
-use Rattle.executor_laws.proofs.Wakeups.StandsNothing.{nothing-search, nothing-copy, nothing-sleep, nothing-up, nothing-call}
+use Rattle.executor_laws.proofs.Wakeups.Beside.{view-turned}
+use Rattle.executor_laws.proofs.Wakeups.StandsNothing.{nothing-look, nothing-search, nothing-copy, nothing-sleep, nothing-up, nothing-call}
 use Rattle.executor_laws.proofs.Wakeups.StandsNothing.{nothing-end, nothing-both, nothing-of}
 use Rattle.executor_laws.proofs.Wakeups.StandsOwn.{Own, held-other, own-anew, own-again, own-found, own-front, own-nowhere}
 use Rattle.executor_laws.proofs.Wakeups.StandsOwn.{own-refused, own-waking_up}
@@ -67,43 +72,68 @@ nothing-goes t (Some s) = by s.waker
     by (Task g) = nothing-of t _ refl
     by (Outside x) = nothing-of t _ refl
 
--- the search of a tick
+-- the search of a tick takes a turn first
 
-search-same : (x : Ticker) (t u : TickOrRun) (k : ℕ) (a : Waker) (w : World) (q : List ℕ) → t ≢ u →
-    KeepsStands t w (op.Tick (tick_op.Search (asleep a u k)) ∷ []) (search_by x w q (asleep a u k))
-search-same x t u k a w [] n = keeps-same t w _ (search_by x w [] (asleep a u k)) refl (nothing-search t u n a k)
-    (nothing-copy t u n a k)
-search-same Awake t u k a w (f ∷ rest) n =
-    keeps-same t w _ (search_by Awake w (f ∷ rest) (asleep a u k)) refl (nothing-search t u n a k) (nothing-found t u f n)
-search-same Left t u k a w (f ∷ rest) n =
-    keeps-same t w _ (search_by Left w (f ∷ rest) (asleep a u k)) refl (nothing-search t u n a k)
+pub stands-search : (t : TickOrRun) (u p k : ℕ) (a : Waker) (w : World) →
+    KeepsStands t w (op.Tick (tick_op.Search (asleep a (tick_or_run.Tick u) k)) ∷ [])
+    (search_tick p w (asleep a (tick_or_run.Tick u) k))
+stands-search t u p k a w = λ r m b h. subst (λ (v : View). Stands v (with_doing t
+    (op.Tick (tick_op.Look (asleep a (tick_or_run.Tick u) k) (First (first_of w.urgent_turns))) ∷ []) r) m)
+    (sym (view-turned t p w)) h
+
+-- and each of its looks
+
+look-same : (look : Look) (x : Ticker) (t u : TickOrRun) (k : ℕ) (a : Waker) (w : World) (q : List ℕ) → t ≢ u →
+    KeepsStands t w (op.Tick (tick_op.Look (asleep a u k) look) ∷ []) (look_tick_by x w look q (asleep a u k))
+look-same (First mark) x t u k a w [] n = keeps-same t w _ (look_tick_by x w (First mark) [] (asleep a u k)) refl
+    (nothing-look t u n a k (First mark)) (nothing-look t u n a k (Second (other_mark mark)))
+look-same (Second mark) x t u k a w [] n = keeps-same t w _ (look_tick_by x w (Second mark) [] (asleep a u k)) refl
+    (nothing-look t u n a k (Second mark)) (nothing-copy t u n a k)
+look-same look Awake t u k a w (f ∷ rest) n =
+    keeps-same t w _ (look_tick_by Awake w look (f ∷ rest) (asleep a u k)) refl (nothing-look t u n a k look)
     (nothing-found t u f n)
-search-same (Asleep m) t u k a w (f ∷ rest) n =
-    keeps-same t w _ (search_by (Asleep m) w (f ∷ rest) (asleep a u k)) refl (nothing-search t u n a k)
+look-same look Left t u k a w (f ∷ rest) n =
+    keeps-same t w _ (look_tick_by Left w look (f ∷ rest) (asleep a u k)) refl (nothing-look t u n a k look)
+    (nothing-found t u f n)
+look-same look (Asleep m) t u k a w (f ∷ rest) n =
+    keeps-same t w _ (look_tick_by (Asleep m) w look (f ∷ rest) (asleep a u k)) refl (nothing-look t u n a k look)
     (nothing-waking_up t u f n)
 
-search-own : (x : Ticker) (t : TickOrRun) (k : ℕ) (a : Waker) (w : World) (q : List ℕ) → place_here w t ≡ x →
-    (view t w).owned ≡ 0 →
-    KeepsStands t w (op.Tick (tick_op.Search (asleep a t k)) ∷ []) (search_by x w q (asleep a t k))
-search-own x t k a w [] e o = λ r m b h. h
-search-own Awake t k a w (f ∷ rest) e o =
-    own-found t k f a (view t w) (tells_next f) (ap sleeps e) o (nothing-of t _ refl)
-search-own Left t k a w (f ∷ rest) e o =
-    own-found t k f a (view t w) (tells_next f) (ap sleeps e) o (nothing-of t _ refl)
-search-own (Asleep n) t k a w (f ∷ rest) e o =
-    own-waking_up t k f a (view t w) (tells_next f) o (nothing-of t _ refl)
+look-own : (look : Look) (x : Ticker) (u k : ℕ) (a : Waker) (w : World) (q : List ℕ) →
+    place_here w (tick_or_run.Tick u) ≡ x →
+    KeepsStands (tick_or_run.Tick u) w (op.Tick (tick_op.Look (asleep a (tick_or_run.Tick u) k) look) ∷ [])
+    (look_tick_by x w look q (asleep a (tick_or_run.Tick u) k))
+look-own (First mark) x u k a w [] e = λ r m b h. h
+look-own (Second mark) x u k a w [] e = λ r m b h. h
+look-own look Awake u k a w (f ∷ rest) e =
+    own-found look (tick_or_run.Tick u) k f a (view (tick_or_run.Tick u) w) (tells_next f) (ap sleeps e) refl
+    (nothing-of (tick_or_run.Tick u) _ refl)
+look-own look Left u k a w (f ∷ rest) e =
+    own-found look (tick_or_run.Tick u) k f a (view (tick_or_run.Tick u) w) (tells_next f) (ap sleeps e) refl
+    (nothing-of (tick_or_run.Tick u) _ refl)
+look-own look (Asleep n) u k a w (f ∷ rest) e =
+    own-waking_up look (tick_or_run.Tick u) k f a (view (tick_or_run.Tick u) w) (tells_next f) refl
+    (nothing-of (tick_or_run.Tick u) _ refl)
 
-pub stands-search : (t : TickOrRun) (u k : ℕ) (a : Waker) (w : World) →
-    KeepsStands t w (op.Tick (tick_op.Search (asleep a (tick_or_run.Tick u) k)) ∷ [])
-    (search_by (place_of w (tick_or_run.Tick u)) w w.queue.items (asleep a (tick_or_run.Tick u) k))
-stands-search t u k a w = ⊎_elim
-    (λ (x : IsSame t (tick_or_run.Tick u)). subst (λ (n : TickOrRun). KeepsStands n w
-    (op.Tick (tick_op.Search (asleep a (tick_or_run.Tick u) k)) ∷ [])
-    (search_by (place_of w (tick_or_run.Tick u)) w w.queue.items (asleep a (tick_or_run.Tick u) k))) (sym x.2)
-    (search-own (place_of w (tick_or_run.Tick u)) (tick_or_run.Tick u) k a w w.queue.items refl refl))
-    (λ (x : IsOther t (tick_or_run.Tick u)).
-    search-same (place_of w (tick_or_run.Tick u)) t (tick_or_run.Tick u) k a w w.queue.items x.2)
-    (who_cases t (tick_or_run.Tick u))
+-- a run doesn't look so
+no-look : (look : Look) (q k : ℕ) (a : Waker) (w : World) (d : Done) →
+    KeepsStands (tick_or_run.Run q) w (op.Tick (tick_op.Look (asleep a (tick_or_run.Run q) k) look) ∷ []) d
+no-look look q k a w d r m b h = absurd (omega (arith, h.even, self (tick_or_run.Run q)))
+
+look-self : (look : Look) (t : TickOrRun) (k : ℕ) (a : Waker) (w : World) →
+    KeepsStands t w (op.Tick (tick_op.Look (asleep a t k) look) ∷ [])
+    (look_tick w (asleep a t k) look)
+look-self look (tick_or_run.Tick u) k a w =
+    look-own look (place_of w (tick_or_run.Tick u)) u k a w (queue_of w (mark_in look)).items refl
+look-self look (tick_or_run.Run q) k a w =
+    no-look look q k a w (look_tick w (asleep a (tick_or_run.Run q) k) look)
+
+pub stands-look : (look : Look) (t u : TickOrRun) (k : ℕ) (a : Waker) (w : World) →
+    KeepsStands t w (op.Tick (tick_op.Look (asleep a u k) look) ∷ []) (look_tick w (asleep a u k) look)
+stands-look look t u k a w = by_who t u w (λ n. op.Tick (tick_op.Look (asleep a n k) look) ∷ [])
+    (λ n. look_tick w (asleep a n k) look)
+    (λ n. look-same look (place_of w u) t u k a w (queue_of w (mark_in look)).items n)
+    (look-self look t k a w)
 
 -- the copy
 

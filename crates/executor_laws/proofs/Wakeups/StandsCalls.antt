@@ -231,7 +231,7 @@ plain : (t : TickOrRun) (p : ℕ) (w : World) (here : Option Waker) (c : Call) �
 plain t p w here c e z = begins-beside t p w c (begun p (log w (event.CallBegun p c)) here c) (besides _ _ e z)
 
 pub stands-begun : (t : TickOrRun) (p : ℕ) (w : World) (here : Option Waker) (c : Call) → Begins t p w here c
-stands-begun t p w here call.Spawn r m k f h = plain t p w here call.Spawn (λ j. refl) refl r m f h
+stands-begun t p w here (call.Spawn mark) r m k f h = plain t p w here (call.Spawn mark) (λ j. refl) refl r m f h
 stands-begun t p w here call.TryTick r m k f h = plain t p w here call.TryTick (λ j. refl) refl r m f h
 stands-begun t p w here call.IsEmpty r m k f h = plain t p w here call.IsEmpty (λ j. refl) refl r m f h
 stands-begun t p w here (call.Wake n) r m k f h =

@@ -44,9 +44,10 @@ use Rattle.executor_laws.proofs.Wakeups.StandsActs.{stands-copy_waker}
 use Rattle.executor_laws.proofs.Wakeups.StandsGoing.{stands-lock, stands-make_run, stands-pending, stands-ready, stands-register}
 use Rattle.executor_laws.proofs.Wakeups.StandsGoing.{stands-reschedule, stands-return, stands-room, stands-unregister}
 use Rattle.executor_laws.proofs.Wakeups.StandsGoing.{stands-wake_own}
-use Rattle.executor_laws.proofs.Wakeups.StandsAsleep.{stands-search, stands-copy, stands-fall_asleep}
+use Rattle.executor_laws.proofs.Wakeups.StandsAsleep.{stands-search, stands-look, stands-copy, stands-fall_asleep}
 use Rattle.executor_laws.proofs.Wakeups.StandsNothing.{nothing-of}
-use Rattle.executor_laws.proofs.Wakeups.StandsRuns.{stage-common, stage-look, stage-read, stage-search, stage-steal, stands-walks}
+use Rattle.executor_laws.proofs.Wakeups.StandsRuns.{stage-common, stage-look, stage-read, stage-search, stage-steal, stage-turn}
+use Rattle.executor_laws.proofs.Wakeups.StandsRuns.{stands-walks, walks-turn}
 use Rattle.executor_laws.proofs.Wakeups.StandsRuns.{walks-lock, walks-look_own, walks-search, walks-search_common, walks-steal}
 use Rattle.executor_laws.proofs.Wakeups.StandsWorlds.{HasSlept}
 
@@ -85,26 +86,27 @@ live-who (tick_or_run.Run r) w k = k r refl
 one-self : (r : ℕ) → 1 ≤ same r r
 one-self r = omega (arith, same_self r)
 
-search-who : (t who : TickOrRun) (k : ℕ) (a : Waker) (w : World) →
-    KeepsStands t w (op.Tick (tick_op.Search (asleep a who k)) ∷ []) (search w (asleep a who k))
-search-who t (tick_or_run.Tick u) k a w = stands-search t u k a w
-search-who t (tick_or_run.Run q) k a w = let x : RunPoll = record { run = q; waker = a; poll = k } in
+search-who : (t who : TickOrRun) (p k : ℕ) (a : Waker) (w : World) →
+    KeepsStands t w (op.Tick (tick_op.Search (asleep a who k)) ∷ []) (search p w (asleep a who k))
+search-who t (tick_or_run.Tick u) p k a w = stands-search t u p k a w
+search-who t (tick_or_run.Run q) p k a w = let x : RunPoll = record { run = q; waker = a; poll = k } in
     stands-walks t w x (op.Tick (tick_op.Search (runs.asleep x)) ∷ []) (runs.search_own w x) (stage-search t x) refl
     (λ j. omega arith) (walks-search w x)
 
-stands-tick : (t : TickOrRun) (h : Hint) (o : TickOp) (w : World) → HasSlept w →
+stands-tick : (t : TickOrRun) (p : ℕ) (h : Hint) (o : TickOp) (w : World) → HasSlept w →
     (1 ≤ borrowing_of (op.Tick o) → w.gone ≡ false) → IsLive (op.Tick o) w →
-    KeepsStands t w (op.Tick o ∷ []) (tick_act h o w)
-stands-tick t h tick_op.MakeTick w slept g live = stands-make h.refused t w slept (g (omega arith))
-stands-tick t h (tick_op.Search s) w slept g live = search-who t s.who s.poll s.waker w
-stands-tick t h (tick_op.CopyWaker s) w slept g live =
+    KeepsStands t w (op.Tick o ∷ []) (tick_act p h o w)
+stands-tick t p h tick_op.MakeTick w slept g live = stands-make h.refused t w slept (g (omega arith))
+stands-tick t p h (tick_op.Search s) w slept g live = search-who t s.who p s.poll s.waker w
+stands-tick t p h (tick_op.Look s look) w slept g live = stands-look look t s.who s.poll s.waker w
+stands-tick t p h (tick_op.CopyWaker s) w slept g live =
     stands-copy (is_copy_refused h w s.waker) t s.who s.poll s.waker w
     (live-who s.who w (λ r e. live r (let z : is_run r s.who ≡ 1 = ap (is_run r) e ∙ same_self r in omega (arith, z))))
-stands-tick t h (tick_op.FallAsleep s) w slept g live =
+stands-tick t p h (tick_op.FallAsleep s) w slept g live =
     stands-fall_asleep t s.who s.poll s.waker w slept
     (live-who s.who w (λ r e. live r (let z : is_run r s.who ≡ 1 = ap (is_run r) e ∙ same_self r in omega (arith, z))))
-stands-tick t h (tick_op.WakeUp u) w slept g live = stands-wake_up t u w slept
-stands-tick t h (tick_op.Leave u) w slept g live = stands-leave t u w slept
+stands-tick t p h (tick_op.WakeUp u) w slept g live = stands-wake_up t u w slept
+stands-tick t p h (tick_op.Leave u) w slept g live = stands-leave t u w slept
 
 stands-write : (t : TickOrRun) (h : Hint) (s : Section) (w : World) → HasSlept w →
     (1 ≤ borrowing_of (op.List (list_op.Write s)) → w.gone ≡ false) →
@@ -131,9 +133,12 @@ stands-run : (t : TickOrRun) (p : ℕ) (h : Hint) (o : RunOp) (w : World) → Is
     KeepsStands t w (op.Run o ∷ []) (run_act p h o w)
 stands-run t p h run_op.MakeRoom w live = stands-room h.refused t w
 stands-run t p h run_op.ReturnRoom w live = stands-return t w
-stands-run t p h (run_op.SearchCommon x) w live =
-    stands-walks t w x (op.Run (run_op.SearchCommon x) ∷ []) (runs.search_common w x) (stage-common t x) refl
-    (λ k. omega arith) (walks-search_common w x)
+stands-run t p h (run_op.TakeTurn x) w live =
+    stands-walks t w x (op.Run (run_op.TakeTurn x) ∷ []) (runs.take_turn_of_run p w x) (stage-turn t x) refl
+    (λ k. omega arith) (walks-turn p w x)
+stands-run t p h (run_op.SearchCommon x look) w live =
+    stands-walks t w x (op.Run (run_op.SearchCommon x look) ∷ []) (runs.search_common w x look)
+    (stage-common t x look) refl (λ k. omega arith) (walks-search_common w x look)
 stands-run t p h (run_op.LookOwn x at left) w live =
     stands-walks t w x (op.Run (run_op.LookOwn x at left) ∷ []) (runs.look_own w x at left)
     (stage-look t x at left) refl
@@ -143,7 +148,7 @@ stands-run t p h (run_op.Reschedule q a) w live = stands-reschedule t w q a
 
 pub stands-act : (t : TickOrRun) (p : ℕ) (h : Hint) (o : Op) (w : World) → HasSlept w →
     (1 ≤ borrowing_of o → w.gone ≡ false) → IsLive o w → is_end o ≡ false → KeepsStands t w (o ∷ []) (act p h o w)
-stands-act t p h (op.Tick o) w slept g live n = stands-tick t h o w slept g live
+stands-act t p h (op.Tick o) w slept g live n = stands-tick t p h o w slept g live
 stands-act t p h (op.Sleeper sleeper_op.HandOut) w slept g live n = stands-hand_out _ t w
 stands-act t p h (op.Sleeper (sleeper_op.CallSleeper s)) w slept g live n = stands-call t s.who p s.poll s.waker w
 stands-act t p h (op.Sleeper sleeper_op.ExchangeFlag) w slept g live n =

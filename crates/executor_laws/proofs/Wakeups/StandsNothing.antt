@@ -2,6 +2,7 @@
 -- Each stage of a poll uses its tick or run, and what doesn't use it is nothing to it.
 use Rattle.std.proofs.Common.{◌≡◌, ◌≢◌, ℕ, ◌+◌, ◌==◌, ◌≤◌, List, [], ◌∷◌, ◌++◌, Bool, true, false, ◌||◌, cond, refl}
 use Rattle.std.proofs.Common.{arith}
+use Rattle.executor_model.specs.declared.op.Look.{Look}
 use Rattle.executor_model.specs.declared.call.Reply.{Reply}
 use Rattle.executor_model.specs.declared.call.Reply.TheVariants as reply
 use Rattle.executor_model.specs.declared.op.Hold.{Hold}
@@ -28,7 +29,8 @@ use Rattle.executor_model.proofs.OneFuture.Telling.{one-stray}
 use Rattle.executor_laws.proofs.Wakeups.Beside.{holds_some, sits_of}
 use Rattle.executor_laws.proofs.Wakeups.Sitting.{cond-other, eq_who, holds_it, is-cond, is_it, other}
 use Rattle.executor_laws.proofs.Wakeups.Stands.{is_ready, is_answer, used_of, early_of, pends_of, refused_of, found_of, ends_of}
-use Rattle.executor_laws.proofs.Wakeups.Stands.{waking_up_of, drops_of, drops_who, odd_of, strays_of, calls_of, Doing, early_section}
+use Rattle.executor_laws.proofs.Wakeups.Stands.{waking_up_of, drops_of, drops_who, odd_look, odd_of, strays_of, calls_of, Doing}
+use Rattle.executor_laws.proofs.Wakeups.Stands.{early_section}
 use Rattle.executor_laws.proofs.Wakeups.Stands.{used_section, strays_section, stray, with_doing, Nothing}
 use Rattle.executor_laws.proofs.Wakeups.Watched.{is_pending, is_refusal}
 
@@ -54,6 +56,7 @@ section-one who (section.Unregister q a) = cond-few (is_ready a) (is_it who (tic
 pub stages-one : (who : TickOrRun) (o : Op) → stages_of who o ≤ used_of who o
 stages-one who (op.User (user_op.PollOwn x)) = omega arith
 stages-one who (op.Tick (tick_op.Search s)) = omega arith
+stages-one who (op.Tick (tick_op.Look s look)) = omega arith
 stages-one who (op.List (list_op.LockWrite s)) = omega (arith, section-one who s)
 stages-one who (op.List (list_op.Write s)) = omega (arith, section-one who s)
 stages-one who (op.Run (run_op.Reschedule q a)) = omega (arith, cond-few (is_ready a) (is_it who (tick_or_run.Run q)))
@@ -71,13 +74,15 @@ strays-section who k (section.Unregister q a) = omega arith
 pub few-one : (who : TickOrRun) (k : ℕ) (o : Op) → strays_of who k o ≤ early_of who o
 few-one who k (op.User (user_op.PollOwn x)) = stray-few who k (tick_or_run.Run x.run) x.poll
 few-one who k (op.Tick (tick_op.Search s)) = stray-few who k s.who s.poll
+few-one who k (op.Tick (tick_op.Look s look)) = stray-few who k s.who s.poll
 few-one who k (op.Tick (tick_op.CopyWaker s)) = stray-few who k s.who s.poll
 few-one who k (op.Tick (tick_op.FallAsleep s)) = stray-few who k s.who s.poll
 few-one who k (op.List (list_op.LockWrite s)) = strays-section who k s
 few-one who k (op.List (list_op.Write s)) = strays-section who k s
 few-one who k (op.List (list_op.LockRead x)) = stray-few who k (tick_or_run.Run x.run) x.poll
 few-one who k (op.Steal o) = stray-few who k (tick_or_run.Run (poll_in o).run) (poll_in o).poll
-few-one who k (op.Run (run_op.SearchCommon x)) = stray-few who k (tick_or_run.Run x.run) x.poll
+few-one who k (op.Run (run_op.TakeTurn x)) = stray-few who k (tick_or_run.Run x.run) x.poll
+few-one who k (op.Run (run_op.SearchCommon x look)) = stray-few who k (tick_or_run.Run x.run) x.poll
 few-one who k (op.Run (run_op.LookOwn x at left)) = stray-few who k (tick_or_run.Run x.run) x.poll
 few-one who k (op.Run (run_op.WakeOwn x)) = stray-few who k (tick_or_run.Run x.run) x.poll
 few-one who k _ = omega arith
@@ -113,6 +118,17 @@ nothing-idle who o z y l c = let s = stages-one who o in
 module _ (t u : TickOrRun) (x : t ≢ u) where
   pub nothing-search : (a : Waker) (k : ℕ) → Nothing t (op.Tick (tick_op.Search (asleep a u k)) ∷ [])
   nothing-search a k = nothing-idle t (op.Tick (tick_op.Search (asleep a u k))) (other t u x) refl refl (λ j. refl)
+
+  odd-other : odd_look t u ≡ 0
+  odd-other = by u (other t u x)
+    where
+      by : (u : TickOrRun) → is_it t u ≡ 0 → odd_look t u ≡ 0
+      by (tick_or_run.Tick n) z = refl
+      by (tick_or_run.Run n) z = z
+
+  pub nothing-look : (a : Waker) (k : ℕ) (look : Look) → Nothing t (op.Tick (tick_op.Look (asleep a u k) look) ∷ [])
+  nothing-look a k look =
+      nothing-idle t (op.Tick (tick_op.Look (asleep a u k) look)) (other t u x) refl odd-other (λ j. refl)
 
   pub nothing-copy : (a : Waker) (k : ℕ) → Nothing t (op.Tick (tick_op.CopyWaker (asleep a u k)) ∷ [])
   nothing-copy a k = nothing-idle t (op.Tick (tick_op.CopyWaker (asleep a u k))) (other t u x) refl refl (λ j. refl)
@@ -177,6 +193,7 @@ copy-none t _ z = refl
 used-free : (t : TickOrRun) (o : Op) → sits_of o ≡ 0 → used_of t o ≡ 0
 used-free t (op.User (user_op.PollOwn x)) z = absurd (omega (arith, z))
 used-free t (op.Tick (tick_op.Search s)) z = absurd (omega (arith, z))
+used-free t (op.Tick (tick_op.Look s look)) z = absurd (omega (arith, z))
 used-free t (op.Tick (tick_op.CopyWaker s)) z = absurd (omega (arith, z))
 used-free t (op.Tick (tick_op.FallAsleep s)) z = absurd (omega (arith, z))
 used-free t (op.List (list_op.LockWrite section.MakeRun)) z = refl
@@ -191,7 +208,8 @@ used-free t (op.List list_op.UnlockRead) z = refl
 used-free t (op.Steal o) z = absurd (omega (arith, z))
 used-free t (op.Run run_op.MakeRoom) z = refl
 used-free t (op.Run run_op.ReturnRoom) z = refl
-used-free t (op.Run (run_op.SearchCommon x)) z = absurd (omega (arith, z))
+used-free t (op.Run (run_op.TakeTurn x)) z = absurd (omega (arith, z))
+used-free t (op.Run (run_op.SearchCommon x look)) z = absurd (omega (arith, z))
 used-free t (op.Run (run_op.LookOwn x at left)) z = absurd (omega (arith, z))
 used-free t (op.Run (run_op.WakeOwn x)) z = absurd (omega (arith, z))
 used-free t (op.Run (run_op.Reschedule q a)) z = absurd (omega (arith, z))
@@ -204,6 +222,7 @@ waking_up-free t (op.Tick (tick_op.Leave u)) z = absurd (omega (arith, z))
 waking_up-free t _ z = refl
 
 odd-free : (t : TickOrRun) (o : Op) → sits_of o ≡ 0 → odd_of t o ≡ 0
+odd-free t (op.Tick (tick_op.Look s look)) z = absurd (omega (arith, z))
 odd-free t (op.Waker (waker_op.CopyWaker f held)) z = copy-none t held z
 odd-free t (op.List (list_op.LockWrite (section.Unregister q a))) z = absurd (omega (arith, z))
 odd-free t (op.List (list_op.Write (section.Unregister q a))) z = absurd (omega (arith, z))

@@ -5,6 +5,7 @@ use Rattle.std.proofs.Common.{sym, subst, arith}
 use Rattle.executor_model.specs.declared.call.Reply.{Reply}
 use Rattle.executor_model.specs.declared.call.Reply.TheVariants as reply
 use Rattle.executor_model.specs.declared.op.Hold.{Hold}
+use Rattle.executor_model.specs.declared.op.Look.{Look}
 use Rattle.executor_model.specs.declared.op.Hold.TheVariants as hold
 use Rattle.executor_model.specs.declared.op.Op.{Op}
 use Rattle.executor_model.specs.declared.op.Op.TheVariants as op
@@ -59,20 +60,20 @@ own-goes t n v old next g o r m b h =
     let s = g.strays v.seen.poll in let c = g.calls v.seen.poll in grind arith
 
 -- a tick that finds a future, and is awake
-pub own-found : (t : TickOrRun) (k f : ℕ) (a : Waker) (v : View) (next : List Op) → v.slumbering ≡ 0 → v.owned ≡ 0 →
+pub own-found : (look : Look) (t : TickOrRun) (k f : ℕ) (a : Waker) (v : View) (next : List Op) → v.slumbering ≡ 0 → v.owned ≡ 0 →
     Nothing t next →
-    Own t v v (op.Tick (tick_op.Search (asleep a t k)) ∷ []) (next ++ op.End reply.Ready (held_as t) ∷ [])
-own-found t k f a v next e o n r m b h =
+    Own t v v (op.Tick (tick_op.Look (asleep a t k) look) ∷ []) (next ++ op.End reply.Ready (held_as t) ∷ [])
+own-found look t k f a v next e o n r m b h =
     let y : holds_it t (held_as t) ≡ 1 = held-self t in
     let z : is_it t t ≡ 1 = self t in
     subst (λ (x : Doing). Stands v x m) (sym (with-front t next (op.End reply.Ready (held_as t) ∷ []) r n))
     (let g : Stands v (with_doing t (op.End reply.Ready (held_as t) ∷ []) r) m = grind arith in g)
 
 -- a tick that sleeps, and wakes up first
-pub own-waking_up : (t : TickOrRun) (k f : ℕ) (a : Waker) (v : View) (next : List Op) → v.owned ≡ 0 → Nothing t next →
-    Own t v v (op.Tick (tick_op.Search (asleep a t k)) ∷ [])
+pub own-waking_up : (look : Look) (t : TickOrRun) (k f : ℕ) (a : Waker) (v : View) (next : List Op) → v.owned ≡ 0 → Nothing t next →
+    Own t v v (op.Tick (tick_op.Look (asleep a t k) look) ∷ [])
     (op.Tick (tick_op.WakeUp t) ∷ next ++ op.End reply.Ready (held_as t) ∷ [])
-own-waking_up t k f a v next o n r m b h =
+own-waking_up look t k f a v next o n r m b h =
     let y : holds_it t (held_as t) ≡ 1 = held-self t in
     let z : is_it t t ≡ 1 = self t in
     subst (λ (x : Doing). Stands v x m)

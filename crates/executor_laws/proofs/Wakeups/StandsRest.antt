@@ -15,6 +15,10 @@ use Rattle.executor_model.specs.OwnQueues.{OwnQueueHasRunner}
 use Rattle.executor_model.specs.Quiet.{IsQuiet}
 use Rattle.executor_model.specs.Rows.{running_of}
 use Rattle.executor_model.specs.SleepersAgree.{SomeoneNotified, sleeps}
+use Rattle.executor_parts.specs.declared.mark.Mark.{Mark}
+use Rattle.executor_parts.specs.declared.mark.Mark.TheVariants.{Plain, Urgent}
+use Rattle.executor_model.proofs.Steps.QueuesByMark.{times-all}
+use Rattle.executor_model.specs.World.{queue_of}
 use Rattle.executor_model.specs.SleepersTold.{SleepersAreTold, tells_of}
 use Rattle.executor_model.specs.Sound.{times, times_in}
 use Rattle.executor_model.specs.Standing.{LastPolled, Stands as StandsSo, WasCalled, calls_poll, drops_sleeper}
@@ -257,11 +261,11 @@ module _ (s : Machine) (fine : Good s) (hs : Heard s) (ds : Deep s) (told : Slee
     unrefused u so = none u (unleft u so)
 
     -- somebody who sleeps has no entry
-    of_missing : 1 ≤ length s.world.queue.items → 1 ≤ s.world.sleepers.count → OneCalled s.world.trace
-    of_missing queued some =
+    of_missing : (mark : Mark) → 1 ≤ length (queue_of s.world mark).items → 1 ≤ s.world.sleepers.count → OneCalled s.world.trace
+    of_missing mark queued some =
         let few : length s.world.sleepers.wakers < s.world.sleepers.count =
-        ⊎_elim (λ (x : SomeoneNotified s). x) (λ (x : 1 ≤ weigh_all tells_of s.parties). absurd
-        (omega (arith, x, all-rest tells_of s.parties idle))) (told queued some) in
+        ⊎_elim (λ (x : SomeoneNotified s). x) (λ (x : 1 ≤ weigh_all (tells_of mark) s.parties). absurd
+        (omega (arith, x, all-rest (tells_of mark) s.parties idle))) (told mark queued some) in
         let m : Missing s.world =
         missing s.world (omega (arith, few, (agrees s st.followed).counted)) in
         let so : Replied m.who = replied m.who ((stands-here m.who).asleep m.sleeps) in
@@ -271,9 +275,9 @@ module _ (s : Machine) (fine : Good s) (hs : Heard s) (ds : Deep s) (told : Slee
           called = called-there m.who so (unrefused m.who so) m.none;
         }
 
-    of_common : 1 ≤ length s.world.queue.items → OneCalled s.world.trace
-    of_common queued = ⊎_elim
-        (λ (x : 1 ≤ sum (kept_of t (watched t s.world.trace).poll) s.world.sleepers.wakers). of_missing queued (omega (
+    of_common : (mark : Mark) → 1 ≤ length (queue_of s.world mark).items → OneCalled s.world.trace
+    of_common mark queued = ⊎_elim
+        (λ (x : 1 ≤ sum (kept_of t (watched t s.world.trace).poll) s.world.sleepers.wakers). of_missing mark queued (omega (
           arith,
           entry-sleeps s.world t (stands-here t).placed (omega
               (arith, x, kept-few t (watched t s.world.trace).poll s.world.sleepers.wakers)),
@@ -308,13 +312,14 @@ module _ (s : Machine) (fine : Good s) (hs : Heard s) (ds : Deep s) (told : Slee
         }
 
     one : OneCalled s.world.trace
-    one = by (times f s.world.queue.items) (times_in f s.world.own) refl refl
-        (due-queued s fine hs idle f due)
+    one = by (times f (queue_of s.world Urgent).items) (times f (queue_of s.world Plain).items) refl refl
+        (omega (arith, due-queued s fine hs idle f due, times-all f s.world.queues))
       where
-        by : (n m : ℕ) → times f s.world.queue.items ≡ n → times_in f s.world.own ≡ m →
-            1 ≤ times f s.world.queue.items + times_in f s.world.own → OneCalled s.world.trace
-        by (suc n) m a b k = of_common (omega (arith, a, times-length f s.world.queue.items))
-        by zero m a b k = of_own (omega (arith, a, k))
+        by : (n m : ℕ) → times f (queue_of s.world Urgent).items ≡ n → times f (queue_of s.world Plain).items ≡ m →
+            1 ≤ n + m + times_in f s.world.own → OneCalled s.world.trace
+        by (suc n) m a b k = of_common Urgent (omega (arith, a, times-length f (queue_of s.world Urgent).items))
+        by zero (suc m) a b k = of_common Plain (omega (arith, b, times-length f (queue_of s.world Plain).items))
+        by zero zero a b k = of_own (omega (arith, k))
 
 pub some-called : (limit : ℕ) (kind : Kind) (parties : ℕ) (steps : List Step) (f : ℕ) →
     SomeStandingIsCalled f (run steps (start limit kind parties)).world.trace

@@ -2,6 +2,10 @@
 -- Where a run searches, steals and walks, its poll goes on.
 use Rattle.std.proofs.Common.{◌≡◌, ◌⊎◌, ◌∙◌, ℕ, zero, suc, ◌+◌, ◌%◌, ◌≤◌, List, [], ◌∷◌, ◌++◌, length, Bool, true}
 use Rattle.std.proofs.Common.{false, eqb, refl, sym, ap, subst, inl, inr, ⊎_elim, arith}
+use Rattle.executor_parts.specs.declared.mark.Mark.TheVariants.{Plain, Urgent}
+use Rattle.executor_parts.specs.Marks.{first_of, other}
+use Rattle.executor_model.specs.declared.op.Look.{Look}
+use Rattle.executor_model.specs.declared.op.Look.TheVariants.{First, Second}
 use Rattle.task_moves.specs.declared.moves.owed.Move.TheVariants as move
 use Rattle.executor_model.specs.declared.call.Reply.TheVariants as reply
 use Rattle.executor_model.specs.declared.event.Event.TheVariants as event
@@ -25,6 +29,7 @@ use Rattle.executor_model.specs.declared.op.Then.TheVariants as then
 use Rattle.executor_model.specs.declared.op.TickOp.TheVariants as tick_op
 use Rattle.executor_model.specs.declared.op.UserOp.TheVariants as user_op
 use Rattle.executor_model.specs.declared.step.Hint.{Hint}
+use Rattle.executor_model.specs.Acts.{mark_in, turned}
 use Rattle.executor_model.specs.ActsOfRuns as runs
 use Rattle.executor_model.specs.ActsOfSleepers.{found_by}
 use Rattle.executor_model.specs.Doing.{steal_act}
@@ -36,7 +41,7 @@ use Rattle.executor_model.proofs.OwnQueues.OwnRooms.{Shorter, grown, of_hull, sa
 use Rattle.executor_model.proofs.OwnQueues.RunsDone.{poll_in}
 use Rattle.executor_model.proofs.OwnQueues.RunsMoving.{hull-found, hull-stolen, walk-by}
 use Rattle.executor_model.proofs.OwnQueues.UsingWorlds.{is_over_stage}
-use Rattle.executor_laws.proofs.Wakeups.Beside.{view-log}
+use Rattle.executor_laws.proofs.Wakeups.Beside.{view-log, view-turned}
 use Rattle.executor_laws.proofs.Wakeups.Listed.{sum, entry_of, kept_of, misplaced_of}
 use Rattle.executor_laws.proofs.Wakeups.Sitting.{IsOther, IsSame, is_it, owned_in, who_cases}
 use Rattle.executor_laws.proofs.Wakeups.Stands.{KeepsStands, Nothing, Stands, View, calls_of, drops_of, early_of, ends_of}
@@ -122,8 +127,11 @@ module _ (t : TickOrRun) (x : RunPoll) where
   stage-read = stage-of (op.List (list_op.LockRead x)) refl refl refl refl refl refl refl refl (λ k. refl) (λ k. refl)
       refl
 
-  pub stage-common : Stage t x (op.Run (run_op.SearchCommon x) ∷ [])
-  stage-common = stage-of (op.Run (run_op.SearchCommon x)) refl refl refl refl refl refl refl refl (λ k. refl)
+  pub stage-turn : Stage t x (op.Run (run_op.TakeTurn x) ∷ [])
+  stage-turn = stage-of (op.Run (run_op.TakeTurn x)) refl refl refl refl refl refl refl refl (λ k. refl) (λ k. refl) refl
+
+  pub stage-common : (look : Look) → Stage t x (op.Run (run_op.SearchCommon x look) ∷ [])
+  stage-common look = stage-of (op.Run (run_op.SearchCommon x look)) refl refl refl refl refl refl refl refl (λ k. refl)
       (λ k. refl) refl
 
   pub stage-look : (at left : ℕ) → Stage t x (op.Run (run_op.LookOwn x at left) ∷ [])
@@ -187,7 +195,8 @@ module _ (t : TickOrRun) (x : RunPoll) where
   not_woken_up-run_by false w f = refl
 
   stage-counted : (b : Bool) (w : World) (f : ℕ) → Stage t x (runs.counted_by b w x f).next
-  stage-counted true w f = stage-steal t (steal_op.Length (record { poll = x; from = Common; then = then.Run f }))
+  stage-counted true w f =
+      stage-steal t (steal_op.Length (record { poll = x; from = Common Urgent; then = then.StealPlain f }))
   stage-counted false w f = stage-run_by _ _ f
 
   not_woken_up-counted : (b : Bool) (w : World) (f : ℕ) → weigh (waking_up_of t) (runs.counted_by b w x f).next ≡ 0
@@ -208,6 +217,8 @@ module _ (t : TickOrRun) (x : RunPoll) where
 
   pub stage-stolen : (n : Then) (w : World) → Stage t x (runs.stolen n w x).next
   stage-stolen (then.Found f) w = stage-found w f
+  stage-stolen (then.StealPlain f) w =
+      stage-steal t (steal_op.Length (record { poll = x; from = Common Plain; then = then.Run f }))
   stage-stolen (then.Run f) w = stage-run_by _ w f
   stage-stolen (then.Walk at left) w = stage-look t x at left
 
@@ -266,6 +277,7 @@ calm-found w x f = calm-counted _ w x f
 
 calm-stolen : (n : Then) (w : World) (x : RunPoll) → Calm w (runs.stolen n w x).world
 calm-stolen (then.Found f) w x = calm-found w x f
+calm-stolen (then.StealPlain f) w x = calm-same w w refl refl refl refl refl
 calm-stolen (then.Run f) w x = calm-run_by _ w x f
 calm-stolen (then.Walk at left) w x = calm-same w w refl refl refl refl refl
 
@@ -328,7 +340,7 @@ stands-walks t w x old d a z y k r m b h =
 -- each step of a search
 
 walks-own : (q : List ℕ) (w : World) (x : RunPoll) → own_of w x.run ≡ q → Walks w x (runs.search_own_by q w x)
-walks-own [] w x e = walks w x (runs.search_own_by [] w x) (λ t. stage-common t x)
+walks-own [] w x e = walks w x (runs.search_own_by [] w x) (λ t. stage-turn t x)
     (calm-same w w refl refl refl refl refl) (same-own w w refl)
 walks-own (f ∷ rest) w x e = let v = put_own w x.run rest in
     walks w x (runs.found v x f) (λ t. stage-found t x v f)
@@ -339,16 +351,31 @@ walks-own (f ∷ rest) w x e = let v = put_own w x.run rest in
 pub walks-search : (w : World) (x : RunPoll) → Walks w x (runs.search_own w x)
 walks-search w x = walks-own _ w x refl
 
-walks-common : (q : List ℕ) (w : World) (x : RunPoll) → Walks w x (runs.search_common_by q w x)
-walks-common [] w x = walks w x (runs.search_common_by [] w x) (λ t. stage-read t x)
-    (calm-same w w refl refl refl refl refl) (same-own w w refl)
-walks-common (f ∷ rest) w x = walks w x (runs.search_common_by (f ∷ rest) w x)
-    (λ t. stage-steal t (steal_op.Length (record { poll = x; from = Common; then = then.Found f })))
-    (calm-same w (runs.search_common_by (f ∷ rest) w x).world refl refl refl refl refl)
-    (same-own w (runs.search_common_by (f ∷ rest) w x).world refl)
+calm-turned : (p : ℕ) (w : World) → Calm w (turned p w)
+calm-turned p w = record {
+  seated = λ t. seated-same t w (turned p w) refl refl;
+  wakers = refl;
+  gone = refl;
+  seen = λ t. ap (λ (y : View). y.seen) (view-turned t p w);
+}
 
-pub walks-search_common : (w : World) (x : RunPoll) → Walks w x (runs.search_common w x)
-walks-search_common w x = walks-common _ w x
+pub walks-turn : (p : ℕ) (w : World) (x : RunPoll) → Walks w x (runs.take_turn_of_run p w x)
+walks-turn p w x = walks w x (runs.take_turn_of_run p w x) (λ t. stage-common t x (First (first_of w.urgent_turns)))
+    (calm-turned p w) (same-own w (turned p w) refl)
+
+walks-common : (look : Look) (q : List ℕ) (w : World) (x : RunPoll) → Walks w x (runs.search_common_by q w x look)
+walks-common (First mark) [] w x = walks w x (runs.search_common_by [] w x (First mark))
+    (λ t. stage-common t x (Second (other mark)))
+    (calm-same w w refl refl refl refl refl) (same-own w w refl)
+walks-common (Second mark) [] w x = walks w x (runs.search_common_by [] w x (Second mark)) (λ t. stage-read t x)
+    (calm-same w w refl refl refl refl refl) (same-own w w refl)
+walks-common look (f ∷ rest) w x = walks w x (runs.search_common_by (f ∷ rest) w x look)
+    (λ t. stage-steal t (steal_op.Length (record { poll = x; from = Common (mark_in look); then = then.Found f })))
+    (calm-same w (runs.search_common_by (f ∷ rest) w x look).world refl refl refl refl refl)
+    (same-own w (runs.search_common_by (f ∷ rest) w x look).world refl)
+
+pub walks-search_common : (w : World) (x : RunPoll) (look : Look) → Walks w x (runs.search_common w x look)
+walks-search_common w x look = walks-common look _ w x
 
 walks-look : (q : List ℕ) (w : World) (x : RunPoll) (at left : ℕ) → own_of w x.run ≡ q →
     Walks w x (runs.look_own_by q w x at left)
@@ -387,12 +414,12 @@ walks-more (suc n) w s = walks w s.poll (runs.steal_by (suc n) w s)
     (λ t. stage-steal t (steal_op.Take s n)) (calm-same w w refl refl refl refl refl) (same-own w w refl)
 
 calm-first : (from : Source) (w : World) (rest : List ℕ) → Calm w (runs.without_first w from rest)
-calm-first Common w rest = calm-same w (runs.without_first w Common rest) refl refl refl refl refl
+calm-first (Common mark) w rest = calm-same w (runs.without_first w (Common mark) rest) refl refl refl refl refl
 calm-first (Own q) w rest = calm-same w (runs.without_first w (Own q) rest) refl refl refl refl refl
 
 shorter-source : (from : Source) (f : ℕ) (rest : List ℕ) (w : World) → runs.source_of w from ≡ f ∷ rest →
     Shorter w (runs.without_first w from rest)
-shorter-source Common f rest w e = same-own w (runs.without_first w Common rest) refl
+shorter-source (Common mark) f rest w e = same-own w (runs.without_first w (Common mark) rest) refl
 shorter-source (Own q) f rest w e = shorter-first w q f rest e
 
 walks-take : (q : List ℕ) (w : World) (s : Steal) (more : ℕ) → runs.source_of w s.from ≡ q →

@@ -55,39 +55,43 @@ held-run r _ = refl
 
 one-tick : (t : ℕ) (o : Op) → used_of (tick_or_run.Tick t) o ≡ ticking_of t o
 one-tick t (op.Move move.Wake f) = refl
-one-tick t (op.Table table_op.Enter) = refl
-one-tick t (op.Queue queue_op.Take) = refl
+one-tick t (op.Table (table_op.Enter mark)) = refl
+one-tick t (op.Queue queue_op.TakeTurn) = refl
+one-tick t (op.Queue (queue_op.Take look)) = refl
 one-tick t (op.User (user_op.PollOwn x)) = refl
 one-tick t (op.Waker (waker_op.CopyWaker f held)) = refl
 one-tick t (op.Handle (handle_op.LookAgain f)) = refl
 one-tick t (op.Sleeper sleeper_op.HandOut) = refl
 one-tick t (op.Tick (tick_op.Search s)) = who-tick t s.who
+one-tick t (op.Tick (tick_op.Look s look)) = who-tick t s.who
 one-tick t (op.Tick (tick_op.CopyWaker s)) = who-tick t s.who
 one-tick t (op.Tick (tick_op.FallAsleep s)) = who-tick t s.who
 one-tick t (op.List (list_op.LockWrite section.MakeRun)) = refl
 one-tick t (op.List (list_op.Write section.MakeRun)) = refl
 one-tick t (op.Steal (steal_op.Length s)) = refl
 one-tick t (op.Run run_op.MakeRoom) = refl
-one-tick t (op.Closing closing_op.Drain) = refl
+one-tick t (op.Closing (closing_op.Drain mark)) = refl
 one-tick t (op.End r held) = held-tick t held
 one-tick t _ = refl
 
 one-run : (r : ℕ) (o : Op) → used_of (tick_or_run.Run r) o ≡ running_of r o
 one-run r (op.Move move.Wake f) = refl
-one-run r (op.Table table_op.Enter) = refl
-one-run r (op.Queue queue_op.Take) = refl
+one-run r (op.Table (table_op.Enter mark)) = refl
+one-run r (op.Queue queue_op.TakeTurn) = refl
+one-run r (op.Queue (queue_op.Take look)) = refl
 one-run r (op.User (user_op.PollOwn x)) = refl
 one-run r (op.Waker (waker_op.CopyWaker f held)) = refl
 one-run r (op.Handle (handle_op.LookAgain f)) = refl
 one-run r (op.Sleeper sleeper_op.HandOut) = refl
 one-run r (op.Tick (tick_op.Search s)) = who-run r s.who
+one-run r (op.Tick (tick_op.Look s look)) = who-run r s.who
 one-run r (op.Tick (tick_op.CopyWaker s)) = who-run r s.who
 one-run r (op.Tick (tick_op.FallAsleep s)) = who-run r s.who
 one-run r (op.List (list_op.LockWrite section.MakeRun)) = refl
 one-run r (op.List (list_op.Write section.MakeRun)) = refl
 one-run r (op.Steal (steal_op.Length s)) = refl
 one-run r (op.Run run_op.MakeRoom) = refl
-one-run r (op.Closing closing_op.Drain) = refl
+one-run r (op.Closing (closing_op.Drain mark)) = refl
 one-run r (op.End a held) = held-run r held
 one-run r _ = refl
 

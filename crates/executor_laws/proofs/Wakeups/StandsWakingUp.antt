@@ -2,6 +2,8 @@
 -- What is done lets nobody wake up or leave but one that is in use.
 use Rattle.std.proofs.Common.{◌≡◌, ℕ, List, [], ◌∷◌, ◌++◌, Bool, true, false, refl, arith}
 use Rattle.std.specs.Prelude.{Option, Some, None, is_none}
+use Rattle.executor_model.specs.declared.op.Look.{Look}
+use Rattle.executor_model.specs.declared.op.Look.TheVariants.{First, Second}
 use Rattle.executor_parts.specs.Sleepers.{waker_at, waker_of}
 use Rattle.executor_model.specs.declared.call.Reply.{Reply}
 use Rattle.executor_model.specs.declared.call.Reply.TheVariants as reply
@@ -34,7 +36,7 @@ use Rattle.executor_model.specs.declared.step.UserEnd.TheVariants as end
 use Rattle.executor_model.specs.ActsOfRuns as runs
 use Rattle.executor_model.specs.ActsOfSleepers.{call_sleeper, copy_sleeper_by, wake_up_by, leave_sleepers_by, sleep_again_by}
 use Rattle.executor_model.specs.ActsOfSleepers.{hand_out_by, sleep_anew_by, fall_asleep_by, sleep_listed_by, make_tick_by, pend_as}
-use Rattle.executor_model.specs.ActsOfSleepers.{polled_as, search_by, sleeper_goes, tell_and_return}
+use Rattle.executor_model.specs.ActsOfSleepers.{polled_as, look_tick_by, sleeper_goes, tell_and_return}
 use Rattle.executor_model.specs.Acts.{copy_by, is_copy_refused, wake}
 use Rattle.executor_model.specs.Doing.{act, list_act, run_act, search, tick_act}
 use Rattle.task_moves.specs.declared.moves.owed.Move.TheVariants as move
@@ -51,19 +53,21 @@ use Rattle.executor_laws.proofs.Wakeups.StandsAsleep.{nothing-goes}
 use Rattle.executor_laws.proofs.Wakeups.StandsNothing.{nothing-of}
 use Rattle.executor_laws.proofs.Wakeups.StandsOwn.{held-other}
 use Rattle.executor_laws.proofs.Wakeups.StandsRuns.{walks-lock, walks-look_own, walks-search, walks-search_common, walks-steal}
+use Rattle.executor_laws.proofs.Wakeups.StandsRuns.{walks-turn}
 use Rattle.executor_laws.proofs.Wakeups.StandsTied.{Tied, tied-append, tied-cons, tied-nil, tied-none}
 
 -- who has found something, and sleeps, wakes up before it is told
-tied-found : (x : Ticker) (t : TickOrRun) (w : World) (q : List ℕ) (s : Sleeping) → Tied t (search_by x w q s).next
-tied-found x t w [] s = tied-none t _ refl
-tied-found Awake t w (f ∷ rest) s = tied-none t _ refl
-tied-found Left t w (f ∷ rest) s = tied-none t _ refl
-tied-found (Asleep n) t w (f ∷ rest) s =
+tied-found : (look : Look) (x : Ticker) (t : TickOrRun) (w : World) (q : List ℕ) (s : Sleeping) → Tied t (look_tick_by x w look q s).next
+tied-found (First mark) x t w [] s = tied-none t _ refl
+tied-found (Second mark) x t w [] s = tied-none t _ refl
+tied-found look Awake t w (f ∷ rest) s = tied-none t _ refl
+tied-found look Left t w (f ∷ rest) s = tied-none t _ refl
+tied-found look (Asleep n) t w (f ∷ rest) s =
     tied-cons t (op.Tick (tick_op.WakeUp s.who)) _ (λ k. omega (arith, k, held-other t s.who)) (tied-none t _ refl)
 
-tied-search : (who t : TickOrRun) (k : ℕ) (a : Waker) (w : World) → Tied t (search w (asleep a who k)).next
-tied-search (tick_or_run.Tick u) t k a w = tied-found _ t w _ (asleep a (tick_or_run.Tick u) k)
-tied-search (tick_or_run.Run q) t k a w =
+tied-search : (who t : TickOrRun) (p k : ℕ) (a : Waker) (w : World) → Tied t (search p w (asleep a who k)).next
+tied-search (tick_or_run.Tick u) t p k a w = tied-none t _ refl
+tied-search (tick_or_run.Run q) t p k a w =
     ((walks-search w (record { run = q; waker = a; poll = k })).stage t).tied
 
 tied-goes : (t : TickOrRun) (o : Option Sleeping) (ys : List Op) → weigh (waking_up_of t) ys ≡ 0 →
@@ -114,13 +118,14 @@ tied-make : (b : Bool) (t : TickOrRun) (w : World) → Tied t (make_tick_by b w)
 tied-make true t w = tied-none t _ refl
 tied-make false t w = tied-none t _ refl
 
-tied-tick : (t : TickOrRun) (h : Hint) (o : TickOp) (w : World) → Tied t (tick_act h o w).next
-tied-tick t h tick_op.MakeTick w = tied-make h.refused t w
-tied-tick t h (tick_op.Search s) w = tied-search s.who t s.poll s.waker w
-tied-tick t h (tick_op.CopyWaker s) w = tied-copy (is_copy_refused h w s.waker) t w s
-tied-tick t h (tick_op.FallAsleep s) w = tied-sleep _ t w s
-tied-tick t h (tick_op.WakeUp u) w = tied-up _ t w u
-tied-tick t h (tick_op.Leave u) w = tied-leave _ t w u
+tied-tick : (t : TickOrRun) (p : ℕ) (h : Hint) (o : TickOp) (w : World) → Tied t (tick_act p h o w).next
+tied-tick t p h tick_op.MakeTick w = tied-make h.refused t w
+tied-tick t p h (tick_op.Search s) w = tied-search s.who t p s.poll s.waker w
+tied-tick t p h (tick_op.Look s look) w = tied-found look _ t w _ s
+tied-tick t p h (tick_op.CopyWaker s) w = tied-copy (is_copy_refused h w s.waker) t w s
+tied-tick t p h (tick_op.FallAsleep s) w = tied-sleep _ t w s
+tied-tick t p h (tick_op.WakeUp u) w = tied-up _ t w u
+tied-tick t p h (tick_op.Leave u) w = tied-leave _ t w u
 
 tied-hand_out : (b : Bool) (t : TickOrRun) (o : Option Sleeping) (w : World) → Tied t (hand_out_by b o w).next
 tied-hand_out true t None w = tied-none t _ refl
@@ -173,7 +178,8 @@ tied-wake t p w x = let v : World = log w (event.WakerCalled p (of.Run x.run) x.
 tied-run : (t : TickOrRun) (p : ℕ) (h : Hint) (o : RunOp) (w : World) → Tied t (run_act p h o w).next
 tied-run t p h run_op.MakeRoom w = tied-room h.refused t w
 tied-run t p h run_op.ReturnRoom w = tied-none t _ refl
-tied-run t p h (run_op.SearchCommon x) w = ((walks-search_common w x).stage t).tied
+tied-run t p h (run_op.TakeTurn x) w = ((walks-turn p w x).stage t).tied
+tied-run t p h (run_op.SearchCommon x look) w = ((walks-search_common w x look).stage t).tied
 tied-run t p h (run_op.LookOwn x at left) w = ((walks-look_own w x at left).stage t).tied
 tied-run t p h (run_op.WakeOwn x) w = tied-wake t p w x
 tied-run t p h (run_op.Reschedule q a) w = tied-scheduled _ t w q a
@@ -184,7 +190,7 @@ tied-beside t p h o w n = tied-none t _ (nothing-of t (act p h o w).next (beside
 tied-by : (b : Bool) (t : TickOrRun) (p : ℕ) (h : Hint) (o : Op) (w : World) → is_sits o ≡ b → Tied t (act p h o w).next
 tied-by false t p h o w n = tied-beside t p h o w n
 tied-by true t p h (op.User (user_op.PollOwn x)) w n = tied-none t _ refl
-tied-by true t p h (op.Tick o) w n = tied-tick t h o w
+tied-by true t p h (op.Tick o) w n = tied-tick t p h o w
 tied-by true t p h (op.Sleeper sleeper_op.HandOut) w n = tied-hand_out _ t _ w
 tied-by true t p h (op.Sleeper (sleeper_op.CallSleeper s)) w n = tied-called t p s.who s.poll s.waker w
 tied-by true t p h (op.Waker (waker_op.CopyWaker f held)) w n = tied-kept _ t w f held

@@ -89,6 +89,7 @@ section-few t (section.Unregister q a) =
 pub asks-calling : (t : TickOrRun) (o : Op) → asks_of t o ≤ calling_of o
 asks-calling t (op.User (user_op.PollOwn x)) = omega (arith, few t (tick_or_run.Run x.run))
 asks-calling t (op.Tick (tick_op.Search s)) = omega (arith, few t s.who)
+asks-calling t (op.Tick (tick_op.Look s look)) = omega (arith, few t s.who)
 asks-calling t (op.Tick (tick_op.CopyWaker s)) = omega (arith, few t s.who)
 asks-calling t (op.Tick (tick_op.FallAsleep s)) = omega (arith, few t s.who)
 asks-calling t (op.List (list_op.LockWrite s)) = omega (arith, section-few t s)
@@ -99,7 +100,8 @@ asks-calling t (op.List list_op.UnlockRead) = omega arith
 asks-calling t (op.Steal o) = omega (arith, few t (tick_or_run.Run (poll_in o).run))
 asks-calling t (op.Run run_op.MakeRoom) = omega arith
 asks-calling t (op.Run run_op.ReturnRoom) = omega arith
-asks-calling t (op.Run (run_op.SearchCommon x)) = omega (arith, few t (tick_or_run.Run x.run))
+asks-calling t (op.Run (run_op.TakeTurn x)) = omega (arith, few t (tick_or_run.Run x.run))
+asks-calling t (op.Run (run_op.SearchCommon x look)) = omega (arith, few t (tick_or_run.Run x.run))
 asks-calling t (op.Run (run_op.LookOwn x at left)) = omega (arith, few t (tick_or_run.Run x.run))
 asks-calling t (op.Run (run_op.WakeOwn x)) = omega (arith, few t (tick_or_run.Run x.run))
 asks-calling t (op.Run (run_op.Reschedule q a)) =

@@ -5,12 +5,15 @@ use Rattle.std.proofs.Common.{Bool, true, false, ◌||◌, ltb, refl, sym, ap, s
 use Rattle.std.proofs.Math.ListN.{length-set}
 use Rattle.std.proofs.lemmas.Bool.Decides.{nat_tests}
 use Rattle.std.specs.Prelude.{Option, Some}
+use Rattle.executor_parts.specs.declared.mark.Mark.{Mark}
+use Rattle.executor_parts.specs.Marks.{first_of, other}
 use Rattle.executor_model.specs.declared.call.By.{By}
 use Rattle.executor_model.specs.declared.call.Call.TheVariants as call
 use Rattle.executor_model.specs.declared.event.Answer.TheVariants as answer
 use Rattle.executor_model.specs.declared.event.Event.TheVariants as event
 use Rattle.executor_model.specs.declared.kind.Kind.{Kind}
 use Rattle.executor_model.specs.declared.op.ListOp.TheVariants as list_op
+use Rattle.executor_model.specs.declared.op.Look.TheVariants as look_at
 use Rattle.executor_model.specs.declared.op.Op.{Op}
 use Rattle.executor_model.specs.declared.op.Op.TheVariants as op
 use Rattle.executor_model.specs.declared.op.RunOp.TheVariants as run_op
@@ -22,30 +25,37 @@ use Rattle.executor_model.specs.declared.step.Step.{Step}
 use Rattle.executor_model.specs.declared.step.Step.TheVariants.{Begin}
 use Rattle.executor_model.specs.declared.step.UserEnd.{UserEnd}
 use Rattle.executor_model.specs.declared.step.UserEnd.TheVariants as end
+use Rattle.executor_model.specs.Acts.{turned}
 use Rattle.executor_model.specs.ActsOfRuns.{asleep, registered, search_common_by, search_own_by}
 use Rattle.executor_model.specs.Doing.{act}
 use Rattle.executor_model.specs.Due.{IsDue}
 use Rattle.executor_model.specs.Emptiness.{IsAtRest}
 use Rattle.executor_model.specs.Executions.{run_all}
+use Rattle.executor_model.specs.Queues.{Queues, queue_in}
 use Rattle.executor_model.specs.Sound.{times, times_in}
 use Rattle.executor_model.specs.Steps.{Machine, Part, onto, part, part_after, poll_run, react, run, stack, start, with_part}
 use Rattle.executor_model.specs.Trace.{Trace}
 use Rattle.executor_model.specs.Weights.{weigh_all}
-use Rattle.executor_model.specs.World.{Done, Ended, Listed, New, Stage, World, done, log, own_of, run_of}
+use Rattle.executor_model.specs.World.{Done, Ended, Listed, New, Stage, World, done, log, own_of, queue_of, run_of}
 use Rattle.executor_model.proofs.OwnQueues.Using.{emptying_of}
 use Rattle.executor_model.proofs.OwnQueues.UsingWorlds.{is_over_stage, is_past}
 use Rattle.executor_model.proofs.Quiet.Resting.{all-rest}
 use Rattle.executor_model.proofs.Steps.Lists.{times-append}
+use Rattle.executor_model.proofs.Steps.QueuesByMark.{mark-cases}
 use Rattle.executor_model.proofs.Steps.Reached.{Reached, deep-here, good-here, reached-step, run-first}
 use Rattle.executor_laws.specs.LoneEnds.{are_onward_of, is_onward_of}
 use Rattle.executor_laws.specs.RunReach.{IsLonePoll, first_answer}
 use Rattle.executor_laws.specs.RunSearch.{FindsDue, TakesOneDue}
-use Rattle.executor_laws.proofs.Exactness.Ticking.{first-times}
+use Rattle.executor_laws.proofs.Exactness.Ticking.{first-queued, first-times, none-queued}
 use Rattle.executor_laws.proofs.Placement.Placing.{due-queued, here, idle, in-own, queued-due}
 use Rattle.executor_laws.proofs.Reach.LoneTicks.{idle-none, in-range, left-true, of-party, stack-set}
 use Rattle.executor_laws.proofs.Reach.Reached.{bonded-here, heard-here}
-use Rattle.executor_laws.proofs.RunReach.RunReaching.{is-due, new-idle, poll, registered-gone, registered-own, registered-queue}
-use Rattle.executor_laws.proofs.RunReach.RunReaching.{registered-trace, taken-since, takes-first}
+use Rattle.executor_laws.proofs.Reach.Spots as common
+use Rattle.executor_laws.proofs.Reach.Spots.{AllEmpty}
+use Rattle.executor_laws.proofs.RunReach.RunArrives.{registered-gone, registered-own, registered-queue}
+use Rattle.executor_laws.proofs.RunReach.RunReaching.{is-due, new-idle, poll}
+use Rattle.executor_laws.proofs.RunReach.RunArrives.{registered-trace}
+use Rattle.executor_laws.proofs.RunReach.RunReaching.{taken-since, takes-first}
 use Rattle.executor_laws.proofs.RunReach.RunReaching.First.{in_common, in_own}
 use Rattle.executor_laws.proofs.RunReach.RunWalks.{Onward, onward}
 use Rattle.executor_laws.proofs.RunReach.RunWalks.Onward.{acted, answered}
@@ -64,7 +74,7 @@ module _ (p : ℕ) (before : Trace) (x : RunPoll) (owns : List (List ℕ)) (qs :
   -- nothing is found yet, and no queue has changed
   record Still (w : World) : Type 0 where
     pub own_is : w.own ≡ owns
-    pub common_is : w.queue.items ≡ []
+    pub common_is : (m : Mark) → (queue_of w m).items ≡ []
     pub listed_is : (q : ℕ) → times q qs ≤ times q w.listed
     pub meanwhile : Trace
     pub trace : w.trace ≡ before ++ meanwhile
@@ -89,17 +99,19 @@ module _ (p : ℕ) (before : Trace) (x : RunPoll) (owns : List (List ℕ)) (qs :
     set-known : (s : Machine) (v : Part) → p < length s.parties → p < length (with_part s p v).parties
     set-known s v l = omega (arith, l, length-set s.parties p v.todo)
 
-    at-common : (s : Machine) → At (op.Run (run_op.SearchCommon x) ∷ []) s → (ts : List Step) →
+    -- it looks at the second queue
+    at-second : (s : Machine) (m : Mark) → At (op.Run (run_op.SearchCommon x (look_at.Second m)) ∷ []) s → (ts : List Step) →
         are_onward_of p ts ≡ true → run_all ts s ≡ Ok new → Arrived
-    at-common s a ts on n =
-        go (onward p s new [] (op.Run (run_op.SearchCommon x)) ts a.todo a.reached idles on n)
+    at-second s m a ts on n =
+        go (onward p s new [] (op.Run (run_op.SearchCommon x (look_at.Second m))) ts a.todo a.reached idles on n)
       where
-        go : Onward p s new [] (op.Run (run_op.SearchCommon x)) ts → Arrived
+        go : Onward p s new [] (op.Run (run_op.SearchCommon x (look_at.Second m))) ts → Arrived
         go (answered u others te z y n2 on2 l) = absurd (cc)
         go (acted h others te z y n2 on2 l) =
             let v : Part = part s.world (op.List (list_op.LockRead x) ∷ []) in
-            let q : search_common_by s.world.queue.items s.world x ≡ done s.world (op.List (list_op.LockRead x) ∷ []) =
-            ap (λ (ys : List ℕ). search_common_by ys s.world x) a.so_far.common_is in
+            let q : search_common_by (queue_of s.world m).items s.world x (look_at.Second m)
+            ≡ done s.world (op.List (list_op.LockRead x) ∷ []) =
+            ap (λ (ys : List ℕ). search_common_by ys s.world x (look_at.Second m)) (a.so_far.common_is m) in
             record {
               machine = with_part s p v;
               others = others;
@@ -113,6 +125,52 @@ module _ (p : ℕ) (before : Trace) (x : RunPoll) (owns : List (List ℕ)) (qs :
               made = sym (ap (λ (d : Done). run_all others (with_part s p (onto p d []))) q) ∙ n2;
             }
 
+    -- and before that at the first
+    at-first : (s : Machine) (m : Mark) → At (op.Run (run_op.SearchCommon x (look_at.First m)) ∷ []) s → (ts : List Step) →
+        are_onward_of p ts ≡ true → run_all ts s ≡ Ok new → Arrived
+    at-first s m a ts on n =
+        go (onward p s new [] (op.Run (run_op.SearchCommon x (look_at.First m))) ts a.todo a.reached idles on n)
+      where
+        go : Onward p s new [] (op.Run (run_op.SearchCommon x (look_at.First m))) ts → Arrived
+        go (answered u others te z y n2 on2 l) = absurd (cc)
+        go (acted h others te z y n2 on2 l) =
+            let v : Part = part s.world (op.Run (run_op.SearchCommon x (look_at.Second (other m))) ∷ []) in
+            let q : search_common_by (queue_of s.world m).items s.world x (look_at.First m)
+            ≡ done s.world (op.Run (run_op.SearchCommon x (look_at.Second (other m))) ∷ []) =
+            ap (λ (ys : List ℕ). search_common_by ys s.world x (look_at.First m)) (a.so_far.common_is m) in
+            at-second (with_part s p v) (other m) (record {
+              reached = subst (λ (d : Done). Reached (with_part s p (onto p d []))) q y;
+              so_far = a.so_far;
+              todo = stack-set p s v l;
+              known = set-known s v l;
+            }) others on2 (sym (ap (λ (d : Done). run_all others (with_part s p (onto p d []))) q) ∙ n2)
+
+    -- it takes its turn
+    at-turn : (s : Machine) → At (op.Run (run_op.TakeTurn x) ∷ []) s → (ts : List Step) →
+        are_onward_of p ts ≡ true → run_all ts s ≡ Ok new → Arrived
+    at-turn s a ts on n =
+        go (onward p s new [] (op.Run (run_op.TakeTurn x)) ts a.todo a.reached idles on n)
+      where
+        go : Onward p s new [] (op.Run (run_op.TakeTurn x)) ts → Arrived
+        go (answered u others te z y n2 on2 l) = absurd (cc)
+        go (acted h others te z y n2 on2 l) =
+            let m : Mark = first_of s.world.urgent_turns in
+            let v : Part = part (turned p s.world) (op.Run (run_op.SearchCommon x (look_at.First m)) ∷ []) in
+            at-first (with_part s p v) m (record {
+              reached = y;
+              so_far = record {
+                own_is = a.so_far.own_is;
+                common_is = a.so_far.common_is;
+                listed_is = a.so_far.listed_is;
+                meanwhile = a.so_far.meanwhile ++ event.Looked p m ∷ [];
+                trace = ap (λ (es : Trace). es ++ event.Looked p m ∷ []) a.so_far.trace
+                    ∙ append_assoc before a.so_far.meanwhile (event.Looked p m ∷ []);
+                there = a.so_far.there;
+              };
+              todo = stack-set p s v l;
+              known = set-known s v l;
+            }) others on2 n2
+
     at-search : (s : Machine) → At (op.Tick (tick_op.Search (asleep x)) ∷ []) s → (ts : List Step) →
         are_onward_of p ts ≡ true → run_all ts s ≡ Ok new → Arrived
     at-search s a ts on n =
@@ -124,10 +182,10 @@ module _ (p : ℕ) (before : Trace) (x : RunPoll) (owns : List (List ℕ)) (qs :
         go : Onward p s new [] (op.Tick (tick_op.Search (asleep x))) ts → Arrived
         go (answered u others te z y n2 on2 l) = absurd (cc)
         go (acted h others te z y n2 on2 l) =
-            let v : Part = part s.world (op.Run (run_op.SearchCommon x) ∷ []) in
-            let q : search_own_by (own_of s.world x.run) s.world x ≡ done s.world (op.Run (run_op.SearchCommon x) ∷ []) =
+            let v : Part = part s.world (op.Run (run_op.TakeTurn x) ∷ []) in
+            let q : search_own_by (own_of s.world x.run) s.world x ≡ done s.world (op.Run (run_op.TakeTurn x) ∷ []) =
             ap (λ (ys : List ℕ). search_own_by ys s.world x) none in
-            at-common (with_part s p v) (record {
+            at-turn (with_part s p v) (record {
               reached = subst (λ (d : Done). Reached (with_part s p (onto p d []))) q y;
               so_far = a.so_far;
               todo = stack-set p s v l;
@@ -196,7 +254,8 @@ module _ (p : ℕ) (before : Trace) (x : RunPoll) (owns : List (List ℕ)) (qs :
               reached = y;
               so_far = record {
                 own_is = registered-own st s.world x.run ∙ a.so_far.own_is;
-                common_is = ap (λ q. q.items) (registered-queue st s.world x.run) ∙ a.so_far.common_is;
+                common_is = λ m. ap (λ (qs : Queues). (queue_in m qs).items) (registered-queue st s.world x.run)
+                    ∙ a.so_far.common_is m;
                 listed_is = λ q. omega (arith, a.so_far.listed_is q, registered-listed st s.world x.run q);
                 meanwhile = a.so_far.meanwhile;
                 trace = registered-trace st s.world x.run ∙ a.so_far.trace;
@@ -293,7 +352,8 @@ module _ (s : Machine) (r : Reached s) (rest : IsAtRest s) (n p : ℕ) (b : By) 
   set-in v = omega (arith, in-parties, length-set s.parties p v.todo)
 
   -- where the run keeps none and none is common, it comes to its walk
-  arrived : own_of s.world n ≡ [] → s.world.queue.items ≡ [] → Arrived p s.world.trace x s.world.own s.world.listed new last
+  arrived : own_of s.world n ≡ [] → ((m : Mark) → (queue_of s.world m).items ≡ []) →
+      Arrived p s.world.trace x s.world.own s.world.listed new last
   arrived empty none = by (run_of s.world n).stage refl
     where
       still : Still p s.world.trace x s.world.own s.world.listed new last beginning
@@ -357,17 +417,23 @@ module _ (s : Machine) (r : Reached s) (rest : IsAtRest s) (n p : ℕ) (b : By) 
           (((enrolled-here s r).used q).emptied e)
 
   finds : (f : ℕ) → IsDue f s.world.trace → TakesOneDue s new
-  finds f due = by (own_of s.world n) refl s.world.queue.items refl
+  finds f due = by (own_of s.world n) refl
     where
-      walked : own_of s.world n ≡ [] → s.world.queue.items ≡ [] → TakesOneDue s new
+      each-empty : AllEmpty s.world → (m : Mark) → (queue_of s.world m).items ≡ []
+      each-empty e m = ⊎_elim
+          (λ (y : m ≡ first_of s.world.urgent_turns). ap (λ (k : Mark). (queue_of s.world k).items) y ∙ e.0)
+          (λ (y : m ≡ other (first_of s.world.urgent_turns)). ap (λ (k : Mark). (queue_of s.world k).items) y ∙ e.1)
+          (mark-cases (first_of s.world.urgent_turns) m)
+
+      walked : own_of s.world n ≡ [] → AllEmpty s.world → TakesOneDue s new
       walked empty none =
-          let a = arrived empty none in
+          let a = arrived empty (each-empty none) in
           let spot : Spot f s.world.own = find f s.world.own (omega (
             arith,
-            ap (times f) none,
+            none-queued s.world (first_of s.world.urgent_turns) f none.0 none.1,
             due-queued s (good-here s r) (heard-here s r) (deep-here s r) (bonded-here s r) rest f due,
           )) in
-          let other : spot.queue ≢ n = λ e. omega (
+          let another : spot.queue ≢ n = λ e. omega (
             arith,
             spot.there,
             ap (times f) (ap (λ (m : ℕ). own_of s.world m) e ∙ empty),
@@ -383,15 +449,14 @@ module _ (s : Machine) (r : Reached s) (rest : IsAtRest s) (n p : ℕ) (b : By) 
           (λ q g ys e. stands-due q g (subst (λ (zs : List ℕ). 1 ≤ times g zs) (sym (sym (same_own q) ∙ e))
           (first-times g ys)))
           (omega (arith, a.here.so_far.listed_is spot.queue, in-the-list spot.queue f spot.there)) (
-            other,
+            another,
             some-there f (own_of a.machine.world spot.queue)
                 (subst (λ (zs : List ℕ). 1 ≤ times f zs) (sym (same_own spot.queue)) spot.there),
           )) a.onward a.made in
           record { future = one.future; due = one.due; taken = taken-since s r rest n p b steps new k one.future one.taken }
 
-      by : (own : List ℕ) → own_of s.world n ≡ own → (items : List ℕ) → s.world.queue.items ≡ items →
-          TakesOneDue s new
-      by (g ∷ xs) e items q =
+      by : (own : List ℕ) → own_of s.world n ≡ own → TakesOneDue s new
+      by (g ∷ xs) e =
           let d : IsDue g s.world.trace =
           stands-due n g (subst (λ (ys : List ℕ). 1 ≤ times g ys) (sym e) (first-times g xs)) in
           record {
@@ -399,17 +464,20 @@ module _ (s : Machine) (r : Reached s) (rest : IsAtRest s) (n p : ℕ) (b : By) 
             due = d;
             taken = taken-since s r rest n p b steps new k g (takes-first s r rest n p b steps new k g d (in_own xs e));
           }
-      by [] e (g ∷ xs) q =
-          let d : IsDue g s.world.trace = is-due s r rest n p b steps new k g (omega (
+      by [] e = ⊎_elim
+          (λ (none : AllEmpty s.world). walked e none)
+          (λ (y : common.Spot s.world).
+          let d : IsDue y.future s.world.trace = is-due s r rest n p b steps new k y.future (omega (
             arith,
-            subst (λ (ys : List ℕ). 1 ≤ times g ys) (sym q) (first-times g xs),
+            first-queued s.world y.mark y.future y.rest y.is,
           )) in
           record {
-            future = g;
+            future = y.future;
             due = d;
-            taken = taken-since s r rest n p b steps new k g (takes-first s r rest n p b steps new k g d (in_common xs e q));
-          }
-      by [] e [] q = walked e q
+            taken = taken-since s r rest n p b steps new k y.future
+                (takes-first s r rest n p b steps new k y.future d (in_common e y refl));
+          })
+          (common.spot s.world)
 
 pub finds-due : (limit : ℕ) (kind : Kind) (parties : ℕ) (steps : List Step) → FindsDue (run steps (start limit kind parties))
 finds-due limit kind parties steps = λ rest f due p r b ts new k. finds (run steps (start limit kind parties))

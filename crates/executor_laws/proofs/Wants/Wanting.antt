@@ -327,11 +327,11 @@ copy-refused h w (Outside x) e = e
 
 pub ends-so : (w : World) (p : ℕ) (h : Hint) (o : Op) → asks o ≡ true → h.refused ≡ true →
     list_any ends_refused (act p h o w).next ≡ true
-ends-so w p h (op.Table table_op.Enter) a e = by (not (nat_lt (length w.table) w.limit))
+ends-so w p h (op.Table (table_op.Enter mark)) a e = by (not (nat_lt (length w.table) w.limit))
   where
-    by : (b : Bool) → list_any ends_refused (enter_by b h.refused p w).next ≡ true
+    by : (b : Bool) → list_any ends_refused (enter_by b h.refused mark p w).next ≡ true
     by true = refl
-    by false = ap (λ (r : Bool). list_any ends_refused (enter_by false r p w).next) e
+    by false = ap (λ (r : Bool). list_any ends_refused (enter_by false r mark p w).next) e
 ends-so w p h (op.Waker (waker_op.CopyWaker f held)) a e =
     ap (λ (r : Bool). list_any ends_refused (copy_by (r || not (nat_lt (task w f).references most_references)) w f held).next) e
 ends-so w p h (op.Handle (handle_op.CopyAwaiter f x)) a e =

@@ -1,10 +1,14 @@
 -- For awaiters_are_kept.
 -- Each thing that is done keeps what holds of each future and of who waits on its handle.
 use Rattle.std.proofs.Common.{◌≡◌, ◌⊎◌, ℕ, ◌+◌, ◌<◌, List, [], ◌∷◌, ◌++◌, length, Bool, true, false, ◌||◌, ◌&&◌, not}
-use Rattle.std.proofs.Common.{eqb, drop, refl, sym, ap, subst, ◌≤◌, inl, inr, arith}
+use Rattle.std.proofs.Common.{eqb, refl, sym, ap, subst, ◌≤◌, inl, inr, arith}
 use Rattle.std.proofs.lemmas.Bool.Decides.{nat_tests}
 use Rattle.std.proofs.lemmas.List.{length-set}
 use Rattle.std.specs.Prelude.{Option, Some, None, slice_set}
+use Rattle.executor_model.proofs.Steps.QueuesByMark.{times-first}
+use Rattle.executor_parts.specs.declared.mark.Mark.TheVariants.{Plain, Urgent}
+use Rattle.executor_parts.specs.declared.mark.Mark as of_mark
+use Rattle.executor_model.specs.World.{queue_of}
 use Rattle.task_moves.specs.declared.moves.owed.Answer.{Answer}
 use Rattle.task_moves.specs.Moves as moves
 use Rattle.executor_model.specs.declared.event.Answer.TheVariants as answer
@@ -31,7 +35,7 @@ use Rattle.executor_model.specs.Sound.{Pend, times}
 use Rattle.executor_model.proofs.Steps.Cases.{by_bool, by_list, by_waker}
 use Rattle.executor_model.proofs.Steps.Marks.{IsUnmarked, unmarked, IsMarked, marked}
 use Rattle.executor_model.proofs.Steps.Lists.{with_ops-closing, read_put}
-use Rattle.executor_model.proofs.Steps.Lists.{same_is, times-append, times-drop}
+use Rattle.executor_model.proofs.Steps.Lists.{same_is, times-append}
 use Rattle.executor_model.proofs.Counts.Counting.{woken_by}
 use Rattle.executor_model.proofs.Counts.CountingHandles.{stays_so, gives}
 use Rattle.executor_model.proofs.Counts.CountingHandles.{waits_on, end_registered, end_notified, let_go_with, next_woken}
@@ -285,15 +289,16 @@ awaits-leak_out true n w e = λ g r yy mm bb h. grind arith
 awaits-leak_out false true w e = λ g r yy mm bb h. grind arith
 awaits-leak_out false false w e = awaits-leaks (w.waking ++ w.table) w e
 
-pub awaits-close : (w : World) → KeepsAwaits w (op.Closing closing_op.Close ∷ []) (close w)
-awaits-close w g r yy mm bb h = grind arith
+pub awaits-close : (mark : of_mark.Mark) (w : World) → KeepsAwaits w (op.Closing (closing_op.Close mark) ∷ []) (close w mark)
+awaits-close Urgent w g r yy mm bb h = grind arith
+awaits-close Plain w g r yy mm bb h = grind arith
 
-pub awaits-drain : (q : List ℕ) (p : ℕ) (w : World) → w.queue.items ≡ q →
-    KeepsAwaits w (op.Closing closing_op.Drain ∷ []) (drain_by p w q)
-awaits-drain = by_list _
-    (λ p w e g r yy mm bb h. grind (arith, heard-push))
-    (λ f rest p w e g r yy mm bb h. let z : same g f + times g (drop 1 w.queue.items) ≡ times g w.queue.items =
-    times-drop g f rest w.queue.items e in grind (arith, same_is))
+pub awaits-drain : (mark : of_mark.Mark) (q : List ℕ) (p : ℕ) (w : World) → (queue_of w mark).items ≡ q →
+    KeepsAwaits w (op.Closing (closing_op.Drain mark) ∷ []) (drain_by p w mark q)
+awaits-drain Urgent [] p w e g r yy mm bb h = grind arith
+awaits-drain Plain [] p w e g r yy mm bb h = grind (arith, heard-push)
+awaits-drain mark (f ∷ rest) p w e g r yy mm bb h =
+    let z = times-first g f rest mark w.queues e in grind (arith, same_is)
 
 -- the answers of user code
 pub awaits-pending : (p : ℕ) (w : World) (f : ℕ) →

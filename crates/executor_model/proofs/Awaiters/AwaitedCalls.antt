@@ -4,6 +4,7 @@ use Rattle.std.proofs.Common.{◌≡◌, ◌≢◌, ℕ, zero, suc, ◌+◌, ◌
 use Rattle.std.proofs.Common.{Bool, true, false, ◌&&◌, cond, eqb, refl, sym, ap, ◌∙◌, arith}
 use Rattle.std.proofs.lemmas.Bool.Decides.{nat_tests}
 use Rattle.std.specs.Prelude.{Option, Some, None}
+use Rattle.executor_parts.specs.declared.mark.Mark as of_mark
 use Rattle.executor_model.specs.declared.call.By.{By}
 use Rattle.executor_model.specs.declared.call.Call.{Call}
 use Rattle.executor_model.specs.declared.call.Call.TheVariants as call
@@ -52,12 +53,12 @@ begins-with : (w : World) (p : ℕ) (c : Call) (x : Option ℕ) (d : ℕ → Don
 begins-with w p c None d k = begins-nothing w p c
 begins-with w p c (Some f) d k = k f
 
-begins-spawn : (w : World) (p : ℕ) →
-    KeepsBegun w p (done (log w (event.CallBegun p call.Spawn)) (op.Table table_op.Enter ∷ []))
-begins-spawn w p g r y m b h = grind (arith, heard-push)
+begins-spawn : (mark : of_mark.Mark) (w : World) (p : ℕ) →
+    KeepsBegun w p (done (log w (event.CallBegun p (call.Spawn mark))) (op.Table (table_op.Enter mark) ∷ []))
+begins-spawn mark w p g r y m b h = grind (arith, heard-push)
 
 begins-tick : (w : World) (p : ℕ) →
-    KeepsBegun w p (done (log w (event.CallBegun p call.TryTick)) (op.Queue queue_op.Take ∷ []))
+    KeepsBegun w p (done (log w (event.CallBegun p call.TryTick)) (op.Queue queue_op.TakeTurn ∷ []))
 begins-tick w p g r y m b h = grind (arith, heard-push)
 
 begins-look : (w : World) (p : ℕ) →
@@ -186,7 +187,7 @@ pub awaits-begun : (p : ℕ) (w : World) (here : Option Waker) (c : Call) (g : �
     Awaits (begun p (log w (event.CallBegun p c)) here c).world g
     (with_ops g (begun p (log w (event.CallBegun p c)) here c).next r)
     (with_awaiting g (begun p (log w (event.CallBegun p c)) here c).next y) (begun_in p g m)
-awaits-begun p w here call.Spawn g r y m u = begins-spawn w p g r y m
+awaits-begun p w here (call.Spawn mark) g r y m u = begins-spawn mark w p g r y m
 awaits-begun p w here call.TryTick g r y m u = begins-tick w p g r y m
 awaits-begun p w here call.IsEmpty g r y m u = begins-look w p g r y m
 awaits-begun p w here (call.Wake k) g r y m u = begins-with w p (call.Wake k) (kept w k) _ (λ f. begins-wake w p k f) g

@@ -1,9 +1,15 @@
 -- For awaiters_are_kept and calls_do_what_they_say.
--- Where the drop of the executor has begun and none of its steps is left, nobody is to be woken and the queue is empty.
+-- Where the drop of the executor has begun and none of its steps is left, nobody is to be woken and both queues are empty.
 use Rattle.std.proofs.Common.{◌≡◌, ℕ, suc, ◌+◌, ◌<◌, ◌≤◌, List, [], ◌∷◌, ◌++◌, length, set, get_or, drop}
 use Rattle.std.proofs.Common.{Bool, true, false, ◌&&◌, ◌||◌, not, refl, sym, ap, ◌∙◌, subst, inl, inr, ⊎_elim, arith}
 use Rattle.std.proofs.lemmas.List.{length-append}
 use Rattle.std.specs.Prelude.{Option, Some, None, reverse}
+use Rattle.executor_parts.specs.declared.mark.Mark.TheVariants.{Plain, Urgent}
+use Rattle.executor_model.specs.declared.op.Look.{Look}
+use Rattle.executor_parts.specs.declared.mark.Mark.{Mark}
+use Rattle.executor_model.specs.declared.op.Look.TheVariants.{First, Second}
+use Rattle.executor_model.specs.World.{queue_of, put_queue, mark_of}
+use Rattle.executor_model.specs.Acts.{mark_in, turned}
 use Rattle.executor_model.specs.declared.kind.Kind.{Kind}
 use Rattle.executor_model.specs.declared.call.Call.{Call}
 use Rattle.executor_model.specs.declared.call.Call.TheVariants as call
@@ -30,7 +36,7 @@ use Rattle.executor_model.specs.declared.step.UserEnd.{UserEnd}
 use Rattle.executor_model.specs.declared.step.UserEnd.TheVariants as end
 use Rattle.executor_model.specs.World.{World, Ticker, Awake, Asleep, Left, Done, done, log}
 use Rattle.executor_model.specs.Acts.{append_by, take_by}
-use Rattle.executor_model.specs.ActsOfSleepers.{search_by}
+use Rattle.executor_model.specs.ActsOfSleepers.{look_tick_by}
 use Rattle.executor_model.specs.Acts.{closing_ops, drop_next_by, wake, wake_next_by, close}
 use Rattle.executor_model.specs.Acts.{drain_by}
 use Rattle.executor_model.specs.ActsOfRuns.{search_own}
@@ -48,9 +54,13 @@ use Rattle.executor_model.proofs.Steps.RunsPlain.{plain-run, plain-steal}
 use Rattle.executor_model.proofs.Awaiters.RunsQueue.{Fewer, fewer, takes-run, takes-search, takes-steal}
 use Rattle.executor_model.proofs.Steps.RunsWays.{by-run, by-search, by-steal}
 use Rattle.executor_model.proofs.Awaiters.AwaitedLists.{plain-act, plain-begun, plain-wake}
-use Rattle.executor_model.proofs.Awaiters.AwaitedSweeps.{KeepsSweeps, Kept, Lists, NoSteps, Sweeps, draining_of, dropping_of}
+use Rattle.executor_model.proofs.Awaiters.AwaitedSweeps.{KeepsSweeps, Kept, Lists, NoSteps, Sweep, Sweeps, dropping_of}
+use Rattle.executor_model.proofs.Awaiters.AwaitedSweeps.{draining_plain_of, draining_urgent_of, shuts_left, steps_of}
+use Rattle.executor_model.proofs.Awaiters.AwaitedSweeps.{shutting_plain_of, shutting_urgent_of}
+use Rattle.executor_model.proofs.Awaiters.RunsQueue.Takes.{first}
+use Rattle.queue_steps.specs.ClosableQueue.{taken}
 use Rattle.executor_model.proofs.Awaiters.AwaitedSweeps.{is_sweeping, kept-moves, kept-own, kept-put, lists, no-act, no-self}
-use Rattle.executor_model.proofs.Awaiters.AwaitedSweeps.{no-steps, rousing_of, same-act, same-log_if, shutting_of, sweep}
+use Rattle.executor_model.proofs.Awaiters.AwaitedSweeps.{no-steps, rousing_of, same-act, same-log_if, sweep}
 use Rattle.executor_model.proofs.Awaiters.AwaitedSweeps.{sweeps-still, with-none, with_sweep}
 use Rattle.executor_model.specs.Acts.{leak_next_by, leak_out_by}
 use Rattle.executor_model.proofs.Steps.Asides.{aside-leak_next, aside-leak_out}
@@ -58,34 +68,19 @@ use Rattle.executor_model.specs.World.{task}
 use Rattle.executor_model.proofs.Awaiters.AwaitedLists.{rough_of}
 use Rattle.task_moves.specs.Moves as moves
 
--- the queue
+-- the queues
 
 open-queue : (c l : Bool) → (not c && l) ≡ true → c ≡ false
 open-queue false l e = refl
 open-queue true l e = absurd (cc)
 
-sweeps-append : (b : Bool) (w : World) (f : ℕ) → (b ≡ true → w.queue.closed ≡ false) →
-    KeepsSweeps w (op.Queue (queue_op.Append f) ∷ []) (append_by b w f)
-sweeps-append = by_bool _
-    (λ w f c r h. let z : w.queue.closed ≡ false = c refl in grind (arith, length-append))
-    (λ w f c r h. grind arith)
+sweeps-append : (b : Bool) (w : World) (mark : Mark) (f : ℕ) → (b ≡ true → (queue_of w mark).closed ≡ false) →
+    KeepsSweeps w (op.Queue (queue_op.Append f) ∷ []) (append_by b w mark f)
+sweeps-append true w Urgent f c r h = let z : w.queues.urgent.closed ≡ false = c refl in grind (arith, length-append)
+sweeps-append true w Plain f c r h = let z : w.queues.plain.closed ≡ false = c refl in grind (arith, length-append)
+sweeps-append false w mark f c r h = grind arith
 
-sweeps-take : (q : List ℕ) (w : World) → w.queue.items ≡ q → KeepsSweeps w (op.Queue queue_op.Take ∷ []) (take_by w q)
-sweeps-take = by_list _
-    (λ w e r h. grind arith)
-    (λ f rest w e r h. let z : suc (length (drop 1 w.queue.items)) ≡ length w.queue.items = rw e refl in grind arith)
-
-sweeps-search : (x : Ticker) (q : List ℕ) (w : World) (s : Sleeping) → w.queue.items ≡ q →
-    KeepsSweeps w (op.Tick (tick_op.Search s) ∷ []) (search_by x w q s)
-sweeps-search x [] w s e r h = grind arith
-sweeps-search Awake (f ∷ rest) w s e r h =
-    let z : suc (length (drop 1 w.queue.items)) ≡ length w.queue.items = rw e refl in grind arith
-sweeps-search (Asleep n) (f ∷ rest) w s e r h =
-    let z : suc (length (drop 1 w.queue.items)) ≡ length w.queue.items = rw e refl in grind arith
-sweeps-search Left (f ∷ rest) w s e r h =
-    let z : suc (length (drop 1 w.queue.items)) ≡ length w.queue.items = rw e refl in grind arith
-
--- a run takes from the queue at most
+-- the first of a queue is taken at most
 sweeps-less : (w : World) (o : Op) (d : Done) → Kept w (o ∷ []) d → Fewer w d.world → NoSteps (o ∷ []) →
     NoSteps d.next → KeepsSweeps w (o ∷ []) d
 sweeps-less w o d k f a b r h =
@@ -97,11 +92,51 @@ sweeps-less w o d k f a b r h =
       wakes = λ e. omega (arith, x.wakes e, ap length k.waking);
       awake = λ e. ⊎_elim (λ (y : 1 ≤ r.outs + (r.drops + r.wakes)). inl y)
           (λ (y : length w.waking ≡ 0). inr (ap length k.waking ∙ y)) (x.awake (sym k.gone ∙ e));
-      shut = λ e. ⊎_elim (λ (y : 1 ≤ r.outs + (r.drops + (r.wakes + r.shuts))). inl y)
-          (λ (y : w.queue.closed ≡ true). inr (f.closed ∙ y)) (x.shut (sym k.gone ∙ e));
-      drained = λ e. ⊎_elim (λ (y : 1 ≤ r.outs + (r.drops + (r.wakes + (r.shuts + r.drains)))). inl y)
-          (λ (y : length w.queue.items ≡ 0). inr (omega (arith, y, f.items))) (x.drained (sym k.gone ∙ e));
+      urgent_shut = λ e. ⊎_elim (λ (y : 1 ≤ r.outs + (r.drops + (r.wakes + r.shuts_urgent))). inl y)
+          (λ (y : w.queues.urgent.closed ≡ true). inr (f.closed Urgent ∙ y)) (x.urgent_shut (sym k.gone ∙ e));
+      plain_shut = λ e. ⊎_elim (λ (y : 1 ≤ shuts_left r). inl y)
+          (λ (y : w.queues.plain.closed ≡ true). inr (f.closed Plain ∙ y)) (x.plain_shut (sym k.gone ∙ e));
+      urgent_drained = λ e. ⊎_elim (λ (y : 1 ≤ shuts_left r + r.drains_urgent). inl y)
+          (λ (y : length w.queues.urgent.items ≡ 0). inr (omega (arith, y, f.items Urgent)))
+          (x.urgent_drained (sym k.gone ∙ e));
+      plain_drained = λ e. ⊎_elim (λ (y : 1 ≤ steps_of r). inl y)
+          (λ (y : length w.queues.plain.items ≡ 0). inr (omega (arith, y, f.items Plain)))
+          (x.plain_drained (sym k.gone ∙ e));
     }
+
+-- a turn, a look that finds nothing, and one that takes what it finds
+sweeps-same : (w v : World) (o : Op) (next : List Op) → lists w ≡ lists v → NoSteps (o ∷ []) → NoSteps next →
+    KeepsSweeps w (o ∷ []) (done v next)
+sweeps-same w v o next e a b = sweeps-still w (o ∷ []) (done v next) e a b
+
+kept-taken : (w : World) (mark : Mark) (o : Op) (next : List Op) →
+    Kept w (o ∷ []) (done (put_queue w mark (taken (queue_of w mark))) next)
+kept-taken w mark o next = record { gone = refl; leaving = refl; waking = refl }
+
+sweeps-taken : (w : World) (mark : Mark) (o : Op) (next : List Op) → NoSteps (o ∷ []) → NoSteps next →
+    KeepsSweeps w (o ∷ []) (done (put_queue w mark (taken (queue_of w mark))) next)
+sweeps-taken w mark o next a b = sweeps-less w o _ (kept-taken w mark o next) (fewer w _ (first mark refl)) a b
+
+sweeps-take : (look : Look) (q : List ℕ) (w : World) → KeepsSweeps w (op.Queue (queue_op.Take look) ∷ []) (take_by w look q)
+sweeps-take (First mark) [] w = sweeps-same w w (op.Queue (queue_op.Take (First mark))) (take_by w (First mark) []).next
+    refl refl refl
+sweeps-take (Second mark) [] w = sweeps-same w w (op.Queue (queue_op.Take (Second mark))) (take_by w (Second mark) []).next
+    refl refl refl
+sweeps-take look (f ∷ rest) w =
+    sweeps-taken w (mark_in look) (op.Queue (queue_op.Take look)) (take_by w look (f ∷ rest)).next refl refl
+
+sweeps-search : (look : Look) (x : Ticker) (q : List ℕ) (w : World) (s : Sleeping) →
+    KeepsSweeps w (op.Tick (tick_op.Look s look) ∷ []) (look_tick_by x w look q s)
+sweeps-search (First mark) x [] w s = sweeps-same w w (op.Tick (tick_op.Look s (First mark)))
+    (look_tick_by x w (First mark) [] s).next refl refl refl
+sweeps-search (Second mark) x [] w s = sweeps-same w w (op.Tick (tick_op.Look s (Second mark)))
+    (look_tick_by x w (Second mark) [] s).next refl refl refl
+sweeps-search look Awake (f ∷ rest) w s = sweeps-taken w (mark_in look) (op.Tick (tick_op.Look s look))
+    (look_tick_by Awake w look (f ∷ rest) s).next refl refl
+sweeps-search look (Asleep n) (f ∷ rest) w s = sweeps-taken w (mark_in look) (op.Tick (tick_op.Look s look))
+    (look_tick_by (Asleep n) w look (f ∷ rest) s).next refl refl
+sweeps-search look Left (f ∷ rest) w s = sweeps-taken w (mark_in look) (op.Tick (tick_op.Look s look))
+    (look_tick_by Left w look (f ∷ rest) s).next refl refl
 
 sweeps-steal : (p : ℕ) (h : Hint) (o : StealOp) (w : World) → KeepsSweeps w (op.Steal o ∷ []) (steal_act p o w)
 sweeps-steal p h o w = sweeps-less w (op.Steal o) (steal_act p o w) (by-steal Kept kept-moves kept-put p o w)
@@ -110,14 +145,16 @@ sweeps-steal p h o w = sweeps-less w (op.Steal o) (steal_act p o w) (by-steal Ke
 
 sweeps-run : (p : ℕ) (h : Hint) (o : RunOp) (w : World) → KeepsSweeps w (op.Run o ∷ []) (run_act p h o w)
 sweeps-run p h o w =
-    sweeps-less w (op.Run o) (run_act p h o w) (by-run Kept kept-moves kept-put p h o w (λ x e. kept-own p w x _))
+    sweeps-less w (op.Run o) (run_act p h o w) (by-run Kept kept-moves kept-put p h o w (λ x e. kept-own p w x _)
+    (λ x. record { gone = refl; leaving = refl; waking = refl }))
     (fewer w _ (takes-run p h o w)) (omega (arith, ap (λ (x : Row). x.ousting) (plain-run o)))
     (no-steps _ (plain-act p h (op.Run o) w refl))
 
-sweeps-search_who : (h : Hint) (who : TickOrRun) (w : World) (s : Sleeping) → s.who ≡ who →
-    KeepsSweeps w (op.Tick (tick_op.Search s) ∷ []) (search_by_who who w s)
-sweeps-search_who h (tick_or_run.Tick t) w s e = sweeps-search _ _ w s refl
-sweeps-search_who h (tick_or_run.Run q) w s e =
+sweeps-search_who : (h : Hint) (who : TickOrRun) (p : ℕ) (w : World) (s : Sleeping) → s.who ≡ who →
+    KeepsSweeps w (op.Tick (tick_op.Search s) ∷ []) (search_by_who who p w s)
+sweeps-search_who h (tick_or_run.Tick t) p w s e = sweeps-same w (turned p w) (op.Tick (tick_op.Search s))
+    (search_by_who (tick_or_run.Tick t) p w s).next refl refl refl
+sweeps-search_who h (tick_or_run.Run q) p w s e =
     let x : RunPoll = record { run = q; waker = s.waker; poll = s.poll } in
     sweeps-less w (op.Tick (tick_op.Search s)) (search_own w x) (by-search Kept kept-moves kept-put w q s e)
     (fewer w _ (takes-search w x)) refl (no-steps _ (plain-act 0 h
@@ -156,19 +193,23 @@ sweeps-woken : (rest : List ℕ) (o : Bool) (p : ℕ) (w v : World) (f : ℕ) (n
     KeepsSweeps w (op.Closing closing_op.WakeNext ∷ []) (done v (next ++ closing_ops [] rest))
 sweeps-woken = by_list _
     (λ o p w v f next e q n r h.
-    subst (λ (l : Lists). Sweeps l (with_sweep (next ++ op.Closing closing_op.Close ∷ []) r)) q
-    (let a : _ = weigh-append ousting_of next (op.Closing closing_op.Close ∷ []) in
-    let b : _ = weigh-append dropping_of next (op.Closing closing_op.Close ∷ []) in
-    let c : _ = weigh-append rousing_of next (op.Closing closing_op.Close ∷ []) in
-    let d : _ = weigh-append shutting_of next (op.Closing closing_op.Close ∷ []) in
-    let k : _ = weigh-append draining_of next (op.Closing closing_op.Close ∷ []) in grind arith))
+    subst (λ (l : Lists). Sweeps l (with_sweep (next ++ op.Closing (closing_op.Close Urgent) ∷ []) r)) q
+    (let a : _ = weigh-append ousting_of next (op.Closing (closing_op.Close Urgent) ∷ []) in
+    let b : _ = weigh-append dropping_of next (op.Closing (closing_op.Close Urgent) ∷ []) in
+    let c : _ = weigh-append rousing_of next (op.Closing (closing_op.Close Urgent) ∷ []) in
+    let d : _ = weigh-append shutting_urgent_of next (op.Closing (closing_op.Close Urgent) ∷ []) in
+    let k : _ = weigh-append shutting_plain_of next (op.Closing (closing_op.Close Urgent) ∷ []) in
+    let m : _ = weigh-append draining_urgent_of next (op.Closing (closing_op.Close Urgent) ∷ []) in
+    let s : _ = weigh-append draining_plain_of next (op.Closing (closing_op.Close Urgent) ∷ []) in grind arith))
     (λ y ys o p w v f next e q n r h.
     subst (λ (l : Lists). Sweeps l (with_sweep (next ++ op.Closing closing_op.WakeNext ∷ []) r)) q
     (let a : _ = weigh-append ousting_of next (op.Closing closing_op.WakeNext ∷ []) in
     let b : _ = weigh-append dropping_of next (op.Closing closing_op.WakeNext ∷ []) in
     let c : _ = weigh-append rousing_of next (op.Closing closing_op.WakeNext ∷ []) in
-    let d : _ = weigh-append shutting_of next (op.Closing closing_op.WakeNext ∷ []) in
-    let k : _ = weigh-append draining_of next (op.Closing closing_op.WakeNext ∷ []) in grind arith))
+    let d : _ = weigh-append shutting_urgent_of next (op.Closing closing_op.WakeNext ∷ []) in
+    let k : _ = weigh-append shutting_plain_of next (op.Closing closing_op.WakeNext ∷ []) in
+    let m : _ = weigh-append draining_urgent_of next (op.Closing closing_op.WakeNext ∷ []) in
+    let s : _ = weigh-append draining_plain_of next (op.Closing closing_op.WakeNext ∷ []) in grind arith))
 
 sweeps-wake_next : (p : ℕ) (w : World) (ws : List ℕ) → w.waking ≡ ws →
     KeepsSweeps w (op.Closing closing_op.WakeNext ∷ []) (wake_next_by p w ws)
@@ -178,21 +219,25 @@ sweeps-wake_next = λ p w. by_list _
     (wake p (record w { waking = rest }) f).next e (same-log_if _ (record w { waking = rest }) (event.Woken p f))
     (no-steps _ (plain-wake p (record w { waking = rest }) f)) r h)
 
-sweeps-close : (w : World) → KeepsSweeps w (op.Closing closing_op.Close ∷ []) (close w)
-sweeps-close w r h = grind arith
+sweeps-close : (mark : Mark) (w : World) → KeepsSweeps w (op.Closing (closing_op.Close mark) ∷ []) (close w mark)
+sweeps-close Urgent w r h = grind arith
+sweeps-close Plain w r h = grind arith
 
-sweeps-drain : (q : List ℕ) (p : ℕ) (w : World) → w.queue.items ≡ q →
-    KeepsSweeps w (op.Closing closing_op.Drain ∷ []) (drain_by p w q)
-sweeps-drain = by_list _
-    (λ p w e r h. let z : length w.queue.items ≡ 0 = ap length e in grind arith)
-    (λ f rest p w e r h. let z : suc (length (drop 1 w.queue.items)) ≡ length w.queue.items = rw e refl in grind arith)
+sweeps-drain : (mark : Mark) (q : List ℕ) (p : ℕ) (w : World) → (queue_of w mark).items ≡ q →
+    KeepsSweeps w (op.Closing (closing_op.Drain mark) ∷ []) (drain_by p w mark q)
+sweeps-drain Urgent [] p w e r h = let z : length w.queues.urgent.items ≡ 0 = ap length e in grind arith
+sweeps-drain Plain [] p w e r h = let z : length w.queues.plain.items ≡ 0 = ap length e in grind arith
+sweeps-drain Urgent (f ∷ rest) p w e r h =
+    let z : suc (length (drop 1 w.queues.urgent.items)) ≡ length w.queues.urgent.items = rw e refl in grind arith
+sweeps-drain Plain (f ∷ rest) p w e r h =
+    let z : suc (length (drop 1 w.queues.plain.items)) ≡ length w.queues.plain.items = rw e refl in grind arith
 
 -- a leak goes on only before the drop begins, and there is no such step then
 sweeps-open : (w : World) (old : List Op) (d : Done) → w.gone ≡ false → d.world.gone ≡ false → NoSteps old →
     NoSteps d.next → KeepsSweeps w old d
 sweeps-open w old d n m a b r h =
     let x : Sweeps (lists w) r = subst (Sweeps (lists w)) (with-none old r a) h in
-    let z : r.outs + (r.drops + (r.wakes + (r.shuts + r.drains))) ≡ 0 = x.there n in
+    let z : steps_of r ≡ 0 = x.there n in
     let no : d.world.gone ≡ true → ⊥ = (λ e. let q : false ≡ true = sym m ∙ e in cc) in
     subst (Sweeps (lists d.world)) (sym (with-none d.next r b)) record {
       one = x.one;
@@ -200,8 +245,10 @@ sweeps-open w old d n m a b r h =
       leaves = λ e. absurd (omega (arith, e, z));
       wakes = λ e. absurd (omega (arith, e, z));
       awake = λ e. absurd (no e);
-      shut = λ e. absurd (no e);
-      drained = λ e. absurd (no e);
+      urgent_shut = λ e. absurd (no e);
+      plain_shut = λ e. absurd (no e);
+      urgent_drained = λ e. absurd (no e);
+      plain_drained = λ e. absurd (no e);
     }
 
 sweeps-leak_out : (s n : Bool) (w : World) → w.gone ≡ n →
@@ -225,16 +272,20 @@ sweeps-act : (b : Bool) (p : ℕ) (h : Hint) (o : Op) (w : World) → is_sweepin
     KeepsSweeps w (o ∷ []) (act p h o w)
 sweeps-act false p h o w n = sweeps-still w (o ∷ []) (act p h o w) (same-act p h o w n) (no-self o n)
     (no-act p h o w _ refl n)
-sweeps-act true p h (op.Queue queue_op.Take) w n = sweeps-take _ w refl
-sweeps-act true p h (op.Queue (queue_op.Append f)) w n = sweeps-append _ w f (open-queue w.queue.closed _)
-sweeps-act true p h (op.Tick (tick_op.Search s)) w n = sweeps-search_who h s.who w s refl
+sweeps-act true p h (op.Queue queue_op.TakeTurn) w n =
+    sweeps-same w (turned p w) (op.Queue queue_op.TakeTurn) (act p h (op.Queue queue_op.TakeTurn) w).next refl refl refl
+sweeps-act true p h (op.Queue (queue_op.Take look)) w n = sweeps-take look _ w
+sweeps-act true p h (op.Queue (queue_op.Append f)) w n = sweeps-append _ w (mark_of w f) f
+    (open-queue (queue_of w (mark_of w f)).closed _)
+sweeps-act true p h (op.Tick (tick_op.Search s)) w n = sweeps-search_who h s.who p w s refl
+sweeps-act true p h (op.Tick (tick_op.Look s look)) w n = sweeps-search look _ _ w s
 sweeps-act true p h (op.Steal o) w n = sweeps-steal p h o w
 sweeps-act true p h (op.Run o) w n = sweeps-run p h o w
 sweeps-act true p h (op.Closing closing_op.TakeOut) w n = sweeps-take_out _ _ w refl refl
 sweeps-act true p h (op.Closing closing_op.DropNext) w n = sweeps-drop_next p w _ refl
 sweeps-act true p h (op.Closing closing_op.WakeNext) w n = sweeps-wake_next p w _ refl
-sweeps-act true p h (op.Closing closing_op.Close) w n = sweeps-close w
-sweeps-act true p h (op.Closing closing_op.Drain) w n = sweeps-drain _ p w refl
+sweeps-act true p h (op.Closing (closing_op.Close mark)) w n = sweeps-close mark w
+sweeps-act true p h (op.Closing (closing_op.Drain mark)) w n = sweeps-drain mark _ p w refl
 sweeps-act true p h (op.Closing closing_op.LeakOut) w n = sweeps-leak_out w.is_static w.gone w refl
 sweeps-act true p h (op.Closing closing_op.LeakNext) w n = sweeps-leak_next _ p w _ refl
 sweeps-act true p h _ w n = absurd (cc)
@@ -295,8 +346,10 @@ split-sweep ss p old rest l e = λ i. record {
   outs = split ousting_of ss p old rest l e i;
   drops = split dropping_of ss p old rest l e i;
   wakes = split rousing_of ss p old rest l e i;
-  shuts = split shutting_of ss p old rest l e i;
-  drains = split draining_of ss p old rest l e i;
+  shuts_urgent = split shutting_urgent_of ss p old rest l e i;
+  shuts_plain = split shutting_plain_of ss p old rest l e i;
+  drains_urgent = split draining_urgent_of ss p old rest l e i;
+  drains_plain = split draining_plain_of ss p old rest l e i;
 }
 
 push-sweep : (ss : List (List Op)) (p : ℕ) (rest next : List Op) → p < length ss →
@@ -305,8 +358,10 @@ push-sweep ss p rest next l = λ i. record {
   outs = weigh_all-push ousting_of ss p rest next l i;
   drops = weigh_all-push dropping_of ss p rest next l i;
   wakes = weigh_all-push rousing_of ss p rest next l i;
-  shuts = weigh_all-push shutting_of ss p rest next l i;
-  drains = weigh_all-push draining_of ss p rest next l i;
+  shuts_urgent = weigh_all-push shutting_urgent_of ss p rest next l i;
+  shuts_plain = weigh_all-push shutting_plain_of ss p rest next l i;
+  drains_urgent = weigh_all-push draining_urgent_of ss p rest next l i;
+  drains_plain = weigh_all-push draining_plain_of ss p rest next l i;
 }
 
 swept-unsettled : (s : Machine) (p : ℕ) (old rest : List Op) (d : Done) → p < length s.parties →
@@ -324,15 +379,27 @@ pub swept-ends : (s : Machine) (p : ℕ) (a : Reply) (held : Hold) (below : List
 swept-ends s p a held below l e h =
     swept-unsettled s p (op.End a held ∷ []) below (done (log s.world (event.CallEnded p a)) []) l e (λ r k. k) h
 
+abbrev no_sweep : Sweep
+no_sweep = record {
+  outs = 0;
+  drops = 0;
+  wakes = 0;
+  shuts_urgent = 0;
+  shuts_plain = 0;
+  drains_urgent = 0;
+  drains_plain = 0;
+}
+
 pub swept-start : (limit : ℕ) (kind : Kind) (n : ℕ) → Swept (start limit kind n)
 swept-start limit kind n = subst (Sweeps (lists (start limit kind n).world)) (sym (λ i. record {
   outs = weigh_all-idle ousting_of n i;
   drops = weigh_all-idle dropping_of n i;
   wakes = weigh_all-idle rousing_of n i;
-  shuts = weigh_all-idle shutting_of n i;
-  drains = weigh_all-idle draining_of n i;
-})) (let q : Sweeps (lists (start limit kind 0).world) (record { outs = 0; drops = 0; wakes = 0; shuts = 0; drains = 0 }) =
-    grind arith in q)
+  shuts_urgent = weigh_all-idle shutting_urgent_of n i;
+  shuts_plain = weigh_all-idle shutting_plain_of n i;
+  drains_urgent = weigh_all-idle draining_urgent_of n i;
+  drains_plain = weigh_all-idle draining_plain_of n i;
+})) (let q : Sweeps (lists (start limit kind 0).world) no_sweep = grind arith in q)
 
 pub swept : (limit : ℕ) (kind : Kind) (n : ℕ) (ts : List Step) → Swept (run ts (start limit kind n))
 swept limit kind n ts = along Swept swept-moves swept-ends ts (start limit kind n) (good-start limit kind n) (swept-start limit kind n)

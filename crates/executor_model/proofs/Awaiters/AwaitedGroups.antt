@@ -1,6 +1,8 @@
 -- For awaiters_are_kept.
 -- Each thing that is done keeps what is known of each awaiter, by groups.
 use Rattle.std.proofs.Common.{◌≡◌, ℕ, ◌<◌, [], ◌∷◌, length, true, false, not, refl, subst, arith}
+use Rattle.executor_model.proofs.Awaiters.AwaitedMoves.{awaits-turn}
+use Rattle.executor_model.proofs.Awaiters.SleepersAwaited.{awaits-search}
 use Rattle.task_moves.specs.Moves as moves
 use Rattle.executor_model.specs.declared.event.Answer.TheVariants as answer
 use Rattle.executor_model.specs.declared.event.Event.TheVariants as event
@@ -66,9 +68,10 @@ own_waker w o z x e =
 pub awaits-act : (p : ℕ) (h : Hint) (o : Op) (w : World) → length w.awaiters ≡ length w.tasks →
     pasts (length w.tasks) w.waking ≡ 0 → weigh (past_of (length w.tasks)) (o ∷ []) ≡ 0 → is_end o ≡ false →
     KeepsBy w (o ∷ []) (act p h o w) (asked p h o w)
-awaits-act p h (op.Table table_op.Enter) w n u z m = awaits-enter _ _ p w n
-awaits-act p h (op.Queue queue_op.Take) w n u z m = awaits-take _ w refl
-awaits-act p h (op.Queue (queue_op.Append f)) w n u z m = awaits-append _ w f
+awaits-act p h (op.Table (table_op.Enter mark)) w n u z m = awaits-enter _ _ _ p w n
+awaits-act p h (op.Queue queue_op.TakeTurn) w n u z m = awaits-turn p w
+awaits-act p h (op.Queue (queue_op.Take look)) w n u z m = awaits-take look _ w refl
+awaits-act p h (op.Queue (queue_op.Append f)) w n u z m = awaits-append _ w _ f
 awaits-act p h (op.Move move.WakeByReference f) w n u z m =
     awaits-wake_by_reference (moves.is_over (task w f)) _ _ p w f refl refl
     (own _ f (op.Move move.WakeByReference f) (omega arith) z)
@@ -132,7 +135,8 @@ awaits-act p h (op.Sleeper sleeper_op.HandOut) w n u z m = awaits-hand_out _ _ w
 awaits-act p h (op.Sleeper (sleeper_op.CallSleeper s)) w n u z m =
     awaits-call_sleeper p s.who s.poll s.waker w (known_waker w s.waker 0 (omega (arith, z)))
 awaits-act p h (op.Tick tick_op.MakeTick) w n u z m = awaits-make_tick _ w
-awaits-act p h (op.Tick (tick_op.Search s)) w n u z m = awaits-search_who s.who w s refl
+awaits-act p h (op.Tick (tick_op.Search s)) w n u z m = awaits-search_who s.who p w s refl
+awaits-act p h (op.Tick (tick_op.Look s look)) w n u z m = awaits-search look _ _ w s refl
 awaits-act p h (op.Tick (tick_op.CopyWaker s)) w n u z m =
     awaits-copy_sleeper _ s.waker s.who s.poll w (known_waker w s.waker 0 (omega (arith, z)))
 awaits-act p h (op.Tick (tick_op.FallAsleep s)) w n u z m = awaits-fall_asleep _ w s
@@ -144,8 +148,8 @@ awaits-act p h (op.Run o) w n u z m = awaits-run p h o w (own_waker w o z)
 awaits-act p h (op.Closing closing_op.TakeOut) w n u z m = awaits-take_out _ _ w refl
 awaits-act p h (op.Closing closing_op.DropNext) w n u z m = awaits-drop_first p w _ refl
 awaits-act p h (op.Closing closing_op.WakeNext) w n u z m = awaits-wake_first p w _ refl (first_known w u)
-awaits-act p h (op.Closing closing_op.Close) w n u z m = awaits-close w
-awaits-act p h (op.Closing closing_op.Drain) w n u z m = awaits-drain _ p w refl
+awaits-act p h (op.Closing (closing_op.Close mark)) w n u z m = awaits-close mark w
+awaits-act p h (op.Closing (closing_op.Drain mark)) w n u z m = awaits-drain mark _ p w refl
 awaits-act p h (op.Closing closing_op.LeakOut) w n u z m = awaits-leak_out w.is_static w.gone w refl
 awaits-act p h (op.Closing closing_op.LeakNext) w n u z m = awaits-leak_first _ p w _ refl (first_known w u)
 awaits-act p h (op.End a held) w n u z m = absurd (cc)

@@ -3,6 +3,9 @@
 -- most of what is done leads to nothing of these.
 use Rattle.std.proofs.Common.{◌≡◌, ℕ, List, [], ◌∷◌, ◌++◌, Bool, true, false, refl, ap, arith}
 use Rattle.std.specs.Prelude.{Option, Some, None}
+use Rattle.executor_model.specs.declared.op.Look.{Look}
+use Rattle.executor_model.specs.declared.op.Look.TheVariants.{First, Second}
+use Rattle.executor_parts.specs.declared.mark.Mark.{Mark}
 use Rattle.task_moves.specs.declared.moves.state.State.{State}
 use Rattle.task_moves.specs.declared.moves.owed.Move.TheVariants as move
 use Rattle.task_moves.specs.declared.moves.owed.AwaiterDebt.{AwaiterDebt}
@@ -55,8 +58,8 @@ rough_of (op.Handle (handle_op.EndNotify f mine)) = 1
 rough_of (op.Closing closing_op.TakeOut) = 1
 rough_of (op.Closing closing_op.DropNext) = 1
 rough_of (op.Closing closing_op.WakeNext) = 1
-rough_of (op.Closing closing_op.Close) = 1
-rough_of (op.Closing closing_op.Drain) = 1
+rough_of (op.Closing (closing_op.Close mark)) = 1
+rough_of (op.Closing (closing_op.Drain mark)) = 1
 rough_of _ = 0
 
 plain-both : (xs ys : List Op) → weigh rough_of xs ≡ 0 → weigh rough_of ys ≡ 0 → weigh rough_of (xs ++ ys) ≡ 0
@@ -121,18 +124,19 @@ no-detach true b s = refl
 no-detach false true s = refl
 no-detach false false s = refl
 
-plain-append : (b : Bool) (w : World) (f : ℕ) → weigh rough_of (append_by b w f).next ≡ 0
-plain-append true w f = refl
-plain-append false w f = refl
+plain-append : (b : Bool) (w : World) (mark : Mark) (f : ℕ) → weigh rough_of (append_by b w mark f).next ≡ 0
+plain-append true w mark f = refl
+plain-append false w mark f = refl
 
-plain-take : (q : List ℕ) (w : World) → weigh rough_of (take_by w q).next ≡ 0
-plain-take [] w = refl
-plain-take (f ∷ rest) w = refl
+plain-take : (look : Look) (q : List ℕ) (w : World) → weigh rough_of (take_by w look q).next ≡ 0
+plain-take (First mark) [] w = refl
+plain-take (Second mark) [] w = refl
+plain-take look (f ∷ rest) w = refl
 
-plain-enter : (b c : Bool) (p : ℕ) (w : World) → weigh rough_of (enter_by b c p w).next ≡ 0
-plain-enter true c p w = refl
-plain-enter false true p w = refl
-plain-enter false false p w = refl
+plain-enter : (b c : Bool) (mark : Mark) (p : ℕ) (w : World) → weigh rough_of (enter_by b c mark p w).next ≡ 0
+plain-enter true c mark p w = refl
+plain-enter false true mark p w = refl
+plain-enter false false mark p w = refl
 
 plain-copy : (b : Bool) (w : World) (f : ℕ) (held : Hold) → weigh rough_of (copy_by b w f held).next ≡ 0
 plain-copy true w f held = refl
@@ -229,14 +233,15 @@ is_special (op.Handle (handle_op.Notify f mine)) = true
 is_special (op.Closing closing_op.TakeOut) = true
 is_special (op.Closing closing_op.DropNext) = true
 is_special (op.Closing closing_op.WakeNext) = true
-is_special (op.Closing closing_op.Close) = true
-is_special (op.Closing closing_op.Drain) = true
+is_special (op.Closing (closing_op.Close mark)) = true
+is_special (op.Closing (closing_op.Drain mark)) = true
 is_special _ = false
 
 pub plain-act : (p : ℕ) (h : Hint) (o : Op) (w : World) → is_special o ≡ false → weigh rough_of (act p h o w).next ≡ 0
-plain-act p h (op.Table table_op.Enter) w n = plain-enter _ _ p w
-plain-act p h (op.Queue queue_op.Take) w n = plain-take _ w
-plain-act p h (op.Queue (queue_op.Append f)) w n = plain-append _ w f
+plain-act p h (op.Table (table_op.Enter mark)) w n = plain-enter _ _ _ p w
+plain-act p h (op.Queue queue_op.TakeTurn) w n = refl
+plain-act p h (op.Queue (queue_op.Take look)) w n = plain-take look _ w
+plain-act p h (op.Queue (queue_op.Append f)) w n = plain-append _ w _ f
 plain-act p h (op.Move move.WakeByReference f) w n =
     plain-carried f _ (moves.wake_by_reference (task w f)) (no-wake _ _ (task w f))
 plain-act p h (op.Move move.Wake f) w n = plain-wake p w f
@@ -274,15 +279,15 @@ plain-act p h (op.Run o) w n = run-blind rough_of blind-rough p h o w (plain-own
 plain-act p h (op.Tick o) w n =
     tick-blind rough_of (record
     { tick = λ o. refl; exchange = refl; returns = refl; call = λ s. refl; release = λ f. refl; end = λ r t. refl; made = λ r. refl })
-    blind-rough h o w
+    blind-rough p h o w
 plain-act p h (op.Handle (handle_op.Look f a)) w n = absurd (cc)
 plain-act p h (op.Handle (handle_op.LookAgain f)) w n = absurd (cc)
 plain-act p h (op.Handle (handle_op.Notify f mine)) w n = absurd (cc)
 plain-act p h (op.Closing closing_op.TakeOut) w n = absurd (cc)
 plain-act p h (op.Closing closing_op.DropNext) w n = absurd (cc)
 plain-act p h (op.Closing closing_op.WakeNext) w n = absurd (cc)
-plain-act p h (op.Closing closing_op.Close) w n = absurd (cc)
-plain-act p h (op.Closing closing_op.Drain) w n = absurd (cc)
+plain-act p h (op.Closing (closing_op.Close mark)) w n = absurd (cc)
+plain-act p h (op.Closing (closing_op.Drain mark)) w n = absurd (cc)
 plain-act p h (op.Closing closing_op.LeakOut) w n = aside-leak_out rough_of refl _ w
 plain-act p h (op.Closing closing_op.LeakNext) w n = aside-leak_next rough_of refl plain-wake _ p w w.waking
 plain-act p h (op.User (user_op.BeginDrop f)) w n = refl

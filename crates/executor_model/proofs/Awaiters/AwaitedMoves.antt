@@ -4,6 +4,12 @@ use Rattle.std.proofs.Common.{◌≡◌, ℕ, ◌+◌, ◌<◌, List, [], ◌∷
 use Rattle.std.proofs.Common.{eqb, drop, arith}
 use Rattle.std.proofs.lemmas.Bool.Decides.{nat_tests}
 use Rattle.std.proofs.lemmas.List.{length-set, length-append}
+use Rattle.executor_model.proofs.Steps.QueuesByMark.{times-last, times-first}
+use Rattle.executor_model.specs.declared.op.Look.TheVariants.{First, Second}
+use Rattle.executor_parts.specs.declared.mark.Mark as of_mark
+use Rattle.executor_model.specs.declared.op.Look.{Look}
+use Rattle.executor_model.specs.World.{queue_of}
+use Rattle.executor_model.specs.Acts.{mark_in, take_turn}
 use Rattle.task_moves.specs.declared.moves.owed.Moved.{Moved}
 use Rattle.task_moves.specs.Moves as moves
 use Rattle.executor_model.specs.declared.event.Event.TheVariants as event
@@ -27,31 +33,36 @@ use Rattle.executor_model.proofs.Steps.Cases.{by_bool, by_list}
 use Rattle.executor_model.proofs.Steps.Marks.{IsUnmarked, unmarked, IsGoing, going}
 use Rattle.executor_model.proofs.Steps.Marks.{IsIdle, idle, last-one, IsUnheld, unheld}
 use Rattle.executor_model.proofs.Steps.Lists.{read_put, fresh_is, read_push}
-use Rattle.executor_model.proofs.Steps.Lists.{same_is, times-append, times-drop}
+use Rattle.executor_model.proofs.Steps.Lists.{same_is, times-append}
 use Rattle.executor_model.proofs.Counts.Counting.{settling, readied, pended, ending, dropping, taken_up, woken, woken_by}
 use Rattle.executor_model.proofs.Counts.Counting.{cancel_going, cancel_idle, cancel_over, detached}
 use Rattle.executor_model.proofs.Awaiters.Awaited.{Awaiting, Mark, heard-push, with_awaiting, Footing}
 use Rattle.executor_model.proofs.Awaiters.Awaited.{Awaits, KeepsAwaits, kept_push}
 
-pub awaits-append : (b : Bool) (w : World) (f : ℕ) → KeepsAwaits w (op.Queue (queue_op.Append f) ∷ []) (append_by b w f)
+pub awaits-append : (b : Bool) (w : World) (mark : of_mark.Mark) (f : ℕ) → KeepsAwaits w (op.Queue (queue_op.Append f) ∷ []) (append_by b w mark f)
 awaits-append = by_bool _
-    (λ w f g r yy mm bb h. grind (arith, same_is, times-append))
-    (λ w f g r yy mm bb h. grind (arith, same_is))
+    (λ w mark f g r yy mm bb h. let z = times-last g f mark w.queues in grind (arith, same_is))
+    (λ w mark f g r yy mm bb h. grind (arith, same_is))
 
-pub awaits-take : (q : List ℕ) (w : World) → w.queue.items ≡ q →
-    KeepsAwaits w (op.Queue queue_op.Take ∷ []) (take_by w q)
-awaits-take = by_list _
-    (λ w e g r yy mm bb h. grind arith)
-    (λ f rest w e g r yy mm bb h. let z : same g f + times g (drop 1 w.queue.items) ≡ times g w.queue.items =
-    times-drop g f rest w.queue.items e in grind (arith, same_is))
+-- a turn is an event that speaks of no future
+pub awaits-turn : (p : ℕ) (w : World) →
+    KeepsAwaits w (op.Queue queue_op.TakeTurn ∷ []) (take_turn p w (λ l. op.Queue (queue_op.Take l)))
+awaits-turn p w g r yy mm bb h = grind (arith, heard-push)
 
-pub awaits-enter : (b c : Bool) (p : ℕ) (w : World) → length w.awaiters ≡ length w.tasks →
-    KeepsAwaits w (op.Table table_op.Enter ∷ []) (enter_by b c p w)
+pub awaits-take : (look : Look) (q : List ℕ) (w : World) → (queue_of w (mark_in look)).items ≡ q →
+    KeepsAwaits w (op.Queue (queue_op.Take look) ∷ []) (take_by w look q)
+awaits-take (First mark) [] w e g r yy mm bb h = grind arith
+awaits-take (Second mark) [] w e g r yy mm bb h = grind arith
+awaits-take look (f ∷ rest) w e g r yy mm bb h =
+    let z = times-first g f rest (mark_in look) w.queues e in grind (arith, same_is)
+
+pub awaits-enter : (b c : Bool) (mark : of_mark.Mark) (p : ℕ) (w : World) → length w.awaiters ≡ length w.tasks →
+    KeepsAwaits w (op.Table (table_op.Enter mark) ∷ []) (enter_by b c mark p w)
 awaits-enter = by_bool _
-    (λ c p w l g r yy mm bb h. grind arith)
+    (λ c mark p w l g r yy mm bb h. grind arith)
     (by_bool _
-    (λ p w l g r yy mm bb h. grind arith)
-    (λ p w l g r yy mm bb h.
+    (λ mark p w l g r yy mm bb h. grind arith)
+    (λ mark p w l g r yy mm bb h.
     grind (arith, same_is, fresh_is, read_push, kept_push, times-append, length-append, heard-push)))
 
 pub awaits-take_to_poll : (w : World) (f : ℕ) → KeepsAwaits w (op.Table (table_op.TakeToPoll f) ∷ []) (take_to_poll w f)

@@ -3,6 +3,7 @@
 use Rattle.std.proofs.Common.{◌≡◌, ◌⊎◌, ℕ, suc, ◌<◌, ◌≤◌, List, [], ◌∷◌, length}
 use Rattle.std.proofs.Common.{Bool, true, false, refl, sym, ap, ◌∙◌, subst, ⊎_elim, arith}
 use Rattle.std.proofs.lemmas.List.{get_or_past}
+use Rattle.executor_model.proofs.Steps.QueuesByMark.{times-all}
 use Rattle.executor_model.specs.declared.kind.Kind.{Kind}
 use Rattle.executor_model.specs.declared.step.Step.{Step}
 use Rattle.executor_model.specs.Trace.{Trace, is_dropped}
@@ -27,7 +28,8 @@ use Rattle.executor_model.proofs.Awaiters.Awaited.{Heard, heard, Awaiting, await
 use Rattle.executor_model.proofs.OwnQueues.UsingSteps.{OwnEmptied, own-emptied}
 use Rattle.executor_model.proofs.Awaiters.AwaitedSweeps.{lists, Sweep, sweep, Sweeps, dropping_of}
 use Rattle.executor_model.proofs.Awaiters.AwaitedClosing.{Swept, swept}
-use Rattle.executor_model.proofs.Awaiters.AwaitedSweeps.{rousing_of, shutting_of, draining_of}
+use Rattle.executor_model.proofs.Awaiters.AwaitedSweeps.{draining_plain_of, draining_urgent_of, rousing_of}
+use Rattle.executor_model.proofs.Awaiters.AwaitedSweeps.{shutting_plain_of, shutting_urgent_of}
 use Rattle.executor_model.proofs.Awaiters.AwaitedCalls.{marked}
 use Rattle.executor_model.proofs.Awaiters.AwaitedSteps.{Waited, awaiting-none, nothing_awaited}
 use Rattle.executor_model.proofs.Steps.Growing.{pend-none}
@@ -37,7 +39,15 @@ use Rattle.executor_model.proofs.Awaiters.AwaitedTelling.{parted-has, dropped-ha
 use Rattle.executor_model.proofs.Awaiters.AwaitedTelling.{begun-at, called-from, pending-at}
 
 abbrev nothing_swept : Sweep
-nothing_swept = record { outs = 0; drops = 0; wakes = 0; shuts = 0; drains = 0 }
+nothing_swept = record {
+  outs = 0;
+  drops = 0;
+  wakes = 0;
+  shuts_urgent = 0;
+  shuts_plain = 0;
+  drains_urgent = 0;
+  drains_plain = 0;
+}
 
 no-times : (g : ℕ) (xs : List ℕ) → length xs ≡ 0 → times g xs ≡ 0
 no-times g [] e = refl
@@ -48,8 +58,12 @@ none-queued : (gone : Bool) (w : World) (g : ℕ) → w.gone ≡ gone → Leaves
     Sweeps (lists w) nothing_swept → (w.gone ≡ true → times_in g w.own ≡ 0) → 1 ≤ (story g w.trace).fallen →
     queued w g ≡ 0
 none-queued = by_bool _
-    (λ w g e l v o k. ⊎_elim (λ (x : 1 ≤ 0). absurd (omega (arith, x)))
-    (λ (x : length w.queue.items ≡ 0). omega (arith, no-times g w.queue.items x, o e)) (v.drained e))
+    (λ w g e l v o k.
+    let u : times g w.queues.urgent.items ≡ 0 = ⊎_elim (λ (x : 1 ≤ 0). absurd (omega (arith, x)))
+    (λ (x : length w.queues.urgent.items ≡ 0). no-times g w.queues.urgent.items x) (v.urgent_drained e) in
+    let n : times g w.queues.plain.items ≡ 0 = ⊎_elim (λ (x : 1 ≤ 0). absurd (omega (arith, x)))
+    (λ (x : length w.queues.plain.items ≡ 0). no-times g w.queues.plain.items x) (v.plain_drained e) in
+    omega (arith, u, n, times-all g w.queues, o e))
     (λ w g e l v o k. let z : _ = (past_is (length w.tasks) g).1 in grind arith)
 
 none-waking : (w : World) (g : ℕ) → Sweeps (lists w) nothing_swept → w.gone ≡ true → times g w.waking ≡ 0
@@ -113,8 +127,10 @@ module _ (s : Machine) (fine : Good s) (h : Placed s) (d : Deep s) (v : Swept s)
     outs = all-rest ousting_of s.parties idle i;
     drops = all-rest dropping_of s.parties idle i;
     wakes = all-rest rousing_of s.parties idle i;
-    shuts = all-rest shutting_of s.parties idle i;
-    drains = all-rest draining_of s.parties idle i;
+    shuts_urgent = all-rest shutting_urgent_of s.parties idle i;
+    shuts_plain = all-rest shutting_plain_of s.parties idle i;
+    drains_urgent = all-rest draining_urgent_of s.parties idle i;
+    drains_plain = all-rest draining_plain_of s.parties idle i;
   }
 
   is-none-awaited : awaiting g s.parties ≡ nothing_awaited

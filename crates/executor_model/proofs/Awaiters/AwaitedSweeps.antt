@@ -3,7 +3,9 @@
 use Rattle.std.proofs.Common.{◌≡◌, ◌⊎◌, ℕ, ◌+◌, ◌<◌, ◌≤◌, List, [], ◌∷◌, ◌++◌, length}
 use Rattle.std.proofs.Common.{Bool, true, false, not, refl, sym, ap, ◌∙◌, subst, arith}
 use Rattle.std.specs.Prelude.{Option, Some, None}
-use Rattle.queue_steps.specs.ClosableQueue.{ClosableQueue}
+use Rattle.executor_model.specs.Queues.{Queues}
+use Rattle.executor_parts.specs.declared.mark.Mark.TheVariants.{Plain, Urgent}
+use Rattle.executor_parts.specs.declared.mark.Mark.{Mark}
 use Rattle.task_moves.specs.declared.moves.owed.Answer.{Answer}
 use Rattle.task_moves.specs.declared.moves.owed.Moved.{Moved}
 use Rattle.task_moves.specs.Moves as moves
@@ -55,16 +57,20 @@ pub record Lists : Type 0 where
   pub gone : Bool
   pub leaving : ℕ
   pub waking : ℕ
-  pub closed : Bool
-  pub items : ℕ
+  pub urgent_closed : Bool
+  pub plain_closed : Bool
+  pub urgent_items : ℕ
+  pub plain_items : ℕ
 
 abbrev pub lists : World → Lists
 lists w = record {
   gone = w.gone;
   leaving = length w.leaving;
   waking = length w.waking;
-  closed = w.queue.closed;
-  items = length w.queue.items;
+  urgent_closed = w.queues.urgent.closed;
+  plain_closed = w.queues.plain.closed;
+  urgent_items = length w.queues.urgent.items;
+  plain_items = length w.queues.plain.items;
 }
 
 abbrev pub dropping_of : Op → ℕ
@@ -75,29 +81,41 @@ abbrev pub rousing_of : Op → ℕ
 rousing_of (op.Closing closing_op.WakeNext) = 1
 rousing_of _ = 0
 
-abbrev pub shutting_of : Op → ℕ
-shutting_of (op.Closing closing_op.Close) = 1
-shutting_of _ = 0
+abbrev pub shutting_urgent_of : Op → ℕ
+shutting_urgent_of (op.Closing (closing_op.Close Urgent)) = 1
+shutting_urgent_of _ = 0
 
-abbrev pub draining_of : Op → ℕ
-draining_of (op.Closing closing_op.Drain) = 1
-draining_of _ = 0
+abbrev pub shutting_plain_of : Op → ℕ
+shutting_plain_of (op.Closing (closing_op.Close Plain)) = 1
+shutting_plain_of _ = 0
+
+abbrev pub draining_urgent_of : Op → ℕ
+draining_urgent_of (op.Closing (closing_op.Drain Urgent)) = 1
+draining_urgent_of _ = 0
+
+abbrev pub draining_plain_of : Op → ℕ
+draining_plain_of (op.Closing (closing_op.Drain Plain)) = 1
+draining_plain_of _ = 0
 
 -- the steps that are left of it
 pub record Sweep : Type 0 where
   pub outs : ℕ
   pub drops : ℕ
   pub wakes : ℕ
-  pub shuts : ℕ
-  pub drains : ℕ
+  pub shuts_urgent : ℕ
+  pub shuts_plain : ℕ
+  pub drains_urgent : ℕ
+  pub drains_plain : ℕ
 
 abbrev pub with_sweep : List Op → Sweep → Sweep
 with_sweep os r = record {
   outs = weigh ousting_of os + r.outs;
   drops = weigh dropping_of os + r.drops;
   wakes = weigh rousing_of os + r.wakes;
-  shuts = weigh shutting_of os + r.shuts;
-  drains = weigh draining_of os + r.drains;
+  shuts_urgent = weigh shutting_urgent_of os + r.shuts_urgent;
+  shuts_plain = weigh shutting_plain_of os + r.shuts_plain;
+  drains_urgent = weigh draining_urgent_of os + r.drains_urgent;
+  drains_plain = weigh draining_plain_of os + r.drains_plain;
 }
 
 abbrev pub sweep : List (List Op) → Sweep
@@ -105,29 +123,50 @@ sweep ss = record {
   outs = weigh_all ousting_of ss;
   drops = weigh_all dropping_of ss;
   wakes = weigh_all rousing_of ss;
-  shuts = weigh_all shutting_of ss;
-  drains = weigh_all draining_of ss;
+  shuts_urgent = weigh_all shutting_urgent_of ss;
+  shuts_plain = weigh_all shutting_plain_of ss;
+  drains_urgent = weigh_all draining_urgent_of ss;
+  drains_plain = weigh_all draining_plain_of ss;
 }
+
+-- until both queues are closed, and all of them
+abbrev pub shuts_left : Sweep → ℕ
+shuts_left x = x.outs + (x.drops + (x.wakes + (x.shuts_urgent + x.shuts_plain)))
+
+abbrev pub steps_of : Sweep → ℕ
+steps_of x = shuts_left x + (x.drains_urgent + x.drains_plain)
 
 -- there is one such step at a time, and it does what is left to do
 pub record Sweeps (v : Lists) (x : Sweep) : Type 0 where
-  pub one : x.outs + (x.drops + (x.wakes + (x.shuts + x.drains))) ≤ 1
-  pub there : v.gone ≡ false → x.outs + (x.drops + (x.wakes + (x.shuts + x.drains))) ≡ 0
+  pub one : steps_of x ≤ 1
+  pub there : v.gone ≡ false → steps_of x ≡ 0
   pub leaves : 1 ≤ x.drops → 1 ≤ v.leaving
   pub wakes : 1 ≤ x.wakes → 1 ≤ v.waking
   pub awake : v.gone ≡ true → (1 ≤ x.outs + (x.drops + x.wakes)) ⊎ (v.waking ≡ 0)
-  pub shut : v.gone ≡ true → (1 ≤ x.outs + (x.drops + (x.wakes + x.shuts))) ⊎ (v.closed ≡ true)
-  pub drained : v.gone ≡ true → (1 ≤ x.outs + (x.drops + (x.wakes + (x.shuts + x.drains)))) ⊎ (v.items ≡ 0)
+  -- the urgent queue is closed first, and drained first
+  pub urgent_shut : v.gone ≡ true → (1 ≤ x.outs + (x.drops + (x.wakes + x.shuts_urgent))) ⊎ (v.urgent_closed ≡ true)
+  pub plain_shut : v.gone ≡ true → (1 ≤ shuts_left x) ⊎ (v.plain_closed ≡ true)
+  pub urgent_drained : v.gone ≡ true → (1 ≤ shuts_left x + x.drains_urgent) ⊎ (v.urgent_items ≡ 0)
+  pub plain_drained : v.gone ≡ true → (1 ≤ steps_of x) ⊎ (v.plain_items ≡ 0)
 
 abbrev pub KeepsSweeps : World → List Op → Done → Type 0
 KeepsSweeps w old d = (r : Sweep) → Sweeps (lists w) (with_sweep old r) → Sweeps (lists d.world) (with_sweep d.next r)
 
-rough-more : (o : Op) → ousting_of o + (dropping_of o + (rousing_of o + (shutting_of o + draining_of o))) ≤ rough_of o
+abbrev step_of : Op → ℕ
+step_of o = ousting_of o + (dropping_of o + (rousing_of o + (shutting_urgent_of o + (shutting_plain_of o
+    + (draining_urgent_of o + draining_plain_of o)))))
+
+rough-more : (o : Op) → step_of o ≤ rough_of o
+rough-more (op.Closing (closing_op.Close Urgent)) = omega arith
+rough-more (op.Closing (closing_op.Close Plain)) = omega arith
+rough-more (op.Closing (closing_op.Drain Urgent)) = omega arith
+rough-more (op.Closing (closing_op.Drain Plain)) = omega arith
 rough-more (op.Closing closing_op.TakeOut) = omega arith
 rough-more (op.Handle (handle_op.Notify f true)) = omega arith
 rough-more (op.Move move.Wake f) = omega arith
-rough-more (op.Table table_op.Enter) = omega arith
-rough-more (op.Queue queue_op.Take) = omega arith
+rough-more (op.Table (table_op.Enter mark)) = omega arith
+rough-more (op.Queue queue_op.TakeTurn) = omega arith
+rough-more (op.Queue (queue_op.Take look)) = omega arith
 rough-more (op.User (user_op.Drop f)) = omega arith
 rough-more (op.Waker (waker_op.CopyWaker f held)) = omega arith
 rough-more (op.Sleeper sleeper_op.HandOut) = omega arith
@@ -137,16 +176,18 @@ rough-more (op.Steal o) = omega (arith, ap (λ (x : Row). x.ousting) (plain-stea
 rough-more (op.Run o) = omega (arith, ap (λ (x : Row). x.ousting) (plain-run o))
 rough-more _ = omega arith
 
-rough-weighs : (os : List Op) →
-    weigh ousting_of os + (weigh dropping_of os + (weigh rousing_of os + (weigh shutting_of os + weigh draining_of os)))
-    ≤ weigh rough_of os
+-- how many of its steps are there
+abbrev pub steps_in : List Op → ℕ
+steps_in os = weigh ousting_of os + (weigh dropping_of os + (weigh rousing_of os + (weigh shutting_urgent_of os
+    + (weigh shutting_plain_of os + (weigh draining_urgent_of os + weigh draining_plain_of os)))))
+
+rough-weighs : (os : List Op) → steps_in os ≤ weigh rough_of os
 rough-weighs [] = omega arith
 rough-weighs (o ∷ os) = omega (arith, rough-more o, rough-weighs os)
 
 -- none of its steps is there
 abbrev pub NoSteps : List Op → Type 0
-NoSteps os = weigh ousting_of os
-    + (weigh dropping_of os + (weigh rousing_of os + (weigh shutting_of os + weigh draining_of os))) ≡ 0
+NoSteps os = steps_in os ≡ 0
 
 pub no-steps : (os : List Op) → weigh rough_of os ≡ 0 → NoSteps os
 no-steps os z = omega (arith, rough-weighs os, z)
@@ -156,8 +197,10 @@ with-none os r z = λ i. record {
   outs = (let q : weigh ousting_of os + r.outs ≡ r.outs = omega (arith, z) in q) i;
   drops = (let q : weigh dropping_of os + r.drops ≡ r.drops = omega (arith, z) in q) i;
   wakes = (let q : weigh rousing_of os + r.wakes ≡ r.wakes = omega (arith, z) in q) i;
-  shuts = (let q : weigh shutting_of os + r.shuts ≡ r.shuts = omega (arith, z) in q) i;
-  drains = (let q : weigh draining_of os + r.drains ≡ r.drains = omega (arith, z) in q) i;
+  shuts_urgent = (let q : weigh shutting_urgent_of os + r.shuts_urgent ≡ r.shuts_urgent = omega (arith, z) in q) i;
+  shuts_plain = (let q : weigh shutting_plain_of os + r.shuts_plain ≡ r.shuts_plain = omega (arith, z) in q) i;
+  drains_urgent = (let q : weigh draining_urgent_of os + r.drains_urgent ≡ r.drains_urgent = omega (arith, z) in q) i;
+  drains_plain = (let q : weigh draining_plain_of os + r.drains_plain ≡ r.drains_plain = omega (arith, z) in q) i;
 }
 
 pub sweeps-still : (w : World) (old : List Op) (d : Done) → lists w ≡ lists d.world → NoSteps old → NoSteps d.next →
@@ -182,10 +225,10 @@ same-let_go : (b : Bool) (w : World) (f : ℕ) → lists w ≡ lists (let_go_by 
 same-let_go true w f = refl
 same-let_go false w f = refl
 
-same-enter : (b c : Bool) (p : ℕ) (w : World) → lists w ≡ lists (enter_by b c p w).world
-same-enter true c p w = refl
-same-enter false true p w = refl
-same-enter false false p w = refl
+same-enter : (b c : Bool) (mark : Mark) (p : ℕ) (w : World) → lists w ≡ lists (enter_by b c mark p w).world
+same-enter true c mark p w = refl
+same-enter false true mark p w = refl
+same-enter false false mark p w = refl
 
 same-leave : (b : Bool) (w : World) (f : ℕ) → lists w ≡ lists (leave_by b w f).world
 same-leave true w f = refl
@@ -233,8 +276,10 @@ lists_in r = record {
   gone = r.gone;
   leaving = length r.leaving;
   waking = length r.waking;
-  closed = r.queue.closed;
-  items = length r.queue.items;
+  urgent_closed = r.queue.urgent.closed;
+  plain_closed = r.queue.plain.closed;
+  urgent_items = length r.queue.urgent.items;
+  plain_items = length r.queue.plain.items;
 }
 
 -- what a run does keeps whether the executor is gone, and the two lists
@@ -269,35 +314,41 @@ kept-own p w x old =
 kept-list : (h : Hint) (o : ListOp) (w : World) → Kept w (op.List o ∷ []) (list_act h o w)
 kept-list h o w = by-list Kept kept-moves kept-put h o w
 
-same-lists : (w : World) (old : List Op) (d : Done) → Kept w old d → d.world.queue ≡ w.queue → lists w ≡ lists d.world
+same-lists : (w : World) (old : List Op) (d : Done) → Kept w old d → d.world.queues ≡ w.queues → lists w ≡ lists d.world
 same-lists w old d k q = λ i. record {
   gone = sym k.gone i;
   leaving = (let e : length w.leaving ≡ length d.world.leaving = ap length (sym k.leaving) in e) i;
   waking = (let e : length w.waking ≡ length d.world.waking = ap length (sym k.waking) in e) i;
-  closed = (let e : w.queue.closed ≡ d.world.queue.closed = ap (λ (x : ClosableQueue ℕ). x.closed) (sym q) in e) i;
-  items =
-      (let e : length w.queue.items ≡ length d.world.queue.items =
-      ap (λ (x : ClosableQueue ℕ). length x.items) (sym q) in e) i;
+  urgent_closed = (let e : w.queues.urgent.closed ≡ d.world.queues.urgent.closed =
+      ap (λ (x : Queues). x.urgent.closed) (sym q) in e) i;
+  plain_closed = (let e : w.queues.plain.closed ≡ d.world.queues.plain.closed =
+      ap (λ (x : Queues). x.plain.closed) (sym q) in e) i;
+  urgent_items = (let e : length w.queues.urgent.items ≡ length d.world.queues.urgent.items =
+      ap (λ (x : Queues). length x.urgent.items) (sym q) in e) i;
+  plain_items = (let e : length w.queues.plain.items ≡ length d.world.queues.plain.items =
+      ap (λ (x : Queues). length x.plain.items) (sym q) in e) i;
 }
 
--- the queue, the two lists and their steps
+-- the queues, the two lists and their steps
 abbrev pub is_sweeping : Op → Bool
-is_sweeping (op.Queue queue_op.Take) = true
+is_sweeping (op.Queue queue_op.TakeTurn) = true
+is_sweeping (op.Queue (queue_op.Take look)) = true
 is_sweeping (op.Queue (queue_op.Append f)) = true
 is_sweeping (op.Tick (tick_op.Search s)) = true
+is_sweeping (op.Tick (tick_op.Look s look)) = true
 is_sweeping (op.Steal o) = true
 is_sweeping (op.Run o) = true
 is_sweeping (op.Closing closing_op.TakeOut) = true
 is_sweeping (op.Closing closing_op.DropNext) = true
 is_sweeping (op.Closing closing_op.WakeNext) = true
-is_sweeping (op.Closing closing_op.Close) = true
-is_sweeping (op.Closing closing_op.Drain) = true
+is_sweeping (op.Closing (closing_op.Close mark)) = true
+is_sweeping (op.Closing (closing_op.Drain mark)) = true
 is_sweeping (op.Closing closing_op.LeakOut) = true
 is_sweeping (op.Closing closing_op.LeakNext) = true
 is_sweeping _ = false
 
 pub same-act : (p : ℕ) (h : Hint) (o : Op) (w : World) → is_sweeping o ≡ false → lists w ≡ lists (act p h o w).world
-same-act p h (op.Table table_op.Enter) w n = same-enter _ _ p w
+same-act p h (op.Table (table_op.Enter mark)) w n = same-enter _ _ _ p w
 same-act p h (op.Move m f) w n = same-move _ m p w f
 same-act p h (op.Table (table_op.LeaveTable f)) w n = same-leave _ w f
 same-act p h (op.Waker (waker_op.CopyWaker f held)) w n = same-copy _ w f held
@@ -312,22 +363,24 @@ same-act p h (op.Handle (handle_op.Notify f mine)) w n = same-notify _ w f mine
 same-act p h (op.Handle (handle_op.LetGo f)) w n = same-let_go _ w f
 same-act p h (op.Waker (waker_op.CallAwaiter f a k)) w n = same-call p w f a k
 same-act p h (op.Sleeper o) w n = ap lists_in (sleeper-rest p o w)
-same-act p h (op.Tick tick_op.MakeTick) w n = ap lists_in (tick-rest h tick_op.MakeTick w refl)
+same-act p h (op.Tick tick_op.MakeTick) w n = ap lists_in (tick-rest p h tick_op.MakeTick w refl)
 same-act p h (op.Tick (tick_op.Search s)) w n = absurd (cc)
-same-act p h (op.Tick (tick_op.CopyWaker s)) w n = ap lists_in (tick-rest h (tick_op.CopyWaker s) w refl)
-same-act p h (op.Tick (tick_op.FallAsleep s)) w n = ap lists_in (tick-rest h (tick_op.FallAsleep s) w refl)
-same-act p h (op.Tick (tick_op.WakeUp t)) w n = ap lists_in (tick-rest h (tick_op.WakeUp t) w refl)
-same-act p h (op.Tick (tick_op.Leave t)) w n = ap lists_in (tick-rest h (tick_op.Leave t) w refl)
+same-act p h (op.Tick (tick_op.Look s look)) w n = absurd (cc)
+same-act p h (op.Tick (tick_op.CopyWaker s)) w n = ap lists_in (tick-rest p h (tick_op.CopyWaker s) w refl)
+same-act p h (op.Tick (tick_op.FallAsleep s)) w n = ap lists_in (tick-rest p h (tick_op.FallAsleep s) w refl)
+same-act p h (op.Tick (tick_op.WakeUp t)) w n = ap lists_in (tick-rest p h (tick_op.WakeUp t) w refl)
+same-act p h (op.Tick (tick_op.Leave t)) w n = ap lists_in (tick-rest p h (tick_op.Leave t) w refl)
 same-act p h (op.List o) w n = same-lists w (op.List o ∷ []) (list_act h o w) (kept-list h o w) (queue-list h o w)
 same-act p h (op.Steal o) w n = absurd (cc)
 same-act p h (op.Run o) w n = absurd (cc)
-same-act p h (op.Queue queue_op.Take) w n = absurd (cc)
+same-act p h (op.Queue queue_op.TakeTurn) w n = absurd (cc)
+same-act p h (op.Queue (queue_op.Take look)) w n = absurd (cc)
 same-act p h (op.Queue (queue_op.Append f)) w n = absurd (cc)
 same-act p h (op.Closing closing_op.TakeOut) w n = absurd (cc)
 same-act p h (op.Closing closing_op.DropNext) w n = absurd (cc)
 same-act p h (op.Closing closing_op.WakeNext) w n = absurd (cc)
-same-act p h (op.Closing closing_op.Close) w n = absurd (cc)
-same-act p h (op.Closing closing_op.Drain) w n = absurd (cc)
+same-act p h (op.Closing (closing_op.Close mark)) w n = absurd (cc)
+same-act p h (op.Closing (closing_op.Drain mark)) w n = absurd (cc)
 same-act p h (op.Closing closing_op.LeakOut) w n = absurd (cc)
 same-act p h (op.Closing closing_op.LeakNext) w n = absurd (cc)
 same-act p h (op.User (user_op.BeginDrop f)) w n = refl
@@ -368,16 +421,17 @@ pub no-self : (o : Op) → is_sweeping o ≡ false → NoSteps (o ∷ [])
 no-self (op.Closing closing_op.TakeOut) n = absurd (cc)
 no-self (op.Closing closing_op.DropNext) n = absurd (cc)
 no-self (op.Closing closing_op.WakeNext) n = absurd (cc)
-no-self (op.Closing closing_op.Close) n = absurd (cc)
-no-self (op.Closing closing_op.Drain) n = absurd (cc)
+no-self (op.Closing (closing_op.Close mark)) n = absurd (cc)
+no-self (op.Closing (closing_op.Drain mark)) n = absurd (cc)
 no-self (op.Closing closing_op.LeakOut) n = absurd (cc)
 no-self (op.Closing closing_op.LeakNext) n = absurd (cc)
 no-self (op.List o) n = omega (arith, ap (λ (x : Row). x.ousting) (plain-list o))
 no-self (op.Steal o) n = absurd (cc)
 no-self (op.Run o) n = absurd (cc)
 no-self (op.Move move.Wake f) n = refl
-no-self (op.Table table_op.Enter) n = refl
-no-self (op.Queue queue_op.Take) n = refl
+no-self (op.Table (table_op.Enter mark)) n = refl
+no-self (op.Queue queue_op.TakeTurn) n = refl
+no-self (op.Queue (queue_op.Take look)) n = refl
 no-self (op.User (user_op.Drop f)) n = refl
 no-self (op.Waker (waker_op.CopyWaker f held)) n = refl
 no-self (op.Handle (handle_op.LookAgain f)) n = refl
@@ -394,8 +448,8 @@ no-act p h (op.Handle (handle_op.Notify f mine)) w true s n = no-notify _ w f mi
 no-act p h (op.Closing closing_op.TakeOut) w true s n = absurd (cc)
 no-act p h (op.Closing closing_op.DropNext) w true s n = absurd (cc)
 no-act p h (op.Closing closing_op.WakeNext) w true s n = absurd (cc)
-no-act p h (op.Closing closing_op.Close) w true s n = absurd (cc)
-no-act p h (op.Closing closing_op.Drain) w true s n = absurd (cc)
+no-act p h (op.Closing (closing_op.Close mark)) w true s n = absurd (cc)
+no-act p h (op.Closing (closing_op.Drain mark)) w true s n = absurd (cc)
 no-act p h (op.Closing closing_op.LeakOut) w true s n = absurd (cc)
 no-act p h (op.Closing closing_op.LeakNext) w true s n = absurd (cc)
 no-act p h _ w true s n = absurd (cc)

@@ -4,6 +4,9 @@ use Rattle.std.proofs.Common.{◌≡◌, ◌≢◌, ◌⊎◌, ℕ, suc, ◌+◌
 use Rattle.std.proofs.Common.{set, get_or, Bool, true, false, eqb, refl, sym, subst, inl, inr}
 use Rattle.std.proofs.Common.{⊎_elim, arith, get_or-set_same, get_or-set_other}
 use Rattle.std.specs.Prelude.{Option, reverse}
+use Rattle.executor_parts.specs.declared.mark.Mark.TheVariants.{Plain, Urgent}
+use Rattle.executor_parts.specs.declared.mark.Mark.{Mark}
+use Rattle.executor_model.specs.World.{queue_of}
 use Rattle.task_moves.specs.Moves as moves
 use Rattle.executor_model.specs.declared.call.Reply.{Reply}
 use Rattle.executor_model.specs.declared.call.Reply.TheVariants as reply
@@ -114,9 +117,10 @@ ties-wake_next g p w (f ∷ rest) =
       none-closing g [] rest,
     ))
 
-ties-drain : (g p : ℕ) (w : World) (q : List ℕ) → Ties g (op.Closing closing_op.Drain ∷ []) (drain_by p w q).next
-ties-drain g p w [] = ties-light g _ _ refl
-ties-drain g p w (f ∷ rest) = ties-light g _ _ refl
+ties-drain : (mark : Mark) (g p : ℕ) (w : World) (q : List ℕ) → Ties g (op.Closing (closing_op.Drain mark) ∷ []) (drain_by p w mark q).next
+ties-drain Urgent g p w [] = ties-light g _ _ refl
+ties-drain Plain g p w [] = ties-light g _ _ refl
+ties-drain mark g p w (f ∷ rest) = ties-light g _ _ refl
 
 ties-act : (b : Bool) (g p : ℕ) (h : Hint) (o : Op) (w : World) → is_special o ≡ b → Ties g (o ∷ []) (act p h o w).next
 ties-act false g p h o w n = ties-light g _ _ (none-mine-all g _ (plain-act p h o w n))
@@ -126,8 +130,9 @@ ties-act true g p h (op.Handle (handle_op.Notify f mine)) w n = ties-notify _ mi
 ties-act true g p h (op.Closing closing_op.TakeOut) w n = ties-light g _ _ (none-closing g w.table w.waking)
 ties-act true g p h (op.Closing closing_op.DropNext) w n = ties-drop_next g p w w.leaving
 ties-act true g p h (op.Closing closing_op.WakeNext) w n = ties-wake_next g p w w.waking
-ties-act true g p h (op.Closing closing_op.Close) w n = ties-light g _ _ refl
-ties-act true g p h (op.Closing closing_op.Drain) w n = ties-drain g p w w.queue.items
+ties-act true g p h (op.Closing (closing_op.Close Urgent)) w n = ties-light g _ _ refl
+ties-act true g p h (op.Closing (closing_op.Close Plain)) w n = ties-light g _ _ refl
+ties-act true g p h (op.Closing (closing_op.Drain mark)) w n = ties-drain mark g p w (queue_of w mark).items
 ties-act true g p h _ w n = absurd (cc)
 
 ties-begun : (b : Bool) (g p : ℕ) (w : World) (here : Option Waker) (c : Call) → is_drop c ≡ b →

@@ -3,6 +3,7 @@
 use Rattle.std.proofs.Common.{◌≡◌, ℕ, ◌+◌, ◌<◌, List, [], ◌∷◌, ◌++◌, length, refl, sym, subst, ap, arith}
 use Rattle.task_moves.specs.Moves as moves
 use Rattle.std.proofs.Math.Path.{fun_ext}
+use Rattle.executor_model.proofs.Awaiters.SleepersAwaited.{awaits-tick_turn}
 use Rattle.executor_model.specs.declared.call.Reply.TheVariants as reply
 use Rattle.executor_model.specs.declared.event.Event.TheVariants as event
 use Rattle.executor_model.specs.declared.op.Hold.TheVariants as hold
@@ -28,7 +29,7 @@ use Rattle.executor_model.specs.Rows.{handling_of}
 use Rattle.executor_model.specs.Sound.{Pend, with_ops}
 use Rattle.executor_model.specs.Weights.{weigh}
 use Rattle.executor_model.specs.World.{World, Done, log, own_of, task}
-use Rattle.executor_model.specs.ActsOfRuns.{call_by_reference, kept_by, wake_own}
+use Rattle.executor_model.specs.ActsOfRuns.{call_by_reference, kept_by, wake_own, take_turn_of_run}
 use Rattle.executor_model.specs.Doing.{list_act, run_act, search_by_who, steal_act}
 use Rattle.executor_model.proofs.Awaiters.Awaited.{Awaiting, Awaits, Footing, KeepsAwaits, Mark, heard-push, with_awaiting}
 use Rattle.executor_model.proofs.Awaiters.Awaited.{again_of, calls_of, detaches_of, fresh_of, lending_of, looks_of, mine_of}
@@ -39,7 +40,6 @@ use Rattle.executor_model.proofs.Steps.Lists.{times-append, weigh-append}
 use Rattle.executor_model.proofs.Steps.RunsCounting.{Bare, bare, with_ops-append}
 use Rattle.executor_model.proofs.Steps.RunsMoves.{Moves, Same, times_in-set}
 use Rattle.executor_model.proofs.Steps.RunsWays.{AllOfRuns, by-list, by-run, by-search, by-steal, plain-of-runs}
-use Rattle.executor_model.proofs.Awaiters.SleepersAwaited.{awaits-search}
 use Rattle.executor_model.proofs.Awaiters.RunsApart.{away, same-awaiting}
 
 -- what a run does but for its own waker's call changes nothing that is known of an awaiter
@@ -88,11 +88,11 @@ awaits-steal p o w = by-steal KeepsAwaits awaits-moves awaits-kept p o w
 pub awaits-list : (h : Hint) (o : ListOp) (w : World) → KeepsAwaits w (op.List o ∷ []) (list_act h o w)
 awaits-list h o w = by-list KeepsAwaits awaits-moves awaits-kept h o w
 
--- a tick looks at the executor's queue, a run at its own
-pub awaits-search_who : (who : TickOrRun) (w : World) (s : Sleeping) → s.who ≡ who →
-    KeepsAwaits w (op.Tick (tick_op.Search s) ∷ []) (search_by_who who w s)
-awaits-search_who (tick_or_run.Tick t) w s e = awaits-search _ _ w s refl
-awaits-search_who (tick_or_run.Run r) w s e = by-search KeepsAwaits awaits-moves awaits-kept w r s e
+-- a tick takes a turn, a run looks at its own queue
+pub awaits-search_who : (who : TickOrRun) (p : ℕ) (w : World) (s : Sleeping) → s.who ≡ who →
+    KeepsAwaits w (op.Tick (tick_op.Search s) ∷ []) (search_by_who who p w s)
+awaits-search_who (tick_or_run.Tick t) p w s e = awaits-tick_turn p w s
+awaits-search_who (tick_or_run.Run r) p w s e = by-search KeepsAwaits awaits-moves awaits-kept w r s e
 
 abbrev ends : RunPoll → List Op
 ends x = op.End reply.Pending (hold.Run x.run) ∷ []
@@ -200,7 +200,10 @@ awaits-wake_own p w x i g r y m bb h =
     known-then (Task f) k = k
     known-then (Outside y) k = k
 
+awaits-run_turn : (p : ℕ) (w : World) (x : RunPoll) → KeepsAwaits w (op.Run (run_op.TakeTurn x) ∷ []) (take_turn_of_run p w x)
+awaits-run_turn p w x g r y m bb h = grind (arith, heard-push)
+
 pub awaits-run : (p : ℕ) (h : Hint) (o : RunOp) (w : World) →
     ((x : RunPoll) → o ≡ run_op.WakeOwn x → IsKnownWaker w x.waker) → KeepsAwaits w (op.Run o ∷ []) (run_act p h o w)
 awaits-run p h o w i =
-    by-run KeepsAwaits awaits-moves awaits-kept p h o w (λ x e. awaits-wake_own p w x (i x e))
+    by-run KeepsAwaits awaits-moves awaits-kept p h o w (λ x e. awaits-wake_own p w x (i x e)) (λ x. awaits-run_turn p w x)

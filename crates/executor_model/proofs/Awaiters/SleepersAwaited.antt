@@ -3,9 +3,14 @@
 use Rattle.std.proofs.Common.{◌≡◌, ℕ, ◌+◌, ◌<◌, List, [], ◌∷◌, length, Bool, true, false, ◌||◌, drop, refl, arith}
 use Rattle.std.proofs.lemmas.List.{length-set}
 use Rattle.std.specs.Prelude.{Option, Some, None}
+use Rattle.executor_model.proofs.Steps.QueuesByMark.{times-first}
+use Rattle.executor_model.specs.declared.op.Look.{Look}
+use Rattle.executor_model.specs.declared.op.Look.TheVariants.{First, Second}
+use Rattle.executor_model.specs.World.{queue_of}
+use Rattle.executor_model.specs.Acts.{mark_in}
 use Rattle.task_moves.specs.Moves as moves
 use Rattle.task_moves.specs.declared.moves.owed.Move.TheVariants as move
-use Rattle.executor_model.specs.ActsOfSleepers.{polled_as}
+use Rattle.executor_model.specs.ActsOfSleepers.{polled_as, search_tick}
 use Rattle.executor_model.specs.declared.event.Event.TheVariants as event
 use Rattle.executor_model.specs.declared.op.Op.TheVariants as op
 use Rattle.executor_model.specs.declared.op.Sleeping.{Sleeping}
@@ -15,7 +20,7 @@ use Rattle.executor_model.specs.declared.op.Waker.{Waker}
 use Rattle.executor_model.specs.declared.op.Waker.TheVariants.{Task, Outside}
 use Rattle.executor_model.specs.declared.op.TickOrRun.{TickOrRun}
 use Rattle.executor_model.specs.World.{World, Ticker, Awake, Asleep, Left, log, task}
-use Rattle.executor_model.specs.ActsOfSleepers.{exchange_by, hand_out_by, call_sleeper, make_tick_by, search_by}
+use Rattle.executor_model.specs.ActsOfSleepers.{exchange_by, hand_out_by, call_sleeper, make_tick_by, look_tick_by}
 use Rattle.executor_model.specs.ActsOfSleepers.{copy_sleeper_by}
 use Rattle.executor_model.specs.ActsOfSleepers.{fall_asleep_by, wake_up_by, leave_sleepers_by}
 use Rattle.executor_model.specs.Weights.{same}
@@ -24,7 +29,7 @@ use Rattle.executor_model.specs.Sound.{with_ops, times}
 use Rattle.executor_model.proofs.Awaiters.AwaitedMoves.{awaits-wake}
 use Rattle.executor_model.proofs.Steps.Cases.{by_bool}
 use Rattle.executor_model.proofs.Counts.Counting.{woken_by}
-use Rattle.executor_model.proofs.Steps.Lists.{read_put, same_is, times-drop}
+use Rattle.executor_model.proofs.Steps.Lists.{read_put, same_is}
 use Rattle.executor_model.proofs.Awaiters.SleepersCases.{by_going, FallsAsleep, sleeps-down, WakesUp, gets-up, Leaves, leaves}
 use Rattle.executor_model.proofs.Steps.SleepersCounting.{asleep}
 use Rattle.executor_model.proofs.Awaiters.Awaited.{KeepsAwaits, Footing, Awaits, with_awaiting, heard-push}
@@ -79,18 +84,19 @@ awaits-make_tick = by_bool _
     (λ w g r yy mm bb h. grind arith)
     (λ w g r yy mm bb h. grind arith)
 
-pub awaits-search : (t : Ticker) (q : List ℕ) (w : World) (s : Sleeping) → w.queue.items ≡ q →
-    KeepsAwaits w (op.Tick (tick_op.Search s) ∷ []) (search_by t w q s)
-awaits-search t [] w s e g r yy mm bb h = grind arith
-awaits-search Awake (f ∷ rest) w s e g r yy mm bb h =
-    let z : same g f + times g (drop 1 w.queue.items) ≡ times g w.queue.items = times-drop g f rest w.queue.items e in
-    grind (arith, same_is)
-awaits-search (Asleep n) (f ∷ rest) w s e g r yy mm bb h =
-    let z : same g f + times g (drop 1 w.queue.items) ≡ times g w.queue.items = times-drop g f rest w.queue.items e in
-    grind (arith, same_is)
-awaits-search Left (f ∷ rest) w s e g r yy mm bb h =
-    let z : same g f + times g (drop 1 w.queue.items) ≡ times g w.queue.items = times-drop g f rest w.queue.items e in
-    grind (arith, same_is)
+pub awaits-tick_turn : (p : ℕ) (w : World) (s : Sleeping) → KeepsAwaits w (op.Tick (tick_op.Search s) ∷ []) (search_tick p w s)
+awaits-tick_turn p w s g r yy mm bb h = grind (arith, heard-push)
+
+pub awaits-search : (look : Look) (t : Ticker) (q : List ℕ) (w : World) (s : Sleeping) → (queue_of w (mark_in look)).items ≡ q →
+    KeepsAwaits w (op.Tick (tick_op.Look s look) ∷ []) (look_tick_by t w look q s)
+awaits-search (First mark) t [] w s e g r yy mm bb h = grind arith
+awaits-search (Second mark) t [] w s e g r yy mm bb h = grind arith
+awaits-search look Awake (f ∷ rest) w s e g r yy mm bb h =
+    let z = times-first g f rest (mark_in look) w.queues e in grind (arith, same_is)
+awaits-search look (Asleep n) (f ∷ rest) w s e g r yy mm bb h =
+    let z = times-first g f rest (mark_in look) w.queues e in grind (arith, same_is)
+awaits-search look Left (f ∷ rest) w s e g r yy mm bb h =
+    let z = times-first g f rest (mark_in look) w.queues e in grind (arith, same_is)
 
 pub awaits-copy_sleeper : (b : Bool) (a : Waker) (t : TickOrRun) (k : ℕ) (w : World) → IsKnownWaker w a →
     KeepsAwaits w (op.Tick (tick_op.CopyWaker (asleep a t k)) ∷ []) (copy_sleeper_by b w (asleep a t k))

@@ -2,7 +2,7 @@
 -- What tells sleepers, and what a tick does but for its search, changes nothing of the table and the queue.
 use Rattle.std.proofs.Common.{◌≡◌, ℕ, List, Bool, true, false, refl, ap}
 use Rattle.std.specs.Prelude.{Option}
-use Rattle.queue_steps.specs.ClosableQueue.{ClosableQueue}
+use Rattle.executor_model.specs.Queues.{Queues}
 use Rattle.executor_model.specs.declared.event.Event.{Event}
 use Rattle.executor_model.specs.declared.event.Event.TheVariants as event
 use Rattle.executor_model.specs.declared.op.Polled.{Polled}
@@ -23,7 +23,7 @@ use Rattle.executor_model.proofs.OwnQueues.RunsMoving.{Wide, is_search, wide-tic
 pub record Rest : Type 0 where
   pub limit : ℕ
   pub inside : List Bool
-  pub queue : ClosableQueue ℕ
+  pub queue : Queues
   pub table : List ℕ
   pub leaving : List ℕ
   pub waking : List ℕ
@@ -34,7 +34,7 @@ abbrev pub rest_of : World → Rest
 rest_of w = record {
   limit = w.limit;
   inside = w.inside;
-  queue = w.queue;
+  queue = w.queues;
   table = w.table;
   leaving = w.leaving;
   waking = w.waking;
@@ -78,5 +78,5 @@ rest_in x = record {
   gone = x.coat.gone;
 }
 
-pub tick-rest : (h : Hint) (o : TickOp) (w : World) → searches o ≡ false → rest_of w ≡ rest_of (tick_act h o w).world
-tick-rest h o w n = ap rest_in (wide-tick h o w n)
+pub tick-rest : (p : ℕ) (h : Hint) (o : TickOp) (w : World) → searches o ≡ false → rest_of w ≡ rest_of (tick_act p h o w).world
+tick-rest p h o w n = ap rest_in (wide-tick p h o w n)

@@ -5,6 +5,7 @@ use Rattle.std.proofs.Common.{get_or, refl, sym, ap, arith, inl, inr, ⊎_elim, 
 use Rattle.std.proofs.lemmas.Bool.Decides.{nat_tests}
 use Rattle.std.proofs.lemmas.List.{get_or_past}
 use Rattle.std.specs.Prelude.{Option, Some, None, nat_lt, reverse}
+use Rattle.executor_parts.specs.declared.mark.Mark.{Mark}
 use Rattle.task_moves.specs.declared.moves.state.State.{State}
 use Rattle.task_moves.specs.declared.moves.owed.Move.TheVariants as move
 use Rattle.task_moves.specs.Moves as moves
@@ -120,10 +121,10 @@ abbrev pub is_copying : Op → Bool
 is_copying (op.Waker (waker_op.CopyWaker f held)) = true
 is_copying _ = false
 
-enter-wakers : (b c : Bool) (p : ℕ) (w : World) → (enter_by b c p w).world.wakers ≡ w.wakers
-enter-wakers true c p w = refl
-enter-wakers false true p w = refl
-enter-wakers false false p w = refl
+enter-wakers : (b c : Bool) (mark : Mark) (p : ℕ) (w : World) → (enter_by b c mark p w).world.wakers ≡ w.wakers
+enter-wakers true c mark p w = refl
+enter-wakers false true mark p w = refl
+enter-wakers false false mark p w = refl
 
 next-wakers : (q : List ℕ) (p : ℕ) (w : World) → (drop_next_by p w q).world.wakers ≡ w.wakers
 next-wakers [] p w = refl
@@ -132,7 +133,7 @@ next-wakers (f ∷ rest) p w = refl
 act-by : (b : Bool) (p : ℕ) (h : Hint) (o : Op) (w : World) → places o ≡ b → is_copying o ≡ false →
     (act p h o w).world.wakers ≡ w.wakers
 act-by false p h o w e n = sym (ap (λ (x : Spots). x.wakers) (same-spots p h o w e))
-act-by true p h (op.Table table_op.Enter) w e n = enter-wakers _ _ p w
+act-by true p h (op.Table (table_op.Enter mark)) w e n = enter-wakers _ _ _ p w
 act-by true p h (op.Table (table_op.TakeToPoll f)) w e n = refl
 act-by true p h (op.Table (table_op.PutBack f)) w e n = refl
 act-by true p h (op.Table (table_op.TakeToDrop f)) w e n = refl

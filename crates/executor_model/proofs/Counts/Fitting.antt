@@ -4,6 +4,13 @@ use Rattle.std.proofs.Common.{◌≡◌, ℕ, ◌+◌, ◌≤◌, ◌<◌, List,
 use Rattle.std.proofs.Common.{drop, refl, sym, ap, ◌∙◌, subst, arith, length-append}
 use Rattle.std.proofs.Math.ListN.{length-set}
 use Rattle.std.specs.Prelude.{Option, Some, None, slice_set}
+use Rattle.executor_model.proofs.Steps.QueuesByMark.{pasts-first}
+use Rattle.executor_parts.specs.declared.mark.Mark.TheVariants.{Plain, Urgent}
+use Rattle.executor_model.specs.declared.op.Look.TheVariants.{First, Second}
+use Rattle.executor_model.specs.declared.op.Look.{Look}
+use Rattle.executor_model.specs.World.{queue_of}
+use Rattle.executor_model.specs.Acts.{mark_in}
+use Rattle.executor_parts.specs.declared.mark.Mark.{Mark}
 use Rattle.task_moves.specs.declared.moves.state.State.{State}
 use Rattle.task_moves.specs.declared.moves.owed.Moved.{Moved}
 use Rattle.task_moves.specs.declared.moves.owed.Owed.{Owed}
@@ -41,7 +48,7 @@ use Rattle.executor_model.specs.Good.{pasts, awaiters_past, Fits}
 use Rattle.executor_model.specs.Rows.{past_of}
 use Rattle.executor_model.proofs.Steps.Cases.{by_bool, by_list, by_waker}
 use Rattle.executor_model.proofs.Steps.Owed.{owed-future, owed-awaiter, owed-nothing}
-use Rattle.executor_model.proofs.Steps.Lists.{past_is, pasts-drop, awaiters_past-set, past_if, weigh-append}
+use Rattle.executor_model.proofs.Steps.Lists.{past_is, awaiters_past-set, past_if, weigh-append}
 use Rattle.executor_model.specs.Acts.{leak_next_by, leak_out_by, leaked, leaking_ops}
 
 -- each future has its place in each list
@@ -96,23 +103,23 @@ grows-carried w v f m l h z =
 below : (n f : ℕ) → past n f ≡ 0 → f < n
 below n f e = grind (arith, past_is)
 
-pub grows-append : (b : Bool) (w : World) (f : ℕ) → Grows w (op.Queue (queue_op.Append f) ∷ []) (append_by b w f)
+pub grows-append : (b : Bool) (w : World) (mark : Mark) (f : ℕ) → Grows w (op.Queue (queue_op.Append f) ∷ []) (append_by b w mark f)
 grows-append = by_bool _
-    (λ w f h k. grind arith)
-    (λ w f h k. grind arith)
+    (λ w mark f h k. grind arith)
+    (λ w mark f h k. grind arith)
 
-pub grows-take : (q : List ℕ) (w : World) → w.queue.items ≡ q → Grows w (op.Queue queue_op.Take ∷ []) (take_by w q)
-grows-take = by_list _
-    (λ w e h k. grind arith)
-    (λ f rest w e h k. let z : past (length w.tasks) f + pasts (length w.tasks) (drop 1 w.queue.items)
-    ≡ pasts (length w.tasks) w.queue.items = pasts-drop (length w.tasks) f rest w.queue.items e in grind arith)
+pub grows-take : (look : Look) (q : List ℕ) (w : World) → (queue_of w (mark_in look)).items ≡ q → Grows w (op.Queue (queue_op.Take look) ∷ []) (take_by w look q)
+grows-take (First mark) [] w e h k = grind arith
+grows-take (Second mark) [] w e h k = grind arith
+grows-take look (f ∷ rest) w e h k =
+    let z = pasts-first (length w.tasks) f rest (mark_in look) w.queues e in grind arith
 
-pub grows-enter : (b c : Bool) (p : ℕ) (w : World) → Grows w (op.Table table_op.Enter ∷ []) (enter_by b c p w)
+pub grows-enter : (b c : Bool) (mark : Mark) (p : ℕ) (w : World) → Grows w (op.Table (table_op.Enter mark) ∷ []) (enter_by b c mark p w)
 grows-enter = by_bool _
-    (λ c p w h k. grind arith)
+    (λ c mark p w h k. grind arith)
     (by_bool _
-    (λ p w h k. grind arith)
-    (λ p w h k. grind (
+    (λ mark p w h k. grind arith)
+    (λ mark p w h k. grind (
       arith,
       past_is,
       length-append {A = State},
@@ -359,12 +366,11 @@ grows-wake_next p w (f ∷ rest) e h k =
     (grows-carried w (log_if b v (event.Woken p f)) f (moves.wake (task w f)) (same-log b v (event.Woken p f))
     (fits-log b v (event.Woken p f) fv) (omega (arith, z)))
 
-pub grows-drain : (q : List ℕ) (p : ℕ) (w : World) → w.queue.items ≡ q →
-    Grows w (op.Closing closing_op.Drain ∷ []) (drain_by p w q)
-grows-drain = by_list _
-    (λ p w e h k. grind arith)
-    (λ f rest p w e h k. let z : past (length w.tasks) f + pasts (length w.tasks) (drop 1 w.queue.items)
-    ≡ pasts (length w.tasks) w.queue.items = pasts-drop (length w.tasks) f rest w.queue.items e in grind arith)
+pub grows-drain : (mark : Mark) (q : List ℕ) (p : ℕ) (w : World) → (queue_of w mark).items ≡ q →
+    Grows w (op.Closing (closing_op.Drain mark) ∷ []) (drain_by p w mark q)
+grows-drain Urgent [] p w e h k = grind arith
+grows-drain Plain [] p w e h k = grind arith
+grows-drain mark (f ∷ rest) p w e h k = let z = pasts-first (length w.tasks) f rest mark w.queues e in grind arith
 
 pub grows-same : (w : World) (os : List Op) → Grows w os (done w os)
 grows-same w os h k = grind arith

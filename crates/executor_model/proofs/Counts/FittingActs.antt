@@ -1,6 +1,8 @@
 -- For one_runnable and references_are_counted.
 -- Each thing that is done leaves numbers that are futures', by groups.
 use Rattle.std.proofs.Common.{ℕ, [], ◌∷◌, length, true, false, refl, arith}
+use Rattle.executor_model.proofs.Counts.SleepersFitting.{grows-search}
+use Rattle.executor_parts.specs.declared.mark.Mark.TheVariants.{Plain, Urgent}
 use Rattle.task_moves.specs.declared.moves.owed.Move.TheVariants as move
 use Rattle.executor_model.specs.declared.event.Event.TheVariants as event
 use Rattle.executor_model.specs.declared.op.Op.{Op}
@@ -29,9 +31,10 @@ use Rattle.executor_model.proofs.Counts.SleepersFitting.{grows-make_tick, grows-
 use Rattle.executor_model.proofs.Counts.SleepersFitting.{grows-fall_asleep, grows-wake_up, grows-leave_sleepers}
 
 pub grows-act : (p : ℕ) (c : Hint) (o : Op) (w : World) → Grows w (o ∷ []) (act p c o w)
-grows-act p c (op.Table table_op.Enter) w h k = grows-enter _ _ p w h k
-grows-act p c (op.Queue queue_op.Take) w h k = grows-take _ w refl h k
-grows-act p c (op.Queue (queue_op.Append f)) w h k = grows-append _ w f h k
+grows-act p c (op.Table (table_op.Enter mark)) w h k = grows-enter _ _ _ p w h k
+grows-act p c (op.Queue queue_op.TakeTurn) w h k = grind arith
+grows-act p c (op.Queue (queue_op.Take look)) w h k = grows-take look _ w refl h k
+grows-act p c (op.Queue (queue_op.Append f)) w h k = grows-append _ w _ f h k
 grows-act p c (op.Move m f) w h k = grows-move (stands_alone m) m p w f h k
 grows-act p c (op.Table (table_op.TakeToPoll f)) w h k =
     grows-inside w f false [] (op.User (user_op.Poll f) ∷ []) (omega (arith, k)) h
@@ -60,7 +63,8 @@ grows-act p c (op.Sleeper sleeper_op.HandOut) w h k = grows-hand_out _ _ w refl 
 grows-act p c (op.Sleeper (sleeper_op.CallSleeper s)) w h k =
     grows-call_waker p w (polled_as s.who) s.waker s.poll (omega (arith, k)) h
 grows-act p c (op.Tick tick_op.MakeTick) w h k = grows-make_tick _ w h k
-grows-act p c (op.Tick (tick_op.Search s)) w h k = grows-search_who s.who w s h k
+grows-act p c (op.Tick (tick_op.Search s)) w h k = grows-search_who s.who p w s h k
+grows-act p c (op.Tick (tick_op.Look s look)) w h k = grows-search look _ _ w s refl h k
 grows-act p c (op.Tick (tick_op.CopyWaker s)) w h k = grows-copy_sleeper _ s.waker s.who s.poll w h k
 grows-act p c (op.Tick (tick_op.FallAsleep s)) w h k = grows-fall_asleep _ w s h k
 grows-act p c (op.Tick (tick_op.WakeUp t)) w h k = grows-wake_up _ w t h k
@@ -76,7 +80,9 @@ grows-act p c (op.Closing closing_op.TakeOut) w h k =
     })
 grows-act p c (op.Closing closing_op.DropNext) w h k = grows-drop_next p w _ refl h k
 grows-act p c (op.Closing closing_op.WakeNext) w h k = grows-wake_next p w _ refl h k
-grows-act p c (op.Closing closing_op.Drain) w h k = grows-drain _ p w refl h k
+grows-act p c (op.Closing (closing_op.Close Urgent)) w h k = grind arith
+grows-act p c (op.Closing (closing_op.Close Plain)) w h k = grind arith
+grows-act p c (op.Closing (closing_op.Drain mark)) w h k = grows-drain mark _ p w refl h k
 grows-act p c (op.Closing closing_op.LeakOut) w h k = grows-leak_out _ w h k
 grows-act p c (op.Closing closing_op.LeakNext) w h k = grows-leak_next _ p w _ refl h k
 grows-act p c (op.End a held) w h k = grows-logged w (event.CallEnded p a) [] refl h

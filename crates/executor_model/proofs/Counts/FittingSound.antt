@@ -9,7 +9,7 @@ use Rattle.executor_model.specs.declared.op.Awaiter.{Awaiter}
 use Rattle.executor_model.specs.declared.op.Sleeping.{Sleeping}
 use Rattle.executor_model.specs.declared.op.Waker.{Waker}
 use Rattle.executor_model.specs.declared.op.Waker.TheVariants.{Task, Outside}
-use Rattle.executor_model.specs.World.{World, blank}
+use Rattle.executor_model.specs.World.{World, blank, queued_in}
 use Rattle.executor_model.specs.Good.{Fits, pasts, pasts_in, wakers_past, awaiters_past, sleepers_past}
 use Rattle.executor_model.specs.Sound.{Sound, Pend, living, times, times_in, tokens, wakers_of, awaiters_of}
 use Rattle.executor_model.specs.Sound.{sleepers_of}
@@ -78,7 +78,7 @@ unheld w g p h l = omega (arith, h.counted, ap (λ (t : State). t.references) (g
 
 pub fits-sound : (w : World) (p : ℕ → Pend) → ((g : ℕ) → Sound w g (p g)) → Shaped w → Fits w
 fits-sound w p h s = record {
-  queue = none-times (length w.tasks) w.queue.items (λ g l. omega (arith, unheld w g (p g) (h g) l));
+  queue = none-times (length w.tasks) (queued_in w) (λ g l. omega (arith, unheld w g (p g) (h g) l));
   own = none-times_in (length w.tasks) w.own (λ g l. omega (arith, unheld w g (p g) (h g) l));
   table = none-times (length w.tasks) w.table (λ g l. omega (arith, (h g).entered l));
   leaving = none-times (length w.tasks) w.leaving (λ g l. omega (arith, unheld w g (p g) (h g) l));

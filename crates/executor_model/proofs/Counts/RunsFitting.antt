@@ -2,6 +2,11 @@
 -- What a run does leaves numbers that are futures'.
 use Rattle.std.proofs.Common.{◌≡◌, ℕ, zero, suc, ◌+◌, ◌%◌, List, [], ◌∷◌, ◌++◌, length, get_or, set, Bool, true}
 use Rattle.std.proofs.Common.{false, eqb, not, refl, ap, arith}
+use Rattle.executor_model.proofs.Steps.QueuesByMark.{pasts-first}
+use Rattle.executor_model.specs.declared.op.Look.{Look}
+use Rattle.executor_model.specs.declared.op.Look.TheVariants.{First, Second}
+use Rattle.executor_model.specs.World.{queue_of}
+use Rattle.executor_model.specs.Acts.{mark_in}
 use Rattle.executor_model.specs.declared.call.Reply.{Reply}
 use Rattle.executor_model.specs.declared.call.Reply.TheVariants as reply
 use Rattle.executor_model.specs.declared.op.Hold.TheVariants as hold
@@ -46,11 +51,10 @@ use Rattle.executor_model.specs.Good.{Fits, pasts, pasts_in}
 use Rattle.executor_model.specs.Rows.{past_of, then_past}
 use Rattle.executor_model.specs.Weights.{past, waker_past, weigh}
 use Rattle.executor_model.proofs.Counts.Fitting.{Grown, Grows, Shaped, shaped, fits-log, grows-carried, same-log}
-use Rattle.executor_model.proofs.Steps.Lists.{pasts-drop, weigh-append}
+use Rattle.executor_model.proofs.Steps.Lists.{weigh-append}
 use Rattle.executor_model.proofs.Steps.RunsMoves.{Same, same-found, same-here, same-rooms, same-stolen, same-taken}
 use Rattle.executor_model.proofs.Steps.RunsMoves.{same-trans}
 use Rattle.executor_model.proofs.Steps.SleepersLists.{given_back-same}
-use Rattle.executor_model.proofs.Counts.SleepersFitting.{grows-search}
 
 -- own queues
 
@@ -90,6 +94,7 @@ module _ (n : ℕ) (x : RunPoll) (wz : waker_past n x.waker ≡ 0) where
 
   past-stolen : (t : Then) (w : World) → then_past n t ≡ 0 → weigh (past_of n) (stolen t w x).next ≡ 0
   past-stolen (then.Found f) w z = past-found w f z
+  past-stolen (then.StealPlain f) w z = omega (arith, wz, z)
   past-stolen (then.Run f) w z = past-run_by _ w f z
   past-stolen (then.Walk at left) w z = omega (arith, wz)
 
@@ -146,9 +151,10 @@ grows-take_first : (from : Source) (q : List ℕ) (w : World) (x : RunPoll) (t :
 grows-take_first from [] w x t more e =
     grows-stolen w (op.Steal (steal_op.Take (record { poll = x; from = from; then = t }) more) ∷ []) t x
     (λ k. omega (arith, k)) (λ k. omega (arith, k))
-grows-take_first Common (f ∷ rest) w x t more e =
-    grows-moves w (op.Steal (steal_op.Take (record { poll = x; from = Common; then = t }) more) ∷ []) _ (same-taken w)
-    (λ h k. (let z = pasts-drop (length w.tasks) f rest w.queue.items e in omega (arith, z, h.queue, k)))
+grows-take_first (Common mark) (f ∷ rest) w x t more e =
+    grows-moves w (op.Steal (steal_op.Take (record { poll = x; from = Common mark; then = t }) more) ∷ []) _
+    (same-taken mark w)
+    (λ h k. omega (arith, pasts-first (length w.tasks) f rest mark w.queues e, h.queue, k))
 grows-take_first (Own r) (f ∷ rest) w x t more e =
     grows-moves w (op.Steal (steal_op.Take (record { poll = x; from = (Own r); then = t }) more) ∷ []) _
     (same-here w _ _ _ _)
@@ -180,16 +186,20 @@ grows-own (f ∷ rest) w s r e = grows-found w (put_own w r rest) (op.Tick (tick
     (same-here w _ _ _ _) (λ k. omega (arith, k))
     (λ h. omega (arith, pasts_in-first (length w.tasks) r f rest w.own e, h.own))
 
-pub grows-search_who : (who : TickOrRun) (w : World) (s : Sleeping) →
-    Grows w (op.Tick (tick_op.Search s) ∷ []) (search_by_who who w s)
-grows-search_who (tick_or_run.Tick t) w s = grows-search _ _ w s refl
-grows-search_who (tick_or_run.Run r) w s = grows-own _ w s r refl
+pub grows-search_who : (who : TickOrRun) (p : ℕ) (w : World) (s : Sleeping) →
+    Grows w (op.Tick (tick_op.Search s) ∷ []) (search_by_who who p w s)
+grows-search_who (tick_or_run.Tick t) p w s = λ h k. grind arith
+grows-search_who (tick_or_run.Run r) p w s = grows-own _ w s r refl
 
-grows-common : (q : List ℕ) (w : World) (x : RunPoll) → w.queue.items ≡ q →
-    Grows w (op.Run (run_op.SearchCommon x) ∷ []) (search_common_by q w x)
-grows-common [] w x e = grows-moves w (op.Run (run_op.SearchCommon x) ∷ []) _ (same-here w _ _ _ _) (λ h k. omega (arith, k))
-grows-common (f ∷ rest) w x e = grows-moves w (op.Run (run_op.SearchCommon x) ∷ []) _ (same-taken w)
-    (λ h k. (let z = pasts-drop (length w.tasks) f rest w.queue.items e in omega (arith, z, h.queue, k)))
+grows-common : (look : Look) (q : List ℕ) (w : World) (x : RunPoll) → (queue_of w (mark_in look)).items ≡ q →
+    Grows w (op.Run (run_op.SearchCommon x look) ∷ []) (search_common_by q w x look)
+grows-common (First mark) [] w x e = grows-moves w (op.Run (run_op.SearchCommon x (First mark)) ∷ []) _
+    (same-here w _ _ _ _) (λ h k. omega (arith, k))
+grows-common (Second mark) [] w x e = grows-moves w (op.Run (run_op.SearchCommon x (Second mark)) ∷ []) _
+    (same-here w _ _ _ _) (λ h k. omega (arith, k))
+grows-common look (f ∷ rest) w x e = grows-moves w (op.Run (run_op.SearchCommon x look) ∷ []) _
+    (same-taken (mark_in look) w)
+    (λ h k. omega (arith, pasts-first (length w.tasks) f rest (mark_in look) w.queues e, h.queue, k))
 
 grows-look : (q : List ℕ) (w : World) (x : RunPoll) (at left : ℕ) → own_of w x.run ≡ q →
     Grows w (op.Run (run_op.LookOwn x at left) ∷ []) (look_own_by q w x at left)
@@ -277,7 +287,8 @@ pub grows-run : (p : ℕ) (h : Hint) (o : RunOp) (w : World) → Grows w (op.Run
 grows-run p c run_op.MakeRoom w = grows-room c.refused w
 grows-run p c run_op.ReturnRoom w = grows-moves w (op.Run run_op.ReturnRoom ∷ []) _
     (same-rooms w _ (given_back-same w.sleepers)) (λ h k. refl)
-grows-run p c (run_op.SearchCommon x) w = grows-common _ w x refl
+grows-run p c (run_op.TakeTurn x) w = λ h k. grind arith
+grows-run p c (run_op.SearchCommon x look) w = grows-common look _ w x refl
 grows-run p c (run_op.LookOwn x at left) w = grows-look _ w x at left refl
 grows-run p c (run_op.WakeOwn x) w = λ h k. grows-wake_own p x.waker w _ x refl (omega (arith, k)) h
 grows-run p c (run_op.Reschedule r a) w = grows-reschedule _ w r a refl

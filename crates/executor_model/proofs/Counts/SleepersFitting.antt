@@ -3,6 +3,11 @@
 use Rattle.std.proofs.Common.{◌≡◌, ℕ, List, [], ◌∷◌, length, Bool, true, false, not, refl, ap, arith}
 use Rattle.std.proofs.Math.ListN.{length-set}
 use Rattle.std.specs.Prelude.{Option, Some, None, is_none}
+use Rattle.executor_model.proofs.Steps.QueuesByMark.{pasts-first}
+use Rattle.executor_model.specs.declared.op.Look.{Look}
+use Rattle.executor_model.specs.declared.op.Look.TheVariants.{First, Second}
+use Rattle.executor_model.specs.World.{queue_of}
+use Rattle.executor_model.specs.Acts.{mark_in}
 use Rattle.task_moves.specs.Moves as moves
 use Rattle.task_moves.specs.declared.moves.state.State.{State}
 use Rattle.executor_parts.specs.Sleepers.{last_waker, position_of, waker_at, waker_of}
@@ -18,7 +23,7 @@ use Rattle.executor_model.specs.declared.op.Waker.TheVariants.{Task, Outside}
 use Rattle.executor_model.specs.declared.op.TickOrRun.{TickOrRun}
 use Rattle.executor_model.specs.World.{World, Ticker, Awake, Asleep, Left, done, log, log_if, task}
 use Rattle.executor_model.specs.Acts.{call_waker}
-use Rattle.executor_model.specs.ActsOfSleepers.{exchange_by, hand_out_by, make_tick_by, search_by}
+use Rattle.executor_model.specs.ActsOfSleepers.{exchange_by, hand_out_by, make_tick_by, look_tick_by}
 use Rattle.executor_model.specs.ActsOfSleepers.{copy_sleeper_by, sleep_anew_by, sleeper_goes, sleep_listed_by}
 use Rattle.executor_model.specs.ActsOfSleepers.{pend_as}
 use Rattle.executor_model.specs.ActsOfSleepers.{sleep_again_by, fall_asleep_by, wake_up_by, tell_and_return, leave_sleepers_by}
@@ -26,7 +31,7 @@ use Rattle.executor_model.specs.Weights.{weigh, waker_past}
 use Rattle.executor_model.specs.Good.{Fits}
 use Rattle.executor_model.specs.Rows.{past_of}
 use Rattle.executor_model.proofs.Counts.Fitting.{Grown, Grows, Shaped, shaped, fits-log, same-log, grows-carried, past_goes}
-use Rattle.executor_model.proofs.Steps.Lists.{pasts-drop, weigh-append}
+use Rattle.executor_model.proofs.Steps.Lists.{weigh-append}
 use Rattle.executor_model.proofs.Steps.SleepersLists.{held, sleepers-last}
 use Rattle.executor_model.proofs.Steps.SleepersLists.{sleepers-woken_up, sleepers-set}
 
@@ -84,12 +89,16 @@ grows-make_tick false w h k =
       more = omega arith;
     }
 
-pub grows-search : (x : Ticker) (q : List ℕ) (w : World) (s : Sleeping) → w.queue.items ≡ q →
-    Grows w (op.Tick (tick_op.Search s) ∷ []) (search_by x w q s)
-grows-search x [] w s e h k = grind arith
-grows-search Awake (f ∷ rest) w s e h k = let z = pasts-drop (length w.tasks) f rest w.queue.items e in grind arith
-grows-search (Asleep n) (f ∷ rest) w s e h k = let z = pasts-drop (length w.tasks) f rest w.queue.items e in grind arith
-grows-search Left (f ∷ rest) w s e h k = let z = pasts-drop (length w.tasks) f rest w.queue.items e in grind arith
+pub grows-search : (look : Look) (x : Ticker) (q : List ℕ) (w : World) (s : Sleeping) → (queue_of w (mark_in look)).items ≡ q →
+    Grows w (op.Tick (tick_op.Look s look) ∷ []) (look_tick_by x w look q s)
+grows-search (First mark) x [] w s e h k = grind arith
+grows-search (Second mark) x [] w s e h k = grind arith
+grows-search look Awake (f ∷ rest) w s e h k =
+    let z = pasts-first (length w.tasks) f rest (mark_in look) w.queues e in grind arith
+grows-search look (Asleep n) (f ∷ rest) w s e h k =
+    let z = pasts-first (length w.tasks) f rest (mark_in look) w.queues e in grind arith
+grows-search look Left (f ∷ rest) w s e h k =
+    let z = pasts-first (length w.tasks) f rest (mark_in look) w.queues e in grind arith
 
 pub grows-copy_sleeper : (b : Bool) (a : Waker) (t : TickOrRun) (m : ℕ) (w : World) →
     Grows w (op.Tick (tick_op.CopyWaker (record { waker = a; who = t; poll = m })) ∷ [])

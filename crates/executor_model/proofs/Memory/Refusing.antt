@@ -8,6 +8,7 @@ use Rattle.std.specs.Prelude.{Option, Some, None, nat_lt}
 use Rattle.task_moves.specs.Moves as moves
 use Rattle.task_moves.specs.Moves.{most_references, is_going}
 use Rattle.executor_parts.specs.Sleepers.{Sleepers, waker_at}
+use Rattle.executor_parts.specs.declared.mark.Mark.{Mark}
 use Rattle.executor_model.specs.declared.call.Call.{Call}
 use Rattle.executor_model.specs.declared.call.Call.TheVariants as call
 use Rattle.executor_model.specs.declared.call.Reply.{Reply}
@@ -19,6 +20,8 @@ use Rattle.executor_model.specs.declared.op.Waker.TheVariants.{Task, Outside}
 use Rattle.executor_model.specs.declared.op.Op.{Op}
 use Rattle.executor_model.specs.declared.op.Op.TheVariants as op
 use Rattle.executor_model.specs.declared.op.HandleOp.TheVariants as handle_op
+use Rattle.executor_model.specs.declared.op.Look.{Look}
+use Rattle.executor_model.specs.declared.op.Look.TheVariants.{First, Second}
 use Rattle.executor_model.specs.declared.op.Sleeping.{Sleeping}
 use Rattle.executor_model.specs.declared.op.ListOp.{ListOp}
 use Rattle.executor_model.specs.declared.op.ListOp.TheVariants as list_op
@@ -41,7 +44,7 @@ use Rattle.executor_model.specs.ActsOfSleepers as of_sleepers
 use Rattle.executor_model.specs.Doing.{act, list_act, run_act, search_by_who}
 use Rattle.executor_model.specs.Carried.{awaiter_ops}
 use Rattle.executor_model.specs.Memory.{may_refuse, refuses, takes_no_memory, AsksForNone}
-use Rattle.executor_model.specs.Refusals.{is_no_memory, ends_for_want, is_of_run, is_run_poll, is_search, falls_asleep}
+use Rattle.executor_model.specs.Refusals.{is_no_memory, ends_for_want, is_of_run, is_run_poll, is_search, falls_asleep, takes_turn}
 use Rattle.executor_model.specs.Refusals.{IsFull}
 use Rattle.executor_model.specs.Refusals.{CopiesOneTooMany, RefusedChangesNothing, IsWantToldOf}
 use Rattle.executor_model.specs.Steps.{begun, drop_run, future_of, kept, poll_run, react, with_future}
@@ -50,7 +53,7 @@ use Rattle.executor_model.specs.World.{World, Ticker, Awake, Asleep, Left, Stage
 use Rattle.executor_model.specs.World.{run_of, task}
 use Rattle.executor_model.proofs.Memory.Unasking.{both, none-awaiter}
 use Rattle.executor_model.proofs.Memory.UnaskingGroups.{needs-no-memory}
-use Rattle.executor_model.proofs.Memory.RunsUntold.{Untold, untold-common, untold-look, untold-search, untold-steal}
+use Rattle.executor_model.proofs.Memory.RunsUntold.{Untold, untold-common, untold-look, untold-search, untold-steal, untold-turn}
 use Rattle.executor_model.proofs.Memory.RunsUntold.{untold-walk}
 
 not-both : (b : Bool) → b ≡ true → b ≡ false → ⊥
@@ -69,11 +72,11 @@ none-output w f = both (awaiter_ops f (moves.notify_other_if (task w f).awaiter)
 -- nothing has changed
 
 module _ (p : ℕ) (w : World) where
-  enter-unchanged : (full refused : Bool) → list_any may_refuse (acts.enter_by full refused p w).next ≡ true →
-      (acts.enter_by full refused p w).world ≡ w
-  enter-unchanged true refused e = refl
-  enter-unchanged false true e = refl
-  enter-unchanged false false e = absurd (cc)
+  enter-unchanged : (full refused : Bool) (mark : Mark) → list_any may_refuse (acts.enter_by full refused mark p w).next ≡ true →
+      (acts.enter_by full refused mark p w).world ≡ w
+  enter-unchanged true refused mark e = refl
+  enter-unchanged false true mark e = refl
+  enter-unchanged false false mark e = absurd (cc)
 
   copy-unchanged : (b : Bool) (f : ℕ) (held : Hold) → list_any may_refuse (acts.copy_by b w f held).next ≡ true →
       (acts.copy_by b w f held).world ≡ w
@@ -101,13 +104,13 @@ module _ (p : ℕ) (w : World) where
   make-unchanged true e = refl
   make-unchanged false e = absurd (cc)
 
-  search-unchanged : (x : Ticker) (q : List ℕ) (s : Sleeping) →
-      list_any may_refuse (of_sleepers.search_by x w q s).next ≡ true →
-      (of_sleepers.search_by x w q s).world ≡ w
-  search-unchanged x [] s e = refl
-  search-unchanged Awake (f ∷ rest) s e = absurd (cc)
-  search-unchanged (Asleep n) (f ∷ rest) s e = absurd (cc)
-  search-unchanged Left (f ∷ rest) s e = absurd (cc)
+  look-tick-unchanged : (x : Ticker) (l : Look) (q : List ℕ) (s : Sleeping) →
+      list_any may_refuse (of_sleepers.look_tick_by x w l q s).next ≡ true →
+      (of_sleepers.look_tick_by x w l q s).world ≡ w
+  look-tick-unchanged x l [] s e = refl
+  look-tick-unchanged Awake l (f ∷ rest) s e = absurd (cc)
+  look-tick-unchanged (Asleep n) l (f ∷ rest) s e = absurd (cc)
+  look-tick-unchanged Left l (f ∷ rest) s e = absurd (cc)
 
   copies-unchanged : (b : Bool) (s : Sleeping) →
       list_any ends_for_want (of_sleepers.copy_sleeper_by b w s).next ≡ true →
@@ -161,29 +164,38 @@ module _ (p : ℕ) (w : World) where
   tick-sleeps (Asleep n) s = again-sleeps _ n s
   tick-sleeps Left s = refl
 
-  who-unchanged : (who : TickOrRun) (s : Sleeping) → s.who ≡ who →
-      list_any may_refuse (search_by_who who w s).next ≡ true → is_run_poll who ≡ false →
-      (search_by_who who w s).world ≡ w
-  who-unchanged (tick_or_run.Tick t) s q e r = search-unchanged _ _ s e
-  who-unchanged (tick_or_run.Run x) s q e r = absurd (cc)
+  -- a search of a tick takes a turn
+  who-turns : (who : TickOrRun) → not (is_run_poll who) ≡ true → (s : Sleeping) →
+      (search_by_who who p w s).world ≡ acts.turned p w
+  who-turns (tick_or_run.Tick t) e s = refl
+  who-turns (tick_or_run.Run x) e s = absurd (cc)
+
+  turns : (h : Hint) (o : Op) → takes_turn o ≡ true → (act p h o w).world ≡ acts.turned p w
+  turns h (op.Tick (tick_op.Search s)) e = who-turns s.who e s
+  turns h _ e = absurd (cc)
+
+  no-turn : (who : TickOrRun) → is_run_poll who ≡ false → not (is_run_poll who) ≡ false → ⊥
+  no-turn (tick_or_run.Tick t) r k = absurd (cc)
+  no-turn (tick_or_run.Run x) r k = absurd (cc)
 
   unchanged : (h : Hint) (o : Op) → list_any may_refuse (act p h o w).next ≡ true → falls_asleep o ≡ false →
-      is_of_run o ≡ false → (act p h o w).world ≡ w
-  unchanged h (op.Table table_op.Enter) e n r = enter-unchanged _ h.refused e
-  unchanged h (op.Waker (waker_op.CopyWaker f held)) e n r = copy-unchanged _ f held e
-  unchanged h (op.Handle (handle_op.Look f a)) e n r =
+      is_of_run o ≡ false → takes_turn o ≡ false → (act p h o w).world ≡ w
+  unchanged h (op.Table (table_op.Enter mark)) e n r k = enter-unchanged _ h.refused mark e
+  unchanged h (op.Waker (waker_op.CopyWaker f held)) e n r k = copy-unchanged _ f held e
+  unchanged h (op.Handle (handle_op.Look f a)) e n r k =
       look-unchanged (task w f).closed (is_going (task w f)) (task w f).completed f a e
-  unchanged h (op.Handle (handle_op.CopyAwaiter f a)) e n r = awaiter-unchanged _ f a e
-  unchanged h (op.Tick tick_op.MakeTick) e n r = make-unchanged h.refused e
-  unchanged h (op.Tick (tick_op.Search s)) e n r = who-unchanged s.who s refl e r
-  unchanged h (op.Tick (tick_op.CopyWaker s)) e n r = absurd (cc)
-  unchanged h (op.Tick (tick_op.FallAsleep s)) e n r = absurd (cc)
-  unchanged h (op.User (user_op.PollOwn x)) e n r = absurd (cc)
-  unchanged h (op.List o) e n r = absurd (cc)
-  unchanged h (op.Steal o) e n r = absurd (cc)
-  unchanged h (op.Run o) e n r = absurd (cc)
-  unchanged h (op.End a held) e n r = absurd (cc)
-  unchanged h o e n r = absurd (not-both _ e ((needs-no-memory w p).goes_on h o refl))
+  unchanged h (op.Handle (handle_op.CopyAwaiter f a)) e n r k = awaiter-unchanged _ f a e
+  unchanged h (op.Tick tick_op.MakeTick) e n r k = make-unchanged h.refused e
+  unchanged h (op.Tick (tick_op.Search s)) e n r k = absurd (no-turn s.who r k)
+  unchanged h (op.Tick (tick_op.Look s l)) e n r k = look-tick-unchanged _ l _ s e
+  unchanged h (op.Tick (tick_op.CopyWaker s)) e n r k = absurd (cc)
+  unchanged h (op.Tick (tick_op.FallAsleep s)) e n r k = absurd (cc)
+  unchanged h (op.User (user_op.PollOwn x)) e n r k = absurd (cc)
+  unchanged h (op.List o) e n r k = absurd (cc)
+  unchanged h (op.Steal o) e n r k = absurd (cc)
+  unchanged h (op.Run o) e n r k = absurd (cc)
+  unchanged h (op.End a held) e n r k = absurd (cc)
+  unchanged h o e n r k = absurd (not-both _ e ((needs-no-memory w p).goes_on h o refl))
 
   with-unchanged : (o : Option ℕ) (d : ℕ → Done) → ((f : ℕ) → (d f).world ≡ w) → (with_future w o d).world ≡ w
   with-unchanged (Some f) d k = k f
@@ -191,7 +203,7 @@ module _ (p : ℕ) (w : World) where
 
   begins-unchanged : (here : Option Waker) (c : Call) → takes_no_memory c ≡ false → is_search c ≡ false →
       (begun p w here c).world ≡ w
-  begins-unchanged here call.Spawn e n = refl
+  begins-unchanged here (call.Spawn mark) e n = refl
   begins-unchanged here (call.Copy k) e n =
       with-unchanged (kept w k) (λ f. done w (op.Waker (waker_op.CopyWaker f (hold.Waker k)) ∷ [])) (λ f. refl)
   begins-unchanged here call.Keep e n =
@@ -238,7 +250,8 @@ untold-want = record {
   take_up = λ f. refl;
   append = λ f. refl;
   steal = λ o. refl;
-  common = λ x. refl;
+  turn = λ x. refl;
+  common = λ x l. refl;
   look = λ x at left. refl;
   own = λ x. refl;
   lock = λ x. refl;
@@ -246,11 +259,11 @@ untold-want = record {
 }
 
 module _ (p : ℕ) (w : World) where
-  enter-told : (full refused : Bool) → list_any ends_for_want (acts.enter_by full refused p w).next ≡ true →
+  enter-told : (full refused : Bool) (mark : Mark) → list_any ends_for_want (acts.enter_by full refused mark p w).next ≡ true →
       refused ≡ true
-  enter-told true refused e = absurd (cc)
-  enter-told false true e = refl
-  enter-told false false e = absurd (cc)
+  enter-told true refused mark e = absurd (cc)
+  enter-told false true mark e = refl
+  enter-told false false mark e = absurd (cc)
 
   -- refused by the hint, or for the number of references
   copy-told : (refused small : Bool) (f : ℕ) (held : Hold) →
@@ -288,12 +301,13 @@ module _ (p : ℕ) (w : World) where
   make-told true e = refl
   make-told false e = absurd (cc)
 
-  search-told : (x : Ticker) (q : List ℕ) (s : Sleeping) →
-      list_any ends_for_want (of_sleepers.search_by x w q s).next ≡ true → ⊥
-  search-told x [] s e = absurd (cc)
-  search-told Awake (f ∷ rest) s e = absurd (cc)
-  search-told (Asleep n) (f ∷ rest) s e = absurd (cc)
-  search-told Left (f ∷ rest) s e = absurd (cc)
+  look-tick-told : (x : Ticker) (l : Look) (q : List ℕ) (s : Sleeping) →
+      list_any ends_for_want (of_sleepers.look_tick_by x w l q s).next ≡ true → ⊥
+  look-tick-told x (First m) [] s e = absurd (cc)
+  look-tick-told x (Second m) [] s e = absurd (cc)
+  look-tick-told Awake l (f ∷ rest) s e = absurd (cc)
+  look-tick-told (Asleep n) l (f ∷ rest) s e = absurd (cc)
+  look-tick-told Left l (f ∷ rest) s e = absurd (cc)
 
   anew-told : (b : Bool) (s : Sleeping) → list_any ends_for_want (of_sleepers.sleep_anew_by b w s).next ≡ true → ⊥
   anew-told true s e = absurd (cc)
@@ -351,8 +365,8 @@ module _ (p : ℕ) (w : World) where
   sleeper-told h (Outside x) t k e =
       inl (outside-copied-told h.refused (record { waker = Outside x; who = t; poll = k }) e)
 
-  who-told : (who : TickOrRun) (s : Sleeping) → list_any ends_for_want (search_by_who who w s).next ≡ true → ⊥
-  who-told (tick_or_run.Tick t) s e = search-told _ w.queue.items s e
+  who-told : (who : TickOrRun) (s : Sleeping) → list_any ends_for_want (search_by_who who p w s).next ≡ true → ⊥
+  who-told (tick_or_run.Tick t) s e = absurd (cc)
   who-told (tick_or_run.Run r) s e =
       not-both _ e (untold-search ends_for_want untold-want w (record { run = r; waker = s.waker; poll = s.poll }))
 
@@ -386,7 +400,8 @@ module _ (p : ℕ) (w : World) where
       list_any ends_for_want (run_act p h o w).next ≡ true → h.refused ≡ true
   run-told h run_op.MakeRoom n e = room-told h.refused e
   run-told h run_op.ReturnRoom n e = absurd (cc)
-  run-told h (run_op.SearchCommon x) n e = absurd (not-both _ e (untold-common ends_for_want untold-want w x))
+  run-told h (run_op.TakeTurn x) n e = absurd (not-both _ e (untold-turn ends_for_want untold-want p w x))
+  run-told h (run_op.SearchCommon x l) n e = absurd (not-both _ e (untold-common ends_for_want untold-want w x l))
   run-told h (run_op.LookOwn x at left) n e =
       absurd (not-both _ e (untold-look ends_for_want untold-want (λ s. refl) w x at left))
   run-told h (run_op.WakeOwn x) n e =
@@ -397,7 +412,7 @@ module _ (p : ℕ) (w : World) where
 
   told : (h : Hint) (o : Op) → ends_for_want o ≡ false → list_any ends_for_want (act p h o w).next ≡ true →
       (h.refused ≡ true) ⊎ CopiesOneTooMany o w
-  told h (op.Table table_op.Enter) n e = inl (enter-told _ h.refused e)
+  told h (op.Table (table_op.Enter mark)) n e = inl (enter-told _ h.refused mark e)
   told h (op.Waker (waker_op.CopyWaker f held)) n e =
       ⊎_elim (λ (x : h.refused ≡ true). inl x)
       (λ (x : nat_lt (task w f).references most_references ≡ false). inr (many (task w f).references x))
@@ -411,6 +426,7 @@ module _ (p : ℕ) (w : World) where
   told h (op.Handle (handle_op.CopyAwaiter f (Outside x))) n e = inl (outside-told h.refused f (Outside x) e)
   told h (op.Tick tick_op.MakeTick) n e = inl (make-told h.refused e)
   told h (op.Tick (tick_op.Search s)) n e = absurd (who-told s.who s e)
+  told h (op.Tick (tick_op.Look s l)) n e = absurd (look-tick-told (place_of w s.who) l _ s e)
   told h (op.Tick (tick_op.CopyWaker s)) n e = sleeper-told h s.waker s.who s.poll e
   told h (op.Tick (tick_op.FallAsleep s)) n e = absurd (sleep-told (place_of w s.who) s e)
   told h (op.User (user_op.PollOwn x)) n e = absurd (cc)
@@ -460,6 +476,7 @@ refused-changes-nothing w p =
       polls = λ here t b. refl;
       runs = λ here r b. refl;
       goes_on = unchanged p w;
+      turns = turns p w;
       copies = λ h s. copies-unchanged p w _ s;
       sleeps = λ s. tick-sleeps p w (place_of w s.who) s;
       makes = λ h. room-unchanged p w h.refused;

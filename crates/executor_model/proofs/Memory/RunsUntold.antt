@@ -3,7 +3,11 @@
 use Rattle.std.proofs.Common.{◌≡◌, ℕ, zero, suc, ◌+◌, List, [], ◌∷◌, ◌++◌, Bool, true, false, ◌||◌, eqb, refl, ap, ◌∙◌}
 use Rattle.std.specs.List.{list_any}
 use Rattle.task_moves.specs.declared.moves.owed.Move.TheVariants as move
+use Rattle.executor_parts.specs.declared.mark.Mark.TheVariants.{Plain, Urgent}
+use Rattle.executor_parts.specs.Marks.{first_of, other}
 use Rattle.executor_model.specs.declared.op.ListOp.TheVariants as list_op
+use Rattle.executor_model.specs.declared.op.Look.{Look}
+use Rattle.executor_model.specs.declared.op.Look.TheVariants.{First, Second}
 use Rattle.executor_model.specs.declared.op.Op.{Op}
 use Rattle.executor_model.specs.declared.op.Op.TheVariants as op
 use Rattle.executor_model.specs.declared.op.QueueOp.TheVariants as queue_op
@@ -21,10 +25,11 @@ use Rattle.executor_model.specs.declared.op.Then.{Then}
 use Rattle.executor_model.specs.declared.op.Then.TheVariants as then
 use Rattle.executor_model.specs.declared.op.TickOp.TheVariants as tick_op
 use Rattle.executor_model.specs.World.{World, Ticker, Awake, Asleep, Left, put_own, run_of}
+use Rattle.executor_model.specs.Acts.{mark_in}
 use Rattle.executor_model.specs.ActsOfSleepers.{found_by}
 use Rattle.executor_model.specs.ActsOfRuns.{asleep, run_by, counted_by, found, walk, next_place, queue_at, kept_by}
 use Rattle.executor_model.specs.ActsOfRuns.{look_own, look_own_by}
-use Rattle.executor_model.specs.ActsOfRuns.{search_own, search_own_by, search_common, search_common_by, stolen}
+use Rattle.executor_model.specs.ActsOfRuns.{search_own, search_own_by, search_common, search_common_by, stolen, take_turn_of_run}
 use Rattle.executor_model.specs.ActsOfRuns.{steal_length_by, steal_by, steal_take_by, steal_put_by}
 use Rattle.executor_model.specs.Doing.{steal_act}
 
@@ -36,7 +41,8 @@ pub record Untold (t : Op → Bool) : Type 0 where
   pub take_up : (f : ℕ) → t (op.Move move.TakeUp f) ≡ false
   pub append : (f : ℕ) → t (op.Queue (queue_op.Append f)) ≡ false
   pub steal : (o : StealOp) → t (op.Steal o) ≡ false
-  pub common : (x : RunPoll) → t (op.Run (run_op.SearchCommon x)) ≡ false
+  pub turn : (x : RunPoll) → t (op.Run (run_op.TakeTurn x)) ≡ false
+  pub common : (x : RunPoll) (l : Look) → t (op.Run (run_op.SearchCommon x l)) ≡ false
   pub look : (x : RunPoll) (at left : ℕ) → t (op.Run (run_op.LookOwn x at left)) ≡ false
   pub own : (x : RunPoll) → t (op.Run (run_op.WakeOwn x)) ≡ false
   pub lock : (x : RunPoll) → t (op.List (list_op.LockRead x)) ≡ false
@@ -57,7 +63,8 @@ module _ (t : Op → Bool) (u : Untold t) where
 
   untold-counted : (b : Bool) (w : World) (x : RunPoll) (f : ℕ) → list_any t (counted_by b w x f).next ≡ false
   untold-counted true w x f =
-      let o = steal_op.Length (record { poll = x; from = Common; then = then.Run f }) in alone (op.Steal o) (u.steal o)
+      let o = steal_op.Length (record { poll = x; from = Common Urgent; then = then.StealPlain f }) in
+      alone (op.Steal o) (u.steal o)
   untold-counted false w x f = untold-run_by _ _ x f
 
   untold-wakes_up : (p : Ticker) (who : TickOrRun) (more : List Op) → list_any t more ≡ false →
@@ -75,6 +82,9 @@ module _ (t : Op → Bool) (u : Untold t) where
 
   pub untold-stolen : (n : Then) (w : World) (x : RunPoll) → list_any t (stolen n w x).next ≡ false
   untold-stolen (then.Found f) w x = untold-found w x f
+  untold-stolen (then.StealPlain f) w x =
+      let o = steal_op.Length (record { poll = x; from = Common Plain; then = then.Run f }) in
+      alone (op.Steal o) (u.steal o)
   untold-stolen (then.Run f) w x = untold-run_by _ w x f
   untold-stolen (then.Walk at left) w x = alone (op.Run (run_op.LookOwn x at left)) (u.look x at left)
 
@@ -103,20 +113,27 @@ module _ (t : Op → Bool) (u : Untold t) where
   untold-steal p (steal_op.Put s more f) w = untold-put _ p w s more f
 
   untold-own : (q : List ℕ) (w : World) (x : RunPoll) → list_any t (search_own_by q w x).next ≡ false
-  untold-own [] w x = alone (op.Run (run_op.SearchCommon x)) (u.common x)
+  untold-own [] w x = alone (op.Run (run_op.TakeTurn x)) (u.turn x)
   untold-own (f ∷ rest) w x = untold-found (put_own w x.run rest) x f
 
   pub untold-search : (w : World) (x : RunPoll) → list_any t (search_own w x).next ≡ false
   untold-search w x = untold-own _ w x
 
-  untold-common_by : (q : List ℕ) (w : World) (x : RunPoll) → list_any t (search_common_by q w x).next ≡ false
-  untold-common_by [] w x = alone (op.List (list_op.LockRead x)) (u.lock x)
-  untold-common_by (f ∷ rest) w x =
-      let o = steal_op.Length (record { poll = x; from = Common; then = then.Found f }) in alone (op.Steal o)
+  pub untold-turn : (p : ℕ) (w : World) (x : RunPoll) → list_any t (take_turn_of_run p w x).next ≡ false
+  untold-turn p w x =
+      let l = First (first_of w.urgent_turns) in alone (op.Run (run_op.SearchCommon x l)) (u.common x l)
+
+  untold-common_by : (q : List ℕ) (w : World) (x : RunPoll) (l : Look) →
+      list_any t (search_common_by q w x l).next ≡ false
+  untold-common_by [] w x (First m) =
+      alone (op.Run (run_op.SearchCommon x (Second (other m)))) (u.common x (Second (other m)))
+  untold-common_by [] w x (Second m) = alone (op.List (list_op.LockRead x)) (u.lock x)
+  untold-common_by (f ∷ rest) w x l =
+      let o = steal_op.Length (record { poll = x; from = Common (mark_in l); then = then.Found f }) in alone (op.Steal o)
       (u.steal o)
 
-  pub untold-common : (w : World) (x : RunPoll) → list_any t (search_common w x).next ≡ false
-  untold-common w x = untold-common_by _ w x
+  pub untold-common : (w : World) (x : RunPoll) (l : Look) → list_any t (search_common w x l).next ≡ false
+  untold-common w x l = untold-common_by _ w x l
 
   -- a look that finds a future
   pub untold-finds : (f : ℕ) (rest : List ℕ) (w : World) (x : RunPoll) (at left : ℕ) →

@@ -4,15 +4,16 @@ use Rattle.std.proofs.Common.{◌≡◌, ℕ, List, [], ◌∷◌, Bool, true, f
 use Rattle.std.specs.Prelude.{Option, Some, None, is_none}
 use Rattle.executor_parts.specs.Sleepers.{waker_of}
 use Rattle.executor_model.specs.declared.event.Event.TheVariants as event
+use Rattle.executor_model.specs.declared.op.Look.{Look}
 use Rattle.executor_model.specs.declared.op.Sleeping.{Sleeping}
 use Rattle.executor_model.specs.declared.op.SleeperOp.{SleeperOp}
 use Rattle.executor_model.specs.declared.op.SleeperOp.TheVariants as sleeper_op
 use Rattle.executor_model.specs.declared.op.Waker.{Waker}
 use Rattle.executor_model.specs.declared.op.Waker.TheVariants.{Task, Outside}
 use Rattle.executor_model.specs.declared.op.TickOrRun.{TickOrRun}
-use Rattle.executor_model.specs.World.{World, Ticker, Awake, Asleep, Left, place_of, log}
-use Rattle.executor_model.specs.Acts.{call_waker}
-use Rattle.executor_model.specs.ActsOfSleepers.{exchange_by, hand_out_by, polled_as, search_by}
+use Rattle.executor_model.specs.World.{World, Ticker, Awake, Asleep, Left, place_of, log, queue_of}
+use Rattle.executor_model.specs.Acts.{call_waker, mark_in}
+use Rattle.executor_model.specs.ActsOfSleepers.{exchange_by, hand_out_by, look_tick_by, polled_as}
 use Rattle.executor_model.specs.ActsOfSleepers.{sleeper_goes, wake_up_by, tell_and_return, leave_sleepers_by}
 use Rattle.executor_model.specs.Doing.{sleeper_act}
 use Rattle.executor_model.specs.Memory.{AsksForNone, FindsWithoutMemory}
@@ -57,16 +58,16 @@ none-leave_sleepers (Asleep n) w t =
     both (sleeper_goes old) (tell_and_return (is_none old)) (none-goes old) (none-tell (is_none old))
 none-leave_sleepers Left w t = refl
 
-none-found : (x : Ticker) (w : World) (f : ℕ) (rest : List ℕ) (s : Sleeping) →
-    AsksForNone (search_by x w (f ∷ rest) s).next
-none-found Awake w f rest s = refl
-none-found (Asleep n) w f rest s = refl
-none-found Left w f rest s = refl
+none-found : (x : Ticker) (w : World) (l : Look) (f : ℕ) (rest : List ℕ) (s : Sleeping) →
+    AsksForNone (look_tick_by x w l (f ∷ rest) s).next
+none-found Awake w l f rest s = refl
+none-found (Asleep n) w l f rest s = refl
+none-found Left w l f rest s = refl
 
 -- a search that finds a future leads to nothing that asks for memory
 pub finds-without : (w : World) → FindsWithoutMemory w
-finds-without w f rest s e = by w.queue.items e
+finds-without w f rest s l e = by (queue_of w (mark_in l)).items e
   where
-    by : (q : List ℕ) → q ≡ f ∷ rest → AsksForNone (search_by (place_of w s.who) w q s).next
+    by : (q : List ℕ) → q ≡ f ∷ rest → AsksForNone (look_tick_by (place_of w s.who) w l q s).next
     by [] k = absurd (cc)
-    by (g ∷ more) k = none-found (place_of w s.who) w g more s
+    by (g ∷ more) k = none-found (place_of w s.who) w l g more s

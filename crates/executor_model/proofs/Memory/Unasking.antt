@@ -4,6 +4,7 @@ use Rattle.std.proofs.Common.{ℕ, List, [], ◌∷◌, ◌++◌, Bool, true, fa
 use Rattle.std.proofs.lemmas.List.Folds.{list_any-append}
 use Rattle.std.specs.List.{list_any}
 use Rattle.std.specs.Prelude.{Option, Some, None}
+use Rattle.executor_parts.specs.declared.mark.Mark.{Mark}
 use Rattle.task_moves.specs.declared.moves.owed.Move.{Move}
 use Rattle.task_moves.specs.declared.moves.owed.Move.TheVariants as move
 use Rattle.task_moves.specs.declared.moves.owed.FutureDebt.{FutureDebt}
@@ -15,6 +16,8 @@ use Rattle.task_moves.specs.declared.moves.owed.Owed.{Owed}
 use Rattle.task_moves.specs.declared.schedule_info.ScheduleInfo.{ScheduleInfo}
 use Rattle.task_moves.specs.Moves as moves
 use Rattle.task_moves.specs.Moves.{is_over}
+use Rattle.executor_parts.specs.declared.mark.Mark.{Mark}
+use Rattle.executor_parts.specs.declared.mark.Mark.TheVariants.{Plain, Urgent}
 use Rattle.executor_model.specs.declared.call.Reply.TheVariants as reply
 use Rattle.executor_model.specs.declared.event.Event.TheVariants as event
 use Rattle.executor_model.specs.declared.op.Hold.TheVariants as hold
@@ -25,6 +28,8 @@ use Rattle.executor_model.specs.declared.op.Polled.TheVariants as of
 use Rattle.executor_model.specs.declared.op.Op.{Op}
 use Rattle.executor_model.specs.declared.op.Op.TheVariants as op
 use Rattle.executor_model.specs.declared.op.HandleOp.TheVariants as handle_op
+use Rattle.executor_model.specs.declared.op.Look.{Look}
+use Rattle.executor_model.specs.declared.op.Look.TheVariants.{First, Second}
 use Rattle.executor_model.specs.World.{World, task, log, log_if, awaiter_of, among}
 use Rattle.executor_model.specs.Carried.{drops, emptied_ops, schedule_ops, future_ops, output_ops, awaiter_ops, next_ops, owed_ops, carried}
 use Rattle.executor_model.specs.Acts as acts
@@ -106,13 +111,14 @@ none-wake p w f = none-carried (log_if (not (is_over (task w f))) w (event.Woken
 
 -- queue and table
 
-pub none-take : (w : World) (items : List ℕ) → AsksForNone (acts.take_by w items).next
-none-take w [] = refl
-none-take w (f ∷ rest) = refl
+pub none-take : (w : World) (l : Look) (items : List ℕ) → AsksForNone (acts.take_by w l items).next
+none-take w (First m) [] = refl
+none-take w (Second m) [] = refl
+none-take w l (f ∷ rest) = refl
 
-pub none-append : (b : Bool) (w : World) (f : ℕ) → AsksForNone (acts.append_by b w f).next
-none-append true w f = refl
-none-append false w f = refl
+pub none-append : (b : Bool) (w : World) (m : Mark) (f : ℕ) → AsksForNone (acts.append_by b w m f).next
+none-append true w m f = refl
+none-append false w m f = refl
 
 pub none-look_at_table : (w : World) (table : List ℕ) → AsksForNone (op.End (acts.emptiness table) hold.Executor ∷ [])
 none-look_at_table w [] = refl
@@ -206,6 +212,11 @@ none-leak_next false p w [] = refl
 none-leak_next false p w (f ∷ rest) = both (acts.wake p (record w { waking = rest }) f).next (acts.leaking_ops rest)
     (none-wake p (record w { waking = rest }) f) (none-leaking rest)
 
-pub none-drain : (p : ℕ) (w : World) (fs : List ℕ) → AsksForNone (acts.drain_by p w fs).next
-none-drain p w [] = refl
-none-drain p w (f ∷ rest) = refl
+pub none-close : (w : World) (m : Mark) → AsksForNone (acts.close w m).next
+none-close w Urgent = refl
+none-close w Plain = refl
+
+pub none-drain : (p : ℕ) (w : World) (m : Mark) (fs : List ℕ) → AsksForNone (acts.drain_by p w m fs).next
+none-drain p w Urgent [] = refl
+none-drain p w Plain [] = refl
+none-drain p w m (f ∷ rest) = refl

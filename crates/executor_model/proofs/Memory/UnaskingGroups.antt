@@ -3,7 +3,7 @@
 use Rattle.std.proofs.Common.{◌≡◌, ℕ, List, [], ◌∷◌, Bool, true, false, ◌&&◌, ◌||◌, not, refl, ap}
 use Rattle.std.specs.Prelude.{Option, Some, None}
 use Rattle.task_moves.specs.declared.moves.owed.Move.{Move}
-use Rattle.executor_model.specs.Acts.{is_last_waker, is_told, move_by, told_of}
+use Rattle.executor_model.specs.Acts.{is_last_waker, is_told, mark_in, move_by, told_of}
 use Rattle.task_moves.specs.Moves as moves
 use Rattle.task_moves.specs.Moves.{is_over}
 use Rattle.executor_model.specs.declared.op.Waker.{Waker}
@@ -35,18 +35,18 @@ use Rattle.executor_model.specs.declared.op.WakerOp.TheVariants as waker_op
 use Rattle.executor_model.specs.declared.step.Hint.{Hint}
 use Rattle.executor_model.specs.declared.step.UserEnd.{UserEnd}
 use Rattle.executor_model.specs.declared.step.UserEnd.TheVariants as end
-use Rattle.executor_model.specs.World.{World, Done, Stage, New, Listed, Ended, log, task, log_if, awaiter_of, run_of}
+use Rattle.executor_model.specs.World.{World, Done, Stage, New, Listed, Ended, log, task, log_if, awaiter_of, queue_of, run_of}
 use Rattle.executor_model.specs.ActsOfRuns.{call_by_reference, look_own_by, reschedule_by, wake_own}
 use Rattle.executor_model.specs.Doing.{act, list_act, run_act}
 use Rattle.executor_model.specs.Memory.{asks, list_may_refuse, may_refuse, refuses, run_may_refuse, takes_no_memory}
 use Rattle.executor_model.specs.Memory.{AsksForNone, NeedsNoMemory, RunsWithoutMemory}
 use Rattle.executor_model.specs.Steps.{begun, drop_run, future_of, kept, poll_run, react, with_future}
-use Rattle.executor_model.proofs.Memory.Unasking.{none-let_go_by, both, none-again, none-append, none-call, none-carried, none-closing}
+use Rattle.executor_model.proofs.Memory.Unasking.{none-let_go_by, both, none-again, none-append, none-call, none-carried, none-close, none-closing}
 use Rattle.executor_model.proofs.Memory.Unasking.{none-drain, none-drop_next, none-end_register, none-leave}
 use Rattle.executor_model.proofs.Memory.Unasking.{none-look_at_table, none-notify, none-register, none-take}
 use Rattle.executor_model.proofs.Memory.Unasking.{none-told, none-leak_next, none-leak_out, none-wake_next}
 use Rattle.executor_model.proofs.Memory.SleepersMemory.{none-sleeper, none-up, none-leave_sleepers, finds-without}
-use Rattle.executor_model.proofs.Memory.RunsUntold.{Untold, untold-common, untold-finds, untold-search, untold-steal}
+use Rattle.executor_model.proofs.Memory.RunsUntold.{Untold, untold-common, untold-finds, untold-search, untold-steal, untold-turn}
 
 -- what a run does
 
@@ -91,10 +91,11 @@ none-move true m p w f =
 none-move false m p w f = refl
 
 none-act : (p : ℕ) (w : World) (h : Hint) (o : Op) → may_refuse o ≡ false → AsksForNone (act p h o w).next
-none-act p w h (op.Table table_op.Enter) e = absurd (cc)
-none-act p w h (op.Queue queue_op.Take) e = none-take w w.queue.items
+none-act p w h (op.Table (table_op.Enter mark)) e = absurd (cc)
+none-act p w h (op.Queue queue_op.TakeTurn) e = refl
+none-act p w h (op.Queue (queue_op.Take l)) e = none-take w l (queue_of w (mark_in l)).items
 none-act p w h (op.Table table_op.LookAtTable) e = none-look_at_table w w.table
-none-act p w h (op.Queue (queue_op.Append f)) e = none-append _ w f
+none-act p w h (op.Queue (queue_op.Append f)) e = none-append _ w _ f
 none-act p w h (op.Move m f) e = none-move _ m p w f
 none-act p w h (op.Table (table_op.LeaveTable f)) e = none-leave _ w f
 none-act p w h (op.Waker (waker_op.CopyWaker f held)) e = absurd (cc)
@@ -110,6 +111,7 @@ none-act p w h (op.Waker (waker_op.CallAwaiter f a k)) e = none-call p w f a k
 none-act p w h (op.Sleeper o) e = none-sleeper p o w
 none-act p w h (op.Tick tick_op.MakeTick) e = absurd (cc)
 none-act p w h (op.Tick (tick_op.Search s)) e = absurd (cc)
+none-act p w h (op.Tick (tick_op.Look s l)) e = absurd (cc)
 none-act p w h (op.Tick (tick_op.CopyWaker s)) e = absurd (cc)
 none-act p w h (op.Tick (tick_op.FallAsleep s)) e = absurd (cc)
 none-act p w h (op.Tick (tick_op.WakeUp t)) e = none-up _ w t
@@ -120,7 +122,8 @@ none-act p w h (op.Run o) e = none-run p h o w e
 none-act p w h (op.Closing closing_op.TakeOut) e = none-closing w.table w.waking
 none-act p w h (op.Closing closing_op.DropNext) e = none-drop_next p w w.leaving
 none-act p w h (op.Closing closing_op.WakeNext) e = none-wake_next p w w.waking
-none-act p w h (op.Closing closing_op.Drain) e = none-drain p w w.queue.items
+none-act p w h (op.Closing (closing_op.Close m)) e = none-close w m
+none-act p w h (op.Closing (closing_op.Drain m)) e = none-drain p w m (queue_of w m).items
 none-act p w h (op.Closing closing_op.LeakOut) e = none-leak_out _ w
 none-act p w h (op.Closing closing_op.LeakNext) e = none-leak_next _ p w w.waking
 none-act p w h (op.User (user_op.BeginDrop f)) e = refl
@@ -129,7 +132,7 @@ none-act p w h _ e = refl
 
 same-act : (p : ℕ) (w : World) (h : Hint) (refused : Bool) (o : Op) → asks o ≡ false →
     act p (record h { refused = refused }) o w ≡ act p h o w
-same-act p w h refused (op.Table table_op.Enter) e = absurd (cc)
+same-act p w h refused (op.Table (table_op.Enter mark)) e = absurd (cc)
 same-act p w h refused (op.Waker (waker_op.CopyWaker f held)) e = absurd (cc)
 same-act p w h refused (op.Handle (handle_op.CopyAwaiter f a)) e = absurd (cc)
 same-act p w h refused (op.Tick tick_op.MakeTick) e = absurd (cc)
@@ -183,7 +186,8 @@ untold-asks = record {
   take_up = λ f. refl;
   append = λ f. refl;
   steal = λ o. refl;
-  common = λ x. refl;
+  turn = λ x. refl;
+  common = λ x l. refl;
   look = λ x at left. refl;
   own = λ x. refl;
   lock = λ x. refl;
@@ -208,6 +212,7 @@ runs-without w p = record {
   ready = λ x. refl;
   pending = λ x. refl;
   own = untold-search asks untold-asks w;
+  turns = untold-turn asks untold-asks p w;
   common = untold-common asks untold-asks w;
   steals = λ o. untold-steal asks untold-asks p o w;
   looks = λ f rest x at left e. looks-without _ w f rest x at left e;

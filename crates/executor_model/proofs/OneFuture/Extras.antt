@@ -22,16 +22,16 @@ abbrev pub closing_of : Op → ℕ
 closing_of (op.Move move.DropRunnable f) = 1
 closing_of (op.Closing closing_op.DropNext) = 1
 closing_of (op.Closing closing_op.WakeNext) = 1
-closing_of (op.Closing closing_op.Close) = 1
-closing_of (op.Closing closing_op.Drain) = 1
+closing_of (op.Closing (closing_op.Close mark)) = 1
+closing_of (op.Closing (closing_op.Drain mark)) = 1
 closing_of _ = 0
 
 -- and after it has dropped all futures that it found there
 abbrev pub waking_of : Op → ℕ
 waking_of (op.Move move.DropRunnable f) = 1
 waking_of (op.Closing closing_op.WakeNext) = 1
-waking_of (op.Closing closing_op.Close) = 1
-waking_of (op.Closing closing_op.Drain) = 1
+waking_of (op.Closing (closing_op.Close mark)) = 1
+waking_of (op.Closing (closing_op.Drain mark)) = 1
 waking_of _ = 0
 
 -- outputs of g that are to be dropped
@@ -74,6 +74,7 @@ runs_of (op.Steal o) = 1
 runs_of (op.List o) = 1
 runs_of (op.Run o) = runs_of_run o
 runs_of (op.Tick (tick_op.Search s)) = runs_of_who s.who
+runs_of (op.Tick (tick_op.Look s look)) = runs_of_who s.who
 runs_of _ = 0
 
 pub record Extra : Type 0 where

@@ -43,14 +43,15 @@ pub record Passes (x y : Seen) : Type 0 where
   pub request : y.request ≡ x.request
   pub gone : y.gone ≡ x.gone
 
--- its entry, and the drop of the executor, which shuts the queue and ends when all that were there are woken
+-- its entry, and the drop of the executor, which shuts the queues and ends when all that were there are woken
 pub record Stays (x y : Seen) : Type 0 where
   pub story : (y.story ≡ x.story) ⊎ ((1 ≤ x.extra.waking) × (y.story ≡ record x.story { ended = true }))
   pub leaves : (y.extra.leaves ≡ x.extra.leaves) ⊎ ((x.table ≡ 0) × (y.extra.leaves ≤ x.extra.leaves))
   pub closing : x.extra.closing ≡ 0 → y.extra.closing ≡ 0
   pub waking : x.extra.waking ≡ 0 → y.extra.waking ≡ 0
   pub limit : y.limit ≡ x.limit
-  pub capacity : y.capacity ≡ x.capacity
+  pub urgent_capacity : y.urgent_capacity ≡ x.urgent_capacity
+  pub plain_capacity : y.plain_capacity ≡ x.plain_capacity
   pub shut : (y.shut ≡ x.shut) ⊎ (1 ≤ x.extra.waking)
 
 -- its output: one that is there is given at most, and then its task is closed
@@ -74,7 +75,7 @@ pub record Handles (x y : Seen) : Type 0 where
   pub watched : (x.state.completed ≡ true → (x.state.scheduled ≡ false) × (x.state.running ≡ false)) → Watched x →
       Watched y
 
--- the executor's queue: nothing comes there or on its way there, but by what runs do
+-- the executor's queues: nothing comes there or on its way there, but by what runs do
 pub record Queues (x y : Seen) : Type 0 where
   pub common : (y.common + y.extra.appends ≤ x.common + x.extra.appends) ⊎ (1 ≤ x.extra.runs)
 

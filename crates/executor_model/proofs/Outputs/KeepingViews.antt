@@ -5,6 +5,7 @@ use Rattle.std.proofs.Common.{◌≡◌, ℕ, ◌<◌, List, [], ◌∷◌, ◌+
 use Rattle.std.proofs.lemmas.Bool.Decides.{nat_tests}
 use Rattle.std.proofs.lemmas.List.{length-append}
 use Rattle.std.specs.Prelude.{slice_set}
+use Rattle.executor_parts.specs.declared.mark.Mark.{Mark}
 use Rattle.task_moves.specs.declared.moves.owed.Move.{Move}
 use Rattle.task_moves.specs.declared.moves.owed.Move.TheVariants as move
 use Rattle.task_moves.proofs.Cases.{by_move}
@@ -19,7 +20,7 @@ use Rattle.executor_model.specs.declared.op.Op.TheVariants as op
 use Rattle.executor_model.specs.declared.op.QueueOp.TheVariants as queue_op
 use Rattle.executor_model.specs.declared.op.TableOp.TheVariants as table_op
 use Rattle.executor_model.specs.declared.op.UserOp.TheVariants as user_op
-use Rattle.executor_model.specs.World.{World, Done, done, log}
+use Rattle.executor_model.specs.World.{World, Done, done, log, mark_of}
 use Rattle.executor_model.specs.Acts.{append_by, begin_drop, closing_ops, enter_by, leave_by, stands_alone}
 use Rattle.executor_model.specs.Sound.{Pend, with_ops}
 use Rattle.executor_model.proofs.Steps.Lists.{fresh_is, read_push, same_is}
@@ -77,11 +78,11 @@ KeepsStored w old d = (g : ℕ) (r : Pend) (y : Extra) → Sure (seen w g (with_
     Stored (seen w g (with_ops g old r) (with_extra g old y)) →
     Stored (seen d.world g (with_ops g d.next r) (with_extra g d.next y))
 
-stored-refuses : (w : World) (f : ℕ) → KeepsStored w (op.Queue (queue_op.Append f) ∷ []) (append_by false w f)
-stored-refuses w f g r y k h = grind (arith, same_is)
+stored-refuses : (w : World) (mark : Mark) (f : ℕ) → KeepsStored w (op.Queue (queue_op.Append f) ∷ []) (append_by false w mark f)
+stored-refuses w mark f g r y k h = grind (arith, same_is)
 
-stored-enters : (p : ℕ) (w : World) → KeepsStored w (op.Table table_op.Enter ∷ []) (enter_by false false p w)
-stored-enters p w g r y k h = let b = footing _ k in
+stored-enters : (mark : Mark) (p : ℕ) (w : World) → KeepsStored w (op.Table (table_op.Enter mark) ∷ []) (enter_by false false mark p w)
+stored-enters mark p w g r y k h = let b = footing _ k in
     grind (arith, same_is, fresh_is, read_push, length-append, readies-push, spent-push)
 
 stored-unlists : (w : World) (f : ℕ) → KeepsStored w (op.Table (table_op.LeaveTable f) ∷ []) (leave_by true w f)
@@ -119,8 +120,8 @@ stored-effect w old _ (turns d m p f v more i j n s a e) g r y k h =
     turned-keeps Sure Stored (λ m x. stands_alone m ≡ true) stored-moved stored-loose
     (λ x y z. sound-passes x y z.passes) (λ x y z b. stored-passes x y z.passes z.handles (footing x b)) w old d m p f v
     more i (λ q u. j) s a e g r y k h
-stored-effect w old d (refuses f e) g r y k h = stored-refuses w f g r y k h
-stored-effect w old d (enters p e) g r y k h = stored-enters p w g r y k h
+stored-effect w old d (refuses f e) g r y k h = stored-refuses w (mark_of w f) f g r y k h
+stored-effect w old d (enters mark p e) g r y k h = stored-enters mark p w g r y k h
 stored-effect w old d (unlists f e) g r y k h = stored-unlists w f g r y k h
 stored-effect w old d (drops p f) g r y k h = stored-drops p f w g r y k h
 stored-effect w old d takes_out g r y k h = stored-takes_out w.table w.waking w g r y k h

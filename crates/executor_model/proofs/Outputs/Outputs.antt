@@ -3,6 +3,7 @@
 use Rattle.std.proofs.Common.{◌≡◌, ℕ, ◌+◌, ◌<◌, ◌≤◌, List, [], ◌∷◌, ◌++◌, true, false, arith}
 use Rattle.std.proofs.lemmas.Bool.Decides.{nat_tests}
 use Rattle.std.specs.Prelude.{slice_set}
+use Rattle.executor_parts.specs.declared.mark.Mark.{Mark}
 use Rattle.task_moves.specs.declared.moves.owed.Move.{Move}
 use Rattle.task_moves.specs.declared.moves.owed.Move.TheVariants as move
 use Rattle.task_moves.proofs.Cases.{by_move}
@@ -79,8 +80,8 @@ KeepsOutput w old d = (g : ℕ) (r : Pend) (y : Extra) → Sure (seen w g (with_
     Given (seen w g (with_ops g old r) (with_extra g old y)) →
     Given (seen d.world g (with_ops g d.next r) (with_extra g d.next y))
 
-out-enters : (p : ℕ) (w : World) → KeepsOutput w (op.Table table_op.Enter ∷ []) (enter_by false false p w)
-out-enters p w g r y b h = grind (arith, same_is, fresh_is, read_push, outputs-push)
+out-enters : (mark : Mark) (p : ℕ) (w : World) → KeepsOutput w (op.Table (table_op.Enter mark) ∷ []) (enter_by false false mark p w)
+out-enters mark p w g r y b h = grind (arith, same_is, fresh_is, read_push, outputs-push)
 
 out-drops : (p f : ℕ) (w : World) → KeepsOutput w (op.User (user_op.BeginDrop f) ∷ []) (begin_drop p w f)
 out-drops p f w g r y b h = grind (arith, outputs-push)
@@ -113,7 +114,7 @@ out-effect w old _ (turns d m p f v more i j n s a e) g r y b h =
     turned-keeps Sure Given (λ m x. stands_alone m ≡ true) given-moved given-loose (λ x y z. sound-passes x y z.passes)
     (λ x y z b. given-passes x y z.passes z.gives) w old d m p f v more i (λ q u. j) s a e g r y b h
 out-effect w old d (refuses f e) g r y b h = grind arith
-out-effect w old d (enters p e) g r y b h = out-enters p w g r y b h
+out-effect w old d (enters mark p e) g r y b h = out-enters mark p w g r y b h
 out-effect w old d (unlists f e) g r y b h = grind arith
 out-effect w old d (drops p f) g r y b h = out-drops p f w g r y b h
 out-effect w old d takes_out g r y b h = out-takes_out w.table w.waking w g r y b h

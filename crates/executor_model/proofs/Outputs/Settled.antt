@@ -4,6 +4,7 @@
 use Rattle.std.proofs.Common.{◌≡◌, ◌⊎◌, ℕ, ◌+◌, ◌<◌, ◌≤◌, List, [], ◌∷◌, ◌++◌, true, false, arith}
 use Rattle.std.proofs.lemmas.Bool.Decides.{nat_tests}
 use Rattle.std.specs.Prelude.{slice_set}
+use Rattle.executor_parts.specs.declared.mark.Mark.{Mark}
 use Rattle.task_moves.specs.declared.moves.owed.Move.{Move}
 use Rattle.task_moves.specs.declared.moves.owed.Move.TheVariants as move
 use Rattle.task_moves.proofs.Cases.{by_move}
@@ -82,8 +83,8 @@ KeepsSettled w old d = (g : ℕ) (r : Pend) (y : Extra) → Sure (seen w g (with
     Settled (seen w g (with_ops g old r) (with_extra g old y)) →
     Settled (seen d.world g (with_ops g d.next r) (with_extra g d.next y))
 
-settle-enters : (p : ℕ) (w : World) → KeepsSettled w (op.Table table_op.Enter ∷ []) (enter_by false false p w)
-settle-enters p w g r y b h = grind (arith, same_is, fresh_is, read_push, outputs-push, readies-push)
+settle-enters : (mark : Mark) (p : ℕ) (w : World) → KeepsSettled w (op.Table (table_op.Enter mark) ∷ []) (enter_by false false mark p w)
+settle-enters mark p w g r y b h = grind (arith, same_is, fresh_is, read_push, outputs-push, readies-push)
 
 settle-drops : (p f : ℕ) (w : World) → KeepsSettled w (op.User (user_op.BeginDrop f) ∷ []) (begin_drop p w f)
 settle-drops p f w g r y b h = grind (arith, outputs-push, readies-push)
@@ -116,7 +117,7 @@ settle-effect w old _ (turns d m p f v more i j n s a e) g r y b h =
     turned-keeps Sure Settled (λ m x. stands_alone m ≡ true) settled-moved settled-loose (λ x y z. sound-passes x y z.passes)
     (λ x y z b. settled-passes x y z.passes z.gives z.handles) w old d m p f v more i (λ q u. j) s a e g r y b h
 settle-effect w old d (refuses f e) g r y b h = grind arith
-settle-effect w old d (enters p e) g r y b h = settle-enters p w g r y b h
+settle-effect w old d (enters mark p e) g r y b h = settle-enters mark p w g r y b h
 settle-effect w old d (unlists f e) g r y b h = grind arith
 settle-effect w old d (drops p f) g r y b h = settle-drops p f w g r y b h
 settle-effect w old d takes_out g r y b h = settle-takes_out w.table w.waking w g r y b h

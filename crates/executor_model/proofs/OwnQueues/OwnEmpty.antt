@@ -34,7 +34,7 @@ use Rattle.executor_model.proofs.OwnQueues.OwnCounts.{counts-begun, counts-empty
 use Rattle.executor_model.proofs.OwnQueues.RunsDone.{to_walk, walk_ends, walk_on}
 use Rattle.executor_model.proofs.OwnQueues.RunsDone.{Deed, keeps, takes, lacks, shares, grows, wakes, lists, deed-act, is_loud, loud}
 use Rattle.executor_model.proofs.OwnQueues.RunsDone.{loud-weigh, walks-by, Stole, More, no_more, one_more, Walks, Missing}
-use Rattle.executor_model.proofs.OwnQueues.RunsDone.{misses_there, Leads, copies, finds, stole, looks}
+use Rattle.executor_model.proofs.OwnQueues.RunsDone.{misses_there, Leads, turns, finds, stole, looks}
 use Rattle.executor_model.proofs.OwnQueues.OwnRooms.{of_coat, Shorter, grown, made-length, needed, of_hull, same-own}
 use Rattle.executor_model.proofs.OwnQueues.OwnRooms.{shorter-taken, registered-own}
 use Rattle.executor_model.proofs.Steps.Ways.{Way, acted, reacted, called}
@@ -71,10 +71,12 @@ empty-there w old d q o s f = record {
 }
 
 quiet-empty : (r : ℕ) (o : Op) → is_loud o ≡ false → empty_of r o ≡ 0
+quiet-empty r (op.Tick (tick_op.Look s look)) e = absurd (cc)
 quiet-empty r (op.Tick (tick_op.CopyWaker s)) e = absurd (cc)
 quiet-empty r (op.Tick (tick_op.FallAsleep s)) e = absurd (cc)
 quiet-empty r (op.List o) e = absurd (cc)
-quiet-empty r (op.Run (run_op.SearchCommon x)) e = absurd (cc)
+quiet-empty r (op.Run (run_op.TakeTurn x)) e = absurd (cc)
+quiet-empty r (op.Run (run_op.SearchCommon x look)) e = absurd (cc)
 quiet-empty r _ e = refl
 
 stays-of : (w : World) (o : Op) (d : Done) → Shorter w d.world →
@@ -101,7 +103,7 @@ missing-empty r q o os (misses_there x at left z) = walks-empty r x os z
 missing-empty r q o os _ = omega arith
 
 leads-empty : (r : ℕ) (o : Op) (os : List Op) → Leads o os → weigh (empty_of r) os ≤ empty_of r o
-leads-empty r o os (copies s t e) = omega (arith, ap (weights.is_run r) e)
+leads-empty r o os (turns s t look e) = omega (arith, ap (weights.is_run r) e)
 leads-empty r o os (finds x z) = omega (arith, stole-empty r x 0 os z)
 leads-empty r o os (stole a z) = omega (arith, stole-empty r _ _ os z)
 leads-empty r o _ (looks x at left {os = os} z) = omega (arith, stole-empty r x 0 os z)
@@ -170,8 +172,10 @@ empty-way s p old rest d (called c q r n z) =
 
 -- who has found the own queue empty uses the run
 empty-uses : (r : ℕ) (o : Op) → running_of r o ≡ 0 → empty_of r o ≡ 0
-empty-uses r (op.Run (run_op.SearchCommon x)) z = z
+empty-uses r (op.Run (run_op.TakeTurn x)) z = z
+empty-uses r (op.Run (run_op.SearchCommon x look)) z = z
 empty-uses r (op.List (list_op.LockRead x)) z = z
+empty-uses r (op.Tick (tick_op.Look s look)) z = z
 empty-uses r (op.Tick (tick_op.CopyWaker s)) z = z
 empty-uses r (op.Tick (tick_op.FallAsleep s)) z = z
 empty-uses r _ z = refl

@@ -190,7 +190,7 @@ module _ (r : ℕ) where
   begins-call p w here call.WakeSelf e =
       begins-with w (log w (event.CallBegun p call.WakeSelf)) (future_of here) _ (one p w _ call.WakeSelf refl)
       (λ f. begins w _ _ (one p w _ call.WakeSelf refl) refl (λ k. refl))
-  begins-call p w here call.Spawn e = begins w _ _ (one p w _ call.Spawn refl) refl (λ k. refl)
+  begins-call p w here (call.Spawn mark) e = begins w _ _ (one p w _ (call.Spawn mark) refl) refl (λ k. refl)
   begins-call p w here call.TryTick e = begins w _ _ (one p w _ call.TryTick refl) refl (λ k. refl)
   begins-call p w here call.IsEmpty e = begins w _ _ (one p w _ call.IsEmpty refl) refl (λ k. refl)
   begins-call p w here (call.PollHandle f b) e = begins w _ _ (one p w _ (call.PollHandle f b) refl) refl (λ k. refl)

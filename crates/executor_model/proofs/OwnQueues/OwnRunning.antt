@@ -36,7 +36,7 @@ use Rattle.executor_model.proofs.OwnQueues.RunsAside.{Hull, apart-act}
 use Rattle.executor_model.proofs.OwnQueues.RunsDone.{to_walk, misses_last}
 use Rattle.executor_model.proofs.OwnQueues.RunsDone.{Deed, keeps, takes, lacks, shares, grows, wakes, lists, deed-act, is_loud, loud}
 use Rattle.executor_model.proofs.OwnQueues.RunsDone.{loud-weigh, poll_in, Stole, More, no_more, one_more, Missing}
-use Rattle.executor_model.proofs.OwnQueues.RunsDone.{Leads, quiet, slumbering, hits, copies, finds, stole, looks}
+use Rattle.executor_model.proofs.OwnQueues.RunsDone.{Leads, quiet, slumbering, turns, finds, stole, looks}
 use Rattle.executor_model.proofs.OwnQueues.RunsSeen.{seen, Seen, seen-act}
 use Rattle.executor_model.proofs.OwnQueues.RunsWatched.{Watched, watched, watched-push}
 use Rattle.executor_model.proofs.OwnQueues.Using.{polling_of}
@@ -141,8 +141,8 @@ missing-keeps r q o os _ = omega arith
 leads-keeps : (r : ℕ) (o : Op) (os : List Op) → Leads o os → keeps_of r o ≤ weigh (keeps_of r) os
 leads-keeps r o os (quiet _ e) = omega (arith, quiet-keeps r o e)
 leads-keeps r o os (slumbering (tick_op.Search s) e) = absurd (cc)
-leads-keeps r o os (hits s t e) = omega (arith, ap (is_run r) e)
-leads-keeps r o os (copies s t e) = omega (arith, ap (is_run r) e)
+leads-keeps r o os (slumbering (tick_op.Look s look) e) = absurd (cc)
+leads-keeps r o os (turns s t look e) = omega (arith, ap (is_run r) e)
 leads-keeps r o os (finds x z) = omega (arith, stole-keeps r x 0 os z)
 leads-keeps r o os (stole a z) = omega (arith, stole-keeps r _ _ os z)
 leads-keeps r o _ (looks x at left {os = os} z) = omega (arith, stole-keeps r x 0 os z)

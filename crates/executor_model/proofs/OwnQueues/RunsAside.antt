@@ -3,6 +3,10 @@
 use Rattle.std.proofs.Common.{◌≡◌, ◌∙◌, ◌+◌, ℕ, zero, suc, List, [], ◌∷◌, ◌++◌, get_or, set, Bool, true, false}
 use Rattle.std.proofs.Common.{refl, sym, ap, arith}
 use Rattle.std.specs.Prelude.{Option, Some, None}
+use Rattle.executor_parts.specs.declared.mark.Mark.TheVariants.{Plain, Urgent}
+use Rattle.executor_model.specs.declared.op.Look.{Look}
+use Rattle.executor_model.specs.declared.op.Look.TheVariants.{First, Second}
+use Rattle.executor_parts.specs.declared.mark.Mark.{Mark}
 use Rattle.task_moves.specs.Moves as moves
 use Rattle.task_moves.specs.declared.moves.owed.Answer.{Answer}
 use Rattle.task_moves.specs.declared.moves.owed.Move.{Move}
@@ -36,7 +40,7 @@ use Rattle.executor_model.specs.Weights.{weigh}
 use Rattle.executor_model.specs.World.{World, Ticker, Stage, Ended, Run, Lock, Done, log, log_if, task, put}
 use Rattle.executor_model.specs.World.{put_run, run_of, no_run, new_run, runs_with, New, among, awaiter_of}
 use Rattle.executor_parts.specs.Sleepers.{Sleepers}
-use Rattle.queue_steps.specs.ClosableQueue.{ClosableQueue}
+use Rattle.executor_model.specs.Queues.{Queues}
 use Rattle.executor_model.specs.SleepersAgree.{hands_of}
 use Rattle.executor_model.proofs.Steps.Lists.{weigh-append, weigh-below}
 use Rattle.executor_model.proofs.Steps.Asides.{aside-entry, Aside, aside-awaiter, aside-owed, aside-let_go, aside-told, aside-closing}
@@ -142,7 +146,7 @@ runs_of _ = 0
 -- what the world has beside futures and the trace
 pub record Rest : Type 0 where
   pub limit : ℕ
-  pub queue : ClosableQueue ℕ
+  pub queue : Queues
   pub ticks : List Ticker
   pub runs : List Run
   pub own : List (List ℕ)
@@ -155,7 +159,7 @@ pub record Rest : Type 0 where
 abbrev pub rest : World → Rest
 rest w = record {
   limit = w.limit;
-  queue = w.queue;
+  queue = w.queues;
   ticks = w.ticks;
   runs = w.runs;
   own = w.own;
@@ -215,10 +219,10 @@ frame-call p w o (Outside x) k = frame w _ refl refl
 
 -- the table
 
-frame-enter : (b c : Bool) (p : ℕ) (w : World) → Frame w (acts.enter_by b c p w)
-frame-enter true c p w = frame w _ refl refl
-frame-enter false true p w = frame w _ refl refl
-frame-enter false false p w = frame w _ refl refl
+frame-enter : (b c : Bool) (mark : Mark) (p : ℕ) (w : World) → Frame w (acts.enter_by b c mark p w)
+frame-enter true c mark p w = frame w _ refl refl
+frame-enter false true mark p w = frame w _ refl refl
+frame-enter false false mark p w = frame w _ refl refl
 
 frame-leave : (b : Bool) (w : World) (f : ℕ) → Frame w (acts.leave_by b w f)
 frame-leave true w f = frame w _ refl (aside-entry bustle_of none w.is_static f)
@@ -310,13 +314,13 @@ is_lone (op.Tick o) = false
 is_lone (op.List o) = false
 is_lone (op.Steal o) = false
 is_lone (op.Run o) = false
-is_lone (op.Closing closing_op.Close) = false
-is_lone (op.Closing closing_op.Drain) = false
+is_lone (op.Closing (closing_op.Close mark)) = false
+is_lone (op.Closing (closing_op.Drain mark)) = false
 is_lone _ = true
 
 pub frame-act : (p : ℕ) (h : Hint) (o : Op) (w : World) → is_lone o ≡ true → Frame w (act p h o w)
 frame-act p h (op.Move m f) w n = frame-move _ m p w w f refl
-frame-act p h (op.Table table_op.Enter) w n = frame-enter _ _ p w
+frame-act p h (op.Table (table_op.Enter mark)) w n = frame-enter _ _ _ p w
 frame-act p h (op.Table (table_op.LeaveTable f)) w n = frame-leave _ w f
 frame-act p h (op.Waker (waker_op.CopyWaker f held)) w n = frame-copy _ w f held
 frame-act p h (op.Waker (waker_op.CallAwaiter f a k)) w n = frame-call p w (of.Handle f) a k
@@ -344,8 +348,8 @@ frame-act p h (op.Tick o) w n = absurd (cc)
 frame-act p h (op.List o) w n = absurd (cc)
 frame-act p h (op.Steal o) w n = absurd (cc)
 frame-act p h (op.Run o) w n = absurd (cc)
-frame-act p h (op.Closing closing_op.Close) w n = absurd (cc)
-frame-act p h (op.Closing closing_op.Drain) w n = absurd (cc)
+frame-act p h (op.Closing (closing_op.Close mark)) w n = absurd (cc)
+frame-act p h (op.Closing (closing_op.Drain mark)) w n = absurd (cc)
 frame-act p h _ w n = frame w _ refl refl
 
 -- it stays, and nothing of a run or tick follows
@@ -370,17 +374,23 @@ apart-frame w d f = apart w d (ap coat_of f.rest)
 
 -- the queue, and who hands out
 
-apart-take : (q : List ℕ) (w : World) → Apart w (acts.take_by w q)
-apart-take [] w = apart w _ refl refl
-apart-take (f ∷ rest) w = apart w _ refl refl
+apart-take : (look : Look) (q : List ℕ) (w : World) → Apart w (acts.take_by w look q)
+apart-take (First mark) [] w = apart w _ refl refl
+apart-take (Second mark) [] w = apart w _ refl refl
+apart-take look (f ∷ rest) w = apart w _ refl refl
 
-apart-drain : (p : ℕ) (w : World) (q : List ℕ) → Apart w (acts.drain_by p w q)
-apart-drain p w [] = apart w _ refl refl
-apart-drain p w (f ∷ rest) = apart w _ refl refl
+apart-drain : (mark : Mark) (p : ℕ) (w : World) (q : List ℕ) → Apart w (acts.drain_by p w mark q)
+apart-drain Urgent p w [] = apart w _ refl refl
+apart-drain Plain p w [] = apart w _ refl refl
+apart-drain mark p w (f ∷ rest) = apart w _ refl refl
 
-apart-append : (b : Bool) (w : World) (f : ℕ) → Apart w (acts.append_by b w f)
-apart-append true w f = apart w _ refl refl
-apart-append false w f = apart w _ refl refl
+apart-close : (mark : Mark) (w : World) → Apart w (acts.close w mark)
+apart-close Urgent w = apart w _ refl refl
+apart-close Plain w = apart w _ refl refl
+
+apart-append : (b : Bool) (w : World) (mark : Mark) (f : ℕ) → Apart w (acts.append_by b w mark f)
+apart-append true w mark f = apart w _ refl refl
+apart-append false w mark f = apart w _ refl refl
 
 apart-exchange : (b : Bool) (w : World) → Apart w (exchange_by b w)
 apart-exchange true w = apart w _ refl refl
@@ -392,8 +402,9 @@ apart-hand_out true None w = apart w _ refl refl
 apart-hand_out true (Some s) w = apart w _ refl refl
 
 pub apart-act : (p : ℕ) (h : Hint) (o : Op) (w : World) → is_run o ≡ false → Apart w (act p h o w)
-apart-act p h (op.Queue queue_op.Take) w n = apart-take _ w
-apart-act p h (op.Queue (queue_op.Append f)) w n = apart-append _ w f
+apart-act p h (op.Queue queue_op.TakeTurn) w n = apart w _ refl refl
+apart-act p h (op.Queue (queue_op.Take look)) w n = apart-take look _ w
+apart-act p h (op.Queue (queue_op.Append f)) w n = apart-append _ w _ f
 apart-act p h (op.User (user_op.PollOwn x)) w n = absurd (cc)
 apart-act p h (op.Sleeper sleeper_op.ExchangeFlag) w n = apart-exchange _ w
 apart-act p h (op.Sleeper sleeper_op.HandOut) w n = apart-hand_out _ _ w
@@ -401,8 +412,8 @@ apart-act p h (op.Tick o) w n = absurd (cc)
 apart-act p h (op.List o) w n = absurd (cc)
 apart-act p h (op.Steal o) w n = absurd (cc)
 apart-act p h (op.Run o) w n = absurd (cc)
-apart-act p h (op.Closing closing_op.Close) w n = apart w _ refl refl
-apart-act p h (op.Closing closing_op.Drain) w n = apart-drain p w _
+apart-act p h (op.Closing (closing_op.Close mark)) w n = apart-close mark w
+apart-act p h (op.Closing (closing_op.Drain mark)) w n = apart-drain mark p w _
 apart-act p h o w n = apart-frame w (act p h o w) (frame-act p h o w refl)
 
 -- a count that is nothing where none of these is

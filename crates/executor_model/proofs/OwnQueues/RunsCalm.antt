@@ -49,12 +49,14 @@ part_list n _ = 0
 
 abbrev pub part_tick : (RunPoll → ℕ) → TickOp → ℕ
 part_tick n (tick_op.Search s) = part_who n s.who s.waker s.poll
+part_tick n (tick_op.Look s look) = part_who n s.who s.waker s.poll
 part_tick n (tick_op.CopyWaker s) = part_who n s.who s.waker s.poll
 part_tick n (tick_op.FallAsleep s) = part_who n s.who s.waker s.poll
 part_tick n _ = 0
 
 abbrev pub part_run : (RunPoll → ℕ) → RunOp → ℕ
-part_run n (run_op.SearchCommon x) = n x
+part_run n (run_op.TakeTurn x) = n x
+part_run n (run_op.SearchCommon x look) = n x
 part_run n (run_op.LookOwn x at left) = n x
 part_run n (run_op.WakeOwn x) = n x
 part_run n _ = 0
@@ -71,6 +73,7 @@ module _ (n : RunPoll → ℕ) where
   quiet-part : (o : Op) → is_loud o ≡ false → part_of n o ≡ 0
   quiet-part (op.User (user_op.PollOwn x)) e = absurd (cc)
   quiet-part (op.Tick (tick_op.Search s)) e = absurd (cc)
+  quiet-part (op.Tick (tick_op.Look s look)) e = absurd (cc)
   quiet-part (op.Tick (tick_op.CopyWaker s)) e = absurd (cc)
   quiet-part (op.Tick (tick_op.FallAsleep s)) e = absurd (cc)
   quiet-part (op.List o) e = absurd (cc)

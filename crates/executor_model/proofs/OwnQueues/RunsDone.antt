@@ -5,6 +5,10 @@ use Rattle.std.proofs.Common.{◌≡◌, ℕ, zero, suc, ◌+◌, ◌/◌, ◌�
 use Rattle.std.proofs.Common.{cond, refl, sym, subst, arith, ◌∙◌}
 use Rattle.std.proofs.lemmas.Bool.Decides.{nat_tests}
 use Rattle.std.specs.Prelude.{Option, Some, None, is_none}
+use Rattle.executor_parts.specs.declared.mark.Mark.{Mark}
+use Rattle.executor_parts.specs.declared.mark.Mark.TheVariants.{Plain, Urgent}
+use Rattle.executor_model.specs.declared.op.Look.{Look}
+use Rattle.executor_model.specs.declared.op.Look.TheVariants.{First, Second}
 use Rattle.executor_parts.specs.Sleepers.{waker_at, waker_of}
 use Rattle.task_moves.specs.declared.moves.owed.Move.TheVariants as move
 use Rattle.executor_model.specs.declared.call.Reply.{Reply}
@@ -37,15 +41,16 @@ use Rattle.executor_model.specs.declared.op.UserOp.TheVariants as user_op
 use Rattle.executor_model.specs.declared.op.Waker.{Waker}
 use Rattle.executor_model.specs.declared.op.Waker.TheVariants.{Task, Outside}
 use Rattle.executor_model.specs.declared.step.Hint.{Hint}
-use Rattle.executor_model.specs.Acts.{is_copy_refused, waker_goes}
+use Rattle.executor_parts.specs.Marks.{first_of, other}
+use Rattle.executor_model.specs.Acts.{is_copy_refused, mark_in, waker_goes}
 use Rattle.executor_model.specs.ActsOfRuns as runs
 use Rattle.executor_model.specs.ActsOfSleepers.{copy_sleeper_by, found_by, wake_up_by, leave_sleepers_by, sleep_again_by}
 use Rattle.executor_model.specs.ActsOfSleepers.{sleep_anew_by, fall_asleep_by, sleep_listed_by, make_tick_by, pend_as}
-use Rattle.executor_model.specs.ActsOfSleepers.{search_by, sleeper_goes, tell_and_return}
+use Rattle.executor_model.specs.ActsOfSleepers.{look_tick_by, sleeper_goes, tell_and_return}
 use Rattle.executor_model.specs.Doing.{act, list_act, run_act, search_by_who, steal_act, tick_act}
 use Rattle.executor_model.specs.OwnQueues.{walks_steal, walks_then}
 use Rattle.executor_model.specs.Weights.{weigh}
-use Rattle.executor_model.specs.World.{World, Ticker, Awake, Asleep, Left, Done, log, own_of, place_of, put_own, run_of}
+use Rattle.executor_model.specs.World.{World, Ticker, Awake, Asleep, Left, Done, log, own_of, place_of, put_own, queue_of, run_of}
 use Rattle.executor_model.proofs.Steps.Lift.{no_hint}
 use Rattle.executor_model.proofs.OwnQueues.RunsAside.{apart-act, coat, is_run, runs_of}
 use Rattle.executor_model.proofs.OwnQueues.RunsMoving.{coat-found, coat-more, coat-search, coat-stolen}
@@ -55,6 +60,7 @@ use Rattle.executor_model.proofs.OwnQueues.RunsMoving.{coat-tick, is_search, wal
 
 abbrev pub is_loud_tick : TickOp → Bool
 is_loud_tick (tick_op.Search s) = true
+is_loud_tick (tick_op.Look s look) = true
 is_loud_tick (tick_op.CopyWaker s) = true
 is_loud_tick (tick_op.FallAsleep s) = true
 is_loud_tick _ = false
@@ -124,9 +130,12 @@ poll_in (steal_op.OwnLength s n) = s.poll
 poll_in (steal_op.Take s more) = s.poll
 poll_in (steal_op.Put s more f) = s.poll
 
--- the end of a steal, in a walk or in none: with what is found the run goes on in one of three ways
+-- the end of a steal, in a walk or in none: with what is found the run goes on in one of four ways
 pub data Stole (x : RunPoll) : ℕ → List Op → Type 0 where
-  to_steal : (f : ℕ) → Stole x 0 (op.Steal (steal_op.Length (record { poll = x; from = Common; then = then.Run f })) ∷ [])
+  to_steal : (f : ℕ) →
+      Stole x 0 (op.Steal (steal_op.Length (record { poll = x; from = Common Urgent; then = then.StealPlain f })) ∷ [])
+  to_steal_plain : (f : ℕ) →
+      Stole x 0 (op.Steal (steal_op.Length (record { poll = x; from = Common Plain; then = then.Run f })) ∷ [])
   to_wake : Stole x 0 (op.Run (run_op.WakeOwn x) ∷ [])
   to_search : Stole x 0 (op.Tick (tick_op.Search (runs.asleep x)) ∷ [])
   to_walk : (at left : ℕ) → Stole x 1 (op.Run (run_op.LookOwn x at left) ∷ [])
@@ -145,7 +154,7 @@ pub data Walks (x : RunPoll) : List Op → Type 0 where
 -- where the own queue of run q was found empty
 pub data Missing : ℕ → Op → List Op → Type 0 where
   misses : (x : RunPoll) →
-      Missing x.run (op.Tick (tick_op.Search (runs.asleep x))) (op.Run (run_op.SearchCommon x) ∷ [])
+      Missing x.run (op.Tick (tick_op.Search (runs.asleep x))) (op.Run (run_op.TakeTurn x) ∷ [])
   misses_there : (x : RunPoll) (at left : ℕ) {os : List Op} → Walks x os →
       Missing x.run (op.Run (run_op.LookOwn x at left)) os
   misses_last : (q : ℕ) (a : Reply) → Missing q (op.Run (run_op.Reschedule q a)) []
@@ -157,17 +166,22 @@ pub data Leads : Op → List Op → Type 0 where
   slumbering : (o : TickOp) → is_search o ≡ false → Leads (op.Tick o) []
   sleeps : (s : Sleeping) → Leads (op.Tick (tick_op.CopyWaker s)) (op.Tick (tick_op.FallAsleep s) ∷ [])
   again : (s : Sleeping) → Leads (op.Tick (tick_op.FallAsleep s)) (op.Tick (tick_op.Search s) ∷ [])
-  hits : (s : Sleeping) (t : ℕ) → s.who ≡ tick_or_run.Tick t → Leads (op.Tick (tick_op.Search s)) []
-  copies : (s : Sleeping) (t : ℕ) → s.who ≡ tick_or_run.Tick t →
-      Leads (op.Tick (tick_op.Search s)) (op.Tick (tick_op.CopyWaker s) ∷ [])
+  turns : (s : Sleeping) (t : ℕ) (l : Look) → s.who ≡ tick_or_run.Tick t →
+      Leads (op.Tick (tick_op.Search s)) (op.Tick (tick_op.Look s l) ∷ [])
+  hits : (s : Sleeping) (l : Look) → Leads (op.Tick (tick_op.Look s l)) []
+  looks_on : (s : Sleeping) (l k : Look) → Leads (op.Tick (tick_op.Look s l)) (op.Tick (tick_op.Look s k) ∷ [])
+  copies : (s : Sleeping) (l : Look) → Leads (op.Tick (tick_op.Look s l)) (op.Tick (tick_op.CopyWaker s) ∷ [])
   finds : (x : RunPoll) {os : List Op} → Stole x 0 os → Leads (op.Tick (tick_op.Search (runs.asleep x))) os
   reads : (s : Steal) (n : ℕ) → Leads (op.Steal (steal_op.Length s)) (op.Steal (steal_op.OwnLength s n) ∷ [])
   stole : (o : StealOp) {os : List Op} → Stole (poll_in o) (walks_steal o) os → Leads (op.Steal o) os
   puts : (s : Steal) (k f : ℕ) → Leads (op.Steal (steal_op.Take s k)) (op.Steal (steal_op.Put s k f) ∷ [])
   rooms : Leads (op.Run run_op.MakeRoom) (op.List (list_op.LockWrite section.MakeRun) ∷ [])
-  locks : (x : RunPoll) → Leads (op.Run (run_op.SearchCommon x)) (op.List (list_op.LockRead x) ∷ [])
-  common : (x : RunPoll) (f : ℕ) → Leads (op.Run (run_op.SearchCommon x))
-      (op.Steal (steal_op.Length (record { poll = x; from = Common; then = then.Found f })) ∷ [])
+  turns_run : (x : RunPoll) (l : Look) → Leads (op.Run (run_op.TakeTurn x)) (op.Run (run_op.SearchCommon x l) ∷ [])
+  searches_on : (x : RunPoll) (l k : Look) →
+      Leads (op.Run (run_op.SearchCommon x l)) (op.Run (run_op.SearchCommon x k) ∷ [])
+  locks : (x : RunPoll) (l : Look) → Leads (op.Run (run_op.SearchCommon x l)) (op.List (list_op.LockRead x) ∷ [])
+  common : (x : RunPoll) (l : Look) (m : Mark) (f : ℕ) → Leads (op.Run (run_op.SearchCommon x l))
+      (op.Steal (steal_op.Length (record { poll = x; from = Common m; then = then.Found f })) ∷ [])
   looks : (x : RunPoll) (at left : ℕ) {os : List Op} → Stole x 0 os →
       Leads (op.Run (run_op.LookOwn x at left)) (op.List list_op.UnlockRead ∷ os)
   schedules : (q : ℕ) (a : Reply) → Leads (op.Run (run_op.Reschedule q a)) (op.Run (run_op.Reschedule q a) ∷ [])
@@ -212,6 +226,7 @@ stole-found w x f =
 
 pub stole-by : (t : Then) (w : World) (x : RunPoll) → Stole x (walks_then t) (loud (runs.stolen t w x).next)
 stole-by (then.Found f) w x = stole-found w x f
+stole-by (then.StealPlain f) w x = to_steal_plain f
 stole-by (then.Run f) w x = stole-run_by _ w x f
 stole-by (then.Walk at left) w x = to_walk at left
 
@@ -241,7 +256,7 @@ deed-take : (q : List ℕ) (w : World) (x : RunPoll) (a : Source) (t : Then) (k 
     (runs.steal_take_by q w (record { poll = x; from = a; then = t }) k)
 deed-take [] w x a t k e =
     keeps (coat-stolen t w x) (stole (steal_op.Take (record { poll = x; from = a; then = t }) k) (stole-by t w x))
-deed-take (f ∷ rest) w x Common t k e = keeps refl (puts (record { poll = x; from = Common; then = t }) k f)
+deed-take (f ∷ rest) w x (Common m) t k e = keeps refl (puts (record { poll = x; from = Common m; then = t }) k f)
 deed-take (f ∷ rest) w x (Own q) t k e = takes q f rest e refl (puts (record { poll = x; from = Own q; then = t }) k f)
 
 deed-put : (b : Bool) (p : ℕ) (w : World) (s : Steal) (k f : ℕ) →
@@ -260,10 +275,11 @@ deed-steal p (steal_op.Put s k f) w = deed-put _ p w s k f
 
 -- what a run alone does
 
-deed-common : (q : List ℕ) (w : World) (x : RunPoll) →
-    Deed w (op.Run (run_op.SearchCommon x)) (runs.search_common_by q w x)
-deed-common [] w x = keeps refl (locks x)
-deed-common (f ∷ rest) w x = keeps refl (common x f)
+deed-common : (look : Look) (q : List ℕ) (w : World) (x : RunPoll) →
+    Deed w (op.Run (run_op.SearchCommon x look)) (runs.search_common_by q w x look)
+deed-common (First mark) [] w x = keeps refl (searches_on x (First mark) (Second (other mark)))
+deed-common (Second mark) [] w x = keeps refl (locks x (Second mark))
+deed-common look (f ∷ rest) w x = keeps refl (common x look (mark_in look) f)
 
 deed-look : (q : List ℕ) (w : World) (x : RunPoll) (at left : ℕ) → own_of w x.run ≡ q →
     Deed w (op.Run (run_op.LookOwn x at left)) (runs.look_own_by q w x at left)
@@ -302,7 +318,8 @@ deed-wake p w (Task g) r k =
 deed-run : (p : ℕ) (h : Hint) (o : RunOp) (w : World) → Deed w (op.Run o) (run_act p h o w)
 deed-run p h run_op.MakeRoom w = deed-room _ w
 deed-run p h run_op.ReturnRoom w = keeps refl (quiet _ refl)
-deed-run p h (run_op.SearchCommon x) w = deed-common _ w x
+deed-run p h (run_op.TakeTurn x) w = keeps refl (turns_run x (First (first_of w.urgent_turns)))
+deed-run p h (run_op.SearchCommon x look) w = deed-common look _ w x
 deed-run p h (run_op.LookOwn x at left) w = deed-look _ w x at left refl
 deed-run p h (run_op.WakeOwn x) w = deed-wake p w x.waker x.run x.poll
 deed-run p h (run_op.Reschedule r a) w = deed-reschedule _ w r a refl
@@ -372,12 +389,13 @@ leads-make : (b : Bool) (w : World) → Leads (op.Tick tick_op.MakeTick) (loud (
 leads-make true w = slumbering _ refl
 leads-make false w = slumbering _ refl
 
-leads-search : (x : Ticker) (q : List ℕ) (w : World) (s : Sleeping) (t : ℕ) → s.who ≡ tick_or_run.Tick t →
-    Leads (op.Tick (tick_op.Search s)) (loud (search_by x w q s).next)
-leads-search x [] w s t e = copies s t e
-leads-search Awake (f ∷ rest) w s t e = hits s t e
-leads-search (Asleep n) (f ∷ rest) w s t e = hits s t e
-leads-search Left (f ∷ rest) w s t e = hits s t e
+leads-look : (look : Look) (x : Ticker) (q : List ℕ) (w : World) (s : Sleeping) →
+    Leads (op.Tick (tick_op.Look s look)) (loud (look_tick_by x w look q s).next)
+leads-look (First mark) x [] w s = looks_on s (First mark) (Second (other mark))
+leads-look (Second mark) x [] w s = copies s (Second mark)
+leads-look look Awake (f ∷ rest) w s = hits s look
+leads-look look (Asleep n) (f ∷ rest) w s = hits s look
+leads-look look Left (f ∷ rest) w s = hits s look
 
 deed-own : (q : List ℕ) (w : World) (x : RunPoll) → own_of w x.run ≡ q →
     Deed w (op.Tick (tick_op.Search (runs.asleep x))) (runs.search_own_by q w x)
@@ -385,22 +403,25 @@ deed-own [] w x e = lacks x.run e refl (misses x)
 deed-own (f ∷ rest) w x e =
     let v = put_own w x.run rest in takes x.run f rest e (coat-found v x f) (finds x (stole-found v x f))
 
-deed-search : (who : TickOrRun) (a : Waker) (k : ℕ) (w : World) →
+deed-search : (who : TickOrRun) (p : ℕ) (a : Waker) (k : ℕ) (w : World) →
     Deed w (op.Tick (tick_op.Search (record { waker = a; who = who; poll = k })))
-    (search_by_who who w (record { waker = a; who = who; poll = k }))
-deed-search (tick_or_run.Tick t) a k w =
+    (search_by_who who p w (record { waker = a; who = who; poll = k }))
+deed-search (tick_or_run.Tick t) p a k w =
     let s : Sleeping = record { waker = a; who = tick_or_run.Tick t; poll = k } in
-    keeps (coat-search (place_of w s.who) w.queue.items w s) (leads-search (place_of w s.who) w.queue.items w s t refl)
-deed-search (tick_or_run.Run r) a k w = deed-own _ w (record { run = r; waker = a; poll = k }) refl
+    keeps refl (turns s t (First (first_of w.urgent_turns)) refl)
+deed-search (tick_or_run.Run r) p a k w = deed-own _ w (record { run = r; waker = a; poll = k }) refl
 
-deed-tick : (h : Hint) (o : TickOp) (w : World) → Deed w (op.Tick o) (tick_act h o w)
-deed-tick h (tick_op.Search s) w = deed-search s.who s.waker s.poll w
-deed-tick h tick_op.MakeTick w = keeps (coat-tick h tick_op.MakeTick w refl) (leads-make h.refused w)
-deed-tick h (tick_op.CopyWaker s) w =
-    keeps (coat-tick h (tick_op.CopyWaker s) w refl) (leads-copy (is_copy_refused h w s.waker) w s)
-deed-tick h (tick_op.FallAsleep s) w = keeps (coat-tick h (tick_op.FallAsleep s) w refl) (leads-sleep (place_of w s.who) w s)
-deed-tick h (tick_op.WakeUp t) w = keeps (coat-tick h (tick_op.WakeUp t) w refl) (leads-up (place_of w t) w t)
-deed-tick h (tick_op.Leave t) w = keeps (coat-tick h (tick_op.Leave t) w refl) (leads-leave (place_of w t) w t)
+deed-tick : (p : ℕ) (h : Hint) (o : TickOp) (w : World) → Deed w (op.Tick o) (tick_act p h o w)
+deed-tick p h (tick_op.Search s) w = deed-search s.who p s.waker s.poll w
+deed-tick p h (tick_op.Look s look) w =
+    let q = (queue_of w (mark_in look)).items in
+    keeps (coat-search look (place_of w s.who) q w s) (leads-look look (place_of w s.who) q w s)
+deed-tick p h tick_op.MakeTick w = keeps (coat-tick p h tick_op.MakeTick w refl) (leads-make h.refused w)
+deed-tick p h (tick_op.CopyWaker s) w =
+    keeps (coat-tick p h (tick_op.CopyWaker s) w refl) (leads-copy (is_copy_refused h w s.waker) w s)
+deed-tick p h (tick_op.FallAsleep s) w = keeps (coat-tick p h (tick_op.FallAsleep s) w refl) (leads-sleep (place_of w s.who) w s)
+deed-tick p h (tick_op.WakeUp t) w = keeps (coat-tick p h (tick_op.WakeUp t) w refl) (leads-up (place_of w t) w t)
+deed-tick p h (tick_op.Leave t) w = keeps (coat-tick p h (tick_op.Leave t) w refl) (leads-leave (place_of w t) w t)
 
 -- each thing to do
 
@@ -409,7 +430,7 @@ deed-by false p h o w e =
     let a = apart-act p h o w e in
     keeps a.coat (subst (Leads o) (sym (quiet-all (act p h o w).next a.runs)) (quiet o (quiet-aside o e)))
 deed-by true p h (op.User (user_op.PollOwn x)) w e = keeps refl (polls x)
-deed-by true p h (op.Tick o) w e = deed-tick h o w
+deed-by true p h (op.Tick o) w e = deed-tick p h o w
 deed-by true p h (op.List o) w e = lists h o
 deed-by true p h (op.Steal o) w e = deed-steal p o w
 deed-by true p h (op.Run o) w e = deed-run p h o w

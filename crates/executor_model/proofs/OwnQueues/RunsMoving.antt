@@ -5,6 +5,9 @@
 use Rattle.std.proofs.Common.{◌≡◌, ◌∙◌, ℕ, zero, suc, ◌+◌, List, [], ◌∷◌, Bool, true, false, eqb}
 use Rattle.std.proofs.Common.{refl, ap, arith}
 use Rattle.std.specs.Prelude.{Option, Some, None}
+use Rattle.executor_parts.specs.declared.mark.Mark.TheVariants.{Plain, Urgent}
+use Rattle.executor_model.specs.declared.op.Look.{Look}
+use Rattle.executor_model.specs.declared.op.Look.TheVariants.{First, Second}
 use Rattle.task_moves.specs.declared.moves.owed.Move.TheVariants as move
 use Rattle.executor_model.specs.declared.op.ListOp.TheVariants as list_op
 use Rattle.executor_model.specs.declared.op.Op.{Op}
@@ -28,11 +31,11 @@ use Rattle.executor_model.specs.declared.step.Hint.{Hint}
 use Rattle.executor_model.specs.Acts.{copied}
 use Rattle.executor_model.specs.ActsOfRuns as runs
 use Rattle.executor_model.specs.ActsOfSleepers.{copy_sleeper_by, found_by, wake_up_by, leave_sleepers_by, sleep_again_by}
-use Rattle.executor_model.specs.ActsOfSleepers.{sleep_anew_by, fall_asleep_by, sleep_listed_by, make_tick_by, search_by}
+use Rattle.executor_model.specs.ActsOfSleepers.{sleep_anew_by, fall_asleep_by, sleep_listed_by, make_tick_by, look_tick_by}
 use Rattle.executor_model.specs.Doing.{tick_act}
 use Rattle.executor_model.specs.Weights.{weigh}
 use Rattle.executor_model.specs.declared.op.Awaiter.{Awaiter}
-use Rattle.queue_steps.specs.ClosableQueue.{ClosableQueue}
+use Rattle.executor_model.specs.Queues.{Queues}
 use Rattle.executor_model.specs.Trace.{Trace}
 use Rattle.executor_model.specs.World.{World, Ticker, Awake, Asleep, Left, run_of, runs_with}
 use Rattle.executor_model.proofs.Steps.Lists.{weigh-append}
@@ -55,6 +58,7 @@ coat-found w x f = coat-counted _ w x f
 
 pub coat-stolen : (t : Then) (w : World) (x : RunPoll) → coat w ≡ coat (runs.stolen t w x).world
 coat-stolen (then.Found f) w x = coat-found w x f
+coat-stolen (then.StealPlain f) w x = refl
 coat-stolen (then.Run f) w x = coat-run_by _ w x f
 coat-stolen (then.Walk at left) w x = refl
 
@@ -62,15 +66,17 @@ pub coat-more : (n : ℕ) (w : World) (s : Steal) → coat w ≡ coat (runs.stea
 coat-more zero w s = coat-stolen s.then w s.poll
 coat-more (suc n) w s = refl
 
-pub coat-common : (q : List ℕ) (w : World) (x : RunPoll) → coat w ≡ coat (runs.search_common_by q w x).world
-coat-common [] w x = refl
-coat-common (f ∷ rest) w x = refl
+pub coat-common : (look : Look) (q : List ℕ) (w : World) (x : RunPoll) → coat w ≡ coat (runs.search_common_by q w x look).world
+coat-common (First mark) [] w x = refl
+coat-common (Second mark) [] w x = refl
+coat-common look (f ∷ rest) w x = refl
 
 -- a tick's operations but its search, and a search of a tick
 
-pub coat-search : (x : Ticker) (q : List ℕ) (w : World) (s : Sleeping) → coat w ≡ coat (search_by x w q s).world
-coat-search x [] w s = refl
-coat-search x (f ∷ rest) w s = refl
+pub coat-search : (look : Look) (x : Ticker) (q : List ℕ) (w : World) (s : Sleeping) → coat w ≡ coat (look_tick_by x w look q s).world
+coat-search (First mark) x [] w s = refl
+coat-search (Second mark) x [] w s = refl
+coat-search look x (f ∷ rest) w s = refl
 
 -- what no operation of a tick but its search changes
 pub record Wide : Type 0 where
@@ -78,7 +84,7 @@ pub record Wide : Type 0 where
   pub limit : ℕ
   pub awaiters : List (Option Awaiter)
   pub inside : List Bool
-  pub queue : ClosableQueue ℕ
+  pub queue : Queues
   pub table : List ℕ
   pub leaving : List ℕ
   pub waking : List ℕ
@@ -91,7 +97,7 @@ wide_with c w = record {
   limit = w.limit;
   awaiters = w.awaiters;
   inside = w.inside;
-  queue = w.queue;
+  queue = w.queues;
   table = w.table;
   leaving = w.leaving;
   waking = w.waking;
@@ -146,18 +152,20 @@ wide-leave Left w t = refl
 
 abbrev pub is_search : TickOp → Bool
 is_search (tick_op.Search s) = true
+is_search (tick_op.Look s look) = true
 is_search _ = false
 
-pub wide-tick : (h : Hint) (o : TickOp) (w : World) → is_search o ≡ false → wide w ≡ wide (tick_act h o w).world
-wide-tick h tick_op.MakeTick w e = wide-make _ w
-wide-tick h (tick_op.Search s) w e = absurd (cc)
-wide-tick h (tick_op.CopyWaker s) w e = wide-copy _ w s
-wide-tick h (tick_op.FallAsleep s) w e = wide-sleep _ w s
-wide-tick h (tick_op.WakeUp t) w e = wide-up _ w t
-wide-tick h (tick_op.Leave t) w e = wide-leave _ w t
+pub wide-tick : (p : ℕ) (h : Hint) (o : TickOp) (w : World) → is_search o ≡ false → wide w ≡ wide (tick_act p h o w).world
+wide-tick p h tick_op.MakeTick w e = wide-make _ w
+wide-tick p h (tick_op.Search s) w e = absurd (cc)
+wide-tick p h (tick_op.Look s look) w e = absurd (cc)
+wide-tick p h (tick_op.CopyWaker s) w e = wide-copy _ w s
+wide-tick p h (tick_op.FallAsleep s) w e = wide-sleep _ w s
+wide-tick p h (tick_op.WakeUp t) w e = wide-up _ w t
+wide-tick p h (tick_op.Leave t) w e = wide-leave _ w t
 
-pub coat-tick : (h : Hint) (o : TickOp) (w : World) → is_search o ≡ false → coat w ≡ coat (tick_act h o w).world
-coat-tick h o w e = ap (λ (x : Wide). x.coat) (wide-tick h o w e)
+pub coat-tick : (p : ℕ) (h : Hint) (o : TickOp) (w : World) → is_search o ≡ false → coat w ≡ coat (tick_act p h o w).world
+coat-tick p h o w e = ap (λ (x : Wide). x.coat) (wide-tick p h o w e)
 
 pub coat-sleep : (x : Ticker) (w : World) (s : Sleeping) → coat w ≡ coat (fall_asleep_by x w s).world
 coat-sleep x w s = ap (λ (y : Wide). y.coat) (wide-sleep x w s)
@@ -183,16 +191,21 @@ pub record Weighs (v : Op → ℕ) (x : RunPoll) (found walks : ℕ) : Type 0 wh
   pub take_up : (f : ℕ) → v (op.Move move.TakeUp f) ≡ 0
   pub search : v (op.Tick (tick_op.Search (runs.asleep x))) ≡ found
   pub wake : v (op.Run (run_op.WakeOwn x)) ≡ found
-  pub steal : (f : ℕ) → v (op.Steal (steal_op.Length (record { poll = x; from = Common; then = then.Run f }))) ≡ found
+  pub steal : (f : ℕ) →
+      v (op.Steal (steal_op.Length (record { poll = x; from = Common Urgent; then = then.StealPlain f }))) ≡ found
+  pub steal_plain : (f : ℕ) →
+      v (op.Steal (steal_op.Length (record { poll = x; from = Common Plain; then = then.Run f }))) ≡ found
   pub look : (at left : ℕ) → v (op.Run (run_op.LookOwn x at left)) ≡ walks
 
 abbrev pub by_then : ℕ → ℕ → Then → ℕ
 by_then found walks (then.Found f) = found
+by_then found walks (then.StealPlain f) = found
 by_then found walks (then.Run f) = found
 by_then found walks (then.Walk at left) = walks
 
 pub nothing-by : (t : Then) → by_then 0 0 t ≡ 0
 nothing-by (then.Found f) = refl
+nothing-by (then.StealPlain f) = refl
 nothing-by (then.Run f) = refl
 nothing-by (then.Walk at left) = refl
 
@@ -223,6 +236,7 @@ module _ (v : Op → ℕ) (x : RunPoll) (n m : ℕ) (z : Weighs v x n m) where
 
   pub weighs-stolen : (t : Then) (w : World) → weigh v (runs.stolen t w x).next ≡ by_then n m t
   weighs-stolen (then.Found f) w = weighs-found w f
+  weighs-stolen (then.StealPlain f) w = omega (arith, z.steal_plain f)
   weighs-stolen (then.Run f) w = weighs-run_by _ w f
   weighs-stolen (then.Walk at left) w = omega (arith, z.look at left)
 
@@ -248,11 +262,12 @@ walk-by Q x ends steals qs at (suc left) = by (eqb (runs.queue_at qs at) x.run)
     by false z = steals _ _ _
 
 -- for counts that see nothing of ticks
-pub slumbering-blind : (v : Op → ℕ) → Blind v → (h : Hint) (o : TickOp) (w : World) → is_search o ≡ false →
-    weigh v (tick_act h o w).next ≡ 0
-slumbering-blind v u h tick_op.MakeTick w e = make-blind v u _ w
-slumbering-blind v u h (tick_op.Search s) w e = absurd (cc)
-slumbering-blind v u h (tick_op.CopyWaker s) w e = copy-blind v u _ w s
-slumbering-blind v u h (tick_op.FallAsleep s) w e = sleep-blind v u _ w s
-slumbering-blind v u h (tick_op.WakeUp t) w e = up-blind v u _ w t
-slumbering-blind v u h (tick_op.Leave t) w e = leave-blind v u _ w t
+pub slumbering-blind : (v : Op → ℕ) → Blind v → (p : ℕ) (h : Hint) (o : TickOp) (w : World) → is_search o ≡ false →
+    weigh v (tick_act p h o w).next ≡ 0
+slumbering-blind v u p h tick_op.MakeTick w e = make-blind v u _ w
+slumbering-blind v u p h (tick_op.Search s) w e = absurd (cc)
+slumbering-blind v u p h (tick_op.Look s look) w e = absurd (cc)
+slumbering-blind v u p h (tick_op.CopyWaker s) w e = copy-blind v u _ w s
+slumbering-blind v u p h (tick_op.FallAsleep s) w e = sleep-blind v u _ w s
+slumbering-blind v u p h (tick_op.WakeUp t) w e = up-blind v u _ w t
+slumbering-blind v u p h (tick_op.Leave t) w e = leave-blind v u _ w t

@@ -40,6 +40,7 @@ polling-who r (tick_or_run.Run q) a k = refl
 
 polling-part : (r : ℕ) (o : Op) → part_of (λ x. same r x.run) o ≡ polling_of r o
 polling-part r (op.Tick (tick_op.Search s)) = polling-who r s.who s.waker s.poll
+polling-part r (op.Tick (tick_op.Look s look)) = polling-who r s.who s.waker s.poll
 polling-part r (op.Tick (tick_op.CopyWaker s)) = polling-who r s.who s.waker s.poll
 polling-part r (op.Tick (tick_op.FallAsleep s)) = polling-who r s.who s.waker s.poll
 polling-part r (op.List (list_op.LockWrite (section.Register x))) = refl
@@ -78,6 +79,7 @@ few-section r k (section.Unregister q a) = omega arith
 pub stray-polls : (r k : ℕ) (o : Op) → stray_of r k o ≤ polling_of r o
 stray-polls r k (op.User (user_op.PollOwn x)) = few r k x.run x.poll
 stray-polls r k (op.Tick (tick_op.Search s)) = few-who r k s.who s.waker s.poll
+stray-polls r k (op.Tick (tick_op.Look s look)) = few-who r k s.who s.waker s.poll
 stray-polls r k (op.Tick (tick_op.CopyWaker s)) = few-who r k s.who s.waker s.poll
 stray-polls r k (op.Tick (tick_op.FallAsleep s)) = few-who r k s.who s.waker s.poll
 stray-polls r k (op.List (list_op.LockWrite s)) = few-section r k s
@@ -87,7 +89,8 @@ stray-polls r k (op.Steal (steal_op.Length s)) = few r k s.poll.run s.poll.poll
 stray-polls r k (op.Steal (steal_op.OwnLength s n)) = few r k s.poll.run s.poll.poll
 stray-polls r k (op.Steal (steal_op.Take s more)) = few r k s.poll.run s.poll.poll
 stray-polls r k (op.Steal (steal_op.Put s more f)) = few r k s.poll.run s.poll.poll
-stray-polls r k (op.Run (run_op.SearchCommon x)) = few r k x.run x.poll
+stray-polls r k (op.Run (run_op.TakeTurn x)) = few r k x.run x.poll
+stray-polls r k (op.Run (run_op.SearchCommon x look)) = few r k x.run x.poll
 stray-polls r k (op.Run (run_op.LookOwn x at left)) = few r k x.run x.poll
 stray-polls r k (op.Run (run_op.WakeOwn x)) = few r k x.run x.poll
 stray-polls r k _ = omega arith

@@ -182,6 +182,7 @@ reads-push r es (event.TickPolled p c) s h = reads-other r es _ s refl h
 reads-push r es (event.TickDropped p c) s h = reads-other r es _ s refl h
 reads-push r es (event.RunDropped p c) s h = reads-other r es _ s refl h
 reads-push r es (event.Kept p c q) s h = reads-other r es _ s refl h
+reads-push r es (event.Looked p m) s h = reads-other r es _ s refl h
 reads-push r es (event.DropBegun p) s h = reads-other r es _ s refl h
 reads-push r es (event.DropEnded p) s h = reads-other r es _ s refl h
 

@@ -4,6 +4,10 @@
 use Rattle.std.proofs.Common.{◌≡◌, ◌≤◌, ℕ, List, [], ◌∷◌, ◌++◌, length, Bool, true, false}
 use Rattle.std.proofs.Common.{refl, arith}
 use Rattle.std.specs.Prelude.{Option, Some, None}
+use Rattle.executor_parts.specs.Marks.{first_of, other}
+use Rattle.executor_model.specs.declared.op.Look.{Look}
+use Rattle.executor_model.specs.declared.op.Look.TheVariants.{First, Second}
+use Rattle.executor_parts.specs.declared.mark.Mark.{Mark}
 use Rattle.task_moves.specs.declared.moves.owed.Answer.{Answer}
 use Rattle.task_moves.specs.declared.moves.owed.Move.TheVariants as move
 use Rattle.task_moves.specs.declared.moves.owed.Moved.{Moved}
@@ -61,13 +65,15 @@ polling_list r (list_op.LockRead x) = same r x.run
 polling_list r _ = 0
 
 abbrev pub polling_run : ℕ → RunOp → ℕ
-polling_run r (run_op.SearchCommon x) = same r x.run
+polling_run r (run_op.TakeTurn x) = same r x.run
+polling_run r (run_op.SearchCommon x look) = same r x.run
 polling_run r (run_op.LookOwn x at left) = same r x.run
 polling_run r (run_op.WakeOwn x) = same r x.run
 polling_run r _ = 0
 
 abbrev pub polling_of : ℕ → Op → ℕ
 polling_of r (op.Tick (tick_op.Search s)) = is_run r s.who
+polling_of r (op.Tick (tick_op.Look s look)) = is_run r s.who
 polling_of r (op.Tick (tick_op.CopyWaker s)) = is_run r s.who
 polling_of r (op.Tick (tick_op.FallAsleep s)) = is_run r s.who
 polling_of r (op.User (user_op.PollOwn x)) = same r x.run
@@ -98,6 +104,7 @@ lending_of r _ = 0
 -- what uses a run, or may
 abbrev pub is_for_runs : Op → Bool
 is_for_runs (op.Tick (tick_op.Search s)) = true
+is_for_runs (op.Tick (tick_op.Look s look)) = true
 is_for_runs (op.Tick (tick_op.CopyWaker s)) = true
 is_for_runs (op.Tick (tick_op.FallAsleep s)) = true
 is_for_runs (op.User (user_op.PollOwn x)) = true
@@ -115,6 +122,7 @@ pub record Mild (v : Op → ℕ) : Type 0 where
   pub spawned : (a : Reply) (f : ℕ) → v (op.End a (hold.Spawned f)) ≡ 0
   pub handle : (a : Reply) (f : ℕ) → v (op.End a (hold.Handle f)) ≡ 0
   pub handles : (o : HandleOp) → v (op.Handle o) ≡ 0
+  pub take : (look : Look) → v (op.Queue (queue_op.Take look)) ≡ 0
 
 same-few : (r q : ℕ) → same r q ≤ 1
 same-few r q = grind (arith, same_is)
@@ -134,13 +142,15 @@ section-few r (section.Unregister q a) = same-few r q
 
 running-few : (r : ℕ) (o : Op) → running_of r o ≤ calling_of o
 running-few r (op.Move move.Wake f) = omega arith
-running-few r (op.Table table_op.Enter) = omega arith
-running-few r (op.Queue queue_op.Take) = omega arith
+running-few r (op.Table (table_op.Enter mark)) = omega arith
+running-few r (op.Queue queue_op.TakeTurn) = omega arith
+running-few r (op.Queue (queue_op.Take look)) = omega arith
 running-few r (op.User (user_op.PollOwn x)) = same-few r x.run
 running-few r (op.Waker (waker_op.CopyWaker f held)) = omega arith
 running-few r (op.Handle (handle_op.LookAgain f)) = omega arith
 running-few r (op.Sleeper sleeper_op.HandOut) = omega arith
 running-few r (op.Tick (tick_op.Search s)) = is-few r s.who
+running-few r (op.Tick (tick_op.Look s look)) = is-few r s.who
 running-few r (op.Tick (tick_op.CopyWaker s)) = is-few r s.who
 running-few r (op.Tick (tick_op.FallAsleep s)) = is-few r s.who
 running-few r (op.List (list_op.LockWrite s)) = section-few r s
@@ -150,21 +160,24 @@ running-few r (op.Steal (steal_op.Length s)) = same-few r s.poll.run
 running-few r (op.Steal (steal_op.OwnLength s n)) = same-few r s.poll.run
 running-few r (op.Steal (steal_op.Take s more)) = same-few r s.poll.run
 running-few r (op.Steal (steal_op.Put s more f)) = same-few r s.poll.run
-running-few r (op.Run (run_op.SearchCommon x)) = same-few r x.run
+running-few r (op.Run (run_op.TakeTurn x)) = same-few r x.run
+running-few r (op.Run (run_op.SearchCommon x look)) = same-few r x.run
 running-few r (op.Run (run_op.LookOwn x at left)) = same-few r x.run
 running-few r (op.Run (run_op.WakeOwn x)) = same-few r x.run
 running-few r (op.Run (run_op.Reschedule q a)) = same-few r q
-running-few r (op.Closing closing_op.Drain) = omega arith
+running-few r (op.Closing (closing_op.Drain mark)) = omega arith
 running-few r (op.End a held) = holds-few r held
 running-few r _ = omega arith
 
 pub polling-uses : (r : ℕ) (o : Op) → polling_of r o ≤ running_of r o
 polling-uses r (op.Tick (tick_op.Search s)) = omega arith
+polling-uses r (op.Tick (tick_op.Look s look)) = omega arith
 polling-uses r (op.User (user_op.PollOwn x)) = omega arith
 polling-uses r (op.List (list_op.LockWrite section.MakeRun)) = omega arith
 polling-uses r (op.List (list_op.Write section.MakeRun)) = omega arith
 polling-uses r (op.Steal (steal_op.Length s)) = omega arith
-polling-uses r (op.Run (run_op.SearchCommon x)) = omega arith
+polling-uses r (op.Run (run_op.TakeTurn x)) = omega arith
+polling-uses r (op.Run (run_op.SearchCommon x look)) = omega arith
 polling-uses r _ = omega arith
 
 pub emptying-uses : (r : ℕ) (o : Op) → emptying_of r o ≤ running_of r o
@@ -184,6 +197,7 @@ mild-running r = record {
   spawned = λ a f. refl;
   handle = λ a f. refl;
   handles = by;
+  take = λ look. refl;
 }
   where
     by : (o : HandleOp) → running_of r (op.Handle o) ≡ 0
@@ -197,6 +211,7 @@ mild-polling r = record {
   spawned = λ a f. refl;
   handle = λ a f. refl;
   handles = λ o. refl;
+  take = λ look. refl;
 }
 
 pub mild-lending : (r : ℕ) → Mild (lending_of r)
@@ -206,6 +221,7 @@ mild-lending r = record {
   spawned = λ a f. refl;
   handle = λ a f. refl;
   handles = λ o. refl;
+  take = λ look. refl;
 }
 
 -- what uses no run leads to nothing that does
@@ -226,19 +242,20 @@ module _ (v : Op → ℕ) (m : Mild v) where
     goes = λ f. mild-none (op.Handle (handle_op.LetGo f)) refl;
   }
 
-  mild-take : (q : List ℕ) (w : World) → weigh v (acts.take_by w q).next ≡ 0
-  mild-take [] w = omega (arith, m.executor)
-  mild-take (f ∷ rest) w = omega (
+  mild-take : (look : Look) (q : List ℕ) (w : World) → weigh v (acts.take_by w look q).next ≡ 0
+  mild-take (First mark) [] w = omega (arith, m.take (Second (other mark)))
+  mild-take (Second mark) [] w = omega (arith, m.executor)
+  mild-take look (f ∷ rest) w = omega (
     arith,
     m.executor,
     mild-none (op.Sleeper sleeper_op.ExchangeFlag) refl,
     mild-none (op.Move move.TakeUp f) refl,
   )
 
-  mild-enter : (b c : Bool) (p : ℕ) (w : World) → weigh v (acts.enter_by b c p w).next ≡ 0
-  mild-enter true c p w = omega (arith, m.executor)
-  mild-enter false true p w = omega (arith, m.executor)
-  mild-enter false false p w = omega (arith, m.spawned, mild-none (op.Queue (queue_op.Append (length w.tasks))) refl)
+  mild-enter : (b c : Bool) (mark : Mark) (p : ℕ) (w : World) → weigh v (acts.enter_by b c mark p w).next ≡ 0
+  mild-enter true c mark p w = omega (arith, m.executor)
+  mild-enter false true mark p w = omega (arith, m.executor)
+  mild-enter false false mark p w = omega (arith, m.spawned, mild-none (op.Queue (queue_op.Append (length w.tasks))) refl)
 
   mild-answered : (p : ℕ) (w : World) (f : ℕ) (x : Moved) (a : Answer) → weigh v (acts.answered p w f x a).next ≡ 0
   mild-answered p w f x a = omega (
@@ -287,8 +304,9 @@ module _ (v : Op → ℕ) (m : Mild v) where
   mild-make false w = omega (arith, m.executor)
 
   pub mild-next : (p : ℕ) (h : Hint) (o : Op) (w : World) → is_for_runs o ≡ false → weigh v (act p h o w).next ≡ 0
-  mild-next p h (op.Table table_op.Enter) w n = mild-enter _ _ p w
-  mild-next p h (op.Queue queue_op.Take) w n = mild-take _ w
+  mild-next p h (op.Table (table_op.Enter mark)) w n = mild-enter _ _ _ p w
+  mild-next p h (op.Queue queue_op.TakeTurn) w n = omega (arith, m.take (First (first_of w.urgent_turns)))
+  mild-next p h (op.Queue (queue_op.Take look)) w n = mild-take look _ w
   mild-next p h (op.Table table_op.LookAtTable) w n = omega (arith, m.executor (acts.emptiness w.table))
   mild-next p h (op.Handle (handle_op.Look f a)) w n =
       mild-look (moves.poll (task w f)).owed.answer p w f a (moves.poll (task w f))
@@ -299,6 +317,7 @@ module _ (v : Op → ℕ) (m : Mild v) where
       mild-again (moves.look_again (task w f)).owed.answer p w f (moves.look_again (task w f))
   mild-next p h (op.Tick tick_op.MakeTick) w n = mild-make h.refused w
   mild-next p h (op.Tick (tick_op.Search s)) w n = absurd (cc)
+  mild-next p h (op.Tick (tick_op.Look s look)) w n = absurd (cc)
   mild-next p h (op.Tick (tick_op.CopyWaker s)) w n = absurd (cc)
   mild-next p h (op.Tick (tick_op.FallAsleep s)) w n = absurd (cc)
   mild-next p h (op.User (user_op.PollOwn x)) w n = absurd (cc)

@@ -5,6 +5,9 @@ use Rattle.std.proofs.Common.{Bool, true, false, ◌||◌, ltb}
 use Rattle.std.proofs.Common.{refl, sym, ap, ◌∙◌, subst, inl, inr, ⊎_elim, arith, get_or-set_other}
 use Rattle.std.proofs.lemmas.List.{length-append}
 use Rattle.std.specs.Prelude.{Option, Some, None}
+use Rattle.executor_parts.specs.Marks.{first_of}
+use Rattle.executor_model.specs.declared.op.Look.{Look}
+use Rattle.executor_model.specs.declared.op.Look.TheVariants.{First, Second}
 use Rattle.executor_parts.specs.Sleepers.{waker_at}
 use Rattle.executor_model.specs.declared.call.Reply.{Reply}
 use Rattle.executor_model.specs.declared.call.Reply.TheVariants as reply
@@ -39,7 +42,7 @@ use Rattle.task_moves.specs.declared.moves.owed.Move.TheVariants as move
 use Rattle.executor_model.specs.Acts.{copy_by}
 use Rattle.executor_model.specs.ActsOfSleepers.{copy_sleeper_by, held_as, sleep_again_by, sleep_anew_by, fall_asleep_by}
 use Rattle.executor_model.specs.ActsOfSleepers.{sleep_listed_by}
-use Rattle.executor_model.specs.ActsOfSleepers.{pend_as, search_by, sleeper_goes}
+use Rattle.executor_model.specs.ActsOfSleepers.{pend_as, look_tick_by, sleeper_goes}
 use Rattle.executor_model.specs.ActsOfRuns.{call_by_reference, free_places, kept_by, make_room_by, make_run_by}
 use Rattle.executor_model.specs.ActsOfRuns.{registered}
 use Rattle.executor_model.specs.ActsOfRuns.{reschedule_by, search_own, steal_by, steal_put_by, unregistered, wake_own}
@@ -59,7 +62,7 @@ use Rattle.executor_model.proofs.OwnQueues.Using.{Mild, emptying_of, is_for_runs
 use Rattle.executor_model.proofs.OwnQueues.Using.{mild-lending, mild-none, mild-polling, mild-running, polling_of}
 use Rattle.executor_model.proofs.OwnQueues.UsingWorlds.{Idle, count-set, idle, idle-act, idle-copy, idle-copy_sleeper}
 use Rattle.executor_model.proofs.Steps.Lift.{no_hint}
-use Rattle.executor_model.proofs.OwnQueues.UsingWorlds.{idle-sleep, is_over_stage, is_past, past-set}
+use Rattle.executor_model.proofs.OwnQueues.UsingWorlds.{idle-search, idle-sleep, is_over_stage, is_past, past-set}
 use Rattle.executor_model.proofs.OwnQueues.UsingKeeps.{KeepsUsed, Within, used-here, used-idle, used-stays, within-act}
 use Rattle.executor_model.proofs.OwnQueues.UsingKeeps.{within-part}
 
@@ -112,23 +115,24 @@ held-uses : (r : ℕ) (who : TickOrRun) → holds_run r (held_as who) ≡ is_run
 held-uses r (tick_or_run.Tick t) = refl
 held-uses r (tick_or_run.Run q) = refl
 
-within-found : (r : ℕ) (x : Ticker) (w : World) (q : List ℕ) (s : Sleeping) →
-    Within r (op.Tick (tick_op.Search s) ∷ []) (search_by x w q s).next
-within-found r x w [] s = record { uses = omega arith; polls = omega arith; empties = omega arith; lends = refl }
-within-found r Awake w (f ∷ rest) s = let z = held-uses r s.who in
+within-found : (look : Look) (r : ℕ) (x : Ticker) (w : World) (q : List ℕ) (s : Sleeping) →
+    Within r (op.Tick (tick_op.Look s look) ∷ []) (look_tick_by x w look q s).next
+within-found (First mark) r x w [] s = record { uses = omega arith; polls = omega arith; empties = omega arith; lends = refl }
+within-found (Second mark) r x w [] s = record { uses = omega arith; polls = omega arith; empties = omega arith; lends = refl }
+within-found look r Awake w (f ∷ rest) s = let z = held-uses r s.who in
     record { uses = omega (arith, z); polls = omega arith; empties = omega arith; lends = refl }
-within-found r (Asleep n) w (f ∷ rest) s = let z = held-uses r s.who in
+within-found look r (Asleep n) w (f ∷ rest) s = let z = held-uses r s.who in
     record { uses = omega (arith, z); polls = omega arith; empties = omega arith; lends = refl }
-within-found r Left w (f ∷ rest) s = let z = held-uses r s.who in
+within-found look r Left w (f ∷ rest) s = let z = held-uses r s.who in
     record { uses = omega (arith, z); polls = omega arith; empties = omega arith; lends = refl }
 
-used-search : (who : TickOrRun) (w : World) (s : Sleeping) → s.who ≡ who →
-    Lessens w (search_by_who who w s).world →
-    KeepsUsed w (op.Tick (tick_op.Search s) ∷ []) (search_by_who who w s)
-used-search (tick_or_run.Tick t) w s e k =
-    used-stays w (op.Tick (tick_op.Search s) ∷ []) (search_by_who (tick_or_run.Tick t) w s) k
-    (λ r. within-found r _ w _ s)
-used-search (tick_or_run.Run q) w s e k =
+used-search : (who : TickOrRun) (p : ℕ) (w : World) (s : Sleeping) → s.who ≡ who →
+    Lessens w (search_by_who who p w s).world →
+    KeepsUsed w (op.Tick (tick_op.Search s) ∷ []) (search_by_who who p w s)
+used-search (tick_or_run.Tick t) p w s e k =
+    used-stays w (op.Tick (tick_op.Search s) ∷ []) (search_by_who (tick_or_run.Tick t) p w s) k
+    (λ r. record { uses = omega arith; polls = omega arith; empties = omega arith; lends = refl })
+used-search (tick_or_run.Run q) p w s e k =
     let x : RunPoll = record { run = q; waker = s.waker; poll = s.poll } in
     used-stays w (op.Tick (tick_op.Search s) ∷ []) (search_own w x) k
     (λ r. within-part r x (op.Tick (tick_op.Search s)) (search_own w x).next (ap (is_run r) e) (ap (is_run r) e) refl
@@ -398,9 +402,12 @@ within-run : (r p : ℕ) (h : Hint) (o : RunOp) (w : World) → is_last o ≡ fa
 within-run r p h run_op.MakeRoom w n = within-room r h.refused w
 within-run r p h run_op.ReturnRoom w n =
     record { uses = omega arith; polls = omega arith; empties = omega arith; lends = refl }
-within-run r p h (run_op.SearchCommon x) w n =
-    within-part r x (op.Run (run_op.SearchCommon x)) (run_act p h (run_op.SearchCommon x) w).next refl refl refl
-    (λ v i m c. part-common v m x i c _ w)
+within-run r p h (run_op.TakeTurn x) w n =
+    within-part r x (op.Run (run_op.TakeTurn x)) (run_act p h (run_op.TakeTurn x) w).next refl refl refl
+    (λ v i m c. omega (arith, c.common (First (first_of w.urgent_turns))))
+within-run r p h (run_op.SearchCommon x look) w n =
+    within-part r x (op.Run (run_op.SearchCommon x look)) (run_act p h (run_op.SearchCommon x look) w).next refl refl refl
+    (λ v i m c. part-common v m x i c look _ w)
 within-run r p h (run_op.LookOwn x at left) w n =
     within-part r x (op.Run (run_op.LookOwn x at left)) (run_act p h (run_op.LookOwn x at left) w).next refl refl refl
     (λ v i m c. part-look v m x i c _ w at left)
@@ -425,7 +432,10 @@ used-act-by : (b : Bool) (p : ℕ) (h : Hint) (o : Op) (w : World) → is_for_ru
 used-act-by false p h o w n g =
     used-idle w (o ∷ []) (act p h o w) (idle-act p h o w n) (λ r. within-act r p h o w n)
 used-act-by true p h (op.Tick (tick_op.Search s)) w n g =
-    used-search s.who w s refl (lessens-act p h (op.Tick (tick_op.Search s)) w refl)
+    used-search s.who p w s refl (lessens-act p h (op.Tick (tick_op.Search s)) w refl)
+used-act-by true p h (op.Tick (tick_op.Look s look)) w n g =
+    used-idle w (op.Tick (tick_op.Look s look) ∷ []) (act p h (op.Tick (tick_op.Look s look)) w)
+    (idle-search look _ w _ s) (λ r. within-found look r _ w _ s)
 used-act-by true p h (op.Tick (tick_op.CopyWaker s)) w n g =
     used-idle w (op.Tick (tick_op.CopyWaker s) ∷ []) (act p h (op.Tick (tick_op.CopyWaker s)) w)
     (idle-copy_sleeper _ w s)

@@ -256,11 +256,11 @@ pub used-begun : (p : ℕ) (w : World) (here : Option Waker) (c : Call) (r : ℕ
     x.empties ≤ x.uses → FreeRun w c r x → Used w r (with_counts r [] x) →
     Used (begun p (log w (event.CallBegun p c)) here c).world r
     (with_counts r (begun p (log w (event.CallBegun p c)) here c).next x)
-used-begun p w here call.Spawn r x a b f =
-    used-other w (log w (event.CallBegun p call.Spawn)) (op.Table table_op.Enter ∷ []) refl refl refl
+used-begun p w here (call.Spawn mark) r x a b f =
+    used-other w (log w (event.CallBegun p (call.Spawn mark))) (op.Table (table_op.Enter mark) ∷ []) refl refl refl
     (λ q. record { uses = omega arith; polls = omega arith; empties = omega arith; lends = refl }) r x a b
 used-begun p w here call.TryTick r x a b f =
-    used-other w (log w (event.CallBegun p call.TryTick)) (op.Queue queue_op.Take ∷ []) refl refl refl
+    used-other w (log w (event.CallBegun p call.TryTick)) (op.Queue queue_op.TakeTurn ∷ []) refl refl refl
     (λ q. record { uses = omega arith; polls = omega arith; empties = omega arith; lends = refl }) r x a b
 used-begun p w here call.IsEmpty r x a b f =
     used-other w (log w (event.CallBegun p call.IsEmpty)) (op.Table table_op.LookAtTable ∷ []) refl refl refl

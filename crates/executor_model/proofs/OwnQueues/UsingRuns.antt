@@ -2,6 +2,10 @@
 -- What a part of a run's poll leads to, counted by a count that sees each part of it alike.
 use Rattle.std.proofs.Common.{◌≡◌, ℕ, zero, suc, ◌+◌, List, [], ◌∷◌, length, set, get_or, Bool, true, false, eqb}
 use Rattle.std.proofs.Common.{refl, ap, ◌∙◌, arith}
+use Rattle.executor_parts.specs.declared.mark.Mark.TheVariants.{Plain, Urgent}
+use Rattle.executor_parts.specs.Marks.{other}
+use Rattle.executor_model.specs.declared.op.Look.{Look}
+use Rattle.executor_model.specs.declared.op.Look.TheVariants.{First, Second}
 use Rattle.task_moves.specs.declared.moves.owed.Move.TheVariants as move
 use Rattle.executor_model.specs.declared.op.ListOp.{ListOp}
 use Rattle.executor_model.specs.declared.op.ListOp.TheVariants as list_op
@@ -21,6 +25,7 @@ use Rattle.executor_model.specs.declared.op.StealOp.TheVariants as steal_op
 use Rattle.executor_model.specs.declared.op.Then.{Then}
 use Rattle.executor_model.specs.declared.op.Then.TheVariants as then
 use Rattle.executor_model.specs.declared.op.TickOp.TheVariants as tick_op
+use Rattle.executor_model.specs.Acts.{mark_in}
 use Rattle.executor_model.specs.ActsOfSleepers.{found_by}
 use Rattle.executor_model.specs.ActsOfRuns.{asleep, counted_by, found, kept_by, look_own_by, next_place}
 use Rattle.executor_model.specs.ActsOfRuns.{queue_at, run_by}
@@ -50,7 +55,8 @@ pub record Part (v : Op → ℕ) (x : RunPoll) (n : ℕ) : Type 0 where
       v (op.Steal (steal_op.Take (record { poll = x; from = from; then = t }) m)) ≡ n
   pub put : (from : Source) (t : Then) (m f : ℕ) →
       v (op.Steal (steal_op.Put (record { poll = x; from = from; then = t }) m f)) ≡ n
-  pub common : v (op.Run (run_op.SearchCommon x)) ≡ n
+  pub turn : v (op.Run (run_op.TakeTurn x)) ≡ n
+  pub common : (look : Look) → v (op.Run (run_op.SearchCommon x look)) ≡ n
   pub look : (at left : ℕ) → v (op.Run (run_op.LookOwn x at left)) ≡ n
   pub own : v (op.Run (run_op.WakeOwn x)) ≡ n
   pub lock : v (op.List (list_op.LockRead x)) ≡ n
@@ -61,7 +67,7 @@ module _ (v : Op → ℕ) (m : Mild v) (x : RunPoll) (n : ℕ) (c : Part v x n) 
   part-run_by false w f = omega (arith, mild-none v m (op.Move move.TakeUp f) refl, c.search)
 
   part-counted : (b : Bool) (w : World) (f : ℕ) → weigh v (counted_by b w x f).next ≡ n
-  part-counted true w f = omega (arith, c.begin Common (then.Run f))
+  part-counted true w f = omega (arith, c.begin (Common Urgent) (then.StealPlain f))
   part-counted false w f = part-run_by _ _ f
 
   part-wakes_up : (p : Ticker) (who : TickOrRun) →
@@ -87,6 +93,7 @@ module _ (v : Op → ℕ) (m : Mild v) (x : RunPoll) (n : ℕ) (c : Part v x n) 
 
   part-stolen : (t : Then) (w : World) → weigh v (stolen t w x).next ≡ n
   part-stolen (then.Found f) w = part-found w f
+  part-stolen (then.StealPlain f) w = omega (arith, c.begin (Common Plain) (then.Run f))
   part-stolen (then.Run f) w = part-run_by _ w f
   part-stolen (then.Walk at left) w = omega (arith, c.look at left)
 
@@ -126,12 +133,13 @@ module _ (v : Op → ℕ) (m : Mild v) (x : RunPoll) (n : ℕ) (c : Part v x n) 
       by false z = omega (arith, c.begin (Own (queue_at qs at)) (then.Walk (next_place qs at) left))
 
   pub part-own : (q : List ℕ) (w : World) → weigh v (search_own_by q w x).next ≡ n
-  part-own [] w = omega (arith, c.common)
+  part-own [] w = omega (arith, c.turn)
   part-own (f ∷ rest) w = part-found (put_own w x.run rest) f
 
-  pub part-common : (q : List ℕ) (w : World) → weigh v (search_common_by q w x).next ≡ n
-  part-common [] w = omega (arith, c.lock)
-  part-common (f ∷ rest) w = omega (arith, c.begin Common (then.Found f))
+  pub part-common : (look : Look) (q : List ℕ) (w : World) → weigh v (search_common_by q w x look).next ≡ n
+  part-common (First mark) [] w = omega (arith, c.common (Second (other mark)))
+  part-common (Second mark) [] w = omega (arith, c.lock)
+  part-common look (f ∷ rest) w = omega (arith, c.begin (Common (mark_in look)) (then.Found f))
 
   pub part-look : (q : List ℕ) (w : World) (at left : ℕ) → weigh v (look_own_by q w x at left).next ≡ n
   part-look [] w at left = part-walk w.listed at left
@@ -179,8 +187,8 @@ idle-stolen t w x = idle-coat w (stolen t w x).world (coat-stolen t w x)
 pub idle-more : (n : ℕ) (w : World) (s : Steal) → Idle w (steal_by n w s).world
 idle-more n w s = idle-coat w (steal_by n w s).world (coat-more n w s)
 
-pub idle-common : (q : List ℕ) (w : World) (x : RunPoll) → Idle w (search_common_by q w x).world
-idle-common q w x = idle-coat w (search_common_by q w x).world (coat-common q w x)
+pub idle-common : (look : Look) (q : List ℕ) (w : World) (x : RunPoll) → Idle w (search_common_by q w x look).world
+idle-common look q w x = idle-coat w (search_common_by q w x look).world (coat-common look q w x)
 
 -- all but what is done to the list, and the end of a steal that comes into an own queue
 abbrev pub is_even : Op → Bool

@@ -2,6 +2,7 @@
 -- What uses no run changes neither which runs were dropped or are ready, nor what stands in their own queues.
 use Rattle.std.proofs.Common.{◌≡◌, ℕ, zero, suc, List, [], ◌∷◌, length, set, get_or, Bool, true, false, ◌||◌}
 use Rattle.std.proofs.Common.{refl, sym, ap, ◌∙◌}
+use Rattle.executor_model.specs.declared.op.Look.{Look}
 use Rattle.executor_model.specs.declared.op.Hold.{Hold}
 use Rattle.executor_model.specs.declared.op.Op.{Op}
 use Rattle.executor_model.specs.declared.op.Op.TheVariants as op
@@ -84,13 +85,14 @@ idle-sleep x w s = idle-coat w (of_sleepers.fall_asleep_by x w s).world (coat-sl
 pub idle-copy_sleeper : (b : Bool) (w : World) (s : Sleeping) → Idle w (of_sleepers.copy_sleeper_by b w s).world
 idle-copy_sleeper b w s = idle-coat w (of_sleepers.copy_sleeper_by b w s).world (coat-copy b w s)
 
-pub idle-search : (x : Ticker) (w : World) (q : List ℕ) (s : Sleeping) → Idle w (of_sleepers.search_by x w q s).world
-idle-search x w q s = idle-coat w (of_sleepers.search_by x w q s).world (coat-search x q w s)
+pub idle-search : (look : Look) (x : Ticker) (w : World) (q : List ℕ) (s : Sleeping) → Idle w (of_sleepers.look_tick_by x w look q s).world
+idle-search look x w q s = idle-coat w (of_sleepers.look_tick_by x w look q s).world (coat-search look x q w s)
 
 pub idle-act : (p : ℕ) (h : Hint) (o : Op) (w : World) → is_for_runs o ≡ false → Idle w (act p h o w).world
 idle-act p h (op.User (user_op.PollOwn x)) w n = absurd (cc)
 idle-act p h (op.Tick (tick_op.Search s)) w n = absurd (cc)
-idle-act p h (op.Tick o) w n = idle-coat w (tick_act h o w).world (coat-tick h o w refl)
+idle-act p h (op.Tick (tick_op.Look s look)) w n = absurd (cc)
+idle-act p h (op.Tick o) w n = idle-coat w (tick_act p h o w).world (coat-tick p h o w refl)
 idle-act p h (op.List o) w n = absurd (cc)
 idle-act p h (op.Steal o) w n = absurd (cc)
 idle-act p h (op.Run o) w n = absurd (cc)

@@ -4,6 +4,9 @@ use Rattle.std.proofs.Common.{◌≡◌, ◌⊎◌, ◌∙◌, ℕ, ◌≤◌, L
 use Rattle.std.proofs.Common.{cond, eqb, inl, inr, ⊎_elim, refl, sym, subst, arith}
 use Rattle.std.proofs.lemmas.List.{append_assoc}
 use Rattle.std.specs.Prelude.{Option, Some, None}
+use Rattle.executor_model.specs.declared.op.Look.{Look}
+use Rattle.executor_model.specs.declared.op.Look.TheVariants.{First, Second}
+use Rattle.executor_parts.specs.declared.mark.Mark.{Mark}
 use Rattle.executor_parts.specs.Sleepers.{waker_at}
 use Rattle.task_moves.specs.Moves as moves
 use Rattle.task_moves.specs.Moves.{is_over}
@@ -36,7 +39,7 @@ use Rattle.executor_model.specs.Acts.{take_by}
 use Rattle.executor_model.specs.Acts.{copy_awaiter_by, end_register_by, enter_by, let_go, look_again_by, look_by}
 use Rattle.executor_model.specs.Acts.{register_by, reply_of}
 use Rattle.executor_model.specs.ActsOfSleepers.{copy_sleeper_by, sleep_again_by, sleep_anew_by, fall_asleep_by, sleep_listed_by}
-use Rattle.executor_model.specs.ActsOfSleepers.{pend_as, search_by, sleeper_goes}
+use Rattle.executor_model.specs.ActsOfSleepers.{pend_as, look_tick_by, sleeper_goes}
 use Rattle.executor_model.specs.CallsMean.{HasAccepted}
 use Rattle.executor_model.specs.Carried.{awaiter_ops}
 use Rattle.executor_model.specs.Doing.{act, search_by_who}
@@ -71,60 +74,63 @@ no-poll (tick_or_run.Run r) c a b e = let no : true ≡ false = sym e ∙ b in a
 
 -- a spawn
 
-enters : (a b : Bool) (p : ℕ) (w : World) (more : Trace) → (enter_by a b p w).world.trace ≡ w.trace ++ more →
-    (weigh made_of (enter_by a b p w).next ≡ 0) ⊎ HasAccepted more
-enters true b p w more g = inl refl
-enters false true p w more g = inl refl
-enters false false p w more g = inr (
+enters : (a b : Bool) (mark : Mark) (p : ℕ) (w : World) (more : Trace) → (enter_by a b mark p w).world.trace ≡ w.trace ++ more →
+    (weigh made_of (enter_by a b mark p w).next ≡ 0) ⊎ HasAccepted more
+enters true b mark p w more g = inl refl
+enters false true mark p w more g = inl refl
+enters false false mark p w more g = inr (
   length w.tasks,
   subst (λ (t : Trace). has (is_accepted (length w.tasks)) t ≡ true)
       (added w.trace more (event.Accepted p (length w.tasks) ∷ []) _ g refl)
       (or-left (eqb (length w.tasks) (length w.tasks)) false (itself (length w.tasks))),
 )
 
-spawns-by : (p : ℕ) (h : Hint) (o : Op) (w : World) (more : Trace) → calling_of o ≡ 1 → serves o call.Spawn ≡ true →
+spawns-by : (mark : Mark) (p : ℕ) (h : Hint) (o : Op) (w : World) (more : Trace) → calling_of o ≡ 1 → serves o (call.Spawn mark) ≡ true →
     is_end o ≡ false → (act p h o w).world.trace ≡ w.trace ++ more →
     (weigh made_of (act p h o w).next ≡ 0) ⊎ HasAccepted more
-spawns-by p h (op.Table table_op.Enter) w more a e n g = enters _ _ p w more g
-spawns-by p h (op.List (list_op.LockWrite section.MakeRun)) w more a e n g = absurd (cc)
-spawns-by p h (op.List (list_op.LockWrite (section.Register x))) w more a e n g = absurd (cc)
-spawns-by p h (op.List (list_op.LockWrite (section.Unregister r x))) w more a e n g = absurd (cc)
-spawns-by p h (op.List (list_op.Write section.MakeRun)) w more a e n g = absurd (cc)
-spawns-by p h (op.List (list_op.Write (section.Register x))) w more a e n g = absurd (cc)
-spawns-by p h (op.List (list_op.Write (section.Unregister r x))) w more a e n g = absurd (cc)
-spawns-by p h (op.Handle (handle_op.Look x k)) w more a e n g = absurd (cc)
-spawns-by p h (op.Handle (handle_op.CopyAwaiter x k)) w more a e n g = absurd (cc)
-spawns-by p h (op.Handle (handle_op.Register x k i)) w more a e n g = absurd (cc)
-spawns-by p h (op.Handle (handle_op.EndRegister x k i)) w more a e n g = absurd (cc)
-spawns-by p h (op.Handle (handle_op.LookAgain x)) w more a e n g = absurd (cc)
-spawns-by p h (op.Table table_op.LookAtTable) w more a e n g = absurd (cc)
-spawns-by p h (op.Queue queue_op.Take) w more a e n g = absurd (cc)
-spawns-by p h (op.Waker (waker_op.CopyWaker x held)) w more a e n g = absurd (cc)
-spawns-by p h (op.Tick tick_op.MakeTick) w more a e n g = absurd (cc)
-spawns-by p h (op.Tick (tick_op.Search s)) w more a e n g = absurd (no-poll s.who call.Spawn refl refl e)
-spawns-by p h (op.Tick (tick_op.CopyWaker s)) w more a e n g = absurd (no-poll s.who call.Spawn refl refl e)
-spawns-by p h (op.Tick (tick_op.FallAsleep s)) w more a e n g = absurd (no-poll s.who call.Spawn refl refl e)
-spawns-by p h (op.User (user_op.PollOwn x)) w more a e n g = absurd (cc)
-spawns-by p h (op.List (list_op.LockRead x)) w more a e n g = absurd (cc)
-spawns-by p h (op.Steal o) w more a e n g = absurd (cc)
-spawns-by p h (op.Run run_op.MakeRoom) w more a e n g = absurd (cc)
-spawns-by p h (op.Run (run_op.SearchCommon x)) w more a e n g = absurd (cc)
-spawns-by p h (op.Run (run_op.LookOwn x at left)) w more a e n g = absurd (cc)
-spawns-by p h (op.Run (run_op.WakeOwn x)) w more a e n g = absurd (cc)
-spawns-by p h (op.Run (run_op.Reschedule r x)) w more a e n g = absurd (cc)
-spawns-by p h (op.End r held) w more a e n g = absurd (cc)
-spawns-by p h _ w more a e n g = absurd (cc)
+spawns-by mark p h (op.Table (table_op.Enter m)) w more a e n g = enters _ _ _ p w more g
+spawns-by mark p h (op.List (list_op.LockWrite section.MakeRun)) w more a e n g = absurd (cc)
+spawns-by mark p h (op.List (list_op.LockWrite (section.Register x))) w more a e n g = absurd (cc)
+spawns-by mark p h (op.List (list_op.LockWrite (section.Unregister r x))) w more a e n g = absurd (cc)
+spawns-by mark p h (op.List (list_op.Write section.MakeRun)) w more a e n g = absurd (cc)
+spawns-by mark p h (op.List (list_op.Write (section.Register x))) w more a e n g = absurd (cc)
+spawns-by mark p h (op.List (list_op.Write (section.Unregister r x))) w more a e n g = absurd (cc)
+spawns-by mark p h (op.Handle (handle_op.Look x k)) w more a e n g = absurd (cc)
+spawns-by mark p h (op.Handle (handle_op.CopyAwaiter x k)) w more a e n g = absurd (cc)
+spawns-by mark p h (op.Handle (handle_op.Register x k i)) w more a e n g = absurd (cc)
+spawns-by mark p h (op.Handle (handle_op.EndRegister x k i)) w more a e n g = absurd (cc)
+spawns-by mark p h (op.Handle (handle_op.LookAgain x)) w more a e n g = absurd (cc)
+spawns-by mark p h (op.Table table_op.LookAtTable) w more a e n g = absurd (cc)
+spawns-by mark p h (op.Queue queue_op.TakeTurn) w more a e n g = absurd (cc)
+spawns-by mark p h (op.Queue (queue_op.Take look)) w more a e n g = absurd (cc)
+spawns-by mark p h (op.Waker (waker_op.CopyWaker x held)) w more a e n g = absurd (cc)
+spawns-by mark p h (op.Tick tick_op.MakeTick) w more a e n g = absurd (cc)
+spawns-by mark p h (op.Tick (tick_op.Search s)) w more a e n g = absurd (no-poll s.who (call.Spawn mark) refl refl e)
+spawns-by mark p h (op.Tick (tick_op.Look s look)) w more a e n g = absurd (no-poll s.who (call.Spawn mark) refl refl e)
+spawns-by mark p h (op.Tick (tick_op.CopyWaker s)) w more a e n g = absurd (no-poll s.who (call.Spawn mark) refl refl e)
+spawns-by mark p h (op.Tick (tick_op.FallAsleep s)) w more a e n g = absurd (no-poll s.who (call.Spawn mark) refl refl e)
+spawns-by mark p h (op.User (user_op.PollOwn x)) w more a e n g = absurd (cc)
+spawns-by mark p h (op.List (list_op.LockRead x)) w more a e n g = absurd (cc)
+spawns-by mark p h (op.Steal o) w more a e n g = absurd (cc)
+spawns-by mark p h (op.Run run_op.MakeRoom) w more a e n g = absurd (cc)
+spawns-by mark p h (op.Run (run_op.TakeTurn x)) w more a e n g = absurd (cc)
+spawns-by mark p h (op.Run (run_op.SearchCommon x look)) w more a e n g = absurd (cc)
+spawns-by mark p h (op.Run (run_op.LookOwn x at left)) w more a e n g = absurd (cc)
+spawns-by mark p h (op.Run (run_op.WakeOwn x)) w more a e n g = absurd (cc)
+spawns-by mark p h (op.Run (run_op.Reschedule r x)) w more a e n g = absurd (cc)
+spawns-by mark p h (op.End r held) w more a e n g = absurd (cc)
+spawns-by mark p h _ w more a e n g = absurd (cc)
 
 pub served : (b : Bool) → (let n : ℕ = cond b 0 1 in n) ≡ 0 → b ≡ true
 served true e = refl
 served false e = absurd (omega (arith, e))
 
-pub spawn-turns : (p : ℕ) (h : Hint) (o : Op) (w : World) (more : Trace) → is_end o ≡ false → misfit call.Spawn o ≡ 0 →
+pub spawn-turns : (mark : Mark) (p : ℕ) (h : Hint) (o : Op) (w : World) (more : Trace) → is_end o ≡ false → misfit (call.Spawn mark) o ≡ 0 →
     (act p h o w).world.trace ≡ w.trace ++ more → (weigh made_of (act p h o w).next ≡ 0) ⊎ HasAccepted more
-spawn-turns p h o w more n e g = ⊎_elim
+spawn-turns mark p h o w more n e g = ⊎_elim
     (λ (z : calling_of o ≡ 0).
     inl (omega (arith, weigh-below made_of calling_of few-made (act p h o w).next, (calls-act p h o w n).passes.none z)))
-    (λ (z : calling_of o ≡ 1). spawns-by p h o w more z (served (serves o call.Spawn) e) n g) (calling-is o)
+    (λ (z : calling_of o ≡ 1). spawns-by mark p h o w more z (served (serves o (call.Spawn mark)) e) n g) (calling-is o)
 
 -- a poll of a handle
 
@@ -211,19 +217,22 @@ polls-by p h (op.List (list_op.LockWrite (section.Unregister r x))) w f b more c
 polls-by p h (op.List (list_op.Write section.MakeRun)) w f b more c e n t = absurd (cc)
 polls-by p h (op.List (list_op.Write (section.Register x))) w f b more c e n t = absurd (cc)
 polls-by p h (op.List (list_op.Write (section.Unregister r x))) w f b more c e n t = absurd (cc)
-polls-by p h (op.Table table_op.Enter) w f b more c e n t = absurd (cc)
+polls-by p h (op.Table (table_op.Enter mark)) w f b more c e n t = absurd (cc)
 polls-by p h (op.Table table_op.LookAtTable) w f b more c e n t = absurd (cc)
-polls-by p h (op.Queue queue_op.Take) w f b more c e n t = absurd (cc)
+polls-by p h (op.Queue queue_op.TakeTurn) w f b more c e n t = absurd (cc)
+polls-by p h (op.Queue (queue_op.Take look)) w f b more c e n t = absurd (cc)
 polls-by p h (op.Waker (waker_op.CopyWaker x held)) w f b more c e n t = absurd (cc)
 polls-by p h (op.Tick tick_op.MakeTick) w f b more c e n t = absurd (cc)
 polls-by p h (op.Tick (tick_op.Search s)) w f b more c e n t = absurd (no-poll s.who (call.PollHandle f b) refl refl e)
+polls-by p h (op.Tick (tick_op.Look s look)) w f b more c e n t = absurd (no-poll s.who (call.PollHandle f b) refl refl e)
 polls-by p h (op.Tick (tick_op.CopyWaker s)) w f b more c e n t = absurd (no-poll s.who (call.PollHandle f b) refl refl e)
 polls-by p h (op.Tick (tick_op.FallAsleep s)) w f b more c e n t = absurd (no-poll s.who (call.PollHandle f b) refl refl e)
 polls-by p h (op.User (user_op.PollOwn x)) w f b more c e n t = absurd (cc)
 polls-by p h (op.List (list_op.LockRead x)) w f b more c e n t = absurd (cc)
 polls-by p h (op.Steal o) w f b more c e n t = absurd (cc)
 polls-by p h (op.Run run_op.MakeRoom) w f b more c e n t = absurd (cc)
-polls-by p h (op.Run (run_op.SearchCommon x)) w f b more c e n t = absurd (cc)
+polls-by p h (op.Run (run_op.TakeTurn x)) w f b more c e n t = absurd (cc)
+polls-by p h (op.Run (run_op.SearchCommon x look)) w f b more c e n t = absurd (cc)
 polls-by p h (op.Run (run_op.LookOwn x at left)) w f b more c e n t = absurd (cc)
 polls-by p h (op.Run (run_op.WakeOwn x)) w f b more c e n t = absurd (cc)
 polls-by p h (op.Run (run_op.Reschedule r x)) w f b more c e n t = absurd (cc)
@@ -241,9 +250,10 @@ poll-turns p h o w f b more n e g = ⊎_elim
 
 -- a tick that is tried
 
-takes : (q : List ℕ) (w : World) → (weigh yes_of (take_by w q).next ≡ 0) ⊎ (1 ≤ weigh taking_of (take_by w q).next)
-takes [] w = inl refl
-takes (f ∷ rest) w = inr (omega arith)
+takes : (look : Look) (q : List ℕ) (w : World) → (weigh yes_of (take_by w look q).next ≡ 0) ⊎ (1 ≤ weigh taking_of (take_by w look q).next)
+takes (First mark) [] w = inl refl
+takes (Second mark) [] w = inl refl
+takes look (f ∷ rest) w = inr (omega arith)
 
 few-yes : (o : Op) → yes_of o ≤ calling_of o
 few-yes (op.End reply.Yes held) = omega arith
@@ -251,8 +261,9 @@ few-yes _ = omega arith
 
 tries-by : (p : ℕ) (h : Hint) (o : Op) (w : World) → calling_of o ≡ 1 → serves o call.TryTick ≡ true →
     is_end o ≡ false → (weigh yes_of (act p h o w).next ≡ 0) ⊎ (1 ≤ weigh taking_of (act p h o w).next)
-tries-by p h (op.Queue queue_op.Take) w a e n = takes _ w
-tries-by p h (op.Table table_op.Enter) w a e n = absurd (cc)
+tries-by p h (op.Queue queue_op.TakeTurn) w a e n = inl refl
+tries-by p h (op.Queue (queue_op.Take look)) w a e n = takes look _ w
+tries-by p h (op.Table (table_op.Enter mark)) w a e n = absurd (cc)
 tries-by p h (op.Table table_op.LookAtTable) w a e n = absurd (cc)
 tries-by p h (op.Waker (waker_op.CopyWaker x held)) w a e n = absurd (cc)
 tries-by p h (op.Handle (handle_op.Look x k)) w a e n = absurd (cc)
@@ -262,6 +273,7 @@ tries-by p h (op.Handle (handle_op.EndRegister x k i)) w a e n = absurd (cc)
 tries-by p h (op.Handle (handle_op.LookAgain x)) w a e n = absurd (cc)
 tries-by p h (op.Tick tick_op.MakeTick) w a e n = absurd (cc)
 tries-by p h (op.Tick (tick_op.Search s)) w a e n = absurd (no-poll s.who call.TryTick refl refl e)
+tries-by p h (op.Tick (tick_op.Look s look)) w a e n = absurd (no-poll s.who call.TryTick refl refl e)
 tries-by p h (op.Tick (tick_op.CopyWaker s)) w a e n = absurd (no-poll s.who call.TryTick refl refl e)
 tries-by p h (op.Tick (tick_op.FallAsleep s)) w a e n = absurd (no-poll s.who call.TryTick refl refl e)
 tries-by p h (op.User (user_op.PollOwn x)) w a e n = absurd (cc)
@@ -274,7 +286,8 @@ tries-by p h (op.List (list_op.Write (section.Unregister r x))) w a e n = absurd
 tries-by p h (op.List (list_op.LockRead x)) w a e n = absurd (cc)
 tries-by p h (op.Steal o) w a e n = absurd (cc)
 tries-by p h (op.Run run_op.MakeRoom) w a e n = absurd (cc)
-tries-by p h (op.Run (run_op.SearchCommon x)) w a e n = absurd (cc)
+tries-by p h (op.Run (run_op.TakeTurn x)) w a e n = absurd (cc)
+tries-by p h (op.Run (run_op.SearchCommon x look)) w a e n = absurd (cc)
 tries-by p h (op.Run (run_op.LookOwn x at left)) w a e n = absurd (cc)
 tries-by p h (op.Run (run_op.WakeOwn x)) w a e n = absurd (cc)
 tries-by p h (op.Run (run_op.Reschedule r x)) w a e n = absurd (cc)
@@ -290,17 +303,18 @@ yes-turn p h o w n e = ⊎_elim
 
 -- a poll of a tick
 
-ticks-search : (x : Ticker) (q : List ℕ) (w : World) (s : Sleeping) →
-    (weigh ready_of (search_by x w q s).next ≡ 0) ⊎ (1 ≤ weigh taking_of (search_by x w q s).next)
-ticks-search x [] w s = inl refl
-ticks-search Awake (f ∷ rest) w s = inr (omega arith)
-ticks-search (Asleep n) (f ∷ rest) w s = inr (omega arith)
-ticks-search Left (f ∷ rest) w s = inr (omega arith)
+ticks-search : (look : Look) (x : Ticker) (q : List ℕ) (w : World) (s : Sleeping) →
+    (weigh ready_of (look_tick_by x w look q s).next ≡ 0) ⊎ (1 ≤ weigh taking_of (look_tick_by x w look q s).next)
+ticks-search (First mark) x [] w s = inl refl
+ticks-search (Second mark) x [] w s = inl refl
+ticks-search look Awake (f ∷ rest) w s = inr (omega arith)
+ticks-search look (Asleep n) (f ∷ rest) w s = inr (omega arith)
+ticks-search look Left (f ∷ rest) w s = inr (omega arith)
 
-ticks-who : (who : TickOrRun) (t : ℕ) (b : By) (w : World) (s : Sleeping) → polls_by who (call.PollTick t b) ≡ true →
-    (weigh ready_of (search_by_who who w s).next ≡ 0) ⊎ (1 ≤ weigh taking_of (search_by_who who w s).next)
-ticks-who (tick_or_run.Tick u) t b w s e = ticks-search (place_of w s.who) w.queue.items w s
-ticks-who (tick_or_run.Run r) t b w s e = absurd (cc)
+ticks-who : (who : TickOrRun) (p : ℕ) (t : ℕ) (b : By) (w : World) (s : Sleeping) → polls_by who (call.PollTick t b) ≡ true →
+    (weigh ready_of (search_by_who who p w s).next ≡ 0) ⊎ (1 ≤ weigh taking_of (search_by_who who p w s).next)
+ticks-who (tick_or_run.Tick u) p t b w s e = inl refl
+ticks-who (tick_or_run.Run r) p t b w s e = absurd (cc)
 
 copy-unready : (b : Bool) (w : World) (s : Sleeping) → weigh ready_of (copy_sleeper_by b w s).next ≡ 0
 copy-unready true w s = refl
@@ -331,12 +345,14 @@ sleep-unready Left w s = refl
 ticks-by : (p : ℕ) (h : Hint) (o : Op) (t : ℕ) (b : By) (w : World) → calling_of o ≡ 1 →
     serves o (call.PollTick t b) ≡ true → is_end o ≡ false →
     (weigh ready_of (act p h o w).next ≡ 0) ⊎ (1 ≤ weigh taking_of (act p h o w).next)
-ticks-by p h (op.Tick (tick_op.Search s)) t b w a e n = ticks-who s.who t b w s e
+ticks-by p h (op.Tick (tick_op.Search s)) t b w a e n = ticks-who s.who p t b w s e
+ticks-by p h (op.Tick (tick_op.Look s look)) t b w a e n = ticks-search look _ _ w s
 ticks-by p h (op.Tick (tick_op.CopyWaker s)) t b w a e n = inl (copy-unready _ w s)
 ticks-by p h (op.Tick (tick_op.FallAsleep s)) t b w a e n = inl (sleep-unready _ w s)
-ticks-by p h (op.Table table_op.Enter) t b w a e n = absurd (cc)
+ticks-by p h (op.Table (table_op.Enter mark)) t b w a e n = absurd (cc)
 ticks-by p h (op.Table table_op.LookAtTable) t b w a e n = absurd (cc)
-ticks-by p h (op.Queue queue_op.Take) t b w a e n = absurd (cc)
+ticks-by p h (op.Queue queue_op.TakeTurn) t b w a e n = absurd (cc)
+ticks-by p h (op.Queue (queue_op.Take look)) t b w a e n = absurd (cc)
 ticks-by p h (op.Waker (waker_op.CopyWaker x held)) t b w a e n = absurd (cc)
 ticks-by p h (op.Handle (handle_op.Look x k)) t b w a e n = absurd (cc)
 ticks-by p h (op.Handle (handle_op.CopyAwaiter x k)) t b w a e n = absurd (cc)
@@ -354,7 +370,8 @@ ticks-by p h (op.List (list_op.Write (section.Unregister r x))) t b w a e n = ab
 ticks-by p h (op.List (list_op.LockRead x)) t b w a e n = absurd (cc)
 ticks-by p h (op.Steal o) t b w a e n = absurd (cc)
 ticks-by p h (op.Run run_op.MakeRoom) t b w a e n = absurd (cc)
-ticks-by p h (op.Run (run_op.SearchCommon x)) t b w a e n = absurd (cc)
+ticks-by p h (op.Run (run_op.TakeTurn x)) t b w a e n = absurd (cc)
+ticks-by p h (op.Run (run_op.SearchCommon x look)) t b w a e n = absurd (cc)
 ticks-by p h (op.Run (run_op.LookOwn x at left)) t b w a e n = absurd (cc)
 ticks-by p h (op.Run (run_op.WakeOwn x)) t b w a e n = absurd (cc)
 ticks-by p h (op.Run (run_op.Reschedule r x)) t b w a e n = absurd (cc)

@@ -3,6 +3,9 @@
 use Rattle.std.proofs.Common.{◌≡◌, ℕ, ◌≤◌, List, [], ◌∷◌, ◌++◌, Bool, true, false, ◌&&◌}
 use Rattle.std.proofs.Common.{cond, ⊎_elim, refl, arith}
 use Rattle.std.specs.Prelude.{Option, Some, None}
+use Rattle.executor_model.specs.declared.op.Look.{Look}
+use Rattle.executor_model.specs.declared.op.Look.TheVariants.{First, Second}
+use Rattle.executor_parts.specs.declared.mark.Mark.{Mark}
 use Rattle.executor_parts.specs.Sleepers.{waker_at}
 use Rattle.task_moves.specs.Moves as moves
 use Rattle.task_moves.specs.declared.moves.owed.Answer.{Answer}
@@ -42,7 +45,7 @@ use Rattle.executor_model.specs.Acts.{answered, copy_awaiter_by, copy_by, emptin
 use Rattle.executor_model.specs.Acts.{look_again_by, look_by, polled, register_by, reply_of, take_by}
 use Rattle.executor_model.specs.ActsOfRuns as runs
 use Rattle.executor_model.specs.ActsOfSleepers.{copy_sleeper_by, sleep_again_by, sleep_anew_by, fall_asleep_by, sleep_listed_by}
-use Rattle.executor_model.specs.ActsOfSleepers.{make_tick_by, pend_as, search_by, sleeper_goes}
+use Rattle.executor_model.specs.ActsOfSleepers.{make_tick_by, pend_as, look_tick_by, sleeper_goes}
 use Rattle.executor_model.specs.CallsMean.{is_reply}
 use Rattle.executor_model.specs.Carried.{awaiter_ops}
 use Rattle.executor_model.specs.Doing.{act, search_by_who}
@@ -84,8 +87,9 @@ few c o = ⊎_elim (λ (z : calling_of o ≡ 0). omega (arith, z, plain o z))
     (λ (z : calling_of o ≡ 1). omega (arith, z, one-at-most (serves o c))) (calling-is o)
   where
     plain : (o : Op) → calling_of o ≡ 0 → misfit c o ≡ 0
-    plain (op.Table table_op.Enter) z = absurd (omega (arith, z))
-    plain (op.Queue queue_op.Take) z = absurd (omega (arith, z))
+    plain (op.Table (table_op.Enter mark)) z = absurd (omega (arith, z))
+    plain (op.Queue queue_op.TakeTurn) z = absurd (omega (arith, z))
+    plain (op.Queue (queue_op.Take look)) z = absurd (omega (arith, z))
     plain (op.Table table_op.LookAtTable) z = absurd (omega (arith, z))
     plain (op.Waker (waker_op.CopyWaker f held)) z = absurd (omega (arith, z))
     plain (op.Handle (handle_op.Look f a)) z = absurd (omega (arith, z))
@@ -95,6 +99,7 @@ few c o = ⊎_elim (λ (z : calling_of o ≡ 0). omega (arith, z, plain o z))
     plain (op.Handle (handle_op.LookAgain f)) z = absurd (omega (arith, z))
     plain (op.Tick tick_op.MakeTick) z = absurd (omega (arith, z))
     plain (op.Tick (tick_op.Search s)) z = absurd (omega (arith, z))
+    plain (op.Tick (tick_op.Look s look)) z = absurd (omega (arith, z))
     plain (op.Tick (tick_op.CopyWaker s)) z = absurd (omega (arith, z))
     plain (op.Tick (tick_op.FallAsleep s)) z = absurd (omega (arith, z))
     plain (op.User (user_op.PollOwn x)) z = absurd (omega (arith, z))
@@ -103,7 +108,8 @@ few c o = ⊎_elim (λ (z : calling_of o ≡ 0). omega (arith, z, plain o z))
     plain (op.List (list_op.LockRead x)) z = absurd (omega (arith, z))
     plain (op.Steal o) z = absurd (omega (arith, z))
     plain (op.Run run_op.MakeRoom) z = absurd (omega (arith, z))
-    plain (op.Run (run_op.SearchCommon x)) z = absurd (omega (arith, z))
+    plain (op.Run (run_op.TakeTurn x)) z = absurd (omega (arith, z))
+    plain (op.Run (run_op.SearchCommon x look)) z = absurd (omega (arith, z))
     plain (op.Run (run_op.LookOwn x at left)) z = absurd (omega (arith, z))
     plain (op.Run (run_op.WakeOwn x)) z = absurd (omega (arith, z))
     plain (op.Run (run_op.Reschedule r a)) z = absurd (omega (arith, z))
@@ -124,16 +130,17 @@ fit-aside c = record {
 
 -- calls but polls of ticks and runs
 
-fit-enter : (c : Call) (a b : Bool) (p : ℕ) (w : World) → spawns c ≡ true → weigh (misfit c) (enter_by a b p w).next ≡ 0
-fit-enter call.Spawn true b p w e = refl
-fit-enter call.Spawn false true p w e = refl
-fit-enter call.Spawn false false p w e = refl
-fit-enter _ a b p w e = absurd (cc)
+fit-enter : (c : Call) (a b : Bool) (mark : Mark) (p : ℕ) (w : World) → spawns c ≡ true → weigh (misfit c) (enter_by a b mark p w).next ≡ 0
+fit-enter (call.Spawn m) true b mark p w e = refl
+fit-enter (call.Spawn m) false true mark p w e = refl
+fit-enter (call.Spawn m) false false mark p w e = refl
+fit-enter _ a b mark p w e = absurd (cc)
 
-fit-take : (c : Call) (q : List ℕ) (w : World) → tries c ≡ true → weigh (misfit c) (take_by w q).next ≡ 0
-fit-take call.TryTick [] w e = refl
-fit-take call.TryTick (f ∷ rest) w e = refl
-fit-take _ q w e = absurd (cc)
+fit-take : (look : Look) (c : Call) (q : List ℕ) (w : World) → tries c ≡ true → weigh (misfit c) (take_by w look q).next ≡ 0
+fit-take (First mark) call.TryTick [] w e = refl
+fit-take (Second mark) call.TryTick [] w e = refl
+fit-take look call.TryTick (f ∷ rest) w e = refl
+fit-take look _ q w e = absurd (cc)
 
 fit-emptiness : (c : Call) (q : List ℕ) → asks c ≡ true → misfit c (op.End (emptiness q) hold.Executor) ≡ 0
 fit-emptiness call.IsEmpty [] e = refl
@@ -270,11 +277,12 @@ module _ (c : Call) (s : Sleeping) (e : polls_by s.who c ≡ true) where
   refused : lack (is_reply c reply.NoMemory) ≡ 0
   refused = zero (is_reply c reply.NoMemory) (answering s.who c e).refused
 
-  fit-search : (x : Ticker) (w : World) (q : List ℕ) → weigh (misfit c) (search_by x w q s).next ≡ 0
-  fit-search x w [] = omega (arith, here)
-  fit-search Awake w (f ∷ rest) = omega (arith, ready)
-  fit-search (Asleep n) w (f ∷ rest) = omega (arith, ready)
-  fit-search Left w (f ∷ rest) = omega (arith, ready)
+  fit-search : (look : Look) (x : Ticker) (w : World) (q : List ℕ) → weigh (misfit c) (look_tick_by x w look q s).next ≡ 0
+  fit-search (First mark) x w [] = omega (arith, here)
+  fit-search (Second mark) x w [] = omega (arith, here)
+  fit-search look Awake w (f ∷ rest) = omega (arith, ready)
+  fit-search look (Asleep n) w (f ∷ rest) = omega (arith, ready)
+  fit-search look Left w (f ∷ rest) = omega (arith, ready)
 
   fit-copy_sleeper : (b : Bool) (w : World) → weigh (misfit c) (copy_sleeper_by b w s).next ≡ 0
   fit-copy_sleeper true w = omega (arith, refused)
@@ -318,7 +326,8 @@ module _ (c : Call) (k : Runs c) where
     steal = λ o. own;
     lock = λ x. own;
     unlock = refl;
-    common = λ x. own;
+    turn = λ x. own;
+    common = λ x look. own;
     look = λ x at left. own;
     wake = λ x. own;
   }
@@ -342,10 +351,10 @@ module _ (c : Call) (k : Runs c) where
       )
       called p h w (Outside y) = refl
 
-fit-who : (c : Call) (who : TickOrRun) (w : World) (s : Sleeping) → polls_by who c ≡ true → polls_by s.who c ≡ true →
-    weigh (misfit c) (search_by_who who w s).next ≡ 0
-fit-who c (tick_or_run.Tick t) w s a e = fit-search c s e (place_of w s.who) w w.queue.items
-fit-who c (tick_or_run.Run r) w s a e = own-unseen (misfit c) (searching c (polling c a)) _ w _
+fit-who : (c : Call) (who : TickOrRun) (p : ℕ) (w : World) (s : Sleeping) → polls_by who c ≡ true → polls_by s.who c ≡ true →
+    weigh (misfit c) (search_by_who who p w s).next ≡ 0
+fit-who c (tick_or_run.Tick t) p w s a e = omega (arith, here c s e)
+fit-who c (tick_or_run.Run r) p w s a e = own-unseen (misfit c) (searching c (polling c a)) _ w _
 
 fit-reschedule : (c : Call) (q : List ℕ) (w : World) (r : ℕ) (a : Reply) → (leaves c && is_reply c a) ≡ true →
     weigh (misfit c) (runs.reschedule_by q w r a).next ≡ 0
@@ -355,8 +364,9 @@ fit-reschedule c (f ∷ rest) w r a e = omega (arith, zero (leaves c && is_reply
 -- of what answers a call
 fit-calling : (c : Call) (p : ℕ) (h : Hint) (o : Op) (w : World) → calling_of o ≡ 1 → serves o c ≡ true →
     is_end o ≡ false → weigh (misfit c) (act p h o w).next ≡ 0
-fit-calling c p h (op.Table table_op.Enter) w a e n = fit-enter c _ _ p w e
-fit-calling c p h (op.Queue queue_op.Take) w a e n = fit-take c _ w e
+fit-calling c p h (op.Table (table_op.Enter mark)) w a e n = fit-enter c _ _ _ p w e
+fit-calling c p h (op.Queue queue_op.TakeTurn) w a e n = omega (arith, zero (tries c) e)
+fit-calling c p h (op.Queue (queue_op.Take look)) w a e n = fit-take look c _ w e
 fit-calling c p h (op.Table table_op.LookAtTable) w a e n = omega (arith, fit-emptiness c w.table e)
 fit-calling c p h (op.Waker (waker_op.CopyWaker f held)) w a e n = fit-copy c _ w f held e
 fit-calling c p h (op.Handle (handle_op.Look f x)) w a e n =
@@ -367,7 +377,8 @@ fit-calling c p h (op.Handle (handle_op.EndRegister f x k)) w a e n = fit-end_re
 fit-calling c p h (op.Handle (handle_op.LookAgain f)) w a e n =
     fit-again c (moves.look_again (task w f)).owed.answer p w f (moves.look_again (task w f)) e
 fit-calling c p h (op.Tick tick_op.MakeTick) w a e n = fit-make c _ w e
-fit-calling c p h (op.Tick (tick_op.Search s)) w a e n = fit-who c s.who w s e e
+fit-calling c p h (op.Tick (tick_op.Search s)) w a e n = fit-who c s.who p w s e e
+fit-calling c p h (op.Tick (tick_op.Look s look)) w a e n = fit-search c s e look _ w _
 fit-calling c p h (op.Tick (tick_op.CopyWaker s)) w a e n = fit-copy_sleeper c s e _ w
 fit-calling c p h (op.Tick (tick_op.FallAsleep s)) w a e n = fit-sleep c s e _ w
 fit-calling c p h (op.User (user_op.PollOwn x)) w a e n = omega (arith, zero (polls_run c) e)
@@ -383,8 +394,9 @@ fit-calling c p h (op.List (list_op.LockRead x)) w a e n =
     walk-unseen (misfit c) (searching c (polling c e)) x w.listed _ _
 fit-calling c p h (op.Steal o) w a e n = steal-unseen (misfit c) (searching c (polling c e)) (λ f. refl) p o w
 fit-calling c p h (op.Run run_op.MakeRoom) w a e n = fit-room c _ w e
-fit-calling c p h (op.Run (run_op.SearchCommon x)) w a e n =
-    common-unseen (misfit c) (searching c (polling c e)) _ w x
+fit-calling c p h (op.Run (run_op.TakeTurn x)) w a e n = omega (arith, zero (polls_run c) e)
+fit-calling c p h (op.Run (run_op.SearchCommon x look)) w a e n =
+    common-unseen (misfit c) (searching c (polling c e)) look _ w x
 fit-calling c p h (op.Run (run_op.LookOwn x at left)) w a e n =
     look-unseen (misfit c) (searching c (polling c e)) _ w x at left
 fit-calling c p h (op.Run (run_op.WakeOwn x)) w a e n = fit-wake_own c (polling c e) p h w x

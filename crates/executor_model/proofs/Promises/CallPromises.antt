@@ -85,7 +85,7 @@ WakePromised past own os = (1 ≤ weigh wakes_of os) ⊎ HasWoken own past
 
 -- what a call that has done this promises by what it has still to do
 abbrev pub Promised : Call → Trace → Trace → List Op → Type 0
-Promised call.Spawn past own os = 1 ≤ weigh made_of os → HasAccepted own
+Promised (call.Spawn mark) past own os = 1 ≤ weigh made_of os → HasAccepted own
 Promised call.TryTick past own os = 1 ≤ weigh yes_of os → (1 ≤ weigh taking_of os) ⊎ HasTaken own
 Promised (call.PollTick t b) past own os = 1 ≤ weigh ready_of os → (1 ≤ weigh taking_of os) ⊎ HasTaken own
 Promised (call.Wake k) past own os = WakePromised past own os
@@ -186,7 +186,7 @@ wake-later past more own os h = ⊎_elim
 
 promised-later : (c : Call) (past more own : Trace) (os : List Op) → Promised c past own os →
     Promised c (past ++ more) own os
-promised-later call.Spawn past more own os h = h
+promised-later (call.Spawn mark) past more own os h = h
 promised-later call.TryTick past more own os h = h
 promised-later (call.PollTick t b) past more own os h = h
 promised-later (call.Wake k) past more own os h = wake-later past more own os h
@@ -216,7 +216,7 @@ abbrev pub WakeTurns : Trace → Trace → Op → List Op → Type 0
 WakeTurns past more o next = (wakes_of o ≤ weigh wakes_of next) ⊎ HasWoken more past
 
 abbrev pub Turns : Call → Trace → Trace → Op → List Op → Type 0
-Turns call.Spawn past more o next = (weigh made_of next ≡ 0) ⊎ HasAccepted more
+Turns (call.Spawn mark) past more o next = (weigh made_of next ≡ 0) ⊎ HasAccepted more
 Turns call.TryTick past more o next = ((weigh yes_of next ≡ 0) ⊎ (1 ≤ weigh taking_of next))
     × ((taking_of o ≤ weigh taking_of next) ⊎ HasTaken more)
 Turns (call.PollTick t b) past more o next = ((weigh ready_of next ≡ 0) ⊎ (1 ≤ weigh taking_of next))
@@ -308,7 +308,7 @@ accepted-right xs ys a = (a.0, has-right _ xs ys a.1)
 
 pub promised-on : (c : Call) (past own more : Trace) (o : Op) (rest next : List Op) → Turns c past more o next →
     Promised c past own (o ∷ rest) → Promised c (past ++ more) (own ++ more) (next ++ rest)
-promised-on call.Spawn past own more o rest next t h =
+promised-on (call.Spawn mark) past own more o rest next t h =
     arises made_of HasAccepted accepted-left accepted-right own more o rest next t h
 promised-on call.TryTick past own more o rest next t h = take-turns yes_of own more o rest next t h
 promised-on (call.PollTick i b) past own more o rest next t h = take-turns ready_of own more o rest next t h
@@ -371,7 +371,7 @@ wake-right own past a held h = ⊎_elim
 
 pub done-right : (c : Call) (a : Reply) (held : Hold) (past own : Trace) → Promised c past own (op.End a held ∷ []) →
     IsWhatItSays c a own past
-done-right call.Spawn reply.Made held past own h = h (omega arith)
+done-right (call.Spawn mark) reply.Made held past own h = h (omega arith)
 done-right call.TryTick reply.Yes held past own h = ⊎_elim
     (λ (x : 1 ≤ weigh taking_of (op.End reply.Yes held ∷ [])). absurd (omega (arith, x)))
     (λ (x : HasTaken own). x) (h (omega arith))

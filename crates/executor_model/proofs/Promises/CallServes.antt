@@ -24,7 +24,7 @@ use Rattle.executor_model.specs.declared.op.UserOp.TheVariants as user_op
 use Rattle.executor_model.specs.declared.op.WakerOp.TheVariants as waker_op
 
 abbrev pub spawns : Call → Bool
-spawns call.Spawn = true
+spawns (call.Spawn mark) = true
 spawns _ = false
 
 abbrev pub tries : Call → Bool
@@ -95,6 +95,7 @@ serves_tick tick_op.MakeTick c = makes_tick c
 serves_tick (tick_op.WakeUp who) c = true
 serves_tick (tick_op.Leave who) c = true
 serves_tick (tick_op.Search s) c = polls_by s.who c
+serves_tick (tick_op.Look s look) c = polls_by s.who c
 serves_tick (tick_op.CopyWaker s) c = polls_by s.who c
 serves_tick (tick_op.FallAsleep s) c = polls_by s.who c
 
@@ -107,9 +108,10 @@ serves_handle (handle_op.LookAgain f) c = polls_handle f c
 serves_handle _ c = true
 
 abbrev pub serves : Op → Call → Bool
-serves (op.Table table_op.Enter) c = spawns c
+serves (op.Table (table_op.Enter mark)) c = spawns c
 serves (op.Table table_op.LookAtTable) c = asks c
-serves (op.Queue queue_op.Take) c = tries c
+serves (op.Queue queue_op.TakeTurn) c = tries c
+serves (op.Queue (queue_op.Take look)) c = tries c
 serves (op.Waker (waker_op.CopyWaker f held)) c = copies c
 serves (op.Handle o) c = serves_handle o c
 serves (op.Tick o) c = serves_tick o c

@@ -2,6 +2,9 @@
 -- Calls do what they say: each thing that is done for a call does its part of what that promises.
 use Rattle.std.proofs.Common.{◌≡◌, ◌≢◌, ◌⊎◌, ◌∙◌, ℕ, ◌+◌, ◌≤◌, List, [], ◌∷◌, ◌++◌, length, Bool, true, false, ◌&&◌}
 use Rattle.std.proofs.Common.{append_assoc, eqb, not, inl, inr, ⊎_elim, refl, sym, ap, subst, arith}
+use Rattle.executor_parts.specs.declared.mark.Mark.TheVariants.{Plain, Urgent}
+use Rattle.executor_parts.specs.declared.mark.Mark.{Mark}
+use Rattle.executor_model.specs.World.{queue_of}
 use Rattle.task_moves.specs.Moves as moves
 use Rattle.task_moves.specs.Moves.{is_over}
 use Rattle.task_moves.specs.declared.moves.owed.Move.TheVariants as move
@@ -176,11 +179,12 @@ wakes-on (f ∷ rest) p w k =
     let v : World = record w { waking = rest } in
     omega (arith, weigh-append closes_of (wake p v f).next (closing_ops [] rest), one-closes [] rest)
 
-drains-on : (q : List ℕ) (p : ℕ) (w : World) (more : Trace) → (drain_by p w q).world.trace ≡ w.trace ++ more →
-    (1 ≤ weigh closes_of (drain_by p w q).next) ⊎ (has is_drop_ended more ≡ true)
-drains-on [] p w more t = inr (subst (λ (x : Trace). has is_drop_ended x ≡ true)
+drains-on : (mark : Mark) (q : List ℕ) (p : ℕ) (w : World) (more : Trace) → (drain_by p w mark q).world.trace ≡ w.trace ++ more →
+    (1 ≤ weigh closes_of (drain_by p w mark q).next) ⊎ (has is_drop_ended more ≡ true)
+drains-on Urgent [] p w more t = inl (omega arith)
+drains-on Plain [] p w more t = inr (subst (λ (x : Trace). has is_drop_ended x ≡ true)
     (added w.trace more (event.DropEnded p ∷ []) _ t refl) refl)
-drains-on (f ∷ rest) p w more t = inl (omega arith)
+drains-on mark (f ∷ rest) p w more t = inl (omega arith)
 
 close-turn : (p : ℕ) (h : Hint) (o : Op) (w : World) (more : Trace) → Finds w o →
     (act p h o w).world.trace ≡ w.trace ++ more →
@@ -188,8 +192,9 @@ close-turn : (p : ℕ) (h : Hint) (o : Op) (w : World) (more : Trace) → Finds 
 close-turn p h (op.Closing closing_op.TakeOut) w more k t = inl (omega (arith, one-closes w.table w.waking))
 close-turn p h (op.Closing closing_op.DropNext) w more k t = inl (drops-on w.leaving p w k)
 close-turn p h (op.Closing closing_op.WakeNext) w more k t = inl (wakes-on w.waking p w k)
-close-turn p h (op.Closing closing_op.Close) w more k t = inl (omega arith)
-close-turn p h (op.Closing closing_op.Drain) w more k t = drains-on w.queue.items p w more t
+close-turn p h (op.Closing (closing_op.Close Urgent)) w more k t = inl (omega arith)
+close-turn p h (op.Closing (closing_op.Close Plain)) w more k t = inl (omega arith)
+close-turn p h (op.Closing (closing_op.Drain mark)) w more k t = drains-on mark (queue_of w mark).items p w more t
 close-turn p h (op.Closing closing_op.LeakOut) w more k t = inl (omega arith)
 close-turn p h (op.Closing closing_op.LeakNext) w more k t = inl (omega arith)
 close-turn p h _ w more k t = inl (omega arith)
@@ -198,7 +203,7 @@ pub turns-act : (s : Machine) (p : ℕ) (h : Hint) (o : Op) (c : Call) (more : T
     is_end o ≡ false →
     misfit c o ≡ 0 → (act p h o s.world).world.trace ≡ s.world.trace ++ more →
     Turns c s.world.trace more o (act p h o s.world).next
-turns-act s p h o call.Spawn more k x n e g = spawn-turns p h o s.world more n e g
+turns-act s p h o (call.Spawn mark) more k x n e g = spawn-turns mark p h o s.world more n e g
 turns-act s p h o call.TryTick more k x n e g =
     (yes-turn p h o s.world n e, taking-turn p h o s.world more x g)
 turns-act s p h o (call.PollTick t b) more k x n e g =
@@ -220,7 +225,7 @@ turns-act s p h o _ more k x n e g = tt
 quiet-turns : (c : Call) (past more : Trace) (o : Op) (next : List Op) → weigh made_of next ≡ 0 →
     weigh ready_of next ≡ 0 → weigh yes_of next ≡ 0 → weigh told_of next ≡ 0 → taking_of o ≡ 0 → wakes_of o ≡ 0 → closes_of o ≡ 0 →
     ((f : ℕ) → cancels_of f o ≡ 0) → ((f : ℕ) → detaches_of f o ≡ 0) → Turns c past more o next
-quiet-turns call.Spawn past more o next a b y d t w c x z = inl a
+quiet-turns (call.Spawn mark) past more o next a b y d t w c x z = inl a
 quiet-turns call.TryTick past more o next a b y d t w c x z = (inl y, inl (omega (arith, t)))
 quiet-turns (call.PollTick i by) past more o next a b y d t w c x z = (inl b, inl (omega (arith, t)))
 quiet-turns (call.Wake k) past more o next a b y d t w c x z = inl (omega (arith, w))

@@ -105,7 +105,7 @@ leaves-effect w old _ g (turns d m p f v rest i j k s a e) =
       weigh-append (leaves_of g) (move_by true m p v f).next rest,
     ))
 leaves-effect w old d g (refuses f e) = inl (omega arith)
-leaves-effect w old d g (enters p e) = inl (omega arith)
+leaves-effect w old d g (enters mark p e) = inl (omega arith)
 leaves-effect w old _ g (unlists f e) =
     let own : weigh (leaves_of g) (leave_by true w f).next ≡ 0 = aside-entry (leaves_of g) (leaves-aside g) w.is_static f in
     inl (omega (arith, own))

@@ -3,6 +3,10 @@
 use Rattle.std.proofs.Common.{◌≡◌, ℕ, ◌+◌, List, [], ◌∷◌, ◌++◌, length, Bool, true, false}
 use Rattle.std.proofs.Common.{◌&&◌, ◌||◌, refl, ap, arith}
 use Rattle.std.specs.Prelude.{◌%◌, Option, Some, None, is_none}
+use Rattle.executor_parts.specs.declared.mark.Mark.TheVariants.{Plain, Urgent}
+use Rattle.executor_model.specs.declared.op.Look.{Look}
+use Rattle.executor_model.specs.declared.op.Look.TheVariants.{First, Second}
+use Rattle.executor_parts.specs.declared.mark.Mark.{Mark}
 use Rattle.task_moves.specs.declared.moves.owed.Answer.{Answer}
 use Rattle.task_moves.specs.declared.moves.owed.Answer.TheVariants as given
 use Rattle.task_moves.specs.declared.moves.owed.Move.{Move}
@@ -54,10 +58,10 @@ use Rattle.executor_model.specs.Acts.{emptiness}
 use Rattle.executor_model.specs.Acts.{end_register_by, enter_by, is_last_waker, is_told, leave_by, let_go}
 use Rattle.executor_model.specs.Acts.{look_again_by, look_by, move_by}
 use Rattle.executor_model.specs.Acts.{notify_by, polled, register_by, reply_of, stands_alone, take_by, told_of, wake}
-use Rattle.executor_model.specs.Acts.{wake_next_by, closing_ops}
+use Rattle.executor_model.specs.Acts.{wake_next_by, close, closing_ops}
 use Rattle.executor_model.specs.ActsOfRuns.{call_by_reference, make_room_by, make_run_by, reschedule_by, wake_own}
 use Rattle.executor_model.specs.ActsOfSleepers.{copy_sleeper_by, fall_asleep_by, leave_sleepers_by, make_tick_by}
-use Rattle.executor_model.specs.ActsOfSleepers.{pend_as, search_by}
+use Rattle.executor_model.specs.ActsOfSleepers.{pend_as, look_tick_by}
 use Rattle.executor_model.specs.ActsOfSleepers.{sleep_again_by, sleep_anew_by, sleep_listed_by, sleeper_goes}
 use Rattle.executor_model.specs.ActsOfSleepers.{tell_and_return, wake_up_by}
 use Rattle.executor_model.specs.Carried.{awaiter_ops}
@@ -118,7 +122,8 @@ searching = record {
   steal = λ o. refl;
   lock = λ x. refl;
   unlock = refl;
-  common = λ x. refl;
+  turn = λ x. refl;
+  common = λ x look. refl;
   look = λ x at left. refl;
   wake = λ x. refl;
 }
@@ -133,10 +138,10 @@ unseen = record { hand = refl; call = λ s. refl; outside = λ x. refl; wake = �
 
 -- by groups
 
-fin-enter : (a b : Bool) (p : ℕ) (w : World) → weigh fin (enter_by a b p w).next ≡ 0
-fin-enter true b p w = refl
-fin-enter false true p w = refl
-fin-enter false false p w = refl
+fin-enter : (a b : Bool) (mark : Mark) (p : ℕ) (w : World) → weigh fin (enter_by a b mark p w).next ≡ 0
+fin-enter true b mark p w = refl
+fin-enter false true mark p w = refl
+fin-enter false false mark p w = refl
 
 fin-emptiness : (q : List ℕ) → fin_reply (emptiness q) + 0 ≡ 0
 fin-emptiness [] = refl
@@ -147,20 +152,21 @@ fin-leave true w f = aside-entry fin aside w.is_static f
 fin-leave false w f = refl
 
 fin-table : (p : ℕ) (h : Hint) (o : TableOp) (w : World) → weigh fin (table_act p h o w).next ≡ 0
-fin-table p h table_op.Enter w = fin-enter _ _ p w
+fin-table p h (table_op.Enter mark) w = fin-enter _ _ _ p w
 fin-table p h table_op.LookAtTable w = fin-emptiness w.table
 fin-table p h (table_op.TakeToPoll f) w = refl
 fin-table p h (table_op.PutBack f) w = refl
 fin-table p h (table_op.TakeToDrop f) w = refl
 fin-table p h (table_op.LeaveTable f) w = fin-leave _ w f
 
-fin-take : (q : List ℕ) (w : World) → weigh fin (take_by w q).next ≡ 0
-fin-take [] w = refl
-fin-take (f ∷ rest) w = refl
+fin-take : (look : Look) (q : List ℕ) (w : World) → weigh fin (take_by w look q).next ≡ 0
+fin-take (First mark) [] w = refl
+fin-take (Second mark) [] w = refl
+fin-take look (f ∷ rest) w = refl
 
-fin-append : (b : Bool) (w : World) (f : ℕ) → weigh fin (append_by b w f).next ≡ 0
-fin-append true w f = refl
-fin-append false w f = refl
+fin-append : (b : Bool) (w : World) (mark : Mark) (f : ℕ) → weigh fin (append_by b w mark f).next ≡ 0
+fin-append true w mark f = refl
+fin-append false w mark f = refl
 
 fin-user : (p : ℕ) (o : UserOp) (w : World) → weigh fin (user_act p o w).next ≡ 0
 fin-user p (user_op.BeginDrop f) w = refl
@@ -232,15 +238,16 @@ fin-make : (b : Bool) (w : World) → weigh fin (make_tick_by b w).next ≡ 0
 fin-make true w = refl
 fin-make false w = refl
 
-fin-search : (x : Ticker) (w : World) (q : List ℕ) (s : Sleeping) → weigh fin (search_by x w q s).next ≡ 0
-fin-search x w [] s = refl
-fin-search Awake w (f ∷ rest) s = refl
-fin-search (Asleep n) w (f ∷ rest) s = refl
-fin-search Left w (f ∷ rest) s = refl
+fin-search : (look : Look) (x : Ticker) (w : World) (q : List ℕ) (s : Sleeping) → weigh fin (look_tick_by x w look q s).next ≡ 0
+fin-search (First mark) x w [] s = refl
+fin-search (Second mark) x w [] s = refl
+fin-search look Awake w (f ∷ rest) s = refl
+fin-search look (Asleep n) w (f ∷ rest) s = refl
+fin-search look Left w (f ∷ rest) s = refl
 
-fin-search_who : (who : TickOrRun) (w : World) (s : Sleeping) → weigh fin (search_by_who who w s).next ≡ 0
-fin-search_who (tick_or_run.Tick t) w s = fin-search _ w w.queue.items s
-fin-search_who (tick_or_run.Run r) w s = own-unseen fin searching _ w (record { run = r; waker = s.waker; poll = s.poll })
+fin-search_who : (who : TickOrRun) (p : ℕ) (w : World) (s : Sleeping) → weigh fin (search_by_who who p w s).next ≡ 0
+fin-search_who (tick_or_run.Tick t) p w s = refl
+fin-search_who (tick_or_run.Run r) p w s = own-unseen fin searching _ w (record { run = r; waker = s.waker; poll = s.poll })
 
 fin-copy_sleeper : (b : Bool) (w : World) (s : Sleeping) → weigh fin (copy_sleeper_by b w s).next ≡ 0
 fin-copy_sleeper true w s = refl
@@ -280,13 +287,14 @@ fin-leave_sleepers (Asleep n) w who = omega (
 )
 fin-leave_sleepers Left w who = refl
 
-fin-tick : (h : Hint) (o : TickOp) (w : World) → weigh fin (tick_act h o w).next ≡ 0
-fin-tick h tick_op.MakeTick w = fin-make h.refused w
-fin-tick h (tick_op.Search s) w = fin-search_who s.who w s
-fin-tick h (tick_op.CopyWaker s) w = fin-copy_sleeper _ w s
-fin-tick h (tick_op.FallAsleep s) w = fin-sleep _ w s
-fin-tick h (tick_op.WakeUp who) w = fin-up _ w who
-fin-tick h (tick_op.Leave who) w = fin-leave_sleepers _ w who
+fin-tick : (p : ℕ) (h : Hint) (o : TickOp) (w : World) → weigh fin (tick_act p h o w).next ≡ 0
+fin-tick p h tick_op.MakeTick w = fin-make h.refused w
+fin-tick p h (tick_op.Search s) w = fin-search_who s.who p w s
+fin-tick p h (tick_op.Look s look) w = fin-search look _ w _ s
+fin-tick p h (tick_op.CopyWaker s) w = fin-copy_sleeper _ w s
+fin-tick p h (tick_op.FallAsleep s) w = fin-sleep _ w s
+fin-tick p h (tick_op.WakeUp who) w = fin-up _ w who
+fin-tick p h (tick_op.Leave who) w = fin-leave_sleepers _ w who
 
 fin-make_run : (b : Bool) (w : World) → weigh fin (make_run_by b w).next ≡ 0
 fin-make_run true w = refl
@@ -325,7 +333,8 @@ fin-reschedule (f ∷ rest) w r a z = omega (arith, z)
 fin-run : (p : ℕ) (h : Hint) (o : RunOp) (w : World) → fin (op.Run o) ≡ 0 → weigh fin (run_act p h o w).next ≡ 0
 fin-run p h run_op.MakeRoom w z = fin-room h.refused w
 fin-run p h run_op.ReturnRoom w z = refl
-fin-run p h (run_op.SearchCommon x) w z = common-unseen fin searching _ w x
+fin-run p h (run_op.TakeTurn x) w z = refl
+fin-run p h (run_op.SearchCommon x look) w z = common-unseen fin searching look _ w x
 fin-run p h (run_op.LookOwn x at left) w z = look-unseen fin searching _ w x at left
 fin-run p h (run_op.WakeOwn x) w z = fin-wake_own p w x
 fin-run p h (run_op.Reschedule r a) w z = fin-reschedule _ w r a z
@@ -348,30 +357,36 @@ fin-wake_next (f ∷ rest) p w =
       closing-none [] rest,
     )
 
-fin-drain : (q : List ℕ) (p : ℕ) (w : World) → weigh fin (drain_by p w q).next ≡ 0
-fin-drain [] p w = refl
-fin-drain (f ∷ rest) p w = refl
+fin-close : (mark : Mark) (w : World) → weigh fin (close w mark).next ≡ 0
+fin-close Urgent w = refl
+fin-close Plain w = refl
+
+fin-drain : (mark : Mark) (q : List ℕ) (p : ℕ) (w : World) → weigh fin (drain_by p w mark q).next ≡ 0
+fin-drain Urgent [] p w = refl
+fin-drain Plain [] p w = refl
+fin-drain mark (f ∷ rest) p w = refl
 
 -- each thing that is done
 pub fin-act : (p : ℕ) (h : Hint) (o : Op) (w : World) → fin o ≡ 0 → weigh fin (act p h o w).next ≡ 0
 fin-act p h (op.Move m f) w z = fin-move (stands_alone m) m p w f
 fin-act p h (op.Table o) w z = fin-table p h o w
-fin-act p h (op.Queue queue_op.Take) w z = fin-take _ w
-fin-act p h (op.Queue (queue_op.Append f)) w z = fin-append _ w f
+fin-act p h (op.Queue queue_op.TakeTurn) w z = refl
+fin-act p h (op.Queue (queue_op.Take look)) w z = fin-take look _ w
+fin-act p h (op.Queue (queue_op.Append f)) w z = fin-append _ w _ f
 fin-act p h (op.User o) w z = fin-user p o w
 fin-act p h (op.Waker (waker_op.CopyWaker f held)) w z = fin-copy _ w f held
 fin-act p h (op.Waker (waker_op.CallAwaiter f a k)) w z = call-unseen fin unseen p w (of.Handle f) a k
 fin-act p h (op.Handle o) w z = fin-handle p h o w
 fin-act p h (op.Sleeper o) w z = sleeper-unseen fin unseen p o w
-fin-act p h (op.Tick o) w z = fin-tick h o w
+fin-act p h (op.Tick o) w z = fin-tick p h o w
 fin-act p h (op.List o) w z = fin-list h o w z
 fin-act p h (op.Steal o) w z = steal-unseen fin searching (λ f. refl) p o w
 fin-act p h (op.Run o) w z = fin-run p h o w z
 fin-act p h (op.Closing closing_op.TakeOut) w z = closing-none w.table w.waking
 fin-act p h (op.Closing closing_op.DropNext) w z = fin-drop_next _ p w
 fin-act p h (op.Closing closing_op.WakeNext) w z = fin-wake_next _ p w
-fin-act p h (op.Closing closing_op.Close) w z = refl
-fin-act p h (op.Closing closing_op.Drain) w z = fin-drain _ p w
+fin-act p h (op.Closing (closing_op.Close mark)) w z = fin-close mark w
+fin-act p h (op.Closing (closing_op.Drain mark)) w z = fin-drain mark _ p w
 fin-act p h (op.Closing closing_op.LeakOut) w z = aside-leak_out fin refl (w.is_static || w.gone) w
 fin-act p h (op.Closing closing_op.LeakNext) w z =
     aside-leak_next fin refl (λ q v f. fin-move true move.Wake q v f) w.gone p w w.waking

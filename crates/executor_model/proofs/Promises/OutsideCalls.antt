@@ -102,7 +102,7 @@ leads-act x p h (op.Sleeper (sleeper_op.CallSleeper s)) w =
 leads-act x p h (op.Run (run_op.WakeOwn r)) w =
     calls x p h (op.Run (run_op.WakeOwn r)) w r.waker (λ z. any-call x p p (of.Handle 0) (of.Run r.run) 0 r.poll r.waker z)
     (λ y e. own-comes p w r r.waker y refl e)
-leads-act x p h (op.Table table_op.Enter) w = silent x p h (op.Table table_op.Enter) w (λ f. refl)
+leads-act x p h (op.Table (table_op.Enter mark)) w = silent x p h (op.Table (table_op.Enter mark)) w (λ f. refl)
 leads-act x p h (op.User (user_op.BeginDrop f)) w = silent x p h (op.User (user_op.BeginDrop f)) w refl
 leads-act x p h (op.Closing closing_op.DropNext) w = silent x p h (op.Closing closing_op.DropNext) w (λ f. refl)
 leads-act x p h o w = silent x p h o w tt
@@ -177,7 +177,7 @@ way-more s p old rest d (acted h o q z) =
     allows (op.Waker (waker_op.CallAwaiter f a k)) = refl
     allows (op.Sleeper (sleeper_op.CallSleeper n)) = refl
     allows (op.Run (run_op.WakeOwn r)) = refl
-    allows (op.Table table_op.Enter) = λ f. refl
+    allows (op.Table (table_op.Enter mark)) = λ f. refl
     allows (op.User (user_op.BeginDrop f)) = refl
     allows (op.Closing closing_op.DropNext) = λ f. refl
     allows _ = tt

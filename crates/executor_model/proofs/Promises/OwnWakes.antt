@@ -5,6 +5,7 @@ use Rattle.std.proofs.Common.{◌&&◌, eqb, inl, inr, ⊎_elim, refl, subst, sy
 use Rattle.std.proofs.lemmas.Bool.Decides.{nat_tests}
 use Rattle.std.proofs.lemmas.List.{get_or-append-add, get_or_append_left, get_or_past, length-append, length-set}
 use Rattle.std.specs.Prelude.{Option, Some, None, reverse}
+use Rattle.executor_parts.specs.declared.mark.Mark.{Mark}
 use Rattle.executor_model.specs.declared.kind.Kind.{Kind}
 use Rattle.executor_model.specs.declared.call.Call.{Call}
 use Rattle.executor_model.specs.declared.call.Call.TheVariants as call
@@ -45,10 +46,10 @@ use Rattle.executor_model.proofs.Table.LeavingExecutions.{Placed, placed-ends, p
 
 -- how the kept wakers change
 
-turned-enter : (b c : Bool) (p : ℕ) (w : World) → Turned w (enter_by b c p w).world
-turned-enter true c p w = still refl
-turned-enter false true p w = still refl
-turned-enter false false p w = still refl
+turned-enter : (b c : Bool) (mark : Mark) (p : ℕ) (w : World) → Turned w (enter_by b c mark p w).world
+turned-enter true c mark p w = still refl
+turned-enter false true mark p w = still refl
+turned-enter false false mark p w = still refl
 
 turned-copy : (b : Bool) (w : World) (f : ℕ) (held : Hold) → Turned w (copy_by b w f held).world
 turned-copy true w f held = still refl
@@ -60,7 +61,7 @@ turned-drop_next (f ∷ rest) p w = still refl
 
 turned-act : (b : Bool) (p : ℕ) (h : Hint) (o : Op) (w : World) → places o ≡ b → Turned w (act p h o w).world
 turned-act false p h o w e = still (sym (ap (λ (x : Spots). x.wakers) (same-spots p h o w e)))
-turned-act true p h (op.Table table_op.Enter) w e = turned-enter _ _ p w
+turned-act true p h (op.Table (table_op.Enter mark)) w e = turned-enter _ _ _ p w
 turned-act true p h (op.Table (table_op.TakeToPoll f)) w e = still refl
 turned-act true p h (op.Table (table_op.PutBack f)) w e = still refl
 turned-act true p h (op.Table (table_op.TakeToDrop f)) w e = still refl

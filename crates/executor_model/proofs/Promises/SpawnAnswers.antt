@@ -4,6 +4,7 @@ use Rattle.std.proofs.Common.{◌≡◌, ◌⊎◌, ℕ, ◌≤◌, List, [], �
 use Rattle.std.proofs.Common.{cond, ⊎_elim, refl, subst, sym, ap, ◌∙◌, append-nil, arith}
 use Rattle.std.proofs.lemmas.List.{append_assoc, reverse-append, reverse-reverse}
 use Rattle.std.specs.Prelude.{reverse}
+use Rattle.executor_parts.specs.declared.mark.Mark.{Mark}
 use Rattle.executor_model.specs.declared.call.Call.{Call}
 use Rattle.executor_model.specs.declared.call.Call.TheVariants as call
 use Rattle.executor_model.specs.declared.call.Reply.{Reply}
@@ -53,7 +54,7 @@ full_of (op.End reply.Full held) = 1
 full_of _ = 0
 
 abbrev pub is_enter : Op → Bool
-is_enter (op.Table table_op.Enter) = true
+is_enter (op.Table (table_op.Enter mark)) = true
 is_enter _ = false
 
 -- who gives it
@@ -63,7 +64,7 @@ few-full (op.End reply.Full held) = omega arith
 few-full _ = omega arith
 
 not-full : (c : Call) → spawns c ≡ false → is_reply c reply.Full ≡ false
-not-full call.Spawn e = absurd (cc)
+not-full (call.Spawn mark) e = absurd (cc)
 not-full _ e = refl
 
 pub full-misfit : (c : Call) → spawns c ≡ false → (o : Op) → full_of o ≤ misfit c o
@@ -72,36 +73,39 @@ full-misfit c e (op.End reply.Full held) =
     omega (arith, z)
 full-misfit c e _ = omega arith
 
-pub only-enter : (o : Op) → calling_of o ≡ 1 → serves o call.Spawn ≡ true → is_end o ≡ false → is_enter o ≡ true
-only-enter (op.Table table_op.Enter) a e n = refl
-only-enter (op.List (list_op.LockWrite section.MakeRun)) a e n = absurd (cc)
-only-enter (op.List (list_op.LockWrite (section.Register x))) a e n = absurd (cc)
-only-enter (op.List (list_op.LockWrite (section.Unregister r x))) a e n = absurd (cc)
-only-enter (op.List (list_op.Write section.MakeRun)) a e n = absurd (cc)
-only-enter (op.List (list_op.Write (section.Register x))) a e n = absurd (cc)
-only-enter (op.List (list_op.Write (section.Unregister r x))) a e n = absurd (cc)
-only-enter (op.Handle (handle_op.Look x k)) a e n = absurd (cc)
-only-enter (op.Handle (handle_op.CopyAwaiter x k)) a e n = absurd (cc)
-only-enter (op.Handle (handle_op.Register x k i)) a e n = absurd (cc)
-only-enter (op.Handle (handle_op.EndRegister x k i)) a e n = absurd (cc)
-only-enter (op.Handle (handle_op.LookAgain x)) a e n = absurd (cc)
-only-enter (op.Table table_op.LookAtTable) a e n = absurd (cc)
-only-enter (op.Queue queue_op.Take) a e n = absurd (cc)
-only-enter (op.Waker (waker_op.CopyWaker x held)) a e n = absurd (cc)
-only-enter (op.Tick tick_op.MakeTick) a e n = absurd (cc)
-only-enter (op.Tick (tick_op.Search s)) a e n = absurd (no-poll s.who call.Spawn refl refl e)
-only-enter (op.Tick (tick_op.CopyWaker s)) a e n = absurd (no-poll s.who call.Spawn refl refl e)
-only-enter (op.Tick (tick_op.FallAsleep s)) a e n = absurd (no-poll s.who call.Spawn refl refl e)
-only-enter (op.User (user_op.PollOwn x)) a e n = absurd (cc)
-only-enter (op.List (list_op.LockRead x)) a e n = absurd (cc)
-only-enter (op.Steal o) a e n = absurd (cc)
-only-enter (op.Run run_op.MakeRoom) a e n = absurd (cc)
-only-enter (op.Run (run_op.SearchCommon x)) a e n = absurd (cc)
-only-enter (op.Run (run_op.LookOwn x at left)) a e n = absurd (cc)
-only-enter (op.Run (run_op.WakeOwn x)) a e n = absurd (cc)
-only-enter (op.Run (run_op.Reschedule r x)) a e n = absurd (cc)
-only-enter (op.End r held) a e n = absurd (cc)
-only-enter _ a e n = absurd (cc)
+pub only-enter : (mark : Mark) (o : Op) → calling_of o ≡ 1 → serves o (call.Spawn mark) ≡ true → is_end o ≡ false → is_enter o ≡ true
+only-enter mark (op.Table (table_op.Enter m)) a e n = refl
+only-enter mark (op.List (list_op.LockWrite section.MakeRun)) a e n = absurd (cc)
+only-enter mark (op.List (list_op.LockWrite (section.Register x))) a e n = absurd (cc)
+only-enter mark (op.List (list_op.LockWrite (section.Unregister r x))) a e n = absurd (cc)
+only-enter mark (op.List (list_op.Write section.MakeRun)) a e n = absurd (cc)
+only-enter mark (op.List (list_op.Write (section.Register x))) a e n = absurd (cc)
+only-enter mark (op.List (list_op.Write (section.Unregister r x))) a e n = absurd (cc)
+only-enter mark (op.Handle (handle_op.Look x k)) a e n = absurd (cc)
+only-enter mark (op.Handle (handle_op.CopyAwaiter x k)) a e n = absurd (cc)
+only-enter mark (op.Handle (handle_op.Register x k i)) a e n = absurd (cc)
+only-enter mark (op.Handle (handle_op.EndRegister x k i)) a e n = absurd (cc)
+only-enter mark (op.Handle (handle_op.LookAgain x)) a e n = absurd (cc)
+only-enter mark (op.Table table_op.LookAtTable) a e n = absurd (cc)
+only-enter mark (op.Queue queue_op.TakeTurn) a e n = absurd (cc)
+only-enter mark (op.Queue (queue_op.Take look)) a e n = absurd (cc)
+only-enter mark (op.Waker (waker_op.CopyWaker x held)) a e n = absurd (cc)
+only-enter mark (op.Tick tick_op.MakeTick) a e n = absurd (cc)
+only-enter mark (op.Tick (tick_op.Search s)) a e n = absurd (no-poll s.who (call.Spawn mark) refl refl e)
+only-enter mark (op.Tick (tick_op.Look s look)) a e n = absurd (no-poll s.who (call.Spawn mark) refl refl e)
+only-enter mark (op.Tick (tick_op.CopyWaker s)) a e n = absurd (no-poll s.who (call.Spawn mark) refl refl e)
+only-enter mark (op.Tick (tick_op.FallAsleep s)) a e n = absurd (no-poll s.who (call.Spawn mark) refl refl e)
+only-enter mark (op.User (user_op.PollOwn x)) a e n = absurd (cc)
+only-enter mark (op.List (list_op.LockRead x)) a e n = absurd (cc)
+only-enter mark (op.Steal o) a e n = absurd (cc)
+only-enter mark (op.Run run_op.MakeRoom) a e n = absurd (cc)
+only-enter mark (op.Run (run_op.TakeTurn x)) a e n = absurd (cc)
+only-enter mark (op.Run (run_op.SearchCommon x look)) a e n = absurd (cc)
+only-enter mark (op.Run (run_op.LookOwn x at left)) a e n = absurd (cc)
+only-enter mark (op.Run (run_op.WakeOwn x)) a e n = absurd (cc)
+only-enter mark (op.Run (run_op.Reschedule r x)) a e n = absurd (cc)
+only-enter mark (op.End r held) a e n = absurd (cc)
+only-enter mark _ a e n = absurd (cc)
 
 pub spawn-next : (b : Bool) (c : Call) → spawns c ≡ b → (p : ℕ) (h : Hint) (o : Op) (w : World) → is_end o ≡ false →
     misfit c o ≡ 0 → is_enter o ≡ false → weigh full_of (act p h o w).next ≡ 0
@@ -111,11 +115,11 @@ spawn-next false c s p h o w n e k =
       weigh-below full_of (misfit c) (full-misfit c s) (act p h o w).next,
       fit-act c p h o w n e,
     )
-spawn-next true call.Spawn s p h o w n e k = ⊎_elim
+spawn-next true (call.Spawn mark) s p h o w n e k = ⊎_elim
     (λ (z : calling_of o ≡ 0).
     omega (arith, weigh-below full_of calling_of few-full (act p h o w).next, (calls-act p h o w n).passes.none z))
     (λ (z : calling_of o ≡ 1).
-    let no : true ≡ false = sym (only-enter o z (served (serves o call.Spawn) e) n) ∙ k in absurd (cc)) (calling-is o)
+    let no : true ≡ false = sym (only-enter mark o z (served (serves o (call.Spawn mark)) e) n) ∙ k in absurd (cc)) (calling-is o)
 spawn-next true _ s p h o w n e k = absurd (cc)
 
 pub full-react : (p : ℕ) (o : Op) (u : UserEnd) (w : World) → accepts o u ≡ true → weigh full_of (react p o u w).next ≡ 0

@@ -6,6 +6,7 @@ use Rattle.std.proofs.Common.{cond, not, inl, inr, ⊎_elim, refl, subst, sym, a
 use Rattle.std.proofs.lemmas.Bool.Decides.{nat_tests}
 use Rattle.std.proofs.lemmas.List.{append_assoc}
 use Rattle.std.specs.Prelude.{Option, Some, None, nat_lt, reverse}
+use Rattle.executor_parts.specs.declared.mark.Mark.{Mark}
 use Rattle.executor_model.specs.declared.kind.Kind.{Kind}
 use Rattle.executor_model.specs.declared.call.Call.{Call}
 use Rattle.executor_model.specs.declared.call.Call.TheVariants as call
@@ -67,7 +68,7 @@ limit-effect w old _ (turns d m p f v more i j k s a e) =
     ap (λ (x : World). x.limit) a ∙ (ap (λ (x : World). x.limit) (told-world (is_last_waker m (task v f)) (is_told m (task v f)) m p v f)
     ∙ (s 0 none no_extra).stays.limit)
 limit-effect w old d (refuses f e) = refl
-limit-effect w old d (enters p e) = refl
+limit-effect w old d (enters mark p e) = refl
 limit-effect w old d (unlists f e) = refl
 limit-effect w old d (drops p f) = refl
 limit-effect w old d takes_out = refl
@@ -90,13 +91,13 @@ took-place s f m k = ⊎_elim
     (λ (x : has (is_dropped f) s.world.trace ≡ false). record { accepted = m.accepted; remained = inl x })
     (λ (x : 1 ≤ weigh_all (leaves_of f) s.parties). k x) m.remains
 
-full-now : (n : ℕ) (s : Machine) (p : ℕ) (rest : List Op) → Good s → p < length s.parties →
-    stack s p ≡ rest ++ reverse (op.Table table_op.Enter ∷ []) → Between n s →
+full-now : (n : ℕ) (s : Machine) (p : ℕ) (mark : Mark) (rest : List Op) → Good s → p < length s.parties →
+    stack s p ≡ rest ++ reverse (op.Table (table_op.Enter mark) ∷ []) → Between n s →
     not (nat_lt (length s.world.table) s.world.limit) ≡ true → AreMany n (TookPlace s.world.trace)
-full-now n s p rest fine l e k b =
+full-now n s p mark rest fine l e k b =
     let placed : Placed s = k.held.placed in
     let uses : 1 ≤ weigh_all borrowing_of s.parties =
-    omega (arith, split borrowing_of s.parties p (op.Table table_op.Enter ∷ []) rest l e) in
+    omega (arith, split borrowing_of s.parties p (op.Table (table_op.Enter mark) ∷ []) rest l e) in
     let full : s.world.limit ≤ length s.world.table = grind (arith, nat_tests, b) in
     record {
       futures = s.world.table;
@@ -111,7 +112,7 @@ called-next : (p : ℕ) (w : World) (here : Option Waker) (c : Call) → weigh f
 called-next p w here c = by (spawns c) refl
   where
     spawned : (c : Call) → spawns c ≡ true → weigh full_of (begun p w here c).next ≡ 0
-    spawned call.Spawn e = refl
+    spawned (call.Spawn mark) e = refl
     spawned _ e = absurd (cc)
 
     by : (b : Bool) → spawns c ≡ b → weigh full_of (begun p w here c).next ≡ 0
@@ -147,10 +148,11 @@ module _ (n : ℕ) (s : Machine) (p : ℕ) (old rest : List Op) (fine : Good s) 
     answer = b;
   }
 
-  entered : (b c : Bool) → not (nat_lt (length s.world.table) s.world.limit) ≡ b → old ≡ op.Table table_op.Enter ∷ [] →
-      (weigh_all full_of (unsettled s p rest (enter_by b c p s.world)).parties ≡ 0)
-      ⊎ Told n (unsettled s p rest (enter_by b c p s.world)) p
-  entered true c z q = inr (record {
+  entered : (b c : Bool) (mark : Mark) → not (nat_lt (length s.world.table) s.world.limit) ≡ b →
+      old ≡ op.Table (table_op.Enter mark) ∷ [] →
+      (weigh_all full_of (unsettled s p rest (enter_by b c mark p s.world)).parties ≡ 0)
+      ⊎ Told n (unsettled s p rest (enter_by b c mark p s.world)) p
+  entered true c mark z q = inr (record {
     below = rest;
     held = hold.Executor;
     is = get_or-set_same s.parties p (rest ++ op.End reply.Full hold.Executor ∷ []) [] l;
@@ -161,17 +163,17 @@ module _ (n : ℕ) (s : Machine) (p : ℕ) (old rest : List Op) (fine : Good s) 
       split full_of s.parties p old rest l e,
       ap (weigh full_of) q,
     );
-    many = full-now n s p rest fine l (subst (λ (os : List Op). stack s p ≡ rest ++ reverse os) q e) k z;
+    many = full-now n s p mark rest fine l (subst (λ (os : List Op). stack s p ≡ rest ++ reverse os) q e) k z;
   })
-  entered false true z q = inl (none-more (enter_by false true p s.world) refl)
-  entered false false z q = inl (none-more (enter_by false false p s.world) refl)
+  entered false true mark z q = inl (none-more (enter_by false true mark p s.world) refl)
+  entered false false mark z q = inl (none-more (enter_by false false mark p s.world) refl)
 
   answer-acted : (h : Hint) (o : Op) (b : Bool) → is_enter o ≡ b → is_end o ≡ false → old ≡ o ∷ [] → Serves o →
       (weigh_all full_of (unsettled s p rest (act p h o s.world)).parties ≡ 0)
       ⊎ Told n (unsettled s p rest (act p h o s.world)) p
   answer-acted h o false i u q x = inl (none-more (act p h o s.world)
       (spawn-next (spawns x.call) x.call refl p h o s.world u x.fits i))
-  answer-acted h (op.Table table_op.Enter) true i u q x = entered _ _ refl q
+  answer-acted h (op.Table (table_op.Enter mark)) true i u q x = entered _ _ mark refl q
   answer-acted h _ true i u q x = absurd (cc)
 
   by-act : (h : Hint) (o : Op) (b : Bool) → is_end o ≡ b → old ≡ o ∷ [] →

@@ -5,6 +5,8 @@ use Rattle.std.proofs.Common.{inl, inr, ⊎_elim, refl, subst, sym, ap, ◌∙�
 use Rattle.std.proofs.lemmas.List.{append_cancel_left}
 use Rattle.std.proofs.lemmas.List.Folds.{list_any-append}
 use Rattle.std.specs.Prelude.{reverse}
+use Rattle.executor_model.proofs.Steps.QueuesByMark.{any-shut}
+use Rattle.executor_parts.specs.declared.mark.Mark.TheVariants.{Urgent}
 use Rattle.executor_model.specs.declared.kind.Kind.{Kind}
 use Rattle.executor_model.specs.declared.call.Call.{Call}
 use Rattle.executor_model.specs.declared.call.Call.TheVariants as call
@@ -21,7 +23,7 @@ use Rattle.executor_model.specs.Steps.{Machine, begun, mine, run, stack, start, 
 use Rattle.executor_model.specs.Trace.{Trace, has, is_accepted, is_drop_begun}
 use Rattle.executor_model.specs.World.{World, Done, log}
 use Rattle.executor_model.proofs.Awaiters.AwaitedClosing.{Swept, swept}
-use Rattle.executor_model.proofs.Awaiters.AwaitedSweeps.{dropping_of, rousing_of, shutting_of}
+use Rattle.executor_model.proofs.Awaiters.AwaitedSweeps.{dropping_of, rousing_of, shutting_urgent_of}
 use Rattle.executor_model.proofs.OneFuture.Telling.{accepted-counts, begun-has, fallen-counts}
 use Rattle.executor_model.proofs.Promises.CallPromises.{has-left, has-right}
 use Rattle.executor_model.proofs.Quiet.Calls.{is_end}
@@ -116,10 +118,11 @@ dropped-at-rest : (s : Machine) (f : ℕ) → Good s → Placed s → Swept s �
 dropped-at-rest s f fine h w d k quiet asked there =
     let idle : (q : ℕ) → stack s q ≡ [] = λ q. rests s d quiet q in
     let gone : s.world.gone ≡ true = sym (h.leaves f).begun ∙ (begun-has f s.world.trace ∙ k asked) in
-    let shut : s.world.queue.closed ≡ true = closes _ _ _ _ s.world.queue.closed (all-rest ousting_of s.parties idle)
-    (all-rest dropping_of s.parties idle) (all-rest rousing_of s.parties idle) (all-rest shutting_of s.parties idle)
-    (w.shut gone) in
-    let x = (h.leaves f).shut shut in
+    let shut : s.world.queues.urgent.closed ≡ true =
+    closes _ _ _ _ s.world.queues.urgent.closed (all-rest ousting_of s.parties idle)
+    (all-rest dropping_of s.parties idle) (all-rest rousing_of s.parties idle)
+    (all-rest shutting_urgent_of s.parties idle) (w.urgent_shut gone) in
+    let x = (h.leaves f).shut (any-shut Urgent s.world.queues shut) in
     let y = (h.leaves f).swept gone x.1.0 in
     omega (
       arith,

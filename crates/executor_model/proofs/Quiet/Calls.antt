@@ -6,6 +6,11 @@ use Rattle.std.proofs.Common.{Bool, true, false, cond, refl, sym, ap, ◌∙◌,
 use Rattle.std.proofs.lemmas.List.{append_assoc}
 use Rattle.std.proofs.lemmas.List.Sums.{sum_by_push}
 use Rattle.std.specs.Prelude.{Option, Some, None, count_by}
+use Rattle.executor_parts.specs.declared.mark.Mark.TheVariants.{Plain, Urgent}
+use Rattle.executor_parts.specs.Marks.{first_of}
+use Rattle.executor_model.specs.declared.op.Look.{Look}
+use Rattle.executor_model.specs.declared.op.Look.TheVariants.{First, Second}
+use Rattle.executor_parts.specs.declared.mark.Mark.{Mark}
 use Rattle.task_moves.specs.declared.moves.owed.Owed.{Owed}
 use Rattle.task_moves.specs.declared.moves.owed.Move.TheVariants as move
 use Rattle.task_moves.specs.declared.moves.owed.Answer.{Answer}
@@ -35,7 +40,7 @@ use Rattle.executor_model.specs.World.{World, Done, log, log_if, task, put, awai
 use Rattle.executor_model.specs.Carried.{owed_ops, awaiter_ops}
 use Rattle.executor_model.specs.Acts.{append_by, take_by, enter_by, leave_by, copy_by, look_by, look_again_by}
 use Rattle.executor_model.specs.Acts.{copy_awaiter_by, register_by, let_go, end_register_by, notify_by}
-use Rattle.executor_model.specs.Acts.{call_awaiter, closing_ops, drop_next_by, wake, wake_next_by, drain_by}
+use Rattle.executor_model.specs.Acts.{call_awaiter, close, closing_ops, drop_next_by, take_turn, wake, wake_next_by, drain_by}
 use Rattle.executor_model.specs.Weights.{same, weigh}
 use Rattle.executor_model.proofs.Steps.Lists.{weigh-append}
 use Rattle.executor_model.proofs.Steps.Asides.{aside-entry, Aside, aside-awaiter, aside-owed, aside-let_go, aside-closing}
@@ -45,8 +50,9 @@ use Rattle.executor_model.proofs.Steps.Asides.{aside-leak_next, aside-leak_out}
 
 -- what has still to answer its call
 abbrev pub calling_of : Op → ℕ
-calling_of (op.Table table_op.Enter) = 1
-calling_of (op.Queue queue_op.Take) = 1
+calling_of (op.Table (table_op.Enter mark)) = 1
+calling_of (op.Queue queue_op.TakeTurn) = 1
+calling_of (op.Queue (queue_op.Take look)) = 1
 calling_of (op.Table table_op.LookAtTable) = 1
 calling_of (op.Waker (waker_op.CopyWaker f held)) = 1
 calling_of (op.Handle (handle_op.Look f a)) = 1
@@ -56,6 +62,7 @@ calling_of (op.Handle (handle_op.EndRegister f a k)) = 1
 calling_of (op.Handle (handle_op.LookAgain f)) = 1
 calling_of (op.Tick tick_op.MakeTick) = 1
 calling_of (op.Tick (tick_op.Search s)) = 1
+calling_of (op.Tick (tick_op.Look s look)) = 1
 calling_of (op.Tick (tick_op.CopyWaker s)) = 1
 calling_of (op.Tick (tick_op.FallAsleep s)) = 1
 calling_of (op.User (user_op.PollOwn x)) = 1
@@ -64,7 +71,8 @@ calling_of (op.List (list_op.Write s)) = 1
 calling_of (op.List (list_op.LockRead x)) = 1
 calling_of (op.Steal o) = 1
 calling_of (op.Run run_op.MakeRoom) = 1
-calling_of (op.Run (run_op.SearchCommon x)) = 1
+calling_of (op.Run (run_op.TakeTurn x)) = 1
+calling_of (op.Run (run_op.SearchCommon x look)) = 1
 calling_of (op.Run (run_op.LookOwn x at left)) = 1
 calling_of (op.Run (run_op.WakeOwn x)) = 1
 calling_of (op.Run (run_op.Reschedule r a)) = 1
@@ -191,20 +199,29 @@ none-owed f there o = aside-owed calling_of no-call f there o
 
 -- each thing to do, but for the end of a call
 
-pub calls-append : (b : Bool) (w : World) (f : ℕ) → Calls w (op.Queue (queue_op.Append f)) (append_by b w f)
-calls-append true w f = inside w _ _ refl (steady-same _ _ refl) refl
-calls-append false w f = inside w _ _ refl (steady-same _ _ refl) refl
+pub calls-append : (b : Bool) (w : World) (mark : Mark) (f : ℕ) →
+    Calls w (op.Queue (queue_op.Append f)) (append_by b w mark f)
+calls-append true w mark f = inside w _ _ refl (steady-same _ _ refl) refl
+calls-append false w mark f = inside w _ _ refl (steady-same _ _ refl) refl
 
-pub calls-take : (q : List ℕ) (w : World) → Calls w (op.Queue queue_op.Take) (take_by w q)
-calls-take [] w = answers w _ _ refl (steady-same _ _ refl) (single _ refl)
-calls-take (f ∷ rest) w =
+-- a turn leads to one look, which answers as it does
+pub calls-turn : (p : ℕ) (w : World) (o : Op) (looks : Look → Op) → calling_of o ≡ 1 →
+    ((look : Look) → calling_of (looks look) ≡ 1) → Calls w o (take_turn p w looks)
+calls-turn p w o looks z n =
+    answers w o (take_turn p w looks) z
+    (steady-log w _ (event.Looked p (first_of w.urgent_turns)) refl (λ q. refl) (λ q. refl)) (single _ (n _))
+
+pub calls-take : (look : Look) (q : List ℕ) (w : World) → Calls w (op.Queue (queue_op.Take look)) (take_by w look q)
+calls-take (First mark) [] w = answers w _ _ refl (steady-same _ _ refl) (single _ refl)
+calls-take (Second mark) [] w = answers w _ _ refl (steady-same _ _ refl) (single _ refl)
+calls-take look (f ∷ rest) w =
     answers w _ _ refl (steady-same _ _ refl)
     (then (op.Sleeper sleeper_op.ExchangeFlag ∷ op.Move move.TakeUp f ∷ []) _ refl refl)
 
-pub calls-enter : (b c : Bool) (p : ℕ) (w : World) → Calls w (op.Table table_op.Enter) (enter_by b c p w)
-calls-enter true c p w = answers w _ _ refl (steady-same _ _ refl) (single _ refl)
-calls-enter false true p w = answers w _ _ refl (steady-same _ _ refl) (single _ refl)
-calls-enter false false p w =
+pub calls-enter : (b c : Bool) (mark : Mark) (p : ℕ) (w : World) → Calls w (op.Table (table_op.Enter mark)) (enter_by b c mark p w)
+calls-enter true c mark p w = answers w _ _ refl (steady-same _ _ refl) (single _ refl)
+calls-enter false true mark p w = answers w _ _ refl (steady-same _ _ refl) (single _ refl)
+calls-enter false false mark p w =
     answers w _ _ refl (steady-log _ _ (event.Accepted p (length w.tasks)) refl (λ q. refl) (λ q. refl))
     (then (op.Queue (queue_op.Append (length w.tasks)) ∷ []) _ refl refl)
 
@@ -314,9 +331,14 @@ calls-leak_next false p w (f ∷ rest) =
     (steady-log u _ (event.Leaked p f) refl (λ q. refl) (λ q. refl)))
     (aside-leak_next calling_of refl none-wake false p w (f ∷ rest))
 
-pub calls-drain : (p : ℕ) (w : World) (q : List ℕ) → Calls w (op.Closing closing_op.Drain) (drain_by p w q)
-calls-drain p w [] = inside w _ _ refl (steady-log _ _ (event.DropEnded p) refl (λ q. refl) (λ q. refl)) refl
-calls-drain p w (f ∷ rest) = inside w _ _ refl (steady-same _ _ refl) refl
+pub calls-close : (mark : Mark) (w : World) → Calls w (op.Closing (closing_op.Close mark)) (close w mark)
+calls-close Urgent w = inside w _ _ refl (steady-same _ _ refl) refl
+calls-close Plain w = inside w _ _ refl (steady-same _ _ refl) refl
+
+pub calls-drain : (mark : Mark) (p : ℕ) (w : World) (q : List ℕ) → Calls w (op.Closing (closing_op.Drain mark)) (drain_by p w mark q)
+calls-drain Urgent p w [] = inside w _ _ refl (steady-same _ _ refl) refl
+calls-drain Plain p w [] = inside w _ _ refl (steady-log _ _ (event.DropEnded p) refl (λ q. refl) (λ q. refl)) refl
+calls-drain mark p w (f ∷ rest) = inside w _ _ refl (steady-same _ _ refl) refl
 
 abbrev pub is_end : Op → Bool
 is_end (op.End r held) = true

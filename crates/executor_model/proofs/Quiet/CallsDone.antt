@@ -72,7 +72,7 @@ itself : (n : ℕ) → (let k : ℕ = cond (eqb n n) 0 1 in k) + 0 ≡ 0
 itself n = let e : eqb n n ≡ true = grind (arith, nat_tests) in rw e (let z : 0 + 0 ≡ 0 = omega arith in z)
 
 pub fit-begun : (p : ℕ) (w : World) (here : Option Waker) (c : Call) → weigh (misfit c) (begun p w here c).next ≡ 0
-fit-begun p w here call.Spawn = refl
+fit-begun p w here (call.Spawn mark) = refl
 fit-begun p w here call.TryTick = refl
 fit-begun p w here call.IsEmpty = refl
 fit-begun p w here (call.Wake k) = fit-with (call.Wake k) w (kept w k) _ (λ f. refl)
@@ -110,7 +110,7 @@ promised-begun : (p : ℕ) (w : World) (ss : List (List Op)) (o : Option Op) (c 
     has_all w ss o c ≡ true →
     (begun p (log w (event.CallBegun p c)) (mine o) c).world.trace ≡ (log w (event.CallBegun p c)).trace ++ own →
     Promised c past own (begun p (log w (event.CallBegun p c)) (mine o) c).next
-promised-begun p w ss o call.Spawn past own e g = λ k. absurd (omega (arith, k))
+promised-begun p w ss o (call.Spawn mark) past own e g = λ k. absurd (omega (arith, k))
 promised-begun p w ss o call.TryTick past own e g = λ k. absurd (omega (arith, k))
 promised-begun p w ss o (call.PollTick t b) past own e g = λ k. absurd (omega (arith, k))
 promised-begun p w ss o (call.Wake n) past own e g =

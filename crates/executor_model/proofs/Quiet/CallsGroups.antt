@@ -1,6 +1,7 @@
 -- For quiet_emptiness_is_exact, outputs_are_kept, awaiters_are_kept and own_queues_agree.
 -- Each thing that is done answers its call or nothing, by groups.
 use Rattle.std.proofs.Common.{◌≡◌, ℕ, Bool, true, false, refl}
+use Rattle.executor_model.specs.World.{queue_of}
 use Rattle.task_moves.specs.declared.moves.owed.Move.{Move}
 use Rattle.task_moves.specs.declared.moves.owed.Move.TheVariants as move
 use Rattle.task_moves.specs.Moves as moves
@@ -18,10 +19,10 @@ use Rattle.executor_model.specs.World.{World, task, among, awaiter_of, log_if}
 use Rattle.executor_model.specs.Acts.{is_last_waker, is_told, let_go_by, move_by, told_as, told_of}
 use Rattle.executor_model.specs.Doing.{act}
 use Rattle.executor_model.proofs.Quiet.Calls.{is_end, Calls, answers, calls-again, calls-answered, calls-append, calls-call}
-use Rattle.executor_model.proofs.Quiet.Calls.{calls-copy, calls-copy_awaiter, calls-drain, calls-drop_next}
+use Rattle.executor_model.proofs.Quiet.Calls.{calls-close, calls-copy, calls-copy_awaiter, calls-drain, calls-drop_next}
 use Rattle.executor_model.proofs.Quiet.Calls.{calls-end_register, calls-enter, calls-leave, calls-notify, calls-register}
 use Rattle.executor_model.proofs.Steps.Asides.{aside-told, aside-closing, aside-let_go}
-use Rattle.executor_model.proofs.Quiet.Calls.{calls-take, calls-wake_next, inside, no-call, none-owed, calling_of}
+use Rattle.executor_model.proofs.Quiet.Calls.{calls-take, calls-turn, calls-wake_next, inside, no-call, none-owed, calling_of}
 use Rattle.executor_model.proofs.Quiet.Calls.{begin_of, end_of, single, steady-and, steady-log, steady-log_if, steady-same}
 use Rattle.executor_model.proofs.Quiet.RunsCalls.{calls-list, calls-run, calls-steal}
 use Rattle.executor_model.proofs.Quiet.SleepersCalls.{calls-sleeper, calls-tick}
@@ -55,10 +56,12 @@ calls-let_go false w f =
     inside w _ _ refl (steady-same _ _ refl) (aside-let_go calling_of no-call (awaiter_of w f))
 
 pub calls-act : (p : ℕ) (h : Hint) (o : Op) (w : World) → is_end o ≡ false → Calls w o (act p h o w)
-calls-act p h (op.Table table_op.Enter) w n = calls-enter _ _ p w
-calls-act p h (op.Queue queue_op.Take) w n = calls-take _ w
+calls-act p h (op.Table (table_op.Enter mark)) w n = calls-enter _ _ _ p w
+calls-act p h (op.Queue queue_op.TakeTurn) w n =
+    calls-turn p w (op.Queue queue_op.TakeTurn) (λ look. op.Queue (queue_op.Take look)) refl (λ look. refl)
+calls-act p h (op.Queue (queue_op.Take look)) w n = calls-take look _ w
 calls-act p h (op.Table table_op.LookAtTable) w n = answers w _ _ refl (steady-same _ _ refl) (single _ refl)
-calls-act p h (op.Queue (queue_op.Append f)) w n = calls-append _ w f
+calls-act p h (op.Queue (queue_op.Append f)) w n = calls-append _ w _ f
 calls-act p h (op.Move m f) w n = calls-move _ m p w f
 calls-act p h (op.User (user_op.BeginDrop f)) w n =
     inside w _ _ refl (steady-log _ _ (event.Dropped p f) refl (λ q. refl) (λ q. refl)) refl
@@ -78,7 +81,7 @@ calls-act p h (op.Handle (handle_op.EndNotify f mine)) w n =
 calls-act p h (op.Handle (handle_op.LetGo f)) w n = calls-let_go _ w f
 calls-act p h (op.Waker (waker_op.CallAwaiter f a k)) w n = calls-call p w f a k
 calls-act p h (op.Sleeper o) w n = calls-sleeper p o w
-calls-act p h (op.Tick o) w n = calls-tick h o w
+calls-act p h (op.Tick o) w n = calls-tick p h o w
 calls-act p h (op.List o) w n = calls-list h o w
 calls-act p h (op.Steal o) w n = calls-steal p o w
 calls-act p h (op.Run o) w n = calls-run p h o w
@@ -87,7 +90,8 @@ calls-act p h (op.Closing closing_op.TakeOut) w n =
     inside w _ _ refl (steady-same _ _ refl) (aside-closing calling_of (λ o. refl) w.table w.waking)
 calls-act p h (op.Closing closing_op.DropNext) w n = calls-drop_next p w w.leaving
 calls-act p h (op.Closing closing_op.WakeNext) w n = calls-wake_next p w w.waking
-calls-act p h (op.Closing closing_op.Drain) w n = calls-drain p w w.queue.items
+calls-act p h (op.Closing (closing_op.Close mark)) w n = calls-close mark w
+calls-act p h (op.Closing (closing_op.Drain mark)) w n = calls-drain mark p w (queue_of w mark).items
 calls-act p h (op.Closing closing_op.LeakOut) w n = calls-leak_out _ w
 calls-act p h (op.Closing closing_op.LeakNext) w n = calls-leak_next _ p w w.waking
 calls-act p h (op.End r held) w n = absurd (cc)

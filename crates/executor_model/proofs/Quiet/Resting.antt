@@ -81,8 +81,9 @@ counts-answering next a =
     ap (weigh calling_of) a.is ∙ omega (arith, weigh-append calling_of a.front (a.last ∷ []), a.none, a.call)
 
 pub calling-is : (o : Op) → (calling_of o ≡ 0) ⊎ (calling_of o ≡ 1)
-calling-is (op.Table table_op.Enter) = inr refl
-calling-is (op.Queue queue_op.Take) = inr refl
+calling-is (op.Table (table_op.Enter mark)) = inr refl
+calling-is (op.Queue queue_op.TakeTurn) = inr refl
+calling-is (op.Queue (queue_op.Take look)) = inr refl
 calling-is (op.Table table_op.LookAtTable) = inr refl
 calling-is (op.Waker (waker_op.CopyWaker f held)) = inr refl
 calling-is (op.Handle (handle_op.Look f a)) = inr refl
@@ -95,6 +96,7 @@ calling-is (op.Sleeper sleeper_op.HandOut) = inl refl
 calling-is (op.Sleeper (sleeper_op.CallSleeper s)) = inl refl
 calling-is (op.Tick tick_op.MakeTick) = inr refl
 calling-is (op.Tick (tick_op.Search s)) = inr refl
+calling-is (op.Tick (tick_op.Look s look)) = inr refl
 calling-is (op.Tick (tick_op.CopyWaker s)) = inr refl
 calling-is (op.Tick (tick_op.FallAsleep s)) = inr refl
 calling-is (op.User (user_op.PollOwn x)) = inr refl
@@ -104,7 +106,8 @@ calling-is (op.List (list_op.LockRead x)) = inr refl
 calling-is (op.Steal o) = inr refl
 calling-is (op.Run run_op.MakeRoom) = inr refl
 calling-is (op.Run run_op.ReturnRoom) = inl refl
-calling-is (op.Run (run_op.SearchCommon x)) = inr refl
+calling-is (op.Run (run_op.TakeTurn x)) = inr refl
+calling-is (op.Run (run_op.SearchCommon x look)) = inr refl
 calling-is (op.Run (run_op.LookOwn x at left)) = inr refl
 calling-is (op.Run (run_op.WakeOwn x)) = inr refl
 calling-is (op.Run (run_op.Reschedule r a)) = inr refl
@@ -233,7 +236,7 @@ left-true false b e = absurd (cc)
 
 pub opens : (p : ℕ) (w : World) (ss : List (List Op)) (o : Option Op) (c : Call) → has_all w ss o c ≡ true →
     Opens w p c (begun p (log w (event.CallBegun p c)) (mine o) c)
-opens p w ss o call.Spawn k = (steady-same _ _ refl, single _ refl)
+opens p w ss o (call.Spawn mark) k = (steady-same _ _ refl, single _ refl)
 opens p w ss o call.TryTick k = (steady-same _ _ refl, single _ refl)
 opens p w ss o call.IsEmpty k = (steady-same _ _ refl, single _ refl)
 opens p w ss o (call.Wake n) k =

@@ -1,6 +1,8 @@
 -- For quiet_emptiness_is_exact, outputs_are_kept, awaiters_are_kept and own_queues_agree.
 -- What a run does leads to one answer of its call.
 use Rattle.std.proofs.Common.{◌≡◌, ℕ, zero, suc, ◌+◌, List, [], ◌∷◌, length, Bool, true, false, eqb, refl}
+use Rattle.executor_model.specs.declared.op.Look.{Look}
+use Rattle.executor_model.specs.declared.op.Look.TheVariants.{First, Second}
 use Rattle.task_moves.specs.Moves as moves
 use Rattle.task_moves.specs.declared.moves.owed.Move.TheVariants as move
 use Rattle.executor_model.specs.declared.call.Reply.{Reply}
@@ -44,7 +46,7 @@ use Rattle.executor_model.specs.ActsOfRuns.{steal_take_by, stolen, wake_own, wal
 use Rattle.executor_model.specs.Doing.{list_act, run_act, steal_act}
 use Rattle.executor_model.specs.Steps.{drop_run, poll_run}
 use Rattle.executor_model.proofs.Quiet.Calls.{calling_of, Steady, steady-and, steady-log, steady-log_if, steady-same}
-use Rattle.executor_model.proofs.Quiet.Calls.{Answering, Calls, answers, before, inside, none-owed, single, then}
+use Rattle.executor_model.proofs.Quiet.Calls.{Answering, Calls, answers, before, calls-turn, inside, none-owed, single, then}
 use Rattle.executor_model.proofs.Steps.RunsMoves.{Moves, moves-common, moves-length, moves-list, moves-look, moves-make_room}
 use Rattle.executor_model.proofs.Steps.RunsMoves.{moves-own, moves-own_length, moves-put_back, moves-reschedule, moves-take}
 
@@ -72,6 +74,7 @@ one-found w x f =
 
 one-stolen : (n : Then) (w : World) (x : RunPoll) → Answering (stolen n w x).next
 one-stolen (then_op.Found f) w x = one-found w x f
+one-stolen (then_op.StealPlain f) w x = single _ refl
 one-stolen (then_op.Run f) w x = one-run_by _ w x f
 one-stolen (then_op.Walk at left) w x = single _ refl
 
@@ -106,9 +109,10 @@ one-own : (q : List ℕ) (w : World) (x : RunPoll) → Answering (search_own_by 
 one-own [] w x = single _ refl
 one-own (f ∷ rest) w x = one-found (put_own w x.run rest) x f
 
-one-common : (q : List ℕ) (w : World) (x : RunPoll) → Answering (search_common_by q w x).next
-one-common [] w x = single _ refl
-one-common (f ∷ rest) w x = single _ refl
+one-common : (look : Look) (q : List ℕ) (w : World) (x : RunPoll) → Answering (search_common_by q w x look).next
+one-common (First mark) [] w x = single _ refl
+one-common (Second mark) [] w x = single _ refl
+one-common look (f ∷ rest) w x = single _ refl
 
 one-look : (q : List ℕ) (w : World) (x : RunPoll) (at left : ℕ) → Answering (look_own_by q w x at left).next
 one-look [] w x at left = one-walk x w.listed at left
@@ -207,7 +211,9 @@ one-room false w = single _ refl
 pub calls-run : (p : ℕ) (h : Hint) (o : RunOp) (w : World) → Calls w (op.Run o) (run_act p h o w)
 calls-run p h run_op.MakeRoom w = moved w _ _ refl (moves-make_room h.refused w) (one-room h.refused w)
 calls-run p h run_op.ReturnRoom w = inside w _ _ refl (steady-same _ _ refl) refl
-calls-run p h (run_op.SearchCommon x) w = moved w _ _ refl (moves-common _ w x refl) (one-common _ w x)
+calls-run p h (run_op.TakeTurn x) w =
+    calls-turn p w (op.Run (run_op.TakeTurn x)) (λ look. op.Run (run_op.SearchCommon x look)) refl (λ look. refl)
+calls-run p h (run_op.SearchCommon x look) w = moved w _ _ refl (moves-common look _ w x refl) (one-common look _ w x)
 calls-run p h (run_op.LookOwn x at left) w = moved w _ _ refl (moves-look _ w x at left refl) (one-look _ w x at left)
 calls-run p h (run_op.WakeOwn x) w = calls-wake_own p w x
 calls-run p h (run_op.Reschedule r a) w = moved w _ _ refl (moves-reschedule _ w r a refl) (one-reschedule _ w r a)

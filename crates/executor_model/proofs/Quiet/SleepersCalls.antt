@@ -2,6 +2,8 @@
 -- What tells sleepers answers no call; what a tick does leads to one answer.
 use Rattle.std.proofs.Common.{◌≡◌, ℕ, List, [], ◌∷◌, Bool, true, false, refl}
 use Rattle.std.specs.Prelude.{Option, Some, None, is_none}
+use Rattle.executor_model.specs.declared.op.Look.{Look}
+use Rattle.executor_model.specs.declared.op.Look.TheVariants.{First, Second}
 use Rattle.task_moves.specs.declared.moves.owed.Move.TheVariants as move
 use Rattle.executor_parts.specs.Sleepers.{waker_at, waker_of}
 use Rattle.executor_model.specs.declared.call.Reply.TheVariants as reply
@@ -20,12 +22,12 @@ use Rattle.executor_model.specs.declared.step.Hint.{Hint}
 use Rattle.executor_model.specs.declared.op.TickOrRun.{TickOrRun}
 use Rattle.executor_model.specs.World.{World, Ticker, Awake, Asleep, Left, log}
 use Rattle.executor_model.specs.Acts.{call_waker, copied}
-use Rattle.executor_model.specs.ActsOfSleepers.{exchange_by, hand_out_by, held_as, make_tick_by, polled_as, search_by}
+use Rattle.executor_model.specs.ActsOfSleepers.{exchange_by, hand_out_by, held_as, make_tick_by, polled_as, look_tick_by}
 use Rattle.executor_model.specs.ActsOfSleepers.{copy_sleeper_by, sleep_anew_by, sleeper_goes, sleep_listed_by, sleep_again_by}
 use Rattle.executor_model.specs.ActsOfSleepers.{fall_asleep_by, wake_up_by, tell_and_return, leave_sleepers_by}
 use Rattle.executor_model.specs.Doing.{search_by_who, sleeper_act, tick_act}
 use Rattle.executor_model.proofs.Quiet.Calls.{calling_of, Steady, steady-same, steady-log, steady-and, steady-wake, Answering}
-use Rattle.executor_model.proofs.Quiet.Calls.{Calls, inside, answers, single, then, none-wake, none-both}
+use Rattle.executor_model.proofs.Quiet.Calls.{Calls, calls-turn, inside, answers, single, then, none-wake, none-both}
 use Rattle.executor_model.proofs.Quiet.RunsCalls.{calls-search_run}
 use Rattle.executor_model.proofs.Steps.SleepersNext.{Unseen, goes-unseen, tell-unseen, sleeper-unseen}
 
@@ -60,14 +62,15 @@ pub calls-sleeper : (p : ℕ) (o : SleeperOp) (w : World) → Calls w (op.Sleepe
 calls-sleeper p o w = inside w (op.Sleeper o) (sleeper_act p o w) (idle o) (steady-sleeper p o w)
     (sleeper-unseen calling_of unseen p o w)
 
-found : (x : Ticker) (w : World) (f : ℕ) (rest : List ℕ) (s : Sleeping) → Answering (search_by x w (f ∷ rest) s).next
-found Awake w f rest s =
+found : (x : Ticker) (w : World) (look : Look) (f : ℕ) (rest : List ℕ) (s : Sleeping) →
+    Answering (look_tick_by x w look (f ∷ rest) s).next
+found Awake w look f rest s =
     then (op.Sleeper sleeper_op.ExchangeFlag ∷ op.Move move.TakeUp f ∷ [])
     (op.End reply.Ready (held_as s.who)) refl refl
-found (Asleep n) w f rest s =
+found (Asleep n) w look f rest s =
     then (op.Tick (tick_op.WakeUp s.who) ∷ op.Sleeper sleeper_op.ExchangeFlag ∷ op.Move move.TakeUp f ∷ [])
     (op.End reply.Ready (held_as s.who)) refl refl
-found Left w f rest s =
+found Left w look f rest s =
     then (op.Sleeper sleeper_op.ExchangeFlag ∷ op.Move move.TakeUp f ∷ [])
     (op.End reply.Ready (held_as s.who)) refl refl
 
@@ -75,15 +78,17 @@ calls-make : (b : Bool) (w : World) → Calls w (op.Tick tick_op.MakeTick) (make
 calls-make true w = answers w _ _ refl (steady-same _ _ refl) (single _ refl)
 calls-make false w = answers w _ _ refl (steady-same _ _ refl) (single _ refl)
 
-calls-search : (x : Ticker) (w : World) (q : List ℕ) (s : Sleeping) →
-    Calls w (op.Tick (tick_op.Search s)) (search_by x w q s)
-calls-search x w [] s = answers w _ _ refl (steady-same _ _ refl) (single _ refl)
-calls-search x w (f ∷ rest) s = answers w _ _ refl (steady-same _ _ refl) (found x w f rest s)
+calls-search : (look : Look) (x : Ticker) (w : World) (q : List ℕ) (s : Sleeping) →
+    Calls w (op.Tick (tick_op.Look s look)) (look_tick_by x w look q s)
+calls-search (First mark) x w [] s = answers w _ _ refl (steady-same _ _ refl) (single _ refl)
+calls-search (Second mark) x w [] s = answers w _ _ refl (steady-same _ _ refl) (single _ refl)
+calls-search look x w (f ∷ rest) s = answers w _ _ refl (steady-same _ _ refl) (found x w look f rest s)
 
-calls-search_who : (who : TickOrRun) (w : World) (s : Sleeping) → s.who ≡ who →
-    Calls w (op.Tick (tick_op.Search s)) (search_by_who who w s)
-calls-search_who (tick_or_run.Tick t) w s e = calls-search _ w _ s
-calls-search_who (tick_or_run.Run r) w s e = calls-search_run w r s e
+calls-search_who : (who : TickOrRun) (p : ℕ) (w : World) (s : Sleeping) → s.who ≡ who →
+    Calls w (op.Tick (tick_op.Search s)) (search_by_who who p w s)
+calls-search_who (tick_or_run.Tick t) p w s e =
+    calls-turn p w (op.Tick (tick_op.Search s)) (λ look. op.Tick (tick_op.Look s look)) refl (λ look. refl)
+calls-search_who (tick_or_run.Run r) p w s e = calls-search_run w r s e
 
 steady-copied : (w : World) (a : Waker) → Steady w (copied w a)
 steady-copied w (Task m) = steady-same _ _ refl
@@ -132,10 +137,11 @@ calls-leave_sleepers (Asleep n) w t =
     (tell-unseen calling_of refl refl (is_none old)))
 calls-leave_sleepers Left w t = inside w _ _ refl (steady-same _ _ refl) refl
 
-pub calls-tick : (h : Hint) (o : TickOp) (w : World) → Calls w (op.Tick o) (tick_act h o w)
-calls-tick h tick_op.MakeTick w = calls-make _ w
-calls-tick h (tick_op.Search s) w = calls-search_who s.who w s refl
-calls-tick h (tick_op.CopyWaker s) w = calls-copy _ w s
-calls-tick h (tick_op.FallAsleep s) w = calls-sleep _ w s
-calls-tick h (tick_op.WakeUp t) w = calls-up _ w t
-calls-tick h (tick_op.Leave t) w = calls-leave_sleepers _ w t
+pub calls-tick : (p : ℕ) (h : Hint) (o : TickOp) (w : World) → Calls w (op.Tick o) (tick_act p h o w)
+calls-tick p h tick_op.MakeTick w = calls-make _ w
+calls-tick p h (tick_op.Search s) w = calls-search_who s.who p w s refl
+calls-tick p h (tick_op.Look s look) w = calls-search look _ w _ s
+calls-tick p h (tick_op.CopyWaker s) w = calls-copy _ w s
+calls-tick p h (tick_op.FallAsleep s) w = calls-sleep _ w s
+calls-tick p h (tick_op.WakeUp t) w = calls-up _ w t
+calls-tick p h (tick_op.Leave t) w = calls-leave_sleepers _ w t

@@ -1,7 +1,15 @@
 -- For sleepers_agree and sleepers_are_told.
 -- What is no part of the sleepers, of a tick or of a run's making leaves the sleepers, and who sleeps, as they are.
-use Rattle.std.proofs.Common.{◌≡◌, ◌∙◌, ℕ, zero, suc, ◌+◌, ◌≤◌, List, [], ◌∷◌, length, drop, Bool, true}
-use Rattle.std.proofs.Common.{false, eqb, refl, sym, ap, arith}
+use Rattle.std.proofs.Common.{◌≡◌, ◌∙◌, ℕ, zero, suc, ◌+◌, ◌≤◌, List, [], ◌∷◌, length, Bool, true}
+use Rattle.std.proofs.Common.{false, eqb, refl, sym, ap, subst, arith}
+use Rattle.executor_model.proofs.Steps.QueuesByMark.{items-shut, fewer-first}
+use Rattle.executor_model.specs.Queues.{Queues, queue_in}
+use Rattle.executor_model.specs.declared.op.Look.{Look}
+use Rattle.executor_parts.specs.declared.mark.Mark.TheVariants.{Plain, Urgent}
+use Rattle.executor_parts.specs.declared.mark.Mark.{Mark}
+use Rattle.executor_model.specs.declared.op.Look.TheVariants.{First, Second}
+use Rattle.executor_model.specs.World.{queue_of}
+use Rattle.executor_model.specs.Acts.{mark_in}
 use Rattle.executor_parts.specs.Sleepers.{Sleepers}
 use Rattle.task_moves.specs.declared.moves.owed.Move.TheVariants as move
 use Rattle.executor_model.specs.declared.event.Event.TheVariants as event
@@ -68,17 +76,18 @@ owes-rooms os z = omega (arith, z, weigh-below room_of owes_of (λ o. omega arit
 abbrev stirs_of : Op → ℕ
 stirs_of o = owes_of o + wakes_up_of o
 
--- they stay, nobody hands out and no room is owed because of it, who wakes up tells, and the queue gets no longer
+-- they stay, nobody hands out and no room is owed because of it, who wakes up tells, and no queue gets longer
 pub record Away (w : World) (d : Done) : Type 0 where
   pub sleepers_seen : sleepers_seen w ≡ sleepers_seen d.world
   pub owes : weigh owes_of d.next ≡ 0
   pub wakes_up : wakes_up_well d.next ≡ true
-  pub queue : length d.world.queue.items ≤ length w.queue.items
+  pub queue : (m : Mark) → length (queue_of d.world m).items ≤ length (queue_of w m).items
 
-same-queue : (w v : World) → v.queue ≡ w.queue → length v.queue.items ≤ length w.queue.items
-same-queue w v e = omega (arith, ap (λ q. length q.items) e)
+same-queue : (w v : World) → v.queues ≡ w.queues → (m : Mark) →
+    length (queue_of v m).items ≤ length (queue_of w m).items
+same-queue w v e m = omega (arith, ap (λ (q : Queues). length (queue_in m q).items) e)
 
-pub away : (w : World) (d : Done) → sleepers_seen w ≡ sleepers_seen d.world → d.world.queue ≡ w.queue → weigh stirs_of d.next ≡ 0 →
+pub away : (w : World) (d : Done) → sleepers_seen w ≡ sleepers_seen d.world → d.world.queues ≡ w.queues → weigh stirs_of d.next ≡ 0 →
     Away w d
 away w d b q h = record {
   sleepers_seen = b;
@@ -88,7 +97,7 @@ away w d b q h = record {
 }
 
 -- of what a run does
-away-run : (w : World) (d : Done) → sleepers_seen w ≡ sleepers_seen d.world → d.world.queue ≡ w.queue → weigh owes_of d.next ≡ 0 →
+away-run : (w : World) (d : Done) → sleepers_seen w ≡ sleepers_seen d.world → d.world.queues ≡ w.queues → weigh owes_of d.next ≡ 0 →
     wakes_up_well d.next ≡ true → Away w d
 away-run w d b q h r = record { sleepers_seen = b; owes = h; wakes_up = r; queue = same-queue w d.world q }
 
@@ -113,18 +122,21 @@ away-frame w d f = away w d (ap beds_of f.rest) (ap (λ (r : Rest). r.queue) (sy
 pub away-call : (p : ℕ) (w : World) (o : Polled) (a : Waker) (k : ℕ) → Away w (acts.call_waker p w o a k)
 away-call p w o a k = away-frame w (acts.call_waker p w o a k) (frame-call p w o a k)
 
--- the queue, but for an append
+-- the queues, but for an append
 
-shorter : (f : ℕ) (rest xs : List ℕ) → xs ≡ f ∷ rest → length (drop 1 xs) ≤ length xs
-shorter f rest xs e = rw e (omega arith)
+away-take : (look : Look) (q : List ℕ) (w : World) → (queue_of w (mark_in look)).items ≡ q → Away w (acts.take_by w look q)
+away-take (First mark) [] w e = away w _ refl refl refl
+away-take (Second mark) [] w e = away w _ refl refl refl
+away-take look (f ∷ rest) w e = record { sleepers_seen = refl; owes = refl; wakes_up = refl; queue = λ m. fewer-first (mark_in look) m f rest w.queues e }
 
-away-take : (q : List ℕ) (w : World) → w.queue.items ≡ q → Away w (acts.take_by w q)
-away-take [] w e = away w _ refl refl refl
-away-take (f ∷ rest) w e = record { sleepers_seen = refl; owes = refl; wakes_up = refl; queue = shorter f rest w.queue.items e }
+away-drain : (mark : Mark) (p : ℕ) (w : World) (q : List ℕ) → (queue_of w mark).items ≡ q → Away w (acts.drain_by p w mark q)
+away-drain Urgent p w [] e = away w _ refl refl refl
+away-drain Plain p w [] e = away w _ refl refl refl
+away-drain mark p w (f ∷ rest) e = record { sleepers_seen = refl; owes = refl; wakes_up = refl; queue = λ m. fewer-first mark m f rest w.queues e }
 
-away-drain : (p : ℕ) (w : World) (q : List ℕ) → w.queue.items ≡ q → Away w (acts.drain_by p w q)
-away-drain p w [] e = away w _ refl refl refl
-away-drain p w (f ∷ rest) e = record { sleepers_seen = refl; owes = refl; wakes_up = refl; queue = shorter f rest w.queue.items e }
+away-close : (mark : Mark) (w : World) → Away w (acts.close w mark)
+away-close Urgent w = record { sleepers_seen = refl; owes = refl; wakes_up = refl; queue = λ m. omega (arith, ap length (items-shut Urgent m w.queues)) }
+away-close Plain w = record { sleepers_seen = refl; owes = refl; wakes_up = refl; queue = λ m. omega (arith, ap length (items-shut Plain m w.queues)) }
 
 -- runs
 
@@ -147,7 +159,8 @@ no-owes-searching = record {
   steal = λ o. refl;
   lock = λ x. refl;
   unlock = refl;
-  common = λ x. refl;
+  turn = λ x. refl;
+  common = λ x look. refl;
   look = λ x at left. refl;
   wake = λ x. refl;
 }
@@ -155,7 +168,7 @@ no-owes-searching = record {
 -- what is found is run: the queue and the places stay
 pub record Stays (w v : World) : Type 0 where
   pub sleepers_seen : sleepers_seen w ≡ sleepers_seen v
-  pub queue : v.queue ≡ w.queue
+  pub queue : v.queues ≡ w.queues
 
 stays-both : (u v w : World) → Stays u v → Stays v w → Stays u w
 stays-both u v w a b = record { sleepers_seen = a.sleepers_seen ∙ b.sleepers_seen; queue = b.queue ∙ a.queue }
@@ -176,6 +189,7 @@ stays-found w x f = stays-counted _ w x f
 
 pub stays-stolen : (t : Then) (w : World) (x : RunPoll) → Stays w (runs.stolen t w x).world
 stays-stolen (then.Found f) w x = stays-found w x f
+stays-stolen (then.StealPlain f) w x = record { sleepers_seen = refl; queue = refl }
 stays-stolen (then.Run f) w x = stays-run_by _ w x f
 stays-stolen (then.Walk at left) w x = record { sleepers_seen = refl; queue = refl }
 
@@ -185,6 +199,7 @@ stays-more (suc n) w s = record { sleepers_seen = refl; queue = refl }
 
 wakes_up-stolen : (t : Then) (w : World) (x : RunPoll) → wakes_up_well (runs.stolen t w x).next ≡ true
 wakes_up-stolen (then.Found f) w x = wakes_up-run w x f
+wakes_up-stolen (then.StealPlain f) w x = refl
 wakes_up-stolen (then.Run f) w x = wakes_up-by _ w x f
 wakes_up-stolen (then.Walk at left) w x = refl
 
@@ -215,15 +230,20 @@ away-without : (from : Source) (q : List ℕ) (w : World) (s : Steal) (more : �
     s.from ≡ from → Away w (runs.steal_take_by q w s more)
 away-without from [] w s more e i = away-stays w _ (stays-stolen s.then w s.poll)
     (stolen-unseen owes_of no-owes-searching s.then w s.poll) (wakes_up-stolen s.then w s.poll)
-away-without Common (f ∷ rest) w s more e i = by s.from i
+away-without (Common mark) (f ∷ rest) w s more e i = by s.from i
   where
-    by : (a : Source) → a ≡ Common → Away w (done (runs.without_first w a rest) (op.Steal (steal_op.Put s more f) ∷ []))
-    by Common j = record { sleepers_seen = refl; owes = refl; wakes_up = refl; queue = shorter f rest w.queue.items e }
+    by : (a : Source) → a ≡ Common mark → Away w (done (runs.without_first w a rest) (op.Steal (steal_op.Put s more f) ∷ []))
+    by (Common n) j = record {
+      sleepers_seen = refl;
+      owes = refl;
+      wakes_up = refl;
+      queue = λ m. fewer-first n m f rest w.queues (subst (λ (b : Source). runs.source_of w b ≡ f ∷ rest) (sym j) e);
+    }
     by (Own r) j = away w _ refl refl refl
 away-without (Own r) (f ∷ rest) w s more e i = by s.from i
   where
     by : (a : Source) → a ≡ Own r → Away w (done (runs.without_first w a rest) (op.Steal (steal_op.Put s more f) ∷ []))
-    by Common j = absurd (cc)
+    by (Common n) j = absurd (cc)
     by (Own q) j = away w _ refl refl refl
 
 away-length : (n : ℕ) (w : World) (s : Steal) → Away w (runs.steal_length_by n w s)
@@ -248,9 +268,10 @@ away-steal p (steal_op.OwnLength s n) w = away-stays w _ (stays-more _ w s)
 away-steal p (steal_op.Take s more) w = away-without s.from _ w s more refl refl
 away-steal p (steal_op.Put s more f) w = away-put _ p w s more f
 
-away-common : (q : List ℕ) (w : World) (x : RunPoll) → w.queue.items ≡ q → Away w (runs.search_common_by q w x)
-away-common [] w x e = away w _ refl refl refl
-away-common (f ∷ rest) w x e = record { sleepers_seen = refl; owes = refl; wakes_up = refl; queue = shorter f rest w.queue.items e }
+away-common : (look : Look) (q : List ℕ) (w : World) (x : RunPoll) → (queue_of w (mark_in look)).items ≡ q → Away w (runs.search_common_by q w x look)
+away-common (First mark) [] w x e = away w _ refl refl refl
+away-common (Second mark) [] w x e = away w _ refl refl refl
+away-common look (f ∷ rest) w x e = record { sleepers_seen = refl; owes = refl; wakes_up = refl; queue = λ m. fewer-first (mark_in look) m f rest w.queues e }
 
 away-looks : (q : List ℕ) (w : World) (x : RunPoll) (at left : ℕ) → Away w (runs.look_own_by q w x at left)
 away-looks [] w x at left = away-run w _ refl refl (walk-unseen owes_of no-owes-searching x w.listed at left)
@@ -300,18 +321,20 @@ is_seen_asleep (op.Run run_op.ReturnRoom) = true
 is_seen_asleep _ = false
 
 pub away-act : (p : ℕ) (h : Hint) (o : Op) (w : World) → is_seen_asleep o ≡ false → Away w (act p h o w)
-away-act p h (op.Queue queue_op.Take) w n = away-take _ w refl
+away-act p h (op.Queue queue_op.TakeTurn) w n = away w _ refl refl refl
+away-act p h (op.Queue (queue_op.Take look)) w n = away-take look _ w refl
 away-act p h (op.Queue (queue_op.Append f)) w n = absurd (cc)
 away-act p h (op.User (user_op.PollOwn x)) w n = away w _ refl refl refl
-away-act p h (op.Closing closing_op.Close) w n = record { sleepers_seen = refl; owes = refl; wakes_up = refl; queue = omega arith }
-away-act p h (op.Closing closing_op.Drain) w n = away-drain p w _ refl
+away-act p h (op.Closing (closing_op.Close mark)) w n = away-close mark w
+away-act p h (op.Closing (closing_op.Drain mark)) w n = away-drain mark p w _ refl
 away-act p h (op.Sleeper o) w n = absurd (cc)
 away-act p h (op.Tick o) w n = absurd (cc)
 away-act p h (op.List o) w n = absurd (cc)
 away-act p h (op.Steal o) w n = away-steal p o w
 away-act p h (op.Run run_op.MakeRoom) w n = absurd (cc)
 away-act p h (op.Run run_op.ReturnRoom) w n = absurd (cc)
-away-act p h (op.Run (run_op.SearchCommon x)) w n = away-common _ w x refl
+away-act p h (op.Run (run_op.TakeTurn x)) w n = away w _ refl refl refl
+away-act p h (op.Run (run_op.SearchCommon x look)) w n = away-common look _ w x refl
 away-act p h (op.Run (run_op.LookOwn x at left)) w n = away-looks _ w x at left
 away-act p h (op.Run (run_op.WakeOwn x)) w n = away-by_reference p w x x.waker
 away-act p h (op.Run (run_op.Reschedule r a)) w n = away-reschedule _ w r a

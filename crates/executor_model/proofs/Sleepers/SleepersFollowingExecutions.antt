@@ -5,6 +5,9 @@ use Rattle.std.proofs.Common.{true, false, ltb, eqb}
 use Rattle.std.proofs.Common.{refl, sym, ap, subst, ⊎_elim, ◌⊎◌, inl, inr, ◌||◌, arith}
 use Rattle.std.proofs.lemmas.Bool.Decides.{nat_tests}
 use Rattle.std.specs.Prelude.{Option, Some, None, is_none, reverse}
+use Rattle.executor_model.specs.declared.op.Look.{Look}
+use Rattle.executor_parts.specs.declared.mark.Mark.{Mark}
+use Rattle.executor_model.specs.declared.op.Look.TheVariants.{First, Second}
 use Rattle.executor_parts.specs.Sleepers.{flag_of, position_of, waker_at, waker_of}
 use Rattle.executor_parts.proofs.Agreeing.{first}
 use Rattle.executor_model.specs.declared.kind.Kind.{Kind}
@@ -41,7 +44,7 @@ use Rattle.executor_model.specs.ActsOfRuns.{lock_read, lock_write, make_room_by,
 use Rattle.executor_model.specs.ActsOfSleepers.{exchange_by, hand_out_by, call_sleeper, make_tick_by, polled_as}
 use Rattle.executor_model.specs.Doing.{act}
 use Rattle.executor_model.specs.Acts.{copied}
-use Rattle.executor_model.specs.ActsOfSleepers.{search_by, copy_sleeper_by, sleep_anew_by, sleeper_goes}
+use Rattle.executor_model.specs.ActsOfSleepers.{look_tick_by, copy_sleeper_by, sleep_anew_by, sleeper_goes}
 use Rattle.executor_model.specs.ActsOfSleepers.{sleep_listed_by, sleep_again_by, fall_asleep_by, wake_up_by, tell_and_return}
 use Rattle.executor_model.specs.ActsOfSleepers.{pend_as}
 use Rattle.executor_model.specs.ActsOfSleepers.{leave_sleepers_by}
@@ -112,9 +115,9 @@ goes o = goes-unseen owes_of (λ f. refl) o
 goes-well : (o : Option Sleeping) → wakes_up_well (sleeper_goes o) ≡ true
 goes-well o = wakes_up-none (sleeper_goes o) (goes-unseen wakes_up_of (λ f. refl) o)
 
-follow-append : (b : Bool) (w : World) (f : ℕ) → Follow w (op.Queue (queue_op.Append f) ∷ []) (append_by b w f)
-follow-append true w f = still w _ _ _ refl refl refl refl
-follow-append false w f = still w _ _ _ refl refl refl refl
+follow-append : (b : Bool) (w : World) (mark : Mark) (f : ℕ) → Follow w (op.Queue (queue_op.Append f) ∷ []) (append_by b w mark f)
+follow-append true w mark f = still w _ _ _ refl refl refl refl
+follow-append false w mark f = still w _ _ _ refl refl refl refl
 
 follow-exchange : (b : Bool) (w : World) → w.notified ≡ b →
     Follow w (op.Sleeper sleeper_op.ExchangeFlag ∷ []) (exchange_by b w)
@@ -158,17 +161,18 @@ follow-make : (b : Bool) (w : World) → Follow w (op.Tick tick_op.MakeTick ∷ 
 follow-make true w = still w _ _ _ refl refl refl refl
 follow-make false w = turned w _ _ _ refl refl refl (λ k m f. follows-make w k m f)
 
-follow-search : (x : Ticker) (q : List ℕ) (w : World) (s : Sleeping) →
-    Follow w (op.Tick (tick_op.Search s) ∷ []) (search_by x w q s)
-follow-search x [] w s = still w _ _ _ refl refl refl refl
-follow-search Awake (f ∷ rest) w s = still w _ _ _ refl refl refl refl
-follow-search (Asleep n) (f ∷ rest) w s = still w _ _ _ refl refl refl refl
-follow-search Left (f ∷ rest) w s = still w _ _ _ refl refl refl refl
+follow-search : (look : Look) (x : Ticker) (q : List ℕ) (w : World) (s : Sleeping) →
+    Follow w (op.Tick (tick_op.Look s look) ∷ []) (look_tick_by x w look q s)
+follow-search (First mark) x [] w s = still w _ _ _ refl refl refl refl
+follow-search (Second mark) x [] w s = still w _ _ _ refl refl refl refl
+follow-search look Awake (f ∷ rest) w s = still w _ _ _ refl refl refl refl
+follow-search look (Asleep n) (f ∷ rest) w s = still w _ _ _ refl refl refl refl
+follow-search look Left (f ∷ rest) w s = still w _ _ _ refl refl refl refl
 
-follow-search_who : (who : TickOrRun) (w : World) (s : Sleeping) →
-    Follow w (op.Tick (tick_op.Search s) ∷ []) (search_by_who who w s)
-follow-search_who (tick_or_run.Tick t) w s = follow-search _ _ w s
-follow-search_who (tick_or_run.Run r) w s = follow-away w _ _ refl
+follow-search_who : (who : TickOrRun) (p : ℕ) (w : World) (s : Sleeping) →
+    Follow w (op.Tick (tick_op.Search s) ∷ []) (search_by_who who p w s)
+follow-search_who (tick_or_run.Tick t) p w s = still w _ _ _ refl refl refl refl
+follow-search_who (tick_or_run.Run r) p w s = follow-away w _ _ refl
     (away-own _ w (record { run = r; waker = s.waker; poll = s.poll }))
 
 sleepers_seen-copied : (a : Waker) (w : World) → sleepers_seen w ≡ sleepers_seen (copied w a)
@@ -248,13 +252,14 @@ follow-leave (Asleep n) w t e =
     }
 follow-leave Left w t e = still w _ _ _ refl refl refl refl
 
-follow-tick : (h : Hint) (o : TickOp) (w : World) → Follow w (op.Tick o ∷ []) (tick_act h o w)
-follow-tick h tick_op.MakeTick w = follow-make _ w
-follow-tick h (tick_op.Search s) w = follow-search_who s.who w s
-follow-tick h (tick_op.CopyWaker s) w = follow-copy _ w s
-follow-tick h (tick_op.FallAsleep s) w = follow-sleep _ w s refl
-follow-tick h (tick_op.WakeUp t) w = follow-up _ w t refl
-follow-tick h (tick_op.Leave t) w = follow-leave _ w t refl
+follow-tick : (p : ℕ) (h : Hint) (o : TickOp) (w : World) → Follow w (op.Tick o ∷ []) (tick_act p h o w)
+follow-tick p h tick_op.MakeTick w = follow-make _ w
+follow-tick p h (tick_op.Search s) w = follow-search_who s.who p w s
+follow-tick p h (tick_op.Look s look) w = follow-search look _ _ w s
+follow-tick p h (tick_op.CopyWaker s) w = follow-copy _ w s
+follow-tick p h (tick_op.FallAsleep s) w = follow-sleep _ w s refl
+follow-tick p h (tick_op.WakeUp t) w = follow-up _ w t refl
+follow-tick p h (tick_op.Leave t) w = follow-leave _ w t refl
 
 -- the list of queues, and room for a run
 
@@ -315,9 +320,9 @@ no-owes _ e = refl
 
 pub follow-act : (b : Bool) (p : ℕ) (h : Hint) (o : Op) (w : World) → is_seen_asleep o ≡ b → Follow w (o ∷ []) (act p h o w)
 follow-act false p h o w n = follow-away w (o ∷ []) (act p h o w) (omega (arith, no-owes o n)) (away-act p h o w n)
-follow-act true p h (op.Queue (queue_op.Append g)) w n = follow-append _ w g
+follow-act true p h (op.Queue (queue_op.Append g)) w n = follow-append _ w _ g
 follow-act true p h (op.Sleeper o) w n = follow-sleeper p o w
-follow-act true p h (op.Tick o) w n = follow-tick h o w
+follow-act true p h (op.Tick o) w n = follow-tick p h o w
 follow-act true p h (op.List o) w n = follow-list h o w
 follow-act true p h (op.Run run_op.MakeRoom) w n = follow-room _ w
 follow-act true p h (op.Run run_op.ReturnRoom) w n = follow-returned w

@@ -1,12 +1,19 @@
 -- For sleepers_are_told.
--- Where a Runnable stands in the queue and a tick or run sleeps, a sleeper is notified or will be told.
+-- Where a Runnable stands in one of the executor's queues and a tick or run sleeps, a sleeper is notified or will be told.
 use Rattle.std.proofs.Common.{◌≡◌, ℕ, zero, suc, ◌+◌, ◌<◌, ◌≤◌, List, [], ◌∷◌, ◌++◌, length, take, Bool, true, false}
-use Rattle.std.proofs.Common.{ltb, eqb, refl, sym, ap, subst, inl, inr, ◌⊎◌, arith}
+use Rattle.std.proofs.Common.{ltb, eqb, refl, sym, ap, subst, inl, inr, ◌⊎◌, ⊎_elim, arith}
 use Rattle.std.proofs.lemmas.Bool.Decides.{nat_tests}
 use Rattle.std.proofs.lemmas.List.{length-set, length-take-le}
 use Rattle.std.proofs.lemmas.List.Edits.{length-remove}
 use Rattle.std.specs.Prelude.{◌-◌, Option, Some, None, is_none, remove, slice_get}
-use Rattle.queue_steps.specs.ClosableQueue.{ClosableQueue}
+use Rattle.executor_model.specs.Queues.{Queues, queue_in}
+use Rattle.executor_parts.specs.Marks.{other}
+use Rattle.executor_parts.specs.declared.mark.Mark.TheVariants.{Plain, Urgent}
+use Rattle.executor_model.specs.declared.op.Look.{Look}
+use Rattle.executor_parts.specs.declared.mark.Mark.{Mark}
+use Rattle.executor_model.specs.declared.op.Look.TheVariants.{First, Second}
+use Rattle.executor_model.specs.World.{queue_of}
+use Rattle.executor_model.specs.Acts.{mark_in}
 use Rattle.executor_parts.specs.Sleepers.{Sleepers, last_waker, waker_in, waker_at, waker_of}
 use Rattle.executor_parts.specs.Sleepers.{position_of, without_entry, freed, woken_up}
 use Rattle.executor_model.specs.declared.call.Call.{Call}
@@ -47,7 +54,7 @@ use Rattle.executor_model.specs.ActsOfRuns.{search_common_by, search_own_by, ste
 use Rattle.executor_model.specs.ActsOfRuns.{steal_take_by, stolen}
 use Rattle.executor_model.specs.Doing.{act}
 use Rattle.executor_model.specs.Acts.{copied}
-use Rattle.executor_model.specs.ActsOfSleepers.{search_by, copy_sleeper_by, sleep_anew_by, sleeper_goes}
+use Rattle.executor_model.specs.ActsOfSleepers.{look_tick_by, copy_sleeper_by, sleep_anew_by, sleeper_goes}
 use Rattle.executor_model.specs.ActsOfSleepers.{sleep_listed_by, sleep_again_by, fall_asleep_by, wake_up_by, given_back}
 use Rattle.executor_model.specs.ActsOfSleepers.{tell_and_return}
 use Rattle.executor_model.specs.ActsOfSleepers.{leave_sleepers_by}
@@ -60,397 +67,423 @@ use Rattle.executor_model.specs.World.{put_own, run_of}
 use Rattle.executor_model.proofs.Steps.Lists.{weigh-append}
 use Rattle.executor_model.proofs.Steps.SleepersLists.{position-within}
 use Rattle.executor_model.specs.SleepersAgree.{hands_of}
-use Rattle.executor_model.specs.SleepersTold.{tells_of, tells_steal, tells_then}
+use Rattle.executor_model.specs.SleepersTold.{tells_of, tells_steal, tells_then, tells_look}
 use Rattle.executor_model.proofs.Sleepers.SleepersAway.{sleepers_seen, sleepers_seen-run, Away, away-act, away-call, is_seen_asleep}
 use Rattle.executor_model.proofs.Sleepers.SleepersWakingUp.{wakes_up_of}
-
--- so it is where so many have still to tell
-pub record Told (w : World) (i : ℕ) : Type 0 where
-  pub told : 1 ≤ length w.queue.items → 1 ≤ w.sleepers.count → (length w.sleepers.wakers < w.sleepers.count) ⊎ (1 ≤ i)
 
 -- what is used of the sleepers, where so many have still to hand out
 pub record Ground (w : World) (a : ℕ) : Type 0 where
   pub flag : w.notified ≡ true → (w.sleepers.count ≡ 0) ⊎ ((length w.sleepers.wakers < w.sleepers.count) ⊎ (1 ≤ a))
   pub listed : length w.sleepers.wakers ≤ w.sleepers.count
 
--- it stays so where old is done, beside others who have still to tell k times, and to hand out m times; beside who gets
--- up there is one
-pub record Tells (w : World) (old : List Op) (d : Done) : Type 0 where
-  pub on : (i j k a m : ℕ) → i ≡ weigh tells_of old + k → j ≡ weigh tells_of d.next + k → a ≡ weigh hands_of old + m →
-      m ≤ k → weigh wakes_up_of old ≤ k → Ground w a → Told w i → Told d.world j
+-- a look at an empty queue: the queue of this mark is that one, or the next look will be at it
+looked-first : (m n : Mark) (w : World) → (queue_of w n).items ≡ [] →
+    (length (queue_of w m).items ≡ 0) ⊎ (tells_look m (Second (other n)) ≡ 1)
+looked-first Urgent Urgent w e = inl (ap length e)
+looked-first Urgent Plain w e = inr refl
+looked-first Plain Urgent w e = inr refl
+looked-first Plain Plain w e = inl (ap length e)
 
--- the sleepers stay, and the queue gets no longer
-same-told : (w v : World) (i j : ℕ) → sleepers_seen w ≡ sleepers_seen v → length v.queue.items ≤ length w.queue.items → i ≤ j → Told w i →
-    Told v j
-same-told w v i j e q l t =
-    let c : w.sleepers.count ≡ v.sleepers.count = ap (λ b. b.sleepers.count) e in
-    let n : length w.sleepers.wakers ≡ length v.sleepers.wakers = ap (λ b. length b.sleepers.wakers) e in
-    grind arith
+-- and so it is of a second look, which told nothing of the other queue
+looked-second : (m n : Mark) (w : World) → (queue_of w n).items ≡ [] →
+    (length (queue_of w m).items ≡ 0) ⊎ (tells_look m (Second n) ≡ 0)
+looked-second Urgent Urgent w e = inl (ap length e)
+looked-second Urgent Plain w e = inr refl
+looked-second Plain Urgent w e = inr refl
+looked-second Plain Plain w e = inl (ap length e)
 
--- they stay, the queue gets no longer, and as many tell as before
-pub steady : (w v : World) (old next : List Op) → sleepers_seen w ≡ sleepers_seen v → length v.queue.items ≤ length w.queue.items →
-    weigh tells_of old ≤ weigh tells_of next → Tells w old (done v next)
-steady w v old next e q z =
-    record { on = λ i j k a m x y u l r g t. same-told w v i j e q (omega (arith, x, y, z)) t }
+-- of the queue of each mark
+module _ (mark : Mark) where
+  -- so it is where so many have still to tell
+  pub record Told (w : World) (i : ℕ) : Type 0 where
+    pub told : 1 ≤ length (queue_of w mark).items → 1 ≤ w.sleepers.count → (length w.sleepers.wakers < w.sleepers.count) ⊎ (1 ≤ i)
 
-pub quiet : (w v : World) (old next : List Op) → sleepers_seen w ≡ sleepers_seen v → length v.queue.items ≤ length w.queue.items →
-    weigh tells_of old ≡ 0 → Tells w old (done v next)
-quiet w v old next e q z = steady w v old next e q (omega (arith, z))
+  -- it stays so where old is done, beside others who have still to tell k times, and to hand out m times; beside who gets
+  -- up there is one
+  pub record Tells (w : World) (old : List Op) (d : Done) : Type 0 where
+    pub on : (i j k a m : ℕ) → i ≡ weigh (tells_of mark) old + k → j ≡ weigh (tells_of mark) d.next + k → a ≡ weigh hands_of old + m →
+        m ≤ k → weigh wakes_up_of old ≤ k → Ground w a → Told w i → Told d.world j
 
--- somebody tells next
-loud : (w v : World) (old next : List Op) → 1 ≤ weigh tells_of next → Tells w old (done v next)
-loud w v old next z =
-    record { on = λ i j k a m x y u l r g t. record { told = λ p q. let b : 1 ≤ j = omega (arith, y, z) in inr b } }
+  -- the sleepers stay, and the queue of this mark gets no longer
+  same-told : (w v : World) (i j : ℕ) → sleepers_seen w ≡ sleepers_seen v → length (queue_of v mark).items ≤ length (queue_of w mark).items → i ≤ j → Told w i →
+      Told v j
+  same-told w v i j e q l t =
+      let c : w.sleepers.count ≡ v.sleepers.count = ap (λ b. b.sleepers.count) e in
+      let n : length w.sleepers.wakers ≡ length v.sleepers.wakers = ap (λ b. length b.sleepers.wakers) e in
+      grind arith
 
-tells-append : (b : Bool) (w : World) (f : ℕ) → Tells w (op.Queue (queue_op.Append f) ∷ []) (append_by b w f)
-tells-append true w f = loud w _ _ _ (omega arith)
-tells-append false w f = quiet w _ _ _ refl (omega arith) refl
+  -- they stay, the queue of this mark gets no longer, and as many tell as before
+  pub steady : (w v : World) (old next : List Op) → sleepers_seen w ≡ sleepers_seen v → length (queue_of v mark).items ≤ length (queue_of w mark).items →
+      weigh (tells_of mark) old ≤ weigh (tells_of mark) next → Tells w old (done v next)
+  steady w v old next e q z =
+      record { on = λ i j k a m x y u l r g t. same-told w v i j e q (omega (arith, x, y, z)) t }
 
-tells-exchange : (b : Bool) (w : World) → w.notified ≡ b →
-    Tells w (op.Sleeper sleeper_op.ExchangeFlag ∷ []) (exchange_by b w)
-tells-exchange true w e = record { on = λ i j k a m x y u l r g t. grind arith }
-tells-exchange false w e = loud w _ _ _ (omega arith)
+  pub quiet : (w v : World) (old next : List Op) → sleepers_seen w ≡ sleepers_seen v → length (queue_of v mark).items ≤ length (queue_of w mark).items →
+      weigh (tells_of mark) old ≡ 0 → Tells w old (done v next)
+  quiet w v old next e q z = steady w v old next e q (omega (arith, z))
 
-no-last : (ws : List (ℕ × Sleeping)) → last_waker ws ≡ None → length ws ≡ 0
-no-last [] e = refl
-no-last (x ∷ xs) e = absurd
-    (by x xs (subst (λ (n : ℕ). waker_in (slice_get (x ∷ xs) n) ≡ None)
-    (let less : suc (length xs) - 1 ≡ length xs = omega arith in less) e))
-  where
-    by : (x : ℕ × Sleeping) (xs : List (ℕ × Sleeping)) → waker_in (slice_get (x ∷ xs) (length xs)) ≡ None → ⊥
-    by x [] q = cc
-    by x (y ∷ ys) q = by y ys q
+  -- nothing stands there
+  none-there : (w v : World) (old next : List Op) → length (queue_of v mark).items ≡ 0 → Tells w old (done v next)
+  none-there w v old next z =
+      record { on = λ i j k a m x y u l r g t. record { told = λ p q. absurd (omega (arith, p, z)) } }
 
-tells-hand_out : (b : Bool) (o : Option Sleeping) (w : World) → eqb (length w.sleepers.wakers) w.sleepers.count ≡ b →
-    last_waker w.sleepers.wakers ≡ o → Tells w (op.Sleeper sleeper_op.HandOut ∷ []) (hand_out_by b o w)
-tells-hand_out false o w e q = record { on = λ i j k a m x y u l r g t. grind (arith, nat_tests) }
-tells-hand_out true None w e q = let z = no-last w.sleepers.wakers q in
-    record { on = λ i j k a m x y u l r g t. grind (arith, nat_tests) }
-tells-hand_out true (Some s) w e q = record { on = λ i j k a m x y u l r g t. taken w i j e q }
-  where
-    -- one less than all that sleep
-    taken : (w : World) (i j : ℕ) → eqb (length w.sleepers.wakers) w.sleepers.count ≡ true →
-        last_waker w.sleepers.wakers ≡ Some s → Told (hand_out_by true (Some s) w).world j
-    taken w i j e q =
-        record { told = λ p c. inl (shorter w.sleepers.wakers w.sleepers.count (grind (arith, nat_tests)) c) }
-      where
-        shorter : (ws : List (ℕ × Sleeping)) (n : ℕ) → length ws ≡ n → 1 ≤ n → length (take (length ws - 1) ws) < n
-        shorter ws n e c = omega (arith, e, c, length-take-le (length ws - 1) ws)
+  -- somebody tells next
+  loud : (w v : World) (old next : List Op) → 1 ≤ weigh (tells_of mark) next → Tells w old (done v next)
+  loud w v old next z =
+      record { on = λ i j k a m x y u l r g t. record { told = λ p q. let b : 1 ≤ j = omega (arith, y, z) in inr b } }
 
-tells-sleeper : (p : ℕ) (o : SleeperOp) (w : World) → Tells w (op.Sleeper o ∷ []) (sleeper_act p o w)
-tells-sleeper p sleeper_op.ExchangeFlag w = tells-exchange _ w refl
-tells-sleeper p sleeper_op.HandOut w = tells-hand_out _ _ w refl refl
-tells-sleeper p (sleeper_op.CallSleeper s) w = let a = away-call p w (polled_as s.who) s.waker s.poll in
-    quiet w (call_sleeper p w s).world _ (call_sleeper p w s).next a.sleepers_seen a.queue refl
+  tells-append : (b : Bool) (w : World) (n : Mark) (f : ℕ) → Tells w (op.Queue (queue_op.Append f) ∷ []) (append_by b w n f)
+  tells-append true w n f = loud w _ _ _ (omega arith)
+  tells-append false w n f = quiet w _ _ _ refl (omega arith) refl
 
--- ticks and runs
+  tells-exchange : (b : Bool) (w : World) → w.notified ≡ b →
+      Tells w (op.Sleeper sleeper_op.ExchangeFlag ∷ []) (exchange_by b w)
+  tells-exchange true w e = record { on = λ i j k a m x y u l r g t. grind arith }
+  tells-exchange false w e = loud w _ _ _ (omega arith)
 
-tells-make : (b : Bool) (w : World) → Tells w (op.Tick tick_op.MakeTick ∷ []) (make_tick_by b w)
-tells-make true w = quiet w _ _ _ refl (omega arith) refl
-tells-make false w = record { on = λ i j k a m x y u l r g t. record { told = λ p q. grind arith } }
+  no-last : (ws : List (ℕ × Sleeping)) → last_waker ws ≡ None → length ws ≡ 0
+  no-last [] e = refl
+  no-last (x ∷ xs) e = absurd
+      (by x xs (subst (λ (n : ℕ). waker_in (slice_get (x ∷ xs) n) ≡ None)
+      (let less : suc (length xs) - 1 ≡ length xs = omega arith in less) e))
+    where
+      by : (x : ℕ × Sleeping) (xs : List (ℕ × Sleeping)) → waker_in (slice_get (x ∷ xs) (length xs)) ≡ None → ⊥
+      by x [] q = cc
+      by x (y ∷ ys) q = by y ys q
 
-tells-search : (x : Ticker) (q : List ℕ) (w : World) (s : Sleeping) → w.queue.items ≡ q →
-    Tells w (op.Tick (tick_op.Search s) ∷ []) (search_by x w q s)
-tells-search x [] w s e =
-    record {
-      on = λ i j k a m x y u l r g t.
-          record { told = λ p q. absurd (let z : length w.queue.items ≡ 0 = ap length e in omega (arith, p, z)) };
-    }
-tells-search Awake (f ∷ rest) w s e = loud w _ _ _ (omega arith)
-tells-search (Asleep n) (f ∷ rest) w s e = loud w _ _ _ (omega arith)
-tells-search Left (f ∷ rest) w s e = loud w _ _ _ (omega arith)
+  tells-hand_out : (b : Bool) (o : Option Sleeping) (w : World) → eqb (length w.sleepers.wakers) w.sleepers.count ≡ b →
+      last_waker w.sleepers.wakers ≡ o → Tells w (op.Sleeper sleeper_op.HandOut ∷ []) (hand_out_by b o w)
+  tells-hand_out false o w e q = record { on = λ i j k a m x y u l r g t. grind (arith, nat_tests) }
+  tells-hand_out true None w e q = let z = no-last w.sleepers.wakers q in
+      record { on = λ i j k a m x y u l r g t. grind (arith, nat_tests) }
+  tells-hand_out true (Some s) w e q = record { on = λ i j k a m x y u l r g t. taken w i j e q }
+    where
+      -- one less than all that sleep
+      taken : (w : World) (i j : ℕ) → eqb (length w.sleepers.wakers) w.sleepers.count ≡ true →
+          last_waker w.sleepers.wakers ≡ Some s → Told (hand_out_by true (Some s) w).world j
+      taken w i j e q =
+          record { told = λ p c. inl (shorter w.sleepers.wakers w.sleepers.count (grind (arith, nat_tests)) c) }
+        where
+          shorter : (ws : List (ℕ × Sleeping)) (n : ℕ) → length ws ≡ n → 1 ≤ n → length (take (length ws - 1) ws) < n
+          shorter ws n e c = omega (arith, e, c, length-take-le (length ws - 1) ws)
 
-tells-copied : (a : Waker) (w : World) →
-    (sleepers_seen w ≡ sleepers_seen (copied w a)) × (length (copied w a).queue.items ≤ length w.queue.items)
-tells-copied (Task g) w = (refl, omega arith)
-tells-copied (Outside x) w = (refl, omega arith)
+  tells-sleeper : (p : ℕ) (o : SleeperOp) (w : World) → Tells w (op.Sleeper o ∷ []) (sleeper_act p o w)
+  tells-sleeper p sleeper_op.ExchangeFlag w = tells-exchange _ w refl
+  tells-sleeper p sleeper_op.HandOut w = tells-hand_out _ _ w refl refl
+  tells-sleeper p (sleeper_op.CallSleeper s) w = let a = away-call p w (polled_as s.who) s.waker s.poll in
+      quiet w (call_sleeper p w s).world _ (call_sleeper p w s).next a.sleepers_seen (a.queue mark) refl
 
-tells-copy : (b : Bool) (w : World) (s : Sleeping) →
-    Tells w (op.Tick (tick_op.CopyWaker s) ∷ []) (copy_sleeper_by b w s)
-tells-copy true w s = quiet w _ _ _ refl (omega arith) refl
-tells-copy false w s = let c = tells-copied s.waker w in quiet w _ _ _ c.0 c.1 refl
+  -- ticks and runs
 
-tells-anew : (b : Bool) (w : World) (s : Sleeping) → Tells w (op.Tick (tick_op.FallAsleep s) ∷ []) (sleep_anew_by b w s)
-tells-anew true w s = loud w _ _ _ (omega arith)
-tells-anew false w s = quiet w _ _ _ refl (omega arith) refl
+  tells-make : (b : Bool) (w : World) → Tells w (op.Tick tick_op.MakeTick ∷ []) (make_tick_by b w)
+  tells-make true w = quiet w _ _ _ refl (omega arith) refl
+  tells-make false w = record { on = λ i j k a m x y u l r g t. record { told = λ p q. grind arith } }
 
-tells-listed : (b : Bool) (w : World) (n : ℕ) (s : Sleeping) →
-    Tells w (op.Tick (tick_op.FallAsleep s) ∷ []) (sleep_listed_by b w n s)
-tells-listed true w n s = loud w _ _ _ (omega arith)
-tells-listed false w n s = quiet w _ _ _ refl (omega arith) refl
+  tells-search : (look : Look) (x : Ticker) (q : List ℕ) (w : World) (s : Sleeping) → (queue_of w (mark_in look)).items ≡ q →
+      Tells w (op.Tick (tick_op.Look s look) ∷ []) (look_tick_by x w look q s)
+  tells-search (First n) x [] w s e = ⊎_elim (none-there w w _ _) (λ z. loud w _ _ _ (omega (arith, z)))
+      (looked-first mark n w e)
+  tells-search (Second n) x [] w s e = ⊎_elim (none-there w w _ _)
+      (λ z. quiet w w _ _ refl (omega arith) (omega (arith, z))) (looked-second mark n w e)
+  tells-search look Awake (f ∷ rest) w s e = loud w _ _ _ (omega arith)
+  tells-search look (Asleep n) (f ∷ rest) w s e = loud w _ _ _ (omega arith)
+  tells-search look Left (f ∷ rest) w s e = loud w _ _ _ (omega arith)
 
-tells-again : (o : Option ℕ) (w : World) (n : ℕ) (s : Sleeping) →
-    Tells w (op.Tick (tick_op.FallAsleep s) ∷ []) (sleep_again_by o w n s)
-tells-again None w n s = tells-listed _ w n s
-tells-again (Some at) w n s =
-    record {
-      on = λ i j k a m x y u l r g t. let z = length-set w.sleepers.wakers at (n, s) in
-          record { told = λ p q. grind arith };
-    }
+  tells-copied : (a : Waker) (w : World) →
+      (sleepers_seen w ≡ sleepers_seen (copied w a)) × (length (queue_of (copied w a) mark).items ≤ length (queue_of w mark).items)
+  tells-copied (Task g) w = (refl, omega arith)
+  tells-copied (Outside x) w = (refl, omega arith)
 
-tells-sleep : (x : Ticker) (w : World) (s : Sleeping) → Tells w (op.Tick (tick_op.FallAsleep s) ∷ []) (fall_asleep_by x w s)
-tells-sleep Awake w s = tells-anew _ w s
-tells-sleep (Asleep n) w s = tells-again _ w n s
-tells-sleep Left w s = quiet w _ _ _ refl (omega arith) refl
+  tells-copy : (b : Bool) (w : World) (s : Sleeping) →
+      Tells w (op.Tick (tick_op.CopyWaker s) ∷ []) (copy_sleeper_by b w s)
+  tells-copy true w s = quiet w _ _ _ refl (omega arith) refl
+  tells-copy false w s = let c = tells-copied s.waker w in quiet w _ _ _ c.0 c.1 refl
 
-tells-up : (x : Ticker) (w : World) (t : TickOrRun) → Tells w (op.Tick (tick_op.WakeUp t) ∷ []) (wake_up_by x w t)
-tells-up x w t = record {
-  on = λ i j k a m y z u l r g h. record { told = λ p q. let b : 1 ≤ j = omega (arith, z, r) in inr b };
-}
+  tells-anew : (b : Bool) (w : World) (s : Sleeping) → Tells w (op.Tick (tick_op.FallAsleep s) ∷ []) (sleep_anew_by b w s)
+  tells-anew true w s = loud w _ _ _ (omega arith)
+  tells-anew false w s = quiet w _ _ _ refl (omega arith) refl
 
--- one with a waker leaves: it, and its waker
-left : (n at : ℕ) (s : Sleepers Sleeping) → position_of n s.wakers ≡ Some at → length s.wakers ≤ s.count →
-    ((woken_up n s).count + 1 ≡ s.count) × (length (woken_up n s).wakers + 1 ≡ length s.wakers)
-left n at s e l = subst (λ (o : Option ℕ). ((freed n (without_entry o s)).count + 1 ≡ s.count)
-    × (length (freed n (without_entry o s)).wakers + 1 ≡ length s.wakers)) (sym e)
-    (by (ltb (length (remove s.wakers at)) s.count) refl)
-  where
-    less : length (remove s.wakers at) + 1 ≡ length s.wakers
-    less = length-remove s.wakers at (position-within n at s.wakers e)
+  tells-listed : (b : Bool) (w : World) (n : ℕ) (s : Sleeping) →
+      Tells w (op.Tick (tick_op.FallAsleep s) ∷ []) (sleep_listed_by b w n s)
+  tells-listed true w n s = loud w _ _ _ (omega arith)
+  tells-listed false w n s = quiet w _ _ _ refl (omega arith) refl
 
-    by : (b : Bool) → ltb (length (remove s.wakers at)) s.count ≡ b →
-        let r : Sleepers Sleeping =
-        elim b [
-          | true ↦ record s { wakers = remove s.wakers at; count = s.count - 1; free = s.free ++ n ∷ [] }
-          | false ↦ record s { wakers = remove s.wakers at }
-        ] in
-        (r.count + 1 ≡ s.count) × (length r.wakers + 1 ≡ length s.wakers)
-    by true q = (omega (arith, less, l), less)
-    by false q = let no : s.count ≤ length (remove s.wakers at) = grind (arith, nat_tests) in
-        absurd (omega (arith, no, less, l))
+  tells-again : (o : Option ℕ) (w : World) (n : ℕ) (s : Sleeping) →
+      Tells w (op.Tick (tick_op.FallAsleep s) ∷ []) (sleep_again_by o w n s)
+  tells-again None w n s = tells-listed _ w n s
+  tells-again (Some at) w n s =
+      record {
+        on = λ i j k a m x y u l r g t. let z = length-set w.sleepers.wakers at (n, s) in
+            record { told = λ p q. grind arith };
+      }
 
-given : (s : Sleepers Sleeping) → ((given_back s).count ≡ s.count) × ((given_back s).wakers ≡ s.wakers)
-given s = by (ltb s.count s.rooms)
-  where
-    by : (b : Bool) → let r : Sleepers Sleeping = elim b [ true ↦ record s { rooms = s.rooms - 1 } | false ↦ s ] in
-        (r.count ≡ s.count) × (r.wakers ≡ s.wakers)
-    by true = (refl, refl)
-    by false = (refl, refl)
+  tells-sleep : (x : Ticker) (w : World) (s : Sleeping) → Tells w (op.Tick (tick_op.FallAsleep s) ∷ []) (fall_asleep_by x w s)
+  tells-sleep Awake w s = tells-anew _ w s
+  tells-sleep (Asleep n) w s = tells-again _ w n s
+  tells-sleep Left w s = quiet w _ _ _ refl (omega arith) refl
 
-has-place : (n : ℕ) (ws : List (ℕ × Sleeping)) (a : Sleeping) → waker_of n ws ≡ Some a →
-    (at : ℕ) × (position_of n ws ≡ Some at)
-has-place n ws a e = by (position_of n ws) refl e
-  where
-    by : (o : Option ℕ) → position_of n ws ≡ o → waker_at o ws ≡ Some a → (at : ℕ) × (position_of n ws ≡ Some at)
-    by None q k = absurd (cc)
-    by (Some at) q k = (at, q)
+  tells-up : (x : Ticker) (w : World) (t : TickOrRun) → Tells w (op.Tick (tick_op.WakeUp t) ∷ []) (wake_up_by x w t)
+  tells-up x w t = record {
+    on = λ i j k a m y z u l r g h. record { told = λ p q. let b : 1 ≤ j = omega (arith, z, r) in inr b };
+  }
 
-tells-left : (old : Option Sleeping) (w : World) (t : TickOrRun) (n : ℕ) → waker_of n w.sleepers.wakers ≡ old →
-    Tells w (op.Tick (tick_op.Leave t) ∷ []) (leave_sleepers_by (Asleep n) w t)
-tells-left None w t n e =
-    let o = waker_of n w.sleepers.wakers in
-    let told : weigh tells_of (tell_and_return (is_none o)) ≡ 1 =
-    ap (λ (x : Option Sleeping). weigh tells_of (tell_and_return (is_none x))) e in
-    loud w _ _ _
-    (omega (arith, told, weigh-append tells_of (sleeper_goes o) (tell_and_return (is_none o))))
-tells-left (Some x) w t n e = record {
-  on = λ i j k a m p q u l r g h. record {
-    told = λ b c.
-        let here = has-place n w.sleepers.wakers x e in
-        let less = left n here.0 w.sleepers here.1 g.listed in
-        moved w.sleepers.count (length w.sleepers.wakers) _ _ i j (omega (arith, less.0)) (omega (arith, less.1))
-        (omega (arith, p, q)) (h.told b (omega (arith, c, less.0)));
-  };
-}
-  where
-    moved : (c n c2 n2 i j : ℕ) → c2 + 1 ≡ c → n2 + 1 ≡ n → i ≤ j → (n < c) ⊎ (1 ≤ i) → (n2 < c2) ⊎ (1 ≤ j)
-    moved c n c2 n2 i j a b l (inl x) = inl (omega (arith, a, b, x))
-    moved c n c2 n2 i j a b l (inr x) = inr (omega (arith, l, x))
+  -- one with a waker leaves: it, and its waker
+  left : (n at : ℕ) (s : Sleepers Sleeping) → position_of n s.wakers ≡ Some at → length s.wakers ≤ s.count →
+      ((woken_up n s).count + 1 ≡ s.count) × (length (woken_up n s).wakers + 1 ≡ length s.wakers)
+  left n at s e l = subst (λ (o : Option ℕ). ((freed n (without_entry o s)).count + 1 ≡ s.count)
+      × (length (freed n (without_entry o s)).wakers + 1 ≡ length s.wakers)) (sym e)
+      (by (ltb (length (remove s.wakers at)) s.count) refl)
+    where
+      less : length (remove s.wakers at) + 1 ≡ length s.wakers
+      less = length-remove s.wakers at (position-within n at s.wakers e)
 
-tells-leave : (x : Ticker) (w : World) (t : TickOrRun) → Tells w (op.Tick (tick_op.Leave t) ∷ []) (leave_sleepers_by x w t)
-tells-leave Awake w t =
-    record {
-      on = λ i j k a m x y u l r g h. let same = given w.sleepers in
-          let z : length (given_back w.sleepers).wakers ≡ length w.sleepers.wakers = ap length same.1 in
-          let y2 = same.0 in
-          record { told = λ p q. grind arith };
-    }
-tells-leave (Asleep n) w t = tells-left _ w t n refl
-tells-leave Left w t = quiet w _ _ _ refl (omega arith) refl
+      by : (b : Bool) → ltb (length (remove s.wakers at)) s.count ≡ b →
+          let r : Sleepers Sleeping =
+          elim b [
+            | true ↦ record s { wakers = remove s.wakers at; count = s.count - 1; free = s.free ++ n ∷ [] }
+            | false ↦ record s { wakers = remove s.wakers at }
+          ] in
+          (r.count + 1 ≡ s.count) × (length r.wakers + 1 ≡ length s.wakers)
+      by true q = (omega (arith, less, l), less)
+      by false q = let no : s.count ≤ length (remove s.wakers at) = grind (arith, nat_tests) in
+          absurd (omega (arith, no, less, l))
 
--- runs
+  given : (s : Sleepers Sleeping) → ((given_back s).count ≡ s.count) × ((given_back s).wakers ≡ s.wakers)
+  given s = by (ltb s.count s.rooms)
+    where
+      by : (b : Bool) → let r : Sleepers Sleeping = elim b [ true ↦ record s { rooms = s.rooms - 1 } | false ↦ s ] in
+          (r.count ≡ s.count) × (r.wakers ≡ s.wakers)
+      by true = (refl, refl)
+      by false = (refl, refl)
 
-tells-wakes_up : (x : Ticker) (who : TickOrRun) (more : List Op) →
-    1 ≤ weigh tells_of (found_by x who (op.Sleeper sleeper_op.ExchangeFlag ∷ more))
-tells-wakes_up Awake who more = omega arith
-tells-wakes_up (Asleep n) who more = omega arith
-tells-wakes_up Left who more = omega arith
+  has-place : (n : ℕ) (ws : List (ℕ × Sleeping)) (a : Sleeping) → waker_of n ws ≡ Some a →
+      (at : ℕ) × (position_of n ws ≡ Some at)
+  has-place n ws a e = by (position_of n ws) refl e
+    where
+      by : (o : Option ℕ) → position_of n ws ≡ o → waker_at o ws ≡ Some a → (at : ℕ) × (position_of n ws ≡ Some at)
+      by None q k = absurd (cc)
+      by (Some at) q k = (at, q)
 
-tells-found : (w : World) (x : RunPoll) (f : ℕ) → 1 ≤ weigh tells_of (found w x f).next
-tells-found w x f =
-    let first = found_by (run_of w x.run).place (tick_or_run.Run x.run) (op.Sleeper sleeper_op.ExchangeFlag ∷ []) in
-    omega (
-      arith,
-      weigh-append tells_of first (counted_by (eqb ((run_of w x.run).counted + 1) 64) w x f).next,
-      tells-wakes_up (run_of w x.run).place (tick_or_run.Run x.run) [],
-    )
+  tells-left : (old : Option Sleeping) (w : World) (t : TickOrRun) (n : ℕ) → waker_of n w.sleepers.wakers ≡ old →
+      Tells w (op.Tick (tick_op.Leave t) ∷ []) (leave_sleepers_by (Asleep n) w t)
+  tells-left None w t n e =
+      let o = waker_of n w.sleepers.wakers in
+      let told : weigh (tells_of mark) (tell_and_return (is_none o)) ≡ 1 =
+      ap (λ (x : Option Sleeping). weigh (tells_of mark) (tell_and_return (is_none x))) e in
+      loud w _ _ _
+      (omega (arith, told, weigh-append (tells_of mark) (sleeper_goes o) (tell_and_return (is_none o))))
+  tells-left (Some x) w t n e = record {
+    on = λ i j k a m p q u l r g h. record {
+      told = λ b c.
+          let here = has-place n w.sleepers.wakers x e in
+          let less = left n here.0 w.sleepers here.1 g.listed in
+          moved w.sleepers.count (length w.sleepers.wakers) _ _ i j (omega (arith, less.0)) (omega (arith, less.1))
+          (omega (arith, p, q)) (h.told b (omega (arith, c, less.0)));
+    };
+  }
+    where
+      moved : (c n c2 n2 i j : ℕ) → c2 + 1 ≡ c → n2 + 1 ≡ n → i ≤ j → (n < c) ⊎ (1 ≤ i) → (n2 < c2) ⊎ (1 ≤ j)
+      moved c n c2 n2 i j a b l (inl x) = inl (omega (arith, a, b, x))
+      moved c n c2 n2 i j a b l (inr x) = inr (omega (arith, l, x))
 
-tells-own : (q : List ℕ) (w : World) (s : Sleeping) (x : RunPoll) →
-    Tells w (op.Tick (tick_op.Search s) ∷ []) (search_own_by q w x)
-tells-own [] w s x = loud w _ _ _ (omega arith)
-tells-own (f ∷ rest) w s x = loud w (found (put_own w x.run rest) x f).world _ (found (put_own w x.run rest) x f).next
-    (tells-found (put_own w x.run rest) x f)
+  tells-leave : (x : Ticker) (w : World) (t : TickOrRun) → Tells w (op.Tick (tick_op.Leave t) ∷ []) (leave_sleepers_by x w t)
+  tells-leave Awake w t =
+      record {
+        on = λ i j k a m x y u l r g h. let same = given w.sleepers in
+            let z : length (given_back w.sleepers).wakers ≡ length w.sleepers.wakers = ap length same.1 in
+            let y2 = same.0 in
+            record { told = λ p q. grind arith };
+      }
+  tells-leave (Asleep n) w t = tells-left _ w t n refl
+  tells-leave Left w t = quiet w _ _ _ refl (omega arith) refl
 
-tells-search_who : (who : TickOrRun) (w : World) (s : Sleeping) →
-    Tells w (op.Tick (tick_op.Search s) ∷ []) (search_by_who who w s)
-tells-search_who (tick_or_run.Tick t) w s = tells-search _ _ w s refl
-tells-search_who (tick_or_run.Run r) w s = tells-own _ w s _
+  -- runs
 
-tells-common : (q : List ℕ) (w : World) (x : RunPoll) → w.queue.items ≡ q →
-    Tells w (op.Run (run_op.SearchCommon x) ∷ []) (search_common_by q w x)
-tells-common [] w x e =
-    record {
-      on = λ i j k a m y z u l r g t.
-          record { told = λ p q. absurd (let z : length w.queue.items ≡ 0 = ap length e in omega (arith, p, z)) };
-    }
-tells-common (f ∷ rest) w x e = loud w _ _ _ (omega arith)
+  tells-wakes_up : (x : Ticker) (who : TickOrRun) (more : List Op) →
+      1 ≤ weigh (tells_of mark) (found_by x who (op.Sleeper sleeper_op.ExchangeFlag ∷ more))
+  tells-wakes_up Awake who more = omega arith
+  tells-wakes_up (Asleep n) who more = omega arith
+  tells-wakes_up Left who more = omega arith
 
-tells-room : (b : Bool) (w : World) → Tells w (op.Run run_op.MakeRoom ∷ []) (make_room_by b w)
-tells-room true w = quiet w _ _ _ refl (omega arith) refl
-tells-room false w = record { on = λ i j k a m x y u l r g t. record { told = λ p q. grind arith } }
+  tells-found : (w : World) (x : RunPoll) (f : ℕ) → 1 ≤ weigh (tells_of mark) (found w x f).next
+  tells-found w x f =
+      let first = found_by (run_of w x.run).place (tick_or_run.Run x.run) (op.Sleeper sleeper_op.ExchangeFlag ∷ []) in
+      omega (
+        arith,
+        weigh-append (tells_of mark) first (counted_by (eqb ((run_of w x.run).counted + 1) 64) w x f).next,
+        tells-wakes_up (run_of w x.run).place (tick_or_run.Run x.run) [],
+      )
 
-tells-returned : (w : World) → Tells w (op.Run run_op.ReturnRoom ∷ []) (return_room w)
-tells-returned w =
-    record {
-      on = λ i j k a m x y u l r g h. let same = given w.sleepers in
-          let z : length (given_back w.sleepers).wakers ≡ length w.sleepers.wakers = ap length same.1 in
-          let y2 = same.0 in
-          record { told = λ p q. grind arith };
-    }
+  tells-own : (q : List ℕ) (w : World) (s : Sleeping) (x : RunPoll) →
+      Tells w (op.Tick (tick_op.Search s) ∷ []) (search_own_by q w x)
+  tells-own [] w s x = loud w _ _ _ (omega arith)
+  tells-own (f ∷ rest) w s x = loud w (found (put_own w x.run rest) x f).world _ (found (put_own w x.run rest) x f).next
+      (tells-found (put_own w x.run rest) x f)
 
-make-still : (b : Bool) (w : World) → ((make_run_by b w).world.sleepers ≡ w.sleepers) ×
-    ((make_run_by b w).world.queue ≡ w.queue)
-make-still true w = (refl, refl)
-make-still false w = (refl, refl)
+  tells-search_who : (who : TickOrRun) (p : ℕ) (w : World) (s : Sleeping) →
+      Tells w (op.Tick (tick_op.Search s) ∷ []) (search_by_who who p w s)
+  tells-search_who (tick_or_run.Tick t) p w s = loud w _ _ _ (omega arith)
+  tells-search_who (tick_or_run.Run r) p w s = tells-own _ w s _
 
-register-still : (t : Stage) (w : World) (r : ℕ) → ((registered t w r).sleepers ≡ w.sleepers) ×
-    ((registered t w r).queue ≡ w.queue)
-register-still New w r = (refl, refl)
-register-still Listed w r = (refl, refl)
-register-still Ended w r = (refl, refl)
+  tells-common : (look : Look) (q : List ℕ) (w : World) (x : RunPoll) → (queue_of w (mark_in look)).items ≡ q →
+      Tells w (op.Run (run_op.SearchCommon x look) ∷ []) (search_common_by q w x look)
+  tells-common (First n) [] w x e = ⊎_elim (none-there w w _ _) (λ z. loud w _ _ _ (omega (arith, z)))
+      (looked-first mark n w e)
+  tells-common (Second n) [] w x e = ⊎_elim (none-there w w _ _)
+      (λ z. quiet w w _ _ refl (omega arith) (omega (arith, z))) (looked-second mark n w e)
+  tells-common look (f ∷ rest) w x e = loud w _ _ _ (omega arith)
 
-list-still : (h : Hint) (o : ListOp) (w : World) →
-    ((list_act h o w).world.sleepers ≡ w.sleepers) × ((list_act h o w).world.queue ≡ w.queue)
-list-still h (list_op.Write section.MakeRun) w = make-still h.refused w
-list-still h (list_op.Write (section.Register x)) w = register-still _ w x.run
-list-still h _ w = (refl, refl)
+  tells-room : (b : Bool) (w : World) → Tells w (op.Run run_op.MakeRoom ∷ []) (make_room_by b w)
+  tells-room true w = quiet w _ _ _ refl (omega arith) refl
+  tells-room false w = record { on = λ i j k a m x y u l r g t. record { told = λ p q. grind arith } }
 
-told-still : (w v : World) (i j : ℕ) → v.sleepers ≡ w.sleepers → v.queue ≡ w.queue → i ≤ j → Told w i → Told v j
-told-still w v i j e q l t =
-    let c : w.sleepers.count ≡ v.sleepers.count = ap (λ s. s.count) (sym e) in
-    let n : length w.sleepers.wakers ≡ length v.sleepers.wakers = ap (λ s. length s.wakers) (sym e) in
-    let m : length w.queue.items ≡ length v.queue.items = ap (λ (x : ClosableQueue ℕ). length x.items) (sym q) in
-    grind arith
+  tells-returned : (w : World) → Tells w (op.Run run_op.ReturnRoom ∷ []) (return_room w)
+  tells-returned w =
+      record {
+        on = λ i j k a m x y u l r g h. let same = given w.sleepers in
+            let z : length (given_back w.sleepers).wakers ≡ length w.sleepers.wakers = ap length same.1 in
+            let y2 = same.0 in
+            record { told = λ p q. grind arith };
+      }
 
--- the list of queues has no part in it
-tells-list : (h : Hint) (o : ListOp) (w : World) → Tells w (op.List o ∷ []) (list_act h o w)
-tells-list h o w = let s = list-still h o w in
-    record { on = λ i j k a m x y u l r g t. told-still w (list_act h o w).world i j s.0 s.1 (omega (arith, x, y)) t }
+  make-still : (b : Bool) (w : World) → ((make_run_by b w).world.sleepers ≡ w.sleepers) ×
+      ((make_run_by b w).world.queues ≡ w.queues)
+  make-still true w = (refl, refl)
+  make-still false w = (refl, refl)
 
--- a steal that tells goes on with what tells
+  register-still : (t : Stage) (w : World) (r : ℕ) → ((registered t w r).sleepers ≡ w.sleepers) ×
+      ((registered t w r).queues ≡ w.queues)
+  register-still New w r = (refl, refl)
+  register-still Listed w r = (refl, refl)
+  register-still Ended w r = (refl, refl)
 
-tells-stolen : (t : Then) (w : World) (x : RunPoll) → tells_then t ≤ weigh tells_of (stolen t w x).next
-tells-stolen (then.Found f) w x = tells-found w x f
-tells-stolen (then.Run f) w x = omega arith
-tells-stolen (then.Walk at left) w x = omega arith
+  list-still : (h : Hint) (o : ListOp) (w : World) →
+      ((list_act h o w).world.sleepers ≡ w.sleepers) × ((list_act h o w).world.queues ≡ w.queues)
+  list-still h (list_op.Write section.MakeRun) w = make-still h.refused w
+  list-still h (list_op.Write (section.Register x)) w = register-still _ w x.run
+  list-still h _ w = (refl, refl)
 
-tells-more : (n : ℕ) (w : World) (s : Steal) → tells_then s.then ≤ weigh tells_of (steal_by n w s).next
-tells-more zero w s = tells-stolen s.then w s.poll
-tells-more (suc n) w s = omega arith
+  told-still : (w v : World) (i j : ℕ) → v.sleepers ≡ w.sleepers → v.queues ≡ w.queues → i ≤ j → Told w i → Told v j
+  told-still w v i j e q l t =
+      let c : w.sleepers.count ≡ v.sleepers.count = ap (λ s. s.count) (sym e) in
+      let n : length w.sleepers.wakers ≡ length v.sleepers.wakers = ap (λ s. length s.wakers) (sym e) in
+      let m : length (queue_of w mark).items ≡ length (queue_of v mark).items = ap (λ (x : Queues). length (queue_in mark x).items) (sym q) in
+      grind arith
 
-tells-length : (n : ℕ) (w : World) (s : Steal) → tells_then s.then ≤ weigh tells_of (steal_length_by n w s).next
-tells-length zero w s = tells-stolen s.then w s.poll
-tells-length (suc n) w s = omega arith
+  -- the list of queues has no part in it
+  tells-list : (h : Hint) (o : ListOp) (w : World) → Tells w (op.List o ∷ []) (list_act h o w)
+  tells-list h o w = let s = list-still h o w in
+      record { on = λ i j k a m x y u l r g t. told-still w (list_act h o w).world i j s.0 s.1 (omega (arith, x, y)) t }
 
-tells-take : (q : List ℕ) (w : World) (s : Steal) (more : ℕ) →
-    tells_then s.then ≤ weigh tells_of (steal_take_by q w s more).next
-tells-take [] w s more = tells-stolen s.then w s.poll
-tells-take (f ∷ rest) w s more = omega arith
+  -- a steal that tells goes on with what tells
 
-tells-put : (b : Bool) (p : ℕ) (w : World) (s : Steal) (more f : ℕ) →
-    tells_then s.then ≤ weigh tells_of (steal_put_by b p w s more f).next
-tells-put true p w s more f = tells-more more (kept_by p w s.poll.run f) s
-tells-put false p w s more f = omega (arith, tells-stolen s.then w s.poll)
+  tells-stolen : (t : Then) (w : World) (x : RunPoll) → tells_then t ≤ weigh (tells_of mark) (stolen t w x).next
+  tells-stolen (then.Found f) w x = tells-found w x f
+  tells-stolen (then.StealPlain f) w x = omega arith
+  tells-stolen (then.Run f) w x = omega arith
+  tells-stolen (then.Walk at left) w x = omega arith
 
-tells-steal : (p : ℕ) (o : StealOp) (w : World) → tells_steal o ≤ weigh tells_of (steal_act p o w).next
-tells-steal p (steal_op.Length s) w = tells-length _ w s
-tells-steal p (steal_op.OwnLength s n) w = tells-more _ w s
-tells-steal p (steal_op.Take s more) w = tells-take _ w s more
-tells-steal p (steal_op.Put s more f) w = tells-put _ p w s more f
+  tells-more : (n : ℕ) (w : World) (s : Steal) → tells_then s.then ≤ weigh (tells_of mark) (steal_by n w s).next
+  tells-more zero w s = tells-stolen s.then w s.poll
+  tells-more (suc n) w s = omega arith
 
-tells-tick : (h : Hint) (o : TickOp) (w : World) → Tells w (op.Tick o ∷ []) (tick_act h o w)
-tells-tick h tick_op.MakeTick w = tells-make _ w
-tells-tick h (tick_op.Search s) w = tells-search_who s.who w s
-tells-tick h (tick_op.CopyWaker s) w = tells-copy _ w s
-tells-tick h (tick_op.FallAsleep s) w = tells-sleep _ w s
-tells-tick h (tick_op.WakeUp t) w = tells-up _ w t
-tells-tick h (tick_op.Leave t) w = tells-leave _ w t
+  tells-length : (n : ℕ) (w : World) (s : Steal) → tells_then s.then ≤ weigh (tells_of mark) (steal_length_by n w s).next
+  tells-length zero w s = tells-stolen s.then w s.poll
+  tells-length (suc n) w s = omega arith
 
--- a steal, and a run that looks at the executor's queue
-abbrev hunts : Op → Bool
-hunts (op.Steal o) = true
-hunts (op.Run (run_op.SearchCommon x)) = true
-hunts _ = false
+  tells-take : (q : List ℕ) (w : World) (s : Steal) (more : ℕ) →
+      tells_then s.then ≤ weigh (tells_of mark) (steal_take_by q w s more).next
+  tells-take [] w s more = tells-stolen s.then w s.poll
+  tells-take (f ∷ rest) w s more = omega arith
 
-no-tells : (o : Op) → is_seen_asleep o ≡ false → hunts o ≡ false → tells_of o ≡ 0
-no-tells (op.Sleeper o) e q = absurd (cc)
-no-tells (op.Tick o) e q = absurd (cc)
-no-tells (op.Steal o) e q = absurd (cc)
-no-tells (op.Run (run_op.SearchCommon x)) e q = absurd (cc)
-no-tells _ e q = refl
+  tells-put : (b : Bool) (p : ℕ) (w : World) (s : Steal) (more f : ℕ) →
+      tells_then s.then ≤ weigh (tells_of mark) (steal_put_by b p w s more f).next
+  tells-put true p w s more f = tells-more more (kept_by p w s.poll.run f) s
+  tells-put false p w s more f = omega (arith, tells-stolen s.then w s.poll)
 
-tells-hunt : (b : Bool) (p : ℕ) (h : Hint) (o : Op) (w : World) → is_seen_asleep o ≡ false → hunts o ≡ b →
-    Tells w (o ∷ []) (act p h o w)
-tells-hunt false p h o w n e =
-    let a : Away w (act p h o w) = away-act p h o w n in
-    quiet w (act p h o w).world (o ∷ []) (act p h o w).next a.sleepers_seen a.queue (omega (arith, no-tells o n e))
-tells-hunt true p h (op.Steal o) w n e =
-    let a : Away w (steal_act p o w) = away-act p h (op.Steal o) w n in
-    steady w (steal_act p o w).world (op.Steal o ∷ []) (steal_act p o w).next a.sleepers_seen a.queue
-    (omega (arith, tells-steal p o w))
-tells-hunt true p h (op.Run (run_op.SearchCommon x)) w n e = tells-common _ w x refl
-tells-hunt true p h _ w n e = absurd (cc)
+  tells-steal : (p : ℕ) (o : StealOp) (w : World) → tells_steal o ≤ weigh (tells_of mark) (steal_act p o w).next
+  tells-steal p (steal_op.Length s) w = tells-length _ w s
+  tells-steal p (steal_op.OwnLength s n) w = tells-more _ w s
+  tells-steal p (steal_op.Take s more) w = tells-take _ w s more
+  tells-steal p (steal_op.Put s more f) w = tells-put _ p w s more f
 
-pub tells-act : (b : Bool) (p : ℕ) (h : Hint) (o : Op) (w : World) → is_seen_asleep o ≡ b → Tells w (o ∷ []) (act p h o w)
-tells-act false p h o w n = tells-hunt _ p h o w n refl
-tells-act true p h (op.Queue (queue_op.Append g)) w n = tells-append _ w g
-tells-act true p h (op.Sleeper o) w n = tells-sleeper p o w
-tells-act true p h (op.Tick o) w n = tells-tick h o w
-tells-act true p h (op.List o) w n = tells-list h o w
-tells-act true p h (op.Run run_op.MakeRoom) w n = tells-room _ w
-tells-act true p h (op.Run run_op.ReturnRoom) w n = tells-returned w
-tells-act true p h _ w n = absurd (cc)
+  tells-tick : (p : ℕ) (h : Hint) (o : TickOp) (w : World) → Tells w (op.Tick o ∷ []) (tick_act p h o w)
+  tells-tick p h tick_op.MakeTick w = tells-make _ w
+  tells-tick p h (tick_op.Search s) w = tells-search_who s.who p w s
+  tells-tick p h (tick_op.Look s look) w = tells-search look _ _ w s refl
+  tells-tick p h (tick_op.CopyWaker s) w = tells-copy _ w s
+  tells-tick p h (tick_op.FallAsleep s) w = tells-sleep _ w s
+  tells-tick p h (tick_op.WakeUp t) w = tells-up _ w t
+  tells-tick p h (tick_op.Leave t) w = tells-leave _ w t
 
-pub tells-react : (p : ℕ) (o : Op) (u : UserEnd) (w : World) → accepts o u ≡ true → Tells w (o ∷ []) (react p o u w)
-tells-react p (op.User (user_op.Poll f)) (end.Polled answer.Pending) w a = quiet w _ _ _ refl (omega arith) refl
-tells-react p (op.User (user_op.Poll f)) (end.Polled answer.Ready) w a = quiet w _ _ _ refl (omega arith) refl
-tells-react p (op.User (user_op.Drop f)) end.Done w a = quiet w _ _ _ refl (omega arith) refl
-tells-react p (op.User (user_op.DropOutput f)) end.Done w a = quiet w _ _ _ refl (omega arith) refl
-tells-react p (op.User (user_op.CallOutside x)) end.Done w a = quiet w _ _ _ refl (omega arith) refl
-tells-react p (op.User (user_op.PollOwn x)) (end.Polled answer.Pending) w a = quiet w _ _ _ refl (omega arith) refl
-tells-react p (op.User (user_op.PollOwn x)) (end.Polled answer.Ready) w a = quiet w _ _ _ refl (omega arith) refl
-tells-react p (op.User (user_op.DropOwn r)) end.Done w a = quiet w _ _ _ refl (omega arith) refl
-tells-react p _ _ w a = absurd (cc)
+  -- a steal, and a run that looks at the executor's queue
+  abbrev hunts : Op → Bool
+  hunts (op.Steal o) = true
+  hunts (op.Run (run_op.TakeTurn x)) = true
+  hunts (op.Run (run_op.SearchCommon x look)) = true
+  hunts _ = false
 
-tells-with : (w v : World) (x : Option ℕ) (d : ℕ → Done) → sleepers_seen w ≡ sleepers_seen v → v.queue ≡ w.queue →
-    ((f : ℕ) → Tells w [] (d f)) → Tells w [] (with_future v x d)
-tells-with w v None d e q n = quiet w v _ _ e (omega (arith, ap (λ (c : ClosableQueue ℕ). length c.items) q)) refl
-tells-with w v (Some f) d e q n = n f
+  no-tells : (o : Op) → is_seen_asleep o ≡ false → hunts o ≡ false → (tells_of mark) o ≡ 0
+  no-tells (op.Sleeper o) e q = absurd (cc)
+  no-tells (op.Tick o) e q = absurd (cc)
+  no-tells (op.Steal o) e q = absurd (cc)
+  no-tells (op.Run (run_op.TakeTurn x)) e q = absurd (cc)
+  no-tells (op.Run (run_op.SearchCommon x look)) e q = absurd (cc)
+  no-tells _ e q = refl
 
-pub tells-begun : (p : ℕ) (w : World) (here : Option Waker) (c : Call) →
-    Tells w [] (begun p (log w (event.CallBegun p c)) here c)
-tells-begun p w here (call.Wake n) = tells-with w (log w (event.CallBegun p (call.Wake n))) (kept w n) _ refl refl
-    (λ f. quiet w _ _ _ refl (omega arith) refl)
-tells-begun p w here (call.WakeByRef n) = tells-with w (log w (event.CallBegun p (call.WakeByRef n))) (kept w n) _ refl
-    refl (λ f. quiet w _ _ _ refl (omega arith) refl)
-tells-begun p w here (call.Copy n) = tells-with w (log w (event.CallBegun p (call.Copy n))) (kept w n) _ refl refl
-    (λ f. quiet w _ _ _ refl (omega arith) refl)
-tells-begun p w here (call.DropWaker n) = tells-with w (log w (event.CallBegun p (call.DropWaker n))) (kept w n) _ refl
-    refl (λ f. quiet w _ _ _ refl (omega arith) refl)
-tells-begun p w here call.Keep =
-    tells-with w (log w (event.CallBegun p call.Keep)) (future_of here) _ refl refl
-    (λ f. quiet w _ _ _ refl (omega arith) refl)
-tells-begun p w here call.WakeSelf = tells-with w (log w (event.CallBegun p call.WakeSelf)) (future_of here) _ refl refl
-    (λ f. quiet w _ _ _ refl (omega arith) refl)
-tells-begun p w here (call.DropRun r) = quiet w _ _ _ (sleepers_seen-run w r _ refl) (omega arith) refl
-tells-begun p w here _ = quiet w _ _ _ refl (omega arith) refl
+  tells-hunt : (b : Bool) (p : ℕ) (h : Hint) (o : Op) (w : World) → is_seen_asleep o ≡ false → hunts o ≡ b →
+      Tells w (o ∷ []) (act p h o w)
+  tells-hunt false p h o w n e =
+      let a : Away w (act p h o w) = away-act p h o w n in
+      quiet w (act p h o w).world (o ∷ []) (act p h o w).next a.sleepers_seen (a.queue mark) (omega (arith, no-tells o n e))
+  tells-hunt true p h (op.Steal o) w n e =
+      let a : Away w (steal_act p o w) = away-act p h (op.Steal o) w n in
+      steady w (steal_act p o w).world (op.Steal o ∷ []) (steal_act p o w).next a.sleepers_seen (a.queue mark)
+      (omega (arith, tells-steal p o w))
+  tells-hunt true p h (op.Run (run_op.TakeTurn x)) w n e = loud w _ _ _ (omega arith)
+  tells-hunt true p h (op.Run (run_op.SearchCommon x look)) w n e = tells-common look _ w x refl
+  tells-hunt true p h _ w n e = absurd (cc)
+
+  pub tells-act : (b : Bool) (p : ℕ) (h : Hint) (o : Op) (w : World) → is_seen_asleep o ≡ b → Tells w (o ∷ []) (act p h o w)
+  tells-act false p h o w n = tells-hunt _ p h o w n refl
+  tells-act true p h (op.Queue (queue_op.Append g)) w n = tells-append _ w _ g
+  tells-act true p h (op.Sleeper o) w n = tells-sleeper p o w
+  tells-act true p h (op.Tick o) w n = tells-tick p h o w
+  tells-act true p h (op.List o) w n = tells-list h o w
+  tells-act true p h (op.Run run_op.MakeRoom) w n = tells-room _ w
+  tells-act true p h (op.Run run_op.ReturnRoom) w n = tells-returned w
+  tells-act true p h _ w n = absurd (cc)
+
+  pub tells-react : (p : ℕ) (o : Op) (u : UserEnd) (w : World) → accepts o u ≡ true → Tells w (o ∷ []) (react p o u w)
+  tells-react p (op.User (user_op.Poll f)) (end.Polled answer.Pending) w a = quiet w _ _ _ refl (omega arith) refl
+  tells-react p (op.User (user_op.Poll f)) (end.Polled answer.Ready) w a = quiet w _ _ _ refl (omega arith) refl
+  tells-react p (op.User (user_op.Drop f)) end.Done w a = quiet w _ _ _ refl (omega arith) refl
+  tells-react p (op.User (user_op.DropOutput f)) end.Done w a = quiet w _ _ _ refl (omega arith) refl
+  tells-react p (op.User (user_op.CallOutside x)) end.Done w a = quiet w _ _ _ refl (omega arith) refl
+  tells-react p (op.User (user_op.PollOwn x)) (end.Polled answer.Pending) w a = quiet w _ _ _ refl (omega arith) refl
+  tells-react p (op.User (user_op.PollOwn x)) (end.Polled answer.Ready) w a = quiet w _ _ _ refl (omega arith) refl
+  tells-react p (op.User (user_op.DropOwn r)) end.Done w a = quiet w _ _ _ refl (omega arith) refl
+  tells-react p _ _ w a = absurd (cc)
+
+  tells-with : (w v : World) (x : Option ℕ) (d : ℕ → Done) → sleepers_seen w ≡ sleepers_seen v → v.queues ≡ w.queues →
+      ((f : ℕ) → Tells w [] (d f)) → Tells w [] (with_future v x d)
+  tells-with w v None d e q n = quiet w v _ _ e (omega (arith, ap (λ (c : Queues). length (queue_in mark c).items) q)) refl
+  tells-with w v (Some f) d e q n = n f
+
+  pub tells-begun : (p : ℕ) (w : World) (here : Option Waker) (c : Call) →
+      Tells w [] (begun p (log w (event.CallBegun p c)) here c)
+  tells-begun p w here (call.Wake n) = tells-with w (log w (event.CallBegun p (call.Wake n))) (kept w n) _ refl refl
+      (λ f. quiet w _ _ _ refl (omega arith) refl)
+  tells-begun p w here (call.WakeByRef n) = tells-with w (log w (event.CallBegun p (call.WakeByRef n))) (kept w n) _ refl
+      refl (λ f. quiet w _ _ _ refl (omega arith) refl)
+  tells-begun p w here (call.Copy n) = tells-with w (log w (event.CallBegun p (call.Copy n))) (kept w n) _ refl refl
+      (λ f. quiet w _ _ _ refl (omega arith) refl)
+  tells-begun p w here (call.DropWaker n) = tells-with w (log w (event.CallBegun p (call.DropWaker n))) (kept w n) _ refl
+      refl (λ f. quiet w _ _ _ refl (omega arith) refl)
+  tells-begun p w here call.Keep =
+      tells-with w (log w (event.CallBegun p call.Keep)) (future_of here) _ refl refl
+      (λ f. quiet w _ _ _ refl (omega arith) refl)
+  tells-begun p w here call.WakeSelf = tells-with w (log w (event.CallBegun p call.WakeSelf)) (future_of here) _ refl refl
+      (λ f. quiet w _ _ _ refl (omega arith) refl)
+  tells-begun p w here (call.DropRun r) = quiet w _ _ _ (sleepers_seen-run w r _ refl) (omega arith) refl
+  tells-begun p w here _ = quiet w _ _ _ refl (omega arith) refl

@@ -6,6 +6,7 @@ use Rattle.std.proofs.Common.{get_or-set_other}
 use Rattle.std.proofs.lemmas.Bool.Decides.{nat_tests}
 use Rattle.std.proofs.lemmas.List.{reverse-append, reverse-reverse}
 use Rattle.std.specs.Prelude.{reverse}
+use Rattle.executor_parts.specs.declared.mark.Mark.{Mark}
 use Rattle.executor_model.specs.declared.op.Op.{Op}
 use Rattle.executor_model.specs.declared.op.Op.TheVariants as op
 use Rattle.executor_model.specs.declared.op.RunPoll.{RunPoll}
@@ -74,14 +75,14 @@ pub wakes_up-below : (o : Op) (os : List Op) → wakes_up_well (o ∷ os) ≡ tr
 wakes_up-below o os e = second _ _ e
 
 -- below who wakes up somebody tells
-pub wakes_up-told : (o : Op) (os : List Op) → wakes_up_well (o ∷ os) ≡ true → wakes_up_of o ≤ weigh tells_of os
-wakes_up-told o os e = by (is_wake_up o) refl (first _ _ e)
+pub wakes_up-told : (m : Mark) (o : Op) (os : List Op) → wakes_up_well (o ∷ os) ≡ true → wakes_up_of o ≤ weigh (tells_of m) os
+wakes_up-told m o os e = by (is_wake_up o) refl (first _ _ e)
   where
-    telling : (x : Op) → is_exchange x ≡ true → 1 ≤ tells_of x
+    telling : (x : Op) → is_exchange x ≡ true → 1 ≤ tells_of m x
     telling (op.Sleeper sleeper_op.ExchangeFlag) q = omega arith
     telling _ q = absurd (cc)
 
-    starts : (xs : List Op) → starts_telling xs ≡ true → 1 ≤ weigh tells_of xs
+    starts : (xs : List Op) → starts_telling xs ≡ true → 1 ≤ weigh (tells_of m) xs
     starts [] q = absurd (cc)
     starts (x ∷ xs) q = omega (arith, telling x q)
 
@@ -93,7 +94,7 @@ wakes_up-told o os e = by (is_wake_up o) refl (first _ _ e)
     nothing (op.Tick (tick_op.WakeUp who)) q = absurd (cc)
     nothing _ q = refl
 
-    by : (b : Bool) → is_wake_up o ≡ b → (not b || starts_telling os) ≡ true → wakes_up_of o ≤ weigh tells_of os
+    by : (b : Bool) → is_wake_up o ≡ b → (not b || starts_telling os) ≡ true → wakes_up_of o ≤ weigh (tells_of m) os
     by true q h = omega (arith, few o, starts os h)
     by false q h = omega (arith, nothing o q)
 
@@ -143,10 +144,11 @@ wakes_up-rest rest old e = drop old (reverse rest)
     drop (x ∷ xs) ys q = drop xs ys (wakes_up-below x (xs ++ ys) q)
 
 -- beside who wakes up somebody tells
-pub wakes_up-old : (rest : List Op) (o : Op) → WakesUpWell (rest ++ reverse (o ∷ [])) → wakes_up_of o ≤ weigh tells_of rest
-wakes_up-old rest o e =
+pub wakes_up-old : (m : Mark) (rest : List Op) (o : Op) → WakesUpWell (rest ++ reverse (o ∷ [])) →
+    wakes_up_of o ≤ weigh (tells_of m) rest
+wakes_up-old m rest o e =
     let q : wakes_up_well (o ∷ reverse rest) ≡ true = ap wakes_up_well (sym (reverse-append rest (o ∷ []))) ∙ e in
-    omega (arith, wakes_up-told o (reverse rest) q, weigh-reverse tells_of rest)
+    omega (arith, wakes_up-told m o (reverse rest) q, weigh-reverse (tells_of m) rest)
 
 pub wakes_up-set : (ss : List (List Op)) (p : ℕ) (os : List Op) → p < length ss →
     ((q : ℕ) → WakesUpWell (get_or ss q [])) → WakesUpWell os → (q : ℕ) → WakesUpWell (get_or (set ss p os) q [])

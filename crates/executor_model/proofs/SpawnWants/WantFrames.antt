@@ -3,6 +3,7 @@
 use Rattle.std.proofs.Common.{◌≡◌, ◌⊎◌, ◌∙◌, ℕ, ◌<◌, ◌≤◌, List, [], ◌∷◌, ◌++◌, length, Bool, true, false}
 use Rattle.std.proofs.Common.{inl, inr, ⊎_elim, refl, sym, ap, subst, arith}
 use Rattle.std.specs.Prelude.{Option, reverse}
+use Rattle.executor_parts.specs.declared.mark.Mark.{Mark}
 use Rattle.executor_model.specs.declared.kind.Kind.{Kind}
 use Rattle.executor_model.specs.declared.call.Call.{Call}
 use Rattle.executor_model.specs.declared.call.Call.TheVariants as call
@@ -125,30 +126,34 @@ module _ (c : Call) (o : Op) (rest next : List Op) (k : Passes o next) (n : is_e
 
 -- what a spawn asks
 
-enter-wants : (b r : Bool) (p : ℕ) (w : World) → Wants (enter_by b r p w).next
-enter-wants true r p w = inl refl
-enter-wants false true p w = inr refl
-enter-wants false false p w = inl refl
+enter-wants : (b r : Bool) (mark : Mark) (p : ℕ) (w : World) → Wants (enter_by b r mark p w).next
+enter-wants true r mark p w = inl refl
+enter-wants false true mark p w = inr refl
+enter-wants false false mark p w = inl refl
 
-pub enter-is : (o : Op) → is_enter o ≡ true → o ≡ op.Table table_op.Enter
-enter-is (op.Table table_op.Enter) e = refl
+-- it asks for a place
+abbrev pub Enters : Op → Type 0
+Enters o = (mark : Mark) × (o ≡ op.Table (table_op.Enter mark))
+
+pub enter-is : (o : Op) → is_enter o ≡ true → Enters o
+enter-is (op.Table (table_op.Enter mark)) e = (mark, refl)
 enter-is _ e = absurd (cc)
 
-pub asks-place : (c : Call) (o : Op) → spawns c ≡ true → calling_of o ≡ 1 → is_end o ≡ false → misfit c o ≡ 0 →
-    o ≡ op.Table table_op.Enter
-asks-place call.Spawn o s z n e = enter-is o (only-enter o z (served (serves o call.Spawn) e) n)
+pub asks-place : (c : Call) (o : Op) → spawns c ≡ true → calling_of o ≡ 1 → is_end o ≡ false → misfit c o ≡ 0 → Enters o
+asks-place (call.Spawn mark) o s z n e = enter-is o (only-enter mark o z (served (serves o (call.Spawn mark)) e) n)
 asks-place _ o s z n e = absurd (cc)
 
 act-wants : (c : Call) (p : ℕ) (h : Hint) (o : Op) (w : World) → is_end o ≡ false → spawns c ≡ true →
     calling_of o ≡ 1 → misfit c o ≡ 0 → Wants (act p h o w).next
-act-wants c p h o w n s z e = subst (λ (x : Op). Wants (act p h x w).next) (sym (asks-place c o s z n e))
-    (enter-wants _ h.refused p w)
+act-wants c p h o w n s z e =
+    let i : Enters o = asks-place c o s z n e in
+    subst (λ (x : Op). Wants (act p h x w).next) (sym i.1) (enter-wants _ h.refused i.0 p w)
 
 user-wants : (c : Call) (o : Op) (u : UserEnd) (next : List Op) → accepts o u ≡ true → is_end o ≡ false →
     spawns c ≡ true → calling_of o ≡ 1 → misfit c o ≡ 0 → Wants next
 user-wants c o u next a n s z e =
-    let i : o ≡ op.Table table_op.Enter = asks-place c o s z n e in
-    let no : accepts (op.Table table_op.Enter) u ≡ true = ap (λ (x : Op). accepts x u) (sym i) ∙ a in absurd (cc)
+    let i : Enters o = asks-place c o s z n e in
+    let no : accepts (op.Table (table_op.Enter i.0)) u ≡ true = ap (λ (x : Op). accepts x u) (sym i.1) ∙ a in absurd (cc)
 
 pub unended : (o : Op) (u : UserEnd) → accepts o u ≡ true → is_end o ≡ false
 unended (op.User x) u a = refl
@@ -172,7 +177,7 @@ way-on s p old rest d (called c q r n z) o e m b below k =
     let no : [] ≡ o ∷ [] = sym q ∙ e in absurd (cc)
 
 begun-wants : (p : ℕ) (w : World) (here : Option Waker) (c : Call) → spawns c ≡ true → Wants (begun p w here c).next
-begun-wants p w here call.Spawn s = inl refl
+begun-wants p w here (call.Spawn mark) s = inl refl
 begun-wants p w here _ s = absurd (cc)
 
 -- at every moment

@@ -44,7 +44,8 @@ use Rattle.executor_model.proofs.Steps.Deeds.{ends_one, grows-act, grows-begun, 
 use Rattle.executor_model.proofs.Steps.Lift.{none_refused, topped}
 use Rattle.executor_model.proofs.Table.Spawning.{asked, in-range, limits, says-full, step-trace}
 use Rattle.executor_model.proofs.SpawnWants.Tops.{Tops, first, flipped, top-first, tops}
-use Rattle.executor_model.proofs.SpawnWants.WantFrames.{Askings, askings, unended, want_of}
+use Rattle.executor_model.proofs.SpawnWants.WantFrames.{Askings, askings, Enters, unended, want_of}
+use Rattle.executor_parts.specs.declared.mark.Mark.{Mark}
 use Rattle.executor_model.proofs.SpawnWants.WantSteps.{InSpawn, asked as asked-place, in-spawn}
 
 -- lists with the same last
@@ -133,24 +134,24 @@ module _ (s : Machine) (p q : ℕ) (here : Tops s) (f : Askings s) (k : IsSpawni
 
   by-act : (h : Hint) (o : Op) (rest : List Op) → stack s q ≡ rest ++ reverse (o ∷ []) →
       (onto q (act q h o s.world) rest).world.trace ≡ s.world.trace ++ (told ++ event.CallEnded p reply.NoMemory ∷ []) →
-      (p ≡ q) × (o ≡ op.Table table_op.Enter) × (h.refused ≡ true) × (is_full s.world ≡ false)
+      (p ≡ q) × Enters o × (h.refused ≡ true) × (is_full s.world ≡ false)
   by-act h o rest e t =
       let n : is_end o ≡ false = unended-top o rest e in
       let g = grows-act q h o s.world n in
       let z : Ends p q (end_of (top (rest ++ reverse (act q h o s.world).next))) =
       was-end rest (act q h o s.world) (record { more = g.more; is = g.is; none = g.none_ends }) t in
       let x = comes-first rest (act q h o s.world) z.1 in
-      let i : o ≡ op.Table table_op.Enter = asked-place o x.0 (reverse rest) (act q h o s.world).next
+      let i : Enters o = asked-place o x.0 (reverse rest) (act q h o s.world).next
       (calls-act q h o s.world n).passes n x.2 x.1 (frame o rest e z.0) in
-      let r = refuses (is_full s.world) h.refused x.0 (reverse rest)
-      (ap (λ (y : Op). first ((act q h y s.world).next ++ reverse rest)) (sym i) ∙ x.1) x.2 in (z.0, i, r.0, r.1)
+      let r = refuses i.0 (is_full s.world) h.refused x.0 (reverse rest)
+      (ap (λ (y : Op). first ((act q h y s.world).next ++ reverse rest)) (sym i.1) ∙ x.1) x.2 in (z.0, i, r.0, r.1)
     where
-      refuses : (b c : Bool) (y : Op) (below : List Op) → first ((enter_by b c q s.world).next ++ below) ≡ Some y →
-          want_of y ≡ 1 → (c ≡ true) × (b ≡ false)
-      refuses false true y below v u = (refl, refl)
-      refuses true c y below v u =
+      refuses : (mark : Mark) (b c : Bool) (y : Op) (below : List Op) →
+          first ((enter_by b c mark q s.world).next ++ below) ≡ Some y → want_of y ≡ 1 → (c ≡ true) × (b ≡ false)
+      refuses mark false true y below v u = (refl, refl)
+      refuses mark true c y below v u =
           let j : op.End reply.Full hold.Executor ≡ y = cc in absurd (omega (arith, u, ap want_of j))
-      refuses false false y below v u =
+      refuses mark false false y below v u =
           let j : op.Queue (queue_op.Append (length s.world.tasks)) ≡ y = cc in absurd (omega (arith, u, ap want_of j))
 
   by-react : (o : Op) (u : UserEnd) (rest : List Op) → stack s q ≡ rest ++ reverse (o ∷ []) → accepts o u ≡ true →
@@ -162,9 +163,9 @@ module _ (s : Machine) (p q : ℕ) (here : Tops s) (f : Askings s) (k : IsSpawni
       let z : Ends p q (end_of (top (rest ++ reverse (react q o u s.world).next))) =
       was-end rest (react q o u s.world) (record { more = g.more; is = g.is; none = g.none_ends }) t in
       let x = comes-first rest (react q o u s.world) z.1 in
-      let i : o ≡ op.Table table_op.Enter = asked-place o x.0 (reverse rest) (react q o u s.world).next
+      let i : Enters o = asked-place o x.0 (reverse rest) (react q o u s.world).next
       (passes-react q o u s.world a) n x.2 x.1 (frame o rest e z.0) in
-      let no : accepts (op.Table table_op.Enter) u ≡ true = ap (λ (y : Op). accepts y u) (sym i) ∙ a in absurd (cc)
+      let no : accepts (op.Table (table_op.Enter i.0)) u ≡ true = ap (λ (y : Op). accepts y u) (sym i.1) ∙ a in absurd (cc)
 
   by-begin : (c : Call) (rest : List Op) (d : Done) → Answering d.next → list_any ends_for_want d.next ≡ false →
       Tells s.world d →
@@ -207,7 +208,7 @@ module _ (s : Machine) (p : ℕ) (here : Tops s) (f : Askings s) (k : IsSpawning
       let x = by-act s p q here f k told h o (below_top (stack s q)) (topped (stack s q) o e) t in
       record {
         told_so = x.2;
-        asks = ap (λ (n : ℕ). top (stack s n)) x.0 ∙ (e ∙ ap (λ (y : Op). Some y) x.1);
+        asks = (x.1.0, ap (λ (n : ℕ). top (stack s n)) x.0 ∙ (e ∙ ap (λ (y : Op). Some y) x.1.1));
         free = x.3;
       }
 
@@ -267,12 +268,12 @@ module _ (s : Machine) (here : Tops s) (f : Askings s) (exact : IsLimitExact s) 
   few p t k a r =
       let x : Found s t p = found s p here f k t a in
       let full : is_full s.world ≡ true = says-full (is_full s.world) false p s.world s.world.trace
-      (sym (step-trace s p any_hint (in-range s p (op.Table table_op.Enter) x.asks) x.asks) ∙ exact.always p any_hint x.asks r) in
+      (sym (step-trace s p any_hint (in-range s p (op.Table (table_op.Enter x.asks.0)) x.asks.1) x.asks) ∙ exact.always p any_hint x.asks r) in
       not-both (is_full s.world) full x.free
 
   module _ (p : ℕ) (h : Hint) (asks : Asks s p) (none : ¬ ReachLimit s (λ g. Remains g s)) where
     told-trace : (stepped s (step s (Go p h))).world.trace ≡ s.world.trace ++ asked (is_full s.world) h.refused p s.world ∷ []
-    told-trace = step-trace s p h (in-range s p (op.Table table_op.Enter) asks) asks
+    told-trace = step-trace s p h (in-range s p (op.Table (table_op.Enter asks.0)) asks.1) asks
 
     free : is_full s.world ≡ false
     free = by (is_full s.world) refl

@@ -27,6 +27,7 @@ use Rattle.executor_model.proofs.Steps.Owed.{owed-future, owed-awaiter, owed-not
 use Rattle.executor_model.specs.Acts.{leak_next_by, leak_out_by, leaking_ops, wake}
 use Rattle.executor_model.proofs.Steps.Lists.{weigh-append}
 use Rattle.std.proofs.Common.{◌++◌}
+use Rattle.executor_parts.specs.declared.mark.Mark.TheVariants.{Urgent}
 
 -- v sees no move, nothing that a move owes, and no call of an awaiter
 pub record Aside (v : Op → ℕ) : Type 0 where
@@ -81,7 +82,7 @@ module _ (v : Op → ℕ) (h : Aside v) where
 
 pub aside-closing : (v : Op → ℕ) → ((o : ClosingOp) → v (op.Closing o) ≡ 0) → (ls ws : List ℕ) →
     weigh v (closing_ops ls ws) ≡ 0
-aside-closing v h [] [] = omega (arith, h closing_op.Close)
+aside-closing v h [] [] = omega (arith, h (closing_op.Close Urgent))
 aside-closing v h [] (x ∷ ws) = omega (arith, h closing_op.WakeNext)
 aside-closing v h (x ∷ ls) ws = omega (arith, h closing_op.DropNext)
 

@@ -57,7 +57,8 @@ polls-borrow : (g : ℕ) (o : Op) → polls_of g o ≤ borrowing_of o
 polls-borrow g (op.Table (table_op.TakeToPoll f)) = grind (arith, same_is)
 polls-borrow g (op.User (user_op.Poll f)) = grind (arith, same_is)
 polls-borrow g (op.Move move.Wake f) = omega arith
-polls-borrow g (op.Queue queue_op.Take) = omega arith
+polls-borrow g (op.Queue queue_op.TakeTurn) = omega arith
+polls-borrow g (op.Queue (queue_op.Take look)) = omega arith
 polls-borrow g (op.Waker (waker_op.CopyWaker f held)) = omega arith
 polls-borrow g (op.Handle (handle_op.LookAgain f)) = omega arith
 polls-borrow g (op.Sleeper sleeper_op.HandOut) = omega arith
@@ -65,7 +66,7 @@ polls-borrow g (op.Tick tick_op.MakeTick) = omega arith
 polls-borrow g (op.List o) = omega (arith, ap (λ (x : Row). x.polls g) (plain-list o))
 polls-borrow g (op.Steal o) = omega (arith, ap (λ (x : Row). x.polls g) (plain-steal o))
 polls-borrow g (op.Run o) = omega (arith, ap (λ (x : Row). x.polls g) (plain-run o))
-polls-borrow g (op.Closing closing_op.Drain) = omega arith
+polls-borrow g (op.Closing (closing_op.Drain mark)) = omega arith
 polls-borrow g _ = omega arith
 
 polls-borrow-all : (g : ℕ) (ss : List (List Op)) → weigh_all (polls_of g) ss ≤ weigh_all borrowing_of ss
@@ -275,7 +276,7 @@ sound-begun w p ss others here = by_call _
 pub begins : (w : World) (p : ℕ) (ss : List (List Op)) (o : Option Op) (here : Option Waker) (c : Call) →
     ((a : Waker) → here ≡ Some a → waker_past (length w.tasks) a ≡ 0) → has_all w ss o c ≡ true →
     Grows w [] (begun p (log w (event.CallBegun p c)) here c)
-begins w p ss o here call.Spawn k has = grows-begun w p _ _ (λ h. refl)
+begins w p ss o here (call.Spawn mark) k has = grows-begun w p _ _ (λ h. refl)
 begins w p ss o here call.TryTick k has = grows-begun w p _ _ (λ h. refl)
 begins w p ss o here call.IsEmpty k has = grows-begun w p _ _ (λ h. refl)
 begins w p ss o here (call.Wake n) k has = begins-kept w p (call.Wake n) n _ _ refl

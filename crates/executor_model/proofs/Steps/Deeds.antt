@@ -1,10 +1,16 @@
 -- For calls_do_what_they_say.
 -- What each thing that is done adds to the trace: what its own party does, and no beginning or end of a call.
 use Rattle.std.proofs.Common.{◌≡◌, ◌≢◌, ℕ, List, [], ◌∷◌, ◌++◌, length, Bool, true, false, ◌||◌}
-use Rattle.std.proofs.Common.{refl, sym, ap, ◌∙◌, append-nil, arith}
+use Rattle.std.proofs.Common.{refl, sym, ap, ◌∙◌, ⊎_elim, append-nil, arith}
 use Rattle.std.proofs.lemmas.Bool.Decides.{nat_tests}
 use Rattle.std.proofs.lemmas.List.{append_assoc}
 use Rattle.std.specs.Prelude.{Option, Some, None}
+use Rattle.executor_parts.specs.Marks.{first_of}
+use Rattle.executor_model.specs.declared.op.Look.{Look}
+use Rattle.executor_parts.specs.declared.mark.Mark.TheVariants.{Plain, Urgent}
+use Rattle.executor_model.specs.declared.op.Look.TheVariants.{First, Second}
+use Rattle.executor_model.specs.World.{queue_of}
+use Rattle.executor_parts.specs.declared.mark.Mark.{Mark}
 use Rattle.task_moves.specs.declared.moves.owed.Answer.{Answer}
 use Rattle.task_moves.specs.declared.moves.owed.Moved.{Moved}
 use Rattle.task_moves.specs.Moves as moves
@@ -42,13 +48,13 @@ use Rattle.executor_model.specs.declared.step.UserEnd.{UserEnd}
 use Rattle.executor_model.specs.declared.step.UserEnd.TheVariants as end
 use Rattle.executor_model.specs.Trace.{Trace, has}
 use Rattle.executor_model.specs.World.{World, Done, log, log_if, task, put}
-use Rattle.executor_model.specs.Acts.{is_last_waker, is_told, let_go_by, move_by, told_as}
+use Rattle.executor_model.specs.Acts.{is_last_waker, is_told, let_go_by, move_by, told_as, turned}
 use Rattle.executor_model.specs.Acts.{append_by, take_by, enter_by, leave_by, copy_by, look_by}
 use Rattle.executor_model.specs.Acts.{look_again_by, copy_awaiter_by, register_by, end_register_by}
 use Rattle.executor_model.specs.Acts.{notify_by, call_waker, drop_next_by, wake, wake_next_by, drain_by}
 use Rattle.executor_model.specs.ActsOfSleepers.{exchange_by, hand_out_by, polled_as}
 use Rattle.executor_model.specs.ActsOfRuns.{call_by_reference, kept_by, steal_put_by, wake_own}
-use Rattle.executor_model.specs.Doing.{act, run_act, sleeper_act, steal_act}
+use Rattle.executor_model.specs.Doing.{act, run_act, sleeper_act, steal_act, tick_act}
 use Rattle.executor_model.specs.Steps.{kept, future_of, begun, with_future}
 use Rattle.executor_model.specs.Steps.{react}
 use Rattle.executor_model.specs.Deeds.{doer, is_by}
@@ -131,18 +137,22 @@ grows-let_go : {p : ℕ} (b : Bool) (w : World) (f : ℕ) → Grows p w (let_go_
 grows-let_go true w f = grows-same _ _ refl
 grows-let_go false w f = grows-same _ _ refl
 
-grows-append : {p : ℕ} (b : Bool) (w : World) (f : ℕ) → Grows p w (append_by b w f).world
-grows-append true w f = grows-same _ _ refl
-grows-append false w f = grows-same _ _ refl
+grows-append : {p : ℕ} (b : Bool) (w : World) (mark : Mark) (f : ℕ) → Grows p w (append_by b w mark f).world
+grows-append true w mark f = grows-same _ _ refl
+grows-append false w mark f = grows-same _ _ refl
 
-grows-take : {p : ℕ} (q : List ℕ) (w : World) → Grows p w (take_by w q).world
-grows-take [] w = grows-same _ _ refl
-grows-take (f ∷ rest) w = grows-same _ _ refl
+grows-take : {p : ℕ} (look : Look) (q : List ℕ) (w : World) → Grows p w (take_by w look q).world
+grows-take (First mark) [] w = grows-same _ _ refl
+grows-take (Second mark) [] w = grows-same _ _ refl
+grows-take look (f ∷ rest) w = grows-same _ _ refl
 
-grows-enter : (b c : Bool) (p : ℕ) (w : World) → Grows p w (enter_by b c p w).world
-grows-enter true c p w = grows-same _ _ refl
-grows-enter false true p w = grows-same _ _ refl
-grows-enter false false p w = grows-log _ _ (event.Accepted p (length w.tasks)) refl refl refl
+grows-turn : (p : ℕ) (w : World) → Grows p w (turned p w)
+grows-turn p w = grows-log _ _ (event.Looked p (first_of w.urgent_turns)) refl refl refl
+
+grows-enter : (b c : Bool) (mark : Mark) (p : ℕ) (w : World) → Grows p w (enter_by b c mark p w).world
+grows-enter true c mark p w = grows-same _ _ refl
+grows-enter false true mark p w = grows-same _ _ refl
+grows-enter false false mark p w = grows-log _ _ (event.Accepted p (length w.tasks)) refl refl refl
 
 grows-leave : {p : ℕ} (b : Bool) (w : World) (f : ℕ) → Grows p w (leave_by b w f).world
 grows-leave true w f = grows-same _ _ refl
@@ -235,9 +245,10 @@ grows-leak_next false p w (f ∷ rest) =
     grows-and w (wake_next_by p w (f ∷ rest)).world _ (grows-wake_next p w (f ∷ rest))
     (grows-log _ _ (event.Leaked p f) refl refl refl)
 
-grows-drain : (p : ℕ) (w : World) (q : List ℕ) → Grows p w (drain_by p w q).world
-grows-drain p w [] = grows-log _ _ (event.DropEnded p) refl refl refl
-grows-drain p w (f ∷ rest) = grows-same _ _ refl
+grows-drain : (mark : Mark) (p : ℕ) (w : World) (q : List ℕ) → Grows p w (drain_by p w mark q).world
+grows-drain Urgent p w [] = grows-same _ _ refl
+grows-drain Plain p w [] = grows-log _ _ (event.DropEnded p) refl refl refl
+grows-drain mark p w (f ∷ rest) = grows-same _ _ refl
 
 grows-put : (b : Bool) (p : ℕ) (w : World) (s : Steal) (more f : ℕ) → Grows p w (steal_put_by b p w s more f).world
 grows-put true p w s more f =
@@ -264,15 +275,17 @@ grows-wake_own p w x =
 grows-run : (p : ℕ) (h : Hint) (o : RunOp) (w : World) → Grows p w (run_act p h o w).world
 grows-run p h run_op.MakeRoom w = grows-same w _ (moves-make_room _ w).same.trace
 grows-run p h run_op.ReturnRoom w = grows-same w _ (moves-return_room w).same.trace
-grows-run p h (run_op.SearchCommon x) w = grows-same w _ (moves-common _ w x refl).same.trace
+grows-run p h (run_op.TakeTurn x) w = grows-turn p w
+grows-run p h (run_op.SearchCommon x look) w = grows-same w _ (moves-common look _ w x refl).same.trace
 grows-run p h (run_op.LookOwn x at left) w = grows-same w _ (moves-look _ w x at left refl).same.trace
 grows-run p h (run_op.WakeOwn x) w = grows-wake_own p w x
 grows-run p h (run_op.Reschedule r a) w = grows-same w _ (moves-reschedule _ w r a refl).same.trace
 
 pub grows-act : (p : ℕ) (h : Hint) (o : Op) (w : World) → is_end o ≡ false → Grows p w (act p h o w).world
-grows-act p h (op.Table table_op.Enter) w n = grows-enter _ _ p w
-grows-act p h (op.Queue queue_op.Take) w n = grows-take _ w
-grows-act p h (op.Queue (queue_op.Append f)) w n = grows-append _ w f
+grows-act p h (op.Table (table_op.Enter mark)) w n = grows-enter _ _ _ p w
+grows-act p h (op.Queue queue_op.TakeTurn) w n = grows-turn p w
+grows-act p h (op.Queue (queue_op.Take look)) w n = grows-take look _ w
+grows-act p h (op.Queue (queue_op.Append f)) w n = grows-append _ w _ f
 grows-act p h (op.Move m f) w n = grows-move _ m p w f
 grows-act p h (op.User (user_op.BeginDrop f)) w n = grows-log _ _ (event.Dropped p f) refl refl refl
 grows-act p h (op.Table (table_op.LeaveTable f)) w n = grows-leave _ w f
@@ -289,13 +302,17 @@ grows-act p h (op.Handle (handle_op.Notify f mine)) w n = grows-notify _ w f min
 grows-act p h (op.Handle (handle_op.LetGo f)) w n = grows-let_go _ w f
 grows-act p h (op.Waker (waker_op.CallAwaiter f a k)) w n = grows-call p w (of.Handle f) a k
 grows-act p h (op.Sleeper o) w n = grows-sleeper p o w
-grows-act p h (op.Tick o) w n = grows-same _ _ (tick-trace h o w)
+grows-act p h (op.Tick o) w n = ⊎_elim
+    (λ (e : (tick_act p h o w).world.trace ≡ w.trace). grows-same {p = p} _ _ e)
+    (λ (e : (tick_act p h o w).world.trace ≡ w.trace ++ event.Looked p (first_of w.urgent_turns) ∷ []).
+    grows-log {p = p} _ _ (event.Looked p (first_of w.urgent_turns)) e refl refl)
+    (tick-trace p h o w)
 grows-act p h (op.List o) w n = grows-same w _ (moves-list h o w).same.trace
 grows-act p h (op.Steal o) w n = grows-steal p o w
 grows-act p h (op.Run o) w n = grows-run p h o w
 grows-act p h (op.Closing closing_op.DropNext) w n = grows-drop_next p w w.leaving
 grows-act p h (op.Closing closing_op.WakeNext) w n = grows-wake_next p w w.waking
-grows-act p h (op.Closing closing_op.Drain) w n = grows-drain p w w.queue.items
+grows-act p h (op.Closing (closing_op.Drain mark)) w n = grows-drain mark p w (queue_of w mark).items
 grows-act p h (op.Closing closing_op.LeakOut) w n = grows-leak_out p _ w
 grows-act p h (op.Closing closing_op.LeakNext) w n = grows-leak_next _ p w w.waking
 grows-act p h (op.End r held) w n = absurd (cc)

@@ -110,6 +110,7 @@ module _ (n m : ℕ) (h : n ≤ m) where
 
   more-then : (t : Then) → then_past n t ≡ 0 → then_past m t ≡ 0
   more-then (then.Found f) z = more-one f z
+  more-then (then.StealPlain f) z = more-one f z
   more-then (then.Run f) z = more-one f z
   more-then (then.Walk at left) z = refl
 
@@ -126,7 +127,8 @@ module _ (n m : ℕ) (h : n ≤ m) where
       omega (arith, more-one f (omega (arith, z)), more-stealing s (omega (arith, z)))
 
   more-run : (o : RunOp) → past_of n (op.Run o) ≡ 0 → past_of m (op.Run o) ≡ 0
-  more-run (run_op.SearchCommon x) z = waker_past-more n m x.waker h z
+  more-run (run_op.TakeTurn x) z = waker_past-more n m x.waker h z
+  more-run (run_op.SearchCommon x look) z = waker_past-more n m x.waker h z
   more-run (run_op.LookOwn x at left) z = waker_past-more n m x.waker h z
   more-run (run_op.WakeOwn x) z = waker_past-more n m x.waker h z
   more-run _ z = refl
@@ -152,13 +154,14 @@ module _ (n m : ℕ) (h : n ≤ m) where
   more (op.Waker (waker_op.CallAwaiter f a k)) z = more-two f a z
   more (op.Sleeper (sleeper_op.CallSleeper s)) z = waker_past-more n m s.waker h z
   more (op.Tick (tick_op.Search s)) z = waker_past-more n m s.waker h z
+  more (op.Tick (tick_op.Look s look)) z = waker_past-more n m s.waker h z
   more (op.Tick (tick_op.CopyWaker s)) z = waker_past-more n m s.waker h z
   more (op.Tick (tick_op.FallAsleep s)) z = waker_past-more n m s.waker h z
   more (op.User (user_op.PollOwn x)) z = waker_past-more n m x.waker h z
   more (op.List o) z = more-list o z
   more (op.Steal o) z = more-steal o z
   more (op.Run o) z = more-run o z
-  more (op.Closing closing_op.Drain) z = refl
+  more (op.Closing (closing_op.Drain mark)) z = refl
   more _ z = refl
 
   more-weigh : (os : List Op) → weigh (past_of n) os ≡ 0 → weigh (past_of m) os ≡ 0

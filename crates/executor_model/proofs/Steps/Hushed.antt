@@ -1,9 +1,16 @@
 -- For outside_wakers_are_called, the_closing_drop_keeps_the_order and the_closing_drop_wakes_in_order.
 -- What is added to the trace passes no test that only the call of a waker, the acceptance or drop of a future, or the
 -- beginning of the executor's drop passes, where the thing that is done is none of these.
-use Rattle.std.proofs.Common.{◌≡◌, ℕ, List, [], ◌∷◌, ◌++◌, length, Bool, true, false, refl, sym, ap, ◌∙◌, append-nil}
+use Rattle.std.proofs.Common.{◌≡◌, ℕ, List, [], ◌∷◌, ◌++◌, length, Bool, true, false, refl, sym, ap, ◌∙◌, ⊎_elim, append-nil}
 use Rattle.std.proofs.lemmas.List.{append_assoc, append_cancel_left}
 use Rattle.std.specs.Prelude.{Option, Some, None}
+use Rattle.executor_model.specs.Acts.{turned}
+use Rattle.executor_parts.specs.Marks.{first_of}
+use Rattle.executor_model.specs.declared.op.Look.{Look}
+use Rattle.executor_parts.specs.declared.mark.Mark.TheVariants.{Plain, Urgent}
+use Rattle.executor_model.specs.declared.op.Look.TheVariants.{First, Second}
+use Rattle.executor_model.specs.World.{queue_of}
+use Rattle.executor_parts.specs.declared.mark.Mark.{Mark}
 use Rattle.task_moves.specs.declared.moves.owed.Answer.{Answer}
 use Rattle.task_moves.specs.declared.moves.owed.Moved.{Moved}
 use Rattle.task_moves.specs.Moves as moves
@@ -42,7 +49,7 @@ use Rattle.executor_model.specs.Acts.{enter_by, is_last_waker, is_told, leak_nex
 use Rattle.executor_model.specs.Acts.{look_by, move_by, notify_by, register_by, take_by, told_as, wake_next_by}
 use Rattle.executor_model.specs.ActsOfRuns.{call_by_reference, kept_by, steal_put_by, wake_own}
 use Rattle.executor_model.specs.ActsOfSleepers.{exchange_by, hand_out_by, polled_as}
-use Rattle.executor_model.specs.Doing.{act, steal_act}
+use Rattle.executor_model.specs.Doing.{act, steal_act, tick_act}
 use Rattle.executor_model.specs.Steps.{begun, future_of, kept, react, with_future}
 use Rattle.executor_model.specs.Trace.{Trace, has}
 use Rattle.executor_model.specs.World.{World, Done, log, log_if, put, task}
@@ -97,19 +104,23 @@ module _ (t : Event → Bool) (u : (e : Event) → is_hushed e ≡ true → t e 
   hushed-let_go true w f = hushed _ _ refl
   hushed-let_go false w f = hushed _ _ refl
 
-  hushed-append : (b : Bool) (w : World) (f : ℕ) → Hushed w (append_by b w f).world
-  hushed-append true w f = hushed _ _ refl
-  hushed-append false w f = hushed _ _ refl
+  hushed-append : (b : Bool) (w : World) (mark : Mark) (f : ℕ) → Hushed w (append_by b w mark f).world
+  hushed-append true w mark f = hushed _ _ refl
+  hushed-append false w mark f = hushed _ _ refl
 
-  hushed-take : (q : List ℕ) (w : World) → Hushed w (take_by w q).world
-  hushed-take [] w = hushed _ _ refl
-  hushed-take (f ∷ rest) w = hushed _ _ refl
+  hushed-take : (look : Look) (q : List ℕ) (w : World) → Hushed w (take_by w look q).world
+  hushed-take (First mark) [] w = hushed _ _ refl
+  hushed-take (Second mark) [] w = hushed _ _ refl
+  hushed-take look (f ∷ rest) w = hushed _ _ refl
 
-  hushed-enter : (b c : Bool) (p : ℕ) (w : World) → ((f : ℕ) → t (event.Accepted p f) ≡ false) →
-      Hushed w (enter_by b c p w).world
-  hushed-enter true c p w z = hushed _ _ refl
-  hushed-enter false true p w z = hushed _ _ refl
-  hushed-enter false false p w z = one _ _ (event.Accepted p (length w.tasks)) refl (z (length w.tasks))
+  hushed-turn : (p : ℕ) (w : World) → Hushed w (turned p w)
+  hushed-turn p w = one _ _ (event.Looked p (first_of w.urgent_turns)) refl (u _ refl)
+
+  hushed-enter : (b c : Bool) (mark : Mark) (p : ℕ) (w : World) → ((f : ℕ) → t (event.Accepted p f) ≡ false) →
+      Hushed w (enter_by b c mark p w).world
+  hushed-enter true c mark p w z = hushed _ _ refl
+  hushed-enter false true mark p w z = hushed _ _ refl
+  hushed-enter false false mark p w z = one _ _ (event.Accepted p (length w.tasks)) refl (z (length w.tasks))
 
   hushed-leave : (b : Bool) (w : World) (f : ℕ) → Hushed w (leave_by b w f).world
   hushed-leave true w f = hushed _ _ refl
@@ -194,9 +205,10 @@ module _ (t : Event → Bool) (u : (e : Event) → is_hushed e ≡ true → t e 
       let v : World = (wake_next_by p w (f ∷ rest)).world in
       both w v _ (hushed-wake_next p w (f ∷ rest)) (one v (log v (event.Leaked p f)) (event.Leaked p f) refl (u _ refl))
 
-  hushed-drain : (p : ℕ) (w : World) (q : List ℕ) → Hushed w (drain_by p w q).world
-  hushed-drain p w [] = one _ _ (event.DropEnded p) refl (u _ refl)
-  hushed-drain p w (f ∷ rest) = hushed _ _ refl
+  hushed-drain : (mark : Mark) (p : ℕ) (w : World) (q : List ℕ) → Hushed w (drain_by p w mark q).world
+  hushed-drain Urgent p w [] = hushed _ _ refl
+  hushed-drain Plain p w [] = one _ _ (event.DropEnded p) refl (u _ refl)
+  hushed-drain mark p w (f ∷ rest) = hushed _ _ refl
 
   hushed-put : (b : Bool) (p : ℕ) (w : World) (s : Steal) (more f : ℕ) → Hushed w (steal_put_by b p w s more f).world
   hushed-put true p w s more f =
@@ -224,16 +236,17 @@ module _ (t : Event → Bool) (u : (e : Event) → is_hushed e ≡ true → t e 
   Hushes p (op.Waker (waker_op.CallAwaiter f a k)) = t (event.WakerCalled p (of.Handle f) k a) ≡ false
   Hushes p (op.Sleeper (sleeper_op.CallSleeper s)) = t (event.WakerCalled p (polled_as s.who) s.poll s.waker) ≡ false
   Hushes p (op.Run (run_op.WakeOwn x)) = t (event.WakerCalled p (of.Run x.run) x.poll x.waker) ≡ false
-  Hushes p (op.Table table_op.Enter) = (f : ℕ) → t (event.Accepted p f) ≡ false
+  Hushes p (op.Table (table_op.Enter mark)) = (f : ℕ) → t (event.Accepted p f) ≡ false
   Hushes p (op.User (user_op.BeginDrop f)) = t (event.Dropped p f) ≡ false
   Hushes p (op.Closing closing_op.DropNext) = (f : ℕ) → t (event.Dropped p f) ≡ false
   Hushes p _ = Unit {0}
 
   pub hushed-act : (p : ℕ) (h : Hint) (o : Op) (w : World) → Hushes p o → Hushed w (act p h o w).world
-  hushed-act p h (op.Table table_op.Enter) w z = hushed-enter _ _ p w z
+  hushed-act p h (op.Table (table_op.Enter mark)) w z = hushed-enter _ _ _ p w z
   hushed-act p h (op.Table (table_op.LeaveTable f)) w z = hushed-leave _ w f
-  hushed-act p h (op.Queue queue_op.Take) w z = hushed-take _ w
-  hushed-act p h (op.Queue (queue_op.Append f)) w z = hushed-append _ w f
+  hushed-act p h (op.Queue queue_op.TakeTurn) w z = hushed-turn p w
+  hushed-act p h (op.Queue (queue_op.Take look)) w z = hushed-take look _ w
+  hushed-act p h (op.Queue (queue_op.Append f)) w z = hushed-append _ w _ f
   hushed-act p h (op.Move m f) w z = hushed-move _ m p w f
   hushed-act p h (op.User (user_op.BeginDrop f)) w z = one _ _ (event.Dropped p f) refl z
   hushed-act p h (op.User (user_op.BeginDropOutput f)) w z = one _ _ (event.OutputDropped p f) refl (u _ refl)
@@ -251,18 +264,23 @@ module _ (t : Event → Bool) (u : (e : Event) → is_hushed e ≡ true → t e 
   hushed-act p h (op.Sleeper sleeper_op.ExchangeFlag) w z = hushed-exchange _ w
   hushed-act p h (op.Sleeper sleeper_op.HandOut) w z = hushed-hand_out _ _ w
   hushed-act p h (op.Sleeper (sleeper_op.CallSleeper s)) w z = hushed-call p w (polled_as s.who) s.waker s.poll z
-  hushed-act p h (op.Tick o) w z = hushed _ _ (tick-trace h o w)
+  hushed-act p h (op.Tick o) w z = ⊎_elim
+      (λ (e : (tick_act p h o w).world.trace ≡ w.trace). hushed w _ e)
+      (λ (e : (tick_act p h o w).world.trace ≡ w.trace ++ event.Looked p (first_of w.urgent_turns) ∷ []).
+      one w _ (event.Looked p (first_of w.urgent_turns)) e (u _ refl))
+      (tick-trace p h o w)
   hushed-act p h (op.List o) w z = hushed w _ (moves-list h o w).same.trace
   hushed-act p h (op.Steal o) w z = hushed-steal p o w
   hushed-act p h (op.Run run_op.MakeRoom) w z = hushed w _ (moves-make_room _ w).same.trace
   hushed-act p h (op.Run run_op.ReturnRoom) w z = hushed w _ (moves-return_room w).same.trace
-  hushed-act p h (op.Run (run_op.SearchCommon x)) w z = hushed w _ (moves-common _ w x refl).same.trace
+  hushed-act p h (op.Run (run_op.TakeTurn x)) w z = hushed-turn p w
+  hushed-act p h (op.Run (run_op.SearchCommon x look)) w z = hushed w _ (moves-common look _ w x refl).same.trace
   hushed-act p h (op.Run (run_op.LookOwn x at left)) w z = hushed w _ (moves-look _ w x at left refl).same.trace
   hushed-act p h (op.Run (run_op.WakeOwn x)) w z = hushed-wake_own p w x z
   hushed-act p h (op.Run (run_op.Reschedule r a)) w z = hushed w _ (moves-reschedule _ w r a refl).same.trace
   hushed-act p h (op.Closing closing_op.DropNext) w z = hushed-drop_next p w w.leaving z
   hushed-act p h (op.Closing closing_op.WakeNext) w z = hushed-wake_next p w w.waking
-  hushed-act p h (op.Closing closing_op.Drain) w z = hushed-drain p w w.queue.items
+  hushed-act p h (op.Closing (closing_op.Drain mark)) w z = hushed-drain mark p w (queue_of w mark).items
   hushed-act p h (op.Closing closing_op.LeakOut) w z = hushed-leak_out _ w
   hushed-act p h (op.Closing closing_op.LeakNext) w z = hushed-leak_next _ p w w.waking
   hushed-act p h (op.End r held) w z = one _ _ (event.CallEnded p r) refl (u _ refl)

@@ -3,6 +3,10 @@
 -- wake: the rest leave all three as they were.
 use Rattle.std.proofs.Common.{◌≡◌, ℕ, ◌<◌, List, [], ◌∷◌, length, Bool, true, false, refl, sym, ap, ◌∙◌}
 use Rattle.std.specs.Prelude.{Option, Some, None}
+use Rattle.executor_model.specs.declared.op.Look.{Look}
+use Rattle.executor_parts.specs.declared.mark.Mark.TheVariants.{Plain, Urgent}
+use Rattle.executor_parts.specs.declared.mark.Mark.{Mark}
+use Rattle.executor_model.specs.declared.op.Look.TheVariants.{First, Second}
 use Rattle.task_moves.specs.declared.moves.owed.Answer.{Answer}
 use Rattle.task_moves.specs.declared.moves.owed.Move.{Move}
 use Rattle.task_moves.specs.declared.moves.owed.Moved.{Moved}
@@ -38,7 +42,7 @@ use Rattle.executor_model.specs.declared.step.UserEnd.TheVariants as end
 use Rattle.executor_model.specs.Acts.{append_by, call_waker, copy_awaiter_by, copy_by, drain_by, end_register_by, is_last_waker, is_told}
 use Rattle.executor_model.specs.Acts.{let_go_by, look_again_by, look_by, move_by, notify_by, register_by, take_by, told_as}
 use Rattle.executor_model.specs.ActsOfRuns.{call_by_reference, kept_by, wake_own}
-use Rattle.executor_model.specs.ActsOfSleepers.{search_by}
+use Rattle.executor_model.specs.ActsOfSleepers.{look_tick_by}
 use Rattle.executor_model.specs.Doing.{act, search_by_who}
 use Rattle.executor_model.specs.Steps.{accepts, begun, future_of, kept, react, with_future}
 use Rattle.executor_model.specs.World.{World, Ticker, Awake, Asleep, Left, Done, log, log_if, task}
@@ -58,7 +62,7 @@ abbrev entries_in : Rest → Entries
 entries_in r = record { table = r.table; leaving = r.leaving; waking = r.waking }
 
 abbrev pub lists : Op → Bool
-lists (op.Table table_op.Enter) = true
+lists (op.Table (table_op.Enter mark)) = true
 lists (op.Table (table_op.LeaveTable f)) = true
 lists (op.Closing closing_op.TakeOut) = true
 lists (op.Closing closing_op.DropNext) = true
@@ -71,13 +75,14 @@ entries-log_if : (b : Bool) (w : World) (e : Event) → entries w ≡ entries (l
 entries-log_if true w e = refl
 entries-log_if false w e = refl
 
-entries-append : (b : Bool) (w : World) (f : ℕ) → entries w ≡ entries (append_by b w f).world
-entries-append true w f = refl
-entries-append false w f = refl
+entries-append : (b : Bool) (w : World) (mark : Mark) (f : ℕ) → entries w ≡ entries (append_by b w mark f).world
+entries-append true w mark f = refl
+entries-append false w mark f = refl
 
-entries-take : (q : List ℕ) (w : World) → entries w ≡ entries (take_by w q).world
-entries-take [] w = refl
-entries-take (f ∷ rest) w = refl
+entries-take : (look : Look) (q : List ℕ) (w : World) → entries w ≡ entries (take_by w look q).world
+entries-take (First mark) [] w = refl
+entries-take (Second mark) [] w = refl
+entries-take look (f ∷ rest) w = refl
 
 entries-copy : (b : Bool) (w : World) (f : ℕ) (held : Hold) → entries w ≡ entries (copy_by b w f held).world
 entries-copy true w f held = refl
@@ -116,9 +121,10 @@ entries-call : (p : ℕ) (w : World) (o : Polled) (a : Waker) (k : ℕ) → entr
 entries-call p w o (Task g) k = entries-log_if _ (log w (event.WakerCalled p o k (Task g))) (event.Woken p g)
 entries-call p w o (Outside x) k = refl
 
-entries-drain : (q : List ℕ) (p : ℕ) (w : World) → entries w ≡ entries (drain_by p w q).world
-entries-drain [] p w = refl
-entries-drain (f ∷ rest) p w = refl
+entries-drain : (mark : Mark) (q : List ℕ) (p : ℕ) (w : World) → entries w ≡ entries (drain_by p w mark q).world
+entries-drain Urgent [] p w = refl
+entries-drain Plain [] p w = refl
+entries-drain mark (f ∷ rest) p w = refl
 
 -- what a run does
 
@@ -140,15 +146,16 @@ entries-by_reference p w (Outside y) = refl
 entries-own : (p : ℕ) (w : World) (x : RunPoll) → entries w ≡ entries (wake_own p w x).world
 entries-own p w x = entries-by_reference p (log w (event.WakerCalled p (of.Run x.run) x.poll x.waker)) x.waker
 
-entries-tick : (x : Ticker) (w : World) (q : List ℕ) (s : Sleeping) → entries w ≡ entries (search_by x w q s).world
-entries-tick x w [] s = refl
-entries-tick Awake w (f ∷ rest) s = refl
-entries-tick (Asleep n) w (f ∷ rest) s = refl
-entries-tick Left w (f ∷ rest) s = refl
+entries-tick : (look : Look) (x : Ticker) (w : World) (q : List ℕ) (s : Sleeping) → entries w ≡ entries (look_tick_by x w look q s).world
+entries-tick (First mark) x w [] s = refl
+entries-tick (Second mark) x w [] s = refl
+entries-tick look Awake w (f ∷ rest) s = refl
+entries-tick look (Asleep n) w (f ∷ rest) s = refl
+entries-tick look Left w (f ∷ rest) s = refl
 
-entries-search : (who : TickOrRun) (w : World) (s : Sleeping) → s.who ≡ who → entries w ≡ entries (search_by_who who w s).world
-entries-search (tick_or_run.Tick t) w s e = entries-tick _ w _ s
-entries-search (tick_or_run.Run r) w s e = by-search SameEntries entries-moves entries-put w r s e
+entries-search : (who : TickOrRun) (p : ℕ) (w : World) (s : Sleeping) → s.who ≡ who → entries w ≡ entries (search_by_who who p w s).world
+entries-search (tick_or_run.Tick t) p w s e = refl
+entries-search (tick_or_run.Run r) p w s e = by-search SameEntries entries-moves entries-put w r s e
 
 pub entries-move : (b : Bool) (m : Move) (p : ℕ) (w : World) (f : ℕ) → entries w ≡ entries (move_by b m p w f).world
 entries-move true m p w f = let v = log_if (is_told m (task w f)) w (told_as m p f) in
@@ -161,7 +168,7 @@ entries-let_go true w f = refl
 entries-let_go false w f = refl
 
 pub same-entries : (p : ℕ) (h : Hint) (o : Op) (w : World) → lists o ≡ false → entries w ≡ entries (act p h o w).world
-same-entries p h (op.Table table_op.Enter) w n = absurd (cc)
+same-entries p h (op.Table (table_op.Enter mark)) w n = absurd (cc)
 same-entries p h (op.Table (table_op.LeaveTable f)) w n = absurd (cc)
 same-entries p h (op.Closing closing_op.TakeOut) w n = absurd (cc)
 same-entries p h (op.Closing closing_op.DropNext) w n = absurd (cc)
@@ -170,8 +177,9 @@ same-entries p h (op.Closing closing_op.LeakOut) w n = absurd (cc)
 same-entries p h (op.Closing closing_op.LeakNext) w n = absurd (cc)
 same-entries p h (op.Move m f) w n = entries-move _ m p w f
 same-entries p h (op.Waker (waker_op.CopyWaker f held)) w n = entries-copy _ w f held
-same-entries p h (op.Queue queue_op.Take) w n = entries-take _ w
-same-entries p h (op.Queue (queue_op.Append f)) w n = entries-append _ w f
+same-entries p h (op.Queue queue_op.TakeTurn) w n = refl
+same-entries p h (op.Queue (queue_op.Take look)) w n = entries-take look _ w
+same-entries p h (op.Queue (queue_op.Append f)) w n = entries-append _ w _ f
 same-entries p h (op.Handle (handle_op.Look f a)) w n =
     entries-look (moves.poll (task w f)).owed.answer p w f a (moves.poll (task w f))
 same-entries p h (op.Handle (handle_op.CopyAwaiter f a)) w n = entries-copy_awaiter _ p w f a
@@ -183,16 +191,17 @@ same-entries p h (op.Handle (handle_op.Notify f mine)) w n = entries-notify _ w 
 same-entries p h (op.Handle (handle_op.LetGo f)) w n = entries-let_go _ w f
 same-entries p h (op.Waker (waker_op.CallAwaiter f a k)) w n = entries-call p w (of.Handle f) a k
 same-entries p h (op.Sleeper o) w n = ap entries_in (sleeper-rest p o w)
-same-entries p h (op.Tick tick_op.MakeTick) w n = ap entries_in (tick-rest h tick_op.MakeTick w refl)
-same-entries p h (op.Tick (tick_op.Search s)) w n = entries-search s.who w s refl
-same-entries p h (op.Tick (tick_op.CopyWaker s)) w n = ap entries_in (tick-rest h (tick_op.CopyWaker s) w refl)
-same-entries p h (op.Tick (tick_op.FallAsleep s)) w n = ap entries_in (tick-rest h (tick_op.FallAsleep s) w refl)
-same-entries p h (op.Tick (tick_op.WakeUp t)) w n = ap entries_in (tick-rest h (tick_op.WakeUp t) w refl)
-same-entries p h (op.Tick (tick_op.Leave t)) w n = ap entries_in (tick-rest h (tick_op.Leave t) w refl)
+same-entries p h (op.Tick tick_op.MakeTick) w n = ap entries_in (tick-rest p h tick_op.MakeTick w refl)
+same-entries p h (op.Tick (tick_op.Search s)) w n = entries-search s.who p w s refl
+same-entries p h (op.Tick (tick_op.Look s look)) w n = entries-tick look _ w _ s
+same-entries p h (op.Tick (tick_op.CopyWaker s)) w n = ap entries_in (tick-rest p h (tick_op.CopyWaker s) w refl)
+same-entries p h (op.Tick (tick_op.FallAsleep s)) w n = ap entries_in (tick-rest p h (tick_op.FallAsleep s) w refl)
+same-entries p h (op.Tick (tick_op.WakeUp t)) w n = ap entries_in (tick-rest p h (tick_op.WakeUp t) w refl)
+same-entries p h (op.Tick (tick_op.Leave t)) w n = ap entries_in (tick-rest p h (tick_op.Leave t) w refl)
 same-entries p h (op.List o) w n = by-list SameEntries entries-moves entries-put h o w
 same-entries p h (op.Steal o) w n = by-steal SameEntries entries-moves entries-put p o w
-same-entries p h (op.Run o) w n = by-run SameEntries entries-moves entries-put p h o w (λ x e. entries-own p w x)
-same-entries p h (op.Closing closing_op.Drain) w n = entries-drain _ p w
+same-entries p h (op.Run o) w n = by-run SameEntries entries-moves entries-put p h o w (λ x e. entries-own p w x) (λ x. refl)
+same-entries p h (op.Closing (closing_op.Drain mark)) w n = entries-drain mark _ p w
 same-entries p h (op.User (user_op.BeginDrop f)) w n = refl
 same-entries p h _ w n = refl
 

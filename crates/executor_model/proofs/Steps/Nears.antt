@@ -2,6 +2,10 @@
 -- Which things that are done lead to user code of a future, or to its way back: no others do.
 use Rattle.std.proofs.Common.{◌≡◌, ℕ, List, [], ◌∷◌, ◌++◌, Bool, true, false, refl, arith}
 use Rattle.std.specs.Prelude.{Option, Some, None}
+use Rattle.executor_model.specs.declared.op.Look.{Look}
+use Rattle.executor_parts.specs.declared.mark.Mark.TheVariants.{Plain, Urgent}
+use Rattle.executor_model.specs.declared.op.Look.TheVariants.{First, Second}
+use Rattle.executor_parts.specs.declared.mark.Mark.{Mark}
 use Rattle.task_moves.specs.declared.moves.owed.Answer.{Answer}
 use Rattle.task_moves.specs.declared.moves.owed.Move.{Move}
 use Rattle.task_moves.specs.declared.moves.owed.Move.TheVariants as move
@@ -110,18 +114,19 @@ near-sleepers = record {
   wake = λ p w f. near-move true move.Wake p w f;
 }
 
-near-append : (b : Bool) (w : World) (f : ℕ) → weigh near_of (append_by b w f).next ≡ 0
-near-append true w f = refl
-near-append false w f = refl
+near-append : (b : Bool) (w : World) (mark : Mark) (f : ℕ) → weigh near_of (append_by b w mark f).next ≡ 0
+near-append true w mark f = refl
+near-append false w mark f = refl
 
-near-take : (q : List ℕ) (w : World) → weigh near_of (take_by w q).next ≡ 0
-near-take [] w = refl
-near-take (f ∷ rest) w = refl
+near-take : (look : Look) (q : List ℕ) (w : World) → weigh near_of (take_by w look q).next ≡ 0
+near-take (First mark) [] w = refl
+near-take (Second mark) [] w = refl
+near-take look (f ∷ rest) w = refl
 
-near-enter : (b c : Bool) (p : ℕ) (w : World) → weigh near_of (enter_by b c p w).next ≡ 0
-near-enter true c p w = refl
-near-enter false true p w = refl
-near-enter false false p w = refl
+near-enter : (b c : Bool) (mark : Mark) (p : ℕ) (w : World) → weigh near_of (enter_by b c mark p w).next ≡ 0
+near-enter true c mark p w = refl
+near-enter false true mark p w = refl
+near-enter false false mark p w = refl
 
 near-leave : (b : Bool) (w : World) (f : ℕ) → weigh near_of (leave_by b w f).next ≡ 0
 near-leave true w f = aside-entry near_of near-aside w.is_static f
@@ -192,9 +197,10 @@ near-wake_next (f ∷ rest) p w =
       aside-closing near_of (λ o. refl) [] rest,
     )
 
-near-drain : (q : List ℕ) (p : ℕ) (w : World) → weigh near_of (drain_by p w q).next ≡ 0
-near-drain [] p w = refl
-near-drain (f ∷ rest) p w = refl
+near-drain : (mark : Mark) (q : List ℕ) (p : ℕ) (w : World) → weigh near_of (drain_by p w mark q).next ≡ 0
+near-drain Urgent [] p w = refl
+near-drain Plain [] p w = refl
+near-drain mark (f ∷ rest) p w = refl
 
 near-reference : (p : ℕ) (w : World) (a : Waker) → weigh near_of (call_by_reference p w a).next ≡ 0
 near-reference p w (Task g) = near-move true move.WakeByReference p w g
@@ -215,14 +221,15 @@ near-reschedule w (f ∷ rest) r a = refl
 
 pub near-act : (p : ℕ) (h : Hint) (o : Op) (w : World) → leads_near o ≡ false → weigh near_of (act p h o w).next ≡ 0
 near-act p h (op.Move m f) w n = near-move (stands_alone m) m p w f
-near-act p h (op.Table table_op.Enter) w n = near-enter _ _ p w
+near-act p h (op.Table (table_op.Enter mark)) w n = near-enter _ _ _ p w
 near-act p h (op.Table table_op.LookAtTable) w n = refl
 near-act p h (op.Table (table_op.TakeToPoll f)) w n = absurd (cc)
 near-act p h (op.Table (table_op.PutBack f)) w n = refl
 near-act p h (op.Table (table_op.TakeToDrop f)) w n = absurd (cc)
 near-act p h (op.Table (table_op.LeaveTable f)) w n = near-leave _ w f
-near-act p h (op.Queue queue_op.Take) w n = near-take _ w
-near-act p h (op.Queue (queue_op.Append f)) w n = near-append _ w f
+near-act p h (op.Queue queue_op.TakeTurn) w n = refl
+near-act p h (op.Queue (queue_op.Take look)) w n = near-take look _ w
+near-act p h (op.Queue (queue_op.Append f)) w n = near-append _ w _ f
 near-act p h (op.User o) w n = absurd (cc)
 near-act p h (op.Waker (waker_op.CopyWaker f held)) w n = near-copy _ w f held
 near-act p h (op.Waker (waker_op.CallAwaiter f a k)) w n = near-call p w f a k
@@ -237,15 +244,16 @@ near-act p h (op.Handle (handle_op.Notify f mine)) w n = near-notify _ w f mine
 near-act p h (op.Handle (handle_op.LetGo f)) w n = aside-let_go_by near_of near-aside _ w f
 near-act p h (op.Handle (handle_op.EndNotify f mine)) w n = aside-told near_of near-aside _ f (awaiter_of w f)
 near-act p h (op.Sleeper o) w n = sleeper-unseen near_of near-sleepers p o w
-near-act p h (op.Tick o) w n = tick-blind near_of near-ticks near-runs h o w
+near-act p h (op.Tick o) w n = tick-blind near_of near-ticks near-runs p h o w
 near-act p h (op.List o) w n = list-blind near_of near-runs h o w
 near-act p h (op.Steal o) w n = steal-blind near_of near-runs (λ f. refl) p o w
 near-act p h (op.Run o) w n = run-blind near_of near-runs p h o w (λ x. near-wake_own p w x) (λ q r a. near-reschedule w q r a)
 near-act p h (op.Closing closing_op.TakeOut) w n = aside-closing near_of (λ o. refl) w.table w.waking
 near-act p h (op.Closing closing_op.DropNext) w n = absurd (cc)
 near-act p h (op.Closing closing_op.WakeNext) w n = near-wake_next _ p w
-near-act p h (op.Closing closing_op.Close) w n = refl
-near-act p h (op.Closing closing_op.Drain) w n = near-drain _ p w
+near-act p h (op.Closing (closing_op.Close Urgent)) w n = refl
+near-act p h (op.Closing (closing_op.Close Plain)) w n = refl
+near-act p h (op.Closing (closing_op.Drain mark)) w n = near-drain mark _ p w
 near-act p h (op.Closing closing_op.LeakOut) w n = aside-leak_out near_of refl _ w
 near-act p h (op.Closing closing_op.LeakNext) w n =
     aside-leak_next near_of refl (λ p w f. near-move true move.Wake p w f) _ p w w.waking

@@ -2,6 +2,10 @@
 -- Which things that are done change the kept wakers, or which futures are in their places: the rest leave both as they were.
 use Rattle.std.proofs.Common.{◌≡◌, ℕ, ◌<◌, List, [], ◌∷◌, length, Bool, true, false, refl, sym, ap, ◌∙◌}
 use Rattle.std.specs.Prelude.{Option, Some, None}
+use Rattle.executor_model.specs.declared.op.Look.{Look}
+use Rattle.executor_parts.specs.declared.mark.Mark.TheVariants.{Plain, Urgent}
+use Rattle.executor_parts.specs.declared.mark.Mark.{Mark}
+use Rattle.executor_model.specs.declared.op.Look.TheVariants.{First, Second}
 use Rattle.task_moves.specs.declared.moves.owed.Answer.{Answer}
 use Rattle.task_moves.specs.declared.moves.owed.Move.{Move}
 use Rattle.task_moves.specs.declared.moves.owed.Moved.{Moved}
@@ -35,7 +39,7 @@ use Rattle.executor_model.specs.Acts.{append_by, call_waker, copy_awaiter_by, dr
 use Rattle.executor_model.specs.Acts.{leave_by, let_go_by, look_again_by, look_by, move_by, notify_by, register_by, take_by, told_as}
 use Rattle.executor_model.specs.Acts.{wake_next_by}
 use Rattle.executor_model.specs.ActsOfRuns.{call_by_reference, kept_by, wake_own}
-use Rattle.executor_model.specs.ActsOfSleepers.{search_by}
+use Rattle.executor_model.specs.ActsOfSleepers.{look_tick_by}
 use Rattle.executor_model.specs.Doing.{act, search_by_who}
 use Rattle.executor_model.specs.Steps.{accepts, react}
 use Rattle.executor_model.specs.World.{World, Ticker, Awake, Asleep, Left, Done, log, log_if, task}
@@ -55,7 +59,7 @@ abbrev spots_in : Rest → Spots
 spots_in r = record { inside = r.inside; wakers = r.wakers }
 
 abbrev pub places : Op → Bool
-places (op.Table table_op.Enter) = true
+places (op.Table (table_op.Enter mark)) = true
 places (op.Table (table_op.TakeToPoll f)) = true
 places (op.Table (table_op.PutBack f)) = true
 places (op.Table (table_op.TakeToDrop f)) = true
@@ -67,13 +71,14 @@ spots-log_if : (b : Bool) (w : World) (e : Event) → spots w ≡ spots (log_if 
 spots-log_if true w e = refl
 spots-log_if false w e = refl
 
-spots-append : (b : Bool) (w : World) (f : ℕ) → spots w ≡ spots (append_by b w f).world
-spots-append true w f = refl
-spots-append false w f = refl
+spots-append : (b : Bool) (w : World) (mark : Mark) (f : ℕ) → spots w ≡ spots (append_by b w mark f).world
+spots-append true w mark f = refl
+spots-append false w mark f = refl
 
-spots-take : (q : List ℕ) (w : World) → spots w ≡ spots (take_by w q).world
-spots-take [] w = refl
-spots-take (f ∷ rest) w = refl
+spots-take : (look : Look) (q : List ℕ) (w : World) → spots w ≡ spots (take_by w look q).world
+spots-take (First mark) [] w = refl
+spots-take (Second mark) [] w = refl
+spots-take look (f ∷ rest) w = refl
 
 spots-leave : (b : Bool) (w : World) (f : ℕ) → spots w ≡ spots (leave_by b w f).world
 spots-leave true w f = refl
@@ -125,9 +130,10 @@ spots-leak_next true q p w = refl
 spots-leak_next false [] p w = refl
 spots-leak_next false (f ∷ rest) p w = spots-log_if _ (record w { waking = rest }) (event.Woken p f)
 
-spots-drain : (q : List ℕ) (p : ℕ) (w : World) → spots w ≡ spots (drain_by p w q).world
-spots-drain [] p w = refl
-spots-drain (f ∷ rest) p w = refl
+spots-drain : (mark : Mark) (q : List ℕ) (p : ℕ) (w : World) → spots w ≡ spots (drain_by p w mark q).world
+spots-drain Urgent [] p w = refl
+spots-drain Plain [] p w = refl
+spots-drain mark (f ∷ rest) p w = refl
 
 -- what a run does
 
@@ -149,15 +155,16 @@ spots-by_reference p w (Outside y) = refl
 spots-own : (p : ℕ) (w : World) (x : RunPoll) → spots w ≡ spots (wake_own p w x).world
 spots-own p w x = spots-by_reference p (log w (event.WakerCalled p (of.Run x.run) x.poll x.waker)) x.waker
 
-spots-tick : (x : Ticker) (w : World) (q : List ℕ) (s : Sleeping) → spots w ≡ spots (search_by x w q s).world
-spots-tick x w [] s = refl
-spots-tick Awake w (f ∷ rest) s = refl
-spots-tick (Asleep n) w (f ∷ rest) s = refl
-spots-tick Left w (f ∷ rest) s = refl
+spots-tick : (look : Look) (x : Ticker) (w : World) (q : List ℕ) (s : Sleeping) → spots w ≡ spots (look_tick_by x w look q s).world
+spots-tick (First mark) x w [] s = refl
+spots-tick (Second mark) x w [] s = refl
+spots-tick look Awake w (f ∷ rest) s = refl
+spots-tick look (Asleep n) w (f ∷ rest) s = refl
+spots-tick look Left w (f ∷ rest) s = refl
 
-spots-search : (who : TickOrRun) (w : World) (s : Sleeping) → s.who ≡ who → spots w ≡ spots (search_by_who who w s).world
-spots-search (tick_or_run.Tick t) w s e = spots-tick _ w _ s
-spots-search (tick_or_run.Run r) w s e = by-search SameSpots spots-moves spots-put w r s e
+spots-search : (who : TickOrRun) (p : ℕ) (w : World) (s : Sleeping) → s.who ≡ who → spots w ≡ spots (search_by_who who p w s).world
+spots-search (tick_or_run.Tick t) p w s e = refl
+spots-search (tick_or_run.Run r) p w s e = by-search SameSpots spots-moves spots-put w r s e
 
 spots-move : (b : Bool) (m : Move) (p : ℕ) (w : World) (f : ℕ) → spots w ≡ spots (move_by b m p w f).world
 spots-move true m p w f = let v = log_if (is_told m (task w f)) w (told_as m p f) in
@@ -170,7 +177,7 @@ spots-let_go true w f = refl
 spots-let_go false w f = refl
 
 pub same-spots : (p : ℕ) (h : Hint) (o : Op) (w : World) → places o ≡ false → spots w ≡ spots (act p h o w).world
-same-spots p h (op.Table table_op.Enter) w n = absurd (cc)
+same-spots p h (op.Table (table_op.Enter mark)) w n = absurd (cc)
 same-spots p h (op.Table (table_op.TakeToPoll f)) w n = absurd (cc)
 same-spots p h (op.Table (table_op.PutBack f)) w n = absurd (cc)
 same-spots p h (op.Table (table_op.TakeToDrop f)) w n = absurd (cc)
@@ -178,8 +185,9 @@ same-spots p h (op.Waker (waker_op.CopyWaker f held)) w n = absurd (cc)
 same-spots p h (op.Closing closing_op.DropNext) w n = absurd (cc)
 same-spots p h (op.Move m f) w n = spots-move _ m p w f
 same-spots p h (op.Table (table_op.LeaveTable f)) w n = spots-leave _ w f
-same-spots p h (op.Queue queue_op.Take) w n = spots-take _ w
-same-spots p h (op.Queue (queue_op.Append f)) w n = spots-append _ w f
+same-spots p h (op.Queue queue_op.TakeTurn) w n = refl
+same-spots p h (op.Queue (queue_op.Take look)) w n = spots-take look _ w
+same-spots p h (op.Queue (queue_op.Append f)) w n = spots-append _ w _ f
 same-spots p h (op.Handle (handle_op.Look f a)) w n =
     spots-look (moves.poll (task w f)).owed.answer p w f a (moves.poll (task w f))
 same-spots p h (op.Handle (handle_op.CopyAwaiter f a)) w n = spots-copy_awaiter _ p w f a
@@ -191,17 +199,18 @@ same-spots p h (op.Handle (handle_op.Notify f mine)) w n = spots-notify _ w f mi
 same-spots p h (op.Handle (handle_op.LetGo f)) w n = spots-let_go _ w f
 same-spots p h (op.Waker (waker_op.CallAwaiter f a k)) w n = spots-call p w (of.Handle f) a k
 same-spots p h (op.Sleeper o) w n = ap spots_in (sleeper-rest p o w)
-same-spots p h (op.Tick tick_op.MakeTick) w n = ap spots_in (tick-rest h tick_op.MakeTick w refl)
-same-spots p h (op.Tick (tick_op.Search s)) w n = spots-search s.who w s refl
-same-spots p h (op.Tick (tick_op.CopyWaker s)) w n = ap spots_in (tick-rest h (tick_op.CopyWaker s) w refl)
-same-spots p h (op.Tick (tick_op.FallAsleep s)) w n = ap spots_in (tick-rest h (tick_op.FallAsleep s) w refl)
-same-spots p h (op.Tick (tick_op.WakeUp t)) w n = ap spots_in (tick-rest h (tick_op.WakeUp t) w refl)
-same-spots p h (op.Tick (tick_op.Leave t)) w n = ap spots_in (tick-rest h (tick_op.Leave t) w refl)
+same-spots p h (op.Tick tick_op.MakeTick) w n = ap spots_in (tick-rest p h tick_op.MakeTick w refl)
+same-spots p h (op.Tick (tick_op.Search s)) w n = spots-search s.who p w s refl
+same-spots p h (op.Tick (tick_op.Look s look)) w n = spots-tick look _ w _ s
+same-spots p h (op.Tick (tick_op.CopyWaker s)) w n = ap spots_in (tick-rest p h (tick_op.CopyWaker s) w refl)
+same-spots p h (op.Tick (tick_op.FallAsleep s)) w n = ap spots_in (tick-rest p h (tick_op.FallAsleep s) w refl)
+same-spots p h (op.Tick (tick_op.WakeUp t)) w n = ap spots_in (tick-rest p h (tick_op.WakeUp t) w refl)
+same-spots p h (op.Tick (tick_op.Leave t)) w n = ap spots_in (tick-rest p h (tick_op.Leave t) w refl)
 same-spots p h (op.List o) w n = by-list SameSpots spots-moves spots-put h o w
 same-spots p h (op.Steal o) w n = by-steal SameSpots spots-moves spots-put p o w
-same-spots p h (op.Run o) w n = by-run SameSpots spots-moves spots-put p h o w (λ x e. spots-own p w x)
+same-spots p h (op.Run o) w n = by-run SameSpots spots-moves spots-put p h o w (λ x e. spots-own p w x) (λ x. refl)
 same-spots p h (op.Closing closing_op.WakeNext) w n = spots-wake_next _ p w
-same-spots p h (op.Closing closing_op.Drain) w n = spots-drain _ p w
+same-spots p h (op.Closing (closing_op.Drain mark)) w n = spots-drain mark _ p w
 same-spots p h (op.Closing closing_op.LeakOut) w n = spots-leak_out _ w
 same-spots p h (op.Closing closing_op.LeakNext) w n = spots-leak_next _ _ p w
 same-spots p h (op.User (user_op.BeginDrop f)) w n = refl

@@ -1,8 +1,13 @@
 -- For all laws.
 -- What a run does moves Runnables from one queue to another or into a hand, and changes nothing else that is kept of
 -- futures.
-use Rattle.std.proofs.Common.{◌≡◌, ℕ, zero, suc, ◌+◌, ◌<◌, List, [], ◌∷◌, ◌++◌, length, get_or, set, drop, Bool}
+use Rattle.std.proofs.Common.{◌≡◌, ℕ, zero, suc, ◌+◌, ◌<◌, List, [], ◌∷◌, ◌++◌, length, get_or, set, Bool}
 use Rattle.std.proofs.Common.{true, false, eqb, refl, ap, ◌∙◌, ◌%◌, arith}
+use Rattle.executor_model.specs.declared.op.Look.TheVariants.{First, Second}
+use Rattle.executor_model.specs.declared.op.Look.{Look}
+use Rattle.executor_model.specs.World.{put_queue, queue_of}
+use Rattle.executor_parts.specs.declared.mark.Mark.{Mark}
+use Rattle.executor_model.specs.Acts.{mark_in}
 use Rattle.executor_model.specs.declared.call.Reply.{Reply}
 use Rattle.executor_model.specs.declared.op.ListOp.{ListOp}
 use Rattle.executor_model.specs.declared.op.ListOp.TheVariants as list_op
@@ -34,7 +39,7 @@ use Rattle.executor_parts.specs.Sleepers.{Sleepers}
 use Rattle.executor_model.specs.Doing.{list_act}
 use Rattle.executor_model.proofs.Steps.SleepersLists.{given_back-same}
 use Rattle.executor_model.specs.ActsOfRuns.{behind, lock_read, return_room}
-use Rattle.executor_model.specs.ActsOfRuns.{run_by, counted_by, found, make_run_by, registered, walk, next_place}
+use Rattle.executor_model.specs.ActsOfRuns.{run_by, counted_by, counted_to, found, make_run_by, registered, walk, next_place}
 use Rattle.executor_model.specs.ActsOfRuns.{queue_at}
 use Rattle.executor_model.specs.ActsOfRuns.{search_own_by, search_common_by, look_own_by, source_of, stolen}
 use Rattle.executor_model.specs.ActsOfRuns.{steal_length_by}
@@ -42,14 +47,16 @@ use Rattle.executor_model.specs.ActsOfRuns.{steal_by, steal_take_by, make_room_b
 use Rattle.executor_model.specs.Rows.{waiting_of, borrowing_of, then_waiting}
 use Rattle.executor_model.specs.Sound.{times, times_in, queued}
 use Rattle.executor_model.specs.Weights.{same, weigh}
-use Rattle.executor_model.proofs.Steps.Lists.{times-drop, weigh-append}
+use Rattle.executor_model.proofs.Steps.Lists.{weigh-append}
+use Rattle.executor_model.proofs.Steps.QueuesByMark.{capacity-first, closed-first, times-first}
 
 -- the lists that are kept of futures are the same
 pub record Same (w v : World) : Type 0 where
   pub limit : v.limit ≡ w.limit
-  pub closed : v.queue.closed ≡ w.queue.closed
-  pub capacity : v.queue.capacity ≡ w.queue.capacity
+  pub closed : (m : Mark) → (queue_of v m).closed ≡ (queue_of w m).closed
+  pub capacity : (m : Mark) → (queue_of v m).capacity ≡ (queue_of w m).capacity
   pub tasks : v.tasks ≡ w.tasks
+  pub marks : v.marks ≡ w.marks
   pub awaiters : v.awaiters ≡ w.awaiters
   pub inside : v.inside ≡ w.inside
   pub table : v.table ≡ w.table
@@ -65,9 +72,10 @@ pub same-here : (w : World) (rs : List Run) (qs : List (List ℕ)) (ls : List �
     Same w (record w { runs = rs; own = qs; listed = ls; lock = l })
 same-here w rs qs ls l = record {
   limit = refl;
-  closed = refl;
-  capacity = refl;
+  closed = λ m. refl;
+  capacity = λ m. refl;
   tasks = refl;
+  marks = refl;
   awaiters = refl;
   inside = refl;
   table = refl;
@@ -80,13 +88,14 @@ same-here w rs qs ls l = record {
   trace = refl;
 }
 
--- and so they are where the first of the executor's queue was taken
-pub same-taken : (w : World) → Same w (record w { queue = taken w.queue })
-same-taken w = record {
+-- and so they are where the first of one of the executor's queues was taken
+pub same-taken : (mark : Mark) (w : World) → Same w (put_queue w mark (taken (queue_of w mark)))
+same-taken mark w = record {
   limit = refl;
-  closed = refl;
-  capacity = refl;
+  closed = λ m. closed-first mark m w.queues;
+  capacity = λ m. capacity-first mark m w.queues;
   tasks = refl;
+  marks = refl;
   awaiters = refl;
   inside = refl;
   table = refl;
@@ -150,6 +159,7 @@ waiting-found g w x f =
 pub waiting-stolen : (g : ℕ) (t : Then) (w : World) (x : RunPoll) →
     weigh (waiting_of g) (stolen t w x).next ≡ then_waiting g t
 waiting-stolen g (then.Found f) w x = waiting-found g w x f
+waiting-stolen g (then.StealPlain f) w x = omega arith
 waiting-stolen g (then.Run f) w x = waiting-run_by g _ w x f
 waiting-stolen g (then.Walk at left) w x = refl
 
@@ -182,9 +192,10 @@ queued-run_by g false w x f = refl
 pub same-trans : {u v w : World} → Same u v → Same v w → Same u w
 same-trans a b = record {
   limit = b.limit ∙ a.limit;
-  closed = b.closed ∙ a.closed;
-  capacity = b.capacity ∙ a.capacity;
+  closed = λ m. b.closed m ∙ a.closed m;
+  capacity = λ m. b.capacity m ∙ a.capacity m;
   tasks = b.tasks ∙ a.tasks;
+  marks = b.marks ∙ a.marks;
   awaiters = b.awaiters ∙ a.awaiters;
   inside = b.inside ∙ a.inside;
   table = b.table ∙ a.table;
@@ -203,7 +214,9 @@ same-counted false w x f = same-trans (same-here w _ _ _ _) (same-run_by _ _ x f
 
 queued-counted : (g : ℕ) (b : Bool) (w : World) (x : RunPoll) (f : ℕ) → queued (counted_by b w x f).world g ≡ queued w g
 queued-counted g true w x f = refl
-queued-counted g false w x f = queued-run_by g _ _ x f
+queued-counted g false w x f =
+    let v : World = counted_to w x.run ((run_of w x.run).counted + 1) in
+    queued-run_by g (eqb ((run_of v x.run).taken + 1) 200) v x f
 
 pub same-found : (w : World) (x : RunPoll) (f : ℕ) → Same w (found w x f).world
 same-found w x f = same-counted _ w x f
@@ -213,11 +226,13 @@ queued-found g w x f = queued-counted g _ w x f
 
 pub same-stolen : (t : Then) (w : World) (x : RunPoll) → Same w (stolen t w x).world
 same-stolen (then.Found f) w x = same-found w x f
+same-stolen (then.StealPlain f) w x = same-here w _ _ _ _
 same-stolen (then.Run f) w x = same-run_by _ w x f
 same-stolen (then.Walk at left) w x = same-here w _ _ _ _
 
 pub queued-stolen : (g : ℕ) (t : Then) (w : World) (x : RunPoll) → queued (stolen t w x).world g ≡ queued w g
 queued-stolen g (then.Found f) w x = queued-found g w x f
+queued-stolen g (then.StealPlain f) w x = refl
 queued-stolen g (then.Run f) w x = queued-run_by g _ w x f
 queued-stolen g (then.Walk at left) w x = refl
 
@@ -261,10 +276,9 @@ moves-take from [] w x t more e = record {
   moved = λ g. omega (arith, queued-stolen g t w x, waiting-stolen g t w x);
   lent = λ z. absurd (omega (arith, z));
 }
-moves-take Common (f ∷ rest) w x t more e = record {
-  same = same-taken w;
-  moved = λ g. (let z : same g f + times g (drop 1 w.queue.items) ≡ times g w.queue.items =
-      times-drop g f rest w.queue.items e in omega (arith, z));
+moves-take (Common mark) (f ∷ rest) w x t more e = record {
+  same = same-taken mark w;
+  moved = λ g. omega (arith, times-first g f rest mark w.queues e);
   lent = λ z. absurd (omega (arith, z));
 }
 moves-take (Own r) (f ∷ rest) w x t more e = record {
@@ -296,13 +310,13 @@ moves-own (f ∷ rest) w s r i e = let x : RunPoll = record { run = r; waker = s
   lent = λ z. absurd (omega (arith, z));
 }
 
-pub moves-common : (q : List ℕ) (w : World) (x : RunPoll) → w.queue.items ≡ q →
-    Moves w (op.Run (run_op.SearchCommon x) ∷ []) (search_common_by q w x)
-moves-common [] w x e = record { same = same-here w _ _ _ _; moved = λ g. refl; lent = λ z. absurd (omega (arith, z)) }
-moves-common (f ∷ rest) w x e = record {
-  same = same-taken w;
-  moved = λ g. (let z : same g f + times g (drop 1 w.queue.items) ≡ times g w.queue.items =
-      times-drop g f rest w.queue.items e in omega (arith, z));
+pub moves-common : (look : Look) (q : List ℕ) (w : World) (x : RunPoll) → (queue_of w (mark_in look)).items ≡ q →
+    Moves w (op.Run (run_op.SearchCommon x look) ∷ []) (search_common_by q w x look)
+moves-common (First mark) [] w x e = record { same = same-here w _ _ _ _; moved = λ g. refl; lent = λ z. absurd (omega (arith, z)) }
+moves-common (Second mark) [] w x e = record { same = same-here w _ _ _ _; moved = λ g. refl; lent = λ z. absurd (omega (arith, z)) }
+moves-common look (f ∷ rest) w x e = record {
+  same = same-taken (mark_in look) w;
+  moved = λ g. omega (arith, times-first g f rest (mark_in look) w.queues e);
   lent = λ z. absurd (omega (arith, z));
 }
 
@@ -387,9 +401,10 @@ moves-list h _ w = record { same = same-here w _ _ _ _; moved = λ g. refl; lent
 pub same-rooms : (w : World) (s : Sleepers Sleeping) → s.wakers ≡ w.sleepers.wakers → Same w (record w { sleepers = s })
 same-rooms w s e = record {
   limit = refl;
-  closed = refl;
-  capacity = refl;
+  closed = λ m. refl;
+  capacity = λ m. refl;
   tasks = refl;
+  marks = refl;
   awaiters = refl;
   inside = refl;
   table = refl;

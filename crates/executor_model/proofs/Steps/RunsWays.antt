@@ -2,6 +2,7 @@
 -- What each thing that a run does keeps, where it is kept by what moves Runnables and no more, by the event that one is
 -- kept, and by the call of the run's own waker.
 use Rattle.std.proofs.Common.{◌≡◌, ℕ, ◌<◌, List, [], ◌∷◌, length, Bool, true, false, ltb, refl, arith}
+use Rattle.executor_model.specs.ActsOfRuns.{take_turn_of_run}
 use Rattle.executor_model.specs.declared.call.Reply.{Reply}
 use Rattle.executor_model.specs.declared.op.ListOp.{ListOp}
 use Rattle.executor_model.specs.declared.op.Op.{Op}
@@ -103,15 +104,17 @@ module _
 
     pub by-run : (p : ℕ) (h : Hint) (o : RunOp) (w : World) →
         ((x : RunPoll) → o ≡ run_op.WakeOwn x → P w (op.Run (run_op.WakeOwn x) ∷ []) (wake_own p w x)) →
+        ((x : RunPoll) → P w (op.Run (run_op.TakeTurn x) ∷ []) (take_turn_of_run p w x)) →
         P w (op.Run o ∷ []) (run_act p h o w)
-    by-run p h run_op.MakeRoom w k =
+    by-run p h run_op.MakeRoom w k t =
         moves w _ _ (step-run run_op.MakeRoom) (λ v u. room-blind v u.blind h.refused w) (moves-make_room h.refused w)
-    by-run p h run_op.ReturnRoom w k = moves w _ _ (step-run run_op.ReturnRoom) (λ v u. refl) (moves-return_room w)
-    by-run p h (run_op.SearchCommon x) w k =
-        moves w _ _ (step-run (run_op.SearchCommon x)) (λ v u. common-blind v u.blind _ w x) (moves-common _ w x refl)
-    by-run p h (run_op.LookOwn x at left) w k =
+    by-run p h run_op.ReturnRoom w k t = moves w _ _ (step-run run_op.ReturnRoom) (λ v u. refl) (moves-return_room w)
+    by-run p h (run_op.TakeTurn x) w k t = t x
+    by-run p h (run_op.SearchCommon x look) w k t =
+        moves w _ _ (step-run (run_op.SearchCommon x look)) (λ v u. common-blind v u.blind look _ w x) (moves-common look _ w x refl)
+    by-run p h (run_op.LookOwn x at left) w k t =
         moves w _ _ (step-run (run_op.LookOwn x at left)) (λ v u. look-blind v u.blind _ w x at left)
         (moves-look _ w x at left refl)
-    by-run p h (run_op.WakeOwn x) w k = k x refl
-    by-run p h (run_op.Reschedule r a) w k = moves w _ _ (step-run (run_op.Reschedule r a)) (after-reschedule _ w r a)
+    by-run p h (run_op.WakeOwn x) w k t = k x refl
+    by-run p h (run_op.Reschedule r a) w k t = moves w _ _ (step-run (run_op.Reschedule r a)) (after-reschedule _ w r a)
         (moves-reschedule _ w r a refl)

@@ -4,6 +4,12 @@ use Rattle.std.proofs.Common.{◌≡◌, ◌∙◌, ℕ, List, [], ◌∷◌, �
 use Rattle.std.proofs.Common.{refl, sym, ap, append-nil}
 use Rattle.std.proofs.lemmas.List.{append_assoc}
 use Rattle.std.specs.Prelude.{Option, Some, None}
+use Rattle.executor_model.specs.Acts.{turned}
+use Rattle.executor_parts.specs.Marks.{first_of}
+use Rattle.executor_model.specs.declared.op.Look.{Look}
+use Rattle.executor_parts.specs.declared.mark.Mark.TheVariants.{Plain, Urgent}
+use Rattle.executor_model.specs.declared.op.Look.TheVariants.{First, Second}
+use Rattle.executor_parts.specs.declared.mark.Mark.{Mark}
 use Rattle.task_moves.specs.Moves as moves
 use Rattle.task_moves.specs.declared.moves.owed.Answer.{Answer}
 use Rattle.task_moves.specs.declared.moves.owed.Move.{Move}
@@ -123,23 +129,24 @@ module _ (t : Event → Bool) (u : (e : Event) → is_ordinary e ≡ true → t 
   grows-call p w o (Outside x) k =
       grows-log w (log w (event.WakerCalled p o k (Outside x))) (event.WakerCalled p o k (Outside x)) refl refl
 
-  grows-enter : (b c : Bool) (p : ℕ) (w : World) → Grows w (acts.enter_by b c p w).world
-  grows-enter true c p w = grows w w refl
-  grows-enter false true p w = grows w w refl
-  grows-enter false false p w =
-      grows-log w (acts.enter_by false false p w).world (event.Accepted p (length w.tasks)) refl refl
+  grows-enter : (b c : Bool) (mark : Mark) (p : ℕ) (w : World) → Grows w (acts.enter_by b c mark p w).world
+  grows-enter true c mark p w = grows w w refl
+  grows-enter false true mark p w = grows w w refl
+  grows-enter false false mark p w =
+      grows-log w (acts.enter_by false false mark p w).world (event.Accepted p (length w.tasks)) refl refl
 
   grows-leave : (b : Bool) (w : World) (f : ℕ) → Grows w (acts.leave_by b w f).world
   grows-leave true w f = grows w (acts.leave_by true w f).world refl
   grows-leave false w f = grows w w refl
 
-  grows-take : (q : List ℕ) (w : World) → Grows w (acts.take_by w q).world
-  grows-take [] w = grows w w refl
-  grows-take (f ∷ rest) w = grows w (acts.take_by w (f ∷ rest)).world refl
+  grows-take : (look : Look) (q : List ℕ) (w : World) → Grows w (acts.take_by w look q).world
+  grows-take (First mark) [] w = grows w w refl
+  grows-take (Second mark) [] w = grows w w refl
+  grows-take look (f ∷ rest) w = grows w (acts.take_by w look (f ∷ rest)).world refl
 
-  grows-append : (b : Bool) (w : World) (f : ℕ) → Grows w (acts.append_by b w f).world
-  grows-append true w f = grows w (acts.append_by true w f).world refl
-  grows-append false w f = grows w w refl
+  grows-append : (b : Bool) (w : World) (mark : Mark) (f : ℕ) → Grows w (acts.append_by b w mark f).world
+  grows-append true w mark f = grows w (acts.append_by true w mark f).world refl
+  grows-append false w mark f = grows w w refl
 
   grows-copy : (b : Bool) (w : World) (f : ℕ) (held : Hold) → Grows w (acts.copy_by b w f held).world
   grows-copy true w f held = grows w w refl
@@ -213,9 +220,10 @@ module _ (t : Event → Bool) (u : (e : Event) → is_ordinary e ≡ true → t 
       grows-and w v (log v (event.Leaked p f)) (grows-wake_next p w (f ∷ rest))
       (grows-log v (log v (event.Leaked p f)) (event.Leaked p f) refl refl)
 
-  grows-drain : (p : ℕ) (w : World) (q : List ℕ) → Grows w (acts.drain_by p w q).world
-  grows-drain p w [] = grows-log w (acts.drain_by p w []).world (event.DropEnded p) refl refl
-  grows-drain p w (f ∷ rest) = grows w (acts.drain_by p w (f ∷ rest)).world refl
+  grows-drain : (mark : Mark) (p : ℕ) (w : World) (q : List ℕ) → Grows w (acts.drain_by p w mark q).world
+  grows-drain Urgent p w [] = grows w w refl
+  grows-drain Plain p w [] = grows-log w (acts.drain_by p w Plain []).world (event.DropEnded p) refl refl
+  grows-drain mark p w (f ∷ rest) = grows w (acts.drain_by p w mark (f ∷ rest)).world refl
 
   -- sleepers and ticks
 
@@ -227,9 +235,14 @@ module _ (t : Event → Bool) (u : (e : Event) → is_ordinary e ≡ true → t 
   grows-hand_out true o w = grows w (sleepers.hand_out_by true o w).world refl
   grows-hand_out false o w = grows w w refl
 
-  grows-search : (x : Ticker) (q : List ℕ) (w : World) (s : Sleeping) → Grows w (sleepers.search_by x w q s).world
-  grows-search x [] w s = grows w w refl
-  grows-search x (f ∷ rest) w s = grows w (sleepers.search_by x w (f ∷ rest) s).world refl
+  grows-search : (look : Look) (x : Ticker) (q : List ℕ) (w : World) (s : Sleeping) → Grows w (sleepers.look_tick_by x w look q s).world
+  grows-search (First mark) x [] w s = grows w w refl
+  grows-search (Second mark) x [] w s = grows w w refl
+  grows-search look x (f ∷ rest) w s = grows w (sleepers.look_tick_by x w look (f ∷ rest) s).world refl
+
+  -- a turn
+  grows-turn : (p : ℕ) (w : World) → Grows w (turned p w)
+  grows-turn p w = grows-log w (turned p w) (event.Looked p (first_of w.urgent_turns)) refl refl
 
   -- runs
 
@@ -257,9 +270,9 @@ module _ (t : Event → Bool) (u : (e : Event) → is_ordinary e ≡ true → t 
       grows-and w v (runs.call_by_reference p v x.waker).world
       (grows-log w v (event.WakerCalled p (of.Run x.run) x.poll x.waker) refl refl) (grows-reference p v x.waker)
 
-  grows-who : (who : TickOrRun) (w : World) (s : Sleeping) → Grows w (search_by_who who w s).world
-  grows-who (tick_or_run.Tick t) w s = grows-search _ w.queue.items w s
-  grows-who (tick_or_run.Run q) w s = grows-own _ w (record { run = q; waker = s.waker; poll = s.poll })
+  grows-who : (who : TickOrRun) (p : ℕ) (w : World) (s : Sleeping) → Grows w (search_by_who who p w s).world
+  grows-who (tick_or_run.Tick t) p w s = grows-turn p w
+  grows-who (tick_or_run.Run q) p w s = grows-own _ w (record { run = q; waker = s.waker; poll = s.poll })
 
   -- what it adds beside is known
   abbrev pub Allows : ℕ → Op → Type 0
@@ -271,10 +284,11 @@ module _ (t : Event → Bool) (u : (e : Event) → is_ordinary e ≡ true → t 
   pub grows-act : (p : ℕ) (h : Hint) (o : Op) (w : World) → Allows p o → Grows w (act p h o w).world
   grows-act p h (op.Move move.TakeUp f) w z = grows-told true move.TakeUp p w w f z (grows w w refl)
   grows-act p h (op.Move m f) w z = grows-move (acts.stands_alone m) m p w w f refl (grows w w refl)
-  grows-act p h (op.Table table_op.Enter) w z = grows-enter _ _ p w
+  grows-act p h (op.Table (table_op.Enter mark)) w z = grows-enter _ _ _ p w
   grows-act p h (op.Table (table_op.LeaveTable f)) w z = grows-leave _ w f
-  grows-act p h (op.Queue queue_op.Take) w z = grows-take _ w
-  grows-act p h (op.Queue (queue_op.Append f)) w z = grows-append _ w f
+  grows-act p h (op.Queue queue_op.TakeTurn) w z = grows-turn p w
+  grows-act p h (op.Queue (queue_op.Take look)) w z = grows-take look _ w
+  grows-act p h (op.Queue (queue_op.Append f)) w z = grows-append _ w _ f
   grows-act p h (op.User (user_op.BeginDrop f)) w z =
       grows-log w (acts.begin_drop p w f).world (event.Dropped p f) refl refl
   grows-act p h (op.User (user_op.BeginDropOutput f)) w z =
@@ -293,9 +307,10 @@ module _ (t : Event → Bool) (u : (e : Event) → is_ordinary e ≡ true → t 
   grows-act p h (op.Sleeper sleeper_op.ExchangeFlag) w z = grows-exchange _ w
   grows-act p h (op.Sleeper sleeper_op.HandOut) w z = grows-hand_out _ _ w
   grows-act p h (op.Sleeper (sleeper_op.CallSleeper s)) w z = grows-call p w (sleepers.polled_as s.who) s.waker s.poll
-  grows-act p h (op.Tick (tick_op.Search s)) w z = grows-who s.who w s
+  grows-act p h (op.Tick (tick_op.Search s)) w z = grows-who s.who p w s
+  grows-act p h (op.Tick (tick_op.Look s look)) w z = grows-search look _ _ w s
   grows-act p h (op.Tick o) w z =
-      grows w (tick_act h o w).world (ap (λ (x : Wide). x.trace) (sym (wide-tick h o w refl)))
+      grows w (tick_act p h o w).world (ap (λ (x : Wide). x.trace) (sym (wide-tick p h o w refl)))
   grows-act p h (op.List o) w z = grows w (list_act h o w).world (moves-list h o w).same.trace
   grows-act p h (op.Steal (steal_op.Length s)) w z =
       grows w (act p h (op.Steal (steal_op.Length s)) w).world (moves-length _ w s).same.trace
@@ -307,8 +322,9 @@ module _ (t : Event → Bool) (u : (e : Event) → is_ordinary e ≡ true → t 
   grows-act p h (op.Steal (steal_op.Put s more f)) w z = grows-put _ p w s more f z
   grows-act p h (op.Run run_op.MakeRoom) w z =
       grows w (act p h (op.Run run_op.MakeRoom) w).world (moves-make_room _ w).same.trace
-  grows-act p h (op.Run (run_op.SearchCommon x)) w z =
-      grows w (act p h (op.Run (run_op.SearchCommon x)) w).world (moves-common _ w x refl).same.trace
+  grows-act p h (op.Run (run_op.TakeTurn x)) w z = grows-turn p w
+  grows-act p h (op.Run (run_op.SearchCommon x look)) w z =
+      grows w (act p h (op.Run (run_op.SearchCommon x look)) w).world (moves-common look _ w x refl).same.trace
   grows-act p h (op.Run (run_op.LookOwn x at left)) w z =
       grows w (act p h (op.Run (run_op.LookOwn x at left)) w).world (moves-look _ w x at left refl).same.trace
   grows-act p h (op.Run (run_op.WakeOwn x)) w z = grows-wake_own p w x
@@ -316,7 +332,7 @@ module _ (t : Event → Bool) (u : (e : Event) → is_ordinary e ≡ true → t 
       grows w (act p h (op.Run (run_op.Reschedule n a)) w).world (moves-reschedule _ w n a refl).same.trace
   grows-act p h (op.Closing closing_op.DropNext) w z = grows-drop_next p w _
   grows-act p h (op.Closing closing_op.WakeNext) w z = grows-wake_next p w _
-  grows-act p h (op.Closing closing_op.Drain) w z = grows-drain p w _
+  grows-act p h (op.Closing (closing_op.Drain mark)) w z = grows-drain mark p w _
   grows-act p h (op.Closing closing_op.LeakOut) w z = grows-leak_out _ w
   grows-act p h (op.Closing closing_op.LeakNext) w z = grows-leak_next _ p w _
   grows-act p h (op.End a held) w z = grows-one w (log w (event.CallEnded p a)) (event.CallEnded p a) z refl

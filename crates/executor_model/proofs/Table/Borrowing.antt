@@ -115,7 +115,8 @@ drop-uses g (op.Table (table_op.TakeToDrop f)) = grind (arith, same_is)
 drop-uses g (op.User (user_op.BeginDrop f)) = grind (arith, same_is)
 drop-uses g (op.Table (table_op.LeaveTable f)) = grind (arith, same_is)
 drop-uses g (op.Move move.Wake f) = omega arith
-drop-uses g (op.Queue queue_op.Take) = omega arith
+drop-uses g (op.Queue queue_op.TakeTurn) = omega arith
+drop-uses g (op.Queue (queue_op.Take look)) = omega arith
 drop-uses g (op.Waker (waker_op.CopyWaker f held)) = omega arith
 drop-uses g (op.Handle (handle_op.LookAgain f)) = omega arith
 drop-uses g (op.Sleeper sleeper_op.HandOut) = omega arith
@@ -126,7 +127,7 @@ drop-uses g (op.Steal o) =
     omega (arith, ap (λ (x : Row). x.drops g) (plain-steal o), ap (λ (x : Row). x.leaves g) (plain-steal o))
 drop-uses g (op.Run o) =
     omega (arith, ap (λ (x : Row). x.drops g) (plain-run o), ap (λ (x : Row). x.leaves g) (plain-run o))
-drop-uses g (op.Closing closing_op.Drain) = omega arith
+drop-uses g (op.Closing (closing_op.Drain mark)) = omega arith
 drop-uses g _ = omega arith
 
 drop-uses-stack : (g : ℕ) (os : List Op) → weigh (drops_of g) os + weigh (leaves_of g) os ≤ weigh uses_of os

@@ -60,7 +60,7 @@ bound-effect w old _ (turns d m p f v more i j k s a e) h =
       leaving = omega (arith, y.leaving, ap (λ (z : World). length z.leaving) a, ap (λ (z : World). z.limit) a);
     }
 bound-effect w old d (refuses f e) h = record { table = h.table; leaving = h.leaving }
-bound-effect w old d (enters p e) h =
+bound-effect w old d (enters mark p e) h =
     let n : length w.table < w.limit = grind (arith, nat_tests, e) in
     record { table = omega (arith, n, length-append w.table (length w.tasks ∷ [])); leaving = h.leaving }
 bound-effect w old d (unlists f e) h =

@@ -7,6 +7,7 @@ use Rattle.std.specs.Prelude.{fold}
 use Rattle.std.proofs.Common.{⊎_elim, refl, sym, ap, ◌∙◌, subst, arith, append-nil}
 use Rattle.std.proofs.lemmas.List.{append_assoc}
 use Rattle.std.specs.Prelude.{reverse}
+use Rattle.executor_parts.specs.declared.mark.Mark.{Mark}
 use Rattle.task_moves.specs.Moves as moves
 use Rattle.task_moves.specs.declared.moves.owed.Move.{Move}
 use Rattle.task_moves.specs.declared.moves.owed.Move.TheVariants as move
@@ -100,7 +101,7 @@ ousts-effect w old _ (turns d m p f v rest i j k s a e) =
       weigh-append ousting_of (move_by true m p v f).next rest,
     )
 ousts-effect w old d (refuses f e) = omega arith
-ousts-effect w old d (enters p e) = omega arith
+ousts-effect w old d (enters mark p e) = omega arith
 ousts-effect w old _ (unlists f e) = omega (arith, aside-entry ousting_of ousts-aside w.is_static f)
 ousts-effect w old d (drops p f) = omega arith
 ousts-effect w old d takes_out = omega (arith, ousts-closing w.table w.waking)
@@ -203,10 +204,10 @@ module _ (s : Machine) (fine : Good s) (h : Ordered s) where
   unchanged : After s.world
   unchanged = stays s.world refl (record { more = []; is = sym (append-nil s.world.trace); none = refl })
 
-  after-enter : (b c : Bool) (p : ℕ) → s.world.gone ≡ false → After (enter_by b c p s.world).world
-  after-enter true c p n = unchanged
-  after-enter false true p n = unchanged
-  after-enter false false p n =
+  after-enter : (b c : Bool) (mark : Mark) (p : ℕ) → s.world.gone ≡ false → After (enter_by b c mark p s.world).world
+  after-enter true c mark p n = unchanged
+  after-enter false true mark p n = unchanged
+  after-enter false false mark p n =
       let e : Event = event.Accepted p (length s.world.tasks) in record {
         accepted = subst Ascends (sym (accepted-append s.world.trace (e ∷ [])))
             (ascends-push (accepted_in s.world.trace) (length s.world.tasks) known h.accepted);
@@ -388,7 +389,7 @@ module _ (s : Machine) (fine : Good s) (h : Ordered s) where
         (hushed-act tells_order hushed-order p t o s.world z)
 
     after-act : (t : Hint) (o : Op) → stack s p ≡ rest ++ reverse (o ∷ []) → After (act p t o s.world).world
-    after-act t (op.Table table_op.Enter) e = after-enter _ _ p (open-still (op.Table table_op.Enter) e (omega arith))
+    after-act t (op.Table (table_op.Enter mark)) e = after-enter _ _ _ p (open-still (op.Table (table_op.Enter mark)) e (omega arith))
     after-act t (op.Table (table_op.LeaveTable f)) e = after-leave _ f
     after-act t (op.Closing closing_op.TakeOut) e =
         after-out (omega (arith, split ousting_of s.parties p (op.Closing closing_op.TakeOut ∷ []) rest l e))

@@ -5,6 +5,7 @@ use Rattle.std.proofs.Common.{ap, ◌∙◌, subst, arith, append-nil, ⊎_elim}
 use Rattle.std.proofs.lemmas.Bool.Decides.{nat_tests}
 use Rattle.std.proofs.lemmas.List.{append_assoc, append_cancel_left}
 use Rattle.std.specs.Prelude.{Option, Some, None, reverse}
+use Rattle.executor_parts.specs.declared.mark.Mark.{Mark}
 use Rattle.task_moves.specs.Moves.{is_over}
 use Rattle.task_moves.specs.declared.moves.owed.Move.TheVariants as move
 use Rattle.executor_model.specs.declared.event.Event.{Event}
@@ -116,10 +117,10 @@ module _ (w : World) (f : ℕ) (rest : List ℕ) (e : w.waking ≡ f ∷ rest) w
   first-drops p [] more = as-before w more refl
   first-drops p (g ∷ gs) more = inl (g ∷ [], ap (λ (xs : List ℕ). xs ++ g ∷ []) e)
 
-  first-enters : (b c : Bool) (p : ℕ) (more : Trace) → StaysFirst w (enter_by b c p w).world f rest more
-  first-enters true c p more = as-before w more refl
-  first-enters false true p more = as-before w more refl
-  first-enters false false p more = as-before (enter_by false false p w).world more refl
+  first-enters : (b c : Bool) (mark : Mark) (p : ℕ) (more : Trace) → StaysFirst w (enter_by b c mark p w).world f rest more
+  first-enters true c mark p more = as-before w more refl
+  first-enters false true mark p more = as-before w more refl
+  first-enters false false mark p more = as-before (enter_by false false mark p w).world more refl
 
   first-leaves : (b : Bool) (g : ℕ) (more : Trace) → StaysFirst w (leave_by b w g).world f rest more
   first-leaves true g more = as-before (leave_by true w g).world more refl
@@ -127,7 +128,7 @@ module _ (w : World) (f : ℕ) (rest : List ℕ) (e : w.waking ≡ f ∷ rest) w
 
   first-act : (p : ℕ) (h : Hint) (o : Op) (more : Trace) → (act p h o w).world.trace ≡ w.trace ++ more →
       StaysFirst w (act p h o w).world f rest more
-  first-act p h (op.Table table_op.Enter) more t = first-enters _ _ p more
+  first-act p h (op.Table (table_op.Enter mark)) more t = first-enters _ _ _ p more
   first-act p h (op.Table (table_op.LeaveTable g)) more t = first-leaves _ g more
   first-act p h (op.Closing closing_op.TakeOut) more t =
       as-before (act p h (op.Closing closing_op.TakeOut) w).world more refl

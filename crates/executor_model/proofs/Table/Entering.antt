@@ -5,6 +5,9 @@ use Rattle.std.proofs.Common.{◌≡◌, ◌⊎◌, ℕ, zero, suc, ◌+◌, ◌
 use Rattle.std.proofs.Common.{refl, sym, ap, ◌∙◌, subst, inl, inr, ⊎_elim, arith}
 use Rattle.std.proofs.lemmas.List.{get_or_past}
 use Rattle.std.specs.Prelude.{Option, Some, None, MatchOption, count_by, slice_get}
+use Rattle.executor_model.specs.World.{queue_of, queued_in, mark_of}
+use Rattle.executor_parts.specs.declared.mark.Mark.TheVariants.{Plain, Urgent}
+use Rattle.executor_parts.specs.declared.mark.Mark.{Mark}
 use Rattle.queue_steps.specs.ClosableQueue.{ClosableQueue, HasRoom}
 use Rattle.executor_model.specs.declared.kind.Kind.{Kind}
 use Rattle.executor_model.specs.declared.kind.Kind.TheVariants.{Static}
@@ -122,7 +125,7 @@ module _ (s : Machine) (f : ℕ) (fine : Good s) (h : Placed s) where
     };
   }
 
-  stands : 1 ≤ times f s.world.queue.items → 1 ≤ times f (story f s.world.trace).standing
+  stands : 1 ≤ times f (queued_in s.world) → 1 ≤ times f (story f s.world.trace).standing
   stands n = (h.leaves f).runs (omega (arith, n))
 
   -- who stands was dropped by the executor's drop alone
@@ -191,10 +194,15 @@ module _ (s : Machine) (f : ℕ) (fine : Good s) (h : Placed s) where
       HasRoom q
   room c q e l = subst (λ (x : Option ℕ). MatchOption x (Unit {0}) (λ n. length q.items < n)) (sym e) l
 
+  capacities : (m : Mark) → (queue_of s.world m).capacity ≡ Some s.world.limit
+  capacities Urgent = (h.leaves f).urgent_capacity
+  capacities Plain = (h.leaves f).plain_capacity
+
   pub finds-place : FindsPlace s f
   finds-place p e = ⊎_elim
-      (λ (l : p < length s.parties). room None s.world.queue (h.leaves f).capacity
-      (has-place s p f (below_top (stack s p)) l (topped (stack s p) (op.Queue (queue_op.Append f)) e) fine h))
+      (λ (l : p < length s.parties). let m : Mark = mark_of s.world f in
+      room None (queue_of s.world m) (capacities m)
+      (has-place s p f (below_top (stack s p)) l (topped (stack s p) (op.Queue (queue_op.Append f)) e) fine h m))
       (λ (l : length s.parties ≤ p). let z : stack s p ≡ [] = get_or_past s.parties p [] l in
       let no : slice_get (let os : List Op = [] in os) 0 ≡ Some (op.Queue (queue_op.Append f)) = sym (ap top z) ∙ e in
       absurd (cc))

@@ -5,6 +5,7 @@ use Rattle.std.proofs.Common.{inl, inr, ⊎_elim}
 use Rattle.std.proofs.lemmas.Bool.Decides.{nat_tests}
 use Rattle.std.proofs.lemmas.List.{length-append}
 use Rattle.std.specs.Prelude.{slice_set}
+use Rattle.executor_parts.specs.declared.mark.Mark.{Mark}
 use Rattle.task_moves.specs.declared.moves.owed.Move.{Move}
 use Rattle.task_moves.specs.declared.moves.owed.Move.TheVariants as move
 use Rattle.task_moves.proofs.Cases.{by_move}
@@ -102,8 +103,8 @@ handled : (b : Bool) → (entered b).handle ≡ true
 handled true = refl
 handled false = refl
 
-hands-enters : (p : ℕ) (w : World) → KeepsHands w (op.Table table_op.Enter ∷ []) (enter_by false false p w)
-hands-enters p w g r y b h = let k = handled w.is_static in grind (arith, same_is, fresh_is, read_push, length-append, story-push)
+hands-enters : (mark : Mark) (p : ℕ) (w : World) → KeepsHands w (op.Table (table_op.Enter mark) ∷ []) (enter_by false false mark p w)
+hands-enters mark p w g r y b h = let k = handled w.is_static in grind (arith, same_is, fresh_is, read_push, length-append, story-push)
 
 hands-drops : (p f : ℕ) (w : World) → KeepsHands w (op.User (user_op.BeginDrop f) ∷ []) (begin_drop p w f)
 hands-drops p f w g r y b h = grind (arith, story-push)
@@ -136,7 +137,7 @@ hands-effect w old _ (turns d m p f v more i j n s a e) g r y b h =
     turned-keeps Sure InHands (λ m x. stands_alone m ≡ true) hands-moved hands-loose (λ x y z. sound-passes x y z.passes)
     (λ x y z b. hands-passes x y z) w old d m p f v more i (λ q u. j) s a e g r y b h
 hands-effect w old d (refuses f e) g r y b h = grind arith
-hands-effect w old d (enters p e) g r y b h = hands-enters p w g r y b h
+hands-effect w old d (enters mark p e) g r y b h = hands-enters mark p w g r y b h
 hands-effect w old d (unlists f e) g r y b h = grind arith
 hands-effect w old d (drops p f) g r y b h = hands-drops p f w g r y b h
 hands-effect w old d takes_out g r y b h = hands-takes_out w.table w.waking w g r y b h

@@ -260,7 +260,7 @@ shut-effect w old _ g (turns d m p f v more i j k s a e) o u =
     shut-turn w v old m p f g (eqb g f) refl k (goes-open w old (record { world = v; next = op.Move m f ∷ more }) g s o)
     (subst (λ (x : World). IsShut x g) a u)
 shut-effect w old d g (refuses f e) o u = absurd (no-shut (task w g) o u)
-shut-effect w old d g (enters p e) o u =
+shut-effect w old d g (enters mark p e) o u =
     absurd (not-both _ u.1 (got-push w.tasks g (entered w.is_static) (entered-open w.is_static) o.1))
 shut-effect w old d g (unlists f e) o u = absurd (no-shut (task w g) o u)
 shut-effect w old d g (drops p f) o u = absurd (no-shut (task w g) o u)

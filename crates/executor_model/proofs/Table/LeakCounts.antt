@@ -2,6 +2,10 @@
 -- Who is about to take the wakers out of the table has begun a leak: nothing that is done leads there.
 use Rattle.std.proofs.Common.{◌≡◌, ◌⊎◌, ◌≤◌, ◌||◌, ℕ, List, [], ◌∷◌, ◌++◌, Bool, true, false, inl, inr, refl, arith}
 use Rattle.std.specs.Prelude.{Option, Some, None}
+use Rattle.executor_model.specs.declared.op.Look.{Look}
+use Rattle.executor_parts.specs.declared.mark.Mark.TheVariants.{Plain, Urgent}
+use Rattle.executor_model.specs.declared.op.Look.TheVariants.{First, Second}
+use Rattle.executor_parts.specs.declared.mark.Mark.{Mark}
 use Rattle.task_moves.specs.declared.moves.owed.Answer.{Answer}
 use Rattle.task_moves.specs.declared.moves.owed.Move.{Move}
 use Rattle.task_moves.specs.declared.moves.owed.Move.TheVariants as move
@@ -114,18 +118,19 @@ module _ (first more : ℕ) where
     wake = λ p w f. goes-move true move.Wake p w f;
   }
 
-  goes-append : (b : Bool) (w : World) (f : ℕ) → weigh (goes_of first more) (append_by b w f).next ≡ 0
-  goes-append true w f = refl
-  goes-append false w f = refl
+  goes-append : (b : Bool) (w : World) (mark : Mark) (f : ℕ) → weigh (goes_of first more) (append_by b w mark f).next ≡ 0
+  goes-append true w mark f = refl
+  goes-append false w mark f = refl
 
-  goes-take : (q : List ℕ) (w : World) → weigh (goes_of first more) (take_by w q).next ≡ 0
-  goes-take [] w = refl
-  goes-take (f ∷ rest) w = refl
+  goes-take : (look : Look) (q : List ℕ) (w : World) → weigh (goes_of first more) (take_by w look q).next ≡ 0
+  goes-take (First mark) [] w = refl
+  goes-take (Second mark) [] w = refl
+  goes-take look (f ∷ rest) w = refl
 
-  goes-enter : (b c : Bool) (p : ℕ) (w : World) → weigh (goes_of first more) (enter_by b c p w).next ≡ 0
-  goes-enter true c p w = refl
-  goes-enter false true p w = refl
-  goes-enter false false p w = refl
+  goes-enter : (b c : Bool) (mark : Mark) (p : ℕ) (w : World) → weigh (goes_of first more) (enter_by b c mark p w).next ≡ 0
+  goes-enter true c mark p w = refl
+  goes-enter false true mark p w = refl
+  goes-enter false false mark p w = refl
 
   goes-leave : (b : Bool) (w : World) (f : ℕ) → weigh (goes_of first more) (leave_by b w f).next ≡ 0
   goes-leave true w f = aside-entry (goes_of first more) goes-aside w.is_static f
@@ -205,9 +210,10 @@ module _ (first more : ℕ) where
         goes-closing [] rest,
       )
 
-  goes-drain : (q : List ℕ) (p : ℕ) (w : World) → weigh (goes_of first more) (drain_by p w q).next ≡ 0
-  goes-drain [] p w = refl
-  goes-drain (f ∷ rest) p w = refl
+  goes-drain : (mark : Mark) (q : List ℕ) (p : ℕ) (w : World) → weigh (goes_of first more) (drain_by p w mark q).next ≡ 0
+  goes-drain Urgent [] p w = refl
+  goes-drain Plain [] p w = refl
+  goes-drain mark (f ∷ rest) p w = refl
 
   goes-reference : (p : ℕ) (w : World) (a : Waker) → weigh (goes_of first more) (call_by_reference p w a).next ≡ 0
   goes-reference p w (Task g) = goes-move true move.WakeByReference p w g
@@ -229,14 +235,15 @@ module _ (first more : ℕ) where
   pub goes-act : (p : ℕ) (h : Hint) (o : Op) (w : World) → is_leaking o ≡ false →
       weigh (goes_of first more) (act p h o w).next ≡ 0
   goes-act p h (op.Move m f) w n = goes-move (stands_alone m) m p w f
-  goes-act p h (op.Table table_op.Enter) w n = goes-enter _ _ p w
+  goes-act p h (op.Table (table_op.Enter mark)) w n = goes-enter _ _ _ p w
   goes-act p h (op.Table table_op.LookAtTable) w n = refl
   goes-act p h (op.Table (table_op.TakeToPoll f)) w n = refl
   goes-act p h (op.Table (table_op.PutBack f)) w n = refl
   goes-act p h (op.Table (table_op.TakeToDrop f)) w n = refl
   goes-act p h (op.Table (table_op.LeaveTable f)) w n = goes-leave _ w f
-  goes-act p h (op.Queue queue_op.Take) w n = goes-take _ w
-  goes-act p h (op.Queue (queue_op.Append f)) w n = goes-append _ w f
+  goes-act p h (op.Queue queue_op.TakeTurn) w n = refl
+  goes-act p h (op.Queue (queue_op.Take look)) w n = goes-take look _ w
+  goes-act p h (op.Queue (queue_op.Append f)) w n = goes-append _ w _ f
   goes-act p h (op.User (user_op.BeginDrop f)) w n = refl
   goes-act p h (op.User o) w n = refl
   goes-act p h (op.Waker (waker_op.CopyWaker f held)) w n = goes-copy _ w f held
@@ -252,15 +259,16 @@ module _ (first more : ℕ) where
   goes-act p h (op.Handle (handle_op.LetGo f)) w n = aside-let_go_by (goes_of first more) goes-aside _ w f
   goes-act p h (op.Handle (handle_op.EndNotify f mine)) w n = aside-told (goes_of first more) goes-aside _ f (awaiter_of w f)
   goes-act p h (op.Sleeper o) w n = sleeper-unseen (goes_of first more) goes-sleepers p o w
-  goes-act p h (op.Tick o) w n = tick-blind (goes_of first more) goes-ticks goes-runs h o w
+  goes-act p h (op.Tick o) w n = tick-blind (goes_of first more) goes-ticks goes-runs p h o w
   goes-act p h (op.List o) w n = list-blind (goes_of first more) goes-runs h o w
   goes-act p h (op.Steal o) w n = steal-blind (goes_of first more) goes-runs (λ f. refl) p o w
   goes-act p h (op.Run o) w n = run-blind (goes_of first more) goes-runs p h o w (λ x. goes-wake_own p w x) (λ q r a. goes-reschedule w q r a)
   goes-act p h (op.Closing closing_op.TakeOut) w n = goes-closing w.table w.waking
   goes-act p h (op.Closing closing_op.DropNext) w n = goes-drop_next _ p w
   goes-act p h (op.Closing closing_op.WakeNext) w n = goes-wake_next _ p w
-  goes-act p h (op.Closing closing_op.Close) w n = refl
-  goes-act p h (op.Closing closing_op.Drain) w n = goes-drain _ p w
+  goes-act p h (op.Closing (closing_op.Close Urgent)) w n = refl
+  goes-act p h (op.Closing (closing_op.Close Plain)) w n = refl
+  goes-act p h (op.Closing (closing_op.Drain mark)) w n = goes-drain mark _ p w
   goes-act p h (op.Closing closing_op.LeakOut) w n = absurd (cc)
   goes-act p h (op.Closing closing_op.LeakNext) w n = absurd (cc)
   goes-act p h (op.End a held) w n = refl

@@ -123,7 +123,7 @@ pub drops-none : (p : ℕ) (o : Op) → Hushes is_drop_begun hushed-drop p o
 drops-none p (op.Waker (waker_op.CallAwaiter f a k)) = refl
 drops-none p (op.Sleeper (sleeper_op.CallSleeper n)) = refl
 drops-none p (op.Run (run_op.WakeOwn r)) = refl
-drops-none p (op.Table table_op.Enter) = λ f. refl
+drops-none p (op.Table (table_op.Enter mark)) = λ f. refl
 drops-none p (op.User (user_op.BeginDrop f)) = refl
 drops-none p (op.Closing closing_op.DropNext) = λ f. refl
 drops-none p _ = tt
@@ -332,9 +332,9 @@ module _ (s : Machine) (p : ℕ) (old rest : List Op) (d : Done) (l : p < length
       ((act p h o s.world).world.waking ≡ s.world.waking) ⊎ (s.world.gone ≡ true)
   waking-act fine h (op.Closing closing_op.LeakOut) n q = absurd (cc)
   waking-act fine h (op.Closing closing_op.LeakNext) n q = absurd (cc)
-  waking-act fine h (op.Table table_op.Enter) n q = inl (enter-waking _ _)
+  waking-act fine h (op.Table (table_op.Enter mark)) n q = inl (enter-waking _ _)
     where
-      enter-waking : (b c : Bool) → (enter_by b c p s.world).world.waking ≡ s.world.waking
+      enter-waking : (b c : Bool) → (enter_by b c mark p s.world).world.waking ≡ s.world.waking
       enter-waking true c = refl
       enter-waking false true = refl
       enter-waking false false = refl

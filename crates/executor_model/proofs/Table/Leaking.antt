@@ -62,7 +62,7 @@ static-effect w old d (passes s) = inl (s 0 none no_extra).passes.is_static
 static-effect w old d (turns e m p f v more i j k s a b) =
     inl (ap (λ (u : World). u.is_static) a ∙ (static-moved m p v f ∙ (s 0 none no_extra).passes.is_static))
 static-effect w old d (refuses f e) = inl refl
-static-effect w old d (enters p e) = inl refl
+static-effect w old d (enters mark p e) = inl refl
 static-effect w old d (unlists f e) = inl refl
 static-effect w old d (drops p f) = inl refl
 static-effect w old d takes_out = inl refl

@@ -5,6 +5,9 @@
 use Rattle.std.proofs.Common.{◌≡◌, ℕ, ◌+◌, ◌<◌, List, [], ◌∷◌, ◌++◌, length, true, false, ◌&&◌, not, refl, ap, arith}
 use Rattle.std.proofs.lemmas.List.{length-append}
 use Rattle.std.specs.Prelude.{nat_lt, slice_set}
+use Rattle.executor_model.proofs.Steps.QueuesByMark.{is_any_shut}
+use Rattle.executor_model.specs.Acts.{takes_more}
+use Rattle.executor_parts.specs.declared.mark.Mark.{Mark}
 use Rattle.task_moves.specs.declared.moves.owed.Move.TheVariants as move
 use Rattle.executor_model.specs.declared.call.Call.TheVariants as call
 use Rattle.executor_model.specs.declared.call.Reply.{Reply}
@@ -19,7 +22,7 @@ use Rattle.executor_model.specs.declared.op.Op.TheVariants as op
 use Rattle.executor_model.specs.declared.op.QueueOp.TheVariants as queue_op
 use Rattle.executor_model.specs.declared.op.TableOp.TheVariants as table_op
 use Rattle.executor_model.specs.declared.op.UserOp.TheVariants as user_op
-use Rattle.executor_model.specs.World.{World, Done, done, log, among}
+use Rattle.executor_model.specs.World.{World, Done, done, log, among, queue_of, mark_of}
 use Rattle.executor_model.specs.Acts.{append_by, begin_drop, closing_ops, enter_by, leave_by, stands_alone}
 use Rattle.executor_model.specs.Weights.{same}
 use Rattle.executor_model.specs.Sound.{Pend, times, with_ops}
@@ -36,13 +39,13 @@ use Rattle.executor_model.specs.Acts.{leak_out_by, leaked}
 use Rattle.executor_model.proofs.OneFuture.MoveViews.{HasAsked, leaked-keeps, leaks_out-keeps}
 use Rattle.executor_model.proofs.OneFuture.Effects.Effect.{leaks, leaks_out}
 
-leaves-refuses : (w : World) (f : ℕ) → w.queue.closed ≡ true →
-    KeepsLeaves w (op.Queue (queue_op.Append f) ∷ []) (append_by false w f)
-leaves-refuses w f c g r y b h = grind (arith, same_is)
+leaves-refuses : (w : World) (mark : Mark) (f : ℕ) → is_any_shut w.queues ≡ true →
+    KeepsLeaves w (op.Queue (queue_op.Append f) ∷ []) (append_by false w mark f)
+leaves-refuses w mark f c g r y b h = grind (arith, same_is)
 
-leaves-enters : (p : ℕ) (w : World) → (w.gone ≡ false → (g : ℕ) → length (story g w.trace).standing < w.limit) →
-    KeepsLeaves w (op.Table table_op.Enter ∷ []) (enter_by false false p w)
-leaves-enters p w l g r y b h =
+leaves-enters : (mark : Mark) (p : ℕ) (w : World) → (w.gone ≡ false → (g : ℕ) → length (story g w.trace).standing < w.limit) →
+    KeepsLeaves w (op.Table (table_op.Enter mark) ∷ []) (enter_by false false mark p w)
+leaves-enters mark p w l g r y b h =
     let n : w.gone ≡ false = grind arith in
     let z : length (story g w.trace).standing < w.limit = l n g in
     grind (arith, same_is, fresh_is, read_push, times-append, length-append, story-push)
@@ -81,11 +84,11 @@ leaves-leaked : (d : Done) (p f g : ℕ) (r : Pend) (y : Extra) → HasAsked d.w
     Entered (seen (leaked p f d).world g r y)
 leaves-leaked d p f g r y a h = leaked-keeps Entered (λ x a h. grind arith) d.world p f g r y a h
 
--- what it needs beside: room for a Runnable, or a closed queue; and room for a future
+-- what it needs beside: room for a Runnable, or one of the queues closed; and room for a future
 abbrev pub NeedsPlaces : World → Op → Type 0
-NeedsPlaces w (op.Queue (queue_op.Append f)) = (not w.queue.closed && nat_lt (length w.queue.items) w.limit) ≡ false →
-    w.queue.closed ≡ true
-NeedsPlaces w (op.Table table_op.Enter) = not (nat_lt (length w.table) w.limit) ≡ false → w.gone ≡ false → (g : ℕ) →
+NeedsPlaces w (op.Queue (queue_op.Append f)) = takes_more (queue_of w (mark_of w f)) w.limit ≡ false →
+    is_any_shut w.queues ≡ true
+NeedsPlaces w (op.Table (table_op.Enter mark)) = not (nat_lt (length w.table) w.limit) ≡ false → w.gone ≡ false → (g : ℕ) →
     length (story g w.trace).standing < w.limit
 NeedsPlaces w _ = Unit {0}
 
@@ -96,8 +99,9 @@ leaves-effect w old _ n (turns d m p f v more i j k s a e) g r y b h =
     turned-keeps Base Entered (λ m x. stands_alone m ≡ true) entered-moved entered-loose
     (λ x y z. base-passes x y z.passes) (λ x y z c. entered-passes x y z.passes z.stays) w old d m p f v more i
     (λ q u. j) s a e g r y b h
-leaves-effect w old d n (refuses f e) g r y b h = leaves-refuses w f (n (op.Queue (queue_op.Append f)) refl e) g r y b h
-leaves-effect w old d n (enters p e) g r y b h = leaves-enters p w (n (op.Table table_op.Enter) refl e) g r y b h
+leaves-effect w old d n (refuses f e) g r y b h = leaves-refuses w (mark_of w f) f
+    (n (op.Queue (queue_op.Append f)) refl e) g r y b h
+leaves-effect w old d n (enters mark p e) g r y b h = leaves-enters mark p w (n (op.Table (table_op.Enter mark)) refl e) g r y b h
 leaves-effect w old d n (unlists f e) g r y b h = leaves-unlists w f e g r y b h
 leaves-effect w old d n (drops p f) g r y b h = leaves-drops p f w g r y b h
 leaves-effect w old d n takes_out g r y b h = leaves-takes_out _ _ w refl g r y b h

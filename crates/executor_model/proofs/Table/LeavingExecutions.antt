@@ -1,10 +1,12 @@
 -- For table_and_queue_agree, no_append_is_refused_full, the_limit_is_exact, drops_come_once, early_drops_have_causes
 -- and closing_drops_each_future_once.
--- In each execution every future leaves the table as it should, and no append finds the queue full.
+-- In each execution every future leaves the table as it should, and no append finds its queue full.
 use Rattle.std.proofs.Common.{◌≡◌, ℕ, zero, suc, ◌+◌, ◌<◌, ◌≤◌, List, [], ◌∷◌, ◌++◌, length, set}
 use Rattle.std.proofs.Common.{Bool, true, false, ◌&&◌, not, refl, subst, inl, ⊎_elim, arith}
 use Rattle.std.proofs.lemmas.Bool.Decides.{nat_tests}
 use Rattle.std.specs.Prelude.{reverse, nat_lt}
+use Rattle.executor_model.proofs.Steps.QueuesByMark.{any-shut, times-one}
+use Rattle.executor_parts.specs.declared.mark.Mark.{Mark}
 use Rattle.executor_model.specs.declared.kind.Kind.{Kind}
 use Rattle.executor_model.specs.declared.call.Reply.{Reply}
 use Rattle.executor_model.specs.declared.event.Event.TheVariants as event
@@ -15,7 +17,7 @@ use Rattle.task_moves.specs.declared.moves.owed.Move.TheVariants as move
 use Rattle.executor_model.specs.declared.op.QueueOp.TheVariants as queue_op
 use Rattle.executor_model.specs.declared.op.TableOp.TheVariants as table_op
 use Rattle.executor_model.specs.declared.step.Step.{Step}
-use Rattle.executor_model.specs.World.{World, Done, done, log, among}
+use Rattle.executor_model.specs.World.{World, Done, done, log, among, queue_of, mark_of}
 use Rattle.executor_model.specs.Weights.{same}
 use Rattle.executor_model.specs.Sound.{Pend, pend, queued, times}
 use Rattle.executor_model.specs.Good.{Good}
@@ -41,27 +43,28 @@ pub record Placed (s : Machine) : Type 0 where
   pub leaves : (g : ℕ) → Leaves s.world g (pend g s.parties) (extra g s.parties)
   pub bare : bare_all s.parties ≡ 0
 
--- a Runnable on its way finds a place
+-- a Runnable on its way finds a place in either queue
 
 waits-here : (s : Machine) (p f : ℕ) (rest : List Op) (g : ℕ) → p < length s.parties →
     stack s p ≡ rest ++ reverse (op.Queue (queue_op.Append f) ∷ []) → same g f ≤ (pend g s.parties).waiting
 waits-here s p f rest g l e =
     omega (arith, split (waiting_of g) s.parties p (op.Queue (queue_op.Append f) ∷ []) rest l e)
 
-stands-once : (w : World) (g f : ℕ) (p : Pend) (st : ℕ) → same g f ≤ p.waiting →
+stands-once : (w : World) (g f : ℕ) (p : Pend) (st : ℕ) (m : Mark) → same g f ≤ p.waiting →
     queued w g + (p.waiting + (p.polls + (p.ending + (p.ready + (p.closing + (p.settling + p.giving))))))
     ≤ 1 → (1 ≤ queued w g + (p.waiting + (p.polls + p.ending)) → 1 ≤ st) →
-    same g f + times g w.queue.items ≤ st
-stands-once w g f p st a o r = grind arith
+    same g f + times g (queue_of w m).items ≤ st
+stands-once w g f p st m a o r = let z = times-one g m w.queues in grind arith
 
 pub has-place : (s : Machine) (p f : ℕ) (rest : List Op) → p < length s.parties →
-    stack s p ≡ rest ++ reverse (op.Queue (queue_op.Append f) ∷ []) → Good s → Placed s →
-    length s.world.queue.items < s.world.limit
-has-place s p f rest l e good h =
-    let n : length (f ∷ s.world.queue.items) ≤ length (story 0 s.world.trace).standing =
-    no-longer (f ∷ s.world.queue.items) (story 0 s.world.trace).standing
-    (λ g. subst (λ (xs : List ℕ). times g (f ∷ s.world.queue.items) ≤ times g xs) (same-standing g 0 s.world.trace)
-    (stands-once s.world g f (pend g s.parties) _ (waits-here s p f rest g l e) (good.sound g).one
+    stack s p ≡ rest ++ reverse (op.Queue (queue_op.Append f) ∷ []) → Good s → Placed s → (m : Mark) →
+    length (queue_of s.world m).items < s.world.limit
+has-place s p f rest l e good h m =
+    let xs : List ℕ = (queue_of s.world m).items in
+    let n : length (f ∷ xs) ≤ length (story 0 s.world.trace).standing =
+    no-longer (f ∷ xs) (story 0 s.world.trace).standing
+    (λ g. subst (λ (ys : List ℕ). times g (f ∷ xs) ≤ times g ys) (same-standing g 0 s.world.trace)
+    (stands-once s.world g f (pend g s.parties) _ m (waits-here s p f rest g l e) (good.sound g).one
     (h.leaves g).runs)) in
     omega (arith, n, (h.leaves 0).few)
 
@@ -80,8 +83,9 @@ no-room = by_bool _
 needs-places : (s : Machine) (p : ℕ) (o : Op) (rest : List Op) → p < length s.parties →
     stack s p ≡ rest ++ reverse (o ∷ []) → Good s → Placed s → NeedsPlaces s.world o
 needs-places s p (op.Queue (queue_op.Append f)) rest l e good h =
-    no-room s.world.queue.closed _ _ (has-place s p f rest l e good h)
-needs-places s p (op.Table table_op.Enter) rest l e good h =
+    λ n. let m : Mark = mark_of s.world f in
+    any-shut m s.world.queues (no-room (queue_of s.world m).closed _ _ (has-place s p f rest l e good h m) n)
+needs-places s p (op.Table (table_op.Enter mark)) rest l e good h =
     λ b n g. let x : length s.world.table < s.world.limit = grind (arith, nat_tests) in
     omega (arith, x, has-entries s n h g)
 needs-places s p _ rest l e good h = tt

@@ -51,14 +51,14 @@ Paired (o ∷ os) = Paired os
 paired-rest : (o : Op) (os : List Op) → Paired (o ∷ os) → Paired os
 paired-rest (op.User (user_op.Drop f)) os h = h.1
 paired-rest (op.User (user_op.Poll f)) os h = h
-paired-rest (op.Table table_op.Enter) os h = h
+paired-rest (op.Table (table_op.Enter mark)) os h = h
 paired-rest _ os h = h
 
 -- what isn't near a future's drop
 paired-one : (o : Op) (os : List Op) → near_of o ≡ 0 → Paired os → Paired (o ∷ os)
 paired-one (op.User (user_op.Drop f)) os z h = absurd (omega (arith, z))
 paired-one (op.User (user_op.CallOutside x)) os z h = h
-paired-one (op.Table table_op.Enter) os z h = h
+paired-one (op.Table (table_op.Enter mark)) os z h = h
 paired-one _ os z h = h
 
 paired-more : (xs os : List Op) → weigh near_of xs ≡ 0 → Paired os → Paired (xs ++ os)
@@ -168,7 +168,7 @@ covers-all : (f : ℕ) (o : Op) (os : List Op) → Paired (o ∷ os) → Covers 
     weigh (dropping_of f) (o ∷ os) ≤ weigh (leaves_of f) (o ∷ os) + weigh closing_of (o ∷ os)
 covers-all f (op.User (user_op.Drop g)) os h c = omega (arith, c.first g h.0)
 covers-all f (op.User (user_op.Poll g)) os h c = omega (arith, c.all)
-covers-all f (op.Table table_op.Enter) os h c = omega (arith, c.all)
+covers-all f (op.Table (table_op.Enter mark)) os h c = omega (arith, c.all)
 covers-all f _ os h c = omega (arith, c.all)
 
 covers-first : (f : ℕ) (o : Op) (os : List Op) → Covers f os → (g : ℕ) → Behind g (o ∷ os) →

@@ -4,6 +4,8 @@
 use Rattle.std.proofs.Common.{◌≡◌, ℕ, zero, suc, List, [], ◌∷◌, ◌++◌, Bool, true, false, eqb, reverse, refl, ap}
 use Rattle.std.proofs.Common.{◌+◌, ◌%◌, length, arith}
 use Rattle.std.proofs.lemmas.List.{reverse-append}
+use Rattle.executor_model.specs.declared.op.Look.{Look}
+use Rattle.executor_model.specs.declared.op.Look.TheVariants.{First, Second}
 use Rattle.task_moves.specs.Moves as moves
 use Rattle.executor_model.specs.declared.call.Reply.{Reply}
 use Rattle.executor_model.specs.declared.call.Reply.TheVariants as reply
@@ -91,6 +93,7 @@ held-found w x f =
 
 held-stolen : (t : Then) (w : World) (x : RunPoll) → IsHeld (stolen t w x).next
 held-stolen (then.Found f) w x = held-found w x f
+held-stolen (then.StealPlain f) w x = refl
 held-stolen (then.Run f) w x = held-run_by _ w x f
 held-stolen (then.Walk at left) w x = refl
 
@@ -155,9 +158,10 @@ held-own (f ∷ rest) w x = held-found (put_own w x.run rest) x f
 pub tidy-search_own : (old : List Op) (w : World) (x : RunPoll) → Tidy old (search_own_by (own_of w x.run) w x).next
 tidy-search_own old w x = tidy-held _ _ (held-own _ w x)
 
-light-common : (q : List ℕ) (w : World) (x : RunPoll) → weigh uses_of (search_common_by q w x).next ≡ 0
-light-common [] w x = refl
-light-common (f ∷ rest) w x = refl
+light-common : (look : Look) (q : List ℕ) (w : World) (x : RunPoll) → weigh uses_of (search_common_by q w x look).next ≡ 0
+light-common (First mark) [] w x = refl
+light-common (Second mark) [] w x = refl
+light-common look (f ∷ rest) w x = refl
 
 tidy-look : (q : List ℕ) (w : World) (x : RunPoll) (at left : ℕ) →
     Tidy (op.Run (run_op.LookOwn x at left) ∷ []) (look_own_by q w x at left).next
@@ -182,7 +186,8 @@ light-reschedule (f ∷ rest) w r a = refl
 pub tidy-run : (p : ℕ) (h : Hint) (o : RunOp) (w : World) → Tidy (op.Run o ∷ []) (run_act p h o w).next
 tidy-run p h run_op.MakeRoom w = tidy-light _ _ (light-room h.refused w)
 tidy-run p h run_op.ReturnRoom w = tidy-light _ _ refl
-tidy-run p h (run_op.SearchCommon x) w = tidy-light _ _ (light-common _ w x)
+tidy-run p h (run_op.TakeTurn x) w = tidy-light _ _ refl
+tidy-run p h (run_op.SearchCommon x look) w = tidy-light _ _ (light-common look _ w x)
 tidy-run p h (run_op.LookOwn x at left) w = tidy-look _ w x at left
 tidy-run p h (run_op.WakeOwn x) w =
     let v = log w (event.WakerCalled p (of.Run x.run) x.poll x.waker) in

@@ -2,6 +2,8 @@
 -- and closing_drops_each_future_once.
 -- What tells sleepers, and what a tick does, uses the executor only where it is held.
 use Rattle.std.proofs.Common.{◌≡◌, ℕ, List, [], ◌∷◌, refl}
+use Rattle.executor_model.specs.declared.op.Look.{Look}
+use Rattle.executor_model.specs.declared.op.Look.TheVariants.{First, Second}
 use Rattle.task_moves.specs.declared.moves.owed.Move.TheVariants as move
 use Rattle.executor_model.specs.declared.call.Reply.TheVariants as reply
 use Rattle.executor_model.specs.declared.op.Op.{Op}
@@ -15,7 +17,7 @@ use Rattle.executor_model.specs.declared.step.Hint.{Hint}
 use Rattle.executor_model.specs.declared.op.TickOrRun.{TickOrRun}
 use Rattle.executor_model.specs.declared.op.TickOrRun.TheVariants as tick_or_run
 use Rattle.executor_model.specs.World.{World, Ticker, Awake, Asleep, Left}
-use Rattle.executor_model.specs.ActsOfSleepers.{held_as, search_by}
+use Rattle.executor_model.specs.ActsOfSleepers.{held_as, look_tick_by}
 use Rattle.executor_model.specs.Doing.{search_by_who, sleeper_act, tick_act}
 use Rattle.executor_model.proofs.Table.Borrowing.{uses_of, Tidy, tidy-light}
 use Rattle.executor_model.proofs.Table.RunsTidying.{IsHeld, held-after, tidy-held, tidy-search_own}
@@ -51,27 +53,29 @@ held-ready : (who : TickOrRun) (f : ℕ) → IsHeld (ready who f)
 held-ready (tick_or_run.Tick t) f = refl
 held-ready (tick_or_run.Run r) f = refl
 
-tidy-search : (x : Ticker) (w : World) (q : List ℕ) (s : Sleeping) →
-    Tidy (op.Tick (tick_op.Search s) ∷ []) (search_by x w q s).next
-tidy-search x w [] s = tidy-light _ _ refl
-tidy-search Awake w (f ∷ rest) s =
+tidy-search : (look : Look) (x : Ticker) (w : World) (q : List ℕ) (s : Sleeping) →
+    Tidy (op.Tick (tick_op.Look s look) ∷ []) (look_tick_by x w look q s).next
+tidy-search (First mark) x w [] s = tidy-light _ _ refl
+tidy-search (Second mark) x w [] s = tidy-light _ _ refl
+tidy-search look Awake w (f ∷ rest) s =
     tidy-held _ _ (held-after (op.Sleeper sleeper_op.ExchangeFlag ∷ []) (ready s.who f) refl (held-ready s.who f))
-tidy-search (Asleep n) w (f ∷ rest) s =
+tidy-search look (Asleep n) w (f ∷ rest) s =
     tidy-held _ _ (held-after (op.Tick (tick_op.WakeUp s.who) ∷ op.Sleeper sleeper_op.ExchangeFlag ∷ [])
     (ready s.who f) refl
     (held-ready s.who f))
-tidy-search Left w (f ∷ rest) s =
+tidy-search look Left w (f ∷ rest) s =
     tidy-held _ _ (held-after (op.Sleeper sleeper_op.ExchangeFlag ∷ []) (ready s.who f) refl (held-ready s.who f))
 
-tidy-search_who : (who : TickOrRun) (w : World) (s : Sleeping) →
-    Tidy (op.Tick (tick_op.Search s) ∷ []) (search_by_who who w s).next
-tidy-search_who (tick_or_run.Tick t) w s = tidy-search _ w _ s
-tidy-search_who (tick_or_run.Run r) w s = tidy-search_own _ w (record { run = r; waker = s.waker; poll = s.poll })
+tidy-search_who : (who : TickOrRun) (p : ℕ) (w : World) (s : Sleeping) →
+    Tidy (op.Tick (tick_op.Search s) ∷ []) (search_by_who who p w s).next
+tidy-search_who (tick_or_run.Tick t) p w s = tidy-light _ _ refl
+tidy-search_who (tick_or_run.Run r) p w s = tidy-search_own _ w (record { run = r; waker = s.waker; poll = s.poll })
 
-pub tidy-tick : (h : Hint) (o : TickOp) (w : World) → Tidy (op.Tick o ∷ []) (tick_act h o w).next
-tidy-tick h tick_op.MakeTick w = tidy-light _ _ (make-blind uses_of blind _ w)
-tidy-tick h (tick_op.Search s) w = tidy-search_who s.who w s
-tidy-tick h (tick_op.CopyWaker s) w = tidy-light _ _ (copy-blind uses_of blind _ w s)
-tidy-tick h (tick_op.FallAsleep s) w = tidy-light _ _ (sleep-blind uses_of blind _ w s)
-tidy-tick h (tick_op.WakeUp t) w = tidy-light _ _ (up-blind uses_of blind _ w t)
-tidy-tick h (tick_op.Leave t) w = tidy-light _ _ (leave-blind uses_of blind _ w t)
+pub tidy-tick : (p : ℕ) (h : Hint) (o : TickOp) (w : World) → Tidy (op.Tick o ∷ []) (tick_act p h o w).next
+tidy-tick p h tick_op.MakeTick w = tidy-light _ _ (make-blind uses_of blind _ w)
+tidy-tick p h (tick_op.Search s) w = tidy-search_who s.who p w s
+tidy-tick p h (tick_op.Look s look) w = tidy-search look _ w _ s
+tidy-tick p h (tick_op.CopyWaker s) w = tidy-light _ _ (copy-blind uses_of blind _ w s)
+tidy-tick p h (tick_op.FallAsleep s) w = tidy-light _ _ (sleep-blind uses_of blind _ w s)
+tidy-tick p h (tick_op.WakeUp t) w = tidy-light _ _ (up-blind uses_of blind _ w t)
+tidy-tick p h (tick_op.Leave t) w = tidy-light _ _ (leave-blind uses_of blind _ w t)

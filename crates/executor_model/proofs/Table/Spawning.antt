@@ -5,6 +5,7 @@ use Rattle.std.proofs.Common.{Bool, true, false, not, refl, sym, ap, ◌∙◌, 
 use Rattle.std.proofs.lemmas.Bool.Decides.{nat_tests}
 use Rattle.std.proofs.lemmas.List.{get_or_past, append_cancel_left, append_assoc, length-append}
 use Rattle.std.specs.Prelude.{Option, Some, None, slice_get, nat_lt}
+use Rattle.executor_parts.specs.declared.mark.Mark.{Mark}
 use Rattle.executor_model.specs.declared.kind.Kind.{Kind}
 use Rattle.executor_model.specs.declared.call.Reply.{Reply}
 use Rattle.executor_model.specs.declared.call.Reply.TheVariants as reply
@@ -58,13 +59,13 @@ pub ended-trace : (p : ℕ) (w : World) (os : List Op) (a : Reply) (held : Hold)
     (settled p w os).world.trace ≡ w.trace ++ event.CallEnded p a ∷ []
 ended-trace p w os a held e = ap (λ (x : Option Op). (settled_by (end_of x) p w os).world.trace) e
 
-asked-trace : (b c : Bool) (p : ℕ) (w : World) (rest : List Op) →
-    (onto p (enter_by b c p w) rest).world.trace ≡ w.trace ++ asked b c p w ∷ []
-asked-trace true c p w rest = ended-trace p w (rest ++ op.End reply.Full hold.Executor ∷ []) reply.Full hold.Executor
+asked-trace : (b c : Bool) (mark : Mark) (p : ℕ) (w : World) (rest : List Op) →
+    (onto p (enter_by b c mark p w) rest).world.trace ≡ w.trace ++ asked b c p w ∷ []
+asked-trace true c mark p w rest = ended-trace p w (rest ++ op.End reply.Full hold.Executor ∷ []) reply.Full hold.Executor
     (top-last rest (op.End reply.Full hold.Executor))
-asked-trace false true p w rest = ended-trace p w (rest ++ op.End reply.NoMemory hold.Executor ∷ []) reply.NoMemory
+asked-trace false true mark p w rest = ended-trace p w (rest ++ op.End reply.NoMemory hold.Executor ∷ []) reply.NoMemory
     hold.Executor (top-last rest (op.End reply.NoMemory hold.Executor))
-asked-trace false false p w rest =
+asked-trace false false mark p w rest =
     let os : List Op = rest ++ op.End reply.Made (hold.Spawned (length w.tasks))
     ∷ op.Queue (queue_op.Append (length w.tasks)) ∷ [] in
     let e : top os ≡ Some (op.Queue (queue_op.Append (length w.tasks))) =
@@ -73,7 +74,7 @@ asked-trace false false p w rest =
     (op.Queue (queue_op.Append (length w.tasks)) ∷ []))
     (top-last (rest ++ op.End reply.Made (hold.Spawned (length w.tasks)) ∷ [])
     (op.Queue (queue_op.Append (length w.tasks)))) in
-    ap (λ (x : Option Op). (settled_by (end_of x) p (enter_by false false p w).world os).world.trace) e
+    ap (λ (x : Option Op). (settled_by (end_of x) p (enter_by false false mark p w).world os).world.trace) e
 
 pub step-trace : (s : Machine) (p : ℕ) (h : Hint) → p < length s.parties → Asks s p →
     (stepped s (step s (Go p h))).world.trace ≡ s.world.trace
@@ -82,10 +83,10 @@ unfolding step
 step-trace s p h l e =
     let r : refusal s (Go p h) ≡ None =
     ap (λ (b : Bool). unless b NoSuch (go_refusal s.world (top (stack s p))))
-    (let z : nat_lt p (length s.parties) ≡ true = grind (arith, nat_tests) in z) ∙ ap (go_refusal s.world) e in
+    (let z : nat_lt p (length s.parties) ≡ true = grind (arith, nat_tests) in z) ∙ ap (go_refusal s.world) e.1 in
     ap (λ (x : Option StepError). (stepped s (step_by x s (Go p h))).world.trace) r
-    ∙ (ap (λ (o : Option Op). (gone_on p s.world (stack s p) o (λ x. act p h x s.world)).world.trace) e
-    ∙ asked-trace (not (nat_lt (length s.world.table) s.world.limit)) h.refused p s.world (below_top (stack s p)))
+    ∙ (ap (λ (o : Option Op). (gone_on p s.world (stack s p) o (λ x. act p h x s.world)).world.trace) e.1
+    ∙ asked-trace (not (nat_lt (length s.world.table) s.world.limit)) h.refused e.0 p s.world (below_top (stack s p)))
 
 -- which is full exactly where the table is
 pub says-full : (b c : Bool) (p : ℕ) (w : World) (es : Trace) →
@@ -118,8 +119,8 @@ module _ (s : Machine) (fine : Good s) (h : Placed s) where
   uses-executor : (p : ℕ) → Asks s p → 1 ≤ weigh_all borrowing_of s.parties
   uses-executor p e = omega (
     arith,
-    split borrowing_of s.parties p (op.Table table_op.Enter ∷ []) (below_top (stack s p))
-        (in-range s p (op.Table table_op.Enter) e) (topped (stack s p) (op.Table table_op.Enter) e),
+    split borrowing_of s.parties p (op.Table (table_op.Enter e.0) ∷ []) (below_top (stack s p))
+        (in-range s p (op.Table (table_op.Enter e.0)) e.1) (topped (stack s p) (op.Table (table_op.Enter e.0)) e.1),
   )
 
   has-table : (p : ℕ) → Asks s p → HasTable s
@@ -145,12 +146,12 @@ module _ (s : Machine) (fine : Good s) (h : Placed s) where
     always = λ p t e r.
         let n : length r.futures ≤ length s.world.table = no-longer r.futures s.world.table (at-most p e r) in
         let b : not (nat_lt (length s.world.table) s.world.limit) ≡ true = grind (arith, nat_tests, n, r.many) in
-        step-trace s p t (in-range s p (op.Table table_op.Enter) e) e
+        step-trace s p t (in-range s p (op.Table (table_op.Enter e.0)) e.1) e
         ∙ ap (λ (x : Bool). s.world.trace ++ asked x t.refused p s.world ∷ []) b;
     only = λ p t e q.
         let b : not (nat_lt (length s.world.table) s.world.limit) ≡ true =
         says-full _ t.refused p s.world s.world.trace
-        (sym (step-trace s p t (in-range s p (op.Table table_op.Enter) e) e) ∙ q) in
+        (sym (step-trace s p t (in-range s p (op.Table (table_op.Enter e.0)) e.1) e) ∙ q) in
         record {
           futures = s.world.table;
           different = λ f. (table-agrees s f fine h).once;

@@ -3,6 +3,7 @@
 use Rattle.std.proofs.Common.{◌≡◌, ◌≢◌, ◌⊎◌, ℕ, ◌+◌, ◌<◌, ◌≤◌, List, [], ◌∷◌, ◌++◌, length, get_or, set, Bool, true, false}
 use Rattle.std.proofs.Common.{eqb, inl, inr, ⊎_elim, refl, subst, sym, ap, ◌∙◌, get_or-set_same, get_or-set_other, arith}
 use Rattle.std.proofs.lemmas.List.{get_or-append-add, get_or_append_left, get_or_past, length-append, length-set}
+use Rattle.executor_parts.specs.declared.mark.Mark.{Mark}
 use Rattle.task_moves.specs.declared.moves.owed.Move.{Move}
 use Rattle.task_moves.specs.declared.moves.owed.Move.TheVariants as move
 use Rattle.executor_model.specs.declared.event.Answer.TheVariants as answer
@@ -96,7 +97,7 @@ falls-effect w old _ g (turns d m p f v more i j k s a e) = inl (
     ∙ (logged-falls (is_told m (task v f)) v m p f g ∙ ⊎_elim (λ x. ap (λ (s : Story). s.fallen) x) (λ x. ap (λ (s : Story). s.fallen) x.1)
     (s g none no_extra).stays.story)))
 falls-effect w old d g (refuses f e) = inl refl
-falls-effect w old d g (enters p e) =
+falls-effect w old d g (enters mark p e) =
     inl (ap (λ (s : Story). s.fallen) (story-push g w.trace (event.Accepted p (length w.tasks))))
 falls-effect w old d g (unlists f e) = inl refl
 falls-effect w old d g (drops p f) = inr (op.User (user_op.BeginDrop f), (refl, refl))
@@ -113,7 +114,7 @@ falls-effect w old _ g (leaks d p f e a) = ⊎_elim
 not-away : (g : ℕ) (o : Op) → leads_near o ≡ false → places o ≡ false → away_of g o ≡ 0
 not-away g (op.User o) a b = absurd (cc)
 not-away g (op.Table (table_op.PutBack f)) a b = absurd (cc)
-not-away g (op.Table table_op.Enter) a b = refl
+not-away g (op.Table (table_op.Enter mark)) a b = refl
 not-away g _ a b = refl
 
 unset : (xs : List Bool) (f : ℕ) → get_or (set xs f false) f false ≡ false
@@ -196,12 +197,12 @@ pub record Alone (w : World) (g : ℕ) (o : Op) (r : ℕ) : Type 0 where
 abbrev pub KeepsSpot : World → ℕ → Op → Done → ℕ → Type 0
 KeepsSpot w g o d r = Spot w g (away_of g o + r) → Spot d.world g (weigh (away_of g) d.next + r)
 
-spot-enter : (b c : Bool) (p : ℕ) (w : World) (g r : ℕ) → Alone w g (op.Table table_op.Enter) r →
-    KeepsSpot w g (op.Table table_op.Enter) (enter_by b c p w) r
-spot-enter true c p w g r k h = spot-same w w g _ _ refl refl refl (omega arith) h
-spot-enter false true p w g r k h = spot-same w w g _ _ refl refl refl (omega arith) h
-spot-enter false false p w g r k h =
-    let v : World = (enter_by false false p w).world in
+spot-enter : (b c : Bool) (mark : Mark) (p : ℕ) (w : World) (g r : ℕ) → Alone w g (op.Table (table_op.Enter mark)) r →
+    KeepsSpot w g (op.Table (table_op.Enter mark)) (enter_by b c mark p w) r
+spot-enter true c mark p w g r k h = spot-same w w g _ _ refl refl refl (omega arith) h
+spot-enter false true mark p w g r k h = spot-same w w g _ _ refl refl refl (omega arith) h
+spot-enter false false mark p w g r k h =
+    let v : World = (enter_by false false mark p w).world in
     let b : fallen v g ≡ fallen w g = fallen-push w v (event.Accepted p (length w.tasks)) g refl in
     spot-new w v g (0 + r) refl b k.fresh h
 
@@ -271,7 +272,7 @@ spot-act false false p t o w g r a c f k h =
     let i : o ≡ x.0 = (let y : o ∷ [] ≡ x.0 ∷ [] = x.1.0 in cc) in
     let no : true ≡ false = sym x.1.1 ∙ (ap leads_near (sym i) ∙ a) in absurd (cc)) f)
     (omega (arith, z, not-away g o a c)) h
-spot-act false true p t (op.Table table_op.Enter) w g r a c f k h = spot-enter _ _ p w g r k h
+spot-act false true p t (op.Table (table_op.Enter mark)) w g r a c f k h = spot-enter _ _ _ p w g r k h
 spot-act false true p t (op.Table (table_op.PutBack j)) w g r a c f k h =
     let v : World = record w { inside = set w.inside j true } in
     spot-same v v g r _ refl refl refl (omega arith) (spot-back w v g j r refl refl (k.back j refl) h)

@@ -3,6 +3,10 @@
 -- Each thing that is done leads to uses of the executor only inside of a call that holds it.
 use Rattle.std.proofs.Common.{◌≡◌, ℕ, List, [], ◌∷◌, ◌++◌, Bool, true, false, refl, ap, arith}
 use Rattle.std.specs.Prelude.{Option, Some, None}
+use Rattle.executor_model.specs.declared.op.Look.{Look}
+use Rattle.executor_parts.specs.declared.mark.Mark.TheVariants.{Plain, Urgent}
+use Rattle.executor_model.specs.declared.op.Look.TheVariants.{First, Second}
+use Rattle.executor_parts.specs.declared.mark.Mark.{Mark}
 use Rattle.task_moves.specs.declared.moves.state.State.{State}
 use Rattle.task_moves.specs.declared.moves.owed.FutureDebt.{FutureDebt}
 use Rattle.task_moves.specs.declared.moves.owed.AwaiterDebt.{AwaiterDebt}
@@ -80,18 +84,19 @@ no-detach true b s = refl
 no-detach false true s = refl
 no-detach false false s = refl
 
-pub light-append : (b : Bool) (w : World) (f : ℕ) → weigh uses_of (append_by b w f).next ≡ 0
-light-append true w f = refl
-light-append false w f = refl
+pub light-append : (b : Bool) (w : World) (mark : Mark) (f : ℕ) → weigh uses_of (append_by b w mark f).next ≡ 0
+light-append true w mark f = refl
+light-append false w mark f = refl
 
-pub tidy-take : (q : List ℕ) (w : World) → Tidy (op.Queue queue_op.Take ∷ []) (take_by w q).next
-tidy-take [] w = record { keeps = λ h. refl }
-tidy-take (f ∷ rest) w = record { keeps = λ h. refl }
+pub tidy-take : (look : Look) (q : List ℕ) (w : World) → Tidy (op.Queue (queue_op.Take look) ∷ []) (take_by w look q).next
+tidy-take (First mark) [] w = record { keeps = λ h. refl }
+tidy-take (Second mark) [] w = record { keeps = λ h. refl }
+tidy-take look (f ∷ rest) w = record { keeps = λ h. refl }
 
-pub light-enter : (b c : Bool) (p : ℕ) (w : World) → weigh uses_of (enter_by b c p w).next ≡ 0
-light-enter true c p w = refl
-light-enter false true p w = refl
-light-enter false false p w = refl
+pub light-enter : (b c : Bool) (mark : Mark) (p : ℕ) (w : World) → weigh uses_of (enter_by b c mark p w).next ≡ 0
+light-enter true c mark p w = refl
+light-enter false true mark p w = refl
+light-enter false false mark p w = refl
 
 pub light-copy : (b : Bool) (w : World) (f : ℕ) (held : Hold) → weigh uses_of (copy_by b w f held).next ≡ 0
 light-copy true w f held = refl
@@ -169,9 +174,10 @@ light-wake_next p w [] = refl
 light-wake_next p w (f ∷ rest) = light-both (wake p (record w { waking = rest }) f).next (closing_ops [] rest)
     (light-wake p (record w { waking = rest }) f) (light-closing [] rest)
 
-pub light-drain : (p : ℕ) (w : World) (q : List ℕ) → weigh uses_of (drain_by p w q).next ≡ 0
-light-drain p w [] = refl
-light-drain p w (f ∷ rest) = refl
+pub light-drain : (mark : Mark) (p : ℕ) (w : World) (q : List ℕ) → weigh uses_of (drain_by p w mark q).next ≡ 0
+light-drain Urgent p w [] = refl
+light-drain Plain p w [] = refl
+light-drain mark p w (f ∷ rest) = refl
 
 -- it uses the executor itself
 pub tidy-using : (o : Op) (next : List Op) → uses_of o ≡ 1 → Tidy (o ∷ []) next

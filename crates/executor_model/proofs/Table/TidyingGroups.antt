@@ -3,6 +3,8 @@
 -- Each thing that is done uses the executor only where it is held, by groups.
 use Rattle.std.proofs.Common.{◌≡◌, ℕ, [], ◌∷◌, Bool, true, false, refl, ap}
 use Rattle.std.specs.Prelude.{Option, Some, None}
+use Rattle.executor_parts.specs.declared.mark.Mark.TheVariants.{Plain, Urgent}
+use Rattle.executor_model.specs.World.{queue_of}
 use Rattle.task_moves.specs.declared.moves.owed.Move.TheVariants as move
 use Rattle.task_moves.specs.Moves as moves
 use Rattle.executor_model.specs.declared.op.Waker.{Waker}
@@ -42,9 +44,10 @@ NeedsNoEntry w (op.Move move.DropRunnable f) = among f w.table ≡ false
 NeedsNoEntry w _ = Unit {0}
 
 pub tidy-act : (p : ℕ) (h : Hint) (o : Op) (w : World) → NeedsNoEntry w o → Tidy (o ∷ []) (act p h o w).next
-tidy-act p h (op.Table table_op.Enter) w n = tidy-light _ _ (light-enter _ _ p w)
-tidy-act p h (op.Queue queue_op.Take) w n = tidy-take _ w
-tidy-act p h (op.Queue (queue_op.Append f)) w n = tidy-light _ _ (light-append _ w f)
+tidy-act p h (op.Table (table_op.Enter mark)) w n = tidy-light _ _ (light-enter _ _ _ p w)
+tidy-act p h (op.Queue queue_op.TakeTurn) w n = record { keeps = λ h. h }
+tidy-act p h (op.Queue (queue_op.Take look)) w n = tidy-take look _ w
+tidy-act p h (op.Queue (queue_op.Append f)) w n = tidy-light _ _ (light-append _ w _ f)
 tidy-act p h (op.Move move.WakeByReference f) w n =
     tidy-light _ _ (light-carried f _ (moves.wake_by_reference (task w f)) (no-wake _ _ (task w f)))
 tidy-act p h (op.Move move.Wake f) w n = tidy-light _ _ (light-wake p w f)
@@ -86,14 +89,16 @@ tidy-act p h (op.Handle (handle_op.EndNotify f mine)) w n = tidy-light _ _ (ligh
 tidy-act p h (op.Handle (handle_op.LetGo f)) w n = tidy-light _ _ (light-let_go_by _ w f)
 tidy-act p h (op.Waker (waker_op.CallAwaiter f a k)) w n = tidy-light _ _ (light-call p w f a k)
 tidy-act p h (op.Sleeper o) w n = tidy-sleeper p o w
-tidy-act p h (op.Tick o) w n = tidy-tick h o w
+tidy-act p h (op.Tick o) w n = tidy-tick p h o w
 tidy-act p h (op.List o) w n = tidy-list h o w
 tidy-act p h (op.Steal o) w n = tidy-steal p o w
 tidy-act p h (op.Run o) w n = tidy-run p h o w
 tidy-act p h (op.Closing closing_op.TakeOut) w n = tidy-light _ _ (light-closing w.table w.waking)
 tidy-act p h (op.Closing closing_op.DropNext) w n = tidy-light _ _ (light-drop_next p w w.leaving)
 tidy-act p h (op.Closing closing_op.WakeNext) w n = tidy-light _ _ (light-wake_next p w w.waking)
-tidy-act p h (op.Closing closing_op.Drain) w n = tidy-light _ _ (light-drain p w w.queue.items)
+tidy-act p h (op.Closing (closing_op.Close Urgent)) w n = tidy-light _ _ refl
+tidy-act p h (op.Closing (closing_op.Close Plain)) w n = tidy-light _ _ refl
+tidy-act p h (op.Closing (closing_op.Drain mark)) w n = tidy-light _ _ (light-drain mark p w (queue_of w mark).items)
 tidy-act p h (op.Closing closing_op.LeakOut) w n = tidy-light _ _ (aside-leak_out uses_of refl _ w)
 tidy-act p h (op.Closing closing_op.LeakNext) w n =
     tidy-light _ _ (aside-leak_next uses_of refl light-wake _ p w w.waking)

@@ -2,6 +2,11 @@
 -- What is done with tasks, the table, the queue, handles and sleepers names a poll by its own waker, where what was to do does.
 use Rattle.std.proofs.Common.{◌≡◌, ℕ, List, [], ◌∷◌, ◌++◌, length, Bool, true, false, refl, ◌&&◌}
 use Rattle.std.specs.Prelude.{Option, Some, None}
+use Rattle.executor_parts.specs.declared.mark.Mark.TheVariants.{Plain, Urgent}
+use Rattle.executor_parts.specs.Marks.{first_of, turn_after}
+use Rattle.executor_model.specs.declared.op.Look.{Look}
+use Rattle.executor_model.specs.declared.op.Look.TheVariants.{First, Second}
+use Rattle.executor_parts.specs.declared.mark.Mark.{Mark}
 use Rattle.task_moves.specs.declared.moves.owed.Answer.{Answer}
 use Rattle.task_moves.specs.declared.moves.owed.Move.{Move}
 use Rattle.task_moves.specs.declared.moves.owed.Move.TheVariants as move
@@ -17,7 +22,7 @@ use Rattle.executor_model.specs.declared.op.Waker.{Waker}
 use Rattle.executor_model.specs.declared.op.Waker.TheVariants.{Task, Outside}
 use Rattle.executor_model.specs.declared.step.Hint.{Hint}
 use Rattle.executor_model.specs.Acts.{answered, append_by, call_waker, closing_ops, copied, copy_awaiter_by, copy_by}
-use Rattle.executor_model.specs.Acts.{drain_by}
+use Rattle.executor_model.specs.Acts.{close, drain_by, turned}
 use Rattle.executor_model.specs.Acts.{drop_next_by, end_notify, end_register_by, enter_by, entry_goes, followed}
 use Rattle.executor_model.specs.Acts.{is_last_waker}
 use Rattle.executor_model.specs.Acts.{is_output, is_told, leak_next_by, leak_out_by, leaking_ops, leave_by}
@@ -67,10 +72,10 @@ module _ (k : ℕ) (a : Waker) where
 
   -- the table and the queue
 
-  pub enters : (b c : Bool) (p : ℕ) (w : World) → Stored k a w → Ends k a (enter_by b c p w)
-  enters true c p w h = (h, (tt, tt))
-  enters false true p w h = (h, (tt, tt))
-  enters false false p w h = (
+  pub enters : (b c : Bool) (mark : Mark) (p : ℕ) (w : World) → Stored k a w → Ends k a (enter_by b c mark p w)
+  enters true c mark p w h = (h, (tt, tt))
+  enters false true mark p w h = (h, (tt, tt))
+  enters false false mark p w h = (
     record {
       awaiters = every-append (RightSlot k a) w.awaiters (None ∷ []) h.awaiters (tt, tt);
       sleepers = h.sleepers;
@@ -87,13 +92,19 @@ module _ (k : ℕ) (a : Waker) where
   leaves true w f h = (record { awaiters = h.awaiters; sleepers = h.sleepers; told = h.told }, goes w.is_static f)
   leaves false w f h = (h, tt)
 
-  pub takes : (q : List ℕ) (w : World) → Stored k a w → Ends k a (take_by w q)
-  takes [] w h = (h, (tt, tt))
-  takes (f ∷ rest) w h = (record { awaiters = h.awaiters; sleepers = h.sleepers; told = h.told }, (tt, (tt, (tt, tt))))
+  pub takes : (look : Look) (q : List ℕ) (w : World) → Stored k a w → Ends k a (take_by w look q)
+  takes (First mark) [] w h = (h, (tt, tt))
+  takes (Second mark) [] w h = (h, (tt, tt))
+  takes look (f ∷ rest) w h = (record { awaiters = h.awaiters; sleepers = h.sleepers; told = h.told }, (tt, (tt, (tt, tt))))
 
-  pub appends : (b : Bool) (w : World) (f : ℕ) → Stored k a w → Ends k a (append_by b w f)
-  appends true w f h = (record { awaiters = h.awaiters; sleepers = h.sleepers; told = h.told }, (tt, tt))
-  appends false w f h = (h, (tt, tt))
+  pub turns : (p : ℕ) (w : World) → Stored k a w → Stored k a (turned p w)
+  turns p w h =
+      stored-log k a (record w { urgent_turns = turn_after w.urgent_turns }) (event.Looked p (first_of w.urgent_turns))
+      (record { awaiters = h.awaiters; sleepers = h.sleepers; told = h.told }) tt
+
+  pub appends : (b : Bool) (w : World) (mark : Mark) (f : ℕ) → Stored k a w → Ends k a (append_by b w mark f)
+  appends true w mark f h = (record { awaiters = h.awaiters; sleepers = h.sleepers; told = h.told }, (tt, tt))
+  appends false w mark f h = (h, (tt, tt))
 
   pub copies : (b : Bool) (w : World) (f : ℕ) (held : Hold) → Stored k a w → Ends k a (copy_by b w f held)
   copies true w f held h = (h, (tt, tt))
@@ -227,7 +238,12 @@ module _ (k : ℕ) (a : Waker) where
       (moves-task true move.Wake p v f (record { awaiters = h.awaiters; sleepers = h.sleepers; told = h.told })) (leaking rest) in
       (stored-log k a d.world (event.Leaked p f) e.0 tt, e.1)
 
-  pub drains : (q : List ℕ) (p : ℕ) (w : World) → Stored k a w → Ends k a (drain_by p w q)
-  drains [] p w h = (stored-log k a w (event.DropEnded p) h tt, tt)
-  drains (f ∷ rest) p w h =
+  pub shuts : (mark : Mark) (w : World) → Stored k a w → Ends k a (close w mark)
+  shuts Urgent w h = (record { awaiters = h.awaiters; sleepers = h.sleepers; told = h.told }, (tt, tt))
+  shuts Plain w h = (record { awaiters = h.awaiters; sleepers = h.sleepers; told = h.told }, (tt, tt))
+
+  pub drains : (mark : Mark) (q : List ℕ) (p : ℕ) (w : World) → Stored k a w → Ends k a (drain_by p w mark q)
+  drains Urgent [] p w h = (h, (tt, tt))
+  drains Plain [] p w h = (stored-log k a w (event.DropEnded p) h tt, tt)
+  drains mark (f ∷ rest) p w h =
       (record { awaiters = h.awaiters; sleepers = h.sleepers; told = h.told }, (tt, (tt, tt)))

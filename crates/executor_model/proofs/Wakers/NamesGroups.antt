@@ -3,6 +3,8 @@
 use Rattle.std.proofs.Common.{◌≡◌, ℕ, zero, suc, ◌+◌, List, [], ◌∷◌, ◌++◌, length, Bool, true, false, refl, subst}
 use Rattle.std.proofs.Common.{sym, eqb}
 use Rattle.std.specs.Prelude.{◌-◌, ◌%◌, Option, Some, None, is_none}
+use Rattle.executor_model.specs.declared.op.Look.{Look}
+use Rattle.executor_model.specs.declared.op.Look.TheVariants.{First, Second}
 use Rattle.task_moves.specs.declared.moves.owed.Move.TheVariants as move
 use Rattle.executor_parts.specs.Sleepers.{Sleepers, last_waker, position_of, waker_at, waker_of, without_entry}
 use Rattle.executor_parts.specs.Sleepers.{woken_up}
@@ -49,7 +51,7 @@ use Rattle.executor_model.specs.ActsOfRuns.{stolen}
 use Rattle.executor_model.specs.ActsOfRuns.{wake_own, walk, without_first, write}
 use Rattle.executor_model.specs.ActsOfSleepers.{call_of, copy_sleeper_by, exchange_by, fall_asleep_by, found_by}
 use Rattle.executor_model.specs.ActsOfSleepers.{hand_out_by}
-use Rattle.executor_model.specs.ActsOfSleepers.{leave_sleepers_by, make_tick_by, polled_as, search_by, sleep_again_by}
+use Rattle.executor_model.specs.ActsOfSleepers.{leave_sleepers_by, make_tick_by, polled_as, look_tick_by, sleep_again_by}
 use Rattle.executor_model.specs.ActsOfSleepers.{sleep_anew_by}
 use Rattle.executor_model.specs.ActsOfSleepers.{sleep_listed_by, sleeper_goes, tell_and_return, wake_up_by}
 use Rattle.executor_model.specs.Doing.{act, run_act, search_by_who, steal_act}
@@ -66,7 +68,7 @@ use Rattle.executor_model.proofs.Wakers.NamesActs.{drops-next, ends-notify}
 use Rattle.executor_model.proofs.Wakers.NamesActs.{ends-register, enters, leaks-next, leaks-out, leaves}
 use Rattle.executor_model.proofs.Wakers.NamesActs.{lets-go-emptied, looks}
 use Rattle.executor_model.proofs.Wakers.NamesActs.{looks-again, moves-task, notifies, registers, stored-copied, takes}
-use Rattle.executor_model.proofs.Wakers.NamesActs.{waker-goes, wakes-next}
+use Rattle.executor_model.proofs.Wakers.NamesActs.{shuts, turns, waker-goes, wakes-next}
 
 -- what a thing to do that names a poll by its place only now needs of its waker
 abbrev pub Newly : ℕ → Waker → Hint → World → Op → Type 0
@@ -117,10 +119,11 @@ module _ (k : ℕ) (a : Waker) where
   finds (Asleep m) who more n = (tt, n)
   finds Left who more n = n
 
-  searches : (x : Ticker) (q : List ℕ) (w : World) (s : Sleeping) → Right k a s.poll s.waker → Stored k a w →
-      Ends k a (search_by x w q s)
-  searches x [] w s r h = (h, (r, tt))
-  searches x (f ∷ rest) w s r h = (same-store w _ refl refl refl h, (finds x s.who _ (tt, (tt, (tt, tt)))))
+  searches : (look : Look) (x : Ticker) (q : List ℕ) (w : World) (s : Sleeping) → Right k a s.poll s.waker → Stored k a w →
+      Ends k a (look_tick_by x w look q s)
+  searches (First mark) x [] w s r h = (h, (r, tt))
+  searches (Second mark) x [] w s r h = (h, (r, tt))
+  searches look x (f ∷ rest) w s r h = (same-store w _ refl refl refl h, (finds x s.who _ (tt, (tt, (tt, tt)))))
 
   copies-sleeper : (b : Bool) (w : World) (s : Sleeping) → Right k a s.poll s.waker → Stored k a w →
       Ends k a (copy_sleeper_by b w s)
@@ -216,6 +219,7 @@ module _ (k : ℕ) (a : Waker) where
 
   has-stolen : (t : Then) (w : World) (x : RunPoll) → Right k a x.poll x.waker → Stored k a w → Ends k a (stolen t w x)
   has-stolen (then.Found f) w x r h = has-found w x f r h
+  has-stolen (then.StealPlain f) w x r h = (h, (r, tt))
   has-stolen (then.Run f) w x r h = runs-found _ w x f r h
   has-stolen (then.Walk at left) w x r h = (h, (r, tt))
 
@@ -236,7 +240,7 @@ module _ (k : ℕ) (a : Waker) where
       by false n = (r, tt)
 
   first-out : (from : Source) (w : World) (rest : List ℕ) → Stored k a w → Stored k a (without_first w from rest)
-  first-out Common w rest h = same-store w _ refl refl refl h
+  first-out (Common mark) w rest h = same-store w _ refl refl refl h
   first-out (Own r) w rest h = same-store w _ refl refl refl h
 
   steals-length : (n : ℕ) (w : World) (s : Steal) → Right k a s.poll.poll s.poll.waker → Stored k a w →
@@ -287,16 +291,17 @@ module _ (k : ℕ) (a : Waker) where
   searches-own [] w x r h = (h, (r, tt))
   searches-own (f ∷ rest) w x r h = has-found (put_own w x.run rest) x f r (same-store w _ refl refl refl h)
 
-  searches-who : (who : TickOrRun) (w : World) (s : Sleeping) → Right k a s.poll s.waker → Stored k a w →
-      Ends k a (search_by_who who w s)
-  searches-who (tick_or_run.Tick t) w s r h = searches _ _ w s r h
-  searches-who (tick_or_run.Run n) w s r h =
+  searches-who : (who : TickOrRun) (p : ℕ) (w : World) (s : Sleeping) → Right k a s.poll s.waker → Stored k a w →
+      Ends k a (search_by_who who p w s)
+  searches-who (tick_or_run.Tick t) p w s r h = (turns k a p w h, (r, tt))
+  searches-who (tick_or_run.Run n) p w s r h =
       searches-own _ w (record { run = n; waker = s.waker; poll = s.poll }) r h
 
-  searches-common : (q : List ℕ) (w : World) (x : RunPoll) → Right k a x.poll x.waker → Stored k a w →
-      Ends k a (search_common_by q w x)
-  searches-common [] w x r h = (h, (r, tt))
-  searches-common (f ∷ rest) w x r h = (same-store w _ refl refl refl h, (r, tt))
+  searches-common : (look : Look) (q : List ℕ) (w : World) (x : RunPoll) → Right k a x.poll x.waker → Stored k a w →
+      Ends k a (search_common_by q w x look)
+  searches-common (First mark) [] w x r h = (h, (r, tt))
+  searches-common (Second mark) [] w x r h = (h, (r, tt))
+  searches-common look (f ∷ rest) w x r h = (same-store w _ refl refl refl h, (r, tt))
 
   looks-own : (q : List ℕ) (w : World) (x : RunPoll) (at left : ℕ) → Right k a x.poll x.waker → Stored k a w →
       Ends k a (look_own_by q w x at left)
@@ -325,7 +330,8 @@ module _ (k : ℕ) (a : Waker) where
   runs : (p : ℕ) (c : Hint) (o : RunOp) (w : World) → Keeps w (op.Run o) (run_act p c o w)
   runs p c run_op.MakeRoom w h r = makes-room c.refused w h
   runs p c run_op.ReturnRoom w h r = (same-store w _ refl (given_back-same w.sleepers) refl h, tt)
-  runs p c (run_op.SearchCommon x) w h r = searches-common _ w x r h
+  runs p c (run_op.TakeTurn x) w h r = (turns k a p w h, (r, tt))
+  runs p c (run_op.SearchCommon x look) w h r = searches-common look _ w x r h
   runs p c (run_op.LookOwn x at left) w h r = looks-own _ w x at left r h
   runs p c (run_op.WakeOwn x) w h r = wakes-own p w x r h
   runs p c (run_op.Reschedule n b) w h r = reschedules _ w n b h
@@ -339,14 +345,15 @@ module _ (k : ℕ) (a : Waker) where
   -- each thing that is done
   pub names-act : (p : ℕ) (c : Hint) (o : Op) (w : World) → Newly k a c w o → Keeps w o (act p c o w)
   names-act p c (op.Move m f) w n h r = moves-task k a (stands_alone m) m p w f h
-  names-act p c (op.Table table_op.Enter) w n h r = enters k a _ _ p w h
+  names-act p c (op.Table (table_op.Enter mark)) w n h r = enters k a _ _ _ p w h
   names-act p c (op.Table table_op.LookAtTable) w n h r = (h, (tt, tt))
   names-act p c (op.Table (table_op.TakeToPoll f)) w n h r = (same-store w _ refl refl refl h, (tt, tt))
   names-act p c (op.Table (table_op.PutBack f)) w n h r = (same-store w _ refl refl refl h, (tt, tt))
   names-act p c (op.Table (table_op.TakeToDrop f)) w n h r = (same-store w _ refl refl refl h, (tt, tt))
   names-act p c (op.Table (table_op.LeaveTable f)) w n h r = leaves k a _ w f h
-  names-act p c (op.Queue queue_op.Take) w n h r = takes k a _ w h
-  names-act p c (op.Queue (queue_op.Append f)) w n h r = appends k a _ w f h
+  names-act p c (op.Queue queue_op.TakeTurn) w n h r = (turns k a p w h, (tt, tt))
+  names-act p c (op.Queue (queue_op.Take look)) w n h r = takes k a look _ w h
+  names-act p c (op.Queue (queue_op.Append f)) w n h r = appends k a _ w _ f h
   names-act p c (op.User o) w n h r = users p c o w h r
   names-act p c (op.Waker (waker_op.CopyWaker f held)) w n h r = copies k a _ w f held h
   names-act p c (op.Waker (waker_op.CallAwaiter f b j)) w n h r = calls-waker k a p w (of.Handle f) b j r h
@@ -362,7 +369,8 @@ module _ (k : ℕ) (a : Waker) where
   names-act p c (op.Sleeper sleeper_op.HandOut) w n h r = hands-out _ w h
   names-act p c (op.Sleeper (sleeper_op.CallSleeper s)) w n h r = calls-waker k a p w (polled_as s.who) s.waker s.poll r h
   names-act p c (op.Tick tick_op.MakeTick) w n h r = makes-tick _ w h
-  names-act p c (op.Tick (tick_op.Search s)) w n h r = searches-who s.who w s r h
+  names-act p c (op.Tick (tick_op.Search s)) w n h r = searches-who s.who p w s r h
+  names-act p c (op.Tick (tick_op.Look s look)) w n h r = searches look _ _ w s r h
   names-act p c (op.Tick (tick_op.CopyWaker s)) w n h r = copies-sleeper _ w s r h
   names-act p c (op.Tick (tick_op.FallAsleep s)) w n h r = falls-asleep _ w s r h
   names-act p c (op.Tick (tick_op.WakeUp t)) w n h r = wakes-up _ w t h
@@ -378,8 +386,8 @@ module _ (k : ℕ) (a : Waker) where
   names-act p c (op.Closing closing_op.TakeOut) w n h r = (same-store w _ refl refl refl h, (closes k a w.table w.waking))
   names-act p c (op.Closing closing_op.DropNext) w n h r = drops-next k a _ p w h
   names-act p c (op.Closing closing_op.WakeNext) w n h r = wakes-next k a _ p w h
-  names-act p c (op.Closing closing_op.Close) w n h r = (same-store w _ refl refl refl h, (tt, tt))
-  names-act p c (op.Closing closing_op.Drain) w n h r = drains k a _ p w h
+  names-act p c (op.Closing (closing_op.Close mark)) w n h r = shuts k a mark w h
+  names-act p c (op.Closing (closing_op.Drain mark)) w n h r = drains k a mark _ p w h
   names-act p c (op.Closing closing_op.LeakOut) w n h r = leaks-out k a _ w h
   names-act p c (op.Closing closing_op.LeakNext) w n h r = leaks-next k a _ _ p w h
   names-act p c (op.End b held) w n h r = (stored-log k a w (event.CallEnded p b) h tt, tt)

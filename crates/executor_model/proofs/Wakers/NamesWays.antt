@@ -91,7 +91,7 @@ module _ (k : ℕ) (a : Waker) where
 
   names-begun : (p : ℕ) (w : World) (here : Option Waker) (c : Call) → NewlyCalled k a w here c → Stored k a w →
       Ends k a (begun p w here c)
-  names-begun p w here call.Spawn n h = (h, (tt, tt))
+  names-begun p w here (call.Spawn mark) n h = (h, (tt, tt))
   names-begun p w here call.TryTick n h = (h, (tt, tt))
   names-begun p w here call.IsEmpty n h = (h, (tt, tt))
   names-begun p w here (call.Wake j) n h = names-with w (kept w j) _ h (λ f. (used w h _, (tt, (tt, tt))))

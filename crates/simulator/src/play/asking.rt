@@ -16,7 +16,7 @@ fn asks(op: Op) -> bool
 {
     matches!(
         op,
-        Op::Table(TableOp::Enter)
+        Op::Table(TableOp::Enter(_))
             | Op::Waker(WakerOp::CopyWaker(..))
             | Op::Handle(HandleOp::CopyAwaiter(..))
             | Op::Tick(TickOp::MakeTick | TickOp::CopyWaker(_))

@@ -204,9 +204,9 @@ impl<'a> Player<'a> {
         ensures { result ≡ commands.call_of self.now plain.now }
     {
         match plain {
-            Plain::Spawn { name, items } => {
+            Plain::Spawn { mark, name, items } => {
                 if self.can_spawn(*name, items.as_slice()) {
-                    Some(Call::Spawn)
+                    Some(Call::Spawn(*mark))
                 } else {
                     None
                 }

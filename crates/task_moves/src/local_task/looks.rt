@@ -3,7 +3,7 @@ use crate::local_task::LocalTask;
 use crate::local_task::answers::FuturePlace;
 use crate::moves::State;
 
-impl<F, T, A> LocalTask<F, T, A> {
+impl<F, T, A, M> LocalTask<F, T, A, M> {
     ghost use Rattle.std.specs.Prelude.{◌≡◌, ◌<◌, ◌↔◌, IsTrue, true};
     ghost use Rattle.task_moves.specs.LocalTask as local;
 
@@ -80,9 +80,10 @@ impl<F, T, A> LocalTask<F, T, A> {
         is_gone && self.is_unreachable() && self.output.is_none() && self.awaiter.is_none()
     }
 
-    /// Ends a task that holds nothing more, also where futures, outputs or awaiters have no drop.
-    pub fn end(self)
+    /// Ends a task that holds nothing more, also where futures, outputs or awaiters have no drop, and gives its metadata back.
+    pub fn end(self) -> M
         requires { local.is_spent self ≡ true }
+        ensures metadata { result ≡ self.metadata }
     {
         let LocalTask {
             state,
@@ -90,6 +91,7 @@ impl<F, T, A> LocalTask<F, T, A> {
             future,
             output,
             awaiter,
+            metadata,
         } = self;
         let _ = state;
         let _ = next;
@@ -105,6 +107,7 @@ impl<F, T, A> LocalTask<F, T, A> {
             Some(_) => unreachable!(),
             None => {}
         }
+        metadata
     }
 
     /// The marks and the count, for who shows them.

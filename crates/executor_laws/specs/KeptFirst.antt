@@ -1,5 +1,5 @@
 -- In which order lone polls of a run take futures up: first those that it keeps, as they stand in its own queue.
-use Rattle.std.specs.Prelude.{◌≡◌, ℕ, ◌≤◌, ◌==◌, Option, Some, None, List, [], ◌∷◌, ◌++◌, cond}
+use Rattle.std.specs.Prelude.{◌≡◌, ℕ, ◌≤◌, Option, Some, List, [], ◌∷◌, ◌++◌}
 use Rattle.task_moves.specs.declared.moves.owed.Move.TheVariants as move
 use Rattle.executor_model.specs.declared.call.Call.TheVariants.{PollRun}
 use Rattle.executor_model.specs.declared.op.Op.{Op}

@@ -16,7 +16,6 @@ use Rattle.executor_model.specs.ActsOfSleepers.{look_tick, look_tick_by, make_ti
 use Rattle.executor_model.specs.ActsOfSleepers.{sleep_listed_by, sleeper_goes, tell_and_return, wake_up_by}
 use Rattle.executor_model.specs.Doing.{sleeper_act}
 use Rattle.executor_model.specs.World.{World, Ticker, Awake, Asleep, Left, queue_of, run_of, tick_of}
-use Rattle.call_steps.specs.declared.names.TickOrRun.TheVariants as of_who
 use Rattle.call_steps.specs.declared.step.CallStep.TheVariants as step
 use Rattle.call_steps.specs.declared.step.tick.SleeperStep.TheVariants as sleeper_step
 use Rattle.call_steps.specs.declared.step.tick.TickStep.TheVariants as tick_step

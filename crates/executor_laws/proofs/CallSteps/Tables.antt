@@ -1,5 +1,5 @@
 -- What is done with the table and the queue goes as `call_steps` says.
-use Rattle.std.proofs.Common.{◌≡◌, ℕ, Bool, true, false, ◌&&◌, not, List, [], ◌∷◌, length, refl, sym}
+use Rattle.std.proofs.Common.{◌≡◌, ℕ, Bool, true, false, not, List, [], ◌∷◌, length, refl, sym}
 use Rattle.std.specs.Prelude.{nat_lt}
 use Rattle.executor_model.specs.World.{mark_of, queue_of}
 use Rattle.executor_model.specs.Acts.{mark_in, takes_more}

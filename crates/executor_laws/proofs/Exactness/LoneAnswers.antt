@@ -4,7 +4,6 @@ use Rattle.std.proofs.Common.{◌≡◌, ◌⊎◌, ℕ, ◌<◌, List, [], ◌�
 use Rattle.std.proofs.Common.{subst, inl, inr, ⊎_elim, arith, Ok, get_or-set_same}
 use Rattle.std.proofs.Math.ListN.{length-set}
 use Rattle.std.proofs.lemmas.Bool.Decides.{nat_tests}
-use Rattle.std.proofs.lemmas.List.{append_assoc}
 use Rattle.std.specs.Prelude.{Some, None}
 use Rattle.executor_parts.specs.Marks.{first_of}
 use Rattle.executor_model.specs.declared.call.Call.{Call}

@@ -23,7 +23,7 @@ use Rattle.executor_model.specs.Doing.{act}
 use Rattle.executor_model.specs.Rows.{running_of}
 use Rattle.executor_model.specs.Steps.{Part, accepts, answer_refusal, begin_refusal, begun, below_top, end_of, go_refusal}
 use Rattle.executor_model.specs.Steps.{gone_on, mine, onto, part, part_after, part_refusal, party_of, react}
-use Rattle.executor_model.specs.Steps.{run, settled, settled_by, stack, step, top, unless, waits}
+use Rattle.executor_model.specs.Steps.{settled, settled_by, top, unless, waits}
 use Rattle.executor_model.specs.Weights.{weigh, weigh_all}
 use Rattle.executor_model.specs.World.{Done, World, log}
 use Rattle.executor_model.proofs.Quiet.Calls.{is_end}

@@ -20,11 +20,11 @@ use Rattle.executor_model.specs.declared.step.Step.{Step}
 use Rattle.executor_model.specs.declared.step.Step.TheVariants.{Answer, Begin, Go}
 use Rattle.executor_model.specs.declared.step.StepError.{StepError}
 use Rattle.executor_model.specs.declared.step.UserEnd.{UserEnd}
-use Rattle.executor_model.specs.Carried.{carried, owed_ops}
+use Rattle.executor_model.specs.Carried.{owed_ops}
 use Rattle.executor_model.specs.Doing.{act}
 use Rattle.executor_model.specs.Steps.{Machine, Part, answer_refusal, begun, below_top, end_of, gone_on, mine, onto, part, part_after}
 use Rattle.executor_model.specs.Steps.{part_refusal, party_of, react, refusal, settled_by, stack, step, stepped, top}
-use Rattle.executor_model.specs.Trace.{Trace, has}
+use Rattle.executor_model.specs.Trace.{Trace}
 use Rattle.executor_model.specs.World.{Done, World, among, done, log, log_if, put, task}
 use Rattle.executor_model.proofs.Steps.Stepping.{step-refused}
 use Rattle.executor_model.proofs.Steps.TraceGrows.{Allows, AllowsCall, grows-act, grows-begun, grows-react}

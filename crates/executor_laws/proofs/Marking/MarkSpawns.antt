@@ -1,9 +1,9 @@
 -- For futures_are_marked_as_spawned.
 -- What asks for a place has the mark of the spawn that it is done for, and so has the future that is taken in.
-use Rattle.std.proofs.Common.{◌≡◌, ◌⊎◌, ⊎_elim, ◌∙◌, ℕ, zero, suc, ◌+◌, ◌<◌, ◌≤◌, List, [], ◌∷◌, ◌++◌, length, take, Bool, true}
+use Rattle.std.proofs.Common.{◌≡◌, ⊎_elim, ◌∙◌, ℕ, zero, suc, ◌+◌, ◌<◌, ◌≤◌, List, [], ◌∷◌, ◌++◌, length, take, Bool, true}
 use Rattle.std.proofs.Common.{false, cond, refl, sym, ap, subst, arith, append-nil, length-append}
 use Rattle.std.proofs.lemmas.List.{append_cancel_left, reverse-append, take_at}
-use Rattle.std.specs.Prelude.{Option, Some, None, reverse, slice_get, slice_index_or}
+use Rattle.std.specs.Prelude.{Option, Some, reverse, slice_get, slice_index_or}
 use Rattle.executor_parts.specs.Marks.{same_mark}
 use Rattle.executor_parts.specs.declared.mark.Mark.{Mark}
 use Rattle.executor_parts.specs.declared.mark.Mark.TheVariants.{Plain, Urgent}

@@ -1,6 +1,6 @@
 -- For one_turn_of_eight_is_plain.
 -- The turns so far name what a count from seven names; and of eight in a row from any count on exactly one is plain.
-use Rattle.std.proofs.Common.{◌≡◌, ℕ, zero, suc, ◌+◌, ◌≤◌, List, [], ◌∷◌, ◌++◌, length, drop, take, refl, sym, ap, ◌∙◌, subst, arith}
+use Rattle.std.proofs.Common.{◌≡◌, ℕ, zero, suc, ◌+◌, ◌≤◌, List, [], ◌∷◌, ◌++◌, length, drop, take, refl, sym, ap, ◌∙◌, arith}
 use Rattle.std.specs.Prelude.{◌-◌}
 use Rattle.executor_parts.specs.Marks.{first_of, turn_after}
 use Rattle.executor_parts.specs.declared.mark.Mark.{Mark}

@@ -8,7 +8,7 @@ use Rattle.executor_model.specs.declared.event.Event.TheVariants as event
 use Rattle.executor_model.specs.declared.op.Hold.TheVariants as hold
 use Rattle.executor_model.specs.declared.op.RunPoll.{RunPoll}
 use Rattle.executor_model.specs.declared.step.Step.TheVariants.{Begin}
-use Rattle.executor_model.specs.Steps.{Machine, mine, poll_run, settled, stack, step, top, waker_of}
+use Rattle.executor_model.specs.Steps.{Machine, mine, poll_run, settled, stack, top, waker_of}
 use Rattle.executor_model.specs.World.{Stage, World, log}
 use Rattle.executor_laws.specs.EndedRuns.{EndedIsFinished}
 use Rattle.executor_laws.proofs.Promptness.Turns.{ends-so, next-is}

@@ -120,6 +120,7 @@ leaving-uses r (op.List (list_op.LockWrite section.MakeRun)) = omega arith
 leaving-uses r (op.List (list_op.Write section.MakeRun)) = omega arith
 leaving-uses r (op.Run (run_op.Reschedule q a)) = omega arith
 leaving-uses r (op.End reply.Ready (hold.Run q)) = omega arith
+leaving-uses r (op.Tick (tick_op.Look s look)) = omega arith
 leaving-uses r _ = omega arith
 
 section-few : (r : ℕ) (s : Section) → leaving_section r s ≤ 1

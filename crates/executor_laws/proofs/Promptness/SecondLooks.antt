@@ -1,9 +1,9 @@
 -- For no_means_that_nothing_was_queued.
 -- The step that leads to the second look of a try of a tick finds the other queue empty.
-use Rattle.std.proofs.Common.{◌≡◌, ◌∙◌, ⊎_elim, ℕ, ◌<◌, List, [], ◌∷◌, ◌++◌, length, set, get_or, Bool, true, false, refl, sym, ap, arith}
-use Rattle.std.proofs.Common.{ltb, get_or-set_same, Result}
+use Rattle.std.proofs.Common.{◌≡◌, ◌∙◌, ⊎_elim, ℕ, ◌<◌, List, [], ◌∷◌, ◌++◌, length, Bool, true, false, refl, sym, ap, arith}
+use Rattle.std.proofs.Common.{ltb, get_or-set_same}
 use Rattle.std.proofs.lemmas.Bool.Decides.{nat_tests}
-use Rattle.std.specs.Prelude.{Option, Some, None, Ok, Err, reverse}
+use Rattle.std.specs.Prelude.{Option, Some, None, Ok, Err}
 use Rattle.executor_parts.specs.declared.mark.Mark.{Mark}
 use Rattle.executor_parts.specs.declared.mark.Mark.TheVariants.{Plain, Urgent}
 use Rattle.executor_parts.specs.Marks.{first_of, other}
@@ -26,8 +26,8 @@ use Rattle.task_moves.specs.declared.moves.owed.Move.TheVariants as move
 use Rattle.executor_model.specs.Acts.{emptiness, mark_in, take_by}
 use Rattle.executor_model.specs.Deeds.{deeds}
 use Rattle.executor_model.specs.Doing.{act}
-use Rattle.executor_model.specs.Steps.{Machine, Part, after, below_top, end_of, go_refusal, gone_on, onto, part_after, refusal}
-use Rattle.executor_model.specs.Steps.{settled, settled_by, stack, step, stepped, top, unless, waits}
+use Rattle.executor_model.specs.Steps.{Machine, Part, after, below_top, end_of, go_refusal, gone_on, onto, refusal}
+use Rattle.executor_model.specs.Steps.{settled, settled_by, stack, step, top, unless}
 use Rattle.executor_model.specs.Weights.{weigh}
 use Rattle.executor_model.specs.World.{World, Done, queue_of}
 use Rattle.executor_model.proofs.Steps.Deeds.{is_end}

@@ -1,6 +1,6 @@
 -- For what_is_made_is_new.
 -- Ticks are only added, and a poll of one begins only where it is there.
-use Rattle.std.proofs.Common.{◌≡◌, ◌≢◌, ◌∙◌, ℕ, zero, suc, ◌<◌, ◌≤◌, List, [], ◌∷◌, ◌++◌, length, Bool, true, false, ◌&&◌, eqb}
+use Rattle.std.proofs.Common.{◌≡◌, ◌∙◌, ℕ, ◌<◌, ◌≤◌, List, [], ◌∷◌, ◌++◌, length, Bool, true, false, ◌&&◌, eqb}
 use Rattle.std.proofs.Common.{refl, sym, ap, subst, arith, length-append, get_or}
 use Rattle.std.proofs.lemmas.Bool.Decides.{nat_tests}
 use Rattle.std.proofs.lemmas.List.{get_or_past, length-set}
@@ -41,7 +41,7 @@ use Rattle.executor_model.specs.declared.step.UserEnd.{UserEnd}
 use Rattle.executor_model.specs.declared.step.UserEnd.TheVariants as end
 use Rattle.executor_parts.specs.Sleepers.{next_number}
 use Rattle.executor_model.specs.Acts.{append_by}
-use Rattle.executor_model.specs.ActsOfRuns.{make_room_by, make_run_by, registered, search_own_by}
+use Rattle.executor_model.specs.ActsOfRuns.{make_room_by, make_run_by, registered}
 use Rattle.executor_model.specs.ActsOfSleepers.{copy_sleeper_by, exchange_by, fall_asleep_by, hand_out_by, leave_sleepers_by}
 use Rattle.executor_model.specs.ActsOfSleepers.{make_tick_by, polled_as, look_tick_by, sleep_again_by, sleep_anew_by, sleep_listed_by}
 use Rattle.executor_model.specs.ActsOfSleepers.{wake_up_by}
@@ -49,9 +49,9 @@ use Rattle.executor_model.specs.Doing.{act, list_act, search_by_who, sleeper_act
 use Rattle.executor_model.specs.Good.{Good}
 use Rattle.executor_model.specs.Rows.{ticking_of}
 use Rattle.executor_model.specs.Steps.{Machine, accepts, begun, has_all, has_tick, lives, mine, react, run, stack, start, top}
-use Rattle.executor_model.specs.Steps.{begin_refusal, future_of, is_known, is_unused, kept, with_future}
-use Rattle.executor_model.specs.Trace.{Trace, has}
-use Rattle.executor_model.specs.World.{Asleep, Awake, Done, Ended, Left, Listed, New, Stage, Ticker, World, done, log, put_own, run_of}
+use Rattle.executor_model.specs.Steps.{future_of, is_known, is_unused, kept, with_future}
+use Rattle.executor_model.specs.Trace.{has}
+use Rattle.executor_model.specs.World.{Asleep, Awake, Done, Ended, Left, Listed, New, Stage, Ticker, World, done, log}
 use Rattle.executor_model.specs.World.{own_of, tick_of, ticks_with}
 use Rattle.executor_model.proofs.Sleepers.SleepersAway.{Away, SleepersSeen, away-act, away-call, away-own, is_seen_asleep}
 use Rattle.executor_model.proofs.Steps.Lift.{good-start, none_refused, unsettled}

@@ -1,14 +1,12 @@
 -- For lone_ticks_take_by_their_turn.
 -- A tick that is tried alone takes the first future of the queue that its turn names.
-use Rattle.std.proofs.Common.{◌≡◌, ◌⊎◌, ◌∙◌, inl, inr, ⊎_elim, ℕ, suc, ◌+◌, ◌≤◌, List, [], ◌∷◌, ◌++◌, Bool, true, false, ◌||◌, cond}
-use Rattle.std.proofs.Common.{refl, sym, ap, subst, arith}
-use Rattle.std.proofs.lemmas.List.Folds.{list_any-append}
+use Rattle.std.proofs.Common.{◌≡◌, ◌∙◌, ⊎_elim, ℕ, ◌+◌, ◌≤◌, List, [], ◌∷◌, Bool, true, false, ◌||◌, cond}
+use Rattle.std.proofs.Common.{refl, sym, ap, arith}
 use Rattle.executor_parts.specs.declared.mark.Mark.{Mark}
 use Rattle.executor_parts.specs.declared.mark.Mark.TheVariants.{Plain, Urgent}
 use Rattle.executor_parts.specs.Marks.{first_of, other, same_mark}
 use Rattle.executor_model.specs.declared.call.Call.TheVariants as call
 use Rattle.executor_model.specs.declared.call.Reply.TheVariants as reply
-use Rattle.executor_model.specs.declared.event.Event.TheVariants as event
 use Rattle.executor_model.specs.declared.kind.Kind.{Kind}
 use Rattle.executor_model.specs.declared.step.Step.{Step}
 use Rattle.executor_model.specs.Emptiness.{IsAtRest}
@@ -50,7 +48,7 @@ module _ (s : Machine) (r : Reached s) (rest : IsAtRest s) (p : ℕ) (steps : Li
   taken : First x.mark x.future p call.TryTick reply.Yes s new
   taken = first-taken s r rest p call.TryTick reply.Yes refl steps new k x
 
-  events : Trace
+  abbrev events : Trace
   events = (found-events x.mark x.future p call.TryTick reply.Yes s new taken).grown
 
   since-told : since s new ≡ events

@@ -1,29 +1,25 @@
 -- For common_futures_are_in_reach.
 -- Each lone search takes one future from the executor's queues, and what comes into them meanwhile becomes common; so a future that
 -- is common is taken by as many searches as futures are common and become so.
-use Rattle.std.proofs.Common.{◌≡◌, ◌≢◌, ◌⊎◌, ◌∙◌, inl, inr, ⊎_elim, eqb, ℕ, zero, suc, ◌+◌, ◌<◌, ◌≤◌, List, [], ◌∷◌, ◌++◌, length, take}
+use Rattle.std.proofs.Common.{◌≡◌, ◌≢◌, ◌∙◌, ⊎_elim, eqb, ℕ, zero, suc, ◌+◌, ◌<◌, ◌≤◌, List, [], ◌∷◌, ◌++◌, length, take}
 use Rattle.std.proofs.Common.{Bool, true, false, ◌&&◌, ◌||◌, ◌==◌, ◌-◌, cond, ltb, refl, sym, ap, subst, arith, append_assoc, length-append}
 use Rattle.std.proofs.Math.Seq.{take-append_seam}
 use Rattle.std.proofs.lemmas.Bool.Decides.{nat_tests}
 use Rattle.std.proofs.lemmas.List.{append_cancel_left}
 use Rattle.std.proofs.lemmas.List.Folds.{list_any-append}
 use Rattle.std.specs.List.{list_any}
-use Rattle.executor_parts.specs.declared.mark.Mark.{Mark}
 use Rattle.executor_parts.specs.declared.mark.Mark.TheVariants.{Plain, Urgent}
-use Rattle.executor_model.specs.declared.call.Call.{Call}
-use Rattle.executor_model.specs.declared.call.Reply.{Reply}
 use Rattle.executor_model.specs.declared.event.Event.{Event}
 use Rattle.executor_model.specs.declared.event.Event.TheVariants as event
 use Rattle.executor_model.specs.declared.step.Step.TheVariants.{Begin}
 use Rattle.executor_model.specs.Due.{is_request, since_poll}
 use Rattle.executor_model.specs.Emptiness.{IsAtRest}
 use Rattle.executor_model.specs.Keeper.{IsCommon}
-use Rattle.executor_model.specs.Queues.{all_in}
 use Rattle.executor_model.specs.Sound.{times}
 use Rattle.executor_model.specs.Steps.{Machine}
 use Rattle.executor_model.specs.Trace.{Trace, has, is_dropped, is_poll}
 use Rattle.executor_model.specs.Weights.{same}
-use Rattle.executor_model.specs.World.{queue_of, queued_in}
+use Rattle.executor_model.specs.World.{queued_in}
 use Rattle.executor_model.proofs.OneFuture.Stories.{no-longer}
 use Rattle.executor_model.proofs.Steps.Lists.{same_cases, same_is, times-append}
 use Rattle.executor_model.proofs.Steps.Pushes.{any-push, since-push}

@@ -1,10 +1,10 @@
 -- For queues_are_by_mark and arrival_order_needs_fewer_ticks.
 -- Each of the executor's queues has futures of its mark alone, and no future's mark changes.
-use Rattle.std.proofs.Common.{◌≡◌, ◌≢◌, ◌⊎◌, ◌∙◌, inl, inr, ⊎_elim, ℕ, zero, suc, ◌+◌, ◌<◌, ◌≤◌, List, [], ◌∷◌, ◌++◌, length}
+use Rattle.std.proofs.Common.{◌≡◌, ◌≢◌, ◌∙◌, ⊎_elim, ℕ, zero, suc, ◌<◌, ◌≤◌, List, [], ◌∷◌, ◌++◌, length}
 use Rattle.std.proofs.Common.{get_or, drop, Bool, true, false, eqb, ltb, refl, sym, ap, subst, arith, length-append, Ok}
 use Rattle.std.proofs.lemmas.Bool.Decides.{nat_tests}
 use Rattle.std.proofs.lemmas.List.{get_or_past}
-use Rattle.std.specs.Prelude.{All, Option, Some, None, Result, reverse}
+use Rattle.std.specs.Prelude.{All, Option, Some, None, Result}
 use Rattle.queue_steps.specs.ClosableQueue.{ClosableQueue}
 use Rattle.executor_parts.specs.declared.mark.Mark.{Mark}
 use Rattle.executor_parts.specs.declared.mark.Mark.TheVariants.{Plain, Urgent}

@@ -1,7 +1,7 @@
 -- For common_futures_are_in_reach and arrival_order_needs_fewer_ticks.
 -- Lone calls that look for a future reach the common ones.
-use Rattle.std.proofs.Common.{◌≡◌, ◌≢◌, ◌⊎◌, eqb, ltb, ℕ, zero, suc, ◌+◌, ◌<◌, ◌≤◌, List, [], ◌∷◌, ◌++◌, length, get_or}
-use Rattle.std.proofs.Common.{drop, Bool, true, false, cond, ◌||◌, refl, sym, ap, subst, ◌∙◌, inl, inr, ⊎_elim, arith}
+use Rattle.std.proofs.Common.{◌≡◌, ◌≢◌, eqb, ltb, ℕ, zero, suc, ◌+◌, ◌<◌, ◌≤◌, List, [], ◌∷◌, ◌++◌, length, get_or}
+use Rattle.std.proofs.Common.{drop, Bool, true, false, cond, ◌||◌, refl, sym, ap, subst, ◌∙◌, ⊎_elim, arith}
 use Rattle.std.proofs.Common.{append-nil, append_assoc, length-append, Ok}
 use Rattle.std.proofs.Math.Seq.{drop-append_seam}
 use Rattle.std.proofs.lemmas.Bool.Decides.{nat_tests}
@@ -11,9 +11,7 @@ use Rattle.std.specs.Prelude.{All, Some, filter}
 use Rattle.executor_parts.specs.declared.mark.Mark.{Mark}
 use Rattle.executor_parts.specs.declared.mark.Mark.TheVariants.{Plain, Urgent}
 use Rattle.executor_parts.specs.Marks.{first_of, other, same_mark}
-use Rattle.executor_model.specs.declared.call.By.TheVariants as by
 use Rattle.executor_model.specs.declared.call.Call.{Call}
-use Rattle.executor_model.specs.declared.call.Call.TheVariants as call
 use Rattle.executor_model.specs.declared.call.Reply.{Reply}
 use Rattle.executor_model.specs.declared.event.Event.TheVariants as event
 use Rattle.executor_model.specs.declared.kind.Kind.{Kind}
@@ -22,7 +20,7 @@ use Rattle.executor_model.specs.declared.step.Step.TheVariants.{Begin}
 use Rattle.executor_model.specs.Trace.{Trace, has}
 use Rattle.executor_model.specs.Keeper.{IsCommon}
 use Rattle.executor_model.specs.Emptiness.{IsAtRest}
-use Rattle.executor_model.specs.Executions.{run_all, EveryMachine}
+use Rattle.executor_model.specs.Executions.{run_all}
 use Rattle.executor_model.specs.Weights.{same}
 use Rattle.executor_model.specs.Sound.{times}
 use Rattle.executor_model.specs.Steps.{Machine, run, start}
@@ -34,9 +32,9 @@ use Rattle.executor_model.proofs.Table.Entering.{queue-agrees}
 use Rattle.executor_model.proofs.Steps.TraceSteps.{IsContinued, run-continues}
 use Rattle.executor_model.proofs.Steps.Reached.{Reached, run-of, good-here, deep-here}
 use Rattle.executor_model.proofs.Steps.Tests.{or-left, or-right}
-use Rattle.executor_laws.specs.LoneEnds.{IsLoneCall, LoneCallsEnd}
+use Rattle.executor_laws.specs.LoneEnds.{IsLoneCall}
 use Rattle.executor_laws.specs.Reach.{found_answer, LoneSearch, AreLoneSearches, takes, TakesCommon}
-use Rattle.executor_laws.specs.Reach.{names, since, HasCommons, HasCommonsOf, IsInReach, IsReachedInOrder}
+use Rattle.executor_laws.specs.Reach.{names, since, HasCommons, HasCommonsOf, IsReachedInOrder}
 use Rattle.executor_laws.proofs.Reach.Reached.{bonded-here, heard-here}
 use Rattle.executor_laws.proofs.Placement.Placing.{common-queue, queue-common}
 use Rattle.executor_laws.proofs.Exactness.Ticking.{first-queued, first-times, none-queued}
@@ -91,7 +89,7 @@ grows-and s next new x y = record {
       ∙ (ap (λ (es : Trace). es ++ y.grown) x.trace ∙ append_assoc s.world.trace x.grown y.grown);
 }
 
-pub grows : (ts : List LoneSearch) (s new : Machine) → AreLoneSearches ts s new → Grows s new
+abbrev pub grows : (ts : List LoneSearch) (s new : Machine) → AreLoneSearches ts s new → Grows s new
 grows [] s new e =
     record { grown = []; trace = sym (ap (λ (m : Machine). m.world.trace) e) ∙ sym (append-nil s.world.trace) }
 grows (t ∷ ts) s new k = grows-and s k.0 new (run-grows (Begin t.party t.call ∷ t.steps) s k.0 k.1.made)
@@ -164,6 +162,14 @@ where-found m front f back w x q = ⊎_elim
     here e (g ∷ less) z = takes_before g less refl
         (ap (λ (n : Mark). left_in n w m) e ∙ left-same m g (less ++ f ∷ back) w z)
 
+one-at-most : (b : Bool) → cond b 1 0 ≤ 1
+one-at-most true = omega arith
+one-at-most false = omega arith
+
+other-none : (m : Mark) → (let i : ℕ = cond (same_mark m (other m)) 1 0 in i) ≡ 0
+other-none Plain = refl
+other-none Urgent = refl
+
 module _ (m : Mark) (f : ℕ) where
   -- the first in a queue is taken first, by so many turns that name that queue
   takes-place : (ts : List LoneSearch) (s new : Machine) → Reached s → IsAtRest s → (front back : List ℕ) →
@@ -223,18 +229,10 @@ module _ (m : Mark) (f : ℕ) where
       }
       on x a e i c further (takes_before g less z j) = again e (further less (back ++ a.added m)
           (a.queue m ∙ (ap (λ (ys : List ℕ). ys ++ a.added m) j ∙ append_assoc less (f ∷ back) (a.added m)))
-          (omega (arith, l, c, ap length z, at-most (same_mark m (first_of s.world.urgent_turns)))))
+          (omega (arith, l, c, ap length z, one-at-most (same_mark m (first_of s.world.urgent_turns)))))
       on x a e i c further (takes_other z d j) = again e (further front (back ++ a.added m)
           (a.queue m ∙ (ap (λ (ys : List ℕ). ys ++ a.added m) j ∙ append_assoc front (f ∷ back) (a.added m)))
-          (omega (arith, l, c, ap (λ (n : Mark). let i : ℕ = cond (same_mark m n) 1 0 in i) d, apart m)))
-
-      at-most : (b : Bool) → cond b 1 0 ≤ 1
-      at-most true = omega arith
-      at-most false = omega arith
-
-      apart : (m : Mark) → (let i : ℕ = cond (same_mark m (other m)) 1 0 in i) ≡ 0
-      apart Plain = refl
-      apart Urgent = refl
+          (omega (arith, l, c, ap (λ (n : Mark). let i : ℕ = cond (same_mark m n) 1 0 in i) d, other-none m)))
 
 pub record QueuePlace (f : ℕ) (xs : List ℕ) : Type 0 where
   pub front : List ℕ

@@ -56,7 +56,7 @@ use Rattle.executor_laws.specs.RunReach.{IsLonePoll, IsReachedByRuns, Keeps, Tak
 use Rattle.executor_laws.proofs.Reach.LoneSteps.{HasEntry}
 use Rattle.executor_laws.proofs.Reach.LoneTicks.{idle-none, in-range, left-true, of-party, stack-set}
 use Rattle.executor_laws.proofs.Reach.Reached.{bonded-here, heard-here}
-use Rattle.executor_laws.proofs.Placement.Placing.{common-queue, here, idle, in-own, keeper-own, own-keeper, queue-common, queued-due}
+use Rattle.executor_laws.proofs.Placement.Placing.{here, idle, in-own, keeper-own, own-keeper, queued-due}
 use Rattle.executor_laws.proofs.RunReach.RunFinds.{Heading, Heads, heads-found}
 use Rattle.executor_laws.proofs.RunReach.RunFinds.Heading.{stealing}
 use Rattle.executor_laws.proofs.RunReach.TakenUp.{answers-up, goes-up}

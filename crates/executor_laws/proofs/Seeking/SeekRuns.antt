@@ -6,12 +6,10 @@ use Rattle.std.proofs.lemmas.List.{reverse-append}
 use Rattle.std.specs.Prelude.{Some, None, reverse}
 use Rattle.executor_parts.specs.Marks.{other}
 use Rattle.executor_parts.specs.declared.mark.Mark.{Mark}
-use Rattle.executor_model.specs.declared.call.By.{By}
 use Rattle.executor_model.specs.declared.call.Call.TheVariants as call
 use Rattle.executor_model.specs.declared.call.Reply.{Reply}
 use Rattle.executor_model.specs.declared.call.Reply.TheVariants as reply
 use Rattle.executor_model.specs.declared.event.Answer.TheVariants as answer
-use Rattle.executor_model.specs.declared.event.Event.TheVariants as event
 use Rattle.executor_model.specs.declared.kind.Kind.{Kind}
 use Rattle.executor_model.specs.declared.op.Hold.{Hold}
 use Rattle.executor_model.specs.declared.op.ListOp.TheVariants as list_op
@@ -32,7 +30,6 @@ use Rattle.executor_model.specs.declared.op.Then.TheVariants as then
 use Rattle.executor_model.specs.declared.op.TickOp.TheVariants as tick_op
 use Rattle.executor_model.specs.declared.op.TickOrRun.TheVariants as tick_or_run
 use Rattle.executor_model.specs.declared.op.UserOp.TheVariants as user_op
-use Rattle.executor_model.specs.declared.op.Waker.{Waker}
 use Rattle.executor_model.specs.declared.step.Hint.{Hint}
 use Rattle.executor_model.specs.declared.step.Step.{Step}
 use Rattle.executor_model.specs.declared.step.Step.TheVariants.{Answer, Begin, Go}
@@ -43,10 +40,10 @@ use Rattle.executor_model.specs.ActsOfRuns.{search_common_by, search_own_by, sha
 use Rattle.executor_model.specs.ActsOfRuns.{steal_put_by, steal_take_by, stolen}
 use Rattle.executor_model.specs.ActsOfSleepers.{found_by}
 use Rattle.executor_model.specs.Doing.{act}
-use Rattle.executor_model.specs.Steps.{Machine, Part, accepts, begun, mine, poll_run, react, refusal, run, stack, start, step}
+use Rattle.executor_model.specs.Steps.{Machine, accepts, poll_run, react, refusal, run, stack, start, step}
 use Rattle.executor_model.specs.Steps.{stepped, top, waits}
 use Rattle.executor_model.specs.Weights.{weigh}
-use Rattle.executor_model.specs.World.{Asleep, Awake, Done, Ended, Left, Listed, New, Stage, Ticker, World, log, own_of, put_own, queue_of}
+use Rattle.executor_model.specs.World.{Asleep, Awake, Done, Ended, Left, Listed, New, Stage, Ticker, World, own_of, put_own, queue_of}
 use Rattle.executor_model.specs.World.{run_of}
 use Rattle.executor_model.proofs.Quiet.Calls.{is_end}
 use Rattle.executor_model.proofs.Steps.Lists.{weigh-append, weigh-reverse}
@@ -54,7 +51,7 @@ use Rattle.executor_model.proofs.Steps.Reached.{Reached}
 use Rattle.executor_laws.specs.PendingPolls.{CommonHadNone, IsAnswered, OtherHadNone, RunFoundNone, RunsLookFirst, Walked, run_poll}
 use Rattle.executor_laws.proofs.Fewness.AnySteps.{beside_of}
 use Rattle.executor_laws.proofs.Placement.OwnReady.{reached-on}
-use Rattle.executor_laws.proofs.Seeking.SeekStacks.{Comes, Follows, Lands, Next, Stays, answered-long, begins-so, own_part, seek}
+use Rattle.executor_laws.proofs.Seeking.SeekStacks.{Comes, Follows, Lands, Next, answered-long, begins-so, own_part, seek}
 use Rattle.executor_laws.proofs.Seeking.SeekStacks.Lands.{on, over}
 use Rattle.executor_laws.proofs.Seeking.SeekStacks.Next.{goes_on, had}
 

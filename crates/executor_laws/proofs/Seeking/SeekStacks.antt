@@ -3,9 +3,8 @@
 -- what calls inside of it do above, to the step that answers it.
 use Rattle.std.proofs.Common.{◌≡◌, ◌≢◌, ◌⊎◌, ◌∙◌, inl, inr, ⊎_elim, ℕ, ◌<◌, ◌≤◌, List, [], ◌∷◌, ◌++◌, length}
 use Rattle.std.proofs.Common.{Result, Bool, true, false, eqb, ltb, refl, sym, ap, subst, arith, append-nil, append_assoc}
-use Rattle.std.proofs.Common.{length-append, get_or-set_same, get_or-set_other}
+use Rattle.std.proofs.Common.{length-append}
 use Rattle.std.proofs.lemmas.Bool.Decides.{nat_tests}
-use Rattle.std.proofs.lemmas.List.{append_cancel_left}
 use Rattle.std.specs.Prelude.{Option, Some, None, reverse}
 use Rattle.executor_model.specs.declared.call.Call.{Call}
 use Rattle.executor_model.specs.declared.call.Reply.{Reply}
@@ -21,7 +20,7 @@ use Rattle.executor_model.specs.declared.step.StepError.{StepError}
 use Rattle.executor_model.specs.declared.step.UserEnd.{UserEnd}
 use Rattle.executor_model.specs.Doing.{act}
 use Rattle.executor_model.specs.SpawnWants.{Answers}
-use Rattle.executor_model.specs.Steps.{Machine, Part, accepts, after, answer_refusal, begin_refusal, begun, end_of, go_refusal}
+use Rattle.executor_model.specs.Steps.{Machine, Part, accepts, answer_refusal, begin_refusal, begun, end_of, go_refusal}
 use Rattle.executor_model.specs.Steps.{gone_on, mine, onto, part, part_after, part_refusal, party_of, react, refusal, settled}
 use Rattle.executor_model.specs.Steps.{stack, step, stepped, top, waits, with_part}
 use Rattle.executor_model.specs.Trace.{Trace}

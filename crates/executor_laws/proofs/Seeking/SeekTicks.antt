@@ -1,10 +1,9 @@
 -- For nothing_is_ready_where_none_was_found.
 -- The poll of a tick: where it finds a future it is answered that it is ready.
-use Rattle.std.proofs.Common.{◌≡◌, ◌≢◌, ◌∙◌, inl, inr, ℕ, List, [], ◌∷◌, ◌++◌, length, Bool, true, false, refl, sym, ap, subst}
+use Rattle.std.proofs.Common.{◌≡◌, ◌≢◌, ◌∙◌, inl, inr, ℕ, List, [], ◌∷◌, true, false, refl, sym, ap, subst}
 use Rattle.std.specs.Prelude.{Some, None}
 use Rattle.executor_parts.specs.Marks.{other}
 use Rattle.executor_parts.specs.declared.mark.Mark.{Mark}
-use Rattle.executor_model.specs.declared.call.By.{By}
 use Rattle.executor_model.specs.declared.call.Call.TheVariants as call
 use Rattle.executor_model.specs.declared.call.Reply.{Reply}
 use Rattle.executor_model.specs.declared.call.Reply.TheVariants as reply
@@ -24,13 +23,13 @@ use Rattle.executor_model.specs.declared.step.Step.TheVariants.{Answer, Begin, G
 use Rattle.executor_model.specs.declared.step.UserEnd.{UserEnd}
 use Rattle.executor_model.specs.ActsOfSleepers.{look_tick_by}
 use Rattle.executor_model.specs.Doing.{act}
-use Rattle.executor_model.specs.Steps.{Machine, Part, accepts, react, refusal, run, stack, start, step, stepped, top, waits}
+use Rattle.executor_model.specs.Steps.{Machine, accepts, react, refusal, run, stack, start, step, stepped, top, waits}
 use Rattle.executor_model.specs.World.{Asleep, Awake, Done, Left, Ticker, World, place_of, queue_of}
 use Rattle.executor_model.proofs.Quiet.Calls.{is_end}
 use Rattle.executor_model.proofs.Steps.Reached.{Reached}
 use Rattle.executor_laws.specs.PendingPolls.{IsAnswered, TickFoundNone, TickSecondNone, TicksLookFirst, tick_poll}
 use Rattle.executor_laws.proofs.Placement.OwnReady.{reached-on}
-use Rattle.executor_laws.proofs.Seeking.SeekStacks.{Comes, Follows, Lands, Next, Stays, answered-long, begins-so, own_part, seek}
+use Rattle.executor_laws.proofs.Seeking.SeekStacks.{Comes, Follows, Lands, Next, begins-so, own_part, seek}
 use Rattle.executor_laws.proofs.Seeking.SeekStacks.Lands.{on, over}
 use Rattle.executor_laws.proofs.Seeking.SeekStacks.Next.{goes_on, had}
 

@@ -318,7 +318,8 @@ beside-act p h (op.Closing closing_op.TakeOut) w n =
     besides w _ (λ t. refl) (aside-closing sits_of (λ o. refl) w.table w.waking)
 beside-act p h (op.Closing closing_op.DropNext) w n = beside-drop_next p w _
 beside-act p h (op.Closing closing_op.WakeNext) w n = beside-wake_next p w _
-beside-act p h (op.Closing (closing_op.Close mark)) w n = besides w _ (λ t. refl) refl
+beside-act p h (op.Closing (closing_op.Close Urgent)) w n = besides w _ (λ t. refl) refl
+beside-act p h (op.Closing (closing_op.Close Plain)) w n = besides w _ (λ t. refl) refl
 beside-act p h (op.Closing (closing_op.Drain mark)) w n = beside-drain mark p w _
 beside-act p h (op.Closing closing_op.LeakOut) w n = beside-leak_out _ w
 beside-act p h (op.Closing closing_op.LeakNext) w n = beside-leak_next _ p w _

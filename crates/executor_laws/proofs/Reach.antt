@@ -6,6 +6,7 @@ pub mod LoneSteps
 pub mod LoneTicks
 pub mod LoneBegins
 pub mod Marked
+pub mod Spots
 pub mod Searching
 pub mod Reaching
 pub mod Counting

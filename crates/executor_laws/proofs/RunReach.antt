@@ -2,6 +2,7 @@
 -- kept_futures_are_in_reach and dropped_runs_leave_common_futures.
 pub mod RunFinds
 pub mod RunWalks
+pub mod RunArrives
 pub mod RunReaching
 pub mod RunLeaves
 pub mod RunDrops

@@ -71,7 +71,8 @@ pub fn traces_continue()
 {}
 
 /// Whoever is answered no is answered at once. Of what a party did, in whatever calls, an answer no stands
-/// right behind the beginning of the call that it answers; others may do anything meanwhile.
+/// right behind the beginning of the call that it answers, or behind the one turn that follows that; others
+/// may do anything meanwhile.
 pub fn no_comes_at_once()
     ensures { EveryTrace NoComesAtOnce }
 {}
@@ -148,8 +149,8 @@ pub fn ended_runs_are_finished()
     ensures { (s : Machine) → EndedIsFinished s }
 {}
 
-/// Where no call is in progress and the drop of the executor hasn't begun, the Runnable of a due future stands in the
-/// executor's queue exactly where the future is common, and in a run's own queue exactly where that run is its keeper.
+/// Where no call is in progress and the drop of the executor hasn't begun, the Runnable of a due future stands in
+/// one of the executor's queues exactly where the future is common, and in a run's own queue exactly where that run is its keeper.
 pub fn due_futures_stand_with_their_keepers()
     ensures { EveryMachine StandsWithKeeper }
 {}

@@ -8,7 +8,8 @@ use Rattle.executor_model.specs.declared.op.ClosingOp.{ClosingOp}
 use Rattle.executor_model.specs.declared.op.ClosingOp.TheVariants as closing_op
 use Rattle.executor_model.specs.declared.op.Op.TheVariants as op
 use Rattle.executor_model.specs.declared.op.UserOp.TheVariants as user_op
-use Rattle.executor_model.specs.Acts.{close, closing_ops, drain_by, drop_next_by, leak_next_by, leak_out_by, leaking_ops, wake, wake_next_by}
+use Rattle.executor_model.specs.Acts.{close, closing_ops, drain_by, drop_next_by, leak_next_by, leak_out_by, leaking_ops, wake}
+use Rattle.executor_model.specs.Acts.{wake_next_by}
 use Rattle.executor_model.specs.Doing.{closing_act}
 use Rattle.executor_model.specs.World.{World}
 use Rattle.call_steps.specs.declared.saw.Saw.TheVariants as saw

@@ -47,7 +47,8 @@ of-take w (First mark) [] = refl
 of-take w (Second mark) [] = refl
 of-take w look (f ∷ fs) = refl
 
-of-append : (b : Bool) (w : World) (mark : Mark) (f : ℕ) → steps_of (append_by b w mark f).next ≡ next_queue (queue_step.Append f) (allowed b)
+of-append : (b : Bool) (w : World) (mark : Mark) (f : ℕ) →
+    steps_of (append_by b w mark f).next ≡ next_queue (queue_step.Append f) (allowed b)
 of-append true w mark f = refl
 of-append false w mark f = refl
 

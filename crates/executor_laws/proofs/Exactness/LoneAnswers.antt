@@ -35,7 +35,8 @@ use Rattle.executor_laws.proofs.Reach.Reached.{bonded-here, heard-here}
 use Rattle.executor_laws.specs.Reach.{TakesCommon}
 use Rattle.executor_laws.proofs.Placement.Placing.{idle}
 use Rattle.executor_laws.proofs.Reach.LoneTicks.{left-true, in-range, of-party, after-is, no-more}
-use Rattle.executor_laws.proofs.Reach.Searching.{AllEmpty, First, Spot, first-taken, none-found, spot}
+use Rattle.executor_laws.proofs.Reach.Spots.{AllEmpty, Spot, spot}
+use Rattle.executor_laws.proofs.Reach.Searching.{First, first-taken, none-found}
 use Rattle.executor_laws.proofs.Reach.Reaching.{spot-common, takes-common}
 
 -- a call has one answer

@@ -64,7 +64,8 @@ use Rattle.executor_model.specs.Doing.{act, sleeper_act}
 use Rattle.executor_model.specs.Steps.{accepts, react, waits}
 use Rattle.executor_model.specs.Trace.{Trace, has}
 use Rattle.executor_model.specs.Weights.{weigh}
-use Rattle.executor_model.specs.World.{Asleep, Awake, Left, Run, Ticker, World, among, awaiter_of, log, log_if, no_run, run_of, runs_with, task}
+use Rattle.executor_model.specs.World.{Asleep, Awake, Left, Run, Ticker, World, among, awaiter_of, log, log_if, no_run, run_of}
+use Rattle.executor_model.specs.World.{runs_with, task}
 use Rattle.executor_parts.specs.Sleepers.{waker_of}
 use Rattle.executor_model.proofs.Steps.Lists.{weigh-append}
 use Rattle.executor_model.proofs.Steps.SleepersNext.{goes-unseen}

@@ -22,7 +22,8 @@ use Rattle.executor_model.specs.Doing.{act}
 use Rattle.executor_model.specs.Emptiness.{IsAtRest}
 use Rattle.executor_model.specs.Executions.{run_all}
 use Rattle.executor_model.specs.Rows.{running_of}
-use Rattle.executor_model.specs.Steps.{Machine, Part, accepts, end_of, onto, part, react, run, settled, settled_by, stack, start, top, with_part}
+use Rattle.executor_model.specs.Steps.{Machine, Part, accepts, end_of, onto, part, react, run, settled, settled_by, stack}
+use Rattle.executor_model.specs.Steps.{start, top, with_part}
 use Rattle.executor_model.specs.Trace.{Trace}
 use Rattle.executor_model.specs.Weights.{weigh}
 use Rattle.executor_model.specs.World.{Done, World, log, run_of}

@@ -351,7 +351,8 @@ leaves-look : (look : Look) (r : ℕ) (x : Ticker) (w : World) (q : List ℕ) (s
 leaves-look (First mark) r x w [] s = record { off = omega arith; dropping = omega arith; readying = omega arith }
 leaves-look (Second mark) r x w [] s = record { off = omega arith; dropping = omega arith; readying = omega arith }
 leaves-look look r Awake w (f ∷ rest) s = record { off = omega (arith, off-held r s.who); dropping = omega arith; readying = omega arith }
-leaves-look look r (Asleep n) w (f ∷ rest) s = record { off = omega (arith, off-held r s.who); dropping = omega arith; readying = omega arith }
+leaves-look look r (Asleep n) w (f ∷ rest) s =
+    record { off = omega (arith, off-held r s.who); dropping = omega arith; readying = omega arith }
 leaves-look look r Left w (f ∷ rest) s = record { off = omega (arith, off-held r s.who); dropping = omega arith; readying = omega arith }
 
 leaves-by : (b : Bool) (r p : ℕ) (h : Hint) (o : Op) (w : World) → leaves o ≡ b → is_end o ≡ false →

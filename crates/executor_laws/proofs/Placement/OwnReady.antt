@@ -42,7 +42,8 @@ use Rattle.executor_model.specs.Steps.{mine, onto, part_after, part_refusal, par
 use Rattle.executor_model.specs.Steps.{stack, start, step, step_by, stepped, top, unless}
 use Rattle.executor_model.specs.Trace.{has}
 use Rattle.executor_model.specs.Weights.{is_run, same, weigh, weigh_all}
-use Rattle.executor_model.specs.World.{World, Stage, New, Listed, Ended, Run, Done, Ticker, Asleep, Awake, Left, log, new_run, no_run, place_of, put_own}
+use Rattle.executor_model.specs.World.{World, Stage, New, Listed, Ended, Run, Done, Ticker, Asleep, Awake, Left, log, new_run}
+use Rattle.executor_model.specs.World.{no_run, place_of, put_own}
 use Rattle.executor_model.specs.World.{queue_of, run_of}
 use Rattle.executor_model.proofs.OwnQueues.RunsAside.{hull_of}
 use Rattle.executor_model.proofs.OwnQueues.RunsDone.{Deed, deed-act}

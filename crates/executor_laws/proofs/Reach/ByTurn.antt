@@ -21,7 +21,8 @@ use Rattle.executor_laws.specs.Reach.{IsLoneTick, names, since, takes}
 use Rattle.executor_laws.proofs.Exactness.Ticking.{first-times}
 use Rattle.executor_laws.proofs.Reach.Marked.{marked-here}
 use Rattle.executor_laws.proofs.Reach.Reaching.{common-spot, found-events, has-around, in-queue, one-turn, since-is, spot-common}
-use Rattle.executor_laws.proofs.Reach.Searching.{First, Spot, first-taken, named}
+use Rattle.executor_laws.proofs.Reach.Spots.{Spot, named}
+use Rattle.executor_laws.proofs.Reach.Searching.{First, first-taken}
 
 -- what is told is counted
 counted : (m : Mark) (es : Trace) → has (names m) es ≡ true → 1 ≤ named m es

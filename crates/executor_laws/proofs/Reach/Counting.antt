@@ -31,7 +31,8 @@ use Rattle.executor_laws.specs.Reach.{AreLoneSearches, BecomesCommon, Coming, Ha
 use Rattle.executor_laws.proofs.Placement.Placing.{common-queue, queue-common}
 use Rattle.executor_laws.proofs.Reach.Reached.{bonded-here, heard-here}
 use Rattle.executor_laws.proofs.Reach.Reaching.{Grows, common-spot, found-events, grows, has-around, run-grows, since-is}
-use Rattle.executor_laws.proofs.Reach.Searching.{First, Spot, at-rest, first-taken, reached-new}
+use Rattle.executor_laws.proofs.Reach.Spots.{Spot}
+use Rattle.executor_laws.proofs.Reach.Searching.{First, at-rest, first-taken, reached-new}
 
 -- somewhere between it becomes common
 module _ (g : ℕ) (es : Trace) (from : ℕ) (before : ¬ IsCommon g (take from es)) where

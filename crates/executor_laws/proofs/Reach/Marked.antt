@@ -25,7 +25,8 @@ use Rattle.executor_model.specs.Executions.{run_all}
 use Rattle.executor_model.specs.Good.{Good, pasts}
 use Rattle.executor_model.specs.Rows.{past_of}
 use Rattle.executor_model.specs.Sound.{times}
-use Rattle.executor_model.specs.Steps.{Machine, after, answer_refusal, begun, below_top, gone_on, mine, part_after, part_refusal, react, refusal}
+use Rattle.executor_model.specs.Steps.{Machine, after, answer_refusal, begun, below_top, gone_on, mine, part_after}
+use Rattle.executor_model.specs.Steps.{part_refusal, react, refusal}
 use Rattle.executor_model.specs.Steps.{run, settled_by, stack, start, step, stepped, top}
 use Rattle.executor_model.specs.Weights.{past, same, weigh, weigh_all}
 use Rattle.executor_model.specs.World.{World, Done, log, mark_of, queue_of, queued_in}

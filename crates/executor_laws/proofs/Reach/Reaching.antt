@@ -39,8 +39,10 @@ use Rattle.executor_laws.proofs.Reach.Reached.{bonded-here, heard-here}
 use Rattle.executor_laws.proofs.Placement.Placing.{common-queue, queue-common}
 use Rattle.executor_laws.proofs.Exactness.Ticking.{first-queued, first-times, none-queued}
 use Rattle.executor_laws.proofs.Reach.Marked.{all-before, marked-here}
-use Rattle.executor_laws.proofs.Reach.Searching.{AllEmpty, First, Spot, at-rest, first-taken, left-other, left-same, left_in, named}
-use Rattle.executor_laws.proofs.Reach.Searching.{named-append, named-filter, reached-new, spot}
+use Rattle.executor_laws.proofs.Reach.Spots.{AllEmpty, Spot, left-other, left-same, left_in, named}
+use Rattle.executor_laws.proofs.Reach.Searching.{First, at-rest, first-taken}
+use Rattle.executor_laws.proofs.Reach.Spots.{named-append, named-filter, spot}
+use Rattle.executor_laws.proofs.Reach.Searching.{reached-new}
 
 module _ (s : Machine) (r : Reached s) (rest : IsAtRest s) where
   -- where a future is common, some queue isn't empty

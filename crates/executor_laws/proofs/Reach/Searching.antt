@@ -1,13 +1,12 @@
 -- For common_futures_are_in_reach and arrival_order_needs_fewer_ticks.
 -- A lone call that looks for a future takes the one that is first in the queue.
-use Rattle.std.proofs.Common.{◌≡◌, ◌⊎◌, ℕ, ◌+◌, ◌<◌, ◌≤◌, List, [], ◌∷◌, ◌++◌, length, set, drop, cond}
+use Rattle.std.proofs.Common.{◌≡◌, ℕ, ◌<◌, ◌≤◌, List, [], ◌∷◌, ◌++◌, length, set, cond}
 use Rattle.std.proofs.Common.{Bool, true, false, ◌||◌, ltb, refl, sym, ap, ◌∙◌, subst, inl, inr, ⊎_elim}
 use Rattle.std.proofs.Common.{arith, get_or-set_same, append-nil, append_assoc, Ok}
 use Rattle.std.proofs.lemmas.Bool.Decides.{nat_tests}
 use Rattle.std.proofs.lemmas.List.Folds.{list_any-append}
-use Rattle.std.specs.Prelude.{Option, Some, None, filter}
+use Rattle.std.specs.Prelude.{Option, Some, None}
 use Rattle.executor_parts.specs.declared.mark.Mark.{Mark}
-use Rattle.executor_parts.specs.declared.mark.Mark.TheVariants.{Plain, Urgent}
 use Rattle.executor_parts.specs.Marks.{first_of, other, same_mark}
 use Rattle.queue_steps.specs.ClosableQueue.{taken}
 use Rattle.executor_model.specs.declared.call.By.{By}
@@ -16,7 +15,6 @@ use Rattle.executor_model.specs.declared.call.Call.TheVariants as call
 use Rattle.executor_model.specs.declared.call.Reply.{Reply}
 use Rattle.executor_model.specs.declared.call.Reply.TheVariants as reply
 use Rattle.executor_model.specs.declared.event.Event.TheVariants as event
-use Rattle.executor_model.specs.declared.event.Event.{Event}
 use Rattle.executor_model.specs.declared.op.Hold.{Hold}
 use Rattle.executor_model.specs.declared.op.Hold.TheVariants as hold
 use Rattle.executor_model.specs.declared.op.Look.{Look}
@@ -43,7 +41,6 @@ use Rattle.executor_model.specs.Doing.{act}
 use Rattle.executor_model.specs.Executions.{run_all}
 use Rattle.executor_model.specs.Sound.{times}
 use Rattle.executor_model.specs.Good.{Good}
-use Rattle.executor_model.specs.Queues.{queue_in}
 use Rattle.executor_model.specs.Steps.{Machine, Part, accepts, stack, onto, part, part_after, settled, with_part, waker_of as given}
 use Rattle.executor_model.specs.Weights.{weigh}
 use Rattle.executor_model.proofs.OneFuture.Stories.{among_is}
@@ -52,90 +49,17 @@ use Rattle.executor_model.proofs.Table.Entering.{table-agrees}
 use Rattle.executor_model.proofs.Polls.AskingExecutions.{Heard}
 use Rattle.executor_model.proofs.Quiet.Resting.{rests}
 use Rattle.executor_laws.specs.LoneEnds.{are_onward_of, IsLoneCall}
-use Rattle.executor_laws.specs.Reach.{found_answer, names, takes}
+use Rattle.executor_laws.specs.Reach.{found_answer, takes}
 use Rattle.executor_laws.proofs.Placement.Placing.{here, idle, queue-common}
 use Rattle.executor_laws.proofs.Exactness.Ticking.{ticking, first-queued}
 use Rattle.executor_laws.proofs.Reach.Reached.{bonded-here, heard-here}
-use Rattle.executor_laws.proofs.Reach.LoneMoves.{is_turn, stray_of}
+use Rattle.executor_laws.proofs.Reach.LoneMoves.{stray_of}
 use Rattle.executor_laws.proofs.Reach.LoneSteps.{Ended, HasEntry, answering}
 use Rattle.executor_laws.proofs.Reach.LoneTicks.{At, Next, in-range, next, no-more, walks}
-use Rattle.executor_model.proofs.Steps.QueuesByMark.{without_first_of}
 use Rattle.executor_model.proofs.Steps.Reached.{Reached, run-first, reached-more, reached-step, good-here, deep-here}
 use Rattle.executor_model.proofs.Steps.Tests.{or-left}
-
--- so many turns named this mark
-abbrev pub named : Mark → Trace → ℕ
-named m [] = 0
-named m (e ∷ es) = cond (names m e) 1 0 + named m es
-
-pub named-append : (m : Mark) (xs ys : Trace) → named m (xs ++ ys) ≡ named m xs + named m ys
-named-append m [] ys = omega arith
-named-append m (x ∷ xs) ys = omega (arith, named-append m xs ys)
-
-pub named-filter : (m : Mark) (es : Trace) → length (filter (names m) es) ≡ named m es
-named-filter m [] = refl
-named-filter m (e ∷ es) = omega (arith, one (names m e), named-filter m es)
-  where
-    one : (b : Bool) → length (cond b (e ∷ filter (names m) es) (filter (names m) es))
-        ≡ cond b 1 0 + length (filter (names m) es)
-    one true = omega arith
-    one false = omega arith
-
-named-none : (m : Mark) (es : Trace) → has is_turn es ≡ false → named m es ≡ 0
-named-none m [] k = refl
-named-none m (e ∷ es) k = omega (
-  arith,
-  quiet e (left-no (is_turn e) (has is_turn es) k).0,
-  named-none m es (left-no (is_turn e) (has is_turn es) k).1,
-)
-  where
-    left-no : (a b : Bool) → (a || b) ≡ false → (a ≡ false) × (b ≡ false)
-    left-no true b q = absurd (cc)
-    left-no false b q = (refl, q)
-
-    quiet : (e : Event) → is_turn e ≡ false → (let n : ℕ = cond (names m e) 1 0 in n) ≡ 0
-    quiet (event.Looked p n) q = absurd (cc)
-    quiet _ q = refl
-
--- what is left in each queue once the first future of that one is taken
-abbrev pub left_in : Mark → World → Mark → List ℕ
-left_in m w n = (queue_in n (without_first_of m w.queues)).items
-
-pub left-same : (m : Mark) (f : ℕ) (xs : List ℕ) (w : World) → (queue_of w m).items ≡ f ∷ xs → left_in m w m ≡ xs
-left-same Urgent f xs w q = ap (drop 1) q
-left-same Plain f xs w q = ap (drop 1) q
-
-pub left-other : (m : Mark) (w : World) → left_in m w (other m) ≡ (queue_of w (other m)).items
-left-other Urgent w = refl
-left-other Plain w = refl
-
--- which future a search takes that is made alone: the first of the queue that its turn names, or, where that is empty, the
--- first of the other one
-pub record Spot (w : World) : Type 0 where
-  pub mark : Mark
-  pub future : ℕ
-  pub rest : List ℕ
-  pub is : (queue_of w mark).items ≡ future ∷ rest
-  pub turn : (mark ≡ first_of w.urgent_turns) ⊎
-      ((mark ≡ other (first_of w.urgent_turns)) × ((queue_of w (first_of w.urgent_turns)).items ≡ []))
-
-abbrev pub AllEmpty : World → Type 0
-AllEmpty w = ((queue_of w (first_of w.urgent_turns)).items ≡ []) × ((queue_of w (other (first_of w.urgent_turns))).items ≡ [])
-
-pub spot : (w : World) → AllEmpty w ⊎ Spot w
-spot w = by _ _ refl refl
-  where
-    by : (xs ys : List ℕ) → (queue_of w (first_of w.urgent_turns)).items ≡ xs →
-        (queue_of w (other (first_of w.urgent_turns))).items ≡ ys → AllEmpty w ⊎ Spot w
-    by [] [] q u = inl (q, u)
-    by [] (f ∷ ys) q u = inr record {
-      mark = other (first_of w.urgent_turns);
-      future = f;
-      rest = ys;
-      is = u;
-      turn = inr (refl, q);
-    }
-    by (f ∷ xs) ys q u = inr record { mark = first_of w.urgent_turns; future = f; rest = xs; is = q; turn = inl refl }
+use Rattle.executor_laws.proofs.Reach.Spots.{AllEmpty, Spot, left_in, named, named-append}
+use Rattle.executor_laws.proofs.Reach.Spots.{named-none}
 
 -- what a lone call that looks leads to, where there is a future to run
 pub record First (m : Mark) (f p : ℕ) (c : Call) (r : Reply) (s new : Machine) : Type 0 where

@@ -244,7 +244,8 @@ lines-own [] w x e = one x.run w (op.Run (run_op.TakeTurn x)) refl
 lines-own (f ∷ rest) w x e = lines-first w x f rest e
 
 -- its own queue is empty then
-lines-common : (look : Look) (xs : List ℕ) (w : World) (x : RunPoll) → own_of w x.run ≡ [] → Lines x.run (own_of w x.run) (search_common_by xs w x look)
+lines-common : (look : Look) (xs : List ℕ) (w : World) (x : RunPoll) → own_of w x.run ≡ [] →
+    Lines x.run (own_of w x.run) (search_common_by xs w x look)
 lines-common (First mark) [] w x e = one x.run w (op.Run (run_op.SearchCommon x (Second (other mark)))) refl
 lines-common (Second mark) [] w x e = one x.run w (op.List (list_op.LockRead x)) refl
 lines-common look (f ∷ rest) w x e =
@@ -365,7 +366,8 @@ pub data Goes (q : ℕ) (front : List ℕ) (d : Done) : Type 0 where
   over : d.next ≡ [] → own_of d.world q ≡ front → Goes q front d
 
 pub lines-act : (q p : ℕ) (h : Hint) (c : Op) (w : World) → Control q c →
-    ((x : RunPoll) (look : Look) → c ≡ op.Run (run_op.SearchCommon x look) → own_of w x.run ≡ []) → Goes q (hand_of c ++ own_of w q) (act p h c w)
+    ((x : RunPoll) (look : Look) → c ≡ op.Run (run_op.SearchCommon x look) → own_of w x.run ≡ []) →
+    Goes q (hand_of c ++ own_of w q) (act p h c w)
 lines-act q p h (op.Tick (tick_op.Search s)) w e k =
     subst (λ (who : TickOrRun). Goes q (own_of w q) (search_by_who who p w s)) (sym e)
     (on (lines-own (own_of w q) w (record { run = q; waker = s.waker; poll = s.poll }) refl))

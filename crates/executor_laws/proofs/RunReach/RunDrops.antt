@@ -130,7 +130,8 @@ module _ (p r f : ℕ) (new : Machine) (idles : stack new p ≡ []) where
             (gone-onto p (act p h (op.Queue (queue_op.Append g)) s.world) (op.Run (run_op.Reschedule r a) ∷ [])
             ∙ (i.there ∙ there))
             (from-append p r f g a _ s.world (mark_of s.world g) rest
-            (has-room (queue_of s.world (mark_of s.world g)).closed (length (queue_of s.world (mark_of s.world g)).items) s.world.limit open_queue
+            (has-room (queue_of s.world (mark_of s.world g)).closed
+            (length (queue_of s.world (mark_of s.world g)).items) s.world.limit open_queue
             (has-place s p g (op.Run (run_op.Reschedule r a) ∷ []) l e (good-here s y) (heard-here s y).placed
             (mark_of s.world g))) w k)
             y2 n2 on2 l

@@ -47,7 +47,8 @@ use Rattle.executor_laws.proofs.Placement.Placing.{in-own, keeper-own, own-keepe
 use Rattle.executor_laws.proofs.Reach.Reaching.{Grows, QueuePlace, Takes, grows-and, place, run-grows}
 use Rattle.executor_laws.proofs.RunReach.RunLeaves.{gone-onto}
 use Rattle.executor_laws.proofs.RunReach.RunFinds.{Heading, light-no-end}
-use Rattle.executor_laws.proofs.RunReach.RunReaching.{arrived, entry, is-due, new-idle, poll, reached-new, takes-first}
+use Rattle.executor_laws.proofs.RunReach.RunArrives.{entry}
+use Rattle.executor_laws.proofs.RunReach.RunReaching.{arrived, is-due, new-idle, poll, reached-new, takes-first}
 use Rattle.executor_laws.proofs.RunReach.RunReaching.First.{in_own}
 use Rattle.executor_laws.proofs.RunReach.RunSteps.{After, Aside, Control, Goes, Tracked, after-control, after-own, aside-act}
 use Rattle.executor_laws.proofs.RunReach.RunSteps.Goes.{ends, finds, finds_behind, on as on_with}

@@ -46,11 +46,13 @@ use Rattle.executor_laws.proofs.Reach.Reaching.{QueuePlace, Takes, place, run-gr
 use Rattle.executor_laws.proofs.Reach.Reaching as reaching
 use Rattle.executor_laws.proofs.Reach.Marked.{all-before}
 use Rattle.executor_laws.proofs.Reach.Reaching.{none-urgent}
-use Rattle.executor_laws.proofs.Reach.Searching.{Spot, at-rest}
+use Rattle.executor_laws.proofs.Reach.Spots.{Spot}
+use Rattle.executor_laws.proofs.Reach.Searching.{at-rest}
 use Rattle.executor_laws.proofs.RunReach.RunKeeps.{So, grows-polls, so-more, takes-between, takes-later, takes-now}
 use Rattle.executor_laws.proofs.RunReach.RunKeeps as keeping
 use Rattle.executor_laws.proofs.RunReach.RunLeaves.{gone-onto}
-use Rattle.executor_laws.proofs.RunReach.RunReaching.{First as Finds, arrived, entry, is-due, new-idle, poll, reached-new, takes-first}
+use Rattle.executor_laws.proofs.RunReach.RunArrives.{entry}
+use Rattle.executor_laws.proofs.RunReach.RunReaching.{First as Finds, arrived, is-due, new-idle, poll, reached-new, takes-first}
 use Rattle.executor_laws.proofs.RunReach.RunReaching.First.{in_common, in_own}
 use Rattle.executor_laws.proofs.RunReach.RunWalks.{Onward, onward}
 use Rattle.executor_laws.proofs.RunReach.RunWalks.Onward.{acted, answered}

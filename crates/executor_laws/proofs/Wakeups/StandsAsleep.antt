@@ -20,7 +20,8 @@ use Rattle.executor_model.specs.declared.op.TickOrRun.{TickOrRun}
 use Rattle.executor_model.specs.declared.op.TickOrRun.TheVariants as tick_or_run
 use Rattle.executor_model.specs.World.{World, Ticker, Awake, Asleep, Left, Done, place_of, put_sleepers, queue_of}
 use Rattle.executor_model.specs.Acts.{copied, mark_in, waker_goes}
-use Rattle.executor_model.specs.ActsOfSleepers.{look_tick, look_tick_by, search_tick, copy_sleeper_by, held_as, sleep_nowhere, pend_as, sleep_anew_by}
+use Rattle.executor_model.specs.ActsOfSleepers.{look_tick, look_tick_by, search_tick, copy_sleeper_by, held_as, sleep_nowhere}
+use Rattle.executor_model.specs.ActsOfSleepers.{pend_as, sleep_anew_by}
 use Rattle.executor_model.specs.ActsOfSleepers.{sleeper_goes, sleep_listed_by, sleep_again_by, fall_asleep_by}
 use Rattle.executor_model.specs.Weights.{same}
 use Rattle.executor_model.proofs.Steps.SleepersCounting.{asleep}

@@ -29,7 +29,8 @@ use Rattle.executor_model.proofs.OneFuture.Telling.{one-stray}
 use Rattle.executor_laws.proofs.Wakeups.Beside.{holds_some, sits_of}
 use Rattle.executor_laws.proofs.Wakeups.Sitting.{cond-other, eq_who, holds_it, is-cond, is_it, other}
 use Rattle.executor_laws.proofs.Wakeups.Stands.{is_ready, is_answer, used_of, early_of, pends_of, refused_of, found_of, ends_of}
-use Rattle.executor_laws.proofs.Wakeups.Stands.{waking_up_of, drops_of, drops_who, odd_look, odd_of, strays_of, calls_of, Doing, early_section}
+use Rattle.executor_laws.proofs.Wakeups.Stands.{waking_up_of, drops_of, drops_who, odd_look, odd_of, strays_of, calls_of, Doing}
+use Rattle.executor_laws.proofs.Wakeups.Stands.{early_section}
 use Rattle.executor_laws.proofs.Wakeups.Stands.{used_section, strays_section, stray, with_doing, Nothing}
 use Rattle.executor_laws.proofs.Wakeups.Watched.{is_pending, is_refusal}
 

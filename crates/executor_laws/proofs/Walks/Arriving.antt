@@ -50,10 +50,12 @@ use Rattle.executor_laws.proofs.Exactness.Ticking.{first-queued, first-times, no
 use Rattle.executor_laws.proofs.Placement.Placing.{due-queued, here, idle, in-own, queued-due}
 use Rattle.executor_laws.proofs.Reach.LoneTicks.{idle-none, in-range, left-true, of-party, stack-set}
 use Rattle.executor_laws.proofs.Reach.Reached.{bonded-here, heard-here}
-use Rattle.executor_laws.proofs.Reach.Searching as common
-use Rattle.executor_laws.proofs.Reach.Searching.{AllEmpty}
-use Rattle.executor_laws.proofs.RunReach.RunReaching.{is-due, new-idle, poll, registered-gone, registered-own, registered-queue}
-use Rattle.executor_laws.proofs.RunReach.RunReaching.{registered-trace, taken-since, takes-first}
+use Rattle.executor_laws.proofs.Reach.Spots as common
+use Rattle.executor_laws.proofs.Reach.Spots.{AllEmpty}
+use Rattle.executor_laws.proofs.RunReach.RunArrives.{registered-gone, registered-own, registered-queue}
+use Rattle.executor_laws.proofs.RunReach.RunReaching.{is-due, new-idle, poll}
+use Rattle.executor_laws.proofs.RunReach.RunArrives.{registered-trace}
+use Rattle.executor_laws.proofs.RunReach.RunReaching.{taken-since, takes-first}
 use Rattle.executor_laws.proofs.RunReach.RunReaching.First.{in_common, in_own}
 use Rattle.executor_laws.proofs.RunReach.RunWalks.{Onward, onward}
 use Rattle.executor_laws.proofs.RunReach.RunWalks.Onward.{acted, answered}

@@ -33,7 +33,7 @@ use Rattle.executor_laws.specs.LoneEnds.{are_onward_of}
 use Rattle.executor_laws.proofs.Reach.LoneTicks.{stack-set}
 use Rattle.executor_laws.proofs.RunReach.RunFinds.{Heading}
 use Rattle.executor_laws.proofs.RunReach.RunKeeps.{So}
-use Rattle.executor_laws.proofs.RunReach.RunReaching.{entry}
+use Rattle.executor_laws.proofs.RunReach.RunArrives.{entry}
 use Rattle.executor_laws.proofs.RunReach.RunWalks.{Onward, Taken, from-heading, not-nil, onward, with-heading}
 use Rattle.executor_laws.proofs.RunReach.RunWalks.Onward.{acted, answered}
 use Rattle.executor_laws.proofs.Walks.Enrolled.{Enrolled, enrolled}

@@ -56,6 +56,20 @@ fn reserves(list: &mut VecDeque<u64>, more: usize) -> bool
     }
 }
 
+/// Room for one more future: its task, its awaiter, its mark and its Runnable. What the store stands for stays.
+fn reserves_future(store: &mut Store) -> bool
+    ensures same { world_of store.new ≡ world_of store.old }
+    ensures tasks { result ≡ true → vec_len store.new.tasks + 1 ≤ vec_capacity store.new.tasks }
+    ensures awaiters { result ≡ true → vec_len store.new.awaiters + 1 ≤ vec_capacity store.new.awaiters }
+    ensures marks { result ≡ true → vec_len store.new.marks + 1 ≤ vec_capacity store.new.marks }
+    ensures queues { result ≡ true → store.new.queues.has_room ≡ true }
+{
+    store.tasks.reserve(1).is_ok()
+        && store.awaiters.reserve(1).is_ok()
+        && store.marks.reserve(1).is_ok()
+        && store.queues.reserve().is_ok()
+}
+
 /// Room for one more in each list, and for all wakers of the table in that of those to be woken. What the store stands for
 /// stays.
 fn make_room(store: &mut Store) -> Result<(), StepError>
@@ -63,10 +77,7 @@ fn make_room(store: &mut Store) -> Result<(), StepError>
     ensures ok { OnOk result (HasRoom store.new) }
     ensures err { IfErr result (λ e. e ≡ StepError.NoMemory) }
 {
-    let room = store.tasks.reserve(1).is_ok()
-        && store.awaiters.reserve(1).is_ok()
-        && store.marks.reserve(1).is_ok()
-        && store.queues.reserve().is_ok()
+    let room = reserves_future(store)
         && store.entries.reserve().is_ok()
         && reserves(&mut store.waking, store.entries.len())
         && store.wakers.reserve(1).is_ok()

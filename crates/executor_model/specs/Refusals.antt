@@ -76,9 +76,9 @@ falls_asleep _ = false
 
 -- a call that may be refused changes nothing as it begins, and nothing as long as it may still be refused or where it
 -- is: what follows asks for memory, or ends the call with a refusal. A poll of a tick or run is told of as it begins, and
--- each search of a tick takes a turn, which is told of; a copy of its waker that is refused changes nothing; and where it fell asleep, that is kept, which changes the sleepers,
--- their flag and where it is alone. A poll of a run keeps what it did before. The making of a run that is refused makes
--- nothing, and gives the room back that it had
+-- each search of a tick takes a turn, which is told of; a copy of its waker that is refused changes nothing; and where it
+-- fell asleep, that is kept, which changes the sleepers, their flag and where it is alone. A poll of a run keeps what
+-- it did before. The making of a run that is refused makes nothing, and gives the room back that it had
 pub record RefusedChangesNothing (w : World) (p : ℕ) : Type 0 where
   pub begins : (here : Option Waker) (c : Call) → takes_no_memory c ≡ false → is_search c ≡ false →
       (begun p w here c).world ≡ w

@@ -90,8 +90,8 @@ pub fn wakes_and_drops_take_no_memory()
 {}
 
 /// A refused call changes nothing but that the trace has its beginning and its end, and that each search of a tick takes a
-/// turn: none of what else a party does from the call's beginning to the refusal does. A poll of a run keeps what it did before it was refused, and
-/// the making of a run that is refused gives the room back that it had.
+/// turn: none of what else a party does from the call's beginning to the refusal does. A poll of a run keeps what it did
+/// before it was refused, and the making of a run that is refused gives the room back that it had.
 pub fn refused_calls_change_nothing()
     ensures { (w : World) (p : ℕ) → RefusedChangesNothing w p }
 {}

@@ -39,7 +39,8 @@ use Rattle.executor_model.proofs.Counts.Counting.{cancel_going, cancel_idle, can
 use Rattle.executor_model.proofs.Awaiters.Awaited.{Awaiting, Mark, heard-push, with_awaiting, Footing}
 use Rattle.executor_model.proofs.Awaiters.Awaited.{Awaits, KeepsAwaits, kept_push}
 
-pub awaits-append : (b : Bool) (w : World) (mark : of_mark.Mark) (f : ℕ) → KeepsAwaits w (op.Queue (queue_op.Append f) ∷ []) (append_by b w mark f)
+pub awaits-append : (b : Bool) (w : World) (mark : of_mark.Mark) (f : ℕ) →
+    KeepsAwaits w (op.Queue (queue_op.Append f) ∷ []) (append_by b w mark f)
 awaits-append = by_bool _
     (λ w mark f g r yy mm bb h. let z = times-last g f mark w.queues in grind (arith, same_is))
     (λ w mark f g r yy mm bb h. grind (arith, same_is))

@@ -108,7 +108,8 @@ grows-append = by_bool _
     (λ w mark f h k. grind arith)
     (λ w mark f h k. grind arith)
 
-pub grows-take : (look : Look) (q : List ℕ) (w : World) → (queue_of w (mark_in look)).items ≡ q → Grows w (op.Queue (queue_op.Take look) ∷ []) (take_by w look q)
+pub grows-take : (look : Look) (q : List ℕ) (w : World) → (queue_of w (mark_in look)).items ≡ q →
+    Grows w (op.Queue (queue_op.Take look) ∷ []) (take_by w look q)
 grows-take (First mark) [] w e h k = grind arith
 grows-take (Second mark) [] w e h k = grind arith
 grows-take look (f ∷ rest) w e h k =

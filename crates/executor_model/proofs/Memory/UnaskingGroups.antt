@@ -41,7 +41,8 @@ use Rattle.executor_model.specs.Doing.{act, list_act, run_act}
 use Rattle.executor_model.specs.Memory.{asks, list_may_refuse, may_refuse, refuses, run_may_refuse, takes_no_memory}
 use Rattle.executor_model.specs.Memory.{AsksForNone, NeedsNoMemory, RunsWithoutMemory}
 use Rattle.executor_model.specs.Steps.{begun, drop_run, future_of, kept, poll_run, react, with_future}
-use Rattle.executor_model.proofs.Memory.Unasking.{none-let_go_by, both, none-again, none-append, none-call, none-carried, none-close, none-closing}
+use Rattle.executor_model.proofs.Memory.Unasking.{none-let_go_by, both, none-again, none-append, none-call, none-carried}
+use Rattle.executor_model.proofs.Memory.Unasking.{none-close, none-closing}
 use Rattle.executor_model.proofs.Memory.Unasking.{none-drain, none-drop_next, none-end_register, none-leave}
 use Rattle.executor_model.proofs.Memory.Unasking.{none-look_at_table, none-notify, none-register, none-take}
 use Rattle.executor_model.proofs.Memory.Unasking.{none-told, none-leak_next, none-leak_out, none-wake_next}

@@ -127,16 +127,36 @@ away-call p w o a k = away-frame w (acts.call_waker p w o a k) (frame-call p w o
 away-take : (look : Look) (q : List ℕ) (w : World) → (queue_of w (mark_in look)).items ≡ q → Away w (acts.take_by w look q)
 away-take (First mark) [] w e = away w _ refl refl refl
 away-take (Second mark) [] w e = away w _ refl refl refl
-away-take look (f ∷ rest) w e = record { sleepers_seen = refl; owes = refl; wakes_up = refl; queue = λ m. fewer-first (mark_in look) m f rest w.queues e }
+away-take look (f ∷ rest) w e = record {
+  sleepers_seen = refl;
+  owes = refl;
+  wakes_up = refl;
+  queue = λ m. fewer-first (mark_in look) m f rest w.queues e;
+}
 
 away-drain : (mark : Mark) (p : ℕ) (w : World) (q : List ℕ) → (queue_of w mark).items ≡ q → Away w (acts.drain_by p w mark q)
 away-drain Urgent p w [] e = away w _ refl refl refl
 away-drain Plain p w [] e = away w _ refl refl refl
-away-drain mark p w (f ∷ rest) e = record { sleepers_seen = refl; owes = refl; wakes_up = refl; queue = λ m. fewer-first mark m f rest w.queues e }
+away-drain mark p w (f ∷ rest) e = record {
+  sleepers_seen = refl;
+  owes = refl;
+  wakes_up = refl;
+  queue = λ m. fewer-first mark m f rest w.queues e;
+}
 
 away-close : (mark : Mark) (w : World) → Away w (acts.close w mark)
-away-close Urgent w = record { sleepers_seen = refl; owes = refl; wakes_up = refl; queue = λ m. omega (arith, ap length (items-shut Urgent m w.queues)) }
-away-close Plain w = record { sleepers_seen = refl; owes = refl; wakes_up = refl; queue = λ m. omega (arith, ap length (items-shut Plain m w.queues)) }
+away-close Urgent w = record {
+  sleepers_seen = refl;
+  owes = refl;
+  wakes_up = refl;
+  queue = λ m. omega (arith, ap length (items-shut Urgent m w.queues));
+}
+away-close Plain w = record {
+  sleepers_seen = refl;
+  owes = refl;
+  wakes_up = refl;
+  queue = λ m. omega (arith, ap length (items-shut Plain m w.queues));
+}
 
 -- runs
 
@@ -268,10 +288,16 @@ away-steal p (steal_op.OwnLength s n) w = away-stays w _ (stays-more _ w s)
 away-steal p (steal_op.Take s more) w = away-without s.from _ w s more refl refl
 away-steal p (steal_op.Put s more f) w = away-put _ p w s more f
 
-away-common : (look : Look) (q : List ℕ) (w : World) (x : RunPoll) → (queue_of w (mark_in look)).items ≡ q → Away w (runs.search_common_by q w x look)
+away-common : (look : Look) (q : List ℕ) (w : World) (x : RunPoll) → (queue_of w (mark_in look)).items ≡ q →
+    Away w (runs.search_common_by q w x look)
 away-common (First mark) [] w x e = away w _ refl refl refl
 away-common (Second mark) [] w x e = away w _ refl refl refl
-away-common look (f ∷ rest) w x e = record { sleepers_seen = refl; owes = refl; wakes_up = refl; queue = λ m. fewer-first (mark_in look) m f rest w.queues e }
+away-common look (f ∷ rest) w x e = record {
+  sleepers_seen = refl;
+  owes = refl;
+  wakes_up = refl;
+  queue = λ m. fewer-first (mark_in look) m f rest w.queues e;
+}
 
 away-looks : (q : List ℕ) (w : World) (x : RunPoll) (at left : ℕ) → Away w (runs.look_own_by q w x at left)
 away-looks [] w x at left = away-run w _ refl refl (walk-unseen owes_of no-owes-searching x w.listed at left)

@@ -105,20 +105,22 @@ module _ (mark : Mark) where
         m ≤ k → weigh wakes_up_of old ≤ k → Ground w a → Told w i → Told d.world j
 
   -- the sleepers stay, and the queue of this mark gets no longer
-  same-told : (w v : World) (i j : ℕ) → sleepers_seen w ≡ sleepers_seen v → length (queue_of v mark).items ≤ length (queue_of w mark).items → i ≤ j → Told w i →
-      Told v j
+  same-told : (w v : World) (i j : ℕ) → sleepers_seen w ≡ sleepers_seen v →
+      length (queue_of v mark).items ≤ length (queue_of w mark).items → i ≤ j → Told w i → Told v j
   same-told w v i j e q l t =
       let c : w.sleepers.count ≡ v.sleepers.count = ap (λ b. b.sleepers.count) e in
       let n : length w.sleepers.wakers ≡ length v.sleepers.wakers = ap (λ b. length b.sleepers.wakers) e in
       grind arith
 
   -- they stay, the queue of this mark gets no longer, and as many tell as before
-  pub steady : (w v : World) (old next : List Op) → sleepers_seen w ≡ sleepers_seen v → length (queue_of v mark).items ≤ length (queue_of w mark).items →
+  pub steady : (w v : World) (old next : List Op) → sleepers_seen w ≡ sleepers_seen v →
+      length (queue_of v mark).items ≤ length (queue_of w mark).items →
       weigh (tells_of mark) old ≤ weigh (tells_of mark) next → Tells w old (done v next)
   steady w v old next e q z =
       record { on = λ i j k a m x y u l r g t. same-told w v i j e q (omega (arith, x, y, z)) t }
 
-  pub quiet : (w v : World) (old next : List Op) → sleepers_seen w ≡ sleepers_seen v → length (queue_of v mark).items ≤ length (queue_of w mark).items →
+  pub quiet : (w v : World) (old next : List Op) → sleepers_seen w ≡ sleepers_seen v →
+      length (queue_of v mark).items ≤ length (queue_of w mark).items →
       weigh (tells_of mark) old ≡ 0 → Tells w old (done v next)
   quiet w v old next e q z = steady w v old next e q (omega (arith, z))
 
@@ -367,7 +369,8 @@ module _ (mark : Mark) where
   told-still w v i j e q l t =
       let c : w.sleepers.count ≡ v.sleepers.count = ap (λ s. s.count) (sym e) in
       let n : length w.sleepers.wakers ≡ length v.sleepers.wakers = ap (λ s. length s.wakers) (sym e) in
-      let m : length (queue_of w mark).items ≡ length (queue_of v mark).items = ap (λ (x : Queues). length (queue_in mark x).items) (sym q) in
+      let m : length (queue_of w mark).items ≡ length (queue_of v mark).items =
+      ap (λ (x : Queues). length (queue_in mark x).items) (sym q) in
       grind arith
 
   -- the list of queues has no part in it

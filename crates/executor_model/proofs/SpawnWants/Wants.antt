@@ -268,7 +268,8 @@ module _ (s : Machine) (here : Tops s) (f : Askings s) (exact : IsLimitExact s) 
   few p t k a r =
       let x : Found s t p = found s p here f k t a in
       let full : is_full s.world ≡ true = says-full (is_full s.world) false p s.world s.world.trace
-      (sym (step-trace s p any_hint (in-range s p (op.Table (table_op.Enter x.asks.0)) x.asks.1) x.asks) ∙ exact.always p any_hint x.asks r) in
+      (sym (step-trace s p any_hint (in-range s p (op.Table (table_op.Enter x.asks.0)) x.asks.1) x.asks)
+      ∙ exact.always p any_hint x.asks r) in
       not-both (is_full s.world) full x.free
 
   module _ (p : ℕ) (h : Hint) (asks : Asks s p) (none : ¬ ReachLimit s (λ g. Remains g s)) where

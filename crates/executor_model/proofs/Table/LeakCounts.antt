@@ -35,7 +35,8 @@ use Rattle.executor_model.specs.declared.step.Hint.{Hint}
 use Rattle.executor_model.specs.declared.step.UserEnd.{UserEnd}
 use Rattle.executor_model.specs.declared.step.UserEnd.TheVariants as end
 use Rattle.executor_model.specs.Acts.{append_by, call_awaiter, closing_ops, copy_awaiter_by, copy_by, drain_by, drop_next_by}
-use Rattle.executor_model.specs.Acts.{end_register_by, enter_by, leak_next_by, leak_out_by, leaking_ops, leave_by, let_go, look_again_by, look_by, move_by}
+use Rattle.executor_model.specs.Acts.{end_register_by, enter_by, leak_next_by, leak_out_by, leaking_ops, leave_by, let_go}
+use Rattle.executor_model.specs.Acts.{look_again_by, look_by, move_by}
 use Rattle.executor_model.specs.Acts.{notify_by, register_by, reply_of, stands_alone, take_by, wake, wake_next_by}
 use Rattle.executor_model.specs.ActsOfRuns.{call_by_reference, reschedule_by, wake_own}
 use Rattle.executor_model.specs.Carried.{awaiter_ops}
@@ -262,7 +263,8 @@ module _ (first more : ℕ) where
   goes-act p h (op.Tick o) w n = tick-blind (goes_of first more) goes-ticks goes-runs p h o w
   goes-act p h (op.List o) w n = list-blind (goes_of first more) goes-runs h o w
   goes-act p h (op.Steal o) w n = steal-blind (goes_of first more) goes-runs (λ f. refl) p o w
-  goes-act p h (op.Run o) w n = run-blind (goes_of first more) goes-runs p h o w (λ x. goes-wake_own p w x) (λ q r a. goes-reschedule w q r a)
+  goes-act p h (op.Run o) w n = run-blind (goes_of first more) goes-runs p h o w (λ x. goes-wake_own p w x)
+      (λ q r a. goes-reschedule w q r a)
   goes-act p h (op.Closing closing_op.TakeOut) w n = goes-closing w.table w.waking
   goes-act p h (op.Closing closing_op.DropNext) w n = goes-drop_next _ p w
   goes-act p h (op.Closing closing_op.WakeNext) w n = goes-wake_next _ p w

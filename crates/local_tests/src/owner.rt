@@ -2,15 +2,15 @@
 ghost use Rattle.std.specs.Prelude.{◌≡◌};
 
 use solo::{
-    Back, Dropped, Found, Kind, Lent, Look, Missed, Owed, Ran, RunLeft, Runner, Solo, SpawnError,
-    Spawned, Taken, Ticked, Ticker, Told,
+    Back, Dropped, Found, Kind, Lent, Look, Mark, Missed, Owed, Ran, RunLeft, Runner, Solo,
+    SpawnError, Spawned, Taken, Ticked, Ticker, Told,
 };
 use std::process::Abort;
 use std::sync::Wait;
 use std::test::Fail;
 
 /// Futures that give way as often as their numbers say.
-type Numbers = Solo<u64, u64, u64>;
+pub type Numbers = Solo<u64, u64, u64>;
 
 /// How far a run has come.
 #[derive(Clone, Copy)]
@@ -23,14 +23,14 @@ struct Polls {
 }
 
 /// Nobody sleeps here, and nothing came back.
-fn let_go(told: Told<u64>) {
+pub fn let_go(told: Told<u64>) {
     let Told {
         sleeper: _,
         returned: _,
     } = told;
 }
 
-fn rest_of(owed: Owed<u64, u64, u64>) -> Option<Lent>
+pub fn rest_of(owed: Owed<u64, u64, u64>) -> Option<Lent>
     ensures { result ≡ owed.rest }
 {
     let Owed {
@@ -48,7 +48,7 @@ fn rest_of(owed: Owed<u64, u64, u64>) -> Option<Lent>
 /// Spawns futures with these numbers, and says whether all were accepted.
 fn spawn_all(solo: &mut Numbers, count: u64, number: u64) -> bool {
     for _ in 0..count {
-        match solo.spawn(number) {
+        match solo.spawn(number, Mark::Plain) {
             Ok(Spawned { task: _, told }) => let_go(told),
             Err(_) => return false,
         }
@@ -57,7 +57,7 @@ fn spawn_all(solo: &mut Numbers, count: u64, number: u64) -> bool {
 }
 
 /// Polls a future, and answers the number of its task.
-fn poll(solo: &mut Numbers, found: Found<u64>) -> Option<u64> {
+pub fn poll(solo: &mut Numbers, found: Found<u64>) -> Option<u64> {
     match found {
         Found::Poll(lent, future) => Some(poll_lent(solo, lent, future)),
         Found::Drop(lent, _) => {
@@ -82,7 +82,7 @@ fn poll_lent(solo: &mut Numbers, lent: Lent, future: u64) -> u64 {
     task.number()
 }
 
-fn end(solo: &mut Numbers, lent: Lent) {
+pub fn end(solo: &mut Numbers, lent: Lent) {
     match rest_of(solo.finish(lent)) {
         None => {}
         Some(_) => unreachable!(),
@@ -142,7 +142,7 @@ fn ran_in_turn(solo: &mut Numbers, ran: Ran<u64, u64>, polls: &mut Polls, round:
 }
 
 /// A run leaves.
-fn leave(rt: &impl Wait, solo: &mut Numbers, runner: Runner, ticker: Ticker) -> bool {
+pub fn leave(rt: &impl Wait, solo: &mut Numbers, runner: Runner, ticker: Ticker) -> bool {
     let mut leaving = solo.run_leave(runner, ticker);
     for _ in rt.forever() {
         match solo.run_drain(leaving) {
@@ -164,7 +164,7 @@ fn an_owner_polls_what_it_takes(rt: HostRuntime) -> Result<(), Fail> {
     let made: Result<Numbers, _> = Solo::new(rt.alloc(), 1, Kind::Owned);
     let mut solo = made.expect(&rt, "memory");
     assert!(&rt; spawn_all(&mut solo, 1, 0));
-    match solo.spawn(7) {
+    match solo.spawn(7, Mark::Plain) {
         Err(SpawnError::Full(future)) => assert_eq!(&rt; future, 7),
         Err(SpawnError::NoMemory(_)) => assert!(&rt; false),
         Ok(Spawned { task: _, told }) => {

@@ -1,3 +1,4 @@
+pub mod Lines
 pub mod Sleepers
 pub mod Prompt
 pub mod Ticks

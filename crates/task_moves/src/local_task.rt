@@ -77,7 +77,7 @@ impl<F, T, A, M> LocalTask<F, T, A, M> {
 
     /// The metadata that the task was made with.
     pub fn metadata(&self) -> &M
-        ensures { result ≡ self.now.metadata }
+        ensures { result.now ≡ self.now.metadata }
     {
         &self.metadata
     }

@@ -8,7 +8,7 @@ invariant_of-self g c = rw (c.notify-awaiter.ensures.state, c.notify-awaiter.ens
 pub returns-clause-task : goal.returns-clause-task
 returns-clause-task g c =
     rw (c.notify-awaiter.ensures.state, c.notify-awaiter.ensures.rest, c.cancel-cancelled.ensures, sym c.self.view_is)
-    (λ i. record { task = cancelling.task c.self.invariant i; future = c.self.inside.future })
+    (λ i. record { task = cancelling.task c.self.invariant i; future = c.self.inside.future; metadata = c.self.inside.metadata })
 
 pub returns-clause-awaiter : goal.returns-clause-awaiter
 returns-clause-awaiter g c =

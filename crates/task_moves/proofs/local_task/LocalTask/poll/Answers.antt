@@ -9,7 +9,7 @@ invariant_of-self g c =
 pub returns-in-None-clause-task : goal.returns-in-None-clause-task
 returns-in-None-clause-task g c =
     rw (c.replace.ensures.after, sym c.self.view_is)
-    (λ i. record { task = answering.task_waiting _ _ c.args.waker c.poll-look.ensures c.in-None.is c.register-self-inside.ensures c.self.invariant i; future = c.self.inside.future })
+    (λ i. record { task = answering.task_waiting _ _ c.args.waker c.poll-look.ensures c.in-None.is c.register-self-inside.ensures c.self.invariant i; future = c.self.inside.future; metadata = c.self.inside.metadata })
 
 pub returns-in-None-clause-answer : goal.returns-in-None-clause-answer
 returns-in-None-clause-answer g c =
@@ -22,7 +22,7 @@ invariant_of-self-in_default g c =
 pub returns-in_default-clause-task : goal.returns-in_default-clause-task
 returns-in_default-clause-task g c =
     rw (sym c.self.view_is)
-    (λ i. record { task = answering.task_closed _ _ _ c.args.waker c.poll-look.ensures c.in-Some.is c.in_default.not-Output c.notify_nobody-self-inside.ensures (rw (sym c.self.view_is) at c.requires.handle) c.self.invariant i; future = c.self.inside.future })
+    (λ i. record { task = answering.task_closed _ _ _ c.args.waker c.poll-look.ensures c.in-Some.is c.in_default.not-Output c.notify_nobody-self-inside.ensures (rw (sym c.self.view_is) at c.requires.handle) c.self.invariant i; future = c.self.inside.future; metadata = c.self.inside.metadata })
 
 pub returns-in_default-clause-answer : goal.returns-in_default-clause-answer
 returns-in_default-clause-answer g c =

@@ -7,7 +7,7 @@ invariant_of-self g c = rw c.release-released.ensures (releasing.sound (rw (sym 
 
 pub returns-clause-task : goal.returns-clause-task
 returns-clause-task g c =
-    rw (c.release-released.ensures, sym c.self.view_is) (λ i. record { task = releasing.task (rw (sym c.self.view_is) at c.requires.held) c.self.invariant i; future = c.self.inside.future })
+    rw (c.release-released.ensures, sym c.self.view_is) (λ i. record { task = releasing.task (rw (sym c.self.view_is) at c.requires.held) c.self.invariant i; future = c.self.inside.future; metadata = c.self.inside.metadata })
 
 pub returns-clause-queue : goal.returns-clause-queue
 returns-clause-queue g c =

@@ -10,3 +10,5 @@ pub mod Frames
 pub mod Counts
 pub mod EntryWeights
 pub mod Weights
+pub mod Turning
+pub mod Looks

@@ -2,3 +2,4 @@ pub mod Calls
 pub mod Sleeping
 pub mod Futures
 pub mod Weights
+pub mod Looks

@@ -8,11 +8,12 @@ ghost use Rattle.solo.specs.declared.owed.Spawned.{Spawned};
 ghost use Rattle.solo.specs.declared.solo.Solo.{Solo};
 ghost use Rattle.solo_laws.specs.Calls.{Call, Course};
 ghost use Rattle.solo_laws.specs.Futures.{ComesBack, IsNumbered, NoneIsLost};
+ghost use Rattle.solo_laws.specs.Looks.{OneOfEightIsPlain, TakesByTurn, looks_of};
 ghost use Rattle.solo_laws.specs.Sleeping.{SomeoneIsTold};
 ghost use Rattle.solo_laws.specs.Weights.{Balances};
 
-/// Whatever is called, and with whatever names: as long as a task of either mark is queued, nobody sleeps, or one who sleeps is told. So a queued
-/// task never waits while all who could take it sleep on.
+/// Whatever is called, and with whatever names: as long as a task of either mark is queued, nobody sleeps, or one who sleeps is
+/// told. So a queued task never waits while all who could take it sleep on.
 pub fn who_sleeps_is_told<F, T, X>()
     ensures { (limit : ℕ) (kind : Kind) (calls : List (Call F T X)) (first last : Solo F T X) → IsNew limit kind first
         → Course calls first last → SomeoneIsTold last }
@@ -47,4 +48,16 @@ pub fn a_refused_future_comes_back<F, T, X>()
     ensures { (limit : ℕ) (kind : Kind) (calls : List (Call F T X)) (first last : Solo F T X) → IsNew limit kind first
         → Course calls first last → (mark : Mark) (future : F) (refused : SpawnError F) (next : Solo F T X)
         → Spawns mark future last (Err refused) next → ComesBack limit future refused last next }
+{}
+
+/// Whatever is called: of eight searches of the executor's queues in a row exactly one looks at the plain queue first. A search
+/// without a waker that finds nothing and the one with a waker that follows it count as one.
+pub fn one_look_of_eight_is_plain<F, T, X>()
+    ensures { (calls : List (Call F T X)) (first last : Solo F T X) (does : Course calls first last)
+        → OneOfEightIsPlain (looks_of calls first last does) }
+{}
+
+/// Where both queues have a task, a search takes the first of the queue at which it looks first.
+pub fn a_search_goes_by_its_turn<F, T, X>()
+    ensures { (s : Solo F T X) → TakesByTurn s }
 {}

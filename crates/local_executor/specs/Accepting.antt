@@ -11,7 +11,9 @@ use Rattle.solo.specs.Solo.{Spawns}
 
 module _ {F O W : Type 0} where
   -- one entry more, which comes last and has the future; the executor of one owner has spawned its place
-  pub record Accepts (mark : Mark) (future : F) (old new : Places F O) (spawned : Spawned W) (before after : Solo EntryPlace (Unit {0}) W) : Type 0 where
+  pub record Accepts
+      (mark : Mark) (future : F) (old new : Places F O) (spawned : Spawned W) (before after : Solo EntryPlace (Unit {0}) W)
+      : Type 0 where
     pub entry : Entry F O
     pub entered : new.entries ≡ old.entries ++ entry ∷ []
     pub inside : entry.future ≡ Some future

@@ -46,7 +46,8 @@ impl<F, T, X> Solo<F, T, X> {
     }
 
     /// One more of what is to be done at the end, until there is nothing: each future that `close` has taken out, in the order of
-    /// acceptance; then their tasks' wakes in that order; then both queues are closed, and each task in them loses its turn, first the urgent ones.
+    /// acceptance; then their tasks' wakes in that order; then both queues are closed, and each task in them loses its turn, first
+    /// the urgent ones.
     pub fn drain(&mut self) -> Option<Owed<F, T, X>>
         ensures solo { self.new ≡ closing.drained self.old }
         ensures owed { result ≡ closing.drain_answer self.old }

@@ -137,7 +137,8 @@ impl<F, T, X> Solo<F, T, X> {
         }
     }
 
-    /// The first half of a `try_tick`: the first task of the queue that the turn names, or else of the other one, and a sleeper that is told of the others.
+    /// The first half of a `try_tick`: the first task of the queue that the turn names, or else of the other one, and a sleeper
+    /// that is told of the others.
     #[inline(always)]
     pub fn take(&mut self) -> Taken<F, X>
         ensures solo { self.new ≡ solo.taken self.old }

@@ -94,7 +94,7 @@ eight_plain t eight f is =
 
 following_plain : (t : ℕ) (marks : List Mark) → Follows t marks → OneOfEightIsPlain marks
 following_plain t marks f before eight rest is eights =
-    let all : Follows t (before ++ eight ++ rest) = subst (Follows t) is f in
+    let all : Follows t (before ++ (eight ++ rest)) = subst (Follows t) is f in
     let later : Follows (after before t) (eight ++ rest) = rest_follows t before (eight ++ rest) all in
     eight_plain (after before t) eight (first_follows (after before t) eight rest later) eights
 

@@ -19,7 +19,8 @@ plain_in (Urgent ∷ marks) = plain_in marks
 
 -- of any eight that follow each other exactly one is plain
 abbrev pub OneOfEightIsPlain : List Mark → Type 0
-OneOfEightIsPlain marks = (before eight after : List Mark) → marks ≡ before ++ eight ++ after → length eight ≡ 8 → plain_in eight ≡ 1
+OneOfEightIsPlain marks =
+    (before eight after : List Mark) → marks ≡ before ++ (eight ++ after) → length eight ≡ 8 → plain_in eight ≡ 1
 
 module _ {F T X : Type 0} where
   -- the mark of the queue at which the next search looks first

@@ -16,7 +16,7 @@ use crate::sections;
 use crate::spawning::accept;
 use crate::state::State;
 use async_task::{Future, NoMemory, Wake};
-use executor_parts::Places;
+use executor_parts::{Mark, Places};
 use std::alloc::Global;
 use std::mem;
 use std::sync::{Arc, Wait};
@@ -56,7 +56,8 @@ where
         limit: usize,
     ) -> Result<Self, NoMemory>
         requires { 0 < limit }
-        ensures places { IfOk result (λ body. (arc_value body.state).queue.capacity ≡ Some limit) }
+        ensures urgent { IfOk result (λ body. (arc_value body.state).queues.urgent.capacity ≡ Some limit) }
+        ensures plain { IfOk result (λ body. (arc_value body.state).queues.plain.capacity ≡ Some limit) }
         ensures here { IfOk result (λ body. body.realm.now.number ≡ realm.now.number) }
         ensures kind { IfOk result (λ body. body.is_static ≡ is_static) }
     {
@@ -76,8 +77,9 @@ where
         table: Places<F, TableWaker>,
     ) -> Result<Self, NoMemory>
         requires table { (table.entries ≡ []) × (table.has_all_room ≡ true) }
-        requires queue { state.queue.capacity ≡ Some table.limit }
-        ensures queue { IfOk result (λ body. (arc_value body.state).queue.capacity ≡ state.queue.capacity) }
+        requires urgent { state.queues.urgent.capacity ≡ Some table.limit }
+        requires plain { state.queues.plain.capacity ≡ Some table.limit }
+        ensures state { IfOk result (λ body. arc_value body.state ≡ state) }
         ensures here { IfOk result (λ body. body.realm.now.number ≡ realm.now.number) }
         ensures kind { IfOk result (λ body. body.is_static ≡ is_static) }
     {
@@ -124,17 +126,19 @@ where
         sections::is_empty(self.table.lock(&self.rt, unlocked).get())
     }
 
-    /// Accepts a future and queues its task, or refuses it.
+    /// Accepts a future with this mark and queues its task, or refuses it.
     ///
     /// 1. Closes what was let go of tasks in its realm.
     /// 2. Under the table's lock: accepts the future, or refuses it. `Full` where as many accepted futures as the
     ///    limit are not dropped yet, and only then want of memory for the task. The future comes back.
-    /// 3. Once the lock is given back: hands the Runnable to the queue, and tells a sleeper.
+    /// 3. Once the lock is given back: hands the Runnable to the queue of its mark, and tells a sleeper.
     pub(crate) fn hand_in(
         &self,
         future: F,
+        mark: Mark,
         unlocked: &mut Unlocked,
     ) -> Result<ExTask<T, W, R>, SpawnError<F>>
+        ensures marked { IfOk result (λ task. task.metadata ≡ mark) }
         ensures future { IfErr result (λ error. refused error ≡ future) }
         ensures here { IfOk result (λ task. task.identity.realm ≡ self.now.realm.now.number) }
     {
@@ -148,6 +152,7 @@ where
             &mut call,
             schedule,
             self.is_static,
+            mark,
             future,
             closed,
         );
@@ -165,7 +170,7 @@ where
 
     /// Runs one task, where one is queued, and says whether it did.
     ///
-    /// 1. Takes a Runnable from the queue. Where there is none: false.
+    /// 1. Takes a turn, and a Runnable from the queue that this names, or else from the other one. Where there is none: false.
     /// 2. Tells a sleeper, since there may be more.
     /// 3. Runs it: true.
     #[inline(always)]
@@ -186,7 +191,7 @@ where
         }
     }
 
-    /// Puts the Runnable of a new task into the queue, and tells a sleeper.
+    /// Puts the Runnable of a new task into the queue of its mark, and tells a sleeper.
     #[inline(always)]
     fn queue(&self, call: Call, runnable: ExRunnable<T, W, R>, unlocked: &mut Unlocked)
         requires { call ≡ given }

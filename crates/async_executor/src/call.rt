@@ -1,7 +1,8 @@
 //! A call on the executor, as contracts follow it from section to section.
 ghost use Rattle.std.specs.Prelude.{◌≡◌, true, false, not, Some, None};
-ghost use Rattle.async_executor.specs.Stages.{begun, given, in_hand, took, looked, IsDone};
+ghost use Rattle.async_executor.specs.Stages.{begun, given, in_hand, took, looked_in, emptied, IsDone};
 
+use executor_parts::Mark;
 use std::marker::Model;
 use std::snapshot::Snapshot;
 
@@ -27,9 +28,11 @@ pub struct Call {
     closed: Snapshot<bool>,
     // What the flag is stored as, before the sleepers' lock is given back.
     flag: Snapshot<Option<bool>>,
-    // Whether the executor's queue was found empty.
-    searched: Snapshot<bool>,
-    // Whether it closed the executor's queue, and hasn't found it empty since.
+    // Whether the executor's urgent queue was found empty.
+    urgent_empty: Snapshot<bool>,
+    // Whether its plain one was.
+    plain_empty: Snapshot<bool>,
+    // Whether it closed the executor's queues, and hasn't found both empty since.
     undrained: Snapshot<bool>,
     // Whether it is among the sleepers as it did before, with its waker.
     sleeps: Snapshot<bool>,
@@ -42,9 +45,9 @@ pub struct Call {
 pub enum Ending {
     /// A Runnable was taken from a queue, and run.
     Ran,
-    /// The executor's queue was found empty, and it was among the sleepers already: its waker is there now.
+    /// The executor's queues were found empty, and it was among the sleepers already: its waker is there now.
     Asleep,
-    /// The executor's queue was found empty, and its waker, which can't be kept, was called.
+    /// The executor's queues were found empty, and its waker, which can't be kept, was called.
     Called,
     /// Memory was wanted.
     Refused,
@@ -120,7 +123,8 @@ impl Model for Call {
       won = c.won.value;
       closed = c.closed.value;
       flag = c.flag.value;
-      searched = c.searched.value;
+      urgent_empty = c.urgent_empty.value;
+      plain_empty = c.plain_empty.value;
       undrained = c.undrained.value;
       sleeps = c.sleeps.value;
       wanted = c.wanted.value;
@@ -139,7 +143,8 @@ impl Call {
             won: Snapshot::of(&false),
             closed: Snapshot::of(&false),
             flag: Snapshot::of(&None),
-            searched: Snapshot::of(&false),
+            urgent_empty: Snapshot::of(&false),
+            plain_empty: Snapshot::of(&false),
             undrained: Snapshot::of(&false),
             sleeps: Snapshot::of(&false),
             wanted: Snapshot::of(&false),
@@ -172,7 +177,8 @@ impl Call {
             won: _,
             closed: _,
             flag: _,
-            searched: _,
+            urgent_empty: _,
+            plain_empty: _,
             undrained: _,
             sleeps: _,
             wanted: _,
@@ -202,7 +208,8 @@ impl Call {
 
     /// Nothing was found, and it is among the sleepers: the call ends.
     pub fn rest(self) -> Last
-        requires searched { self.searched ≡ true }
+        requires urgent { self.urgent_empty ≡ true }
+        requires plain { self.plain_empty ≡ true }
         requires sleeps { self.sleeps ≡ true }
         requires done { IsDone self }
         ensures { result ≡ Ending.Asleep }
@@ -213,7 +220,8 @@ impl Call {
 
     /// Nothing was found, and its waker is called: the call ends.
     pub fn end_called(self) -> Last
-        requires searched { self.searched ≡ true }
+        requires urgent { self.urgent_empty ≡ true }
+        requires plain { self.plain_empty ≡ true }
         requires done { IsDone self }
         ensures { result ≡ Ending.Called }
     {
@@ -267,21 +275,40 @@ impl Call {
         self.found = Snapshot::of(&found);
         self.owes = Snapshot::of(&found);
         if found {
-            self.searched = Snapshot::of(&false);
+            self.urgent_empty = Snapshot::of(&false);
+            self.plain_empty = Snapshot::of(&false);
         }
     }
 
-    /// The executor's queue was looked into.
-    pub fn look(&mut self, found: bool)
+    /// The executor's queue of this mark was looked into.
+    pub fn look(&mut self, mark: Mark, found: bool)
         requires free { self.old.holds ≡ false }
         requires told { self.old.owes ≡ false }
-        ensures { self.new ≡ looked found self.old }
+        ensures { self.new ≡ looked_in mark found self.old }
     {
         self.take(found);
         if !found {
-            self.searched = Snapshot::of(&true);
-            self.undrained = Snapshot::of(&false);
+            self.find_empty(mark);
         }
+    }
+
+    /// The executor's queue of this mark was found empty.
+    fn find_empty(&mut self, mark: Mark)
+        ensures { self.new ≡ emptied mark self.old }
+    {
+        match mark {
+            Mark::Urgent => self.urgent_empty = Snapshot::of(&true),
+            Mark::Plain => self.plain_empty = Snapshot::of(&true),
+        }
+    }
+
+    /// Both queues of the executor were found empty.
+    pub fn find_none(&mut self)
+        requires urgent { self.old.urgent_empty ≡ true }
+        requires plain { self.old.plain_empty ≡ true }
+        ensures { self.new ≡ record self.old { undrained = false } }
+    {
+        self.undrained = Snapshot::of(&false);
     }
 
     /// There is no Runnable of what was in hand: the number is of another realm.
@@ -302,11 +329,18 @@ impl Call {
         self.owes = Snapshot::of(&true);
     }
 
-    /// This call closed the executor's queue, from which all is to be taken then.
-    pub fn close_queue(&mut self)
-        ensures { self.new ≡ record self.old { is_new = false; closed = true; undrained = true } }
+    /// This call closed the executor's urgent queue.
+    pub fn close_urgent(&mut self)
+        ensures { self.new ≡ record self.old { is_new = false; closed = true } }
     {
         self.find_closed();
+    }
+
+    /// This call closed the executor's plain queue, after the urgent one: all is to be taken from both then.
+    pub fn close_plain(&mut self)
+        requires { self.old.closed ≡ true }
+        ensures { self.new ≡ record self.old { undrained = true } }
+    {
         self.undrained = Snapshot::of(&true);
     }
 

@@ -4,7 +4,7 @@ use crate::entry::Unlocked;
 use crate::locks::ReadWrite;
 use crate::names::TableWaker;
 use crate::own_queues::OwnQueues;
-use crate::state::Queue;
+use crate::queues::{Queue, Queues};
 use async_task::Wake;
 use executor_parts::Places;
 use std::alloc::Global;
@@ -92,7 +92,7 @@ where
             Some(active) => text.field("active", &active),
             None => text.field("active", &Locked),
         };
-        text.field("global_tasks", &self.state.queue.len(&self.rt));
+        text.field("global_tasks", &queued(&self.rt, &self.state.queues));
         text.field(
             "local_runners",
             &LocalRunners {
@@ -111,4 +111,9 @@ where
     fn wakers_of(&self, table: &Places<F, TableWaker>) -> usize {
         if self.is_static { 0 } else { table.len() }
     }
+}
+
+/// How many Runnables stand in both queues.
+fn queued<R: Wait>(rt: &R, queues: &Queues) -> usize {
+    queues.urgent.len(rt).saturating_add(queues.plain.len(rt))
 }

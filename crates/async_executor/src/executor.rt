@@ -13,10 +13,11 @@ use crate::foreign::Foreign;
 use crate::leaving::Leaving;
 use crate::locks::Guarded;
 use crate::names::{ExRealm, ExWaker, TableWaker};
+use crate::queues::FromQueues;
 use crate::sections;
 use crate::state::{State, close};
 use async_task::{Future, NoMemory, Returning, StoredWaker, Wake};
-use executor_parts::Places;
+use executor_parts::{Mark, Places};
 use std::alloc::Global;
 use std::collections::VecDeque;
 use std::sync::Wait;
@@ -29,7 +30,7 @@ where
     R: Wait + Copy + Drop + 'static,
 {
     /// An executor with places for so many futures, whose tasks lie in this realm. It keeps the runtime value, the
-    /// allocator and the realm for its calls. All places of its queue and its table are taken here.
+    /// allocator and the realm for its calls. All places of its queues and its table are taken here.
     pub fn new(
         rt: R,
         alloc: Global,
@@ -37,7 +38,8 @@ where
         limit: usize,
     ) -> Result<Self, NoMemory>
         requires { 0 < limit }
-        ensures places { IfOk result (λ executor. (arc_value executor.body.state).queue.capacity ≡ Some limit) }
+        ensures urgent { IfOk result (λ executor. (arc_value executor.body.state).queues.urgent.capacity ≡ Some limit) }
+        ensures plain { IfOk result (λ executor. (arc_value executor.body.state).queues.plain.capacity ≡ Some limit) }
         ensures here { IfOk result (λ executor. executor.body.realm.now.number ≡ realm.now.number) }
         ensures kind { IfOk result (λ executor. executor.body.is_static ≡ false) }
     {
@@ -53,7 +55,8 @@ where
     /// Of parts that have places for as many futures as one another.
     fn of(body: Body<F, T, W, R>, leaving: VecDeque<Returning<StoredWaker>>, limit: usize) -> Self
         requires owned { body.is_static ≡ false }
-        requires queue { (arc_value body.state).queue.capacity ≡ Some limit }
+        requires urgent { (arc_value body.state).queues.urgent.capacity ≡ Some limit }
+        requires plain { (arc_value body.state).queues.plain.capacity ≡ Some limit }
         requires leaving { (leaving.items ≡ []) × (limit ≤ deque_capacity leaving) }
         ensures { result.body ≡ body }
     {
@@ -66,9 +69,9 @@ where
 ///
 /// 1. Takes all futures and wakers out of the table, and drops each future, in the order of acceptance.
 /// 2. Wakes each waker, in that order: each task is queued, or was before.
-/// 3. Closes the queue.
-/// 4. Takes from the queue until nothing is left, and drops each Runnable: each task is closed, and who awaits it is called. A
-///    Runnable that a wake in progress still has comes back from the closed queue, and is dropped there.
+/// 3. Closes the urgent queue, and then the plain one.
+/// 4. Takes from the urgent queue until nothing is left, then from the plain one, and drops each Runnable: each task is closed, and
+///    who awaits it is called. A Runnable that a wake in progress still has comes back from the closed queue, and is dropped there.
 /// 5. Closes what was let go of tasks in its realm.
 pub fn end<F, T, W, R>(body: Body<F, T, W, R>, leaving: Leaving, unlocked: &mut Unlocked)
 where
@@ -152,7 +155,7 @@ where
     }
 }
 
-/// Drops each Runnable that is left in the executor's queue, which is closed.
+/// Drops each Runnable that is left in the executor's queues, which are closed: those of the urgent one first.
 fn drain<T, W, R>(
     rt: R,
     realm: &'static ExRealm<T, W, R>,
@@ -168,11 +171,12 @@ where
 {
     let mut call = call;
     for _ in rt.forever() {
-        let Some(stored) = state.take(&rt, &mut call) else {
+        let found = state.take_from(Mark::Urgent, &rt, &mut call);
+        let Some(FromQueues { runnable, mark: _ }) = found else {
             call.end();
             return;
         };
-        let due = close(rt, realm, &mut call, stored, unlocked);
+        let due = close(rt, realm, &mut call, runnable, unlocked);
         pay(rt, due, unlocked);
     }
     unreachable!()

@@ -7,12 +7,12 @@ use crate::body::Body;
 use crate::call::{Call, Ending, Last};
 use crate::due::pay;
 use crate::entry::Unlocked;
-use crate::names::ExWaker;
+use crate::names::{ExStoredRunnable, ExWaker};
 use crate::sections;
 use crate::sections::Taken;
 use crate::state::redeem;
 use crate::task_run::{Begun, Dropping, Polling, Settled, begin};
-use async_task::{Back, Future, Poll, StoredRunnable, Wake};
+use async_task::{Back, Future, Poll, Wake};
 use executor_parts::EntryPlace;
 use std::sync::Wait;
 
@@ -27,7 +27,7 @@ where
     #[inline(always)]
     pub(crate) fn poll_or_drop(
         &self,
-        stored: StoredRunnable,
+        stored: ExStoredRunnable,
         call: Call,
         unlocked: &mut Unlocked,
     ) -> Last

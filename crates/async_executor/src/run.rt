@@ -10,11 +10,11 @@ use crate::call::{Call, Counts, Ending, Last, Polled};
 use crate::entry::{Run, Unlocked};
 use crate::errors::RunError;
 use crate::foreign::Foreign;
-use crate::names::ExWaker;
+use crate::names::{ExStoredRunnable, ExWaker};
 use crate::runner::Runner;
 use crate::sleeping::call_waker;
 use crate::ticker::{Found, Ticker};
-use async_task::{Future, Poll, StoredRunnable, Wake};
+use async_task::{Future, Poll, Wake};
 use std::mem;
 use std::sync::Wait;
 
@@ -114,7 +114,7 @@ where
     /// others go first, and the poll ends by the answer.
     fn run_task(
         &mut self,
-        runnable: StoredRunnable,
+        runnable: ExStoredRunnable,
         call: Call,
         unlocked: &mut Unlocked,
     ) -> Option<Last>

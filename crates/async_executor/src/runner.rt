@@ -8,13 +8,15 @@ ghost use Rattle.async_executor.specs.Stages.{idle, begun, took, looked};
 use crate::call::{Call, Ending, Last, OwesSteal};
 use crate::due::{pay, share};
 use crate::entry::Unlocked;
-use crate::names::ExRealm;
+use crate::names::{ExRealm, ExStoredRunnable};
 use crate::own_queues::{Numbered, OwnQueues, RunRoom};
-use crate::state::{OWN_PLACES, Queue, State, take};
+use crate::queues::{FromQueues, Queue};
+use crate::state::{OWN_PLACES, State, take};
 use crate::steal::steal;
 use crate::walks::Walk;
-use async_task::{GoesBack, NoMemory, StoredRunnable, Wake};
+use async_task::{GoesBack, NoMemory, Wake};
 use concurrent_queue::ConcurrentQueue;
+use executor_parts::Mark;
 use rand_core::SeedableRng;
 use rand_xoshiro::Xoshiro256PlusPlus;
 use std::alloc::{AllocError, Global};
@@ -174,7 +176,7 @@ impl Runner {
     }
 
     /// Takes the first of the own queue, which stands in no list any more.
-    fn take_last<R: Wait>(&mut self, rt: &R, call: &mut Call) -> Option<StoredRunnable>
+    fn take_last<R: Wait>(&mut self, rt: &R, call: &mut Call) -> Option<ExStoredRunnable>
         requires { call.old ≡ begun }
         ensures call { call.new ≡ took (is_some result) begun }
         ensures drained { result ≡ None → self.new.is_drained ≡ true }
@@ -185,7 +187,7 @@ impl Runner {
         found
     }
 
-    /// Pays the look at the executor's queue that is owed: it steals from there.
+    /// Pays the look at the executor's queues that is owed: it steals from the urgent one, and then from the plain one.
     pub fn pay<T, W, R>(
         &mut self,
         rt: R,
@@ -200,13 +202,32 @@ impl Runner {
         R: Wait + Copy + Drop + 'static,
     {
         owed.pay();
-        drop_refused(rt, realm, steal(&rt, &state.queue, &self.own), unlocked);
+        self.steal_from(Mark::Urgent, rt, state, realm, unlocked);
+        self.steal_from(Mark::Plain, rt, state, realm, unlocked);
+    }
+
+    /// Steals from the executor's queue of this mark.
+    fn steal_from<T, W, R>(
+        &self,
+        mark: Mark,
+        rt: R,
+        state: &State<W>,
+        realm: &'static ExRealm<T, W, R>,
+        unlocked: &mut Unlocked,
+    )
+    where
+        T: Drop + 'static,
+        W: Wake + Drop + 'static,
+        R: Wait + Copy + Drop + 'static,
+    {
+        let refused = steal(&rt, state.queues.of(mark), &self.own);
+        drop_refused(rt, realm, refused, unlocked);
     }
 
     /// The next Runnable of the run, or None where none was found.
     ///
     /// 1. The first of its own queue.
-    /// 2. The first of the global queue; then it steals from there.
+    /// 2. The first of the global queue that its turn names, or else of the other one; then it steals from where that stood.
     /// 3. Under the read lock of the list, round the other runs' queues from the starting place: it steals from each, and
     ///    takes the first of its own queue.
     pub fn search<T, W, R>(
@@ -216,7 +237,7 @@ impl Runner {
         realm: &'static ExRealm<T, W, R>,
         call: &mut Call,
         unlocked: &mut Unlocked,
-    ) -> Option<StoredRunnable>
+    ) -> Option<ExStoredRunnable>
     where
         T: Drop + 'static,
         W: Wake + Drop + 'static,
@@ -227,9 +248,8 @@ impl Runner {
         if let Some(runnable) = take(&self.own, &rt, call) {
             return Some(runnable);
         }
-        if let Some(runnable) = state.take(&rt, call) {
-            let refused = steal(&rt, &state.queue, &self.own);
-            drop_refused(rt, realm, refused, unlocked);
+        if let Some(FromQueues { runnable, mark }) = state.search(&rt, call) {
+            self.steal_from(mark, rt, state, realm, unlocked);
             return Some(runnable);
         }
         let (found, refused) = self.walk(&rt, state, call, unlocked);
@@ -245,7 +265,7 @@ impl Runner {
         state: &State<W>,
         call: &mut Call,
         unlocked: &mut Unlocked,
-    ) -> (Option<StoredRunnable>, Option<StoredRunnable>)
+    ) -> (Option<ExStoredRunnable>, Option<ExStoredRunnable>)
         requires { call.old ≡ looked false begun }
         ensures { call.new ≡ looked (is_some result.0) begun }
     {
@@ -259,7 +279,7 @@ impl Runner {
         rt: &R,
         queues: &[Numbered<Arc<Queue, Global>>],
         call: &mut Call,
-    ) -> (Option<StoredRunnable>, Option<StoredRunnable>)
+    ) -> (Option<ExStoredRunnable>, Option<ExStoredRunnable>)
         requires { call.old ≡ looked false begun }
         ensures call { call.new ≡ looked (is_some result.0) begun }
         ensures words { self.new.words ≡ words_after (length queues.now) self.old.words }
@@ -305,7 +325,7 @@ fn list_in<Q: Drop>(
 fn drop_refused<T, W, R>(
     rt: R,
     realm: &'static ExRealm<T, W, R>,
-    refused: Option<StoredRunnable>,
+    refused: Option<ExStoredRunnable>,
     unlocked: &mut Unlocked,
 )
 where

@@ -9,8 +9,8 @@ use crate::closing::HasClosed;
 use crate::errors::SpawnError;
 use crate::names::{ExRealm, ExRunnable, ExTask, TableWaker};
 use crate::queue::ExQueue;
-use async_task::{Returning, Wake, spawn};
-use executor_parts::{EntryPlace, Places, SpawnRefused};
+use async_task::{Builder, Returning, Wake};
+use executor_parts::{EntryPlace, Mark, Places, SpawnRefused};
 use std::sync::Wait;
 
 /// Accepts a future: what a spawn does under the table's lock, once it has closed what was let go.
@@ -26,6 +26,7 @@ pub fn accept<F, T, W, R>(
     call: &mut Call,
     schedule: ExQueue<T, W, R>,
     is_static: bool,
+    mark: Mark,
     future: F,
     closed: HasClosed,
 ) -> Result<(ExRunnable<T, W, R>, ExTask<T, W, R>), SpawnError<F>>
@@ -39,6 +40,7 @@ where
     ensures here { IfOk result (λ both. both.1.identity.realm ≡ realm.now.number) }
     ensures accepted { IfOk result (λ both. Accepts is_static table.old table.new future (task_of both.1)) }
     ensures one_task { IfOk result (λ both. both.0 ≡ task_of both.1) }
+    ensures marked { IfOk result (λ both. both.0.metadata ≡ mark) }
     ensures future { IfErr result (λ error. refused error ≡ future) }
     ensures cause { IfErr result (IsRefusedAt table.old) }
     ensures same { IfErr result (λ _. (table.new.entries ≡ table.old.entries) × (table.new.limit ≡ table.old.limit)) }
@@ -51,7 +53,7 @@ where
             return Err(because(refused, future));
         }
     };
-    match made(rt, realm, schedule, is_static, vacancy.place()) {
+    match made(rt, realm, schedule, is_static, mark, vacancy.place()) {
         Some((runnable, task, waker)) => {
             table.enter(vacancy, future, waker);
             call.accept(true);
@@ -75,7 +77,7 @@ fn because<F>(refused: SpawnRefused, future: F) -> SpawnError<F>
     }
 }
 
-/// A task whose future is at this place, with its handle and what the table keeps beside the future: a waker, and none where
+/// A task of this mark whose future is at this place, with its handle and what the table keeps beside the future: a waker, and none where
 /// the executor is static.
 #[inline(always)]
 fn made<T, W, R>(
@@ -83,6 +85,7 @@ fn made<T, W, R>(
     realm: &'static ExRealm<T, W, R>,
     schedule: ExQueue<T, W, R>,
     is_static: bool,
+    mark: Mark,
     place: EntryPlace,
 ) -> Option<(ExRunnable<T, W, R>, ExTask<T, W, R>, TableWaker)>
 where
@@ -90,10 +93,12 @@ where
     W: Wake + Drop + 'static,
     R: Wait + Copy + Drop + 'static,
     ensures one_task { IfSome result (λ made. made.0 ≡ task_of made.1) }
+    ensures marked { IfSome result (λ made. made.0.metadata ≡ mark) }
     ensures here { IfSome result (λ made. made.0.identity.realm ≡ realm.now.number) }
     ensures waker { IfSome result (λ made. WakerFits is_static made.2 made.1.identity) }
 {
-    match spawn(rt, realm, place, schedule) {
+    let builder = Builder::new().metadata(mark);
+    match builder.spawn(rt, realm, place, schedule) {
         Ok((runnable, task)) => {
             if is_static {
                 return Some((runnable, task, None));

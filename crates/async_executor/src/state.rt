@@ -3,33 +3,33 @@ ghost use Rattle.std.specs.Prelude.{◌≡◌, ◌≢◌, ◌<◌, true, false, 
 ghost use Rattle.executor_parts.specs.Sleepers.{flag_of, last_waker, without_last};
 ghost use Rattle.async_executor.specs.Calls.{flag_woken_up};
 ghost use Rattle.async_executor.specs.Foreign.{value_of};
-ghost use Rattle.async_executor.specs.Stages.{begun, took, looked};
+ghost use Rattle.async_executor.specs.Stages.{begun, took, looked, looked_in};
 
 use crate::call::Call;
 use crate::entry::Unlocked;
 use crate::flag::Flag;
 use crate::foreign::{Foreign, came_out};
 use crate::locks::{Guarded, ReadWrite};
-use crate::names::{ExDue, ExRealm, ExScheduled};
+use crate::names::{ExDue, ExRealm, ExScheduled, ExStoredRunnable};
 use crate::own_queues::OwnQueues;
+use crate::queues::{FromQueues, Queue, Queues};
 use crate::sleeping::SleeperWaker;
 use crate::ticker::WokenUp;
-use async_task::{GoesBack, NoMemory, Returning, StoredRunnable, Wake};
-use concurrent_queue::ConcurrentQueue;
-use executor_parts::Sleepers;
+use crate::turns::Turns;
+use async_task::{GoesBack, NoMemory, Returning, Wake};
+use executor_parts::{Mark, Sleepers};
 use std::alloc::Global;
 use std::sync::{Arc, Wait};
 
 /// How many Runnables a run's own queue has places for.
 pub const OWN_PLACES: usize = 512;
 
-/// A queue of Runnables.
-pub type Queue = ConcurrentQueue<Returning<StoredRunnable>>;
-
 /// The queues, and who sleeps.
 pub struct State<W> {
-    /// The global queue, which has a place for each future that the executor accepts.
-    pub queue: Queue,
+    /// The global queues, each with a place for each future that the executor accepts.
+    pub queues: Queues,
+    /// At which of them a search looks first.
+    pub turns: Turns,
     /// The own queues of runs, from a run's first poll to its end.
     pub own_queues: ReadWrite<OwnQueues<Arc<Queue, Global>>>,
     /// Whether a tick or run that sleeps has been told, or none sleeps.
@@ -42,7 +42,8 @@ pub struct State<W> {
 impl<W: Drop> Drop for State<W> {
     fn drop(self) {
         let State {
-            queue: _queue,
+            queues: _queues,
+            turns: _turns,
             own_queues: _own_queues,
             notified: _notified,
             sleepers: _sleepers,
@@ -51,14 +52,16 @@ impl<W: Drop> Drop for State<W> {
 }
 
 impl<W: Drop> State<W> {
-    /// An executor's queue with so many places, where nobody sleeps.
+    /// An executor's queues with so many places each, where nobody sleeps.
     pub fn new(alloc: Global, limit: usize) -> Result<State<W>, NoMemory>
         requires { 0 < limit }
-        ensures { IfOk result (λ state. state.queue.capacity ≡ Some limit) }
+        ensures urgent { IfOk result (λ state. state.queues.urgent.capacity ≡ Some limit) }
+        ensures plain { IfOk result (λ state. state.queues.plain.capacity ≡ Some limit) }
     {
-        match ConcurrentQueue::bounded(alloc, limit) {
-            Ok(queue) => Ok(State {
-                queue,
+        match Queues::new(alloc, limit) {
+            Ok(queues) => Ok(State {
+                queues,
+                turns: Turns::new(),
                 own_queues: ReadWrite::new(OwnQueues::new(alloc)),
                 notified: Flag::new(),
                 sleepers: Guarded::new(Sleepers::new(alloc)),
@@ -67,47 +70,96 @@ impl<W: Drop> State<W> {
         }
     }
 
-    /// Closes the executor's queue.
+    /// Closes the urgent queue, and then the plain one.
     pub fn close<R: Wait>(&self, rt: &R, call: &mut Call)
         ensures { call.new ≡ record call.old { is_new = false; closed = true; undrained = true } }
     {
-        self.queue.close(rt);
-        call.close_queue();
+        self.queues.urgent.close(rt);
+        call.close_urgent();
+        self.queues.plain.close(rt);
+        call.close_plain();
     }
 
-    /// Takes the first Runnable of the executor's queue in hand, where there is one.
+    /// Takes the first Runnable of the queue of this mark in hand, where there is one.
     #[inline(always)]
-    pub fn take<R: Wait>(&self, rt: &R, call: &mut Call) -> Option<StoredRunnable>
+    fn take_of<R: Wait>(&self, mark: Mark, rt: &R, call: &mut Call) -> Option<ExStoredRunnable>
         requires free { call.old.holds ≡ false }
         requires told { call.old.owes ≡ false }
-        ensures { call.new ≡ looked (is_some result) call.old }
+        ensures { call.new ≡ looked_in mark (is_some result) call.old }
     {
-        match self.queue.pop(rt) {
+        match self.queues.of(mark).pop(rt) {
             Ok(runnable) => {
-                call.look(true);
+                call.look(mark, true);
                 Some(runnable.into_inner())
             }
             Err(_) => {
-                call.look(false);
+                call.look(mark, false);
                 None
             }
         }
     }
 
-    /// Puts the Runnable in hand into the executor's queue, or answers it where that is closed.
+    /// Takes the first Runnable of the queue of this mark in hand; where there is none, the first of the other one.
+    #[inline(always)]
+    pub fn take_from<R: Wait>(&self, mark: Mark, rt: &R, call: &mut Call) -> Option<FromQueues>
+        requires free { call.old.holds ≡ false }
+        requires told { call.old.owes ≡ false }
+        ensures { call.new ≡ looked (is_some result) call.old }
+    {
+        if let Some(runnable) = self.take_of(mark, rt, call) {
+            return Some(FromQueues { runnable, mark });
+        }
+        let mark = mark.other();
+        match self.take_of(mark, rt, call) {
+            Some(runnable) => Some(FromQueues { runnable, mark }),
+            None => {
+                call.find_none();
+                None
+            }
+        }
+    }
+
+    /// A search of the executor's queues: takes a turn, and then the first Runnable of the queue that this names, or else of the
+    /// other one.
+    #[inline(always)]
+    pub fn search<R: Wait>(&self, rt: &R, call: &mut Call) -> Option<FromQueues>
+        requires free { call.old.holds ≡ false }
+        requires told { call.old.owes ≡ false }
+        ensures { call.new ≡ looked (is_some result) call.old }
+    {
+        let mark = self.turns.take();
+        self.take_from(mark, rt, call)
+    }
+
+    /// The same for one who steals nothing then.
+    #[inline(always)]
+    pub fn take<R: Wait>(&self, rt: &R, call: &mut Call) -> Option<ExStoredRunnable>
+        requires free { call.old.holds ≡ false }
+        requires told { call.old.owes ≡ false }
+        ensures { call.new ≡ looked (is_some result) call.old }
+    {
+        match self.search(rt, call) {
+            Some(FromQueues { runnable, mark: _ }) => Some(runnable),
+            None => None,
+        }
+    }
+
+    /// Puts the Runnable in hand into the executor's queue of this mark, or answers it where that is closed.
     #[inline(always)]
     pub fn append<R: Wait>(
         &self,
         rt: &R,
         call: &mut Call,
-        runnable: StoredRunnable,
-    ) -> Result<(), StoredRunnable>
-        requires { call.old.holds ≡ true }
+        mark: Mark,
+        runnable: ExStoredRunnable,
+    ) -> Result<(), ExStoredRunnable>
+        requires holds { call.old.holds ≡ true }
+        requires marked { mark ≡ runnable.metadata }
         ensures appended { OnOk result (call.new ≡ record call.old { holds = false; owes = true }) }
         ensures back { IfErr result (λ back. back ≡ runnable) }
         ensures closed { IfErr result (λ _. call.new ≡ record call.old { is_new = false; closed = true }) }
     {
-        match self.queue.push(rt, Returning::new(runnable)) {
+        match self.queues.of(mark).push(rt, Returning::new(runnable)) {
             Ok(()) => {
                 call.append();
                 Ok(())
@@ -195,7 +247,7 @@ impl<W: Drop> State<W> {
 }
 
 /// Takes the first Runnable of a run's own queue in hand, where there is one.
-pub fn take<R: Wait>(queue: &Queue, rt: &R, call: &mut Call) -> Option<StoredRunnable>
+pub fn take<R: Wait>(queue: &Queue, rt: &R, call: &mut Call) -> Option<ExStoredRunnable>
     requires free { call.old.holds ≡ false }
     requires told { call.old.owes ≡ false }
     ensures { call.new ≡ took (is_some result) call.old }
@@ -233,7 +285,7 @@ pub fn close<T, W, R>(
     rt: R,
     realm: &'static ExRealm<T, W, R>,
     call: &mut Call,
-    runnable: StoredRunnable,
+    runnable: ExStoredRunnable,
     unlocked: &Unlocked,
 ) -> Option<ExDue<T, W, R>>
 where
@@ -262,7 +314,7 @@ pub fn redeem<T, W, R>(
     rt: R,
     realm: &'static ExRealm<T, W, R>,
     call: &mut Call,
-    runnable: StoredRunnable,
+    runnable: ExStoredRunnable,
 ) -> Option<ExScheduled<T, W, R>>
 where
     T: Drop + 'static,
@@ -284,7 +336,7 @@ where
 }
 
 impl<W: Wake + Drop + 'static> State<W> {
-    /// Puts the Runnable in hand into the executor's queue, tells a sleeper, and ends the call. Where that leads to a task that
+    /// Puts the Runnable in hand into the queue of its mark, tells a sleeper, and ends the call. Where that leads to a task that
     /// has to be queued, it is the answer. From a queue that is closed the Runnable comes back, and is dropped.
     pub fn push<T, R>(
         &self,
@@ -303,8 +355,8 @@ impl<W: Wake + Drop + 'static> State<W> {
         requires drained { call.undrained ≡ false }
     {
         let mut call = call;
-        let realm = runnable.realm();
-        let due = match self.append(&rt, &mut call, runnable.store()) {
+        let (realm, mark) = (runnable.realm(), *runnable.metadata());
+        let due = match self.append(&rt, &mut call, mark, runnable.store()) {
             Ok(()) => self.notify(rt, realm, &mut call, unlocked),
             Err(back) => close(rt, realm, &mut call, back, unlocked),
         };
@@ -318,7 +370,7 @@ impl<W: Wake + Drop + 'static> State<W> {
         rt: R,
         realm: &'static ExRealm<T, W, R>,
         call: Call,
-        stored: StoredRunnable,
+        stored: ExStoredRunnable,
         unlocked: &mut Unlocked,
     ) -> Option<ExDue<T, W, R>>
     where

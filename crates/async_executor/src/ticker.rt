@@ -11,11 +11,11 @@ use crate::call::{Call, Last};
 use crate::due::pay;
 use crate::entry::Unlocked;
 use crate::foreign::{Foreign, came_out};
-use crate::names::{ExRealm, ExWaker};
+use crate::names::{ExRealm, ExStoredRunnable, ExWaker};
 use crate::sections::give_back;
 use crate::sleeping::{SleeperWaker, call_waker};
 use crate::state::State;
-use async_task::{StoredRunnable, Wake};
+use async_task::Wake;
 use executor_parts::{Again, Room, Sleeper, Sleepers, Slept, Unreserved, WokenUp as Stood};
 use std::mem;
 use std::sync::Wait;
@@ -33,7 +33,7 @@ pub enum Ticker {
 /// What a tick or run finds.
 pub enum Found {
     /// A Runnable, which is in hand: it is awake, and another sleeper was told.
-    Runnable(StoredRunnable, Call),
+    Runnable(ExStoredRunnable, Call),
     /// Nothing yet: it sleeps, and has to search once more.
     SearchAgain,
     /// Nothing: it sleeps, and its waker will be called, or was called at once where it can't be kept.
@@ -75,7 +75,7 @@ impl Ticker {
         state: &State<W>,
         realm: &'static ExRealm<T, W, R>,
         call: Call,
-        found: Option<StoredRunnable>,
+        found: Option<ExStoredRunnable>,
         waker: &ExWaker<T, W, R>,
         unlocked: &mut Unlocked,
     ) -> Found

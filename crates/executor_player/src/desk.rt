@@ -5,7 +5,7 @@ use crate::handle::{Held, HoldIn};
 use crate::handles::SharedHandles;
 use crate::outside::{Bell, Gift, ScriptTask};
 use crate::shelf::SharedShelf;
-use async_executor::{Executor, SpawnError, StaticExecutor};
+use async_executor::{Executor, Mark, SpawnError, StaticExecutor};
 use script::{Item, Name};
 use std::rc::Rc;
 use std::sync::Wait;
@@ -20,6 +20,7 @@ pub type ScriptStatic<F, R> = StaticExecutor<F, Gift, Bell, R>;
 #[derive(Drop)]
 pub struct Plan<H: Drop> {
     pub name: Name,
+    pub mark: Mark,
     pub items: Vec<Item>,
     /// The handles that its items hold.
     pub held: Vec<Held<H>>,
@@ -75,8 +76,12 @@ where
     R: Wait + Copy + Drop + 'static,
 {
     fn spawn(&self, plan: Plan<H>) -> Result<H, Refused<H>> {
+        let mark = plan.mark;
         match scripted(self.shelf, plan) {
-            Ok(future) => answered(self.shelf, self.executor.spawn(F::planned(future))),
+            Ok(future) => {
+                let spawned = self.executor.spawn_marked(F::planned(future), mark);
+                answered(self.shelf, spawned)
+            }
             Err(refused) => Err(refused),
         }
     }
@@ -101,8 +106,12 @@ where
     R: Wait + Copy + Drop + 'static,
 {
     fn spawn(&self, plan: Plan<H>) -> Result<H, Refused<H>> {
+        let mark = plan.mark;
         match scripted(self.shelf, plan) {
-            Ok(future) => answered(self.shelf, self.executor.spawn(F::planned(future))),
+            Ok(future) => {
+                let spawned = self.executor.spawn_marked(F::planned(future), mark);
+                answered(self.shelf, spawned)
+            }
             Err(refused) => Err(refused),
         }
     }
@@ -125,6 +134,7 @@ where
 fn scripted<H: Drop>(shelf: &SharedShelf, plan: Plan<H>) -> Result<Scripted<H>, Refused<H>> {
     let Plan {
         name,
+        mark: _,
         items,
         held,
         handles,

@@ -8,6 +8,7 @@ use crate::player::{Named, Player, put};
 use crate::seat::{Sit, SitRun, SitTick};
 use crate::shelf::Keep;
 use crate::stage::Shared;
+use async_executor::Mark;
 use script::{Item, Name, Plain};
 use std::alloc::Global;
 use std::collections::BTreeMap;
@@ -44,7 +45,9 @@ impl<H: Hold, K: Keep> Player<H, K> {
         N: SitRun<D, H>,
     {
         match plain {
-            Plain::Spawn { name, items } => self.spawn(desk, *name, items.as_slice()),
+            Plain::Spawn { mark, name, items } => {
+                self.spawn(desk, *mark, *name, items.as_slice())
+            }
             Plain::Try => Answer::of(desk.try_tick()),
             Plain::Empty => Answer::of(desk.is_empty()),
             Plain::Tick(name) => self.make_tick(desk, &mut seats.ticks, *name),
@@ -58,7 +61,7 @@ impl<H: Hold, K: Keep> Player<H, K> {
     }
 
     /// Spawns a future of this name, where that is free and the handles are there that the items name.
-    fn spawn<D: Desk<H>>(&mut self, desk: &D, name: Name, items: &[Item]) -> Answer {
+    fn spawn<D: Desk<H>>(&mut self, desk: &D, mark: Mark, name: Name, items: &[Item]) -> Answer {
         if self.knows(name) || !self.has_handles(items) {
             return Answer::NotPossible;
         }
@@ -71,6 +74,7 @@ impl<H: Hold, K: Keep> Player<H, K> {
         let held = self.take_handles(items);
         match desk.spawn(Plan {
             name,
+            mark,
             items: own_items,
             held,
             handles,

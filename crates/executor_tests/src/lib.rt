@@ -9,6 +9,8 @@ mod locks;
 #[cfg(test)]
 mod many;
 #[cfg(test)]
+mod marks;
+#[cfg(test)]
 mod nested;
 #[cfg(test)]
 mod parts;

@@ -1,8 +1,8 @@
 //! Many of a kind, one after the other.
 use crate::parts::{Bell, Gift, Job, TestRealm, TestWaker, Work};
 use crate::stage::{Planned, Stage};
-use async_executor::{Handles, SpawnError};
-use async_task::{Future, Poll, Returning, StoredTask};
+use async_executor::{ExStoredTask, Handles, SpawnError};
+use async_task::{Future, Poll, Returning};
 use std::mem;
 use std::process::Abort;
 use std::sync::Wait;
@@ -15,7 +15,7 @@ struct InOrder<R: Wait + Copy + Drop + 'static> {
     realm: &'static TestRealm<R>,
     handles: Handles<Gift, Bell, R>,
     /// The handle that it waits for.
-    awaited: Option<Returning<StoredTask>>,
+    awaited: Option<Returning<ExStoredTask>>,
     next: u64,
 }
 

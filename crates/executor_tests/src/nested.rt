@@ -1,6 +1,6 @@
 //! Futures that drop handles: their own in their poll, and another's with themselves.
-use async_executor::{ExRealm, ExWaker, Executor};
-use async_task::{Future, Nobody, Poll, Returning, StoredTask};
+use async_executor::{ExRealm, ExStoredTask, ExWaker, Executor};
+use async_task::{Future, Nobody, Poll, Returning};
 use std::alloc::{AllocError, Global};
 use std::cell::RefCell;
 use std::rc::Rc;
@@ -48,7 +48,7 @@ const ROWS: &[Row] = &[
     ),
 ];
 
-type Stored = Option<Returning<StoredTask>>;
+type Stored = Option<Returning<ExStoredTask>>;
 
 /// The kept handle, and what was seen.
 #[derive(Drop)]
@@ -69,7 +69,7 @@ impl Board {
         }
     }
 
-    fn keep(&self, handle: Returning<StoredTask>) {
+    fn keep(&self, handle: Returning<ExStoredTask>) {
         drop(self.kept.try_replace(Some(handle)));
     }
 

@@ -1,7 +1,7 @@
 //! What the tests' futures are, and what is noted of them.
 use crate::locks::Asks;
-use async_executor::{ExRealm, ExTask, ExWaker, Executor, StaticExecutor};
-use async_task::{Future, Poll, Returning, StoredTask, Wake};
+use async_executor::{ExRealm, ExStoredTask, ExTask, ExWaker, Executor, StaticExecutor};
+use async_task::{Future, Poll, Returning, Wake};
 use std::alloc::{AllocError, Global};
 use std::mem;
 use std::sync::atomic::AtomicU64;
@@ -12,6 +12,8 @@ use std::sync::{Arc, Wait};
 #[derive(Default, Drop)]
 pub struct Counts {
     pub polls: AtomicU64,
+    /// Which of all polls its last one was, from 0 on.
+    pub last: AtomicU64,
     pub drops: AtomicU64,
     /// The outputs that it gave.
     pub made: AtomicU64,
@@ -30,6 +32,8 @@ pub struct Notes {
     pub each: Vec<Counts>,
     /// Of all others.
     others: Counts,
+    /// How many polls there were, all together.
+    polls: AtomicU64,
     /// How many futures were dropped of those that are noted one by one, all together.
     pub dropped: AtomicU64,
     /// How many outputs were given to another future.
@@ -53,6 +57,7 @@ impl Notes {
         let notes = Notes {
             each,
             others: Counts::default(),
+            polls: AtomicU64::new(0),
             dropped: AtomicU64::new(0),
             given: AtomicU64::new(0),
             rings: AtomicU64::new(0),
@@ -82,6 +87,7 @@ impl Notes {
         self.asks.ask(name);
         let counts = self.of(name);
         counts.polls.fetch_add(1, SeqCst);
+        counts.last.store(self.polls.fetch_add(1, SeqCst), SeqCst);
         if counts.inside.fetch_add(1, SeqCst) != 0 {
             counts.overlaps.fetch_add(1, SeqCst);
         }
@@ -188,7 +194,7 @@ pub enum Work {
 #[derive(Drop)]
 pub struct Meddler {
     pub has_given_way: bool,
-    pub other: Option<Returning<StoredTask>>,
+    pub other: Option<Returning<ExStoredTask>>,
 }
 
 /// A future of the tests. Its polls and its drop are noted.
@@ -303,7 +309,7 @@ fn give_up<R: Wait + Copy + Drop + 'static>(name: u64, task: TestTask<R>, waker:
 pub fn drop_stored<R: Wait + Copy + Drop + 'static>(
     rt: R,
     realm: &'static TestRealm<R>,
-    stored: Returning<StoredTask>,
+    stored: Returning<ExStoredTask>,
 ) {
     if let Some(task) = stored.redeem(rt, realm) {
         drop(task);

@@ -6,8 +6,8 @@ use crate::parts::{
     Bell, Gift, Job, Notes, TestExecutor, TestRealm, TestStatic, TestTask, TestWaker, Work,
     drop_stored,
 };
-use async_executor::{Run, RunError, SpawnError, Tick};
-use async_task::{Awaiter, Future, NoMemory, Poll, RealmError, Returning, StoredTask};
+use async_executor::{ExStoredTask, Mark, Run, RunError, SpawnError, Tick};
+use async_task::{Awaiter, Future, NoMemory, Poll, RealmError, Returning};
 use std::alloc::Global;
 use std::process::Abort;
 use std::sync::atomic::AtomicU64;
@@ -78,7 +78,7 @@ pub struct Stage<F: Drop, R: Wait + Copy + Drop + 'static> {
     pub notes: Arc<Notes, Global>,
     pub executor: TestKind<F, R>,
     /// How many futures were accepted, but for those of a spawn of many.
-    accepted: AtomicU64,
+    pub accepted: AtomicU64,
 }
 
 impl<F: Planned<R>, R: Abort + Wait + Copy + Drop + 'static> Stage<F, R> {
@@ -179,8 +179,23 @@ impl<F: Planned<R>, R: Abort + Wait + Copy + Drop + 'static> Stage<F, R> {
     }
 
     /// Spawns a future. Its handle is the answer, where it is accepted.
-    pub fn spawn(&self, future: F) -> Option<Returning<StoredTask>> {
+    pub fn spawn(&self, future: F) -> Option<Returning<ExStoredTask>> {
         match self.accept(future) {
+            Ok(task) => {
+                self.accepted.fetch_add(1, SeqCst);
+                Some(Returning::new(task.store()))
+            }
+            Err(_) => None,
+        }
+    }
+
+    /// Spawns a future with this mark. Its handle is the answer, where it is accepted.
+    pub fn spawn_marked(&self, future: F, mark: Mark) -> Option<Returning<ExStoredTask>> {
+        let accepted = match &self.executor {
+            TestKind::Owned(executor) => executor.spawn_marked(future, mark),
+            TestKind::Static(executor) => executor.spawn_marked(future, mark),
+        };
+        match accepted {
             Ok(task) => {
                 self.accepted.fetch_add(1, SeqCst);
                 Some(Returning::new(task.store()))
@@ -209,7 +224,7 @@ impl<F: Planned<R>, R: Abort + Wait + Copy + Drop + 'static> Stage<F, R> {
     }
 
     /// Drops a handle, which cancels its task.
-    pub fn drop_handle(&self, stored: Returning<StoredTask>) {
+    pub fn drop_handle(&self, stored: Returning<ExStoredTask>) {
         drop_stored(self.rt, self.realm, stored);
     }
 

@@ -1,7 +1,8 @@
 //! Threads that really overlap. A thread whose loop passes its bound fails the test.
 use crate::parts::{Counts, Job, Meddler, TestRealm, Work};
 use crate::stage::{End, MOST_TURNS, Planned, Stage};
-use async_task::{Returning, StoredTask};
+use async_executor::ExStoredTask;
+use async_task::Returning;
 use std::process::Abort;
 use std::sync::Wait;
 use std::sync::atomic::AtomicU64;
@@ -55,7 +56,7 @@ impl<F: Planned<R>, R: Abort + Wait + Copy + Drop + 'static> Stage<F, R> {
     }
 
     /// Spawns futures of the names from 0 on. Each has the handle of the one before; the last one's is the answer.
-    fn spawn_chain(&self, names: u64) -> Option<Returning<StoredTask>> {
+    fn spawn_chain(&self, names: u64) -> Option<Returning<ExStoredTask>> {
         let mut other = None;
         for name in 0..names {
             let meddler = Meddler {

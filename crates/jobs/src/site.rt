@@ -4,8 +4,8 @@ ghost use Rattle.job_text.specs.Answers.{IsInRange};
 
 use crate::gate::Gate;
 use crate::work::Work;
-use async_executor::{ExRealm, ExWaker, Executor, SpawnError};
-use async_task::{Future, NoMemory, Poll, Returning, StoredTask, TaskError};
+use async_executor::{ExRealm, ExStoredTask, ExWaker, Executor, SpawnError};
+use async_task::{Future, NoMemory, Poll, Returning, TaskError};
 use blocking::ThreadWaker;
 use concurrent_queue::ConcurrentQueue;
 use job_text::{Job, Solved};
@@ -43,7 +43,7 @@ where
 /// A job that was spawned and is awaited: its handle, and its number.
 #[derive(Drop)]
 pub(crate) struct Awaited {
-    handle: Returning<StoredTask>,
+    handle: Returning<ExStoredTask>,
     number: u64,
 }
 

@@ -1,5 +1,6 @@
 -- What a spawn does with the futures and with the tasks.
 use Rattle.std.specs.Prelude.{◌≡◌, ◌<◌, ◌≤◌, ◌⊎◌, ◌++◌, [], ◌∷◌, length, Option, Some, Result, Ok}
+use Rattle.executor_parts.specs.declared.mark.Mark.{Mark}
 use Rattle.executor_parts.specs.declared.places.EntryPlace.{EntryPlace}
 use Rattle.executor_parts.specs.Places.{Entry, Places}
 use Rattle.solo.specs.declared.owed.Spawned.{Spawned}
@@ -10,11 +11,13 @@ use Rattle.solo.specs.Solo.{Spawns}
 
 module _ {F O W : Type 0} where
   -- one entry more, which comes last and has the future; the executor of one owner has spawned its place
-  pub record Accepts (future : F) (old new : Places F O) (spawned : Spawned W) (before after : Solo EntryPlace (Unit {0}) W) : Type 0 where
+  pub record Accepts
+      (mark : Mark) (future : F) (old new : Places F O) (spawned : Spawned W) (before after : Solo EntryPlace (Unit {0}) W)
+      : Type 0 where
     pub entry : Entry F O
     pub entered : new.entries ≡ old.entries ++ entry ∷ []
     pub inside : entry.future ≡ Some future
-    pub spawns : Spawns (record { key = entry.key; stamp = entry.stamp }) before (Ok spawned) after
+    pub spawns : Spawns mark (record { key = entry.key; stamp = entry.stamp }) before (Ok spawned) after
 
   -- full only where there are as many entries as the limit
   abbrev pub IsRefusedAt : Places F O → Solo EntryPlace (Unit {0}) W → SpawnError F → Type 0

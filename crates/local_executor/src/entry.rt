@@ -11,6 +11,7 @@ use crate::debug::show;
 use crate::errors::LocalError;
 use crate::{ending, making};
 use async_task::{Future, NoMemory, Wake};
+use executor_parts::Mark;
 use solo::{Kind, SpawnError};
 use std::alloc::Global;
 use std::fmt;
@@ -80,16 +81,24 @@ where
         self.body.has_none(&mut Unlocked::at_entry())
     }
 
-    /// Hands the executor a future. Its task is queued, and the handle is answered: a future with the output, whose drop
+    /// Hands the executor a plain future. Its task is queued, and the handle is answered: a future with the output, whose drop
     /// cancels the task. `Full` where as many accepted futures as the limit are not dropped yet, and only then want of memory
     /// for the task. The future comes back.
     pub fn spawn(&self, future: F) -> Result<LocalHandle<T, W, R>, SpawnError<F>>
         ensures { IfErr result (λ error. refused error ≡ future) }
     {
-        self.body.hand_in(future, &mut Unlocked::at_entry())
+        self.spawn_marked(future, Mark::Plain)
     }
 
-    /// Hands the executor one future after the other, until the iterator ends or one is refused. The handles of those that
+    /// As `spawn`, with this mark. An urgent future's task goes into the urgent queue, which seven of eight searches look at
+    /// before the other.
+    pub fn spawn_marked(&self, future: F, mark: Mark) -> Result<LocalHandle<T, W, R>, SpawnError<F>>
+        ensures { IfErr result (λ error. refused error ≡ future) }
+    {
+        self.body.hand_in(future, mark, &mut Unlocked::at_entry())
+    }
+
+    /// Hands the executor one plain future after the other, until the iterator ends or one is refused. The handles of those that
     /// were accepted come last among these, in order, and the refused future comes back with the cause; the rest stays in the
     /// iterator. The room for a handle is asked for before its future is spawned.
     pub fn spawn_many<I: Iterator<Item = F>>(
@@ -179,7 +188,7 @@ where
     }
 }
 
-/// How many futures have a waker in the table, how many tasks stand in the queue, how many in each run's own, and how many ticks
+/// How many futures have a waker in the table, how many tasks stand in the two queues, how many in each run's own, and how many ticks
 /// and runs sleep; `<locked>` for each where the lock isn't free.
 impl<F, T, W, R> fmt::Debug for LocalExecutor<F, T, W, R>
 where

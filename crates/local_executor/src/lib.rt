@@ -31,4 +31,4 @@ pub use entry::{
     LocalWaker, StaticLocalExecutor,
 };
 pub use errors::{LocalError, RunError};
-pub use solo::SpawnError;
+pub use solo::{Mark, SpawnError};

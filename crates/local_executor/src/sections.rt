@@ -12,21 +12,22 @@ use crate::names::Tasks;
 use crate::out::{
     dropped_out, owed_out, polled_out, ran_out, taken_out, ticked_out, told_out, waker_in,
 };
-use executor_parts::EntryPlace;
+use executor_parts::{EntryPlace, Mark};
 use solo::{
     Back, Dropped, Leaving, Lent, Missed, Owed, Polled, Ran, RunLeft, Runner, SoloWaker,
     SpawnError, Spawned, Taken, Task, Ticked, Ticker, Told,
 };
 use std::alloc::AllocError;
 
-/// The future at a place enters, and its task is queued. Refused, nothing changes.
+/// The future at a place enters with this mark, and its task is queued. Refused, nothing changes.
 pub fn spawn<W>(
     tasks: &mut Tasks<W>,
     place: EntryPlace,
+    mark: Mark,
 ) -> Result<Spawned<Foreign<W>>, SpawnError<EntryPlace>>
-    ensures { solo.Spawns place tasks.old result tasks.new }
+    ensures { solo.Spawns mark place tasks.old result tasks.new }
 {
-    match tasks.spawn(place) {
+    match tasks.spawn(place, mark) {
         Ok(Spawned { task, told }) => Ok(Spawned {
             task,
             told: told_out(told),
@@ -35,7 +36,7 @@ pub fn spawn<W>(
     }
 }
 
-/// The first task of the queue leaves it.
+/// The task that a search finds leaves its queue.
 #[inline(always)]
 pub fn take<W>(tasks: &mut Tasks<W>) -> Taken<EntryPlace, Foreign<W>>
     ensures tasks { tasks.new ≡ solo.taken tasks.old }

@@ -12,12 +12,12 @@ use crate::output::Output;
 use crate::sections;
 use crate::store::Both;
 use async_task::{Future, Wake};
-use executor_parts::SpawnRefused;
+use executor_parts::{Mark, SpawnRefused};
 use solo::{SpawnError, Spawned};
 use std::alloc::Global;
 use std::sync::Wait;
 
-/// Accepts a future, while the store is open and the lock taken.
+/// Accepts a future with this mark, while the store is open and the lock taken.
 ///
 /// 1. Tests the limit. Without memory for an entry, or for the place of an output, the future comes back.
 /// 2. Makes the task, and queues it. Refused, the future comes back.
@@ -27,11 +27,12 @@ fn accept<F, T, W>(
     tasks: &mut Tasks<W>,
     alloc: Global,
     future: F,
+    mark: Mark,
 ) -> Result<(Spawned<Foreign<W>>, Output<T>), SpawnError<F>>
 where
     F: Drop,
     T: Drop,
-    ensures accepted { IfOk result (λ both. Accepts future futures.old futures.new both.0 tasks.old tasks.new) }
+    ensures accepted { IfOk result (λ both. Accepts mark future futures.old futures.new both.0 tasks.old tasks.new) }
     ensures future { IfErr result (λ error. refused error ≡ future) }
     ensures cause { IfErr result (IsRefusedAt futures.old tasks.old) }
     ensures same { IfErr result (λ _. futures.new.entries ≡ futures.old.entries) }
@@ -45,7 +46,7 @@ where
         vacancy.give_back();
         return Err(SpawnError::NoMemory(future));
     };
-    match sections::spawn(tasks, vacancy.place()) {
+    match sections::spawn(tasks, vacancy.place(), mark) {
         Ok(spawned) => {
             futures.enter(vacancy, future, own);
             Ok((spawned, given))
@@ -66,10 +67,11 @@ impl<F: Drop, T: Drop, W> Both<'_, F, T, W> {
         &mut self,
         alloc: Global,
         future: F,
+        mark: Mark,
     ) -> Result<(Spawned<Foreign<W>>, Output<T>), SpawnError<F>>
         ensures { IfErr result (λ error. refused error ≡ future) }
     {
-        accept(&mut *self.futures, self.locked.get(), alloc, future)
+        accept(&mut *self.futures, self.locked.get(), alloc, future, mark)
     }
 }
 
@@ -80,10 +82,11 @@ where
     W: Wake + Drop,
     R: Wait + Copy + Drop,
 {
-    /// Accepts a future and queues its task, or refuses it. Then it calls who sleeps and is told.
+    /// Accepts a future with this mark and queues its task, or refuses it. Then it calls who sleeps and is told.
     pub(crate) fn hand_in(
         &self,
         future: F,
+        mark: Mark,
         unlocked: &mut Unlocked,
     ) -> Result<LocalHandle<T, W, R>, SpawnError<F>>
         ensures { IfErr result (λ error. refused error ≡ future) }
@@ -92,7 +95,7 @@ where
         let accepted = self
             .store
             .open_with(&link, unlocked)
-            .accept(self.alloc, future);
+            .accept(self.alloc, future, mark);
         match accepted {
             Ok(both) => {
                 let (spawned, output) = both;

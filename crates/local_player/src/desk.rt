@@ -44,10 +44,11 @@ where
     R: Wait + Copy + Drop,
 {
     fn spawn(&self, plan: Plan<Handle<R>>) -> Result<Handle<R>, Refused<Handle<R>>> {
+        let mark = plan.mark;
         let future = scripted(self.shelf, plan)?;
         let spawned = match &self.executor {
-            OneOf::Owned(executor) => executor.spawn(future),
-            OneOf::Static(executor) => executor.spawn(future),
+            OneOf::Owned(executor) => executor.spawn_marked(future, mark),
+            OneOf::Static(executor) => executor.spawn_marked(future, mark),
         };
         answered(self.shelf, spawned)
     }

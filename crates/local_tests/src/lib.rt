@@ -5,6 +5,8 @@
 mod door;
 #[cfg(test)]
 mod many;
+#[cfg(test)]
+mod marks;
 mod moving;
 #[cfg(test)]
 mod nested;

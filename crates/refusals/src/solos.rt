@@ -2,7 +2,7 @@
 use crate::parts::{Drops, Job};
 use crate::report::Call;
 use crate::rows::{Ended, Look, Trial};
-use solo::{Dropped, Kind, RunLeft, Solo, SpawnError, Spawned, Told};
+use solo::{Dropped, Kind, Mark, RunLeft, Solo, SpawnError, Spawned, Told};
 use std::alloc::Global;
 use std::sync::Wait;
 use std::sync::atomic::Ordering::SeqCst;
@@ -70,7 +70,7 @@ impl<R: Wait + Copy + Drop> Solos<R> {
         let Some(solo) = &mut self.solo else {
             return Ended::Wrong;
         };
-        match solo.spawn(job) {
+        match solo.spawn(job, Mark::Plain) {
             Ok(Spawned { task: _, told }) => Ended::of(is_silent(told)),
             Err(SpawnError::NoMemory(job)) => {
                 let is_same = job.name == 6;

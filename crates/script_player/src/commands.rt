@@ -6,7 +6,6 @@ use crate::handle::Hold;
 use crate::player::Player;
 use crate::shelf::Keep;
 use crate::sitting::Seats;
-use executor_parts::Mark;
 use script::{Command, Item, Plain, Refusal, Request, Script, Word, parse};
 use std::alloc::Global;
 
@@ -22,7 +21,7 @@ pub enum Stop {
 }
 
 /// Reads a script of whole calls. None is one without a line. The first bad line is refused, and then the first that is no
-/// whole call of one party, is refused memory, spawns an urgent future, or has an item `nest`.
+/// whole call of one party, is refused memory, or has an item `nest`.
 pub fn read_whole(alloc: Global, text: &[u8]) -> Result<Option<Script>, PlayError> {
     let Some(script) = parse(alloc, text)? else {
         return Ok(None);
@@ -43,8 +42,8 @@ fn first_not_whole(commands: &[Command]) -> Option<u64> {
     None
 }
 
-/// The call of a command, where it is a whole one of one party, is refused no memory, and spawns no urgent future and none that
-/// runs another in its poll: that would need the executor, whose type has the future's.
+/// The call of a command, where it is a whole one of one party, is refused no memory, and spawns no future that runs another in
+/// its poll: that would need the executor, whose type has the future's.
 fn whole(command: &Command) -> Option<&Plain> {
     match command {
         Command::Whole(
@@ -52,16 +51,8 @@ fn whole(command: &Command) -> Option<&Plain> {
                 refusal: Refusal::Nothing,
                 plain,
             },
-        ) if !nests(plain) && !is_urgent(plain) => Some(plain),
+        ) if !nests(plain) => Some(plain),
         _ => None,
-    }
-}
-
-/// A future is spawned with a mark, which running executors don't take.
-fn is_urgent(plain: &Plain) -> bool {
-    match plain {
-        Plain::Spawn { mark, .. } => *mark == Mark::Urgent,
-        _ => false,
     }
 }
 

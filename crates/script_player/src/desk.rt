@@ -6,6 +6,7 @@ use crate::handles::SharedHandles;
 use crate::outside::Bell;
 use crate::own::Own;
 use crate::shelf::SharedShelf;
+use executor_parts::Mark;
 use script::{Item, Name};
 use std::rc::Rc;
 
@@ -13,6 +14,7 @@ use std::rc::Rc;
 #[derive(Drop)]
 pub struct Plan<H: Drop> {
     pub name: Name,
+    pub mark: Mark,
     pub items: Vec<Item>,
     /// The handles that its items name.
     pub held: Vec<Held<H>>,
@@ -59,6 +61,7 @@ pub fn scripted<H: Drop, S: Drop>(
 ) -> Result<Scripted<H, S>, Refused<H>> {
     let Plan {
         name,
+        mark: _,
         items,
         held,
         handles,

@@ -6,6 +6,7 @@ use crate::outside::Bell;
 use crate::own::Own;
 use crate::player::{Named, Player, put};
 use crate::shelf::Keep;
+use executor_parts::Mark;
 use script::{Item, Name, Plain};
 use std::alloc::Global;
 use std::collections::BTreeMap;
@@ -42,8 +43,9 @@ impl<H: Hold, K: Keep> Player<H, K> {
         N: Drop,
     {
         match plain {
-            Plain::Spawn { name, items, .. } => self.spawn::<D, T, N>(
+            Plain::Spawn { mark, name, items } => self.spawn::<D, T, N>(
                 desk,
+                *mark,
                 *name,
                 items.as_slice(),
             ),
@@ -65,7 +67,7 @@ impl<H: Hold, K: Keep> Player<H, K> {
     }
 
     /// Spawns a future of this name, where that is free and the handles are there that the items name.
-    fn spawn<D, T, N>(&mut self, desk: &D, name: Name, items: &[Item]) -> Answer
+    fn spawn<D, T, N>(&mut self, desk: &D, mark: Mark, name: Name, items: &[Item]) -> Answer
     where
         D: Desk<H, T, N>,
         T: Drop,
@@ -83,6 +85,7 @@ impl<H: Hold, K: Keep> Player<H, K> {
         let held = self.take_handles(items);
         match desk.spawn(Plan {
             name,
+            mark,
             items: own_items,
             held,
             handles,

@@ -1,2 +1,3 @@
 mod Stealing
 mod Leaking
+mod Searching

@@ -1,10 +1,11 @@
 -- The tasks of an executor of one owner: what each call does to the task of a name, and what it answers.
 use Rattle.std.specs.Prelude.{ℕ, ◌^◌, ◌+◌, ◌==◌, nat_lt, Bool, true, false, ◌&&◌, not, Option, Some, None, is_some, slice_set}
 use Rattle.slab.specs.Slab.{Slab, get, with_value}
+use Rattle.executor_parts.specs.declared.mark.Mark.{Mark}
 use Rattle.executor_parts.specs.declared.places.EntryPlace.{EntryPlace}
 use Rattle.task_moves.specs.AbstractTask as abstract
 use Rattle.task_moves.specs.LocalTask as local
-use Rattle.task_moves.specs.LocalTask.{LocalValue, with_task, told, info_of}
+use Rattle.task_moves.specs.LocalTask.{LocalValue, Ended, with_task, told, info_of}
 use Rattle.task_moves.specs.declared.schedule_info.ScheduleInfo.{ScheduleInfo}
 use Rattle.task_moves.specs.declared.local_task.answers.FuturePlace.{FuturePlace}
 use Rattle.task_moves.specs.declared.local_task.answers.FuturePlace.TheVariants.{Home, Lent, Dropping, Gone}
@@ -29,7 +30,7 @@ choose false a b = b
 
 -- a task as it is kept
 abbrev pub Kept : (T X : Type 0) → Type 0
-Kept T X = LocalValue EntryPlace T (SoloWaker X)
+Kept T X = LocalValue EntryPlace T (SoloWaker X) Mark
 
 -- the place of a future that is there, to be dropped or polled
 abbrev pub start_by : Bool → FuturePlace EntryPlace → Option (Start EntryPlace)
@@ -65,11 +66,15 @@ module _ {T X : Type 0} where
   asked f otherwise task s = asked_by f otherwise task (get s.slab task.key)
 
   -- a new task: queued, with its handle and no waker but the one that an owned executor's table counts
-  abbrev pub new_task : EntryPlace → Bool → Kept T X
-  new_task place held = record { task = abstract.spawned (choose held 1 0); future = Home place }
+  abbrev pub new_task : EntryPlace → Bool → Mark → Kept T X
+  new_task place held mark = record { task = abstract.spawned (choose held 1 0); future = Home place; metadata = mark }
 
-  abbrev pub entered : ℕ → EntryPlace → Bool → Option (Cell T X)
-  entered number place held = Some (record { number = number; task = new_task place held })
+  abbrev pub entered : ℕ → EntryPlace → Bool → Mark → Option (Cell T X)
+  entered number place held mark = Some (record { number = number; task = new_task place held mark })
+
+  -- in which queue it belongs
+  abbrev pub mark : Kept T X → Mark
+  mark v = v.metadata
 
   abbrev pub woken : Kept T X → Kept T X
   woken v = with_task v (abstract.wake v.task)
@@ -121,7 +126,7 @@ module _ {T X : Type 0} where
   may_start v = local.is_ready_to_start v
 
   abbrev pub started : Kept T X → Kept T X
-  started v = choose (may_start v) (record { task = abstract.begin_run v.task; future = local.started v.task.closed }) v
+  started v = choose (may_start v) (record v { task = abstract.begin_run v.task; future = local.started v.task.closed }) v
 
   abbrev pub start_answer : Kept T X → Option (Start EntryPlace)
   start_answer v = choose (may_start v) (start_by v.task.closed v.future) None
@@ -129,11 +134,11 @@ module _ {T X : Type 0} where
   abbrev pub is_lent : Kept T X → Bool
   is_lent v = local.is_lent v.future
 
-  abbrev pub settled : LocalValue EntryPlace T (SoloWaker X) → Kept T X
-  settled v = record v { task = told v.task }
+  abbrev pub settled : Ended EntryPlace T (SoloWaker X) → Kept T X → Kept T X
+  settled end v = record v { task = told end.task; future = end.future }
 
   abbrev pub ended_ready : T → Kept T X → Kept T X
-  ended_ready output v = choose (is_lent v) (settled (local.settle (Ready output) v.task)) v
+  ended_ready output v = choose (is_lent v) (settled (local.settle (Ready output) v.task) v) v
 
   abbrev pub ready_drops : T → Kept T X → Option T
   ready_drops output v = choose (is_lent v) (abstract.end_ready output v.task).dropped (Some output)
@@ -142,13 +147,13 @@ module _ {T X : Type 0} where
   ready_calls output v = choose (is_lent v) (abstract.end_ready output v.task).called None
 
   abbrev pub ended_pending : EntryPlace → Kept T X → Kept T X
-  ended_pending place v = choose (is_lent v) (settled (local.settle (Pending place) v.task)) v
+  ended_pending place v = choose (is_lent v) (settled (local.settle (Pending place) v.task) v) v
 
   abbrev pub pending_answer : Kept T X → After
   pending_answer v = choose (is_lent v) (pending_by (abstract.pending_end v.task)) Unknown
 
   abbrev pub retracted : Kept T X → Kept T X
-  retracted v = choose (may_start v) (record { task = record v.task { closed = true }; future = Dropping }) v
+  retracted v = choose (may_start v) (record v { task = record v.task { closed = true }; future = Dropping }) v
 
   abbrev pub retract_answer : Kept T X → Option EntryPlace
   retract_answer v = choose (may_start v) (retract_by v.future) None
@@ -157,7 +162,7 @@ module _ {T X : Type 0} where
   is_dropping v = local.is_dropping v.future
 
   abbrev pub finished : Kept T X → Kept T X
-  finished v = choose (is_dropping v) (record { task = (local.finish v.task).task; future = Gone }) v
+  finished v = choose (is_dropping v) (record v { task = (local.finish v.task).task; future = Gone }) v
 
   abbrev pub finish_answer : Kept T X → Finish (SoloWaker X)
   finish_answer v = choose (is_dropping v) (local.finish_answer v.task) Nothing

@@ -1,6 +1,7 @@
 -- The end of an executor of one owner.
 use Rattle.std.specs.Prelude.{List, [], ◌∷◌, map, Option, Some, None, slice_get}
-use Rattle.queue_steps.specs.ClosableQueue.{ClosableQueue, taken as without_first, shut}
+use Rattle.queue_steps.specs.ClosableQueue.{ClosableQueue, taken as without_first}
+use Rattle.executor_parts.specs.declared.mark.Mark.TheVariants.{Urgent}
 use Rattle.executor_parts.specs.declared.places.EntryPlace.{EntryPlace}
 use Rattle.executor_parts.specs.Places.{Entry, entry_in, set_future, future_of, unwoken}
 use Rattle.task_moves.specs.declared.local_task.answers.Finish.{Finish}
@@ -13,12 +14,13 @@ use Rattle.solo.specs.declared.owed.Told.{Told}
 use Rattle.solo.specs.declared.closing.Awaited.{Awaited}
 use Rattle.solo.specs.declared.solo.Solo.{Solo}
 use Rattle.solo.specs.Line.{pushed}
+use Rattle.solo.specs.Lines.{shut_both, taken_from, found_from}
 use Rattle.solo.specs.Table.{first_parts, rest_table}
 use Rattle.solo.specs.Cells.{asked}
 use Rattle.solo.specs.Cells as cells
 use Rattle.solo.specs.Turns as turns
 use Rattle.solo.specs.Turns.{turned, swept}
-use Rattle.solo.specs.Solo.{called, dropped, hands, woken, wake_answer, popped}
+use Rattle.solo.specs.Solo.{called, dropped, hands, woken, wake_answer}
 
 abbrev pub pushed_if : Option Task → ClosableQueue Task → ClosableQueue Task
 pushed_if (Some task) line = pushed task line
@@ -97,7 +99,7 @@ module _ {F T X : Type 0} where
   leaving_answer task s = wake_answer task s
 
   abbrev pub shut_line : Solo F T X → Solo F T X
-  shut_line s = record s { line = shut s.line }
+  shut_line s = record s { lines = shut_both s.lines }
 
   abbrev pub line_drained_by : Option Task → Solo F T X → Solo F T X
   line_drained_by (Some task) s = retracted task s
@@ -107,11 +109,18 @@ module _ {F T X : Type 0} where
   line_answer_by (Some task) s = Some (retract_answer task s)
   line_answer_by None s = None
 
+  -- the first task of the urgent queue, or else of the plain one
+  abbrev pub first_lined : Solo F T X → Option Task
+  first_lined s = (found_from Urgent s.lines).task
+
+  abbrev pub first_out : Solo F T X → Solo F T X
+  first_out s = record s { lines = taken_from Urgent s.lines }
+
   abbrev pub line_drained : Solo F T X → Solo F T X
-  line_drained s = line_drained_by (slice_get s.line.items 0) (popped (shut_line s))
+  line_drained s = line_drained_by (first_lined (shut_line s)) (first_out (shut_line s))
 
   abbrev pub line_answer : Solo F T X → Option (Owed F T X)
-  line_answer s = line_answer_by (slice_get s.line.items 0) (popped (shut_line s))
+  line_answer s = line_answer_by (first_lined (shut_line s)) (first_out (shut_line s))
 
   abbrev pub drained_waking : Option Task → Solo F T X → Solo F T X
   drained_waking (Some task) s = leaving_woken task s

@@ -1,4 +1,5 @@
 pub mod Line
+pub mod Lines
 pub mod Cells
 pub mod Table
 pub mod OwnQueues

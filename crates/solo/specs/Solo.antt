@@ -1,7 +1,8 @@
 -- What each call of an executor of one owner does, and what it hands out.
 use Rattle.std.specs.Prelude.{◌≡◌, ℕ, ◌==◌, ◌||◌, Bool, true, false, [], Option, Some, None, is_some, Result, Ok, Err, length}
-use Rattle.std.specs.Prelude.{slice_get, unwrap_or}
-use Rattle.queue_steps.specs.ClosableQueue.{new_queue, count_of_new, taken as without_first}
+use Rattle.std.specs.Prelude.{◌+◌, ◌-◌, ◌^◌, min, unwrap_or}
+use Rattle.queue_steps.specs.ClosableQueue.{new_queue, count_of_new}
+use Rattle.executor_parts.specs.declared.mark.Mark.{Mark}
 use Rattle.executor_parts.specs.declared.places.EntryPlace.{EntryPlace}
 use Rattle.executor_parts.specs.Places.{entry_in, set_future, displaced}
 use Rattle.task_moves.specs.declared.local_task.answers.Back.{Back}
@@ -28,6 +29,7 @@ use Rattle.solo.specs.declared.cells.After.TheVariants.{Queue, Rest, Drop as Dro
 use Rattle.solo.specs.Table.{Accepts, Refuses}
 use Rattle.solo.specs.Cells.{choose, changed, asked, tidied}
 use Rattle.solo.specs.Cells as cells
+use Rattle.solo.specs.Lines.{new_lines, searched, search_answer}
 use Rattle.solo.specs.OwnQueues as own
 use Rattle.solo.specs.Turns as turns
 use Rattle.solo.specs.Turns.{turned, swept}
@@ -56,7 +58,7 @@ module _ {F T X : Type 0} where
     pub cells : s.cells.slab.slots ≡ []
     pub table : s.table ≡ record s.table { entries = []; limit = limit }
     pub going : s.going ≡ record s.going { entries = []; limit = limit }
-    pub line : s.line ≡ new_queue (Some limit) (count_of_new limit)
+    pub lines : s.lines ≡ new_lines limit
     pub leaving : s.leaving ≡ new_queue (Some limit) (count_of_new limit)
     pub sleepers : s.sleepers ≡ record { count = 0; rooms = 0; wakers = []; free = [] }
     pub notified : s.notified ≡ true
@@ -68,22 +70,31 @@ module _ {F T X : Type 0} where
   is_empty s = length s.table.entries == 0
 
   -- all but cells and table stay, and one more is accepted
-  abbrev pub Accepting : F → Solo F T X → Result Task (SpawnError F) → Solo F T X → Type 0
-  Accepting future old (Ok task) new =
-      Accepts old.accepted (counts old.kind) future old.table old.cells task new.table new.cells
+  abbrev pub Accepting : Mark → F → Solo F T X → Result Task (SpawnError F) → Solo F T X → Type 0
+  Accepting mark future old (Ok task) new =
+      Accepts old.accepted (counts old.kind) mark future old.table old.cells task new.table new.cells
       × (new ≡ record old { table = new.table; cells = new.cells; accepted = own.one_more old.accepted })
-  Accepting future old (Err refused) new =
+  Accepting mark future old (Err refused) new =
       Refuses future old.table old.cells new.table new.cells refused × (new ≡ record old { table = new.table; cells = new.cells })
 
   -- a future is accepted and then its task queued, or it is refused
-  abbrev pub Spawns : F → Solo F T X → Result (Spawned X) (SpawnError F) → Solo F T X → Type 0
-  Spawns future old (Ok spawned) new =
-      (s : Solo F T X) × Accepting future old (Ok spawned.task) s × (new ≡ turns.scheduled spawned.task s)
+  abbrev pub Spawns : Mark → F → Solo F T X → Result (Spawned X) (SpawnError F) → Solo F T X → Type 0
+  Spawns mark future old (Ok spawned) new =
+      (s : Solo F T X) × Accepting mark future old (Ok spawned.task) s × (new ≡ turns.scheduled spawned.task s)
       × (spawned.told ≡ turns.schedule_answer spawned.task s)
-  Spawns future old (Err refused) new = Accepting future old (Err refused) new
+  Spawns mark future old (Err refused) new = Accepting mark future old (Err refused) new
 
+  -- how many tasks are queued; a count stays at its greatest number
+  abbrev pub queue_length : Solo F T X → ℕ
+  queue_length s = min (length s.lines.urgent.items + length s.lines.plain.items) (2 ^ 64 - 1)
+
+  -- the task that a search of both queues finds
+  abbrev pub sought : Solo F T X → Option Task
+  sought s = (search_answer s.lines).task
+
+  -- a turn is taken, and that task leaves its queue
   abbrev pub popped : Solo F T X → Solo F T X
-  popped s = record s { line = without_first s.line }
+  popped s = record s { lines = searched s.lines }
 
   abbrev pub taken_by : Option Task → Solo F T X → Solo F T X
   taken_by None s = s
@@ -91,14 +102,14 @@ module _ {F T X : Type 0} where
 
   -- the first task leaves the queue, a sleeper is told, and the task's turn begins
   abbrev pub taken : Solo F T X → Solo F T X
-  taken s = taken_by (slice_get s.line.items 0) (popped s)
+  taken s = taken_by (sought s) (popped s)
 
   abbrev pub take_answer_by : Option Task → Solo F T X → Taken F X
   take_answer_by None s = record { found = Nothing; sleeper = None }
   take_answer_by (Some task) s = record { found = turns.begin_answer task (turns.told s); sleeper = turns.told_waker s }
 
   abbrev pub take_answer : Solo F T X → Taken F X
-  take_answer s = take_answer_by (slice_get s.line.items 0) (popped s)
+  take_answer s = take_answer_by (sought s) (popped s)
 
   -- the future is dropped: its entry goes, and then the task keeps the output, or lets it go
   abbrev pub settled_ready : Lent → T → Solo F T X → Solo F T X

@@ -1,11 +1,14 @@
 -- How a run searches for a task, and steals.
-use Rattle.std.specs.Prelude.{ℕ, zero, suc, ◌+◌, ◌%◌, ◌==◌, nat_lt, cond, Bool, true, false, Option, Some, None, length, drop, slice_get}
+use Rattle.std.specs.Prelude.{ℕ, zero, suc, ◌+◌, ◌%◌, ◌==◌, nat_lt, cond, Bool, true, false, Option, Some, None, length, drop}
 use Rattle.std.specs.Int.{div_ceil}
 use Rattle.solo.specs.declared.names.Task.{Task}
 use Rattle.solo.specs.declared.runs.Sought.{Sought}
 use Rattle.solo.specs.declared.steals.Source.{Source}
 use Rattle.solo.specs.declared.steals.Source.TheVariants.{Common, Own}
 use Rattle.solo.specs.declared.solo.Solo.{Solo}
+use Rattle.executor_parts.specs.declared.mark.Mark.{Mark}
+use Rattle.executor_parts.specs.declared.mark.Mark.TheVariants.{Plain, Urgent}
+use Rattle.solo.specs.Lines.{line_of, first_of as first_in, popped_from, search_answer}
 use Rattle.solo.specs.OwnQueues as own
 use Rattle.solo.specs.Cells.{choose}
 use Rattle.solo.specs.Solo.{popped}
@@ -31,15 +34,15 @@ module _ {F T X : Type 0} where
   kept number task s = own_changed (own.changed (own.pushed task) number s.runs) s
 
   abbrev pub length_of : Source → Solo F T X → ℕ
-  length_of Common s = length s.line.items
+  length_of (Common mark) s = length (line_of mark s.lines).items
   length_of (Own number) s = own.count_of number s.runs
 
   abbrev pub first_of : Source → Solo F T X → Option Task
-  first_of Common s = slice_get s.line.items 0
+  first_of (Common mark) s = first_in mark s.lines
   first_of (Own number) s = own.first_of number s.runs
 
   abbrev pub without_first : Source → Solo F T X → Solo F T X
-  without_first Common s = popped s
+  without_first (Common mark) s = record s { lines = popped_from mark s.lines }
   without_first (Own number) s = own_popped number s
 
   abbrev pub moved_on : Option Task → Solo F T X → (Task → Solo F T X) → Solo F T X
@@ -59,8 +62,9 @@ module _ {F T X : Type 0} where
   abbrev pub stolen : Source → ℕ → Solo F T X → Solo F T X
   stolen source number s = moved (share (length_of source s) (own.free_of number s.runs)) source number s
 
+  -- from the urgent queue, and then from the plain one
   abbrev pub stolen_if : Bool → ℕ → Solo F T X → Solo F T X
-  stolen_if due number s = choose due (stolen Common number s) s
+  stolen_if due number s = choose due (stolen (Common Plain) number (stolen (Common Urgent) number s)) s
 
   -- is the queue at this place the run's own?
   abbrev pub is_own : ℕ → ℕ → Solo F T X → Bool
@@ -96,20 +100,20 @@ module _ {F T X : Type 0} where
   abbrev pub walk_answer : ℕ → ℕ → Solo F T X → Sought
   walk_answer number start s = record { task = (whole_round number start s).0; has_walked = nat_lt 0 s.runs.listed }
 
-  abbrev pub further_by : Option Task → ℕ → ℕ → Solo F T X → Solo F T X
-  further_by (Some task) number start s = stolen Common number s
-  further_by None number start s = walked number start s
+  abbrev pub further_by : Option Task → Mark → ℕ → ℕ → Solo F T X → Solo F T X
+  further_by (Some task) mark number start s = stolen (Common mark) number s
+  further_by None mark number start s = walked number start s
 
   abbrev pub further_answer_by : Option Task → ℕ → ℕ → Solo F T X → Sought
   further_answer_by (Some task) number start s = record { task = Some task; has_walked = false }
   further_answer_by None number start s = walk_answer number start s
 
-  -- it takes the first of the executor's queue, and steals from there; or it walks
+  -- it takes what a search of both queues finds, and steals from that queue; or it walks
   abbrev pub sought_further : ℕ → ℕ → Solo F T X → Solo F T X
-  sought_further number start s = further_by (slice_get s.line.items 0) number start (popped s)
+  sought_further number start s = further_by (search_answer s.lines).task (search_answer s.lines).mark number start (popped s)
 
   abbrev pub seek_further_answer : ℕ → ℕ → Solo F T X → Sought
-  seek_further_answer number start s = further_answer_by (slice_get s.line.items 0) number start (popped s)
+  seek_further_answer number start s = further_answer_by (search_answer s.lines).task number start (popped s)
 
   abbrev pub sought_by : Option Task → ℕ → ℕ → Solo F T X → Solo F T X
   sought_by (Some task) number start s = s

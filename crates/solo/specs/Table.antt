@@ -2,6 +2,7 @@
 use Rattle.std.specs.Prelude.{◌≡◌, ℕ, ◌<◌, ◌≤◌, Bool, true, List, [], ◌∷◌, ◌++◌, length, Option, Some, None}
 use Rattle.slab.specs.Slab.{get, Updates, HasRoomFor}
 use Rattle.executor_parts.specs.Places.{Entry, entry_in, left_by, parts_of}
+use Rattle.executor_parts.specs.declared.mark.Mark.{Mark}
 use Rattle.executor_parts.specs.declared.places.EntryPlace.{EntryPlace}
 use Rattle.solo.specs.declared.names.Task.{Task}
 use Rattle.solo.specs.declared.owed.SpawnError.{SpawnError}
@@ -48,7 +49,7 @@ module _ {F : Type 0} where
 
 module _ {F T X : Type 0} where
   -- below the limit, a future comes last in the table, and its task among the cells
-  pub record Accepts (number : ℕ) (held : Bool) (future : F) (old : TableValue F) (cells_before : Cells T X) (task : Task)
+  pub record Accepts (number : ℕ) (held : Bool) (mark : Mark) (future : F) (old : TableValue F) (cells_before : Cells T X) (task : Task)
       (new : TableValue F) (cells_after : Cells T X) : Type 0 where
     pub below : length old.entries < old.limit
     pub place : EntryPlace
@@ -56,7 +57,7 @@ module _ {F T X : Type 0} where
         new ≡ record old { entries = old.entries ++ new_entry place future (counted_waker held task) ∷ []; has_room = new.has_room }
     pub numbered : task.number ≡ number
     pub was_free : get cells_before.slab task.key ≡ None
-    pub cell : Updates cells_before.slab cells_after.slab task.key (cells.entered number place held)
+    pub cell : Updates cells_before.slab cells_after.slab task.key (cells.entered number place held mark)
 
   -- nothing changes but room
   pub record Same (old : TableValue F) (cells_before : Cells T X) (new : TableValue F) (cells_after : Cells T X) : Type 0 where

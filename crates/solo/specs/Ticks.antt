@@ -1,5 +1,5 @@
 -- What ticks do to an executor of one owner.
-use Rattle.std.specs.Prelude.{ℕ, ◌+◌, ◌-◌, nat_lt, Bool, true, false, Option, Some, None, Result, Ok, Err, length, slice_get, slice_set}
+use Rattle.std.specs.Prelude.{ℕ, ◌+◌, ◌-◌, nat_lt, Bool, true, false, Option, Some, None, Result, Ok, Err, length, slice_set}
 use Rattle.executor_parts.specs.declared.sleepers.Room.{Room}
 use Rattle.executor_parts.specs.declared.sleepers.Sleeper.{Sleeper}
 use Rattle.executor_parts.specs.Sleepers.{Sleepers, flag_of, woken_up, waker_of, position_of, next_number, put_to_sleep, listed}
@@ -15,7 +15,7 @@ use Rattle.solo.specs.declared.ticks.Ticked.{Ticked}
 use Rattle.solo.specs.declared.ticks.Dropped.{Dropped}
 use Rattle.solo.specs.declared.solo.Solo.{Solo}
 use Rattle.solo.specs.Cells.{choose}
-use Rattle.solo.specs.Solo.{popped}
+use Rattle.solo.specs.Solo.{popped, sought}
 use Rattle.solo.specs.Turns as turns
 
 -- the room of whoever doesn't sleep
@@ -142,27 +142,31 @@ module _ {F T X : Type 0} where
   take_answer_by (Some task) ticker waker s = found_answer ticker (Some waker) task s
   take_answer_by None ticker waker s = sleep_answer ticker waker s
 
-  -- the first task of the queue is taken; where there is none it falls asleep
+  -- the task that a search finds is taken; where there is none it falls asleep
   abbrev pub taken : Ticker → SoloWaker X → Solo F T X → Solo F T X
-  taken ticker waker s = taken_by (slice_get s.line.items 0) ticker waker (popped s)
+  taken ticker waker s = taken_by (sought s) ticker waker (popped s)
 
   abbrev pub take_answer : Ticker → SoloWaker X → Solo F T X → Ticked F X
-  take_answer ticker waker s = take_answer_by (slice_get s.line.items 0) ticker waker (popped s)
+  take_answer ticker waker s = take_answer_by (sought s) ticker waker (popped s)
 
-  abbrev pub searched_by : Option Task → Ticker → Solo F T X → Solo F T X
-  searched_by (Some task) ticker s = found ticker task s
-  searched_by None ticker s = s
+  -- a turn is given back
+  abbrev pub unturned : ℕ → Solo F T X → Solo F T X
+  unturned turn s = record s { lines = record s.lines { turn = turn } }
+
+  abbrev pub searched_by : Option Task → ℕ → Ticker → Solo F T X → Solo F T X
+  searched_by (Some task) turn ticker s = found ticker task s
+  searched_by None turn ticker s = unturned turn s
 
   abbrev pub search_answer_by : Option Task → Ticker → Solo F T X → Result (Ticked F X) Ticker
   search_answer_by (Some task) ticker s = Ok (found_answer ticker None task s)
   search_answer_by None ticker s = Err ticker
 
-  -- the first task of the queue is taken; where there is none the tick comes back
+  -- the task that a search finds is taken; where there is none the tick comes back, and its turn
   abbrev pub searched : Ticker → Solo F T X → Solo F T X
-  searched ticker s = searched_by (slice_get s.line.items 0) ticker (popped s)
+  searched ticker s = searched_by (sought s) s.lines.turn ticker (popped s)
 
   abbrev pub search_answer : Ticker → Solo F T X → Result (Ticked F X) Ticker
-  search_answer ticker s = search_answer_by (slice_get s.line.items 0) ticker (popped s)
+  search_answer ticker s = search_answer_by (sought s) ticker (popped s)
 
   -- who slept under this number goes, with its room
   abbrev pub gone : ℕ → Solo F T X → Solo F T X

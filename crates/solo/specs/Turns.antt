@@ -1,5 +1,7 @@
 -- What follows a change of a task, in the order of the step machine.
 use Rattle.std.specs.Prelude.{ℕ, ◌==◌, Bool, true, false, Option, Some, None, length}
+use Rattle.executor_parts.specs.declared.mark.Mark.{Mark}
+use Rattle.executor_parts.specs.declared.mark.Mark.TheVariants.{Plain}
 use Rattle.executor_parts.specs.declared.places.EntryPlace.{EntryPlace}
 use Rattle.executor_parts.specs.Places.{entry_in, set_future, future_of, parts_of}
 use Rattle.executor_parts.specs.Sleepers.{last_waker, without_last}
@@ -13,7 +15,8 @@ use Rattle.solo.specs.declared.owed.Found.{Found}
 use Rattle.solo.specs.declared.owed.Found.TheVariants.{Nothing, Poll as Polls, Drop as Drops, Gone}
 use Rattle.solo.specs.declared.turns.Left.{Left}
 use Rattle.solo.specs.declared.solo.Solo.{Solo}
-use Rattle.solo.specs.Line.{pushed, accepts}
+use Rattle.solo.specs.Line.{accepts}
+use Rattle.solo.specs.Lines.{line_of, pushed_in}
 use Rattle.solo.specs.Table.{left_table}
 use Rattle.solo.specs.Cells.{Kept, choose, changed, asked, tidied}
 use Rattle.solo.specs.Cells as cells
@@ -38,9 +41,21 @@ module _ {F : Type 0} where
   drop_found task place None = Gone
 
 module _ {F T X : Type 0} where
-  -- a task comes last in the queue, where it has to
+  -- in which queue a task belongs; one that isn't there is plain
+  abbrev pub mark_of : Task → Solo F T X → Mark
+  mark_of task s = asked cells.mark Plain task s.cells
+
+  -- a task comes last in the queue of its mark, where there is a place
+  abbrev pub lined : Task → Solo F T X → Solo F T X
+  lined task s = record s { lines = pushed_in (mark_of task s) task s.lines }
+
+  -- there is a place for it
+  abbrev pub takes : Task → Solo F T X → Bool
+  takes task s = accepts (line_of (mark_of task s) s.lines)
+
+  -- where it has to
   abbrev pub lined_if : Bool → Task → Solo F T X → Solo F T X
-  lined_if due task s = choose due (record s { line = pushed task s.line }) s
+  lined_if due task s = choose due (lined task s) s
 
   -- the cells of this name are these from now on
   abbrev pub turned : (Kept T X → Kept T X) → Task → Solo F T X → Solo F T X
@@ -81,15 +96,13 @@ module _ {F T X : Type 0} where
 
   -- a task is queued, and then a sleeper told; a closed queue turns it away, and then nobody is told
   abbrev pub scheduled : Task → Solo F T X → Solo F T X
-  scheduled task s =
-      let lined = record s { line = pushed task s.line } in
-      choose (accepts s.line) (told lined) lined
+  scheduled task s = choose (takes task s) (told (lined task s)) (lined task s)
 
   abbrev pub schedule_answer : Task → Solo F T X → Told X
   schedule_answer task s =
       choose
-      (accepts s.line)
-      (record { sleeper = told_waker (record s { line = pushed task s.line }); returned = None })
+      (takes task s)
+      (record { sleeper = told_waker (lined task s); returned = None })
       (record { sleeper = None; returned = Some task })
 
   abbrev pub scheduled_if : Bool → Task → Solo F T X → Solo F T X

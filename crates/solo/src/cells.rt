@@ -4,11 +4,12 @@ ghost use Rattle.task_moves.specs.declared.local_task.answers.Finish.TheVariants
 ghost use Rattle.task_moves.specs.declared.local_task.answers.Polled.TheVariants.{Closed};
 ghost use Rattle.slab.specs.Slab.{get, slab_len, Updates, HasRoomFor};
 ghost use Rattle.solo.specs.declared.cells.After.TheVariants.{Unknown};
+ghost use Rattle.executor_parts.specs.declared.mark.Mark.TheVariants.{Plain};
 ghost use Rattle.solo.specs.Cells as cells;
 ghost use Rattle.solo.specs.Cells.{changed, asked, tidied};
 
 use crate::names::{SoloWaker, Task};
-use executor_parts::EntryPlace;
+use executor_parts::{EntryPlace, Mark};
 use slab::Slab;
 use std::alloc::{AllocError, Global};
 use task_moves::LocalTask;
@@ -18,7 +19,7 @@ use task_moves::local_task::{Back, Cancel, Detach, Finish, Polled, Settled, Star
 #[derive(Drop)]
 pub struct Cell<T, X> {
     number: u64,
-    task: LocalTask<EntryPlace, T, SoloWaker<X>>,
+    task: LocalTask<EntryPlace, T, SoloWaker<X>, Mark>,
 }
 
 /// All tasks that somebody can still reach.
@@ -70,19 +71,36 @@ impl<T, X> Cells<T, X> {
         self.slab.reserve(1)
     }
 
-    /// A new task with this number comes: it has its handle and, where `is_held`, one waker.
-    pub fn insert(&mut self, number: u64, place: EntryPlace, is_held: bool) -> Task
+    /// A new task with this number and this mark comes: it has its handle and, where `is_held`, one waker.
+    pub fn insert(&mut self, number: u64, place: EntryPlace, is_held: bool, mark: Mark) -> Task
         requires { HasRoomFor self.old.slab 1 }
         ensures number { result.number ≡ number }
         ensures free { get self.old.slab result.key ≡ None }
-        ensures entered { Updates self.old.slab self.new.slab result.key (cells.entered number place is_held) }
+        ensures entered { Updates self.old.slab self.new.slab result.key (cells.entered number place is_held mark) }
     {
-        let mut task = LocalTask::new(place);
+        let mut task = LocalTask::marked(place, mark);
         if is_held {
             task.hold();
         }
         let key = self.slab.insert_reserved(Cell { number, task });
         Task { key, number }
+    }
+
+    /// In which queue the task belongs. One that isn't there is plain.
+    #[inline(always)]
+    pub fn mark(&self, task: Task) -> Mark
+        ensures { result ≡ asked cells.mark Plain task self.now }
+    {
+        match self.slab.get(task.key) {
+            Some(cell) => {
+                if cell.number == task.number {
+                    *cell.task.metadata()
+                } else {
+                    Mark::Plain
+                }
+            }
+            None => Mark::Plain,
+        }
     }
 
     /// Wakes the task. True where it is to be queued.
@@ -308,7 +326,7 @@ impl<T, X> Cells<T, X> {
         if is_over {
             let Cell { number, task } = self.slab.remove(task.key);
             let _ = number;
-            task.end();
+            let _mark = task.end();
         }
     }
 

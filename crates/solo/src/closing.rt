@@ -5,6 +5,7 @@ ghost use Rattle.solo.specs.Closing as closing;
 use crate::names::{Kind, SoloWaker, Task};
 use crate::owed::{Lent, Owed, Told, hands, silent};
 use crate::solo::Solo;
+use executor_parts::Mark;
 use task_moves::local_task::Finish;
 
 /// What the end of a task hands out.
@@ -45,7 +46,8 @@ impl<F, T, X> Solo<F, T, X> {
     }
 
     /// One more of what is to be done at the end, until there is nothing: each future that `close` has taken out, in the order of
-    /// acceptance; then their tasks' wakes in that order; then the queue is closed, and each task in it loses its turn.
+    /// acceptance; then their tasks' wakes in that order; then both queues are closed, and each task in them loses its turn, first
+    /// the urgent ones.
     pub fn drain(&mut self) -> Option<Owed<F, T, X>>
         ensures solo { self.new ≡ closing.drained self.old }
         ensures owed { result ≡ closing.drain_answer self.old }
@@ -110,7 +112,7 @@ impl<F, T, X> Solo<F, T, X> {
     {
         let told = self.wake(task);
         if self.cells.release(task) {
-            self.line.push(task);
+            self.line_up(task);
         }
         self.cells.tidy(task);
         told
@@ -120,8 +122,8 @@ impl<F, T, X> Solo<F, T, X> {
         ensures solo { self.new ≡ closing.line_drained self.old }
         ensures owed { result ≡ closing.line_answer self.old }
     {
-        self.line.close();
-        match self.line.pop() {
+        self.lines.close();
+        match self.lines.take_from(Mark::Urgent).task {
             Some(task) => Some(self.retract(task)),
             None => None,
         }

@@ -4,6 +4,7 @@
 mod cells;
 mod closing;
 mod line;
+mod lines;
 mod names;
 mod owed;
 mod own_queues;
@@ -14,6 +15,7 @@ mod table;
 mod ticks;
 mod turns;
 
+pub use executor_parts::Mark;
 pub use names::{Kind, SoloWaker, Task};
 pub use owed::{Found, Lent, Owed, SpawnError, Spawned, Taken, Told};
 pub use runs::{Leaving, Missed, Ran, RunLeft, Runner};

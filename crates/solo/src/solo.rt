@@ -6,12 +6,13 @@ ghost use Rattle.solo.specs.Solo as solo;
 use crate::cells::{After, Cells, Ended};
 use crate::closing::{Awaited, after_finish};
 use crate::line::Line;
+use crate::lines::Lines;
 use crate::names::{Kind, SoloWaker, Task};
 use crate::owed::{Found, Lent, Owed, SpawnError, Spawned, Taken, Told, hands, silent};
 use crate::own_queues::OwnQueues;
 use crate::table::Table;
 use crate::turns::Left;
-use executor_parts::Sleepers;
+use executor_parts::{Mark, Sleepers};
 use queue_steps::NoMemory;
 use std::alloc::Global;
 use task_moves::local_task::{Back, Cancel, Detach, Polled};
@@ -26,8 +27,8 @@ pub struct Solo<F, T, X> {
     pub(crate) table: Table<F>,
     // Those that a close has taken out, for `drain`.
     pub(crate) going: Table<F>,
-    // The queue.
-    pub(crate) line: Line,
+    // The two queues.
+    pub(crate) lines: Lines,
     // The tasks of the futures that `drain` has handed out, which it then wakes.
     pub(crate) leaving: Line,
     pub(crate) sleepers: Sleepers<SoloWaker<X>>,
@@ -41,18 +42,18 @@ pub struct Solo<F, T, X> {
 }
 
 impl<F, T, X> Solo<F, T, X> {
-    /// An executor of at most `limit` futures at a time. The places of its queue are taken here.
+    /// An executor of at most `limit` futures at a time. The places of its two queues are taken here.
     pub fn new(alloc: Global, limit: usize, kind: Kind) -> Result<Self, NoMemory>
         requires { 0 < limit }
         ensures { IfOk result (λ s. solo.IsNew limit kind s) }
     {
-        match Line::new(alloc, limit) {
-            Ok(line) => match Line::new(alloc, limit) {
+        match Lines::new(alloc, limit) {
+            Ok(lines) => match Line::new(alloc, limit) {
                 Ok(leaving) => Ok(Solo {
                     cells: Cells::new(alloc),
                     table: Table::new(alloc, limit),
                     going: Table::new(alloc, limit),
-                    line,
+                    lines,
                     leaving,
                     sleepers: Sleepers::new(alloc),
                     notified: true,
@@ -80,11 +81,13 @@ impl<F, T, X> Solo<F, T, X> {
         self.table.len()
     }
 
-    /// How many tasks are queued.
+    /// How many tasks are queued in both queues. The count stays at its greatest number.
     pub fn queue_length(&self) -> usize
-        ensures { result ≡ length self.now.line.items }
+        ensures { result ≡ solo.queue_length self.now }
     {
-        self.line.len()
+        self.lines
+            .len(Mark::Urgent)
+            .saturating_add(self.lines.len(Mark::Plain))
     }
 
     /// How many tasks stand in the own queue at this place of the list that runs walk round, if there is one.
@@ -101,11 +104,11 @@ impl<F, T, X> Solo<F, T, X> {
         self.sleepers.count()
     }
 
-    /// Accepts a future, and queues its task. A refused future comes back, and nothing changes.
-    pub fn spawn(&mut self, future: F) -> Result<Spawned<X>, SpawnError<F>>
-        ensures { solo.Spawns future self.old result self.new }
+    /// Accepts a future with this mark, and queues its task. A refused future comes back, and nothing changes.
+    pub fn spawn(&mut self, future: F, mark: Mark) -> Result<Spawned<X>, SpawnError<F>>
+        ensures { solo.Spawns mark future self.old result self.new }
     {
-        match self.accept(future) {
+        match self.accept(future, mark) {
             Ok(task) => {
                 let told = self.schedule(task);
                 Ok(Spawned { task, told })
@@ -115,8 +118,8 @@ impl<F, T, X> Solo<F, T, X> {
     }
 
     /// The first half of `spawn`: the task isn't queued yet.
-    fn accept(&mut self, future: F) -> Result<Task, SpawnError<F>>
-        ensures { solo.Accepting future self.old result self.new }
+    fn accept(&mut self, future: F, mark: Mark) -> Result<Task, SpawnError<F>>
+        ensures { solo.Accepting mark future self.old result self.new }
     {
         let is_held = match self.kind {
             Kind::Owned => true,
@@ -124,7 +127,7 @@ impl<F, T, X> Solo<F, T, X> {
         };
         match self
             .table
-            .accept(&mut self.cells, self.accepted, is_held, future)
+            .accept(&mut self.cells, self.accepted, is_held, mark, future)
         {
             Ok(task) => {
                 self.accepted = self.accepted.saturating_add(1);
@@ -134,13 +137,14 @@ impl<F, T, X> Solo<F, T, X> {
         }
     }
 
-    /// The first half of a `try_tick`: the first task of the queue, and a sleeper that is told of the others.
+    /// The first half of a `try_tick`: the first task of the queue that the turn names, or else of the other one, and a sleeper
+    /// that is told of the others.
     #[inline(always)]
     pub fn take(&mut self) -> Taken<F, X>
         ensures solo { self.new ≡ solo.taken self.old }
         ensures taken { result ≡ solo.take_answer self.old }
     {
-        match self.line.pop() {
+        match self.lines.search().task {
             Some(task) => {
                 let sleeper = self.tell();
                 let found = self.begin(task);

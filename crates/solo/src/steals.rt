@@ -2,15 +2,17 @@
 ghost use Rattle.std.specs.Prelude.{◌≡◌};
 ghost use Rattle.solo.specs.Steals as steals;
 
+use crate::lines::FromLines;
 use crate::names::Task;
 use crate::runs::Sought;
 use crate::solo::Solo;
+use executor_parts::Mark;
 
 /// What a run steals from.
 #[derive(Clone, Copy, Debug, PartialEq, Eq)]
 pub enum Source {
-    /// The executor's queue.
-    Common,
+    /// The executor's queue of this mark.
+    Common(Mark),
     /// The own queue of the run of this number.
     Own(u64),
 }
@@ -19,7 +21,7 @@ impl<F, T, X> Solo<F, T, X> {
     /// A run's next task.
     ///
     /// 1. The first of its own queue.
-    /// 2. The first of the executor's queue; then it steals from there.
+    /// 2. The first of the queue that the turn names, or else of the other one; then it steals from there.
     /// 3. It walks round the queues that others look at.
     pub(crate) fn seek(&mut self, number: u64, start: u64) -> Sought
         ensures solo { self.new ≡ steals.sought number start self.old }
@@ -38,9 +40,10 @@ impl<F, T, X> Solo<F, T, X> {
         ensures solo { self.new ≡ steals.sought_further number start self.old }
         ensures sought { result ≡ steals.seek_further_answer number start self.old }
     {
-        match self.line.pop() {
+        let FromLines { task, mark } = self.lines.search();
+        match task {
             Some(task) => {
-                self.steal(Source::Common, number);
+                self.steal(Source::Common(mark), number);
                 Sought {
                     task: Some(task),
                     has_walked: false,
@@ -98,11 +101,13 @@ impl<F, T, X> Solo<F, T, X> {
         self.runs.pop(number)
     }
 
+    /// From the urgent queue, and then from the plain one.
     pub(crate) fn steal_if(&mut self, is_due: bool, number: u64)
         ensures { self.new ≡ steals.stolen_if is_due number self.old }
     {
         if is_due {
-            self.steal(Source::Common, number);
+            self.steal(Source::Common(Mark::Urgent), number);
+            self.steal(Source::Common(Mark::Plain), number);
         }
     }
 
@@ -132,7 +137,7 @@ impl<F, T, X> Solo<F, T, X> {
         ensures { result ≡ steals.length_of source self.now }
     {
         match source {
-            Source::Common => self.line.len(),
+            Source::Common(mark) => self.lines.len(mark),
             Source::Own(number) => self.runs.len(number),
         }
     }
@@ -142,7 +147,7 @@ impl<F, T, X> Solo<F, T, X> {
         ensures task { result ≡ steals.first_of source self.old }
     {
         match source {
-            Source::Common => self.line.pop(),
+            Source::Common(mark) => self.lines.pop(mark),
             Source::Own(number) => self.runs.pop(number),
         }
     }

@@ -6,7 +6,7 @@ ghost use Rattle.solo.specs.Table.{first_parts, left_table, rest_table, Accepts,
 use crate::cells::Cells;
 use crate::names::Task;
 use crate::owed::SpawnError;
-use executor_parts::{EntryPlace, Places, SpawnRefused};
+use executor_parts::{EntryPlace, Mark, Places, SpawnRefused};
 use std::alloc::Global;
 use std::marker::Model;
 
@@ -35,16 +35,17 @@ impl<F> Table<F> {
         }
     }
 
-    /// A future enters, and its task comes to the cells under this number, with one waker where `is_held`. A refused future comes
-    /// back, and nothing changes: first the limit is tested, and then memory is asked for.
+    /// A future enters, and its task comes to the cells under this number, with this mark, and one waker where `is_held`. A refused
+    /// future comes back, and nothing changes: first the limit is tested, and then memory is asked for.
     pub fn accept<T, X>(
         &mut self,
         cells: &mut Cells<T, X>,
         number: u64,
         is_held: bool,
+        mark: Mark,
         future: F,
     ) -> Result<Task, SpawnError<F>>
-        ensures accepted { IfOk result (λ task. Accepts number is_held future self.old cells.old task self.new cells.new) }
+        ensures accepted { IfOk result (λ task. Accepts number is_held mark future self.old cells.old task self.new cells.new) }
         ensures refused { IfErr result (Refuses future self.old cells.old self.new cells.new) }
     {
         let vacancy = match self.places.vacancy() {
@@ -54,7 +55,7 @@ impl<F> Table<F> {
         };
         match cells.reserve() {
             Ok(()) => {
-                let task = cells.insert(number, vacancy.place(), is_held);
+                let task = cells.insert(number, vacancy.place(), is_held, mark);
                 let waker = if is_held { Some(task) } else { None };
                 self.places.enter(vacancy, future, waker);
                 Ok(task)

@@ -81,20 +81,24 @@ impl<F, T, X> Solo<F, T, X> {
         ensures solo { self.new ≡ ticks.taken ticker waker self.old }
         ensures ticked { result ≡ ticks.take_answer ticker waker self.old }
     {
-        match self.line.pop() {
+        match self.lines.search().task {
             Some(task) => self.found(ticker, Some(waker), task),
             None => self.fall_asleep(ticker, waker),
         }
     }
 
-    /// A tick looks for a task without a waker. Where there is none it comes back.
+    /// A tick looks for a task without a waker. Where there is none it comes back, and so does its turn, for the look with a waker.
     pub fn tick_search(&mut self, ticker: Ticker) -> Result<Ticked<F, X>, Ticker>
         ensures solo { self.new ≡ ticks.searched ticker self.old }
         ensures ticked { result ≡ ticks.search_answer ticker self.old }
     {
-        match self.line.pop() {
+        let turn = self.lines.turn();
+        match self.lines.search().task {
             Some(task) => Ok(self.found(ticker, None, task)),
-            None => Err(ticker),
+            None => {
+                self.lines.turn_back(turn);
+                Err(ticker)
+            }
         }
     }
 

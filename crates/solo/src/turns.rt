@@ -46,12 +46,22 @@ impl<F, T, X> Solo<F, T, X> {
         ensures { self.new ≡ turns.sleeper_woken task self.old }
     {
         if self.cells.wake(task) {
-            self.line.push(task);
+            self.line_up(task);
         }
         if self.cells.release(task) {
-            self.line.push(task);
+            self.line_up(task);
         }
         self.cells.tidy(task);
+    }
+
+    /// A task comes last in the queue of its mark. False where it is turned away.
+    #[inline(always)]
+    pub(crate) fn line_up(&mut self, task: Task) -> bool
+        ensures solo { self.new ≡ turns.lined task self.old }
+        ensures accepted { result ≡ turns.takes task self.old }
+    {
+        let mark = self.cells.mark(task);
+        self.lines.push(mark, task)
     }
 
     /// A task is queued, and a sleeper told; or it comes back, and nobody is told.
@@ -60,7 +70,7 @@ impl<F, T, X> Solo<F, T, X> {
         ensures solo { self.new ≡ turns.scheduled task self.old }
         ensures told { result ≡ turns.schedule_answer task self.old }
     {
-        if self.line.push(task) {
+        if self.line_up(task) {
             Told {
                 sleeper: self.tell(),
                 returned: None,

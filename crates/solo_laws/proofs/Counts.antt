@@ -3,6 +3,7 @@ use Rattle.std.proofs.Common.{◌≡◌, inl, inr, ℕ, ◌+◌, ◌-◌, ◌^�
 use Rattle.std.proofs.Common.{Option, Some, None, Ok, Err}
 use Rattle.std.proofs.Common.{slice_get, is_some, refl, sym, ap, subst, ◌∙◌, arith, length-append}
 use Rattle.std.proofs.lemmas.List.{length-map}
+use Rattle.executor_parts.specs.declared.mark.Mark.{Mark}
 use Rattle.executor_parts.specs.declared.places.EntryPlace.{EntryPlace}
 use Rattle.executor_parts.specs.Places.{Entry, entry_in, where_there, without_entry, left_by as entry_left, future_of, parts_of, unwoken}
 use Rattle.task_moves.specs.declared.local_task.answers.Back.{Back}
@@ -26,7 +27,6 @@ use Rattle.solo.specs.Solo as solo
 use Rattle.solo.specs.Closing as closing
 use Rattle.solo.specs.Runs as runs
 use Rattle.solo.specs.Ticks as ticks
-use Rattle.solo.specs.Line.{pushed}
 use Rattle.solo_laws.specs.Calls.{Call, Does, Course, Spawn, SpawnRefused, Take, Settle, Finish, Wake, WakeAndRelease, Hold, Release}
 use Rattle.solo_laws.specs.Calls.{Cancel, Detach, Poll, Retract, MakeTick, TickTake, TickSearch, TickLeave, MakeRun, RunBegin, RunTake}
 use Rattle.solo_laws.specs.Calls.{RunSearch, RunLeave, RunDrain, Leak, LeakNext, Close, Drain}
@@ -126,7 +126,7 @@ module _ {F T X : Type 0} where
       let q : Of (counting P) woken =
       scheduled_if_of (counting P) (asked cells.wake_queues false task s.cells) task (turned cells.woken task s) p in
       chosen (Of (counting P)) (asked cells.release_queues false task woken.cells)
-      (record (turned cells.released task woken) { line = pushed task woken.line }) (turned cells.released task woken) q q
+      (turns.lined task (turned cells.released task woken)) (turned cells.released task woken) q q
 
   line_drained : (P : ℕ → ℕ → ℕ → ℕ → Type 0) (first : Option Task) (s : Solo F T X) → Of (counting P) s
       → Of (counting P) (closing.line_drained_by first s)
@@ -136,7 +136,7 @@ module _ {F T X : Type 0} where
   waking : (P : ℕ → ℕ → ℕ → ℕ → Type 0) (first : Option Task) (s : Solo F T X) → Of (counting P) s
       → Of (counting P) (closing.drained_waking first s)
   waking P (Some task) s p = leaving_of P task s p
-  waking P None s p = line_drained P (slice_get s.line.items 0) (solo.popped (closing.shut_line s)) p
+  waking P None s p = line_drained P (closing.first_lined (closing.shut_line s)) (closing.first_out (closing.shut_line s)) p
 
   drained_by : (P : ℕ → ℕ → ℕ → ℕ → Type 0) (parts : Option (Option F × Option Task)) (s : Solo F T X) → Of (counting P) s
       → Of (counting P) (closing.drained_by parts s)
@@ -190,9 +190,9 @@ module _ {F T X : Type 0} where
     abbrev OneMore : Solo F T X → ℕ → ℕ → ℕ → ℕ → Type 0
     OneMore old b n l m = (((b ≡ one_more old.accepted) × (n ≡ futures old + 1)) × (l ≡ limit)) × (m ≡ limit)
 
-    spawned_counts : (a e : ℕ) (future : F) (spawned : Spawned X) (old new : Solo F T X) → solo.Spawns future old (Ok spawned) new
+    spawned_counts : (a e : ℕ) (mark : Mark) (future : F) (spawned : Spawned X) (old new : Solo F T X) → solo.Spawns mark future old (Ok spawned) new
         → Counted a e old → Counted (a + 1) (e + 0) new
-    spawned_counts a e future spawned old new does counted =
+    spawned_counts a e mark future spawned old new does counted =
         let accepts = does.1.0 in
         let s : Solo F T X = does.0 in
         let entry = new_entry accepts.place future (counted_waker (solo.counts old.kind) spawned.task) in
@@ -217,15 +217,15 @@ module _ {F T X : Type 0} where
           new_after.1,
         )
 
-    refused_keeps : (future : F) (refused : SpawnError F) (old new : Solo F T X) → solo.Spawns future old (Err refused) new
+    refused_keeps : (mark : Mark) (future : F) (refused : SpawnError F) (old new : Solo F T X) → solo.Spawns mark future old (Err refused) new
         → Keeps 0 old new
-    refused_keeps future (Full back) old new does =
+    refused_keeps mark future (Full back) old new does =
         let table : length new.table.entries ≡ length old.table.entries = ap (λ t. length t.entries) does.0.2.table in
         let rest : length new.going.entries ≡ length old.going.entries = ap (λ (t : Solo F T X). length t.going.entries) does.1 in (
           ((ap (λ (t : Solo F T X). t.accepted) does.1, omega (arith, table, rest)), omega (arith, table, rest)),
           λ limit one two. (ap (λ t. t.limit) does.0.2.table ∙ one, ap (λ (t : Solo F T X). t.going.limit) does.1 ∙ two),
         )
-    refused_keeps future (NoMemory back) old new does =
+    refused_keeps mark future (NoMemory back) old new does =
         let table : length new.table.entries ≡ length old.table.entries = ap (λ t. length t.entries) does.0.3.table in
         let rest : length new.going.entries ≡ length old.going.entries = ap (λ (t : Solo F T X). length t.going.entries) does.1 in (
           ((ap (λ (t : Solo F T X). t.accepted) does.1, omega (arith, table, rest)), omega (arith, table, rest)),
@@ -234,10 +234,11 @@ module _ {F T X : Type 0} where
 
     counted_after : (a e : ℕ) (call : Call F T X) (old new : Solo F T X) → Does call old new → Counted a e old
         → Counted (a + accepted_by call) (e + ended_by call) new
-    counted_after a e (Spawn future) old new does c = spawned_counts a e future does.0 old new does.1 c
-    counted_after a e (SpawnRefused future) old new does c = kept_by a e 0 old new (refused_keeps future does.0 old new does.1) c
+    counted_after a e (Spawn mark future) old new does c = spawned_counts a e mark future does.0 old new does.1 c
+    counted_after a e (SpawnRefused mark future) old new does c =
+        kept_by a e 0 old new (refused_keeps mark future does.0 old new does.1) c
     counted_after a e Take old new is c =
-        kept_at a e 0 old new (solo.taken old) is (taken_by (By 0 old) (slice_get old.line.items 0) (solo.popped old) (itself old)) c
+        kept_at a e 0 old new (solo.taken old) is (taken_by (By 0 old) (solo.sought old) (solo.popped old) (itself old)) c
     counted_after a e (Settle lent back) old new is c =
         kept_at a e (ended_by_settle back) old new (solo.settled lent back old) is (settled lent back old) c
     counted_after a e (Finish lent) old new is c =
@@ -331,23 +332,25 @@ module _ {F T X : Type 0} where
       record { kept = omega (arith, there); none_more = omega (arith, no_more) }
 
   pub is_numbered : (limit : ℕ) (kind : Kind) (calls : List (Call F T X)) (first last : Solo F T X) → solo.IsNew limit kind first
-      → Course calls first last → (future : F) (spawned : Spawned X) (next : Solo F T X) → solo.Spawns future last (Ok spawned) next
+      → Course calls first last → (mark : Mark) (future : F) (spawned : Spawned X) (next : Solo F T X)
+      → solo.Spawns mark future last (Ok spawned) next
       → IsNumbered calls spawned
-  is_numbered limit kind calls first last new does future spawned next accepted =
+  is_numbered limit kind calls first last new does mark future spawned next accepted =
       let counted = all_counted limit kind calls first last new does in
       let all : 0 + sum_of accepted_by calls ≡ sum_of accepted_by calls = omega arith in
       accepted.1.0.numbered ∙ counted.0.0.0.0 ∙ ap (λ n. min n (2 ^ 64 - 1)) all
 
   pub comes_back : (limit : ℕ) (kind : Kind) (calls : List (Call F T X)) (first last : Solo F T X) → solo.IsNew limit kind first
-      → Course calls first last → (future : F) (refused : SpawnError F) (next : Solo F T X) → solo.Spawns future last (Err refused) next
+      → Course calls first last → (mark : Mark) (future : F) (refused : SpawnError F) (next : Solo F T X)
+      → solo.Spawns mark future last (Err refused) next
       → ComesBack limit future refused last next
-  comes_back limit kind calls first last new does future (Full back) next is =
+  comes_back limit kind calls first last new does mark future (Full back) next is =
       let counted = all_counted limit kind calls first last new does in
       let same : last.table.limit ≡ limit = counted.0.1 in
       let full : last.table.limit ≤ length last.table.entries = is.0.1 in
       let reason : limit ≤ length last.table.entries = omega (arith, same, full) in
       record { back = is.0.0; reason = reason; same = is.0.2; others = is.1 }
-  comes_back limit kind calls first last new does future (NoMemory back) next is =
+  comes_back limit kind calls first last new does mark future (NoMemory back) next is =
       let counted = all_counted limit kind calls first last new does in
       let same : last.table.limit ≡ limit = counted.0.1 in
       let below : length last.table.entries < last.table.limit = is.0.1 in

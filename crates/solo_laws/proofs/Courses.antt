@@ -1,6 +1,6 @@
 -- After any list of calls a queued task has someone who is told.
 use Rattle.std.proofs.Common.{◌≡◌, inl, inr, ℕ, true, false, List, [], ◌∷◌, length, Option, Some, None}
-use Rattle.std.proofs.Common.{slice_get, is_some, sym, ap, subst, ◌∙◌, arith}
+use Rattle.std.proofs.Common.{is_some, sym, ap, subst, ◌∙◌, arith}
 use Rattle.executor_parts.specs.Sleepers.{flag_of}
 use Rattle.task_moves.specs.declared.local_task.answers.Back.{Back}
 use Rattle.task_moves.specs.declared.local_task.answers.Back.TheVariants.{Ready, Pending}
@@ -43,11 +43,11 @@ module _ {F T X : Type 0} where
       pending_by (solo.after_poll lent s) lent future (turned (cells.ended_pending lent.place) lent.task s) p
 
   kept : (call : Call F T X) (old new : Solo F T X) → Does call old new → Prompt old → Prompt new
-  kept (Spawn future) old new does p =
+  kept (Spawn mark future) old new does p =
       let spawned = does.1 in
       subst Prompt (sym spawned.2) (scheduled_prompt does.0.task spawned.0 (subst Prompt (sym spawned.1.1) p))
-  kept (SpawnRefused future) old new does p = subst Prompt (sym does.1.1) p
-  kept Take old new is p = subst Prompt (sym is) (taken_by (slice_get old.line.items 0) (solo.popped old) (popped_prompt old p))
+  kept (SpawnRefused mark future) old new does p = subst Prompt (sym does.1.1) p
+  kept Take old new is p = subst Prompt (sym is) (taken_by (solo.sought old) (solo.popped old) (popped_prompt old p))
   kept (Settle lent back) old new is p = subst Prompt (sym is) (settled lent back old p)
   kept (Finish lent) old new is p = subst Prompt (sym is) (entry_left lent.place old p)
   kept (Wake task) old new is p =

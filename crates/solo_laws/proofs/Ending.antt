@@ -1,5 +1,6 @@
 -- The flag stands where a task is queued: of what the end of an executor does, and what goes on with a leak.
 use Rattle.std.proofs.Common.{◌≡◌, Bool, true, false, Option, Some, None, slice_get}
+use Rattle.executor_parts.specs.declared.mark.Mark.TheVariants.{Urgent}
 use Rattle.executor_parts.specs.declared.places.EntryPlace.{EntryPlace}
 use Rattle.executor_parts.specs.Places.{entry_in, future_of}
 use Rattle.executor_parts.specs.Sleepers.{last_waker, without_last}
@@ -7,15 +8,16 @@ use Rattle.solo.specs.declared.names.Task.{Task}
 use Rattle.solo.specs.declared.names.SoloWaker.{SoloWaker}
 use Rattle.solo.specs.declared.names.SoloWaker.TheVariants.{Task as OfTask, Outside}
 use Rattle.solo.specs.declared.solo.Solo.{Solo}
-use Rattle.solo.specs.Line.{pushed, accepts}
+use Rattle.solo.specs.Lines.{taken_from}
 use Rattle.solo.specs.Table.{first_parts}
 use Rattle.solo.specs.Cells.{choose, asked}
 use Rattle.solo.specs.Cells as cells
-use Rattle.solo.specs.Turns.{turned, lined_if, marked, loosed, handed_by, is_full, handed, told, scheduled}
-use Rattle.solo.specs.Solo.{popped, woken}
-use Rattle.solo.specs.Closing.{retracted_future, retracted_by, retracted, out, leaving_woken, line_drained_by, shut_line}
+use Rattle.solo.specs.Turns.{lined, takes, turned, lined_if, marked, loosed, handed_by, is_full, handed, told, scheduled}
+use Rattle.solo.specs.Solo.{woken}
+use Rattle.solo.specs.Closing.{retracted_future, retracted_by, retracted, out, leaving_woken, line_drained_by, shut_line, first_lined, first_out}
 use Rattle.solo.specs.Closing.{drained_waking, drained_by, drained, leak_woken_by, leak_woken, first_left, first_going}
-use Rattle.solo_laws.proofs.Prompt.{Prompt, chosen, scheduled_if_prompt, popped_prompt}
+use Rattle.solo_laws.proofs.Prompt.{Prompt, chosen, scheduled_if_prompt, fewer_prompt}
+use Rattle.solo_laws.proofs.Lines.{taken_fewer}
 use Rattle.solo_laws.proofs.Loosening.{Rests, queues_not, others_woken, others_released, others_tidied, itself_woken}
 
 module _ {F T X : Type 0} where
@@ -26,12 +28,12 @@ module _ {F T X : Type 0} where
   handed_by_rests task (Some (OfTask other)) s rests =
       let marked_rests : Resting task (marked other s) =
       chosen (Resting task) (asked cells.wake_queues false other s.cells)
-      (record (turned cells.woken other s) { line = pushed other s.line }) (turned cells.woken other s)
+      (lined other (turned cells.woken other s)) (turned cells.woken other s)
       (others_woken task other s.cells rests) (others_woken task other s.cells rests) in
       let released_rests = others_released task other (marked other s).cells marked_rests in
       let loosed_rests : Resting task (loosed other (marked other s)) =
       chosen (Resting task) (asked cells.release_queues false other (marked other s).cells)
-      (record (turned cells.released other (marked other s)) { line = pushed other (marked other s).line })
+      (lined other (turned cells.released other (marked other s)))
       (turned cells.released other (marked other s)) released_rests released_rests in
       others_tidied task other (loosed other (marked other s)).cells loosed_rests
   handed_by_rests task (Some (Outside waker)) s rests = rests
@@ -47,8 +49,7 @@ module _ {F T X : Type 0} where
 
   scheduled_rests : (task other : Task) (s : Solo F T X) → Resting task s → Resting task (scheduled other s)
   scheduled_rests task other s rests =
-      let lined : Solo F T X = record s { line = pushed other s.line } in
-      chosen (Resting task) (accepts s.line) (told lined) lined (told_rests task lined rests) rests
+      chosen (Resting task) (takes other s) (told (lined other s)) (lined other s) (told_rests task (lined other s) rests) rests
 
   woken_rests : (task : Task) (s : Solo F T X) → Resting task (woken task s)
   woken_rests task s =
@@ -86,7 +87,8 @@ module _ {F T X : Type 0} where
   waking_prompt : (first : Option Task) (s : Solo F T X) → Prompt s → Prompt (drained_waking first s)
   waking_prompt (Some task) s p = leaving_prompt task s p
   waking_prompt None s p =
-      line_drained_prompt (slice_get s.line.items 0) (popped (shut_line s)) (popped_prompt (shut_line s) p)
+      line_drained_prompt (first_lined (shut_line s)) (first_out (shut_line s))
+      (fewer_prompt (taken_from Urgent (shut_line s).lines) (shut_line s) (taken_fewer Urgent (shut_line s).lines) p)
 
   drained_by_prompt : (parts : Option (Option F × Option Task)) (s : Solo F T X) → Prompt s → Prompt (drained_by parts s)
   drained_by_prompt (Some parts) s p = p

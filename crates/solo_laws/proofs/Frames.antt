@@ -1,6 +1,8 @@
 -- What no queueing, telling, waking or sleeping changes: the futures that there are, and how many were accepted.
 use Rattle.std.proofs.Common.{◌≡◌, ℕ, zero, suc, ◌+◌, ◌%◌, ◌==◌, nat_lt, Bool, true, false, List, [], ◌∷◌, length, Option, Some, None}
-use Rattle.std.proofs.Common.{slice_get, refl, sym, ap, subst}
+use Rattle.std.proofs.Common.{refl, sym, ap, subst}
+use Rattle.executor_parts.specs.declared.mark.Mark.{Mark}
+use Rattle.executor_parts.specs.declared.mark.Mark.TheVariants.{Plain, Urgent}
 use Rattle.executor_parts.specs.declared.places.EntryPlace.{EntryPlace}
 use Rattle.executor_parts.specs.Places.{Entry, entry_in, where_there, with_future, set_future}
 use Rattle.executor_parts.specs.Sleepers.{last_waker, without_last, waker_of, position_of, listed}
@@ -16,12 +18,13 @@ use Rattle.solo.specs.declared.steals.Source.{Source}
 use Rattle.solo.specs.declared.steals.Source.TheVariants.{Common, Own}
 use Rattle.solo.specs.declared.solo.Solo.{Solo}
 use Rattle.solo.specs.OwnQueues as own
-use Rattle.solo.specs.Line.{pushed, accepts}
+use Rattle.solo.specs.Lines.{search_answer}
 use Rattle.solo.specs.Table.{TableValue}
 use Rattle.solo.specs.Cells.{choose, asked}
 use Rattle.solo.specs.Cells as cells
-use Rattle.solo.specs.Turns.{turned, marked, handed_by, is_full, handed, told, scheduled, scheduled_if, let_go, let_go_if}
+use Rattle.solo.specs.Turns.{lined, takes, turned, marked, handed_by, is_full, handed, told, scheduled, scheduled_if, let_go, let_go_if}
 use Rattle.solo.specs.Turns.{left_by_parts, out_of, begun}
+use Rattle.solo.specs.Solo as solo
 use Rattle.solo.specs.Solo.{popped}
 use Rattle.solo.specs.Ticks as ticks
 use Rattle.solo.specs.Steals.{moved, first_of, without_first, kept, stolen, share, length_of, stolen_if, is_own, stolen_at, looked}
@@ -64,10 +67,10 @@ module _ {F T X : Type 0} where
     handed_by_of : (w : Option (SoloWaker X)) (s : Solo F T X) → Of P s → Of P (handed_by w s)
     handed_by_of (Some (OfTask task)) s p =
         let marked_of : Of P (marked task s) =
-        chosen (Of P) (asked cells.wake_queues false task s.cells) (record (turned cells.woken task s) { line = pushed task s.line })
+        chosen (Of P) (asked cells.wake_queues false task s.cells) (lined task (turned cells.woken task s))
         (turned cells.woken task s) p p in
         chosen (Of P) (asked cells.release_queues false task (marked task s).cells)
-        (record (turned cells.released task (marked task s)) { line = pushed task (marked task s).line })
+        (lined task (turned cells.released task (marked task s)))
         (turned cells.released task (marked task s)) marked_of marked_of
     handed_by_of (Some (Outside waker)) s p = p
     handed_by_of None s p = p
@@ -82,8 +85,7 @@ module _ {F T X : Type 0} where
 
     pub scheduled_of : (task : Task) (s : Solo F T X) → Of P s → Of P (scheduled task s)
     scheduled_of task s p =
-        let lined : Solo F T X = record s { line = pushed task s.line } in
-        chosen (Of P) (accepts s.line) (told lined) lined (told_of lined p) p
+        chosen (Of P) (takes task s) (told (lined task s)) (lined task s) (told_of (lined task s) p) p
 
     pub scheduled_if_of : (due : Bool) (task : Task) (s : Solo F T X) → Of P s → Of P (scheduled_if due task s)
     scheduled_if_of due task s p = chosen (Of P) due (scheduled task s) s (scheduled_of task s p) p
@@ -143,7 +145,7 @@ module _ {F T X : Type 0} where
         leave_by_of (waker_of sleeper.number s.sleepers.wakers) (ticks.gone sleeper.number s) p
 
     without_first_of : (source : Source) (s : Solo F T X) → Of P s → Of P (without_first source s)
-    without_first_of Common s p = p
+    without_first_of (Common mark) s p = p
     without_first_of (Own number) s p = p
 
     moved_of : (n : ℕ) (source : Source) (number : ℕ) (s : Solo F T X) → Of P s → Of P (moved n source number s)
@@ -169,13 +171,14 @@ module _ {F T X : Type 0} where
         (round count number n (next_place at count) (looked number at s)) (looked_of number at s p)
         (round_of count number n (next_place at count) (looked number at s) (looked_of number at s p))
 
-    further_of : (first : Option Task) (number start : ℕ) (s : Solo F T X) → Of P s → Of P (further_by first number start s)
-    further_of (Some task) number start s p = stolen_of Common number s p
-    further_of None number start s p = round_of s.runs.listed number s.runs.listed (start % s.runs.listed) s p
+    further_of : (first : Option Task) (mark : Mark) (number start : ℕ) (s : Solo F T X) → Of P s
+        → Of P (further_by first mark number start s)
+    further_of (Some task) mark number start s p = stolen_of (Common mark) number s p
+    further_of None mark number start s p = round_of s.runs.listed number s.runs.listed (start % s.runs.listed) s p
 
     sought_by_of : (first : Option Task) (number start : ℕ) (s : Solo F T X) → Of P s → Of P (sought_by first number start s)
     sought_by_of (Some task) number start s p = p
-    sought_by_of None number start s p = further_of (slice_get s.line.items 0) number start (popped s) p
+    sought_by_of None number start s p = further_of (search_answer s.lines).task (search_answer s.lines).mark number start (popped s) p
 
     pub sought_of : (number start : ℕ) (s : Solo F T X) → Of P s → Of P (sought number start s)
     sought_of number start s p = sought_by_of (own.first_of number s.runs) number start (own_popped number s) p
@@ -210,15 +213,15 @@ module _ {F T X : Type 0} where
 
     pub tick_taken_of : (ticker : Ticker) (waker : SoloWaker X) (s : Solo F T X) → Of (counting Q) s
         → Of (counting Q) (ticks.taken ticker waker s)
-    tick_taken_of ticker waker s p = tick_by_of (slice_get s.line.items 0) ticker waker (popped s) p
+    tick_taken_of ticker waker s p = tick_by_of (solo.sought s) ticker waker (popped s) p
 
-    search_by_of : (first : Option Task) (ticker : Ticker) (s : Solo F T X) → Of (counting Q) s
-        → Of (counting Q) (ticks.searched_by first ticker s)
-    search_by_of (Some task) ticker s p = found_of ticker task s p
-    search_by_of None ticker s p = p
+    search_by_of : (first : Option Task) (turn : ℕ) (ticker : Ticker) (s : Solo F T X) → Of (counting Q) s
+        → Of (counting Q) (ticks.searched_by first turn ticker s)
+    search_by_of (Some task) turn ticker s p = found_of ticker task s p
+    search_by_of None turn ticker s p = p
 
     pub tick_searched_of : (ticker : Ticker) (s : Solo F T X) → Of (counting Q) s → Of (counting Q) (ticks.searched ticker s)
-    tick_searched_of ticker s p = search_by_of (slice_get s.line.items 0) ticker (popped s) p
+    tick_searched_of ticker s p = search_by_of (solo.sought s) s.lines.turn ticker (popped s) p
 
     run_found_of : (runner : Runner) (ticker : Ticker) (task : Task) (s : Solo F T X) → Of (counting Q) s
         → Of (counting Q) (runs.found runner ticker task s)
@@ -226,8 +229,10 @@ module _ {F T X : Type 0} where
         let after : Solo F T X = runs.told ticker s in
         let told_after : Of (counting Q) after = woke_of (counting Q) ticker s p in
         begun_of task (stolen_if (runs.is_steal_due runner) runner.number after)
-        (chosen (Of (counting Q)) (runs.is_steal_due runner) (stolen Common runner.number after) after
-        (stolen_of (counting Q) Common runner.number after told_after) told_after)
+        (chosen (Of (counting Q)) (runs.is_steal_due runner)
+        (stolen (Common Plain) runner.number (stolen (Common Urgent) runner.number after)) after
+        (stolen_of (counting Q) (Common Plain) runner.number (stolen (Common Urgent) runner.number after)
+        (stolen_of (counting Q) (Common Urgent) runner.number after told_after)) told_after)
 
     run_by_of : (first : Option Task) (runner : Runner) (ticker : Ticker) (waker : SoloWaker X) (s : Solo F T X) → Of (counting Q) s
         → Of (counting Q) (runs.took_by first runner ticker waker s)
@@ -240,13 +245,13 @@ module _ {F T X : Type 0} where
         run_by_of (seek_answer runner.number start s).task runner ticker waker (sought runner.number start s)
         (sought_of (counting Q) runner.number start s p)
 
-    run_search_by_of : (first : Option Task) (runner : Runner) (ticker : Ticker) (s : Solo F T X) → Of (counting Q) s
-        → Of (counting Q) (runs.searched_by first runner ticker s)
-    run_search_by_of (Some task) runner ticker s p = run_found_of runner ticker task s p
-    run_search_by_of None runner ticker s p = p
+    run_search_by_of : (first : Option Task) (turn : ℕ) (runner : Runner) (ticker : Ticker) (s : Solo F T X) → Of (counting Q) s
+        → Of (counting Q) (runs.searched_by first turn runner ticker s)
+    run_search_by_of (Some task) turn runner ticker s p = run_found_of runner ticker task s p
+    run_search_by_of None turn runner ticker s p = p
 
     pub run_searched_of : (runner : Runner) (ticker : Ticker) (start : ℕ) (s : Solo F T X) → Of (counting Q) s
         → Of (counting Q) (runs.searched runner ticker start s)
     run_searched_of runner ticker start s p =
-        run_search_by_of (seek_answer runner.number start s).task runner ticker (sought runner.number start s)
+        run_search_by_of (seek_answer runner.number start s).task s.lines.turn runner ticker (sought runner.number start s)
         (sought_of (counting Q) runner.number start s p)

@@ -1,3 +1,4 @@
+pub mod Lines
 pub mod Sleepers
 pub mod Prompt
 pub mod Ticks
@@ -19,3 +20,5 @@ pub mod Kept
 pub mod Giving
 pub mod CellFrames
 pub mod Given
+pub mod Turning
+pub mod Looks

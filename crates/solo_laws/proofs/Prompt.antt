@@ -2,22 +2,22 @@
 use Rattle.std.proofs.Common.{◌≡◌, ℕ, ◌<◌, ◌≤◌, ◌==◌, ◌&&◌, ◌||◌, nat_lt, not, Bool, true, false, length, Option, Some, None}
 use Rattle.std.proofs.Common.{refl, sym, subst, ◌∙◌, arith}
 use Rattle.std.proofs.lemmas.Bool.Decides.{nat_tests}
-use Rattle.std.proofs.lemmas.List.{length-drop}
 use Rattle.executor_parts.specs.Sleepers.{flag_of, without_last, last_waker}
 use Rattle.executor_parts.specs.declared.places.EntryPlace.{EntryPlace}
-use Rattle.queue_steps.specs.ClosableQueue.{ClosableQueue}
 use Rattle.task_moves.specs.declared.local_task.answers.Start.{Start}
 use Rattle.task_moves.specs.declared.local_task.answers.Start.TheVariants.{Poll, Drop}
 use Rattle.solo.specs.declared.names.Task.{Task}
 use Rattle.solo.specs.declared.names.SoloWaker.{SoloWaker}
 use Rattle.solo.specs.declared.names.SoloWaker.TheVariants.{Task as OfTask, Outside}
 use Rattle.solo.specs.declared.solo.Solo.{Solo}
-use Rattle.solo.specs.Line.{pushed, pushed_by, accepts, has_place, is_spent}
+use Rattle.solo.specs.Lines.{LinesValue, searched}
 use Rattle.solo.specs.Cells.{choose, asked}
 use Rattle.solo.specs.Cells as cells
-use Rattle.solo.specs.Turns.{turned, lined_if, marked, handed_by, is_full, handed, told, scheduled}
+use Rattle.solo.specs.Turns.{mark_of, lined, takes, turned, lined_if, marked, handed_by, is_full, handed, told, scheduled}
 use Rattle.solo.specs.Turns.{scheduled_if, let_go, let_go_if, left_by_parts, without, left, out_of, begun}
 use Rattle.solo.specs.Solo.{popped}
+use Rattle.solo_laws.specs.Sleeping.{queued_in}
+use Rattle.solo_laws.proofs.Lines.{refused_queues, searched_fewer}
 use Rattle.solo_laws.proofs.Sleepers.{Fits, last_fits, last_flag}
 
 full_flag : (n count : ℕ) → n ≤ count → (n == count) ≡ false → ((count == 0) || nat_lt n count) ≡ true
@@ -40,7 +40,7 @@ module _ {F T X : Type 0} where
 
   -- and it stands where a task is queued
   abbrev pub Prompt : Solo F T X → Type 0
-  Prompt s = Sound s × (0 < length s.line.items → s.notified ≡ true)
+  Prompt s = Sound s × (0 < queued_in s.lines → s.notified ≡ true)
 
   pub awake_prompt : (s : Solo F T X) → Awake s → Prompt s
   awake_prompt s a = (a.0, λ _. a.1)
@@ -50,7 +50,7 @@ module _ {F T X : Type 0} where
   chosen P false s t p q = q
 
   lined_awake : (due : Bool) (task : Task) (s : Solo F T X) → Awake s → Awake (lined_if due task s)
-  lined_awake due task s a = chosen Awake due (record s { line = pushed task s.line }) s a a
+  lined_awake due task s a = chosen Awake due (lined task s) s a a
 
   handed_by_awake : (w : Option (SoloWaker X)) (s : Solo F T X) → Awake s → Awake (handed_by w s)
   handed_by_awake (Some (OfTask task)) s a =
@@ -75,21 +75,19 @@ module _ {F T X : Type 0} where
   pub told_awake : (s : Solo F T X) → Sound s → Awake (told s)
   told_awake s sound = told_by s.notified s refl sound
 
-  scheduled_by : (b : Bool) (task : Task) (s : Solo F T X) → accepts s.line ≡ b → Prompt s
-      → Prompt (choose b (told (record s { line = pushed task s.line })) (record s { line = pushed task s.line }))
-  scheduled_by true task s is p =
-      awake_prompt (told (record s { line = pushed task s.line })) (told_awake (record s { line = pushed task s.line }) p.0)
+  scheduled_by : (b : Bool) (task : Task) (s : Solo F T X) → takes task s ≡ b → Prompt s
+      → Prompt (choose b (told (lined task s)) (lined task s))
+  scheduled_by true task s is p = awake_prompt (told (lined task s)) (told_awake (lined task s) p.0)
   scheduled_by false task s is p =
-      let same = pushed_by_refused (has_place s.line) (is_spent s.line.accepted) task s.line is in
-      (p.0, λ some. p.1 (subst (λ items. 0 < length items) same some))
+      let same = refused_queues (mark_of task s) task s.lines is in
+      (p.0, λ some. p.1 (subst (λ (n : ℕ). 0 < n) same some))
 
   pub scheduled_prompt : (task : Task) (s : Solo F T X) → Prompt s → Prompt (scheduled task s)
-  scheduled_prompt task s p = scheduled_by (accepts s.line) task s refl p
+  scheduled_prompt task s p = scheduled_by (takes task s) task s refl p
 
   pub scheduled_awake : (task : Task) (s : Solo F T X) → Awake s → Awake (scheduled task s)
   scheduled_awake task s a =
-      let lined : Solo F T X = record s { line = pushed task s.line } in
-      chosen Awake (accepts s.line) (told lined) lined (told_awake lined a.0) a
+      chosen Awake (takes task s) (told (lined task s)) (lined task s) (told_awake (lined task s) a.0) a
 
   pub scheduled_if_prompt : (due : Bool) (task : Task) (s : Solo F T X) → Prompt s → Prompt (scheduled_if due task s)
   scheduled_if_prompt due task s p = chosen Prompt due (scheduled task s) s (scheduled_prompt task s p) p
@@ -118,6 +116,9 @@ module _ {F T X : Type 0} where
   pub begun_prompt : (task : Task) (s : Solo F T X) → Prompt s → Prompt (begun task s)
   begun_prompt task s p = out_of_keeps Prompt (asked cells.start_answer None task s.cells) (turned cells.started task s) (λ t q. q) p
 
+  -- where no more are queued than were
+  pub fewer_prompt : (l : LinesValue) (s : Solo F T X) → queued_in l ≤ queued_in s.lines → Prompt s → Prompt (record s { lines = l })
+  fewer_prompt l s fewer p = (p.0, λ some. p.1 (omega (arith, fewer, some)))
+
   pub popped_prompt : (s : Solo F T X) → Prompt s → Prompt (popped s)
-  popped_prompt s p =
-      (p.0, λ some. let is = length-drop 1 s.line.items in p.1 (omega (arith, is, some)))
+  popped_prompt s p = fewer_prompt (searched s.lines) s (searched_fewer s.lines) p

@@ -1,6 +1,6 @@
 -- The same of what ticks do.
-use Rattle.std.proofs.Common.{◌≡◌, ℕ, ◌+◌, ◌-◌, ◌≤◌, ◌==◌, ◌||◌, nat_lt, Bool, true, false, List, [], ◌∷◌, length, drop, Option, Some, None}
-use Rattle.std.proofs.Common.{slice_get, refl, sym, subst, ◌∙◌, arith, length-append}
+use Rattle.std.proofs.Common.{◌≡◌, ℕ, ◌+◌, ◌-◌, ◌≤◌, ◌==◌, ◌||◌, nat_lt, Bool, true, false, [], ◌∷◌, length, Option, Some, None}
+use Rattle.std.proofs.Common.{refl, sym, subst, ◌∙◌, arith, length-append}
 use Rattle.std.proofs.lemmas.Bool.Decides.{nat_tests}
 use Rattle.std.proofs.lemmas.List.{length-set}
 use Rattle.executor_parts.specs.Sleepers.{Sleepers, flag_of, woken_up, waker_of, position_of, put_to_sleep, next_number, listed}
@@ -11,24 +11,21 @@ use Rattle.solo.specs.declared.owed.Told.{Told}
 use Rattle.solo.specs.declared.ticks.Ticker.{Ticker}
 use Rattle.solo.specs.declared.ticks.Ticker.TheVariants.{Awake as AwakeTicker, Asleep}
 use Rattle.solo.specs.declared.solo.Solo.{Solo}
-use Rattle.solo.specs.Line.{pushed, accepts}
 use Rattle.solo.specs.Cells.{choose, asked}
 use Rattle.solo.specs.Cells as cells
-use Rattle.solo.specs.Turns.{turned, swept, told, told_waker, scheduled_if}
+use Rattle.solo.specs.Turns.{lined, takes, turned, swept, told, told_waker, scheduled_if}
 use Rattle.solo.specs.Turns.{schedule_if_answer}
-use Rattle.solo.specs.Solo.{popped}
+use Rattle.solo.specs.Solo.{popped, sought}
 use Rattle.solo.specs.Ticks.{stored, told_unless, waker_dropped, drop_waker_answer, kept_by, up, woke_up}
 use Rattle.solo.specs.Ticks.{wake_up_answer, found, lain_anew, is_short, replaced, lain_again, fallen_asleep, taken_by, taken}
 use Rattle.solo.specs.Ticks.{searched_by, searched, gone, left_by, left}
+use Rattle.solo_laws.specs.Sleeping.{queued_in}
+use Rattle.solo_laws.proofs.Lines.{searched_empty}
 use Rattle.solo_laws.proofs.Sleepers.{Fits, woken_fits, woken_flag}
 use Rattle.solo_laws.proofs.Prompt.{Sound, Awake, Prompt, awake_prompt, told_awake, let_go_prompt, begun_prompt, popped_prompt}
 
 short_fits : (n count : ℕ) → nat_lt n count ≡ true → n + 1 ≤ count
 short_fits n count is = grind (arith, nat_tests)
-
-pub first_none : (tasks : List Task) → slice_get tasks 0 ≡ None → length (drop 1 tasks) ≡ 0
-first_none [] is = refl
-first_none (task ∷ tasks) is = absurd cc
 
 module _ {X : Type 0} where
   back_fits : (b : Bool) (s : Sleepers (SoloWaker X)) → Fits s → Fits (choose b (record s { rooms = s.rooms - 1 }) s)
@@ -50,18 +47,17 @@ module _ {F T X : Type 0} where
   -- a task's queueing leaves the flag standing, or tells nobody, and then who comes next does
   scheduled_unless_by : (b : Bool) (task task' : Task) (s : Solo F T X) → Sound s
       → Awake (told_unless
-      (choose {B = Told X} b (record { sleeper = told_waker (record s { line = pushed task s.line }); returned = None })
+      (choose {B = Told X} b (record { sleeper = told_waker (lined task s); returned = None })
       (record { sleeper = None; returned = Some task })).sleeper
-      (swept task' (choose b (told (record s { line = pushed task s.line })) (record s { line = pushed task s.line }))))
+      (swept task' (choose b (told (lined task s)) (lined task s))))
   scheduled_unless_by true task task' s sound =
-      let lined : Solo F T X = record s { line = pushed task s.line } in
-      told_unless_awake (told_waker lined) (swept task' (told lined)) (told_awake lined sound)
+      told_unless_awake (told_waker (lined task s)) (swept task' (told (lined task s))) (told_awake (lined task s) sound)
   scheduled_unless_by false task task' s sound =
-      told_awake (swept task' (record s { line = pushed task s.line })) sound
+      told_awake (swept task' (lined task s)) sound
 
   let_go_unless_by : (due : Bool) (task task' : Task) (s : Solo F T X) → Sound s
       → Awake (told_unless (schedule_if_answer due task s).sleeper (swept task' (scheduled_if due task s)))
-  let_go_unless_by true task task' s sound = scheduled_unless_by (accepts s.line) task task' s sound
+  let_go_unless_by true task task' s sound = scheduled_unless_by (takes task s) task task' s sound
   let_go_unless_by false task task' s sound = told_awake (swept task' s) sound
 
   dropped_unless : (w : Option (SoloWaker X)) (s : Solo F T X) → Sound s
@@ -90,16 +86,16 @@ module _ {F T X : Type 0} where
   waker_dropped_prompt (Some (Outside waker)) s p = p
   waker_dropped_prompt None s p = p
 
-  empty_prompt : (s : Solo F T X) → length s.line.items ≡ 0 → Sound s → Prompt s
+  empty_prompt : (s : Solo F T X) → queued_in s.lines ≡ 0 → Sound s → Prompt s
   empty_prompt s none sound = (sound, λ some. absurd (omega (arith, none, some)))
 
-  anew_prompt : (b : Bool) (waker : SoloWaker X) (s : Solo F T X) → length s.line.items ≡ 0 → Sound s → Prompt (lain_anew b waker s)
+  anew_prompt : (b : Bool) (waker : SoloWaker X) (s : Solo F T X) → queued_in s.lines ≡ 0 → Sound s → Prompt (lain_anew b waker s)
   anew_prompt true waker s none sound =
       let is = length-append s.sleepers.wakers ((next_number s.sleepers, waker) ∷ []) in
       empty_prompt (stored (put_to_sleep waker s.sleepers) s) none ((let f = sound.0 in omega (arith, is, f)), refl)
   anew_prompt false waker s none sound = empty_prompt s none sound
 
-  short_prompt : (b : Bool) (number : ℕ) (waker : SoloWaker X) (s : Solo F T X) → is_short s ≡ b → length s.line.items ≡ 0 → Sound s
+  short_prompt : (b : Bool) (number : ℕ) (waker : SoloWaker X) (s : Solo F T X) → is_short s ≡ b → queued_in s.lines ≡ 0 → Sound s
       → Prompt (choose b (stored (listed number waker s.sleepers) s) s)
   short_prompt true number waker s is none sound =
       let longer = length-append s.sleepers.wakers ((number, waker) ∷ []) in
@@ -107,7 +103,7 @@ module _ {F T X : Type 0} where
       empty_prompt (stored (listed number waker s.sleepers) s) none (omega (arith, longer, fits), refl)
   short_prompt false number waker s is none sound = empty_prompt s none sound
 
-  again_prompt : (at : Option ℕ) (number : ℕ) (waker : SoloWaker X) (s : Solo F T X) → length s.line.items ≡ 0 → Sound s
+  again_prompt : (at : Option ℕ) (number : ℕ) (waker : SoloWaker X) (s : Solo F T X) → queued_in s.lines ≡ 0 → Sound s
       → Prompt (lain_again at number waker s)
   again_prompt (Some at) number waker s none sound =
       let same = length-set s.sleepers.wakers at (number, waker) in
@@ -118,26 +114,27 @@ module _ {F T X : Type 0} where
   again_prompt None number waker s none sound = short_prompt (is_short s) number waker s refl none sound
 
   -- it falls asleep where no task is queued
-  pub asleep_prompt : (ticker : Ticker) (waker : SoloWaker X) (s : Solo F T X) → length s.line.items ≡ 0 → Sound s
+  pub asleep_prompt : (ticker : Ticker) (waker : SoloWaker X) (s : Solo F T X) → queued_in s.lines ≡ 0 → Sound s
       → Prompt (fallen_asleep ticker waker s)
   asleep_prompt (AwakeTicker _) waker s none sound = anew_prompt (nat_lt s.sleepers.count s.sleepers.rooms) waker s none sound
   asleep_prompt (Asleep sleeper) waker s none sound =
       again_prompt (position_of sleeper.number s.sleepers.wakers) sleeper.number waker s none sound
 
-  taken_by_prompt : (first : Option Task) (ticker : Ticker) (waker : SoloWaker X) (s : Solo F T X) → slice_get s.line.items 0 ≡ first
+  taken_by_prompt : (first : Option Task) (ticker : Ticker) (waker : SoloWaker X) (s : Solo F T X) → sought s ≡ first
       → Prompt s → Prompt (taken_by first ticker waker (popped s))
   taken_by_prompt (Some task) ticker waker s is p = found_prompt ticker task (popped s) p.0
-  taken_by_prompt None ticker waker s is p = asleep_prompt ticker waker (popped s) (first_none s.line.items is) p.0
+  taken_by_prompt None ticker waker s is p = asleep_prompt ticker waker (popped s) (searched_empty s.lines is) p.0
 
   pub taken_prompt : (ticker : Ticker) (waker : SoloWaker X) (s : Solo F T X) → Prompt s → Prompt (taken ticker waker s)
-  taken_prompt ticker waker s p = taken_by_prompt (slice_get s.line.items 0) ticker waker s refl p
+  taken_prompt ticker waker s p = taken_by_prompt (sought s) ticker waker s refl p
 
-  searched_by_prompt : (first : Option Task) (ticker : Ticker) (s : Solo F T X) → Prompt s → Prompt (searched_by first ticker s)
-  searched_by_prompt (Some task) ticker s p = found_prompt ticker task s p.0
-  searched_by_prompt None ticker s p = p
+  searched_by_prompt : (first : Option Task) (turn : ℕ) (ticker : Ticker) (s : Solo F T X) → Prompt s
+      → Prompt (searched_by first turn ticker s)
+  searched_by_prompt (Some task) turn ticker s p = found_prompt ticker task s p.0
+  searched_by_prompt None turn ticker s p = p
 
   pub searched_prompt : (ticker : Ticker) (s : Solo F T X) → Prompt s → Prompt (searched ticker s)
-  searched_prompt ticker s p = searched_by_prompt (slice_get s.line.items 0) ticker (popped s) (popped_prompt s p)
+  searched_prompt ticker s p = searched_by_prompt (sought s) s.lines.turn ticker (popped s) (popped_prompt s p)
 
   gone_sound : (number : ℕ) (s : Solo F T X) → Sound s → Sound (gone number s)
   gone_sound number s sound =

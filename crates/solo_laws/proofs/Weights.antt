@@ -1,6 +1,8 @@
 -- What goes in and comes out weighs the same, call by call.
 use Rattle.std.proofs.Common.{◌≡◌, inl, inr, ℕ, ◌+◌, nat_lt, Bool, true, false, List, [], ◌∷◌, ◌++◌, Option, Some, None, Ok, Err}
 use Rattle.std.proofs.Common.{slice_get, is_some, refl, sym, ap, subst, ◌∙◌, arith}
+use Rattle.executor_parts.specs.declared.mark.Mark.{Mark}
+use Rattle.executor_parts.specs.declared.mark.Mark.TheVariants.{Plain, Urgent}
 use Rattle.executor_parts.specs.declared.places.EntryPlace.{EntryPlace}
 use Rattle.executor_parts.specs.declared.sleepers.Sleeper.{Sleeper}
 use Rattle.executor_parts.specs.Places.{Entry, entry_in, set_future, future_of, parts_of}
@@ -34,7 +36,6 @@ use Rattle.solo.specs.Solo as solo
 use Rattle.solo.specs.Closing as closing
 use Rattle.solo.specs.Runs as runs
 use Rattle.solo.specs.Ticks as ticks
-use Rattle.solo.specs.Line.{pushed}
 use Rattle.solo_laws.specs.Calls.{Call, Does, Course, Spawn, SpawnRefused, Take, Settle, Finish, Wake, WakeAndRelease, Hold, Release}
 use Rattle.solo_laws.specs.Calls.{Cancel, Detach, Poll, Retract, MakeTick, TickTake, TickSearch, TickLeave, MakeRun, RunBegin, RunTake}
 use Rattle.solo_laws.specs.Calls.{RunSearch, RunLeave, RunDrain, Leak, LeakNext, Close, Drain}
@@ -133,10 +134,10 @@ module _ {F : Type 0} (weigh : F → ℕ) where
     tick_take_weight (Some task) ticker waker s = tick_found_weight ticker (Some waker) task s
     tick_take_weight None ticker waker s = asleep_weight ticker waker s
 
-    tick_search_weight : (first : Option Task) (ticker : Ticker) (s : Solo F T X)
-        → inside (ticks.searched_by first ticker s) + weight_searched weigh (ticks.search_answer_by first ticker s) ≡ inside s
-    tick_search_weight (Some task) ticker s = tick_found_weight ticker None task s
-    tick_search_weight None ticker s = omega arith
+    tick_search_weight : (first : Option Task) (turn : ℕ) (ticker : Ticker) (s : Solo F T X)
+        → inside (ticks.searched_by first turn ticker s) + weight_searched weigh (ticks.search_answer_by first ticker s) ≡ inside s
+    tick_search_weight (Some task) turn ticker s = tick_found_weight ticker None task s
+    tick_search_weight None turn ticker s = omega arith
 
     run_found_weight : (runner : Runner) (ticker : Ticker) (spare : Option (SoloWaker X)) (task : Task) (walked : Bool) (s : Solo F T X)
         → inside (runs.found runner ticker task s)
@@ -146,8 +147,10 @@ module _ {F : Type 0} (weigh : F → ℕ) where
         let after : Solo F T X = runs.told ticker s in
         let told_after : inside after ≡ inside s = woke_of (Weighing (inside s)) ticker s refl in
         begun_weight task (stolen_if (runs.is_steal_due runner) runner.number after)
-        ∙ chosen (λ t. inside t ≡ inside s) (runs.is_steal_due runner) (stolen Common runner.number after) after
-        (stolen_of (Weighing (inside s)) Common runner.number after told_after) told_after
+        ∙ chosen (λ t. inside t ≡ inside s) (runs.is_steal_due runner)
+        (stolen (Common Plain) runner.number (stolen (Common Urgent) runner.number after)) after
+        (stolen_of (Weighing (inside s)) (Common Plain) runner.number (stolen (Common Urgent) runner.number after)
+        (stolen_of (Weighing (inside s)) (Common Urgent) runner.number after told_after)) told_after
 
     run_take_weight : (first : Option Task) (walked : Bool) (runner : Runner) (ticker : Ticker) (waker : SoloWaker X) (s : Solo F T X)
         → inside (runs.took_by first runner ticker waker s)
@@ -156,12 +159,12 @@ module _ {F : Type 0} (weigh : F → ℕ) where
     run_take_weight (Some task) walked runner ticker waker s = run_found_weight runner ticker (Some waker) task walked s
     run_take_weight None walked runner ticker waker s = asleep_weight ticker waker s
 
-    run_search_weight : (first : Option Task) (walked : Bool) (runner : Runner) (ticker : Ticker) (s : Solo F T X)
-        → inside (runs.searched_by first runner ticker s)
+    run_search_weight : (first : Option Task) (walked : Bool) (turn : ℕ) (runner : Runner) (ticker : Ticker) (s : Solo F T X)
+        → inside (runs.searched_by first turn runner ticker s)
         + weight_sought weigh (runs.search_answer_by first walked runner ticker s)
         ≡ inside s
-    run_search_weight (Some task) walked runner ticker s = run_found_weight runner ticker None task walked s
-    run_search_weight None walked runner ticker s = omega arith
+    run_search_weight (Some task) walked turn runner ticker s = run_found_weight runner ticker None task walked s
+    run_search_weight None walked turn runner ticker s = omega arith
 
     left_answer_weight : (found : Option (Entry F (Option Task))) (s : Solo F T X)
         → weight_of weigh (turns.left_answer_by (parts_of found) s).future ≡ held weigh found
@@ -228,7 +231,7 @@ module _ {F : Type 0} (weigh : F → ℕ) where
         let q : inside woken ≡ inside s =
         scheduled_if_of (Weighing (inside s)) (asked cells.wake_queues false task s.cells) task (turned cells.woken task s) refl in
         chosen (λ t. inside t ≡ inside s) (asked cells.release_queues false task woken.cells)
-        (record (turned cells.released task woken) { line = pushed task woken.line }) (turned cells.released task woken) q q
+        (turns.lined task (turned cells.released task woken)) (turned cells.released task woken) q q
 
     line_weight : (first : Option Task) (s : Solo F T X)
         → inside (closing.line_drained_by first s) + weight_owed weigh (closing.line_answer_by first s) ≡ inside s
@@ -238,7 +241,7 @@ module _ {F : Type 0} (weigh : F → ℕ) where
     waking_weight : (first : Option Task) (s : Solo F T X)
         → inside (closing.drained_waking first s) + weight_owed weigh (closing.waking_answer first s) ≡ inside s
     waking_weight (Some task) s = let same = leaving_same task s in omega (arith, same)
-    waking_weight None s = line_weight (slice_get s.line.items 0) (solo.popped (closing.shut_line s))
+    waking_weight None s = line_weight (closing.first_lined (closing.shut_line s)) (closing.first_out (closing.shut_line s))
 
     drain_by_weight : (parts : Option (Option F × Option Task)) (s : Solo F T X)
         → inside (closing.drained_by parts s) + weight_owed weigh (closing.drain_answer_by parts s) ≡ inside s + parts_weight weigh parts
@@ -260,9 +263,9 @@ module _ {F : Type 0} (weigh : F → ℕ) where
     leaked_same : (s : Solo F T X) → inside (closing.leaked s) ≡ inside s
     leaked_same s = let same = unwoken_weight weigh s.table.entries in omega (arith, same)
 
-    spawn_weight : (future : F) (spawned : Spawned X) (old new : Solo F T X) → solo.Spawns future old (Ok spawned) new
+    spawn_weight : (mark : Mark) (future : F) (spawned : Spawned X) (old new : Solo F T X) → solo.Spawns mark future old (Ok spawned) new
         → inside new + 0 ≡ weigh future + inside old
-    spawn_weight future spawned old new does =
+    spawn_weight mark future spawned old new does =
         let accepts = does.1.0 in
         let s : Solo F T X = does.0 in
         let entry = new_entry accepts.place future (counted_waker (solo.counts old.kind) spawned.task) in
@@ -276,15 +279,15 @@ module _ {F : Type 0} (weigh : F → ℕ) where
         let after : inside new ≡ inside (turns.scheduled spawned.task s) = ap (λ (t : Solo F T X). inside t) does.2 in
         omega (arith, longer, table, rest, queued, after)
 
-    refused_same : (future : F) (refused : SpawnError F) (old new : Solo F T X) → solo.Spawns future old (Err refused) new
+    refused_same : (mark : Mark) (future : F) (refused : SpawnError F) (old new : Solo F T X) → solo.Spawns mark future old (Err refused) new
         → inside new ≡ inside old
-    refused_same future (Full back) old new does =
+    refused_same mark future (Full back) old new does =
         let table : weight_in weigh new.table.entries ≡ weight_in weigh old.table.entries =
         ap (λ t. weight_in weigh t.entries) does.0.2.table in
         let rest : weight_in weigh new.going.entries ≡ weight_in weigh old.going.entries =
         ap (λ (t : Solo F T X). weight_in weigh t.going.entries) does.1 in
         omega (arith, table, rest)
-    refused_same future (NoMemory back) old new does =
+    refused_same mark future (NoMemory back) old new does =
         let table : weight_in weigh new.table.entries ≡ weight_in weigh old.table.entries =
         ap (λ t. weight_in weigh t.entries) does.0.3.table in
         let rest : weight_in weigh new.going.entries ≡ weight_in weigh old.going.entries =
@@ -302,9 +305,9 @@ module _ {F : Type 0} (weigh : F → ℕ) where
     kept s t same = omega (arith, same)
 
     balance : (call : Call F T X) (old new : Solo F T X) → Does call old new → Balance call old new
-    balance (Spawn future) old new does = spawn_weight future does.0 old new does.1
-    balance (SpawnRefused future) old new does = kept old new (refused_same future does.0 old new does.1)
-    balance Take old new is = at Take old new (solo.taken old) is (none_in (take_weight (slice_get old.line.items 0) (solo.popped old)))
+    balance (Spawn mark future) old new does = spawn_weight mark future does.0 old new does.1
+    balance (SpawnRefused mark future) old new does = kept old new (refused_same mark future does.0 old new does.1)
+    balance Take old new is = at Take old new (solo.taken old) is (none_in (take_weight (solo.sought old) (solo.popped old)))
     balance (Settle lent back) old new is = at (Settle lent back) old new (solo.settled lent back old) is (settle_weight lent back old)
     balance (Finish lent) old new is = at (Finish lent) old new (solo.finished lent old) is (none_in (entry_weight lent.place old))
     balance (Wake task) old new is =
@@ -338,10 +341,10 @@ module _ {F : Type 0} (weigh : F → ℕ) where
     balance MakeTick old new (inr is) = at MakeTick old new old is (kept old old refl)
     balance (TickTake ticker waker) old new is =
         at (TickTake ticker waker) old new (ticks.taken ticker waker old) is
-        (none_in (tick_take_weight (slice_get old.line.items 0) ticker waker (solo.popped old)))
+        (none_in (tick_take_weight (solo.sought old) ticker waker (solo.popped old)))
     balance (TickSearch ticker) old new is =
         at (TickSearch ticker) old new (ticks.searched ticker old) is
-        (none_in (tick_search_weight (slice_get old.line.items 0) ticker (solo.popped old)))
+        (none_in (tick_search_weight (solo.sought old) old.lines.turn ticker (solo.popped old)))
     balance (TickLeave ticker) old new is =
         at (TickLeave ticker) old new (ticks.left ticker old) is
         (kept old (ticks.left ticker old) (tick_left_of (Weighing (inside old)) ticker old refl))
@@ -360,7 +363,7 @@ module _ {F : Type 0} (weigh : F → ℕ) where
         let s : Solo F T X = sought runner.number start old in
         let same : inside s ≡ inside old = sought_of (Weighing (inside old)) runner.number start old refl in
         at (RunSearch runner ticker start) old new (runs.searched runner ticker start old) is
-        (none_in (run_search_weight found.task found.has_walked runner ticker s ∙ same))
+        (none_in (run_search_weight found.task found.has_walked old.lines.turn runner ticker s ∙ same))
     balance (RunLeave runner) old new is = at (RunLeave runner) old new (runs.left runner old) is (kept old (runs.left runner old) refl)
     balance (RunDrain leaving) old new is =
         at (RunDrain leaving) old new (runs.drained leaving old) is

@@ -1,5 +1,6 @@
 -- Lists of calls of an executor of one owner. Whoever has it may make any, with any names: none has to be of this executor.
 use Rattle.std.specs.Prelude.{◌≡◌, ◌⊎◌, ℕ, List, [], ◌∷◌, Ok, Err}
+use Rattle.executor_parts.specs.declared.mark.Mark.{Mark}
 use Rattle.task_moves.specs.declared.local_task.answers.Back.{Back}
 use Rattle.solo.specs.declared.names.Task.{Task}
 use Rattle.solo.specs.declared.names.SoloWaker.{SoloWaker}
@@ -17,8 +18,8 @@ use Rattle.solo.specs.Closing as closing
 
 -- each call that changes something; of a spawn whether the future is accepted
 pub data Call (F T X : Type 0) : Type 0 where
-  Spawn : F → Call F T X
-  SpawnRefused : F → Call F T X
+  Spawn : Mark → F → Call F T X
+  SpawnRefused : Mark → F → Call F T X
   Take : Call F T X
   Settle : Lent → Back F T → Call F T X
   Finish : Lent → Call F T X
@@ -48,8 +49,8 @@ pub data Call (F T X : Type 0) : Type 0 where
 module _ {F T X : Type 0} where
   -- a call leaves this executor; the making of a tick or a run may be refused memory
   abbrev pub Does : Call F T X → Solo F T X → Solo F T X → Type 0
-  Does (Spawn future) old new = (spawned : Spawned X) × solo.Spawns future old (Ok spawned) new
-  Does (SpawnRefused future) old new = (refused : SpawnError F) × solo.Spawns future old (Err refused) new
+  Does (Spawn mark future) old new = (spawned : Spawned X) × solo.Spawns mark future old (Ok spawned) new
+  Does (SpawnRefused mark future) old new = (refused : SpawnError F) × solo.Spawns mark future old (Err refused) new
   Does Take old new = new ≡ solo.taken old
   Does (Settle lent back) old new = new ≡ solo.settled lent back old
   Does (Finish lent) old new = new ≡ solo.finished lent old

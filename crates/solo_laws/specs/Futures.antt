@@ -23,7 +23,7 @@ module _ {F T X : Type 0} where
 
   -- a future is accepted
   abbrev pub accepted_by : Call F T X → ℕ
-  accepted_by (Spawn future) = 1
+  accepted_by (Spawn mark future) = 1
   accepted_by _ = 0
 
   -- a future may be ended: it gave its output, its drop is finished, or it is drained

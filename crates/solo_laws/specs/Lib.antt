@@ -4,3 +4,4 @@ pub mod Futures
 pub mod Weights
 pub mod Queueing
 pub mod Outputs
+pub mod Looks

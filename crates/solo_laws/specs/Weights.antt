@@ -68,7 +68,7 @@ module _ {F : Type 0} (weigh : F → ℕ) where
 
     -- of the future that a call hands in: one that is spawned and accepted, or comes back from its poll
     abbrev pub handed_in : Call F T X → ℕ
-    handed_in (Spawn future) = weigh future
+    handed_in (Spawn mark future) = weigh future
     handed_in (Settle lent back) = weight_back back
     handed_in _ = 0
 

@@ -1,5 +1,6 @@
 //! Laws of every list of calls on an executor of one owner.
 ghost use Rattle.std.specs.Prelude.{ℕ, List, Ok, Err};
+ghost use Rattle.executor_parts.specs.declared.mark.Mark.{Mark};
 ghost use Rattle.solo.specs.Solo.{IsNew, Spawns};
 ghost use Rattle.solo.specs.declared.names.Kind.{Kind};
 ghost use Rattle.solo.specs.declared.names.Task.{Task};
@@ -8,13 +9,14 @@ ghost use Rattle.solo.specs.declared.owed.Spawned.{Spawned};
 ghost use Rattle.solo.specs.declared.solo.Solo.{Solo};
 ghost use Rattle.solo_laws.specs.Calls.{Call, Course};
 ghost use Rattle.solo_laws.specs.Futures.{ComesBack, IsNumbered, NoneIsLost};
+ghost use Rattle.solo_laws.specs.Looks.{OneOfEightIsPlain, TakesByTurn, looks_of};
 ghost use Rattle.solo_laws.specs.Outputs.{OutputsBalance};
 ghost use Rattle.solo_laws.specs.Queueing.{StandsOnce};
 ghost use Rattle.solo_laws.specs.Sleeping.{SomeoneIsTold};
 ghost use Rattle.solo_laws.specs.Weights.{Balances};
 
-/// Whatever is called, and with whatever names: as long as a task is queued, nobody sleeps, or one who sleeps is told. So a queued
-/// task never waits while all who could take it sleep on.
+/// Whatever is called, and with whatever names: as long as a task of either mark is queued, nobody sleeps, or one who sleeps is
+/// told. So a queued task never waits while all who could take it sleep on.
 pub fn who_sleeps_is_told<F, T, X>()
     ensures { (limit : ℕ) (kind : Kind) (calls : List (Call F T X)) (first last : Solo F T X) → IsNew limit kind first
         → Course calls first last → SomeoneIsTold last }
@@ -31,8 +33,8 @@ pub fn no_future_is_lost<F, T, X>()
 /// Tasks are numbered from 0 in the order in which their futures were accepted, up to 2^64 - 1: so no two have one name.
 pub fn tasks_are_numbered_in_order<F, T, X>()
     ensures { (limit : ℕ) (kind : Kind) (calls : List (Call F T X)) (first last : Solo F T X) → IsNew limit kind first
-        → Course calls first last → (future : F) (spawned : Spawned X) (next : Solo F T X) → Spawns future last (Ok spawned) next
-        → IsNumbered calls spawned }
+        → Course calls first last → (mark : Mark) (future : F) (spawned : Spawned X) (next : Solo F T X)
+        → Spawns mark future last (Ok spawned) next → IsNumbered calls spawned }
 {}
 
 /// Whatever futures are taken to weigh, what was handed in weighs as much as what is inside and what was handed out. So a future
@@ -47,8 +49,20 @@ pub fn what_goes_in_comes_out_once<F, T, X>()
 /// futures are accepted and not dropped as the limit says with which the executor was made, and want of memory only where fewer are.
 pub fn a_refused_future_comes_back<F, T, X>()
     ensures { (limit : ℕ) (kind : Kind) (calls : List (Call F T X)) (first last : Solo F T X) → IsNew limit kind first
-        → Course calls first last → (future : F) (refused : SpawnError F) (next : Solo F T X)
-        → Spawns future last (Err refused) next → ComesBack limit future refused last next }
+        → Course calls first last → (mark : Mark) (future : F) (refused : SpawnError F) (next : Solo F T X)
+        → Spawns mark future last (Err refused) next → ComesBack limit future refused last next }
+{}
+
+/// Whatever is called: of eight searches of the executor's queues in a row exactly one looks at the plain queue first. A search
+/// without a waker that finds nothing and the one with a waker that follows it count as one.
+pub fn one_look_of_eight_is_plain<F, T, X>()
+    ensures { (calls : List (Call F T X)) (first last : Solo F T X) (does : Course calls first last)
+        → OneOfEightIsPlain (looks_of calls first last does) }
+{}
+
+/// Where both queues have a task, a search takes the first of the queue at which it looks first.
+pub fn a_search_goes_by_its_turn<F, T, X>()
+    ensures { (s : Solo F T X) → TakesByTurn s }
 {}
 
 /// A task stands in the executor's queue and in the own queues of runs, and in what was handed out, once more at most than it was

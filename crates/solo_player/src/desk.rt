@@ -24,9 +24,10 @@ pub struct OnSolo<'a, R: Wait + Copy + Drop> {
 
 impl<R: Wait + Copy + Drop> Desk<Handle<R>, ScriptTick<R>, ScriptRun<R>> for OnSolo<'_, R> {
     fn spawn(&self, plan: Plan<Handle<R>>) -> Result<Handle<R>, Refused<Handle<R>>> {
+        let mark = plan.mark;
         let future = scripted(self.shelf, plan)?;
         let name = future.name;
-        let spawned = self.link.tasks().spawn(name);
+        let spawned = self.link.tasks().spawn(name, mark);
         match spawned {
             Ok(Spawned { task, told }) => {
                 self.store.put(name, future);

@@ -11,6 +11,7 @@ use crate::body::Body;
 use crate::errors::SpawnError;
 use crate::names::{ExRealm, ExTask, ExWaker};
 use async_task::{Future, NoMemory, Wake};
+use executor_parts::Mark;
 use std::alloc::Global;
 use std::fmt;
 use std::sync::Wait;
@@ -35,7 +36,7 @@ where
     R: Wait + Copy + Drop + 'static,
 {
     /// An executor with places for so many futures, whose tasks lie in this realm. It keeps the runtime value, the
-    /// allocator and the realm for its calls. All places of its queue and its table are taken here.
+    /// allocator and the realm for its calls. All places of its queues and its table are taken here.
     pub fn new(
         rt: R,
         alloc: Global,
@@ -43,7 +44,8 @@ where
         limit: usize,
     ) -> Result<Self, NoMemory>
         requires { 0 < limit }
-        ensures places { IfOk result (λ executor. (arc_value executor.body.state).queue.capacity ≡ Some limit) }
+        ensures urgent { IfOk result (λ executor. (arc_value executor.body.state).queues.urgent.capacity ≡ Some limit) }
+        ensures plain { IfOk result (λ executor. (arc_value executor.body.state).queues.plain.capacity ≡ Some limit) }
         ensures here { IfOk result (λ executor. executor.body.realm.now.number ≡ realm.now.number) }
         ensures kind { IfOk result (λ executor. executor.body.is_static ≡ true) }
     {
@@ -53,14 +55,25 @@ where
         }
     }
 
-    /// Hands the executor a future. Its task is queued, and the handle is answered: a future with the output, whose drop
+    /// Hands the executor a plain future. Its task is queued, and the handle is answered: a future with the output, whose drop
     /// cancels the task. `Full` where as many accepted futures as the limit are not dropped yet, and only then want of memory
     /// for the task. The future comes back.
     pub fn spawn(&self, future: F) -> Result<ExTask<T, W, R>, SpawnError<F>>
         ensures future { IfErr result (λ error. refused error ≡ future) }
         ensures here { IfOk result (λ task. task.identity.realm ≡ self.now.body.realm.now.number) }
+        ensures plain { IfOk result (λ task. task.metadata ≡ Mark.Plain) }
     {
-        self.body.hand_in(future, &mut Unlocked::at_entry())
+        self.spawn_marked(future, Mark::Plain)
+    }
+
+    /// As `spawn`, with this mark. An urgent future's task goes into the urgent queue, which seven of eight searches look at
+    /// before the other.
+    pub fn spawn_marked(&self, future: F, mark: Mark) -> Result<ExTask<T, W, R>, SpawnError<F>>
+        ensures future { IfErr result (λ error. refused error ≡ future) }
+        ensures here { IfOk result (λ task. task.identity.realm ≡ self.now.body.realm.now.number) }
+        ensures marked { IfOk result (λ task. task.metadata ≡ mark) }
+    {
+        self.body.hand_in(future, mark, &mut Unlocked::at_entry())
     }
 
     /// Runs one task, where one is queued, and says whether it did. It doesn't wait for one, and takes no memory.

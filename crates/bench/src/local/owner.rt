@@ -1,5 +1,5 @@
 //! Work on an executor of one owner.
-use solo::{Back, Found, Kind, Owed, Solo, Spawned, Taken, Told};
+use solo::{Back, Found, Kind, Mark, Owed, Solo, Spawned, Taken, Told};
 use std::alloc::Global;
 use std::rt::Clock;
 use std::time::Instant;
@@ -37,7 +37,7 @@ fn time_ping<R: Clock>(rt: &R, solo: &mut Numbers, ops: u64) -> Result<Timing, F
 }
 
 fn spawned(solo: &mut Numbers) -> bool {
-    match solo.spawn(0) {
+    match solo.spawn(0, Mark::Plain) {
         Ok(
             Spawned {
                 task: _,

@@ -9,6 +9,7 @@ use crate::debug::show;
 use crate::errors::LocalError;
 use crate::making;
 use async_task::{Future, NoMemory, Wake};
+use executor_parts::Mark;
 use solo::{Kind, SpawnError};
 use std::alloc::Global;
 use std::random::RandomSource;
@@ -46,13 +47,21 @@ where
         }
     }
 
-    /// Hands the executor a future. Its task is queued, and the handle is answered: a future with the output, whose drop
+    /// Hands the executor a plain future. Its task is queued, and the handle is answered: a future with the output, whose drop
     /// cancels the task. `Full` where as many accepted futures as the limit are not dropped yet, and only then want of memory
     /// for the task. The future comes back.
     pub fn spawn(&self, future: F) -> Result<LocalHandle<T, W, R>, SpawnError<F>>
         ensures { IfErr result (λ error. refused error ≡ future) }
     {
-        self.body.hand_in(future, &mut Unlocked::at_entry())
+        self.spawn_marked(future, Mark::Plain)
+    }
+
+    /// As `spawn`, with this mark. An urgent future's task goes into the urgent queue, which seven of eight searches look at
+    /// before the other.
+    pub fn spawn_marked(&self, future: F, mark: Mark) -> Result<LocalHandle<T, W, R>, SpawnError<F>>
+        ensures { IfErr result (λ error. refused error ≡ future) }
+    {
+        self.body.hand_in(future, mark, &mut Unlocked::at_entry())
     }
 
     /// Runs one task, where one is queued, and says whether it did. It doesn't wait for one, and takes no memory.

@@ -1,5 +1,6 @@
 use crate::executor::names::{Futures, Handle, Waker};
-use async_task::{Future, Poll, Returning, StoredTask};
+use async_executor::ExStoredTask;
+use async_task::{Future, Poll, Returning};
 use std::alloc::Global;
 use std::collections::VecDeque;
 use std::sync::Wait;
@@ -10,7 +11,7 @@ use std::sync::Wait;
 pub struct Awaited<R: Wait + Copy + Drop + 'static> {
     rt: R,
     realm: &'static Futures<R>,
-    tasks: VecDeque<Returning<StoredTask>>,
+    tasks: VecDeque<Returning<ExStoredTask>>,
     sum: u64,
 }
 

@@ -1,5 +1,5 @@
 -- What the machine's two queues stand for.
-use Rattle.std.specs.Prelude.{ℕ, ◌+◌, Bool, ◌&&◌, nat_lt, Some, None}
+use Rattle.std.specs.Prelude.{ℕ, Bool, ◌&&◌, nat_lt, Some, None}
 use Rattle.std.specs.VecDeque.{deque_len, deque_capacity}
 use Rattle.queue_steps.specs.ClosableQueue.{ClosableQueue}
 use Rattle.executor_model.specs.Queues.{Queues}

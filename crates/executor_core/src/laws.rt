@@ -49,9 +49,9 @@ use executor_laws::laws::{
     lone_ticks_take_by_their_turn, no_comes_at_once, no_means_that_nothing_was_queued,
     nothing_is_ready_where_none_was_found, one_turn_of_eight_is_plain, queueings_are_counted,
     requests_are_numbered, runs_are_ready_at_their_end, runs_can_be_polled,
-    runs_end_by_their_own_futures, runs_find_due_futures, runs_poll_few_futures, runs_reach_futures,
-    runs_take_few_futures, some_standing_is_called, ticks_are_exact, traces_continue,
-    what_is_made_is_new,
+    runs_end_by_their_own_futures, runs_find_due_futures, runs_poll_few_futures,
+    runs_reach_futures, runs_take_few_futures, some_standing_is_called, ticks_are_exact,
+    traces_continue, what_is_made_is_new,
 };
 use executor_model::call_laws::{
     calls_do_what_they_say, closings_say_why, copies_are_counted, leaks_wake_each_future,

@@ -95,7 +95,7 @@ pub fn nothing_is_ready_where_none_was_found()
 /// Whatever others do meanwhile, a poll of a handle is answered that there is no output yet only where it looked a last time, its
 /// waker registered, by a step in which the task was unsettled: open and without an output, or closed with its future still to
 /// be dropped. Where no call is in progress and the drop of the executor hasn't begun, the task of each future that was
-/// dropped is settled. So who polls the handle of a dropped future then is given its output, or told that none will come.
+/// dropped is settled. So a poll of its handle that is made alone then isn't answered so.
 pub fn handles_wait_for_what_can_come()
     ensures looked { EveryMachine HandlesLookFirst }
     ensures settled { EveryMachine DroppedIsSettled }

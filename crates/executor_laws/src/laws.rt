@@ -57,8 +57,8 @@ pub fn lone_calls_end()
     ensures { EveryMachine LoneCallsEnd }
 {}
 
-/// No more Runnables are queued in either of the executor's queues than steps taken. As long as fewer than 2^61 were queued, that
-/// queue is a closable queue that counts what it accepts, and may accept one more. No Runnable is kept
+/// No more Runnables are queued in both of the executor's queues together than steps taken. As long as fewer than 2^61 were queued
+/// in one, that queue is a closable queue that counts what it accepts, and may accept one more. No Runnable is kept
 /// out of it but by its close, and none is taken from it where it is empty, by a steal neither.
 pub fn queueings_are_counted()
     ensures { (m : Mark) (limit : ℕ) (kind : Kind) (parties : ℕ) (steps : List Step) →
@@ -71,9 +71,9 @@ pub fn traces_continue()
         IsContinued s.world.trace (stepped s (step s t)).world.trace }
 {}
 
-/// Whoever is answered no is answered at once. Of what a party did, in whatever calls, an answer no stands
-/// right behind the beginning of the call that it answers, or behind the one turn that follows that; others
-/// may do anything meanwhile.
+/// Whoever is answered no is answered at once. Of what a party did, in whatever calls, an answer no to a try of a tick stands right
+/// behind its one turn, which stands right behind its beginning, and any other one right behind the beginning of the call that it
+/// answers; others may do anything meanwhile.
 pub fn no_comes_at_once()
     ensures { EveryTrace NoComesAtOnce }
 {}
@@ -271,10 +271,12 @@ pub fn kept_futures_come_first()
     ensures { EveryMachine TakesKeptFirst }
 {}
 
-/// A run takes first what stands in its own queue, then what is common, and where all futures are plain, what it moves from
-/// there keeps its turn: as many polls of the run, made alone and with its own future not ready in any, as it keeps futures and
-/// are common at their start begin the poll or the drop of each that was common, whatever other user code answers in them and
-/// whatever becomes common meanwhile.
+/// A run takes a turn only where its own queue is empty: polls of a run, made alone and with its own future not ready in any, in
+/// which as many turns name a mark as futures of that mark are common at their start, begin the poll or the drop of each of
+/// those, whatever other user code answers in them, whatever the run keeps and whatever becomes common meanwhile. Where all
+/// futures are plain, a run takes first what stands in its own queue, then what is common, and what it moves from there keeps
+/// its turn: as many such polls as it keeps futures and are common at their start begin the poll or the drop of each that was
+/// common.
 pub fn common_futures_are_in_reach_of_runs()
     ensures { EveryMachine IsCommonReached }
 {}

@@ -83,8 +83,8 @@ pub fn quiet_emptiness_is_exact()
 /// A call takes no memory but a spawn, the making of a tick or run, a copy of a waker, and a poll of a handle, tick
 /// or run, which copies the waker that it is given: nothing that it has to do from its beginning to its end asks for
 /// memory or refuses it, and what it does is the same whether memory is refused or not. So no wake, cancel, detach or
-/// drop is ever refused. Nor does a poll of a tick take memory that finds a future at its first search, nor one of a
-/// run whose own future is ready, or that finds a future at every search.
+/// drop is ever refused. Nor does a poll of a tick take memory that finds a future at its first search, in whichever of the
+/// executor's queues, nor one of a run whose own future is ready, or that finds a future at every search.
 pub fn wakes_and_drops_take_no_memory()
     ensures { (w : World) (p : ℕ) → NeedsNoMemory w p }
 {}

@@ -437,6 +437,8 @@ module _ (f : ℕ) (m : Mark) (P : Phase → ℕ → List ℕ → List ℕ → T
           let u : World = log w (event.WakerCalled p (of.Run x.run) x.poll x.waker) in
           let d : Done = act p h (op.Move move.WakeByReference g) u in
           let i : Inner u d = inner-act p h (op.Move move.WakeByReference g) u refl refl in
+          let told : named m u.trace ≡ named m w.trace =
+          named-last m (event.WakerCalled p (of.Run x.run) x.poll x.waker) w.trace refl in
           record {
             goes = on ongoing (op.End reply.Pending (hold.Run x.run)) (reverse d.next)
                 (reverse-append d.next (op.End reply.Pending (hold.Run x.run) ∷ [])) refl
@@ -447,7 +449,7 @@ module _ (f : ℕ) (m : Mark) (P : Phase → ℕ → List ℕ → List ℕ → T
                   ap (named m) i.trace,
                   named-append m u.trace i.events,
                   named-none m i.events i.no_turn,
-                  named-last m (event.WakerCalled p (of.Run x.run) x.poll x.waker) w.trace refl,
+                  told,
                 ))
                 (ap (λ (qs : List (List ℕ)). get_or qs x.run [])
                 (idle-act p h (op.Move move.WakeByReference g) u refl).own) (i.queue m)

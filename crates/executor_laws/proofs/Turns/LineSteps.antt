@@ -227,7 +227,7 @@ module _ (f : ℕ) (m : Mark) (P : Phase → ℕ → List ℕ → List ℕ → T
   pub carry : (t : Phase) (k n : ℕ) (own xs q ys : List ℕ) → n ≡ k → xs ≡ own → ys ≡ q → P t k own q → P t n xs ys
   carry t k n own xs q ys e i j z =
       subst (λ (a : ℕ). P t a xs ys) (sym e)
-      (subst (λ (as : List ℕ). P t k as ys) (sym i) (subst (λ (as : List ℕ). P t k own as) (sym j) z))
+      (subst (λ (zs : List ℕ). P t k zs ys) (sym i) (subst (λ (zs : List ℕ). P t k own zs) (sym j) z))
 
   after-holds : (q : ℕ) (w v : World) (d : Done) → Holds m q d.next → d.world.own ≡ v.own → d.world.queues ≡ v.queues →
       d.world.trace ≡ v.trace → d.world.gone ≡ w.gone → Rests P m q ongoing v → After P m q f w d

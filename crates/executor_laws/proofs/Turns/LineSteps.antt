@@ -332,8 +332,8 @@ module _ (f : ℕ) (m : Mark) (P : Phase → ℕ → List ℕ → List ℕ → T
     goes = on t (op.Run (run_op.SearchCommon x (Second (other k)))) [] refl (refl, ap other e ∙ other-twice m) refl z;
     gone = refl;
   }
-  after-other t k (h ∷ rest) w x e u i o (inl no) z =
-      let empty : h ∷ rest ≡ [] = sym i ∙ (ap (λ (n : Mark). (queue_of w n).items) e ∙ no) in absurd (cc)
+  after-other t k (h ∷ rest) w x e u i o (inl gone) z =
+      let empty : h ∷ rest ≡ [] = sym i ∙ (ap (λ (n : Mark). (queue_of w n).items) e ∙ gone) in absurd (cc)
   after-other t k (h ∷ rest) w x e u i o (inr b) z = record {
     goes = on ongoing (op.Steal (steal_op.Length (common_steal x k (then.Found h)))) [] refl
         ((refl, (k, refl), refl), refl) refl
@@ -389,8 +389,8 @@ module _ (f : ℕ) (m : Mark) (P : Phase → ℕ → List ℕ → List ℕ → T
           ∙ (taken-there m w ∙ ap (λ (ys : List ℕ). drop 1 ys) q))
           (law.moves (named m w.trace) h (own_of w x.run) rest
           (subst (λ (ys : List ℕ). P ongoing (named m w.trace) (own_of w x.run) ys) q z)))
-      by (inr e) (inl no) =
-          let empty : h ∷ rest ≡ [] = sym i ∙ (ap (λ (k : Mark). (queue_of w k).items) e ∙ no) in absurd (cc)
+      by (inr e) (inl gone) =
+          let empty : h ∷ rest ≡ [] = sym i ∙ (ap (λ (k : Mark). (queue_of w k).items) e ∙ gone) in absurd (cc)
       by (inr e) (inr c) =
           has (carry ongoing (named m w.trace) (named m w.trace) (own_of w x.run ++ h ∷ []) (own_of w x.run ++ h ∷ [])
           (queue_of w m).items (queue_of (put_queue w mark (taken (queue_of w mark))) m).items refl refl

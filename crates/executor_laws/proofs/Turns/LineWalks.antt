@@ -9,6 +9,7 @@ use Rattle.executor_parts.specs.Marks.{other}
 use Rattle.executor_model.specs.declared.op.Look.{Look}
 use Rattle.executor_model.specs.declared.op.Look.TheVariants.{First, Second}
 use Rattle.executor_model.specs.declared.call.Reply.{Reply}
+use Rattle.executor_model.specs.declared.event.Event.TheVariants as event
 use Rattle.executor_model.specs.declared.op.Op.{Op}
 use Rattle.executor_model.specs.declared.op.Op.TheVariants as op
 use Rattle.executor_model.specs.declared.op.RunOp.TheVariants as run_op
@@ -154,7 +155,13 @@ module _ (f : ℕ) (m : Mark) (P : Phase → ℕ → List ℕ → List ℕ → T
       (subst (λ (n : Phase). Stands P m (steal_in o).poll.run n (op.Steal o) w) e.1
       (subst (λ (r : ℕ). Stands P m r t (op.Steal o) w) (sym e.0.0) z)))
   after-doing q p h t (op.End a held) w e k z =
-      record { goes = over_with refl (subst (λ (n : Phase). Rests P m q n w) e z); gone = refl }
+      record {
+        goes = over_with refl (carry f m P law ongoing (named m w.trace) (named m (w.trace ++ event.CallEnded p a ∷ []))
+            (own_of w q) (own_of w q) (queue_of w m).items (queue_of w m).items
+            (omega (arith, named-append m w.trace (event.CallEnded p a ∷ []))) refl refl
+            (subst (λ (n : Phase). Rests P m q n w) e z));
+        gone = refl;
+      }
   after-doing q p h t _ w e k z = absurd e
 
 no-user : (m : Mark) (q : ℕ) (t : Phase) (o : Op) (u : UserEnd) → Doing m q t o → accepts o u ≡ true → ⊥

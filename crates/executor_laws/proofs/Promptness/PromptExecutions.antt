@@ -56,7 +56,8 @@ use Rattle.executor_model.specs.Deeds.{deeds}
 use Rattle.executor_laws.specs.AtOnce.{HasJustBegun, NoComesAtOnce}
 use Rattle.executor_model.proofs.Steps.Deeds.{is_end, Grows, grows-act, grows-react, grows-begun}
 use Rattle.executor_model.proofs.Polls.Dueness.{by_last}
-use Rattle.executor_laws.proofs.Promptness.Prompting.{Asked, Last, Other, Tried, Turned, begun_by, came_last, fits, has_tried, is_told, last_after}
+use Rattle.executor_laws.proofs.Promptness.Prompting.{Asked, Last, Other, Tried, Turned, begun_by, came_last, fits}
+use Rattle.executor_laws.proofs.Promptness.Prompting.{has_tried, is_told, last_after}
 use Rattle.executor_laws.proofs.Promptness.Prompting.{last_by, may, on_turn}
 use Rattle.executor_laws.proofs.Promptness.Prompting.{hasty, quick_of, is_no, told, fresh, fresh-append, told-append}
 use Rattle.executor_laws.proofs.Promptness.Prompting.{fresh-log, told-grows, told-log, deeds-other, deeds-other_log, slow-act}

@@ -89,7 +89,7 @@ hasty (op.List (list_op.Write (section.Unregister r a))) = is_refusal a
 hasty (op.Run (run_op.Reschedule r a)) = is_refusal a
 hasty o = quick_of o
 
--- of what p did, b being the last before: each answer no stands behind the turn of a tick, or behind the beginning of another call
+-- of what p did, b being the last before: each answer no stands behind a tick's turn, or behind the beginning of another call
 abbrev pub is_no : Event → Bool
 is_no (event.CallEnded p reply.No) = true
 is_no _ = false

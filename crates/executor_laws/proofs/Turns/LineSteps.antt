@@ -57,7 +57,7 @@ use Rattle.executor_laws.proofs.RunReach.RunFinds.{Heads, heads-found}
 use Rattle.executor_laws.proofs.RunReach.RunFinds.Heading.{stealing}
 use Rattle.executor_laws.proofs.RunReach.RunLeaves.{within}
 use Rattle.executor_laws.proofs.Turns.Standing.{Beside, Phase, Standing, Untold}
-use Rattle.executor_laws.proofs.Turns.Standing.Phase.{fresh, looking, ongoing}
+use Rattle.executor_laws.proofs.Turns.Standing.Phase.{looking, ongoing}
 
 -- what a steal has in hand stands behind the run's own queue
 abbrev pub with_hand : Op → List ℕ → List ℕ

@@ -1,7 +1,7 @@
 -- For common_futures_are_in_reach_of_runs.
 -- A poll of a run that is made alone takes a future, or leaves it as near to the run as it was.
 use Rattle.std.proofs.Common.{◌≡◌, ◌∙◌, ◌⊎◌, inl, inr, ⊎_elim, ℕ, suc, ◌+◌, ◌<◌, ◌≤◌, List, [], ◌∷◌, ◌++◌, length}
-use Rattle.std.proofs.Common.{get_or, Bool, true, false, eqb, ltb, refl, sym, ap, subst, arith, append_assoc, Ok}
+use Rattle.std.proofs.Common.{get_or, Bool, true, false, eqb, ltb, refl, sym, ap, subst, arith, Ok}
 use Rattle.std.proofs.lemmas.Bool.Decides.{nat_tests}
 use Rattle.std.specs.Prelude.{Option, Some, None, cond, reverse}
 use Rattle.executor_parts.specs.declared.mark.Mark.{Mark}
@@ -24,7 +24,7 @@ use Rattle.executor_model.specs.declared.op.TickOrRun.{TickOrRun}
 use Rattle.executor_model.specs.declared.step.Hint.{Hint}
 use Rattle.executor_model.specs.declared.step.Step.{Step}
 use Rattle.executor_model.specs.declared.step.UserEnd.{UserEnd}
-use Rattle.executor_model.specs.ActsOfRuns.{free_places, search_own_by}
+use Rattle.executor_model.specs.ActsOfRuns.{free_places}
 use Rattle.executor_model.specs.Doing.{act, search_by_who}
 use Rattle.executor_model.specs.Executions.{run_all}
 use Rattle.executor_model.specs.OwnQueues.{IsEmptyMeanwhile, empty_of, filling_of}
@@ -49,11 +49,12 @@ use Rattle.executor_laws.proofs.RunReach.RunKeeps.{So, so-more}
 use Rattle.executor_laws.proofs.RunReach.RunLeaves.{gone-onto, own-act, own-react}
 use Rattle.executor_laws.proofs.RunReach.RunWalks.{Onward, Taken, both-light, from-heading, light, onward, with-heading}
 use Rattle.executor_laws.proofs.RunReach.RunWalks.Onward.{acted, answered}
-use Rattle.executor_laws.proofs.Turns.LineSteps.{After, Doing, Goes, LooksSo, Others, Rests, Stands, after-look, after-other, after-own}
+use Rattle.executor_laws.proofs.Turns.LineSteps.{After, Doing, Goes, LooksSo, Others, Rests, Stands, after-look, after-other}
+use Rattle.executor_laws.proofs.Turns.LineSteps.{after-own}
 use Rattle.executor_laws.proofs.Turns.LineSteps.{after-steal, after-turn, after-wake, carry, steal_in, with_hand}
 use Rattle.executor_laws.proofs.Turns.LineSteps.Goes.{finds, on as on_with, over as over_with}
-use Rattle.executor_laws.proofs.Turns.Standing.{Phase, Standing, Untold}
-use Rattle.executor_laws.proofs.Turns.Standing.Phase.{fresh, looking, ongoing}
+use Rattle.executor_laws.proofs.Turns.Standing.{Phase, Standing}
+use Rattle.executor_laws.proofs.Turns.Standing.Phase.{ongoing}
 use Rattle.executor_laws.proofs.Walks.Enrolled.{Enrolled}
 use Rattle.executor_laws.proofs.Walks.Finding.{enrolled-here, itself, room-here}
 

@@ -155,7 +155,12 @@ module _ (f n : ℕ) where
   moves-by k h own q (inl x) = inl (omega (arith, x.0, times-append f own (h ∷ [])), x.1)
   moves-by k h own q (inr x) = ⊎_elim
       (λ (y : h ≡ f). inl (
-        omega (arith, times-append f own (h ∷ []), ap (λ (g : ℕ). times f (g ∷ [])) y, first-times f (let xs : List ℕ = [] in xs)),
+        omega (
+          arith,
+          times-append f own (h ∷ []),
+          ap (λ (g : ℕ). times f (g ∷ [])) y,
+          first-times f (let xs : List ℕ = [] in xs),
+        ),
         omega (arith, x.few),
       ))
       (λ (y : InLine f k n q). inr y)

@@ -1,7 +1,7 @@
 -- For common_futures_are_in_reach_of_runs.
 -- Lone polls of a run in which as many turns name a mark as futures of it are queued take each of those; and where all are plain,
 -- as many polls as the run's line is long do.
-use Rattle.std.proofs.Common.{◌≡◌, ◌∙◌, ℕ, suc, ◌+◌, ◌<◌, ◌≤◌, List, [], ◌∷◌, ◌++◌, length}
+use Rattle.std.proofs.Common.{◌≡◌, ℕ, suc, ◌+◌, ◌<◌, ◌≤◌, List, [], ◌∷◌, ◌++◌, length}
 use Rattle.std.proofs.Common.{true, refl, ap, subst, arith, sym, inl, inr, Ok}
 use Rattle.std.proofs.lemmas.List.{length-append}
 use Rattle.std.specs.Prelude.{All, filter}

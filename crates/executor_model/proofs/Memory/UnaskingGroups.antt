@@ -224,7 +224,7 @@ needs-no-memory w p = record {
   begins = none-begun p w;
   goes_on = none-act p w;
   follows = none-react p w;
-  finds = finds-without w;
+  finds = finds-without w p;
   runs = runs-without w p;
   same = same-act p w;
 }

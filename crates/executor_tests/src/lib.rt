@@ -11,8 +11,6 @@ mod many;
 #[cfg(test)]
 mod marks;
 #[cfg(test)]
-mod nested;
-#[cfg(test)]
 mod parts;
 #[cfg(test)]
 mod rows;

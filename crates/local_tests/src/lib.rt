@@ -9,8 +9,6 @@ mod many;
 mod marks;
 mod moving;
 #[cfg(test)]
-mod nested;
-#[cfg(test)]
 mod runs;
 #[cfg(test)]
 mod texts;

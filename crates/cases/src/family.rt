@@ -2,13 +2,11 @@
 
 use crate::players::Players;
 use crate::shown::{
-    Shown, machine, shown_by_executor, shown_by_local, shown_by_queue, shown_by_solo,
-    shown_by_tasks,
+    Shown, machine, shown_by_executor, shown_by_queue, shown_by_tasks, shown_on_one_thread,
 };
 use executor_player::Plays;
-use local_player::play_local;
 use queue_player::{play_exclusive, play_shared};
-use solo_player::play_solo;
+use script_player::{play_local, play_solo};
 use std::alloc::{AllocError, AllocGlobal};
 use std::random::RandomSource;
 use std::sync::Wait;
@@ -140,9 +138,9 @@ impl Family {
             Family::Executor => shown_by_executor(players.executors.play(script)),
             Family::Static => shown_by_executor(players.executors.play(script)),
             Family::Local | Family::StaticLocal => {
-                shown_by_local(play_local(rt, rt.alloc(), script))
+                shown_on_one_thread(play_local(rt, rt.alloc(), script))
             }
-            Family::Solo => shown_by_solo(play_solo(rt, rt.alloc(), script)),
+            Family::Solo => shown_on_one_thread(play_solo(rt, rt.alloc(), script)),
             Family::Queue => shown_by_queue(play_shared(rt, rt.alloc(), script)),
             Family::Exclusive => shown_by_queue(play_exclusive(rt.alloc(), script)),
             Family::Task => shown_by_tasks(players.tasks.play(script)),

@@ -46,25 +46,15 @@ pub fn shown_by_executor(shown: Result<Vec<u8>, PlayError>) -> Result<Shown, All
     }
 }
 
-/// What the player of an executor of one thread shows of a script, in the same way.
-pub fn shown_by_local(
-    shown: Result<Vec<u8>, local_player::PlayError>,
+/// What the player of executors of one thread, or of one owner, shows of a script, in the same way.
+pub fn shown_on_one_thread(
+    shown: Result<Vec<u8>, script_player::PlayError>,
 ) -> Result<Shown, AllocError> {
     match shown {
         Ok(text) => Ok(Shown::Text(text)),
-        Err(local_player::PlayError::BadLine(number)) => Ok(Shown::BadLine(number)),
-        Err(local_player::PlayError::NotWhole(number)) => Ok(Shown::BadLine(number)),
-        Err(local_player::PlayError::NoMemory) => Err(AllocError),
-    }
-}
-
-/// What the player of an executor of one owner shows of a script, in the same way.
-pub fn shown_by_solo(shown: Result<Vec<u8>, solo_player::PlayError>) -> Result<Shown, AllocError> {
-    match shown {
-        Ok(text) => Ok(Shown::Text(text)),
-        Err(solo_player::PlayError::BadLine(number)) => Ok(Shown::BadLine(number)),
-        Err(solo_player::PlayError::NotWhole(number)) => Ok(Shown::BadLine(number)),
-        Err(solo_player::PlayError::NoMemory) => Err(AllocError),
+        Err(script_player::PlayError::BadLine(number)) => Ok(Shown::BadLine(number)),
+        Err(script_player::PlayError::NotWhole(number)) => Ok(Shown::BadLine(number)),
+        Err(script_player::PlayError::NoMemory) => Err(AllocError),
     }
 }
 

@@ -1,5 +1,4 @@
 //! Plays scripts of whole calls, in the language of `taskrun sim`, on executors of one thread, and gives the text of what happens.
-#![tactic(auto)]
 
 mod desk;
 mod handle;
@@ -7,4 +6,3 @@ mod keeper;
 mod playing;
 
 pub use playing::play_local;
-pub use script_player::PlayError;

@@ -1,9 +1,9 @@
 //! The executor of a script, as its desk, its handles and its wakers share it, and what follows its calls.
 ghost use Rattle.std.specs.Prelude.{◌≡◌, ◌<◌, None};
 
+use crate::{Bell, Gift};
 use async_task::Wake;
 use script::Name;
-use script_player::{Bell, Gift};
 use solo::{Dropped, Kind, Lent, Owed, Solo, SoloWaker, Task, Told};
 use std::alloc::Global;
 use std::cell::{RefCell, RefMut};

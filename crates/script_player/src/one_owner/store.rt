@@ -1,8 +1,8 @@
 //! The futures of a script that aren't dropped.
-use crate::handle::Handle;
-use crate::waker::TaskWaker;
+use crate::one_owner::handle::Handle;
+use crate::one_owner::waker::TaskWaker;
+use crate::{Scripted, Shared};
 use script::Name;
-use script_player::{Scripted, Shared};
 use std::alloc::Global;
 use std::cell::RefCell;
 use std::collections::BTreeMap;

@@ -1,15 +1,17 @@
 //! From the text of a script to the text of what it does.
 ghost use Rattle.std.specs.Prelude.{◌<◌};
 
-use crate::desk::{OnLocal, OneOf, ScriptExecutor, ScriptRun, ScriptStatic, ScriptTick};
-use crate::handle::{Handle, Kept};
-use crate::keeper::Keeper;
-use local_executor::{LocalExecutor, StaticLocalExecutor};
-use script::{Command, Word};
-use script_player::{
+use crate::one_thread::desk::{
+    OnLocal, OneOf, ScriptExecutor, ScriptRun, ScriptStatic, ScriptTick,
+};
+use crate::one_thread::handle::{Handle, Kept};
+use crate::one_thread::keeper::Keeper;
+use crate::{
     Answer, Handles, PlayError, Player, Shared, SharedShelf, Shelf, Stage, Stop, play_closed,
     play_on, read_whole, show_end,
 };
+use local_executor::{LocalExecutor, StaticLocalExecutor};
+use script::{Command, Word};
 use std::alloc::Global;
 use std::random::RandomSource;
 use std::rc::Rc;

@@ -1,19 +1,19 @@
 //! From the text of a script to the text of what it does.
 ghost use Rattle.std.specs.Prelude.{◌<◌};
 
-use crate::desk::{OnSolo, end, leak};
-use crate::handle::Handle;
-use crate::keeper::Keeper;
-use crate::link::Link;
-use crate::runs::ScriptRun;
-use crate::store::Store;
-use crate::ticks::ScriptTick;
-use crate::waker::TaskWaker;
-use script::{Command, Word};
-use script_player::{
+use crate::one_owner::desk::{OnSolo, end, leak};
+use crate::one_owner::handle::Handle;
+use crate::one_owner::keeper::Keeper;
+use crate::one_owner::link::Link;
+use crate::one_owner::runs::ScriptRun;
+use crate::one_owner::store::Store;
+use crate::one_owner::ticks::ScriptTick;
+use crate::one_owner::waker::TaskWaker;
+use crate::{
     Answer, Handles, PlayError, Player, Shared, SharedShelf, Shelf, Stage, Stop, play_closed,
     play_on, read_whole, show_end,
 };
+use script::{Command, Word};
 use solo::Kind;
 use std::alloc::Global;
 use std::rc::Rc;

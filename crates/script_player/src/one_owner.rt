@@ -1,5 +1,4 @@
 //! Plays scripts of whole calls, in the language of `taskrun sim`, on an executor of one owner, and gives the text of what happens.
-#![tactic(auto)]
 
 mod desk;
 mod handle;
@@ -12,4 +11,3 @@ mod ticks;
 mod waker;
 
 pub use playing::play_solo;
-pub use script_player::PlayError;

@@ -1,7 +1,7 @@
 //! The wakers that a script's futures, handles, ticks and runs are polled with.
-use crate::link::Link;
+use crate::one_owner::link::Link;
+use crate::{Bell, KeptOf};
 use async_task::Wake;
-use script_player::{Bell, KeptOf};
 use solo::{SoloWaker, Task};
 use std::sync::Wait;
 

@@ -1,9 +1,9 @@
 //! The ticks of a script.
-use crate::desk::OnSolo;
-use crate::link::Link;
-use crate::waker::{ScriptWaker, copy_for};
+use crate::one_owner::desk::OnSolo;
+use crate::one_owner::link::Link;
+use crate::one_owner::waker::{ScriptWaker, copy_for};
+use crate::{Answer, Bell};
 use script::Name;
-use script_player::{Answer, Bell};
 use solo::{Found, Look, Ticked, Ticker, Told};
 use std::mem;
 use std::sync::Wait;

@@ -1,7 +1,7 @@
 //! The handles of a script's futures, and what is kept of their wakers.
+use crate::{Answer, Await, Bell, Gift, Hold, KeptOf, answer_of_cancel, answer_of_task};
 use async_task::{Future, Wake};
 use local_executor::{LocalCancel, LocalExWaker, LocalHandle, LocalWaker};
-use script_player::{Answer, Await, Bell, Gift, Hold, KeptOf, answer_of_cancel, answer_of_task};
 use std::sync::Wait;
 
 /// The waker that a script's futures, handles, ticks and runs are polled with.

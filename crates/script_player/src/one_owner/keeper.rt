@@ -1,21 +1,20 @@
 //! Who calls the kept wakers of a script's futures, and lets them go.
-use crate::handle::Kept;
-use async_task::Wake;
+use crate::one_owner::waker::TaskWaker;
+use crate::{Keep, SharedShelf};
 use script::Name;
-use script_player::{Keep, SharedShelf};
 use std::sync::Wait;
 
 /// Who calls the wakers of a shelf.
 #[derive(Drop)]
 pub struct Keeper<R: Wait + Copy + Drop> {
-    pub shelf: SharedShelf<Kept<R>>,
+    pub shelf: SharedShelf<TaskWaker<R>>,
 }
 
 impl<R: Wait + Copy + Drop> Keep for Keeper<R> {
     fn wake(&self, name: Name) -> bool {
         match self.shelf.take_kept(name) {
             Some(kept) => {
-                kept.waker.wake_by_ref();
+                kept.call();
                 self.shelf.keep(name, kept);
                 true
             }

@@ -1,13 +1,13 @@
 //! The executor of a script, and its futures, which are polled and dropped here.
-use crate::handle::Handle;
-use crate::link::Link;
-use crate::runs::ScriptRun;
-use crate::store::{ScriptFuture, Store};
-use crate::ticks::ScriptTick;
-use crate::waker::{LentWaker, ScriptWaker, TaskWaker};
+use crate::one_owner::handle::Handle;
+use crate::one_owner::link::Link;
+use crate::one_owner::runs::ScriptRun;
+use crate::one_owner::store::{ScriptFuture, Store};
+use crate::one_owner::ticks::ScriptTick;
+use crate::one_owner::waker::{LentWaker, ScriptWaker, TaskWaker};
+use crate::{Answer, Bell, Desk, Own, Plan, Refused, SharedShelf, scripted};
 use async_task::{Future, Poll};
 use script::Name;
-use script_player::{Answer, Bell, Desk, Own, Plan, Refused, SharedShelf, scripted};
 use solo::{Back, Found, Lent, SpawnError, Spawned, Taken};
 use std::sync::Wait;
 

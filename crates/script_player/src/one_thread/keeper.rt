@@ -1,20 +1,21 @@
 //! Who calls the kept wakers of a script's futures, and lets them go.
-use crate::waker::TaskWaker;
+use crate::one_thread::handle::Kept;
+use crate::{Keep, SharedShelf};
+use async_task::Wake;
 use script::Name;
-use script_player::{Keep, SharedShelf};
 use std::sync::Wait;
 
 /// Who calls the wakers of a shelf.
 #[derive(Drop)]
 pub struct Keeper<R: Wait + Copy + Drop> {
-    pub shelf: SharedShelf<TaskWaker<R>>,
+    pub shelf: SharedShelf<Kept<R>>,
 }
 
 impl<R: Wait + Copy + Drop> Keep for Keeper<R> {
     fn wake(&self, name: Name) -> bool {
         match self.shelf.take_kept(name) {
             Some(kept) => {
-                kept.call();
+                kept.waker.wake_by_ref();
                 self.shelf.keep(name, kept);
                 true
             }

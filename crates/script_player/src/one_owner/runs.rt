@@ -1,12 +1,12 @@
 //! The runs of a script.
-use crate::desk::OnSolo;
-use crate::handle::Handle;
-use crate::link::Link;
-use crate::ticks::{Looked, Step};
-use crate::waker::{ScriptWaker, copy_for};
+use crate::one_owner::desk::OnSolo;
+use crate::one_owner::handle::Handle;
+use crate::one_owner::link::Link;
+use crate::one_owner::ticks::{Looked, Step};
+use crate::one_owner::waker::{ScriptWaker, copy_for};
+use crate::{Answer, Bell, Own};
 use async_task::{Future, Poll, Wake};
 use script::Name;
-use script_player::{Answer, Bell, Own};
 use solo::{Missed, Ran, RunLeft, Runner, Ticker};
 use std::mem;
 use std::sync::Wait;

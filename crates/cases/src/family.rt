@@ -4,13 +4,12 @@ use crate::players::Players;
 use crate::shown::{
     Shown, machine, shown_by_executor, shown_by_queue, shown_by_tasks, shown_on_one_thread,
 };
+use call_player::{PlaysTasks, play_exclusive, play_shared};
 use executor_player::Plays;
-use queue_player::{play_exclusive, play_shared};
 use script_player::{play_local, play_solo};
 use std::alloc::{AllocError, AllocGlobal};
 use std::random::RandomSource;
 use std::sync::Wait;
-use task_player::PlaysTasks;
 
 /// What plays a script.
 #[derive(Clone, Copy)]
@@ -144,7 +143,7 @@ impl Family {
             Family::Queue => shown_by_queue(play_shared(rt, rt.alloc(), script)),
             Family::Exclusive => shown_by_queue(play_exclusive(rt.alloc(), script)),
             Family::Task => shown_by_tasks(players.tasks.play(script)),
-            Family::LocalTask => shown_by_tasks(task_player::play_local(rt.alloc(), script)),
+            Family::LocalTask => shown_by_tasks(call_player::play_local(rt.alloc(), script)),
         }
     }
 }

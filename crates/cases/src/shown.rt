@@ -28,12 +28,12 @@ pub fn machine(alloc: Global, script: &[u8]) -> Result<Shown, AllocError>
 
 /// What a player of queues shows of a script. The error is a want of memory.
 pub fn shown_by_queue(
-    shown: Result<Vec<u8>, queue_player::ParseError>,
+    shown: Result<Vec<u8>, call_player::ParseError>,
 ) -> Result<Shown, AllocError> {
     match shown {
         Ok(text) => Ok(Shown::Text(text)),
-        Err(queue_player::ParseError::BadLine(number)) => Ok(Shown::BadLine(number)),
-        Err(queue_player::ParseError::NoMemory) => Err(AllocError),
+        Err(call_player::ParseError::BadLine(number)) => Ok(Shown::BadLine(number)),
+        Err(call_player::ParseError::NoMemory) => Err(AllocError),
     }
 }
 
@@ -59,10 +59,10 @@ pub fn shown_on_one_thread(
 }
 
 /// What a player of tasks shows of a script. The error is a want of memory.
-pub fn shown_by_tasks(shown: Result<Vec<u8>, task_player::PlayError>) -> Result<Shown, AllocError> {
+pub fn shown_by_tasks(shown: Result<Vec<u8>, call_player::PlayError>) -> Result<Shown, AllocError> {
     match shown {
         Ok(text) => Ok(Shown::Text(text)),
-        Err(task_player::PlayError::BadLine(number)) => Ok(Shown::BadLine(number)),
-        Err(task_player::PlayError::NoMemory) => Err(AllocError),
+        Err(call_player::PlayError::BadLine(number)) => Ok(Shown::BadLine(number)),
+        Err(call_player::PlayError::NoMemory) => Err(AllocError),
     }
 }

@@ -1,8 +1,8 @@
 //! The calls on handles.
-use crate::answer::Answer;
-use crate::command::{HandleCall, Name, PairCall};
-use crate::local::Owner;
-use crate::local::seat::{Caller, Kind};
+use crate::tasks::answer::Answer;
+use crate::tasks::command::{HandleCall, Name, PairCall};
+use crate::tasks::local::Owner;
+use crate::tasks::local::seat::{Caller, Kind};
 use async_task::local_task::{Cancel, Detach, Polled};
 use std::alloc::AllocError;
 

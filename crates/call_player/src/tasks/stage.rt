@@ -1,7 +1,7 @@
 //! What the tasks of a script are made of.
-use crate::command::{Act, Item, Name};
-use crate::counts::Happening;
-use crate::scene::{SharedScene, copied};
+use crate::tasks::command::{Act, Item, Name};
+use crate::tasks::counts::Happening;
+use crate::tasks::scene::{SharedScene, copied};
 use async_task::{
     Awaiter, Future, Poll, Realm, Returning, Runnable, Running, Schedule, ScheduleInfo, Scheduled,
     TaskWaker, Wake,

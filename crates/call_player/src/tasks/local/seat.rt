@@ -1,7 +1,7 @@
 //! A task of one owner, and what its owner knows of it.
-use crate::answer::Answer;
-use crate::command::{Item, Name};
-use crate::counts::Counts;
+use crate::tasks::answer::Answer;
+use crate::tasks::command::{Item, Name};
+use crate::tasks::counts::Counts;
 use async_task::LocalTask;
 use async_task::moves::State;
 use std::alloc::{AllocError, Global};

@@ -1,11 +1,11 @@
 //! Plays commands, one after the other.
-use crate::answer::Answer;
-use crate::command::{Command, Item, Name};
-use crate::handle::Handle;
-use crate::kept::Keeps;
-use crate::runs::OpenRun;
-use crate::scene::{SharedScene, copied};
-use crate::stage::{Actor, Line, Tasks};
+use crate::tasks::answer::Answer;
+use crate::tasks::command::{Command, Item, Name};
+use crate::tasks::handle::Handle;
+use crate::tasks::kept::Keeps;
+use crate::tasks::runs::OpenRun;
+use crate::tasks::scene::{SharedScene, copied};
+use crate::tasks::stage::{Actor, Line, Tasks};
 use async_task::{Builder, Returning};
 use std::alloc::{AllocError, Global};
 use std::sync::Wait;

@@ -1,12 +1,12 @@
 //! What plays whole scripts.
-use crate::error::PlayError;
-use crate::handle::Handle;
-use crate::kept::Keeps;
-use crate::parser::{Script, parse};
-use crate::player::Player;
-use crate::runs::OpenRun;
-use crate::scene::{Scene, copied};
-use crate::stage::Tasks;
+use crate::tasks::error::PlayError;
+use crate::tasks::handle::Handle;
+use crate::tasks::kept::Keeps;
+use crate::tasks::parser::{Script, parse};
+use crate::tasks::player::Player;
+use crate::tasks::runs::OpenRun;
+use crate::tasks::scene::{Scene, copied};
+use crate::tasks::stage::Tasks;
 use std::alloc::Global;
 use std::sync::Wait;
 

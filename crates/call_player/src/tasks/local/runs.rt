@@ -1,9 +1,9 @@
 //! The calls on the list and on open runs.
-use crate::answer::Answer;
-use crate::command::{Act, ListCall, Name};
-use crate::counts::Happening;
-use crate::local::Owner;
-use crate::local::seat::Work;
+use crate::tasks::answer::Answer;
+use crate::tasks::command::{Act, ListCall, Name};
+use crate::tasks::counts::Happening;
+use crate::tasks::local::Owner;
+use crate::tasks::local::seat::Work;
 use async_task::local_task::{Finish, Settled, Start};
 use async_task::{Back, ScheduleInfo};
 use std::alloc::AllocError;

@@ -1,5 +1,4 @@
 //! Plays scripts of calls on a queue that threads share, or on one of one owner, and gives the text of the answers.
-#![tactic(auto)]
 
 mod call;
 mod item;

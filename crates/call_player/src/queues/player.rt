@@ -1,8 +1,8 @@
 //! A script's calls, one after the other, and the text of their answers.
 
-use crate::call::Call;
-use crate::item::{Drops, Item};
-use crate::queue::Queue;
+use crate::queues::call::Call;
+use crate::queues::item::{Drops, Item};
+use crate::queues::queue::Queue;
 use concurrent_queue::{ForcePushError, PopError, PushError};
 use std::alloc::{AllocError, Global};
 use std::sync::atomic::Ordering::SeqCst;

@@ -1,11 +1,13 @@
 //! The calls on the list of Runnables and on open runs.
-use crate::answer::Answer;
-use crate::command::ListCall;
-use crate::handle::{Handle, marks_of};
-use crate::kept::Keeps;
-use crate::player::Player;
-use crate::scene::Entry;
-use crate::stage::{Actor, Bell, Line, Output, ScriptRunnable, ScriptRunning, ScriptScheduled};
+use crate::tasks::answer::Answer;
+use crate::tasks::command::ListCall;
+use crate::tasks::handle::{Handle, marks_of};
+use crate::tasks::kept::Keeps;
+use crate::tasks::player::Player;
+use crate::tasks::scene::Entry;
+use crate::tasks::stage::{
+    Actor, Bell, Line, Output, ScriptRunnable, ScriptRunning, ScriptScheduled,
+};
 use async_task::{Back, Future, Poll, Returning, RunEnd, Schedule, Started, StoredRunnable, Wake};
 use std::alloc::AllocError;
 use std::sync::Wait;

@@ -1,5 +1,7 @@
 //! A text read as a script.
-use crate::command::{Act, Call, Command, HandleCall, Item, ListCall, Name, PairCall, WakerCall};
+use crate::tasks::command::{
+    Act, Call, Command, HandleCall, Item, ListCall, Name, PairCall, WakerCall,
+};
 use std::alloc::{AllocError, Global};
 use std::str;
 use text_lines::{Lines, ParseError, Words, read_number};

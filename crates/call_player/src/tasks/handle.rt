@@ -1,6 +1,6 @@
 //! The handle of a task, of whichever type.
-use crate::answer::Answer;
-use crate::stage::{Actor, Bell, Line, Output, ScriptAwaiter};
+use crate::tasks::answer::Answer;
+use crate::tasks::stage::{Actor, Bell, Line, Output, ScriptAwaiter};
 use async_task::{Cancel, FallibleTask, Future, NoMemory, Poll, Task, TaskError};
 use std::alloc::{AllocError, Global};
 use std::sync::Wait;

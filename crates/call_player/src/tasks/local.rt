@@ -5,10 +5,10 @@ mod runs;
 mod seat;
 mod wakers;
 
-use crate::answer::Answer;
-use crate::command::{Command, Item, Name};
-use crate::error::PlayError;
-use crate::parser::{Script, parse};
+use crate::tasks::answer::Answer;
+use crate::tasks::command::{Command, Item, Name};
+use crate::tasks::error::PlayError;
+use crate::tasks::parser::{Script, parse};
 use async_task::LocalTask;
 use runs::OpenRun;
 use seat::{Kind, ScriptTask, Seat, Work};

@@ -1,5 +1,4 @@
 //! Plays scripts of calls on tasks of `async_task`, or on tasks of one owner, and gives the text of what happens.
-#![tactic(auto)]
 
 mod answer;
 mod command;
@@ -11,16 +10,16 @@ mod kept;
 mod local;
 mod parser;
 mod player;
+mod playing;
 mod runs;
 mod scene;
 mod stage;
-mod tasks;
 mod wakers;
 
 pub use error::PlayError;
 pub use handle::Handle;
 pub use kept::{Keeps, Kept};
 pub use local::play_local;
+pub use playing::{PlaysTasks, TaskPlayer};
 pub use runs::OpenRun;
 pub use stage::Tasks;
-pub use tasks::{PlaysTasks, TaskPlayer};

@@ -1,8 +1,8 @@
 //! What calls ask their owner to do: he queues tasks, calls and drops who awaits them, and drops what they are made of.
-use crate::command::Name;
-use crate::counts::Happening;
-use crate::local::Owner;
-use crate::local::seat::Caller;
+use crate::tasks::command::Name;
+use crate::tasks::counts::Happening;
+use crate::tasks::local::Owner;
+use crate::tasks::local::seat::Caller;
 use async_task::ScheduleInfo;
 use std::alloc::AllocError;
 

@@ -1,7 +1,7 @@
 //! What the tasks of a script share: the lines shown so far, the list of Runnables, and what is known of each name.
-use crate::answer::Answer;
-use crate::command::Name;
-use crate::counts::{Counts, Happening};
+use crate::tasks::answer::Answer;
+use crate::tasks::command::Name;
+use crate::tasks::counts::{Counts, Happening};
 use async_task::{Returning, StoredRunnable, StoredWaker};
 use std::alloc::{AllocError, Global};
 use std::collections::VecDeque;

@@ -1,11 +1,11 @@
 //! The calls on handles.
-use crate::answer::Answer;
-use crate::command::{HandleCall, Name, PairCall};
-use crate::handle::Handle;
-use crate::kept::Keeps;
-use crate::player::Player;
-use crate::runs::OpenRun;
-use crate::stage::{Bell, ScriptAwaiter};
+use crate::tasks::answer::Answer;
+use crate::tasks::command::{HandleCall, Name, PairCall};
+use crate::tasks::handle::Handle;
+use crate::tasks::kept::Keeps;
+use crate::tasks::player::Player;
+use crate::tasks::runs::OpenRun;
+use crate::tasks::stage::{Bell, ScriptAwaiter};
 use async_task::Awaiter;
 use std::alloc::AllocError;
 use std::sync::Wait;

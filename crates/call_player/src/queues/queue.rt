@@ -1,6 +1,6 @@
 //! What a script's calls are made on: a queue that threads share, or one of one owner.
 
-use crate::item::Item;
+use crate::queues::item::Item;
 use concurrent_queue::{ConcurrentQueue, ForcePushError, PopError, PushError};
 use queue_steps::Exclusive;
 use std::alloc::AllocError;

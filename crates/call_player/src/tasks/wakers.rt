@@ -1,12 +1,12 @@
 //! The calls on kept wakers.
-use crate::answer::Answer;
-use crate::command::{Name, WakerCall};
-use crate::handle::Handle;
-use crate::kept::Keeps;
-use crate::player::Player;
-use crate::runs::OpenRun;
-use crate::scene::Entry;
-use crate::stage::{ScriptAwaiter, ScriptWaker};
+use crate::tasks::answer::Answer;
+use crate::tasks::command::{Name, WakerCall};
+use crate::tasks::handle::Handle;
+use crate::tasks::kept::Keeps;
+use crate::tasks::player::Player;
+use crate::tasks::runs::OpenRun;
+use crate::tasks::scene::Entry;
+use crate::tasks::stage::{ScriptAwaiter, ScriptWaker};
 use async_task::{Awaiter, Returning, Wake};
 use std::alloc::AllocError;
 use std::sync::Wait;

@@ -1,7 +1,7 @@
 //! The calls on kept wakers.
-use crate::answer::Answer;
-use crate::command::{Name, WakerCall};
-use crate::local::Owner;
+use crate::tasks::answer::Answer;
+use crate::tasks::command::{Name, WakerCall};
+use crate::tasks::local::Owner;
 use std::alloc::AllocError;
 
 impl Owner {

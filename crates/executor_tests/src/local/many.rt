@@ -1,5 +1,5 @@
 //! Many futures at once.
-use crate::moving::Ready;
+use crate::local::moving::Ready;
 use async_task::{Future, Nobody, Poll};
 use local_executor::{LocalExWaker, LocalExecutor, LocalHandle};
 use std::test::Fail;

@@ -1,5 +1,4 @@
 //! Tests of executors of one thread, by what these give their users.
-#![tactic(auto)]
 
 #[cfg(test)]
 mod door;

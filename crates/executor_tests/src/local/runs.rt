@@ -1,5 +1,5 @@
 //! Runs of two executors on one thread. What the calls of one show are scripts of `cases`.
-use crate::moving::Never;
+use crate::local::moving::Never;
 use async_task::{Future, Nobody, Poll};
 use local_executor::{LocalExWaker, LocalExecutor};
 use std::alloc::Global;

@@ -1,5 +1,5 @@
 //! What an executor shows of itself, and what a handle gives whose closing is no error.
-use crate::moving::Ready;
+use crate::local::moving::Ready;
 use async_task::{Future, Nobody, Poll};
 use local_executor::{LocalExWaker, LocalExecutor};
 use std::test::Fail;

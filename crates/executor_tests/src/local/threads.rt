@@ -1,5 +1,5 @@
 //! Wakers of an executor of one thread are called on other threads.
-use crate::door::{Visitor, new_door};
+use crate::local::door::{Visitor, new_door};
 use async_task::{Future, Nobody, Poll, Wake};
 use local_executor::{LocalExWaker, LocalExecutor, TaskError};
 use std::rc::Rc;

@@ -3,11 +3,11 @@
 #![tactic(auto)]
 
 #[cfg(test)]
-mod caught;
-#[cfg(test)]
 mod gates;
 #[cfg(test)]
-mod rows;
+mod lists;
+#[cfg(test)]
+mod own_waker;
 #[cfg(test)]
 mod scripts;
 #[cfg(test)]

@@ -3,12 +3,12 @@
 #![tactic(auto)]
 
 #[cfg(test)]
-mod caught;
-#[cfg(test)]
 mod gates;
 #[cfg(test)]
 mod lists;
 #[cfg(test)]
-mod rows;
+mod own_waker;
 #[cfg(test)]
 mod scripts;
+#[cfg(test)]
+mod values;

@@ -3,11 +3,11 @@
 #![tactic(auto)]
 
 #[cfg(test)]
+mod caught;
+#[cfg(test)]
 mod gates;
 #[cfg(test)]
-mod lists;
-#[cfg(test)]
-mod own_waker;
+mod rows;
 #[cfg(test)]
 mod scripts;
 #[cfg(test)]

@@ -79,10 +79,6 @@ module _ {F T X : Type 0} where
   pub scheduled_prompt : (task : Task) (s : Solo F T X) → Prompt s → Prompt (scheduled task s)
   scheduled_prompt task s p = scheduled_by (takes task s) task s refl p
 
-  pub scheduled_awake : (task : Task) (s : Solo F T X) → Awake s → Awake (scheduled task s)
-  scheduled_awake task s a =
-      chosen Awake (takes task s) (told (lined task s)) (lined task s) (told_awake (lined task s) a.0) a
-
   pub scheduled_if_prompt : (due : Bool) (task : Task) (s : Solo F T X) → Prompt s → Prompt (scheduled_if due task s)
   scheduled_if_prompt due task s p = chosen Prompt due (scheduled task s) s (scheduled_prompt task s p) p
 

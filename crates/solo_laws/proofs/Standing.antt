@@ -36,11 +36,6 @@ use Rattle.solo_laws.proofs.Fitness.{woken_asks, released_asks, started_fits}
 use Rattle.solo_laws.proofs.OwnPlaces.{popped_times, pushed_times}
 use Rattle.solo_laws.proofs.LinePlaces as lines
 
-and_one : (b c : Bool) → one_if (b && c) ≤ one_if c
-and_one true c = omega arith
-and_one false true = omega arith
-and_one false false = omega arith
-
 module _ (t : Task) where
   module _ {F T X : Type 0} where
     -- the task fits, and with so many handed out it stands in queues no more often than it is ready and was brought back

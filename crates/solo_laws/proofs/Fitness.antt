@@ -196,7 +196,8 @@ module _ {T X : Type 0} where
   ready_by : (b : Bool) (output : T) (v : Kept T X) → cells.is_lent v ≡ b → unfit v ≡ false
       → (unfit (choose b (cells.settled (record { task = (abstract.end_ready output v.task).task; future = Gone }) v) v) ≡ false)
       × (one_if (cells.may_start v) + 0
-      ≤ one_if (cells.may_start (choose b (cells.settled (record { task = (abstract.end_ready output v.task).task; future = Gone }) v)
+      ≤ one_if (cells.may_start (choose b
+      (cells.settled (record { task = (abstract.end_ready output v.task).task; future = Gone }) v)
       v)))
   ready_by true output v is fits =
       let was : one_if (cells.may_start v) ≡ 0 = ap one_if (lent_not_ready v.future (is_queued v.task.phase) is) in

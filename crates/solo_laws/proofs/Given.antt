@@ -282,7 +282,8 @@ module _ {T X : Type 0} (weigh : T → ℕ) where
     step (RunSearch runner ticker start_at) old new is n h =
         quiet n new (runs.searched runner ticker start_at old) is
         (run_searched_at (H n) (woke n) (loose n) (tidy n) (start n) (seek_answer runner.number start_at old).task old.lines.turn
-        runner ticker (sought runner.number start_at old) (sought_at (H n) (woke n) (loose n) (tidy n) runner.number start_at old h))
+        runner ticker (sought runner.number start_at old)
+        (sought_at (H n) (woke n) (loose n) (tidy n) runner.number start_at old h))
     step (RunLeave runner) old new is n h = quiet n new (runs.left runner old) is h
     step (RunDrain leaving) old new is n h =
         quiet n new (runs.drained leaving old) is

@@ -21,7 +21,8 @@ use Rattle.solo.specs.Cells.{Kept, choose, asked}
 use Rattle.solo.specs.Cells as cells
 use Rattle.solo.specs.Turns.{mark_of, lined, takes, turned, swept, lined_if, marked, loosed, handed_by, is_full, handed, told}
 use Rattle.solo.specs.Turns.{told_waker, scheduled, schedule_answer, scheduled_if, schedule_if_answer, let_go, let_go_answer}
-use Rattle.solo.specs.Turns.{let_go_if, let_go_if_answer, left_by_parts, left_answer_by, left, left_answer, without, out_of, begun}
+use Rattle.solo.specs.Turns.{let_go_if, let_go_if_answer, left_by_parts, left_answer_by, left, left_answer, without, out_of}
+use Rattle.solo.specs.Turns.{begun}
 use Rattle.solo.specs.Solo as solo
 use Rattle.solo.specs.Solo.{popped}
 use Rattle.solo.specs.Steals.{moved, first_of, without_first, kept, stolen, share, length_of, stolen_if, is_own, stolen_at, looked}

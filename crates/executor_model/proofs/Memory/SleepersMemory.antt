@@ -3,20 +3,12 @@
 use Rattle.std.proofs.Common.{◌≡◌, ℕ, List, [], ◌∷◌, Bool, true, false, refl}
 use Rattle.std.specs.Prelude.{Option, Some, None, is_none}
 use Rattle.executor_parts.specs.Sleepers.{waker_of}
-use Rattle.executor_model.specs.declared.event.Event.TheVariants as event
-use Rattle.executor_model.specs.declared.op.Look.{Look}
-use Rattle.executor_model.specs.declared.op.Sleeping.{Sleeping}
-use Rattle.executor_model.specs.declared.op.SleeperOp.{SleeperOp}
-use Rattle.executor_model.specs.declared.op.SleeperOp.TheVariants as sleeper_op
-use Rattle.executor_model.specs.declared.op.Waker.{Waker}
-use Rattle.executor_model.specs.declared.op.Waker.TheVariants.{Task, Outside}
-use Rattle.executor_model.specs.declared.op.TickOrRun.{TickOrRun}
+use Rattle.executor_model.proofs.Types.{Event, Look, Sleeping, SleeperOp, Waker, Task, Outside, TickOrRun}
+use Rattle.executor_model.specs.ActsOfSleepers.{exchange_by, hand_out_by, look_tick_by, polled_as, sleeper_goes, wake_up_by}
 use Rattle.executor_model.specs.World.{World, Ticker, Awake, Asleep, Left, place_of, log, queue_of}
-use Rattle.executor_model.specs.Acts.{call_waker, mark_in}
-use Rattle.executor_model.specs.ActsOfSleepers.{exchange_by, hand_out_by, look_tick_by, polled_as}
-use Rattle.executor_model.specs.ActsOfSleepers.{sleeper_goes, wake_up_by, tell_and_return, leave_sleepers_by}
-use Rattle.executor_model.specs.Doing.{sleeper_act}
+use Rattle.executor_model.specs.ActsOfSleepers.{tell_and_return, leave_sleepers_by}
 use Rattle.executor_model.specs.Memory.{AsksForNone, FindsWithoutMemory}
+use Rattle.executor_model.specs.{Acts.call_waker, Acts.mark_in, Doing.sleeper_act}
 use Rattle.executor_model.proofs.Memory.Unasking.{both, none-waker, none-wake}
 
 none-goes : (o : Option Sleeping) → AsksForNone (sleeper_goes o)
@@ -29,7 +21,7 @@ none-tell false = refl
 
 none-call_waker : (p : ℕ) (w : World) (s : Sleeping) (a : Waker) →
     AsksForNone (call_waker p w (polled_as s.who) a s.poll).next
-none-call_waker p w s (Task g) = none-wake p (log w (event.WakerCalled p (polled_as s.who) s.poll (Task g))) g
+none-call_waker p w s (Task g) = none-wake p (log w (Event.WakerCalled p (polled_as s.who) s.poll (Task g))) g
 none-call_waker p w s (Outside x) = refl
 
 none-exchange : (b : Bool) (w : World) → AsksForNone (exchange_by b w).next
@@ -42,9 +34,9 @@ none-hand_out true None w = refl
 none-hand_out true (Some s) w = refl
 
 pub none-sleeper : (p : ℕ) (o : SleeperOp) (w : World) → AsksForNone (sleeper_act p o w).next
-none-sleeper p sleeper_op.ExchangeFlag w = none-exchange _ w
-none-sleeper p sleeper_op.HandOut w = none-hand_out _ _ w
-none-sleeper p (sleeper_op.CallSleeper s) w = none-call_waker p w s s.waker
+none-sleeper p SleeperOp.ExchangeFlag w = none-exchange _ w
+none-sleeper p SleeperOp.HandOut w = none-hand_out _ _ w
+none-sleeper p (SleeperOp.CallSleeper s) w = none-call_waker p w s s.waker
 
 pub none-up : (x : Ticker) (w : World) (t : TickOrRun) → AsksForNone (wake_up_by x w t).next
 none-up Awake w t = refl

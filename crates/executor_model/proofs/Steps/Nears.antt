@@ -2,66 +2,39 @@
 -- Which things that are done lead to user code of a future, or to its way back: no others do.
 use Rattle.std.proofs.Common.{◌≡◌, ℕ, List, [], ◌∷◌, ◌++◌, Bool, true, false, refl, arith}
 use Rattle.std.specs.Prelude.{Option, Some, None}
-use Rattle.executor_model.specs.declared.op.Look.{Look}
-use Rattle.executor_parts.specs.declared.mark.Mark.TheVariants.{Plain, Urgent}
-use Rattle.executor_model.specs.declared.op.Look.TheVariants.{First, Second}
-use Rattle.executor_parts.specs.declared.mark.Mark.{Mark}
 use Rattle.task_moves.specs.declared.moves.owed.Answer.{Answer}
-use Rattle.task_moves.specs.declared.moves.owed.Move.{Move}
-use Rattle.task_moves.specs.declared.moves.owed.Move.TheVariants as move
-use Rattle.task_moves.specs.declared.moves.owed.Moved.{Moved}
-use Rattle.task_moves.specs.Moves as moves
-use Rattle.executor_model.specs.declared.call.Call.{Call}
-use Rattle.executor_model.specs.declared.call.Call.TheVariants as call
-use Rattle.executor_model.specs.declared.call.Reply.{Reply}
-use Rattle.executor_model.specs.declared.call.Reply.TheVariants as reply
-use Rattle.executor_model.specs.declared.event.Event.TheVariants as event
-use Rattle.executor_model.specs.declared.op.ClosingOp.TheVariants as closing_op
-use Rattle.executor_model.specs.declared.op.HandleOp.TheVariants as handle_op
-use Rattle.executor_model.specs.declared.op.Hold.{Hold}
-use Rattle.executor_model.specs.declared.op.Hold.TheVariants as hold
-use Rattle.executor_model.specs.declared.op.Op.{Op}
-use Rattle.executor_model.specs.declared.op.Op.TheVariants as op
-use Rattle.executor_model.specs.declared.op.Polled.TheVariants as of
-use Rattle.executor_model.specs.declared.op.QueueOp.TheVariants as queue_op
-use Rattle.executor_model.specs.declared.op.RunPoll.{RunPoll}
-use Rattle.executor_model.specs.declared.op.TableOp.TheVariants as table_op
-use Rattle.executor_model.specs.declared.op.UserOp.TheVariants as user_op
-use Rattle.executor_model.specs.declared.op.Waker.{Waker}
-use Rattle.executor_model.specs.declared.op.Waker.TheVariants.{Task, Outside}
-use Rattle.executor_model.specs.declared.op.WakerOp.TheVariants as waker_op
-use Rattle.executor_model.specs.declared.step.Hint.{Hint}
-use Rattle.executor_model.specs.Acts.{append_by, call_awaiter, closing_ops, copy_awaiter_by, copy_by, drain_by}
-use Rattle.executor_model.specs.Acts.{end_register_by, enter_by, leave_by, let_go, look_again_by, look_by, move_by}
-use Rattle.executor_model.specs.Acts.{notify_by, register_by, reply_of, stands_alone, take_by, wake, wake_next_by}
+use Rattle.executor_model.proofs.Types.{Look, Plain, Urgent, First, Second, Mark, Move, Moved, Call, Reply, Event, ClosingOp}
+use Rattle.executor_model.proofs.Types.{HandleOp, Hold, Op, Polled, QueueOp, RunPoll, TableOp, UserOp, Waker, Task, Outside}
+use Rattle.executor_model.specs.Acts.{append_by, call_awaiter, closing_ops, copy_awaiter_by, copy_by, drain_by, end_register_by}
+use Rattle.executor_model.specs.Acts.{enter_by, leave_by, let_go, look_again_by, look_by, move_by, notify_by, register_by}
+use Rattle.executor_model.specs.Acts.{reply_of, stands_alone, take_by, wake, wake_next_by}
 use Rattle.executor_model.specs.ActsOfRuns.{call_by_reference, reschedule_by, wake_own}
-use Rattle.executor_model.specs.Carried.{awaiter_ops}
-use Rattle.executor_model.specs.Doing.{act}
 use Rattle.executor_model.specs.Steps.{begun, drop_run, future_of, kept, poll_run, with_future}
-use Rattle.executor_model.specs.Weights.{weigh}
 use Rattle.executor_model.specs.World.{World, Stage, New, Listed, Ended, Done, awaiter_of, log, run_of, task}
+use Rattle.executor_model.specs.{Carried.awaiter_ops, Doing.act, Weights.weigh}
 use Rattle.executor_model.proofs.Steps.Asides.{aside-entry, Aside, aside-awaiter, aside-closing, aside-leak_next}
 use Rattle.executor_model.proofs.Steps.Asides.{aside-leak_out, aside-let_go, aside-let_go_by, aside-owed, aside-told}
-use Rattle.executor_model.proofs.Steps.Lists.{weigh-append}
 use Rattle.executor_model.proofs.Steps.RunsNext.{BlindToRuns, list-blind, run-blind, steal-blind, tick-blind}
 use Rattle.executor_model.proofs.Steps.SleepersNext.{Blind, Unseen, sleeper-unseen}
+use Rattle.executor_model.proofs.{Types.WakerOp, Types.Hint, Steps.Lists.weigh-append}
+use Rattle.task_moves.specs.Moves as moves
 
 -- user code of a future, the beginning of its drop, and its way back
 abbrev pub near_of : Op → ℕ
-near_of (op.User (user_op.Poll f)) = 1
-near_of (op.User (user_op.BeginDrop f)) = 1
-near_of (op.User (user_op.Drop f)) = 1
-near_of (op.Table (table_op.PutBack f)) = 1
+near_of (Op.User (UserOp.Poll f)) = 1
+near_of (Op.User (UserOp.BeginDrop f)) = 1
+near_of (Op.User (UserOp.Drop f)) = 1
+near_of (Op.Table (TableOp.PutBack f)) = 1
 near_of _ = 0
 
 abbrev pub leads_near : Op → Bool
-leads_near (op.Table (table_op.TakeToPoll f)) = true
-leads_near (op.Table (table_op.TakeToDrop f)) = true
-leads_near (op.User o) = true
-leads_near (op.Closing closing_op.DropNext) = true
+leads_near (Op.Table (TableOp.TakeToPoll f)) = true
+leads_near (Op.Table (TableOp.TakeToDrop f)) = true
+leads_near (Op.User o) = true
+leads_near (Op.Closing ClosingOp.DropNext) = true
 leads_near _ = false
 
-none-move : (m : Move) (f : ℕ) → near_of (op.Move m f) ≡ 0
+none-move : (m : Move) (f : ℕ) → near_of (Op.Move m f) ≡ 0
 none-move m f = refl
 
 near-aside : Aside near_of
@@ -111,7 +84,7 @@ near-sleepers = record {
   hand = refl;
   call = λ s. refl;
   outside = λ x. refl;
-  wake = λ p w f. near-move true move.Wake p w f;
+  wake = λ p w f. near-move true Move.Wake p w f;
 }
 
 near-append : (b : Bool) (w : World) (mark : Mark) (f : ℕ) → weigh near_of (append_by b w mark f).next ≡ 0
@@ -137,15 +110,15 @@ near-copy true w f held = refl
 near-copy false w f held = refl
 
 near-call : (p : ℕ) (w : World) (f : ℕ) (a : Waker) (k : ℕ) → weigh near_of (call_awaiter p w f a k).next ≡ 0
-near-call p w f (Task g) k = near-move true move.Wake p (log w (event.WakerCalled p (of.Handle f) k (Task g))) g
+near-call p w f (Task g) k = near-move true Move.Wake p (log w (Event.WakerCalled p (Polled.Handle f) k (Task g))) g
 near-call p w f (Outside x) k = refl
 
 near-answered : (f : ℕ) (m : Moved) (a : Answer) →
-    weigh near_of (awaiter_ops f m.owed.awaiter ++ op.End (reply_of a) (hold.Handle f) ∷ []) ≡ 0
+    weigh near_of (awaiter_ops f m.owed.awaiter ++ Op.End (reply_of a) (Hold.Handle f) ∷ []) ≡ 0
 near-answered f m a =
     omega (
       arith,
-      weigh-append near_of (awaiter_ops f m.owed.awaiter) (op.End (reply_of a) (hold.Handle f) ∷ []),
+      weigh-append near_of (awaiter_ops f m.owed.awaiter) (Op.End (reply_of a) (Hold.Handle f) ∷ []),
       aside-awaiter near_of near-aside f m.owed.awaiter,
     )
 
@@ -169,11 +142,11 @@ near-register true w f a k = refl
 near-register false w f a k = refl
 
 near-let_go : (w : World) (f : ℕ) →
-    weigh near_of (let_go (awaiter_of w f) ++ op.Handle (handle_op.LookAgain f) ∷ []) ≡ 0
+    weigh near_of (let_go (awaiter_of w f) ++ Op.Handle (HandleOp.LookAgain f) ∷ []) ≡ 0
 near-let_go w f =
     omega (
       arith,
-      weigh-append near_of (let_go (awaiter_of w f)) (op.Handle (handle_op.LookAgain f) ∷ []),
+      weigh-append near_of (let_go (awaiter_of w f)) (Op.Handle (HandleOp.LookAgain f) ∷ []),
       aside-let_go near_of near-aside (awaiter_of w f),
     )
 
@@ -193,7 +166,7 @@ near-wake_next (f ∷ rest) p w =
     omega (
       arith,
       weigh-append near_of (wake p v f).next (closing_ops [] rest),
-      near-move true move.Wake p v f,
+      near-move true Move.Wake p v f,
       aside-closing near_of (λ o. refl) [] rest,
     )
 
@@ -203,15 +176,15 @@ near-drain Plain [] p w = refl
 near-drain mark (f ∷ rest) p w = refl
 
 near-reference : (p : ℕ) (w : World) (a : Waker) → weigh near_of (call_by_reference p w a).next ≡ 0
-near-reference p w (Task g) = near-move true move.WakeByReference p w g
+near-reference p w (Task g) = near-move true Move.WakeByReference p w g
 near-reference p w (Outside y) = refl
 
 near-wake_own : (p : ℕ) (w : World) (x : RunPoll) → weigh near_of (wake_own p w x).next ≡ 0
 near-wake_own p w x =
-    let v : World = log w (event.WakerCalled p (of.Run x.run) x.poll x.waker) in
+    let v : World = log w (Event.WakerCalled p (Polled.Run x.run) x.poll x.waker) in
     omega (
       arith,
-      weigh-append near_of (call_by_reference p v x.waker).next (op.End reply.Pending (hold.Run x.run) ∷ []),
+      weigh-append near_of (call_by_reference p v x.waker).next (Op.End Reply.Pending (Hold.Run x.run) ∷ []),
       near-reference p v x.waker,
     )
 
@@ -220,44 +193,44 @@ near-reschedule w [] r a = refl
 near-reschedule w (f ∷ rest) r a = refl
 
 pub near-act : (p : ℕ) (h : Hint) (o : Op) (w : World) → leads_near o ≡ false → weigh near_of (act p h o w).next ≡ 0
-near-act p h (op.Move m f) w n = near-move (stands_alone m) m p w f
-near-act p h (op.Table (table_op.Enter mark)) w n = near-enter _ _ _ p w
-near-act p h (op.Table table_op.LookAtTable) w n = refl
-near-act p h (op.Table (table_op.TakeToPoll f)) w n = absurd (cc)
-near-act p h (op.Table (table_op.PutBack f)) w n = refl
-near-act p h (op.Table (table_op.TakeToDrop f)) w n = absurd (cc)
-near-act p h (op.Table (table_op.LeaveTable f)) w n = near-leave _ w f
-near-act p h (op.Queue queue_op.TakeTurn) w n = refl
-near-act p h (op.Queue (queue_op.Take look)) w n = near-take look _ w
-near-act p h (op.Queue (queue_op.Append f)) w n = near-append _ w _ f
-near-act p h (op.User o) w n = absurd (cc)
-near-act p h (op.Waker (waker_op.CopyWaker f held)) w n = near-copy _ w f held
-near-act p h (op.Waker (waker_op.CallAwaiter f a k)) w n = near-call p w f a k
-near-act p h (op.Handle (handle_op.Look f a)) w n =
+near-act p h (Op.Move m f) w n = near-move (stands_alone m) m p w f
+near-act p h (Op.Table (TableOp.Enter mark)) w n = near-enter _ _ _ p w
+near-act p h (Op.Table TableOp.LookAtTable) w n = refl
+near-act p h (Op.Table (TableOp.TakeToPoll f)) w n = absurd (cc)
+near-act p h (Op.Table (TableOp.PutBack f)) w n = refl
+near-act p h (Op.Table (TableOp.TakeToDrop f)) w n = absurd (cc)
+near-act p h (Op.Table (TableOp.LeaveTable f)) w n = near-leave _ w f
+near-act p h (Op.Queue QueueOp.TakeTurn) w n = refl
+near-act p h (Op.Queue (QueueOp.Take look)) w n = near-take look _ w
+near-act p h (Op.Queue (QueueOp.Append f)) w n = near-append _ w _ f
+near-act p h (Op.User o) w n = absurd (cc)
+near-act p h (Op.Waker (WakerOp.CopyWaker f held)) w n = near-copy _ w f held
+near-act p h (Op.Waker (WakerOp.CallAwaiter f a k)) w n = near-call p w f a k
+near-act p h (Op.Handle (HandleOp.Look f a)) w n =
     near-look (moves.poll (task w f)).owed.answer p w f a (moves.poll (task w f))
-near-act p h (op.Handle (handle_op.CopyAwaiter f a)) w n = near-copy_awaiter _ p w f a
-near-act p h (op.Handle (handle_op.Register f a k)) w n = near-register _ w f a k
-near-act p h (op.Handle (handle_op.EndRegister f a k)) w n = near-end_register _ w f a k
-near-act p h (op.Handle (handle_op.LookAgain f)) w n =
+near-act p h (Op.Handle (HandleOp.CopyAwaiter f a)) w n = near-copy_awaiter _ p w f a
+near-act p h (Op.Handle (HandleOp.Register f a k)) w n = near-register _ w f a k
+near-act p h (Op.Handle (HandleOp.EndRegister f a k)) w n = near-end_register _ w f a k
+near-act p h (Op.Handle (HandleOp.LookAgain f)) w n =
     near-again (moves.look_again (task w f)).owed.answer p w f (moves.look_again (task w f))
-near-act p h (op.Handle (handle_op.Notify f mine)) w n = near-notify _ w f mine
-near-act p h (op.Handle (handle_op.LetGo f)) w n = aside-let_go_by near_of near-aside _ w f
-near-act p h (op.Handle (handle_op.EndNotify f mine)) w n = aside-told near_of near-aside _ f (awaiter_of w f)
-near-act p h (op.Sleeper o) w n = sleeper-unseen near_of near-sleepers p o w
-near-act p h (op.Tick o) w n = tick-blind near_of near-ticks near-runs p h o w
-near-act p h (op.List o) w n = list-blind near_of near-runs h o w
-near-act p h (op.Steal o) w n = steal-blind near_of near-runs (λ f. refl) p o w
-near-act p h (op.Run o) w n = run-blind near_of near-runs p h o w (λ x. near-wake_own p w x) (λ q r a. near-reschedule w q r a)
-near-act p h (op.Closing closing_op.TakeOut) w n = aside-closing near_of (λ o. refl) w.table w.waking
-near-act p h (op.Closing closing_op.DropNext) w n = absurd (cc)
-near-act p h (op.Closing closing_op.WakeNext) w n = near-wake_next _ p w
-near-act p h (op.Closing (closing_op.Close Urgent)) w n = refl
-near-act p h (op.Closing (closing_op.Close Plain)) w n = refl
-near-act p h (op.Closing (closing_op.Drain mark)) w n = near-drain mark _ p w
-near-act p h (op.Closing closing_op.LeakOut) w n = aside-leak_out near_of refl _ w
-near-act p h (op.Closing closing_op.LeakNext) w n =
-    aside-leak_next near_of refl (λ p w f. near-move true move.Wake p w f) _ p w w.waking
-near-act p h (op.End a held) w n = refl
+near-act p h (Op.Handle (HandleOp.Notify f mine)) w n = near-notify _ w f mine
+near-act p h (Op.Handle (HandleOp.LetGo f)) w n = aside-let_go_by near_of near-aside _ w f
+near-act p h (Op.Handle (HandleOp.EndNotify f mine)) w n = aside-told near_of near-aside _ f (awaiter_of w f)
+near-act p h (Op.Sleeper o) w n = sleeper-unseen near_of near-sleepers p o w
+near-act p h (Op.Tick o) w n = tick-blind near_of near-ticks near-runs p h o w
+near-act p h (Op.List o) w n = list-blind near_of near-runs h o w
+near-act p h (Op.Steal o) w n = steal-blind near_of near-runs (λ f. refl) p o w
+near-act p h (Op.Run o) w n = run-blind near_of near-runs p h o w (λ x. near-wake_own p w x) (λ q r a. near-reschedule w q r a)
+near-act p h (Op.Closing ClosingOp.TakeOut) w n = aside-closing near_of (λ o. refl) w.table w.waking
+near-act p h (Op.Closing ClosingOp.DropNext) w n = absurd (cc)
+near-act p h (Op.Closing ClosingOp.WakeNext) w n = near-wake_next _ p w
+near-act p h (Op.Closing (ClosingOp.Close Urgent)) w n = refl
+near-act p h (Op.Closing (ClosingOp.Close Plain)) w n = refl
+near-act p h (Op.Closing (ClosingOp.Drain mark)) w n = near-drain mark _ p w
+near-act p h (Op.Closing ClosingOp.LeakOut) w n = aside-leak_out near_of refl _ w
+near-act p h (Op.Closing ClosingOp.LeakNext) w n =
+    aside-leak_next near_of refl (λ p w f. near-move true Move.Wake p w f) _ p w w.waking
+near-act p h (Op.End a held) w n = refl
 
 near-with : (w : World) (o : Option ℕ) (d : ℕ → Done) → ((f : ℕ) → weigh near_of (d f).next ≡ 0) →
     weigh near_of (with_future w o d).next ≡ 0
@@ -275,12 +248,12 @@ near-drop Listed r = refl
 near-drop Ended r = refl
 
 pub near-begun : (p : ℕ) (w : World) (here : Option Waker) (c : Call) → weigh near_of (begun p w here c).next ≡ 0
-near-begun p w here (call.Wake k) = near-with w (kept w k) _ (λ f. refl)
-near-begun p w here (call.WakeByRef k) = near-with w (kept w k) _ (λ f. refl)
-near-begun p w here (call.Copy k) = near-with w (kept w k) _ (λ f. refl)
-near-begun p w here (call.DropWaker k) = near-with w (kept w k) _ (λ f. refl)
-near-begun p w here call.Keep = near-with w (future_of here) _ (λ f. refl)
-near-begun p w here call.WakeSelf = near-with w (future_of here) _ (λ f. refl)
-near-begun p w here (call.PollRun r b) = near-poll (run_of w r).stage _
-near-begun p w here (call.DropRun r) = near-drop (run_of w r).stage r
+near-begun p w here (Call.Wake k) = near-with w (kept w k) _ (λ f. refl)
+near-begun p w here (Call.WakeByRef k) = near-with w (kept w k) _ (λ f. refl)
+near-begun p w here (Call.Copy k) = near-with w (kept w k) _ (λ f. refl)
+near-begun p w here (Call.DropWaker k) = near-with w (kept w k) _ (λ f. refl)
+near-begun p w here Call.Keep = near-with w (future_of here) _ (λ f. refl)
+near-begun p w here Call.WakeSelf = near-with w (future_of here) _ (λ f. refl)
+near-begun p w here (Call.PollRun r b) = near-poll (run_of w r).stage _
+near-begun p w here (Call.DropRun r) = near-drop (run_of w r).stage r
 near-begun p w here _ = refl

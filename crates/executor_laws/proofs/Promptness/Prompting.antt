@@ -1,96 +1,34 @@
 -- For no_comes_at_once.
 -- A party that may be answered no next has done nothing since its call began.
-use Rattle.std.proofs.Common.{◌≡◌, ◌≢◌, ℕ, ◌≤◌, List, [], ◌∷◌, ◌++◌, Bool, true, false, ◌||◌, ◌&&◌, not}
-use Rattle.std.proofs.Common.{cond, eqb, refl, ap, ◌∙◌, ⊎_elim, arith, append-nil}
-use Rattle.std.proofs.lemmas.Bool.Decides.{nat_tests}
-use Rattle.std.proofs.lemmas.List.Elements.{filter-append}
-use Rattle.std.specs.List.{filter}
-use Rattle.std.specs.Prelude.{Option, Some, None, is_none}
-use Rattle.executor_model.specs.declared.op.Look.{Look}
-use Rattle.executor_model.specs.declared.op.Look.TheVariants.{First, Second}
-use Rattle.executor_parts.specs.declared.mark.Mark.{Mark}
-use Rattle.executor_parts.specs.Sleepers.{waker_at, waker_of}
-use Rattle.task_moves.specs.declared.moves.owed.Answer.{Answer}
-use Rattle.task_moves.specs.declared.moves.owed.Answer.TheVariants.{Refused, Pending, Closed, Output}
-use Rattle.task_moves.specs.declared.moves.owed.AwaiterDebt.{AwaiterDebt}
-use Rattle.task_moves.specs.declared.moves.owed.AwaiterDebt.TheVariants.{NotifyAwaiter, NotifyOther, CallGiven}
-use Rattle.task_moves.specs.declared.moves.owed.AwaiterDebt.TheVariants.{StoreCopy, CallStored, TakeAwaiter, CallTaken}
-use Rattle.task_moves.specs.declared.moves.owed.Move.TheVariants as move
-use Rattle.task_moves.specs.declared.moves.owed.Moved.{Moved}
-use Rattle.task_moves.specs.Moves as moves
-use Rattle.executor_model.specs.declared.call.Reply.{Reply}
-use Rattle.executor_model.specs.declared.call.Reply.TheVariants as reply
-use Rattle.executor_model.specs.declared.event.Event.{Event}
-use Rattle.executor_model.specs.declared.event.Event.TheVariants as event
-use Rattle.executor_model.specs.declared.op.Awaiter.{Awaiter}
-use Rattle.executor_model.specs.declared.op.Hold.{Hold}
-use Rattle.executor_model.specs.declared.op.Hold.TheVariants as hold
-use Rattle.executor_model.specs.declared.op.Op.{Op}
-use Rattle.executor_model.specs.declared.op.Op.TheVariants as op
-use Rattle.executor_model.specs.declared.op.HandleOp.TheVariants as handle_op
-use Rattle.executor_model.specs.declared.op.ListOp.{ListOp}
-use Rattle.executor_model.specs.declared.op.ListOp.TheVariants as list_op
-use Rattle.executor_model.specs.declared.op.Polled.TheVariants as of
-use Rattle.executor_model.specs.declared.op.QueueOp.TheVariants as queue_op
-use Rattle.executor_model.specs.declared.op.RunOp.{RunOp}
-use Rattle.executor_model.specs.declared.op.RunOp.TheVariants as run_op
-use Rattle.executor_model.specs.declared.op.Section.TheVariants as section
-use Rattle.executor_model.specs.declared.op.TickOrRun.{TickOrRun}
-use Rattle.executor_model.specs.declared.op.TickOrRun.TheVariants as tick_or_run
-use Rattle.executor_model.specs.declared.op.Sleeping.{Sleeping}
-use Rattle.executor_model.specs.declared.op.TableOp.TheVariants as table_op
-use Rattle.executor_model.specs.declared.op.TickOp.{TickOp}
-use Rattle.executor_model.specs.declared.op.TickOp.TheVariants as tick_op
-use Rattle.executor_model.specs.declared.op.UserOp.TheVariants as user_op
-use Rattle.executor_model.specs.declared.op.WakerOp.TheVariants as waker_op
-use Rattle.executor_model.specs.declared.op.Waker.{Waker}
-use Rattle.executor_model.specs.declared.op.Waker.TheVariants.{Task, Outside}
-use Rattle.executor_model.specs.declared.step.Hint.{Hint}
-use Rattle.executor_model.specs.Quiet.{begins_call}
-use Rattle.executor_model.specs.Trace.{Trace, has}
-use Rattle.executor_model.specs.World.{World, Ticker, Awake, Asleep, Left, log, task, awaiter_of}
-use Rattle.executor_model.specs.Carried.{awaiter_ops}
-use Rattle.executor_model.specs.Acts.{enter_by, copy_by, answered, polled, look_by, let_go, look_again_by}
-use Rattle.executor_model.specs.Acts.{copy_awaiter_by, register_by, end_register_by}
-use Rattle.executor_model.specs.ActsOfSleepers.{make_tick_by, look_tick_by, copy_sleeper_by, pend_as, sleep_anew_by}
-use Rattle.executor_model.specs.ActsOfSleepers.{sleeper_goes, sleep_listed_by, sleep_again_by, fall_asleep_by, wake_up_by}
-use Rattle.executor_model.specs.ActsOfSleepers.{tell_and_return, leave_sleepers_by}
-use Rattle.executor_model.specs.ActsOfRuns as runs
-use Rattle.executor_model.specs.Doing.{act, list_act, run_act, search_by_who, tick_act}
-use Rattle.executor_model.specs.Weights.{weigh}
-use Rattle.executor_model.proofs.Quiet.Calls.{calling_of}
-use Rattle.executor_model.proofs.Quiet.CallsGroups.{calls-act}
-use Rattle.executor_model.proofs.Steps.Lists.{weigh-append}
-use Rattle.executor_model.proofs.Quiet.Resting.{calling-is}
-use Rattle.executor_model.proofs.Steps.RunsNext.{BlindToSearches, common-unseen, look-unseen, own-unseen, steal-unseen}
-use Rattle.executor_model.proofs.Steps.RunsNext.{walk-unseen}
-use Rattle.executor_model.proofs.Steps.SleepersNext.{goes-unseen, tell-unseen}
-use Rattle.executor_model.proofs.Steps.Tests.{left-false, right-false}
-use Rattle.executor_model.specs.Deeds.{doer, is_by, deeds}
+use Rattle.std.proofs.Common.{◌≡◌, ◌≢◌, ℕ, [], ◌∷◌, ◌++◌, Bool, true, false, ◌||◌, ◌&&◌, not, cond, eqb, refl, ap}
+use Rattle.std.proofs.Common.{◌∙◌, arith, append-nil}
+use Rattle.std.{proofs.lemmas.Bool.Decides.nat_tests, proofs.lemmas.List.Elements.filter-append, specs.List.filter}
+use Rattle.executor_model.proofs.Types.{Reply, Event, Op, QueueOp, TableOp, Hint}
+use Rattle.executor_model.specs.{Acts.answered, World.World, Doing.act, Quiet.begins_call, Trace.Trace, Trace.has}
+use Rattle.executor_model.specs.{Weights.weigh, Deeds.doer, Deeds.is_by, Deeds.deeds}
 use Rattle.executor_model.proofs.Steps.Deeds.{ends_one, is_end, Grows, not-by}
+use Rattle.executor_model.proofs.Promises.Answered.{Rare, ends_of, ends-act}
+use Rattle.executor_model.proofs.{Steps.Tests.left-false, Steps.Tests.right-false}
 
 abbrev pub is_refusal : Reply → ℕ
-is_refusal reply.No = 1
+is_refusal Reply.No = 1
 is_refusal _ = 0
 
 -- what is answered no next, if it is
 abbrev pub quick_of : Op → ℕ
-quick_of (op.Queue queue_op.TakeTurn) = 1
-quick_of (op.Queue (queue_op.Take look)) = 1
-quick_of (op.Table table_op.LookAtTable) = 1
-quick_of (op.End r held) = is_refusal r
+quick_of (Op.Queue QueueOp.TakeTurn) = 1
+quick_of (Op.Queue (QueueOp.Take look)) = 1
+quick_of (Op.Table TableOp.LookAtTable) = 1
+quick_of (Op.End r held) = is_refusal r
 quick_of _ = 0
 
 -- and what is answered so later, which nothing is
 abbrev pub hasty : Op → ℕ
-hasty (op.List (list_op.LockWrite (section.Unregister r a))) = is_refusal a
-hasty (op.List (list_op.Write (section.Unregister r a))) = is_refusal a
-hasty (op.Run (run_op.Reschedule r a)) = is_refusal a
-hasty o = quick_of o
+hasty = ends_of is_refusal 1
 
 -- of what p did, b being the last before: each answer no stands behind the beginning of a call, or behind the turn after that
 abbrev pub is_no : Event → Bool
-is_no (event.CallEnded p reply.No) = true
+is_no (Event.CallEnded p Reply.No) = true
 is_no _ = false
 
 -- what p did last: begin a call, or then take a turn, or anything else
@@ -115,7 +53,7 @@ on_turn Other = Other
 
 abbrev pub last_by : Bool → ℕ → Last → Event → Last
 last_by true p n e = Began
-last_by false p n (event.Looked q m) = cond (eqb p q) (on_turn n) Other
+last_by false p n (Event.Looked q m) = cond (eqb p q) (on_turn n) Other
 last_by false p n _ = Other
 
 abbrev pub last_after : ℕ → Last → Event → Last
@@ -132,7 +70,7 @@ fresh p b (e ∷ es) = fresh p (last_after p b e) es
 
 -- it may be done where this came last
 abbrev pub fits : Op → Last → Bool
-fits (op.Queue queue_op.TakeTurn) b = has_begun b
+fits (Op.Queue QueueOp.TakeTurn) b = has_begun b
 fits _ b = may b
 
 and-assoc : (a b c : Bool) → (a && (b && c)) ≡ ((a && b) && c)
@@ -160,7 +98,7 @@ fresh-append p b [] ys = refl
 fresh-append p b (e ∷ xs) ys = fresh-append p (last_after p b e) xs ys
 
 no-ends : (e : Event) → ends_one e ≡ false → is_no e ≡ false
-no-ends (event.CallEnded p r) k = absurd (cc)
+no-ends (Event.CallEnded p r) k = absurd (cc)
 no-ends _ k = refl
 
 -- no call ends, so none is answered
@@ -251,238 +189,12 @@ fresh-log p es e d = ap (fresh p Other) (deeds-own p es e d) ∙ fresh-append p 
 
 -- what is to do
 
-few-refusals : (r : Reply) → is_refusal r ≤ 1
-few-refusals reply.No = omega arith
-few-refusals _ = omega arith
-
-hasty-calling : (o : Op) → hasty o ≤ calling_of o
-hasty-calling (op.Queue queue_op.TakeTurn) = omega arith
-hasty-calling (op.Queue (queue_op.Take look)) = omega arith
-hasty-calling (op.Table table_op.LookAtTable) = omega arith
-hasty-calling (op.End r held) = omega (arith, few-refusals r)
-hasty-calling (op.List (list_op.LockWrite (section.Unregister r a))) = omega (arith, few-refusals a)
-hasty-calling (op.List (list_op.Write (section.Unregister r a))) = omega (arith, few-refusals a)
-hasty-calling (op.Run (run_op.Reschedule r a)) = omega (arith, few-refusals a)
-hasty-calling _ = omega arith
-
-hasty-calling-all : (os : List Op) → weigh hasty os ≤ weigh calling_of os
-hasty-calling-all [] = omega arith
-hasty-calling-all (o ∷ os) = omega (arith, hasty-calling o, hasty-calling-all os)
-
-slow-awaiter : (f : ℕ) (o : Option AwaiterDebt) → weigh hasty (awaiter_ops f o) ≡ 0
-slow-awaiter f (Some NotifyAwaiter) = refl
-slow-awaiter f (Some NotifyOther) = refl
-slow-awaiter f (Some CallGiven) = refl
-slow-awaiter f (Some StoreCopy) = refl
-slow-awaiter f (Some CallStored) = refl
-slow-awaiter f (Some TakeAwaiter) = refl
-slow-awaiter f (Some CallTaken) = refl
-slow-awaiter f None = refl
-
-slow-answered : (p : ℕ) (w : World) (f : ℕ) (m : Moved) (a : Answer) → weigh hasty (answered p w f m a).next ≡ 0
-slow-answered p w f m Refused = weigh-append hasty (awaiter_ops f m.owed.awaiter) _
-    ∙ omega (arith, slow-awaiter f m.owed.awaiter)
-slow-answered p w f m Pending = weigh-append hasty (awaiter_ops f m.owed.awaiter) _
-    ∙ omega (arith, slow-awaiter f m.owed.awaiter)
-slow-answered p w f m Closed = weigh-append hasty (awaiter_ops f m.owed.awaiter) _
-    ∙ omega (arith, slow-awaiter f m.owed.awaiter)
-slow-answered p w f m Output = weigh-append hasty (awaiter_ops f m.owed.awaiter) _
-    ∙ omega (arith, slow-awaiter f m.owed.awaiter)
-
-slow-look : (o : Option Answer) (p : ℕ) (w : World) (f : ℕ) (a : Waker) (m : Moved) →
-    weigh hasty (look_by o p w f a m).next ≡ 0
-slow-look None p w f a m = refl
-slow-look (Some x) p w f a m = slow-answered p (polled p w f) f m x
-
-slow-again : (o : Option Answer) (p : ℕ) (w : World) (f : ℕ) (m : Moved) →
-    weigh hasty (look_again_by o p w f m).next ≡ 0
-slow-again None p w f m = refl
-slow-again (Some x) p w f m = slow-answered p w f m x
-
-slow-copy_awaiter : (b : Bool) (p : ℕ) (w : World) (f : ℕ) (a : Waker) →
-    weigh hasty (copy_awaiter_by b p w f a).next ≡ 0
-slow-copy_awaiter true p w f a = refl
-slow-copy_awaiter false p w f a = refl
-
-slow-register : (b : Bool) (w : World) (f : ℕ) (a : Waker) (k : ℕ) → weigh hasty (register_by b w f a k).next ≡ 0
-slow-register true w f a k = refl
-slow-register false w f a k = refl
-
-slow-let_go : (f : ℕ) (o : Option Awaiter) → weigh hasty (let_go o ++ op.Handle (handle_op.LookAgain f) ∷ []) ≡ 0
-slow-let_go f None = refl
-slow-let_go f (Some a) = go a.waker
-  where
-    go : (x : Waker) → weigh hasty (let_go (Some (record a { waker = x })) ++ op.Handle (handle_op.LookAgain f) ∷ [])
-        ≡ 0
-    go (Task g) = refl
-    go (Outside x) = refl
-
-slow-end_register : (b : Bool) (w : World) (f : ℕ) (a : Waker) (k : ℕ) →
-    weigh hasty (end_register_by b w f a k).next ≡ 0
-slow-end_register true w f a k = omega (arith, slow-let_go f (awaiter_of w f))
-slow-end_register false w f a k = slow-let_go f (awaiter_of w f)
-
-slow-enter : (b c : Bool) (mark : Mark) (p : ℕ) (w : World) → weigh hasty (enter_by b c mark p w).next ≡ 0
-slow-enter true c mark p w = refl
-slow-enter false true mark p w = refl
-slow-enter false false mark p w = refl
-
-slow-copy : (b : Bool) (w : World) (f : ℕ) (held : Hold) → weigh hasty (copy_by b w f held).next ≡ 0
-slow-copy true w f held = refl
-slow-copy false w f held = refl
-
-slow-goes : (o : Option Sleeping) → weigh hasty (sleeper_goes o) ≡ 0
-slow-goes o = goes-unseen hasty (λ f. refl) o
-
-slow-make : (b : Bool) (w : World) → weigh hasty (make_tick_by b w).next ≡ 0
-slow-make true w = refl
-slow-make false w = refl
-
-slow-search : (look : Look) (x : Ticker) (w : World) (q : List ℕ) (s : Sleeping) → weigh hasty (look_tick_by x w look q s).next ≡ 0
-slow-search (First mark) x w [] s = refl
-slow-search (Second mark) x w [] s = refl
-slow-search look Awake w (f ∷ rest) s = refl
-slow-search look (Asleep n) w (f ∷ rest) s = refl
-slow-search look Left w (f ∷ rest) s = refl
-
-slow-copy_sleeper : (b : Bool) (w : World) (s : Sleeping) → weigh hasty (copy_sleeper_by b w s).next ≡ 0
-slow-copy_sleeper true w s = refl
-slow-copy_sleeper false w s = refl
-
-slow-anew : (b : Bool) (w : World) (s : Sleeping) → weigh hasty (sleep_anew_by b w s).next ≡ 0
-slow-anew true w s = refl
-slow-anew false w s = refl
-
-slow-listed : (b : Bool) (w : World) (n : ℕ) (s : Sleeping) → weigh hasty (sleep_listed_by b w n s).next ≡ 0
-slow-listed true w n s = refl
-slow-listed false w n s = refl
-
-slow-sleep_again : (o : Option ℕ) (w : World) (n : ℕ) (s : Sleeping) → weigh hasty (sleep_again_by o w n s).next ≡ 0
-slow-sleep_again None w n s = slow-listed _ w n s
-slow-sleep_again (Some at) w n s = let old = waker_at (Some at) w.sleepers.wakers in
-    omega (arith, weigh-append hasty (sleeper_goes old) (pend_as s.who), slow-goes old)
-
-slow-sleep : (x : Ticker) (w : World) (s : Sleeping) → weigh hasty (fall_asleep_by x w s).next ≡ 0
-slow-sleep Awake w s = slow-anew _ w s
-slow-sleep (Asleep n) w s = slow-sleep_again _ w n s
-slow-sleep Left w s = refl
-
-slow-up : (x : Ticker) (w : World) (who : TickOrRun) → weigh hasty (wake_up_by x w who).next ≡ 0
-slow-up Awake w who = refl
-slow-up (Asleep n) w who = slow-goes (waker_of n w.sleepers.wakers)
-slow-up Left w who = refl
-
-slow-leave : (x : Ticker) (w : World) (who : TickOrRun) → weigh hasty (leave_sleepers_by x w who).next ≡ 0
-slow-leave Awake w who = refl
-slow-leave (Asleep n) w who =
-    let old = waker_of n w.sleepers.wakers in
-    omega (
-      arith,
-      weigh-append hasty (sleeper_goes old) (tell_and_return (is_none old)),
-      slow-goes old,
-      tell-unseen hasty refl refl (is_none old),
-    )
-slow-leave Left w who = refl
-
--- what a run does
-
-searching : BlindToSearches hasty
-searching = record {
-  exchange = refl;
-  search = λ s. refl;
-  copy = λ s. refl;
-  up = λ who. refl;
-  take_up = λ f. refl;
-  steal = λ o. refl;
-  lock = λ x. refl;
-  unlock = refl;
-  turn = λ x. refl;
-  common = λ x look. refl;
-  look = λ x at left. refl;
-  wake = λ x. refl;
+rare : Rare is_refusal 1
+rare = record {
+  no_memory = refl; full = refl; made = refl; pending = refl; ready = refl; cancelled = refl; yes = refl;
+  no = λ z. absurd (omega (arith, z));
 }
-
-slow-searches : (who : TickOrRun) (p : ℕ) (w : World) (s : Sleeping) → weigh hasty (search_by_who who p w s).next ≡ 0
-slow-searches (tick_or_run.Tick t) p w s = refl
-slow-searches (tick_or_run.Run r) p w s = own-unseen hasty searching _ w _
-
-slow-tick : (p : ℕ) (h : Hint) (o : TickOp) (w : World) → weigh hasty (tick_act p h o w).next ≡ 0
-slow-tick p h tick_op.MakeTick w = slow-make _ w
-slow-tick p h (tick_op.Search s) w = slow-searches s.who p w s
-slow-tick p h (tick_op.Look s look) w = slow-search look _ w _ s
-slow-tick p h (tick_op.CopyWaker s) w = slow-copy_sleeper _ w s
-slow-tick p h (tick_op.FallAsleep s) w = slow-sleep _ w s
-slow-tick p h (tick_op.WakeUp who) w = slow-up _ w who
-slow-tick p h (tick_op.Leave who) w = slow-leave _ w who
-
-slow-made : (b : Bool) (w : World) → weigh hasty (runs.make_run_by b w).next ≡ 0
-slow-made true w = refl
-slow-made false w = refl
-
-slow-list : (h : Hint) (o : ListOp) (w : World) → hasty (op.List o) ≡ 0 → weigh hasty (list_act h o w).next ≡ 0
-slow-list h (list_op.LockWrite (section.Unregister r a)) w z = omega (arith, z)
-slow-list h (list_op.Write section.MakeRun) w z = slow-made _ w
-slow-list h (list_op.Write (section.Unregister r a)) w z = omega (arith, z)
-slow-list h (list_op.LockRead x) w z = walk-unseen hasty searching x w.listed _ _
-slow-list h _ w z = refl
-
-slow-wake : (p : ℕ) (h : Hint) (w : World) (a : Waker) → weigh hasty (runs.call_by_reference p w a).next ≡ 0
-slow-wake p h w (Task g) =
-    let next = (runs.call_by_reference p w (Task g)).next in
-    omega (
-      arith,
-      hasty-calling-all next,
-      (calls-act p h (op.Move move.WakeByReference g) w refl).passes.none refl,
-    )
-slow-wake p h w (Outside y) = refl
-
-slow-reschedule : (q : List ℕ) (w : World) (r : ℕ) (a : Reply) → is_refusal a ≡ 0 →
-    weigh hasty (runs.reschedule_by q w r a).next ≡ 0
-slow-reschedule [] w r a z = omega (arith, z)
-slow-reschedule (f ∷ rest) w r a z = omega (arith, z)
-
-slow-room : (b : Bool) (w : World) → weigh hasty (runs.make_room_by b w).next ≡ 0
-slow-room true w = refl
-slow-room false w = refl
-
-slow-run : (p : ℕ) (h : Hint) (o : RunOp) (w : World) → hasty (op.Run o) ≡ 0 → weigh hasty (run_act p h o w).next ≡ 0
-slow-run p h run_op.MakeRoom w z = slow-room _ w
-slow-run p h run_op.ReturnRoom w z = refl
-slow-run p h (run_op.TakeTurn x) w z = refl
-slow-run p h (run_op.SearchCommon x look) w z = common-unseen hasty searching look _ w x
-slow-run p h (run_op.LookOwn x at left) w z = look-unseen hasty searching _ w x at left
-slow-run p h (run_op.WakeOwn x) w z =
-    let v : World = log w (event.WakerCalled p (of.Run x.run) x.poll x.waker) in
-    let next = (runs.call_by_reference p v x.waker).next in
-    omega (
-      arith,
-      weigh-append hasty next (op.End reply.Pending (hold.Run x.run) ∷ []),
-      slow-wake p h v x.waker,
-    )
-slow-run p h (run_op.Reschedule r a) w z = slow-reschedule _ w r a z
-
--- of what answers a call
-slow-calling : (p : ℕ) (h : Hint) (o : Op) (w : World) → calling_of o ≡ 1 → hasty o ≡ 0 → is_end o ≡ false →
-    weigh hasty (act p h o w).next ≡ 0
-slow-calling p h (op.Table (table_op.Enter mark)) w c z n = slow-enter _ _ _ p w
-slow-calling p h (op.Waker (waker_op.CopyWaker f held)) w c z n = slow-copy _ w f held
-slow-calling p h (op.Handle (handle_op.Look f a)) w c z n =
-    slow-look (moves.poll (task w f)).owed.answer p w f a (moves.poll (task w f))
-slow-calling p h (op.Handle (handle_op.CopyAwaiter f a)) w c z n = slow-copy_awaiter _ p w f a
-slow-calling p h (op.Handle (handle_op.Register f a k)) w c z n = slow-register _ w f a k
-slow-calling p h (op.Handle (handle_op.EndRegister f a k)) w c z n = slow-end_register _ w f a k
-slow-calling p h (op.Handle (handle_op.LookAgain f)) w c z n =
-    slow-again (moves.look_again (task w f)).owed.answer p w f (moves.look_again (task w f))
-slow-calling p h (op.Tick o) w c z n = slow-tick p h o w
-slow-calling p h (op.List o) w c z n = slow-list h o w z
-slow-calling p h (op.Steal o) w c z n = steal-unseen hasty searching (λ f. refl) p o w
-slow-calling p h (op.Run o) w c z n = slow-run p h o w z
-slow-calling p h (op.User (user_op.PollOwn x)) w c z n = refl
-slow-calling p h _ w c z n = absurd (cc)
 
 pub slow-act : (p : ℕ) (h : Hint) (o : Op) (w : World) → hasty o ≡ 0 → is_end o ≡ false →
     weigh hasty (act p h o w).next ≡ 0
-slow-act p h o w z n = ⊎_elim
-    (λ (c : calling_of o ≡ 0). omega (arith, hasty-calling-all (act p h o w).next, (calls-act p h o w n).passes.none c))
-    (λ (c : calling_of o ≡ 1). slow-calling p h o w c z n)
-    (calling-is o)
+slow-act p h o w z n = ends-act is_refusal 1 rare p h o w z

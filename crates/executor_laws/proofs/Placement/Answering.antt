@@ -110,7 +110,9 @@ as_much r o next e = record { most = omega (arith, e); least = omega (arith, e) 
 -- nothing was to be answered
 none-before : (r : ℕ) (o : Op) → is_for_runs o ≡ false → answers_of r o ≡ 0
 none-before r (Op.Tick (TickOp.Search s)) n = absurd (cc)
-none-before r (Op.Tick _) n = absurd (cc)
+none-before r (Op.Tick (TickOp.Look s look)) n = absurd (cc)
+none-before r (Op.Tick (TickOp.CopyWaker s)) n = absurd (cc)
+none-before r (Op.Tick (TickOp.FallAsleep s)) n = absurd (cc)
 none-before r (Op.User (UserOp.PollOwn x)) n = absurd (cc)
 none-before r (Op.Waker (WakerOp.CopyWaker f held)) n = absurd (cc)
 none-before r (Op.List o) n = absurd (cc)

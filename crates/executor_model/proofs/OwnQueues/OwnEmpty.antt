@@ -53,7 +53,8 @@ empty-there w old d q o s f = record {
 
 quiet-empty : (r : ℕ) (o : Op) → is_loud o ≡ false → empty_of r o ≡ 0
 quiet-empty r (Op.Tick (TickOp.Look s look)) e = absurd (cc)
-quiet-empty r (Op.Tick _) e = absurd (cc)
+quiet-empty r (Op.Tick (TickOp.CopyWaker s)) e = absurd (cc)
+quiet-empty r (Op.Tick (TickOp.FallAsleep s)) e = absurd (cc)
 quiet-empty r (Op.List o) e = absurd (cc)
 quiet-empty r (Op.Run (RunOp.TakeTurn x)) e = absurd (cc)
 quiet-empty r (Op.Run (RunOp.SearchCommon x look)) e = absurd (cc)

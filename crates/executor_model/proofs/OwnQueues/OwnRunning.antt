@@ -76,7 +76,8 @@ quiet-keeps r (Op.Tick (TickOp.Search s)) e = absurd (cc)
 quiet-keeps r (Op.List o) e = absurd (cc)
 quiet-keeps r (Op.Steal o) e = absurd (cc)
 quiet-keeps r (Op.Run (RunOp.LookOwn x at left)) e = absurd (cc)
-quiet-keeps r (Op.Run _) e = absurd (cc)
+quiet-keeps r (Op.Run (RunOp.WakeOwn x)) e = absurd (cc)
+quiet-keeps r (Op.Run (RunOp.Reschedule q a)) e = absurd (cc)
 quiet-keeps r _ e = refl
 
 stays-of : (w : World) (o : Op) (d : Done) → Shorter w d.world →

@@ -50,7 +50,9 @@ module _ (n : RunPoll → ℕ) where
   quiet-part : (o : Op) → is_loud o ≡ false → part_of n o ≡ 0
   quiet-part (Op.User (UserOp.PollOwn x)) e = absurd (cc)
   quiet-part (Op.Tick (TickOp.Search s)) e = absurd (cc)
-  quiet-part (Op.Tick _) e = absurd (cc)
+  quiet-part (Op.Tick (TickOp.Look s look)) e = absurd (cc)
+  quiet-part (Op.Tick (TickOp.CopyWaker s)) e = absurd (cc)
+  quiet-part (Op.Tick (TickOp.FallAsleep s)) e = absurd (cc)
   quiet-part (Op.List o) e = absurd (cc)
   quiet-part (Op.Steal o) e = absurd (cc)
   quiet-part (Op.Run RunOp.MakeRoom) e = refl

@@ -283,7 +283,9 @@ module _ (v : Op → ℕ) (m : Mild v) where
       mild-again (moves.look_again (task w f)).owed.answer p w f (moves.look_again (task w f))
   mild-next p h (Op.Tick TickOp.MakeTick) w n = mild-make h.refused w
   mild-next p h (Op.Tick (TickOp.Search s)) w n = absurd (cc)
-  mild-next p h (Op.Tick _) w n = absurd (cc)
+  mild-next p h (Op.Tick (TickOp.Look s look)) w n = absurd (cc)
+  mild-next p h (Op.Tick (TickOp.CopyWaker s)) w n = absurd (cc)
+  mild-next p h (Op.Tick (TickOp.FallAsleep s)) w n = absurd (cc)
   mild-next p h (Op.User (UserOp.PollOwn x)) w n = absurd (cc)
   mild-next p h (Op.Waker (WakerOp.CopyWaker f held)) w n = absurd (cc)
   mild-next p h (Op.List o) w n = absurd (cc)

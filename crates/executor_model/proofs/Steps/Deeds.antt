@@ -1,7 +1,7 @@
 -- For calls_do_what_they_say.
 -- What each thing that is done adds to the trace: what its own party does, and no beginning or end of a call.
 pub use Rattle.executor_model.proofs.Quiet.Calls.{is_end}
-use Rattle.std.proofs.Common.{◌≡◌, ◌≢◌, ◌×◌, ℕ, [], ◌∷◌, ◌++◌, Bool, true, false, ◌||◌, refl, sym, ap, ◌∙◌, append-nil, arith}
+use Rattle.std.proofs.Common.{◌≡◌, ◌≢◌, ℕ, [], ◌∷◌, ◌++◌, Bool, true, false, ◌||◌, refl, sym, ap, ◌∙◌, append-nil, arith}
 use Rattle.std.{proofs.lemmas.Bool.Decides.nat_tests, proofs.lemmas.List.append_assoc, specs.Prelude.Option}
 use Rattle.executor_model.proofs.Types.{Call, Event, Op, Waker, Hint, UserEnd}
 use Rattle.executor_model.specs.Steps.{kept, begun, react}

@@ -4,29 +4,29 @@ use Rattle.std.proofs.Common.{◌≡◌, ◌⊎◌, ⊎_elim, ℕ, ◌<◌, ◌�
 use Rattle.std.proofs.Common.{eqb, inl, inr, refl, sym, ap, ◌∙◌, subst, arith}
 use Rattle.std.specs.Prelude.{None, Option, reverse}
 use Rattle.std.{proofs.lemmas.Bool.Decides.nat_tests, proofs.lemmas.List.append_assoc}
-use Rattle.executor_model.proofs.Types.{Call, Reply, Event, Kind, ClosingOp, Hold, Op, Waker, Hint, Step, UserEnd}
+use Rattle.executor_model.proofs.Types.{TableOp, UserOp, Call, Reply, Event, Kind, ClosingOp, Hold, Op, Waker, Hint, Step}
 use Rattle.executor_model.specs.Steps.{Machine, accepts, begin_refusal, begun, is_on_executor, is_owners, is_unused, mine, run}
 use Rattle.executor_model.specs.Trace.{Trace, has, is_drop_begun, is_leak_begun, is_leaked}
-use Rattle.executor_model.specs.World.{World, Done, done, log}
-use Rattle.executor_model.specs.{Doing.act, Good.Good, LeakWakes.LeakWakes, Rows.leaking_of, Sound.times, Steps.stack}
-use Rattle.executor_model.specs.{Steps.start, Steps.top, Weights.weigh, Weights.weigh_all}
+use Rattle.executor_model.specs.{Steps.stack, Steps.start, Steps.top, World.World, World.Done, World.done, World.log, Doing.act}
+use Rattle.executor_model.specs.{Good.Good, LeakWakes.LeakWakes, Rows.leaking_of, Sound.times, Weights.weigh, Weights.weigh_all}
 use Rattle.executor_model.proofs.Table.LeakStays.{Leaks, before-told, calm, drops-none, gone-same, hushed-drop, leaks-next}
-use Rattle.executor_model.proofs.Steps.Deeds.{grows-act, grows-begun, grows-react}
+use Rattle.executor_model.proofs.Table.LeakStays.{leaks-out, nexts_of, now, waking-act}
 use Rattle.executor_model.proofs.Steps.Hushed.{Hushed, hushed-act, hushed-called, hushed-react}
 use Rattle.executor_model.proofs.Steps.Lift.{good-start, none_refused, unsettled, weigh_all-idle}
 use Rattle.executor_model.proofs.Steps.Listing.{Entries, same-begun, same-react}
-use Rattle.executor_model.proofs.Steps.Ways.Way.{acted, called, reacted}
 use Rattle.executor_model.proofs.Table.Closing.{Ordered, ordered-ends, ordered-moves, ordered-start}
 use Rattle.executor_model.proofs.Table.LeakCounts.{goes-act, goes-begun, goes-react, is_leaking, leaks_of}
 use Rattle.executor_model.proofs.Table.LeakWithin.{Withins, going-less, going_of, withins-end, withins-moves, withins-start}
-use Rattle.executor_model.proofs.Table.Leaking.{none-leaks, static-effects}
-use Rattle.executor_model.proofs.Table.LeakStays.{leaks-out, nexts_of, now, waking-act}
-use Rattle.executor_model.proofs.{OneFuture.EffectsWays.effects-way, Steps.Begins.calm_owned, Quiet.Calls.is_end}
-use Rattle.executor_model.proofs.{Steps.Lists.weigh_all-below, Steps.Ways.Way, Steps.Ways.along}
+use Rattle.executor_model.proofs.{Types.UserEnd, Steps.Deeds.grows-act, Steps.Deeds.grows-begun, Steps.Deeds.grows-react}
+use Rattle.executor_model.proofs.{Steps.Ways.Way.acted, Steps.Ways.Way.called, Steps.Ways.Way.reacted, Table.Leaking.none-leaks}
+use Rattle.executor_model.proofs.{Table.Leaking.static-effects, OneFuture.EffectsWays.effects-way, Steps.Begins.calm_owned}
+use Rattle.executor_model.proofs.{Quiet.Calls.is_end, Steps.Lists.weigh_all-below, Steps.Ways.Way, Steps.Ways.along}
 
 none-going : (o : Op) → is_leaking o ≡ false → going_of o ≡ 0
 none-going (Op.Closing ClosingOp.LeakOut) n = absurd (cc)
 none-going (Op.Closing ClosingOp.LeakNext) n = absurd (cc)
+none-going (Op.Table (TableOp.PutBack f)) n = refl
+none-going (Op.User (UserOp.Poll f)) n = refl
 none-going _ n = refl
 
 user-going : (o : Op) (u : UserEnd) → accepts o u ≡ true → is_leaking o ≡ false

@@ -1,7 +1,7 @@
 -- Each operation leads to what `next` says, and so does each end of user code.
 use Rattle.std.proofs.Common.{◌≡◌, ℕ, true, false, refl}
 use Rattle.call_steps.{specs.declared.step.CallStep.CallStep, specs.declared.step.tick.TickStep.TickStep, specs.Next.next}
-use Rattle.executor_model.proofs.Types.{Answer, Op, TickOp, TickOrRun, UserOp, Waker, Hint, UserEnd}
+use Rattle.executor_laws.proofs.Types.{Answer, Op, TickOp, TickOrRun, UserOp, Waker, Hint, UserEnd}
 use Rattle.executor_model.specs.declared.op.TickOrRun.TheVariants.{Tick, Run}
 use Rattle.executor_model.specs.World.{World, own_of, place_of}
 use Rattle.executor_model.specs.{Acts.is_copy_refused, Acts.stands_alone, Doing.search, Doing.tick_act}
@@ -11,7 +11,7 @@ use Rattle.executor_laws.proofs.CallSteps.Falling.{of-copy, of-falling, of-leavi
 use Rattle.executor_laws.proofs.CallSteps.Handles.{of-handles, of-wakers}
 use Rattle.executor_laws.proofs.CallSteps.Stealing.{of-lists, of-own, of-runs, of-steals}
 use Rattle.executor_laws.proofs.CallSteps.Tables.{of-queue, of-table}
-use Rattle.executor_laws.proofs.{CallSteps.Closing.of-closings, CallSteps.Falling.of-waking, CallSteps.Owing.of-move}
+use Rattle.executor_laws.proofs.{CallSteps.Falling.of-waking, CallSteps.Closing.of-closings, CallSteps.Owing.of-move}
 
 of-search : (who : TickOrRun) (p : ℕ) (w : World) (k : ℕ) (a : Waker) →
     steps_of (search p w (record { waker = a; who = who; poll = k })).next

@@ -3,7 +3,7 @@ use Rattle.std.proofs.Common.{◌≡◌, ℕ, [], ◌∷◌, length, refl}
 use Rattle.std.specs.Prelude.{Option, Some, None}
 use Rattle.call_steps.specs.declared.asked.Asked.{Asked}
 use Rattle.call_steps.specs.Begins.{begins, drop_run as drops_run, poll_run as polls_run}
-use Rattle.executor_model.proofs.Types.{Call, Reply, Hold, Op, RunPoll, WakerOp, Move}
+use Rattle.executor_laws.proofs.Types.{Call, Reply, Hold, Op, RunPoll, WakerOp, Move}
 use Rattle.executor_model.specs.Steps.{drop_run, future_of, kept, poll_run, used_up, waker_of as given, with_future}
 use Rattle.executor_model.specs.World.{World, Done, Stage, New, Listed, Ended, done, run_of}
 use Rattle.executor_laws.specs.CallsFollow.{CallsBegin, asked_with, begins_as, stage_of}

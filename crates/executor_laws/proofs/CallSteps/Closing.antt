@@ -3,9 +3,9 @@ use Rattle.std.proofs.Common.{◌≡◌, ℕ, Bool, true, false, ◌||◌, List,
 use Rattle.call_steps.specs.Closing.{closed, closing, leaking}
 use Rattle.call_steps.{specs.declared.saw.Saw.Saw, specs.declared.step.CallStep.CallStep}
 use Rattle.call_steps.{specs.declared.step.table.ClosingStep.ClosingStep, specs.Next.next, specs.Next.next_closing}
-use Rattle.executor_model.proofs.Types.{Mark, Plain, Urgent, Move, ClosingOp, Op, UserOp}
+use Rattle.executor_laws.proofs.Types.{Mark, Plain, Urgent, Move, ClosingOp, Op, UserOp}
 use Rattle.executor_model.specs.Acts.{close, closing_ops, drain_by, drop_next_by, leak_next_by, leak_out_by, leaking_ops, wake}
-use Rattle.executor_model.specs.{World.queue_of, World.World, Acts.wake_next_by, Doing.closing_act}
+use Rattle.executor_model.specs.{Acts.wake_next_by, World.queue_of, World.World, Doing.closing_act}
 use Rattle.executor_laws.specs.SeenByCalls.{dropped, first, seen_closing, unless_gone, wakes}
 use Rattle.executor_laws.specs.StepsOfCalls.{closing_step_of, steps_of}
 use Rattle.executor_laws.proofs.CallSteps.Owing.{both, of-move}

@@ -2,10 +2,11 @@
 use Rattle.std.proofs.Common.{◌≡◌, ℕ, Bool, true, false, not, List, [], ◌∷◌, length, refl}
 use Rattle.std.specs.Prelude.{◌==◌, Option, Some, None, nat_lt, is_none}
 use Rattle.executor_parts.specs.Sleepers.{last_waker, position_of, waker_at, waker_of}
-use Rattle.call_steps.{specs.declared.step.CallStep.CallStep, specs.declared.step.tick.SleeperStep.SleeperStep}
-use Rattle.call_steps.{specs.declared.step.tick.TickStep.TickStep, specs.Next.next, specs.Next.next_sleeper}
-use Rattle.call_steps.{specs.Next.next_tick, specs.Owing.released, specs.Sleeping.tell_and_return as tells_and_returns}
-use Rattle.executor_model.proofs.Types.{SleeperOp, Sleeping, TickOrRun, Look, First, Second, Waker}
+use Rattle.call_steps.specs.declared.step.tick.SleeperStep.{SleeperStep}
+use Rattle.call_steps.specs.Next.{next, next_sleeper, next_tick}
+use Rattle.call_steps.{specs.declared.step.CallStep.CallStep, specs.declared.step.tick.TickStep.TickStep, specs.Owing.released}
+use Rattle.call_steps.{specs.Sleeping.tell_and_return as tells_and_returns}
+use Rattle.executor_laws.proofs.Types.{SleeperOp, Sleeping, TickOrRun, Look, First, Second, Waker}
 use Rattle.executor_model.specs.declared.op.TickOrRun.TheVariants.{Run, Tick}
 use Rattle.executor_model.specs.ActsOfSleepers.{copy_sleeper_by, exchange_by, fall_asleep_by, hand_out_by, leave_sleepers_by}
 use Rattle.executor_model.specs.ActsOfSleepers.{look_tick, look_tick_by, make_tick_by, pend_as, polled_as, sleep_again_by}

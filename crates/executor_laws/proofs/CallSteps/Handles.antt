@@ -6,11 +6,12 @@ use Rattle.call_steps.specs.Next.{looked, looked_again, next, next_handle, next_
 use Rattle.call_steps.specs.Owing.{answered, released, reply_of as next_reply, told}
 use Rattle.call_steps.{specs.declared.step.CallStep.CallStep, specs.declared.step.handle.HandleStep.HandleStep}
 use Rattle.call_steps.{specs.declared.step.handle.WakerStep.WakerStep, specs.declared.saw.Saw.Saw}
-use Rattle.executor_model.proofs.Types.{Moved, Awaiter, HandleOp, Hold, Op, Polled, Waker, WakerOp, Hint}
+use Rattle.executor_laws.proofs.Types.{Moved, Awaiter, HandleOp, Hold, Op, Polled, Waker, WakerOp, Hint}
 use Rattle.executor_model.specs.Acts.{answered as model_answered, copy_awaiter_by, copy_by, end_register_by, is_copy_refused}
 use Rattle.executor_model.specs.Acts.{is_refused, let_go, let_go_by, look_again_by, look_by, notify_by, polled as polled_now}
-use Rattle.executor_model.specs.{Acts.register_by, Acts.reply_of as model_reply, Acts.told as model_told, Carried.awaiter_ops}
-use Rattle.executor_model.specs.{Doing.handle_act, Doing.waker_act, World.World, World.awaiter_of, World.task}
+use Rattle.executor_model.specs.World.{World, awaiter_of, task}
+use Rattle.executor_model.specs.{Acts.register_by, Carried.awaiter_ops, Doing.handle_act, Doing.waker_act}
+use Rattle.executor_model.specs.{Acts.reply_of as model_reply, Acts.told as model_told}
 use Rattle.executor_laws.specs.SeenByCalls.{awaiting, seen_handle, seen_waker, unless_refused}
 use Rattle.executor_laws.specs.StepsOfCalls.{handle_step_of, steps_of, waker_of, waker_step_of}
 use Rattle.executor_laws.proofs.CallSteps.Owing.{both, of-awaiter, of-call, of-waker}

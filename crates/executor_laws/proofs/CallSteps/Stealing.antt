@@ -6,14 +6,14 @@ use Rattle.call_steps.specs.Next.{next, next_call, next_list, next_run, next_ste
 use Rattle.call_steps.{specs.declared.names.TickOrRun.TickOrRun, specs.declared.saw.Saw.Saw}
 use Rattle.call_steps.{specs.declared.step.CallStep.CallStep, specs.declared.step.run.ListStep.ListStep}
 use Rattle.call_steps.{specs.declared.step.run.RunStep.RunStep, specs.declared.step.tick.TickStep.TickStep}
-use Rattle.executor_model.proofs.Types.{Reply, Event, Hold, Look, First, Second, ListOp, Op, Polled, QueueOp, RunOp, RunPoll}
-use Rattle.executor_model.proofs.Types.{Section, Own, Steal, StealOp, Then, Waker, Task, Outside, Hint, Move}
+use Rattle.executor_laws.proofs.Types.{Reply, Event, Hold, Look, First, Second, ListOp, Op, Polled, QueueOp, RunOp, RunPoll}
+use Rattle.executor_laws.proofs.Types.{Section, Own, Steal, StealOp, Then, Waker, Task, Outside, Hint, Move}
 use Rattle.executor_model.specs.declared.op.TickOrRun.TheVariants.{Run as RunOf}
 use Rattle.executor_model.specs.ActsOfRuns.{call_by_reference, counted_by, counted_to, found, free_places, kept_by, look_own_by}
 use Rattle.executor_model.specs.ActsOfRuns.{make_room_by, make_run_by, next_place, queue_at, reschedule_by, run_by, run_found}
 use Rattle.executor_model.specs.ActsOfRuns.{search_common_by, search_own_by, share, source_of, steal_by, steal_length_by}
-use Rattle.executor_model.specs.World.{queue_of, World, Run, Ticker, Awake, Asleep, Left, log, no_run, own_of, put_own, run_of}
 use Rattle.executor_model.specs.ActsOfRuns.{steal_put_by, steal_take_by, stolen, wake_own, walk}
+use Rattle.executor_model.specs.World.{queue_of, World, Run, Ticker, Awake, Asleep, Left, log, no_run, own_of, put_own, run_of}
 use Rattle.executor_model.specs.Doing.{list_act, run_act, steal_act}
 use Rattle.executor_model.specs.{Acts.mark_in, Acts.tell, ActsOfSleepers.found_by}
 use Rattle.executor_laws.specs.SeenByCalls.{first, found as seen_found, looked_own, put_where, seen_list, seen_run, seen_steal}

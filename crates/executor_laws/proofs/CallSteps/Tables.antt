@@ -1,10 +1,10 @@
 -- What is done with the table and the queue goes as `call_steps` says.
 use Rattle.std.proofs.Common.{◌≡◌, ℕ, Bool, true, false, not, List, [], ◌∷◌, length, refl, sym}
 use Rattle.std.specs.Prelude.{nat_lt}
-use Rattle.call_steps.specs.declared.step.table.TableStep.{TableStep}
 use Rattle.call_steps.specs.Next.{next, next_queue, next_table}
-use Rattle.call_steps.{specs.declared.step.CallStep.CallStep, specs.declared.step.table.QueueStep.QueueStep}
-use Rattle.executor_model.proofs.Types.{Look, First, Second, Mark, QueueOp, TableOp, Hint}
+use Rattle.call_steps.specs.declared.step.table.QueueStep.{QueueStep}
+use Rattle.call_steps.{specs.declared.step.table.TableStep.TableStep, specs.declared.step.CallStep.CallStep}
+use Rattle.executor_laws.proofs.Types.{Look, First, Second, Mark, QueueOp, TableOp, Hint}
 use Rattle.executor_model.specs.Acts.{mark_in, takes_more, append_by, enter_by, emptiness, entry_goes, leave_by, take_by}
 use Rattle.executor_model.specs.{World.mark_of, World.queue_of, World.World, World.among, Doing.queue_act, Doing.table_act}
 use Rattle.executor_laws.specs.SeenByCalls.{allowed, entry, entry_with_waker, first, some_there, seen_queue, seen_table}

@@ -5,13 +5,13 @@ use Rattle.std.specs.Prelude.{Option, Some, None, count_by}
 use Rattle.std.{proofs.Common.ap, proofs.Common.subst, proofs.Common.arith, proofs.lemmas.Bool.Decides.nat_tests}
 use Rattle.task_moves.specs.declared.moves.owed.Answer.TheVariants.{Refused, Pending, Closed, Output}
 use Rattle.task_moves.{specs.Moves.is_going, specs.Moves.is_over, specs.declared.moves.owed.Answer.Answer}
-use Rattle.executor_model.proofs.Types.{Moved, State, By, Call, Reply, Event, HandleOp, Hold, ListOp, Op, QueueOp, RunOp}
-use Rattle.executor_model.proofs.Types.{Section, TableOp, TickOp, UserOp, Waker, WakerOp, Hint, UserEnd}
+use Rattle.executor_laws.proofs.Types.{Moved, State, By, Call, Reply, Event, HandleOp, Hold, ListOp, Op, QueueOp, RunOp}
+use Rattle.executor_laws.proofs.Types.{Section, TableOp, TickOp, UserOp, Waker, WakerOp, Hint, UserEnd}
 use Rattle.executor_model.specs.Acts.{answered, copy_awaiter_by, end_register_by, let_go, look_again_by, look_by, polled}
 use Rattle.executor_model.specs.Trace.{Trace, has, is_cancelled, is_drop_begun, is_last_waker, is_ready, takes_handle}
-use Rattle.executor_model.specs.World.{World, awaiter_of, task}
-use Rattle.executor_model.specs.{Acts.register_by, Acts.reply_of, CallsMean.MayBeOver, Carried.awaiter_ops, Doing.act}
-use Rattle.executor_model.specs.{OutputOnce.is_output_given, Steps.Machine, Steps.accepts, Steps.react, Weights.weigh}
+use Rattle.executor_model.specs.Steps.{Machine, accepts, react}
+use Rattle.executor_model.specs.{Acts.register_by, Acts.reply_of, World.World, World.awaiter_of, World.task}
+use Rattle.executor_model.specs.{CallsMean.MayBeOver, Carried.awaiter_ops, Doing.act, OutputOnce.is_output_given, Weights.weigh}
 use Rattle.executor_laws.specs.HandleAnswers.{GivesNoMore}
 use Rattle.executor_model.proofs.OneFuture.Telling.{counted-there, there-or-none}
 use Rattle.executor_model.proofs.Promises.CallAnswers.{no-poll, served}

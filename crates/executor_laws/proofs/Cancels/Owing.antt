@@ -2,7 +2,7 @@
 -- What the frame of a poll of a handle still has to say is so, at every moment.
 use Rattle.std.proofs.Common.{◌≡◌, ◌⊎◌, inl, ◌∙◌, ⊎_elim, ℕ, ◌<◌, ◌≤◌, List, [], ◌∷◌, ◌++◌, length, true, false, sym, ap, subst}
 use Rattle.std.{proofs.Common.arith, specs.Prelude.Option, specs.Prelude.reverse}
-use Rattle.executor_model.proofs.Types.{By, Call, Reply, Event, Kind, Hold, Op, Waker, Step}
+use Rattle.executor_laws.proofs.Types.{By, Call, Reply, Event, Kind, Hold, Op, Waker, Step}
 use Rattle.executor_model.specs.Steps.{Machine, begun, mine, react, run, stack, start, top}
 use Rattle.executor_model.specs.{Calls.Begun, Doing.act, Good.Good, Sound.Pend, Sound.pend, Sound.with_ops, Trace.Trace}
 use Rattle.executor_model.specs.{Weights.weigh, World.Done, World.World, World.done, World.log, World.task}

@@ -5,25 +5,24 @@ use Rattle.std.proofs.Common.{ltb, refl, sym, ap, ◌∙◌, subst, inl, inr, �
 use Rattle.std.specs.Prelude.{Option, Some, None}
 use Rattle.std.{proofs.Math.ListN.length-set, proofs.lemmas.Bool.Decides.nat_tests, proofs.lemmas.List.append_assoc}
 use Rattle.executor_parts.specs.Marks.{other}
-use Rattle.executor_model.proofs.Types.{Mark, Call, Reply, Event, Kind, Hold, First, Second, Op, Move, QueueOp, SleeperOp}
-use Rattle.executor_model.proofs.Types.{TableOp, Hint, Step, Begin, Go, StepError, NoSuch, Gone}
+use Rattle.executor_laws.proofs.Types.{Mark, Call, Reply, Event, Kind, Hold, First, Second, Op, Move, QueueOp, SleeperOp}
+use Rattle.executor_laws.proofs.Types.{TableOp, Hint, Step, Begin, Go, StepError, NoSuch, Gone}
 use Rattle.executor_model.specs.Steps.{Machine, stack, top, unless, begin_refusal, part_refusal, refusal, onto, part}
-use Rattle.executor_model.specs.Emptiness.{IsAtRest, IsQuietEmptinessExact, AnswersAlone, AllDropped, asks_alone}
 use Rattle.executor_model.specs.Steps.{part_after, with_part, step_by, step, stepped, run, start}
+use Rattle.executor_model.specs.Emptiness.{IsAtRest, IsQuietEmptinessExact, AnswersAlone, AllDropped, asks_alone}
 use Rattle.executor_model.specs.{Trace.Trace, Trace.has, Trace.is_drop_begun, Keeper.IsCommon, Quiet.IsQuiet, Good.Good}
 use Rattle.executor_model.specs.{Acts.take_by, World.World, World.queue_of, Rows.leaking_of, Weights.weigh_all}
 use Rattle.executor_laws.specs.AtRest.{BeginsAtRest, TicksAreExact, EmptinessIsExact}
-use Rattle.executor_model.proofs.Emptiness.Quieting.{asking, quiet-empties}
-use Rattle.executor_model.proofs.Polls.AskingExecutions.{Heard, heard}
-use Rattle.executor_model.proofs.Steps.TraceSteps.{IsContinued, run-continues}
+use Rattle.executor_model.proofs.{Emptiness.Quieting.asking, Emptiness.Quieting.quiet-empties, Polls.AskingExecutions.Heard}
+use Rattle.executor_model.proofs.{Polls.AskingExecutions.heard, Steps.TraceSteps.IsContinued, Steps.TraceSteps.run-continues}
 use Rattle.executor_model.proofs.{Steps.Lift.good, Steps.Stepping.step-refused, Quiet.Resting.Deep, Quiet.Resting.deep}
 use Rattle.executor_laws.proofs.Exactness.Ticking.{begun-alone, first-queued, in-seconding, in-ticking, in-turning}
 use Rattle.executor_laws.proofs.Exactness.Ticking.{looked-first, looked-second, none-queued, seconding, ticking, turn_of}
 use Rattle.executor_laws.proofs.Exactness.Finding.{Found, found, no-more}
 use Rattle.executor_laws.proofs.Exactness.Following.{IsAlone, first-of, follow}
 use Rattle.executor_laws.proofs.Placement.Placing.{unleaked, common-queue, here, idle, queue-common}
-use Rattle.executor_laws.proofs.{Exactness.Inside.Inside, Exactness.Inside.not-no, Placement.BoundWays.Bonded}
-use Rattle.executor_laws.proofs.{Placement.BoundWays.bonded, Exactness.Ticking.turned-alone, Exactness.Ticking.turning}
+use Rattle.executor_laws.proofs.{Exactness.Ticking.turned-alone, Exactness.Ticking.turning, Exactness.Inside.Inside}
+use Rattle.executor_laws.proofs.{Exactness.Inside.not-no, Placement.BoundWays.Bonded, Placement.BoundWays.bonded}
 
 -- a call that was shown to begin is one of a party that is there
 known : (s : Machine) (p : ℕ) (c : Call) (more : Trace) →

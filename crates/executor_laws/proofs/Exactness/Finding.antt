@@ -2,7 +2,7 @@
 -- The step at which an event of a run happened that begins a call.
 use Rattle.std.proofs.Common.{◌≡◌, ℕ, List, [], ◌∷◌, ◌++◌, length, false, refl, sym, ap, ◌∙◌, arith, append-nil, length-append}
 use Rattle.std.proofs.lemmas.List.{append_assoc, append_cancel_left}
-use Rattle.executor_model.proofs.Types.{Call, Event, Step, Begin}
+use Rattle.executor_laws.proofs.Types.{Call, Event, Step, Begin}
 use Rattle.executor_model.specs.{Trace.Trace, Trace.has, Steps.Machine, Steps.step, Steps.stepped, Steps.run}
 use Rattle.executor_model.proofs.Steps.TraceSteps.{IsContinued, begins_one, Adds, adds, run-continues}
 use Rattle.executor_model.proofs.Steps.TraceSteps.Adds.{refused, goes_on, begins}

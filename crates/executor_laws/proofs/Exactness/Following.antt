@@ -3,10 +3,10 @@
 use Rattle.std.proofs.Common.{◌≡◌, ◌≢◌, ℕ, List, [], ◌∷◌, ◌++◌, length, Bool, true, false, eqb, ltb, refl, sym, ap, ◌∙◌, subst}
 use Rattle.std.proofs.lemmas.List.{append_assoc, append_cancel_left}
 use Rattle.std.{proofs.Common.⊎_elim, specs.Prelude.Some, specs.Prelude.None}
-use Rattle.executor_model.proofs.Types.{Call, Event, Op, Hint, Step, Begin, Go, StepError, NoSuch, WrongAnswer, UserEnd}
+use Rattle.executor_laws.proofs.Types.{Call, Event, Op, Hint, Step, Begin, Go, StepError, NoSuch, WrongAnswer, UserEnd}
 use Rattle.executor_model.specs.declared.{step.Step.TheVariants.Answer, step.StepError.TheVariants.Idle}
 use Rattle.executor_model.specs.Steps.{Machine, stack, top, accepts, unless, go_refusal, answer_refusal, party_of, part_refusal}
-use Rattle.executor_model.specs.{Trace.Trace, Weights.same, Steps.step, Steps.stepped, Steps.run}
+use Rattle.executor_model.specs.{Steps.step, Steps.stepped, Steps.run, Trace.Trace, Weights.same}
 use Rattle.executor_model.proofs.Steps.TraceSteps.{IsContinued, Adds, adds, run-continues}
 use Rattle.executor_model.proofs.Steps.TraceSteps.Adds.{refused, goes_on, begins}
 use Rattle.executor_model.proofs.{Steps.Lists.same_cases, Steps.Stepping.step-refused}

@@ -4,16 +4,15 @@ use Rattle.std.proofs.Common.{◌≡◌, ◌≢◌, ◌⊎◌, ℕ, zero, suc, �
 use Rattle.std.proofs.Common.{sym, ap, ◌∙◌, subst, inl, inr, ⊎_elim, arith, get_or-set_same, get_or-set_other}
 use Rattle.std.specs.Prelude.{Option, Some, None, reverse, slice_get}
 use Rattle.std.{proofs.Math.ListN.length-set, proofs.lemmas.List.append_assoc, proofs.lemmas.List.append_cancel_left}
-use Rattle.executor_model.proofs.Types.{Move, Reply, Event, Hold, Op, UserOp, Hint, Step, Begin, Go, StepError, UserEnd}
+use Rattle.executor_laws.proofs.Types.{Move, Reply, Event, Hold, Op, UserOp, Hint, Step, Begin, Go, StepError, UserEnd}
 use Rattle.executor_model.specs.declared.step.Step.TheVariants.{Answer}
 use Rattle.executor_model.specs.Steps.{Machine, stack, top, below_top, react, refusal, Part, end_of, settled_by, onto, gone_on}
 use Rattle.executor_model.specs.Steps.{with_part, after, step_by, step, stepped, run}
 use Rattle.executor_model.specs.{Trace.Trace, Trace.has, World.World, World.Done, Weights.same, Weights.weigh, Doing.act}
-use Rattle.executor_model.proofs.Quiet.CallsGroups.{calls-act}
-use Rattle.executor_model.proofs.Steps.Lists.{same_cases, weigh-append, weigh-reverse}
 use Rattle.executor_model.proofs.Steps.TraceGrows.{Allows, Grows, grows, grows-act, grows-react}
 use Rattle.executor_model.proofs.Steps.TraceSteps.{ends_one, none-ends, run-continues}
-use Rattle.executor_model.proofs.{Quiet.Calls.calling_of, Steps.Lift.topped, Steps.Tests.left-false}
+use Rattle.executor_model.proofs.{Quiet.CallsGroups.calls-act, Steps.Lists.same_cases, Steps.Lists.weigh-append}
+use Rattle.executor_model.proofs.{Steps.Lists.weigh-reverse, Quiet.Calls.calling_of, Steps.Lift.topped, Steps.Tests.left-false}
 use Rattle.executor_laws.proofs.Exactness.Following.{IsAlone, still-go, still-answer, wrong-answer, not-begun}
 use Rattle.executor_laws.proofs.{Placement.Answering.is_end, Exactness.Finding.heads, Exactness.Finding.no-more}
 use Rattle.executor_model.specs.declared.event.Answer.TheVariants as answer

@@ -4,11 +4,11 @@ use Rattle.std.proofs.Common.{◌≡◌, ◌⊎◌, ℕ, ◌<◌, List, [], ◌�
 use Rattle.std.proofs.Common.{inr, ⊎_elim, arith, Ok, get_or-set_same}
 use Rattle.std.{proofs.Math.ListN.length-set, proofs.lemmas.Bool.Decides.nat_tests, specs.Prelude.Some, specs.Prelude.None}
 use Rattle.executor_parts.specs.Marks.{first_of}
-use Rattle.executor_model.proofs.Types.{Call, Reply, Event, Kind, Op, TableOp, Hint, Step, Begin, Go}
+use Rattle.executor_laws.proofs.Types.{Call, Reply, Event, Kind, Op, TableOp, Hint, Step, Begin, Go}
 use Rattle.executor_model.specs.declared.step.Step.TheVariants.{Answer}
 use Rattle.executor_model.specs.Steps.{Machine, stack, top, answer_refusal, onto, part_after, with_part, after, refusal, run}
 use Rattle.executor_model.specs.Emptiness.{AllDropped, AnswersAlone, IsAtRest, IsQuietEmptinessExact, asks_alone}
-use Rattle.executor_model.specs.{Keeper.IsCommon, Acts.look_at_table, Executions.run_all, World.log, Steps.start}
+use Rattle.executor_model.specs.{Steps.start, Keeper.IsCommon, Acts.look_at_table, Executions.run_all, World.log}
 use Rattle.executor_laws.specs.LoneAnswers.{IsAnswered, IsLoneEmptinessExact, IsLoneTickExact}
 use Rattle.executor_laws.specs.{LoneEnds.are_onward_of, LoneEnds.IsLoneCall, Reach.TakesCommon}
 use Rattle.executor_model.proofs.Steps.Reached.{Reached, run-first, run-then, run-of, reached-more, good-here, deep-here}

@@ -5,11 +5,11 @@ use Rattle.std.proofs.Common.{ap, ◌∙◌, inl, inr, arith, get_or-set_same, l
 use Rattle.std.specs.Prelude.{Option, None, nat_lt}
 use Rattle.std.{proofs.Math.ListN.length-set, proofs.lemmas.Bool.Decides.nat_tests, proofs.lemmas.List.append_assoc}
 use Rattle.executor_parts.specs.Marks.{first_of, other}
-use Rattle.executor_model.proofs.Types.{Mark, Plain, Urgent, Call, Reply, Event, Kind, Hold, First, Second, Op, Move, QueueOp}
-use Rattle.executor_model.proofs.Types.{SleeperOp, Hint, Step, Begin, Go, StepError, NoSuch, Gone}
+use Rattle.executor_laws.proofs.Types.{Mark, Plain, Urgent, Call, Reply, Event, Kind, Hold, First, Second, Op, Move, QueueOp}
+use Rattle.executor_laws.proofs.Types.{SleeperOp, Hint, Step, Begin, Go, StepError, NoSuch, Gone}
 use Rattle.executor_model.specs.Steps.{Machine, stack, top, step, step_by, stepped, refusal, unless, begin_refusal, go_refusal}
-use Rattle.executor_model.specs.World.{World, log, queue_of, queued_in}
 use Rattle.executor_model.specs.Steps.{onto, part, part_after, with_part, run, start}
+use Rattle.executor_model.specs.World.{World, log, queue_of, queued_in}
 use Rattle.executor_model.specs.{Keeper.IsCommon, Emptiness.IsAtRest, Trace.Trace, Acts.take_by, Acts.turned}
 use Rattle.executor_model.specs.{ActsOfSleepers.exchange_by, Sound.times, Good.Good, Rows.leaking_of, Weights.weigh_all}
 use Rattle.executor_laws.specs.Ticks.{ticks, FindsNothing, FindsCommon, IsTickExact}

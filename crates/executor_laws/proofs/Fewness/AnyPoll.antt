@@ -2,23 +2,23 @@
 -- So any poll of a run takes 200 futures up at most, whatever others do, and whatever user code does inside of it.
 use Rattle.std.proofs.Common.{◌≡◌, ◌≢◌, ◌⊎◌, ◌∙◌, inl, ⊎_elim, ℕ, ◌+◌, ◌<◌, ◌≤◌, List, [], ◌∷◌, ◌++◌, length, cond, Result}
 use Rattle.std.proofs.Common.{Bool, true, false, ◌&&◌, eqb, ltb, refl, sym, ap, subst, arith, append-nil, length-append}
-use Rattle.std.proofs.Common.{get_or-set_same, get_or-set_other}
-use Rattle.std.specs.Prelude.{Option, Some, None, reverse}
-use Rattle.std.{proofs.lemmas.Bool.Decides.nat_tests, proofs.lemmas.List.get_or_past}
-use Rattle.executor_model.proofs.Types.{By, Call, Reply, Event, Kind, Hold, ListOp, Op, RunOp, RunPoll, Section, UserOp, Step}
+use Rattle.std.{proofs.Common.get_or-set_same, proofs.Common.get_or-set_other, specs.Prelude.Option, specs.Prelude.Some}
+use Rattle.std.{specs.Prelude.None, specs.Prelude.reverse, proofs.lemmas.Bool.Decides.nat_tests, proofs.lemmas.List.get_or_past}
+use Rattle.executor_laws.proofs.Types.{Begin, StepError, By, Call, Reply, Event, Kind, Hold, ListOp, Op, RunOp, RunPoll}
 use Rattle.executor_model.specs.Steps.{Machine, Part, begun, mine, onto, part_after, part_refusal, party_of, poll_run, refusal}
 use Rattle.executor_model.specs.Steps.{run, stack, start, step, step_by, stepped, top, waker_of, with_part}
 use Rattle.executor_model.specs.World.{Done, Ended, Listed, New, Stage, World, log, run_of}
 use Rattle.executor_model.specs.{Rows.running_of, Weights.weigh, Weights.weigh_all}
 use Rattle.executor_laws.specs.RunTakes.{TakesUpFew, depth, takes_in, takes_itself, takes_up}
-use Rattle.executor_model.proofs.{Types.Begin, Types.StepError, OwnQueues.UsingSteps.all-used, Quiet.Calls.is_end}
-use Rattle.executor_model.proofs.{Steps.Lists.weigh-append, Steps.Reached.Reached, Steps.Stepping.step-made}
+use Rattle.executor_model.proofs.OwnQueues.UsingSteps.{all-used}
+use Rattle.executor_model.proofs.{Quiet.Calls.is_end, Steps.Lists.weigh-append, Steps.Reached.Reached, Steps.Stepping.step-made}
 use Rattle.executor_laws.proofs.Fewness.AnyStacks.{Goes, Stands, Stays, StaysIn, by-mine, counted, lands, not-mine, one-stack}
+use Rattle.executor_laws.proofs.Fewness.AnyStacks.{part-untaken, two-stacks}
 use Rattle.executor_laws.proofs.Fewness.AnySteps.{Owns, beside_of, budget-kept, owns-uses}
 use Rattle.executor_laws.proofs.Fewness.FewSteps.{Ready, budget, left_of}
-use Rattle.executor_laws.proofs.Fewness.AnyStacks.{part-untaken, two-stacks}
-use Rattle.executor_laws.proofs.{Fewness.FewSides.ups, Placement.OwnReady.reached-on, Reach.LoneTicks.in-range}
-use Rattle.executor_laws.proofs.{Termination.TakingFew.takes-few, Fewness.AnyStacks.Stays.going, Fewness.AnyStacks.Stays.over}
+use Rattle.executor_laws.proofs.Fewness.AnyStacks.Stays.{going, over}
+use Rattle.executor_laws.proofs.{Types.Section, Types.UserOp, Types.Step, Fewness.FewSides.ups, Placement.OwnReady.reached-on}
+use Rattle.executor_laws.proofs.{Reach.LoneTicks.in-range, Termination.TakingFew.takes-few}
 
 -- a step of the machine
 

@@ -5,11 +5,11 @@ use Rattle.std.proofs.Common.{◌≡◌, ◌≢◌, ◌⊎◌, ◌∙◌, inl, i
 use Rattle.std.proofs.Common.{length, get_or, cond, Bool, true, false, ◌&&◌, eqb, refl, sym, ap, subst, arith, append-nil}
 use Rattle.std.specs.Prelude.{Option, Some, None, reverse}
 use Rattle.std.{proofs.Common.append_assoc, proofs.Common.length-append, proofs.lemmas.Bool.Decides.nat_tests}
-use Rattle.executor_model.proofs.Types.{Move, Call, Reply, Event, Hold, Op, Hint, Step, Begin, Go, StepError, Busy, UserEnd}
+use Rattle.executor_laws.proofs.Types.{Move, Call, Reply, Event, Hold, Op, Hint, Step, Begin, Go, StepError, Busy, UserEnd}
 use Rattle.executor_model.specs.declared.step.Step.TheVariants.{Answer}
 use Rattle.executor_model.specs.Steps.{Part, accepts, answer_refusal, begin_refusal, begun, below_top, end_of, go_refusal}
 use Rattle.executor_model.specs.Steps.{gone_on, mine, onto, part, part_after, part_refusal, party_of, react, settled}
-use Rattle.executor_model.specs.{Doing.act, Rows.running_of, Steps.settled_by, Steps.top, Steps.unless, Steps.waits}
+use Rattle.executor_model.specs.{Steps.settled_by, Steps.top, Steps.unless, Steps.waits, Doing.act, Rows.running_of}
 use Rattle.executor_model.specs.{Weights.weigh, Weights.weigh_all, World.Done, World.World, World.log}
 use Rattle.executor_laws.specs.RunTakes.{depth, takes_up, user_of}
 use Rattle.executor_model.proofs.Steps.Lists.{weigh-append, weigh-reverse}

@@ -4,19 +4,18 @@
 use Rattle.std.proofs.Common.{◌≡◌, ◌∙◌, ℕ, ◌+◌, ◌≤◌, List, [], ◌∷◌, Bool, true, false, refl, ap, arith}
 use Rattle.std.specs.Prelude.{Option, is_none, reverse}
 use Rattle.executor_parts.specs.Sleepers.{waker_of}
-use Rattle.executor_model.proofs.Types.{Reply, Answer, ListOp, Op, RunOp, Section, Sleeping, StealOp, TickOp, TickOrRun, UserOp}
+use Rattle.executor_laws.proofs.Types.{Hint, UserEnd, Reply, Answer, ListOp, Op, RunOp, Section, Sleeping, StealOp, TickOp}
 use Rattle.executor_model.specs.ActsOfSleepers.{leave_sleepers_by, sleeper_goes, tell_and_return}
 use Rattle.executor_model.specs.Weights.{is_run, same, weigh}
 use Rattle.executor_model.specs.World.{Asleep, Awake, Done, Left, Ticker, World, own_of, place_of, run_of}
 use Rattle.executor_model.specs.{ActsOfRuns.reschedule_by, Doing.act, Rows.running_of, Steps.accepts, Steps.react, Steps.waits}
-use Rattle.executor_model.proofs.Steps.SleepersNext.{goes-unseen}
-use Rattle.executor_model.proofs.{Types.Hint, Types.UserEnd, Quiet.Calls.is_end, Steps.Lists.weigh-append}
+use Rattle.executor_model.proofs.{Steps.SleepersNext.goes-unseen, Quiet.Calls.is_end, Steps.Lists.weigh-append}
 use Rattle.executor_laws.proofs.RunReach.RunSteps.{aside-act, aside-react, side_of}
 use Rattle.executor_laws.proofs.Fewness.FewSides.{TakenSame, react-same, same-runs, side-same, ups, ups-act, ups-react}
 use Rattle.executor_laws.proofs.Fewness.FewSteps.{Doing, Goes, Ready, budget, few-doing, left_of}
 use Rattle.executor_laws.proofs.Fewness.FewSteps.Goes.{on as on_with, over as over_with}
 use Rattle.executor_laws.proofs.Fewness.Untaken.{Untaken, leave-same, registered-same, reschedule-same, unregistered-same}
-use Rattle.executor_laws.proofs.Walks.Finding.{itself}
+use Rattle.executor_laws.proofs.{Types.TickOrRun, Types.UserOp, Walks.Finding.itself}
 
 -- things to do beside what the run itself does
 

@@ -8,19 +8,20 @@ use Rattle.task_moves.specs.declared.moves.owed.FutureDebt.TheVariants.{DropFutu
 use Rattle.task_moves.specs.declared.moves.owed.AwaiterDebt.TheVariants.{NotifyAwaiter, NotifyOther}
 use Rattle.task_moves.{specs.declared.moves.owed.FutureDebt.FutureDebt, specs.declared.moves.owed.AwaiterDebt.AwaiterDebt}
 use Rattle.executor_parts.specs.Sleepers.{waker_of}
-use Rattle.executor_model.proofs.Types.{Mark, Move, Owed, Answer, Event, Awaiter, ClosingOp, HandleOp, ListOp, Op, Polled}
-use Rattle.executor_model.proofs.Types.{QueueOp, RunOp, Sleeping, SleeperOp, StealOp, TableOp, TickOp, TickOrRun, UserOp, Waker}
+use Rattle.executor_laws.proofs.Types.{Task, Outside, WakerOp, Hint, UserEnd, Mark, Move, Owed, Answer, Event, Awaiter}
+use Rattle.executor_laws.proofs.Types.{ClosingOp, HandleOp, ListOp, Op, Polled, QueueOp, RunOp, Sleeping, SleeperOp, StealOp}
+use Rattle.executor_laws.proofs.Types.{TableOp, TickOp, TickOrRun, UserOp, Waker}
 use Rattle.executor_model.specs.Acts.{append_by, call_waker, entry_goes, is_last_waker, is_told, leave_by, let_go, let_go_by}
 use Rattle.executor_model.specs.Carried.{awaiter_ops, drops, emptied_ops, future_ops, next_ops, output_ops, owed_ops}
 use Rattle.executor_model.specs.World.{Asleep, Awake, Left, Run, Ticker, World, among, awaiter_of, log, log_if, no_run, run_of}
 use Rattle.executor_model.specs.Acts.{move_by, notify_by, stands_alone, told, told_of, waker_goes}
 use Rattle.executor_model.specs.ActsOfSleepers.{exchange_by, hand_out_by, wake_up_by}
-use Rattle.executor_model.specs.{Carried.schedule_ops, Doing.act, Doing.sleeper_act, Steps.accepts, Steps.react, Steps.waits}
-use Rattle.executor_model.specs.{Trace.Trace, Trace.has, Weights.weigh, World.runs_with, World.task}
+use Rattle.executor_model.specs.{Carried.schedule_ops, World.runs_with, World.task, Doing.act, Doing.sleeper_act, Steps.accepts}
+use Rattle.executor_model.specs.{Steps.react, Steps.waits, Trace.Trace, Trace.has, Weights.weigh}
 use Rattle.executor_laws.specs.RunFew.{begins_poll, polls_in}
 use Rattle.executor_model.proofs.Steps.TraceGrows.{Allows, grows-act, grows-react, is_ordinary}
-use Rattle.executor_model.proofs.{Types.Task, Types.Outside, Types.WakerOp, Types.Hint, Types.UserEnd, Steps.Lists.weigh-append}
-use Rattle.executor_model.proofs.{Steps.SleepersNext.goes-unseen, Steps.Tests.left-false, Steps.Tests.right-false}
+use Rattle.executor_model.proofs.Steps.Tests.{left-false, right-false}
+use Rattle.executor_model.proofs.{Steps.Lists.weigh-append, Steps.SleepersNext.goes-unseen}
 use Rattle.executor_laws.proofs.{RunReach.RunSteps.side_of, Termination.TakingFew.runs-act}
 use Rattle.task_moves.specs.Moves as moves
 

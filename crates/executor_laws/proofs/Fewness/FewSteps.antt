@@ -5,16 +5,16 @@ use Rattle.std.proofs.Common.{refl, sym, ap, subst, arith, get_or-set_same}
 use Rattle.std.specs.Prelude.{Option, Some, None, reverse}
 use Rattle.std.{proofs.Math.ListN.length-set, proofs.lemmas.List.reverse-append}
 use Rattle.executor_parts.{specs.Marks.first_of, specs.Marks.other, specs.Sleepers.waker_at}
-use Rattle.executor_model.proofs.Types.{Plain, Urgent, Look, First, Second, Move, Reply, Event, Hold, ListOp, Op, Polled}
-use Rattle.executor_model.proofs.Types.{QueueOp, RunOp, RunPoll, Sleeping, SleeperOp, Source, Common, Own, Steal, StealOp, Then}
-use Rattle.executor_model.proofs.Types.{TickOp, TickOrRun, UserOp, Waker, Task, Outside, Hint}
+use Rattle.executor_laws.proofs.Types.{Plain, Urgent, Look, First, Second, Move, Reply, Event, Hold, ListOp, Op, Polled}
+use Rattle.executor_laws.proofs.Types.{QueueOp, RunOp, RunPoll, Sleeping, SleeperOp, Source, Common, Own, Steal, StealOp, Then}
+use Rattle.executor_laws.proofs.Types.{TickOp, TickOrRun, UserOp, Waker, Task, Outside, Hint}
 use Rattle.executor_model.specs.World.{queue_of, Asleep, Awake, Done, Left, Ticker, World, done, log, own_of, place_of, put_own}
 use Rattle.executor_model.specs.ActsOfRuns.{asleep, call_by_reference, counted_by, counted_to, found, kept_by, look_own_by}
 use Rattle.executor_model.specs.ActsOfRuns.{next_place, queue_at, run_by, run_found, search_common_by, search_own_by, steal_by}
 use Rattle.executor_model.specs.ActsOfSleepers.{copy_sleeper_by, fall_asleep_by, found_by, sleep_again_by, sleep_anew_by}
-use Rattle.executor_model.specs.Acts.{mark_in, copied, followed, turned}
 use Rattle.executor_model.specs.ActsOfRuns.{steal_length_by, steal_put_by, steal_take_by, stolen, wake_own, walk, without_first}
 use Rattle.executor_model.specs.ActsOfSleepers.{sleep_listed_by, sleeper_goes}
+use Rattle.executor_model.specs.Acts.{mark_in, copied, followed, turned}
 use Rattle.executor_model.specs.{World.run_of, Doing.act, Doing.search_by_who, Doing.steal_act, Weights.weigh}
 use Rattle.executor_model.proofs.{Steps.Lists.weigh-append, Steps.Lists.weigh-reverse, Steps.SleepersNext.goes-unseen}
 use Rattle.executor_laws.proofs.RunReach.RunSteps.{Aside, aside-act, side_of}

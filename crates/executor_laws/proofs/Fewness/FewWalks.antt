@@ -4,21 +4,21 @@ use Rattle.std.proofs.Common.{◌≡◌, ◌∙◌, ◌⊎◌, inl, inr, ⊎_eli
 use Rattle.std.proofs.Common.{refl, sym, ap, subst, arith, append_assoc, Ok}
 use Rattle.std.specs.Prelude.{Option, Some, None, reverse}
 use Rattle.std.{proofs.Math.Seq.drop-append_seam, proofs.lemmas.List.get_or_past}
-use Rattle.executor_model.proofs.Types.{By, Reply, Event, Kind, Op, ListOp, RunOp, TickOp, Hint, Step, UserEnd}
+use Rattle.executor_laws.proofs.Types.{By, Reply, Event, Kind, Op, ListOp, RunOp, TickOp, Hint, Step, UserEnd}
 use Rattle.executor_model.specs.Steps.{Machine, Part, accepts, end_of, onto, part, react, run, settled, settled_by, stack}
 use Rattle.executor_model.specs.World.{Done, World, log, run_of}
-use Rattle.executor_model.specs.{ActsOfRuns.asleep, Doing.act, Emptiness.IsAtRest, Executions.run_all, Rows.running_of}
-use Rattle.executor_model.specs.{Steps.start, Steps.top, Steps.with_part, Trace.Trace, Weights.weigh}
+use Rattle.executor_model.specs.{Steps.start, Steps.top, Steps.with_part, ActsOfRuns.asleep, Doing.act, Emptiness.IsAtRest}
+use Rattle.executor_model.specs.{Executions.run_all, Rows.running_of, Trace.Trace, Weights.weigh}
 use Rattle.executor_laws.specs.LoneEnds.{are_onward_of, is_onward_of}
 use Rattle.executor_laws.specs.{Reach.since, RunFew.PollsFew, RunFew.polls_in, RunReach.IsLonePoll}
 use Rattle.executor_model.proofs.Steps.Lists.{weigh-append, weigh-reverse}
 use Rattle.executor_model.proofs.{Steps.Lift.split, Steps.Reached.Reached, Steps.Reached.run-first, Table.Spawning.top-last}
 use Rattle.executor_laws.proofs.Fewness.FewSides.{Polls, TakenSame, polls-act, polls-append, polls-react, react-same, side-same}
+use Rattle.executor_laws.proofs.Fewness.FewSides.{ups, ups-act, ups-react}
 use Rattle.executor_laws.proofs.Reach.LoneTicks.{idle-none, left-true, of-party, stack-set}
 use Rattle.executor_laws.proofs.RunReach.RunReaching.{arrived, new-idle, poll}
 use Rattle.executor_laws.proofs.RunReach.RunSteps.{Aside, aside-act, aside-react, side-kind, side_of}
 use Rattle.executor_laws.proofs.RunReach.RunWalks.Onward.{acted, answered}
-use Rattle.executor_laws.proofs.Fewness.FewSides.{ups, ups-act, ups-react}
 use Rattle.executor_laws.proofs.Fewness.FewSteps.{Doing, Goes, budget, few-doing, left_of}
 use Rattle.executor_laws.proofs.Fewness.FewSteps.Goes.{on as on_with, over as over_with}
 use Rattle.executor_laws.proofs.{Reach.LoneMoves.stray_of, Reach.LoneSteps.Last, Reach.LoneSteps.from-end}

@@ -1,23 +1,21 @@
 -- For futures_are_polled_where_they_are_taken_up.
 -- A step that takes a future up begins its poll, or leads to its drop, and no other begins a poll.
 use Rattle.std.proofs.Common.{◌≡◌, ◌∙◌, ℕ, ◌<◌, [], ◌∷◌, ◌++◌, length, List, Result, Bool, true, false, not, eqb, ltb, refl}
-use Rattle.std.proofs.Common.{sym, ap, arith, append-nil}
-use Rattle.std.specs.Prelude.{Option, Some, None}
-use Rattle.std.{proofs.lemmas.Bool.Decides.nat_tests, proofs.lemmas.List.append_assoc}
+use Rattle.std.{proofs.Common.sym, proofs.Common.ap, proofs.Common.arith, proofs.Common.append-nil, specs.Prelude.Option}
+use Rattle.std.{specs.Prelude.Some, specs.Prelude.None, proofs.lemmas.Bool.Decides.nat_tests, proofs.lemmas.List.append_assoc}
 use Rattle.task_moves.specs.Moves.{take_up_by}
-use Rattle.executor_model.proofs.Types.{Move, Call, Reply, Event, Op, StealOp, TableOp, Hint, Step, Begin, Go, StepError}
+use Rattle.executor_laws.proofs.Types.{UserEnd, Move, Call, Reply, Event, Op, StealOp, TableOp, Hint, Step, Begin, Go}
 use Rattle.executor_model.specs.declared.step.Step.TheVariants.{Answer}
 use Rattle.executor_model.specs.Steps.{Machine, Part, answer_refusal, begun, below_top, end_of, gone_on, mine, onto, part}
 use Rattle.executor_model.specs.Steps.{part_after, part_refusal, party_of, react, refusal, settled_by, stack, step, stepped}
 use Rattle.executor_model.specs.World.{Done, World, among, done, log, log_if, put, task}
-use Rattle.executor_model.specs.{Carried.owed_ops, Doing.act, Steps.top, Trace.Trace}
+use Rattle.executor_model.specs.{Steps.top, Carried.owed_ops, Doing.act, Trace.Trace}
 use Rattle.executor_laws.specs.{RunFew.begins_poll, RunTakes.takes_up, TakesTold.BeginsNone, TakesTold.TakesAreTold}
-use Rattle.executor_model.proofs.Steps.Stepping.{step-refused}
 use Rattle.executor_model.proofs.Steps.TraceGrows.{Allows, AllowsCall, grows-act, grows-begun, grows-react}
-use Rattle.executor_model.proofs.{Types.UserEnd, Steps.TraceMore.has-append, Table.Spawning.top-last}
+use Rattle.executor_model.proofs.{Steps.Stepping.step-refused, Steps.TraceMore.has-append, Table.Spawning.top-last}
 use Rattle.executor_laws.proofs.Promptness.Turns.{goes-on, next-is}
-use Rattle.executor_laws.proofs.{Fewness.AnyPoll.set-same, Fewness.FewSides.ordinary-none, Reach.LoneSteps.answers}
-use Rattle.executor_laws.proofs.{Reach.LoneTicks.in-range, Seeking.SeekStacks.own_part}
+use Rattle.executor_laws.proofs.{Types.StepError, Fewness.AnyPoll.set-same, Fewness.FewSides.ordinary-none}
+use Rattle.executor_laws.proofs.{Reach.LoneSteps.answers, Reach.LoneTicks.in-range, Seeking.SeekStacks.own_part}
 
 -- a future is taken up, which is closed or not, and lies in the table or not
 

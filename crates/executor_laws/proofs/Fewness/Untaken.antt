@@ -3,15 +3,14 @@
 use Rattle.std.proofs.Common.{◌≡◌, ◌≢◌, ◌∙◌, ℕ, zero, suc, ◌+◌, List, [], ◌∷◌, ◌++◌, get_or, Bool, true, false, eqb, refl, sym}
 use Rattle.std.proofs.Common.{ap, arith, get_or-set_other, ⊎_elim}
 use Rattle.std.specs.Prelude.{Option, Some, None}
-use Rattle.executor_model.proofs.Types.{Look, First, Second, Move, Call, Reply, Event, ListOp, Op, Polled, RunOp, RunPoll}
-use Rattle.executor_model.proofs.Types.{Section, Sleeping, Source, Common, Own, Steal, StealOp, Then, TickOp, TickOrRun, UserOp}
-use Rattle.executor_model.proofs.Types.{Waker, Task, Outside, Hint}
+use Rattle.executor_laws.proofs.Types.{Look, First, Second, Move, Call, Reply, Event, ListOp, Op, Polled, RunOp, RunPoll}
+use Rattle.executor_laws.proofs.Types.{Section, Sleeping, Source, Common, Own, Steal, StealOp, Then, TickOp, TickOrRun, UserOp}
 use Rattle.executor_model.specs.World.{Asleep, Awake, Ended, Left, Listed, New, Run, Stage, Ticker, World, log, new_run, no_run}
 use Rattle.executor_model.specs.Doing.{act, list_act, run_act, search_by_who, steal_act, tick_act}
-use Rattle.executor_model.specs.{Rows.running_of, Steps.begun, Weights.same, World.put_own, World.put_run, World.run_of}
+use Rattle.executor_model.specs.{World.put_own, World.put_run, World.run_of, Rows.running_of, Steps.begun, Weights.same}
 use Rattle.executor_model.proofs.{Steps.Lift.no_hint, Steps.Lists.same_cases}
 use Rattle.executor_laws.proofs.Fewness.FewSides.{TakenSame, placed, put-same, same-runs, side-same}
-use Rattle.executor_laws.proofs.Placement.RunningSteps.{runs-begun}
+use Rattle.executor_laws.proofs.{Types.Waker, Types.Task, Types.Outside, Types.Hint, Placement.RunningSteps.runs-begun}
 use Rattle.executor_laws.proofs.{Fewness.FewSteps.copied-same, Placement.Leavings.drops_run, Termination.TakingFew.runs-act}
 use Rattle.executor_model.specs.ActsOfRuns as runs
 use Rattle.executor_model.specs.ActsOfSleepers as of_sleepers

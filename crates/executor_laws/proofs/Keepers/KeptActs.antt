@@ -3,21 +3,21 @@
 use Rattle.std.proofs.Common.{◌≡◌, ℕ, ◌+◌, ◌%◌, ◌<◌, ◌≤◌, List, [], ◌∷◌, length, Bool, true, false, refl, inl, arith}
 use Rattle.std.specs.Prelude.{not, Option, Some, None}
 use Rattle.executor_parts.specs.Sleepers.{waker_at}
-use Rattle.executor_model.proofs.Types.{Look, First, Second, Move, Answer, Hold, ListOp, Op, RunOp, RunPoll, Section, TickOrRun}
-use Rattle.executor_model.proofs.Types.{Sleeping, StealOp, TableOp, TickOp, UserOp, Waker, Task, Outside, WakerOp, Hint}
+use Rattle.executor_laws.proofs.Types.{UserEnd, Look, First, Second, Move, Answer, Hold, ListOp, Op, RunOp, RunPoll, Section}
+use Rattle.executor_laws.proofs.Types.{TickOrRun, Sleeping, StealOp, TableOp, TickOp, UserOp, Waker, Task, Outside, WakerOp}
 use Rattle.executor_model.specs.ActsOfSleepers.{copy_sleeper_by, sleep_again_by, sleep_anew_by, fall_asleep_by, sleep_listed_by}
 use Rattle.executor_model.specs.ActsOfSleepers.{pend_as, look_tick_by, sleeper_goes}
 use Rattle.executor_model.specs.World.{World, Ticker, Awake, Asleep, Left, own_of}
 use Rattle.executor_model.specs.{Acts.copy_by, Acts.is_copy_refused, Doing.act, Doing.list_act, Doing.run_act, Doing.search}
 use Rattle.executor_model.specs.{Doing.tick_act, Rows.running_of, Steps.accepts, Steps.react, Weights.same, Weights.weigh}
 use Rattle.executor_model.proofs.OwnQueues.UsingWorlds.{idle, idle-copy_sleeper, idle-sleep, idle-search}
-use Rattle.executor_model.proofs.{Types.UserEnd, Steps.Lists.same_is, Steps.Lists.weigh-append, Steps.SleepersCounting.asleep}
+use Rattle.executor_model.proofs.{Steps.Lists.same_is, Steps.Lists.weigh-append, Steps.SleepersCounting.asleep}
 use Rattle.executor_laws.proofs.Keepers.KeptSearch.{keeps-common, keeps-steal, load-look, load-own, of-walks, quits-look}
 use Rattle.executor_laws.proofs.Keepers.KeptWeights.{load_of, quits-walk, quits_of}
 use Rattle.executor_laws.proofs.Wakeups.StandsRuns.{walks-lock, walks-look_own, walks-search, walks-search_common}
 use Rattle.executor_laws.proofs.Keepers.KeptLeads.{IsPast, Leads, keeps-drop, keeps-plain, of-idle}
 use Rattle.executor_laws.proofs.Keepers.KeptRuns.{keeps-make, keeps-register, keeps-reschedule, keeps-unregister, keeps-wake}
-use Rattle.executor_laws.proofs.{Keepers.KeptGrown.stirs_op, Keepers.KeptSearch.quits-own}
+use Rattle.executor_laws.proofs.{Types.Hint, Keepers.KeptSearch.quits-own, Keepers.KeptGrown.stirs_op}
 use Rattle.executor_model.specs.ActsOfRuns as runs
 
 -- sleepers

@@ -3,11 +3,11 @@
 use Rattle.std.proofs.Common.{◌≡◌, ◌≢◌, ◌∙◌, ℕ, zero, suc, ◌<◌, ◌≤◌, List, [], ◌∷◌, length, get_or, set, true, false, eqb, refl}
 use Rattle.std.proofs.Common.{sym, ap, subst, inl, inr, ⊎_elim, arith, get_or-set_other}
 use Rattle.std.specs.Prelude.{Option, Some, None}
+use Rattle.executor_laws.proofs.Types.{Call, Event, Op, RunPoll, Waker}
 use Rattle.executor_model.specs.Steps.{begun, drop_run, future_of, kept, poll_run, with_future}
 use Rattle.executor_model.specs.World.{World, Stage, New, Listed, Ended, Run, Done, done, log, no_run, put_run, run_of}
 use Rattle.executor_model.specs.{Sound.times, Weights.same, Weights.weigh}
-use Rattle.executor_model.proofs.OwnQueues.UsingWorlds.{count-set, is_past}
-use Rattle.executor_model.proofs.{Types.Call, Types.Event, Types.Op, Types.RunPoll, Types.Waker, Steps.Lists.same_cases}
+use Rattle.executor_model.proofs.{OwnQueues.UsingWorlds.count-set, OwnQueues.UsingWorlds.is_past, Steps.Lists.same_cases}
 use Rattle.executor_laws.proofs.Keepers.KeptLeads.{IsPast, Leads, steady}
 use Rattle.executor_laws.proofs.{Keepers.KeptTrace.Parted, Keepers.KeptTrace.parted-dropped, Keepers.KeptWeights.quits_of}
 

@@ -6,17 +6,18 @@ use Rattle.std.specs.Prelude.{Option, Some, count_by, reverse, slice_get}
 use Rattle.executor_model.specs.AwaiterKept.{EndsWith, since}
 use Rattle.executor_model.specs.{Keeper.AnswersReady, Quiet.begins_call, Quiet.ends_call, Steps.Machine, Steps.stack}
 use Rattle.executor_model.specs.{Trace.Trace, Trace.has, Weights.weigh_all, World.Done, World.done, World.log}
-use Rattle.executor_model.proofs.{Types.Reply, Types.Event, Types.Hold, Types.Op, Types.TickOrRun, Polls.AskingExecutions.Heard}
-use Rattle.executor_model.proofs.{Steps.Lift.split, Steps.Lift.unsettled, Steps.Lists.weigh_all-push, OwnQueues.OwnRooms.Roomy}
+use Rattle.executor_model.proofs.Steps.Lift.{split, unsettled}
+use Rattle.executor_model.proofs.{Polls.AskingExecutions.Heard, Steps.Lists.weigh_all-push, OwnQueues.OwnRooms.Roomy}
 use Rattle.executor_laws.proofs.Keepers.KeptTrace.{Parted, get-new, keeps-before, none-kept, get-either, parted-more}
 use Rattle.executor_laws.proofs.Wakeups.StandsTelling.{Begun, LastPoll, begun-at, drops_it, has-later, last-poll, left-has}
 use Rattle.executor_laws.proofs.Keepers.KeptTrace.{since-length, since-old, get-within, take-old, get-old}
-use Rattle.executor_laws.proofs.Keepers.KeptWeights.{is_end_ready, load_of, quits_of, readies_held, readies_of}
 use Rattle.executor_laws.proofs.Wakeups.StandsTelling.{polls_it, unasked-all}
+use Rattle.executor_laws.proofs.Keepers.KeptWeights.{is_end_ready, load_of, quits_of, readies_held, readies_of}
 use Rattle.executor_laws.proofs.Wakeups.Watched.{Watched, poll_begun, watched, watched_from}
 use Rattle.executor_laws.proofs.Keepers.KeptHere.{Here, Keeping, gone-more, take-whole}
-use Rattle.executor_laws.proofs.{Keepers.KeptLeads.IsPast, Keepers.KeptGrown.Grown, Keepers.KeptGrown.grown-log}
-use Rattle.executor_laws.proofs.{Wakeups.Stands.asks_of, Wakeups.StandsAnswers.IsLevel, Wakeups.StandsAnswers.level-from}
+use Rattle.executor_laws.proofs.Wakeups.StandsAnswers.{IsLevel, level-from}
+use Rattle.executor_laws.proofs.{Types.Reply, Types.Event, Types.Hold, Types.Op, Types.TickOrRun, Keepers.KeptLeads.IsPast}
+use Rattle.executor_laws.proofs.{Keepers.KeptGrown.Grown, Keepers.KeptGrown.grown-log, Wakeups.Stands.asks_of}
 use Rattle.executor_laws.proofs.{Wakeups.StandsLast.meets, Wakeups.StandsSteps.Standing, Wakeups.StandsWeights.asks-all}
 
 -- a call ends, which may be a poll of a run whose own future was ready

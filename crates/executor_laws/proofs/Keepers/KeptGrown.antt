@@ -3,7 +3,7 @@
 -- of a future nor one that comes into an own queue.
 use Rattle.std.proofs.Common.{◌≡◌, ℕ, [], ◌∷◌, ◌++◌, Bool, true, false, refl}
 use Rattle.std.specs.Prelude.{Option}
-use Rattle.executor_model.proofs.Types.{Move, Call, Event, Op, StealOp, Waker, Hint, UserEnd}
+use Rattle.executor_laws.proofs.Types.{Move, Call, Event, Op, StealOp, Waker, Hint, UserEnd}
 use Rattle.executor_model.specs.{Doing.act, Steps.accepts, Steps.begun, Steps.react, World.World, World.log}
 use Rattle.executor_model.proofs.Steps.TraceGrows.{Allows, AllowsCall, Grows, grows-act, grows-and, grows-begun, grows-one}
 use Rattle.executor_model.proofs.Steps.TraceGrows.{grows-react, is_ordinary}

@@ -7,12 +7,12 @@ use Rattle.std.specs.Prelude.{Some, reverse, slice_get}
 use Rattle.executor_model.specs.{Sound.times, Steps.Machine, Steps.stack, Trace.Trace, Trace.has, Weights.weigh}
 use Rattle.executor_model.specs.{Weights.weigh_all, World.World, World.Done, World.own_of}
 use Rattle.executor_model.proofs.Steps.Lift.{split, unsettled}
-use Rattle.executor_model.proofs.{Types.Event, Types.Op, Polls.AskingExecutions.Heard, Steps.Lists.weigh_all-push}
-use Rattle.executor_model.proofs.{OwnQueues.OwnRooms.Roomy, Polls.Dueness.is_last, Steps.Tests.or-left}
+use Rattle.executor_model.proofs.{Polls.AskingExecutions.Heard, Steps.Lists.weigh_all-push, OwnQueues.OwnRooms.Roomy}
+use Rattle.executor_model.proofs.{Polls.Dueness.is_last, Steps.Tests.or-left}
 use Rattle.executor_laws.proofs.Keepers.KeptLeads.{Gone, IsPast, Leads}
 use Rattle.executor_laws.proofs.Keepers.KeptTrace.{Keeps, Parted, has-both, keeps-before, none-kept, parted-more}
 use Rattle.executor_laws.proofs.Keepers.KeptWeights.{load_of, quits_of, readies_of}
-use Rattle.executor_laws.proofs.{Keepers.KeptGrown.Grown, Wakeups.StandsSteps.Standing}
+use Rattle.executor_laws.proofs.{Types.Event, Types.Op, Keepers.KeptGrown.Grown, Wakeups.StandsSteps.Standing}
 
 -- it is where it was kept, or on its way, or gone, or the run is over
 abbrev pub Here : ℕ → ℕ → World → ℕ → Type 0

@@ -6,11 +6,11 @@ use Rattle.std.{proofs.lemmas.Bool.Decides.nat_tests, specs.Prelude.not, specs.P
 use Rattle.executor_model.specs.World.{World, Done, own_of, run_of}
 use Rattle.executor_model.specs.{Doing.act, Sound.times, Trace.Trace, Trace.has, Weights.same, Weights.weigh}
 use Rattle.executor_model.proofs.OwnQueues.UsingWorlds.{Idle, idle-act, is_past}
-use Rattle.executor_model.proofs.{Types.Event, Types.Op, Types.TickOrRun, Types.UserOp, Types.Hint, Steps.Lists.same_cases}
-use Rattle.executor_model.proofs.{OwnQueues.Using.is_for_runs, OwnQueues.Using.mild-next, Polls.Dueness.is_last}
+use Rattle.executor_model.proofs.OwnQueues.Using.{is_for_runs, mild-next}
+use Rattle.executor_model.proofs.{Steps.Lists.same_cases, Polls.Dueness.is_last}
 use Rattle.executor_laws.proofs.Keepers.KeptTrace.{Parted, has-both, or-true}
 use Rattle.executor_laws.proofs.Keepers.KeptWeights.{load_of, mild-quits, quits_of, readies_of}
-use Rattle.executor_laws.proofs.Wakeups.StandsSeats.{Seated}
+use Rattle.executor_laws.proofs.{Types.Event, Types.Op, Types.TickOrRun, Types.UserOp, Types.Hint, Wakeups.StandsSeats.Seated}
 
 -- future f was ready or dropped
 abbrev pub Gone : ℕ → Trace → Type 0

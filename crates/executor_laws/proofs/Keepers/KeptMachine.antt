@@ -4,7 +4,7 @@
 use Rattle.std.proofs.Common.{◌≡◌, ◌⊎◌, ℕ, zero, suc, ◌<◌, ◌≤◌, List, [], ◌∷◌, ◌++◌, length, Bool, true, false, not, refl}
 use Rattle.std.proofs.Common.{subst, inl, inr, ⊎_elim, arith}
 use Rattle.std.specs.Prelude.{Option, Some, None, reverse}
-use Rattle.executor_model.proofs.Types.{Move, Call, Reply, Event, Kind, Hold, Op, StealOp, Hint, Step}
+use Rattle.executor_laws.proofs.Types.{Move, Call, Reply, Event, Kind, Hold, Op, StealOp, Hint, Step}
 use Rattle.executor_model.specs.Steps.{Machine, stack, run, start, begun, has_all, mine, react, top}
 use Rattle.executor_model.specs.{Doing.act, Good.Good, OwnQueues.filling_of, Rows.running_of, World.Done, World.done, World.log}
 use Rattle.executor_model.proofs.Polls.AskingExecutions.{Heard, heard-ends, heard-moves, heard-start}
@@ -13,11 +13,10 @@ use Rattle.executor_model.proofs.OwnQueues.OwnRooms.{Roomy, roomy-ends, roomy-mo
 use Rattle.executor_model.proofs.Steps.Ways.{Way, along}
 use Rattle.executor_model.proofs.Steps.Ways.Way.{acted, reacted, called}
 use Rattle.executor_laws.proofs.Keepers.KeptActs.{is_apart, keeps-act, keeps-react}
-use Rattle.executor_laws.proofs.Keepers.KeptCalls.{Drops, keeps-begun}
 use Rattle.executor_laws.proofs.Keepers.KeptGrown.{grown-act, grown-begun, grown-react, stirs_op}
-use Rattle.executor_laws.proofs.Wakeups.StandsMachine.{standing-moves, standing-start}
-use Rattle.executor_laws.proofs.Keepers.KeptHere.{Keeping, keeping-on}
 use Rattle.executor_laws.proofs.Keepers.KeptPut.{has-free, keeping-put, put-free}
+use Rattle.executor_laws.proofs.{Keepers.KeptCalls.Drops, Keepers.KeptCalls.keeps-begun, Wakeups.StandsMachine.standing-moves}
+use Rattle.executor_laws.proofs.{Wakeups.StandsMachine.standing-start, Keepers.KeptHere.Keeping, Keepers.KeptHere.keeping-on}
 use Rattle.executor_laws.proofs.{Keepers.KeptWeights.quits_of, Wakeups.StandsLast.standing-ends, Wakeups.StandsSteps.Standing}
 use Rattle.executor_laws.proofs.{Wakeups.StandsUses.run-there, Keepers.KeptTaken.keeping-taken, Keepers.KeptEnds.keeping-end}
 

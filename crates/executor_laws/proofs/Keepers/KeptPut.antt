@@ -3,7 +3,7 @@
 use Rattle.std.proofs.Common.{◌≡◌, ◌≢◌, ◌∙◌, ℕ, zero, suc, ◌+◌, ◌<◌, ◌≤◌, List, [], ◌∷◌, ◌++◌, length, get_or, set, Bool, true}
 use Rattle.std.proofs.Common.{false, ◌||◌, not, cond, eqb, refl, sym, ap, subst, inl, inr, ⊎_elim, arith}
 use Rattle.std.{proofs.lemmas.Bool.Decides.nat_tests, specs.Prelude.nat_lt, specs.Prelude.reverse}
-use Rattle.executor_model.proofs.Types.{Event, Op, Steal, StealOp, Hint}
+use Rattle.executor_laws.proofs.Types.{Event, Op, Steal, StealOp, Hint}
 use Rattle.executor_model.specs.Weights.{same, weigh, weigh_all}
 use Rattle.executor_model.specs.World.{World, Done, own_of, run_of}
 use Rattle.executor_model.specs.{Doing.act, OwnQueues.filling_of, Rows.then_waiting, Sound.times, Steps.Machine, Steps.stack}

@@ -5,11 +5,11 @@ use Rattle.executor_model.specs.Keeper.{AnswersReady, IsKeeper, is_run_drop}
 use Rattle.executor_model.specs.Steps.{Machine, run, stack, start}
 use Rattle.executor_model.specs.{Due.IsDue, AwaiterKept.since, Sound.times, Trace.has, Weights.weigh_all, World.own_of}
 use Rattle.executor_laws.specs.Called.{KeeperIsCalled}
-use Rattle.executor_model.proofs.{Types.Kind, Types.Step, Polls.AskingExecutions.heard, Steps.Lift.good}
-use Rattle.executor_model.proofs.{OwnQueues.OwnRunners.own-queue-has-runner, Quiet.Resting.deep, Quiet.Resting.rests}
-use Rattle.executor_model.proofs.{Quiet.Resting.all-rest, Sleepers.SleepersTellingExecutions.are_told, Polls.Dueness.none-last}
-use Rattle.executor_laws.proofs.Keepers.KeptWeights.{load_of, readies_of}
+use Rattle.executor_model.proofs.Quiet.Resting.{deep, rests, all-rest}
+use Rattle.executor_model.proofs.{Polls.AskingExecutions.heard, Steps.Lift.good, OwnQueues.OwnRunners.own-queue-has-runner}
+use Rattle.executor_model.proofs.{Sleepers.SleepersTellingExecutions.are_told, Polls.Dueness.none-last}
 use Rattle.executor_laws.proofs.Wakeups.StandsRest.{keeper-called, keeper-stands}
+use Rattle.executor_laws.proofs.{Types.Kind, Types.Step, Keepers.KeptWeights.load_of, Keepers.KeptWeights.readies_of}
 use Rattle.executor_laws.proofs.{Keepers.KeptHere.Here, Keepers.KeptHere.Keeping, Keepers.KeptMachine.keeping}
 use Rattle.executor_laws.proofs.{Keepers.KeptTrace.Parted, Wakeups.Queued.times-length, Wakeups.StandsMachine.standing}
 

@@ -3,15 +3,15 @@
 -- who has a kept future in hand.
 use Rattle.std.proofs.Common.{◌≡◌, ◌≢◌, ◌⊎◌, ◌∙◌, ℕ, zero, suc, ◌<◌, ◌≤◌, List, [], ◌∷◌, ◌++◌, length, get_or, set, Bool, true}
 use Rattle.std.proofs.Common.{false, cond, eqb, refl, sym, ap, subst, inl, inr, ⊎_elim, arith, get_or-set_other, length-append}
-use Rattle.executor_model.proofs.Types.{Move, Reply, Event, Hold, ListOp, Op, Polled, RunOp, RunPoll, Section, UserOp, Waker}
+use Rattle.executor_laws.proofs.Types.{Task, Outside, Hint, Move, Reply, Event, Hold, ListOp, Op, Polled, RunOp, RunPoll}
 use Rattle.executor_model.specs.World.{World, Stage, New, Listed, Ended, Run, done, log, new_run, no_run, own_of, run_of}
 use Rattle.executor_model.specs.{Sound.times, Weights.same, Weights.weigh}
 use Rattle.executor_model.proofs.Steps.Lists.{same_cases, weigh-append}
 use Rattle.executor_model.proofs.OwnQueues.UsingWorlds.{Idle, idle, idle-act, count-set, is_past}
-use Rattle.executor_model.proofs.{Types.Task, Types.Outside, Types.Hint, Steps.Lift.no_hint, OwnQueues.Using.mild-next}
-use Rattle.executor_laws.proofs.Keepers.KeptTrace.{Parted, or-true}
+use Rattle.executor_model.proofs.{Steps.Lift.no_hint, OwnQueues.Using.mild-next}
 use Rattle.executor_laws.proofs.Keepers.KeptWeights.{is_end_ready, mild-quits, quits_of, readies_of}
 use Rattle.executor_laws.proofs.Keepers.KeptLeads.{IsPast, Leads, of-idle}
+use Rattle.executor_laws.proofs.{Types.Section, Types.UserOp, Types.Waker, Keepers.KeptTrace.Parted, Keepers.KeptTrace.or-true}
 use Rattle.executor_laws.proofs.{Wakeups.StandsGoing.walks-registered, Keepers.KeptSearch.of-walks}
 use Rattle.executor_model.specs.ActsOfRuns as runs
 

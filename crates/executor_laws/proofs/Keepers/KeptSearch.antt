@@ -1,7 +1,7 @@
 -- For keepers_are_called.
 -- What a run's search and its steals leave of the own queues and of who has a kept future in hand.
 use Rattle.std.proofs.Common.{◌≡◌, ℕ, zero, suc, ◌+◌, ◌≤◌, List, [], ◌∷◌, length, get_or, set, false, refl, ap, arith}
-use Rattle.executor_model.proofs.Types.{Look, First, Second, Op, RunOp, RunPoll, Source, Common, Own, Steal, StealOp}
+use Rattle.executor_laws.proofs.Types.{Look, First, Second, Op, RunOp, RunPoll, Source, Common, Own, Steal, StealOp}
 use Rattle.executor_model.specs.World.{World, Done, own_of, put_own}
 use Rattle.executor_model.specs.{Doing.steal_act, Rows.then_waiting, Sound.times, Weights.same, Weights.weigh}
 use Rattle.executor_model.proofs.OwnQueues.RunsAside.{Hull, hull}

@@ -8,14 +8,14 @@ use Rattle.executor_model.specs.{Sound.phase, Sound.times, Steps.Machine, Steps.
 use Rattle.executor_model.specs.{Weights.weigh_all, World.Done, World.log_if, World.among, World.task}
 use Rattle.executor_model.proofs.Steps.Lists.{same_cases, same_is, weigh_all-below, weigh_all-push}
 use Rattle.executor_model.proofs.OwnQueues.UsingWorlds.{Idle, idle-act}
-use Rattle.executor_model.proofs.Polls.Dueness.{over-last, is_over}
-use Rattle.executor_model.proofs.{Types.Move, Types.Event, Types.Op, Types.Hint, Polls.AskingExecutions.Heard, Steps.Lift.split}
-use Rattle.executor_model.proofs.{Steps.Lift.unsettled, OwnQueues.OwnRooms.Roomy, OwnQueues.Using.mild-next}
+use Rattle.executor_model.proofs.{Polls.Dueness.over-last, Polls.Dueness.is_over, Polls.AskingExecutions.Heard}
+use Rattle.executor_model.proofs.{Steps.Lift.split, Steps.Lift.unsettled, OwnQueues.OwnRooms.Roomy, OwnQueues.Using.mild-next}
 use Rattle.executor_laws.proofs.Keepers.KeptTrace.{Keeps, Kept, Parted, keeps-one, one-other, parted-more}
 use Rattle.executor_laws.proofs.Keepers.KeptTrace.Kept.{now, before}
 use Rattle.executor_laws.proofs.Keepers.KeptWeights.{drops-load, load_of, mild-quits, quits_of, readies_of}
 use Rattle.executor_laws.proofs.Keepers.KeptHere.{Here, Keeping, gone-more}
-use Rattle.executor_laws.proofs.{Keepers.KeptLeads.Gone, Keepers.KeptLeads.IsPast, Wakeups.StandsSteps.Standing}
+use Rattle.executor_laws.proofs.Keepers.KeptLeads.{Gone, IsPast}
+use Rattle.executor_laws.proofs.{Types.Move, Types.Event, Types.Op, Types.Hint, Wakeups.StandsSteps.Standing}
 use Rattle.task_moves.specs.Moves as moves
 
 -- a task is taken up

@@ -6,8 +6,8 @@ use Rattle.std.{proofs.lemmas.Bool.Decides.nat_tests, specs.Prelude.Some, specs.
 use Rattle.executor_model.specs.declared.call.Reply.TheVariants.{Ready}
 use Rattle.executor_model.specs.{AwaiterKept.EndsWith, AwaiterKept.since, Keeper.AnswersReady, Keeper.is_kept}
 use Rattle.executor_model.specs.{Keeper.is_run_drop, Quiet.begins_call, Quiet.ends_call, Trace.Trace, Trace.has, Trace.is_poll}
-use Rattle.executor_model.proofs.{Types.Reply, Types.Event, Steps.Tests.or-left}
-use Rattle.executor_laws.proofs.Keepers.KeptGrown.{stirs}
+use Rattle.executor_model.proofs.Steps.Tests.{or-left}
+use Rattle.executor_laws.proofs.{Types.Reply, Types.Event, Keepers.KeptGrown.stirs}
 
 -- places in what has grown
 

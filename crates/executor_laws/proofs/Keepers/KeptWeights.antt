@@ -1,8 +1,8 @@
 -- For keepers_are_called.
 -- Who has a kept future in hand, or its drop; a run that leaves; and what each thing to do leaves of that.
 use Rattle.std.proofs.Common.{◌≡◌, ◌∙◌, ℕ, ◌+◌, ◌≤◌, List, [], ◌∷◌, Bool, true, false, cond, eqb, refl, arith}
-use Rattle.executor_model.proofs.Types.{Move, Reply, ClosingOp, HandleOp, Hold, ListOp, Op, QueueOp, RunOp, RunPoll, Section}
-use Rattle.executor_model.proofs.Types.{TickOrRun, SleeperOp, StealOp, TableOp, Then, TickOp, UserOp, WakerOp}
+use Rattle.executor_laws.proofs.Types.{Move, Reply, ClosingOp, HandleOp, Hold, ListOp, Op, QueueOp, RunOp, RunPoll, Section}
+use Rattle.executor_laws.proofs.Types.{TickOrRun, SleeperOp, StealOp, TableOp, Then, TickOp, UserOp, WakerOp}
 use Rattle.executor_model.specs.World.{World, Ticker, Awake, Asleep, Left, run_of}
 use Rattle.executor_model.specs.{ActsOfSleepers.found_by, Rows.drops_of, Rows.then_waiting, Weights.same, Weights.weigh}
 use Rattle.executor_model.proofs.OwnQueues.RunsMoving.{Weighs, walk-by, weighs-found, weighs-stolen, nothing-by}

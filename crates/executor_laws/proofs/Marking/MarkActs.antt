@@ -5,20 +5,19 @@ use Rattle.std.proofs.Common.{append-nil, append_assoc}
 use Rattle.std.specs.Prelude.{Option, Some, None, reverse}
 use Rattle.task_moves.specs.declared.moves.owed.Answer.{Answer}
 use Rattle.executor_parts.specs.Marks.{first_of, turn_after}
-use Rattle.executor_model.proofs.Types.{Mark, Call, Reply, Event, Op, QueueOp, RunOp, Sleeping, TableOp, TickOp, TickOrRun}
-use Rattle.executor_model.proofs.Types.{Waker, Hint, Step, StepError, UserEnd}
+use Rattle.executor_laws.proofs.Types.{Mark, Call, Reply, Event, Op, QueueOp, RunOp, Sleeping, TableOp, TickOp, TickOrRun}
 use Rattle.executor_model.specs.Steps.{Machine, after, begun, below_top, gone_on, kept, mine, react, refusal, settled_by, stack}
-use Rattle.executor_model.specs.{Acts.enter_by, Steps.step, Steps.stepped, Steps.top, World.World, World.Done, World.log}
+use Rattle.executor_model.specs.{Steps.step, Steps.stepped, Steps.top, Acts.enter_by, World.World, World.Done, World.log}
 use Rattle.executor_model.specs.{Doing.act, Doing.search_by_who, ClosingOrder.accepted_in, Trace.Trace}
 use Rattle.executor_laws.specs.Looks.{looked}
-use Rattle.executor_model.proofs.Steps.Parts.{Parts, PartsOf, Stay, Tells, Begins, Answers, by-begun, by-react}
-use Rattle.executor_model.proofs.Steps.Stepping.{step-refused, step-made}
+use Rattle.executor_model.proofs.Steps.Parts.{Parts, PartsOf, Stay, Tells, Begins, Answers, by-begun, by-react, turns}
 use Rattle.executor_model.proofs.Steps.Parts.Tells.{accepted, looked as turn_told}
-use Rattle.executor_model.proofs.{Steps.ByParts.by-act, Steps.ByParts.by-search_own, Steps.Parts.enters as comes_in}
-use Rattle.executor_model.proofs.{Steps.Parts.turns, Steps.Parts.Answers.answered, Steps.Parts.Begins.drop_begun}
+use Rattle.executor_model.proofs.{Steps.Stepping.step-refused, Steps.Stepping.step-made, Steps.ByParts.by-act}
+use Rattle.executor_model.proofs.{Steps.ByParts.by-search_own, Steps.Parts.Answers.answered, Steps.Parts.Begins.drop_begun}
+use Rattle.executor_model.proofs.{Steps.Parts.enters as comes_in}
 use Rattle.executor_laws.proofs.Marking.MarkSteps.{Changes, Keeps, changes-turned, keeps, keeps-and, keeps-log, looked-append}
-use Rattle.executor_laws.proofs.Marking.MarkSteps.{IsOther}
 use Rattle.executor_laws.proofs.Marking.MarkSteps.Changes.{none, turn, entry}
+use Rattle.executor_laws.proofs.{Types.Waker, Types.Hint, Types.Step, Types.StepError, Types.UserEnd, Marking.MarkSteps.IsOther}
 
 -- they are kept by each part but turns and acceptances
 marks : {T : Event → Type 0} (z a b c : Bool) → z ≡ false → ((e : Event) → T e → IsOther e) → Parts Keeps T z a b c

@@ -4,8 +4,8 @@ use Rattle.std.proofs.Common.{ℕ, zero, suc, ◌<◌, ◌≤◌, List, [], ◌�
 use Rattle.std.specs.Prelude.{slice_index_or}
 use Rattle.executor_model.specs.{Sound.times, Steps.run, Steps.start, World.queue_of}
 use Rattle.executor_laws.specs.Looks.{AreQueuedByMark}
-use Rattle.executor_model.proofs.{Types.Kind, Types.Step, Sleepers.TickLists.same_self}
-use Rattle.executor_laws.proofs.Reach.Marked.{marked}
+use Rattle.executor_model.proofs.Sleepers.TickLists.{same_self}
+use Rattle.executor_laws.proofs.{Types.Kind, Types.Step, Reach.Marked.marked}
 
 -- what stands at a place stands there
 times-at : (xs : List ℕ) (i d : ℕ) → i < length xs → 1 ≤ times (slice_index_or xs i d) xs

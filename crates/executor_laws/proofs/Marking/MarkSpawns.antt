@@ -5,7 +5,7 @@ use Rattle.std.proofs.Common.{false, cond, refl, sym, ap, subst, arith, append-n
 use Rattle.std.proofs.lemmas.List.{append_cancel_left, reverse-append, take_at}
 use Rattle.std.specs.Prelude.{Option, Some, reverse, slice_get, slice_index_or}
 use Rattle.executor_parts.specs.Marks.{same_mark}
-use Rattle.executor_model.proofs.Types.{Mark, Plain, Urgent, Call, Reply, Event, Kind, Hold, Op, TableOp, Waker, Step}
+use Rattle.executor_laws.proofs.Types.{Mark, Plain, Urgent, Call, Reply, Event, Kind, Hold, Op, TableOp, Waker, Step}
 use Rattle.executor_model.specs.Calls.{Begun, Ended, calls}
 use Rattle.executor_model.specs.Steps.{Machine, accepts, begun, below_top, mine, react, run, stack, start, step, stepped, top}
 use Rattle.executor_model.specs.World.{Done, World, done, log, mark_of}

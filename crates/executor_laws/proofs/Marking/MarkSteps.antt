@@ -3,7 +3,7 @@
 -- is told of, and what else changes a world keeps them.
 use Rattle.std.proofs.Common.{◌≡◌, ℕ, List, [], ◌∷◌, ◌++◌, length, refl, ap, ◌∙◌, append-nil}
 use Rattle.executor_parts.specs.Marks.{first_of, turn_after}
-use Rattle.executor_model.proofs.Types.{Mark, Event, Op, TableOp}
+use Rattle.executor_laws.proofs.Types.{Mark, Event, Op, TableOp}
 use Rattle.executor_model.specs.{Acts.turned, World.World, World.log, ClosingOrder.accepted_in, Trace.Trace}
 use Rattle.executor_laws.specs.Looks.{looked}
 

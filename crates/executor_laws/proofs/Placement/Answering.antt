@@ -4,19 +4,19 @@
 use Rattle.std.proofs.Common.{◌≡◌, ◌∙◌, ℕ, ◌+◌, ◌≤◌, ◌%◌, List, [], ◌∷◌, ◌++◌, length, Bool, true, false, refl, sym, ap, arith}
 use Rattle.std.specs.Prelude.{Option, Some, None}
 use Rattle.executor_parts.specs.Sleepers.{waker_at}
-use Rattle.executor_model.proofs.Types.{Look, First, Second, Reply, Answer, Event, Hold, ListOp, Op, Polled, RunOp, RunPoll}
-use Rattle.executor_model.proofs.Types.{Section, TickOrRun, SleeperOp, Sleeping, StealOp, TickOp, UserOp, Waker, Task, Outside}
+use Rattle.executor_laws.proofs.Types.{WakerOp, Hint, UserEnd, Look, First, Second, Reply, Answer, Event, Hold, ListOp, Op}
+use Rattle.executor_laws.proofs.Types.{Polled, RunOp, RunPoll, Section, TickOrRun, SleeperOp, Sleeping, StealOp, TickOp, UserOp}
+use Rattle.executor_laws.proofs.Types.{Waker, Task, Outside}
 use Rattle.executor_model.specs.ActsOfSleepers.{copy_sleeper_by, held_as, sleep_again_by, sleep_anew_by, fall_asleep_by}
+use Rattle.executor_model.specs.ActsOfSleepers.{sleep_listed_by, pend_as, look_tick_by, sleeper_goes}
 use Rattle.executor_model.specs.World.{queue_of, World, Ticker, Awake, Asleep, Left, log, own_of, place_of, task}
 use Rattle.executor_model.specs.ActsOfRuns.{call_by_reference, make_room_by, make_run_by, reschedule_by, wake_own}
-use Rattle.executor_model.specs.ActsOfSleepers.{sleep_listed_by, pend_as, look_tick_by, sleeper_goes}
 use Rattle.executor_model.specs.{Acts.mark_in, Acts.copy_by, Doing.act, Doing.list_act, Doing.run_act, Doing.search_by_who}
 use Rattle.executor_model.specs.{Doing.steal_act, Steps.accepts, Steps.react, Weights.same, Weights.weigh, Weights.is_run}
-use Rattle.executor_model.proofs.Steps.Lists.{same_is, weigh-append}
 use Rattle.executor_model.proofs.OwnQueues.Using.{Mild, is_for_runs, mild-aside, mild-next, mild-polling, polling_of}
 use Rattle.executor_model.proofs.OwnQueues.UsingRuns.{Part, part-common, part-look, part-own, part-steal, part-walk}
-use Rattle.executor_model.proofs.{Types.WakerOp, Types.Hint, Types.UserEnd, Steps.Asides.aside-owed, Quiet.Calls.calling_of}
-use Rattle.executor_model.proofs.{Steps.SleepersNext.goes-unseen, OwnQueues.RunsDone.poll_in}
+use Rattle.executor_model.proofs.{Steps.Lists.same_is, Steps.Lists.weigh-append, Steps.Asides.aside-owed}
+use Rattle.executor_model.proofs.{Quiet.Calls.calling_of, Steps.SleepersNext.goes-unseen, OwnQueues.RunsDone.poll_in}
 use Rattle.task_moves.specs.Moves as moves
 
 -- what a run does that is ready

@@ -4,8 +4,9 @@ use Rattle.std.proofs.Common.{◌≡◌, ◌∙◌, ℕ, zero, suc, ◌+◌, ◌
 use Rattle.std.proofs.Common.{refl, sym, ap, subst, arith}
 use Rattle.std.specs.Prelude.{Option, Some, slice_get}
 use Rattle.std.{proofs.lemmas.Bool.Decides.nat_tests, proofs.lemmas.List.length-append}
+use Rattle.executor_laws.proofs.Types.{Event}
 use Rattle.executor_model.specs.{AwaiterKept.since, Keeper.is_kept, Keeper.is_run_drop, Trace.Trace, Trace.has, Trace.is_poll}
-use Rattle.executor_model.proofs.{Types.Event, Steps.Pushes.any-push, Polls.Dueness.by_last}
+use Rattle.executor_model.proofs.{Steps.Pushes.any-push, Polls.Dueness.by_last}
 use Rattle.executor_laws.proofs.Placement.Opens.{get-old, get-new, since-old, since-new}
 
 pub record Bond : Type 0 where

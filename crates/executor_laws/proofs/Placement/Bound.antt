@@ -7,9 +7,9 @@ use Rattle.std.proofs.lemmas.Bool.Decides.{nat_tests}
 use Rattle.executor_model.specs.World.{World, Ended, own_of, run_of}
 use Rattle.executor_model.specs.{Keeper.is_run_drop, Sound.Pend, Sound.times, Trace.Trace, Trace.has}
 use Rattle.executor_model.proofs.Steps.TraceGrows.{Grows, is_ordinary}
-use Rattle.executor_model.proofs.{Types.Event, OwnQueues.UsingWorlds.is_past, Steps.TraceMore.over-more}
+use Rattle.executor_model.proofs.{OwnQueues.UsingWorlds.is_past, Steps.TraceMore.over-more}
 use Rattle.executor_laws.proofs.Placement.Bonds.{Bond, binds, bond, bond-push}
-use Rattle.executor_laws.proofs.{Placement.Ran.has-same, Placement.Safe.Safe}
+use Rattle.executor_laws.proofs.{Types.Event, Placement.Ran.has-same, Placement.Safe.Safe}
 
 abbrev pub kept : ℕ → World → Type 0
 kept f w = (bond f w.trace).kept ≡ true

@@ -3,8 +3,8 @@
 use Rattle.std.proofs.Common.{◌≡◌, ◌≢◌, ◌∙◌, inl, inr, ⊎_elim, ℕ, zero, suc, ◌+◌, ◌<◌, ◌≤◌, List, [], ◌∷◌, ◌++◌, length, set}
 use Rattle.std.proofs.Common.{get_or, Bool, true, false, not, eqb, refl, sym, ap, subst, arith, get_or-set_other}
 use Rattle.std.specs.Prelude.{reverse}
-use Rattle.executor_model.proofs.Types.{Move, Reply, Event, ListOp, Op, QueueOp, RunOp, Section, Steal, StealOp, TableOp}
-use Rattle.executor_model.proofs.Types.{WakerOp, HandleOp, SleeperOp, TickOp, ClosingOp, UserOp, Hint}
+use Rattle.executor_laws.proofs.Types.{Move, Reply, Event, ListOp, Op, QueueOp, RunOp, Section, Steal, StealOp, TableOp}
+use Rattle.executor_laws.proofs.Types.{WakerOp, HandleOp, SleeperOp, TickOp, ClosingOp, UserOp, Hint}
 use Rattle.executor_model.specs.Rows.{appends_of, past_of, running_of, waiting_of}
 use Rattle.executor_model.specs.Sound.{Pend, pend, times, times_in, with_ops}
 use Rattle.executor_model.specs.World.{World, Ended, Run, Done, among, log, log_if, no_run, own_of, run_of, task}

@@ -4,14 +4,14 @@ use Rattle.std.proofs.Common.{◌≡◌, ◌⊎◌, ◌∙◌, inl, inr, ⊎_eli
 use Rattle.std.proofs.Common.{Bool, true, false, ◌||◌, ltb, refl, sym, ap, subst, arith, get_or-set_same}
 use Rattle.std.proofs.lemmas.List.{length-append, get_or_past}
 use Rattle.std.specs.Prelude.{Option, Some, None, reverse}
-use Rattle.executor_model.proofs.Types.{State, Move, Call, Reply, Answer, Event, Kind, Hold, ListOp, Op, RunOp, RunPoll}
-use Rattle.executor_model.proofs.Types.{Section, Steal, StealOp, UserOp, Waker, Hint, Step, UserEnd}
+use Rattle.executor_laws.proofs.Types.{State, Move, Call, Reply, Answer, Event, Kind, Hold, ListOp, Op, RunOp, RunPoll, Section}
+use Rattle.executor_laws.proofs.Types.{Steal, StealOp, UserOp, Waker, Hint, Step, UserEnd}
 use Rattle.executor_model.specs.Steps.{Machine, accepts, begun, drop_run, future_of, has_all, is_there, kept, mine, poll_run}
 use Rattle.executor_model.specs.World.{World, Stage, New, Listed, Ended, Run, Done, blank, done, log, new_run, no_run, own_of}
-use Rattle.executor_model.specs.Rows.{appends_of, ending_of, polls_of, running_of}
 use Rattle.executor_model.specs.Steps.{react, run, stack, start, top, with_future}
-use Rattle.executor_model.specs.{Queues.Queues, Queues.all_in, Doing.act, Good.Good, OwnQueues.filling_of, Sound.pend}
-use Rattle.executor_model.specs.{Sound.times, Weights.weigh, Weights.weigh_all, World.run_of, World.task}
+use Rattle.executor_model.specs.Rows.{appends_of, ending_of, polls_of, running_of}
+use Rattle.executor_model.specs.{World.run_of, World.task, Queues.Queues, Queues.all_in, Doing.act, Good.Good}
+use Rattle.executor_model.specs.{OwnQueues.filling_of, Sound.pend, Sound.times, Weights.weigh, Weights.weigh_all}
 use Rattle.executor_model.proofs.Steps.Lift.{first-true, good-start, none_refused, split, unsettled, weigh_all-idle}
 use Rattle.executor_model.proofs.OwnQueues.OwnRooms.{Roomy, roomy-ends, roomy-moves}
 use Rattle.executor_model.proofs.Steps.TraceGrows.{Allows, AllowsCall, grows-act, grows-begun, grows-react}

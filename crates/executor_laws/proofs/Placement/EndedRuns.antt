@@ -2,7 +2,7 @@
 -- What a poll of a run that has ended does in its first step, and its last.
 use Rattle.std.proofs.Common.{◌∙◌, [], ◌∷◌, ◌++◌, length, ap, append_assoc}
 use Rattle.std.specs.Prelude.{reverse}
-use Rattle.executor_model.proofs.Types.{Call, Reply, Event, Hold, RunPoll, Begin}
+use Rattle.executor_laws.proofs.Types.{Call, Reply, Event, Hold, RunPoll, Begin}
 use Rattle.executor_model.specs.Steps.{Machine, mine, poll_run, settled, stack, top, waker_of}
 use Rattle.executor_model.specs.World.{Stage, World, log}
 use Rattle.executor_laws.specs.EndedRuns.{EndedIsFinished}

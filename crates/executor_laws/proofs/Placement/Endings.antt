@@ -3,9 +3,9 @@
 use Rattle.std.proofs.Common.{◌≡◌, ◌⊎◌, ◌∙◌, inl, inr, ⊎_elim, ℕ, suc, ◌<◌, ◌≤◌, [], ◌∷◌, ◌++◌, length, take, refl, sym, ap}
 use Rattle.std.{proofs.Common.subst, proofs.Common.arith, specs.Prelude.Some, specs.Prelude.count_by, specs.Prelude.slice_get}
 use Rattle.executor_model.specs.{AwaiterKept.EndsWith, AwaiterKept.since, Quiet.begins_call, Quiet.ends_call, Trace.Trace}
-use Rattle.executor_model.proofs.{Types.Reply, Types.Event, Quiet.Calls.begun_by, Quiet.Calls.ended_by}
+use Rattle.executor_model.proofs.Quiet.Calls.{begun_by, ended_by}
 use Rattle.executor_laws.proofs.Placement.Opens.{get-old, get-new, get-within, get-push, since-old, take-old, take-all, le-or}
-use Rattle.executor_laws.proofs.Placement.Opens.{IsOpen}
+use Rattle.executor_laws.proofs.{Types.Reply, Types.Event, Placement.Opens.IsOpen}
 
 begun-is : (p : ℕ) (es : Trace) → begun_by p es ≡ count_by (begins_call p) es
 unfolding begun_by

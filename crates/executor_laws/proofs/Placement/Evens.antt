@@ -2,7 +2,7 @@
 -- What is done but to the list of queues, and but for what comes into a run's own queue, leaves the runs at their stages
 -- and brings nothing into their own queues.
 use Rattle.std.proofs.Common.{◌≡◌, ◌∙◌, ℕ, zero, suc, ◌≤◌, List, [], ◌∷◌, length, set, get_or, true, refl, sym, ap, arith}
-use Rattle.executor_model.proofs.Types.{Answer, ListOp, Op, UserOp, Hint, UserEnd}
+use Rattle.executor_laws.proofs.Types.{Answer, ListOp, Op, UserOp, Hint, UserEnd}
 use Rattle.executor_model.specs.World.{World, Done, Ended, own_of, put_own, run_of}
 use Rattle.executor_model.specs.{Doing.act, Doing.list_act, Sound.times, Steps.accepts, Steps.react}
 use Rattle.executor_model.proofs.OwnQueues.RunsAside.{Hull, coat, hull, hull_of, stages-at}

@@ -6,7 +6,8 @@ use Rattle.std.proofs.Common.{Bool, true, false, eqb, cond, refl, sym, ap, subst
 use Rattle.std.proofs.lemmas.Bool.Decides.{nat_tests}
 use Rattle.std.proofs.lemmas.List.{append_assoc, reverse-append, reverse-reverse}
 use Rattle.std.specs.Prelude.{Option, Some, None, reverse}
-use Rattle.executor_model.proofs.Types.{Move, By, Call, Reply, Answer, Event, Kind, Hold, Op, RunPoll, StealOp, UserOp, Waker}
+use Rattle.executor_laws.proofs.Types.{Hint, Step, UserEnd, Move, By, Call, Reply, Answer, Event, Kind, Hold, Op, RunPoll}
+use Rattle.executor_laws.proofs.Types.{StealOp, UserOp, Waker}
 use Rattle.executor_model.specs.Steps.{Machine, accepts, begun, drop_run, future_of, kept, mine, poll_run, react, run, stack}
 use Rattle.executor_model.specs.Steps.{start, top, waker_of, with_future}
 use Rattle.executor_model.specs.World.{World, Stage, New, Listed, Ended, Done, done, log, run_of}
@@ -15,10 +16,10 @@ use Rattle.executor_model.proofs.Quiet.Calls.{calling_of, Answering, single, the
 use Rattle.executor_model.proofs.Steps.Lists.{same_is, weigh-append, weigh-below}
 use Rattle.executor_model.proofs.Quiet.Resting.{Opens, idle-stack, opens as begins-answering}
 use Rattle.executor_model.proofs.Steps.TraceGrows.{Grows, Allows, is_ordinary, grows-act, grows-begun, grows-react}
-use Rattle.executor_model.proofs.{Types.Hint, Types.Step, Types.UserEnd, Quiet.CallsGroups.calls-act, Steps.Lift.none_refused}
-use Rattle.executor_model.proofs.{Steps.Lift.unsettled, Steps.Lift.good-start, Awaiters.AwaitedTies.stack-then, Steps.Ways.Way}
-use Rattle.executor_model.proofs.{Steps.Ways.along, Steps.Ways.Way.acted, Steps.Ways.Way.reacted, Steps.Ways.Way.called}
-use Rattle.executor_model.proofs.{Steps.Tests.left-false, Steps.Tests.right-false}
+use Rattle.executor_model.proofs.Steps.Lift.{none_refused, unsettled, good-start}
+use Rattle.executor_model.proofs.Steps.Ways.Way.{acted, reacted, called}
+use Rattle.executor_model.proofs.{Quiet.CallsGroups.calls-act, Awaiters.AwaitedTies.stack-then, Steps.Ways.Way}
+use Rattle.executor_model.proofs.{Steps.Ways.along, Steps.Tests.left-false, Steps.Tests.right-false}
 use Rattle.executor_laws.proofs.Placement.Answering.{answers_of, other_of, few, Hands, hands-act, hands-react, is_end}
 use Rattle.executor_laws.proofs.Placement.Opens.{Open, opens, opens_one, opens-push, opens-none}
 use Rattle.executor_laws.proofs.Placement.Opened.{Tells, at, tells-none, tells-push, tells-poll, polls_no_run}

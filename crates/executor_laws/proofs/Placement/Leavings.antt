@@ -4,12 +4,13 @@
 use Rattle.std.proofs.Common.{◌≡◌, ◌∙◌, ℕ, zero, suc, ◌≤◌, ◌%◌, List, [], ◌∷◌, length, Bool, true, false, refl, ap, arith}
 use Rattle.std.specs.Prelude.{Option, Some, None}
 use Rattle.executor_parts.specs.Sleepers.{waker_at}
-use Rattle.executor_model.proofs.Types.{Look, First, Second, Call, Reply, Answer, Event, Hold, ListOp, Op, Polled, RunOp}
-use Rattle.executor_model.proofs.Types.{RunPoll, Section, TickOrRun, Sleeping, Steal, Then, TickOp, UserOp, Waker, Task}
+use Rattle.executor_laws.proofs.Types.{Outside, WakerOp, Hint, UserEnd, Look, First, Second, Call, Reply, Answer, Event, Hold}
+use Rattle.executor_laws.proofs.Types.{ListOp, Op, Polled, RunOp, RunPoll, Section, TickOrRun, Sleeping, Steal, Then, TickOp}
+use Rattle.executor_laws.proofs.Types.{UserOp, Waker, Task}
 use Rattle.executor_model.specs.World.{queue_of, World, Ticker, Awake, Asleep, Left, Stage, New, Listed, Ended, Done, log}
 use Rattle.executor_model.specs.ActsOfSleepers.{copy_sleeper_by, sleep_again_by, sleep_anew_by, fall_asleep_by, sleep_listed_by}
-use Rattle.executor_model.specs.ActsOfRuns.{call_by_reference, make_room_by, make_run_by, reschedule_by, steal_by, wake_own}
 use Rattle.executor_model.specs.ActsOfSleepers.{held_as, pend_as, look_tick_by, sleeper_goes}
+use Rattle.executor_model.specs.ActsOfRuns.{call_by_reference, make_room_by, make_run_by, reschedule_by, steal_by, wake_own}
 use Rattle.executor_model.specs.Steps.{accepts, begun, drop_run, future_of, kept, poll_run, react, with_future}
 use Rattle.executor_model.specs.{World.own_of, World.task, Acts.mark_in, Acts.copy_by, Doing.act, Doing.list_act, Doing.run_act}
 use Rattle.executor_model.specs.{Doing.search_by_who, Rows.running_of, Weights.is_run, Weights.same, Weights.weigh}
@@ -17,8 +18,8 @@ use Rattle.executor_model.proofs.Steps.Lists.{same_is, weigh-append, weigh-below
 use Rattle.executor_model.proofs.OwnQueues.RunsMoving.{Weighs, by_then, weighs-stolen}
 use Rattle.executor_model.proofs.OwnQueues.Using.{Mild, is_for_runs, mild-aside, mild-next}
 use Rattle.executor_model.proofs.OwnQueues.UsingRuns.{Part, part-common, part-look, part-own, part-steal, part-walk}
-use Rattle.executor_model.proofs.{Types.Outside, Types.WakerOp, Types.Hint, Types.UserEnd, Steps.Asides.aside-owed}
-use Rattle.executor_model.proofs.{Quiet.Calls.calling_of, Steps.SleepersNext.goes-unseen, OwnQueues.RunsDone.poll_in}
+use Rattle.executor_model.proofs.Steps.SleepersNext.{goes-unseen}
+use Rattle.executor_model.proofs.{Steps.Asides.aside-owed, Quiet.Calls.calling_of, OwnQueues.RunsDone.poll_in}
 use Rattle.executor_laws.proofs.Placement.Answering.{is_end, readying_of}
 use Rattle.task_moves.specs.Moves as moves
 

@@ -2,7 +2,7 @@
 -- No run looks at the executor's queues as ticks do.
 use Rattle.std.proofs.Common.{◌≡◌, ℕ, ◌<◌, ◌≤◌, ◌%◌, List, [], ◌∷◌, ◌++◌, length, Bool, true, false, refl, ap, arith}
 use Rattle.std.specs.Prelude.{reverse}
-use Rattle.executor_model.proofs.Types.{Reply, Event, Kind, Hold, ListOp, Op, RunPoll, Section, Steal, TickOp, Hint, Step}
+use Rattle.executor_laws.proofs.Types.{Reply, Event, Kind, Hold, ListOp, Op, RunPoll, Section, Steal, TickOp, Hint, Step}
 use Rattle.executor_model.specs.Steps.{Machine, begun, mine, react, run, stack, start, top}
 use Rattle.executor_model.specs.Weights.{is_run, weigh, weigh_all}
 use Rattle.executor_model.specs.{Doing.list_act, Good.Good, OwnQueues.empty_of, World.World, World.Done, World.done, World.log}
@@ -13,7 +13,7 @@ use Rattle.executor_model.proofs.Steps.Lift.{good-start, split, unsettled, weigh
 use Rattle.executor_model.proofs.Steps.Lists.{weigh-below, weigh_all-push}
 use Rattle.executor_model.proofs.Steps.Ways.Way.{acted, called, reacted}
 use Rattle.executor_model.proofs.OwnQueues.OwnCounts.{counts-begun, counts-empty, counts-react}
-use Rattle.executor_model.proofs.{Steps.Ways.Way, Steps.Ways.along, OwnQueues.RunsDone.stole, OwnQueues.RunsDone.looks}
+use Rattle.executor_model.proofs.{OwnQueues.RunsDone.stole, OwnQueues.RunsDone.looks, Steps.Ways.Way, Steps.Ways.along}
 use Rattle.executor_model.specs.ActsOfRuns as runs
 
 abbrev pub astray : ℕ → Op → ℕ

@@ -4,9 +4,9 @@ use Rattle.std.proofs.Common.{◌≡◌, ◌∙◌, ⊎_elim, ℕ, zero, suc, �
 use Rattle.std.proofs.Common.{false, eqb, cond, refl, sym, ap, subst, arith}
 use Rattle.std.proofs.lemmas.Bool.Decides.{nat_tests}
 use Rattle.std.specs.Prelude.{Option, Some, None, slice_get}
+use Rattle.executor_laws.proofs.Types.{Reply, Event}
 use Rattle.executor_model.specs.{Trace.Trace, Weights.same}
-use Rattle.executor_model.proofs.Quiet.Calls.{begin_of, end_of}
-use Rattle.executor_model.proofs.{Types.Reply, Types.Event, Steps.Lists.same_is, Polls.Dueness.by_last}
+use Rattle.executor_model.proofs.{Quiet.Calls.begin_of, Quiet.Calls.end_of, Steps.Lists.same_is, Polls.Dueness.by_last}
 use Rattle.executor_laws.proofs.Placement.Opens.{Open, opens, opens_one, opens-push, opens-none, get-old, get-new, get-push}
 use Rattle.executor_laws.proofs.Placement.Opens.{IsOpen, open-push, open-now, Before, open-before}
 

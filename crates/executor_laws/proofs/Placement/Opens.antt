@@ -4,7 +4,7 @@ use Rattle.std.proofs.Common.{◌≡◌, ◌⊎◌, ◌∙◌, inl, inr, ⊎_eli
 use Rattle.std.proofs.Common.{drop, take, eqb, cond, refl, sym, ap, subst, arith}
 use Rattle.std.proofs.lemmas.List.{length-append}
 use Rattle.std.specs.Prelude.{Option, Some, None, slice_get}
-use Rattle.executor_model.proofs.Types.{Event}
+use Rattle.executor_laws.proofs.Types.{Event}
 use Rattle.executor_model.specs.{AwaiterKept.since, Trace.Trace}
 use Rattle.executor_model.proofs.Quiet.Calls.{begun_by, ended_by, begin_of, end_of, begun-push, ended-push}
 

@@ -4,20 +4,20 @@ use Rattle.std.proofs.Common.{◌≡◌, ◌⊎◌, ◌∙◌, inl, inr, ⊎_eli
 use Rattle.std.proofs.Common.{Bool, true, false, ltb, refl, sym, ap, arith}
 use Rattle.std.specs.Prelude.{Option, Some, None}
 use Rattle.std.{proofs.Math.ListN.length-set, proofs.lemmas.Bool.Decides.nat_tests}
-use Rattle.executor_model.proofs.Types.{Call, Reply, Event, Kind, ListOp, Op, Section, Steal, StealOp, Waker, Hint, Step, Begin}
+use Rattle.executor_laws.proofs.Types.{Go, StepError, Call, Reply, Event, Kind, ListOp, Op, Section, Steal, StealOp, Waker}
 use Rattle.executor_model.specs.declared.step.Step.TheVariants.{Answer}
 use Rattle.executor_model.specs.Steps.{Machine, answer_refusal, begun, gone_on, mine, part_after, part_refusal, party_of, react}
 use Rattle.executor_model.specs.Steps.{refusal, run, settled_by, stack, start, step, step_by, stepped, top}
 use Rattle.executor_model.specs.World.{Done, Ended, New, Run, World, log, new_run, no_run, put_own, run_of}
 use Rattle.executor_model.specs.{ActsOfRuns.make_run_by, Doing.act, Keeper.is_run_drop, Trace.has, Weights.weigh_all}
 use Rattle.executor_laws.specs.RunEnds.{EndsOnlyByItsOwn, OwnIsReady, OwnWasReady}
-use Rattle.executor_model.proofs.OwnQueues.RunsDone.{Deed, deed-act}
-use Rattle.executor_model.proofs.{Types.Go, Types.StepError, OwnQueues.UsingRuns.is_even, OwnQueues.UsingWorlds.idle-coat}
-use Rattle.executor_model.proofs.{Steps.Lift.weigh_all-idle, Steps.Reached.Reached}
+use Rattle.executor_model.proofs.{OwnQueues.RunsDone.Deed, OwnQueues.RunsDone.deed-act, OwnQueues.UsingRuns.is_even}
+use Rattle.executor_model.proofs.{OwnQueues.UsingWorlds.idle-coat, Steps.Lift.weigh_all-idle, Steps.Reached.Reached}
 use Rattle.executor_laws.proofs.Placement.OwnReady.{Kept, Lasts, apart-here, ended-here, idle-still, lasts-on, not-both}
-use Rattle.executor_laws.proofs.Fewness.Untaken.{registered-same, unregistered-same}
 use Rattle.executor_laws.proofs.Placement.OwnReady.{on-part, ran-here, reached-on, there}
-use Rattle.executor_laws.proofs.{Placement.Answering.readying_of, Placement.Evens.even-act, Placement.Evens.even-react}
+use Rattle.executor_laws.proofs.Fewness.Untaken.{registered-same, unregistered-same}
+use Rattle.executor_laws.proofs.Placement.Evens.{even-act, even-react}
+use Rattle.executor_laws.proofs.{Types.Hint, Types.Step, Types.Begin, Placement.Answering.readying_of}
 use Rattle.executor_laws.proofs.{Placement.Leavings.drops_run, Placement.RunningSteps.runs-begun, Reach.LoneSteps.answers}
 
 -- no run more is there, or one that is new

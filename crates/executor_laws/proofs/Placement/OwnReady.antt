@@ -4,8 +4,8 @@ use Rattle.std.proofs.Common.{◌≡◌, ◌≢◌, ◌⊎◌, ◌∙◌, inl, i
 use Rattle.std.proofs.Common.{set, get_or, Bool, true, false, eqb, ltb, refl, sym, ap, subst, arith, get_or-set_other}
 use Rattle.std.proofs.lemmas.Bool.Decides.{nat_tests}
 use Rattle.std.specs.Prelude.{Option, Some, None, reverse}
-use Rattle.executor_model.proofs.Types.{Call, Reply, Answer, Event, ListOp, Look, First, Second, Op, RunOp, RunPoll, Section}
-use Rattle.executor_model.proofs.Types.{Sleeping, Steal, StealOp, TickOp, UserOp, Waker, Hint, Step, StepError, NoSuch}
+use Rattle.executor_laws.proofs.Types.{WrongAnswer, UserEnd, Call, Reply, Answer, Event, ListOp, Look, First, Second, Op, RunOp}
+use Rattle.executor_laws.proofs.Types.{RunPoll, Section, Sleeping, Steal, StealOp, TickOp, UserOp, Waker, Hint, Step, StepError}
 use Rattle.executor_model.specs.Steps.{Machine, Part, accepts, answer_refusal, begun, below_top, drop_run, end_of, gone_on}
 use Rattle.executor_model.specs.Steps.{mine, onto, part_after, part_refusal, party_of, poll_run, react, refusal, run}
 use Rattle.executor_model.specs.World.{World, Stage, New, Listed, Ended, Run, Done, Ticker, Asleep, Awake, Left, log, new_run}
@@ -15,15 +15,16 @@ use Rattle.executor_model.specs.{Acts.mark_in, ActsOfSleepers.look_tick_by, Doin
 use Rattle.executor_model.specs.{Trace.has, Weights.is_run, Weights.same, Weights.weigh, Weights.weigh_all}
 use Rattle.executor_laws.specs.RunEnds.{EndsByItsOwn, OwnIsReady, OwnWasReady, WasAnsweredReady}
 use Rattle.executor_model.proofs.Steps.Lists.{same_cases, weigh-append, weigh-below, weigh-reverse, weigh_all-below}
-use Rattle.executor_model.proofs.{Types.WrongAnswer, Types.UserEnd, OwnQueues.RunsAside.hull_of, OwnQueues.RunsDone.Deed}
-use Rattle.executor_model.proofs.{OwnQueues.RunsDone.deed-act, OwnQueues.UsingRuns.is_even, Promises.CallPromises.has-left}
-use Rattle.executor_model.proofs.{Steps.Begins.unborrowed, Steps.Lift.topped, Steps.Lists.weigh_all-set, Steps.Reached.Reached}
-use Rattle.executor_model.proofs.{Steps.Tests.and-right, Steps.TraceSteps.continues}
+use Rattle.executor_model.proofs.OwnQueues.RunsDone.{Deed, deed-act}
+use Rattle.executor_model.proofs.{Steps.Lists.weigh_all-set, OwnQueues.RunsAside.hull_of, OwnQueues.UsingRuns.is_even}
+use Rattle.executor_model.proofs.{Promises.CallPromises.has-left, Steps.Begins.unborrowed, Steps.Lift.topped}
+use Rattle.executor_model.proofs.{Steps.Reached.Reached, Steps.Tests.and-right, Steps.TraceSteps.continues}
 use Rattle.executor_laws.proofs.Placement.Leavings.{dropping_of, drops_run, leaves, leaving-uses, leaving_of, none-begun}
-use Rattle.executor_laws.proofs.{Placement.Answering.held, Placement.Answering.readying_of, Placement.BoundWays.bonded}
-use Rattle.executor_laws.proofs.{Placement.Evens.even-act, Placement.Evens.even-react, Placement.Evens.same-stage}
-use Rattle.executor_laws.proofs.{Placement.Leavings.none-by, Placement.Leavings.readying-leaves, Placement.OfTicks.NoneAstray}
-use Rattle.executor_laws.proofs.{Placement.OfTicks.astray, Placement.OfTicks.none-astray, Placement.RunAnswers.ready-at-the-end}
+use Rattle.executor_laws.proofs.Placement.Leavings.{none-by, readying-leaves}
+use Rattle.executor_laws.proofs.Placement.Answering.{held, readying_of}
+use Rattle.executor_laws.proofs.Placement.Evens.{even-act, even-react, same-stage}
+use Rattle.executor_laws.proofs.Placement.OfTicks.{NoneAstray, astray, none-astray}
+use Rattle.executor_laws.proofs.{Types.NoSuch, Placement.BoundWays.bonded, Placement.RunAnswers.ready-at-the-end}
 use Rattle.executor_laws.proofs.{Placement.Running.RanIn, Placement.RunningSteps.runs-begun}
 use Rattle.executor_model.specs.ActsOfRuns as runs
 

@@ -3,19 +3,20 @@
 use Rattle.std.proofs.Common.{◌≡◌, ◌⊎◌, ◌∙◌, inl, inr, ⊎_elim, ℕ, zero, suc, ◌+◌, ◌<◌, ◌≤◌, List, [], ◌∷◌, get_or, Bool, true}
 use Rattle.std.proofs.Common.{false, ◌||◌, refl, sym, ap, subst, arith}
 use Rattle.std.specs.Prelude.{Some, count_by}
+use Rattle.executor_laws.proofs.Types.{Event, Kind, Op, Step}
 use Rattle.executor_model.specs.Rows.{appends_of, closing_of, drops_of, ending_of, giving_of, leaking_of, polls_of, ready_of}
 use Rattle.executor_model.specs.Trace.{Trace, has, is_accepted, is_dropped, is_ready}
 use Rattle.executor_model.specs.World.{Ended, own_of, queued_in, run_of, task}
-use Rattle.executor_model.specs.{AwaiterKept.since, Due.IsDue, Emptiness.IsAtRest, Good.Good, Keeper.IsCommon, Keeper.IsKeeper}
-use Rattle.executor_model.specs.{Keeper.is_run_drop, Rows.settling_of, Rows.waiting_of, Sound.pend, Sound.queued, Sound.times}
+use Rattle.executor_model.specs.{Rows.settling_of, Rows.waiting_of, AwaiterKept.since, Due.IsDue, Emptiness.IsAtRest, Good.Good}
+use Rattle.executor_model.specs.{Keeper.IsCommon, Keeper.IsKeeper, Keeper.is_run_drop, Sound.pend, Sound.queued, Sound.times}
 use Rattle.executor_model.specs.{Sound.times_in, Steps.Machine, Steps.run, Steps.stack, Steps.start, Weights.weigh_all}
 use Rattle.executor_laws.specs.Places.{StandsWithKeeper}
 use Rattle.executor_model.proofs.OneFuture.Telling.{accepted-counts, begun-has, counted-there, fallen-counts, there-or-none}
 use Rattle.executor_model.proofs.Polls.Dueness.{asked-is, not-over, ready-is, unopened}
-use Rattle.executor_model.proofs.{Types.Event, Types.Kind, Types.Op, Types.Step, Polls.AskingExecutions.Heard}
-use Rattle.executor_model.proofs.{Polls.AskingExecutions.heard, Steps.Lift.good, Quiet.Resting.Deep, Quiet.Resting.all-rest}
-use Rattle.executor_model.proofs.{Quiet.Resting.deep, Quiet.Resting.rests, OneFuture.Stories.story, OwnQueues.Using.emptying_of}
-use Rattle.executor_model.proofs.{OwnQueues.UsingWorlds.is_over_stage, OwnQueues.UsingWorlds.is_past}
+use Rattle.executor_model.proofs.Polls.AskingExecutions.{Heard, heard}
+use Rattle.executor_model.proofs.Quiet.Resting.{Deep, all-rest, deep, rests}
+use Rattle.executor_model.proofs.OwnQueues.UsingWorlds.{is_over_stage, is_past}
+use Rattle.executor_model.proofs.{Steps.Lift.good, OneFuture.Stories.story, OwnQueues.Using.emptying_of}
 use Rattle.executor_laws.proofs.Placement.Bonds.{Bond, bond, bond-is, reads}
 use Rattle.executor_laws.proofs.Placement.BoundWays.{Bonded, bonded}
 use Rattle.executor_laws.proofs.{Placement.Answering.readying_of, Placement.Ran.AllReady, Placement.Safe.Safe}

@@ -3,10 +3,11 @@
 use Rattle.std.proofs.Common.{◌≡◌, ◌⊎◌, ◌∙◌, ⊎_elim, ℕ, ◌<◌, ◌≤◌, [], ◌∷◌, ◌++◌, length, Bool, true, false, ◌||◌, eqb, refl}
 use Rattle.std.proofs.Common.{sym, ap, arith}
 use Rattle.std.{proofs.lemmas.Bool.Decides.nat_tests, specs.Prelude.Some, specs.Prelude.slice_get}
+use Rattle.executor_laws.proofs.Types.{Reply, Event, TickOrRun}
 use Rattle.executor_model.specs.{AwaiterKept.EndsWith, AwaiterKept.since, Keeper.AnswersReady, Keeper.is_run_drop}
 use Rattle.executor_model.specs.{Standing.polls_sleeper, Trace.Trace, Trace.has, World.World, World.Ended, World.run_of}
 use Rattle.executor_model.proofs.OwnQueues.UsingWorlds.{is_over_stage, is_past}
-use Rattle.executor_model.proofs.{Types.Reply, Types.Event, Types.TickOrRun, Steps.TraceGrows.is_ordinary}
+use Rattle.executor_model.proofs.Steps.TraceGrows.{is_ordinary}
 use Rattle.executor_model.proofs.{Steps.Pushes.any-push, Steps.TraceMore.over-more, Steps.Tests.or-right}
 use Rattle.executor_laws.proofs.Placement.Endings.{ends-before, ends-later}
 use Rattle.executor_laws.proofs.Placement.Opens.{IsOpen, get-old, get-push, get-within, since-new}

@@ -5,7 +5,7 @@ use Rattle.std.proofs.Common.{◌≡◌, ◌≢◌, ◌⊎◌, ◌∙◌, inl, i
 use Rattle.std.proofs.Common.{set, get_or, Bool, true, false, ◌||◌, eqb, refl, sym, ap, subst, arith, get_or-set_same}
 use Rattle.std.{proofs.Common.get_or-set_other, proofs.lemmas.Bool.Decides.nat_tests, proofs.lemmas.List.length-append}
 use Rattle.std.{proofs.lemmas.List.get_or_past, specs.Prelude.Some, specs.Prelude.reverse, specs.Prelude.slice_get}
-use Rattle.executor_model.proofs.Types.{Reply, Event, ListOp, Op, RunOp, RunPoll, Section, TickOrRun, Steal, StealOp, UserOp}
+use Rattle.executor_laws.proofs.Types.{Reply, Event, ListOp, Op, RunOp, RunPoll, Section, TickOrRun, Steal, StealOp, UserOp}
 use Rattle.executor_model.specs.World.{World, Stage, New, Listed, Ended, Run, Done, done, new_run, no_run, run_of}
 use Rattle.executor_model.specs.{Keeper.is_run_drop, Rows.running_of, Standing.polls_sleeper, Steps.Machine, Steps.run}
 use Rattle.executor_model.specs.{Steps.stack, Trace.Trace, Trace.has, Weights.same, Weights.weigh, Weights.weigh_all}
@@ -17,8 +17,8 @@ use Rattle.executor_model.proofs.{OwnQueues.UsingRuns.idle-more, OwnQueues.Using
 use Rattle.executor_laws.proofs.Placement.Leavings.{Leaves, dropping_of, leaves-none, leaving_of, leaving-more, leaving-uses}
 use Rattle.executor_laws.proofs.Placement.Ran.{Alike, AllReady, Ran, ReadyOnly, alike-more, has-same, is_of_runs, only-push}
 use Rattle.executor_laws.proofs.Placement.Leavings.{off_of, off-leaves, dropping-leaves}
-use Rattle.executor_laws.proofs.{Placement.Answering.readying_of, Placement.Evens.Even, Placement.Evens.even-idle}
-use Rattle.executor_laws.proofs.{Placement.Opens.le-or, Placement.Ran.ordinary-runs, Placement.Ran.ready-push}
+use Rattle.executor_laws.proofs.{Placement.Ran.ordinary-runs, Placement.Ran.ready-push, Placement.Answering.readying_of}
+use Rattle.executor_laws.proofs.{Placement.Evens.Even, Placement.Evens.even-idle, Placement.Opens.le-or}
 use Rattle.executor_model.specs.ActsOfRuns as runs
 
 abbrev pub RanIn : Machine → ℕ → Type 0

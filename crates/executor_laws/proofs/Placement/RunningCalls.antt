@@ -5,7 +5,7 @@ use Rattle.std.proofs.Common.{drop, set, get_or, true, false, eqb, refl, sym, ap
 use Rattle.std.proofs.lemmas.List.{get_or_past, length-drop}
 use Rattle.std.specs.Prelude.{Option, Some, None, reverse, slice_get}
 use Rattle.std.{proofs.Common.get_or-set_other, proofs.lemmas.Bool.Decides.nat_tests}
-use Rattle.executor_model.proofs.Types.{By, Call, Reply, Event, Hold, Op, TickOrRun, Waker}
+use Rattle.executor_laws.proofs.Types.{By, Call, Reply, Event, Hold, Op, TickOrRun, Waker}
 use Rattle.executor_model.specs.Steps.{Machine, begun, is_there, stack}
 use Rattle.executor_model.specs.World.{World, Ended, Run, done, log, no_run, run_of}
 use Rattle.executor_model.specs.{AwaiterKept.EndsWith, AwaiterKept.since, Keeper.AnswersReady, Keeper.is_run_drop}

@@ -4,7 +4,7 @@ use Rattle.std.proofs.Common.{◌≡◌, ℕ, ◌+◌, ◌<◌, ◌≤◌, List,
 use Rattle.std.proofs.Common.{refl, ap, subst, arith}
 use Rattle.std.proofs.lemmas.Bool.Decides.{nat_tests}
 use Rattle.std.specs.Prelude.{Option, Some, None, reverse}
-use Rattle.executor_model.proofs.Types.{Move, Call, Event, ListOp, Op, Section, Steal, StealOp, Waker, Hint, UserEnd}
+use Rattle.executor_laws.proofs.Types.{Move, Call, Event, ListOp, Op, Section, Steal, StealOp, Waker, Hint, UserEnd}
 use Rattle.executor_model.specs.Steps.{Machine, accepts, begun, has_all, future_of, kept, mine, react, stack, top, with_future}
 use Rattle.executor_model.specs.World.{World, Run, Done, log, no_run, run_of}
 use Rattle.executor_model.specs.{Doing.act, OwnQueues.filling_of}
@@ -17,7 +17,7 @@ use Rattle.executor_laws.proofs.Placement.Evens.{Even, even-act, even-react}
 use Rattle.executor_laws.proofs.Placement.Leavings.{drops_run, leaves-act, leaves-react, is_unregister}
 use Rattle.executor_laws.proofs.Placement.Ran.{is_of_runs, ordinary-runs}
 use Rattle.executor_laws.proofs.Placement.RunningCalls.{ran-call, ran-drop, ran-end, ran-poll}
-use Rattle.executor_laws.proofs.{Placement.Answering.is_end, Placement.Frames.Frames, Placement.Running.stays-with}
+use Rattle.executor_laws.proofs.{Placement.Running.stays-with, Placement.Answering.is_end, Placement.Frames.Frames}
 use Rattle.executor_model.specs.ActsOfRuns as runs
 
 -- a steal that is on its way finds a place

@@ -1,7 +1,7 @@
 -- For due_futures_stand_with_their_keepers.
 -- What a run does takes from the executor's queues at most.
 use Rattle.std.proofs.Common.{◌≡◌, ◌≤◌, ℕ, List, [], ◌∷◌, drop, ap, arith}
-use Rattle.executor_model.proofs.Types.{Mark, Plain, Urgent}
+use Rattle.executor_laws.proofs.Types.{Mark, Plain, Urgent}
 use Rattle.executor_model.specs.{Queues.Queues, Queues.all_in, World.World, World.queued_in, Sound.times}
 use Rattle.executor_model.proofs.Awaiters.RunsQueue.Takes.{stays, first}
 use Rattle.executor_model.proofs.{Steps.Lists.times-append, Steps.QueuesByMark.without_first_of, Awaiters.RunsQueue.Takes}

@@ -3,16 +3,16 @@
 -- brings nothing into a run's own queue or from there.
 use Rattle.std.proofs.Common.{◌≡◌, ℕ, ◌+◌, ◌<◌, List, [], ◌∷◌, length, Bool, true, false, refl, ap, subst, arith}
 use Rattle.std.proofs.lemmas.List.{length-set}
-use Rattle.executor_model.proofs.Types.{Move, Answer, Event, Look, First, Second, Op, RunOp, TickOrRun, Sleeping, TableOp}
+use Rattle.executor_laws.proofs.Types.{TickOp, UserOp, Hint, Move, Answer, Event, Look, First, Second, Op, RunOp, TickOrRun}
 use Rattle.executor_model.specs.World.{World, Ticker, Awake, Asleep, Left, done, log, queue_of, task}
 use Rattle.executor_model.specs.{Acts.mark_in, ActsOfSleepers.look_tick_by, Doing.act, Doing.search_by_who, Good.pasts}
 use Rattle.executor_model.specs.{Rows.appends_of, Rows.past_of, Sound.Pend, Sound.with_ops, Weights.same, Weights.weigh}
-use Rattle.executor_model.proofs.{Types.TickOp, Types.UserOp, Types.Hint, Counts.Counting.taken_up}
-use Rattle.executor_model.proofs.{OneFuture.Effects.effect-act, OneFuture.Extras.runs_of, OneFuture.Extras.runs_of_who}
-use Rattle.executor_model.proofs.{Steps.Lists.read_put, Steps.Lists.same_is, Steps.QueuesByMark.times-first}
+use Rattle.executor_model.proofs.OneFuture.Extras.{runs_of, runs_of_who}
+use Rattle.executor_model.proofs.Steps.Lists.{read_put, same_is}
+use Rattle.executor_model.proofs.{Counts.Counting.taken_up, OneFuture.Effects.effect-act, Steps.QueuesByMark.times-first}
 use Rattle.executor_laws.proofs.Placement.Safe.{Floor, KeepsSafe, Safe}
 use Rattle.executor_laws.proofs.Placement.SafeRuns.{is_put, is_reschedule, safe-list, safe-run, safe-search_own, safe-steal}
-use Rattle.executor_laws.proofs.Placement.SafeViews.{safe-effect}
+use Rattle.executor_laws.proofs.{Types.Sleeping, Types.TableOp, Placement.SafeViews.safe-effect}
 
 -- of another future, where the task is open
 pub safe-take_up_open : (there : Bool) (p : ℕ) (w : World) (f : ℕ) → f < length w.tasks → (g : ℕ) (r : Pend) (nn : ℕ) →

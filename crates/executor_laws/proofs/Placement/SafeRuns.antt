@@ -2,7 +2,7 @@
 -- What a run does keeps a future away from the executor's queue, but for what it schedules.
 use Rattle.std.proofs.Common.{◌≡◌, ℕ, zero, suc, List, [], ◌∷◌, length, Bool, true, false, refl, sym, ap, subst, get_or, arith}
 use Rattle.executor_parts.specs.Marks.{first_of}
-use Rattle.executor_model.proofs.Types.{First, State, ListOp, Op, RunOp, RunPoll, Section, TickOrRun, Sleeping, Steal, StealOp}
+use Rattle.executor_laws.proofs.Types.{TickOp, Hint, First, State, ListOp, Op, RunOp, RunPoll, Section, TickOrRun, Sleeping}
 use Rattle.executor_model.specs.World.{queue_of, World, Done, blank, own_of}
 use Rattle.executor_model.specs.Doing.{list_act, run_act, steal_act}
 use Rattle.executor_model.specs.{Acts.mark_in, ActsOfRuns.wake_own, Rows.appends_of, Weights.weigh}
@@ -10,12 +10,12 @@ use Rattle.executor_model.proofs.Steps.RunsNext.{BlindToRuns, common-blind, list
 use Rattle.executor_model.proofs.Steps.RunsPlain.{AllPlain, plain-after-common, plain-after-list, plain-after-look}
 use Rattle.executor_model.proofs.Steps.RunsMoves.{moves-common, moves-length, moves-list, moves-look, moves-make_room}
 use Rattle.executor_model.proofs.Awaiters.RunsQueue.{queue-list, queue-look, queue-put, queue-room, takes-common, takes-search}
+use Rattle.executor_model.proofs.Steps.RunsNext.{search_run-blind, stolen-blind}
 use Rattle.executor_model.proofs.Steps.RunsPlain.{plain-after-call, plain-after-room, plain-after-search, plain-after-steal}
 use Rattle.executor_model.proofs.Steps.RunsMoves.{moves-own, moves-own_length, moves-take}
-use Rattle.executor_model.proofs.{Types.TickOp, Types.Hint, Steps.RunsNext.search_run-blind, Steps.RunsNext.stolen-blind}
-use Rattle.executor_model.proofs.{Steps.RunsCounting.Bare, Steps.RunsCounting.bare, Awaiters.RunsQueue.takes-steal}
+use Rattle.executor_model.proofs.{Awaiters.RunsQueue.takes-steal, Steps.RunsCounting.Bare, Steps.RunsCounting.bare}
 use Rattle.executor_laws.proofs.Placement.RunsFewer.{Fewer, fewer, untouched}
-use Rattle.executor_laws.proofs.Placement.Safe.{KeepsSafe}
+use Rattle.executor_laws.proofs.{Types.Steal, Types.StealOp, Placement.Safe.KeepsSafe}
 use Rattle.executor_model.specs.ActsOfRuns as runs
 
 abbrev pub is_put : StealOp → Bool

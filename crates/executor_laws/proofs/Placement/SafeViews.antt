@@ -5,11 +5,12 @@ use Rattle.std.proofs.Common.{◌≡◌, ◌⊎◌, ℕ, ◌+◌, ◌<◌, ◌�
 use Rattle.std.proofs.lemmas.Bool.Decides.{nat_tests}
 use Rattle.std.{proofs.Common.arith, proofs.lemmas.List.length-append, specs.Prelude.slice_set}
 use Rattle.task_moves.proofs.Cases.{by_move}
-use Rattle.executor_model.proofs.Types.{Mark, Move, Event, ClosingOp, Op, QueueOp, TableOp, UserOp}
+use Rattle.executor_laws.proofs.Types.{Mark, Move, Event, ClosingOp, Op, QueueOp, TableOp, UserOp}
 use Rattle.executor_model.specs.Acts.{append_by, begin_drop, closing_ops, enter_by, entered, entry_goes, leave_by, stands_alone}
 use Rattle.executor_model.specs.World.{World, Done, done, log, task, without, mark_of}
 use Rattle.executor_model.specs.{Acts.leak_out_by, Acts.leaked, Sound.Pend, Sound.with_ops, Weights.weigh}
 use Rattle.executor_model.proofs.OneFuture.Effects.Effect.{passes, turns, refuses, enters, unlists, drops, takes_out}
+use Rattle.executor_model.proofs.OneFuture.Effects.Effect.{drops_next, leaks, leaks_out}
 use Rattle.executor_model.proofs.Steps.Lists.{fresh_is, read_push, same_is, times-append}
 use Rattle.executor_model.proofs.OneFuture.Extras.{Extra, no_extra, runs_of, with_extra}
 use Rattle.executor_model.proofs.OneFuture.Views.{Seen, seen, before, after}
@@ -17,7 +18,6 @@ use Rattle.executor_model.proofs.OneFuture.MoveViews.{Alike, HasAsked, leaked-ke
 use Rattle.executor_model.proofs.OneFuture.Passes.{Passes, Queues}
 use Rattle.executor_model.proofs.Counts.SoundViews.{tokens, living}
 use Rattle.executor_model.proofs.OneFuture.Effects.{Effect, Wakes, turned-after}
-use Rattle.executor_model.proofs.OneFuture.Effects.Effect.{drops_next, leaks, leaks_out}
 use Rattle.executor_laws.proofs.Placement.Safe.{Floor, KeepsSafe, Safe}
 
 record Ground (x : Seen) : Type 0 where

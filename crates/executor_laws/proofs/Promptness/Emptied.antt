@@ -5,8 +5,8 @@ use Rattle.std.proofs.lemmas.List.{append_assoc, append_cancel_left}
 use Rattle.std.specs.Prelude.{Option, Some, None, reverse}
 use Rattle.std.{proofs.Common.append-nil, proofs.Common.Result, proofs.lemmas.Bool.Decides.nat_tests}
 use Rattle.executor_parts.specs.Marks.{first_of, other}
-use Rattle.executor_model.proofs.Types.{Call, Reply, Event, Kind, Op, Hold, QueueOp, SleeperOp, TableOp, Hint, Step, Begin, Go}
-use Rattle.executor_model.proofs.Types.{StepError, NoSuch, UserEnd, Move, Mark, Look, First, Second}
+use Rattle.executor_laws.proofs.Types.{Call, Reply, Event, Kind, Op, Hold, QueueOp, SleeperOp, TableOp, Hint, Step, Begin, Go}
+use Rattle.executor_laws.proofs.Types.{StepError, NoSuch, UserEnd, Move, Mark, Look, First, Second}
 use Rattle.executor_model.specs.declared.step.Step.TheVariants.{Answer}
 use Rattle.executor_model.specs.Steps.{Machine, after, below_top, end_of, gone_on, part_after, party_of, react, refusal, run}
 use Rattle.executor_model.specs.Steps.{settled_by, stack, start, step, stepped, top, unless}

@@ -5,15 +5,16 @@ use Rattle.std.proofs.Common.{◌≡◌, ◌∙◌, inl, inr, ℕ, ◌<◌, List
 use Rattle.std.proofs.Common.{sym, ap, arith, get_or-set_same, Result}
 use Rattle.std.specs.Prelude.{Option, None, reverse}
 use Rattle.std.{proofs.lemmas.Bool.Decides.nat_tests, proofs.lemmas.List.append_assoc}
-use Rattle.executor_model.proofs.Types.{Call, Reply, Event, Kind, Hold, ListOp, Op, RunOp, Section, TickOp, Hint, Step, Begin}
+use Rattle.executor_laws.proofs.Types.{StepError, NoSuch, Call, Reply, Event, Kind, Hold, ListOp, Op, RunOp, Section, TickOp}
 use Rattle.executor_model.specs.Steps.{Machine, Part, after, below_top, onto, part, party_of, refusal, run, settled, stack}
-use Rattle.executor_model.specs.ActsOfRuns.{make_room_by, make_run_by}
 use Rattle.executor_model.specs.Steps.{start, step, stepped, unless, waits, with_part}
+use Rattle.executor_model.specs.ActsOfRuns.{make_room_by, make_run_by}
 use Rattle.executor_model.specs.{ActsOfSleepers.make_tick_by, Deeds.deeds, Doing.act, Trace.Trace, World.World, World.log}
 use Rattle.executor_laws.specs.Makings.{IsMadeSo, MadeIsMade, MakesRun, MakesTick}
-use Rattle.executor_model.proofs.{Types.StepError, Types.NoSuch, Steps.Reached.Reached, Steps.Stepping.step-made}
+use Rattle.executor_model.proofs.{Steps.Reached.Reached, Steps.Stepping.step-made}
 use Rattle.executor_laws.proofs.Promptness.Turns.{Turn, below-is, ends-so, first-is, goes-on, none-yet, turn}
-use Rattle.executor_laws.proofs.{Placement.OwnReady.ran-here, Placement.OwnReady.reached-on, Promptness.Prompting.deeds-own}
+use Rattle.executor_laws.proofs.Placement.OwnReady.{ran-here, reached-on}
+use Rattle.executor_laws.proofs.{Types.Hint, Types.Step, Types.Begin, Promptness.Prompting.deeds-own}
 use Rattle.executor_laws.proofs.{Promptness.TicksMade.next-unasked, Promptness.Turns.Turn.rests, Promptness.Turns.Turn.goes}
 
 -- the next thing of p is the end of its call

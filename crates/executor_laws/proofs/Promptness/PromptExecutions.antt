@@ -5,12 +5,12 @@ use Rattle.std.proofs.Common.{eqb, refl, sym, ap, ◌∙◌, subst, inl, inr, �
 use Rattle.std.specs.Prelude.{Option, Some, None, reverse}
 use Rattle.std.{proofs.lemmas.Bool.Decides.nat_tests, proofs.lemmas.List.append_assoc, proofs.lemmas.List.append_cancel_right}
 use Rattle.executor_parts.specs.Marks.{first_of, other}
-use Rattle.executor_model.proofs.Types.{Mark, Look, First, Second, Call, Reply, Answer, Event, Kind, Hold, Op, Move, QueueOp}
-use Rattle.executor_model.proofs.Types.{RunPoll, SleeperOp, TableOp, UserOp, Waker, Hint, Step, StepError, Busy, UserEnd}
+use Rattle.executor_laws.proofs.Types.{Mark, Look, First, Second, Call, Reply, Answer, Event, Kind, Hold, Op, Move, QueueOp}
+use Rattle.executor_laws.proofs.Types.{RunPoll, SleeperOp, TableOp, UserOp, Waker, Hint, Step, StepError, Busy, UserEnd}
 use Rattle.executor_model.specs.Steps.{Machine, stack, top, is_free, waits, future_of, mine, unless, begun, drop_run, poll_run}
+use Rattle.executor_model.specs.Steps.{react, kept, with_future, run, start}
 use Rattle.executor_model.specs.World.{queue_of, World, Stage, New, Listed, Ended, Done, done, log, run_of}
 use Rattle.executor_model.specs.Acts.{mark_in, take_by, take_turn, turned, emptiness}
-use Rattle.executor_model.specs.Steps.{react, kept, with_future, run, start}
 use Rattle.executor_model.specs.{Quiet.begins_call, Trace.Trace, Doing.act, Weights.same, Weights.weigh, Good.Good, Deeds.deeds}
 use Rattle.executor_laws.specs.AtOnce.{HasJustBegun, NoComesAtOnce}
 use Rattle.executor_model.proofs.Steps.Lists.{same_cases, weigh-append, weigh-reverse}

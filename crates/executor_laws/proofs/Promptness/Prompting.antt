@@ -1,14 +1,14 @@
 -- For no_comes_at_once.
 -- A party that may be answered no next has done nothing since its call began.
-use Rattle.std.proofs.Common.{◌≡◌, ◌≢◌, ℕ, [], ◌∷◌, ◌++◌, Bool, true, false, ◌||◌, ◌&&◌, not, cond, eqb, refl, ap}
-use Rattle.std.proofs.Common.{◌∙◌, arith, append-nil}
-use Rattle.std.{proofs.lemmas.Bool.Decides.nat_tests, proofs.lemmas.List.Elements.filter-append, specs.List.filter}
-use Rattle.executor_model.proofs.Types.{Reply, Event, Op, QueueOp, TableOp, Hint}
+use Rattle.std.proofs.Common.{◌≡◌, ◌≢◌, ℕ, [], ◌∷◌, ◌++◌, Bool, true, false, ◌||◌, ◌&&◌, not, cond, eqb, refl, ap, ◌∙◌, arith}
+use Rattle.std.proofs.lemmas.List.Elements.{filter-append}
+use Rattle.std.{proofs.Common.append-nil, proofs.lemmas.Bool.Decides.nat_tests, specs.List.filter}
+use Rattle.executor_laws.proofs.Types.{Reply, Event, Op, QueueOp, TableOp, Hint}
 use Rattle.executor_model.specs.{Acts.answered, World.World, Doing.act, Quiet.begins_call, Trace.Trace, Trace.has}
 use Rattle.executor_model.specs.{Weights.weigh, Deeds.doer, Deeds.is_by, Deeds.deeds}
 use Rattle.executor_model.proofs.Steps.Deeds.{ends_one, is_end, Grows, not-by}
 use Rattle.executor_model.proofs.Promises.Answered.{Rare, ends_of, ends-act}
-use Rattle.executor_model.proofs.{Steps.Tests.left-false, Steps.Tests.right-false}
+use Rattle.executor_model.proofs.Steps.Tests.{left-false, right-false}
 
 abbrev pub is_refusal : Reply → ℕ
 is_refusal Reply.No = 1
@@ -191,7 +191,13 @@ fresh-log p es e d = ap (fresh p Other) (deeds-own p es e d) ∙ fresh-append p 
 
 rare : Rare is_refusal 1
 rare = record {
-  no_memory = refl; full = refl; made = refl; pending = refl; ready = refl; cancelled = refl; yes = refl;
+  no_memory = refl;
+  full = refl;
+  made = refl;
+  pending = refl;
+  ready = refl;
+  cancelled = refl;
+  yes = refl;
   no = λ z. absurd (omega (arith, z));
 }
 

@@ -4,11 +4,11 @@ use Rattle.std.proofs.Common.{◌≡◌, ◌∙◌, ⊎_elim, ℕ, ◌<◌, List
 use Rattle.std.specs.Prelude.{Option, Some, None, Ok, Err}
 use Rattle.std.{proofs.Common.ltb, proofs.Common.get_or-set_same, proofs.lemmas.Bool.Decides.nat_tests}
 use Rattle.executor_parts.specs.Marks.{first_of, other}
-use Rattle.executor_model.proofs.Types.{Mark, Plain, Urgent, Reply, Hold, Look, First, Second, Op, QueueOp, SleeperOp, TableOp}
-use Rattle.executor_model.proofs.Types.{Hint, Go, StepError, NoSuch, Move}
+use Rattle.executor_laws.proofs.Types.{Mark, Plain, Urgent, Reply, Hold, Look, First, Second, Op, QueueOp, SleeperOp, TableOp}
+use Rattle.executor_laws.proofs.Types.{Hint, Go, StepError, NoSuch, Move}
 use Rattle.executor_model.specs.Steps.{Machine, Part, after, below_top, end_of, go_refusal, gone_on, onto, refusal, settled}
-use Rattle.executor_model.specs.Acts.{emptiness, mark_in, take_by}
 use Rattle.executor_model.specs.Steps.{settled_by, stack, step, top, unless}
+use Rattle.executor_model.specs.Acts.{emptiness, mark_in, take_by}
 use Rattle.executor_model.specs.{Deeds.deeds, Doing.act, Weights.weigh, World.World, World.Done, World.queue_of}
 use Rattle.executor_laws.specs.NoAnswers.{LooksSecond}
 use Rattle.executor_model.proofs.Steps.Stepping.{step-made, step-refused}

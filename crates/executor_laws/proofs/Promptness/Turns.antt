@@ -5,18 +5,18 @@ use Rattle.std.proofs.Common.{ltb, append-nil, refl, sym, ap, arith, get_or-set_
 use Rattle.std.proofs.lemmas.Bool.Decides.{nat_tests}
 use Rattle.std.proofs.lemmas.List.{append_assoc, append_cancel_left, append_cancel_right}
 use Rattle.std.specs.Prelude.{Option, Some, None, filter, reverse}
-use Rattle.executor_model.proofs.Types.{Reply, Event, Hold, Op, UserOp, Hint, Step, Begin, Go, StepError, NoSuch, WrongAnswer}
+use Rattle.executor_laws.proofs.Types.{UserEnd, Reply, Event, Hold, Op, UserOp, Hint, Step, Begin, Go, StepError, NoSuch}
 use Rattle.executor_model.specs.declared.step.Step.TheVariants.{Answer}
 use Rattle.executor_model.specs.Steps.{Machine, Part, accepts, after, answer_refusal, below_top, end_of, gone_on, is_free, onto}
 use Rattle.executor_model.specs.Steps.{part, part_after, part_refusal, party_of, refusal, run, settled, settled_by, stack, step}
 use Rattle.executor_model.specs.Steps.{stepped, top, unless, waits}
 use Rattle.executor_model.specs.{Deeds.deeds, Deeds.is_by, Doing.act, Trace.Trace, World.Done, World.World, World.log}
-use Rattle.executor_model.proofs.{Types.UserEnd, Steps.Deeds.grows-react, Steps.Deeds.is_end, Steps.Lift.none_refused}
-use Rattle.executor_model.proofs.{Steps.Lift.topped, Steps.Stepping.step-made, Steps.Stepping.step-refused}
-use Rattle.executor_model.proofs.{Steps.TraceSteps.run-continues, Steps.Ways.Made, Steps.Ways.Way, Steps.Ways.made}
-use Rattle.executor_model.proofs.{Steps.Ways.Way.acted, Steps.Ways.Way.called, Steps.Ways.Way.reacted, Table.Spawning.top-last}
+use Rattle.executor_model.proofs.Steps.Ways.Way.{acted, called, reacted}
+use Rattle.executor_model.proofs.{Steps.Deeds.grows-react, Steps.Deeds.is_end, Steps.Lift.none_refused, Steps.Lift.topped}
+use Rattle.executor_model.proofs.{Steps.Stepping.step-made, Steps.Stepping.step-refused, Steps.TraceSteps.run-continues}
+use Rattle.executor_model.proofs.{Steps.Ways.Made, Steps.Ways.Way, Steps.Ways.made, Table.Spawning.top-last}
 use Rattle.executor_laws.proofs.Promptness.PromptExecutions.{others-act, others-begun}
-use Rattle.executor_laws.proofs.Promptness.Prompting.{deeds-other, deeds-other_log}
+use Rattle.executor_laws.proofs.{Types.WrongAnswer, Promptness.Prompting.deeds-other, Promptness.Prompting.deeds-other_log}
 
 -- what p did, and later more
 

@@ -5,22 +5,22 @@ use Rattle.std.proofs.Common.{false, ◌&&◌, not, ltb, refl, sym, ap, ◌∙�
 use Rattle.std.proofs.lemmas.Bool.Decides.{nat_tests}
 use Rattle.std.specs.Prelude.{Option, Some, None, reverse}
 use Rattle.queue_steps.specs.ClosableQueue.{ClosableQueue, most_accepted, HasRoom, appended, new_queue, taken, shut}
-use Rattle.executor_model.proofs.Types.{Mark, Plain, Urgent, Look, Call, Reply, Answer, Event, Kind, Waker, Op, ClosingOp}
-use Rattle.executor_model.proofs.Types.{Polled, RunOp, RunPoll, TickOrRun, Sleeping, Source, Common, Own, Steal, StealOp}
-use Rattle.executor_model.proofs.Types.{TickOp, QueueOp, UserOp, Hint, Step, Begin, Go, StepError, NoSuch, UserEnd}
+use Rattle.executor_laws.proofs.Types.{Mark, Plain, Urgent, Look, Call, Reply, Answer, Event, Kind, Waker, Op, ClosingOp}
+use Rattle.executor_laws.proofs.Types.{Polled, RunOp, RunPoll, TickOrRun, Sleeping, Source, Common, Own, Steal, StealOp, TickOp}
+use Rattle.executor_laws.proofs.Types.{QueueOp, UserOp, Hint, Step, Begin, Go, StepError, NoSuch, UserEnd}
 use Rattle.executor_model.specs.Steps.{Machine, stack, top, below_top, refusal, go_refusal, unless, begun, react, future_of}
+use Rattle.executor_model.specs.Steps.{mine, kept, with_future, settled_by, gone_on, after, step, stepped, run, start}
 use Rattle.executor_model.specs.World.{mark_of, queue_of, World, Ticker, Done, log}
 use Rattle.executor_model.specs.Acts.{append_to, mark_in, takes_more, append_by, take_by, drain_by}
 use Rattle.executor_model.specs.Doing.{act, run_act, search_by_who, steal_act, tick_act}
-use Rattle.executor_model.specs.Steps.{mine, kept, with_future, settled_by, gone_on, after, step, stepped, run, start}
 use Rattle.executor_model.specs.{Queues.Queues, Queues.queue_in, Queues.with_queue, ActsOfSleepers.look_tick_by}
 use Rattle.executor_laws.specs.Queueings.{queued_by, queueings, counting, Changes, counted_after, CountsQueueings}
 use Rattle.executor_laws.specs.Queueings.Changes.{stays, appends, takes, closes}
 use Rattle.executor_model.proofs.Awaiters.RunsQueue.{queue-by_reference, queue-length, queue-list, queue-look, queue-more}
+use Rattle.executor_model.proofs.Awaiters.RunsQueue.{queue-own, queue-put, queue-reschedule, queue-room, queue-stolen}
 use Rattle.executor_model.proofs.Steps.QueuesByMark.{queue-put-same, with_last, with_shut, without_first_of}
 use Rattle.executor_model.proofs.Table.LeavingExecutions.{placed, has-place}
 use Rattle.executor_model.proofs.Steps.Stepping.{step-refused, step-made}
-use Rattle.executor_model.proofs.Awaiters.RunsQueue.{queue-own, queue-put, queue-reschedule, queue-room, queue-stolen}
 use Rattle.executor_model.proofs.OwnQueues.RunsAside.{Rest as Whole, frame-act}
 use Rattle.executor_model.proofs.Awaiters.SleepersWorlds.{Rest, sleeper-rest, tick-rest, searches}
 use Rattle.executor_model.proofs.{Steps.Lift.topped, Steps.Lift.good, Table.Entering.finds-place, Table.Spawning.in-range}

@@ -2,8 +2,8 @@
 -- The poll of a handle: it looks, registers its waker and looks again, and where something is there it is answered otherwise.
 use Rattle.std.proofs.Common.{◌≡◌, ◌≢◌, ◌∙◌, inl, inr, ℕ, List, [], ◌∷◌, ◌++◌, Bool, true, false, cond, refl, sym, ap, subst}
 use Rattle.std.{proofs.Common.arith, specs.Prelude.Option, specs.Prelude.Some, specs.Prelude.None, specs.Prelude.not}
-use Rattle.executor_model.proofs.Types.{State, Call, Reply, Kind, Awaiter, Hold, HandleOp, Op, Waker, Outside, Task, WakerOp}
-use Rattle.executor_model.proofs.Types.{Hint, Step, Begin, Go, UserEnd}
+use Rattle.executor_laws.proofs.Types.{State, Call, Reply, Kind, Awaiter, Hold, HandleOp, Op, Waker, Outside, Task, WakerOp}
+use Rattle.executor_laws.proofs.Types.{Hint, Step, Begin, Go, UserEnd}
 use Rattle.executor_model.specs.declared.step.Step.TheVariants.{Answer}
 use Rattle.executor_model.specs.Acts.{copy_awaiter_by, end_register_by, is_copy_refused, let_go, look_again_by, look_by}
 use Rattle.executor_model.specs.Steps.{Machine, accepts, react, refusal, run, stack, start, step, stepped, top, waits}

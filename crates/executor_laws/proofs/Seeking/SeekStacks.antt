@@ -5,7 +5,7 @@ use Rattle.std.proofs.Common.{◌≡◌, ◌≢◌, ◌⊎◌, ◌∙◌, inl, i
 use Rattle.std.proofs.Common.{true, false, eqb, ltb, refl, sym, ap, subst, arith, append-nil, append_assoc, length-append}
 use Rattle.std.proofs.lemmas.Bool.Decides.{nat_tests}
 use Rattle.std.specs.Prelude.{Option, Some, None, reverse}
-use Rattle.executor_model.proofs.Types.{Call, Reply, Event, Hold, Op, Hint, Step, Begin, Go, StepError, UserEnd}
+use Rattle.executor_laws.proofs.Types.{Call, Reply, Event, Hold, Op, Hint, Step, Begin, Go, StepError, UserEnd}
 use Rattle.executor_model.specs.declared.step.Step.TheVariants.{Answer}
 use Rattle.executor_model.specs.Steps.{Machine, Part, accepts, answer_refusal, begin_refusal, begun, end_of, go_refusal}
 use Rattle.executor_model.specs.Steps.{gone_on, mine, onto, part, part_after, part_refusal, party_of, react, refusal, settled}

@@ -3,8 +3,8 @@
 use Rattle.std.proofs.Common.{◌≡◌, ◌≢◌, ◌∙◌, inl, inr, ℕ, List, [], ◌∷◌, true, false, refl, sym, ap, subst}
 use Rattle.std.specs.Prelude.{Some, None}
 use Rattle.executor_parts.specs.Marks.{other}
-use Rattle.executor_model.proofs.Types.{Mark, Call, Reply, Kind, Hold, Look, First, Second, Op, Sleeping, TickOp, TickOrRun}
-use Rattle.executor_model.proofs.Types.{Waker, Hint, Step, Begin, Go, UserEnd}
+use Rattle.executor_laws.proofs.Types.{Mark, Call, Reply, Kind, Hold, Look, First, Second, Op, Sleeping, TickOp, TickOrRun}
+use Rattle.executor_laws.proofs.Types.{Waker, Hint, Step, Begin, Go, UserEnd}
 use Rattle.executor_model.specs.declared.step.Step.TheVariants.{Answer}
 use Rattle.executor_model.specs.Steps.{Machine, accepts, react, refusal, run, stack, start, step, stepped, top, waits}
 use Rattle.executor_model.specs.World.{Asleep, Awake, Done, Left, Ticker, World, place_of, queue_of}

@@ -10,9 +10,9 @@ use Rattle.executor_model.specs.{Steps.start, Trace.has, Trace.is_drop_begun, Tr
 use Rattle.executor_laws.specs.HandlePolls.{DroppedIsSettled, is_unsettled}
 use Rattle.executor_model.proofs.Steps.Reached.{Reached, deep-here, good-here}
 use Rattle.executor_model.proofs.Table.Entering.{own-agrees, queue-agrees}
-use Rattle.executor_model.proofs.{Types.State, Types.Kind, Types.Step, OneFuture.Telling.begun-has, Polls.Lawful.dropped-over}
-use Rattle.executor_model.proofs.{Quiet.Resting.all-rest, Quiet.Resting.rests, Table.LeavingExecutions.Placed}
-use Rattle.executor_laws.proofs.Reach.Reached.{heard-here}
+use Rattle.executor_model.proofs.Quiet.Resting.{all-rest, rests}
+use Rattle.executor_model.proofs.{OneFuture.Telling.begun-has, Polls.Lawful.dropped-over, Table.LeavingExecutions.Placed}
+use Rattle.executor_laws.proofs.{Types.State, Types.Kind, Types.Step, Reach.Reached.heard-here}
 
 no-more : (n : ℕ) → (1 ≤ n → ⊥) → n ≡ 0
 no-more zero k = refl

@@ -2,17 +2,18 @@
 -- What one party does makes no own queue of another's run longer, and no walk longer than its number says.
 use Rattle.std.proofs.Common.{◌≡◌, ◌≢◌, ℕ, suc, ◌+◌, ◌≤◌, ◌%◌, List, [], ◌∷◌, length, Bool, true, false, ◌++◌, eqb, refl, ap}
 use Rattle.std.{proofs.Common.sym, proofs.Common.◌∙◌, proofs.Common.⊎_elim, proofs.Common.arith, proofs.lemmas.List.length_push}
-use Rattle.executor_model.proofs.Types.{Move, Answer, ListOp, Op, RunOp, RunPoll, Section, Steal, UserOp, Waker, Task, Outside}
+use Rattle.executor_laws.proofs.Types.{Hint, UserEnd, Move, Answer, ListOp, Op, RunOp, RunPoll, Section, Steal, UserOp, Waker}
+use Rattle.executor_laws.proofs.Types.{Task, Outside}
 use Rattle.executor_model.specs.Weights.{same, weigh, weigh_all}
 use Rattle.executor_model.specs.World.{World, Stage, New, Listed, Ended, Done, own_of, put_own, without}
 use Rattle.executor_model.specs.{Doing.act, Doing.list_act, Rows.running_of, Steps.accepts, Steps.react}
 use Rattle.executor_laws.specs.Costs.{left_by, registers_of}
 use Rattle.executor_model.proofs.OwnQueues.RunsDone.{Deed, keeps, takes, lacks, shares, grows, wakes, lists, deed-act, is_loud}
 use Rattle.executor_model.proofs.OwnQueues.RunsDone.{loud, loud-weigh, walks-by, Stole, to_walk, More, no_more, one_more, Walks}
+use Rattle.executor_model.proofs.OwnQueues.RunsDone.{walk_ends, walk_on, Missing, misses_there, Leads, finds, stole, looks}
 use Rattle.executor_model.proofs.OwnQueues.OwnRooms.{Shorter, grown, made-length, of_coat, same-own, shorter-taken}
 use Rattle.executor_model.proofs.OwnQueues.RunsAside.{Hull, apart-act, coat, hull, hull_of, runs_of}
-use Rattle.executor_model.proofs.OwnQueues.RunsDone.{walk_ends, walk_on, Missing, misses_there, Leads, finds, stole, looks}
-use Rattle.executor_model.proofs.{Types.Hint, Types.UserEnd, Steps.Lift.no_hint, Steps.Lists.same_is, Steps.Lists.same_cases}
+use Rattle.executor_model.proofs.{Steps.Lift.no_hint, Steps.Lists.same_is, Steps.Lists.same_cases}
 use Rattle.executor_model.specs.ActsOfRuns as runs
 
 pub record Beside (w : World) (o : Op) (d : Done) : Type 0 where

@@ -5,26 +5,26 @@ use Rattle.std.proofs.Common.{get_or, not, ltb, refl, ap, ⊎_elim, arith, Ok, E
 use Rattle.std.specs.Prelude.{Option, Some, None, reverse}
 use Rattle.std.{proofs.Math.Nat.add-mul, proofs.lemmas.Bool.Decides.nat_tests, proofs.lemmas.Nat.mul-le}
 use Rattle.task_moves.specs.Moves.{is_over}
-use Rattle.executor_model.proofs.Types.{Event, Kind, Op, UserOp, Move, Hint, Step, Begin, Go, StepError, NoSuch, WrongAnswer}
+use Rattle.executor_laws.proofs.Types.{UserEnd, Event, Kind, Op, UserOp, Move, Hint, Step, Begin, Go, StepError, NoSuch}
 use Rattle.executor_model.specs.declared.step.Step.TheVariants.{Answer}
 use Rattle.executor_model.specs.Steps.{Machine, stack, top, below_top, waits, go_refusal, answer_refusal, accepts, unless}
-use Rattle.executor_model.specs.Rows.{closing_of, running_of, settling_of}
 use Rattle.executor_model.specs.Steps.{refusal, react, end_of, settled_by, gone_on, with_part, after, step_by, step, run, start}
+use Rattle.executor_model.specs.Rows.{closing_of, running_of, settling_of}
 use Rattle.executor_model.specs.{World.World, World.Done, World.task, Doing.act, Weights.weigh, Weights.weigh_all, Good.Good}
 use Rattle.executor_model.specs.{Good.Needs, OwnQueues.IsUsedOnce, Executions.run_all}
 use Rattle.executor_laws.specs.Remaining.{steps_kept, remaining, is_onward, are_onward, LowersRemaining, EachStepLowers}
-use Rattle.executor_laws.specs.Costs.{left_by, registers_of, steps_of, walk_of}
 use Rattle.executor_laws.specs.Remaining.{EndsWithin, EachListEnds, queues_of, steps_left}
+use Rattle.executor_laws.specs.Costs.{left_by, registers_of, steps_of, walk_of}
 use Rattle.executor_model.proofs.Steps.Lists.{same_is, weigh_all-push, weigh_all-set, weigh-append}
 use Rattle.executor_model.proofs.OwnQueues.RunsAside.{apart-act, is_run, unseen}
 use Rattle.executor_model.proofs.Steps.Reached.{Reached, good-here, reached-step}
-use Rattle.executor_model.proofs.{Types.UserEnd, Steps.Needing.needs, Steps.Lift.split, Steps.Lift.topped}
+use Rattle.executor_model.proofs.{Steps.Needing.needs, Steps.Lift.split, Steps.Lift.topped}
 use Rattle.executor_laws.proofs.Termination.Beside.{Beside, beside-act, beside-react, left-all, left-others}
 use Rattle.executor_laws.proofs.Termination.SpendingGroups.{Settles, spends-act, spends-react}
 use Rattle.executor_laws.proofs.Termination.SpendingRuns.{CanPay, Pays, pays-list, pays-run, pays-steal, unleft, unwalked}
 use Rattle.executor_laws.proofs.Termination.Reached.{can-pay, used-here}
 use Rattle.executor_laws.proofs.Termination.SpendingRuns.Pays.{spends, walks}
-use Rattle.executor_laws.proofs.{Termination.Spending.kept-log, Termination.PayingTicks.pays-tick}
+use Rattle.executor_laws.proofs.{Types.WrongAnswer, Termination.Spending.kept-log, Termination.PayingTicks.pays-tick}
 use Rattle.executor_model.specs.declared.event.Answer.TheVariants as answer
 
 -- the end of a call takes no more

@@ -4,13 +4,14 @@ use Rattle.std.proofs.Common.{◌≡◌, ◌∙◌, ℕ, zero, suc, ◌+◌, ◌
 use Rattle.std.proofs.Common.{take, Bool, true, false, ltb, refl, sym, ap, subst, arith}
 use Rattle.std.proofs.lemmas.List.{append_assoc, reverse-append}
 use Rattle.std.specs.Prelude.{Option, Some, None, reverse, slice_get}
-use Rattle.executor_model.proofs.Types.{Look, First, Second, Call, Reply, Event, Kind, Hold, ListOp, Op, Polled, RunOp, RunPoll}
-use Rattle.executor_model.proofs.Types.{Section, TickOrRun, Sleeping, Steal, StealOp, Then, TickOp, UserOp, Waker, Hint, Step}
+use Rattle.executor_laws.proofs.Types.{StepError, Busy, UserEnd, Look, First, Second, Call, Reply, Event, Kind, Hold, ListOp}
+use Rattle.executor_laws.proofs.Types.{Op, Polled, RunOp, RunPoll, Section, TickOrRun, Sleeping, Steal, StealOp, Then, TickOp}
+use Rattle.executor_laws.proofs.Types.{UserOp, Waker, Hint, Step}
 use Rattle.executor_model.specs.Steps.{Machine, accepts, begun, below_top, is_free, mine, react, run, stack, start, top, unless}
 use Rattle.executor_model.specs.Doing.{act, list_act, run_act, search_by_who, steal_act, tick_act}
 use Rattle.executor_model.specs.World.{World, Done, done, log, place_of, put_own, queue_of}
-use Rattle.executor_model.specs.{ActsOfSleepers.look_tick, Acts.mark_in, Good.Good, OwnQueues.filling_of, OwnQueues.reads_of}
-use Rattle.executor_model.specs.{OwnQueues.writes_of, Steps.waits, Weights.weigh, Weights.weigh_all}
+use Rattle.executor_model.specs.{Steps.waits, ActsOfSleepers.look_tick, Acts.mark_in, Good.Good, OwnQueues.filling_of}
+use Rattle.executor_model.specs.{OwnQueues.reads_of, OwnQueues.writes_of, Weights.weigh, Weights.weigh_all}
 use Rattle.executor_laws.specs.GoingOn.{held_of}
 use Rattle.executor_model.proofs.OwnQueues.RunsMoving.{Weighs, is_search, slumbering-blind, walk-by, weighs-found}
 use Rattle.executor_model.proofs.Steps.Lift.{good-start, split, topped, unsettled, weigh_all-idle}
@@ -19,9 +20,9 @@ use Rattle.executor_model.proofs.OwnQueues.OwnRooms.{Roomy, roomy-ends, roomy-mo
 use Rattle.executor_model.proofs.OwnQueues.RunsAside.{apart-act, is_run, runs_of, unseen}
 use Rattle.executor_model.proofs.OwnQueues.UsingSteps.{AllUsed, used-ends, used-moves, used-start}
 use Rattle.executor_model.proofs.Steps.Ways.{Way, acted, reacted, called, along}
-use Rattle.executor_model.proofs.{Types.StepError, Types.Busy, Types.UserEnd, Steps.Lists.weigh-append}
-use Rattle.executor_model.proofs.{Steps.Lists.weigh-reverse, OwnQueues.RunsMoving.weighs-stolen, Steps.SleepersNext.Blind}
-use Rattle.executor_model.proofs.{Steps.SleepersNext.search-blind, Table.Spawning.top-last, Steps.Reached.Reached}
+use Rattle.executor_model.proofs.Steps.Lists.{weigh-append, weigh-reverse}
+use Rattle.executor_model.proofs.Steps.SleepersNext.{Blind, search-blind}
+use Rattle.executor_model.proofs.{OwnQueues.RunsMoving.weighs-stolen, Table.Spawning.top-last, Steps.Reached.Reached}
 use Rattle.executor_laws.proofs.{Termination.Reached.has-free, Termination.Beside.by_reference}
 use Rattle.executor_model.specs.ActsOfRuns as runs
 

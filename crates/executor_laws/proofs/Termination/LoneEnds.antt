@@ -4,7 +4,7 @@ use Rattle.std.proofs.Common.{◌≡◌, ◌≢◌, ◌⊎◌, ◌∙◌, ℕ, z
 use Rattle.std.proofs.Common.{not, ◌==◌, eqb, ltb, refl, sym, ap, subst, inl, inr, arith, get_or-set_other, Ok}
 use Rattle.std.specs.Prelude.{Option, Some, None}
 use Rattle.std.{proofs.lemmas.Bool.Decides.nat_tests, proofs.Math.ListN.length-set}
-use Rattle.executor_model.proofs.Types.{Call, Kind, ListOp, Op, Step, Begin, Go, StepError, NoSuch}
+use Rattle.executor_laws.proofs.Types.{Call, Kind, ListOp, Op, Step, Begin, Go, StepError, NoSuch}
 use Rattle.executor_model.specs.declared.step.Step.TheVariants.{Answer}
 use Rattle.executor_model.specs.Steps.{Machine, stack, top, waits, is_locked_out, unless, refusal, part_after, after, party_of}
 use Rattle.executor_model.specs.Steps.{run, start}

@@ -3,7 +3,7 @@
 use Rattle.std.proofs.Common.{◌≡◌, ℕ, ◌≤◌, List, [], ◌∷◌, Bool, true, false, refl, ap, arith}
 use Rattle.std.specs.Prelude.{Option, Some, None, is_none}
 use Rattle.executor_parts.specs.Sleepers.{waker_at, waker_of}
-use Rattle.executor_model.proofs.Types.{Look, First, Second, Op, TickOrRun, Sleeping, TickOp, Waker, Task, Outside, Hint}
+use Rattle.executor_laws.proofs.Types.{Look, First, Second, Op, TickOrRun, Sleeping, TickOp, Waker, Task, Outside, Hint}
 use Rattle.executor_model.specs.ActsOfSleepers.{make_tick_by, look_tick_by, copy_sleeper_by, pend_as, sleep_anew_by}
 use Rattle.executor_model.specs.ActsOfSleepers.{sleeper_goes, sleep_listed_by, sleep_again_by, fall_asleep_by, wake_up_by}
 use Rattle.executor_model.specs.ActsOfSleepers.{tell_and_return, leave_sleepers_by}

@@ -5,11 +5,10 @@ use Rattle.std.{proofs.Common.subst, proofs.Common.arith, proofs.lemmas.Bool.Dec
 use Rattle.executor_model.specs.OwnQueues.{HasOwnRoom, IsUsedOnce, filling_of}
 use Rattle.executor_model.specs.{ActsOfRuns.free_places, ActsOfRuns.own_places, Rows.running_of, Steps.Machine, Steps.stack}
 use Rattle.executor_model.specs.{Steps.top, Weights.weigh_all, World.World, World.own_of}
-use Rattle.executor_model.proofs.OwnQueues.UsingSteps.{AllUsed, all-used}
-use Rattle.executor_model.proofs.{Types.Op, Types.Steal, Types.StealOp, Steps.Lift.split, Steps.Lift.topped}
-use Rattle.executor_model.proofs.{OwnQueues.OwnExecutions.has-own-room, Steps.Reached.Reached}
+use Rattle.executor_model.proofs.{OwnQueues.UsingSteps.AllUsed, OwnQueues.UsingSteps.all-used, Steps.Lift.split}
+use Rattle.executor_model.proofs.{Steps.Lift.topped, OwnQueues.OwnExecutions.has-own-room, Steps.Reached.Reached}
 use Rattle.executor_laws.proofs.Termination.SpendingRuns.{CanPay, TakesFew}
-use Rattle.executor_laws.proofs.Termination.TakingFew.{takes-few}
+use Rattle.executor_laws.proofs.{Types.Op, Types.Steal, Types.StealOp, Termination.TakingFew.takes-few}
 
 used-all : (s : Machine) → Reached s → AllUsed s
 used-all s r = subst AllUsed (sym r.is) (all-used r.limit r.kind r.parties r.steps)

@@ -4,13 +4,13 @@ use Rattle.std.proofs.Common.{◌≡◌, ℕ, zero, suc, ◌+◌, ◌*◌, ◌<�
 use Rattle.std.proofs.Common.{length-append, Bool, true, false, ◌||◌, ◌&&◌, not, cond, refl, ap, ◌∙◌, arith}
 use Rattle.std.specs.Prelude.{Option, Some, None}
 use Rattle.task_moves.{specs.declared.moves.owed.Move.TheVariants.Release, specs.Moves.is_over}
-use Rattle.executor_model.proofs.Types.{Plain, Urgent, Mark, State, Owed, Moved, Event, Awaiter}
+use Rattle.executor_laws.proofs.Types.{Plain, Urgent, Mark, State, Owed, Moved, Event, Awaiter}
 use Rattle.executor_model.specs.World.{World, Done, log, log_if, task, put, put_awaiter, queued_in, awaiter_of, blank, without}
 use Rattle.executor_model.specs.Carried.{carried, owed_ops, schedule_ops, drop_ops, future_ops, output_ops, awaiter_ops}
 use Rattle.executor_model.specs.Carried.{next_ops, drops, emptied_ops}
-use Rattle.executor_model.specs.{Queues.Queues, Queues.all_in, World.among, Weights.weigh}
+use Rattle.executor_model.specs.{World.among, Queues.Queues, Queues.all_in, Weights.weigh}
 use Rattle.executor_laws.specs.Remaining.{stored, appends_by, steps_of_task, steps_of_tasks, steps_of_runs, notified_of}
-use Rattle.executor_laws.specs.{Costs.steps_of, Remaining.steps_of_leak, Remaining.ups, Remaining.steps_kept}
+use Rattle.executor_laws.specs.{Remaining.steps_of_leak, Remaining.ups, Remaining.steps_kept, Costs.steps_of}
 use Rattle.executor_model.proofs.{Steps.QueuesByMark.with_last, Steps.QueuesByMark.without_first_of, Steps.Lists.weigh-append}
 use Rattle.task_moves.specs.Moves as moves
 

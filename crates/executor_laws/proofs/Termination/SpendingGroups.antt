@@ -2,11 +2,11 @@
 -- Each thing that is done spends a step of those that remain, by groups; those of ticks and runs apart.
 use Rattle.std.proofs.Common.{◌≡◌, ℕ, ◌<◌, [], ◌∷◌, length, true, false, refl, arith}
 use Rattle.task_moves.specs.Moves.{is_over}
-use Rattle.executor_model.proofs.Types.{Answer, Event, Polled, Op, ClosingOp, HandleOp, Move, QueueOp, TableOp, UserOp, WakerOp}
+use Rattle.executor_laws.proofs.Types.{Hint, UserEnd, Answer, Event, Polled, Op, ClosingOp, HandleOp, Move, QueueOp, TableOp}
 use Rattle.executor_model.specs.Steps.{waits, accepts, react}
 use Rattle.executor_model.specs.{World.World, World.task, Acts.take_to_drop, Acts.move_task, Doing.act, Good.Needs}
 use Rattle.executor_laws.specs.Costs.{steps_of}
-use Rattle.executor_model.proofs.{Types.Hint, Types.UserEnd, OwnQueues.RunsAside.is_run}
+use Rattle.executor_model.proofs.OwnQueues.RunsAside.{is_run}
 use Rattle.executor_laws.proofs.Termination.SpendingActs.{spends-turn, spends-close, spends-append, spends-take, spends-enter}
 use Rattle.executor_laws.proofs.Termination.SpendingActs.{spends-leave, spends-as, kept-as, spends-look, spends-again}
 use Rattle.executor_laws.proofs.Termination.SpendingActs.{spends-copy, spends-copy_awaiter, spends-register}
@@ -17,7 +17,7 @@ use Rattle.executor_laws.proofs.Termination.Spending.{costs-release, costs-take_
 use Rattle.executor_laws.proofs.Termination.Spending.{costs-end_ready, costs-end_pending, costs-end_closed, costs-drop_runnable}
 use Rattle.executor_laws.proofs.Termination.SpendingActs.{spends-leak_next, spends-leak_out, spends-wake_next, spends-drain}
 use Rattle.executor_laws.proofs.Termination.Spending.{costs-cancel, costs-detach}
-use Rattle.executor_laws.proofs.Termination.SpendingTicks.{spends-sleeper}
+use Rattle.executor_laws.proofs.{Types.UserOp, Types.WakerOp, Termination.SpendingTicks.spends-sleeper}
 use Rattle.task_moves.specs.Moves as moves
 
 -- who settles a task that was closed, does so where it is over

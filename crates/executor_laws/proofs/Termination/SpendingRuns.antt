@@ -4,9 +4,9 @@ use Rattle.std.proofs.Common.{◌≡◌, ℕ, zero, suc, ◌+◌, ◌-◌, ◌*�
 use Rattle.std.proofs.Common.{get_or-set_same, Bool, true, false, ltb, eqb, cond, refl, ap, ◌∙◌, arith}
 use Rattle.std.proofs.lemmas.Bool.Decides.{nat_tests}
 use Rattle.queue_steps.specs.ClosableQueue.{taken}
-use Rattle.executor_model.proofs.Types.{Look, First, Second, Reply, Event, Hold, ListOp, Op, Polled, RunOp, RunPoll, Section}
-use Rattle.executor_model.proofs.Types.{TickOrRun, SleeperOp, Sleeping, Source, Common, Own, Steal, StealOp, Then, TickOp}
-use Rattle.executor_model.proofs.Types.{Waker, Task, Outside, Hint}
+use Rattle.executor_laws.proofs.Types.{Look, First, Second, Reply, Event, Hold, ListOp, Op, Polled, RunOp, RunPoll, Section}
+use Rattle.executor_laws.proofs.Types.{TickOrRun, SleeperOp, Sleeping, Source, Common, Own, Steal, StealOp, Then, TickOp, Waker}
+use Rattle.executor_laws.proofs.Types.{Task, Outside, Hint}
 use Rattle.executor_model.specs.World.{put_queue, queue_of, Ticker, Awake, Asleep, Left, Lock, World, Stage, New, Listed, Ended}
 use Rattle.executor_model.specs.World.{Run, Done, log, no_run, new_run, run_of, put_run, own_of, put_own, task}
 use Rattle.executor_model.specs.{Acts.mark_in, ActsOfSleepers.found_by, Doing.list_act, Doing.run_act, Doing.steal_act}

@@ -8,7 +8,7 @@ use Rattle.std.{proofs.lemmas.Bool.Decides.nat_tests, proofs.lemmas.List.length_
 use Rattle.queue_steps.specs.ClosableQueue.{taken}
 use Rattle.executor_parts.specs.Sleepers.{Sleepers, position_of, without_last, waker_at, waker_of, next_number, put_to_sleep}
 use Rattle.executor_parts.specs.Sleepers.{listed, without_entry, freed, woken_up}
-use Rattle.executor_model.proofs.Types.{Look, First, Second, Move, Reply, Op, TickOrRun, Sleeping, SleeperOp}
+use Rattle.executor_laws.proofs.Types.{Look, First, Second, Move, Reply, Op, TickOrRun, Sleeping, SleeperOp}
 use Rattle.executor_model.specs.ActsOfSleepers.{search_tick, exchange_by, call_of, hand_out_by, make_tick_by, found_by, held_as}
 use Rattle.executor_model.specs.ActsOfSleepers.{polled_as, look_tick_by, copy_sleeper_by, pend_as, sleep_anew_by, sleeper_goes}
 use Rattle.executor_model.specs.ActsOfSleepers.{sleep_listed_by, sleep_again_by, fall_asleep_by, wake_up_by, given_back}

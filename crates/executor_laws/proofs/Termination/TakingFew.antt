@@ -5,18 +5,17 @@ use Rattle.std.proofs.Common.{refl, ap, sym, arith}
 use Rattle.std.proofs.lemmas.Bool.Decides.{nat_tests}
 use Rattle.std.specs.Prelude.{Option, Some, None, reverse}
 use Rattle.executor_parts.specs.Sleepers.{next_number}
-use Rattle.executor_model.proofs.Types.{Look, Plain, Urgent, Mark, First, Second, Move, Call, Reply, Answer, Event, Kind}
-use Rattle.executor_model.proofs.Types.{ClosingOp, ListOp, Op, Polled, QueueOp, RunOp, RunPoll, Section, TickOrRun, SleeperOp}
-use Rattle.executor_model.proofs.Types.{Sleeping, Source, Common, Own, Steal, StealOp, Then, TickOp, UserOp, Waker, Task}
-use Rattle.executor_model.proofs.Types.{Outside, Hint, Step, UserEnd}
+use Rattle.executor_laws.proofs.Types.{Look, Plain, Urgent, Mark, First, Second, Move, Call, Reply, Answer, Event, Kind}
+use Rattle.executor_laws.proofs.Types.{ClosingOp, ListOp, Op, Polled, QueueOp, RunOp, RunPoll, Section, TickOrRun, SleeperOp}
+use Rattle.executor_laws.proofs.Types.{Sleeping, Source, Common, Own, Steal, StealOp, Then, TickOp, UserOp, Waker, Task}
 use Rattle.executor_model.specs.World.{World, Ticker, Awake, Asleep, Left, Stage, New, Listed, Ended, Run, Done, log, no_run}
 use Rattle.executor_model.specs.Doing.{act, list_act, run_act, search_by_who, steal_act, tick_act}
 use Rattle.executor_model.specs.Steps.{Machine, begun, future_of, kept, mine, react, run, stack, start, top, with_future}
-use Rattle.executor_model.specs.{Good.Good, World.new_run, World.run_of, World.runs_with, World.put_own, World.put_run}
+use Rattle.executor_model.specs.{World.new_run, World.run_of, World.runs_with, World.put_own, World.put_run, Good.Good}
 use Rattle.executor_model.proofs.Steps.Lift.{good-start, unsettled, no_hint}
 use Rattle.executor_model.proofs.OwnQueues.RunsAside.{Rest, frame-act, is_run}
 use Rattle.executor_model.proofs.Steps.Ways.{Way, acted, reacted, called, along}
-use Rattle.executor_laws.proofs.Termination.SpendingRuns.{TakesFew}
+use Rattle.executor_laws.proofs.{Types.Outside, Types.Hint, Types.Step, Types.UserEnd, Termination.SpendingRuns.TakesFew}
 use Rattle.executor_model.specs.Acts as acts
 use Rattle.executor_model.specs.ActsOfSleepers as of_sleepers
 use Rattle.executor_model.specs.ActsOfRuns as runs

@@ -5,13 +5,13 @@ use Rattle.std.proofs.Common.{◌≡◌, ◌∙◌, ℕ, List, [], ◌∷◌, �
 use Rattle.std.specs.Prelude.{Option, Some, None}
 use Rattle.task_moves.specs.declared.moves.owed.Answer.{Answer}
 use Rattle.executor_parts.specs.Marks.{first_of, turn_after}
-use Rattle.executor_model.proofs.Types.{Look, Plain, Urgent, First, Second, Mark, Move, Moved, Event, Hold, Op, ClosingOp}
-use Rattle.executor_model.proofs.Types.{HandleOp, ListOp, Polled, QueueOp, RunOp, Section, TickOrRun, SleeperOp, TableOp}
-use Rattle.executor_model.proofs.Types.{TickOp, UserOp, Waker, Task, Outside, WakerOp, Hint}
+use Rattle.executor_laws.proofs.Types.{Look, Plain, Urgent, First, Second, Mark, Move, Moved, Event, Hold, Op, ClosingOp}
+use Rattle.executor_laws.proofs.Types.{HandleOp, ListOp, Polled, QueueOp, RunOp, Section, TickOrRun, SleeperOp, TableOp, TickOp}
+use Rattle.executor_laws.proofs.Types.{UserOp, Waker, Task, Outside, WakerOp, Hint}
 use Rattle.executor_model.specs.World.{World, Done, log, log_if, task, put, among, awaiter_of}
 use Rattle.executor_model.specs.{ActsOfSleepers.exchange_by, Doing.act, Carried.carried, Carried.awaiter_ops, Weights.weigh}
 use Rattle.executor_model.proofs.Steps.Asides.{Aside, aside-awaiter, aside-owed, aside-let_go, aside-told, aside-closing}
-use Rattle.executor_model.proofs.{Steps.Lists.weigh-append, Steps.Asides.aside-leak_out, Steps.Asides.aside-leaking}
+use Rattle.executor_model.proofs.{Steps.Asides.aside-leak_out, Steps.Asides.aside-leaking, Steps.Lists.weigh-append}
 use Rattle.executor_laws.proofs.Wakeups.Watched.{Watched, watches, watched, watched-push}
 use Rattle.executor_laws.proofs.Wakeups.Stands.{View, view}
 use Rattle.task_moves.specs.Moves as moves

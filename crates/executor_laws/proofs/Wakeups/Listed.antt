@@ -6,9 +6,8 @@ use Rattle.std.specs.Prelude.{◌-◌, Option, Some, None, slice_get, slice_set,
 use Rattle.std.proofs.lemmas.Bool.Decides.{nat_tests}
 use Rattle.executor_parts.specs.Sleepers.{Sleepers, position_of, later, without_entry, woken_up}
 use Rattle.executor_model.specs.{World.Ticker, World.Awake, World.Asleep, World.Left, Weights.same}
-use Rattle.executor_model.proofs.Steps.SleepersLists.{freed-same, position-within}
-use Rattle.executor_model.proofs.{Types.Sleeping, Types.TickOrRun, Steps.Lists.same_is}
-use Rattle.executor_laws.proofs.Wakeups.Sitting.{eq_who, is_it}
+use Rattle.executor_model.proofs.{Steps.SleepersLists.freed-same, Steps.SleepersLists.position-within, Steps.Lists.same_is}
+use Rattle.executor_laws.proofs.{Types.Sleeping, Types.TickOrRun, Wakeups.Sitting.eq_who, Wakeups.Sitting.is_it}
 
 abbrev pub Entry : Type 0
 Entry = ℕ × Sleeping

@@ -3,9 +3,10 @@
 use Rattle.std.proofs.Common.{◌≡◌, ◌≢◌, ◌⊎◌, ℕ, ◌≤◌, ◌==◌, List, [], length, get_or, Bool, true, false, eqb, cond, refl, sym}
 use Rattle.std.proofs.Common.{ap, ◌∙◌, inl, inr, ⊎_elim, arith}
 use Rattle.std.specs.Prelude.{not, nat_lt}
+use Rattle.executor_laws.proofs.Types.{Hold, TickOrRun}
 use Rattle.executor_model.specs.World.{World, Ticker, Left, Run, no_run, place_of}
 use Rattle.executor_model.specs.{Weights.same, Steps.lives}
-use Rattle.executor_model.proofs.{Types.Hold, Types.TickOrRun, Steps.Lists.same_cases, OwnQueues.UsingWorlds.is_over_stage}
+use Rattle.executor_model.proofs.{Steps.Lists.same_cases, OwnQueues.UsingWorlds.is_over_stage}
 
 -- one where they are the same
 abbrev pub is_it : TickOrRun → TickOrRun → ℕ

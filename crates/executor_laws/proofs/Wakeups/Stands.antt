@@ -1,9 +1,10 @@
 -- For some_standing_is_called.
 -- What holds at every moment of each tick and run, and of its last poll.
 use Rattle.std.proofs.Common.{◌≡◌, ◌⊎◌, ℕ, ◌+◌, ◌==◌, ◌≤◌, List, Bool, true, false, ◌||◌, cond, sym, ◌∙◌, subst, arith}
-use Rattle.executor_model.proofs.Types.{Reply, ListOp, Op, RunOp, RunPoll, Section, TickOrRun, SleeperOp, TickOp, UserOp}
+use Rattle.executor_laws.proofs.Types.{WakerOp, Reply, ListOp, Op, RunOp, RunPoll, Section, TickOrRun, SleeperOp, TickOp}
+use Rattle.executor_laws.proofs.Types.{UserOp}
 use Rattle.executor_model.specs.{World.World, World.Done, Weights.same, Weights.weigh, Weights.weigh_all, SleepersAgree.sleeps}
-use Rattle.executor_model.proofs.{Types.WakerOp, OwnQueues.RunsDone.poll_in}
+use Rattle.executor_model.proofs.OwnQueues.RunsDone.{poll_in}
 use Rattle.executor_laws.proofs.Wakeups.Listed.{sum, entry_of, kept_of, misplaced_of}
 use Rattle.executor_laws.proofs.Wakeups.Sitting.{eq_who, holds_it, is_it, lives_in, made_in, over_in, owned_in, place_in}
 use Rattle.executor_laws.proofs.Wakeups.Watched.{Watched, watched, is_pending, is_refusal}

@@ -5,11 +5,10 @@ use Rattle.std.proofs.Common.{cond, refl, sym, ap, subst, ◌⊎◌, inl, inr, �
 use Rattle.std.specs.Prelude.{◌-◌, Option, Some, None, nat_lt, not, slice_get, is_none}
 use Rattle.std.{proofs.lemmas.List.get_or_past, proofs.lemmas.Bool.Decides.nat_tests}
 use Rattle.executor_parts.specs.Sleepers.{Sleepers, waker_in, waker_of, last_waker, without_last, woken_up}
-use Rattle.executor_model.proofs.Types.{Move, Reply, Event, Hold, Op, Polled, Sleeping, SleeperOp, TickOp, UserOp, Waker, Task}
-use Rattle.executor_model.proofs.Types.{Outside, WakerOp, TickOrRun}
+use Rattle.executor_laws.proofs.Types.{Move, Reply, Event, Hold, Op, Polled, Sleeping, SleeperOp, TickOp, UserOp, Waker, Task}
 use Rattle.executor_model.specs.ActsOfSleepers.{call_of, call_sleeper, wake_up_by, given_back, hand_out_by, leave_sleepers_by}
-use Rattle.executor_model.specs.World.{World, Ticker, Awake, Asleep, Left, Done, done, log, place_of, put_place, Run}
 use Rattle.executor_model.specs.ActsOfSleepers.{make_tick_by, polled_as, sleeper_goes, tell_and_return}
+use Rattle.executor_model.specs.World.{World, Ticker, Awake, Asleep, Left, Done, done, log, place_of, put_place, Run}
 use Rattle.executor_model.specs.{Acts.copy_by, Acts.wake, Weights.same, Steps.lives, SleepersAgree.sleeps}
 use Rattle.executor_model.proofs.{Steps.SleepersCounting.asleep, Steps.SleepersLists.given_back-same}
 use Rattle.executor_laws.proofs.Wakeups.Listed.{Entry, sum, entry_of, kept_of, astray, misplaced_of, at_entry, sum-last}
@@ -18,14 +17,14 @@ use Rattle.executor_laws.proofs.Wakeups.Stands.{View, view, Doing, Stands, Keeps
 use Rattle.executor_laws.proofs.Wakeups.StandsNothing.{nothing-up, nothing-leave, nothing-call, nothing-end, nothing-both}
 use Rattle.executor_laws.proofs.Wakeups.StandsSeats.{Seated, field-set, sleeps-apart, put-lives, put-made, put-over, put-place}
 use Rattle.executor_laws.proofs.Wakeups.StandsWorlds.{HasSlept, other-entry, other-kept, other-misplaced, woken_up-own}
-use Rattle.executor_laws.proofs.Wakeups.Beside.{Beside, beside-move}
 use Rattle.executor_laws.proofs.Wakeups.Sitting.{owned_in, placed-in, self, who_cases}
-use Rattle.executor_laws.proofs.Wakeups.StandsOwn.{own-call, own-then, own-hand_out, own-leave, own-made, own-up}
 use Rattle.executor_laws.proofs.Wakeups.StandsSeats.{seated-and, seated-other, seated-same, up-apart}
 use Rattle.executor_laws.proofs.Wakeups.StandsWorlds.{view-same, misplaced-few, entries-astray, place_here}
+use Rattle.executor_laws.proofs.Wakeups.StandsOwn.{own-call, own-then, own-hand_out, own-leave, own-made, own-up}
 use Rattle.executor_laws.proofs.Wakeups.Watched.{Watched, called_at, watched, watched-push}
-use Rattle.executor_laws.proofs.Wakeups.StandsAsleep.{by_who, nothing-goes}
-use Rattle.executor_laws.proofs.{Wakeups.Listed.sum-woken_up, Wakeups.Stands.drops_who, Wakeups.StandsNothing.nothing-of}
+use Rattle.executor_laws.proofs.{Types.Outside, Types.WakerOp, Types.TickOrRun, Wakeups.Listed.sum-woken_up}
+use Rattle.executor_laws.proofs.{Wakeups.Stands.drops_who, Wakeups.StandsNothing.nothing-of, Wakeups.Beside.Beside}
+use Rattle.executor_laws.proofs.{Wakeups.Beside.beside-move, Wakeups.StandsAsleep.by_who, Wakeups.StandsAsleep.nothing-goes}
 
 -- it wakes up
 

@@ -4,12 +4,11 @@ use Rattle.std.proofs.Common.{◌≡◌, ◌⊎◌, ◌∙◌, ℕ, zero, suc, �
 use Rattle.std.proofs.Common.{take, refl, sym, ap, subst, inl, inr, ⊎_elim, arith}
 use Rattle.std.specs.Prelude.{Some, count_by, slice_get}
 use Rattle.std.{proofs.lemmas.Bool.Decides.nat_tests, proofs.lemmas.List.Sums.sum_by-append}
-use Rattle.executor_model.proofs.Types.{Call, Reply, Event, Polled, TickOrRun}
 use Rattle.executor_model.specs.{AwaiterKept.EndsWith, Quiet.begins_call, Quiet.ends_call, Trace.Trace, Trace.has, Weights.same}
 use Rattle.executor_model.proofs.OneFuture.Telling.{same-cond}
-use Rattle.executor_laws.proofs.Wakeups.Sitting.{eq_who}
 use Rattle.executor_laws.proofs.Wakeups.StandsTelling.{drops_it, or-none, not-polled, not-dropped, polls_it}
 use Rattle.executor_laws.proofs.Wakeups.Watched.{Watched, called_at, is_pending, is_refusal, ended_in, watches, watched_from}
+use Rattle.executor_laws.proofs.{Types.Call, Types.Reply, Types.Event, Types.Polled, Types.TickOrRun, Wakeups.Sitting.eq_who}
 
 abbrev ends_one : ℕ → Event → ℕ
 ends_one p e = cond (ends_call p e) 1 0

@@ -5,26 +5,27 @@ use Rattle.std.proofs.Common.{⊎_elim, arith}
 use Rattle.std.specs.Prelude.{Option, Some, None, slice_get}
 use Rattle.executor_parts.specs.Sleepers.{put_to_sleep, position_of, waker_at, next_number}
 use Rattle.executor_parts.specs.Marks.{first_of, other as other_mark}
-use Rattle.executor_model.proofs.Types.{Move, Reply, Look, First, Second, Op, Sleeping, SleeperOp, TickOp, Waker, Task, Outside}
+use Rattle.executor_laws.proofs.Types.{TickOrRun, Move, Reply, Look, First, Second, Op, Sleeping, SleeperOp, TickOp, Waker}
 use Rattle.executor_model.specs.ActsOfSleepers.{look_tick, look_tick_by, search_tick, copy_sleeper_by, held_as, sleep_nowhere}
 use Rattle.executor_model.specs.ActsOfSleepers.{pend_as, sleep_anew_by, sleeper_goes, sleep_listed_by, sleep_again_by}
 use Rattle.executor_model.specs.World.{World, Ticker, Awake, Asleep, Left, Done, place_of, put_sleepers, queue_of}
 use Rattle.executor_model.specs.Acts.{copied, mark_in, waker_goes}
 use Rattle.executor_model.specs.{ActsOfSleepers.fall_asleep_by, Weights.same, SleepersAgree.sleeps}
-use Rattle.executor_model.proofs.{Types.TickOrRun, Steps.SleepersCounting.asleep}
+use Rattle.executor_model.proofs.Steps.SleepersCounting.{asleep}
 use Rattle.executor_laws.proofs.Wakeups.Listed.{Entry, sum, entry_of, kept_of, astray, misplaced_of, at_entry, sum-push}
 use Rattle.executor_laws.proofs.Wakeups.StandsNothing.{nothing-look, nothing-search, nothing-copy, nothing-sleep, nothing-up}
 use Rattle.executor_laws.proofs.Wakeups.StandsOwn.{Own, held-other, own-anew, own-again, own-found, own-front, own-nowhere}
 use Rattle.executor_laws.proofs.Wakeups.StandsSeats.{sleeps-apart, put-lives, put-made, put-over, put-place, seated-and}
 use Rattle.executor_laws.proofs.Wakeups.Sitting.{IsOther, IsSame, cond-other, cond-self, other, over_in, owned_in, placed-in}
 use Rattle.executor_laws.proofs.Wakeups.StandsWorlds.{HasSlept, OwnEntry, own-entry, none-own, view-same, misplaced-few}
-use Rattle.executor_laws.proofs.Wakeups.Stands.{View, view, with_doing, Stands, KeepsStands, Nothing, keeps-same}
+use Rattle.executor_laws.proofs.Wakeups.Listed.{sum-set, entry-in}
 use Rattle.executor_laws.proofs.Wakeups.StandsNothing.{nothing-call, nothing-end, nothing-both, nothing-of}
+use Rattle.executor_laws.proofs.Wakeups.StandsOwn.{own-refused, own-waking_up}
 use Rattle.executor_laws.proofs.Wakeups.StandsSeats.{seated-other, seated-same, up-apart}
 use Rattle.executor_laws.proofs.Wakeups.Sitting.{self, who_cases, lives_in, made_in}
 use Rattle.executor_laws.proofs.Wakeups.StandsWorlds.{place_here, entries-astray, eqb-self}
-use Rattle.executor_laws.proofs.{Wakeups.Listed.sum-set, Wakeups.Listed.entry-in, Wakeups.Beside.view-turned}
-use Rattle.executor_laws.proofs.{Wakeups.StandsOwn.own-refused, Wakeups.StandsOwn.own-waking_up, Wakeups.Watched.watched}
+use Rattle.executor_laws.proofs.Wakeups.Stands.{View, view, with_doing, Stands, KeepsStands, Nothing, keeps-same}
+use Rattle.executor_laws.proofs.{Types.Task, Types.Outside, Wakeups.Beside.view-turned, Wakeups.Watched.watched}
 
 -- a step that names u, by whether it is this one
 pub by_who : (t u : TickOrRun) (w : World) (old : TickOrRun → List Op) (d : TickOrRun → Done) →

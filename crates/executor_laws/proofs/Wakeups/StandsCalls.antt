@@ -3,7 +3,7 @@
 use Rattle.std.proofs.Common.{◌≡◌, ◌≢◌, ◌⊎◌, ◌∙◌, ℕ, suc, ◌+◌, ◌==◌, List, [], ◌∷◌, length, inl, inr, Bool, true, false, cond}
 use Rattle.std.proofs.Common.{refl, sym, ap, subst, ⊎_elim, arith}
 use Rattle.std.specs.Prelude.{Option}
-use Rattle.executor_model.proofs.Types.{By, Call, Reply, Event, Hold, ClosingOp, TickOp, Waker, Op, RunPoll, TickOrRun}
+use Rattle.executor_laws.proofs.Types.{By, Call, Reply, Event, Hold, ClosingOp, TickOp, Waker, Op, RunPoll, TickOrRun}
 use Rattle.executor_model.specs.World.{World, Stage, New, Listed, Ended, Done, done, log, run_of}
 use Rattle.executor_model.specs.Weights.{same, weigh}
 use Rattle.executor_model.specs.Steps.{begun, drop_run, future_of, kept, poll_run, waker_of}
@@ -16,8 +16,8 @@ use Rattle.executor_laws.proofs.Wakeups.Sitting.{IsOther, IsSame, cond-self, oth
 use Rattle.executor_laws.proofs.Wakeups.StandsNothing.{nothing-end, nothing-of, nothing-polled, nothing-search}
 use Rattle.executor_laws.proofs.Wakeups.StandsOwn.{Opens, own-finished, own-polled}
 use Rattle.executor_laws.proofs.Wakeups.Watched.{Watched, poll_begun, watched, watched-push}
-use Rattle.executor_laws.proofs.{Wakeups.Beside.besides, Wakeups.Beside.sits_of, Wakeups.Stands.with-nothing}
-use Rattle.executor_laws.proofs.{Wakeups.Stands.stray, Wakeups.StandsWorlds.eqb-self, Wakeups.StandsPolls.stands-inside}
+use Rattle.executor_laws.proofs.{Wakeups.Stands.with-nothing, Wakeups.Stands.stray, Wakeups.StandsPolls.stands-inside}
+use Rattle.executor_laws.proofs.{Wakeups.Beside.besides, Wakeups.Beside.sits_of, Wakeups.StandsWorlds.eqb-self}
 
 -- the executor's drop
 

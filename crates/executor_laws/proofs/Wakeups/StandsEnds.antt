@@ -3,7 +3,7 @@
 use Rattle.std.proofs.Common.{◌≡◌, ◌≢◌, ◌∙◌, ℕ, zero, suc, ◌+◌, ◌≤◌, List, [], ◌∷◌, ◌++◌, Bool, true, false, ◌&&◌, cond, eqb}
 use Rattle.std.proofs.Common.{refl, sym, ap, subst, arith}
 use Rattle.std.proofs.lemmas.Bool.Decides.{nat_tests}
-use Rattle.executor_model.proofs.Types.{Reply, Event, Hold, Op, TickOrRun}
+use Rattle.executor_laws.proofs.Types.{Reply, Event, Hold, Op, TickOrRun}
 use Rattle.executor_model.specs.World.{World, log}
 use Rattle.executor_laws.proofs.Wakeups.Stands.{View, view, Doing, with_doing, Footing, Stands, Mark, with-nothing, asks_of}
 use Rattle.executor_laws.proofs.Wakeups.StandsNothing.{nothing-of}

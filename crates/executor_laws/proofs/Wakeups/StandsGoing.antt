@@ -3,23 +3,23 @@
 use Rattle.std.proofs.Common.{◌≡◌, ◌≢◌, ◌∙◌, ℕ, zero, suc, ◌+◌, ◌==◌, ◌≤◌, List, [], ◌∷◌, ◌++◌, length, get_or, Bool, true}
 use Rattle.std.proofs.Common.{false, cond, refl, sym, ap, subst, ⊎_elim, arith, length-append, get_or-set_other}
 use Rattle.std.{proofs.lemmas.List.get_or_past, proofs.lemmas.Bool.Decides.nat_tests, specs.Prelude.not, specs.Prelude.nat_lt}
-use Rattle.executor_model.proofs.Types.{Move, Reply, Event, Hold, ListOp, Op, Polled, QueueOp, RunOp, RunPoll, Section}
-use Rattle.executor_model.proofs.Types.{TickOrRun, TickOp, UserOp, Waker, Task, Outside, Hint}
+use Rattle.executor_laws.proofs.Types.{Move, Reply, Event, Hold, ListOp, Op, Polled, QueueOp, RunOp, RunPoll, Section}
+use Rattle.executor_laws.proofs.Types.{TickOrRun, TickOp, UserOp, Waker, Task, Outside, Hint}
 use Rattle.executor_model.specs.World.{World, Ticker, Left, Stage, New, Listed, Ended, Run, Done, done, log, new_run, no_run}
-use Rattle.executor_model.specs.{SleepersAgree.sleeps, World.own_of, World.put_own, World.put_run, World.run_of}
+use Rattle.executor_model.specs.{World.own_of, World.put_own, World.put_run, World.run_of, SleepersAgree.sleeps}
 use Rattle.executor_model.proofs.OwnQueues.OwnRooms.{made-length, same-own, shorter-first}
 use Rattle.executor_model.proofs.Steps.SleepersLists.{given_back-same}
 use Rattle.executor_model.proofs.OwnQueues.UsingWorlds.{count-set, is_over_stage}
 use Rattle.executor_laws.proofs.Wakeups.Sitting.{IsOther, IsSame, cond-self, eq-self, is_it, lives_in, made_in, over_in}
 use Rattle.executor_laws.proofs.Wakeups.StandsNothing.{nothing-both, nothing-end, nothing-leave, nothing-of, nothing-section}
 use Rattle.executor_laws.proofs.Wakeups.StandsRuns.{Walks, calm-same, owned-less, stage-front, stage-own, stage-ready}
+use Rattle.executor_laws.proofs.Wakeups.Sitting.{owned_in, place_in, self, who_cases}
+use Rattle.executor_laws.proofs.Wakeups.StandsNothing.{nothing-left, nothing-woken, with-front}
+use Rattle.executor_laws.proofs.Wakeups.StandsRuns.{stage-register, stage-search, stands-walks, view-calm, walks}
 use Rattle.executor_laws.proofs.Wakeups.Beside.{Beside, beside-move, besides}
 use Rattle.executor_laws.proofs.Wakeups.Listed.{sum, entry_of, kept_of, misplaced_of}
-use Rattle.executor_laws.proofs.Wakeups.Sitting.{owned_in, place_in, self, who_cases}
 use Rattle.executor_laws.proofs.Wakeups.Stands.{Doing, KeepsStands, Mark, Stands, View, keeps-same, view, with_doing}
-use Rattle.executor_laws.proofs.Wakeups.StandsNothing.{nothing-left, nothing-woken, with-front}
 use Rattle.executor_laws.proofs.Wakeups.StandsOwn.{Goes, own-goes, own-made, own-over, own-scheduled, own-woken}
-use Rattle.executor_laws.proofs.Wakeups.StandsRuns.{stage-register, stage-search, stands-walks, view-calm, walks}
 use Rattle.executor_laws.proofs.Wakeups.StandsSeats.{Seated, field-set, seated-and, seated-run, seated-same}
 use Rattle.executor_laws.proofs.Wakeups.StandsWorlds.{HasSlept, entries-astray, misplaced-few, place_here, view-same}
 use Rattle.executor_laws.proofs.Wakeups.Watched.{Watched, called_at, watched, watched-push}

@@ -1,8 +1,7 @@
 -- For some_standing_is_called.
 -- Each thing that is done keeps what holds of each tick and run, and who wakes up or leaves for it is in use.
 use Rattle.std.proofs.Common.{◌≡◌, ℕ, ◌≤◌, [], ◌∷◌, true, false, refl, ap, ◌∙◌, arith}
-use Rattle.executor_model.proofs.Types.{Answer, Event, ListOp, Op, RunOp, RunPoll, Section, TickOrRun, SleeperOp, TickOp}
-use Rattle.executor_model.proofs.Types.{UserOp, Waker, WakerOp, Hint, UserEnd}
+use Rattle.executor_laws.proofs.Types.{Answer, Event, ListOp, Op, RunOp, RunPoll, Section, TickOrRun, SleeperOp, TickOp, UserOp}
 use Rattle.executor_model.specs.Doing.{act, list_act, run_act, search, steal_act, tick_act}
 use Rattle.executor_model.specs.{Acts.is_copy_refused, Rows.borrowing_of, Steps.accepts, Steps.react, Weights.is_run}
 use Rattle.executor_model.specs.{Weights.same, World.World, World.done, World.run_of}
@@ -13,12 +12,12 @@ use Rattle.executor_laws.proofs.Wakeups.StandsGoing.{stands-lock, stands-make_ru
 use Rattle.executor_laws.proofs.Wakeups.StandsGoing.{stands-register, stands-reschedule, stands-return, stands-room}
 use Rattle.executor_laws.proofs.Wakeups.StandsRuns.{stage-common, stage-look, stage-read, stage-search, stage-steal, stage-turn}
 use Rattle.executor_laws.proofs.Wakeups.StandsRuns.{stands-walks, walks-turn, walks-lock, walks-look_own, walks-search}
+use Rattle.executor_laws.proofs.Wakeups.StandsGoing.{stands-unregister, stands-wake_own}
+use Rattle.executor_laws.proofs.Wakeups.StandsRuns.{walks-search_common, walks-steal}
 use Rattle.executor_laws.proofs.Wakeups.Beside.{Beside, sits_of, is_sits, beside-act, view-log}
 use Rattle.executor_laws.proofs.Wakeups.Stands.{KeepsStands, keeps-same}
-use Rattle.executor_laws.proofs.Wakeups.StandsActs.{stands-copy_waker}
-use Rattle.executor_laws.proofs.Wakeups.StandsGoing.{stands-unregister, stands-wake_own}
 use Rattle.executor_laws.proofs.Wakeups.StandsAsleep.{stands-search, stands-look, stands-copy, stands-fall_asleep}
-use Rattle.executor_laws.proofs.Wakeups.StandsRuns.{walks-search_common, walks-steal}
+use Rattle.executor_laws.proofs.{Types.Waker, Types.WakerOp, Types.Hint, Types.UserEnd, Wakeups.StandsActs.stands-copy_waker}
 use Rattle.executor_laws.proofs.{Wakeups.Sitting.over_in, Wakeups.StandsNothing.nothing-of, Wakeups.StandsWorlds.HasSlept}
 use Rattle.executor_model.specs.ActsOfRuns as runs
 

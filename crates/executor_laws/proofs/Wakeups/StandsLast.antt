@@ -3,12 +3,12 @@
 use Rattle.std.proofs.Common.{◌≡◌, ◌≢◌, ◌∙◌, ℕ, zero, suc, ◌+◌, ◌<◌, ◌≤◌, List, [], ◌∷◌, ◌++◌, length, get_or, set, true, false}
 use Rattle.std.proofs.Common.{refl, sym, ap, subst, ⊎_elim, arith}
 use Rattle.std.specs.Prelude.{reverse}
-use Rattle.executor_model.proofs.Types.{Reply, Event, Hold, Op, TickOrRun}
+use Rattle.executor_laws.proofs.Types.{Reply, Event, Hold, Op, TickOrRun}
 use Rattle.executor_model.specs.Weights.{same, weigh, weigh_all}
 use Rattle.executor_model.specs.{World.Done, World.done, World.log, Steps.Machine, Steps.stack}
 use Rattle.executor_model.proofs.Awaiters.Holding.{nowhere, spot, spot-none, spot-more, seen, seen-append, found-weighs}
-use Rattle.executor_model.proofs.Sleepers.SleepersFollowingExecutions.{followed-ends}
 use Rattle.executor_model.proofs.Awaiters.Holding.{Spotted, Holds, held-step}
+use Rattle.executor_model.proofs.Sleepers.SleepersFollowingExecutions.{followed-ends}
 use Rattle.executor_model.proofs.{Awaiters.AwaitedTies.stack-then, Steps.Lift.unsettled, OwnQueues.UsingSteps.used-ends}
 use Rattle.executor_laws.proofs.Wakeups.StandsSteps.{Standing, before, footing-here, open_of, stands-here, stands-pushed}
 use Rattle.executor_laws.proofs.Wakeups.Stands.{view, Doing, with_doing, doing, Footing, Stands, asks_of}
@@ -16,7 +16,7 @@ use Rattle.executor_laws.proofs.Wakeups.StandsEnds.{EndWatched, Meets, marked, s
 use Rattle.executor_laws.proofs.Wakeups.StandsEnds.EndWatched.{own, within, apart}
 use Rattle.executor_laws.proofs.Wakeups.StandsWeights.{asks-all, weigh-at, asks-calling}
 use Rattle.executor_laws.proofs.Wakeups.Watched.{Watched, watched}
-use Rattle.executor_laws.proofs.{Wakeups.StandsTied.tied-nil, Wakeups.StandsSteps.tied-pushed}
+use Rattle.executor_laws.proofs.{Wakeups.StandsSteps.tied-pushed, Wakeups.StandsTied.tied-nil}
 
 -- the end of a call
 

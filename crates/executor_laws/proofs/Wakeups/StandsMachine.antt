@@ -6,12 +6,13 @@ use Rattle.executor_model.specs.Steps.{Machine, stack, run, start, top, idle}
 use Rattle.executor_model.specs.{World.Done, Doing.act, Good.Good}
 use Rattle.executor_model.proofs.Sleepers.SleepersFollowingExecutions.{Followed, followed-moves, followed-start}
 use Rattle.executor_model.proofs.OwnQueues.UsingSteps.{AllUsed, used-moves, used-start}
-use Rattle.executor_model.proofs.{Types.Kind, Types.Op, Types.Hint, Types.Step, Types.TickOrRun, Quiet.Calls.is_end}
-use Rattle.executor_model.proofs.{Steps.Lift.unsettled, Steps.Lift.good-start, Steps.Lift.none_refused, Steps.Ways.Way}
-use Rattle.executor_model.proofs.{Steps.Ways.along, Steps.Ways.Way.acted, Steps.Ways.Way.reacted, Steps.Ways.Way.called}
+use Rattle.executor_model.proofs.Steps.Lift.{unsettled, good-start, none_refused}
+use Rattle.executor_model.proofs.Steps.Ways.Way.{acted, reacted, called}
+use Rattle.executor_model.proofs.{Quiet.Calls.is_end, Steps.Ways.Way, Steps.Ways.along}
 use Rattle.executor_laws.proofs.Wakeups.StandsWeights.{nothing_done, idle-doing}
 use Rattle.executor_laws.proofs.Wakeups.StandsMoves.{standing-acted, standing-begun, standing-reacted}
-use Rattle.executor_laws.proofs.{Wakeups.Stands.view, Wakeups.Stands.Doing, Wakeups.Stands.Stands, Wakeups.StandsEnds.marked}
+use Rattle.executor_laws.proofs.Wakeups.Stands.{view, Doing, Stands}
+use Rattle.executor_laws.proofs.{Types.Kind, Types.Op, Types.Hint, Types.Step, Types.TickOrRun, Wakeups.StandsEnds.marked}
 use Rattle.executor_laws.proofs.{Wakeups.StandsTied.IsTied, Wakeups.StandsTied.tied-nil, Wakeups.Watched.Watched}
 use Rattle.executor_laws.proofs.{Wakeups.Watched.watched-none, Wakeups.StandsSteps.Standing, Wakeups.StandsLast.standing-ends}
 

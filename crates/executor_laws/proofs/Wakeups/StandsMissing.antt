@@ -5,9 +5,9 @@ use Rattle.std.proofs.Common.{inr, ⊎_elim, arith}
 use Rattle.executor_model.specs.SleepersAgree.{sleeps, slumbering, runs_asleep}
 use Rattle.executor_model.specs.{World.World, World.Ticker, World.Awake, World.Asleep, World.Left, Weights.same, Weights.past}
 use Rattle.executor_model.proofs.Sleepers.TickLists.{slumbering-places, places, places-at}
-use Rattle.executor_model.proofs.{Types.TickOrRun, Steps.Lists.same_is, Steps.Lists.past_is}
+use Rattle.executor_model.proofs.Steps.Lists.{same_is, past_is}
 use Rattle.executor_laws.proofs.Wakeups.Listed.{Entry, sum, entry_of}
-use Rattle.executor_laws.proofs.{Wakeups.Sitting.is_it, Wakeups.StandsWorlds.place_here}
+use Rattle.executor_laws.proofs.{Types.TickOrRun, Wakeups.Sitting.is_it, Wakeups.StandsWorlds.place_here}
 
 one-from : (b x : ℕ) → past b x ≡ past (suc b) x + same b x
 one-from b x = grind (arith, past_is, same_is)

@@ -3,22 +3,23 @@
 use Rattle.std.proofs.Common.{◌≡◌, ◌⊎◌, ◌∙◌, ℕ, suc, ◌<◌, ◌≤◌, List, [], ◌∷◌, ◌++◌, length, set, Bool, true, false, ◌&&◌, ◌||◌}
 use Rattle.std.proofs.Common.{not, cond, refl, sym, ap, subst, inl, inr, ⊎_elim, arith}
 use Rattle.std.specs.Prelude.{reverse}
-use Rattle.executor_model.proofs.Types.{Call, Answer, Event, Op, UserOp, Hint, UserEnd, ListOp, Section, TickOrRun, TickOp}
+use Rattle.executor_laws.proofs.Types.{Reply, Call, Answer, Event, Op, UserOp, Hint, UserEnd, ListOp, Section, TickOrRun}
 use Rattle.executor_model.specs.World.{World, Done, log, run_of}
 use Rattle.executor_model.specs.Steps.{Machine, stack, mine, top, has_all, is_drop, is_unborrowed, accepts, begun, react}
 use Rattle.executor_model.specs.{Doing.act, Good.Good, Rows.borrowing_of, Weights.weigh_all}
-use Rattle.executor_model.proofs.{Types.Reply, Quiet.Calls.is_end, Quiet.Calls.Passes, Quiet.Calls.single, Quiet.Calls.then}
+use Rattle.executor_model.proofs.{Quiet.Calls.is_end, Quiet.Calls.Passes, Quiet.Calls.single, Quiet.Calls.then}
 use Rattle.executor_model.proofs.{Quiet.CallsGroups.calls-act, Steps.Lift.split, Steps.Lift.unsettled, Steps.Lift.first-true}
 use Rattle.executor_model.proofs.{Steps.Lift.set-own, Quiet.Resting.opens, Sleepers.SleepersFollowingExecutions.Followed}
 use Rattle.executor_model.proofs.{OwnQueues.Using.polling_of, OwnQueues.UsingSteps.AllUsed, OwnQueues.UsingWorlds.is_over_stage}
 use Rattle.executor_laws.proofs.Wakeups.StandsSteps.{Standing, before, footing-here, held-begun, held-polled, held-same, slept}
+use Rattle.executor_laws.proofs.Wakeups.StandsSteps.{stands-here, stands-pushed, tied-pushed}
 use Rattle.executor_laws.proofs.Wakeups.Stands.{view, with_doing, doing, Stands, Mark, used_of}
 use Rattle.executor_laws.proofs.Wakeups.StandsPolls.{asked, begun_in, polls_at}
 use Rattle.executor_laws.proofs.Wakeups.StandsGroups.{IsLive, stands-act, stands-react}
 use Rattle.executor_laws.proofs.Wakeups.StandsWakingUp.{tied-act, tied-begun, tied-react}
 use Rattle.executor_laws.proofs.Wakeups.StandsUses.{all-gone, none-lives, uses-run, uses-tick}
-use Rattle.executor_laws.proofs.Wakeups.StandsSteps.{stands-here, stands-pushed, tied-pushed}
-use Rattle.executor_laws.proofs.{Wakeups.Sitting.eq_who, Wakeups.StandsCalls.Uses, Wakeups.StandsCalls.stands-begun}
+use Rattle.executor_laws.proofs.Wakeups.StandsCalls.{Uses, stands-begun}
+use Rattle.executor_laws.proofs.{Types.TickOp, Wakeups.Sitting.eq_who}
 use Rattle.executor_model.specs.ActsOfRuns as runs
 
 -- what is done

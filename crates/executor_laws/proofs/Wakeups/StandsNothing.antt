@@ -1,16 +1,16 @@
 -- For some_standing_is_called.
 -- Each stage of a poll uses its tick or run, and what doesn't use it is nothing to it.
 use Rattle.std.proofs.Common.{◌≡◌, ◌≢◌, ℕ, ◌+◌, ◌==◌, ◌≤◌, List, [], ◌∷◌, ◌++◌, Bool, true, false, ◌||◌, cond, refl, arith}
-use Rattle.executor_model.proofs.Types.{Look, Reply, Hold, ListOp, Op, RunOp, RunPoll, Section, TickOrRun, SleeperOp, TickOp}
+use Rattle.executor_laws.proofs.Types.{UserOp, Waker, WakerOp, Look, Reply, Hold, ListOp, Op, RunOp, RunPoll, Section}
 use Rattle.executor_model.specs.Weights.{same, weigh}
-use Rattle.executor_model.proofs.{Types.UserOp, Types.Waker, Types.WakerOp, Steps.Lists.weigh-append}
-use Rattle.executor_model.proofs.{OwnQueues.RunsDone.poll_in, Steps.SleepersCounting.asleep, OneFuture.Telling.one-stray}
+use Rattle.executor_model.proofs.Steps.SleepersCounting.{asleep}
+use Rattle.executor_model.proofs.{Steps.Lists.weigh-append, OwnQueues.RunsDone.poll_in, OneFuture.Telling.one-stray}
 use Rattle.executor_laws.proofs.Wakeups.Stands.{is_ready, is_answer, used_of, early_of, pends_of, refused_of, found_of, ends_of}
 use Rattle.executor_laws.proofs.Wakeups.Stands.{waking_up_of, drops_of, drops_who, odd_look, odd_of, strays_of, calls_of, Doing}
-use Rattle.executor_laws.proofs.Wakeups.Beside.{holds_some, sits_of}
-use Rattle.executor_laws.proofs.Wakeups.Sitting.{cond-other, eq_who, holds_it, is-cond, is_it, other}
 use Rattle.executor_laws.proofs.Wakeups.Stands.{early_section, used_section, strays_section, stray, with_doing, Nothing}
-use Rattle.executor_laws.proofs.Wakeups.Watched.{is_pending, is_refusal}
+use Rattle.executor_laws.proofs.Wakeups.Sitting.{cond-other, eq_who, holds_it, is-cond, is_it, other}
+use Rattle.executor_laws.proofs.{Types.TickOrRun, Types.SleeperOp, Types.TickOp, Wakeups.Beside.holds_some}
+use Rattle.executor_laws.proofs.{Wakeups.Beside.sits_of, Wakeups.Watched.is_pending, Wakeups.Watched.is_refusal}
 
 -- each stage uses it
 

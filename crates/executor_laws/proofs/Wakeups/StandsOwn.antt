@@ -2,13 +2,13 @@
 -- What the own steps of a tick or run keep, by what they change of it.
 use Rattle.std.proofs.Common.{◌≡◌, ◌⊎◌, ◌∙◌, ℕ, suc, ◌+◌, ◌==◌, ◌≤◌, List, [], ◌∷◌, ◌++◌, Bool, true, false, cond, refl, sym}
 use Rattle.std.proofs.Common.{subst, arith}
-use Rattle.executor_model.proofs.Types.{Reply, Hold, Look, Op, RunOp, TickOrRun, SleeperOp, TickOp, Waker}
+use Rattle.executor_laws.proofs.Types.{Reply, Hold, Look, Op, RunOp, TickOrRun, SleeperOp, TickOp, Waker}
 use Rattle.executor_model.specs.{ActsOfSleepers.held_as, ActsOfSleepers.pend_as, Weights.same, Weights.weigh}
 use Rattle.executor_model.proofs.{Steps.Lists.same_is, Steps.SleepersCounting.asleep}
 use Rattle.executor_laws.proofs.Wakeups.Stands.{asks_of, calls_of, drops_of, drops_who, early_of, ends_of, found_of, odd_of}
 use Rattle.executor_laws.proofs.Wakeups.Stands.{pends_of, refused_of, waking_up_of, strays_of, used_of, View, Doing, with_doing}
-use Rattle.executor_laws.proofs.Wakeups.Sitting.{eq_who, eq-self, holds_it, is_it, self}
 use Rattle.executor_laws.proofs.Wakeups.Stands.{with-nothing, Footing, Stands, Mark, Nothing}
+use Rattle.executor_laws.proofs.Wakeups.Sitting.{eq_who, eq-self, holds_it, is_it, self}
 use Rattle.executor_laws.proofs.Wakeups.Watched.{Watched, is_pending, is_refusal, parted, poll_begun}
 use Rattle.executor_laws.proofs.Wakeups.StandsNothing.{end-parts, nothing-of, with-front, with-middle}
 

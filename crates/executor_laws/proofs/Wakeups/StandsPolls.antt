@@ -3,7 +3,7 @@
 use Rattle.std.proofs.Common.{◌≡◌, ◌≢◌, ◌⊎◌, ◌∙◌, ℕ, zero, suc, ◌+◌, List, [], ◌∷◌, length, get_or, set, get_or-set_other, inl}
 use Rattle.std.proofs.Common.{inr, Bool, true, false, cond, refl, sym, ap, subst, arith}
 use Rattle.std.specs.Prelude.{Option, Some, None, not, nat_lt}
-use Rattle.executor_model.proofs.Types.{Call, Reply, Event, Hold, TickOp, ListOp, Op, RunOp, Section, TickOrRun, UserOp}
+use Rattle.executor_laws.proofs.Types.{Call, Reply, Event, Hold, TickOp, ListOp, Op, RunOp, Section, TickOrRun, UserOp}
 use Rattle.executor_model.specs.World.{World, Stage, New, Listed, Ended, Run, Done, done, log, no_run, put_run, run_of}
 use Rattle.executor_model.specs.{SleepersAgree.sleeps, Weights.same, Weights.weigh, Steps.drop_run, Steps.with_future}
 use Rattle.executor_model.proofs.Sleepers.TickLists.{same_self}
@@ -11,9 +11,9 @@ use Rattle.executor_model.proofs.OwnQueues.UsingWorlds.{count-set, is_over_stage
 use Rattle.executor_laws.proofs.Wakeups.Sitting.{eq-other, eq-self, eq_who, lives_in, made_in, other, over_in, owned_in}
 use Rattle.executor_laws.proofs.Wakeups.Stands.{View, view, Doing, with_doing, Footing, Stands, Nothing, Mark, KeepsBy}
 use Rattle.executor_laws.proofs.Wakeups.StandsNothing.{nothing-both, nothing-end, nothing-leave, nothing-locked, nothing-of}
+use Rattle.executor_laws.proofs.Wakeups.Stands.{with-nothing, drops_of, ends_of, waking_up_of}
 use Rattle.executor_laws.proofs.Wakeups.Beside.{Beside, besides}
 use Rattle.executor_laws.proofs.Wakeups.Listed.{sum, entry_of, kept_of, misplaced_of}
-use Rattle.executor_laws.proofs.Wakeups.Stands.{with-nothing, drops_of, ends_of, waking_up_of}
 use Rattle.executor_laws.proofs.Wakeups.StandsOwn.{Parts, own-dropped, own-run_dropped}
 use Rattle.executor_laws.proofs.Wakeups.Watched.{Watched, parted, poll_begun, watched, watched-push, watches}
 use Rattle.executor_laws.proofs.{Wakeups.Sitting.place_in, Wakeups.StandsNothing.nothing-left, Wakeups.StandsSeats.field-set}

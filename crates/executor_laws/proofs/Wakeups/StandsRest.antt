@@ -2,7 +2,7 @@
 -- At a quiet trace where a future is due and some tick or run stands, one that stands is called.
 use Rattle.std.proofs.Common.{◌≡◌, ◌⊎◌, ◌∙◌, ℕ, suc, ◌+◌, ◌<◌, ◌≤◌, List, [], length, drop, get_or, zero, Bool, true, false}
 use Rattle.std.proofs.Common.{refl, sym, ap, subst, inl, inr, ⊎_elim, arith}
-use Rattle.executor_model.proofs.Types.{Reply, Kind, TickOrRun, Step, Mark, Plain, Urgent}
+use Rattle.executor_laws.proofs.Types.{Reply, Kind, TickOrRun, Step, Mark, Plain, Urgent}
 use Rattle.executor_model.specs.World.{queue_of, World, Ticker, Awake, Asleep, Left, own_of}
 use Rattle.executor_model.specs.Standing.{LastPolled, Stands as StandsSo, WasCalled, calls_poll, drops_sleeper}
 use Rattle.executor_model.specs.{AwaiterKept.EndsWith, AwaiterKept.since, Due.IsDue, Good.Good, OwnQueues.OwnQueueHasRunner}
@@ -17,13 +17,13 @@ use Rattle.executor_model.proofs.{Steps.QueuesByMark.times-all, Steps.Lift.good,
 use Rattle.executor_model.proofs.{Sleepers.SleepersFollowingExecutions.agrees, Sleepers.SleepersTellingExecutions.are_told}
 use Rattle.executor_laws.proofs.Wakeups.Stands.{view, Doing, doing, Stands, asks_of, early_of, pends_of, refused_of, found_of}
 use Rattle.executor_laws.proofs.Wakeups.StandsTelling.{LastPoll, last-poll, Begun, begun-at, calls-is, drops-is, left-has}
+use Rattle.executor_laws.proofs.Wakeups.Stands.{calls_of, drops_of, ends_of, odd_of, waking_up_of, strays_of, used_of}
+use Rattle.executor_laws.proofs.Wakeups.StandsTelling.{poll-from, called-from, has-later, polls-is, polls_it, drops_it, unasked}
 use Rattle.executor_laws.proofs.Wakeups.Listed.{sum, entry_of, kept_of, misplaced_of}
 use Rattle.executor_laws.proofs.Wakeups.Queued.{Holder, due-queued, holder, times-length}
-use Rattle.executor_laws.proofs.Wakeups.Stands.{calls_of, drops_of, ends_of, odd_of, waking_up_of, strays_of, used_of}
 use Rattle.executor_laws.proofs.Wakeups.StandsAnswers.{IsOver, Outcome, outcome-from, ends-with, one-end}
 use Rattle.executor_laws.proofs.Wakeups.StandsAnswers.Outcome.{unended, ended}
 use Rattle.executor_laws.proofs.Wakeups.StandsMissing.{Missing, slumbering-here, missing}
-use Rattle.executor_laws.proofs.Wakeups.StandsTelling.{poll-from, called-from, has-later, polls-is, polls_it, drops_it, unasked}
 use Rattle.executor_laws.proofs.Wakeups.StandsWeights.{nothing_done}
 use Rattle.executor_laws.proofs.Wakeups.StandsWorlds.{kept-few, entries-astray, place_here}
 use Rattle.executor_laws.proofs.Wakeups.Watched.{Watched, watched, watched_from, is_pending, is_refusal, poll_begun}

@@ -3,9 +3,8 @@
 use Rattle.std.proofs.Common.{◌≡◌, ◌⊎◌, ◌∙◌, ℕ, zero, suc, ◌+◌, ◌%◌, ◌≤◌, List, [], ◌∷◌, ◌++◌, length, Bool, true, false, eqb}
 use Rattle.std.proofs.Common.{refl, sym, ap, subst, inl, inr, ⊎_elim, arith}
 use Rattle.executor_parts.specs.Marks.{first_of, other}
-use Rattle.executor_model.proofs.Types.{Plain, Urgent, Look, First, Second, Move, Reply, Event, ListOp, Op, QueueOp, RunOp}
-use Rattle.executor_model.proofs.Types.{RunPoll, Section, TickOrRun, SleeperOp, Source, Common, Own, Steal, StealOp, Then}
-use Rattle.executor_model.proofs.Types.{TickOp, UserOp, Hint}
+use Rattle.executor_laws.proofs.Types.{Plain, Urgent, Look, First, Second, Move, Reply, Event, ListOp, Op, QueueOp, RunOp}
+use Rattle.executor_laws.proofs.Types.{RunPoll, Section, TickOrRun, SleeperOp, Source, Common, Own, Steal, StealOp, Then}
 use Rattle.executor_model.specs.Acts.{mark_in, turned}
 use Rattle.executor_model.specs.World.{World, Ticker, Awake, Asleep, Left, Run, Done, own_of, put_own, put_run, run_of}
 use Rattle.executor_model.specs.{ActsOfSleepers.found_by, Doing.steal_act, Weights.weigh, SleepersAgree.sleeps}
@@ -14,12 +13,13 @@ use Rattle.executor_model.proofs.OwnQueues.RunsMoving.{hull-found, hull-stolen, 
 use Rattle.executor_model.proofs.{Steps.Lists.weigh-append, OwnQueues.RunsDone.poll_in, OwnQueues.UsingWorlds.is_over_stage}
 use Rattle.executor_laws.proofs.Wakeups.Stands.{KeepsStands, Nothing, Stands, View, calls_of, drops_of, early_of, ends_of}
 use Rattle.executor_laws.proofs.Wakeups.Stands.{found_of, odd_of, pends_of, refused_of, waking_up_of, strays, strays_of}
+use Rattle.executor_laws.proofs.Wakeups.Stands.{used_of, view, with_doing}
 use Rattle.executor_laws.proofs.Wakeups.Listed.{sum, entry_of, kept_of, misplaced_of}
 use Rattle.executor_laws.proofs.Wakeups.Sitting.{IsOther, IsSame, is_it, owned_in, who_cases}
-use Rattle.executor_laws.proofs.Wakeups.Stands.{used_of, view, with_doing}
 use Rattle.executor_laws.proofs.Wakeups.StandsSeats.{Seated, seated-and, seated-run, seated-same}
 use Rattle.executor_laws.proofs.Wakeups.StandsTied.{Tied, tied-append, tied-cons, tied-none}
-use Rattle.executor_laws.proofs.{Wakeups.Beside.view-log, Wakeups.Beside.view-turned, Wakeups.StandsNothing.nothing-of}
+use Rattle.executor_laws.proofs.Wakeups.Beside.{view-log, view-turned}
+use Rattle.executor_laws.proofs.{Types.TickOp, Types.UserOp, Types.Hint, Wakeups.StandsNothing.nothing-of}
 use Rattle.executor_laws.proofs.{Wakeups.StandsOwn.Goes, Wakeups.StandsOwn.own-goes, Wakeups.Watched.watched}
 use Rattle.executor_model.specs.ActsOfRuns as runs
 

@@ -3,10 +3,11 @@
 use Rattle.std.proofs.Common.{◌≡◌, ◌≢◌, ◌∙◌, ℕ, zero, suc, ◌<◌, List, [], ◌∷◌, length, get_or, set, Bool, true, refl, sym, ap}
 use Rattle.std.proofs.Common.{arith, get_or-set_same, get_or-set_other}
 use Rattle.std.{proofs.Math.ListN.length-set, specs.Prelude.not, specs.Prelude.nat_lt}
+use Rattle.executor_laws.proofs.Types.{TickOrRun}
 use Rattle.executor_model.specs.Steps.{lives}
 use Rattle.executor_model.specs.World.{World, Ticker, Awake, Asleep, Left, Run, no_run, put_place, put_run, run_of}
 use Rattle.executor_model.proofs.OwnQueues.UsingWorlds.{count-set, is_over_stage}
-use Rattle.executor_model.proofs.{Types.TickOrRun, Sleepers.TickLists.is_tick}
+use Rattle.executor_model.proofs.Sleepers.TickLists.{is_tick}
 use Rattle.executor_laws.proofs.Wakeups.Sitting.{lives_in, made_in, over_in, place_in}
 
 -- it is where it was, lives as it did, and was made and is over as before

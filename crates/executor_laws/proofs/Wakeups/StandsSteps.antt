@@ -7,13 +7,14 @@ use Rattle.executor_model.specs.{World.Done, Steps.Machine, Steps.stack, Weights
 use Rattle.executor_model.proofs.Awaiters.Holding.{nowhere, seen, seen-light, seen-passes, Spotted, Open, Holds, held-step}
 use Rattle.executor_model.proofs.Quiet.Calls.{calling_of, Passes, Answering}
 use Rattle.executor_model.proofs.Sleepers.SleepersFollowingExecutions.{Followed, agrees}
-use Rattle.executor_model.proofs.{Types.Op, Types.TickOrRun, Steps.Lists.same_is, Steps.Lists.weigh-reverse}
-use Rattle.executor_model.proofs.{Quiet.Resting.counts-answering, OwnQueues.UsingSteps.AllUsed, Awaiters.Holding.held-asks}
+use Rattle.executor_model.proofs.Steps.Lists.{same_is, weigh-reverse}
+use Rattle.executor_model.proofs.{Awaiters.Holding.held-asks, Quiet.Resting.counts-answering, OwnQueues.UsingSteps.AllUsed}
 use Rattle.executor_laws.proofs.Wakeups.Stands.{View, view, Doing, with_doing, doing, Footing, Stands, Mark, asks_of}
 use Rattle.executor_laws.proofs.Wakeups.StandsTied.{IsTied, Tied, tied-all, tied-push, tied-rest, tied-set}
 use Rattle.executor_laws.proofs.Wakeups.StandsWeights.{footing, asks-weighs, asks-calling, split-doing, push-doing}
-use Rattle.executor_laws.proofs.{Wakeups.Sitting.placed-in, Wakeups.StandsEnds.marked, Wakeups.StandsPolls.begun_in}
-use Rattle.executor_laws.proofs.{Wakeups.StandsWorlds.HasSlept, Wakeups.Watched.Watched, Wakeups.Watched.watched}
+use Rattle.executor_laws.proofs.Wakeups.Watched.{Watched, watched}
+use Rattle.executor_laws.proofs.{Types.Op, Types.TickOrRun, Wakeups.Sitting.placed-in, Wakeups.StandsEnds.marked}
+use Rattle.executor_laws.proofs.{Wakeups.StandsPolls.begun_in, Wakeups.StandsWorlds.HasSlept}
 
 abbrev pub open_of : Watched → Open
 open_of s = record { asking = s.asking; party = s.party; inner = s.inner }

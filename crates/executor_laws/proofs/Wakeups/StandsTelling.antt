@@ -3,12 +3,12 @@
 use Rattle.std.proofs.Common.{◌≡◌, ◌⊎◌, ◌∙◌, ℕ, zero, suc, ◌+◌, [], ◌∷◌, drop, Bool, true, false, ◌&&◌, ◌||◌, cond, eqb, refl}
 use Rattle.std.proofs.Common.{sym, ap, subst, inl, inr, ⊎_elim, arith}
 use Rattle.std.{proofs.Math.Bool.or_assoc, specs.Prelude.Some, specs.Prelude.slice_get}
-use Rattle.executor_model.proofs.Types.{Reply, Event, Polled, TickOrRun}
+use Rattle.executor_laws.proofs.Types.{Reply, Event, Polled, TickOrRun}
 use Rattle.executor_model.specs.Trace.{Trace, has}
 use Rattle.executor_model.specs.Standing.{calls_poll, drops_sleeper, poll_of, polls_sleeper}
 use Rattle.executor_laws.proofs.Wakeups.Watched.{Watched, called_at, unwatched, is_pending, is_refusal, parted, poll_begun}
-use Rattle.executor_laws.proofs.Wakeups.Sitting.{eq-is, eq-self, eq_who}
 use Rattle.executor_laws.proofs.Wakeups.Watched.{ended_in, watches, watched_from, watched}
+use Rattle.executor_laws.proofs.Wakeups.Sitting.{eq-is, eq-self, eq_who}
 
 -- the same events, by what they are first
 

@@ -6,8 +6,8 @@ use Rattle.std.proofs.Common.{false, eqb, refl, sym, ap, subst, arith, get_or-se
 use Rattle.std.proofs.lemmas.List.{reverse-append, reverse-reverse}
 use Rattle.std.{proofs.lemmas.Bool.Decides.nat_tests, specs.Prelude.reverse}
 use Rattle.executor_model.specs.Weights.{weigh, weigh_all}
-use Rattle.executor_model.proofs.{Types.Op, Types.TickOrRun, Steps.Lists.weigh-append, Steps.Lists.weigh-reverse}
-use Rattle.executor_laws.proofs.Wakeups.Stands.{waking_up_of, used_of}
+use Rattle.executor_model.proofs.Steps.Lists.{weigh-append, weigh-reverse}
+use Rattle.executor_laws.proofs.{Types.Op, Types.TickOrRun, Wakeups.Stands.waking_up_of, Wakeups.Stands.used_of}
 
 abbrev Ties : TickOrRun → List Op → Type 0
 Ties t [] = Unit {0}

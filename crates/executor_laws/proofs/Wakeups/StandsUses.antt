@@ -3,8 +3,8 @@
 use Rattle.std.proofs.Common.{◌≡◌, ◌∙◌, ℕ, zero, suc, ◌<◌, List, [], ◌∷◌, length, get_or, Bool, true, false, ◌&&◌, ◌||◌, refl}
 use Rattle.std.proofs.Common.{sym, ap, subst, arith}
 use Rattle.std.{proofs.lemmas.Bool.Decides.nat_tests, specs.List.list_any, specs.Prelude.not, specs.Prelude.nat_lt}
-use Rattle.executor_model.proofs.Types.{Move, ClosingOp, HandleOp, Hold, ListOp, Op, QueueOp, RunOp, Section, TickOrRun}
-use Rattle.executor_model.proofs.Types.{SleeperOp, StealOp, TableOp, TickOp, UserOp, WakerOp}
+use Rattle.executor_laws.proofs.Types.{Move, ClosingOp, HandleOp, Hold, ListOp, Op, QueueOp, RunOp, Section, TickOrRun}
+use Rattle.executor_laws.proofs.Types.{SleeperOp, StealOp, TableOp, TickOp, UserOp, WakerOp}
 use Rattle.executor_model.specs.Steps.{Machine, has_run, has_tick, is_there, lives}
 use Rattle.executor_model.specs.Weights.{is_run, is_tick as is_the_tick, holds_run, holds_tick, weigh, weigh_all}
 use Rattle.executor_model.specs.{Rows.running_of, Rows.ticking_of, World.Ticker, World.Left, World.Run, World.no_run}

@@ -3,8 +3,8 @@
 use Rattle.std.proofs.Common.{◌≡◌, ℕ, List, [], ◌∷◌, ◌++◌, Bool, true, false, refl, arith}
 use Rattle.std.specs.Prelude.{Option, Some, None, is_none}
 use Rattle.executor_parts.specs.Sleepers.{waker_at, waker_of}
-use Rattle.executor_model.proofs.Types.{Look, First, Second, Reply, Answer, Hold, ListOp, Op, RunOp, RunPoll, Section}
-use Rattle.executor_model.proofs.Types.{TickOrRun, SleeperOp, Sleeping, TickOp, UserOp, WakerOp, Waker, Task, Outside, Polled}
+use Rattle.executor_laws.proofs.Types.{Event, Hint, UserEnd, Move, Call, Look, First, Second, Reply, Answer, Hold, ListOp, Op}
+use Rattle.executor_laws.proofs.Types.{RunOp, RunPoll, Section, TickOrRun, SleeperOp, Sleeping, TickOp, UserOp, WakerOp, Waker}
 use Rattle.executor_model.specs.ActsOfSleepers.{call_sleeper, copy_sleeper_by, wake_up_by, leave_sleepers_by, sleep_again_by}
 use Rattle.executor_model.specs.ActsOfSleepers.{hand_out_by, sleep_anew_by, fall_asleep_by, sleep_listed_by, make_tick_by}
 use Rattle.executor_model.specs.ActsOfSleepers.{pend_as, polled_as, look_tick_by, sleeper_goes, tell_and_return}
@@ -12,13 +12,13 @@ use Rattle.executor_model.specs.Doing.{act, list_act, run_act, search, tick_act}
 use Rattle.executor_model.specs.Steps.{accepts, begun, drop_run, future_of, kept, poll_run, react, with_future}
 use Rattle.executor_model.specs.World.{World, Ticker, Awake, Asleep, Left, Stage, New, Listed, Ended, Done, log}
 use Rattle.executor_model.specs.{Acts.copy_by, Acts.is_copy_refused, Acts.wake, Weights.weigh}
-use Rattle.executor_model.proofs.{Types.Event, Types.Hint, Types.UserEnd, Types.Move, Types.Call, Steps.SleepersCounting.asleep}
+use Rattle.executor_model.proofs.Steps.SleepersCounting.{asleep}
 use Rattle.executor_laws.proofs.Wakeups.StandsRuns.{walks-lock, walks-look_own, walks-search, walks-search_common, walks-steal}
-use Rattle.executor_laws.proofs.Wakeups.Beside.{is_sits, beside-act, beside-move}
-use Rattle.executor_laws.proofs.Wakeups.StandsGoing.{beside-reference}
 use Rattle.executor_laws.proofs.Wakeups.StandsTied.{Tied, tied-append, tied-cons, tied-nil, tied-none}
+use Rattle.executor_laws.proofs.{Types.Task, Types.Outside, Types.Polled, Wakeups.StandsRuns.walks-turn, Wakeups.Beside.is_sits}
+use Rattle.executor_laws.proofs.{Wakeups.Beside.beside-act, Wakeups.Beside.beside-move, Wakeups.StandsGoing.beside-reference}
 use Rattle.executor_laws.proofs.{Wakeups.Stands.waking_up_of, Wakeups.StandsAsleep.nothing-goes}
-use Rattle.executor_laws.proofs.{Wakeups.StandsNothing.nothing-of, Wakeups.StandsOwn.held-other, Wakeups.StandsRuns.walks-turn}
+use Rattle.executor_laws.proofs.{Wakeups.StandsNothing.nothing-of, Wakeups.StandsOwn.held-other}
 use Rattle.executor_model.specs.ActsOfRuns as runs
 
 -- who has found something, and sleeps, wakes up before it is told

@@ -2,14 +2,14 @@
 -- What the stacks weigh in the counts of a tick or run.
 use Rattle.std.proofs.Common.{◌≡◌, ℕ, zero, suc, ◌+◌, ◌<◌, ◌≤◌, List, [], ◌∷◌, ◌++◌, length, get_or, set, refl, arith}
 use Rattle.std.specs.Prelude.{reverse}
-use Rattle.executor_model.proofs.Types.{Hold, ListOp, Op, RunOp, Section, TickOrRun, TickOp, UserOp}
+use Rattle.executor_laws.proofs.Types.{Hold, ListOp, Op, RunOp, Section, TickOrRun, TickOp, UserOp}
 use Rattle.executor_model.specs.{Steps.idle, Weights.weigh, Weights.weigh_all}
 use Rattle.executor_model.proofs.{Quiet.Calls.calling_of, Steps.Lift.split, Steps.Lift.weigh_all-idle}
 use Rattle.executor_model.proofs.{Steps.Lists.weigh_all-below, Steps.Lists.weigh_all-push, OwnQueues.RunsDone.poll_in}
 use Rattle.executor_laws.proofs.Wakeups.Stands.{used_of, early_of, early_section, pends_of, refused_of, found_of, ends_of}
 use Rattle.executor_laws.proofs.Wakeups.Stands.{waking_up_of, drops_of, odd_of, is_ready, strays_of, calls_of, asks_of, Doing}
-use Rattle.executor_laws.proofs.Wakeups.Sitting.{few, holds_it, is_it}
 use Rattle.executor_laws.proofs.Wakeups.Stands.{with_doing, doing, Footing}
+use Rattle.executor_laws.proofs.Wakeups.Sitting.{few, holds_it, is_it}
 use Rattle.executor_laws.proofs.Wakeups.StandsNothing.{cond-few, end-parts, few-one, leaves-one, stages-one}
 
 -- each stage uses it

@@ -4,9 +4,10 @@ use Rattle.std.proofs.Common.{◌≡◌, ◌≢◌, ◌∙◌, ℕ, ◌+◌, ◌
 use Rattle.std.proofs.lemmas.Bool.Decides.{nat_tests}
 use Rattle.std.specs.Prelude.{Option, Some, None, slice_get}
 use Rattle.executor_parts.specs.Sleepers.{position_of, woken_up}
+use Rattle.executor_laws.proofs.Types.{Waker, TickOrRun}
 use Rattle.executor_model.specs.World.{World, Ticker, Awake, Asleep, Left}
 use Rattle.executor_model.specs.{Weights.same, SleepersAgree.sleeps}
-use Rattle.executor_model.proofs.{Types.Waker, Types.TickOrRun, Steps.SleepersCounting.asleep, OneFuture.Telling.same-cond}
+use Rattle.executor_model.proofs.{Steps.SleepersCounting.asleep, OneFuture.Telling.same-cond}
 use Rattle.executor_laws.proofs.Wakeups.Listed.{Entry, sum, entry_of, kept_of, astray, misplaced_of, at_entry, entry_at}
 use Rattle.executor_laws.proofs.Wakeups.Listed.{sum-woken_up, entry-in, numbered}
 use Rattle.executor_laws.proofs.Wakeups.Sitting.{cond-other, cond-self, eq_who, is-cond, other, owned_in, place_in, self}

@@ -2,9 +2,8 @@
 -- What a trace tells of a tick or run and of its last poll, read from left to right.
 use Rattle.std.proofs.Common.{◌≡◌, ℕ, zero, suc, ◌+◌, ◌==◌, [], ◌∷◌, ◌++◌, length, Bool, true, false, ◌&&◌, cond, refl, ap, ◌∙◌}
 use Rattle.std.proofs.Common.{arith}
-use Rattle.executor_model.proofs.Types.{Reply, Event, Polled, TickOrRun}
 use Rattle.executor_model.specs.{Trace.Trace, Weights.same}
-use Rattle.executor_laws.proofs.Wakeups.Sitting.{eq_who}
+use Rattle.executor_laws.proofs.{Types.Reply, Types.Event, Types.Polled, Types.TickOrRun, Wakeups.Sitting.eq_who}
 
 pub record Watched : Type 0 where
   -- where that poll stands, and whose it is

@@ -6,15 +6,14 @@ use Rattle.std.proofs.lemmas.Bool.Decides.{nat_tests}
 use Rattle.std.specs.Prelude.{Option, Some, None, cond, nat_lt, reverse}
 use Rattle.std.{proofs.Common.Result, proofs.lemmas.List.append_assoc, specs.List.list_any}
 use Rattle.task_moves.specs.Moves.{most_references}
-use Rattle.executor_model.proofs.Types.{Call, Reply, Event, Op, HandleOp, ListOp, RunOp, Section, TableOp, TickOp, Waker, Task}
-use Rattle.executor_model.proofs.Types.{Outside, WakerOp, Hint, Step, Begin, Go, StepError, NoSuch, UserEnd}
+use Rattle.executor_laws.proofs.Types.{Call, Reply, Event, Op, HandleOp, ListOp, RunOp, Section, TableOp, TickOp, Waker, Task}
+use Rattle.executor_laws.proofs.Types.{Outside, WakerOp, Hint, Step, Begin, Go, StepError, NoSuch, UserEnd}
 use Rattle.executor_model.specs.declared.step.Step.TheVariants.{Answer}
 use Rattle.executor_model.specs.Steps.{Machine, Part, answer_refusal, below_top, begun, end_of, go_refusal, gone_on, mine, onto}
 use Rattle.executor_model.specs.Steps.{part_after, part_refusal, party_of, react, refusal, run, settled_by, stack, step}
-use Rattle.executor_model.specs.Acts.{copy_awaiter_by, copy_by, enter_by, is_copy_refused}
-use Rattle.executor_model.specs.ActsOfSleepers.{copy_sleeper_by, make_tick_by}
-use Rattle.executor_model.specs.Refusals.{CopiesOneTooMany, ends_for_want}
-use Rattle.executor_model.specs.Steps.{step_by, stepped, top, unless, with_part}
+use Rattle.executor_model.specs.{Steps.step_by, Steps.stepped, Steps.top, Steps.unless, Steps.with_part, Acts.copy_awaiter_by}
+use Rattle.executor_model.specs.{Acts.copy_by, Acts.enter_by, Acts.is_copy_refused, ActsOfSleepers.copy_sleeper_by}
+use Rattle.executor_model.specs.{ActsOfSleepers.make_tick_by, Refusals.CopiesOneTooMany, Refusals.ends_for_want}
 use Rattle.executor_model.specs.{ActsOfRuns.make_room_by, ActsOfRuns.make_run_by, Doing.act, Memory.asks, SpawnWants.Answers}
 use Rattle.executor_model.specs.{Trace.Trace, Trace.has, Weights.weigh, World.Done, World.World, World.log, World.task}
 use Rattle.executor_laws.specs.Numbered.{IsRefused, OneIsRefused, asks_next, ends_refused}

@@ -20,7 +20,14 @@ fin = ends_of fin_reply 0
 
 rare : Rare fin_reply 0
 rare = record {
-  no_memory = refl; full = refl; made = refl; pending = refl; ready = refl; cancelled = refl; yes = refl; no = λ z. refl;
+  no_memory = refl;
+  full = refl;
+  made = refl;
+  pending = refl;
+  ready = refl;
+  cancelled = refl;
+  yes = refl;
+  no = λ z. refl;
 }
 
 -- each thing that is done

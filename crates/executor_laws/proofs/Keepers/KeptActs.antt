@@ -156,33 +156,10 @@ pub keeps-act : (p : ℕ) (h : Hint) (o : Op) (w : World) → is_apart o ≡ tru
 keeps-act p h (Op.Move m g) w n j k = keeps-plain p h (Op.Move m g) w refl (λ f. load-move m g f n)
 keeps-act p h (Op.Table (TableOp.TakeToDrop g)) w n j k =
     of-idle w _ _ (idle w _ refl refl refl) (λ r. refl) (λ r. refl) (λ f. omega arith)
-keeps-act p h (Op.Table (TableOp.Enter mark)) w n j k = keeps-plain p h (Op.Table (TableOp.Enter mark)) w refl (λ f. refl)
-keeps-act p h (Op.Table TableOp.LookAtTable) w n j k =
-    keeps-plain p h (Op.Table TableOp.LookAtTable) w refl (λ f. refl)
-keeps-act p h (Op.Table (TableOp.TakeToPoll g)) w n j k =
-    keeps-plain p h (Op.Table (TableOp.TakeToPoll g)) w refl (λ f. refl)
-keeps-act p h (Op.Table (TableOp.PutBack g)) w n j k =
-    keeps-plain p h (Op.Table (TableOp.PutBack g)) w refl (λ f. refl)
-keeps-act p h (Op.Table (TableOp.LeaveTable g)) w n j k =
-    keeps-plain p h (Op.Table (TableOp.LeaveTable g)) w refl (λ f. refl)
-keeps-act p h (Op.Queue o) w n j k = keeps-plain p h (Op.Queue o) w refl (λ f. refl)
 keeps-act p h (Op.User (UserOp.BeginDrop g)) w n j k = keeps-drop p h g w
 keeps-act p h (Op.User (UserOp.PollOwn x)) w n j k =
     of-idle w _ _ (idle w w refl refl refl) (λ r. refl) (λ r. refl) (λ f. omega arith)
-keeps-act p h (Op.User (UserOp.Poll g)) w n j k = keeps-plain p h (Op.User (UserOp.Poll g)) w refl (λ f. refl)
-keeps-act p h (Op.User (UserOp.Drop g)) w n j k = keeps-plain p h (Op.User (UserOp.Drop g)) w refl (λ f. refl)
-keeps-act p h (Op.User (UserOp.BeginDropOutput g)) w n j k =
-    keeps-plain p h (Op.User (UserOp.BeginDropOutput g)) w refl (λ f. refl)
-keeps-act p h (Op.User (UserOp.DropOutput g)) w n j k =
-    keeps-plain p h (Op.User (UserOp.DropOutput g)) w refl (λ f. refl)
-keeps-act p h (Op.User (UserOp.CallOutside y)) w n j k =
-    keeps-plain p h (Op.User (UserOp.CallOutside y)) w refl (λ f. refl)
-keeps-act p h (Op.User (UserOp.DropOwn q)) w n j k = keeps-plain p h (Op.User (UserOp.DropOwn q)) w refl (λ f. refl)
 keeps-act p h (Op.Waker (WakerOp.CopyWaker g held)) w n j k = keeps-copied _ w g held
-keeps-act p h (Op.Waker (WakerOp.CallAwaiter g a m)) w n j k =
-    keeps-plain p h (Op.Waker (WakerOp.CallAwaiter g a m)) w refl (λ f. refl)
-keeps-act p h (Op.Handle o) w n j k = keeps-plain p h (Op.Handle o) w refl (λ f. refl)
-keeps-act p h (Op.Sleeper o) w n j k = keeps-plain p h (Op.Sleeper o) w refl (λ f. refl)
 keeps-act p h (Op.Tick o) w n j k = keeps-tick p h o w
 keeps-act p h (Op.List o) w n j k = keeps-list h o w j k
 keeps-act p h (Op.Steal (StealOp.Put s more g)) w n j k = absurd (cc)
@@ -190,8 +167,8 @@ keeps-act p h (Op.Steal (StealOp.Length s)) w n j k = keeps-steal p (StealOp.Len
 keeps-act p h (Op.Steal (StealOp.OwnLength s m)) w n j k = keeps-steal p (StealOp.OwnLength s m) w refl
 keeps-act p h (Op.Steal (StealOp.Take s more)) w n j k = keeps-steal p (StealOp.Take s more) w refl
 keeps-act p h (Op.Run o) w n j k = keeps-run p h o w k
-keeps-act p h (Op.Closing o) w n j k = keeps-plain p h (Op.Closing o) w refl (λ f. refl)
 keeps-act p h (Op.End a held) w n j k = absurd (cc)
+keeps-act p h o w n j k = keeps-plain p h o w refl (λ f. refl)
 
 -- the end of user code
 pub keeps-react : (p : ℕ) (o : Op) (u : UserEnd) (w : World) → accepts o u ≡ true → Leads w (o ∷ []) (react p o u w)

@@ -218,11 +218,5 @@ says-act p h o w f b n e = ⊎_elim
 
 pub none-react : (p : ℕ) (o : Op) (u : UserEnd) (w : World) → accepts o u ≡ true → weigh cancelled_of (react p o u w).next ≡ 0
 none-react p (Op.User (UserOp.Poll f)) (UserEnd.Polled answer.Pending) w a = refl
-none-react p (Op.User (UserOp.Poll f)) (UserEnd.Polled answer.Ready) w a = refl
-none-react p (Op.User (UserOp.Drop f)) UserEnd.Done w a = refl
-none-react p (Op.User (UserOp.DropOutput f)) UserEnd.Done w a = refl
-none-react p (Op.User (UserOp.CallOutside x)) UserEnd.Done w a = refl
 none-react p (Op.User (UserOp.PollOwn x)) (UserEnd.Polled answer.Pending) w a = refl
-none-react p (Op.User (UserOp.PollOwn x)) (UserEnd.Polled answer.Ready) w a = refl
-none-react p (Op.User (UserOp.DropOwn r)) UserEnd.Done w a = refl
-none-react p _ _ w a = absurd (cc)
+none-react p _ _ w a = refl

@@ -296,11 +296,5 @@ side-same p h o w z = same-runs w (act p h o w).world (runs-act p h o w refl)
 
 pub react-same : (p : ℕ) (o : Op) (u : UserEnd) (w : World) → accepts o u ≡ true → TakenSame w (react p o u w).world
 react-same p (Op.User (UserOp.Poll f)) (UserEnd.Polled Answer.Pending) w a = same-runs w _ refl
-react-same p (Op.User (UserOp.Poll f)) (UserEnd.Polled Answer.Ready) w a = same-runs w _ refl
-react-same p (Op.User (UserOp.Drop f)) UserEnd.Done w a = same-runs w _ refl
-react-same p (Op.User (UserOp.DropOutput f)) UserEnd.Done w a = same-runs w _ refl
-react-same p (Op.User (UserOp.CallOutside x)) UserEnd.Done w a = same-runs w _ refl
 react-same p (Op.User (UserOp.PollOwn x)) (UserEnd.Polled Answer.Pending) w a = same-runs w _ refl
-react-same p (Op.User (UserOp.PollOwn x)) (UserEnd.Polled Answer.Ready) w a = same-runs w _ refl
-react-same p (Op.User (UserOp.DropOwn r)) UserEnd.Done w a = same-runs w _ refl
-react-same p _ _ w a = absurd (cc)
+react-same p _ _ w a = same-runs w _ refl

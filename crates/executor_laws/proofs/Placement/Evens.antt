@@ -65,11 +65,5 @@ even-act p h o w e = even-deed w o (act p h o w) e (deed-act p h o w)
 
 pub even-react : (p : ℕ) (o : Op) (u : UserEnd) (w : World) → accepts o u ≡ true → Even w (react p o u w).world
 even-react p (Op.User (UserOp.Poll f)) (UserEnd.Polled Answer.Pending) w a = even-coat w _ refl
-even-react p (Op.User (UserOp.Poll f)) (UserEnd.Polled Answer.Ready) w a = even-coat w _ refl
-even-react p (Op.User (UserOp.Drop f)) UserEnd.Done w a = even-coat w _ refl
-even-react p (Op.User (UserOp.DropOutput f)) UserEnd.Done w a = even-coat w _ refl
-even-react p (Op.User (UserOp.CallOutside x)) UserEnd.Done w a = even-coat w _ refl
 even-react p (Op.User (UserOp.PollOwn x)) (UserEnd.Polled Answer.Pending) w a = even-coat w _ refl
-even-react p (Op.User (UserOp.PollOwn x)) (UserEnd.Polled Answer.Ready) w a = even-coat w _ refl
-even-react p (Op.User (UserOp.DropOwn q)) UserEnd.Done w a = even-coat w _ refl
-even-react p _ _ w a = absurd (cc)
+even-react p _ _ w a = even-coat w _ refl

@@ -150,14 +150,8 @@ keeps-act p h o w = by (is_seen_asleep o) refl
 
 keeps-react : (p : ℕ) (o : Op) (u : UserEnd) (w : World) → accepts o u ≡ true → Keeps w (react p o u w).world
 keeps-react p (Op.User (UserOp.Poll f)) (UserEnd.Polled Answer.Pending) w a = record { few = omega arith }
-keeps-react p (Op.User (UserOp.Poll f)) (UserEnd.Polled Answer.Ready) w a = record { few = omega arith }
 keeps-react p (Op.User (UserOp.PollOwn x)) (UserEnd.Polled Answer.Pending) w a = record { few = omega arith }
-keeps-react p (Op.User (UserOp.PollOwn x)) (UserEnd.Polled Answer.Ready) w a = record { few = omega arith }
-keeps-react p (Op.User (UserOp.Drop f)) UserEnd.Done w a = record { few = omega arith }
-keeps-react p (Op.User (UserOp.DropOutput f)) UserEnd.Done w a = record { few = omega arith }
-keeps-react p (Op.User (UserOp.CallOutside x)) UserEnd.Done w a = record { few = omega arith }
-keeps-react p (Op.User (UserOp.DropOwn r)) UserEnd.Done w a = record { few = omega arith }
-keeps-react p _ _ w a = absurd (cc)
+keeps-react p _ _ w a = record { few = omega arith }
 
 keeps-with : (w v : World) (o : Option ℕ) (d : ℕ → Done) → v.ticks ≡ w.ticks → ((f : ℕ) → (d f).world.ticks ≡ w.ticks) →
     Keeps w (with_future v o d).world

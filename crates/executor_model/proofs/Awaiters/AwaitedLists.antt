@@ -262,14 +262,8 @@ plain-act p h _ w n = refl
 pub plain-react : (p : ℕ) (o : Op) (e : UserEnd) (w : World) → accepts o e ≡ true →
     weigh rough_of (react p o e w).next ≡ 0
 plain-react p (Op.User (UserOp.Poll f)) (UserEnd.Polled Answer.Pending) w k = refl
-plain-react p (Op.User (UserOp.Poll f)) (UserEnd.Polled Answer.Ready) w k = refl
-plain-react p (Op.User (UserOp.Drop f)) UserEnd.Done w k = refl
-plain-react p (Op.User (UserOp.DropOutput f)) UserEnd.Done w k = refl
-plain-react p (Op.User (UserOp.CallOutside x)) UserEnd.Done w k = refl
 plain-react p (Op.User (UserOp.PollOwn x)) (UserEnd.Polled Answer.Pending) w k = refl
-plain-react p (Op.User (UserOp.PollOwn x)) (UserEnd.Polled Answer.Ready) w k = refl
-plain-react p (Op.User (UserOp.DropOwn r)) UserEnd.Done w k = refl
-plain-react p _ _ w k = absurd (cc)
+plain-react p _ _ w k = refl
 
 plain-with : (v : World) (r : Option ℕ) (d : ℕ → Done) → ((f : ℕ) → weigh rough_of (d f).next ≡ 0) →
     weigh rough_of (with_future v r d).next ≡ 0

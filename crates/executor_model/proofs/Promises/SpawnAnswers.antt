@@ -81,14 +81,8 @@ spawn-next true _ s p h o w n e k = absurd (cc)
 
 pub full-react : (p : ℕ) (o : Op) (u : UserEnd) (w : World) → accepts o u ≡ true → weigh full_of (react p o u w).next ≡ 0
 full-react p (Op.User (UserOp.Poll f)) (UserEnd.Polled Answer.Pending) w a = refl
-full-react p (Op.User (UserOp.Poll f)) (UserEnd.Polled Answer.Ready) w a = refl
-full-react p (Op.User (UserOp.Drop f)) UserEnd.Done w a = refl
-full-react p (Op.User (UserOp.DropOutput f)) UserEnd.Done w a = refl
-full-react p (Op.User (UserOp.CallOutside x)) UserEnd.Done w a = refl
 full-react p (Op.User (UserOp.PollOwn x)) (UserEnd.Polled Answer.Pending) w a = refl
-full-react p (Op.User (UserOp.PollOwn x)) (UserEnd.Polled Answer.Ready) w a = refl
-full-react p (Op.User (UserOp.DropOwn r)) UserEnd.Done w a = refl
-full-react p _ _ w a = absurd (cc)
+full-react p _ _ w a = refl
 
 -- the call that a party is in
 pub record Serves (o : Op) : Type 0 where

@@ -6,7 +6,7 @@ use crate::parts::{
     Bell, Gift, Job, Notes, TestExecutor, TestRealm, TestStatic, TestTask, TestWaker, Work,
     drop_stored,
 };
-use async_executor::{ExStoredTask, Mark, Run, RunError, Tick};
+use async_executor::{ExStoredTask, Mark, Run, RunError, SpawnError, Tick};
 use async_task::{Awaiter, Future, NoMemory, Poll, RealmError, Returning};
 use std::alloc::Global;
 use std::process::Abort;
@@ -78,7 +78,7 @@ pub struct Stage<F: Drop, R: Wait + Copy + Drop + 'static> {
     pub notes: Arc<Notes, Global>,
     pub executor: TestKind<F, R>,
     /// How many futures were accepted, but for those of a spawn of many.
-    pub accepted: AtomicU64,
+    accepted: AtomicU64,
 }
 
 impl<F: Planned<R>, R: Abort + Wait + Copy + Drop + 'static> Stage<F, R> {
@@ -171,24 +171,28 @@ impl<F: Planned<R>, R: Abort + Wait + Copy + Drop + 'static> Stage<F, R> {
         })
     }
 
-    fn accept(&self, future: F, mark: Mark) -> Option<TestTask<R>> {
-        let accepted = match (&self.executor, mark) {
-            (TestKind::Owned(executor), Mark::Plain) => executor.spawn(future),
-            (TestKind::Owned(executor), Mark::Urgent) => executor.spawn_marked(future, mark),
-            (TestKind::Static(executor), Mark::Plain) => executor.spawn(future),
-            (TestKind::Static(executor), Mark::Urgent) => executor.spawn_marked(future, mark),
-        };
-        if accepted.is_ok() {
-            self.accepted.fetch_add(1, SeqCst);
+    fn accept(&self, future: F) -> Result<TestTask<R>, SpawnError<F>> {
+        match &self.executor {
+            TestKind::Owned(executor) => executor.spawn(future),
+            TestKind::Static(executor) => executor.spawn(future),
         }
-        accepted.ok()
+    }
+
+    fn accept_marked(&self, future: F, mark: Mark) -> Result<TestTask<R>, SpawnError<F>> {
+        match &self.executor {
+            TestKind::Owned(executor) => executor.spawn_marked(future, mark),
+            TestKind::Static(executor) => executor.spawn_marked(future, mark),
+        }
     }
 
     /// Spawns a future. Its handle is the answer, where it is accepted.
     pub fn spawn(&self, future: F) -> Option<Returning<ExStoredTask>> {
-        match self.accept(future, Mark::Plain) {
-            Some(task) => Some(Returning::new(task.store())),
-            None => None,
+        match self.accept(future) {
+            Ok(task) => {
+                self.accepted.fetch_add(1, SeqCst);
+                Some(Returning::new(task.store()))
+            }
+            Err(_) => None,
         }
     }
 
@@ -199,12 +203,13 @@ impl<F: Planned<R>, R: Abort + Wait + Copy + Drop + 'static> Stage<F, R> {
 
     /// The same, of either mark.
     pub fn spawn_to_run(&self, future: F, mark: Mark) -> bool {
-        match self.accept(future, mark) {
-            Some(task) => {
+        match self.accept_marked(future, mark) {
+            Ok(task) => {
+                self.accepted.fetch_add(1, SeqCst);
                 task.detach();
                 true
             }
-            None => false,
+            Err(_) => false,
         }
     }
 

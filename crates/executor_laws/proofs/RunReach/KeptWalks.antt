@@ -105,11 +105,11 @@ settles q first xs p w c side k z t = go (from-end side)
         (going c (l.below ++ l.last ∷ []) refl k (subst (λ (os : List Op). weigh side_of os ≡ 0) l.is z)
         (subst (λ (os : List Op). BeginsWith first (xs ++ (ups_in os ++ (hand_of c ++ own_of w q)))) l.is t)))
 
-control-no-up : (q : ℕ) (c : Op) → Control q c → up_of c ≡ []
+pub control-no-up : (q : ℕ) (c : Op) → Control q c → up_of c ≡ []
 control-no-up q (op.Move m f) k = absurd k
 control-no-up q _ k = refl
 
-user-no-up : (o : Op) (u : UserEnd) → accepts o u ≡ true → up_of o ≡ []
+pub user-no-up : (o : Op) (u : UserEnd) → accepts o u ≡ true → up_of o ≡ []
 user-no-up (op.Move m f) u a = absurd (cc)
 user-no-up _ u a = refl
 
@@ -335,7 +335,7 @@ module _ (s : Machine) (y : Reached s) (rest : IsAtRest s) (r p : ℕ) (b : By) 
       ∙ first-is s y rest r p b steps new k))) from-beginning
 
   -- no call is in progress behind it
-  rests-then : IsAtRest new
+  pub rests-then : IsAtRest new
   rests-then = at-rest s y rest p (call.PollRun r b) steps new k.call
       (gone-along p steps (after s (Begin p (call.PollRun r b))) new k.call.alone
       (run-first (Begin p (call.PollRun r b)) steps s new k.call.made).1
@@ -380,7 +380,7 @@ one-or-all g (b ∷ before) after (y ∷ ys) more e =
 
 module _ (s : Machine) (y : Reached s) (rest : IsAtRest s) (r : ℕ) where
   -- what stands in its own queue it keeps
-  kept-there : (g : ℕ) → 1 ≤ times g (own_of s.world r) → Keeps r g s.world.trace
+  pub kept-there : (g : ℕ) → 1 ≤ times g (own_of s.world r) → Keeps r g s.world.trace
   kept-there g n = record {
     due = queued-due s (good-here s y) (heard-here s y) (deep-here s y) (bonded-here s y) rest g (omega (
       arith,

@@ -284,6 +284,7 @@ module _ (s : Machine) (r : Reached s) (rest : IsAtRest s) (n p : ℕ) (b : By) 
       still : Before p s.world.trace poll (own_of s.world n) s.world new new-idle beginning
       still = record {
         own_is = refl;
+        owns_are = refl;
         common_is = refl;
         turn_is = refl;
         meanwhile = told;

@@ -30,9 +30,9 @@ use Rattle.executor_laws.proofs.Reach.Marked.Grown.{kept, one}
 use Rattle.executor_laws.proofs.Reach.Reaching as reaching
 use Rattle.executor_laws.proofs.RunOrder.SpanWalks.{NoneBeside, Result, from-control}
 use Rattle.executor_laws.proofs.RunOrder.Spans.{ahead, ahead-same}
-use Rattle.executor_laws.proofs.RunReach.Joined.{joins-none, onto-queues}
+use Rattle.executor_laws.proofs.RunReach.Joined.{joins-none}
 use Rattle.executor_laws.proofs.RunReach.KeptWalks.{kept-there, rests-then}
-use Rattle.executor_laws.proofs.RunReach.RunReaching.{arrived, first-is, first-machine, new-idle, reached-new}
+use Rattle.executor_laws.proofs.RunReach.RunReaching.{arrived, first-is, first-machine, first-queues, new-idle, reached-new}
 
 -- a future that is there keeps its mark
 
@@ -81,16 +81,13 @@ module _ (m : Mark) (last : Machine) (s : Machine) (y : Reached s) (rest : IsAtR
   abbrev waits-in : Machine → List ℕ
   waits-in v = ahead test m (own_of v.world r) v.world
 
-  all-steps : List Step
+  abbrev all-steps : List Step
   all-steps = Begin p (call.PollRun r b) ∷ steps
 
   first-step : stepped s (step s (Begin p (call.PollRun r b))) ≡ first-machine s y rest r p b steps new k
   first-step =
       next-is s (Begin p (call.PollRun r b)) (run-first (Begin p (call.PollRun r b)) steps s new k.call.made).0
       ∙ first-is s y rest r p b steps new k
-
-  first-queues : (first-machine s y rest r p b steps new k).world.queues ≡ s.world.queues
-  first-queues = onto-queues p _ []
 
   from-arrival : Result test m p r new (waits-in s) (arrived s y rest r p b steps new k).others
       (arrived s y rest r p b steps new k).machine
@@ -108,7 +105,7 @@ module _ (m : Mark) (last : Machine) (s : Machine) (y : Reached s) (rest : IsAtR
       let a = arrived s y rest r p b steps new k in
       ap (λ (v : Machine). drop (length (queue_of s.world m).items) (queue_of v.world m).items ++ joined m steps v) first-step
       ∙ (ap (λ (xs : List ℕ). xs ++ joined m steps (first-machine s y rest r p b steps new k))
-      (joins-none (queue_of s.world m).items _ (ap (λ (qs : Queues). (queue_in m qs).items) first-queues))
+      (joins-none (queue_of s.world m).items _ (ap (λ (qs : Queues). (queue_in m qs).items) (first-queues s y rest r p b steps new k)))
       ∙ a.joined_is m)
 
   taken-from : taken_up p all-steps s ≡ taken_up p (arrived s y rest r p b steps new k).others (arrived s y rest r p b steps new k).machine
@@ -120,14 +117,14 @@ module _ (m : Mark) (last : Machine) (s : Machine) (y : Reached s) (rest : IsAtR
 
 -- lists of such polls
 
-both-lines : (b : ℕ → Bool) (one two line next ends more later : List ℕ) → filter b one ++ next ≡ line ++ more →
-    filter b two ++ ends ≡ next ++ later → filter b (one ++ two) ++ ends ≡ line ++ (more ++ later)
-both-lines b one two line next ends more later e i =
-    ap (λ (xs : List ℕ). xs ++ ends) (filter-append b one two)
-    ∙ (append_assoc (filter b one) (filter b two) ends
-    ∙ (ap (λ (xs : List ℕ). filter b one ++ xs) i
-    ∙ (sym (append_assoc (filter b one) next later)
-    ∙ (ap (λ (xs : List ℕ). xs ++ later) e ∙ append_assoc line more later))))
+both-lines : (b : ℕ → Bool) (xs ys old next ends more later : List ℕ) → filter b xs ++ next ≡ old ++ more →
+    filter b ys ++ ends ≡ next ++ later → filter b (xs ++ ys) ++ ends ≡ old ++ (more ++ later)
+both-lines b xs ys old next ends more later e i =
+    ap (λ (ns : List ℕ). ns ++ ends) (filter-append b xs ys)
+    ∙ (append_assoc (filter b xs) (filter b ys) ends
+    ∙ (ap (λ (ns : List ℕ). filter b xs ++ ns) i
+    ∙ (sym (append_assoc (filter b xs) next later)
+    ∙ (ap (λ (ns : List ℕ). ns ++ later) e ∙ append_assoc old more later))))
 
 in-order : (m : Mark) (last : Machine) (polls : List LoneRunPoll) (s new : Machine) → Reached s → IsAtRest s → (r : ℕ) →
     NoneBeside r s.world → AreLonePolls r polls s new → Stays new.world last.world →
@@ -141,13 +138,13 @@ in-order m last (t ∷ ts) s new y rest r none k z =
     let later : Stays next.world last.world =
     stays-and next.world new.world last.world (stays-polls r ts next new k.2) z in
     let now = one-poll m last s y rest r t.party t.by t.steps next k.1 later none in
-    let then = in-order m last ts next new (reached-new s y rest r t.party t.by t.steps next k.1)
+    let others = in-order m last ts next new (reached-new s y rest r t.party t.by t.steps next k.1)
     (rests-then s y rest r t.party t.by t.steps next k.1) r
     (from-arrival m last s y rest r t.party t.by t.steps next k.1 later none).none k.2 z in
     ap (λ (v : Machine). of_mark m last.world (taken_up t.party (poll_steps r t) s ++ taken_in r ts v) ++ line m r last.world new) is
     ∙ (both-lines (λ f. same_mark m (mark_of last.world f)) (taken_up t.party (poll_steps r t) s) (taken_in r ts next)
     (line m r last.world s) (line m r last.world next) (line m r last.world new) (joined m (poll_steps r t) s)
-    (joined_meanwhile m r ts next) now then
+    (joined_meanwhile m r ts next) now others
     ∙ ap (λ (v : Machine). line m r last.world s ++ (joined m (poll_steps r t) s ++ joined_meanwhile m r ts v)) (sym is))
 
 -- where all are plain, all have the mark

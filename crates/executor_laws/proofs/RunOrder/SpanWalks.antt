@@ -107,7 +107,7 @@ coat-own : (w v : World) → coat w ≡ coat v → v.own ≡ w.own
 coat-own w v e = sym (ap (λ (c : Coat). (hull_of c).own) e)
 
 put-beside : (q : ℕ) (w : World) (xs : List ℕ) → NoneBeside q w → NoneBeside q (put_own w q xs)
-put-beside q w xs k = λ n i. get_or-set_other w.own q n xs [] (λ z. i (sym z)) ∙ k n i
+put-beside q w xs k = λ n i. get_or-set_other w.own q n xs [] i ∙ k n i
 
 takes-beside : (q r f : ℕ) (rest : List ℕ) (w : World) → own_of w r ≡ f ∷ rest → NoneBeside q w → NoneBeside q (put_own w r rest)
 takes-beside q r f rest w e k = ⊎_elim
@@ -183,7 +183,7 @@ side-react m p o u w n z =
     }
 
 -- what is left of the poll: what is about to be taken up, what it has in hand, its own queue and the executor's are this line
-data InLine (b : ℕ → Bool) (m : Mark) (q : ℕ) (line : List ℕ) (w : World) (os : List Op) : Type 0 where
+pub data InLine (b : ℕ → Bool) (m : Mark) (q : ℕ) (line : List ℕ) (w : World) (os : List Op) : Type 0 where
   going : (c : Op) (side : List Op) → os ≡ c ∷ side → Control q c → weigh side_of side ≡ 0 →
       ahead b m (ups_in side ++ span q c w) w ≡ line → InLine b m q line w os
   over : os ≡ [] → ahead b m (own_of w q) w ≡ line → InLine b m q line w os
@@ -278,7 +278,7 @@ module _ (b : ℕ → Bool) (m : Mark) (p q : ℕ) (new : Machine) (idles : stac
         }
 
     inside : (i j : ℕ) → (j ≤ i → ⊥) → i < j
-    inside i j no = ⊎_elim (λ (z : i < j). z) (λ (z : j ≤ i). absurd (no z)) (or-past i j)
+    inside i j past = ⊎_elim (λ (z : i < j). z) (λ (z : j ≤ i). absurd (past z)) (or-past i j)
       where
         or-past : (i j : ℕ) → (i < j) ⊎ (j ≤ i)
         or-past i j = grind arith

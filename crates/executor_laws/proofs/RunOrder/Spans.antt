@@ -56,6 +56,7 @@ use Rattle.executor_laws.proofs.RunReach.RunLeaves.{within}
 use Rattle.executor_laws.proofs.RunReach.RunSteps.{Aside, Control, NotOwn, aside-act, side_of, steal_of}
 use Rattle.executor_laws.proofs.RunReach.TakenUp.{up_of}
 use Rattle.std.proofs.lemmas.List.Elements.{filter-append}
+use Rattle.std.proofs.Common.{◌<◌, ltb}
 use Rattle.std.specs.Prelude.{cond, drop, filter}
 use Rattle.queue_steps.specs.ClosableQueue.{taken}
 use Rattle.executor_parts.specs.declared.mark.Mark.{Mark}

@@ -1,7 +1,8 @@
 -- For runs_take_futures_in_order.
--- So do lists of such polls, of each mark, and of all futures where all are plain.
+-- So do lists of such polls with steps between that take nothing, of each mark, and of all futures where all are plain.
 use Rattle.std.proofs.Common.{◌≡◌, ◌≢◌, ◌∙◌, ⊎_elim, ℕ, ◌<◌, ◌≤◌, Bool, true, false, List, [], ◌∷◌, ◌++◌, length, drop}
 use Rattle.std.proofs.Common.{get_or, refl, sym, ap, subst, arith, append-nil, append_assoc, length-append, Ok}
+use Rattle.std.proofs.Math.Seq.{drop-append_seam}
 use Rattle.std.proofs.lemmas.List.Elements.{filter-append}
 use Rattle.std.specs.Prelude.{All, cond, filter}
 use Rattle.executor_parts.specs.declared.mark.Mark.{Mark}
@@ -20,18 +21,21 @@ use Rattle.executor_model.specs.Steps.{Machine, after, run, start, step, stepped
 use Rattle.executor_model.specs.World.{World, mark_of, own_of, queue_of}
 use Rattle.executor_model.proofs.Steps.Marking.{Entries, entries}
 use Rattle.executor_model.proofs.Steps.Reached.{Reached, run-first, run-of}
-use Rattle.executor_laws.specs.KeptFirst.{poll_steps, taken_in, taken_up}
-use Rattle.executor_laws.specs.RunOrder.{KeepsAlone, TakesInOrder, joined, joined_meanwhile, joins, line, of_mark}
-use Rattle.executor_laws.specs.RunReach.{AreLonePolls, IsLonePoll, LoneRunPoll}
+use Rattle.executor_laws.specs.KeptFirst.{poll_steps, taken_up}
+use Rattle.executor_laws.specs.RunOrder.{KeepsAlone, Piece, TakesAlone, TakesInOrder, TakesNothing, joined, joined_in_all, joins, line}
+use Rattle.executor_laws.specs.RunOrder.{of_mark, taken_in_all}
+use Rattle.executor_laws.specs.RunOrder.Piece.{between, polled}
+use Rattle.executor_laws.specs.RunReach.{IsLonePoll}
 use Rattle.executor_laws.proofs.Exactness.Ticking.{first-times}
+use Rattle.executor_laws.proofs.Placement.OwnReady.{reached-on}
 use Rattle.executor_laws.proofs.Promptness.Turns.{next-is}
-use Rattle.executor_laws.proofs.Reach.Marked.{Grown, grown-after, mark-stays, there-marked}
+use Rattle.executor_laws.proofs.Reach.Marked.{Grown, grown-after, grown-step, mark-stays, there-marked}
 use Rattle.executor_laws.proofs.Reach.Marked.Grown.{kept, one}
 use Rattle.executor_laws.proofs.Reach.Reaching as reaching
 use Rattle.executor_laws.proofs.RunOrder.SpanWalks.{NoneBeside, Result, from-control}
 use Rattle.executor_laws.proofs.RunOrder.Spans.{ahead, ahead-same}
 use Rattle.executor_laws.proofs.RunReach.Joined.{joins-none}
-use Rattle.executor_laws.proofs.RunReach.KeptWalks.{kept-there, rests-then}
+use Rattle.executor_laws.proofs.RunReach.KeptWalks.{kept-there}
 use Rattle.executor_laws.proofs.RunReach.RunReaching.{arrived, first-is, first-machine, first-queues, new-idle, reached-new}
 
 -- a future that is there keeps its mark
@@ -57,11 +61,16 @@ stays-run (t ∷ ts) s new e =
     stays-and s.world (after s t).world new.world (grown-stays s.world (after s t).world (grown-after s t x.0))
     (stays-run ts (after s t) new x.1)
 
-stays-polls : (r : ℕ) (polls : List LoneRunPoll) (s new : Machine) → AreLonePolls r polls s new → Stays s.world new.world
-stays-polls r [] s new e = subst (λ (x : Machine). Stays s.world x.world) e (λ f l. (refl, l))
-stays-polls r (t ∷ ts) s new k =
-    stays-and s.world k.0.world new.world (stays-run (Begin t.party (call.PollRun r t.by) ∷ t.steps) s k.0 k.1.call.made)
-    (stays-polls r ts k.0 new k.2)
+stays-pieces : (r : ℕ) (pieces : List Piece) (s new : Machine) → TakesAlone r pieces s new → Stays s.world new.world
+stays-pieces r [] s new e = subst (λ (x : Machine). Stays s.world x.world) e (λ f l. (refl, l))
+stays-pieces r (polled t ∷ ps) s new k =
+    stays-and s.world k.0.world new.world
+    (stays-run (Begin t.party (call.PollRun r t.by) ∷ t.steps) s k.0 k.1.poll.call.made)
+    (stays-pieces r ps k.0 new k.2)
+stays-pieces r (between t ∷ ps) s new k =
+    stays-and s.world (stepped s (step s t)).world new.world
+    (grown-stays s.world (stepped s (step s t)).world (grown-step s t))
+    (stays-pieces r ps (stepped s (step s t)) new k.1)
 
 -- so what stands in the executor's queues has its mark at the end
 first-marked : (m : Mark) (v new : Machine) → Reached v → Stays v.world new.world → (k : Mark) (f : ℕ) (rest : List ℕ) →
@@ -115,7 +124,7 @@ module _ (m : Mark) (last : Machine) (s : Machine) (y : Reached s) (rest : IsAtR
   one-poll = ap (λ (xs : List ℕ). filter test xs ++ waits-in new) taken-from
       ∙ (from-arrival.is ∙ ap (λ (xs : List ℕ). waits-in s ++ xs) (sym joined-from))
 
--- lists of such polls
+-- lists of such polls, and what is done between
 
 both-lines : (b : ℕ → Bool) (xs ys old next ends more later : List ℕ) → filter b xs ++ next ≡ old ++ more →
     filter b ys ++ ends ≡ next ++ later → filter b (xs ++ ys) ++ ends ≡ old ++ (more ++ later)
@@ -126,26 +135,44 @@ both-lines b xs ys old next ends more later e i =
     ∙ (sym (append_assoc (filter b xs) next later)
     ∙ (ap (λ (ns : List ℕ). ns ++ later) e ∙ append_assoc old more later))))
 
-in-order : (m : Mark) (last : Machine) (polls : List LoneRunPoll) (s new : Machine) → Reached s → IsAtRest s → (r : ℕ) →
-    NoneBeside r s.world → AreLonePolls r polls s new → Stays new.world last.world →
-    of_mark m last.world (taken_in r polls s) ++ line m r last.world new ≡
-    line m r last.world s ++ joined_meanwhile m r polls s
-in-order m last [] s new y rest r none e z =
+-- the line gets longer by what joins it
+longer-line : (m : Mark) (r : ℕ) (last s : Machine) (t : Step) → TakesNothing t s →
+    line m r last.world (stepped s (step s t)) ≡ line m r last.world s ++ joins m t s
+longer-line m r last s t k =
+    let xs : List ℕ = (queue_of s.world m).items in
+    let next : World = (stepped s (step s t)).world in
+    let more : List ℕ = (k.queues m).0 in
+    let is : (queue_of next m).items ≡ xs ++ more = (k.queues m).1 in
+    let joins-are : joins m t s ≡ more = ap (drop (length xs)) is ∙ drop-append_seam xs more in
+    ap (λ (ns : List ℕ). of_mark m last.world ns ++ (queue_of next m).items) (k.own r)
+    ∙ (ap (λ (ns : List ℕ). of_mark m last.world (own_of s.world r) ++ ns) (is ∙ ap (λ (ns : List ℕ). xs ++ ns) (sym joins-are))
+    ∙ sym (append_assoc (of_mark m last.world (own_of s.world r)) xs (joins m t s)))
+
+in-order : (m : Mark) (last : Machine) (pieces : List Piece) (s new : Machine) → Reached s → (r : ℕ) →
+    NoneBeside r s.world → TakesAlone r pieces s new → Stays new.world last.world →
+    of_mark m last.world (taken_in_all r pieces s) ++ line m r last.world new ≡
+    line m r last.world s ++ joined_in_all m r pieces s
+in-order m last [] s new y r none e z =
     ap (λ (v : Machine). line m r last.world v) (sym e) ∙ sym (append-nil (line m r last.world s))
-in-order m last (t ∷ ts) s new y rest r none k z =
+in-order m last (polled t ∷ ps) s new y r none k z =
     let next : Machine = k.0 in
-    let is : run (poll_steps r t) s ≡ next = run-of (poll_steps r t) s next k.1.call.made in
+    let is : run (poll_steps r t) s ≡ next = run-of (poll_steps r t) s next k.1.poll.call.made in
     let later : Stays next.world last.world =
-    stays-and next.world new.world last.world (stays-polls r ts next new k.2) z in
-    let now = one-poll m last s y rest r t.party t.by t.steps next k.1 later none in
-    let others = in-order m last ts next new (reached-new s y rest r t.party t.by t.steps next k.1)
-    (rests-then s y rest r t.party t.by t.steps next k.1) r
-    (from-arrival m last s y rest r t.party t.by t.steps next k.1 later none).none k.2 z in
-    ap (λ (v : Machine). of_mark m last.world (taken_up t.party (poll_steps r t) s ++ taken_in r ts v) ++ line m r last.world new) is
-    ∙ (both-lines (λ f. same_mark m (mark_of last.world f)) (taken_up t.party (poll_steps r t) s) (taken_in r ts next)
+    stays-and next.world new.world last.world (stays-pieces r ps next new k.2) z in
+    let now = one-poll m last s y k.1.rest r t.party t.by t.steps next k.1.poll later none in
+    let others = in-order m last ps next new (reached-new s y k.1.rest r t.party t.by t.steps next k.1.poll) r
+    (from-arrival m last s y k.1.rest r t.party t.by t.steps next k.1.poll later none).none k.2 z in
+    ap (λ (v : Machine).
+    of_mark m last.world (taken_up t.party (poll_steps r t) s ++ taken_in_all r ps v) ++ line m r last.world new) is
+    ∙ (both-lines (λ f. same_mark m (mark_of last.world f)) (taken_up t.party (poll_steps r t) s) (taken_in_all r ps next)
     (line m r last.world s) (line m r last.world next) (line m r last.world new) (joined m (poll_steps r t) s)
-    (joined_meanwhile m r ts next) now others
-    ∙ ap (λ (v : Machine). line m r last.world s ++ (joined m (poll_steps r t) s ++ joined_meanwhile m r ts v)) (sym is))
+    (joined_in_all m r ps next) now others
+    ∙ ap (λ (v : Machine). line m r last.world s ++ (joined m (poll_steps r t) s ++ joined_in_all m r ps v)) (sym is))
+in-order m last (between t ∷ ps) s new y r none k z =
+    let next : Machine = stepped s (step s t) in
+    in-order m last ps next new (reached-on s (t ∷ []) y) r (λ n i. k.0.own n ∙ none n i) k.1 z
+    ∙ (ap (λ (ns : List ℕ). ns ++ joined_in_all m r ps next) (longer-line m r last s t k.0)
+    ∙ append_assoc (line m r last.world s) (joins m t s) (joined_in_all m r ps next))
 
 -- where all are plain, all have the mark
 
@@ -162,28 +189,28 @@ module _ (s : Machine) (y : Reached s) (rest : IsAtRest s) (r : ℕ) (alone : Ke
       by [] e = e
       by (g ∷ xs) e = absurd (i (alone n g (kept-there s y rest n g (omega (arith, ap (times g) e, first-times g xs)))))
 
-  by-mark : (m : Mark) (polls : List LoneRunPoll) (new : Machine) → AreLonePolls r polls s new →
-      of_mark m new.world (taken_in r polls s) ++ line m r new.world new ≡ line m r new.world s ++ joined_meanwhile m r polls s
-  by-mark m polls new k = in-order m new polls s new y rest r none-beside k (λ f l. (refl, l))
+  by-mark : (m : Mark) (pieces : List Piece) (new : Machine) → TakesAlone r pieces s new →
+      of_mark m new.world (taken_in_all r pieces s) ++ line m r new.world new ≡ line m r new.world s ++ joined_in_all m r pieces s
+  by-mark m pieces new k = in-order m new pieces s new y r none-beside k (λ f l. (refl, l))
 
-  all-plain : (polls : List LoneRunPoll) (new : Machine) → AreLonePolls r polls s new →
+  all-plain : (pieces : List Piece) (new : Machine) → TakesAlone r pieces s new →
       All (λ m. m ≡ Plain) new.world.marks →
-      taken_in r polls s ++ (own_of new.world r ++ (queue_of new.world Plain).items) ≡
-      (own_of s.world r ++ (queue_of s.world Plain).items) ++ joined_meanwhile Plain r polls s
-  all-plain polls new k plain =
+      taken_in_all r pieces s ++ (own_of new.world r ++ (queue_of new.world Plain).items) ≡
+      (own_of s.world r ++ (queue_of s.world Plain).items) ++ joined_in_all Plain r pieces s
+  all-plain pieces new k plain =
       let all : (xs : List ℕ) → of_mark Plain new.world xs ≡ xs =
       keeps-all (λ f. same_mark Plain (mark_of new.world f))
       (λ f. ap (same_mark Plain) (reaching.mark-plain new.world.marks plain f)) in
-      ap (λ (xs : List ℕ). xs ++ (own_of new.world r ++ (queue_of new.world Plain).items)) (sym (all (taken_in r polls s)))
-      ∙ (ap (λ (xs : List ℕ). of_mark Plain new.world (taken_in r polls s) ++ (xs ++ (queue_of new.world Plain).items))
+      ap (λ (xs : List ℕ). xs ++ (own_of new.world r ++ (queue_of new.world Plain).items)) (sym (all (taken_in_all r pieces s)))
+      ∙ (ap (λ (xs : List ℕ). of_mark Plain new.world (taken_in_all r pieces s) ++ (xs ++ (queue_of new.world Plain).items))
       (sym (all (own_of new.world r)))
-      ∙ (by-mark Plain polls new k
-      ∙ ap (λ (xs : List ℕ). (xs ++ (queue_of s.world Plain).items) ++ joined_meanwhile Plain r polls s) (all (own_of s.world r))))
+      ∙ (by-mark Plain pieces new k
+      ∙ ap (λ (xs : List ℕ). (xs ++ (queue_of s.world Plain).items) ++ joined_in_all Plain r pieces s) (all (own_of s.world r))))
 
 pub takes-in-order : (limit : ℕ) (kind : Kind) (parties : ℕ) (steps : List Step) → TakesInOrder (run steps (start limit kind parties))
 takes-in-order limit kind parties steps =
     let s : Machine = run steps (start limit kind parties) in
     let y : Reached s = record { limit = limit; kind = kind; parties = parties; steps = steps; is = refl } in record {
-      by_mark = λ rest r alone m polls new k. by-mark s y rest r alone m polls new k;
-      plain = λ rest r alone polls new k plain. all-plain s y rest r alone polls new k plain;
+      by_mark = λ rest r alone m pieces new k. by-mark s y rest r alone m pieces new k;
+      plain = λ rest r alone pieces new k plain. all-plain s y rest r alone pieces new k plain;
     }

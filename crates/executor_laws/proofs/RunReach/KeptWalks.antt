@@ -335,7 +335,7 @@ module _ (s : Machine) (y : Reached s) (rest : IsAtRest s) (r p : ℕ) (b : By) 
       ∙ first-is s y rest r p b steps new k))) from-beginning
 
   -- no call is in progress behind it
-  pub rests-then : IsAtRest new
+  rests-then : IsAtRest new
   rests-then = at-rest s y rest p (call.PollRun r b) steps new k.call
       (gone-along p steps (after s (Begin p (call.PollRun r b))) new k.call.alone
       (run-first (Begin p (call.PollRun r b)) steps s new k.call.made).1

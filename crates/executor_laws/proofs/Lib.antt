@@ -8,6 +8,7 @@ pub mod Placement
 pub mod Promptness
 pub mod Queueings
 pub mod Reach
+pub mod RunOrder
 pub mod RunReach
 pub mod Seeking
 pub mod Termination

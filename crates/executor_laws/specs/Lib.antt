@@ -21,6 +21,7 @@ pub mod RunSearch
 pub mod RunPolls
 pub mod RunTurns
 pub mod KeptFirst
+pub mod RunOrder
 pub mod RunFew
 pub mod RunTakes
 pub mod TakesTold

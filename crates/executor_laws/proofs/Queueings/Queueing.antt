@@ -69,7 +69,7 @@ use Rattle.executor_laws.specs.Queueings.{queued_by, queueings, counting, Change
 use Rattle.executor_laws.specs.Queueings.Changes.{stays, appends, takes, closes}
 
 -- what doing o does to the queues
-data Turns (w : World) (o : Op) (new : Queues) : Type 0 where
+pub data Turns (w : World) (o : Op) (new : Queues) : Type 0 where
   same : new ≡ w.queues → Turns w o new
   more : (f : ℕ) → o ≡ op.Queue (queue_op.Append f) → (queue_of w (mark_of w f)).closed ≡ false →
       new ≡ with_last (mark_of w f) f w.queues → Turns w o new
@@ -144,7 +144,7 @@ turns-tick p h (tick_op.Look s look) w b e = turns-look look _ w _ s refl
 turns-tick p h o w false e = same (sym (ap (λ (r : Rest). r.queue) (tick-rest p h o w e)))
 turns-tick p h _ w true e = absurd (cc)
 
-turns-act : (p : ℕ) (h : Hint) (o : Op) (w : World) → Turns w o (act p h o w).world.queues
+pub turns-act : (p : ℕ) (h : Hint) (o : Op) (w : World) → Turns w o (act p h o w).world.queues
 turns-act p h (op.Queue queue_op.TakeTurn) w = same refl
 turns-act p h (op.Queue (queue_op.Take look)) w = turns-take w look _ refl
 turns-act p h (op.Queue (queue_op.Append f)) w = turns-append (queue_of w (mark_of w f)).closed _ w f refl
@@ -158,7 +158,7 @@ turns-act p h (op.Closing (closing_op.Drain mark)) w = turns-drain mark p w _ re
 turns-act p h (op.User (user_op.PollOwn x)) w = same refl
 turns-act p h o w = same (ap (λ (r : Whole). r.queue) (sym (frame-act p h o w refl).rest))
 
-reacts : (p : ℕ) (o : Op) (u : UserEnd) (w : World) → (react p o u w).world.queues ≡ w.queues
+pub reacts : (p : ℕ) (o : Op) (u : UserEnd) (w : World) → (react p o u w).world.queues ≡ w.queues
 reacts p (op.User (user_op.Poll f)) (end.Polled answer.Pending) w = refl
 reacts p (op.User (user_op.Poll f)) (end.Polled answer.Ready) w = refl
 reacts p (op.User (user_op.PollOwn x)) (end.Polled answer.Pending) w = refl
@@ -180,7 +180,7 @@ begins p w here call.WakeSelf = with-future w (future_of here) _ (λ f. refl)
 begins p w here _ = refl
 
 -- the end of a call leaves it
-settles : (p : ℕ) (w : World) (os : List Op) (r : Option Reply) → (settled_by r p w os).world.queues ≡ w.queues
+pub settles : (p : ℕ) (w : World) (os : List Op) (r : Option Reply) → (settled_by r p w os).world.queues ≡ w.queues
 settles p w os None = refl
 settles p w os (Some r) = refl
 
@@ -194,7 +194,7 @@ pub data Steps (m : Mark) (s : Machine) (new : ClosableQueue ℕ) : Type 0 where
   shut-by : new ≡ shut (queue_of s.world m) → Steps m s new
 
 -- the queue of this mark, where that of a mark was put
-put-at : (m n : Mark) (q : ClosableQueue ℕ) (qs : Queues) →
+pub put-at : (m n : Mark) (q : ClosableQueue ℕ) (qs : Queues) →
     ((n ≡ m) × (queue_in m (with_queue n q qs) ≡ q)) ⊎ (queue_in m (with_queue n q qs) ≡ queue_in m qs)
 put-at Urgent Urgent q qs = inl (refl, refl)
 put-at Urgent Plain q qs = inr refl

@@ -209,6 +209,10 @@ pub marked-here : (s : Machine) → Reached s → (m : Mark) (f : ℕ) → 1 ≤
     mark_of s.world f ≡ m
 marked-here s r = (subst Marked (sym r.is) (marked r.limit r.kind r.parties r.steps)).queued
 
+pub there-marked : (s : Machine) → Reached s → (m : Mark) (f : ℕ) → 1 ≤ times f (queue_of s.world m).items →
+    (mark_of s.world f ≡ m) × (f < length s.world.marks)
+there-marked s r m f k = was-there s (good-here s r) (subst Marked (sym r.is) (marked r.limit r.kind r.parties r.steps)) m f k
+
 -- where all are plain at the end, they were all plain before
 
 all-first : (ms more : List Mark) → All (λ m. m ≡ Plain) (ms ++ more) → All (λ m. m ≡ Plain) ms

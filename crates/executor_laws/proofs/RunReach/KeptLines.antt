@@ -158,7 +158,7 @@ lines-counted true w x f = one x.run (counted_to w x.run 0)
     (op.Steal (steal_op.Length (record { poll = x; from = Common Urgent; then = then.StealPlain f }))) (refl, refl)
 lines-counted false w x f = lines-run_by _ (counted_to w x.run _) x f
 
-found-side : (x : Ticker) (who : TickOrRun) → (weigh side_of (found_by x who (op.Sleeper sleeper_op.ExchangeFlag ∷ [])) ≡ 0)
+pub found-side : (x : Ticker) (who : TickOrRun) → (weigh side_of (found_by x who (op.Sleeper sleeper_op.ExchangeFlag ∷ [])) ≡ 0)
     × (weigh ups (found_by x who (op.Sleeper sleeper_op.ExchangeFlag ∷ [])) ≡ 0)
 found-side Awake who = (refl, refl)
 found-side (Asleep n) who = (refl, refl)
@@ -261,7 +261,7 @@ lines-common look (f ∷ rest) w x e =
       line = sym (ap (λ (ns : List ℕ). ns ++ f ∷ own_of w x.run) e);
     }
 
-another-queue : (n m : ℕ) → eqb n m ≡ false → n ≢ m
+pub another-queue : (n m : ℕ) → eqb n m ≡ false → n ≢ m
 another-queue n m b k = ⊎_elim
     (λ (x : (same n m ≡ 1) × (eqb n m ≡ true) × (n ≡ m)). let no : true ≡ false = sym x.1 ∙ b in absurd (cc))
     (λ (x : (same n m ≡ 0) × (eqb n m ≡ false) × (n ≢ m)). x.2 k)

@@ -105,11 +105,11 @@ settles q first xs p w c side k z t = go (from-end side)
         (going c (l.below ++ l.last ∷ []) refl k (subst (λ (os : List Op). weigh side_of os ≡ 0) l.is z)
         (subst (λ (os : List Op). BeginsWith first (xs ++ (ups_in os ++ (hand_of c ++ own_of w q)))) l.is t)))
 
-control-no-up : (q : ℕ) (c : Op) → Control q c → up_of c ≡ []
+pub control-no-up : (q : ℕ) (c : Op) → Control q c → up_of c ≡ []
 control-no-up q (op.Move m f) k = absurd k
 control-no-up q _ k = refl
 
-user-no-up : (o : Op) (u : UserEnd) → accepts o u ≡ true → up_of o ≡ []
+pub user-no-up : (o : Op) (u : UserEnd) → accepts o u ≡ true → up_of o ≡ []
 user-no-up (op.Move m f) u a = absurd (cc)
 user-no-up _ u a = refl
 
@@ -380,7 +380,7 @@ one-or-all g (b ∷ before) after (y ∷ ys) more e =
 
 module _ (s : Machine) (y : Reached s) (rest : IsAtRest s) (r : ℕ) where
   -- what stands in its own queue it keeps
-  kept-there : (g : ℕ) → 1 ≤ times g (own_of s.world r) → Keeps r g s.world.trace
+  pub kept-there : (g : ℕ) → 1 ≤ times g (own_of s.world r) → Keeps r g s.world.trace
   kept-there g n = record {
     due = queued-due s (good-here s y) (heard-here s y) (deep-here s y) (bonded-here s y) rest g (omega (
       arith,

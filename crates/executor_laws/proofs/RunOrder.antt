@@ -1,0 +1,5 @@
+-- A run that alone keeps futures takes those of each mark up as they were queued: runs_take_futures_in_order.
+pub mod Spans
+pub mod SpanActs
+pub mod SpanWalks
+pub mod Ordering

@@ -50,6 +50,7 @@ use Rattle.executor_laws.specs.EndedRuns.{EndedIsFinished}
 use Rattle.executor_laws.specs.GoingOn.{GoesOn, HolderGoesOn}
 use Rattle.executor_laws.specs.HandleAnswers.{CancelledMeansOver}
 use Rattle.executor_laws.specs.KeptFirst.{TakesKeptFirst}
+use Rattle.executor_laws.specs.RunOrder.{TakesInOrder}
 use Rattle.executor_laws.specs.LoneEnds.{LoneCallsEnd}
 use Rattle.executor_laws.specs.Looks.{AreQueuedByMark, IsMarkedAsSpawned, OneOfEightIsPlain, TakesByItsTurn}
 use Rattle.executor_laws.specs.Makings.{MadeIsMade}
@@ -235,6 +236,8 @@ pub record AllLaws (s : Machine) : Type 0 where
   pub kept_reached : IsKeptReached s
   -- before anything else
   pub kept_first : TakesKeptFirst s
+  -- a run that alone takes futures takes those of each mark as they were queued
+  pub in_queueing_order : TakesInOrder s
   -- a list of such polls takes each common future
   pub common_reached : IsCommonReached s
   -- a run that keeps a future can be polled so

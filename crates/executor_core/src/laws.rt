@@ -50,8 +50,8 @@ use executor_laws::laws::{
     nothing_is_ready_where_none_was_found, one_turn_of_eight_is_plain, queueings_are_counted,
     requests_are_numbered, runs_are_ready_at_their_end, runs_can_be_polled,
     runs_end_by_their_own_futures, runs_find_due_futures, runs_poll_few_futures,
-    runs_reach_futures, runs_take_few_futures, some_standing_is_called, ticks_are_exact,
-    traces_continue, what_is_made_is_new,
+    runs_reach_futures, runs_take_few_futures, runs_take_futures_in_order, some_standing_is_called,
+    ticks_are_exact, traces_continue, what_is_made_is_new,
 };
 use executor_model::call_laws::{
     calls_do_what_they_say, closings_say_why, copies_are_counted, leaks_wake_each_future,
@@ -113,6 +113,7 @@ pub fn all_laws()
     runs_take_few_futures();
     kept_futures_are_in_reach();
     kept_futures_come_first();
+    runs_take_futures_in_order();
     keepers_can_be_polled();
     runs_can_be_polled();
     dropped_runs_leave_common_futures();

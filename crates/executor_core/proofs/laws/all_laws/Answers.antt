@@ -86,6 +86,7 @@ returns c limit kind parties steps =
       takes_told = c.laws_of_answers.ensures.takes_told s;
       kept_reached = c.kept_futures_are_in_reach.ensures limit kind parties steps;
       kept_first = c.kept_futures_come_first.ensures limit kind parties steps;
+      in_queueing_order = c.runs_take_futures_in_order.ensures limit kind parties steps;
       common_reached = c.common_futures_are_in_reach_of_runs.ensures limit kind parties steps;
       keepers_polled = c.keepers_can_be_polled.ensures limit kind parties steps;
       runs_polled = c.runs_can_be_polled.ensures limit kind parties steps;

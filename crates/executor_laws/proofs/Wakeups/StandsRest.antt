@@ -245,6 +245,9 @@ module _ (s : Machine) (fine : Good s) (hs : Heard s) (ds : Deep s) (told : Slee
     pub keeper-stands : ¬ WasRefused (tick_or_run.Run r) s.world.trace → StandsSo (tick_or_run.Run r) s.world.trace
     keeper-stands none = standing-there (tick_or_run.Run r) keeps none
 
+    pub keeper-lives : has (drops_sleeper (tick_or_run.Run r)) s.world.trace ≡ false
+    keeper-lives = unleft (tick_or_run.Run r) keeps
+
     pub keeper-called : WasCalled (tick_or_run.Run r) s.world.trace
     keeper-called = ⊎_elim
         (λ (x : 1 ≤ weigh_all (running_of r) s.parties). absurd

@@ -1,12 +1,14 @@
 -- In which order a run takes the futures of each mark up that alone takes futures: as they were queued.
-use Rattle.std.specs.Prelude.{◌≡◌, ℕ, All, List, [], ◌∷◌, ◌++◌, drop, filter, length}
+use Rattle.std.specs.Prelude.{◌≡◌, ℕ, true, false, All, List, [], ◌∷◌, ◌++◌, drop, filter, length}
 use Rattle.executor_parts.specs.declared.mark.Mark.{Mark}
 use Rattle.executor_parts.specs.declared.mark.Mark.TheVariants.{Plain}
 use Rattle.executor_parts.specs.Marks.{same_mark}
 use Rattle.executor_model.specs.declared.step.Step.{Step}
+use Rattle.executor_model.specs.declared.op.TickOrRun.TheVariants.{Run}
 use Rattle.executor_model.specs.Emptiness.{IsAtRest}
+use Rattle.executor_model.specs.Standing.{drops_sleeper, polls_sleeper}
 use Rattle.executor_model.specs.Steps.{Machine, run, step, stepped}
-use Rattle.executor_model.specs.Trace.{Trace}
+use Rattle.executor_model.specs.Trace.{Trace, has}
 use Rattle.executor_model.specs.World.{World, mark_of, own_of, queue_of}
 use Rattle.executor_laws.specs.KeptFirst.{BeginsWith, poll_steps, taken_up}
 use Rattle.executor_laws.specs.RunReach.{IsLonePoll, Keeps, LoneRunPoll}
@@ -61,13 +63,23 @@ of_mark m w fs = filter (λ f. same_mark m (mark_of w f)) fs
 abbrev pub line : Mark → ℕ → World → Machine → List ℕ
 line m r w s = of_mark m w (own_of s.world r) ++ (queue_of s.world m).items
 
--- no other run keeps a future, as where no other was polled that isn't dropped
+-- run q was polled, and isn't dropped
+pub record IsBegun (q : ℕ) (trace : Trace) : Type 0 where
+  pub polled : has (polls_sleeper (Run q)) trace ≡ true
+  pub there : has (drops_sleeper (Run q)) trace ≡ false
+
+abbrev pub IsOnlyBegun : ℕ → Trace → Type 0
+IsOnlyBegun r trace = (q : ℕ) → IsBegun q trace → q ≡ r
+
+-- no other run keeps a future
 abbrev pub KeepsAlone : ℕ → Trace → Type 0
 KeepsAlone r trace = (q f : ℕ) → Keeps q f trace → q ≡ r
 
 -- what the polls take up of a mark, and behind it what waits of it at the end, is what waited of it at the start, and behind it
--- what was queued of it meanwhile. Where all futures are plain, that is so of all that they take up
+-- what was queued of it meanwhile. Where all futures are plain, that is so of all that they take up. So it is of a run that alone
+-- keeps futures at the start, as the only one does that was begun
 pub record TakesInOrder (s : Machine) : Type 0 where
+  pub only : IsAtRest s → (r : ℕ) → IsOnlyBegun r s.world.trace → KeepsAlone r s.world.trace
   pub by_mark : IsAtRest s → (r : ℕ) → KeepsAlone r s.world.trace → (m : Mark) (pieces : List Piece) (new : Machine) →
       TakesAlone r pieces s new →
       of_mark m new.world (taken_in_all r pieces s) ++ line m r new.world new ≡

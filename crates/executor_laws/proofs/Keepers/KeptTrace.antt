@@ -61,7 +61,7 @@ or-second false b e = e
 or-second true b e = absurd (cc)
 
 -- nothing of what is there passes a test that none of it passes
-none-at : (test : Event → Bool) (es : Trace) (k : ℕ) (x : Event) → has test es ≡ false → slice_get es k ≡ Some x →
+pub none-at : (test : Event → Bool) (es : Trace) (k : ℕ) (x : Event) → has test es ≡ false → slice_get es k ≡ Some x →
     test x ≡ false
 none-at test [] k x h e = absurd (cc)
 none-at test (y ∷ es) zero x h e = let q : y ≡ x = cc in subst (λ (z : Event). test z ≡ false) q (or-first _ _ h)

@@ -1,12 +1,12 @@
 -- For runs_take_futures_in_order.
--- So do lists of such polls with steps between that take nothing, of each mark, and of all futures where all are plain.
-use Rattle.std.proofs.Common.{◌≡◌, ◌≢◌, ◌∙◌, ⊎_elim, ℕ, ◌<◌, ◌≤◌, Bool, true, false, List, [], ◌∷◌, ◌++◌, length, drop}
+-- So it is of what such polls take up with steps between that take nothing, of each mark; and of all where all are plain.
+use Rattle.std.proofs.Common.{◌≡◌, ◌∙◌, ℕ, ◌<◌, ◌≤◌, Bool, true, false, List, [], ◌∷◌, ◌++◌, length, drop}
 use Rattle.std.proofs.Common.{get_or, refl, sym, ap, subst, arith, append-nil, append_assoc, length-append, Ok}
 use Rattle.std.proofs.Math.Seq.{drop-append_seam}
 use Rattle.std.proofs.lemmas.List.Elements.{filter-append}
-use Rattle.std.specs.Prelude.{All, cond, filter}
+use Rattle.std.specs.Prelude.{All, Some, cond, filter, slice_get}
 use Rattle.executor_parts.specs.declared.mark.Mark.{Mark}
-use Rattle.executor_parts.specs.declared.mark.Mark.TheVariants.{Plain, Urgent}
+use Rattle.executor_parts.specs.declared.mark.Mark.TheVariants.{Plain}
 use Rattle.executor_parts.specs.Marks.{same_mark}
 use Rattle.executor_model.specs.declared.call.By.{By}
 use Rattle.executor_model.specs.declared.call.Call.TheVariants as call
@@ -18,15 +18,31 @@ use Rattle.executor_model.specs.Executions.{run_all}
 use Rattle.executor_model.specs.Queues.{Queues, queue_in}
 use Rattle.executor_model.specs.Sound.{times}
 use Rattle.executor_model.specs.Steps.{Machine, after, run, start, step, stepped}
+use Rattle.executor_model.specs.declared.event.Event.TheVariants as event
+use Rattle.executor_model.specs.declared.op.TickOrRun.TheVariants as tick_or_run
+use Rattle.executor_model.specs.Standing.{WasCalled, polls_sleeper}
+use Rattle.executor_model.specs.Trace.{has}
 use Rattle.executor_model.specs.World.{World, mark_of, own_of, queue_of}
-use Rattle.executor_model.proofs.Steps.Marking.{Entries, entries}
-use Rattle.executor_model.proofs.Steps.Reached.{Reached, run-first, run-of}
+use Rattle.executor_model.proofs.Steps.Marking.{Entries}
+use Rattle.executor_model.proofs.Steps.Reached.{Reached, deep-here, good-here, run-first, run-of}
 use Rattle.executor_laws.specs.KeptFirst.{poll_steps, taken_up}
-use Rattle.executor_laws.specs.RunOrder.{KeepsAlone, Piece, TakesAlone, TakesInOrder, TakesNothing, joined, joined_in_all, joins, line}
-use Rattle.executor_laws.specs.RunOrder.{of_mark, taken_in_all}
+use Rattle.executor_laws.specs.RunOrder.{IsBegun, KeepsAlone, Piece, TakesAlone, TakesInOrder, TakesNothing, joined}
+use Rattle.executor_laws.specs.RunOrder.{joined_in_all, joins, line, of_mark, taken_in_all}
 use Rattle.executor_laws.specs.RunOrder.Piece.{between, polled}
-use Rattle.executor_laws.specs.RunReach.{IsLonePoll}
+use Rattle.executor_laws.specs.RunReach.{IsLonePoll, Keeps}
+use Rattle.executor_model.proofs.OwnQueues.OwnRunners.{own-queue-has-runner}
+use Rattle.executor_model.proofs.Polls.AskingExecutions.{heard}
+use Rattle.executor_model.proofs.Quiet.Resting.{deep}
+use Rattle.executor_model.proofs.Sleepers.SleepersTellingExecutions.{are_told}
+use Rattle.executor_model.proofs.Steps.Lift.{good}
 use Rattle.executor_laws.proofs.Exactness.Ticking.{first-times}
+use Rattle.executor_laws.proofs.Keepers.KeptTrace.{none-at}
+use Rattle.executor_laws.proofs.Placement.Placing.{keeper-own}
+use Rattle.executor_laws.proofs.Reach.Reached.{bonded-here, heard-here}
+use Rattle.executor_laws.proofs.Walks.Finding.{itself}
+use Rattle.executor_laws.proofs.Wakeups.Queued.{times-length}
+use Rattle.executor_laws.proofs.Wakeups.StandsMachine.{standing}
+use Rattle.executor_laws.proofs.Wakeups.StandsRest.{keeper-called, keeper-lives}
 use Rattle.executor_laws.proofs.Placement.OwnReady.{reached-on}
 use Rattle.executor_laws.proofs.Promptness.Turns.{next-is}
 use Rattle.executor_laws.proofs.Reach.Marked.{Grown, grown-after, grown-step, mark-stays, there-marked}
@@ -109,15 +125,18 @@ module _ (m : Mark) (last : Machine) (s : Machine) (y : Reached s) (rest : IsAtR
       (λ n i. ap (λ (qs : List (List ℕ)). get_or qs n []) a.here.so_far.owns_are ∙ none n i)
       a.here.todo (ahead-same test m r s.world a.machine.world a.here.so_far.owns_are a.here.so_far.common_is) a.onward a.made
 
-  joined-from : joined m all-steps s ≡ joined m (arrived s y rest r p b steps new k).others (arrived s y rest r p b steps new k).machine
+  joined-from : joined m all-steps s ≡
+      joined m (arrived s y rest r p b steps new k).others (arrived s y rest r p b steps new k).machine
   joined-from =
       let a = arrived s y rest r p b steps new k in
       ap (λ (v : Machine). drop (length (queue_of s.world m).items) (queue_of v.world m).items ++ joined m steps v) first-step
       ∙ (ap (λ (xs : List ℕ). xs ++ joined m steps (first-machine s y rest r p b steps new k))
-      (joins-none (queue_of s.world m).items _ (ap (λ (qs : Queues). (queue_in m qs).items) (first-queues s y rest r p b steps new k)))
+      (joins-none (queue_of s.world m).items _
+      (ap (λ (qs : Queues). (queue_in m qs).items) (first-queues s y rest r p b steps new k)))
       ∙ a.joined_is m)
 
-  taken-from : taken_up p all-steps s ≡ taken_up p (arrived s y rest r p b steps new k).others (arrived s y rest r p b steps new k).machine
+  taken-from : taken_up p all-steps s ≡
+      taken_up p (arrived s y rest r p b steps new k).others (arrived s y rest r p b steps new k).machine
   taken-from = ap (λ (v : Machine). taken_up p steps v) first-step ∙ (arrived s y rest r p b steps new k).taken
 
   one-poll : filter test (taken_up p all-steps s) ++ waits-in new ≡ waits-in s ++ joined m all-steps s
@@ -207,10 +226,46 @@ module _ (s : Machine) (y : Reached s) (rest : IsAtRest s) (r : ℕ) (alone : Ke
       ∙ (by-mark Plain pieces new k
       ∙ ap (λ (xs : List ℕ). (xs ++ (queue_of s.world Plain).items) ++ joined_in_all Plain r pieces s) (all (own_of s.world r))))
 
-pub takes-in-order : (limit : ℕ) (kind : Kind) (parties : ℕ) (steps : List Step) → TakesInOrder (run steps (start limit kind parties))
+-- what a run keeps it keeps since it was polled, and until it is dropped
+
+module _ (limit : ℕ) (kind : Kind) (parties : ℕ) (steps : List Step) where
+  abbrev now : Machine
+  now = run steps (start limit kind parties)
+
+  reached : Reached now
+  reached = record { limit = limit; kind = kind; parties = parties; steps = steps; is = refl }
+
+  begun : IsAtRest now → (q f : ℕ) → Keeps q f now.world.trace → IsBegun q now.world.trace
+  begun rest q f k =
+      let stands : 1 ≤ times f (own_of now.world q) =
+      keeper-own now (good-here now reached) (heard-here now reached) (deep-here now reached) (bonded-here now reached) rest f q
+      k.due k.keeper in
+      let some : 1 ≤ length (own_of now.world q) = omega (arith, stands, times-length f (own_of now.world q)) in
+      let called : WasCalled (tick_or_run.Run q) now.world.trace =
+      keeper-called now (good limit kind parties steps) (heard limit kind parties steps) (deep limit kind parties steps)
+      (are_told limit kind parties steps) (own-queue-has-runner limit kind parties steps) (standing limit kind parties steps)
+      rest.quiet q some in
+      record {
+        polled = by called.party called.poll called.polled.polled (has (polls_sleeper (tick_or_run.Run q)) now.world.trace) refl;
+        there = keeper-lives now (good limit kind parties steps) (heard limit kind parties steps)
+            (deep limit kind parties steps) (are_told limit kind parties steps)
+            (own-queue-has-runner limit kind parties steps) (standing limit kind parties steps) rest.quiet q some;
+      }
+    where
+      by : (party place : ℕ) → slice_get now.world.trace place ≡ Some (event.RunPolled party q) → (b : Bool) →
+          has (polls_sleeper (tick_or_run.Run q)) now.world.trace ≡ b →
+          has (polls_sleeper (tick_or_run.Run q)) now.world.trace ≡ true
+      by party place e true h = h
+      by party place e false h =
+          let no : true ≡ false = sym (itself q).1
+          ∙ none-at (polls_sleeper (tick_or_run.Run q)) now.world.trace place (event.RunPolled party q) h e in absurd (cc)
+
+pub takes-in-order : (limit : ℕ) (kind : Kind) (parties : ℕ) (steps : List Step) →
+    TakesInOrder (run steps (start limit kind parties))
 takes-in-order limit kind parties steps =
     let s : Machine = run steps (start limit kind parties) in
-    let y : Reached s = record { limit = limit; kind = kind; parties = parties; steps = steps; is = refl } in record {
+    let y : Reached s = reached limit kind parties steps in record {
+      only = λ rest r only q f k. only q (begun limit kind parties steps rest q f k);
       by_mark = λ rest r alone m pieces new k. by-mark s y rest r alone m pieces new k;
       plain = λ rest r alone pieces new k plain. all-plain s y rest r alone pieces new k plain;
     }

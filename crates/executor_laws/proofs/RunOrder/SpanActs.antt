@@ -1,12 +1,9 @@
 -- For runs_take_futures_in_order.
--- So does each thing that a run does in its poll.
-use Rattle.std.proofs.Common.{◌≡◌, ◌≢◌, ◌∙◌, ⊎_elim, ℕ, zero, suc, List, [], ◌∷◌, ◌++◌, length, set, get_or}
-use Rattle.std.proofs.Common.{Bool, true, false, eqb, refl, sym, ap, subst, arith, append-nil, append_assoc, get_or-set_same}
-use Rattle.std.proofs.Common.{get_or-set_other}
-use Rattle.std.proofs.lemmas.List.{reverse-append}
-use Rattle.std.specs.Prelude.{Option, Some, None, reverse}
+-- Each thing that a run does in its poll leaves the line of a mark as it is.
+use Rattle.std.proofs.Common.{◌≡◌, ◌≢◌, ◌∙◌, ℕ, zero, suc, List, [], ◌∷◌, length}
+use Rattle.std.proofs.Common.{Bool, true, false, eqb, refl, sym, ap, subst, get_or-set_same}
+use Rattle.std.specs.Prelude.{Option, Some, None}
 use Rattle.executor_model.specs.declared.op.Look.{Look}
-use Rattle.executor_parts.specs.declared.mark.Mark.TheVariants.{Plain, Urgent}
 use Rattle.executor_parts.specs.Marks.{first_of, other}
 use Rattle.executor_model.specs.Acts.{turned}
 use Rattle.executor_model.specs.declared.op.Look.TheVariants.{First, Second}
@@ -21,17 +18,12 @@ use Rattle.executor_model.specs.declared.op.ListOp.TheVariants as list_op
 use Rattle.executor_model.specs.declared.op.Op.{Op}
 use Rattle.executor_model.specs.declared.op.Op.TheVariants as op
 use Rattle.executor_model.specs.declared.op.Polled.TheVariants as of
-use Rattle.executor_model.specs.declared.op.QueueOp.TheVariants as queue_op
 use Rattle.executor_model.specs.declared.op.RunOp.TheVariants as run_op
 use Rattle.executor_model.specs.declared.op.RunPoll.{RunPoll}
 use Rattle.executor_model.specs.declared.op.Sleeping.{Sleeping}
 use Rattle.executor_model.specs.declared.op.SleeperOp.TheVariants as sleeper_op
-use Rattle.executor_model.specs.declared.op.Source.{Source}
 use Rattle.executor_model.specs.declared.op.Source.TheVariants.{Common, Own}
-use Rattle.executor_model.specs.declared.op.Steal.{Steal}
-use Rattle.executor_model.specs.declared.op.StealOp.{StealOp}
 use Rattle.executor_model.specs.declared.op.StealOp.TheVariants as steal_op
-use Rattle.executor_model.specs.declared.op.Then.{Then}
 use Rattle.executor_model.specs.declared.op.Then.TheVariants as then
 use Rattle.executor_model.specs.declared.op.TickOp.TheVariants as tick_op
 use Rattle.executor_model.specs.declared.op.TickOrRun.{TickOrRun}
@@ -41,31 +33,23 @@ use Rattle.executor_model.specs.declared.op.Waker.{Waker}
 use Rattle.executor_model.specs.declared.op.Waker.TheVariants.{Task, Outside}
 use Rattle.executor_model.specs.declared.step.Hint.{Hint}
 use Rattle.executor_model.specs.Acts.{copied, followed}
-use Rattle.executor_model.specs.ActsOfRuns.{asleep, call_by_reference, counted_by, counted_to, found, kept_by}
-use Rattle.executor_model.specs.ActsOfRuns.{look_own_by, next_place, queue_at, run_by, search_common_by, search_own_by}
-use Rattle.executor_model.specs.ActsOfRuns.{steal_by, steal_length_by, steal_put_by, steal_take_by, stolen, wake_own, walk, without_first}
-use Rattle.executor_model.specs.ActsOfSleepers.{copy_sleeper_by, fall_asleep_by, found_by, sleep_again_by, sleep_anew_by}
+use Rattle.executor_model.specs.ActsOfRuns.{asleep, call_by_reference, found}
+use Rattle.executor_model.specs.ActsOfRuns.{look_own_by, next_place, queue_at, search_common_by, search_own_by}
+use Rattle.executor_model.specs.ActsOfRuns.{wake_own, walk}
+use Rattle.executor_model.specs.ActsOfSleepers.{copy_sleeper_by, fall_asleep_by, sleep_again_by, sleep_anew_by}
 use Rattle.executor_model.specs.ActsOfSleepers.{sleep_listed_by, sleeper_goes}
-use Rattle.executor_model.specs.Doing.{act, search_by_who, steal_act}
-use Rattle.executor_model.specs.Weights.{same, weigh}
-use Rattle.executor_model.specs.World.{Asleep, Awake, Done, Left, Ticker, World, done, log, own_of, place_of, put_own, run_of}
-use Rattle.executor_model.proofs.Steps.Lists.{same_cases, weigh-append, weigh-reverse}
+use Rattle.executor_model.specs.Doing.{act, search_by_who}
+use Rattle.executor_model.specs.World.{Asleep, Awake, Done, Left, Ticker, World, done, log, own_of, place_of, put_own}
 use Rattle.executor_model.proofs.Steps.SleepersNext.{goes-unseen}
 use Rattle.executor_laws.proofs.Fewness.FewSides.{ups, ups-act}
 use Rattle.executor_laws.proofs.RunReach.RunLeaves.{within}
 use Rattle.executor_laws.proofs.RunReach.RunSteps.{Aside, Control, NotOwn, aside-act, side_of, steal_of}
-use Rattle.executor_laws.proofs.RunReach.TakenUp.{up_of}
-use Rattle.std.proofs.lemmas.List.Elements.{filter-append}
-use Rattle.std.specs.Prelude.{cond, drop, filter}
 use Rattle.queue_steps.specs.ClosableQueue.{taken}
 use Rattle.executor_parts.specs.declared.mark.Mark.{Mark}
 use Rattle.executor_parts.specs.Marks.{same_mark}
-use Rattle.executor_model.specs.ActsOfRuns.{free_places, source_of}
-use Rattle.executor_model.specs.Queues.{Queues, queue_in}
 use Rattle.executor_model.specs.World.{put_queue}
 use Rattle.executor_model.proofs.Awaiters.RunsQueue.{queue-by_reference}
-use Rattle.executor_laws.proofs.RunReach.KeptLines.{another-queue, found-side, hand_of, hand_then, no-ups-back, ups_in, ups_in-append}
-use Rattle.executor_laws.proofs.Turns.LineSteps.{with_hand}
+use Rattle.executor_laws.proofs.RunReach.KeptLines.{another-queue}
 use Rattle.executor_laws.proofs.RunOrder.Spans.{Facts, Lines, ahead, ahead-same, behind-ops, lines-as, lines-found, lines-steal}
 use Rattle.executor_laws.proofs.RunOrder.Spans.{moved, one, span}
 
@@ -113,8 +97,8 @@ module _ (b : ℕ → Bool) (m : Mark) where
 
   lines-walk : (v : World) (x : RunPoll) (qs : List ℕ) (at left : ℕ) → Line x.run (waits x.run v) (done v (walk x qs at left))
   lines-walk v x qs at zero =
-      behind-ops b m x.run (waits x.run v) (op.List list_op.UnlockRead ∷ []) (done v (op.Tick (tick_op.CopyWaker (asleep x)) ∷ []))
-      refl refl (one b m x.run v (op.Tick (tick_op.CopyWaker (asleep x))) refl)
+      behind-ops b m x.run (waits x.run v) (op.List list_op.UnlockRead ∷ [])
+      (done v (op.Tick (tick_op.CopyWaker (asleep x)) ∷ [])) refl refl (one b m x.run v (op.Tick (tick_op.CopyWaker (asleep x))) refl)
   lines-walk v x qs at (suc left) =
       by (eqb (queue_at qs at) x.run) (another-queue (queue_at qs at) x.run) (lines-walk v x qs (next_place qs at) left)
     where
@@ -162,7 +146,8 @@ module _ (b : ℕ → Bool) (m : Mark) where
       (lines-as b m q (ahead b m (span q c w) w) (waits q w) (done w (c ∷ [])) (ap (λ (ns : List ℕ). ahead b m ns w) h)
       (one b m q w c k))
 
-  lines-anew : (q : ℕ) (c : Bool) (w : World) (s : Sleeping) → s.who ≡ tick_or_run.Run q → Line q (waits q w) (sleep_anew_by c w s)
+  lines-anew : (q : ℕ) (c : Bool) (w : World) (s : Sleeping) → s.who ≡ tick_or_run.Run q →
+      Line q (waits q w) (sleep_anew_by c w s)
   lines-anew q true w s e = one b m q (sleep_anew_by true w s).world (op.Tick (tick_op.Search s)) e
   lines-anew q false w s e = lines-nowhere q w s _ refl refl
 
@@ -204,7 +189,8 @@ module _ (b : ℕ → Bool) (m : Mark) where
           (ahead-same b m q w d.world a.own (queue-by_reference p u (Task g)))
           (one b m q d.world (op.End reply.Pending (hold.Run x.run)) refl))
       by (Outside y) = behind-ops b m q (waits q w) (op.User (user_op.CallOutside y) ∷ [])
-          (done (log w (event.WakerCalled p (of.Run x.run) x.poll x.waker)) (op.End reply.Pending (hold.Run x.run) ∷ [])) refl refl
+          (done (log w (event.WakerCalled p (of.Run x.run) x.poll x.waker)) (op.End reply.Pending (hold.Run x.run) ∷ []))
+          refl refl
           (one b m q (log w (event.WakerCalled p (of.Run x.run) x.poll x.waker)) (op.End reply.Pending (hold.Run x.run)) refl)
 
   pub lines-act : (q p : ℕ) (h : Hint) (c : Op) (w : World) → Control q c → Facts b m q c w →

@@ -1,62 +1,39 @@
 -- For runs_take_futures_in_order.
--- So does a poll of a run that is made alone: what it takes up, and behind it what waits, is what waited and what joined.
+-- What a poll of a run that is made alone takes up of a mark, and behind it what waits, is what waited and what joined.
 use Rattle.std.proofs.Common.{◌≡◌, ◌⊎◌, ◌∙◌, inl, inr, ⊎_elim, ℕ, ◌<◌, ◌≤◌, List, [], ◌∷◌, ◌++◌, length, get_or}
 use Rattle.std.proofs.Common.{Bool, true, false, refl, sym, ap, subst, arith, append-nil, append_assoc, Ok}
 use Rattle.std.specs.Prelude.{Option, Some, None, reverse}
-use Rattle.executor_model.specs.declared.op.Look.{Look}
-use Rattle.executor_model.specs.declared.call.By.{By}
-use Rattle.executor_model.specs.declared.call.Call.TheVariants as call
 use Rattle.executor_model.specs.declared.call.Reply.{Reply}
-use Rattle.executor_model.specs.declared.event.Answer.TheVariants as answer
-use Rattle.executor_model.specs.declared.event.Event.TheVariants as event
-use Rattle.executor_model.specs.declared.kind.Kind.{Kind}
 use Rattle.executor_model.specs.declared.op.ListOp.{ListOp}
 use Rattle.executor_model.specs.declared.op.ListOp.TheVariants as list_op
 use Rattle.executor_model.specs.declared.op.Op.{Op}
 use Rattle.executor_model.specs.declared.op.Op.TheVariants as op
-use Rattle.executor_model.specs.declared.op.RunOp.TheVariants as run_op
-use Rattle.executor_model.specs.declared.op.RunPoll.{RunPoll}
-use Rattle.executor_model.specs.declared.op.Section.TheVariants as section
-use Rattle.executor_model.specs.declared.op.UserOp.TheVariants as user_op
 use Rattle.executor_model.specs.declared.step.Hint.{Hint}
 use Rattle.executor_model.specs.declared.step.Step.{Step}
-use Rattle.executor_model.specs.declared.step.Step.TheVariants.{Answer, Begin, Go}
 use Rattle.executor_model.specs.declared.step.UserEnd.{UserEnd}
-use Rattle.executor_model.specs.declared.step.UserEnd.TheVariants as end
-use Rattle.executor_model.specs.ActsOfRuns.{make_run_by, registered}
 use Rattle.executor_model.specs.Doing.{act, list_act}
-use Rattle.executor_model.specs.Emptiness.{IsAtRest}
 use Rattle.executor_model.specs.Executions.{run_all}
 use Rattle.executor_model.specs.OwnQueues.{IsEmptyMeanwhile, empty_of}
-use Rattle.executor_model.specs.Sound.{times}
-use Rattle.executor_model.specs.Steps.{Machine, Part, accepts, after, begun, below_top, end_of, gone_on, mine, onto, part, react, run}
-use Rattle.executor_model.specs.Steps.{settled, settled_by, stack, start, top, with_part}
+use Rattle.executor_model.specs.Steps.{Machine, Part, accepts, end_of, onto, part, react}
+use Rattle.executor_model.specs.Steps.{settled, settled_by, stack, top, with_part}
 use Rattle.executor_model.specs.Weights.{weigh}
-use Rattle.executor_model.specs.World.{Done, Ended, Listed, New, Stage, World, log, own_of, run_of}
+use Rattle.executor_model.specs.World.{Done, World, own_of}
 use Rattle.executor_model.proofs.OwnQueues.RunsAside.{Coat}
 use Rattle.executor_model.proofs.OwnQueues.RunsDone.{Deed, deed-act}
 use Rattle.executor_model.proofs.Steps.Lift.{split}
-use Rattle.executor_model.proofs.Steps.Lists.{times-append, weigh-append, weigh-reverse}
-use Rattle.executor_model.proofs.Steps.Reached.{Reached, deep-here, good-here, run-first, run-of}
+use Rattle.executor_model.proofs.Steps.Lists.{weigh-append, weigh-reverse}
+use Rattle.executor_model.proofs.Steps.Reached.{Reached, run-first}
 use Rattle.executor_model.proofs.Table.Spawning.{top-last}
 use Rattle.executor_laws.specs.LoneEnds.{are_onward_of, is_onward_of}
-use Rattle.executor_laws.specs.RunReach.{AreLonePolls, IsLonePoll, Keeps, LoneRunPoll}
-use Rattle.executor_laws.proofs.Exactness.Ticking.{first-times}
 use Rattle.executor_laws.proofs.Fewness.FewSides.{ups-act, ups-react}
-use Rattle.executor_laws.proofs.Placement.Placing.{here, in-own, keeper-own, own-keeper, queued-due}
-use Rattle.executor_laws.proofs.Promptness.Turns.{next-is}
 use Rattle.executor_laws.proofs.Reach.LoneSteps.{Last, from-end}
 use Rattle.executor_laws.proofs.Reach.LoneTicks.{idle-none, left-true, of-party, stack-set}
-use Rattle.executor_laws.proofs.Reach.Reached.{bonded-here, heard-here}
-use Rattle.executor_laws.proofs.Reach.Searching.{at-rest}
 use Rattle.executor_laws.proofs.RunReach.RunKeeps.{light-last, side-no-end}
-use Rattle.executor_laws.proofs.RunReach.RunLeaves.{gone-onto}
-use Rattle.executor_laws.proofs.RunReach.RunReaching.{arrived, first-is, first-machine, new-idle, reached-new}
 use Rattle.executor_laws.proofs.RunReach.RunSteps.{Aside, Control, aside-act, aside-react, no-user, side_of}
 use Rattle.executor_laws.proofs.RunReach.RunWalks.{Onward, onward}
 use Rattle.executor_laws.proofs.RunReach.RunWalks.Onward.{acted, answered}
 use Rattle.executor_laws.proofs.Walks.Finding.{itself}
-use Rattle.std.proofs.Common.{◌≢◌, drop, eqb, get_or-set_other, ltb, suc, ◌+◌}
+use Rattle.std.proofs.Common.{◌≢◌, drop, eqb, get_or-set_other, suc, ◌+◌}
 use Rattle.std.proofs.Math.Seq.{drop-append_seam}
 use Rattle.std.proofs.lemmas.Bool.Decides.{nat_tests}
 use Rattle.std.proofs.lemmas.List.Elements.{filter-append}
@@ -64,8 +41,6 @@ use Rattle.std.specs.Prelude.{cond, filter}
 use Rattle.executor_parts.specs.declared.mark.Mark.{Mark}
 use Rattle.executor_parts.specs.Marks.{same_mark}
 use Rattle.executor_model.specs.declared.op.QueueOp.TheVariants as queue_op
-use Rattle.executor_model.specs.declared.op.Source.{Source}
-use Rattle.executor_model.specs.declared.op.Steal.{Steal}
 use Rattle.executor_model.specs.declared.op.StealOp.{StealOp}
 use Rattle.executor_model.specs.declared.op.StealOp.TheVariants as steal_op
 use Rattle.executor_model.specs.ActsOfRuns.{free_places}
@@ -75,16 +50,16 @@ use Rattle.executor_model.specs.Rows.{running_of}
 use Rattle.executor_model.specs.Weights.{same}
 use Rattle.executor_model.specs.World.{put_own, queue_of}
 use Rattle.executor_model.proofs.OwnQueues.OwnExecutions.{is-empty-meanwhile}
-use Rattle.executor_model.proofs.OwnQueues.RunsAside.{Hull, coat, hull_of}
+use Rattle.executor_model.proofs.OwnQueues.RunsAside.{coat, hull_of}
 use Rattle.executor_model.proofs.Steps.Lists.{same_cases}
 use Rattle.executor_laws.specs.KeptFirst.{taken_up}
 use Rattle.executor_laws.specs.RunOrder.{joined}
 use Rattle.executor_laws.proofs.Queueings.Queueing.{turns-act}
-use Rattle.executor_laws.proofs.Reach.LoneMoves.{Inner, inner-act, inner-react, stray_of}
+use Rattle.executor_laws.proofs.Reach.LoneMoves.{Inner, inner-act, stray_of}
 use Rattle.executor_laws.proofs.RunOrder.SpanActs.{Goes, lines-act}
 use Rattle.executor_laws.proofs.RunOrder.SpanActs.Goes.{on as goes_on, over as goes_over}
 use Rattle.executor_laws.proofs.RunOrder.Spans.{Facts, ahead, span}
-use Rattle.executor_laws.proofs.RunReach.Joined.{answers-joined, goes-joined, joins-none, nothing-joins, onto-queues}
+use Rattle.executor_laws.proofs.RunReach.Joined.{answers-joined, goes-joined, nothing-joins}
 use Rattle.executor_laws.proofs.RunReach.KeptLines.{hand_of, no-ups-back, ups_in, ups_in-append}
 use Rattle.executor_laws.proofs.RunReach.KeptWalks.{control-no-up, user-no-up}
 use Rattle.executor_laws.proofs.RunReach.RunSteps.{side-kind, steal_of}
@@ -242,7 +217,8 @@ no-append : (q : ℕ) (c : Op) → Control q c → (f : ℕ) → c ≡ op.Queue 
 no-append q c k f e = subst (Control q) e k
 
 -- the line at the end
-pub record Result (b : ℕ → Bool) (m : Mark) (p q : ℕ) (new : Machine) (line : List ℕ) (ts : List Step) (s : Machine) : Type 0 where
+pub record Result (b : ℕ → Bool) (m : Mark) (p q : ℕ) (new : Machine) (line : List ℕ) (ts : List Step) (s : Machine) :
+    Type 0 where
   pub is : filter b (taken_up p ts s) ++ ahead b m (own_of new.world q) new.world ≡ line ++ joined m ts s
   pub none : NoneBeside q new.world
 
@@ -272,7 +248,8 @@ module _ (b : ℕ → Bool) (m : Mark) (p q : ℕ) (new : Machine) (idles : stac
         let ends : List ℕ = ahead b m (own_of new.world q) new.world in
         record {
           is = ap (λ (zs : List ℕ). filter b zs ++ ends) k
-              ∙ (next-line b ns (taken_up p others (with_part s p v)) now line more ends (joined m others (with_part s p v)) r2.is i
+              ∙ (next-line b ns (taken_up p others (with_part s p v)) now line more ends (joined m others (with_part s p v))
+              r2.is i
               ∙ ap (λ (zs : List ℕ). line ++ zs) (sym j));
           none = r2.none;
         }
@@ -334,7 +311,8 @@ module _ (b : ℕ → Bool) (m : Mark) (p q : ℕ) (new : Machine) (idles : stac
         Ends line (t ∷ ts) s
     by-control c e z a = go (onward p s new [] c (t ∷ ts) e y idles on made)
       where
-        after : (d : Done) → Goes b m q (ahead b m (span q c s.world) s.world) d → InLine b m q line (onto p d []).world (onto p d []).todo
+        after : (d : Done) → Goes b m q (ahead b m (span q c s.world) s.world) d →
+            InLine b m q line (onto p d []).world (onto p d []).todo
         after d (goes_over n i) =
             subst (λ (os : List Op). LineIn b m q line (settled p d.world (reverse os))) (sym n) (over refl (i ∙ a))
         after d (goes_on f) = subst (λ (os : List Op). LineIn b m q line (settled p d.world os)) (sym f.is)

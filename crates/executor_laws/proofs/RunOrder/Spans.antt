@@ -1,30 +1,18 @@
 -- For runs_take_futures_in_order.
--- What a run that is polled does leaves, of one mark, what is in its hand, in its own queue and in the executor's queue of the mark.
-use Rattle.std.proofs.Common.{◌≡◌, ◌≢◌, ◌∙◌, ⊎_elim, ℕ, zero, suc, List, [], ◌∷◌, ◌++◌, length, set, get_or}
-use Rattle.std.proofs.Common.{Bool, true, false, eqb, refl, sym, ap, subst, arith, append-nil, append_assoc, get_or-set_same}
-use Rattle.std.proofs.Common.{get_or-set_other}
+-- What a run that is polled does leaves the line of a mark as it is: what the run has in hand, what stands in its own queue, and
+-- what stands in the executor's queue of the mark.
+use Rattle.std.proofs.Common.{◌≡◌, ◌≢◌, ◌∙◌, ℕ, zero, suc, List, [], ◌∷◌, ◌++◌, length, get_or}
+use Rattle.std.proofs.Common.{Bool, true, false, refl, sym, ap, subst, arith, append-nil, append_assoc, get_or-set_same}
 use Rattle.std.proofs.lemmas.List.{reverse-append}
-use Rattle.std.specs.Prelude.{Option, Some, None, reverse}
+use Rattle.std.specs.Prelude.{reverse}
 use Rattle.executor_model.specs.declared.op.Look.{Look}
 use Rattle.executor_parts.specs.declared.mark.Mark.TheVariants.{Plain, Urgent}
-use Rattle.executor_parts.specs.Marks.{first_of, other}
-use Rattle.executor_model.specs.Acts.{turned}
-use Rattle.executor_model.specs.declared.op.Look.TheVariants.{First, Second}
 use Rattle.executor_model.specs.World.{queue_of}
-use Rattle.executor_model.specs.Acts.{mark_in}
-use Rattle.executor_parts.specs.Sleepers.{waker_at}
 use Rattle.task_moves.specs.declared.moves.owed.Move.TheVariants as move
-use Rattle.executor_model.specs.declared.call.Reply.TheVariants as reply
-use Rattle.executor_model.specs.declared.event.Event.TheVariants as event
-use Rattle.executor_model.specs.declared.op.Hold.TheVariants as hold
-use Rattle.executor_model.specs.declared.op.ListOp.TheVariants as list_op
 use Rattle.executor_model.specs.declared.op.Op.{Op}
 use Rattle.executor_model.specs.declared.op.Op.TheVariants as op
-use Rattle.executor_model.specs.declared.op.Polled.TheVariants as of
-use Rattle.executor_model.specs.declared.op.QueueOp.TheVariants as queue_op
 use Rattle.executor_model.specs.declared.op.RunOp.TheVariants as run_op
 use Rattle.executor_model.specs.declared.op.RunPoll.{RunPoll}
-use Rattle.executor_model.specs.declared.op.Sleeping.{Sleeping}
 use Rattle.executor_model.specs.declared.op.SleeperOp.TheVariants as sleeper_op
 use Rattle.executor_model.specs.declared.op.Source.{Source}
 use Rattle.executor_model.specs.declared.op.Source.TheVariants.{Common, Own}
@@ -34,27 +22,17 @@ use Rattle.executor_model.specs.declared.op.StealOp.TheVariants as steal_op
 use Rattle.executor_model.specs.declared.op.Then.{Then}
 use Rattle.executor_model.specs.declared.op.Then.TheVariants as then
 use Rattle.executor_model.specs.declared.op.TickOp.TheVariants as tick_op
-use Rattle.executor_model.specs.declared.op.TickOrRun.{TickOrRun}
 use Rattle.executor_model.specs.declared.op.TickOrRun.TheVariants as tick_or_run
-use Rattle.executor_model.specs.declared.op.UserOp.TheVariants as user_op
-use Rattle.executor_model.specs.declared.op.Waker.{Waker}
-use Rattle.executor_model.specs.declared.op.Waker.TheVariants.{Task, Outside}
-use Rattle.executor_model.specs.declared.step.Hint.{Hint}
-use Rattle.executor_model.specs.Acts.{copied, followed}
-use Rattle.executor_model.specs.ActsOfRuns.{asleep, call_by_reference, counted_by, counted_to, found, kept_by}
-use Rattle.executor_model.specs.ActsOfRuns.{look_own_by, next_place, queue_at, run_by, search_common_by, search_own_by}
-use Rattle.executor_model.specs.ActsOfRuns.{steal_by, steal_length_by, steal_put_by, steal_take_by, stolen, wake_own, walk, without_first}
-use Rattle.executor_model.specs.ActsOfSleepers.{copy_sleeper_by, fall_asleep_by, found_by, sleep_again_by, sleep_anew_by}
-use Rattle.executor_model.specs.ActsOfSleepers.{sleep_listed_by, sleeper_goes}
-use Rattle.executor_model.specs.Doing.{act, search_by_who, steal_act}
-use Rattle.executor_model.specs.Weights.{same, weigh}
-use Rattle.executor_model.specs.World.{Asleep, Awake, Done, Left, Ticker, World, done, log, own_of, place_of, put_own, run_of}
-use Rattle.executor_model.proofs.Steps.Lists.{same_cases, weigh-append, weigh-reverse}
-use Rattle.executor_model.proofs.Steps.SleepersNext.{goes-unseen}
-use Rattle.executor_laws.proofs.Fewness.FewSides.{ups, ups-act}
-use Rattle.executor_laws.proofs.RunReach.RunLeaves.{within}
-use Rattle.executor_laws.proofs.RunReach.RunSteps.{Aside, Control, NotOwn, aside-act, side_of, steal_of}
-use Rattle.executor_laws.proofs.RunReach.TakenUp.{up_of}
+use Rattle.executor_model.specs.ActsOfRuns.{asleep, counted_by, counted_to, found, kept_by}
+use Rattle.executor_model.specs.ActsOfRuns.{run_by}
+use Rattle.executor_model.specs.ActsOfRuns.{steal_by, steal_length_by, steal_put_by, steal_take_by, stolen}
+use Rattle.executor_model.specs.ActsOfSleepers.{found_by}
+use Rattle.executor_model.specs.Doing.{steal_act}
+use Rattle.executor_model.specs.Weights.{weigh}
+use Rattle.executor_model.specs.World.{Done, World, done, own_of, run_of}
+use Rattle.executor_model.proofs.Steps.Lists.{weigh-append, weigh-reverse}
+use Rattle.executor_laws.proofs.Fewness.FewSides.{ups}
+use Rattle.executor_laws.proofs.RunReach.RunSteps.{Control, NotOwn, side_of, steal_of}
 use Rattle.std.proofs.lemmas.List.Elements.{filter-append}
 use Rattle.std.proofs.Common.{◌<◌, ltb}
 use Rattle.std.specs.Prelude.{cond, drop, filter}
@@ -64,8 +42,8 @@ use Rattle.executor_parts.specs.Marks.{same_mark}
 use Rattle.executor_model.specs.ActsOfRuns.{free_places, source_of}
 use Rattle.executor_model.specs.Queues.{Queues, queue_in}
 use Rattle.executor_model.specs.World.{put_queue}
-use Rattle.executor_model.proofs.Awaiters.RunsQueue.{queue-by_reference}
-use Rattle.executor_laws.proofs.RunReach.KeptLines.{another-queue, found-side, hand_of, hand_then, no-ups-back, ups_in, ups_in-append}
+use Rattle.executor_laws.proofs.RunReach.KeptLines.{found-side, hand_of, hand_then, no-ups-back, ups_in}
+use Rattle.executor_laws.proofs.RunReach.KeptLines.{ups_in-append}
 use Rattle.executor_laws.proofs.Turns.LineSteps.{with_hand}
 
 -- what is taken from a queue stands behind what was before it
@@ -108,7 +86,8 @@ pub record Lines (b : ℕ → Bool) (m : Mark) (q : ℕ) (line : List ℕ) (d : 
   pub light : weigh side_of side ≡ 0
   pub line_is : ahead b m (ups_in side ++ span q control d.world) d.world ≡ line
 
--- what holds where run q does this: no other own queue has anything, and in each of the executor's queues stand futures of its mark
+-- what holds where run q does this: no other own queue has anything, and in each of the executor's queues stand futures of its
+-- mark
 pub record Facts (b : ℕ → Bool) (m : Mark) (q : ℕ) (c : Op) (w : World) : Type 0 where
   pub none : (n : ℕ) → n ≢ q → own_of w n ≡ []
   pub marked : (k : Mark) (f : ℕ) (rest : List ℕ) → (queue_of w k).items ≡ f ∷ rest → b f ≡ same_mark m k
@@ -178,7 +157,8 @@ module _ (b : ℕ → Bool) (m : Mark) where
       (found_by _ (tick_or_run.Run x.run) (op.Sleeper sleeper_op.ExchangeFlag ∷ []))
       (counted_by _ w x f) s.0 s.1 (lines-counted _ w x f)
 
-  pub lines-stolen : (t : Then) (w : World) (x : RunPoll) → Line x.run (ahead b m (hand_then t ++ own_of w x.run) w) (stolen t w x)
+  pub lines-stolen : (t : Then) (w : World) (x : RunPoll) →
+      Line x.run (ahead b m (hand_then t ++ own_of w x.run) w) (stolen t w x)
   lines-stolen (then.Found f) w x = lines-found w x f
   lines-stolen (then.StealPlain f) w x =
       one x.run w (op.Steal (steal_op.Length (record { poll = x; from = Common Plain; then = then.Run f }))) (refl, refl)

@@ -1,6 +1,6 @@
 -- For runs_take_futures_in_order.
 -- What a step of a party that alone takes steps puts behind what stood in one of the executor's queues.
-use Rattle.std.proofs.Common.{◌≡◌, ◌∙◌, ⊎_elim, ℕ, List, [], ◌∷◌, ◌++◌, drop, length, refl, sym, ap, arith, Ok}
+use Rattle.std.proofs.Common.{◌≡◌, ◌∙◌, ⊎_elim, ℕ, List, [], ◌∷◌, ◌++◌, drop, length, refl, ap, arith, Ok}
 use Rattle.std.proofs.lemmas.List.{drop_all}
 use Rattle.std.specs.Prelude.{reverse}
 use Rattle.queue_steps.specs.ClosableQueue.{ClosableQueue, shut, taken}

@@ -224,6 +224,9 @@ module _ (s : Machine) (fine : Good s) (hs : Heard s) (ds : Deep s) (told : Slee
     pub keeper-stands : ¬ WasRefused (TickOrRun.Run r) s.world.trace → StandsSo (TickOrRun.Run r) s.world.trace
     keeper-stands none = standing-there (TickOrRun.Run r) keeps none
 
+    pub keeper-lives : has (drops_sleeper (TickOrRun.Run r)) s.world.trace ≡ false
+    keeper-lives = unleft (TickOrRun.Run r) keeps
+
     pub keeper-called : WasCalled (TickOrRun.Run r) s.world.trace
     keeper-called = ⊎_elim
         (λ (x : 1 ≤ weigh_all (running_of r) s.parties). absurd

@@ -22,7 +22,7 @@ abbrev pub up_of : Op → List ℕ
 up_of (op.Move move.TakeUp f) = f ∷ []
 up_of _ = []
 
-go-takes : (p : ℕ) (h : Hint) (o : Op) → taken_by (Go p h) (Some o) ≡ up_of o
+pub go-takes : (p : ℕ) (h : Hint) (o : Op) → taken_by (Go p h) (Some o) ≡ up_of o
 go-takes p h (op.Move move.TakeUp f) = refl
 go-takes p h _ = refl
 

@@ -2,5 +2,7 @@
 pub mod Spans
 pub mod SpanActs
 pub mod SpanSteps
+pub mod SpanLines
+pub mod SpanBeside
 pub mod SpanWalks
 pub mod Ordering

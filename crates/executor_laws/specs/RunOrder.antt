@@ -29,8 +29,8 @@ abbrev pub TakeNothing : List Step → Machine → Type 0
 TakeNothing [] s = true ≡ true
 TakeNothing (t ∷ ts) s = TakesNothing t s × TakeNothing ts (stepped s (step s t))
 
--- what is done while a run is polled: a step of the poll itself; or steps of other calls, of whichever party, those too that begin
--- inside of the poll
+-- what is done while a run is polled: a step of the poll itself; or steps of other calls, of whichever party, and also of those
+-- that begin inside of the poll
 pub data Within : Type 0 where
   by_itself : Step → Within
   meanwhile : List Step → Within

@@ -1,30 +1,27 @@
 -- For runs_take_futures_in_order.
 -- So it is of what such polls take up with steps between that take nothing, of each mark; and of all where all are plain.
 use Rattle.std.proofs.Common.{◌≡◌, ◌∙◌, ℕ, ◌<◌, ◌≤◌, Bool, true, false, List, [], ◌∷◌, ◌++◌, length, drop}
-use Rattle.std.proofs.Common.{get_or, refl, sym, ap, subst, arith, append-nil, append_assoc, length-append, Ok}
+use Rattle.std.proofs.Common.{refl, sym, ap, subst, arith, append-nil, append_assoc, length-append}
 use Rattle.std.proofs.Math.Seq.{drop-append_seam}
 use Rattle.std.proofs.lemmas.List.Elements.{filter-append}
 use Rattle.std.specs.Prelude.{All, Some, cond, filter, slice_get}
 use Rattle.executor_parts.specs.declared.mark.Mark.{Mark}
 use Rattle.executor_parts.specs.declared.mark.Mark.TheVariants.{Plain}
 use Rattle.executor_parts.specs.Marks.{same_mark}
-use Rattle.executor_model.specs.declared.call.By.{By}
 use Rattle.executor_model.specs.declared.call.Call.TheVariants as call
 use Rattle.executor_model.specs.declared.kind.Kind.{Kind}
 use Rattle.executor_model.specs.declared.step.Step.{Step}
 use Rattle.executor_model.specs.declared.step.Step.TheVariants.{Begin}
 use Rattle.executor_model.specs.Emptiness.{IsAtRest}
-use Rattle.executor_model.specs.Executions.{run_all}
-use Rattle.executor_model.specs.Queues.{Queues, queue_in}
 use Rattle.executor_model.specs.Sound.{times}
-use Rattle.executor_model.specs.Steps.{Machine, after, run, start, step, stepped}
+use Rattle.executor_model.specs.Steps.{Machine, run, start, step, stepped}
 use Rattle.executor_model.specs.declared.event.Event.TheVariants as event
 use Rattle.executor_model.specs.declared.op.TickOrRun.TheVariants as tick_or_run
 use Rattle.executor_model.specs.Standing.{WasCalled, polls_sleeper}
 use Rattle.executor_model.specs.Trace.{has}
 use Rattle.executor_model.specs.World.{World, mark_of, own_of, queue_of}
 use Rattle.executor_model.proofs.Steps.Marking.{Entries}
-use Rattle.executor_model.proofs.Steps.Reached.{Reached, deep-here, good-here, run-first, run-of}
+use Rattle.executor_model.proofs.Steps.Reached.{Reached, deep-here, good-here}
 use Rattle.executor_laws.specs.RunOrder.{GoesOnSo, IsBegun, IsPolledSo, KeepsAlone, Piece, Polling, TakesAlone, TakesInOrder}
 use Rattle.executor_laws.specs.RunOrder.{TakesNothing, Within, begun_by, behind_all, joined_in_all, joined_within, joins, line}
 use Rattle.executor_laws.specs.RunOrder.{of_mark, taken_in_all, taken_within}
@@ -45,15 +42,13 @@ use Rattle.executor_laws.proofs.Wakeups.Queued.{times-length}
 use Rattle.executor_laws.proofs.Wakeups.StandsMachine.{standing}
 use Rattle.executor_laws.proofs.Wakeups.StandsRest.{keeper-called, keeper-lives}
 use Rattle.executor_laws.proofs.Placement.OwnReady.{reached-on}
-use Rattle.executor_laws.proofs.Promptness.Turns.{next-is}
-use Rattle.executor_laws.proofs.Reach.Marked.{Grown, grown-after, grown-step, mark-stays, there-marked}
+use Rattle.executor_laws.proofs.Reach.Marked.{Grown, grown-step, mark-stays, there-marked}
 use Rattle.executor_laws.proofs.Reach.Marked.Grown.{kept, one}
 use Rattle.executor_laws.proofs.Reach.Reaching as reaching
-use Rattle.executor_laws.proofs.RunOrder.SpanWalks.{NoneBeside, Result, from-beginning}
-use Rattle.executor_laws.proofs.RunOrder.Spans.{ahead, ahead-same}
-use Rattle.executor_laws.proofs.RunReach.Joined.{joins-none}
+use Rattle.executor_laws.proofs.RunOrder.SpanBeside.{NoneBeside}
+use Rattle.executor_laws.proofs.RunOrder.SpanWalks.{Result, from-beginning}
+use Rattle.executor_laws.proofs.RunOrder.Spans.{ahead}
 use Rattle.executor_laws.proofs.RunReach.KeptWalks.{kept-there}
-use Rattle.executor_laws.proofs.RunReach.RunReaching.{arrived, first-is, first-machine, first-queues, new-idle, reached-new}
 
 -- a future that is there keeps its mark
 
@@ -123,8 +118,8 @@ first-marked m v new y z k f rest e =
 
 -- one poll
 
-module _ (m : Mark) (last : Machine) (s : Machine) (y : Reached s) (r : ℕ) (t : Polling) (new : Machine) (k : IsPolledSo r t s new)
-    (later : Stays new.world last.world) (none : NoneBeside r s.world) where
+module _ (m : Mark) (last : Machine) (s : Machine) (y : Reached s) (r : ℕ) (t : Polling) (new : Machine)
+    (k : IsPolledSo r t s new) (later : Stays new.world last.world) (none : NoneBeside r s.world) where
   abbrev test : ℕ → Bool
   test f = same_mark m (mark_of last.world f)
 

@@ -1,28 +1,65 @@
 -- For runs_take_futures_in_order.
 -- One step of a party on what is on top of its stack, and steps that take no future from any queue.
-use Rattle.std.proofs.Common.{◌≡◌, ◌∙◌, ℕ, ◌<◌, List, [], ◌∷◌, ◌++◌, drop, false, length, true, refl, sym, ap, append-nil, append_assoc}
+use Rattle.std.proofs.Common.{◌≡◌, ◌∙◌, ⊎_elim, ℕ, ◌<◌, List, [], ◌∷◌, ◌++◌, drop, false, length, true, refl, sym, ap, arith}
+use Rattle.std.proofs.Common.{append-nil, append_assoc}
 use Rattle.std.proofs.Math.Seq.{drop-append_seam}
-use Rattle.std.specs.Prelude.{None, Option, Some}
+use Rattle.std.proofs.lemmas.List.{drop_all}
+use Rattle.std.specs.Prelude.{None, Option, Some, reverse}
+use Rattle.queue_steps.specs.ClosableQueue.{ClosableQueue, shut, taken}
 use Rattle.executor_parts.specs.declared.mark.Mark.{Mark}
 use Rattle.executor_model.specs.declared.op.Op.{Op}
+use Rattle.executor_model.specs.declared.op.Op.TheVariants as op
+use Rattle.executor_model.specs.declared.op.QueueOp.TheVariants as queue_op
 use Rattle.executor_model.specs.declared.step.Hint.{Hint}
 use Rattle.executor_model.specs.declared.step.Step.{Step}
 use Rattle.executor_model.specs.declared.step.Step.TheVariants.{Answer, Begin, Go}
 use Rattle.executor_model.specs.declared.step.UserEnd.{UserEnd}
 use Rattle.executor_model.specs.Doing.{act}
 use Rattle.executor_model.specs.Queues.{Queues, queue_in}
-use Rattle.executor_model.specs.Steps.{Machine, accepts, after, answer_refusal, go_refusal, gone_on, onto, part_after, react, refusal}
+use Rattle.executor_model.specs.Steps.{Machine, accepts, answer_refusal, go_refusal, gone_on, onto, part_after, react, refusal}
 use Rattle.executor_model.specs.Steps.{run, stack, step, stepped, top, waits, with_part}
-use Rattle.executor_model.specs.World.{Done, own_of, queue_of}
+use Rattle.executor_model.specs.World.{Done, World, own_of, queue_of}
 use Rattle.executor_laws.specs.KeptFirst.{taken_by}
 use Rattle.executor_laws.specs.LoneEnds.{is_onward_of}
 use Rattle.executor_laws.specs.RunOrder.{TakeNothing, joined, joins}
 use Rattle.executor_laws.proofs.Promptness.Turns.{below-is, next-is}
+use Rattle.executor_laws.proofs.Queueings.Queueing.{Turns, put-at, settles}
+use Rattle.executor_laws.proofs.Queueings.Queueing.Turns.{less, more, same, shuts}
 use Rattle.executor_laws.proofs.Reach.LoneSteps.{answers, goes}
 use Rattle.executor_laws.proofs.Reach.LoneTicks.{OfParty, after-is, of-party}
-use Rattle.executor_laws.proofs.RunReach.Joined.{onto-queues}
 use Rattle.executor_laws.proofs.RunReach.TakenUp.{go-takes, up_of}
 use Rattle.executor_model.proofs.Table.Spawning.{top-last}
+
+-- what a step puts behind what stood in one of the executor's queues
+
+pub onto-queues : (p : ℕ) (d : Done) (below : List Op) → (onto p d below).world.queues ≡ d.world.queues
+onto-queues p d below = settles p d.world (below ++ reverse d.next) _
+
+-- nothing joins a queue that is as it was, or that the first is taken from
+
+pub joins-none : (xs ys : List ℕ) → ys ≡ xs → drop (length xs) ys ≡ []
+joins-none xs ys e = ap (drop (length xs)) e ∙ drop_all (length xs) xs (omega arith)
+
+first-gone : (xs : List ℕ) → drop (length xs) (drop 1 xs) ≡ []
+first-gone [] = refl
+first-gone (x ∷ xs) = drop_all (length (x ∷ xs)) xs (omega arith)
+
+pub nothing-joins : (m : Mark) (w : World) (o : Op) (new : Queues) → Turns w o new →
+    ((f : ℕ) → o ≡ op.Queue (queue_op.Append f) → ⊥) → drop (length (queue_of w m).items) (queue_in m new).items ≡ []
+nothing-joins m w o new (same e) k = joins-none _ _ (ap (λ (qs : Queues). (queue_in m qs).items) e)
+nothing-joins m w o new (more f x c e) k = absurd (k f x)
+nothing-joins m w o new (less n f rest i e) k = ⊎_elim
+    (λ x. ap (λ (qs : Queues). drop (length (queue_of w m).items) (queue_in m qs).items) e
+    ∙ (ap (λ (q : ClosableQueue ℕ). drop (length (queue_of w m).items) q.items) x.1
+    ∙ (ap (λ (i : Mark). drop (length (queue_of w m).items) (taken (queue_of w i)).items) x.0
+    ∙ first-gone (queue_of w m).items)))
+    (λ x. joins-none _ _ (ap (λ (qs : Queues). (queue_in m qs).items) e ∙ ap (λ (q : ClosableQueue ℕ). q.items) x))
+    (put-at m n (taken (queue_of w n)) w.queues)
+nothing-joins m w o new (shuts n e) k = ⊎_elim
+    (λ x. joins-none _ _ (ap (λ (qs : Queues). (queue_in m qs).items) e
+    ∙ (ap (λ (q : ClosableQueue ℕ). q.items) x.1 ∙ ap (λ (i : Mark). (shut (queue_of w i)).items) x.0)))
+    (λ x. joins-none _ _ (ap (λ (qs : Queues). (queue_in m qs).items) e ∙ ap (λ (q : ClosableQueue ℕ). q.items) x))
+    (put-at m n (shut (queue_of w n)) w.queues)
 
 -- the next step of party p: it does what is on top, or user code answers there
 pub data OneStep (p : ℕ) (s : Machine) (below : List Op) (o : Op) (t : Step) : Type 0 where
@@ -78,9 +115,9 @@ left-there m [] s k = record { own = λ q. refl; queue = sym (append-nil (queue_
 left-there m (t ∷ ts) s k =
     let next : Machine = stepped s (step s t) in
     let xs : List ℕ = (queue_of s.world m).items in
-    let more : List ℕ = (k.0.queues m).0 in
-    let is : (queue_of next.world m).items ≡ xs ++ more = (k.0.queues m).1 in
-    let joins-are : joins m t s ≡ more = ap (drop (length xs)) is ∙ drop-append_seam xs more in
+    let added : List ℕ = (k.0.queues m).0 in
+    let is : (queue_of next.world m).items ≡ xs ++ added = (k.0.queues m).1 in
+    let joins-are : joins m t s ≡ added = ap (drop (length xs)) is ∙ drop-append_seam xs added in
     let later : Left m ts next = left-there m ts next k.1 in
     record {
       own = λ q. later.own q ∙ k.0.own q;

@@ -1,69 +1,55 @@
 -- For runs_take_futures_in_order.
 -- What a poll of a run that is made alone takes up of a mark, and behind it what waits, is what waited and what joined.
 use Rattle.std.proofs.Common.{◌≡◌, ◌⊎◌, ◌∙◌, inl, inr, ⊎_elim, ℕ, ◌<◌, ◌≤◌, List, [], ◌∷◌, ◌++◌, length, get_or}
-use Rattle.std.proofs.Common.{Bool, true, false, refl, sym, ap, subst, arith, append-nil, append_assoc, Ok}
+use Rattle.std.proofs.Common.{Bool, true, refl, sym, ap, subst, arith, append-nil, append_assoc}
 use Rattle.std.specs.Prelude.{Option, Some, None, reverse}
-use Rattle.executor_model.specs.declared.call.Reply.{Reply}
-use Rattle.executor_model.specs.declared.op.ListOp.{ListOp}
 use Rattle.executor_model.specs.declared.op.ListOp.TheVariants as list_op
 use Rattle.executor_model.specs.declared.op.Op.{Op}
 use Rattle.executor_model.specs.declared.op.Op.TheVariants as op
 use Rattle.executor_model.specs.declared.step.Hint.{Hint}
 use Rattle.executor_model.specs.declared.step.Step.{Step}
 use Rattle.executor_model.specs.declared.step.UserEnd.{UserEnd}
-use Rattle.executor_model.specs.Doing.{act, list_act}
+use Rattle.executor_model.specs.Doing.{act}
 use Rattle.executor_model.specs.OwnQueues.{IsEmptyMeanwhile, empty_of}
-use Rattle.executor_model.specs.Steps.{Machine, Part, accepts, end_of, onto, part, react}
-use Rattle.executor_model.specs.Steps.{settled, settled_by, stack, with_part}
+use Rattle.executor_model.specs.Steps.{Machine, Part, onto, part, react}
+use Rattle.executor_model.specs.Steps.{settled, stack, with_part}
 use Rattle.executor_model.specs.Weights.{weigh}
 use Rattle.executor_model.specs.World.{Done, World, own_of}
-use Rattle.executor_model.proofs.OwnQueues.RunsAside.{Coat}
-use Rattle.executor_model.proofs.OwnQueues.RunsDone.{Deed, deed-act}
 use Rattle.executor_model.proofs.Steps.Lift.{split}
 use Rattle.executor_model.proofs.Steps.Lists.{weigh-append, weigh-reverse}
 use Rattle.executor_model.proofs.Steps.Reached.{Reached}
-use Rattle.executor_model.proofs.Table.Spawning.{top-last}
 use Rattle.executor_laws.proofs.Fewness.FewSides.{ups-act, ups-react}
 use Rattle.executor_laws.proofs.Reach.LoneSteps.{Last, from-end}
 use Rattle.executor_laws.proofs.Reach.LoneTicks.{idle-none, of-party, stack-set}
-use Rattle.executor_laws.proofs.RunReach.RunKeeps.{light-last, side-no-end}
-use Rattle.executor_laws.proofs.RunReach.RunSteps.{Aside, Control, aside-act, aside-react, no-user, side_of}
+use Rattle.executor_laws.proofs.RunReach.RunKeeps.{light-last}
+use Rattle.executor_laws.proofs.RunReach.RunSteps.{Control, no-user, side_of}
 use Rattle.executor_laws.proofs.Walks.Finding.{itself}
-use Rattle.std.proofs.Common.{◌≢◌, drop, eqb, get_or-set_other, suc, ◌+◌}
+use Rattle.std.proofs.Common.{drop, eqb, suc, ◌+◌}
 use Rattle.std.proofs.Math.Seq.{drop-append_seam}
 use Rattle.std.proofs.lemmas.Bool.Decides.{nat_tests}
-use Rattle.std.proofs.lemmas.List.Elements.{filter-append}
 use Rattle.std.specs.Prelude.{cond, filter}
 use Rattle.executor_parts.specs.declared.mark.Mark.{Mark}
 use Rattle.executor_parts.specs.Marks.{same_mark}
-use Rattle.executor_model.specs.declared.op.QueueOp.TheVariants as queue_op
 use Rattle.executor_model.specs.declared.op.StealOp.{StealOp}
 use Rattle.executor_model.specs.declared.op.StealOp.TheVariants as steal_op
 use Rattle.executor_model.specs.ActsOfRuns.{free_places}
 use Rattle.executor_model.specs.OwnQueues.{filling_of}
 use Rattle.executor_model.specs.Queues.{Queues, queue_in}
 use Rattle.executor_model.specs.Rows.{running_of}
-use Rattle.executor_model.specs.Weights.{same}
-use Rattle.executor_model.specs.World.{put_own, queue_of}
+use Rattle.executor_model.specs.World.{queue_of}
 use Rattle.executor_model.proofs.OwnQueues.OwnExecutions.{is-empty-meanwhile}
-use Rattle.executor_model.proofs.OwnQueues.RunsAside.{coat, hull_of}
-use Rattle.executor_model.proofs.Steps.Lists.{same_cases}
 use Rattle.executor_laws.specs.RunOrder.{joined}
 use Rattle.executor_laws.proofs.Queueings.Queueing.{turns-act}
-use Rattle.executor_laws.proofs.Reach.LoneMoves.{Inner, inner-act, stray_of}
 use Rattle.executor_laws.proofs.RunOrder.SpanActs.{Goes, lines-act}
 use Rattle.executor_laws.proofs.RunOrder.SpanActs.Goes.{on as goes_on, over as goes_over}
 use Rattle.executor_laws.proofs.RunOrder.Spans.{Facts, ahead, span}
-use Rattle.executor_laws.proofs.RunReach.Joined.{nothing-joins}
 use Rattle.executor_laws.proofs.RunReach.KeptLines.{hand_of, no-ups-back, ups_in, ups_in-append}
 use Rattle.executor_laws.proofs.RunReach.KeptWalks.{control-no-up, user-no-up}
-use Rattle.executor_laws.proofs.RunReach.RunSteps.{side-kind, steal_of}
+use Rattle.executor_laws.proofs.RunReach.RunSteps.{steal_of}
 use Rattle.executor_laws.proofs.RunReach.TakenUp.{up_of}
 use Rattle.executor_laws.proofs.Turns.LineSteps.{with_hand}
 use Rattle.executor_laws.proofs.Walks.Enrolled.{Enrolled}
 use Rattle.executor_laws.proofs.Walks.Finding.{enrolled-here, room-here}
-use Rattle.executor_laws.proofs.Queueings.Queueing.{reacts}
-use Rattle.executor_model.specs.Steps.{waits}
 use Rattle.executor_model.specs.declared.call.By.{By}
 use Rattle.executor_model.specs.declared.call.Call.TheVariants as call
 use Rattle.executor_model.specs.declared.event.Answer.TheVariants as answer
@@ -83,160 +69,17 @@ use Rattle.executor_laws.specs.RunOrder.Within.{by_itself, meanwhile}
 use Rattle.executor_laws.proofs.Placement.OwnReady.{reached-on}
 use Rattle.executor_laws.proofs.Promptness.Turns.{next-is}
 use Rattle.executor_laws.proofs.Reach.LoneTicks.{in-range}
-use Rattle.executor_laws.proofs.RunOrder.SpanSteps.{Left, OneStep, left-there, one-step, step-joins}
+use Rattle.executor_laws.proofs.RunOrder.SpanLines.{InLine, LineIn, later-line, longer, next-line, no-append, settles, side-line}
+use Rattle.executor_laws.proofs.RunOrder.SpanLines.InLine.{going, over}
+use Rattle.executor_laws.proofs.RunOrder.SpanBeside.{Beside, NoneBeside, beside-act, onto-own, own-same, side-act, side-react}
+use Rattle.executor_laws.proofs.RunOrder.SpanSteps.{Left, OneStep, joins-none, left-there, nothing-joins, one-step, onto-queues}
+use Rattle.executor_laws.proofs.RunOrder.SpanSteps.{step-joins}
 use Rattle.executor_laws.proofs.RunOrder.SpanSteps.OneStep.{acted, answered}
 use Rattle.executor_laws.proofs.RunOrder.Spans.{ahead-same}
 use Rattle.executor_laws.proofs.RunReach.RunArrives.{registered-own, registered-queue}
-use Rattle.executor_laws.proofs.RunReach.Joined.{joins-none, onto-queues}
 use Rattle.executor_model.specs.declared.op.RunPoll.{RunPoll}
-use Rattle.executor_model.specs.declared.step.Step.TheVariants.{Answer, Begin, Go}
+use Rattle.executor_model.specs.declared.step.Step.TheVariants.{Begin, Go}
 use Rattle.std.proofs.Common.{ltb}
-
--- no own queue but that of run q has anything
-
-abbrev pub NoneBeside : ℕ → World → Type 0
-NoneBeside q w = (n : ℕ) → n ≢ q → own_of w n ≡ []
-
-own-same : (q : ℕ) (w v : World) → v.own ≡ w.own → NoneBeside q w → NoneBeside q v
-own-same q w v e k = λ n i. ap (λ (qs : List (List ℕ)). get_or qs n []) e ∙ k n i
-
-coat-own : (w v : World) → coat w ≡ coat v → v.own ≡ w.own
-coat-own w v e = sym (ap (λ (c : Coat). (hull_of c).own) e)
-
-put-beside : (q : ℕ) (w : World) (xs : List ℕ) → NoneBeside q w → NoneBeside q (put_own w q xs)
-put-beside q w xs k = λ n i. get_or-set_other w.own q n xs [] i ∙ k n i
-
-takes-beside : (q r f : ℕ) (rest : List ℕ) (w : World) → own_of w r ≡ f ∷ rest → NoneBeside q w → NoneBeside q (put_own w r rest)
-takes-beside q r f rest w e k = ⊎_elim
-    (λ (x : (same r q ≡ 1) × (eqb r q ≡ true) × (r ≡ q)).
-    subst (λ (i : ℕ). NoneBeside q (put_own w i rest)) (sym x.2) (put-beside q w rest k))
-    (λ (x : (same r q ≡ 0) × (eqb r q ≡ false) × (r ≢ q)).
-    let no : f ∷ rest ≡ [] = sym e ∙ k r x.2 in absurd (cc))
-    (same_cases r q)
-
-list-beside : (q : ℕ) (h : Hint) (o : ListOp) (w : World) → Control q (op.List o) → NoneBeside q w →
-    NoneBeside q (list_act h o w).world
-list-beside q h (list_op.LockRead x) w e k = k
-list-beside q h _ w e k = absurd e
-
-deed-beside : (q : ℕ) (w : World) (o : Op) (d : Done) → Control q o → NoneBeside q w → Deed w o d → NoneBeside q d.world
-deed-beside q w o d z k (Deed.keeps e l) = own-same q w d.world (coat-own w d.world e) k
-deed-beside q w o d z k (Deed.takes r f rest i e l) =
-    own-same q (put_own w r rest) d.world (coat-own (put_own w r rest) d.world e) (takes-beside q r f rest w i k)
-deed-beside q w o d z k (Deed.lacks r i e l) = own-same q w d.world (coat-own w d.world e) k
-deed-beside q w o d z k (Deed.shares s n i l e more) = own-same q w d.world (coat-own w d.world e) k
-deed-beside q w o d z k (Deed.grows s i f e more) =
-    let v : World = put_own w s.poll.run (own_of w s.poll.run ++ f ∷ []) in
-    own-same q v d.world (coat-own v d.world e)
-    (subst (λ (r : ℕ). NoneBeside q (put_own w r (own_of w s.poll.run ++ f ∷ []))) (sym z.0)
-    (put-beside q w (own_of w s.poll.run ++ f ∷ []) k))
-deed-beside q w o d z k (Deed.wakes p x e l) = own-same q w d.world (coat-own w d.world e) k
-deed-beside q w o d z k (Deed.lists h l) = list-beside q h l w z k
-
-beside-act : (q p : ℕ) (h : Hint) (c : Op) (w : World) → Control q c → NoneBeside q w → NoneBeside q (act p h c w).world
-beside-act q p h c w z k = deed-beside q w c (act p h c w) z k (deed-act p h c w)
-
-onto-own : (p : ℕ) (d : Done) (below : List Op) → (onto p d below).world.own ≡ d.world.own
-onto-own p d below = by (end_of (top (below ++ reverse d.next)))
-  where
-    by : (o : Option Reply) → (settled_by o p d.world (below ++ reverse d.next)).world.own ≡ d.world.own
-    by None = refl
-    by (Some a) = refl
-
--- what is done beside puts these behind the queue of a mark
-
-pub record Beside (m : Mark) (w : World) (d : Done) : Type 0 where
-  pub light : weigh side_of d.next ≡ 0
-  pub own : d.world.own ≡ w.own
-  pub added : List ℕ
-  pub queue : (queue_of d.world m).items ≡ (queue_of w m).items ++ added
-
-side-act : (m : Mark) (p : ℕ) (h : Hint) (o : Op) (w : World) → waits o ≡ false → side_of o ≡ 0 → Beside m w (act p h o w)
-side-act m p h o w n z = by (side-kind o z)
-  where
-    a : Aside w (act p h o w)
-    a = aside-act p h o w n z
-
-    by : (o ≡ op.List list_op.UnlockRead) ⊎ (stray_of o ≡ 0) → Beside m w (act p h o w)
-    by (inl e) = record {
-      light = a.light;
-      own = a.own;
-      added = [];
-      queue = ap (λ (x : Op). (queue_of (act p h x w).world m).items) e ∙ sym (append-nil (queue_of w m).items);
-    }
-    by (inr x) =
-        let i : Inner w (act p h o w) = inner-act p h o w n x in
-        record { light = a.light; own = a.own; added = i.added m; queue = i.queue m }
-
-side-react : (m : Mark) (p : ℕ) (o : Op) (u : UserEnd) (w : World) → accepts o u ≡ true → side_of o ≡ 0 →
-    Beside m w (react p o u w)
-side-react m p o u w n z =
-    let a : Aside w (react p o u w) = aside-react p o u w n z in
-    record {
-      light = a.light;
-      own = a.own;
-      added = [];
-      queue = ap (λ (qs : Queues). (queue_in m qs).items) (reacts p o u w) ∙ sym (append-nil (queue_of w m).items);
-    }
-
--- what is left of the poll: what is about to be taken up, what it has in hand, its own queue and the executor's are this line
-pub data InLine (b : ℕ → Bool) (m : Mark) (q : ℕ) (line : List ℕ) (w : World) (os : List Op) : Type 0 where
-  going : (c : Op) (side : List Op) → os ≡ c ∷ side → Control q c → weigh side_of side ≡ 0 →
-      ahead b m (ups_in side ++ span q c w) w ≡ line → InLine b m q line w os
-  over : os ≡ [] → ahead b m (own_of w q) w ≡ line → InLine b m q line w os
-
-ended-span : (q : ℕ) (c : Op) (a : Reply) (w : World) → end_of (Some c) ≡ Some a → own_of w q ≡ span q c w
-ended-span q (op.End r held) a w e = refl
-ended-span q _ a w e = absurd (cc)
-
-module _ (b : ℕ → Bool) (m : Mark) where
-  abbrev LineIn : ℕ → List ℕ → Part → Type 0
-  LineIn q line x = InLine b m q line x.world x.todo
-
-  settles : (q : ℕ) (line : List ℕ) (p : ℕ) (w : World) (c : Op) (side : List Op) → Control q c → weigh side_of side ≡ 0 →
-      ahead b m (ups_in side ++ span q c w) w ≡ line → LineIn q line (settled p w (c ∷ side))
-  settles q line p w c side k z t = go (from-end side)
-    where
-      by-end : (o : Option Reply) → end_of (Some c) ≡ o → side ≡ [] → LineIn q line (settled_by o p w (c ∷ []))
-      by-end None i e = going c [] refl k refl
-          (subst (λ (os : List Op). ahead b m (ups_in os ++ span q c w) w ≡ line) e t)
-      by-end (Some a) i e = over refl
-          (ap (λ (ns : List ℕ). ahead b m ns w) (ended-span q c a w i)
-          ∙ subst (λ (os : List Op). ahead b m (ups_in os ++ span q c w) w ≡ line) e t)
-
-      go : (side ≡ []) ⊎ Last side → LineIn q line (settled p w (c ∷ side))
-      go (inl e) = subst (λ (os : List Op). LineIn q line (settled p w (c ∷ os))) (sym e) (by-end (end_of (Some c)) refl e)
-      go (inr l) =
-          let k2 : _ = light-last side l.below l.last l.is z in
-          let x : settled p w (c ∷ (l.below ++ l.last ∷ [])) ≡ part w (c ∷ (l.below ++ l.last ∷ [])) =
-          ap (λ (v : Option Reply). settled_by v p w (c ∷ (l.below ++ l.last ∷ [])))
-          (ap end_of (top-last (c ∷ l.below) l.last) ∙ side-no-end l.last k2.1) in
-          subst (λ (os : List Op). LineIn q line (settled p w (c ∷ os))) (sym l.is)
-          (subst (LineIn q line) (sym x)
-          (going c (l.below ++ l.last ∷ []) refl k (subst (λ (os : List Op). weigh side_of os ≡ 0) l.is z)
-          (subst (λ (os : List Op). ahead b m (ups_in os ++ span q c w) w ≡ line) l.is t)))
-
--- a step that takes these up, and puts those behind
-next-line : (b : ℕ → Bool) (ns taken now line more ends later : List ℕ) → filter b taken ++ ends ≡ now ++ later →
-    filter b ns ++ now ≡ line ++ more → filter b (ns ++ taken) ++ ends ≡ line ++ (more ++ later)
-next-line b ns taken now line more ends later e i =
-    ap (λ (xs : List ℕ). xs ++ ends) (filter-append b ns taken)
-    ∙ (append_assoc (filter b ns) (filter b taken) ends
-    ∙ (ap (λ (xs : List ℕ). filter b ns ++ xs) e
-    ∙ (sym (append_assoc (filter b ns) now later)
-    ∙ (ap (λ (xs : List ℕ). xs ++ later) i ∙ append_assoc line more later))))
-
--- it takes first what is about to be taken up last
-side-line : (b : ℕ → Bool) (up rest old added now line : List ℕ) → now ≡ old ++ added → filter b (up ++ rest) ++ old ≡ line →
-    filter b up ++ (filter b rest ++ now) ≡ line ++ added
-side-line b up rest old added now line e i =
-    ap (λ (xs : List ℕ). filter b up ++ (filter b rest ++ xs)) e
-    ∙ (sym (append_assoc (filter b up) (filter b rest) (old ++ added))
-    ∙ (ap (λ (xs : List ℕ). xs ++ (old ++ added)) (sym (filter-append b up rest))
-    ∙ (sym (append_assoc (filter b (up ++ rest)) old added) ∙ ap (λ (xs : List ℕ). xs ++ added) i)))
-
-no-append : (q : ℕ) (c : Op) → Control q c → (f : ℕ) → c ≡ op.Queue (queue_op.Append f) → ⊥
-no-append q c k f e = subst (Control q) e k
 
 -- the line at the end
 pub record Result (b : ℕ → Bool) (m : Mark) (p q : ℕ) (new : Machine) (line : List ℕ) (ws : List Within) (s : Machine) :
@@ -250,30 +93,6 @@ data Early (q : ℕ) (os : List Op) : Type 0 where
   writes : (x : RunPoll) → x.run ≡ q → os ≡ op.List (list_op.Write (section.Register x)) ∷ [] → Early q os
   unlocks : (x : RunPoll) → x.run ≡ q → os ≡ op.User (user_op.PollOwn x) ∷ op.List list_op.UnlockWrite ∷ [] → Early q os
   asks : (x : RunPoll) → x.run ≡ q → os ≡ op.User (user_op.PollOwn x) ∷ [] → Early q os
-
-not-early : (q : ℕ) (os : List Op) → Early q os → os ≡ [] → ⊥
-not-early q os (locks x e i) z = (let no : op.List (list_op.LockWrite (section.Register x)) ∷ [] ≡ [] = sym i ∙ z in absurd (cc))
-not-early q os (writes x e i) z = (let no : op.List (list_op.Write (section.Register x)) ∷ [] ≡ [] = sym i ∙ z in absurd (cc))
-not-early q os (unlocks x e i) z =
-    (let no : op.User (user_op.PollOwn x) ∷ op.List list_op.UnlockWrite ∷ [] ≡ [] = sym i ∙ z in absurd (cc))
-not-early q os (asks x e i) z = (let no : op.User (user_op.PollOwn x) ∷ [] ≡ [] = sym i ∙ z in absurd (cc))
-
--- steps of others make the line longer
-
-longer : (b : ℕ → Bool) (m : Mark) (ts : List Step) (s : Machine) (xs line : List ℕ) → Left m ts s →
-    ahead b m xs s.world ≡ line → ahead b m xs (run ts s).world ≡ line ++ joined m ts s
-longer b m ts s xs line k e =
-    ap (λ (ns : List ℕ). filter b xs ++ ns) k.queue
-    ∙ (sym (append_assoc (filter b xs) (queue_of s.world m).items (joined m ts s))
-    ∙ ap (λ (ns : List ℕ). ns ++ joined m ts s) e)
-
-later-line : (b : ℕ → Bool) (m : Mark) (q : ℕ) (line : List ℕ) (ts : List Step) (s : Machine) (os : List Op) → Left m ts s →
-    InLine b m q line s.world os → InLine b m q (line ++ joined m ts s) (run ts s).world os
-later-line b m q line ts s os k (going c side e z x i) = going c side e z x
-    (ap (λ (ns : List ℕ). ahead b m (ups_in side ++ (hand_of c ++ with_hand c ns)) (run ts s).world) (k.own q)
-    ∙ longer b m ts s (ups_in side ++ span q c s.world) line k i)
-later-line b m q line ts s os k (over e i) = over e
-    (ap (λ (ns : List ℕ). ahead b m ns (run ts s).world) (k.own q) ∙ longer b m ts s (own_of s.world q) line k i)
 
 module _ (b : ℕ → Bool) (m : Mark) (p q : ℕ) (new : Machine) (idles : stack new p ≡ [])
     (marked : (v : Machine) → Reached v → (ws : List Within) → GoesOnSo p ws v new → (k : Mark) (f : ℕ) (rest : List ℕ) →
@@ -486,7 +305,8 @@ module _ (b : ℕ → Bool) (m : Mark) (p q : ℕ) (new : Machine) (idles : stac
       (sym (append-nil line))
 
   module _ (t : Step) (ws : List Within) (s : Machine) (line : List ℕ) (none : NoneBeside q s.world)
-      (lined : ahead b m (own_of s.world q) s.world ≡ line) (pending : first_of_poll (by_itself t ∷ ws) ≡ Some (end.Polled answer.Pending))
+      (lined : ahead b m (own_of s.world q) s.world ≡ line)
+      (pending : first_of_poll (by_itself t ∷ ws) ≡ Some (end.Polled answer.Pending))
       (on : is_onward_of p t ≡ true) (possible : refusal s t ≡ None)
       (early-on : NoneBeside q (stepped s (step s t)).world →
       ahead b m (own_of (stepped s (step s t)).world q) (stepped s (step s t)).world ≡ line →
@@ -601,7 +421,8 @@ module _ (b : ℕ → Bool) (m : Mark) (p q : ℕ) (new : Machine) (idles : stac
           ∙ ap (λ (z : Stage). with_part s p (onto p (done first (poll_run z x)) [])) i)
 
       from : (st : Stage) (os : List Op) → (run_of s.world q).stage ≡ st →
-          onto p (done first (poll_run st x)) [] ≡ part first os → Early q os → Ends (ahead b m (own_of s.world q) s.world) ws next
+          onto p (done first (poll_run st x)) [] ≡ part first os → Early q os →
+          Ends (ahead b m (own_of s.world q) s.world) ws next
       from st os i j r =
           let k : next ≡ with_part s p (part first os) = is st i ∙ ap (with_part s p) j in
           early ws next (ahead b m (own_of s.world q) s.world) (reached-on s (Begin p (call.PollRun q by) ∷ []) y)
@@ -613,4 +434,5 @@ module _ (b : ℕ → Bool) (m : Mark) (p q : ℕ) (new : Machine) (idles : stac
       go New i = from New (op.List (list_op.LockWrite (section.Register x)) ∷ []) i refl (locks x refl refl)
       go Listed i = from Listed (op.User (user_op.PollOwn x) ∷ []) i refl (asks x refl refl)
       go Ended i = absurd (ended-none ws next
-          (ap (λ (v : Machine). stack v p) (is Ended i) ∙ stack-set p s (onto p (done first (poll_run Ended x)) []) l) made pending)
+          (ap (λ (v : Machine). stack v p) (is Ended i) ∙ stack-set p s (onto p (done first (poll_run Ended x)) []) l)
+          made pending)

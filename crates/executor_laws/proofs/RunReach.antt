@@ -9,6 +9,5 @@ pub mod RunDrops
 pub mod RunSteps
 pub mod RunKeeps
 pub mod TakenUp
-pub mod Joined
 pub mod KeptLines
 pub mod KeptWalks

@@ -273,12 +273,12 @@ pub fn kept_futures_come_first()
 {}
 
 /// The order of queueing. Where no call is in progress, the drop of the executor hasn't begun and no other run keeps a future, a
-/// run that alone takes futures, by polls that are made alone and in which its own future isn't ready, takes those of each mark up
-/// in the order in which they were queued, whatever other user code answers in the polls, and whatever is done between them by
-/// which no future is taken: what the polls take up of a mark, and behind it what waits of it at the end, is what waited of it at
-/// the start, and behind it what was queued of it meanwhile. What waits for a run is what it keeps, and behind that what stands in
-/// the executor's queue of the mark. Where all futures are plain, it takes all up in the order in which they were queued. No other
-/// run keeps a future where no other was polled that isn't dropped.
+/// run that alone takes futures, by polls in which its own future isn't ready, takes those of each mark up in the order in which
+/// they were queued, whatever user code answers, and whatever other calls do in the polls and between them by which no future is
+/// taken, those too that begin inside of the polls: what the polls take up of a mark, and behind it what waits of it at the end,
+/// is what waited of it at the start, and behind it what was queued of it meanwhile. What waits for a run is what it keeps, and
+/// behind that what stands in the executor's queue of the mark. Where all futures are plain, it takes all up in the order in
+/// which they were queued. No other run keeps a future where no other was polled that isn't dropped.
 pub fn runs_take_futures_in_order()
     ensures { EveryMachine TakesInOrder }
 {}

@@ -1,35 +1,33 @@
 -- For runs_take_futures_in_order.
 -- So it is of what such polls take up with steps between that take nothing, of each mark; and of all where all are plain.
 use Rattle.std.proofs.Common.{◌≡◌, ◌∙◌, ℕ, ◌<◌, ◌≤◌, Bool, true, false, List, [], ◌∷◌, ◌++◌, length, drop}
-use Rattle.std.proofs.Common.{get_or, refl, sym, ap, subst, arith, append-nil, append_assoc, length-append, Ok}
+use Rattle.std.proofs.Common.{refl, sym, ap, subst, arith, append-nil, append_assoc, length-append}
 use Rattle.std.proofs.Math.Seq.{drop-append_seam}
 use Rattle.std.proofs.lemmas.List.Elements.{filter-append}
 use Rattle.std.specs.Prelude.{All, Some, cond, filter, slice_get}
 use Rattle.executor_parts.specs.declared.mark.Mark.{Mark}
 use Rattle.executor_parts.specs.declared.mark.Mark.TheVariants.{Plain}
 use Rattle.executor_parts.specs.Marks.{same_mark}
-use Rattle.executor_model.specs.declared.call.By.{By}
 use Rattle.executor_model.specs.declared.call.Call.TheVariants as call
 use Rattle.executor_model.specs.declared.kind.Kind.{Kind}
 use Rattle.executor_model.specs.declared.step.Step.{Step}
 use Rattle.executor_model.specs.declared.step.Step.TheVariants.{Begin}
 use Rattle.executor_model.specs.Emptiness.{IsAtRest}
-use Rattle.executor_model.specs.Executions.{run_all}
-use Rattle.executor_model.specs.Queues.{Queues, queue_in}
 use Rattle.executor_model.specs.Sound.{times}
-use Rattle.executor_model.specs.Steps.{Machine, after, run, start, step, stepped}
+use Rattle.executor_model.specs.Steps.{Machine, run, start, step, stepped}
 use Rattle.executor_model.specs.declared.event.Event.TheVariants as event
 use Rattle.executor_model.specs.declared.op.TickOrRun.TheVariants as tick_or_run
 use Rattle.executor_model.specs.Standing.{WasCalled, polls_sleeper}
 use Rattle.executor_model.specs.Trace.{has}
 use Rattle.executor_model.specs.World.{World, mark_of, own_of, queue_of}
 use Rattle.executor_model.proofs.Steps.Marking.{Entries}
-use Rattle.executor_model.proofs.Steps.Reached.{Reached, deep-here, good-here, run-first, run-of}
-use Rattle.executor_laws.specs.KeptFirst.{poll_steps, taken_up}
-use Rattle.executor_laws.specs.RunOrder.{IsBegun, KeepsAlone, Piece, TakesAlone, TakesInOrder, TakesNothing, joined}
-use Rattle.executor_laws.specs.RunOrder.{joined_in_all, joins, line, of_mark, taken_in_all}
+use Rattle.executor_model.proofs.Steps.Reached.{Reached, deep-here, good-here}
+use Rattle.executor_laws.specs.RunOrder.{GoesOnSo, IsBegun, IsPolledSo, KeepsAlone, Piece, Polling, TakesAlone, TakesInOrder}
+use Rattle.executor_laws.specs.RunOrder.{TakesNothing, Within, begun_by, behind_all, joined_in_all, joined_within, joins, line}
+use Rattle.executor_laws.specs.RunOrder.{of_mark, taken_in_all, taken_within}
 use Rattle.executor_laws.specs.RunOrder.Piece.{between, polled}
-use Rattle.executor_laws.specs.RunReach.{IsLonePoll, Keeps}
+use Rattle.executor_laws.specs.RunOrder.Within.{by_itself, meanwhile}
+use Rattle.executor_laws.specs.RunReach.{Keeps}
 use Rattle.executor_model.proofs.OwnQueues.OwnRunners.{own-queue-has-runner}
 use Rattle.executor_model.proofs.Polls.AskingExecutions.{heard}
 use Rattle.executor_model.proofs.Quiet.Resting.{deep}
@@ -44,15 +42,13 @@ use Rattle.executor_laws.proofs.Wakeups.Queued.{times-length}
 use Rattle.executor_laws.proofs.Wakeups.StandsMachine.{standing}
 use Rattle.executor_laws.proofs.Wakeups.StandsRest.{keeper-called, keeper-lives}
 use Rattle.executor_laws.proofs.Placement.OwnReady.{reached-on}
-use Rattle.executor_laws.proofs.Promptness.Turns.{next-is}
-use Rattle.executor_laws.proofs.Reach.Marked.{Grown, grown-after, grown-step, mark-stays, there-marked}
+use Rattle.executor_laws.proofs.Reach.Marked.{Grown, grown-step, mark-stays, there-marked}
 use Rattle.executor_laws.proofs.Reach.Marked.Grown.{kept, one}
 use Rattle.executor_laws.proofs.Reach.Reaching as reaching
-use Rattle.executor_laws.proofs.RunOrder.SpanWalks.{NoneBeside, Result, from-control}
-use Rattle.executor_laws.proofs.RunOrder.Spans.{ahead, ahead-same}
-use Rattle.executor_laws.proofs.RunReach.Joined.{joins-none}
+use Rattle.executor_laws.proofs.RunOrder.SpanBeside.{NoneBeside}
+use Rattle.executor_laws.proofs.RunOrder.SpanWalks.{Result, from-beginning}
+use Rattle.executor_laws.proofs.RunOrder.Spans.{ahead}
 use Rattle.executor_laws.proofs.RunReach.KeptWalks.{kept-there}
-use Rattle.executor_laws.proofs.RunReach.RunReaching.{arrived, first-is, first-machine, first-queues, new-idle, reached-new}
 
 -- a future that is there keeps its mark
 
@@ -69,24 +65,48 @@ grown-stays w v g = λ f l. (mark-stays w v f g l, longer g f l)
 stays-and : (w v u : World) → Stays w v → Stays v u → Stays w u
 stays-and w v u a b = λ f l. let x : _ = a f l in let y : _ = b f x.1 in (y.0 ∙ x.0, y.1)
 
-stays-run : (ts : List Step) (s new : Machine) → run_all ts s ≡ Ok new → Stays s.world new.world
-stays-run [] s new e =
-    let same : s ≡ new = cc in subst (λ (x : Machine). Stays s.world x.world) same (λ f l. (refl, l))
-stays-run (t ∷ ts) s new e =
-    let x : _ = run-first t ts s new e in
-    stays-and s.world (after s t).world new.world (grown-stays s.world (after s t).world (grown-after s t x.0))
-    (stays-run ts (after s t) new x.1)
+stays-step : (t : Step) (s : Machine) → Stays s.world (stepped s (step s t)).world
+stays-step t s = grown-stays s.world (stepped s (step s t)).world (grown-step s t)
+
+stays-run : (ts : List Step) (s : Machine) → Stays s.world (run ts s).world
+stays-run [] s = λ f l. (refl, l)
+stays-run (t ∷ ts) s =
+    let next : Machine = stepped s (step s t) in
+    stays-and s.world next.world (run ts next).world (stays-step t s) (stays-run ts next)
+
+stays-within : (p : ℕ) (ws : List Within) (s new : Machine) → GoesOnSo p ws s new → Stays s.world new.world
+stays-within p [] s new e = subst (λ (x : Machine). Stays s.world x.world) e (λ f l. (refl, l))
+stays-within p (by_itself t ∷ ws) s new k =
+    let next : Machine = stepped s (step s t) in
+    stays-and s.world next.world new.world (stays-step t s) (stays-within p ws next new k.2)
+stays-within p (meanwhile ts ∷ ws) s new k =
+    stays-and s.world (run ts s).world new.world (stays-run ts s) (stays-within p ws (run ts s) new k.2)
+
+stays-poll : (r : ℕ) (t : Polling) (s new : Machine) → IsPolledSo r t s new → Stays s.world new.world
+stays-poll r t s new k =
+    stays-and s.world (begun_by r t s).world new.world (stays-step (Begin t.party (call.PollRun r t.by)) s)
+    (stays-within t.party t.within (begun_by r t s) new k.goes_on)
 
 stays-pieces : (r : ℕ) (pieces : List Piece) (s new : Machine) → TakesAlone r pieces s new → Stays s.world new.world
 stays-pieces r [] s new e = subst (λ (x : Machine). Stays s.world x.world) e (λ f l. (refl, l))
 stays-pieces r (polled t ∷ ps) s new k =
-    stays-and s.world k.0.world new.world
-    (stays-run (Begin t.party (call.PollRun r t.by) ∷ t.steps) s k.0 k.1.poll.call.made)
-    (stays-pieces r ps k.0 new k.2)
+    stays-and s.world k.0.world new.world (stays-poll r t s k.0 k.1) (stays-pieces r ps k.0 new k.2)
 stays-pieces r (between t ∷ ps) s new k =
-    stays-and s.world (stepped s (step s t)).world new.world
-    (grown-stays s.world (stepped s (step s t)).world (grown-step s t))
-    (stays-pieces r ps (stepped s (step s t)) new k.1)
+    let next : Machine = stepped s (step s t) in
+    stays-and s.world next.world new.world (stays-step t s) (stays-pieces r ps next new k.1)
+
+-- where a poll leads
+
+reached-within : (p : ℕ) (ws : List Within) (s new : Machine) → Reached s → GoesOnSo p ws s new → Reached new
+reached-within p [] s new y e = subst Reached e y
+reached-within p (by_itself t ∷ ws) s new y k =
+    reached-within p ws (stepped s (step s t)) new (reached-on s (t ∷ []) y) k.2
+reached-within p (meanwhile ts ∷ ws) s new y k = reached-within p ws (run ts s) new (reached-on s ts y) k.2
+
+behind-is : (p : ℕ) (ws : List Within) (s new : Machine) → GoesOnSo p ws s new → behind_all ws s ≡ new
+behind-is p [] s new e = e
+behind-is p (by_itself t ∷ ws) s new k = behind-is p ws (stepped s (step s t)) new k.2
+behind-is p (meanwhile ts ∷ ws) s new k = behind-is p ws (run ts s) new k.2
 
 -- so what stands in the executor's queues has its mark at the end
 first-marked : (m : Mark) (v new : Machine) → Reached v → Stays v.world new.world → (k : Mark) (f : ℕ) (rest : List ℕ) →
@@ -98,50 +118,19 @@ first-marked m v new y z k f rest e =
 
 -- one poll
 
-module _ (m : Mark) (last : Machine) (s : Machine) (y : Reached s) (rest : IsAtRest s) (r p : ℕ) (b : By) (steps : List Step)
-    (new : Machine) (k : IsLonePoll p r b steps s new) (later : Stays new.world last.world) (none : NoneBeside r s.world) where
+module _ (m : Mark) (last : Machine) (s : Machine) (y : Reached s) (r : ℕ) (t : Polling) (new : Machine)
+    (k : IsPolledSo r t s new) (later : Stays new.world last.world) (none : NoneBeside r s.world) where
   abbrev test : ℕ → Bool
   test f = same_mark m (mark_of last.world f)
 
   abbrev waits-in : Machine → List ℕ
   waits-in v = ahead test m (own_of v.world r) v.world
 
-  abbrev all-steps : List Step
-  all-steps = Begin p (call.PollRun r b) ∷ steps
-
-  first-step : stepped s (step s (Begin p (call.PollRun r b))) ≡ first-machine s y rest r p b steps new k
-  first-step =
-      next-is s (Begin p (call.PollRun r b)) (run-first (Begin p (call.PollRun r b)) steps s new k.call.made).0
-      ∙ first-is s y rest r p b steps new k
-
-  from-arrival : Result test m p r new (waits-in s) (arrived s y rest r p b steps new k).others
-      (arrived s y rest r p b steps new k).machine
-  from-arrival =
-      let a = arrived s y rest r p b steps new k in
-      from-control test m p r new (new-idle s y rest r p b steps new k)
-      (λ v y2 us made i f xs e.
-      first-marked m v last y2 (stays-and v.world new.world last.world (stays-run us v new made) later) i f xs e)
-      _ refl a.others a.machine (waits-in s) a.here.reached
-      (λ n i. ap (λ (qs : List (List ℕ)). get_or qs n []) a.here.so_far.owns_are ∙ none n i)
-      a.here.todo (ahead-same test m r s.world a.machine.world a.here.so_far.owns_are a.here.so_far.common_is) a.onward a.made
-
-  joined-from : joined m all-steps s ≡
-      joined m (arrived s y rest r p b steps new k).others (arrived s y rest r p b steps new k).machine
-  joined-from =
-      let a = arrived s y rest r p b steps new k in
-      ap (λ (v : Machine). drop (length (queue_of s.world m).items) (queue_of v.world m).items ++ joined m steps v) first-step
-      ∙ (ap (λ (xs : List ℕ). xs ++ joined m steps (first-machine s y rest r p b steps new k))
-      (joins-none (queue_of s.world m).items _
-      (ap (λ (qs : Queues). (queue_in m qs).items) (first-queues s y rest r p b steps new k)))
-      ∙ a.joined_is m)
-
-  taken-from : taken_up p all-steps s ≡
-      taken_up p (arrived s y rest r p b steps new k).others (arrived s y rest r p b steps new k).machine
-  taken-from = ap (λ (v : Machine). taken_up p steps v) first-step ∙ (arrived s y rest r p b steps new k).taken
-
-  one-poll : filter test (taken_up p all-steps s) ++ waits-in new ≡ waits-in s ++ joined m all-steps s
-  one-poll = ap (λ (xs : List ℕ). filter test xs ++ waits-in new) taken-from
-      ∙ (from-arrival.is ∙ ap (λ (xs : List ℕ). waits-in s ++ xs) (sym joined-from))
+  one-poll : Result test m t.party r new (waits-in s) t.within (begun_by r t s)
+  one-poll = from-beginning test m t.party r new k.ended
+      (λ v y2 ws made i f xs e.
+      first-marked m v last y2 (stays-and v.world new.world last.world (stays-within t.party ws v new made) later) i f xs e)
+      t.by s t.within y none k.idle k.possible k.pending k.goes_on
 
 -- lists of such polls, and what is done between
 
@@ -175,18 +164,20 @@ in-order m last [] s new y r none e z =
     ap (λ (v : Machine). line m r last.world v) (sym e) ∙ sym (append-nil (line m r last.world s))
 in-order m last (polled t ∷ ps) s new y r none k z =
     let next : Machine = k.0 in
-    let is : run (poll_steps r t) s ≡ next = run-of (poll_steps r t) s next k.1.poll.call.made in
+    let first : Machine = begun_by r t s in
+    let is : behind_all t.within first ≡ next = behind-is t.party t.within first next k.1.goes_on in
     let later : Stays next.world last.world =
     stays-and next.world new.world last.world (stays-pieces r ps next new k.2) z in
-    let now = one-poll m last s y k.1.rest r t.party t.by t.steps next k.1.poll later none in
-    let others = in-order m last ps next new (reached-new s y k.1.rest r t.party t.by t.steps next k.1.poll) r
-    (from-arrival m last s y k.1.rest r t.party t.by t.steps next k.1.poll later none).none k.2 z in
+    let now = one-poll m last s y r t next k.1 later none in
+    let others = in-order m last ps next new
+    (reached-within t.party t.within first next (reached-on s (Begin t.party (call.PollRun r t.by) ∷ []) y) k.1.goes_on) r
+    now.none k.2 z in
     ap (λ (v : Machine).
-    of_mark m last.world (taken_up t.party (poll_steps r t) s ++ taken_in_all r ps v) ++ line m r last.world new) is
-    ∙ (both-lines (λ f. same_mark m (mark_of last.world f)) (taken_up t.party (poll_steps r t) s) (taken_in_all r ps next)
-    (line m r last.world s) (line m r last.world next) (line m r last.world new) (joined m (poll_steps r t) s)
-    (joined_in_all m r ps next) now others
-    ∙ ap (λ (v : Machine). line m r last.world s ++ (joined m (poll_steps r t) s ++ joined_in_all m r ps v)) (sym is))
+    of_mark m last.world (taken_within t.party t.within first ++ taken_in_all r ps v) ++ line m r last.world new) is
+    ∙ (both-lines (λ f. same_mark m (mark_of last.world f)) (taken_within t.party t.within first) (taken_in_all r ps next)
+    (line m r last.world s) (line m r last.world next) (line m r last.world new) (joined_within m t.within first)
+    (joined_in_all m r ps next) now.is others
+    ∙ ap (λ (v : Machine). line m r last.world s ++ (joined_within m t.within first ++ joined_in_all m r ps v)) (sym is))
 in-order m last (between t ∷ ps) s new y r none k z =
     let next : Machine = stepped s (step s t) in
     in-order m last ps next new (reached-on s (t ∷ []) y) r (λ n i. k.0.own n ∙ none n i) k.1 z

@@ -98,7 +98,8 @@ module _ (b : ℕ → Bool) (m : Mark) where
   lines-walk : (v : World) (x : RunPoll) (qs : List ℕ) (at left : ℕ) → Line x.run (waits x.run v) (done v (walk x qs at left))
   lines-walk v x qs at zero =
       behind-ops b m x.run (waits x.run v) (op.List list_op.UnlockRead ∷ [])
-      (done v (op.Tick (tick_op.CopyWaker (asleep x)) ∷ [])) refl refl (one b m x.run v (op.Tick (tick_op.CopyWaker (asleep x))) refl)
+      (done v (op.Tick (tick_op.CopyWaker (asleep x)) ∷ [])) refl refl
+      (one b m x.run v (op.Tick (tick_op.CopyWaker (asleep x))) refl)
   lines-walk v x qs at (suc left) =
       by (eqb (queue_at qs at) x.run) (another-queue (queue_at qs at) x.run) (lines-walk v x qs (next_place qs at) left)
     where

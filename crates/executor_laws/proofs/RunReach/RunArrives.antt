@@ -4,7 +4,6 @@ use Rattle.std.proofs.Common.{◌≡◌, ◌∙◌, inl, inr, ⊎_elim, ℕ, ◌
 use Rattle.std.proofs.Common.{Bool, true, false, ◌||◌, refl, sym, ap, subst, arith, Ok}
 use Rattle.std.proofs.lemmas.List.Folds.{list_any-append}
 use Rattle.std.specs.Prelude.{Option, Some}
-use Rattle.executor_parts.specs.declared.mark.Mark.{Mark}
 use Rattle.executor_model.specs.declared.event.Answer.TheVariants as answer
 use Rattle.executor_model.specs.declared.op.ListOp.TheVariants as list_op
 use Rattle.executor_model.specs.declared.op.Op.{Op}
@@ -31,7 +30,6 @@ use Rattle.executor_model.proofs.OneFuture.Telling.{begun-has}
 use Rattle.executor_model.proofs.Steps.Reached.{Reached, good-here}
 use Rattle.executor_laws.specs.LoneEnds.{are_onward_of}
 use Rattle.executor_laws.specs.KeptFirst.{taken_up}
-use Rattle.executor_laws.specs.RunOrder.{joined}
 use Rattle.executor_laws.specs.Reach.{takes}
 use Rattle.executor_laws.specs.RunFew.{polls_in}
 use Rattle.executor_laws.specs.RunReach.{first_answer}
@@ -39,7 +37,6 @@ use Rattle.executor_laws.proofs.Reach.LoneMoves.{is_turn}
 use Rattle.executor_laws.proofs.Reach.LoneSteps.{HasEntry}
 use Rattle.executor_laws.proofs.Reach.LoneTicks.{stack-set}
 use Rattle.executor_laws.proofs.Reach.Reached.{heard-here}
-use Rattle.executor_laws.proofs.RunReach.Joined.{answers-unjoined, goes-unjoined}
 use Rattle.executor_laws.proofs.RunReach.TakenUp.{answers-up, goes-up}
 use Rattle.executor_laws.proofs.RunReach.RunWalks.{Onward, onward}
 use Rattle.executor_laws.proofs.RunReach.RunWalks.Onward.{acted, answered}
@@ -107,7 +104,6 @@ module _ (p : ℕ) (before : Trace) (x : RunPoll) (own : List ℕ) (base : World
   -- nothing is found yet
   pub record Before (w : World) : Type 0 where
     pub own_is : own_of w x.run ≡ own
-    pub owns_are : w.own ≡ base.own
     pub common_is : w.queues ≡ base.queues
     pub turn_is : w.urgent_turns ≡ base.urgent_turns
     pub meanwhile : Trace
@@ -127,18 +123,15 @@ module _ (p : ℕ) (before : Trace) (x : RunPoll) (own : List ℕ) (base : World
     pub machine : Machine
     pub others : List Step
     pub taken : taken_up p ts s ≡ taken_up p others machine
-    pub joined_is : (m : Mark) → joined m ts s ≡ joined m others machine
     pub here : At (op.Tick (tick_op.Search (asleep x)) ∷ []) machine
     pub onward : are_onward_of p others ≡ true
     pub made : run_all others machine ≡ Ok new
 
-  earlier : (ts others : List Step) (s v : Machine) → taken_up p ts s ≡ taken_up p others v →
-      ((m : Mark) → joined m ts s ≡ joined m others v) → Arrived others v → Arrived ts s
-  earlier ts others s v e q a = record {
+  earlier : (ts others : List Step) (s v : Machine) → taken_up p ts s ≡ taken_up p others v → Arrived others v → Arrived ts s
+  earlier ts others s v e a = record {
     machine = a.machine;
     others = a.others;
     taken = e ∙ a.taken;
-    joined_is = λ m. q m ∙ a.joined_is m;
     here = a.here;
     onward = a.onward;
     made = a.made;
@@ -161,9 +154,6 @@ module _ (p : ℕ) (before : Trace) (x : RunPoll) (own : List ℕ) (base : World
             others = others;
             taken = answers-up p s new [] (op.User (user_op.PollOwn x)) ts a.todo n u others te
                 ∙ ap (λ (w : UserEnd). taken_up p others (with_part s p (onto p (react p (op.User (user_op.PollOwn x)) w s.world) []))) v;
-            joined_is = λ m. answers-unjoined p s new [] (op.User (user_op.PollOwn x)) ts a.todo n u others te m
-                ∙ ap (λ (w : UserEnd).
-                joined m others (with_part s p (onto p (react p (op.User (user_op.PollOwn x)) w s.world) []))) v;
             here = record {
               reached = subst (λ (w : UserEnd).
                   Reached (with_part s p (onto p (react p (op.User (user_op.PollOwn x)) w s.world) []))) v y;
@@ -188,12 +178,10 @@ module _ (p : ℕ) (before : Trace) (x : RunPoll) (own : List ℕ) (base : World
           let d : Part = onto p (act p h (op.List list_op.UnlockWrite) s.world) (op.User (user_op.PollOwn x) ∷ []) in
           earlier ts others s (with_part s p d)
           (goes-up p s new (op.User (user_op.PollOwn x) ∷ []) (op.List list_op.UnlockWrite) ts a.todo n h others te)
-          (goes-unjoined p s new (op.User (user_op.PollOwn x) ∷ []) (op.List list_op.UnlockWrite) ts a.todo n h others te refl)
           (at-own (with_part s p d) (record {
             reached = y;
             so_far = record {
               own_is = a.so_far.own_is;
-              owns_are = a.so_far.owns_are;
               common_is = a.so_far.common_is;
               turn_is = a.so_far.turn_is;
               meanwhile = a.so_far.meanwhile;
@@ -217,14 +205,11 @@ module _ (p : ℕ) (before : Trace) (x : RunPoll) (own : List ℕ) (base : World
           let d : Part = onto p (act p h (op.List (list_op.Write (section.Register x))) s.world) [] in
           let st : Stage = (run_of s.world x.run).stage in
           earlier ts others s (with_part s p d) (goes-up p s new [] (op.List (list_op.Write (section.Register x))) ts a.todo n h others te)
-          (goes-unjoined p s new [] (op.List (list_op.Write (section.Register x))) ts a.todo n h others te
-          (registered-queue st s.world x.run))
           (at-unlock (with_part s p d) (record {
             reached = y;
             so_far = record {
               own_is = ap (λ (qs : List (List ℕ)). get_or qs x.run []) (registered-own st s.world x.run)
                   ∙ a.so_far.own_is;
-              owns_are = registered-own st s.world x.run ∙ a.so_far.owns_are;
               common_is = registered-queue st s.world x.run ∙ a.so_far.common_is;
               turn_is = registered-turns st s.world x.run ∙ a.so_far.turn_is;
               meanwhile = a.so_far.meanwhile;
@@ -248,12 +233,10 @@ module _ (p : ℕ) (before : Trace) (x : RunPoll) (own : List ℕ) (base : World
           let d : Part = onto p (act p h (op.List (list_op.LockWrite (section.Register x))) s.world) [] in
           earlier ts others s (with_part s p d)
           (goes-up p s new [] (op.List (list_op.LockWrite (section.Register x))) ts a.todo n h others te)
-          (goes-unjoined p s new [] (op.List (list_op.LockWrite (section.Register x))) ts a.todo n h others te refl)
           (at-write (with_part s p d) (record {
             reached = y;
             so_far = record {
               own_is = a.so_far.own_is;
-              owns_are = a.so_far.owns_are;
               common_is = a.so_far.common_is;
               turn_is = a.so_far.turn_is;
               meanwhile = a.so_far.meanwhile;

@@ -45,7 +45,6 @@ use Rattle.executor_laws.specs.RunReach.{IsLonePoll, IsReachedByRuns, Keeps, Tak
 use Rattle.executor_laws.proofs.Reach.LoneTicks.{idle-none, in-range, left-true, of-party, stack-set}
 use Rattle.executor_laws.proofs.Reach.Reached.{bonded-here, heard-here}
 use Rattle.executor_laws.proofs.Placement.Placing.{here, idle, in-own, keeper-own, own-keeper, queued-due}
-use Rattle.executor_laws.proofs.RunReach.Joined.{onto-queues}
 use Rattle.executor_laws.proofs.RunReach.RunFinds.{Heading, Heads, heads-found}
 use Rattle.executor_laws.proofs.RunReach.RunFinds.Heading.{stealing}
 use Rattle.executor_laws.proofs.RunReach.RunWalks.{Onward, Taken, from-heading, onward, with-heading}
@@ -279,16 +278,12 @@ module _ (s : Machine) (r : Reached s) (rest : IsAtRest s) (n p : ℕ) (b : By) 
   abbrev pub first-machine : Machine
   first-machine = from-stage (run_of s.world n).stage
 
-  pub first-queues : first-machine.world.queues ≡ s.world.queues
-  first-queues = onto-queues p (done beginning (poll_run (run_of s.world n).stage poll)) []
-
   pub arrived : Arrived p s.world.trace poll (own_of s.world n) s.world new new-idle steps first-machine
   arrived = by (run_of s.world n).stage refl
     where
       still : Before p s.world.trace poll (own_of s.world n) s.world new new-idle beginning
       still = record {
         own_is = refl;
-        owns_are = refl;
         common_is = refl;
         turn_is = refl;
         meanwhile = told;

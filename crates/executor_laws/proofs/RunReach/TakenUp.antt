@@ -22,7 +22,7 @@ abbrev pub up_of : Op → List ℕ
 up_of (op.Move move.TakeUp f) = f ∷ []
 up_of _ = []
 
-go-takes : (p : ℕ) (h : Hint) (o : Op) → taken_by (Go p h) (Some o) ≡ up_of o
+pub go-takes : (p : ℕ) (h : Hint) (o : Op) → taken_by (Go p h) (Some o) ≡ up_of o
 go-takes p h (op.Move move.TakeUp f) = refl
 go-takes p h _ = refl
 
@@ -31,11 +31,11 @@ module _ (p : ℕ) (s new : Machine) (below : List Op) (o : Op) (ts : List Step)
   top-is : top (stack s p) ≡ Some o
   top-is = ap top e ∙ top-last below o
 
-  pub gone-is : (d : Op → Done) → gone_on p s.world (stack s p) (top (stack s p)) d ≡ onto p (d o) below
+  gone-is : (d : Op → Done) → gone_on p s.world (stack s p) (top (stack s p)) d ≡ onto p (d o) below
   gone-is d = ap (λ (x : Option Op). gone_on p s.world (stack s p) x d) top-is
       ∙ ap (λ (os : List Op). onto p (d o) os) (below-is (stack s p) below o e)
 
-  pub possible : (t : Step) (others : List Step) → ts ≡ t ∷ others → refusal s t ≡ None
+  possible : (t : Step) (others : List Step) → ts ≡ t ∷ others → refusal s t ≡ None
   possible t others i = (run-first t others s new (ap (λ (xs : List Step). run_all xs s) (sym i) ∙ n)).0
 
   -- it does what is on top

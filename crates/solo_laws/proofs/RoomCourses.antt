@@ -166,40 +166,40 @@ module _ {F T X : Type 0} (m : Most) where
 
   -- what no other call than a spawn and the making of a tick or a run leads out of
   within : (call : Call F T X) (old new : Solo F T X) → Does call old new → may_take_memory call ≡ false → Within m old → Within m new
-  within (Spawn mark future) old new does no p = absurd cc
-  within (SpawnRefused mark future) old new does no p = absurd cc
-  within Take old new is no p = moved_to new (solo.taken old) is (taken_by (solo.sought old) (solo.popped old) (popped_in m old p))
-  within (Settle lent back) old new is no p = moved_to new (solo.settled lent back old) is (settled lent back old p)
-  within (Finish lent) old new is no p = moved_to new (solo.finished lent old) is (finished lent old p)
-  within (Wake task) old new is no p = moved_to new (solo.woken task old) is (woken task old p)
-  within (WakeAndRelease task) old new is no p = moved_to new (solo.woken_and_released task old) is (woken_and_released task old p)
-  within (Hold task) old new is no p = moved_to new (solo.held task old) is (turned_in m cells.held task old p)
-  within (Release task) old new is no p = moved_to new (solo.released task old) is (let_go_in m task old p)
-  within (Cancel task) old new is no p = moved_to new (solo.cancelled task old) is (cancelled task old p)
-  within (Detach task) old new is no p = moved_to new (solo.detached task old) is (detached task old p)
-  within (Poll task waker) old new is no p = moved_to new (solo.polled task waker old) is (turned_in m (cells.polled waker) task old p)
-  within (Retract task) old new is no p = moved_to new (closing.retracted task old) is (retracted task old p)
-  within MakeTick old new does no p = absurd cc
-  within (TickTake ticker waker) old new is no p = moved_to new (ticks.taken ticker waker old) is (tick_taken_in m ticker waker old p)
-  within (TickSearch ticker) old new is no p = moved_to new (ticks.searched ticker old) is (tick_searched_in m ticker old p)
-  within (TickLeave ticker) old new is no p = moved_to new (ticks.left ticker old) is (tick_left_in m ticker old p)
-  within MakeRun old new does no p = absurd cc
-  within (RunBegin runner) old new is no p =
+  within (Spawn mark future) old new does is_other p = absurd cc
+  within (SpawnRefused mark future) old new does is_other p = absurd cc
+  within Take old new is is_other p = moved_to new (solo.taken old) is (taken_by (solo.sought old) (solo.popped old) (popped_in m old p))
+  within (Settle lent back) old new is is_other p = moved_to new (solo.settled lent back old) is (settled lent back old p)
+  within (Finish lent) old new is is_other p = moved_to new (solo.finished lent old) is (finished lent old p)
+  within (Wake task) old new is is_other p = moved_to new (solo.woken task old) is (woken task old p)
+  within (WakeAndRelease task) old new is is_other p = moved_to new (solo.woken_and_released task old) is (woken_and_released task old p)
+  within (Hold task) old new is is_other p = moved_to new (solo.held task old) is (turned_in m cells.held task old p)
+  within (Release task) old new is is_other p = moved_to new (solo.released task old) is (let_go_in m task old p)
+  within (Cancel task) old new is is_other p = moved_to new (solo.cancelled task old) is (cancelled task old p)
+  within (Detach task) old new is is_other p = moved_to new (solo.detached task old) is (detached task old p)
+  within (Poll task waker) old new is is_other p = moved_to new (solo.polled task waker old) is (turned_in m (cells.polled waker) task old p)
+  within (Retract task) old new is is_other p = moved_to new (closing.retracted task old) is (retracted task old p)
+  within MakeTick old new does is_other p = absurd cc
+  within (TickTake ticker waker) old new is is_other p = moved_to new (ticks.taken ticker waker old) is (tick_taken_in m ticker waker old p)
+  within (TickSearch ticker) old new is is_other p = moved_to new (ticks.searched ticker old) is (tick_searched_in m ticker old p)
+  within (TickLeave ticker) old new is is_other p = moved_to new (ticks.left ticker old) is (tick_left_in m ticker old p)
+  within MakeRun old new does is_other p = absurd cc
+  within (RunBegin runner) old new is is_other p =
       moved_to new (runs.begun runner old) is (p.0, p.1, p.2, p.3, listed_fits m.queues runner.number old.runs p.4, p.5)
-  within (RunTake runner ticker waker start) old new is no p =
+  within (RunTake runner ticker waker start) old new is is_other p =
       moved_to new (runs.took runner ticker waker start old) is (run_taken_in m runner ticker waker start old p)
-  within (RunSearch runner ticker start) old new is no p =
+  within (RunSearch runner ticker start) old new is is_other p =
       moved_to new (runs.searched runner ticker start old) is (run_searched_in m runner ticker start old p)
-  within (RunLeave runner) old new is no p =
+  within (RunLeave runner) old new is is_other p =
       moved_to new (runs.left runner old) is (p.0, p.1, p.2, p.3, closed_fits m.queues runner.number old.runs p.4, p.5)
-  within (RunDrain leaving) old new is no p =
+  within (RunDrain leaving) old new is is_other p =
       moved_to new (runs.drained leaving old) is (run_drained_in m (runs.first_left leaving.own) leaving.ticker old p)
-  within Leak old new is no p = moved_to new (closing.leaked old) is (leaked old p)
-  within LeakNext old new is no p =
+  within Leak old new is is_other p = moved_to new (closing.leaked old) is (leaked old p)
+  within LeakNext old new is is_other p =
       moved_to new (closing.leak_woken old) is
       (leak_by (slice_get old.leaving.items 0) (closing.first_left old) (first_left old p))
-  within Close old new is no p = moved_to new (closing.closed old) is (closed old p)
-  within Drain old new is no p = moved_to new (closing.drained old) is (drained old p)
+  within Close old new is is_other p = moved_to new (closing.closed old) is (closed old p)
+  within Drain old new is is_other p = moved_to new (closing.drained old) is (drained old p)
 
 module _ {F T X : Type 0} where
   -- as much as there is
@@ -282,7 +282,7 @@ module _ {F T X : Type 0} where
 
   other_fit : (limit : ℕ) (call : Call F T X) (old new : Solo F T X) → Does call old new → may_take_memory call ≡ false
       → Fit limit old → Fit limit new
-  other_fit limit call old new does no p = tight (measure limit old) new (within (measure limit old) call old new does no p)
+  other_fit limit call old new does is_other p = tight (measure limit old) new (within (measure limit old) call old new does is_other p)
 
   making_fit : (limit : ℕ) (call : Call F T X) (old new : Solo F T X) → Does call old new → may_take_memory call ≡ true
       → Fit limit old → Fit limit new
@@ -326,9 +326,9 @@ module _ {F T X : Type 0} where
   pub makes_no_room : (limit : ℕ) (kind : Kind) (calls : List (Call F T X)) (first last : Solo F T X) → solo.IsNew limit kind first
       → Course calls first last → (call : Call F T X) (next : Solo F T X) → Does call last next → may_take_memory call ≡ false
       → MakesNoRoom last next
-  makes_no_room limit kind calls first last new does call next more no =
+  makes_no_room limit kind calls first last new does call next more is_other =
       let q : Within (measure limit last) next =
-      within (measure limit last) call last next more no (fit_after limit kind calls first last new does) in
+      within (measure limit last) call last next more is_other (fit_after limit kind calls first last new does) in
       record { futures = q.1.0; cells = q.0.0; capacity = q.0.1; sleepers = q.3.2; numbers = q.3.4; own_queues = q.4.0 }
 
   pub has_places : (limit : ℕ) (kind : Kind) (calls : List (Call F T X)) (first last : Solo F T X) → solo.IsNew limit kind first

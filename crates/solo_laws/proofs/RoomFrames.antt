@@ -41,7 +41,7 @@ use Rattle.solo_laws.proofs.Runs.{moved_on_keeps, round_on_keeps}
 use Rattle.solo_laws.proofs.RoomParts.{Slots, changed_slots, tidied_slots, LineFits, LinesFit, pushed_fits, rest_fits, pushed_in_fits}
 use Rattle.solo_laws.proofs.RoomParts.{popped_fits, taken_fits, searched_fits, SleepersFit, last_sleeps, woken_sleeps, back_sleeps}
 use Rattle.solo_laws.proofs.RoomParts.{asleep_sleeps, replaced_sleeps, listed_sleeps, OwnFit, changed_fits, pushed_keeps, rest_keeps}
-use Rattle.solo_laws.proofs.RoomParts.{one_at_most, left_places}
+use Rattle.solo_laws.proofs.RoomParts.{left_places}
 
 -- of what there is at most so much
 pub record Most : Type 0 where

@@ -35,10 +35,6 @@ use Rattle.solo_laws.proofs.Sleepers.{last_fits, position_below}
 below : (n count : ℕ) → nat_lt n count ≡ true → n + 1 ≤ count
 below n count is = grind (arith, nat_tests)
 
-one_at_most : (b : Bool) → one_if b ≤ 1
-one_at_most true = omega arith
-one_at_most false = omega arith
-
 module _ {T X : Type 0} (most size : ℕ) where
   -- so many cells at most, and memory for so many
   abbrev pub Slots : Slab (Cell T X) → Type 0
@@ -292,12 +288,13 @@ module _ {F : Type 0} where
   gone_one : (key : ℕ) (es : List (Entry F (Option Task))) (e : Entry F (Option Task)) → entry_at key es ≡ Some e
       → length (entries_without key es) + 1 ≡ length es
   gone_one key [] e is = absurd cc
-  gone_one key (d ∷ es) e is = by (key == d.key) is
+  gone_one key (d ∷ es) e is = by (key == d.key) (gone_one key es e) is
     where
-      by : (b : Bool) → elim b [ true ↦ Some d | false ↦ entry_at key es ] ≡ Some e
+      by : (b : Bool) → (entry_at key es ≡ Some e → length (entries_without key es) + 1 ≡ length es)
+          → elim b [ true ↦ Some d | false ↦ entry_at key es ] ≡ Some e
           → length {A = Entry F (Option Task)} (elim b [ true ↦ es | false ↦ d ∷ entries_without key es ]) + 1 ≡ length (d ∷ es)
-      by true here = omega arith
-      by false there = let rest = gone_one key es e there in omega (arith, rest)
+      by true rest here = omega arith
+      by false rest there = let less = rest there in omega (arith, less)
 
   stamped_there : (stamp : ℕ) (found : Option (Entry F (Option Task))) (e : Entry F (Option Task)) → stamped stamp found ≡ Some e
       → (d : Entry F (Option Task)) × (found ≡ Some d)

@@ -1,5 +1,5 @@
 -- Other calls than spawns and the makings of ticks and runs make no room, and nothing holds more than it has places for.
-use Rattle.std.proofs.Common.{◌≡◌, inl, inr, ℕ, ◌+◌, ◌≤◌, max, Bool, true, false, List, [], ◌∷◌, ◌++◌, length, Option, Some, None, Ok, Err}
+use Rattle.std.proofs.Common.{◌≡◌, inl, inr, ℕ, ◌+◌, max, Bool, true, false, List, [], ◌∷◌, ◌++◌, length, Option, Some, None, Ok, Err}
 use Rattle.std.proofs.Common.{slice_get, is_some, refl, sym, ap, subst, ◌∙◌, arith, length-append}
 use Rattle.std.specs.List.{All}
 use Rattle.std.proofs.lemmas.List.Elements.{All-nil, All-push}
@@ -32,8 +32,8 @@ use Rattle.solo.specs.Ticks as ticks
 use Rattle.solo_laws.specs.Calls.{Call, Does, Course, Spawn, SpawnRefused, Take, Settle, Finish, Wake, WakeAndRelease, Hold, Release}
 use Rattle.solo_laws.specs.Calls.{Cancel, Detach, Poll, Retract, MakeTick, TickTake, TickSearch, TickLeave, MakeRun, RunBegin, RunTake}
 use Rattle.solo_laws.specs.Calls.{RunSearch, RunLeave, RunDrain, Leak, LeakNext, Close, Drain}
+use Rattle.solo_laws.specs.Futures.{futures}
 use Rattle.solo_laws.specs.Rooms.{places_in, numbers_of, HasPlaces, may_take_memory, MakesNoRoom, HasPlacesForAll}
-use Rattle.solo_laws.proofs.Prompt.{chosen}
 use Rattle.solo_laws.proofs.RoomParts.{LineFits, LinesFit, pushed_fits, rest_fits, taken_fits, closed_fits, listed_fits}
 use Rattle.solo_laws.proofs.RoomFrames.{Most, Within, unwoken_fits, rest_places, turned_in, swept_in, loosed_in, told_in, scheduled_in}
 use Rattle.solo_laws.proofs.RoomFrames.{scheduled_if_in, let_go_in, left_in, put_in, begun_in, popped_in, tick_taken_in, tick_searched_in}
@@ -140,26 +140,27 @@ module _ {F T X : Type 0} (m : Most) where
   drained : (s : Solo F T X) → Within m s → Within m (closing.drained s)
   drained s p =
       drained_by (first_parts s.going.entries) (closing.first_going s)
-      (p.0, rest_places m.futures m.limit s.table s.going p.1, p.2, p.3, p.4, p.5)
+      (p.0, rest_places m.places m.entries m.limit s.table s.going p.1, p.2, p.3, p.4, p.5)
 
   leak_by : (first : Option Task) (s : Solo F T X) → Within m s → Within m (closing.leak_woken_by first s)
   leak_by (Some task) s p = leaving_woken task s p
   leak_by None s p = p
 
   leaked : (s : Solo F T X) → Within m s → Within m (closing.leaked s)
-  leaked s p =
-      (
-        p.0,
-        unwoken_fits m.futures m.limit s.table s.going p.1,
-        p.2,
-        p.3,
-        p.4,
-        all_pushed_fits m.limit s.table.entries s.leaving p.5,
-      )
+  leaked s p = (
+    p.0,
+    unwoken_fits m.places m.entries m.limit s.table s.going p.1,
+    p.2,
+    p.3,
+    p.4,
+    all_pushed_fits m.limit s.table.entries s.leaving p.5,
+  )
 
   closed : (s : Solo F T X) → Within m s → Within m (closing.closed s)
   closed s p =
-      let all = p.1.0 in (p.0, (omega (arith, all), p.1.2, p.1.1, p.1.4, p.1.3), p.2, p.3, p.4, p.5)
+      let all = p.1.0 in
+      let both = p.1.5 in
+      (p.0, (omega (arith, all), p.1.2, p.1.1, p.1.4, p.1.3, omega (arith, both)), p.2, p.3, p.4, p.5)
 
   moved_to : (new after : Solo F T X) → new ≡ after → Within m after → Within m new
   moved_to new after is p = subst (Within m) (sym is) p
@@ -207,7 +208,8 @@ module _ {F T X : Type 0} where
   measure limit s = record {
     cells = length s.cells.slab.slots;
     capacity = s.cells.slab.capacity;
-    futures = places_in s.table + places_in s.going;
+    places = places_in s.table + places_in s.going;
+    entries = futures s;
     rooms = s.sleepers.rooms;
     numbers = max (numbers_of s.sleepers) s.sleepers.rooms;
     queues = length s.runs.queues;
@@ -219,15 +221,14 @@ module _ {F T X : Type 0} where
   Fit limit s = Within (measure limit s) s
 
   tight : (m : Most) (s : Solo F T X) → Within m s → Fit m.limit s
-  tight m s p =
-      (
-        (omega arith, refl),
-        (omega arith, p.1.1, p.1.2, p.1.3, p.1.4),
-        p.2,
-        (p.3.0, p.3.1, omega arith, omega arith, omega arith),
-        (omega arith, p.4.1),
-        p.5,
-      )
+  tight m s p = (
+    (omega arith, refl),
+    (omega arith, p.1.1, p.1.2, p.1.3, p.1.4, omega arith),
+    p.2,
+    (p.3.0, p.3.1, omega arith, omega arith, omega arith),
+    (omega arith, p.4.1),
+    p.5,
+  )
 
   spawned_fit : (limit : ℕ) (mark : Mark) (future : F) (spawned : Spawned X) (old new : Solo F T X)
       → solo.Spawns mark future old (Ok spawned) new → Fit limit old → Fit limit new
@@ -242,7 +243,7 @@ module _ {F T X : Type 0} where
       let entered : Solo F T X = record old { table = s.table; cells = s.cells; accepted = s.accepted } in
       let q : Fit limit entered = (
         (omega arith, refl),
-        (omega arith, ap (λ t. t.limit) accepts.entered ∙ p.1.1, p.1.2, omega (arith, longer, below, limit_is, entries), p.1.4),
+        (omega arith, ap (λ t. t.limit) accepts.entered ∙ p.1.1, p.1.2, omega (arith, longer, below, limit_is, entries), p.1.4, omega arith),
         p.2,
         p.3,
         p.4,
@@ -259,7 +260,7 @@ module _ {F T X : Type 0} where
   refused_by limit old new entries same others p =
       let few = p.1.3 in
       let q : Fit limit (record old { table = new.table; cells = new.cells }) =
-      ((omega arith, refl), (omega arith, same ∙ p.1.1, p.1.2, omega (arith, entries, few), p.1.4), p.2, p.3, p.4, p.5) in
+      ((omega arith, refl), (omega arith, same ∙ p.1.1, p.1.2, omega (arith, entries, few), p.1.4, omega arith), p.2, p.3, p.4, p.5) in
       subst (Fit limit) (sym others) q
 
   refused_fit : (limit : ℕ) (mark : Mark) (future : F) (refused : SpawnError F) (old new : Solo F T X)
@@ -309,10 +310,9 @@ module _ {F T X : Type 0} where
       let none : length s.table.entries ≡ 0 = ap (λ t. length t.entries) new.table in
       let gone : length s.going.entries ≡ 0 = ap (λ t. length t.entries) new.going in
       let wakers : length s.sleepers.wakers ≡ 0 = ap (λ sleepers. length sleepers.wakers) new.sleepers in
-      let count : s.sleepers.count ≡ 0 = ap (λ sleepers. sleepers.count) new.sleepers in
-      (
+      let count : s.sleepers.count ≡ 0 = ap (λ sleepers. sleepers.count) new.sleepers in (
         (omega arith, refl),
-        (omega arith, ap (λ t. t.limit) new.table, ap (λ t. t.limit) new.going, omega (arith, none), omega (arith, gone)),
+        (omega arith, ap (λ t. t.limit) new.table, ap (λ t. t.limit) new.going, omega (arith, none), omega (arith, gone), omega arith),
         subst (LinesFit limit) (sym new.lines) ((refl, omega arith), (refl, omega arith)),
         (omega (arith, wakers), omega (arith, count), omega arith, omega arith, omega arith),
         (omega arith, subst (λ o. All HasPlaces o.queues) (sym new.runs) (All-nil HasPlaces)),
@@ -329,7 +329,7 @@ module _ {F T X : Type 0} where
   makes_no_room limit kind calls first last new does call next more is_other =
       let q : Within (measure limit last) next =
       within (measure limit last) call last next more is_other (fit_after limit kind calls first last new does) in
-      record { futures = q.1.0; cells = q.0.0; capacity = q.0.1; sleepers = q.3.2; numbers = q.3.4; own_queues = q.4.0 }
+      record { entries = q.1.5; places = q.1.0; cells = q.0.0; capacity = q.0.1; sleepers = q.3.2; numbers = q.3.4; own_queues = q.4.0 }
 
   pub has_places : (limit : ℕ) (kind : Kind) (calls : List (Call F T X)) (first last : Solo F T X) → solo.IsNew limit kind first
       → Course calls first last → HasPlacesForAll limit last

@@ -1,14 +1,13 @@
 -- That other calls than spawns and the makings of ticks and runs make no room: telling, queueing, sleeping, searching, stealing and
 -- the end of an executor leave all parts within what they had.
 use Rattle.std.proofs.Common.{◌≡◌, ℕ, zero, suc, ◌+◌, ◌≤◌, ◌%◌, nat_lt, Bool, true, false, List, [], ◌∷◌, length, drop, map, Option, Some, None}
-use Rattle.std.proofs.Common.{slice_get, refl, ap, arith}
+use Rattle.std.proofs.Common.{refl, ap, arith}
 use Rattle.std.proofs.lemmas.List.{length-map}
 use Rattle.executor_parts.specs.declared.mark.Mark.{Mark}
 use Rattle.executor_parts.specs.declared.mark.Mark.TheVariants.{Plain, Urgent}
 use Rattle.executor_parts.specs.declared.places.EntryPlace.{EntryPlace}
-use Rattle.executor_parts.specs.Places.{Entry, entry_in, set_future, future_of, parts_of, unwoken}
-use Rattle.executor_parts.specs.Sleepers.{last_waker, without_last, woken_up, waker_of, position_of, put_to_sleep, listed}
-use Rattle.queue_steps.specs.ClosableQueue.{ClosableQueue}
+use Rattle.executor_parts.specs.Places.{Entry, entry_in, set_future, parts_of, unwoken}
+use Rattle.executor_parts.specs.Sleepers.{last_waker, without_last, woken_up, waker_of, position_of, listed}
 use Rattle.task_moves.specs.declared.local_task.answers.Start.{Start}
 use Rattle.task_moves.specs.declared.local_task.answers.Start.TheVariants.{Poll, Drop}
 use Rattle.solo.specs.declared.names.Task.{Task}
@@ -21,7 +20,7 @@ use Rattle.solo.specs.declared.steals.Source.{Source}
 use Rattle.solo.specs.declared.steals.Source.TheVariants.{Common, Own}
 use Rattle.solo.specs.declared.solo.Solo.{Solo}
 use Rattle.solo.specs.OwnQueues as own
-use Rattle.solo.specs.Lines.{LinesValue, search_answer}
+use Rattle.solo.specs.Lines.{search_answer}
 use Rattle.solo.specs.Cells.{Kept, choose, asked}
 use Rattle.solo.specs.Cells as cells
 use Rattle.solo.specs.Table.{TableValue, rest_of, rest_table, room_after, first_parts}
@@ -30,7 +29,6 @@ use Rattle.solo.specs.Turns.{scheduled_if, let_go, let_go_if, left_by_parts, lef
 use Rattle.solo.specs.Solo.{popped}
 use Rattle.solo.specs.Solo as solo
 use Rattle.solo.specs.Ticks as ticks
-use Rattle.solo.specs.Closing as closing
 use Rattle.solo.specs.Steals.{moved, first_of, without_first, kept, stolen, share, length_of, stolen_if, is_own, stolen_at, looked}
 use Rattle.solo.specs.Steals.{own_popped, look_answer, round, next_place, further_by, sought_by, sought, seek_answer}
 use Rattle.solo.specs.Runs as runs
@@ -38,8 +36,8 @@ use Rattle.solo_laws.specs.Rooms.{places_in}
 use Rattle.solo_laws.proofs.Frames.{set_length}
 use Rattle.solo_laws.proofs.Prompt.{chosen}
 use Rattle.solo_laws.proofs.Runs.{moved_on_keeps, round_on_keeps}
-use Rattle.solo_laws.proofs.RoomParts.{Slots, changed_slots, tidied_slots, LineFits, LinesFit, pushed_fits, rest_fits, pushed_in_fits}
-use Rattle.solo_laws.proofs.RoomParts.{popped_fits, taken_fits, searched_fits, SleepersFit, last_sleeps, woken_sleeps, back_sleeps}
+use Rattle.solo_laws.proofs.RoomParts.{Slots, changed_slots, tidied_slots, LineFits, LinesFit, pushed_in_fits}
+use Rattle.solo_laws.proofs.RoomParts.{popped_fits, searched_fits, SleepersFit, last_sleeps, woken_sleeps, back_sleeps}
 use Rattle.solo_laws.proofs.RoomParts.{asleep_sleeps, replaced_sleeps, listed_sleeps, OwnFit, changed_fits, pushed_keeps, rest_keeps}
 use Rattle.solo_laws.proofs.RoomParts.{left_places}
 
@@ -47,18 +45,19 @@ use Rattle.solo_laws.proofs.RoomParts.{left_places}
 pub record Most : Type 0 where
   pub cells : ℕ
   pub capacity : ℕ
-  pub futures : ℕ
+  pub places : ℕ
+  pub entries : ℕ
   pub rooms : ℕ
   pub numbers : ℕ
   pub queues : ℕ
   pub limit : ℕ
 
-module _ {F : Type 0} (futures limit : ℕ) where
-  -- both tables have so many places at most, and none more entries than the limit
+module _ {F : Type 0} (places entries limit : ℕ) where
+  -- both tables have so many places at most, and so many entries, and none more than the limit
   abbrev pub TablesFit : TableValue F → TableValue F → Type 0
   TablesFit t g =
-      (places_in t + places_in g ≤ futures) × (t.limit ≡ limit) × (g.limit ≡ limit) × (length t.entries ≤ limit)
-      × (length g.entries ≤ limit)
+      (places_in t + places_in g ≤ places) × (t.limit ≡ limit) × (g.limit ≡ limit) × (length t.entries ≤ limit)
+      × (length g.entries ≤ limit) × (length t.entries + length g.entries ≤ entries)
 
   pub set_fits : (place : EntryPlace) (future : Option F) (t g : TableValue F) → TablesFit t g
       → TablesFit (record t { entries = set_future place future t.entries }) g
@@ -66,26 +65,30 @@ module _ {F : Type 0} (futures limit : ℕ) where
       let same = set_length place future t.entries in
       let all = p.0 in
       let few = p.3 in
-      (omega (arith, same, all), p.1, p.2, omega (arith, same, few), p.4)
+      let both = p.5 in
+      (omega (arith, same, all), p.1, p.2, omega (arith, same, few), p.4, omega (arith, same, both))
 
   pub unwoken_fits : (t g : TableValue F) → TablesFit t g → TablesFit (record t { entries = map unwoken t.entries }) g
   unwoken_fits t g p =
       let same : length (map unwoken t.entries) ≡ length t.entries = length-map t.entries unwoken in
       let all = p.0 in
       let few = p.3 in
-      (omega (arith, same, all), p.1, p.2, omega (arith, same, few), p.4)
+      let both = p.5 in
+      (omega (arith, same, all), p.1, p.2, omega (arith, same, few), p.4, omega (arith, same, both))
 
   rest_by_fits : (es : List (Entry F (Option Task))) (t g : TableValue F) → g.entries ≡ es → TablesFit t g
       → TablesFit t (record g { entries = rest_of es; has_room = room_after (first_parts es) g.has_room })
   rest_by_fits [] t g is p =
       let all = p.0 in
       let none : length g.entries ≡ 0 = ap (λ xs. length xs) is in
-      (omega (arith, none, all), p.1, p.2, p.3, omega arith)
+      let both = p.5 in
+      (omega (arith, none, all), p.1, p.2, p.3, omega arith, omega (arith, none, both))
   rest_by_fits (e ∷ es) t g is p =
       let all = p.0 in
       let few = p.4 in
       let longer : length g.entries ≡ length (e ∷ es) = ap (λ xs. length xs) is in
-      (omega (arith, longer, all), p.1, p.2, p.3, omega (arith, longer, few))
+      let both = p.5 in
+      (omega (arith, longer, all), p.1, p.2, p.3, omega (arith, longer, few), omega (arith, longer, both))
 
   pub rest_places : (t g : TableValue F) → TablesFit t g → TablesFit t (rest_table g)
   rest_places t g p = rest_by_fits g.entries t g refl p
@@ -94,7 +97,7 @@ module _ {F T X : Type 0} (m : Most) where
   -- within these bounds
   abbrev pub Within : Solo F T X → Type 0
   Within s =
-      Slots m.cells m.capacity s.cells.slab × TablesFit m.futures m.limit s.table s.going × LinesFit m.limit s.lines
+      Slots m.cells m.capacity s.cells.slab × TablesFit m.places m.entries m.limit s.table s.going × LinesFit m.limit s.lines
       × SleepersFit m.rooms m.numbers s.sleepers × OwnFit m.queues s.runs × LineFits m.limit s.leaving
 
   pub turned_in : (f : Kept T X → Kept T X) (task : Task) (s : Solo F T X) → Within s → Within (turned f task s)
@@ -159,12 +162,19 @@ module _ {F T X : Type 0} (m : Most) where
       let fewer = gone.1 in
       let all = p.1.0 in
       let few = p.1.3 in
-      left_by_in (parts_of (entry_in place s.table.entries)) (without place s)
-      (p.0, (omega (arith, fewer, all), p.1.1, p.1.2, omega (arith, shorter, few), p.1.4), p.2, p.3, p.4, p.5)
+      let both = p.1.5 in
+      left_by_in (parts_of (entry_in place s.table.entries)) (without place s) (
+        p.0,
+        (omega (arith, fewer, all), p.1.1, p.1.2, omega (arith, shorter, few), p.1.4, omega (arith, shorter, both)),
+        p.2,
+        p.3,
+        p.4,
+        p.5,
+      )
 
   pub put_in : (place : EntryPlace) (future : Option F) (s : Solo F T X) → Within s
       → Within (record s { table = record s.table { entries = set_future place future s.table.entries } })
-  put_in place future s p = (p.0, set_fits m.futures m.limit place future s.table s.going p.1, p.2, p.3, p.4, p.5)
+  put_in place future s p = (p.0, set_fits m.places m.entries m.limit place future s.table s.going p.1, p.2, p.3, p.4, p.5)
 
   out_of_in : (start : Option (Start EntryPlace)) (s : Solo F T X) → Within s → Within (out_of start s)
   out_of_in (Some (Poll place)) s p = put_in place None s p

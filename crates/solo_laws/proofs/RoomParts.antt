@@ -1,7 +1,7 @@
 -- That other calls than spawns and the makings of ticks and runs make no room: of each part that memory is taken for, what its
 -- changes leave.
 use Rattle.std.proofs.Common.{◌≡◌, ℕ, zero, suc, ◌+◌, ◌-◌, ◌<◌, ◌≤◌, ◌==◌, ◌&&◌, not, nat_lt, Bool, true, false, List, [], ◌∷◌, ◌++◌}
-use Rattle.std.proofs.Common.{length, drop, remove, Option, Some, None, slice_get, slice_set, slice_index_or, refl, sym, ap, subst, arith}
+use Rattle.std.proofs.Common.{length, drop, remove, Option, Some, None, slice_get, slice_set, slice_index_or, refl, sym, subst, arith}
 use Rattle.std.proofs.Common.{length-append}
 use Rattle.std.specs.List.{All, swap}
 use Rattle.std.proofs.lemmas.Bool.Decides.{nat_tests}
@@ -16,7 +16,7 @@ use Rattle.executor_parts.specs.declared.mark.Mark.TheVariants.{Plain, Urgent}
 use Rattle.executor_parts.specs.declared.places.EntryPlace.{EntryPlace}
 use Rattle.executor_parts.specs.Marks.{other}
 use Rattle.executor_parts.specs.Places.{Entry, entry_at, entry_in, stamped, without_entry as entries_without, where_there, parts_of}
-use Rattle.executor_parts.specs.Sleepers.{Sleepers, without_last, without_entry, freed, woken_up, position_of, put_to_sleep, listed}
+use Rattle.executor_parts.specs.Sleepers.{Sleepers, without_last, without_entry, woken_up, position_of, put_to_sleep, listed}
 use Rattle.queue_steps.specs.ClosableQueue.{ClosableQueue}
 use Rattle.solo.specs.declared.names.Task.{Task}
 use Rattle.solo.specs.declared.cells.Cell.{Cell}
@@ -25,7 +25,7 @@ use Rattle.solo.specs.declared.own_queues.Own.{Own}
 use Rattle.solo.specs.Cells.{Kept, choose, changed_by, changed, tidied, asked}
 use Rattle.solo.specs.Cells as cells
 use Rattle.solo.specs.Line.{fits, pushed, pushed_by, has_place, is_spent}
-use Rattle.solo.specs.Lines.{LinesValue, line_of, pushed_in, first_of, popped_from, taken_by, taken_from, mark_of_turn, turned, searched}
+use Rattle.solo.specs.Lines.{LinesValue, pushed_in, first_of, popped_from, taken_by, taken_from, mark_of_turn, turned, searched}
 use Rattle.solo.specs.OwnQueues as own
 use Rattle.solo.specs.Table.{TableValue, left_table, room_after}
 use Rattle.solo_laws.specs.Queueing.{one_if}

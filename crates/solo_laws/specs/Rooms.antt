@@ -6,6 +6,7 @@ use Rattle.solo.specs.declared.own_queues.Own.{Own}
 use Rattle.solo.specs.declared.solo.Solo.{Solo}
 use Rattle.solo.specs.Table.{TableValue}
 use Rattle.solo_laws.specs.Calls.{Call, Spawn, SpawnRefused, MakeTick, MakeRun}
+use Rattle.solo_laws.specs.Futures.{futures}
 use Rattle.solo_laws.specs.Queueing.{one_if}
 
 -- the entries of a table, and one more where that may enter without memory
@@ -31,8 +32,9 @@ module _ {F T X : Type 0} where
 
   -- there is no more than there was of all that memory is taken for
   pub record MakesNoRoom (old new : Solo F T X) : Type 0 where
-    -- places for futures, also for those that a close has taken out
-    pub futures : places_in new.table + places_in new.going ≤ places_in old.table + places_in old.going
+    -- futures and places for them, also for those that a close has taken out
+    pub entries : futures new ≤ futures old
+    pub places : places_in new.table + places_in new.going ≤ places_in old.table + places_in old.going
     -- the tasks' cells, and for how many there is memory
     pub cells : length new.cells.slab.slots ≤ length old.cells.slab.slots
     pub capacity : new.cells.slab.capacity ≡ old.cells.slab.capacity

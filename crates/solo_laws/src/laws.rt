@@ -83,8 +83,8 @@ pub fn an_output_is_given_or_dropped_once<F, T, X>()
         → IsNew limit kind first → (does : Course calls first last) → OutputsBalance weigh calls first last does }
 {}
 
-/// Whatever was called before, a call that is neither a spawn nor the making of a tick or a run makes no room, of anything that
-/// memory is taken for: places for futures, tasks, rooms and numbers of sleepers, own queues of runs.
+/// Whatever was called before, a call that is neither a spawn nor the making of a tick or a run leaves no more than there was of
+/// all that memory is taken for: futures and places for them, cells of tasks, rooms and numbers of sleepers, own queues of runs.
 pub fn only_spawns_ticks_and_runs_make_room<F, T, X>()
     ensures { (limit : ℕ) (kind : Kind) (calls : List (Call F T X)) (first last : Solo F T X) → IsNew limit kind first
         → Course calls first last → (call : Call F T X) (next : Solo F T X) → Does call last next → may_take_memory call ≡ false

@@ -23,3 +23,6 @@ pub mod CellFrames
 pub mod Given
 pub mod Turning
 pub mod Looks
+pub mod RoomParts
+pub mod RoomFrames
+pub mod RoomCourses

@@ -5,3 +5,4 @@ pub mod Weights
 pub mod Queueing
 pub mod Outputs
 pub mod Looks
+pub mod Rooms

@@ -1,5 +1,5 @@
 //! Laws of every list of calls on an executor of one owner.
-ghost use Rattle.std.specs.Prelude.{ℕ, List, Ok, Err};
+ghost use Rattle.std.specs.Prelude.{◌≡◌, ℕ, List, Ok, Err, false};
 ghost use Rattle.executor_parts.specs.declared.mark.Mark.{Mark};
 ghost use Rattle.solo.specs.Solo.{IsNew, Spawns};
 ghost use Rattle.solo.specs.declared.names.Kind.{Kind};
@@ -7,11 +7,12 @@ ghost use Rattle.solo.specs.declared.names.Task.{Task};
 ghost use Rattle.solo.specs.declared.owed.SpawnError.{SpawnError};
 ghost use Rattle.solo.specs.declared.owed.Spawned.{Spawned};
 ghost use Rattle.solo.specs.declared.solo.Solo.{Solo};
-ghost use Rattle.solo_laws.specs.Calls.{Call, Course};
+ghost use Rattle.solo_laws.specs.Calls.{Call, Does, Course};
 ghost use Rattle.solo_laws.specs.Futures.{ComesBack, IsNumbered, NoneIsLost};
 ghost use Rattle.solo_laws.specs.Looks.{OneOfEightIsPlain, TakesByTurn, looks_of};
 ghost use Rattle.solo_laws.specs.Outputs.{OutputsBalance};
 ghost use Rattle.solo_laws.specs.Queueing.{StandsOnce};
+ghost use Rattle.solo_laws.specs.Rooms.{HasPlacesForAll, MakesNoRoom, may_take_memory};
 ghost use Rattle.solo_laws.specs.Sleeping.{SomeoneIsTold};
 ghost use Rattle.solo_laws.specs.Weights.{Balances};
 
@@ -80,4 +81,19 @@ pub fn a_task_stands_in_one_queue<F, T, X>()
 pub fn an_output_is_given_or_dropped_once<F, T, X>()
     ensures { (weigh : T → ℕ) (limit : ℕ) (kind : Kind) (calls : List (Call F T X)) (first last : Solo F T X)
         → IsNew limit kind first → (does : Course calls first last) → OutputsBalance weigh calls first last does }
+{}
+
+/// Whatever was called before, a call that is neither a spawn nor the making of a tick or a run leaves no more than there was of
+/// all that memory is taken for: futures and places for them, cells of tasks, rooms and numbers of sleepers, own queues of runs.
+pub fn only_spawns_ticks_and_runs_make_room<F, T, X>()
+    ensures { (limit : ℕ) (kind : Kind) (calls : List (Call F T X)) (first last : Solo F T X) → IsNew limit kind first
+        → Course calls first last → (call : Call F T X) (next : Solo F T X) → Does call last next → may_take_memory call ≡ false
+        → MakesNoRoom last next }
+{}
+
+/// Whatever is called, nothing holds more than it has places for: table and queues at most as many as the limit with which the
+/// executor was made, an own queue of a run at most 512, and no more sleep, or have left a waker, than there are rooms.
+pub fn nothing_outgrows_its_places<F, T, X>()
+    ensures { (limit : ℕ) (kind : Kind) (calls : List (Call F T X)) (first last : Solo F T X) → IsNew limit kind first
+        → Course calls first last → HasPlacesForAll limit last }
 {}

@@ -38,21 +38,26 @@ module _ {T A : Type 0} where
       is
 
 module _ {T X : Type 0} (g : Kept T X → Kept T X) (h : AbstractTask T (SoloWaker X) → AbstractTask T (SoloWaker X)) where
-  here_is : ((v : Kept T X) → g v ≡ with_task v (h v.task)) → ((t : AbstractTask T (SoloWaker X)) → IsOver t → IsOver (told (h t)))
-      → (o : Option (Kept T X)) (x : Future T (SoloWaker X)) (t : AbstractTask T (SoloWaker X)) → t ≡ x.task → TaskIs o (Some x)
+  here_is : ((t : AbstractTask T (SoloWaker X)) → IsOver t → IsOver (told (h t))) → (o : Option (Kept T X))
+      → ((v : Kept T X) → o ≡ Some v → g v ≡ with_task v (h v.task)) → (x : Future T (SoloWaker X)) (t : AbstractTask T (SoloWaker X)) → t ≡ x.task → TaskIs o (Some x)
       → TaskIs (changed_found g o) (Some (record x { task = told (h t) }))
-  here_is goes over None x t same is = over t (subst IsOver (sym same) is)
-  here_is goes over (Some v) x t same is =
-      (ap (λ (w : Kept T X). w.task) (goes v) ∙ ap (λ t. told (h t)) (is.0 ∙ sym same), ap (λ (w : Kept T X). w.metadata) (goes v) ∙ is.1)
+  here_is over None goes x t same is = over t (subst IsOver (sym same) is)
+  here_is over (Some v) goes x t same is =
+      (ap (λ (w : Kept T X). w.task) (goes v refl) ∙ ap (λ t. told (h t)) (is.0 ∙ sym same),
+      ap (λ (w : Kept T X). w.metadata) (goes v refl) ∙ is.1)
 
 module _ {F T X : Type 0} (name : ℕ → Task) where
   module _ (g : Kept T X → Kept T X) (h : AbstractTask T (SoloWaker X) → AbstractTask T (SoloWaker X))
-      (goes : (v : Kept T X) → g v ≡ with_task v (h v.task)) (over : (t : AbstractTask T (SoloWaker X)) → IsOver t → IsOver (told (h t))) where
-    tasks_by : (s : Solo F T X) (p : Plain T (SoloWaker X)) → Follows name s p → (f : ℕ) (x : Future T (SoloWaker X)) (b : Bool) (j : ℕ)
+      (over : (t : AbstractTask T (SoloWaker X)) → IsOver t → IsOver (told (h t))) where
+    -- the change is one of the task's state
+    abbrev pub Goes : ℕ → Solo F T X → Type 0
+    Goes f s = (v : Kept T X) → found (name f) s.cells ≡ Some v → g v ≡ with_task v (h v.task)
+
+    tasks_by : (s : Solo F T X) (p : Plain T (SoloWaker X)) → Follows name s p → (f : ℕ) → Goes f s → (x : Future T (SoloWaker X)) (b : Bool) (j : ℕ)
         → f < length p.futures → j < length p.futures → slice_get p.futures f ≡ Some x → (f == j) ≡ b
         → TaskIs (found (name j) (cells.changed g (name f) s.cells))
         (slice_get (slice_set p.futures f (record x { task = told (h (task f p)) })) j)
-    tasks_by s p r f x true j at below is same =
+    tasks_by s p r f goes x true j at below is same =
         let one : f ≡ j = same_number f j same in
         subst
         (λ j. TaskIs (found (name j) (cells.changed g (name f) s.cells))
@@ -62,9 +67,9 @@ module _ {F T X : Type 0} (name : ℕ → Task) where
         (sym (set_same p.futures f (record x { task = told (h (task f p)) }) x is))
         (subst (λ o. TaskIs o (Some (record x { task = told (h (task f p)) })))
         (sym (found_here g (name f) s.cells))
-        (here_is g h goes over (found (name f) s.cells) x (task f p) (task_is f p x is)
+        (here_is g h over (found (name f) s.cells) goes x (task f p) (task_is f p x is)
         (subst (λ o. TaskIs (found (name f) s.cells) o) is (r.tasks f at)))))
-    tasks_by s p r f x false j at below is same =
+    tasks_by s p r f goes x false j at below is same =
         let apart : ((name f).number == (name j).number) ≡ false =
         ap (λ n. n == (name j).number) (r.numbered f at) ∙ (ap (λ n. f == n) (r.numbered j below) ∙ same) in
         subst (λ o. TaskIs (found (name j) (cells.changed g (name f) s.cells)) o)
@@ -74,16 +79,16 @@ module _ {F T X : Type 0} (name : ℕ → Task) where
         (r.tasks j below))
 
     -- the task of a future is changed in both
-    pub turned : (f : ℕ) (s : Solo F T X) (p : Plain T (SoloWaker X)) → f < length p.futures → Follows name s p
+    pub turned : (f : ℕ) (s : Solo F T X) (p : Plain T (SoloWaker X)) → f < length p.futures → Goes f s → Follows name s p
         → Follows name (turns.turned g (name f) s) (put f (h (task f p)) p)
-    turned f s p at r =
+    turned f s p at goes r =
         let x = get_below p.futures f at in
         let now : List (Future T (SoloWaker X)) = slice_set p.futures f (record x.0 { task = told (h (task f p)) }) in
         let long : length now ≡ length p.futures = length_set p.futures f (record x.0 { task = told (h (task f p)) }) in
         subst (Follows name (turns.turned g (name f) s)) (sym (put_is f (h (task f p)) p x.0 x.1))
         (record {
           numbered = λ j below. r.numbered j (subst (λ n. j < n) long below);
-          tasks = λ j below. tasks_by s p r f x.0 (f == j) j at (subst (λ n. j < n) long below) x.1 refl;
+          tasks = λ j below. tasks_by s p r f goes x.0 (f == j) j at (subst (λ n. j < n) long below) x.1 refl;
           lines = r.lines;
           wakers = r.wakers;
           count = r.count;

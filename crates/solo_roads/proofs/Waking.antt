@@ -1,7 +1,8 @@
--- A wake of the executor is one of the plain scheduler, where the queue has a place and the sleepers' wakers are outside.
-use Rattle.std.proofs.Common.{◌≡◌, ℕ, ◌<◌, ◌≤◌, Bool, true, false, List, [], length, Option, Some, None, slice_get, slice_set}
-use Rattle.std.proofs.Common.{is_some, cond, if◌then◌else◌, refl, sym, ap, subst, ◌∙◌, arith}
-use Rattle.std.proofs.lemmas.Option.{slice_get_past, slice_get_within}
+-- A change of a task that queues it is one of the plain scheduler: a wake, a cancel, a release of a waker. Where the queue has a
+-- place, and whoever fell asleep last has an outside waker.
+use Rattle.std.proofs.Common.{◌≡◌, ℕ, ◌<◌, ◌≤◌, ◌-◌, ◌&&◌, ◌||◌, nat_lt, Bool, true, false, List, [], length, Option, Some, None, slice_get}
+use Rattle.std.proofs.Common.{slice_set, is_some, cond, if◌then◌else◌, refl, sym, ap, subst, ◌∙◌, arith}
+use Rattle.std.proofs.lemmas.Option.{slice_get_past}
 use Rattle.executor_parts.specs.declared.mark.Mark.TheVariants.{Plain as PlainMark}
 use Rattle.task_moves.specs.AbstractTask as abstract
 use Rattle.task_moves.specs.AbstractTask.{AbstractTask, Phase, Finished}
@@ -15,48 +16,59 @@ use Rattle.solo.specs.Solo as solo
 use Rattle.solo.specs.Turns as turns
 use Rattle.plain_scheduler.specs.State.{Future, Lying, Choice, Plain}
 use Rattle.plain_scheduler.specs.Lists.{on}
-use Rattle.plain_scheduler.specs.Moves.{put, task, mark, appended, tell, wake}
+use Rattle.plain_scheduler.specs.Moves.{put, task, mark, appended, tell, becomes, wake}
 use Rattle.solo_roads.specs.Road.{TaskIs, IsOver, Follows, wakes}
 use Rattle.solo_roads.proofs.Lists.{get_below, length_set}
 use Rattle.solo_roads.proofs.Cells.{found, of_found, asks_found, changed_found, found_here}
-use Rattle.solo_roads.proofs.Changing.{task_is, mark_is, turned, lined}
+use Rattle.solo_roads.proofs.Changing.{task_is, mark_is, turned, lined, Goes}
 use Rattle.solo_roads.proofs.Telling.{told, IsOutside}
 
 module _ {T A : Type 0} where
-  -- a wake of a task that is over does nothing
-  over_by : (closed : Bool) (t : AbstractTask T A) → (if closed then t else abstract.wake_open Finished t) ≡ t
-  over_by true t = refl
-  over_by false t = refl
-
-  over_wake : (t : AbstractTask T A) → IsOver t → abstract.wake t ≡ t
-  over_wake t is = ap (λ p. if t.closed then t else abstract.wake_open p t) is.phase ∙ over_by t.closed t
-
-  none_told : (t : AbstractTask T A) → is_some (info_of t t) ≡ false
+  pub none_told : (t : AbstractTask T A) → is_some (info_of t t) ≡ false
   none_told t = ap (λ (o : Option Bool). is_some (info_from o)) (slice_get_past t.infos (length t.infos) (omega arith))
 
-  over_told : (t : AbstractTask T A) → IsOver t → IsOver (told_of (abstract.wake t))
-  over_told t is = subst (λ u. IsOver (told_of u)) (sym (over_wake t is)) (record {
+  pub told_over : (t : AbstractTask T A) → IsOver t → IsOver (told_of t)
+  told_over t is = record {
     phase = is.phase;
     handle = is.handle;
     wakers = is.wakers;
     output = is.output;
     awaiter = is.awaiter;
-  })
+  }
 
-  -- whether a wake queues it
-  abbrev pub wake_asks : AbstractTask T A → Bool
-  wake_asks t = is_some (info_of t (abstract.wake t))
+  -- a wake or a cancel of a task that is over does nothing
+  over_by : (closed : Bool) (t : AbstractTask T A) → (if closed then t else abstract.wake_open Finished t) ≡ t
+  over_by true t = refl
+  over_by false t = refl
 
-  over_asks : (t : AbstractTask T A) → IsOver t → wake_asks t ≡ false
-  over_asks t is = ap (λ u. is_some (info_of t u)) (over_wake t is) ∙ none_told t
+  pub over_wake : (t : AbstractTask T A) → IsOver t → abstract.wake t ≡ t
+  over_wake t is = ap (λ p. if t.closed then t else abstract.wake_open p t) is.phase ∙ over_by t.closed t
 
-module _ {T X : Type 0} where
-  -- a task that is asked to be queued is there
-  there : (o : Option (Kept T X)) → of_found cells.wake_queues false o ≡ true → (v : Kept T X) × (o ≡ Some v)
-  there None is = absurd cc
-  there (Some v) is = (v, refl)
+  abbrev pub cancel : AbstractTask T A → AbstractTask T A
+  cancel t = (abstract.cancel t).task
 
-module _ {T A : Type 0} where
+  cancel_by : (closed : Bool) (t : AbstractTask T A)
+      → (if closed || abstract.is_over Finished then abstract.left t
+      else record { task = record (abstract.close t) { awaiter = None }; called = t.awaiter; dropped = None; let_go = None }).task ≡ t
+  cancel_by true t = refl
+  cancel_by false t = refl
+
+  pub over_cancel : (t : AbstractTask T A) → IsOver t → cancel t ≡ t
+  over_cancel t is =
+      ap
+      (λ p. (if t.closed || abstract.is_over p then abstract.left t
+      else record { task = record (abstract.close t) { awaiter = None }; called = t.awaiter; dropped = None; let_go = None }).task)
+      is.phase
+      ∙ cancel_by t.closed t
+
+  -- whether a change queues it
+  abbrev pub queues : (AbstractTask T A → AbstractTask T A) → AbstractTask T A → Bool
+  queues h t = is_some (info_of t (h t))
+
+  pub stays : (h : AbstractTask T A → AbstractTask T A) → ((t : AbstractTask T A) → IsOver t → h t ≡ t) → (t : AbstractTask T A)
+      → IsOver t → IsOver (told_of (h t))
+  stays h over t is = subst (λ u. IsOver (told_of u)) (sym (over t is)) (told_over t is)
+
   put_lying : (f : ℕ) (new : AbstractTask T A) (p : Plain T A) → (put f new p).lying ≡ p.lying
   put_lying f new p = by (slice_get p.futures f)
     where
@@ -65,8 +77,7 @@ module _ {T A : Type 0} where
       by None = refl
       by (Some x) = refl
 
-  put_long : (f : ℕ) (new : AbstractTask T A) (p : Plain T A)
-      → length (put f new p).futures ≡ length p.futures
+  put_long : (f : ℕ) (new : AbstractTask T A) (p : Plain T A) → length (put f new p).futures ≡ length p.futures
   put_long f new p = by (slice_get p.futures f)
     where
       by : (o : Option (Future T A))
@@ -75,21 +86,13 @@ module _ {T A : Type 0} where
       by None = refl
       by (Some x) = length_set p.futures f (record x { task = told_of new })
 
-module _ {F T X : Type 0} (name : ℕ → Task) where
-  -- what is asked of the task of a name is asked of the future's
-  asks : (f : ℕ) (s : Solo F T X) (p : Plain T (SoloWaker X)) → f < length p.futures → Follows name s p
-      → asked cells.wake_queues false (name f) s.cells ≡ wake_asks (task f p)
-  asks f s p at r =
-      let x = get_below p.futures f at in
-      asks_found cells.wake_queues false (name f) s.cells
-      ∙ (by (found (name f) s.cells) x.0 (subst (TaskIs (found (name f) s.cells)) x.1 (r.tasks f at))
-      ∙ sym (ap wake_asks (task_is f p x.0 x.1)))
-    where
-      by : (o : Option (Kept T X)) (x : Future T (SoloWaker X)) → TaskIs o (Some x)
-          → of_found cells.wake_queues false o ≡ wake_asks x.task
-      by None x is = sym (over_asks x.task is)
-      by (Some v) x is = ap wake_asks is.0
+module _ {T X : Type 0} where
+  -- a task that is asked to be queued is there
+  there : (q : Kept T X → Bool) (o : Option (Kept T X)) → of_found q false o ≡ true → (v : Kept T X) × (o ≡ Some v)
+  there q None is = absurd cc
+  there q (Some v) is = (v, refl)
 
+module _ {F T X : Type 0} (name : ℕ → Task) where
   -- a task that is there has its future's mark
   marks : (f : ℕ) (s : Solo F T X) (p : Plain T (SoloWaker X)) (v : Kept T X) → f < length p.futures → Follows name s p
       → found (name f) s.cells ≡ Some v → turns.mark_of (name f) s ≡ mark f p
@@ -109,38 +112,88 @@ module _ {F T X : Type 0} (name : ℕ → Task) where
       (sym place)
       (told name c (turns.lined (name f) s) (appended f p) many (lined name f s p place same r) outside)
 
-  -- a wake of a future's task
-  pub woken : (c : Choice) (f : ℕ) (s : Solo F T X) (p : Plain T (SoloWaker X)) → f < length p.futures
-      → turns.takes (name f) (turns.turned cells.woken (name f) s) ≡ true → length p.lying ≤ c.tells → Follows name s p
-      → IsOutside s → Follows name (solo.woken (name f) s) (wake wakes (tell wakes c) f p)
-  woken c f s p at place many r outside = by (asked cells.wake_queues false (name f) s.cells) refl (asks f s p at r)
+  -- a change g of a task, which is the change h of its state, and asks by q whether it is queued
+  module _ (g : Kept T X → Kept T X) (q : Kept T X → Bool) (h : AbstractTask T (SoloWaker X) → AbstractTask T (SoloWaker X))
+      (over : (t : AbstractTask T (SoloWaker X)) → IsOver t → h t ≡ t) where
+    -- it asks as the state says
+    abbrev pub Asks : ℕ → Solo F T X → Type 0
+    Asks f s = (v : Kept T X) → found (name f) s.cells ≡ Some v → q v ≡ queues h v.task
+
+    asks : (f : ℕ) (s : Solo F T X) (p : Plain T (SoloWaker X)) → f < length p.futures → Asks f s → Follows name s p
+        → asked q false (name f) s.cells ≡ queues h (task f p)
+    asks f s p at says r =
+        let x = get_below p.futures f at in
+        asks_found q false (name f) s.cells
+        ∙ (by (found (name f) s.cells) refl x.0 (subst (TaskIs (found (name f) s.cells)) x.1 (r.tasks f at))
+        ∙ sym (ap (queues h) (task_is f p x.0 x.1)))
+      where
+        by : (o : Option (Kept T X)) → found (name f) s.cells ≡ o → (x : Future T (SoloWaker X)) → TaskIs o (Some x)
+            → of_found q false o ≡ queues h x.task
+        by None here x is = sym (ap (λ u. is_some (info_of x.task u)) (over x.task is) ∙ none_told x.task)
+        by (Some v) here x is = says v here ∙ ap (queues h) is.0
+
+    pub becoming : (c : Choice) (f : ℕ) (s : Solo F T X) (p : Plain T (SoloWaker X)) → f < length p.futures
+        → Goes name g h (stays h over) f s → Asks f s → turns.takes (name f) (turns.turned g (name f) s) ≡ true → length p.lying ≤ c.tells
+        → Follows name s p → IsOutside s
+        → Follows name (turns.scheduled_if (asked q false (name f) s.cells) (name f) (turns.turned g (name f) s))
+        (becomes wakes (tell wakes c) f (h (task f p)) p)
+    becoming c f s p at goes says place many r outside =
+        by (asked q false (name f) s.cells) refl (asks f s p at says r)
+      where
+
+        next : Follows name (turns.turned g (name f) s) (put f (h (task f p)) p)
+        next = turned name g h (stays h over) f s p at goes r
+
+        by : (b : Bool) → asked q false (name f) s.cells ≡ b → asked q false (name f) s.cells ≡ queues h (task f p)
+            → Follows name (turns.scheduled_if (asked q false (name f) s.cells) (name f) (turns.turned g (name f) s))
+            (becomes wakes (tell wakes c) f (h (task f p)) p)
+        by false is same =
+            subst (λ b. Follows name (turns.scheduled_if b (name f) (turns.turned g (name f) s))
+            (becomes wakes (tell wakes c) f (h (task f p)) p)) (sym is)
+            (subst (λ b. Follows name (turns.turned g (name f) s)
+            (if b then tell wakes c (appended f (put f (h (task f p)) p)) else put f (h (task f p)) p))
+            (sym (sym same ∙ is))
+            next)
+        by true is same =
+            let v = there q (found (name f) s.cells) (sym (asks_found q false (name f) s.cells) ∙ is) in
+            let here : found (name f) (cells.changed g (name f) s.cells) ≡ Some (g v.0) =
+            found_here g (name f) s.cells ∙ ap (changed_found g) v.1 in
+            let below : f < length (put f (h (task f p)) p).futures =
+            subst (λ n. f < n) (sym (put_long f (h (task f p)) p)) at in
+            let few : length (put f (h (task f p)) p).lying ≤ c.tells =
+            subst (λ (ls : List (Lying (SoloWaker X))). length ls ≤ c.tells) (sym (put_lying f (h (task f p)) p)) many in
+            subst (λ b. Follows name (turns.scheduled_if b (name f) (turns.turned g (name f) s))
+            (becomes wakes (tell wakes c) f (h (task f p)) p)) (sym is)
+            (subst (λ b. Follows name (turns.scheduled (name f) (turns.turned g (name f) s))
+            (if b then tell wakes c (appended f (put f (h (task f p)) p)) else put f (h (task f p)) p))
+            (sym (sym same ∙ is))
+            (scheduled c f (turns.turned g (name f) s) (put f (h (task f p)) p) place
+            (marks f (turns.turned g (name f) s) (put f (h (task f p)) p) (g v.0) below next here) few next outside))
+
+  -- whether it is asked for an answer that is there
+  is_there : {B : Type 0} (q : Kept T X → Option B) (t : Task) (s : Solo F T X)
+      → asked (λ v. is_some (q v)) false t s.cells ≡ is_some (asked q None t s.cells)
+  is_there q t s =
+      asks_found (λ v. is_some (q v)) false t s.cells ∙ (by (found t s.cells) ∙ sym (ap is_some (asks_found q None t s.cells)))
     where
-      now : Plain T (SoloWaker X)
-      now = put f (abstract.wake (task f p)) p
+      by : (o : Option (Kept T X)) → of_found (λ v. is_some (q v)) false o ≡ is_some (of_found q None o)
+      by None = refl
+      by (Some v) = refl
 
-      goes : Follows name (turns.turned cells.woken (name f) s) now
-      goes = turned name cells.woken abstract.wake (λ v. refl) over_told f s p at r
+  module _ (c : Choice) (f : ℕ) (s : Solo F T X) (p : Plain T (SoloWaker X)) (at : f < length p.futures)
+      (many : length p.lying ≤ c.tells) (r : Follows name s p) (outside : IsOutside s) where
+    -- a wake
+    pub woken : turns.takes (name f) (turns.turned cells.woken (name f) s) ≡ true
+        → Follows name (solo.woken (name f) s) (wake wakes (tell wakes c) f p)
+    woken place =
+        becoming cells.woken cells.wake_queues abstract.wake over_wake c f s p at (λ v here. refl) (λ v here. refl) place many r outside
 
-      by : (b : Bool) → asked cells.wake_queues false (name f) s.cells ≡ b
-          → asked cells.wake_queues false (name f) s.cells ≡ wake_asks (task f p)
-          → Follows name (solo.woken (name f) s) (wake wakes (tell wakes c) f p)
-      by false is same =
-          subst (λ b. Follows name (turns.scheduled_if b (name f) (turns.turned cells.woken (name f) s))
-          (wake wakes (tell wakes c) f p)) (sym is)
-          (subst (λ b. Follows name (turns.turned cells.woken (name f) s) (if b then tell wakes c (appended f now) else now))
-          (sym (sym same ∙ is))
-          goes)
-      by true is same =
-          let v = there (found (name f) s.cells) (sym (asks_found cells.wake_queues false (name f) s.cells) ∙ is) in
-          let here : found (name f) (cells.changed cells.woken (name f) s.cells) ≡ Some (cells.woken v.0) =
-          found_here cells.woken (name f) s.cells ∙ ap (changed_found cells.woken) v.1 in
-          let below : f < length now.futures = subst (λ n. f < n) (sym (put_long f (abstract.wake (task f p)) p)) at in
-          let few : length now.lying ≤ c.tells =
-          subst (λ (ls : List (Lying (SoloWaker X))). length ls ≤ c.tells) (sym (put_lying f (abstract.wake (task f p)) p)) many in
-          subst (λ b. Follows name (turns.scheduled_if b (name f) (turns.turned cells.woken (name f) s))
-          (wake wakes (tell wakes c) f p)) (sym is)
-          (subst (λ b. Follows name (turns.scheduled (name f) (turns.turned cells.woken (name f) s))
-          (if b then tell wakes c (appended f now) else now))
-          (sym (sym same ∙ is))
-          (scheduled c f (turns.turned cells.woken (name f) s) now place
-          (marks f (turns.turned cells.woken (name f) s) now (cells.woken v.0) below goes here) few goes outside))
+    -- a cancel; who awaits the task is called by the executor's owner
+    pub cancelled : turns.takes (name f) (turns.turned cells.cancelled (name f) s) ≡ true
+        → Follows name (solo.cancelled (name f) s) (becomes wakes (tell wakes c) f (cancel (task f p)) p)
+    cancelled place =
+        subst (λ b. Follows name (turns.scheduled_if b (name f) (turns.turned cells.cancelled (name f) s))
+        (becomes wakes (tell wakes c) f (cancel (task f p)) p))
+        (is_there cells.cancel_queues (name f) s)
+        (becoming cells.cancelled (λ v. is_some (cells.cancel_queues v)) cancel over_cancel c f s p at
+        (λ v here. refl) (λ v here. refl) place many r outside)

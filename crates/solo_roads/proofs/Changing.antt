@@ -30,7 +30,7 @@ module _ {T A : Type 0} where
   pub mark_is : (f : ℕ) (p : Plain T A) (x : Future T A) → slice_get p.futures f ≡ Some x → mark f p ≡ x.mark
   mark_is f p x is = ap (λ (o : Option (Future T A)). or o (λ future. future.mark) PlainMark) is
 
-  put_is : (f : ℕ) (new : AbstractTask T A) (p : Plain T A) (x : Future T A) → slice_get p.futures f ≡ Some x
+  pub put_is : (f : ℕ) (new : AbstractTask T A) (p : Plain T A) (x : Future T A) → slice_get p.futures f ≡ Some x
       → put f new p ≡ record p { futures = slice_set p.futures f (record x { task = told new }) }
   put_is f new p x is =
       ap
@@ -39,19 +39,19 @@ module _ {T A : Type 0} where
 
 module _ {T X : Type 0} (g : Kept T X → Kept T X) (h : AbstractTask T (SoloWaker X) → AbstractTask T (SoloWaker X)) where
   here_is : ((t : AbstractTask T (SoloWaker X)) → IsOver t → IsOver (told (h t))) → (o : Option (Kept T X))
-      → ((v : Kept T X) → o ≡ Some v → g v ≡ with_task v (h v.task)) → (x : Future T (SoloWaker X)) (t : AbstractTask T (SoloWaker X)) → t ≡ x.task → TaskIs o (Some x)
+      → ((v : Kept T X) → o ≡ Some v → ((g v).task ≡ told (h v.task)) × ((g v).metadata ≡ v.metadata)) → (x : Future T (SoloWaker X)) (t : AbstractTask T (SoloWaker X)) → t ≡ x.task → TaskIs o (Some x)
       → TaskIs (changed_found g o) (Some (record x { task = told (h t) }))
   here_is over None goes x t same is = over t (subst IsOver (sym same) is)
   here_is over (Some v) goes x t same is =
-      (ap (λ (w : Kept T X). w.task) (goes v refl) ∙ ap (λ t. told (h t)) (is.0 ∙ sym same),
-      ap (λ (w : Kept T X). w.metadata) (goes v refl) ∙ is.1)
+      ((goes v refl).0 ∙ ap (λ t. told (h t)) (is.0 ∙ sym same), (goes v refl).1 ∙ is.1, refl)
 
 module _ {F T X : Type 0} (name : ℕ → Task) where
   module _ (g : Kept T X → Kept T X) (h : AbstractTask T (SoloWaker X) → AbstractTask T (SoloWaker X))
       (over : (t : AbstractTask T (SoloWaker X)) → IsOver t → IsOver (told (h t))) where
     -- the change is one of the task's state
     abbrev pub Goes : ℕ → Solo F T X → Type 0
-    Goes f s = (v : Kept T X) → found (name f) s.cells ≡ Some v → g v ≡ with_task v (h v.task)
+    Goes f s =
+        (v : Kept T X) → found (name f) s.cells ≡ Some v → ((g v).task ≡ told (h v.task)) × ((g v).metadata ≡ v.metadata)
 
     tasks_by : (s : Solo F T X) (p : Plain T (SoloWaker X)) → Follows name s p → (f : ℕ) → Goes f s → (x : Future T (SoloWaker X)) (b : Bool) (j : ℕ)
         → f < length p.futures → j < length p.futures → slice_get p.futures f ≡ Some x → (f == j) ≡ b

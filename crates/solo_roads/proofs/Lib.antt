@@ -6,3 +6,4 @@ pub mod Changing
 pub mod Telling
 pub mod Waking
 pub mod Taking
+pub mod Trying

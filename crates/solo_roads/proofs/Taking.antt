@@ -14,7 +14,7 @@ use Rattle.solo_roads.specs.Road.{named, name_of as named_of, Lined as LinedBy, 
 use Rattle.solo_roads.proofs.Lines.{find_first, without_first, without_other, any_none}
 
 module _ {A : Type 0} (test : A → Bool) where
-  found_any : (xs : List A) → any test xs ≡ is_some (find test xs)
+  pub found_any : (xs : List A) → any test xs ≡ is_some (find test xs)
   found_any [] = refl
   found_any (x ∷ xs) = by (test x) (found_any xs)
     where
@@ -22,7 +22,7 @@ module _ {A : Type 0} (test : A → Bool) where
       by true is = refl
       by false is = is
 
-  without_none : (xs : List A) → any test xs ≡ false → without test xs ≡ xs
+  pub without_none : (xs : List A) → any test xs ≡ false → without test xs ≡ xs
   without_none [] is = refl
   without_none (x ∷ xs) is = by (test x) is (without_none xs)
     where

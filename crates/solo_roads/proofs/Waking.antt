@@ -30,6 +30,7 @@ module _ {T A : Type 0} where
   pub told_over : (t : AbstractTask T A) → IsOver t → IsOver (told_of t)
   told_over t is = record {
     phase = is.phase;
+    closed = is.closed;
     handle = is.handle;
     wakers = is.wakers;
     output = is.output;
@@ -186,7 +187,7 @@ module _ {F T X : Type 0} (name : ℕ → Task) where
     pub woken : turns.takes (name f) (turns.turned cells.woken (name f) s) ≡ true
         → Follows name (solo.woken (name f) s) (wake wakes (tell wakes c) f p)
     woken place =
-        becoming cells.woken cells.wake_queues abstract.wake over_wake c f s p at (λ v here. refl) (λ v here. refl) place many r outside
+        becoming cells.woken cells.wake_queues abstract.wake over_wake c f s p at (λ v here. (refl, refl)) (λ v here. refl) place many r outside
 
     -- a cancel; who awaits the task is called by the executor's owner
     pub cancelled : turns.takes (name f) (turns.turned cells.cancelled (name f) s) ≡ true
@@ -196,4 +197,4 @@ module _ {F T X : Type 0} (name : ℕ → Task) where
         (becomes wakes (tell wakes c) f (cancel (task f p)) p))
         (is_there cells.cancel_queues (name f) s)
         (becoming cells.cancelled (λ v. is_some (cells.cancel_queues v)) cancel over_cancel c f s p at
-        (λ v here. refl) (λ v here. refl) place many r outside)
+        (λ v here. (refl, refl)) (λ v here. refl) place many r outside)

@@ -38,15 +38,16 @@ module _ {A : Type 0} where
 -- a task that is over, and that nobody can reach
 pub record IsOver {T A : Type 0} (t : AbstractTask T A) : Type 0 where
   pub phase : t.phase ≡ abstract.Phase.Finished
+  pub closed : t.closed ≡ true
   pub handle : t.handle ≡ false
   pub wakers : t.wakers ≡ 0
   pub output : t.output ≡ None
   pub awaiter : t.awaiter ≡ None
 
 module _ {T X : Type 0} where
-  -- the task of a name is that of the future; where it is gone, that is over
+  -- the task of a name is that of the future, and was told of each queueing; where it is gone, that is over
   abbrev pub TaskIs : Option (Kept T X) → Option (Future T (SoloWaker X)) → Type 0
-  TaskIs (Some v) (Some f) = (v.task ≡ f.task) × (v.metadata ≡ f.mark)
+  TaskIs (Some v) (Some f) = (v.task ≡ f.task) × (v.metadata ≡ f.mark) × (f.task.infos ≡ [])
   TaskIs None (Some f) = IsOver f.task
   TaskIs _ None = ⊥
 

@@ -1,4 +1,4 @@
--- The plain scheduler's state: one list of due futures, the tasks by number, and who lies. `T` is the type of outputs and `A` that of
+-- The plain scheduler's state: one list of due futures, the tasks by number, and who lies. `T` is the type of outputs, `A` that of
 -- wakers.
 use Rattle.std.specs.Prelude.{ℕ, Bool, List, Option}
 use Rattle.executor_parts.specs.declared.mark.Mark.{Mark}

@@ -1,20 +1,13 @@
 -- The tasks of names are those of futures, as one of them is changed.
-use Rattle.std.proofs.Common.{◌≡◌, ◌≢◌, ℕ, ◌<◌, ◌-◌, ◌==◌, ◌&&◌, Bool, true, false, List, length, Option, Some, None, slice_get}
-use Rattle.std.proofs.Common.{slice_set, IsSome, refl, sym, ap, subst, ◌∙◌, arith}
+use Rattle.std.proofs.Common.{◌≡◌, ◌≢◌, ℕ, ◌==◌, Bool, true, false, Option, Some, None}
+use Rattle.std.proofs.Common.{IsSome, refl, sym, ap, subst, ◌∙◌, arith}
 use Rattle.std.proofs.lemmas.Bool.Decides.{nat_tests}
 use Rattle.slab.specs.Slab.{Slab, get, with_value, Updates}
 use Rattle.slab.proofs.SlabLemmas.{Updates-with_value}
-use Rattle.task_moves.specs.AbstractTask.{AbstractTask}
-use Rattle.task_moves.specs.LocalTask.{with_task, told}
 use Rattle.solo.specs.declared.names.Task.{Task}
-use Rattle.solo.specs.declared.names.SoloWaker.{SoloWaker}
 use Rattle.solo.specs.declared.cells.Cell.{Cell}
 use Rattle.solo.specs.declared.cells.Cells.{Cells}
 use Rattle.solo.specs.Cells.{Kept, choose, changed_by, changed, asked_by, asked}
-use Rattle.plain_scheduler.specs.State.{Future, Plain}
-use Rattle.plain_scheduler.specs.Moves.{put, task}
-use Rattle.solo_roads.specs.Road.{TaskIs, IsOver}
-use Rattle.solo_roads.proofs.Lists.{set_same, set_other}
 
 pub same_number : (a b : ℕ) → (a == b) ≡ true → a ≡ b
 same_number a b is = grind (arith, nat_tests)

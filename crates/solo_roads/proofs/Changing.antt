@@ -1,25 +1,21 @@
 -- The executor goes on standing where the plain scheduler does, as a task is changed and as one is queued.
 use Rattle.std.proofs.Common.{◌≡◌, ℕ, ◌<◌, ◌==◌, Bool, true, false, List, [], ◌∷◌, ◌++◌, length, Option, Some, None, slice_get}
-use Rattle.std.proofs.Common.{slice_set, is_some, if◌then◌else◌, refl, sym, ap, subst, ◌∙◌, arith}
-use Rattle.std.proofs.lemmas.Bool.Decides.{nat_tests}
-use Rattle.executor_parts.specs.declared.mark.Mark.{Mark}
+use Rattle.std.proofs.Common.{slice_set, refl, sym, ap, subst, ◌∙◌}
 use Rattle.executor_parts.specs.declared.mark.Mark.TheVariants.{Plain as PlainMark}
 use Rattle.task_moves.specs.AbstractTask.{AbstractTask}
-use Rattle.task_moves.specs.LocalTask.{with_task, told, info_of}
+use Rattle.task_moves.specs.LocalTask.{told}
 use Rattle.solo.specs.declared.names.Task.{Task}
 use Rattle.solo.specs.declared.names.SoloWaker.{SoloWaker}
 use Rattle.solo.specs.declared.solo.Solo.{Solo}
 use Rattle.solo.specs.Cells.{Kept, choose, asked}
 use Rattle.solo.specs.Cells as cells
-use Rattle.solo.specs.Line.{accepts}
-use Rattle.solo.specs.Lines.{line_of}
 use Rattle.solo.specs.Turns as turns
-use Rattle.plain_scheduler.specs.State.{Due, Future, Plain}
+use Rattle.plain_scheduler.specs.State.{Future, Plain}
 use Rattle.plain_scheduler.specs.Lists.{on, or}
 use Rattle.plain_scheduler.specs.Moves.{put, task, mark, appended, no_task}
 use Rattle.solo_roads.specs.Road.{TaskIs, IsOver, Follows}
 use Rattle.solo_roads.proofs.Lists.{set_same, set_other, get_below, length_set}
-use Rattle.solo_roads.proofs.Cells.{found, changed_found, found_here, found_there, of_found, asks_found, same_number}
+use Rattle.solo_roads.proofs.Cells.{found, changed_found, found_here, found_there, same_number}
 use Rattle.solo_roads.proofs.Lines as lines
 
 module _ {T A : Type 0} where

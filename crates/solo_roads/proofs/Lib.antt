@@ -7,3 +7,4 @@ pub mod Telling
 pub mod Waking
 pub mod Taking
 pub mod Trying
+pub mod Beginning

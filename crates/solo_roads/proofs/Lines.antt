@@ -1,10 +1,9 @@
 -- What is queued is what is due without a keeper: as one comes last, and as the first is taken.
-use Rattle.std.proofs.Common.{◌≡◌, ℕ, cond, ◌&&◌, not, Bool, true, false, List, [], ◌∷◌, ◌++◌, map, filter, find, drop, Option, Some, None}
+use Rattle.std.proofs.Common.{◌≡◌, ℕ, cond, ◌&&◌, not, Bool, true, false, List, [], ◌∷◌, ◌++◌, map, filter, find, drop, Some, None}
 use Rattle.std.proofs.Common.{slice_get, append-nil, refl, sym, ap, ◌∙◌}
 use Rattle.queue_steps.specs.ClosableQueue.{ClosableQueue}
 use Rattle.executor_parts.specs.declared.mark.Mark.{Mark}
 use Rattle.executor_parts.specs.declared.mark.Mark.TheVariants.{Plain, Urgent}
-use Rattle.executor_parts.specs.Marks.{same_mark}
 use Rattle.solo.specs.declared.names.Task.{Task}
 use Rattle.solo.specs.Line.{accepts, has_place, is_spent, pushed, pushed_by}
 use Rattle.solo.specs.Lines.{LinesValue, line_of, pushed_in}

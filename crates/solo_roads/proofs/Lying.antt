@@ -1,5 +1,5 @@
 -- Who sleeps is who lies: whose waker came last is told.
-use Rattle.std.proofs.Common.{◌≡◌, ℕ, zero, suc, ◌-◌, ◌<◌, cond, not, Bool, true, false, List, [], ◌∷◌, length, take}
+use Rattle.std.proofs.Common.{◌≡◌, ℕ, zero, suc, ◌<◌, cond, not, Bool, true, false, List, [], ◌∷◌, length, take}
 use Rattle.std.proofs.Common.{Option, Some, None, slice_get, slice_set, is_some, refl, sym, ap, ◌∙◌, arith}
 use Rattle.plain_scheduler.specs.State.{Lying}
 use Rattle.plain_scheduler.specs.Lists.{any}

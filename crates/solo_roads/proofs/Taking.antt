@@ -11,7 +11,7 @@ use Rattle.plain_scheduler.specs.State.{Due}
 use Rattle.plain_scheduler.specs.Lists.{any, without}
 use Rattle.plain_scheduler.specs.Moves.{is_common, chosen}
 use Rattle.solo_roads.specs.Road.{named, name_of as named_of, Lined as LinedBy, tests, SearchesAlike}
-use Rattle.solo_roads.proofs.Lines.{find_first, without_first, without_other, any_none}
+use Rattle.solo_roads.proofs.Lines.{find_first, without_first, without_other}
 
 module _ {A : Type 0} (test : A → Bool) where
   pub found_any : (xs : List A) → any test xs ≡ is_some (find test xs)
@@ -104,26 +104,29 @@ module _ (name : ℕ → Task) where
 
       first : (d : Due) → find (is_common m) due ≡ Some d → Same (is_common m)
       first d is =
-          let it : first_of m l ≡ Some (name d.future) = first_is m l due lines ∙ ap name_of is in
-          (ap (λ o. (found_by o m (popped_from m l)).task) it ∙ sym (ap name_of is),
-          subst (λ o. Lined (taken_by o m (popped_from m l)) (without (is_common m) due)) (sym it) (popped m l due lines))
+          let it : first_of m l ≡ Some (name d.future) = first_is m l due lines ∙ ap name_of is in (
+            ap (λ o. (found_by o m (popped_from m l)).task) it ∙ sym (ap name_of is),
+            subst (λ o. Lined (taken_by o m (popped_from m l)) (without (is_common m) due)) (sym it) (popped m l due lines),
+          )
 
       second : find (is_common m) due ≡ None → Same (is_common (other m))
       second is =
           let none : any (is_common m) due ≡ false = found_any (is_common m) due ∙ ap is_some is in
           let it : first_of m l ≡ None = first_is m l due lines ∙ ap name_of is in
           let left : Lined (popped_from m l) due =
-          subst (Lined (popped_from m l)) (without_none (is_common m) due none) (popped m l due lines) in
-          (ap (λ o. (found_by o m (popped_from m l)).task) it ∙ first_is (other m) (popped_from m l) due left,
-          subst (λ o. Lined (taken_by o m (popped_from m l)) (without (is_common (other m)) due)) (sym it)
-          (popped (other m) (popped_from m l) due left))
+          subst (Lined (popped_from m l)) (without_none (is_common m) due none) (popped m l due lines) in (
+            ap (λ o. (found_by o m (popped_from m l)).task) it ∙ first_is (other m) (popped_from m l) due left,
+            subst (λ o. Lined (taken_by o m (popped_from m l)) (without (is_common (other m)) due)) (sym it)
+                (popped (other m) (popped_from m l) due left),
+          )
 
       last_by : (b : Bool) → any (is_common (other m)) due ≡ b → Same (is_common (other m)) → Same (chosen (is_common (other m) ∷ []) due)
       last_by true is same = subst (λ b. Same (λ d. cond b (is_common (other m) d) false)) (sym is) same
       last_by false is same =
-          subst (λ b. Same (λ d. cond b (is_common (other m) d) false)) (sym is)
-          (same.0 ∙ ap name_of (none_found (is_common (other m)) due is ∙ sym (nobody due)),
-          subst (Lined (taken_from m l)) (without_none (is_common (other m)) due is ∙ sym (no_one due)) same.1)
+          subst (λ b. Same (λ d. cond b (is_common (other m) d) false)) (sym is) (
+            same.0 ∙ ap name_of (none_found (is_common (other m)) due is ∙ sym (nobody due)),
+            subst (Lined (taken_from m l)) (without_none (is_common (other m)) due is ∙ sym (no_one due)) same.1,
+          )
         where
           nobody : (ds : List Due) → find (λ d. false) ds ≡ None
           nobody [] = refl

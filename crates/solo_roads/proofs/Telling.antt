@@ -1,5 +1,5 @@
 -- A sleeper that is told is the one that lay down last, and the plain scheduler tells it too.
-use Rattle.std.proofs.Common.{◌≡◌, ℕ, zero, suc, ◌+◌, ◌-◌, ◌<◌, ◌≤◌, ◌==◌, min, cond, Bool, true, false, List, [], ◌∷◌, length, map, take}
+use Rattle.std.proofs.Common.{◌≡◌, ℕ, zero, suc, ◌-◌, ◌<◌, ◌≤◌, ◌==◌, min, cond, Bool, true, false, List, [], ◌∷◌, length, map, take}
 use Rattle.std.proofs.Common.{Option, Some, None, slice_get, slice_set, refl, sym, ap, subst, ◌∙◌, arith}
 use Rattle.std.proofs.lemmas.Bool.Decides.{nat_tests}
 use Rattle.executor_parts.specs.Sleepers.{last_waker, without_last, waker_in as waker_of}
@@ -9,9 +9,10 @@ use Rattle.solo.specs.declared.names.SoloWaker.TheVariants.{Task as OfTask, Outs
 use Rattle.solo.specs.declared.solo.Solo.{Solo}
 use Rattle.solo.specs.Cells.{choose}
 use Rattle.solo.specs.Turns as turns
-use Rattle.plain_scheduler.specs.State.{Lying, Choice, Plain, Calls}
-use Rattle.plain_scheduler.specs.Lists.{any, on, or}
-use Rattle.plain_scheduler.specs.Moves.{is_called, called, tell, told_at, see}
+use Rattle.plain_scheduler.specs.State.{Lying, Choice, Plain}
+use Rattle.plain_scheduler.specs.Lists.{any, on}
+use Rattle.plain_scheduler.specs.Moves.{is_called, called, tell, told_at}
+use Rattle.solo_roads.specs.Alike.{IsOutside}
 use Rattle.solo_roads.specs.Road.{Follows, wakes, is_told, wakers_in}
 use Rattle.solo_roads.proofs.Lists.{get_below, map_take, length_set}
 use Rattle.solo_roads.proofs.Lying.{waker_at, all_waking, waking_at, called_one, last_called, one_called, its_waker_of}
@@ -63,10 +64,6 @@ module _ {T X : Type 0} (c : Choice) where
     where
       place : (tells n i : ℕ) → suc i ≡ n → n ≤ tells → min tells (n - 1) ≡ i
       place tells n i long many = omega (arith, long, many)
-
--- whoever fell asleep last has an outside waker
-abbrev pub IsOutside : {F T X : Type 0} → Solo F T X → Type 0
-IsOutside s = (t : Task) → last_waker s.sleepers.wakers ≡ Some (OfTask t) → ⊥
 
 module _ {F T X : Type 0} (name : ℕ → Task) (c : Choice) where
   calls_last : (s : Solo F T X) (p : Plain T (SoloWaker X)) (i : ℕ) (l : Lying (SoloWaker X)) (w : SoloWaker X) → Follows name s p → IsOutside s

@@ -1,6 +1,6 @@
 -- A take of the executor is a try of the plain scheduler: what a search finds leaves its queue, a sleeper is told, and its run begins.
 -- Where it is ready to be run, and whoever fell asleep last has an outside waker.
-use Rattle.std.proofs.Common.{◌≡◌, ℕ, zero, suc, ◌<◌, ◌≤◌, cond, if◌then◌else◌, Bool, true, false, List, [], ◌∷◌, ◌++◌, length, find}
+use Rattle.std.proofs.Common.{◌≡◌, ℕ, zero, suc, ◌<◌, ◌≤◌, if◌then◌else◌, Bool, true, false, List, [], ◌∷◌, ◌++◌, length, find}
 use Rattle.std.proofs.Common.{Option, Some, None, slice_get, slice_set, is_some, refl, sym, ap, subst, ◌∙◌}
 use Rattle.executor_parts.specs.declared.places.EntryPlace.{EntryPlace}
 use Rattle.task_moves.specs.AbstractTask as abstract
@@ -18,15 +18,16 @@ use Rattle.solo.specs.Lines.{mark_of_turn, searched}
 use Rattle.solo.specs.Solo as solo
 use Rattle.solo.specs.Turns as turns
 use Rattle.plain_scheduler.specs.State.{Due, Future, Choice, Plain, Try, Closed, Code, Poll, Drop as DropCode, Event, Polls, Drops}
-use Rattle.plain_scheduler.specs.Lists.{any, without, or}
+use Rattle.plain_scheduler.specs.Lists.{without, or}
 use Rattle.plain_scheduler.specs.Moves.{put, task, tell, chosen, enters, see}
 use Rattle.plain_scheduler.specs.Takes as takes
 use Rattle.solo_roads.specs.Road.{TaskIs, IsOver, Follows, Lined, tests, name_of, wakes}
+use Rattle.solo_roads.specs.Alike.{IsOutside, IsReady, TakesAlike}
 use Rattle.solo_roads.proofs.Lists.{get_below}
 use Rattle.solo_roads.proofs.Cells.{found, of_found, asks_found}
 use Rattle.solo_roads.proofs.Changing.{task_is, put_is, turned}
 use Rattle.solo_roads.proofs.Taking.{searched_alike, found_any, without_none}
-use Rattle.solo_roads.proofs.Telling.{told, IsOutside}
+use Rattle.solo_roads.proofs.Telling.{told}
 use Rattle.solo_roads.proofs.Waking.{stays}
 
 set_same_one : {B : Type 0} (xs : List B) (i : ℕ) (x : B) → slice_get xs i ≡ Some x → slice_set xs i x ≡ xs
@@ -117,9 +118,10 @@ module _ {F T X : Type 0} (name : ℕ → Task) where
       goes v is =
           let none : v.task.infos ≡ [] = of_task (slice_get p.futures f) v (same v is) in
           let turns_to : cells.started v ≡ record v { task = abstract.begin_run v.task; future = local.started v.task.closed } =
-          ap (λ b. choose b (record v { task = abstract.begin_run v.task; future = local.started v.task.closed }) v) (there v is) in
-          (ap (λ (w : Kept T X). w.task) turns_to ∙ untold (abstract.begin_run v.task) (begun_infos v.task none),
-          ap (λ (w : Kept T X). w.metadata) turns_to)
+          ap (λ b. choose b (record v { task = abstract.begin_run v.task; future = local.started v.task.closed }) v) (there v is) in (
+            ap (λ (w : Kept T X). w.task) turns_to ∙ untold (abstract.begin_run v.task) (begun_infos v.task none),
+            ap (λ (w : Kept T X). w.metadata) turns_to,
+          )
 
       next : Follows name (turns.turned cells.started (name f) s) (put f (abstract.begin_run (task f p)) p)
       next =
@@ -153,16 +155,9 @@ module _ {F T X : Type 0} (name : ℕ → Task) where
           else enters (Poll f Try) (see (Polls f) (put f (abstract.begin_run (task f p)) p)))) (sym is)
           (seen (turns.turned cells.started (name f) s) q (q.events ++ Polls f ∷ []) (Poll f Try ∷ q.inside) next)
 
-  -- what is ready, once a sleeper is told
-  abbrev pub IsReady : Choice → Solo F T X → Plain T (SoloWaker X) → Type 0
-  IsReady c s p =
-      (d : Due) → find (chosen (tests c.first) p.due) p.due ≡ Some d
-      → (d.future < length (tell wakes c (record p { due = without (chosen (tests c.first) p.due) p.due })).futures)
-      × (asked cells.may_start false (name d.future) (turns.told (solo.popped s)).cells ≡ true)
-
   -- a take
   pub taken : (c : Choice) (s : Solo F T X) (p : Plain T (SoloWaker X)) → c.first ≡ mark_of_turn s.lines.turn
-      → length p.lying ≤ c.tells → IsReady c s p → IsOutside s → Follows name s p
+      → length p.lying ≤ c.tells → IsReady name c s p → IsOutside s → Follows name s p
       → Follows name (solo.taken s) (takes.take wakes c Try p)
   taken c s p turn many ready outside r =
       let alike = subst (λ m. ((solo.sought s) ≡ name_of name (find (chosen (tests m) p.due) p.due))
@@ -206,3 +201,7 @@ module _ {F T X : Type 0} (name : ℕ → Task) where
           (begun c d.future (turns.told (solo.popped s))
           (tell wakes c (record p { due = without (chosen (tests c.first) p.due) p.due })) can.0 can.1
           (told name c (solo.popped s) (record p { due = without (chosen (tests c.first) p.due) p.due }) many popped outside)))
+
+pub takes_alike : {F T X : Type 0} (name : ℕ → Task) (s : Solo F T X) (p : Plain T (SoloWaker X)) → Follows name s p
+    → TakesAlike name s p
+takes_alike name s p r c turn many ready outside = taken name c s p turn many ready outside r

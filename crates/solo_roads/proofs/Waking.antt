@@ -1,12 +1,12 @@
 -- A change of a task that queues it is one of the plain scheduler: a wake, a cancel, a release of a waker. Where the queue has a
 -- place, and whoever fell asleep last has an outside waker.
-use Rattle.std.proofs.Common.{◌≡◌, ℕ, ◌<◌, ◌≤◌, ◌-◌, ◌&&◌, ◌||◌, nat_lt, Bool, true, false, List, [], length, Option, Some, None, slice_get}
-use Rattle.std.proofs.Common.{slice_set, is_some, cond, if◌then◌else◌, refl, sym, ap, subst, ◌∙◌, arith}
+use Rattle.std.proofs.Common.{◌≡◌, ℕ, ◌<◌, ◌≤◌, ◌||◌, Bool, true, false, List, length, Option, Some, None, slice_get}
+use Rattle.std.proofs.Common.{slice_set, is_some, if◌then◌else◌, refl, sym, ap, subst, ◌∙◌, arith}
 use Rattle.std.proofs.lemmas.Option.{slice_get_past}
 use Rattle.executor_parts.specs.declared.mark.Mark.TheVariants.{Plain as PlainMark}
 use Rattle.task_moves.specs.AbstractTask as abstract
 use Rattle.task_moves.specs.AbstractTask.{AbstractTask, Phase, Finished}
-use Rattle.task_moves.specs.LocalTask.{with_task, told as told_of, info_of, info_from}
+use Rattle.task_moves.specs.LocalTask.{told as told_of, info_of, info_from}
 use Rattle.solo.specs.declared.names.Task.{Task}
 use Rattle.solo.specs.declared.names.SoloWaker.{SoloWaker}
 use Rattle.solo.specs.declared.solo.Solo.{Solo}
@@ -17,11 +17,12 @@ use Rattle.solo.specs.Turns as turns
 use Rattle.plain_scheduler.specs.State.{Future, Lying, Choice, Plain}
 use Rattle.plain_scheduler.specs.Lists.{on}
 use Rattle.plain_scheduler.specs.Moves.{put, task, mark, appended, tell, becomes, wake}
+use Rattle.solo_roads.specs.Alike.{IsOutside, WakesAlike}
 use Rattle.solo_roads.specs.Road.{TaskIs, IsOver, Follows, wakes}
 use Rattle.solo_roads.proofs.Lists.{get_below, length_set}
 use Rattle.solo_roads.proofs.Cells.{found, of_found, asks_found, changed_found, found_here}
 use Rattle.solo_roads.proofs.Changing.{task_is, mark_is, turned, lined, Goes}
-use Rattle.solo_roads.proofs.Telling.{told, IsOutside}
+use Rattle.solo_roads.proofs.Telling.{told}
 
 module _ {T A : Type 0} where
   pub none_told : (t : AbstractTask T A) → is_some (info_of t t) ≡ false
@@ -141,7 +142,6 @@ module _ {F T X : Type 0} (name : ℕ → Task) where
     becoming c f s p at goes says place many r outside =
         by (asked q false (name f) s.cells) refl (asks f s p at says r)
       where
-
         next : Follows name (turns.turned g (name f) s) (put f (h (task f p)) p)
         next = turned name g h (stays h over) f s p at goes r
 
@@ -198,3 +198,7 @@ module _ {F T X : Type 0} (name : ℕ → Task) where
         (is_there cells.cancel_queues (name f) s)
         (becoming cells.cancelled (λ v. is_some (cells.cancel_queues v)) cancel over_cancel c f s p at
         (λ v here. (refl, refl)) (λ v here. refl) place many r outside)
+
+pub wakes_alike : {F T X : Type 0} (name : ℕ → Task) (s : Solo F T X) (p : Plain T (SoloWaker X)) → Follows name s p
+    → WakesAlike name s p
+wakes_alike name s p r c f at many place outside = woken name c f s p at many r outside place

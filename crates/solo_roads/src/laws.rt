@@ -1,12 +1,34 @@
 //! What an executor of one owner has in common with the plain scheduler.
-ghost use Rattle.std.specs.Prelude.{ℕ, List};
+ghost use Rattle.std.specs.Prelude.{ℕ, List, Bool};
 ghost use Rattle.solo.specs.Lines.{LinesValue};
+ghost use Rattle.solo.specs.Solo.{IsNew};
+ghost use Rattle.solo.specs.declared.names.Kind.{Kind};
+ghost use Rattle.solo.specs.declared.names.SoloWaker.{SoloWaker};
 ghost use Rattle.solo.specs.declared.names.Task.{Task};
-ghost use Rattle.plain_scheduler.specs.State.{Due};
-ghost use Rattle.solo_roads.specs.Road.{Lined, SearchesAlike};
+ghost use Rattle.solo.specs.declared.solo.Solo.{Solo};
+ghost use Rattle.plain_scheduler.specs.Calls.{new};
+ghost use Rattle.plain_scheduler.specs.State.{Due, Plain};
+ghost use Rattle.solo_roads.specs.Alike.{TakesAlike, WakesAlike};
+ghost use Rattle.solo_roads.specs.Road.{Follows, Lined, SearchesAlike};
+
+/// A new executor stands where the new plain scheduler does.
+pub fn both_begin_alike<F, T, X>()
+    ensures { (name : ℕ → Task) (limit : ℕ) (kind : Kind) (is_static : Bool) (s : Solo F T X) → IsNew limit kind s
+        → Follows name s (new limit is_static) }
+{}
 
 /// As long as the two queues are what is due without a keeper, by marks and in order, a search of them finds what the plain scheduler
 /// takes where it looks first at the mark that the turn names; and the queues are again what is due.
 pub fn a_search_takes_what_is_due()
     ensures { (name : ℕ → Task) (lines : LinesValue) (due : List Due) → Lined name lines due → SearchesAlike name lines due }
+{}
+
+/// Where both stand alike, a take leaves them alike: it is a try of the plain scheduler.
+pub fn a_take_is_a_try<F, T, X>()
+    ensures { (name : ℕ → Task) (s : Solo F T X) (p : Plain T (SoloWaker X)) → Follows name s p → TakesAlike name s p }
+{}
+
+/// And so does a wake.
+pub fn a_wake_is_a_wake<F, T, X>()
+    ensures { (name : ℕ → Task) (s : Solo F T X) (p : Plain T (SoloWaker X)) → Follows name s p → WakesAlike name s p }
 {}

@@ -1,0 +1,29 @@
+-- A new executor stands where the new plain scheduler does.
+use Rattle.std.proofs.Common.{◌≡◌, ℕ, Bool, [], map, refl, ap, ◌∙◌, arith}
+use Rattle.executor_parts.specs.Sleepers.{Sleepers}
+use Rattle.executor_parts.specs.declared.mark.Mark.{Mark}
+use Rattle.executor_parts.specs.declared.mark.Mark.TheVariants.{Plain as PlainMark, Urgent}
+use Rattle.solo.specs.declared.names.Kind.{Kind}
+use Rattle.solo.specs.declared.names.Task.{Task}
+use Rattle.solo.specs.declared.names.SoloWaker.{SoloWaker}
+use Rattle.solo.specs.declared.solo.Solo.{Solo}
+use Rattle.solo.specs.Lines.{line_of, new_lines}
+use Rattle.solo.specs.Solo as solo
+use Rattle.plain_scheduler.specs.Calls.{new}
+use Rattle.solo_roads.specs.Road.{Follows}
+
+module _ {F T X : Type 0} (name : ℕ → Task) where
+  pub begins : (limit : ℕ) (kind : Kind) (is_static : Bool) (s : Solo F T X) → solo.IsNew limit kind s
+      → Follows name s (new limit is_static)
+  begins limit kind is_static s fresh = record {
+    numbered = λ f below. absurd (omega (arith, below));
+    tasks = λ f below. absurd (omega (arith, below));
+    lines = λ mark. ap (λ l. (line_of mark l).items) fresh.lines ∙ empty mark;
+    wakers = ap (λ (sleepers : Sleepers (SoloWaker X)). map (λ e. e.1) sleepers.wakers) fresh.sleepers;
+    count = ap (λ (sleepers : Sleepers (SoloWaker X)). sleepers.count) fresh.sleepers;
+    flag = fresh.notified;
+  }
+    where
+      empty : (mark : Mark) → (line_of mark (new_lines limit)).items ≡ []
+      empty PlainMark = refl
+      empty Urgent = refl

@@ -134,7 +134,8 @@ module _ {T A : Type 0} (wakes : A → Option ℕ) (c : Choice) where
   -- the end of a poll with Pending, of one with an output, and of a drop
   abbrev pub pending_by : abstract.PendingEnd → ℕ → Taker A → Plain T A → Plain T A
   pending_by abstract.PendingEnd.Drops f by p = takes.dropping wakes c f Closed by p
-  pending_by abstract.PendingEnd.Forgets f by p = takes.dropping wakes c f Forgotten by p
+  pending_by abstract.PendingEnd.Forgets f by p =
+      takes.dropping wakes c f Forgotten by (put f (record (task f p) { phase = abstract.Phase.Finished; closed = true }) p)
   pending_by _ f by p = takes.next wakes c by (becomes f (abstract.end_pending (task f p)).task p)
 
   abbrev pub pends : Code T A → Plain T A → Plain T A

@@ -99,6 +99,20 @@ impl<W: Drop> State<W> {
         }
     }
 
+    /// The same. A queue that is empty is left after loads alone, with no pop.
+    #[inline(always)]
+    fn take_if_any<R: Wait>(&self, mark: Mark, rt: &R, call: &mut Call) -> Option<ExStoredRunnable>
+        requires free { call.old.holds ≡ false }
+        requires told { call.old.owes ≡ false }
+        ensures { call.new ≡ looked_in mark (is_some result) call.old }
+    {
+        if self.queues.of(mark).is_empty(rt) {
+            call.look(mark, false);
+            return None;
+        }
+        self.take_of(mark, rt, call)
+    }
+
     /// Takes the first Runnable of the queue of this mark in hand; where there is none, the first of the other one.
     #[inline(always)]
     pub fn take_from<R: Wait>(&self, mark: Mark, rt: &R, call: &mut Call) -> Option<FromQueues>
@@ -106,7 +120,7 @@ impl<W: Drop> State<W> {
         requires told { call.old.owes ≡ false }
         ensures { call.new ≡ looked (is_some result) call.old }
     {
-        if let Some(runnable) = self.take_of(mark, rt, call) {
+        if let Some(runnable) = self.take_if_any(mark, rt, call) {
             return Some(FromQueues { runnable, mark });
         }
         let mark = mark.other();

@@ -2,17 +2,14 @@
 
 use crate::players::Players;
 use crate::shown::{
-    Shown, machine, shown_by_executor, shown_by_local, shown_by_queue, shown_by_solo,
-    shown_by_tasks,
+    Shown, machine, shown_by_executor, shown_by_queue, shown_by_tasks, shown_on_one_thread,
 };
+use call_player::{PlaysTasks, play_exclusive, play_shared};
 use executor_player::Plays;
-use local_player::play_local;
-use queue_player::{play_exclusive, play_shared};
-use solo_player::play_solo;
+use script_player::{play_local, play_solo};
 use std::alloc::{AllocError, AllocGlobal};
 use std::random::RandomSource;
 use std::sync::Wait;
-use task_player::PlaysTasks;
 
 /// What plays a script.
 #[derive(Clone, Copy)]
@@ -83,15 +80,24 @@ impl Family {
                 "refusals.txt",
                 "nested.txt",
                 "urgent.txt",
+                "urgent-calls.txt",
+                "urgent-static.txt",
             ],
-            Family::Executor | Family::Local => &["calls.txt", "stops.txt"],
-            Family::Static | Family::StaticLocal => &["static.txt", "leak.txt", "static-stops.txt"],
+            Family::Executor | Family::Local => &["calls.txt", "stops.txt", "urgent-calls.txt"],
+            Family::Static | Family::StaticLocal => &[
+                "static.txt",
+                "leak.txt",
+                "static-stops.txt",
+                "urgent-static.txt",
+            ],
             Family::Solo => &[
                 "calls.txt",
                 "stops.txt",
                 "static.txt",
                 "leak.txt",
                 "static-stops.txt",
+                "urgent-calls.txt",
+                "urgent-static.txt",
             ],
             Family::Queue | Family::Exclusive => &["queue.txt"],
             Family::Task | Family::LocalTask => &["task.txt"],
@@ -131,13 +137,13 @@ impl Family {
             Family::Executor => shown_by_executor(players.executors.play(script)),
             Family::Static => shown_by_executor(players.executors.play(script)),
             Family::Local | Family::StaticLocal => {
-                shown_by_local(play_local(rt, rt.alloc(), script))
+                shown_on_one_thread(play_local(rt, rt.alloc(), script))
             }
-            Family::Solo => shown_by_solo(play_solo(rt, rt.alloc(), script)),
+            Family::Solo => shown_on_one_thread(play_solo(rt, rt.alloc(), script)),
             Family::Queue => shown_by_queue(play_shared(rt, rt.alloc(), script)),
             Family::Exclusive => shown_by_queue(play_exclusive(rt.alloc(), script)),
             Family::Task => shown_by_tasks(players.tasks.play(script)),
-            Family::LocalTask => shown_by_tasks(task_player::play_local(rt.alloc(), script)),
+            Family::LocalTask => shown_by_tasks(call_player::play_local(rt.alloc(), script)),
         }
     }
 }

@@ -11,6 +11,7 @@ mod players;
 mod shown;
 mod verdict;
 
+use call_player::{Kept, PlaysTasks, TaskPlayer, Tasks};
 use executor_player::{ExecutorPlayer, Plays, ScriptRealm};
 use family::Family;
 use fault::Fault;
@@ -22,7 +23,6 @@ use std::random::RandomSource;
 use std::rt::{Env, Files};
 use std::sync::Wait;
 use std::{env, fs};
-use task_player::{Kept, PlaysTasks, TaskPlayer, Tasks};
 use verdict::judged;
 
 fn main(rt: HostRuntime) -> ExitCode {

@@ -28,12 +28,12 @@ pub fn machine(alloc: Global, script: &[u8]) -> Result<Shown, AllocError>
 
 /// What a player of queues shows of a script. The error is a want of memory.
 pub fn shown_by_queue(
-    shown: Result<Vec<u8>, queue_player::ParseError>,
+    shown: Result<Vec<u8>, call_player::ParseError>,
 ) -> Result<Shown, AllocError> {
     match shown {
         Ok(text) => Ok(Shown::Text(text)),
-        Err(queue_player::ParseError::BadLine(number)) => Ok(Shown::BadLine(number)),
-        Err(queue_player::ParseError::NoMemory) => Err(AllocError),
+        Err(call_player::ParseError::BadLine(number)) => Ok(Shown::BadLine(number)),
+        Err(call_player::ParseError::NoMemory) => Err(AllocError),
     }
 }
 
@@ -46,33 +46,23 @@ pub fn shown_by_executor(shown: Result<Vec<u8>, PlayError>) -> Result<Shown, All
     }
 }
 
-/// What the player of an executor of one thread shows of a script, in the same way.
-pub fn shown_by_local(
-    shown: Result<Vec<u8>, local_player::PlayError>,
+/// What the player of executors of one thread, or of one owner, shows of a script, in the same way.
+pub fn shown_on_one_thread(
+    shown: Result<Vec<u8>, script_player::PlayError>,
 ) -> Result<Shown, AllocError> {
     match shown {
         Ok(text) => Ok(Shown::Text(text)),
-        Err(local_player::PlayError::BadLine(number)) => Ok(Shown::BadLine(number)),
-        Err(local_player::PlayError::NotWhole(number)) => Ok(Shown::BadLine(number)),
-        Err(local_player::PlayError::NoMemory) => Err(AllocError),
-    }
-}
-
-/// What the player of an executor of one owner shows of a script, in the same way.
-pub fn shown_by_solo(shown: Result<Vec<u8>, solo_player::PlayError>) -> Result<Shown, AllocError> {
-    match shown {
-        Ok(text) => Ok(Shown::Text(text)),
-        Err(solo_player::PlayError::BadLine(number)) => Ok(Shown::BadLine(number)),
-        Err(solo_player::PlayError::NotWhole(number)) => Ok(Shown::BadLine(number)),
-        Err(solo_player::PlayError::NoMemory) => Err(AllocError),
+        Err(script_player::PlayError::BadLine(number)) => Ok(Shown::BadLine(number)),
+        Err(script_player::PlayError::NotWhole(number)) => Ok(Shown::BadLine(number)),
+        Err(script_player::PlayError::NoMemory) => Err(AllocError),
     }
 }
 
 /// What a player of tasks shows of a script. The error is a want of memory.
-pub fn shown_by_tasks(shown: Result<Vec<u8>, task_player::PlayError>) -> Result<Shown, AllocError> {
+pub fn shown_by_tasks(shown: Result<Vec<u8>, call_player::PlayError>) -> Result<Shown, AllocError> {
     match shown {
         Ok(text) => Ok(Shown::Text(text)),
-        Err(task_player::PlayError::BadLine(number)) => Ok(Shown::BadLine(number)),
-        Err(task_player::PlayError::NoMemory) => Err(AllocError),
+        Err(call_player::PlayError::BadLine(number)) => Ok(Shown::BadLine(number)),
+        Err(call_player::PlayError::NoMemory) => Err(AllocError),
     }
 }

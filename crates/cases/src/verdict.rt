@@ -5,12 +5,12 @@ use crate::family::Family;
 use crate::fault::Fault;
 use crate::players::Players;
 use crate::shown::Shown;
+use call_player::PlaysTasks;
 use executor_player::Plays;
 use std::alloc::AllocGlobal;
 use std::io::{self, Write};
 use std::random::RandomSource;
 use std::sync::Wait;
-use task_player::PlaysTasks;
 
 /// What the scripts of one text came to.
 #[derive(Drop)]

@@ -4,10 +4,10 @@ use Rattle.std.specs.List.{AllZip}
 use Rattle.std.proofs.lemmas.List.Elements.{All-cons}
 use Rattle.std.proofs.lemmas.Slice.Zip.{AllZip-long}
 use Rattle.text_lines.specs.Lines.{lines_of}
-use Rattle.job_text.specs.Answers.{IsInRange}
-use Rattle.job_text.specs.declared.job.Job.{Job}
-use Rattle.job_text.specs.declared.job.Job.TheVariants.{Sum, Mul}
-use Rattle.job_text.specs.Lines.{Says, Spells}
+use Rattle.jobs.specs.Answers.{IsInRange}
+use Rattle.jobs.specs.declared.job.Job.{Job}
+use Rattle.jobs.specs.declared.job.Job.TheVariants.{Sum, Mul}
+use Rattle.jobs.specs.Lines.{Says, Spells}
 
 in_range : (job : Job) (line : List ℕ) → Spells job line → IsInRange job
 in_range (Sum n) line (digits, words, number, few) = few

@@ -4,8 +4,8 @@ use Rattle.std.specs.Global.{Global}
 use Rattle.text_lines.specs.Number.{IsNumber}
 use Rattle.simulator.specs.Answer.{IsAnswer, IsGoodInput}
 use Rattle.script.specs.BadLine.{IsFirstBadLine}
-use Rattle.job_text.specs.declared.job.Solved.{Solved}
-use Rattle.job_text.specs.Lines as lines
+use Rattle.jobs.specs.declared.job.Solved.{Solved}
+use Rattle.jobs.specs.Lines as lines
 use Rattle.commands.specs.Jobs.{IsAnswerToJobs, MissesJob, SaysJobs}
 use Rattle.commands.specs.declared.words.Asked.{Asked}
 use Rattle.commands.specs.declared.words.Asked.TheVariants.{Sim, Jobs}

@@ -7,8 +7,8 @@ use Rattle.text_lines.specs.declared.error.ParseError.{ParseError}
 use Rattle.text_lines.specs.declared.error.ParseError.TheVariants as parse
 use Rattle.async_task.specs.declared.errors.RealmError.{RealmError}
 use Rattle.async_task.specs.declared.errors.RealmError.TheVariants as realm
-use Rattle.job_text.specs.declared.errors.JobsError.{JobsError}
-use Rattle.job_text.specs.declared.errors.JobsError.TheVariants as jobs
+use Rattle.jobs.specs.declared.errors.JobsError.{JobsError}
+use Rattle.jobs.specs.declared.errors.JobsError.TheVariants as jobs
 
 abbrev pub status_of : Fault → ℕ
 status_of (Missing n) = 1

@@ -1,10 +1,10 @@
 -- What is written for an input that is a list of jobs.
 use Rattle.std.specs.Prelude.{◌≡◌, ℕ, List, Vec, map}
 use Rattle.std.specs.Global.{Global}
-use Rattle.job_text.specs.Answers.{answer_of}
-use Rattle.job_text.specs.declared.job.Job.{Job}
-use Rattle.job_text.specs.declared.job.Solved.{Solved}
-use Rattle.job_text.specs.Lines.{Says, IsFirstBadLine, answers_text}
+use Rattle.jobs.specs.Answers.{answer_of}
+use Rattle.jobs.specs.declared.job.Job.{Job}
+use Rattle.jobs.specs.declared.job.Solved.{Solved}
+use Rattle.jobs.specs.Lines.{Says, IsFirstBadLine, answers_text}
 use Rattle.jobs.specs.Coming.{CameBackUpTo}
 use Rattle.commands.specs.declared.fault.Fault.{Fault}
 use Rattle.commands.specs.declared.fault.Fault.TheVariants.{Missing, BadLine, Usage, NoMemory, NoThread, NoRandom, ReadFailed, WriteFailed}

@@ -2,15 +2,14 @@
 
 ghost use Rattle.std.specs.Prelude.{◌≡◌, ◌≢◌, ◌<◌, ◌≤◌, ℕ, Err, IfErr, IfOk, IfSome, OnOk};
 ghost use Rattle.std.specs.Io.KnownBytes.{IsAtEnd};
-ghost use Rattle.job_text.specs.Lines.{IsFirstBadLine};
+ghost use Rattle.jobs.specs.Lines.{IsFirstBadLine};
 ghost use Rattle.commands.specs.Jobs.{IsAnswerToJobs, IsFaultOf, MissesJob, SaysJobs};
 ghost use Rattle.commands.specs.Writes.{WritesAnswers};
 
 use crate::fault::Fault;
 use crate::input;
 use crate::output::write_all;
-use job_text::{parse, print};
-use jobs::{JobRealm, JobSite, Open, run_jobs};
+use jobs::{JobRealm, JobSite, Open, parse, print, run_jobs};
 use std::alloc::Global;
 use std::io::{Read, Write};
 use std::sync::Wait;

@@ -12,6 +12,7 @@ pub mod RunReach
 pub mod Seeking
 pub mod Termination
 pub mod Turns
+pub mod Types
 pub mod Wakeups
 pub mod Walks
 pub mod Wants

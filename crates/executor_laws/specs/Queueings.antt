@@ -4,6 +4,7 @@ use Rattle.std.specs.Prelude.{◌≡◌, ℕ, ◌+◌, ◌-◌, ◌<◌, ◌≤�
 use Rattle.queue_steps.specs.ClosableQueue.{ClosableQueue, most_accepted, new_queue, HasRoom}
 use Rattle.queue_steps.specs.ClosableQueue.{IsUnspent, appended, taken, shut}
 use Rattle.executor_parts.specs.declared.mark.Mark.{Mark}
+use Rattle.executor_parts.specs.Marks.{other}
 use Rattle.executor_model.specs.declared.kind.Kind.{Kind}
 use Rattle.executor_model.specs.declared.op.Op.TheVariants as op
 use Rattle.executor_model.specs.declared.op.QueueOp.TheVariants as queue_op
@@ -45,10 +46,11 @@ counted_after m limit kind parties steps = counting
 abbrev pub AreFewQueueings : Mark → ℕ → Kind → ℕ → List Step → Type 0
 AreFewQueueings m limit kind parties steps = queueings m steps (start limit kind parties) < most_accepted
 
--- there are no more than steps; the queue of a new machine is a new queue that counts; each step changes it as a
+-- there are no more in both queues than steps; the queue of a new machine is a new queue that counts; each step changes it as a
 -- closable queue changes; and a Runnable that is to be appended is, unless the queue is closed
 pub record CountsQueueings (m : Mark) (limit : ℕ) (kind : Kind) (parties : ℕ) (steps : List Step) : Type 0 where
-  pub most : queueings m steps (start limit kind parties) ≤ length steps
+  pub most : queueings m steps (start limit kind parties) + queueings (other m) steps (start limit kind parties) ≤
+      length steps
   pub new : counted_after m limit kind parties [] ≡ new_queue (Some limit) (Some 0)
   pub changes : AreFewQueueings m limit kind parties steps → (t : Step) →
       Changes (counted_after m limit kind parties steps) (counted_after m limit kind parties (steps ++ t ∷ []))

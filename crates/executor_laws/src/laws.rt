@@ -57,9 +57,9 @@ pub fn lone_calls_end()
     ensures { EveryMachine LoneCallsEnd }
 {}
 
-/// No more Runnables are queued in either of the executor's queues than steps taken. As long as fewer than 2^61 were queued, that
-/// queue is a closable queue that counts what it accepts, and may accept one more. No Runnable is kept
-/// out of it but by its close, and none is taken from it where it is empty, by a steal neither.
+/// No more Runnables are queued in both of the executor's queues together than steps taken. As long as fewer than 2^61 were
+/// queued in one, that queue is a closable queue that counts what it accepts, and may accept one more. No Runnable is kept out of
+/// it but by its close, and none is taken from it where it is empty, by a steal neither.
 pub fn queueings_are_counted()
     ensures { (m : Mark) (limit : ℕ) (kind : Kind) (parties : ℕ) (steps : List Step) →
         CountsQueueings m limit kind parties steps }
@@ -71,9 +71,9 @@ pub fn traces_continue()
         IsContinued s.world.trace (stepped s (step s t)).world.trace }
 {}
 
-/// Whoever is answered no is answered at once. Of what a party did, in whatever calls, an answer no stands
-/// right behind the beginning of the call that it answers, or behind the one turn that follows that; others
-/// may do anything meanwhile.
+/// Whoever is answered no is answered at once. Of what a party did, in whatever calls, an answer no to a try of a tick stands
+/// right behind its one turn, which stands right behind its beginning, and any other one right behind the beginning of the call
+/// that it answers; others may do anything meanwhile.
 pub fn no_comes_at_once()
     ensures { EveryTrace NoComesAtOnce }
 {}
@@ -83,10 +83,10 @@ pub fn no_means_that_nothing_was_queued()
     ensures { EveryMachine NoMeansEmpty }
 {}
 
-/// Whatever others do meanwhile, a poll of a tick is answered that nothing is ready only where it looked for a future into each of
-/// the executor's queues, by two steps in each of which the queue was empty at which it looked. A poll of a run is answered so only
-/// where it looked into its own queue, then into each of the executor's queues, and each was empty as it looked, and then went
-/// through the list of queues; or where it called its own waker, after 200 futures.
+/// Whatever others do meanwhile, a poll of a tick is answered that nothing is ready only where it looked for a future into each
+/// of the executor's queues, by two steps in each of which the queue was empty at which it looked. A poll of a run is answered so
+/// only where it looked into its own queue, then into each of the executor's queues, and each was empty as it looked, and then
+/// went through the list of queues; or where it called its own waker, after 200 futures.
 pub fn nothing_is_ready_where_none_was_found()
     ensures ticks { EveryMachine TicksLookFirst }
     ensures runs { EveryMachine RunsLookFirst }
@@ -108,10 +108,10 @@ pub fn what_is_made_is_new()
     ensures { EveryMachine MadeIsMade }
 {}
 
-/// Whatever others do meanwhile, each step of a party that asks for memory is one request of the command that it is in, and nothing
-/// else is. A call of the command is answered that memory is wanted only where one of these was refused, or was one for the copy of
-/// a waker of a task that has 2^40 references. A command of which the k-th request is refused, and no other, is up to that request
-/// the command of which none is, and has its trace; a request that is refused ends the call that asked.
+/// Whatever others do meanwhile, each step of a party that asks for memory is one request of the command that it is in, and
+/// nothing else is. A call of the command is answered that memory is wanted only where one of these was refused, or was one for
+/// the copy of a waker of a task that has 2^40 references. A command of which the k-th request is refused, and no other, is up to
+/// that request the command of which none is, and has its trace; a request that is refused ends the call that asked.
 pub fn requests_are_numbered()
     ensures { EveryMachine RequestsAreNumbered }
 {}
@@ -159,8 +159,8 @@ pub fn ended_runs_are_finished()
     ensures { (s : Machine) → EndedIsFinished s }
 {}
 
-/// Where no call is in progress and the drop of the executor hasn't begun, the Runnable of a due future stands in
-/// one of the executor's queues exactly where the future is common, and in a run's own queue exactly where that run is its keeper.
+/// Where no call is in progress and the drop of the executor hasn't begun, the Runnable of a due future stands in one of the
+/// executor's queues exactly where the future is common, and in a run's own queue exactly where that run is its keeper.
 pub fn due_futures_stand_with_their_keepers()
     ensures { EveryMachine StandsWithKeeper }
 {}
@@ -271,10 +271,12 @@ pub fn kept_futures_come_first()
     ensures { EveryMachine TakesKeptFirst }
 {}
 
-/// A run takes first what stands in its own queue, then what is common, and where all futures are plain, what it moves from
-/// there keeps its turn: as many polls of the run, made alone and with its own future not ready in any, as it keeps futures and
-/// are common at their start begin the poll or the drop of each that was common, whatever other user code answers in them and
-/// whatever becomes common meanwhile.
+/// A run takes a turn only where its own queue is empty: polls of a run, made alone and with its own future not ready in any, in
+/// which as many turns name a mark as futures of that mark are common at their start, begin the poll or the drop of each of
+/// those, whatever other user code answers in them, whatever the run keeps and whatever becomes common meanwhile. Where all
+/// futures are plain, a run takes first what stands in its own queue, then what is common, and what it moves from there keeps
+/// its turn: as many such polls as it keeps futures and are common at their start begin the poll or the drop of each that was
+/// common.
 pub fn common_futures_are_in_reach_of_runs()
     ensures { EveryMachine IsCommonReached }
 {}

@@ -9,6 +9,7 @@ pub mod CallAnswers
 pub mod CallTells
 pub mod CallTurns
 pub mod FrameWays
+pub mod Answered
 pub mod Dropping
 pub mod SpawnAnswers
 pub mod SpawnLimits

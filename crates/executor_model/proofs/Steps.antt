@@ -11,6 +11,8 @@ pub mod SleepersCounting
 pub mod RunsNext
 pub mod RunsPlain
 pub mod RunsMoves
+pub mod Parts
+pub mod ByParts
 pub mod RunsCounting
 pub mod RunsWays
 pub mod Growing
@@ -30,6 +32,5 @@ pub mod Tests
 pub mod TraceMore
 pub mod TraceGrows
 pub mod TraceSteps
-pub mod TickTraces
 pub mod Deeds
 pub mod Hushed

@@ -18,6 +18,8 @@ use Rattle.executor_model.specs.declared.step.UserEnd.TheVariants as end
 use Rattle.executor_model.specs.declared.event.Answer.TheVariants as answer
 use Rattle.executor_model.specs.declared.op.ListOp.{ListOp}
 use Rattle.executor_model.specs.declared.op.Look.{Look}
+use Rattle.executor_model.specs.declared.op.Look.TheVariants.{First}
+use Rattle.executor_parts.specs.declared.mark.Mark.{Mark}
 use Rattle.executor_model.specs.declared.op.ListOp.TheVariants as list_op
 use Rattle.executor_model.specs.declared.op.RunOp.{RunOp}
 use Rattle.executor_model.specs.declared.op.RunOp.TheVariants as run_op
@@ -30,7 +32,7 @@ use Rattle.executor_model.specs.declared.op.Waker.{Waker}
 use Rattle.executor_model.specs.declared.op.Sleeping.{Sleeping}
 use Rattle.executor_model.specs.ActsOfRuns.{lock_write, look_own, search_common, search_own, take_turn_of_run, write}
 use Rattle.executor_model.specs.Acts.{mark_in}
-use Rattle.executor_model.specs.ActsOfSleepers.{look_tick}
+use Rattle.executor_model.specs.ActsOfSleepers.{look_tick, search_tick}
 use Rattle.executor_model.specs.Doing.{act, steal_act}
 use Rattle.executor_model.specs.Steps.{begun, react}
 use Rattle.executor_model.specs.World.{World, own_of, queue_of}
@@ -94,11 +96,6 @@ may_refuse _ = false
 abbrev pub AsksForNone : List Op → Type 0
 AsksForNone next = list_any may_refuse next ≡ false
 
--- a poll of a tick that finds a future in one of the executor's queues has nothing left to do that may refuse
-abbrev pub FindsWithoutMemory : World → Type 0
-FindsWithoutMemory w = (f : ℕ) (rest : List ℕ) (s : Sleeping) (l : Look) → (queue_of w (mark_in l)).items ≡ f ∷ rest →
-    AsksForNone (look_tick w s l).next
-
 -- it asks for memory in its own step
 abbrev pub asks : Op → Bool
 asks (op.Table (table_op.Enter m)) = true
@@ -109,6 +106,14 @@ asks (op.Tick (tick_op.CopyWaker s)) = true
 asks (op.List (list_op.Write section.MakeRun)) = true
 asks (op.Run run_op.MakeRoom) = true
 asks _ = false
+
+-- a poll of a tick that finds a future in one of the executor's queues asks for no memory: neither its turn nor a first look
+-- leads to a request, and where a look finds one nothing is left to do that may refuse
+pub record FindsWithoutMemory (w : World) (p : ℕ) : Type 0 where
+  pub turns : (s : Sleeping) → list_any asks (search_tick p w s).next ≡ false
+  pub looks : (s : Sleeping) (m : Mark) → list_any asks (look_tick w s (First m)).next ≡ false
+  pub finds : (f : ℕ) (rest : List ℕ) (s : Sleeping) (l : Look) → (queue_of w (mark_in l)).items ≡ f ∷ rest →
+      AsksForNone (look_tick w s l).next
 
 -- a poll of a run asks for no memory until its own future has answered; where that is ready nothing is left to do that
 -- may refuse. Then it asks for memory only where a search ends that has found no future: neither a look at its own
@@ -133,7 +138,7 @@ pub record NeedsNoMemory (w : World) (p : ℕ) : Type 0 where
   pub begins : (here : Option Waker) (c : Call) → takes_no_memory c ≡ true → AsksForNone (begun p w here c).next
   pub goes_on : (h : Hint) (o : Op) → may_refuse o ≡ false → AsksForNone (act p h o w).next
   pub follows : (o : Op) (end : UserEnd) → may_refuse o ≡ false → AsksForNone (react p o end w).next
-  pub finds : FindsWithoutMemory w
+  pub finds : FindsWithoutMemory w p
   pub runs : RunsWithoutMemory w p
   pub same : (h : Hint) (refused : Bool) (o : Op) → asks o ≡ false →
       act p (record h { refused = refused }) o w ≡ act p h o w

@@ -83,8 +83,8 @@ pub fn quiet_emptiness_is_exact()
 /// A call takes no memory but a spawn, the making of a tick or run, a copy of a waker, and a poll of a handle, tick
 /// or run, which copies the waker that it is given: nothing that it has to do from its beginning to its end asks for
 /// memory or refuses it, and what it does is the same whether memory is refused or not. So no wake, cancel, detach or
-/// drop is ever refused. Nor does a poll of a tick take memory that finds a future at its first search, nor one of a
-/// run whose own future is ready, or that finds a future at every search.
+/// drop is ever refused. Nor does a poll of a tick take memory that finds a future at its first search, in whichever of the
+/// executor's queues, nor one of a run whose own future is ready, or that finds a future at every search.
 pub fn wakes_and_drops_take_no_memory()
     ensures { (w : World) (p : ℕ) → NeedsNoMemory w p }
 {}
@@ -127,18 +127,18 @@ pub fn wakes_are_handed_on()
     ensures marked { EveryExecution IsOnItsWay }
 {}
 
-/// Whatever the parties do, no two ticks or runs sleep under one number, the list counts as many as ticks and runs sleep, and there
-/// are never more wakers than sleepers. The flag is true only where nobody sleeps, a sleeper is notified, or a party
-/// stands between its won exchange of the flag and its hand-out. There is as much room as ticks live and runs haven't
-/// left, and as a party has made for a run that isn't there yet, or has still to give back; so who lives finds a place:
-/// one that is awake finds room to sleep in, and one that was notified may be listed again.
+/// Whatever the parties do, no two ticks or runs sleep under one number, the list counts as many as ticks and runs sleep, and
+/// there are never more wakers than sleepers. The flag is true only where nobody sleeps, a sleeper is notified, or a party stands
+/// between its won exchange of the flag and its hand-out. There is as much room as ticks live and runs haven't left, and as a
+/// party has made for a run that isn't there yet, or has still to give back; so who lives finds a place: one that is awake finds
+/// room to sleep in, and one that was notified may be listed again.
 pub fn sleepers_agree()
     ensures { EveryMachine SleepersAgree }
 {}
 
-/// Whatever the parties do, where a Runnable stands in one of the executor's queues and a tick or run is among the sleepers, a sleeper
-/// is notified, or a party has still to exchange the flag, to hand out or to search. Who has still to call a waker
-/// that was handed out isn't needed.
+/// Whatever the parties do, where a Runnable stands in one of the executor's queues and a tick or run is among the sleepers, a
+/// sleeper is notified, or a party has still to exchange the flag, to hand out or to search. Who has still to call a waker that
+/// was handed out isn't needed.
 pub fn sleepers_are_told()
     ensures { EveryMachine SleepersAreTold }
 {}

@@ -1,17 +1,16 @@
-//! Tests of the running executor, against what `async_executor` gives its users. A crate of its own so that they are proved
-//! beside it, and it only once.
+//! Tests of executors, by what `async_executor` gives its users, and in `local` `local_executor`. A crate of its own so that
+//! these are proved beside it, and only once.
 #![tactic(auto)]
 
 #[cfg(test)]
 mod borrowed;
+mod local;
 #[cfg(test)]
 mod locks;
 #[cfg(test)]
 mod many;
 #[cfg(test)]
 mod marks;
-#[cfg(test)]
-mod nested;
 #[cfg(test)]
 mod parts;
 #[cfg(test)]
@@ -22,3 +21,5 @@ mod stage;
 mod texts;
 #[cfg(test)]
 mod threads;
+
+pub use local::{Never, Ready, send_last_waker, send_waker, send_waker_of_static};

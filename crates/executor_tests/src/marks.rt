@@ -1,181 +1,52 @@
-//! In which order futures of both marks are polled, and that an executor's drop leaves none of either.
-use crate::parts::{Job, TestRealm, TestTask, Work};
-use crate::stage::{End, Planned, Stage};
-use async_executor::{ExStoredTask, Mark};
-use async_task::{Future, Poll, Returning};
+//! Plain futures run though urgent ones never end. What an executor shows of a few futures of both marks are scripts of `cases`.
+use crate::parts::{Job, TestRealm, Work};
+use crate::stage::{Planned, Stage};
+use async_executor::Mark;
 use std::process::Abort;
 use std::sync::Wait;
 use std::sync::atomic::Ordering::SeqCst;
 
-/// What polls the futures.
-#[derive(Clone, Copy)]
-enum By {
-    /// As many calls of `try_tick` as there are polls.
-    Ticks,
-    /// One poll of a run.
-    Run,
-}
+/// How many plain futures there are.
+const PLAIN: u64 = 100;
 
-/// What it shows, what polls, the marks of the futures in the order in which they are spawned, how often each wakes itself before it
-/// is ready, and the names of those that are polled, in order: a future's name is its place among the marks.
-struct Row(&'static str, By, &'static [Mark], u64, &'static [u64]);
-
-/// One plain future, and then nine urgent ones.
-const ONE_PLAIN: [Mark; 10] = [
-    Mark::Plain,
-    Mark::Urgent,
-    Mark::Urgent,
-    Mark::Urgent,
-    Mark::Urgent,
-    Mark::Urgent,
-    Mark::Urgent,
-    Mark::Urgent,
-    Mark::Urgent,
-    Mark::Urgent,
-];
-
-// One loop walks through them, so that a call is proved once, whatever the number of rows.
-const ROWS: &[Row] = &[
-    Row(
-        "the eighth turn is the plain queue's",
-        By::Ticks,
-        &ONE_PLAIN,
-        0,
-        &[1, 2, 3, 4, 5, 6, 7, 0, 8, 9],
-    ),
-    Row(
-        "a run polls urgent ones first",
-        By::Run,
-        &[Mark::Plain, Mark::Plain, Mark::Urgent, Mark::Urgent],
-        0,
-        &[2, 3, 0, 1],
-    ),
-    Row(
-        "a woken urgent one goes first again",
-        By::Ticks,
-        &[Mark::Plain, Mark::Urgent],
-        1,
-        &[1, 1, 0, 0],
-    ),
-];
+/// How many urgent ones there are, which wake themselves in each poll.
+const URGENT: u64 = 3;
 
 impl<F: Planned<R>, R: Abort + Wait + Copy + Drop + 'static> Stage<F, R> {
-    /// Spawns futures of these marks and of the names from 0 on, which wake themselves this often, and gives their handles up.
-    fn spawn_all_of(&self, marks: &[Mark], times: u64) -> bool {
-        let mut name: u64 = 0;
-        for mark in marks {
-            let future = self.job(name, Work::Yield(times, name));
-            let Some(handle) = self.spawn_marked(future, *mark) else {
-                return false;
-            };
-            self.give_up(handle);
-            name = name.saturating_add(1);
+    fn polls_of(&self, name: u64) -> u64 {
+        self.notes.of(name).polls.load(SeqCst)
+    }
+
+    /// Whether each eight ticks poll the plain future that has waited longest, and seven times an urgent one.
+    fn ticks_poll_plain_ones(&self) -> bool {
+        let mut is_so = true;
+        for name in 0..PLAIN {
+            is_so = is_so & self.spawn_detached(self.ready(name));
         }
-        true
-    }
-
-    fn give_up(&self, stored: Returning<ExStoredTask>) {
-        if let Some(task) = stored.redeem(self.rt, self.realm) {
-            task.detach();
+        for name in PLAIN..PLAIN + URGENT {
+            let endless = self.job(name, Work::Yield(u64::MAX, name));
+            is_so = is_so & self.spawn_to_run(endless, Mark::Urgent);
         }
-    }
-
-    /// Whether of all polls the last one of the future of this name was this one.
-    fn was_polled(&self, name: u64, at: u64) -> bool {
-        let counts = self.notes.of(name);
-        (counts.polls.load(SeqCst) > 0) & (counts.last.load(SeqCst) == at)
-    }
-
-    /// Whether each tick polls the future of the next name.
-    fn ticks_poll(&self, names: &[u64]) -> bool {
-        let mut at: u64 = 0;
-        for name in names {
-            if !self.try_tick() || !self.was_polled(*name, at) {
-                return false;
+        let mut urgent = 0u64;
+        for name in 0..PLAIN {
+            is_so = is_so & (self.polls_of(name) == 0);
+            for _ in 0..8 {
+                is_so = is_so & self.try_tick();
             }
-            at = at.saturating_add(1);
+            is_so = is_so & (self.polls_of(name) == 1);
         }
-        true
-    }
-
-    /// Whether one poll of a run polls its own future, and then those of these names.
-    fn run_polls(&self, names: &[u64]) -> bool {
-        let mut run = self.run(Work::Pend, 0);
-        let end = self.poll(&mut run);
-        let mut at: u64 = 0;
-        for name in names {
-            at = at.saturating_add(1);
-            if !self.was_polled(*name, at) {
-                return false;
-            }
+        for name in PLAIN..PLAIN + URGENT {
+            urgent = urgent.saturating_add(self.polls_of(name));
         }
-        end == End::Pending
-    }
-
-    /// Plays a row, and says whether all was as it says.
-    fn polls_as_in(&self, by: By, marks: &[Mark], times: u64, names: &[u64]) -> bool {
-        if !self.spawn_all_of(marks, times) {
-            return false;
-        }
-        let are_polled = match by {
-            By::Ticks => self.ticks_poll(names),
-            By::Run => self.run_polls(names),
-        };
-        are_polled & self.is_empty() & !self.try_tick()
-    }
-
-    /// A handle once it was polled by an outside waker, where it waits.
-    fn awaits(&self, handle: Option<Returning<ExStoredTask>>) -> Option<Returning<ExStoredTask>> {
-        let Some(stored) = handle else {
-            return None;
-        };
-        let Some(task) = stored.redeem(self.rt, self.realm) else {
-            return None;
-        };
-        let mut task: TestTask<R> = task;
-        match task.poll(&self.bell()) {
-            Poll::Pending => Some(Returning::new(task.store())),
-            Poll::Ready(_) => None,
-        }
-    }
-
-    /// Whether the executor's drop drops a plain future and an urgent one, and calls who awaits them.
-    fn ends_both(self) -> bool {
-        let plain = self.awaits(self.spawn_marked(self.ready(0), Mark::Plain));
-        let urgent = self.awaits(self.spawn_marked(self.ready(1), Mark::Urgent));
-        let (Some(plain), Some(urgent)) = (plain, urgent) else {
-            return false;
-        };
-        let Stage {
-            rt: _,
-            alloc: _,
-            realm: _,
-            notes,
-            executor,
-            accepted: _,
-        } = self;
-        drop(executor);
-        let are_called = notes.rings.load(SeqCst) == 2;
-        let are_dropped = notes.dropped.load(SeqCst) == 2;
-        drop(plain);
-        drop(urgent);
-        are_called & are_dropped
+        is_so & (urgent == 7 * PLAIN)
     }
 }
 
 #[test]
-fn plain_and_urgent_futures(rt: HostRuntime) {
+fn plain_futures_run_beside_endless_urgent_ones(rt: HostRuntime) {
     for is_static in [false, true] {
-        for Row(name, by, marks, times, names) in ROWS {
-            let realm = TestRealm::leak(rt, rt.alloc());
-            let stage = Stage::<Job<_>, _>::of_kind(rt, rt.alloc(), realm, is_static, 10);
-            assert!(rt; stage.polls_as_in(*by, marks, *times, names), "{name}");
-        }
+        let (realm, limit) = (TestRealm::leak(rt, rt.alloc()), (PLAIN + URGENT) as usize);
+        let stage = Stage::<Job<_>, _>::of_kind(rt, rt.alloc(), realm, is_static, limit);
+        assert!(rt; stage.ticks_poll_plain_ones(), "static: {is_static}");
     }
-}
-
-#[test]
-fn the_drop_leaves_none_of_either_mark(rt: HostRuntime) {
-    let realm = TestRealm::leak(rt, rt.alloc());
-    assert!(rt; Stage::<Job<_>, _>::new(rt, rt.alloc(), realm, 2).ends_both());
 }

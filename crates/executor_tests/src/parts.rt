@@ -12,8 +12,6 @@ use std::sync::{Arc, Wait};
 #[derive(Default, Drop)]
 pub struct Counts {
     pub polls: AtomicU64,
-    /// Which of all polls its last one was, from 0 on.
-    pub last: AtomicU64,
     pub drops: AtomicU64,
     /// The outputs that it gave.
     pub made: AtomicU64,
@@ -32,8 +30,6 @@ pub struct Notes {
     pub each: Vec<Counts>,
     /// Of all others.
     others: Counts,
-    /// How many polls there were, all together.
-    polls: AtomicU64,
     /// How many futures were dropped of those that are noted one by one, all together.
     pub dropped: AtomicU64,
     /// How many outputs were given to another future.
@@ -57,7 +53,6 @@ impl Notes {
         let notes = Notes {
             each,
             others: Counts::default(),
-            polls: AtomicU64::new(0),
             dropped: AtomicU64::new(0),
             given: AtomicU64::new(0),
             rings: AtomicU64::new(0),
@@ -87,7 +82,6 @@ impl Notes {
         self.asks.ask(name);
         let counts = self.of(name);
         counts.polls.fetch_add(1, SeqCst);
-        counts.last.store(self.polls.fetch_add(1, SeqCst), SeqCst);
         if counts.inside.fetch_add(1, SeqCst) != 0 {
             counts.overlaps.fetch_add(1, SeqCst);
         }

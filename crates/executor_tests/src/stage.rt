@@ -6,7 +6,7 @@ use crate::parts::{
     Bell, Gift, Job, Notes, TestExecutor, TestRealm, TestStatic, TestTask, TestWaker, Work,
     drop_stored,
 };
-use async_executor::{ExStoredTask, Mark, Run, RunError, SpawnError, Tick};
+use async_executor::{ExStoredTask, Mark, Run, RunError, Tick};
 use async_task::{Awaiter, Future, NoMemory, Poll, RealmError, Returning};
 use std::alloc::Global;
 use std::process::Abort;
@@ -171,48 +171,40 @@ impl<F: Planned<R>, R: Abort + Wait + Copy + Drop + 'static> Stage<F, R> {
         })
     }
 
-    fn accept(&self, future: F) -> Result<TestTask<R>, SpawnError<F>> {
-        match &self.executor {
-            TestKind::Owned(executor) => executor.spawn(future),
-            TestKind::Static(executor) => executor.spawn(future),
+    fn accept(&self, future: F, mark: Mark) -> Option<TestTask<R>> {
+        let accepted = match (&self.executor, mark) {
+            (TestKind::Owned(executor), Mark::Plain) => executor.spawn(future),
+            (TestKind::Owned(executor), Mark::Urgent) => executor.spawn_marked(future, mark),
+            (TestKind::Static(executor), Mark::Plain) => executor.spawn(future),
+            (TestKind::Static(executor), Mark::Urgent) => executor.spawn_marked(future, mark),
+        };
+        if accepted.is_ok() {
+            self.accepted.fetch_add(1, SeqCst);
         }
+        accepted.ok()
     }
 
     /// Spawns a future. Its handle is the answer, where it is accepted.
     pub fn spawn(&self, future: F) -> Option<Returning<ExStoredTask>> {
-        match self.accept(future) {
-            Ok(task) => {
-                self.accepted.fetch_add(1, SeqCst);
-                Some(Returning::new(task.store()))
-            }
-            Err(_) => None,
-        }
-    }
-
-    /// Spawns a future with this mark. Its handle is the answer, where it is accepted.
-    pub fn spawn_marked(&self, future: F, mark: Mark) -> Option<Returning<ExStoredTask>> {
-        let accepted = match &self.executor {
-            TestKind::Owned(executor) => executor.spawn_marked(future, mark),
-            TestKind::Static(executor) => executor.spawn_marked(future, mark),
-        };
-        match accepted {
-            Ok(task) => {
-                self.accepted.fetch_add(1, SeqCst);
-                Some(Returning::new(task.store()))
-            }
-            Err(_) => None,
+        match self.accept(future, Mark::Plain) {
+            Some(task) => Some(Returning::new(task.store())),
+            None => None,
         }
     }
 
     /// Spawns a future and gives its handle up, and says whether it was accepted.
     pub fn spawn_detached(&self, future: F) -> bool {
-        match self.accept(future) {
-            Ok(task) => {
-                self.accepted.fetch_add(1, SeqCst);
+        self.spawn_to_run(future, Mark::Plain)
+    }
+
+    /// The same, of either mark.
+    pub fn spawn_to_run(&self, future: F, mark: Mark) -> bool {
+        match self.accept(future, mark) {
+            Some(task) => {
                 task.detach();
                 true
             }
-            Err(_) => false,
+            None => false,
         }
     }
 

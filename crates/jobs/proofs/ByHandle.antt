@@ -4,7 +4,7 @@ use Rattle.std.specs.Prelude.{All}
 use Rattle.std.proofs.lemmas.List.Elements.{All-cons, All-nil}
 use Rattle.async_task.specs.declared.poll.Poll.{Poll}
 use Rattle.async_task.specs.declared.poll.Poll.TheVariants.{Ready, Pending}
-use Rattle.job_text.specs.declared.job.Solved.{Solved}
+use Rattle.jobs.specs.declared.job.Solved.{Solved}
 use Rattle.jobs.specs.declared.site.Awaited.{Awaited}
 use Rattle.jobs.specs.Bringing.{CameByHandle, Gives, given_by, number_awaited}
 

@@ -5,7 +5,7 @@ use Rattle.std.specs.Global.{Global}
 use Rattle.std.proofs.lemmas.List.{length-map}
 use Rattle.std.proofs.lemmas.Option.{get_or_from_slice_get, slice_get-map, slice_get_within}
 use Rattle.async_task.specs.declared.errors.NoMemory.{NoMemory}
-use Rattle.job_text.specs.declared.job.Solved.{Solved}
+use Rattle.jobs.specs.declared.job.Solved.{Solved}
 use Rattle.jobs.specs.Coming.{AreBrought}
 
 -- what a thread ends with

@@ -3,7 +3,7 @@ use Rattle.std.specs.Prelude.{◌≡◌, ℕ, List, [], ◌∷◌, All, Vec, Opt
 use Rattle.std.specs.Global.{Global}
 use Rattle.async_task.specs.declared.poll.Poll.{Poll}
 use Rattle.async_task.specs.declared.poll.Poll.TheVariants.{Ready, Pending}
-use Rattle.job_text.specs.declared.job.Solved.{Solved}
+use Rattle.jobs.specs.declared.job.Solved.{Solved}
 use Rattle.jobs.specs.declared.site.Awaited.{Awaited}
 use Rattle.jobs.specs.declared.site.Next.{Next}
 use Rattle.jobs.specs.declared.site.Next.TheVariants.{Begun, NoneLeft, Lost}

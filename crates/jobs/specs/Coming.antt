@@ -1,9 +1,9 @@
 -- What came back of a list of jobs, in the lists that workers came back with.
 use Rattle.std.specs.Prelude.{◌≡◌, ℕ, List, Vec, Some, length, slice_get}
 use Rattle.std.specs.Global.{Global}
-use Rattle.job_text.specs.Gathered.{EachCameOnce, IsLeastMissing}
-use Rattle.job_text.specs.declared.job.Job.{Job}
-use Rattle.job_text.specs.declared.job.Solved.{Solved}
+use Rattle.jobs.specs.Gathered.{EachCameOnce, IsLeastMissing}
+use Rattle.jobs.specs.declared.job.Job.{Job}
+use Rattle.jobs.specs.declared.job.Solved.{Solved}
 
 -- there is a list for each of so many threads, and each is one that a thread comes back with
 pub record AreBrought (brings : Vec Solved Global → Type 0) (threads : ℕ) (returned : List (Vec Solved Global)) : Type 0 where

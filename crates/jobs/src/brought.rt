@@ -1,7 +1,7 @@
 //! What came back to a worker, which only what its desk brought can be.
+use crate::Solved;
 use crate::desk::{Awaits, Desk};
 use async_task::{NoMemory, Poll};
-use job_text::Solved;
 use std::alloc::Global;
 use std::marker::PhantomData;
 use std::mem;

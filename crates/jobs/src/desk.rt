@@ -1,12 +1,12 @@
 //! What a worker's future knows of the place where it begins jobs and awaits them. A `Worker` is proved for any such place, so
 //! what it answers came from there.
+use crate::Solved;
 use async_task::{NoMemory, Poll};
-use job_text::Solved;
 
 /// Where jobs are begun, one after the other.
 pub trait Desk {
     ghost use Rattle.std.specs.Prelude.{List, []};
-    ghost use Rattle.job_text.specs.declared.job.Solved.{Solved};
+    ghost use Rattle.jobs.specs.declared.job.Solved.{Solved};
 
     /// What came back here, in this order, each by a handle of its own that was awaited; some of it may be missing.
     ghost has_brought: { Self → List Solved → Type 0 };
@@ -22,7 +22,7 @@ pub trait Desk {
 /// Where jobs are awaited too, with wakers `K`.
 pub trait Awaits<K>: Desk {
     ghost use Rattle.std.specs.Prelude.{List, ◌++◌};
-    ghost use Rattle.job_text.specs.declared.job.Solved.{Solved};
+    ghost use Rattle.jobs.specs.declared.job.Solved.{Solved};
     ghost use Rattle.jobs.specs.Bringing.{given_by};
 
     /// Awaits the handle of the job that was begun last, where one is awaited: the job that came back, once it did.

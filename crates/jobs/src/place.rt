@@ -2,7 +2,7 @@
 //! nor of threads that call what holds a realm: so it is generic over a `JobSite`, and a program that has its runtime value says
 //! which that is.
 ghost use Rattle.std.specs.Prelude.{All};
-ghost use Rattle.job_text.specs.Answers.{IsInRange};
+ghost use Rattle.jobs.specs.Answers.{IsInRange};
 
 use crate::brought::Brought;
 use crate::desk::Awaits;
@@ -10,8 +10,8 @@ use crate::gate::Gate;
 use crate::site::{JobRealm, JobWaker, Site};
 use crate::site_desk::SiteDesk;
 use crate::worker::Worker;
+use crate::{Job, Solved};
 use async_task::NoMemory;
-use job_text::{Job, Solved};
 use std::alloc::Global;
 use std::sync::Wait;
 use workers::run_until;
@@ -20,7 +20,7 @@ use workers::run_until;
 pub trait Labor<R: Wait> {
     ghost use Rattle.std.specs.Prelude.{IfOk, Vec};
     ghost use Rattle.std.specs.Global.{Global};
-    ghost use Rattle.job_text.specs.declared.job.Solved.{Solved};
+    ghost use Rattle.jobs.specs.declared.job.Solved.{Solved};
 
     /// What threads of this place come back with: jobs that were begun there, each by a handle of its own.
     ghost brings: { Self → Vec Solved Global → Type 0 };

@@ -1,13 +1,13 @@
 //! Jobs on worker threads.
 ghost use Rattle.std.specs.Prelude.{◌≡◌, ◌<◌, ◌≤◌, ℕ, All, Err, IfOk, Ok, length, map};
-ghost use Rattle.job_text.specs.Answers.{IsInRange, answer_of};
-ghost use Rattle.job_text.specs.declared.errors.JobsError.TheVariants.{Missing};
+ghost use Rattle.jobs.specs.Answers.{IsInRange, answer_of};
+ghost use Rattle.jobs.specs.declared.errors.JobsError.TheVariants.{Missing};
 ghost use Rattle.jobs.specs.Coming.{AllCameBack, AreBrought, CameBackUpTo};
 
 use crate::place::{JobSite, Labor};
 use crate::site::JobRealm;
+use crate::{Answer, Job, JobsError, Solved, gather};
 use async_task::NoMemory;
-use job_text::{Answer, Job, JobsError, Solved, gather};
 use std::alloc::Global;
 use std::marker::PhantomData;
 use std::sync::Wait;

@@ -1,14 +1,14 @@
 //! The jobs that are left, and the executor that they are spawned on.
 ghost use Rattle.std.specs.Prelude.{All};
-ghost use Rattle.job_text.specs.Answers.{IsInRange};
+ghost use Rattle.jobs.specs.Answers.{IsInRange};
 
 use crate::gate::Gate;
 use crate::work::Work;
+use crate::{Job, Solved};
 use async_executor::{ExRealm, ExStoredTask, ExWaker, Executor, SpawnError};
 use async_task::{Future, NoMemory, Poll, Returning, TaskError};
 use blocking::ThreadWaker;
 use concurrent_queue::ConcurrentQueue;
-use job_text::{Job, Solved};
 use std::alloc::Global;
 use std::sync::Wait;
 

@@ -2,11 +2,11 @@ ghost use Rattle.std.specs.Prelude.{All};
 ghost use Rattle.std.proofs.lemmas.List.Elements.{All-nil};
 ghost use Rattle.jobs.specs.Bringing.{CameByHandle};
 
+use crate::Solved;
 use crate::desk::{Awaits, Desk};
 use crate::gate::Gate;
 use crate::site::{Awaited, JobWaker, Next, Site};
 use async_task::{NoMemory, Poll};
-use job_text::Solved;
 use std::sync::Wait;
 
 /// A worker's desk at a site: it pops a job and spawns it, and awaits that job's handle.

@@ -1,9 +1,9 @@
 ghost use Rattle.std.specs.Prelude.{◌≡◌};
-ghost use Rattle.job_text.specs.Answers.{IsInRange};
+ghost use Rattle.jobs.specs.Answers.{IsInRange};
 
 use crate::gate::Gate;
+use crate::{Job, Progress, Solved};
 use async_task::{Future, Poll, Wake};
-use job_text::{Job, Progress, Solved};
 
 /// The future of one job: its output is the job with its answer.
 #[derive(Drop)]

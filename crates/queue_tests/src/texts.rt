@@ -1,13 +1,11 @@
-//! `ConcurrentQueue` called by one thread: what is printed, what a script can't say of walks and items, and refused memory. Of an
-//! `Exclusive` the contracts say what a refusal leaves.
+//! `ConcurrentQueue` called by one thread: what is printed, and what a script can't say of walks, items and places.
 ghost use Rattle.std.specs.Prelude.{◌≡◌, ◌%◌};
 
 use crate::words::{debugs, holds, prints, same};
 use concurrent_queue::glimpse::{Glimpse, Locked};
 use concurrent_queue::{ConcurrentQueue, Exclusive, ForcePushError, NoMemory, PopError, PushError};
 use queue_steps::Unbounded;
-use std::process::Abort;
-use std::sync::{Mutex, Wait};
+use std::sync::Mutex;
 
 #[test]
 fn errors_print_their_names(rt: HostRuntime) {
@@ -84,42 +82,6 @@ fn items_keep_what_their_type_promises(rt: HostRuntime) {
     same(&rt, value(queue.pop(&rt).ok()), 42);
     same(&rt, value(queue.try_iter(&rt).next()), 8);
     same(&rt, value(queue.pop(&rt).ok()), 0);
-}
-
-// Pushes an item. A push that is refused has changed nothing, and the next one is accepted. The next two tests also pass where
-// any one allocation is refused: `rt try --test --fail-alloc N`.
-fn push_or_push_again<R: Wait + Abort>(rt: &R, queue: &ConcurrentQueue<u64>, item: u64) {
-    let before = queue.len(rt);
-    if let Err(refused) = queue.push(rt, item) {
-        same(rt, refused, PushError::NoMemory(item));
-        same(rt, (queue.len(rt), queue.is_closed(rt)), (before, false));
-        same(rt, queue.force_push(rt, item), Ok(None));
-    }
-}
-
-#[test]
-fn a_refused_shared_push_hands_back_the_value_and_changes_nothing(rt: HostRuntime) {
-    let queue = ConcurrentQueue::unbounded(rt.alloc());
-    for item in 0..100u64 {
-        push_or_push_again(&rt, &queue, item);
-    }
-    for item in 0..100u64 {
-        same(&rt, queue.pop(&rt), Ok(item));
-    }
-}
-
-// Ten forced pushes find room, and leave the last four items.
-#[test]
-fn a_shared_ring_is_refused_whole_or_takes_no_more_memory(rt: HostRuntime) {
-    match ConcurrentQueue::bounded(rt.alloc(), 4) {
-        Err(refused) => same(&rt, refused, NoMemory),
-        Ok(queue) => {
-            for item in 0..10u64 {
-                holds(&rt, queue.force_push(&rt, item).is_ok());
-            }
-            same(&rt, queue.pop(&rt), Ok(6));
-        }
-    }
 }
 
 #[test]

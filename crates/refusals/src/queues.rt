@@ -22,6 +22,8 @@ pub enum QueueRow {
     /// The next job goes in.
     Push,
     ForcePush,
+    /// So many jobs go in that want no memory.
+    Pushes(u64),
     /// So many jobs come out, in order, and then there is none.
     Pops(u64),
 }
@@ -41,7 +43,10 @@ pub const QUEUE_ROWS: &[QueueRow] = &[
     QueueRow::Chain,
     QueueRow::ForcePush,
     QueueRow::Push,
-    QueueRow::Pops(2),
+    QueueRow::Pushes(28),
+    QueueRow::Push,
+    QueueRow::ForcePush,
+    QueueRow::Pops(32),
     QueueRow::OwnRing,
     QueueRow::Push,
     QueueRow::ForcePush,
@@ -52,7 +57,10 @@ pub const QUEUE_ROWS: &[QueueRow] = &[
     QueueRow::OwnChain,
     QueueRow::ForcePush,
     QueueRow::Push,
-    QueueRow::Pops(2),
+    QueueRow::Pushes(28),
+    QueueRow::Push,
+    QueueRow::ForcePush,
+    QueueRow::Pops(32),
 ];
 
 #[derive(Drop)]
@@ -214,6 +222,13 @@ impl<R: Wait + Copy + Drop> Trial for Queues<R> {
             QueueRow::OwnChain => self.place_own(Ok(Exclusive::unbounded(self.alloc))),
             QueueRow::Push => self.push(),
             QueueRow::ForcePush => self.force_push(),
+            QueueRow::Pushes(count) => {
+                let mut went_in = true;
+                for _ in 0..count {
+                    went_in = went_in & matches!(self.push(), Ended::Well);
+                }
+                Ended::of(went_in)
+            }
             QueueRow::Pops(count) => {
                 let mut are_next = true;
                 for _ in 0..count {

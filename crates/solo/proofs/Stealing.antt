@@ -1,5 +1,5 @@
 -- One step of a walk, and one of a steal.
-use Rattle.std.proofs.Common.{◌≡◌, ℕ, zero, suc, ◌+◌, ◌-◌, ◌<◌, ◌==◌, Bool, false, Option, Some, None, drop, refl, sym, ap, ◌∙◌, arith}
+use Rattle.std.proofs.Common.{◌≡◌, ℕ, zero, suc, ◌-◌, ◌<◌, ◌==◌, Bool, false, Option, Some, None, drop, sym, ap, ◌∙◌, arith}
 use Rattle.std.proofs.lemmas.Bool.{ne_eqb}
 use Rattle.solo.specs.declared.names.Task.{Task}
 use Rattle.solo.specs.declared.solo.Solo.{Solo}

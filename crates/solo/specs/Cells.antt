@@ -1,5 +1,5 @@
 -- The tasks of an executor of one owner: what each call does to the task of a name, and what it answers.
-use Rattle.std.specs.Prelude.{ℕ, ◌^◌, ◌+◌, ◌==◌, nat_lt, Bool, true, false, ◌&&◌, not, Option, Some, None, is_some, slice_set}
+use Rattle.std.specs.Prelude.{ℕ, ◌^◌, ◌==◌, nat_lt, Bool, true, false, ◌&&◌, Option, Some, None, is_some, slice_set}
 use Rattle.slab.specs.Slab.{Slab, get, with_value}
 use Rattle.executor_parts.specs.declared.mark.Mark.{Mark}
 use Rattle.executor_parts.specs.declared.places.EntryPlace.{EntryPlace}
@@ -8,7 +8,7 @@ use Rattle.task_moves.specs.LocalTask as local
 use Rattle.task_moves.specs.LocalTask.{LocalValue, Ended, with_task, told, info_of}
 use Rattle.task_moves.specs.declared.schedule_info.ScheduleInfo.{ScheduleInfo}
 use Rattle.task_moves.specs.declared.local_task.answers.FuturePlace.{FuturePlace}
-use Rattle.task_moves.specs.declared.local_task.answers.FuturePlace.TheVariants.{Home, Lent, Dropping, Gone}
+use Rattle.task_moves.specs.declared.local_task.answers.FuturePlace.TheVariants.{Home, Dropping, Gone}
 use Rattle.task_moves.specs.declared.local_task.answers.Start.{Start}
 use Rattle.task_moves.specs.declared.local_task.answers.Start.TheVariants.{Poll, Drop}
 use Rattle.task_moves.specs.declared.local_task.answers.Back.TheVariants.{Ready, Pending}

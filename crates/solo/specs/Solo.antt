@@ -1,9 +1,8 @@
 -- What each call of an executor of one owner does, and what it hands out.
 use Rattle.std.specs.Prelude.{◌≡◌, ℕ, ◌==◌, ◌||◌, Bool, true, false, [], Option, Some, None, is_some, Result, Ok, Err, length}
-use Rattle.std.specs.Prelude.{◌+◌, ◌-◌, ◌^◌, min, unwrap_or}
+use Rattle.std.specs.Prelude.{◌+◌, ◌-◌, ◌^◌, min}
 use Rattle.queue_steps.specs.ClosableQueue.{new_queue, count_of_new}
 use Rattle.executor_parts.specs.declared.mark.Mark.{Mark}
-use Rattle.executor_parts.specs.declared.places.EntryPlace.{EntryPlace}
 use Rattle.executor_parts.specs.Places.{entry_in, set_future, displaced}
 use Rattle.task_moves.specs.declared.local_task.answers.Back.{Back}
 use Rattle.task_moves.specs.declared.local_task.answers.Back.TheVariants.{Ready, Pending}
@@ -27,7 +26,7 @@ use Rattle.solo.specs.declared.solo.Solo.{Solo}
 use Rattle.solo.specs.declared.cells.After.{After}
 use Rattle.solo.specs.declared.cells.After.TheVariants.{Queue, Rest, Drop as DropFuture, Unknown}
 use Rattle.solo.specs.Table.{Accepts, Refuses}
-use Rattle.solo.specs.Cells.{choose, changed, asked, tidied}
+use Rattle.solo.specs.Cells.{asked}
 use Rattle.solo.specs.Cells as cells
 use Rattle.solo.specs.Lines.{new_lines, searched, search_answer}
 use Rattle.solo.specs.OwnQueues as own

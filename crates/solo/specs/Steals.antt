@@ -1,5 +1,5 @@
 -- How a run searches for a task, and steals.
-use Rattle.std.specs.Prelude.{ℕ, zero, suc, ◌+◌, ◌%◌, ◌==◌, nat_lt, cond, Bool, true, false, Option, Some, None, length, drop}
+use Rattle.std.specs.Prelude.{ℕ, zero, suc, ◌+◌, ◌%◌, ◌==◌, nat_lt, Bool, false, Option, Some, None, length, drop}
 use Rattle.std.specs.Int.{div_ceil}
 use Rattle.solo.specs.declared.names.Task.{Task}
 use Rattle.solo.specs.declared.runs.Sought.{Sought}

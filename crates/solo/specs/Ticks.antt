@@ -6,7 +6,6 @@ use Rattle.executor_parts.specs.Sleepers.{Sleepers, flag_of, woken_up, waker_of,
 use Rattle.solo.specs.declared.names.Task.{Task}
 use Rattle.solo.specs.declared.names.SoloWaker.{SoloWaker}
 use Rattle.solo.specs.declared.names.SoloWaker.TheVariants.{Task as OfTask, Outside}
-use Rattle.solo.specs.declared.owed.Told.{Told}
 use Rattle.solo.specs.declared.ticks.Ticker.{Ticker}
 use Rattle.solo.specs.declared.ticks.Ticker.TheVariants.{Awake, Asleep}
 use Rattle.solo.specs.declared.ticks.Look.{Look}

@@ -1,5 +1,5 @@
 -- What follows a change of a task, in the order of the step machine.
-use Rattle.std.specs.Prelude.{ℕ, ◌==◌, Bool, true, false, Option, Some, None, length}
+use Rattle.std.specs.Prelude.{◌==◌, Bool, true, false, Option, Some, None, length}
 use Rattle.executor_parts.specs.declared.mark.Mark.{Mark}
 use Rattle.executor_parts.specs.declared.mark.Mark.TheVariants.{Plain}
 use Rattle.executor_parts.specs.declared.places.EntryPlace.{EntryPlace}
@@ -12,7 +12,7 @@ use Rattle.solo.specs.declared.names.SoloWaker.{SoloWaker}
 use Rattle.solo.specs.declared.names.SoloWaker.TheVariants.{Task as OfTask, Outside}
 use Rattle.solo.specs.declared.owed.Told.{Told}
 use Rattle.solo.specs.declared.owed.Found.{Found}
-use Rattle.solo.specs.declared.owed.Found.TheVariants.{Nothing, Poll as Polls, Drop as Drops, Gone}
+use Rattle.solo.specs.declared.owed.Found.TheVariants.{Poll as Polls, Drop as Drops, Gone}
 use Rattle.solo.specs.declared.turns.Left.{Left}
 use Rattle.solo.specs.declared.solo.Solo.{Solo}
 use Rattle.solo.specs.Line.{accepts}

@@ -2,7 +2,7 @@
 ghost use Rattle.std.specs.Prelude.{◌≡◌, [], true, false, Some, None, OnOk, IsOk};
 ghost use Rattle.task_moves.specs.declared.local_task.answers.Finish.TheVariants.{Nothing};
 ghost use Rattle.task_moves.specs.declared.local_task.answers.Polled.TheVariants.{Closed};
-ghost use Rattle.slab.specs.Slab.{get, slab_len, Updates, HasRoomFor};
+ghost use Rattle.slab.specs.Slab.{get, Updates, HasRoomFor};
 ghost use Rattle.solo.specs.declared.cells.After.TheVariants.{Unknown};
 ghost use Rattle.executor_parts.specs.declared.mark.Mark.TheVariants.{Plain};
 ghost use Rattle.solo.specs.Cells as cells;

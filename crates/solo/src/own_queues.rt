@@ -1,5 +1,5 @@
 //! The runs' own queues, from which other runs steal.
-ghost use Rattle.std.specs.Prelude.{◌≡◌, ◌<◌, [], nat_lt, drop as list_drop, slice_get, IfOk, IfErr, IfSome, OnOk, length};
+ghost use Rattle.std.specs.Prelude.{◌≡◌, ◌<◌, [], drop as list_drop, slice_get, IfOk, IfErr, IfSome, OnOk, length};
 ghost use Rattle.solo.specs.OwnQueues as own;
 
 use crate::names::Task;

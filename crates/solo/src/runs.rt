@@ -1,7 +1,6 @@
-//! Runs: each has a queue of its own, into which it steals from the executor's queue and from those of other runs.
+//! Runs: each has a queue of its own, into which it steals from the executor's queues and from those of other runs.
 ghost use Rattle.std.specs.Prelude.{◌≡◌, IfOk, IfErr, OnOk};
 ghost use Rattle.solo.specs.Runs as runs;
-ghost use Rattle.solo.specs.Ticks as ticks;
 
 use crate::names::{SoloWaker, Task};
 use crate::owed::Told;
@@ -10,7 +9,7 @@ use crate::solo::Solo;
 use crate::ticks::{Dropped, Look, Ticked, Ticker, WokeUp};
 use std::alloc::AllocError;
 
-/// At every 64th task that it has counted in its life, a run steals from the executor's queue.
+/// At every 64th task that it has counted in its life, a run steals from both of the executor's queues.
 const STEALS_AT: u64 = 64;
 
 /// After 200 tasks a run lets others go first.
@@ -21,7 +20,7 @@ const PAUSES_AT: u64 = 200;
 pub struct Runner {
     // Under which its own queue is kept.
     pub(crate) number: u64,
-    // How many tasks it has counted since it last stole from the executor's queue for their number.
+    // How many tasks it has counted since it last stole from the executor's queues for their number.
     pub(crate) counted: u64,
     // How many it has taken since it last let others go first.
     pub(crate) taken: u64,
@@ -181,8 +180,8 @@ impl<F, T, X> Solo<F, T, X> {
         }
     }
 
-    /// A run has taken a task: it wakes up, and a sleeper is told. At every 64th it steals from the executor's queue before
-    /// the task's turn begins.
+    /// A run has taken a task: it wakes up, and a sleeper is told. At every 64th it steals from both of the executor's queues
+    /// before the task's turn begins.
     fn run_found(
         &mut self,
         runner: &mut Runner,

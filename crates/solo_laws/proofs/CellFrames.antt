@@ -1,5 +1,7 @@
 -- What telling, queueing, sleeping and stealing leave of the tasks: what their wakes, the releases of their wakers and their going leave.
-use Rattle.std.proofs.Common.{ℕ, zero, suc, ◌%◌, nat_lt, Bool, true, false, Option, Some, None, slice_get}
+use Rattle.std.proofs.Common.{ℕ, zero, suc, ◌%◌, nat_lt, Bool, true, false, Option, Some, None}
+use Rattle.executor_parts.specs.declared.mark.Mark.{Mark}
+use Rattle.executor_parts.specs.declared.mark.Mark.TheVariants.{Plain, Urgent}
 use Rattle.executor_parts.specs.declared.places.EntryPlace.{EntryPlace}
 use Rattle.executor_parts.specs.Places.{entry_in, parts_of}
 use Rattle.executor_parts.specs.Sleepers.{last_waker, without_last, waker_of, position_of, listed}
@@ -16,12 +18,11 @@ use Rattle.solo.specs.declared.steals.Source.TheVariants.{Common, Own}
 use Rattle.solo.specs.declared.cells.Cells.{Cells}
 use Rattle.solo.specs.declared.solo.Solo.{Solo}
 use Rattle.solo.specs.OwnQueues as own
-use Rattle.solo.specs.Line.{pushed, accepts}
+use Rattle.solo.specs.Lines.{search_answer}
 use Rattle.solo.specs.Cells.{asked, changed, tidied}
 use Rattle.solo.specs.Cells as cells
-use Rattle.solo.specs.Turns.{turned, marked, loosed, handed_by, is_full, handed, told, scheduled, scheduled_if, let_go, let_go_if}
-use Rattle.solo.specs.Turns.{left_by_parts}
-use Rattle.solo.specs.Turns.{left, without, out_of, begun}
+use Rattle.solo.specs.Turns.{lined, takes, turned, marked, loosed, handed_by, is_full, handed, told, scheduled, scheduled_if}
+use Rattle.solo.specs.Turns.{let_go, let_go_if, left_by_parts, left, without, out_of, begun}
 use Rattle.solo.specs.Solo.{popped}
 use Rattle.solo.specs.Solo as solo
 use Rattle.solo.specs.Ticks as ticks
@@ -42,13 +43,13 @@ module _ {F T X : Type 0} (P : Cells T X → Type 0) (wakes : (u : Task) (s : Ce
   pub loosed_at : (u : Task) (s : Solo F T X) → At s → At (loosed u s)
   loosed_at u s p =
       let loose : At (turned cells.released u s) = releases u s.cells p in
-      chosen At (asked cells.release_queues false u s.cells) (record (turned cells.released u s) { line = pushed u s.line })
+      chosen At (asked cells.release_queues false u s.cells) (lined u (turned cells.released u s))
       (turned cells.released u s) loose loose
 
   marked_at : (u : Task) (s : Solo F T X) → At s → At (marked u s)
   marked_at u s p =
       let woke : At (turned cells.woken u s) = wakes u s.cells p in
-      chosen At (asked cells.wake_queues false u s.cells) (record (turned cells.woken u s) { line = pushed u s.line })
+      chosen At (asked cells.wake_queues false u s.cells) (lined u (turned cells.woken u s))
       (turned cells.woken u s) woke woke
 
   handed_by_at : (w : Option (SoloWaker X)) (s : Solo F T X) → At s → At (handed_by w s)
@@ -65,8 +66,7 @@ module _ {F T X : Type 0} (P : Cells T X → Type 0) (wakes : (u : Task) (s : Ce
 
   pub scheduled_at : (u : Task) (s : Solo F T X) → At s → At (scheduled u s)
   scheduled_at u s p =
-      let lined : Solo F T X = record s { line = pushed u s.line } in
-      chosen At (accepts s.line) (told lined) lined (told_at lined p) p
+      chosen At (takes u s) (told (lined u s)) (lined u s) (told_at (lined u s) p) p
 
   pub scheduled_if_at : (due : Bool) (u : Task) (s : Solo F T X) → At s → At (scheduled_if due u s)
   scheduled_if_at due u s p = chosen At due (scheduled u s) s (scheduled_at u s p) p
@@ -133,7 +133,7 @@ module _ {F T X : Type 0} (P : Cells T X → Type 0) (wakes : (u : Task) (s : Ce
   out_of_at None s p = p
 
   without_first_at : (source : Source) (s : Solo F T X) → At s → At (without_first source s)
-  without_first_at Common s p = p
+  without_first_at (Common mark) s p = p
   without_first_at (Own number) s p = p
 
   moved_at : (n : ℕ) (source : Source) (number : ℕ) (s : Solo F T X) → At s → At (moved n source number s)
@@ -159,13 +159,15 @@ module _ {F T X : Type 0} (P : Cells T X → Type 0) (wakes : (u : Task) (s : Ce
       (round count number n (next_place at count) (looked number at s)) (looked_at number at s p)
       (round_at count number n (next_place at count) (looked number at s) (looked_at number at s p))
 
-  further_at : (first : Option Task) (number start : ℕ) (s : Solo F T X) → At s → At (further_by first number start s)
-  further_at (Some u) number start s p = stolen_at_of Common number s p
-  further_at None number start s p = round_at s.runs.listed number s.runs.listed (start % s.runs.listed) s p
+  further_at : (first : Option Task) (mark : Mark) (number start : ℕ) (s : Solo F T X) → At s
+      → At (further_by first mark number start s)
+  further_at (Some u) mark number start s p = stolen_at_of (Common mark) number s p
+  further_at None mark number start s p = round_at s.runs.listed number s.runs.listed (start % s.runs.listed) s p
 
   sought_by_at : (first : Option Task) (number start : ℕ) (s : Solo F T X) → At s → At (sought_by first number start s)
   sought_by_at (Some u) number start s p = p
-  sought_by_at None number start s p = further_at (slice_get s.line.items 0) number start (popped s) p
+  sought_by_at None number start s p =
+      further_at (search_answer s.lines).task (search_answer s.lines).mark number start (popped s) p
 
   pub sought_at : (number start : ℕ) (s : Solo F T X) → At s → At (sought number start s)
   sought_at number start s p = sought_by_at (own.first_of number s.runs) number start (own_popped number s) p
@@ -187,24 +189,26 @@ module _ {F T X : Type 0} (P : Cells T X → Type 0) (wakes : (u : Task) (s : Ce
     tick_taken_at (Some u) ticker waker s p = begun_at u (runs.told ticker s) (woke_at ticker s p)
     tick_taken_at None ticker waker s p = asleep_at ticker waker s p
 
-    pub tick_searched_at : (first : Option Task) (ticker : Ticker) (s : Solo F T X) → At s → At (ticks.searched_by first ticker s)
-    tick_searched_at (Some u) ticker s p = begun_at u (runs.told ticker s) (woke_at ticker s p)
-    tick_searched_at None ticker s p = p
+    pub tick_searched_at : (first : Option Task) (turn : ℕ) (ticker : Ticker) (s : Solo F T X) → At s
+        → At (ticks.searched_by first turn ticker s)
+    tick_searched_at (Some u) turn ticker s p = begun_at u (runs.told ticker s) (woke_at ticker s p)
+    tick_searched_at None turn ticker s p = p
 
     run_found_at : (runner : Runner) (ticker : Ticker) (u : Task) (s : Solo F T X) → At s → At (runs.found runner ticker u s)
     run_found_at runner ticker u s p =
         let after : Solo F T X = runs.told ticker s in
         let woke : At after = woke_at ticker s p in
+        let urgent : Solo F T X = stolen (Common Urgent) runner.number after in
         begun_at u (stolen_if (runs.is_steal_due runner) runner.number after)
-        (chosen At (runs.is_steal_due runner) (stolen Common runner.number after) after
-        (stolen_at_of Common runner.number after woke) woke)
+        (chosen At (runs.is_steal_due runner) (stolen (Common Plain) runner.number urgent) after
+        (stolen_at_of (Common Plain) runner.number urgent (stolen_at_of (Common Urgent) runner.number after woke)) woke)
 
     pub run_taken_at : (first : Option Task) (runner : Runner) (ticker : Ticker) (waker : SoloWaker X) (s : Solo F T X) → At s
         → At (runs.took_by first runner ticker waker s)
     run_taken_at (Some u) runner ticker waker s p = run_found_at runner ticker u s p
     run_taken_at None runner ticker waker s p = asleep_at ticker waker s p
 
-    pub run_searched_at : (first : Option Task) (runner : Runner) (ticker : Ticker) (s : Solo F T X) → At s
-        → At (runs.searched_by first runner ticker s)
-    run_searched_at (Some u) runner ticker s p = run_found_at runner ticker u s p
-    run_searched_at None runner ticker s p = p
+    pub run_searched_at : (first : Option Task) (turn : ℕ) (runner : Runner) (ticker : Ticker) (s : Solo F T X) → At s
+        → At (runs.searched_by first turn runner ticker s)
+    run_searched_at (Some u) turn runner ticker s p = run_found_at runner ticker u s p
+    run_searched_at None turn runner ticker s p = p

@@ -22,7 +22,7 @@ use Rattle.solo.specs.Table.{new_entry, counted_waker, rest_of, first_parts}
 use Rattle.solo.specs.Cells.{asked}
 use Rattle.solo.specs.Cells as cells
 use Rattle.solo.specs.Turns as turns
-use Rattle.solo.specs.Turns.{turned, lined_if}
+use Rattle.solo.specs.Turns.{turned}
 use Rattle.solo.specs.Solo as solo
 use Rattle.solo.specs.Closing as closing
 use Rattle.solo.specs.Runs as runs

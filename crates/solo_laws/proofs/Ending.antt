@@ -10,7 +10,7 @@ use Rattle.solo.specs.declared.names.SoloWaker.TheVariants.{Task as OfTask, Outs
 use Rattle.solo.specs.declared.solo.Solo.{Solo}
 use Rattle.solo.specs.Lines.{taken_from}
 use Rattle.solo.specs.Table.{first_parts}
-use Rattle.solo.specs.Cells.{choose, asked}
+use Rattle.solo.specs.Cells.{asked}
 use Rattle.solo.specs.Cells as cells
 use Rattle.solo.specs.Turns.{lined, takes, turned, lined_if, marked, loosed, handed_by, is_full, handed, told, scheduled}
 use Rattle.solo.specs.Solo.{woken}

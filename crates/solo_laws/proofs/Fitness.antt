@@ -194,9 +194,11 @@ module _ {T X : Type 0} where
   polled_asks waker v fits = polled_if v.task.handle waker v fits
 
   ready_by : (b : Bool) (output : T) (v : Kept T X) → cells.is_lent v ≡ b → unfit v ≡ false
-      → (unfit (choose b (cells.settled (record { task = (abstract.end_ready output v.task).task; future = Gone })) v) ≡ false)
+      → (unfit (choose b (cells.settled (record { task = (abstract.end_ready output v.task).task; future = Gone }) v) v) ≡ false)
       × (one_if (cells.may_start v) + 0
-      ≤ one_if (cells.may_start (choose b (cells.settled (record { task = (abstract.end_ready output v.task).task; future = Gone })) v)))
+      ≤ one_if (cells.may_start (choose b
+      (cells.settled (record { task = (abstract.end_ready output v.task).task; future = Gone }) v)
+      v)))
   ready_by true output v is fits =
       let was : one_if (cells.may_start v) ≡ 0 = ap one_if (lent_not_ready v.future (is_queued v.task.phase) is) in
       (refl, omega (arith, was))
@@ -206,9 +208,9 @@ module _ {T X : Type 0} where
   ended_ready_asks output v fits = ready_by (cells.is_lent v) output v refl fits
 
   pending_end_by : (end : PendingEnd) (place : EntryPlace) (v : Kept T X) → cells.is_lent v ≡ true → unfit v ≡ false
-      → (unfit (cells.settled (local.settle_pending_by end place v.task)) ≡ false)
+      → (unfit (cells.settled (local.settle_pending_by end place v.task) v) ≡ false)
       × (one_if (cells.may_start v) + one_if (is_queue (cells.pending_by end))
-      ≤ one_if (cells.may_start (cells.settled (local.settle_pending_by end place v.task))))
+      ≤ one_if (cells.may_start (cells.settled (local.settle_pending_by end place v.task) v)))
   pending_end_by Drops place v is fits =
       let was : one_if (cells.may_start v) ≡ 0 = ap one_if (lent_not_ready v.future (is_queued v.task.phase) is) in
       (ap (λ b. b && true) (lent_not_idle v.future (is_idle v.task.phase) is fits), omega (arith, was))
@@ -223,9 +225,10 @@ module _ {T X : Type 0} where
       (refl, omega (arith, was))
 
   pending_if : (b : Bool) (place : EntryPlace) (v : Kept T X) → cells.is_lent v ≡ b → unfit v ≡ false
-      → (unfit (choose b (cells.settled (local.settle_pending_by (abstract.pending_end v.task) place v.task)) v) ≡ false)
+      → (unfit (choose b (cells.settled (local.settle_pending_by (abstract.pending_end v.task) place v.task) v) v) ≡ false)
       × (one_if (cells.may_start v) + one_if (is_queue (choose b (cells.pending_by (abstract.pending_end v.task)) Unknown))
-      ≤ one_if (cells.may_start (choose b (cells.settled (local.settle_pending_by (abstract.pending_end v.task) place v.task)) v)))
+      ≤ one_if (cells.may_start (choose b (cells.settled (local.settle_pending_by (abstract.pending_end v.task) place v.task) v)
+      v)))
   pending_if true place v is fits = pending_end_by (abstract.pending_end v.task) place v is fits
   pending_if false place v is fits = same_so v fits
 
@@ -241,9 +244,9 @@ module _ {T X : Type 0} where
   finished_end Finished t = refl
 
   finished_by : (b : Bool) (v : Kept T X) → cells.is_dropping v ≡ b → unfit v ≡ false
-      → (unfit (choose b (record { task = (local.finish v.task).task; future = Gone }) v) ≡ false)
+      → (unfit (choose b (record v { task = (local.finish v.task).task; future = Gone }) v) ≡ false)
       × (one_if (cells.may_start v) + 0
-      ≤ one_if (cells.may_start (choose b (record { task = (local.finish v.task).task; future = Gone }) v)))
+      ≤ one_if (cells.may_start (choose b (record v { task = (local.finish v.task).task; future = Gone }) v)))
   finished_by true v is fits =
       let was : one_if (cells.may_start v) ≡ 0 = ap one_if (dropping_not_ready v.future (is_queued v.task.phase) is) in
       (ap (λ b. b && true) (finished_end v.task.phase v.task), omega (arith, was))
@@ -253,12 +256,13 @@ module _ {T X : Type 0} where
   finished_asks v fits = finished_by (cells.is_dropping v) v refl fits
 
   started_end : (closed : Bool) (v : Kept T X) → is_idle v.task.phase ≡ false
-      → unfit (record { task = if closed then v.task else record v.task { phase = Polling }; future = local.started closed }) ≡ false
+      → unfit (record v { task = if closed then v.task else record v.task { phase = Polling }; future = local.started closed })
+      ≡ false
   started_end true v is = ap (λ b. b && true) is
   started_end false v is = refl
 
   started_by : (b : Bool) (v : Kept T X) → cells.may_start v ≡ b → unfit v ≡ false
-      → unfit (choose b (record { task = abstract.begin_run v.task; future = local.started v.task.closed }) v) ≡ false
+      → unfit (choose b (record v { task = abstract.begin_run v.task; future = local.started v.task.closed }) v) ≡ false
   started_by true v is fits = started_end v.task.closed v (queued_not_idle (is_home v.future) v.task.phase is)
   started_by false v is fits = fits
 
@@ -266,7 +270,7 @@ module _ {T X : Type 0} where
   started_fits v fits = started_by (cells.may_start v) v refl fits
 
   retracted_by : (b : Bool) (v : Kept T X) → cells.may_start v ≡ b → unfit v ≡ false
-      → unfit (choose b (record { task = record v.task { closed = true }; future = Dropping }) v) ≡ false
+      → unfit (choose b (record v { task = record v.task { closed = true }; future = Dropping }) v) ≡ false
   retracted_by true v is fits = ap (λ b. b && true) (queued_not_idle (is_home v.future) v.task.phase is)
   retracted_by false v is fits = fits
 

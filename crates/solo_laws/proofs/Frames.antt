@@ -20,7 +20,7 @@ use Rattle.solo.specs.declared.solo.Solo.{Solo}
 use Rattle.solo.specs.OwnQueues as own
 use Rattle.solo.specs.Lines.{search_answer}
 use Rattle.solo.specs.Table.{TableValue}
-use Rattle.solo.specs.Cells.{choose, asked}
+use Rattle.solo.specs.Cells.{asked}
 use Rattle.solo.specs.Cells as cells
 use Rattle.solo.specs.Turns.{lined, takes, turned, marked, handed_by, is_full, handed, told, scheduled, scheduled_if, let_go, let_go_if}
 use Rattle.solo.specs.Turns.{left_by_parts, out_of, begun}

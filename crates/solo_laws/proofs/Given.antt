@@ -3,6 +3,7 @@ use Rattle.std.proofs.Common.{◌≡◌, inl, inr, ℕ, ◌+◌, ◌==◌, Bool,
 use Rattle.std.proofs.Common.{is_some, refl, sym, ap, subst, arith}
 use Rattle.std.specs.List.{sum_by}
 use Rattle.slab.specs.Slab.{get}
+use Rattle.executor_parts.specs.declared.mark.Mark.{Mark}
 use Rattle.executor_parts.specs.declared.places.EntryPlace.{EntryPlace}
 use Rattle.executor_parts.specs.Places.{entry_in, future_of}
 use Rattle.task_moves.specs.declared.local_task.answers.Back.{Back}
@@ -124,7 +125,8 @@ module _ {T X : Type 0} (weigh : T → ℕ) where
 
     waking_holds : (first : Option Task) (n : ℕ) (s : Solo F T X) → H n s.cells → H n (closing.drained_waking first s).cells
     waking_holds (Some u) n s h = leaving_holds n u s h
-    waking_holds None n s h = line_holds (slice_get s.line.items 0) n (solo.popped (closing.shut_line s)) h
+    waking_holds None n s h =
+        line_holds (closing.first_lined (closing.shut_line s)) n (closing.first_out (closing.shut_line s)) h
 
     drained_holds : (parts : Option (Option F × Option Task)) (n : ℕ) (s : Solo F T X) → H n s.cells →
         H n (closing.drained_by parts s).cells
@@ -198,10 +200,9 @@ module _ {T X : Type 0} (weigh : T → ℕ) where
     finished_holds n lent s h =
         gone_holds n lent.task (turns.left lent.place s) (left_at (H n) (woke n) (loose n) (tidy n) lent.place s h)
 
-    spawned_leaves : (n : ℕ) (future : F) (spawned : Spawned X) (old new : Solo F T X) → solo.Spawns future old (Ok spawned) new
-        → H n old.cells
-        → Leaves n 0 0 new
-    spawned_leaves n future spawned old new does h =
+    spawned_leaves : (n : ℕ) (mark : Mark) (future : F) (spawned : Spawned X) (old new : Solo F T X)
+        → solo.Spawns mark future old (Ok spawned) new → H n old.cells → Leaves n 0 0 new
+    spawned_leaves n mark future spawned old new does h =
         let s : Solo F T X = does.0 in
         let u : Task = spawned.task in
         let accepts = does.1.0 in
@@ -223,18 +224,17 @@ module _ {T X : Type 0} (weigh : T → ℕ) where
         let weighs = h.1 in
         (omega (arith, one, early_old), omega (arith, two, weighs))
 
-    refused_leaves : (n : ℕ) (future : F) (refused : SpawnError F) (old new : Solo F T X) → solo.Spawns future old (Err refused) new
-        → H n old.cells
-        → Leaves n 0 0 new
-    refused_leaves n future (Full back) old new does h = same_cells n old new does.0.2 h
-    refused_leaves n future (NoMemory back) old new does h = same_cells n old new does.0.3 h
+    refused_leaves : (n : ℕ) (mark : Mark) (future : F) (refused : SpawnError F) (old new : Solo F T X)
+        → solo.Spawns mark future old (Err refused) new → H n old.cells → Leaves n 0 0 new
+    refused_leaves n mark future (Full back) old new does h = same_cells n old new does.0.2 h
+    refused_leaves n mark future (NoMemory back) old new does h = same_cells n old new does.0.3 h
 
     step : (call : Call F T X) (old new : Solo F T X) → Does call old new → Taking call old new
-    step (Spawn future) old new does n h = spawned_leaves n future does.0 old new does.1 h
-    step (SpawnRefused future) old new does n h = refused_leaves n future does.0 old new does.1 h
+    step (Spawn mark future) old new does n h = spawned_leaves n mark future does.0 old new does.1 h
+    step (SpawnRefused mark future) old new does n h = refused_leaves n mark future does.0 old new does.1 h
     step Take old new is n h =
         quiet n new (solo.taken old) is
-        (taken_by_at (H n) (woke n) (loose n) (tidy n) (start n) (slice_get old.line.items 0) (solo.popped old) h)
+        (taken_by_at (H n) (woke n) (loose n) (tidy n) (start n) (solo.sought old) (solo.popped old) h)
     step (Settle lent back) old new is n h =
         subst (Leaves n (weight_out weigh (solo.settle_answer lent back old).output) (weight_given weigh back)) (sym is)
         (settled n lent back old h)
@@ -266,10 +266,10 @@ module _ {T X : Type 0} (weigh : T → ℕ) where
     step MakeTick old new (inr is) n h = quiet n new old is h
     step (TickTake ticker waker) old new is n h =
         quiet n new (ticks.taken ticker waker old) is
-        (tick_taken_at (H n) (woke n) (loose n) (tidy n) (start n) (slice_get old.line.items 0) ticker waker (solo.popped old) h)
+        (tick_taken_at (H n) (woke n) (loose n) (tidy n) (start n) (solo.sought old) ticker waker (solo.popped old) h)
     step (TickSearch ticker) old new is n h =
         quiet n new (ticks.searched ticker old) is
-        (tick_searched_at (H n) (woke n) (loose n) (tidy n) (start n) (slice_get old.line.items 0) ticker (solo.popped old) h)
+        (tick_searched_at (H n) (woke n) (loose n) (tidy n) (start n) (solo.sought old) old.lines.turn ticker (solo.popped old) h)
     step (TickLeave ticker) old new is n h =
         quiet n new (ticks.left ticker old) is (tick_left_at (H n) (woke n) (loose n) (tidy n) ticker old h)
     step MakeRun old new (inl is) n h = quiet n new (runs.made old) is h
@@ -281,8 +281,9 @@ module _ {T X : Type 0} (weigh : T → ℕ) where
         (sought runner.number start_at old) (sought_at (H n) (woke n) (loose n) (tidy n) runner.number start_at old h))
     step (RunSearch runner ticker start_at) old new is n h =
         quiet n new (runs.searched runner ticker start_at old) is
-        (run_searched_at (H n) (woke n) (loose n) (tidy n) (start n) (seek_answer runner.number start_at old).task runner ticker
-        (sought runner.number start_at old) (sought_at (H n) (woke n) (loose n) (tidy n) runner.number start_at old h))
+        (run_searched_at (H n) (woke n) (loose n) (tidy n) (start n) (seek_answer runner.number start_at old).task old.lines.turn
+        runner ticker (sought runner.number start_at old)
+        (sought_at (H n) (woke n) (loose n) (tidy n) runner.number start_at old h))
     step (RunLeave runner) old new is n h = quiet n new (runs.left runner old) is h
     step (RunDrain leaving) old new is n h =
         quiet n new (runs.drained leaving old) is

@@ -184,8 +184,9 @@ module _ {T : Type 0} (weigh : T → ℕ) where
     polled_gives waker v is = polled_if v.task.handle waker v is
 
     started_by : (b : Bool) (v : Kept T X) → cells.may_start v ≡ b → early v ≡ false
-        → (early (choose b (record { task = abstract.begin_run v.task; future = local.started v.task.closed }) v) ≡ false)
-        × (weight (choose b (record { task = abstract.begin_run v.task; future = local.started v.task.closed }) v).task.output + 0
+        → (early (choose b (record v { task = abstract.begin_run v.task; future = local.started v.task.closed }) v) ≡ false)
+        × (weight (choose b
+        (record v { task = abstract.begin_run v.task; future = local.started v.task.closed }) v).task.output + 0
         ≡ weight v.task.output + 0)
     started_by true v may is =
         let same : (abstract.begin_run v.task).output ≡ v.task.output = begun_by v.task.closed v.task in
@@ -201,8 +202,8 @@ module _ {T : Type 0} (weigh : T → ℕ) where
     started_gives v is = started_by (cells.may_start v) v refl is
 
     retracted_by : (b : Bool) (v : Kept T X) → early v ≡ false
-        → (early (choose b (record { task = record v.task { closed = true }; future = Dropping }) v) ≡ false)
-        × (weight (choose b (record { task = record v.task { closed = true }; future = Dropping }) v).task.output + 0
+        → (early (choose b (record v { task = record v.task { closed = true }; future = Dropping }) v) ≡ false)
+        × (weight (choose b (record v { task = record v.task { closed = true }; future = Dropping }) v).task.output + 0
         ≡ weight v.task.output + 0)
     retracted_by true v is = (refl, refl)
     retracted_by false v is = unchanged v is
@@ -211,8 +212,9 @@ module _ {T : Type 0} (weigh : T → ℕ) where
     retracted_gives v is = retracted_by (cells.may_start v) v is
 
     finished_if : (b : Bool) (v : Kept T X) → early v ≡ false
-        → (early (choose b (record { task = (local.finish v.task).task; future = Gone }) v) ≡ false)
-        × (weight (choose b (record { task = (local.finish v.task).task; future = Gone }) v).task.output + 0 ≡ weight v.task.output + 0)
+        → (early (choose b (record v { task = (local.finish v.task).task; future = Gone }) v) ≡ false)
+        × (weight (choose b (record v { task = (local.finish v.task).task; future = Gone }) v).task.output + 0
+        ≡ weight v.task.output + 0)
     finished_if true v is = (refl, (let same = ap weight (finished_by v.task.phase v.task) in omega (arith, same)))
     finished_if false v is = unchanged v is
 
@@ -220,16 +222,17 @@ module _ {T : Type 0} (weigh : T → ℕ) where
     finished_gives v is = finished_if (cells.is_dropping v) v is
 
     pending_end_gives : (end : PendingEnd) (place : EntryPlace) (v : Kept T X) → is_some v.task.output ≡ false
-        → (early (cells.settled (local.settle_pending_by end place v.task)) ≡ false)
-        × (weight (cells.settled (local.settle_pending_by end place v.task)).task.output + 0 ≡ weight v.task.output + 0)
+        → (early (cells.settled (local.settle_pending_by end place v.task) v) ≡ false)
+        × (weight (cells.settled (local.settle_pending_by end place v.task) v).task.output + 0 ≡ weight v.task.output + 0)
     pending_end_gives Drops place v none = (refl, refl)
     pending_end_gives Queues place v none = (none, refl)
     pending_end_gives Forgets place v none = (refl, refl)
     pending_end_gives Rests place v none = (none, refl)
 
     pending_if : (b : Bool) (place : EntryPlace) (v : Kept T X) → cells.is_lent v ≡ b → early v ≡ false
-        → (early (choose b (cells.settled (local.settle_pending_by (abstract.pending_end v.task) place v.task)) v) ≡ false)
-        × (weight (choose b (cells.settled (local.settle_pending_by (abstract.pending_end v.task) place v.task)) v).task.output + 0
+        → (early (choose b (cells.settled (local.settle_pending_by (abstract.pending_end v.task) place v.task) v) v) ≡ false)
+        × (weight (choose b
+        (cells.settled (local.settle_pending_by (abstract.pending_end v.task) place v.task) v) v).task.output + 0
         ≡ weight v.task.output + 0)
     pending_if true place v lent is =
         pending_end_gives (abstract.pending_end v.task) place v (none_lent v.future (is_some v.task.output) lent is)
@@ -239,8 +242,10 @@ module _ {T : Type 0} (weigh : T → ℕ) where
     ended_pending_gives place v is = pending_if (cells.is_lent v) place v refl is
 
     ready_if : (b : Bool) (output : T) (v : Kept T X) → cells.is_lent v ≡ b → early v ≡ false
-        → (early (choose b (cells.settled (record { task = (abstract.end_ready output v.task).task; future = Gone })) v) ≡ false)
-        × (weight (choose b (cells.settled (record { task = (abstract.end_ready output v.task).task; future = Gone })) v).task.output
+        → (early (choose b
+        (cells.settled (record { task = (abstract.end_ready output v.task).task; future = Gone }) v) v) ≡ false)
+        × (weight (choose b
+        (cells.settled (record { task = (abstract.end_ready output v.task).task; future = Gone }) v) v).task.output
         + weight (choose b (abstract.end_ready output v.task).dropped (Some output))
         ≡ weight v.task.output + weigh output)
     ready_if true output v lent is =

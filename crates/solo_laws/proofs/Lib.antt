@@ -13,6 +13,7 @@ pub mod Weights
 pub mod Named
 pub mod Fitness
 pub mod OwnPlaces
+pub mod LinePlaces
 pub mod Standing
 pub mod Once
 pub mod OnceCourses

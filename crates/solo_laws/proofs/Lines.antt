@@ -8,11 +8,11 @@ use Rattle.executor_parts.specs.Marks.{other}
 use Rattle.queue_steps.specs.ClosableQueue.{ClosableQueue}
 use Rattle.solo.specs.declared.names.Task.{Task}
 use Rattle.solo.specs.Line.{pushed_by, accepts, has_place, is_spent}
-use Rattle.solo.specs.Lines.{LinesValue, line_of, pushed_in, first_of, popped_from, taken_by, found_by, taken_from, found_from}
+use Rattle.solo.specs.Lines.{LinesValue, line_of, pushed_in, first_of, popped_from, taken_by, found_by, taken_from}
 use Rattle.solo.specs.Lines.{mark_of_turn, turned, searched, search_answer}
 use Rattle.solo_laws.specs.Sleeping.{queued_in}
 
-pushed_by_refused : (p spent : Bool) (task : Task) (q : ClosableQueue Task) → (p && not spent) ≡ false
+pub pushed_by_refused : (p spent : Bool) (task : Task) (q : ClosableQueue Task) → (p && not spent) ≡ false
     → (pushed_by p spent task q).items ≡ q.items
 pushed_by_refused true true task q is = refl
 pushed_by_refused true false task q is = absurd cc

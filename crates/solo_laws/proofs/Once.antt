@@ -2,6 +2,7 @@
 use Rattle.std.proofs.Common.{◌≡◌, ℕ, ◌+◌, ◌≤◌, ◌==◌, ◌&&◌, ◌||◌, nat_lt, Bool, true, false, List, Option, Some, None}
 use Rattle.std.proofs.Common.{slice_get, is_some, refl, sym, ap, subst, arith}
 use Rattle.slab.specs.Slab.{get}
+use Rattle.executor_parts.specs.declared.mark.Mark.TheVariants.{Urgent}
 use Rattle.executor_parts.specs.declared.places.EntryPlace.{EntryPlace}
 use Rattle.executor_parts.specs.declared.sleepers.Sleeper.{Sleeper}
 use Rattle.executor_parts.specs.Places.{entry_in, future_of}
@@ -22,6 +23,7 @@ use Rattle.solo.specs.declared.cells.Cell.{Cell}
 use Rattle.solo.specs.declared.cells.Cells.{Cells}
 use Rattle.solo.specs.declared.cells.After.{After}
 use Rattle.solo.specs.declared.cells.After.TheVariants.{Queue, Rest, Drop as DropFuture, Unknown}
+use Rattle.solo.specs.Lines.{taken_from}
 use Rattle.solo.specs.Cells.{choose, asked, asked_by}
 use Rattle.solo.specs.Cells as cells
 use Rattle.solo.specs.Turns as turns
@@ -37,10 +39,10 @@ use Rattle.solo_laws.specs.Queueing.{times_run_left, times_owed}
 use Rattle.solo_laws.proofs.Fitness.{woken_asks, cancelled_asks, detached_asks, released_asks, ended_ready_asks}
 use Rattle.solo_laws.proofs.Fitness.{ended_pending_asks, finished_asks, retracted_fits, is_queue}
 use Rattle.solo_laws.proofs.OwnPlaces.{first_times, closed_times}
+use Rattle.solo_laws.proofs.LinePlaces.{taken_times}
 use Rattle.solo_laws.proofs.Standing.{Stands, weaker, evened, turned_stands, quiet_stands, ended_stands, swept_stands, loosed_stands}
 use Rattle.solo_laws.proofs.Standing.{told_stands, scheduled_stands, scheduled_if_stands, let_go_stands, left_stands, begun_stands}
-use Rattle.solo_laws.proofs.Standing.{popped_stands}
-use Rattle.solo_laws.proofs.Standing.{stolen_if_stands}
+use Rattle.solo_laws.proofs.Standing.{out_stands, stolen_if_stands}
 
 queue_asked : (b : Bool) (after : After) → is_queue (choose b after Unknown) ≡ choose b (is_queue after) false
 queue_asked true after = refl
@@ -153,10 +155,11 @@ module _ (t : Task) {F T X : Type 0} where
   tick_taken_stands (Some u) ticker waker m n s st = found_stands ticker m n u s st
   tick_taken_stands None ticker waker m n s st = asleep_stands ticker waker m n s (none_more m n s st)
 
-  pub tick_searched_stands : (first : Option Task) (ticker : Ticker) (m n : ℕ) (s : Solo F T X) → Stands t (m + times_of t first) n s
-      → Stands t (m + times_searched t (ticks.search_answer_by first ticker s)) n (ticks.searched_by first ticker s)
-  tick_searched_stands (Some u) ticker m n s st = found_stands ticker m n u s st
-  tick_searched_stands None ticker m n s st = st
+  pub tick_searched_stands : (first : Option Task) (turn : ℕ) (ticker : Ticker) (m n : ℕ) (s : Solo F T X)
+      → Stands t (m + times_of t first) n s
+      → Stands t (m + times_searched t (ticks.search_answer_by first ticker s)) n (ticks.searched_by first turn ticker s)
+  tick_searched_stands (Some u) turn ticker m n s st = found_stands ticker m n u s st
+  tick_searched_stands None turn ticker m n s st = st
 
   pub run_taken_stands : (first : Option Task) (walked : Bool) (runner : Runner) (ticker : Ticker) (waker : SoloWaker X) (m n : ℕ)
       (s : Solo F T X)
@@ -166,11 +169,13 @@ module _ (t : Task) {F T X : Type 0} where
   run_taken_stands (Some u) walked runner ticker waker m n s st = run_found_stands runner ticker m n u s st
   run_taken_stands None walked runner ticker waker m n s st = asleep_stands ticker waker m n s (none_more m n s st)
 
-  pub run_searched_stands : (first : Option Task) (walked : Bool) (runner : Runner) (ticker : Ticker) (m n : ℕ) (s : Solo F T X)
+  pub run_searched_stands : (first : Option Task) (walked : Bool) (turn : ℕ) (runner : Runner) (ticker : Ticker) (m n : ℕ)
+      (s : Solo F T X)
       → Stands t (m + times_of t first) n s
-      → Stands t (m + times_sought t (runs.search_answer_by first walked runner ticker s)) n (runs.searched_by first runner ticker s)
-  run_searched_stands (Some u) walked runner ticker m n s st = run_found_stands runner ticker m n u s st
-  run_searched_stands None walked runner ticker m n s st = st
+      → Stands t (m + times_sought t (runs.search_answer_by first walked runner ticker s)) n
+      (runs.searched_by first turn runner ticker s)
+  run_searched_stands (Some u) walked turn runner ticker m n s st = run_found_stands runner ticker m n u s st
+  run_searched_stands None walked turn runner ticker m n s st = st
 
   leave_by_stands : (w : Option (SoloWaker X)) (m n : ℕ) (s : Solo F T X) → Stands t m n s
       → Stands t (m + times_of t (ticks.leave_answer_by w s).told.returned) n (ticks.left_by w s)
@@ -347,7 +352,8 @@ module _ (t : Task) {F T X : Type 0} where
   waking_stands (Some u) m n s st = leaving_stands u m n s st
   waking_stands None m n s st =
       let shut : Solo F T X = closing.shut_line s in
-      line_stands (slice_get s.line.items 0) m n (solo.popped shut) (popped_stands t (slice_get s.line.items 0) m n shut refl st)
+      line_stands (closing.first_lined shut) m n (closing.first_out shut)
+      (out_stands t (taken_from Urgent shut.lines) (closing.first_lined shut) m n shut (taken_times t Urgent shut.lines) st)
 
   pub drained_stands : (parts : Option (Option F × Option Task)) (m n : ℕ) (s : Solo F T X) → Stands t m n s
       → Stands t (m + times_owed t (closing.drain_answer_by parts s)) n (closing.drained_by parts s)

@@ -4,6 +4,7 @@ use Rattle.std.proofs.Common.{slice_get, slice_index_or, refl, sym, ap, subst, �
 use Rattle.std.specs.List.{sum_by}
 use Rattle.std.proofs.lemmas.Bool.Decides.{nat_tests}
 use Rattle.slab.specs.Slab.{Slab, get, Updates}
+use Rattle.executor_parts.specs.declared.mark.Mark.{Mark}
 use Rattle.executor_parts.specs.declared.places.EntryPlace.{EntryPlace}
 use Rattle.solo.specs.declared.names.Kind.{Kind}
 use Rattle.solo.specs.declared.names.Task.{Task}
@@ -26,9 +27,8 @@ use Rattle.solo_laws.specs.Calls.{Call, Does, Course, Spawn, SpawnRefused, Take,
 use Rattle.solo_laws.specs.Calls.{Cancel, Detach, Poll, Retract, MakeTick, TickTake, TickSearch, TickLeave, MakeRun, RunBegin, RunTake}
 use Rattle.solo_laws.specs.Calls.{RunSearch, RunLeave, RunDrain, Leak, LeakNext, Close, Drain}
 use Rattle.solo_laws.specs.Futures.{sum_of}
-use Rattle.solo_laws.specs.Queueing.{one_if, one, times_in, times_own, times_of, times_left, times_queued, brought_back, handed_away}
-use Rattle.solo_laws.specs.Queueing.{all_away}
-use Rattle.solo_laws.specs.Queueing.{StandsOnce}
+use Rattle.solo_laws.specs.Queueing.{one_if, one, times_lined, times_own, times_of, times_left, times_queued, brought_back}
+use Rattle.solo_laws.specs.Queueing.{handed_away, all_away, StandsOnce}
 use Rattle.solo_laws.proofs.Named.{unfit}
 use Rattle.solo_laws.proofs.Fitness.{held_asks, polled_asks, at_most_one}
 use Rattle.solo_laws.proofs.OwnPlaces.{opened_times, listed_times}
@@ -39,24 +39,25 @@ use Rattle.solo_laws.proofs.Once.{woken_released_stands, cancelled_stands, detac
 
 module _ (t : Task) {T X : Type 0} where
   -- a new task comes to a free key: it fits, and is ready
-  entered_at : (key : Bool) (u : Task) (number : ℕ) (place : EntryPlace) (held : Bool) (old new : Slab (Cell T X))
-      → (u.key == t.key) ≡ key → u.number ≡ number → get old u.key ≡ None → Updates old new u.key (cells.entered number place held)
+  entered_at : (key : Bool) (u : Task) (number : ℕ) (place : EntryPlace) (held : Bool) (mark : Mark) (old new : Slab (Cell T X))
+      → (u.key == t.key) ≡ key → u.number ≡ number → get old u.key ≡ None
+      → Updates old new u.key (cells.entered number place held mark)
       → asked_by unfit false t (get old t.key) ≡ false
       → (asked_by unfit false t (get new t.key) ≡ false)
       × (one_if (asked_by cells.may_start false t (get old t.key)) + one_if (key && (u.number == t.number))
       ≤ one_if (asked_by cells.may_start false t (get new t.key)))
-  entered_at true u number place held old new key is free cell fits =
+  entered_at true u number place held mark old new key is free cell fits =
       let same : u.key ≡ t.key = grind (arith, nat_tests) in
       let was : one_if (asked_by cells.may_start false t (get old t.key)) ≡ 0 =
       ap (λ found. one_if (asked_by cells.may_start false t found)) (sym (ap (get old) same) ∙ free) in
-      let there : get new t.key ≡ cells.entered number place held = sym (ap (get new) same) ∙ cell.changed in
+      let there : get new t.key ≡ cells.entered number place held mark = sym (ap (get new) same) ∙ cell.changed in
       let now : one_if (asked_by cells.may_start false t (get new t.key)) ≡ one_if (number == t.number) =
       ap (λ found. one_if (asked_by cells.may_start false t found)) there ∙ ready_by (number == t.number) in
       let numbered : one_if (u.number == t.number) ≡ one_if (number == t.number) = ap (λ n. one_if (n == t.number)) is in
       (ap (asked_by unfit false t) there ∙ fit_by (number == t.number), omega (arith, was, now, numbered))
     where
       made : Kept T X
-      made = cells.new_task place held
+      made = cells.new_task place held mark
 
       fit_by : (b : Bool) → choose b (unfit made) false ≡ false
       fit_by true = refl
@@ -65,7 +66,7 @@ module _ (t : Task) {T X : Type 0} where
       ready_by : (b : Bool) → one_if (choose b (cells.may_start made) false) ≡ one_if b
       ready_by true = refl
       ready_by false = refl
-  entered_at false u number place held old new key is free cell fits =
+  entered_at false u number place held mark old new key is free cell fits =
       let two : t.key ≢ u.key = λ one. absurd (grind (arith, nat_tests)) in
       let same : get new t.key ≡ get old t.key = cell.others t.key two in
       let ready_same : one_if (asked_by cells.may_start false t (get new t.key))
@@ -74,16 +75,16 @@ module _ (t : Task) {T X : Type 0} where
       (ap (asked_by unfit false t) same ∙ fits, omega (arith, ready_same))
 
 module _ (t : Task) {F T X : Type 0} where
-  spawned_stands : (future : F) (spawned : Spawned X) (m n : ℕ) (old new : Solo F T X) → solo.Spawns future old (Ok spawned) new
-      → Stands t m n old → Stands t (m + times_of t spawned.told.returned) n new
-  spawned_stands future spawned m n old new does st =
+  spawned_stands : (mark : Mark) (future : F) (spawned : Spawned X) (m n : ℕ) (old new : Solo F T X)
+      → solo.Spawns mark future old (Ok spawned) new → Stands t m n old → Stands t (m + times_of t spawned.told.returned) n new
+  spawned_stands mark future spawned m n old new does st =
       let s : Solo F T X = does.0 in
       let u : Task = spawned.task in
       let accepts = does.1.0 in
       let cell =
-      entered_at t (u.key == t.key) u old.accepted accepts.place (solo.counts old.kind) old.cells.slab s.cells.slab refl accepts.numbered
-      accepts.was_free accepts.cell st.0 in
-      let line : times_in t s.line.items ≡ times_in t old.line.items = ap (λ (o : Solo F T X). times_in t o.line.items) does.1.1 in
+      entered_at t (u.key == t.key) u old.accepted accepts.place (solo.counts old.kind) mark old.cells.slab s.cells.slab refl
+      accepts.numbered accepts.was_free accepts.cell st.0 in
+      let line : times_lined t s.lines ≡ times_lined t old.lines = ap (λ (o : Solo F T X). times_lined t o.lines) does.1.1 in
       let own_same : sum_by (times_own t) s.runs.queues ≡ sum_by (times_own t) old.runs.queues =
       ap (λ (o : Solo F T X). sum_by (times_own t) o.runs.queues) does.1.1 in
       let more : Stands t (m + one t u) n s =
@@ -99,15 +100,15 @@ module _ (t : Task) {F T X : Type 0} where
       let now : one_if (asked_by cells.may_start false t (get new.cells.slab t.key))
       ≡ one_if (asked_by cells.may_start false t (get old.cells.slab t.key)) =
       ap (λ o. one_if (asked_by cells.may_start false t o)) found in
-      let line : times_in t new.line.items ≡ times_in t old.line.items = ap (λ (o : Solo F T X). times_in t o.line.items) is in
+      let line : times_lined t new.lines ≡ times_lined t old.lines = ap (λ (o : Solo F T X). times_lined t o.lines) is in
       let own_same : sum_by (times_own t) new.runs.queues ≡ sum_by (times_own t) old.runs.queues =
       ap (λ (o : Solo F T X). sum_by (times_own t) o.runs.queues) is in
       (ap (asked_by unfit false t) found ∙ st.0, (let less = st.1 in omega (arith, less, now, line, own_same)))
 
-  refused_stands : (future : F) (refused : SpawnError F) (m n : ℕ) (old new : Solo F T X) → solo.Spawns future old (Err refused) new
-      → Stands t m n old → Stands t m n new
-  refused_stands future (Full back) m n old new does st = same_stands m n old new does.0.2 does.1 st
-  refused_stands future (NoMemory back) m n old new does st = same_stands m n old new does.0.3 does.1 st
+  refused_stands : (mark : Mark) (future : F) (refused : SpawnError F) (m n : ℕ) (old new : Solo F T X)
+      → solo.Spawns mark future old (Err refused) new → Stands t m n old → Stands t m n new
+  refused_stands mark future (Full back) m n old new does st = same_stands m n old new does.0.2 does.1 st
+  refused_stands mark future (NoMemory back) m n old new does st = same_stands m n old new does.0.3 does.1 st
 
   -- what a call hands out, and what it brings back
   abbrev Step : Call F T X → (old new : Solo F T X) → Type 0
@@ -130,14 +131,14 @@ module _ (t : Task) {F T X : Type 0} where
   begun_run_stands number m n s st = let same = listed_times t number s.runs in (st.0, (let less = st.1 in omega (arith, less, same)))
 
   step : (call : Call F T X) (old new : Solo F T X) → Step call old new
-  step (Spawn future) old new does m n st =
+  step (Spawn mark future) old new does m n st =
       weaker t (m + times_of t does.0.told.returned) n (m + times_of t does.0.told.returned) (n + 0) new (omega arith) (omega arith)
-      (spawned_stands future does.0 m n old new does.1 st)
-  step (SpawnRefused future) old new does m n st =
-      weaker t m n (m + 0) (n + 0) new (omega arith) (omega arith) (refused_stands future does.0 m n old new does.1 st)
+      (spawned_stands mark future does.0 m n old new does.1 st)
+  step (SpawnRefused mark future) old new does m n st =
+      weaker t m n (m + 0) (n + 0) new (omega arith) (omega arith) (refused_stands mark future does.0 m n old new does.1 st)
   step Take old new is m n st =
       quiet m n old new (solo.taken old) is
-      (taken_stands t (slice_get old.line.items 0) m n (solo.popped old) (popped_stands t (slice_get old.line.items 0) m n old refl st))
+      (taken_stands t (solo.sought old) m n (solo.popped old) (popped_stands t m n old st))
   step (Settle lent back) old new is m n st =
       at m n (times_of t (solo.settle_answer lent back old).returned) old new (solo.settled lent back old) is
       (settled_stands t lent back m n old st)
@@ -164,15 +165,13 @@ module _ (t : Task) {F T X : Type 0} where
   step MakeTick old new (inl is) m n st = quiet m n old new (ticks.roomy old) is st
   step MakeTick old new (inr is) m n st = quiet m n old new old is st
   step (TickTake ticker waker) old new is m n st =
-      let first = slice_get old.line.items 0 in
       at m n (times_of t (ticks.take_answer ticker waker old).returned) old new (ticks.taken ticker waker old) is
-      (tick_taken_stands t first ticker waker m n (solo.popped old) (popped_stands t first m n old refl st))
+      (tick_taken_stands t (solo.sought old) ticker waker m n (solo.popped old) (popped_stands t m n old st))
   step (TickSearch ticker) old new is m n st =
-      let first = slice_get old.line.items 0 in
       subst (λ s. Stands t (m + handed_away t (TickSearch ticker) old new is) (n + 0) s) (sym is)
       (weaker t (m + handed_away t (TickSearch ticker) old new is) n (m + handed_away t (TickSearch ticker) old new is) (n + 0)
       (ticks.searched ticker old) (omega arith) (omega arith)
-      (tick_searched_stands t first ticker m n (solo.popped old) (popped_stands t first m n old refl st)))
+      (tick_searched_stands t (solo.sought old) old.lines.turn ticker m n (solo.popped old) (popped_stands t m n old st)))
   step (TickLeave ticker) old new is m n st =
       at m n (times_of t (ticks.leave_answer ticker old).told.returned) old new (ticks.left ticker old) is
       (tick_left_stands t ticker m n old st)
@@ -190,7 +189,8 @@ module _ (t : Task) {F T X : Type 0} where
       let found = seek_answer runner.number start old in
       let s : Solo F T X = sought runner.number start old in
       at m n (handed_away t (RunSearch runner ticker start) old new is) old new (runs.searched runner ticker start old) is
-      (run_searched_stands t found.task found.has_walked runner ticker m n s (sought_stands t m n runner.number start old st))
+      (run_searched_stands t found.task found.has_walked old.lines.turn runner ticker m n s
+      (sought_stands t m n runner.number start old st))
   step (RunLeave runner) old new is m n st =
       at m n (handed_away t (RunLeave runner) old new is) old new (runs.left runner old) is (run_left_stands t runner m n old st)
   step (RunDrain leaving) old new is m n st =
@@ -220,7 +220,7 @@ module _ (t : Task) {F T X : Type 0} where
   new_stands : (limit : ℕ) (kind : Kind) (s : Solo F T X) → solo.IsNew limit kind s → Stands t 0 0 s
   new_stands limit kind s new =
       let none : get s.cells.slab t.key ≡ None = ap (λ slots. slice_index_or slots t.key None) new.cells in
-      let line : times_in t s.line.items ≡ 0 = ap (λ line. times_in t line.items) new.line in
+      let line : times_lined t s.lines ≡ 0 = ap (times_lined t) new.lines in
       let queues : sum_by (times_own t) s.runs.queues ≡ 0 = ap (λ (o : own.OwnQueuesValue). sum_by (times_own t) o.queues) new.runs in
       (ap (asked_by unfit false t) none, omega (arith, line, queues))
 

@@ -1,5 +1,5 @@
 -- While a task is queued the flag stands: of what each change of an executor of one owner is made of.
-use Rattle.std.proofs.Common.{◌≡◌, ℕ, ◌<◌, ◌≤◌, ◌==◌, ◌&&◌, ◌||◌, nat_lt, not, Bool, true, false, length, Option, Some, None}
+use Rattle.std.proofs.Common.{◌≡◌, ℕ, ◌<◌, ◌≤◌, ◌==◌, ◌||◌, nat_lt, Bool, true, false, length, Option, Some, None}
 use Rattle.std.proofs.Common.{refl, sym, subst, ◌∙◌, arith}
 use Rattle.std.proofs.lemmas.Bool.Decides.{nat_tests}
 use Rattle.executor_parts.specs.Sleepers.{flag_of, without_last, last_waker}
@@ -22,12 +22,6 @@ use Rattle.solo_laws.proofs.Sleepers.{Fits, last_fits, last_flag}
 
 full_flag : (n count : ℕ) → n ≤ count → (n == count) ≡ false → ((count == 0) || nat_lt n count) ≡ true
 full_flag n count within is = grind (arith, nat_tests)
-
-pub pushed_by_refused : (p spent : Bool) (task : Task) (q : ClosableQueue Task) → (p && not spent) ≡ false
-    → (pushed_by p spent task q).items ≡ q.items
-pushed_by_refused true true task q is = refl
-pushed_by_refused true false task q is = absurd cc
-pushed_by_refused false spent task q is = refl
 
 module _ {F T X : Type 0} where
   -- the flag says what the sleepers say
@@ -84,10 +78,6 @@ module _ {F T X : Type 0} where
 
   pub scheduled_prompt : (task : Task) (s : Solo F T X) → Prompt s → Prompt (scheduled task s)
   scheduled_prompt task s p = scheduled_by (takes task s) task s refl p
-
-  pub scheduled_awake : (task : Task) (s : Solo F T X) → Awake s → Awake (scheduled task s)
-  scheduled_awake task s a =
-      chosen Awake (takes task s) (told (lined task s)) (lined task s) (told_awake (lined task s) a.0) a
 
   pub scheduled_if_prompt : (due : Bool) (task : Task) (s : Solo F T X) → Prompt s → Prompt (scheduled_if due task s)
   scheduled_if_prompt due task s p = chosen Prompt due (scheduled task s) s (scheduled_prompt task s p) p

@@ -1,8 +1,8 @@
 -- How often a task stands in queues, against whether it is ready, through each change of an executor of one owner.
 use Rattle.std.proofs.Common.{◌≡◌, ℕ, zero, suc, ◌+◌, ◌%◌, ◌≤◌, ◌&&◌, Bool, true, false}
-use Rattle.std.proofs.Common.{Option, Some, None, slice_get, refl, ap, arith}
-use Rattle.std.proofs.lemmas.List.Sums.{sum_by_push}
-use Rattle.queue_steps.specs.ClosableQueue.{ClosableQueue}
+use Rattle.std.proofs.Common.{Option, Some, None, refl, arith}
+use Rattle.executor_parts.specs.declared.mark.Mark.{Mark}
+use Rattle.executor_parts.specs.declared.mark.Mark.TheVariants.{Plain, Urgent}
 use Rattle.executor_parts.specs.declared.places.EntryPlace.{EntryPlace}
 use Rattle.executor_parts.specs.Places.{entry_in, parts_of}
 use Rattle.executor_parts.specs.Sleepers.{last_waker, without_last}
@@ -16,41 +16,28 @@ use Rattle.solo.specs.declared.steals.Source.TheVariants.{Common, Own}
 use Rattle.solo.specs.declared.owed.Told.{Told}
 use Rattle.solo.specs.declared.solo.Solo.{Solo}
 use Rattle.solo.specs.OwnQueues as own
-use Rattle.solo.specs.Line.{pushed, pushed_by, accepts, has_place, is_spent}
+use Rattle.solo.specs.Lines.{LinesValue, first_of as first_in, popped_from, searched, search_answer}
 use Rattle.solo.specs.Cells.{Kept, choose, asked}
 use Rattle.solo.specs.Cells as cells
-use Rattle.solo.specs.Turns.{turned, swept, lined_if, marked, loosed, handed_by, is_full, handed, told, told_waker, scheduled}
-use Rattle.solo.specs.Turns.{schedule_answer}
-use Rattle.solo.specs.Turns.{scheduled_if, schedule_if_answer, let_go, let_go_answer, let_go_if, let_go_if_answer, left_by_parts}
-use Rattle.solo.specs.Turns.{left_answer_by}
-use Rattle.solo.specs.Turns.{left, left_answer, without, out_of, begun}
+use Rattle.solo.specs.Turns.{mark_of, lined, takes, turned, swept, lined_if, marked, loosed, handed_by, is_full, handed, told}
+use Rattle.solo.specs.Turns.{told_waker, scheduled, schedule_answer, scheduled_if, schedule_if_answer, let_go, let_go_answer}
+use Rattle.solo.specs.Turns.{let_go_if, let_go_if_answer, left_by_parts, left_answer_by, left, left_answer, without, out_of}
+use Rattle.solo.specs.Turns.{begun}
+use Rattle.solo.specs.Solo as solo
 use Rattle.solo.specs.Solo.{popped}
 use Rattle.solo.specs.Steals.{moved, first_of, without_first, kept, stolen, share, length_of, stolen_if, is_own, stolen_at, looked}
 use Rattle.solo.specs.Steals.{own_popped}
 use Rattle.solo.specs.Steals.{look_answer, round, round_on, next_place, further_by, further_answer_by, sought_by, sought, seek_answer_by}
 use Rattle.solo.specs.Steals.{seek_answer}
 use Rattle.solo.specs.Steals.{moved_on}
-use Rattle.solo_laws.specs.Queueing.{one_if, is_task, one, times_in, times_of, times_queued}
-use Rattle.solo_laws.proofs.Prompt.{chosen, pushed_by_refused}
+use Rattle.solo_laws.specs.Queueing.{one_if, is_task, one, times_of, times_lined, times_queued}
+use Rattle.solo_laws.proofs.Prompt.{chosen}
 use Rattle.solo_laws.proofs.Named.{Fits, ready, Asking, Fitting, queued_so, fitting_so, tidied_so}
 use Rattle.solo_laws.proofs.Fitness.{woken_asks, released_asks, started_fits}
-use Rattle.solo_laws.proofs.OwnPlaces.{first_times, popped_times, pushed_times}
-
-and_one : (b c : Bool) → one_if (b && c) ≤ one_if c
-and_one true c = omega arith
-and_one false true = omega arith
-and_one false false = omega arith
+use Rattle.solo_laws.proofs.OwnPlaces.{popped_times, pushed_times}
+use Rattle.solo_laws.proofs.LinePlaces as lines
 
 module _ (t : Task) where
-  line_by : (place spent : Bool) (u : Task) (q : ClosableQueue Task)
-      → times_in t (pushed_by place spent u q).items ≤ times_in t q.items + one t u
-  line_by true true u q = omega arith
-  line_by true false u q = let more = sum_by_push (one t) q.items u in omega (arith, more)
-  line_by false spent u q = omega arith
-
-  line_times : (u : Task) (q : ClosableQueue Task) → times_in t (pushed u q).items ≤ times_in t q.items + one t u
-  line_times u q = line_by (has_place q) (is_spent q.accepted) u q
-
   module _ {F T X : Type 0} where
     -- the task fits, and with so many handed out it stands in queues no more often than it is ready and was brought back
     abbrev pub Stands : ℕ → ℕ → Solo F T X → Type 0
@@ -89,23 +76,25 @@ module _ (t : Task) where
         let now = tidied_so t u s.cells st.0 in
         (now.0, (let less = st.1 in let keeps = now.1 in omega (arith, less, keeps)))
 
-    pub pushed_stands : (m n : ℕ) (u : Task) (s : Solo F T X) → Stands (m + one t u) n s
-        → Stands m n (record s { line = pushed u s.line })
-    pushed_stands m n u s st = (st.0, (let less = st.1 in let more = line_times u s.line in omega (arith, less, more)))
+    -- a task that is ready for it comes last in the queue of its mark, if it does
+    lined_stands : (m n : ℕ) (u : Task) (s : Solo F T X) → Stands (m + one t u) n s → Stands m n (lined u s)
+    lined_stands m n u s st =
+        let more = lines.pushed_times t (mark_of u s) u s.lines in
+        (st.0, (let less = st.1 in omega (arith, less, more)))
 
-    lined_stands : (due : Bool) (m n : ℕ) (u : Task) (s : Solo F T X) → Stands (m + one_if (due && is_task t u)) n s
+    lined_if_stands : (due : Bool) (m n : ℕ) (u : Task) (s : Solo F T X) → Stands (m + one_if (due && is_task t u)) n s
         → Stands m n (lined_if due u s)
-    lined_stands true m n u s st = pushed_stands m n u s st
-    lined_stands false m n u s st = weaker (m + 0) n m n s (omega arith) (omega arith) st
+    lined_if_stands true m n u s st = lined_stands m n u s st
+    lined_if_stands false m n u s st = weaker (m + 0) n m n s (omega arith) (omega arith) st
 
     marked_stands : (m n : ℕ) (u : Task) (s : Solo F T X) → Stands m n s → Stands m n (marked u s)
     marked_stands m n u s st =
-        lined_stands (asked cells.wake_queues false u s.cells) m n u (turned cells.woken u s)
+        lined_if_stands (asked cells.wake_queues false u s.cells) m n u (turned cells.woken u s)
         (turned_stands cells.woken cells.wake_queues woken_asks m n u s st)
 
     pub loosed_stands : (m n : ℕ) (u : Task) (s : Solo F T X) → Stands m n s → Stands m n (loosed u s)
     loosed_stands m n u s st =
-        lined_stands (asked cells.release_queues false u s.cells) m n u (turned cells.released u s)
+        lined_if_stands (asked cells.release_queues false u s.cells) m n u (turned cells.released u s)
         (turned_stands cells.released cells.release_queues released_asks m n u s st)
 
     handed_by_stands : (w : Option (SoloWaker X)) (m n : ℕ) (s : Solo F T X) → Stands m n s → Stands m n (handed_by w s)
@@ -122,24 +111,23 @@ module _ (t : Task) where
         (handed_by (last_waker s.sleepers.wakers) (record on { sleepers = without_last s.sleepers })) on
         (handed_by_stands (last_waker s.sleepers.wakers) m n (record on { sleepers = without_last s.sleepers }) st) st)
 
-    scheduled_by : (b : Bool) (m n : ℕ) (u : Task) (s : Solo F T X) → accepts s.line ≡ b → Stands (m + one t u) n s
+    scheduled_by : (b : Bool) (m n : ℕ) (u : Task) (s : Solo F T X) → takes u s ≡ b → Stands (m + one t u) n s
         → Stands
         (m + times_of t (choose {B = Told X} b
-        (record { sleeper = told_waker (record s { line = pushed u s.line }); returned = None })
+        (record { sleeper = told_waker (lined u s); returned = None })
         (record { sleeper = None; returned = Some u })).returned)
-        n (choose b (told (record s { line = pushed u s.line })) (record s { line = pushed u s.line }))
+        n (choose b (told (lined u s)) (lined u s))
     scheduled_by true m n u s is st =
-        told_stands (m + 0) n (record s { line = pushed u s.line })
-        (weaker m n (m + 0) n (record s { line = pushed u s.line }) (omega arith) (omega arith) (pushed_stands m n u s st))
+        told_stands (m + 0) n (lined u s)
+        (weaker m n (m + 0) n (lined u s) (omega arith) (omega arith) (lined_stands m n u s st))
     scheduled_by false m n u s is st =
-        let same : times_in t (pushed u s.line).items ≡ times_in t s.line.items =
-        ap (times_in t) (pushed_by_refused (has_place s.line) (is_spent s.line.accepted) u s.line is) in
+        let same = lines.refused_times t (mark_of u s) u s.lines is in
         (st.0, (let less = st.1 in omega (arith, less, same)))
 
     -- a task that is ready for it is queued, or is handed out
     pub scheduled_stands : (m n : ℕ) (u : Task) (s : Solo F T X) → Stands (m + one t u) n s
         → Stands (m + times_of t (schedule_answer u s).returned) n (scheduled u s)
-    scheduled_stands m n u s st = scheduled_by (accepts s.line) m n u s refl st
+    scheduled_stands m n u s st = scheduled_by (takes u s) m n u s refl st
 
     pub scheduled_if_stands : (due : Bool) (m n : ℕ) (u : Task) (s : Solo F T X) → Stands (m + one_if (due && is_task t u)) n s
         → Stands (m + times_of t (schedule_if_answer due u s).returned) n (scheduled_if due u s)
@@ -180,30 +168,32 @@ module _ (t : Task) where
         out_of_stands (asked cells.start_answer None u s.cells) m n (turned cells.started u s)
         (ended_stands cells.started started_fits m n u s st)
 
-    -- the first task leaves the queue
-    pub popped_stands : (first : Option Task) (m n : ℕ) (s : Solo F T X) → slice_get s.line.items 0 ≡ first → Stands m n s
-        → Stands (m + times_of t first) n (popped s)
-    popped_stands first m n s is st =
-        let all = first_times t s.line.items in
-        let first_is : times_of t (slice_get s.line.items 0) ≡ times_of t first = ap (times_of t) is in
-        (st.0, (let less = st.1 in omega (arith, less, all, first_is)))
+    -- a task leaves one of the executor's queues
+    pub out_stands : (l : LinesValue) (out : Option Task) (m n : ℕ) (s : Solo F T X)
+        → times_lined t l + times_of t out ≡ times_lined t s.lines → Stands m n s
+        → Stands (m + times_of t out) n (record s { lines = l })
+    out_stands l out m n s all st = (st.0, (let less = st.1 in omega (arith, less, all)))
 
-    pub own_popped_stands : (first : Option Task) (m n number : ℕ) (s : Solo F T X) → own.first_of number s.runs ≡ first → Stands m n s
-        → Stands (m + times_of t first) n (own_popped number s)
-    own_popped_stands first m n number s is st =
+    -- what a search of both finds
+    pub popped_stands : (m n : ℕ) (s : Solo F T X) → Stands m n s → Stands (m + times_of t (solo.sought s)) n (popped s)
+    popped_stands m n s st = out_stands (searched s.lines) (solo.sought s) m n s (lines.searched_times t s.lines) st
+
+    own_popped_stands : (m n number : ℕ) (s : Solo F T X) → Stands m n s
+        → Stands (m + times_of t (own.first_of number s.runs)) n (own_popped number s)
+    own_popped_stands m n number s st =
         let all = popped_times t number s.runs in
-        let first_is : times_of t (own.first_of number s.runs) ≡ times_of t first = ap (times_of t) is in
-        (st.0, (let less = st.1 in omega (arith, less, all, first_is)))
+        (st.0, (let less = st.1 in omega (arith, less, all)))
 
     kept_stands : (m n number : ℕ) (u : Task) (s : Solo F T X) → Stands (m + one t u) n s → Stands m n (kept number u s)
     kept_stands m n number u s st =
         let more = pushed_times t u number s.runs in
         (st.0, (let less = st.1 in omega (arith, less, more)))
 
-    taken_from : (source : Source) (first : Option Task) (m n : ℕ) (s : Solo F T X) → first_of source s ≡ first → Stands m n s
-        → Stands (m + times_of t first) n (without_first source s)
-    taken_from Common first m n s is st = popped_stands first m n s is st
-    taken_from (Own number) first m n s is st = own_popped_stands first m n number s is st
+    without_first_stands : (source : Source) (m n : ℕ) (s : Solo F T X) → Stands m n s
+        → Stands (m + times_of t (first_of source s)) n (without_first source s)
+    without_first_stands (Common mark) m n s st =
+        out_stands (popped_from mark s.lines) (first_in mark s.lines) m n s (lines.popped_times t mark s.lines) st
+    without_first_stands (Own number) m n s st = own_popped_stands m n number s st
 
     moved_by : (first : Option Task) (k : ℕ) (source : Source) (m n number : ℕ) (s : Solo F T X) → Stands (m + times_of t first) n s
         → ((u : Task) → Stands m n (kept number u s) → Stands m n (moved k source number (kept number u s)))
@@ -214,7 +204,7 @@ module _ (t : Task) where
     moved_stands : (k : ℕ) (source : Source) (m n number : ℕ) (s : Solo F T X) → Stands m n s → Stands m n (moved k source number s)
     moved_stands zero source m n number s st = st
     moved_stands (suc k) source m n number s st =
-        moved_by (first_of source s) k source m n number (without_first source s) (taken_from source (first_of source s) m n s refl st)
+        moved_by (first_of source s) k source m n number (without_first source s) (without_first_stands source m n s st)
         (λ u rest. moved_stands k source m n number (kept number u (without_first source s)) rest)
 
     stolen_stands : (source : Source) (m n number : ℕ) (s : Solo F T X) → Stands m n s → Stands m n (stolen source number s)
@@ -223,7 +213,9 @@ module _ (t : Task) where
 
     pub stolen_if_stands : (due : Bool) (m n number : ℕ) (s : Solo F T X) → Stands m n s → Stands m n (stolen_if due number s)
     stolen_if_stands due m n number s st =
-        chosen (Stands m n) due (stolen Common number s) s (stolen_stands Common m n number s st) st
+        let urgent : Solo F T X = stolen (Common Urgent) number s in
+        chosen (Stands m n) due (stolen (Common Plain) number urgent) s
+        (stolen_stands (Common Plain) m n number urgent (stolen_stands (Common Urgent) m n number s st)) st
 
     looked_by : (b : Bool) (m n number at : ℕ) (s : Solo F T X) → Stands m n s
         → Stands
@@ -231,7 +223,7 @@ module _ (t : Task) where
         n (choose b s (own_popped number (stolen_at number at s)))
     looked_by true m n number at s st = weaker m n (m + 0) n s (omega arith) (omega arith) st
     looked_by false m n number at s st =
-        own_popped_stands (own.first_of number (stolen_at number at s).runs) m n number (stolen_at number at s) refl
+        own_popped_stands m n number (stolen_at number at s)
         (stolen_stands (Own (own.number_at at s.runs.queues)) m n number s st)
 
     looked_stands : (m n number at : ℕ) (s : Solo F T X) → Stands m n s
@@ -252,10 +244,11 @@ module _ (t : Task) where
         (looked_stands m n number at s st)
         (λ next. round_stands left count m n number (next_place at count) (looked number at s) next)
 
-    further_stands : (first : Option Task) (m n number start : ℕ) (s : Solo F T X) → Stands (m + times_of t first) n s
-        → Stands (m + times_of t (further_answer_by first number start s).task) n (further_by first number start s)
-    further_stands (Some u) m n number start s st = stolen_stands Common (m + one t u) n number s st
-    further_stands None m n number start s st =
+    further_stands : (first : Option Task) (mark : Mark) (m n number start : ℕ) (s : Solo F T X)
+        → Stands (m + times_of t first) n s
+        → Stands (m + times_of t (further_answer_by first number start s).task) n (further_by first mark number start s)
+    further_stands (Some u) mark m n number start s st = stolen_stands (Common mark) (m + one t u) n number s st
+    further_stands None mark m n number start s st =
         round_stands s.runs.listed s.runs.listed m n number (start % s.runs.listed) s
         (weaker (m + 0) n m n s (omega arith) (omega arith) st)
 
@@ -263,12 +256,12 @@ module _ (t : Task) where
         → Stands (m + times_of t (seek_answer_by first number start s).task) n (sought_by first number start s)
     sought_by_stands (Some u) m n number start s st = st
     sought_by_stands None m n number start s st =
-        further_stands (slice_get s.line.items 0) m n number start (popped s)
-        (popped_stands (slice_get s.line.items 0) m n s refl (weaker (m + 0) n m n s (omega arith) (omega arith) st))
+        further_stands (search_answer s.lines).task (search_answer s.lines).mark m n number start (popped s)
+        (popped_stands m n s (weaker (m + 0) n m n s (omega arith) (omega arith) st))
 
     -- a run's search takes what it finds
     pub sought_stands : (m n number start : ℕ) (s : Solo F T X) → Stands m n s
         → Stands (m + times_of t (seek_answer number start s).task) n (sought number start s)
     sought_stands m n number start s st =
         sought_by_stands (own.first_of number s.runs) m n number start (own_popped number s)
-        (own_popped_stands (own.first_of number s.runs) m n number s refl st)
+        (own_popped_stands m n number s st)

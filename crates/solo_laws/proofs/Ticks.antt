@@ -37,9 +37,6 @@ module _ {X : Type 0} where
   back_flag false s = refl
 
 module _ {F T X : Type 0} where
-  stored_sound : (sleepers : Sleepers (SoloWaker X)) (s : Solo F T X) → Fits sleepers → Sound (stored sleepers s)
-  stored_sound sleepers s fits = (fits, refl)
-
   pub told_unless_awake : (w : Option X) (s : Solo F T X) → Awake s → Awake (told_unless w s)
   told_unless_awake (Some w) s a = a
   told_unless_awake None s a = told_awake s a.0

@@ -12,6 +12,7 @@ use Rattle.solo.specs.declared.runs.RunLeft.TheVariants.{Scheduled, Gone}
 use Rattle.solo.specs.declared.ticks.Ticked.{Ticked}
 use Rattle.solo.specs.declared.ticks.Ticker.{Ticker}
 use Rattle.solo.specs.declared.solo.Solo.{Solo}
+use Rattle.solo.specs.Lines.{LinesValue}
 use Rattle.solo.specs.OwnQueues as own
 use Rattle.solo.specs.Solo as solo
 use Rattle.solo.specs.Ticks as ticks
@@ -35,6 +36,10 @@ module _ (t : Task) where
   -- how often the task stands among these
   abbrev pub times_in : List Task → ℕ
   times_in tasks = sum_by one tasks
+
+  -- how often it stands in the urgent queue and in the plain one
+  abbrev pub times_lined : LinesValue → ℕ
+  times_lined l = times_in l.urgent.items + times_in l.plain.items
 
   abbrev pub times_own : Own → ℕ
   times_own q = times_in q.queue
@@ -72,9 +77,9 @@ module _ (t : Task) where
     times_owed None = 0
     times_owed (Some owed) = times_of owed.returned
 
-    -- how often it stands in the executor's queue and in the own queues of runs
+    -- how often it stands in the executor's two queues and in the own queues of runs
     abbrev pub times_queued : Solo F T X → ℕ
-    times_queued s = times_in s.line.items + sum_by times_own s.runs.queues
+    times_queued s = times_lined s.lines + sum_by times_own s.runs.queues
 
     -- one that was turned away comes back to lose its turn, and those of a run that leaves to be queued
     abbrev pub brought_back : Call F T X → ℕ
@@ -83,7 +88,7 @@ module _ (t : Task) where
     brought_back _ = 0
 
     abbrev pub handed_away : (call : Call F T X) (old new : Solo F T X) → Does call old new → ℕ
-    handed_away (Spawn future) old new does = times_of does.0.told.returned
+    handed_away (Spawn mark future) old new does = times_of does.0.told.returned
     handed_away (Settle lent back) old new does = times_of (solo.settle_answer lent back old).returned
     handed_away (Finish lent) old new does = times_of (solo.finish_answer lent old).returned
     handed_away (Wake task) old new does = times_of (solo.wake_answer task old).returned

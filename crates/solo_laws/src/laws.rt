@@ -65,10 +65,10 @@ pub fn a_search_goes_by_its_turn<F, T, X>()
     ensures { (s : Solo F T X) → TakesByTurn s }
 {}
 
-/// A task stands in the executor's queue and in the own queues of runs, and in what was handed out, once more at most than it was
-/// brought back: handed out is one that the queue turned away and one that a run which leaves has left in its own queue, and brought
-/// back one that loses its turn and one that such a run queues again. So where nothing is brought back but what was handed out,
-/// and that once, a task stands in one queue, and there once.
+/// A task stands in the executor's two queues and in the own queues of runs, and in what was handed out, once more at most than
+/// it was brought back: handed out is one that its queue turned away and one that a run which leaves has left in its own queue,
+/// and brought back one that loses its turn and one that such a run queues again. So where nothing is brought back but what was
+/// handed out, and that once, a task stands in one queue, the urgent one, the plain one or a run's own, and there once.
 pub fn a_task_stands_in_one_queue<F, T, X>()
     ensures { (task : Task) (limit : ℕ) (kind : Kind) (calls : List (Call F T X)) (first last : Solo F T X)
         → IsNew limit kind first → (does : Course calls first last) → StandsOnce task calls first last does }

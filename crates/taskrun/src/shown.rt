@@ -1,6 +1,6 @@
 //! How far jobs are, on a terminal.
 ghost use Rattle.std.specs.Prelude.{All};
-ghost use Rattle.job_text.specs.Answers.{IsInRange};
+ghost use Rattle.jobs.specs.Answers.{IsInRange};
 
 use async_task::NoMemory;
 use jobs::{Gate, Job, JobRealm, JobSite, Labor, Open, Solved};

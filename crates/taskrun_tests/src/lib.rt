@@ -12,3 +12,5 @@ mod lists;
 mod rows;
 #[cfg(test)]
 mod scripts;
+#[cfg(test)]
+mod values;

@@ -28,12 +28,3 @@ fn the_last_line_and_the_first_bad_one(rt: HostRuntime) {
     let commands = commands_of_ten_thousand_lines(&rt, "try");
     assert_eq!(rt; commands, Err(ParseError::BadLine(10_001)));
 }
-
-/// With any of the parser's allocations refused this is still passed.
-#[test]
-fn refused_memory_is_told(rt: HostRuntime) {
-    match parse(rt.alloc(), b"limit 1\nspawn a keep self\nspawn b pend\nfly") {
-        Err(ParseError::BadLine(4)) | Err(ParseError::NoMemory) => (),
-        other => panic!(rt; "{other:?}"),
-    }
-}

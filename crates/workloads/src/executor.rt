@@ -11,7 +11,7 @@ mod workplace;
 use crate::executor::chain::await_chain;
 use crate::executor::many::{drop_full, spawn_many};
 use crate::executor::threads::{run, storm};
-use crate::executor::ticks::{ping, spawn_tick};
+use crate::executor::ticks::{ping, ping_marked, spawn_tick};
 use crate::work::ExecutorWork;
 use crate::{Fault, Timing};
 use async_task::Future;
@@ -23,6 +23,7 @@ use std::alloc::AllocGlobal;
 use std::rt::Clock;
 use std::sync::Wait;
 use std::thread::Threads;
+use workplace::Marks;
 pub use workplace::{Crew, Worker, Workplace};
 
 /// Does so many operations on an executor whose tasks lie in this realm. `L` is a future that awaits another, and `P` an
@@ -45,6 +46,16 @@ where
         ExecutorWork::AwaitChain => await_chain::<L, P, R>(*rt, rt.alloc(), realm, ops),
         ExecutorWork::DropFull => drop_full(*rt, rt.alloc(), realm, ops),
         ExecutorWork::Run(workers) => run::<P, R>(rt, realm, workers.count(), ops),
-        ExecutorWork::Storm(workers) => storm::<P, R>(rt, realm, workers.count(), ops),
+        ExecutorWork::Storm(workers) => storm::<P, R>(
+            rt,
+            realm,
+            workers.count(),
+            Marks::Plain,
+            ops,
+        ),
+        ExecutorWork::PingMarked => ping_marked(*rt, rt.alloc(), realm, ops),
+        ExecutorWork::StormMarked(workers) => {
+            storm::<P, R>(rt, realm, workers.count(), Marks::Mixed, ops)
+        }
     }
 }

@@ -128,6 +128,10 @@ pub enum ExecutorWork {
     Run(Workers),
     /// A poll of one of 1,000 futures that give way again and again, run by so many threads.
     Storm(Workers),
+    /// As `Ping`, of an urgent future and a plain one.
+    PingMarked,
+    /// As `Storm`, where every other future is urgent.
+    StormMarked(Workers),
 }
 
 /// What is done on an executor of one thread: as on any other, by this thread.

@@ -1,6 +1,8 @@
 ghost use Rattle.std.specs.Prelude.{◌<◌};
 
-use crate::work::ExecutorWork::{AwaitChain, DropFull, Ping, Run, SpawnMany, SpawnTick, Storm};
+use crate::work::ExecutorWork::{
+    AwaitChain, DropFull, Ping, PingMarked, Run, SpawnMany, SpawnTick, Storm, StormMarked,
+};
 use crate::work::Pollers::{Runs, Ticks, Tries};
 use crate::work::Shape::{Ring8, Ring512, Ring1024, Single, Unbounded};
 use crate::work::TaskWork::{
@@ -68,6 +70,12 @@ const ALL: &[Workload] = &[
     Workload("executor/storm-1", 2_000_000, Executor(Storm(One))),
     Workload("executor/storm-2", 2_000_000, Executor(Storm(Two))),
     Workload("executor/storm-4", 2_000_000, Executor(Storm(Four))),
+    Workload("executor/ping@marked", 2_000_000, Executor(PingMarked)),
+    Workload(
+        "executor/storm-4@marked",
+        2_000_000,
+        Executor(StormMarked(Four)),
+    ),
     Workload("executor/ping@solo", 10_000_000, Local(LocalWork::PingSolo)),
     Workload("local/spawn-tick", 1_000_000, Local(LocalWork::SpawnTick)),
     Workload("local/ping", 2_000_000, Local(LocalWork::Ping)),

@@ -2,31 +2,18 @@
 use Rattle.std.proofs.Common.{◌≡◌, ℕ, Bool, true, false, ◌&&◌, List, [], ◌∷◌, ◌++◌, refl, subst, ap}
 use Rattle.std.specs.Prelude.{Option, Some, None}
 use Rattle.task_moves.specs.declared.schedule_info.ScheduleInfo.{ScheduleInfo}
-use Rattle.task_moves.specs.declared.moves.owed.AwaiterDebt.{AwaiterDebt}
-use Rattle.task_moves.specs.declared.moves.owed.AwaiterDebt.TheVariants as debt
-use Rattle.task_moves.specs.declared.moves.owed.FutureDebt.{FutureDebt}
 use Rattle.task_moves.specs.declared.moves.owed.FutureDebt.TheVariants.{PollFuture, DropFuture}
-use Rattle.task_moves.specs.declared.moves.owed.Move.{Move}
-use Rattle.task_moves.specs.declared.moves.owed.Move.TheVariants as move
-use Rattle.task_moves.specs.declared.moves.owed.Moved.{Moved}
-use Rattle.task_moves.specs.declared.moves.owed.Owed.{Owed}
-use Rattle.task_moves.specs.Moves as moves
-use Rattle.executor_model.specs.declared.event.Event.{Event}
-use Rattle.executor_model.specs.declared.event.Event.TheVariants as event
-use Rattle.executor_model.specs.declared.op.Op.{Op}
-use Rattle.executor_model.specs.declared.op.Polled.{Polled}
-use Rattle.executor_model.specs.declared.op.Waker.{Waker}
-use Rattle.executor_model.specs.declared.op.Waker.TheVariants.{Task, Outside}
-use Rattle.executor_model.specs.Acts.{call_waker, is_last_waker, is_told, move_by, told_as, waker_goes}
+use Rattle.task_moves.{specs.declared.moves.owed.AwaiterDebt.AwaiterDebt, specs.declared.moves.owed.FutureDebt.FutureDebt}
+use Rattle.call_steps.specs.Owing.{awaited, dropping, drops, emptied, futures, moves as moved_on, outputs, owed, released}
+use Rattle.call_steps.{specs.Owing.scheduled, specs.declared.step.CallStep.CallStep, specs.Next.next, specs.Next.next_call}
+use Rattle.executor_laws.proofs.Types.{Move, Moved, Owed, Event, Op, Polled, Waker, Task, Outside}
 use Rattle.executor_model.specs.Carried.{carried, owed_ops, schedule_ops, future_ops, output_ops, awaiter_ops, next_ops}
 use Rattle.executor_model.specs.Carried.{drop_ops, emptied_ops, drops as model_drops}
+use Rattle.executor_model.specs.Acts.{call_waker, is_last_waker, is_told, move_by, told_as, waker_goes}
 use Rattle.executor_model.specs.World.{World, among, log, log_if, task}
-use Rattle.call_steps.specs.declared.step.CallStep.{CallStep}
-use Rattle.call_steps.specs.declared.step.CallStep.TheVariants as step
-use Rattle.call_steps.specs.Next.{next, next_call}
-use Rattle.call_steps.specs.Owing.{awaited, dropping, drops, emptied, futures, moves as moved_on, outputs, owed, released, scheduled}
 use Rattle.executor_laws.specs.SeenByCalls.{moved_by, woken}
 use Rattle.executor_laws.specs.StepsOfCalls.{step_of, steps_of, waker_of}
+use Rattle.task_moves.specs.Moves as moves
 
 pub steps-append : (xs ys : List Op) → steps_of (xs ++ ys) ≡ steps_of xs ++ steps_of ys
 steps-append [] ys = refl
@@ -56,35 +43,35 @@ of-output f false = refl
 
 pub of-awaiter : (f : ℕ) (x : Option AwaiterDebt) → steps_of (awaiter_ops f x) ≡ awaited f x
 of-awaiter f None = refl
-of-awaiter f (Some debt.NotifyAwaiter) = refl
-of-awaiter f (Some debt.NotifyOther) = refl
-of-awaiter f (Some debt.CallGiven) = refl
-of-awaiter f (Some debt.StoreCopy) = refl
-of-awaiter f (Some debt.CallStored) = refl
-of-awaiter f (Some debt.TakeAwaiter) = refl
-of-awaiter f (Some debt.CallTaken) = refl
+of-awaiter f (Some AwaiterDebt.NotifyAwaiter) = refl
+of-awaiter f (Some AwaiterDebt.NotifyOther) = refl
+of-awaiter f (Some AwaiterDebt.CallGiven) = refl
+of-awaiter f (Some AwaiterDebt.StoreCopy) = refl
+of-awaiter f (Some AwaiterDebt.CallStored) = refl
+of-awaiter f (Some AwaiterDebt.TakeAwaiter) = refl
+of-awaiter f (Some AwaiterDebt.CallTaken) = refl
 
 of-next : (f : ℕ) (x : Option Move) → steps_of (next_ops f x) ≡ moved_on f x
 of-next f None = refl
-of-next f (Some move.WakeByReference) = refl
-of-next f (Some move.Wake) = refl
-of-next f (Some move.Copy) = refl
-of-next f (Some move.Release) = refl
-of-next f (Some move.TakeUp) = refl
-of-next f (Some move.SettleClosed) = refl
-of-next f (Some move.GiveUp) = refl
-of-next f (Some move.EndReady) = refl
-of-next f (Some move.EndPending) = refl
-of-next f (Some move.EndClosed) = refl
-of-next f (Some move.DropRunnable) = refl
-of-next f (Some move.Cancel) = refl
-of-next f (Some move.Detach) = refl
-of-next f (Some move.Poll) = refl
-of-next f (Some move.LookAgain) = refl
-of-next f (Some move.Register) = refl
-of-next f (Some move.EndRegister) = refl
-of-next f (Some move.Notify) = refl
-of-next f (Some move.EndNotify) = refl
+of-next f (Some Move.WakeByReference) = refl
+of-next f (Some Move.Wake) = refl
+of-next f (Some Move.Copy) = refl
+of-next f (Some Move.Release) = refl
+of-next f (Some Move.TakeUp) = refl
+of-next f (Some Move.SettleClosed) = refl
+of-next f (Some Move.GiveUp) = refl
+of-next f (Some Move.EndReady) = refl
+of-next f (Some Move.EndPending) = refl
+of-next f (Some Move.EndClosed) = refl
+of-next f (Some Move.DropRunnable) = refl
+of-next f (Some Move.Cancel) = refl
+of-next f (Some Move.Detach) = refl
+of-next f (Some Move.Poll) = refl
+of-next f (Some Move.LookAgain) = refl
+of-next f (Some Move.Register) = refl
+of-next f (Some Move.EndRegister) = refl
+of-next f (Some Move.Notify) = refl
+of-next f (Some Move.EndNotify) = refl
 
 of-emptied : (f : ℕ) (x : Bool) (d : Option FutureDebt) →
     steps_of (emptied_ops (x && model_drops d) f) ≡ emptied (x && drops d) f
@@ -112,16 +99,16 @@ of-carried false true w d e f m = of-owed (among f w.table) f m.owed
 of-carried false false w d e f m = of-owed (among f w.table) f m.owed
 
 pub of-move : (b : Bool) (m : Move) (p : ℕ) (w : World) (f : ℕ) →
-    steps_of (move_by b m p w f).next ≡ next (step.Move m f) (moved_by b m w f)
+    steps_of (move_by b m p w f).next ≡ next (CallStep.Move m f) (moved_by b m w f)
 of-move true m p w f =
-    of-carried (is_last_waker m (task w f)) (is_told m (task w f)) w (told_as m p f) (event.LastWaker p f) f
+    of-carried (is_last_waker m (task w f)) (is_told m (task w f)) w (told_as m p f) (Event.LastWaker p f) f
     (moves.after m (task w f))
 of-move false m p w f = refl
 
 -- a waker is called, and goes
 pub of-call : (p : ℕ) (w : World) (o : Polled) (a : Waker) (k : ℕ) →
-    steps_of (call_waker p w o a k).next ≡ next_call (waker_of a) (woken move.Wake w a)
-of-call p w o (Task g) k = of-move true move.Wake p (log w (event.WakerCalled p o k (Task g))) g
+    steps_of (call_waker p w o a k).next ≡ next_call (waker_of a) (woken Move.Wake w a)
+of-call p w o (Task g) k = of-move true Move.Wake p (log w (Event.WakerCalled p o k (Task g))) g
 of-call p w o (Outside x) k = refl
 
 pub of-waker : (a : Waker) → steps_of (waker_goes a) ≡ released (Some (waker_of a))

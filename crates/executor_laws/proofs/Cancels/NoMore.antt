@@ -1,61 +1,28 @@
 -- For cancelled_means_over.
 -- Whose task is closed gives no output any more, and the trace tells why; and only a poll that finds it closed says so.
-use Rattle.std.proofs.Common.{◌≡◌, ◌⊎◌, inl, inr, ⊎_elim, ℕ, zero, suc, ◌≤◌, [], ◌∷◌, ◌++◌, Bool, true, false, ◌||◌}
-use Rattle.std.proofs.Common.{eqb, refl, ap, subst, arith}
-use Rattle.std.proofs.lemmas.Bool.Decides.{nat_tests}
+use Rattle.std.proofs.Common.{◌≡◌, ◌⊎◌, inl, inr, ⊎_elim, ℕ, zero, suc, ◌≤◌, [], ◌∷◌, ◌++◌, Bool, true, false, ◌||◌, eqb, refl}
 use Rattle.std.specs.Prelude.{Option, Some, None, count_by}
-use Rattle.task_moves.specs.Moves as moves
-use Rattle.task_moves.specs.Moves.{is_going, is_over}
-use Rattle.task_moves.specs.declared.moves.owed.Answer.{Answer}
+use Rattle.std.{proofs.Common.ap, proofs.Common.subst, proofs.Common.arith, proofs.lemmas.Bool.Decides.nat_tests}
 use Rattle.task_moves.specs.declared.moves.owed.Answer.TheVariants.{Refused, Pending, Closed, Output}
-use Rattle.task_moves.specs.declared.moves.owed.Moved.{Moved}
-use Rattle.task_moves.specs.declared.moves.state.State.{State}
-use Rattle.executor_model.specs.declared.call.By.{By}
-use Rattle.executor_model.specs.declared.call.Call.TheVariants as call
-use Rattle.executor_model.specs.declared.call.Reply.TheVariants as reply
-use Rattle.executor_model.specs.declared.event.Answer.TheVariants as answer
-use Rattle.executor_model.specs.declared.event.Event.{Event}
-use Rattle.executor_model.specs.declared.op.HandleOp.TheVariants as handle_op
-use Rattle.executor_model.specs.declared.op.Hold.TheVariants as hold
-use Rattle.executor_model.specs.declared.op.ListOp.TheVariants as list_op
-use Rattle.executor_model.specs.declared.op.Op.{Op}
-use Rattle.executor_model.specs.declared.op.Op.TheVariants as op
-use Rattle.executor_model.specs.declared.op.QueueOp.TheVariants as queue_op
-use Rattle.executor_model.specs.declared.op.RunOp.TheVariants as run_op
-use Rattle.executor_model.specs.declared.op.Section.TheVariants as section
-use Rattle.executor_model.specs.declared.op.TableOp.TheVariants as table_op
-use Rattle.executor_model.specs.declared.op.TickOp.TheVariants as tick_op
-use Rattle.executor_model.specs.declared.op.UserOp.TheVariants as user_op
-use Rattle.executor_model.specs.declared.op.Waker.{Waker}
-use Rattle.executor_model.specs.declared.op.WakerOp.TheVariants as waker_op
-use Rattle.executor_model.specs.declared.step.Hint.{Hint}
-use Rattle.executor_model.specs.declared.step.UserEnd.{UserEnd}
-use Rattle.executor_model.specs.declared.step.UserEnd.TheVariants as end
-use Rattle.executor_model.specs.Acts.{answered, copy_awaiter_by, end_register_by, let_go, look_again_by, look_by, polled, register_by}
-use Rattle.executor_model.specs.Acts.{reply_of}
-use Rattle.executor_model.specs.CallsMean.{MayBeOver}
-use Rattle.executor_model.specs.Carried.{awaiter_ops}
-use Rattle.executor_model.specs.Doing.{act}
-use Rattle.executor_model.specs.OutputOnce.{is_output_given}
-use Rattle.executor_model.specs.Steps.{Machine, accepts, react}
+use Rattle.task_moves.{specs.Moves.is_going, specs.Moves.is_over, specs.declared.moves.owed.Answer.Answer}
+use Rattle.executor_laws.proofs.Types.{Moved, State, By, Call, Reply, Event, HandleOp, Hold, ListOp, Op, QueueOp, RunOp}
+use Rattle.executor_laws.proofs.Types.{Section, TableOp, TickOp, UserOp, Waker, WakerOp, Hint, UserEnd}
+use Rattle.executor_model.specs.Acts.{answered, copy_awaiter_by, end_register_by, let_go, look_again_by, look_by, polled}
 use Rattle.executor_model.specs.Trace.{Trace, has, is_cancelled, is_drop_begun, is_last_waker, is_ready, takes_handle}
-use Rattle.executor_model.specs.Weights.{weigh}
-use Rattle.executor_model.specs.World.{World, awaiter_of, task}
-use Rattle.executor_model.proofs.OneFuture.EffectsWays.{view}
-use Rattle.executor_model.proofs.OneFuture.Tallies.{readies, spent}
-use Rattle.executor_model.proofs.OneFuture.Telling.{counted-there, there-or-none}
-use Rattle.executor_model.proofs.Outputs.Keeping.{Stored}
-use Rattle.executor_model.proofs.Promises.CallAnswers.{no-poll, served}
-use Rattle.executor_model.proofs.Promises.CallPromises.{has-left}
-use Rattle.executor_model.proofs.Promises.CallServes.{misfit, serves}
-use Rattle.executor_model.proofs.Promises.CallTold.{over-told}
-use Rattle.executor_model.proofs.Quiet.Calls.{calling_of, is_end}
-use Rattle.executor_model.proofs.Quiet.CallsGroups.{calls-act}
-use Rattle.executor_model.proofs.Quiet.Resting.{calling-is}
-use Rattle.executor_model.proofs.Steps.Asides.{Aside, aside-awaiter, aside-let_go}
-use Rattle.executor_model.proofs.Steps.Lists.{weigh-append, weigh-below}
-use Rattle.executor_model.proofs.Table.LeavingExecutions.{Placed}
+use Rattle.executor_model.specs.Steps.{Machine, accepts, react}
+use Rattle.executor_model.specs.{Acts.register_by, Acts.reply_of, World.World, World.awaiter_of, World.task}
+use Rattle.executor_model.specs.{CallsMean.MayBeOver, Carried.awaiter_ops, Doing.act, OutputOnce.is_output_given, Weights.weigh}
 use Rattle.executor_laws.specs.HandleAnswers.{GivesNoMore}
+use Rattle.executor_model.proofs.OneFuture.Telling.{counted-there, there-or-none}
+use Rattle.executor_model.proofs.Promises.CallAnswers.{no-poll, served}
+use Rattle.executor_model.proofs.Steps.Asides.{Aside, aside-awaiter, aside-let_go}
+use Rattle.executor_model.proofs.{OneFuture.EffectsWays.view, OneFuture.Tallies.readies, OneFuture.Tallies.spent}
+use Rattle.executor_model.proofs.{Outputs.Keeping.Stored, Promises.CallPromises.has-left, Promises.CallServes.misfit}
+use Rattle.executor_model.proofs.{Promises.CallServes.serves, Promises.CallTold.over-told, Quiet.Calls.calling_of}
+use Rattle.executor_model.proofs.{Quiet.Calls.is_end, Quiet.CallsGroups.calls-act, Quiet.Resting.calling-is}
+use Rattle.executor_model.proofs.{Steps.Lists.weigh-append, Steps.Lists.weigh-below, Table.LeavingExecutions.Placed}
+use Rattle.task_moves.specs.Moves as moves
+use Rattle.executor_model.specs.declared.event.Answer.TheVariants as answer
 
 -- what is told of stays
 
@@ -115,11 +82,11 @@ closed-why s f placed stored e = by (over-told s f placed (over (task s.world f)
 -- who says so
 
 abbrev pub cancelled_of : Op → ℕ
-cancelled_of (op.End reply.Cancelled held) = 1
+cancelled_of (Op.End Reply.Cancelled held) = 1
 cancelled_of _ = 0
 
 few : (o : Op) → cancelled_of o ≤ calling_of o
-few (op.End reply.Cancelled held) = omega arith
+few (Op.End Reply.Cancelled held) = omega arith
 few _ = omega arith
 
 aside : Aside cancelled_of
@@ -159,17 +126,17 @@ says-answered : (p : ℕ) (w v : World) (f : ℕ) (m : Moved) (a : Answer) → (
 says-answered p w v f m Closed k = inr (k refl)
 says-answered p w v f m Refused k = inl (omega (
   arith,
-  weigh-append cancelled_of (awaiter_ops f m.owed.awaiter) (op.End reply.NoMemory (hold.Handle f) ∷ []),
+  weigh-append cancelled_of (awaiter_ops f m.owed.awaiter) (Op.End Reply.NoMemory (Hold.Handle f) ∷ []),
   aside-awaiter cancelled_of aside f m.owed.awaiter,
 ))
 says-answered p w v f m Pending k = inl (omega (
   arith,
-  weigh-append cancelled_of (awaiter_ops f m.owed.awaiter) (op.End (reply_of Pending) (hold.Handle f) ∷ []),
+  weigh-append cancelled_of (awaiter_ops f m.owed.awaiter) (Op.End (reply_of Pending) (Hold.Handle f) ∷ []),
   aside-awaiter cancelled_of aside f m.owed.awaiter,
 ))
 says-answered p w v f m Output k = inl (omega (
   arith,
-  weigh-append cancelled_of (awaiter_ops f m.owed.awaiter) (op.End (reply_of Output) (hold.Handle f) ∷ []),
+  weigh-append cancelled_of (awaiter_ops f m.owed.awaiter) (Op.End (reply_of Output) (Hold.Handle f) ∷ []),
   aside-awaiter cancelled_of aside f m.owed.awaiter,
 ))
 
@@ -191,10 +158,10 @@ none-registered : (b : Bool) (w : World) (f : ℕ) (a : Waker) (k : ℕ) → wei
 none-registered true w f a k = refl
 none-registered false w f a k = refl
 
-none-let_go : (w : World) (f : ℕ) → weigh cancelled_of (let_go (awaiter_of w f) ++ op.Handle (handle_op.LookAgain f) ∷ []) ≡ 0
+none-let_go : (w : World) (f : ℕ) → weigh cancelled_of (let_go (awaiter_of w f) ++ Op.Handle (HandleOp.LookAgain f) ∷ []) ≡ 0
 none-let_go w f = omega (
   arith,
-  weigh-append cancelled_of (let_go (awaiter_of w f)) (op.Handle (handle_op.LookAgain f) ∷ []),
+  weigh-append cancelled_of (let_go (awaiter_of w f)) (Op.Handle (HandleOp.LookAgain f) ∷ []),
   aside-let_go cancelled_of aside (awaiter_of w f),
 )
 
@@ -206,56 +173,50 @@ of-same : (n : ℕ) (w : World) (f g : ℕ) → eqb f g ≡ true → Says n w g 
 of-same n w f g e h = let i : g ≡ f = grind (arith, nat_tests) in subst (Says n w) i h
 
 says-by : (p : ℕ) (h : Hint) (o : Op) (w : World) (f : ℕ) (b : By) → calling_of o ≡ 1 →
-    serves o (call.PollHandle f b) ≡ true → is_end o ≡ false → Says (weigh cancelled_of (act p h o w).next) w f
-says-by p h (op.Handle (handle_op.Look g a)) w f b c e n = of-same _ w f g e
+    serves o (Call.PollHandle f b) ≡ true → is_end o ≡ false → Says (weigh cancelled_of (act p h o w).next) w f
+says-by p h (Op.Handle (HandleOp.Look g a)) w f b c e n = of-same _ w f g e
     (says-look (moves.poll (task w g)).owed.answer p w g a (moves.poll (task w g)) (poll-closed (task w g)))
-says-by p h (op.Handle (handle_op.CopyAwaiter g a)) w f b c e n = inl (none-copied _ p w g a)
-says-by p h (op.Handle (handle_op.Register g a k)) w f b c e n = inl (none-registered _ w g a k)
-says-by p h (op.Handle (handle_op.EndRegister g a k)) w f b c e n = inl (none-ends _ w g a k)
-says-by p h (op.Handle (handle_op.LookAgain g)) w f b c e n = of-same _ w f g e
+says-by p h (Op.Handle (HandleOp.CopyAwaiter g a)) w f b c e n = inl (none-copied _ p w g a)
+says-by p h (Op.Handle (HandleOp.Register g a k)) w f b c e n = inl (none-registered _ w g a k)
+says-by p h (Op.Handle (HandleOp.EndRegister g a k)) w f b c e n = inl (none-ends _ w g a k)
+says-by p h (Op.Handle (HandleOp.LookAgain g)) w f b c e n = of-same _ w f g e
     (says-again (moves.look_again (task w g)).owed.answer p w g (moves.look_again (task w g)) (again-closed (task w g)))
-says-by p h (op.List (list_op.LockWrite section.MakeRun)) w f b c e n = absurd (cc)
-says-by p h (op.List (list_op.LockWrite (section.Register x))) w f b c e n = absurd (cc)
-says-by p h (op.List (list_op.LockWrite (section.Unregister r x))) w f b c e n = absurd (cc)
-says-by p h (op.List (list_op.Write section.MakeRun)) w f b c e n = absurd (cc)
-says-by p h (op.List (list_op.Write (section.Register x))) w f b c e n = absurd (cc)
-says-by p h (op.List (list_op.Write (section.Unregister r x))) w f b c e n = absurd (cc)
-says-by p h (op.Table (table_op.Enter mark)) w f b c e n = absurd (cc)
-says-by p h (op.Table table_op.LookAtTable) w f b c e n = absurd (cc)
-says-by p h (op.Queue queue_op.TakeTurn) w f b c e n = absurd (cc)
-says-by p h (op.Queue (queue_op.Take look)) w f b c e n = absurd (cc)
-says-by p h (op.Waker (waker_op.CopyWaker x held)) w f b c e n = absurd (cc)
-says-by p h (op.Tick tick_op.MakeTick) w f b c e n = absurd (cc)
-says-by p h (op.Tick (tick_op.Search s)) w f b c e n = absurd (no-poll s.who (call.PollHandle f b) refl refl e)
-says-by p h (op.Tick (tick_op.Look s look)) w f b c e n = absurd (no-poll s.who (call.PollHandle f b) refl refl e)
-says-by p h (op.Tick (tick_op.CopyWaker s)) w f b c e n = absurd (no-poll s.who (call.PollHandle f b) refl refl e)
-says-by p h (op.Tick (tick_op.FallAsleep s)) w f b c e n = absurd (no-poll s.who (call.PollHandle f b) refl refl e)
-says-by p h (op.User (user_op.PollOwn x)) w f b c e n = absurd (cc)
-says-by p h (op.List (list_op.LockRead x)) w f b c e n = absurd (cc)
-says-by p h (op.Steal o) w f b c e n = absurd (cc)
-says-by p h (op.Run run_op.MakeRoom) w f b c e n = absurd (cc)
-says-by p h (op.Run (run_op.TakeTurn x)) w f b c e n = absurd (cc)
-says-by p h (op.Run (run_op.SearchCommon x look)) w f b c e n = absurd (cc)
-says-by p h (op.Run (run_op.LookOwn x at left)) w f b c e n = absurd (cc)
-says-by p h (op.Run (run_op.WakeOwn x)) w f b c e n = absurd (cc)
-says-by p h (op.Run (run_op.Reschedule r x)) w f b c e n = absurd (cc)
-says-by p h (op.End r held) w f b c e n = absurd (cc)
+says-by p h (Op.List (ListOp.LockWrite Section.MakeRun)) w f b c e n = absurd (cc)
+says-by p h (Op.List (ListOp.LockWrite (Section.Register x))) w f b c e n = absurd (cc)
+says-by p h (Op.List (ListOp.LockWrite (Section.Unregister r x))) w f b c e n = absurd (cc)
+says-by p h (Op.List (ListOp.Write Section.MakeRun)) w f b c e n = absurd (cc)
+says-by p h (Op.List (ListOp.Write (Section.Register x))) w f b c e n = absurd (cc)
+says-by p h (Op.List (ListOp.Write (Section.Unregister r x))) w f b c e n = absurd (cc)
+says-by p h (Op.Table (TableOp.Enter mark)) w f b c e n = absurd (cc)
+says-by p h (Op.Table TableOp.LookAtTable) w f b c e n = absurd (cc)
+says-by p h (Op.Queue QueueOp.TakeTurn) w f b c e n = absurd (cc)
+says-by p h (Op.Queue (QueueOp.Take look)) w f b c e n = absurd (cc)
+says-by p h (Op.Waker (WakerOp.CopyWaker x held)) w f b c e n = absurd (cc)
+says-by p h (Op.Tick TickOp.MakeTick) w f b c e n = absurd (cc)
+says-by p h (Op.Tick (TickOp.Search s)) w f b c e n = absurd (no-poll s.who (Call.PollHandle f b) refl refl e)
+says-by p h (Op.Tick (TickOp.Look s look)) w f b c e n = absurd (no-poll s.who (Call.PollHandle f b) refl refl e)
+says-by p h (Op.Tick (TickOp.CopyWaker s)) w f b c e n = absurd (no-poll s.who (Call.PollHandle f b) refl refl e)
+says-by p h (Op.Tick (TickOp.FallAsleep s)) w f b c e n = absurd (no-poll s.who (Call.PollHandle f b) refl refl e)
+says-by p h (Op.User (UserOp.PollOwn x)) w f b c e n = absurd (cc)
+says-by p h (Op.List (ListOp.LockRead x)) w f b c e n = absurd (cc)
+says-by p h (Op.Steal o) w f b c e n = absurd (cc)
+says-by p h (Op.Run RunOp.MakeRoom) w f b c e n = absurd (cc)
+says-by p h (Op.Run (RunOp.TakeTurn x)) w f b c e n = absurd (cc)
+says-by p h (Op.Run (RunOp.SearchCommon x look)) w f b c e n = absurd (cc)
+says-by p h (Op.Run (RunOp.LookOwn x at left)) w f b c e n = absurd (cc)
+says-by p h (Op.Run (RunOp.WakeOwn x)) w f b c e n = absurd (cc)
+says-by p h (Op.Run (RunOp.Reschedule r x)) w f b c e n = absurd (cc)
+says-by p h (Op.End r held) w f b c e n = absurd (cc)
 says-by p h _ w f b c e n = absurd (cc)
 
 pub says-act : (p : ℕ) (h : Hint) (o : Op) (w : World) (f : ℕ) (b : By) → is_end o ≡ false →
-    misfit (call.PollHandle f b) o ≡ 0 → Says (weigh cancelled_of (act p h o w).next) w f
+    misfit (Call.PollHandle f b) o ≡ 0 → Says (weigh cancelled_of (act p h o w).next) w f
 says-act p h o w f b n e = ⊎_elim
     (λ (z : calling_of o ≡ 0).
     inl (omega (arith, weigh-below cancelled_of calling_of few (act p h o w).next, (calls-act p h o w n).passes.none z)))
-    (λ (z : calling_of o ≡ 1). says-by p h o w f b z (served (serves o (call.PollHandle f b)) e) n) (calling-is o)
+    (λ (z : calling_of o ≡ 1). says-by p h o w f b z (served (serves o (Call.PollHandle f b)) e) n) (calling-is o)
 
 pub none-react : (p : ℕ) (o : Op) (u : UserEnd) (w : World) → accepts o u ≡ true → weigh cancelled_of (react p o u w).next ≡ 0
-none-react p (op.User (user_op.Poll f)) (end.Polled answer.Pending) w a = refl
-none-react p (op.User (user_op.Poll f)) (end.Polled answer.Ready) w a = refl
-none-react p (op.User (user_op.Drop f)) end.Done w a = refl
-none-react p (op.User (user_op.DropOutput f)) end.Done w a = refl
-none-react p (op.User (user_op.CallOutside x)) end.Done w a = refl
-none-react p (op.User (user_op.PollOwn x)) (end.Polled answer.Pending) w a = refl
-none-react p (op.User (user_op.PollOwn x)) (end.Polled answer.Ready) w a = refl
-none-react p (op.User (user_op.DropOwn r)) end.Done w a = refl
-none-react p _ _ w a = absurd (cc)
+none-react p (Op.User (UserOp.Poll f)) (UserEnd.Polled answer.Pending) w a = refl
+none-react p (Op.User (UserOp.PollOwn x)) (UserEnd.Polled answer.Pending) w a = refl
+none-react p _ _ w a = refl

@@ -1,52 +1,29 @@
 -- For cancelled_means_over.
 -- What the frame of a poll of a handle still has to say is so, at every moment.
-use Rattle.std.proofs.Common.{◌≡◌, ◌⊎◌, inl, ◌∙◌, ⊎_elim, ℕ, ◌<◌, ◌≤◌, List, [], ◌∷◌, ◌++◌, length, true, false, sym, ap, subst, arith}
-use Rattle.std.specs.Prelude.{Option, reverse}
-use Rattle.executor_model.specs.declared.call.By.{By}
-use Rattle.executor_model.specs.declared.call.Call.{Call}
-use Rattle.executor_model.specs.declared.call.Call.TheVariants as call
-use Rattle.executor_model.specs.declared.call.Reply.{Reply}
-use Rattle.executor_model.specs.declared.event.Event.TheVariants as event
-use Rattle.executor_model.specs.declared.kind.Kind.{Kind}
-use Rattle.executor_model.specs.declared.op.Hold.{Hold}
-use Rattle.executor_model.specs.declared.op.Op.{Op}
-use Rattle.executor_model.specs.declared.op.Op.TheVariants as op
-use Rattle.executor_model.specs.declared.op.Waker.{Waker}
-use Rattle.executor_model.specs.declared.step.Step.{Step}
-use Rattle.executor_model.specs.Calls.{Begun}
-use Rattle.executor_model.specs.Doing.{act}
-use Rattle.executor_model.specs.Good.{Good}
-use Rattle.executor_model.specs.Sound.{Pend, pend, with_ops}
+use Rattle.std.proofs.Common.{◌≡◌, ◌⊎◌, inl, ◌∙◌, ⊎_elim, ℕ, ◌<◌, ◌≤◌, List, [], ◌∷◌, ◌++◌, length, true, false, sym, ap, subst}
+use Rattle.std.{proofs.Common.arith, specs.Prelude.Option, specs.Prelude.reverse}
+use Rattle.executor_laws.proofs.Types.{By, Call, Reply, Event, Kind, Hold, Op, Waker, Step}
 use Rattle.executor_model.specs.Steps.{Machine, begun, mine, react, run, stack, start, top}
-use Rattle.executor_model.specs.Trace.{Trace}
-use Rattle.executor_model.specs.Weights.{weigh}
-use Rattle.executor_model.specs.World.{Done, World, done, log, task}
-use Rattle.executor_model.proofs.Counts.SoundAll.{sure-of}
-use Rattle.executor_model.proofs.Counts.SoundViews.{Sure}
+use Rattle.executor_model.specs.{Calls.Begun, Doing.act, Good.Good, Sound.Pend, Sound.pend, Sound.with_ops, Trace.Trace}
+use Rattle.executor_model.specs.{Weights.weigh, World.Done, World.World, World.done, World.log, World.task}
+use Rattle.executor_laws.specs.HandleAnswers.{CancelledMeansOver, GivesNoMore, IsCancelledRight}
 use Rattle.executor_model.proofs.OneFuture.EffectsWays.{effects-way, ended, lifted}
 use Rattle.executor_model.proofs.OneFuture.Extras.{Extra, extra, with_extra}
 use Rattle.executor_model.proofs.OneFuture.Tallies.{readies-push, spent-push}
-use Rattle.executor_model.proofs.OneFuture.Views.{seen}
-use Rattle.executor_model.proofs.Outputs.Keeping.{Stored}
 use Rattle.executor_model.proofs.Outputs.KeepingExecutions.{Stores, stores}
-use Rattle.executor_model.proofs.Outputs.KeepingViews.{stored-act}
 use Rattle.executor_model.proofs.Promises.CallFits.{fit-act, fit-react}
-use Rattle.executor_model.proofs.Promises.CallFrames.{Frames}
-use Rattle.executor_model.proofs.Promises.CallServes.{misfit}
 use Rattle.executor_model.proofs.Promises.FrameWays.{frames-end, frames-start, frames-way}
-use Rattle.executor_model.proofs.Quiet.Calls.{is_end}
-use Rattle.executor_model.proofs.Quiet.CallsDone.{fit-begun}
-use Rattle.executor_model.proofs.Steps.Lift.{good-start, unsettled}
-use Rattle.executor_model.proofs.Steps.Lists.{weigh-append}
-use Rattle.executor_model.proofs.Steps.Ways.{Way, along}
 use Rattle.executor_model.proofs.Steps.Ways.Way.{acted, called, reacted}
 use Rattle.executor_model.proofs.Table.LeavingExecutions.{Placed, placed-ends, placed-moves, placed-start}
-use Rattle.executor_laws.specs.HandleAnswers.{CancelledMeansOver, GivesNoMore, IsCancelledRight}
+use Rattle.executor_model.proofs.{Counts.SoundAll.sure-of, Counts.SoundViews.Sure, OneFuture.Views.seen, Outputs.Keeping.Stored}
+use Rattle.executor_model.proofs.{Outputs.KeepingViews.stored-act, Promises.CallFrames.Frames, Promises.CallServes.misfit}
+use Rattle.executor_model.proofs.{Quiet.Calls.is_end, Quiet.CallsDone.fit-begun, Steps.Lift.good-start, Steps.Lift.unsettled}
+use Rattle.executor_model.proofs.{Steps.Lists.weigh-append, Steps.Ways.Way, Steps.Ways.along}
 use Rattle.executor_laws.proofs.Cancels.NoMore.{cancelled_of, closed-why, more-later, none-react, says-act}
 
 record Owing (es : Trace) (c : Call) (os : List Op) : Type 0 where
   pub fits : weigh (misfit c) os ≡ 0
-  pub why : (f : ℕ) (b : By) → c ≡ call.PollHandle f b → 1 ≤ weigh cancelled_of os → GivesNoMore f es
+  pub why : (f : ℕ) (b : By) → c ≡ Call.PollHandle f b → 1 ≤ weigh cancelled_of os → GivesNoMore f es
 
 abbrev Owes : Trace → Begun → List Op → Type 0
 Owes es b os = Owing es b.call os
@@ -55,15 +32,15 @@ owes-later : (es more : Trace) (b : Begun) (os : List Op) → Owes es b os → O
 owes-later es more b os h =
     record { fits = h.fits; why = λ f x e n. more-later f es more (h.why f x e n) }
 
-owes-right : (es : Trace) (b : Begun) (a : Reply) (held : Hold) → Owes es b (op.End a held ∷ []) →
+owes-right : (es : Trace) (b : Begun) (a : Reply) (held : Hold) → Owes es b (Op.End a held ∷ []) →
     IsCancelledRight (record { call = b.call; own = b.own; reply = a; past = es })
 owes-right es b a held h f x e i = h.why f x e
-    (let z : cancelled_of (op.End a held) ≡ 1 = ap (λ (r : Reply). cancelled_of (op.End r held)) i in omega (arith, z))
+    (let z : cancelled_of (Op.End a held) ≡ 1 = ap (λ (r : Reply). cancelled_of (Op.End r held)) i in omega (arith, z))
 
 -- by one thing that is done, where a task that is closed tells why
 module _ (s : Machine) (placed : Placed s) (here : Stores s) where
   owing-on : (c : Call) (o : Op) (below next : List Op) (more : Trace) → (misfit c o ≡ 0 → weigh (misfit c) next ≡ 0) →
-      ((f : ℕ) (b : By) → c ≡ call.PollHandle f b → misfit c o ≡ 0 →
+      ((f : ℕ) (b : By) → c ≡ Call.PollHandle f b → misfit c o ≡ 0 →
       (weigh cancelled_of next ≡ 0) ⊎ ((task s.world f).closed ≡ true)) →
       Owing s.world.trace c (o ∷ below) → Owing (s.world.trace ++ more) c (next ++ below)
   owing-on c o below next more k j h = record {
@@ -94,7 +71,7 @@ module _ (s : Machine) (placed : Placed s) (here : Stores s) where
   owing-way p old rest d (called c q r n z) o e m more x below k =
       let no : [] ≡ o ∷ [] = sym q ∙ e in absurd (cc)
 
-none-begun : (p : ℕ) (w : World) (here : Option Waker) (c : Call) (f : ℕ) (b : By) → c ≡ call.PollHandle f b →
+none-begun : (p : ℕ) (w : World) (here : Option Waker) (c : Call) (f : ℕ) (b : By) → c ≡ Call.PollHandle f b →
     weigh cancelled_of (begun p w here c).next ≡ 0
 none-begun p w here c f b e = ap (λ (x : Call). weigh cancelled_of (begun p w here x).next) e
 
@@ -115,21 +92,21 @@ held-moves s p old rest d good l e way h = record {
   frames = frames-way Owes owes-later IsCancelledRight owes-right s p old rest d l e h.frames
       (λ o q n more t b below x. owing-way s h.placed h.stored p old rest d way o q n more b.call below x)
       (λ c q a more z t.
-      let w : World = log s.world (event.CallBegun p c) in
-      subst (λ (x : Done). Owing ((s.world.trace ++ event.CallBegun p c ∷ []) ++ more) c x.next) (sym z) (record {
+      let w : World = log s.world (Event.CallBegun p c) in
+      subst (λ (x : Done). Owing ((s.world.trace ++ Event.CallBegun p c ∷ []) ++ more) c x.next) (sym z) (record {
         fits = fit-begun p w (mine (top (stack s p))) c;
         why = λ f b i n. absurd (omega (arith, n, none-begun p w (mine (top (stack s p))) c f b i));
       })) way;
 }
 
 stored-end : (w : World) (p : ℕ) (a : Reply) (held : Hold) (g : ℕ) (r : Pend) (y : Extra) →
-    Stored (seen w g (with_ops g (op.End a held ∷ []) r) (with_extra g (op.End a held ∷ []) y)) →
-    Stored (seen (log w (event.CallEnded p a)) g (with_ops g [] r) (with_extra g [] y))
+    Stored (seen w g (with_ops g (Op.End a held ∷ []) r) (with_extra g (Op.End a held ∷ []) y)) →
+    Stored (seen (log w (Event.CallEnded p a)) g (with_ops g [] r) (with_extra g [] y))
 stored-end w p a held g r y h = grind (arith, readies-push, spent-push)
 
 held-ends : (s : Machine) (p : ℕ) (a : Reply) (held : Hold) (below : List Op) → p < length s.parties →
-    stack s p ≡ below ++ reverse (op.End a held ∷ []) → Held s →
-    Held (unsettled s p below (done (log s.world (event.CallEnded p a)) []))
+    stack s p ≡ below ++ reverse (Op.End a held ∷ []) → Held s →
+    Held (unsettled s p below (done (log s.world (Event.CallEnded p a)) []))
 held-ends s p a held below l e h = record {
   placed = placed-ends s p a held below l e h.placed;
   stored = ended Stored s p a held below l e (stored-end s.world p a held) h.stored;

@@ -1,32 +1,20 @@
 -- For ticks_are_exact, calls_at_rest_are_exact and lone_calls_are_exact.
 -- What happens next behind the beginning of a call, where nobody else does anything.
-use Rattle.std.proofs.Common.{◌≡◌, ◌≢◌, ℕ, List, [], ◌∷◌, ◌++◌, length, Bool, true, false}
-use Rattle.std.proofs.Common.{eqb, ltb, refl, sym, ap, ◌∙◌, subst, ⊎_elim}
+use Rattle.std.proofs.Common.{◌≡◌, ◌≢◌, ℕ, List, [], ◌∷◌, ◌++◌, length, Bool, true, false, eqb, ltb, refl, sym, ap, ◌∙◌, subst}
 use Rattle.std.proofs.lemmas.List.{append_assoc, append_cancel_left}
-use Rattle.std.specs.Prelude.{Some, None}
-use Rattle.executor_model.specs.declared.call.Call.{Call}
-use Rattle.executor_model.specs.declared.event.Event.{Event}
-use Rattle.executor_model.specs.declared.event.Event.TheVariants as event
-use Rattle.executor_model.specs.declared.op.Op.{Op}
-use Rattle.executor_model.specs.declared.step.Hint.{Hint}
-use Rattle.executor_model.specs.declared.step.Step.{Step}
-use Rattle.executor_model.specs.declared.step.Step.TheVariants.{Begin, Go, Answer}
-use Rattle.executor_model.specs.declared.step.StepError.{StepError}
-use Rattle.executor_model.specs.declared.step.StepError.TheVariants.{NoSuch, Idle, WrongAnswer}
-use Rattle.executor_model.specs.declared.step.UserEnd.{UserEnd}
-use Rattle.executor_model.specs.Trace.{Trace}
-use Rattle.executor_model.specs.Weights.{same}
-use Rattle.executor_model.specs.Steps.{Machine, stack, top, accepts, unless, go_refusal, answer_refusal}
-use Rattle.executor_model.specs.Steps.{party_of, part_refusal, step, stepped, run}
-use Rattle.executor_model.proofs.Steps.Lists.{same_cases}
-use Rattle.executor_model.proofs.Steps.Stepping.{step-refused}
+use Rattle.std.{proofs.Common.⊎_elim, specs.Prelude.Some, specs.Prelude.None}
+use Rattle.executor_laws.proofs.Types.{Call, Event, Op, Hint, Step, Begin, Go, StepError, NoSuch, WrongAnswer, UserEnd}
+use Rattle.executor_model.specs.declared.{step.Step.TheVariants.Answer, step.StepError.TheVariants.Idle}
+use Rattle.executor_model.specs.Steps.{Machine, stack, top, accepts, unless, go_refusal, answer_refusal, party_of, part_refusal}
+use Rattle.executor_model.specs.{Steps.step, Steps.stepped, Steps.run, Trace.Trace, Weights.same}
 use Rattle.executor_model.proofs.Steps.TraceSteps.{IsContinued, Adds, adds, run-continues}
 use Rattle.executor_model.proofs.Steps.TraceSteps.Adds.{refused, goes_on, begins}
+use Rattle.executor_model.proofs.{Steps.Lists.same_cases, Steps.Stepping.step-refused}
 use Rattle.executor_laws.proofs.Exactness.Finding.{heads, no-more}
 
 -- this event begins no call
 abbrev pub IsAlone : Event → Type 0
-IsAlone e = (q : ℕ) (d : Call) → e ≢ event.CallBegun q d
+IsAlone e = (q : ℕ) (d : Call) → e ≢ Event.CallBegun q d
 
 -- a step that is refused changes nothing
 
@@ -72,10 +60,10 @@ not-begun s q d ts e later alone k = by-kind (adds s (Begin q d))
     by-kind (refused z) = z
     by-kind (goes_on z m) = absurd (cc)
     by-kind (begins p c z m) =
-        let there : IsContinued (s.world.trace ++ event.CallBegun p c ∷ m.more) (run ts now).world.trace =
+        let there : IsContinued (s.world.trace ++ Event.CallBegun p c ∷ m.more) (run ts now).world.trace =
         subst (λ (xs : Trace). IsContinued xs (run ts now).world.trace) (m.is
-        ∙ append_assoc s.world.trace (event.CallBegun p c ∷ []) m.more) (run-continues ts now) in
-        absurd (alone p c (first-of s.world.trace m.more (run ts now).world.trace later e (event.CallBegun p c) there
+        ∙ append_assoc s.world.trace (Event.CallBegun p c ∷ []) m.more) (run-continues ts now) in
+        absurd (alone p c (first-of s.world.trace m.more (run ts now).world.trace later e (Event.CallBegun p c) there
         k))
 
 -- party p is about to do o, and nobody else has anything to do

@@ -1,46 +1,24 @@
 -- For ticks_are_exact, calls_at_rest_are_exact and lone_calls_are_exact.
 -- A call that has found something to do isn't answered no before something else happens.
-use Rattle.std.proofs.Common.{◌≡◌, ◌≢◌, ◌⊎◌, ℕ, zero, suc, ◌-◌, ◌<◌, List, [], ◌∷◌, ◌++◌, length}
-use Rattle.std.proofs.Common.{take, true, false, eqb, refl, sym, ap, ◌∙◌, subst, inl, inr}
-use Rattle.std.proofs.Common.{⊎_elim, arith, get_or-set_same, get_or-set_other}
-use Rattle.std.proofs.Math.ListN.{length-set}
-use Rattle.std.proofs.lemmas.List.{append_assoc, append_cancel_left}
+use Rattle.std.proofs.Common.{◌≡◌, ◌≢◌, ◌⊎◌, ℕ, zero, suc, ◌-◌, ◌<◌, List, [], ◌∷◌, ◌++◌, length, take, true, false, eqb, refl}
+use Rattle.std.proofs.Common.{sym, ap, ◌∙◌, subst, inl, inr, ⊎_elim, arith, get_or-set_same, get_or-set_other}
 use Rattle.std.specs.Prelude.{Option, Some, None, reverse, slice_get}
-use Rattle.task_moves.specs.declared.moves.owed.Move.TheVariants as move
-use Rattle.executor_model.specs.declared.call.Reply.{Reply}
-use Rattle.executor_model.specs.declared.call.Reply.TheVariants as reply
-use Rattle.executor_model.specs.declared.event.Answer.TheVariants as answer
-use Rattle.executor_model.specs.declared.event.Event.{Event}
-use Rattle.executor_model.specs.declared.event.Event.TheVariants as event
-use Rattle.executor_model.specs.declared.op.Hold.{Hold}
-use Rattle.executor_model.specs.declared.op.Op.{Op}
-use Rattle.executor_model.specs.declared.op.Op.TheVariants as op
-use Rattle.executor_model.specs.declared.op.UserOp.TheVariants as user_op
-use Rattle.executor_model.specs.declared.step.Hint.{Hint}
-use Rattle.executor_model.specs.declared.step.Step.{Step}
-use Rattle.executor_model.specs.declared.step.Step.TheVariants.{Begin, Go, Answer}
-use Rattle.executor_model.specs.declared.step.StepError.{StepError}
-use Rattle.executor_model.specs.declared.step.UserEnd.{UserEnd}
-use Rattle.executor_model.specs.declared.step.UserEnd.TheVariants as end
-use Rattle.executor_model.specs.Trace.{Trace, has}
-use Rattle.executor_model.specs.World.{World, Done}
-use Rattle.executor_model.specs.Weights.{same, weigh}
-use Rattle.executor_model.specs.Steps.{Machine, stack, top, below_top, react, refusal, Part, end_of, settled_by, onto}
-use Rattle.executor_model.specs.Steps.{gone_on, with_part, after, step_by, step, stepped, run}
-use Rattle.executor_model.proofs.Quiet.Calls.{calling_of}
-use Rattle.executor_model.proofs.Quiet.CallsGroups.{calls-act}
-use Rattle.executor_model.proofs.Steps.Lift.{topped}
-use Rattle.executor_model.proofs.Steps.Lists.{same_cases, weigh-append, weigh-reverse}
-use Rattle.executor_laws.proofs.Placement.Answering.{is_end}
-use Rattle.executor_laws.proofs.Exactness.Finding.{heads, no-more}
-use Rattle.executor_laws.proofs.Exactness.Following.{IsAlone, still-go, still-answer, wrong-answer, not-begun}
-use Rattle.executor_model.specs.Doing.{act}
+use Rattle.std.{proofs.Math.ListN.length-set, proofs.lemmas.List.append_assoc, proofs.lemmas.List.append_cancel_left}
+use Rattle.executor_laws.proofs.Types.{Move, Reply, Event, Hold, Op, UserOp, Hint, Step, Begin, Go, StepError, UserEnd}
+use Rattle.executor_model.specs.declared.step.Step.TheVariants.{Answer}
+use Rattle.executor_model.specs.Steps.{Machine, stack, top, below_top, react, refusal, Part, end_of, settled_by, onto, gone_on}
+use Rattle.executor_model.specs.Steps.{with_part, after, step_by, step, stepped, run}
+use Rattle.executor_model.specs.{Trace.Trace, Trace.has, World.World, World.Done, Weights.same, Weights.weigh, Doing.act}
 use Rattle.executor_model.proofs.Steps.TraceGrows.{Allows, Grows, grows, grows-act, grows-react}
 use Rattle.executor_model.proofs.Steps.TraceSteps.{ends_one, none-ends, run-continues}
-use Rattle.executor_model.proofs.Steps.Tests.{left-false}
+use Rattle.executor_model.proofs.{Quiet.CallsGroups.calls-act, Steps.Lists.same_cases, Steps.Lists.weigh-append}
+use Rattle.executor_model.proofs.{Steps.Lists.weigh-reverse, Quiet.Calls.calling_of, Steps.Lift.topped, Steps.Tests.left-false}
+use Rattle.executor_laws.proofs.Exactness.Following.{IsAlone, still-go, still-answer, wrong-answer, not-begun}
+use Rattle.executor_laws.proofs.{Placement.Answering.is_end, Exactness.Finding.heads, Exactness.Finding.no-more}
+use Rattle.executor_model.specs.declared.event.Answer.TheVariants as answer
 
 abbrev yes : Hold → Op
-yes held = op.End reply.Yes held
+yes held = Op.End Reply.Yes held
 
 -- party p is inside one call, which will be answered yes, and nobody else is in one
 pub record Inside (p : ℕ) (held : Hold) (s : Machine) : Type 0 where
@@ -57,19 +35,19 @@ first-more [] rest later e n k = inl (refl, k)
 first-more (x ∷ more) rest later e n k = inr (sym (ap ends_one (heads x e (more ++ rest) later k))
     ∙ left-false (ends_one x) (has ends_one more) n)
 
-no-no : (p : ℕ) (e : Event) → ends_one e ≡ false → e ≢ event.CallEnded p reply.No
-no-no p e n k = let z : ends_one (event.CallEnded p reply.No) ≡ false = sym (ap ends_one k) ∙ n in absurd (cc)
+no-no : (p : ℕ) (e : Event) → ends_one e ≡ false → e ≢ Event.CallEnded p Reply.No
+no-no p e n k = let z : ends_one (Event.CallEnded p Reply.No) ≡ false = sym (ap ends_one k) ∙ n in absurd (cc)
 
-yes-no : (p : ℕ) (e : Event) → e ≡ event.CallEnded p reply.Yes → e ≢ event.CallEnded p reply.No
-yes-no p e a b = let z : event.CallEnded p reply.Yes ≡ event.CallEnded p reply.No = sym a ∙ b in absurd (cc)
+yes-no : (p : ℕ) (e : Event) → e ≡ Event.CallEnded p Reply.Yes → e ≢ Event.CallEnded p Reply.No
+yes-no p e a b = let z : Event.CallEnded p Reply.Yes ≡ Event.CallEnded p Reply.No = sym a ∙ b in absurd (cc)
 
 -- what answers no call is no end of one
 not-end : (o : Op) → calling_of o ≡ 0 → end_of (Some o) ≡ None
-not-end (op.End r held) z = absurd (omega (arith, z))
+not-end (Op.End r held) z = absurd (omega (arith, z))
 not-end _ z = refl
 
 unended : (o : Op) → calling_of o ≡ 0 → is_end o ≡ false
-unended (op.End r held) z = absurd (omega (arith, z))
+unended (Op.End r held) z = absurd (omega (arith, z))
 unended _ z = refl
 
 -- what the thing on top does, if it answers no call
@@ -78,22 +56,22 @@ record Light (p : ℕ) (w : World) (d : Done) : Type 0 where
   none : weigh calling_of d.next ≡ 0
 
 allows : (p : ℕ) (o : Op) → calling_of o ≡ 0 → Allows ends_one none-ends p o
-allows p (op.Move move.TakeUp f) z = refl
-allows p (op.Steal o) z = absurd (omega (arith, z))
-allows p (op.End a held) z = absurd (omega (arith, z))
+allows p (Op.Move Move.TakeUp f) z = refl
+allows p (Op.Steal o) z = absurd (omega (arith, z))
+allows p (Op.End a held) z = absurd (omega (arith, z))
 allows p _ z = tt
 
 light-react : (p : ℕ) (o : Op) (u : UserEnd) (w : World) → calling_of o ≡ 0 → Light p w (react p o u w)
-light-react p (op.User (user_op.Poll f)) (end.Polled answer.Pending) w z = record {
-  grows = grows-react ends_one none-ends p (op.User (user_op.Poll f)) (end.Polled answer.Pending) w refl;
+light-react p (Op.User (UserOp.Poll f)) (UserEnd.Polled answer.Pending) w z = record {
+  grows = grows-react ends_one none-ends p (Op.User (UserOp.Poll f)) (UserEnd.Polled answer.Pending) w refl;
   none = refl;
 }
-light-react p (op.User (user_op.Poll f)) (end.Polled answer.Ready) w z = record {
-  grows = grows-react ends_one none-ends p (op.User (user_op.Poll f)) (end.Polled answer.Ready) w refl;
+light-react p (Op.User (UserOp.Poll f)) (UserEnd.Polled answer.Ready) w z = record {
+  grows = grows-react ends_one none-ends p (Op.User (UserOp.Poll f)) (UserEnd.Polled answer.Ready) w refl;
   none = refl;
 }
-light-react p (op.User (user_op.Poll f)) end.Done w z = record { grows = grows ends_one none-ends w w refl; none = refl }
-light-react p (op.User (user_op.PollOwn x)) u w z = absurd (omega (arith, z))
+light-react p (Op.User (UserOp.Poll f)) UserEnd.Done w z = record { grows = grows ends_one none-ends w w refl; none = refl }
+light-react p (Op.User (UserOp.PollOwn x)) u w z = absurd (omega (arith, z))
 light-react p _ _ w z = record { grows = grows ends_one none-ends w w refl; none = refl }
 
 light-act : (p : ℕ) (h : Hint) (o : Op) (w : World) → calling_of o ≡ 0 → Light p w (act p h o w)
@@ -118,7 +96,7 @@ light-below os o z e = omega
 -- and the party is inside still
 data NextPart (p : ℕ) (held : Hold) (w : World) (x : Part) : Type 0 where
   answered : (more : Trace) → has ends_one more ≡ false →
-      x.world.trace ≡ w.trace ++ (more ++ event.CallEnded p reply.Yes ∷ []) →
+      x.world.trace ≡ w.trace ++ (more ++ Event.CallEnded p Reply.Yes ∷ []) →
       NextPart p held w x
   inside : (more : Trace) (rest : List Op) → has ends_one more ≡ false → x.world.trace ≡ w.trace ++ more →
       x.todo ≡ yes held ∷ rest →
@@ -149,8 +127,8 @@ next-settled : (p : ℕ) (held : Hold) (w : World) (d : Done) (rest : List Op) �
     weigh calling_of rest ≡ 0 →
     NextPart p held w (settled_by (end_of (top (yes held ∷ rest))) p d.world (yes held ∷ rest))
 next-settled p held w d [] g z =
-    answered g.more g.none (ap (λ (xs : Trace). xs ++ event.CallEnded p reply.Yes ∷ []) g.is
-    ∙ append_assoc w.trace g.more (event.CallEnded p reply.Yes ∷ []))
+    answered g.more g.none (ap (λ (xs : Trace). xs ++ Event.CallEnded p Reply.Yes ∷ []) g.is
+    ∙ append_assoc w.trace g.more (Event.CallEnded p Reply.Yes ∷ []))
 next-settled p held w d (o ∷ os) g z =
     let last : (x : Op) × (top (o ∷ os) ≡ Some x) = top-there o os in
     let none : end_of (top (yes held ∷ o ∷ os)) ≡ None = ap end_of (top-above (yes held) o os ∙ last.1)
@@ -190,7 +168,7 @@ next-go p held h w (o ∷ os) z = next-light p held w (λ x. act p h x w) o os (
 data Next (p : ℕ) (held : Hold) (s now : Machine) : Type 0 where
   refused : now ≡ s → Next p held s now
   answered : (more : Trace) → has ends_one more ≡ false →
-      now.world.trace ≡ s.world.trace ++ (more ++ event.CallEnded p reply.Yes ∷ []) →
+      now.world.trace ≡ s.world.trace ++ (more ++ Event.CallEnded p Reply.Yes ∷ []) →
       Next p held s now
   inside : (more : Trace) → has ends_one more ≡ false → now.world.trace ≡ s.world.trace ++ more → Inside p held now →
       Next p held s now
@@ -235,9 +213,9 @@ replied p held s u i (o ∷ os) e z = next-by p held s (Answer p u) (refusal s (
 module _ (p : ℕ) (held : Hold) (e : Event) (later : Trace) (alone : IsAlone e) (ts : List Step) (s : Machine)
     (i : Inside p held s)
     (again : (now : Machine) → Inside p held now → (run ts now).world.trace ≡ now.world.trace ++ e ∷ later →
-    e ≢ event.CallEnded p reply.No) where
+    e ≢ Event.CallEnded p Reply.No) where
   same-trace : (now : Machine) → now ≡ s → (run ts now).world.trace ≡ s.world.trace ++ e ∷ later →
-      e ≢ event.CallEnded p reply.No
+      e ≢ Event.CallEnded p Reply.No
   same-trace now z q = again s i (sym (ap (λ (m : Machine). (run ts m).world.trace) z) ∙ q)
 
   -- what stands behind the events of the step
@@ -248,17 +226,17 @@ module _ (p : ℕ) (held : Hold) (e : Event) (later : Trace) (alone : IsAlone e)
       ∙ (ap (λ (xs : Trace). xs ++ (run-continues ts now).0) (sym n) ∙ (sym (run-continues ts now).1 ∙ q)))
 
   by-next : (now : Machine) → Next p held s now → (run ts now).world.trace ≡ s.world.trace ++ e ∷ later →
-      e ≢ event.CallEnded p reply.No
+      e ≢ Event.CallEnded p Reply.No
   by-next now (refused z) q = same-trace now z q
   by-next now (answered more n z) q =
-      let b : (more ++ event.CallEnded p reply.Yes ∷ []) ++ (run-continues ts now).0 ≡ e ∷ later =
-      behind now (more ++ event.CallEnded p reply.Yes ∷ []) z q in
+      let b : (more ++ Event.CallEnded p Reply.Yes ∷ []) ++ (run-continues ts now).0 ≡ e ∷ later =
+      behind now (more ++ Event.CallEnded p Reply.Yes ∷ []) z q in
       ⊎_elim
-      (λ (x : (more ≡ []) × (event.CallEnded p reply.Yes ∷ (run-continues ts now).0 ≡ e ∷ later)). yes-no p e
-      (sym (heads (event.CallEnded p reply.Yes) e (run-continues ts now).0 later x.1)))
+      (λ (x : (more ≡ []) × (Event.CallEnded p Reply.Yes ∷ (run-continues ts now).0 ≡ e ∷ later)). yes-no p e
+      (sym (heads (Event.CallEnded p Reply.Yes) e (run-continues ts now).0 later x.1)))
       (λ (x : ends_one e ≡ false). no-no p e x)
-      (first-more more (event.CallEnded p reply.Yes ∷ (run-continues ts now).0) later e n
-      (sym (append_assoc more (event.CallEnded p reply.Yes ∷ []) (run-continues ts now).0) ∙ b))
+      (first-more more (Event.CallEnded p Reply.Yes ∷ (run-continues ts now).0) later e n
+      (sym (append_assoc more (Event.CallEnded p Reply.Yes ∷ []) (run-continues ts now).0) ∙ b))
   by-next now (inside more n z j) q = ⊎_elim
       (λ (x : (more ≡ []) × ((run-continues ts now).0 ≡ e ∷ later)). again now j ((run-continues ts now).1
       ∙ ap (λ (xs : Trace). now.world.trace ++ xs) x.1))
@@ -266,7 +244,7 @@ module _ (p : ℕ) (held : Hold) (e : Event) (later : Trace) (alone : IsAlone e)
       (first-more more (run-continues ts now).0 later e n (behind now more z q))
 
   by-step : (t : Step) → (run ts (stepped s (step s t))).world.trace ≡ s.world.trace ++ e ∷ later →
-      e ≢ event.CallEnded p reply.No
+      e ≢ Event.CallEnded p Reply.No
   by-step (Begin q d) k = same-trace (stepped s (step s (Begin q d))) (not-begun s q d ts e later alone k) k
   by-step (Go q h) k = ⊎_elim
       (λ (x : (same q p ≡ 1) × (eqb q p ≡ true) × (q ≡ p)). by-next (stepped s (step s (Go q h)))
@@ -284,7 +262,7 @@ module _ (p : ℕ) (held : Hold) (e : Event) (later : Trace) (alone : IsAlone e)
 
 pub not-no : (p : ℕ) (held : Hold) (e : Event) (later : Trace) → IsAlone e → (ts : List Step) (s : Machine) →
     Inside p held s →
-    (run ts s).world.trace ≡ s.world.trace ++ e ∷ later → e ≢ event.CallEnded p reply.No
+    (run ts s).world.trace ≡ s.world.trace ++ e ∷ later → e ≢ Event.CallEnded p Reply.No
 not-no p held e later alone [] s i k = absurd (no-more s.world.trace later e k)
 not-no p held e later alone (t ∷ ts) s i k =
     by-step p held e later alone ts s i (λ now j q. not-no p held e later alone ts now j q) t k

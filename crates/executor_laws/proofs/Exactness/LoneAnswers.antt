@@ -1,43 +1,23 @@
 -- For ticks_are_exact, calls_at_rest_are_exact and lone_calls_are_exact.
 -- Whole calls that a party makes alone are answered as it is.
-use Rattle.std.proofs.Common.{◌≡◌, ◌⊎◌, ℕ, ◌<◌, List, [], ◌∷◌, ◌++◌, length, set, true, ltb, refl, sym, ap, ◌∙◌}
-use Rattle.std.proofs.Common.{subst, inl, inr, ⊎_elim, arith, Ok, get_or-set_same}
-use Rattle.std.proofs.Math.ListN.{length-set}
-use Rattle.std.proofs.lemmas.Bool.Decides.{nat_tests}
-use Rattle.std.specs.Prelude.{Some, None}
+use Rattle.std.proofs.Common.{◌≡◌, ◌⊎◌, ℕ, ◌<◌, List, [], ◌∷◌, ◌++◌, length, set, true, ltb, refl, sym, ap, ◌∙◌, subst, inl}
+use Rattle.std.proofs.Common.{inr, ⊎_elim, arith, Ok, get_or-set_same}
+use Rattle.std.{proofs.Math.ListN.length-set, proofs.lemmas.Bool.Decides.nat_tests, specs.Prelude.Some, specs.Prelude.None}
 use Rattle.executor_parts.specs.Marks.{first_of}
-use Rattle.executor_model.specs.declared.call.Call.{Call}
-use Rattle.executor_model.specs.declared.call.Call.TheVariants as call
-use Rattle.executor_model.specs.declared.call.Reply.{Reply}
-use Rattle.executor_model.specs.declared.call.Reply.TheVariants as reply
-use Rattle.executor_model.specs.declared.event.Event.{Event}
-use Rattle.executor_model.specs.declared.event.Event.TheVariants as event
-use Rattle.executor_model.specs.declared.kind.Kind.{Kind}
-use Rattle.executor_model.specs.declared.op.Op.{Op}
-use Rattle.executor_model.specs.declared.op.Op.TheVariants as op
-use Rattle.executor_model.specs.declared.op.TableOp.TheVariants as table_op
-use Rattle.executor_model.specs.declared.step.Hint.{Hint}
-use Rattle.executor_model.specs.declared.step.Step.{Step}
-use Rattle.executor_model.specs.declared.step.Step.TheVariants.{Begin, Go, Answer}
+use Rattle.executor_laws.proofs.Types.{Call, Reply, Event, Kind, Op, TableOp, Hint, Step, Begin, Go}
+use Rattle.executor_model.specs.declared.step.Step.TheVariants.{Answer}
+use Rattle.executor_model.specs.Steps.{Machine, stack, top, answer_refusal, onto, part_after, with_part, after, refusal, run}
 use Rattle.executor_model.specs.Emptiness.{AllDropped, AnswersAlone, IsAtRest, IsQuietEmptinessExact, asks_alone}
-use Rattle.executor_model.specs.Keeper.{IsCommon}
-use Rattle.executor_model.specs.Acts.{look_at_table}
-use Rattle.executor_model.specs.Executions.{run_all}
-use Rattle.executor_model.specs.World.{log}
-use Rattle.executor_model.specs.Steps.{Machine, stack, top, answer_refusal, onto, part_after}
-use Rattle.executor_model.specs.Steps.{with_part, after, refusal, run, start}
-use Rattle.executor_model.proofs.Emptiness.Quieting.{quiet-emptiness}
-use Rattle.executor_model.proofs.Quiet.Resting.{rests}
-use Rattle.executor_model.proofs.Steps.Reached.{Reached, run-first, run-then, run-of, reached-more, good-here, deep-here}
+use Rattle.executor_model.specs.{Steps.start, Keeper.IsCommon, Acts.look_at_table, Executions.run_all, World.log}
 use Rattle.executor_laws.specs.LoneAnswers.{IsAnswered, IsLoneEmptinessExact, IsLoneTickExact}
-use Rattle.executor_laws.specs.LoneEnds.{are_onward_of, IsLoneCall}
-use Rattle.executor_laws.proofs.Reach.Reached.{bonded-here, heard-here}
-use Rattle.executor_laws.specs.Reach.{TakesCommon}
-use Rattle.executor_laws.proofs.Placement.Placing.{idle}
+use Rattle.executor_laws.specs.{LoneEnds.are_onward_of, LoneEnds.IsLoneCall, Reach.TakesCommon}
+use Rattle.executor_model.proofs.Steps.Reached.{Reached, run-first, run-then, run-of, reached-more, good-here, deep-here}
+use Rattle.executor_model.proofs.{Emptiness.Quieting.quiet-emptiness, Quiet.Resting.rests}
 use Rattle.executor_laws.proofs.Reach.LoneTicks.{left-true, in-range, of-party, after-is, no-more}
 use Rattle.executor_laws.proofs.Reach.Spots.{AllEmpty, Spot, spot}
 use Rattle.executor_laws.proofs.Reach.Searching.{First, first-taken, none-found}
 use Rattle.executor_laws.proofs.Reach.Reaching.{spot-common, takes-common}
+use Rattle.executor_laws.proofs.{Reach.Reached.bonded-here, Reach.Reached.heard-here, Placement.Placing.idle}
 
 -- a call has one answer
 
@@ -54,50 +34,50 @@ ends-after d e [] ys = ends-push d e ys
 ends-after d e (x ∷ xs) ys = ends-after x e xs ys
 
 one-answer : (p : ℕ) (c : Call) (a b : Reply) (s new : Machine) → IsAnswered p c a s new → IsAnswered p c b s new →
-    ◌≡◌ {A = Event} (event.CallEnded p a) (event.CallEnded p b)
+    ◌≡◌ {A = Event} (Event.CallEnded p a) (Event.CallEnded p b)
 one-answer p c a b s new x y =
-    sym (ends-after (event.DropBegun 0) (event.CallEnded p a) s.world.trace (event.CallBegun p c ∷ x.0))
-    ∙ (ap (ends-in (event.DropBegun 0)) (sym x.1 ∙ y.1)
-    ∙ ends-after (event.DropBegun 0) (event.CallEnded p b) s.world.trace (event.CallBegun p c ∷ y.0))
+    sym (ends-after (Event.DropBegun 0) (Event.CallEnded p a) s.world.trace (Event.CallBegun p c ∷ x.0))
+    ∙ (ap (ends-in (Event.DropBegun 0)) (sym x.1 ∙ y.1)
+    ∙ ends-after (Event.DropBegun 0) (Event.CallEnded p b) s.world.trace (Event.CallBegun p c ∷ y.0))
 
 -- ticks
 
 module _ (s : Machine) (r : Reached s) (rest : IsAtRest s) (p : ℕ) (steps : List Step) (new : Machine)
-    (k : IsLoneCall p call.TryTick steps s new) where
-  nothing : AllEmpty s.world → IsAnswered p call.TryTick reply.No s new
-  nothing e = (event.Looked p (first_of s.world.urgent_turns) ∷ [], none-found s r rest p steps new k e)
+    (k : IsLoneCall p Call.TryTick steps s new) where
+  nothing : AllEmpty s.world → IsAnswered p Call.TryTick Reply.No s new
+  nothing e = (Event.Looked p (first_of s.world.urgent_turns) ∷ [], none-found s r rest p steps new k e)
 
-  something : Spot s.world → IsAnswered p call.TryTick reply.Yes s new
-  something x = let t : First x.mark x.future p call.TryTick reply.Yes s new =
-      first-taken s r rest p call.TryTick reply.Yes refl steps new k x in (t.meanwhile, t.events)
+  something : Spot s.world → IsAnswered p Call.TryTick Reply.Yes s new
+  something x = let t : First x.mark x.future p Call.TryTick Reply.Yes s new =
+      first-taken s r rest p Call.TryTick Reply.Yes refl steps new k x in (t.meanwhile, t.events)
 
-  tick-answered : IsAnswered p call.TryTick reply.Yes s new ⊎ IsAnswered p call.TryTick reply.No s new
+  tick-answered : IsAnswered p Call.TryTick Reply.Yes s new ⊎ IsAnswered p Call.TryTick Reply.No s new
   tick-answered = ⊎_elim
       (λ (e : AllEmpty s.world). inr (nothing e))
       (λ (x : Spot s.world). inl (something x))
       (spot s.world)
 
-  tick-none : ((f : ℕ) → ¬ IsCommon f s.world.trace) → IsAnswered p call.TryTick reply.No s new
+  tick-none : ((f : ℕ) → ¬ IsCommon f s.world.trace) → IsAnswered p Call.TryTick Reply.No s new
   tick-none z = ⊎_elim
       (λ (e : AllEmpty s.world). nothing e)
       (λ (x : Spot s.world). absurd (z x.future (spot-common s r rest x)))
       (spot s.world)
 
-  tick-only : IsAnswered p call.TryTick reply.No s new → (f : ℕ) → ¬ IsCommon f s.world.trace
+  tick-only : IsAnswered p Call.TryTick Reply.No s new → (f : ℕ) → ¬ IsCommon f s.world.trace
   tick-only a f c =
-      let t : TakesCommon p call.TryTick reply.Yes s new = takes-common s r rest f c p call.TryTick reply.Yes refl steps
+      let t : TakesCommon p Call.TryTick Reply.Yes s new = takes-common s r rest f c p Call.TryTick Reply.Yes refl steps
       new k in
-      let no : ◌≡◌ {A = Event} (event.CallEnded p reply.Yes) (event.CallEnded p reply.No) =
-      one-answer p call.TryTick reply.Yes reply.No s new (t.meanwhile, t.events) a in
+      let no : ◌≡◌ {A = Event} (Event.CallEnded p Reply.Yes) (Event.CallEnded p Reply.No) =
+      one-answer p Call.TryTick Reply.Yes Reply.No s new (t.meanwhile, t.events) a in
       absurd (cc)
 
 -- emptiness
 
 abbrev looking : Machine → ℕ → Machine
 looking s p = record {
-  world = log s.world (event.CallBegun p call.IsEmpty);
+  world = log s.world (Event.CallBegun p Call.IsEmpty);
   parties = set s.parties p
-      (op.Table table_op.LookAtTable ∷ []);
+      (Op.Table TableOp.LookAtTable ∷ []);
 }
 
 -- the machine after the look
@@ -105,34 +85,34 @@ abbrev looked : Machine → ℕ → Machine
 looked s p = with_part (looking s p) p (onto p (look_at_table (looking s p).world) [])
 
 module _ (s : Machine) (r : Reached s) (rest : IsAtRest s) (p : ℕ) (steps : List Step) (new : Machine)
-    (k : IsLoneCall p call.IsEmpty steps s new) where
+    (k : IsLoneCall p Call.IsEmpty steps s new) where
   idles : (q : ℕ) → stack s q ≡ []
   idles q = idle s (good-here s r) (heard-here s r) (deep-here s r) (bonded-here s r) rest q
 
   new-idle : stack new p ≡ []
-  new-idle = rests new (deep-here new (reached-more (Begin p call.IsEmpty ∷ steps) s new r k.made)) k.ended p
+  new-idle = rests new (deep-here new (reached-more (Begin p Call.IsEmpty ∷ steps) s new r k.made)) k.ended p
 
-  possible : refusal s (Begin p call.IsEmpty) ≡ None
-  possible = (run-first (Begin p call.IsEmpty) steps s new k.made).0
+  possible : refusal s (Begin p Call.IsEmpty) ≡ None
+  possible = (run-first (Begin p Call.IsEmpty) steps s new k.made).0
 
   in-parties : p < length s.parties
   in-parties = let b : ltb p (length s.parties) ≡ true = (in-range _ _ possible).0 in grind (arith, nat_tests)
 
-  begins : after s (Begin p call.IsEmpty) ≡ looking s p
-  begins = ap (λ (os : List Op). with_part s p (part_after s.world os (Begin p call.IsEmpty))) (idles p)
+  begins : after s (Begin p Call.IsEmpty) ≡ looking s p
+  begins = ap (λ (os : List Op). with_part s p (part_after s.world os (Begin p Call.IsEmpty))) (idles p)
 
   on-looking : run_all steps (looking s p) ≡ Ok new
   on-looking = sym (ap (λ (m : Machine). run_all steps m) begins)
-      ∙ (run-first (Begin p call.IsEmpty) steps s new k.made).1
+      ∙ (run-first (Begin p Call.IsEmpty) steps s new k.made).1
 
-  looks-first : stack (looking s p) p ≡ op.Table table_op.LookAtTable ∷ []
-  looks-first = get_or-set_same s.parties p (op.Table table_op.LookAtTable ∷ []) [] in-parties
+  looks-first : stack (looking s p) p ≡ Op.Table TableOp.LookAtTable ∷ []
+  looks-first = get_or-set_same s.parties p (Op.Table TableOp.LookAtTable ∷ []) [] in-parties
 
   looked-idle : stack (looked s p) p ≡ []
   looked-idle = get_or-set_same (looking s p).parties p [] [] (omega (
     arith,
     in-parties,
-    length-set s.parties p (op.Table table_op.LookAtTable ∷ []),
+    length-set s.parties p (Op.Table TableOp.LookAtTable ∷ []),
   ))
 
   -- it looks, and that is all that it does
@@ -142,7 +122,7 @@ module _ (s : Machine) (r : Reached s) (rest : IsAtRest s) (p : ℕ) (steps : Li
   looks : (ts : List Step) → are_onward_of p ts ≡ true → run_all ts (looking s p) ≡ Ok new → Looks
   looks [] on e =
       let same : looking s p ≡ new = cc in
-      let no : ◌≡◌ {A = List Op} (op.Table table_op.LookAtTable ∷ []) [] = sym looks-first
+      let no : ◌≡◌ {A = List Op} (Op.Table TableOp.LookAtTable ∷ []) [] = sym looks-first
       ∙ (ap (λ (m : Machine). stack m p) same ∙ new-idle) in absurd (cc)
   looks (Begin q c ∷ ts) on e = absurd (cc)
   looks (Go q h ∷ ts) on e =
@@ -153,7 +133,7 @@ module _ (s : Machine) (r : Reached s) (rest : IsAtRest s) (p : ℕ) (steps : Li
       after-is p (looking s p) (Go q h) m.0
       ∙ (ap (λ (os : List Op). with_part (looking s p) p (part_after (looking s p).world os (Go q h))) looks-first
       ∙ ap (λ (i : ℕ). with_part (looking s p) p
-      (part_after (looking s p).world (op.Table table_op.LookAtTable ∷ []) (Go i h))) m.0) in
+      (part_after (looking s p).world (Op.Table TableOp.LookAtTable ∷ []) (Go i h))) m.0) in
       let last : looked s p ≡ new =
       no-more p ts (looked s p) new looked-idle b.1 (sym (ap (λ (x : Machine). run_all ts x) gone) ∙ j.1) in
       let mine : refusal (looking s p) (Go p h) ≡ None =
@@ -163,14 +143,14 @@ module _ (s : Machine) (r : Reached s) (rest : IsAtRest s) (p : ℕ) (steps : Li
       let goes : run_all (Go p h ∷ []) (looking s p) ≡ Ok new =
       run-then (Go p h) [] (looking s p) new mine (ap Ok there) in (
         h,
-        run-then (Begin p call.IsEmpty) (Go p h ∷ []) s new possible
+        run-then (Begin p Call.IsEmpty) (Go p h ∷ []) s new possible
             (ap (λ (x : Machine). run_all (Go p h ∷ []) x) begins ∙ goes),
       )
   looks (Answer q u ∷ ts) on e =
       let b : _ = left-true _ (are_onward_of p ts) on in
       let j : _ = run-first (Answer q u) ts (looking s p) new e in
       let m : _ = of-party p (looking s p) (Answer q u) b.0 j.0 in
-      let no : answer_refusal (Some (op.Table table_op.LookAtTable)) u ≡ None =
+      let no : answer_refusal (Some (Op.Table TableOp.LookAtTable)) u ≡ None =
       sym (ap (λ (os : List Op). answer_refusal (top os) u) looks-first) ∙ m.2 in absurd (cc)
 
   found : Looks
@@ -179,22 +159,22 @@ module _ (s : Machine) (r : Reached s) (rest : IsAtRest s) (p : ℕ) (steps : Li
   exact : IsQuietEmptinessExact s
   exact = quiet-emptiness s (good-here s r) (heard-here s r).placed (deep-here s r)
 
-  answers-so : (a : Reply) → AnswersAlone s p found.0 a → IsAnswered p call.IsEmpty a s new
+  answers-so : (a : Reply) → AnswersAlone s p found.0 a → IsAnswered p Call.IsEmpty a s new
   answers-so a e = ([], sym (ap (λ (m : Machine). m.world.trace) (run-of (asks_alone p found.0) s new found.1)) ∙ e)
 
-  emptiness-answered : IsAnswered p call.IsEmpty reply.Yes s new ⊎ IsAnswered p call.IsEmpty reply.No s new
+  emptiness-answered : IsAnswered p Call.IsEmpty Reply.Yes s new ⊎ IsAnswered p Call.IsEmpty Reply.No s new
   emptiness-answered =
-      ⊎_elim (λ e. inl (answers-so reply.Yes e)) (λ e. inr (answers-so reply.No e))
+      ⊎_elim (λ e. inl (answers-so Reply.Yes e)) (λ e. inr (answers-so Reply.No e))
       (exact.answered rest p found.0 in-parties)
 
-  emptiness-always : AllDropped s.world.trace → IsAnswered p call.IsEmpty reply.Yes s new
-  emptiness-always d = answers-so reply.Yes (exact.always rest p found.0 in-parties d)
+  emptiness-always : AllDropped s.world.trace → IsAnswered p Call.IsEmpty Reply.Yes s new
+  emptiness-always d = answers-so Reply.Yes (exact.always rest p found.0 in-parties d)
 
-  emptiness-only : IsAnswered p call.IsEmpty reply.Yes s new → AllDropped s.world.trace
+  emptiness-only : IsAnswered p Call.IsEmpty Reply.Yes s new → AllDropped s.world.trace
   emptiness-only a = ⊎_elim
       (λ e. exact.only rest p found.0 in-parties e)
-      (λ e. let no : ◌≡◌ {A = Event} (event.CallEnded p reply.Yes)
-      (event.CallEnded p reply.No) = one-answer p call.IsEmpty reply.Yes reply.No s new a (answers-so reply.No e) in
+      (λ e. let no : ◌≡◌ {A = Event} (Event.CallEnded p Reply.Yes)
+      (Event.CallEnded p Reply.No) = one-answer p Call.IsEmpty Reply.Yes Reply.No s new a (answers-so Reply.No e) in
       absurd (cc))
       (exact.answered rest p found.0 in-parties)
 

@@ -1,59 +1,30 @@
 -- For ticks_are_exact, calls_at_rest_are_exact and lone_calls_are_exact.
 -- Where no call is in progress, a tick finds a future exactly where one is common.
-use Rattle.std.proofs.Common.{◌≡◌, ◌⊎◌, ℕ, ◌<◌, ◌≤◌, List, [], ◌∷◌, ◌++◌, length, set}
-use Rattle.std.proofs.Common.{Bool, true, false, ◌&&◌, not, refl, sym, ap, ◌∙◌, inl, inr}
-use Rattle.std.proofs.Common.{arith, get_or-set_same, length-append}
-use Rattle.std.proofs.Math.ListN.{length-set}
-use Rattle.std.proofs.lemmas.Bool.Decides.{nat_tests}
-use Rattle.std.proofs.lemmas.List.{append_assoc}
+use Rattle.std.proofs.Common.{◌≡◌, ◌⊎◌, ℕ, ◌<◌, ◌≤◌, List, [], ◌∷◌, ◌++◌, length, set, Bool, true, false, ◌&&◌, not, refl, sym}
+use Rattle.std.proofs.Common.{ap, ◌∙◌, inl, inr, arith, get_or-set_same, length-append, ◌==◌}
 use Rattle.std.specs.Prelude.{Option, None, nat_lt}
-use Rattle.executor_parts.specs.declared.mark.Mark.{Mark}
-use Rattle.executor_parts.specs.declared.mark.Mark.TheVariants.{Plain, Urgent}
+use Rattle.std.{proofs.Math.ListN.length-set, proofs.lemmas.Bool.Decides.nat_tests, proofs.lemmas.List.append_assoc}
 use Rattle.executor_parts.specs.Marks.{first_of, other}
-use Rattle.executor_model.specs.declared.call.Call.TheVariants as call
-use Rattle.executor_model.specs.declared.call.Reply.TheVariants as reply
-use Rattle.executor_model.specs.declared.event.Event.TheVariants as event
-use Rattle.executor_model.specs.declared.kind.Kind.{Kind}
-use Rattle.executor_model.specs.declared.op.Hold.TheVariants as hold
-use Rattle.executor_model.specs.declared.op.Look.TheVariants.{First, Second}
-use Rattle.executor_model.specs.declared.op.Op.{Op}
-use Rattle.executor_model.specs.declared.op.Op.TheVariants as op
-use Rattle.task_moves.specs.declared.moves.owed.Move.TheVariants as move
-use Rattle.executor_model.specs.declared.op.QueueOp.TheVariants as queue_op
-use Rattle.executor_model.specs.declared.op.SleeperOp.TheVariants as sleeper_op
-use Rattle.executor_model.specs.declared.step.Hint.{Hint}
-use Rattle.executor_model.specs.declared.step.Step.{Step}
-use Rattle.executor_model.specs.declared.step.Step.TheVariants.{Begin, Go}
-use Rattle.executor_model.specs.declared.step.StepError.{StepError}
-use Rattle.executor_model.specs.declared.step.StepError.TheVariants.{NoSuch, Gone}
-use Rattle.executor_model.specs.Keeper.{IsCommon}
-use Rattle.executor_model.specs.Emptiness.{IsAtRest}
-use Rattle.executor_model.specs.Trace.{Trace}
+use Rattle.executor_laws.proofs.Types.{Mark, Plain, Urgent, Call, Reply, Event, Kind, Hold, First, Second, Op, Move, QueueOp}
+use Rattle.executor_laws.proofs.Types.{SleeperOp, Hint, Step, Begin, Go, StepError, NoSuch, Gone}
+use Rattle.executor_model.specs.Steps.{Machine, stack, top, step, step_by, stepped, refusal, unless, begin_refusal, go_refusal}
+use Rattle.executor_model.specs.Steps.{onto, part, part_after, with_part, run, start}
 use Rattle.executor_model.specs.World.{World, log, queue_of, queued_in}
-use Rattle.executor_model.specs.Acts.{take_by, turned}
-use Rattle.executor_model.specs.ActsOfSleepers.{exchange_by}
-use Rattle.executor_model.specs.Sound.{times}
-use Rattle.executor_model.specs.Good.{Good}
-use Rattle.executor_model.specs.Steps.{Machine, stack, top, step, step_by, stepped, refusal, unless, begin_refusal}
-use Rattle.executor_model.specs.Steps.{go_refusal, onto, part, part_after, with_part, run, start}
-use Rattle.executor_model.proofs.Steps.Lists.{same_is}
-use Rattle.executor_model.proofs.Steps.Lift.{good}
+use Rattle.executor_model.specs.{Keeper.IsCommon, Emptiness.IsAtRest, Trace.Trace, Acts.take_by, Acts.turned}
+use Rattle.executor_model.specs.{ActsOfSleepers.exchange_by, Sound.times, Good.Good, Rows.leaking_of, Weights.weigh_all}
+use Rattle.executor_laws.specs.Ticks.{ticks, FindsNothing, FindsCommon, IsTickExact}
 use Rattle.executor_model.proofs.Steps.QueuesByMark.{times-all, times-one}
 use Rattle.executor_model.proofs.Polls.AskingExecutions.{Heard, heard}
-use Rattle.executor_model.proofs.Quiet.Resting.{Deep, deep}
-use Rattle.executor_laws.specs.Ticks.{ticks, FindsNothing, FindsCommon, IsTickExact}
+use Rattle.executor_model.proofs.{Steps.Lists.same_is, Steps.Lift.good, Quiet.Resting.Deep, Quiet.Resting.deep}
 use Rattle.executor_laws.proofs.Placement.BoundWays.{Bonded, bonded}
 use Rattle.executor_laws.proofs.Placement.Placing.{unleaked, common-queue, here, idle, queue-common}
-use Rattle.executor_model.specs.Rows.{leaking_of}
-use Rattle.executor_model.specs.Weights.{weigh_all}
-use Rattle.std.proofs.Common.{◌==◌}
 
 -- the machine in which p has called a tick, and has still to take its turn
 abbrev pub ticking : Machine → ℕ → Machine
 ticking s p =
     record {
-      world = log s.world (event.CallBegun p call.TryTick);
-      parties = set s.parties p (op.Queue queue_op.TakeTurn ∷ []);
+      world = log s.world (Event.CallBegun p Call.TryTick);
+      parties = set s.parties p (Op.Queue QueueOp.TakeTurn ∷ []);
     }
 
 -- which queue the turn names
@@ -63,12 +34,12 @@ turn_of s = first_of s.world.urgent_turns
 -- it has taken its turn, and looks at that queue first
 abbrev pub turning : Machine → ℕ → Machine
 turning s p = with_part (ticking s p) p
-    (part (turned p (ticking s p).world) (op.Queue (queue_op.Take (First (turn_of s))) ∷ []))
+    (part (turned p (ticking s p).world) (Op.Queue (QueueOp.Take (First (turn_of s))) ∷ []))
 
 -- it looks at the other queue
 abbrev pub seconding : Machine → ℕ → Machine
 seconding s p = with_part (turning s p) p
-    (part (turning s p).world (op.Queue (queue_op.Take (Second (other (turn_of s)))) ∷ []))
+    (part (turning s p).world (Op.Queue (QueueOp.Take (Second (other (turn_of s)))) ∷ []))
 
 -- a step by which a party goes on
 pub goes-alone : (m : Machine) (p : ℕ) (t : Hint) (os : List Op) → p < length m.parties → stack m p ≡ os →
@@ -86,48 +57,48 @@ goes-alone m p t os l e g =
 
 module _ (s : Machine) (p : ℕ) (l : p < length s.parties) (n : s.world.gone ≡ false) (e : stack s p ≡ [])
     (k : weigh_all leaking_of s.parties ≡ 0) where
-  pub none-refused : refusal s (Begin p call.TryTick) ≡ None
+  pub none-refused : refusal s (Begin p Call.TryTick) ≡ None
   none-refused =
-      ap (λ (b : Bool). unless b NoSuch (begin_refusal s.world s.parties (top (stack s p)) call.TryTick))
+      ap (λ (b : Bool). unless b NoSuch (begin_refusal s.world s.parties (top (stack s p)) Call.TryTick))
       (let z : nat_lt p (length s.parties) ≡ true = grind (arith, nat_tests) in z)
-      ∙ (ap (λ (os : List Op). begin_refusal s.world s.parties (top os) call.TryTick) e
+      ∙ (ap (λ (os : List Op). begin_refusal s.world s.parties (top os) Call.TryTick) e
       ∙ (ap (λ (b : Bool). unless (not (b && true)) Gone (unless (weigh_all leaking_of s.parties == 0) Gone None)) n
       ∙ ap (λ (m : ℕ). unless (m == 0) Gone None) k))
 
-  pub begun-alone : stepped s (step s (Begin p call.TryTick)) ≡ ticking s p
+  pub begun-alone : stepped s (step s (Begin p Call.TryTick)) ≡ ticking s p
   unfolding step
-  begun-alone = ap (λ (x : Option StepError). stepped s (step_by x s (Begin p call.TryTick))) none-refused
-      ∙ ap (λ (os : List Op). with_part s p (part_after s.world os (Begin p call.TryTick))) e
+  begun-alone = ap (λ (x : Option StepError). stepped s (step_by x s (Begin p Call.TryTick))) none-refused
+      ∙ ap (λ (os : List Op). with_part s p (part_after s.world os (Begin p Call.TryTick))) e
 
   within : (x : List Op) (ss : List (List Op)) → p < length ss → p < length (set ss p x)
   within x ss m = omega (arith, m, length-set ss p x)
 
   pub in-ticking : p < length (ticking s p).parties
-  in-ticking = within (op.Queue queue_op.TakeTurn ∷ []) s.parties l
+  in-ticking = within (Op.Queue QueueOp.TakeTurn ∷ []) s.parties l
 
   pub in-turning : p < length (turning s p).parties
-  in-turning = within (op.Queue (queue_op.Take (First (turn_of s))) ∷ []) (ticking s p).parties in-ticking
+  in-turning = within (Op.Queue (QueueOp.Take (First (turn_of s))) ∷ []) (ticking s p).parties in-ticking
 
   pub in-seconding : p < length (seconding s p).parties
-  in-seconding = within (op.Queue (queue_op.Take (Second (other (turn_of s)))) ∷ []) (turning s p).parties in-turning
+  in-seconding = within (Op.Queue (QueueOp.Take (Second (other (turn_of s)))) ∷ []) (turning s p).parties in-turning
 
   pub turned-alone : (t : Hint) → stepped (ticking s p) (step (ticking s p) (Go p t)) ≡ turning s p
-  turned-alone t = goes-alone (ticking s p) p t (op.Queue queue_op.TakeTurn ∷ []) in-ticking
-      (get_or-set_same s.parties p (op.Queue queue_op.TakeTurn ∷ []) [] l) refl
+  turned-alone t = goes-alone (ticking s p) p t (Op.Queue QueueOp.TakeTurn ∷ []) in-ticking
+      (get_or-set_same s.parties p (Op.Queue QueueOp.TakeTurn ∷ []) [] l) refl
 
   pub looked-first : (t : Hint) (items : List ℕ) → (queue_of s.world (turn_of s)).items ≡ items →
       stepped (turning s p) (step (turning s p) (Go p t))
       ≡ with_part (turning s p) p (onto p (take_by (turning s p).world (First (turn_of s)) items) [])
-  looked-first t items q = goes-alone (turning s p) p t (op.Queue (queue_op.Take (First (turn_of s))) ∷ []) in-turning
-      (get_or-set_same (ticking s p).parties p (op.Queue (queue_op.Take (First (turn_of s))) ∷ []) [] in-ticking) refl
+  looked-first t items q = goes-alone (turning s p) p t (Op.Queue (QueueOp.Take (First (turn_of s))) ∷ []) in-turning
+      (get_or-set_same (ticking s p).parties p (Op.Queue (QueueOp.Take (First (turn_of s))) ∷ []) [] in-ticking) refl
       ∙ ap (λ (xs : List ℕ). with_part (turning s p) p (onto p (take_by (turning s p).world (First (turn_of s)) xs) [])) q
 
   pub looked-second : (t : Hint) (items : List ℕ) → (queue_of s.world (other (turn_of s))).items ≡ items →
       stepped (seconding s p) (step (seconding s p) (Go p t))
       ≡ with_part (seconding s p) p (onto p (take_by (seconding s p).world (Second (other (turn_of s))) items) [])
   looked-second t items q =
-      goes-alone (seconding s p) p t (op.Queue (queue_op.Take (Second (other (turn_of s)))) ∷ []) in-seconding
-      (get_or-set_same (turning s p).parties p (op.Queue (queue_op.Take (Second (other (turn_of s)))) ∷ []) [] in-turning)
+      goes-alone (seconding s p) p t (Op.Queue (QueueOp.Take (Second (other (turn_of s)))) ∷ []) in-seconding
+      (get_or-set_same (turning s p).parties p (Op.Queue (QueueOp.Take (Second (other (turn_of s)))) ∷ []) [] in-turning)
       refl
       ∙ ap (λ (xs : List ℕ). with_part (seconding s p) p
       (onto p (take_by (seconding s p).world (Second (other (turn_of s))) xs) [])) q
@@ -150,13 +121,13 @@ module _ (s : Machine) (p : ℕ) (l : p < length s.parties) (n : s.world.gone �
   pub finds-nothing : (t : Hint) → (queue_of s.world (turn_of s)).items ≡ [] →
       (queue_of s.world (other (turn_of s))).items ≡ [] → FindsNothing s p t
   finds-nothing t a b = ap (λ (m : Machine). m.world.trace) (second-on t [] a b)
-      ∙ (append_assoc (s.world.trace ++ event.CallBegun p call.TryTick ∷ []) (event.Looked p (turn_of s) ∷ [])
-      (event.CallEnded p reply.No ∷ [])
-      ∙ append_assoc s.world.trace (event.CallBegun p call.TryTick ∷ [])
-      (event.Looked p (turn_of s) ∷ event.CallEnded p reply.No ∷ []))
+      ∙ (append_assoc (s.world.trace ++ Event.CallBegun p Call.TryTick ∷ []) (Event.Looked p (turn_of s) ∷ [])
+      (Event.CallEnded p Reply.No ∷ [])
+      ∙ append_assoc s.world.trace (Event.CallBegun p Call.TryTick ∷ [])
+      (Event.Looked p (turn_of s) ∷ Event.CallEnded p Reply.No ∷ []))
 
   abbrev pub taking_up : ℕ → List Op
-  taking_up f = op.End reply.Yes hold.Executor ∷ op.Move move.TakeUp f ∷ op.Sleeper sleeper_op.ExchangeFlag ∷ []
+  taking_up f = Op.End Reply.Yes Hold.Executor ∷ Op.Move Move.TakeUp f ∷ Op.Sleeper SleeperOp.ExchangeFlag ∷ []
 
   finds-first : (t : Hint) (f : ℕ) (xs : List ℕ) → (queue_of s.world (turn_of s)).items ≡ f ∷ xs →
       stack (run (ticks false p t) s) p ≡ taking_up f
@@ -170,12 +141,12 @@ module _ (s : Machine) (p : ℕ) (l : p < length s.parties) (n : s.world.gone �
 
   -- a sleeper is told, of which the trace doesn't tell
   tells : (b : Bool) (w : World) (f : ℕ) →
-      (onto p (exchange_by b w) (op.End reply.Yes hold.Executor ∷ op.Move move.TakeUp f ∷ [])).world.trace ≡ w.trace
+      (onto p (exchange_by b w) (Op.End Reply.Yes Hold.Executor ∷ Op.Move Move.TakeUp f ∷ [])).world.trace ≡ w.trace
   tells true w f = refl
   tells false w f = refl
 
   abbrev turn-told : Trace
-  turn-told = (s.world.trace ++ event.CallBegun p call.TryTick ∷ []) ++ event.Looked p (turn_of s) ∷ []
+  turn-told = (s.world.trace ++ Event.CallBegun p Call.TryTick ∷ []) ++ Event.Looked p (turn_of s) ∷ []
 
   told-first : (t : Hint) (f : ℕ) (xs : List ℕ) → (queue_of s.world (turn_of s)).items ≡ f ∷ xs →
       (run (ticks true p t) s).world.trace ≡ turn-told
@@ -198,10 +169,10 @@ module _ (s : Machine) (p : ℕ) (l : p < length s.parties) (n : s.world.gone �
   not-nothing t short z = absurd (omega (
     arith,
     ap length (sym short ∙ z),
-    length-append (s.world.trace ++ event.CallBegun p call.TryTick ∷ []) (event.Looked p (turn_of s) ∷ []),
-    length-append s.world.trace (event.CallBegun p call.TryTick ∷ []),
+    length-append (s.world.trace ++ Event.CallBegun p Call.TryTick ∷ []) (Event.Looked p (turn_of s) ∷ []),
+    length-append s.world.trace (Event.CallBegun p Call.TryTick ∷ []),
     length-append s.world.trace
-        (event.CallBegun p call.TryTick ∷ event.Looked p (turn_of s) ∷ event.CallEnded p reply.No ∷ []),
+        (Event.CallBegun p Call.TryTick ∷ Event.Looked p (turn_of s) ∷ Event.CallEnded p Reply.No ∷ []),
   ))
 
 pub first-times : (f : ℕ) (xs : List ℕ) → 1 ≤ times f (f ∷ xs)

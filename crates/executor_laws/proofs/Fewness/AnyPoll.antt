@@ -1,49 +1,24 @@
 -- For runs_take_few_futures.
 -- So any poll of a run takes 200 futures up at most, whatever others do, and whatever user code does inside of it.
-use Rattle.std.proofs.Common.{◌≡◌, ◌≢◌, ◌⊎◌, ◌∙◌, inl, ⊎_elim, ℕ, ◌+◌, ◌<◌, ◌≤◌, List, [], ◌∷◌, ◌++◌, length}
-use Rattle.std.proofs.Common.{cond, Result, Bool, true, false, ◌&&◌, eqb, ltb, refl, sym, ap, subst, arith, append-nil}
-use Rattle.std.proofs.Common.{length-append, get_or-set_same, get_or-set_other}
-use Rattle.std.proofs.lemmas.Bool.Decides.{nat_tests}
-use Rattle.std.proofs.lemmas.List.{get_or_past}
-use Rattle.std.specs.Prelude.{Option, Some, None, reverse}
-use Rattle.executor_model.specs.declared.call.By.{By}
-use Rattle.executor_model.specs.declared.call.Call.TheVariants as call
-use Rattle.executor_model.specs.declared.call.Reply.TheVariants as reply
-use Rattle.executor_model.specs.declared.event.Event.TheVariants as event
-use Rattle.executor_model.specs.declared.kind.Kind.{Kind}
-use Rattle.executor_model.specs.declared.op.Hold.TheVariants as hold
-use Rattle.executor_model.specs.declared.op.ListOp.TheVariants as list_op
-use Rattle.executor_model.specs.declared.op.Op.{Op}
-use Rattle.executor_model.specs.declared.op.Op.TheVariants as op
-use Rattle.executor_model.specs.declared.op.RunOp.TheVariants as run_op
-use Rattle.executor_model.specs.declared.op.RunPoll.{RunPoll}
-use Rattle.executor_model.specs.declared.op.Section.TheVariants as section
-use Rattle.executor_model.specs.declared.op.UserOp.TheVariants as user_op
-use Rattle.executor_model.specs.declared.step.Step.{Step}
-use Rattle.executor_model.specs.declared.step.Step.TheVariants.{Begin}
-use Rattle.executor_model.specs.declared.step.StepError.{StepError}
-use Rattle.executor_model.specs.Rows.{running_of}
-use Rattle.executor_model.specs.Steps.{Machine, Part, begun}
-use Rattle.executor_model.specs.Steps.{mine, onto, part_after, part_refusal, party_of, poll_run, refusal}
+use Rattle.std.proofs.Common.{◌≡◌, ◌≢◌, ◌⊎◌, ◌∙◌, inl, ⊎_elim, ℕ, ◌+◌, ◌<◌, ◌≤◌, List, [], ◌∷◌, ◌++◌, length, cond, Result}
+use Rattle.std.proofs.Common.{Bool, true, false, ◌&&◌, eqb, ltb, refl, sym, ap, subst, arith, append-nil, length-append}
+use Rattle.std.{proofs.Common.get_or-set_same, proofs.Common.get_or-set_other, specs.Prelude.Option, specs.Prelude.Some}
+use Rattle.std.{specs.Prelude.None, specs.Prelude.reverse, proofs.lemmas.Bool.Decides.nat_tests, proofs.lemmas.List.get_or_past}
+use Rattle.executor_laws.proofs.Types.{Begin, StepError, By, Call, Reply, Event, Kind, Hold, ListOp, Op, RunOp, RunPoll}
+use Rattle.executor_model.specs.Steps.{Machine, Part, begun, mine, onto, part_after, part_refusal, party_of, poll_run, refusal}
 use Rattle.executor_model.specs.Steps.{run, stack, start, step, step_by, stepped, top, waker_of, with_part}
-use Rattle.executor_model.specs.Weights.{weigh, weigh_all}
 use Rattle.executor_model.specs.World.{Done, Ended, Listed, New, Stage, World, log, run_of}
-use Rattle.executor_model.proofs.OwnQueues.UsingSteps.{all-used}
-use Rattle.executor_model.proofs.Quiet.Calls.{is_end}
-use Rattle.executor_model.proofs.Steps.Lists.{weigh-append}
-use Rattle.executor_model.proofs.Steps.Reached.{Reached}
-use Rattle.executor_model.proofs.Steps.Stepping.{step-made}
+use Rattle.executor_model.specs.{Rows.running_of, Weights.weigh, Weights.weigh_all}
 use Rattle.executor_laws.specs.RunTakes.{TakesUpFew, depth, takes_in, takes_itself, takes_up}
-use Rattle.executor_laws.proofs.Fewness.AnySteps.{Owns, beside_of, budget-kept}
-use Rattle.executor_laws.proofs.Fewness.AnySteps.{owns-uses}
-use Rattle.executor_laws.proofs.Fewness.FewSides.{ups}
-use Rattle.executor_laws.proofs.Fewness.FewSteps.{Ready, budget, left_of}
-use Rattle.executor_laws.proofs.Placement.OwnReady.{reached-on}
-use Rattle.executor_laws.proofs.Reach.LoneTicks.{in-range}
-use Rattle.executor_laws.proofs.Termination.TakingFew.{takes-few}
+use Rattle.executor_model.proofs.OwnQueues.UsingSteps.{all-used}
+use Rattle.executor_model.proofs.{Quiet.Calls.is_end, Steps.Lists.weigh-append, Steps.Reached.Reached, Steps.Stepping.step-made}
 use Rattle.executor_laws.proofs.Fewness.AnyStacks.{Goes, Stands, Stays, StaysIn, by-mine, counted, lands, not-mine, one-stack}
 use Rattle.executor_laws.proofs.Fewness.AnyStacks.{part-untaken, two-stacks}
+use Rattle.executor_laws.proofs.Fewness.AnySteps.{Owns, beside_of, budget-kept, owns-uses}
+use Rattle.executor_laws.proofs.Fewness.FewSteps.{Ready, budget, left_of}
 use Rattle.executor_laws.proofs.Fewness.AnyStacks.Stays.{going, over}
+use Rattle.executor_laws.proofs.{Types.Section, Types.UserOp, Types.Step, Fewness.FewSides.ups, Placement.OwnReady.reached-on}
+use Rattle.executor_laws.proofs.{Reach.LoneTicks.in-range, Termination.TakingFew.takes-few}
 
 -- a step of the machine
 
@@ -185,27 +160,27 @@ module _ (p q : ℕ) (old : List Op) where
 -- the beginning
 
 poll-first : (t : Stage) (r : ℕ) (x : RunPoll) → x.run ≡ r → (c : Op) × (poll_run t x ≡ c ∷ []) × Owns r c
-poll-first New r x e = (op.List (list_op.LockWrite (section.Register x)), refl, e)
-poll-first Listed r x e = (op.User (user_op.PollOwn x), refl, e)
-poll-first Ended r x e = (op.End reply.Finished (hold.Run x.run), refl, refl)
+poll-first New r x e = (Op.List (ListOp.LockWrite (Section.Register x)), refl, e)
+poll-first Listed r x e = (Op.User (UserOp.PollOwn x), refl, e)
+poll-first Ended r x e = (Op.End Reply.Finished (Hold.Run x.run), refl, refl)
 
 budget-bound : (q : ℕ) (c : Op) (w : World) → budget q c w ≤ 200
-budget-bound q (op.End a held) w = omega arith
-budget-bound q (op.Run (run_op.WakeOwn x)) w = omega arith
+budget-bound q (Op.End a held) w = omega arith
+budget-bound q (Op.Run (RunOp.WakeOwn x)) w = omega arith
 budget-bound q _ w = let z : left_of q w ≤ 200 = omega arith in z
 
-module _ (s : Machine) (y : Reached s) (p r : ℕ) (b : By) (e : refusal s (Begin p (call.PollRun r b)) ≡ None) where
+module _ (s : Machine) (y : Reached s) (p r : ℕ) (b : By) (e : refusal s (Begin p (Call.PollRun r b)) ≡ None) where
   abbrev first : Step
-  first = Begin p (call.PollRun r b)
+  first = Begin p (Call.PollRun r b)
 
   abbrev d : Done
-  d = begun p (log s.world (event.CallBegun p (call.PollRun r b))) (mine (top (stack s p))) (call.PollRun r b)
+  d = begun p (log s.world (Event.CallBegun p (Call.PollRun r b))) (mine (top (stack s p))) (Call.PollRun r b)
 
   abbrev poll : RunPoll
   poll = record {
     run = r;
     waker = waker_of (mine (top (stack s p))) b;
-    poll = length (s.world.trace ++ event.CallBegun p (call.PollRun r b) ∷ []);
+    poll = length (s.world.trace ++ Event.CallBegun p (Call.PollRun r b) ∷ []);
   }
 
   party-here : p < length s.parties

@@ -1,44 +1,26 @@
 -- For runs_take_few_futures.
 -- Of any poll of a run: what a step of its party leaves of it on the party's stack, below what calls inside of it have to do,
 -- and how many futures the step takes up.
-use Rattle.std.proofs.Common.{◌≡◌, ◌≢◌, ◌⊎◌, ◌∙◌, inl, inr, ⊎_elim, ℕ, zero, suc, ◌+◌, ◌-◌, ◌<◌, ◌≤◌, List, [], ◌∷◌, ◌++◌, length}
-use Rattle.std.proofs.Common.{get_or, cond, Bool, true, false, ◌&&◌, eqb, refl, sym, ap, subst, arith, append-nil}
-use Rattle.std.proofs.Common.{append_assoc, length-append}
-use Rattle.std.proofs.lemmas.Bool.Decides.{nat_tests}
+use Rattle.std.proofs.Common.{◌≡◌, ◌≢◌, ◌⊎◌, ◌∙◌, inl, inr, ⊎_elim, ℕ, zero, suc, ◌+◌, ◌-◌, ◌<◌, ◌≤◌, List, [], ◌∷◌, ◌++◌}
+use Rattle.std.proofs.Common.{length, get_or, cond, Bool, true, false, ◌&&◌, eqb, refl, sym, ap, subst, arith, append-nil}
 use Rattle.std.specs.Prelude.{Option, Some, None, reverse}
-use Rattle.task_moves.specs.declared.moves.owed.Move.TheVariants as move
-use Rattle.executor_model.specs.declared.call.Call.{Call}
-use Rattle.executor_model.specs.declared.call.Reply.{Reply}
-use Rattle.executor_model.specs.declared.event.Event.TheVariants as event
-use Rattle.executor_model.specs.declared.op.Hold.{Hold}
-use Rattle.executor_model.specs.declared.op.Op.{Op}
-use Rattle.executor_model.specs.declared.op.Op.TheVariants as op
-use Rattle.executor_model.specs.declared.step.Hint.{Hint}
-use Rattle.executor_model.specs.declared.step.Step.{Step}
-use Rattle.executor_model.specs.declared.step.Step.TheVariants.{Answer, Begin, Go}
-use Rattle.executor_model.specs.declared.step.StepError.{StepError}
-use Rattle.executor_model.specs.declared.step.StepError.TheVariants.{Busy}
-use Rattle.executor_model.specs.declared.step.UserEnd.{UserEnd}
-use Rattle.executor_model.specs.Doing.{act}
-use Rattle.executor_model.specs.Rows.{running_of}
+use Rattle.std.{proofs.Common.append_assoc, proofs.Common.length-append, proofs.lemmas.Bool.Decides.nat_tests}
+use Rattle.executor_laws.proofs.Types.{Move, Call, Reply, Event, Hold, Op, Hint, Step, Begin, Go, StepError, Busy, UserEnd}
+use Rattle.executor_model.specs.declared.step.Step.TheVariants.{Answer}
 use Rattle.executor_model.specs.Steps.{Part, accepts, answer_refusal, begin_refusal, begun, below_top, end_of, go_refusal}
-use Rattle.executor_model.specs.Steps.{gone_on, mine, onto, part, part_after, part_refusal, party_of, react}
-use Rattle.executor_model.specs.Steps.{settled, settled_by, top, unless, waits}
-use Rattle.executor_model.specs.Weights.{weigh, weigh_all}
-use Rattle.executor_model.specs.World.{Done, World, log}
-use Rattle.executor_model.proofs.Quiet.Calls.{is_end}
-use Rattle.executor_model.proofs.Steps.Lift.{topped}
-use Rattle.executor_model.proofs.Steps.Lists.{weigh-append, weigh-reverse}
-use Rattle.executor_model.proofs.Table.Spawning.{top-last}
+use Rattle.executor_model.specs.Steps.{gone_on, mine, onto, part, part_after, part_refusal, party_of, react, settled}
+use Rattle.executor_model.specs.{Steps.settled_by, Steps.top, Steps.unless, Steps.waits, Doing.act, Rows.running_of}
+use Rattle.executor_model.specs.{Weights.weigh, Weights.weigh_all, World.Done, World.World, World.log}
 use Rattle.executor_laws.specs.RunTakes.{depth, takes_up, user_of}
-use Rattle.executor_laws.proofs.Fewness.AnySteps.{Beside, Comes, Owns, beside-act, beside-no-end, beside-react, beside_of, budget-kept}
-use Rattle.executor_laws.proofs.Fewness.AnySteps.{owns-act, owns-no-up, owns-react, owns-uses}
+use Rattle.executor_model.proofs.Steps.Lists.{weigh-append, weigh-reverse}
+use Rattle.executor_model.proofs.{Quiet.Calls.is_end, Steps.Lift.topped, Table.Spawning.top-last}
+use Rattle.executor_laws.proofs.Fewness.AnySteps.{Beside, Comes, Owns, beside-act, beside-no-end, beside-react, beside_of}
+use Rattle.executor_laws.proofs.Fewness.AnySteps.{budget-kept, owns-act, owns-no-up, owns-react, owns-uses}
 use Rattle.executor_laws.proofs.Fewness.AnySteps.Comes.{on as comes_on, over as comes_over}
 use Rattle.executor_laws.proofs.Fewness.FewSides.{react-same, ups}
-use Rattle.executor_laws.proofs.Fewness.FewSteps.{Ready, budget}
 use Rattle.executor_laws.proofs.Fewness.Untaken.{Untaken, untaken, untaken-begun}
 use Rattle.executor_laws.proofs.Reach.LoneSteps.{Last, answers, from-end, goes}
-use Rattle.executor_laws.proofs.RunReach.RunWalks.{not-nil}
+use Rattle.executor_laws.proofs.{Fewness.FewSteps.Ready, Fewness.FewSteps.budget, RunReach.RunWalks.not-nil}
 
 -- lists by their ends
 
@@ -77,38 +59,38 @@ StaysIn q old n x = Stays q old n x.world x.todo
 -- a call ends whose end is all that is left of it
 pub data Settles (p : ℕ) (w : World) (os : List Op) : Type 0 where
   same : settled p w os ≡ part w os → Settles p w os
-  ends : (a : Reply) (held : Hold) (below : List Op) → os ≡ below ++ op.End a held ∷ [] →
-      settled p w os ≡ part (log w (event.CallEnded p a)) below → Settles p w os
+  ends : (a : Reply) (held : Hold) (below : List Op) → os ≡ below ++ Op.End a held ∷ [] →
+      settled p w os ≡ part (log w (Event.CallEnded p a)) below → Settles p w os
 
 pub settles : (p : ℕ) (w : World) (os : List Op) → Settles p w os
 settles p w os = by (top os) refl
   where
     by : (o : Option Op) → top os ≡ o → Settles p w os
     by None e = same (ap (λ (x : Option Op). settled_by (end_of x) p w os) e)
-    by (Some (op.End a held)) e = ends a held (below_top os) (topped os (op.End a held) e)
+    by (Some (Op.End a held)) e = ends a held (below_top os) (topped os (Op.End a held) e)
         (ap (λ (x : Option Op). settled_by (end_of x) p w os) e)
     by (Some o) e = other o e
       where
         other : (o : Op) → top os ≡ Some o → Settles p w os
-        other (op.End a held) e = ends a held (below_top os) (topped os (op.End a held) e)
+        other (Op.End a held) e = ends a held (below_top os) (topped os (Op.End a held) e)
             (ap (λ (x : Option Op). settled_by (end_of x) p w os) e)
         other _ e = same (ap (λ (x : Option Op). settled_by (end_of x) p w os) e)
 
 module _ (q : ℕ) (old : List Op) (n p : ℕ) (w : World) where
   -- of the poll itself
   ends-itself : (c : Op) (side : List Op) → Owns q c → weigh beside_of side ≡ 0 → (a : Reply) (held : Hold) (below : List Op) →
-      old ++ c ∷ side ≡ below ++ op.End a held ∷ [] → length below ≤ length old
+      old ++ c ∷ side ≡ below ++ Op.End a held ∷ [] → length below ≤ length old
   ends-itself c side k z a held below e = go (from-end side)
     where
       go : (side ≡ []) ⊎ Last side → length below ≤ length old
       go (inl i) =
-          let j : old ++ c ∷ [] ≡ below ++ op.End a held ∷ [] = sym (ap (λ (os : List Op). old ++ c ∷ os) i) ∙ e in
-          omega (arith, ap (λ (os : List Op). length os) (unsnoc old below c (op.End a held) j).0)
+          let j : old ++ c ∷ [] ≡ below ++ Op.End a held ∷ [] = sym (ap (λ (os : List Op). old ++ c ∷ os) i) ∙ e in
+          omega (arith, ap (λ (os : List Op). length os) (unsnoc old below c (Op.End a held) j).0)
       go (inr v) =
-          let j : (old ++ c ∷ v.below) ++ v.last ∷ [] ≡ below ++ op.End a held ∷ [] =
+          let j : (old ++ c ∷ v.below) ++ v.last ∷ [] ≡ below ++ Op.End a held ∷ [] =
           append_assoc old (c ∷ v.below) (v.last ∷ [])
           ∙ (sym (ap (λ (os : List Op). old ++ c ∷ os) v.is) ∙ e) in
-          let i : v.last ≡ op.End a held = (unsnoc (old ++ c ∷ v.below) below v.last (op.End a held) j).1 in
+          let i : v.last ≡ Op.End a held = (unsnoc (old ++ c ∷ v.below) below v.last (Op.End a held) j).1 in
           let u : beside_of v.last ≡ 0 = omega (arith, z, ap (weigh beside_of) v.is, weigh-append beside_of v.below (v.last ∷ [])) in
           let no : true ≡ false = sym (ap is_end i) ∙ beside-no-end v.last u in absurd (cc)
 
@@ -121,17 +103,17 @@ module _ (q : ℕ) (old : List Op) (n p : ℕ) (w : World) where
       by (same e) = subst (StaysIn q old n) (sym e) (going c side above refl k z l st)
       by (ends a held below i e) = subst (StaysIn q old n) (sym e) (go (from-end above))
         where
-          go : (above ≡ []) ⊎ Last above → Stays q old n (log w (event.CallEnded p a)) below
+          go : (above ≡ []) ⊎ Last above → Stays q old n (log w (Event.CallEnded p a)) below
           go (inl x) =
-              let j : old ++ c ∷ side ≡ below ++ op.End a held ∷ [] =
+              let j : old ++ c ∷ side ≡ below ++ Op.End a held ∷ [] =
               sym (ap (λ (os : List Op). (old ++ c ∷ side) ++ os) x ∙ append-nil (old ++ c ∷ side)) ∙ i in
               over (ends-itself c side k z a held below j)
           go (inr x) =
-              let j : ((old ++ c ∷ side) ++ x.below) ++ x.last ∷ [] ≡ below ++ op.End a held ∷ [] =
+              let j : ((old ++ c ∷ side) ++ x.below) ++ x.last ∷ [] ≡ below ++ Op.End a held ∷ [] =
               append_assoc (old ++ c ∷ side) x.below (x.last ∷ [])
               ∙ (sym (ap (λ (os : List Op). (old ++ c ∷ side) ++ os) x.is) ∙ i) in
-              going c side x.below (sym (unsnoc ((old ++ c ∷ side) ++ x.below) below x.last (op.End a held) j).0) k z
-              (omega (arith, l, budget-kept q c w (log w (event.CallEnded p a)) (λ y. refl))) (stands st)
+              going c side x.below (sym (unsnoc ((old ++ c ∷ side) ++ x.below) below x.last (Op.End a held) j).0) k z
+              (omega (arith, l, budget-kept q c w (log w (Event.CallEnded p a)) (λ y. refl))) (stands st)
             where
               stands : (above ≡ []) ⊎ Stands (c ∷ side) → (x.below ≡ []) ⊎ Stands (c ∷ side)
               stands (inl y) = absurd (not-nil x.below x.last (sym x.is ∙ y))
@@ -143,12 +125,12 @@ module _ (q : ℕ) (old : List Op) (n p : ℕ) (w : World) where
       by : Settles p w os → StaysIn q old n (settled p w os)
       by (same e) = subst (StaysIn q old n) (sym e) (over l)
       by (ends a held below i e) = subst (StaysIn q old n) (sym e)
-          (over (omega (arith, l, ap (λ (xs : List Op). length xs) i, length-append below (op.End a held ∷ []))))
+          (over (omega (arith, l, ap (λ (xs : List Op). length xs) i, length-append below (Op.End a held ∷ []))))
 
 -- what counts
 
 pub not-mine : (p : ℕ) (k : Option StepError) (t : Step) (o : Option Op) → party_of t ≢ p → takes_up k p t o ≡ false
-not-mine p None (Go q h) (Some (op.Move move.TakeUp f)) n = grind (arith, nat_tests)
+not-mine p None (Go q h) (Some (Op.Move Move.TakeUp f)) n = grind (arith, nat_tests)
 not-mine p _ _ _ n = refl
 
 if-both : (a b : Bool) → cond (a && b) 1 0 ≤ 1
@@ -157,7 +139,7 @@ if-both true false = omega arith
 if-both false b = omega arith
 
 takes-ups : (p : ℕ) (k : Option StepError) (t : Step) (o : Op) (b : Bool) → cond (takes_up k p t (Some o) && b) 1 0 ≤ ups o
-takes-ups p None (Go q h) (op.Move move.TakeUp f) b = if-both _ b
+takes-ups p None (Go q h) (Op.Move Move.TakeUp f) b = if-both _ b
 takes-ups p _ _ _ b = omega arith
 
 takes-deeper : (a : Bool) (m n : ℕ) → n < m → ◌≡◌ {A = ℕ} (cond (a && eqb m n) 1 0) 0
@@ -208,7 +190,7 @@ went-untaken q w os p d (Some x) k = settled-untaken q _ p w (d x).world _ (k x 
 pub part-untaken : (q : ℕ) (w : World) (ss : List (List Op)) (os : List Op) (t : Step) → part_refusal w ss os t ≡ None →
     weigh (running_of q) os ≡ 0 → Untaken q w (part_after w os t).world
 part-untaken q w ss os (Begin p c) e z =
-    settled-untaken q _ p w (begun p (log w (event.CallBegun p c)) (mine (top os)) c).world _ (untaken-begun q p w (mine (top os)) c)
+    settled-untaken q _ p w (begun p (log w (Event.CallBegun p c)) (mine (top os)) c).world _ (untaken-begun q p w (mine (top os)) c)
 part-untaken q w ss os (Go p h) e z = went-untaken q w os p (λ x. act p h x w) (top os)
     (λ x i. untaken q p h x w (omega (
       arith,
@@ -432,7 +414,7 @@ module _ (p q : ℕ) (old : List Op) (n : ℕ) (w : World) (ss : List (List Op))
 
   module _ (i : ℕ) (asked : Call) (e : begin_refusal w ss (top os) asked ≡ None) where
     abbrev begins : Done
-    begins = begun i (log w (event.CallBegun i asked)) (mine (top os)) asked
+    begins = begun i (log w (Event.CallBegun i asked)) (mine (top os)) asked
 
     -- its party stands in user code
     in-user : (o : Op) → top os ≡ Some o → waits o ≡ true

@@ -1,83 +1,33 @@
 -- For runs_poll_few_futures.
 -- What is done beside a run begins a poll only where a future was to be taken up, and leads to no other that is.
-use Rattle.std.proofs.Common.{◌≡◌, ◌∙◌, ℕ, zero, suc, ◌+◌, ◌≤◌, List, [], ◌∷◌, ◌++◌, Bool, true, false, not, cond, ◌&&◌}
-use Rattle.std.proofs.Common.{get_or, length, refl, sym, ap, arith, append-nil, set}
-use Rattle.std.proofs.Math.ListN.{length-set}
-use Rattle.std.specs.Prelude.{Option, Some, None}
-use Rattle.executor_parts.specs.declared.mark.Mark.{Mark}
-use Rattle.task_moves.specs.Moves as moves
+use Rattle.std.proofs.Common.{◌≡◌, ◌∙◌, ℕ, zero, suc, ◌+◌, ◌≤◌, List, [], ◌∷◌, ◌++◌, Bool, true, false, not, cond, ◌&&◌, get_or}
+use Rattle.std.proofs.Common.{length, refl, sym, ap, arith, append-nil, set}
+use Rattle.std.{proofs.Math.ListN.length-set, specs.Prelude.Option, specs.Prelude.Some, specs.Prelude.None}
 use Rattle.task_moves.specs.declared.schedule_info.ScheduleInfo.{ScheduleInfo}
-use Rattle.task_moves.specs.declared.moves.owed.Move.{Move}
-use Rattle.task_moves.specs.declared.moves.owed.Move.TheVariants as move
-use Rattle.task_moves.specs.declared.moves.owed.FutureDebt.{FutureDebt}
 use Rattle.task_moves.specs.declared.moves.owed.FutureDebt.TheVariants.{DropFuture, PollFuture}
-use Rattle.task_moves.specs.declared.moves.owed.AwaiterDebt.{AwaiterDebt}
 use Rattle.task_moves.specs.declared.moves.owed.AwaiterDebt.TheVariants.{NotifyAwaiter, NotifyOther}
-use Rattle.task_moves.specs.declared.moves.owed.Owed.{Owed}
-use Rattle.executor_model.specs.declared.event.Answer.TheVariants as answer
-use Rattle.executor_model.specs.declared.event.Event.{Event}
-use Rattle.executor_model.specs.declared.event.Event.TheVariants as event
-use Rattle.executor_model.specs.declared.op.Awaiter.{Awaiter}
-use Rattle.executor_model.specs.declared.op.ClosingOp.TheVariants as closing_op
-use Rattle.executor_model.specs.declared.op.HandleOp.TheVariants as handle_op
-use Rattle.executor_model.specs.declared.op.ListOp.TheVariants as list_op
-use Rattle.executor_model.specs.declared.op.Op.{Op}
-use Rattle.executor_model.specs.declared.op.Op.TheVariants as op
-use Rattle.executor_model.specs.declared.op.Polled.{Polled}
-use Rattle.executor_model.specs.declared.op.Polled.TheVariants as of
-use Rattle.executor_model.specs.declared.op.QueueOp.TheVariants as queue_op
-use Rattle.executor_model.specs.declared.op.RunOp.TheVariants as run_op
-use Rattle.executor_model.specs.declared.op.Sleeping.{Sleeping}
-use Rattle.executor_model.specs.declared.op.SleeperOp.{SleeperOp}
-use Rattle.executor_model.specs.declared.op.SleeperOp.TheVariants as sleeper_op
-use Rattle.executor_model.specs.declared.op.StealOp.TheVariants as steal_op
-use Rattle.executor_model.specs.declared.op.TableOp.TheVariants as table_op
-use Rattle.executor_model.specs.declared.op.TickOp.TheVariants as tick_op
-use Rattle.executor_model.specs.declared.op.TickOrRun.{TickOrRun}
-use Rattle.executor_model.specs.declared.op.TickOrRun.TheVariants as tick_or_run
-use Rattle.executor_model.specs.declared.op.UserOp.TheVariants as user_op
-use Rattle.executor_model.specs.declared.op.Waker.{Waker}
-use Rattle.executor_model.specs.declared.op.Waker.TheVariants.{Task, Outside}
-use Rattle.executor_model.specs.declared.op.WakerOp.TheVariants as waker_op
-use Rattle.executor_model.specs.declared.step.Hint.{Hint}
-use Rattle.executor_model.specs.declared.step.UserEnd.{UserEnd}
-use Rattle.executor_model.specs.declared.step.UserEnd.TheVariants as end
-use Rattle.executor_model.specs.Acts.{
-  append_by,
-  call_waker,
-  entry_goes,
-  is_last_waker,
-  is_told,
-  leave_by,
-  let_go,
-  let_go_by,
-  move_by,
-  notify_by,
-  stands_alone,
-  told,
-  told_of,
-  waker_goes,
-}
-use Rattle.executor_model.specs.ActsOfSleepers.{exchange_by, hand_out_by, wake_up_by}
-use Rattle.executor_model.specs.Carried.{awaiter_ops, drops, emptied_ops, future_ops, next_ops, output_ops, owed_ops, schedule_ops}
-use Rattle.executor_model.specs.Doing.{act, sleeper_act}
-use Rattle.executor_model.specs.Steps.{accepts, react, waits}
-use Rattle.executor_model.specs.Trace.{Trace, has}
-use Rattle.executor_model.specs.Weights.{weigh}
-use Rattle.executor_model.specs.World.{Asleep, Awake, Left, Run, Ticker, World, among, awaiter_of, log, log_if, no_run, run_of}
-use Rattle.executor_model.specs.World.{runs_with, task}
+use Rattle.task_moves.{specs.declared.moves.owed.FutureDebt.FutureDebt, specs.declared.moves.owed.AwaiterDebt.AwaiterDebt}
 use Rattle.executor_parts.specs.Sleepers.{waker_of}
-use Rattle.executor_model.proofs.Steps.Lists.{weigh-append}
-use Rattle.executor_model.proofs.Steps.SleepersNext.{goes-unseen}
-use Rattle.executor_model.proofs.Steps.Tests.{left-false, right-false}
-use Rattle.executor_model.proofs.Steps.TraceGrows.{Allows, grows-act, grows-react, is_ordinary}
+use Rattle.executor_laws.proofs.Types.{Task, Outside, WakerOp, Hint, UserEnd, Mark, Move, Owed, Answer, Event, Awaiter}
+use Rattle.executor_laws.proofs.Types.{ClosingOp, HandleOp, ListOp, Op, Polled, QueueOp, RunOp, Sleeping, SleeperOp, StealOp}
+use Rattle.executor_laws.proofs.Types.{TableOp, TickOp, TickOrRun, UserOp, Waker}
+use Rattle.executor_model.specs.Acts.{append_by, call_waker, entry_goes, is_last_waker, is_told, leave_by, let_go, let_go_by}
+use Rattle.executor_model.specs.Carried.{awaiter_ops, drops, emptied_ops, future_ops, next_ops, output_ops, owed_ops}
+use Rattle.executor_model.specs.World.{Asleep, Awake, Left, Run, Ticker, World, among, awaiter_of, log, log_if, no_run, run_of}
+use Rattle.executor_model.specs.Acts.{move_by, notify_by, stands_alone, told, told_of, waker_goes}
+use Rattle.executor_model.specs.ActsOfSleepers.{exchange_by, hand_out_by, wake_up_by}
+use Rattle.executor_model.specs.{Carried.schedule_ops, World.runs_with, World.task, Doing.act, Doing.sleeper_act, Steps.accepts}
+use Rattle.executor_model.specs.{Steps.react, Steps.waits, Trace.Trace, Trace.has, Weights.weigh}
 use Rattle.executor_laws.specs.RunFew.{begins_poll, polls_in}
-use Rattle.executor_laws.proofs.RunReach.RunSteps.{side_of}
-use Rattle.executor_laws.proofs.Termination.TakingFew.{runs-act}
+use Rattle.executor_model.proofs.Steps.TraceGrows.{Allows, grows-act, grows-react, is_ordinary}
+use Rattle.executor_model.proofs.Steps.Tests.{left-false, right-false}
+use Rattle.executor_model.proofs.{Steps.Lists.weigh-append, Steps.SleepersNext.goes-unseen}
+use Rattle.executor_laws.proofs.{RunReach.RunSteps.side_of, Termination.TakingFew.runs-act}
+use Rattle.task_moves.specs.Moves as moves
 
 -- a future is to be taken up
 abbrev pub ups : Op → ℕ
-ups (op.Move move.TakeUp f) = 1
+ups (Op.Move Move.TakeUp f) = 1
 ups _ = 0
 
 -- what a move owes leads to none
@@ -102,11 +52,11 @@ ups-awaiter f (Some NotifyOther) = refl
 ups-awaiter f _ = refl
 
 ups-next : (f : ℕ) (o : Option Move) → weigh ups (next_ops f o) ≡ 0
-ups-next f (Some move.Release) = refl
-ups-next f (Some move.SettleClosed) = refl
-ups-next f (Some move.GiveUp) = refl
-ups-next f (Some move.EndClosed) = refl
-ups-next f (Some move.Detach) = refl
+ups-next f (Some Move.Release) = refl
+ups-next f (Some Move.SettleClosed) = refl
+ups-next f (Some Move.GiveUp) = refl
+ups-next f (Some Move.EndClosed) = refl
+ups-next f (Some Move.Detach) = refl
 ups-next f _ = refl
 
 ups-emptied : (b : Bool) (f : ℕ) → weigh ups (emptied_ops b f) ≡ 0
@@ -164,7 +114,7 @@ ups-told true f (Some a) = ups-let (Some a)
 ups-told false f (Some a) = refl
 
 ups-call : (p : ℕ) (w : World) (o : Polled) (a : Waker) (k : ℕ) → weigh ups (call_waker p w o a k).next ≡ 0
-ups-call p w o (Task g) k = ups-move true move.Wake p (log w (event.WakerCalled p o k (Task g))) g
+ups-call p w o (Task g) k = ups-move true Move.Wake p (log w (Event.WakerCalled p o k (Task g))) g
 ups-call p w o (Outside x) k = refl
 
 ups-exchange : (b : Bool) (w : World) → weigh ups (exchange_by b w).next ≡ 0
@@ -177,9 +127,9 @@ ups-hand_out true (Some s) w = refl
 ups-hand_out false o w = refl
 
 ups-sleeper : (p : ℕ) (o : SleeperOp) (w : World) → weigh ups (sleeper_act p o w).next ≡ 0
-ups-sleeper p sleeper_op.ExchangeFlag w = ups-exchange _ w
-ups-sleeper p sleeper_op.HandOut w = ups-hand_out _ _ w
-ups-sleeper p (sleeper_op.CallSleeper s) w = ups-call p w _ s.waker s.poll
+ups-sleeper p SleeperOp.ExchangeFlag w = ups-exchange _ w
+ups-sleeper p SleeperOp.HandOut w = ups-hand_out _ _ w
+ups-sleeper p (SleeperOp.CallSleeper s) w = ups-call p w _ s.waker s.poll
 
 ups-up : (x : Ticker) (w : World) (who : TickOrRun) → weigh ups (wake_up_by x w who).next ≡ 0
 ups-up Awake w who = refl
@@ -187,56 +137,56 @@ ups-up (Asleep n) w who = goes-unseen ups (λ f. refl) (waker_of n w.sleepers.wa
 ups-up Left w who = refl
 
 pub ups-act : (p : ℕ) (h : Hint) (o : Op) (w : World) → waits o ≡ false → side_of o ≡ 0 → weigh ups (act p h o w).next ≡ 0
-ups-act p h (op.Queue (queue_op.Append f)) w n z = ups-append _ w _ f
-ups-act p h (op.Move m f) w n z = ups-move (stands_alone m) m p w f
-ups-act p h (op.Table (table_op.LeaveTable f)) w n z = ups-leave _ w f
-ups-act p h (op.Handle (handle_op.Notify f mine)) w n z = ups-notify _ w f mine
-ups-act p h (op.Handle (handle_op.EndNotify f mine)) w n z = ups-told _ f (awaiter_of w f)
-ups-act p h (op.Handle (handle_op.LetGo f)) w n z = ups-let_go _ w f
-ups-act p h (op.Waker (waker_op.CallAwaiter f a k)) w n z = ups-call p w (of.Handle f) a k
-ups-act p h (op.Sleeper o) w n z = ups-sleeper p o w
-ups-act p h (op.Tick (tick_op.WakeUp who)) w n z = ups-up _ w who
-ups-act p h (op.Tick _) w n z = absurd (cc)
-ups-act p h (op.List list_op.UnlockRead) w n z = refl
-ups-act p h (op.List _) w n z = absurd (cc)
-ups-act p h (op.Steal o) w n z = absurd (cc)
-ups-act p h (op.Run run_op.ReturnRoom) w n z = refl
-ups-act p h (op.Run _) w n z = absurd (cc)
-ups-act p h (op.Table (table_op.Enter mark)) w n z = absurd (cc)
-ups-act p h (op.Table table_op.LookAtTable) w n z = absurd (cc)
-ups-act p h (op.Queue queue_op.TakeTurn) w n z = absurd (cc)
-ups-act p h (op.Queue (queue_op.Take look)) w n z = absurd (cc)
-ups-act p h (op.User (user_op.Poll f)) w n z = absurd (cc)
-ups-act p h (op.User (user_op.Drop f)) w n z = absurd (cc)
-ups-act p h (op.User (user_op.DropOutput f)) w n z = absurd (cc)
-ups-act p h (op.User (user_op.CallOutside x)) w n z = absurd (cc)
-ups-act p h (op.User (user_op.PollOwn x)) w n z = absurd (cc)
-ups-act p h (op.User (user_op.DropOwn r)) w n z = absurd (cc)
-ups-act p h (op.Waker (waker_op.CopyWaker f held)) w n z = absurd (cc)
-ups-act p h (op.Handle (handle_op.Look f a)) w n z = absurd (cc)
-ups-act p h (op.Handle (handle_op.CopyAwaiter f a)) w n z = absurd (cc)
-ups-act p h (op.Handle (handle_op.Register f a k)) w n z = absurd (cc)
-ups-act p h (op.Handle (handle_op.EndRegister f a k)) w n z = absurd (cc)
-ups-act p h (op.Handle (handle_op.LookAgain f)) w n z = absurd (cc)
-ups-act p h (op.Closing closing_op.TakeOut) w n z = absurd (cc)
-ups-act p h (op.Closing closing_op.DropNext) w n z = absurd (cc)
-ups-act p h (op.Closing closing_op.WakeNext) w n z = absurd (cc)
-ups-act p h (op.Closing (closing_op.Close mark)) w n z = absurd (cc)
-ups-act p h (op.Closing (closing_op.Drain mark)) w n z = absurd (cc)
-ups-act p h (op.Closing closing_op.LeakOut) w n z = absurd (cc)
-ups-act p h (op.Closing closing_op.LeakNext) w n z = absurd (cc)
-ups-act p h (op.End a held) w n z = absurd (cc)
+ups-act p h (Op.Queue (QueueOp.Append f)) w n z = ups-append _ w _ f
+ups-act p h (Op.Move m f) w n z = ups-move (stands_alone m) m p w f
+ups-act p h (Op.Table (TableOp.LeaveTable f)) w n z = ups-leave _ w f
+ups-act p h (Op.Handle (HandleOp.Notify f mine)) w n z = ups-notify _ w f mine
+ups-act p h (Op.Handle (HandleOp.EndNotify f mine)) w n z = ups-told _ f (awaiter_of w f)
+ups-act p h (Op.Handle (HandleOp.LetGo f)) w n z = ups-let_go _ w f
+ups-act p h (Op.Waker (WakerOp.CallAwaiter f a k)) w n z = ups-call p w (Polled.Handle f) a k
+ups-act p h (Op.Sleeper o) w n z = ups-sleeper p o w
+ups-act p h (Op.Tick (TickOp.WakeUp who)) w n z = ups-up _ w who
+ups-act p h (Op.Tick _) w n z = absurd (cc)
+ups-act p h (Op.List ListOp.UnlockRead) w n z = refl
+ups-act p h (Op.List _) w n z = absurd (cc)
+ups-act p h (Op.Steal o) w n z = absurd (cc)
+ups-act p h (Op.Run RunOp.ReturnRoom) w n z = refl
+ups-act p h (Op.Run _) w n z = absurd (cc)
+ups-act p h (Op.Table (TableOp.Enter mark)) w n z = absurd (cc)
+ups-act p h (Op.Table TableOp.LookAtTable) w n z = absurd (cc)
+ups-act p h (Op.Queue QueueOp.TakeTurn) w n z = absurd (cc)
+ups-act p h (Op.Queue (QueueOp.Take look)) w n z = absurd (cc)
+ups-act p h (Op.User (UserOp.Poll f)) w n z = absurd (cc)
+ups-act p h (Op.User (UserOp.Drop f)) w n z = absurd (cc)
+ups-act p h (Op.User (UserOp.DropOutput f)) w n z = absurd (cc)
+ups-act p h (Op.User (UserOp.CallOutside x)) w n z = absurd (cc)
+ups-act p h (Op.User (UserOp.PollOwn x)) w n z = absurd (cc)
+ups-act p h (Op.User (UserOp.DropOwn r)) w n z = absurd (cc)
+ups-act p h (Op.Waker (WakerOp.CopyWaker f held)) w n z = absurd (cc)
+ups-act p h (Op.Handle (HandleOp.Look f a)) w n z = absurd (cc)
+ups-act p h (Op.Handle (HandleOp.CopyAwaiter f a)) w n z = absurd (cc)
+ups-act p h (Op.Handle (HandleOp.Register f a k)) w n z = absurd (cc)
+ups-act p h (Op.Handle (HandleOp.EndRegister f a k)) w n z = absurd (cc)
+ups-act p h (Op.Handle (HandleOp.LookAgain f)) w n z = absurd (cc)
+ups-act p h (Op.Closing ClosingOp.TakeOut) w n z = absurd (cc)
+ups-act p h (Op.Closing ClosingOp.DropNext) w n z = absurd (cc)
+ups-act p h (Op.Closing ClosingOp.WakeNext) w n z = absurd (cc)
+ups-act p h (Op.Closing (ClosingOp.Close mark)) w n z = absurd (cc)
+ups-act p h (Op.Closing (ClosingOp.Drain mark)) w n z = absurd (cc)
+ups-act p h (Op.Closing ClosingOp.LeakOut) w n z = absurd (cc)
+ups-act p h (Op.Closing ClosingOp.LeakNext) w n z = absurd (cc)
+ups-act p h (Op.End a held) w n z = absurd (cc)
 ups-act p h _ w n z = refl
 
 pub ups-react : (p : ℕ) (o : Op) (u : UserEnd) (w : World) → accepts o u ≡ true → side_of o ≡ 0 →
     weigh ups (react p o u w).next ≡ 0
-ups-react p (op.User (user_op.Poll f)) (end.Polled answer.Pending) w a z = refl
-ups-react p (op.User (user_op.Poll f)) (end.Polled answer.Ready) w a z = refl
-ups-react p (op.User (user_op.Drop f)) end.Done w a z = refl
-ups-react p (op.User (user_op.DropOutput f)) end.Done w a z = refl
-ups-react p (op.User (user_op.CallOutside x)) end.Done w a z = refl
-ups-react p (op.User (user_op.PollOwn x)) u w a z = absurd (cc)
-ups-react p (op.User (user_op.DropOwn r)) u w a z = absurd (cc)
+ups-react p (Op.User (UserOp.Poll f)) (UserEnd.Polled Answer.Pending) w a z = refl
+ups-react p (Op.User (UserOp.Poll f)) (UserEnd.Polled Answer.Ready) w a z = refl
+ups-react p (Op.User (UserOp.Drop f)) UserEnd.Done w a z = refl
+ups-react p (Op.User (UserOp.DropOutput f)) UserEnd.Done w a z = refl
+ups-react p (Op.User (UserOp.CallOutside x)) UserEnd.Done w a z = refl
+ups-react p (Op.User (UserOp.PollOwn x)) u w a z = absurd (cc)
+ups-react p (Op.User (UserOp.DropOwn r)) u w a z = absurd (cc)
 ups-react p _ _ w a z = absurd (cc)
 
 -- how many polls begin
@@ -258,16 +208,16 @@ polls-append [] ys = omega arith
 polls-append (x ∷ xs) ys = omega (arith, polls-append xs ys)
 
 pub ordinary-none : (e : Event) → is_ordinary e ≡ true → begins_poll e ≡ false
-ordinary-none (event.PollBegun p f) z = absurd (cc)
+ordinary-none (Event.PollBegun p f) z = absurd (cc)
 ordinary-none _ z = refl
 
 abbrev takes : Op → Bool
-takes (op.Move move.TakeUp f) = true
+takes (Op.Move Move.TakeUp f) = true
 takes _ = false
 
-taken-up : (b : Bool) (p : ℕ) (w : World) (f : ℕ) (v : World) → v.trace ≡ (log_if b w (event.PollBegun p f)).trace →
+taken-up : (b : Bool) (p : ℕ) (w : World) (f : ℕ) (v : World) → v.trace ≡ (log_if b w (Event.PollBegun p f)).trace →
     Polls w v 1
-taken-up true p w f v e = record { more = event.PollBegun p f ∷ []; is = e; few = omega arith }
+taken-up true p w f v e = record { more = Event.PollBegun p f ∷ []; is = e; few = omega arith }
 taken-up false p w f v e = record { more = []; is = e ∙ sym (append-nil w.trace); few = omega arith }
 
 others : (p : ℕ) (h : Hint) (o : Op) (w : World) → takes o ≡ false → (n : ℕ) → Polls w (act p h o w).world n
@@ -276,17 +226,17 @@ others p h o w t n =
     record { more = g.more; is = g.is; few = omega (arith, none-in g.more g.none) }
   where
     allows : (x : Op) → takes x ≡ false → Allows begins_poll ordinary-none p x
-    allows (op.Move move.TakeUp f) e = absurd (cc)
-    allows (op.Steal (steal_op.Put s more f)) e = refl
-    allows (op.End a held) e = refl
+    allows (Op.Move Move.TakeUp f) e = absurd (cc)
+    allows (Op.Steal (StealOp.Put s more f)) e = refl
+    allows (Op.End a held) e = refl
     allows _ e = tt
 
 pub polls-act : (p : ℕ) (h : Hint) (o : Op) (w : World) → Polls w (act p h o w).world (ups o)
-polls-act p h (op.Move move.TakeUp f) w = taken-up (not (task w f).closed) p w f _ refl
+polls-act p h (Op.Move Move.TakeUp f) w = taken-up (not (task w f).closed) p w f _ refl
 polls-act p h o w = by (takes o) refl
   where
     up : (x : Op) → takes x ≡ true → Polls w (act p h x w).world (ups x)
-    up (op.Move move.TakeUp f) e = taken-up (not (task w f).closed) p w f _ refl
+    up (Op.Move Move.TakeUp f) e = taken-up (not (task w f).closed) p w f _ refl
     up _ e = absurd (cc)
 
     by : (b : Bool) → takes o ≡ b → Polls w (act p h o w).world (ups o)
@@ -325,8 +275,8 @@ put-same w v q y e i = record {
 }
 
 pub placed : (w v : World) (who : TickOrRun) (x : Ticker) → v.runs ≡ runs_with w.runs who x → TakenSame w v
-placed w v (tick_or_run.Tick t) x e = same-runs w v e
-placed w v (tick_or_run.Run q) x e = put-same w v q (record (run_of w q) { place = x }) refl e
+placed w v (TickOrRun.Tick t) x e = same-runs w v e
+placed w v (TickOrRun.Run q) x e = put-same w v q (record (run_of w q) { place = x }) refl e
 
 up-same : (x : Ticker) (w : World) (who : TickOrRun) → TakenSame w (wake_up_by x w who).world
 up-same (Asleep n) w who = placed w (wake_up_by (Asleep n) w who).world who Awake refl
@@ -334,23 +284,17 @@ up-same Awake w who = same-runs w w refl
 up-same Left w who = same-runs w w refl
 
 pub side-same : (p : ℕ) (h : Hint) (o : Op) (w : World) → side_of o ≡ 0 → TakenSame w (act p h o w).world
-side-same p h (op.Tick (tick_op.WakeUp who)) w z = up-same _ w who
-side-same p h (op.Tick _) w z = absurd (cc)
-side-same p h (op.List list_op.UnlockRead) w z = same-runs w _ refl
-side-same p h (op.List _) w z = absurd (cc)
-side-same p h (op.Steal o) w z = absurd (cc)
-side-same p h (op.Run run_op.ReturnRoom) w z = same-runs w _ refl
-side-same p h (op.Run _) w z = absurd (cc)
-side-same p h (op.User (user_op.PollOwn x)) w z = absurd (cc)
+side-same p h (Op.Tick (TickOp.WakeUp who)) w z = up-same _ w who
+side-same p h (Op.Tick _) w z = absurd (cc)
+side-same p h (Op.List ListOp.UnlockRead) w z = same-runs w _ refl
+side-same p h (Op.List _) w z = absurd (cc)
+side-same p h (Op.Steal o) w z = absurd (cc)
+side-same p h (Op.Run RunOp.ReturnRoom) w z = same-runs w _ refl
+side-same p h (Op.Run _) w z = absurd (cc)
+side-same p h (Op.User (UserOp.PollOwn x)) w z = absurd (cc)
 side-same p h o w z = same-runs w (act p h o w).world (runs-act p h o w refl)
 
 pub react-same : (p : ℕ) (o : Op) (u : UserEnd) (w : World) → accepts o u ≡ true → TakenSame w (react p o u w).world
-react-same p (op.User (user_op.Poll f)) (end.Polled answer.Pending) w a = same-runs w _ refl
-react-same p (op.User (user_op.Poll f)) (end.Polled answer.Ready) w a = same-runs w _ refl
-react-same p (op.User (user_op.Drop f)) end.Done w a = same-runs w _ refl
-react-same p (op.User (user_op.DropOutput f)) end.Done w a = same-runs w _ refl
-react-same p (op.User (user_op.CallOutside x)) end.Done w a = same-runs w _ refl
-react-same p (op.User (user_op.PollOwn x)) (end.Polled answer.Pending) w a = same-runs w _ refl
-react-same p (op.User (user_op.PollOwn x)) (end.Polled answer.Ready) w a = same-runs w _ refl
-react-same p (op.User (user_op.DropOwn r)) end.Done w a = same-runs w _ refl
-react-same p _ _ w a = absurd (cc)
+react-same p (Op.User (UserOp.Poll f)) (UserEnd.Polled Answer.Pending) w a = same-runs w _ refl
+react-same p (Op.User (UserOp.PollOwn x)) (UserEnd.Polled Answer.Pending) w a = same-runs w _ refl
+react-same p _ _ w a = same-runs w _ refl

@@ -2,55 +2,21 @@
 -- What a run that is polled does takes one future up where it counts one more, and none behind the 200th.
 use Rattle.std.proofs.Common.{◌≡◌, ◌∙◌, ℕ, zero, suc, ◌+◌, ◌-◌, ◌<◌, ◌≤◌, List, [], ◌∷◌, ◌++◌, length, Bool, true, false, eqb}
 use Rattle.std.proofs.Common.{refl, sym, ap, subst, arith, get_or-set_same}
-use Rattle.std.proofs.Math.ListN.{length-set}
-use Rattle.std.proofs.lemmas.List.{reverse-append}
 use Rattle.std.specs.Prelude.{Option, Some, None, reverse}
-use Rattle.executor_parts.specs.declared.mark.Mark.TheVariants.{Plain, Urgent}
-use Rattle.executor_parts.specs.Marks.{first_of, other}
-use Rattle.executor_model.specs.declared.op.Look.{Look}
-use Rattle.executor_model.specs.declared.op.Look.TheVariants.{First, Second}
-use Rattle.executor_model.specs.World.{queue_of}
-use Rattle.executor_model.specs.Acts.{mark_in}
-use Rattle.task_moves.specs.declared.moves.owed.Move.TheVariants as move
-use Rattle.executor_model.specs.declared.call.Reply.TheVariants as reply
-use Rattle.executor_model.specs.declared.event.Event.TheVariants as event
-use Rattle.executor_model.specs.declared.op.Hold.TheVariants as hold
-use Rattle.executor_model.specs.declared.op.ListOp.TheVariants as list_op
-use Rattle.executor_model.specs.declared.op.Op.{Op}
-use Rattle.executor_model.specs.declared.op.Op.TheVariants as op
-use Rattle.executor_model.specs.declared.op.Polled.TheVariants as of
-use Rattle.executor_model.specs.declared.op.QueueOp.TheVariants as queue_op
-use Rattle.executor_model.specs.declared.op.RunOp.TheVariants as run_op
-use Rattle.executor_model.specs.declared.op.RunPoll.{RunPoll}
-use Rattle.executor_model.specs.declared.op.Sleeping.{Sleeping}
-use Rattle.executor_model.specs.declared.op.SleeperOp.TheVariants as sleeper_op
-use Rattle.executor_model.specs.declared.op.Source.{Source}
-use Rattle.executor_model.specs.declared.op.Source.TheVariants.{Common, Own}
-use Rattle.executor_model.specs.declared.op.Steal.{Steal}
-use Rattle.executor_model.specs.declared.op.StealOp.{StealOp}
-use Rattle.executor_model.specs.declared.op.StealOp.TheVariants as steal_op
-use Rattle.executor_model.specs.declared.op.Then.{Then}
-use Rattle.executor_model.specs.declared.op.Then.TheVariants as then
-use Rattle.executor_model.specs.declared.op.TickOp.TheVariants as tick_op
-use Rattle.executor_model.specs.declared.op.TickOrRun.{TickOrRun}
-use Rattle.executor_model.specs.declared.op.TickOrRun.TheVariants as tick_or_run
-use Rattle.executor_model.specs.declared.op.UserOp.TheVariants as user_op
-use Rattle.executor_model.specs.declared.op.Waker.{Waker}
-use Rattle.executor_model.specs.declared.op.Waker.TheVariants.{Task, Outside}
-use Rattle.executor_model.specs.declared.step.Hint.{Hint}
-use Rattle.executor_model.specs.Acts.{copied, followed, turned}
-use Rattle.executor_model.specs.ActsOfRuns.{asleep, call_by_reference, counted_by, counted_to, found, kept_by}
-use Rattle.executor_model.specs.ActsOfRuns.{look_own_by, next_place, queue_at, run_by, run_found, search_common_by, search_own_by}
-use Rattle.executor_model.specs.ActsOfRuns.{steal_by, steal_length_by, steal_put_by, steal_take_by, stolen, wake_own, walk}
-use Rattle.executor_model.specs.ActsOfRuns.{without_first}
+use Rattle.std.{proofs.Math.ListN.length-set, proofs.lemmas.List.reverse-append}
+use Rattle.executor_parts.{specs.Marks.first_of, specs.Marks.other, specs.Sleepers.waker_at}
+use Rattle.executor_laws.proofs.Types.{Plain, Urgent, Look, First, Second, Move, Reply, Event, Hold, ListOp, Op, Polled}
+use Rattle.executor_laws.proofs.Types.{QueueOp, RunOp, RunPoll, Sleeping, SleeperOp, Source, Common, Own, Steal, StealOp, Then}
+use Rattle.executor_laws.proofs.Types.{TickOp, TickOrRun, UserOp, Waker, Task, Outside, Hint}
+use Rattle.executor_model.specs.World.{queue_of, Asleep, Awake, Done, Left, Ticker, World, done, log, own_of, place_of, put_own}
+use Rattle.executor_model.specs.ActsOfRuns.{asleep, call_by_reference, counted_by, counted_to, found, kept_by, look_own_by}
+use Rattle.executor_model.specs.ActsOfRuns.{next_place, queue_at, run_by, run_found, search_common_by, search_own_by, steal_by}
 use Rattle.executor_model.specs.ActsOfSleepers.{copy_sleeper_by, fall_asleep_by, found_by, sleep_again_by, sleep_anew_by}
+use Rattle.executor_model.specs.ActsOfRuns.{steal_length_by, steal_put_by, steal_take_by, stolen, wake_own, walk, without_first}
 use Rattle.executor_model.specs.ActsOfSleepers.{sleep_listed_by, sleeper_goes}
-use Rattle.executor_model.specs.Doing.{act, search_by_who, steal_act}
-use Rattle.executor_model.specs.Weights.{weigh}
-use Rattle.executor_model.specs.World.{Asleep, Awake, Done, Left, Ticker, World, done, log, own_of, place_of, put_own, run_of}
-use Rattle.executor_parts.specs.Sleepers.{waker_at}
-use Rattle.executor_model.proofs.Steps.Lists.{weigh-append, weigh-reverse}
-use Rattle.executor_model.proofs.Steps.SleepersNext.{goes-unseen}
+use Rattle.executor_model.specs.Acts.{mark_in, copied, followed, turned}
+use Rattle.executor_model.specs.{World.run_of, Doing.act, Doing.search_by_who, Doing.steal_act, Weights.weigh}
+use Rattle.executor_model.proofs.{Steps.Lists.weigh-append, Steps.Lists.weigh-reverse, Steps.SleepersNext.goes-unseen}
 use Rattle.executor_laws.proofs.RunReach.RunSteps.{Aside, aside-act, side_of}
 use Rattle.executor_laws.proofs.Fewness.FewSides.{TakenSame, placed, put-same, same-runs, side-same, ups, ups-act}
 
@@ -60,28 +26,28 @@ left_of q w = 200 - (run_of w q).taken
 
 -- and how many it may still take in this poll, where it is about to do this
 abbrev pub budget : ℕ → Op → World → ℕ
-budget q (op.Run (run_op.WakeOwn x)) w = 0
-budget q (op.End a held) w = 0
+budget q (Op.Run (RunOp.WakeOwn x)) w = 0
+budget q (Op.End a held) w = 0
 budget q _ w = left_of q w
 
 abbrev pub steal_in : StealOp → Steal
-steal_in (steal_op.Length s) = s
-steal_in (steal_op.OwnLength s n) = s
-steal_in (steal_op.Take s more) = s
-steal_in (steal_op.Put s more f) = s
+steal_in (StealOp.Length s) = s
+steal_in (StealOp.OwnLength s n) = s
+steal_in (StealOp.Take s more) = s
+steal_in (StealOp.Put s more f) = s
 
 -- what run q itself does
 abbrev pub Doing : ℕ → Op → Type 0
-Doing q (op.Tick (tick_op.Search s)) = s.who ≡ tick_or_run.Run q
-Doing q (op.Tick (tick_op.CopyWaker s)) = s.who ≡ tick_or_run.Run q
-Doing q (op.Tick (tick_op.FallAsleep s)) = s.who ≡ tick_or_run.Run q
-Doing q (op.Run (run_op.TakeTurn x)) = x.run ≡ q
-Doing q (op.Run (run_op.SearchCommon x look)) = x.run ≡ q
-Doing q (op.Run (run_op.LookOwn x at left)) = x.run ≡ q
-Doing q (op.Run (run_op.WakeOwn x)) = x.run ≡ q
-Doing q (op.List (list_op.LockRead x)) = x.run ≡ q
-Doing q (op.Steal o) = (steal_in o).poll.run ≡ q
-Doing q (op.End a held) = true ≡ true
+Doing q (Op.Tick (TickOp.Search s)) = s.who ≡ TickOrRun.Run q
+Doing q (Op.Tick (TickOp.CopyWaker s)) = s.who ≡ TickOrRun.Run q
+Doing q (Op.Tick (TickOp.FallAsleep s)) = s.who ≡ TickOrRun.Run q
+Doing q (Op.Run (RunOp.TakeTurn x)) = x.run ≡ q
+Doing q (Op.Run (RunOp.SearchCommon x look)) = x.run ≡ q
+Doing q (Op.Run (RunOp.LookOwn x at left)) = x.run ≡ q
+Doing q (Op.Run (RunOp.WakeOwn x)) = x.run ≡ q
+Doing q (Op.List (ListOp.LockRead x)) = x.run ≡ q
+Doing q (Op.Steal o) = (steal_in o).poll.run ≡ q
+Doing q (Op.End a held) = true ≡ true
 Doing q _ = ⊥
 
 -- it goes on so, and takes no more than n up
@@ -136,8 +102,8 @@ Ready q w = (q < length w.runs) × ((run_of w q).taken < 200)
 
 few-run_by : (b : Bool) (w : World) (x : RunPoll) (f : ℕ) → Ready x.run w → Few x.run (left_of x.run w) w (run_by b w x f)
 few-run_by true w x f r = record {
-  control = op.Run (run_op.WakeOwn x);
-  side = op.Move move.TakeUp f ∷ [];
+  control = Op.Run (RunOp.WakeOwn x);
+  side = Op.Move Move.TakeUp f ∷ [];
   is = refl;
   kind = refl;
   light = refl;
@@ -145,8 +111,8 @@ few-run_by true w x f r = record {
   count = length-set w.runs x.run (record (run_of w x.run) { taken = 0 });
 }
 few-run_by false w x f r = record {
-  control = op.Tick (tick_op.Search (asleep x));
-  side = op.Move move.TakeUp f ∷ [];
+  control = Op.Tick (TickOp.Search (asleep x));
+  side = Op.Move Move.TakeUp f ∷ [];
   is = refl;
   kind = refl;
   light = refl;
@@ -165,37 +131,37 @@ ready-same q w v s r = (omega (arith, s.count, r.0), omega (arith, s.taken q, r.
 few-counted_by : (b : Bool) (w : World) (x : RunPoll) (f : ℕ) → Ready x.run w →
     Few x.run (left_of x.run w) w (counted_by b w x f)
 few-counted_by true w x f r = few-one x.run w (counted_to w x.run 0)
-    (op.Steal (steal_op.Length (record { poll = x; from = Common Urgent; then = then.StealPlain f }))) refl
+    (Op.Steal (StealOp.Length (record { poll = x; from = Common Urgent; then = Then.StealPlain f }))) refl
     (counted-same w x.run 0) (omega arith)
 few-counted_by false w x f r =
     let n : ℕ = (run_of w x.run).counted + 1 in
     few-from x.run w (counted_to w x.run n) (run_found (counted_to w x.run n) x f) (counted-same w x.run n)
     (few-run_by _ (counted_to w x.run n) x f (ready-same x.run w (counted_to w x.run n) (counted-same w x.run n) r))
 
-found-side : (x : Ticker) (who : TickOrRun) → weigh side_of (found_by x who (op.Sleeper sleeper_op.ExchangeFlag ∷ [])) ≡ 0
+found-side : (x : Ticker) (who : TickOrRun) → weigh side_of (found_by x who (Op.Sleeper SleeperOp.ExchangeFlag ∷ [])) ≡ 0
 found-side Awake who = refl
 found-side (Asleep n) who = refl
 found-side Left who = refl
 
-found-ups : (x : Ticker) (who : TickOrRun) → weigh ups (found_by x who (op.Sleeper sleeper_op.ExchangeFlag ∷ [])) ≡ 0
+found-ups : (x : Ticker) (who : TickOrRun) → weigh ups (found_by x who (Op.Sleeper SleeperOp.ExchangeFlag ∷ [])) ≡ 0
 found-ups Awake who = refl
 found-ups (Asleep n) who = refl
 found-ups Left who = refl
 
 few-found : (w : World) (x : RunPoll) (f : ℕ) → Ready x.run w → Few x.run (left_of x.run w) w (found w x f)
 few-found w x f r =
-    few-behind x.run (left_of x.run w) w (found_by _ (tick_or_run.Run x.run) (op.Sleeper sleeper_op.ExchangeFlag ∷ []))
-    (counted_by _ w x f) (found-side _ (tick_or_run.Run x.run)) (found-ups _ (tick_or_run.Run x.run))
+    few-behind x.run (left_of x.run w) w (found_by _ (TickOrRun.Run x.run) (Op.Sleeper SleeperOp.ExchangeFlag ∷ []))
+    (counted_by _ w x f) (found-side _ (TickOrRun.Run x.run)) (found-ups _ (TickOrRun.Run x.run))
     (few-counted_by _ w x f r)
 
 few-stolen : (t : Then) (w : World) (x : RunPoll) → Ready x.run w → Few x.run (left_of x.run w) w (stolen t w x)
-few-stolen (then.Found f) w x r = few-found w x f r
-few-stolen (then.StealPlain f) w x r = few-one x.run w w
-    (op.Steal (steal_op.Length (record { poll = x; from = Common Plain; then = then.Run f }))) refl
+few-stolen (Then.Found f) w x r = few-found w x f r
+few-stolen (Then.StealPlain f) w x r = few-one x.run w w
+    (Op.Steal (StealOp.Length (record { poll = x; from = Common Plain; then = Then.Run f }))) refl
     (same-runs w w refl) (omega arith)
-few-stolen (then.Run f) w x r = few-run_by _ w x f r
-few-stolen (then.Walk at left) w x r =
-    few-one x.run w w (op.Run (run_op.LookOwn x at left)) refl (same-runs w w refl) (omega arith)
+few-stolen (Then.Run f) w x r = few-run_by _ w x f r
+few-stolen (Then.Walk at left) w x r =
+    few-one x.run w w (Op.Run (RunOp.LookOwn x at left)) refl (same-runs w w refl) (omega arith)
 
 -- a steal
 
@@ -203,13 +169,13 @@ few-length : (n : ℕ) (w : World) (s : Steal) → Ready s.poll.run w →
     Few s.poll.run (left_of s.poll.run w) w (steal_length_by n w s)
 few-length zero w s r = few-stolen s.then w s.poll r
 few-length (suc n) w s r =
-    few-one s.poll.run w w (op.Steal (steal_op.OwnLength s (suc n))) refl (same-runs w w refl) (omega arith)
+    few-one s.poll.run w w (Op.Steal (StealOp.OwnLength s (suc n))) refl (same-runs w w refl) (omega arith)
 
 few-steal_by : (n : ℕ) (w : World) (s : Steal) → Ready s.poll.run w →
     Few s.poll.run (left_of s.poll.run w) w (steal_by n w s)
 few-steal_by zero w s r = few-stolen s.then w s.poll r
 few-steal_by (suc n) w s r =
-    few-one s.poll.run w w (op.Steal (steal_op.Take s n)) refl (same-runs w w refl) (omega arith)
+    few-one s.poll.run w w (Op.Steal (StealOp.Take s n)) refl (same-runs w w refl) (omega arith)
 
 without-same : (x : Source) (w : World) (rest : List ℕ) → TakenSame w (without_first w x rest)
 without-same (Common mark) w rest = same-runs w _ refl
@@ -219,7 +185,7 @@ few-take : (xs : List ℕ) (w : World) (s : Steal) (more : ℕ) → Ready s.poll
     Few s.poll.run (left_of s.poll.run w) w (steal_take_by xs w s more)
 few-take [] w s more r = few-stolen s.then w s.poll r
 few-take (f ∷ rest) w s more r =
-    few-one s.poll.run w (without_first w s.from rest) (op.Steal (steal_op.Put s more f)) refl
+    few-one s.poll.run w (without_first w s.from rest) (Op.Steal (StealOp.Put s more f)) refl
     (without-same s.from w rest) (omega arith)
 
 few-put : (b : Bool) (p : ℕ) (w : World) (s : Steal) (more f : ℕ) → Ready s.poll.run w →
@@ -228,23 +194,23 @@ few-put true p w s more f r =
     let v : World = kept_by p w s.poll.run f in
     few-from s.poll.run w v (steal_by more v s) (same-runs w v refl) (few-steal_by more v s r)
 few-put false p w s more f r =
-    few-behind s.poll.run (left_of s.poll.run w) w (op.Queue (queue_op.Append f) ∷ []) (stolen s.then w s.poll) refl refl
+    few-behind s.poll.run (left_of s.poll.run w) w (Op.Queue (QueueOp.Append f) ∷ []) (stolen s.then w s.poll) refl refl
     (few-stolen s.then w s.poll r)
 
 few-steal : (p : ℕ) (o : StealOp) (w : World) → Ready (steal_in o).poll.run w →
     Few (steal_in o).poll.run (left_of (steal_in o).poll.run w) w (steal_act p o w)
-few-steal p (steal_op.Length s) w r = few-length _ w s r
-few-steal p (steal_op.OwnLength s n) w r = few-steal_by _ w s r
-few-steal p (steal_op.Take s more) w r = few-take _ w s more r
-few-steal p (steal_op.Put s more f) w r = few-put _ p w s more f r
+few-steal p (StealOp.Length s) w r = few-length _ w s r
+few-steal p (StealOp.OwnLength s n) w r = few-steal_by _ w s r
+few-steal p (StealOp.Take s more) w r = few-take _ w s more r
+few-steal p (StealOp.Put s more f) w r = few-put _ p w s more f r
 
 -- a walk
 
 few-walk : (w v : World) (x : RunPoll) (qs : List ℕ) (at left : ℕ) → TakenSame w v →
     Few x.run (left_of x.run w) w (done v (walk x qs at left))
 few-walk w v x qs at zero s = record {
-  control = op.Tick (tick_op.CopyWaker (asleep x));
-  side = op.List list_op.UnlockRead ∷ [];
+  control = Op.Tick (TickOp.CopyWaker (asleep x));
+  side = Op.List ListOp.UnlockRead ∷ [];
   is = refl;
   kind = refl;
   light = refl;
@@ -256,33 +222,33 @@ few-walk w v x qs at (suc left) s = by (eqb (queue_at qs at) x.run) (few-walk w 
     by : (b : Bool) → Few x.run (left_of x.run w) w (done v (walk x qs (next_place qs at) left)) →
         Few x.run (left_of x.run w) w (done v (let os : List Op = elim b [
           | true ↦ walk x qs (next_place qs at) left
-          | false ↦ op.Steal (steal_op.Length (record {
+          | false ↦ Op.Steal (StealOp.Length (record {
             poll = x;
             from = Own (queue_at qs at);
-            then = then.Walk (next_place qs at) left;
+            then = Then.Walk (next_place qs at) left;
           })) ∷ []
         ] in os))
     by true a = a
-    by false a = few-one x.run w v (op.Steal (steal_op.Length (record {
+    by false a = few-one x.run w v (Op.Steal (StealOp.Length (record {
       poll = x;
       from = Own (queue_at qs at);
-      then = then.Walk (next_place qs at) left;
+      then = Then.Walk (next_place qs at) left;
     }))) refl s (omega arith)
 
 -- searches
 
 few-own : (xs : List ℕ) (w : World) (x : RunPoll) → Ready x.run w → Few x.run (left_of x.run w) w (search_own_by xs w x)
-few-own [] w x r = few-one x.run w w (op.Run (run_op.TakeTurn x)) refl (same-runs w w refl) (omega arith)
+few-own [] w x r = few-one x.run w w (Op.Run (RunOp.TakeTurn x)) refl (same-runs w w refl) (omega arith)
 few-own (f ∷ rest) w x r =
     let v : World = put_own w x.run rest in
     few-from x.run w v (found v x f) (same-runs w v refl) (few-found v x f r)
 
 few-common : (look : Look) (xs : List ℕ) (w : World) (x : RunPoll) → Few x.run (left_of x.run w) w (search_common_by xs w x look)
 few-common (First mark) [] w x =
-    few-one x.run w w (op.Run (run_op.SearchCommon x (Second (other mark)))) refl (same-runs w w refl) (omega arith)
-few-common (Second mark) [] w x = few-one x.run w w (op.List (list_op.LockRead x)) refl (same-runs w w refl) (omega arith)
+    few-one x.run w w (Op.Run (RunOp.SearchCommon x (Second (other mark)))) refl (same-runs w w refl) (omega arith)
+few-common (Second mark) [] w x = few-one x.run w w (Op.List (ListOp.LockRead x)) refl (same-runs w w refl) (omega arith)
 few-common look (f ∷ rest) w x = few-one x.run w (search_common_by (f ∷ rest) w x look).world
-    (op.Steal (steal_op.Length (record { poll = x; from = Common (mark_in look); then = then.Found f }))) refl
+    (Op.Steal (StealOp.Length (record { poll = x; from = Common (mark_in look); then = Then.Found f }))) refl
     (same-runs w _ refl) (omega arith)
 
 few-look : (xs : List ℕ) (w : World) (x : RunPoll) (at left : ℕ) → Ready x.run w →
@@ -290,7 +256,7 @@ few-look : (xs : List ℕ) (w : World) (x : RunPoll) (at left : ℕ) → Ready x
 few-look [] w x at left r = few-walk w w x w.listed at left (same-runs w w refl)
 few-look (f ∷ rest) w x at left r =
     let v : World = put_own w x.run rest in
-    few-behind x.run (left_of x.run w) w (op.List list_op.UnlockRead ∷ []) (found v x f) refl refl
+    few-behind x.run (left_of x.run w) w (Op.List ListOp.UnlockRead ∷ []) (found v x f) refl refl
     (few-from x.run w v (found v x f) (same-runs w v refl) (few-found v x f r))
 
 -- falling asleep
@@ -299,17 +265,17 @@ pub copied-same : (w : World) (a : Waker) → TakenSame w (copied w a)
 copied-same w (Task g) = same-runs w _ refl
 copied-same w (Outside x) = same-runs w _ refl
 
-few-copy : (q : ℕ) (b : Bool) (w : World) (s : Sleeping) → s.who ≡ tick_or_run.Run q →
+few-copy : (q : ℕ) (b : Bool) (w : World) (s : Sleeping) → s.who ≡ TickOrRun.Run q →
     Few q (left_of q w) w (copy_sleeper_by b w s)
 few-copy q true w s e = few-one q w w _ refl (same-runs w w refl) (omega arith)
 few-copy q false w s e =
-    few-one q w (copied w s.waker) (op.Tick (tick_op.FallAsleep s)) e (copied-same w s.waker) (omega arith)
+    few-one q w (copied w s.waker) (Op.Tick (TickOp.FallAsleep s)) e (copied-same w s.waker) (omega arith)
 
 few-nowhere : (q : ℕ) (w : World) (s : Sleeping) (a : Op) → budget q a w ≡ 0 → Doing q a →
-    Few q (left_of q w) w (done w (op.Sleeper (sleeper_op.CallSleeper s) ∷ a ∷ []))
+    Few q (left_of q w) w (done w (Op.Sleeper (SleeperOp.CallSleeper s) ∷ a ∷ []))
 few-nowhere q w s a b k = record {
   control = a;
-  side = op.Sleeper (sleeper_op.CallSleeper s) ∷ [];
+  side = Op.Sleeper (SleeperOp.CallSleeper s) ∷ [];
   is = refl;
   kind = k;
   light = refl;
@@ -317,20 +283,20 @@ few-nowhere q w s a b k = record {
   count = refl;
 }
 
-few-anew : (q : ℕ) (b : Bool) (w : World) (s : Sleeping) → s.who ≡ tick_or_run.Run q →
+few-anew : (q : ℕ) (b : Bool) (w : World) (s : Sleeping) → s.who ≡ TickOrRun.Run q →
     Few q (left_of q w) w (sleep_anew_by b w s)
 few-anew q true w s e =
-    few-one q w (sleep_anew_by true w s).world (op.Tick (tick_op.Search s)) e
+    few-one q w (sleep_anew_by true w s).world (Op.Tick (TickOp.Search s)) e
     (placed w (sleep_anew_by true w s).world s.who _ refl) (omega arith)
 few-anew q false w s e = few-nowhere q w s _ refl refl
 
-few-listed : (q : ℕ) (b : Bool) (w : World) (m : ℕ) (s : Sleeping) → s.who ≡ tick_or_run.Run q →
+few-listed : (q : ℕ) (b : Bool) (w : World) (m : ℕ) (s : Sleeping) → s.who ≡ TickOrRun.Run q →
     Few q (left_of q w) w (sleep_listed_by b w m s)
 few-listed q true w m s e =
-    few-one q w (sleep_listed_by true w m s).world (op.Tick (tick_op.Search s)) e (same-runs w _ refl) (omega arith)
+    few-one q w (sleep_listed_by true w m s).world (Op.Tick (TickOp.Search s)) e (same-runs w _ refl) (omega arith)
 few-listed q false w m s e = few-nowhere q w s _ refl refl
 
-few-again : (q : ℕ) (o : Option ℕ) (w : World) (m : ℕ) (s : Sleeping) → s.who ≡ tick_or_run.Run q →
+few-again : (q : ℕ) (o : Option ℕ) (w : World) (m : ℕ) (s : Sleeping) → s.who ≡ TickOrRun.Run q →
     Few q (left_of q w) w (sleep_again_by o w m s)
 few-again q (Some at) w m s e =
     few-behind q (left_of q w) w (sleeper_goes (waker_at (Some at) w.sleepers.wakers))
@@ -340,7 +306,7 @@ few-again q (Some at) w m s e =
     (few-one q w (sleep_again_by (Some at) w m s).world _ refl (same-runs w _ refl) (omega arith))
 few-again q None w m s e = few-listed q _ w m s e
 
-few-sleep : (q : ℕ) (x : Ticker) (w : World) (s : Sleeping) → s.who ≡ tick_or_run.Run q →
+few-sleep : (q : ℕ) (x : Ticker) (w : World) (s : Sleeping) → s.who ≡ TickOrRun.Run q →
     Few q (left_of q w) w (fall_asleep_by x w s)
 few-sleep q Awake w s e = few-anew q _ w s e
 few-sleep q (Asleep m) w s e = few-again q _ w m s e
@@ -352,28 +318,24 @@ few-wake : (p : ℕ) (h : Hint) (w : World) (x : RunPoll) (q : ℕ) → Few q 0 
 few-wake p h w x q = by x.waker
   where
     by : (a : Waker) → Few q 0 w
-        (followed (call_by_reference p (log w (event.WakerCalled p (of.Run x.run) x.poll x.waker)) a)
-        (op.End reply.Pending (hold.Run x.run) ∷ []))
+        (followed (call_by_reference p (log w (Event.WakerCalled p (Polled.Run x.run) x.poll x.waker)) a)
+        (Op.End Reply.Pending (Hold.Run x.run) ∷ []))
     by (Task g) =
-        let u : World = log w (event.WakerCalled p (of.Run x.run) x.poll x.waker) in
-        let d : Done = act p h (op.Move move.WakeByReference g) u in
-        let a : Aside u d = aside-act p h (op.Move move.WakeByReference g) u refl refl in
+        let u : World = log w (Event.WakerCalled p (Polled.Run x.run) x.poll x.waker) in
+        let d : Done = act p h (Op.Move Move.WakeByReference g) u in
+        let a : Aside u d = aside-act p h (Op.Move Move.WakeByReference g) u refl refl in
         record {
-          control = op.End reply.Pending (hold.Run x.run);
+          control = Op.End Reply.Pending (Hold.Run x.run);
           side = reverse d.next;
-          is = reverse-append d.next (op.End reply.Pending (hold.Run x.run) ∷ []);
+          is = reverse-append d.next (Op.End Reply.Pending (Hold.Run x.run) ∷ []);
           kind = refl;
           light = weigh-reverse side_of d.next ∙ a.light;
-          few = omega (
-            arith,
-            weigh-reverse ups d.next,
-            ups-act p h (op.Move move.WakeByReference g) u refl refl,
-          );
-          count = (side-same p h (op.Move move.WakeByReference g) u refl).count;
+          few = omega (arith, weigh-reverse ups d.next, ups-act p h (Op.Move Move.WakeByReference g) u refl refl);
+          count = (side-same p h (Op.Move Move.WakeByReference g) u refl).count;
         }
     by (Outside y) = record {
-      control = op.End reply.Pending (hold.Run x.run);
-      side = op.User (user_op.CallOutside y) ∷ [];
+      control = Op.End Reply.Pending (Hold.Run x.run);
+      side = Op.User (UserOp.CallOutside y) ∷ [];
       is = refl;
       kind = refl;
       light = refl;
@@ -387,27 +349,27 @@ pub data Goes (q n : ℕ) (w : World) (d : Done) : Type 0 where
   over : d.next ≡ [] → Goes q n w d
 
 pub few-doing : (q p : ℕ) (h : Hint) (c : Op) (w : World) → Doing q c → Ready q w → Goes q (budget q c w) w (act p h c w)
-few-doing q p h (op.Tick (tick_op.Search s)) w e r =
+few-doing q p h (Op.Tick (TickOp.Search s)) w e r =
     subst (λ (who : TickOrRun). Goes q (left_of q w) w (search_by_who who p w s)) (sym e)
     (on (few-own (own_of w q) w (record { run = q; waker = s.waker; poll = s.poll }) r))
-few-doing q p h (op.Tick (tick_op.CopyWaker s)) w e r = on (few-copy q _ w s e)
-few-doing q p h (op.Tick (tick_op.FallAsleep s)) w e r = on (few-sleep q (place_of w s.who) w s e)
-few-doing q p h (op.Run (run_op.TakeTurn x)) w e r =
-    subst (λ (k : ℕ). Goes k (left_of k w) w (act p h (op.Run (run_op.TakeTurn x)) w)) e
-    (on (few-one x.run w (turned p w) (op.Run (run_op.SearchCommon x (First (first_of w.urgent_turns)))) refl
+few-doing q p h (Op.Tick (TickOp.CopyWaker s)) w e r = on (few-copy q _ w s e)
+few-doing q p h (Op.Tick (TickOp.FallAsleep s)) w e r = on (few-sleep q (place_of w s.who) w s e)
+few-doing q p h (Op.Run (RunOp.TakeTurn x)) w e r =
+    subst (λ (k : ℕ). Goes k (left_of k w) w (act p h (Op.Run (RunOp.TakeTurn x)) w)) e
+    (on (few-one x.run w (turned p w) (Op.Run (RunOp.SearchCommon x (First (first_of w.urgent_turns)))) refl
     (same-runs w _ refl) (omega arith)))
-few-doing q p h (op.Run (run_op.SearchCommon x look)) w e r =
-    subst (λ (k : ℕ). Goes k (left_of k w) w (act p h (op.Run (run_op.SearchCommon x look)) w)) e
+few-doing q p h (Op.Run (RunOp.SearchCommon x look)) w e r =
+    subst (λ (k : ℕ). Goes k (left_of k w) w (act p h (Op.Run (RunOp.SearchCommon x look)) w)) e
     (on (few-common look (queue_of w (mark_in look)).items w x))
-few-doing q p h (op.Run (run_op.LookOwn x at left)) w e r =
-    subst (λ (k : ℕ). Goes k (left_of k w) w (act p h (op.Run (run_op.LookOwn x at left)) w)) e
+few-doing q p h (Op.Run (RunOp.LookOwn x at left)) w e r =
+    subst (λ (k : ℕ). Goes k (left_of k w) w (act p h (Op.Run (RunOp.LookOwn x at left)) w)) e
     (on (few-look (own_of w x.run) w x at left (subst (λ (k : ℕ). Ready k w) (sym e) r)))
-few-doing q p h (op.Run (run_op.WakeOwn x)) w e r = on (few-wake p h w x q)
-few-doing q p h (op.List (list_op.LockRead x)) w e r =
-    subst (λ (k : ℕ). Goes k (left_of k w) w (act p h (op.List (list_op.LockRead x)) w)) e
-    (on (few-walk w (act p h (op.List (list_op.LockRead x)) w).world x w.listed _ (length w.listed) (same-runs w _ refl)))
-few-doing q p h (op.Steal o) w e r =
-    subst (λ (k : ℕ). Goes k (left_of k w) w (act p h (op.Steal o) w)) e
+few-doing q p h (Op.Run (RunOp.WakeOwn x)) w e r = on (few-wake p h w x q)
+few-doing q p h (Op.List (ListOp.LockRead x)) w e r =
+    subst (λ (k : ℕ). Goes k (left_of k w) w (act p h (Op.List (ListOp.LockRead x)) w)) e
+    (on (few-walk w (act p h (Op.List (ListOp.LockRead x)) w).world x w.listed _ (length w.listed) (same-runs w _ refl)))
+few-doing q p h (Op.Steal o) w e r =
+    subst (λ (k : ℕ). Goes k (left_of k w) w (act p h (Op.Steal o) w)) e
     (on (few-steal p o w (subst (λ (k : ℕ). Ready k w) (sym e) r)))
-few-doing q p h (op.End a held) w e r = over refl
+few-doing q p h (Op.End a held) w e r = over refl
 few-doing q p h _ w e r = absurd e

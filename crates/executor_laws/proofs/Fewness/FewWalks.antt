@@ -1,54 +1,29 @@
 -- For runs_poll_few_futures.
 -- So a poll of a run that is made alone polls 200 futures at most.
-use Rattle.std.proofs.Common.{◌≡◌, ◌∙◌, ◌⊎◌, inl, inr, ⊎_elim, ℕ, ◌+◌, ◌-◌, ◌<◌, ◌≤◌, List, [], ◌∷◌, ◌++◌, length, drop}
-use Rattle.std.proofs.Common.{true, refl, sym, ap, subst, arith, append_assoc, Ok}
-use Rattle.std.proofs.Math.Seq.{drop-append_seam}
-use Rattle.std.proofs.lemmas.List.{get_or_past}
+use Rattle.std.proofs.Common.{◌≡◌, ◌∙◌, ◌⊎◌, inl, inr, ⊎_elim, ℕ, ◌+◌, ◌-◌, ◌<◌, ◌≤◌, List, [], ◌∷◌, ◌++◌, length, drop, true}
+use Rattle.std.proofs.Common.{refl, sym, ap, subst, arith, append_assoc, Ok}
 use Rattle.std.specs.Prelude.{Option, Some, None, reverse}
-use Rattle.executor_model.specs.declared.call.By.{By}
-use Rattle.executor_model.specs.declared.call.Reply.{Reply}
-use Rattle.executor_model.specs.declared.event.Event.TheVariants as event
-use Rattle.executor_model.specs.declared.kind.Kind.{Kind}
-use Rattle.executor_model.specs.declared.op.Op.{Op}
-use Rattle.executor_model.specs.declared.op.Op.TheVariants as op
-use Rattle.executor_model.specs.declared.op.ListOp.TheVariants as list_op
-use Rattle.executor_model.specs.declared.op.RunOp.TheVariants as run_op
-use Rattle.executor_model.specs.declared.op.TickOp.TheVariants as tick_op
-use Rattle.executor_model.specs.declared.step.Hint.{Hint}
-use Rattle.executor_model.specs.declared.step.Step.{Step}
-use Rattle.executor_model.specs.declared.step.UserEnd.{UserEnd}
-use Rattle.executor_model.specs.ActsOfRuns.{asleep}
-use Rattle.executor_model.specs.Doing.{act}
-use Rattle.executor_model.specs.Emptiness.{IsAtRest}
-use Rattle.executor_model.specs.Executions.{run_all}
-use Rattle.executor_model.specs.Rows.{running_of}
+use Rattle.std.{proofs.Math.Seq.drop-append_seam, proofs.lemmas.List.get_or_past}
+use Rattle.executor_laws.proofs.Types.{By, Reply, Event, Kind, Op, ListOp, RunOp, TickOp, Hint, Step, UserEnd}
 use Rattle.executor_model.specs.Steps.{Machine, Part, accepts, end_of, onto, part, react, run, settled, settled_by, stack}
-use Rattle.executor_model.specs.Steps.{start, top, with_part}
-use Rattle.executor_model.specs.Trace.{Trace}
-use Rattle.executor_model.specs.Weights.{weigh}
 use Rattle.executor_model.specs.World.{Done, World, log, run_of}
-use Rattle.executor_model.proofs.Steps.Lift.{split}
-use Rattle.executor_model.proofs.Steps.Lists.{weigh-append, weigh-reverse}
-use Rattle.executor_model.proofs.Steps.Reached.{Reached, run-first}
-use Rattle.executor_model.proofs.Table.Spawning.{top-last}
+use Rattle.executor_model.specs.{Steps.start, Steps.top, Steps.with_part, ActsOfRuns.asleep, Doing.act, Emptiness.IsAtRest}
+use Rattle.executor_model.specs.{Executions.run_all, Rows.running_of, Trace.Trace, Weights.weigh}
 use Rattle.executor_laws.specs.LoneEnds.{are_onward_of, is_onward_of}
-use Rattle.executor_laws.specs.Reach.{since}
-use Rattle.executor_laws.specs.RunFew.{PollsFew, polls_in}
-use Rattle.executor_laws.specs.RunReach.{IsLonePoll}
-use Rattle.executor_laws.proofs.Reach.LoneMoves.{stray_of}
-use Rattle.executor_laws.proofs.Reach.LoneSteps.{Last, from-end}
+use Rattle.executor_laws.specs.{Reach.since, RunFew.PollsFew, RunFew.polls_in, RunReach.IsLonePoll}
+use Rattle.executor_model.proofs.Steps.Lists.{weigh-append, weigh-reverse}
+use Rattle.executor_model.proofs.{Steps.Lift.split, Steps.Reached.Reached, Steps.Reached.run-first, Table.Spawning.top-last}
+use Rattle.executor_laws.proofs.Fewness.FewSides.{Polls, TakenSame, polls-act, polls-append, polls-react, react-same, side-same}
+use Rattle.executor_laws.proofs.Fewness.FewSides.{ups, ups-act, ups-react}
 use Rattle.executor_laws.proofs.Reach.LoneTicks.{idle-none, left-true, of-party, stack-set}
-use Rattle.executor_laws.proofs.RunReach.RunFinds.{light-no-end}
 use Rattle.executor_laws.proofs.RunReach.RunReaching.{arrived, new-idle, poll}
 use Rattle.executor_laws.proofs.RunReach.RunSteps.{Aside, aside-act, aside-react, side-kind, side_of}
-use Rattle.executor_laws.proofs.RunReach.RunWalks.{Onward, onward}
 use Rattle.executor_laws.proofs.RunReach.RunWalks.Onward.{acted, answered}
-use Rattle.executor_laws.proofs.Termination.TakingFew.{takes-few}
-use Rattle.executor_laws.proofs.Fewness.FewSides.{Polls, TakenSame, polls-act, polls-append, polls-react, react-same, side-same, ups}
-use Rattle.executor_laws.proofs.Fewness.FewSides.{ups-act, ups-react}
 use Rattle.executor_laws.proofs.Fewness.FewSteps.{Doing, Goes, budget, few-doing, left_of}
 use Rattle.executor_laws.proofs.Fewness.FewSteps.Goes.{on as on_with, over as over_with}
-use Rattle.executor_laws.proofs.Walks.Finding.{enrolled-here, itself}
+use Rattle.executor_laws.proofs.{Reach.LoneMoves.stray_of, Reach.LoneSteps.Last, Reach.LoneSteps.from-end}
+use Rattle.executor_laws.proofs.{RunReach.RunFinds.light-no-end, RunReach.RunWalks.Onward, RunReach.RunWalks.onward}
+use Rattle.executor_laws.proofs.{Termination.TakingFew.takes-few, Walks.Finding.enrolled-here, Walks.Finding.itself}
 
 -- what has happened since, with no more than n polls begun; and it may be that many more
 pub record So (before : Trace) (n : ℕ) (w : World) : Type 0 where
@@ -67,7 +42,7 @@ Leaves q before x = Left q before x.world x.todo
 
 side-no-end : (o : Op) → side_of o ≡ 0 → end_of (Some o) ≡ None
 side-no-end o z = ⊎_elim
-    (λ (e : o ≡ op.List list_op.UnlockRead). ap (λ (x : Op). end_of (Some x)) e)
+    (λ (e : o ≡ Op.List ListOp.UnlockRead). ap (λ (x : Op). end_of (Some x)) e)
     (λ (x : stray_of o ≡ 0). light-no-end o x)
     (side-kind o z)
 
@@ -78,12 +53,12 @@ light-last side below o e z = (
   omega (arith, z, ap (weigh side_of) e, weigh-append side_of below (o ∷ [])),
 )
 
-so-ended : (before : Trace) (n p : ℕ) (a : Reply) (w : World) → So before n w → So before 0 (log w (event.CallEnded p a))
+so-ended : (before : Trace) (n p : ℕ) (a : Reply) (w : World) → So before n w → So before 0 (log w (Event.CallEnded p a))
 so-ended before n p a w k = record {
-  meanwhile = k.meanwhile ++ event.CallEnded p a ∷ [];
-  trace = ap (λ (es : Trace). es ++ event.CallEnded p a ∷ []) k.trace
-      ∙ append_assoc before k.meanwhile (event.CallEnded p a ∷ []);
-  few = omega (arith, k.few, polls-append k.meanwhile (event.CallEnded p a ∷ []));
+  meanwhile = k.meanwhile ++ Event.CallEnded p a ∷ [];
+  trace = ap (λ (es : Trace). es ++ Event.CallEnded p a ∷ []) k.trace
+      ∙ append_assoc before k.meanwhile (Event.CallEnded p a ∷ []);
+  few = omega (arith, k.few, polls-append k.meanwhile (Event.CallEnded p a ∷ []));
 }
 
 settles : (q p : ℕ) (before : Trace) (w : World) (c : Op) (side : List Op) → Doing q c → weigh side_of side ≡ 0 →
@@ -116,16 +91,16 @@ so-on before n m k w v s x e = record {
 }
 
 no-user : (q : ℕ) (o : Op) (u : UserEnd) → Doing q o → accepts o u ≡ true → ⊥
-no-user q (op.User o) u k a = k
+no-user q (Op.User o) u k a = k
 no-user q _ u k a = absurd (cc)
 
 none-up : (q : ℕ) (c : Op) → Doing q c → ups c ≡ 0
-none-up q (op.Move m f) k = absurd k
+none-up q (Op.Move m f) k = absurd k
 none-up q _ k = refl
 
 same-budget : (q : ℕ) (c : Op) (w v : World) → TakenSame w v → budget q c v ≡ budget q c w
-same-budget q (op.End a held) w v k = refl
-same-budget q (op.Run (run_op.WakeOwn x)) w v k = refl
+same-budget q (Op.End a held) w v k = refl
+same-budget q (Op.Run (RunOp.WakeOwn x)) w v k = refl
 same-budget q _ w v k = let z : left_of q v ≡ left_of q w = omega (arith, k.taken q) in z
 
 -- a run that searches is one that was made
@@ -282,7 +257,7 @@ module _ (s : Machine) (y : Reached s) (rest : IsAtRest s) (r p : ℕ) (b : By) 
       few-left : (n : ℕ) → 200 - n ≤ 200
       few-left n = omega arith
 
-      in-runs : (m : Machine) → Reached m → stack m p ≡ op.Tick (tick_op.Search (asleep (poll s y rest r p b steps new k))) ∷ [] →
+      in-runs : (m : Machine) → Reached m → stack m p ≡ Op.Tick (TickOp.Search (asleep (poll s y rest r p b steps new k))) ∷ [] →
           r < length m.world.runs
       in-runs m z e = known-run m z r p _ e (itself r).0
 

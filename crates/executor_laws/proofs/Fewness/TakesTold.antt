@@ -1,62 +1,39 @@
 -- For futures_are_polled_where_they_are_taken_up.
 -- A step that takes a future up begins its poll, or leads to its drop, and no other begins a poll.
-use Rattle.std.proofs.Common.{◌≡◌, ◌∙◌, ℕ, ◌<◌, [], ◌∷◌, ◌++◌, length, List, Result, Bool, true, false, not, eqb, ltb}
-use Rattle.std.proofs.Common.{refl, sym, ap, arith, append-nil}
-use Rattle.std.proofs.lemmas.Bool.Decides.{nat_tests}
-use Rattle.std.proofs.lemmas.List.{append_assoc}
-use Rattle.std.specs.Prelude.{Option, Some, None}
+use Rattle.std.proofs.Common.{◌≡◌, ◌∙◌, ℕ, ◌<◌, [], ◌∷◌, ◌++◌, length, List, Result, Bool, true, false, not, eqb, ltb, refl}
+use Rattle.std.{proofs.Common.sym, proofs.Common.ap, proofs.Common.arith, proofs.Common.append-nil, specs.Prelude.Option}
+use Rattle.std.{specs.Prelude.Some, specs.Prelude.None, proofs.lemmas.Bool.Decides.nat_tests, proofs.lemmas.List.append_assoc}
 use Rattle.task_moves.specs.Moves.{take_up_by}
-use Rattle.task_moves.specs.declared.moves.owed.Move.TheVariants as move
-use Rattle.executor_model.specs.declared.call.Call.{Call}
-use Rattle.executor_model.specs.declared.call.Call.TheVariants as call
-use Rattle.executor_model.specs.declared.call.Reply.{Reply}
-use Rattle.executor_model.specs.declared.event.Event.TheVariants as event
-use Rattle.executor_model.specs.declared.op.Op.{Op}
-use Rattle.executor_model.specs.declared.op.Op.TheVariants as op
-use Rattle.executor_model.specs.declared.op.StealOp.TheVariants as steal_op
-use Rattle.executor_model.specs.declared.op.TableOp.TheVariants as table_op
-use Rattle.executor_model.specs.declared.step.Hint.{Hint}
-use Rattle.executor_model.specs.declared.step.Step.{Step}
-use Rattle.executor_model.specs.declared.step.Step.TheVariants.{Answer, Begin, Go}
-use Rattle.executor_model.specs.declared.step.StepError.{StepError}
-use Rattle.executor_model.specs.declared.step.UserEnd.{UserEnd}
-use Rattle.executor_model.specs.Carried.{owed_ops}
-use Rattle.executor_model.specs.Doing.{act}
-use Rattle.executor_model.specs.Steps.{Machine, Part, answer_refusal, begun, below_top, end_of, gone_on, mine, onto, part, part_after}
-use Rattle.executor_model.specs.Steps.{part_refusal, party_of, react, refusal, settled_by, stack, step, stepped, top}
-use Rattle.executor_model.specs.Trace.{Trace}
+use Rattle.executor_laws.proofs.Types.{UserEnd, Move, Call, Reply, Event, Op, StealOp, TableOp, Hint, Step, Begin, Go}
+use Rattle.executor_model.specs.declared.step.Step.TheVariants.{Answer}
+use Rattle.executor_model.specs.Steps.{Machine, Part, answer_refusal, begun, below_top, end_of, gone_on, mine, onto, part}
+use Rattle.executor_model.specs.Steps.{part_after, part_refusal, party_of, react, refusal, settled_by, stack, step, stepped}
 use Rattle.executor_model.specs.World.{Done, World, among, done, log, log_if, put, task}
-use Rattle.executor_model.proofs.Steps.Stepping.{step-refused}
+use Rattle.executor_model.specs.{Steps.top, Carried.owed_ops, Doing.act, Trace.Trace}
+use Rattle.executor_laws.specs.{RunFew.begins_poll, RunTakes.takes_up, TakesTold.BeginsNone, TakesTold.TakesAreTold}
 use Rattle.executor_model.proofs.Steps.TraceGrows.{Allows, AllowsCall, grows-act, grows-begun, grows-react}
-use Rattle.executor_model.proofs.Steps.TraceMore.{has-append}
-use Rattle.executor_model.proofs.Table.Spawning.{top-last}
-use Rattle.executor_laws.specs.RunFew.{begins_poll}
-use Rattle.executor_laws.specs.RunTakes.{takes_up}
-use Rattle.executor_laws.specs.TakesTold.{BeginsNone, TakesAreTold}
-use Rattle.executor_laws.proofs.Fewness.AnyPoll.{set-same}
-use Rattle.executor_laws.proofs.Fewness.FewSides.{ordinary-none}
+use Rattle.executor_model.proofs.{Steps.Stepping.step-refused, Steps.TraceMore.has-append, Table.Spawning.top-last}
 use Rattle.executor_laws.proofs.Promptness.Turns.{goes-on, next-is}
-use Rattle.executor_laws.proofs.Reach.LoneSteps.{answers}
-use Rattle.executor_laws.proofs.Reach.LoneTicks.{in-range}
-use Rattle.executor_laws.proofs.Seeking.SeekStacks.{own_part}
+use Rattle.executor_laws.proofs.{Types.StepError, Fewness.AnyPoll.set-same, Fewness.FewSides.ordinary-none}
+use Rattle.executor_laws.proofs.{Reach.LoneSteps.answers, Reach.LoneTicks.in-range, Seeking.SeekStacks.own_part}
 
 -- a future is taken up, which is closed or not, and lies in the table or not
 
 abbrev taken : Bool → Bool → ℕ → World → ℕ → Done
 taken closed there p w f =
-    let v : World = log_if (not closed) w (event.PollBegun p f) in
+    let v : World = log_if (not closed) w (Event.PollBegun p f) in
     done (put v f (take_up_by closed (task w f)).state) (owed_ops there f (take_up_by closed (task w f)).owed)
 
-table-same : (b : Bool) (w : World) (p f : ℕ) → among f (log_if b w (event.PollBegun p f)).table ≡ among f w.table
+table-same : (b : Bool) (w : World) (p f : ℕ) → among f (log_if b w (Event.PollBegun p f)).table ≡ among f w.table
 table-same true w p f = refl
 table-same false w p f = refl
 
 taken-is : (p : ℕ) (h : Hint) (w : World) (f : ℕ) →
-    act p h (op.Move move.TakeUp f) w ≡ taken (task w f).closed (among f w.table) p w f
+    act p h (Op.Move Move.TakeUp f) w ≡ taken (task w f).closed (among f w.table) p w f
 taken-is p h w f = ap (λ (b : Bool). taken (task w f).closed b p w f) (table-same (not (task w f).closed) w p f)
 
 module _ (s : Machine) (p f : ℕ) (h : Hint) (n : refusal s (Go p h) ≡ None)
-    (o : top (stack s p) ≡ Some (op.Move move.TakeUp f)) where
+    (o : top (stack s p) ≡ Some (Op.Move Move.TakeUp f)) where
   abbrev below : List Op
   below = below_top (stack s p)
 
@@ -72,24 +49,24 @@ module _ (s : Machine) (p f : ℕ) (h : Hint) (n : refusal s (Go p h) ≡ None)
       ∙ ap (λ (d : Done). onto p d below) (taken-is p h s.world f)))
 
   begins-it : (task s.world f).closed ≡ false →
-      (stepped s (step s (Go p h))).world.trace ≡ s.world.trace ++ event.PollBegun p f ∷ []
+      (stepped s (step s (Go p h))).world.trace ≡ s.world.trace ++ Event.PollBegun p f ∷ []
   begins-it c = ap (λ (x : Part). x.world.trace)
       (took
       ∙ (ap (λ (b : Bool). onto p (taken b (among f s.world.table) p s.world f) below) c
-      ∙ goes-on p (taken false (among f s.world.table) p s.world f).world below (op.Table (table_op.TakeToPoll f)) refl))
+      ∙ goes-on p (taken false (among f s.world.table) p s.world f).world below (Op.Table (TableOp.TakeToPoll f)) refl))
 
   drops-it : (task s.world f).closed ≡ true → among f s.world.table ≡ true →
-      top (stack (stepped s (step s (Go p h))) p) ≡ Some (op.Table (table_op.TakeToDrop f))
+      top (stack (stepped s (step s (Go p h))) p) ≡ Some (Op.Table (TableOp.TakeToDrop f))
   drops-it c t =
-      let rest : List Op = below ++ op.Move move.SettleClosed f ∷ [] in
+      let rest : List Op = below ++ Op.Move Move.SettleClosed f ∷ [] in
       let w : World = (taken true true p s.world f).world in
-      let last : Op = op.Table (table_op.TakeToDrop f) in
+      let last : Op = Op.Table (TableOp.TakeToDrop f) in
       ap (λ (x : Part). top x.todo)
       (took
       ∙ (ap (λ (b : Bool). onto p (taken b (among f s.world.table) p s.world f) below) c
       ∙ (ap (λ (b : Bool). onto p (taken true b p s.world f) below) t
       ∙ (ap (λ (os : List Op). settled_by (end_of (top os)) p w os)
-      (sym (append_assoc below (op.Move move.SettleClosed f ∷ []) (last ∷ [])))
+      (sym (append_assoc below (Op.Move Move.SettleClosed f ∷ []) (last ∷ [])))
       ∙ goes-on p w rest last refl))))
       ∙ top-last rest last
 
@@ -102,31 +79,31 @@ settled-none : (o : Option Reply) (es : Trace) (p : ℕ) (w : World) (os : List 
     BeginsNone es (settled_by o p w os).world.trace
 settled-none None es p w os k = k
 settled-none (Some a) es p w os k = (
-  k.0 ++ event.CallEnded p a ∷ [],
-  ap (λ (xs : Trace). xs ++ event.CallEnded p a ∷ []) k.1 ∙ append_assoc es k.0 (event.CallEnded p a ∷ []),
-  has-append begins_poll k.0 (event.CallEnded p a ∷ []) k.2 refl,
+  k.0 ++ Event.CallEnded p a ∷ [],
+  ap (λ (xs : Trace). xs ++ Event.CallEnded p a ∷ []) k.1 ∙ append_assoc es k.0 (Event.CallEnded p a ∷ []),
+  has-append begins_poll k.0 (Event.CallEnded p a ∷ []) k.2 refl,
 )
 
 allows-call : (p : ℕ) (c : Call) → AllowsCall begins_poll ordinary-none p c
-allows-call p (call.PollRun r b) = refl
-allows-call p (call.DropRun r) = refl
+allows-call p (Call.PollRun r b) = refl
+allows-call p (Call.DropRun r) = refl
 allows-call p _ = tt
 
 allows : (p : ℕ) (h : Hint) (o : Op) → takes_up None p (Go p h) (Some o) ≡ false → Allows begins_poll ordinary-none p o
-allows p h (op.Move move.TakeUp f) k = absurd (differs k)
+allows p h (Op.Move Move.TakeUp f) k = absurd (differs k)
   where
     differs : eqb p p ≡ false → ⊥
     differs q = let y : eqb p p ≡ true = grind (arith, nat_tests) in let no : true ≡ false = sym y ∙ q in cc
-allows p h (op.Steal (steal_op.Put x more f)) k = refl
-allows p h (op.End a held) k = refl
+allows p h (Op.Steal (StealOp.Put x more f)) k = refl
+allows p h (Op.End a held) k = refl
 allows p h _ k = tt
 
 begun-none : (w : World) (os : List Op) (p : ℕ) (c : Call) → BeginsNone w.trace (part_after w os (Begin p c)).world.trace
 begun-none w os p c =
-    let v : World = log w (event.CallBegun p c) in
+    let v : World = log w (Event.CallBegun p c) in
     let g = grows-begun begins_poll ordinary-none p v (mine (top os)) c (allows-call p c) in
     settled-none _ w.trace p (begun p v (mine (top os)) c).world _
-    (event.CallBegun p c ∷ g.more, g.is ∙ append_assoc w.trace (event.CallBegun p c ∷ []) g.more, g.none)
+    (Event.CallBegun p c ∷ g.more, g.is ∙ append_assoc w.trace (Event.CallBegun p c ∷ []) g.more, g.none)
 
 go-none : (w : World) (os : List Op) (p : ℕ) (h : Hint) (o : Option Op) → takes_up None p (Go p h) o ≡ false →
     BeginsNone w.trace (gone_on p w os o (λ x. act p h x w)).world.trace

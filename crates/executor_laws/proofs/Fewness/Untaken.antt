@@ -1,55 +1,19 @@
 -- For runs_take_few_futures.
 -- What isn't done by run q leaves how many q has taken.
-use Rattle.std.proofs.Common.{◌≡◌, ◌≢◌, ◌∙◌, ℕ, zero, suc, ◌+◌, List, [], ◌∷◌, ◌++◌, get_or, Bool, true, false, eqb}
-use Rattle.std.proofs.Common.{refl, sym, ap, arith, get_or-set_other, ⊎_elim}
+use Rattle.std.proofs.Common.{◌≡◌, ◌≢◌, ◌∙◌, ℕ, zero, suc, ◌+◌, List, [], ◌∷◌, ◌++◌, get_or, Bool, true, false, eqb, refl, sym}
+use Rattle.std.proofs.Common.{ap, arith, get_or-set_other, ⊎_elim}
 use Rattle.std.specs.Prelude.{Option, Some, None}
-use Rattle.executor_model.specs.declared.op.Look.{Look}
-use Rattle.executor_model.specs.declared.op.Look.TheVariants.{First, Second}
-use Rattle.task_moves.specs.declared.moves.owed.Move.TheVariants as move
-use Rattle.executor_model.specs.declared.call.Call.{Call}
-use Rattle.executor_model.specs.declared.call.Call.TheVariants as call
-use Rattle.executor_model.specs.declared.call.Reply.{Reply}
-use Rattle.executor_model.specs.declared.event.Event.TheVariants as event
-use Rattle.executor_model.specs.declared.op.ListOp.{ListOp}
-use Rattle.executor_model.specs.declared.op.ListOp.TheVariants as list_op
-use Rattle.executor_model.specs.declared.op.Op.{Op}
-use Rattle.executor_model.specs.declared.op.Op.TheVariants as op
-use Rattle.executor_model.specs.declared.op.Polled.TheVariants as of
-use Rattle.executor_model.specs.declared.op.RunOp.{RunOp}
-use Rattle.executor_model.specs.declared.op.RunOp.TheVariants as run_op
-use Rattle.executor_model.specs.declared.op.RunPoll.{RunPoll}
-use Rattle.executor_model.specs.declared.op.Section.TheVariants as section
-use Rattle.executor_model.specs.declared.op.Sleeping.{Sleeping}
-use Rattle.executor_model.specs.declared.op.Source.{Source}
-use Rattle.executor_model.specs.declared.op.Source.TheVariants.{Common, Own}
-use Rattle.executor_model.specs.declared.op.Steal.{Steal}
-use Rattle.executor_model.specs.declared.op.StealOp.{StealOp}
-use Rattle.executor_model.specs.declared.op.StealOp.TheVariants as steal_op
-use Rattle.executor_model.specs.declared.op.Then.{Then}
-use Rattle.executor_model.specs.declared.op.Then.TheVariants as then
-use Rattle.executor_model.specs.declared.op.TickOp.{TickOp}
-use Rattle.executor_model.specs.declared.op.TickOp.TheVariants as tick_op
-use Rattle.executor_model.specs.declared.op.TickOrRun.{TickOrRun}
-use Rattle.executor_model.specs.declared.op.TickOrRun.TheVariants as tick_or_run
-use Rattle.executor_model.specs.declared.op.UserOp.TheVariants as user_op
-use Rattle.executor_model.specs.declared.op.Waker.{Waker}
-use Rattle.executor_model.specs.declared.op.Waker.TheVariants.{Task, Outside}
-use Rattle.executor_model.specs.declared.step.Hint.{Hint}
+use Rattle.executor_laws.proofs.Types.{Look, First, Second, Move, Call, Reply, Event, ListOp, Op, Polled, RunOp, RunPoll}
+use Rattle.executor_laws.proofs.Types.{Section, Sleeping, Source, Common, Own, Steal, StealOp, Then, TickOp, TickOrRun, UserOp}
+use Rattle.executor_model.specs.World.{Asleep, Awake, Ended, Left, Listed, New, Run, Stage, Ticker, World, log, new_run, no_run}
+use Rattle.executor_model.specs.Doing.{act, list_act, run_act, search_by_who, steal_act, tick_act}
+use Rattle.executor_model.specs.{World.put_own, World.put_run, World.run_of, Rows.running_of, Steps.begun, Weights.same}
+use Rattle.executor_model.proofs.{Steps.Lift.no_hint, Steps.Lists.same_cases}
+use Rattle.executor_laws.proofs.Fewness.FewSides.{TakenSame, placed, put-same, same-runs, side-same}
+use Rattle.executor_laws.proofs.{Types.Waker, Types.Task, Types.Outside, Types.Hint, Placement.RunningSteps.runs-begun}
+use Rattle.executor_laws.proofs.{Fewness.FewSteps.copied-same, Placement.Leavings.drops_run, Termination.TakingFew.runs-act}
 use Rattle.executor_model.specs.ActsOfRuns as runs
 use Rattle.executor_model.specs.ActsOfSleepers as of_sleepers
-use Rattle.executor_model.specs.Doing.{act, list_act, run_act, search_by_who, steal_act, tick_act}
-use Rattle.executor_model.specs.Rows.{running_of}
-use Rattle.executor_model.specs.Steps.{begun}
-use Rattle.executor_model.specs.Weights.{same}
-use Rattle.executor_model.specs.World.{Asleep, Awake, Ended, Left, Listed, New, Run, Stage, Ticker, World, log, new_run, no_run}
-use Rattle.executor_model.specs.World.{put_own, put_run, run_of}
-use Rattle.executor_model.proofs.Steps.Lift.{no_hint}
-use Rattle.executor_model.proofs.Steps.Lists.{same_cases}
-use Rattle.executor_laws.proofs.Fewness.FewSides.{TakenSame, placed, put-same, same-runs, side-same}
-use Rattle.executor_laws.proofs.Fewness.FewSteps.{copied-same}
-use Rattle.executor_laws.proofs.Placement.Leavings.{drops_run}
-use Rattle.executor_laws.proofs.Placement.RunningSteps.{runs-begun}
-use Rattle.executor_laws.proofs.Termination.TakingFew.{runs-act}
 
 -- run q has taken as many as before
 abbrev pub Untaken : ℕ → World → World → Type 0
@@ -87,10 +51,10 @@ un-found : (q : ℕ) (w : World) (x : RunPoll) (f : ℕ) → q ≢ x.run → Unt
 un-found q w x f n = un-counted q _ w x f n
 
 un-stolen : (q : ℕ) (t : Then) (w : World) (x : RunPoll) → q ≢ x.run → Untaken q w (runs.stolen t w x).world
-un-stolen q (then.Found f) w x n = un-found q w x f n
-un-stolen q (then.StealPlain f) w x n = refl
-un-stolen q (then.Run f) w x n = un-run_by q _ w x f n
-un-stolen q (then.Walk at left) w x n = refl
+un-stolen q (Then.Found f) w x n = un-found q w x f n
+un-stolen q (Then.StealPlain f) w x n = refl
+un-stolen q (Then.Run f) w x n = un-run_by q _ w x f n
+un-stolen q (Then.Walk at left) w x n = refl
 
 un-length : (q k : ℕ) (w : World) (s : Steal) → q ≢ s.poll.run → Untaken q w (runs.steal_length_by k w s).world
 un-length q zero w s n = un-stolen q s.then w s.poll n
@@ -114,11 +78,11 @@ un-put : (q : ℕ) (b : Bool) (p : ℕ) (w : World) (s : Steal) (more f : ℕ) �
 un-put q true p w s more f n = un-more q more (runs.kept_by p w s.poll.run f) s n
 un-put q false p w s more f n = un-stolen q s.then w s.poll n
 
-un-steal : (q p : ℕ) (o : StealOp) (w : World) → running_of q (op.Steal o) ≡ 0 → Untaken q w (steal_act p o w).world
-un-steal q p (steal_op.Length s) w z = un-length q _ w s (another q s.poll.run z)
-un-steal q p (steal_op.OwnLength s n) w z = un-more q _ w s (another q s.poll.run z)
-un-steal q p (steal_op.Take s more) w z = un-take q _ w s more (another q s.poll.run z)
-un-steal q p (steal_op.Put s more f) w z = un-put q _ p w s more f (another q s.poll.run z)
+un-steal : (q p : ℕ) (o : StealOp) (w : World) → running_of q (Op.Steal o) ≡ 0 → Untaken q w (steal_act p o w).world
+un-steal q p (StealOp.Length s) w z = un-length q _ w s (another q s.poll.run z)
+un-steal q p (StealOp.OwnLength s n) w z = un-more q _ w s (another q s.poll.run z)
+un-steal q p (StealOp.Take s more) w z = un-take q _ w s more (another q s.poll.run z)
+un-steal q p (StealOp.Put s more f) w z = un-put q _ p w s more f (another q s.poll.run z)
 
 un-own : (q : ℕ) (xs : List ℕ) (w : World) (x : RunPoll) → q ≢ x.run → Untaken q w (runs.search_own_by xs w x).world
 un-own q [] w x n = refl
@@ -141,12 +105,12 @@ un-look-tick : (look : Look) (q : ℕ) (x : Ticker) (w : World) (xs : List ℕ) 
 un-look-tick look q x w [] s = refl
 un-look-tick look q x w (f ∷ rest) s = refl
 
-un-searches : (q : ℕ) (who : TickOrRun) (p : ℕ) (w : World) (s : Sleeping) → s.who ≡ who → running_of q (op.Tick (tick_op.Search s)) ≡ 0 →
+un-searches : (q : ℕ) (who : TickOrRun) (p : ℕ) (w : World) (s : Sleeping) → s.who ≡ who → running_of q (Op.Tick (TickOp.Search s)) ≡ 0 →
     Untaken q w (search_by_who who p w s).world
-un-searches q (tick_or_run.Tick t) p w s e z = refl
-un-searches q (tick_or_run.Run r) p w s e z =
+un-searches q (TickOrRun.Tick t) p w s e z = refl
+un-searches q (TickOrRun.Run r) p w s e z =
     un-own q _ w (record { run = r; waker = s.waker; poll = s.poll })
-    (another q r (sym (ap (λ (y : TickOrRun). running_of q (op.Tick (tick_op.Search (record s { who = y })))) e) ∙ z))
+    (another q r (sym (ap (λ (y : TickOrRun). running_of q (Op.Tick (TickOp.Search (record s { who = y })))) e) ∙ z))
 
 un-make : (q : ℕ) (b : Bool) (w : World) → Untaken q w (of_sleepers.make_tick_by b w).world
 un-make q true w = refl
@@ -178,14 +142,14 @@ leave-same Awake w who = placed w (of_sleepers.leave_sleepers_by Awake w who).wo
 leave-same (Asleep n) w who = placed w (of_sleepers.leave_sleepers_by (Asleep n) w who).world who Left refl
 leave-same Left w who = same-runs w w refl
 
-un-tick : (q : ℕ) (p : ℕ) (h : Hint) (o : TickOp) (w : World) → running_of q (op.Tick o) ≡ 0 → Untaken q w (tick_act p h o w).world
-un-tick q p h tick_op.MakeTick w z = un-make q _ w
-un-tick q p h (tick_op.Search s) w z = un-searches q s.who p w s refl z
-un-tick q p h (tick_op.Look s look) w z = un-look-tick look q _ w _ s
-un-tick q p h (tick_op.CopyWaker s) w z = un-copy q _ w s
-un-tick q p h (tick_op.FallAsleep s) w z = un-sleep q _ w s
-un-tick q p h (tick_op.WakeUp who) w z = (side-same 0 h (op.Tick (tick_op.WakeUp who)) w refl).taken q
-un-tick q p h (tick_op.Leave who) w z = (leave-same _ w who).taken q
+un-tick : (q : ℕ) (p : ℕ) (h : Hint) (o : TickOp) (w : World) → running_of q (Op.Tick o) ≡ 0 → Untaken q w (tick_act p h o w).world
+un-tick q p h TickOp.MakeTick w z = un-make q _ w
+un-tick q p h (TickOp.Search s) w z = un-searches q s.who p w s refl z
+un-tick q p h (TickOp.Look s look) w z = un-look-tick look q _ w _ s
+un-tick q p h (TickOp.CopyWaker s) w z = un-copy q _ w s
+un-tick q p h (TickOp.FallAsleep s) w z = un-sleep q _ w s
+un-tick q p h (TickOp.WakeUp who) w z = (side-same 0 h (Op.Tick (TickOp.WakeUp who)) w refl).taken q
+un-tick q p h (TickOp.Leave who) w z = (leave-same _ w who).taken q
 
 -- what runs alone do
 
@@ -195,21 +159,21 @@ un-room q false w = refl
 
 un-wake : (q p : ℕ) (w : World) (a : Waker) → Untaken q w (runs.call_by_reference p w a).world
 un-wake q p w (Task g) =
-    by-runs q w (runs.call_by_reference p w (Task g)).world (runs-act p no_hint (op.Move move.WakeByReference g) w refl)
+    by-runs q w (runs.call_by_reference p w (Task g)).world (runs-act p no_hint (Op.Move Move.WakeByReference g) w refl)
 un-wake q p w (Outside y) = refl
 
 pub reschedule-same : (xs : List ℕ) (w : World) (r : ℕ) (a : Reply) → TakenSame w (runs.reschedule_by xs w r a).world
 reschedule-same [] w r a = same-runs w w refl
 reschedule-same (f ∷ rest) w r a = same-runs w _ refl
 
-un-of-run : (q p : ℕ) (h : Hint) (o : RunOp) (w : World) → running_of q (op.Run o) ≡ 0 → Untaken q w (run_act p h o w).world
-un-of-run q p h run_op.MakeRoom w z = un-room q _ w
-un-of-run q p h run_op.ReturnRoom w z = refl
-un-of-run q p h (run_op.TakeTurn x) w z = refl
-un-of-run q p h (run_op.SearchCommon x look) w z = un-common look q _ w x
-un-of-run q p h (run_op.LookOwn x at left) w z = un-look q _ w x at left (another q x.run z)
-un-of-run q p h (run_op.WakeOwn x) w z = un-wake q p (log w (event.WakerCalled p (of.Run x.run) x.poll x.waker)) x.waker
-un-of-run q p h (run_op.Reschedule r a) w z = (reschedule-same _ w r a).taken q
+un-of-run : (q p : ℕ) (h : Hint) (o : RunOp) (w : World) → running_of q (Op.Run o) ≡ 0 → Untaken q w (run_act p h o w).world
+un-of-run q p h RunOp.MakeRoom w z = un-room q _ w
+un-of-run q p h RunOp.ReturnRoom w z = refl
+un-of-run q p h (RunOp.TakeTurn x) w z = refl
+un-of-run q p h (RunOp.SearchCommon x look) w z = un-common look q _ w x
+un-of-run q p h (RunOp.LookOwn x at left) w z = un-look q _ w x at left (another q x.run z)
+un-of-run q p h (RunOp.WakeOwn x) w z = un-wake q p (log w (Event.WakerCalled p (Polled.Run x.run) x.poll x.waker)) x.waker
+un-of-run q p h (RunOp.Reschedule r a) w z = (reschedule-same _ w r a).taken q
 
 -- the list of queues
 
@@ -232,30 +196,30 @@ pub unregistered-same : (w : World) (r : ℕ) → TakenSame w (runs.unregistered
 unregistered-same w r = put-same w (runs.unregistered w r) r (record (run_of w r) { stage = Ended }) refl refl
 
 un-list : (q : ℕ) (h : Hint) (o : ListOp) (w : World) → Untaken q w (list_act h o w).world
-un-list q h (list_op.Write section.MakeRun) w = un-made q _ w
-un-list q h (list_op.Write (section.Register x)) w = (registered-same _ w x.run).taken q
-un-list q h (list_op.Write (section.Unregister r a)) w = (unregistered-same w r).taken q
-un-list q h (list_op.LockWrite s) w = refl
-un-list q h list_op.UnlockWrite w = refl
-un-list q h (list_op.LockRead x) w = refl
-un-list q h list_op.UnlockRead w = refl
+un-list q h (ListOp.Write Section.MakeRun) w = un-made q _ w
+un-list q h (ListOp.Write (Section.Register x)) w = (registered-same _ w x.run).taken q
+un-list q h (ListOp.Write (Section.Unregister r a)) w = (unregistered-same w r).taken q
+un-list q h (ListOp.LockWrite s) w = refl
+un-list q h ListOp.UnlockWrite w = refl
+un-list q h (ListOp.LockRead x) w = refl
+un-list q h ListOp.UnlockRead w = refl
 
 -- whatever is done that isn't run q's
 pub untaken : (q p : ℕ) (h : Hint) (o : Op) (w : World) → running_of q o ≡ 0 → Untaken q w (act p h o w).world
-untaken q p h (op.Tick o) w z = un-tick q p h o w z
-untaken q p h (op.List o) w z = un-list q h o w
-untaken q p h (op.Steal o) w z = un-steal q p o w z
-untaken q p h (op.Run o) w z = un-of-run q p h o w z
-untaken q p h (op.User (user_op.PollOwn x)) w z = refl
+untaken q p h (Op.Tick o) w z = un-tick q p h o w z
+untaken q p h (Op.List o) w z = un-list q h o w
+untaken q p h (Op.Steal o) w z = un-steal q p o w z
+untaken q p h (Op.Run o) w z = un-of-run q p h o w z
+untaken q p h (Op.User (UserOp.PollOwn x)) w z = refl
 untaken q p h o w z = by-runs q w (act p h o w).world (runs-act p h o w refl)
 
 -- and as a call begins
-pub untaken-begun : (q p : ℕ) (w : World) (o : Option Waker) (c : Call) → Untaken q w (begun p (log w (event.CallBegun p c)) o c).world
+pub untaken-begun : (q p : ℕ) (w : World) (o : Option Waker) (c : Call) → Untaken q w (begun p (log w (Event.CallBegun p c)) o c).world
 untaken-begun q p w o c = by (drops_run c) c refl
   where
-    by : (b : Bool) (c : Call) → drops_run c ≡ b → Untaken q w (begun p (log w (event.CallBegun p c)) o c).world
-    by false c e = by-runs q w (begun p (log w (event.CallBegun p c)) o c).world (runs-begun p (log w (event.CallBegun p c)) o c e)
-    by true (call.DropRun r) e =
-        (put-same w (begun p (log w (event.CallBegun p (call.DropRun r))) o (call.DropRun r)).world r
+    by : (b : Bool) (c : Call) → drops_run c ≡ b → Untaken q w (begun p (log w (Event.CallBegun p c)) o c).world
+    by false c e = by-runs q w (begun p (log w (Event.CallBegun p c)) o c).world (runs-begun p (log w (Event.CallBegun p c)) o c e)
+    by true (Call.DropRun r) e =
+        (put-same w (begun p (log w (Event.CallBegun p (Call.DropRun r))) o (Call.DropRun r)).world r
         (record (run_of w r) { dropped = true }) refl refl).taken q
     by true _ e = absurd (cc)

@@ -1,23 +1,15 @@
 -- For keepers_are_called.
 -- What the beginning of a call leaves of the own queues and of the runs that are over.
-use Rattle.std.proofs.Common.{◌≡◌, ◌≢◌, ◌∙◌, ℕ, zero, suc, ◌<◌, ◌≤◌, List, [], ◌∷◌, length, get_or, set}
-use Rattle.std.proofs.Common.{true, false, eqb, refl, sym, ap, subst, inl, inr, ⊎_elim, arith, get_or-set_other}
+use Rattle.std.proofs.Common.{◌≡◌, ◌≢◌, ◌∙◌, ℕ, zero, suc, ◌<◌, ◌≤◌, List, [], ◌∷◌, length, get_or, set, true, false, eqb, refl}
+use Rattle.std.proofs.Common.{sym, ap, subst, inl, inr, ⊎_elim, arith, get_or-set_other}
 use Rattle.std.specs.Prelude.{Option, Some, None}
-use Rattle.executor_model.specs.declared.call.Call.{Call}
-use Rattle.executor_model.specs.declared.call.Call.TheVariants as call
-use Rattle.executor_model.specs.declared.event.Event.TheVariants as event
-use Rattle.executor_model.specs.declared.op.Op.{Op}
-use Rattle.executor_model.specs.declared.op.RunPoll.{RunPoll}
-use Rattle.executor_model.specs.declared.op.Waker.{Waker}
-use Rattle.executor_model.specs.Sound.{times}
+use Rattle.executor_laws.proofs.Types.{Call, Event, Op, RunPoll, Waker}
 use Rattle.executor_model.specs.Steps.{begun, drop_run, future_of, kept, poll_run, with_future}
-use Rattle.executor_model.specs.Weights.{same, weigh}
 use Rattle.executor_model.specs.World.{World, Stage, New, Listed, Ended, Run, Done, done, log, no_run, put_run, run_of}
-use Rattle.executor_model.proofs.Steps.Lists.{same_cases}
-use Rattle.executor_model.proofs.OwnQueues.UsingWorlds.{count-set, is_past}
-use Rattle.executor_laws.proofs.Keepers.KeptTrace.{Parted, parted-dropped}
-use Rattle.executor_laws.proofs.Keepers.KeptWeights.{quits_of}
+use Rattle.executor_model.specs.{Sound.times, Weights.same, Weights.weigh}
+use Rattle.executor_model.proofs.{OwnQueues.UsingWorlds.count-set, OwnQueues.UsingWorlds.is_past, Steps.Lists.same_cases}
 use Rattle.executor_laws.proofs.Keepers.KeptLeads.{IsPast, Leads, steady}
+use Rattle.executor_laws.proofs.{Keepers.KeptTrace.Parted, Keepers.KeptTrace.parted-dropped, Keepers.KeptWeights.quits_of}
 
 -- the beginning of a call
 
@@ -51,8 +43,8 @@ quits-drop Ended q r = omega arith
 
 -- a run is dropped
 begins-drop : (s : Stage) (p : ℕ) (w : World) (q : ℕ) → q < length w.runs →
-    Leads w [] (done (log (put_run (log w (event.CallBegun p (call.DropRun q))) q
-    (record (run_of w q) { dropped = true })) (event.RunDropped p q)) (drop_run s q))
+    Leads w [] (done (log (put_run (log w (Event.CallBegun p (Call.DropRun q))) q
+    (record (run_of w q) { dropped = true })) (Event.RunDropped p q)) (drop_run s q))
 begins-drop s p w q l = record {
   count = omega (arith, same_count);
   past = λ r e. ⊎_elim
@@ -63,7 +55,7 @@ begins-drop s p w q l = record {
   fresh = λ r e. ⊎_elim
       (λ (x : (same r q ≡ 1) × (eqb r q ≡ true) × (r ≡ q)).
       inr (inr (subst (λ (n : ℕ). Parted n v.trace) (sym x.2)
-      (parted-dropped q p (log w (event.CallBegun p (call.DropRun q))).trace))))
+      (parted-dropped q p (log w (Event.CallBegun p (Call.DropRun q))).trace))))
       (λ (x : (same r q ≡ 0) × (eqb r q ≡ false) × (r ≢ q)).
       inl (omega (arith, e.0, same_count), sym (ap is_past (apart r x.2)) ∙ e.1))
       (same_cases r q);
@@ -76,8 +68,8 @@ begins-drop s p w q l = record {
 }
   where
     v : World
-    v = log (put_run (log w (event.CallBegun p (call.DropRun q))) q (record (run_of w q) { dropped = true }))
-        (event.RunDropped p q)
+    v = log (put_run (log w (Event.CallBegun p (Call.DropRun q))) q (record (run_of w q) { dropped = true }))
+        (Event.RunDropped p q)
 
     same_count : length v.runs ≡ length w.runs
     same_count = count-set w.runs q (record (run_of w q) { dropped = true })
@@ -90,29 +82,29 @@ begins-drop s p w q l = record {
 
 -- what the call needs: the run is there
 abbrev pub Drops : Call → World → Type 0
-Drops (call.DropRun q) w = q < length w.runs
+Drops (Call.DropRun q) w = q < length w.runs
 Drops _ w = Unit {0}
 
 pub keeps-begun : (p : ℕ) (w : World) (here : Option Waker) (c : Call) → Drops c w →
-    Leads w [] (begun p (log w (event.CallBegun p c)) here c)
-keeps-begun p w here (call.Wake n) k =
-    begins-with w (log w (event.CallBegun p (call.Wake n))) (kept w n) _ refl refl
+    Leads w [] (begun p (log w (Event.CallBegun p c)) here c)
+keeps-begun p w here (Call.Wake n) k =
+    begins-with w (log w (Event.CallBegun p (Call.Wake n))) (kept w n) _ refl refl
     (λ f. begins w _ _ refl refl (λ r. refl))
-keeps-begun p w here (call.WakeByRef n) k =
-    begins-with w (log w (event.CallBegun p (call.WakeByRef n))) (kept w n) _ refl refl
+keeps-begun p w here (Call.WakeByRef n) k =
+    begins-with w (log w (Event.CallBegun p (Call.WakeByRef n))) (kept w n) _ refl refl
     (λ f. begins w _ _ refl refl (λ r. refl))
-keeps-begun p w here (call.Copy n) k =
-    begins-with w (log w (event.CallBegun p (call.Copy n))) (kept w n) _ refl refl
+keeps-begun p w here (Call.Copy n) k =
+    begins-with w (log w (Event.CallBegun p (Call.Copy n))) (kept w n) _ refl refl
     (λ f. begins w _ _ refl refl (λ r. refl))
-keeps-begun p w here (call.DropWaker n) k =
-    begins-with w (log w (event.CallBegun p (call.DropWaker n))) (kept w n) _ refl refl
+keeps-begun p w here (Call.DropWaker n) k =
+    begins-with w (log w (Event.CallBegun p (Call.DropWaker n))) (kept w n) _ refl refl
     (λ f. begins w _ _ refl refl (λ r. refl))
-keeps-begun p w here call.Keep k =
-    begins-with w (log w (event.CallBegun p call.Keep)) (future_of here) _ refl refl
+keeps-begun p w here Call.Keep k =
+    begins-with w (log w (Event.CallBegun p Call.Keep)) (future_of here) _ refl refl
     (λ f. begins w _ _ refl refl (λ r. refl))
-keeps-begun p w here call.WakeSelf k =
-    begins-with w (log w (event.CallBegun p call.WakeSelf)) (future_of here) _ refl refl
+keeps-begun p w here Call.WakeSelf k =
+    begins-with w (log w (Event.CallBegun p Call.WakeSelf)) (future_of here) _ refl refl
     (λ f. begins w _ _ refl refl (λ r. refl))
-keeps-begun p w here (call.PollRun q b) k = begins-poll _ w _ _ refl refl
-keeps-begun p w here (call.DropRun q) k = begins-drop _ p w q k
+keeps-begun p w here (Call.PollRun q b) k = begins-poll _ w _ _ refl refl
+keeps-begun p w here (Call.DropRun q) k = begins-drop _ p w q k
 keeps-begun p w here _ k = begins w _ _ refl refl (λ r. refl)

@@ -1,121 +1,103 @@
 -- For keepers_are_called.
 -- Where a poll of a run is answered that its own future is ready, that comes after all that it kept.
-use Rattle.std.proofs.Common.{◌≡◌, ◌⊎◌, ◌∙◌, ℕ, zero, suc, ◌+◌, ◌<◌, ◌≤◌, List, [], ◌∷◌, ◌++◌, length, set, drop, take}
-use Rattle.std.proofs.Common.{Bool, true, false, cond, refl, sym, ap, subst, inl, inr, ⊎_elim, arith}
+use Rattle.std.proofs.Common.{◌≡◌, ◌⊎◌, ◌∙◌, ℕ, zero, suc, ◌+◌, ◌<◌, ◌≤◌, List, [], ◌∷◌, ◌++◌, length, set, drop, take, Bool}
+use Rattle.std.proofs.Common.{true, false, cond, refl, sym, ap, subst, inl, inr, ⊎_elim, arith}
 use Rattle.std.specs.Prelude.{Option, Some, count_by, reverse, slice_get}
-use Rattle.executor_model.specs.declared.call.Reply.{Reply}
-use Rattle.executor_model.specs.declared.call.Reply.TheVariants as reply
-use Rattle.executor_model.specs.declared.event.Event.{Event}
-use Rattle.executor_model.specs.declared.event.Event.TheVariants as event
-use Rattle.executor_model.specs.declared.op.Hold.{Hold}
-use Rattle.executor_model.specs.declared.op.Hold.TheVariants as hold
-use Rattle.executor_model.specs.declared.op.Op.{Op}
-use Rattle.executor_model.specs.declared.op.Op.TheVariants as op
-use Rattle.executor_model.specs.declared.op.TickOrRun.TheVariants as tick_or_run
 use Rattle.executor_model.specs.AwaiterKept.{EndsWith, since}
-use Rattle.executor_model.specs.Keeper.{AnswersReady}
-use Rattle.executor_model.specs.Quiet.{begins_call, ends_call}
-use Rattle.executor_model.specs.Steps.{Machine, stack}
-use Rattle.executor_model.specs.Trace.{Trace, has}
-use Rattle.executor_model.specs.Weights.{weigh_all}
-use Rattle.executor_model.specs.World.{Done, done, log}
-use Rattle.executor_model.proofs.Polls.AskingExecutions.{Heard}
+use Rattle.executor_model.specs.{Keeper.AnswersReady, Quiet.begins_call, Quiet.ends_call, Steps.Machine, Steps.stack}
+use Rattle.executor_model.specs.{Trace.Trace, Trace.has, Weights.weigh_all, World.Done, World.done, World.log}
 use Rattle.executor_model.proofs.Steps.Lift.{split, unsettled}
-use Rattle.executor_model.proofs.Steps.Lists.{weigh_all-push}
-use Rattle.executor_model.proofs.OwnQueues.OwnRooms.{Roomy}
-use Rattle.executor_laws.proofs.Keepers.KeptLeads.{IsPast}
-use Rattle.executor_laws.proofs.Keepers.KeptGrown.{Grown, grown-log}
+use Rattle.executor_model.proofs.{Polls.AskingExecutions.Heard, Steps.Lists.weigh_all-push, OwnQueues.OwnRooms.Roomy}
 use Rattle.executor_laws.proofs.Keepers.KeptTrace.{Parted, get-new, keeps-before, none-kept, get-either, parted-more}
-use Rattle.executor_laws.proofs.Keepers.KeptTrace.{since-length, since-old, get-within, take-old, get-old}
-use Rattle.executor_laws.proofs.Keepers.KeptWeights.{is_end_ready, load_of, quits_of, readies_held, readies_of}
-use Rattle.executor_laws.proofs.Wakeups.Stands.{asks_of}
-use Rattle.executor_laws.proofs.Wakeups.StandsAnswers.{IsLevel, level-from}
-use Rattle.executor_laws.proofs.Wakeups.StandsLast.{meets}
-use Rattle.executor_laws.proofs.Wakeups.StandsSteps.{Standing}
 use Rattle.executor_laws.proofs.Wakeups.StandsTelling.{Begun, LastPoll, begun-at, drops_it, has-later, last-poll, left-has}
+use Rattle.executor_laws.proofs.Keepers.KeptTrace.{since-length, since-old, get-within, take-old, get-old}
 use Rattle.executor_laws.proofs.Wakeups.StandsTelling.{polls_it, unasked-all}
-use Rattle.executor_laws.proofs.Wakeups.StandsWeights.{asks-all}
+use Rattle.executor_laws.proofs.Keepers.KeptWeights.{is_end_ready, load_of, quits_of, readies_held, readies_of}
 use Rattle.executor_laws.proofs.Wakeups.Watched.{Watched, poll_begun, watched, watched_from}
 use Rattle.executor_laws.proofs.Keepers.KeptHere.{Here, Keeping, gone-more, take-whole}
+use Rattle.executor_laws.proofs.Wakeups.StandsAnswers.{IsLevel, level-from}
+use Rattle.executor_laws.proofs.{Types.Reply, Types.Event, Types.Hold, Types.Op, Types.TickOrRun, Keepers.KeptLeads.IsPast}
+use Rattle.executor_laws.proofs.{Keepers.KeptGrown.Grown, Keepers.KeptGrown.grown-log, Wakeups.Stands.asks_of}
+use Rattle.executor_laws.proofs.{Wakeups.StandsLast.meets, Wakeups.StandsSteps.Standing, Wakeups.StandsWeights.asks-all}
 
 -- a call ends, which may be a poll of a run whose own future was ready
 
 module _ (s : Machine) (p : ℕ) (a : Reply) (held : Hold) (below : List Op) (l : p < length s.parties)
-    (e : stack s p ≡ below ++ reverse (op.End a held ∷ [])) (k : Keeping s) where
+    (e : stack s p ≡ below ++ reverse (Op.End a held ∷ [])) (k : Keeping s) where
   abbrev ended : Done
-  ended = done (log s.world (event.CallEnded p a)) []
+  ended = done (log s.world (Event.CallEnded p a)) []
 
   -- run r's poll ends so
-  module _ (r : ℕ) (ready : a ≡ reply.Ready) (of_it : 1 ≤ readies_held r held) where
-    asks : 1 ≤ asks_of (tick_or_run.Run r) (op.End a held)
-    asks = subst (λ (b : Reply). 1 ≤ asks_of (tick_or_run.Run r) (op.End b held)) (sym ready) (by held of_it)
+  module _ (r : ℕ) (ready : a ≡ Reply.Ready) (of_it : 1 ≤ readies_held r held) where
+    asks : 1 ≤ asks_of (TickOrRun.Run r) (Op.End a held)
+    asks = subst (λ (b : Reply). 1 ≤ asks_of (TickOrRun.Run r) (Op.End b held)) (sym ready) (by held of_it)
       where
-        by : (o : Hold) → 1 ≤ readies_held r o → 1 ≤ asks_of (tick_or_run.Run r) (op.End reply.Ready o)
-        by (hold.Run q) z = omega (arith, z)
-        by (hold.Tick q) z = absurd (omega (arith, z))
+        by : (o : Hold) → 1 ≤ readies_held r o → 1 ≤ asks_of (TickOrRun.Run r) (Op.End Reply.Ready o)
+        by (Hold.Run q) z = omega (arith, z)
+        by (Hold.Tick q) z = absurd (omega (arith, z))
         by _ z = absurd (omega (arith, z))
 
-    open_poll : ((watched (tick_or_run.Run r) s.world.trace).asking ≡ true)
-        × ((watched (tick_or_run.Run r) s.world.trace).party ≡ p) × ((watched (tick_or_run.Run r) s.world.trace).inner ≡ 0)
-    open_poll = (meets s p a held below l e k.standing (tick_or_run.Run r)).ended asks
+    open_poll : ((watched (TickOrRun.Run r) s.world.trace).asking ≡ true)
+        × ((watched (TickOrRun.Run r) s.world.trace).party ≡ p) × ((watched (TickOrRun.Run r) s.world.trace).inner ≡ 0)
+    open_poll = (meets s p a held below l e k.standing (TickOrRun.Run r)).ended asks
 
-    living : has (drops_it (tick_or_run.Run r)) s.world.trace ≡ false
-    living = sym (left-has (tick_or_run.Run r) s.world.trace) ∙ by (watched (tick_or_run.Run r) s.world.trace).left refl
+    living : has (drops_it (TickOrRun.Run r)) s.world.trace ≡ false
+    living = sym (left-has (TickOrRun.Run r) s.world.trace) ∙ by (watched (TickOrRun.Run r) s.world.trace).left refl
       where
-        by : (b : Bool) → (watched (tick_or_run.Run r) s.world.trace).left ≡ b → b ≡ false
+        by : (b : Bool) → (watched (TickOrRun.Run r) s.world.trace).left ≡ b → b ≡ false
         by false q = refl
         by true q = absurd (omega (
           arith,
-          ((k.standing.stands (tick_or_run.Run r)).parted q).2,
-          asks-all (tick_or_run.Run r) s.parties,
-          split (asks_of (tick_or_run.Run r)) s.parties p (op.End a held ∷ []) below l e,
+          ((k.standing.stands (TickOrRun.Run r)).parted q).2,
+          asks-all (TickOrRun.Run r) s.parties,
+          split (asks_of (TickOrRun.Run r)) s.parties p (Op.End a held ∷ []) below l e,
           asks,
         ))
 
-    last : LastPoll (tick_or_run.Run r) s.world.trace
+    last : LastPoll (TickOrRun.Run r) s.world.trace
     last = ⊎_elim
-        (λ (z : has (polls_it (tick_or_run.Run r)) s.world.trace ≡ false). absurd
-        (let no : true ≡ false = sym open_poll.0 ∙ unasked-all (tick_or_run.Run r) s.world.trace z in cc))
-        (λ (z : LastPoll (tick_or_run.Run r) s.world.trace). z)
-        (last-poll (tick_or_run.Run r) s.world.trace)
+        (λ (z : has (polls_it (TickOrRun.Run r)) s.world.trace ≡ false). absurd
+        (let no : true ≡ false = sym open_poll.0 ∙ unasked-all (TickOrRun.Run r) s.world.trace z in cc))
+        (λ (z : LastPoll (TickOrRun.Run r) s.world.trace). z)
+        (last-poll (TickOrRun.Run r) s.world.trace)
 
     since_it : (es : Trace) → drop (suc last.poll) es ≡ since last.poll es
     since_it es = ap (λ (n : ℕ). drop n es) (let z : suc last.poll ≡ last.poll + 1 = omega arith in z)
 
-    unpolled : has (polls_it (tick_or_run.Run r)) (since last.poll s.world.trace) ≡ false
-    unpolled = ap (has (polls_it (tick_or_run.Run r))) (sym (since_it s.world.trace)) ∙ last.last
+    unpolled : has (polls_it (TickOrRun.Run r)) (since last.poll s.world.trace) ≡ false
+    unpolled = ap (has (polls_it (TickOrRun.Run r))) (sym (since_it s.world.trace)) ∙ last.last
 
-    begun_there : Begun (tick_or_run.Run r) last.poll last.party s.world.trace
-    begun_there = begun-at (tick_or_run.Run r) last.poll last.party s.world.trace last.polled
+    begun_there : Begun (TickOrRun.Run r) last.poll last.party s.world.trace
+    begun_there = begun-at (TickOrRun.Run r) last.poll last.party s.world.trace last.polled
 
-    all : watched (tick_or_run.Run r) s.world.trace
-        ≡ watched_from (tick_or_run.Run r) (suc last.poll) (poll_begun last.poll last.party begun_there.before)
+    all : watched (TickOrRun.Run r) s.world.trace
+        ≡ watched_from (TickOrRun.Run r) (suc last.poll) (poll_begun last.poll last.party begun_there.before)
         (since last.poll s.world.trace)
-    all = begun_there.all ∙ ap (watched_from (tick_or_run.Run r) (suc last.poll)
+    all = begun_there.all ∙ ap (watched_from (TickOrRun.Run r) (suc last.poll)
         (poll_begun last.poll last.party begun_there.before)) (since_it s.world.trace)
 
-    level : IsLevel last.party 0 (since last.poll s.world.trace) (watched (tick_or_run.Run r) s.world.trace)
+    level : IsLevel last.party 0 (since last.poll s.world.trace) (watched (TickOrRun.Run r) s.world.trace)
     level = subst (IsLevel last.party 0 (since last.poll s.world.trace)) (sym all)
-        (level-from (tick_or_run.Run r) last.party (suc last.poll) (poll_begun last.poll last.party begun_there.before)
+        (level-from (TickOrRun.Run r) last.party (suc last.poll) (poll_begun last.poll last.party begun_there.before)
         (since last.poll s.world.trace) unpolled
-        (has-later (drops_it (tick_or_run.Run r)) (last.poll + 1) s.world.trace living) refl refl
+        (has-later (drops_it (TickOrRun.Run r)) (last.poll + 1) s.world.trace living) refl refl
         (sym (ap (λ (w : Watched). w.asking) all) ∙ open_poll.0))
 
     same_party : last.party ≡ p
     same_party = sym level.party ∙ open_poll.1
 
     within : last.poll < length s.world.trace
-    within = get-within s.world.trace last.poll (event.RunPolled last.party r) last.polled
+    within = get-within s.world.trace last.poll (Event.RunPolled last.party r) last.polled
 
-    after_it : since last.poll (s.world.trace ++ event.CallEnded p a ∷ [])
-        ≡ since last.poll s.world.trace ++ event.CallEnded p a ∷ []
-    after_it = since-old s.world.trace (event.CallEnded p a ∷ []) last.poll within
+    after_it : since last.poll (s.world.trace ++ Event.CallEnded p a ∷ [])
+        ≡ since last.poll s.world.trace ++ Event.CallEnded p a ∷ []
+    after_it = since-old s.world.trace (Event.CallEnded p a ∷ []) last.poll within
 
-    ends : EndsWith last.party reply.Ready (since last.poll s.world.trace ++ event.CallEnded p a ∷ [])
+    ends : EndsWith last.party Reply.Ready (since last.poll s.world.trace ++ Event.CallEnded p a ∷ [])
     ends = record {
       place = length (since last.poll s.world.trace);
-      here = get-new (since last.poll s.world.trace) (event.CallEnded p a)
-          ∙ (λ i. let o : Option Event = Some (event.CallEnded (sym same_party i) (ready i)) in o);
+      here = get-new (since last.poll s.world.trace) (Event.CallEnded p a)
+          ∙ (λ i. let o : Option Event = Some (Event.CallEnded (sym same_party i) (ready i)) in o);
       inner = ap (count_by (ends_call last.party)) (whole (since last.poll s.world.trace))
           ∙ (omega (arith, level.level, open_poll.2)
           ∙ sym (ap (count_by (begins_call last.party)) (whole (since last.poll s.world.trace))));
@@ -123,16 +105,16 @@ module _ (s : Machine) (p : ℕ) (a : Reply) (held : Hold) (below : List Op) (l 
         arith,
         level.first n z,
         ap (count_by (ends_call last.party))
-            (take-old (since last.poll s.world.trace) (event.CallEnded p a ∷ []) n z),
+            (take-old (since last.poll s.world.trace) (Event.CallEnded p a ∷ []) n z),
         ap (count_by (begins_call last.party))
-            (take-old (since last.poll s.world.trace) (event.CallEnded p a ∷ []) n z),
+            (take-old (since last.poll s.world.trace) (Event.CallEnded p a ∷ []) n z),
       );
     }
       where
-        whole : (es : Trace) → take (length es) (es ++ event.CallEnded p a ∷ []) ≡ es
-        whole es = take-old es (event.CallEnded p a ∷ []) (length es) (omega arith) ∙ take-whole es
+        whole : (es : Trace) → take (length es) (es ++ Event.CallEnded p a ∷ []) ≡ es
+        whole es = take-old es (Event.CallEnded p a ∷ []) (length es) (omega arith) ∙ take-whole es
 
-    ends-then : EndsWith last.party reply.Ready (since last.poll ended.world.trace)
+    ends-then : EndsWith last.party Reply.Ready (since last.poll ended.world.trace)
     unfolding ends
     ends-then = record {
       place = length (since last.poll s.world.trace);
@@ -155,7 +137,7 @@ module _ (s : Machine) (p : ℕ) (a : Reply) (held : Hold) (below : List Op) (l 
     answers place z = record {
       party = last.party;
       poll = last.poll;
-      polled = get-old s.world.trace (event.CallEnded p a ∷ []) last.poll within ∙ last.polled;
+      polled = get-old s.world.trace (Event.CallEnded p a ∷ []) last.poll within ∙ last.polled;
       ready = ends-then;
       later = omega (arith, z, since-length s.world.trace last.poll within);
     }
@@ -164,37 +146,28 @@ module _ (s : Machine) (p : ℕ) (a : Reply) (held : Hold) (below : List Op) (l 
     parted-ready = record {
       since_then = λ place q f z. ⊎_elim
           (λ (y : place < length s.world.trace). inr (answers place y))
-          (λ (y : (n : ℕ) × (slice_get (event.CallEnded p a ∷ []) n ≡ Some (event.Kept q f r))). absurd
-          (none-kept r (event.CallEnded p a ∷ []) refl y.0 q f y.1))
-          (get-either s.world.trace (event.CallEnded p a ∷ []) place (event.Kept q f r) z);
+          (λ (y : (n : ℕ) × (slice_get (Event.CallEnded p a ∷ []) n ≡ Some (Event.Kept q f r))). absurd
+          (none-kept r (Event.CallEnded p a ∷ []) refl y.0 q f y.1))
+          (get-either s.world.trace (Event.CallEnded p a ∷ []) place (Event.Kept q f r) z);
     }
 
   grown : Grown s.world ended.world
-  grown = grown-log s.world ended.world (event.CallEnded p a) refl refl
+  grown = grown-log s.world ended.world (Event.CallEnded p a) refl refl
 
   still : (v : Op → ℕ) → weigh_all v s.parties
-      ≡ v (op.End a held) + weigh_all v (set s.parties p (below ++ reverse []))
-  still v = omega (
-    arith,
-    split v s.parties p (op.End a held ∷ []) below l e,
-    weigh_all-push v s.parties p below [] l,
-  )
+      ≡ v (Op.End a held) + weigh_all v (set s.parties p (below ++ reverse []))
+  still v = omega (arith, split v s.parties p (Op.End a held ∷ []) below l e, weigh_all-push v s.parties p below [] l)
 
   parted-ends : (r : ℕ) → IsPast s.world r → Parted r ended.world.trace
       ⊎ (1 ≤ weigh_all (readies_of r) (set s.parties p (below ++ reverse [])))
   parted-ends r z = ⊎_elim
-      (λ (y : Parted r s.world.trace). inl (parted-more r s.world.trace (event.CallEnded p a ∷ [])
-      (none-kept r (event.CallEnded p a ∷ []) refl) y))
-      (λ (y : 1 ≤ weigh_all (readies_of r) s.parties). by (is_end_ready a) refl (omega (
-        arith,
-        y,
-        still
-            (readies_of r),
-      )))
+      (λ (y : Parted r s.world.trace). inl (parted-more r s.world.trace (Event.CallEnded p a ∷ [])
+      (none-kept r (Event.CallEnded p a ∷ []) refl) y))
+      (λ (y : 1 ≤ weigh_all (readies_of r) s.parties). by (is_end_ready a) refl (omega (arith, y, still (readies_of r))))
       (k.parted r z)
     where
-      ready-is : (b : Reply) → is_end_ready b ≡ true → b ≡ reply.Ready
-      ready-is reply.Ready q = refl
+      ready-is : (b : Reply) → is_end_ready b ≡ true → b ≡ Reply.Ready
+      ready-is Reply.Ready q = refl
       ready-is _ q = absurd (cc)
 
       split-up : (n m : ℕ) → 1 ≤ n + m → (1 ≤ n) ⊎ (1 ≤ m)
@@ -221,11 +194,11 @@ module _ (s : Machine) (p : ℕ) (a : Reply) (held : Hold) (below : List Op) (l 
     leaves = λ r i. k.leaves r (omega (arith, i, still (quits_of r)));
     parted = parted-ends;
     keeps = λ f r place i. (let j : _ = k.keeps f r place (keeps-before f r place s.world.trace
-        (event.CallEnded p a ∷ []) refl i) in (j.0, on f r j.1));
+        (Event.CallEnded p a ∷ []) refl i) in (j.0, on f r j.1));
   }
     where
       on : (f r : ℕ) → Here f r s.world (weigh_all (load_of f) s.parties) →
           Here f r ended.world (weigh_all (load_of f) (set s.parties p (below ++ reverse [])))
       on f r (inl q) = inl (omega (arith, q, still (load_of f)))
-      on f r (inr (inl q)) = inr (inl (gone-more f s.world ended.world (event.CallEnded p a ∷ []) refl q))
+      on f r (inr (inl q)) = inr (inl (gone-more f s.world ended.world (Event.CallEnded p a ∷ []) refl q))
       on f r (inr (inr q)) = inr (inr q)

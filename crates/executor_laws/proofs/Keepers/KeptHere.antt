@@ -1,27 +1,18 @@
 -- For keepers_are_called.
 -- Where a future is that a run kept last, and what each step leaves of that where nothing is polled and nothing
 -- comes into an own queue.
-use Rattle.std.proofs.Common.{◌≡◌, ◌≢◌, ◌⊎◌, ◌∙◌, ℕ, ◌+◌, ◌<◌, ◌≤◌, List, [], ◌∷◌, ◌++◌, length, set, take}
-use Rattle.std.proofs.Common.{refl, sym, ap, subst, inl, inr, ⊎_elim, arith}
+use Rattle.std.proofs.Common.{◌≡◌, ◌≢◌, ◌⊎◌, ◌∙◌, ℕ, ◌+◌, ◌<◌, ◌≤◌, List, [], ◌∷◌, ◌++◌, length, set, take, refl, sym, ap}
+use Rattle.std.proofs.Common.{subst, inl, inr, ⊎_elim, arith}
 use Rattle.std.specs.Prelude.{Some, reverse, slice_get}
-use Rattle.executor_model.specs.declared.event.Event.TheVariants as event
-use Rattle.executor_model.specs.declared.op.Op.{Op}
-use Rattle.executor_model.specs.Sound.{times}
-use Rattle.executor_model.specs.Steps.{Machine, stack}
-use Rattle.executor_model.specs.Trace.{Trace, has}
-use Rattle.executor_model.specs.Weights.{weigh, weigh_all}
-use Rattle.executor_model.specs.World.{World, Done, own_of}
-use Rattle.executor_model.proofs.Polls.AskingExecutions.{Heard}
+use Rattle.executor_model.specs.{Sound.times, Steps.Machine, Steps.stack, Trace.Trace, Trace.has, Weights.weigh}
+use Rattle.executor_model.specs.{Weights.weigh_all, World.World, World.Done, World.own_of}
 use Rattle.executor_model.proofs.Steps.Lift.{split, unsettled}
-use Rattle.executor_model.proofs.Steps.Lists.{weigh_all-push}
-use Rattle.executor_model.proofs.OwnQueues.OwnRooms.{Roomy}
-use Rattle.executor_model.proofs.Polls.Dueness.{is_last}
-use Rattle.executor_model.proofs.Steps.Tests.{or-left}
+use Rattle.executor_model.proofs.{Polls.AskingExecutions.Heard, Steps.Lists.weigh_all-push, OwnQueues.OwnRooms.Roomy}
+use Rattle.executor_model.proofs.{Polls.Dueness.is_last, Steps.Tests.or-left}
 use Rattle.executor_laws.proofs.Keepers.KeptLeads.{Gone, IsPast, Leads}
-use Rattle.executor_laws.proofs.Keepers.KeptGrown.{Grown}
 use Rattle.executor_laws.proofs.Keepers.KeptTrace.{Keeps, Parted, has-both, keeps-before, none-kept, parted-more}
 use Rattle.executor_laws.proofs.Keepers.KeptWeights.{load_of, quits_of, readies_of}
-use Rattle.executor_laws.proofs.Wakeups.StandsSteps.{Standing}
+use Rattle.executor_laws.proofs.{Types.Event, Types.Op, Keepers.KeptGrown.Grown, Wakeups.StandsSteps.Standing}
 
 -- it is where it was kept, or on its way, or gone, or the run is over
 abbrev pub Here : ℕ → ℕ → World → ℕ → Type 0
@@ -68,7 +59,7 @@ module _ (s : Machine) (p : ℕ) (old rest : List Op) (d : Done) (l : p < length
         (c.quits r)
 
     parted-on : (more : Trace) → d.world.trace ≡ s.world.trace ++ more →
-        ((r : ℕ) → IsPast s.world r → (n q f : ℕ) → slice_get more n ≢ Some (event.Kept q f r)) → (r : ℕ) →
+        ((r : ℕ) → IsPast s.world r → (n q f : ℕ) → slice_get more n ≢ Some (Event.Kept q f r)) → (r : ℕ) →
         IsPast d.world r → Parted r d.world.trace ⊎ (1 ≤ weigh_all (readies_of r) after)
     parted-on more i none r z = by (c.fresh r z)
       where

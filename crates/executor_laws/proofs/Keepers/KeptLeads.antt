@@ -1,28 +1,16 @@
 -- For keepers_are_called.
 -- What a thing to do may leave of the own queues, of who has a kept future in hand, and of the runs that are over.
-use Rattle.std.proofs.Common.{◌≡◌, ◌≢◌, ◌⊎◌, ◌∙◌, ℕ, ◌+◌, ◌<◌, ◌≤◌, List, [], ◌∷◌, ◌++◌, length, get_or, Bool, true}
-use Rattle.std.proofs.Common.{false, ◌||◌, eqb, refl, sym, ap, subst, inl, inr, ⊎_elim, arith}
-use Rattle.std.proofs.lemmas.Bool.Decides.{nat_tests}
-use Rattle.std.specs.Prelude.{not, nat_lt}
-use Rattle.executor_model.specs.declared.event.Event.TheVariants as event
-use Rattle.executor_model.specs.declared.op.Op.{Op}
-use Rattle.executor_model.specs.declared.op.Op.TheVariants as op
-use Rattle.executor_model.specs.declared.op.TickOrRun.{TickOrRun}
-use Rattle.executor_model.specs.declared.op.TickOrRun.TheVariants as tick_or_run
-use Rattle.executor_model.specs.declared.op.UserOp.TheVariants as user_op
-use Rattle.executor_model.specs.declared.step.Hint.{Hint}
-use Rattle.executor_model.specs.Doing.{act}
-use Rattle.executor_model.specs.Sound.{times}
-use Rattle.executor_model.specs.Trace.{Trace, has}
-use Rattle.executor_model.specs.Weights.{same, weigh}
+use Rattle.std.proofs.Common.{◌≡◌, ◌≢◌, ◌⊎◌, ◌∙◌, ℕ, ◌+◌, ◌<◌, ◌≤◌, List, [], ◌∷◌, ◌++◌, length, get_or, Bool, true, false}
+use Rattle.std.proofs.Common.{◌||◌, eqb, refl, sym, ap, subst, inl, inr, ⊎_elim, arith}
+use Rattle.std.{proofs.lemmas.Bool.Decides.nat_tests, specs.Prelude.not, specs.Prelude.nat_lt}
 use Rattle.executor_model.specs.World.{World, Done, own_of, run_of}
-use Rattle.executor_model.proofs.Steps.Lists.{same_cases}
-use Rattle.executor_model.proofs.OwnQueues.Using.{is_for_runs, mild-next}
+use Rattle.executor_model.specs.{Doing.act, Sound.times, Trace.Trace, Trace.has, Weights.same, Weights.weigh}
 use Rattle.executor_model.proofs.OwnQueues.UsingWorlds.{Idle, idle-act, is_past}
-use Rattle.executor_model.proofs.Polls.Dueness.{is_last}
+use Rattle.executor_model.proofs.OwnQueues.Using.{is_for_runs, mild-next}
+use Rattle.executor_model.proofs.{Steps.Lists.same_cases, Polls.Dueness.is_last}
 use Rattle.executor_laws.proofs.Keepers.KeptTrace.{Parted, has-both, or-true}
 use Rattle.executor_laws.proofs.Keepers.KeptWeights.{load_of, mild-quits, quits_of, readies_of}
-use Rattle.executor_laws.proofs.Wakeups.StandsSeats.{Seated}
+use Rattle.executor_laws.proofs.{Types.Event, Types.Op, Types.TickOrRun, Types.UserOp, Types.Hint, Wakeups.StandsSeats.Seated}
 
 -- future f was ready or dropped
 abbrev pub Gone : ℕ → Trace → Type 0
@@ -57,8 +45,8 @@ not-same false true e = absurd (cc)
 
 pub past-seated : (w v : World) → ((t : TickOrRun) → Seated t w v) → (r : ℕ) → is_past (run_of v r) ≡ is_past (run_of w r)
 past-seated w v s r =
-    let d : (run_of v r).dropped ≡ (run_of w r).dropped = not-same _ _ (s (tick_or_run.Run r)).lives in
-    λ i. d i || (s (tick_or_run.Run r)).over i
+    let d : (run_of v r).dropped ≡ (run_of w r).dropped = not-same _ _ (s (TickOrRun.Run r)).lives in
+    λ i. d i || (s (TickOrRun.Run r)).over i
 
 pub count-made : (n m : ℕ) → nat_lt n n ≡ nat_lt n m → m ≤ n
 count-made n m e = grind (arith, nat_tests)
@@ -66,8 +54,8 @@ count-made n m e = grind (arith, nat_tests)
 pub count-seated : (w v : World) → ((t : TickOrRun) → Seated t w v) → length v.runs ≡ length w.runs
 count-seated w v s = omega (
   arith,
-  count-made (length v.runs) (length w.runs) (s (tick_or_run.Run (length v.runs))).made,
-  count-made (length w.runs) (length v.runs) (sym (s (tick_or_run.Run (length w.runs))).made),
+  count-made (length v.runs) (length w.runs) (s (TickOrRun.Run (length v.runs))).made,
+  count-made (length w.runs) (length v.runs) (sym (s (TickOrRun.Run (length w.runs))).made),
 )
 
 pub steady : (w : World) (old : List Op) (d : Done) → ((r : ℕ) → is_past (run_of d.world r) ≡ is_past (run_of w r)) →
@@ -93,18 +81,18 @@ of-idle w old d i z q l = steady w old d i.past i.count z q
 -- what uses no run
 
 plain-readies : (r : ℕ) (o : Op) → is_for_runs o ≡ false → readies_of r o ≡ 0
-plain-readies r (op.Run o) e = absurd (cc)
-plain-readies r (op.End a held) e = absurd (cc)
+plain-readies r (Op.Run o) e = absurd (cc)
+plain-readies r (Op.End a held) e = absurd (cc)
 plain-readies r _ e = refl
 
-gone-now : (f : ℕ) (p : ℕ) (es : Trace) → Gone f (es ++ event.Dropped p f ∷ [])
-gone-now f p es = has-both (is_last f) es (event.Dropped p f ∷ [])
+gone-now : (f : ℕ) (p : ℕ) (es : Trace) → Gone f (es ++ Event.Dropped p f ∷ [])
+gone-now f p es = has-both (is_last f) es (Event.Dropped p f ∷ [])
     ∙ (ap (λ (b : Bool). has (is_last f) es || (b || false)) (let z : eqb f f ≡ true = grind (arith, nat_tests) in z)
     ∙ or-true (has (is_last f) es))
 
 -- the drop of a future begins
 pub keeps-drop : (p : ℕ) (h : Hint) (g : ℕ) (w : World) →
-    Leads w (op.User (user_op.BeginDrop g) ∷ []) (act p h (op.User (user_op.BeginDrop g)) w)
+    Leads w (Op.User (UserOp.BeginDrop g) ∷ []) (act p h (Op.User (UserOp.BeginDrop g)) w)
 keeps-drop p h g w = record {
   count = omega arith;
   past = λ r e. e;
@@ -113,7 +101,7 @@ keeps-drop p h g w = record {
   quits = λ r. inl (omega arith);
   load = λ f r. ⊎_elim
       (λ (x : (same f g ≡ 1) × (eqb f g ≡ true) × (f ≡ g)).
-      inr (inl (subst (λ (n : ℕ). Gone f (w.trace ++ event.Dropped p n ∷ [])) x.2 (gone-now f p w.trace))))
+      inr (inl (subst (λ (n : ℕ). Gone f (w.trace ++ Event.Dropped p n ∷ [])) x.2 (gone-now f p w.trace))))
       (λ (x : (same f g ≡ 0) × (eqb f g ≡ false) × (f ≢ g)). inl (omega (arith, x.0)))
       (same_cases f g);
 }

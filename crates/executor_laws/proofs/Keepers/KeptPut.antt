@@ -1,39 +1,24 @@
 -- For keepers_are_called.
 -- Where a steal puts a future into an own queue, the run that steals keeps it.
-use Rattle.std.proofs.Common.{◌≡◌, ◌≢◌, ◌∙◌, ℕ, zero, suc, ◌+◌, ◌<◌, ◌≤◌, List, [], ◌∷◌, ◌++◌, length, get_or, set}
-use Rattle.std.proofs.Common.{Bool, true, false, ◌||◌, not, cond, eqb, refl, sym, ap, subst, inl, inr, ⊎_elim, arith}
-use Rattle.std.proofs.lemmas.Bool.Decides.{nat_tests}
-use Rattle.std.specs.Prelude.{nat_lt, reverse}
-use Rattle.executor_model.specs.declared.event.Event.TheVariants as event
-use Rattle.executor_model.specs.declared.op.Op.{Op}
-use Rattle.executor_model.specs.declared.op.Op.TheVariants as op
-use Rattle.executor_model.specs.declared.op.Steal.{Steal}
-use Rattle.executor_model.specs.declared.op.StealOp.TheVariants as steal_op
-use Rattle.executor_model.specs.declared.step.Hint.{Hint}
-use Rattle.executor_model.specs.ActsOfRuns as runs
-use Rattle.executor_model.specs.Doing.{act}
-use Rattle.executor_model.specs.OwnQueues.{filling_of}
-use Rattle.executor_model.specs.Rows.{then_waiting}
-use Rattle.executor_model.specs.Sound.{times}
-use Rattle.executor_model.specs.Steps.{Machine, stack}
+use Rattle.std.proofs.Common.{◌≡◌, ◌≢◌, ◌∙◌, ℕ, zero, suc, ◌+◌, ◌<◌, ◌≤◌, List, [], ◌∷◌, ◌++◌, length, get_or, set, Bool, true}
+use Rattle.std.proofs.Common.{false, ◌||◌, not, cond, eqb, refl, sym, ap, subst, inl, inr, ⊎_elim, arith}
+use Rattle.std.{proofs.lemmas.Bool.Decides.nat_tests, specs.Prelude.nat_lt, specs.Prelude.reverse}
+use Rattle.executor_laws.proofs.Types.{Event, Op, Steal, StealOp, Hint}
 use Rattle.executor_model.specs.Weights.{same, weigh, weigh_all}
 use Rattle.executor_model.specs.World.{World, Done, own_of, run_of}
-use Rattle.executor_model.proofs.Polls.AskingExecutions.{Heard}
-use Rattle.executor_model.proofs.Steps.Lift.{split, unsettled}
+use Rattle.executor_model.specs.{Doing.act, OwnQueues.filling_of, Rows.then_waiting, Sound.times, Steps.Machine, Steps.stack}
 use Rattle.executor_model.proofs.Steps.Lists.{same_cases, same_is, weigh_all-push, times-append}
-use Rattle.executor_model.proofs.OwnQueues.OwnRooms.{Roomy}
-use Rattle.executor_model.proofs.OwnQueues.Using.{polling_of}
-use Rattle.executor_model.proofs.Steps.RunsMoves.{same-stolen}
 use Rattle.executor_model.proofs.OwnQueues.UsingWorlds.{is_over_stage, is_past}
+use Rattle.executor_model.proofs.{Polls.AskingExecutions.Heard, Steps.Lift.split, Steps.Lift.unsettled}
+use Rattle.executor_model.proofs.{OwnQueues.OwnRooms.Roomy, OwnQueues.Using.polling_of, Steps.RunsMoves.same-stolen}
 use Rattle.executor_laws.proofs.Keepers.KeptLeads.{IsPast, count-seated, past-seated}
 use Rattle.executor_laws.proofs.Keepers.KeptSearch.{load-more, quits-more}
 use Rattle.executor_laws.proofs.Keepers.KeptTrace.{Keeps, Kept, Parted, keeps-one, one-other, parted-more}
-use Rattle.executor_laws.proofs.Keepers.KeptTrace.Kept.{now, before}
 use Rattle.executor_laws.proofs.Keepers.KeptWeights.{load_of, quits_of, readies_of}
-use Rattle.executor_laws.proofs.Wakeups.StandsSteps.{Standing}
-use Rattle.executor_laws.proofs.Wakeups.StandsRuns.{Calm, walks-more}
-use Rattle.executor_laws.proofs.Wakeups.StandsUses.{run-there}
 use Rattle.executor_laws.proofs.Keepers.KeptHere.{Here, Keeping, gone-more}
+use Rattle.executor_laws.proofs.{Keepers.KeptTrace.Kept.now, Keepers.KeptTrace.Kept.before, Wakeups.StandsSteps.Standing}
+use Rattle.executor_laws.proofs.{Wakeups.StandsRuns.Calm, Wakeups.StandsRuns.walks-more, Wakeups.StandsUses.run-there}
+use Rattle.executor_model.specs.ActsOfRuns as runs
 
 -- one comes into the own queue of the run that steals
 
@@ -67,19 +52,19 @@ free-there w r z = by (nat_lt r (length w.own)) refl
     by false e = absurd (omega (arith, z, ap (λ (c : Bool). let n : ℕ = cond c 512 0 in n) e))
 
 pub has-free : (s : Machine) (p : ℕ) (rest : List Op) (x : Steal) (more g : ℕ) → p < length s.parties →
-    stack s p ≡ rest ++ reverse (op.Steal (steal_op.Put x more g) ∷ []) → Roomy s →
+    stack s p ≡ rest ++ reverse (Op.Steal (StealOp.Put x more g) ∷ []) → Roomy s →
     1 ≤ runs.free_places s.world x.poll.run
 has-free s p rest x more g l e k =
     let self : eqb x.poll.run x.poll.run ≡ true = grind (arith, nat_tests) in
     omega (
       arith,
       k x.poll.run,
-      split (filling_of x.poll.run) s.parties p (op.Steal (steal_op.Put x more g) ∷ []) rest l e,
+      split (filling_of x.poll.run) s.parties p (Op.Steal (StealOp.Put x more g) ∷ []) rest l e,
       ap (λ (b : Bool). cond b (more + 1) 0) self,
     )
 
 module _ (s : Machine) (p : ℕ) (x : Steal) (more g : ℕ) (rest : List Op) (h : Hint) (l : p < length s.parties)
-    (e : stack s p ≡ rest ++ reverse (op.Steal (steal_op.Put x more g) ∷ [])) (k : Keeping s) where
+    (e : stack s p ≡ rest ++ reverse (Op.Steal (StealOp.Put x more g) ∷ [])) (k : Keeping s) where
   abbrev kept : World
   kept = runs.kept_by p s.world x.poll.run g
 
@@ -92,7 +77,7 @@ module _ (s : Machine) (p : ℕ) (x : Steal) (more g : ℕ) (rest : List Op) (h 
   calm : Calm kept put.world
   calm = (walks-more more kept x).calm
 
-  trace : put.world.trace ≡ s.world.trace ++ event.Kept p g x.poll.run ∷ []
+  trace : put.world.trace ≡ s.world.trace ++ Event.Kept p g x.poll.run ∷ []
   trace = by-trace more kept x
     where
       by-trace : (n : ℕ) (w : World) (y : Steal) → (runs.steal_by n w y).world.trace ≡ w.trace
@@ -115,16 +100,16 @@ module _ (s : Machine) (p : ℕ) (x : Steal) (more g : ℕ) (rest : List Op) (h 
   alive : is_past (run_of s.world x.poll.run) ≡ false
   alive = (k.standing.used x.poll.run).polled (omega (
     arith,
-    split (polling_of x.poll.run) s.parties p (op.Steal (steal_op.Put x more g) ∷ []) rest l e,
+    split (polling_of x.poll.run) s.parties p (Op.Steal (StealOp.Put x more g) ∷ []) rest l e,
     (let one : same x.poll.run x.poll.run ≡ 1 = grind (arith, same_is) in one),
   ))
 
   keeps-put : (f r place : ℕ) → Keeps f r place put.world.trace →
       (r < length put.world.runs) × Here f r put.world (weigh_all (load_of f) then_so.parties)
-  keeps-put f r place y = on (keeps-one f r place s.world.trace (event.Kept p g x.poll.run)
+  keeps-put f r place y = on (keeps-one f r place s.world.trace (Event.Kept p g x.poll.run)
       (subst (Keeps f r place) trace y))
     where
-      on : Kept f r place s.world.trace (event.Kept p g x.poll.run) →
+      on : Kept f r place s.world.trace (Event.Kept p g x.poll.run) →
           (r < length put.world.runs) × Here f r put.world (weigh_all (load_of f) then_so.parties)
       on (now n i) =
           let a : g ≡ f = cc in
@@ -156,10 +141,10 @@ module _ (s : Machine) (p : ℕ) (x : Steal) (more g : ℕ) (rest : List Op) (h 
             apart,
             own f r,
             times-grown f r x.poll.run g s.world.own,
-            split (load_of f) s.parties p (op.Steal (steal_op.Put x more g) ∷ []) rest l e,
+            split (load_of f) s.parties p (Op.Steal (StealOp.Put x more g) ∷ []) rest l e,
             weigh_all-push (load_of f) s.parties p rest put.next l,
           ))
-          by (inr (inl q)) = inr (inl (gone-more f s.world put.world (event.Kept p g x.poll.run ∷ []) trace q))
+          by (inr (inl q)) = inr (inl (gone-more f s.world put.world (Event.Kept p g x.poll.run ∷ []) trace q))
           by (inr (inr q)) = inr (inr (omega (arith, q.0, count-put), past-put r ∙ q.1))
 
   pub keeping-put : Standing then_so → Heard then_so → Roomy then_so → Keeping then_so
@@ -171,19 +156,19 @@ module _ (s : Machine) (p : ℕ) (x : Steal) (more g : ℕ) (rest : List Op) (h 
       arith,
       z,
       quits-more more kept x r,
-      split (quits_of r) s.parties p (op.Steal (steal_op.Put x more g) ∷ []) rest l e,
+      split (quits_of r) s.parties p (Op.Steal (StealOp.Put x more g) ∷ []) rest l e,
       weigh_all-push (quits_of r) s.parties p rest put.next l,
     )) in (omega (arith, w.0, count-put), past-put r ∙ w.1));
     parted = λ r z. (let w : is_past (run_of s.world r) ≡ true = sym (past-put r) ∙ z.1 in
         ⊎_elim
         (λ (y : Parted r s.world.trace). inl (subst (Parted r) (sym trace)
-        (parted-more r s.world.trace (event.Kept p g x.poll.run ∷ [])
-        (one-other r (event.Kept p g x.poll.run) (λ m f q. (let i : x.poll.run ≡ r = cc in
+        (parted-more r s.world.trace (Event.Kept p g x.poll.run ∷ [])
+        (one-other r (Event.Kept p g x.poll.run) (λ m f q. (let i : x.poll.run ≡ r = cc in
         let no : true ≡ false = sym w ∙ (ap (λ (n : ℕ). is_past (run_of s.world n)) (sym i) ∙ alive) in cc))) y)))
         (λ (y : 1 ≤ weigh_all (readies_of r) s.parties). inr (omega (
           arith,
           y,
-          split (readies_of r) s.parties p (op.Steal (steal_op.Put x more g) ∷ []) rest l e,
+          split (readies_of r) s.parties p (Op.Steal (StealOp.Put x more g) ∷ []) rest l e,
           weigh_all-push (readies_of r) s.parties p rest put.next l,
         )))
         (k.parted r (omega (arith, z.0, count-put), w)));
@@ -192,6 +177,6 @@ module _ (s : Machine) (p : ℕ) (x : Steal) (more g : ℕ) (rest : List Op) (h 
 
 -- where a place is free
 pub put-free : (s : Machine) (p : ℕ) (x : Steal) (more g : ℕ) (h : Hint) → 1 ≤ runs.free_places s.world x.poll.run →
-    runs.steal_by more (runs.kept_by p s.world x.poll.run g) x ≡ act p h (op.Steal (steal_op.Put x more g)) s.world
+    runs.steal_by more (runs.kept_by p s.world x.poll.run g) x ≡ act p h (Op.Steal (StealOp.Put x more g)) s.world
 put-free s p x more g h z = ap (λ (b : Bool). runs.steal_put_by b p s.world x more g)
     (let q : true ≡ nat_lt 0 (runs.free_places s.world x.poll.run) = grind (arith, nat_tests) in q)

@@ -1,30 +1,17 @@
 -- For keepers_are_called.
 -- At a quiet trace a run that keeps a due future has it in its own queue, stands, and is called.
 use Rattle.std.proofs.Common.{◌≡◌, ◌∙◌, ℕ, ◌≤◌, List, [], length, true, false, sym, inl, inr, ⊎_elim, arith}
-use Rattle.executor_model.specs.declared.kind.Kind.{Kind}
-use Rattle.executor_model.specs.declared.step.Step.{Step}
-use Rattle.executor_model.specs.Due.{IsDue}
 use Rattle.executor_model.specs.Keeper.{AnswersReady, IsKeeper, is_run_drop}
-use Rattle.executor_model.specs.AwaiterKept.{since}
-use Rattle.executor_model.specs.Sound.{times}
 use Rattle.executor_model.specs.Steps.{Machine, run, stack, start}
-use Rattle.executor_model.specs.Trace.{has}
-use Rattle.executor_model.specs.Weights.{weigh_all}
-use Rattle.executor_model.specs.World.{own_of}
-use Rattle.executor_model.proofs.Polls.AskingExecutions.{heard}
-use Rattle.executor_model.proofs.Steps.Lift.{good}
-use Rattle.executor_model.proofs.OwnQueues.OwnRunners.{own-queue-has-runner}
-use Rattle.executor_model.proofs.Quiet.Resting.{deep, rests, all-rest}
-use Rattle.executor_model.proofs.Sleepers.SleepersTellingExecutions.{are_told}
-use Rattle.executor_model.proofs.Polls.Dueness.{none-last}
+use Rattle.executor_model.specs.{Due.IsDue, AwaiterKept.since, Sound.times, Trace.has, Weights.weigh_all, World.own_of}
 use Rattle.executor_laws.specs.Called.{KeeperIsCalled}
-use Rattle.executor_laws.proofs.Keepers.KeptHere.{Here, Keeping}
-use Rattle.executor_laws.proofs.Keepers.KeptMachine.{keeping}
-use Rattle.executor_laws.proofs.Keepers.KeptTrace.{Parted}
-use Rattle.executor_laws.proofs.Keepers.KeptWeights.{load_of, readies_of}
-use Rattle.executor_laws.proofs.Wakeups.Queued.{times-length}
-use Rattle.executor_laws.proofs.Wakeups.StandsMachine.{standing}
+use Rattle.executor_model.proofs.Quiet.Resting.{deep, rests, all-rest}
+use Rattle.executor_model.proofs.{Polls.AskingExecutions.heard, Steps.Lift.good, OwnQueues.OwnRunners.own-queue-has-runner}
+use Rattle.executor_model.proofs.{Sleepers.SleepersTellingExecutions.are_told, Polls.Dueness.none-last}
 use Rattle.executor_laws.proofs.Wakeups.StandsRest.{keeper-called, keeper-stands}
+use Rattle.executor_laws.proofs.{Types.Kind, Types.Step, Keepers.KeptWeights.load_of, Keepers.KeptWeights.readies_of}
+use Rattle.executor_laws.proofs.{Keepers.KeptHere.Here, Keepers.KeptHere.Keeping, Keepers.KeptMachine.keeping}
+use Rattle.executor_laws.proofs.{Keepers.KeptTrace.Parted, Wakeups.Queued.times-length, Wakeups.StandsMachine.standing}
 
 -- it stands in its own queue
 kept-there : (s : Machine) → ((q : ℕ) → stack s q ≡ []) → Keeping s → (f r : ℕ) → IsDue f s.world.trace →

@@ -1,37 +1,19 @@
 -- For keepers_are_called.
 -- What is done with the list of queues, by a run that leaves and by one that pauses leaves of the own queues and of
 -- who has a kept future in hand.
-use Rattle.std.proofs.Common.{◌≡◌, ◌≢◌, ◌⊎◌, ◌∙◌, ℕ, zero, suc, ◌<◌, ◌≤◌, List, [], ◌∷◌, ◌++◌, length, get_or, set}
-use Rattle.std.proofs.Common.{Bool, true, false, cond, eqb, refl, sym, ap, subst, inl, inr, ⊎_elim, arith}
-use Rattle.std.proofs.Common.{get_or-set_other, length-append}
-use Rattle.task_moves.specs.declared.moves.owed.Move.TheVariants as move
-use Rattle.executor_model.specs.declared.call.Reply.{Reply}
-use Rattle.executor_model.specs.declared.call.Reply.TheVariants as reply
-use Rattle.executor_model.specs.declared.event.Event.TheVariants as event
-use Rattle.executor_model.specs.declared.op.Hold.TheVariants as hold
-use Rattle.executor_model.specs.declared.op.ListOp.TheVariants as list_op
-use Rattle.executor_model.specs.declared.op.Op.TheVariants as op
-use Rattle.executor_model.specs.declared.op.Polled.TheVariants as of
-use Rattle.executor_model.specs.declared.op.RunOp.TheVariants as run_op
-use Rattle.executor_model.specs.declared.op.RunPoll.{RunPoll}
-use Rattle.executor_model.specs.declared.op.Section.TheVariants as section
-use Rattle.executor_model.specs.declared.op.UserOp.TheVariants as user_op
-use Rattle.executor_model.specs.declared.op.Waker.{Waker}
-use Rattle.executor_model.specs.declared.op.Waker.TheVariants.{Task, Outside}
-use Rattle.executor_model.specs.declared.step.Hint.{Hint}
-use Rattle.executor_model.specs.ActsOfRuns as runs
-use Rattle.executor_model.specs.Sound.{times}
-use Rattle.executor_model.specs.Weights.{same, weigh}
+use Rattle.std.proofs.Common.{◌≡◌, ◌≢◌, ◌⊎◌, ◌∙◌, ℕ, zero, suc, ◌<◌, ◌≤◌, List, [], ◌∷◌, ◌++◌, length, get_or, set, Bool, true}
+use Rattle.std.proofs.Common.{false, cond, eqb, refl, sym, ap, subst, inl, inr, ⊎_elim, arith, get_or-set_other, length-append}
+use Rattle.executor_laws.proofs.Types.{Task, Outside, Hint, Move, Reply, Event, Hold, ListOp, Op, Polled, RunOp, RunPoll}
 use Rattle.executor_model.specs.World.{World, Stage, New, Listed, Ended, Run, done, log, new_run, no_run, own_of, run_of}
-use Rattle.executor_model.proofs.Steps.Lift.{no_hint}
+use Rattle.executor_model.specs.{Sound.times, Weights.same, Weights.weigh}
 use Rattle.executor_model.proofs.Steps.Lists.{same_cases, weigh-append}
-use Rattle.executor_model.proofs.OwnQueues.Using.{mild-next}
 use Rattle.executor_model.proofs.OwnQueues.UsingWorlds.{Idle, idle, idle-act, count-set, is_past}
-use Rattle.executor_laws.proofs.Keepers.KeptTrace.{Parted, or-true}
+use Rattle.executor_model.proofs.{Steps.Lift.no_hint, OwnQueues.Using.mild-next}
 use Rattle.executor_laws.proofs.Keepers.KeptWeights.{is_end_ready, mild-quits, quits_of, readies_of}
-use Rattle.executor_laws.proofs.Wakeups.StandsGoing.{walks-registered}
 use Rattle.executor_laws.proofs.Keepers.KeptLeads.{IsPast, Leads, of-idle}
-use Rattle.executor_laws.proofs.Keepers.KeptSearch.{of-walks}
+use Rattle.executor_laws.proofs.{Types.Section, Types.UserOp, Types.Waker, Keepers.KeptTrace.Parted, Keepers.KeptTrace.or-true}
+use Rattle.executor_laws.proofs.{Wakeups.StandsGoing.walks-registered, Keepers.KeptSearch.of-walks}
+use Rattle.executor_model.specs.ActsOfRuns as runs
 
 -- the list of queues
 
@@ -54,14 +36,11 @@ own-made f (suc r) [] = refl
 own-made f zero (x ∷ qs) = refl
 own-made f (suc r) (x ∷ qs) = own-made f r qs
 
-pub keeps-make : (b : Bool) (w : World) → Leads w (op.List (list_op.Write section.MakeRun) ∷ []) (runs.make_run_by b w)
+pub keeps-make : (b : Bool) (w : World) → Leads w (Op.List (ListOp.Write Section.MakeRun) ∷ []) (runs.make_run_by b w)
 keeps-make true w = of-idle w _ _ (idle w w refl refl refl) (λ r. refl) (λ r. refl) (λ f. omega arith)
 keeps-make false w = record {
   count = omega (arith, length-append w.runs (new_run ∷ []));
-  past = λ r e. (
-    omega (arith, e.0, length-append w.runs (new_run ∷ [])),
-    ap is_past (run-kept w.runs new_run r e.0) ∙ e.1,
-  );
+  past = λ r e. (omega (arith, e.0, length-append w.runs (new_run ∷ [])), ap is_past (run-kept w.runs new_run r e.0) ∙ e.1);
   fresh = λ r e. inl (past-made w.runs r e);
   readies = λ r. omega arith;
   quits = λ r. inl (omega arith);
@@ -69,8 +48,8 @@ keeps-make false w = record {
 }
 
 pub keeps-register : (s : Stage) (w : World) (x : RunPoll) → (run_of w x.run).stage ≡ s →
-    Leads w (op.List (list_op.Write (section.Register x)) ∷ [])
-    (done (runs.registered s w x.run) (op.List list_op.UnlockWrite ∷ op.User (user_op.PollOwn x) ∷ []))
+    Leads w (Op.List (ListOp.Write (Section.Register x)) ∷ [])
+    (done (runs.registered s w x.run) (Op.List ListOp.UnlockWrite ∷ Op.User (UserOp.PollOwn x) ∷ []))
 keeps-register New w x e = of-walks w x _ _ (walks-registered New w x e) (λ r. refl) (λ r. refl) (λ f r. omega arith)
 keeps-register Listed w x e =
     of-walks w x _ _ (walks-registered Listed w x e) (λ r. refl) (λ r. refl) (λ f r. omega arith)
@@ -91,8 +70,8 @@ over-other : (w : World) (q r : ℕ) → r ≢ q → run_of (runs.unregistered w
 over-other w q r n = get_or-set_other w.runs q r (record (run_of w q) { stage = Ended }) no_run n
 
 pub keeps-unregister : (w : World) (q : ℕ) (a : Reply) (h : Hint) → q < length w.runs →
-    (1 ≤ weigh (quits_of q) (op.List (list_op.Write (section.Unregister q a)) ∷ []) → IsPast w q) →
-    Leads w (op.List (list_op.Write (section.Unregister q a)) ∷ []) (runs.write h (section.Unregister q a) w)
+    (1 ≤ weigh (quits_of q) (Op.List (ListOp.Write (Section.Unregister q a)) ∷ []) → IsPast w q) →
+    Leads w (Op.List (ListOp.Write (Section.Unregister q a)) ∷ []) (runs.write h (Section.Unregister q a) w)
 keeps-unregister w q a h l k = record {
   count = omega (arith, same_count);
   past = λ r e. ⊎_elim
@@ -119,7 +98,7 @@ keeps-unregister w q a h l k = record {
     same_count = count-set w.runs q (record (run_of w q) { stage = Ended })
 
     by : (r : ℕ) (b : Bool) → is_end_ready a ≡ b → same r q ≡ 1 → r ≡ q →
-        IsPast w r ⊎ ((1 ≤ weigh (readies_of r) (op.List list_op.UnlockWrite ∷ op.Run (run_op.Reschedule q a) ∷ []))
+        IsPast w r ⊎ ((1 ≤ weigh (readies_of r) (Op.List ListOp.UnlockWrite ∷ Op.Run (RunOp.Reschedule q a) ∷ []))
         ⊎ Parted r w.trace)
     by r true e z i = inr (inl (omega (arith, z, ap (λ (c : Bool). cond c (same r q) 0) e)))
     by r false e z i = inl (subst (IsPast w) (sym i) (k (omega (
@@ -132,7 +111,7 @@ keeps-unregister w q a h l k = record {
 -- what is left is scheduled
 
 pub keeps-reschedule : (ys : List ℕ) (w : World) (q : ℕ) (a : Reply) → own_of w q ≡ ys → IsPast w q →
-    Leads w (op.Run (run_op.Reschedule q a) ∷ []) (runs.reschedule_by ys w q a)
+    Leads w (Op.Run (RunOp.Reschedule q a) ∷ []) (runs.reschedule_by ys w q a)
 keeps-reschedule [] w q a e k = record {
   count = omega arith;
   past = λ r i. i;
@@ -155,22 +134,22 @@ keeps-reschedule (g ∷ rest) w q a e k = record {
 }
 
 idle-reference : (p : ℕ) (w : World) (a : Waker) → Idle w (runs.call_by_reference p w a).world
-idle-reference p w (Task g) = idle-act p no_hint (op.Move move.WakeByReference g) w refl
+idle-reference p w (Task g) = idle-act p no_hint (Op.Move Move.WakeByReference g) w refl
 idle-reference p w (Outside y) = idle w w refl refl refl
 
 pub keeps-wake : (p : ℕ) (w : World) (x : RunPoll) →
-    Leads w (op.Run (run_op.WakeOwn x) ∷ []) (runs.wake_own p w x)
-keeps-wake p w x = let v = log w (event.WakerCalled p (of.Run x.run) x.poll x.waker) in
+    Leads w (Op.Run (RunOp.WakeOwn x) ∷ []) (runs.wake_own p w x)
+keeps-wake p w x = let v = log w (Event.WakerCalled p (Polled.Run x.run) x.poll x.waker) in
     let i : Idle v (runs.call_by_reference p v x.waker).world = idle-reference p v x.waker in
     of-idle w _ (runs.wake_own p w x)
     (record { own = i.own; past = i.past; count = i.count; gone = i.gone }) (λ r. refl)
     (λ r. none r p v x.waker x.run) (λ f. omega arith)
   where
     none : (r p : ℕ) (v : World) (a : Waker) (q : ℕ) →
-        weigh (quits_of r) ((runs.call_by_reference p v a).next ++ op.End reply.Pending (hold.Run q) ∷ []) ≡ 0
+        weigh (quits_of r) ((runs.call_by_reference p v a).next ++ Op.End Reply.Pending (Hold.Run q) ∷ []) ≡ 0
     none r p v (Task g) q = omega (
       arith,
-      weigh-append (quits_of r) (runs.call_by_reference p v (Task g)).next (op.End reply.Pending (hold.Run q) ∷ []),
-      mild-next (quits_of r) (mild-quits r) p no_hint (op.Move move.WakeByReference g) v refl,
+      weigh-append (quits_of r) (runs.call_by_reference p v (Task g)).next (Op.End Reply.Pending (Hold.Run q) ∷ []),
+      mild-next (quits_of r) (mild-quits r) p no_hint (Op.Move Move.WakeByReference g) v refl,
     )
     none r p v (Outside y) q = refl

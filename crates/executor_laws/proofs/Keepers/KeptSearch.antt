@@ -1,30 +1,16 @@
 -- For keepers_are_called.
 -- What a run's search and its steals leave of the own queues and of who has a kept future in hand.
 use Rattle.std.proofs.Common.{◌≡◌, ℕ, zero, suc, ◌+◌, ◌≤◌, List, [], ◌∷◌, length, get_or, set, false, refl, ap, arith}
-use Rattle.executor_model.specs.declared.op.Look.{Look}
-use Rattle.executor_model.specs.declared.op.Look.TheVariants.{First, Second}
-use Rattle.executor_model.specs.declared.op.Op.{Op}
-use Rattle.executor_model.specs.declared.op.Op.TheVariants as op
-use Rattle.executor_model.specs.declared.op.RunOp.TheVariants as run_op
-use Rattle.executor_model.specs.declared.op.RunPoll.{RunPoll}
-use Rattle.executor_model.specs.declared.op.Source.{Source}
-use Rattle.executor_model.specs.declared.op.Source.TheVariants.{Common, Own}
-use Rattle.executor_model.specs.declared.op.Steal.{Steal}
-use Rattle.executor_model.specs.declared.op.StealOp.{StealOp}
-use Rattle.executor_model.specs.declared.op.StealOp.TheVariants as steal_op
-use Rattle.executor_model.specs.ActsOfRuns as runs
-use Rattle.executor_model.specs.Doing.{steal_act}
-use Rattle.executor_model.specs.Rows.{then_waiting}
-use Rattle.executor_model.specs.Sound.{times}
-use Rattle.executor_model.specs.Weights.{same, weigh}
+use Rattle.executor_laws.proofs.Types.{Look, First, Second, Op, RunOp, RunPoll, Source, Common, Own, Steal, StealOp}
 use Rattle.executor_model.specs.World.{World, Done, own_of, put_own}
+use Rattle.executor_model.specs.{Doing.steal_act, Rows.then_waiting, Sound.times, Weights.same, Weights.weigh}
 use Rattle.executor_model.proofs.OwnQueues.RunsAside.{Hull, hull}
 use Rattle.executor_model.proofs.OwnQueues.RunsMoving.{hull-found, hull-stolen}
-use Rattle.executor_laws.proofs.Keepers.KeptGrown.{stirs_op}
 use Rattle.executor_laws.proofs.Keepers.KeptWeights.{load-found, load-stolen, load_of, quits-found, quits-stolen, quits-walk}
 use Rattle.executor_laws.proofs.Keepers.KeptWeights.{quits_of, readies_of}
-use Rattle.executor_laws.proofs.Wakeups.StandsRuns.{Walks, walks-steal}
 use Rattle.executor_laws.proofs.Keepers.KeptLeads.{Leads, count-seated, past-seated, steady}
+use Rattle.executor_laws.proofs.{Keepers.KeptGrown.stirs_op, Wakeups.StandsRuns.Walks, Wakeups.StandsRuns.walks-steal}
+use Rattle.executor_model.specs.ActsOfRuns as runs
 
 -- searches and steals
 
@@ -62,7 +48,7 @@ quits-own [] w x r = refl
 quits-own (g ∷ rest) w x r = quits-found r (put_own w x.run rest) x g
 
 pub keeps-common : (look : Look) (q : List ℕ) (w : World) (x : RunPoll) → Walks w x (runs.search_common_by q w x look) →
-    Leads w (op.Run (run_op.SearchCommon x look) ∷ []) (runs.search_common_by q w x look)
+    Leads w (Op.Run (RunOp.SearchCommon x look) ∷ []) (runs.search_common_by q w x look)
 keeps-common (First mark) [] w x k = of-walks w x _ _ k (λ r. refl) (λ r. refl) (λ f r. omega arith)
 keeps-common (Second mark) [] w x k = of-walks w x _ _ k (λ r. refl) (λ r. refl) (λ f r. omega arith)
 keeps-common look (g ∷ rest) w x k = of-walks w x _ _ k (λ r. refl) (λ r. refl) (λ f r. omega arith)
@@ -135,15 +121,15 @@ quits-take : (q : List ℕ) (w : World) (s : Steal) (more r : ℕ) →
 quits-take [] w s more r = quits-stolen r s.then w s.poll
 quits-take (g ∷ rest) w s more r = refl
 
-pub keeps-steal : (p : ℕ) (o : StealOp) (w : World) → stirs_op (op.Steal o) ≡ false →
-    Leads w (op.Steal o ∷ []) (steal_act p o w)
-keeps-steal p (steal_op.Length s) w z = of-walks w s.poll _ (steal_act p (steal_op.Length s) w)
-    (walks-steal p (steal_op.Length s) w) (λ r. refl) (λ r. quits-length _ w s r)
+pub keeps-steal : (p : ℕ) (o : StealOp) (w : World) → stirs_op (Op.Steal o) ≡ false →
+    Leads w (Op.Steal o ∷ []) (steal_act p o w)
+keeps-steal p (StealOp.Length s) w z = of-walks w s.poll _ (steal_act p (StealOp.Length s) w)
+    (walks-steal p (StealOp.Length s) w) (λ r. refl) (λ r. quits-length _ w s r)
     (λ f r. omega (arith, load-length (length (runs.source_of w s.from)) w s f r))
-keeps-steal p (steal_op.OwnLength s n) w z = of-walks w s.poll _ (steal_act p (steal_op.OwnLength s n) w)
-    (walks-steal p (steal_op.OwnLength s n) w) (λ r. refl) (λ r. quits-more _ w s r)
+keeps-steal p (StealOp.OwnLength s n) w z = of-walks w s.poll _ (steal_act p (StealOp.OwnLength s n) w)
+    (walks-steal p (StealOp.OwnLength s n) w) (λ r. refl) (λ r. quits-more _ w s r)
     (λ f r. omega (arith, load-more (runs.share n (runs.free_places w s.poll.run)) w s f r))
-keeps-steal p (steal_op.Take s more) w z = of-walks w s.poll _ (steal_act p (steal_op.Take s more) w)
-    (walks-steal p (steal_op.Take s more) w) (λ r. refl) (λ r. quits-take _ w s more r)
+keeps-steal p (StealOp.Take s more) w z = of-walks w s.poll _ (steal_act p (StealOp.Take s more) w)
+    (walks-steal p (StealOp.Take s more) w) (λ r. refl) (λ r. quits-take _ w s more r)
     (λ f r. omega (arith, load-source s.from (runs.source_of w s.from) w s more f r refl refl))
-keeps-steal p (steal_op.Put s more g) w z = absurd (cc)
+keeps-steal p (StealOp.Put s more g) w z = absurd (cc)

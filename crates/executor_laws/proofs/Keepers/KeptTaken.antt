@@ -1,45 +1,32 @@
 -- For keepers_are_called.
 -- Where a task is taken up, its future is polled or will be dropped.
-use Rattle.std.proofs.Common.{◌≡◌, ◌≢◌, ◌⊎◌, ◌∙◌, ℕ, ◌<◌, ◌≤◌, List, [], ◌∷◌, ◌++◌, length, get_or, set}
-use Rattle.std.proofs.Common.{append-nil, Bool, true, false, not, eqb, refl, sym, ap, subst, inl, inr, ⊎_elim, arith}
+use Rattle.std.proofs.Common.{◌≡◌, ◌≢◌, ◌⊎◌, ◌∙◌, ℕ, ◌<◌, ◌≤◌, List, [], ◌∷◌, ◌++◌, length, get_or, set, append-nil, Bool, true}
+use Rattle.std.proofs.Common.{false, not, eqb, refl, sym, ap, subst, inl, inr, ⊎_elim, arith}
 use Rattle.std.specs.Prelude.{Some, reverse, slice_get}
-use Rattle.task_moves.specs.declared.moves.owed.Move.TheVariants as move
-use Rattle.task_moves.specs.Moves as moves
-use Rattle.executor_model.specs.declared.event.Event.TheVariants as event
-use Rattle.executor_model.specs.declared.op.Op.{Op}
-use Rattle.executor_model.specs.declared.op.Op.TheVariants as op
-use Rattle.executor_model.specs.declared.step.Hint.{Hint}
-use Rattle.executor_model.specs.Carried.{drop_ops, owed_ops}
-use Rattle.executor_model.specs.Doing.{act}
-use Rattle.executor_model.specs.Rows.{drops_of, settling_of}
-use Rattle.executor_model.specs.Sound.{Over, phase, times}
-use Rattle.executor_model.specs.Steps.{Machine, stack}
-use Rattle.executor_model.specs.Trace.{Trace}
-use Rattle.executor_model.specs.Weights.{same, weigh, weigh_all}
-use Rattle.executor_model.specs.World.{Done, log_if, among, task}
-use Rattle.executor_model.proofs.Polls.AskingExecutions.{Heard}
-use Rattle.executor_model.proofs.Steps.Lift.{split, unsettled}
+use Rattle.executor_model.specs.{Carried.drop_ops, Carried.owed_ops, Doing.act, Rows.drops_of, Rows.settling_of, Sound.Over}
+use Rattle.executor_model.specs.{Sound.phase, Sound.times, Steps.Machine, Steps.stack, Trace.Trace, Weights.same, Weights.weigh}
+use Rattle.executor_model.specs.{Weights.weigh_all, World.Done, World.log_if, World.among, World.task}
 use Rattle.executor_model.proofs.Steps.Lists.{same_cases, same_is, weigh_all-below, weigh_all-push}
-use Rattle.executor_model.proofs.OwnQueues.OwnRooms.{Roomy}
-use Rattle.executor_model.proofs.OwnQueues.Using.{mild-next}
 use Rattle.executor_model.proofs.OwnQueues.UsingWorlds.{Idle, idle-act}
-use Rattle.executor_model.proofs.Polls.Dueness.{over-last, is_over}
-use Rattle.executor_laws.proofs.Keepers.KeptLeads.{Gone, IsPast}
+use Rattle.executor_model.proofs.{Polls.Dueness.over-last, Polls.Dueness.is_over, Polls.AskingExecutions.Heard}
+use Rattle.executor_model.proofs.{Steps.Lift.split, Steps.Lift.unsettled, OwnQueues.OwnRooms.Roomy, OwnQueues.Using.mild-next}
 use Rattle.executor_laws.proofs.Keepers.KeptTrace.{Keeps, Kept, Parted, keeps-one, one-other, parted-more}
 use Rattle.executor_laws.proofs.Keepers.KeptTrace.Kept.{now, before}
 use Rattle.executor_laws.proofs.Keepers.KeptWeights.{drops-load, load_of, mild-quits, quits_of, readies_of}
-use Rattle.executor_laws.proofs.Wakeups.StandsSteps.{Standing}
 use Rattle.executor_laws.proofs.Keepers.KeptHere.{Here, Keeping, gone-more}
+use Rattle.executor_laws.proofs.Keepers.KeptLeads.{Gone, IsPast}
+use Rattle.executor_laws.proofs.{Types.Move, Types.Event, Types.Op, Types.Hint, Wakeups.StandsSteps.Standing}
+use Rattle.task_moves.specs.Moves as moves
 
 -- a task is taken up
 
 module _ (s : Machine) (p : ℕ) (g : ℕ) (rest : List Op) (h : Hint) (l : p < length s.parties)
-    (e : stack s p ≡ rest ++ reverse (op.Move move.TakeUp g ∷ [])) (k : Keeping s) where
+    (e : stack s p ≡ rest ++ reverse (Op.Move Move.TakeUp g ∷ [])) (k : Keeping s) where
   abbrev taken : Done
-  taken = act p h (op.Move move.TakeUp g) s.world
+  taken = act p h (Op.Move Move.TakeUp g) s.world
 
   idle-taken : Idle s.world taken.world
-  idle-taken = idle-act p h (op.Move move.TakeUp g) s.world refl
+  idle-taken = idle-act p h (Op.Move Move.TakeUp g) s.world refl
 
   past-taken : (r : ℕ) → IsPast s.world r → IsPast taken.world r
   past-taken r x = (omega (arith, x.0, idle-taken.count), idle-taken.past r ∙ x.1)
@@ -48,7 +35,7 @@ module _ (s : Machine) (p : ℕ) (g : ℕ) (rest : List Op) (h : Hint) (l : p < 
   past-was r x = (omega (arith, x.0, idle-taken.count), sym (idle-taken.past r) ∙ x.1)
 
   none-quits : (r : ℕ) → weigh (quits_of r) taken.next ≡ 0
-  none-quits r = mild-next (quits_of r) (mild-quits r) p h (op.Move move.TakeUp g) s.world refl
+  none-quits r = mild-next (quits_of r) (mild-quits r) p h (Op.Move Move.TakeUp g) s.world refl
 
   -- of another future
   other-taken : (f r place : ℕ) → same f g ≡ 0 → (more : Trace) → taken.world.trace ≡ s.world.trace ++ more →
@@ -63,7 +50,7 @@ module _ (s : Machine) (p : ℕ) (g : ℕ) (rest : List Op) (h : Hint) (l : p < 
         arith,
         w,
         z,
-        split (load_of f) s.parties p (op.Move move.TakeUp g ∷ []) rest l e,
+        split (load_of f) s.parties p (Op.Move Move.TakeUp g ∷ []) rest l e,
         weigh_all-push (load_of f) s.parties p rest taken.next l,
         ap (λ (qs : List (List ℕ)). times f (get_or qs r [])) idle-taken.own,
       ))
@@ -80,12 +67,12 @@ module _ (s : Machine) (p : ℕ) (g : ℕ) (rest : List Op) (h : Hint) (l : p < 
         arith,
         z,
         none-quits r,
-        split (quits_of r) s.parties p (op.Move move.TakeUp g ∷ []) rest l e,
+        split (quits_of r) s.parties p (Op.Move Move.TakeUp g ∷ []) rest l e,
         weigh_all-push (quits_of r) s.parties p rest taken.next l,
       )))
 
       parted : (more : Trace) → taken.world.trace ≡ s.world.trace ++ more →
-          ((r n q f : ℕ) → slice_get more n ≢ Some (event.Kept q f r)) → (r : ℕ) → IsPast taken.world r →
+          ((r n q f : ℕ) → slice_get more n ≢ Some (Event.Kept q f r)) → (r : ℕ) → IsPast taken.world r →
           Parted r taken.world.trace
           ⊎ (1 ≤ weigh_all (readies_of r) (set s.parties p (rest ++ reverse taken.next)))
       parted more i none r z = ⊎_elim
@@ -94,26 +81,26 @@ module _ (s : Machine) (p : ℕ) (g : ℕ) (rest : List Op) (h : Hint) (l : p < 
           (λ (y : 1 ≤ weigh_all (readies_of r) s.parties). inr (omega (
             arith,
             y,
-            split (readies_of r) s.parties p (op.Move move.TakeUp g ∷ []) rest l e,
+            split (readies_of r) s.parties p (Op.Move Move.TakeUp g ∷ []) rest l e,
             weigh_all-push (readies_of r) s.parties p rest taken.next l,
           )))
           (k.parted r (past-was r z))
 
       -- it is open, and polled
-      polled : (task s.world g).closed ≡ false → taken.world.trace ≡ s.world.trace ++ event.PollBegun p g ∷ []
-      polled q = ap (λ (t : Bool). (log_if (not t) s.world (event.PollBegun p g)).trace) q
+      polled : (task s.world g).closed ≡ false → taken.world.trace ≡ s.world.trace ++ Event.PollBegun p g ∷ []
+      polled q = ap (λ (t : Bool). (log_if (not t) s.world (Event.PollBegun p g)).trace) q
 
       -- it is closed, and will be dropped
       unpolled : (task s.world g).closed ≡ true → taken.world.trace ≡ s.world.trace
-      unpolled q = ap (λ (t : Bool). (log_if (not t) s.world (event.PollBegun p g)).trace) q
+      unpolled q = ap (λ (t : Bool). (log_if (not t) s.world (Event.PollBegun p g)).trace) q
 
       settles : (task s.world g).closed ≡ true → 1 ≤ weigh (settling_of g) taken.next
       settles q = subst (λ (t : Bool). 1 ≤ weigh (settling_of g)
-          (owed_ops (among g (log_if (not t) s.world (event.PollBegun p g)).table) g
+          (owed_ops (among g (log_if (not t) s.world (Event.PollBegun p g)).table) g
           (moves.take_up_by t (task s.world g)).owed)) (sym q) (one (among g s.world.table))
         where
           one : (there : Bool) →
-              1 ≤ weigh (settling_of g) (drop_ops there g ++ [] ++ [] ++ (op.Move move.SettleClosed g ∷ []) ++ [])
+              1 ≤ weigh (settling_of g) (drop_ops there g ++ [] ++ [] ++ (Op.Move Move.SettleClosed g ∷ []) ++ [])
           one true = grind (arith, same_is)
           one false = grind (arith, same_is)
 
@@ -154,17 +141,17 @@ module _ (s : Machine) (p : ℕ) (g : ℕ) (rest : List Op) (h : Hint) (l : p < 
       keeps-open : (task s.world g).closed ≡ false → (f r place : ℕ) → Keeps f r place taken.world.trace →
           (r < length taken.world.runs)
           × Here f r taken.world (weigh_all (load_of f) (set s.parties p (rest ++ reverse taken.next)))
-      keeps-open q f r place x = on (keeps-one f r place s.world.trace (event.PollBegun p g)
+      keeps-open q f r place x = on (keeps-one f r place s.world.trace (Event.PollBegun p g)
           (subst (Keeps f r place) (polled q) x))
         where
-          on : Kept f r place s.world.trace (event.PollBegun p g) → (r < length taken.world.runs)
+          on : Kept f r place s.world.trace (Event.PollBegun p g) → (r < length taken.world.runs)
               × Here f r taken.world (weigh_all (load_of f) (set s.parties p (rest ++ reverse taken.next)))
           on (now n i) = absurd (cc)
           on (before y i j) = other-taken f r place (⊎_elim
               (λ (z : (same f g ≡ 1) × (eqb f g ≡ true) × (f ≡ g)). absurd
               (let no : true ≡ false = sym z.1 ∙ j in cc))
               (λ (z : (same f g ≡ 0) × (eqb f g ≡ false) × (f ≢ g)). z.0)
-              (same_cases f g)) (event.PollBegun p g ∷ []) (polled q) y
+              (same_cases f g)) (Event.PollBegun p g ∷ []) (polled q) y
 
       by : (t : Bool) → (task s.world g).closed ≡ t → Keeping (unsettled s p rest taken)
       by true q = record {
@@ -180,7 +167,7 @@ module _ (s : Machine) (p : ℕ) (g : ℕ) (rest : List Op) (h : Hint) (l : p < 
         heard = b;
         roomy = c;
         leaves = leaves;
-        parted = parted (event.PollBegun p g ∷ []) (polled q)
-            (λ r. one-other r (event.PollBegun p g) (λ m f z. absurd (cc)));
+        parted = parted (Event.PollBegun p g ∷ []) (polled q)
+            (λ r. one-other r (Event.PollBegun p g) (λ m f z. absurd (cc)));
         keeps = keeps-open q;
       }

@@ -1,19 +1,13 @@
 -- For keepers_are_called.
 -- What more events leave of who keeps a future, and of the answers of runs.
-use Rattle.std.proofs.Common.{◌≡◌, ◌≢◌, ◌⊎◌, ◌∙◌, inl, inr, ⊎_elim, ℕ, zero, suc, ◌+◌, ◌<◌, ◌≤◌, [], ◌∷◌, ◌++◌, length}
-use Rattle.std.proofs.Common.{drop, take, Bool, true, false, ◌||◌, eqb, refl, sym, ap, subst, arith}
-use Rattle.std.proofs.lemmas.Bool.Decides.{nat_tests}
-use Rattle.std.specs.Prelude.{Some, count_by, slice_get}
-use Rattle.executor_model.specs.declared.call.Reply.{Reply}
+use Rattle.std.proofs.Common.{◌≡◌, ◌≢◌, ◌⊎◌, ◌∙◌, inl, inr, ⊎_elim, ℕ, zero, suc, ◌+◌, ◌<◌, ◌≤◌, [], ◌∷◌, ◌++◌, length, drop}
+use Rattle.std.proofs.Common.{take, Bool, true, false, ◌||◌, eqb, refl, sym, ap, subst, arith}
+use Rattle.std.{proofs.lemmas.Bool.Decides.nat_tests, specs.Prelude.Some, specs.Prelude.count_by, specs.Prelude.slice_get}
 use Rattle.executor_model.specs.declared.call.Reply.TheVariants.{Ready}
-use Rattle.executor_model.specs.declared.event.Event.{Event}
-use Rattle.executor_model.specs.declared.event.Event.TheVariants as event
-use Rattle.executor_model.specs.AwaiterKept.{EndsWith, since}
-use Rattle.executor_model.specs.Keeper.{AnswersReady, is_kept, is_run_drop}
-use Rattle.executor_model.specs.Quiet.{begins_call, ends_call}
-use Rattle.executor_model.specs.Trace.{Trace, has, is_poll}
+use Rattle.executor_model.specs.{AwaiterKept.EndsWith, AwaiterKept.since, Keeper.AnswersReady, Keeper.is_kept}
+use Rattle.executor_model.specs.{Keeper.is_run_drop, Quiet.begins_call, Quiet.ends_call, Trace.Trace, Trace.has, Trace.is_poll}
 use Rattle.executor_model.proofs.Steps.Tests.{or-left}
-use Rattle.executor_laws.proofs.Keepers.KeptGrown.{stirs}
+use Rattle.executor_laws.proofs.{Types.Reply, Types.Event, Keepers.KeptGrown.stirs}
 
 -- places in what has grown
 
@@ -84,16 +78,16 @@ get-either (y ∷ es) more (suc k) x e = ⊎_elim (λ (z : k < length es). inl (
 -- run r kept future f last, and nobody has polled it since
 pub record Keeps (f r place : ℕ) (es : Trace) : Type 0 where
   pub party : ℕ
-  pub kept : slice_get es place ≡ Some (event.Kept party f r)
+  pub kept : slice_get es place ≡ Some (Event.Kept party f r)
   pub last : has (is_kept f) (since place es) ≡ false
   pub unpolled : has (is_poll f) (since place es) ≡ false
 
 -- it did before, where nothing comes into an own queue, and nothing is polled
 pub keeps-before : (f r place : ℕ) (es more : Trace) → has stirs more ≡ false → Keeps f r place (es ++ more) →
     Keeps f r place es
-keeps-before f r place es more z k = by (get-either es more place (event.Kept k.party f r) k.kept)
+keeps-before f r place es more z k = by (get-either es more place (Event.Kept k.party f r) k.kept)
   where
-    by : (place < length es) ⊎ ((n : ℕ) × (slice_get more n ≡ Some (event.Kept k.party f r))) → Keeps f r place es
+    by : (place < length es) ⊎ ((n : ℕ) × (slice_get more n ≡ Some (Event.Kept k.party f r))) → Keeps f r place es
     by (inl h) = record {
       party = k.party;
       kept = sym (get-old es more place h) ∙ k.kept;
@@ -102,17 +96,17 @@ keeps-before f r place es more z k = by (get-either es more place (event.Kept k.
       unpolled = or-first _ (has (is_poll f) more) (sym (has-both (is_poll f) (since place es) more)
           ∙ (sym (ap (has (is_poll f)) (since-old es more place h)) ∙ k.unpolled));
     }
-    by (inr x) = absurd (let no : true ≡ false = none-at stirs more x.0 (event.Kept k.party f r) z x.1 in cc)
+    by (inr x) = absurd (let no : true ≡ false = none-at stirs more x.0 (Event.Kept k.party f r) z x.1 in cc)
 
 -- one event more
 pub data Kept (f r place : ℕ) (es : Trace) (e : Event) : Type 0 where
-  now : (p : ℕ) → e ≡ event.Kept p f r → Kept f r place es e
+  now : (p : ℕ) → e ≡ Event.Kept p f r → Kept f r place es e
   before : Keeps f r place es → is_kept f e ≡ false → is_poll f e ≡ false → Kept f r place es e
 
 pub keeps-one : (f r place : ℕ) (es : Trace) (e : Event) → Keeps f r place (es ++ e ∷ []) → Kept f r place es e
-keeps-one f r place es e k = by (get-either es (e ∷ []) place (event.Kept k.party f r) k.kept)
+keeps-one f r place es e k = by (get-either es (e ∷ []) place (Event.Kept k.party f r) k.kept)
   where
-    by : (place < length es) ⊎ ((n : ℕ) × (slice_get (e ∷ []) n ≡ Some (event.Kept k.party f r))) → Kept f r place es e
+    by : (place < length es) ⊎ ((n : ℕ) × (slice_get (e ∷ []) n ≡ Some (Event.Kept k.party f r))) → Kept f r place es e
     by (inl h) =
         let a : (has (is_kept f) (since place es) || has (is_kept f) (e ∷ [])) ≡ false =
         sym (has-both (is_kept f) (since place es) (e ∷ []))
@@ -126,12 +120,12 @@ keeps-one f r place es e k = by (get-either es (e ∷ []) place (event.Kept k.pa
           last = or-first _ _ a;
           unpolled = or-first _ _ b;
         }) (or-first _ _ (or-second _ _ a)) (or-first _ _ (or-second _ _ b))
-    by (inr (zero, q)) = now k.party (let z : e ≡ event.Kept k.party f r = cc in z)
+    by (inr (zero, q)) = now k.party (let z : e ≡ Event.Kept k.party f r = cc in z)
     by (inr (suc n, q)) = absurd (cc)
 
 -- what a run that is over has done since each of its future that it kept: it was dropped, or answered that it is ready
 pub record Parted (r : ℕ) (es : Trace) : Type 0 where
-  pub since_then : (place p f : ℕ) → slice_get es place ≡ Some (event.Kept p f r) →
+  pub since_then : (place p f : ℕ) → slice_get es place ≡ Some (Event.Kept p f r) →
       (has (is_run_drop r) (since place es) ≡ true) ⊎ AnswersReady r place es
 
 pub take-old : (es more : Trace) (n : ℕ) → n ≤ length es → take n (es ++ more) ≡ take n es
@@ -141,7 +135,7 @@ take-old (e ∷ es) more (suc n) h = ap (λ (xs : Trace). e ∷ xs) (take-old es
 
 ends-more : (p : ℕ) (a : Reply) (es more : Trace) → EndsWith p a es → EndsWith p a (es ++ more)
 ends-more p a es more h =
-    let l : h.place < length es = get-within es h.place (event.CallEnded p a) h.here in record {
+    let l : h.place < length es = get-within es h.place (Event.CallEnded p a) h.here in record {
       place = h.place;
       here = get-old es more h.place l ∙ h.here;
       inner = ap (count_by (ends_call p)) (take-old es more h.place (omega (arith, l)))
@@ -157,7 +151,7 @@ ends-more p a es more h =
 answers-more : (r place : ℕ) (es more : Trace) → AnswersReady r place es → AnswersReady r place (es ++ more)
 unfolding ends-more
 answers-more r place es more a =
-    let l : a.poll < length es = get-within es a.poll (event.RunPolled a.party r) a.polled in
+    let l : a.poll < length es = get-within es a.poll (Event.RunPolled a.party r) a.polled in
     let e : EndsWith a.party Ready (since a.poll es ++ more) = ends-more a.party Ready (since a.poll es) more a.ready in
     record {
       party = a.party;
@@ -180,14 +174,14 @@ answers-more r place es more a =
     }
 
 -- where it keeps no more
-pub parted-more : (r : ℕ) (es more : Trace) → ((n p f : ℕ) → slice_get more n ≢ Some (event.Kept p f r)) →
+pub parted-more : (r : ℕ) (es more : Trace) → ((n p f : ℕ) → slice_get more n ≢ Some (Event.Kept p f r)) →
     Parted r es → Parted r (es ++ more)
 parted-more r es more z h = record {
-  since_then = λ place p f k. by place p f k (get-either es more place (event.Kept p f r) k);
+  since_then = λ place p f k. by place p f k (get-either es more place (Event.Kept p f r) k);
 }
   where
-    by : (place p f : ℕ) → slice_get (es ++ more) place ≡ Some (event.Kept p f r) →
-        (place < length es) ⊎ ((n : ℕ) × (slice_get more n ≡ Some (event.Kept p f r))) →
+    by : (place p f : ℕ) → slice_get (es ++ more) place ≡ Some (Event.Kept p f r) →
+        (place < length es) ⊎ ((n : ℕ) × (slice_get more n ≡ Some (Event.Kept p f r))) →
         (has (is_run_drop r) (since place (es ++ more)) ≡ true) ⊎ AnswersReady r place (es ++ more)
     by place p f k (inl l) = ⊎_elim
         (λ (x : has (is_run_drop r) (since place es) ≡ true).
@@ -199,12 +193,12 @@ parted-more r es more z h = record {
 
 -- nothing comes into an own queue
 pub none-kept : (r : ℕ) (more : Trace) → has stirs more ≡ false → (n p f : ℕ) →
-    slice_get more n ≢ Some (event.Kept p f r)
-none-kept r more z n p f e = let no : true ≡ false = none-at stirs more n (event.Kept p f r) z e in cc
+    slice_get more n ≢ Some (Event.Kept p f r)
+none-kept r more z n p f e = let no : true ≡ false = none-at stirs more n (Event.Kept p f r) z e in cc
 
-pub one-other : (r : ℕ) (e : Event) → ((p f : ℕ) → e ≢ event.Kept p f r) → (n p f : ℕ) →
-    slice_get (e ∷ []) n ≢ Some (event.Kept p f r)
-one-other r e z zero p f k = z p f (let q : e ≡ event.Kept p f r = cc in q)
+pub one-other : (r : ℕ) (e : Event) → ((p f : ℕ) → e ≢ Event.Kept p f r) → (n p f : ℕ) →
+    slice_get (e ∷ []) n ≢ Some (Event.Kept p f r)
+one-other r e z zero p f k = z p f (let q : e ≡ Event.Kept p f r = cc in q)
 one-other r e z (suc n) p f k = absurd (cc)
 
 pub or-true : (a : Bool) → (a || true) ≡ true
@@ -212,23 +206,23 @@ or-true true = refl
 or-true false = refl
 
 -- it is dropped
-drop-last : (r p : ℕ) (xs : Trace) → has (is_run_drop r) (xs ++ event.RunDropped p r ∷ []) ≡ true
-drop-last r p xs = has-both (is_run_drop r) xs (event.RunDropped p r ∷ [])
+drop-last : (r p : ℕ) (xs : Trace) → has (is_run_drop r) (xs ++ Event.RunDropped p r ∷ []) ≡ true
+drop-last r p xs = has-both (is_run_drop r) xs (Event.RunDropped p r ∷ [])
     ∙ (ap (λ (b : Bool). has (is_run_drop r) xs || (b || false)) (let z : eqb r r ≡ true = grind
     (arith, nat_tests) in z)
     ∙ or-true (has (is_run_drop r) xs))
 
-pub parted-dropped : (r p : ℕ) (es : Trace) → Parted r (es ++ event.RunDropped p r ∷ [])
+pub parted-dropped : (r p : ℕ) (es : Trace) → Parted r (es ++ Event.RunDropped p r ∷ [])
 parted-dropped r p es = record {
   since_then = λ place q f k. by place q f k
-      (get-either es (event.RunDropped p r ∷ []) place (event.Kept q f r) k);
+      (get-either es (Event.RunDropped p r ∷ []) place (Event.Kept q f r) k);
 }
   where
-    by : (place q f : ℕ) → slice_get (es ++ event.RunDropped p r ∷ []) place ≡ Some (event.Kept q f r) →
-        (place < length es) ⊎ ((n : ℕ) × (slice_get (event.RunDropped p r ∷ []) n ≡ Some (event.Kept q f r))) →
-        (has (is_run_drop r) (since place (es ++ event.RunDropped p r ∷ [])) ≡ true)
-        ⊎ AnswersReady r place (es ++ event.RunDropped p r ∷ [])
-    by place q f k (inl l) = inl (ap (has (is_run_drop r)) (since-old es (event.RunDropped p r ∷ []) place l)
+    by : (place q f : ℕ) → slice_get (es ++ Event.RunDropped p r ∷ []) place ≡ Some (Event.Kept q f r) →
+        (place < length es) ⊎ ((n : ℕ) × (slice_get (Event.RunDropped p r ∷ []) n ≡ Some (Event.Kept q f r))) →
+        (has (is_run_drop r) (since place (es ++ Event.RunDropped p r ∷ [])) ≡ true)
+        ⊎ AnswersReady r place (es ++ Event.RunDropped p r ∷ [])
+    by place q f k (inl l) = inl (ap (has (is_run_drop r)) (since-old es (Event.RunDropped p r ∷ []) place l)
         ∙ drop-last r p (since place es))
     by place q f k (inr (zero, x)) = absurd (cc)
     by place q f k (inr (suc n, x)) = absurd (cc)

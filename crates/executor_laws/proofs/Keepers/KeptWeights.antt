@@ -1,71 +1,43 @@
 -- For keepers_are_called.
 -- Who has a kept future in hand, or its drop; a run that leaves; and what each thing to do leaves of that.
 use Rattle.std.proofs.Common.{◌≡◌, ◌∙◌, ℕ, ◌+◌, ◌≤◌, List, [], ◌∷◌, Bool, true, false, cond, eqb, refl, arith}
-use Rattle.task_moves.specs.declared.moves.owed.Move.TheVariants as move
-use Rattle.executor_model.specs.declared.call.Reply.{Reply}
-use Rattle.executor_model.specs.declared.call.Reply.TheVariants as reply
-use Rattle.executor_model.specs.declared.op.ClosingOp.TheVariants as closing_op
-use Rattle.executor_model.specs.declared.op.HandleOp.TheVariants as handle_op
-use Rattle.executor_model.specs.declared.op.Hold.{Hold}
-use Rattle.executor_model.specs.declared.op.Hold.TheVariants as hold
-use Rattle.executor_model.specs.declared.op.ListOp.TheVariants as list_op
-use Rattle.executor_model.specs.declared.op.Op.{Op}
-use Rattle.executor_model.specs.declared.op.Op.TheVariants as op
-use Rattle.executor_model.specs.declared.op.QueueOp.TheVariants as queue_op
-use Rattle.executor_model.specs.declared.op.RunOp.TheVariants as run_op
-use Rattle.executor_model.specs.declared.op.RunPoll.{RunPoll}
-use Rattle.executor_model.specs.declared.op.Section.{Section}
-use Rattle.executor_model.specs.declared.op.Section.TheVariants as section
-use Rattle.executor_model.specs.declared.op.TickOrRun.{TickOrRun}
-use Rattle.executor_model.specs.declared.op.TickOrRun.TheVariants as tick_or_run
-use Rattle.executor_model.specs.declared.op.SleeperOp.TheVariants as sleeper_op
-use Rattle.executor_model.specs.declared.op.StealOp.{StealOp}
-use Rattle.executor_model.specs.declared.op.StealOp.TheVariants as steal_op
-use Rattle.executor_model.specs.declared.op.TableOp.TheVariants as table_op
-use Rattle.executor_model.specs.declared.op.Then.{Then}
-use Rattle.executor_model.specs.declared.op.Then.TheVariants as then
-use Rattle.executor_model.specs.declared.op.TickOp.TheVariants as tick_op
-use Rattle.executor_model.specs.declared.op.UserOp.TheVariants as user_op
-use Rattle.executor_model.specs.declared.op.WakerOp.TheVariants as waker_op
-use Rattle.executor_model.specs.ActsOfRuns as runs
-use Rattle.executor_model.specs.ActsOfSleepers.{found_by}
-use Rattle.executor_model.specs.Rows.{drops_of, then_waiting}
-use Rattle.executor_model.specs.Weights.{same, weigh}
+use Rattle.executor_laws.proofs.Types.{Move, Reply, ClosingOp, HandleOp, Hold, ListOp, Op, QueueOp, RunOp, RunPoll, Section}
+use Rattle.executor_laws.proofs.Types.{TickOrRun, SleeperOp, StealOp, TableOp, Then, TickOp, UserOp, WakerOp}
 use Rattle.executor_model.specs.World.{World, Ticker, Awake, Asleep, Left, run_of}
-use Rattle.executor_model.proofs.Quiet.Calls.{calling_of}
-use Rattle.executor_model.proofs.Steps.Lists.{same_is, weigh-append}
+use Rattle.executor_model.specs.{ActsOfSleepers.found_by, Rows.drops_of, Rows.then_waiting, Weights.same, Weights.weigh}
 use Rattle.executor_model.proofs.OwnQueues.RunsMoving.{Weighs, walk-by, weighs-found, weighs-stolen, nothing-by}
-use Rattle.executor_model.proofs.OwnQueues.Using.{Mild}
+use Rattle.executor_model.proofs.{Quiet.Calls.calling_of, Steps.Lists.same_is, Steps.Lists.weigh-append, OwnQueues.Using.Mild}
+use Rattle.executor_model.specs.ActsOfRuns as runs
 
 -- who has future f in hand, to run it or to put it into its own queue, or has still to drop it
 abbrev pub load_steal : ℕ → StealOp → ℕ
-load_steal f (steal_op.Length s) = then_waiting f s.then
-load_steal f (steal_op.OwnLength s n) = then_waiting f s.then
-load_steal f (steal_op.Take s more) = then_waiting f s.then
-load_steal f (steal_op.Put s more g) = same f g + then_waiting f s.then
+load_steal f (StealOp.Length s) = then_waiting f s.then
+load_steal f (StealOp.OwnLength s n) = then_waiting f s.then
+load_steal f (StealOp.Take s more) = then_waiting f s.then
+load_steal f (StealOp.Put s more g) = same f g + then_waiting f s.then
 
 abbrev pub load_of : ℕ → Op → ℕ
-load_of f (op.Move move.TakeUp g) = same f g
-load_of f (op.Table (table_op.TakeToDrop g)) = same f g
-load_of f (op.User (user_op.BeginDrop g)) = same f g
-load_of f (op.Steal o) = load_steal f o
+load_of f (Op.Move Move.TakeUp g) = same f g
+load_of f (Op.Table (TableOp.TakeToDrop g)) = same f g
+load_of f (Op.User (UserOp.BeginDrop g)) = same f g
+load_of f (Op.Steal o) = load_steal f o
 load_of f _ = 0
 
 pub drops-load : (f : ℕ) (o : Op) → drops_of f o ≤ load_of f o
-drops-load f (op.Move move.TakeUp g) = omega arith
-drops-load f (op.Table (table_op.TakeToDrop g)) = omega arith
-drops-load f (op.Queue queue_op.TakeTurn) = omega arith
-drops-load f (op.Queue (queue_op.Take look)) = omega arith
-drops-load f (op.User (user_op.BeginDrop g)) = omega arith
-drops-load f (op.Steal (steal_op.Length s)) = omega arith
-drops-load f (op.Waker (waker_op.CopyWaker g held)) = omega arith
-drops-load f (op.Handle (handle_op.LookAgain g)) = omega arith
-drops-load f (op.Sleeper sleeper_op.HandOut) = omega arith
-drops-load f (op.Tick tick_op.MakeTick) = omega arith
-drops-load f (op.Run run_op.MakeRoom) = omega arith
-drops-load f (op.Closing (closing_op.Drain mark)) = omega arith
-drops-load f (op.List (list_op.LockWrite section.MakeRun)) = omega arith
-drops-load f (op.List (list_op.Write section.MakeRun)) = omega arith
+drops-load f (Op.Move Move.TakeUp g) = omega arith
+drops-load f (Op.Table (TableOp.TakeToDrop g)) = omega arith
+drops-load f (Op.Queue QueueOp.TakeTurn) = omega arith
+drops-load f (Op.Queue (QueueOp.Take look)) = omega arith
+drops-load f (Op.User (UserOp.BeginDrop g)) = omega arith
+drops-load f (Op.Steal (StealOp.Length s)) = omega arith
+drops-load f (Op.Waker (WakerOp.CopyWaker g held)) = omega arith
+drops-load f (Op.Handle (HandleOp.LookAgain g)) = omega arith
+drops-load f (Op.Sleeper SleeperOp.HandOut) = omega arith
+drops-load f (Op.Tick TickOp.MakeTick) = omega arith
+drops-load f (Op.Run RunOp.MakeRoom) = omega arith
+drops-load f (Op.Closing (ClosingOp.Drain mark)) = omega arith
+drops-load f (Op.List (ListOp.LockWrite Section.MakeRun)) = omega arith
+drops-load f (Op.List (ListOp.Write Section.MakeRun)) = omega arith
 drops-load f _ = omega arith
 
 -- what is found is in hand
@@ -81,54 +53,54 @@ load-counted f true w x g = omega arith
 load-counted f false w x g = load-run_by f _ _ x g
 
 load-wakes_up : (f : ℕ) (p : Ticker) (who : TickOrRun) →
-    weigh (load_of f) (found_by p who (op.Sleeper sleeper_op.ExchangeFlag ∷ [])) ≡ 0
+    weigh (load_of f) (found_by p who (Op.Sleeper SleeperOp.ExchangeFlag ∷ [])) ≡ 0
 load-wakes_up f Awake who = refl
 load-wakes_up f (Asleep n) who = refl
 load-wakes_up f Left who = refl
 
 pub load-found : (f : ℕ) (w : World) (x : RunPoll) (g : ℕ) → weigh (load_of f) (runs.found w x g).next ≡ same f g
 load-found f w x g =
-    let first = found_by (run_of w x.run).place (tick_or_run.Run x.run) (op.Sleeper sleeper_op.ExchangeFlag ∷ []) in
+    let first = found_by (run_of w x.run).place (TickOrRun.Run x.run) (Op.Sleeper SleeperOp.ExchangeFlag ∷ []) in
     let b = eqb ((run_of w x.run).counted + 1) 64 in
     omega (
       arith,
       weigh-append (load_of f) first (runs.counted_by b w x g).next,
-      load-wakes_up f (run_of w x.run).place (tick_or_run.Run x.run),
+      load-wakes_up f (run_of w x.run).place (TickOrRun.Run x.run),
       load-counted f b w x g,
     )
 
 pub load-stolen : (f : ℕ) (t : Then) (w : World) (x : RunPoll) →
     weigh (load_of f) (runs.stolen t w x).next ≡ then_waiting f t
-load-stolen f (then.Found g) w x = load-found f w x g
-load-stolen f (then.StealPlain g) w x = omega arith
-load-stolen f (then.Run g) w x = load-run_by f _ w x g
-load-stolen f (then.Walk at left) w x = refl
+load-stolen f (Then.Found g) w x = load-found f w x g
+load-stolen f (Then.StealPlain g) w x = omega arith
+load-stolen f (Then.Run g) w x = load-run_by f _ w x g
+load-stolen f (Then.Walk at left) w x = refl
 
 -- run r leaves, so that it is over, or is dropped
 
 abbrev pub is_end_ready : Reply → Bool
-is_end_ready reply.Ready = true
+is_end_ready Reply.Ready = true
 is_end_ready _ = false
 
 abbrev pub quits_section : ℕ → Section → ℕ
-quits_section r section.MakeRun = 0
-quits_section r (section.Register x) = 0
-quits_section r (section.Unregister q a) = cond (is_end_ready a) 0 (same r q)
+quits_section r Section.MakeRun = 0
+quits_section r (Section.Register x) = 0
+quits_section r (Section.Unregister q a) = cond (is_end_ready a) 0 (same r q)
 
 abbrev pub quits_of : ℕ → Op → ℕ
-quits_of r (op.List (list_op.LockWrite s)) = quits_section r s
-quits_of r (op.List (list_op.Write s)) = quits_section r s
-quits_of r (op.Run (run_op.Reschedule q a)) = same r q
+quits_of r (Op.List (ListOp.LockWrite s)) = quits_section r s
+quits_of r (Op.List (ListOp.Write s)) = quits_section r s
+quits_of r (Op.Run (RunOp.Reschedule q a)) = same r q
 quits_of r _ = 0
 
 -- and its poll will be answered that its own future is ready
 abbrev pub readies_held : ℕ → Hold → ℕ
-readies_held r (hold.Run q) = same r q
+readies_held r (Hold.Run q) = same r q
 readies_held r _ = 0
 
 abbrev pub readies_of : ℕ → Op → ℕ
-readies_of r (op.Run (run_op.Reschedule q a)) = cond (is_end_ready a) (same r q) 0
-readies_of r (op.End a held) = cond (is_end_ready a) (readies_held r held) 0
+readies_of r (Op.Run (RunOp.Reschedule q a)) = cond (is_end_ready a) (same r q) 0
+readies_of r (Op.End a held) = cond (is_end_ready a) (readies_held r held) 0
 readies_of r _ = 0
 
 same-few : (r q : ℕ) → same r q ≤ 1
@@ -139,14 +111,14 @@ cond-none true n = omega arith
 cond-none false n = omega arith
 
 section-few : (r : ℕ) (s : Section) → quits_section r s ≤ 1
-section-few r section.MakeRun = omega arith
-section-few r (section.Register x) = omega arith
-section-few r (section.Unregister q a) = omega (arith, cond-none (is_end_ready a) (same r q), same-few r q)
+section-few r Section.MakeRun = omega arith
+section-few r (Section.Register x) = omega arith
+section-few r (Section.Unregister q a) = omega (arith, cond-none (is_end_ready a) (same r q), same-few r q)
 
 quits-few : (r : ℕ) (o : Op) → quits_of r o ≤ calling_of o
-quits-few r (op.List (list_op.LockWrite s)) = section-few r s
-quits-few r (op.List (list_op.Write s)) = section-few r s
-quits-few r (op.Run (run_op.Reschedule q a)) = same-few r q
+quits-few r (Op.List (ListOp.LockWrite s)) = section-few r s
+quits-few r (Op.List (ListOp.Write s)) = section-few r s
+quits-few r (Op.Run (RunOp.Reschedule q a)) = same-few r q
 quits-few r _ = omega arith
 
 pub mild-quits : (r : ℕ) → Mild (quits_of r)

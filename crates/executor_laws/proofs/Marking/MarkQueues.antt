@@ -2,14 +2,10 @@
 -- Each of the executor's queues has futures of its mark alone.
 use Rattle.std.proofs.Common.{ℕ, zero, suc, ◌<◌, ◌≤◌, List, [], ◌∷◌, length, arith}
 use Rattle.std.specs.Prelude.{slice_index_or}
-use Rattle.executor_model.specs.declared.kind.Kind.{Kind}
-use Rattle.executor_model.specs.declared.step.Step.{Step}
-use Rattle.executor_model.specs.Sound.{times}
-use Rattle.executor_model.specs.Steps.{run, start}
-use Rattle.executor_model.specs.World.{queue_of}
-use Rattle.executor_model.proofs.Sleepers.TickLists.{same_self}
+use Rattle.executor_model.specs.{Sound.times, Steps.run, Steps.start, World.queue_of}
 use Rattle.executor_laws.specs.Looks.{AreQueuedByMark}
-use Rattle.executor_laws.proofs.Reach.Marked.{marked}
+use Rattle.executor_model.proofs.Sleepers.TickLists.{same_self}
+use Rattle.executor_laws.proofs.{Types.Kind, Types.Step, Reach.Marked.marked}
 
 -- what stands at a place stands there
 times-at : (xs : List ℕ) (i d : ℕ) → i < length xs → 1 ≤ times (slice_index_or xs i d) xs

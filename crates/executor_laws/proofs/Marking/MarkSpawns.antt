@@ -5,59 +5,33 @@ use Rattle.std.proofs.Common.{false, cond, refl, sym, ap, subst, arith, append-n
 use Rattle.std.proofs.lemmas.List.{append_cancel_left, reverse-append, take_at}
 use Rattle.std.specs.Prelude.{Option, Some, reverse, slice_get, slice_index_or}
 use Rattle.executor_parts.specs.Marks.{same_mark}
-use Rattle.executor_parts.specs.declared.mark.Mark.{Mark}
-use Rattle.executor_parts.specs.declared.mark.Mark.TheVariants.{Plain, Urgent}
-use Rattle.executor_model.specs.declared.call.Call.{Call}
-use Rattle.executor_model.specs.declared.call.Call.TheVariants as call
-use Rattle.executor_model.specs.declared.call.Reply.{Reply}
-use Rattle.executor_model.specs.declared.event.Event.{Event}
-use Rattle.executor_model.specs.declared.event.Event.TheVariants as event
-use Rattle.executor_model.specs.declared.kind.Kind.{Kind}
-use Rattle.executor_model.specs.declared.op.Hold.{Hold}
-use Rattle.executor_model.specs.declared.op.Op.{Op}
-use Rattle.executor_model.specs.declared.op.Op.TheVariants as op
-use Rattle.executor_model.specs.declared.op.TableOp.TheVariants as table_op
-use Rattle.executor_model.specs.declared.op.Waker.{Waker}
-use Rattle.executor_model.specs.declared.step.Step.{Step}
-use Rattle.executor_model.specs.Acts.{enter_by}
+use Rattle.executor_laws.proofs.Types.{Mark, Plain, Urgent, Call, Reply, Event, Kind, Hold, Op, TableOp, Waker, Step}
 use Rattle.executor_model.specs.Calls.{Begun, Ended, calls}
-use Rattle.executor_model.specs.ClosingOrder.{accepted_in}
-use Rattle.executor_model.specs.Doing.{act}
-use Rattle.executor_model.specs.Good.{Good}
 use Rattle.executor_model.specs.Steps.{Machine, accepts, begun, below_top, mine, react, run, stack, start, step, stepped, top}
-use Rattle.executor_model.specs.Trace.{Trace}
-use Rattle.executor_model.specs.Weights.{weigh}
 use Rattle.executor_model.specs.World.{Done, World, done, log, mark_of}
-use Rattle.executor_model.proofs.Promises.CallFits.{fit-act, fit-react}
-use Rattle.executor_model.proofs.Promises.CallFrames.{Frames, Tied, passes-react}
-use Rattle.executor_model.proofs.Promises.CallServes.{misfit, spawns}
-use Rattle.executor_model.proofs.Promises.FrameWays.{frames-end, frames-start, frames-way}
-use Rattle.executor_model.proofs.Quiet.Calls.{Passes, calling_of, is_end}
-use Rattle.executor_model.proofs.Quiet.CallsDone.{fit-begun}
-use Rattle.executor_model.proofs.Quiet.CallsGroups.{calls-act}
-use Rattle.executor_model.proofs.Quiet.Resting.{calling-is}
-use Rattle.executor_model.proofs.SpawnWants.WantFrames.{Enters, asks-place, unended}
-use Rattle.executor_model.proofs.Steps.Lift.{good-start, topped, unsettled}
-use Rattle.executor_model.proofs.Steps.Lists.{weigh-append, weigh-below}
-use Rattle.executor_model.proofs.Steps.Reached.{Reached}
-use Rattle.executor_model.proofs.Steps.TraceSteps.{continues}
-use Rattle.executor_model.proofs.Steps.Ways.{Way, along}
-use Rattle.executor_model.proofs.Steps.Ways.Way.{acted, called, reacted}
+use Rattle.executor_model.specs.{Acts.enter_by, ClosingOrder.accepted_in, Doing.act, Good.Good, Trace.Trace, Weights.weigh}
 use Rattle.executor_laws.specs.Looks.{IsMarkedAsSpawned}
-use Rattle.executor_laws.proofs.Marking.MarkActs.{Steps, changes-step}
+use Rattle.executor_model.proofs.Promises.CallFrames.{Frames, Tied, passes-react}
+use Rattle.executor_model.proofs.Promises.FrameWays.{frames-end, frames-start, frames-way}
+use Rattle.executor_model.proofs.SpawnWants.WantFrames.{Enters, asks-place, unended}
+use Rattle.executor_model.proofs.{Promises.CallFits.fit-act, Promises.CallFits.fit-react, Promises.CallServes.misfit}
+use Rattle.executor_model.proofs.{Promises.CallServes.spawns, Quiet.Calls.Passes, Quiet.Calls.calling_of, Quiet.Calls.is_end}
+use Rattle.executor_model.proofs.{Quiet.CallsDone.fit-begun, Quiet.CallsGroups.calls-act, Quiet.Resting.calling-is}
+use Rattle.executor_model.proofs.{Steps.Lift.good-start, Steps.Lift.topped, Steps.Lift.unsettled, Steps.Lists.weigh-append}
+use Rattle.executor_model.proofs.{Steps.Lists.weigh-below, Steps.Reached.Reached, Steps.TraceSteps.continues, Steps.Ways.Way}
+use Rattle.executor_model.proofs.{Steps.Ways.along, Steps.Ways.Way.acted, Steps.Ways.Way.called, Steps.Ways.Way.reacted}
 use Rattle.executor_laws.proofs.Marking.MarkActs.Steps.{stays, counts, enters}
-use Rattle.executor_laws.proofs.Marking.MarkSteps.{accepted-append}
-use Rattle.executor_laws.proofs.Placement.OwnReady.{reached-on}
 use Rattle.executor_laws.proofs.Reach.Marked.{Grown, grown-step, mark-stays, marked}
-use Rattle.executor_laws.proofs.Reach.Marked.Grown.{kept, one}
+use Rattle.executor_laws.proofs.{Marking.MarkActs.Steps, Marking.MarkActs.changes-step, Marking.MarkSteps.accepted-append}
+use Rattle.executor_laws.proofs.{Placement.OwnReady.reached-on, Reach.Marked.Grown.kept, Reach.Marked.Grown.one}
 
 -- it asks for a place by another mark than this
 abbrev strange : Mark → Op → ℕ
-strange m (op.Table (table_op.Enter n)) = cond (same_mark m n) 0 1
+strange m (Op.Table (TableOp.Enter n)) = cond (same_mark m n) 0 1
 strange m _ = 0
 
 few-strange : (m : Mark) (o : Op) → strange m o ≤ calling_of o
-few-strange m (op.Table (table_op.Enter n)) = by (same_mark m n)
+few-strange m (Op.Table (TableOp.Enter n)) = by (same_mark m n)
   where
     by : (b : Bool) → cond b 0 1 ≤ 1
     by true = omega arith
@@ -67,7 +41,7 @@ few-strange m _ = omega arith
 -- the frame of a call
 record Fit (c : Call) (os : List Op) : Type 0 where
   pub fits : weigh (misfit c) os ≡ 0
-  pub marked : (m : Mark) → c ≡ call.Spawn m → weigh (strange m) os ≡ 0
+  pub marked : (m : Mark) → c ≡ Call.Spawn m → weigh (strange m) os ≡ 0
 
 abbrev Fits : Trace → Begun → List Op → Type 0
 Fits es b os = Fit b.call os
@@ -78,7 +52,7 @@ fits-later es more b os h = h
 abbrev Any : Ended → Type 0
 Any e = Unit {0}
 
-any-right : (es : Trace) (b : Begun) (a : Reply) (held : Hold) → Fits es b (op.End a held ∷ []) →
+any-right : (es : Trace) (b : Begun) (a : Reply) (held : Hold) → Fits es b (Op.End a held ∷ []) →
     Any (record { call = b.call; own = b.own; reply = a; past = es })
 any-right es b a held h = tt
 
@@ -88,8 +62,8 @@ enter-none m false true n p w = refl
 enter-none m false false n p w = refl
 
 -- what is done leads to no entry
-next-none : (m : Mark) (c : Call) (o : Op) (next : List Op) → c ≡ call.Spawn m → Passes o next → is_end o ≡ false →
-    misfit c o ≡ 0 → ((n : Mark) → o ≡ op.Table (table_op.Enter n) → weigh (strange m) next ≡ 0) →
+next-none : (m : Mark) (c : Call) (o : Op) (next : List Op) → c ≡ Call.Spawn m → Passes o next → is_end o ≡ false →
+    misfit c o ≡ 0 → ((n : Mark) → o ≡ Op.Table (TableOp.Enter n) → weigh (strange m) next ≡ 0) →
     weigh (strange m) next ≡ 0
 next-none m c o next i k n f e = ⊎_elim
     (λ (z : calling_of o ≡ 0). omega (arith, weigh-below (strange m) calling_of (few-strange m) next, k.none z))
@@ -97,7 +71,7 @@ next-none m c o next i k n f e = ⊎_elim
     (calling-is o)
 
 fit-on : (c : Call) (o : Op) (rest next : List Op) → (misfit c o ≡ 0 → weigh (misfit c) next ≡ 0) →
-    ((m : Mark) → c ≡ call.Spawn m → misfit c o ≡ 0 → weigh (strange m) next ≡ 0) → Fit c (o ∷ rest) → Fit c (next ++ rest)
+    ((m : Mark) → c ≡ Call.Spawn m → misfit c o ≡ 0 → weigh (strange m) next ≡ 0) → Fit c (o ∷ rest) → Fit c (next ++ rest)
 fit-on c o rest next f g h = let z : misfit c o ≡ 0 = omega (arith, h.fits) in record {
   fits = omega (arith, weigh-append (misfit c) next rest, f z, h.fits);
   marked = λ m i. omega (arith, weigh-append (strange m) next rest, g m i z, h.marked m i);
@@ -120,13 +94,13 @@ way-on s p old rest d (reacted x u a q z) o e n c below k =
     subst (λ (y : Done). Fit c (y.next ++ below)) (sym z)
     (fit-on c x below (react p x u s.world).next (fit-react c p x u s.world a)
     (λ b j f. next-none b c x (react p x u s.world).next j (passes-react p x u s.world a) m f
-    (λ b r. let no : accepts (op.Table (table_op.Enter b)) u ≡ true = ap (λ (y : Op). accepts y u) (sym r) ∙ a in
+    (λ b r. let no : accepts (Op.Table (TableOp.Enter b)) u ≡ true = ap (λ (y : Op). accepts y u) (sym r) ∙ a in
     absurd (cc)))
     (subst (λ (y : Op). Fit c (y ∷ below)) (sym i) k))
 way-on s p old rest d (called c q r n z) o e m b below k =
     let no : [] ≡ o ∷ [] = sym q ∙ e in absurd (cc)
 
-own-mark : (m : Mark) → weigh (strange m) (op.Table (table_op.Enter m) ∷ []) ≡ 0
+own-mark : (m : Mark) → weigh (strange m) (Op.Table (TableOp.Enter m) ∷ []) ≡ 0
 own-mark Plain = refl
 own-mark Urgent = refl
 
@@ -147,11 +121,11 @@ moves s p old rest d good l e way f =
     frames-way Fits fits-later Any any-right s p old rest d l e f
     (λ o q n more t b below h. way-on s p old rest d way o q n b.call below h)
     (λ c q a more z t. subst (λ (x : Done). Fit c x.next) (sym z)
-    (fit-first p (log s.world (event.CallBegun p c)) (mine (top (stack s p))) c)) way
+    (fit-first p (log s.world (Event.CallBegun p c)) (mine (top (stack s p))) c)) way
 
 over : (s : Machine) (p : ℕ) (a : Reply) (held : Hold) (below : List Op) → p < length s.parties →
-    stack s p ≡ below ++ reverse (op.End a held ∷ []) → AllFit s →
-    AllFit (unsettled s p below (done (log s.world (event.CallEnded p a)) []))
+    stack s p ≡ below ++ reverse (Op.End a held ∷ []) → AllFit s →
+    AllFit (unsettled s p below (done (log s.world (Event.CallEnded p a)) []))
 over s p a held below l e f = frames-end Fits fits-later Any any-right s p a held below l e f
 
 all-fit : (limit : ℕ) (kind : Kind) (n : ℕ) (ts : List Step) → AllFit (run ts (start limit kind n))
@@ -160,42 +134,42 @@ all-fit limit kind n ts = along AllFit moves over ts (start limit kind n) (good-
 
 -- whoever asks for a place asks by the mark of the spawn that is its innermost call
 
-same-marks : (m n : Mark) → weigh (strange m) (op.Table (table_op.Enter n) ∷ []) ≡ 0 → n ≡ m
+same-marks : (m n : Mark) → weigh (strange m) (Op.Table (TableOp.Enter n) ∷ []) ≡ 0 → n ≡ m
 same-marks Plain Plain e = refl
 same-marks Urgent Urgent e = refl
 same-marks Plain Urgent e = absurd (omega (arith, e))
 same-marks Urgent Plain e = absurd (omega (arith, e))
 
 entry-mark : (s : Machine) (p : ℕ) (n m : Mark) (b : Begun) (outer : List Begun) → AllFit s →
-    top (stack s p) ≡ Some (op.Table (table_op.Enter n)) → (calls p s.world.trace).begun ≡ b ∷ outer →
-    b.call ≡ call.Spawn m → n ≡ m
+    top (stack s p) ≡ Some (Op.Table (TableOp.Enter n)) → (calls p s.world.trace).begun ≡ b ∷ outer →
+    b.call ≡ Call.Spawn m → n ≡ m
 entry-mark s p n m b outer f e i c =
     let t : Tied Fits fits-later Any s.world.trace (b ∷ outer) (reverse (stack s p)) =
     subst (λ (l : List Begun). Tied Fits fits-later Any s.world.trace l (reverse (stack s p))) i (f.tied p) in
-    let o : Op = op.Table (table_op.Enter n) in
+    let o : Op = Op.Table (TableOp.Enter n) in
     let q : reverse (stack s p) ≡ o ∷ reverse (below_top (stack s p)) =
     ap (λ (xs : List Op). reverse xs) (topped (stack s p) o e) ∙ reverse-append (below_top (stack s p)) (o ∷ []) in
     by t.0 t.1 t.2 (sym q ∙ t.3.is) t.3.none t.3.owes
   where
     by : (front : List Op) (last : Op) (below : List Op) →
-        op.Table (table_op.Enter n) ∷ reverse (below_top (stack s p)) ≡ front ++ last ∷ below →
+        Op.Table (TableOp.Enter n) ∷ reverse (below_top (stack s p)) ≡ front ++ last ∷ below →
         weigh calling_of front ≡ 0 → Fit b.call (front ++ last ∷ []) → n ≡ m
     by [] last below j z h =
-        let k : last ≡ op.Table (table_op.Enter n) = cc in
+        let k : last ≡ Op.Table (TableOp.Enter n) = cc in
         same-marks m n (subst (λ (x : Op). weigh (strange m) (x ∷ []) ≡ 0) k (h.marked m c))
     by (y ∷ fs) last below j z h =
-        let k : y ≡ op.Table (table_op.Enter n) = cc in absurd (omega (arith, z, ap calling_of k))
+        let k : y ≡ Op.Table (TableOp.Enter n) = cc in absurd (omega (arith, z, ap calling_of k))
 
 -- what is told of one
 
 rest-none : (x : Event) (es : Trace) → accepted_in (x ∷ es) ≡ [] → accepted_in es ≡ []
-rest-none (event.Accepted p f) es z = absurd (cc)
+rest-none (Event.Accepted p f) es z = absurd (cc)
 rest-none _ es z = z
 
-none-in : (es : Trace) (k p f : ℕ) → accepted_in es ≡ [] → slice_get es k ≡ Some (event.Accepted p f) → ⊥
+none-in : (es : Trace) (k p f : ℕ) → accepted_in es ≡ [] → slice_get es k ≡ Some (Event.Accepted p f) → ⊥
 none-in [] k p f z e = absurd (cc)
 none-in (x ∷ es) zero p f z e =
-    let i : x ≡ event.Accepted p f = cc in
+    let i : x ≡ Event.Accepted p f = cc in
     let no : f ∷ accepted_in es ≡ [] = ap (λ (y : Event). accepted_in (y ∷ es)) (sym i) ∙ z in cc
 none-in (x ∷ es) (suc k) p f z e = none-in es k p f (rest-none x es z) e
 
@@ -220,10 +194,10 @@ spot (x ∷ xs) ys (suc k) e h = by (spot xs ys k e h)
 -- each that is told of is known, and has the mark of its spawn
 abbrev IsSpawnedSo : World → ℕ → ℕ → ℕ → Type 0
 IsSpawnedSo w p f place = (f < length w.marks) × ((m : Mark) (b : Begun) (outer : List Begun) →
-    (calls p (take place w.trace)).begun ≡ b ∷ outer → b.call ≡ call.Spawn m → mark_of w f ≡ m)
+    (calls p (take place w.trace)).begun ≡ b ∷ outer → b.call ≡ Call.Spawn m → mark_of w f ≡ m)
 
 record Spawned (w : World) : Type 0 where
-  pub each : (p f place : ℕ) → slice_get w.trace place ≡ Some (event.Accepted p f) → IsSpawnedSo w p f place
+  pub each : (p f place : ℕ) → slice_get w.trace place ≡ Some (Event.Accepted p f) → IsSpawnedSo w p f place
 
 grown-known : (w v : World) (f : ℕ) → Grown w v → f < length w.marks → f < length v.marks
 grown-known w v f (kept e) l = subst (λ (ms : List Mark). f < length ms) (ap (λ x. x.marks) e) l
@@ -231,7 +205,7 @@ grown-known w v f (one m e k) l =
     omega (arith, l, ap (λ (ms : List Mark). length ms) e, length-append w.marks (m ∷ []))
 
 spawned-before : (w v : World) (more : Trace) → Grown w v → v.trace ≡ w.trace ++ more → Spawned w → (p f place : ℕ) →
-    slice_get w.trace place ≡ Some (event.Accepted p f) → take place (w.trace ++ more) ≡ take place w.trace →
+    slice_get w.trace place ≡ Some (Event.Accepted p f) → take place (w.trace ++ more) ≡ take place w.trace →
     IsSpawnedSo v p f place
 spawned-before w v more g e h p f place i t =
     let old : IsSpawnedSo w p f place = h.each p f place i in (
@@ -245,11 +219,11 @@ spawned-none : (w v : World) (more : Trace) → Grown w v → v.trace ≡ w.trac
     Spawned v
 spawned-none w v more g e z h = record {
   each = λ p f place i. by p f place
-      (spot w.trace more place (event.Accepted p f)
-      (subst (λ (es : Trace). slice_get es place ≡ Some (event.Accepted p f)) e i));
+      (spot w.trace more place (Event.Accepted p f)
+      (subst (λ (es : Trace). slice_get es place ≡ Some (Event.Accepted p f)) e i));
 }
   where
-    by : (p f place : ℕ) → Spot w.trace more place (event.Accepted p f) → IsSpawnedSo v p f place
+    by : (p f place : ℕ) → Spot w.trace more place (Event.Accepted p f) → IsSpawnedSo v p f place
     by p f place (before i t) = spawned-before w v more g e h p f place i t
     by p f place (behind n q i) = absurd (none-in more n p f z i)
 
@@ -259,12 +233,12 @@ last-mark (x ∷ ms) m = last-mark ms m
 
 module _ (s : Machine) (v : World) (fit : AllFit s) (known : length s.world.marks ≡ length s.world.tasks)
     (h : Spawned s.world) (g : Grown s.world v) where
-  spawned-entry : (p : ℕ) (m : Mark) (more : Trace) → top (stack s p) ≡ Some (op.Table (table_op.Enter m)) →
+  spawned-entry : (p : ℕ) (m : Mark) (more : Trace) → top (stack s p) ≡ Some (Op.Table (TableOp.Enter m)) →
       v.marks ≡ s.world.marks ++ m ∷ [] →
-      v.trace ≡ s.world.trace ++ event.Accepted p (length s.world.tasks) ∷ more → accepted_in more ≡ [] → Spawned v
+      v.trace ≡ s.world.trace ++ Event.Accepted p (length s.world.tasks) ∷ more → accepted_in more ≡ [] → Spawned v
   spawned-entry p m more i a e z = record {
-    each = λ q f place k. by q f place (spot s.world.trace (event.Accepted p (length s.world.tasks) ∷ more) place
-        (event.Accepted q f) (subst (λ (es : Trace). slice_get es place ≡ Some (event.Accepted q f)) e k));
+    each = λ q f place k. by q f place (spot s.world.trace (Event.Accepted p (length s.world.tasks) ∷ more) place
+        (Event.Accepted q f) (subst (λ (es : Trace). slice_get es place ≡ Some (Event.Accepted q f)) e k));
   }
     where
       now : (q f place : ℕ) → q ≡ p → f ≡ length s.world.marks → place ≡ length s.world.trace → IsSpawnedSo v q f place
@@ -280,7 +254,7 @@ module _ (s : Machine) (v : World) (fit : AllFit s) (known : length s.world.mark
             (sym (ap (λ (es : Trace). take place es) e ∙ take_at s.world.trace _ place (sym r))) ∙ y)) c)),
       )
 
-      by : (q f place : ℕ) → Spot s.world.trace (event.Accepted p (length s.world.tasks) ∷ more) place (event.Accepted q f) →
+      by : (q f place : ℕ) → Spot s.world.trace (Event.Accepted p (length s.world.tasks) ∷ more) place (Event.Accepted q f) →
           IsSpawnedSo v q f place
       by q f place (before k t) = spawned-before s.world v _ g e h q f place k t
       by q f place (behind zero r k) =
@@ -309,7 +283,7 @@ spawned-run (t ∷ ts) s r h =
     spawned-run ts (stepped s (step s t)) (reached-on s (t ∷ []) r)
     (spawned-by s (stepped s (step s t)).world (fit-here s r) (known-here s r) h (grown-step s t) c.0 c.1 (changes-step s t))
 
-none-told : (place p f : ℕ) → slice_get (let es : Trace = [] in es) place ≡ Some (event.Accepted p f) → ⊥
+none-told : (place p f : ℕ) → slice_get (let es : Trace = [] in es) place ≡ Some (Event.Accepted p f) → ⊥
 none-told place p f e = cc
 
 pub marked-as-spawned : (limit : ℕ) (kind : Kind) (parties : ℕ) (steps : List Step) →

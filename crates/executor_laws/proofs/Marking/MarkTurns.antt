@@ -3,14 +3,10 @@
 use Rattle.std.proofs.Common.{◌≡◌, ℕ, zero, suc, ◌+◌, ◌≤◌, List, [], ◌∷◌, ◌++◌, length, drop, take, refl, sym, ap, ◌∙◌, arith}
 use Rattle.std.specs.Prelude.{◌-◌}
 use Rattle.executor_parts.specs.Marks.{first_of, turn_after}
-use Rattle.executor_parts.specs.declared.mark.Mark.{Mark}
-use Rattle.executor_model.specs.declared.kind.Kind.{Kind}
-use Rattle.executor_model.specs.declared.step.Step.{Step}
-use Rattle.executor_model.specs.Steps.{Machine, run, start, step, stepped}
-use Rattle.executor_model.specs.World.{World}
+use Rattle.executor_model.specs.{Steps.Machine, Steps.run, Steps.start, Steps.step, Steps.stepped, World.World}
 use Rattle.executor_laws.specs.Looks.{looked, plains, OneOfEightIsPlain}
-use Rattle.executor_laws.proofs.Marking.MarkActs.{Steps, changes-step}
 use Rattle.executor_laws.proofs.Marking.MarkActs.Steps.{stays, counts, enters}
+use Rattle.executor_laws.proofs.{Types.Mark, Types.Kind, Types.Step, Marking.MarkActs.Steps, Marking.MarkActs.changes-step}
 
 -- so many turns from this count on name these
 abbrev named_from : ℕ → ℕ → List Mark

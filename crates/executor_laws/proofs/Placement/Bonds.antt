@@ -1,17 +1,12 @@
 -- For due_futures_stand_with_their_keepers.
 -- What a trace tells of the last time that a future came into a run's own queue, read from left to right.
-use Rattle.std.proofs.Common.{◌≡◌, ◌∙◌, ℕ, zero, suc, ◌+◌, ◌<◌, [], ◌∷◌, ◌++◌}
-use Rattle.std.proofs.Common.{length, drop, Bool, true, false, ◌||◌, eqb, cond, refl, sym, ap, subst, arith}
-use Rattle.std.proofs.lemmas.Bool.Decides.{nat_tests}
-use Rattle.std.proofs.lemmas.List.{length-append}
+use Rattle.std.proofs.Common.{◌≡◌, ◌∙◌, ℕ, zero, suc, ◌+◌, ◌<◌, [], ◌∷◌, ◌++◌, length, drop, Bool, true, false, ◌||◌, eqb, cond}
+use Rattle.std.proofs.Common.{refl, sym, ap, subst, arith}
 use Rattle.std.specs.Prelude.{Option, Some, slice_get}
-use Rattle.executor_model.specs.declared.event.Event.{Event}
-use Rattle.executor_model.specs.declared.event.Event.TheVariants as event
-use Rattle.executor_model.specs.AwaiterKept.{since}
-use Rattle.executor_model.specs.Keeper.{is_kept, is_run_drop}
-use Rattle.executor_model.specs.Trace.{Trace, has, is_poll}
-use Rattle.executor_model.proofs.Steps.Pushes.{any-push}
-use Rattle.executor_model.proofs.Polls.Dueness.{by_last}
+use Rattle.std.{proofs.lemmas.Bool.Decides.nat_tests, proofs.lemmas.List.length-append}
+use Rattle.executor_laws.proofs.Types.{Event}
+use Rattle.executor_model.specs.{AwaiterKept.since, Keeper.is_kept, Keeper.is_run_drop, Trace.Trace, Trace.has, Trace.is_poll}
+use Rattle.executor_model.proofs.{Steps.Pushes.any-push, Polls.Dueness.by_last}
 use Rattle.executor_laws.proofs.Placement.Opens.{get-old, get-new, since-old, since-new}
 
 pub record Bond : Type 0 where
@@ -26,9 +21,9 @@ unbound = record { kept = false; run = 0; party = 0; place = 0 }
 
 -- the event at place n
 abbrev pub binds : ℕ → ℕ → Event → Bond → Bond
-binds f n (event.Kept p g r) s = cond (eqb f g) (record { kept = true; run = r; party = p; place = n }) s
-binds f n (event.PollBegun p g) s = cond (eqb f g) (record s { kept = false }) s
-binds f n (event.RunDropped p q) s = cond (eqb s.run q) (record s { kept = false }) s
+binds f n (Event.Kept p g r) s = cond (eqb f g) (record { kept = true; run = r; party = p; place = n }) s
+binds f n (Event.PollBegun p g) s = cond (eqb f g) (record s { kept = false }) s
+binds f n (Event.RunDropped p q) s = cond (eqb s.run q) (record s { kept = false }) s
 binds f n _ s = s
 
 abbrev pub bond_from : ℕ → ℕ → Bond → Trace → Bond
@@ -58,7 +53,7 @@ bond-none f = refl
 
 pub record Reads (f : ℕ) (es : Trace) (s : Bond) : Type 0 where
   pub within : s.kept ≡ true → s.place < length es
-  pub kept : s.kept ≡ true → slice_get es s.place ≡ Some (event.Kept s.party f s.run)
+  pub kept : s.kept ≡ true → slice_get es s.place ≡ Some (Event.Kept s.party f s.run)
   pub last : s.kept ≡ true → has (is_kept f) (since s.place es) ≡ false
   pub unpolled : s.kept ≡ true → has (is_poll f) (since s.place es) ≡ false
   pub undropped : s.kept ≡ true → has (is_run_drop s.run) (since s.place es) ≡ false
@@ -94,14 +89,14 @@ reads-loose f es s e = record {
     no q = let z : true ≡ false = sym q ∙ e in cc
 
 reads-kept : (f : ℕ) (es : Trace) (p g r : ℕ) → eqb f g ≡ true →
-    Reads f (es ++ event.Kept p g r ∷ []) (record { kept = true; run = r; party = p; place = length es })
+    Reads f (es ++ Event.Kept p g r ∷ []) (record { kept = true; run = r; party = p; place = length es })
 reads-kept f es p g r e =
-    let x = event.Kept p g r in
+    let x = Event.Kept p g r in
     let same_future : g ≡ f = grind (arith, nat_tests) in
     let none : (t : Event → Bool) → has t (since (length es) (es ++ x ∷ [])) ≡ false =
     λ t. ap (has t) (since-new es x) in record {
       within = λ q. omega (arith, length-append es (x ∷ []));
-      kept = λ q. get-new es x ∙ ap (λ (n : ℕ). let o : Option Event = Some (event.Kept p n r) in o) same_future;
+      kept = λ q. get-new es x ∙ ap (λ (n : ℕ). let o : Option Event = Some (Event.Kept p n r) in o) same_future;
       last = λ q. none (is_kept f);
       unpolled = λ q. none (is_poll f);
       undropped = λ q. none (is_run_drop r);
@@ -109,42 +104,42 @@ reads-kept f es p g r e =
 
 reads-push : (f : ℕ) (es : Trace) (e : Event) (s : Bond) → Reads f es s →
     Reads f (es ++ e ∷ []) (binds f (length es) e s)
-reads-push f es (event.Kept p g r) s h = by (eqb f g) refl
+reads-push f es (Event.Kept p g r) s h = by (eqb f g) refl
   where
-    by : (b : Bool) → eqb f g ≡ b → Reads f (es ++ event.Kept p g r ∷ [])
+    by : (b : Bool) → eqb f g ≡ b → Reads f (es ++ Event.Kept p g r ∷ [])
         (cond b (record { kept = true; run = r; party = p; place = length es }) s)
     by true z = reads-kept f es p g r z
-    by false z = reads-more f es (event.Kept p g r) s z refl refl h
-reads-push f es (event.PollBegun p g) s h = by (eqb f g) refl
+    by false z = reads-more f es (Event.Kept p g r) s z refl refl h
+reads-push f es (Event.PollBegun p g) s h = by (eqb f g) refl
   where
-    by : (b : Bool) → eqb f g ≡ b → Reads f (es ++ event.PollBegun p g ∷ []) (cond b (record s { kept = false }) s)
+    by : (b : Bool) → eqb f g ≡ b → Reads f (es ++ Event.PollBegun p g ∷ []) (cond b (record s { kept = false }) s)
     by true z = reads-loose f _ (record s { kept = false }) refl
-    by false z = reads-more f es (event.PollBegun p g) s refl z refl h
-reads-push f es (event.RunDropped p q) s h = by (eqb s.run q) refl
+    by false z = reads-more f es (Event.PollBegun p g) s refl z refl h
+reads-push f es (Event.RunDropped p q) s h = by (eqb s.run q) refl
   where
-    by : (b : Bool) → eqb s.run q ≡ b → Reads f (es ++ event.RunDropped p q ∷ []) (cond b (record s { kept = false }) s)
+    by : (b : Bool) → eqb s.run q ≡ b → Reads f (es ++ Event.RunDropped p q ∷ []) (cond b (record s { kept = false }) s)
     by true z = reads-loose f _ (record s { kept = false }) refl
-    by false z = reads-more f es (event.RunDropped p q) s refl refl z h
-reads-push f es (event.CallBegun p c) s h = reads-more f es _ s refl refl refl h
-reads-push f es (event.CallEnded p c) s h = reads-more f es _ s refl refl refl h
-reads-push f es (event.Accepted p c) s h = reads-more f es _ s refl refl refl h
-reads-push f es (event.Answered p c a) s h = reads-more f es _ s refl refl refl h
-reads-push f es (event.Woken p c) s h = reads-more f es _ s refl refl refl h
-reads-push f es (event.Cancelled p c) s h = reads-more f es _ s refl refl refl h
-reads-push f es (event.Detached p c) s h = reads-more f es _ s refl refl refl h
-reads-push f es (event.LastWaker p c) s h = reads-more f es _ s refl refl refl h
-reads-push f es (event.Leaked p c) s h = reads-more f es _ s refl refl refl h
-reads-push f es (event.Dropped p c) s h = reads-more f es _ s refl refl refl h
-reads-push f es (event.OutputDropped p c) s h = reads-more f es _ s refl refl refl h
-reads-push f es (event.OutputGiven p c) s h = reads-more f es _ s refl refl refl h
-reads-push f es (event.HandlePolled p c) s h = reads-more f es _ s refl refl refl h
-reads-push f es (event.TickPolled p c) s h = reads-more f es _ s refl refl refl h
-reads-push f es (event.TickDropped p c) s h = reads-more f es _ s refl refl refl h
-reads-push f es (event.RunPolled p c) s h = reads-more f es _ s refl refl refl h
-reads-push f es (event.WakerCalled p o k a) s h = reads-more f es _ s refl refl refl h
-reads-push f es (event.Looked p m) s h = reads-more f es _ s refl refl refl h
-reads-push f es (event.DropBegun p) s h = reads-more f es _ s refl refl refl h
-reads-push f es (event.DropEnded p) s h = reads-more f es _ s refl refl refl h
+    by false z = reads-more f es (Event.RunDropped p q) s refl refl z h
+reads-push f es (Event.CallBegun p c) s h = reads-more f es _ s refl refl refl h
+reads-push f es (Event.CallEnded p c) s h = reads-more f es _ s refl refl refl h
+reads-push f es (Event.Accepted p c) s h = reads-more f es _ s refl refl refl h
+reads-push f es (Event.Answered p c a) s h = reads-more f es _ s refl refl refl h
+reads-push f es (Event.Woken p c) s h = reads-more f es _ s refl refl refl h
+reads-push f es (Event.Cancelled p c) s h = reads-more f es _ s refl refl refl h
+reads-push f es (Event.Detached p c) s h = reads-more f es _ s refl refl refl h
+reads-push f es (Event.LastWaker p c) s h = reads-more f es _ s refl refl refl h
+reads-push f es (Event.Leaked p c) s h = reads-more f es _ s refl refl refl h
+reads-push f es (Event.Dropped p c) s h = reads-more f es _ s refl refl refl h
+reads-push f es (Event.OutputDropped p c) s h = reads-more f es _ s refl refl refl h
+reads-push f es (Event.OutputGiven p c) s h = reads-more f es _ s refl refl refl h
+reads-push f es (Event.HandlePolled p c) s h = reads-more f es _ s refl refl refl h
+reads-push f es (Event.TickPolled p c) s h = reads-more f es _ s refl refl refl h
+reads-push f es (Event.TickDropped p c) s h = reads-more f es _ s refl refl refl h
+reads-push f es (Event.RunPolled p c) s h = reads-more f es _ s refl refl refl h
+reads-push f es (Event.WakerCalled p o k a) s h = reads-more f es _ s refl refl refl h
+reads-push f es (Event.Looked p m) s h = reads-more f es _ s refl refl refl h
+reads-push f es (Event.DropBegun p) s h = reads-more f es _ s refl refl refl h
+reads-push f es (Event.DropEnded p) s h = reads-more f es _ s refl refl refl h
 
 pub reads : (f : ℕ) (es : Trace) → Reads f es (bond f es)
 reads f es = by_last (λ (t : Trace). Reads f t (bond f t))
@@ -174,9 +169,9 @@ bond-still f n s (e ∷ es) a b c =
     pass false x z = refl
 
     one : (x : Event) → is_kept f x ≡ false → is_poll f x ≡ false → is_run_drop s.run x ≡ false → binds f n x s ≡ s
-    one (event.Kept p g r) a b c = pass (eqb f g) _ a
-    one (event.PollBegun p g) a b c = pass (eqb f g) _ b
-    one (event.RunDropped p q) a b c = pass (eqb s.run q) _ c
+    one (Event.Kept p g r) a b c = pass (eqb f g) _ a
+    one (Event.PollBegun p g) a b c = pass (eqb f g) _ b
+    one (Event.RunDropped p q) a b c = pass (eqb s.run q) _ c
     one _ a b c = refl
 
 record At (f n : ℕ) (s : Bond) (es : Trace) (k : ℕ) (e : Event) : Type 0 where
@@ -199,15 +194,15 @@ bond-at f n s (x ∷ es) (suc k) e z =
       is = h.is ∙ ap (λ (m : ℕ). bond_from f (suc m) (binds f m e h.before) (drop (suc k) es)) q;
     }
 
-pub bond-is : (f r p k : ℕ) (es : Trace) → slice_get es k ≡ Some (event.Kept p f r) →
+pub bond-is : (f r p k : ℕ) (es : Trace) → slice_get es k ≡ Some (Event.Kept p f r) →
     has (is_kept f) (since k es) ≡ false → has (is_poll f) (since k es) ≡ false →
     has (is_run_drop r) (since k es) ≡ false →
     bond f es ≡ record { kept = true; run = r; party = p; place = k }
 unfolding bond
 bond-is f r p k es z a b c =
-    let h : At f 0 unbound es k (event.Kept p f r) = bond-at f 0 unbound es k (event.Kept p f r) z in
+    let h : At f 0 unbound es k (Event.Kept p f r) = bond-at f 0 unbound es k (Event.Kept p f r) z in
     let from : drop (suc k) es ≡ since k es = ap (λ (n : ℕ). drop n es) (let q : suc k ≡ k + 1 = omega arith in q) in
-    let now : binds f (0 + k) (event.Kept p f r) h.before ≡ record { kept = true; run = r; party = p; place = 0 + k } =
+    let now : binds f (0 + k) (Event.Kept p f r) h.before ≡ record { kept = true; run = r; party = p; place = 0 + k } =
     pick (eqb f f) _ h.before (grind (arith, nat_tests)) in
     let zero_less : 0 + k ≡ k = omega arith in
     h.is ∙ (ap (λ (x : Bond). bond_from f (suc (0 + k)) x (drop (suc k) es)) now

@@ -1,22 +1,15 @@
 -- For due_futures_stand_with_their_keepers.
 -- At every moment a future that stands in a run's own queue came there last, since its last poll began; and one that came
 -- to a run that is neither dropped nor ready isn't in the executor's queue.
-use Rattle.std.proofs.Common.{◌≡◌, ◌⊎◌, ◌∙◌, inl, inr, ⊎_elim, ℕ, ◌<◌, ◌≤◌, [], ◌∷◌}
-use Rattle.std.proofs.Common.{◌++◌, length, Bool, true, false, eqb, cond, refl}
-use Rattle.std.proofs.Common.{sym, ap, subst, arith}
+use Rattle.std.proofs.Common.{◌≡◌, ◌⊎◌, ◌∙◌, inl, inr, ⊎_elim, ℕ, ◌<◌, ◌≤◌, [], ◌∷◌, ◌++◌, length, Bool, true, false, eqb, cond}
+use Rattle.std.proofs.Common.{refl, sym, ap, subst, arith}
 use Rattle.std.proofs.lemmas.Bool.Decides.{nat_tests}
-use Rattle.executor_model.specs.declared.event.Event.{Event}
-use Rattle.executor_model.specs.declared.event.Event.TheVariants as event
-use Rattle.executor_model.specs.Keeper.{is_run_drop}
-use Rattle.executor_model.specs.Sound.{Pend, times}
-use Rattle.executor_model.specs.Trace.{Trace, has}
 use Rattle.executor_model.specs.World.{World, Ended, own_of, run_of}
+use Rattle.executor_model.specs.{Keeper.is_run_drop, Sound.Pend, Sound.times, Trace.Trace, Trace.has}
 use Rattle.executor_model.proofs.Steps.TraceGrows.{Grows, is_ordinary}
-use Rattle.executor_model.proofs.OwnQueues.UsingWorlds.{is_past}
-use Rattle.executor_model.proofs.Steps.TraceMore.{over-more}
+use Rattle.executor_model.proofs.{OwnQueues.UsingWorlds.is_past, Steps.TraceMore.over-more}
 use Rattle.executor_laws.proofs.Placement.Bonds.{Bond, binds, bond, bond-push}
-use Rattle.executor_laws.proofs.Placement.Ran.{has-same}
-use Rattle.executor_laws.proofs.Placement.Safe.{Safe}
+use Rattle.executor_laws.proofs.{Types.Event, Placement.Ran.has-same, Placement.Safe.Safe}
 
 abbrev pub kept : ℕ → World → Type 0
 kept f w = (bond f w.trace).kept ≡ true
@@ -33,25 +26,25 @@ pub record Bound (w : World) (f : ℕ) (p : Pend) (appends : ℕ) : Type 0 where
 
 -- what tells of a future's coming into an own queue, of its poll or of a run's drop
 abbrev pub is_bond : Event → Bool
-is_bond (event.Kept p f r) = true
-is_bond (event.PollBegun p f) = true
-is_bond (event.RunDropped p r) = true
+is_bond (Event.Kept p f r) = true
+is_bond (Event.PollBegun p f) = true
+is_bond (Event.RunDropped p r) = true
 is_bond _ = false
 
 pub ordinary-bond : (e : Event) → is_ordinary e ≡ true → is_bond e ≡ false
-ordinary-bond (event.PollBegun p f) z = absurd (cc)
-ordinary-bond (event.RunDropped p r) z = absurd (cc)
-ordinary-bond (event.Kept p f r) z = absurd (cc)
+ordinary-bond (Event.PollBegun p f) z = absurd (cc)
+ordinary-bond (Event.RunDropped p r) z = absurd (cc)
+ordinary-bond (Event.Kept p f r) z = absurd (cc)
 ordinary-bond _ z = refl
 
 binds-none : (f n : ℕ) (e : Event) (s : Bond) → is_bond e ≡ false → binds f n e s ≡ s
-binds-none f n (event.PollBegun p g) s z = absurd (cc)
-binds-none f n (event.RunDropped p r) s z = absurd (cc)
-binds-none f n (event.Kept p g r) s z = absurd (cc)
+binds-none f n (Event.PollBegun p g) s z = absurd (cc)
+binds-none f n (Event.RunDropped p r) s z = absurd (cc)
+binds-none f n (Event.Kept p g r) s z = absurd (cc)
 binds-none f n _ s z = refl
 
 drops-none : (r : ℕ) (e : Event) → is_bond e ≡ false → is_run_drop r e ≡ false
-drops-none r (event.RunDropped p q) z = absurd (cc)
+drops-none r (Event.RunDropped p q) z = absurd (cc)
 drops-none r _ z = refl
 
 -- such a trace tells the same
@@ -75,10 +68,10 @@ tied-grows f w v g =
     w.trace g.more g.none (tied-same f w.trace w.trace refl))
 
 -- a poll of another future begins
-pub tied-other : (f p g : ℕ) (es : Trace) → eqb f g ≡ false → Tied f es (es ++ event.PollBegun p g ∷ [])
+pub tied-other : (f p g : ℕ) (es : Trace) → eqb f g ≡ false → Tied f es (es ++ Event.PollBegun p g ∷ [])
 tied-other f p g es z = record {
-  bond = bond-push f es (event.PollBegun p g) ∙ by (eqb f g) z;
-  drops = λ r. has-same (is_run_drop r) es (event.PollBegun p g) refl;
+  bond = bond-push f es (Event.PollBegun p g) ∙ by (eqb f g) z;
+  drops = λ r. has-same (is_run_drop r) es (Event.PollBegun p g) refl;
 }
   where
     by : (b : Bool) → b ≡ false → cond b (record (bond f es) { kept = false }) (bond f es) ≡ bond f es
@@ -86,10 +79,10 @@ tied-other f p g es z = record {
     by false q = refl
 
 -- another future comes into an own queue
-pub tied-kept : (f p g r : ℕ) (es : Trace) → eqb f g ≡ false → Tied f es (es ++ event.Kept p g r ∷ [])
+pub tied-kept : (f p g r : ℕ) (es : Trace) → eqb f g ≡ false → Tied f es (es ++ Event.Kept p g r ∷ [])
 tied-kept f p g r es z = record {
-  bond = bond-push f es (event.Kept p g r) ∙ by (eqb f g) z;
-  drops = λ n. has-same (is_run_drop n) es (event.Kept p g r) refl;
+  bond = bond-push f es (Event.Kept p g r) ∙ by (eqb f g) z;
+  drops = λ n. has-same (is_run_drop n) es (Event.Kept p g r) refl;
 }
   where
     by : (b : Bool) → b ≡ false →
@@ -121,11 +114,11 @@ bound-same w v f p x n m t own past count stage safe h =
     }
 
 -- its poll begins
-pub bound-polled : (w v : World) (f : ℕ) (p x : Pend) (n m q : ℕ) → v.trace ≡ w.trace ++ event.PollBegun q f ∷ [] →
+pub bound-polled : (w v : World) (f : ℕ) (p x : Pend) (n m q : ℕ) → v.trace ≡ w.trace ++ Event.PollBegun q f ∷ [] →
     ((r : ℕ) → times f (own_of v r) ≡ 0) → Bound v f x m
 bound-polled w v f p x n m q e none =
     let loose : (bond f v.trace).kept ≡ false =
-    ap (λ (t : Trace). (bond f t).kept) e ∙ (ap (λ (b : Bond). b.kept) (bond-push f w.trace (event.PollBegun q f))
+    ap (λ (t : Trace). (bond f t).kept) e ∙ (ap (λ (b : Bond). b.kept) (bond-push f w.trace (Event.PollBegun q f))
     ∙ by (eqb f f) (grind (arith, nat_tests))) in
     let no : kept f v → ⊥ = λ k. (let z : true ≡ false = sym k ∙ loose in cc) in record {
       own = λ r z k. absurd (no k);
@@ -140,18 +133,18 @@ bound-polled w v f p x n m q e none =
     by false z = absurd (cc)
 
 -- it comes into the own queue of run r
-pub bound-kept : (w v : World) (f : ℕ) (x : Pend) (m q r : ℕ) → v.trace ≡ w.trace ++ event.Kept q f r ∷ [] →
+pub bound-kept : (w v : World) (f : ℕ) (x : Pend) (m q r : ℕ) → v.trace ≡ w.trace ++ Event.Kept q f r ∷ [] →
     ((n : ℕ) → 1 ≤ times f (own_of v n) → n ≡ r) → r < length v.runs → has (is_run_drop r) w.trace ≡ false → Safe v f x m →
     Bound v f x m
 bound-kept w v f x m q r e only known undropped safe =
     let now : bond f v.trace ≡ record { kept = true; run = r; party = q; place = length w.trace } =
-    ap (bond f) e ∙ (bond-push f w.trace (event.Kept q f r) ∙ by (eqb f f) (grind (arith, nat_tests))) in
+    ap (bond f) e ∙ (bond-push f w.trace (Event.Kept q f r) ∙ by (eqb f f) (grind (arith, nat_tests))) in
     let run : keeper f v ≡ r = ap (λ (b : Bond). b.run) now in record {
       own = λ n z k. run ∙ sym (only n z);
       lost = λ n z k. absurd (let no : true ≡ false = sym (ap (λ (b : Bond). b.kept) now) ∙ k in cc);
       known = λ k. omega (arith, run, known);
       undropped = λ k. ap (λ (n : ℕ). has (is_run_drop n) v.trace) run
-          ∙ (ap (has (is_run_drop r)) e ∙ (has-same (is_run_drop r) w.trace (event.Kept q f r) refl ∙ undropped));
+          ∙ (ap (has (is_run_drop r)) e ∙ (has-same (is_run_drop r) w.trace (Event.Kept q f r) refl ∙ undropped));
       away = λ k. inl safe;
     }
   where
@@ -163,18 +156,18 @@ bound-kept w v f x m q r e only known undropped safe =
 
 -- a run is dropped
 pub bound-drop : (w v : World) (f : ℕ) (p x : Pend) (n m q d : ℕ) (es : Trace) → Tied f w.trace es →
-    v.trace ≡ es ++ event.RunDropped q d ∷ [] → ((r : ℕ) → own_of v r ≡ own_of w r) →
+    v.trace ≡ es ++ Event.RunDropped q d ∷ [] → ((r : ℕ) → own_of v r ≡ own_of w r) →
     ((r : ℕ) → is_past (run_of w r) ≡ true → is_past (run_of v r) ≡ true) → is_past (run_of v d) ≡ true →
     length v.runs ≡ length w.runs → ((r : ℕ) → (run_of v r).stage ≡ (run_of w r).stage) →
     (Safe w f p n → Safe v f x m) → Bound w f p n → Bound v f x m
 bound-drop w v f p x n m q d es t e own past now count stage safe h = by (eqb (keeper f w) d) refl
   where
     e2 : Event
-    e2 = event.RunDropped q d
+    e2 = Event.RunDropped q d
 
-    told : bond f v.trace ≡ binds f (length es) (event.RunDropped q d) (bond f w.trace)
-    told = ap (bond f) e ∙ (bond-push f es (event.RunDropped q d)
-        ∙ ap (binds f (length es) (event.RunDropped q d)) t.bond)
+    told : bond f v.trace ≡ binds f (length es) (Event.RunDropped q d) (bond f w.trace)
+    told = ap (bond f) e ∙ (bond-push f es (Event.RunDropped q d)
+        ∙ ap (binds f (length es) (Event.RunDropped q d)) t.bond)
 
     times-same : (r : ℕ) → times f (own_of v r) ≡ times f (own_of w r)
     times-same r = ap (times f) (own r)
@@ -210,7 +203,7 @@ bound-drop w v f p x n m q d es t e own past now count stage safe h = by (eqb (k
           known = λ k. omega (arith, run, h.known (was k), count);
           undropped = λ k. ap (λ (r : ℕ). has (is_run_drop r) v.trace) run
               ∙ (ap (has (is_run_drop (keeper f w))) e
-              ∙ (has-same (is_run_drop (keeper f w)) es (event.RunDropped q d) z
+              ∙ (has-same (is_run_drop (keeper f w)) es (Event.RunDropped q d) z
               ∙ (t.drops (keeper f w) ∙ h.undropped (was k))));
           away = λ k. subst (λ (r : ℕ). Safe v f x m ⊎ ((run_of v r).stage ≡ Ended)) (sym run) (⊎_elim
               (λ (y : Safe w f p n). inl (safe y))

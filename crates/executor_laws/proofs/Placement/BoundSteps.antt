@@ -1,79 +1,46 @@
 -- For due_futures_stand_with_their_keepers.
 -- Each step keeps what holds at every moment of a future and of the run that keeps it.
-use Rattle.std.proofs.Common.{◌≡◌, ◌≢◌, ◌∙◌, inl, inr, ⊎_elim, ℕ, zero, suc, ◌+◌, ◌<◌, ◌≤◌, List, [], ◌∷◌}
-use Rattle.std.proofs.Common.{◌++◌, length, set, get_or, Bool, true, false, not, eqb, refl}
-use Rattle.std.proofs.Common.{sym, ap, subst, arith, get_or-set_other}
+use Rattle.std.proofs.Common.{◌≡◌, ◌≢◌, ◌∙◌, inl, inr, ⊎_elim, ℕ, zero, suc, ◌+◌, ◌<◌, ◌≤◌, List, [], ◌∷◌, ◌++◌, length, set}
+use Rattle.std.proofs.Common.{get_or, Bool, true, false, not, eqb, refl, sym, ap, subst, arith, get_or-set_other}
 use Rattle.std.specs.Prelude.{reverse}
-use Rattle.task_moves.specs.Moves as moves
-use Rattle.task_moves.specs.declared.moves.owed.Move.TheVariants as move
-use Rattle.executor_model.specs.declared.call.Reply.{Reply}
-use Rattle.executor_model.specs.declared.call.Reply.TheVariants as reply
-use Rattle.executor_model.specs.declared.event.Event.TheVariants as event
-use Rattle.executor_model.specs.declared.op.ListOp.TheVariants as list_op
-use Rattle.executor_model.specs.declared.op.Op.{Op}
-use Rattle.executor_model.specs.declared.op.Op.TheVariants as op
-use Rattle.executor_model.specs.declared.op.QueueOp.TheVariants as queue_op
-use Rattle.executor_model.specs.declared.op.RunOp.TheVariants as run_op
-use Rattle.executor_model.specs.declared.op.Section.TheVariants as section
-use Rattle.executor_model.specs.declared.op.Steal.{Steal}
-use Rattle.executor_model.specs.declared.op.StealOp.TheVariants as steal_op
-use Rattle.executor_model.specs.declared.op.TableOp.TheVariants as table_op
-use Rattle.executor_model.specs.declared.op.WakerOp.TheVariants as waker_op
-use Rattle.executor_model.specs.declared.op.HandleOp.TheVariants as handle_op
-use Rattle.executor_model.specs.declared.op.SleeperOp.TheVariants as sleeper_op
-use Rattle.executor_model.specs.declared.op.TickOp.TheVariants as tick_op
-use Rattle.executor_model.specs.declared.op.ClosingOp.TheVariants as closing_op
-use Rattle.executor_model.specs.declared.op.UserOp.TheVariants as user_op
-use Rattle.executor_model.specs.declared.step.Hint.{Hint}
-use Rattle.executor_model.specs.ActsOfRuns as runs
-use Rattle.executor_model.specs.Carried.{carried}
-use Rattle.executor_model.specs.Doing.{act}
-use Rattle.executor_model.specs.Good.{Good}
-use Rattle.executor_model.specs.Keeper.{is_run_drop}
+use Rattle.executor_laws.proofs.Types.{Move, Reply, Event, ListOp, Op, QueueOp, RunOp, Section, Steal, StealOp, TableOp}
+use Rattle.executor_laws.proofs.Types.{WakerOp, HandleOp, SleeperOp, TickOp, ClosingOp, UserOp, Hint}
 use Rattle.executor_model.specs.Rows.{appends_of, past_of, running_of, waiting_of}
 use Rattle.executor_model.specs.Sound.{Pend, pend, times, times_in, with_ops}
-use Rattle.executor_model.specs.Steps.{Machine}
-use Rattle.executor_model.specs.Steps.{stack}
-use Rattle.executor_model.specs.Trace.{has}
-use Rattle.executor_model.specs.Weights.{past, same, weigh, weigh_all}
-use Rattle.executor_model.specs.World.{World, Ended, Run, Done, among, log, log_if, no_run}
-use Rattle.executor_model.specs.World.{own_of, run_of, task}
+use Rattle.executor_model.specs.World.{World, Ended, Run, Done, among, log, log_if, no_run, own_of, run_of, task}
+use Rattle.executor_model.specs.{Carried.carried, Doing.act, Good.Good, Keeper.is_run_drop, Steps.Machine, Steps.stack}
+use Rattle.executor_model.specs.{Trace.has, Weights.past, Weights.same, Weights.weigh, Weights.weigh_all}
 use Rattle.executor_model.proofs.Steps.Lift.{push-pend, split, split-pend, unsettled}
 use Rattle.executor_model.proofs.Steps.Lists.{past_is, same_cases, same_is, times-append, weigh_all-below, weigh_all-push}
-use Rattle.executor_model.proofs.OwnQueues.OwnRooms.{Roomy}
 use Rattle.executor_model.proofs.Steps.RunsMoves.{moves-own_length}
-use Rattle.executor_model.proofs.OwnQueues.RunsMoving.{hull-more}
-use Rattle.executor_model.proofs.OwnQueues.Using.{polling_of}
-use Rattle.executor_model.proofs.OwnQueues.UsingRuns.{idle-more}
-use Rattle.executor_model.proofs.OwnQueues.UsingSteps.{AllUsed}
-use Rattle.executor_model.proofs.OwnQueues.UsingWorlds.{is_past}
-use Rattle.executor_laws.proofs.Placement.Bound.{Bound, Tied, bound-kept, bound-polled, bound-same, keeper, kept}
-use Rattle.executor_laws.proofs.Placement.Bound.{tied-kept, tied-other, tied-same}
-use Rattle.executor_laws.proofs.Placement.Evens.{Even, even-idle}
-use Rattle.executor_laws.proofs.Placement.Leavings.{dropping_of, off_of}
-use Rattle.executor_laws.proofs.Placement.Opens.{le-or}
-use Rattle.executor_laws.proofs.Placement.Running.{RanIn}
+use Rattle.executor_model.proofs.{OwnQueues.OwnRooms.Roomy, OwnQueues.RunsMoving.hull-more, OwnQueues.Using.polling_of}
+use Rattle.executor_model.proofs.{OwnQueues.UsingRuns.idle-more, OwnQueues.UsingSteps.AllUsed, OwnQueues.UsingWorlds.is_past}
+use Rattle.executor_laws.proofs.Placement.Bound.{Bound, Tied, bound-kept, bound-polled, bound-same, keeper, kept, tied-kept}
 use Rattle.executor_laws.proofs.Placement.Safe.{Floor, KeepsSafe, Safe, floor}
 use Rattle.executor_laws.proofs.Placement.SafeActs.{IsTame, safe-act, safe-take_up_open}
-use Rattle.executor_laws.proofs.Placement.SafeRuns.{safe-put}
+use Rattle.executor_laws.proofs.{Placement.Bound.tied-other, Placement.Bound.tied-same, Placement.Evens.Even}
+use Rattle.executor_laws.proofs.{Placement.Evens.even-idle, Placement.Leavings.dropping_of, Placement.Leavings.off_of}
+use Rattle.executor_laws.proofs.{Placement.Opens.le-or, Placement.Running.RanIn, Placement.SafeRuns.safe-put}
+use Rattle.task_moves.specs.Moves as moves
+use Rattle.executor_model.specs.ActsOfRuns as runs
 
 abbrev pub BoundIn : Machine → ℕ → Type 0
 BoundIn s f = Bound s.world f (pend f s.parties) (weigh_all (appends_of f) s.parties)
 
 appends-wait : (g : ℕ) (o : Op) → appends_of g o ≤ waiting_of g o
-appends-wait g (op.Queue (queue_op.Append f)) = omega arith
-appends-wait g (op.Move move.Wake f) = omega arith
-appends-wait g (op.Table (table_op.Enter mark)) = omega arith
-appends-wait g (op.User (user_op.Poll f)) = omega arith
-appends-wait g (op.Waker (waker_op.CopyWaker f held)) = omega arith
-appends-wait g (op.Handle (handle_op.Look f a)) = omega arith
-appends-wait g (op.Sleeper sleeper_op.HandOut) = omega arith
-appends-wait g (op.Tick tick_op.MakeTick) = omega arith
-appends-wait g (op.Run run_op.MakeRoom) = omega arith
-appends-wait g (op.Closing (closing_op.Close mark)) = omega arith
-appends-wait g (op.Steal (steal_op.Length s)) = omega arith
-appends-wait g (op.List (list_op.LockWrite section.MakeRun)) = omega arith
-appends-wait g (op.List (list_op.Write section.MakeRun)) = omega arith
+appends-wait g (Op.Queue (QueueOp.Append f)) = omega arith
+appends-wait g (Op.Move Move.Wake f) = omega arith
+appends-wait g (Op.Table (TableOp.Enter mark)) = omega arith
+appends-wait g (Op.User (UserOp.Poll f)) = omega arith
+appends-wait g (Op.Waker (WakerOp.CopyWaker f held)) = omega arith
+appends-wait g (Op.Handle (HandleOp.Look f a)) = omega arith
+appends-wait g (Op.Sleeper SleeperOp.HandOut) = omega arith
+appends-wait g (Op.Tick TickOp.MakeTick) = omega arith
+appends-wait g (Op.Run RunOp.MakeRoom) = omega arith
+appends-wait g (Op.Closing (ClosingOp.Close mark)) = omega arith
+appends-wait g (Op.Steal (StealOp.Length s)) = omega arith
+appends-wait g (Op.List (ListOp.LockWrite Section.MakeRun)) = omega arith
+appends-wait g (Op.List (ListOp.Write Section.MakeRun)) = omega arith
 appends-wait g _ = omega arith
 
 -- what stands in a run's own queue is one of those in all
@@ -157,14 +124,14 @@ module _ (s : Machine) (p : ℕ) (rest : List Op) (f : ℕ) (good : Good s) (l :
   -- its poll or that of another begins
 
   abbrev taken : ℕ → Bool → Done
-  taken g c = carried (log_if (not c) s.world (event.PollBegun p g)) g (moves.take_up_by c (task s.world g))
+  taken g c = carried (log_if (not c) s.world (Event.PollBegun p g)) g (moves.take_up_by c (task s.world g))
 
   pub bound-take_up : (g : ℕ) (c : Bool) → (task s.world g).closed ≡ c →
-      stack s p ≡ rest ++ reverse (op.Move move.TakeUp g ∷ []) →
-      (c ≡ true → KeepsSafe s.world (op.Move move.TakeUp g ∷ []) (taken g c)) →
+      stack s p ≡ rest ++ reverse (Op.Move Move.TakeUp g ∷ []) →
+      (c ≡ true → KeepsSafe s.world (Op.Move Move.TakeUp g ∷ []) (taken g c)) →
       BoundIn (unsettled s p rest (taken g c)) f
   bound-take_up g true z e k =
-      bound-even s p (op.Move move.TakeUp g ∷ []) rest (taken g true) f good l e
+      bound-even s p (Op.Move Move.TakeUp g ∷ []) rest (taken g true) f good l e
       (same-even s.world (taken g true).world refl refl) (tied-same f s.world.trace s.world.trace refl) (k refl) h
   bound-take_up g false z e k = ⊎_elim
       (λ (y : (same f g ≡ 1) × (eqb f g ≡ true) × (f ≡ g)). own y.0 y.2)
@@ -172,7 +139,7 @@ module _ (s : Machine) (p : ℕ) (rest : List Op) (f : ℕ) (good : Good s) (l :
       (same_cases f g)
     where
       o : List Op
-      o = op.Move move.TakeUp g ∷ []
+      o = Op.Move Move.TakeUp g ∷ []
 
       own : same f g ≡ 1 → f ≡ g → BoundIn (unsettled s p rest (taken g false)) f
       own y i =
@@ -181,30 +148,30 @@ module _ (s : Machine) (p : ℕ) (rest : List Op) (f : ℕ) (good : Good s) (l :
             arith,
             sound.one,
             own-in f r s.world.own,
-            split (waiting_of f) s.parties p (op.Move move.TakeUp g ∷ []) rest l e,
+            split (waiting_of f) s.parties p (Op.Move Move.TakeUp g ∷ []) rest l e,
             y,
           ) in
           bound-polled s.world (taken g false).world f (pend f s.parties)
           (pend f (set s.parties p (rest ++ reverse (taken g false).next))) (weigh_all (appends_of f) s.parties)
           (weigh_all (appends_of f) (set s.parties p (rest ++ reverse (taken g false).next))) p
-          (ap (λ (n : ℕ). s.world.trace ++ event.PollBegun p n ∷ []) (sym i)) none
+          (ap (λ (n : ℕ). s.world.trace ++ Event.PollBegun p n ∷ []) (sym i)) none
 
       other : same f g ≡ 0 → eqb f g ≡ false → BoundIn (unsettled s p rest (taken g false)) f
       other y n =
           let d = taken g false in
-          let i : g < length s.world.tasks = below _ g (omega (arith, past-ops (op.Move move.TakeUp g) e)) in
+          let i : g < length s.world.tasks = below _ g (omega (arith, past-ops (Op.Move Move.TakeUp g) e)) in
           let t : Tied f s.world.trace d.world.trace = tied-other f p g s.world.trace n in
           bound-same s.world d.world f (pend f s.parties) (pend f (set s.parties p (rest ++ reverse d.next)))
           (weigh_all (appends_of f) s.parties) (weigh_all (appends_of f) (set s.parties p (rest ++ reverse d.next))) t
           (λ r. omega arith) (λ r u z. z) (omega arith) (λ r u z. z)
-          (λ u z. inl (new-safe s p (op.Move move.TakeUp g ∷ []) rest d f good l e
-          (safe-take_up_open (among g (log s.world (event.PollBegun p g)).table) p s.world g i f
+          (λ u z. inl (new-safe s p (Op.Move Move.TakeUp g ∷ []) rest d f good l e
+          (safe-take_up_open (among g (log s.world (Event.PollBegun p g)).table) p s.world g i f
           (pend f (set s.parties p rest)) (weigh_all (appends_of f) (set s.parties p rest)) y
-          (ground s p (op.Move move.TakeUp g ∷ []) rest d f good l e)
-          (old-safe s p (op.Move move.TakeUp g ∷ []) rest d f good l e z)))) h
+          (ground s p (Op.Move Move.TakeUp g ∷ []) rest d f good l e)
+          (old-safe s p (Op.Move Move.TakeUp g ∷ []) rest d f good l e z)))) h
 
   -- a Runnable is appended to a run's own queue
-  module _ (x : Steal) (more g : ℕ) (e : stack s p ≡ rest ++ reverse (op.Steal (steal_op.Put x more g) ∷ [])) where
+  module _ (x : Steal) (more g : ℕ) (e : stack s p ≡ rest ++ reverse (Op.Steal (StealOp.Put x more g) ∷ [])) where
     abbrev q : ℕ
     q = x.poll.run
 
@@ -215,13 +182,13 @@ module _ (s : Machine) (p : ℕ) (rest : List Op) (f : ℕ) (good : Good s) (l :
     new = set s.parties p (rest ++ reverse put.next)
 
     abbrev o : List Op
-    o = op.Steal (steal_op.Put x more g) ∷ []
+    o = Op.Steal (StealOp.Put x more g) ∷ []
 
     like : Even (runs.kept_by p s.world q g) put.world
     like = even-idle (runs.kept_by p s.world q g) put.world (hull-more more (runs.kept_by p s.world q g) x)
         (idle-more more (runs.kept_by p s.world q g) x)
 
-    trace-is : put.world.trace ≡ s.world.trace ++ event.Kept p g q ∷ []
+    trace-is : put.world.trace ≡ s.world.trace ++ Event.Kept p g q ∷ []
     trace-is = (moves-own_length more 0 (runs.kept_by p s.world q g) x).same.trace
 
     alive : is_past (run_of s.world q) ≡ false
@@ -304,7 +271,7 @@ module _ (s : Machine) (p : ℕ) (rest : List Op) (f : ℕ) (good : Good s) (l :
         let undropped : has (is_run_drop q) s.world.trace ≡ false = not-true (has (is_run_drop q) s.world.trace)
         (λ z. (let no : true ≡ false = sym ((ran q).past z) ∙ alive in cc)) in
         bound-kept s.world put.world f (pend f new) (weigh_all (appends_of f) new) p q
-        (trace-is ∙ ap (λ (n : ℕ). s.world.trace ++ event.Kept p n q ∷ []) (sym i)) only
+        (trace-is ∙ ap (λ (n : ℕ). s.world.trace ++ Event.Kept p n q ∷ []) (sym i)) only
         (omega (arith, known, like.count)) undropped (safe-on s p o rest put f good l e keeps-put old)
 
     pub bound-put : BoundIn (unsettled s p rest put) f
@@ -316,11 +283,11 @@ module _ (s : Machine) (p : ℕ) (rest : List Op) (f : ℕ) (good : Good s) (l :
   -- what is left in the own queue of a run that leaves is scheduled
 
   pub scheduled : (own : List ℕ) (q : ℕ) (a : Reply) → own_of s.world q ≡ own →
-      stack s p ≡ rest ++ reverse (op.Run (run_op.Reschedule q a) ∷ []) →
+      stack s p ≡ rest ++ reverse (Op.Run (RunOp.Reschedule q a) ∷ []) →
       Even s.world (runs.reschedule_by own s.world q a).world →
       BoundIn (unsettled s p rest (runs.reschedule_by own s.world q a)) f
   scheduled [] q a z e v =
-      bound-even s p (op.Run (run_op.Reschedule q a) ∷ []) rest (runs.reschedule_by [] s.world q a) f good l e v
+      bound-even s p (Op.Run (RunOp.Reschedule q a) ∷ []) rest (runs.reschedule_by [] s.world q a) f good l e v
       (tied-same f s.world.trace s.world.trace refl)
       (λ g r n b k. record { none = k.none; queued = k.queued; resting = k.resting; marked = k.marked }) h
   scheduled (g ∷ gs) q a z e v =
@@ -334,16 +301,16 @@ module _ (s : Machine) (p : ℕ) (rest : List Op) (f : ℕ) (good : Good s) (l :
       (same_cases f g)) h
     where
       o : List Op
-      o = op.Run (run_op.Reschedule q a) ∷ []
+      o = Op.Run (RunOp.Reschedule q a) ∷ []
 
       -- of another future
       apart : Safe s.world f (pend f s.parties) (weigh_all (appends_of f) s.parties) → same f g ≡ 0 →
           Safe (runs.reschedule_by (g ∷ gs) s.world q a).world f
-          (with_ops f (op.Queue (queue_op.Append g) ∷ op.Run (run_op.Reschedule q a) ∷ []) (pend f (set s.parties p rest)))
-          (weigh (appends_of f) (op.Queue (queue_op.Append g) ∷ op.Run (run_op.Reschedule q a) ∷ [])
+          (with_ops f (Op.Queue (QueueOp.Append g) ∷ Op.Run (RunOp.Reschedule q a) ∷ []) (pend f (set s.parties p rest)))
+          (weigh (appends_of f) (Op.Queue (QueueOp.Append g) ∷ Op.Run (RunOp.Reschedule q a) ∷ [])
           + weigh_all (appends_of f) (set s.parties p rest))
       apart y u =
-          let k = old-safe s p (op.Run (run_op.Reschedule q a) ∷ []) rest
+          let k = old-safe s p (Op.Run (RunOp.Reschedule q a) ∷ []) rest
           (runs.reschedule_by (g ∷ gs) s.world q a) f good l e y in record {
             none = omega (arith, u, k.none);
             queued = k.queued;
@@ -352,7 +319,7 @@ module _ (s : Machine) (p : ℕ) (rest : List Op) (f : ℕ) (good : Good s) (l :
           }
 
       -- it stood in the own queue of a run that is ready
-      left : kept f s.world → (b : Reply) → stack s p ≡ rest ++ reverse (op.Run (run_op.Reschedule q b) ∷ []) →
+      left : kept f s.world → (b : Reply) → stack s p ≡ rest ++ reverse (Op.Run (RunOp.Reschedule q b) ∷ []) →
           same f g ≡ 1 → (run_of (runs.reschedule_by (g ∷ gs) s.world q a).world (keeper f s.world)).stage ≡ Ended
       left k b e2 u =
           let there : 1 ≤ times f (own_of s.world q) = omega (arith, ap (times f) z, u) in
@@ -370,55 +337,55 @@ module _ (s : Machine) (p : ℕ) (rest : List Op) (f : ℕ) (good : Good s) (l :
               let no : true ≡ false = sym ((ran q).dropping y)
               ∙ (ap (λ (r : ℕ). has (is_run_drop r) s.world.trace) (sym i) ∙ h.undropped k) in absurd (cc)
 
-          by : (c : Reply) → stack s p ≡ rest ++ reverse (op.Run (run_op.Reschedule q c) ∷ []) →
+          by : (c : Reply) → stack s p ≡ rest ++ reverse (Op.Run (RunOp.Reschedule q c) ∷ []) →
               (run_of s.world q).stage ≡ Ended
-          by reply.Ready x = (ran q).off (omega (
+          by Reply.Ready x = (ran q).off (omega (
             arith,
             self q,
-            split (off_of q) s.parties p (op.Run (run_op.Reschedule q reply.Ready) ∷ []) rest l x,
+            split (off_of q) s.parties p (Op.Run (RunOp.Reschedule q Reply.Ready) ∷ []) rest l x,
           ))
-          by reply.Made x = dropped (omega (
+          by Reply.Made x = dropped (omega (
             arith,
             self q,
-            split (dropping_of q) s.parties p (op.Run (run_op.Reschedule q reply.Made) ∷ []) rest l x,
+            split (dropping_of q) s.parties p (Op.Run (RunOp.Reschedule q Reply.Made) ∷ []) rest l x,
           ))
-          by reply.Full x = dropped (omega (
+          by Reply.Full x = dropped (omega (
             arith,
             self q,
-            split (dropping_of q) s.parties p (op.Run (run_op.Reschedule q reply.Full) ∷ []) rest l x,
+            split (dropping_of q) s.parties p (Op.Run (RunOp.Reschedule q Reply.Full) ∷ []) rest l x,
           ))
-          by reply.Yes x = dropped (omega (
+          by Reply.Yes x = dropped (omega (
             arith,
             self q,
-            split (dropping_of q) s.parties p (op.Run (run_op.Reschedule q reply.Yes) ∷ []) rest l x,
+            split (dropping_of q) s.parties p (Op.Run (RunOp.Reschedule q Reply.Yes) ∷ []) rest l x,
           ))
-          by reply.No x = dropped (omega (
+          by Reply.No x = dropped (omega (
             arith,
             self q,
-            split (dropping_of q) s.parties p (op.Run (run_op.Reschedule q reply.No) ∷ []) rest l x,
+            split (dropping_of q) s.parties p (Op.Run (RunOp.Reschedule q Reply.No) ∷ []) rest l x,
           ))
-          by reply.Done x = dropped (omega (
+          by Reply.Done x = dropped (omega (
             arith,
             self q,
-            split (dropping_of q) s.parties p (op.Run (run_op.Reschedule q reply.Done) ∷ []) rest l x,
+            split (dropping_of q) s.parties p (Op.Run (RunOp.Reschedule q Reply.Done) ∷ []) rest l x,
           ))
-          by reply.NoMemory x = dropped (omega (
+          by Reply.NoMemory x = dropped (omega (
             arith,
             self q,
-            split (dropping_of q) s.parties p (op.Run (run_op.Reschedule q reply.NoMemory) ∷ []) rest l x,
+            split (dropping_of q) s.parties p (Op.Run (RunOp.Reschedule q Reply.NoMemory) ∷ []) rest l x,
           ))
-          by reply.Pending x = dropped (omega (
+          by Reply.Pending x = dropped (omega (
             arith,
             self q,
-            split (dropping_of q) s.parties p (op.Run (run_op.Reschedule q reply.Pending) ∷ []) rest l x,
+            split (dropping_of q) s.parties p (Op.Run (RunOp.Reschedule q Reply.Pending) ∷ []) rest l x,
           ))
-          by reply.Cancelled x = dropped (omega (
+          by Reply.Cancelled x = dropped (omega (
             arith,
             self q,
-            split (dropping_of q) s.parties p (op.Run (run_op.Reschedule q reply.Cancelled) ∷ []) rest l x,
+            split (dropping_of q) s.parties p (Op.Run (RunOp.Reschedule q Reply.Cancelled) ∷ []) rest l x,
           ))
-          by reply.Finished x = dropped (omega (
+          by Reply.Finished x = dropped (omega (
             arith,
             self q,
-            split (dropping_of q) s.parties p (op.Run (run_op.Reschedule q reply.Finished) ∷ []) rest l x,
+            split (dropping_of q) s.parties p (Op.Run (RunOp.Reschedule q Reply.Finished) ∷ []) rest l x,
           ))

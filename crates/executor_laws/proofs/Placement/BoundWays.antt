@@ -1,75 +1,37 @@
 -- For due_futures_stand_with_their_keepers.
 -- So each step of a machine does, whatever it is.
-use Rattle.std.proofs.Common.{◌≡◌, ◌⊎◌, ◌∙◌, inl, inr, ⊎_elim, ℕ, zero, suc, ◌<◌, ◌≤◌, List, [], ◌∷◌}
-use Rattle.std.proofs.Common.{◌++◌, length, set, get_or, Bool, true, false, ◌||◌, ltb, refl}
-use Rattle.std.proofs.Common.{sym, ap, subst, arith, get_or-set_same}
+use Rattle.std.proofs.Common.{◌≡◌, ◌⊎◌, ◌∙◌, inl, inr, ⊎_elim, ℕ, zero, suc, ◌<◌, ◌≤◌, List, [], ◌∷◌, ◌++◌, length, set, get_or}
+use Rattle.std.proofs.Common.{Bool, true, false, ◌||◌, ltb, refl, sym, ap, subst, arith, get_or-set_same}
 use Rattle.std.proofs.lemmas.List.{length-append, get_or_past}
 use Rattle.std.specs.Prelude.{Option, Some, None, reverse}
-use Rattle.executor_model.specs.Queues.{Queues, all_in}
-use Rattle.task_moves.specs.declared.moves.state.State.{State}
-use Rattle.task_moves.specs.declared.moves.owed.Move.TheVariants as move
-use Rattle.executor_model.specs.declared.call.Call.{Call}
-use Rattle.executor_model.specs.declared.call.Call.TheVariants as call
-use Rattle.executor_model.specs.declared.call.Reply.{Reply}
-use Rattle.executor_model.specs.declared.event.Answer.TheVariants as answer
-use Rattle.executor_model.specs.declared.event.Event.{Event}
-use Rattle.executor_model.specs.declared.event.Event.TheVariants as event
-use Rattle.executor_model.specs.declared.kind.Kind.{Kind}
-use Rattle.executor_model.specs.declared.op.Hold.{Hold}
-use Rattle.executor_model.specs.declared.op.ListOp.TheVariants as list_op
-use Rattle.executor_model.specs.declared.op.Op.{Op}
-use Rattle.executor_model.specs.declared.op.Op.TheVariants as op
-use Rattle.executor_model.specs.declared.op.RunOp.TheVariants as run_op
-use Rattle.executor_model.specs.declared.op.RunPoll.{RunPoll}
-use Rattle.executor_model.specs.declared.op.Section.{Section}
-use Rattle.executor_model.specs.declared.op.Section.TheVariants as section
-use Rattle.executor_model.specs.declared.op.Steal.{Steal}
-use Rattle.executor_model.specs.declared.op.StealOp.TheVariants as steal_op
-use Rattle.executor_model.specs.declared.op.UserOp.TheVariants as user_op
-use Rattle.executor_model.specs.declared.op.Waker.{Waker}
-use Rattle.executor_model.specs.declared.step.Hint.{Hint}
-use Rattle.executor_model.specs.declared.step.Step.{Step}
-use Rattle.executor_model.specs.declared.step.UserEnd.{UserEnd}
-use Rattle.executor_model.specs.declared.step.UserEnd.TheVariants as end
-use Rattle.executor_model.specs.ActsOfRuns as runs
-use Rattle.executor_model.specs.Doing.{act}
-use Rattle.executor_model.specs.Good.{Good}
-use Rattle.executor_model.specs.OwnQueues.{filling_of}
+use Rattle.executor_laws.proofs.Types.{State, Move, Call, Reply, Answer, Event, Kind, Hold, ListOp, Op, RunOp, RunPoll, Section}
+use Rattle.executor_laws.proofs.Types.{Steal, StealOp, UserOp, Waker, Hint, Step, UserEnd}
+use Rattle.executor_model.specs.Steps.{Machine, accepts, begun, drop_run, future_of, has_all, is_there, kept, mine, poll_run}
+use Rattle.executor_model.specs.World.{World, Stage, New, Listed, Ended, Run, Done, blank, done, log, new_run, no_run, own_of}
+use Rattle.executor_model.specs.Steps.{react, run, stack, start, top, with_future}
 use Rattle.executor_model.specs.Rows.{appends_of, ending_of, polls_of, running_of}
-use Rattle.executor_model.specs.Sound.{pend, times}
-use Rattle.executor_model.specs.Steps.{Machine, accepts, begun, drop_run, future_of, has_all}
-use Rattle.executor_model.specs.Steps.{is_there, kept, mine, poll_run, react, run, stack, start}
-use Rattle.executor_model.specs.Steps.{top, with_future}
-use Rattle.executor_model.specs.Weights.{weigh, weigh_all}
-use Rattle.executor_model.specs.World.{World, Stage, New, Listed, Ended, Run, Done, blank, done, log, new_run, no_run}
-use Rattle.executor_model.specs.World.{own_of, run_of, task}
+use Rattle.executor_model.specs.{World.run_of, World.task, Queues.Queues, Queues.all_in, Doing.act, Good.Good}
+use Rattle.executor_model.specs.{OwnQueues.filling_of, Sound.pend, Sound.times, Weights.weigh, Weights.weigh_all}
 use Rattle.executor_model.proofs.Steps.Lift.{first-true, good-start, none_refused, split, unsettled, weigh_all-idle}
-use Rattle.executor_model.proofs.Steps.Lists.{weigh_all-below, weigh_all-push}
-use Rattle.executor_model.proofs.OwnQueues.OwnCounts.{counts-begun}
 use Rattle.executor_model.proofs.OwnQueues.OwnRooms.{Roomy, roomy-ends, roomy-moves}
-use Rattle.executor_model.proofs.OwnQueues.RunsAside.{Hull}
 use Rattle.executor_model.proofs.Steps.TraceGrows.{Allows, AllowsCall, grows-act, grows-begun, grows-react}
 use Rattle.executor_model.proofs.OwnQueues.Using.{emptying-uses, emptying_of}
 use Rattle.executor_model.proofs.OwnQueues.UsingSteps.{AllUsed, used-ends, used-moves, used-start}
 use Rattle.executor_model.proofs.OwnQueues.UsingWorlds.{count-set, is_over_stage, is_past}
-use Rattle.executor_model.proofs.Steps.Ways.{Way, along}
 use Rattle.executor_model.proofs.Steps.Ways.Way.{acted, reacted, called}
+use Rattle.executor_model.proofs.{Steps.Lists.weigh_all-below, Steps.Lists.weigh_all-push, OwnQueues.OwnCounts.counts-begun}
+use Rattle.executor_model.proofs.{OwnQueues.RunsAside.Hull, Steps.Ways.Way, Steps.Ways.along, OwnQueues.UsingRuns.is_even}
 use Rattle.executor_laws.proofs.Placement.Bound.{Tied, bound-drop, bound-same, is_bond, ordinary-bond, tied-grows, tied-one}
-use Rattle.executor_laws.proofs.Placement.Bound.{tied-same}
-use Rattle.executor_laws.proofs.Placement.Bonds.{Bond, bond, bond-none}
 use Rattle.executor_laws.proofs.Placement.BoundSteps.{BoundIn, bound-even, bound-put, bound-take_up, keeps, safe-on, same-even}
-use Rattle.executor_laws.proofs.Placement.BoundSteps.{scheduled}
+use Rattle.executor_laws.proofs.Placement.Bonds.{Bond, bond, bond-none}
 use Rattle.executor_laws.proofs.Placement.Evens.{even-act, even-react}
-use Rattle.executor_model.proofs.OwnQueues.UsingRuns.{is_even}
 use Rattle.executor_laws.proofs.Placement.Frames.{Frames, frames-ends, frames-moves, frames-start}
-use Rattle.executor_laws.proofs.Placement.Leavings.{dropping_of, off_of}
-use Rattle.executor_laws.proofs.Placement.Running.{RanIn}
-use Rattle.executor_laws.proofs.Placement.RunningCalls.{ran-end}
-use Rattle.executor_laws.proofs.Placement.Leavings.{drops_run}
-use Rattle.executor_laws.proofs.Placement.Opens.{le-or}
+use Rattle.executor_laws.proofs.Placement.Leavings.{dropping_of, off_of, drops_run}
 use Rattle.executor_laws.proofs.Placement.RunningSteps.{free, ran-way, runs-begun}
-use Rattle.executor_laws.proofs.Placement.Safe.{KeepsSafe}
 use Rattle.executor_laws.proofs.Placement.SafeActs.{IsTame, safe-pending, safe-ready}
+use Rattle.executor_laws.proofs.{Placement.Bound.tied-same, Placement.BoundSteps.scheduled, Placement.Running.RanIn}
+use Rattle.executor_laws.proofs.{Placement.RunningCalls.ran-end, Placement.Opens.le-or, Placement.Safe.KeepsSafe}
+use Rattle.executor_model.specs.ActsOfRuns as runs
 
 -- a run that is put back is that, and the others are as they were
 run-set : (rs : List Run) (q : ℕ) (y : Run) (r : ℕ) →
@@ -127,21 +89,21 @@ idles-drop w v New q a b = idles w v _ a b (λ g. refl) (λ g. refl) (λ g. refl
 idles-drop w v Listed q a b = idles w v _ a b (λ g. refl) (λ g. refl) (λ g. refl)
 idles-drop w v Ended q a b = idles w v _ a b (λ g. refl) (λ g. refl) (λ g. refl)
 
-idles-begun : (p : ℕ) (w : World) (o : Option Waker) (c : Call) → Idles w (begun p (log w (event.CallBegun p c)) o c)
-idles-begun p w o (call.Wake n) = idles-with w _ (kept w n) _ refl refl
+idles-begun : (p : ℕ) (w : World) (o : Option Waker) (c : Call) → Idles w (begun p (log w (Event.CallBegun p c)) o c)
+idles-begun p w o (Call.Wake n) = idles-with w _ (kept w n) _ refl refl
     (λ f. idles w _ _ refl refl (λ g. refl) (λ g. refl) (λ g. refl))
-idles-begun p w o (call.WakeByRef n) = idles-with w _ (kept w n) _ refl refl
+idles-begun p w o (Call.WakeByRef n) = idles-with w _ (kept w n) _ refl refl
     (λ f. idles w _ _ refl refl (λ g. refl) (λ g. refl) (λ g. refl))
-idles-begun p w o (call.Copy n) = idles-with w _ (kept w n) _ refl refl
+idles-begun p w o (Call.Copy n) = idles-with w _ (kept w n) _ refl refl
     (λ f. idles w _ _ refl refl (λ g. refl) (λ g. refl) (λ g. refl))
-idles-begun p w o (call.DropWaker n) = idles-with w _ (kept w n) _ refl refl
+idles-begun p w o (Call.DropWaker n) = idles-with w _ (kept w n) _ refl refl
     (λ f. idles w _ _ refl refl (λ g. refl) (λ g. refl) (λ g. refl))
-idles-begun p w o call.Keep = idles-with w _ (future_of o) _ refl refl
+idles-begun p w o Call.Keep = idles-with w _ (future_of o) _ refl refl
     (λ f. idles w _ _ refl refl (λ g. refl) (λ g. refl) (λ g. refl))
-idles-begun p w o call.WakeSelf = idles-with w _ (future_of o) _ refl refl
+idles-begun p w o Call.WakeSelf = idles-with w _ (future_of o) _ refl refl
     (λ f. idles w _ _ refl refl (λ g. refl) (λ g. refl) (λ g. refl))
-idles-begun p w o (call.PollRun q b) = idles-poll w _ _ _ refl refl
-idles-begun p w o (call.DropRun q) = idles-drop w _ _ q refl refl
+idles-begun p w o (Call.PollRun q b) = idles-poll w _ _ _ refl refl
+idles-begun p w o (Call.DropRun q) = idles-drop w _ _ q refl refl
 idles-begun p w o _ = idles w _ _ refl refl (λ g. refl) (λ g. refl) (λ g. refl)
 
 keeps-idle : (w : World) (d : Done) → Idles w d → KeepsSafe w [] d
@@ -156,49 +118,49 @@ keeps-idle w d i g r n b h = record {
 
 -- the end of user code
 keeps-react : (p : ℕ) (o : Op) (u : UserEnd) (w : World) → accepts o u ≡ true → KeepsSafe w (o ∷ []) (react p o u w)
-keeps-react p (op.User (user_op.Poll f)) (end.Polled answer.Pending) w a = safe-pending p w f
-keeps-react p (op.User (user_op.Poll f)) (end.Polled answer.Ready) w a = safe-ready p w f
-keeps-react p (op.User (user_op.Drop f)) end.Done w a = λ g r n b h. h
-keeps-react p (op.User (user_op.DropOutput f)) end.Done w a = λ g r n b h. h
-keeps-react p (op.User (user_op.CallOutside x)) end.Done w a = λ g r n b h. h
-keeps-react p (op.User (user_op.PollOwn x)) (end.Polled answer.Pending) w a = λ g r n b h. h
-keeps-react p (op.User (user_op.PollOwn x)) (end.Polled answer.Ready) w a = λ g r n b h. h
-keeps-react p (op.User (user_op.DropOwn q)) end.Done w a = λ g r n b h. h
+keeps-react p (Op.User (UserOp.Poll f)) (UserEnd.Polled Answer.Pending) w a = safe-pending p w f
+keeps-react p (Op.User (UserOp.Poll f)) (UserEnd.Polled Answer.Ready) w a = safe-ready p w f
+keeps-react p (Op.User (UserOp.Drop f)) UserEnd.Done w a = λ g r n b h. h
+keeps-react p (Op.User (UserOp.DropOutput f)) UserEnd.Done w a = λ g r n b h. h
+keeps-react p (Op.User (UserOp.CallOutside x)) UserEnd.Done w a = λ g r n b h. h
+keeps-react p (Op.User (UserOp.PollOwn x)) (UserEnd.Polled Answer.Pending) w a = λ g r n b h. h
+keeps-react p (Op.User (UserOp.PollOwn x)) (UserEnd.Polled Answer.Ready) w a = λ g r n b h. h
+keeps-react p (Op.User (UserOp.DropOwn q)) UserEnd.Done w a = λ g r n b h. h
 keeps-react p _ _ w a = absurd (cc)
 
 -- no poll begins by it, no section of the list's lock is done, nothing comes into an own queue or goes from there to be
 -- scheduled
 abbrev is_plain : Op → Bool
-is_plain (op.Move move.TakeUp f) = false
-is_plain (op.List (list_op.Write x)) = false
-is_plain (op.Steal (steal_op.Put x more f)) = false
-is_plain (op.Run (run_op.Reschedule q a)) = false
+is_plain (Op.Move Move.TakeUp f) = false
+is_plain (Op.List (ListOp.Write x)) = false
+is_plain (Op.Steal (StealOp.Put x more f)) = false
+is_plain (Op.Run (RunOp.Reschedule q a)) = false
 is_plain _ = true
 
 tame : (w : World) (o : Op) → is_plain o ≡ true → IsTame w o
-tame w (op.Move move.TakeUp f) e = absurd (cc)
-tame w (op.Steal (steal_op.Put x more f)) e = absurd (cc)
-tame w (op.Steal (steal_op.Length x)) e = refl
-tame w (op.Steal (steal_op.OwnLength x n)) e = refl
-tame w (op.Steal (steal_op.Take x more)) e = refl
-tame w (op.Run (run_op.Reschedule q a)) e = absurd (cc)
-tame w (op.Run run_op.MakeRoom) e = refl
-tame w (op.Run run_op.ReturnRoom) e = refl
-tame w (op.Run (run_op.TakeTurn x)) e = refl
-tame w (op.Run (run_op.SearchCommon x look)) e = refl
-tame w (op.Run (run_op.LookOwn x at left)) e = refl
-tame w (op.Run (run_op.WakeOwn x)) e = refl
+tame w (Op.Move Move.TakeUp f) e = absurd (cc)
+tame w (Op.Steal (StealOp.Put x more f)) e = absurd (cc)
+tame w (Op.Steal (StealOp.Length x)) e = refl
+tame w (Op.Steal (StealOp.OwnLength x n)) e = refl
+tame w (Op.Steal (StealOp.Take x more)) e = refl
+tame w (Op.Run (RunOp.Reschedule q a)) e = absurd (cc)
+tame w (Op.Run RunOp.MakeRoom) e = refl
+tame w (Op.Run RunOp.ReturnRoom) e = refl
+tame w (Op.Run (RunOp.TakeTurn x)) e = refl
+tame w (Op.Run (RunOp.SearchCommon x look)) e = refl
+tame w (Op.Run (RunOp.LookOwn x at left)) e = refl
+tame w (Op.Run (RunOp.WakeOwn x)) e = refl
 tame w _ e = tt
 
 allowed : (p : ℕ) (o : Op) → is_plain o ≡ true → Allows is_bond ordinary-bond p o
-allowed p (op.Move move.TakeUp f) e = absurd (cc)
-allowed p (op.Steal (steal_op.Put x more f)) e = absurd (cc)
-allowed p (op.End a held) e = refl
+allowed p (Op.Move Move.TakeUp f) e = absurd (cc)
+allowed p (Op.Steal (StealOp.Put x more f)) e = absurd (cc)
+allowed p (Op.End a held) e = refl
 allowed p _ e = tt
 
 even-plain : (o : Op) → is_plain o ≡ true → is_even o ≡ true
-even-plain (op.List (list_op.Write x)) e = absurd (cc)
-even-plain (op.Steal (steal_op.Put x more f)) e = absurd (cc)
+even-plain (Op.List (ListOp.Write x)) e = absurd (cc)
+even-plain (Op.Steal (StealOp.Put x more f)) e = absurd (cc)
 even-plain _ e = refl
 
 module _ (s : Machine) (p : ℕ) (rest : List Op) (f : ℕ) (good : Good s) (l : p < length s.parties) (used : AllUsed s)
@@ -213,7 +175,7 @@ module _ (s : Machine) (p : ℕ) (rest : List Op) (f : ℕ) (good : Good s) (l :
   -- the sections of the list's lock
 
   abbrev wrote : Section → Op
-  wrote x = op.List (list_op.Write x)
+  wrote x = Op.List (ListOp.Write x)
 
   no-own : (r : ℕ) → length s.world.runs ≤ r → own_of s.world r ≡ []
   no-own r k = ⊎_elim (λ (y : own_of s.world r ≡ []). y)
@@ -225,11 +187,11 @@ module _ (s : Machine) (p : ℕ) (rest : List Op) (f : ℕ) (good : Good s) (l :
       )))
       ((used r).emptied (ap is_past (get_or_past s.world.runs r no_run k)))
 
-  bound-make : (b : Bool) → stack s p ≡ rest ++ reverse (wrote section.MakeRun ∷ []) →
-      KeepsSafe s.world (wrote section.MakeRun ∷ []) (runs.make_run_by b s.world) →
+  bound-make : (b : Bool) → stack s p ≡ rest ++ reverse (wrote Section.MakeRun ∷ []) →
+      KeepsSafe s.world (wrote Section.MakeRun ∷ []) (runs.make_run_by b s.world) →
       BoundIn (unsettled s p rest (runs.make_run_by b s.world)) f
   bound-make true e k =
-      bound-even s p (wrote section.MakeRun ∷ []) rest (runs.make_run_by true s.world) f good l e
+      bound-even s p (wrote Section.MakeRun ∷ []) rest (runs.make_run_by true s.world) f good l e
       (same-even s.world s.world refl refl) (tied-same f s.world.trace s.world.trace refl) k h
   bound-make false e k =
       let d = runs.make_run_by false s.world in
@@ -242,7 +204,7 @@ module _ (s : Machine) (p : ℕ) (rest : List Op) (f : ℕ) (good : Good s) (l :
       (le-or (length s.world.runs) r))
       (omega (arith, length-append s.world.runs (new_run ∷ [])))
       (λ r u y. ap (λ (x : Run). x.stage) (other-run s.world.runs r u) ∙ y)
-      (λ u y. inl (safe-on s p (wrote section.MakeRun ∷ []) rest d f good l e k y)) h
+      (λ u y. inl (safe-on s p (wrote Section.MakeRun ∷ []) rest d f good l e k y)) h
 
   bound-runs : (x : Section) (q : ℕ) (y : Run) (d : Done) → stack s p ≡ rest ++ reverse (wrote x ∷ []) →
       d.world.trace ≡ s.world.trace → d.world.own ≡ s.world.own → d.world.runs ≡ set s.world.runs q y →
@@ -269,67 +231,67 @@ module _ (s : Machine) (p : ℕ) (rest : List Op) (f : ℕ) (good : Good s) (l :
       (λ u z. inl (safe-on s p (wrote x ∷ []) rest d f good l e k z)) h
 
   abbrev registers : Stage → RunPoll → Done
-  registers t x = done (runs.registered t s.world x.run) (op.List list_op.UnlockWrite ∷ op.User (user_op.PollOwn x) ∷ [])
+  registers t x = done (runs.registered t s.world x.run) (Op.List ListOp.UnlockWrite ∷ Op.User (UserOp.PollOwn x) ∷ [])
 
   bound-register : (t : Stage) (x : RunPoll) → (run_of s.world x.run).stage ≡ t →
-      stack s p ≡ rest ++ reverse (wrote (section.Register x) ∷ []) →
-      KeepsSafe s.world (wrote (section.Register x) ∷ []) (registers t x) → BoundIn (unsettled s p rest (registers t x)) f
+      stack s p ≡ rest ++ reverse (wrote (Section.Register x) ∷ []) →
+      KeepsSafe s.world (wrote (Section.Register x) ∷ []) (registers t x) → BoundIn (unsettled s p rest (registers t x)) f
   bound-register New x z e k =
-      bound-runs (section.Register x) x.run (record (run_of s.world x.run) { stage = Listed }) (registers New x) e refl
+      bound-runs (Section.Register x) x.run (record (run_of s.world x.run) { stage = Listed }) (registers New x) e refl
       refl refl
       (λ y. ap (λ (t : Stage). (run_of s.world x.run).dropped || is_over_stage t) (sym z) ∙ y)
       (λ y. let no : New ≡ Ended = sym z ∙ y in absurd (cc)) k
   bound-register Listed x z e k =
-      bound-even s p (wrote (section.Register x) ∷ []) rest (registers Listed x) f good l e
+      bound-even s p (wrote (Section.Register x) ∷ []) rest (registers Listed x) f good l e
       (same-even s.world s.world refl refl) (tied-same f s.world.trace s.world.trace refl) k h
   bound-register Ended x z e k =
-      bound-even s p (wrote (section.Register x) ∷ []) rest (registers Ended x) f good l e
+      bound-even s p (wrote (Section.Register x) ∷ []) rest (registers Ended x) f good l e
       (same-even s.world s.world refl refl) (tied-same f s.world.trace s.world.trace refl) k h
 
   bound-put_by : (b : Bool) (x : Steal) (more g : ℕ) → b ≡ true →
-      stack s p ≡ rest ++ reverse (op.Steal (steal_op.Put x more g) ∷ []) →
+      stack s p ≡ rest ++ reverse (Op.Steal (StealOp.Put x more g) ∷ []) →
       BoundIn (unsettled s p rest (runs.steal_put_by b p s.world x more g)) f
   bound-put_by true x more g z e = bound-put s p rest f good l used roomy ran h x more g e
   bound-put_by false x more g z e = absurd (cc)
 
   taken-safe : (g : ℕ) (c : Bool) (t : Hint) → (task s.world g).closed ≡ c →
-      stack s p ≡ rest ++ reverse (op.Move move.TakeUp g ∷ []) → c ≡ true →
-      KeepsSafe s.world (op.Move move.TakeUp g ∷ []) (act p t (op.Move move.TakeUp g) s.world)
-  taken-safe g c t z e y = keeps s p rest f good l used roomy ran h t (op.Move move.TakeUp g) e (z ∙ y)
+      stack s p ≡ rest ++ reverse (Op.Move Move.TakeUp g ∷ []) → c ≡ true →
+      KeepsSafe s.world (Op.Move Move.TakeUp g ∷ []) (act p t (Op.Move Move.TakeUp g) s.world)
+  taken-safe g c t z e y = keeps s p rest f good l used roomy ran h t (Op.Move Move.TakeUp g) e (z ∙ y)
 
   bound-act : (b : Bool) (t : Hint) (o : Op) → is_plain o ≡ b → stack s p ≡ rest ++ reverse (o ∷ []) →
       BoundIn (unsettled s p rest (act p t o s.world)) f
   bound-act true t o z e = bound-plain t o z e
-  bound-act false t (op.Move move.TakeUp g) z e =
+  bound-act false t (Op.Move Move.TakeUp g) z e =
       bound-take_up s p rest f good l used roomy ran h g (task s.world g).closed refl e
       (taken-safe g (task s.world g).closed t refl e)
-  bound-act false t (op.List (list_op.Write section.MakeRun)) z e =
-      bound-make t.refused e (keeps s p rest f good l used roomy ran h t (wrote section.MakeRun) e tt)
-  bound-act false t (op.List (list_op.Write (section.Register x))) z e =
+  bound-act false t (Op.List (ListOp.Write Section.MakeRun)) z e =
+      bound-make t.refused e (keeps s p rest f good l used roomy ran h t (wrote Section.MakeRun) e tt)
+  bound-act false t (Op.List (ListOp.Write (Section.Register x))) z e =
       bound-register (run_of s.world x.run).stage x refl e
-      (keeps s p rest f good l used roomy ran h t (wrote (section.Register x)) e tt)
-  bound-act false t (op.List (list_op.Write (section.Unregister q a))) z e =
-      bound-runs (section.Unregister q a) q (record (run_of s.world q) { stage = Ended })
-      (act p t (wrote (section.Unregister q a)) s.world) e refl refl refl
+      (keeps s p rest f good l used roomy ran h t (wrote (Section.Register x)) e tt)
+  bound-act false t (Op.List (ListOp.Write (Section.Unregister q a))) z e =
+      bound-runs (Section.Unregister q a) q (record (run_of s.world q) { stage = Ended })
+      (act p t (wrote (Section.Unregister q a)) s.world) e refl refl refl
       (λ y. or-true (run_of s.world q).dropped Ended refl) (λ y. refl)
-      (keeps s p rest f good l used roomy ran h t (wrote (section.Unregister q a)) e tt)
-  bound-act false t (op.Steal (steal_op.Put x more g)) z e =
+      (keeps s p rest f good l used roomy ran h t (wrote (Section.Unregister q a)) e tt)
+  bound-act false t (Op.Steal (StealOp.Put x more g)) z e =
       bound-put_by (ltb 0 (runs.free_places s.world x.poll.run)) x more g (free s p x more g rest l e roomy) e
-  bound-act false t (op.Run (run_op.Reschedule q a)) z e =
+  bound-act false t (Op.Run (RunOp.Reschedule q a)) z e =
       scheduled s p rest f good l used roomy ran h (own_of s.world q) q a refl e
-      (even-act p t (op.Run (run_op.Reschedule q a)) s.world refl)
+      (even-act p t (Op.Run (RunOp.Reschedule q a)) s.world refl)
   bound-act false t _ z e = absurd (cc)
 
   bound-drops : (q : ℕ) (o : Option Waker) → stack s p ≡ rest ++ reverse [] → is_there (run_of s.world q) ≡ true →
-      BoundIn (unsettled s p rest (begun p (log s.world (event.CallBegun p (call.DropRun q))) o (call.DropRun q))) f
+      BoundIn (unsettled s p rest (begun p (log s.world (Event.CallBegun p (Call.DropRun q))) o (Call.DropRun q))) f
   bound-drops q o e there =
-      let c = call.DropRun q in
-      let d = begun p (log s.world (event.CallBegun p c)) o c in
+      let c = Call.DropRun q in
+      let d = begun p (log s.world (Event.CallBegun p c)) o c in
       let y : Run = record (run_of s.world q) { dropped = true } in
       bound-drop s.world d.world f (pend f s.parties) (pend f (set s.parties p (rest ++ reverse d.next)))
       (weigh_all (appends_of f) s.parties) (weigh_all (appends_of f) (set s.parties p (rest ++ reverse d.next))) p q
-      (s.world.trace ++ event.CallBegun p c ∷ [])
-      (tied-one f s.world.trace s.world.trace (event.CallBegun p c) refl (tied-same f s.world.trace s.world.trace refl)) refl (λ r. refl)
+      (s.world.trace ++ Event.CallBegun p c ∷ [])
+      (tied-one f s.world.trace s.world.trace (Event.CallBegun p c) refl (tied-same f s.world.trace s.world.trace refl)) refl (λ r. refl)
       (λ r z. ⊎_elim
       (λ (v : get_or (set s.world.runs q y) r no_run ≡ run_of s.world r). ap is_past v ∙ z)
       (λ (v : (r ≡ q) × (get_or (set s.world.runs q y) r no_run ≡ y)). ap is_past v.1)
@@ -349,13 +311,13 @@ module _ (s : Machine) (p : ℕ) (rest : List Op) (f : ℕ) (good : Good s) (l :
           (λ (y : suc q ≤ length s.world.runs). omega (arith, y)) (le-or (length s.world.runs) q)
 
   bound-call : (c : Call) (o : Option Waker) → drops_run c ≡ false → stack s p ≡ rest ++ reverse [] →
-      BoundIn (unsettled s p rest (begun p (log s.world (event.CallBegun p c)) o c)) f
+      BoundIn (unsettled s p rest (begun p (log s.world (Event.CallBegun p c)) o c)) f
   bound-call c o z e =
-      let v = log s.world (event.CallBegun p c) in
+      let v = log s.world (Event.CallBegun p c) in
       let d = begun p v o c in
       let g = tied-grows f v d.world (grows-begun is_bond ordinary-bond p v o c (permits c z)) in
       let first : Tied f s.world.trace v.trace =
-      tied-one f s.world.trace s.world.trace (event.CallBegun p c) refl (tied-same f s.world.trace s.world.trace refl) in
+      tied-one f s.world.trace s.world.trace (Event.CallBegun p c) refl (tied-same f s.world.trace s.world.trace refl) in
       bound-even s p [] rest d f good l e
       (same-even s.world d.world (sym (ap (λ (x : Hull). x.own) (counts-begun 0 p s.world o c).hull))
       (runs-begun p v o c z))
@@ -363,8 +325,8 @@ module _ (s : Machine) (p : ℕ) (rest : List Op) (f : ℕ) (good : Good s) (l :
       (keeps-idle s.world d (idles-begun p s.world o c)) h
     where
       permits : (x : Call) → drops_run x ≡ false → AllowsCall is_bond ordinary-bond p x
-      permits (call.PollRun q b) y = refl
-      permits (call.DropRun q) y = absurd (cc)
+      permits (Call.PollRun q b) y = refl
+      permits (Call.DropRun q) y = absurd (cc)
       permits _ y = tt
 
   pub bound-way : (old : List Op) (d : Done) → stack s p ≡ rest ++ reverse old → Way s p old rest d →
@@ -385,8 +347,8 @@ module _ (s : Machine) (p : ℕ) (rest : List Op) (f : ℕ) (good : Good s) (l :
       o = mine (top (stack s p))
 
       by : (c : Call) → has_all s.world s.parties (top (stack s p)) c ≡ true → stack s p ≡ rest ++ reverse [] →
-          BoundIn (unsettled s p rest (begun p (log s.world (event.CallBegun p c)) o c)) f
-      by (call.DropRun m) a k = bound-drops m o k (first-true _ _ a)
+          BoundIn (unsettled s p rest (begun p (log s.world (Event.CallBegun p c)) o c)) f
+      by (Call.DropRun m) a k = bound-drops m o k (first-true _ _ a)
       by x a k = bound-call x o refl k
 
 -- all of it, in each machine to which steps lead
@@ -410,14 +372,14 @@ bonded-moves s p old rest d good l e way h = record {
 
 -- the end of a call
 bound-end : (s : Machine) (p : ℕ) (a : Reply) (held : Hold) (below : List Op) → p < length s.parties →
-    stack s p ≡ below ++ reverse (op.End a held ∷ []) → (f : ℕ) → BoundIn s f →
-    BoundIn (unsettled s p below (done (log s.world (event.CallEnded p a)) [])) f
+    stack s p ≡ below ++ reverse (Op.End a held ∷ []) → (f : ℕ) → BoundIn s f →
+    BoundIn (unsettled s p below (done (log s.world (Event.CallEnded p a)) [])) f
 bound-end s p a held below l e f h =
-    let o = op.End a held ∷ [] in
-    let v = log s.world (event.CallEnded p a) in
+    let o = Op.End a held ∷ [] in
+    let v = log s.world (Event.CallEnded p a) in
     bound-same s.world v f (pend f s.parties) (pend f (set s.parties p (below ++ reverse [])))
     (weigh_all (appends_of f) s.parties) (weigh_all (appends_of f) (set s.parties p (below ++ reverse [])))
-    (tied-one f s.world.trace s.world.trace (event.CallEnded p a) refl
+    (tied-one f s.world.trace s.world.trace (Event.CallEnded p a) refl
     (tied-same f s.world.trace s.world.trace refl)) (λ r. omega arith) (λ r u y. y) (omega arith) (λ r u y. y)
     (λ u y. inl (record {
       none = omega (
@@ -439,8 +401,8 @@ bound-end s p a held below l e f h =
     })) h
 
 bonded-ends : (s : Machine) (p : ℕ) (a : Reply) (held : Hold) (below : List Op) → p < length s.parties →
-    stack s p ≡ below ++ reverse (op.End a held ∷ []) → Bonded s →
-    Bonded (unsettled s p below (done (log s.world (event.CallEnded p a)) []))
+    stack s p ≡ below ++ reverse (Op.End a held ∷ []) → Bonded s →
+    Bonded (unsettled s p below (done (log s.world (Event.CallEnded p a)) []))
 bonded-ends s p a held below l e h = record {
   used = used-ends s p a held below l e h.used;
   roomy = roomy-ends s p a held below l e h.roomy;
@@ -459,8 +421,8 @@ bonded-start limit kind n = record {
     unborn = λ z. (refl, refl);
     off = λ z. absurd (omega (arith, z, weigh_all-idle (off_of r) n));
     dropping = λ z. absurd (omega (arith, z, weigh_all-idle (dropping_of r) n));
-    ended = λ z. inr (inr (λ place p f g. absurd (let no : ◌≡◌ {A = Option Event} None (Some (event.Kept p f r)) = g in cc)));
-    answered = λ p k g y. absurd (let no : ◌≡◌ {A = Option Event} None (Some (event.RunPolled p r)) = g in cc);
+    ended = λ z. inr (inr (λ place p f g. absurd (let no : ◌≡◌ {A = Option Event} None (Some (Event.Kept p f r)) = g in cc)));
+    answered = λ p k g y. absurd (let no : ◌≡◌ {A = Option Event} None (Some (Event.RunPolled p r)) = g in cc);
   };
   bound = λ f. (let loose : (bond f []).kept ≡ false = ap (λ (b : Bond). b.kept) (bond-none f) in record {
     own = λ r z k. absurd (omega (arith, z));

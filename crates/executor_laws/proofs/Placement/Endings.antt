@@ -1,16 +1,11 @@
 -- For due_futures_stand_with_their_keepers.
 -- How a call ends that is in progress, and that it has one end.
-use Rattle.std.proofs.Common.{◌≡◌, ◌⊎◌, ◌∙◌, inl, inr, ⊎_elim, ℕ, suc, ◌<◌, ◌≤◌, [], ◌∷◌, ◌++◌}
-use Rattle.std.proofs.Common.{length, take, refl, sym, ap, subst, arith}
-use Rattle.std.specs.Prelude.{Some, count_by, slice_get}
-use Rattle.executor_model.specs.declared.call.Reply.{Reply}
-use Rattle.executor_model.specs.declared.event.Event.{Event}
-use Rattle.executor_model.specs.declared.event.Event.TheVariants as event
-use Rattle.executor_model.specs.AwaiterKept.{EndsWith, since}
-use Rattle.executor_model.specs.Quiet.{begins_call, ends_call}
-use Rattle.executor_model.specs.Trace.{Trace}
+use Rattle.std.proofs.Common.{◌≡◌, ◌⊎◌, ◌∙◌, inl, inr, ⊎_elim, ℕ, suc, ◌<◌, ◌≤◌, [], ◌∷◌, ◌++◌, length, take, refl, sym, ap}
+use Rattle.std.{proofs.Common.subst, proofs.Common.arith, specs.Prelude.Some, specs.Prelude.count_by, specs.Prelude.slice_get}
+use Rattle.executor_model.specs.{AwaiterKept.EndsWith, AwaiterKept.since, Quiet.begins_call, Quiet.ends_call, Trace.Trace}
 use Rattle.executor_model.proofs.Quiet.Calls.{begun_by, ended_by}
-use Rattle.executor_laws.proofs.Placement.Opens.{get-old, get-new, get-within, get-push, since-old, take-old, take-all, le-or, IsOpen}
+use Rattle.executor_laws.proofs.Placement.Opens.{get-old, get-new, get-within, get-push, since-old, take-old, take-all, le-or}
+use Rattle.executor_laws.proofs.{Types.Reply, Types.Event, Placement.Opens.IsOpen}
 
 begun-is : (p : ℕ) (es : Trace) → begun_by p es ≡ count_by (begins_call p) es
 unfolding begun_by
@@ -28,15 +23,15 @@ abbrev Below : ℕ → Trace → Type 0
 Below p xs = count_by (ends_call p) xs ≤ count_by (begins_call p) xs
 
 ends-shorter : (p : ℕ) (a : Reply) (xs : Trace) (e : Event) → EndsWith p a (xs ++ e ∷ []) →
-    EndsWith p a xs ⊎ ((e ≡ event.CallEnded p a) × Level p xs × ((n : ℕ) → Below p (take n xs)))
+    EndsWith p a xs ⊎ ((e ≡ Event.CallEnded p a) × Level p xs × ((n : ℕ) → Below p (take n xs)))
 ends-shorter p a xs e h = ⊎_elim
-    (λ (x : (h.place < length xs) × (slice_get xs h.place ≡ Some (event.CallEnded p a))). inl (record {
+    (λ (x : (h.place < length xs) × (slice_get xs h.place ≡ Some (Event.CallEnded p a))). inl (record {
       place = h.place;
       here = x.1;
       inner = subst (Level p) (take-old xs h.place e (omega (arith, x.0))) h.inner;
       first = λ n m. subst (Below p) (take-old xs n e (omega (arith, m, x.0))) (h.first n m);
     }))
-    (λ (x : (h.place ≡ length xs) × (e ≡ event.CallEnded p a)). inr (
+    (λ (x : (h.place ≡ length xs) × (e ≡ Event.CallEnded p a)). inr (
       x.1,
       subst (Level p) (whole h.place x.0) h.inner,
       λ n. ⊎_elim
@@ -45,7 +40,7 @@ ends-shorter p a xs e h = ⊎_elim
           (whole h.place x.0 ∙ sym (take-all xs n (omega (arith, m)))) (h.first h.place (omega arith)))
           (le-or n (length xs)),
     ))
-    (get-push xs h.place e (event.CallEnded p a) h.here)
+    (get-push xs h.place e (Event.CallEnded p a) h.here)
   where
     whole : (k : ℕ) → k ≡ length xs → take k (xs ++ e ∷ []) ≡ xs
     whole k q = take-old xs k e (omega (arith, q)) ∙ take-all xs k (omega (arith, q))
@@ -69,10 +64,10 @@ ends-later p k a es e i h =
 
 pub ends-before : (p k : ℕ) (a : Reply) (es : Trace) (e : Event) → k < length es →
     EndsWith p a (since k (es ++ e ∷ [])) →
-    EndsWith p a (since k es) ⊎ ((e ≡ event.CallEnded p a) × IsOpen p k 0 es)
+    EndsWith p a (since k es) ⊎ ((e ≡ Event.CallEnded p a) × IsOpen p k 0 es)
 ends-before p k a es e l h = ⊎_elim
     (λ (x : EndsWith p a (since k es)). inl x)
-    (λ (x : (e ≡ event.CallEnded p a) × Level p (since k es) × ((n : ℕ) → Below p (take n (since k es)))). inr (
+    (λ (x : (e ≡ Event.CallEnded p a) × Level p (since k es) × ((n : ℕ) → Below p (take n (since k es)))). inr (
       x.0,
       record {
         within = l;
@@ -85,9 +80,9 @@ ends-before p k a es e l h = ⊎_elim
 
 -- the call that is innermost ends now
 pub ends-here : (p k : ℕ) (a : Reply) (es : Trace) → IsOpen p k 0 es →
-    (h : EndsWith p a (since k (es ++ event.CallEnded p a ∷ []))) × (h.place ≡ length (since k es))
+    (h : EndsWith p a (since k (es ++ Event.CallEnded p a ∷ []))) × (h.place ≡ length (since k es))
 ends-here p k a es h =
-    let e = event.CallEnded p a in
+    let e = Event.CallEnded p a in
     let xs = since k es in
     let z : since k (es ++ e ∷ []) ≡ xs ++ e ∷ [] = since-old es k e h.within in
     let level : Level p xs = omega (arith, begun-is p xs, ended-is p xs, h.level) in

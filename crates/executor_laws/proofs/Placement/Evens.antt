@@ -1,21 +1,10 @@
 -- For due_futures_stand_with_their_keepers.
 -- What is done but to the list of queues, and but for what comes into a run's own queue, leaves the runs at their stages
 -- and brings nothing into their own queues.
-use Rattle.std.proofs.Common.{◌≡◌, ◌∙◌, ℕ, zero, suc, ◌≤◌, List, [], ◌∷◌, length, set, get_or, true}
-use Rattle.std.proofs.Common.{refl, sym, ap, arith}
-use Rattle.executor_model.specs.declared.event.Answer.TheVariants as answer
-use Rattle.executor_model.specs.declared.op.ListOp.{ListOp}
-use Rattle.executor_model.specs.declared.op.ListOp.TheVariants as list_op
-use Rattle.executor_model.specs.declared.op.Op.{Op}
-use Rattle.executor_model.specs.declared.op.Op.TheVariants as op
-use Rattle.executor_model.specs.declared.op.UserOp.TheVariants as user_op
-use Rattle.executor_model.specs.declared.step.Hint.{Hint}
-use Rattle.executor_model.specs.declared.step.UserEnd.{UserEnd}
-use Rattle.executor_model.specs.declared.step.UserEnd.TheVariants as end
-use Rattle.executor_model.specs.Doing.{act, list_act}
-use Rattle.executor_model.specs.Sound.{times}
-use Rattle.executor_model.specs.Steps.{accepts, react}
+use Rattle.std.proofs.Common.{◌≡◌, ◌∙◌, ℕ, zero, suc, ◌≤◌, List, [], ◌∷◌, length, set, get_or, true, refl, sym, ap, arith}
+use Rattle.executor_laws.proofs.Types.{Answer, ListOp, Op, UserOp, Hint, UserEnd}
 use Rattle.executor_model.specs.World.{World, Done, Ended, own_of, put_own, run_of}
+use Rattle.executor_model.specs.{Doing.act, Doing.list_act, Sound.times, Steps.accepts, Steps.react}
 use Rattle.executor_model.proofs.OwnQueues.RunsAside.{Hull, coat, hull, hull_of, stages-at}
 use Rattle.executor_model.proofs.OwnQueues.RunsDone.{Deed, keeps, takes, lacks, shares, grows, wakes, lists, deed-act}
 use Rattle.executor_model.proofs.OwnQueues.UsingRuns.{is_even}
@@ -58,8 +47,8 @@ even-first w v q f rest e k = let u = put_own w q rest in let i = idle-coat u v 
 }
 
 -- the other sections of the list's lock
-even-list : (h : Hint) (o : ListOp) (w : World) → is_even (op.List o) ≡ true → Even w (list_act h o w).world
-even-list h (list_op.Write s) w e = absurd (cc)
+even-list : (h : Hint) (o : ListOp) (w : World) → is_even (Op.List o) ≡ true → Even w (list_act h o w).world
+even-list h (ListOp.Write s) w e = absurd (cc)
 even-list h _ w e = record { own = λ g r. omega arith; stage = λ r. refl; past = λ r. refl; count = refl }
 
 even-deed : (w : World) (o : Op) (d : Done) → is_even o ≡ true → Deed w o d → Even w d.world
@@ -75,12 +64,6 @@ pub even-act : (p : ℕ) (h : Hint) (o : Op) (w : World) → is_even o ≡ true 
 even-act p h o w e = even-deed w o (act p h o w) e (deed-act p h o w)
 
 pub even-react : (p : ℕ) (o : Op) (u : UserEnd) (w : World) → accepts o u ≡ true → Even w (react p o u w).world
-even-react p (op.User (user_op.Poll f)) (end.Polled answer.Pending) w a = even-coat w _ refl
-even-react p (op.User (user_op.Poll f)) (end.Polled answer.Ready) w a = even-coat w _ refl
-even-react p (op.User (user_op.Drop f)) end.Done w a = even-coat w _ refl
-even-react p (op.User (user_op.DropOutput f)) end.Done w a = even-coat w _ refl
-even-react p (op.User (user_op.CallOutside x)) end.Done w a = even-coat w _ refl
-even-react p (op.User (user_op.PollOwn x)) (end.Polled answer.Pending) w a = even-coat w _ refl
-even-react p (op.User (user_op.PollOwn x)) (end.Polled answer.Ready) w a = even-coat w _ refl
-even-react p (op.User (user_op.DropOwn q)) end.Done w a = even-coat w _ refl
-even-react p _ _ w a = absurd (cc)
+even-react p (Op.User (UserOp.Poll f)) (UserEnd.Polled Answer.Pending) w a = even-coat w _ refl
+even-react p (Op.User (UserOp.PollOwn x)) (UserEnd.Polled Answer.Pending) w a = even-coat w _ refl
+even-react p _ _ w a = even-coat w _ refl

@@ -1,51 +1,25 @@
 -- For due_futures_stand_with_their_keepers.
 -- Each call of a party that is in progress has one thing on the party's stack that answers it, and that of a run's poll
 -- answers that.
-use Rattle.std.proofs.Common.{◌≡◌, ◌≢◌, ◌⊎◌, ◌∙◌, inl, inr, ℕ, ◌+◌, ◌<◌, ◌≤◌, List, [], ◌∷◌, ◌++◌}
-use Rattle.std.proofs.Common.{length, drop, set, get_or, Bool, true, false, eqb, cond, refl, sym, ap}
-use Rattle.std.proofs.Common.{subst, arith, append-nil}
+use Rattle.std.proofs.Common.{◌≡◌, ◌≢◌, ◌⊎◌, ◌∙◌, inl, inr, ℕ, ◌+◌, ◌<◌, ◌≤◌, List, [], ◌∷◌, ◌++◌, length, drop, set, get_or}
+use Rattle.std.proofs.Common.{Bool, true, false, eqb, cond, refl, sym, ap, subst, arith, append-nil}
 use Rattle.std.proofs.lemmas.Bool.Decides.{nat_tests}
 use Rattle.std.proofs.lemmas.List.{append_assoc, reverse-append, reverse-reverse}
 use Rattle.std.specs.Prelude.{Option, Some, None, reverse}
-use Rattle.task_moves.specs.declared.moves.owed.Move.TheVariants as move
-use Rattle.executor_model.specs.declared.call.By.{By}
-use Rattle.executor_model.specs.declared.call.Call.{Call}
-use Rattle.executor_model.specs.declared.call.Call.TheVariants as call
-use Rattle.executor_model.specs.declared.call.Reply.{Reply}
-use Rattle.executor_model.specs.declared.call.Reply.TheVariants as reply
-use Rattle.executor_model.specs.declared.event.Answer.TheVariants as answer
-use Rattle.executor_model.specs.declared.event.Event.{Event}
-use Rattle.executor_model.specs.declared.event.Event.TheVariants as event
-use Rattle.executor_model.specs.declared.kind.Kind.{Kind}
-use Rattle.executor_model.specs.declared.op.Hold.{Hold}
-use Rattle.executor_model.specs.declared.op.Op.{Op}
-use Rattle.executor_model.specs.declared.op.Op.TheVariants as op
-use Rattle.executor_model.specs.declared.op.RunPoll.{RunPoll}
-use Rattle.executor_model.specs.declared.op.StealOp.TheVariants as steal_op
-use Rattle.executor_model.specs.declared.op.UserOp.TheVariants as user_op
-use Rattle.executor_model.specs.declared.op.Waker.{Waker}
-use Rattle.executor_model.specs.declared.step.Hint.{Hint}
-use Rattle.executor_model.specs.declared.step.Step.{Step}
-use Rattle.executor_model.specs.declared.step.UserEnd.{UserEnd}
-use Rattle.executor_model.specs.declared.step.UserEnd.TheVariants as end
-use Rattle.executor_model.specs.Doing.{act}
-use Rattle.executor_model.specs.Good.{Good}
-use Rattle.executor_model.specs.Steps.{Machine, accepts, begun, drop_run, future_of}
-use Rattle.executor_model.specs.Steps.{kept, mine, poll_run, react, run, stack, start, top, waker_of}
-use Rattle.executor_model.specs.Steps.{with_future}
-use Rattle.executor_model.specs.Trace.{Trace, has}
-use Rattle.executor_model.specs.Weights.{same, weigh}
+use Rattle.executor_laws.proofs.Types.{Hint, Step, UserEnd, Move, By, Call, Reply, Answer, Event, Kind, Hold, Op, RunPoll}
+use Rattle.executor_laws.proofs.Types.{StealOp, UserOp, Waker}
+use Rattle.executor_model.specs.Steps.{Machine, accepts, begun, drop_run, future_of, kept, mine, poll_run, react, run, stack}
+use Rattle.executor_model.specs.Steps.{start, top, waker_of, with_future}
 use Rattle.executor_model.specs.World.{World, Stage, New, Listed, Ended, Done, done, log, run_of}
+use Rattle.executor_model.specs.{Doing.act, Good.Good, Trace.Trace, Trace.has, Weights.same, Weights.weigh}
 use Rattle.executor_model.proofs.Quiet.Calls.{calling_of, Answering, single, then}
-use Rattle.executor_model.proofs.Quiet.CallsGroups.{calls-act}
-use Rattle.executor_model.proofs.Steps.Lift.{none_refused, unsettled, good-start}
 use Rattle.executor_model.proofs.Steps.Lists.{same_is, weigh-append, weigh-below}
 use Rattle.executor_model.proofs.Quiet.Resting.{Opens, idle-stack, opens as begins-answering}
-use Rattle.executor_model.proofs.Awaiters.AwaitedTies.{stack-then}
 use Rattle.executor_model.proofs.Steps.TraceGrows.{Grows, Allows, is_ordinary, grows-act, grows-begun, grows-react}
-use Rattle.executor_model.proofs.Steps.Ways.{Way, along}
+use Rattle.executor_model.proofs.Steps.Lift.{none_refused, unsettled, good-start}
 use Rattle.executor_model.proofs.Steps.Ways.Way.{acted, reacted, called}
-use Rattle.executor_model.proofs.Steps.Tests.{left-false, right-false}
+use Rattle.executor_model.proofs.{Quiet.CallsGroups.calls-act, Awaiters.AwaitedTies.stack-then, Steps.Ways.Way}
+use Rattle.executor_model.proofs.{Steps.Ways.along, Steps.Tests.left-false, Steps.Tests.right-false}
 use Rattle.executor_laws.proofs.Placement.Answering.{answers_of, other_of, few, Hands, hands-act, hands-react, is_end}
 use Rattle.executor_laws.proofs.Placement.Opens.{Open, opens, opens_one, opens-push, opens-none}
 use Rattle.executor_laws.proofs.Placement.Opened.{Tells, at, tells-none, tells-push, tells-poll, polls_no_run}
@@ -91,15 +65,15 @@ passes o last front (Some x) e z h k f =
     )
   where
     no-other : (o : Op) → is_end o ≡ false → other_of o ≡ 0
-    no-other (op.End a held) q = absurd (cc)
+    no-other (Op.End a held) q = absurd (cc)
     no-other _ q = refl
 
     others : (o : Op) → other_of o ≤ calling_of o
-    others (op.End reply.Ready held) = omega arith
-    others (op.End a held) = by a
+    others (Op.End Reply.Ready held) = omega arith
+    others (Op.End a held) = by a
       where
-        by : (a : Reply) → other_of (op.End a held) ≤ 1
-        by reply.Ready = omega arith
+        by : (a : Reply) → other_of (Op.End a held) ≤ 1
+        by Reply.Ready = omega arith
         by _ = omega arith
     others _ = omega arith
 
@@ -117,8 +91,8 @@ framed-next o next os cs e h none one (inr x) =
     (framed-light a.front (a.last ∷ os) cs a.none (inr (x.0, x.1, x.2, a.call, fits, x.5))))
 
 -- the end of a call
-pub framed-end : (a : Reply) (held : Hold) (os : List Op) (cs : List Open) → Framed (op.End a held ∷ os) cs →
-    (c : Open) × (cs ≡ c ∷ drop 1 cs) × Fits (op.End a held) c × Framed os (drop 1 cs)
+pub framed-end : (a : Reply) (held : Hold) (os : List Op) (cs : List Open) → Framed (Op.End a held ∷ os) cs →
+    (c : Open) × (cs ≡ c ∷ drop 1 cs) × Fits (Op.End a held) c × Framed os (drop 1 cs)
 framed-end a held os cs (inl x) = absurd (omega (arith, x.0))
 framed-end a held os cs (inr x) = (
   x.0,
@@ -141,25 +115,25 @@ framed-begin next os c cs a f h =
 
 -- events by which calls begin and end, and polls of runs
 abbrev pub is_call : Event → Bool
-is_call (event.CallBegun p c) = true
-is_call (event.CallEnded p a) = true
-is_call (event.RunPolled p r) = true
+is_call (Event.CallBegun p c) = true
+is_call (Event.CallEnded p a) = true
+is_call (Event.RunPolled p r) = true
 is_call _ = false
 
 ordinary-none : (e : Event) → is_ordinary e ≡ true → is_call e ≡ false
-ordinary-none (event.CallBegun p c) z = absurd (cc)
-ordinary-none (event.CallEnded p a) z = absurd (cc)
-ordinary-none (event.RunPolled p r) z = absurd (cc)
+ordinary-none (Event.CallBegun p c) z = absurd (cc)
+ordinary-none (Event.CallEnded p a) z = absurd (cc)
+ordinary-none (Event.RunPolled p r) z = absurd (cc)
 ordinary-none _ z = refl
 
 opens-one : (p n : ℕ) (s : List Open) (e : Event) → is_call e ≡ false → opens_one p n e s ≡ s
-opens-one p n s (event.CallBegun q c) z = absurd (cc)
-opens-one p n s (event.CallEnded q a) z = absurd (cc)
-opens-one p n s (event.RunPolled q r) z = absurd (cc)
+opens-one p n s (Event.CallBegun q c) z = absurd (cc)
+opens-one p n s (Event.CallEnded q a) z = absurd (cc)
+opens-one p n s (Event.RunPolled q r) z = absurd (cc)
 opens-one p n s _ z = refl
 
 polls-none : (e : Event) → is_call e ≡ false → polls_no_run e ≡ true
-polls-none (event.RunPolled q r) z = absurd (cc)
+polls-none (Event.RunPolled q r) z = absurd (cc)
 polls-none _ z = refl
 
 -- what isn't told of in the trace of calls leaves these
@@ -235,13 +209,13 @@ differs : (p q : ℕ) → q ≢ p → eqb q p ≡ false
 differs p q n = grind (arith, nat_tests)
 
 pub frames-ends : (s : Machine) (p : ℕ) (a : Reply) (held : Hold) (below : List Op) → p < length s.parties →
-    stack s p ≡ below ++ reverse (op.End a held ∷ []) → Frames s →
-    Frames (unsettled s p below (done (log s.world (event.CallEnded p a)) []))
+    stack s p ≡ below ++ reverse (Op.End a held ∷ []) → Frames s →
+    Frames (unsettled s p below (done (log s.world (Event.CallEnded p a)) []))
 frames-ends s p a held below l e h =
     let es = s.world.trace in
-    let x = event.CallEnded p a in
-    let f : _ = framed-end a held (reverse below) (opens p es) (here s p (op.End a held ∷ []) below l e h) in
-    frames-at s p (op.End a held ∷ []) below l e h (done (log s.world x) [])
+    let x = Event.CallEnded p a in
+    let f : _ = framed-end a held (reverse below) (opens p es) (here s p (Op.End a held ∷ []) below l e h) in
+    frames-at s p (Op.End a held ∷ []) below l e h (done (log s.world x) [])
     (subst (Framed (reverse below)) (sym (opens-push p es x ∙ own-call p (drop 1 (opens p es)) (opens p es))) f.3)
     (λ q n. opens-push q es x ∙ other-call p q (length es) (opens q es) x (drop 1 (opens q es)) (differs p q n) refl)
     (λ q. tells-push q es x refl (h.tells q))
@@ -249,7 +223,7 @@ frames-ends s p a held below l e h =
 -- a call begins
 
 abbrev polls_run : Call → Bool
-polls_run (call.PollRun r b) = true
+polls_run (Call.PollRun r b) = true
 polls_run _ = false
 
 record NoAnswer (next : List Op) : Type 0 where
@@ -265,14 +239,14 @@ none-drop Listed q = record { answers = λ r. refl }
 none-drop Ended q = record { answers = λ r. refl }
 
 none-begun : (p : ℕ) (w : World) (o : Option Waker) (c : Call) → polls_run c ≡ false → NoAnswer (begun p w o c).next
-none-begun p w o (call.Wake k) z = none-with w (kept w k) _ (λ f. record { answers = λ r. refl })
-none-begun p w o (call.WakeByRef k) z = none-with w (kept w k) _ (λ f. record { answers = λ r. refl })
-none-begun p w o (call.Copy k) z = none-with w (kept w k) _ (λ f. record { answers = λ r. refl })
-none-begun p w o (call.DropWaker k) z = none-with w (kept w k) _ (λ f. record { answers = λ r. refl })
-none-begun p w o call.Keep z = none-with w (future_of o) _ (λ f. record { answers = λ r. refl })
-none-begun p w o call.WakeSelf z = none-with w (future_of o) _ (λ f. record { answers = λ r. refl })
-none-begun p w o (call.PollRun q b) z = absurd (cc)
-none-begun p w o (call.DropRun q) z = none-drop _ q
+none-begun p w o (Call.Wake k) z = none-with w (kept w k) _ (λ f. record { answers = λ r. refl })
+none-begun p w o (Call.WakeByRef k) z = none-with w (kept w k) _ (λ f. record { answers = λ r. refl })
+none-begun p w o (Call.Copy k) z = none-with w (kept w k) _ (λ f. record { answers = λ r. refl })
+none-begun p w o (Call.DropWaker k) z = none-with w (kept w k) _ (λ f. record { answers = λ r. refl })
+none-begun p w o Call.Keep z = none-with w (future_of o) _ (λ f. record { answers = λ r. refl })
+none-begun p w o Call.WakeSelf z = none-with w (future_of o) _ (λ f. record { answers = λ r. refl })
+none-begun p w o (Call.PollRun q b) z = absurd (cc)
+none-begun p w o (Call.DropRun q) z = none-drop _ q
 none-begun p w o _ z = record { answers = λ r. refl }
 
 self-same : (r : ℕ) → same r r ≡ 1
@@ -303,24 +277,24 @@ module _ (s : Machine) (p : ℕ) (rest : List Op) (l : p < length s.parties) (e 
   there = here s p [] rest l e h
 
   abbrev begun_trace : Call → Trace
-  begun_trace c = es ++ event.CallBegun p c ∷ []
+  begun_trace c = es ++ Event.CallBegun p c ∷ []
 
   opens-begun : (c : Call) → opens p (begun_trace c) ≡ None ∷ opens p es
-  opens-begun c = opens-push p es (event.CallBegun p c) ∙ own-call p (None ∷ opens p es) (opens p es)
+  opens-begun c = opens-push p es (Event.CallBegun p c) ∙ own-call p (None ∷ opens p es) (opens p es)
 
   opens-others : (c : Call) (q : ℕ) → q ≢ p → opens q (begun_trace c) ≡ opens q es
-  opens-others c q n = opens-push q es (event.CallBegun p c)
-      ∙ other-call p q (length es) (opens q es) (event.CallBegun p c) (None ∷ opens q es) (differs p q n) refl
+  opens-others c q n = opens-push q es (Event.CallBegun p c)
+      ∙ other-call p q (length es) (opens q es) (Event.CallBegun p c) (None ∷ opens q es) (differs p q n) refl
 
   tells-begun : (c : Call) (q : ℕ) → Tells q (begun_trace c)
-  tells-begun c q = tells-push q es (event.CallBegun p c) refl (h.tells q)
+  tells-begun c q = tells-push q es (Event.CallBegun p c) refl (h.tells q)
 
-  frames-call : (c : Call) (o : Option Waker) → polls_run c ≡ false → Opens s.world p c (begun p (log s.world (event.CallBegun p c)) o c) →
-      Grows is_call ordinary-none (log s.world (event.CallBegun p c)) (begun p (log s.world (event.CallBegun p c)) o c).world →
-      Frames (unsettled s p rest (begun p (log s.world (event.CallBegun p c)) o c))
+  frames-call : (c : Call) (o : Option Waker) → polls_run c ≡ false → Opens s.world p c (begun p (log s.world (Event.CallBegun p c)) o c) →
+      Grows is_call ordinary-none (log s.world (Event.CallBegun p c)) (begun p (log s.world (Event.CallBegun p c)) o c).world →
+      Frames (unsettled s p rest (begun p (log s.world (Event.CallBegun p c)) o c))
   frames-call c o z a g =
-      let d = begun p (log s.world (event.CallBegun p c)) o c in
-      let none : NoAnswer d.next = none-begun p (log s.world (event.CallBegun p c)) o c z in
+      let d = begun p (log s.world (Event.CallBegun p c)) o c in
+      let none : NoAnswer d.next = none-begun p (log s.world (Event.CallBegun p c)) o c z in
       let now : (q : ℕ) → opens q d.world.trace ≡ opens q (begun_trace c) =
       λ q. ap (opens q) g.is ∙ opens-more q (begun_trace c) g.more g.none in
       frames-at s p [] rest l e h d
@@ -336,15 +310,15 @@ module _ (s : Machine) (p : ℕ) (rest : List Op) (l : p < length s.parties) (e 
       (λ q. subst (Tells q) (sym g.is) (tells-more q (begun_trace c) g.more g.none (tells-begun c q)))
 
   frames-poll : (r : ℕ) (b : By) (o : Option Waker) →
-      Answering (begun p (log s.world (event.CallBegun p (call.PollRun r b))) o (call.PollRun r b)).next →
-      Frames (unsettled s p rest (begun p (log s.world (event.CallBegun p (call.PollRun r b))) o (call.PollRun r b)))
+      Answering (begun p (log s.world (Event.CallBegun p (Call.PollRun r b))) o (Call.PollRun r b)).next →
+      Frames (unsettled s p rest (begun p (log s.world (Event.CallBegun p (Call.PollRun r b))) o (Call.PollRun r b)))
   frames-poll r b o a =
-      let c = call.PollRun r b in
-      let v = log s.world (event.CallBegun p c) in
+      let c = Call.PollRun r b in
+      let v = log s.world (Event.CallBegun p c) in
       let d = begun p v o c in
       let x : RunPoll = record { run = r; waker = waker_of o b; poll = length v.trace } in
       let t = (run_of v r).stage in
-      let e2 = event.RunPolled p r in
+      let e2 = Event.RunPolled p r in
       frames-at s p [] rest l e h d
       (subst (Framed (d.next ++ reverse rest))
       (sym (opens-push p v.trace e2 ∙ (own-call p (Some (r, length v.trace) ∷ drop 1 (opens p v.trace)) (opens p v.trace)
@@ -365,7 +339,7 @@ module _ (s : Machine) (p : ℕ) (rest : List Op) (l : p < length s.parties) (e 
 
 frames-one : (s : Machine) (p : ℕ) (rest : List Op) (t : Hint) (o : Op) (b : Bool) → is_end o ≡ b → p < length s.parties →
     stack s p ≡ rest ++ reverse (o ∷ []) → Frames s → Frames (unsettled s p rest (act p t o s.world))
-frames-one s p rest t (op.End a held) true n l e h = frames-ends s p a held rest l e h
+frames-one s p rest t (Op.End a held) true n l e h = frames-ends s p a held rest l e h
 frames-one s p rest t _ true n l e h = absurd (cc)
 frames-one s p rest t o false n l e h =
     frames-within s p (o ∷ []) rest l e h (act p t o s.world)
@@ -374,26 +348,26 @@ frames-one s p rest t o false n l e h =
     (calls-act p t o s.world n).passes.none (calls-act p t o s.world n).passes.one (here s p (o ∷ []) rest l e h))
   where
     allows : (x : Op) → is_end x ≡ false → Allows is_call ordinary-none p x
-    allows (op.Move move.TakeUp f) k = refl
-    allows (op.Steal (steal_op.Put y more f)) k = refl
-    allows (op.End a held) k = absurd (cc)
+    allows (Op.Move Move.TakeUp f) k = refl
+    allows (Op.Steal (StealOp.Put y more f)) k = refl
+    allows (Op.End a held) k = absurd (cc)
     allows _ k = tt
 
 one-react : (p : ℕ) (o : Op) (u : UserEnd) (w : World) → accepts o u ≡ true → calling_of o ≡ 1 →
     Answering (react p o u w).next
-one-react p (op.User (user_op.PollOwn x)) (end.Polled answer.Pending) w a z = single _ refl
-one-react p (op.User (user_op.PollOwn x)) (end.Polled answer.Ready) w a z =
-    then (op.User (user_op.DropOwn x.run) ∷ []) _ refl refl
+one-react p (Op.User (UserOp.PollOwn x)) (UserEnd.Polled Answer.Pending) w a z = single _ refl
+one-react p (Op.User (UserOp.PollOwn x)) (UserEnd.Polled Answer.Ready) w a z =
+    then (Op.User (UserOp.DropOwn x.run) ∷ []) _ refl refl
 one-react p _ u w a z = absurd (cc)
 
 none-react : (p : ℕ) (o : Op) (u : UserEnd) (w : World) → accepts o u ≡ true → calling_of o ≡ 0 →
     weigh calling_of (react p o u w).next ≡ 0
-none-react p (op.User (user_op.Poll f)) (end.Polled answer.Pending) w a z = refl
-none-react p (op.User (user_op.Poll f)) (end.Polled answer.Ready) w a z = refl
-none-react p (op.User (user_op.Drop f)) end.Done w a z = refl
-none-react p (op.User (user_op.DropOutput f)) end.Done w a z = refl
-none-react p (op.User (user_op.CallOutside x)) end.Done w a z = refl
-none-react p (op.User (user_op.DropOwn q)) end.Done w a z = refl
+none-react p (Op.User (UserOp.Poll f)) (UserEnd.Polled Answer.Pending) w a z = refl
+none-react p (Op.User (UserOp.Poll f)) (UserEnd.Polled Answer.Ready) w a z = refl
+none-react p (Op.User (UserOp.Drop f)) UserEnd.Done w a z = refl
+none-react p (Op.User (UserOp.DropOutput f)) UserEnd.Done w a z = refl
+none-react p (Op.User (UserOp.CallOutside x)) UserEnd.Done w a z = refl
+none-react p (Op.User (UserOp.DropOwn q)) UserEnd.Done w a z = refl
 none-react p _ _ w a z = absurd (cc)
 
 pub frames-moves : (s : Machine) (p : ℕ) (old rest : List Op) (d : Done) → Good s → p < length s.parties →
@@ -411,7 +385,7 @@ frames-moves s p old rest d good l e (reacted o u a q z) h =
     (here s p (o ∷ []) rest l e2 h)))
   where
     user : (x : Op) (y : UserEnd) → accepts x y ≡ true → is_end x ≡ false
-    user (op.User x) y k = refl
+    user (Op.User x) y k = refl
     user _ y k = absurd (cc)
 frames-moves s p old rest d good l e (called c q r n z) h =
     let e2 : stack s p ≡ rest ++ reverse [] = subst (λ (os : List Op). stack s p ≡ rest ++ reverse os) q e in
@@ -421,13 +395,13 @@ frames-moves s p old rest d good l e (called c q r n z) h =
     o : Option Waker
     o = mine (top (stack s p))
 
-    by : (x : Call) → Opens s.world p x (begun p (log s.world (event.CallBegun p x)) o x) →
-        stack s p ≡ rest ++ reverse [] → Frames (unsettled s p rest (begun p (log s.world (event.CallBegun p x)) o x))
-    by (call.PollRun m b) a e2 = frames-poll s p rest l e2 h m b o a.1
-    by (call.DropRun m) a e2 = frames-call s p rest l e2 h (call.DropRun m) o refl a
-        (grows-begun is_call ordinary-none p (log s.world (event.CallBegun p (call.DropRun m))) o (call.DropRun m) refl)
+    by : (x : Call) → Opens s.world p x (begun p (log s.world (Event.CallBegun p x)) o x) →
+        stack s p ≡ rest ++ reverse [] → Frames (unsettled s p rest (begun p (log s.world (Event.CallBegun p x)) o x))
+    by (Call.PollRun m b) a e2 = frames-poll s p rest l e2 h m b o a.1
+    by (Call.DropRun m) a e2 = frames-call s p rest l e2 h (Call.DropRun m) o refl a
+        (grows-begun is_call ordinary-none p (log s.world (Event.CallBegun p (Call.DropRun m))) o (Call.DropRun m) refl)
     by x a e2 = frames-call s p rest l e2 h x o refl a
-        (grows-begun is_call ordinary-none p (log s.world (event.CallBegun p x)) o x tt)
+        (grows-begun is_call ordinary-none p (log s.world (Event.CallBegun p x)) o x tt)
 
 pub frames-start : (limit : ℕ) (kind : Kind) (n : ℕ) → Frames (start limit kind n)
 frames-start limit kind n = record {

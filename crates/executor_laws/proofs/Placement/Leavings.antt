@@ -1,142 +1,104 @@
 -- For due_futures_stand_with_their_keepers.
 -- Who leaves the list of queues, as the run's own future was ready or the run is dropped, goes on to leave it until its
 -- call ends; and nobody else begins to.
-use Rattle.std.proofs.Common.{◌≡◌, ◌∙◌, ℕ, zero, suc, ◌≤◌, ◌%◌, List, [], ◌∷◌}
-use Rattle.std.proofs.Common.{length, Bool, true, false, refl, ap, arith}
+use Rattle.std.proofs.Common.{◌≡◌, ◌∙◌, ℕ, zero, suc, ◌≤◌, ◌%◌, List, [], ◌∷◌, length, Bool, true, false, refl, ap, arith}
 use Rattle.std.specs.Prelude.{Option, Some, None}
-use Rattle.executor_model.specs.declared.op.Look.{Look}
-use Rattle.executor_model.specs.declared.op.Look.TheVariants.{First, Second}
-use Rattle.executor_model.specs.World.{queue_of}
-use Rattle.executor_model.specs.Acts.{mark_in}
 use Rattle.executor_parts.specs.Sleepers.{waker_at}
-use Rattle.task_moves.specs.Moves as moves
-use Rattle.executor_model.specs.declared.call.Call.{Call}
-use Rattle.executor_model.specs.declared.call.Call.TheVariants as call
-use Rattle.executor_model.specs.declared.call.Reply.{Reply}
-use Rattle.executor_model.specs.declared.call.Reply.TheVariants as reply
-use Rattle.executor_model.specs.declared.event.Answer.TheVariants as answer
-use Rattle.executor_model.specs.declared.event.Event.TheVariants as event
-use Rattle.executor_model.specs.declared.op.Hold.{Hold}
-use Rattle.executor_model.specs.declared.op.Hold.TheVariants as hold
-use Rattle.executor_model.specs.declared.op.ListOp.{ListOp}
-use Rattle.executor_model.specs.declared.op.ListOp.TheVariants as list_op
-use Rattle.executor_model.specs.declared.op.Op.{Op}
-use Rattle.executor_model.specs.declared.op.Op.TheVariants as op
-use Rattle.executor_model.specs.declared.op.Polled.TheVariants as of
-use Rattle.executor_model.specs.declared.op.RunOp.{RunOp}
-use Rattle.executor_model.specs.declared.op.RunOp.TheVariants as run_op
-use Rattle.executor_model.specs.declared.op.RunPoll.{RunPoll}
-use Rattle.executor_model.specs.declared.op.Section.{Section}
-use Rattle.executor_model.specs.declared.op.Section.TheVariants as section
-use Rattle.executor_model.specs.declared.op.TickOrRun.{TickOrRun}
-use Rattle.executor_model.specs.declared.op.TickOrRun.TheVariants as tick_or_run
-use Rattle.executor_model.specs.declared.op.Sleeping.{Sleeping}
-use Rattle.executor_model.specs.declared.op.Steal.{Steal}
-use Rattle.executor_model.specs.declared.op.Then.{Then}
-use Rattle.executor_model.specs.declared.op.Then.TheVariants as then
-use Rattle.executor_model.specs.declared.op.TickOp.TheVariants as tick_op
-use Rattle.executor_model.specs.declared.op.UserOp.TheVariants as user_op
-use Rattle.executor_model.specs.declared.op.Waker.{Waker}
-use Rattle.executor_model.specs.declared.op.Waker.TheVariants.{Task, Outside}
-use Rattle.executor_model.specs.declared.op.WakerOp.TheVariants as waker_op
-use Rattle.executor_model.specs.declared.step.Hint.{Hint}
-use Rattle.executor_model.specs.declared.step.UserEnd.{UserEnd}
-use Rattle.executor_model.specs.declared.step.UserEnd.TheVariants as end
-use Rattle.executor_model.specs.Acts.{copy_by}
+use Rattle.executor_laws.proofs.Types.{Outside, WakerOp, Hint, UserEnd, Look, First, Second, Call, Reply, Answer, Event, Hold}
+use Rattle.executor_laws.proofs.Types.{ListOp, Op, Polled, RunOp, RunPoll, Section, TickOrRun, Sleeping, Steal, Then, TickOp}
+use Rattle.executor_laws.proofs.Types.{UserOp, Waker, Task}
+use Rattle.executor_model.specs.World.{queue_of, World, Ticker, Awake, Asleep, Left, Stage, New, Listed, Ended, Done, log}
+use Rattle.executor_model.specs.ActsOfSleepers.{copy_sleeper_by, sleep_again_by, sleep_anew_by, fall_asleep_by, sleep_listed_by}
+use Rattle.executor_model.specs.ActsOfSleepers.{held_as, pend_as, look_tick_by, sleeper_goes}
 use Rattle.executor_model.specs.ActsOfRuns.{call_by_reference, make_room_by, make_run_by, reschedule_by, steal_by, wake_own}
-use Rattle.executor_model.specs.ActsOfSleepers.{copy_sleeper_by, sleep_again_by, sleep_anew_by, fall_asleep_by}
-use Rattle.executor_model.specs.ActsOfSleepers.{sleep_listed_by, held_as, pend_as, look_tick_by, sleeper_goes}
-use Rattle.executor_model.specs.Doing.{act, list_act, run_act, search_by_who}
-use Rattle.executor_model.specs.Rows.{running_of}
 use Rattle.executor_model.specs.Steps.{accepts, begun, drop_run, future_of, kept, poll_run, react, with_future}
-use Rattle.executor_model.specs.Weights.{is_run, same, weigh}
-use Rattle.executor_model.specs.World.{World, Ticker, Awake, Asleep, Left, Stage, New, Listed, Ended, Done, log, own_of, task}
-use Rattle.executor_model.proofs.Steps.Asides.{aside-owed}
-use Rattle.executor_model.proofs.Quiet.Calls.{calling_of}
+use Rattle.executor_model.specs.{World.own_of, World.task, Acts.mark_in, Acts.copy_by, Doing.act, Doing.list_act, Doing.run_act}
+use Rattle.executor_model.specs.{Doing.search_by_who, Rows.running_of, Weights.is_run, Weights.same, Weights.weigh}
 use Rattle.executor_model.proofs.Steps.Lists.{same_is, weigh-append, weigh-below}
 use Rattle.executor_model.proofs.OwnQueues.RunsMoving.{Weighs, by_then, weighs-stolen}
-use Rattle.executor_model.proofs.Steps.SleepersNext.{goes-unseen}
 use Rattle.executor_model.proofs.OwnQueues.Using.{Mild, is_for_runs, mild-aside, mild-next}
 use Rattle.executor_model.proofs.OwnQueues.UsingRuns.{Part, part-common, part-look, part-own, part-steal, part-walk}
-use Rattle.executor_model.proofs.OwnQueues.RunsDone.{poll_in}
+use Rattle.executor_model.proofs.Steps.SleepersNext.{goes-unseen}
+use Rattle.executor_model.proofs.{Steps.Asides.aside-owed, Quiet.Calls.calling_of, OwnQueues.RunsDone.poll_in}
 use Rattle.executor_laws.proofs.Placement.Answering.{is_end, readying_of}
+use Rattle.task_moves.specs.Moves as moves
 
 -- it has left the list as it was ready
 abbrev pub off_of : ℕ → Op → ℕ
-off_of r (op.Run (run_op.Reschedule q reply.Ready)) = same r q
-off_of r (op.End reply.Ready (hold.Run q)) = same r q
-off_of r (op.Tick (tick_op.Look s look)) = is_run r s.who
+off_of r (Op.Run (RunOp.Reschedule q Reply.Ready)) = same r q
+off_of r (Op.End Reply.Ready (Hold.Run q)) = same r q
+off_of r (Op.Tick (TickOp.Look s look)) = is_run r s.who
 off_of r _ = 0
 
 -- it leaves as it is dropped
 abbrev pub dropping_section : ℕ → Section → ℕ
-dropping_section r (section.Unregister q reply.Ready) = 0
-dropping_section r (section.Unregister q a) = same r q
+dropping_section r (Section.Unregister q Reply.Ready) = 0
+dropping_section r (Section.Unregister q a) = same r q
 dropping_section r _ = 0
 
 abbrev pub dropping_of : ℕ → Op → ℕ
-dropping_of r (op.List (list_op.LockWrite s)) = dropping_section r s
-dropping_of r (op.List (list_op.Write s)) = dropping_section r s
-dropping_of r (op.Run (run_op.Reschedule q reply.Ready)) = 0
-dropping_of r (op.Run (run_op.Reschedule q a)) = same r q
+dropping_of r (Op.List (ListOp.LockWrite s)) = dropping_section r s
+dropping_of r (Op.List (ListOp.Write s)) = dropping_section r s
+dropping_of r (Op.Run (RunOp.Reschedule q Reply.Ready)) = 0
+dropping_of r (Op.Run (RunOp.Reschedule q a)) = same r q
 dropping_of r _ = 0
 
 -- all these
 abbrev pub leaving_section : ℕ → Section → ℕ
-leaving_section r (section.Unregister q a) = same r q
+leaving_section r (Section.Unregister q a) = same r q
 leaving_section r _ = 0
 
 abbrev pub leaving_of : ℕ → Op → ℕ
-leaving_of r (op.List (list_op.LockWrite s)) = leaving_section r s
-leaving_of r (op.List (list_op.Write s)) = leaving_section r s
-leaving_of r (op.Run (run_op.Reschedule q a)) = same r q
-leaving_of r (op.End reply.Ready (hold.Run q)) = same r q
-leaving_of r (op.Tick (tick_op.Look s look)) = is_run r s.who
+leaving_of r (Op.List (ListOp.LockWrite s)) = leaving_section r s
+leaving_of r (Op.List (ListOp.Write s)) = leaving_section r s
+leaving_of r (Op.Run (RunOp.Reschedule q a)) = same r q
+leaving_of r (Op.End Reply.Ready (Hold.Run q)) = same r q
+leaving_of r (Op.Tick (TickOp.Look s look)) = is_run r s.who
 leaving_of r _ = 0
 
 same-few : (r q : ℕ) → same r q ≤ 1
 same-few r q = grind (arith, same_is)
 
 pub off-leaves : (r : ℕ) (o : Op) → off_of r o ≤ leaving_of r o
-off-leaves r (op.Run (run_op.Reschedule q reply.Ready)) = omega arith
-off-leaves r (op.End reply.Ready (hold.Run q)) = omega arith
+off-leaves r (Op.Run (RunOp.Reschedule q Reply.Ready)) = omega arith
+off-leaves r (Op.End Reply.Ready (Hold.Run q)) = omega arith
 off-leaves r _ = omega arith
 
 pub dropping-leaves : (r : ℕ) (o : Op) → dropping_of r o ≤ leaving_of r o
-dropping-leaves r (op.List (list_op.LockWrite (section.Unregister q reply.Ready))) = omega arith
-dropping-leaves r (op.List (list_op.Write (section.Unregister q reply.Ready))) = omega arith
-dropping-leaves r (op.Run (run_op.Reschedule q reply.Ready)) = omega arith
+dropping-leaves r (Op.List (ListOp.LockWrite (Section.Unregister q Reply.Ready))) = omega arith
+dropping-leaves r (Op.List (ListOp.Write (Section.Unregister q Reply.Ready))) = omega arith
+dropping-leaves r (Op.Run (RunOp.Reschedule q Reply.Ready)) = omega arith
 dropping-leaves r _ = omega arith
 
 pub readying-leaves : (r : ℕ) (o : Op) → readying_of r o ≤ leaving_of r o
-readying-leaves r (op.List (list_op.LockWrite (section.Unregister q reply.Ready))) = omega arith
-readying-leaves r (op.List (list_op.Write (section.Unregister q reply.Ready))) = omega arith
-readying-leaves r (op.Run (run_op.Reschedule q reply.Ready)) = omega arith
-readying-leaves r (op.End reply.Ready (hold.Run q)) = omega arith
+readying-leaves r (Op.List (ListOp.LockWrite (Section.Unregister q Reply.Ready))) = omega arith
+readying-leaves r (Op.List (ListOp.Write (Section.Unregister q Reply.Ready))) = omega arith
+readying-leaves r (Op.Run (RunOp.Reschedule q Reply.Ready)) = omega arith
+readying-leaves r (Op.End Reply.Ready (Hold.Run q)) = omega arith
 readying-leaves r _ = omega arith
 
 pub leaving-uses : (r : ℕ) (o : Op) → leaving_of r o ≤ running_of r o
-leaving-uses r (op.List (list_op.LockWrite section.MakeRun)) = omega arith
-leaving-uses r (op.List (list_op.Write section.MakeRun)) = omega arith
-leaving-uses r (op.Run (run_op.Reschedule q a)) = omega arith
-leaving-uses r (op.End reply.Ready (hold.Run q)) = omega arith
-leaving-uses r (op.Tick (tick_op.Look s look)) = omega arith
+leaving-uses r (Op.List (ListOp.LockWrite Section.MakeRun)) = omega arith
+leaving-uses r (Op.List (ListOp.Write Section.MakeRun)) = omega arith
+leaving-uses r (Op.Run (RunOp.Reschedule q a)) = omega arith
+leaving-uses r (Op.End Reply.Ready (Hold.Run q)) = omega arith
+leaving-uses r (Op.Tick (TickOp.Look s look)) = omega arith
 leaving-uses r _ = omega arith
 
 section-few : (r : ℕ) (s : Section) → leaving_section r s ≤ 1
-section-few r (section.Unregister q a) = same-few r q
+section-few r (Section.Unregister q a) = same-few r q
 section-few r _ = omega arith
 
 who-few : (r : ℕ) (who : TickOrRun) → is_run r who ≤ 1
-who-few r (tick_or_run.Tick t) = omega arith
-who-few r (tick_or_run.Run q) = same-few r q
+who-few r (TickOrRun.Tick t) = omega arith
+who-few r (TickOrRun.Run q) = same-few r q
 
 few : (r : ℕ) (o : Op) → leaving_of r o ≤ calling_of o
-few r (op.List (list_op.LockWrite s)) = section-few r s
-few r (op.List (list_op.Write s)) = section-few r s
-few r (op.Run (run_op.Reschedule q a)) = same-few r q
-few r (op.End reply.Ready (hold.Run q)) = same-few r q
-few r (op.Tick (tick_op.Look s look)) = who-few r s.who
+few r (Op.List (ListOp.LockWrite s)) = section-few r s
+few r (Op.List (ListOp.Write s)) = section-few r s
+few r (Op.Run (RunOp.Reschedule q a)) = same-few r q
+few r (Op.End Reply.Ready (Hold.Run q)) = same-few r q
+few r (Op.Tick (TickOp.Look s look)) = who-few r s.who
 few r _ = omega arith
 
 mild : (r : ℕ) → Mild (leaving_of r)
@@ -149,16 +111,16 @@ mild r = record {
   take = λ look. refl;
 }
   where
-    by_executor : (a : Reply) → leaving_of r (op.End a hold.Executor) ≡ 0
-    by_executor reply.Ready = refl
+    by_executor : (a : Reply) → leaving_of r (Op.End a Hold.Executor) ≡ 0
+    by_executor Reply.Ready = refl
     by_executor _ = refl
 
-    by_spawned : (a : Reply) (f : ℕ) → leaving_of r (op.End a (hold.Spawned f)) ≡ 0
-    by_spawned reply.Ready f = refl
+    by_spawned : (a : Reply) (f : ℕ) → leaving_of r (Op.End a (Hold.Spawned f)) ≡ 0
+    by_spawned Reply.Ready f = refl
     by_spawned _ f = refl
 
-    by_handle : (a : Reply) (f : ℕ) → leaving_of r (op.End a (hold.Handle f)) ≡ 0
-    by_handle reply.Ready f = refl
+    by_handle : (a : Reply) (f : ℕ) → leaving_of r (Op.End a (Hold.Handle f)) ≡ 0
+    by_handle Reply.Ready f = refl
     by_handle _ f = refl
 
 part : (r : ℕ) (x : RunPoll) → Part (leaving_of r) x 0
@@ -178,11 +140,11 @@ part r x = record {
 
 -- what has to do with leaving
 abbrev pub leaves : Op → Bool
-leaves (op.List (list_op.LockWrite (section.Unregister q a))) = true
-leaves (op.List (list_op.Write (section.Unregister q a))) = true
-leaves (op.Run (run_op.Reschedule q a)) = true
-leaves (op.End a held) = true
-leaves (op.Tick (tick_op.Look s look)) = true
+leaves (Op.List (ListOp.LockWrite (Section.Unregister q a))) = true
+leaves (Op.List (ListOp.Write (Section.Unregister q a))) = true
+leaves (Op.Run (RunOp.Reschedule q a)) = true
+leaves (Op.End a held) = true
+leaves (Op.Tick (TickOp.Look s look)) = true
 leaves _ = false
 
 module _ (r : ℕ) (s : Sleeping) where
@@ -200,11 +162,7 @@ module _ (r : ℕ) (s : Sleeping) where
   none-again : (o : Option ℕ) (w : World) (k : ℕ) → weigh (leaving_of r) (sleep_again_by o w k s).next ≡ 0
   none-again None w k = none-listed _ w k
   none-again (Some at) w k = let old = waker_at (Some at) w.sleepers.wakers in
-      omega (
-        arith,
-        weigh-append (leaving_of r) (sleeper_goes old) (pend_as s.who),
-        goes-unseen (leaving_of r) (λ f. refl) old,
-      )
+      omega (arith, weigh-append (leaving_of r) (sleeper_goes old) (pend_as s.who), goes-unseen (leaving_of r) (λ f. refl) old)
 
   none-sleep : (x : Ticker) (w : World) → weigh (leaving_of r) (fall_asleep_by x w s).next ≡ 0
   none-sleep Awake w = none-anew _ w
@@ -223,12 +181,12 @@ none-make : (r : ℕ) (b : Bool) (w : World) → weigh (leaving_of r) (make_run_
 none-make r true w = refl
 none-make r false w = refl
 
-none-list : (r : ℕ) (h : Hint) (o : ListOp) (w : World) → leaves (op.List o) ≡ false →
+none-list : (r : ℕ) (h : Hint) (o : ListOp) (w : World) → leaves (Op.List o) ≡ false →
     weigh (leaving_of r) (list_act h o w).next ≡ 0
-none-list r h (list_op.LockWrite (section.Unregister q a)) w e = absurd (cc)
-none-list r h (list_op.Write section.MakeRun) w e = none-make r h.refused w
-none-list r h (list_op.Write (section.Unregister q a)) w e = absurd (cc)
-none-list r h (list_op.LockRead x) w e =
+none-list r h (ListOp.LockWrite (Section.Unregister q a)) w e = absurd (cc)
+none-list r h (ListOp.Write Section.MakeRun) w e = none-make r h.refused w
+none-list r h (ListOp.Write (Section.Unregister q a)) w e = absurd (cc)
+none-list r h (ListOp.LockRead x) w e =
     part-walk (leaving_of r) (mild r) x 0 (part r x) w.listed (h.start % length w.listed) (length w.listed)
 none-list r h _ w e = refl
 
@@ -243,44 +201,44 @@ none-called r p w (Outside y) = refl
 
 none-own : (r p : ℕ) (w : World) (x : RunPoll) → weigh (leaving_of r) (wake_own p w x).next ≡ 0
 none-own r p w x =
-    let v = log w (event.WakerCalled p (of.Run x.run) x.poll x.waker) in omega (
+    let v = log w (Event.WakerCalled p (Polled.Run x.run) x.poll x.waker) in omega (
       arith,
-      weigh-append (leaving_of r) (call_by_reference p v x.waker).next (op.End reply.Pending (hold.Run x.run) ∷ []),
+      weigh-append (leaving_of r) (call_by_reference p v x.waker).next (Op.End Reply.Pending (Hold.Run x.run) ∷ []),
       none-called r p v x.waker,
     )
 
-none-run : (r p : ℕ) (h : Hint) (o : RunOp) (w : World) → leaves (op.Run o) ≡ false →
+none-run : (r p : ℕ) (h : Hint) (o : RunOp) (w : World) → leaves (Op.Run o) ≡ false →
     weigh (leaving_of r) (run_act p h o w).next ≡ 0
-none-run r p h run_op.MakeRoom w e = none-room r h.refused w
-none-run r p h run_op.ReturnRoom w e = refl
-none-run r p h (run_op.TakeTurn x) w e = refl
-none-run r p h (run_op.SearchCommon x look) w e =
+none-run r p h RunOp.MakeRoom w e = none-room r h.refused w
+none-run r p h RunOp.ReturnRoom w e = refl
+none-run r p h (RunOp.TakeTurn x) w e = refl
+none-run r p h (RunOp.SearchCommon x look) w e =
     part-common (leaving_of r) (mild r) x 0 (part r x) look (queue_of w (mark_in look)).items w
-none-run r p h (run_op.LookOwn x at left) w e =
+none-run r p h (RunOp.LookOwn x at left) w e =
     part-look (leaving_of r) (mild r) x 0 (part r x) (own_of w x.run) w at left
-none-run r p h (run_op.WakeOwn x) w e = none-own r p w x
-none-run r p h (run_op.Reschedule q a) w e = absurd (cc)
+none-run r p h (RunOp.WakeOwn x) w e = none-own r p w x
+none-run r p h (RunOp.Reschedule q a) w e = absurd (cc)
 
 none-search : (r : ℕ) (who : TickOrRun) (p : ℕ) (w : World) (s : Sleeping) → s.who ≡ who →
     weigh (leaving_of r) (search_by_who who p w s).next ≡ 0
-none-search r (tick_or_run.Tick t) p w s e = omega (arith, ap (is_run r) e)
-none-search r (tick_or_run.Run q) p w s e =
+none-search r (TickOrRun.Tick t) p w s e = omega (arith, ap (is_run r) e)
+none-search r (TickOrRun.Run q) p w s e =
     let x : RunPoll = record { run = q; waker = s.waker; poll = s.poll } in
     part-own (leaving_of r) (mild r) x 0 (part r x) (own_of w q) w
 
 pub none-by : (b : Bool) (r p : ℕ) (h : Hint) (o : Op) (w : World) → is_for_runs o ≡ b → leaves o ≡ false →
     weigh (leaving_of r) (act p h o w).next ≡ 0
 none-by false r p h o w n e = mild-next (leaving_of r) (mild r) p h o w n
-none-by true r p h (op.Tick (tick_op.Search s)) w n e = none-search r s.who p w s refl
-none-by true r p h (op.Tick (tick_op.Look s look)) w n e = absurd (cc)
-none-by true r p h (op.Tick (tick_op.CopyWaker s)) w n e = none-copy r _ w s
-none-by true r p h (op.Tick (tick_op.FallAsleep s)) w n e = none-sleep r s _ w
-none-by true r p h (op.User (user_op.PollOwn x)) w n e = refl
-none-by true r p h (op.Waker (waker_op.CopyWaker f held)) w n e = none-waker r _ w f held
-none-by true r p h (op.List o) w n e = none-list r h o w e
-none-by true r p h (op.Steal o) w n e = part-steal (leaving_of r) (mild r) 0 p o w (part r (poll_in o))
-none-by true r p h (op.Run o) w n e = none-run r p h o w e
-none-by true r p h (op.End a held) w n e = absurd (cc)
+none-by true r p h (Op.Tick (TickOp.Search s)) w n e = none-search r s.who p w s refl
+none-by true r p h (Op.Tick (TickOp.Look s look)) w n e = absurd (cc)
+none-by true r p h (Op.Tick (TickOp.CopyWaker s)) w n e = none-copy r _ w s
+none-by true r p h (Op.Tick (TickOp.FallAsleep s)) w n e = none-sleep r s _ w
+none-by true r p h (Op.User (UserOp.PollOwn x)) w n e = refl
+none-by true r p h (Op.Waker (WakerOp.CopyWaker f held)) w n e = none-waker r _ w f held
+none-by true r p h (Op.List o) w n e = none-list r h o w e
+none-by true r p h (Op.Steal o) w n e = part-steal (leaving_of r) (mild r) 0 p o w (part r (poll_in o))
+none-by true r p h (Op.Run o) w n e = none-run r p h o w e
+none-by true r p h (Op.End a held) w n e = absurd (cc)
 none-by true r p h _ w n e = absurd (cc)
 
 -- a steal goes on
@@ -300,18 +258,18 @@ leaving-more r zero w x = weighs-stolen (leaving_of r) x.poll 0 0 found x.then w
     }
 
     none : (t : Then) → by_then 0 0 t ≡ 0
-    none (then.Found f) = refl
-    none (then.StealPlain f) = refl
-    none (then.Run f) = refl
-    none (then.Walk at left) = refl
+    none (Then.Found f) = refl
+    none (Then.StealPlain f) = refl
+    none (Then.Run f) = refl
+    none (Then.Walk at left) = refl
 leaving-more r (suc n) w x = refl
 
 not-leaving : (r : ℕ) (o : Op) → leaves o ≡ false → leaving_of r o ≡ 0
-not-leaving r (op.Tick (tick_op.Look s look)) e = absurd (cc)
-not-leaving r (op.List (list_op.LockWrite (section.Unregister q a))) e = absurd (cc)
-not-leaving r (op.List (list_op.Write (section.Unregister q a))) e = absurd (cc)
-not-leaving r (op.Run (run_op.Reschedule q a)) e = absurd (cc)
-not-leaving r (op.End a held) e = absurd (cc)
+not-leaving r (Op.Tick (TickOp.Look s look)) e = absurd (cc)
+not-leaving r (Op.List (ListOp.LockWrite (Section.Unregister q a))) e = absurd (cc)
+not-leaving r (Op.List (ListOp.Write (Section.Unregister q a))) e = absurd (cc)
+not-leaving r (Op.Run (RunOp.Reschedule q a)) e = absurd (cc)
+not-leaving r (Op.End a held) e = absurd (cc)
 not-leaving r _ e = refl
 
 -- how what has to do with leaving goes on
@@ -329,25 +287,25 @@ leaves-none r old next a b = record {
 }
 
 leaves-reschedule : (r : ℕ) (own : List ℕ) (w : World) (q : ℕ) (a : Reply) →
-    Leaves r (op.Run (run_op.Reschedule q a) ∷ []) (reschedule_by own w q a).next
-leaves-reschedule r [] w q reply.Ready = record { off = omega arith; dropping = omega arith; readying = omega arith }
+    Leaves r (Op.Run (RunOp.Reschedule q a) ∷ []) (reschedule_by own w q a).next
+leaves-reschedule r [] w q Reply.Ready = record { off = omega arith; dropping = omega arith; readying = omega arith }
 leaves-reschedule r [] w q _ = record { off = omega arith; dropping = omega arith; readying = omega arith }
-leaves-reschedule r (f ∷ rest) w q reply.Ready =
+leaves-reschedule r (f ∷ rest) w q Reply.Ready =
     record { off = omega arith; dropping = omega arith; readying = omega arith }
 leaves-reschedule r (f ∷ rest) w q _ = record { off = omega arith; dropping = omega arith; readying = omega arith }
 
 -- but for the section by which the run leaves the list
 abbrev pub is_unregister : Op → Bool
-is_unregister (op.List (list_op.Write (section.Unregister q a))) = true
+is_unregister (Op.List (ListOp.Write (Section.Unregister q a))) = true
 is_unregister _ = false
 
-off-held : (r : ℕ) (who : TickOrRun) → off_of r (op.End reply.Ready (held_as who)) ≡ is_run r who
-off-held r (tick_or_run.Tick u) = refl
-off-held r (tick_or_run.Run u) = refl
+off-held : (r : ℕ) (who : TickOrRun) → off_of r (Op.End Reply.Ready (held_as who)) ≡ is_run r who
+off-held r (TickOrRun.Tick u) = refl
+off-held r (TickOrRun.Run u) = refl
 
 -- a look goes on with nothing of these, but that it may be ready
 leaves-look : (look : Look) (r : ℕ) (x : Ticker) (w : World) (q : List ℕ) (s : Sleeping) →
-    Leaves r (op.Tick (tick_op.Look s look) ∷ []) (look_tick_by x w look q s).next
+    Leaves r (Op.Tick (TickOp.Look s look) ∷ []) (look_tick_by x w look q s).next
 leaves-look (First mark) r x w [] s = record { off = omega arith; dropping = omega arith; readying = omega arith }
 leaves-look (Second mark) r x w [] s = record { off = omega arith; dropping = omega arith; readying = omega arith }
 leaves-look look r Awake w (f ∷ rest) s = record { off = omega (arith, off-held r s.who); dropping = omega arith; readying = omega arith }
@@ -359,12 +317,12 @@ leaves-by : (b : Bool) (r p : ℕ) (h : Hint) (o : Op) (w : World) → leaves o 
     is_unregister o ≡ false → Leaves r (o ∷ []) (act p h o w).next
 leaves-by false r p h o w e n m =
     leaves-none r (o ∷ []) (act p h o w).next (omega (arith, not-leaving r o e)) (none-by _ r p h o w refl e)
-leaves-by true r p h (op.List (list_op.LockWrite (section.Unregister q a))) w e n m =
+leaves-by true r p h (Op.List (ListOp.LockWrite (Section.Unregister q a))) w e n m =
     record { off = omega arith; dropping = omega arith; readying = omega arith }
-leaves-by true r p h (op.List (list_op.Write (section.Unregister q a))) w e n m = absurd (cc)
-leaves-by true r p h (op.Run (run_op.Reschedule q a)) w e n m = leaves-reschedule r (own_of w q) w q a
-leaves-by true r p h (op.Tick (tick_op.Look s look)) w e n m = leaves-look look r _ w _ s
-leaves-by true r p h (op.End a held) w e n m = absurd (cc)
+leaves-by true r p h (Op.List (ListOp.Write (Section.Unregister q a))) w e n m = absurd (cc)
+leaves-by true r p h (Op.Run (RunOp.Reschedule q a)) w e n m = leaves-reschedule r (own_of w q) w q a
+leaves-by true r p h (Op.Tick (TickOp.Look s look)) w e n m = leaves-look look r _ w _ s
+leaves-by true r p h (Op.End a held) w e n m = absurd (cc)
 leaves-by true r p h _ w e n m = absurd (cc)
 
 pub leaves-act : (r p : ℕ) (h : Hint) (o : Op) (w : World) → is_end o ≡ false → is_unregister o ≡ false →
@@ -373,21 +331,21 @@ leaves-act r p h o w n m = leaves-by _ r p h o w refl n m
 
 pub leaves-react : (r p : ℕ) (o : Op) (u : UserEnd) (w : World) → accepts o u ≡ true →
     Leaves r (o ∷ []) (react p o u w).next
-leaves-react r p (op.User (user_op.Poll f)) (end.Polled answer.Pending) w a = leaves-none r _ _ refl refl
-leaves-react r p (op.User (user_op.Poll f)) (end.Polled answer.Ready) w a = leaves-none r _ _ refl refl
-leaves-react r p (op.User (user_op.Drop f)) end.Done w a = leaves-none r _ _ refl refl
-leaves-react r p (op.User (user_op.DropOutput f)) end.Done w a = leaves-none r _ _ refl refl
-leaves-react r p (op.User (user_op.CallOutside x)) end.Done w a = leaves-none r _ _ refl refl
-leaves-react r p (op.User (user_op.PollOwn x)) (end.Polled answer.Pending) w a = leaves-none r _ _ refl refl
-leaves-react r p (op.User (user_op.PollOwn x)) (end.Polled answer.Ready) w a =
+leaves-react r p (Op.User (UserOp.Poll f)) (UserEnd.Polled Answer.Pending) w a = leaves-none r _ _ refl refl
+leaves-react r p (Op.User (UserOp.Poll f)) (UserEnd.Polled Answer.Ready) w a = leaves-none r _ _ refl refl
+leaves-react r p (Op.User (UserOp.Drop f)) UserEnd.Done w a = leaves-none r _ _ refl refl
+leaves-react r p (Op.User (UserOp.DropOutput f)) UserEnd.Done w a = leaves-none r _ _ refl refl
+leaves-react r p (Op.User (UserOp.CallOutside x)) UserEnd.Done w a = leaves-none r _ _ refl refl
+leaves-react r p (Op.User (UserOp.PollOwn x)) (UserEnd.Polled Answer.Pending) w a = leaves-none r _ _ refl refl
+leaves-react r p (Op.User (UserOp.PollOwn x)) (UserEnd.Polled Answer.Ready) w a =
     record { off = omega arith; dropping = omega arith; readying = omega arith }
-leaves-react r p (op.User (user_op.DropOwn q)) end.Done w a = leaves-none r _ _ refl refl
+leaves-react r p (Op.User (UserOp.DropOwn q)) UserEnd.Done w a = leaves-none r _ _ refl refl
 leaves-react r p _ _ w a = absurd (cc)
 
 -- a call begins
 
 abbrev pub drops_run : Call → Bool
-drops_run (call.DropRun q) = true
+drops_run (Call.DropRun q) = true
 drops_run _ = false
 
 none-with : (r : ℕ) (w : World) (x : Option ℕ) (d : ℕ → Done) → ((f : ℕ) → weigh (leaving_of r) (d f).next ≡ 0) →
@@ -402,14 +360,14 @@ none-poll r Ended x = refl
 
 pub none-begun : (r p : ℕ) (w : World) (o : Option Waker) (c : Call) → drops_run c ≡ false →
     weigh (leaving_of r) (begun p w o c).next ≡ 0
-none-begun r p w o (call.Wake k) z = none-with r w (kept w k) _ (λ f. refl)
-none-begun r p w o (call.WakeByRef k) z = none-with r w (kept w k) _ (λ f. refl)
-none-begun r p w o (call.Copy k) z = none-with r w (kept w k) _ (λ f. refl)
-none-begun r p w o (call.DropWaker k) z = none-with r w (kept w k) _ (λ f. refl)
-none-begun r p w o call.Keep z = none-with r w (future_of o) _ (λ f. refl)
-none-begun r p w o call.WakeSelf z = none-with r w (future_of o) _ (λ f. refl)
-none-begun r p w o (call.PollRun q b) z = none-poll r _ _
-none-begun r p w o (call.DropRun q) z = absurd (cc)
+none-begun r p w o (Call.Wake k) z = none-with r w (kept w k) _ (λ f. refl)
+none-begun r p w o (Call.WakeByRef k) z = none-with r w (kept w k) _ (λ f. refl)
+none-begun r p w o (Call.Copy k) z = none-with r w (kept w k) _ (λ f. refl)
+none-begun r p w o (Call.DropWaker k) z = none-with r w (kept w k) _ (λ f. refl)
+none-begun r p w o Call.Keep z = none-with r w (future_of o) _ (λ f. refl)
+none-begun r p w o Call.WakeSelf z = none-with r w (future_of o) _ (λ f. refl)
+none-begun r p w o (Call.PollRun q b) z = none-poll r _ _
+none-begun r p w o (Call.DropRun q) z = absurd (cc)
 none-begun r p w o _ z = refl
 
 -- who drops a run doesn't leave as one that is ready

@@ -2,46 +2,29 @@
 -- No run looks at the executor's queues as ticks do.
 use Rattle.std.proofs.Common.{◌≡◌, ℕ, ◌<◌, ◌≤◌, ◌%◌, List, [], ◌∷◌, ◌++◌, length, Bool, true, false, refl, ap, arith}
 use Rattle.std.specs.Prelude.{reverse}
-use Rattle.executor_model.specs.declared.call.Reply.{Reply}
-use Rattle.executor_model.specs.declared.event.Event.TheVariants as event
-use Rattle.executor_model.specs.declared.kind.Kind.{Kind}
-use Rattle.executor_model.specs.declared.op.Hold.{Hold}
-use Rattle.executor_model.specs.declared.op.ListOp.{ListOp}
-use Rattle.executor_model.specs.declared.op.ListOp.TheVariants as list_op
-use Rattle.executor_model.specs.declared.op.Op.{Op}
-use Rattle.executor_model.specs.declared.op.Op.TheVariants as op
-use Rattle.executor_model.specs.declared.op.RunPoll.{RunPoll}
-use Rattle.executor_model.specs.declared.op.Section.TheVariants as section
-use Rattle.executor_model.specs.declared.op.Steal.{Steal}
-use Rattle.executor_model.specs.declared.op.TickOp.TheVariants as tick_op
-use Rattle.executor_model.specs.declared.step.Hint.{Hint}
-use Rattle.executor_model.specs.declared.step.Step.{Step}
-use Rattle.executor_model.specs.ActsOfRuns as runs
-use Rattle.executor_model.specs.Doing.{list_act}
-use Rattle.executor_model.specs.Good.{Good}
-use Rattle.executor_model.specs.OwnQueues.{empty_of}
+use Rattle.executor_laws.proofs.Types.{Reply, Event, Kind, Hold, ListOp, Op, RunPoll, Section, Steal, TickOp, Hint, Step}
 use Rattle.executor_model.specs.Steps.{Machine, begun, mine, react, run, stack, start, top}
 use Rattle.executor_model.specs.Weights.{is_run, weigh, weigh_all}
-use Rattle.executor_model.specs.World.{World, Done, done, log}
+use Rattle.executor_model.specs.{Doing.list_act, Good.Good, OwnQueues.empty_of, World.World, World.Done, World.done, World.log}
+use Rattle.executor_model.proofs.OwnQueues.RunsDone.{to_walk, walk_ends, walk_on, Deed, keeps, takes, lacks, shares, grows}
+use Rattle.executor_model.proofs.OwnQueues.RunsDone.{wakes, lists, deed-act, is_loud, loud, loud-weigh, walks-by, Stole, More}
+use Rattle.executor_model.proofs.OwnQueues.RunsDone.{no_more, one_more, Walks, Missing, misses_there, Leads, turns, finds}
 use Rattle.executor_model.proofs.Steps.Lift.{good-start, split, unsettled, weigh_all-idle}
 use Rattle.executor_model.proofs.Steps.Lists.{weigh-below, weigh_all-push}
-use Rattle.executor_model.proofs.Steps.Ways.{Way, along}
 use Rattle.executor_model.proofs.Steps.Ways.Way.{acted, called, reacted}
 use Rattle.executor_model.proofs.OwnQueues.OwnCounts.{counts-begun, counts-empty, counts-react}
-use Rattle.executor_model.proofs.OwnQueues.RunsDone.{to_walk, walk_ends, walk_on}
-use Rattle.executor_model.proofs.OwnQueues.RunsDone.{Deed, keeps, takes, lacks, shares, grows, wakes, lists, deed-act, is_loud, loud}
-use Rattle.executor_model.proofs.OwnQueues.RunsDone.{loud-weigh, walks-by, Stole, More, no_more, one_more, Walks, Missing}
-use Rattle.executor_model.proofs.OwnQueues.RunsDone.{misses_there, Leads, turns, finds, stole, looks}
+use Rattle.executor_model.proofs.{OwnQueues.RunsDone.stole, OwnQueues.RunsDone.looks, Steps.Ways.Way, Steps.Ways.along}
+use Rattle.executor_model.specs.ActsOfRuns as runs
 
 abbrev pub astray : ℕ → Op → ℕ
-astray r (op.Tick (tick_op.Look s look)) = is_run r s.who
+astray r (Op.Tick (TickOp.Look s look)) = is_run r s.who
 astray r _ = 0
 
 abbrev pub NoneAstray : Machine → Type 0
 NoneAstray s = (r : ℕ) → weigh_all (astray r) s.parties ≡ 0
 
 quiet-astray : (r : ℕ) (o : Op) → is_loud o ≡ false → astray r o ≡ 0
-quiet-astray r (op.Tick (tick_op.Look s look)) e = absurd (cc)
+quiet-astray r (Op.Tick (TickOp.Look s look)) e = absurd (cc)
 quiet-astray r _ e = refl
 
 stole-astray : (r : ℕ) (x : RunPoll) (n : ℕ) (os : List Op) → Stole x n os → weigh (astray r) os ≡ 0
@@ -68,18 +51,18 @@ leads-astray r o _ (looks x at left {os = os} z) = omega (arith, stole-astray r 
 leads-astray r o os _ = omega arith
 
 list-astray : (r : ℕ) (h : Hint) (o : ListOp) (w : World) → weigh (astray r) (list_act h o w).next ≡ 0
-list-astray r h (list_op.Write section.MakeRun) w = by h.refused
+list-astray r h (ListOp.Write Section.MakeRun) w = by h.refused
   where
     by : (b : Bool) → weigh (astray r) (runs.make_run_by b w).next ≡ 0
     by true = refl
     by false = refl
-list-astray r h (list_op.LockRead x) w =
+list-astray r h (ListOp.LockRead x) w =
     let os = runs.walk x w.listed (h.start % length w.listed) (length w.listed) in omega (
       arith,
       loud-weigh (astray r) (quiet-astray r) os,
       walks-astray r x (loud os) (walks-by x w.listed (h.start % length w.listed) (length w.listed)),
     )
-list-astray r h (list_op.Write (section.Register x)) w = refl
+list-astray r h (ListOp.Write (Section.Register x)) w = refl
 list-astray r h _ w = refl
 
 as-loud : (r : ℕ) (o : Op) (d : Done) → weigh (astray r) (loud d.next) ≤ astray r o → weigh (astray r) d.next ≤ astray r o
@@ -96,7 +79,7 @@ deed-astray r w o d (lists h l) = omega (arith, list-astray r h l w)
 
 -- the other counts of what a run has found empty see these
 below : (r : ℕ) (o : Op) → astray r o ≤ empty_of r o
-below r (op.Tick (tick_op.Look s look)) = omega arith
+below r (Op.Tick (TickOp.Look s look)) = omega arith
 below r _ = omega arith
 
 way-astray : (s : Machine) (p : ℕ) (old rest : List Op) (d : Done) → Way s p old rest d → (r : ℕ) →
@@ -113,7 +96,7 @@ way-astray s p old rest d (called c q i n z) r =
     rw (z, q) (omega (
       arith,
       counts-empty r _ (counts-begun r p s.world here c).counts,
-      weigh-below (astray r) (empty_of r) (below r) (begun p (log s.world (event.CallBegun p c)) here c).next,
+      weigh-below (astray r) (empty_of r) (below r) (begun p (log s.world (Event.CallBegun p c)) here c).next,
     ))
 
 moves : (s : Machine) (p : ℕ) (old rest : List Op) (d : Done) → Good s → p < length s.parties →
@@ -127,12 +110,12 @@ moves s p old rest d good l e way h r = omega (
 )
 
 ends : (s : Machine) (p : ℕ) (a : Reply) (held : Hold) (below : List Op) → p < length s.parties →
-    stack s p ≡ below ++ reverse (op.End a held ∷ []) → NoneAstray s →
-    NoneAstray (unsettled s p below (done (log s.world (event.CallEnded p a)) []))
+    stack s p ≡ below ++ reverse (Op.End a held ∷ []) → NoneAstray s →
+    NoneAstray (unsettled s p below (done (log s.world (Event.CallEnded p a)) []))
 ends s p a held below l e h r = omega (
   arith,
   h r,
-  split (astray r) s.parties p (op.End a held ∷ []) below l e,
+  split (astray r) s.parties p (Op.End a held ∷ []) below l e,
   weigh_all-push (astray r) s.parties p below [] l,
 )
 

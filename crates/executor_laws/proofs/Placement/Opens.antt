@@ -1,13 +1,11 @@
 -- For due_futures_stand_with_their_keepers.
 -- Which calls of a party are in progress, read from a trace; and how a call ends that is.
-use Rattle.std.proofs.Common.{◌≡◌, ◌⊎◌, ◌∙◌, inl, inr, ⊎_elim, ℕ, zero, suc, ◌+◌, ◌-◌, ◌<◌, ◌≤◌, List, [], ◌∷◌, ◌++◌}
-use Rattle.std.proofs.Common.{length, drop, take, eqb, cond, refl, sym, ap, subst, arith}
+use Rattle.std.proofs.Common.{◌≡◌, ◌⊎◌, ◌∙◌, inl, inr, ⊎_elim, ℕ, zero, suc, ◌+◌, ◌-◌, ◌<◌, ◌≤◌, List, [], ◌∷◌, ◌++◌, length}
+use Rattle.std.proofs.Common.{drop, take, eqb, cond, refl, sym, ap, subst, arith}
 use Rattle.std.proofs.lemmas.List.{length-append}
 use Rattle.std.specs.Prelude.{Option, Some, None, slice_get}
-use Rattle.executor_model.specs.declared.event.Event.{Event}
-use Rattle.executor_model.specs.declared.event.Event.TheVariants as event
-use Rattle.executor_model.specs.AwaiterKept.{since}
-use Rattle.executor_model.specs.Trace.{Trace}
+use Rattle.executor_laws.proofs.Types.{Event}
+use Rattle.executor_model.specs.{AwaiterKept.since, Trace.Trace}
 use Rattle.executor_model.proofs.Quiet.Calls.{begun_by, ended_by, begin_of, end_of, begun-push, ended-push}
 
 -- a call that is in progress: of a poll of a run, that run and the place at which the poll is told of
@@ -16,9 +14,9 @@ Open = Option (ℕ × ℕ)
 
 -- the calls of party p that are in progress, the innermost first
 abbrev pub opens_one : ℕ → ℕ → Event → List Open → List Open
-opens_one p n (event.CallBegun q c) s = cond (eqb p q) (None ∷ s) s
-opens_one p n (event.CallEnded q a) s = cond (eqb p q) (drop 1 s) s
-opens_one p n (event.RunPolled q r) s = cond (eqb p q) (Some (r, n) ∷ drop 1 s) s
+opens_one p n (Event.CallBegun q c) s = cond (eqb p q) (None ∷ s) s
+opens_one p n (Event.CallEnded q a) s = cond (eqb p q) (drop 1 s) s
+opens_one p n (Event.RunPolled q r) s = cond (eqb p q) (Some (r, n) ∷ drop 1 s) s
 opens_one p n _ s = s
 
 abbrev pub opens_from : ℕ → ℕ → List Open → Trace → List Open

@@ -1,48 +1,24 @@
 -- For runs_end_by_their_own_futures.
 -- From the beginning on no run ends but by its own future or by its drop, whatever calls use it meanwhile.
-use Rattle.std.proofs.Common.{◌≡◌, ◌⊎◌, ◌∙◌, inl, inr, ⊎_elim, ℕ, zero, suc, ◌<◌, ◌≤◌, List, [], ◌∷◌, ◌++◌, length}
-use Rattle.std.proofs.Common.{get_or, Bool, true, false, ltb, refl, sym, ap, arith}
-use Rattle.std.proofs.Math.ListN.{length-set}
-use Rattle.std.proofs.lemmas.Bool.Decides.{nat_tests}
+use Rattle.std.proofs.Common.{◌≡◌, ◌⊎◌, ◌∙◌, inl, inr, ⊎_elim, ℕ, zero, suc, ◌<◌, ◌≤◌, List, [], ◌∷◌, ◌++◌, length, get_or}
+use Rattle.std.proofs.Common.{Bool, true, false, ltb, refl, sym, ap, arith}
 use Rattle.std.specs.Prelude.{Option, Some, None}
-use Rattle.executor_model.specs.declared.call.Call.{Call}
-use Rattle.executor_model.specs.declared.call.Call.TheVariants as call
-use Rattle.executor_model.specs.declared.call.Reply.{Reply}
-use Rattle.executor_model.specs.declared.event.Event.TheVariants as event
-use Rattle.executor_model.specs.declared.kind.Kind.{Kind}
-use Rattle.executor_model.specs.declared.op.ListOp.TheVariants as list_op
-use Rattle.executor_model.specs.declared.op.Op.{Op}
-use Rattle.executor_model.specs.declared.op.Op.TheVariants as op
-use Rattle.executor_model.specs.declared.op.Section.TheVariants as section
-use Rattle.executor_model.specs.declared.op.Steal.{Steal}
-use Rattle.executor_model.specs.declared.op.StealOp.TheVariants as steal_op
-use Rattle.executor_model.specs.declared.op.Waker.{Waker}
-use Rattle.executor_model.specs.declared.step.Hint.{Hint}
-use Rattle.executor_model.specs.declared.step.Step.{Step}
-use Rattle.executor_model.specs.declared.step.Step.TheVariants.{Answer, Begin, Go}
-use Rattle.executor_model.specs.declared.step.StepError.{StepError}
-use Rattle.executor_model.specs.ActsOfRuns.{make_run_by}
-use Rattle.executor_model.specs.Doing.{act}
-use Rattle.executor_model.specs.Keeper.{is_run_drop}
-use Rattle.executor_model.specs.Steps.{Machine, answer_refusal, begun, gone_on, mine, part_after, part_refusal, party_of, react, refusal}
-use Rattle.executor_model.specs.Steps.{run, settled_by, stack, start, step, step_by, stepped, top}
-use Rattle.executor_model.specs.Trace.{has}
-use Rattle.executor_model.specs.Weights.{weigh_all}
+use Rattle.std.{proofs.Math.ListN.length-set, proofs.lemmas.Bool.Decides.nat_tests}
+use Rattle.executor_laws.proofs.Types.{Go, StepError, Call, Reply, Event, Kind, ListOp, Op, Section, Steal, StealOp, Waker}
+use Rattle.executor_model.specs.declared.step.Step.TheVariants.{Answer}
+use Rattle.executor_model.specs.Steps.{Machine, answer_refusal, begun, gone_on, mine, part_after, part_refusal, party_of, react}
+use Rattle.executor_model.specs.Steps.{refusal, run, settled_by, stack, start, step, step_by, stepped, top}
 use Rattle.executor_model.specs.World.{Done, Ended, New, Run, World, log, new_run, no_run, put_own, run_of}
-use Rattle.executor_model.proofs.OwnQueues.RunsDone.{Deed, deed-act}
-use Rattle.executor_model.proofs.OwnQueues.UsingRuns.{is_even}
-use Rattle.executor_model.proofs.OwnQueues.UsingWorlds.{idle-coat}
-use Rattle.executor_model.proofs.Steps.Lift.{weigh_all-idle}
-use Rattle.executor_model.proofs.Steps.Reached.{Reached}
+use Rattle.executor_model.specs.{ActsOfRuns.make_run_by, Doing.act, Keeper.is_run_drop, Trace.has, Weights.weigh_all}
 use Rattle.executor_laws.specs.RunEnds.{EndsOnlyByItsOwn, OwnIsReady, OwnWasReady}
+use Rattle.executor_model.proofs.{OwnQueues.RunsDone.Deed, OwnQueues.RunsDone.deed-act, OwnQueues.UsingRuns.is_even}
+use Rattle.executor_model.proofs.{OwnQueues.UsingWorlds.idle-coat, Steps.Lift.weigh_all-idle, Steps.Reached.Reached}
+use Rattle.executor_laws.proofs.Placement.OwnReady.{Kept, Lasts, apart-here, ended-here, idle-still, lasts-on, not-both}
+use Rattle.executor_laws.proofs.Placement.OwnReady.{on-part, ran-here, reached-on, there}
 use Rattle.executor_laws.proofs.Fewness.Untaken.{registered-same, unregistered-same}
-use Rattle.executor_laws.proofs.Placement.Answering.{readying_of}
 use Rattle.executor_laws.proofs.Placement.Evens.{even-act, even-react}
-use Rattle.executor_laws.proofs.Placement.Leavings.{drops_run}
-use Rattle.executor_laws.proofs.Placement.OwnReady.{Kept, Lasts, apart-here, ended-here, idle-still, lasts-on, not-both, on-part, ran-here}
-use Rattle.executor_laws.proofs.Placement.OwnReady.{reached-on, there}
-use Rattle.executor_laws.proofs.Placement.RunningSteps.{runs-begun}
-use Rattle.executor_laws.proofs.Reach.LoneSteps.{answers}
+use Rattle.executor_laws.proofs.{Types.Hint, Types.Step, Types.Begin, Placement.Answering.readying_of}
+use Rattle.executor_laws.proofs.{Placement.Leavings.drops_run, Placement.RunningSteps.runs-begun, Reach.LoneSteps.answers}
 
 -- no run more is there, or one that is new
 abbrev Grown : World → World → Type 0
@@ -52,7 +28,7 @@ grown-make : (b : Bool) (w : World) → Grown w (make_run_by b w).world
 grown-make true w = inl refl
 grown-make false w = inr refl
 
-count-put : (w : World) (s : Steal) (k f : ℕ) (d : Done) → Deed w (op.Steal (steal_op.Put s k f)) d → length d.world.runs ≡ length w.runs
+count-put : (w : World) (s : Steal) (k f : ℕ) (d : Done) → Deed w (Op.Steal (StealOp.Put s k f)) d → length d.world.runs ≡ length w.runs
 count-put w s k f d (Deed.keeps e l) = (idle-coat w d.world e).count
 count-put w s k f d (Deed.takes q g rest i e l) = (idle-coat (put_own w q rest) d.world e).count
 count-put w s k f d (Deed.lacks q i e l) = (idle-coat w d.world e).count
@@ -60,11 +36,11 @@ count-put w s k f d (Deed.grows x n g e m) = (idle-coat (put_own w s.poll.run _)
 
 grown-act : (b : Bool) (p : ℕ) (h : Hint) (o : Op) (w : World) → is_even o ≡ b → Grown w (act p h o w).world
 grown-act true p h o w n = inl (even-act p h o w n).count
-grown-act false p h (op.List (list_op.Write section.MakeRun)) w n = grown-make h.refused w
-grown-act false p h (op.List (list_op.Write (section.Register x))) w n = inl (registered-same (run_of w x.run).stage w x.run).count
-grown-act false p h (op.List (list_op.Write (section.Unregister q a))) w n = inl (unregistered-same w q).count
-grown-act false p h (op.Steal (steal_op.Put s k f)) w n =
-    inl (count-put w s k f _ (deed-act p h (op.Steal (steal_op.Put s k f)) w))
+grown-act false p h (Op.List (ListOp.Write Section.MakeRun)) w n = grown-make h.refused w
+grown-act false p h (Op.List (ListOp.Write (Section.Register x))) w n = inl (registered-same (run_of w x.run).stage w x.run).count
+grown-act false p h (Op.List (ListOp.Write (Section.Unregister q a))) w n = inl (unregistered-same w q).count
+grown-act false p h (Op.Steal (StealOp.Put s k f)) w n =
+    inl (count-put w s k f _ (deed-act p h (Op.Steal (StealOp.Put s k f)) w))
 grown-act false p h _ w n = absurd (cc)
 
 grown-settled : (w v : World) (o : Option Reply) (p : ℕ) (os : List Op) → Grown w v → Grown w (settled_by o p v os).world
@@ -77,14 +53,14 @@ grown-went w os p d None k = inl refl
 grown-went w os p d (Some x) k = grown-settled w (d x).world _ p _ (k x refl)
 
 grown-begun : (b : Bool) (p : ℕ) (w : World) (o : Option Waker) (c : Call) → drops_run c ≡ b →
-    Grown w (begun p (log w (event.CallBegun p c)) o c).world
-grown-begun false p w o c e = inl (ap (λ (rs : List Run). length rs) (runs-begun p (log w (event.CallBegun p c)) o c e))
-grown-begun true p w o (call.DropRun r) e = inl (length-set w.runs r (record (run_of w r) { dropped = true }))
+    Grown w (begun p (log w (Event.CallBegun p c)) o c).world
+grown-begun false p w o c e = inl (ap (λ (rs : List Run). length rs) (runs-begun p (log w (Event.CallBegun p c)) o c e))
+grown-begun true p w o (Call.DropRun r) e = inl (length-set w.runs r (record (run_of w r) { dropped = true }))
 grown-begun true p w o _ e = absurd (cc)
 
 grown-part : (w : World) (ss : List (List Op)) (os : List Op) (t : Step) → part_refusal w ss os t ≡ None →
     Grown w (part_after w os t).world
-grown-part w ss os (Begin p c) e = grown-settled w (begun p (log w (event.CallBegun p c)) (mine (top os)) c).world _ p _
+grown-part w ss os (Begin p c) e = grown-settled w (begun p (log w (Event.CallBegun p c)) (mine (top os)) c).world _ p _
     (grown-begun (drops_run c) p w (mine (top os)) c refl)
 grown-part w ss os (Go p h) e = grown-went w os p (λ x. act p h x w) (top os) (λ x i. grown-act (is_even x) p h x w refl)
 grown-part w ss os (Answer p u) e = grown-went w os p (λ x. react p x u w) (top os)

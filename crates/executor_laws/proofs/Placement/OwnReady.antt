@@ -4,67 +4,29 @@ use Rattle.std.proofs.Common.{◌≡◌, ◌≢◌, ◌⊎◌, ◌∙◌, inl, i
 use Rattle.std.proofs.Common.{set, get_or, Bool, true, false, eqb, ltb, refl, sym, ap, subst, arith, get_or-set_other}
 use Rattle.std.proofs.lemmas.Bool.Decides.{nat_tests}
 use Rattle.std.specs.Prelude.{Option, Some, None, reverse}
-use Rattle.executor_model.specs.declared.call.Call.{Call}
-use Rattle.executor_model.specs.declared.call.Call.TheVariants as call
-use Rattle.executor_model.specs.declared.call.Reply.{Reply}
-use Rattle.executor_model.specs.declared.call.Reply.TheVariants as reply
-use Rattle.executor_model.specs.declared.event.Answer.TheVariants as answer
-use Rattle.executor_model.specs.declared.event.Event.TheVariants as event
-use Rattle.executor_model.specs.declared.op.ListOp.TheVariants as list_op
-use Rattle.executor_model.specs.declared.op.Look.{Look}
-use Rattle.executor_model.specs.declared.op.Look.TheVariants.{First, Second}
-use Rattle.executor_model.specs.declared.op.Op.{Op}
-use Rattle.executor_model.specs.declared.op.Op.TheVariants as op
-use Rattle.executor_model.specs.declared.op.RunOp.TheVariants as run_op
-use Rattle.executor_model.specs.declared.op.RunPoll.{RunPoll}
-use Rattle.executor_model.specs.declared.op.Section.TheVariants as section
-use Rattle.executor_model.specs.declared.op.Sleeping.{Sleeping}
-use Rattle.executor_model.specs.declared.op.Steal.{Steal}
-use Rattle.executor_model.specs.declared.op.StealOp.TheVariants as steal_op
-use Rattle.executor_model.specs.declared.op.TickOp.TheVariants as tick_op
-use Rattle.executor_model.specs.declared.op.UserOp.TheVariants as user_op
-use Rattle.executor_model.specs.declared.op.Waker.{Waker}
-use Rattle.executor_model.specs.declared.step.Hint.{Hint}
-use Rattle.executor_model.specs.declared.step.Step.{Step}
-use Rattle.executor_model.specs.declared.step.Step.TheVariants as steps_of
-use Rattle.executor_model.specs.declared.step.StepError.{StepError}
-use Rattle.executor_model.specs.declared.step.StepError.TheVariants.{NoSuch, WrongAnswer}
-use Rattle.executor_model.specs.declared.step.UserEnd.{UserEnd}
-use Rattle.executor_model.specs.declared.step.UserEnd.TheVariants as end
-use Rattle.executor_model.specs.Acts.{mark_in}
-use Rattle.executor_model.specs.ActsOfRuns as runs
-use Rattle.executor_model.specs.ActsOfSleepers.{look_tick_by}
-use Rattle.executor_model.specs.Doing.{act}
-use Rattle.executor_model.specs.Keeper.{is_run_drop}
-use Rattle.executor_model.specs.Rows.{running_of}
+use Rattle.executor_laws.proofs.Types.{WrongAnswer, UserEnd, Call, Reply, Answer, Event, ListOp, Look, First, Second, Op, RunOp}
+use Rattle.executor_laws.proofs.Types.{RunPoll, Section, Sleeping, Steal, StealOp, TickOp, UserOp, Waker, Hint, Step, StepError}
 use Rattle.executor_model.specs.Steps.{Machine, Part, accepts, answer_refusal, begun, below_top, drop_run, end_of, gone_on}
-use Rattle.executor_model.specs.Steps.{mine, onto, part_after, part_refusal, party_of, poll_run, react, refusal, run, settled_by}
-use Rattle.executor_model.specs.Steps.{stack, start, step, step_by, stepped, top, unless}
-use Rattle.executor_model.specs.Trace.{has}
-use Rattle.executor_model.specs.Weights.{is_run, same, weigh, weigh_all}
+use Rattle.executor_model.specs.Steps.{mine, onto, part_after, part_refusal, party_of, poll_run, react, refusal, run}
 use Rattle.executor_model.specs.World.{World, Stage, New, Listed, Ended, Run, Done, Ticker, Asleep, Awake, Left, log, new_run}
-use Rattle.executor_model.specs.World.{no_run, place_of, put_own}
-use Rattle.executor_model.specs.World.{queue_of, run_of}
-use Rattle.executor_model.proofs.OwnQueues.RunsAside.{hull_of}
-use Rattle.executor_model.proofs.OwnQueues.RunsDone.{Deed, deed-act}
-use Rattle.executor_model.proofs.OwnQueues.UsingRuns.{is_even}
-use Rattle.executor_model.proofs.Promises.CallPromises.{has-left}
-use Rattle.executor_model.proofs.Steps.Begins.{unborrowed}
-use Rattle.executor_model.proofs.Steps.Lift.{topped}
-use Rattle.executor_model.proofs.Steps.Lists.{same_cases, weigh-append, weigh-below, weigh-reverse, weigh_all-below, weigh_all-set}
-use Rattle.executor_model.proofs.Steps.Reached.{Reached}
-use Rattle.executor_model.proofs.Steps.Tests.{and-right}
-use Rattle.executor_model.proofs.Steps.TraceSteps.{continues}
+use Rattle.executor_model.specs.Steps.{settled_by, stack, start, step, step_by, stepped, top, unless}
+use Rattle.executor_model.specs.World.{no_run, place_of, put_own, queue_of, run_of}
+use Rattle.executor_model.specs.{Acts.mark_in, ActsOfSleepers.look_tick_by, Doing.act, Keeper.is_run_drop, Rows.running_of}
+use Rattle.executor_model.specs.{Trace.has, Weights.is_run, Weights.same, Weights.weigh, Weights.weigh_all}
 use Rattle.executor_laws.specs.RunEnds.{EndsByItsOwn, OwnIsReady, OwnWasReady, WasAnsweredReady}
+use Rattle.executor_model.proofs.Steps.Lists.{same_cases, weigh-append, weigh-below, weigh-reverse, weigh_all-below}
+use Rattle.executor_model.proofs.OwnQueues.RunsDone.{Deed, deed-act}
+use Rattle.executor_model.proofs.{Steps.Lists.weigh_all-set, OwnQueues.RunsAside.hull_of, OwnQueues.UsingRuns.is_even}
+use Rattle.executor_model.proofs.{Promises.CallPromises.has-left, Steps.Begins.unborrowed, Steps.Lift.topped}
+use Rattle.executor_model.proofs.{Steps.Reached.Reached, Steps.Tests.and-right, Steps.TraceSteps.continues}
+use Rattle.executor_laws.proofs.Placement.Leavings.{dropping_of, drops_run, leaves, leaving-uses, leaving_of, none-begun}
+use Rattle.executor_laws.proofs.Placement.Leavings.{none-by, readying-leaves}
 use Rattle.executor_laws.proofs.Placement.Answering.{held, readying_of}
-use Rattle.executor_laws.proofs.Placement.BoundWays.{bonded}
 use Rattle.executor_laws.proofs.Placement.Evens.{even-act, even-react, same-stage}
-use Rattle.executor_laws.proofs.Placement.Leavings.{dropping_of, drops_run, leaves, leaving-uses, leaving_of, none-begun, none-by}
-use Rattle.executor_laws.proofs.Placement.Leavings.{readying-leaves}
 use Rattle.executor_laws.proofs.Placement.OfTicks.{NoneAstray, astray, none-astray}
-use Rattle.executor_laws.proofs.Placement.RunAnswers.{ready-at-the-end}
-use Rattle.executor_laws.proofs.Placement.Running.{RanIn}
-use Rattle.executor_laws.proofs.Placement.RunningSteps.{runs-begun}
+use Rattle.executor_laws.proofs.{Types.NoSuch, Placement.BoundWays.bonded, Placement.RunAnswers.ready-at-the-end}
+use Rattle.executor_laws.proofs.{Placement.Running.RanIn, Placement.RunningSteps.runs-begun}
+use Rattle.executor_model.specs.ActsOfRuns as runs
 
 -- what a run does that is ready follows from such a thing
 
@@ -72,16 +34,16 @@ unready : (r : ℕ) (os : List Op) → weigh (leaving_of r) os ≡ 0 → weigh (
 unready r os z = omega (arith, z, weigh-below (readying_of r) (leaving_of r) (readying-leaves r) os)
 
 ready-reschedule : (r : ℕ) (own : List ℕ) (w : World) (q : ℕ) (a : Reply) →
-    weigh (readying_of r) (runs.reschedule_by own w q a).next ≤ readying_of r (op.Run (run_op.Reschedule q a))
-ready-reschedule r [] w q reply.Ready = omega arith
+    weigh (readying_of r) (runs.reschedule_by own w q a).next ≤ readying_of r (Op.Run (RunOp.Reschedule q a))
+ready-reschedule r [] w q Reply.Ready = omega arith
 ready-reschedule r [] w q _ = omega arith
-ready-reschedule r (f ∷ rest) w q reply.Ready = omega arith
+ready-reschedule r (f ∷ rest) w q Reply.Ready = omega arith
 ready-reschedule r (f ∷ rest) w q _ = omega arith
 
 ready-unregister : (r q : ℕ) (a : Reply) →
-    weigh (readying_of r) (op.List list_op.UnlockWrite ∷ op.Run (run_op.Reschedule q a) ∷ [])
-    ≤ readying_of r (op.List (list_op.Write (section.Unregister q a)))
-ready-unregister r q reply.Ready = omega arith
+    weigh (readying_of r) (Op.List ListOp.UnlockWrite ∷ Op.Run (RunOp.Reschedule q a) ∷ [])
+    ≤ readying_of r (Op.List (ListOp.Write (Section.Unregister q a)))
+ready-unregister r q Reply.Ready = omega arith
 ready-unregister r q _ = omega arith
 
 -- only a tick looks so
@@ -96,32 +58,32 @@ ready-look look r Left w (f ∷ rest) s z = omega (arith, held r s.who, z)
 ready-act : (b : Bool) (r p : ℕ) (h : Hint) (o : Op) (w : World) → leaves o ≡ b → astray r o ≡ 0 →
     weigh (readying_of r) (act p h o w).next ≤ readying_of r o
 ready-act false r p h o w e k = omega (arith, unready r (act p h o w).next (none-by _ r p h o w refl e))
-ready-act true r p h (op.List (list_op.LockWrite (section.Unregister q a))) w e k = omega arith
-ready-act true r p h (op.List (list_op.Write (section.Unregister q a))) w e k = ready-unregister r q a
-ready-act true r p h (op.Run (run_op.Reschedule q a)) w e k = ready-reschedule r _ w q a
-ready-act true r p h (op.End a held) w e k = omega arith
-ready-act true r p h (op.Tick (tick_op.Look s look)) w e k =
+ready-act true r p h (Op.List (ListOp.LockWrite (Section.Unregister q a))) w e k = omega arith
+ready-act true r p h (Op.List (ListOp.Write (Section.Unregister q a))) w e k = ready-unregister r q a
+ready-act true r p h (Op.Run (RunOp.Reschedule q a)) w e k = ready-reschedule r _ w q a
+ready-act true r p h (Op.End a held) w e k = omega arith
+ready-act true r p h (Op.Tick (TickOp.Look s look)) w e k =
     omega (arith, ready-look look r (place_of w s.who) w (queue_of w (mark_in look)).items s k)
 ready-act true r p h _ w e k = absurd (cc)
 
 -- but by the end of user code, where the own future is ready
 
 abbrev IsOwn : ℕ → Op → UserEnd → Type 0
-IsOwn r o u = (x : _) × (o ≡ op.User (user_op.PollOwn x)) × (u ≡ end.Polled answer.Ready) × (x.run ≡ r)
+IsOwn r o u = (x : _) × (o ≡ Op.User (UserOp.PollOwn x)) × (u ≡ UserEnd.Polled Answer.Ready) × (x.run ≡ r)
 
 ready-react : (r p : ℕ) (o : Op) (u : UserEnd) (w : World) → accepts o u ≡ true →
     (weigh (readying_of r) (react p o u w).next ≡ 0) ⊎ IsOwn r o u
-ready-react r p (op.User (user_op.Poll f)) (end.Polled answer.Pending) w a = inl refl
-ready-react r p (op.User (user_op.Poll f)) (end.Polled answer.Ready) w a = inl refl
-ready-react r p (op.User (user_op.Drop f)) end.Done w a = inl refl
-ready-react r p (op.User (user_op.DropOutput f)) end.Done w a = inl refl
-ready-react r p (op.User (user_op.CallOutside x)) end.Done w a = inl refl
-ready-react r p (op.User (user_op.PollOwn x)) (end.Polled answer.Pending) w a = inl refl
-ready-react r p (op.User (user_op.PollOwn x)) (end.Polled answer.Ready) w a = ⊎_elim
+ready-react r p (Op.User (UserOp.Poll f)) (UserEnd.Polled Answer.Pending) w a = inl refl
+ready-react r p (Op.User (UserOp.Poll f)) (UserEnd.Polled Answer.Ready) w a = inl refl
+ready-react r p (Op.User (UserOp.Drop f)) UserEnd.Done w a = inl refl
+ready-react r p (Op.User (UserOp.DropOutput f)) UserEnd.Done w a = inl refl
+ready-react r p (Op.User (UserOp.CallOutside x)) UserEnd.Done w a = inl refl
+ready-react r p (Op.User (UserOp.PollOwn x)) (UserEnd.Polled Answer.Pending) w a = inl refl
+ready-react r p (Op.User (UserOp.PollOwn x)) (UserEnd.Polled Answer.Ready) w a = ⊎_elim
     (λ (y : (same r x.run ≡ 1) × (eqb r x.run ≡ true) × (r ≡ x.run)). inr (x, refl, refl, sym y.2))
     (λ (y : (same r x.run ≡ 0) × (eqb r x.run ≡ false) × (r ≢ x.run)). inl (omega (arith, y.0)))
     (same_cases r x.run)
-ready-react r p (op.User (user_op.DropOwn q)) end.Done w a = inl refl
+ready-react r p (Op.User (UserOp.DropOwn q)) UserEnd.Done w a = inl refl
 ready-react r p _ _ w a = absurd (cc)
 
 ready-drop : (r : ℕ) (t : Stage) (q : ℕ) → weigh (readying_of r) (drop_run t q) ≡ 0
@@ -137,9 +99,9 @@ ready-poll r Ended x = refl
 
 ready-begun : (r p : ℕ) (w : World) (o : Option Waker) (c : Call) (b : Bool) → drops_run c ≡ b →
     weigh (readying_of r) (begun p w o c).next ≡ 0
-ready-begun r p w o (call.PollRun q by) false e = ready-poll r (run_of w q).stage _
+ready-begun r p w o (Call.PollRun q by) false e = ready-poll r (run_of w q).stage _
 ready-begun r p w o c false e = unready r (begun p w o c).next (none-begun r p w o c e)
-ready-begun r p w o (call.DropRun q) true e = ready-drop r (run_of w q).stage q
+ready-begun r p w o (Call.DropRun q) true e = ready-drop r (run_of w q).stage q
 ready-begun r p w o _ true e = absurd (cc)
 
 -- which run ends
@@ -174,12 +136,12 @@ abbrev WhyEnded : ℕ → World → Op → Type 0
 WhyEnded r w o = ((run_of w r).stage ≡ Ended) ⊎ (1 ≤ readying_of r o + dropping_of r o)
 
 why-same : (a : Reply) (r q : ℕ) → same r q ≡ 1 →
-    1 ≤ readying_of r (op.List (list_op.Write (section.Unregister q a))) + dropping_of r (op.List (list_op.Write (section.Unregister q a)))
-why-same reply.Ready r q z = omega (arith, z)
+    1 ≤ readying_of r (Op.List (ListOp.Write (Section.Unregister q a))) + dropping_of r (Op.List (ListOp.Write (Section.Unregister q a)))
+why-same Reply.Ready r q z = omega (arith, z)
 why-same _ r q z = omega (arith, z)
 
 stage-unregister : (w : World) (q r : ℕ) (a : Reply) → (run_of (runs.unregistered w q) r).stage ≡ Ended →
-    WhyEnded r w (op.List (list_op.Write (section.Unregister q a)))
+    WhyEnded r w (Op.List (ListOp.Write (Section.Unregister q a)))
 stage-unregister w q r a e = ⊎_elim
     (λ (y : (same r q ≡ 1) × (eqb r q ≡ true) × (r ≡ q)). inr (why-same a r q y.0))
     (λ (y : (same r q ≡ 0) × (eqb r q ≡ false) × (r ≢ q)).
@@ -187,7 +149,7 @@ stage-unregister w q r a e = ⊎_elim
     (get_or-set_other w.runs q r (record (run_of w q) { stage = Ended }) no_run y.2)) ∙ e))
     (same_cases r q)
 
-stage-put : (w : World) (s : Steal) (k f : ℕ) (d : Done) → Deed w (op.Steal (steal_op.Put s k f)) d → (r : ℕ) →
+stage-put : (w : World) (s : Steal) (k f : ℕ) (d : Done) → Deed w (Op.Steal (StealOp.Put s k f)) d → (r : ℕ) →
     (run_of d.world r).stage ≡ (run_of w r).stage
 stage-put w s k f d (Deed.keeps e l) r = same-stage w d.world (ap hull_of e) r
 stage-put w s k f d (Deed.takes q g rest i e l) r = same-stage (put_own w q rest) d.world (ap hull_of e) r
@@ -197,12 +159,12 @@ stage-put w s k f d (Deed.grows x n g e m) r = same-stage (put_own w s.poll.run 
 why-ended : (b : Bool) (r p : ℕ) (h : Hint) (o : Op) (w : World) → is_even o ≡ b →
     (run_of (act p h o w).world r).stage ≡ Ended → WhyEnded r w o
 why-ended true r p h o w n e = inl (sym ((even-act p h o w n).stage r) ∙ e)
-why-ended false r p h (op.List (list_op.Write section.MakeRun)) w n e = inl (stage-make h.refused w r e)
-why-ended false r p h (op.List (list_op.Write (section.Register x))) w n e =
+why-ended false r p h (Op.List (ListOp.Write Section.MakeRun)) w n e = inl (stage-make h.refused w r e)
+why-ended false r p h (Op.List (ListOp.Write (Section.Register x))) w n e =
     inl (stage-register (run_of w x.run).stage w x.run r e)
-why-ended false r p h (op.List (list_op.Write (section.Unregister q a))) w n e = stage-unregister w q r a e
-why-ended false r p h (op.Steal (steal_op.Put s k f)) w n e =
-    inl (sym (stage-put w s k f _ (deed-act p h (op.Steal (steal_op.Put s k f)) w) r) ∙ e)
+why-ended false r p h (Op.List (ListOp.Write (Section.Unregister q a))) w n e = stage-unregister w q r a e
+why-ended false r p h (Op.Steal (StealOp.Put s k f)) w n e =
+    inl (sym (stage-put w s k f _ (deed-act p h (Op.Steal (StealOp.Put s k f)) w) r) ∙ e)
 why-ended false r p h _ w n e = absurd (cc)
 
 dropped-stage : (w : World) (q r : ℕ) → (get_or (set w.runs q (record (run_of w q) { dropped = true })) r no_run).stage ≡ Ended →
@@ -218,10 +180,10 @@ dropped-stage w q r e = by w.runs q r e
     by (y ∷ rs) (suc q) (suc r) e = by rs q r e
 
 stage-begun : (r p : ℕ) (w : World) (o : Option Waker) (c : Call) (b : Bool) → drops_run c ≡ b →
-    (run_of (begun p (log w (event.CallBegun p c)) o c).world r).stage ≡ Ended → (run_of w r).stage ≡ Ended
+    (run_of (begun p (log w (Event.CallBegun p c)) o c).world r).stage ≡ Ended → (run_of w r).stage ≡ Ended
 stage-begun r p w o c false n e =
-    sym (ap (λ (rs : List Run). (get_or rs r no_run).stage) (runs-begun p (log w (event.CallBegun p c)) o c n)) ∙ e
-stage-begun r p w o (call.DropRun q) true n e = dropped-stage w q r e
+    sym (ap (λ (rs : List Run). (get_or rs r no_run).stage) (runs-begun p (log w (Event.CallBegun p c)) o c n)) ∙ e
+stage-begun r p w o (Call.DropRun q) true n e = dropped-stage w q r e
 stage-begun r p w o _ true n e = absurd (cc)
 
 -- a step: what its party has to do, and which run ends
@@ -234,12 +196,12 @@ module _ (r : ℕ) (w : World) (os : List Op) where
   settle : (o : Option Op) (p : ℕ) (v : World) (ns : List Op) → top ns ≡ o → weigh (readying_of r) ns ≡ 0 →
       ((run_of v r).stage ≡ Ended → ((run_of w r).stage ≡ Ended) ⊎ (1 ≤ weigh (dropping_of r) os)) →
       Kept r w os (settled_by (end_of o) p v ns)
-  settle (Some (op.End a held)) p v ns e z k = record {
+  settle (Some (Op.End a held)) p v ns e z k = record {
     todo = omega (
       arith,
       z,
-      ap (weigh (readying_of r)) (topped ns (op.End a held) e),
-      weigh-append (readying_of r) (below_top ns) (op.End a held ∷ []),
+      ap (weigh (readying_of r)) (topped ns (Op.End a held) e),
+      weigh-append (readying_of r) (below_top ns) (Op.End a held ∷ []),
     );
     stage = k;
   }
@@ -250,13 +212,7 @@ module _ (r : ℕ) (w : World) (os : List Op) where
       ((run_of d.world r).stage ≡ Ended → ((run_of w r).stage ≡ Ended) ⊎ (1 ≤ weigh (dropping_of r) os)) →
       Kept r w os (onto p d rest)
   onto-kept p d rest a b k = settle (top (rest ++ reverse d.next)) p d.world (rest ++ reverse d.next) refl
-      (omega (
-        arith,
-        a,
-        b,
-        weigh-append (readying_of r) rest (reverse d.next),
-        weigh-reverse (readying_of r) d.next,
-      )) k
+      (omega (arith, a, b, weigh-append (readying_of r) rest (reverse d.next), weigh-reverse (readying_of r) d.next)) k
 
   module _ (z : weigh (readying_of r) os ≡ 0) (i : weigh (astray r) os ≡ 0) where
     below : (v : Op → ℕ) (o : Op) → top os ≡ Some o → weigh v os ≡ weigh v (below_top os) + v o
@@ -280,7 +236,7 @@ module _ (r : ℕ) (w : World) (os : List Op) where
         (why-ended (is_even o) r p h o w refl k))
 
     answered : (p : ℕ) (u : UserEnd) (o : Option Op) → top os ≡ o → answer_refusal o u ≡ None →
-        ((x : _) × (top os ≡ Some (op.User (user_op.PollOwn x))) × (u ≡ end.Polled answer.Ready) × (x.run ≡ r))
+        ((x : _) × (top os ≡ Some (Op.User (UserOp.PollOwn x))) × (u ≡ UserEnd.Polled Answer.Ready) × (x.run ≡ r))
         ⊎ Kept r w os (gone_on p w os o (λ x. react p x u w))
     answered p u None e k = absurd (cc)
     answered p u (Some o) e k = ⊎_elim
@@ -295,9 +251,9 @@ module _ (r : ℕ) (w : World) (os : List Op) where
         go false q = absurd (cc)
 
     begins : (p : ℕ) (c : Call) (here : Option Waker) →
-        Kept r w os (onto p (begun p (log w (event.CallBegun p c)) here c) os)
-    begins p c here = onto-kept p (begun p (log w (event.CallBegun p c)) here c) os z
-        (ready-begun r p (log w (event.CallBegun p c)) here c (drops_run c) refl)
+        Kept r w os (onto p (begun p (log w (Event.CallBegun p c)) here c) os)
+    begins p c here = onto-kept p (begun p (log w (Event.CallBegun p c)) here c) os z
+        (ready-begun r p (log w (Event.CallBegun p c)) here c (drops_run c) refl)
         (λ y. inl (stage-begun r p w here c (drops_run c) refl y))
 
 -- no run ends but so
@@ -324,18 +280,18 @@ module _ (r : ℕ) (s : Machine) (apart : weigh_all (astray r) s.parties ≡ 0) 
         by : (t : Step) → part_refusal s.world s.parties (stack s (party_of t)) t ≡ None →
             weigh (readying_of r) (stack s (party_of t)) ≡ 0 → weigh (astray r) (stack s (party_of t)) ≡ 0 →
             OwnIsReady r s t ⊎ Kept r s.world (stack s (party_of t)) (part_after s.world (stack s (party_of t)) t)
-        by (steps_of.Begin p c) e z i = inr (begins r s.world (stack s p) z i p c (mine (top (stack s p))))
-        by (steps_of.Go p hint) e z i = inr (went r s.world (stack s p) z i p hint (top (stack s p)) refl)
-        by (steps_of.Answer p u) e z i = ⊎_elim
-            (λ (x : (x : _) × (top (stack s p) ≡ Some (op.User (user_op.PollOwn x))) × (u ≡ end.Polled answer.Ready) × (x.run ≡ r)).
+        by (Step.Begin p c) e z i = inr (begins r s.world (stack s p) z i p c (mine (top (stack s p))))
+        by (Step.Go p hint) e z i = inr (went r s.world (stack s p) z i p hint (top (stack s p)) refl)
+        by (Step.Answer p u) e z i = ⊎_elim
+            (λ (x : (x : _) × (top (stack s p) ≡ Some (Op.User (UserOp.PollOwn x))) × (u ≡ UserEnd.Polled Answer.Ready) × (x.run ≡ r)).
             inl (record {
               party = p;
               poll = x.0;
-              is = ap (λ (y : UserEnd). steps_of.Answer p y) x.2;
+              is = ap (λ (y : UserEnd). Step.Answer p y) x.2;
               stands = x.1;
               own = x.3;
             }))
-            (λ (x : Kept r s.world (stack s p) (part_after s.world (stack s p) (steps_of.Answer p u))). inr x)
+            (λ (x : Kept r s.world (stack s p) (part_after s.world (stack s p) (Step.Answer p u))). inr x)
             (answered r s.world (stack s p) z i p u (top (stack s p)) refl e)
 
     pub idle-still : (t : Step) → party_of t < length s.parties →

@@ -1,39 +1,25 @@
 -- For due_futures_stand_with_their_keepers.
 -- Where no call is in progress a due future stands with its keeper, and in the executor's queue where it has none.
-use Rattle.std.proofs.Common.{◌≡◌, ◌⊎◌, ◌∙◌, inl, inr, ⊎_elim, ℕ, zero, suc, ◌+◌, ◌<◌, ◌≤◌, List, [], ◌∷◌}
-use Rattle.std.proofs.Common.{get_or, Bool, true, false, ◌||◌, refl, sym, ap, subst, arith}
+use Rattle.std.proofs.Common.{◌≡◌, ◌⊎◌, ◌∙◌, inl, inr, ⊎_elim, ℕ, zero, suc, ◌+◌, ◌<◌, ◌≤◌, List, [], ◌∷◌, get_or, Bool, true}
+use Rattle.std.proofs.Common.{false, ◌||◌, refl, sym, ap, subst, arith}
 use Rattle.std.specs.Prelude.{Some, count_by}
-use Rattle.executor_model.specs.declared.event.Event.{Event}
-use Rattle.executor_model.specs.declared.event.Event.TheVariants as event
-use Rattle.executor_model.specs.declared.kind.Kind.{Kind}
-use Rattle.executor_model.specs.declared.op.Op.{Op}
-use Rattle.executor_model.specs.declared.step.Step.{Step}
-use Rattle.executor_model.specs.AwaiterKept.{since}
-use Rattle.executor_model.specs.Due.{IsDue}
-use Rattle.executor_model.specs.Emptiness.{IsAtRest}
-use Rattle.executor_model.specs.Good.{Good}
-use Rattle.executor_model.specs.Keeper.{IsCommon, IsKeeper, is_run_drop}
-use Rattle.executor_model.specs.Rows.{appends_of, closing_of, drops_of, ending_of, giving_of, leaking_of, polls_of}
-use Rattle.executor_model.specs.Rows.{ready_of, settling_of, waiting_of}
-use Rattle.executor_model.specs.Sound.{pend, queued, times, times_in}
-use Rattle.executor_model.specs.Steps.{Machine, run, stack, start}
+use Rattle.executor_laws.proofs.Types.{Event, Kind, Op, Step}
+use Rattle.executor_model.specs.Rows.{appends_of, closing_of, drops_of, ending_of, giving_of, leaking_of, polls_of, ready_of}
 use Rattle.executor_model.specs.Trace.{Trace, has, is_accepted, is_dropped, is_ready}
-use Rattle.executor_model.specs.Weights.{weigh_all}
 use Rattle.executor_model.specs.World.{Ended, own_of, queued_in, run_of, task}
-use Rattle.executor_model.proofs.Polls.AskingExecutions.{Heard, heard}
-use Rattle.executor_model.proofs.Steps.Lift.{good}
-use Rattle.executor_model.proofs.Quiet.Resting.{Deep, all-rest, deep, rests}
-use Rattle.executor_model.proofs.OneFuture.Stories.{story}
-use Rattle.executor_model.proofs.OneFuture.Telling.{accepted-counts, begun-has, counted-there, fallen-counts, there-or-none}
-use Rattle.executor_model.proofs.OwnQueues.Using.{emptying_of}
-use Rattle.executor_model.proofs.OwnQueues.UsingWorlds.{is_over_stage, is_past}
-use Rattle.executor_model.proofs.Polls.Dueness.{asked-is, not-over, ready-is, unopened}
+use Rattle.executor_model.specs.{Rows.settling_of, Rows.waiting_of, AwaiterKept.since, Due.IsDue, Emptiness.IsAtRest, Good.Good}
+use Rattle.executor_model.specs.{Keeper.IsCommon, Keeper.IsKeeper, Keeper.is_run_drop, Sound.pend, Sound.queued, Sound.times}
+use Rattle.executor_model.specs.{Sound.times_in, Steps.Machine, Steps.run, Steps.stack, Steps.start, Weights.weigh_all}
 use Rattle.executor_laws.specs.Places.{StandsWithKeeper}
-use Rattle.executor_laws.proofs.Placement.Answering.{readying_of}
+use Rattle.executor_model.proofs.OneFuture.Telling.{accepted-counts, begun-has, counted-there, fallen-counts, there-or-none}
+use Rattle.executor_model.proofs.Polls.Dueness.{asked-is, not-over, ready-is, unopened}
+use Rattle.executor_model.proofs.Polls.AskingExecutions.{Heard, heard}
+use Rattle.executor_model.proofs.Quiet.Resting.{Deep, all-rest, deep, rests}
+use Rattle.executor_model.proofs.OwnQueues.UsingWorlds.{is_over_stage, is_past}
+use Rattle.executor_model.proofs.{Steps.Lift.good, OneFuture.Stories.story, OwnQueues.Using.emptying_of}
 use Rattle.executor_laws.proofs.Placement.Bonds.{Bond, bond, bond-is, reads}
 use Rattle.executor_laws.proofs.Placement.BoundWays.{Bonded, bonded}
-use Rattle.executor_laws.proofs.Placement.Ran.{AllReady}
-use Rattle.executor_laws.proofs.Placement.Safe.{Safe}
+use Rattle.executor_laws.proofs.{Placement.Answering.readying_of, Placement.Ran.AllReady, Placement.Safe.Safe}
 
 no-true : (a : Bool) → (a ≡ true → ⊥) → a ≡ false
 no-true true k = absurd (k refl)
@@ -168,7 +154,7 @@ module _ (s : Machine) (fine : Good s) (h : Heard s) (d : Deep s) (b : Bonded s)
       let t = reads f s.world.trace in record {
         party = (bond f s.world.trace).party;
         place = (bond f s.world.trace).place;
-        kept = t.kept kept ∙ ap (λ (n : ℕ). Some (event.Kept (bond f s.world.trace).party f n)) run;
+        kept = t.kept kept ∙ ap (λ (n : ℕ). Some (Event.Kept (bond f s.world.trace).party f n)) run;
         last = t.last kept;
         unpolled = t.unpolled kept;
         undropped = ap (λ (n : ℕ). has (is_run_drop n) (since (bond f s.world.trace).place s.world.trace)) (sym run)
@@ -214,13 +200,7 @@ module _ (s : Machine) (fine : Good s) (h : Heard s) (d : Deep s) (b : Bonded s)
   queue-common f k =
       let due : IsDue f s.world.trace = queued-due f (omega (arith, k)) in record {
         due = due;
-        unkept = λ r z. omega (
-          arith,
-          k,
-          keeper-own f r due z,
-          in-own f r,
-          (fine.sound f).one,
-        );
+        unkept = λ r z. omega (arith, k, keeper-own f r due z, in-own f r, (fine.sound f).one);
       }
 
   pub common-queue : (f : ℕ) → IsCommon f s.world.trace → 1 ≤ times f (queued_in s.world)

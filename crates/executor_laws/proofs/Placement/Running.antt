@@ -1,54 +1,25 @@
 -- For due_futures_stand_with_their_keepers.
 -- At every moment each run that has left the list of queues as it was ready is about to end its poll so, or has; and one
 -- whose poll was answered so has left.
-use Rattle.std.proofs.Common.{◌≡◌, ◌≢◌, ◌⊎◌, ◌∙◌, inl, inr, ⊎_elim, ℕ, zero, suc, ◌+◌, ◌<◌, ◌≤◌, List, [], ◌∷◌}
-use Rattle.std.proofs.Common.{◌++◌, length, set, get_or, Bool, true, false, ◌||◌, eqb, refl}
-use Rattle.std.proofs.Common.{sym, ap, subst, arith, get_or-set_same, get_or-set_other}
-use Rattle.std.proofs.lemmas.Bool.Decides.{nat_tests}
-use Rattle.std.proofs.lemmas.List.{length-append, get_or_past}
-use Rattle.std.specs.Prelude.{Some, reverse, slice_get}
-use Rattle.executor_model.specs.declared.call.Reply.{Reply}
-use Rattle.executor_model.specs.declared.call.Reply.TheVariants as reply
-use Rattle.executor_model.specs.declared.event.Event.{Event}
-use Rattle.executor_model.specs.declared.event.Event.TheVariants as event
-use Rattle.executor_model.specs.declared.op.ListOp.TheVariants as list_op
-use Rattle.executor_model.specs.declared.op.Op.{Op}
-use Rattle.executor_model.specs.declared.op.Op.TheVariants as op
-use Rattle.executor_model.specs.declared.op.RunOp.TheVariants as run_op
-use Rattle.executor_model.specs.declared.op.RunPoll.{RunPoll}
-use Rattle.executor_model.specs.declared.op.Section.TheVariants as section
-use Rattle.executor_model.specs.declared.op.TickOrRun.TheVariants as tick_or_run
-use Rattle.executor_model.specs.declared.op.Steal.{Steal}
-use Rattle.executor_model.specs.declared.op.StealOp.TheVariants as steal_op
-use Rattle.executor_model.specs.declared.op.UserOp.TheVariants as user_op
-use Rattle.executor_model.specs.ActsOfRuns as runs
-use Rattle.executor_model.specs.Keeper.{is_run_drop}
-use Rattle.executor_model.specs.Rows.{running_of}
-use Rattle.executor_model.specs.Standing.{polls_sleeper}
-use Rattle.executor_model.specs.Steps.{Machine}
-use Rattle.executor_model.specs.Steps.{run, stack}
-use Rattle.executor_model.specs.Trace.{Trace, has}
-use Rattle.executor_model.specs.Weights.{same, weigh, weigh_all}
+use Rattle.std.proofs.Common.{◌≡◌, ◌≢◌, ◌⊎◌, ◌∙◌, inl, inr, ⊎_elim, ℕ, zero, suc, ◌+◌, ◌<◌, ◌≤◌, List, [], ◌∷◌, ◌++◌, length}
+use Rattle.std.proofs.Common.{set, get_or, Bool, true, false, ◌||◌, eqb, refl, sym, ap, subst, arith, get_or-set_same}
+use Rattle.std.{proofs.Common.get_or-set_other, proofs.lemmas.Bool.Decides.nat_tests, proofs.lemmas.List.length-append}
+use Rattle.std.{proofs.lemmas.List.get_or_past, specs.Prelude.Some, specs.Prelude.reverse, specs.Prelude.slice_get}
+use Rattle.executor_laws.proofs.Types.{Reply, Event, ListOp, Op, RunOp, RunPoll, Section, TickOrRun, Steal, StealOp, UserOp}
 use Rattle.executor_model.specs.World.{World, Stage, New, Listed, Ended, Run, Done, done, new_run, no_run, run_of}
-use Rattle.executor_model.proofs.Steps.Lift.{split, unsettled}
+use Rattle.executor_model.specs.{Keeper.is_run_drop, Rows.running_of, Standing.polls_sleeper, Steps.Machine, Steps.run}
+use Rattle.executor_model.specs.{Steps.stack, Trace.Trace, Trace.has, Weights.same, Weights.weigh, Weights.weigh_all}
 use Rattle.executor_model.proofs.Steps.Lists.{same_cases, same_is, weigh_all-below, weigh_all-push}
-use Rattle.executor_model.proofs.Steps.RunsMoves.{moves-own_length}
-use Rattle.executor_model.proofs.OwnQueues.RunsMoving.{hull-more}
-use Rattle.executor_model.proofs.Steps.TraceGrows.{Grows}
-use Rattle.executor_model.proofs.OwnQueues.Using.{polling_of}
-use Rattle.executor_model.proofs.OwnQueues.UsingRuns.{idle-more}
-use Rattle.executor_model.proofs.OwnQueues.UsingSteps.{AllUsed}
 use Rattle.executor_model.proofs.OwnQueues.UsingWorlds.{Idle, count-set, is_over_stage, is_past}
-use Rattle.executor_model.proofs.Steps.Tests.{right-false}
-use Rattle.executor_laws.proofs.Placement.Answering.{readying_of}
-use Rattle.executor_laws.proofs.Placement.Evens.{Even, even-idle}
-use Rattle.executor_laws.proofs.Placement.Leavings.{Leaves, dropping_of, leaves-none, leaving_of}
-use Rattle.executor_laws.proofs.Placement.Leavings.{leaving-more}
-use Rattle.executor_laws.proofs.Placement.Leavings.{leaving-uses, off_of, off-leaves}
-use Rattle.executor_laws.proofs.Placement.Leavings.{dropping-leaves}
-use Rattle.executor_laws.proofs.Placement.Opens.{le-or}
-use Rattle.executor_laws.proofs.Placement.Ran.{Alike, AllReady, Ran, ReadyOnly, alike-more, has-same}
-use Rattle.executor_laws.proofs.Placement.Ran.{is_of_runs, only-push, ordinary-runs, ready-push}
+use Rattle.executor_model.proofs.{Steps.Lift.split, Steps.Lift.unsettled, Steps.RunsMoves.moves-own_length}
+use Rattle.executor_model.proofs.{OwnQueues.RunsMoving.hull-more, Steps.TraceGrows.Grows, OwnQueues.Using.polling_of}
+use Rattle.executor_model.proofs.{OwnQueues.UsingRuns.idle-more, OwnQueues.UsingSteps.AllUsed, Steps.Tests.right-false}
+use Rattle.executor_laws.proofs.Placement.Leavings.{Leaves, dropping_of, leaves-none, leaving_of, leaving-more, leaving-uses}
+use Rattle.executor_laws.proofs.Placement.Ran.{Alike, AllReady, Ran, ReadyOnly, alike-more, has-same, is_of_runs, only-push}
+use Rattle.executor_laws.proofs.Placement.Leavings.{off_of, off-leaves, dropping-leaves}
+use Rattle.executor_laws.proofs.{Placement.Ran.ordinary-runs, Placement.Ran.ready-push, Placement.Answering.readying_of}
+use Rattle.executor_laws.proofs.{Placement.Evens.Even, Placement.Evens.even-idle, Placement.Opens.le-or}
+use Rattle.executor_model.specs.ActsOfRuns as runs
 
 abbrev pub RanIn : Machine → ℕ → Type 0
 RanIn s r = Ran s.world r (weigh_all (off_of r) s.parties) (weigh_all (dropping_of r) s.parties)
@@ -120,16 +91,16 @@ over-ended New e = absurd (cc)
 over-ended Listed e = absurd (cc)
 over-ended Ended e = refl
 
-kept-alike : (r p f q : ℕ) (es : Trace) → eqb r q ≡ false → Alike r es (es ++ event.Kept p f q ∷ [])
+kept-alike : (r p f q : ℕ) (es : Trace) → eqb r q ≡ false → Alike r es (es ++ Event.Kept p f q ∷ [])
 kept-alike r p f q es z = record {
-  drops = has-same (is_run_drop r) es (event.Kept p f q) refl;
-  polls = has-same (polls_sleeper (tick_or_run.Run r)) es (event.Kept p f q) refl;
-  ready = ready-push r es (event.Kept p f q) z;
-  only = λ S. only-push r es (event.Kept p f q) S refl;
+  drops = has-same (is_run_drop r) es (Event.Kept p f q) refl;
+  polls = has-same (polls_sleeper (TickOrRun.Run r)) es (Event.Kept p f q) refl;
+  ready = ready-push r es (Event.Kept p f q) z;
+  only = λ S. only-push r es (Event.Kept p f q) S refl;
 }
 
 module _ (s : Machine) (p : ℕ) (x : Steal) (more f : ℕ) (rest : List Op) (r : ℕ) (l : p < length s.parties)
-    (e : stack s p ≡ rest ++ reverse (op.Steal (steal_op.Put x more f) ∷ [])) (used : AllUsed s) (h : RanIn s r) where
+    (e : stack s p ≡ rest ++ reverse (Op.Steal (StealOp.Put x more f) ∷ [])) (used : AllUsed s) (h : RanIn s r) where
   abbrev q : ℕ
   q = x.poll.run
 
@@ -137,7 +108,7 @@ module _ (s : Machine) (p : ℕ) (x : Steal) (more f : ℕ) (rest : List Op) (r 
   d = runs.steal_by more (runs.kept_by p s.world q f) x
 
   abbrev o : Op
-  o = op.Steal (steal_op.Put x more f)
+  o = Op.Steal (StealOp.Put x more f)
 
   self : same q q ≡ 1
   self = grind (arith, same_is)
@@ -151,7 +122,7 @@ module _ (s : Machine) (p : ℕ) (x : Steal) (more f : ℕ) (rest : List Op) (r 
   like : Even (runs.kept_by p s.world q f) d.world
   like = even-idle (runs.kept_by p s.world q f) d.world (hull-more more (runs.kept_by p s.world q f) x) stays
 
-  trace-is : d.world.trace ≡ s.world.trace ++ event.Kept p f q ∷ []
+  trace-is : d.world.trace ≡ s.world.trace ++ Event.Kept p f q ∷ []
   trace-is = more-trace more (runs.kept_by p s.world q f) x
     where
       more-trace : (n : ℕ) (w : World) (y : Steal) → (runs.steal_by n w y).world.trace ≡ w.trace
@@ -177,11 +148,11 @@ module _ (s : Machine) (p : ℕ) (x : Steal) (more f : ℕ) (rest : List Op) (r 
           ∙ right-false (run_of s.world r).dropped (is_over_stage (run_of s.world r).stage) there in cc) in
           let k = leave in record {
             past = λ z. like.past r ∙ h.past (sym (ap (has (is_run_drop r)) trace-is
-                ∙ has-same (is_run_drop r) s.world.trace (event.Kept p f q) refl) ∙ z);
+                ∙ has-same (is_run_drop r) s.world.trace (Event.Kept p f q) refl) ∙ z);
             unborn = λ z. (let y = h.unborn (omega (arith, z, like.count)) in (
-              ap (has (is_run_drop r)) trace-is ∙ (has-same (is_run_drop r) s.world.trace (event.Kept p f q) refl ∙ y.0),
-              ap (has (polls_sleeper (tick_or_run.Run r))) trace-is
-                  ∙ (has-same (polls_sleeper (tick_or_run.Run r)) s.world.trace (event.Kept p f q) refl ∙ y.1),
+              ap (has (is_run_drop r)) trace-is ∙ (has-same (is_run_drop r) s.world.trace (Event.Kept p f q) refl ∙ y.0),
+              ap (has (polls_sleeper (TickOrRun.Run r))) trace-is
+                  ∙ (has-same (polls_sleeper (TickOrRun.Run r)) s.world.trace (Event.Kept p f q) refl ∙ y.1),
             ));
             off = λ z. stage ∙ h.off (omega (
               arith,
@@ -191,7 +162,7 @@ module _ (s : Machine) (p : ℕ) (x : Steal) (more f : ℕ) (rest : List Op) (r 
               weigh_all-push (off_of r) s.parties p rest d.next l,
             ));
             dropping = λ z. ap (has (is_run_drop r)) trace-is
-                ∙ (has-same (is_run_drop r) s.world.trace (event.Kept p f q) refl ∙ h.dropping (omega (
+                ∙ (has-same (is_run_drop r) s.world.trace (Event.Kept p f q) refl ∙ h.dropping (omega (
                   arith,
                   z,
                   k.dropping,
@@ -200,7 +171,7 @@ module _ (s : Machine) (p : ℕ) (x : Steal) (more f : ℕ) (rest : List Op) (r 
                 )));
             ended = λ z. absurd (not_over (sym stage ∙ z));
             answered = subst (λ (t : Trace). ReadyOnly r t (is_over_stage (run_of d.world r).stage)) (sym trace-is)
-                (only-push r s.world.trace (event.Kept p f q) (is_over_stage (run_of d.world r).stage) refl
+                (only-push r s.world.trace (Event.Kept p f q) (is_over_stage (run_of d.world r).stage) refl
                 (λ m n g y. ap is_over_stage stage ∙ h.answered m n g y));
           }
 
@@ -231,9 +202,9 @@ get-has t (y ∷ es) (suc k) x e z = or-right (t y) (has t es) (get-has t es k x
 
 module _ (s : Machine) (p : ℕ) (rest : List Op) (r : ℕ) (l : p < length s.parties) (used : AllUsed s)
     (h : RanIn s r) where
-  module _ (e : stack s p ≡ rest ++ reverse (op.List (list_op.Write section.MakeRun) ∷ [])) where
+  module _ (e : stack s p ≡ rest ++ reverse (Op.List (ListOp.Write Section.MakeRun) ∷ [])) where
     abbrev m : Op
-    m = op.List (list_op.Write section.MakeRun)
+    m = Op.List (ListOp.Write Section.MakeRun)
 
     pub ran-make : (b : Bool) → RanIn (unsettled s p rest (runs.make_run_by b s.world)) r
     ran-make true =
@@ -294,16 +265,16 @@ module _ (s : Machine) (p : ℕ) (rest : List Op) (r : ℕ) (l : p < length s.pa
               dropping = λ z. absurd (omega (arith, z, drops));
               ended = λ z. absurd (let no : New ≡ Ended = sym (ap (λ (x : Run). x.stage) run) ∙ z in cc);
               answered = λ q j g y. absurd (let no : true ≡ false =
-                  sym (get-has (polls_sleeper (tick_or_run.Run r)) s.world.trace j (event.RunPolled q r) g
+                  sym (get-has (polls_sleeper (TickOrRun.Run r)) s.world.trace j (Event.RunPolled q r) g
                   (let z : eqb r r ≡ true = grind (arith, nat_tests) in z)) ∙ born.1 in cc);
             }
 
-  module _ (x : RunPoll) (e : stack s p ≡ rest ++ reverse (op.List (list_op.Write (section.Register x)) ∷ [])) where
+  module _ (x : RunPoll) (e : stack s p ≡ rest ++ reverse (Op.List (ListOp.Write (Section.Register x)) ∷ [])) where
     abbrev g : Op
-    g = op.List (list_op.Write (section.Register x))
+    g = Op.List (ListOp.Write (Section.Register x))
 
     abbrev after_register : Stage → Done
-    after_register t = done (runs.registered t s.world x.run) (op.List list_op.UnlockWrite ∷ op.User (user_op.PollOwn x) ∷ [])
+    after_register t = done (runs.registered t s.world x.run) (Op.List ListOp.UnlockWrite ∷ Op.User (UserOp.PollOwn x) ∷ [])
 
     pub stays-with : (t : Stage) → (run_of s.world x.run).stage ≡ t → RanIn (unsettled s p rest (after_register t)) r
     stays-with Listed q =
@@ -364,20 +335,20 @@ module _ (s : Machine) (p : ℕ) (rest : List Op) (r : ℕ) (l : p < length s.pa
 
   -- the run's own queue goes from the list
   module _ (q : ℕ) (a : Reply)
-      (e : stack s p ≡ rest ++ reverse (op.List (list_op.Write (section.Unregister q a)) ∷ [])) where
+      (e : stack s p ≡ rest ++ reverse (Op.List (ListOp.Write (Section.Unregister q a)) ∷ [])) where
     abbrev u : Op
-    u = op.List (list_op.Write (section.Unregister q a))
+    u = Op.List (ListOp.Write (Section.Unregister q a))
 
     abbrev gone_from : Done
-    gone_from = done (runs.unregistered s.world q) (op.List list_op.UnlockWrite ∷ op.Run (run_op.Reschedule q a) ∷ [])
+    gone_from = done (runs.unregistered s.world q) (Op.List ListOp.UnlockWrite ∷ Op.Run (RunOp.Reschedule q a) ∷ [])
 
     count_same : length gone_from.world.runs ≡ length s.world.runs
     count_same = count-set s.world.runs q _
 
     -- of another run
     light : (b : Reply) → same r q ≡ 0 →
-        (weigh (leaving_of r) (op.List (list_op.Write (section.Unregister q b)) ∷ []) ≡ 0)
-        × (weigh (leaving_of r) (op.List list_op.UnlockWrite ∷ op.Run (run_op.Reschedule q b) ∷ []) ≡ 0)
+        (weigh (leaving_of r) (Op.List (ListOp.Write (Section.Unregister q b)) ∷ []) ≡ 0)
+        × (weigh (leaving_of r) (Op.List ListOp.UnlockWrite ∷ Op.Run (RunOp.Reschedule q b) ∷ []) ≡ 0)
     light b z = (omega (arith, z), omega (arith, z))
 
     others_stay : r ≢ q → same r q ≡ 0 → RanIn (unsettled s p rest gone_from) r
@@ -410,14 +381,14 @@ module _ (s : Machine) (p : ℕ) (rest : List Op) (r : ℕ) (l : p < length s.pa
 
     -- who is ready goes on to end its poll; who isn't was dropped
     goes_on : (b : Reply) → same r q ≡ 1 →
-        (1 ≤ weigh (readying_of r) (op.List list_op.UnlockWrite ∷ op.Run (run_op.Reschedule q b) ∷ []))
-        ⊎ (1 ≤ weigh (dropping_of r) (op.List (list_op.Write (section.Unregister q b)) ∷ []))
-    goes_on reply.Ready z = inl (omega (arith, z))
+        (1 ≤ weigh (readying_of r) (Op.List ListOp.UnlockWrite ∷ Op.Run (RunOp.Reschedule q b) ∷ []))
+        ⊎ (1 ≤ weigh (dropping_of r) (Op.List (ListOp.Write (Section.Unregister q b)) ∷ []))
+    goes_on Reply.Ready z = inl (omega (arith, z))
     goes_on _ z = inr (omega (arith, z))
 
-    as_dropped : (b : Reply) → weigh (dropping_of r) (op.List list_op.UnlockWrite ∷ op.Run (run_op.Reschedule q b) ∷ [])
-        ≡ weigh (dropping_of r) (op.List (list_op.Write (section.Unregister q b)) ∷ [])
-    as_dropped reply.Ready = refl
+    as_dropped : (b : Reply) → weigh (dropping_of r) (Op.List ListOp.UnlockWrite ∷ Op.Run (RunOp.Reschedule q b) ∷ [])
+        ≡ weigh (dropping_of r) (Op.List (ListOp.Write (Section.Unregister q b)) ∷ [])
+    as_dropped Reply.Ready = refl
     as_dropped _ = omega arith
 
     own_leaves : r ≡ q → same r q ≡ 1 → RanIn (unsettled s p rest gone_from) r

@@ -1,70 +1,51 @@
 -- For due_futures_stand_with_their_keepers.
 -- Each step keeps what holds of each run at every moment.
-use Rattle.std.proofs.Common.{◌≡◌, ℕ, ◌+◌, ◌<◌, ◌≤◌, List, [], ◌∷◌}
-use Rattle.std.proofs.Common.{◌++◌, length, get_or, Bool, true, false, eqb, ltb, cond, refl}
-use Rattle.std.proofs.Common.{ap, subst, arith}
+use Rattle.std.proofs.Common.{◌≡◌, ℕ, ◌+◌, ◌<◌, ◌≤◌, List, [], ◌∷◌, ◌++◌, length, get_or, Bool, true, false, eqb, ltb, cond}
+use Rattle.std.proofs.Common.{refl, ap, subst, arith}
 use Rattle.std.proofs.lemmas.Bool.Decides.{nat_tests}
 use Rattle.std.specs.Prelude.{Option, Some, None, reverse}
-use Rattle.task_moves.specs.declared.moves.owed.Move.TheVariants as move
-use Rattle.executor_model.specs.declared.call.Call.{Call}
-use Rattle.executor_model.specs.declared.call.Call.TheVariants as call
-use Rattle.executor_model.specs.declared.event.Event.TheVariants as event
-use Rattle.executor_model.specs.declared.op.ListOp.TheVariants as list_op
-use Rattle.executor_model.specs.declared.op.Op.{Op}
-use Rattle.executor_model.specs.declared.op.Op.TheVariants as op
-use Rattle.executor_model.specs.declared.op.Section.TheVariants as section
-use Rattle.executor_model.specs.declared.op.Steal.{Steal}
-use Rattle.executor_model.specs.declared.op.StealOp.TheVariants as steal_op
-use Rattle.executor_model.specs.declared.op.Waker.{Waker}
-use Rattle.executor_model.specs.declared.step.Hint.{Hint}
-use Rattle.executor_model.specs.declared.step.UserEnd.{UserEnd}
-use Rattle.executor_model.specs.ActsOfRuns as runs
-use Rattle.executor_model.specs.Doing.{act}
-use Rattle.executor_model.specs.OwnQueues.{filling_of}
-use Rattle.executor_model.specs.Steps.{Machine, accepts, begun, has_all}
-use Rattle.executor_model.specs.Steps.{future_of, kept, mine, react, stack, top, with_future}
+use Rattle.executor_laws.proofs.Types.{Move, Call, Event, ListOp, Op, Section, Steal, StealOp, Waker, Hint, UserEnd}
+use Rattle.executor_model.specs.Steps.{Machine, accepts, begun, has_all, future_of, kept, mine, react, stack, top, with_future}
 use Rattle.executor_model.specs.World.{World, Run, Done, log, no_run, run_of}
+use Rattle.executor_model.specs.{Doing.act, OwnQueues.filling_of}
 use Rattle.executor_model.proofs.Steps.Lift.{first-true, none_refused, split, unsettled}
-use Rattle.executor_model.proofs.OwnQueues.OwnRooms.{Roomy}
 use Rattle.executor_model.proofs.Steps.TraceGrows.{Allows, AllowsCall, grows-act, grows-begun, grows-react}
-use Rattle.executor_model.proofs.OwnQueues.UsingSteps.{AllUsed}
-use Rattle.executor_model.proofs.Steps.Ways.{Way}
-use Rattle.executor_model.proofs.Steps.Ways.Way.{acted, reacted, called}
-use Rattle.executor_laws.proofs.Placement.Answering.{is_end}
+use Rattle.executor_model.proofs.{OwnQueues.OwnRooms.Roomy, OwnQueues.UsingSteps.AllUsed, Steps.Ways.Way, Steps.Ways.Way.acted}
+use Rattle.executor_model.proofs.{Steps.Ways.Way.reacted, Steps.Ways.Way.called, OwnQueues.UsingRuns.is_even}
+use Rattle.executor_laws.proofs.Placement.Running.{RanIn, grown-alike, ran-make, ran-put, ran-unregister, ran-within}
 use Rattle.executor_laws.proofs.Placement.Evens.{Even, even-act, even-react}
-use Rattle.executor_model.proofs.OwnQueues.UsingRuns.{is_even}
-use Rattle.executor_laws.proofs.Placement.Frames.{Frames}
 use Rattle.executor_laws.proofs.Placement.Leavings.{drops_run, leaves-act, leaves-react, is_unregister}
 use Rattle.executor_laws.proofs.Placement.Ran.{is_of_runs, ordinary-runs}
-use Rattle.executor_laws.proofs.Placement.Running.{RanIn, grown-alike, ran-make, ran-put, ran-unregister, ran-within, stays-with}
 use Rattle.executor_laws.proofs.Placement.RunningCalls.{ran-call, ran-drop, ran-end, ran-poll}
+use Rattle.executor_laws.proofs.{Placement.Running.stays-with, Placement.Answering.is_end, Placement.Frames.Frames}
+use Rattle.executor_model.specs.ActsOfRuns as runs
 
 -- a steal that is on its way finds a place
 pub free : (s : Machine) (p : ℕ) (x : Steal) (more f : ℕ) (rest : List Op) → p < length s.parties →
-    stack s p ≡ rest ++ reverse (op.Steal (steal_op.Put x more f) ∷ []) → Roomy s →
+    stack s p ≡ rest ++ reverse (Op.Steal (StealOp.Put x more f) ∷ []) → Roomy s →
     ltb 0 (runs.free_places s.world x.poll.run) ≡ true
 free s p x more f rest l e roomy =
     let q = x.poll.run in
     let self : eqb q q ≡ true = grind (arith, nat_tests) in
-    let one : filling_of q (op.Steal (steal_op.Put x more f)) ≡ more + 1 =
+    let one : filling_of q (Op.Steal (StealOp.Put x more f)) ≡ more + 1 =
     ap {B = ℕ} (λ (b : Bool). cond b (more + 1) 0) self in
     let room = roomy q in
     let some : 1 ≤ runs.free_places s.world q =
-    omega (arith, room, one, split (filling_of q) s.parties p (op.Steal (steal_op.Put x more f) ∷ []) rest l e) in
+    omega (arith, room, one, split (filling_of q) s.parties p (Op.Steal (StealOp.Put x more f) ∷ []) rest l e) in
     grind (arith, nat_tests)
 
 even-or : (o : Op) → is_even o ≡ true → is_unregister o ≡ false
-even-or (op.List (list_op.Write y)) e = absurd (cc)
+even-or (Op.List (ListOp.Write y)) e = absurd (cc)
 even-or _ e = refl
 
 allows : (p : ℕ) (o : Op) → is_even o ≡ true → is_end o ≡ false → Allows is_of_runs ordinary-runs p o
-allows p (op.Move move.TakeUp f) e n = refl
-allows p (op.Steal (steal_op.Put y more f)) e n = absurd (cc)
-allows p (op.End a held) e n = absurd (cc)
+allows p (Op.Move Move.TakeUp f) e n = refl
+allows p (Op.Steal (StealOp.Put y more f)) e n = absurd (cc)
+allows p (Op.End a held) e n = absurd (cc)
 allows p _ e n = tt
 
 abbrev polls_run : Call → Bool
-polls_run (call.PollRun q b) = true
+polls_run (Call.PollRun q b) = true
 polls_run _ = false
 
 -- no run changes
@@ -74,18 +55,18 @@ runs-with v w None d e k = e
 runs-with v w (Some f) d e k = k f
 
 pub runs-begun : (p : ℕ) (w : World) (o : Option Waker) (c : Call) → drops_run c ≡ false → (begun p w o c).world.runs ≡ w.runs
-runs-begun p w o (call.Wake n) z = runs-with w w (kept w n) _ refl (λ f. refl)
-runs-begun p w o (call.WakeByRef n) z = runs-with w w (kept w n) _ refl (λ f. refl)
-runs-begun p w o (call.Copy n) z = runs-with w w (kept w n) _ refl (λ f. refl)
-runs-begun p w o (call.DropWaker n) z = runs-with w w (kept w n) _ refl (λ f. refl)
-runs-begun p w o call.Keep z = runs-with w w (future_of o) _ refl (λ f. refl)
-runs-begun p w o call.WakeSelf z = runs-with w w (future_of o) _ refl (λ f. refl)
-runs-begun p w o (call.DropRun q) z = absurd (cc)
+runs-begun p w o (Call.Wake n) z = runs-with w w (kept w n) _ refl (λ f. refl)
+runs-begun p w o (Call.WakeByRef n) z = runs-with w w (kept w n) _ refl (λ f. refl)
+runs-begun p w o (Call.Copy n) z = runs-with w w (kept w n) _ refl (λ f. refl)
+runs-begun p w o (Call.DropWaker n) z = runs-with w w (kept w n) _ refl (λ f. refl)
+runs-begun p w o Call.Keep z = runs-with w w (future_of o) _ refl (λ f. refl)
+runs-begun p w o Call.WakeSelf z = runs-with w w (future_of o) _ refl (λ f. refl)
+runs-begun p w o (Call.DropRun q) z = absurd (cc)
 runs-begun p w o _ z = refl
 
 allowed : (p : ℕ) (c : Call) → drops_run c ≡ false → polls_run c ≡ false → AllowsCall is_of_runs ordinary-runs p c
-allowed p (call.PollRun q b) x y = absurd (cc)
-allowed p (call.DropRun q) x y = absurd (cc)
+allowed p (Call.PollRun q b) x y = absurd (cc)
+allowed p (Call.DropRun q) x y = absurd (cc)
 allowed p _ x y = tt
 
 module _ (s : Machine) (p : ℕ) (rest : List Op) (r : ℕ) (l : p < length s.parties) (used : AllUsed s) (roomy : Roomy s)
@@ -100,27 +81,27 @@ module _ (s : Machine) (p : ℕ) (rest : List Op) (r : ℕ) (l : p < length s.pa
       (leaves-act r p t o s.world n (even-or o e))
 
   ran-put_by : (b : Bool) (x : Steal) (more f : ℕ) → b ≡ true →
-      stack s p ≡ rest ++ reverse (op.Steal (steal_op.Put x more f) ∷ []) →
+      stack s p ≡ rest ++ reverse (Op.Steal (StealOp.Put x more f) ∷ []) →
       RanIn (unsettled s p rest (runs.steal_put_by b p s.world x more f)) r
   ran-put_by true x more f z k = ran-put s p x more f rest r l k used h
   ran-put_by false x more f z k = absurd (cc)
 
   ran-act : (b c : Bool) (t : Hint) (o : Op) → is_even o ≡ b → is_end o ≡ c → stack s p ≡ rest ++ reverse (o ∷ []) →
       RanIn (unsettled s p rest (act p t o s.world)) r
-  ran-act b true t (op.End a held) e n k = ran-end s p a held rest l k frames r h
+  ran-act b true t (Op.End a held) e n k = ran-end s p a held rest l k frames r h
   ran-act b true t _ e n k = absurd (cc)
   ran-act true false t o e n k = ran-even t o e n k
-  ran-act false false t (op.List (list_op.Write section.MakeRun)) e n k = ran-make s p rest r l used h k t.refused
-  ran-act false false t (op.List (list_op.Write (section.Register x))) e n k =
+  ran-act false false t (Op.List (ListOp.Write Section.MakeRun)) e n k = ran-make s p rest r l used h k t.refused
+  ran-act false false t (Op.List (ListOp.Write (Section.Register x))) e n k =
       stays-with s p rest r l used h x k (run_of s.world x.run).stage refl
-  ran-act false false t (op.List (list_op.Write (section.Unregister q a))) e n k =
+  ran-act false false t (Op.List (ListOp.Write (Section.Unregister q a))) e n k =
       ran-unregister s p rest r l used h q a k
-  ran-act false false t (op.Steal (steal_op.Put x more f)) e n k =
+  ran-act false false t (Op.Steal (StealOp.Put x more f)) e n k =
       ran-put_by (ltb 0 (runs.free_places s.world x.poll.run)) x more f (free s p x more f rest l k roomy) k
   ran-act false false t _ e n k = absurd (cc)
 
   user : (o : Op) (u : UserEnd) → accepts o u ≡ true → is_end o ≡ false
-  user (op.User o) u a = refl
+  user (Op.User o) u a = refl
   user _ u a = absurd (cc)
 
   pub ran-way : (old : List Op) (d : Done) → stack s p ≡ rest ++ reverse old → Way s p old rest d →
@@ -143,15 +124,15 @@ module _ (s : Machine) (p : ℕ) (rest : List Op) (r : ℕ) (l : p < length s.pa
       o = mine (top (stack s p))
 
       alike : (x : Call) → drops_run x ≡ false → polls_run x ≡ false → stack s p ≡ rest ++ reverse [] →
-          RanIn (unsettled s p rest (begun p (log s.world (event.CallBegun p x)) o x)) r
+          RanIn (unsettled s p rest (begun p (log s.world (Event.CallBegun p x)) o x)) r
       alike x a b k = ran-call s p rest r l k h x o a
-          (ap (λ (rs : List Run). get_or rs r no_run) (runs-begun p (log s.world (event.CallBegun p x)) o x a))
-          (ap (λ (rs : List Run). length rs) (runs-begun p (log s.world (event.CallBegun p x)) o x a))
-          (grown-alike r (log s.world (event.CallBegun p x)) (begun p (log s.world (event.CallBegun p x)) o x).world
-          (grows-begun is_of_runs ordinary-runs p (log s.world (event.CallBegun p x)) o x (allowed p x a b)))
+          (ap (λ (rs : List Run). get_or rs r no_run) (runs-begun p (log s.world (Event.CallBegun p x)) o x a))
+          (ap (λ (rs : List Run). length rs) (runs-begun p (log s.world (Event.CallBegun p x)) o x a))
+          (grown-alike r (log s.world (Event.CallBegun p x)) (begun p (log s.world (Event.CallBegun p x)) o x).world
+          (grows-begun is_of_runs ordinary-runs p (log s.world (Event.CallBegun p x)) o x (allowed p x a b)))
 
       by : (x : Call) → has_all s.world s.parties (top (stack s p)) x ≡ true → stack s p ≡ rest ++ reverse [] →
-          RanIn (unsettled s p rest (begun p (log s.world (event.CallBegun p x)) o x)) r
-      by (call.PollRun q b) a k = ran-poll s p rest r l k h q b o (first-true _ _ (first-true _ _ a))
-      by (call.DropRun q) a k = ran-drop s p rest r l k h q o (first-true _ _ a)
+          RanIn (unsettled s p rest (begun p (log s.world (Event.CallBegun p x)) o x)) r
+      by (Call.PollRun q b) a k = ran-poll s p rest r l k h q b o (first-true _ _ (first-true _ _ a))
+      by (Call.DropRun q) a k = ran-drop s p rest r l k h q o (first-true _ _ a)
       by x a k = alike x refl refl k

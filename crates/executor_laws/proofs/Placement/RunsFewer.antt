@@ -1,15 +1,10 @@
 -- For due_futures_stand_with_their_keepers.
 -- What a run does takes from the executor's queues at most.
 use Rattle.std.proofs.Common.{◌≡◌, ◌≤◌, ℕ, List, [], ◌∷◌, drop, ap, arith}
-use Rattle.executor_parts.specs.declared.mark.Mark.{Mark}
-use Rattle.executor_parts.specs.declared.mark.Mark.TheVariants.{Plain, Urgent}
-use Rattle.executor_model.specs.Queues.{Queues, all_in}
-use Rattle.executor_model.specs.World.{World, queued_in}
-use Rattle.executor_model.proofs.Steps.Lists.{times-append}
-use Rattle.executor_model.proofs.Steps.QueuesByMark.{without_first_of}
-use Rattle.executor_model.specs.Sound.{times}
-use Rattle.executor_model.proofs.Awaiters.RunsQueue.{Takes}
+use Rattle.executor_laws.proofs.Types.{Mark, Plain, Urgent}
+use Rattle.executor_model.specs.{Queues.Queues, Queues.all_in, World.World, World.queued_in, Sound.times}
 use Rattle.executor_model.proofs.Awaiters.RunsQueue.Takes.{stays, first}
+use Rattle.executor_model.proofs.{Steps.Lists.times-append, Steps.QueuesByMark.without_first_of, Awaiters.RunsQueue.Takes}
 
 pub record Fewer (w v : World) : Type 0 where
   pub items : (g : ℕ) → times g (queued_in v) ≤ times g (queued_in w)

@@ -2,11 +2,9 @@
 -- A future away from the executor's queue: none of its Runnables is there or on its way there, it isn't polled, and its
 -- task won't be scheduled anew unless a poll of it begins.
 use Rattle.std.proofs.Common.{◌≡◌, ◌⊎◌, ℕ, ◌+◌, ◌≤◌, List, true, false}
-use Rattle.executor_model.specs.declared.op.Op.{Op}
-use Rattle.executor_model.specs.Rows.{appends_of}
+use Rattle.executor_laws.proofs.Types.{Op}
 use Rattle.executor_model.specs.Sound.{Pend, Sound, living, queued, times, tokens, with_ops}
-use Rattle.executor_model.specs.Weights.{weigh}
-use Rattle.executor_model.specs.World.{World, Done, queued_in, task}
+use Rattle.executor_model.specs.{Rows.appends_of, Weights.weigh, World.World, World.Done, World.queued_in, World.task}
 
 -- what is used of that which holds of g
 pub record Floor (w : World) (g : ℕ) (p : Pend) : Type 0 where

@@ -1,53 +1,29 @@
 -- For due_futures_stand_with_their_keepers.
 -- What a run does keeps a future away from the executor's queue, but for what it schedules.
-use Rattle.std.proofs.Common.{◌≡◌, ℕ, zero, suc, List, [], ◌∷◌, length, Bool, true, false}
-use Rattle.std.proofs.Common.{refl, sym, ap, subst, get_or, arith}
+use Rattle.std.proofs.Common.{◌≡◌, ℕ, zero, suc, List, [], ◌∷◌, length, Bool, true, false, refl, sym, ap, subst, get_or, arith}
 use Rattle.executor_parts.specs.Marks.{first_of}
-use Rattle.executor_model.specs.declared.op.Look.TheVariants.{First}
-use Rattle.executor_model.specs.World.{queue_of}
-use Rattle.executor_model.specs.Acts.{mark_in}
-use Rattle.task_moves.specs.declared.moves.state.State.{State}
-use Rattle.executor_model.specs.declared.op.ListOp.{ListOp}
-use Rattle.executor_model.specs.declared.op.ListOp.TheVariants as list_op
-use Rattle.executor_model.specs.declared.op.Op.{Op}
-use Rattle.executor_model.specs.declared.op.Op.TheVariants as op
-use Rattle.executor_model.specs.declared.op.RunOp.{RunOp}
-use Rattle.executor_model.specs.declared.op.RunOp.TheVariants as run_op
-use Rattle.executor_model.specs.declared.op.RunPoll.{RunPoll}
-use Rattle.executor_model.specs.declared.op.Section.{Section}
-use Rattle.executor_model.specs.declared.op.Section.TheVariants as section
-use Rattle.executor_model.specs.declared.op.TickOrRun.TheVariants as tick_or_run
-use Rattle.executor_model.specs.declared.op.Sleeping.{Sleeping}
-use Rattle.executor_model.specs.declared.op.Steal.{Steal}
-use Rattle.executor_model.specs.declared.op.StealOp.{StealOp}
-use Rattle.executor_model.specs.declared.op.StealOp.TheVariants as steal_op
-use Rattle.executor_model.specs.declared.op.TickOp.TheVariants as tick_op
-use Rattle.executor_model.specs.declared.step.Hint.{Hint}
-use Rattle.executor_model.specs.World.{World, Done, blank, own_of}
-use Rattle.executor_model.specs.ActsOfRuns as runs
-use Rattle.executor_model.specs.ActsOfRuns.{wake_own}
+use Rattle.executor_laws.proofs.Types.{TickOp, Hint, First, State, ListOp, Op, RunOp, RunPoll, Section, TickOrRun, Sleeping}
+use Rattle.executor_model.specs.World.{queue_of, World, Done, blank, own_of}
 use Rattle.executor_model.specs.Doing.{list_act, run_act, steal_act}
-use Rattle.executor_model.specs.Rows.{appends_of}
-use Rattle.executor_model.specs.Weights.{weigh}
+use Rattle.executor_model.specs.{Acts.mark_in, ActsOfRuns.wake_own, Rows.appends_of, Weights.weigh}
 use Rattle.executor_model.proofs.Steps.RunsNext.{BlindToRuns, common-blind, list-blind, look-blind, more-blind, room-blind}
-use Rattle.executor_model.proofs.Steps.RunsNext.{search_run-blind, stolen-blind}
-use Rattle.executor_model.proofs.Steps.RunsCounting.{Bare, bare}
 use Rattle.executor_model.proofs.Steps.RunsPlain.{AllPlain, plain-after-common, plain-after-list, plain-after-look}
-use Rattle.executor_model.proofs.Steps.RunsPlain.{plain-after-call, plain-after-room, plain-after-search, plain-after-steal}
-use Rattle.executor_model.proofs.Steps.RunsMoves.{moves-common, moves-length, moves-list, moves-look}
-use Rattle.executor_model.proofs.Steps.RunsMoves.{moves-make_room, moves-own, moves-own_length}
-use Rattle.executor_model.proofs.Steps.RunsMoves.{moves-take}
+use Rattle.executor_model.proofs.Steps.RunsMoves.{moves-common, moves-length, moves-list, moves-look, moves-make_room}
 use Rattle.executor_model.proofs.Awaiters.RunsQueue.{queue-list, queue-look, queue-put, queue-room, takes-common, takes-search}
-use Rattle.executor_model.proofs.Awaiters.RunsQueue.{takes-steal}
+use Rattle.executor_model.proofs.Steps.RunsNext.{search_run-blind, stolen-blind}
+use Rattle.executor_model.proofs.Steps.RunsPlain.{plain-after-call, plain-after-room, plain-after-search, plain-after-steal}
+use Rattle.executor_model.proofs.Steps.RunsMoves.{moves-own, moves-own_length, moves-take}
+use Rattle.executor_model.proofs.{Awaiters.RunsQueue.takes-steal, Steps.RunsCounting.Bare, Steps.RunsCounting.bare}
 use Rattle.executor_laws.proofs.Placement.RunsFewer.{Fewer, fewer, untouched}
-use Rattle.executor_laws.proofs.Placement.Safe.{KeepsSafe}
+use Rattle.executor_laws.proofs.{Types.Steal, Types.StealOp, Placement.Safe.KeepsSafe}
+use Rattle.executor_model.specs.ActsOfRuns as runs
 
 abbrev pub is_put : StealOp → Bool
-is_put (steal_op.Put s more f) = true
+is_put (StealOp.Put s more f) = true
 is_put _ = false
 
 abbrev pub is_reschedule : RunOp → Bool
-is_reschedule (run_op.Reschedule r a) = true
+is_reschedule (RunOp.Reschedule r a) = true
 is_reschedule _ = false
 
 blind-appends : (g : ℕ) → BlindToRuns (appends_of g)
@@ -65,22 +41,22 @@ blind-appends g = record {
   end = λ a r. refl;
 }
   where
-    by_steal : (o : StealOp) → appends_of g (op.Steal o) ≡ 0
-    by_steal (steal_op.Length s) = refl
+    by_steal : (o : StealOp) → appends_of g (Op.Steal o) ≡ 0
+    by_steal (StealOp.Length s) = refl
     by_steal _ = refl
 
-    by_section : (s : Section) → appends_of g (op.List (list_op.Write s)) ≡ 0
-    by_section section.MakeRun = refl
-    by_section (section.Register x) = refl
-    by_section (section.Unregister r a) = refl
+    by_section : (s : Section) → appends_of g (Op.List (ListOp.Write s)) ≡ 0
+    by_section Section.MakeRun = refl
+    by_section (Section.Register x) = refl
+    by_section (Section.Unregister r a) = refl
 
-    by_list : (o : ListOp) → appends_of g (op.List o) ≡ 0
-    by_list (list_op.LockWrite s) = by_section s
-    by_list (list_op.Write s) = by_section s
+    by_list : (o : ListOp) → appends_of g (Op.List o) ≡ 0
+    by_list (ListOp.LockWrite s) = by_section s
+    by_list (ListOp.Write s) = by_section s
     by_list _ = refl
 
-    by_run : (o : RunOp) → appends_of g (op.Run o) ≡ 0
-    by_run run_op.MakeRoom = refl
+    by_run : (o : RunOp) → appends_of g (Op.Run o) ≡ 0
+    by_run RunOp.MakeRoom = refl
     by_run _ = refl
 
 -- where the tasks stay and nothing comes into the queue
@@ -104,79 +80,79 @@ appends-take : (g : ℕ) (q : List ℕ) (w : World) (s : Steal) (more : ℕ) →
 appends-take g [] w s more = stolen-blind (appends_of g) (blind-appends g) s.then w s.poll
 appends-take g (f ∷ rest) w s more = refl
 
-pub safe-steal : (p : ℕ) (o : StealOp) (w : World) → is_put o ≡ false → KeepsSafe w (op.Steal o ∷ []) (steal_act p o w)
-safe-steal p (steal_op.Length s) w e =
-    let o = steal_op.Length s in
-    safe-fewer w (op.Steal o ∷ []) (steal_act p o w) (fewer w _ (takes-steal p o w))
+pub safe-steal : (p : ℕ) (o : StealOp) (w : World) → is_put o ≡ false → KeepsSafe w (Op.Steal o ∷ []) (steal_act p o w)
+safe-steal p (StealOp.Length s) w e =
+    let o = StealOp.Length s in
+    safe-fewer w (Op.Steal o ∷ []) (steal_act p o w) (fewer w _ (takes-steal p o w))
     (moves-length (length (runs.source_of w s.from)) w s).same.tasks (λ g. appends-length g _ w s)
     (plain-after-steal p o w)
-safe-steal p (steal_op.OwnLength s n) w e =
-    let o = steal_op.OwnLength s n in
-    safe-fewer w (op.Steal o ∷ []) (steal_act p o w) (fewer w _ (takes-steal p o w))
+safe-steal p (StealOp.OwnLength s n) w e =
+    let o = StealOp.OwnLength s n in
+    safe-fewer w (Op.Steal o ∷ []) (steal_act p o w) (fewer w _ (takes-steal p o w))
     (moves-own_length (runs.share n (runs.free_places w s.poll.run)) n w s).same.tasks
     (λ g. more-blind (appends_of g) (blind-appends g) (runs.share n (runs.free_places w s.poll.run)) w s)
     (plain-after-steal p o w)
-safe-steal p (steal_op.Take s more) w e =
-    let o = steal_op.Take s more in
-    safe-fewer w (op.Steal o ∷ []) (steal_act p o w) (fewer w _ (takes-steal p o w))
+safe-steal p (StealOp.Take s more) w e =
+    let o = StealOp.Take s more in
+    safe-fewer w (Op.Steal o ∷ []) (steal_act p o w) (fewer w _ (takes-steal p o w))
     (moves-take s.from (runs.source_of w s.from) w s.poll s.then more refl).same.tasks
     (λ g. appends-take g (runs.source_of w s.from) w s more) (plain-after-steal p o w)
-safe-steal p (steal_op.Put s more f) w e = absurd (cc)
+safe-steal p (StealOp.Put s more f) w e = absurd (cc)
 
 -- what comes into a run's own queue was in hand
 pub safe-put : (p : ℕ) (s : Steal) (more f : ℕ) (w : World) →
-    KeepsSafe w (op.Steal (steal_op.Put s more f) ∷ []) (runs.steal_by more (runs.kept_by p w s.poll.run f) s)
+    KeepsSafe w (Op.Steal (StealOp.Put s more f) ∷ []) (runs.steal_by more (runs.kept_by p w s.poll.run f) s)
 safe-put p s more f w =
     let v = runs.kept_by p w s.poll.run f in
     let d = runs.steal_by more v s in
-    safe-fewer w (op.Steal (steal_op.Put s more f) ∷ []) d (untouched w d.world (queue-put true p w s more f))
+    safe-fewer w (Op.Steal (StealOp.Put s more f) ∷ []) d (untouched w d.world (queue-put true p w s more f))
     (moves-own_length more 0 v s).same.tasks (λ g. more-blind (appends_of g) (blind-appends g) more v s)
     (plain-after-call p w s more f)
 
-pub safe-list : (h : Hint) (o : ListOp) (w : World) → KeepsSafe w (op.List o ∷ []) (list_act h o w)
+pub safe-list : (h : Hint) (o : ListOp) (w : World) → KeepsSafe w (Op.List o ∷ []) (list_act h o w)
 safe-list h o w =
-    safe-fewer w (op.List o ∷ []) (list_act h o w) (untouched w (list_act h o w).world (queue-list h o w))
+    safe-fewer w (Op.List o ∷ []) (list_act h o w) (untouched w (list_act h o w).world (queue-list h o w))
     (moves-list h o w).same.tasks (λ g. list-blind (appends_of g) (blind-appends g) h o w) (plain-after-list h o w)
 
 -- a run looks at its own queue
-pub safe-search_own : (w : World) (s : Sleeping) (r : ℕ) → s.who ≡ tick_or_run.Run r →
-    KeepsSafe w (op.Tick (tick_op.Search s) ∷ [])
+pub safe-search_own : (w : World) (s : Sleeping) (r : ℕ) → s.who ≡ TickOrRun.Run r →
+    KeepsSafe w (Op.Tick (TickOp.Search s) ∷ [])
     (runs.search_own w (record { run = r; waker = s.waker; poll = s.poll }))
 safe-search_own w s r e =
     let x : RunPoll = record { run = r; waker = s.waker; poll = s.poll } in
-    safe-fewer w (op.Tick (tick_op.Search s) ∷ []) (runs.search_own w x) (fewer w _ (takes-search w x))
+    safe-fewer w (Op.Tick (TickOp.Search s) ∷ []) (runs.search_own w x) (fewer w _ (takes-search w x))
     (moves-own (own_of w r) w s r e refl).same.tasks (λ g. search_run-blind (appends_of g) (blind-appends g) w x)
     (plain-after-search w x)
 
 -- what calls no waker, and hands nothing on
 abbrev pub Stays : RunOp → Type 0
-Stays (run_op.WakeOwn x) = ⊥
-Stays (run_op.Reschedule t a) = ⊥
+Stays (RunOp.WakeOwn x) = ⊥
+Stays (RunOp.Reschedule t a) = ⊥
 Stays _ = Unit {0}
 
-pub safe-run : (p : ℕ) (h : Hint) (o : RunOp) (w : World) → Stays o → KeepsSafe w (op.Run o ∷ []) (run_act p h o w)
-safe-run p h run_op.MakeRoom w e =
-    let d = run_act p h run_op.MakeRoom w in
-    safe-fewer w (op.Run run_op.MakeRoom ∷ []) d (untouched w d.world (queue-room h.refused w))
+pub safe-run : (p : ℕ) (h : Hint) (o : RunOp) (w : World) → Stays o → KeepsSafe w (Op.Run o ∷ []) (run_act p h o w)
+safe-run p h RunOp.MakeRoom w e =
+    let d = run_act p h RunOp.MakeRoom w in
+    safe-fewer w (Op.Run RunOp.MakeRoom ∷ []) d (untouched w d.world (queue-room h.refused w))
     (moves-make_room h.refused w).same.tasks (λ g. room-blind (appends_of g) (blind-appends g) h.refused w)
     (plain-after-room h.refused w)
-safe-run p h run_op.ReturnRoom w e =
-    let d = run_act p h run_op.ReturnRoom w in
-    safe-fewer w (op.Run run_op.ReturnRoom ∷ []) d (untouched w d.world refl) refl (λ g. refl) (λ v z. refl)
-safe-run p h (run_op.TakeTurn x) w e =
-    let d = run_act p h (run_op.TakeTurn x) w in
-    safe-fewer w (op.Run (run_op.TakeTurn x) ∷ []) d (untouched w d.world refl) refl (λ g. refl)
-    (λ v z. omega (arith, z (op.Run (run_op.SearchCommon x (First (first_of w.urgent_turns)))) refl))
-safe-run p h (run_op.SearchCommon x look) w e =
-    let d = run_act p h (run_op.SearchCommon x look) w in
-    safe-fewer w (op.Run (run_op.SearchCommon x look) ∷ []) d (fewer w _ (takes-common look (queue_of w (mark_in look)).items w x))
+safe-run p h RunOp.ReturnRoom w e =
+    let d = run_act p h RunOp.ReturnRoom w in
+    safe-fewer w (Op.Run RunOp.ReturnRoom ∷ []) d (untouched w d.world refl) refl (λ g. refl) (λ v z. refl)
+safe-run p h (RunOp.TakeTurn x) w e =
+    let d = run_act p h (RunOp.TakeTurn x) w in
+    safe-fewer w (Op.Run (RunOp.TakeTurn x) ∷ []) d (untouched w d.world refl) refl (λ g. refl)
+    (λ v z. omega (arith, z (Op.Run (RunOp.SearchCommon x (First (first_of w.urgent_turns)))) refl))
+safe-run p h (RunOp.SearchCommon x look) w e =
+    let d = run_act p h (RunOp.SearchCommon x look) w in
+    safe-fewer w (Op.Run (RunOp.SearchCommon x look) ∷ []) d (fewer w _ (takes-common look (queue_of w (mark_in look)).items w x))
     (moves-common look (queue_of w (mark_in look)).items w x refl).same.tasks
     (λ g. common-blind (appends_of g) (blind-appends g) look (queue_of w (mark_in look)).items w x)
     (plain-after-common w x look)
-safe-run p h (run_op.LookOwn x at left) w e =
-    let d = run_act p h (run_op.LookOwn x at left) w in
-    safe-fewer w (op.Run (run_op.LookOwn x at left) ∷ []) d (untouched w d.world (queue-look (own_of w x.run) w x at left))
+safe-run p h (RunOp.LookOwn x at left) w e =
+    let d = run_act p h (RunOp.LookOwn x at left) w in
+    safe-fewer w (Op.Run (RunOp.LookOwn x at left) ∷ []) d (untouched w d.world (queue-look (own_of w x.run) w x at left))
     (moves-look (own_of w x.run) w x at left refl).same.tasks
     (λ g. look-blind (appends_of g) (blind-appends g) (own_of w x.run) w x at left) (plain-after-look w x at left)
-safe-run p h (run_op.WakeOwn x) w e = absurd e
-safe-run p h (run_op.Reschedule t a) w e = absurd e
+safe-run p h (RunOp.WakeOwn x) w e = absurd e
+safe-run p h (RunOp.Reschedule t a) w e = absurd e

@@ -1,39 +1,24 @@
 -- For due_futures_stand_with_their_keepers.
 -- A future away from the executor's queue (proofs/Placement/Safe): kept by each move of its task but the beginning of a poll, and by
 -- each effect of what no run does, on its view.
-use Rattle.std.proofs.Common.{◌≡◌, ◌⊎◌, ℕ, ◌+◌, ◌<◌, ◌≤◌, List, [], ◌∷◌, ◌++◌, Bool, true, false, inl, inr, refl, ap}
-use Rattle.std.proofs.Common.{◌∙◌, arith}
+use Rattle.std.proofs.Common.{◌≡◌, ◌⊎◌, ℕ, ◌+◌, ◌<◌, ◌≤◌, List, [], ◌∷◌, ◌++◌, Bool, true, false, inl, inr, refl, ap, ◌∙◌}
 use Rattle.std.proofs.lemmas.Bool.Decides.{nat_tests}
-use Rattle.std.proofs.lemmas.List.{length-append}
-use Rattle.std.specs.Prelude.{slice_set}
-use Rattle.executor_parts.specs.declared.mark.Mark.{Mark}
-use Rattle.task_moves.specs.declared.moves.owed.Move.{Move}
-use Rattle.task_moves.specs.declared.moves.owed.Move.TheVariants as move
+use Rattle.std.{proofs.Common.arith, proofs.lemmas.List.length-append, specs.Prelude.slice_set}
 use Rattle.task_moves.proofs.Cases.{by_move}
-use Rattle.executor_model.specs.declared.event.Event.TheVariants as event
-use Rattle.executor_model.specs.declared.op.ClosingOp.TheVariants as closing_op
-use Rattle.executor_model.specs.declared.op.Op.{Op}
-use Rattle.executor_model.specs.declared.op.Op.TheVariants as op
-use Rattle.executor_model.specs.declared.op.QueueOp.TheVariants as queue_op
-use Rattle.executor_model.specs.declared.op.TableOp.TheVariants as table_op
-use Rattle.executor_model.specs.declared.op.UserOp.TheVariants as user_op
-use Rattle.executor_model.specs.Acts.{append_by, begin_drop, closing_ops, enter_by, entered, entry_goes, leave_by}
-use Rattle.executor_model.specs.Acts.{stands_alone}
-use Rattle.executor_model.specs.Sound.{Pend, with_ops}
-use Rattle.executor_model.specs.Weights.{weigh}
+use Rattle.executor_laws.proofs.Types.{Mark, Move, Event, ClosingOp, Op, QueueOp, TableOp, UserOp}
+use Rattle.executor_model.specs.Acts.{append_by, begin_drop, closing_ops, enter_by, entered, entry_goes, leave_by, stands_alone}
 use Rattle.executor_model.specs.World.{World, Done, done, log, task, without, mark_of}
+use Rattle.executor_model.specs.{Acts.leak_out_by, Acts.leaked, Sound.Pend, Sound.with_ops, Weights.weigh}
+use Rattle.executor_model.proofs.OneFuture.Effects.Effect.{passes, turns, refuses, enters, unlists, drops, takes_out}
+use Rattle.executor_model.proofs.OneFuture.Effects.Effect.{drops_next, leaks, leaks_out}
 use Rattle.executor_model.proofs.Steps.Lists.{fresh_is, read_push, same_is, times-append}
 use Rattle.executor_model.proofs.OneFuture.Extras.{Extra, no_extra, runs_of, with_extra}
 use Rattle.executor_model.proofs.OneFuture.Views.{Seen, seen, before, after}
-use Rattle.executor_model.proofs.OneFuture.MoveViews.{Alike}
+use Rattle.executor_model.proofs.OneFuture.MoveViews.{Alike, HasAsked, leaked-keeps, leaks_out-keeps}
 use Rattle.executor_model.proofs.OneFuture.Passes.{Passes, Queues}
 use Rattle.executor_model.proofs.Counts.SoundViews.{tokens, living}
 use Rattle.executor_model.proofs.OneFuture.Effects.{Effect, Wakes, turned-after}
-use Rattle.executor_model.proofs.OneFuture.Effects.Effect.{passes, turns, refuses, enters, unlists, drops, takes_out, drops_next}
 use Rattle.executor_laws.proofs.Placement.Safe.{Floor, KeepsSafe, Safe}
-use Rattle.executor_model.proofs.OneFuture.MoveViews.{HasAsked, leaked-keeps, leaks_out-keeps}
-use Rattle.executor_model.proofs.OneFuture.Effects.Effect.{leaks, leaks_out}
-use Rattle.executor_model.specs.Acts.{leak_out_by, leaked}
 
 record Ground (x : Seen) : Type 0 where
   counted : x.state.references ≡ tokens x + living x
@@ -81,7 +66,7 @@ away-loose x p q a b l h = grind arith
 
 -- a move that stands alone, and begins no poll
 abbrev Needs : Move → Seen → Type 0
-Needs move.TakeUp x = x.state.closed ≡ true
+Needs Move.TakeUp x = x.state.closed ≡ true
 Needs m x = stands_alone m ≡ true
 
 away-moved : (m : Move) (x : Seen) → x.number < x.tasks → Needs m x → Ground (before m x) → Away (before m x) →
@@ -108,10 +93,10 @@ away-moved = by_move _
     (λ x i n b h. absurd (cc))
 
 needs : (m : Move) (f : ℕ) (w v : World) (old : List Op) (r : Pend) (y : Extra) → stands_alone m ≡ true →
-    ((f : ℕ) → old ≡ op.Move move.TakeUp f ∷ [] → (task w f).closed ≡ true) →
-    Wakes m ⊎ ((v ≡ w) × (old ≡ op.Move m f ∷ [])) → Needs m (seen v f r y)
-needs move.TakeUp f w v old r y a n (inl z) = absurd z
-needs move.TakeUp f w v old r y a n (inr z) = ap (λ (u : World). (task u f).closed) z.0 ∙ n f z.1
+    ((f : ℕ) → old ≡ Op.Move Move.TakeUp f ∷ [] → (task w f).closed ≡ true) →
+    Wakes m ⊎ ((v ≡ w) × (old ≡ Op.Move m f ∷ [])) → Needs m (seen v f r y)
+needs Move.TakeUp f w v old r y a n (inl z) = absurd z
+needs Move.TakeUp f w v old r y a n (inr z) = ap (λ (u : World). (task u f).closed) z.0 ∙ n f z.1
 needs _ f w v old r y a n k = a
 
 abbrev KeepsAway : World → List Op → Done → Type 0
@@ -119,7 +104,7 @@ KeepsAway w old d = (g : ℕ) (r : Pend) (y : Extra) → Ground (seen w g (with_
     Away (seen w g (with_ops g old r) (with_extra g old y)) →
     Away (seen d.world g (with_ops g d.next r) (with_extra g d.next y))
 
-away-refuses : (w : World) (mark : Mark) (f : ℕ) → KeepsAway w (op.Queue (queue_op.Append f) ∷ []) (append_by false w mark f)
+away-refuses : (w : World) (mark : Mark) (f : ℕ) → KeepsAway w (Op.Queue (QueueOp.Append f) ∷ []) (append_by false w mark f)
 away-refuses w mark f g r y b h = grind (arith, same_is)
 
 entered_is : (b : Bool) → ((entered b).scheduled ≡ true) × ((entered b).running ≡ false) ×
@@ -127,37 +112,37 @@ entered_is : (b : Bool) → ((entered b).scheduled ≡ true) × ((entered b).run
 entered_is true = (refl, refl, refl, refl)
 entered_is false = (refl, refl, refl, refl)
 
-away-enters : (mark : Mark) (p : ℕ) (w : World) → KeepsAway w (op.Table (table_op.Enter mark) ∷ []) (enter_by false false mark p w)
+away-enters : (mark : Mark) (p : ℕ) (w : World) → KeepsAway w (Op.Table (TableOp.Enter mark) ∷ []) (enter_by false false mark p w)
 away-enters mark p w g r y b h =
     let e = entered_is w.is_static in grind (arith, same_is, fresh_is, read_push, times-append, length-append)
 
-away-unlists : (w : World) (f : ℕ) → KeepsAway w (op.Table (table_op.LeaveTable f) ∷ []) (leave_by true w f)
+away-unlists : (w : World) (f : ℕ) → KeepsAway w (Op.Table (TableOp.LeaveTable f) ∷ []) (leave_by true w f)
 away-unlists w f = by w.is_static
   where
-    by : (s : Bool) → KeepsAway w (op.Table (table_op.LeaveTable f) ∷ [])
+    by : (s : Bool) → KeepsAway w (Op.Table (TableOp.LeaveTable f) ∷ [])
         (done (record w { table = without f w.table }) (entry_goes s f))
     by true g r y b h = grind arith
     by false g r y b h = grind arith
 
-away-drops : (p f : ℕ) (w : World) → KeepsAway w (op.User (user_op.BeginDrop f) ∷ []) (begin_drop p w f)
+away-drops : (p f : ℕ) (w : World) → KeepsAway w (Op.User (UserOp.BeginDrop f) ∷ []) (begin_drop p w f)
 away-drops p f w g r y b h = grind arith
 
-away-takes_out : (ls ws : List ℕ) (w : World) → KeepsAway w (op.Closing closing_op.TakeOut ∷ [])
+away-takes_out : (ls ws : List ℕ) (w : World) → KeepsAway w (Op.Closing ClosingOp.TakeOut ∷ [])
     (done (record w { table = w.leaving; leaving = w.table }) (closing_ops ls ws))
 away-takes_out [] [] w g r y b h = grind arith
 away-takes_out [] (x ∷ ws) w g r y b h = grind arith
 away-takes_out (x ∷ ls) ws w g r y b h = grind arith
 
 away-drops_next : (ls ws : List ℕ) (p : ℕ) (w : World) (f : ℕ) (rest : List ℕ) →
-    KeepsAway w (op.Closing closing_op.DropNext ∷ [])
+    KeepsAway w (Op.Closing ClosingOp.DropNext ∷ [])
     (done (log (record w { leaving = rest; waking = w.waking ++ f ∷ []; inside = slice_set w.inside f false })
-    (event.Dropped p f)) (op.User (user_op.Drop f) ∷ closing_ops ls ws))
+    (Event.Dropped p f)) (Op.User (UserOp.Drop f) ∷ closing_ops ls ws))
 away-drops_next [] [] p w f rest g r y b h = grind arith
 away-drops_next [] (x ∷ ws) p w f rest g r y b h = grind arith
 away-drops_next (x ∷ ls) ws p w f rest g r y b h = grind arith
 
 away-leaks_out : (w : World) → w.is_static ≡ false → w.gone ≡ false →
-    KeepsAway w (op.Closing closing_op.LeakOut ∷ []) (leak_out_by false w)
+    KeepsAway w (Op.Closing ClosingOp.LeakOut ∷ []) (leak_out_by false w)
 away-leaks_out w s n g r y b h = leaks_out-keeps Away (λ x s n t h. grind arith) w s n g r y h
 
 away-leaked : (d : Done) (p f g : ℕ) (r : Pend) (y : Extra) → HasAsked d.world f → Away (seen d.world g r y) →
@@ -165,7 +150,7 @@ away-leaked : (d : Done) (p f g : ℕ) (r : Pend) (y : Extra) → HasAsked d.wor
 away-leaked d p f g r y a h = leaked-keeps Away (λ x a h. grind arith) d.world p f g r y a h
 
 away-effect : (w : World) (old : List Op) (d : Done) →
-    ((f : ℕ) → old ≡ op.Move move.TakeUp f ∷ [] → (task w f).closed ≡ true) → Effect w old d → (g : ℕ) (r : Pend)
+    ((f : ℕ) → old ≡ Op.Move Move.TakeUp f ∷ [] → (task w f).closed ≡ true) → Effect w old d → (g : ℕ) (r : Pend)
     (y : Extra) → (with_extra g old y).runs ≡ 0 → Ground (seen w g (with_ops g old r) (with_extra g old y)) →
     Away (seen w g (with_ops g old r) (with_extra g old y)) →
     Away (seen d.world g (with_ops g d.next r) (with_extra g d.next y))
@@ -184,7 +169,7 @@ away-effect w old d n (leaks_out s z) g r y k b h = away-leaks_out w s z g r y b
 away-effect w old _ n (leaks d p f e a) g r y z b h = away-leaked d p f g _ _ a (away-effect w _ d n e g r y z b h)
 
 pub safe-effect : (w : World) (old : List Op) (d : Done) →
-    ((f : ℕ) → old ≡ op.Move move.TakeUp f ∷ [] → (task w f).closed ≡ true) → weigh runs_of old ≡ 0 → Effect w old d →
+    ((f : ℕ) → old ≡ Op.Move Move.TakeUp f ∷ [] → (task w f).closed ≡ true) → weigh runs_of old ≡ 0 → Effect w old d →
     KeepsSafe w old d
 safe-effect w old d n z e g r k b h =
     let y : Extra = record no_extra { appends = k } in

@@ -1,58 +1,32 @@
 -- For what_is_made_is_new.
 -- The making of a tick takes one step, and that of a run a few, one of which makes it; the party tells of nothing before the
 -- answer.
-use Rattle.std.proofs.Common.{◌≡◌, ◌∙◌, inl, inr, ℕ, ◌<◌, List, [], ◌∷◌, ◌++◌, length, Bool, true, false, ltb, append-nil}
-use Rattle.std.proofs.Common.{refl, sym, ap, arith, get_or-set_same, Result}
-use Rattle.std.proofs.lemmas.Bool.Decides.{nat_tests}
-use Rattle.std.proofs.lemmas.List.{append_assoc}
+use Rattle.std.proofs.Common.{◌≡◌, ◌∙◌, inl, inr, ℕ, ◌<◌, List, [], ◌∷◌, ◌++◌, length, Bool, true, false, ltb, append-nil, refl}
+use Rattle.std.proofs.Common.{sym, ap, arith, get_or-set_same, Result}
 use Rattle.std.specs.Prelude.{Option, None, reverse}
-use Rattle.executor_model.specs.declared.call.Call.{Call}
-use Rattle.executor_model.specs.declared.call.Call.TheVariants as call
-use Rattle.executor_model.specs.declared.call.Reply.{Reply}
-use Rattle.executor_model.specs.declared.call.Reply.TheVariants as reply
-use Rattle.executor_model.specs.declared.event.Event.{Event}
-use Rattle.executor_model.specs.declared.event.Event.TheVariants as event
-use Rattle.executor_model.specs.declared.kind.Kind.{Kind}
-use Rattle.executor_model.specs.declared.op.Hold.{Hold}
-use Rattle.executor_model.specs.declared.op.Hold.TheVariants as hold
-use Rattle.executor_model.specs.declared.op.ListOp.TheVariants as list_op
-use Rattle.executor_model.specs.declared.op.Op.{Op}
-use Rattle.executor_model.specs.declared.op.Op.TheVariants as op
-use Rattle.executor_model.specs.declared.op.RunOp.TheVariants as run_op
-use Rattle.executor_model.specs.declared.op.Section.TheVariants as section
-use Rattle.executor_model.specs.declared.op.TickOp.TheVariants as tick_op
-use Rattle.executor_model.specs.declared.step.Hint.{Hint}
-use Rattle.executor_model.specs.declared.step.Step.{Step}
-use Rattle.executor_model.specs.declared.step.Step.TheVariants.{Begin}
-use Rattle.executor_model.specs.declared.step.StepError.{StepError}
-use Rattle.executor_model.specs.declared.step.StepError.TheVariants.{NoSuch}
+use Rattle.std.{proofs.lemmas.Bool.Decides.nat_tests, proofs.lemmas.List.append_assoc}
+use Rattle.executor_laws.proofs.Types.{StepError, NoSuch, Call, Reply, Event, Kind, Hold, ListOp, Op, RunOp, Section, TickOp}
+use Rattle.executor_model.specs.Steps.{Machine, Part, after, below_top, onto, part, party_of, refusal, run, settled, stack}
+use Rattle.executor_model.specs.Steps.{start, step, stepped, unless, waits, with_part}
 use Rattle.executor_model.specs.ActsOfRuns.{make_room_by, make_run_by}
-use Rattle.executor_model.specs.ActsOfSleepers.{make_tick_by}
-use Rattle.executor_model.specs.Deeds.{deeds}
-use Rattle.executor_model.specs.Doing.{act}
-use Rattle.executor_model.specs.Steps.{Machine, Part, after, below_top, onto, part, party_of, refusal, run, settled, stack, start}
-use Rattle.executor_model.specs.Steps.{step, stepped, unless, waits, with_part}
-use Rattle.executor_model.specs.Trace.{Trace}
-use Rattle.executor_model.specs.World.{World, log}
-use Rattle.executor_model.proofs.Steps.Reached.{Reached}
-use Rattle.executor_model.proofs.Steps.Stepping.{step-made}
+use Rattle.executor_model.specs.{ActsOfSleepers.make_tick_by, Deeds.deeds, Doing.act, Trace.Trace, World.World, World.log}
 use Rattle.executor_laws.specs.Makings.{IsMadeSo, MadeIsMade, MakesRun, MakesTick}
-use Rattle.executor_laws.proofs.Placement.OwnReady.{ran-here, reached-on}
-use Rattle.executor_laws.proofs.Promptness.Prompting.{deeds-own}
-use Rattle.executor_laws.proofs.Promptness.TicksMade.{next-unasked}
+use Rattle.executor_model.proofs.{Steps.Reached.Reached, Steps.Stepping.step-made}
 use Rattle.executor_laws.proofs.Promptness.Turns.{Turn, below-is, ends-so, first-is, goes-on, none-yet, turn}
-use Rattle.executor_laws.proofs.Promptness.Turns.Turn.{rests, goes}
+use Rattle.executor_laws.proofs.Placement.OwnReady.{ran-here, reached-on}
+use Rattle.executor_laws.proofs.{Types.Hint, Types.Step, Types.Begin, Promptness.Prompting.deeds-own}
+use Rattle.executor_laws.proofs.{Promptness.TicksMade.next-unasked, Promptness.Turns.Turn.rests, Promptness.Turns.Turn.goes}
 
 -- the next thing of p is the end of its call
 module _ (p : ℕ) where
   ended-next : (s : Machine) (t : Step) (ts : List Step) (a : Reply) (e : Event) (later : Trace) (w : World) →
-      (stepped s (step s t)).world ≡ log w (event.CallEnded p a) → w.trace ≡ s.world.trace →
-      deeds p (run ts (stepped s (step s t))).world.trace ≡ deeds p s.world.trace ++ e ∷ later → e ≡ event.CallEnded p a
+      (stepped s (step s t)).world ≡ log w (Event.CallEnded p a) → w.trace ≡ s.world.trace →
+      deeds p (run ts (stepped s (step s t))).world.trace ≡ deeds p s.world.trace ++ e ∷ later → e ≡ Event.CallEnded p a
   ended-next s t ts a e later w i j k = sym (first-is p ts (stepped s (step s t)) (deeds p s.world.trace) later
-      (event.CallEnded p a) e
+      (Event.CallEnded p a) e
       (ap (λ (v : World). deeds p v.trace) i
-      ∙ (deeds-own p w.trace (event.CallEnded p a) refl
-      ∙ ap (λ (es : Trace). deeds p es ++ event.CallEnded p a ∷ []) j)) k)
+      ∙ (deeds-own p w.trace (Event.CallEnded p a) refl
+      ∙ ap (λ (es : Trace). deeds p es ++ Event.CallEnded p a ∷ []) j)) k)
 
   on-next : (s : Machine) (t : Step) (ts : List Step) (e : Event) (later : Trace) →
       deeds p (stepped s (step s t)).world.trace ≡ deeds p s.world.trace →
@@ -63,21 +37,21 @@ module _ (p : ℕ) where
   -- a tick
 
   abbrev tick_call : Op
-  tick_call = op.Tick tick_op.MakeTick
+  tick_call = Op.Tick TickOp.MakeTick
 
   tick-made : (b : Bool) (s : Machine) (t : Step) (ts : List Step) (base : List Op) (e : Event) (later : Trace) → Reached s →
       party_of t ≡ p →
       (stepped s (step s t)).world ≡ (onto p (make_tick_by b s.world) base).world →
       deeds p (run ts (stepped s (step s t))).world.trace ≡ deeds p s.world.trace ++ e ∷ later →
       IsMadeSo MakesTick p e (t ∷ ts) s
-  tick-made true s t ts base e later here j w k = inr (ended-next s t ts reply.NoMemory e later s.world
-      (w ∙ ends-so p s.world base reply.NoMemory hold.Executor) refl k)
+  tick-made true s t ts base e later here j w k = inr (ended-next s t ts Reply.NoMemory e later s.world
+      (w ∙ ends-so p s.world base Reply.NoMemory Hold.Executor) refl k)
   tick-made false s t ts base e later here j w k =
       let v : World = (make_tick_by false s.world).world in
-      let i : (stepped s (step s t)).world ≡ log v (event.CallEnded p reply.Made) =
-      w ∙ ends-so p v base reply.Made hold.Executor in
+      let i : (stepped s (step s t)).world ≡ log v (Event.CallEnded p Reply.Made) =
+      w ∙ ends-so p v base Reply.Made Hold.Executor in
       inl (
-        ended-next s t ts reply.Made e later v i refl k,
+        ended-next s t ts Reply.Made e later v i refl k,
         inl (
           j,
           record {
@@ -117,10 +91,10 @@ module _ (p : ℕ) where
   abbrev Calm : Op → Type 0
   Calm o = (h : Hint) (w : World) → ((act p h o w).next ≡ []) × ((act p h o w).world.trace ≡ w.trace)
 
-  calm-unlock : Calm (op.List list_op.UnlockWrite)
+  calm-unlock : Calm (Op.List ListOp.UnlockWrite)
   calm-unlock h w = (refl, refl)
 
-  calm-room : Calm (op.Run run_op.ReturnRoom)
+  calm-room : Calm (Op.Run RunOp.ReturnRoom)
   calm-room h w = (refl, refl)
 
   after-calm : (s : Machine) (base : List Op) (o : Op) (h : Hint) → Calm o → stack s p ≡ base ++ o ∷ [] →
@@ -131,48 +105,48 @@ module _ (p : ℕ) where
 
   abbrev Answered : Reply → List Step → Machine → List Op → Event → Trace → Type 0
   Answered a ts s os e later = stack s p ≡ os → deeds p (run ts s).world.trace ≡ deeds p s.world.trace ++ e ∷ later →
-      e ≡ event.CallEnded p a
+      e ≡ Event.CallEnded p a
 
   -- behind that the call ends
   ends-next : (a : Reply) (o : Op) → Calm o → waits o ≡ false → (ts : List Step) (s : Machine) (base : List Op) (held : Hold)
-      (e : Event) (later : Trace) → stack s p ≡ (base ++ op.End a held ∷ []) ++ o ∷ [] →
-      deeds p (run ts s).world.trace ≡ deeds p s.world.trace ++ e ∷ later → e ≡ event.CallEnded p a
+      (e : Event) (later : Trace) → stack s p ≡ (base ++ Op.End a held ∷ []) ++ o ∷ [] →
+      deeds p (run ts s).world.trace ≡ deeds p s.world.trace ++ e ∷ later → e ≡ Event.CallEnded p a
   ends-next a o c n [] s base held e later i k = absurd (none-yet (deeds p s.world.trace) later e k)
   ends-next a o c n (t ∷ ts) s base held e later i k =
       by (λ q x. ends-next a o c n ts (stepped s (step s t)) base held e later q x)
-      (turn s t p (base ++ op.End a held ∷ []) o i n)
+      (turn s t p (base ++ Op.End a held ∷ []) o i n)
     where
-      by : Answered a ts (stepped s (step s t)) ((base ++ op.End a held ∷ []) ++ o ∷ []) e later → Turn s t p o →
-          e ≡ event.CallEnded p a
+      by : Answered a ts (stepped s (step s t)) ((base ++ Op.End a held ∷ []) ++ o ∷ []) e later → Turn s t p o →
+          e ≡ Event.CallEnded p a
       by again (rests d q) = again (q ∙ i) (on-next s t ts e later d k)
       by again (goes h j w q) =
           let v : World = (act p h o s.world).world in
           ended-next s t ts a e later v
-          (w ∙ (ap (λ (x : Part). x.world) (after-calm s (base ++ op.End a held ∷ []) o h c i) ∙ ends-so p v base a held))
+          (w ∙ (ap (λ (x : Part). x.world) (after-calm s (base ++ Op.End a held ∷ []) o h c i) ∙ ends-so p v base a held))
           (c h s.world).1 k
 
   -- memory is wanted, and the room that was taken is given back first
   wants-next : (ts : List Step) (s : Machine) (base : List Op) (held : Hold) (e : Event) (later : Trace) →
-      stack s p ≡ ((base ++ op.End reply.NoMemory held ∷ []) ++ op.Run run_op.ReturnRoom ∷ []) ++ op.List list_op.UnlockWrite ∷ [] →
-      deeds p (run ts s).world.trace ≡ deeds p s.world.trace ++ e ∷ later → e ≡ event.CallEnded p reply.NoMemory
+      stack s p ≡ ((base ++ Op.End Reply.NoMemory held ∷ []) ++ Op.Run RunOp.ReturnRoom ∷ []) ++ Op.List ListOp.UnlockWrite ∷ [] →
+      deeds p (run ts s).world.trace ≡ deeds p s.world.trace ++ e ∷ later → e ≡ Event.CallEnded p Reply.NoMemory
   wants-next [] s base held e later i k = absurd (none-yet (deeds p s.world.trace) later e k)
   wants-next (t ∷ ts) s base held e later i k =
-      by (λ q x. wants-next ts (stepped s (step s t)) base held e later q x) (turn s t p _ (op.List list_op.UnlockWrite) i refl)
+      by (λ q x. wants-next ts (stepped s (step s t)) base held e later q x) (turn s t p _ (Op.List ListOp.UnlockWrite) i refl)
     where
       rest : List Op
-      rest = base ++ op.End reply.NoMemory held ∷ []
+      rest = base ++ Op.End Reply.NoMemory held ∷ []
 
-      by : Answered reply.NoMemory ts (stepped s (step s t))
-          ((rest ++ op.Run run_op.ReturnRoom ∷ []) ++ op.List list_op.UnlockWrite ∷ []) e later →
-          Turn s t p (op.List list_op.UnlockWrite) → e ≡ event.CallEnded p reply.NoMemory
+      by : Answered Reply.NoMemory ts (stepped s (step s t))
+          ((rest ++ Op.Run RunOp.ReturnRoom ∷ []) ++ Op.List ListOp.UnlockWrite ∷ []) e later →
+          Turn s t p (Op.List ListOp.UnlockWrite) → e ≡ Event.CallEnded p Reply.NoMemory
       by again (rests d q) = again (q ∙ i) (on-next s t ts e later d k)
       by again (goes h j w q) =
-          let v : World = (act p h (op.List list_op.UnlockWrite) s.world).world in
-          let x : onto p (act p h (op.List list_op.UnlockWrite) s.world) (below_top (stack s p))
-          ≡ part v (rest ++ op.Run run_op.ReturnRoom ∷ []) =
-          after-calm s (rest ++ op.Run run_op.ReturnRoom ∷ []) (op.List list_op.UnlockWrite) h calm-unlock i
-          ∙ goes-on p v rest (op.Run run_op.ReturnRoom) refl in
-          ends-next reply.NoMemory (op.Run run_op.ReturnRoom) calm-room refl ts (stepped s (step s t)) base held e later
+          let v : World = (act p h (Op.List ListOp.UnlockWrite) s.world).world in
+          let x : onto p (act p h (Op.List ListOp.UnlockWrite) s.world) (below_top (stack s p))
+          ≡ part v (rest ++ Op.Run RunOp.ReturnRoom ∷ []) =
+          after-calm s (rest ++ Op.Run RunOp.ReturnRoom ∷ []) (Op.List ListOp.UnlockWrite) h calm-unlock i
+          ∙ goes-on p v rest (Op.Run RunOp.ReturnRoom) refl in
+          ends-next Reply.NoMemory (Op.Run RunOp.ReturnRoom) calm-room refl ts (stepped s (step s t)) base held e later
           (q ∙ ap (λ (y : Part). y.todo) x)
           (on-next s t ts e later (ap (λ (y : World). deeds p y.trace) (w ∙ ap (λ (y : Part). y.world) x)) k)
 
@@ -183,25 +157,25 @@ module _ (p : ℕ) where
       deeds p (run ts (stepped s (step s t))).world.trace ≡ deeds p s.world.trace ++ e ∷ later →
       IsMadeSo MakesRun p e (t ∷ ts) s
   run-made true s t ts base e later here j w q k =
-      let end : Op = op.End reply.NoMemory hold.Executor in
+      let end : Op = Op.End Reply.NoMemory Hold.Executor in
       let x : onto p (make_run_by true s.world) base
-      ≡ part s.world (((base ++ end ∷ []) ++ op.Run run_op.ReturnRoom ∷ []) ++ op.List list_op.UnlockWrite ∷ []) =
+      ≡ part s.world (((base ++ end ∷ []) ++ Op.Run RunOp.ReturnRoom ∷ []) ++ Op.List ListOp.UnlockWrite ∷ []) =
       ap (settled p s.world)
-      (sym (append_assoc base (end ∷ []) (op.Run run_op.ReturnRoom ∷ op.List list_op.UnlockWrite ∷ []))
-      ∙ sym (append_assoc (base ++ end ∷ []) (op.Run run_op.ReturnRoom ∷ []) (op.List list_op.UnlockWrite ∷ [])))
-      ∙ goes-on p s.world ((base ++ end ∷ []) ++ op.Run run_op.ReturnRoom ∷ []) (op.List list_op.UnlockWrite) refl in
-      inr (wants-next ts (stepped s (step s t)) base hold.Executor e later (q ∙ ap (λ (y : Part). y.todo) x)
+      (sym (append_assoc base (end ∷ []) (Op.Run RunOp.ReturnRoom ∷ Op.List ListOp.UnlockWrite ∷ []))
+      ∙ sym (append_assoc (base ++ end ∷ []) (Op.Run RunOp.ReturnRoom ∷ []) (Op.List ListOp.UnlockWrite ∷ [])))
+      ∙ goes-on p s.world ((base ++ end ∷ []) ++ Op.Run RunOp.ReturnRoom ∷ []) (Op.List ListOp.UnlockWrite) refl in
+      inr (wants-next ts (stepped s (step s t)) base Hold.Executor e later (q ∙ ap (λ (y : Part). y.todo) x)
       (on-next s t ts e later (ap (λ (y : World). deeds p y.trace) (w ∙ ap (λ (y : Part). y.world) x)) k))
   run-made false s t ts base e later here j w q k =
       let v : World = (make_run_by false s.world).world in
-      let end : Op = op.End reply.Made (hold.Run (length s.world.runs)) in
-      let x : onto p (make_run_by false s.world) base ≡ part v ((base ++ end ∷ []) ++ op.List list_op.UnlockWrite ∷ []) =
-      ap (settled p v) (sym (append_assoc base (end ∷ []) (op.List list_op.UnlockWrite ∷ [])))
-      ∙ goes-on p v (base ++ end ∷ []) (op.List list_op.UnlockWrite) refl in
+      let end : Op = Op.End Reply.Made (Hold.Run (length s.world.runs)) in
+      let x : onto p (make_run_by false s.world) base ≡ part v ((base ++ end ∷ []) ++ Op.List ListOp.UnlockWrite ∷ []) =
+      ap (settled p v) (sym (append_assoc base (end ∷ []) (Op.List ListOp.UnlockWrite ∷ [])))
+      ∙ goes-on p v (base ++ end ∷ []) (Op.List ListOp.UnlockWrite) refl in
       let i : (stepped s (step s t)).world ≡ v = w ∙ ap (λ (y : Part). y.world) x in
       inl (
-        ends-next reply.Made (op.List list_op.UnlockWrite) calm-unlock refl ts (stepped s (step s t)) base
-            (hold.Run (length s.world.runs)) e later (q ∙ ap (λ (y : Part). y.todo) x)
+        ends-next Reply.Made (Op.List ListOp.UnlockWrite) calm-unlock refl ts (stepped s (step s t)) base
+            (Hold.Run (length s.world.runs)) e later (q ∙ ap (λ (y : Part). y.todo) x)
             (on-next s t ts e later (ap (λ (y : World). deeds p y.trace) i) k),
         inl (
           j,
@@ -219,15 +193,15 @@ module _ (p : ℕ) where
   skip t ts s e (inr x) = inr x
 
   run-writes : (ts : List Step) (s : Machine) (base : List Op) (e : Event) (later : Trace) → Reached s →
-      stack s p ≡ base ++ op.List (list_op.Write section.MakeRun) ∷ [] →
+      stack s p ≡ base ++ Op.List (ListOp.Write Section.MakeRun) ∷ [] →
       deeds p (run ts s).world.trace ≡ deeds p s.world.trace ++ e ∷ later → IsMadeSo MakesRun p e ts s
   run-writes [] s base e later here i k = absurd (none-yet (deeds p s.world.trace) later e k)
   run-writes (t ∷ ts) s base e later here i k =
       by (λ q x. run-writes ts (stepped s (step s t)) base e later (reached-on s (t ∷ []) here) q x)
-      (turn s t p base (op.List (list_op.Write section.MakeRun)) i refl)
+      (turn s t p base (Op.List (ListOp.Write Section.MakeRun)) i refl)
     where
-      by : Again MakesRun ts (stepped s (step s t)) base (op.List (list_op.Write section.MakeRun)) e later →
-          Turn s t p (op.List (list_op.Write section.MakeRun)) → IsMadeSo MakesRun p e (t ∷ ts) s
+      by : Again MakesRun ts (stepped s (step s t)) base (Op.List (ListOp.Write Section.MakeRun)) e later →
+          Turn s t p (Op.List (ListOp.Write Section.MakeRun)) → IsMadeSo MakesRun p e (t ∷ ts) s
       by again (rests d q) = skip t ts s e (again (q ∙ i) (on-next s t ts e later d k))
       by again (goes h j w q) =
           let x : onto p (make_run_by h.refused s.world) (below_top (stack s p)) ≡ onto p (make_run_by h.refused s.world) base =
@@ -235,22 +209,22 @@ module _ (p : ℕ) where
           run-made h.refused s t ts base e later here j (w ∙ ap (λ (y : Part). y.world) x) (q ∙ ap (λ (y : Part). y.todo) x) k
 
   run-locks : (ts : List Step) (s : Machine) (base : List Op) (e : Event) (later : Trace) → Reached s →
-      stack s p ≡ base ++ op.List (list_op.LockWrite section.MakeRun) ∷ [] →
+      stack s p ≡ base ++ Op.List (ListOp.LockWrite Section.MakeRun) ∷ [] →
       deeds p (run ts s).world.trace ≡ deeds p s.world.trace ++ e ∷ later → IsMadeSo MakesRun p e ts s
   run-locks [] s base e later here i k = absurd (none-yet (deeds p s.world.trace) later e k)
   run-locks (t ∷ ts) s base e later here i k =
       by (λ q x. run-locks ts (stepped s (step s t)) base e later (reached-on s (t ∷ []) here) q x)
-      (turn s t p base (op.List (list_op.LockWrite section.MakeRun)) i refl)
+      (turn s t p base (Op.List (ListOp.LockWrite Section.MakeRun)) i refl)
     where
-      by : Again MakesRun ts (stepped s (step s t)) base (op.List (list_op.LockWrite section.MakeRun)) e later →
-          Turn s t p (op.List (list_op.LockWrite section.MakeRun)) → IsMadeSo MakesRun p e (t ∷ ts) s
+      by : Again MakesRun ts (stepped s (step s t)) base (Op.List (ListOp.LockWrite Section.MakeRun)) e later →
+          Turn s t p (Op.List (ListOp.LockWrite Section.MakeRun)) → IsMadeSo MakesRun p e (t ∷ ts) s
       by again (rests d q) = skip t ts s e (again (q ∙ i) (on-next s t ts e later d k))
       by again (goes h j w q) =
-          let o : Op = op.List (list_op.LockWrite section.MakeRun) in
+          let o : Op = Op.List (ListOp.LockWrite Section.MakeRun) in
           let v : World = (act p h o s.world).world in
-          let x : onto p (act p h o s.world) (below_top (stack s p)) ≡ part v (base ++ op.List (list_op.Write section.MakeRun) ∷ []) =
+          let x : onto p (act p h o s.world) (below_top (stack s p)) ≡ part v (base ++ Op.List (ListOp.Write Section.MakeRun) ∷ []) =
           ap (onto p (act p h o s.world)) (below-is (stack s p) base o i)
-          ∙ goes-on p v base (op.List (list_op.Write section.MakeRun)) refl in
+          ∙ goes-on p v base (Op.List (ListOp.Write Section.MakeRun)) refl in
           skip t ts s e (run-writes ts (stepped s (step s t)) base e later (reached-on s (t ∷ []) here)
           (q ∙ ap (λ (y : Part). y.todo) x)
           (on-next s t ts e later (ap (λ (y : World). deeds p y.trace) (w ∙ ap (λ (y : Part). y.world) x)) k))
@@ -260,26 +234,26 @@ module _ (p : ℕ) where
       stack (stepped s (step s t)) p ≡ (onto p (make_room_by b s.world) base).todo →
       deeds p (run ts (stepped s (step s t))).world.trace ≡ deeds p s.world.trace ++ e ∷ later →
       IsMadeSo MakesRun p e (t ∷ ts) s
-  room-made true s t ts base e later here w q k = inr (ended-next s t ts reply.NoMemory e later s.world
-      (w ∙ ends-so p s.world base reply.NoMemory hold.Executor) refl k)
+  room-made true s t ts base e later here w q k = inr (ended-next s t ts Reply.NoMemory e later s.world
+      (w ∙ ends-so p s.world base Reply.NoMemory Hold.Executor) refl k)
   room-made false s t ts base e later here w q k =
       let v : World = (make_room_by false s.world).world in
-      let x : onto p (make_room_by false s.world) base ≡ part v (base ++ op.List (list_op.LockWrite section.MakeRun) ∷ []) =
-      goes-on p v base (op.List (list_op.LockWrite section.MakeRun)) refl in
+      let x : onto p (make_room_by false s.world) base ≡ part v (base ++ Op.List (ListOp.LockWrite Section.MakeRun) ∷ []) =
+      goes-on p v base (Op.List (ListOp.LockWrite Section.MakeRun)) refl in
       skip t ts s e (run-locks ts (stepped s (step s t)) base e later (reached-on s (t ∷ []) here)
       (q ∙ ap (λ (y : Part). y.todo) x)
       (on-next s t ts e later (ap (λ (y : World). deeds p y.trace) (w ∙ ap (λ (y : Part). y.world) x)) k))
 
   run-so : (ts : List Step) (s : Machine) (base : List Op) (e : Event) (later : Trace) → Reached s →
-      stack s p ≡ base ++ op.Run run_op.MakeRoom ∷ [] →
+      stack s p ≡ base ++ Op.Run RunOp.MakeRoom ∷ [] →
       deeds p (run ts s).world.trace ≡ deeds p s.world.trace ++ e ∷ later → IsMadeSo MakesRun p e ts s
   run-so [] s base e later here i k = absurd (none-yet (deeds p s.world.trace) later e k)
   run-so (t ∷ ts) s base e later here i k =
       by (λ q x. run-so ts (stepped s (step s t)) base e later (reached-on s (t ∷ []) here) q x)
-      (turn s t p base (op.Run run_op.MakeRoom) i refl)
+      (turn s t p base (Op.Run RunOp.MakeRoom) i refl)
     where
-      by : Again MakesRun ts (stepped s (step s t)) base (op.Run run_op.MakeRoom) e later →
-          Turn s t p (op.Run run_op.MakeRoom) → IsMadeSo MakesRun p e (t ∷ ts) s
+      by : Again MakesRun ts (stepped s (step s t)) base (Op.Run RunOp.MakeRoom) e later →
+          Turn s t p (Op.Run RunOp.MakeRoom) → IsMadeSo MakesRun p e (t ∷ ts) s
       by again (rests d q) = skip t ts s e (again (q ∙ i) (on-next s t ts e later d k))
       by again (goes h j w q) =
           let x : onto p (make_room_by h.refused s.world) (below_top (stack s p)) ≡ onto p (make_room_by h.refused s.world) base =
@@ -293,13 +267,13 @@ there true k e = refl
 there false k e = absurd (cc)
 
 module _ (s : Machine) (p : ℕ) (c : Call) (o : Op) (n : refusal s (Begin p c) ≡ None)
-    (first : after s (Begin p c) ≡ with_part s p (settled p (log s.world (event.CallBegun p c)) (stack s p ++ o ∷ [])))
-    (open_op : settled p (log s.world (event.CallBegun p c)) (stack s p ++ o ∷ [])
-    ≡ part (log s.world (event.CallBegun p c)) (stack s p ++ o ∷ [])) where
+    (first : after s (Begin p c) ≡ with_part s p (settled p (log s.world (Event.CallBegun p c)) (stack s p ++ o ∷ [])))
+    (open_op : settled p (log s.world (Event.CallBegun p c)) (stack s p ++ o ∷ [])
+    ≡ part (log s.world (Event.CallBegun p c)) (stack s p ++ o ∷ [])) where
   abbrev new : Machine
   new = stepped s (step s (Begin p c))
 
-  new-is : new ≡ with_part s p (part (log s.world (event.CallBegun p c)) (stack s p ++ o ∷ []))
+  new-is : new ≡ with_part s p (part (log s.world (Event.CallBegun p c)) (stack s p ++ o ∷ []))
   new-is = ap (λ (r : Result Machine StepError). stepped s r) (step-made s (Begin p c) n)
       ∙ (first ∙ ap (with_part s p) open_op)
 
@@ -309,27 +283,27 @@ module _ (s : Machine) (p : ℕ) (c : Call) (o : Op) (n : refusal s (Begin p c) 
   todo-is : stack new p ≡ stack s p ++ o ∷ []
   todo-is = ap (λ (m : Machine). stack m p) new-is ∙ get_or-set_same s.parties p (stack s p ++ o ∷ []) [] in-parties
 
-  told-is : deeds p new.world.trace ≡ deeds p s.world.trace ++ event.CallBegun p c ∷ []
-  told-is = ap (λ (m : Machine). deeds p m.world.trace) new-is ∙ deeds-own p s.world.trace (event.CallBegun p c) refl
+  told-is : deeds p new.world.trace ≡ deeds p s.world.trace ++ Event.CallBegun p c ∷ []
+  told-is = ap (λ (m : Machine). deeds p m.world.trace) new-is ∙ deeds-own p s.world.trace (Event.CallBegun p c) refl
 
   since-is : (steps : List Step) (e : Event) (later : Trace) →
-      deeds p (run steps new).world.trace ≡ deeds p s.world.trace ++ event.CallBegun p c ∷ e ∷ later →
+      deeds p (run steps new).world.trace ≡ deeds p s.world.trace ++ Event.CallBegun p c ∷ e ∷ later →
       deeds p (run steps new).world.trace ≡ deeds p new.world.trace ++ e ∷ later
-  since-is steps e later k = k ∙ (sym (append_assoc (deeds p s.world.trace) (event.CallBegun p c ∷ []) (e ∷ later))
+  since-is steps e later k = k ∙ (sym (append_assoc (deeds p s.world.trace) (Event.CallBegun p c ∷ []) (e ∷ later))
       ∙ ap (λ (es : Trace). es ++ e ∷ later) (sym told-is))
 
 made-so : (s : Machine) → Reached s → MadeIsMade s
 made-so s here = record {
   tick = λ p n steps e later k.
-      let o : Op = op.Tick tick_op.MakeTick in
-      let x = goes-on p (log s.world (event.CallBegun p call.NewTick)) (stack s p) o refl in
-      tick-so p steps (stepped s (step s (Begin p call.NewTick))) (stack s p) e later (reached-on s (Begin p call.NewTick ∷ []) here)
-      (todo-is s p call.NewTick o n refl x) (since-is s p call.NewTick o n refl x steps e later k);
+      let o : Op = Op.Tick TickOp.MakeTick in
+      let x = goes-on p (log s.world (Event.CallBegun p Call.NewTick)) (stack s p) o refl in
+      tick-so p steps (stepped s (step s (Begin p Call.NewTick))) (stack s p) e later (reached-on s (Begin p Call.NewTick ∷ []) here)
+      (todo-is s p Call.NewTick o n refl x) (since-is s p Call.NewTick o n refl x steps e later k);
   run = λ p n steps e later k.
-      let o : Op = op.Run run_op.MakeRoom in
-      let x = goes-on p (log s.world (event.CallBegun p call.NewRun)) (stack s p) o refl in
-      run-so p steps (stepped s (step s (Begin p call.NewRun))) (stack s p) e later (reached-on s (Begin p call.NewRun ∷ []) here)
-      (todo-is s p call.NewRun o n refl x) (since-is s p call.NewRun o n refl x steps e later k);
+      let o : Op = Op.Run RunOp.MakeRoom in
+      let x = goes-on p (log s.world (Event.CallBegun p Call.NewRun)) (stack s p) o refl in
+      run-so p steps (stepped s (step s (Begin p Call.NewRun))) (stack s p) e later (reached-on s (Begin p Call.NewRun ∷ []) here)
+      (todo-is s p Call.NewRun o n refl x) (since-is s p Call.NewRun o n refl x steps e later k);
 }
 
 pub made-is-made : (limit : ℕ) (kind : Kind) (parties : ℕ) (steps : List Step) → MadeIsMade (run steps (start limit kind parties))

@@ -1,5 +1,5 @@
 -- For no_comes_at_once.
--- Whoever is answered no has done nothing since his call began, in each run.
+-- Whoever is answered no has done nothing since his call began but take a turn for a tick, in each execution.
 use Rattle.std.proofs.Common.{◌≡◌, ◌≢◌, ◌⊎◌, ℕ, ◌+◌, ◌<◌, List, [], ◌∷◌, ◌++◌, length}
 use Rattle.std.proofs.Common.{Bool, true, false, ◌||◌, ◌&&◌, not, cond, eqb, refl, sym, ap, ◌∙◌, subst, inl}
 use Rattle.std.proofs.Common.{inr, ⊎_elim, arith, get_or-set_same, get_or-set_other}
@@ -56,7 +56,8 @@ use Rattle.executor_model.specs.Deeds.{deeds}
 use Rattle.executor_laws.specs.AtOnce.{HasJustBegun, NoComesAtOnce}
 use Rattle.executor_model.proofs.Steps.Deeds.{is_end, Grows, grows-act, grows-react, grows-begun}
 use Rattle.executor_model.proofs.Polls.Dueness.{by_last}
-use Rattle.executor_laws.proofs.Promptness.Prompting.{Began, Last, Other, Turned, came_last, fits, has_begun, is_told, last_after}
+use Rattle.executor_laws.proofs.Promptness.Prompting.{Asked, Last, Other, Tried, Turned, begun_by, came_last, fits}
+use Rattle.executor_laws.proofs.Promptness.Prompting.{has_tried, is_told, last_after}
 use Rattle.executor_laws.proofs.Promptness.Prompting.{last_by, may, on_turn}
 use Rattle.executor_laws.proofs.Promptness.Prompting.{hasty, quick_of, is_no, told, fresh, fresh-append, told-append}
 use Rattle.executor_laws.proofs.Promptness.Prompting.{fresh-log, told-grows, told-log, deeds-other, deeds-other_log, slow-act}
@@ -169,7 +170,7 @@ own-look p w [] os z f t =
 own-look p w (g ∷ gs) os z f t = record { told = t; stands = quick os (op.End reply.No hold.Executor) refl refl z f }
 
 -- a turn comes right behind the beginning of the call
-own-turn : (p : ℕ) (w : World) (os : List Op) → weigh hasty os ≡ 0 → has_begun (came_last p w.trace) ≡ true →
+own-turn : (p : ℕ) (w : World) (os : List Op) → weigh hasty os ≡ 0 → has_tried (came_last p w.trace) ≡ true →
     is_told p w.trace ≡ true →
     Prompt p (os ++ reverse (take_turn p w (λ l. op.Queue (queue_op.Take l))).next) (deeds p (turned p w).trace)
 own-turn p w os z f t =
@@ -183,9 +184,10 @@ own-turn p w os z f t =
     own : eqb p p ≡ true
     own = grind (arith, nat_tests)
 
-    by : (b : Last) (c : Bool) → c ≡ true → has_begun b ≡ true → may (cond c (on_turn b) Other) ≡ true
-    by Began true e g = refl
+    by : (b : Last) (c : Bool) → c ≡ true → has_tried b ≡ true → may (cond c (on_turn b) Other) ≡ true
+    by Tried true e g = refl
     by Turned c e g = absurd (cc)
+    by Asked c e g = absurd (cc)
     by Other c e g = absurd (cc)
     by b false e g = absurd (cc)
 
@@ -255,7 +257,7 @@ told-begun p w here c t =
 self-begun : (p : ℕ) (c : Call) → begins_call p (event.CallBegun p c) ≡ true
 self-begun p c = grind (arith, nat_tests)
 
-began : (p : ℕ) (es : Trace) (c : Call) → came_last p (es ++ event.CallBegun p c ∷ []) ≡ Began
+began : (p : ℕ) (es : Trace) (c : Call) → came_last p (es ++ event.CallBegun p c ∷ []) ≡ begun_by (event.CallBegun p c)
 began p es c = fresh-log p es (event.CallBegun p c) refl
     ∙ ap (λ (b : Bool). last_by b p (came_last p es) (event.CallBegun p c)) (self-begun p c)
 
@@ -274,7 +276,7 @@ own-begun p w here c os z t = record { told = told-begun p w here c t; stands = 
 
     go : (x : Call) → Stands p (os ++ reverse (begun p (v x) here x).next) (deeds p (begun p (v x) here x).world.trace)
     go (call.Spawn mark) = as-slow (call.Spawn mark) refl
-    go call.TryTick = quick os (op.Queue queue_op.TakeTurn) refl refl z (ap has_begun (began p w.trace call.TryTick))
+    go call.TryTick = quick os (op.Queue queue_op.TakeTurn) refl refl z (ap has_tried (began p w.trace call.TryTick))
     go call.IsEmpty = quick os (op.Table table_op.LookAtTable) refl refl z (ap may (began p w.trace call.IsEmpty))
     go (call.Wake k) = as-slow (call.Wake k) (slow-with (v (call.Wake k)) (kept w k) _ (λ f. refl))
     go (call.WakeByRef k) = as-slow (call.WakeByRef k) (slow-with (v (call.WakeByRef k)) (kept w k) _ (λ f. refl))
@@ -379,70 +381,108 @@ own-is : (p q : ℕ) → eqb p q ≡ true → q ≡ p
 own-is p q k = grind (arith, nat_tests)
 
 -- which event came last
-last-began : (p : ℕ) (n : Last) (es : Trace) (e : Event) → last_after p n e ≡ Began →
-    (c : Call) × (es ++ e ∷ [] ≡ es ++ event.CallBegun p c ∷ [])
-last-began p n es (event.CallBegun q c) k = by (eqb p q) refl k
+
+tried-call : (q : ℕ) (c : Call) → begun_by (event.CallBegun q c) ≡ Tried → c ≡ call.TryTick
+tried-call q call.TryTick k = refl
+tried-call q _ k = absurd (cc)
+
+asked-call : (q : ℕ) (c : Call) → begun_by (event.CallBegun q c) ≡ Asked → c ≢ call.TryTick
+asked-call q c k e =
+    let no : Tried ≡ Asked = sym (ap (λ (d : Call). begun_by (event.CallBegun q d)) e) ∙ k in absurd (cc)
+
+no-turn : (q : ℕ) (c : Call) → begun_by (event.CallBegun q c) ≡ Turned → ⊥
+no-turn q call.TryTick k = absurd (cc)
+no-turn q _ k = absurd (cc)
+
+last-tried : (p : ℕ) (n : Last) (es : Trace) (e : Event) → last_after p n e ≡ Tried →
+    es ++ e ∷ [] ≡ es ++ event.CallBegun p call.TryTick ∷ []
+last-tried p n es (event.CallBegun q c) k = by (eqb p q) refl k
   where
-    by : (b : Bool) → eqb p q ≡ b → last_by b p n (event.CallBegun q c) ≡ Began →
-        (d : Call) × (es ++ event.CallBegun q c ∷ [] ≡ es ++ event.CallBegun p d ∷ [])
-    by true i j = (c, ap (λ (m : ℕ). es ++ event.CallBegun m c ∷ []) (own-is p q i))
+    by : (b : Bool) → eqb p q ≡ b → last_by b p n (event.CallBegun q c) ≡ Tried →
+        es ++ event.CallBegun q c ∷ [] ≡ es ++ event.CallBegun p call.TryTick ∷ []
+    by true i j = ap (λ (m : ℕ). es ++ event.CallBegun m c ∷ []) (own-is p q i)
+        ∙ ap (λ (d : Call). es ++ event.CallBegun p d ∷ []) (tried-call q c j)
     by false i j = absurd (cc)
-last-began p n es (event.Looked q m) k = by (eqb p q) n k
+last-tried p n es (event.Looked q m) k = by (eqb p q) n k
   where
-    by : (b : Bool) (n : Last) → cond b (on_turn n) Other ≡ Began →
-        (c : Call) × (es ++ event.Looked q m ∷ [] ≡ es ++ event.CallBegun p c ∷ [])
-    by true Began j = absurd (cc)
+    by : (b : Bool) (n : Last) → cond b (on_turn n) Other ≡ Tried →
+        es ++ event.Looked q m ∷ [] ≡ es ++ event.CallBegun p call.TryTick ∷ []
+    by true Tried j = absurd (cc)
     by true Turned j = absurd (cc)
+    by true Asked j = absurd (cc)
     by true Other j = absurd (cc)
     by false n j = absurd (cc)
-last-began p n es _ k = absurd (cc)
+last-tried p n es _ k = absurd (cc)
+
+abbrev Asks : ℕ → Trace → Trace → Type 0
+Asks p es now = (c : Call) × (c ≢ call.TryTick) × (now ≡ es ++ event.CallBegun p c ∷ [])
+
+last-asked : (p : ℕ) (n : Last) (es : Trace) (e : Event) → last_after p n e ≡ Asked → Asks p es (es ++ e ∷ [])
+last-asked p n es (event.CallBegun q c) k = by (eqb p q) refl k
+  where
+    by : (b : Bool) → eqb p q ≡ b → last_by b p n (event.CallBegun q c) ≡ Asked → Asks p es (es ++ event.CallBegun q c ∷ [])
+    by true i j = (c, asked-call q c j, ap (λ (m : ℕ). es ++ event.CallBegun m c ∷ []) (own-is p q i))
+    by false i j = absurd (cc)
+last-asked p n es (event.Looked q m) k = by (eqb p q) n k
+  where
+    by : (b : Bool) (n : Last) → cond b (on_turn n) Other ≡ Asked → Asks p es (es ++ event.Looked q m ∷ [])
+    by true Tried j = absurd (cc)
+    by true Turned j = absurd (cc)
+    by true Asked j = absurd (cc)
+    by true Other j = absurd (cc)
+    by false n j = absurd (cc)
+last-asked p n es _ k = absurd (cc)
 
 last-turned : (p : ℕ) (n : Last) (e : Event) → last_after p n e ≡ Turned →
-    (n ≡ Began) × ((m : Mark) × (e ≡ event.Looked p m))
+    (n ≡ Tried) × ((m : Mark) × (e ≡ event.Looked p m))
 last-turned p n (event.CallBegun q c) k = by (eqb p q) k
   where
     by : (b : Bool) → last_by b p n (event.CallBegun q c) ≡ Turned →
-        (n ≡ Began) × ((m : Mark) × (event.CallBegun q c ≡ event.Looked p m))
-    by true j = absurd (cc)
+        (n ≡ Tried) × ((m : Mark) × (event.CallBegun q c ≡ event.Looked p m))
+    by true j = absurd (no-turn q c j)
     by false j = absurd (cc)
 last-turned p n (event.Looked q m) k = by (eqb p q) n refl k
   where
     by : (b : Bool) (n : Last) → eqb p q ≡ b → cond b (on_turn n) Other ≡ Turned →
-        (n ≡ Began) × ((x : Mark) × (event.Looked q m ≡ event.Looked p x))
-    by true Began i j = (refl, (m, ap (λ (o : ℕ). event.Looked o m) (own-is p q i)))
+        (n ≡ Tried) × ((x : Mark) × (event.Looked q m ≡ event.Looked p x))
+    by true Tried i j = (refl, (m, ap (λ (o : ℕ). event.Looked o m) (own-is p q i)))
     by true Turned i j = absurd (cc)
+    by true Asked i j = absurd (cc)
     by true Other i j = absurd (cc)
     by false n i j = absurd (cc)
 last-turned p n _ k = absurd (cc)
 
--- a call of p has begun last, or p has then taken a turn
+-- a try of a tick of p has begun last, or p has then taken a turn, or another call of p has begun last
 record Lasts (p : ℕ) (before : Trace) : Type 0 where
-  pub began : fresh p Other before ≡ Began → (earlier : Trace) × (c : Call) × (before ≡ earlier ++ event.CallBegun p c ∷ [])
+  pub tried : fresh p Other before ≡ Tried → (earlier : Trace) × (before ≡ earlier ++ event.CallBegun p call.TryTick ∷ [])
   pub turned : fresh p Other before ≡ Turned → HasJustBegun p before
+  pub asked : fresh p Other before ≡ Asked → HasJustBegun p before
 
 lasts : (p : ℕ) (before : Trace) → Lasts p before
-lasts p = by_last (Lasts p) (record { began = λ k. absurd (cc); turned = λ k. absurd (cc) }) (λ xs e h. record {
-  began = λ k. let x = last-began p (fresh p Other xs) xs e (sym (fresh-append p Other xs (e ∷ [])) ∙ k) in (xs, x.0, x.1);
-  turned = λ k.
-      let x = last-turned p (fresh p Other xs) e (sym (fresh-append p Other xs (e ∷ [])) ∙ k) in
-      let y = h.began x.0 in (
-        y.0,
-        y.1,
-        inr (
-          x.1.0,
-          ap (λ (z : Event). xs ++ z ∷ []) x.1.1
-              ∙ (ap (λ (zs : Trace). zs ++ event.Looked p x.1.0 ∷ []) y.2
-              ∙ append_assoc y.0 (event.CallBegun p y.1 ∷ []) (event.Looked p x.1.0 ∷ [])),
-        ),
-      );
-})
+lasts p = by_last (Lasts p)
+    (record { tried = λ k. absurd (cc); turned = λ k. absurd (cc); asked = λ k. absurd (cc) }) (λ xs e h. record {
+      tried = λ k. (xs, last-tried p (fresh p Other xs) xs e (sym (fresh-append p Other xs (e ∷ [])) ∙ k));
+      turned = λ k.
+          let x = last-turned p (fresh p Other xs) e (sym (fresh-append p Other xs (e ∷ [])) ∙ k) in
+          let y = h.tried x.0 in (
+            y.0,
+            inl (
+              x.1.0,
+              ap (λ (z : Event). xs ++ z ∷ []) x.1.1
+                  ∙ (ap (λ (zs : Trace). zs ++ event.Looked p x.1.0 ∷ []) y.1
+                  ∙ append_assoc y.0 (event.CallBegun p call.TryTick ∷ []) (event.Looked p x.1.0 ∷ [])),
+            ),
+          );
+      asked = λ k. (xs, inr (last-asked p (fresh p Other xs) xs e (sym (fresh-append p Other xs (e ∷ [])) ∙ k)));
+    })
 
 just-begun : (p : ℕ) (before : Trace) → may (fresh p Other before) ≡ true → HasJustBegun p before
 just-begun p before k = by (fresh p Other before) refl k
   where
     by : (b : Last) → fresh p Other before ≡ b → may b ≡ true → HasJustBegun p before
-    by Began e m = let y = (lasts p before).began e in (y.0, y.1, inl y.2)
+    by Tried e m = absurd (cc)
     by Turned e m = (lasts p before).turned e
+    by Asked e m = (lasts p before).asked e
     by Other e m = absurd (cc)
 
 pub no-comes-at-once : (limit : ℕ) (kind : Kind) (parties : ℕ) (steps : List Step) (p : ℕ) →

@@ -1,5 +1,5 @@
 -- For no_comes_at_once.
--- A party that may be answered no next has done nothing since its call began.
+-- A party that may be answered no next has done nothing since its call began but take a turn for a tick.
 use Rattle.std.proofs.Common.{◌≡◌, ◌≢◌, ℕ, ◌≤◌, List, [], ◌∷◌, ◌++◌, Bool, true, false, ◌||◌, ◌&&◌, not}
 use Rattle.std.proofs.Common.{cond, eqb, refl, ap, ◌∙◌, ⊎_elim, arith, append-nil}
 use Rattle.std.proofs.lemmas.Bool.Decides.{nat_tests}
@@ -18,6 +18,7 @@ use Rattle.task_moves.specs.declared.moves.owed.AwaiterDebt.TheVariants.{StoreCo
 use Rattle.task_moves.specs.declared.moves.owed.Move.TheVariants as move
 use Rattle.task_moves.specs.declared.moves.owed.Moved.{Moved}
 use Rattle.task_moves.specs.Moves as moves
+use Rattle.executor_model.specs.declared.call.Call.TheVariants as call
 use Rattle.executor_model.specs.declared.call.Reply.{Reply}
 use Rattle.executor_model.specs.declared.call.Reply.TheVariants as reply
 use Rattle.executor_model.specs.declared.event.Event.{Event}
@@ -88,33 +89,40 @@ hasty (op.List (list_op.Write (section.Unregister r a))) = is_refusal a
 hasty (op.Run (run_op.Reschedule r a)) = is_refusal a
 hasty o = quick_of o
 
--- of what p did, b being the last before: each answer no stands behind the beginning of a call, or behind the turn after that
+-- of what p did, b being the last before: each answer no stands behind a tick's turn, or behind the beginning of another call
 abbrev pub is_no : Event → Bool
 is_no (event.CallEnded p reply.No) = true
 is_no _ = false
 
--- what p did last: begin a call, or then take a turn, or anything else
+-- what p did last: begin a try of a tick, or then take a turn, or begin another call, or anything else
 pub data Last : Type 0 where
-  Began : Last
+  Tried : Last
   Turned : Last
+  Asked : Last
   Other : Last
 
 abbrev pub may : Last → Bool
-may Began = true
+may Tried = false
 may Turned = true
+may Asked = true
 may Other = false
 
-abbrev pub has_begun : Last → Bool
-has_begun Began = true
-has_begun _ = false
+abbrev pub has_tried : Last → Bool
+has_tried Tried = true
+has_tried _ = false
 
 abbrev pub on_turn : Last → Last
-on_turn Began = Turned
+on_turn Tried = Turned
 on_turn Turned = Other
+on_turn Asked = Other
 on_turn Other = Other
 
+abbrev pub begun_by : Event → Last
+begun_by (event.CallBegun p call.TryTick) = Tried
+begun_by _ = Asked
+
 abbrev pub last_by : Bool → ℕ → Last → Event → Last
-last_by true p n e = Began
+last_by true p n e = begun_by e
 last_by false p n (event.Looked q m) = cond (eqb p q) (on_turn n) Other
 last_by false p n _ = Other
 
@@ -132,7 +140,7 @@ fresh p b (e ∷ es) = fresh p (last_after p b e) es
 
 -- it may be done where this came last
 abbrev pub fits : Op → Last → Bool
-fits (op.Queue queue_op.TakeTurn) b = has_begun b
+fits (op.Queue queue_op.TakeTurn) b = has_tried b
 fits _ b = may b
 
 and-assoc : (a b c : Bool) → (a && (b && c)) ≡ ((a && b) && c)

@@ -1,47 +1,24 @@
 -- For no_means_that_nothing_was_queued.
 -- The step that leads to the second look of a try of a tick finds the other queue empty.
 use Rattle.std.proofs.Common.{◌≡◌, ◌∙◌, ⊎_elim, ℕ, ◌<◌, List, [], ◌∷◌, ◌++◌, length, Bool, true, false, refl, sym, ap, arith}
-use Rattle.std.proofs.Common.{ltb, get_or-set_same}
-use Rattle.std.proofs.lemmas.Bool.Decides.{nat_tests}
 use Rattle.std.specs.Prelude.{Option, Some, None, Ok, Err}
-use Rattle.executor_parts.specs.declared.mark.Mark.{Mark}
-use Rattle.executor_parts.specs.declared.mark.Mark.TheVariants.{Plain, Urgent}
+use Rattle.std.{proofs.Common.ltb, proofs.Common.get_or-set_same, proofs.lemmas.Bool.Decides.nat_tests}
 use Rattle.executor_parts.specs.Marks.{first_of, other}
-use Rattle.executor_model.specs.declared.call.Reply.{Reply}
-use Rattle.executor_model.specs.declared.call.Reply.TheVariants as reply
-use Rattle.executor_model.specs.declared.op.Hold.{Hold}
-use Rattle.executor_model.specs.declared.op.Hold.TheVariants as hold
-use Rattle.executor_model.specs.declared.op.Look.{Look}
-use Rattle.executor_model.specs.declared.op.Look.TheVariants.{First, Second}
-use Rattle.executor_model.specs.declared.op.Op.{Op}
-use Rattle.executor_model.specs.declared.op.Op.TheVariants as op
-use Rattle.executor_model.specs.declared.op.QueueOp.TheVariants as queue_op
-use Rattle.executor_model.specs.declared.op.SleeperOp.TheVariants as sleeper_op
-use Rattle.executor_model.specs.declared.op.TableOp.TheVariants as table_op
-use Rattle.executor_model.specs.declared.step.Hint.{Hint}
-use Rattle.executor_model.specs.declared.step.Step.TheVariants.{Go}
-use Rattle.executor_model.specs.declared.step.StepError.{StepError}
-use Rattle.executor_model.specs.declared.step.StepError.TheVariants.{NoSuch}
-use Rattle.task_moves.specs.declared.moves.owed.Move.TheVariants as move
+use Rattle.executor_laws.proofs.Types.{Mark, Plain, Urgent, Reply, Hold, Look, First, Second, Op, QueueOp, SleeperOp, TableOp}
+use Rattle.executor_laws.proofs.Types.{Hint, Go, StepError, NoSuch, Move}
+use Rattle.executor_model.specs.Steps.{Machine, Part, after, below_top, end_of, go_refusal, gone_on, onto, refusal, settled}
+use Rattle.executor_model.specs.Steps.{settled_by, stack, step, top, unless}
 use Rattle.executor_model.specs.Acts.{emptiness, mark_in, take_by}
-use Rattle.executor_model.specs.Deeds.{deeds}
-use Rattle.executor_model.specs.Doing.{act}
-use Rattle.executor_model.specs.Steps.{Machine, Part, after, below_top, end_of, go_refusal, gone_on, onto, refusal}
-use Rattle.executor_model.specs.Steps.{settled, settled_by, stack, step, top, unless}
-use Rattle.executor_model.specs.Weights.{weigh}
-use Rattle.executor_model.specs.World.{World, Done, queue_of}
-use Rattle.executor_model.proofs.Steps.Deeds.{is_end}
-use Rattle.executor_model.proofs.Steps.Lift.{topped}
-use Rattle.executor_model.proofs.Steps.Lists.{weigh-append}
-use Rattle.executor_model.proofs.Steps.Stepping.{step-made, step-refused}
-use Rattle.executor_model.proofs.Table.Spawning.{top-last}
+use Rattle.executor_model.specs.{Deeds.deeds, Doing.act, Weights.weigh, World.World, World.Done, World.queue_of}
 use Rattle.executor_laws.specs.NoAnswers.{LooksSecond}
+use Rattle.executor_model.proofs.Steps.Stepping.{step-made, step-refused}
+use Rattle.executor_model.proofs.{Steps.Deeds.is_end, Steps.Lift.topped, Steps.Lists.weigh-append, Table.Spawning.top-last}
 use Rattle.executor_laws.proofs.Promptness.PromptExecutions.{Parted, Prompts, parted, slow-onto}
 use Rattle.executor_laws.proofs.Promptness.Prompting.{hasty, quick_of, slow-act}
 use Rattle.executor_laws.proofs.Promptness.Turns.{below-is, goes-on}
 
 abbrev second : Mark → Op
-second m = op.Queue (queue_op.Take (Second m))
+second m = Op.Queue (QueueOp.Take (Second m))
 
 -- it isn't on top where nothing is answered no next
 no-second : (m : Mark) (os : List Op) → weigh hasty os ≡ 0 → top os ≡ Some (second m) → ⊥
@@ -59,17 +36,17 @@ below-slow os o e z =
 no-settled : (m : Mark) (p : ℕ) (w : World) (os : List Op) (o : Option Op) → top os ≡ o → weigh hasty os ≡ 0 →
     top (settled_by (end_of o) p w os).todo ≡ Some (second m) → ⊥
 no-settled m p w os None e z k = no-second m os z k
-no-settled m p w os (Some (op.End a held)) e z k = no-second m (below_top os) (below-slow os (op.End a held) e z) k
+no-settled m p w os (Some (Op.End a held)) e z k = no-second m (below_top os) (below-slow os (Op.End a held) e z) k
 no-settled m p w os (Some _) e z k = no-second m os z k
 
 -- nor behind the end of a call
 no-ended : (m : Mark) (p : ℕ) (w : World) (rest : List Op) (a : Reply) (held : Hold) → weigh hasty rest ≡ 0 →
-    top (settled p w (rest ++ op.End a held ∷ [])).todo ≡ Some (second m) → ⊥
+    top (settled p w (rest ++ Op.End a held ∷ [])).todo ≡ Some (second m) → ⊥
 no-ended m p w rest a held z k =
-    let os : List Op = rest ++ op.End a held ∷ [] in
+    let os : List Op = rest ++ Op.End a held ∷ [] in
     no-second m rest z
-    (sym (ap top (below-is os rest (op.End a held) refl))
-    ∙ (sym (ap (λ (x : Option Op). top (settled_by (end_of x) p w os).todo) (top-last rest (op.End a held))) ∙ k))
+    (sym (ap top (below-is os rest (Op.End a held) refl))
+    ∙ (sym (ap (λ (x : Option Op). top (settled_by (end_of x) p w os).todo) (top-last rest (Op.End a held))) ∙ k))
 
 -- what comes on top instead
 on-top : (m : Mark) (p : ℕ) (w : World) (rest : List Op) (o : Op) → is_end o ≡ false →
@@ -96,23 +73,23 @@ module _ (w : World) (p : ℕ) (m : Mark) (rest : List Op) (z : weigh hasty rest
   by-take (First n) [] i k =
       let e : second (other n) ≡ second m = on-top m p w rest (second (other n)) refl k in
       let f : n ≡ other m = other-other m n (cc) in ap (λ (x : Mark). (queue_of w x).items) (sym f) ∙ i
-  by-take (Second n) [] i k = absurd (no-ended m p w rest reply.No hold.Executor z k)
+  by-take (Second n) [] i k = absurd (no-ended m p w rest Reply.No Hold.Executor z k)
   by-take look (f ∷ fs) i k = absurd (no-settled m p _ _ _ refl (slow-onto rest
-      (op.Sleeper sleeper_op.ExchangeFlag ∷ op.Move move.TakeUp f ∷ op.End reply.Yes hold.Executor ∷ []) z refl) k)
+      (Op.Sleeper SleeperOp.ExchangeFlag ∷ Op.Move Move.TakeUp f ∷ Op.End Reply.Yes Hold.Executor ∷ []) z refl) k)
 
   by-quick : (h : Hint) (o : Op) → quick_of o ≡ 1 → LeadsThere (act p h o w)
-  by-quick h (op.Queue queue_op.TakeTurn) c k =
-      let e : op.Queue (queue_op.Take (First (first_of w.urgent_turns))) ≡ second m = on-top m p _ rest _ refl k in
+  by-quick h (Op.Queue QueueOp.TakeTurn) c k =
+      let e : Op.Queue (QueueOp.Take (First (first_of w.urgent_turns))) ≡ second m = on-top m p _ rest _ refl k in
       absurd (cc)
-  by-quick h (op.Queue (queue_op.Take look)) c k = by-take look _ refl k
-  by-quick h (op.Table table_op.LookAtTable) c k = absurd (no-ended m p w rest (emptiness w.table) hold.Executor z k)
-  by-quick h (op.End a held) c k = absurd (no-settled m p _ _ _ refl (slow-onto rest [] z refl) k)
+  by-quick h (Op.Queue (QueueOp.Take look)) c k = by-take look _ refl k
+  by-quick h (Op.Table TableOp.LookAtTable) c k = absurd (no-ended m p w rest (emptiness w.table) Hold.Executor z k)
+  by-quick h (Op.End a held) c k = absurd (no-settled m p _ _ _ refl (slow-onto rest [] z refl) k)
   by-quick h _ c k = absurd (cc)
 
   by-slow : (h : Hint) (o : Op) (b : Bool) → is_end o ≡ b → hasty o ≡ 0 → LeadsThere (act p h o w)
   by-slow h o false n c k =
       absurd (no-settled m p _ _ _ refl (slow-onto rest (act p h o w).next z (slow-act p h o w c n)) k)
-  by-slow h (op.End a held) true n c k = absurd (no-settled m p _ _ _ refl (slow-onto rest [] z refl) k)
+  by-slow h (Op.End a held) true n c k = absurd (no-settled m p _ _ _ refl (slow-onto rest [] z refl) k)
   by-slow h _ true n c k = absurd (cc)
 
 there : (b : Bool) (k : Option StepError) → unless b NoSuch k ≡ None → (b ≡ true) × (k ≡ None)

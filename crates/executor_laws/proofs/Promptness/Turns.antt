@@ -1,40 +1,22 @@
 -- For what_is_made_is_new.
 -- How the stack of a party and what it did go on by one step, where what is on top is no user code.
-use Rattle.std.proofs.Common.{◌≡◌, ◌≢◌, ◌∙◌, ℕ, ◌<◌, List, [], ◌∷◌, ◌++◌, length, set, get_or, Bool, true, false, cond, eqb, ltb}
-use Rattle.std.proofs.Common.{append-nil, refl, sym, ap, arith, get_or-set_same, get_or-set_other, Result}
+use Rattle.std.proofs.Common.{◌≡◌, ◌≢◌, ◌∙◌, ℕ, ◌<◌, List, [], ◌∷◌, ◌++◌, length, set, get_or, Bool, true, false, cond, eqb}
+use Rattle.std.proofs.Common.{ltb, append-nil, refl, sym, ap, arith, get_or-set_same, get_or-set_other, Result}
 use Rattle.std.proofs.lemmas.Bool.Decides.{nat_tests}
 use Rattle.std.proofs.lemmas.List.{append_assoc, append_cancel_left, append_cancel_right}
 use Rattle.std.specs.Prelude.{Option, Some, None, filter, reverse}
-use Rattle.executor_model.specs.declared.call.Reply.{Reply}
-use Rattle.executor_model.specs.declared.event.Event.{Event}
-use Rattle.executor_model.specs.declared.event.Event.TheVariants as event
-use Rattle.executor_model.specs.declared.op.Hold.{Hold}
-use Rattle.executor_model.specs.declared.op.Op.{Op}
-use Rattle.executor_model.specs.declared.op.Op.TheVariants as op
-use Rattle.executor_model.specs.declared.op.UserOp.TheVariants as user_op
-use Rattle.executor_model.specs.declared.step.Hint.{Hint}
-use Rattle.executor_model.specs.declared.step.Step.{Step}
-use Rattle.executor_model.specs.declared.step.Step.TheVariants.{Begin, Go, Answer}
-use Rattle.executor_model.specs.declared.step.StepError.{StepError}
-use Rattle.executor_model.specs.declared.step.StepError.TheVariants.{NoSuch, WrongAnswer}
-use Rattle.executor_model.specs.declared.step.UserEnd.{UserEnd}
-use Rattle.executor_model.specs.declared.step.UserEnd.TheVariants as end
-use Rattle.executor_model.specs.Deeds.{deeds, is_by}
-use Rattle.executor_model.specs.Doing.{act}
-use Rattle.executor_model.specs.Steps.{Machine, Part, accepts, after, answer_refusal, below_top, end_of, gone_on, is_free}
-use Rattle.executor_model.specs.Steps.{onto, part, part_after, part_refusal, party_of, refusal, run, settled, settled_by, stack, step}
+use Rattle.executor_laws.proofs.Types.{UserEnd, Reply, Event, Hold, Op, UserOp, Hint, Step, Begin, Go, StepError, NoSuch}
+use Rattle.executor_model.specs.declared.step.Step.TheVariants.{Answer}
+use Rattle.executor_model.specs.Steps.{Machine, Part, accepts, after, answer_refusal, below_top, end_of, gone_on, is_free, onto}
+use Rattle.executor_model.specs.Steps.{part, part_after, part_refusal, party_of, refusal, run, settled, settled_by, stack, step}
 use Rattle.executor_model.specs.Steps.{stepped, top, unless, waits}
-use Rattle.executor_model.specs.Trace.{Trace}
-use Rattle.executor_model.specs.World.{Done, World, log}
-use Rattle.executor_model.proofs.Steps.Deeds.{grows-react, is_end}
-use Rattle.executor_model.proofs.Steps.Lift.{none_refused, topped}
-use Rattle.executor_model.proofs.Steps.Stepping.{step-made, step-refused}
-use Rattle.executor_model.proofs.Steps.TraceSteps.{run-continues}
-use Rattle.executor_model.proofs.Steps.Ways.{Made, Way, made}
+use Rattle.executor_model.specs.{Deeds.deeds, Deeds.is_by, Doing.act, Trace.Trace, World.Done, World.World, World.log}
 use Rattle.executor_model.proofs.Steps.Ways.Way.{acted, called, reacted}
-use Rattle.executor_model.proofs.Table.Spawning.{top-last}
+use Rattle.executor_model.proofs.{Steps.Deeds.grows-react, Steps.Deeds.is_end, Steps.Lift.none_refused, Steps.Lift.topped}
+use Rattle.executor_model.proofs.{Steps.Stepping.step-made, Steps.Stepping.step-refused, Steps.TraceSteps.run-continues}
+use Rattle.executor_model.proofs.{Steps.Ways.Made, Steps.Ways.Way, Steps.Ways.made, Table.Spawning.top-last}
 use Rattle.executor_laws.proofs.Promptness.PromptExecutions.{others-act, others-begun}
-use Rattle.executor_laws.proofs.Promptness.Prompting.{deeds-other, deeds-other_log}
+use Rattle.executor_laws.proofs.{Types.WrongAnswer, Promptness.Prompting.deeds-other, Promptness.Prompting.deeds-other_log}
 
 -- what p did, and later more
 
@@ -68,7 +50,7 @@ none-yet es later e i =
 settled-other : (o : Option Reply) (p q : ℕ) (w : World) (os : List Op) → q ≢ p →
     deeds q (settled_by o p w os).world.trace ≡ deeds q w.trace
 settled-other None p q w os n = refl
-settled-other (Some a) p q w os n = deeds-other_log p q w.trace (event.CallEnded p a) refl n
+settled-other (Some a) p q w os n = deeds-other_log p q w.trace (Event.CallEnded p a) refl n
 
 way-other : (s : Machine) (p q : ℕ) (old rest : List Op) (d : Done) → Way s p old rest d → q ≢ p →
     deeds q d.world.trace ≡ deeds q s.world.trace
@@ -106,12 +88,12 @@ turn-other s t p o e n =
 
 -- what answers is user code
 user-waits : (o : Op) (u : UserEnd) → accepts o u ≡ true → waits o ≡ true
-user-waits (op.User (user_op.Poll f)) (end.Polled a) e = refl
-user-waits (op.User (user_op.Drop f)) end.Done e = refl
-user-waits (op.User (user_op.DropOutput f)) end.Done e = refl
-user-waits (op.User (user_op.CallOutside x)) end.Done e = refl
-user-waits (op.User (user_op.PollOwn x)) (end.Polled a) e = refl
-user-waits (op.User (user_op.DropOwn r)) end.Done e = refl
+user-waits (Op.User (UserOp.Poll f)) (UserEnd.Polled a) e = refl
+user-waits (Op.User (UserOp.Drop f)) UserEnd.Done e = refl
+user-waits (Op.User (UserOp.DropOutput f)) UserEnd.Done e = refl
+user-waits (Op.User (UserOp.CallOutside x)) UserEnd.Done e = refl
+user-waits (Op.User (UserOp.PollOwn x)) (UserEnd.Polled a) e = refl
+user-waits (Op.User (UserOp.DropOwn r)) UserEnd.Done e = refl
 user-waits _ _ e = absurd (cc)
 
 turn-own : (s : Machine) (t : Step) (p : ℕ) (o : Op) → refusal s t ≡ None → top (stack s p) ≡ Some o → waits o ≡ false →
@@ -168,10 +150,10 @@ pub goes-on : (p : ℕ) (w : World) (base : List Op) (o : Op) → is_end o ≡ f
 goes-on p w base o n = ap (λ (x : Option Op). settled_by (end_of x) p w (base ++ o ∷ [])) (top-last base o) ∙ by o n
   where
     by : (o : Op) → is_end o ≡ false → settled_by (end_of (Some o)) p w (base ++ o ∷ []) ≡ part w (base ++ o ∷ [])
-    by (op.End a held) n = absurd (cc)
+    by (Op.End a held) n = absurd (cc)
     by _ n = refl
 
 pub ends-so : (p : ℕ) (w : World) (base : List Op) (a : Reply) (held : Hold) →
-    (settled p w (base ++ op.End a held ∷ [])).world ≡ log w (event.CallEnded p a)
-ends-so p w base a held = ap (λ (x : Option Op). (settled_by (end_of x) p w (base ++ op.End a held ∷ [])).world)
-    (top-last base (op.End a held))
+    (settled p w (base ++ Op.End a held ∷ [])).world ≡ log w (Event.CallEnded p a)
+ends-so p w base a held = ap (λ (x : Option Op). (settled_by (end_of x) p w (base ++ Op.End a held ∷ [])).world)
+    (top-last base (Op.End a held))

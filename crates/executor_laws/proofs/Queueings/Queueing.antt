@@ -6,6 +6,7 @@ use Rattle.std.proofs.lemmas.Bool.Decides.{nat_tests}
 use Rattle.std.specs.Prelude.{Option, Some, None, reverse}
 use Rattle.executor_parts.specs.declared.mark.Mark.{Mark}
 use Rattle.executor_parts.specs.declared.mark.Mark.TheVariants.{Plain, Urgent}
+use Rattle.executor_parts.specs.Marks.{other}
 use Rattle.executor_model.specs.declared.op.Look.{Look}
 use Rattle.executor_model.specs.Queues.{Queues, queue_in, with_queue}
 use Rattle.executor_model.specs.World.{mark_of, queue_of}
@@ -258,34 +259,75 @@ by-step m s t = go (refusal s t) refl
         (sym (step-refused s t error e))
         (as-was refl)
 
--- a step appends one Runnable at most
+-- a step appends one Runnable at most, to one of both
 
 count-less : (xs : List ℕ) → length (drop 1 xs) - length xs ≡ 0
 count-less [] = refl
 count-less (x ∷ xs) = omega arith
 
-queued-most : (m : Mark) (s : Machine) (new : ClosableQueue ℕ) → Steps m s new →
-    length new.items - length (queue_of s.world m).items ≤ 1
-queued-most m s new (as-was x) = omega (arith, ap (λ (v : ClosableQueue ℕ). length v.items) x)
-queued-most m s new (longer p f a i c x) = omega (
-  arith,
-  ap (λ (v : ClosableQueue ℕ). length v.items) x,
-  length-append (queue_of s.world m).items (f ∷ []),
-)
-queued-most m s new (shorter f rest a x) = omega (
-  arith,
-  ap (λ (v : ClosableQueue ℕ). length v.items - length (queue_of s.world m).items) x,
-  count-less (queue_of s.world m).items,
-)
-queued-most m s new (shut-by x) = omega (arith, ap (λ (v : ClosableQueue ℕ). length v.items) x)
+abbrev FewMore : Queues → Queues → Type 0
+FewMore old new = (length new.urgent.items - length old.urgent.items) + (length new.plain.items - length old.plain.items) ≤ 1
 
-queueings-most : (m : Mark) (ts : List Step) (s : Machine) → queueings m ts s ≤ length ts
+few-same : (old new : Queues) → new ≡ old → FewMore old new
+few-same old new e =
+    omega (arith, ap (λ (qs : Queues). length qs.urgent.items) e, ap (λ (qs : Queues). length qs.plain.items) e)
+
+few-last : (m : Mark) (f : ℕ) (qs : Queues) → FewMore qs (with_last m f qs)
+few-last Urgent f qs = omega (arith, length-append qs.urgent.items (f ∷ []))
+few-last Plain f qs = omega (arith, length-append qs.plain.items (f ∷ []))
+
+few-first : (m : Mark) (qs : Queues) → FewMore qs (without_first_of m qs)
+few-first Urgent qs = omega (arith, count-less qs.urgent.items)
+few-first Plain qs = omega (arith, count-less qs.plain.items)
+
+few-shut : (m : Mark) (qs : Queues) → FewMore qs (with_shut m qs)
+few-shut Urgent qs = omega arith
+few-shut Plain qs = omega arith
+
+few-turns : (w : World) (o : Op) (new : Queues) → Turns w o new → FewMore w.queues new
+few-turns w o new (same e) = few-same w.queues new e
+few-turns w o new (more f x c e) = subst (FewMore w.queues) (sym e) (few-last (mark_of w f) f w.queues)
+few-turns w o new (less m f rest x e) = subst (FewMore w.queues) (sym e) (few-first m w.queues)
+few-turns w o new (shuts m e) = subst (FewMore w.queues) (sym e) (few-shut m w.queues)
+
+few-go : (s : Machine) (p : ℕ) (h : Hint) (x : Option Op) →
+    FewMore s.world.queues (gone_on p s.world (stack s p) x (λ o. act p h o s.world)).world.queues
+few-go s p h None = few-same s.world.queues s.world.queues refl
+few-go s p h (Some o) = subst (FewMore s.world.queues) (sym (settles p (act p h o s.world).world
+    (below_top (stack s p) ++ reverse (act p h o s.world).next) _))
+    (few-turns s.world o (act p h o s.world).world.queues (turns-act p h o s.world))
+
+few-answer : (s : Machine) (p : ℕ) (u : UserEnd) (x : Option Op) →
+    FewMore s.world.queues (gone_on p s.world (stack s p) x (λ o. react p o u s.world)).world.queues
+few-answer s p u None = few-same s.world.queues s.world.queues refl
+few-answer s p u (Some o) = few-same s.world.queues _
+    (settles p (react p o u s.world).world (below_top (stack s p) ++ reverse (react p o u s.world).next) _
+    ∙ reacts p o u s.world)
+
+few-after : (s : Machine) (t : Step) → FewMore s.world.queues (after s t).world.queues
+few-after s (Begin p c) =
+    let w : World = log s.world (event.CallBegun p c) in
+    let d : Done = begun p w (mine (top (stack s p))) c in
+    few-same s.world.queues _ (settles p d.world (stack s p ++ reverse d.next) _ ∙ begins p w (mine (top (stack s p))) c)
+few-after s (Go p h) = few-go s p h (top (stack s p))
+few-after s (step_is.Answer p u) = few-answer s p u (top (stack s p))
+
+few-step : (s : Machine) (t : Step) → FewMore s.world.queues (stepped s (step s t)).world.queues
+few-step s t = go (refusal s t) refl
+  where
+    go : (r : Option StepError) → refusal s t ≡ r → FewMore s.world.queues (stepped s (step s t)).world.queues
+    go None e = subst (λ (x : Result Machine StepError). FewMore s.world.queues (stepped s x).world.queues)
+        (sym (step-made s t e)) (few-after s t)
+    go (Some error) e = subst (λ (x : Result Machine StepError). FewMore s.world.queues (stepped s x).world.queues)
+        (sym (step-refused s t error e)) (few-same s.world.queues s.world.queues refl)
+
+queued-both : (m : Mark) (t : Step) (s : Machine) → queued_by m t s + queued_by (other m) t s ≤ 1
+queued-both Urgent t s = few-step s t
+queued-both Plain t s = omega (arith, few-step s t)
+
+queueings-most : (m : Mark) (ts : List Step) (s : Machine) → queueings m ts s + queueings (other m) ts s ≤ length ts
 queueings-most m [] s = omega arith
-queueings-most m (t ∷ ts) s = omega (
-  arith,
-  queued-most m s (queue_of (stepped s (step s t)).world m) (by-step m s t),
-  queueings-most m ts (stepped s (step s t)),
-)
+queueings-most m (t ∷ ts) s = omega (arith, queued-both m t s, queueings-most m ts (stepped s (step s t)))
 
 -- as a queue that counts
 

@@ -33,6 +33,7 @@ use Rattle.executor_laws.specs.KeptFirst.{taken_up}
 use Rattle.executor_laws.specs.Reach.{takes}
 use Rattle.executor_laws.specs.RunFew.{polls_in}
 use Rattle.executor_laws.specs.RunReach.{first_answer}
+use Rattle.executor_laws.proofs.Reach.LoneMoves.{is_turn}
 use Rattle.executor_laws.proofs.Reach.LoneSteps.{HasEntry}
 use Rattle.executor_laws.proofs.Reach.LoneTicks.{stack-set}
 use Rattle.executor_laws.proofs.Reach.Reached.{heard-here}
@@ -108,6 +109,7 @@ module _ (p : ℕ) (before : Trace) (x : RunPoll) (own : List ℕ) (base : World
     pub meanwhile : Trace
     pub trace : w.trace ≡ before ++ meanwhile
     pub calm : polls_in meanwhile ≡ 0
+    pub unturned : has is_turn meanwhile ≡ false
     pub there : w.gone ≡ false
 
   -- and the party has this to do
@@ -185,6 +187,7 @@ module _ (p : ℕ) (before : Trace) (x : RunPoll) (own : List ℕ) (base : World
               meanwhile = a.so_far.meanwhile;
               trace = a.so_far.trace;
               calm = a.so_far.calm;
+              unturned = a.so_far.unturned;
               there = a.so_far.there;
             };
             todo = stack-set p s d l;
@@ -212,6 +215,7 @@ module _ (p : ℕ) (before : Trace) (x : RunPoll) (own : List ℕ) (base : World
               meanwhile = a.so_far.meanwhile;
               trace = registered-trace st s.world x.run ∙ a.so_far.trace;
               calm = a.so_far.calm;
+              unturned = a.so_far.unturned;
               there = registered-gone st s.world x.run ∙ a.so_far.there;
             };
             todo = stack-set p s d l;
@@ -238,6 +242,7 @@ module _ (p : ℕ) (before : Trace) (x : RunPoll) (own : List ℕ) (base : World
               meanwhile = a.so_far.meanwhile;
               trace = a.so_far.trace;
               calm = a.so_far.calm;
+              unturned = a.so_far.unturned;
               there = a.so_far.there;
             };
             todo = stack-set p s d l;

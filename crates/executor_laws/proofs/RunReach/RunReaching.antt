@@ -289,6 +289,7 @@ module _ (s : Machine) (r : Reached s) (rest : IsAtRest s) (n p : ℕ) (b : By) 
         meanwhile = told;
         trace = trace-is;
         calm = refl;
+        unturned = refl;
         there = here s (good-here s r) (heard-here s r) (deep-here s r) (bonded-here s r) rest;
       }
 

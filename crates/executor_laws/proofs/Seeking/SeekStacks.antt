@@ -1,47 +1,26 @@
 -- For nothing_is_ready_where_none_was_found.
 -- How a call that its party began above other things goes on, one thing of its own after the other, with what it does beside and
 -- what calls inside of it do above, to the step that answers it.
-use Rattle.std.proofs.Common.{◌≡◌, ◌≢◌, ◌⊎◌, ◌∙◌, inl, inr, ⊎_elim, ℕ, ◌<◌, ◌≤◌, List, [], ◌∷◌, ◌++◌, length}
-use Rattle.std.proofs.Common.{Result, Bool, true, false, eqb, ltb, refl, sym, ap, subst, arith, append-nil, append_assoc}
-use Rattle.std.proofs.Common.{length-append}
+use Rattle.std.proofs.Common.{◌≡◌, ◌≢◌, ◌⊎◌, ◌∙◌, inl, inr, ⊎_elim, ℕ, ◌<◌, ◌≤◌, List, [], ◌∷◌, ◌++◌, length, Result, Bool}
+use Rattle.std.proofs.Common.{true, false, eqb, ltb, refl, sym, ap, subst, arith, append-nil, append_assoc, length-append}
 use Rattle.std.proofs.lemmas.Bool.Decides.{nat_tests}
 use Rattle.std.specs.Prelude.{Option, Some, None, reverse}
-use Rattle.executor_model.specs.declared.call.Call.{Call}
-use Rattle.executor_model.specs.declared.call.Reply.{Reply}
-use Rattle.executor_model.specs.declared.call.Reply.TheVariants as reply
-use Rattle.executor_model.specs.declared.event.Event.TheVariants as event
-use Rattle.executor_model.specs.declared.op.Hold.{Hold}
-use Rattle.executor_model.specs.declared.op.Op.{Op}
-use Rattle.executor_model.specs.declared.op.Op.TheVariants as op
-use Rattle.executor_model.specs.declared.step.Hint.{Hint}
-use Rattle.executor_model.specs.declared.step.Step.{Step}
-use Rattle.executor_model.specs.declared.step.Step.TheVariants.{Answer, Begin, Go}
-use Rattle.executor_model.specs.declared.step.StepError.{StepError}
-use Rattle.executor_model.specs.declared.step.UserEnd.{UserEnd}
-use Rattle.executor_model.specs.Doing.{act}
-use Rattle.executor_model.specs.SpawnWants.{Answers}
+use Rattle.executor_laws.proofs.Types.{Call, Reply, Event, Hold, Op, Hint, Step, Begin, Go, StepError, UserEnd}
+use Rattle.executor_model.specs.declared.step.Step.TheVariants.{Answer}
 use Rattle.executor_model.specs.Steps.{Machine, Part, accepts, answer_refusal, begin_refusal, begun, end_of, go_refusal}
 use Rattle.executor_model.specs.Steps.{gone_on, mine, onto, part, part_after, part_refusal, party_of, react, refusal, settled}
 use Rattle.executor_model.specs.Steps.{stack, step, stepped, top, waits, with_part}
-use Rattle.executor_model.specs.Trace.{Trace}
-use Rattle.executor_model.specs.Weights.{weigh}
-use Rattle.executor_model.specs.World.{Done, World, log}
-use Rattle.executor_model.proofs.Copies.Endings.{last-event}
-use Rattle.executor_model.proofs.Quiet.Calls.{is_end}
-use Rattle.executor_model.proofs.SpawnWants.Tops.{Tops, tops}
-use Rattle.executor_model.proofs.Steps.Lists.{weigh-append, weigh-reverse}
-use Rattle.executor_model.proofs.Steps.Reached.{Reached}
-use Rattle.executor_model.proofs.Steps.Stepping.{step-refused}
+use Rattle.executor_model.specs.{Doing.act, SpawnWants.Answers, Trace.Trace, Weights.weigh, World.Done, World.World, World.log}
 use Rattle.executor_laws.specs.PendingPolls.{IsAnswered}
-use Rattle.executor_laws.proofs.Fewness.AnyPoll.{set-other, set-same}
+use Rattle.executor_model.proofs.Steps.Lists.{weigh-append, weigh-reverse}
+use Rattle.executor_model.proofs.{Copies.Endings.last-event, Quiet.Calls.is_end, SpawnWants.Tops.Tops, SpawnWants.Tops.tops}
+use Rattle.executor_model.proofs.{Steps.Reached.Reached, Steps.Stepping.step-refused}
 use Rattle.executor_laws.proofs.Fewness.AnyStacks.{Settles, Stands, below-is, free-waits, settles, unsnoc}
 use Rattle.executor_laws.proofs.Fewness.AnyStacks.Settles.{ends as settles_ends, same as settles_same}
 use Rattle.executor_laws.proofs.Fewness.AnySteps.{beside-act, beside-no-end, beside-react, beside_of}
-use Rattle.executor_laws.proofs.Placement.OwnReady.{reached-on}
-use Rattle.executor_laws.proofs.Promptness.Turns.{next-is}
 use Rattle.executor_laws.proofs.Reach.LoneSteps.{Last, answers, from-end, goes}
-use Rattle.executor_laws.proofs.Reach.LoneTicks.{in-range}
-use Rattle.executor_laws.proofs.RunReach.RunWalks.{not-nil}
+use Rattle.executor_laws.proofs.{Fewness.AnyPoll.set-other, Fewness.AnyPoll.set-same, Placement.OwnReady.reached-on}
+use Rattle.executor_laws.proofs.{Promptness.Turns.next-is, Reach.LoneTicks.in-range, RunReach.RunWalks.not-nil}
 
 -- the party's part of the machine
 abbrev pub own_part : ℕ → Machine → Part
@@ -74,7 +53,7 @@ module _ (p : ℕ) (old : List Op) (I : Type 0) (C : I → Op → Type 0) where
   -- it goes on, or has ended by its own end
   pub data Lands (i : I) (x : Part) : Type 0 where
     on : Stays i x.todo → Lands i x
-    over : (a : Reply) (held : Hold) (v : World) → C i (op.End a held) → x.world ≡ log v (event.CallEnded p a) →
+    over : (a : Reply) (held : Hold) (v : World) → C i (Op.End a held) → x.world ≡ log v (Event.CallEnded p a) →
         length x.todo ≤ length old → Lands i x
 
   stays-long : (i : I) (os : List Op) → Stays i os → length old < length os
@@ -94,29 +73,29 @@ module _ (p : ℕ) (old : List Op) (I : Type 0) (C : I → Op → Type 0) where
           (on (record { control = c; side = side; above = above; is = refl; kind = k; light = z; stands = st }))
       by (settles_ends a held below j e) = subst (Lands i) (sym e) (go (from-end above))
         where
-          own-end : old ++ c ∷ side ≡ below ++ op.End a held ∷ [] → Lands i (part (log w (event.CallEnded p a)) below)
+          own-end : old ++ c ∷ side ≡ below ++ Op.End a held ∷ [] → Lands i (part (log w (Event.CallEnded p a)) below)
           own-end q = end_by (from-end side)
             where
-              end_by : (side ≡ []) ⊎ Last side → Lands i (part (log w (event.CallEnded p a)) below)
+              end_by : (side ≡ []) ⊎ Last side → Lands i (part (log w (Event.CallEnded p a)) below)
               end_by (inl y) =
-                  let u : _ = unsnoc old below c (op.End a held)
+                  let u : _ = unsnoc old below c (Op.End a held)
                   (sym (ap (λ (os : List Op). old ++ c ∷ os) y) ∙ q) in
                   over a held w (subst (C i) u.1 k) refl (omega (arith, ap (λ (os : List Op). length os) u.0))
               end_by (inr v) =
-                  let u : v.last ≡ op.End a held = (unsnoc (old ++ c ∷ v.below) below v.last (op.End a held)
+                  let u : v.last ≡ Op.End a held = (unsnoc (old ++ c ∷ v.below) below v.last (Op.End a held)
                   (append_assoc old (c ∷ v.below) (v.last ∷ [])
                   ∙ (sym (ap (λ (os : List Op). old ++ c ∷ os) v.is) ∙ q))).1 in
                   let y : beside_of v.last ≡ 0 =
                   omega (arith, z, ap (weigh beside_of) v.is, weigh-append beside_of v.below (v.last ∷ [])) in
                   let no : true ≡ false = sym (ap is_end u) ∙ beside-no-end v.last y in absurd (cc)
 
-          go : (above ≡ []) ⊎ Last above → Lands i (part (log w (event.CallEnded p a)) below)
+          go : (above ≡ []) ⊎ Last above → Lands i (part (log w (Event.CallEnded p a)) below)
           go (inl x) = own-end (sym (ap (λ (os : List Op). (old ++ c ∷ side) ++ os) x ∙ append-nil (old ++ c ∷ side)) ∙ j)
           go (inr x) = on (record {
             control = c;
             side = side;
             above = x.below;
-            is = sym (unsnoc ((old ++ c ∷ side) ++ x.below) below x.last (op.End a held)
+            is = sym (unsnoc ((old ++ c ∷ side) ++ x.below) below x.last (Op.End a held)
                 (append_assoc (old ++ c ∷ side) x.below (x.last ∷ [])
                 ∙ (sym (ap (λ (os : List Op). (old ++ c ∷ side) ++ os) x.is) ∙ j))).0;
             kind = k;
@@ -197,7 +176,7 @@ module _ (p : ℕ) (old : List Op) (I : Type 0) (C : I → Op → Type 0) where
     moves-begin c e = apart (subst (λ (xs : List Op). Lands i (onto p begins xs)) (sym h.is) (inner begins h.above stands_in))
       where
         begins : Done
-        begins = begun p (log w (event.CallBegun p c)) (mine (top os)) c
+        begins = begun p (log w (Event.CallBegun p c)) (mine (top os)) c
 
         in-user : (o : Op) → top os ≡ Some o → waits o ≡ true
         in-user o t = free-waits (waits o) _ (sym (ap (λ (x : Option Op). begin_refusal w ss x c) t) ∙ e)
@@ -289,7 +268,7 @@ module _ (p : ℕ) (old : List Op) (I : Type 0) (C : I → Op → Type 0) where
           waits c ≡ false → is_end c ≡ false → C i c → Next i s (Go p h) (act p h c s.world)
       pub reacts : (i : I) (s : Machine) (u : UserEnd) (c : Op) → accepts c u ≡ true → C i c →
           Next i s (Answer p u) (react p c u s.world)
-      pub ends : (i : I) (a : Reply) (held : Hold) → C i (op.End a held) → a ≢ reply.Pending
+      pub ends : (i : I) (a : Reply) (held : Hold) → C i (Op.End a held) → a ≢ Reply.Pending
 
     data Went (i : I) (s : Machine) (t : Step) : Type 0 where
       had_so : ((ts : List Step) → Q i (t ∷ ts) s) → Went i s t
@@ -310,7 +289,7 @@ module _ (p : ℕ) (old : List Op) (I : Type 0) (C : I → Op → Type 0) where
       unended c e = by c (ap end_of (sym e) ∙ here.none p)
         where
           by : (x : Op) → end_of (Some x) ≡ None → is_end x ≡ false
-          by (op.End a held) z = absurd (cc)
+          by (Op.End a held) z = absurd (cc)
           by _ z = refl
 
       by-next : (d : Done) → own_part p (stepped s (step s t)) ≡ onto p d old → Next i s t d → Went i s t
@@ -354,34 +333,34 @@ module _ (p : ℕ) (old : List Op) (I : Type 0) (C : I → Op → Type 0) where
     tops-here s y = subst Tops (sym y.is) (tops y.limit y.kind y.parties y.steps)
 
     -- the answer is its own
-    said-so : (es told : Trace) (m : Machine) (v : World) (a b : Reply) → m.world ≡ log v (event.CallEnded p a) →
-        m.world.trace ≡ es ++ (told ++ event.CallEnded p b ∷ []) → a ≡ b
+    said-so : (es told : Trace) (m : Machine) (v : World) (a b : Reply) → m.world ≡ log v (Event.CallEnded p a) →
+        m.world.trace ≡ es ++ (told ++ Event.CallEnded p b ∷ []) → a ≡ b
     said-so es told m v a b i j =
-        let k : event.CallEnded p a ≡ event.CallEnded p b = last-event v.trace (es ++ told) _ _
-        (sym (ap (λ (w : World). w.trace) i) ∙ (j ∙ sym (append_assoc es told (event.CallEnded p b ∷ [])))) in cc
+        let k : Event.CallEnded p a ≡ Event.CallEnded p b = last-event v.trace (es ++ told) _ _
+        (sym (ap (λ (w : World). w.trace) i) ∙ (j ∙ sym (append_assoc es told (Event.CallEnded p b ∷ [])))) in cc
 
     pub seek : Follows → (ts : List Step) (s : Machine) → Reached s → (i : I) → Stays i (stack s p) →
-        IsAnswered reply.Pending p old ts s → Q i ts s
+        IsAnswered Reply.Pending p old ts s → Q i ts s
     seek f [] s y i h a = absurd a
     seek f (t ∷ ts) s y i h a = by (λ j x z. seek f ts (stepped s (step s t)) (reached-on s (t ∷ []) y) j x z)
         (one f s (tops-here s y) i h t) a
       where
-        by : ((j : I) → Stays j (stack (stepped s (step s t)) p) → IsAnswered reply.Pending p old ts (stepped s (step s t)) →
-            Q j ts (stepped s (step s t))) → Went i s t → IsAnswered reply.Pending p old (t ∷ ts) s → Q i (t ∷ ts) s
+        by : ((j : I) → Stays j (stack (stepped s (step s t)) p) → IsAnswered Reply.Pending p old ts (stepped s (step s t)) →
+            Q j ts (stepped s (step s t))) → Went i s t → IsAnswered Reply.Pending p old (t ∷ ts) s → Q i (t ∷ ts) s
         by again (had_so k) z = k ts
         by again (went j (on x) k) z = ⊎_elim
-            (λ (b : Answers s t p reply.Pending × (stack (stepped s (step s t)) p ≡ old)).
+            (λ (b : Answers s t p Reply.Pending × (stack (stepped s (step s t)) p ≡ old)).
             absurd (omega (arith, stays-long j (stack (stepped s (step s t)) p) x, ap (λ (xs : List Op). length xs) b.1)))
-            (λ (b : IsAnswered reply.Pending p old ts (stepped s (step s t))). k ts (again j x b)) z.1
+            (λ (b : IsAnswered Reply.Pending p old ts (stepped s (step s t))). k ts (again j x b)) z.1
         by again (went j (over r held v c w l) k) z = ⊎_elim
-            (λ (b : Answers s t p reply.Pending × (stack (stepped s (step s t)) p ≡ old)).
-            absurd (f.ends j r held c (said-so s.world.trace b.0.0 (stepped s (step s t)) v r reply.Pending w b.0.1)))
-            (λ (b : IsAnswered reply.Pending p old ts (stepped s (step s t))).
-            absurd (omega (arith, answered-long reply.Pending p old ts (stepped s (step s t)) b, l))) z.1
+            (λ (b : Answers s t p Reply.Pending × (stack (stepped s (step s t)) p ≡ old)).
+            absurd (f.ends j r held c (said-so s.world.trace b.0.0 (stepped s (step s t)) v r Reply.Pending w b.0.1)))
+            (λ (b : IsAnswered Reply.Pending p old ts (stepped s (step s t))).
+            absurd (omega (arith, answered-long Reply.Pending p old ts (stepped s (step s t)) b, l))) z.1
 
 -- the call begins
 pub begins-so : (p : ℕ) (I : Type 0) (C : I → Op → Type 0) (i : I) (s : Machine) (c : Call) → refusal s (Begin p c) ≡ None →
-    Comes p (stack s p) I C i (begun p (log s.world (event.CallBegun p c)) (mine (top (stack s p))) c) →
+    Comes p (stack s p) I C i (begun p (log s.world (Event.CallBegun p c)) (mine (top (stack s p))) c) →
     Lands p (stack s p) I C i (own_part p (stepped s (step s (Begin p c))))
 begins-so p I C i s c e x =
     let b : ltb p (length s.parties) ≡ true =

@@ -1,38 +1,20 @@
 -- For calls_end and lone_calls_end.
 -- What one party does makes no own queue of another's run longer, and no walk longer than its number says.
-use Rattle.std.proofs.Common.{◌≡◌, ◌≢◌, ℕ, suc, ◌+◌, ◌≤◌, ◌%◌, List, [], ◌∷◌, length, Bool, true, false, ◌++◌}
-use Rattle.std.proofs.Common.{eqb, refl, ap, sym, ◌∙◌, ⊎_elim, arith}
-use Rattle.std.proofs.lemmas.List.{length_push}
-use Rattle.task_moves.specs.declared.moves.owed.Move.TheVariants as move
-use Rattle.executor_model.specs.declared.event.Answer.TheVariants as answer
-use Rattle.executor_model.specs.declared.op.ListOp.{ListOp}
-use Rattle.executor_model.specs.declared.op.ListOp.TheVariants as list_op
-use Rattle.executor_model.specs.declared.op.Op.{Op}
-use Rattle.executor_model.specs.declared.op.Op.TheVariants as op
-use Rattle.executor_model.specs.declared.op.RunOp.TheVariants as run_op
-use Rattle.executor_model.specs.declared.op.RunPoll.{RunPoll}
-use Rattle.executor_model.specs.declared.op.Section.TheVariants as section
-use Rattle.executor_model.specs.declared.op.Steal.{Steal}
-use Rattle.executor_model.specs.declared.op.UserOp.TheVariants as user_op
-use Rattle.executor_model.specs.declared.op.Waker.{Waker}
-use Rattle.executor_model.specs.declared.op.Waker.TheVariants.{Task, Outside}
-use Rattle.executor_model.specs.declared.step.Hint.{Hint}
-use Rattle.executor_model.specs.declared.step.UserEnd.{UserEnd}
-use Rattle.executor_model.specs.declared.step.UserEnd.TheVariants as end
-use Rattle.executor_model.specs.ActsOfRuns as runs
-use Rattle.executor_model.specs.Doing.{act, list_act}
-use Rattle.executor_model.specs.Rows.{running_of}
-use Rattle.executor_model.specs.Steps.{accepts, react}
+use Rattle.std.proofs.Common.{◌≡◌, ◌≢◌, ℕ, suc, ◌+◌, ◌≤◌, ◌%◌, List, [], ◌∷◌, length, Bool, true, false, ◌++◌, eqb, refl, ap}
+use Rattle.std.{proofs.Common.sym, proofs.Common.◌∙◌, proofs.Common.⊎_elim, proofs.Common.arith, proofs.lemmas.List.length_push}
+use Rattle.executor_laws.proofs.Types.{Hint, UserEnd, Move, Answer, ListOp, Op, RunOp, RunPoll, Section, Steal, UserOp, Waker}
+use Rattle.executor_laws.proofs.Types.{Task, Outside}
 use Rattle.executor_model.specs.Weights.{same, weigh, weigh_all}
 use Rattle.executor_model.specs.World.{World, Stage, New, Listed, Ended, Done, own_of, put_own, without}
-use Rattle.executor_model.proofs.Steps.Lift.{no_hint}
-use Rattle.executor_model.proofs.Steps.Lists.{same_is, same_cases}
+use Rattle.executor_model.specs.{Doing.act, Doing.list_act, Rows.running_of, Steps.accepts, Steps.react}
+use Rattle.executor_laws.specs.Costs.{left_by, registers_of}
+use Rattle.executor_model.proofs.OwnQueues.RunsDone.{Deed, keeps, takes, lacks, shares, grows, wakes, lists, deed-act, is_loud}
+use Rattle.executor_model.proofs.OwnQueues.RunsDone.{loud, loud-weigh, walks-by, Stole, to_walk, More, no_more, one_more, Walks}
+use Rattle.executor_model.proofs.OwnQueues.RunsDone.{walk_ends, walk_on, Missing, misses_there, Leads, finds, stole, looks}
 use Rattle.executor_model.proofs.OwnQueues.OwnRooms.{Shorter, grown, made-length, of_coat, same-own, shorter-taken}
 use Rattle.executor_model.proofs.OwnQueues.RunsAside.{Hull, apart-act, coat, hull, hull_of, runs_of}
-use Rattle.executor_model.proofs.OwnQueues.RunsDone.{Deed, keeps, takes, lacks, shares, grows, wakes, lists, deed-act, is_loud, loud}
-use Rattle.executor_model.proofs.OwnQueues.RunsDone.{loud-weigh, walks-by, Stole, to_walk, More, no_more, one_more, Walks, walk_ends}
-use Rattle.executor_model.proofs.OwnQueues.RunsDone.{walk_on, Missing, misses_there, Leads, finds, stole, looks}
-use Rattle.executor_laws.specs.Costs.{left_by, registers_of}
+use Rattle.executor_model.proofs.{Steps.Lift.no_hint, Steps.Lists.same_is, Steps.Lists.same_cases}
+use Rattle.executor_model.specs.ActsOfRuns as runs
 
 pub record Beside (w : World) (o : Op) (d : Done) : Type 0 where
   pub own : (r : ℕ) → running_of r o ≡ 0 → length (own_of d.world r) ≤ length (own_of w r)
@@ -51,7 +33,7 @@ listed-of : (w v : World) → hull w ≡ hull v → v.listed ≡ w.listed
 listed-of w v e = ap (λ (h : Hull). h.listed) (sym e)
 
 quiet-registers : (o : Op) → is_loud o ≡ false → registers_of o ≡ 0
-quiet-registers (op.List o) z = absurd (cc)
+quiet-registers (Op.List o) z = absurd (cc)
 quiet-registers _ z = refl
 
 -- what follows brings no own queue into the list
@@ -94,19 +76,19 @@ other r q z = ⊎_elim (λ (x : (same r q ≡ 1) × (eqb r q ≡ true) × (r ≡
 pub by_reference : (p : ℕ) (w : World) (a : Waker) → (hull w ≡ hull (runs.call_by_reference p w a).world)
     × (weigh runs_of (runs.call_by_reference p w a).next ≡ 0)
 by_reference p w (Outside y) = (refl, refl)
-by_reference p w (Task g) = let x = apart-act p no_hint (op.Move move.WakeByReference g) w refl in (x.hull, x.runs)
+by_reference p w (Task g) = let x = apart-act p no_hint (Op.Move Move.WakeByReference g) w refl in (x.hull, x.runs)
 
 -- the list
 
-beside-made : (b : Bool) (w : World) → Beside w (op.List (list_op.Write section.MakeRun)) (runs.make_run_by b w)
+beside-made : (b : Bool) (w : World) → Beside w (Op.List (ListOp.Write Section.MakeRun)) (runs.make_run_by b w)
 beside-made true w = aside w _ _ (same-own w w refl) refl refl
 beside-made false w = record { own = λ r z. omega (arith, made-length w.own r); queues = omega arith }
 
 beside-register : (t : Stage) (w : World) (x : RunPoll) →
-    Beside w (op.List (list_op.Write (section.Register x)))
+    Beside w (Op.List (ListOp.Write (Section.Register x)))
     (record {
       world = runs.registered t w x.run;
-      next = op.List list_op.UnlockWrite ∷ op.User (user_op.PollOwn x) ∷ [];
+      next = Op.List ListOp.UnlockWrite ∷ Op.User (UserOp.PollOwn x) ∷ [];
     })
 beside-register New w x = record { own = λ r z. omega arith; queues = omega (arith, length_push w.listed x.run) }
 beside-register Listed w x = record { own = λ r z. omega arith; queues = omega arith }
@@ -121,13 +103,13 @@ without-less r (x ∷ xs) = by (eqb r x) (without-less r xs)
     by true z = omega arith
     by false z = omega (arith, z)
 
-beside-list : (h : Hint) (o : ListOp) (w : World) → Beside w (op.List o) (list_act h o w)
-beside-list h (list_op.LockWrite (section.Register x)) w = record { own = λ r z. omega arith; queues = omega arith }
-beside-list h (list_op.Write section.MakeRun) w = beside-made _ w
-beside-list h (list_op.Write (section.Register x)) w = beside-register _ w x
-beside-list h (list_op.Write (section.Unregister r a)) w =
+beside-list : (h : Hint) (o : ListOp) (w : World) → Beside w (Op.List o) (list_act h o w)
+beside-list h (ListOp.LockWrite (Section.Register x)) w = record { own = λ r z. omega arith; queues = omega arith }
+beside-list h (ListOp.Write Section.MakeRun) w = beside-made _ w
+beside-list h (ListOp.Write (Section.Register x)) w = beside-register _ w x
+beside-list h (ListOp.Write (Section.Unregister r a)) w =
     record { own = λ q z. omega arith; queues = omega (arith, without-less r w.listed) }
-beside-list h (list_op.LockRead x) w =
+beside-list h (ListOp.LockRead x) w =
     aside-loud w _ (runs.lock_read h w x) (same-own w _ refl) refl
     (walks-registers x _ (walks-by x w.listed (h.start % length w.listed) (length w.listed)))
 beside-list h _ w = aside w _ _ (same-own w _ refl) refl refl
@@ -146,11 +128,7 @@ beside-deed w o d (shares s i k b e m) =
     aside-loud w o d (of_coat w d.world e) (listed-coat w d.world e) (more-registers s k _ m)
 beside-deed w o d (grows s k f e m) =
     let v = put_own w s.poll.run (own_of w s.poll.run ++ f ∷ []) in record {
-      own = λ r z. omega (
-        arith,
-        grown w.own s.poll.run f r (other r s.poll.run z),
-        (of_coat v d.world e).own r,
-      );
+      own = λ r z. omega (arith, grown w.own s.poll.run f r (other r s.poll.run z), (of_coat v d.world e).own r);
       queues = omega (
         arith,
         loud-weigh registers_of quiet-registers d.next,
@@ -166,14 +144,14 @@ pub beside-act : (p : ℕ) (h : Hint) (o : Op) (w : World) → Beside w o (act p
 beside-act p h o w = beside-deed w o (act p h o w) (deed-act p h o w)
 
 pub beside-react : (p : ℕ) (o : Op) (u : UserEnd) (w : World) → accepts o u ≡ true → Beside w o (react p o u w)
-beside-react p (op.User (user_op.Poll f)) (end.Polled answer.Pending) w a = aside w _ _ (same-own w _ refl) refl refl
-beside-react p (op.User (user_op.Poll f)) (end.Polled answer.Ready) w a = aside w _ _ (same-own w _ refl) refl refl
-beside-react p (op.User (user_op.Drop f)) end.Done w a = aside w _ _ (same-own w _ refl) refl refl
-beside-react p (op.User (user_op.DropOutput f)) end.Done w a = aside w _ _ (same-own w _ refl) refl refl
-beside-react p (op.User (user_op.CallOutside x)) end.Done w a = aside w _ _ (same-own w _ refl) refl refl
-beside-react p (op.User (user_op.PollOwn x)) (end.Polled answer.Pending) w a = aside w _ _ (same-own w _ refl) refl refl
-beside-react p (op.User (user_op.PollOwn x)) (end.Polled answer.Ready) w a = aside w _ _ (same-own w _ refl) refl refl
-beside-react p (op.User (user_op.DropOwn q)) end.Done w a = aside w _ _ (same-own w _ refl) refl refl
+beside-react p (Op.User (UserOp.Poll f)) (UserEnd.Polled Answer.Pending) w a = aside w _ _ (same-own w _ refl) refl refl
+beside-react p (Op.User (UserOp.Poll f)) (UserEnd.Polled Answer.Ready) w a = aside w _ _ (same-own w _ refl) refl refl
+beside-react p (Op.User (UserOp.Drop f)) UserEnd.Done w a = aside w _ _ (same-own w _ refl) refl refl
+beside-react p (Op.User (UserOp.DropOutput f)) UserEnd.Done w a = aside w _ _ (same-own w _ refl) refl refl
+beside-react p (Op.User (UserOp.CallOutside x)) UserEnd.Done w a = aside w _ _ (same-own w _ refl) refl refl
+beside-react p (Op.User (UserOp.PollOwn x)) (UserEnd.Polled Answer.Pending) w a = aside w _ _ (same-own w _ refl) refl refl
+beside-react p (Op.User (UserOp.PollOwn x)) (UserEnd.Polled Answer.Ready) w a = aside w _ _ (same-own w _ refl) refl refl
+beside-react p (Op.User (UserOp.DropOwn q)) UserEnd.Done w a = aside w _ _ (same-own w _ refl) refl refl
 beside-react p _ _ w a = absurd (cc)
 
 -- so what others have still to schedule is no more
@@ -185,25 +163,17 @@ module _ (w v : World) where
 
   left-op : (o : Op) → ((r : ℕ) → 1 ≤ running_of r o → length (own_of v r) ≤ length (own_of w r)) →
       left_by v o ≤ left_by w o
-  left-op (op.Run (run_op.Reschedule r a)) k = k r (let e : same r r ≡ 1 = grind (arith, same_is) in omega (arith, e))
+  left-op (Op.Run (RunOp.Reschedule r a)) k = k r (let e : same r r ≡ 1 = grind (arith, same_is) in omega (arith, e))
   left-op _ k = omega arith
 
   left-ops : (os : List Op) → ((r : ℕ) → 1 ≤ weigh (running_of r) os → length (own_of v r) ≤ length (own_of w r)) →
       weigh (left_by v) os ≤ weigh (left_by w) os
   left-ops [] k = omega arith
-  left-ops (o ∷ os) k = omega (
-    arith,
-    left-op o (λ r l. k r (omega (arith, l))),
-    left-ops os (λ r l. k r (omega (arith, l))),
-  )
+  left-ops (o ∷ os) k = omega (arith, left-op o (λ r l. k r (omega (arith, l))), left-ops os (λ r l. k r (omega (arith, l))))
 
   pub left-all : (ss : List (List Op)) → Kept ss → weigh_all (left_by v) ss ≤ weigh_all (left_by w) ss
   left-all [] k = omega arith
-  left-all (s ∷ ss) k = omega (
-    arith,
-    left-ops s (λ r l. k r (omega (arith, l))),
-    left-all ss (λ r l. k r (omega (arith, l))),
-  )
+  left-all (s ∷ ss) k = omega (arith, left-ops s (λ r l. k r (omega (arith, l))), left-all ss (λ r l. k r (omega (arith, l))))
 
 -- beside a party whose run is used by no other
 pub left-others : (w : World) (o : Op) (d : Done) (others : List (List Op)) → Beside w o d →

@@ -1,83 +1,62 @@
 -- For calls_end and lone_calls_end.
 -- Calls end: each step that begins none lowers the steps that remain, and a party that has something to do can go on.
-use Rattle.std.proofs.Common.{◌≡◌, ℕ, ◌+◌, ◌*◌, ◌<◌, ◌≤◌, List, [], ◌∷◌, ◌++◌, length, set, Bool, true, false}
-use Rattle.std.proofs.Common.{◌&&◌, ◌||◌}
+use Rattle.std.proofs.Common.{◌≡◌, ℕ, ◌+◌, ◌*◌, ◌<◌, ◌≤◌, List, [], ◌∷◌, ◌++◌, length, set, Bool, true, false, ◌&&◌, ◌||◌}
 use Rattle.std.proofs.Common.{get_or, not, ltb, refl, ap, ⊎_elim, arith, Ok, Err, Result}
-use Rattle.std.proofs.Math.Nat.{add-mul}
-use Rattle.std.proofs.lemmas.Bool.Decides.{nat_tests}
-use Rattle.std.proofs.lemmas.Nat.{mul-le}
 use Rattle.std.specs.Prelude.{Option, Some, None, reverse}
-use Rattle.executor_model.specs.declared.event.Answer.TheVariants as answer
-use Rattle.executor_model.specs.declared.event.Event.TheVariants as event
-use Rattle.executor_model.specs.declared.kind.Kind.{Kind}
-use Rattle.executor_model.specs.declared.op.Op.{Op}
-use Rattle.executor_model.specs.declared.op.Op.TheVariants as op
-use Rattle.executor_model.specs.declared.op.UserOp.TheVariants as user_op
-use Rattle.task_moves.specs.declared.moves.owed.Move.TheVariants as move
+use Rattle.std.{proofs.Math.Nat.add-mul, proofs.lemmas.Bool.Decides.nat_tests, proofs.lemmas.Nat.mul-le}
 use Rattle.task_moves.specs.Moves.{is_over}
-use Rattle.executor_model.specs.declared.step.Hint.{Hint}
-use Rattle.executor_model.specs.declared.step.Step.{Step}
-use Rattle.executor_model.specs.declared.step.Step.TheVariants.{Begin, Go, Answer}
-use Rattle.executor_model.specs.declared.step.StepError.{StepError}
-use Rattle.executor_model.specs.declared.step.StepError.TheVariants.{NoSuch, WrongAnswer}
-use Rattle.executor_model.specs.declared.step.UserEnd.{UserEnd}
-use Rattle.executor_model.specs.declared.step.UserEnd.TheVariants as end
-use Rattle.executor_model.specs.World.{World, Done, task}
-use Rattle.executor_model.specs.Doing.{act}
-use Rattle.executor_model.specs.Weights.{weigh, weigh_all}
+use Rattle.executor_laws.proofs.Types.{UserEnd, Event, Kind, Op, UserOp, Move, Hint, Step, Begin, Go, StepError, NoSuch}
+use Rattle.executor_model.specs.declared.step.Step.TheVariants.{Answer}
+use Rattle.executor_model.specs.Steps.{Machine, stack, top, below_top, waits, go_refusal, answer_refusal, accepts, unless}
+use Rattle.executor_model.specs.Steps.{refusal, react, end_of, settled_by, gone_on, with_part, after, step_by, step, run, start}
 use Rattle.executor_model.specs.Rows.{closing_of, running_of, settling_of}
-use Rattle.executor_model.specs.Good.{Good, Needs}
-use Rattle.executor_model.specs.OwnQueues.{IsUsedOnce}
-use Rattle.executor_model.specs.Executions.{run_all}
-use Rattle.executor_model.specs.Steps.{Machine, stack, top, below_top, waits, go_refusal, answer_refusal}
-use Rattle.executor_model.specs.Steps.{accepts, unless, refusal, react, end_of, settled_by, gone_on}
-use Rattle.executor_model.specs.Steps.{with_part, after, step_by, step, run, start}
-use Rattle.executor_model.proofs.Steps.Lists.{same_is, weigh_all-push, weigh_all-set, weigh-append}
-use Rattle.executor_model.proofs.Steps.Needing.{needs}
-use Rattle.executor_model.proofs.Steps.Lift.{split, topped}
-use Rattle.executor_model.proofs.OwnQueues.RunsAside.{apart-act, is_run, unseen}
-use Rattle.executor_model.proofs.Steps.Reached.{Reached, good-here, reached-step}
-use Rattle.executor_laws.specs.Costs.{left_by, registers_of, steps_of, walk_of}
+use Rattle.executor_model.specs.{World.World, World.Done, World.task, Doing.act, Weights.weigh, Weights.weigh_all, Good.Good}
+use Rattle.executor_model.specs.{Good.Needs, OwnQueues.IsUsedOnce, Executions.run_all}
 use Rattle.executor_laws.specs.Remaining.{steps_kept, remaining, is_onward, are_onward, LowersRemaining, EachStepLowers}
 use Rattle.executor_laws.specs.Remaining.{EndsWithin, EachListEnds, queues_of, steps_left}
+use Rattle.executor_laws.specs.Costs.{left_by, registers_of, steps_of, walk_of}
+use Rattle.executor_model.proofs.Steps.Lists.{same_is, weigh_all-push, weigh_all-set, weigh-append}
+use Rattle.executor_model.proofs.OwnQueues.RunsAside.{apart-act, is_run, unseen}
+use Rattle.executor_model.proofs.Steps.Reached.{Reached, good-here, reached-step}
+use Rattle.executor_model.proofs.{Steps.Needing.needs, Steps.Lift.split, Steps.Lift.topped}
 use Rattle.executor_laws.proofs.Termination.Beside.{Beside, beside-act, beside-react, left-all, left-others}
-use Rattle.executor_laws.proofs.Termination.Spending.{kept-log}
 use Rattle.executor_laws.proofs.Termination.SpendingGroups.{Settles, spends-act, spends-react}
 use Rattle.executor_laws.proofs.Termination.SpendingRuns.{CanPay, Pays, pays-list, pays-run, pays-steal, unleft, unwalked}
 use Rattle.executor_laws.proofs.Termination.Reached.{can-pay, used-here}
 use Rattle.executor_laws.proofs.Termination.SpendingRuns.Pays.{spends, walks}
-use Rattle.executor_laws.proofs.Termination.PayingTicks.{pays-tick}
+use Rattle.executor_laws.proofs.{Types.WrongAnswer, Termination.Spending.kept-log, Termination.PayingTicks.pays-tick}
+use Rattle.executor_model.specs.declared.event.Answer.TheVariants as answer
 
 -- the end of a call takes no more
 
 fewer-settled : (v : Op → ℕ) (s : Machine) (p : ℕ) (w : World) (os : List Op) (o : Option Op) → p < length s.parties →
     top os ≡ o → weigh_all v (with_part s p (settled_by (end_of o) p w os)).parties ≤ weigh_all v (set s.parties p os)
 fewer-settled v s p w os None l e = omega arith
-fewer-settled v s p w os (Some (op.End a held)) l e = omega (
+fewer-settled v s p w os (Some (Op.End a held)) l e = omega (
   arith,
   weigh_all-set v s.parties p os l,
   weigh_all-set v s.parties p (below_top os) l,
-  ap (weigh v) (topped os (op.End a held) e),
-  weigh-append v (below_top os) (op.End a held ∷ []),
+  ap (weigh v) (topped os (Op.End a held) e),
+  weigh-append v (below_top os) (Op.End a held ∷ []),
 )
 fewer-settled v s p w os (Some _) l e = omega arith
 
 kept-settled : (p : ℕ) (w : World) (os : List Op) (o : Option Op) →
     steps_kept (settled_by (end_of o) p w os).world ≡ steps_kept w
 kept-settled p w os None = refl
-kept-settled p w os (Some (op.End a held)) = kept-log w (event.CallEnded p a)
+kept-settled p w os (Some (Op.End a held)) = kept-log w (Event.CallEnded p a)
 kept-settled p w os (Some _) = refl
 
 own-settled : (p : ℕ) (w : World) (os : List Op) (o : Option Op) →
     (settled_by (end_of o) p w os).world.own ≡ w.own
 own-settled p w os None = refl
-own-settled p w os (Some (op.End a held)) = refl
+own-settled p w os (Some (Op.End a held)) = refl
 own-settled p w os (Some _) = refl
 
 listed-settled : (p : ℕ) (w : World) (os : List Op) (o : Option Op) →
     (settled_by (end_of o) p w os).world.listed ≡ w.listed
 listed-settled p w os None = refl
-listed-settled p w os (Some (op.End a held)) = refl
+listed-settled p w os (Some (Op.End a held)) = refl
 listed-settled p w os (Some _) = refl
 
 -- a number that is a product and a rest gets lower
@@ -130,10 +109,7 @@ module _ (s : Machine) (p : ℕ) (o : Op) (d : Done) (l : p < length s.parties) 
   fewer-left = omega (
     arith,
     left-all d.world now.world now.parties
-        (λ r n. omega (
-          arith,
-          ap (λ (qs : List (List ℕ)). length (get_or qs r [])) (own-settled p d.world os (top os)),
-        )),
+        (λ r n. omega (arith, ap (λ (qs : List (List ℕ)). length (get_or qs r [])) (own-settled p d.world os (top os)))),
     behind (left_by d.world),
     left-others s.world o d others b (λ r. omega (arith, once r, before (running_of r))),
   )
@@ -200,10 +176,10 @@ settled-over s p f o l e good k =
     over-closed false x e = e
 
 settles : (s : Machine) (p : ℕ) (o : Op) → p < length s.parties → top (stack s p) ≡ Some o → Good s → Settles s.world o
-settles s p (op.Move move.SettleClosed f) l e good =
-    settled-over s p f (op.Move move.SettleClosed f) l e good (grind (arith, same_is))
-settles s p (op.Move move.EndClosed f) l e good =
-    settled-over s p f (op.Move move.EndClosed f) l e good (grind (arith, same_is))
+settles s p (Op.Move Move.SettleClosed f) l e good =
+    settled-over s p f (Op.Move Move.SettleClosed f) l e good (grind (arith, same_is))
+settles s p (Op.Move Move.EndClosed f) l e good =
+    settled-over s p f (Op.Move Move.EndClosed f) l e good (grind (arith, same_is))
 settles s p _ l e good = tt
 
 -- what speaks of no run pays a step, and begins no walk
@@ -218,24 +194,24 @@ pays-apart p h o w r n l k =
 pays-by : (p : ℕ) (h : Hint) (o : Op) (w : World) (b : Bool) → is_run o ≡ b → waits o ≡ false → Needs w o →
     Settles w o → CanPay w o → Pays w o (act p h o w)
 pays-by p h o w false r n l k c = pays-apart p h o w r n l k
-pays-by p h (op.Tick o) w true r n l k c = pays-tick p h o w l c
-pays-by p h (op.List o) w true r n l k c = pays-list h o w c
-pays-by p h (op.Steal o) w true r n l k c = pays-steal p o w c
-pays-by p h (op.Run o) w true r n l k c = pays-run p h o w l c
-pays-by p h (op.User (user_op.PollOwn x)) w true r n l k c = absurd (cc)
+pays-by p h (Op.Tick o) w true r n l k c = pays-tick p h o w l c
+pays-by p h (Op.List o) w true r n l k c = pays-list h o w c
+pays-by p h (Op.Steal o) w true r n l k c = pays-steal p o w c
+pays-by p h (Op.Run o) w true r n l k c = pays-run p h o w l c
+pays-by p h (Op.User (UserOp.PollOwn x)) w true r n l k c = absurd (cc)
 pays-by p h _ w true r n l k c = absurd (cc)
 
 pays-react : (p : ℕ) (o : Op) (u : UserEnd) (w : World) → accepts o u ≡ true → Pays w o (react p o u w)
-pays-react p (op.User (user_op.Poll f)) (end.Polled answer.Pending) w a =
-    spends (omega (arith, spends-react p (op.User (user_op.Poll f)) (end.Polled answer.Pending) w a)) (omega arith)
-pays-react p (op.User (user_op.Poll f)) (end.Polled answer.Ready) w a =
-    spends (omega (arith, spends-react p (op.User (user_op.Poll f)) (end.Polled answer.Ready) w a)) (omega arith)
-pays-react p (op.User (user_op.Drop f)) end.Done w a = spends (omega arith) (omega arith)
-pays-react p (op.User (user_op.DropOutput f)) end.Done w a = spends (omega arith) (omega arith)
-pays-react p (op.User (user_op.CallOutside x)) end.Done w a = spends (omega arith) (omega arith)
-pays-react p (op.User (user_op.PollOwn x)) (end.Polled answer.Pending) w a = spends (omega arith) (omega arith)
-pays-react p (op.User (user_op.PollOwn x)) (end.Polled answer.Ready) w a = spends (omega arith) (omega arith)
-pays-react p (op.User (user_op.DropOwn r)) end.Done w a = spends (omega arith) (omega arith)
+pays-react p (Op.User (UserOp.Poll f)) (UserEnd.Polled answer.Pending) w a =
+    spends (omega (arith, spends-react p (Op.User (UserOp.Poll f)) (UserEnd.Polled answer.Pending) w a)) (omega arith)
+pays-react p (Op.User (UserOp.Poll f)) (UserEnd.Polled answer.Ready) w a =
+    spends (omega (arith, spends-react p (Op.User (UserOp.Poll f)) (UserEnd.Polled answer.Ready) w a)) (omega arith)
+pays-react p (Op.User (UserOp.Drop f)) UserEnd.Done w a = spends (omega arith) (omega arith)
+pays-react p (Op.User (UserOp.DropOutput f)) UserEnd.Done w a = spends (omega arith) (omega arith)
+pays-react p (Op.User (UserOp.CallOutside x)) UserEnd.Done w a = spends (omega arith) (omega arith)
+pays-react p (Op.User (UserOp.PollOwn x)) (UserEnd.Polled answer.Pending) w a = spends (omega arith) (omega arith)
+pays-react p (Op.User (UserOp.PollOwn x)) (UserEnd.Polled answer.Ready) w a = spends (omega arith) (omega arith)
+pays-react p (Op.User (UserOp.DropOwn r)) UserEnd.Done w a = spends (omega arith) (omega arith)
 pays-react p _ _ w a = absurd (cc)
 
 less-go : (s : Machine) (p : ℕ) (h : Hint) (o : Option Op) → Reached s → p < length s.parties → top (stack s p) ≡ o →

@@ -1,48 +1,32 @@
 -- For calls_end and lone_calls_end.
 -- A party that has something to do can go on, unless it waits for the lock of the list; and whoever has that can go on.
-use Rattle.std.proofs.Common.{◌≡◌, ◌∙◌, ℕ, zero, suc, ◌<◌, ◌≤◌, List, [], ◌∷◌, length, get_or, Bool, true, false}
-use Rattle.std.proofs.Common.{cond, not, ltb, refl, sym, ap, subst, ⊎_elim, arith}
-use Rattle.std.proofs.lemmas.Bool.Decides.{nat_tests}
-use Rattle.std.specs.Prelude.{Option, Some, None}
-use Rattle.executor_model.specs.declared.event.Answer.TheVariants as answer
-use Rattle.executor_model.specs.declared.kind.Kind.{Kind}
-use Rattle.executor_model.specs.declared.op.ListOp.TheVariants as list_op
-use Rattle.executor_model.specs.declared.op.Op.{Op}
-use Rattle.executor_model.specs.declared.op.Op.TheVariants as op
-use Rattle.executor_model.specs.declared.op.UserOp.TheVariants as user_op
-use Rattle.executor_model.specs.declared.step.Hint.{Hint}
-use Rattle.executor_model.specs.declared.step.Step.{Step}
-use Rattle.executor_model.specs.declared.step.Step.TheVariants.{Go}
-use Rattle.executor_model.specs.declared.step.StepError.{StepError}
-use Rattle.executor_model.specs.declared.step.StepError.TheVariants.{NoSuch, Waits, WrongAnswer}
-use Rattle.executor_model.specs.declared.step.UserEnd.{UserEnd}
-use Rattle.executor_model.specs.declared.step.UserEnd.TheVariants as end
-use Rattle.executor_model.specs.OwnQueues.{LockAgrees, reads_of, writes_of}
+use Rattle.std.proofs.Common.{◌≡◌, ◌∙◌, ℕ, zero, suc, ◌<◌, ◌≤◌, List, [], ◌∷◌, length, get_or, Bool, true, false, cond, not}
+use Rattle.std.proofs.Common.{ltb, refl, sym, ap, subst, ⊎_elim, arith}
+use Rattle.std.{proofs.lemmas.Bool.Decides.nat_tests, specs.Prelude.Option, specs.Prelude.Some, specs.Prelude.None}
+use Rattle.executor_laws.proofs.Types.{UserEnd, Answer, Kind, ListOp, Op, UserOp, Hint, Step, Go, StepError, NoSuch}
+use Rattle.executor_laws.proofs.Types.{WrongAnswer}
+use Rattle.executor_model.specs.declared.step.StepError.TheVariants.{Waits}
 use Rattle.executor_model.specs.Steps.{Machine, accepts, answer_refusal, below_top, go_refusal, is_locked_out, refusal, run}
-use Rattle.executor_model.specs.Steps.{stack, start, top, unless, waits}
-use Rattle.executor_model.specs.Weights.{weigh, weigh_all}
-use Rattle.executor_model.specs.World.{Lock}
-use Rattle.executor_model.proofs.Steps.Lift.{topped}
-use Rattle.executor_model.proofs.Steps.Lists.{weigh-append, weigh_all-below}
-use Rattle.executor_model.proofs.OwnQueues.OwnLocks.{lock-agrees}
-use Rattle.executor_model.proofs.Table.Spawning.{in-range}
-use Rattle.executor_model.proofs.Steps.Reached.{Reached}
+use Rattle.executor_model.specs.{Steps.stack, Steps.start, Steps.top, Steps.unless, Steps.waits, OwnQueues.LockAgrees}
+use Rattle.executor_model.specs.{OwnQueues.reads_of, OwnQueues.writes_of, Weights.weigh, Weights.weigh_all, World.Lock}
 use Rattle.executor_laws.specs.GoingOn.{GoesOn, HolderGoesOn, IsTaken, held_of}
+use Rattle.executor_model.proofs.{Steps.Lift.topped, Steps.Lists.weigh-append, Steps.Lists.weigh_all-below}
+use Rattle.executor_model.proofs.{OwnQueues.OwnLocks.lock-agrees, Table.Spawning.in-range, Steps.Reached.Reached}
 use Rattle.executor_laws.proofs.Termination.Holding.{has-top, held-on-top, weigh_below}
 
 -- how the user code on top may end
 abbrev pub user_end : Op → UserEnd
-user_end (op.User (user_op.Poll f)) = end.Polled answer.Pending
-user_end (op.User (user_op.PollOwn x)) = end.Polled answer.Pending
-user_end _ = end.Done
+user_end (Op.User (UserOp.Poll f)) = UserEnd.Polled Answer.Pending
+user_end (Op.User (UserOp.PollOwn x)) = UserEnd.Polled Answer.Pending
+user_end _ = UserEnd.Done
 
 pub ends-so : (o : Op) → waits o ≡ true → accepts o (user_end o) ≡ true
-ends-so (op.User (user_op.Poll f)) e = refl
-ends-so (op.User (user_op.Drop f)) e = refl
-ends-so (op.User (user_op.DropOutput f)) e = refl
-ends-so (op.User (user_op.CallOutside x)) e = refl
-ends-so (op.User (user_op.PollOwn x)) e = refl
-ends-so (op.User (user_op.DropOwn r)) e = refl
+ends-so (Op.User (UserOp.Poll f)) e = refl
+ends-so (Op.User (UserOp.Drop f)) e = refl
+ends-so (Op.User (UserOp.DropOutput f)) e = refl
+ends-so (Op.User (UserOp.CallOutside x)) e = refl
+ends-so (Op.User (UserOp.PollOwn x)) e = refl
+ends-so (Op.User (UserOp.DropOwn r)) e = refl
 ends-so _ e = absurd (cc)
 
 allowed : (s : Machine) (p : ℕ) (r q : Option StepError) → p < length s.parties → r ≡ q →
@@ -52,7 +36,7 @@ allowed s p r q l e = let i : ltb p (length s.parties) ≡ true = grind (arith, 
 
 -- no user code wants the lock
 locked-goes : (l : Lock) (o : Op) → is_locked_out l o ≡ true → waits o ≡ false
-locked-goes l (op.List o) e = refl
+locked-goes l (Op.List o) e = refl
 locked-goes l _ e = absurd (cc)
 
 refusal-is : (s : Machine) (p : ℕ) (o : Op) (h : Hint) (b : Bool) → p < length s.parties → top (stack s p) ≡ Some o →
@@ -83,13 +67,7 @@ held-top (x ∷ xs) None e z l = absurd (has-top x xs e)
 held-top (x ∷ xs) (Some o) e z l = (
   o,
   e,
-  omega (
-    arith,
-    l,
-    z,
-    ap (weigh held_of) (topped (x ∷ xs) o e),
-    weigh-append held_of (below_top (x ∷ xs)) (o ∷ []),
-  ),
+  omega (arith, l, z, ap (weigh held_of) (topped (x ∷ xs) o e), weigh-append held_of (below_top (x ∷ xs)) (o ∷ [])),
 )
 
 below-of : (ss : List (List Op)) (p : ℕ) → weigh_below held_of ss ≡ 0 →
@@ -112,12 +90,12 @@ holder (s ∷ ss) l = holder-or s ss (weigh held_of s) refl (λ e. holder ss (om
 -- that waits for nothing
 
 holding-goes : (o : Op) → 1 ≤ held_of o → waits o ≡ false
-holding-goes (op.User o) l = absurd (omega (arith, l))
+holding-goes (Op.User o) l = absurd (omega (arith, l))
 holding-goes _ l = refl
 
 pub holding-free : (l : Lock) (o : Op) → 1 ≤ held_of o → is_locked_out l o ≡ false
-holding-free l (op.List (list_op.LockWrite s)) k = absurd (omega (arith, k))
-holding-free l (op.List (list_op.LockRead x)) k = absurd (omega (arith, k))
+holding-free l (Op.List (ListOp.LockWrite s)) k = absurd (omega (arith, k))
+holding-free l (Op.List (ListOp.LockRead x)) k = absurd (omega (arith, k))
 holding-free l _ k = refl
 
 is-held : (s : Machine) → LockAgrees s → IsTaken s.world.lock →

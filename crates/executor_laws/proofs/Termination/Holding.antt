@@ -1,69 +1,30 @@
 -- For calls_end and lone_calls_end.
 -- Whoever has the lock of the list of queues has what it does under it, or its giving back, next to do.
-use Rattle.std.proofs.Common.{◌≡◌, ◌∙◌, ℕ, zero, suc, ◌+◌, ◌-◌, ◌<◌, ◌≤◌, ◌%◌, List, [], ◌∷◌, ◌++◌, length, set, drop}
-use Rattle.std.proofs.Common.{get_or, take, Bool, true, false, ltb, refl, sym, ap, subst, arith}
+use Rattle.std.proofs.Common.{◌≡◌, ◌∙◌, ℕ, zero, suc, ◌+◌, ◌-◌, ◌<◌, ◌≤◌, ◌%◌, List, [], ◌∷◌, ◌++◌, length, set, drop, get_or}
+use Rattle.std.proofs.Common.{take, Bool, true, false, ltb, refl, sym, ap, subst, arith}
 use Rattle.std.proofs.lemmas.List.{append_assoc, reverse-append}
 use Rattle.std.specs.Prelude.{Option, Some, None, reverse, slice_get}
-use Rattle.executor_model.specs.ActsOfSleepers.{look_tick}
-use Rattle.executor_model.specs.Acts.{mark_in}
-use Rattle.executor_model.specs.declared.op.Look.{Look}
-use Rattle.executor_model.specs.declared.op.Look.TheVariants.{First, Second}
-use Rattle.executor_model.specs.declared.call.Call.{Call}
-use Rattle.executor_model.specs.declared.call.Reply.{Reply}
-use Rattle.executor_model.specs.declared.call.Reply.TheVariants as reply
-use Rattle.executor_model.specs.declared.event.Event.TheVariants as event
-use Rattle.executor_model.specs.declared.kind.Kind.{Kind}
-use Rattle.executor_model.specs.declared.op.Hold.{Hold}
-use Rattle.executor_model.specs.declared.op.Hold.TheVariants as hold
-use Rattle.executor_model.specs.declared.op.ListOp.{ListOp}
-use Rattle.executor_model.specs.declared.op.ListOp.TheVariants as list_op
-use Rattle.executor_model.specs.declared.op.Op.{Op}
-use Rattle.executor_model.specs.declared.op.Op.TheVariants as op
-use Rattle.executor_model.specs.declared.op.Polled.TheVariants as of
-use Rattle.executor_model.specs.declared.op.RunOp.{RunOp}
-use Rattle.executor_model.specs.declared.op.RunOp.TheVariants as run_op
-use Rattle.executor_model.specs.declared.op.RunPoll.{RunPoll}
-use Rattle.executor_model.specs.declared.op.Section.TheVariants as section
-use Rattle.executor_model.specs.declared.op.TickOrRun.{TickOrRun}
-use Rattle.executor_model.specs.declared.op.TickOrRun.TheVariants as tick_or_run
-use Rattle.executor_model.specs.declared.op.Sleeping.{Sleeping}
-use Rattle.executor_model.specs.declared.op.Steal.{Steal}
-use Rattle.executor_model.specs.declared.op.StealOp.{StealOp}
-use Rattle.executor_model.specs.declared.op.StealOp.TheVariants as steal_op
-use Rattle.executor_model.specs.declared.op.Then.{Then}
-use Rattle.executor_model.specs.declared.op.Then.TheVariants as then
-use Rattle.executor_model.specs.declared.op.TickOp.{TickOp}
-use Rattle.executor_model.specs.declared.op.TickOp.TheVariants as tick_op
-use Rattle.executor_model.specs.declared.op.UserOp.TheVariants as user_op
-use Rattle.executor_model.specs.declared.op.Waker.{Waker}
-use Rattle.executor_model.specs.declared.step.Hint.{Hint}
-use Rattle.executor_model.specs.declared.step.Step.{Step}
-use Rattle.executor_model.specs.declared.step.StepError.{StepError}
-use Rattle.executor_model.specs.declared.step.StepError.TheVariants.{Busy}
-use Rattle.executor_model.specs.declared.step.UserEnd.{UserEnd}
-use Rattle.executor_model.specs.ActsOfRuns as runs
+use Rattle.executor_laws.proofs.Types.{StepError, Busy, UserEnd, Look, First, Second, Call, Reply, Event, Kind, Hold, ListOp}
+use Rattle.executor_laws.proofs.Types.{Op, Polled, RunOp, RunPoll, Section, TickOrRun, Sleeping, Steal, StealOp, Then, TickOp}
+use Rattle.executor_laws.proofs.Types.{UserOp, Waker, Hint, Step}
+use Rattle.executor_model.specs.Steps.{Machine, accepts, begun, below_top, is_free, mine, react, run, stack, start, top, unless}
 use Rattle.executor_model.specs.Doing.{act, list_act, run_act, search_by_who, steal_act, tick_act}
-use Rattle.executor_model.specs.Good.{Good}
-use Rattle.executor_model.specs.OwnQueues.{filling_of, reads_of, writes_of}
-use Rattle.executor_model.specs.Steps.{Machine, accepts, begun, below_top, is_free, mine, react, run, stack, start, top}
-use Rattle.executor_model.specs.Steps.{unless, waits}
-use Rattle.executor_model.specs.Weights.{weigh, weigh_all}
 use Rattle.executor_model.specs.World.{World, Done, done, log, place_of, put_own, queue_of}
+use Rattle.executor_model.specs.{Steps.waits, ActsOfSleepers.look_tick, Acts.mark_in, Good.Good, OwnQueues.filling_of}
+use Rattle.executor_model.specs.{OwnQueues.reads_of, OwnQueues.writes_of, Weights.weigh, Weights.weigh_all}
+use Rattle.executor_laws.specs.GoingOn.{held_of}
+use Rattle.executor_model.proofs.OwnQueues.RunsMoving.{Weighs, is_search, slumbering-blind, walk-by, weighs-found}
 use Rattle.executor_model.proofs.Steps.Lift.{good-start, split, topped, unsettled, weigh_all-idle}
-use Rattle.executor_model.proofs.Steps.Lists.{weigh-append, weigh-reverse}
 use Rattle.executor_model.proofs.OwnQueues.OwnCounts.{counts-begun, counts-react, counts-reads, counts-writes}
 use Rattle.executor_model.proofs.OwnQueues.OwnRooms.{Roomy, roomy-ends, roomy-moves}
 use Rattle.executor_model.proofs.OwnQueues.RunsAside.{apart-act, is_run, runs_of, unseen}
-use Rattle.executor_model.proofs.OwnQueues.RunsMoving.{Weighs, is_search, slumbering-blind, walk-by, weighs-found}
-use Rattle.executor_model.proofs.OwnQueues.RunsMoving.{weighs-stolen}
-use Rattle.executor_model.proofs.Steps.SleepersNext.{Blind, search-blind}
-use Rattle.executor_model.proofs.Table.Spawning.{top-last}
 use Rattle.executor_model.proofs.OwnQueues.UsingSteps.{AllUsed, used-ends, used-moves, used-start}
 use Rattle.executor_model.proofs.Steps.Ways.{Way, acted, reacted, called, along}
-use Rattle.executor_model.proofs.Steps.Reached.{Reached}
-use Rattle.executor_laws.proofs.Termination.Reached.{has-free}
-use Rattle.executor_laws.specs.GoingOn.{held_of}
-use Rattle.executor_laws.proofs.Termination.Beside.{by_reference}
+use Rattle.executor_model.proofs.Steps.Lists.{weigh-append, weigh-reverse}
+use Rattle.executor_model.proofs.Steps.SleepersNext.{Blind, search-blind}
+use Rattle.executor_model.proofs.{OwnQueues.RunsMoving.weighs-stolen, Table.Spawning.top-last, Steps.Reached.Reached}
+use Rattle.executor_laws.proofs.{Termination.Reached.has-free, Termination.Beside.by_reference}
+use Rattle.executor_model.specs.ActsOfRuns as runs
 
 -- nothing that is done under the lock, or gives it back, follows later than next
 abbrev FirstHolds : List Op → Type 0
@@ -74,9 +35,9 @@ none-held [] z = refl
 none-held (o ∷ os) z = omega (arith, z)
 
 unheld : (o : Op) → runs_of o ≡ 0 → held_of o ≡ 0
-unheld (op.List o) z = absurd (omega (arith, z))
-unheld (op.Steal o) z = absurd (omega (arith, z))
-unheld (op.Run o) z = absurd (omega (arith, z))
+unheld (Op.List o) z = absurd (omega (arith, z))
+unheld (Op.Steal o) z = absurd (omega (arith, z))
+unheld (Op.Run o) z = absurd (omega (arith, z))
 unheld _ z = refl
 
 blind-held : Blind held_of
@@ -106,11 +67,11 @@ found-none : (w : World) (x : RunPoll) (f : ℕ) → weigh held_of (runs.found w
 found-none w x f = weighs-found held_of x 0 1 (found-held x) w f
 
 first-stolen : (t : Then) (w : World) (x : RunPoll) → FirstHolds (runs.stolen t w x).next
-first-stolen (then.Found f) w x = none-held (runs.found w x f).next (found-none w x f)
-first-stolen (then.StealPlain f) w x = refl
-first-stolen (then.Run f) w x =
-    none-held (runs.stolen (then.Run f) w x).next (weighs-stolen held_of x 0 1 (found-held x) (then.Run f) w)
-first-stolen (then.Walk at left) w x = refl
+first-stolen (Then.Found f) w x = none-held (runs.found w x f).next (found-none w x f)
+first-stolen (Then.StealPlain f) w x = refl
+first-stolen (Then.Run f) w x =
+    none-held (runs.stolen (Then.Run f) w x).next (weighs-stolen held_of x 0 1 (found-held x) (Then.Run f) w)
+first-stolen (Then.Walk at left) w x = refl
 
 first-length : (n : ℕ) (w : World) (s : Steal) → FirstHolds (runs.steal_length_by n w s).next
 first-length zero w s = first-stolen s.then w s.poll
@@ -131,14 +92,14 @@ first-put false p w s more f e = absurd (cc)
 
 -- a steal that is on its way finds a place
 abbrev HasFree : World → Op → Type 0
-HasFree w o = (x : Steal) (more f : ℕ) → o ≡ op.Steal (steal_op.Put x more f) →
+HasFree w o = (x : Steal) (more f : ℕ) → o ≡ Op.Steal (StealOp.Put x more f) →
     ltb 0 (runs.free_places w x.poll.run) ≡ true
 
-first-steal : (p : ℕ) (o : StealOp) (w : World) → HasFree w (op.Steal o) → FirstHolds (steal_act p o w).next
-first-steal p (steal_op.Length s) w k = first-length _ w s
-first-steal p (steal_op.OwnLength s n) w k = first-more _ w s
-first-steal p (steal_op.Take s more) w k = first-take _ w s more
-first-steal p (steal_op.Put s more f) w k = first-put _ p w s more f (k s more f refl)
+first-steal : (p : ℕ) (o : StealOp) (w : World) → HasFree w (Op.Steal o) → FirstHolds (steal_act p o w).next
+first-steal p (StealOp.Length s) w k = first-length _ w s
+first-steal p (StealOp.OwnLength s n) w k = first-more _ w s
+first-steal p (StealOp.Take s more) w k = first-take _ w s more
+first-steal p (StealOp.Put s more f) w k = first-put _ p w s more f (k s more f refl)
 
 first-own : (q : List ℕ) (w : World) (x : RunPoll) → FirstHolds (runs.search_own_by q w x).next
 first-own [] w x = refl
@@ -146,14 +107,14 @@ first-own (f ∷ rest) w x = let v : World = put_own w x.run rest in
     none-held (runs.found v x f).next (found-none v x f)
 
 first-search : (who : TickOrRun) (p : ℕ) (w : World) (s : Sleeping) → FirstHolds (search_by_who who p w s).next
-first-search (tick_or_run.Tick t) p w s =
+first-search (TickOrRun.Tick t) p w s =
     refl
-first-search (tick_or_run.Run r) p w s = first-own _ w _
+first-search (TickOrRun.Run r) p w s = first-own _ w _
 
 first-tick : (p : ℕ) (h : Hint) (o : TickOp) (w : World) (b : Bool) → is_search o ≡ b → FirstHolds (tick_act p h o w).next
 first-tick p h o w false e = none-held (tick_act p h o w).next (slumbering-blind held_of blind-held p h o w e)
-first-tick p h (tick_op.Search s) w true e = first-search s.who p w s
-first-tick p h (tick_op.Look s look) w true e = none-held (look_tick w s look).next
+first-tick p h (TickOp.Search s) w true e = first-search s.who p w s
+first-tick p h (TickOp.Look s look) w true e = none-held (look_tick w s look).next
     (search-blind held_of blind-held look (λ f. refl) (place_of w s.who) w (queue_of w (mark_in look)).items s)
 first-tick p h _ w true e = absurd (cc)
 
@@ -174,17 +135,17 @@ first-made true w = refl
 first-made false w = refl
 
 first-list : (h : Hint) (o : ListOp) (w : World) → FirstHolds (list_act h o w).next
-first-list h (list_op.Write section.MakeRun) w = first-made _ w
-first-list h (list_op.LockRead x) w = first-walk x w.listed (h.start % length w.listed) (length w.listed)
+first-list h (ListOp.Write Section.MakeRun) w = first-made _ w
+first-list h (ListOp.LockRead x) w = first-walk x w.listed (h.start % length w.listed) (length w.listed)
 first-list h _ w = refl
 
 first-wake : (p : ℕ) (w : World) (x : RunPoll) → FirstHolds (runs.wake_own p w x).next
 first-wake p w x =
-    let v : World = log w (event.WakerCalled p (of.Run x.run) x.poll x.waker) in
+    let v : World = log w (Event.WakerCalled p (Polled.Run x.run) x.poll x.waker) in
     let next : List Op = (runs.call_by_reference p v x.waker).next in
     none-held (runs.wake_own p w x).next (omega (
       arith,
-      weigh-append held_of next (op.End reply.Pending (hold.Run x.run) ∷ []),
+      weigh-append held_of next (Op.End Reply.Pending (Hold.Run x.run) ∷ []),
       unseen held_of unheld next (by_reference p v x.waker).1,
     ))
 
@@ -197,23 +158,23 @@ first-room true w = refl
 first-room false w = refl
 
 first-run : (p : ℕ) (h : Hint) (o : RunOp) (w : World) → FirstHolds (run_act p h o w).next
-first-run p h run_op.MakeRoom w = first-room _ w
-first-run p h run_op.ReturnRoom w = refl
-first-run p h (run_op.TakeTurn x) w = refl
-first-run p h (run_op.SearchCommon x look) w = first-common look _ w x
-first-run p h (run_op.LookOwn x at left) w = first-look _ w x at left
-first-run p h (run_op.WakeOwn x) w = first-wake p w x
-first-run p h (run_op.Reschedule r a) w = first-reschedule _ w r a
+first-run p h RunOp.MakeRoom w = first-room _ w
+first-run p h RunOp.ReturnRoom w = refl
+first-run p h (RunOp.TakeTurn x) w = refl
+first-run p h (RunOp.SearchCommon x look) w = first-common look _ w x
+first-run p h (RunOp.LookOwn x at left) w = first-look _ w x at left
+first-run p h (RunOp.WakeOwn x) w = first-wake p w x
+first-run p h (RunOp.Reschedule r a) w = first-reschedule _ w r a
 
 first-act : (p : ℕ) (h : Hint) (o : Op) (w : World) (b : Bool) → is_run o ≡ b → HasFree w o →
     FirstHolds (act p h o w).next
 first-act p h o w false e k =
     none-held (act p h o w).next (unseen held_of unheld (act p h o w).next (apart-act p h o w e).runs)
-first-act p h (op.Tick o) w true e k = first-tick p h o w _ refl
-first-act p h (op.List o) w true e k = first-list h o w
-first-act p h (op.Steal o) w true e k = first-steal p o w k
-first-act p h (op.Run o) w true e k = first-run p h o w
-first-act p h (op.User (user_op.PollOwn x)) w true e k = refl
+first-act p h (Op.Tick o) w true e k = first-tick p h o w _ refl
+first-act p h (Op.List o) w true e k = first-list h o w
+first-act p h (Op.Steal o) w true e k = first-steal p o w k
+first-act p h (Op.Run o) w true e k = first-run p h o w
+first-act p h (Op.User (UserOp.PollOwn x)) w true e k = refl
 first-act p h _ w true e k = absurd (cc)
 
 counted-none : (os : List Op) → weigh writes_of os ≡ 0 → weigh reads_of os ≡ 0 → weigh held_of os ≡ 0
@@ -227,10 +188,10 @@ first-react p o u w a =
     none-held next (counted-none next (counts-writes 0 next z) (counts-reads 0 next z))
 
 first-begun : (p : ℕ) (w : World) (here : Option Waker) (c : Call) →
-    FirstHolds (begun p (log w (event.CallBegun p c)) here c).next
+    FirstHolds (begun p (log w (Event.CallBegun p c)) here c).next
 first-begun p w here c =
     let z = (counts-begun 0 p w here c).counts in
-    let next : List Op = (begun p (log w (event.CallBegun p c)) here c).next in
+    let next : List Op = (begun p (log w (Event.CallBegun p c)) here c).next in
     none-held next (counted-none next (counts-writes 0 next z) (counts-reads 0 next z))
 
 -- what stands below the tops of all stacks
@@ -316,7 +277,7 @@ first-true true r k = refl
 first-true false r k = absurd (cc)
 
 waiting-none : (o : Op) → waits o ≡ true → held_of o ≡ 0
-waiting-none (op.User o) e = refl
+waiting-none (Op.User o) e = refl
 waiting-none _ e = absurd (cc)
 
 within : (os : List Op) (n : ℕ) → n < length os → slice_get os n ≡ None → ⊥
@@ -361,7 +322,7 @@ top-moves s p old rest d l e (reacted o u a q z) k =
 top-moves s p old rest d l e (called c q t n z) k =
     let here = mine (top (stack s p)) in
     let free : is_free (top (stack s p)) ≡ true = first-true (is_free (top (stack s p))) _ n in
-    rw z (on-moved s p rest (begun p (log s.world (event.CallBegun p c)) here c) l
+    rw z (on-moved s p rest (begun p (log s.world (Event.CallBegun p c)) here c) l
     (ap (weigh held_of) t ∙ free-none (stack s p) _ refl free (below-here s p l k.below))
     (first-begun p s.world here c) k.below)
 
@@ -374,13 +335,13 @@ on-moves s p old rest d good l e way k = record {
 }
 
 on-ends : (s : Machine) (p : ℕ) (a : Reply) (held : Hold) (below : List Op) → p < length s.parties →
-    stack s p ≡ below ++ reverse (op.End a held ∷ []) → OnTop s →
-    OnTop (unsettled s p below (done (log s.world (event.CallEnded p a)) []))
+    stack s p ≡ below ++ reverse (Op.End a held ∷ []) → OnTop s →
+    OnTop (unsettled s p below (done (log s.world (Event.CallEnded p a)) []))
 on-ends s p a held below l e k = record {
   used = used-ends s p a held below l e k.used;
   roomy = roomy-ends s p a held below l e k.roomy;
-  below = on-moved s p below (done (log s.world (event.CallEnded p a)) []) l
-      (rest-none s p (op.End a held) below l e k.below) refl k.below;
+  below = on-moved s p below (done (log s.world (Event.CallEnded p a)) []) l
+      (rest-none s p (Op.End a held) below l e k.below) refl k.below;
 }
 
 below-idle : (kind : Kind) (v : Op → ℕ) (n : ℕ) → weigh_below v (start 0 kind n).parties ≡ 0

@@ -1,37 +1,22 @@
 -- For calls_end and lone_calls_end.
 -- A call that isn't refused can be made alone: who has begun one can go on to its end.
-use Rattle.std.proofs.Common.{◌≡◌, ◌≢◌, ◌⊎◌, ◌∙◌, ℕ, zero, suc, ◌<◌, ◌≤◌, List, [], ◌∷◌, length}
-use Rattle.std.proofs.Common.{Bool, true, false, ◌&&◌, ◌||◌, not, ◌==◌, eqb, ltb, refl, sym, ap, subst}
-use Rattle.std.proofs.Common.{inl, inr, arith, get_or-set_other, Ok}
-use Rattle.std.proofs.lemmas.Bool.Decides.{nat_tests}
-use Rattle.std.proofs.Math.ListN.{length-set}
+use Rattle.std.proofs.Common.{◌≡◌, ◌≢◌, ◌⊎◌, ◌∙◌, ℕ, zero, suc, ◌<◌, ◌≤◌, List, [], ◌∷◌, length, Bool, true, false, ◌&&◌, ◌||◌}
+use Rattle.std.proofs.Common.{not, ◌==◌, eqb, ltb, refl, sym, ap, subst, inl, inr, arith, get_or-set_other, Ok}
 use Rattle.std.specs.Prelude.{Option, Some, None}
-use Rattle.executor_model.specs.declared.call.Call.{Call}
-use Rattle.executor_model.specs.declared.kind.Kind.{Kind}
-use Rattle.executor_model.specs.declared.op.ListOp.TheVariants as list_op
-use Rattle.executor_model.specs.declared.op.Op.{Op}
-use Rattle.executor_model.specs.declared.op.Op.TheVariants as op
-use Rattle.executor_model.specs.declared.step.Step.{Step}
-use Rattle.executor_model.specs.declared.step.Step.TheVariants.{Begin, Go, Answer}
-use Rattle.executor_model.specs.declared.step.StepError.{StepError}
-use Rattle.executor_model.specs.declared.step.StepError.TheVariants.{NoSuch}
-use Rattle.executor_model.specs.Trace.{Trace}
-use Rattle.executor_model.specs.Quiet.{IsQuiet}
-use Rattle.executor_model.specs.Executions.{run_all}
-use Rattle.executor_model.specs.Weights.{weigh}
-use Rattle.executor_model.specs.World.{Lock}
-use Rattle.executor_model.specs.Steps.{Machine, stack, top, waits, is_locked_out, unless}
-use Rattle.executor_model.specs.Steps.{refusal, part_after, after, party_of, run, start}
-use Rattle.executor_model.proofs.Quiet.Calls.{calling_of, begun_by, ended_by}
-use Rattle.executor_model.proofs.Steps.Lift.{no_hint}
-use Rattle.executor_model.proofs.Quiet.Resting.{Deep, rests}
-use Rattle.executor_model.proofs.Steps.Reached.{Reached, run-first, run-then, reached-more, reached-step, deep-here}
+use Rattle.std.{proofs.lemmas.Bool.Decides.nat_tests, proofs.Math.ListN.length-set}
+use Rattle.executor_laws.proofs.Types.{Call, Kind, ListOp, Op, Step, Begin, Go, StepError, NoSuch}
+use Rattle.executor_model.specs.declared.step.Step.TheVariants.{Answer}
+use Rattle.executor_model.specs.Steps.{Machine, stack, top, waits, is_locked_out, unless, refusal, part_after, after, party_of}
+use Rattle.executor_model.specs.Steps.{run, start}
+use Rattle.executor_model.specs.{Trace.Trace, Quiet.IsQuiet, Executions.run_all, Weights.weigh, World.Lock}
 use Rattle.executor_laws.specs.LoneEnds.{is_onward_of, are_onward_of, IsLoneCall, LoneCallsEnd}
 use Rattle.executor_laws.specs.GoingOn.{CanGoOn, IsTaken, held_of}
 use Rattle.executor_laws.specs.Remaining.{remaining, is_onward, are_onward}
-use Rattle.executor_laws.proofs.Termination.Ends.{lowers, ends}
+use Rattle.executor_model.proofs.Quiet.Calls.{calling_of, begun_by, ended_by}
+use Rattle.executor_model.proofs.Steps.Reached.{Reached, run-first, run-then, reached-more, reached-step, deep-here}
+use Rattle.executor_model.proofs.{Steps.Lift.no_hint, Quiet.Resting.Deep, Quiet.Resting.rests}
 use Rattle.executor_laws.proofs.Termination.GoingOn.{goes-on, held-here, holder-goes-on, holding-free}
-use Rattle.executor_laws.proofs.Termination.Holding.{has-top}
+use Rattle.executor_laws.proofs.{Termination.Ends.lowers, Termination.Ends.ends, Termination.Holding.has-top}
 
 left-true : (a b : Bool) → (a && b) ≡ true → (a ≡ true) × (b ≡ true)
 left-true true b e = (refl, e)
@@ -87,7 +72,7 @@ all-rest p s k e q = by (eqb q p) refl
 -- a party that is alone waits for no lock
 
 wants : (l : Lock) (o : Op) → is_locked_out l o ≡ true → IsTaken l
-wants l (op.List (list_op.LockWrite s)) e = by l.writing e
+wants l (Op.List (ListOp.LockWrite s)) e = by l.writing e
   where
     some : (n : ℕ) → not (n == 0) ≡ true → 1 ≤ n
     some zero k = absurd (cc)
@@ -96,7 +81,7 @@ wants l (op.List (list_op.LockWrite s)) e = by l.writing e
     by : (b : Bool) → (b || not (l.readers == 0)) ≡ true → (b ≡ true) ⊎ (1 ≤ l.readers)
     by true k = inl refl
     by false k = inr (some l.readers k)
-wants l (op.List (list_op.LockRead x)) e = inl e
+wants l (Op.List (ListOp.LockRead x)) e = inl e
 wants l _ e = absurd (cc)
 
 pub alone-free : (p : ℕ) (s : Machine) (o : Op) → Reached s → OthersRest p s → top (stack s p) ≡ Some o →

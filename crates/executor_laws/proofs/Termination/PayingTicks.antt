@@ -2,36 +2,21 @@
 -- What ticks and runs both do pays a step of those that remain, or one of a walk.
 use Rattle.std.proofs.Common.{◌≡◌, ℕ, ◌≤◌, List, [], ◌∷◌, Bool, true, false, refl, ap, arith}
 use Rattle.std.specs.Prelude.{Option, Some, None, is_none}
-use Rattle.executor_laws.proofs.Termination.SpendingTicks.{spends-tick_turn}
-use Rattle.executor_model.specs.declared.op.Look.{Look}
-use Rattle.executor_model.specs.declared.op.Look.TheVariants.{First, Second}
 use Rattle.executor_parts.specs.Sleepers.{waker_at, waker_of}
-use Rattle.executor_model.specs.declared.op.Op.TheVariants as op
-use Rattle.executor_model.specs.declared.op.TickOrRun.{TickOrRun}
-use Rattle.executor_model.specs.declared.op.TickOrRun.TheVariants as tick_or_run
-use Rattle.executor_model.specs.declared.op.Sleeping.{Sleeping}
-use Rattle.executor_model.specs.declared.op.TickOp.{TickOp}
-use Rattle.executor_model.specs.declared.op.TickOp.TheVariants as tick_op
-use Rattle.executor_model.specs.declared.op.Waker.{Waker}
-use Rattle.executor_model.specs.declared.op.Waker.TheVariants.{Task, Outside}
-use Rattle.executor_model.specs.declared.step.Hint.{Hint}
+use Rattle.executor_laws.proofs.Types.{Look, First, Second, Op, TickOrRun, Sleeping, TickOp, Waker, Task, Outside, Hint}
 use Rattle.executor_model.specs.ActsOfSleepers.{make_tick_by, look_tick_by, copy_sleeper_by, pend_as, sleep_anew_by}
-use Rattle.executor_model.specs.ActsOfSleepers.{sleeper_goes}
-use Rattle.executor_model.specs.ActsOfSleepers.{sleep_listed_by, sleep_again_by, fall_asleep_by, wake_up_by, tell_and_return}
-use Rattle.executor_model.specs.ActsOfSleepers.{leave_sleepers_by}
+use Rattle.executor_model.specs.ActsOfSleepers.{sleeper_goes, sleep_listed_by, sleep_again_by, fall_asleep_by, wake_up_by}
+use Rattle.executor_model.specs.ActsOfSleepers.{tell_and_return, leave_sleepers_by}
 use Rattle.executor_model.specs.Acts.{is_copy_refused, waker_goes, mark_in}
-use Rattle.executor_model.specs.Doing.{search_by_who, tick_act}
-use Rattle.executor_model.specs.Good.{IsKnownWaker, TickNeeds}
-use Rattle.executor_model.specs.Weights.{weigh}
 use Rattle.executor_model.specs.World.{World, Ticker, Awake, Asleep, Left, Done, place_of, queue_of}
-use Rattle.executor_model.proofs.Steps.Lists.{weigh-append}
-use Rattle.executor_model.proofs.OwnQueues.RunsMoving.{is_search, slumbering-blind}
-use Rattle.executor_model.proofs.Steps.SleepersNext.{Blind, search-blind}
+use Rattle.executor_model.specs.{Doing.search_by_who, Doing.tick_act, Good.IsKnownWaker, Good.TickNeeds, Weights.weigh}
 use Rattle.executor_laws.specs.Costs.{left_by, steps_of_copy, steps_of_sleeping, steps_of_search, walk_of}
+use Rattle.executor_model.proofs.OwnQueues.RunsMoving.{is_search, slumbering-blind}
+use Rattle.executor_model.proofs.{Steps.Lists.weigh-append, Steps.SleepersNext.Blind, Steps.SleepersNext.search-blind}
+use Rattle.executor_laws.proofs.Termination.SpendingTicks.{spends-tick_turn, kept-copy_sleeper, spends-leave_sleepers}
+use Rattle.executor_laws.proofs.Termination.SpendingTicks.{spends-sleep, spends-make, spends-search, spends-up}
 use Rattle.executor_laws.proofs.Termination.SpendingRuns.{CanPay, Pays, pays-own}
 use Rattle.executor_laws.proofs.Termination.SpendingRuns.Pays.{spends, walks}
-use Rattle.executor_laws.proofs.Termination.SpendingTicks.{kept-copy_sleeper, spends-leave_sleepers, spends-sleep, spends-make}
-use Rattle.executor_laws.proofs.Termination.SpendingTicks.{spends-search, spends-up}
 
 blind-left : (v : World) → Blind (left_by v)
 blind-left v = record {
@@ -112,14 +97,14 @@ walk-leave Left w who = omega arith
 
 -- a search, and a copy of a waker
 
-pays-search : (who : TickOrRun) (p : ℕ) (w : World) (s : Sleeping) → s.who ≡ who → CanPay w (op.Tick (tick_op.Search s)) →
-    Pays w (op.Tick (tick_op.Search s)) (search_by_who who p w s)
-pays-search (tick_or_run.Tick t) p w s i c =
+pays-search : (who : TickOrRun) (p : ℕ) (w : World) (s : Sleeping) → s.who ≡ who → CanPay w (Op.Tick (TickOp.Search s)) →
+    Pays w (Op.Tick (TickOp.Search s)) (search_by_who who p w s)
+pays-search (TickOrRun.Tick t) p w s i c =
     spends (omega (arith, ap steps_of_search i, ap steps_of_copy i, spends-tick_turn p w s)) (omega arith)
-pays-search (tick_or_run.Run r) p w s i c = pays-own _ w s r i c
+pays-search (TickOrRun.Run r) p w s i c = pays-own _ w s r i c
 
 pays-look : (look : Look) (q : List ℕ) (x : Ticker) (w : World) (s : Sleeping) → (queue_of w (mark_in look)).items ≡ q →
-    Pays w (op.Tick (tick_op.Look s look)) (look_tick_by x w look q s)
+    Pays w (Op.Tick (TickOp.Look s look)) (look_tick_by x w look q s)
 pays-look look q x w s e =
     let d : Done = look_tick_by x w look q s in
     spends (omega (
@@ -130,28 +115,28 @@ pays-look look q x w s e =
     (omega (arith, walk-search look x w q s))
 
 pays-copy : (b : Bool) (who : TickOrRun) (w : World) (s : Sleeping) → s.who ≡ who → IsKnownWaker w s.waker →
-    Pays w (op.Tick (tick_op.CopyWaker s)) (copy_sleeper_by b w s)
-pays-copy true (tick_or_run.Tick t) w s i l = spends (omega (arith, ap steps_of_copy i)) (omega arith)
-pays-copy true (tick_or_run.Run r) w s i l = spends (omega (arith, ap steps_of_copy i)) (omega arith)
-pays-copy false (tick_or_run.Tick t) w s i l =
+    Pays w (Op.Tick (TickOp.CopyWaker s)) (copy_sleeper_by b w s)
+pays-copy true (TickOrRun.Tick t) w s i l = spends (omega (arith, ap steps_of_copy i)) (omega arith)
+pays-copy true (TickOrRun.Run r) w s i l = spends (omega (arith, ap steps_of_copy i)) (omega arith)
+pays-copy false (TickOrRun.Tick t) w s i l =
     spends (omega (arith, ap steps_of_copy i, ap steps_of_sleeping i, kept-copy_sleeper false w s l)) (omega arith)
-pays-copy false (tick_or_run.Run r) w s i l =
+pays-copy false (TickOrRun.Run r) w s i l =
     walks (omega (arith, ap steps_of_copy i, ap steps_of_sleeping i, kept-copy_sleeper false w s l)) (omega arith)
 
-pub pays-tick : (p : ℕ) (h : Hint) (o : TickOp) (w : World) → TickNeeds w o → CanPay w (op.Tick o) →
-    Pays w (op.Tick o) (tick_act p h o w)
-pays-tick p h tick_op.MakeTick w l c =
-    spends (omega (arith, spends-make h.refused w, unleft-tick p h tick_op.MakeTick w refl))
+pub pays-tick : (p : ℕ) (h : Hint) (o : TickOp) (w : World) → TickNeeds w o → CanPay w (Op.Tick o) →
+    Pays w (Op.Tick o) (tick_act p h o w)
+pays-tick p h TickOp.MakeTick w l c =
+    spends (omega (arith, spends-make h.refused w, unleft-tick p h TickOp.MakeTick w refl))
     (omega (arith, walk-make h.refused w))
-pays-tick p h (tick_op.Search s) w l c = pays-search s.who p w s refl c
-pays-tick p h (tick_op.Look s look) w l c = pays-look look _ (place_of w s.who) w s refl
-pays-tick p h (tick_op.CopyWaker s) w l c = pays-copy (is_copy_refused h w s.waker) s.who w s refl l
-pays-tick p h (tick_op.FallAsleep s) w l c =
-    spends (omega (arith, spends-sleep (place_of w s.who) w s refl, unleft-tick p h (tick_op.FallAsleep s) w refl))
+pays-tick p h (TickOp.Search s) w l c = pays-search s.who p w s refl c
+pays-tick p h (TickOp.Look s look) w l c = pays-look look _ (place_of w s.who) w s refl
+pays-tick p h (TickOp.CopyWaker s) w l c = pays-copy (is_copy_refused h w s.waker) s.who w s refl l
+pays-tick p h (TickOp.FallAsleep s) w l c =
+    spends (omega (arith, spends-sleep (place_of w s.who) w s refl, unleft-tick p h (TickOp.FallAsleep s) w refl))
     (omega (arith, walk-sleep (place_of w s.who) w s))
-pays-tick p h (tick_op.WakeUp who) w l c =
-    spends (omega (arith, spends-up (place_of w who) w who, unleft-tick p h (tick_op.WakeUp who) w refl))
+pays-tick p h (TickOp.WakeUp who) w l c =
+    spends (omega (arith, spends-up (place_of w who) w who, unleft-tick p h (TickOp.WakeUp who) w refl))
     (omega (arith, walk-up (place_of w who) w who))
-pays-tick p h (tick_op.Leave who) w l c =
-    spends (omega (arith, spends-leave_sleepers (place_of w who) w who, unleft-tick p h (tick_op.Leave who) w refl))
+pays-tick p h (TickOp.Leave who) w l c =
+    spends (omega (arith, spends-leave_sleepers (place_of w who) w who, unleft-tick p h (TickOp.Leave who) w refl))
     (omega (arith, walk-leave (place_of w who) w who))

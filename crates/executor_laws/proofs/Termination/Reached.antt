@@ -1,25 +1,14 @@
 -- For calls_end and lone_calls_end.
 -- What holds of the runs of each machine to which steps lead.
-use Rattle.std.proofs.Common.{◌≡◌, ℕ, ◌+◌, ◌-◌, ◌<◌, ◌≤◌, [], ◌∷◌, length, Bool, true, false, eqb}
-use Rattle.std.proofs.Common.{ltb, cond, refl, sym, ap, subst, arith}
-use Rattle.std.proofs.lemmas.Bool.Decides.{nat_tests}
-use Rattle.std.specs.Prelude.{Some}
-use Rattle.executor_model.specs.declared.op.Op.{Op}
-use Rattle.executor_model.specs.declared.op.Op.TheVariants as op
-use Rattle.executor_model.specs.declared.op.Steal.{Steal}
-use Rattle.executor_model.specs.declared.op.StealOp.TheVariants as steal_op
-use Rattle.executor_model.specs.ActsOfRuns.{free_places, own_places}
+use Rattle.std.proofs.Common.{◌≡◌, ℕ, ◌+◌, ◌-◌, ◌<◌, ◌≤◌, [], ◌∷◌, length, Bool, true, false, eqb, ltb, cond, refl, sym, ap}
+use Rattle.std.{proofs.Common.subst, proofs.Common.arith, proofs.lemmas.Bool.Decides.nat_tests, specs.Prelude.Some}
 use Rattle.executor_model.specs.OwnQueues.{HasOwnRoom, IsUsedOnce, filling_of}
-use Rattle.executor_model.specs.Rows.{running_of}
-use Rattle.executor_model.specs.Steps.{Machine, stack, top}
-use Rattle.executor_model.specs.Weights.{weigh_all}
-use Rattle.executor_model.specs.World.{World, own_of}
-use Rattle.executor_model.proofs.Steps.Lift.{split, topped}
-use Rattle.executor_model.proofs.OwnQueues.OwnExecutions.{has-own-room}
-use Rattle.executor_model.proofs.OwnQueues.UsingSteps.{AllUsed, all-used}
-use Rattle.executor_model.proofs.Steps.Reached.{Reached}
+use Rattle.executor_model.specs.{ActsOfRuns.free_places, ActsOfRuns.own_places, Rows.running_of, Steps.Machine, Steps.stack}
+use Rattle.executor_model.specs.{Steps.top, Weights.weigh_all, World.World, World.own_of}
+use Rattle.executor_model.proofs.{OwnQueues.UsingSteps.AllUsed, OwnQueues.UsingSteps.all-used, Steps.Lift.split}
+use Rattle.executor_model.proofs.{Steps.Lift.topped, OwnQueues.OwnExecutions.has-own-room, Steps.Reached.Reached}
 use Rattle.executor_laws.proofs.Termination.SpendingRuns.{CanPay, TakesFew}
-use Rattle.executor_laws.proofs.Termination.TakingFew.{takes-few}
+use Rattle.executor_laws.proofs.{Types.Op, Types.Steal, Types.StealOp, Termination.TakingFew.takes-few}
 
 used-all : (s : Machine) → Reached s → AllUsed s
 used-all s r = subst AllUsed (sym r.is) (all-used r.limit r.kind r.parties r.steps)
@@ -42,12 +31,12 @@ places-few w q = by (ltb q (length w.own))
 
 -- a steal that is on its way finds a free place
 pub has-free : (s : Machine) (x : Steal) (more f : ℕ) → HasOwnRoom s x.poll.run →
-    filling_of x.poll.run (op.Steal (steal_op.Put x more f)) ≤ weigh_all (filling_of x.poll.run) s.parties →
+    filling_of x.poll.run (Op.Steal (StealOp.Put x more f)) ≤ weigh_all (filling_of x.poll.run) s.parties →
     ltb 0 (free_places s.world x.poll.run) ≡ true
 has-free s x more f h k =
     let q : ℕ = x.poll.run in
     let same_one : eqb q q ≡ true = grind (arith, nat_tests) in
-    let fills : filling_of q (op.Steal (steal_op.Put x more f)) ≡ more + 1 =
+    let fills : filling_of q (Op.Steal (StealOp.Put x more f)) ≡ more + 1 =
     ap (λ (b : Bool). cond b (more + 1) 0) same_one in
     let free : 1 ≤ own_places s.world q - length (own_of s.world q) = omega (arith, h, fills, k) in
     grind (arith, nat_tests)
@@ -65,7 +54,7 @@ module _ (s : Machine) (p : ℕ) (o : Op) (l : p < length s.parties) (e : top (s
       by false k = let m : length s.world.runs ≤ q = grind (arith, nat_tests) in
           absurd (omega (arith, n, on-top (running_of q), (used-all s r q).unborn m))
 
-  room : (x : Steal) (more f : ℕ) → o ≡ op.Steal (steal_op.Put x more f) →
+  room : (x : Steal) (more f : ℕ) → o ≡ Op.Steal (StealOp.Put x more f) →
       ltb 0 (free_places s.world x.poll.run) ≡ true
   room x more f i =
       has-free s x more f (room-here s r x.poll.run)

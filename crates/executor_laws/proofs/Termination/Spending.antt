@@ -1,30 +1,18 @@
 -- For calls_end and lone_calls_end.
 -- What each thing that is done spends of the steps that remain.
-use Rattle.std.proofs.Common.{◌≡◌, ℕ, zero, suc, ◌+◌, ◌*◌, ◌<◌, ◌≤◌, ◌==◌, List, [], ◌∷◌, ◌++◌, length, set, get_or}
-use Rattle.std.proofs.Common.{drop, length-append}
-use Rattle.std.proofs.Common.{Bool, true, false, ◌||◌, ◌&&◌, not, cond, refl, ap, ◌∙◌, arith}
+use Rattle.std.proofs.Common.{◌≡◌, ℕ, zero, suc, ◌+◌, ◌*◌, ◌<◌, ◌≤◌, ◌==◌, List, [], ◌∷◌, ◌++◌, length, set, get_or, drop}
+use Rattle.std.proofs.Common.{length-append, Bool, true, false, ◌||◌, ◌&&◌, not, cond, refl, ap, ◌∙◌, arith}
 use Rattle.std.specs.Prelude.{Option, Some, None}
-use Rattle.executor_model.proofs.Steps.QueuesByMark.{with_last, without_first_of}
-use Rattle.executor_model.specs.Queues.{Queues, all_in}
-use Rattle.executor_parts.specs.declared.mark.Mark.TheVariants.{Plain, Urgent}
-use Rattle.executor_parts.specs.declared.mark.Mark.{Mark}
-use Rattle.task_moves.specs.declared.moves.state.State.{State}
-use Rattle.task_moves.specs.declared.moves.owed.Owed.{Owed}
-use Rattle.task_moves.specs.declared.moves.owed.Moved.{Moved}
-use Rattle.task_moves.specs.declared.moves.owed.Move.TheVariants.{Release}
-use Rattle.task_moves.specs.Moves as moves
-use Rattle.task_moves.specs.Moves.{is_over}
-use Rattle.executor_model.specs.declared.event.Event.{Event}
-use Rattle.executor_model.specs.declared.op.Awaiter.{Awaiter}
-use Rattle.executor_model.specs.World.{World, Done, log, log_if, task, put, put_awaiter, queued_in}
-use Rattle.executor_model.specs.World.{awaiter_of, blank, without, among}
-use Rattle.executor_model.specs.Carried.{carried, owed_ops, schedule_ops, drop_ops, future_ops}
-use Rattle.executor_model.specs.Carried.{output_ops, awaiter_ops, next_ops, drops, emptied_ops}
-use Rattle.executor_model.specs.Weights.{weigh}
-use Rattle.executor_laws.specs.Costs.{steps_of}
+use Rattle.task_moves.{specs.declared.moves.owed.Move.TheVariants.Release, specs.Moves.is_over}
+use Rattle.executor_laws.proofs.Types.{Plain, Urgent, Mark, State, Owed, Moved, Event, Awaiter}
+use Rattle.executor_model.specs.World.{World, Done, log, log_if, task, put, put_awaiter, queued_in, awaiter_of, blank, without}
+use Rattle.executor_model.specs.Carried.{carried, owed_ops, schedule_ops, drop_ops, future_ops, output_ops, awaiter_ops}
+use Rattle.executor_model.specs.Carried.{next_ops, drops, emptied_ops}
+use Rattle.executor_model.specs.{World.among, Queues.Queues, Queues.all_in, Weights.weigh}
 use Rattle.executor_laws.specs.Remaining.{stored, appends_by, steps_of_task, steps_of_tasks, steps_of_runs, notified_of}
-use Rattle.executor_laws.specs.Remaining.{steps_of_leak, ups, steps_kept}
-use Rattle.executor_model.proofs.Steps.Lists.{weigh-append}
+use Rattle.executor_laws.specs.{Remaining.steps_of_leak, Remaining.ups, Remaining.steps_kept, Costs.steps_of}
+use Rattle.executor_model.proofs.{Steps.QueuesByMark.with_last, Steps.QueuesByMark.without_first_of, Steps.Lists.weigh-append}
+use Rattle.task_moves.specs.Moves as moves
 
 -- what is left after d, and one step, came out of what was left before and c
 abbrev pub Spends : World → ℕ → Done → Type 0

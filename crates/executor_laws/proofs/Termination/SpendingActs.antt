@@ -1,54 +1,28 @@
 -- For calls_end and lone_calls_end.
 -- Each thing that is done spends a step of those that remain.
-use Rattle.std.proofs.Common.{◌≡◌, ℕ, ◌+◌, ◌*◌, ◌<◌, ◌≤◌, List, [], ◌∷◌, ◌++◌, length}
-use Rattle.std.proofs.Common.{Bool, true, false, ◌&&◌, ◌||◌, refl, ap, arith}
+use Rattle.std.proofs.Common.{◌≡◌, ℕ, ◌+◌, ◌*◌, ◌<◌, ◌≤◌, List, [], ◌∷◌, ◌++◌, length, Bool, true, false, ◌&&◌, ◌||◌, refl, ap}
 use Rattle.std.proofs.lemmas.List.{length_push, length-append}
-use Rattle.std.specs.Prelude.{Option, Some, None}
-use Rattle.executor_laws.proofs.Termination.Spending.{length-last}
-use Rattle.executor_model.proofs.Steps.QueuesByMark.{length-first}
-use Rattle.executor_model.specs.declared.op.Look.{Look}
-use Rattle.executor_model.specs.declared.op.QueueOp.TheVariants as queue_op
-use Rattle.executor_parts.specs.declared.mark.Mark.TheVariants.{Plain, Urgent}
-use Rattle.executor_model.specs.declared.op.Look.TheVariants.{First, Second}
-use Rattle.executor_model.specs.World.{put_queue, queue_of, queued_in}
-use Rattle.executor_model.specs.Acts.{mark_in, take_turn, turned, close}
-use Rattle.executor_parts.specs.declared.mark.Mark.{Mark}
-use Rattle.queue_steps.specs.ClosableQueue.{appended, taken}
-use Rattle.task_moves.specs.declared.moves.state.State.{State}
-use Rattle.task_moves.specs.declared.moves.owed.Moved.{Moved}
-use Rattle.task_moves.specs.declared.moves.owed.Answer.{Answer}
+use Rattle.std.{proofs.Common.arith, specs.Prelude.Option, specs.Prelude.Some, specs.Prelude.None}
 use Rattle.task_moves.specs.declared.moves.owed.Answer.TheVariants.{Pending, Closed, Output}
+use Rattle.task_moves.{specs.declared.moves.owed.Answer.Answer, specs.Moves.is_over}
+use Rattle.queue_steps.specs.ClosableQueue.{appended, taken}
+use Rattle.executor_laws.proofs.Types.{Look, QueueOp, Plain, Urgent, First, Second, Mark, State, Moved, Event, Awaiter, Polled}
+use Rattle.executor_laws.proofs.Types.{Hold, Waker, Task, Outside, Op, HandleOp, Hint}
+use Rattle.executor_model.specs.World.{put_queue, queue_of, queued_in, World, Done, done, log, task, put, awaiter_of, without}
+use Rattle.executor_model.specs.Acts.{mark_in, take_turn, turned, close, append_by, take_by, enter_by, entered, entry_goes}
+use Rattle.executor_model.specs.Acts.{leave_by, copy_by, polled, reply_of, is_output, answered, look_by, look_again_by, copied}
+use Rattle.executor_model.specs.Acts.{copy_awaiter_by, register_by, waker_goes, let_go, let_go_by, end_register_by, notify_by}
+use Rattle.executor_model.specs.Acts.{told, end_notify, call_waker, closing_ops, take_out, drop_next_by, followed, wake}
+use Rattle.executor_model.specs.Acts.{wake_next_by, drain_by, leak_next_by, leak_out_by, leaking_ops}
+use Rattle.executor_model.specs.{World.among, Carried.awaiter_ops, Weights.weigh, Good.CanGrow, Good.CanWake, Good.IsKnownWaker}
+use Rattle.executor_laws.specs.Remaining.{stored, steps_of_task, steps_of_tasks, steps_of_runs, notified_of, ups, steps_kept}
+use Rattle.executor_laws.specs.{Remaining.steps_of_leak, Costs.steps_of, Costs.looks_left, Costs.queues_left}
+use Rattle.executor_model.proofs.{Steps.QueuesByMark.length-first, Steps.Lists.weigh-append}
+use Rattle.executor_laws.proofs.Termination.Spending.{length-last, Spends, kept-parts, leak-less, leak-more, tasks-push}
+use Rattle.executor_laws.proofs.Termination.Spending.{one_stored, stored-push, without-one, kept-put, kept-put_awaiter}
+use Rattle.executor_laws.proofs.Termination.Spending.{kept-log, kept-log_if, notify_other-steps, spends-logged, costs-waking}
+use Rattle.executor_laws.proofs.Termination.Spending.{closed-spent}
 use Rattle.task_moves.specs.Moves as moves
-use Rattle.task_moves.specs.Moves.{is_over}
-use Rattle.executor_model.specs.declared.event.Event.TheVariants as event
-use Rattle.executor_model.specs.declared.op.Awaiter.{Awaiter}
-use Rattle.executor_model.specs.declared.op.Polled.{Polled}
-use Rattle.executor_model.specs.declared.op.Hold.{Hold}
-use Rattle.executor_model.specs.declared.op.Hold.TheVariants as hold
-use Rattle.executor_model.specs.declared.op.Waker.{Waker}
-use Rattle.executor_model.specs.declared.op.Waker.TheVariants.{Task, Outside}
-use Rattle.executor_model.specs.declared.op.Op.{Op}
-use Rattle.executor_model.specs.declared.op.Op.TheVariants as op
-use Rattle.executor_model.specs.declared.op.HandleOp.TheVariants as handle_op
-use Rattle.executor_model.specs.declared.step.Hint.{Hint}
-use Rattle.executor_model.specs.World.{World, Done, done, log, task, put, awaiter_of, without, among}
-use Rattle.executor_model.specs.Carried.{awaiter_ops}
-use Rattle.executor_model.specs.Acts.{append_by, take_by, enter_by, entered, entry_goes, leave_by, copy_by, polled}
-use Rattle.executor_model.specs.Acts.{reply_of, is_output, answered, look_by, look_again_by, copied}
-use Rattle.executor_model.specs.Acts.{copy_awaiter_by, register_by, waker_goes, let_go, let_go_by, end_register_by}
-use Rattle.executor_model.specs.Acts.{notify_by, told, end_notify, call_waker, closing_ops, take_out}
-use Rattle.executor_model.specs.Acts.{drop_next_by, followed, wake, wake_next_by, drain_by}
-use Rattle.executor_model.specs.Weights.{weigh}
-use Rattle.executor_model.specs.Good.{CanGrow, CanWake, IsKnownWaker}
-use Rattle.executor_laws.specs.Costs.{steps_of, looks_left, queues_left}
-use Rattle.executor_laws.specs.Remaining.{stored, steps_of_task, steps_of_tasks, steps_of_runs, notified_of, ups}
-use Rattle.executor_laws.specs.Remaining.{steps_kept, steps_of_leak}
-use Rattle.executor_model.proofs.Steps.Lists.{weigh-append}
-use Rattle.executor_laws.proofs.Termination.Spending.{Spends, kept-parts, leak-less, leak-more, tasks-push, one_stored}
-use Rattle.executor_laws.proofs.Termination.Spending.{stored-push, without-one}
-use Rattle.executor_laws.proofs.Termination.Spending.{kept-put, kept-put_awaiter, kept-log, kept-log_if}
-use Rattle.executor_laws.proofs.Termination.Spending.{notify_other-steps, spends-logged, costs-waking, closed-spent}
-use Rattle.executor_model.specs.Acts.{leak_next_by, leak_out_by, leaking_ops}
 
 -- queue and table
 
@@ -77,7 +51,7 @@ spends-take look w (f ∷ rest) e = omega (
 pub kept-turned : (p : ℕ) (w : World) → steps_kept (turned p w) ≡ steps_kept w
 kept-turned p w = omega (arith, kept-parts w, kept-parts (turned p w))
 
-pub spends-turn : (p : ℕ) (w : World) → Spends w 121 (take_turn p w (λ l. op.Queue (queue_op.Take l)))
+pub spends-turn : (p : ℕ) (w : World) → Spends w 121 (take_turn p w (λ l. Op.Queue (QueueOp.Take l)))
 spends-turn p w = omega (arith, kept-turned p w)
 
 entered-steps : (b : Bool) → steps_of_task (entered b) ≡ steps_of_task (entered false)
@@ -156,13 +130,13 @@ pub spends-answered : (p : ℕ) (w v : World) (f c : ℕ) (m : Moved) (a : Answe
 spends-answered p w v f c m a i e t k n l = omega (
   arith,
   e,
-  kept-log_if (is_output a) (put v f m.state) (event.OutputGiven p f),
+  kept-log_if (is_output a) (put v f m.state) (Event.OutputGiven p f),
   kept-put v f m.state i,
   ap steps_of_task t,
   k,
   n,
   l,
-  weigh-append steps_of (awaiter_ops f m.owed.awaiter) (op.End (reply_of a) (hold.Handle f) ∷ []),
+  weigh-append steps_of (awaiter_ops f m.owed.awaiter) (Op.End (reply_of a) (Hold.Handle f) ∷ []),
 )
 
 pub spends-look : (x k c : Bool) (p : ℕ) (w : World) (f : ℕ) (a : Waker) → f < length w.tasks →
@@ -217,7 +191,7 @@ kept-copied w (Outside x) l = refl
 pub spends-copy_awaiter : (b : Bool) (p : ℕ) (w : World) (f : ℕ) (a : Waker) → IsKnownWaker w a →
     Spends w 33 (copy_awaiter_by b p w f a)
 spends-copy_awaiter true p w f a l = omega arith
-spends-copy_awaiter false p w f a l = omega (arith, kept-copied w a l, kept-log (copied w a) (event.HandlePolled p f))
+spends-copy_awaiter false p w f a l = omega (arith, kept-copied w a l, kept-log (copied w a) (Event.HandlePolled p f))
 
 pub spends-register : (b : Bool) (w : World) (f : ℕ) (a : Waker) (k : ℕ) → f < length w.tasks →
     Spends w 32 (register_by b w f a k)
@@ -241,7 +215,7 @@ spends-end_register true w f a k l =
       kept-marks w f (moves.end_register_by true (task w f)).state l refl,
       kept-put_awaiter v f None,
       let_go-steps (awaiter_of w f),
-      weigh-append steps_of (let_go (awaiter_of w f)) (op.Handle (handle_op.LookAgain f) ∷ []),
+      weigh-append steps_of (let_go (awaiter_of w f)) (Op.Handle (HandleOp.LookAgain f) ∷ []),
     )
 spends-end_register false w f a k l =
     let v : World = put w f (moves.end_register_by false (task w f)).state in
@@ -250,7 +224,7 @@ spends-end_register false w f a k l =
       kept-marks w f (moves.end_register_by false (task w f)).state l refl,
       kept-put_awaiter v f (Some (record { waker = a; poll = k })),
       let_go-steps (awaiter_of w f),
-      weigh-append steps_of (let_go (awaiter_of w f)) (op.Handle (handle_op.LookAgain f) ∷ []),
+      weigh-append steps_of (let_go (awaiter_of w f)) (Op.Handle (HandleOp.LookAgain f) ∷ []),
     )
 
 pub spends-notify : (b : Bool) (w : World) (f : ℕ) (mine : Bool) → f < length w.tasks →
@@ -286,17 +260,17 @@ spends-let_go false w f l =
     )
 
 pub spends-wake : (p : ℕ) (w : World) (f : ℕ) → f < length w.tasks → Spends w 26 (wake p w f)
-spends-wake p w f l = spends-logged _ w (event.Woken p f) f 26 (moves.wake (task w f)) l
+spends-wake p w f l = spends-logged _ w (Event.Woken p f) f 26 (moves.wake (task w f)) l
     (costs-waking _ _ (task w f) refl)
 
 pub spends-call : (p : ℕ) (w : World) (o : Polled) (a : Waker) (k : ℕ) → CanWake w a →
     Spends w 26 (call_waker p w o a k)
 spends-call p w o (Task m) k l = omega (
   arith,
-  kept-log w (event.WakerCalled p o k (Task m)),
-  spends-wake p (log w (event.WakerCalled p o k (Task m))) m l.0,
+  kept-log w (Event.WakerCalled p o k (Task m)),
+  spends-wake p (log w (Event.WakerCalled p o k (Task m))) m l.0,
 )
-spends-call p w o (Outside x) k l = omega (arith, kept-log w (event.WakerCalled p o k (Outside x)))
+spends-call p w o (Outside x) k l = omega (arith, kept-log w (Event.WakerCalled p o k (Outside x)))
 
 -- the drop of the executor
 
@@ -379,14 +353,14 @@ spends-leak_next false p w (f ∷ rest) l e =
       kept-parts w,
       kept-parts v,
       ap length e,
-      kept-log d.world (event.Leaked p f),
+      kept-log d.world (Event.Leaked p f),
       spends-followed v 26 1 (wake p v f) (leaking_ops rest) (spends-wake p v f (l f rest e).0) (leaking-steps rest),
     )
 
 pub spends-drain : (mark : Mark) (p : ℕ) (w : World) (q : List ℕ) → (queue_of w mark).items ≡ q →
     Spends w (1 + queues_left mark) (drain_by p w mark q)
 spends-drain Urgent p w [] e = omega arith
-spends-drain Plain p w [] e = omega (arith, kept-log w (event.DropEnded p))
+spends-drain Plain p w [] e = omega (arith, kept-log w (Event.DropEnded p))
 spends-drain mark p w (f ∷ rest) e = omega (
   arith,
   kept-parts w,

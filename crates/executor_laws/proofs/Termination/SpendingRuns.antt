@@ -1,62 +1,26 @@
 -- For calls_end and lone_calls_end.
 -- What a run does spends a step of those that remain, or one of its walk.
-use Rattle.std.proofs.Common.{◌≡◌, ℕ, zero, suc, ◌+◌, ◌-◌, ◌*◌, ◌<◌, ◌≤◌, ◌/◌, ◌%◌, List, [], ◌∷◌, ◌++◌, length, set}
-use Rattle.std.proofs.Common.{get_or, get_or-set_same, Bool, true, false, ltb, eqb, cond, refl, ap, ◌∙◌, arith}
+use Rattle.std.proofs.Common.{◌≡◌, ℕ, zero, suc, ◌+◌, ◌-◌, ◌*◌, ◌<◌, ◌≤◌, ◌/◌, ◌%◌, List, [], ◌∷◌, ◌++◌, length, set, get_or}
+use Rattle.std.proofs.Common.{get_or-set_same, Bool, true, false, ltb, eqb, cond, refl, ap, ◌∙◌, arith}
 use Rattle.std.proofs.lemmas.Bool.Decides.{nat_tests}
-use Rattle.executor_laws.proofs.Termination.SpendingActs.{kept-turned}
-use Rattle.executor_laws.proofs.Termination.Spending.{length-less}
-use Rattle.executor_model.proofs.Steps.QueuesByMark.{length-first}
-use Rattle.executor_model.specs.declared.op.Look.{Look}
-use Rattle.executor_model.specs.declared.op.Look.TheVariants.{First, Second}
-use Rattle.executor_model.specs.World.{put_queue, queue_of}
-use Rattle.executor_model.specs.Acts.{mark_in}
 use Rattle.queue_steps.specs.ClosableQueue.{taken}
-use Rattle.task_moves.specs.Moves as moves
-use Rattle.executor_model.specs.declared.call.Reply.{Reply}
-use Rattle.executor_model.specs.declared.call.Reply.TheVariants as reply
-use Rattle.executor_model.specs.declared.event.Event.TheVariants as event
-use Rattle.executor_model.specs.declared.op.Hold.TheVariants as hold
-use Rattle.executor_model.specs.declared.op.ListOp.{ListOp}
-use Rattle.executor_model.specs.declared.op.ListOp.TheVariants as list_op
-use Rattle.executor_model.specs.declared.op.Op.{Op}
-use Rattle.executor_model.specs.declared.op.Op.TheVariants as op
-use Rattle.executor_model.specs.declared.op.Polled.TheVariants as of
-use Rattle.executor_model.specs.declared.op.RunOp.{RunOp}
-use Rattle.executor_model.specs.declared.op.RunOp.TheVariants as run_op
-use Rattle.executor_model.specs.declared.op.RunPoll.{RunPoll}
-use Rattle.executor_model.specs.declared.op.Section.TheVariants as section
-use Rattle.executor_model.specs.declared.op.TickOrRun.{TickOrRun}
-use Rattle.executor_model.specs.declared.op.TickOrRun.TheVariants as tick_or_run
-use Rattle.executor_model.specs.declared.op.SleeperOp.TheVariants as sleeper_op
-use Rattle.executor_model.specs.declared.op.Sleeping.{Sleeping}
-use Rattle.executor_model.specs.declared.op.Source.{Source}
-use Rattle.executor_model.specs.declared.op.Source.TheVariants.{Common, Own}
-use Rattle.executor_model.specs.declared.op.Steal.{Steal}
-use Rattle.executor_model.specs.declared.op.StealOp.{StealOp}
-use Rattle.executor_model.specs.declared.op.StealOp.TheVariants as steal_op
-use Rattle.executor_model.specs.declared.op.Then.{Then}
-use Rattle.executor_model.specs.declared.op.Then.TheVariants as then
-use Rattle.executor_model.specs.declared.op.TickOp.TheVariants as tick_op
-use Rattle.executor_model.specs.declared.op.Waker.{Waker}
-use Rattle.executor_model.specs.declared.op.Waker.TheVariants.{Task, Outside}
-use Rattle.executor_model.specs.declared.step.Hint.{Hint}
-use Rattle.executor_model.specs.ActsOfRuns as runs
-use Rattle.executor_model.specs.ActsOfSleepers.{found_by}
-use Rattle.executor_model.specs.Doing.{list_act, run_act, steal_act}
-use Rattle.executor_model.specs.Good.{CanWake, RunNeeds}
-use Rattle.executor_model.specs.Rows.{running_of}
-use Rattle.executor_model.specs.Weights.{is_run, same, weigh}
-use Rattle.executor_model.specs.World.{Ticker, Awake, Asleep, Left, Lock}
-use Rattle.executor_model.specs.World.{World, Stage, New, Listed, Ended, Run, Done, log, no_run, new_run, run_of, put_run}
-use Rattle.executor_model.specs.World.{own_of, put_own, task}
-use Rattle.executor_model.proofs.Steps.Lists.{same_is, weigh-append}
-use Rattle.executor_model.proofs.OwnQueues.RunsAside.{runs_of, unseen}
-use Rattle.executor_model.proofs.OwnQueues.RunsMoving.{Weighs, walk-by, weighs-found, weighs-stolen, nothing-by}
-use Rattle.executor_laws.proofs.Termination.Beside.{by_reference}
+use Rattle.executor_laws.proofs.Types.{Look, First, Second, Reply, Event, Hold, ListOp, Op, Polled, RunOp, RunPoll, Section}
+use Rattle.executor_laws.proofs.Types.{TickOrRun, SleeperOp, Sleeping, Source, Common, Own, Steal, StealOp, Then, TickOp, Waker}
+use Rattle.executor_laws.proofs.Types.{Task, Outside, Hint}
+use Rattle.executor_model.specs.World.{put_queue, queue_of, Ticker, Awake, Asleep, Left, Lock, World, Stage, New, Listed, Ended}
+use Rattle.executor_model.specs.World.{Run, Done, log, no_run, new_run, run_of, put_run, own_of, put_own, task}
+use Rattle.executor_model.specs.{Acts.mark_in, ActsOfSleepers.found_by, Doing.list_act, Doing.run_act, Doing.steal_act}
+use Rattle.executor_model.specs.{Good.CanWake, Good.RunNeeds, Rows.running_of, Weights.is_run, Weights.same, Weights.weigh}
 use Rattle.executor_laws.specs.Costs.{left_by, steps_of, steps_of_search, steps_then, walk_of, walk_then}
 use Rattle.executor_laws.specs.Remaining.{steps_kept, steps_of_place, steps_of_runs}
-use Rattle.executor_laws.proofs.Termination.Spending.{Spends, kept-log, kept-parts, costs-wake, spends-logged}
+use Rattle.executor_model.proofs.OwnQueues.RunsAside.{runs_of, unseen}
+use Rattle.executor_model.proofs.OwnQueues.RunsMoving.{Weighs, walk-by, weighs-found, weighs-stolen, nothing-by}
+use Rattle.executor_model.proofs.{Steps.QueuesByMark.length-first, Steps.Lists.same_is, Steps.Lists.weigh-append}
+use Rattle.executor_laws.proofs.Termination.Spending.{length-less, Spends, kept-log, kept-parts, costs-wake, spends-logged}
 use Rattle.executor_laws.proofs.Termination.SpendingTicks.{notified-back, wakes_up-steps}
+use Rattle.executor_laws.proofs.{Termination.SpendingActs.kept-turned, Termination.Beside.by_reference}
+use Rattle.task_moves.specs.Moves as moves
+use Rattle.executor_model.specs.ActsOfRuns as runs
 
 -- what is left after it and one step came out of what was left; or as much is left, and a step less of the walk
 pub data Pays (w : World) (o : Op) (d : Done) : Type 0 where
@@ -76,7 +40,7 @@ pub record CanPay (w : World) (o : Op) : Type 0 where
   pub few : TakesFew w
   pub born : (r : ℕ) → 1 ≤ running_of r o → r < length w.runs
   pub short : (r : ℕ) → length (own_of w r) ≤ 512
-  pub room : (s : Steal) (more f : ℕ) → o ≡ op.Steal (steal_op.Put s more f) →
+  pub room : (s : Steal) (more f : ℕ) → o ≡ Op.Steal (StealOp.Put s more f) →
       ltb 0 (runs.free_places w s.poll.run) ≡ true
 
 -- the runs
@@ -118,11 +82,7 @@ kept-run_by true w x f l k e =
     omega (arith, last, kept-run w x.run (record (run_of w x.run) { taken = 0 }) l)
 kept-run_by false w x f l k e =
     let more : (run_of w x.run).taken + 1 < 200 = grind (arith, nat_tests) in
-    omega (
-      arith,
-      more,
-      kept-run w x.run (record (run_of w x.run) { taken = (run_of w x.run).taken + 1 }) l,
-    )
+    omega (arith, more, kept-run w x.run (record (run_of w x.run) { taken = (run_of w x.run).taken + 1 }) l)
 
 run-now : (w : World) (r : ℕ) (x : Run) → r < length w.runs → run_of (put_run w r x) r ≡ x
 run-now w r x l = get_or-set_same w.runs r x no_run l
@@ -148,13 +108,13 @@ kept-counted false w x f l k =
 kept-found : (w : World) (x : RunPoll) (f : ℕ) → x.run < length w.runs → (run_of w x.run).taken < 200 →
     steps_kept (runs.found w x f).world + weigh steps_of (runs.found w x f).next ≤ steps_kept w + 32094
 kept-found w x f l k =
-    let tells : List Op = op.Sleeper sleeper_op.ExchangeFlag ∷ [] in
-    let first : List Op = found_by (run_of w x.run).place (tick_or_run.Run x.run) tells in
+    let tells : List Op = Op.Sleeper SleeperOp.ExchangeFlag ∷ [] in
+    let first : List Op = found_by (run_of w x.run).place (TickOrRun.Run x.run) tells in
     let b : Bool = eqb ((run_of w x.run).counted + 1) 64 in
     omega (
       arith,
       weigh-append steps_of first (runs.counted_by b w x f).next,
-      wakes_up-steps (run_of w x.run).place (tick_or_run.Run x.run) tells,
+      wakes_up-steps (run_of w x.run).place (TickOrRun.Run x.run) tells,
       kept-counted b w x f l k,
     )
 
@@ -169,20 +129,20 @@ walk-counted false w x f =
     omega (arith, walk-run_by (eqb ((run_of v x.run).taken + 1) 200) v x f)
 
 walk-wakes_up : (p : Ticker) (who : TickOrRun) →
-    weigh walk_of (found_by p who (op.Sleeper sleeper_op.ExchangeFlag ∷ [])) ≡ 0
+    weigh walk_of (found_by p who (Op.Sleeper SleeperOp.ExchangeFlag ∷ [])) ≡ 0
 walk-wakes_up Awake who = refl
 walk-wakes_up (Asleep n) who = refl
 walk-wakes_up Left who = refl
 
 walk-found : (w : World) (x : RunPoll) (f : ℕ) → weigh walk_of (runs.found w x f).next ≤ 1026
 walk-found w x f =
-    let tells : List Op = op.Sleeper sleeper_op.ExchangeFlag ∷ [] in
-    let first : List Op = found_by (run_of w x.run).place (tick_or_run.Run x.run) tells in
+    let tells : List Op = Op.Sleeper SleeperOp.ExchangeFlag ∷ [] in
+    let first : List Op = found_by (run_of w x.run).place (TickOrRun.Run x.run) tells in
     let b : Bool = eqb ((run_of w x.run).counted + 1) 64 in
     omega (
       arith,
       weigh-append walk_of first (runs.counted_by b w x f).next,
-      walk-wakes_up (run_of w x.run).place (tick_or_run.Run x.run),
+      walk-wakes_up (run_of w x.run).place (TickOrRun.Run x.run),
       walk-counted b w x f,
     )
 
@@ -206,17 +166,17 @@ left-stolen v t w x = weighs-stolen (left_by v) x 0 0 (left-found v x) t w ∙ n
 pays-stolen : (o : Op) (t : Then) (w v : World) (x : RunPoll) → x.run < length v.runs → (run_of v x.run).taken < 200 →
     steps_kept v ≤ steps_kept w →
     steps_of o ≡ steps_then t → walk_then t + 1 ≤ walk_of o → Pays w o (runs.stolen t v x)
-pays-stolen o (then.Found f) w v x l k i e n =
+pays-stolen o (Then.Found f) w v x l k i e n =
     let d : Done = runs.found v x f in
-    spends (omega (arith, i, e, kept-found v x f l k, left-stolen d.world (then.Found f) v x))
+    spends (omega (arith, i, e, kept-found v x f l k, left-stolen d.world (Then.Found f) v x))
     (omega (arith, walk-found v x f))
-pays-stolen o (then.StealPlain f) w v x l k i e n = spends (omega (arith, i, e)) (omega arith)
-pays-stolen o (then.Run f) w v x l k i e n =
+pays-stolen o (Then.StealPlain f) w v x l k i e n = spends (omega (arith, i, e)) (omega arith)
+pays-stolen o (Then.Run f) w v x l k i e n =
     let b : Bool = eqb ((run_of v x.run).taken + 1) 200 in
     let d : Done = runs.run_by b v x f in
-    spends (omega (arith, i, e, kept-run_by b v x f l k refl, left-stolen d.world (then.Run f) v x))
+    spends (omega (arith, i, e, kept-run_by b v x f l k refl, left-stolen d.world (Then.Run f) v x))
     (omega (arith, walk-run_by b v x f))
-pays-stolen o (then.Walk at left) w v x l k i e n = walks (omega (arith, i, e)) (omega (arith, n))
+pays-stolen o (Then.Walk at left) w v x l k i e n = walks (omega (arith, i, e)) (omega (arith, n))
 
 -- stealing
 
@@ -234,25 +194,25 @@ free-few w r = by (ltb r (length w.own))
     by true = omega arith
     by false = omega arith
 
-pays-length : (n : ℕ) (w : World) (s : Steal) → CanPay w (op.Steal (steal_op.Length s)) →
-    Pays w (op.Steal (steal_op.Length s)) (runs.steal_length_by n w s)
+pays-length : (n : ℕ) (w : World) (s : Steal) → CanPay w (Op.Steal (StealOp.Length s)) →
+    Pays w (Op.Steal (StealOp.Length s)) (runs.steal_length_by n w s)
 pays-length zero w s c =
-    pays-stolen (op.Steal (steal_op.Length s)) s.then w w s.poll
+    pays-stolen (Op.Steal (StealOp.Length s)) s.then w w s.poll
     (c.born s.poll.run (grind (arith, same_is))) (c.few s.poll.run) (omega arith) refl (omega arith)
 pays-length (suc n) w s c = walks (omega arith) (omega arith)
 
-pays-own_length : (k n : ℕ) (w : World) (s : Steal) → k ≤ 512 → CanPay w (op.Steal (steal_op.OwnLength s n)) →
-    Pays w (op.Steal (steal_op.OwnLength s n)) (runs.steal_by k w s)
+pays-own_length : (k n : ℕ) (w : World) (s : Steal) → k ≤ 512 → CanPay w (Op.Steal (StealOp.OwnLength s n)) →
+    Pays w (Op.Steal (StealOp.OwnLength s n)) (runs.steal_by k w s)
 pays-own_length zero n w s l c =
-    pays-stolen (op.Steal (steal_op.OwnLength s n)) s.then w w s.poll
+    pays-stolen (Op.Steal (StealOp.OwnLength s n)) s.then w w s.poll
     (c.born s.poll.run (grind (arith, same_is))) (c.few s.poll.run) (omega arith) refl (omega arith)
 pays-own_length (suc k) n w s l c = walks (omega arith) (omega (arith, l))
 
 pays-take : (from : Source) (q : List ℕ) (w : World) (s : Steal) (more : ℕ) → s.from ≡ from →
-    runs.source_of w from ≡ q → CanPay w (op.Steal (steal_op.Take s more)) →
-    Pays w (op.Steal (steal_op.Take s more)) (runs.steal_take_by q w s more)
+    runs.source_of w from ≡ q → CanPay w (Op.Steal (StealOp.Take s more)) →
+    Pays w (Op.Steal (StealOp.Take s more)) (runs.steal_take_by q w s more)
 pays-take from [] w s more i e c =
-    pays-stolen (op.Steal (steal_op.Take s more)) s.then w w s.poll
+    pays-stolen (Op.Steal (StealOp.Take s more)) s.then w w s.poll
     (c.born s.poll.run (grind (arith, same_is))) (c.few s.poll.run) (omega arith) refl (omega arith)
 pays-take from (f ∷ rest) w s more i e c = walks (omega (arith, by s.from)) (omega arith)
   where
@@ -267,31 +227,31 @@ pays-take from (f ∷ rest) w s more i e c = walks (omega (arith, by s.from)) (o
 
 kept-kept : (p : ℕ) (w : World) (r f : ℕ) → steps_kept (runs.kept_by p w r f) ≡ steps_kept w
 kept-kept p w r f =
-    kept-log (put_own w r (own_of w r ++ f ∷ [])) (event.Kept p f r) ∙ kept-put_own w r (own_of w r ++ f ∷ [])
+    kept-log (put_own w r (own_of w r ++ f ∷ [])) (Event.Kept p f r) ∙ kept-put_own w r (own_of w r ++ f ∷ [])
 
 pays-put : (b : Bool) (p : ℕ) (w : World) (s : Steal) (more f : ℕ) → b ≡ true →
-    CanPay w (op.Steal (steal_op.Put s more f)) →
-    Pays w (op.Steal (steal_op.Put s more f)) (runs.steal_put_by b p w s more f)
+    CanPay w (Op.Steal (StealOp.Put s more f)) →
+    Pays w (Op.Steal (StealOp.Put s more f)) (runs.steal_put_by b p w s more f)
 pays-put false p w s more f e c = absurd (cc)
 pays-put true p w s zero f e c =
-    pays-stolen (op.Steal (steal_op.Put s zero f)) s.then w (runs.kept_by p w s.poll.run f) s.poll
+    pays-stolen (Op.Steal (StealOp.Put s zero f)) s.then w (runs.kept_by p w s.poll.run f) s.poll
     (c.born s.poll.run (grind (arith, same_is))) (c.few s.poll.run) (omega (arith, kept-kept p w s.poll.run f)) refl
     (omega arith)
 pays-put true p w s (suc more) f e c = walks (omega (arith, kept-kept p w s.poll.run f)) (omega arith)
 
-pub pays-steal : (p : ℕ) (o : StealOp) (w : World) → CanPay w (op.Steal o) → Pays w (op.Steal o) (steal_act p o w)
-pays-steal p (steal_op.Length s) w c = pays-length _ w s c
-pays-steal p (steal_op.OwnLength s n) w c =
+pub pays-steal : (p : ℕ) (o : StealOp) (w : World) → CanPay w (Op.Steal o) → Pays w (Op.Steal o) (steal_act p o w)
+pays-steal p (StealOp.Length s) w c = pays-length _ w s c
+pays-steal p (StealOp.OwnLength s n) w c =
     let free : ℕ = runs.free_places w s.poll.run in
     pays-own_length (runs.share n free) n w s (omega (arith, share-few n free, free-few w s.poll.run)) c
-pays-steal p (steal_op.Take s more) w c = pays-take s.from _ w s more refl refl c
-pays-steal p (steal_op.Put s more f) w c = pays-put _ p w s more f (c.room s more f refl) c
+pays-steal p (StealOp.Take s more) w c = pays-take s.from _ w s more refl refl c
+pays-steal p (StealOp.Put s more f) w c = pays-put _ p w s more f (c.room s more f refl) c
 
 -- searching
 
-pub pays-own : (q : List ℕ) (w : World) (s : Sleeping) (r : ℕ) → s.who ≡ tick_or_run.Run r →
-    CanPay w (op.Tick (tick_op.Search s)) →
-    Pays w (op.Tick (tick_op.Search s)) (runs.search_own_by q w (record { run = r; waker = s.waker; poll = s.poll }))
+pub pays-own : (q : List ℕ) (w : World) (s : Sleeping) (r : ℕ) → s.who ≡ TickOrRun.Run r →
+    CanPay w (Op.Tick (TickOp.Search s)) →
+    Pays w (Op.Tick (TickOp.Search s)) (runs.search_own_by q w (record { run = r; waker = s.waker; poll = s.poll }))
 pays-own [] w s r i c = walks (omega (arith, ap steps_of_search i)) (omega arith)
 pays-own (f ∷ rest) w s r i c =
     let x : RunPoll = record { run = r; waker = s.waker; poll = s.poll } in
@@ -321,17 +281,17 @@ walk-walk x qs at (suc left) = by (eqb (runs.queue_at qs at) x.run) (walk-walk x
     by : (b : Bool) → weigh walk_of (runs.walk x qs (runs.next_place qs at) left) ≤ 1030 * left + 1 →
         weigh walk_of (let h : List Op = elim b [
           | true ↦ runs.walk x qs (runs.next_place qs at) left
-          | false ↦ op.Steal (steal_op.Length (record {
+          | false ↦ Op.Steal (StealOp.Length (record {
             poll = x;
             from = Own (runs.queue_at qs at);
-            then = then.Walk (runs.next_place qs at) left;
+            then = Then.Walk (runs.next_place qs at) left;
           })) ∷ []
         ] in h) ≤ 1030 * suc left + 1
     by true z = omega (arith, z)
     by false z = omega arith
 
-pays-look : (q : List ℕ) (w : World) (x : RunPoll) (at left : ℕ) → CanPay w (op.Run (run_op.LookOwn x at left)) →
-    Pays w (op.Run (run_op.LookOwn x at left)) (runs.look_own_by q w x at left)
+pays-look : (q : List ℕ) (w : World) (x : RunPoll) (at left : ℕ) → CanPay w (Op.Run (RunOp.LookOwn x at left)) →
+    Pays w (Op.Run (RunOp.LookOwn x at left)) (runs.look_own_by q w x at left)
 pays-look [] w x at left c =
     walks (omega (arith, steps-walk x w.listed at left, left-walk w x w.listed at left))
     (omega (arith, walk-walk x w.listed at left))
@@ -347,7 +307,7 @@ pays-look (f ∷ rest) w x at left c =
     (omega (arith, walk-found v x f))
 
 pays-common : (look : Look) (q : List ℕ) (w : World) (x : RunPoll) → (queue_of w (mark_in look)).items ≡ q →
-    Pays w (op.Run (run_op.SearchCommon x look)) (runs.search_common_by q w x look)
+    Pays w (Op.Run (RunOp.SearchCommon x look)) (runs.search_common_by q w x look)
 pays-common (First mark) [] w x e = walks (omega arith) (omega arith)
 pays-common (Second mark) [] w x e = walks (omega arith) (omega arith)
 pays-common look (f ∷ rest) w x e =
@@ -362,27 +322,27 @@ pays-common look (f ∷ rest) w x e =
 -- its own waker, and what is left
 
 pub unleft : (v : World) (o : Op) → runs_of o ≡ 0 → left_by v o ≡ 0
-unleft v (op.Run o) z = absurd (omega (arith, z))
+unleft v (Op.Run o) z = absurd (omega (arith, z))
 unleft v _ z = refl
 
 pub unwalked : (o : Op) → runs_of o ≡ 0 → walk_of o ≡ 0
-unwalked (op.Tick o) z = absurd (omega (arith, z))
-unwalked (op.Steal o) z = absurd (omega (arith, z))
-unwalked (op.Run o) z = absurd (omega (arith, z))
+unwalked (Op.Tick o) z = absurd (omega (arith, z))
+unwalked (Op.Steal o) z = absurd (omega (arith, z))
+unwalked (Op.Run o) z = absurd (omega (arith, z))
 unwalked _ z = refl
 
 pays-call : (p : ℕ) (w : World) (a : Waker) → CanWake w a → Spends w 13 (runs.call_by_reference p w a)
 pays-call p w (Task g) l =
-    spends-logged _ w (event.Woken p g) g 13 (moves.wake_by_reference (task w g)) l.0 (costs-wake _ _ (task w g) refl)
+    spends-logged _ w (Event.Woken p g) g 13 (moves.wake_by_reference (task w g)) l.0 (costs-wake _ _ (task w g) refl)
 pays-call p w (Outside y) l = omega arith
 
 pays-wake : (p : ℕ) (w : World) (x : RunPoll) → CanWake w x.waker →
-    Pays w (op.Run (run_op.WakeOwn x)) (runs.wake_own p w x)
+    Pays w (Op.Run (RunOp.WakeOwn x)) (runs.wake_own p w x)
 pays-wake p w x l =
-    let e = event.WakerCalled p (of.Run x.run) x.poll x.waker in
+    let e = Event.WakerCalled p (Polled.Run x.run) x.poll x.waker in
     let v : World = log w e in
     let d : Done = runs.call_by_reference p v x.waker in
-    let end : List Op = op.End reply.Pending (hold.Run x.run) ∷ [] in
+    let end : List Op = Op.End Reply.Pending (Hold.Run x.run) ∷ [] in
     spends (omega (
       arith,
       kept-log w e,
@@ -393,7 +353,7 @@ pays-wake p w x l =
     ))
     (omega (arith, weigh-append walk_of d.next end, unseen walk_of unwalked d.next (by_reference p v x.waker).1))
   where
-    woken : (a : Waker) → CanWake w a → CanWake (log w (event.WakerCalled p (of.Run x.run) x.poll x.waker)) a
+    woken : (a : Waker) → CanWake w a → CanWake (log w (Event.WakerCalled p (Polled.Run x.run) x.poll x.waker)) a
     woken (Task g) k = k
     woken (Outside y) k = k
 
@@ -403,33 +363,33 @@ own-now (x ∷ qs) zero q = omega arith
 own-now (x ∷ qs) (suc r) q = own-now qs r q
 
 pays-reschedule : (q : List ℕ) (w : World) (r : ℕ) (a : Reply) → own_of w r ≡ q →
-    Pays w (op.Run (run_op.Reschedule r a)) (runs.reschedule_by q w r a)
+    Pays w (Op.Run (RunOp.Reschedule r a)) (runs.reschedule_by q w r a)
 pays-reschedule [] w r a e = spends (omega arith) (omega arith)
 pays-reschedule (f ∷ rest) w r a e =
     spends (omega (arith, kept-put_own w r rest, ap length e, own-now w.own r rest)) (omega arith)
 
-pays-room : (b : Bool) (w : World) → Pays w (op.Run run_op.MakeRoom) (runs.make_room_by b w)
+pays-room : (b : Bool) (w : World) → Pays w (Op.Run RunOp.MakeRoom) (runs.make_room_by b w)
 pays-room true w = spends (omega arith) (omega arith)
 pays-room false w =
     spends (omega (arith, kept-parts w, kept-parts (runs.make_room_by false w).world)) (omega arith)
 
-pays-return : (w : World) → Pays w (op.Run run_op.ReturnRoom) (runs.return_room w)
+pays-return : (w : World) → Pays w (Op.Run RunOp.ReturnRoom) (runs.return_room w)
 pays-return w =
     spends (omega (arith, kept-parts w, kept-parts (runs.return_room w).world, notified-back w.sleepers)) (omega arith)
 
-pub pays-run : (p : ℕ) (h : Hint) (o : RunOp) (w : World) → RunNeeds w o → CanPay w (op.Run o) →
-    Pays w (op.Run o) (run_act p h o w)
-pays-run p h run_op.MakeRoom w n c = pays-room _ w
-pays-run p h run_op.ReturnRoom w n c = pays-return w
-pays-run p h (run_op.TakeTurn x) w n c = walks (omega (arith, kept-turned p w)) (omega arith)
-pays-run p h (run_op.SearchCommon x look) w n c = pays-common look _ w x refl
-pays-run p h (run_op.LookOwn x at left) w n c = pays-look _ w x at left c
-pays-run p h (run_op.WakeOwn x) w n c = pays-wake p w x n
-pays-run p h (run_op.Reschedule r a) w n c = pays-reschedule _ w r a refl
+pub pays-run : (p : ℕ) (h : Hint) (o : RunOp) (w : World) → RunNeeds w o → CanPay w (Op.Run o) →
+    Pays w (Op.Run o) (run_act p h o w)
+pays-run p h RunOp.MakeRoom w n c = pays-room _ w
+pays-run p h RunOp.ReturnRoom w n c = pays-return w
+pays-run p h (RunOp.TakeTurn x) w n c = walks (omega (arith, kept-turned p w)) (omega arith)
+pays-run p h (RunOp.SearchCommon x look) w n c = pays-common look _ w x refl
+pays-run p h (RunOp.LookOwn x at left) w n c = pays-look _ w x at left c
+pays-run p h (RunOp.WakeOwn x) w n c = pays-wake p w x n
+pays-run p h (RunOp.Reschedule r a) w n c = pays-reschedule _ w r a refl
 
 -- the list
 
-pays-make : (b : Bool) (w : World) → Pays w (op.List (list_op.Write section.MakeRun)) (runs.make_run_by b w)
+pays-make : (b : Bool) (w : World) → Pays w (Op.List (ListOp.Write Section.MakeRun)) (runs.make_run_by b w)
 pays-make true w = spends (omega arith) (omega arith)
 pays-make false w =
     spends (omega (arith, kept-parts w, kept-parts (runs.make_run_by false w).world, runs-push w.runs new_run))
@@ -450,17 +410,17 @@ kept-unregistered w r =
 kept-lock : (w : World) (l : Lock) → steps_kept (record w { lock = l }) ≡ steps_kept w
 kept-lock w l = omega (arith, kept-parts w, kept-parts (record w { lock = l }))
 
-pub pays-list : (h : Hint) (o : ListOp) (w : World) → CanPay w (op.List o) → Pays w (op.List o) (list_act h o w)
-pays-list h (list_op.LockWrite s) w c =
+pub pays-list : (h : Hint) (o : ListOp) (w : World) → CanPay w (Op.List o) → Pays w (Op.List o) (list_act h o w)
+pays-list h (ListOp.LockWrite s) w c =
     spends (omega (arith, kept-lock w (record w.lock { writing = true }))) (omega arith)
-pays-list h (list_op.Write section.MakeRun) w c = pays-make _ w
-pays-list h (list_op.Write (section.Register x)) w c =
+pays-list h (ListOp.Write Section.MakeRun) w c = pays-make _ w
+pays-list h (ListOp.Write (Section.Register x)) w c =
     spends (omega (arith, kept-registered (run_of w x.run).stage w x.run)) (omega arith)
-pays-list h (list_op.Write (section.Unregister r a)) w c =
+pays-list h (ListOp.Write (Section.Unregister r a)) w c =
     spends (omega (arith, kept-unregistered w r, c.short r)) (omega arith)
-pays-list h list_op.UnlockWrite w c =
+pays-list h ListOp.UnlockWrite w c =
     spends (omega (arith, kept-lock w (record w.lock { writing = false }))) (omega arith)
-pays-list h (list_op.LockRead x) w c =
+pays-list h (ListOp.LockRead x) w c =
     let d : Done = runs.lock_read h w x in
     let at : ℕ = h.start % length w.listed in
     spends (omega (
@@ -470,5 +430,5 @@ pays-list h (list_op.LockRead x) w c =
       left-walk d.world x w.listed at (length w.listed),
     ))
     (omega (arith, walk-walk x w.listed at (length w.listed)))
-pays-list h list_op.UnlockRead w c =
+pays-list h ListOp.UnlockRead w c =
     spends (omega (arith, kept-lock w (record w.lock { readers = w.lock.readers - 1 }))) (omega arith)

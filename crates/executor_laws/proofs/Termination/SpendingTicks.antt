@@ -1,45 +1,28 @@
 -- For calls_end and lone_calls_end.
 -- What tells a sleeper, and what ticks and runs both do, spends a step of those that remain, but for a run's copy of
 -- its waker and its search.
-use Rattle.std.proofs.Common.{◌≡◌, ℕ, zero, suc, ◌+◌, ◌-◌, ◌*◌, ◌<◌, ◌≤◌, List, [], ◌∷◌, ◌++◌, length, set, get_or}
-use Rattle.std.proofs.Common.{take, Bool, true, false, ltb, refl, ap, subst, arith}
-use Rattle.std.proofs.lemmas.Bool.Decides.{nat_tests}
-use Rattle.std.proofs.lemmas.List.{length_push}
-use Rattle.std.proofs.lemmas.List.Edits.{length-remove}
+use Rattle.std.proofs.Common.{◌≡◌, ℕ, zero, suc, ◌+◌, ◌-◌, ◌*◌, ◌<◌, ◌≤◌, List, [], ◌∷◌, ◌++◌, length, set, get_or, take, Bool}
+use Rattle.std.proofs.Common.{true, false, ltb, refl, ap, subst, arith}
 use Rattle.std.specs.Prelude.{Option, Some, None, is_none, remove}
-use Rattle.executor_laws.proofs.Termination.SpendingActs.{looks-some, kept-turned}
-use Rattle.executor_model.proofs.Steps.QueuesByMark.{length-first}
-use Rattle.executor_model.specs.ActsOfSleepers.{search_tick}
-use Rattle.executor_model.specs.declared.op.Look.{Look}
-use Rattle.executor_model.specs.declared.op.Look.TheVariants.{First, Second}
-use Rattle.executor_model.specs.World.{put_queue, queue_of, queued_in}
-use Rattle.executor_model.specs.Acts.{mark_in}
-use Rattle.executor_parts.specs.Sleepers.{Sleepers, position_of, without_last, waker_at, waker_of, next_number}
-use Rattle.executor_parts.specs.Sleepers.{put_to_sleep, listed, without_entry, freed, woken_up}
+use Rattle.std.{proofs.lemmas.Bool.Decides.nat_tests, proofs.lemmas.List.length_push, proofs.lemmas.List.Edits.length-remove}
 use Rattle.queue_steps.specs.ClosableQueue.{taken}
-use Rattle.task_moves.specs.declared.moves.owed.Move.TheVariants as move
-use Rattle.executor_model.specs.declared.call.Reply.TheVariants as reply
-use Rattle.executor_model.specs.declared.op.Op.{Op}
-use Rattle.executor_model.specs.declared.op.Op.TheVariants as op
-use Rattle.executor_model.specs.declared.op.TickOrRun.{TickOrRun}
-use Rattle.executor_model.specs.declared.op.TickOrRun.TheVariants as tick_or_run
-use Rattle.executor_model.specs.declared.op.Sleeping.{Sleeping}
-use Rattle.executor_model.specs.declared.op.SleeperOp.{SleeperOp}
-use Rattle.executor_model.specs.declared.op.SleeperOp.TheVariants as sleeper_op
-use Rattle.executor_model.specs.World.{World, Ticker, Awake, Asleep, Left, Run, no_run, place_of, ticks_with, runs_with}
-use Rattle.executor_model.specs.ActsOfSleepers.{exchange_by, call_of, hand_out_by, make_tick_by, found_by, held_as}
+use Rattle.executor_parts.specs.Sleepers.{Sleepers, position_of, without_last, waker_at, waker_of, next_number, put_to_sleep}
+use Rattle.executor_parts.specs.Sleepers.{listed, without_entry, freed, woken_up}
+use Rattle.executor_laws.proofs.Types.{Look, First, Second, Move, Reply, Op, TickOrRun, Sleeping, SleeperOp}
+use Rattle.executor_model.specs.ActsOfSleepers.{search_tick, exchange_by, call_of, hand_out_by, make_tick_by, found_by, held_as}
 use Rattle.executor_model.specs.ActsOfSleepers.{polled_as, look_tick_by, copy_sleeper_by, pend_as, sleep_anew_by, sleeper_goes}
-use Rattle.executor_model.specs.ActsOfSleepers.{sleep_listed_by, sleep_again_by, fall_asleep_by, wake_up_by, given_back, tell_and_return}
-use Rattle.executor_model.specs.ActsOfSleepers.{leave_sleepers_by}
-use Rattle.executor_model.specs.Doing.{sleeper_act}
-use Rattle.executor_model.specs.Good.{IsKnownWaker, SleeperNeeds}
-use Rattle.executor_model.specs.Weights.{weigh}
-use Rattle.executor_model.proofs.Steps.Lists.{weigh-append}
-use Rattle.executor_model.proofs.Steps.SleepersLists.{position-within}
+use Rattle.executor_model.specs.ActsOfSleepers.{sleep_listed_by, sleep_again_by, fall_asleep_by, wake_up_by, given_back}
+use Rattle.executor_model.specs.World.{put_queue, queue_of, queued_in, World, Ticker, Awake, Asleep, Left, Run, no_run}
+use Rattle.executor_model.specs.ActsOfSleepers.{tell_and_return, leave_sleepers_by}
+use Rattle.executor_model.specs.World.{place_of, ticks_with, runs_with}
+use Rattle.executor_model.specs.{Acts.mark_in, Doing.sleeper_act, Good.IsKnownWaker, Good.SleeperNeeds, Weights.weigh}
 use Rattle.executor_laws.specs.Costs.{steps_of, steps_of_copy, steps_of_sleeping, steps_of_search, looks_left}
 use Rattle.executor_laws.specs.Remaining.{notified_of, up_of, ups, steps_kept, steps_of_runs}
+use Rattle.executor_model.proofs.Steps.SleepersLists.{position-within}
+use Rattle.executor_model.proofs.{Steps.QueuesByMark.length-first, Steps.Lists.weigh-append}
+use Rattle.executor_laws.proofs.Termination.SpendingActs.{looks-some, kept-turned, kept-as, spends-as, kept-copied, goes-steps}
+use Rattle.executor_laws.proofs.Termination.SpendingActs.{spends-call}
 use Rattle.executor_laws.proofs.Termination.Spending.{Spends, kept-parts}
-use Rattle.executor_laws.proofs.Termination.SpendingActs.{kept-as, spends-as, kept-copied, goes-steps, spends-call}
 
 -- sleepers that were notified
 
@@ -128,8 +111,8 @@ steps_of_places w = 5 * ups w.ticks + steps_of_runs w.runs
 placed : (w : World) (who : TickOrRun) (x : Ticker) →
     5 * ups (ticks_with w.ticks who x) + steps_of_runs (runs_with w.runs who x) + 5 * up_of (place_of w who)
     ≤ steps_of_places w + 5 * up_of x
-placed w (tick_or_run.Tick t) x = omega (arith, ups-set w.ticks t x)
-placed w (tick_or_run.Run r) x = omega (arith, places-set w.runs r x)
+placed w (TickOrRun.Tick t) x = omega (arith, ups-set w.ticks t x)
+placed w (TickOrRun.Run r) x = omega (arith, places-set w.runs r x)
 
 -- the world has changed in nothing that is kept but sleepers, ticks and runs
 pub kept-of : (w v : World) (n m : ℕ) → queued_in v ≡ queued_in w → v.table ≡ w.table → v.leaving ≡ w.leaving →
@@ -146,7 +129,7 @@ kept-of w v n m a b c j d e f g h =
 spends-exchange : (b : Bool) (w : World) → Spends w 33 (exchange_by b w)
 spends-exchange true w = omega arith
 spends-exchange false w =
-    spends-as w _ 33 (op.Sleeper sleeper_op.HandOut ∷ []) (kept-as w _ refl refl refl refl refl refl refl refl refl refl)
+    spends-as w _ 33 (Op.Sleeper SleeperOp.HandOut ∷ []) (kept-as w _ refl refl refl refl refl refl refl refl refl refl)
     (omega arith)
 
 call-steps : (o : Option Sleeping) → weigh steps_of (call_of o) ≤ 26
@@ -163,10 +146,10 @@ spends-hand_out true o w = omega (
 spends-hand_out false o w = omega arith
 
 pub spends-sleeper : (p : ℕ) (o : SleeperOp) (w : World) → SleeperNeeds w o →
-    Spends w (steps_of (op.Sleeper o)) (sleeper_act p o w)
-spends-sleeper p sleeper_op.ExchangeFlag w l = spends-exchange _ w
-spends-sleeper p sleeper_op.HandOut w l = spends-hand_out _ _ w
-spends-sleeper p (sleeper_op.CallSleeper s) w l = spends-call p w (polled_as s.who) s.waker s.poll l
+    Spends w (steps_of (Op.Sleeper o)) (sleeper_act p o w)
+spends-sleeper p SleeperOp.ExchangeFlag w l = spends-exchange _ w
+spends-sleeper p SleeperOp.HandOut w l = spends-hand_out _ _ w
+spends-sleeper p (SleeperOp.CallSleeper s) w l = spends-call p w (polled_as s.who) s.waker s.poll l
 
 -- ticks and runs
 
@@ -189,8 +172,8 @@ wakes_up-steps (Asleep n) who more = omega arith
 wakes_up-steps Left who more = omega arith
 
 copy-steps : (who : TickOrRun) → 140 ≤ steps_of_copy who
-copy-steps (tick_or_run.Tick t) = omega arith
-copy-steps (tick_or_run.Run r) = omega arith
+copy-steps (TickOrRun.Tick t) = omega arith
+copy-steps (TickOrRun.Run r) = omega arith
 
 pub spends-search : (look : Look) (x : Ticker) (w : World) (q : List ℕ) (s : Sleeping) → (queue_of w (mark_in look)).items ≡ q →
     Spends w (steps_of_copy s.who + looks_left look) (look_tick_by x w look q s)
@@ -199,7 +182,7 @@ spends-search (Second mark) x w [] s e = omega arith
 spends-search look x w (f ∷ rest) s e = omega (
   arith,
   wakes_up-steps x s.who
-      (op.Sleeper sleeper_op.ExchangeFlag ∷ op.Move move.TakeUp f ∷ op.End reply.Ready (held_as s.who) ∷ []),
+      (Op.Sleeper SleeperOp.ExchangeFlag ∷ Op.Move Move.TakeUp f ∷ Op.End Reply.Ready (held_as s.who) ∷ []),
   kept-parts w,
   kept-parts (put_queue w (mark_in look) (taken (queue_of w (mark_in look)))),
   length-first f rest (mark_in look) w.queues e,
@@ -212,8 +195,8 @@ spends-tick_turn p w s = omega (arith, kept-turned p w)
 
 -- the copy of a waker comes in hand, and the steps of falling asleep are left
 pub slumbering-steps : (who : TickOrRun) → (139 ≤ steps_of_sleeping who) × (steps_of_search who + 1 ≤ steps_of_sleeping who + 5)
-slumbering-steps (tick_or_run.Tick t) = (omega arith, omega arith)
-slumbering-steps (tick_or_run.Run r) = (omega arith, omega arith)
+slumbering-steps (TickOrRun.Tick t) = (omega arith, omega arith)
+slumbering-steps (TickOrRun.Run r) = (omega arith, omega arith)
 
 pub kept-copy_sleeper : (b : Bool) (w : World) (s : Sleeping) → IsKnownWaker w s.waker →
     steps_kept (copy_sleeper_by b w s).world + weigh steps_of (copy_sleeper_by b w s).next

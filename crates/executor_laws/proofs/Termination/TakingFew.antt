@@ -1,65 +1,24 @@
 -- For calls_end and lone_calls_end.
 -- No run takes 200 futures without letting others go first.
-use Rattle.std.proofs.Common.{◌≡◌, ℕ, zero, suc, ◌+◌, ◌<◌, List, [], ◌∷◌, ◌++◌, length, set, get_or}
-use Rattle.std.proofs.Common.{Bool, true, false, eqb, refl, ap, sym, arith}
+use Rattle.std.proofs.Common.{◌≡◌, ℕ, zero, suc, ◌+◌, ◌<◌, List, [], ◌∷◌, ◌++◌, length, set, get_or, Bool, true, false, eqb}
+use Rattle.std.proofs.Common.{refl, ap, sym, arith}
 use Rattle.std.proofs.lemmas.Bool.Decides.{nat_tests}
 use Rattle.std.specs.Prelude.{Option, Some, None, reverse}
-use Rattle.executor_model.specs.declared.op.Look.{Look}
-use Rattle.executor_parts.specs.declared.mark.Mark.TheVariants.{Plain, Urgent}
-use Rattle.executor_parts.specs.declared.mark.Mark.{Mark}
-use Rattle.executor_model.specs.declared.op.Look.TheVariants.{First, Second}
 use Rattle.executor_parts.specs.Sleepers.{next_number}
-use Rattle.task_moves.specs.declared.moves.owed.Move.TheVariants as move
-use Rattle.executor_model.specs.declared.call.Call.{Call}
-use Rattle.executor_model.specs.declared.call.Call.TheVariants as call
-use Rattle.executor_model.specs.declared.call.Reply.{Reply}
-use Rattle.executor_model.specs.declared.event.Answer.TheVariants as answer
-use Rattle.executor_model.specs.declared.event.Event.TheVariants as event
-use Rattle.executor_model.specs.declared.kind.Kind.{Kind}
-use Rattle.executor_model.specs.declared.op.ClosingOp.TheVariants as closing_op
-use Rattle.executor_model.specs.declared.op.ListOp.{ListOp}
-use Rattle.executor_model.specs.declared.op.ListOp.TheVariants as list_op
-use Rattle.executor_model.specs.declared.op.Op.{Op}
-use Rattle.executor_model.specs.declared.op.Op.TheVariants as op
-use Rattle.executor_model.specs.declared.op.Polled.TheVariants as of
-use Rattle.executor_model.specs.declared.op.QueueOp.TheVariants as queue_op
-use Rattle.executor_model.specs.declared.op.RunOp.{RunOp}
-use Rattle.executor_model.specs.declared.op.RunOp.TheVariants as run_op
-use Rattle.executor_model.specs.declared.op.RunPoll.{RunPoll}
-use Rattle.executor_model.specs.declared.op.Section.TheVariants as section
-use Rattle.executor_model.specs.declared.op.TickOrRun.{TickOrRun}
-use Rattle.executor_model.specs.declared.op.TickOrRun.TheVariants as tick_or_run
-use Rattle.executor_model.specs.declared.op.SleeperOp.TheVariants as sleeper_op
-use Rattle.executor_model.specs.declared.op.Sleeping.{Sleeping}
-use Rattle.executor_model.specs.declared.op.Source.{Source}
-use Rattle.executor_model.specs.declared.op.Source.TheVariants.{Common, Own}
-use Rattle.executor_model.specs.declared.op.Steal.{Steal}
-use Rattle.executor_model.specs.declared.op.StealOp.{StealOp}
-use Rattle.executor_model.specs.declared.op.StealOp.TheVariants as steal_op
-use Rattle.executor_model.specs.declared.op.Then.{Then}
-use Rattle.executor_model.specs.declared.op.Then.TheVariants as then
-use Rattle.executor_model.specs.declared.op.TickOp.{TickOp}
-use Rattle.executor_model.specs.declared.op.TickOp.TheVariants as tick_op
-use Rattle.executor_model.specs.declared.op.UserOp.TheVariants as user_op
-use Rattle.executor_model.specs.declared.op.Waker.{Waker}
-use Rattle.executor_model.specs.declared.op.Waker.TheVariants.{Task, Outside}
-use Rattle.executor_model.specs.declared.step.Hint.{Hint}
-use Rattle.executor_model.specs.declared.step.Step.{Step}
-use Rattle.executor_model.specs.declared.step.UserEnd.{UserEnd}
-use Rattle.executor_model.specs.declared.step.UserEnd.TheVariants as end
+use Rattle.executor_laws.proofs.Types.{Look, Plain, Urgent, Mark, First, Second, Move, Call, Reply, Answer, Event, Kind}
+use Rattle.executor_laws.proofs.Types.{ClosingOp, ListOp, Op, Polled, QueueOp, RunOp, RunPoll, Section, TickOrRun, SleeperOp}
+use Rattle.executor_laws.proofs.Types.{Sleeping, Source, Common, Own, Steal, StealOp, Then, TickOp, UserOp, Waker, Task}
+use Rattle.executor_model.specs.World.{World, Ticker, Awake, Asleep, Left, Stage, New, Listed, Ended, Run, Done, log, no_run}
+use Rattle.executor_model.specs.Doing.{act, list_act, run_act, search_by_who, steal_act, tick_act}
+use Rattle.executor_model.specs.Steps.{Machine, begun, future_of, kept, mine, react, run, stack, start, top, with_future}
+use Rattle.executor_model.specs.{World.new_run, World.run_of, World.runs_with, World.put_own, World.put_run, Good.Good}
+use Rattle.executor_model.proofs.Steps.Lift.{good-start, unsettled, no_hint}
+use Rattle.executor_model.proofs.OwnQueues.RunsAside.{Rest, frame-act, is_run}
+use Rattle.executor_model.proofs.Steps.Ways.{Way, acted, reacted, called, along}
+use Rattle.executor_laws.proofs.{Types.Outside, Types.Hint, Types.Step, Types.UserEnd, Termination.SpendingRuns.TakesFew}
 use Rattle.executor_model.specs.Acts as acts
 use Rattle.executor_model.specs.ActsOfSleepers as of_sleepers
 use Rattle.executor_model.specs.ActsOfRuns as runs
-use Rattle.executor_model.specs.Doing.{act, list_act, run_act, search_by_who, steal_act, tick_act}
-use Rattle.executor_model.specs.Good.{Good}
-use Rattle.executor_model.specs.Steps.{Machine, begun, future_of, kept, mine, react, run, stack, start, top, with_future}
-use Rattle.executor_model.specs.World.{World, Ticker, Awake, Asleep, Left, Stage, New, Listed, Ended, Run, Done, log}
-use Rattle.executor_model.specs.World.{no_run, new_run, run_of, runs_with, put_own, put_run}
-use Rattle.executor_model.proofs.Steps.Lift.{good-start, unsettled}
-use Rattle.executor_model.proofs.Steps.Lift.{no_hint}
-use Rattle.executor_model.proofs.OwnQueues.RunsAside.{Rest, frame-act, is_run}
-use Rattle.executor_model.proofs.Steps.Ways.{Way, acted, reacted, called, along}
-use Rattle.executor_laws.proofs.Termination.SpendingRuns.{TakesFew}
 
 abbrev pub RunsStay : World → World → Type 0
 RunsStay w v = v.runs ≡ w.runs
@@ -89,18 +48,18 @@ runs-drain Plain p w [] = refl
 runs-drain mark p w (f ∷ rest) = refl
 
 pub runs-act : (p : ℕ) (h : Hint) (o : Op) (w : World) → is_run o ≡ false → RunsStay w (act p h o w).world
-runs-act p h (op.Queue queue_op.TakeTurn) w n = refl
-runs-act p h (op.Queue (queue_op.Take look)) w n = runs-take look _ w
-runs-act p h (op.Queue (queue_op.Append f)) w n = runs-append _ w _ f
-runs-act p h (op.Sleeper sleeper_op.ExchangeFlag) w n = runs-exchange _ w
-runs-act p h (op.Sleeper sleeper_op.HandOut) w n = runs-hand_out _ _ w
-runs-act p h (op.User (user_op.PollOwn x)) w n = absurd (cc)
-runs-act p h (op.Tick o) w n = absurd (cc)
-runs-act p h (op.List o) w n = absurd (cc)
-runs-act p h (op.Steal o) w n = absurd (cc)
-runs-act p h (op.Run o) w n = absurd (cc)
-runs-act p h (op.Closing (closing_op.Close mark)) w n = refl
-runs-act p h (op.Closing (closing_op.Drain mark)) w n = runs-drain mark p w _
+runs-act p h (Op.Queue QueueOp.TakeTurn) w n = refl
+runs-act p h (Op.Queue (QueueOp.Take look)) w n = runs-take look _ w
+runs-act p h (Op.Queue (QueueOp.Append f)) w n = runs-append _ w _ f
+runs-act p h (Op.Sleeper SleeperOp.ExchangeFlag) w n = runs-exchange _ w
+runs-act p h (Op.Sleeper SleeperOp.HandOut) w n = runs-hand_out _ _ w
+runs-act p h (Op.User (UserOp.PollOwn x)) w n = absurd (cc)
+runs-act p h (Op.Tick o) w n = absurd (cc)
+runs-act p h (Op.List o) w n = absurd (cc)
+runs-act p h (Op.Steal o) w n = absurd (cc)
+runs-act p h (Op.Run o) w n = absurd (cc)
+runs-act p h (Op.Closing (ClosingOp.Close mark)) w n = refl
+runs-act p h (Op.Closing (ClosingOp.Drain mark)) w n = runs-drain mark p w _
 runs-act p h o w n = ap (λ (r : Rest). r.runs) (sym (frame-act p h o w refl).rest)
 
 -- so few were taken still
@@ -127,8 +86,8 @@ pauses-same : (w v : World) → v.runs ≡ w.runs → Pauses w v
 pauses-same w v e k = λ r. omega (arith, k r, ap (λ (rs : List Run). (get_or rs r no_run).taken) e)
 
 pauses-placed : (w v : World) (who : TickOrRun) (x : Ticker) → v.runs ≡ runs_with w.runs who x → Pauses w v
-pauses-placed w v (tick_or_run.Tick t) x e k = pauses-same w v e k
-pauses-placed w v (tick_or_run.Run q) x e k = λ r. omega (
+pauses-placed w v (TickOrRun.Tick t) x e k = pauses-same w v e k
+pauses-placed w v (TickOrRun.Run q) x e k = λ r. omega (
   arith,
   ap (λ (rs : List Run). (get_or rs r no_run).taken) e,
   set-few w.runs q (record (run_of w q) { place = x }) (k q) k r,
@@ -202,10 +161,10 @@ pauses-found : (w : World) (x : RunPoll) (f : ℕ) → Pauses w (runs.found w x 
 pauses-found w x f k = pauses-counted _ w x f k
 
 pauses-stolen : (t : Then) (w : World) (x : RunPoll) → Pauses w (runs.stolen t w x).world
-pauses-stolen (then.Found f) w x k = pauses-found w x f k
-pauses-stolen (then.StealPlain f) w x k = k
-pauses-stolen (then.Run f) w x k = pauses-run_by _ w x f refl k
-pauses-stolen (then.Walk at left) w x k = k
+pauses-stolen (Then.Found f) w x k = pauses-found w x f k
+pauses-stolen (Then.StealPlain f) w x k = k
+pauses-stolen (Then.Run f) w x k = pauses-run_by _ w x f refl k
+pauses-stolen (Then.Walk at left) w x k = k
 
 pauses-length : (n : ℕ) (w : World) (s : Steal) → Pauses w (runs.steal_length_by n w s).world
 pauses-length zero w s k = pauses-stolen s.then w s.poll k
@@ -229,27 +188,27 @@ pauses-put true p w s more f k = pauses-more more (runs.kept_by p w s.poll.run f
 pauses-put false p w s more f k = pauses-stolen s.then w s.poll k
 
 pauses-steal : (p : ℕ) (o : StealOp) (w : World) → Pauses w (steal_act p o w).world
-pauses-steal p (steal_op.Length s) w k = pauses-length _ w s k
-pauses-steal p (steal_op.OwnLength s n) w k = pauses-more _ w s k
-pauses-steal p (steal_op.Take s more) w k = pauses-take _ w s more k
-pauses-steal p (steal_op.Put s more f) w k = pauses-put _ p w s more f k
+pauses-steal p (StealOp.Length s) w k = pauses-length _ w s k
+pauses-steal p (StealOp.OwnLength s n) w k = pauses-more _ w s k
+pauses-steal p (StealOp.Take s more) w k = pauses-take _ w s more k
+pauses-steal p (StealOp.Put s more f) w k = pauses-put _ p w s more f k
 
 pauses-own : (q : List ℕ) (w : World) (x : RunPoll) → Pauses w (runs.search_own_by q w x).world
 pauses-own [] w x k = k
 pauses-own (f ∷ rest) w x k = pauses-found (put_own w x.run rest) x f k
 
 pauses-searches : (who : TickOrRun) (p : ℕ) (w : World) (s : Sleeping) → Pauses w (search_by_who who p w s).world
-pauses-searches (tick_or_run.Tick t) p w s k = k
-pauses-searches (tick_or_run.Run r) p w s k = pauses-own _ w _ k
+pauses-searches (TickOrRun.Tick t) p w s k = k
+pauses-searches (TickOrRun.Run r) p w s k = pauses-own _ w _ k
 
 pauses-tick : (p : ℕ) (h : Hint) (o : TickOp) (w : World) → Pauses w (tick_act p h o w).world
-pauses-tick p h tick_op.MakeTick w k = pauses-make _ w k
-pauses-tick p h (tick_op.Search s) w k = pauses-searches s.who p w s k
-pauses-tick p h (tick_op.Look s look) w k = pauses-search look _ w _ s k
-pauses-tick p h (tick_op.CopyWaker s) w k = pauses-copy _ w s k
-pauses-tick p h (tick_op.FallAsleep s) w k = pauses-sleep _ w s k
-pauses-tick p h (tick_op.WakeUp who) w k = pauses-up _ w who k
-pauses-tick p h (tick_op.Leave who) w k = pauses-leave _ w who k
+pauses-tick p h TickOp.MakeTick w k = pauses-make _ w k
+pauses-tick p h (TickOp.Search s) w k = pauses-searches s.who p w s k
+pauses-tick p h (TickOp.Look s look) w k = pauses-search look _ w _ s k
+pauses-tick p h (TickOp.CopyWaker s) w k = pauses-copy _ w s k
+pauses-tick p h (TickOp.FallAsleep s) w k = pauses-sleep _ w s k
+pauses-tick p h (TickOp.WakeUp who) w k = pauses-up _ w who k
+pauses-tick p h (TickOp.Leave who) w k = pauses-leave _ w who k
 
 pauses-common : (look : Look) (q : List ℕ) (w : World) (x : RunPoll) → Pauses w (runs.search_common_by q w x look).world
 pauses-common (First mark) [] w x k = k
@@ -266,7 +225,7 @@ pauses-room false w k = k
 
 pauses-wake : (p : ℕ) (w : World) (a : Waker) → Pauses w (runs.call_by_reference p w a).world
 pauses-wake p w (Task g) k =
-    pauses-same w (runs.call_by_reference p w (Task g)).world (runs-act p no_hint (op.Move move.WakeByReference g) w refl) k
+    pauses-same w (runs.call_by_reference p w (Task g)).world (runs-act p no_hint (Op.Move Move.WakeByReference g) w refl) k
 pauses-wake p w (Outside y) k = k
 
 pauses-reschedule : (q : List ℕ) (w : World) (r : ℕ) (a : Reply) → Pauses w (runs.reschedule_by q w r a).world
@@ -274,14 +233,14 @@ pauses-reschedule [] w r a k = k
 pauses-reschedule (f ∷ rest) w r a k = k
 
 pauses-of-run : (p : ℕ) (h : Hint) (o : RunOp) (w : World) → Pauses w (run_act p h o w).world
-pauses-of-run p h run_op.MakeRoom w k = pauses-room _ w k
-pauses-of-run p h run_op.ReturnRoom w k = k
-pauses-of-run p h (run_op.TakeTurn x) w k = k
-pauses-of-run p h (run_op.SearchCommon x look) w k = pauses-common look _ w x k
-pauses-of-run p h (run_op.LookOwn x at left) w k = pauses-look _ w x at left k
-pauses-of-run p h (run_op.WakeOwn x) w k =
-    pauses-wake p (log w (event.WakerCalled p (of.Run x.run) x.poll x.waker)) x.waker k
-pauses-of-run p h (run_op.Reschedule r a) w k = pauses-reschedule _ w r a k
+pauses-of-run p h RunOp.MakeRoom w k = pauses-room _ w k
+pauses-of-run p h RunOp.ReturnRoom w k = k
+pauses-of-run p h (RunOp.TakeTurn x) w k = k
+pauses-of-run p h (RunOp.SearchCommon x look) w k = pauses-common look _ w x k
+pauses-of-run p h (RunOp.LookOwn x at left) w k = pauses-look _ w x at left k
+pauses-of-run p h (RunOp.WakeOwn x) w k =
+    pauses-wake p (log w (Event.WakerCalled p (Polled.Run x.run) x.poll x.waker)) x.waker k
+pauses-of-run p h (RunOp.Reschedule r a) w k = pauses-reschedule _ w r a k
 
 pauses-made : (b : Bool) (w : World) → Pauses w (runs.make_run_by b w).world
 pauses-made true w k = k
@@ -293,28 +252,28 @@ pauses-registered Listed w r k = k
 pauses-registered Ended w r k = k
 
 pauses-list : (h : Hint) (o : ListOp) (w : World) → Pauses w (list_act h o w).world
-pauses-list h (list_op.Write section.MakeRun) w k = pauses-made _ w k
-pauses-list h (list_op.Write (section.Register x)) w k = pauses-registered _ w x.run k
-pauses-list h (list_op.Write (section.Unregister r a)) w k =
+pauses-list h (ListOp.Write Section.MakeRun) w k = pauses-made _ w k
+pauses-list h (ListOp.Write (Section.Register x)) w k = pauses-registered _ w x.run k
+pauses-list h (ListOp.Write (Section.Unregister r a)) w k =
     pauses-run w r (record (run_of w r) { stage = Ended }) (λ z. z r) k
 pauses-list h _ w k = k
 
 pauses-act-by : (p : ℕ) (h : Hint) (o : Op) (w : World) (b : Bool) → is_run o ≡ b → Pauses w (act p h o w).world
 pauses-act-by p h o w false e k = pauses-same w (act p h o w).world (runs-act p h o w e) k
-pauses-act-by p h (op.Tick o) w true e k = pauses-tick p h o w k
-pauses-act-by p h (op.List o) w true e k = pauses-list h o w k
-pauses-act-by p h (op.Steal o) w true e k = pauses-steal p o w k
-pauses-act-by p h (op.Run o) w true e k = pauses-of-run p h o w k
-pauses-act-by p h (op.User (user_op.PollOwn x)) w true e k = k
+pauses-act-by p h (Op.Tick o) w true e k = pauses-tick p h o w k
+pauses-act-by p h (Op.List o) w true e k = pauses-list h o w k
+pauses-act-by p h (Op.Steal o) w true e k = pauses-steal p o w k
+pauses-act-by p h (Op.Run o) w true e k = pauses-of-run p h o w k
+pauses-act-by p h (Op.User (UserOp.PollOwn x)) w true e k = k
 pauses-act-by p h _ w true e k = absurd (cc)
 
 pauses-react : (p : ℕ) (o : Op) (u : UserEnd) (w : World) → Pauses w (react p o u w).world
-pauses-react p (op.User (user_op.Poll f)) (end.Polled answer.Pending) w k = k
-pauses-react p (op.User (user_op.Poll f)) (end.Polled answer.Ready) w k = k
-pauses-react p (op.User (user_op.Poll f)) end.Done w k = k
-pauses-react p (op.User (user_op.PollOwn x)) (end.Polled answer.Pending) w k = k
-pauses-react p (op.User (user_op.PollOwn x)) (end.Polled answer.Ready) w k = k
-pauses-react p (op.User (user_op.PollOwn x)) end.Done w k = k
+pauses-react p (Op.User (UserOp.Poll f)) (UserEnd.Polled Answer.Pending) w k = k
+pauses-react p (Op.User (UserOp.Poll f)) (UserEnd.Polled Answer.Ready) w k = k
+pauses-react p (Op.User (UserOp.Poll f)) UserEnd.Done w k = k
+pauses-react p (Op.User (UserOp.PollOwn x)) (UserEnd.Polled Answer.Pending) w k = k
+pauses-react p (Op.User (UserOp.PollOwn x)) (UserEnd.Polled Answer.Ready) w k = k
+pauses-react p (Op.User (UserOp.PollOwn x)) UserEnd.Done w k = k
 pauses-react p _ _ w k = k
 
 pauses-with : (w : World) (o : Option ℕ) (d : ℕ → Done) → ((f : ℕ) → Pauses w (d f).world) →
@@ -323,13 +282,13 @@ pauses-with w (Some f) d n k = n f k
 pauses-with w None d n k = k
 
 pauses-begun : (p : ℕ) (w : World) (here : Option Waker) (c : Call) → Pauses w (begun p w here c).world
-pauses-begun p w here (call.Wake n) k = pauses-with w (kept w n) _ (λ f z. z) k
-pauses-begun p w here (call.WakeByRef n) k = pauses-with w (kept w n) _ (λ f z. z) k
-pauses-begun p w here (call.Copy n) k = pauses-with w (kept w n) _ (λ f z. z) k
-pauses-begun p w here (call.DropWaker n) k = pauses-with w (kept w n) _ (λ f z. z) k
-pauses-begun p w here call.Keep k = pauses-with w (future_of here) _ (λ f z. z) k
-pauses-begun p w here call.WakeSelf k = pauses-with w (future_of here) _ (λ f z. z) k
-pauses-begun p w here (call.DropRun r) k =
+pauses-begun p w here (Call.Wake n) k = pauses-with w (kept w n) _ (λ f z. z) k
+pauses-begun p w here (Call.WakeByRef n) k = pauses-with w (kept w n) _ (λ f z. z) k
+pauses-begun p w here (Call.Copy n) k = pauses-with w (kept w n) _ (λ f z. z) k
+pauses-begun p w here (Call.DropWaker n) k = pauses-with w (kept w n) _ (λ f z. z) k
+pauses-begun p w here Call.Keep k = pauses-with w (future_of here) _ (λ f z. z) k
+pauses-begun p w here Call.WakeSelf k = pauses-with w (future_of here) _ (λ f z. z) k
+pauses-begun p w here (Call.DropRun r) k =
     pauses-run w r (record (run_of w r) { dropped = true }) (λ z. z r) k
 pauses-begun p w here _ k = k
 
@@ -340,7 +299,7 @@ few-moves : (s : Machine) (p : ℕ) (old rest : List Op) (d : Done) → Good s �
 few-moves s p old rest d good l e (acted h o q z) k = rw z (pauses-act-by p h o s.world (is_run o) refl k)
 few-moves s p old rest d good l e (reacted o u a q z) k = rw z (pauses-react p o u s.world k)
 few-moves s p old rest d good l e (called c q t n z) k =
-    rw z (pauses-begun p (log s.world (event.CallBegun p c)) (mine (top (stack s p))) c k)
+    rw z (pauses-begun p (log s.world (Event.CallBegun p c)) (mine (top (stack s p))) c k)
 
 pub takes-few : (limit : ℕ) (kind : Kind) (n : ℕ) (ts : List Step) → TakesFew (run ts (start limit kind n)).world
 takes-few limit kind n ts = along (λ (s : Machine). TakesFew s.world) few-moves (λ s p a held below l e k. k) ts

@@ -1,19 +1,20 @@
 -- For common_futures_are_in_reach_of_runs.
--- What stands in a run's own queue, then what it has in its hand, then what stands in the executor's queue, is a line in
--- which a run that is polled takes the first and leaves the others in order.
-use Rattle.std.proofs.Common.{◌≡◌, ◌∙◌, ◌⊎◌, inl, inr, ⊎_elim, ℕ, zero, suc, ◌<◌, ◌≤◌, List, [], ◌∷◌, ◌++◌, length, drop}
-use Rattle.std.proofs.Common.{get_or, get_or-set_same, Bool, true, false, ltb, refl, sym, ap, subst, arith, append-nil, append_assoc}
+-- What a run that is polled does takes what is first, in its own queue or in one of the executor's, or leaves a future as near to
+-- it as it was.
+use Rattle.std.proofs.Common.{◌≡◌, ◌∙◌, ◌⊎◌, inl, inr, ⊎_elim, ℕ, zero, suc, ◌+◌, ◌<◌, List, [], ◌∷◌, ◌++◌, length, drop}
+use Rattle.std.proofs.Common.{get_or, get_or-set_same, Bool, true, false, ltb, refl, sym, ap, subst, arith, append-nil}
 use Rattle.std.proofs.lemmas.List.{reverse-append}
 use Rattle.std.specs.Prelude.{reverse}
 use Rattle.executor_model.specs.declared.op.Look.TheVariants.{First, Second}
 use Rattle.executor_model.specs.declared.op.Look.{Look}
 use Rattle.executor_parts.specs.declared.mark.Mark.{Mark}
 use Rattle.executor_parts.specs.declared.mark.Mark.TheVariants.{Plain, Urgent}
-use Rattle.executor_parts.specs.Marks.{first_of}
-use Rattle.queue_steps.specs.ClosableQueue.{taken}
-use Rattle.executor_model.specs.Queues.{Queues}
+use Rattle.executor_parts.specs.Marks.{first_of, other}
+use Rattle.queue_steps.specs.ClosableQueue.{ClosableQueue, taken}
+use Rattle.executor_model.specs.Queues.{Queues, queue_in}
 use Rattle.executor_model.specs.World.{done, put_queue, queue_of}
 use Rattle.executor_model.specs.Acts.{mark_in, take_turn, turned}
+use Rattle.executor_model.specs.declared.event.Event.{Event}
 use Rattle.task_moves.specs.declared.moves.owed.Move.TheVariants as move
 use Rattle.executor_model.specs.declared.call.Reply.TheVariants as reply
 use Rattle.executor_model.specs.declared.event.Event.TheVariants as event
@@ -49,57 +50,37 @@ use Rattle.executor_model.specs.World.{Asleep, Awake, Done, Left, Ticker, World,
 use Rattle.executor_model.proofs.OwnQueues.UsingRuns.{idle-stolen}
 use Rattle.executor_model.proofs.OwnQueues.UsingWorlds.{idle-act}
 use Rattle.executor_model.proofs.Steps.Lists.{weigh-append, weigh-reverse}
+use Rattle.executor_model.proofs.Steps.QueuesByMark.{mark-cases, queue-put-same}
 use Rattle.executor_laws.proofs.Reach.LoneMoves.{Inner, inner-act, stray_of}
+use Rattle.executor_laws.proofs.Reach.Spots.{named, named-append, named-none}
 use Rattle.executor_laws.proofs.RunReach.RunFinds.{Heads, heads-found}
 use Rattle.executor_laws.proofs.RunReach.RunFinds.Heading.{stealing}
 use Rattle.executor_laws.proofs.RunReach.RunLeaves.{within}
+use Rattle.executor_laws.proofs.Turns.Standing.{Beside, Phase, Standing, Untold}
+use Rattle.executor_laws.proofs.Turns.Standing.Phase.{looking, ongoing}
 
-abbrev pub hand_of : Op → List ℕ
-hand_of (op.Steal (steal_op.Put s more f)) = f ∷ []
-hand_of _ = []
+-- what a steal has in hand stands behind the run's own queue
+abbrev pub with_hand : Op → List ℕ → List ℕ
+with_hand (op.Steal (steal_op.Put s more g)) own = own ++ g ∷ []
+with_hand _ own = own
 
--- the line of run q, which is about to do this
-abbrev pub line : ℕ → Op → World → List ℕ
-line q c w = own_of w q ++ (hand_of c ++ w.queues.plain.items)
+-- so near is f to run q, which is about to do this
+abbrev pub Stands : (Phase → ℕ → List ℕ → List ℕ → Type 0) → Mark → ℕ → Phase → Op → World → Type 0
+Stands P m q t c w = P t (named m w.trace) (with_hand c (own_of w q)) (queue_of w m).items
 
--- f stands there, behind at most n others
-pub record InLine (f n : ℕ) (xs : List ℕ) : Type 0 where
-  pub front : List ℕ
-  pub later : List ℕ
-  pub is : xs ≡ front ++ f ∷ later
-  pub few : length front ≤ n
+-- and with nothing in hand
+abbrev pub Rests : (Phase → ℕ → List ℕ → List ℕ → Type 0) → Mark → ℕ → Phase → World → Type 0
+Rests P m q t w = P t (named m w.trace) (own_of w q) (queue_of w m).items
 
--- others come behind
-pub line-more : (f n : ℕ) (xs ys : List ℕ) → InLine f n xs → InLine f n (xs ++ ys)
-line-more f n xs ys k = record {
-  front = k.front;
-  later = k.later ++ ys;
-  is = ap (λ (zs : List ℕ). zs ++ ys) k.is ∙ append_assoc k.front (f ∷ k.later) ys;
-  few = k.few;
-}
+-- the queue of the other mark is empty, or what is taken from there leaves f as near
+abbrev pub Others : (Phase → ℕ → List ℕ → List ℕ → Type 0) → Mark → World → Type 0
+Others P m w = ((queue_of w (other m)).items ≡ []) ⊎ Beside P
 
--- the first is taken: that is f, or f comes nearer
-line-first : (f n m h : ℕ) (rest : List ℕ) → ((l : ℕ) → suc l ≤ n → l ≤ m) → InLine f n (h ∷ rest) →
-    (h ≡ f) ⊎ InLine f m rest
-line-first f n m h rest j k = by k.front k.is k.few
-  where
-    by : (front : List ℕ) → h ∷ rest ≡ front ++ f ∷ k.later → length front ≤ n → (h ≡ f) ⊎ InLine f m rest
-    by [] e l = inl (cc)
-    by (g ∷ front) e l = inr (record {
-      front = front;
-      later = k.later;
-      is = (let i : rest ≡ front ++ f ∷ k.later = cc in i);
-      few = j (length front) (omega (arith, l));
-    })
+pub other-twice : (m : Mark) → other (other m) ≡ m
+other-twice Plain = refl
+other-twice Urgent = refl
 
-pub line-empty : (f n : ℕ) → InLine f n [] → ⊥
-line-empty f n k = by k.front k.is
-  where
-    by : (front : List ℕ) → [] ≡ front ++ f ∷ k.later → ⊥
-    by [] e = absurd (cc)
-    by (g ∷ front) e = absurd (cc)
-
--- what the run itself does while the line isn't empty
+-- what the run itself does while something is queued
 
 abbrev pub NoWalk : Then → Type 0
 NoWalk (then.Found f) = true ≡ true
@@ -116,30 +97,34 @@ steal_in (steal_op.Put s more f) = s
 abbrev pub OfCommon : ℕ → Steal → Type 0
 OfCommon q s = (s.poll.run ≡ q) × ((mark : Mark) × (s.from ≡ Common mark)) × NoWalk s.then
 
-abbrev pub Doing : ℕ → Op → Type 0
-Doing q (op.Tick (tick_op.Search s)) = s.who ≡ tick_or_run.Run q
-Doing q (op.Run (run_op.TakeTurn x)) = x.run ≡ q
-Doing q (op.Run (run_op.SearchCommon x (First mark))) = x.run ≡ q
-Doing q (op.Run (run_op.SearchCommon x (Second Plain))) = x.run ≡ q
-Doing q (op.Run (run_op.WakeOwn x)) = x.run ≡ q
-Doing q (op.Steal o) = OfCommon q (steal_in o)
-Doing q (op.End a held) = true ≡ true
-Doing q _ = ⊥
+-- the first look is at the queue of this mark, or at the other one, and then no turn named this one
+abbrev pub LooksSo : Mark → Phase → Mark → Type 0
+LooksSo m t k = (k ≡ m) ⊎ ((k ≡ other m) × Untold t)
+
+abbrev pub Doing : Mark → ℕ → Phase → Op → Type 0
+Doing m q t (op.Tick (tick_op.Search s)) = (s.who ≡ tick_or_run.Run q) × Untold t
+Doing m q t (op.Run (run_op.TakeTurn x)) = (x.run ≡ q) × Untold t
+Doing m q t (op.Run (run_op.SearchCommon x (First k))) = (x.run ≡ q) × LooksSo m t k
+Doing m q t (op.Run (run_op.SearchCommon x (Second k))) = (x.run ≡ q) × (k ≡ m)
+Doing m q t (op.Run (run_op.WakeOwn x)) = (x.run ≡ q) × (t ≡ ongoing)
+Doing m q t (op.Steal o) = OfCommon q (steal_in o) × (t ≡ ongoing)
+Doing m q t (op.End a held) = t ≡ ongoing
+Doing m q t _ = ⊥
 
 -- it goes on with one thing of its own, below others, with nothing in its hand
-pub record Holds (q : ℕ) (next : List Op) : Type 0 where
+pub record Holds (m : Mark) (q : ℕ) (next : List Op) : Type 0 where
   pub control : Op
   pub side : List Op
   pub is : reverse next ≡ control ∷ side
-  pub kind : Doing q control
+  pub kind : Doing m q ongoing control
   pub light : weigh stray_of side ≡ 0
-  pub hand : hand_of control ≡ []
+  pub hand : (own : List ℕ) → with_hand control own ≡ own
 
-holds-one : (q : ℕ) (c : Op) → Doing q c → hand_of c ≡ [] → Holds q (c ∷ [])
-holds-one q c k e = record { control = c; side = []; is = refl; kind = k; light = refl; hand = e }
+holds-one : (m : Mark) (q : ℕ) (c : Op) → Doing m q ongoing c → ((own : List ℕ) → with_hand c own ≡ own) → Holds m q (c ∷ [])
+holds-one m q c k e = record { control = c; side = []; is = refl; kind = k; light = refl; hand = e }
 
-holds-behind : (q : ℕ) (ops next : List Op) → weigh stray_of ops ≡ 0 → Holds q next → Holds q (ops ++ next)
-holds-behind q ops next z h = record {
+holds-behind : (m : Mark) (q : ℕ) (ops next : List Op) → weigh stray_of ops ≡ 0 → Holds m q next → Holds m q (ops ++ next)
+holds-behind m q ops next z h = record {
   control = h.control;
   side = h.side ++ reverse ops;
   is = reverse-append ops next ∙ ap (λ (os : List Op). os ++ reverse ops) h.is;
@@ -148,274 +133,332 @@ holds-behind q ops next z h = record {
   hand = h.hand;
 }
 
-holds-run_by : (b : Bool) (w : World) (x : RunPoll) (f : ℕ) → Holds x.run (run_by b w x f).next
-holds-run_by true w x f =
-    holds-behind x.run (op.Move move.TakeUp f ∷ []) (op.Run (run_op.WakeOwn x) ∷ []) refl
-    (holds-one x.run (op.Run (run_op.WakeOwn x)) refl refl)
-holds-run_by false w x f =
-    holds-behind x.run (op.Move move.TakeUp f ∷ []) (op.Tick (tick_op.Search (asleep x)) ∷ []) refl
-    (holds-one x.run (op.Tick (tick_op.Search (asleep x))) refl refl)
+holds-run_by : (m : Mark) (b : Bool) (w : World) (x : RunPoll) (f : ℕ) → Holds m x.run (run_by b w x f).next
+holds-run_by m true w x f =
+    holds-behind m x.run (op.Move move.TakeUp f ∷ []) (op.Run (run_op.WakeOwn x) ∷ []) refl
+    (holds-one m x.run (op.Run (run_op.WakeOwn x)) (refl, refl) (λ own. refl))
+holds-run_by m false w x f =
+    holds-behind m x.run (op.Move move.TakeUp f ∷ []) (op.Tick (tick_op.Search (asleep x)) ∷ []) refl
+    (holds-one m x.run (op.Tick (tick_op.Search (asleep x))) (refl, refl) (λ own. refl))
 
-holds-counted_by : (b : Bool) (w : World) (x : RunPoll) (f : ℕ) → Holds x.run (counted_by b w x f).next
-holds-counted_by true w x f =
-    holds-one x.run (op.Steal (steal_op.Length (record { poll = x; from = Common Urgent; then = then.StealPlain f })))
-    (refl, (Urgent, refl), refl) refl
-holds-counted_by false w x f = holds-run_by _ (counted_to w x.run _) x f
+-- a steal that begins
+begins : (m k : Mark) (x : RunPoll) (t : Then) → NoWalk t →
+    Holds m x.run (op.Steal (steal_op.Length (record { poll = x; from = Common k; then = t })) ∷ [])
+begins m k x t n = holds-one m x.run (op.Steal (steal_op.Length (record { poll = x; from = Common k; then = t })))
+    ((refl, (k, refl), n), refl) (λ own. refl)
+
+holds-counted_by : (m : Mark) (b : Bool) (w : World) (x : RunPoll) (f : ℕ) → Holds m x.run (counted_by b w x f).next
+holds-counted_by m true w x f = begins m Urgent x (then.StealPlain f) refl
+holds-counted_by m false w x f = holds-run_by m _ (counted_to w x.run _) x f
 
 found-light : (x : Ticker) (who : TickOrRun) → weigh stray_of (found_by x who (op.Sleeper sleeper_op.ExchangeFlag ∷ [])) ≡ 0
 found-light Awake who = refl
 found-light (Asleep n) who = refl
 found-light Left who = refl
 
-holds-found : (w : World) (x : RunPoll) (f : ℕ) → Holds x.run (found w x f).next
-holds-found w x f =
-    holds-behind x.run (found_by _ (tick_or_run.Run x.run) (op.Sleeper sleeper_op.ExchangeFlag ∷ [])) (counted_by _ w x f).next
-    (found-light _ (tick_or_run.Run x.run)) (holds-counted_by _ w x f)
+holds-found : (m : Mark) (w : World) (x : RunPoll) (f : ℕ) → Holds m x.run (found w x f).next
+holds-found m w x f =
+    holds-behind m x.run (found_by _ (tick_or_run.Run x.run) (op.Sleeper sleeper_op.ExchangeFlag ∷ [])) (counted_by _ w x f).next
+    (found-light _ (tick_or_run.Run x.run)) (holds-counted_by m _ w x f)
 
-holds-stolen : (t : Then) (w : World) (x : RunPoll) → NoWalk t → Holds x.run (stolen t w x).next
-holds-stolen (then.Found f) w x k = holds-found w x f
-holds-stolen (then.StealPlain f) w x k =
-    holds-one x.run (op.Steal (steal_op.Length (record { poll = x; from = Common Plain; then = then.Run f })))
-    (refl, (Plain, refl), refl) refl
-holds-stolen (then.Run f) w x k = holds-run_by _ w x f
-holds-stolen (then.Walk at left) w x k = absurd k
+holds-stolen : (m : Mark) (t : Then) (w : World) (x : RunPoll) → NoWalk t → Holds m x.run (stolen t w x).next
+holds-stolen m (then.Found f) w x k = holds-found m w x f
+holds-stolen m (then.StealPlain f) w x k = begins m Plain x (then.Run f) refl
+holds-stolen m (then.Run f) w x k = holds-run_by m _ w x f
+holds-stolen m (then.Walk at left) w x k = absurd k
 
--- the executor's queue stays
+-- the executor's queues stay, and nothing is told of
+abbrev Still : World → World → Type 0
+Still w v = (v.queues ≡ w.queues) × (v.trace ≡ w.trace)
 
-run-queue : (b : Bool) (w : World) (x : RunPoll) (f : ℕ) → (run_by b w x f).world.queues ≡ w.queues
-run-queue true w x f = refl
-run-queue false w x f = refl
+still-run : (b : Bool) (w : World) (x : RunPoll) (f : ℕ) → Still w (run_by b w x f).world
+still-run true w x f = (refl, refl)
+still-run false w x f = (refl, refl)
 
-counted-queue : (b : Bool) (w : World) (x : RunPoll) (f : ℕ) → (counted_by b w x f).world.queues ≡ w.queues
-counted-queue true w x f = refl
-counted-queue false w x f = run-queue _ (counted_to w x.run _) x f
+still-counted : (b : Bool) (w : World) (x : RunPoll) (f : ℕ) → Still w (counted_by b w x f).world
+still-counted true w x f = (refl, refl)
+still-counted false w x f = still-run _ (counted_to w x.run _) x f
 
-stolen-queue : (t : Then) (w : World) (x : RunPoll) → (stolen t w x).world.queues ≡ w.queues
-stolen-queue (then.Found f) w x = counted-queue _ w x f
-stolen-queue (then.StealPlain f) w x = refl
-stolen-queue (then.Run f) w x = run-queue _ w x f
-stolen-queue (then.Walk at left) w x = refl
+still-stolen : (t : Then) (w : World) (x : RunPoll) → Still w (stolen t w x).world
+still-stolen (then.Found f) w x = still-counted _ w x f
+still-stolen (then.StealPlain f) w x = (refl, refl)
+still-stolen (then.Run f) w x = still-run _ w x f
+still-stolen (then.Walk at left) w x = (refl, refl)
 
-same-line : (q f n : ℕ) (c e : Op) (w v : World) → hand_of c ≡ hand_of e → v.own ≡ w.own → v.queues ≡ w.queues →
-    InLine f n (line q c w) → InLine f n (line q e v)
-same-line q f n c e w v h o i k = record {
-  front = k.front;
-  later = k.later;
-  is = ap (λ (qs : List (List ℕ)). get_or qs q [] ++ (hand_of e ++ v.queues.plain.items)) o
-      ∙ (ap (λ (z : Queues). own_of w q ++ (hand_of e ++ z.plain.items)) i
-      ∙ (ap (λ (xs : List ℕ). own_of w q ++ (xs ++ w.queues.plain.items)) (sym h) ∙ k.is));
-  few = k.few;
-}
+-- how often a mark was named
 
--- it goes on, with f in the line; it has ended so; or it has f in hand
-pub data Goes (q f n : ℕ) (t : Trace) (g : Bool) (d : Done) : Type 0 where
-  on : (c : Op) (side : List Op) → reverse d.next ≡ c ∷ side → Doing q c → weigh stray_of side ≡ 0 →
-      InLine f n (line q c d.world) → Goes q f n t g d
-  over : d.next ≡ [] → InLine f n (own_of d.world q ++ d.world.queues.plain.items) → Goes q f n t g d
-  finds : Heads f t g d → Goes q f n t g d
+named-last : (m : Mark) (e : Event) (es : Trace) → named m (e ∷ []) ≡ 0 → named m (es ++ e ∷ []) ≡ named m es
+named-last m e es z = omega (arith, z, named-append m es (e ∷ []))
 
-pub record After (q f n : ℕ) (w : World) (d : Done) : Type 0 where
-  pub goes : Goes q f n w.trace w.gone d
-  pub gone : d.world.gone ≡ w.gone
+named-turn : (m : Mark) (p : ℕ) (es : Trace) → named m (es ++ event.Looked p m ∷ []) ≡ suc (named m es)
+named-turn Plain p es = omega (arith, named-append Plain es (event.Looked p Plain ∷ []))
+named-turn Urgent p es = omega (arith, named-append Urgent es (event.Looked p Urgent ∷ []))
 
-after-holds : (q f n : ℕ) (w : World) (d : Done) (c : Op) (v : World) → Holds q d.next → hand_of c ≡ [] →
-    d.world.own ≡ v.own → d.world.queues ≡ v.queues → d.world.gone ≡ w.gone → InLine f n (line q c v) → After q f n w d
-after-holds q f n w d c v h e o i g k = record {
-  goes = on h.control h.side h.is h.kind h.light
-      (same-line q f n c h.control v d.world (e ∙ sym h.hand) o i k);
-  gone = g;
-}
+named-other : (m : Mark) (p : ℕ) (es : Trace) → named m (es ++ event.Looked p (other m) ∷ []) ≡ named m es
+named-other Plain p es = named-last Plain (event.Looked p Urgent) es refl
+named-other Urgent p es = named-last Urgent (event.Looked p Plain) es refl
 
-after-stolen : (f n : ℕ) (t : Then) (w : World) (x : RunPoll) (c : Op) → hand_of c ≡ [] → NoWalk t →
-    InLine f n (line x.run c w) → After x.run f n w (stolen t w x)
-after-stolen f n t w x c e k z = after-holds x.run f n w (stolen t w x) c w (holds-stolen t w x k) e
-    (idle-stolen t w x).own (stolen-queue t w x) (idle-stolen t w x).gone z
+-- what is left of a queue whose first is taken
 
--- a search in the own queue
+taken-there : (m : Mark) (w : World) →
+    (queue_of (put_queue w m (taken (queue_of w m))) m).items ≡ drop 1 (queue_of w m).items
+taken-there m w = ap (λ (q : ClosableQueue ℕ). q.items) (queue-put-same m (taken (queue_of w m)) w.queues)
 
-pub after-own : (f n m : ℕ) (xs : List ℕ) (w : World) (x : RunPoll) → own_of w x.run ≡ xs →
-    ((l : ℕ) → suc l ≤ n → l ≤ m) → InLine f n (own_of w x.run ++ w.queues.plain.items) →
-    1 ≤ length xs → After x.run f m w (search_own_by xs w x)
-after-own f n m [] w x o j k z = absurd (omega (arith, z))
-after-own f n m (h ∷ rest) w x o j k z = ⊎_elim
-    (λ (y : h ≡ f). record {
-      goes = finds (subst (λ (g : ℕ). Heads f w.trace w.gone (found (put_own w x.run rest) x g)) (sym y)
-          (heads-found f (put_own w x.run rest) x));
-      gone = (idle-stolen (then.Found h) (put_own w x.run rest) x).gone;
-    })
-    (λ (y : InLine f m (rest ++ w.queues.plain.items)).
-    let v : World = put_own w x.run rest in
-    let c : Op = op.Tick (tick_op.Search (asleep x)) in
-    after-holds x.run f m w (found v x h) c v (holds-found v x h) refl (idle-stolen (then.Found h) v x).own
-    (stolen-queue (then.Found h) v x) (idle-stolen (then.Found h) v x).gone
-    (subst (λ (ys : List ℕ). InLine f m (ys ++ w.queues.plain.items))
-    (sym (get_or-set_same w.own x.run rest [] (within w.own x.run h rest o))) y))
-    (line-first f n m h (rest ++ w.queues.plain.items) j
-    (subst (λ (ys : List ℕ). InLine f n (ys ++ w.queues.plain.items)) o k))
-
--- the own queue is empty
-pub after-missing : (f n : ℕ) (w : World) (x : RunPoll) → own_of w x.run ≡ [] →
-    InLine f n (own_of w x.run ++ w.queues.plain.items) → After x.run f n w (search_own_by (own_of w x.run) w x)
-after-missing f n w x o k = subst (λ (ys : List ℕ). After x.run f n w (search_own_by ys w x)) (sym o) (record {
-  goes = on (op.Run (run_op.TakeTurn x)) [] refl refl refl k;
-  gone = refl;
-})
-
--- a search in the executor's plain queue finds the first of it
+taken-other : (m : Mark) (w : World) →
+    (queue_of (put_queue w (other m) (taken (queue_of w (other m)))) m).items ≡ (queue_of w m).items
+taken-other Plain w = refl
+taken-other Urgent w = refl
 
 abbrev pub common_steal : RunPoll → Mark → Then → Steal
 common_steal x mark t = record { poll = x; from = Common mark; then = t }
 
-after-found : (f n m h : ℕ) (rest : List ℕ) (w : World) (x : RunPoll) → w.queues.plain.items ≡ h ∷ rest →
-    own_of w x.run ≡ [] → ((l : ℕ) → suc l ≤ n → l ≤ m) → InLine f n (own_of w x.run ++ w.queues.plain.items) →
-    After x.run f m w (done (put_queue w Plain (taken w.queues.plain))
-    (op.Steal (steal_op.Length (common_steal x Plain (then.Found h))) ∷ []))
-after-found f n m h rest w x i o j k = ⊎_elim
-    (λ (y : h ≡ f). record {
-      goes = finds (record {
-        heading = stealing (steal_op.Length (common_steal x Plain (then.Found h))) [] refl (sym y) refl;
-        events = [];
-        trace = sym (append-nil w.trace);
-        there = refl;
-      });
-      gone = refl;
-    })
-    (λ (y : InLine f m rest). record {
-      goes = on (op.Steal (steal_op.Length (common_steal x Plain (then.Found h)))) [] refl
-          (refl, (Plain, refl), refl) refl
-          (subst (λ (ys : List ℕ). InLine f m (own_of w x.run ++ ys)) (sym (ap (λ (ys : List ℕ). drop 1 ys) i))
-          (subst (λ (ys : List ℕ). InLine f m (ys ++ rest)) (sym o) y));
-      gone = refl;
-    })
-    (line-first f n m h rest j (subst (InLine f n) (ap (λ (ys : List ℕ). ys ++ w.queues.plain.items) o ∙ i) k))
+-- it goes on, with f as near; it has ended so; or it has f in hand
+pub data Goes (P : Phase → ℕ → List ℕ → List ℕ → Type 0) (m : Mark) (q f : ℕ) (t : Trace) (g : Bool) (d : Done) : Type 0 where
+  on : (a : Phase) (c : Op) (side : List Op) → reverse d.next ≡ c ∷ side → Doing m q a c → weigh stray_of side ≡ 0 →
+      Stands P m q a c d.world → Goes P m q f t g d
+  over : d.next ≡ [] → Rests P m q ongoing d.world → Goes P m q f t g d
+  finds : Heads f t g d → Goes P m q f t g d
 
-none-there : {A : Type 0} (f n : ℕ) (w : World) (x : RunPoll) → w.queues.plain.items ≡ [] → own_of w x.run ≡ [] →
-    InLine f n (own_of w x.run ++ w.queues.plain.items) → A
-none-there f n w x i o k =
-    absurd (line-empty f n (subst (InLine f n) (ap (λ (ys : List ℕ). ys ++ w.queues.plain.items) o ∙ i) k))
+pub record After (P : Phase → ℕ → List ℕ → List ℕ → Type 0) (m : Mark) (q f : ℕ) (w : World) (d : Done) : Type 0 where
+  pub goes : Goes P m q f w.trace w.gone d
+  pub gone : d.world.gone ≡ w.gone
 
--- whether it looks there first or second
-pub after-look : (look : Look) → mark_in look ≡ Plain → (f n m : ℕ) (xs : List ℕ) (w : World) (x : RunPoll) →
-    w.queues.plain.items ≡ xs → own_of w x.run ≡ [] → ((l : ℕ) → suc l ≤ n → l ≤ m) →
-    InLine f n (own_of w x.run ++ w.queues.plain.items) → After x.run f m w (search_common_by xs w x look)
-after-look (First Plain) e f n m [] w x i o j k = none-there f n w x i o k
-after-look (First Plain) e f n m (h ∷ rest) w x i o j k = after-found f n m h rest w x i o j k
-after-look (Second Plain) e f n m [] w x i o j k = none-there f n w x i o k
-after-look (Second Plain) e f n m (h ∷ rest) w x i o j k = after-found f n m h rest w x i o j k
-after-look (First Urgent) e f n m xs w x i o j k = absurd (cc)
-after-look (Second Urgent) e f n m xs w x i o j k = absurd (cc)
+module _ (f : ℕ) (m : Mark) (P : Phase → ℕ → List ℕ → List ℕ → Type 0) (law : Standing f P) where
+  pub carry : (t : Phase) (k n : ℕ) (own xs q ys : List ℕ) → n ≡ k → xs ≡ own → ys ≡ q → P t k own q → P t n xs ys
+  carry t k n own xs q ys e i j z =
+      subst (λ (a : ℕ). P t a xs ys) (sym e)
+      (subst (λ (zs : List ℕ). P t k zs ys) (sym i) (subst (λ (zs : List ℕ). P t k own zs) (sym j) z))
 
--- the urgent queue is empty, and so it looks at the plain one
-pub after-urgent : (f n : ℕ) (xs : List ℕ) (w : World) (x : RunPoll) → xs ≡ [] →
-    InLine f n (own_of w x.run ++ w.queues.plain.items) →
-    After x.run f n w (search_common_by xs w x (First Urgent))
-after-urgent f n [] w x e k = record {
-  goes = on (op.Run (run_op.SearchCommon x (Second Plain))) [] refl refl refl k;
-  gone = refl;
-}
-after-urgent f n (h ∷ rest) w x e k = absurd (cc)
+  after-holds : (q : ℕ) (w v : World) (d : Done) → Holds m q d.next → d.world.own ≡ v.own → d.world.queues ≡ v.queues →
+      d.world.trace ≡ v.trace → d.world.gone ≡ w.gone → Rests P m q ongoing v → After P m q f w d
+  after-holds q w v d h o i t g z = record {
+    goes = on ongoing h.control h.side h.is h.kind h.light
+        (carry ongoing (named m v.trace) (named m d.world.trace) (own_of v q) (with_hand h.control (own_of d.world q))
+        (queue_of v m).items (queue_of d.world m).items (ap (named m) t)
+        (h.hand (own_of d.world q) ∙ ap (λ (qs : List (List ℕ)). get_or qs q []) o)
+        (ap (λ (qs : Queues). (queue_in m qs).items) i) z);
+    gone = g;
+  }
 
--- it takes its turn
-pub after-turn : (f n p : ℕ) (w : World) (x : RunPoll) → InLine f n (own_of w x.run ++ w.queues.plain.items) →
-    After x.run f n w (take_turn p w (λ (look : Look). op.Run (run_op.SearchCommon x look)))
-after-turn f n p w x k = record {
-  goes = on_turn (first_of w.urgent_turns);
-  gone = refl;
-}
-  where
-    on_turn : (m : Mark) → Goes x.run f n w.trace w.gone (done (turned p w) (op.Run (run_op.SearchCommon x (First m)) ∷ []))
-    on_turn m = on (op.Run (run_op.SearchCommon x (First m))) [] refl refl refl k
+  after-stolen : (t : Then) (w v : World) (x : RunPoll) → NoWalk t → v.gone ≡ w.gone → Rests P m x.run ongoing v →
+      After P m x.run f w (stolen t v x)
+  after-stolen t w v x n g z = after-holds x.run w v (stolen t v x) (holds-stolen m t v x n) (idle-stolen t v x).own
+      (still-stolen t v x).0 (still-stolen t v x).1 ((idle-stolen t v x).gone ∙ g) z
 
--- a steal
+  -- a search in the own queue
 
-after-length : (f n l : ℕ) (w : World) (x : RunPoll) (mark : Mark) (t : Then) → NoWalk t →
-    InLine f n (own_of w x.run ++ w.queues.plain.items) → After x.run f n w (steal_length_by l w (common_steal x mark t))
-after-length f n zero w x mark t k z = after-stolen f n t w x (op.Tick (tick_op.Search (asleep x))) refl k z
-after-length f n (suc l) w x mark t k z = record {
-  goes = on (op.Steal (steal_op.OwnLength (common_steal x mark t) (suc l))) [] refl (refl, (mark, refl), k) refl z;
-  gone = refl;
-}
+  pub after-own : (t : Phase) (xs : List ℕ) (w : World) (x : RunPoll) → own_of w x.run ≡ xs → Untold t →
+      Rests P m x.run t w → After P m x.run f w (search_own_by xs w x)
+  after-own t [] w x o u z = record { goes = on t (op.Run (run_op.TakeTurn x)) [] refl (refl, u) refl z; gone = refl }
+  after-own t (h ∷ rest) w x o u z = ⊎_elim
+      (λ (y : h ≡ f). record {
+        goes = finds (subst (λ (g : ℕ). Heads f w.trace w.gone (found (put_own w x.run rest) x g)) (sym y)
+            (heads-found f (put_own w x.run rest) x));
+        gone = (idle-stolen (then.Found h) (put_own w x.run rest) x).gone;
+      })
+      (λ (y : P ongoing (named m w.trace) rest (queue_of w m).items).
+      after-stolen (then.Found h) w (put_own w x.run rest) x refl refl
+      (subst (λ (ys : List ℕ). P ongoing (named m w.trace) ys (queue_of w m).items)
+      (sym (get_or-set_same w.own x.run rest [] (within w.own x.run h rest o))) y))
+      (law.first t (named m w.trace) h rest (queue_of w m).items
+      (subst (λ (ys : List ℕ). P t (named m w.trace) ys (queue_of w m).items) o z))
 
-after-steal_by : (f n l : ℕ) (w v : World) (x : RunPoll) (mark : Mark) (t : Then) → v.gone ≡ w.gone → (g : ℕ) → NoWalk t →
-    InLine f n (own_of v x.run ++ v.queues.plain.items) → Goes x.run f n w.trace w.gone (steal_by l v (common_steal x mark t))
-    × ((steal_by l v (common_steal x mark t)).world.gone ≡ w.gone)
-after-steal_by f n zero w v x mark t e g k z =
-    let h = holds-stolen t v x k in (
-      on h.control h.side h.is h.kind h.light
-          (same-line x.run f n (op.Tick (tick_op.Search (asleep x))) h.control v (stolen t v x).world (sym h.hand)
-          (idle-stolen t v x).own (stolen-queue t v x) z),
-      (idle-stolen t v x).gone ∙ e,
-    )
-after-steal_by f n (suc l) w v x mark t e g k z =
-    (on (op.Steal (steal_op.Take (common_steal x mark t) l)) [] refl (refl, (mark, refl), k) refl z, e)
+  -- it takes its turn
+  pub after-turn : (t : Phase) (p : ℕ) (w : World) (x : RunPoll) → own_of w x.run ≡ [] → Untold t → Rests P m x.run t w →
+      After P m x.run f w (take_turn p w (λ (look : Look). op.Run (run_op.SearchCommon x look)))
+  after-turn t p w x o u z = record {
+    goes = by (first_of w.urgent_turns) (mark-cases m (first_of w.urgent_turns));
+    gone = refl;
+  }
+    where
+      by : (k : Mark) → (k ≡ m) ⊎ (k ≡ other m) → Goes P m x.run f w.trace w.gone
+          (done (record w { trace = w.trace ++ event.Looked p k ∷ []; urgent_turns = (turned p w).urgent_turns })
+          (op.Run (run_op.SearchCommon x (First k)) ∷ []))
+      by k (inl e) = on looking (op.Run (run_op.SearchCommon x (First k))) [] refl (refl, inl e) refl
+          (carry looking (suc (named m w.trace)) (named m (w.trace ++ event.Looked p k ∷ [])) [] (own_of w x.run)
+          (queue_of w m).items (queue_of w m).items
+          (ap (λ (n : Mark). named m (w.trace ++ event.Looked p n ∷ [])) e ∙ named-turn m p w.trace) o refl
+          (law.turns t (named m w.trace) (queue_of w m).items u
+          (subst (λ (ys : List ℕ). P t (named m w.trace) ys (queue_of w m).items) o z)))
+      by k (inr e) = on t (op.Run (run_op.SearchCommon x (First k))) [] refl (refl, inr (e, u)) refl
+          (carry t (named m w.trace) (named m (w.trace ++ event.Looked p k ∷ [])) (own_of w x.run) (own_of w x.run)
+          (queue_of w m).items (queue_of w m).items
+          (ap (λ (n : Mark). named m (w.trace ++ event.Looked p n ∷ [])) e ∙ named-other m p w.trace) refl refl z)
 
-after-take : (f n : ℕ) (mark : Mark) (xs : List ℕ) (w : World) (x : RunPoll) (t : Then) (more : ℕ) →
-    (queue_of w mark).items ≡ xs → w.queues.urgent.items ≡ [] → NoWalk t →
-    InLine f n (own_of w x.run ++ w.queues.plain.items) →
-    After x.run f n w (steal_take_by xs w (common_steal x mark t) more)
-after-take f n mark [] w x t more i u k z = after-stolen f n t w x (op.Tick (tick_op.Search (asleep x))) refl k z
-after-take f n Urgent (h ∷ rest) w x t more i u k z = let no : h ∷ rest ≡ [] = sym i ∙ u in absurd (cc)
-after-take f n Plain (h ∷ rest) w x t more i u k z = record {
-  goes = on (op.Steal (steal_op.Put (common_steal x Plain t) more h)) [] refl (refl, (Plain, refl), k) refl
-      (subst (λ (ys : List ℕ). InLine f n (own_of w x.run ++ (h ∷ ys))) (sym (ap (λ (ys : List ℕ). drop 1 ys) i))
-      (subst (λ (ys : List ℕ). InLine f n (own_of w x.run ++ ys)) i z));
-  gone = refl;
-}
+  -- it looks at the queue of the mark, first or second
 
-after-put : (f n p : ℕ) (b : Bool) (w : World) (x : RunPoll) (mark : Mark) (t : Then) (more h : ℕ) → b ≡ true →
-    x.run < length w.own → NoWalk t → InLine f n (own_of w x.run ++ (h ∷ w.queues.plain.items)) →
-    After x.run f n w (steal_put_by b p w (common_steal x mark t) more h)
-after-put f n p false w x mark t more h b l k z = absurd (cc)
-after-put f n p true w x mark t more h b l k z =
-    let v : World = kept_by p w x.run h in
-    let y = after-steal_by f n more w v x mark t refl h k
-    (subst (λ (ys : List ℕ). InLine f n (ys ++ w.queues.plain.items))
-    (sym (get_or-set_same w.own x.run (own_of w x.run ++ h ∷ []) [] l))
-    (subst (InLine f n) (sym (append_assoc (own_of w x.run) (h ∷ []) w.queues.plain.items)) z)) in
-    record { goes = y.0; gone = y.1 }
+  after-found : (t : Phase) (k : Mark) (h : ℕ) (rest : List ℕ) (w : World) (x : RunPoll) → k ≡ m →
+      (queue_of w m).items ≡ h ∷ rest → own_of w x.run ≡ [] → Rests P m x.run t w →
+      After P m x.run f w (done (put_queue w k (taken (queue_of w k)))
+      (op.Steal (steal_op.Length (common_steal x k (then.Found h))) ∷ []))
+  after-found t k h rest w x e i o z = ⊎_elim
+      (λ (y : h ≡ f). record {
+        goes = finds (record {
+          heading = stealing (steal_op.Length (common_steal x k (then.Found h))) [] refl (sym y) refl;
+          events = [];
+          trace = sym (append-nil w.trace);
+          there = refl;
+        });
+        gone = refl;
+      })
+      (λ (y : P ongoing (named m w.trace) [] rest). record {
+        goes = on ongoing (op.Steal (steal_op.Length (common_steal x k (then.Found h)))) [] refl
+            ((refl, (k, refl), refl), refl) refl
+            (carry ongoing (named m w.trace) (named m w.trace) [] (own_of w x.run) rest
+            (queue_of (put_queue w k (taken (queue_of w k))) m).items refl o
+            (ap (λ (n : Mark). (queue_of (put_queue w n (taken (queue_of w n))) m).items) e
+            ∙ (taken-there m w ∙ ap (λ (ys : List ℕ). drop 1 ys) i)) y);
+        gone = refl;
+      })
+      (law.look t (named m w.trace) h rest
+      (carry t (named m w.trace) (named m w.trace) (own_of w x.run) [] (queue_of w m).items (h ∷ rest) refl (sym o) (sym i) z))
 
-pub after-steal : (f n p : ℕ) (o : StealOp) (w : World) (x : RunPoll) (mark : Mark) (t : Then) (h : Hint) →
-    w.queues.urgent.items ≡ [] → steal_in o ≡ common_steal x mark t → NoWalk t → x.run < length w.own →
-    ((s : Steal) (more g : ℕ) → o ≡ steal_op.Put s more g → ltb 0 (free_places w x.run) ≡ true) →
-    InLine f n (line x.run (op.Steal o) w) → After x.run f n w (act p h (op.Steal o) w)
-after-steal f n p (steal_op.Length s) w x mark t h u e k l r z =
-    subst (λ (y : Steal). After x.run f n w (act p h (op.Steal (steal_op.Length y)) w)) (sym e)
-    (after-length f n _ w x mark t k z)
-after-steal f n p (steal_op.OwnLength s j) w x mark t h u e k l r z =
-    subst (λ (y : Steal). After x.run f n w (act p h (op.Steal (steal_op.OwnLength y j)) w)) (sym e)
-    (let y = after-steal_by f n _ w w x mark t refl 0 k z in record { goes = y.0; gone = y.1 })
-after-steal f n p (steal_op.Take s more) w x mark t h u e k l r z =
-    subst (λ (y : Steal). After x.run f n w (act p h (op.Steal (steal_op.Take y more)) w)) (sym e)
-    (after-take f n mark (queue_of w mark).items w x t more refl u k z)
-after-steal f n p (steal_op.Put s more g) w x mark t h u e k l r z =
-    subst (λ (y : Steal). After x.run f n w (act p h (op.Steal (steal_op.Put y more g)) w)) (sym e)
-    (after-put f n p _ w x mark t more g (r s more g refl) l k z)
+  none-there : {A : Type 0} (t : Phase) (w : World) (x : RunPoll) → (queue_of w m).items ≡ [] → own_of w x.run ≡ [] →
+      Rests P m x.run t w → A
+  none-there t w x i o z = absurd (law.none t (named m w.trace)
+      (carry t (named m w.trace) (named m w.trace) (own_of w x.run) [] (queue_of w m).items [] refl (sym o) (sym i) z))
 
--- it calls its own waker
+  pub after-look : (t : Phase) (look : Look) (xs : List ℕ) (w : World) (x : RunPoll) → mark_in look ≡ m →
+      (queue_of w m).items ≡ xs → own_of w x.run ≡ [] → Rests P m x.run t w →
+      After P m x.run f w (search_common_by xs w x look)
+  after-look t look [] w x e i o z = none-there t w x i o z
+  after-look t look (h ∷ rest) w x e i o z = after-found t (mark_in look) h rest w x e i o z
 
-pub after-wake : (f n p : ℕ) (h : Hint) (w : World) (x : RunPoll) → InLine f n (own_of w x.run ++ w.queues.plain.items) →
-    After x.run f n w (wake_own p w x)
-after-wake f n p h w x k = by x.waker
-  where
-    by : (a : Waker) → After x.run f n w
-        (followed (call_by_reference p (log w (event.WakerCalled p (of.Run x.run) x.poll x.waker)) a)
-        (op.End reply.Pending (hold.Run x.run) ∷ []))
-    by (Task g) =
-        let u : World = log w (event.WakerCalled p (of.Run x.run) x.poll x.waker) in
-        let d : Done = act p h (op.Move move.WakeByReference g) u in
-        let i : Inner u d = inner-act p h (op.Move move.WakeByReference g) u refl refl in
-        record {
-          goes = on (op.End reply.Pending (hold.Run x.run)) (reverse d.next)
-              (reverse-append d.next (op.End reply.Pending (hold.Run x.run) ∷ [])) refl
-              (weigh-reverse stray_of d.next ∙ i.plain)
-              (subst (λ (qs : List (List ℕ)). InLine f n (get_or qs x.run [] ++ d.world.queues.plain.items))
-              (sym (idle-act p h (op.Move move.WakeByReference g) u refl).own)
-              (subst (λ (ys : List ℕ). InLine f n (own_of w x.run ++ ys)) (sym (i.queue Plain))
-              (subst (InLine f n) (append_assoc (own_of w x.run) w.queues.plain.items (i.added Plain))
-              (line-more f n (own_of w x.run ++ w.queues.plain.items) (i.added Plain) k))));
-          gone = (idle-act p h (op.Move move.WakeByReference g) u refl).gone;
-        }
-    by (Outside y) = record {
-      goes = on (op.End reply.Pending (hold.Run x.run)) (op.User (user_op.CallOutside y) ∷ []) refl refl refl k;
-      gone = refl;
-    }
+  -- it looks at the other one first
+  pub after-other : (t : Phase) (k : Mark) (xs : List ℕ) (w : World) (x : RunPoll) → k ≡ other m → Untold t →
+      (queue_of w k).items ≡ xs → own_of w x.run ≡ [] → Others P m w → Rests P m x.run t w →
+      After P m x.run f w (search_common_by xs w x (First k))
+  after-other t k [] w x e u i o b z = record {
+    goes = on t (op.Run (run_op.SearchCommon x (Second (other k)))) [] refl (refl, ap other e ∙ other-twice m) refl z;
+    gone = refl;
+  }
+  after-other t k (h ∷ rest) w x e u i o (inl gone) z =
+      let empty : h ∷ rest ≡ [] = sym i ∙ (ap (λ (n : Mark). (queue_of w n).items) e ∙ gone) in absurd (cc)
+  after-other t k (h ∷ rest) w x e u i o (inr b) z = record {
+    goes = on ongoing (op.Steal (steal_op.Length (common_steal x k (then.Found h)))) [] refl
+        ((refl, (k, refl), refl), refl) refl
+        (carry ongoing (named m w.trace) (named m w.trace) [] (own_of w x.run) (queue_of w m).items
+        (queue_of (put_queue w k (taken (queue_of w k))) m).items refl o
+        (ap (λ (n : Mark). (queue_of (put_queue w n (taken (queue_of w n))) m).items) e ∙ taken-other m w)
+        (b.found t (named m w.trace) (queue_of w m).items u
+        (subst (λ (ys : List ℕ). P t (named m w.trace) ys (queue_of w m).items) o z)));
+    gone = refl;
+  }
+
+  -- a steal
+
+  after-length : (l : ℕ) (w : World) (x : RunPoll) (mark : Mark) (t : Then) → NoWalk t → Rests P m x.run ongoing w →
+      After P m x.run f w (steal_length_by l w (common_steal x mark t))
+  after-length zero w x mark t n z = after-stolen t w w x n refl z
+  after-length (suc l) w x mark t n z = record {
+    goes = on ongoing (op.Steal (steal_op.OwnLength (common_steal x mark t) (suc l))) [] refl
+        ((refl, (mark, refl), n), refl) refl z;
+    gone = refl;
+  }
+
+  after-steal_by : (l : ℕ) (w v : World) (x : RunPoll) (mark : Mark) (t : Then) → v.gone ≡ w.gone → NoWalk t →
+      Rests P m x.run ongoing v → After P m x.run f w (steal_by l v (common_steal x mark t))
+  after-steal_by zero w v x mark t e n z = after-stolen t w v x n e z
+  after-steal_by (suc l) w v x mark t e n z = record {
+    goes = on ongoing (op.Steal (steal_op.Take (common_steal x mark t) l)) [] refl ((refl, (mark, refl), n), refl) refl z;
+    gone = e;
+  }
+
+  after-take : (mark : Mark) (xs : List ℕ) (w : World) (x : RunPoll) (t : Then) (more : ℕ) →
+      (queue_of w mark).items ≡ xs → Others P m w → NoWalk t → Rests P m x.run ongoing w →
+      After P m x.run f w (steal_take_by xs w (common_steal x mark t) more)
+  after-take mark [] w x t more i b n z = after-stolen t w w x n refl z
+  after-take mark (h ∷ rest) w x t more i b n z = by (mark-cases m mark) b
+    where
+      has : P ongoing (named m w.trace) (own_of w x.run ++ h ∷ [])
+          (queue_of (put_queue w mark (taken (queue_of w mark))) m).items →
+          After P m x.run f w (steal_take_by (h ∷ rest) w (common_steal x mark t) more)
+      has y = record {
+        goes = on ongoing (op.Steal (steal_op.Put (common_steal x mark t) more h)) [] refl
+            ((refl, (mark, refl), n), refl) refl y;
+        gone = refl;
+      }
+
+      by : (mark ≡ m) ⊎ (mark ≡ other m) → Others P m w →
+          After P m x.run f w (steal_take_by (h ∷ rest) w (common_steal x mark t) more)
+      by (inl e) c =
+          let q : (queue_of w m).items ≡ h ∷ rest = ap (λ (k : Mark). (queue_of w k).items) (sym e) ∙ i in
+          has (carry ongoing (named m w.trace) (named m w.trace) (own_of w x.run ++ h ∷ []) (own_of w x.run ++ h ∷ []) rest
+          (queue_of (put_queue w mark (taken (queue_of w mark))) m).items refl refl
+          (ap (λ (k : Mark). (queue_of (put_queue w k (taken (queue_of w k))) m).items) e
+          ∙ (taken-there m w ∙ ap (λ (ys : List ℕ). drop 1 ys) q))
+          (law.moves (named m w.trace) h (own_of w x.run) rest
+          (subst (λ (ys : List ℕ). P ongoing (named m w.trace) (own_of w x.run) ys) q z)))
+      by (inr e) (inl gone) =
+          let empty : h ∷ rest ≡ [] = sym i ∙ (ap (λ (k : Mark). (queue_of w k).items) e ∙ gone) in absurd (cc)
+      by (inr e) (inr c) =
+          has (carry ongoing (named m w.trace) (named m w.trace) (own_of w x.run ++ h ∷ []) (own_of w x.run ++ h ∷ [])
+          (queue_of w m).items (queue_of (put_queue w mark (taken (queue_of w mark))) m).items refl refl
+          (ap (λ (k : Mark). (queue_of (put_queue w k (taken (queue_of w k))) m).items) e ∙ taken-other m w)
+          (c.behind (named m w.trace) h (own_of w x.run) (queue_of w m).items z))
+
+  after-put : (p : ℕ) (b : Bool) (w : World) (x : RunPoll) (mark : Mark) (t : Then) (more h : ℕ) → b ≡ true →
+      x.run < length w.own → NoWalk t → P ongoing (named m w.trace) (own_of w x.run ++ h ∷ []) (queue_of w m).items →
+      After P m x.run f w (steal_put_by b p w (common_steal x mark t) more h)
+  after-put p false w x mark t more h b l n z = absurd (cc)
+  after-put p true w x mark t more h b l n z =
+      let v : World = kept_by p w x.run h in
+      after-steal_by more w v x mark t refl n
+      (carry ongoing (named m w.trace) (named m v.trace) (own_of w x.run ++ h ∷ []) (own_of v x.run) (queue_of w m).items
+      (queue_of w m).items (named-last m (event.Kept p h x.run) w.trace refl)
+      (get_or-set_same w.own x.run (own_of w x.run ++ h ∷ []) [] l) refl z)
+
+  pub after-steal : (p : ℕ) (o : StealOp) (w : World) (x : RunPoll) (mark : Mark) (t : Then) (h : Hint) →
+      Others P m w → steal_in o ≡ common_steal x mark t → NoWalk t → x.run < length w.own →
+      ((s : Steal) (more g : ℕ) → o ≡ steal_op.Put s more g → ltb 0 (free_places w x.run) ≡ true) →
+      Stands P m x.run ongoing (op.Steal o) w → After P m x.run f w (act p h (op.Steal o) w)
+  after-steal p (steal_op.Length s) w x mark t h b e n l r z =
+      subst (λ (y : Steal). After P m x.run f w (act p h (op.Steal (steal_op.Length y)) w)) (sym e)
+      (after-length _ w x mark t n z)
+  after-steal p (steal_op.OwnLength s j) w x mark t h b e n l r z =
+      subst (λ (y : Steal). After P m x.run f w (act p h (op.Steal (steal_op.OwnLength y j)) w)) (sym e)
+      (after-steal_by _ w w x mark t refl n z)
+  after-steal p (steal_op.Take s more) w x mark t h b e n l r z =
+      subst (λ (y : Steal). After P m x.run f w (act p h (op.Steal (steal_op.Take y more)) w)) (sym e)
+      (after-take mark (queue_of w mark).items w x t more refl b n z)
+  after-steal p (steal_op.Put s more g) w x mark t h b e n l r z =
+      subst (λ (y : Steal). After P m x.run f w (act p h (op.Steal (steal_op.Put y more g)) w)) (sym e)
+      (after-put p _ w x mark t more g (r s more g refl) l n z)
+
+  -- it calls its own waker
+  pub after-wake : (p : ℕ) (h : Hint) (w : World) (x : RunPoll) → Rests P m x.run ongoing w →
+      After P m x.run f w (wake_own p w x)
+  after-wake p h w x z = by x.waker
+    where
+      by : (a : Waker) → After P m x.run f w
+          (followed (call_by_reference p (log w (event.WakerCalled p (of.Run x.run) x.poll x.waker)) a)
+          (op.End reply.Pending (hold.Run x.run) ∷ []))
+      by (Task g) =
+          let u : World = log w (event.WakerCalled p (of.Run x.run) x.poll x.waker) in
+          let d : Done = act p h (op.Move move.WakeByReference g) u in
+          let i : Inner u d = inner-act p h (op.Move move.WakeByReference g) u refl refl in
+          let told : named m u.trace ≡ named m w.trace =
+          named-last m (event.WakerCalled p (of.Run x.run) x.poll x.waker) w.trace refl in
+          record {
+            goes = on ongoing (op.End reply.Pending (hold.Run x.run)) (reverse d.next)
+                (reverse-append d.next (op.End reply.Pending (hold.Run x.run) ∷ [])) refl
+                (weigh-reverse stray_of d.next ∙ i.plain)
+                (carry ongoing (named m w.trace) (named m d.world.trace) (own_of w x.run) (own_of d.world x.run)
+                ((queue_of w m).items ++ i.added m) (queue_of d.world m).items (omega (
+                  arith,
+                  ap (named m) i.trace,
+                  named-append m u.trace i.events,
+                  named-none m i.events i.no_turn,
+                  told,
+                ))
+                (ap (λ (qs : List (List ℕ)). get_or qs x.run [])
+                (idle-act p h (op.Move move.WakeByReference g) u refl).own) (i.queue m)
+                (law.added ongoing (named m w.trace) (own_of w x.run) (queue_of w m).items (i.added m) z));
+            gone = (idle-act p h (op.Move move.WakeByReference g) u refl).gone;
+          }
+      by (Outside y) = record {
+        goes = on ongoing (op.End reply.Pending (hold.Run x.run)) (op.User (user_op.CallOutside y) ∷ []) refl refl refl
+            (carry ongoing (named m w.trace) _ (own_of w x.run) (own_of w x.run) (queue_of w m).items (queue_of w m).items
+            (named-last m (event.WakerCalled p (of.Run x.run) x.poll x.waker) w.trace refl) refl refl z);
+        gone = refl;
+      }

@@ -1,17 +1,13 @@
 -- For some_standing_is_called.
 -- The entries of the sleepers' list that are a tick's or run's, where one is added, replaced or taken out.
-use Rattle.std.proofs.Common.{◌≡◌, ℕ, zero, suc, ◌+◌, ◌==◌, ◌<◌, ◌≤◌, List, [], ◌∷◌, ◌++◌, length, set, take, Bool}
-use Rattle.std.proofs.Common.{true, false, cond, refl, sym, ap, subst, eqb, arith}
+use Rattle.std.proofs.Common.{◌≡◌, ℕ, zero, suc, ◌+◌, ◌==◌, ◌<◌, ◌≤◌, List, [], ◌∷◌, ◌++◌, length, set, take, Bool, true, false}
+use Rattle.std.proofs.Common.{cond, refl, sym, ap, subst, eqb, arith}
 use Rattle.std.specs.Prelude.{◌-◌, Option, Some, None, slice_get, slice_set, remove}
 use Rattle.std.proofs.lemmas.Bool.Decides.{nat_tests}
 use Rattle.executor_parts.specs.Sleepers.{Sleepers, position_of, later, without_entry, woken_up}
-use Rattle.executor_model.specs.declared.op.Sleeping.{Sleeping}
-use Rattle.executor_model.specs.declared.op.TickOrRun.{TickOrRun}
-use Rattle.executor_model.specs.World.{Ticker, Awake, Asleep, Left}
-use Rattle.executor_laws.proofs.Wakeups.Sitting.{eq_who, is_it}
-use Rattle.executor_model.specs.Weights.{same}
-use Rattle.executor_model.proofs.Steps.Lists.{same_is}
-use Rattle.executor_model.proofs.Steps.SleepersLists.{freed-same, position-within}
+use Rattle.executor_model.specs.{World.Ticker, World.Awake, World.Asleep, World.Left, Weights.same}
+use Rattle.executor_model.proofs.{Steps.SleepersLists.freed-same, Steps.SleepersLists.position-within, Steps.Lists.same_is}
+use Rattle.executor_laws.proofs.{Types.Sleeping, Types.TickOrRun, Wakeups.Sitting.eq_who, Wakeups.Sitting.is_it}
 
 abbrev pub Entry : Type 0
 Entry = ℕ × Sleeping

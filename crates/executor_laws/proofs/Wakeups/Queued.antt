@@ -1,19 +1,11 @@
 -- For some_standing_is_called.
 -- Where no call is in progress, a future that is due has a Runnable in the executor's queue or in a run's own.
-use Rattle.std.proofs.Common.{◌≡◌, ◌∙◌, ℕ, zero, suc, ◌+◌, ◌≤◌, List, [], ◌∷◌, length, get_or, true, refl, sym}
-use Rattle.std.proofs.Common.{⊎_elim, arith}
-use Rattle.executor_model.specs.Due.{IsDue}
-use Rattle.executor_model.specs.Good.{Good}
-use Rattle.executor_model.specs.Rows.{waiting_of, polls_of, ending_of, ready_of, closing_of, settling_of, giving_of}
-use Rattle.executor_model.specs.Rows.{drops_of}
+use Rattle.std.proofs.Common.{◌≡◌, ◌∙◌, ℕ, zero, suc, ◌+◌, ◌≤◌, List, [], ◌∷◌, length, get_or, true, refl, sym, ⊎_elim, arith}
+use Rattle.executor_model.specs.Rows.{waiting_of, polls_of, ending_of, ready_of, closing_of, settling_of, giving_of, drops_of}
 use Rattle.executor_model.specs.Sound.{queued, times, times_in}
-use Rattle.executor_model.specs.Steps.{Machine, stack}
-use Rattle.executor_model.specs.Weights.{same, weigh_all}
-use Rattle.executor_model.specs.World.{task}
-use Rattle.executor_model.proofs.Polls.AskingExecutions.{Heard}
-use Rattle.executor_model.proofs.Steps.Lists.{same_is}
-use Rattle.executor_model.proofs.Quiet.Resting.{all-rest}
+use Rattle.executor_model.specs.{Due.IsDue, Good.Good, Steps.Machine, Steps.stack, Weights.same, Weights.weigh_all, World.task}
 use Rattle.executor_model.proofs.Polls.Dueness.{asked-is, not-over}
+use Rattle.executor_model.proofs.{Polls.AskingExecutions.Heard, Steps.Lists.same_is, Quiet.Resting.all-rest}
 
 pub due-queued : (s : Machine) → Good s → Heard s → ((q : ℕ) → stack s q ≡ []) → (f : ℕ) → IsDue f s.world.trace →
     1 ≤ queued s.world f

@@ -1,30 +1,25 @@
 -- For some_standing_is_called.
 -- Ticks and runs together: which of them one is, and what the world has of it.
-use Rattle.std.proofs.Common.{◌≡◌, ◌≢◌, ◌⊎◌, ℕ, ◌≤◌, ◌==◌, List, [], length, get_or, Bool, true, false, eqb, cond, refl}
-use Rattle.std.proofs.Common.{sym, ap, ◌∙◌, inl, inr, ⊎_elim, arith}
+use Rattle.std.proofs.Common.{◌≡◌, ◌≢◌, ◌⊎◌, ℕ, ◌≤◌, ◌==◌, List, [], length, get_or, Bool, true, false, eqb, cond, refl, sym}
+use Rattle.std.proofs.Common.{ap, ◌∙◌, inl, inr, ⊎_elim, arith}
 use Rattle.std.specs.Prelude.{not, nat_lt}
-use Rattle.executor_model.specs.declared.op.Hold.{Hold}
-use Rattle.executor_model.specs.declared.op.Hold.TheVariants as hold
-use Rattle.executor_model.specs.declared.op.TickOrRun.{TickOrRun}
-use Rattle.executor_model.specs.declared.op.TickOrRun.TheVariants as tick_or_run
-use Rattle.executor_model.specs.Weights.{same}
+use Rattle.executor_laws.proofs.Types.{Hold, TickOrRun}
 use Rattle.executor_model.specs.World.{World, Ticker, Left, Run, no_run, place_of}
-use Rattle.executor_model.proofs.Steps.Lists.{same_cases}
-use Rattle.executor_model.proofs.OwnQueues.UsingWorlds.{is_over_stage}
-use Rattle.executor_model.specs.Steps.{lives}
+use Rattle.executor_model.specs.{Weights.same, Steps.lives}
+use Rattle.executor_model.proofs.{Steps.Lists.same_cases, OwnQueues.UsingWorlds.is_over_stage}
 
 -- one where they are the same
 abbrev pub is_it : TickOrRun → TickOrRun → ℕ
-is_it (tick_or_run.Tick t) (tick_or_run.Tick u) = same t u
-is_it (tick_or_run.Tick t) (tick_or_run.Run q) = 0
-is_it (tick_or_run.Run r) (tick_or_run.Tick u) = 0
-is_it (tick_or_run.Run r) (tick_or_run.Run q) = same r q
+is_it (TickOrRun.Tick t) (TickOrRun.Tick u) = same t u
+is_it (TickOrRun.Tick t) (TickOrRun.Run q) = 0
+is_it (TickOrRun.Run r) (TickOrRun.Tick u) = 0
+is_it (TickOrRun.Run r) (TickOrRun.Run q) = same r q
 
 abbrev pub eq_who : TickOrRun → TickOrRun → Bool
-eq_who (tick_or_run.Tick t) (tick_or_run.Tick u) = t == u
-eq_who (tick_or_run.Tick t) (tick_or_run.Run q) = false
-eq_who (tick_or_run.Run r) (tick_or_run.Tick u) = false
-eq_who (tick_or_run.Run r) (tick_or_run.Run q) = r == q
+eq_who (TickOrRun.Tick t) (TickOrRun.Tick u) = t == u
+eq_who (TickOrRun.Tick t) (TickOrRun.Run q) = false
+eq_who (TickOrRun.Run r) (TickOrRun.Tick u) = false
+eq_who (TickOrRun.Run r) (TickOrRun.Run q) = r == q
 
 abbrev pub IsSame : TickOrRun → TickOrRun → Type 0
 IsSame a b = (is_it a b ≡ 1) × (eq_who a b ≡ true) × (a ≡ b)
@@ -33,15 +28,15 @@ abbrev pub IsOther : TickOrRun → TickOrRun → Type 0
 IsOther a b = (is_it a b ≡ 0) × (eq_who a b ≡ false) × (a ≢ b)
 
 pub who_cases : (a b : TickOrRun) → IsSame a b ⊎ IsOther a b
-who_cases (tick_or_run.Tick t) (tick_or_run.Tick u) = ⊎_elim
-    (λ (x : (same t u ≡ 1) × (eqb t u ≡ true) × (t ≡ u)). inl (x.0, x.1, ap (λ (n : ℕ). tick_or_run.Tick n) x.2))
+who_cases (TickOrRun.Tick t) (TickOrRun.Tick u) = ⊎_elim
+    (λ (x : (same t u ≡ 1) × (eqb t u ≡ true) × (t ≡ u)). inl (x.0, x.1, ap (λ (n : ℕ). TickOrRun.Tick n) x.2))
     (λ (x : (same t u ≡ 0) × (eqb t u ≡ false) × (t ≢ u)).
     inr (x.0, x.1, λ e. x.2 (let z : t ≡ u = cc in z)))
     (same_cases t u)
-who_cases (tick_or_run.Tick t) (tick_or_run.Run q) = inr (refl, refl, λ e. cc)
-who_cases (tick_or_run.Run r) (tick_or_run.Tick u) = inr (refl, refl, λ e. cc)
-who_cases (tick_or_run.Run r) (tick_or_run.Run q) = ⊎_elim
-    (λ (x : (same r q ≡ 1) × (eqb r q ≡ true) × (r ≡ q)). inl (x.0, x.1, ap (λ (n : ℕ). tick_or_run.Run n) x.2))
+who_cases (TickOrRun.Tick t) (TickOrRun.Run q) = inr (refl, refl, λ e. cc)
+who_cases (TickOrRun.Run r) (TickOrRun.Tick u) = inr (refl, refl, λ e. cc)
+who_cases (TickOrRun.Run r) (TickOrRun.Run q) = ⊎_elim
+    (λ (x : (same r q ≡ 1) × (eqb r q ≡ true) × (r ≡ q)). inl (x.0, x.1, ap (λ (n : ℕ). TickOrRun.Run n) x.2))
     (λ (x : (same r q ≡ 0) × (eqb r q ≡ false) × (r ≢ q)).
     inr (x.0, x.1, λ e. x.2 (let z : r ≡ q = cc in z)))
     (same_cases r q)
@@ -79,33 +74,33 @@ cond-self a n = ap (λ (c : Bool). cond c n 0) (eq-self a)
 
 -- a call holds it
 abbrev pub holds_it : TickOrRun → Hold → ℕ
-holds_it who (hold.Tick t) = is_it who (tick_or_run.Tick t)
-holds_it who (hold.Run r) = is_it who (tick_or_run.Run r)
+holds_it who (Hold.Tick t) = is_it who (TickOrRun.Tick t)
+holds_it who (Hold.Run r) = is_it who (TickOrRun.Run r)
 holds_it who _ = 0
 
 -- what the world has of it: where it is, whether it lives and was made, whether it is a run that is over, and how much
 -- stands in its own queue
 
 abbrev pub place_in : TickOrRun → List Ticker → List Run → Ticker
-place_in (tick_or_run.Tick t) ts rs = get_or ts t Left
-place_in (tick_or_run.Run r) ts rs = (get_or rs r no_run).place
+place_in (TickOrRun.Tick t) ts rs = get_or ts t Left
+place_in (TickOrRun.Run r) ts rs = (get_or rs r no_run).place
 
 abbrev pub lives_in : TickOrRun → List Ticker → List Run → Bool
-lives_in (tick_or_run.Tick t) ts rs = lives (get_or ts t Left)
-lives_in (tick_or_run.Run r) ts rs = not (get_or rs r no_run).dropped
+lives_in (TickOrRun.Tick t) ts rs = lives (get_or ts t Left)
+lives_in (TickOrRun.Run r) ts rs = not (get_or rs r no_run).dropped
 
 abbrev pub made_in : TickOrRun → List Ticker → List Run → Bool
-made_in (tick_or_run.Tick t) ts rs = nat_lt t (length ts)
-made_in (tick_or_run.Run r) ts rs = nat_lt r (length rs)
+made_in (TickOrRun.Tick t) ts rs = nat_lt t (length ts)
+made_in (TickOrRun.Run r) ts rs = nat_lt r (length rs)
 
 abbrev pub over_in : TickOrRun → List Run → Bool
-over_in (tick_or_run.Tick t) rs = false
-over_in (tick_or_run.Run r) rs = is_over_stage (get_or rs r no_run).stage
+over_in (TickOrRun.Tick t) rs = false
+over_in (TickOrRun.Run r) rs = is_over_stage (get_or rs r no_run).stage
 
 abbrev pub owned_in : TickOrRun → List (List ℕ) → ℕ
-owned_in (tick_or_run.Tick t) qs = 0
-owned_in (tick_or_run.Run r) qs = length (get_or qs r [])
+owned_in (TickOrRun.Tick t) qs = 0
+owned_in (TickOrRun.Run r) qs = length (get_or qs r [])
 
 pub placed-in : (w : World) (who : TickOrRun) → place_of w who ≡ place_in who w.ticks w.runs
-placed-in w (tick_or_run.Tick t) = refl
-placed-in w (tick_or_run.Run r) = refl
+placed-in w (TickOrRun.Tick t) = refl
+placed-in w (TickOrRun.Run r) = refl

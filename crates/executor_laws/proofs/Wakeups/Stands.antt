@@ -1,34 +1,17 @@
 -- For some_standing_is_called.
 -- What holds at every moment of each tick and run, and of its last poll.
 use Rattle.std.proofs.Common.{◌≡◌, ◌⊎◌, ℕ, ◌+◌, ◌==◌, ◌≤◌, List, Bool, true, false, ◌||◌, cond, sym, ◌∙◌, subst, arith}
-use Rattle.executor_model.specs.declared.call.Reply.{Reply}
-use Rattle.executor_model.specs.declared.call.Reply.TheVariants as reply
-use Rattle.executor_model.specs.declared.op.ListOp.{ListOp}
-use Rattle.executor_model.specs.declared.op.ListOp.TheVariants as list_op
-use Rattle.executor_model.specs.declared.op.Op.{Op}
-use Rattle.executor_model.specs.declared.op.Op.TheVariants as op
-use Rattle.executor_model.specs.declared.op.RunOp.{RunOp}
-use Rattle.executor_model.specs.declared.op.RunOp.TheVariants as run_op
-use Rattle.executor_model.specs.declared.op.RunPoll.{RunPoll}
-use Rattle.executor_model.specs.declared.op.Section.{Section}
-use Rattle.executor_model.specs.declared.op.Section.TheVariants as section
-use Rattle.executor_model.specs.declared.op.TickOrRun.{TickOrRun}
-use Rattle.executor_model.specs.declared.op.TickOrRun.TheVariants as tick_or_run
-use Rattle.executor_model.specs.declared.op.SleeperOp.TheVariants as sleeper_op
-use Rattle.executor_model.specs.declared.op.TickOp.TheVariants as tick_op
-use Rattle.executor_model.specs.declared.op.UserOp.TheVariants as user_op
-use Rattle.executor_model.specs.declared.op.WakerOp.TheVariants as waker_op
-use Rattle.executor_model.specs.World.{World, Done}
-use Rattle.executor_model.specs.Weights.{same, weigh, weigh_all}
-use Rattle.executor_model.specs.SleepersAgree.{sleeps}
+use Rattle.executor_laws.proofs.Types.{WakerOp, Reply, ListOp, Op, RunOp, RunPoll, Section, TickOrRun, SleeperOp, TickOp}
+use Rattle.executor_laws.proofs.Types.{UserOp}
+use Rattle.executor_model.specs.{World.World, World.Done, Weights.same, Weights.weigh, Weights.weigh_all, SleepersAgree.sleeps}
 use Rattle.executor_model.proofs.OwnQueues.RunsDone.{poll_in}
 use Rattle.executor_laws.proofs.Wakeups.Listed.{sum, entry_of, kept_of, misplaced_of}
 use Rattle.executor_laws.proofs.Wakeups.Sitting.{eq_who, holds_it, is_it, lives_in, made_in, over_in, owned_in, place_in}
 use Rattle.executor_laws.proofs.Wakeups.Watched.{Watched, watched, is_pending, is_refusal}
 
 abbrev pub is_ready : Reply → Bool
-is_ready reply.Ready = true
-is_ready reply.Finished = true
+is_ready Reply.Ready = true
+is_ready Reply.Finished = true
 is_ready _ = false
 
 abbrev pub is_answer : Reply → Bool
@@ -36,129 +19,129 @@ is_answer r = is_pending r || is_refusal r || is_ready r
 
 -- a call uses it
 abbrev pub used_section : TickOrRun → Section → ℕ
-used_section who section.MakeRun = 0
-used_section who (section.Register x) = is_it who (tick_or_run.Run x.run)
-used_section who (section.Unregister q a) = is_it who (tick_or_run.Run q)
+used_section who Section.MakeRun = 0
+used_section who (Section.Register x) = is_it who (TickOrRun.Run x.run)
+used_section who (Section.Unregister q a) = is_it who (TickOrRun.Run q)
 
 abbrev pub used_list : TickOrRun → ListOp → ℕ
-used_list who (list_op.LockWrite s) = used_section who s
-used_list who (list_op.Write s) = used_section who s
-used_list who list_op.UnlockWrite = 0
-used_list who (list_op.LockRead x) = is_it who (tick_or_run.Run x.run)
-used_list who list_op.UnlockRead = 0
+used_list who (ListOp.LockWrite s) = used_section who s
+used_list who (ListOp.Write s) = used_section who s
+used_list who ListOp.UnlockWrite = 0
+used_list who (ListOp.LockRead x) = is_it who (TickOrRun.Run x.run)
+used_list who ListOp.UnlockRead = 0
 
 abbrev pub used_run : TickOrRun → RunOp → ℕ
-used_run who run_op.MakeRoom = 0
-used_run who run_op.ReturnRoom = 0
-used_run who (run_op.TakeTurn x) = is_it who (tick_or_run.Run x.run)
-used_run who (run_op.SearchCommon x look) = is_it who (tick_or_run.Run x.run)
-used_run who (run_op.LookOwn x at left) = is_it who (tick_or_run.Run x.run)
-used_run who (run_op.WakeOwn x) = is_it who (tick_or_run.Run x.run)
-used_run who (run_op.Reschedule q a) = is_it who (tick_or_run.Run q)
+used_run who RunOp.MakeRoom = 0
+used_run who RunOp.ReturnRoom = 0
+used_run who (RunOp.TakeTurn x) = is_it who (TickOrRun.Run x.run)
+used_run who (RunOp.SearchCommon x look) = is_it who (TickOrRun.Run x.run)
+used_run who (RunOp.LookOwn x at left) = is_it who (TickOrRun.Run x.run)
+used_run who (RunOp.WakeOwn x) = is_it who (TickOrRun.Run x.run)
+used_run who (RunOp.Reschedule q a) = is_it who (TickOrRun.Run q)
 
 abbrev pub used_of : TickOrRun → Op → ℕ
-used_of who (op.User (user_op.PollOwn x)) = is_it who (tick_or_run.Run x.run)
-used_of who (op.Tick (tick_op.Search s)) = is_it who s.who
-used_of who (op.Tick (tick_op.Look s look)) = is_it who s.who
-used_of who (op.Tick (tick_op.CopyWaker s)) = is_it who s.who
-used_of who (op.Tick (tick_op.FallAsleep s)) = is_it who s.who
-used_of who (op.List o) = used_list who o
-used_of who (op.Steal o) = is_it who (tick_or_run.Run (poll_in o).run)
-used_of who (op.Run o) = used_run who o
-used_of who (op.End r held) = holds_it who held
+used_of who (Op.User (UserOp.PollOwn x)) = is_it who (TickOrRun.Run x.run)
+used_of who (Op.Tick (TickOp.Search s)) = is_it who s.who
+used_of who (Op.Tick (TickOp.Look s look)) = is_it who s.who
+used_of who (Op.Tick (TickOp.CopyWaker s)) = is_it who s.who
+used_of who (Op.Tick (TickOp.FallAsleep s)) = is_it who s.who
+used_of who (Op.List o) = used_list who o
+used_of who (Op.Steal o) = is_it who (TickOrRun.Run (poll_in o).run)
+used_of who (Op.Run o) = used_run who o
+used_of who (Op.End r held) = holds_it who held
 used_of who _ = 0
 
 -- stages of a poll of it: before its answer is known, or where it leaves as its own future was ready
 abbrev pub early_section : TickOrRun → Section → ℕ
-early_section who section.MakeRun = 0
-early_section who (section.Register x) = is_it who (tick_or_run.Run x.run)
-early_section who (section.Unregister q a) = cond (is_ready a) (is_it who (tick_or_run.Run q)) 0
+early_section who Section.MakeRun = 0
+early_section who (Section.Register x) = is_it who (TickOrRun.Run x.run)
+early_section who (Section.Unregister q a) = cond (is_ready a) (is_it who (TickOrRun.Run q)) 0
 
 abbrev pub early_list : TickOrRun → ListOp → ℕ
-early_list who (list_op.LockWrite s) = early_section who s
-early_list who (list_op.Write s) = early_section who s
-early_list who list_op.UnlockWrite = 0
-early_list who (list_op.LockRead x) = is_it who (tick_or_run.Run x.run)
-early_list who list_op.UnlockRead = 0
+early_list who (ListOp.LockWrite s) = early_section who s
+early_list who (ListOp.Write s) = early_section who s
+early_list who ListOp.UnlockWrite = 0
+early_list who (ListOp.LockRead x) = is_it who (TickOrRun.Run x.run)
+early_list who ListOp.UnlockRead = 0
 
 abbrev pub early_run : TickOrRun → RunOp → ℕ
-early_run who run_op.MakeRoom = 0
-early_run who run_op.ReturnRoom = 0
-early_run who (run_op.TakeTurn x) = is_it who (tick_or_run.Run x.run)
-early_run who (run_op.SearchCommon x look) = is_it who (tick_or_run.Run x.run)
-early_run who (run_op.LookOwn x at left) = is_it who (tick_or_run.Run x.run)
-early_run who (run_op.WakeOwn x) = is_it who (tick_or_run.Run x.run)
-early_run who (run_op.Reschedule q a) = cond (is_ready a) (is_it who (tick_or_run.Run q)) 0
+early_run who RunOp.MakeRoom = 0
+early_run who RunOp.ReturnRoom = 0
+early_run who (RunOp.TakeTurn x) = is_it who (TickOrRun.Run x.run)
+early_run who (RunOp.SearchCommon x look) = is_it who (TickOrRun.Run x.run)
+early_run who (RunOp.LookOwn x at left) = is_it who (TickOrRun.Run x.run)
+early_run who (RunOp.WakeOwn x) = is_it who (TickOrRun.Run x.run)
+early_run who (RunOp.Reschedule q a) = cond (is_ready a) (is_it who (TickOrRun.Run q)) 0
 
 abbrev pub early_of : TickOrRun → Op → ℕ
-early_of who (op.User (user_op.PollOwn x)) = is_it who (tick_or_run.Run x.run)
-early_of who (op.Tick (tick_op.Search s)) = is_it who s.who
-early_of who (op.Tick (tick_op.Look s look)) = is_it who s.who
-early_of who (op.Tick (tick_op.CopyWaker s)) = is_it who s.who
-early_of who (op.Tick (tick_op.FallAsleep s)) = is_it who s.who
-early_of who (op.List o) = early_list who o
-early_of who (op.Steal o) = is_it who (tick_or_run.Run (poll_in o).run)
-early_of who (op.Run o) = early_run who o
+early_of who (Op.User (UserOp.PollOwn x)) = is_it who (TickOrRun.Run x.run)
+early_of who (Op.Tick (TickOp.Search s)) = is_it who s.who
+early_of who (Op.Tick (TickOp.Look s look)) = is_it who s.who
+early_of who (Op.Tick (TickOp.CopyWaker s)) = is_it who s.who
+early_of who (Op.Tick (TickOp.FallAsleep s)) = is_it who s.who
+early_of who (Op.List o) = early_list who o
+early_of who (Op.Steal o) = is_it who (TickOrRun.Run (poll_in o).run)
+early_of who (Op.Run o) = early_run who o
 early_of who _ = 0
 
 -- its end, by the answer
 abbrev pub pends_of : TickOrRun → Op → ℕ
-pends_of who (op.End r held) = cond (is_pending r) (holds_it who held) 0
+pends_of who (Op.End r held) = cond (is_pending r) (holds_it who held) 0
 pends_of who _ = 0
 
 abbrev pub refused_of : TickOrRun → Op → ℕ
-refused_of who (op.End r held) = cond (is_refusal r) (holds_it who held) 0
+refused_of who (Op.End r held) = cond (is_refusal r) (holds_it who held) 0
 refused_of who _ = 0
 
 abbrev pub found_of : TickOrRun → Op → ℕ
-found_of who (op.End r held) = cond (is_ready r) (holds_it who held) 0
+found_of who (Op.End r held) = cond (is_ready r) (holds_it who held) 0
 found_of who _ = 0
 
 -- the end of another call that uses it
 abbrev pub ends_of : TickOrRun → Op → ℕ
-ends_of who (op.End r held) = cond (is_answer r) 0 (holds_it who held)
+ends_of who (Op.End r held) = cond (is_answer r) 0 (holds_it who held)
 ends_of who _ = 0
 
 -- it wakes up, or leaves
 abbrev pub waking_up_of : TickOrRun → Op → ℕ
-waking_up_of who (op.Tick (tick_op.WakeUp u)) = is_it who u
-waking_up_of who (op.Tick (tick_op.Leave u)) = is_it who u
+waking_up_of who (Op.Tick (TickOp.WakeUp u)) = is_it who u
+waking_up_of who (Op.Tick (TickOp.Leave u)) = is_it who u
 waking_up_of who _ = 0
 
 -- it is a tick that leaves
 abbrev pub drops_who : TickOrRun → TickOrRun → ℕ
-drops_who who (tick_or_run.Tick u) = is_it who (tick_or_run.Tick u)
-drops_who who (tick_or_run.Run q) = 0
+drops_who who (TickOrRun.Tick u) = is_it who (TickOrRun.Tick u)
+drops_who who (TickOrRun.Run q) = 0
 
 abbrev pub drops_of : TickOrRun → Op → ℕ
-drops_of who (op.Tick (tick_op.Leave u)) = drops_who who u
+drops_of who (Op.Tick (TickOp.Leave u)) = drops_who who u
 drops_of who _ = 0
 
 -- what there never is: a copy of a task's waker that would hold it, a leaving that answers a poll which found nothing, or a
 -- run's look at the executor's queues as a tick looks
 abbrev pub odd_section : TickOrRun → Section → ℕ
-odd_section who section.MakeRun = 0
-odd_section who (section.Register x) = 0
-odd_section who (section.Unregister q a) = cond (is_pending a || is_refusal a) (is_it who (tick_or_run.Run q)) 0
+odd_section who Section.MakeRun = 0
+odd_section who (Section.Register x) = 0
+odd_section who (Section.Unregister q a) = cond (is_pending a || is_refusal a) (is_it who (TickOrRun.Run q)) 0
 
 abbrev pub odd_list : TickOrRun → ListOp → ℕ
-odd_list who (list_op.LockWrite s) = odd_section who s
-odd_list who (list_op.Write s) = odd_section who s
+odd_list who (ListOp.LockWrite s) = odd_section who s
+odd_list who (ListOp.Write s) = odd_section who s
 odd_list who _ = 0
 
 abbrev pub odd_run : TickOrRun → RunOp → ℕ
-odd_run who (run_op.Reschedule q a) = cond (is_pending a || is_refusal a) (is_it who (tick_or_run.Run q)) 0
+odd_run who (RunOp.Reschedule q a) = cond (is_pending a || is_refusal a) (is_it who (TickOrRun.Run q)) 0
 odd_run who _ = 0
 
 abbrev pub odd_look : TickOrRun → TickOrRun → ℕ
-odd_look who (tick_or_run.Tick u) = 0
-odd_look who (tick_or_run.Run q) = is_it who (tick_or_run.Run q)
+odd_look who (TickOrRun.Tick u) = 0
+odd_look who (TickOrRun.Run q) = is_it who (TickOrRun.Run q)
 
 abbrev pub odd_of : TickOrRun → Op → ℕ
-odd_of who (op.Tick (tick_op.Look s look)) = odd_look who s.who
-odd_of who (op.Waker (waker_op.CopyWaker f held)) = holds_it who held
-odd_of who (op.List o) = odd_list who o
-odd_of who (op.Run o) = odd_run who o
+odd_of who (Op.Tick (TickOp.Look s look)) = odd_look who s.who
+odd_of who (Op.Waker (WakerOp.CopyWaker f held)) = holds_it who held
+odd_of who (Op.List o) = odd_list who o
+odd_of who (Op.Run o) = odd_run who o
 odd_of who _ = 0
 
 -- a stage of another poll than k
@@ -166,43 +149,43 @@ abbrev pub stray : TickOrRun → ℕ → TickOrRun → ℕ → ℕ
 stray who k u n = cond (eq_who who u) (cond (k == n) 0 1) 0
 
 abbrev pub strays : TickOrRun → ℕ → RunPoll → ℕ
-strays who k x = stray who k (tick_or_run.Run x.run) x.poll
+strays who k x = stray who k (TickOrRun.Run x.run) x.poll
 
 abbrev pub strays_section : TickOrRun → ℕ → Section → ℕ
-strays_section who k section.MakeRun = 0
-strays_section who k (section.Register x) = strays who k x
-strays_section who k (section.Unregister q a) = 0
+strays_section who k Section.MakeRun = 0
+strays_section who k (Section.Register x) = strays who k x
+strays_section who k (Section.Unregister q a) = 0
 
 abbrev pub strays_list : TickOrRun → ℕ → ListOp → ℕ
-strays_list who k (list_op.LockWrite s) = strays_section who k s
-strays_list who k (list_op.Write s) = strays_section who k s
-strays_list who k list_op.UnlockWrite = 0
-strays_list who k (list_op.LockRead x) = strays who k x
-strays_list who k list_op.UnlockRead = 0
+strays_list who k (ListOp.LockWrite s) = strays_section who k s
+strays_list who k (ListOp.Write s) = strays_section who k s
+strays_list who k ListOp.UnlockWrite = 0
+strays_list who k (ListOp.LockRead x) = strays who k x
+strays_list who k ListOp.UnlockRead = 0
 
 abbrev pub strays_run : TickOrRun → ℕ → RunOp → ℕ
-strays_run who k run_op.MakeRoom = 0
-strays_run who k run_op.ReturnRoom = 0
-strays_run who k (run_op.TakeTurn x) = strays who k x
-strays_run who k (run_op.SearchCommon x look) = strays who k x
-strays_run who k (run_op.LookOwn x at left) = strays who k x
-strays_run who k (run_op.WakeOwn x) = strays who k x
-strays_run who k (run_op.Reschedule q a) = 0
+strays_run who k RunOp.MakeRoom = 0
+strays_run who k RunOp.ReturnRoom = 0
+strays_run who k (RunOp.TakeTurn x) = strays who k x
+strays_run who k (RunOp.SearchCommon x look) = strays who k x
+strays_run who k (RunOp.LookOwn x at left) = strays who k x
+strays_run who k (RunOp.WakeOwn x) = strays who k x
+strays_run who k (RunOp.Reschedule q a) = 0
 
 abbrev pub strays_of : TickOrRun → ℕ → Op → ℕ
-strays_of who k (op.User (user_op.PollOwn x)) = strays who k x
-strays_of who k (op.Tick (tick_op.Search s)) = stray who k s.who s.poll
-strays_of who k (op.Tick (tick_op.Look s look)) = stray who k s.who s.poll
-strays_of who k (op.Tick (tick_op.CopyWaker s)) = stray who k s.who s.poll
-strays_of who k (op.Tick (tick_op.FallAsleep s)) = stray who k s.who s.poll
-strays_of who k (op.List o) = strays_list who k o
-strays_of who k (op.Steal o) = strays who k (poll_in o)
-strays_of who k (op.Run o) = strays_run who k o
+strays_of who k (Op.User (UserOp.PollOwn x)) = strays who k x
+strays_of who k (Op.Tick (TickOp.Search s)) = stray who k s.who s.poll
+strays_of who k (Op.Tick (TickOp.Look s look)) = stray who k s.who s.poll
+strays_of who k (Op.Tick (TickOp.CopyWaker s)) = stray who k s.who s.poll
+strays_of who k (Op.Tick (TickOp.FallAsleep s)) = stray who k s.who s.poll
+strays_of who k (Op.List o) = strays_list who k o
+strays_of who k (Op.Steal o) = strays who k (poll_in o)
+strays_of who k (Op.Run o) = strays_run who k o
 strays_of who k _ = 0
 
 -- the waker of poll k is about to be called
 abbrev pub calls_of : TickOrRun → ℕ → Op → ℕ
-calls_of who k (op.Sleeper (sleeper_op.CallSleeper s)) = cond (eq_who who s.who) (same k s.poll) 0
+calls_of who k (Op.Sleeper (SleeperOp.CallSleeper s)) = cond (eq_who who s.who) (same k s.poll) 0
 calls_of who k _ = 0
 
 -- it has to end a poll of it

@@ -1,25 +1,14 @@
 -- For some_standing_is_called.
 -- What is seen of the answer of a tick's or run's last poll is the end of the call in which its party stood.
-use Rattle.std.proofs.Common.{◌≡◌, ◌⊎◌, ◌∙◌, ℕ, zero, suc, ◌+◌, ◌<◌, ◌≤◌, [], ◌∷◌, Bool, true, false, ◌&&◌, cond, eqb}
-use Rattle.std.proofs.Common.{length, take, refl, sym, ap, subst, inl, inr, ⊎_elim, arith}
-use Rattle.std.proofs.lemmas.Bool.Decides.{nat_tests}
-use Rattle.std.proofs.lemmas.List.Sums.{sum_by-append}
+use Rattle.std.proofs.Common.{◌≡◌, ◌⊎◌, ◌∙◌, ℕ, zero, suc, ◌+◌, ◌<◌, ◌≤◌, [], ◌∷◌, Bool, true, false, ◌&&◌, cond, eqb, length}
+use Rattle.std.proofs.Common.{take, refl, sym, ap, subst, inl, inr, ⊎_elim, arith}
 use Rattle.std.specs.Prelude.{Some, count_by, slice_get}
-use Rattle.executor_model.specs.declared.call.Call.{Call}
-use Rattle.executor_model.specs.declared.call.Reply.{Reply}
-use Rattle.executor_model.specs.declared.event.Event.{Event}
-use Rattle.executor_model.specs.declared.event.Event.TheVariants as event
-use Rattle.executor_model.specs.declared.op.Polled.TheVariants as of
-use Rattle.executor_model.specs.AwaiterKept.{EndsWith}
-use Rattle.executor_model.specs.Quiet.{begins_call, ends_call}
-use Rattle.executor_model.specs.Trace.{Trace, has}
-use Rattle.executor_model.specs.Weights.{same}
+use Rattle.std.{proofs.lemmas.Bool.Decides.nat_tests, proofs.lemmas.List.Sums.sum_by-append}
+use Rattle.executor_model.specs.{AwaiterKept.EndsWith, Quiet.begins_call, Quiet.ends_call, Trace.Trace, Trace.has, Weights.same}
 use Rattle.executor_model.proofs.OneFuture.Telling.{same-cond}
-use Rattle.executor_model.specs.declared.op.TickOrRun.{TickOrRun}
-use Rattle.executor_model.specs.declared.op.TickOrRun.TheVariants as tick_or_run
-use Rattle.executor_laws.proofs.Wakeups.Sitting.{eq_who}
 use Rattle.executor_laws.proofs.Wakeups.StandsTelling.{drops_it, or-none, not-polled, not-dropped, polls_it}
 use Rattle.executor_laws.proofs.Wakeups.Watched.{Watched, called_at, is_pending, is_refusal, ended_in, watches, watched_from}
+use Rattle.executor_laws.proofs.{Types.Call, Types.Reply, Types.Event, Types.Polled, Types.TickOrRun, Wakeups.Sitting.eq_who}
 
 abbrev ends_one : ℕ → Event → ℕ
 ends_one p e = cond (ends_call p e) 1 0
@@ -34,7 +23,7 @@ count-cons test e es = omega (arith, sum_by-append (λ (x : Event). cond (test x
 -- where so many calls of the party are in progress, the one below them ends so
 pub record EndsAt (p : ℕ) (r : Reply) (inner : ℕ) (es : Trace) : Type 0 where
   pub place : ℕ
-  pub here : slice_get es place ≡ Some (event.CallEnded p r)
+  pub here : slice_get es place ≡ Some (Event.CallEnded p r)
   pub level : count_by (ends_call p) (take place es) ≡ inner + count_by (begins_call p) (take place es)
   pub first : (n : ℕ) → n ≤ place → count_by (ends_call p) (take n es) ≤ inner + count_by (begins_call p) (take n es)
 
@@ -52,7 +41,7 @@ record IsOpen (p : ℕ) (s : Watched) : Type 0 where
 data After (t : TickOrRun) (p n : ℕ) (s : Watched) (e : Event) : Type 0 where
   goes : IsOpen p (watches t n e s) → (watches t n e s).inner + ends_one p e ≡ s.inner + begins_one p e →
       ends_one p e ≤ s.inner + begins_one p e → After t p n s e
-  over : (r : Reply) → e ≡ event.CallEnded p r → s.inner ≡ 0 → IsOver r (watches t n e s) → After t p n s e
+  over : (r : Reply) → e ≡ Event.CallEnded p r → s.inner ≡ 0 → IsOver r (watches t n e s) → After t p n s e
 
 -- what the poll of party p came to
 pub data Outcome (p inner : ℕ) (es : Trace) (s : Watched) : Type 0 where
@@ -69,17 +58,17 @@ stays t p n s e q o x y = goes (subst (IsOpen p) (sym q) o) (omega (arith, x, y,
 
 ended-by : (t : TickOrRun) (p q n : ℕ) (r : Reply) (s : Watched) (b : Bool) (i : ℕ) → eqb p q ≡ b → s.inner ≡ i →
     IsOpen p s →
-    After t p n s (event.CallEnded q r)
+    After t p n s (Event.CallEnded q r)
 ended-by t p q n r s b i e z o = by b i e z
   where
     now : (b : Bool) (i : ℕ) → eqb p q ≡ b → s.inner ≡ i →
-        watches t n (event.CallEnded q r) s ≡ cond b (ended_in i r s) s
+        watches t n (Event.CallEnded q r) s ≡ cond b (ended_in i r s) s
     now b i e z = ap (λ (c : Bool). cond (c && eqb s.party q) (ended_in s.inner r s) s) o.asking
         ∙ (ap (λ (c : Bool). cond c (ended_in s.inner r s) s) (ap (λ (m : ℕ). eqb m q) o.party ∙ e)
         ∙ ap (λ (m : ℕ). cond b (ended_in m r s) s) z)
 
-    by : (b : Bool) (i : ℕ) → eqb p q ≡ b → s.inner ≡ i → After t p n s (event.CallEnded q r)
-    by true zero e z = over r (ap (λ (m : ℕ). event.CallEnded m r) (eqb-is p q e)) z
+    by : (b : Bool) (i : ℕ) → eqb p q ≡ b → s.inner ≡ i → After t p n s (Event.CallEnded q r)
+    by true zero e z = over r (ap (λ (m : ℕ). Event.CallEnded m r) (eqb-is p q e)) z
         (subst (IsOver r) (sym (now true zero e z)) (record { asking = refl; pending = refl; refused = refl }))
     by true (suc m) e z =
         goes (subst (IsOpen p) (sym (now true (suc m) e z)) (record { asking = o.asking; party = o.party }))
@@ -98,7 +87,7 @@ ended-by t p q n r s b i e z o = by b i e z
         ))
         (omega (arith, ap (λ (c : Bool). let k : ℕ = cond c 1 0 in k) e))
 
-begun-by : (t : TickOrRun) (p q n : ℕ) (c : Call) (s : Watched) → IsOpen p s → After t p n s (event.CallBegun q c)
+begun-by : (t : TickOrRun) (p q n : ℕ) (c : Call) (s : Watched) → IsOpen p s → After t p n s (Event.CallBegun q c)
 begun-by t p q n c s o =
     goes (record { asking = o.asking; party = o.party }) (omega (
       arith,
@@ -125,22 +114,22 @@ called-open t p n s e b k q x y o =
 after-one : (t : TickOrRun) (p n : ℕ) (s : Watched) (e : Event) → polls_it t e ≡ false → drops_it t e ≡ false →
     IsOpen p s →
     After t p n s e
-after-one t p n s (event.TickPolled q u) a b o =
-    stays t p n s (event.TickPolled q u) (not-polled (eq_who t (tick_or_run.Tick u)) n q s a) o
+after-one t p n s (Event.TickPolled q u) a b o =
+    stays t p n s (Event.TickPolled q u) (not-polled (eq_who t (TickOrRun.Tick u)) n q s a) o
     refl refl
-after-one t p n s (event.TickDropped q u) a b o =
-    stays t p n s (event.TickDropped q u) (not-dropped (eq_who t (tick_or_run.Tick u)) s b) o refl refl
-after-one t p n s (event.RunPolled q u) a b o =
-    stays t p n s (event.RunPolled q u) (not-polled (eq_who t (tick_or_run.Run u)) n q s a) o refl refl
-after-one t p n s (event.RunDropped q u) a b o =
-    stays t p n s (event.RunDropped q u) (not-dropped (eq_who t (tick_or_run.Run u)) s b) o refl refl
-after-one t p n s (event.CallBegun q c) a b o = begun-by t p q n c s o
-after-one t p n s (event.CallEnded q r) a b o = ended-by t p q n r s _ _ refl refl o
-after-one t p n s (event.WakerCalled q (of.Tick u) k w) a b o =
-    called-open t p n s (event.WakerCalled q (of.Tick u) k w) (eq_who t (tick_or_run.Tick u)) k refl refl refl o
-after-one t p n s (event.WakerCalled q (of.Run u) k w) a b o =
-    called-open t p n s (event.WakerCalled q (of.Run u) k w) (eq_who t (tick_or_run.Run u)) k refl refl refl o
-after-one t p n s (event.WakerCalled q (of.Handle f) k w) a b o = goes o refl (omega arith)
+after-one t p n s (Event.TickDropped q u) a b o =
+    stays t p n s (Event.TickDropped q u) (not-dropped (eq_who t (TickOrRun.Tick u)) s b) o refl refl
+after-one t p n s (Event.RunPolled q u) a b o =
+    stays t p n s (Event.RunPolled q u) (not-polled (eq_who t (TickOrRun.Run u)) n q s a) o refl refl
+after-one t p n s (Event.RunDropped q u) a b o =
+    stays t p n s (Event.RunDropped q u) (not-dropped (eq_who t (TickOrRun.Run u)) s b) o refl refl
+after-one t p n s (Event.CallBegun q c) a b o = begun-by t p q n c s o
+after-one t p n s (Event.CallEnded q r) a b o = ended-by t p q n r s _ _ refl refl o
+after-one t p n s (Event.WakerCalled q (Polled.Tick u) k w) a b o =
+    called-open t p n s (Event.WakerCalled q (Polled.Tick u) k w) (eq_who t (TickOrRun.Tick u)) k refl refl refl o
+after-one t p n s (Event.WakerCalled q (Polled.Run u) k w) a b o =
+    called-open t p n s (Event.WakerCalled q (Polled.Run u) k w) (eq_who t (TickOrRun.Run u)) k refl refl refl o
+after-one t p n s (Event.WakerCalled q (Polled.Handle f) k w) a b o = goes o refl (omega arith)
 after-one t p n s _ a b o = goes o refl (omega arith)
 
 -- an answered poll stays so
@@ -152,17 +141,17 @@ called-over r false k s h = h
 over-one : (t : TickOrRun) (n : ℕ) (r : Reply) (e : Event) (s : Watched) → polls_it t e ≡ false → drops_it t e ≡ false →
     IsOver r s →
     IsOver r (watches t n e s)
-over-one t n r (event.TickPolled p u) s a b h =
-    subst (IsOver r) (sym (not-polled (eq_who t (tick_or_run.Tick u)) n p s a)) h
-over-one t n r (event.TickDropped p u) s a b h = subst (IsOver r) (sym (not-dropped (eq_who t (tick_or_run.Tick u)) s b)) h
-over-one t n r (event.RunPolled p u) s a b h = subst (IsOver r) (sym (not-polled (eq_who t (tick_or_run.Run u)) n p s a)) h
-over-one t n r (event.RunDropped p u) s a b h = subst (IsOver r) (sym (not-dropped (eq_who t (tick_or_run.Run u)) s b)) h
-over-one t n r (event.CallBegun p c) s a b h = record { asking = h.asking; pending = h.pending; refused = h.refused }
-over-one t n r (event.CallEnded p q) s a b h =
+over-one t n r (Event.TickPolled p u) s a b h =
+    subst (IsOver r) (sym (not-polled (eq_who t (TickOrRun.Tick u)) n p s a)) h
+over-one t n r (Event.TickDropped p u) s a b h = subst (IsOver r) (sym (not-dropped (eq_who t (TickOrRun.Tick u)) s b)) h
+over-one t n r (Event.RunPolled p u) s a b h = subst (IsOver r) (sym (not-polled (eq_who t (TickOrRun.Run u)) n p s a)) h
+over-one t n r (Event.RunDropped p u) s a b h = subst (IsOver r) (sym (not-dropped (eq_who t (TickOrRun.Run u)) s b)) h
+over-one t n r (Event.CallBegun p c) s a b h = record { asking = h.asking; pending = h.pending; refused = h.refused }
+over-one t n r (Event.CallEnded p q) s a b h =
     subst (λ (c : Bool). IsOver r (cond (c && eqb s.party p) (ended_in s.inner q s) s)) (sym h.asking) h
-over-one t n r (event.WakerCalled p (of.Tick u) k w) s a b h = called-over r (eq_who t (tick_or_run.Tick u)) k s h
-over-one t n r (event.WakerCalled p (of.Run u) k w) s a b h = called-over r (eq_who t (tick_or_run.Run u)) k s h
-over-one t n r (event.WakerCalled p (of.Handle f) k w) s a b h = h
+over-one t n r (Event.WakerCalled p (Polled.Tick u) k w) s a b h = called-over r (eq_who t (TickOrRun.Tick u)) k s h
+over-one t n r (Event.WakerCalled p (Polled.Run u) k w) s a b h = called-over r (eq_who t (TickOrRun.Run u)) k s h
+over-one t n r (Event.WakerCalled p (Polled.Handle f) k w) s a b h = h
 over-one t n r _ s a b h = h
 
 over-from : (t : TickOrRun) (n : ℕ) (r : Reply) (s : Watched) (es : Trace) → has (polls_it t) es ≡ false →
@@ -181,13 +170,7 @@ ends-later p r i j x es q k h = record {
   place = suc h.place;
   here = h.here;
   level =
-      omega (
-        arith,
-        h.level,
-        q,
-        count-cons (ends_call p) x (take h.place es),
-        count-cons (begins_call p) x (take h.place es),
-      );
+      omega (arith, h.level, q, count-cons (ends_call p) x (take h.place es), count-cons (begins_call p) x (take h.place es));
   first = first;
 }
   where
@@ -210,7 +193,7 @@ more : (p i j : ℕ) (x : Event) (es : Trace) (s : Watched) → j + ends_one p x
 more p i j x es s q k (unended a) = unended a
 more p i j x es s q k (ended r h o) = ended r (ends-later p r i j x es q k h) o
 
-ends-now : (p : ℕ) (r : Reply) (x : Event) (es : Trace) → x ≡ event.CallEnded p r → EndsAt p r 0 (x ∷ es)
+ends-now : (p : ℕ) (r : Reply) (x : Event) (es : Trace) → x ≡ Event.CallEnded p r → EndsAt p r 0 (x ∷ es)
 ends-now p r x es e = record { place = 0; here = ap (λ (y : Event). Some y) e; level = refl; first = λ n l. first n l }
   where
     first : (n : ℕ) → n ≤ 0 → count_by (ends_call p) (take n (x ∷ es)) ≤ 0 + count_by (begins_call p) (take n (x ∷ es))
@@ -308,11 +291,11 @@ take-one test x (suc k) (y ∷ es) e = omega (
   count-cons test y (take k es),
 )
 
-own-ends : (p : ℕ) (r : Reply) → ends_one p (event.CallEnded p r) ≡ 1
+own-ends : (p : ℕ) (r : Reply) → ends_one p (Event.CallEnded p r) ≡ 1
 own-ends p r = ap (λ (b : Bool). let n : ℕ = cond b 1 0 in n) (let z : eqb p p ≡ true = grind (arith, nat_tests) in z)
 
 -- what ends first is passed by none that ends later
-not-before : (p : ℕ) (r : Reply) (k m : ℕ) (es : Trace) → slice_get es k ≡ Some (event.CallEnded p r) →
+not-before : (p : ℕ) (r : Reply) (k m : ℕ) (es : Trace) → slice_get es k ≡ Some (Event.CallEnded p r) →
     count_by (ends_call p) (take k es) ≡ count_by (begins_call p) (take k es) →
     ((n : ℕ) → n ≤ m → count_by (ends_call p) (take n es) ≤ count_by (begins_call p) (take n es)) → m ≤ k
 not-before p r k m es e q f = ⊎_elim
@@ -321,8 +304,8 @@ not-before p r k m es e q f = ⊎_elim
       arith,
       f (suc k) (omega (arith, x)),
       q,
-      take-one (ends_call p) (event.CallEnded p r) k es e,
-      take-one (begins_call p) (event.CallEnded p r) k es e,
+      take-one (ends_call p) (Event.CallEnded p r) k es e,
+      take-one (begins_call p) (Event.CallEnded p r) k es e,
       own-ends p r,
     )))
     (decide m k)
@@ -338,4 +321,4 @@ one-end p r q es a b =
     let x : b.place ≤ a.place = not-before p r a.place b.place es a.here a.inner b.first in
     let y : a.place ≤ b.place = not-before p q b.place a.place es b.here b.inner a.first in
     let z : a.place ≡ b.place = omega (arith, x, y) in
-    let e : Some (event.CallEnded p r) ≡ Some (event.CallEnded p q) = sym a.here ∙ (ap (slice_get es) z ∙ b.here) in cc
+    let e : Some (Event.CallEnded p r) ≡ Some (Event.CallEnded p q) = sym a.here ∙ (ap (slice_get es) z ∙ b.here) in cc

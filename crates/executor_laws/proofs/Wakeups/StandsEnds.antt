@@ -1,14 +1,9 @@
 -- For some_standing_is_called.
 -- Each call that ends keeps what holds of each tick and run.
-use Rattle.std.proofs.Common.{◌≡◌, ◌≢◌, ◌∙◌, ℕ, zero, suc, ◌+◌, ◌≤◌, List, [], ◌∷◌, ◌++◌, Bool, true, false, ◌&&◌, cond}
-use Rattle.std.proofs.Common.{eqb, refl, sym, ap, subst, arith}
+use Rattle.std.proofs.Common.{◌≡◌, ◌≢◌, ◌∙◌, ℕ, zero, suc, ◌+◌, ◌≤◌, List, [], ◌∷◌, ◌++◌, Bool, true, false, ◌&&◌, cond, eqb}
+use Rattle.std.proofs.Common.{refl, sym, ap, subst, arith}
 use Rattle.std.proofs.lemmas.Bool.Decides.{nat_tests}
-use Rattle.executor_model.specs.declared.call.Reply.{Reply}
-use Rattle.executor_model.specs.declared.event.Event.{Event}
-use Rattle.executor_model.specs.declared.event.Event.TheVariants as event
-use Rattle.executor_model.specs.declared.op.Hold.{Hold}
-use Rattle.executor_model.specs.declared.op.Op.TheVariants as op
-use Rattle.executor_model.specs.declared.op.TickOrRun.{TickOrRun}
+use Rattle.executor_laws.proofs.Types.{Reply, Event, Hold, Op, TickOrRun}
 use Rattle.executor_model.specs.World.{World, log}
 use Rattle.executor_laws.proofs.Wakeups.Stands.{View, view, Doing, with_doing, Footing, Stands, Mark, with-nothing, asks_of}
 use Rattle.executor_laws.proofs.Wakeups.StandsNothing.{nothing-of}
@@ -29,19 +24,19 @@ pub data EndWatched (p : ℕ) (a : Reply) (h h2 : Watched) : Type 0 where
   apart : (h.asking ≡ true → h.party ≢ p) → h2 ≡ h → EndWatched p a h h2
 
 pub watched-end : (t : TickOrRun) (p : ℕ) (a : Reply) (es : List Event) →
-    EndWatched p a (watched t es) (watched t (es ++ event.CallEnded p a ∷ []))
+    EndWatched p a (watched t es) (watched t (es ++ Event.CallEnded p a ∷ []))
 watched-end t p a es = go (watched t es).asking (eqb (watched t es).party p) (watched t es).inner refl refl refl
   where
     q : (b c : Bool) (n : ℕ) → (watched t es).asking ≡ b → eqb (watched t es).party p ≡ c → (watched t es).inner ≡ n →
-        watched t (es ++ event.CallEnded p a ∷ []) ≡ cond (b && c) (ended_in n a (watched t es)) (watched t es)
-    q b c n x y z = watched-push t es (event.CallEnded p a)
+        watched t (es ++ Event.CallEnded p a ∷ []) ≡ cond (b && c) (ended_in n a (watched t es)) (watched t es)
+    q b c n x y z = watched-push t es (Event.CallEnded p a)
         ∙ (ap (λ (d : Bool). cond (d && eqb (watched t es).party p) (ended_in (watched t es).inner a (watched t es))
         (watched t es)) x
         ∙ (ap (λ (d : Bool). cond (b && d) (ended_in (watched t es).inner a (watched t es)) (watched t es)) y
         ∙ ap (λ (d : ℕ). cond (b && c) (ended_in d a (watched t es)) (watched t es)) z))
 
     go : (b c : Bool) (n : ℕ) → (watched t es).asking ≡ b → eqb (watched t es).party p ≡ c → (watched t es).inner ≡ n →
-        EndWatched p a (watched t es) (watched t (es ++ event.CallEnded p a ∷ []))
+        EndWatched p a (watched t es) (watched t (es ++ Event.CallEnded p a ∷ []))
     go true true zero x y z = own x (grind (arith, nat_tests)) z (q true true zero x y z)
     go true true (suc n) x y z = within n x (grind (arith, nat_tests)) z (q true true (suc n) x y z)
     go true false n x y z = apart (λ k. let no : (watched t es).party ≢ p = grind (arith, nat_tests) in no)
@@ -60,8 +55,8 @@ marked v x = record {
 
 -- the end of the poll that is open is what its party does
 pub record Meets (t : TickOrRun) (p : ℕ) (a : Reply) (held : Hold) (h : Watched) : Type 0 where
-  pub ends : h.asking ≡ true → h.party ≡ p → h.inner ≡ 0 → 1 ≤ asks_of t (op.End a held)
-  pub ended : 1 ≤ asks_of t (op.End a held) → (h.asking ≡ true) × (h.party ≡ p) × (h.inner ≡ 0)
+  pub ends : h.asking ≡ true → h.party ≡ p → h.inner ≡ 0 → 1 ≤ asks_of t (Op.End a held)
+  pub ended : 1 ≤ asks_of t (Op.End a held) → (h.asking ≡ true) × (h.party ≡ p) × (h.inner ≡ 0)
 
 zero-or : (n : ℕ) → (1 ≤ n → ⊥) → n ≡ 0
 zero-or zero k = refl
@@ -69,10 +64,10 @@ zero-or (suc n) k = absurd (k (omega arith))
 
 module _ (t : TickOrRun) (p : ℕ) (a : Reply) (held : Hold) (w : World) (r : Doing) (m : Mark)
     (meets : Meets t p a held (watched t w.trace))
-    (f : Footing (with_doing t (op.End a held ∷ []) r) r)
-    (h : Stands (view t w) (with_doing t (op.End a held ∷ []) r) m) where
+    (f : Footing (with_doing t (Op.End a held ∷ []) r) r)
+    (h : Stands (view t w) (with_doing t (Op.End a held ∷ []) r) m) where
   abbrev last : World
-  last = log w (event.CallEnded p a)
+  last = log w (Event.CallEnded p a)
 
   abbrev After : Type 0
   After = Stands (view t last) (with_doing t [] r) (marked (view t last) (with_doing t [] r))

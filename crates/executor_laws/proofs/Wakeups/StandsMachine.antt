@@ -1,34 +1,20 @@
 -- For some_standing_is_called.
 -- After each list of steps what holds of each tick and run holds still.
-use Rattle.std.proofs.Common.{◌≡◌, ◌∙◌, ℕ, zero, suc, ◌<◌, List, [], ◌∷◌, ◌++◌, length, get_or, Bool, true, false}
-use Rattle.std.proofs.Common.{refl, sym, ap, subst, arith}
-use Rattle.std.specs.Prelude.{reverse}
-use Rattle.executor_model.specs.declared.kind.Kind.{Kind}
-use Rattle.executor_model.specs.declared.op.Op.{Op}
-use Rattle.executor_model.specs.declared.op.Op.TheVariants as op
-use Rattle.executor_model.specs.declared.step.Hint.{Hint}
-use Rattle.executor_model.specs.declared.step.Step.{Step}
-use Rattle.executor_model.specs.declared.op.TickOrRun.{TickOrRun}
-use Rattle.executor_model.specs.declared.op.TickOrRun.TheVariants as tick_or_run
-use Rattle.executor_model.specs.World.{Done}
-use Rattle.executor_model.specs.Doing.{act}
-use Rattle.executor_model.specs.Good.{Good}
-use Rattle.executor_model.specs.Steps.{Machine, stack, run, start, top}
-use Rattle.executor_model.specs.Steps.{idle}
-use Rattle.executor_model.proofs.Quiet.Calls.{is_end}
-use Rattle.executor_model.proofs.Steps.Lift.{unsettled, good-start, none_refused}
+use Rattle.std.proofs.Common.{◌≡◌, ◌∙◌, ℕ, zero, suc, ◌<◌, List, [], ◌∷◌, ◌++◌, length, get_or, Bool, true, false, refl, sym}
+use Rattle.std.{proofs.Common.ap, proofs.Common.subst, proofs.Common.arith, specs.Prelude.reverse}
+use Rattle.executor_model.specs.Steps.{Machine, stack, run, start, top, idle}
+use Rattle.executor_model.specs.{World.Done, Doing.act, Good.Good}
 use Rattle.executor_model.proofs.Sleepers.SleepersFollowingExecutions.{Followed, followed-moves, followed-start}
 use Rattle.executor_model.proofs.OwnQueues.UsingSteps.{AllUsed, used-moves, used-start}
-use Rattle.executor_model.proofs.Steps.Ways.{Way, along}
+use Rattle.executor_model.proofs.Steps.Lift.{unsettled, good-start, none_refused}
 use Rattle.executor_model.proofs.Steps.Ways.Way.{acted, reacted, called}
-use Rattle.executor_laws.proofs.Wakeups.Stands.{view, Doing, Stands}
-use Rattle.executor_laws.proofs.Wakeups.StandsEnds.{marked}
-use Rattle.executor_laws.proofs.Wakeups.StandsTied.{IsTied, tied-nil}
+use Rattle.executor_model.proofs.{Quiet.Calls.is_end, Steps.Ways.Way, Steps.Ways.along}
 use Rattle.executor_laws.proofs.Wakeups.StandsWeights.{nothing_done, idle-doing}
-use Rattle.executor_laws.proofs.Wakeups.Watched.{Watched, watched-none}
-use Rattle.executor_laws.proofs.Wakeups.StandsSteps.{Standing}
 use Rattle.executor_laws.proofs.Wakeups.StandsMoves.{standing-acted, standing-begun, standing-reacted}
-use Rattle.executor_laws.proofs.Wakeups.StandsLast.{standing-ends}
+use Rattle.executor_laws.proofs.Wakeups.Stands.{view, Doing, Stands}
+use Rattle.executor_laws.proofs.{Types.Kind, Types.Op, Types.Hint, Types.Step, Types.TickOrRun, Wakeups.StandsEnds.marked}
+use Rattle.executor_laws.proofs.{Wakeups.StandsTied.IsTied, Wakeups.StandsTied.tied-nil, Wakeups.Watched.Watched}
+use Rattle.executor_laws.proofs.{Wakeups.Watched.watched-none, Wakeups.StandsSteps.Standing, Wakeups.StandsLast.standing-ends}
 
 -- every step
 
@@ -37,7 +23,7 @@ acted-by : (s : Machine) (p : ℕ) (rest : List Op) (h : Hint) (o : Op) (b : Boo
     AllUsed (unsettled s p rest (act p h o s.world)) → Standing s →
     Standing (unsettled s p rest (act p h o s.world))
 acted-by s p rest h o false n l e good follows uses k = standing-acted s p rest h o n l e good follows uses k
-acted-by s p rest h (op.End a held) true n l e good follows uses k = standing-ends s p a held rest l e k
+acted-by s p rest h (Op.End a held) true n l e good follows uses k = standing-ends s p a held rest l e k
 acted-by s p rest h _ true n l e good follows uses k = absurd (cc)
 
 standing-way : (s : Machine) (p : ℕ) (old rest : List Op) (d : Done) → Good s → p < length s.parties →
@@ -71,8 +57,8 @@ idle-stack (suc n) (suc q) = idle-stack n q
 
 none-stands : (kind : Kind) (t : TickOrRun) →
     Stands (view t (start 0 kind 0).world) nothing_done (marked (view t (start 0 kind 0).world) nothing_done)
-none-stands kind (tick_or_run.Tick t) = grind (arith, watched-none)
-none-stands kind (tick_or_run.Run r) = grind (arith, watched-none)
+none-stands kind (TickOrRun.Tick t) = grind (arith, watched-none)
+none-stands kind (TickOrRun.Run r) = grind (arith, watched-none)
 
 pub standing-start : (limit : ℕ) (kind : Kind) (n : ℕ) → Standing (start limit kind n)
 standing-start limit kind n = record {

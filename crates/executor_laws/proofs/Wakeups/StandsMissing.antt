@@ -1,17 +1,13 @@
 -- For some_standing_is_called.
 -- Where there are fewer entries than ticks and runs that sleep, one that sleeps has none.
-use Rattle.std.proofs.Common.{◌≡◌, ◌⊎◌, ◌∙◌, ℕ, zero, suc, ◌+◌, ◌<◌, ◌≤◌, List, [], ◌∷◌, length, get_or, refl, ap}
-use Rattle.std.proofs.Common.{subst, inl, inr, ⊎_elim, arith}
-use Rattle.executor_model.specs.declared.op.TickOrRun.{TickOrRun}
-use Rattle.executor_model.specs.declared.op.TickOrRun.TheVariants as tick_or_run
+use Rattle.std.proofs.Common.{◌≡◌, ◌⊎◌, ◌∙◌, ℕ, zero, suc, ◌+◌, ◌<◌, ◌≤◌, List, [], ◌∷◌, length, get_or, refl, ap, subst, inl}
+use Rattle.std.proofs.Common.{inr, ⊎_elim, arith}
 use Rattle.executor_model.specs.SleepersAgree.{sleeps, slumbering, runs_asleep}
-use Rattle.executor_model.specs.World.{World, Ticker, Awake, Asleep, Left}
-use Rattle.executor_model.specs.Weights.{same, past}
-use Rattle.executor_model.proofs.Steps.Lists.{same_is, past_is}
+use Rattle.executor_model.specs.{World.World, World.Ticker, World.Awake, World.Asleep, World.Left, Weights.same, Weights.past}
 use Rattle.executor_model.proofs.Sleepers.TickLists.{slumbering-places, places, places-at}
+use Rattle.executor_model.proofs.Steps.Lists.{same_is, past_is}
 use Rattle.executor_laws.proofs.Wakeups.Listed.{Entry, sum, entry_of}
-use Rattle.executor_laws.proofs.Wakeups.Sitting.{is_it}
-use Rattle.executor_laws.proofs.Wakeups.StandsWorlds.{place_here}
+use Rattle.executor_laws.proofs.{Types.TickOrRun, Wakeups.Sitting.is_it, Wakeups.StandsWorlds.place_here}
 
 one-from : (b x : ℕ) → past b x ≡ past (suc b) x + same b x
 one-from b x = grind (arith, past_is, same_is)
@@ -63,12 +59,12 @@ module _ (from here : ℕ → Entry → ℕ) (one : (b : ℕ) (e : Entry) → fr
           }
 
 abbrev tick_past : ℕ → TickOrRun → ℕ
-tick_past b (tick_or_run.Tick t) = past b t
-tick_past b (tick_or_run.Run r) = 0
+tick_past b (TickOrRun.Tick t) = past b t
+tick_past b (TickOrRun.Run r) = 0
 
 abbrev run_past : ℕ → TickOrRun → ℕ
-run_past b (tick_or_run.Tick t) = 0
-run_past b (tick_or_run.Run r) = past b r
+run_past b (TickOrRun.Tick t) = 0
+run_past b (TickOrRun.Run r) = past b r
 
 abbrev tick_from : ℕ → Entry → ℕ
 tick_from b e = tick_past b e.1.who
@@ -77,22 +73,22 @@ abbrev run_from : ℕ → Entry → ℕ
 run_from b e = run_past b e.1.who
 
 abbrev tick_here : ℕ → Entry → ℕ
-tick_here b e = entry_of (tick_or_run.Tick b) e
+tick_here b e = entry_of (TickOrRun.Tick b) e
 
 abbrev run_here : ℕ → Entry → ℕ
-run_here b e = entry_of (tick_or_run.Run b) e
+run_here b e = entry_of (TickOrRun.Run b) e
 
-one-tick : (b : ℕ) (u : TickOrRun) → tick_past b u ≡ tick_past (suc b) u + is_it (tick_or_run.Tick b) u
-one-tick b (tick_or_run.Tick t) = one-from b t
-one-tick b (tick_or_run.Run r) = refl
+one-tick : (b : ℕ) (u : TickOrRun) → tick_past b u ≡ tick_past (suc b) u + is_it (TickOrRun.Tick b) u
+one-tick b (TickOrRun.Tick t) = one-from b t
+one-tick b (TickOrRun.Run r) = refl
 
-one-run : (b : ℕ) (u : TickOrRun) → run_past b u ≡ run_past (suc b) u + is_it (tick_or_run.Run b) u
-one-run b (tick_or_run.Tick t) = refl
-one-run b (tick_or_run.Run r) = one-from b r
+one-run : (b : ℕ) (u : TickOrRun) → run_past b u ≡ run_past (suc b) u + is_it (TickOrRun.Run b) u
+one-run b (TickOrRun.Tick t) = refl
+one-run b (TickOrRun.Run r) = one-from b r
 
 few-one : (u : TickOrRun) → tick_past 0 u + run_past 0 u ≤ 1
-few-one (tick_or_run.Tick t) = omega (arith, one-past 0 t)
-few-one (tick_or_run.Run r) = omega (arith, one-past 0 r)
+few-one (TickOrRun.Tick t) = omega (arith, one-past 0 t)
+few-one (TickOrRun.Run r) = omega (arith, one-past 0 r)
 
 few-from : (es : List Entry) → sum (tick_from 0) es + sum (run_from 0) es ≤ length es
 few-from [] = omega arith
@@ -116,7 +112,7 @@ missing w h = by (decide (sum (tick_from 0) w.sleepers.wakers) (slumbering w.tic
         Missing w
     by (inl x) = let m : Lacking tick_from tick_here (λ b e. one-tick b e.1.who) 0 w.ticks w.sleepers.wakers =
         lacking tick_from tick_here (λ b e. one-tick b e.1.who) 0 w.ticks w.sleepers.wakers x in record {
-          who = tick_or_run.Tick m.place;
+          who = TickOrRun.Tick m.place;
           sleeps = m.sleeps;
           none = ap (λ (n : ℕ). sum (tick_here n) w.sleepers.wakers)
               (let z : m.place ≡ 0 + m.place = omega arith in z) ∙ m.none;
@@ -124,7 +120,7 @@ missing w h = by (decide (sum (tick_from 0) w.sleepers.wakers) (slumbering w.tic
     by (inr x) = let m : Lacking run_from run_here (λ b e. one-run b e.1.who) 0 (places w.runs) w.sleepers.wakers =
         lacking run_from run_here (λ b e. one-run b e.1.who) 0 (places w.runs) w.sleepers.wakers
         (omega (arith, x, h, few-from w.sleepers.wakers, slumbering-places w.runs)) in record {
-          who = tick_or_run.Run m.place;
+          who = TickOrRun.Run m.place;
           sleeps = subst (λ (p : Ticker). 1 ≤ sleeps p) (places-at w.runs m.place) m.sleeps;
           none = ap (λ (n : ℕ). sum (run_here n) w.sleepers.wakers)
               (let z : m.place ≡ 0 + m.place = omega arith in z) ∙ m.none;
@@ -138,6 +134,6 @@ slumbering-at (x ∷ ts) (suc t) = omega (arith, slumbering-at ts t)
 
 -- who sleeps is counted
 pub slumbering-here : (w : World) (who : TickOrRun) → sleeps (place_here w who) ≤ slumbering w.ticks + runs_asleep w.runs
-slumbering-here w (tick_or_run.Tick t) = omega (arith, slumbering-at w.ticks t)
-slumbering-here w (tick_or_run.Run r) =
+slumbering-here w (TickOrRun.Tick t) = omega (arith, slumbering-at w.ticks t)
+slumbering-here w (TickOrRun.Run r) =
     omega (arith, slumbering-at (places w.runs) r, ap sleeps (places-at w.runs r), slumbering-places w.runs)

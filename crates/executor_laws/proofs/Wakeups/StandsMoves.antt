@@ -1,49 +1,26 @@
 -- For some_standing_is_called.
 -- Each move of a party keeps what holds of each tick and run.
-use Rattle.std.proofs.Common.{◌≡◌, ◌⊎◌, ◌∙◌, ℕ, suc, ◌<◌, ◌≤◌, List, [], ◌∷◌, ◌++◌, length, set, Bool, true, false}
-use Rattle.std.proofs.Common.{◌&&◌, ◌||◌, not, cond, refl, sym, ap, subst, inl, inr, ⊎_elim, arith}
+use Rattle.std.proofs.Common.{◌≡◌, ◌⊎◌, ◌∙◌, ℕ, suc, ◌<◌, ◌≤◌, List, [], ◌∷◌, ◌++◌, length, set, Bool, true, false, ◌&&◌, ◌||◌}
+use Rattle.std.proofs.Common.{not, cond, refl, sym, ap, subst, inl, inr, ⊎_elim, arith}
 use Rattle.std.specs.Prelude.{reverse}
-use Rattle.executor_model.specs.declared.call.Call.{Call}
-use Rattle.executor_model.specs.declared.call.Call.TheVariants as call
-use Rattle.executor_model.specs.declared.event.Answer.TheVariants as answer
-use Rattle.executor_model.specs.declared.event.Event.TheVariants as event
-use Rattle.executor_model.specs.declared.op.Op.{Op}
-use Rattle.executor_model.specs.declared.op.Op.TheVariants as op
-use Rattle.executor_model.specs.declared.op.UserOp.TheVariants as user_op
-use Rattle.executor_model.specs.declared.step.Hint.{Hint}
-use Rattle.executor_model.specs.declared.step.UserEnd.{UserEnd}
-use Rattle.executor_model.specs.declared.step.UserEnd.TheVariants as end
-use Rattle.executor_model.specs.declared.op.ListOp.TheVariants as list_op
-use Rattle.executor_model.specs.declared.op.Section.TheVariants as section
-use Rattle.executor_model.specs.declared.op.TickOrRun.{TickOrRun}
-use Rattle.executor_model.specs.declared.op.TickOrRun.TheVariants as tick_or_run
-use Rattle.executor_model.specs.declared.op.TickOp.TheVariants as tick_op
+use Rattle.executor_laws.proofs.Types.{Reply, Call, Answer, Event, Op, UserOp, Hint, UserEnd, ListOp, Section, TickOrRun}
 use Rattle.executor_model.specs.World.{World, Done, log, run_of}
-use Rattle.executor_model.specs.Doing.{act}
-use Rattle.executor_model.specs.Good.{Good}
-use Rattle.executor_model.specs.Rows.{borrowing_of}
-use Rattle.executor_model.specs.Steps.{Machine, stack, mine, top, has_all, is_drop, is_unborrowed, accepts, begun}
-use Rattle.executor_model.specs.Steps.{react}
-use Rattle.executor_model.specs.Weights.{weigh_all}
-use Rattle.executor_model.proofs.Quiet.Calls.{is_end, Passes, single, then}
-use Rattle.executor_model.specs.ActsOfRuns as runs
-use Rattle.executor_model.specs.declared.call.Reply.TheVariants as reply
-use Rattle.executor_model.proofs.Quiet.CallsGroups.{calls-act}
-use Rattle.executor_model.proofs.Steps.Lift.{split, unsettled, first-true, set-own}
-use Rattle.executor_model.proofs.Quiet.Resting.{opens}
-use Rattle.executor_model.proofs.Sleepers.SleepersFollowingExecutions.{Followed}
-use Rattle.executor_model.proofs.OwnQueues.Using.{polling_of}
-use Rattle.executor_model.proofs.OwnQueues.UsingSteps.{AllUsed}
-use Rattle.executor_model.proofs.OwnQueues.UsingWorlds.{is_over_stage}
-use Rattle.executor_laws.proofs.Wakeups.Sitting.{eq_who}
+use Rattle.executor_model.specs.Steps.{Machine, stack, mine, top, has_all, is_drop, is_unborrowed, accepts, begun, react}
+use Rattle.executor_model.specs.{Doing.act, Good.Good, Rows.borrowing_of, Weights.weigh_all}
+use Rattle.executor_model.proofs.{Quiet.Calls.is_end, Quiet.Calls.Passes, Quiet.Calls.single, Quiet.Calls.then}
+use Rattle.executor_model.proofs.{Quiet.CallsGroups.calls-act, Steps.Lift.split, Steps.Lift.unsettled, Steps.Lift.first-true}
+use Rattle.executor_model.proofs.{Steps.Lift.set-own, Quiet.Resting.opens, Sleepers.SleepersFollowingExecutions.Followed}
+use Rattle.executor_model.proofs.{OwnQueues.Using.polling_of, OwnQueues.UsingSteps.AllUsed, OwnQueues.UsingWorlds.is_over_stage}
+use Rattle.executor_laws.proofs.Wakeups.StandsSteps.{Standing, before, footing-here, held-begun, held-polled, held-same, slept}
+use Rattle.executor_laws.proofs.Wakeups.StandsSteps.{stands-here, stands-pushed, tied-pushed}
 use Rattle.executor_laws.proofs.Wakeups.Stands.{view, with_doing, doing, Stands, Mark, used_of}
-use Rattle.executor_laws.proofs.Wakeups.StandsCalls.{Uses, stands-begun}
 use Rattle.executor_laws.proofs.Wakeups.StandsPolls.{asked, begun_in, polls_at}
 use Rattle.executor_laws.proofs.Wakeups.StandsGroups.{IsLive, stands-act, stands-react}
 use Rattle.executor_laws.proofs.Wakeups.StandsWakingUp.{tied-act, tied-begun, tied-react}
 use Rattle.executor_laws.proofs.Wakeups.StandsUses.{all-gone, none-lives, uses-run, uses-tick}
-use Rattle.executor_laws.proofs.Wakeups.StandsSteps.{Standing, before, footing-here, held-begun, held-polled, held-same, slept}
-use Rattle.executor_laws.proofs.Wakeups.StandsSteps.{stands-here, stands-pushed, tied-pushed}
+use Rattle.executor_laws.proofs.Wakeups.StandsCalls.{Uses, stands-begun}
+use Rattle.executor_laws.proofs.{Types.TickOp, Wakeups.Sitting.eq_who}
+use Rattle.executor_model.specs.ActsOfRuns as runs
 
 -- what is done
 
@@ -93,26 +70,26 @@ standing-acted s p rest h o n l e good follows uses k = record {
 -- the end of user code
 
 passes-react : (p : ℕ) (o : Op) (u : UserEnd) (w : World) → accepts o u ≡ true → Passes o (react p o u w).next
-passes-react p (op.User (user_op.Poll f)) (end.Polled answer.Pending) w a =
+passes-react p (Op.User (UserOp.Poll f)) (UserEnd.Polled Answer.Pending) w a =
     record { none = λ z. refl; one = λ z. absurd (omega (arith, z)) }
-passes-react p (op.User (user_op.Poll f)) (end.Polled answer.Ready) w a =
+passes-react p (Op.User (UserOp.Poll f)) (UserEnd.Polled Answer.Ready) w a =
     record { none = λ z. refl; one = λ z. absurd (omega (arith, z)) }
-passes-react p (op.User (user_op.Drop f)) end.Done w a =
+passes-react p (Op.User (UserOp.Drop f)) UserEnd.Done w a =
     record { none = λ z. refl; one = λ z. absurd (omega (arith, z)) }
-passes-react p (op.User (user_op.DropOutput f)) end.Done w a =
+passes-react p (Op.User (UserOp.DropOutput f)) UserEnd.Done w a =
     record { none = λ z. refl; one = λ z. absurd (omega (arith, z)) }
-passes-react p (op.User (user_op.CallOutside x)) end.Done w a =
+passes-react p (Op.User (UserOp.CallOutside x)) UserEnd.Done w a =
     record { none = λ z. refl; one = λ z. absurd (omega (arith, z)) }
-passes-react p (op.User (user_op.PollOwn x)) (end.Polled answer.Pending) w a = record {
+passes-react p (Op.User (UserOp.PollOwn x)) (UserEnd.Polled Answer.Pending) w a = record {
   none = λ z. absurd (omega (arith, z));
-  one = λ z. single (op.Tick (tick_op.Search (runs.asleep x))) refl;
+  one = λ z. single (Op.Tick (TickOp.Search (runs.asleep x))) refl;
 }
-passes-react p (op.User (user_op.PollOwn x)) (end.Polled answer.Ready) w a = record {
+passes-react p (Op.User (UserOp.PollOwn x)) (UserEnd.Polled Answer.Ready) w a = record {
   none = λ z. absurd (omega (arith, z));
-  one = λ z. then (op.User (user_op.DropOwn x.run) ∷ [])
-      (op.List (list_op.LockWrite (section.Unregister x.run reply.Ready))) refl refl;
+  one = λ z. then (Op.User (UserOp.DropOwn x.run) ∷ [])
+      (Op.List (ListOp.LockWrite (Section.Unregister x.run Reply.Ready))) refl refl;
 }
-passes-react p (op.User (user_op.DropOwn q)) end.Done w a =
+passes-react p (Op.User (UserOp.DropOwn q)) UserEnd.Done w a =
     record { none = λ z. refl; one = λ z. absurd (omega (arith, z)) }
 passes-react p _ _ w a = absurd (cc)
 
@@ -150,16 +127,16 @@ not-true true e = absurd (cc)
 not-true false e = refl
 
 abbrev pub begun_done : Machine → ℕ → Call → Done
-begun_done s p c = begun p (log s.world (event.CallBegun p c)) (mine (top (stack s p))) c
+begun_done s p c = begun p (log s.world (Event.CallBegun p c)) (mine (top (stack s p))) c
 
 uses-it : (s : Machine) (p : ℕ) (t : TickOrRun) (c : Call) → has_all s.world s.parties (top (stack s p)) c ≡ true →
     (not (is_drop c) || is_unborrowed s.world s.parties) ≡ true →
     Uses t c (view t s.world) (weigh_all (used_of t) s.parties)
-uses-it s p t (call.PollTick u b) k un = uses-tick s t u (first-true _ _ k)
-uses-it s p t (call.DropTick u) k un = uses-tick s t u k
-uses-it s p t (call.PollRun q b) k un = uses-run s t q (first-true _ _ k)
-uses-it s p t (call.DropRun q) k un = uses-run s t q k
-uses-it s p t call.DropExecutor k un = none-lives s t (all-gone _ _ _ un)
+uses-it s p t (Call.PollTick u b) k un = uses-tick s t u (first-true _ _ k)
+uses-it s p t (Call.DropTick u) k un = uses-tick s t u k
+uses-it s p t (Call.PollRun q b) k un = uses-run s t q (first-true _ _ k)
+uses-it s p t (Call.DropRun q) k un = uses-run s t q k
+uses-it s p t Call.DropExecutor k un = none-lives s t (all-gone _ _ _ un)
 uses-it s p t _ k un = tt
 
 abbrev Opening : ℕ → Mark → Mark → Type 0
@@ -174,8 +151,8 @@ polls-is t u p m = go (eq_who t u)
     go false = inl refl
 
 asked-is : (p : ℕ) (c : Call) (t : TickOrRun) (m : Mark) → Opening p m (asked p c t m)
-asked-is p (call.PollTick u b) t m = polls-is t (tick_or_run.Tick u) p m
-asked-is p (call.PollRun q b) t m = polls-is t (tick_or_run.Run q) p m
+asked-is p (Call.PollTick u b) t m = polls-is t (TickOrRun.Tick u) p m
+asked-is p (Call.PollRun q b) t m = polls-is t (TickOrRun.Run q) p m
 asked-is p _ t m = inl refl
 
 pub standing-begun : (s : Machine) (p : ℕ) (rest : List Op) (c : Call) →

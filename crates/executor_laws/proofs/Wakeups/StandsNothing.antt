@@ -1,44 +1,22 @@
 -- For some_standing_is_called.
 -- Each stage of a poll uses its tick or run, and what doesn't use it is nothing to it.
-use Rattle.std.proofs.Common.{◌≡◌, ◌≢◌, ℕ, ◌+◌, ◌==◌, ◌≤◌, List, [], ◌∷◌, ◌++◌, Bool, true, false, ◌||◌, cond, refl}
-use Rattle.std.proofs.Common.{arith}
-use Rattle.executor_model.specs.declared.op.Look.{Look}
-use Rattle.executor_model.specs.declared.call.Reply.{Reply}
-use Rattle.executor_model.specs.declared.call.Reply.TheVariants as reply
-use Rattle.executor_model.specs.declared.op.Hold.{Hold}
-use Rattle.executor_model.specs.declared.op.Hold.TheVariants as hold
-use Rattle.executor_model.specs.declared.op.ListOp.TheVariants as list_op
-use Rattle.executor_model.specs.declared.op.Op.{Op}
-use Rattle.executor_model.specs.declared.op.Op.TheVariants as op
-use Rattle.executor_model.specs.declared.op.RunOp.TheVariants as run_op
-use Rattle.executor_model.specs.declared.op.RunPoll.{RunPoll}
-use Rattle.executor_model.specs.declared.op.Section.{Section}
-use Rattle.executor_model.specs.declared.op.Section.TheVariants as section
-use Rattle.executor_model.specs.declared.op.TickOrRun.{TickOrRun}
-use Rattle.executor_model.specs.declared.op.TickOrRun.TheVariants as tick_or_run
-use Rattle.executor_model.specs.declared.op.SleeperOp.TheVariants as sleeper_op
-use Rattle.executor_model.specs.declared.op.TickOp.TheVariants as tick_op
-use Rattle.executor_model.specs.declared.op.UserOp.TheVariants as user_op
-use Rattle.executor_model.specs.declared.op.Waker.{Waker}
-use Rattle.executor_model.specs.declared.op.WakerOp.TheVariants as waker_op
+use Rattle.std.proofs.Common.{◌≡◌, ◌≢◌, ℕ, ◌+◌, ◌==◌, ◌≤◌, List, [], ◌∷◌, ◌++◌, Bool, true, false, ◌||◌, cond, refl, arith}
+use Rattle.executor_laws.proofs.Types.{UserOp, Waker, WakerOp, Look, Reply, Hold, ListOp, Op, RunOp, RunPoll, Section}
 use Rattle.executor_model.specs.Weights.{same, weigh}
-use Rattle.executor_model.proofs.Steps.Lists.{weigh-append}
-use Rattle.executor_model.proofs.OwnQueues.RunsDone.{poll_in}
 use Rattle.executor_model.proofs.Steps.SleepersCounting.{asleep}
-use Rattle.executor_model.proofs.OneFuture.Telling.{one-stray}
-use Rattle.executor_laws.proofs.Wakeups.Beside.{holds_some, sits_of}
-use Rattle.executor_laws.proofs.Wakeups.Sitting.{cond-other, eq_who, holds_it, is-cond, is_it, other}
+use Rattle.executor_model.proofs.{Steps.Lists.weigh-append, OwnQueues.RunsDone.poll_in, OneFuture.Telling.one-stray}
 use Rattle.executor_laws.proofs.Wakeups.Stands.{is_ready, is_answer, used_of, early_of, pends_of, refused_of, found_of, ends_of}
 use Rattle.executor_laws.proofs.Wakeups.Stands.{waking_up_of, drops_of, drops_who, odd_look, odd_of, strays_of, calls_of, Doing}
-use Rattle.executor_laws.proofs.Wakeups.Stands.{early_section}
-use Rattle.executor_laws.proofs.Wakeups.Stands.{used_section, strays_section, stray, with_doing, Nothing}
-use Rattle.executor_laws.proofs.Wakeups.Watched.{is_pending, is_refusal}
+use Rattle.executor_laws.proofs.Wakeups.Stands.{early_section, used_section, strays_section, stray, with_doing, Nothing}
+use Rattle.executor_laws.proofs.Wakeups.Sitting.{cond-other, eq_who, holds_it, is-cond, is_it, other}
+use Rattle.executor_laws.proofs.{Types.TickOrRun, Types.SleeperOp, Types.TickOp, Wakeups.Beside.holds_some}
+use Rattle.executor_laws.proofs.{Wakeups.Beside.sits_of, Wakeups.Watched.is_pending, Wakeups.Watched.is_refusal}
 
 -- each stage uses it
 
 pub end-parts : (a : Reply) (n : ℕ) →
     n ≡ (0 + (cond (is_pending a) n 0 + (cond (is_refusal a) n 0 + cond (is_ready a) n 0))) + cond (is_answer a) 0 n
-end-parts reply.Pending n = omega arith
+end-parts Reply.Pending n = omega arith
 end-parts _ n = omega arith
 
 pub cond-few : (b : Bool) (n : ℕ) → cond b n 0 ≤ n
@@ -49,50 +27,50 @@ abbrev pub stages_of : TickOrRun → Op → ℕ
 stages_of who o = early_of who o + (pends_of who o + (refused_of who o + (found_of who o + ends_of who o)))
 
 section-one : (who : TickOrRun) (s : Section) → early_section who s ≤ used_section who s
-section-one who section.MakeRun = omega arith
-section-one who (section.Register x) = omega arith
-section-one who (section.Unregister q a) = cond-few (is_ready a) (is_it who (tick_or_run.Run q))
+section-one who Section.MakeRun = omega arith
+section-one who (Section.Register x) = omega arith
+section-one who (Section.Unregister q a) = cond-few (is_ready a) (is_it who (TickOrRun.Run q))
 
 pub stages-one : (who : TickOrRun) (o : Op) → stages_of who o ≤ used_of who o
-stages-one who (op.User (user_op.PollOwn x)) = omega arith
-stages-one who (op.Tick (tick_op.Search s)) = omega arith
-stages-one who (op.Tick (tick_op.Look s look)) = omega arith
-stages-one who (op.List (list_op.LockWrite s)) = omega (arith, section-one who s)
-stages-one who (op.List (list_op.Write s)) = omega (arith, section-one who s)
-stages-one who (op.Run (run_op.Reschedule q a)) = omega (arith, cond-few (is_ready a) (is_it who (tick_or_run.Run q)))
-stages-one who (op.End r held) = omega (arith, end-parts r (holds_it who held))
+stages-one who (Op.User (UserOp.PollOwn x)) = omega arith
+stages-one who (Op.Tick (TickOp.Search s)) = omega arith
+stages-one who (Op.Tick (TickOp.Look s look)) = omega arith
+stages-one who (Op.List (ListOp.LockWrite s)) = omega (arith, section-one who s)
+stages-one who (Op.List (ListOp.Write s)) = omega (arith, section-one who s)
+stages-one who (Op.Run (RunOp.Reschedule q a)) = omega (arith, cond-few (is_ready a) (is_it who (TickOrRun.Run q)))
+stages-one who (Op.End r held) = omega (arith, end-parts r (holds_it who held))
 stages-one who _ = omega arith
 
 stray-few : (who : TickOrRun) (k : ℕ) (u : TickOrRun) (n : ℕ) → stray who k u n ≤ is_it who u
 stray-few who k u n = one-stray (eq_who who u) (k == n) (is_it who u) (is-cond who u)
 
 strays-section : (who : TickOrRun) (k : ℕ) (s : Section) → strays_section who k s ≤ early_section who s
-strays-section who k section.MakeRun = omega arith
-strays-section who k (section.Register x) = stray-few who k (tick_or_run.Run x.run) x.poll
-strays-section who k (section.Unregister q a) = omega arith
+strays-section who k Section.MakeRun = omega arith
+strays-section who k (Section.Register x) = stray-few who k (TickOrRun.Run x.run) x.poll
+strays-section who k (Section.Unregister q a) = omega arith
 
 pub few-one : (who : TickOrRun) (k : ℕ) (o : Op) → strays_of who k o ≤ early_of who o
-few-one who k (op.User (user_op.PollOwn x)) = stray-few who k (tick_or_run.Run x.run) x.poll
-few-one who k (op.Tick (tick_op.Search s)) = stray-few who k s.who s.poll
-few-one who k (op.Tick (tick_op.Look s look)) = stray-few who k s.who s.poll
-few-one who k (op.Tick (tick_op.CopyWaker s)) = stray-few who k s.who s.poll
-few-one who k (op.Tick (tick_op.FallAsleep s)) = stray-few who k s.who s.poll
-few-one who k (op.List (list_op.LockWrite s)) = strays-section who k s
-few-one who k (op.List (list_op.Write s)) = strays-section who k s
-few-one who k (op.List (list_op.LockRead x)) = stray-few who k (tick_or_run.Run x.run) x.poll
-few-one who k (op.Steal o) = stray-few who k (tick_or_run.Run (poll_in o).run) (poll_in o).poll
-few-one who k (op.Run (run_op.TakeTurn x)) = stray-few who k (tick_or_run.Run x.run) x.poll
-few-one who k (op.Run (run_op.SearchCommon x look)) = stray-few who k (tick_or_run.Run x.run) x.poll
-few-one who k (op.Run (run_op.LookOwn x at left)) = stray-few who k (tick_or_run.Run x.run) x.poll
-few-one who k (op.Run (run_op.WakeOwn x)) = stray-few who k (tick_or_run.Run x.run) x.poll
+few-one who k (Op.User (UserOp.PollOwn x)) = stray-few who k (TickOrRun.Run x.run) x.poll
+few-one who k (Op.Tick (TickOp.Search s)) = stray-few who k s.who s.poll
+few-one who k (Op.Tick (TickOp.Look s look)) = stray-few who k s.who s.poll
+few-one who k (Op.Tick (TickOp.CopyWaker s)) = stray-few who k s.who s.poll
+few-one who k (Op.Tick (TickOp.FallAsleep s)) = stray-few who k s.who s.poll
+few-one who k (Op.List (ListOp.LockWrite s)) = strays-section who k s
+few-one who k (Op.List (ListOp.Write s)) = strays-section who k s
+few-one who k (Op.List (ListOp.LockRead x)) = stray-few who k (TickOrRun.Run x.run) x.poll
+few-one who k (Op.Steal o) = stray-few who k (TickOrRun.Run (poll_in o).run) (poll_in o).poll
+few-one who k (Op.Run (RunOp.TakeTurn x)) = stray-few who k (TickOrRun.Run x.run) x.poll
+few-one who k (Op.Run (RunOp.SearchCommon x look)) = stray-few who k (TickOrRun.Run x.run) x.poll
+few-one who k (Op.Run (RunOp.LookOwn x at left)) = stray-few who k (TickOrRun.Run x.run) x.poll
+few-one who k (Op.Run (RunOp.WakeOwn x)) = stray-few who k (TickOrRun.Run x.run) x.poll
 few-one who k _ = omega arith
 
 pub drops-few : (who u : TickOrRun) → drops_who who u ≤ is_it who u
-drops-few who (tick_or_run.Tick u) = omega arith
-drops-few who (tick_or_run.Run q) = omega arith
+drops-few who (TickOrRun.Tick u) = omega arith
+drops-few who (TickOrRun.Run q) = omega arith
 
 pub leaves-one : (who : TickOrRun) (o : Op) → drops_of who o ≤ waking_up_of who o
-leaves-one who (op.Tick (tick_op.Leave u)) = drops-few who u
+leaves-one who (Op.Tick (TickOp.Leave u)) = drops-few who u
 leaves-one who _ = omega arith
 
 -- so nothing is to do with one that isn't used, no waker is copied for and none of which is called
@@ -116,121 +94,121 @@ nothing-idle who o z y l c = let s = stages-one who o in
 -- of another
 
 module _ (t u : TickOrRun) (x : t ≢ u) where
-  pub nothing-search : (a : Waker) (k : ℕ) → Nothing t (op.Tick (tick_op.Search (asleep a u k)) ∷ [])
-  nothing-search a k = nothing-idle t (op.Tick (tick_op.Search (asleep a u k))) (other t u x) refl refl (λ j. refl)
+  pub nothing-search : (a : Waker) (k : ℕ) → Nothing t (Op.Tick (TickOp.Search (asleep a u k)) ∷ [])
+  nothing-search a k = nothing-idle t (Op.Tick (TickOp.Search (asleep a u k))) (other t u x) refl refl (λ j. refl)
 
   odd-other : odd_look t u ≡ 0
   odd-other = by u (other t u x)
     where
       by : (u : TickOrRun) → is_it t u ≡ 0 → odd_look t u ≡ 0
-      by (tick_or_run.Tick n) z = refl
-      by (tick_or_run.Run n) z = z
+      by (TickOrRun.Tick n) z = refl
+      by (TickOrRun.Run n) z = z
 
-  pub nothing-look : (a : Waker) (k : ℕ) (look : Look) → Nothing t (op.Tick (tick_op.Look (asleep a u k) look) ∷ [])
+  pub nothing-look : (a : Waker) (k : ℕ) (look : Look) → Nothing t (Op.Tick (TickOp.Look (asleep a u k) look) ∷ [])
   nothing-look a k look =
-      nothing-idle t (op.Tick (tick_op.Look (asleep a u k) look)) (other t u x) refl odd-other (λ j. refl)
+      nothing-idle t (Op.Tick (TickOp.Look (asleep a u k) look)) (other t u x) refl odd-other (λ j. refl)
 
-  pub nothing-copy : (a : Waker) (k : ℕ) → Nothing t (op.Tick (tick_op.CopyWaker (asleep a u k)) ∷ [])
-  nothing-copy a k = nothing-idle t (op.Tick (tick_op.CopyWaker (asleep a u k))) (other t u x) refl refl (λ j. refl)
+  pub nothing-copy : (a : Waker) (k : ℕ) → Nothing t (Op.Tick (TickOp.CopyWaker (asleep a u k)) ∷ [])
+  nothing-copy a k = nothing-idle t (Op.Tick (TickOp.CopyWaker (asleep a u k))) (other t u x) refl refl (λ j. refl)
 
-  pub nothing-sleep : (a : Waker) (k : ℕ) → Nothing t (op.Tick (tick_op.FallAsleep (asleep a u k)) ∷ [])
-  nothing-sleep a k = nothing-idle t (op.Tick (tick_op.FallAsleep (asleep a u k))) (other t u x) refl refl (λ j. refl)
+  pub nothing-sleep : (a : Waker) (k : ℕ) → Nothing t (Op.Tick (TickOp.FallAsleep (asleep a u k)) ∷ [])
+  nothing-sleep a k = nothing-idle t (Op.Tick (TickOp.FallAsleep (asleep a u k))) (other t u x) refl refl (λ j. refl)
 
-  pub nothing-up : Nothing t (op.Tick (tick_op.WakeUp u) ∷ [])
-  nothing-up = nothing-idle t (op.Tick (tick_op.WakeUp u)) refl (other t u x) refl (λ j. refl)
+  pub nothing-up : Nothing t (Op.Tick (TickOp.WakeUp u) ∷ [])
+  nothing-up = nothing-idle t (Op.Tick (TickOp.WakeUp u)) refl (other t u x) refl (λ j. refl)
 
-  pub nothing-leave : Nothing t (op.Tick (tick_op.Leave u) ∷ [])
-  nothing-leave = nothing-idle t (op.Tick (tick_op.Leave u)) refl (other t u x) refl (λ j. refl)
+  pub nothing-leave : Nothing t (Op.Tick (TickOp.Leave u) ∷ [])
+  nothing-leave = nothing-idle t (Op.Tick (TickOp.Leave u)) refl (other t u x) refl (λ j. refl)
 
-  pub nothing-call : (a : Waker) (k : ℕ) → Nothing t (op.Sleeper (sleeper_op.CallSleeper (asleep a u k)) ∷ [])
+  pub nothing-call : (a : Waker) (k : ℕ) → Nothing t (Op.Sleeper (SleeperOp.CallSleeper (asleep a u k)) ∷ [])
   nothing-call a k =
-      nothing-idle t (op.Sleeper (sleeper_op.CallSleeper (asleep a u k))) refl refl refl
+      nothing-idle t (Op.Sleeper (SleeperOp.CallSleeper (asleep a u k))) refl refl refl
       (λ j. cond-other t u (same j k) x)
 
 -- of another run
 
-module _ (t : TickOrRun) (q : ℕ) (a : Reply) (x : t ≢ tick_or_run.Run q) where
-  none-of : (b : Bool) → cond b (is_it t (tick_or_run.Run q)) 0 ≡ 0
-  none-of b = omega (arith, cond-few b (is_it t (tick_or_run.Run q)), other t (tick_or_run.Run q) x)
+module _ (t : TickOrRun) (q : ℕ) (a : Reply) (x : t ≢ TickOrRun.Run q) where
+  none-of : (b : Bool) → cond b (is_it t (TickOrRun.Run q)) 0 ≡ 0
+  none-of b = omega (arith, cond-few b (is_it t (TickOrRun.Run q)), other t (TickOrRun.Run q) x)
 
-  pub nothing-section : Nothing t (op.List (list_op.Write (section.Unregister q a)) ∷ [])
-  nothing-section = nothing-idle t (op.List (list_op.Write (section.Unregister q a))) (other t (tick_or_run.Run q) x) refl
+  pub nothing-section : Nothing t (Op.List (ListOp.Write (Section.Unregister q a)) ∷ [])
+  nothing-section = nothing-idle t (Op.List (ListOp.Write (Section.Unregister q a))) (other t (TickOrRun.Run q) x) refl
       (none-of (is_pending a || is_refusal a)) (λ j. refl)
 
-  pub nothing-left : Nothing t (op.Run (run_op.Reschedule q a) ∷ [])
-  nothing-left = nothing-idle t (op.Run (run_op.Reschedule q a)) (other t (tick_or_run.Run q) x) refl
+  pub nothing-left : Nothing t (Op.Run (RunOp.Reschedule q a) ∷ [])
+  nothing-left = nothing-idle t (Op.Run (RunOp.Reschedule q a)) (other t (TickOrRun.Run q) x) refl
       (none-of (is_pending a || is_refusal a)) (λ j. refl)
 
-  pub nothing-locked : Nothing t (op.List (list_op.LockWrite (section.Unregister q a)) ∷ [])
-  nothing-locked = nothing-idle t (op.List (list_op.LockWrite (section.Unregister q a))) (other t (tick_or_run.Run q) x)
+  pub nothing-locked : Nothing t (Op.List (ListOp.LockWrite (Section.Unregister q a)) ∷ [])
+  nothing-locked = nothing-idle t (Op.List (ListOp.LockWrite (Section.Unregister q a))) (other t (TickOrRun.Run q) x)
       refl
       (none-of (is_pending a || is_refusal a)) (λ j. refl)
 
 -- the beginning of another run's poll
-pub nothing-polled : (t : TickOrRun) (x : RunPoll) → t ≢ tick_or_run.Run x.run →
-    Nothing t (op.List (list_op.LockWrite (section.Register x)) ∷ []) × Nothing t (op.User (user_op.PollOwn x) ∷ [])
+pub nothing-polled : (t : TickOrRun) (x : RunPoll) → t ≢ TickOrRun.Run x.run →
+    Nothing t (Op.List (ListOp.LockWrite (Section.Register x)) ∷ []) × Nothing t (Op.User (UserOp.PollOwn x) ∷ [])
 nothing-polled t x n = (
-  nothing-idle t (op.List (list_op.LockWrite (section.Register x))) (other t (tick_or_run.Run x.run) n) refl refl
+  nothing-idle t (Op.List (ListOp.LockWrite (Section.Register x))) (other t (TickOrRun.Run x.run) n) refl refl
       (λ j. refl),
-  nothing-idle t (op.User (user_op.PollOwn x)) (other t (tick_or_run.Run x.run) n) refl refl (λ j. refl),
+  nothing-idle t (Op.User (UserOp.PollOwn x)) (other t (TickOrRun.Run x.run) n) refl refl (λ j. refl),
 )
 
-pub nothing-woken : (t : TickOrRun) (x : RunPoll) → t ≢ tick_or_run.Run x.run → Nothing t (op.Run (run_op.WakeOwn x) ∷ [])
+pub nothing-woken : (t : TickOrRun) (x : RunPoll) → t ≢ TickOrRun.Run x.run → Nothing t (Op.Run (RunOp.WakeOwn x) ∷ [])
 nothing-woken t x n =
-    nothing-idle t (op.Run (run_op.WakeOwn x)) (other t (tick_or_run.Run x.run) n) refl refl (λ j. refl)
+    nothing-idle t (Op.Run (RunOp.WakeOwn x)) (other t (TickOrRun.Run x.run) n) refl refl (λ j. refl)
 
 -- the end of a call that uses another or none
-pub nothing-end : (t : TickOrRun) (r : Reply) (held : Hold) → holds_it t held ≡ 0 → Nothing t (op.End r held ∷ [])
-nothing-end t r held z = nothing-idle t (op.End r held) z refl refl (λ j. refl)
+pub nothing-end : (t : TickOrRun) (r : Reply) (held : Hold) → holds_it t held ≡ 0 → Nothing t (Op.End r held ∷ [])
+nothing-end t r held z = nothing-idle t (Op.End r held) z refl refl (λ j. refl)
 
 -- what has nothing to do with any
 
 copy-none : (t : TickOrRun) (held : Hold) → holds_some held ≡ 0 → holds_it t held ≡ 0
-copy-none t (hold.Tick u) z = absurd (omega (arith, z))
-copy-none t (hold.Run u) z = absurd (omega (arith, z))
+copy-none t (Hold.Tick u) z = absurd (omega (arith, z))
+copy-none t (Hold.Run u) z = absurd (omega (arith, z))
 copy-none t _ z = refl
 
 used-free : (t : TickOrRun) (o : Op) → sits_of o ≡ 0 → used_of t o ≡ 0
-used-free t (op.User (user_op.PollOwn x)) z = absurd (omega (arith, z))
-used-free t (op.Tick (tick_op.Search s)) z = absurd (omega (arith, z))
-used-free t (op.Tick (tick_op.Look s look)) z = absurd (omega (arith, z))
-used-free t (op.Tick (tick_op.CopyWaker s)) z = absurd (omega (arith, z))
-used-free t (op.Tick (tick_op.FallAsleep s)) z = absurd (omega (arith, z))
-used-free t (op.List (list_op.LockWrite section.MakeRun)) z = refl
-used-free t (op.List (list_op.LockWrite (section.Register x))) z = absurd (omega (arith, z))
-used-free t (op.List (list_op.LockWrite (section.Unregister q a))) z = absurd (omega (arith, z))
-used-free t (op.List (list_op.Write section.MakeRun)) z = refl
-used-free t (op.List (list_op.Write (section.Register x))) z = absurd (omega (arith, z))
-used-free t (op.List (list_op.Write (section.Unregister q a))) z = absurd (omega (arith, z))
-used-free t (op.List list_op.UnlockWrite) z = refl
-used-free t (op.List (list_op.LockRead x)) z = absurd (omega (arith, z))
-used-free t (op.List list_op.UnlockRead) z = refl
-used-free t (op.Steal o) z = absurd (omega (arith, z))
-used-free t (op.Run run_op.MakeRoom) z = refl
-used-free t (op.Run run_op.ReturnRoom) z = refl
-used-free t (op.Run (run_op.TakeTurn x)) z = absurd (omega (arith, z))
-used-free t (op.Run (run_op.SearchCommon x look)) z = absurd (omega (arith, z))
-used-free t (op.Run (run_op.LookOwn x at left)) z = absurd (omega (arith, z))
-used-free t (op.Run (run_op.WakeOwn x)) z = absurd (omega (arith, z))
-used-free t (op.Run (run_op.Reschedule q a)) z = absurd (omega (arith, z))
-used-free t (op.End r held) z = copy-none t held z
+used-free t (Op.User (UserOp.PollOwn x)) z = absurd (omega (arith, z))
+used-free t (Op.Tick (TickOp.Search s)) z = absurd (omega (arith, z))
+used-free t (Op.Tick (TickOp.Look s look)) z = absurd (omega (arith, z))
+used-free t (Op.Tick (TickOp.CopyWaker s)) z = absurd (omega (arith, z))
+used-free t (Op.Tick (TickOp.FallAsleep s)) z = absurd (omega (arith, z))
+used-free t (Op.List (ListOp.LockWrite Section.MakeRun)) z = refl
+used-free t (Op.List (ListOp.LockWrite (Section.Register x))) z = absurd (omega (arith, z))
+used-free t (Op.List (ListOp.LockWrite (Section.Unregister q a))) z = absurd (omega (arith, z))
+used-free t (Op.List (ListOp.Write Section.MakeRun)) z = refl
+used-free t (Op.List (ListOp.Write (Section.Register x))) z = absurd (omega (arith, z))
+used-free t (Op.List (ListOp.Write (Section.Unregister q a))) z = absurd (omega (arith, z))
+used-free t (Op.List ListOp.UnlockWrite) z = refl
+used-free t (Op.List (ListOp.LockRead x)) z = absurd (omega (arith, z))
+used-free t (Op.List ListOp.UnlockRead) z = refl
+used-free t (Op.Steal o) z = absurd (omega (arith, z))
+used-free t (Op.Run RunOp.MakeRoom) z = refl
+used-free t (Op.Run RunOp.ReturnRoom) z = refl
+used-free t (Op.Run (RunOp.TakeTurn x)) z = absurd (omega (arith, z))
+used-free t (Op.Run (RunOp.SearchCommon x look)) z = absurd (omega (arith, z))
+used-free t (Op.Run (RunOp.LookOwn x at left)) z = absurd (omega (arith, z))
+used-free t (Op.Run (RunOp.WakeOwn x)) z = absurd (omega (arith, z))
+used-free t (Op.Run (RunOp.Reschedule q a)) z = absurd (omega (arith, z))
+used-free t (Op.End r held) z = copy-none t held z
 used-free t _ z = refl
 
 waking_up-free : (t : TickOrRun) (o : Op) → sits_of o ≡ 0 → waking_up_of t o ≡ 0
-waking_up-free t (op.Tick (tick_op.WakeUp u)) z = absurd (omega (arith, z))
-waking_up-free t (op.Tick (tick_op.Leave u)) z = absurd (omega (arith, z))
+waking_up-free t (Op.Tick (TickOp.WakeUp u)) z = absurd (omega (arith, z))
+waking_up-free t (Op.Tick (TickOp.Leave u)) z = absurd (omega (arith, z))
 waking_up-free t _ z = refl
 
 odd-free : (t : TickOrRun) (o : Op) → sits_of o ≡ 0 → odd_of t o ≡ 0
-odd-free t (op.Tick (tick_op.Look s look)) z = absurd (omega (arith, z))
-odd-free t (op.Waker (waker_op.CopyWaker f held)) z = copy-none t held z
-odd-free t (op.List (list_op.LockWrite (section.Unregister q a))) z = absurd (omega (arith, z))
-odd-free t (op.List (list_op.Write (section.Unregister q a))) z = absurd (omega (arith, z))
-odd-free t (op.Run (run_op.Reschedule q a)) z = absurd (omega (arith, z))
+odd-free t (Op.Tick (TickOp.Look s look)) z = absurd (omega (arith, z))
+odd-free t (Op.Waker (WakerOp.CopyWaker f held)) z = copy-none t held z
+odd-free t (Op.List (ListOp.LockWrite (Section.Unregister q a))) z = absurd (omega (arith, z))
+odd-free t (Op.List (ListOp.Write (Section.Unregister q a))) z = absurd (omega (arith, z))
+odd-free t (Op.Run (RunOp.Reschedule q a)) z = absurd (omega (arith, z))
 odd-free t _ z = refl
 
 calls-free : (t : TickOrRun) (k : ℕ) (o : Op) → sits_of o ≡ 0 → calls_of t k o ≡ 0
-calls-free t k (op.Sleeper (sleeper_op.CallSleeper s)) z = absurd (omega (arith, z))
+calls-free t k (Op.Sleeper (SleeperOp.CallSleeper s)) z = absurd (omega (arith, z))
 calls-free t k _ z = refl
 
 nothing-one : (t : TickOrRun) (o : Op) → sits_of o ≡ 0 → Nothing t (o ∷ [])

@@ -1,28 +1,14 @@
 -- For some_standing_is_called.
 -- What the own steps of a tick or run keep, by what they change of it.
-use Rattle.std.proofs.Common.{◌≡◌, ◌⊎◌, ◌∙◌, ℕ, suc, ◌+◌, ◌==◌, ◌≤◌, List, [], ◌∷◌, ◌++◌, Bool, true, false, cond, refl}
-use Rattle.std.proofs.Common.{sym, subst, arith}
-use Rattle.executor_model.specs.declared.call.Reply.{Reply}
-use Rattle.executor_model.specs.declared.call.Reply.TheVariants as reply
-use Rattle.executor_model.specs.declared.op.Hold.{Hold}
-use Rattle.executor_model.specs.declared.op.Look.{Look}
-use Rattle.executor_model.specs.declared.op.Hold.TheVariants as hold
-use Rattle.executor_model.specs.declared.op.Op.{Op}
-use Rattle.executor_model.specs.declared.op.Op.TheVariants as op
-use Rattle.executor_model.specs.declared.op.RunOp.TheVariants as run_op
-use Rattle.executor_model.specs.declared.op.TickOrRun.{TickOrRun}
-use Rattle.executor_model.specs.declared.op.TickOrRun.TheVariants as tick_or_run
-use Rattle.executor_model.specs.declared.op.SleeperOp.TheVariants as sleeper_op
-use Rattle.executor_model.specs.declared.op.TickOp.TheVariants as tick_op
-use Rattle.executor_model.specs.declared.op.Waker.{Waker}
-use Rattle.executor_model.specs.ActsOfSleepers.{held_as, pend_as}
-use Rattle.executor_model.specs.Weights.{same, weigh}
-use Rattle.executor_model.proofs.Steps.Lists.{same_is}
-use Rattle.executor_model.proofs.Steps.SleepersCounting.{asleep}
-use Rattle.executor_laws.proofs.Wakeups.Sitting.{eq_who, eq-self, holds_it, is_it, self}
+use Rattle.std.proofs.Common.{◌≡◌, ◌⊎◌, ◌∙◌, ℕ, suc, ◌+◌, ◌==◌, ◌≤◌, List, [], ◌∷◌, ◌++◌, Bool, true, false, cond, refl, sym}
+use Rattle.std.proofs.Common.{subst, arith}
+use Rattle.executor_laws.proofs.Types.{Reply, Hold, Look, Op, RunOp, TickOrRun, SleeperOp, TickOp, Waker}
+use Rattle.executor_model.specs.{ActsOfSleepers.held_as, ActsOfSleepers.pend_as, Weights.same, Weights.weigh}
+use Rattle.executor_model.proofs.{Steps.Lists.same_is, Steps.SleepersCounting.asleep}
 use Rattle.executor_laws.proofs.Wakeups.Stands.{asks_of, calls_of, drops_of, drops_who, early_of, ends_of, found_of, odd_of}
 use Rattle.executor_laws.proofs.Wakeups.Stands.{pends_of, refused_of, waking_up_of, strays_of, used_of, View, Doing, with_doing}
 use Rattle.executor_laws.proofs.Wakeups.Stands.{with-nothing, Footing, Stands, Mark, Nothing}
+use Rattle.executor_laws.proofs.Wakeups.Sitting.{eq_who, eq-self, holds_it, is_it, self}
 use Rattle.executor_laws.proofs.Wakeups.Watched.{Watched, is_pending, is_refusal, parted, poll_begun}
 use Rattle.executor_laws.proofs.Wakeups.StandsNothing.{end-parts, nothing-of, with-front, with-middle}
 
@@ -31,12 +17,12 @@ Own t v v2 old next = (r : Doing) (m : Mark) → Footing (with_doing t old r) r 
     Stands v2 (with_doing t next r) m
 
 pub held-self : (t : TickOrRun) → holds_it t (held_as t) ≡ 1
-held-self (tick_or_run.Tick t) = self (tick_or_run.Tick t)
-held-self (tick_or_run.Run r) = self (tick_or_run.Run r)
+held-self (TickOrRun.Tick t) = self (TickOrRun.Tick t)
+held-self (TickOrRun.Run r) = self (TickOrRun.Run r)
 
 pub held-other : (t u : TickOrRun) → holds_it t (held_as u) ≡ is_it t u
-held-other t (tick_or_run.Tick u) = refl
-held-other t (tick_or_run.Run q) = refl
+held-other t (TickOrRun.Tick u) = refl
+held-other t (TickOrRun.Run q) = refl
 
 -- what goes on with a poll as before, or wakes up for it first
 pub record Goes (t : TickOrRun) (old next : List Op) : Type 0 where
@@ -62,28 +48,28 @@ own-goes t n v old next g o r m b h =
 -- a tick that finds a future, and is awake
 pub own-found : (look : Look) (t : TickOrRun) (k f : ℕ) (a : Waker) (v : View) (next : List Op) → v.slumbering ≡ 0 → v.owned ≡ 0 →
     Nothing t next →
-    Own t v v (op.Tick (tick_op.Look (asleep a t k) look) ∷ []) (next ++ op.End reply.Ready (held_as t) ∷ [])
+    Own t v v (Op.Tick (TickOp.Look (asleep a t k) look) ∷ []) (next ++ Op.End Reply.Ready (held_as t) ∷ [])
 own-found look t k f a v next e o n r m b h =
     let y : holds_it t (held_as t) ≡ 1 = held-self t in
     let z : is_it t t ≡ 1 = self t in
-    subst (λ (x : Doing). Stands v x m) (sym (with-front t next (op.End reply.Ready (held_as t) ∷ []) r n))
-    (let g : Stands v (with_doing t (op.End reply.Ready (held_as t) ∷ []) r) m = grind arith in g)
+    subst (λ (x : Doing). Stands v x m) (sym (with-front t next (Op.End Reply.Ready (held_as t) ∷ []) r n))
+    (let g : Stands v (with_doing t (Op.End Reply.Ready (held_as t) ∷ []) r) m = grind arith in g)
 
 -- a tick that sleeps, and wakes up first
 pub own-waking_up : (look : Look) (t : TickOrRun) (k f : ℕ) (a : Waker) (v : View) (next : List Op) → v.owned ≡ 0 → Nothing t next →
-    Own t v v (op.Tick (tick_op.Look (asleep a t k) look) ∷ [])
-    (op.Tick (tick_op.WakeUp t) ∷ next ++ op.End reply.Ready (held_as t) ∷ [])
+    Own t v v (Op.Tick (TickOp.Look (asleep a t k) look) ∷ [])
+    (Op.Tick (TickOp.WakeUp t) ∷ next ++ Op.End Reply.Ready (held_as t) ∷ [])
 own-waking_up look t k f a v next o n r m b h =
     let y : holds_it t (held_as t) ≡ 1 = held-self t in
     let z : is_it t t ≡ 1 = self t in
     subst (λ (x : Doing). Stands v x m)
-    (sym (with-middle t (op.Tick (tick_op.WakeUp t)) next (op.End reply.Ready (held_as t) ∷ []) r n))
-    (let g : Stands v (with_doing t (op.Tick (tick_op.WakeUp t) ∷ op.End reply.Ready (held_as t) ∷ []) r) m = grind arith
+    (sym (with-middle t (Op.Tick (TickOp.WakeUp t)) next (Op.End Reply.Ready (held_as t) ∷ []) r n))
+    (let g : Stands v (with_doing t (Op.Tick (TickOp.WakeUp t) ∷ Op.End Reply.Ready (held_as t) ∷ []) r) m = grind arith
     in g)
 
 -- the copy of its waker is refused
 pub own-refused : (t : TickOrRun) (k : ℕ) (a : Waker) (v : View) → v.over ≡ false →
-    Own t v v (op.Tick (tick_op.CopyWaker (asleep a t k)) ∷ []) (op.End reply.NoMemory (held_as t) ∷ [])
+    Own t v v (Op.Tick (TickOp.CopyWaker (asleep a t k)) ∷ []) (Op.End Reply.NoMemory (held_as t) ∷ [])
 own-refused t k a v e r m b h =
     let y : holds_it t (held_as t) ≡ 1 = held-self t in
     let z : is_it t t ≡ 1 = self t in grind arith
@@ -92,7 +78,7 @@ own-refused t k a v e r m b h =
 pub own-anew : (t : TickOrRun) (k : ℕ) (a : Waker) (v v2 : View) → v2.seen ≡ v.seen → v2.gone ≡ v.gone →
     v2.made ≡ v.made → v2.over ≡ v.over → v2.owned ≡ v.owned → v2.living ≡ v.living →
     v2.entries ≤ 1 → v2.misplaced ≡ 0 → v2.kept v.seen.poll ≡ v.kept v.seen.poll + same v.seen.poll k →
-    Own t v v2 (op.Tick (tick_op.FallAsleep (asleep a t k)) ∷ []) (op.Tick (tick_op.Search (asleep a t k)) ∷ [])
+    Own t v v2 (Op.Tick (TickOp.FallAsleep (asleep a t k)) ∷ []) (Op.Tick (TickOp.Search (asleep a t k)) ∷ [])
 own-anew t k a v v2 s g d o w l e p q r m b h =
     let z : is_it t t ≡ 1 = self t in
     let y : eq_who t t ≡ true = eq-self t in grind arith
@@ -102,7 +88,7 @@ pub own-again : (t : TickOrRun) (k : ℕ) (a : Waker) (v v2 : View) → v.over �
     v2.gone ≡ v.gone → v2.made ≡ v.made → v2.over ≡ v.over → v2.owned ≡ v.owned →
     v2.living ≡ v.living → v2.slumbering ≡ v.slumbering → v2.entries ≤ 1 → v2.misplaced ≡ 0 →
     same v.seen.poll k ≤ v2.kept v.seen.poll →
-    Own t v v2 (op.Tick (tick_op.FallAsleep (asleep a t k)) ∷ []) (pend_as t)
+    Own t v v2 (Op.Tick (TickOp.FallAsleep (asleep a t k)) ∷ []) (pend_as t)
 own-again t k a v v2 n s g d o w l l0 e p q r m b h =
     let x : holds_it t (held_as t) ≡ 1 = held-self t in
     let z : is_it t t ≡ 1 = self t in
@@ -110,8 +96,8 @@ own-again t k a v v2 n s g d o w l l0 e p q r m b h =
     grind (arith, same_is)
 
 pub own-nowhere : (t : TickOrRun) (k : ℕ) (a : Waker) (v : View) → v.over ≡ false →
-    Own t v v (op.Tick (tick_op.FallAsleep (asleep a t k)) ∷ [])
-    (op.Sleeper (sleeper_op.CallSleeper (asleep a t k)) ∷ pend_as t)
+    Own t v v (Op.Tick (TickOp.FallAsleep (asleep a t k)) ∷ [])
+    (Op.Sleeper (SleeperOp.CallSleeper (asleep a t k)) ∷ pend_as t)
 own-nowhere t k a v n r m b h =
     let x : holds_it t (held_as t) ≡ 1 = held-self t in
     let z : is_it t t ≡ 1 = self t in
@@ -121,14 +107,14 @@ own-nowhere t k a v n r m b h =
 -- it wakes up
 pub own-up : (t : TickOrRun) (v v2 : View) → v2.seen ≡ v.seen → v2.gone ≡ v.gone → v2.made ≡ v.made →
     v2.over ≡ v.over → v2.owned ≡ v.owned → v2.living ≡ v.living → v2.slumbering ≡ 0 → v2.entries ≤ 1 →
-    v2.misplaced ≡ 0 → Own t v v2 (op.Tick (tick_op.WakeUp t) ∷ []) []
+    v2.misplaced ≡ 0 → Own t v v2 (Op.Tick (TickOp.WakeUp t) ∷ []) []
 own-up t v v2 s g d o w l l0 e p r m b h = let z : is_it t t ≡ 1 = self t in grind arith
 
 -- it leaves; a tick lives no more
 pub own-leave : (t : TickOrRun) (v v2 : View) → v2.seen ≡ v.seen → v2.gone ≡ v.gone → v2.made ≡ v.made →
     v2.over ≡ v.over → v2.owned ≡ v.owned →
     ((v2.living ≡ false) × (drops_who t t ≡ 1)) ⊎ ((v2.living ≡ v.living) × (drops_who t t ≡ 0)) → v2.slumbering ≡ 0 →
-    v2.entries ≤ 1 → v2.misplaced ≡ 0 → Own t v v2 (op.Tick (tick_op.Leave t) ∷ []) []
+    v2.entries ≤ 1 → v2.misplaced ≡ 0 → Own t v v2 (Op.Tick (TickOp.Leave t) ∷ []) []
 own-leave t v v2 s g d o w l l0 e p r m b h = let z : is_it t t ≡ 1 = self t in grind arith
 
 -- its waker leaves the list, and is called
@@ -136,14 +122,14 @@ pub own-hand_out : (t : TickOrRun) (k : ℕ) (a : Waker) (v v2 : View) → v2.se
     v2.made ≡ v.made → v2.over ≡ v.over → v2.owned ≡ v.owned → v2.living ≡ v.living → v2.slumbering ≡ v.slumbering →
     v2.entries ≤ v.entries → v2.misplaced ≤ v.misplaced →
     v2.kept v.seen.poll + same v.seen.poll k ≡ v.kept v.seen.poll →
-    Own t v v2 (op.Sleeper sleeper_op.HandOut ∷ []) (op.Sleeper (sleeper_op.CallSleeper (asleep a t k)) ∷ [])
+    Own t v v2 (Op.Sleeper SleeperOp.HandOut ∷ []) (Op.Sleeper (SleeperOp.CallSleeper (asleep a t k)) ∷ [])
 own-hand_out t k a v v2 s g d o w l l0 e p q r m b h = let y : eq_who t t ≡ true = eq-self t in grind arith
 
 pub own-call : (t : TickOrRun) (k : ℕ) (a : Waker) (v v2 : View) →
     v2.seen ≡ record v.seen { called = cond (v.seen.poll == k) true v.seen.called } →
     v2.gone ≡ v.gone → v2.made ≡ v.made → v2.over ≡ v.over → v2.owned ≡ v.owned → v2.living ≡ v.living →
     v2.slumbering ≡ v.slumbering → v2.entries ≡ v.entries → v2.misplaced ≡ v.misplaced → v2.kept ≡ v.kept →
-    Own t v v2 (op.Sleeper (sleeper_op.CallSleeper (asleep a t k)) ∷ []) []
+    Own t v v2 (Op.Sleeper (SleeperOp.CallSleeper (asleep a t k)) ∷ []) []
 own-call t k a v v2 s g d o w l l0 e p q r m b h = let y : eq_who t t ≡ true = eq-self t in grind (arith, same_is)
 
 pub own-front : (t : TickOrRun) (v v2 : View) (old xs next : List Op) → Nothing t xs → Own t v v2 old next →
@@ -267,8 +253,8 @@ own-woken t k v old next o a c d e f g1 g2 g3 g4 g5 g6 g7 g8 g9 g10 r m b h =
 -- the end of a call
 
 module _ (t : TickOrRun) (a : Reply) (held : Hold) (v : View) (r : Doing) (m : Mark)
-    (b : Footing (with_doing t (op.End a held ∷ []) r) r)
-    (h : Stands v (with_doing t (op.End a held ∷ []) r) m) where
+    (b : Footing (with_doing t (Op.End a held ∷ []) r) r)
+    (h : Stands v (with_doing t (Op.End a held ∷ []) r) m) where
   abbrev pub Ended : Watched → Type 0
   Ended s = Stands (record v { seen = s }) (with_doing t [] r)
       (record {
@@ -279,16 +265,16 @@ module _ (t : TickOrRun) (a : Reply) (held : Hold) (v : View) (r : Doing) (m : M
       })
 
   -- it ends no poll of it
-  pub own-within : (n : ℕ) → asks_of t (op.End a held) ≡ 0 → Ended (record v.seen { inner = n })
+  pub own-within : (n : ℕ) → asks_of t (Op.End a held) ≡ 0 → Ended (record v.seen { inner = n })
   own-within n z = let p : _ = end-parts a (holds_it t held) in grind arith
 
-  pub own-apart : asks_of t (op.End a held) ≡ 0 → Ended v.seen
+  pub own-apart : asks_of t (Op.End a held) ≡ 0 → Ended v.seen
   own-apart z = let p : _ = end-parts a (holds_it t held) in grind arith
 
 -- it ends one
 pub own-ended : (a : Reply) (t : TickOrRun) (held : Hold) (v : View) (r : Doing) (m : Mark) →
-    1 ≤ asks_of t (op.End a held) →
-    Footing (with_doing t (op.End a held ∷ []) r) r → Stands v (with_doing t (op.End a held ∷ []) r) m →
+    1 ≤ asks_of t (Op.End a held) →
+    Footing (with_doing t (Op.End a held ∷ []) r) r → Stands v (with_doing t (Op.End a held ∷ []) r) m →
     Stands (record v { seen = record v.seen { asking = false; pending = is_pending a; refused = is_refusal a } })
     (with_doing t [] r)
     (record {
@@ -297,20 +283,20 @@ pub own-ended : (a : Reply) (t : TickOrRun) (held : Hold) (v : View) (r : Doing)
       inner = v.seen.inner;
       asks = r.early + (r.pends + (r.refused + r.found));
     })
-own-ended reply.Pending t held v r m k b h = grind arith
-own-ended reply.NoMemory t held v r m k b h = grind arith
-own-ended reply.Ready t held v r m k b h = grind arith
-own-ended reply.Finished t held v r m k b h = grind arith
+own-ended Reply.Pending t held v r m k b h = grind arith
+own-ended Reply.NoMemory t held v r m k b h = grind arith
+own-ended Reply.Ready t held v r m k b h = grind arith
+own-ended Reply.Finished t held v r m k b h = grind arith
 own-ended _ t held v r m k b h = absurd (omega (arith, k))
 
 -- a run has scheduled what was left in its queue
 pub own-scheduled : (a : Reply) (q : ℕ) (v : View) (r : Doing) (m : Mark) → v.owned ≡ 0 →
-    Footing (with_doing (tick_or_run.Run q) (op.Run (run_op.Reschedule q a) ∷ []) r) r →
-    Stands v (with_doing (tick_or_run.Run q) (op.Run (run_op.Reschedule q a) ∷ []) r) m →
-    Stands v (with_doing (tick_or_run.Run q)
-    (op.Tick (tick_op.Leave (tick_or_run.Run q)) ∷ op.End a (hold.Run q) ∷ []) r) m
-own-scheduled reply.Pending q v r m o b h = let z : same q q ≡ 1 = self (tick_or_run.Run q) in
+    Footing (with_doing (TickOrRun.Run q) (Op.Run (RunOp.Reschedule q a) ∷ []) r) r →
+    Stands v (with_doing (TickOrRun.Run q) (Op.Run (RunOp.Reschedule q a) ∷ []) r) m →
+    Stands v (with_doing (TickOrRun.Run q)
+    (Op.Tick (TickOp.Leave (TickOrRun.Run q)) ∷ Op.End a (Hold.Run q) ∷ []) r) m
+own-scheduled Reply.Pending q v r m o b h = let z : same q q ≡ 1 = self (TickOrRun.Run q) in
     absurd (omega (arith, h.even, z))
-own-scheduled reply.NoMemory q v r m o b h = let z : same q q ≡ 1 = self (tick_or_run.Run q) in
+own-scheduled Reply.NoMemory q v r m o b h = let z : same q q ≡ 1 = self (TickOrRun.Run q) in
     absurd (omega (arith, h.even, z))
-own-scheduled _ q v r m o b h = let z : same q q ≡ 1 = self (tick_or_run.Run q) in grind arith
+own-scheduled _ q v r m o b h = let z : same q q ≡ 1 = self (TickOrRun.Run q) in grind arith

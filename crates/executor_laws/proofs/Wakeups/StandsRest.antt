@@ -1,61 +1,40 @@
 -- For some_standing_is_called.
 -- At a quiet trace where a future is due and some tick or run stands, one that stands is called.
-use Rattle.std.proofs.Common.{◌≡◌, ◌⊎◌, ◌∙◌, ℕ, suc, ◌+◌, ◌<◌, ◌≤◌, List, [], length, drop, get_or, zero, Bool, true}
-use Rattle.std.proofs.Common.{false, refl, sym, ap, subst, inl, inr, ⊎_elim, arith}
-use Rattle.executor_model.specs.declared.call.Reply.{Reply}
-use Rattle.executor_model.specs.declared.call.Reply.TheVariants as reply
-use Rattle.executor_model.specs.declared.kind.Kind.{Kind}
-use Rattle.executor_model.specs.declared.op.TickOrRun.{TickOrRun}
-use Rattle.executor_model.specs.declared.op.TickOrRun.TheVariants as tick_or_run
-use Rattle.executor_model.specs.declared.step.Step.{Step}
-use Rattle.executor_model.specs.AwaiterKept.{EndsWith, since}
-use Rattle.executor_model.specs.Due.{IsDue}
-use Rattle.executor_model.specs.Good.{Good}
-use Rattle.executor_model.specs.OwnQueues.{OwnQueueHasRunner}
-use Rattle.executor_model.specs.Quiet.{IsQuiet}
-use Rattle.executor_model.specs.Rows.{running_of}
-use Rattle.executor_model.specs.SleepersAgree.{SomeoneNotified, sleeps}
-use Rattle.executor_parts.specs.declared.mark.Mark.{Mark}
-use Rattle.executor_parts.specs.declared.mark.Mark.TheVariants.{Plain, Urgent}
-use Rattle.executor_model.proofs.Steps.QueuesByMark.{times-all}
-use Rattle.executor_model.specs.World.{queue_of}
-use Rattle.executor_model.specs.SleepersTold.{SleepersAreTold, tells_of}
-use Rattle.executor_model.specs.Sound.{times, times_in}
+use Rattle.std.proofs.Common.{◌≡◌, ◌⊎◌, ◌∙◌, ℕ, suc, ◌+◌, ◌<◌, ◌≤◌, List, [], length, drop, get_or, zero, Bool, true, false}
+use Rattle.std.proofs.Common.{refl, sym, ap, subst, inl, inr, ⊎_elim, arith}
+use Rattle.executor_laws.proofs.Types.{Reply, Kind, TickOrRun, Step, Mark, Plain, Urgent}
+use Rattle.executor_model.specs.World.{queue_of, World, Ticker, Awake, Asleep, Left, own_of}
 use Rattle.executor_model.specs.Standing.{LastPolled, Stands as StandsSo, WasCalled, calls_poll, drops_sleeper}
-use Rattle.executor_model.specs.Steps.{Machine, stack, run, start}
-use Rattle.executor_model.specs.Trace.{has}
-use Rattle.executor_model.specs.Weights.{weigh_all}
-use Rattle.executor_model.specs.World.{World, Ticker, Awake, Asleep, Left, own_of}
+use Rattle.executor_model.specs.{AwaiterKept.EndsWith, AwaiterKept.since, Due.IsDue, Good.Good, OwnQueues.OwnQueueHasRunner}
+use Rattle.executor_model.specs.{Quiet.IsQuiet, Rows.running_of, SleepersAgree.SomeoneNotified, SleepersAgree.sleeps}
+use Rattle.executor_model.specs.{SleepersTold.SleepersAreTold, SleepersTold.tells_of, Sound.times, Sound.times_in}
+use Rattle.executor_model.specs.{Steps.Machine, Steps.stack, Steps.run, Steps.start, Trace.has, Weights.weigh_all}
+use Rattle.executor_laws.specs.Called.{NoneRefused, OneCalled, SomeStandingIsCalled, WasRefused}
 use Rattle.executor_model.proofs.Polls.AskingExecutions.{Heard, heard}
 use Rattle.executor_model.proofs.Awaiters.Holding.{nowhere, Spotted, seen}
-use Rattle.executor_model.proofs.Steps.Lift.{good}
-use Rattle.executor_model.proofs.OwnQueues.OwnRunners.{own-queue-has-runner}
 use Rattle.executor_model.proofs.Quiet.Resting.{Deep, deep, rests, all-rest}
-use Rattle.executor_model.proofs.Sleepers.SleepersFollowingExecutions.{agrees}
-use Rattle.executor_model.proofs.Sleepers.SleepersTellingExecutions.{are_told}
-use Rattle.executor_laws.specs.Called.{NoneRefused, OneCalled, SomeStandingIsCalled, WasRefused}
+use Rattle.executor_model.proofs.{Steps.QueuesByMark.times-all, Steps.Lift.good, OwnQueues.OwnRunners.own-queue-has-runner}
+use Rattle.executor_model.proofs.{Sleepers.SleepersFollowingExecutions.agrees, Sleepers.SleepersTellingExecutions.are_told}
+use Rattle.executor_laws.proofs.Wakeups.Stands.{view, Doing, doing, Stands, asks_of, early_of, pends_of, refused_of, found_of}
+use Rattle.executor_laws.proofs.Wakeups.StandsTelling.{LastPoll, last-poll, Begun, begun-at, calls-is, drops-is, left-has}
+use Rattle.executor_laws.proofs.Wakeups.Stands.{calls_of, drops_of, ends_of, odd_of, waking_up_of, strays_of, used_of}
+use Rattle.executor_laws.proofs.Wakeups.StandsTelling.{poll-from, called-from, has-later, polls-is, polls_it, drops_it, unasked}
 use Rattle.executor_laws.proofs.Wakeups.Listed.{sum, entry_of, kept_of, misplaced_of}
 use Rattle.executor_laws.proofs.Wakeups.Queued.{Holder, due-queued, holder, times-length}
-use Rattle.executor_laws.proofs.Wakeups.Stands.{view, Doing, doing, Stands, asks_of, early_of, pends_of, refused_of, found_of}
-use Rattle.executor_laws.proofs.Wakeups.Stands.{calls_of, drops_of, ends_of, odd_of, waking_up_of, strays_of, used_of}
 use Rattle.executor_laws.proofs.Wakeups.StandsAnswers.{IsOver, Outcome, outcome-from, ends-with, one-end}
 use Rattle.executor_laws.proofs.Wakeups.StandsAnswers.Outcome.{unended, ended}
-use Rattle.executor_laws.proofs.Wakeups.StandsEnds.{marked}
-use Rattle.executor_laws.proofs.Wakeups.StandsMachine.{standing}
-use Rattle.executor_laws.proofs.Wakeups.StandsSteps.{Standing}
 use Rattle.executor_laws.proofs.Wakeups.StandsMissing.{Missing, slumbering-here, missing}
-use Rattle.executor_laws.proofs.Wakeups.StandsTelling.{LastPoll, last-poll, Begun, begun-at, calls-is, drops-is, left-has}
-use Rattle.executor_laws.proofs.Wakeups.StandsTelling.{poll-from, called-from, has-later, polls-is, polls_it, drops_it, unasked}
 use Rattle.executor_laws.proofs.Wakeups.StandsWeights.{nothing_done}
 use Rattle.executor_laws.proofs.Wakeups.StandsWorlds.{kept-few, entries-astray, place_here}
 use Rattle.executor_laws.proofs.Wakeups.Watched.{Watched, watched, watched_from, is_pending, is_refusal, poll_begun}
+use Rattle.executor_laws.proofs.{Wakeups.StandsEnds.marked, Wakeups.StandsMachine.standing, Wakeups.StandsSteps.Standing}
 
-pends-only : (r : Reply) → is_pending r ≡ true → r ≡ reply.Pending
-pends-only reply.Pending e = refl
+pends-only : (r : Reply) → is_pending r ≡ true → r ≡ Reply.Pending
+pends-only Reply.Pending e = refl
 pends-only _ e = absurd (cc)
 
-refuses-only : (r : Reply) → is_refusal r ≡ true → r ≡ reply.NoMemory
-refuses-only reply.NoMemory e = refl
+refuses-only : (r : Reply) → is_refusal r ≡ true → r ≡ Reply.NoMemory
+refuses-only Reply.NoMemory e = refl
 refuses-only _ e = absurd (cc)
 
 not-true : (b : Bool) → (b ≡ true → ⊥) → b ≡ false
@@ -201,7 +180,7 @@ module _ (s : Machine) (fine : Good s) (hs : Heard s) (ds : Deep s) (told : Slee
           party = poll-there.party;
           poll = poll-there.poll;
           polled = its-poll;
-          refused = ends-so u poll-there.party poll-there.poll its-poll unleft reply.NoMemory
+          refused = ends-so u poll-there.party poll-there.poll its-poll unleft Reply.NoMemory
               (λ q o. refuses-only q (sym o.refused ∙ x));
         })))
         so
@@ -213,7 +192,7 @@ module _ (s : Machine) (fine : Good s) (hs : Heard s) (ds : Deep s) (told : Slee
           poll = poll-there.poll;
           lives = unleft;
           polled = its-poll;
-          pending = ends-so u poll-there.party poll-there.poll its-poll unleft reply.Pending
+          pending = ends-so u poll-there.party poll-there.poll its-poll unleft Reply.Pending
               (λ q o. pends-only q (sym o.pending ∙ pending-there none));
         }
 
@@ -239,23 +218,23 @@ module _ (s : Machine) (fine : Good s) (hs : Heard s) (ds : Deep s) (told : Slee
 
   -- a run in whose own queue something stands is called, and stands unless it was refused
   module _ (r : ℕ) (some : 1 ≤ length (own_of s.world r)) where
-    keeps : Replied (tick_or_run.Run r)
-    keeps = replied (tick_or_run.Run r) ((stands-here (tick_or_run.Run r)).keeps some)
+    keeps : Replied (TickOrRun.Run r)
+    keeps = replied (TickOrRun.Run r) ((stands-here (TickOrRun.Run r)).keeps some)
 
-    pub keeper-stands : ¬ WasRefused (tick_or_run.Run r) s.world.trace → StandsSo (tick_or_run.Run r) s.world.trace
-    keeper-stands none = standing-there (tick_or_run.Run r) keeps none
+    pub keeper-stands : ¬ WasRefused (TickOrRun.Run r) s.world.trace → StandsSo (TickOrRun.Run r) s.world.trace
+    keeper-stands none = standing-there (TickOrRun.Run r) keeps none
 
-    pub keeper-called : WasCalled (tick_or_run.Run r) s.world.trace
+    pub keeper-called : WasCalled (TickOrRun.Run r) s.world.trace
     keeper-called = ⊎_elim
         (λ (x : 1 ≤ weigh_all (running_of r) s.parties). absurd
         (omega (arith, x, all-rest (running_of r) s.parties idle)))
-        (λ (x : WasCalled (tick_or_run.Run r) s.world.trace). x)
+        (λ (x : WasCalled (TickOrRun.Run r) s.world.trace). x)
         (runner r some)
 
   module _ (f : ℕ) (t : TickOrRun) (due : IsDue f s.world.trace) (stand : StandsSo t s.world.trace)
       (none : NoneRefused s.world.trace) where
     pending : (watched t s.world.trace).pending ≡ true
-    pending = (answered t stand.party stand.poll stand.polled stand.lives reply.Pending stand.pending).pending
+    pending = (answered t stand.party stand.poll stand.polled stand.lives Reply.Pending stand.pending).pending
 
     unrefused : (u : TickOrRun) → Replied u → ¬ WasRefused u s.world.trace
     unrefused u so = none u (unleft u so)
@@ -306,8 +285,8 @@ module _ (s : Machine) (fine : Good s) (hs : Heard s) (ds : Deep s) (told : Slee
         let h : Holder f s.world.own = holder f s.world.own k in
         let some : 1 ≤ length (own_of s.world h.run) =
         omega (arith, h.holds, times-length f (get_or s.world.own h.run [])) in record {
-          who = tick_or_run.Run h.run;
-          stands = keeper-stands h.run some (unrefused (tick_or_run.Run h.run) (keeps h.run some));
+          who = TickOrRun.Run h.run;
+          stands = keeper-stands h.run some (unrefused (TickOrRun.Run h.run) (keeps h.run some));
           called = keeper-called h.run some;
         }
 

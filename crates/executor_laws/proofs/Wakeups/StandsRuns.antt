@@ -1,62 +1,32 @@
 -- For some_standing_is_called.
 -- Where a run searches, steals and walks, its poll goes on.
-use Rattle.std.proofs.Common.{◌≡◌, ◌⊎◌, ◌∙◌, ℕ, zero, suc, ◌+◌, ◌%◌, ◌≤◌, List, [], ◌∷◌, ◌++◌, length, Bool, true}
-use Rattle.std.proofs.Common.{false, eqb, refl, sym, ap, subst, inl, inr, ⊎_elim, arith}
-use Rattle.executor_parts.specs.declared.mark.Mark.TheVariants.{Plain, Urgent}
+use Rattle.std.proofs.Common.{◌≡◌, ◌⊎◌, ◌∙◌, ℕ, zero, suc, ◌+◌, ◌%◌, ◌≤◌, List, [], ◌∷◌, ◌++◌, length, Bool, true, false, eqb}
+use Rattle.std.proofs.Common.{refl, sym, ap, subst, inl, inr, ⊎_elim, arith}
 use Rattle.executor_parts.specs.Marks.{first_of, other}
-use Rattle.executor_model.specs.declared.op.Look.{Look}
-use Rattle.executor_model.specs.declared.op.Look.TheVariants.{First, Second}
-use Rattle.task_moves.specs.declared.moves.owed.Move.TheVariants as move
-use Rattle.executor_model.specs.declared.call.Reply.TheVariants as reply
-use Rattle.executor_model.specs.declared.event.Event.TheVariants as event
-use Rattle.executor_model.specs.declared.op.ListOp.TheVariants as list_op
-use Rattle.executor_model.specs.declared.op.Op.{Op}
-use Rattle.executor_model.specs.declared.op.Op.TheVariants as op
-use Rattle.executor_model.specs.declared.op.QueueOp.TheVariants as queue_op
-use Rattle.executor_model.specs.declared.op.RunOp.TheVariants as run_op
-use Rattle.executor_model.specs.declared.op.RunPoll.{RunPoll}
-use Rattle.executor_model.specs.declared.op.Section.TheVariants as section
-use Rattle.executor_model.specs.declared.op.TickOrRun.{TickOrRun}
-use Rattle.executor_model.specs.declared.op.TickOrRun.TheVariants as tick_or_run
-use Rattle.executor_model.specs.declared.op.SleeperOp.TheVariants as sleeper_op
-use Rattle.executor_model.specs.declared.op.Source.{Source}
-use Rattle.executor_model.specs.declared.op.Source.TheVariants.{Common, Own}
-use Rattle.executor_model.specs.declared.op.Steal.{Steal}
-use Rattle.executor_model.specs.declared.op.StealOp.{StealOp}
-use Rattle.executor_model.specs.declared.op.StealOp.TheVariants as steal_op
-use Rattle.executor_model.specs.declared.op.Then.{Then}
-use Rattle.executor_model.specs.declared.op.Then.TheVariants as then
-use Rattle.executor_model.specs.declared.op.TickOp.TheVariants as tick_op
-use Rattle.executor_model.specs.declared.op.UserOp.TheVariants as user_op
-use Rattle.executor_model.specs.declared.step.Hint.{Hint}
+use Rattle.executor_laws.proofs.Types.{Plain, Urgent, Look, First, Second, Move, Reply, Event, ListOp, Op, QueueOp, RunOp}
+use Rattle.executor_laws.proofs.Types.{RunPoll, Section, TickOrRun, SleeperOp, Source, Common, Own, Steal, StealOp, Then}
 use Rattle.executor_model.specs.Acts.{mark_in, turned}
-use Rattle.executor_model.specs.ActsOfRuns as runs
-use Rattle.executor_model.specs.ActsOfSleepers.{found_by}
-use Rattle.executor_model.specs.Doing.{steal_act}
-use Rattle.executor_model.specs.Weights.{weigh}
-use Rattle.executor_model.specs.SleepersAgree.{sleeps}
 use Rattle.executor_model.specs.World.{World, Ticker, Awake, Asleep, Left, Run, Done, own_of, put_own, put_run, run_of}
-use Rattle.executor_model.proofs.Steps.Lists.{weigh-append}
+use Rattle.executor_model.specs.{ActsOfSleepers.found_by, Doing.steal_act, Weights.weigh, SleepersAgree.sleeps}
 use Rattle.executor_model.proofs.OwnQueues.OwnRooms.{Shorter, grown, of_hull, same-own, shorter-and, shorter-first}
-use Rattle.executor_model.proofs.OwnQueues.RunsDone.{poll_in}
 use Rattle.executor_model.proofs.OwnQueues.RunsMoving.{hull-found, hull-stolen, walk-by}
-use Rattle.executor_model.proofs.OwnQueues.UsingWorlds.{is_over_stage}
-use Rattle.executor_laws.proofs.Wakeups.Beside.{view-log, view-turned}
+use Rattle.executor_model.proofs.{Steps.Lists.weigh-append, OwnQueues.RunsDone.poll_in, OwnQueues.UsingWorlds.is_over_stage}
+use Rattle.executor_laws.proofs.Wakeups.Stands.{KeepsStands, Nothing, Stands, View, calls_of, drops_of, early_of, ends_of}
+use Rattle.executor_laws.proofs.Wakeups.Stands.{found_of, odd_of, pends_of, refused_of, waking_up_of, strays, strays_of}
+use Rattle.executor_laws.proofs.Wakeups.Stands.{used_of, view, with_doing}
 use Rattle.executor_laws.proofs.Wakeups.Listed.{sum, entry_of, kept_of, misplaced_of}
 use Rattle.executor_laws.proofs.Wakeups.Sitting.{IsOther, IsSame, is_it, owned_in, who_cases}
-use Rattle.executor_laws.proofs.Wakeups.Stands.{KeepsStands, Nothing, Stands, View, calls_of, drops_of, early_of, ends_of}
-use Rattle.executor_laws.proofs.Wakeups.Stands.{found_of, odd_of, pends_of, refused_of, waking_up_of, strays, strays_of, used_of}
-use Rattle.executor_laws.proofs.Wakeups.Stands.{view, with_doing}
-use Rattle.executor_laws.proofs.Wakeups.StandsNothing.{nothing-of}
-use Rattle.executor_laws.proofs.Wakeups.StandsOwn.{Goes, own-goes}
 use Rattle.executor_laws.proofs.Wakeups.StandsSeats.{Seated, seated-and, seated-run, seated-same}
 use Rattle.executor_laws.proofs.Wakeups.StandsTied.{Tied, tied-append, tied-cons, tied-none}
-use Rattle.executor_laws.proofs.Wakeups.Watched.{watched}
+use Rattle.executor_laws.proofs.Wakeups.Beside.{view-log, view-turned}
+use Rattle.executor_laws.proofs.{Types.TickOp, Types.UserOp, Types.Hint, Wakeups.StandsNothing.nothing-of}
+use Rattle.executor_laws.proofs.{Wakeups.StandsOwn.Goes, Wakeups.StandsOwn.own-goes, Wakeups.Watched.watched}
+use Rattle.executor_model.specs.ActsOfRuns as runs
 
 -- this is what a poll x of a run has still to do
 pub record Stage (t : TickOrRun) (x : RunPoll) (os : List Op) : Type 0 where
-  pub used : weigh (used_of t) os ≡ is_it t (tick_or_run.Run x.run)
-  pub early : weigh (early_of t) os ≡ is_it t (tick_or_run.Run x.run)
+  pub used : weigh (used_of t) os ≡ is_it t (TickOrRun.Run x.run)
+  pub early : weigh (early_of t) os ≡ is_it t (TickOrRun.Run x.run)
   pub pends : weigh (pends_of t) os ≡ 0
   pub refused : weigh (refused_of t) os ≡ 0
   pub found : weigh (found_of t) os ≡ 0
@@ -65,12 +35,12 @@ pub record Stage (t : TickOrRun) (x : RunPoll) (os : List Op) : Type 0 where
   pub odd : weigh (odd_of t) os ≡ 0
   pub strays : (k : ℕ) → weigh (strays_of t k) os ≤ strays t k x
   pub calls : (k : ℕ) → weigh (calls_of t k) os ≡ 0
-  pub waking_up : weigh (waking_up_of t) os ≤ is_it t (tick_or_run.Run x.run)
+  pub waking_up : weigh (waking_up_of t) os ≤ is_it t (TickOrRun.Run x.run)
   pub tied : Tied t os
 
 module _ (t : TickOrRun) (x : RunPoll) where
   -- of one thing to do
-  stage-of : (o : Op) → used_of t o ≡ is_it t (tick_or_run.Run x.run) → early_of t o ≡ is_it t (tick_or_run.Run x.run) →
+  stage-of : (o : Op) → used_of t o ≡ is_it t (TickOrRun.Run x.run) → early_of t o ≡ is_it t (TickOrRun.Run x.run) →
       pends_of t o ≡ 0 → refused_of t o ≡ 0 → found_of t o ≡ 0 → ends_of t o ≡ 0 → drops_of t o ≡ 0 → odd_of t o ≡ 0 →
       ((k : ℕ) → strays_of t k o ≡ strays t k x) → ((k : ℕ) → calls_of t k o ≡ 0) → waking_up_of t o ≡ 0 →
       Stage t x (o ∷ [])
@@ -91,7 +61,7 @@ module _ (t : TickOrRun) (x : RunPoll) where
 
   -- its own future is ready
   pub stage-ready : Stage t x
-      (op.User (user_op.DropOwn x.run) ∷ op.List (list_op.LockWrite (section.Unregister x.run reply.Ready)) ∷ [])
+      (Op.User (UserOp.DropOwn x.run) ∷ Op.List (ListOp.LockWrite (Section.Unregister x.run Reply.Ready)) ∷ [])
   stage-ready = record {
     used = omega arith;
     early = omega arith;
@@ -107,39 +77,39 @@ module _ (t : TickOrRun) (x : RunPoll) where
     tied = tied-none t _ refl;
   }
 
-  pub stage-own : Stage t x (op.User (user_op.PollOwn x) ∷ [])
+  pub stage-own : Stage t x (Op.User (UserOp.PollOwn x) ∷ [])
   stage-own =
-      stage-of (op.User (user_op.PollOwn x)) refl refl refl refl refl refl refl refl (λ k. refl) (λ k. refl) refl
+      stage-of (Op.User (UserOp.PollOwn x)) refl refl refl refl refl refl refl refl (λ k. refl) (λ k. refl) refl
 
-  pub stage-search : Stage t x (op.Tick (tick_op.Search (runs.asleep x)) ∷ [])
-  stage-search = stage-of (op.Tick (tick_op.Search (runs.asleep x))) refl refl refl refl refl refl refl refl
+  pub stage-search : Stage t x (Op.Tick (TickOp.Search (runs.asleep x)) ∷ [])
+  stage-search = stage-of (Op.Tick (TickOp.Search (runs.asleep x))) refl refl refl refl refl refl refl refl
       (λ k. refl) (λ k. refl) refl
 
-  pub stage-copy : Stage t x (op.Tick (tick_op.CopyWaker (runs.asleep x)) ∷ [])
-  stage-copy = stage-of (op.Tick (tick_op.CopyWaker (runs.asleep x))) refl refl refl refl refl refl refl refl
+  pub stage-copy : Stage t x (Op.Tick (TickOp.CopyWaker (runs.asleep x)) ∷ [])
+  stage-copy = stage-of (Op.Tick (TickOp.CopyWaker (runs.asleep x))) refl refl refl refl refl refl refl refl
       (λ k. refl) (λ k. refl) refl
 
-  pub stage-register : Stage t x (op.List (list_op.Write (section.Register x)) ∷ [])
-  stage-register = stage-of (op.List (list_op.Write (section.Register x))) refl refl refl refl refl refl refl refl
+  pub stage-register : Stage t x (Op.List (ListOp.Write (Section.Register x)) ∷ [])
+  stage-register = stage-of (Op.List (ListOp.Write (Section.Register x))) refl refl refl refl refl refl refl refl
       (λ k. refl) (λ k. refl) refl
 
-  pub stage-read : Stage t x (op.List (list_op.LockRead x) ∷ [])
-  stage-read = stage-of (op.List (list_op.LockRead x)) refl refl refl refl refl refl refl refl (λ k. refl) (λ k. refl)
+  pub stage-read : Stage t x (Op.List (ListOp.LockRead x) ∷ [])
+  stage-read = stage-of (Op.List (ListOp.LockRead x)) refl refl refl refl refl refl refl refl (λ k. refl) (λ k. refl)
       refl
 
-  pub stage-turn : Stage t x (op.Run (run_op.TakeTurn x) ∷ [])
-  stage-turn = stage-of (op.Run (run_op.TakeTurn x)) refl refl refl refl refl refl refl refl (λ k. refl) (λ k. refl) refl
+  pub stage-turn : Stage t x (Op.Run (RunOp.TakeTurn x) ∷ [])
+  stage-turn = stage-of (Op.Run (RunOp.TakeTurn x)) refl refl refl refl refl refl refl refl (λ k. refl) (λ k. refl) refl
 
-  pub stage-common : (look : Look) → Stage t x (op.Run (run_op.SearchCommon x look) ∷ [])
-  stage-common look = stage-of (op.Run (run_op.SearchCommon x look)) refl refl refl refl refl refl refl refl (λ k. refl)
+  pub stage-common : (look : Look) → Stage t x (Op.Run (RunOp.SearchCommon x look) ∷ [])
+  stage-common look = stage-of (Op.Run (RunOp.SearchCommon x look)) refl refl refl refl refl refl refl refl (λ k. refl)
       (λ k. refl) refl
 
-  pub stage-look : (at left : ℕ) → Stage t x (op.Run (run_op.LookOwn x at left) ∷ [])
-  stage-look at left = stage-of (op.Run (run_op.LookOwn x at left)) refl refl refl refl refl refl refl refl (λ k. refl)
+  pub stage-look : (at left : ℕ) → Stage t x (Op.Run (RunOp.LookOwn x at left) ∷ [])
+  stage-look at left = stage-of (Op.Run (RunOp.LookOwn x at left)) refl refl refl refl refl refl refl refl (λ k. refl)
       (λ k. refl) refl
 
-  pub stage-wake : Stage t x (op.Run (run_op.WakeOwn x) ∷ [])
-  stage-wake = stage-of (op.Run (run_op.WakeOwn x)) refl refl refl refl refl refl refl refl (λ k. refl) (λ k. refl) refl
+  pub stage-wake : Stage t x (Op.Run (RunOp.WakeOwn x) ∷ [])
+  stage-wake = stage-of (Op.Run (RunOp.WakeOwn x)) refl refl refl refl refl refl refl refl (λ k. refl) (λ k. refl) refl
 
   -- what is nothing to it stands before
   pub stage-front : (xs os : List Op) → Nothing t xs → Stage t x os → Stage t x (xs ++ os)
@@ -160,7 +130,7 @@ module _ (t : TickOrRun) (x : RunPoll) where
 
   -- it wakes up first
   stage-wake_it_up : (os : List Op) → Stage t x os → weigh (waking_up_of t) os ≡ 0 →
-      Stage t x (op.Tick (tick_op.WakeUp (tick_or_run.Run x.run)) ∷ os)
+      Stage t x (Op.Tick (TickOp.WakeUp (TickOrRun.Run x.run)) ∷ os)
   stage-wake_it_up os s z = record {
     used = omega (arith, s.used);
     early = omega (arith, s.early);
@@ -173,21 +143,21 @@ module _ (t : TickOrRun) (x : RunPoll) where
     strays = λ k. omega (arith, s.strays k);
     calls = λ k. omega (arith, s.calls k);
     waking_up = omega (arith, z);
-    tied = tied-cons t (op.Tick (tick_op.WakeUp (tick_or_run.Run x.run))) os (λ k. omega (arith, k, s.used)) s.tied;
+    tied = tied-cons t (Op.Tick (TickOp.WakeUp (TickOrRun.Run x.run))) os (λ k. omega (arith, k, s.used)) s.tied;
   }
 
 -- what it does next in a steal
-pub stage-steal : (t : TickOrRun) (o : StealOp) → Stage t (poll_in o) (op.Steal o ∷ [])
+pub stage-steal : (t : TickOrRun) (o : StealOp) → Stage t (poll_in o) (Op.Steal o ∷ [])
 stage-steal t o =
-    stage-of t (poll_in o) (op.Steal o) refl refl refl refl refl refl refl refl (λ k. refl) (λ k. refl) refl
+    stage-of t (poll_in o) (Op.Steal o) refl refl refl refl refl refl refl refl (λ k. refl) (λ k. refl) refl
 
 module _ (t : TickOrRun) (x : RunPoll) where
   -- what is found is run
 
   stage-run_by : (b : Bool) (w : World) (f : ℕ) → Stage t x (runs.run_by b w x f).next
-  stage-run_by true w f = stage-front t x (op.Move move.TakeUp f ∷ []) (op.Run (run_op.WakeOwn x) ∷ [])
+  stage-run_by true w f = stage-front t x (Op.Move Move.TakeUp f ∷ []) (Op.Run (RunOp.WakeOwn x) ∷ [])
       (nothing-of t _ refl) (stage-wake t x)
-  stage-run_by false w f = stage-front t x (op.Move move.TakeUp f ∷ []) (op.Tick (tick_op.Search (runs.asleep x)) ∷ [])
+  stage-run_by false w f = stage-front t x (Op.Move Move.TakeUp f ∷ []) (Op.Tick (TickOp.Search (runs.asleep x)) ∷ [])
       (nothing-of t _ refl) (stage-search t x)
 
   not_woken_up-run_by : (b : Bool) (w : World) (f : ℕ) → weigh (waking_up_of t) (runs.run_by b w x f).next ≡ 0
@@ -196,7 +166,7 @@ module _ (t : TickOrRun) (x : RunPoll) where
 
   stage-counted : (b : Bool) (w : World) (f : ℕ) → Stage t x (runs.counted_by b w x f).next
   stage-counted true w f =
-      stage-steal t (steal_op.Length (record { poll = x; from = Common Urgent; then = then.StealPlain f }))
+      stage-steal t (StealOp.Length (record { poll = x; from = Common Urgent; then = Then.StealPlain f }))
   stage-counted false w f = stage-run_by _ _ f
 
   not_woken_up-counted : (b : Bool) (w : World) (f : ℕ) → weigh (waking_up_of t) (runs.counted_by b w x f).next ≡ 0
@@ -204,29 +174,29 @@ module _ (t : TickOrRun) (x : RunPoll) where
   not_woken_up-counted false w f = not_woken_up-run_by _ _ f
 
   stage-wakes_up : (p : Ticker) (os : List Op) → Stage t x os → weigh (waking_up_of t) os ≡ 0 →
-      Stage t x (found_by p (tick_or_run.Run x.run) (op.Sleeper sleeper_op.ExchangeFlag ∷ []) ++ os)
-  stage-wakes_up Awake os s z = stage-front t x (op.Sleeper sleeper_op.ExchangeFlag ∷ []) os (nothing-of t _ refl) s
+      Stage t x (found_by p (TickOrRun.Run x.run) (Op.Sleeper SleeperOp.ExchangeFlag ∷ []) ++ os)
+  stage-wakes_up Awake os s z = stage-front t x (Op.Sleeper SleeperOp.ExchangeFlag ∷ []) os (nothing-of t _ refl) s
   stage-wakes_up (Asleep n) os s z =
-      stage-wake_it_up t x (op.Sleeper sleeper_op.ExchangeFlag ∷ os)
-      (stage-front t x (op.Sleeper sleeper_op.ExchangeFlag ∷ []) os (nothing-of t _ refl) s) (omega (arith, z))
-  stage-wakes_up Left os s z = stage-front t x (op.Sleeper sleeper_op.ExchangeFlag ∷ []) os (nothing-of t _ refl) s
+      stage-wake_it_up t x (Op.Sleeper SleeperOp.ExchangeFlag ∷ os)
+      (stage-front t x (Op.Sleeper SleeperOp.ExchangeFlag ∷ []) os (nothing-of t _ refl) s) (omega (arith, z))
+  stage-wakes_up Left os s z = stage-front t x (Op.Sleeper SleeperOp.ExchangeFlag ∷ []) os (nothing-of t _ refl) s
 
   pub stage-found : (w : World) (f : ℕ) → Stage t x (runs.found w x f).next
   stage-found w f = let b = eqb ((run_of w x.run).counted + 1) 64 in
       stage-wakes_up (run_of w x.run).place (runs.counted_by b w x f).next (stage-counted b w f) (not_woken_up-counted b w f)
 
   pub stage-stolen : (n : Then) (w : World) → Stage t x (runs.stolen n w x).next
-  stage-stolen (then.Found f) w = stage-found w f
-  stage-stolen (then.StealPlain f) w =
-      stage-steal t (steal_op.Length (record { poll = x; from = Common Plain; then = then.Run f }))
-  stage-stolen (then.Run f) w = stage-run_by _ w f
-  stage-stolen (then.Walk at left) w = stage-look t x at left
+  stage-stolen (Then.Found f) w = stage-found w f
+  stage-stolen (Then.StealPlain f) w =
+      stage-steal t (StealOp.Length (record { poll = x; from = Common Plain; then = Then.Run f }))
+  stage-stolen (Then.Run f) w = stage-run_by _ w f
+  stage-stolen (Then.Walk at left) w = stage-look t x at left
 
   pub stage-walk : (qs : List ℕ) (at left : ℕ) → Stage t x (runs.walk x qs at left)
   stage-walk qs at left = walk-by (Stage t x) x
-      (stage-front t x (op.List list_op.UnlockRead ∷ []) (op.Tick (tick_op.CopyWaker (runs.asleep x)) ∷ [])
+      (stage-front t x (Op.List ListOp.UnlockRead ∷ []) (Op.Tick (TickOp.CopyWaker (runs.asleep x)) ∷ [])
       (nothing-of t _ refl) (stage-copy t x))
-      (λ r m n. stage-steal t (steal_op.Length (record { poll = x; from = Own r; then = then.Walk m n })))
+      (λ r m n. stage-steal t (StealOp.Length (record { poll = x; from = Own r; then = Then.Walk m n })))
       qs at left
 
 -- the world in which it does so
@@ -276,25 +246,25 @@ calm-found : (w : World) (x : RunPoll) (f : ℕ) → Calm w (runs.found w x f).w
 calm-found w x f = calm-counted _ w x f
 
 calm-stolen : (n : Then) (w : World) (x : RunPoll) → Calm w (runs.stolen n w x).world
-calm-stolen (then.Found f) w x = calm-found w x f
-calm-stolen (then.StealPlain f) w x = calm-same w w refl refl refl refl refl
-calm-stolen (then.Run f) w x = calm-run_by _ w x f
-calm-stolen (then.Walk at left) w x = calm-same w w refl refl refl refl refl
+calm-stolen (Then.Found f) w x = calm-found w x f
+calm-stolen (Then.StealPlain f) w x = calm-same w w refl refl refl refl refl
+calm-stolen (Then.Run f) w x = calm-run_by _ w x f
+calm-stolen (Then.Walk at left) w x = calm-same w w refl refl refl refl refl
 
 -- a poll goes on: what the world has of each stays, but that less may stand in own queues, and more in that of the run
 pub record Walks (w : World) (x : RunPoll) (d : Done) : Type 0 where
   pub stage : (t : TickOrRun) → Stage t x d.next
   pub calm : Calm w d.world
-  pub own : (t : TickOrRun) → 1 ≤ owned_in t d.world.own → (1 ≤ owned_in t w.own) ⊎ (1 ≤ is_it t (tick_or_run.Run x.run))
+  pub own : (t : TickOrRun) → 1 ≤ owned_in t d.world.own → (1 ≤ owned_in t w.own) ⊎ (1 ≤ is_it t (TickOrRun.Run x.run))
 
 pub owned-less : (w v : World) → Shorter w v → (t : TickOrRun) (n : ℕ) → 1 ≤ owned_in t v.own →
     (1 ≤ owned_in t w.own) ⊎ (1 ≤ n)
-owned-less w v s (tick_or_run.Tick u) n k = absurd (omega (arith, k))
-owned-less w v s (tick_or_run.Run r) n k = inl (omega (arith, k, s.own r))
+owned-less w v s (TickOrRun.Tick u) n k = absurd (omega (arith, k))
+owned-less w v s (TickOrRun.Run r) n k = inl (omega (arith, k, s.own r))
 
 pub walks : (w : World) (x : RunPoll) (d : Done) → ((t : TickOrRun) → Stage t x d.next) → Calm w d.world →
     Shorter w d.world → Walks w x d
-walks w x d s c o = record { stage = s; calm = c; own = λ t. owned-less w d.world o t (is_it t (tick_or_run.Run x.run)) }
+walks w x d s c o = record { stage = s; calm = c; own = λ t. owned-less w d.world o t (is_it t (TickOrRun.Run x.run)) }
 
 goes-on : (t : TickOrRun) (x : RunPoll) (old next : List Op) → Stage t x old → weigh (waking_up_of t) old ≡ 0 →
     ((k : ℕ) → strays t k x ≤ weigh (strays_of t k) old) → Stage t x next → Goes t old next
@@ -335,7 +305,7 @@ stands-walks t w x old d a z y k r m b h =
     subst (λ (v : View). Stands v (with_doing t d.next r) m) (sym (view-calm t w d.world k.calm))
     (own-goes t (owned_in t d.world.own) (view t w) old d.next (goes-on t x old d.next a z y (k.stage t))
     (λ o. ⊎_elim (λ (j : 1 ≤ owned_in t w.own). inl j)
-    (λ (j : 1 ≤ is_it t (tick_or_run.Run x.run)). inr (omega (arith, j, (k.stage t).early))) (k.own t o)) r m b h)
+    (λ (j : 1 ≤ is_it t (TickOrRun.Run x.run)). inr (omega (arith, j, (k.stage t).early))) (k.own t o)) r m b h)
 
 -- each step of a search
 
@@ -370,7 +340,7 @@ walks-common (First mark) [] w x = walks w x (runs.search_common_by [] w x (Firs
 walks-common (Second mark) [] w x = walks w x (runs.search_common_by [] w x (Second mark)) (λ t. stage-read t x)
     (calm-same w w refl refl refl refl refl) (same-own w w refl)
 walks-common look (f ∷ rest) w x = walks w x (runs.search_common_by (f ∷ rest) w x look)
-    (λ t. stage-steal t (steal_op.Length (record { poll = x; from = Common (mark_in look); then = then.Found f })))
+    (λ t. stage-steal t (StealOp.Length (record { poll = x; from = Common (mark_in look); then = Then.Found f })))
     (calm-same w (runs.search_common_by (f ∷ rest) w x look).world refl refl refl refl refl)
     (same-own w (runs.search_common_by (f ∷ rest) w x look).world refl)
 
@@ -383,7 +353,7 @@ walks-look [] w x at left e = walks w x (runs.look_own_by [] w x at left) (λ t.
     (calm-same w w refl refl refl refl refl) (same-own w w refl)
 walks-look (f ∷ rest) w x at left e = let v = put_own w x.run rest in
     walks w x (runs.look_own_by (f ∷ rest) w x at left)
-    (λ t. stage-front t x (op.List list_op.UnlockRead ∷ []) (runs.found v x f).next (nothing-of t _ refl)
+    (λ t. stage-front t x (Op.List ListOp.UnlockRead ∷ []) (runs.found v x f).next (nothing-of t _ refl)
     (stage-found t x v f))
     (calm-and w v (runs.found v x f).world (calm-same w v refl refl refl refl refl) (calm-found v x f))
     (shorter-and w v (runs.found v x f).world (shorter-first w x.run f rest e)
@@ -406,12 +376,12 @@ walks-stolen n w x = walks w x (runs.stolen n w x) (λ t. stage-stolen t x n w) 
 walks-length : (n : ℕ) (w : World) (s : Steal) → Walks w s.poll (runs.steal_length_by n w s)
 walks-length zero w s = walks-stolen s.then w s.poll
 walks-length (suc n) w s = walks w s.poll (runs.steal_length_by (suc n) w s)
-    (λ t. stage-steal t (steal_op.OwnLength s (suc n))) (calm-same w w refl refl refl refl refl) (same-own w w refl)
+    (λ t. stage-steal t (StealOp.OwnLength s (suc n))) (calm-same w w refl refl refl refl refl) (same-own w w refl)
 
 pub walks-more : (n : ℕ) (w : World) (s : Steal) → Walks w s.poll (runs.steal_by n w s)
 walks-more zero w s = walks-stolen s.then w s.poll
 walks-more (suc n) w s = walks w s.poll (runs.steal_by (suc n) w s)
-    (λ t. stage-steal t (steal_op.Take s n)) (calm-same w w refl refl refl refl refl) (same-own w w refl)
+    (λ t. stage-steal t (StealOp.Take s n)) (calm-same w w refl refl refl refl refl) (same-own w w refl)
 
 calm-first : (from : Source) (w : World) (rest : List ℕ) → Calm w (runs.without_first w from rest)
 calm-first (Common mark) w rest = calm-same w (runs.without_first w (Common mark) rest) refl refl refl refl refl
@@ -426,7 +396,7 @@ walks-take : (q : List ℕ) (w : World) (s : Steal) (more : ℕ) → runs.source
     Walks w s.poll (runs.steal_take_by q w s more)
 walks-take [] w s more e = walks-stolen s.then w s.poll
 walks-take (f ∷ rest) w s more e = walks w s.poll (runs.steal_take_by (f ∷ rest) w s more)
-    (λ t. stage-steal t (steal_op.Put s more f)) (calm-first s.from w rest) (shorter-source s.from f rest w e)
+    (λ t. stage-steal t (StealOp.Put s more f)) (calm-first s.from w rest) (shorter-source s.from f rest w e)
 
 -- one comes into the own queue
 
@@ -435,17 +405,17 @@ calm-kept p w r f = let v = put_own w r (own_of w r ++ f ∷ []) in record {
   seated = λ t. seated-same t w (runs.kept_by p w r f) refl refl;
   wakers = refl;
   gone = refl;
-  seen = λ t. ap (λ (y : View). y.seen) (view-log t v (event.Kept p f r) (λ u n s. refl));
+  seen = λ t. ap (λ (y : View). y.seen) (view-log t v (Event.Kept p f r) (λ u n s. refl));
 }
 
 owned-kept : (p : ℕ) (w : World) (r f : ℕ) (t : TickOrRun) → 1 ≤ owned_in t (runs.kept_by p w r f).own →
-    (1 ≤ owned_in t w.own) ⊎ (1 ≤ is_it t (tick_or_run.Run r))
-owned-kept p w r f (tick_or_run.Tick u) k = absurd (omega (arith, k))
-owned-kept p w r f (tick_or_run.Run q) k = ⊎_elim
-    (λ (x : IsSame (tick_or_run.Run q) (tick_or_run.Run r)). inr (omega (arith, x.0)))
-    (λ (x : IsOther (tick_or_run.Run q) (tick_or_run.Run r)).
-    inl (omega (arith, k, grown w.own r f q (λ e. x.2 (ap (λ (n : ℕ). tick_or_run.Run n) e)))))
-    (who_cases (tick_or_run.Run q) (tick_or_run.Run r))
+    (1 ≤ owned_in t w.own) ⊎ (1 ≤ is_it t (TickOrRun.Run r))
+owned-kept p w r f (TickOrRun.Tick u) k = absurd (omega (arith, k))
+owned-kept p w r f (TickOrRun.Run q) k = ⊎_elim
+    (λ (x : IsSame (TickOrRun.Run q) (TickOrRun.Run r)). inr (omega (arith, x.0)))
+    (λ (x : IsOther (TickOrRun.Run q) (TickOrRun.Run r)).
+    inl (omega (arith, k, grown w.own r f q (λ e. x.2 (ap (λ (n : ℕ). TickOrRun.Run n) e)))))
+    (who_cases (TickOrRun.Run q) (TickOrRun.Run r))
 
 walks-put : (b : Bool) (p : ℕ) (w : World) (s : Steal) (more f : ℕ) →
     Walks w s.poll (runs.steal_put_by b p w s more f)
@@ -455,18 +425,18 @@ walks-put true p w s more f =
       stage = k.stage;
       calm = calm-and w v (runs.steal_by more v s).world (calm-kept p w s.poll.run f) k.calm;
       own = λ t o. ⊎_elim (λ (y : 1 ≤ owned_in t v.own). owned-kept p w s.poll.run f t y)
-          (λ (y : 1 ≤ is_it t (tick_or_run.Run s.poll.run)). inr y) (k.own t o);
+          (λ (y : 1 ≤ is_it t (TickOrRun.Run s.poll.run)). inr y) (k.own t o);
     }
 walks-put false p w s more f =
     let k : Walks w s.poll (runs.stolen s.then w s.poll) = walks-stolen s.then w s.poll in record {
-      stage = λ t. stage-front t s.poll (op.Queue (queue_op.Append f) ∷ []) (runs.stolen s.then w s.poll).next
+      stage = λ t. stage-front t s.poll (Op.Queue (QueueOp.Append f) ∷ []) (runs.stolen s.then w s.poll).next
           (nothing-of t _ refl) (k.stage t);
       calm = k.calm;
       own = k.own;
     }
 
 pub walks-steal : (p : ℕ) (o : StealOp) (w : World) → Walks w (poll_in o) (steal_act p o w)
-walks-steal p (steal_op.Length s) w = walks-length _ w s
-walks-steal p (steal_op.OwnLength s n) w = walks-more _ w s
-walks-steal p (steal_op.Take s more) w = walks-take _ w s more refl
-walks-steal p (steal_op.Put s more f) w = walks-put _ p w s more f
+walks-steal p (StealOp.Length s) w = walks-length _ w s
+walks-steal p (StealOp.OwnLength s n) w = walks-more _ w s
+walks-steal p (StealOp.Take s more) w = walks-take _ w s more refl
+walks-steal p (StealOp.Put s more f) w = walks-put _ p w s more f

@@ -1,15 +1,13 @@
 -- For some_standing_is_called.
 -- Where each tick and run is, once one of them falls asleep, wakes up, leaves or is made.
-use Rattle.std.proofs.Common.{◌≡◌, ◌≢◌, ◌∙◌, ℕ, zero, suc, ◌<◌, List, [], ◌∷◌, length, get_or, set, Bool, true, refl}
-use Rattle.std.proofs.Common.{sym, ap, arith, get_or-set_same, get_or-set_other}
-use Rattle.std.proofs.Math.ListN.{length-set}
-use Rattle.std.specs.Prelude.{not, nat_lt}
-use Rattle.executor_model.specs.declared.op.TickOrRun.{TickOrRun}
-use Rattle.executor_model.specs.declared.op.TickOrRun.TheVariants as tick_or_run
+use Rattle.std.proofs.Common.{◌≡◌, ◌≢◌, ◌∙◌, ℕ, zero, suc, ◌<◌, List, [], ◌∷◌, length, get_or, set, Bool, true, refl, sym, ap}
+use Rattle.std.proofs.Common.{arith, get_or-set_same, get_or-set_other}
+use Rattle.std.{proofs.Math.ListN.length-set, specs.Prelude.not, specs.Prelude.nat_lt}
+use Rattle.executor_laws.proofs.Types.{TickOrRun}
 use Rattle.executor_model.specs.Steps.{lives}
 use Rattle.executor_model.specs.World.{World, Ticker, Awake, Asleep, Left, Run, no_run, put_place, put_run, run_of}
-use Rattle.executor_model.proofs.Sleepers.TickLists.{is_tick}
 use Rattle.executor_model.proofs.OwnQueues.UsingWorlds.{count-set, is_over_stage}
+use Rattle.executor_model.proofs.Sleepers.TickLists.{is_tick}
 use Rattle.executor_laws.proofs.Wakeups.Sitting.{lives_in, made_in, over_in, place_in}
 
 -- it is where it was, lives as it did, and was made and is over as before
@@ -33,8 +31,8 @@ field-set field (x ∷ rs) (suc q) y e (suc r) = field-set field rs q y e r
 pub seated-run : (who : TickOrRun) (w : World) (q : ℕ) (y : Run) → y.place ≡ (run_of w q).place →
     y.dropped ≡ (run_of w q).dropped → is_over_stage y.stage ≡ is_over_stage (run_of w q).stage →
     Seated who w (put_run w q y)
-seated-run (tick_or_run.Tick t) w q y a b c = record { place = refl; lives = refl; made = refl; over = refl }
-seated-run (tick_or_run.Run r) w q y a b c = record {
+seated-run (TickOrRun.Tick t) w q y a b c = record { place = refl; lives = refl; made = refl; over = refl }
+seated-run (TickOrRun.Run r) w q y a b c = record {
   place = field-set (λ (x : Run). x.place) w.runs q y a r;
   lives = ap (λ (d : Bool). not d) (field-set (λ (x : Run). x.dropped) w.runs q y b r);
   made = ap (nat_lt r) (count-set w.runs q y);
@@ -59,14 +57,14 @@ seated-and who w v u a b = record {
 
 -- another than this is put elsewhere
 
-tick-other : (t u : ℕ) → (let s : TickOrRun = tick_or_run.Tick t in s) ≢ tick_or_run.Tick u → t ≢ u
-tick-other t u n e = n (ap (λ (k : ℕ). tick_or_run.Tick k) e)
+tick-other : (t u : ℕ) → (let s : TickOrRun = TickOrRun.Tick t in s) ≢ TickOrRun.Tick u → t ≢ u
+tick-other t u n e = n (ap (λ (k : ℕ). TickOrRun.Tick k) e)
 
-run-other : (t u : ℕ) → (let s : TickOrRun = tick_or_run.Run t in s) ≢ tick_or_run.Run u → t ≢ u
-run-other t u n e = n (ap (λ (k : ℕ). tick_or_run.Run k) e)
+run-other : (t u : ℕ) → (let s : TickOrRun = TickOrRun.Run t in s) ≢ TickOrRun.Run u → t ≢ u
+run-other t u n e = n (ap (λ (k : ℕ). TickOrRun.Run k) e)
 
 pub seated-other : (who u : TickOrRun) (w : World) (x : Ticker) → who ≢ u → Seated who w (put_place w u x)
-seated-other (tick_or_run.Tick t) (tick_or_run.Tick u) w x n =
+seated-other (TickOrRun.Tick t) (TickOrRun.Tick u) w x n =
     let e : get_or (set w.ticks u x) t Left ≡ get_or w.ticks t Left =
     get_or-set_other w.ticks u t x Left (tick-other t u n) in record {
       place = e;
@@ -74,9 +72,9 @@ seated-other (tick_or_run.Tick t) (tick_or_run.Tick u) w x n =
       made = ap (nat_lt t) (length-set w.ticks u x);
       over = refl;
     }
-seated-other (tick_or_run.Tick t) (tick_or_run.Run q) w x n = record { place = refl; lives = refl; made = refl; over = refl }
-seated-other (tick_or_run.Run r) (tick_or_run.Tick u) w x n = record { place = refl; lives = refl; made = refl; over = refl }
-seated-other (tick_or_run.Run r) (tick_or_run.Run q) w x n =
+seated-other (TickOrRun.Tick t) (TickOrRun.Run q) w x n = record { place = refl; lives = refl; made = refl; over = refl }
+seated-other (TickOrRun.Run r) (TickOrRun.Tick u) w x n = record { place = refl; lives = refl; made = refl; over = refl }
+seated-other (TickOrRun.Run r) (TickOrRun.Run q) w x n =
     let y : Run = record (run_of w q) { place = x } in
     let e : get_or (set w.runs q y) r no_run ≡ get_or w.runs r no_run =
     get_or-set_other w.runs q r y no_run (run-other r q n) in record {
@@ -95,18 +93,18 @@ is_run (y ∷ rs) (suc r) h = omega (arith, is_run rs r h)
 
 pub put-place : (who : TickOrRun) (w : World) (x : Ticker) → place_in who w.ticks w.runs ≢ Left →
     place_in who (put_place w who x).ticks (put_place w who x).runs ≡ x
-put-place (tick_or_run.Tick t) w x h = get_or-set_same w.ticks t x Left (is_tick w.ticks t h)
-put-place (tick_or_run.Run r) w x h = ap (λ (z : Run). z.place)
+put-place (TickOrRun.Tick t) w x h = get_or-set_same w.ticks t x Left (is_tick w.ticks t h)
+put-place (TickOrRun.Run r) w x h = ap (λ (z : Run). z.place)
     (get_or-set_same w.runs r (record (run_of w r) { place = x }) no_run (is_run w.runs r h))
 
 pub put-made : (who : TickOrRun) (w : World) (x : Ticker) →
     made_in who (put_place w who x).ticks (put_place w who x).runs ≡ made_in who w.ticks w.runs
-put-made (tick_or_run.Tick t) w x = ap (nat_lt t) (length-set w.ticks t x)
-put-made (tick_or_run.Run r) w x = ap (nat_lt r) (length-set w.runs r _)
+put-made (TickOrRun.Tick t) w x = ap (nat_lt t) (length-set w.ticks t x)
+put-made (TickOrRun.Run r) w x = ap (nat_lt r) (length-set w.runs r _)
 
 pub put-over : (who : TickOrRun) (w : World) (x : Ticker) → over_in who (put_place w who x).runs ≡ over_in who w.runs
-put-over (tick_or_run.Tick t) w x = refl
-put-over (tick_or_run.Run r) w x = field-set (λ (z : Run). is_over_stage z.stage) w.runs r _ refl r
+put-over (TickOrRun.Tick t) w x = refl
+put-over (TickOrRun.Run r) w x = field-set (λ (z : Run). is_over_stage z.stage) w.runs r _ refl r
 
 lives-there : (x : Ticker) → x ≢ Left → lives x ≡ true
 lives-there Awake h = refl
@@ -115,9 +113,9 @@ lives-there Left h = absurd (h refl)
 
 pub put-lives : (who : TickOrRun) (w : World) (x : Ticker) → x ≢ Left → place_in who w.ticks w.runs ≢ Left →
     lives_in who (put_place w who x).ticks (put_place w who x).runs ≡ lives_in who w.ticks w.runs
-put-lives (tick_or_run.Tick t) w x n h =
+put-lives (TickOrRun.Tick t) w x n h =
     ap lives (get_or-set_same w.ticks t x Left (is_tick w.ticks t h)) ∙ (lives-there x n ∙ sym (lives-there _ h))
-put-lives (tick_or_run.Run r) w x n h = ap (λ (d : Bool). not d) (field-set (λ (z : Run). z.dropped) w.runs r _ refl r)
+put-lives (TickOrRun.Run r) w x n h = ap (λ (d : Bool). not d) (field-set (λ (z : Run). z.dropped) w.runs r _ refl r)
 
 pub up-apart : (x : Ticker) → x ≡ Awake → x ≢ Left
 up-apart x e q = let no : Awake ≡ Left = sym e ∙ q in absurd (cc)

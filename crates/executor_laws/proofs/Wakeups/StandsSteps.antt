@@ -1,28 +1,20 @@
 -- For some_standing_is_called.
 -- What holds of each tick and run together, and what a step of a party leaves of it.
-use Rattle.std.proofs.Common.{◌≡◌, ◌≢◌, ◌∙◌, ℕ, suc, ◌+◌, ◌<◌, List, [], ◌∷◌, ◌++◌, length, get_or, set, Bool, true}
-use Rattle.std.proofs.Common.{false, cond, sym, ap, subst, arith}
+use Rattle.std.proofs.Common.{◌≡◌, ◌≢◌, ◌∙◌, ℕ, suc, ◌+◌, ◌<◌, List, [], ◌∷◌, ◌++◌, length, get_or, set, Bool, true, false}
+use Rattle.std.proofs.Common.{cond, sym, ap, subst, arith}
 use Rattle.std.specs.Prelude.{reverse}
-use Rattle.executor_model.specs.declared.op.Op.{Op}
-use Rattle.executor_model.specs.declared.op.TickOrRun.{TickOrRun}
-use Rattle.executor_model.specs.World.{Done}
-use Rattle.executor_model.specs.Steps.{Machine, stack}
-use Rattle.executor_model.specs.Weights.{same, weigh}
-use Rattle.executor_model.proofs.Quiet.Calls.{calling_of, Passes, Answering}
-use Rattle.executor_model.proofs.Steps.Lists.{same_is, weigh-reverse}
-use Rattle.executor_model.proofs.Quiet.Resting.{counts-answering}
-use Rattle.executor_model.proofs.Sleepers.SleepersFollowingExecutions.{Followed, agrees}
-use Rattle.executor_model.proofs.OwnQueues.UsingSteps.{AllUsed}
+use Rattle.executor_model.specs.{World.Done, Steps.Machine, Steps.stack, Weights.same, Weights.weigh}
 use Rattle.executor_model.proofs.Awaiters.Holding.{nowhere, seen, seen-light, seen-passes, Spotted, Open, Holds, held-step}
-use Rattle.executor_model.proofs.Awaiters.Holding.{held-asks}
-use Rattle.executor_laws.proofs.Wakeups.Sitting.{placed-in}
+use Rattle.executor_model.proofs.Quiet.Calls.{calling_of, Passes, Answering}
+use Rattle.executor_model.proofs.Sleepers.SleepersFollowingExecutions.{Followed, agrees}
+use Rattle.executor_model.proofs.Steps.Lists.{same_is, weigh-reverse}
+use Rattle.executor_model.proofs.{Awaiters.Holding.held-asks, Quiet.Resting.counts-answering, OwnQueues.UsingSteps.AllUsed}
 use Rattle.executor_laws.proofs.Wakeups.Stands.{View, view, Doing, with_doing, doing, Footing, Stands, Mark, asks_of}
-use Rattle.executor_laws.proofs.Wakeups.StandsEnds.{marked}
-use Rattle.executor_laws.proofs.Wakeups.StandsPolls.{begun_in}
 use Rattle.executor_laws.proofs.Wakeups.StandsTied.{IsTied, Tied, tied-all, tied-push, tied-rest, tied-set}
 use Rattle.executor_laws.proofs.Wakeups.StandsWeights.{footing, asks-weighs, asks-calling, split-doing, push-doing}
-use Rattle.executor_laws.proofs.Wakeups.StandsWorlds.{HasSlept}
 use Rattle.executor_laws.proofs.Wakeups.Watched.{Watched, watched}
+use Rattle.executor_laws.proofs.{Types.Op, Types.TickOrRun, Wakeups.Sitting.placed-in, Wakeups.StandsEnds.marked}
+use Rattle.executor_laws.proofs.{Wakeups.StandsPolls.begun_in, Wakeups.StandsWorlds.HasSlept}
 
 abbrev pub open_of : Watched → Open
 open_of s = record { asking = s.asking; party = s.party; inner = s.inner }

@@ -1,63 +1,57 @@
 -- For some_standing_is_called.
 -- What is seen of a tick or run and of its last poll is what the definitions over the trace say.
-use Rattle.std.proofs.Common.{◌≡◌, ◌⊎◌, ◌∙◌, ℕ, zero, suc, ◌+◌, [], ◌∷◌, drop, Bool, true, false, ◌&&◌, ◌||◌, cond, eqb}
-use Rattle.std.proofs.Common.{refl, sym, ap, subst, inl, inr, ⊎_elim, arith}
-use Rattle.std.proofs.Math.Bool.{or_assoc}
-use Rattle.std.specs.Prelude.{Some, slice_get}
-use Rattle.executor_model.specs.declared.call.Reply.{Reply}
-use Rattle.executor_model.specs.declared.event.Event.{Event}
-use Rattle.executor_model.specs.declared.event.Event.TheVariants as event
-use Rattle.executor_model.specs.declared.op.Polled.TheVariants as of
+use Rattle.std.proofs.Common.{◌≡◌, ◌⊎◌, ◌∙◌, ℕ, zero, suc, ◌+◌, [], ◌∷◌, drop, Bool, true, false, ◌&&◌, ◌||◌, cond, eqb, refl}
+use Rattle.std.proofs.Common.{sym, ap, subst, inl, inr, ⊎_elim, arith}
+use Rattle.std.{proofs.Math.Bool.or_assoc, specs.Prelude.Some, specs.Prelude.slice_get}
+use Rattle.executor_laws.proofs.Types.{Reply, Event, Polled, TickOrRun}
 use Rattle.executor_model.specs.Trace.{Trace, has}
-use Rattle.executor_model.specs.declared.op.TickOrRun.{TickOrRun}
-use Rattle.executor_model.specs.declared.op.TickOrRun.TheVariants as tick_or_run
 use Rattle.executor_model.specs.Standing.{calls_poll, drops_sleeper, poll_of, polls_sleeper}
-use Rattle.executor_laws.proofs.Wakeups.Sitting.{eq-is, eq-self, eq_who}
 use Rattle.executor_laws.proofs.Wakeups.Watched.{Watched, called_at, unwatched, is_pending, is_refusal, parted, poll_begun}
 use Rattle.executor_laws.proofs.Wakeups.Watched.{ended_in, watches, watched_from, watched}
+use Rattle.executor_laws.proofs.Wakeups.Sitting.{eq-is, eq-self, eq_who}
 
 -- the same events, by what they are first
 
 abbrev pub polls_it : TickOrRun → Event → Bool
-polls_it who (event.TickPolled p u) = eq_who who (tick_or_run.Tick u)
-polls_it who (event.RunPolled p q) = eq_who who (tick_or_run.Run q)
+polls_it who (Event.TickPolled p u) = eq_who who (TickOrRun.Tick u)
+polls_it who (Event.RunPolled p q) = eq_who who (TickOrRun.Run q)
 polls_it who _ = false
 
 abbrev pub drops_it : TickOrRun → Event → Bool
-drops_it who (event.TickDropped p u) = eq_who who (tick_or_run.Tick u)
-drops_it who (event.RunDropped p q) = eq_who who (tick_or_run.Run q)
+drops_it who (Event.TickDropped p u) = eq_who who (TickOrRun.Tick u)
+drops_it who (Event.RunDropped p q) = eq_who who (TickOrRun.Run q)
 drops_it who _ = false
 
 abbrev pub calls_it : TickOrRun → ℕ → Event → Bool
-calls_it who k (event.WakerCalled p (of.Tick u) n a) = eq_who who (tick_or_run.Tick u) && eqb k n
-calls_it who k (event.WakerCalled p (of.Run q) n a) = eq_who who (tick_or_run.Run q) && eqb k n
+calls_it who k (Event.WakerCalled p (Polled.Tick u) n a) = eq_who who (TickOrRun.Tick u) && eqb k n
+calls_it who k (Event.WakerCalled p (Polled.Run q) n a) = eq_who who (TickOrRun.Run q) && eqb k n
 calls_it who k _ = false
 
 polls-one : (who : TickOrRun) (e : Event) → polls_sleeper who e ≡ polls_it who e
-polls-one (tick_or_run.Tick t) (event.TickPolled p u) = refl
-polls-one (tick_or_run.Tick t) (event.RunPolled p q) = refl
-polls-one (tick_or_run.Run r) (event.TickPolled p u) = refl
-polls-one (tick_or_run.Run r) (event.RunPolled p q) = refl
-polls-one (tick_or_run.Tick t) _ = refl
-polls-one (tick_or_run.Run r) _ = refl
+polls-one (TickOrRun.Tick t) (Event.TickPolled p u) = refl
+polls-one (TickOrRun.Tick t) (Event.RunPolled p q) = refl
+polls-one (TickOrRun.Run r) (Event.TickPolled p u) = refl
+polls-one (TickOrRun.Run r) (Event.RunPolled p q) = refl
+polls-one (TickOrRun.Tick t) _ = refl
+polls-one (TickOrRun.Run r) _ = refl
 
 drops-one : (who : TickOrRun) (e : Event) → drops_sleeper who e ≡ drops_it who e
-drops-one (tick_or_run.Tick t) (event.TickDropped p u) = refl
-drops-one (tick_or_run.Tick t) (event.RunDropped p q) = refl
-drops-one (tick_or_run.Run r) (event.TickDropped p u) = refl
-drops-one (tick_or_run.Run r) (event.RunDropped p q) = refl
-drops-one (tick_or_run.Tick t) _ = refl
-drops-one (tick_or_run.Run r) _ = refl
+drops-one (TickOrRun.Tick t) (Event.TickDropped p u) = refl
+drops-one (TickOrRun.Tick t) (Event.RunDropped p q) = refl
+drops-one (TickOrRun.Run r) (Event.TickDropped p u) = refl
+drops-one (TickOrRun.Run r) (Event.RunDropped p q) = refl
+drops-one (TickOrRun.Tick t) _ = refl
+drops-one (TickOrRun.Run r) _ = refl
 
 calls-one : (who : TickOrRun) (k : ℕ) (e : Event) → calls_poll who k e ≡ calls_it who k e
-calls-one (tick_or_run.Tick t) k (event.WakerCalled p (of.Tick u) n a) = refl
-calls-one (tick_or_run.Tick t) k (event.WakerCalled p (of.Run q) n a) = refl
-calls-one (tick_or_run.Tick t) k (event.WakerCalled p (of.Handle f) n a) = refl
-calls-one (tick_or_run.Run r) k (event.WakerCalled p (of.Tick u) n a) = refl
-calls-one (tick_or_run.Run r) k (event.WakerCalled p (of.Run q) n a) = refl
-calls-one (tick_or_run.Run r) k (event.WakerCalled p (of.Handle f) n a) = refl
-calls-one (tick_or_run.Tick t) k _ = refl
-calls-one (tick_or_run.Run r) k _ = refl
+calls-one (TickOrRun.Tick t) k (Event.WakerCalled p (Polled.Tick u) n a) = refl
+calls-one (TickOrRun.Tick t) k (Event.WakerCalled p (Polled.Run q) n a) = refl
+calls-one (TickOrRun.Tick t) k (Event.WakerCalled p (Polled.Handle f) n a) = refl
+calls-one (TickOrRun.Run r) k (Event.WakerCalled p (Polled.Tick u) n a) = refl
+calls-one (TickOrRun.Run r) k (Event.WakerCalled p (Polled.Run q) n a) = refl
+calls-one (TickOrRun.Run r) k (Event.WakerCalled p (Polled.Handle f) n a) = refl
+calls-one (TickOrRun.Tick t) k _ = refl
+calls-one (TickOrRun.Run r) k _ = refl
 
 has-same : (a b : Event → Bool) → ((e : Event) → a e ≡ b e) → (es : Trace) → has a es ≡ has b es
 has-same a b k [] = refl
@@ -115,14 +109,14 @@ called-left true k s = refl
 called-left false k s = refl
 
 left-one : (t : TickOrRun) (n : ℕ) (e : Event) (s : Watched) → (watches t n e s).left ≡ (s.left || drops_it t e)
-left-one t n (event.TickPolled p u) s = left-polled (eq_who t (tick_or_run.Tick u)) n p s ∙ or-false s.left
-left-one t n (event.RunPolled p q) s = left-polled (eq_who t (tick_or_run.Run q)) n p s ∙ or-false s.left
-left-one t n (event.TickDropped p u) s = left-dropped (eq_who t (tick_or_run.Tick u)) s
-left-one t n (event.RunDropped p q) s = left-dropped (eq_who t (tick_or_run.Run q)) s
-left-one t n (event.CallEnded p r) s = ended-same (λ (x : Watched). x.left) (λ r s. refl) (λ n s. refl) _ s.inner r s
+left-one t n (Event.TickPolled p u) s = left-polled (eq_who t (TickOrRun.Tick u)) n p s ∙ or-false s.left
+left-one t n (Event.RunPolled p q) s = left-polled (eq_who t (TickOrRun.Run q)) n p s ∙ or-false s.left
+left-one t n (Event.TickDropped p u) s = left-dropped (eq_who t (TickOrRun.Tick u)) s
+left-one t n (Event.RunDropped p q) s = left-dropped (eq_who t (TickOrRun.Run q)) s
+left-one t n (Event.CallEnded p r) s = ended-same (λ (x : Watched). x.left) (λ r s. refl) (λ n s. refl) _ s.inner r s
     ∙ or-false s.left
-left-one t n (event.WakerCalled p (of.Tick u) k a) s = called-left (eq_who t (tick_or_run.Tick u)) k s ∙ or-false s.left
-left-one t n (event.WakerCalled p (of.Run q) k a) s = called-left (eq_who t (tick_or_run.Run q)) k s ∙ or-false s.left
+left-one t n (Event.WakerCalled p (Polled.Tick u) k a) s = called-left (eq_who t (TickOrRun.Tick u)) k s ∙ or-false s.left
+left-one t n (Event.WakerCalled p (Polled.Run q) k a) s = called-left (eq_who t (TickOrRun.Run q)) k s ∙ or-false s.left
 left-one t n _ s = or-false s.left
 
 left-from : (t : TickOrRun) (n : ℕ) (s : Watched) (es : Trace) →
@@ -145,8 +139,8 @@ pub record LastPoll (t : TickOrRun) (es : Trace) : Type 0 where
   pub last : has (polls_it t) (drop (suc poll) es) ≡ false
 
 poll-is : (t : TickOrRun) (e : Event) → polls_it t e ≡ true → (p : ℕ) × (e ≡ poll_of t p)
-poll-is t (event.TickPolled p u) k = (p, ap (λ (w : TickOrRun). poll_of w p) (sym (eq-is t (tick_or_run.Tick u) k)))
-poll-is t (event.RunPolled p q) k = (p, ap (λ (w : TickOrRun). poll_of w p) (sym (eq-is t (tick_or_run.Run q) k)))
+poll-is t (Event.TickPolled p u) k = (p, ap (λ (w : TickOrRun). poll_of w p) (sym (eq-is t (TickOrRun.Tick u) k)))
+poll-is t (Event.RunPolled p q) k = (p, ap (λ (w : TickOrRun). poll_of w p) (sym (eq-is t (TickOrRun.Run q) k)))
 poll-is t _ k = absurd (cc)
 
 pub last-poll : (t : TickOrRun) (es : Trace) → (has (polls_it t) es ≡ false) ⊎ LastPoll t es
@@ -173,8 +167,8 @@ not-dropped true s e = absurd (cc)
 -- what is seen where it begins
 
 watches-own : (t : TickOrRun) (n p : ℕ) (s : Watched) → watches t n (poll_of t p) s ≡ poll_begun n p s
-watches-own (tick_or_run.Tick t) n p s = ap (λ (b : Bool). cond b (poll_begun n p s) s) (eq-self (tick_or_run.Tick t))
-watches-own (tick_or_run.Run r) n p s = ap (λ (b : Bool). cond b (poll_begun n p s) s) (eq-self (tick_or_run.Run r))
+watches-own (TickOrRun.Tick t) n p s = ap (λ (b : Bool). cond b (poll_begun n p s) s) (eq-self (TickOrRun.Tick t))
+watches-own (TickOrRun.Run r) n p s = ap (λ (b : Bool). cond b (poll_begun n p s) s) (eq-self (TickOrRun.Run r))
 
 pub record Begun (t : TickOrRun) (poll party : ℕ) (es : Trace) : Type 0 where
   pub before : Watched
@@ -225,14 +219,14 @@ unasked-called false k s h = h
 
 unasked-one : (t : TickOrRun) (n : ℕ) (e : Event) (s : Watched) → polls_it t e ≡ false → IsUnasked s →
     IsUnasked (watches t n e s)
-unasked-one t n (event.TickPolled p u) s k h = subst IsUnasked (sym (not-polled (eq_who t (tick_or_run.Tick u)) n p s k)) h
-unasked-one t n (event.RunPolled p q) s k h = subst IsUnasked (sym (not-polled (eq_who t (tick_or_run.Run q)) n p s k)) h
-unasked-one t n (event.TickDropped p u) s k h = unasked-dropped (eq_who t (tick_or_run.Tick u)) s h
-unasked-one t n (event.RunDropped p q) s k h = unasked-dropped (eq_who t (tick_or_run.Run q)) s h
-unasked-one t n (event.CallEnded p r) s k h =
+unasked-one t n (Event.TickPolled p u) s k h = subst IsUnasked (sym (not-polled (eq_who t (TickOrRun.Tick u)) n p s k)) h
+unasked-one t n (Event.RunPolled p q) s k h = subst IsUnasked (sym (not-polled (eq_who t (TickOrRun.Run q)) n p s k)) h
+unasked-one t n (Event.TickDropped p u) s k h = unasked-dropped (eq_who t (TickOrRun.Tick u)) s h
+unasked-one t n (Event.RunDropped p q) s k h = unasked-dropped (eq_who t (TickOrRun.Run q)) s h
+unasked-one t n (Event.CallEnded p r) s k h =
     subst (λ (a : Bool). IsUnasked (cond (a && eqb s.party p) (ended_in s.inner r s) s)) (sym h.0) h
-unasked-one t n (event.WakerCalled p (of.Tick u) x a) s k h = unasked-called (eq_who t (tick_or_run.Tick u)) x s h
-unasked-one t n (event.WakerCalled p (of.Run q) x a) s k h = unasked-called (eq_who t (tick_or_run.Run q)) x s h
+unasked-one t n (Event.WakerCalled p (Polled.Tick u) x a) s k h = unasked-called (eq_who t (TickOrRun.Tick u)) x s h
+unasked-one t n (Event.WakerCalled p (Polled.Run q) x a) s k h = unasked-called (eq_who t (TickOrRun.Run q)) x s h
 unasked-one t n _ s k h = h
 
 unasked-from : (t : TickOrRun) (n : ℕ) (s : Watched) (es : Trace) → has (polls_it t) es ≡ false → IsUnasked s →
@@ -278,32 +272,32 @@ poll-dropped true s = refl
 poll-dropped false s = refl
 
 poll-one : (t : TickOrRun) (n : ℕ) (e : Event) (s : Watched) → polls_it t e ≡ false → (watches t n e s).poll ≡ s.poll
-poll-one t n (event.TickPolled p u) s h = ap (λ (x : Watched). x.poll) (not-polled (eq_who t (tick_or_run.Tick u)) n p s h)
-poll-one t n (event.RunPolled p q) s h = ap (λ (x : Watched). x.poll) (not-polled (eq_who t (tick_or_run.Run q)) n p s h)
-poll-one t n (event.TickDropped p u) s h = poll-dropped (eq_who t (tick_or_run.Tick u)) s
-poll-one t n (event.RunDropped p q) s h = poll-dropped (eq_who t (tick_or_run.Run q)) s
-poll-one t n (event.CallEnded p r) s h = ended-same (λ (x : Watched). x.poll) (λ r s. refl) (λ n s. refl) _ s.inner r s
-poll-one t n (event.WakerCalled p (of.Tick u) k a) s h = called-poll (eq_who t (tick_or_run.Tick u)) k s
-poll-one t n (event.WakerCalled p (of.Run q) k a) s h = called-poll (eq_who t (tick_or_run.Run q)) k s
+poll-one t n (Event.TickPolled p u) s h = ap (λ (x : Watched). x.poll) (not-polled (eq_who t (TickOrRun.Tick u)) n p s h)
+poll-one t n (Event.RunPolled p q) s h = ap (λ (x : Watched). x.poll) (not-polled (eq_who t (TickOrRun.Run q)) n p s h)
+poll-one t n (Event.TickDropped p u) s h = poll-dropped (eq_who t (TickOrRun.Tick u)) s
+poll-one t n (Event.RunDropped p q) s h = poll-dropped (eq_who t (TickOrRun.Run q)) s
+poll-one t n (Event.CallEnded p r) s h = ended-same (λ (x : Watched). x.poll) (λ r s. refl) (λ n s. refl) _ s.inner r s
+poll-one t n (Event.WakerCalled p (Polled.Tick u) k a) s h = called-poll (eq_who t (TickOrRun.Tick u)) k s
+poll-one t n (Event.WakerCalled p (Polled.Run q) k a) s h = called-poll (eq_who t (TickOrRun.Run q)) k s
 poll-one t n _ s h = refl
 
 called-one : (t : TickOrRun) (n : ℕ) (e : Event) (s : Watched) → polls_it t e ≡ false →
     (watches t n e s).called ≡ (s.called || calls_it t s.poll e)
-called-one t n (event.TickPolled p u) s h =
-    ap (λ (x : Watched). x.called) (not-polled (eq_who t (tick_or_run.Tick u)) n p s h)
+called-one t n (Event.TickPolled p u) s h =
+    ap (λ (x : Watched). x.called) (not-polled (eq_who t (TickOrRun.Tick u)) n p s h)
     ∙ or-false s.called
-called-one t n (event.RunPolled p q) s h =
-    ap (λ (x : Watched). x.called) (not-polled (eq_who t (tick_or_run.Run q)) n p s h)
+called-one t n (Event.RunPolled p q) s h =
+    ap (λ (x : Watched). x.called) (not-polled (eq_who t (TickOrRun.Run q)) n p s h)
     ∙ or-false s.called
-called-one t n (event.TickDropped p u) s h = called-dropped (eq_who t (tick_or_run.Tick u)) s ∙ or-false s.called
-called-one t n (event.RunDropped p q) s h = called-dropped (eq_who t (tick_or_run.Run q)) s ∙ or-false s.called
-called-one t n (event.CallEnded p r) s h = ended-same (λ (x : Watched). x.called) (λ r s. refl) (λ n s. refl) _ s.inner
+called-one t n (Event.TickDropped p u) s h = called-dropped (eq_who t (TickOrRun.Tick u)) s ∙ or-false s.called
+called-one t n (Event.RunDropped p q) s h = called-dropped (eq_who t (TickOrRun.Run q)) s ∙ or-false s.called
+called-one t n (Event.CallEnded p r) s h = ended-same (λ (x : Watched). x.called) (λ r s. refl) (λ n s. refl) _ s.inner
     r s
     ∙ or-false s.called
-called-one t n (event.WakerCalled p (of.Tick u) k a) s h = called-by (eq_who t (tick_or_run.Tick u)) k s
-    ∙ or-conds (eq_who t (tick_or_run.Tick u)) (eqb s.poll k) s.called
-called-one t n (event.WakerCalled p (of.Run q) k a) s h = called-by (eq_who t (tick_or_run.Run q)) k s
-    ∙ or-conds (eq_who t (tick_or_run.Run q)) (eqb s.poll k) s.called
+called-one t n (Event.WakerCalled p (Polled.Tick u) k a) s h = called-by (eq_who t (TickOrRun.Tick u)) k s
+    ∙ or-conds (eq_who t (TickOrRun.Tick u)) (eqb s.poll k) s.called
+called-one t n (Event.WakerCalled p (Polled.Run q) k a) s h = called-by (eq_who t (TickOrRun.Run q)) k s
+    ∙ or-conds (eq_who t (TickOrRun.Run q)) (eqb s.poll k) s.called
 called-one t n _ s h = or-false s.called
 
 pub poll-from : (t : TickOrRun) (n : ℕ) (s : Watched) (es : Trace) → has (polls_it t) es ≡ false →

@@ -1,16 +1,13 @@
 -- For some_standing_is_called.
 -- Who wakes up or leaves is in use: among what is to do, in order, each waking up and each leaving stands before
 -- what uses the tick or run.
-use Rattle.std.proofs.Common.{◌≡◌, ◌≢◌, ◌∙◌, ℕ, zero, suc, ◌+◌, ◌<◌, ◌≤◌, List, [], ◌∷◌, ◌++◌, length, get_or, set}
-use Rattle.std.proofs.Common.{Bool, true, false, eqb, refl, sym, ap, subst, arith, get_or-set_same, get_or-set_other}
-use Rattle.std.proofs.lemmas.Bool.Decides.{nat_tests}
+use Rattle.std.proofs.Common.{◌≡◌, ◌≢◌, ◌∙◌, ℕ, zero, suc, ◌+◌, ◌<◌, ◌≤◌, List, [], ◌∷◌, ◌++◌, length, get_or, set, Bool, true}
+use Rattle.std.proofs.Common.{false, eqb, refl, sym, ap, subst, arith, get_or-set_same, get_or-set_other}
 use Rattle.std.proofs.lemmas.List.{reverse-append, reverse-reverse}
-use Rattle.std.specs.Prelude.{reverse}
-use Rattle.executor_model.specs.declared.op.Op.{Op}
-use Rattle.executor_model.specs.declared.op.TickOrRun.{TickOrRun}
+use Rattle.std.{proofs.lemmas.Bool.Decides.nat_tests, specs.Prelude.reverse}
 use Rattle.executor_model.specs.Weights.{weigh, weigh_all}
 use Rattle.executor_model.proofs.Steps.Lists.{weigh-append, weigh-reverse}
-use Rattle.executor_laws.proofs.Wakeups.Stands.{waking_up_of, used_of}
+use Rattle.executor_laws.proofs.{Types.Op, Types.TickOrRun, Wakeups.Stands.waking_up_of, Wakeups.Stands.used_of}
 
 abbrev Ties : TickOrRun → List Op → Type 0
 Ties t [] = Unit {0}

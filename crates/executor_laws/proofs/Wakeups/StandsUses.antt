@@ -1,98 +1,76 @@
 -- For some_standing_is_called.
 -- A tick or run that a call may use lives, and nothing uses it; and none lives where the executor may be dropped.
-use Rattle.std.proofs.Common.{◌≡◌, ◌∙◌, ℕ, zero, suc, ◌<◌, List, [], ◌∷◌, length, get_or, Bool, true, false, ◌&&◌, ◌||◌}
-use Rattle.std.proofs.Common.{refl, sym, ap, subst, arith}
-use Rattle.std.proofs.lemmas.Bool.Decides.{nat_tests}
-use Rattle.std.specs.List.{list_any}
-use Rattle.std.specs.Prelude.{not, nat_lt}
-use Rattle.task_moves.specs.declared.moves.owed.Move.TheVariants as move
-use Rattle.executor_model.specs.declared.op.ClosingOp.TheVariants as closing_op
-use Rattle.executor_model.specs.declared.op.HandleOp.TheVariants as handle_op
-use Rattle.executor_model.specs.declared.op.Hold.{Hold}
-use Rattle.executor_model.specs.declared.op.Hold.TheVariants as hold
-use Rattle.executor_model.specs.declared.op.ListOp.TheVariants as list_op
-use Rattle.executor_model.specs.declared.op.Op.{Op}
-use Rattle.executor_model.specs.declared.op.Op.TheVariants as op
-use Rattle.executor_model.specs.declared.op.QueueOp.TheVariants as queue_op
-use Rattle.executor_model.specs.declared.op.RunOp.TheVariants as run_op
-use Rattle.executor_model.specs.declared.op.Section.TheVariants as section
-use Rattle.executor_model.specs.declared.op.TickOrRun.{TickOrRun}
-use Rattle.executor_model.specs.declared.op.TickOrRun.TheVariants as tick_or_run
-use Rattle.executor_model.specs.declared.op.SleeperOp.TheVariants as sleeper_op
-use Rattle.executor_model.specs.declared.op.StealOp.TheVariants as steal_op
-use Rattle.executor_model.specs.declared.op.TableOp.TheVariants as table_op
-use Rattle.executor_model.specs.declared.op.TickOp.TheVariants as tick_op
-use Rattle.executor_model.specs.declared.op.UserOp.TheVariants as user_op
-use Rattle.executor_model.specs.declared.op.WakerOp.TheVariants as waker_op
-use Rattle.executor_model.specs.Rows.{running_of, ticking_of}
+use Rattle.std.proofs.Common.{◌≡◌, ◌∙◌, ℕ, zero, suc, ◌<◌, List, [], ◌∷◌, length, get_or, Bool, true, false, ◌&&◌, ◌||◌, refl}
+use Rattle.std.proofs.Common.{sym, ap, subst, arith}
+use Rattle.std.{proofs.lemmas.Bool.Decides.nat_tests, specs.List.list_any, specs.Prelude.not, specs.Prelude.nat_lt}
+use Rattle.executor_laws.proofs.Types.{Move, ClosingOp, HandleOp, Hold, ListOp, Op, QueueOp, RunOp, Section, TickOrRun}
+use Rattle.executor_laws.proofs.Types.{SleeperOp, StealOp, TableOp, TickOp, UserOp, WakerOp}
 use Rattle.executor_model.specs.Steps.{Machine, has_run, has_tick, is_there, lives}
 use Rattle.executor_model.specs.Weights.{is_run, is_tick as is_the_tick, holds_run, holds_tick, weigh, weigh_all}
-use Rattle.executor_model.specs.World.{Ticker, Left, Run, no_run}
-use Rattle.executor_model.proofs.Steps.Lift.{first-true, unborrowed}
-use Rattle.executor_model.proofs.Sleepers.TickLists.{is_tick}
-use Rattle.executor_laws.proofs.Wakeups.Sitting.{holds_it, is_it}
-use Rattle.executor_laws.proofs.Wakeups.Stands.{used_of, view}
+use Rattle.executor_model.specs.{Rows.running_of, Rows.ticking_of, World.Ticker, World.Left, World.Run, World.no_run}
+use Rattle.executor_model.proofs.{Steps.Lift.first-true, Steps.Lift.unborrowed, Sleepers.TickLists.is_tick}
+use Rattle.executor_laws.proofs.{Wakeups.Sitting.holds_it, Wakeups.Sitting.is_it, Wakeups.Stands.used_of, Wakeups.Stands.view}
 
 -- what uses it is what is counted
 
-who-tick : (t : ℕ) (u : TickOrRun) → is_it (tick_or_run.Tick t) u ≡ is_the_tick t u
-who-tick t (tick_or_run.Tick u) = refl
-who-tick t (tick_or_run.Run q) = refl
+who-tick : (t : ℕ) (u : TickOrRun) → is_it (TickOrRun.Tick t) u ≡ is_the_tick t u
+who-tick t (TickOrRun.Tick u) = refl
+who-tick t (TickOrRun.Run q) = refl
 
-who-run : (r : ℕ) (u : TickOrRun) → is_it (tick_or_run.Run r) u ≡ is_run r u
-who-run r (tick_or_run.Tick u) = refl
-who-run r (tick_or_run.Run q) = refl
+who-run : (r : ℕ) (u : TickOrRun) → is_it (TickOrRun.Run r) u ≡ is_run r u
+who-run r (TickOrRun.Tick u) = refl
+who-run r (TickOrRun.Run q) = refl
 
-held-tick : (t : ℕ) (h : Hold) → holds_it (tick_or_run.Tick t) h ≡ holds_tick t h
-held-tick t (hold.Tick u) = refl
-held-tick t (hold.Run q) = refl
+held-tick : (t : ℕ) (h : Hold) → holds_it (TickOrRun.Tick t) h ≡ holds_tick t h
+held-tick t (Hold.Tick u) = refl
+held-tick t (Hold.Run q) = refl
 held-tick t _ = refl
 
-held-run : (r : ℕ) (h : Hold) → holds_it (tick_or_run.Run r) h ≡ holds_run r h
-held-run r (hold.Tick u) = refl
-held-run r (hold.Run q) = refl
+held-run : (r : ℕ) (h : Hold) → holds_it (TickOrRun.Run r) h ≡ holds_run r h
+held-run r (Hold.Tick u) = refl
+held-run r (Hold.Run q) = refl
 held-run r _ = refl
 
-one-tick : (t : ℕ) (o : Op) → used_of (tick_or_run.Tick t) o ≡ ticking_of t o
-one-tick t (op.Move move.Wake f) = refl
-one-tick t (op.Table (table_op.Enter mark)) = refl
-one-tick t (op.Queue queue_op.TakeTurn) = refl
-one-tick t (op.Queue (queue_op.Take look)) = refl
-one-tick t (op.User (user_op.PollOwn x)) = refl
-one-tick t (op.Waker (waker_op.CopyWaker f held)) = refl
-one-tick t (op.Handle (handle_op.LookAgain f)) = refl
-one-tick t (op.Sleeper sleeper_op.HandOut) = refl
-one-tick t (op.Tick (tick_op.Search s)) = who-tick t s.who
-one-tick t (op.Tick (tick_op.Look s look)) = who-tick t s.who
-one-tick t (op.Tick (tick_op.CopyWaker s)) = who-tick t s.who
-one-tick t (op.Tick (tick_op.FallAsleep s)) = who-tick t s.who
-one-tick t (op.List (list_op.LockWrite section.MakeRun)) = refl
-one-tick t (op.List (list_op.Write section.MakeRun)) = refl
-one-tick t (op.Steal (steal_op.Length s)) = refl
-one-tick t (op.Run run_op.MakeRoom) = refl
-one-tick t (op.Closing (closing_op.Drain mark)) = refl
-one-tick t (op.End r held) = held-tick t held
+one-tick : (t : ℕ) (o : Op) → used_of (TickOrRun.Tick t) o ≡ ticking_of t o
+one-tick t (Op.Move Move.Wake f) = refl
+one-tick t (Op.Table (TableOp.Enter mark)) = refl
+one-tick t (Op.Queue QueueOp.TakeTurn) = refl
+one-tick t (Op.Queue (QueueOp.Take look)) = refl
+one-tick t (Op.User (UserOp.PollOwn x)) = refl
+one-tick t (Op.Waker (WakerOp.CopyWaker f held)) = refl
+one-tick t (Op.Handle (HandleOp.LookAgain f)) = refl
+one-tick t (Op.Sleeper SleeperOp.HandOut) = refl
+one-tick t (Op.Tick (TickOp.Search s)) = who-tick t s.who
+one-tick t (Op.Tick (TickOp.Look s look)) = who-tick t s.who
+one-tick t (Op.Tick (TickOp.CopyWaker s)) = who-tick t s.who
+one-tick t (Op.Tick (TickOp.FallAsleep s)) = who-tick t s.who
+one-tick t (Op.List (ListOp.LockWrite Section.MakeRun)) = refl
+one-tick t (Op.List (ListOp.Write Section.MakeRun)) = refl
+one-tick t (Op.Steal (StealOp.Length s)) = refl
+one-tick t (Op.Run RunOp.MakeRoom) = refl
+one-tick t (Op.Closing (ClosingOp.Drain mark)) = refl
+one-tick t (Op.End r held) = held-tick t held
 one-tick t _ = refl
 
-one-run : (r : ℕ) (o : Op) → used_of (tick_or_run.Run r) o ≡ running_of r o
-one-run r (op.Move move.Wake f) = refl
-one-run r (op.Table (table_op.Enter mark)) = refl
-one-run r (op.Queue queue_op.TakeTurn) = refl
-one-run r (op.Queue (queue_op.Take look)) = refl
-one-run r (op.User (user_op.PollOwn x)) = refl
-one-run r (op.Waker (waker_op.CopyWaker f held)) = refl
-one-run r (op.Handle (handle_op.LookAgain f)) = refl
-one-run r (op.Sleeper sleeper_op.HandOut) = refl
-one-run r (op.Tick (tick_op.Search s)) = who-run r s.who
-one-run r (op.Tick (tick_op.Look s look)) = who-run r s.who
-one-run r (op.Tick (tick_op.CopyWaker s)) = who-run r s.who
-one-run r (op.Tick (tick_op.FallAsleep s)) = who-run r s.who
-one-run r (op.List (list_op.LockWrite section.MakeRun)) = refl
-one-run r (op.List (list_op.Write section.MakeRun)) = refl
-one-run r (op.Steal (steal_op.Length s)) = refl
-one-run r (op.Run run_op.MakeRoom) = refl
-one-run r (op.Closing (closing_op.Drain mark)) = refl
-one-run r (op.End a held) = held-run r held
+one-run : (r : ℕ) (o : Op) → used_of (TickOrRun.Run r) o ≡ running_of r o
+one-run r (Op.Move Move.Wake f) = refl
+one-run r (Op.Table (TableOp.Enter mark)) = refl
+one-run r (Op.Queue QueueOp.TakeTurn) = refl
+one-run r (Op.Queue (QueueOp.Take look)) = refl
+one-run r (Op.User (UserOp.PollOwn x)) = refl
+one-run r (Op.Waker (WakerOp.CopyWaker f held)) = refl
+one-run r (Op.Handle (HandleOp.LookAgain f)) = refl
+one-run r (Op.Sleeper SleeperOp.HandOut) = refl
+one-run r (Op.Tick (TickOp.Search s)) = who-run r s.who
+one-run r (Op.Tick (TickOp.Look s look)) = who-run r s.who
+one-run r (Op.Tick (TickOp.CopyWaker s)) = who-run r s.who
+one-run r (Op.Tick (TickOp.FallAsleep s)) = who-run r s.who
+one-run r (Op.List (ListOp.LockWrite Section.MakeRun)) = refl
+one-run r (Op.List (ListOp.Write Section.MakeRun)) = refl
+one-run r (Op.Steal (StealOp.Length s)) = refl
+one-run r (Op.Run RunOp.MakeRoom) = refl
+one-run r (Op.Closing (ClosingOp.Drain mark)) = refl
+one-run r (Op.End a held) = held-run r held
 one-run r _ = refl
 
 weigh-same : (v u : Op → ℕ) → ((o : Op) → v o ≡ u o) → (os : List Op) → weigh v os ≡ weigh u os
@@ -125,21 +103,21 @@ run-known rs r e = let i : r < length rs = run-there rs r e in grind (arith, nat
 abbrev Free : Machine → TickOrRun → Type 0
 Free s t = ((view t s.world).living ≡ true) × ((view t s.world).made ≡ true) × (weigh_all (used_of t) s.parties ≡ 0)
 
-pub uses-tick : (s : Machine) (t : TickOrRun) (u : ℕ) → has_tick s.world s.parties u ≡ true → t ≡ tick_or_run.Tick u →
+pub uses-tick : (s : Machine) (t : TickOrRun) (u : ℕ) → has_tick s.world s.parties u ≡ true → t ≡ TickOrRun.Tick u →
     Free s t
 uses-tick s t u k q =
     subst (Free s) (sym q) (
       first-true _ _ k,
       lives-known s.world.ticks u (first-true _ _ k),
-      all-same (used_of (tick_or_run.Tick u)) (ticking_of u) (one-tick u) s.parties ∙ unborrowed _ (and-right _ _ k),
+      all-same (used_of (TickOrRun.Tick u)) (ticking_of u) (one-tick u) s.parties ∙ unborrowed _ (and-right _ _ k),
     )
 
-pub uses-run : (s : Machine) (t : TickOrRun) (r : ℕ) → has_run s.world s.parties r ≡ true → t ≡ tick_or_run.Run r → Free s t
+pub uses-run : (s : Machine) (t : TickOrRun) (r : ℕ) → has_run s.world s.parties r ≡ true → t ≡ TickOrRun.Run r → Free s t
 uses-run s t r k q =
     subst (Free s) (sym q) (
       first-true _ _ k,
       run-known s.world.runs r (first-true _ _ k),
-      all-same (used_of (tick_or_run.Run r)) (running_of r) (one-run r) s.parties ∙ unborrowed _ (and-right _ _ k),
+      all-same (used_of (TickOrRun.Run r)) (running_of r) (one-run r) s.parties ∙ unborrowed _ (and-right _ _ k),
     )
 
 -- none lives
@@ -172,5 +150,5 @@ no-run (x ∷ rs) (suc r) e = no-run rs r (second-false _ _ e)
 pub none-lives : (s : Machine) (t : TickOrRun) →
     (list_any lives s.world.ticks ≡ false) × (list_any is_there s.world.runs ≡ false) →
     (view t s.world).living ≡ false
-none-lives s (tick_or_run.Tick t) e = no-tick s.world.ticks t e.0
-none-lives s (tick_or_run.Run r) e = no-run s.world.runs r e.1
+none-lives s (TickOrRun.Tick t) e = no-tick s.world.ticks t e.0
+none-lives s (TickOrRun.Run r) e = no-run s.world.runs r e.1

@@ -2,28 +2,14 @@
 -- What the stacks weigh in the counts of a tick or run.
 use Rattle.std.proofs.Common.{◌≡◌, ℕ, zero, suc, ◌+◌, ◌<◌, ◌≤◌, List, [], ◌∷◌, ◌++◌, length, get_or, set, refl, arith}
 use Rattle.std.specs.Prelude.{reverse}
-use Rattle.executor_model.specs.declared.op.Hold.{Hold}
-use Rattle.executor_model.specs.declared.op.Hold.TheVariants as hold
-use Rattle.executor_model.specs.declared.op.ListOp.TheVariants as list_op
-use Rattle.executor_model.specs.declared.op.Op.{Op}
-use Rattle.executor_model.specs.declared.op.Op.TheVariants as op
-use Rattle.executor_model.specs.declared.op.RunOp.TheVariants as run_op
-use Rattle.executor_model.specs.declared.op.Section.{Section}
-use Rattle.executor_model.specs.declared.op.Section.TheVariants as section
-use Rattle.executor_model.specs.declared.op.TickOrRun.{TickOrRun}
-use Rattle.executor_model.specs.declared.op.TickOrRun.TheVariants as tick_or_run
-use Rattle.executor_model.specs.declared.op.TickOp.TheVariants as tick_op
-use Rattle.executor_model.specs.declared.op.UserOp.TheVariants as user_op
-use Rattle.executor_model.specs.Steps.{idle}
-use Rattle.executor_model.specs.Weights.{weigh, weigh_all}
-use Rattle.executor_model.proofs.Quiet.Calls.{calling_of}
-use Rattle.executor_model.proofs.Steps.Lift.{split, weigh_all-idle}
-use Rattle.executor_model.proofs.Steps.Lists.{weigh_all-below, weigh_all-push}
-use Rattle.executor_model.proofs.OwnQueues.RunsDone.{poll_in}
-use Rattle.executor_laws.proofs.Wakeups.Sitting.{few, holds_it, is_it}
+use Rattle.executor_laws.proofs.Types.{Hold, ListOp, Op, RunOp, Section, TickOrRun, TickOp, UserOp}
+use Rattle.executor_model.specs.{Steps.idle, Weights.weigh, Weights.weigh_all}
+use Rattle.executor_model.proofs.{Quiet.Calls.calling_of, Steps.Lift.split, Steps.Lift.weigh_all-idle}
+use Rattle.executor_model.proofs.{Steps.Lists.weigh_all-below, Steps.Lists.weigh_all-push, OwnQueues.RunsDone.poll_in}
 use Rattle.executor_laws.proofs.Wakeups.Stands.{used_of, early_of, early_section, pends_of, refused_of, found_of, ends_of}
 use Rattle.executor_laws.proofs.Wakeups.Stands.{waking_up_of, drops_of, odd_of, is_ready, strays_of, calls_of, asks_of, Doing}
 use Rattle.executor_laws.proofs.Wakeups.Stands.{with_doing, doing, Footing}
+use Rattle.executor_laws.proofs.Wakeups.Sitting.{few, holds_it, is_it}
 use Rattle.executor_laws.proofs.Wakeups.StandsNothing.{cond-few, end-parts, few-one, leaves-one, stages-one}
 
 -- each stage uses it
@@ -75,38 +61,38 @@ weigh-at v (s ∷ ss) zero = omega arith
 weigh-at v (s ∷ ss) (suc q) = omega (arith, weigh-at v ss q)
 
 holds-few : (t : TickOrRun) (held : Hold) → holds_it t held ≤ 1
-holds-few t (hold.Tick u) = few t (tick_or_run.Tick u)
-holds-few t (hold.Run q) = few t (tick_or_run.Run q)
+holds-few t (Hold.Tick u) = few t (TickOrRun.Tick u)
+holds-few t (Hold.Run q) = few t (TickOrRun.Run q)
 holds-few t _ = omega arith
 
 section-few : (t : TickOrRun) (s : Section) → early_section t s ≤ 1
-section-few t section.MakeRun = omega arith
-section-few t (section.Register x) = few t (tick_or_run.Run x.run)
-section-few t (section.Unregister q a) =
-    omega (arith, cond-few (is_ready a) (is_it t (tick_or_run.Run q)), few t (tick_or_run.Run q))
+section-few t Section.MakeRun = omega arith
+section-few t (Section.Register x) = few t (TickOrRun.Run x.run)
+section-few t (Section.Unregister q a) =
+    omega (arith, cond-few (is_ready a) (is_it t (TickOrRun.Run q)), few t (TickOrRun.Run q))
 
 -- it answers its call
 pub asks-calling : (t : TickOrRun) (o : Op) → asks_of t o ≤ calling_of o
-asks-calling t (op.User (user_op.PollOwn x)) = omega (arith, few t (tick_or_run.Run x.run))
-asks-calling t (op.Tick (tick_op.Search s)) = omega (arith, few t s.who)
-asks-calling t (op.Tick (tick_op.Look s look)) = omega (arith, few t s.who)
-asks-calling t (op.Tick (tick_op.CopyWaker s)) = omega (arith, few t s.who)
-asks-calling t (op.Tick (tick_op.FallAsleep s)) = omega (arith, few t s.who)
-asks-calling t (op.List (list_op.LockWrite s)) = omega (arith, section-few t s)
-asks-calling t (op.List (list_op.Write s)) = omega (arith, section-few t s)
-asks-calling t (op.List list_op.UnlockWrite) = omega arith
-asks-calling t (op.List (list_op.LockRead x)) = omega (arith, few t (tick_or_run.Run x.run))
-asks-calling t (op.List list_op.UnlockRead) = omega arith
-asks-calling t (op.Steal o) = omega (arith, few t (tick_or_run.Run (poll_in o).run))
-asks-calling t (op.Run run_op.MakeRoom) = omega arith
-asks-calling t (op.Run run_op.ReturnRoom) = omega arith
-asks-calling t (op.Run (run_op.TakeTurn x)) = omega (arith, few t (tick_or_run.Run x.run))
-asks-calling t (op.Run (run_op.SearchCommon x look)) = omega (arith, few t (tick_or_run.Run x.run))
-asks-calling t (op.Run (run_op.LookOwn x at left)) = omega (arith, few t (tick_or_run.Run x.run))
-asks-calling t (op.Run (run_op.WakeOwn x)) = omega (arith, few t (tick_or_run.Run x.run))
-asks-calling t (op.Run (run_op.Reschedule q a)) =
-    omega (arith, cond-few (is_ready a) (is_it t (tick_or_run.Run q)), few t (tick_or_run.Run q))
-asks-calling t (op.End r held) = omega (arith, end-parts r (holds_it t held), holds-few t held)
+asks-calling t (Op.User (UserOp.PollOwn x)) = omega (arith, few t (TickOrRun.Run x.run))
+asks-calling t (Op.Tick (TickOp.Search s)) = omega (arith, few t s.who)
+asks-calling t (Op.Tick (TickOp.Look s look)) = omega (arith, few t s.who)
+asks-calling t (Op.Tick (TickOp.CopyWaker s)) = omega (arith, few t s.who)
+asks-calling t (Op.Tick (TickOp.FallAsleep s)) = omega (arith, few t s.who)
+asks-calling t (Op.List (ListOp.LockWrite s)) = omega (arith, section-few t s)
+asks-calling t (Op.List (ListOp.Write s)) = omega (arith, section-few t s)
+asks-calling t (Op.List ListOp.UnlockWrite) = omega arith
+asks-calling t (Op.List (ListOp.LockRead x)) = omega (arith, few t (TickOrRun.Run x.run))
+asks-calling t (Op.List ListOp.UnlockRead) = omega arith
+asks-calling t (Op.Steal o) = omega (arith, few t (TickOrRun.Run (poll_in o).run))
+asks-calling t (Op.Run RunOp.MakeRoom) = omega arith
+asks-calling t (Op.Run RunOp.ReturnRoom) = omega arith
+asks-calling t (Op.Run (RunOp.TakeTurn x)) = omega (arith, few t (TickOrRun.Run x.run))
+asks-calling t (Op.Run (RunOp.SearchCommon x look)) = omega (arith, few t (TickOrRun.Run x.run))
+asks-calling t (Op.Run (RunOp.LookOwn x at left)) = omega (arith, few t (TickOrRun.Run x.run))
+asks-calling t (Op.Run (RunOp.WakeOwn x)) = omega (arith, few t (TickOrRun.Run x.run))
+asks-calling t (Op.Run (RunOp.Reschedule q a)) =
+    omega (arith, cond-few (is_ready a) (is_it t (TickOrRun.Run q)), few t (TickOrRun.Run q))
+asks-calling t (Op.End r held) = omega (arith, end-parts r (holds_it t held), holds-few t held)
 asks-calling t _ = omega arith
 
 -- of one party and of the others

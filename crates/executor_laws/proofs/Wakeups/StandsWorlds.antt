@@ -1,23 +1,17 @@
 -- For some_standing_is_called.
 -- How the world has each tick and run once one falls asleep, wakes up or leaves.
-use Rattle.std.proofs.Common.{◌≡◌, ◌≢◌, ◌∙◌, ℕ, ◌+◌, ◌≤◌, List, [], ◌∷◌, Bool, true, false, cond, eqb, refl, sym, ap}
-use Rattle.std.proofs.Common.{arith}
+use Rattle.std.proofs.Common.{◌≡◌, ◌≢◌, ◌∙◌, ℕ, ◌+◌, ◌≤◌, List, [], ◌∷◌, Bool, true, false, cond, eqb, refl, sym, ap, arith}
 use Rattle.std.proofs.lemmas.Bool.Decides.{nat_tests}
 use Rattle.std.specs.Prelude.{Option, Some, None, slice_get}
 use Rattle.executor_parts.specs.Sleepers.{position_of, woken_up}
-use Rattle.executor_model.specs.declared.op.Waker.{Waker}
-use Rattle.executor_model.specs.declared.op.TickOrRun.{TickOrRun}
+use Rattle.executor_laws.proofs.Types.{Waker, TickOrRun}
 use Rattle.executor_model.specs.World.{World, Ticker, Awake, Asleep, Left}
-use Rattle.executor_model.specs.Weights.{same}
-use Rattle.executor_model.proofs.Steps.SleepersCounting.{asleep}
-use Rattle.executor_model.proofs.OneFuture.Telling.{same-cond}
-use Rattle.executor_model.specs.SleepersAgree.{sleeps}
+use Rattle.executor_model.specs.{Weights.same, SleepersAgree.sleeps}
+use Rattle.executor_model.proofs.{Steps.SleepersCounting.asleep, OneFuture.Telling.same-cond}
 use Rattle.executor_laws.proofs.Wakeups.Listed.{Entry, sum, entry_of, kept_of, astray, misplaced_of, at_entry, entry_at}
 use Rattle.executor_laws.proofs.Wakeups.Listed.{sum-woken_up, entry-in, numbered}
 use Rattle.executor_laws.proofs.Wakeups.Sitting.{cond-other, cond-self, eq_who, is-cond, other, owned_in, place_in, self}
-use Rattle.executor_laws.proofs.Wakeups.Stands.{view}
-use Rattle.executor_laws.proofs.Wakeups.StandsSeats.{Seated}
-use Rattle.executor_laws.proofs.Wakeups.Watched.{watched}
+use Rattle.executor_laws.proofs.{Wakeups.Stands.view, Wakeups.StandsSeats.Seated, Wakeups.Watched.watched}
 
 pub eqb-self : (n : ℕ) → eqb n n ≡ true
 eqb-self n = grind (arith, nat_tests)

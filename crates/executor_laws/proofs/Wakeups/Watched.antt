@@ -1,17 +1,9 @@
 -- For some_standing_is_called.
 -- What a trace tells of a tick or run and of its last poll, read from left to right.
-use Rattle.std.proofs.Common.{◌≡◌, ℕ, zero, suc, ◌+◌, ◌==◌, [], ◌∷◌, ◌++◌, length, Bool, true, false, ◌&&◌, cond, refl}
-use Rattle.std.proofs.Common.{ap, ◌∙◌, arith}
-use Rattle.executor_model.specs.declared.call.Reply.{Reply}
-use Rattle.executor_model.specs.declared.call.Reply.TheVariants as reply
-use Rattle.executor_model.specs.declared.event.Event.{Event}
-use Rattle.executor_model.specs.declared.event.Event.TheVariants as event
-use Rattle.executor_model.specs.declared.op.Polled.TheVariants as of
-use Rattle.executor_model.specs.declared.op.TickOrRun.{TickOrRun}
-use Rattle.executor_model.specs.declared.op.TickOrRun.TheVariants as tick_or_run
-use Rattle.executor_model.specs.Trace.{Trace}
-use Rattle.executor_model.specs.Weights.{same}
-use Rattle.executor_laws.proofs.Wakeups.Sitting.{eq_who}
+use Rattle.std.proofs.Common.{◌≡◌, ℕ, zero, suc, ◌+◌, ◌==◌, [], ◌∷◌, ◌++◌, length, Bool, true, false, ◌&&◌, cond, refl, ap, ◌∙◌}
+use Rattle.std.proofs.Common.{arith}
+use Rattle.executor_model.specs.{Trace.Trace, Weights.same}
+use Rattle.executor_laws.proofs.{Types.Reply, Types.Event, Types.Polled, Types.TickOrRun, Wakeups.Sitting.eq_who}
 
 pub record Watched : Type 0 where
   -- where that poll stands, and whose it is
@@ -41,11 +33,11 @@ unwatched = record {
 }
 
 abbrev pub is_pending : Reply → Bool
-is_pending reply.Pending = true
+is_pending Reply.Pending = true
 is_pending _ = false
 
 abbrev pub is_refusal : Reply → Bool
-is_refusal reply.NoMemory = true
+is_refusal Reply.NoMemory = true
 is_refusal _ = false
 
 abbrev pub poll_begun : ℕ → ℕ → Watched → Watched
@@ -67,14 +59,14 @@ called_at k s = record s { called = cond (s.poll == k) true s.called }
 
 -- the event at place n
 abbrev pub watches : TickOrRun → ℕ → Event → Watched → Watched
-watches who n (event.TickPolled p u) s = cond (eq_who who (tick_or_run.Tick u)) (poll_begun n p s) s
-watches who n (event.RunPolled p q) s = cond (eq_who who (tick_or_run.Run q)) (poll_begun n p s) s
-watches who n (event.TickDropped p u) s = cond (eq_who who (tick_or_run.Tick u)) (parted s) s
-watches who n (event.RunDropped p q) s = cond (eq_who who (tick_or_run.Run q)) (parted s) s
-watches who n (event.CallBegun p c) s = record s { inner = s.inner + cond s.asking (same s.party p) 0 }
-watches who n (event.CallEnded p r) s = cond (s.asking && (s.party == p)) (ended_in s.inner r s) s
-watches who n (event.WakerCalled p (of.Tick u) k a) s = cond (eq_who who (tick_or_run.Tick u)) (called_at k s) s
-watches who n (event.WakerCalled p (of.Run q) k a) s = cond (eq_who who (tick_or_run.Run q)) (called_at k s) s
+watches who n (Event.TickPolled p u) s = cond (eq_who who (TickOrRun.Tick u)) (poll_begun n p s) s
+watches who n (Event.RunPolled p q) s = cond (eq_who who (TickOrRun.Run q)) (poll_begun n p s) s
+watches who n (Event.TickDropped p u) s = cond (eq_who who (TickOrRun.Tick u)) (parted s) s
+watches who n (Event.RunDropped p q) s = cond (eq_who who (TickOrRun.Run q)) (parted s) s
+watches who n (Event.CallBegun p c) s = record s { inner = s.inner + cond s.asking (same s.party p) 0 }
+watches who n (Event.CallEnded p r) s = cond (s.asking && (s.party == p)) (ended_in s.inner r s) s
+watches who n (Event.WakerCalled p (Polled.Tick u) k a) s = cond (eq_who who (TickOrRun.Tick u)) (called_at k s) s
+watches who n (Event.WakerCalled p (Polled.Run q) k a) s = cond (eq_who who (TickOrRun.Run q)) (called_at k s) s
 watches who n _ s = s
 
 abbrev pub watched_from : TickOrRun → ℕ → Watched → Trace → Watched

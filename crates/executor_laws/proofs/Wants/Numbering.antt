@@ -1,14 +1,13 @@
 -- For requests_are_numbered.
 -- Up to the request that alone is refused all is as where none is.
 use Rattle.std.proofs.Common.{◌≡◌, ◌∙◌, ℕ, ◌<◌, ◌+◌, ◌==◌, List, [], ◌∷◌, ◌++◌, Bool, true, false, refl, ap, subst, arith}
-use Rattle.std.proofs.lemmas.Bool.Decides.{nat_tests}
-use Rattle.std.specs.Prelude.{cond}
-use Rattle.executor_model.specs.declared.step.Step.{Step}
-use Rattle.executor_model.specs.declared.step.Step.TheVariants.{Begin, Go, Answer}
+use Rattle.std.{proofs.lemmas.Bool.Decides.nat_tests, specs.Prelude.cond}
+use Rattle.executor_laws.proofs.Types.{Step, Begin, Go}
+use Rattle.executor_model.specs.declared.step.Step.TheVariants.{Answer}
 use Rattle.executor_model.specs.Steps.{Machine, run, step, stepped}
-use Rattle.executor_model.proofs.Steps.TraceSteps.{run-continues}
 use Rattle.executor_laws.specs.Continued.{IsContinued}
 use Rattle.executor_laws.specs.Numbered.{is_request, left, refusing, requests, told}
+use Rattle.executor_model.proofs.Steps.TraceSteps.{run-continues}
 
 -- whether it asks is not changed by what it is told
 asks-so : (b : Bool) (k p : ℕ) (s : Machine) (t : Step) → is_request p s (told b k t) ≡ is_request p s t

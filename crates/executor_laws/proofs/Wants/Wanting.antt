@@ -1,60 +1,28 @@
 -- For requests_are_numbered.
 -- Want of memory is answered to a party that was idle before only behind a request of it that was refused.
-use Rattle.std.proofs.Common.{◌≡◌, ◌≢◌, ◌⊎◌, ◌∙◌, ⊎_elim, inl, inr, ℕ, ◌<◌, ◌+◌, ◌==◌, List, [], ◌∷◌, ◌++◌, length}
-use Rattle.std.proofs.Common.{Bool, true, false, ◌&&◌, ◌||◌, not, eqb, ltb, refl, sym, ap, subst, arith}
-use Rattle.std.proofs.Common.{get_or-set_same, get_or-set_other, Result}
+use Rattle.std.proofs.Common.{◌≡◌, ◌≢◌, ◌⊎◌, ◌∙◌, ⊎_elim, inl, inr, ℕ, ◌<◌, ◌+◌, ◌==◌, List, [], ◌∷◌, ◌++◌, length, Bool, true}
+use Rattle.std.proofs.Common.{false, ◌&&◌, ◌||◌, not, eqb, ltb, refl, sym, ap, subst, arith, get_or-set_same, get_or-set_other}
 use Rattle.std.proofs.lemmas.Bool.Decides.{nat_tests}
-use Rattle.std.proofs.lemmas.List.{append_assoc}
 use Rattle.std.specs.Prelude.{Option, Some, None, cond, nat_lt, reverse}
-use Rattle.std.specs.List.{list_any}
+use Rattle.std.{proofs.Common.Result, proofs.lemmas.List.append_assoc, specs.List.list_any}
 use Rattle.task_moves.specs.Moves.{most_references}
-use Rattle.executor_model.specs.declared.call.Call.{Call}
-use Rattle.executor_model.specs.declared.call.Reply.{Reply}
-use Rattle.executor_model.specs.declared.call.Reply.TheVariants as reply
-use Rattle.executor_model.specs.declared.event.Event.TheVariants as event
-use Rattle.executor_model.specs.declared.op.Op.{Op}
-use Rattle.executor_model.specs.declared.op.Op.TheVariants as op
-use Rattle.executor_model.specs.declared.op.HandleOp.TheVariants as handle_op
-use Rattle.executor_model.specs.declared.op.ListOp.TheVariants as list_op
-use Rattle.executor_model.specs.declared.op.RunOp.TheVariants as run_op
-use Rattle.executor_model.specs.declared.op.Section.TheVariants as section
-use Rattle.executor_model.specs.declared.op.TableOp.TheVariants as table_op
-use Rattle.executor_model.specs.declared.op.TickOp.TheVariants as tick_op
-use Rattle.executor_model.specs.declared.op.Waker.{Waker}
-use Rattle.executor_model.specs.declared.op.Waker.TheVariants.{Task, Outside}
-use Rattle.executor_model.specs.declared.op.WakerOp.TheVariants as waker_op
-use Rattle.executor_model.specs.declared.step.Hint.{Hint}
-use Rattle.executor_model.specs.declared.step.Step.{Step}
-use Rattle.executor_model.specs.declared.step.Step.TheVariants.{Begin, Go, Answer}
-use Rattle.executor_model.specs.declared.step.StepError.{StepError}
-use Rattle.executor_model.specs.declared.step.StepError.TheVariants.{NoSuch}
-use Rattle.executor_model.specs.declared.step.UserEnd.{UserEnd}
-use Rattle.executor_model.specs.Acts.{copy_awaiter_by, copy_by, enter_by, is_copy_refused}
-use Rattle.executor_model.specs.ActsOfRuns.{make_room_by, make_run_by}
-use Rattle.executor_model.specs.ActsOfSleepers.{copy_sleeper_by, make_tick_by}
-use Rattle.executor_model.specs.Doing.{act}
-use Rattle.executor_model.specs.Memory.{asks}
-use Rattle.executor_model.specs.Refusals.{CopiesOneTooMany, ends_for_want}
-use Rattle.executor_model.specs.SpawnWants.{Answers}
+use Rattle.executor_laws.proofs.Types.{Call, Reply, Event, Op, HandleOp, ListOp, RunOp, Section, TableOp, TickOp, Waker, Task}
+use Rattle.executor_laws.proofs.Types.{Outside, WakerOp, Hint, Step, Begin, Go, StepError, NoSuch, UserEnd}
+use Rattle.executor_model.specs.declared.step.Step.TheVariants.{Answer}
 use Rattle.executor_model.specs.Steps.{Machine, Part, answer_refusal, below_top, begun, end_of, go_refusal, gone_on, mine, onto}
-use Rattle.executor_model.specs.Steps.{part_after, part_refusal, party_of, react, refusal, run, settled_by, stack, step, step_by}
-use Rattle.executor_model.specs.Steps.{stepped, top, unless, with_part}
-use Rattle.executor_model.specs.Trace.{Trace, has}
-use Rattle.executor_model.specs.Weights.{weigh}
-use Rattle.executor_model.specs.World.{Done, World, log, task}
-use Rattle.executor_model.proofs.Copies.Endings.{Own, whose}
-use Rattle.executor_model.proofs.Memory.Refusing.{want-is-told-of}
-use Rattle.executor_model.proofs.Memory.UnaskingGroups.{needs-no-memory}
-use Rattle.executor_model.proofs.SpawnWants.Tops.{Tops, tops}
-use Rattle.executor_model.proofs.Steps.Deeds.{ends_one, grows-act, grows-begun, grows-react, is_end}
-use Rattle.executor_model.proofs.Steps.Lift.{topped}
-use Rattle.executor_model.proofs.Steps.Lists.{weigh-append, weigh-reverse}
-use Rattle.executor_model.proofs.Steps.Reached.{Reached}
-use Rattle.executor_model.proofs.Steps.Stepping.{step-made}
-use Rattle.executor_model.proofs.Steps.Tests.{left-false, right-false}
+use Rattle.executor_model.specs.Steps.{part_after, part_refusal, party_of, react, refusal, run, settled_by, stack, step}
+use Rattle.executor_model.specs.{Steps.step_by, Steps.stepped, Steps.top, Steps.unless, Steps.with_part, Acts.copy_awaiter_by}
+use Rattle.executor_model.specs.{Acts.copy_by, Acts.enter_by, Acts.is_copy_refused, ActsOfSleepers.copy_sleeper_by}
+use Rattle.executor_model.specs.{ActsOfSleepers.make_tick_by, Refusals.CopiesOneTooMany, Refusals.ends_for_want}
+use Rattle.executor_model.specs.{ActsOfRuns.make_room_by, ActsOfRuns.make_run_by, Doing.act, Memory.asks, SpawnWants.Answers}
+use Rattle.executor_model.specs.{Trace.Trace, Trace.has, Weights.weigh, World.Done, World.World, World.log, World.task}
 use Rattle.executor_laws.specs.Numbered.{IsRefused, OneIsRefused, asks_next, ends_refused}
-use Rattle.executor_laws.proofs.Placement.OwnReady.{reached-on}
-use Rattle.executor_laws.proofs.Promptness.Emptied.{said}
+use Rattle.executor_model.proofs.Steps.Deeds.{ends_one, grows-act, grows-begun, grows-react, is_end}
+use Rattle.executor_model.proofs.{Copies.Endings.Own, Copies.Endings.whose, Memory.Refusing.want-is-told-of}
+use Rattle.executor_model.proofs.{Memory.UnaskingGroups.needs-no-memory, SpawnWants.Tops.Tops, SpawnWants.Tops.tops}
+use Rattle.executor_model.proofs.{Steps.Lift.topped, Steps.Lists.weigh-append, Steps.Lists.weigh-reverse, Steps.Reached.Reached}
+use Rattle.executor_model.proofs.{Steps.Stepping.step-made, Steps.Tests.left-false, Steps.Tests.right-false}
+use Rattle.executor_laws.proofs.{Placement.OwnReady.reached-on, Promptness.Emptied.said}
 
 -- what ends a call for want of memory
 
@@ -76,10 +44,10 @@ no-want o = by (ends_for_want o)
 
 -- who copies asks
 copies-ask : (o : Op) (w : World) → asks o ≡ false → CopiesOneTooMany o w → ⊥
-copies-ask (op.Waker (waker_op.CopyWaker f held)) w e c = absurd (cc)
-copies-ask (op.Handle (handle_op.CopyAwaiter f (Task g))) w e c = absurd (cc)
-copies-ask (op.Handle (handle_op.CopyAwaiter f (Outside x))) w e c = absurd (cc)
-copies-ask (op.Tick (tick_op.CopyWaker s)) w e c = absurd (cc)
+copies-ask (Op.Waker (WakerOp.CopyWaker f held)) w e c = absurd (cc)
+copies-ask (Op.Handle (HandleOp.CopyAwaiter f (Task g))) w e c = absurd (cc)
+copies-ask (Op.Handle (HandleOp.CopyAwaiter f (Outside x))) w e c = absurd (cc)
+copies-ask (Op.Tick (TickOp.CopyWaker s)) w e c = absurd (cc)
 copies-ask _ w e c = absurd (cc)
 
 -- one step of party p
@@ -132,7 +100,7 @@ module _ (s : Machine) (p : ℕ) (here : Tops s) (clean : weigh want (stack s p)
   unended o e = by o (ap end_of (sym e) ∙ here.none p)
     where
       by : (x : Op) → end_of (Some x) ≡ None → is_end x ≡ false
-      by (op.End a held) z = absurd (cc)
+      by (Op.End a held) z = absurd (cc)
       by _ z = refl
 
   leads-go : (h : Hint) (o : Option Op) → top (stack s p) ≡ o → go_refusal s.world o ≡ None →
@@ -169,7 +137,7 @@ module _ (s : Machine) (p : ℕ) (here : Tops s) (clean : weigh want (stack s p)
 
   leads-begin : (c : Call) → Leads s p (Begin p c) (part_after s.world (stack s p) (Begin p c))
   leads-begin c =
-      let w : World = log s.world (event.CallBegun p c) in
+      let w : World = log s.world (Event.CallBegun p c) in
       let o : Option Waker = mine (top (stack s p)) in
       let g = grows-begun p w o c in
       record {
@@ -178,8 +146,8 @@ module _ (s : Machine) (p : ℕ) (here : Tops s) (clean : weigh want (stack s p)
         is = refl;
         below = clean;
         next = inl ((want-is-told-of w p).begins o c);
-        more = event.CallBegun p c ∷ g.more;
-        tells = g.is ∙ append_assoc s.world.trace (event.CallBegun p c ∷ []) g.more;
+        more = Event.CallBegun p c ∷ g.more;
+        tells = g.is ∙ append_assoc s.world.trace (Event.CallBegun p c ∷ []) g.more;
         ended = g.none_ends;
       }
 
@@ -195,23 +163,17 @@ leads s (Answer p u) here clean k = leads-answer s p here clean u _ refl k
 settled-clean : (p : ℕ) (w : World) (os : List Op) (o : Option Op) → top os ≡ o → weigh want os ≡ 0 →
     weigh want (settled_by (end_of o) p w os).todo ≡ 0
 settled-clean p w os None e z = z
-settled-clean p w os (Some (op.End a held)) e z = omega (
+settled-clean p w os (Some (Op.End a held)) e z = omega (
   arith,
   z,
-  ap (weigh want) (topped os (op.End a held) e),
-  weigh-append want (below_top os) (op.End a held ∷ []),
+  ap (weigh want) (topped os (Op.End a held) e),
+  weigh-append want (below_top os) (Op.End a held ∷ []),
 )
 settled-clean p w os (Some _) e z = z
 
 put-clean : (rest next : List Op) → weigh want rest ≡ 0 → list_any ends_for_want next ≡ false →
     weigh want (rest ++ reverse next) ≡ 0
-put-clean rest next z n = omega (
-  arith,
-  z,
-  weigh-append want rest (reverse next),
-  weigh-reverse want next,
-  none-wants next n,
-)
+put-clean rest next z n = omega (arith, z, weigh-append want rest (reverse next), weigh-reverse want next, none-wants next n)
 
 onto-clean : (p : ℕ) (d : Done) (rest : List Op) → weigh want rest ≡ 0 → list_any ends_for_want d.next ≡ false →
     weigh want (onto p d rest).todo ≡ 0
@@ -264,16 +226,16 @@ module _ (s : Machine) (p : ℕ) (t : Step) (here : Tops s) (clean : weigh want 
 
 -- the answer
 
-no-end : (os : List Op) (o : Option Op) → top os ≡ o → weigh want os ≡ 0 → end_of o ≡ Some reply.NoMemory → ⊥
+no-end : (os : List Op) (o : Option Op) → top os ≡ o → weigh want os ≡ 0 → end_of o ≡ Some Reply.NoMemory → ⊥
 no-end os None e z k = absurd (cc)
-no-end os (Some (op.End a held)) e z k =
-    let i : a ≡ reply.NoMemory = cc in
+no-end os (Some (Op.End a held)) e z k =
+    let i : a ≡ Reply.NoMemory = cc in
     absurd (omega (
       arith,
       z,
-      ap (weigh want) (topped os (op.End a held) e),
-      weigh-append want (below_top os) (op.End a held ∷ []),
-      ap (λ (b : Reply). want (op.End b held)) i,
+      ap (weigh want) (topped os (Op.End a held) e),
+      weigh-append want (below_top os) (Op.End a held ∷ []),
+      ap (λ (b : Reply). want (Op.End b held)) i,
     ))
 no-end os (Some _) e z k = absurd (cc)
 
@@ -282,32 +244,32 @@ stepped-is : (s : Machine) (t : Step) → refusal s t ≡ None →
 stepped-is s t e = ap (λ (r : Result Machine StepError). (stepped s r).world) (step-made s t e)
 
 own-refused : (s : Machine) (t : Step) → Tops s → weigh want (stack s (party_of t)) ≡ 0 → refusal s t ≡ None →
-    Answers s t (party_of t) reply.NoMemory → IsRefused (party_of t) s t
+    Answers s t (party_of t) Reply.NoMemory → IsRefused (party_of t) s t
 own-refused s t here clean q a =
     let l : Leads s (party_of t) t (part_after s.world (stack s (party_of t)) t) =
     leads s t here clean (there (ltb (party_of t) (length s.parties)) _ q).1 in
     let os : List Op = l.rest ++ reverse l.d.next in
     ⊎_elim
     (λ (z : list_any ends_for_want l.d.next ≡ false). absurd (no-end os (top os) refl (put-clean l.rest l.d.next l.below z)
-    (said (end_of (top os)) (party_of t) reply.NoMemory l.d.world os s.world.trace l.more a.0 l.tells l.ended
+    (said (end_of (top os)) (party_of t) Reply.NoMemory l.d.world os s.world.trace l.more a.0 l.tells l.ended
     (ap (λ (x : Part). x.world.trace) l.is
     ∙ (sym (ap (λ (w : World). w.trace) (stepped-is s t q)) ∙ a.1)))))
     (λ (r : IsRefused (party_of t) s t). r)
     l.next
 
-refused-now : (s : Machine) (p : ℕ) (t : Step) → Tops s → weigh want (stack s p) ≡ 0 → Answers s t p reply.NoMemory →
+refused-now : (s : Machine) (p : ℕ) (t : Step) → Tops s → weigh want (stack s p) ≡ 0 → Answers s t p Reply.NoMemory →
     IsRefused p s t
 refused-now s p t here clean a =
-    let o : Own s p t = whose s p t reply.NoMemory here a in
+    let o : Own s p t = whose s p t Reply.NoMemory here a in
     subst (λ (n : ℕ). IsRefused n s t) (sym o.own)
     (own-refused s t here (subst (λ (n : ℕ). weigh want (stack s n) ≡ 0) o.own clean) o.possible
-    (subst (λ (n : ℕ). Answers s t n reply.NoMemory) o.own a))
+    (subst (λ (n : ℕ). Answers s t n Reply.NoMemory) o.own a))
 
 tops-here : (s : Machine) → Reached s → Tops s
 tops-here s r = subst Tops (sym r.is) (tops r.limit r.kind r.parties r.steps)
 
 wanted-on : (p : ℕ) (ts : List Step) (t : Step) (s : Machine) → Reached s → weigh want (stack s p) ≡ 0 →
-    Answers (run ts s) t p reply.NoMemory → OneIsRefused p s (ts ++ t ∷ [])
+    Answers (run ts s) t p Reply.NoMemory → OneIsRefused p s (ts ++ t ∷ [])
 wanted-on p [] t s here clean a = inl (refused-now s p t (tops-here s here) clean a)
 wanted-on p (u ∷ ts) t s here clean a = ⊎_elim
     (λ (z : weigh want (stack (stepped s (step s u)) p) ≡ 0).
@@ -316,7 +278,7 @@ wanted-on p (u ∷ ts) t s here clean a = ⊎_elim
     (step-clean s p u (tops-here s here) clean)
 
 pub wanted-by : (s : Machine) → Reached s → (p : ℕ) (ts : List Step) (t : Step) → stack s p ≡ [] →
-    Answers (run ts s) t p reply.NoMemory → OneIsRefused p s (ts ++ t ∷ [])
+    Answers (run ts s) t p Reply.NoMemory → OneIsRefused p s (ts ++ t ∷ [])
 wanted-by s here p ts t idle a = wanted-on p ts t s here (ap (weigh want) idle) a
 
 -- what is refused
@@ -327,19 +289,19 @@ copy-refused h w (Outside x) e = e
 
 pub ends-so : (w : World) (p : ℕ) (h : Hint) (o : Op) → asks o ≡ true → h.refused ≡ true →
     list_any ends_refused (act p h o w).next ≡ true
-ends-so w p h (op.Table (table_op.Enter mark)) a e = by (not (nat_lt (length w.table) w.limit))
+ends-so w p h (Op.Table (TableOp.Enter mark)) a e = by (not (nat_lt (length w.table) w.limit))
   where
     by : (b : Bool) → list_any ends_refused (enter_by b h.refused mark p w).next ≡ true
     by true = refl
     by false = ap (λ (r : Bool). list_any ends_refused (enter_by false r mark p w).next) e
-ends-so w p h (op.Waker (waker_op.CopyWaker f held)) a e =
+ends-so w p h (Op.Waker (WakerOp.CopyWaker f held)) a e =
     ap (λ (r : Bool). list_any ends_refused (copy_by (r || not (nat_lt (task w f).references most_references)) w f held).next) e
-ends-so w p h (op.Handle (handle_op.CopyAwaiter f x)) a e =
+ends-so w p h (Op.Handle (HandleOp.CopyAwaiter f x)) a e =
     ap (λ (r : Bool). list_any ends_refused (copy_awaiter_by r p w f x).next) (copy-refused h w x e)
-ends-so w p h (op.Tick tick_op.MakeTick) a e = ap (λ (r : Bool). list_any ends_refused (make_tick_by r w).next) e
-ends-so w p h (op.Tick (tick_op.CopyWaker s)) a e =
+ends-so w p h (Op.Tick TickOp.MakeTick) a e = ap (λ (r : Bool). list_any ends_refused (make_tick_by r w).next) e
+ends-so w p h (Op.Tick (TickOp.CopyWaker s)) a e =
     ap (λ (r : Bool). list_any ends_refused (copy_sleeper_by r w s).next) (copy-refused h w s.waker e)
-ends-so w p h (op.List (list_op.Write section.MakeRun)) a e =
+ends-so w p h (Op.List (ListOp.Write Section.MakeRun)) a e =
     ap (λ (r : Bool). list_any ends_refused (make_run_by r w).next) e
-ends-so w p h (op.Run run_op.MakeRoom) a e = ap (λ (r : Bool). list_any ends_refused (make_room_by r w).next) e
+ends-so w p h (Op.Run RunOp.MakeRoom) a e = ap (λ (r : Bool). list_any ends_refused (make_room_by r w).next) e
 ends-so w p h _ a e = absurd (cc)

@@ -1,31 +1,15 @@
 -- For awaiters_are_kept.
 -- What holds at every moment of each future and of who waits on its handle.
-use Rattle.std.proofs.Common.{◌≡◌, ◌≢◌, ◌⊎◌, ℕ, zero, suc, ◌+◌, ◌==◌, ◌<◌, ◌≤◌, List, [], ◌∷◌, ◌++◌, length}
-use Rattle.std.proofs.Common.{set, get_or, Bool, true, false, ◌&&◌, cond, eqb, refl, ap, ◌∙◌, inl, inr}
-use Rattle.std.proofs.Common.{⊎_elim, arith, get_or-set_same, get_or-set_other}
-use Rattle.std.proofs.Math.Path.{fun_ext}
+use Rattle.std.proofs.Common.{◌≡◌, ◌≢◌, ◌⊎◌, ℕ, zero, suc, ◌+◌, ◌==◌, ◌<◌, ◌≤◌, List, [], ◌∷◌, ◌++◌, length, set, get_or, Bool}
+use Rattle.std.proofs.Common.{true, false, ◌&&◌, cond, eqb, refl, ap, ◌∙◌, inl, inr, ⊎_elim, arith, get_or-set_same}
 use Rattle.std.specs.Prelude.{Option, Some, None}
-use Rattle.executor_model.specs.declared.call.Reply.{Reply}
-use Rattle.executor_model.specs.declared.call.Reply.TheVariants as reply
-use Rattle.executor_model.specs.declared.event.Event.{Event}
-use Rattle.executor_model.specs.declared.event.Event.TheVariants as event
-use Rattle.executor_model.specs.declared.op.Awaiter.{Awaiter}
-use Rattle.executor_model.specs.declared.op.Hold.TheVariants as hold
-use Rattle.executor_model.specs.declared.op.Polled.TheVariants as of
-use Rattle.executor_model.specs.declared.op.Op.{Op}
-use Rattle.executor_model.specs.declared.op.Op.TheVariants as op
-use Rattle.executor_model.specs.declared.op.HandleOp.TheVariants as handle_op
-use Rattle.task_moves.specs.declared.moves.owed.Move.TheVariants as move
-use Rattle.executor_model.specs.declared.op.WakerOp.TheVariants as waker_op
-use Rattle.executor_model.specs.Trace.{Trace, takes_handle}
+use Rattle.std.{proofs.Common.get_or-set_other, proofs.Math.Path.fun_ext}
+use Rattle.executor_model.proofs.Types.{Reply, Event, Awaiter, Hold, Polled, Op, HandleOp, Move, WakerOp}
 use Rattle.executor_model.specs.World.{World, Done, task, awaiter_of}
 use Rattle.executor_model.specs.Weights.{same, weigh, weigh_all, holds_handle}
-use Rattle.executor_model.specs.Rows.{handling_of}
 use Rattle.executor_model.specs.Sound.{Pend, queued, with_ops, tokens, times}
-use Rattle.executor_model.specs.Acts.{closing_ops}
-use Rattle.executor_model.proofs.Steps.Lists.{same_cases, weigh-closing}
-use Rattle.executor_model.specs.Acts.{leaking_ops}
-use Rattle.executor_model.proofs.Steps.Lists.{weigh-leaking}
+use Rattle.executor_model.specs.{Trace.Trace, Trace.takes_handle, Rows.handling_of, Acts.closing_ops, Acts.leaking_ops}
+use Rattle.executor_model.proofs.Steps.Lists.{same_cases, weigh-closing, weigh-leaking}
 
 -- what a trace tells of future g and of the last poll of its handle, read from left to right
 pub record Heard : Type 0 where
@@ -55,7 +39,7 @@ unheard = record {
 }
 
 abbrev pub is_pending : Reply → Bool
-is_pending reply.Pending = true
+is_pending Reply.Pending = true
 is_pending _ = false
 
 -- a call of the party has ended
@@ -65,17 +49,17 @@ ended_in (suc n) r s = record s { inner = n }
 
 -- the event at place n
 abbrev pub hears : ℕ → ℕ → Event → Heard → Heard
-hears g n (event.HandlePolled p f) s =
+hears g n (Event.HandlePolled p f) s =
     cond (g == f) (record s { poll = n; party = p; asking = true; inner = 0; pending = false; called = false }) s
-hears g n (event.CallBegun p c) s =
+hears g n (Event.CallBegun p c) s =
     record s {
       inner = s.inner + cond s.asking (same s.party p) 0;
-      parted = cond (takes_handle g (event.CallBegun p c)) true s.parted;
+      parted = cond (takes_handle g (Event.CallBegun p c)) true s.parted;
     }
-hears g n (event.CallEnded p r) s = cond (s.asking && (s.party == p)) (ended_in s.inner r s) s
-hears g n (event.WakerCalled p (of.Handle f) k a) s =
+hears g n (Event.CallEnded p r) s = cond (s.asking && (s.party == p)) (ended_in s.inner r s) s
+hears g n (Event.WakerCalled p (Polled.Handle f) k a) s =
     record s { called = cond (g == f) (cond (s.poll == k) true s.called) s.called }
-hears g n (event.Dropped p f) s = record s { dropped = cond (g == f) true s.dropped }
+hears g n (Event.Dropped p f) s = record s { dropped = cond (g == f) true s.dropped }
 hears g n _ s = s
 
 abbrev pub heard_from : ℕ → ℕ → Heard → Trace → Heard
@@ -103,67 +87,67 @@ heard-none g = refl
 
 -- stages of a poll of the handle: it may be refused yet
 abbrev pub looks_of : ℕ → Op → ℕ
-looks_of g (op.Handle (handle_op.Look f a)) = same g f
-looks_of g (op.Handle (handle_op.CopyAwaiter f a)) = same g f
+looks_of g (Op.Handle (HandleOp.Look f a)) = same g f
+looks_of g (Op.Handle (HandleOp.CopyAwaiter f a)) = same g f
 looks_of g _ = 0
 
 -- and it wasn't refused
 
 abbrev pub fresh_of : ℕ → Op → ℕ
-fresh_of g (op.Handle (handle_op.Register f a k)) = same g f
+fresh_of g (Op.Handle (HandleOp.Register f a k)) = same g f
 fresh_of g _ = 0
 
 abbrev pub storing_of : ℕ → Op → ℕ
-storing_of g (op.Handle (handle_op.EndRegister f a k)) = same g f
+storing_of g (Op.Handle (HandleOp.EndRegister f a k)) = same g f
 storing_of g _ = 0
 
 abbrev pub again_of : ℕ → Op → ℕ
-again_of g (op.Handle (handle_op.LookAgain f)) = same g f
+again_of g (Op.Handle (HandleOp.LookAgain f)) = same g f
 again_of g _ = 0
 
 -- its end, where that is the answer that there is no output yet
 abbrev pub waits_of : ℕ → Op → ℕ
-waits_of g (op.End reply.Pending (hold.Handle f)) = same g f
+waits_of g (Op.End Reply.Pending (Hold.Handle f)) = same g f
 waits_of g _ = 0
 
 -- or another answer
 abbrev pub over_of : ℕ → Op → ℕ
-over_of g (op.End reply.Ready (hold.Handle f)) = same g f
-over_of g (op.End reply.Cancelled (hold.Handle f)) = same g f
+over_of g (Op.End Reply.Ready (Hold.Handle f)) = same g f
+over_of g (Op.End Reply.Cancelled (Hold.Handle f)) = same g f
 over_of g _ = 0
 
 abbrev pub notices_of : ℕ → Op → ℕ
-notices_of g (op.Handle (handle_op.Notify f mine)) = same g f
+notices_of g (Op.Handle (HandleOp.Notify f mine)) = same g f
 notices_of g _ = 0
 
 abbrev pub notifying_of : ℕ → Op → ℕ
-notifying_of g (op.Handle (handle_op.EndNotify f mine)) = same g f
+notifying_of g (Op.Handle (HandleOp.EndNotify f mine)) = same g f
 notifying_of g _ = 0
 
 -- the two by a poll of the handle itself
 abbrev pub mine_of : ℕ → Op → ℕ
-mine_of g (op.Handle (handle_op.Notify f true)) = same g f
-mine_of g (op.Handle (handle_op.EndNotify f true)) = same g f
+mine_of g (Op.Handle (HandleOp.Notify f true)) = same g f
+mine_of g (Op.Handle (HandleOp.EndNotify f true)) = same g f
 mine_of g _ = 0
 
 abbrev pub detaches_of : ℕ → Op → ℕ
-detaches_of g (op.Move move.Detach f) = same g f
+detaches_of g (Op.Move Move.Detach f) = same g f
 detaches_of g _ = 0
 
 -- a copy of a waker that would hold the handle
 abbrev pub lending_of : ℕ → Op → ℕ
-lending_of g (op.Waker (waker_op.CopyWaker f held)) = holds_handle g held
+lending_of g (Op.Waker (WakerOp.CopyWaker f held)) = holds_handle g held
 lending_of g _ = 0
 
 -- the waker of another poll than k is about to be stored
 abbrev pub strays_of : ℕ → ℕ → Op → ℕ
-strays_of g k (op.Handle (handle_op.Register f a l)) = cond (g == f) (cond (k == l) 0 1) 0
-strays_of g k (op.Handle (handle_op.EndRegister f a l)) = cond (g == f) (cond (k == l) 0 1) 0
+strays_of g k (Op.Handle (HandleOp.Register f a l)) = cond (g == f) (cond (k == l) 0 1) 0
+strays_of g k (Op.Handle (HandleOp.EndRegister f a l)) = cond (g == f) (cond (k == l) 0 1) 0
 strays_of g k _ = 0
 
 -- the waker of poll k is about to be called
 abbrev pub calls_of : ℕ → ℕ → Op → ℕ
-calls_of g k (op.Waker (waker_op.CallAwaiter f a l)) = cond (g == f) (same k l) 0
+calls_of g k (Op.Waker (WakerOp.CallAwaiter f a l)) = cond (g == f) (same k l) 0
 calls_of g k _ = 0
 
 -- what the parties have still to do with the handle of g and its awaiter

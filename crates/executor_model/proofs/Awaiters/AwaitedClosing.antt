@@ -1,71 +1,33 @@
 -- For awaiters_are_kept and calls_do_what_they_say.
 -- Where the drop of the executor has begun and none of its steps is left, nobody is to be woken and both queues are empty.
-use Rattle.std.proofs.Common.{◌≡◌, ℕ, suc, ◌+◌, ◌<◌, ◌≤◌, List, [], ◌∷◌, ◌++◌, length, set, get_or, drop}
-use Rattle.std.proofs.Common.{Bool, true, false, ◌&&◌, ◌||◌, not, refl, sym, ap, ◌∙◌, subst, inl, inr, ⊎_elim, arith}
+use Rattle.std.proofs.Common.{◌≡◌, ℕ, suc, ◌+◌, ◌<◌, ◌≤◌, List, [], ◌∷◌, ◌++◌, length, set, get_or, drop, Bool, true, false}
+use Rattle.std.proofs.Common.{◌&&◌, ◌||◌, not, refl, sym, ap, ◌∙◌, subst, inl, inr, ⊎_elim, arith}
 use Rattle.std.proofs.lemmas.List.{length-append}
 use Rattle.std.specs.Prelude.{Option, Some, None, reverse}
-use Rattle.executor_parts.specs.declared.mark.Mark.TheVariants.{Plain, Urgent}
-use Rattle.executor_model.specs.declared.op.Look.{Look}
-use Rattle.executor_parts.specs.declared.mark.Mark.{Mark}
-use Rattle.executor_model.specs.declared.op.Look.TheVariants.{First, Second}
-use Rattle.executor_model.specs.World.{queue_of, put_queue, mark_of}
-use Rattle.executor_model.specs.Acts.{mark_in, turned}
-use Rattle.executor_model.specs.declared.kind.Kind.{Kind}
-use Rattle.executor_model.specs.declared.call.Call.{Call}
-use Rattle.executor_model.specs.declared.call.Call.TheVariants as call
-use Rattle.executor_model.specs.declared.call.Reply.{Reply}
-use Rattle.executor_model.specs.declared.event.Answer.TheVariants as answer
-use Rattle.executor_model.specs.declared.event.Event.TheVariants as event
-use Rattle.executor_model.specs.declared.op.Waker.{Waker}
-use Rattle.executor_model.specs.declared.op.Hold.{Hold}
-use Rattle.executor_model.specs.declared.op.Op.{Op}
-use Rattle.executor_model.specs.declared.op.RunOp.{RunOp}
-use Rattle.executor_model.specs.declared.op.RunPoll.{RunPoll}
-use Rattle.executor_model.specs.declared.op.TickOrRun.{TickOrRun}
-use Rattle.executor_model.specs.declared.op.TickOrRun.TheVariants as tick_or_run
-use Rattle.executor_model.specs.declared.op.Sleeping.{Sleeping}
-use Rattle.executor_model.specs.declared.op.StealOp.{StealOp}
-use Rattle.executor_model.specs.declared.op.TickOp.TheVariants as tick_op
-use Rattle.executor_model.specs.declared.op.Op.TheVariants as op
-use Rattle.executor_model.specs.declared.op.ClosingOp.TheVariants as closing_op
-use Rattle.executor_model.specs.declared.op.QueueOp.TheVariants as queue_op
-use Rattle.executor_model.specs.declared.op.UserOp.TheVariants as user_op
-use Rattle.executor_model.specs.declared.step.Hint.{Hint}
-use Rattle.executor_model.specs.declared.step.Step.{Step}
-use Rattle.executor_model.specs.declared.step.UserEnd.{UserEnd}
-use Rattle.executor_model.specs.declared.step.UserEnd.TheVariants as end
-use Rattle.executor_model.specs.World.{World, Ticker, Awake, Asleep, Left, Done, done, log}
-use Rattle.executor_model.specs.Acts.{append_by, take_by}
-use Rattle.executor_model.specs.ActsOfSleepers.{look_tick_by}
-use Rattle.executor_model.specs.Acts.{closing_ops, drop_next_by, wake, wake_next_by, close}
-use Rattle.executor_model.specs.Acts.{drain_by}
-use Rattle.executor_model.specs.ActsOfRuns.{search_own}
+use Rattle.queue_steps.specs.ClosableQueue.{taken}
+use Rattle.executor_model.proofs.Types.{Plain, Urgent, Look, Mark, First, Second, Kind, Call, Reply, Answer, Event, Waker, Hold}
+use Rattle.executor_model.proofs.Types.{Op, RunOp, RunPoll, TickOrRun, Sleeping, StealOp, TickOp, ClosingOp, QueueOp, UserOp}
+use Rattle.executor_model.specs.Acts.{mark_in, turned, append_by, take_by, closing_ops, drop_next_by, wake, wake_next_by, close}
+use Rattle.executor_model.specs.Steps.{Machine, stack, top, run, start, mine, is_on_executor, is_drop, future_of, kept}
+use Rattle.executor_model.specs.World.{queue_of, put_queue, mark_of, World, Ticker, Awake, Asleep, Left, Done, done, log, task}
+use Rattle.executor_model.specs.Acts.{drain_by, leak_next_by, leak_out_by}
 use Rattle.executor_model.specs.Doing.{act, run_act, search_by_who, steal_act}
-use Rattle.executor_model.specs.Rows.{Row, ousting_of}
-use Rattle.executor_model.specs.Good.{Good}
-use Rattle.executor_model.specs.Steps.{Machine, stack, top, run, start, mine, is_on_executor}
-use Rattle.executor_model.specs.Steps.{is_drop, future_of, kept, with_future, accepts, begun, react}
-use Rattle.executor_model.proofs.Steps.Cases.{by_bool, by_list}
-use Rattle.executor_model.proofs.Steps.Lists.{weigh-append, weigh_all-push}
-use Rattle.executor_model.proofs.Steps.Lift.{split, unsettled, good-start, none_refused, open_executor, weigh_all-idle}
-use Rattle.executor_model.proofs.Steps.Ways.{Way, along}
-use Rattle.executor_model.proofs.Steps.Ways.Way.{acted, reacted, called}
-use Rattle.executor_model.proofs.Steps.RunsPlain.{plain-run, plain-steal}
-use Rattle.executor_model.proofs.Awaiters.RunsQueue.{Fewer, fewer, takes-run, takes-search, takes-steal}
-use Rattle.executor_model.proofs.Steps.RunsWays.{by-run, by-search, by-steal}
-use Rattle.executor_model.proofs.Awaiters.AwaitedLists.{plain-act, plain-begun, plain-wake}
+use Rattle.executor_model.specs.Steps.{with_future, accepts, begun, react}
+use Rattle.executor_model.specs.{ActsOfSleepers.look_tick_by, ActsOfRuns.search_own, Rows.Row, Rows.ousting_of, Good.Good}
 use Rattle.executor_model.proofs.Awaiters.AwaitedSweeps.{KeepsSweeps, Kept, Lists, NoSteps, Sweep, Sweeps, dropping_of}
 use Rattle.executor_model.proofs.Awaiters.AwaitedSweeps.{draining_plain_of, draining_urgent_of, shuts_left, steps_of}
-use Rattle.executor_model.proofs.Awaiters.AwaitedSweeps.{shutting_plain_of, shutting_urgent_of}
-use Rattle.executor_model.proofs.Awaiters.RunsQueue.Takes.{first}
-use Rattle.queue_steps.specs.ClosableQueue.{taken}
-use Rattle.executor_model.proofs.Awaiters.AwaitedSweeps.{is_sweeping, kept-moves, kept-own, kept-put, lists, no-act, no-self}
-use Rattle.executor_model.proofs.Awaiters.AwaitedSweeps.{no-steps, rousing_of, same-act, same-log_if, sweep}
-use Rattle.executor_model.proofs.Awaiters.AwaitedSweeps.{sweeps-still, with-none, with_sweep}
-use Rattle.executor_model.specs.Acts.{leak_next_by, leak_out_by}
+use Rattle.executor_model.proofs.Awaiters.AwaitedSweeps.{shutting_plain_of, shutting_urgent_of, is_sweeping, kept-moves}
+use Rattle.executor_model.proofs.Awaiters.AwaitedSweeps.{kept-own, kept-put, lists, no-act, no-self, no-steps, rousing_of}
+use Rattle.executor_model.proofs.Steps.Lift.{split, unsettled, good-start, none_refused, open_executor, weigh_all-idle}
+use Rattle.executor_model.proofs.Steps.Ways.Way.{acted, reacted, called}
+use Rattle.executor_model.proofs.Awaiters.RunsQueue.{Fewer, fewer, takes-run, takes-search, takes-steal}
+use Rattle.executor_model.proofs.Steps.RunsWays.{by-run, by-search, by-steal}
+use Rattle.executor_model.proofs.Awaiters.AwaitedLists.{plain-act, plain-begun, plain-wake, rough_of}
+use Rattle.executor_model.proofs.Awaiters.AwaitedSweeps.{same-act, same-log_if, sweep, sweeps-still, with-none, with_sweep}
 use Rattle.executor_model.proofs.Steps.Asides.{aside-leak_next, aside-leak_out}
-use Rattle.executor_model.specs.World.{task}
-use Rattle.executor_model.proofs.Awaiters.AwaitedLists.{rough_of}
+use Rattle.executor_model.proofs.{Types.Hint, Types.Step, Types.UserEnd, Steps.Cases.by_bool, Steps.Cases.by_list}
+use Rattle.executor_model.proofs.{Steps.Lists.weigh-append, Steps.Lists.weigh_all-push, Steps.Ways.Way, Steps.Ways.along}
+use Rattle.executor_model.proofs.{Steps.RunsPlain.plain-run, Steps.RunsPlain.plain-steal, Awaiters.RunsQueue.Takes.first}
 use Rattle.task_moves.specs.Moves as moves
 
 -- the queues
@@ -75,7 +37,7 @@ open-queue false l e = refl
 open-queue true l e = absurd (cc)
 
 sweeps-append : (b : Bool) (w : World) (mark : Mark) (f : ℕ) → (b ≡ true → (queue_of w mark).closed ≡ false) →
-    KeepsSweeps w (op.Queue (queue_op.Append f) ∷ []) (append_by b w mark f)
+    KeepsSweeps w (Op.Queue (QueueOp.Append f) ∷ []) (append_by b w mark f)
 sweeps-append true w Urgent f c r h = let z : w.queues.urgent.closed ≡ false = c refl in grind (arith, length-append)
 sweeps-append true w Plain f c r h = let z : w.queues.plain.closed ≡ false = c refl in grind (arith, length-append)
 sweeps-append false w mark f c r h = grind arith
@@ -117,53 +79,53 @@ sweeps-taken : (w : World) (mark : Mark) (o : Op) (next : List Op) → NoSteps (
     KeepsSweeps w (o ∷ []) (done (put_queue w mark (taken (queue_of w mark))) next)
 sweeps-taken w mark o next a b = sweeps-less w o _ (kept-taken w mark o next) (fewer w _ (first mark refl)) a b
 
-sweeps-take : (look : Look) (q : List ℕ) (w : World) → KeepsSweeps w (op.Queue (queue_op.Take look) ∷ []) (take_by w look q)
-sweeps-take (First mark) [] w = sweeps-same w w (op.Queue (queue_op.Take (First mark))) (take_by w (First mark) []).next
+sweeps-take : (look : Look) (q : List ℕ) (w : World) → KeepsSweeps w (Op.Queue (QueueOp.Take look) ∷ []) (take_by w look q)
+sweeps-take (First mark) [] w = sweeps-same w w (Op.Queue (QueueOp.Take (First mark))) (take_by w (First mark) []).next
     refl refl refl
-sweeps-take (Second mark) [] w = sweeps-same w w (op.Queue (queue_op.Take (Second mark))) (take_by w (Second mark) []).next
+sweeps-take (Second mark) [] w = sweeps-same w w (Op.Queue (QueueOp.Take (Second mark))) (take_by w (Second mark) []).next
     refl refl refl
 sweeps-take look (f ∷ rest) w =
-    sweeps-taken w (mark_in look) (op.Queue (queue_op.Take look)) (take_by w look (f ∷ rest)).next refl refl
+    sweeps-taken w (mark_in look) (Op.Queue (QueueOp.Take look)) (take_by w look (f ∷ rest)).next refl refl
 
 sweeps-search : (look : Look) (x : Ticker) (q : List ℕ) (w : World) (s : Sleeping) →
-    KeepsSweeps w (op.Tick (tick_op.Look s look) ∷ []) (look_tick_by x w look q s)
-sweeps-search (First mark) x [] w s = sweeps-same w w (op.Tick (tick_op.Look s (First mark)))
+    KeepsSweeps w (Op.Tick (TickOp.Look s look) ∷ []) (look_tick_by x w look q s)
+sweeps-search (First mark) x [] w s = sweeps-same w w (Op.Tick (TickOp.Look s (First mark)))
     (look_tick_by x w (First mark) [] s).next refl refl refl
-sweeps-search (Second mark) x [] w s = sweeps-same w w (op.Tick (tick_op.Look s (Second mark)))
+sweeps-search (Second mark) x [] w s = sweeps-same w w (Op.Tick (TickOp.Look s (Second mark)))
     (look_tick_by x w (Second mark) [] s).next refl refl refl
-sweeps-search look Awake (f ∷ rest) w s = sweeps-taken w (mark_in look) (op.Tick (tick_op.Look s look))
+sweeps-search look Awake (f ∷ rest) w s = sweeps-taken w (mark_in look) (Op.Tick (TickOp.Look s look))
     (look_tick_by Awake w look (f ∷ rest) s).next refl refl
-sweeps-search look (Asleep n) (f ∷ rest) w s = sweeps-taken w (mark_in look) (op.Tick (tick_op.Look s look))
+sweeps-search look (Asleep n) (f ∷ rest) w s = sweeps-taken w (mark_in look) (Op.Tick (TickOp.Look s look))
     (look_tick_by (Asleep n) w look (f ∷ rest) s).next refl refl
-sweeps-search look Left (f ∷ rest) w s = sweeps-taken w (mark_in look) (op.Tick (tick_op.Look s look))
+sweeps-search look Left (f ∷ rest) w s = sweeps-taken w (mark_in look) (Op.Tick (TickOp.Look s look))
     (look_tick_by Left w look (f ∷ rest) s).next refl refl
 
-sweeps-steal : (p : ℕ) (h : Hint) (o : StealOp) (w : World) → KeepsSweeps w (op.Steal o ∷ []) (steal_act p o w)
-sweeps-steal p h o w = sweeps-less w (op.Steal o) (steal_act p o w) (by-steal Kept kept-moves kept-put p o w)
+sweeps-steal : (p : ℕ) (h : Hint) (o : StealOp) (w : World) → KeepsSweeps w (Op.Steal o ∷ []) (steal_act p o w)
+sweeps-steal p h o w = sweeps-less w (Op.Steal o) (steal_act p o w) (by-steal Kept kept-moves kept-put p o w)
     (fewer w _ (takes-steal p o w)) (omega (arith, ap (λ (x : Row). x.ousting) (plain-steal o)))
-    (no-steps _ (plain-act p h (op.Steal o) w refl))
+    (no-steps _ (plain-act p h (Op.Steal o) w refl))
 
-sweeps-run : (p : ℕ) (h : Hint) (o : RunOp) (w : World) → KeepsSweeps w (op.Run o ∷ []) (run_act p h o w)
+sweeps-run : (p : ℕ) (h : Hint) (o : RunOp) (w : World) → KeepsSweeps w (Op.Run o ∷ []) (run_act p h o w)
 sweeps-run p h o w =
-    sweeps-less w (op.Run o) (run_act p h o w) (by-run Kept kept-moves kept-put p h o w (λ x e. kept-own p w x _)
+    sweeps-less w (Op.Run o) (run_act p h o w) (by-run Kept kept-moves kept-put p h o w (λ x e. kept-own p w x _)
     (λ x. record { gone = refl; leaving = refl; waking = refl }))
     (fewer w _ (takes-run p h o w)) (omega (arith, ap (λ (x : Row). x.ousting) (plain-run o)))
-    (no-steps _ (plain-act p h (op.Run o) w refl))
+    (no-steps _ (plain-act p h (Op.Run o) w refl))
 
 sweeps-search_who : (h : Hint) (who : TickOrRun) (p : ℕ) (w : World) (s : Sleeping) → s.who ≡ who →
-    KeepsSweeps w (op.Tick (tick_op.Search s) ∷ []) (search_by_who who p w s)
-sweeps-search_who h (tick_or_run.Tick t) p w s e = sweeps-same w (turned p w) (op.Tick (tick_op.Search s))
-    (search_by_who (tick_or_run.Tick t) p w s).next refl refl refl
-sweeps-search_who h (tick_or_run.Run q) p w s e =
+    KeepsSweeps w (Op.Tick (TickOp.Search s) ∷ []) (search_by_who who p w s)
+sweeps-search_who h (TickOrRun.Tick t) p w s e = sweeps-same w (turned p w) (Op.Tick (TickOp.Search s))
+    (search_by_who (TickOrRun.Tick t) p w s).next refl refl refl
+sweeps-search_who h (TickOrRun.Run q) p w s e =
     let x : RunPoll = record { run = q; waker = s.waker; poll = s.poll } in
-    sweeps-less w (op.Tick (tick_op.Search s)) (search_own w x) (by-search Kept kept-moves kept-put w q s e)
+    sweeps-less w (Op.Tick (TickOp.Search s)) (search_own w x) (by-search Kept kept-moves kept-put w q s e)
     (fewer w _ (takes-search w x)) refl (no-steps _ (plain-act 0 h
-    (op.Tick (tick_op.Search (record s { who = tick_or_run.Run q }))) w refl))
+    (Op.Tick (TickOp.Search (record s { who = TickOrRun.Run q }))) w refl))
 
 -- the steps of the executor's drop
 
 sweeps-take_out : (ls ws : List ℕ) (w : World) → w.table ≡ ls → w.waking ≡ ws →
-    KeepsSweeps w (op.Closing closing_op.TakeOut ∷ [])
+    KeepsSweeps w (Op.Closing ClosingOp.TakeOut ∷ [])
     (done (record w { table = w.leaving; leaving = w.table }) (closing_ops ls ws))
 sweeps-take_out = by_list _
     (by_list _
@@ -172,9 +134,9 @@ sweeps-take_out = by_list _
     (λ x ls ws w e q r h. let z : length w.table ≡ suc (length ls) = ap length e in grind arith)
 
 sweeps-closing : (rest ws : List ℕ) (p : ℕ) (w : World) (f : ℕ) → 1 ≤ length ws → ws ≡ w.waking ++ f ∷ [] →
-    w.leaving ≡ f ∷ rest → KeepsSweeps w (op.Closing closing_op.DropNext ∷ [])
-    (done (log (record w { leaving = rest; waking = ws; inside = set w.inside f false }) (event.Dropped p f))
-    (op.User (user_op.Drop f) ∷ closing_ops rest ws))
+    w.leaving ≡ f ∷ rest → KeepsSweeps w (Op.Closing ClosingOp.DropNext ∷ [])
+    (done (log (record w { leaving = rest; waking = ws; inside = set w.inside f false }) (Event.Dropped p f))
+    (Op.User (UserOp.Drop f) ∷ closing_ops rest ws))
 sweeps-closing = by_list _
     (by_list _
     (λ p w f n q e r h. absurd (omega (arith, n)))
@@ -182,7 +144,7 @@ sweeps-closing = by_list _
     (λ y ls ws p w f n q e r h. grind arith)
 
 sweeps-drop_next : (p : ℕ) (w : World) (ls : List ℕ) → w.leaving ≡ ls →
-    KeepsSweeps w (op.Closing closing_op.DropNext ∷ []) (drop_next_by p w ls)
+    KeepsSweeps w (Op.Closing ClosingOp.DropNext ∷ []) (drop_next_by p w ls)
 sweeps-drop_next = λ p w. by_list _
     (λ e r h. let z : length w.leaving ≡ 0 = ap length e in absurd (grind arith))
     (λ f rest e r h. sweeps-closing rest (w.waking ++ f ∷ []) p w f (omega (arith, length-append w.waking (f ∷ [])))
@@ -190,41 +152,41 @@ sweeps-drop_next = λ p w. by_list _
 
 sweeps-woken : (rest : List ℕ) (o : Bool) (p : ℕ) (w v : World) (f : ℕ) (next : List Op) → w.waking ≡ f ∷ rest →
     lists (record w { waking = rest }) ≡ lists v → NoSteps next →
-    KeepsSweeps w (op.Closing closing_op.WakeNext ∷ []) (done v (next ++ closing_ops [] rest))
+    KeepsSweeps w (Op.Closing ClosingOp.WakeNext ∷ []) (done v (next ++ closing_ops [] rest))
 sweeps-woken = by_list _
     (λ o p w v f next e q n r h.
-    subst (λ (l : Lists). Sweeps l (with_sweep (next ++ op.Closing (closing_op.Close Urgent) ∷ []) r)) q
-    (let a : _ = weigh-append ousting_of next (op.Closing (closing_op.Close Urgent) ∷ []) in
-    let b : _ = weigh-append dropping_of next (op.Closing (closing_op.Close Urgent) ∷ []) in
-    let c : _ = weigh-append rousing_of next (op.Closing (closing_op.Close Urgent) ∷ []) in
-    let d : _ = weigh-append shutting_urgent_of next (op.Closing (closing_op.Close Urgent) ∷ []) in
-    let k : _ = weigh-append shutting_plain_of next (op.Closing (closing_op.Close Urgent) ∷ []) in
-    let m : _ = weigh-append draining_urgent_of next (op.Closing (closing_op.Close Urgent) ∷ []) in
-    let s : _ = weigh-append draining_plain_of next (op.Closing (closing_op.Close Urgent) ∷ []) in grind arith))
+    subst (λ (l : Lists). Sweeps l (with_sweep (next ++ Op.Closing (ClosingOp.Close Urgent) ∷ []) r)) q
+    (let a : _ = weigh-append ousting_of next (Op.Closing (ClosingOp.Close Urgent) ∷ []) in
+    let b : _ = weigh-append dropping_of next (Op.Closing (ClosingOp.Close Urgent) ∷ []) in
+    let c : _ = weigh-append rousing_of next (Op.Closing (ClosingOp.Close Urgent) ∷ []) in
+    let d : _ = weigh-append shutting_urgent_of next (Op.Closing (ClosingOp.Close Urgent) ∷ []) in
+    let k : _ = weigh-append shutting_plain_of next (Op.Closing (ClosingOp.Close Urgent) ∷ []) in
+    let m : _ = weigh-append draining_urgent_of next (Op.Closing (ClosingOp.Close Urgent) ∷ []) in
+    let s : _ = weigh-append draining_plain_of next (Op.Closing (ClosingOp.Close Urgent) ∷ []) in grind arith))
     (λ y ys o p w v f next e q n r h.
-    subst (λ (l : Lists). Sweeps l (with_sweep (next ++ op.Closing closing_op.WakeNext ∷ []) r)) q
-    (let a : _ = weigh-append ousting_of next (op.Closing closing_op.WakeNext ∷ []) in
-    let b : _ = weigh-append dropping_of next (op.Closing closing_op.WakeNext ∷ []) in
-    let c : _ = weigh-append rousing_of next (op.Closing closing_op.WakeNext ∷ []) in
-    let d : _ = weigh-append shutting_urgent_of next (op.Closing closing_op.WakeNext ∷ []) in
-    let k : _ = weigh-append shutting_plain_of next (op.Closing closing_op.WakeNext ∷ []) in
-    let m : _ = weigh-append draining_urgent_of next (op.Closing closing_op.WakeNext ∷ []) in
-    let s : _ = weigh-append draining_plain_of next (op.Closing closing_op.WakeNext ∷ []) in grind arith))
+    subst (λ (l : Lists). Sweeps l (with_sweep (next ++ Op.Closing ClosingOp.WakeNext ∷ []) r)) q
+    (let a : _ = weigh-append ousting_of next (Op.Closing ClosingOp.WakeNext ∷ []) in
+    let b : _ = weigh-append dropping_of next (Op.Closing ClosingOp.WakeNext ∷ []) in
+    let c : _ = weigh-append rousing_of next (Op.Closing ClosingOp.WakeNext ∷ []) in
+    let d : _ = weigh-append shutting_urgent_of next (Op.Closing ClosingOp.WakeNext ∷ []) in
+    let k : _ = weigh-append shutting_plain_of next (Op.Closing ClosingOp.WakeNext ∷ []) in
+    let m : _ = weigh-append draining_urgent_of next (Op.Closing ClosingOp.WakeNext ∷ []) in
+    let s : _ = weigh-append draining_plain_of next (Op.Closing ClosingOp.WakeNext ∷ []) in grind arith))
 
 sweeps-wake_next : (p : ℕ) (w : World) (ws : List ℕ) → w.waking ≡ ws →
-    KeepsSweeps w (op.Closing closing_op.WakeNext ∷ []) (wake_next_by p w ws)
+    KeepsSweeps w (Op.Closing ClosingOp.WakeNext ∷ []) (wake_next_by p w ws)
 sweeps-wake_next = λ p w. by_list _
     (λ e r h. let z : length w.waking ≡ 0 = ap length e in absurd (grind arith))
     (λ f rest e r h. sweeps-woken rest true p w (wake p (record w { waking = rest }) f).world f
-    (wake p (record w { waking = rest }) f).next e (same-log_if _ (record w { waking = rest }) (event.Woken p f))
+    (wake p (record w { waking = rest }) f).next e (same-log_if _ (record w { waking = rest }) (Event.Woken p f))
     (no-steps _ (plain-wake p (record w { waking = rest }) f)) r h)
 
-sweeps-close : (mark : Mark) (w : World) → KeepsSweeps w (op.Closing (closing_op.Close mark) ∷ []) (close w mark)
+sweeps-close : (mark : Mark) (w : World) → KeepsSweeps w (Op.Closing (ClosingOp.Close mark) ∷ []) (close w mark)
 sweeps-close Urgent w r h = grind arith
 sweeps-close Plain w r h = grind arith
 
 sweeps-drain : (mark : Mark) (q : List ℕ) (p : ℕ) (w : World) → (queue_of w mark).items ≡ q →
-    KeepsSweeps w (op.Closing (closing_op.Drain mark) ∷ []) (drain_by p w mark q)
+    KeepsSweeps w (Op.Closing (ClosingOp.Drain mark) ∷ []) (drain_by p w mark q)
 sweeps-drain Urgent [] p w e r h = let z : length w.queues.urgent.items ≡ 0 = ap length e in grind arith
 sweeps-drain Plain [] p w e r h = let z : length w.queues.plain.items ≡ 0 = ap length e in grind arith
 sweeps-drain Urgent (f ∷ rest) p w e r h =
@@ -252,80 +214,80 @@ sweeps-open w old d n m a b r h =
     }
 
 sweeps-leak_out : (s n : Bool) (w : World) → w.gone ≡ n →
-    KeepsSweeps w (op.Closing closing_op.LeakOut ∷ []) (leak_out_by (s || n) w)
+    KeepsSweeps w (Op.Closing ClosingOp.LeakOut ∷ []) (leak_out_by (s || n) w)
 sweeps-leak_out true n w e = λ r h. h
 sweeps-leak_out false true w e = λ r h. h
-sweeps-leak_out false false w e = sweeps-open w (op.Closing closing_op.LeakOut ∷ []) (leak_out_by false w) e e refl
+sweeps-leak_out false false w e = sweeps-open w (Op.Closing ClosingOp.LeakOut ∷ []) (leak_out_by false w) e e refl
     (no-steps _ (aside-leak_out rough_of refl false w))
 
 sweeps-leak_next : (b : Bool) (p : ℕ) (w : World) (ws : List ℕ) → w.gone ≡ b →
-    KeepsSweeps w (op.Closing closing_op.LeakNext ∷ []) (leak_next_by b p w ws)
+    KeepsSweeps w (Op.Closing ClosingOp.LeakNext ∷ []) (leak_next_by b p w ws)
 sweeps-leak_next true p w ws e = λ r h. h
 sweeps-leak_next false p w [] e = λ r h. h
 sweeps-leak_next false p w (f ∷ rest) e =
     let v : World = record w { waking = rest } in
-    sweeps-open w (op.Closing closing_op.LeakNext ∷ []) (leak_next_by false p w (f ∷ rest)) e
-    (ap (λ (x : Lists). x.gone) (sym (same-log_if (not (moves.is_over (task v f))) v (event.Woken p f))) ∙ e) refl
+    sweeps-open w (Op.Closing ClosingOp.LeakNext ∷ []) (leak_next_by false p w (f ∷ rest)) e
+    (ap (λ (x : Lists). x.gone) (sym (same-log_if (not (moves.is_over (task v f))) v (Event.Woken p f))) ∙ e) refl
     (no-steps _ (aside-leak_next rough_of refl plain-wake false p w (f ∷ rest)))
 
 sweeps-act : (b : Bool) (p : ℕ) (h : Hint) (o : Op) (w : World) → is_sweeping o ≡ b →
     KeepsSweeps w (o ∷ []) (act p h o w)
 sweeps-act false p h o w n = sweeps-still w (o ∷ []) (act p h o w) (same-act p h o w n) (no-self o n)
     (no-act p h o w _ refl n)
-sweeps-act true p h (op.Queue queue_op.TakeTurn) w n =
-    sweeps-same w (turned p w) (op.Queue queue_op.TakeTurn) (act p h (op.Queue queue_op.TakeTurn) w).next refl refl refl
-sweeps-act true p h (op.Queue (queue_op.Take look)) w n = sweeps-take look _ w
-sweeps-act true p h (op.Queue (queue_op.Append f)) w n = sweeps-append _ w (mark_of w f) f
+sweeps-act true p h (Op.Queue QueueOp.TakeTurn) w n =
+    sweeps-same w (turned p w) (Op.Queue QueueOp.TakeTurn) (act p h (Op.Queue QueueOp.TakeTurn) w).next refl refl refl
+sweeps-act true p h (Op.Queue (QueueOp.Take look)) w n = sweeps-take look _ w
+sweeps-act true p h (Op.Queue (QueueOp.Append f)) w n = sweeps-append _ w (mark_of w f) f
     (open-queue (queue_of w (mark_of w f)).closed _)
-sweeps-act true p h (op.Tick (tick_op.Search s)) w n = sweeps-search_who h s.who p w s refl
-sweeps-act true p h (op.Tick (tick_op.Look s look)) w n = sweeps-search look _ _ w s
-sweeps-act true p h (op.Steal o) w n = sweeps-steal p h o w
-sweeps-act true p h (op.Run o) w n = sweeps-run p h o w
-sweeps-act true p h (op.Closing closing_op.TakeOut) w n = sweeps-take_out _ _ w refl refl
-sweeps-act true p h (op.Closing closing_op.DropNext) w n = sweeps-drop_next p w _ refl
-sweeps-act true p h (op.Closing closing_op.WakeNext) w n = sweeps-wake_next p w _ refl
-sweeps-act true p h (op.Closing (closing_op.Close mark)) w n = sweeps-close mark w
-sweeps-act true p h (op.Closing (closing_op.Drain mark)) w n = sweeps-drain mark _ p w refl
-sweeps-act true p h (op.Closing closing_op.LeakOut) w n = sweeps-leak_out w.is_static w.gone w refl
-sweeps-act true p h (op.Closing closing_op.LeakNext) w n = sweeps-leak_next _ p w _ refl
+sweeps-act true p h (Op.Tick (TickOp.Search s)) w n = sweeps-search_who h s.who p w s refl
+sweeps-act true p h (Op.Tick (TickOp.Look s look)) w n = sweeps-search look _ _ w s
+sweeps-act true p h (Op.Steal o) w n = sweeps-steal p h o w
+sweeps-act true p h (Op.Run o) w n = sweeps-run p h o w
+sweeps-act true p h (Op.Closing ClosingOp.TakeOut) w n = sweeps-take_out _ _ w refl refl
+sweeps-act true p h (Op.Closing ClosingOp.DropNext) w n = sweeps-drop_next p w _ refl
+sweeps-act true p h (Op.Closing ClosingOp.WakeNext) w n = sweeps-wake_next p w _ refl
+sweeps-act true p h (Op.Closing (ClosingOp.Close mark)) w n = sweeps-close mark w
+sweeps-act true p h (Op.Closing (ClosingOp.Drain mark)) w n = sweeps-drain mark _ p w refl
+sweeps-act true p h (Op.Closing ClosingOp.LeakOut) w n = sweeps-leak_out w.is_static w.gone w refl
+sweeps-act true p h (Op.Closing ClosingOp.LeakNext) w n = sweeps-leak_next _ p w _ refl
 sweeps-act true p h _ w n = absurd (cc)
 
 sweeps-react : (p : ℕ) (o : Op) (u : UserEnd) (w : World) → accepts o u ≡ true → KeepsSweeps w (o ∷ []) (react p o u w)
-sweeps-react p (op.User (user_op.Poll f)) (end.Polled answer.Pending) w a r h = h
-sweeps-react p (op.User (user_op.Poll f)) (end.Polled answer.Ready) w a r h = h
-sweeps-react p (op.User (user_op.Drop f)) end.Done w a r h = h
-sweeps-react p (op.User (user_op.DropOutput f)) end.Done w a r h = h
-sweeps-react p (op.User (user_op.CallOutside x)) end.Done w a r h = h
-sweeps-react p (op.User (user_op.PollOwn x)) (end.Polled answer.Pending) w a r h = h
-sweeps-react p (op.User (user_op.PollOwn x)) (end.Polled answer.Ready) w a r h = h
-sweeps-react p (op.User (user_op.DropOwn q)) end.Done w a r h = h
+sweeps-react p (Op.User (UserOp.Poll f)) (UserEnd.Polled Answer.Pending) w a r h = h
+sweeps-react p (Op.User (UserOp.Poll f)) (UserEnd.Polled Answer.Ready) w a r h = h
+sweeps-react p (Op.User (UserOp.Drop f)) UserEnd.Done w a r h = h
+sweeps-react p (Op.User (UserOp.DropOutput f)) UserEnd.Done w a r h = h
+sweeps-react p (Op.User (UserOp.CallOutside x)) UserEnd.Done w a r h = h
+sweeps-react p (Op.User (UserOp.PollOwn x)) (UserEnd.Polled Answer.Pending) w a r h = h
+sweeps-react p (Op.User (UserOp.PollOwn x)) (UserEnd.Polled Answer.Ready) w a r h = h
+sweeps-react p (Op.User (UserOp.DropOwn q)) UserEnd.Done w a r h = h
 sweeps-react p _ _ w a r h = absurd (cc)
 
 -- calls
 
 same-with : (w : World) (p : ℕ) (c : Call) (x : Option ℕ) (d : ℕ → Done) → ((f : ℕ) → lists w ≡ lists (d f).world) →
-    lists w ≡ lists (with_future (log w (event.CallBegun p c)) x d).world
+    lists w ≡ lists (with_future (log w (Event.CallBegun p c)) x d).world
 same-with w p c None d k = refl
 same-with w p c (Some f) d k = k f
 
 same-begun : (p : ℕ) (w : World) (here : Option Waker) (c : Call) → is_drop c ≡ false →
-    lists w ≡ lists (begun p (log w (event.CallBegun p c)) here c).world
-same-begun p w here (call.Wake k) n = same-with w p (call.Wake k) (kept w k) _ (λ f. refl)
-same-begun p w here (call.WakeByRef k) n = same-with w p (call.WakeByRef k) (kept w k) _ (λ f. refl)
-same-begun p w here (call.Copy k) n = same-with w p (call.Copy k) (kept w k) _ (λ f. refl)
-same-begun p w here (call.DropWaker k) n = same-with w p (call.DropWaker k) (kept w k) _ (λ f. refl)
-same-begun p w here call.Keep n = same-with w p call.Keep (future_of here) _ (λ f. refl)
-same-begun p w here call.WakeSelf n = same-with w p call.WakeSelf (future_of here) _ (λ f. refl)
-same-begun p w here call.DropExecutor n = absurd (cc)
+    lists w ≡ lists (begun p (log w (Event.CallBegun p c)) here c).world
+same-begun p w here (Call.Wake k) n = same-with w p (Call.Wake k) (kept w k) _ (λ f. refl)
+same-begun p w here (Call.WakeByRef k) n = same-with w p (Call.WakeByRef k) (kept w k) _ (λ f. refl)
+same-begun p w here (Call.Copy k) n = same-with w p (Call.Copy k) (kept w k) _ (λ f. refl)
+same-begun p w here (Call.DropWaker k) n = same-with w p (Call.DropWaker k) (kept w k) _ (λ f. refl)
+same-begun p w here Call.Keep n = same-with w p Call.Keep (future_of here) _ (λ f. refl)
+same-begun p w here Call.WakeSelf n = same-with w p Call.WakeSelf (future_of here) _ (λ f. refl)
+same-begun p w here Call.DropExecutor n = absurd (cc)
 same-begun p w here _ n = refl
 
 sweeps-begun : (b : Bool) (p : ℕ) (w : World) (here : Option Waker) (c : Call) → is_drop c ≡ b →
-    not (w.gone && is_on_executor c) ≡ true → KeepsSweeps w [] (begun p (log w (event.CallBegun p c)) here c)
+    not (w.gone && is_on_executor c) ≡ true → KeepsSweeps w [] (begun p (log w (Event.CallBegun p c)) here c)
 sweeps-begun false p w here c n on =
-    sweeps-still w [] (begun p (log w (event.CallBegun p c)) here c) (same-begun p w here c n) refl
-    (no-steps _ (plain-begun p (log w (event.CallBegun p c)) here c n))
-sweeps-begun true p w here call.DropExecutor n on =
-    λ r h. let z : w.gone ≡ false = open_executor w call.DropExecutor refl on in grind arith
+    sweeps-still w [] (begun p (log w (Event.CallBegun p c)) here c) (same-begun p w here c n) refl
+    (no-steps _ (plain-begun p (log w (Event.CallBegun p c)) here c n))
+sweeps-begun true p w here Call.DropExecutor n on =
+    λ r h. let z : w.gone ≡ false = open_executor w Call.DropExecutor refl on in grind arith
 sweeps-begun true p w here _ n on = absurd (cc)
 
 sweeps-way : (s : Machine) (p : ℕ) (old rest : List Op) (d : Done) → Way s p old rest d → KeepsSweeps s.world old d
@@ -374,10 +336,10 @@ pub swept-moves : (s : Machine) (p : ℕ) (old rest : List Op) (d : Done) → Go
 swept-moves s p old rest d good l e w h = swept-unsettled s p old rest d l e (sweeps-way s p old rest d w) h
 
 pub swept-ends : (s : Machine) (p : ℕ) (a : Reply) (held : Hold) (below : List Op) → p < length s.parties →
-    stack s p ≡ below ++ reverse (op.End a held ∷ []) → Swept s →
-    Swept (unsettled s p below (done (log s.world (event.CallEnded p a)) []))
+    stack s p ≡ below ++ reverse (Op.End a held ∷ []) → Swept s →
+    Swept (unsettled s p below (done (log s.world (Event.CallEnded p a)) []))
 swept-ends s p a held below l e h =
-    swept-unsettled s p (op.End a held ∷ []) below (done (log s.world (event.CallEnded p a)) []) l e (λ r k. k) h
+    swept-unsettled s p (Op.End a held ∷ []) below (done (log s.world (Event.CallEnded p a)) []) l e (λ r k. k) h
 
 abbrev no_sweep : Sweep
 no_sweep = record {

@@ -1,59 +1,31 @@
 -- For awaiters_are_kept.
 -- In each execution the waker of who waits is stored, called or about to be called.
-use Rattle.std.proofs.Common.{◌≡◌, ◌⊎◌, ℕ, zero, suc, ◌+◌, ◌<◌, ◌≤◌, List, [], ◌∷◌, ◌++◌}
-use Rattle.std.proofs.Common.{length, set, Bool, true, false, ◌&&◌, not, cond, eqb}
-use Rattle.std.proofs.Common.{refl, sym, ap, ◌∙◌, subst, inl, inr, ⊎_elim, arith}
+use Rattle.std.proofs.Common.{◌≡◌, ◌⊎◌, ℕ, zero, suc, ◌+◌, ◌<◌, ◌≤◌, List, [], ◌∷◌, ◌++◌, length, set, Bool, true, false, ◌&&◌}
+use Rattle.std.proofs.Common.{not, cond, eqb, refl, sym, ap, ◌∙◌, subst, inl, inr, ⊎_elim, arith}
 use Rattle.std.specs.Prelude.{reverse}
-use Rattle.executor_model.specs.declared.kind.Kind.{Kind}
-use Rattle.executor_model.specs.declared.call.Call.{Call}
-use Rattle.executor_model.specs.declared.call.Call.TheVariants as call
-use Rattle.executor_model.specs.declared.call.Reply.{Reply}
-use Rattle.executor_model.specs.declared.event.Answer.TheVariants as answer
-use Rattle.executor_model.specs.declared.event.Event.TheVariants as event
-use Rattle.executor_model.specs.declared.op.Hold.{Hold}
-use Rattle.executor_model.specs.declared.op.Op.{Op}
-use Rattle.executor_model.specs.declared.op.Op.TheVariants as op
-use Rattle.executor_model.specs.declared.op.HandleOp.TheVariants as handle_op
-use Rattle.executor_model.specs.declared.op.UserOp.TheVariants as user_op
-use Rattle.executor_model.specs.declared.step.Hint.{Hint}
-use Rattle.executor_model.specs.declared.step.Step.{Step}
-use Rattle.executor_model.specs.declared.step.UserEnd.{UserEnd}
-use Rattle.executor_model.specs.declared.step.UserEnd.TheVariants as end
-use Rattle.executor_model.specs.World.{World, Done, done, log, task}
-use Rattle.executor_model.specs.Acts.{is_copy_refused}
-use Rattle.executor_model.specs.Doing.{act}
+use Rattle.executor_model.proofs.Types.{Kind, Call, Reply, Answer, Event, Hold, Op, HandleOp, UserOp, Hint, Step, UserEnd}
 use Rattle.executor_model.specs.Weights.{same, weigh, weigh_all, past}
-use Rattle.executor_model.specs.Sound.{Pend, pend, with_ops}
-use Rattle.executor_model.specs.Good.{Good}
-use Rattle.executor_model.specs.Rows.{handling_of}
-use Rattle.executor_model.specs.Rows.{past_of}
-use Rattle.executor_model.specs.Steps.{Machine, stack, idle, run, start, mine, top, has_all, has_handle}
-use Rattle.executor_model.specs.Steps.{accepts, begun, react}
-use Rattle.task_moves.specs.Moves as moves
-use Rattle.executor_model.proofs.Steps.Lists.{same_is, past_is}
-use Rattle.executor_model.proofs.Steps.Lift.{split, unsettled, good-start, none_refused}
-use Rattle.executor_model.proofs.Steps.Lift.{handle-known, first-true, unborrowed, weigh_all-idle, set-own}
-use Rattle.executor_model.proofs.Steps.Ways.{Way, along}
+use Rattle.executor_model.specs.Steps.{Machine, stack, idle, run, start, mine, top, has_all, has_handle, accepts, begun, react}
+use Rattle.executor_model.specs.{World.World, World.Done, World.done, World.log, World.task, Acts.is_copy_refused, Doing.act}
+use Rattle.executor_model.specs.{Sound.Pend, Sound.pend, Sound.with_ops, Good.Good, Rows.handling_of, Rows.past_of}
+use Rattle.executor_model.proofs.Steps.Lift.{split, unsettled, good-start, none_refused, handle-known, first-true, unborrowed}
+use Rattle.executor_model.proofs.Awaiters.Awaited.{Heard, heard, heard-none, Awaiting, with_awaiting, awaiting, Awaits, Mark}
+use Rattle.executor_model.proofs.Awaiters.Holding.{nowhere, spot, spot-none, spot-more, seen, seen-append, Spotted, Holds}
+use Rattle.executor_model.proofs.Awaiters.AwaitedCalls.{begun_in, UsesHandle, awaits-begun, EndHeard, heard-end, marked}
+use Rattle.executor_model.proofs.Awaiters.AwaitedSteps.{Waited, awaiting-none, nothing_awaited, before, footing-here}
+use Rattle.executor_model.proofs.Awaiters.AwaitedSteps.{awaits-here, stages-here, awaits-pushed, held-same, held-polled}
 use Rattle.executor_model.proofs.Steps.Ways.Way.{acted, reacted, called}
 use Rattle.executor_model.proofs.Quiet.Calls.{calling_of, is_end, Passes, single, then}
-use Rattle.executor_model.proofs.Quiet.CallsGroups.{calls-act}
 use Rattle.executor_model.proofs.Quiet.Resting.{idle-stack, opens}
-use Rattle.executor_model.proofs.Awaiters.Awaited.{Heard, heard, heard-none, Awaiting, with_awaiting, awaiting}
-use Rattle.executor_model.proofs.Awaiters.Awaited.{Awaits, Mark, asks_if}
-use Rattle.executor_model.proofs.Awaiters.AwaitedActs.{is_answer}
 use Rattle.executor_model.proofs.Awaiters.AwaitedGroups.{awaits-act, awaits-react, asked}
 use Rattle.executor_model.proofs.Awaiters.AwaitedTies.{Tied, AllTied, tied-moves, tied-ends}
 use Rattle.executor_model.proofs.Awaiters.AwaitedHeld.{asks_of, asks-calling, open_of}
-use Rattle.executor_model.proofs.Awaiters.Holding.{nowhere, spot, spot-none, spot-more, seen, seen-append}
-use Rattle.executor_model.proofs.Awaiters.Holding.{Spotted, Holds, held-step}
-use Rattle.executor_model.proofs.Awaiters.AwaitedCalls.{begun_in, UsesHandle, awaits-begun, EndHeard}
-use Rattle.executor_model.proofs.Awaiters.AwaitedCalls.{heard-end, marked, awaits-end}
 use Rattle.executor_model.proofs.Awaiters.AwaitedCalls.EndHeard.{own, within, apart}
-use Rattle.executor_model.proofs.Awaiters.AwaitedSteps.{Waited, awaiting-none, nothing_awaited, before}
-use Rattle.executor_model.proofs.Steps.Growing.{pend-none}
-use Rattle.executor_model.proofs.OneFuture.Views.{none}
-use Rattle.executor_model.proofs.Awaiters.AwaitedSteps.{footing-here, awaits-here, stages-here, awaits-pushed, held-same}
-use Rattle.executor_model.proofs.Awaiters.AwaitedSteps.{held-polled, held-begun}
+use Rattle.executor_model.proofs.{Steps.Lists.same_is, Steps.Lists.past_is, Steps.Lift.weigh_all-idle, Steps.Lift.set-own}
+use Rattle.executor_model.proofs.{Steps.Ways.Way, Steps.Ways.along, Quiet.CallsGroups.calls-act, Awaiters.Awaited.asks_if}
+use Rattle.executor_model.proofs.{Awaiters.AwaitedActs.is_answer, Awaiters.Holding.held-step, Awaiters.AwaitedCalls.awaits-end}
+use Rattle.executor_model.proofs.{Awaiters.AwaitedSteps.held-begun, Steps.Growing.pend-none, OneFuture.Views.none}
+use Rattle.task_moves.specs.Moves as moves
 
 -- what is done
 
@@ -79,10 +51,10 @@ asks-stays : (b : Bool) (p f g : ℕ) (o : Op) (m : Mark) → calling_of o ≡ 1
 asks-stays b p f g o m c = ⊎_elim (λ x. inl x) (λ x. inr (c, x.0, x.1, x.2)) (asks-is b p f g m)
 
 mark-stays : (p : ℕ) (t : Hint) (o : Op) (w : World) (g : ℕ) (m : Mark) → MarkStays p t o w g m
-mark-stays p t (op.Handle (handle_op.Look f a)) w g m = asks-stays (is_answer (moves.poll (task w f)).owed.answer) p f g
-    (op.Handle (handle_op.Look f a)) m refl
-mark-stays p t (op.Handle (handle_op.CopyAwaiter f a)) w g m =
-    asks-stays (not (is_copy_refused t w a)) p f g (op.Handle (handle_op.CopyAwaiter f a)) m refl
+mark-stays p t (Op.Handle (HandleOp.Look f a)) w g m = asks-stays (is_answer (moves.poll (task w f)).owed.answer) p f g
+    (Op.Handle (HandleOp.Look f a)) m refl
+mark-stays p t (Op.Handle (HandleOp.CopyAwaiter f a)) w g m =
+    asks-stays (not (is_copy_refused t w a)) p f g (Op.Handle (HandleOp.CopyAwaiter f a)) m refl
 mark-stays p t _ w g m = inl refl
 
 waited-acted : (s : Machine) (p : ℕ) (rest : List Op) (t : Hint) (o : Op) → is_end o ≡ false → p < length s.parties →
@@ -119,21 +91,21 @@ waited-acted s p rest t o n l e good tied h = record {
 -- the end of user code
 
 passes-react : (p : ℕ) (o : Op) (u : UserEnd) (w : World) → accepts o u ≡ true → Passes o (react p o u w).next
-passes-react p (op.User (user_op.Poll f)) (end.Polled answer.Pending) w a =
+passes-react p (Op.User (UserOp.Poll f)) (UserEnd.Polled Answer.Pending) w a =
     record { none = λ z. refl; one = λ z. absurd (omega (arith, z)) }
-passes-react p (op.User (user_op.Poll f)) (end.Polled answer.Ready) w a =
+passes-react p (Op.User (UserOp.Poll f)) (UserEnd.Polled Answer.Ready) w a =
     record { none = λ z. refl; one = λ z. absurd (omega (arith, z)) }
-passes-react p (op.User (user_op.Drop f)) end.Done w a =
+passes-react p (Op.User (UserOp.Drop f)) UserEnd.Done w a =
     record { none = λ z. refl; one = λ z. absurd (omega (arith, z)) }
-passes-react p (op.User (user_op.DropOutput f)) end.Done w a =
+passes-react p (Op.User (UserOp.DropOutput f)) UserEnd.Done w a =
     record { none = λ z. refl; one = λ z. absurd (omega (arith, z)) }
-passes-react p (op.User (user_op.CallOutside x)) end.Done w a =
+passes-react p (Op.User (UserOp.CallOutside x)) UserEnd.Done w a =
     record { none = λ z. refl; one = λ z. absurd (omega (arith, z)) }
-passes-react p (op.User (user_op.PollOwn x)) (end.Polled answer.Pending) w a =
+passes-react p (Op.User (UserOp.PollOwn x)) (UserEnd.Polled Answer.Pending) w a =
     record { none = λ z. absurd (omega (arith, z)); one = λ z. single _ refl }
-passes-react p (op.User (user_op.PollOwn x)) (end.Polled answer.Ready) w a =
-    record { none = λ z. absurd (omega (arith, z)); one = λ z. then (op.User (user_op.DropOwn x.run) ∷ []) _ refl refl }
-passes-react p (op.User (user_op.DropOwn q)) end.Done w a =
+passes-react p (Op.User (UserOp.PollOwn x)) (UserEnd.Polled Answer.Ready) w a =
+    record { none = λ z. absurd (omega (arith, z)); one = λ z. then (Op.User (UserOp.DropOwn x.run) ∷ []) _ refl refl }
+passes-react p (Op.User (UserOp.DropOwn q)) UserEnd.Done w a =
     record { none = λ z. refl; one = λ z. absurd (omega (arith, z)) }
 passes-react p _ _ w a = absurd (cc)
 
@@ -184,14 +156,14 @@ uses-handle : (s : Machine) (p : ℕ) (rest : List Op) (c : Call) (g : ℕ) → 
     weigh_all (handling_of g) (set s.parties p rest) ≡ weigh_all (handling_of g) s.parties →
     has_all s.world s.parties (top (stack s p)) c ≡ true →
     UsesHandle s.world g c (weigh_all (handling_of g) (set s.parties p rest))
-uses-handle s p rest (call.PollHandle f b) g e one q k = handle-free s p f rest g e one q (first-true _ _ k)
-uses-handle s p rest (call.Cancel f) g e one q k = handle-free s p f rest g e one q k
-uses-handle s p rest (call.Detach f) g e one q k = handle-free s p f rest g e one q k
-uses-handle s p rest (call.DropHandle f) g e one q k = handle-free s p f rest g e one q k
+uses-handle s p rest (Call.PollHandle f b) g e one q k = handle-free s p f rest g e one q (first-true _ _ k)
+uses-handle s p rest (Call.Cancel f) g e one q k = handle-free s p f rest g e one q k
+uses-handle s p rest (Call.Detach f) g e one q k = handle-free s p f rest g e one q k
+uses-handle s p rest (Call.DropHandle f) g e one q k = handle-free s p f rest g e one q k
 uses-handle s p rest _ g e one q k = tt
 
 abbrev begun_done : Machine → ℕ → Call → Done
-begun_done s p c = begun p (log s.world (event.CallBegun p c)) (mine (top (stack s p))) c
+begun_done s p c = begun p (log s.world (Event.CallBegun p c)) (mine (top (stack s p))) c
 
 waited-begun : (s : Machine) (p : ℕ) (rest : List Op) (c : Call) →
     has_all s.world s.parties (top (stack s p)) c ≡ true → p < length s.parties → rest ≡ stack s p →
@@ -220,56 +192,56 @@ waited-begun s p rest c k l r e good tied h = record {
 -- the end of a call
 
 module _ (s : Machine) (p : ℕ) (a : Reply) (held : Hold) (below_it : List Op) (l : p < length s.parties)
-    (e : stack s p ≡ below_it ++ reverse (op.End a held ∷ [])) (h : Waited s) (g : ℕ) where
+    (e : stack s p ≡ below_it ++ reverse (Op.End a held ∷ [])) (h : Waited s) (g : ℕ) where
   abbrev ended : Done
-  ended = done (log s.world (event.CallEnded p a)) []
+  ended = done (log s.world (Event.CallEnded p a)) []
 
   -- what is seen of the stack with the end on top
   spotted : (heard g s.world.trace).asking ≡ true → (heard g s.world.trace).party ≡ p →
-      Spotted (heard g s.world.trace).inner (spot (asks_of g (op.End a held)) 1 (seen (asks_of g) nowhere below_it))
+      Spotted (heard g s.world.trace).inner (spot (asks_of g (Op.End a held)) 1 (seen (asks_of g) nowhere below_it))
   spotted x q = subst (Spotted (heard g s.world.trace).inner)
       (ap (λ (n : ℕ). seen (asks_of g) nowhere (stack s n)) q
-      ∙ (ap (seen (asks_of g) nowhere) e ∙ seen-append (asks_of g) nowhere below_it (op.End a held ∷ [])))
+      ∙ (ap (seen (asks_of g) nowhere) e ∙ seen-append (asks_of g) nowhere below_it (Op.End a held ∷ [])))
       (h.held g x)
 
   ends-open : (heard g s.world.trace).asking ≡ true → (heard g s.world.trace).party ≡ p →
-      (heard g s.world.trace).inner ≡ 0 → 1 ≤ asks_of g (op.End a held)
-  ends-open x q z = go (asks_of g (op.End a held)) refl
+      (heard g s.world.trace).inner ≡ 0 → 1 ≤ asks_of g (Op.End a held)
+  ends-open x q z = go (asks_of g (Op.End a held)) refl
     where
-      go : (n : ℕ) → asks_of g (op.End a held) ≡ n → 1 ≤ asks_of g (op.End a held)
+      go : (n : ℕ) → asks_of g (Op.End a held) ≡ n → 1 ≤ asks_of g (Op.End a held)
       go (suc n) y = omega (arith, y)
       go zero y = let t : Spotted (heard g s.world.trace).inner
           (record (seen (asks_of g) nowhere below_it) { inner = 1 + (seen (asks_of g) nowhere below_it).inner }) =
           subst (Spotted (heard g s.world.trace).inner)
-          (spot-none (asks_of g (op.End a held)) 1 (seen (asks_of g) nowhere below_it) y) (spotted x q) in
+          (spot-none (asks_of g (Op.End a held)) 1 (seen (asks_of g) nowhere below_it) y) (spotted x q) in
           absurd (omega (arith, t.1, z))
 
   ends-within : (n : ℕ) → (heard g s.world.trace).asking ≡ true → (heard g s.world.trace).party ≡ p →
       (heard g s.world.trace).inner ≡ suc n → Spotted n (seen (asks_of g) nowhere below_it)
-  ends-within n x q z = go (asks_of g (op.End a held)) refl
+  ends-within n x q z = go (asks_of g (Op.End a held)) refl
     where
-      go : (k : ℕ) → asks_of g (op.End a held) ≡ k → Spotted n (seen (asks_of g) nowhere below_it)
+      go : (k : ℕ) → asks_of g (Op.End a held) ≡ k → Spotted n (seen (asks_of g) nowhere below_it)
       go zero y = let t : Spotted (heard g s.world.trace).inner
           (record (seen (asks_of g) nowhere below_it) { inner = 1 + (seen (asks_of g) nowhere below_it).inner }) =
           subst (Spotted (heard g s.world.trace).inner)
-          (spot-none (asks_of g (op.End a held)) 1 (seen (asks_of g) nowhere below_it) y) (spotted x q) in
+          (spot-none (asks_of g (Op.End a held)) 1 (seen (asks_of g) nowhere below_it) y) (spotted x q) in
           (t.0, omega (arith, t.1, z))
       go (suc k) y = let t : Spotted (heard g s.world.trace).inner (record { found = true; inner = 0 }) =
           subst (Spotted (heard g s.world.trace).inner)
-          (spot-more (asks_of g (op.End a held)) 1 (seen (asks_of g) nowhere below_it) (omega (arith, y)))
+          (spot-more (asks_of g (Op.End a held)) 1 (seen (asks_of g) nowhere below_it) (omega (arith, y)))
           (spotted x q) in absurd (omega (arith, t.1, z))
 
-  held-ended : EndHeard p a (heard g s.world.trace) (heard g (s.world.trace ++ event.CallEnded p a ∷ [])) →
-      Holds (asks_of g) (open_of (heard g (s.world.trace ++ event.CallEnded p a ∷ [])))
+  held-ended : EndHeard p a (heard g s.world.trace) (heard g (s.world.trace ++ Event.CallEnded p a ∷ [])) →
+      Holds (asks_of g) (open_of (heard g (s.world.trace ++ Event.CallEnded p a ∷ [])))
       (set s.parties p (below_it ++ reverse []))
   held-ended (own x q z y) = λ b. let no : false ≡ true = sym (ap (λ (t : Heard). t.asking) y) ∙ b in absurd (cc)
   held-ended (within n x q z y) = held-step (asks_of g) (asks-calling g) (open_of (heard g s.world.trace))
-      (open_of (heard g (s.world.trace ++ event.CallEnded p a ∷ []))) s.parties p (op.End a held ∷ []) below_it [] l e
+      (open_of (heard g (s.world.trace ++ Event.CallEnded p a ∷ []))) s.parties p (Op.End a held ∷ []) below_it [] l e
       (λ b. x) (ap (λ (t : Heard). t.party) y) (λ b n. absurd (n q))
       (λ b k t. subst (λ (m : ℕ). Spotted m (seen (asks_of g) nowhere below_it)) (sym (ap (λ (t : Heard). t.inner) y))
       (ends-within n x q z)) (h.held g)
   held-ended (apart x y) = held-step (asks_of g) (asks-calling g) (open_of (heard g s.world.trace))
-      (open_of (heard g (s.world.trace ++ event.CallEnded p a ∷ []))) s.parties p (op.End a held ∷ []) below_it [] l e
+      (open_of (heard g (s.world.trace ++ Event.CallEnded p a ∷ []))) s.parties p (Op.End a held ∷ []) below_it [] l e
       (λ b. sym (ap (λ (t : Heard). t.asking) y) ∙ b) (ap (λ (t : Heard). t.party) y)
       (λ b n. ap (λ (t : Heard). t.inner) y) (λ b k t. absurd (x (sym (ap (λ (t : Heard). t.asking) y) ∙ b) k))
       (h.held g)
@@ -277,14 +249,14 @@ module _ (s : Machine) (p : ℕ) (a : Reply) (held : Hold) (below_it : List Op) 
   awaits-ended : Awaits ended.world g (pend g (set s.parties p (below_it ++ reverse [])))
       (awaiting g (set s.parties p (below_it ++ reverse [])))
       (marked ended.world g (awaiting g (set s.parties p (below_it ++ reverse []))))
-  awaits-ended = awaits-pushed s p (op.End a held ∷ []) below_it ended l e h g _
+  awaits-ended = awaits-pushed s p (Op.End a held ∷ []) below_it ended l e h g _
       (awaits-end s.world p a held g _ _ _ (heard-end g p a s.world.trace) ends-open
-      (stages-here s p (op.End a held ∷ []) below_it ended l e h g)
-      (awaits-here s p (op.End a held ∷ []) below_it ended l e h g))
+      (stages-here s p (Op.End a held ∷ []) below_it ended l e h g)
+      (awaits-here s p (Op.End a held ∷ []) below_it ended l e h g))
 
 waited-ends : (s : Machine) (p : ℕ) (a : Reply) (held : Hold) (below_it : List Op) → p < length s.parties →
-    stack s p ≡ below_it ++ reverse (op.End a held ∷ []) → Waited s →
-    Waited (unsettled s p below_it (done (log s.world (event.CallEnded p a)) []))
+    stack s p ≡ below_it ++ reverse (Op.End a held ∷ []) → Waited s →
+    Waited (unsettled s p below_it (done (log s.world (Event.CallEnded p a)) []))
 waited-ends s p a held below_it l e h = record {
   awaits = λ g. awaits-ended s p a held below_it l e h g;
   held = λ g. held-ended s p a held below_it l e h g (heard-end g p a s.world.trace);
@@ -297,7 +269,7 @@ acted-by : (s : Machine) (p : ℕ) (rest : List Op) (t : Hint) (o : Op) (b : Boo
     stack s p ≡ rest ++ reverse (o ∷ []) → Good s → AllTied (unsettled s p rest (act p t o s.world)) → Waited s →
     Waited (unsettled s p rest (act p t o s.world))
 acted-by s p rest t o false n l e good tied h = waited-acted s p rest t o n l e good tied h
-acted-by s p rest t (op.End a held) true n l e good tied h = waited-ends s p a held rest l e h
+acted-by s p rest t (Op.End a held) true n l e good tied h = waited-ends s p a held rest l e h
 acted-by s p rest t _ true n l e good tied h = absurd (cc)
 
 waited-way : (s : Machine) (p : ℕ) (old rest : List Op) (d : Done) → Good s → p < length s.parties →

@@ -3,63 +3,30 @@
 -- most of what is done leads to nothing of these.
 use Rattle.std.proofs.Common.{◌≡◌, ℕ, List, [], ◌∷◌, ◌++◌, Bool, true, false, refl, ap, arith}
 use Rattle.std.specs.Prelude.{Option, Some, None}
-use Rattle.executor_model.specs.declared.op.Look.{Look}
-use Rattle.executor_model.specs.declared.op.Look.TheVariants.{First, Second}
-use Rattle.executor_parts.specs.declared.mark.Mark.{Mark}
-use Rattle.task_moves.specs.declared.moves.state.State.{State}
-use Rattle.task_moves.specs.declared.moves.owed.Move.TheVariants as move
 use Rattle.task_moves.specs.declared.moves.owed.AwaiterDebt.{AwaiterDebt}
-use Rattle.task_moves.specs.declared.moves.owed.Owed.{Owed}
-use Rattle.task_moves.specs.declared.moves.owed.Moved.{Moved}
-use Rattle.task_moves.specs.Moves as moves
-use Rattle.executor_model.specs.declared.call.Call.{Call}
-use Rattle.executor_model.specs.declared.call.Call.TheVariants as call
-use Rattle.executor_model.specs.declared.call.Reply.{Reply}
-use Rattle.executor_model.specs.declared.call.Reply.TheVariants as reply
-use Rattle.executor_model.specs.declared.op.Awaiter.{Awaiter}
-use Rattle.executor_model.specs.declared.op.Waker.{Waker}
-use Rattle.executor_model.specs.declared.op.Waker.TheVariants.{Task, Outside}
-use Rattle.executor_model.specs.declared.op.Hold.{Hold}
-use Rattle.executor_model.specs.declared.op.Op.{Op}
-use Rattle.executor_model.specs.declared.op.Op.TheVariants as op
-use Rattle.executor_model.specs.declared.op.ClosingOp.TheVariants as closing_op
-use Rattle.executor_model.specs.declared.op.HandleOp.TheVariants as handle_op
-use Rattle.executor_model.specs.declared.op.Hold.TheVariants as hold
-use Rattle.executor_model.specs.declared.op.QueueOp.TheVariants as queue_op
-use Rattle.executor_model.specs.declared.op.Polled.TheVariants as of
-use Rattle.executor_model.specs.declared.op.RunPoll.{RunPoll}
-use Rattle.executor_model.specs.declared.op.TableOp.TheVariants as table_op
-use Rattle.executor_model.specs.declared.op.UserOp.TheVariants as user_op
-use Rattle.executor_model.specs.declared.op.WakerOp.TheVariants as waker_op
-use Rattle.executor_model.specs.declared.event.Answer.TheVariants as answer
-use Rattle.executor_model.specs.declared.event.Event.TheVariants as event
-use Rattle.executor_model.specs.declared.step.Hint.{Hint}
-use Rattle.executor_model.specs.declared.step.UserEnd.{UserEnd}
-use Rattle.executor_model.specs.declared.step.UserEnd.TheVariants as end
+use Rattle.executor_model.proofs.Types.{Look, First, Second, Mark, State, Move, Owed, Moved, Call, Reply, Awaiter, Waker, Task}
+use Rattle.executor_model.proofs.Types.{Outside, Hold, Op, ClosingOp, HandleOp, QueueOp, Polled, RunPoll, TableOp, UserOp}
+use Rattle.executor_model.proofs.Types.{WakerOp, Answer, Event, Hint, UserEnd}
+use Rattle.executor_model.specs.Acts.{append_by, take_by, enter_by, entry_goes, leave_by, copy_by, copy_awaiter_by, register_by}
 use Rattle.executor_model.specs.World.{World, Done, Stage, New, Listed, Ended, log, task, among, awaiter_of, run_of}
-use Rattle.executor_model.specs.Carried.{owed_ops, awaiter_ops}
-use Rattle.executor_model.specs.Acts.{append_by, take_by, enter_by, entry_goes, leave_by, copy_by, copy_awaiter_by}
-use Rattle.executor_model.specs.Acts.{register_by}
 use Rattle.executor_model.specs.Acts.{waker_goes, let_go, let_go_by, end_register_by, told, call_awaiter, wake}
 use Rattle.executor_model.specs.ActsOfRuns.{call_by_reference, reschedule_by, wake_own}
-use Rattle.executor_model.specs.Doing.{act}
-use Rattle.executor_model.specs.Weights.{weigh}
 use Rattle.executor_model.specs.Steps.{with_future, kept, accepts, is_drop, begun, drop_run, future_of, poll_run, react}
-use Rattle.executor_model.proofs.Steps.Lists.{weigh-append}
-use Rattle.executor_model.proofs.Steps.Owed.{owed-future, owed-nothing}
+use Rattle.executor_model.specs.{Carried.owed_ops, Carried.awaiter_ops, Doing.act, Weights.weigh}
 use Rattle.executor_model.proofs.Steps.RunsNext.{BlindToRuns, list-blind, run-blind, steal-blind, tick-blind}
-use Rattle.executor_model.proofs.Steps.SleepersNext.{sleeper-unseen}
-use Rattle.executor_model.proofs.Steps.Asides.{aside-leak_next, aside-leak_out}
+use Rattle.executor_model.proofs.{Steps.Lists.weigh-append, Steps.Owed.owed-future, Steps.Owed.owed-nothing}
+use Rattle.executor_model.proofs.{Steps.SleepersNext.sleeper-unseen, Steps.Asides.aside-leak_next, Steps.Asides.aside-leak_out}
+use Rattle.task_moves.specs.Moves as moves
 
 -- a notice by a poll of the handle itself, the rest of a notice, and the steps of the executor's drop
 abbrev pub rough_of : Op → ℕ
-rough_of (op.Handle (handle_op.Notify f true)) = 1
-rough_of (op.Handle (handle_op.EndNotify f mine)) = 1
-rough_of (op.Closing closing_op.TakeOut) = 1
-rough_of (op.Closing closing_op.DropNext) = 1
-rough_of (op.Closing closing_op.WakeNext) = 1
-rough_of (op.Closing (closing_op.Close mark)) = 1
-rough_of (op.Closing (closing_op.Drain mark)) = 1
+rough_of (Op.Handle (HandleOp.Notify f true)) = 1
+rough_of (Op.Handle (HandleOp.EndNotify f mine)) = 1
+rough_of (Op.Closing ClosingOp.TakeOut) = 1
+rough_of (Op.Closing ClosingOp.DropNext) = 1
+rough_of (Op.Closing ClosingOp.WakeNext) = 1
+rough_of (Op.Closing (ClosingOp.Close mark)) = 1
+rough_of (Op.Closing (ClosingOp.Drain mark)) = 1
 rough_of _ = 0
 
 plain-both : (xs ys : List Op) → weigh rough_of xs ≡ 0 → weigh rough_of ys ≡ 0 → weigh rough_of (xs ++ ys) ≡ 0
@@ -168,10 +135,10 @@ plain-end_register : (b : Bool) (w : World) (f : ℕ) (a : Waker) (k : ℕ) →
 plain-end_register true w f a k =
     omega (
       arith,
-      plain-both (let_go (awaiter_of w f)) (op.Handle (handle_op.LookAgain f) ∷ [])
+      plain-both (let_go (awaiter_of w f)) (Op.Handle (HandleOp.LookAgain f) ∷ [])
           (plain-let_go (awaiter_of w f)) refl,
     )
-plain-end_register false w f a k = plain-both (let_go (awaiter_of w f)) (op.Handle (handle_op.LookAgain f) ∷ [])
+plain-end_register false w f a k = plain-both (let_go (awaiter_of w f)) (Op.Handle (HandleOp.LookAgain f) ∷ [])
     (plain-let_go (awaiter_of w f)) refl
 
 plain-told : (b : Bool) (f : ℕ) (a : Option Awaiter) → weigh rough_of (told b f a) ≡ 0
@@ -217,8 +184,8 @@ plain-by_reference p w (Outside y) = refl
 
 plain-own : (p : ℕ) (w : World) (x : RunPoll) → weigh rough_of (wake_own p w x).next ≡ 0
 plain-own p w x =
-    let v : World = log w (event.WakerCalled p (of.Run x.run) x.poll x.waker) in
-    plain-both (call_by_reference p v x.waker).next (op.End reply.Pending (hold.Run x.run) ∷ [])
+    let v : World = log w (Event.WakerCalled p (Polled.Run x.run) x.poll x.waker) in
+    plain-both (call_by_reference p v x.waker).next (Op.End Reply.Pending (Hold.Run x.run) ∷ [])
     (plain-by_reference p v x.waker) refl
 
 plain-reschedule : (q : List ℕ) (w : World) (r : ℕ) (a : Reply) → weigh rough_of (reschedule_by q w r a).next ≡ 0
@@ -227,83 +194,76 @@ plain-reschedule (f ∷ rest) w r a = refl
 
 -- but for these
 abbrev pub is_special : Op → Bool
-is_special (op.Handle (handle_op.Look f a)) = true
-is_special (op.Handle (handle_op.LookAgain f)) = true
-is_special (op.Handle (handle_op.Notify f mine)) = true
-is_special (op.Closing closing_op.TakeOut) = true
-is_special (op.Closing closing_op.DropNext) = true
-is_special (op.Closing closing_op.WakeNext) = true
-is_special (op.Closing (closing_op.Close mark)) = true
-is_special (op.Closing (closing_op.Drain mark)) = true
+is_special (Op.Handle (HandleOp.Look f a)) = true
+is_special (Op.Handle (HandleOp.LookAgain f)) = true
+is_special (Op.Handle (HandleOp.Notify f mine)) = true
+is_special (Op.Closing ClosingOp.TakeOut) = true
+is_special (Op.Closing ClosingOp.DropNext) = true
+is_special (Op.Closing ClosingOp.WakeNext) = true
+is_special (Op.Closing (ClosingOp.Close mark)) = true
+is_special (Op.Closing (ClosingOp.Drain mark)) = true
 is_special _ = false
 
 pub plain-act : (p : ℕ) (h : Hint) (o : Op) (w : World) → is_special o ≡ false → weigh rough_of (act p h o w).next ≡ 0
-plain-act p h (op.Table (table_op.Enter mark)) w n = plain-enter _ _ _ p w
-plain-act p h (op.Queue queue_op.TakeTurn) w n = refl
-plain-act p h (op.Queue (queue_op.Take look)) w n = plain-take look _ w
-plain-act p h (op.Queue (queue_op.Append f)) w n = plain-append _ w _ f
-plain-act p h (op.Move move.WakeByReference f) w n =
+plain-act p h (Op.Table (TableOp.Enter mark)) w n = plain-enter _ _ _ p w
+plain-act p h (Op.Queue QueueOp.TakeTurn) w n = refl
+plain-act p h (Op.Queue (QueueOp.Take look)) w n = plain-take look _ w
+plain-act p h (Op.Queue (QueueOp.Append f)) w n = plain-append _ w _ f
+plain-act p h (Op.Move Move.WakeByReference f) w n =
     plain-carried f _ (moves.wake_by_reference (task w f)) (no-wake _ _ (task w f))
-plain-act p h (op.Move move.Wake f) w n = plain-wake p w f
-plain-act p h (op.Move move.Release f) w n = plain-carried f _ (moves.release (task w f)) (no-release _ _ (task w f))
-plain-act p h (op.Move move.TakeUp f) w n = plain-carried f _ (moves.take_up (task w f)) (no-take_up _ (task w f))
-plain-act p h (op.Move move.SettleClosed f) w n = plain-owed f (among f w.table) (moves.settle_closed (task w f)).owed
+plain-act p h (Op.Move Move.Wake f) w n = plain-wake p w f
+plain-act p h (Op.Move Move.Release f) w n = plain-carried f _ (moves.release (task w f)) (no-release _ _ (task w f))
+plain-act p h (Op.Move Move.TakeUp f) w n = plain-carried f _ (moves.take_up (task w f)) (no-take_up _ (task w f))
+plain-act p h (Op.Move Move.SettleClosed f) w n = plain-owed f (among f w.table) (moves.settle_closed (task w f)).owed
     (plain-notify_if f (task w f).awaiter)
-plain-act p h (op.Move move.GiveUp f) w n = plain-carried f _ (moves.give_up (task w f)) (no-give_up _ (task w f))
-plain-act p h (op.Move move.EndReady f) w n = plain-owed f (among f w.table) (moves.end_ready (task w f)).owed
+plain-act p h (Op.Move Move.GiveUp f) w n = plain-carried f _ (moves.give_up (task w f)) (no-give_up _ (task w f))
+plain-act p h (Op.Move Move.EndReady f) w n = plain-owed f (among f w.table) (moves.end_ready (task w f)).owed
     (plain-notify_if f (task w f).awaiter)
-plain-act p h (op.Move move.EndPending f) w n =
+plain-act p h (Op.Move Move.EndPending f) w n =
     plain-carried f _ (moves.end_pending (task w f)) (no-end_pending _ _ _ (task w f))
-plain-act p h (op.Move move.EndClosed f) w n = plain-owed f (among f w.table) (moves.end_closed (task w f)).owed
+plain-act p h (Op.Move Move.EndClosed f) w n = plain-owed f (among f w.table) (moves.end_closed (task w f)).owed
     (plain-notify_if f (task w f).awaiter)
-plain-act p h (op.Move move.DropRunnable f) w n = plain-carried f (among f w.table) (moves.drop_runnable (task w f))
+plain-act p h (Op.Move Move.DropRunnable f) w n = plain-carried f (among f w.table) (moves.drop_runnable (task w f))
     refl
-plain-act p h (op.Move move.Cancel f) w n =
+plain-act p h (Op.Move Move.Cancel f) w n =
     plain-owed f _ (moves.cancel (task w f)).owed (plain-cancel _ _ f (task w f))
-plain-act p h (op.Move move.Detach f) w n = plain-carried f _ (moves.detach (task w f)) (no-detach _ _ (task w f))
-plain-act p h (op.Table (table_op.LeaveTable f)) w n = plain-leave _ w f
-plain-act p h (op.Waker (waker_op.CopyWaker f held)) w n = plain-copy _ w f held
-plain-act p h (op.Handle (handle_op.CopyAwaiter f a)) w n = plain-copy_awaiter _ p w f a
-plain-act p h (op.Handle (handle_op.Register f a k)) w n = plain-register _ w f a k
-plain-act p h (op.Handle (handle_op.EndRegister f a k)) w n = plain-end_register _ w f a k
-plain-act p h (op.Handle (handle_op.EndNotify f mine)) w n = plain-told _ f (awaiter_of w f)
-plain-act p h (op.Handle (handle_op.LetGo f)) w n = plain-let_go_by _ w f
-plain-act p h (op.Waker (waker_op.CallAwaiter f a k)) w n = plain-call p w f a k
-plain-act p h (op.Sleeper o) w n =
+plain-act p h (Op.Move Move.Detach f) w n = plain-carried f _ (moves.detach (task w f)) (no-detach _ _ (task w f))
+plain-act p h (Op.Table (TableOp.LeaveTable f)) w n = plain-leave _ w f
+plain-act p h (Op.Waker (WakerOp.CopyWaker f held)) w n = plain-copy _ w f held
+plain-act p h (Op.Handle (HandleOp.CopyAwaiter f a)) w n = plain-copy_awaiter _ p w f a
+plain-act p h (Op.Handle (HandleOp.Register f a k)) w n = plain-register _ w f a k
+plain-act p h (Op.Handle (HandleOp.EndRegister f a k)) w n = plain-end_register _ w f a k
+plain-act p h (Op.Handle (HandleOp.EndNotify f mine)) w n = plain-told _ f (awaiter_of w f)
+plain-act p h (Op.Handle (HandleOp.LetGo f)) w n = plain-let_go_by _ w f
+plain-act p h (Op.Waker (WakerOp.CallAwaiter f a k)) w n = plain-call p w f a k
+plain-act p h (Op.Sleeper o) w n =
     sleeper-unseen rough_of (record
     { hand = refl; call = λ s. refl; outside = λ x. refl; wake = λ p w f. plain-wake p w f }) p o w
-plain-act p h (op.List o) w n = list-blind rough_of blind-rough h o w
-plain-act p h (op.Steal o) w n = steal-blind rough_of blind-rough (λ f. refl) p o w
-plain-act p h (op.Run o) w n = run-blind rough_of blind-rough p h o w (plain-own p w)
+plain-act p h (Op.List o) w n = list-blind rough_of blind-rough h o w
+plain-act p h (Op.Steal o) w n = steal-blind rough_of blind-rough (λ f. refl) p o w
+plain-act p h (Op.Run o) w n = run-blind rough_of blind-rough p h o w (plain-own p w)
     (λ q r a. plain-reschedule q w r a)
-plain-act p h (op.Tick o) w n =
+plain-act p h (Op.Tick o) w n =
     tick-blind rough_of (record
     { tick = λ o. refl; exchange = refl; returns = refl; call = λ s. refl; release = λ f. refl; end = λ r t. refl; made = λ r. refl })
     blind-rough p h o w
-plain-act p h (op.Handle (handle_op.Look f a)) w n = absurd (cc)
-plain-act p h (op.Handle (handle_op.LookAgain f)) w n = absurd (cc)
-plain-act p h (op.Handle (handle_op.Notify f mine)) w n = absurd (cc)
-plain-act p h (op.Closing closing_op.TakeOut) w n = absurd (cc)
-plain-act p h (op.Closing closing_op.DropNext) w n = absurd (cc)
-plain-act p h (op.Closing closing_op.WakeNext) w n = absurd (cc)
-plain-act p h (op.Closing (closing_op.Close mark)) w n = absurd (cc)
-plain-act p h (op.Closing (closing_op.Drain mark)) w n = absurd (cc)
-plain-act p h (op.Closing closing_op.LeakOut) w n = aside-leak_out rough_of refl _ w
-plain-act p h (op.Closing closing_op.LeakNext) w n = aside-leak_next rough_of refl plain-wake _ p w w.waking
-plain-act p h (op.User (user_op.BeginDrop f)) w n = refl
+plain-act p h (Op.Handle (HandleOp.Look f a)) w n = absurd (cc)
+plain-act p h (Op.Handle _) w n = absurd (cc)
+plain-act p h (Op.Closing ClosingOp.TakeOut) w n = absurd (cc)
+plain-act p h (Op.Closing ClosingOp.DropNext) w n = absurd (cc)
+plain-act p h (Op.Closing ClosingOp.WakeNext) w n = absurd (cc)
+plain-act p h (Op.Closing (ClosingOp.Close mark)) w n = absurd (cc)
+plain-act p h (Op.Closing (ClosingOp.Drain mark)) w n = absurd (cc)
+plain-act p h (Op.Closing ClosingOp.LeakOut) w n = aside-leak_out rough_of refl _ w
+plain-act p h (Op.Closing ClosingOp.LeakNext) w n = aside-leak_next rough_of refl plain-wake _ p w w.waking
+plain-act p h (Op.User (UserOp.BeginDrop f)) w n = refl
 plain-act p h _ w n = refl
 
 pub plain-react : (p : ℕ) (o : Op) (e : UserEnd) (w : World) → accepts o e ≡ true →
     weigh rough_of (react p o e w).next ≡ 0
-plain-react p (op.User (user_op.Poll f)) (end.Polled answer.Pending) w k = refl
-plain-react p (op.User (user_op.Poll f)) (end.Polled answer.Ready) w k = refl
-plain-react p (op.User (user_op.Drop f)) end.Done w k = refl
-plain-react p (op.User (user_op.DropOutput f)) end.Done w k = refl
-plain-react p (op.User (user_op.CallOutside x)) end.Done w k = refl
-plain-react p (op.User (user_op.PollOwn x)) (end.Polled answer.Pending) w k = refl
-plain-react p (op.User (user_op.PollOwn x)) (end.Polled answer.Ready) w k = refl
-plain-react p (op.User (user_op.DropOwn r)) end.Done w k = refl
-plain-react p _ _ w k = absurd (cc)
+plain-react p (Op.User (UserOp.Poll f)) (UserEnd.Polled Answer.Pending) w k = refl
+plain-react p (Op.User (UserOp.PollOwn x)) (UserEnd.Polled Answer.Pending) w k = refl
+plain-react p _ _ w k = refl
 
 plain-with : (v : World) (r : Option ℕ) (d : ℕ → Done) → ((f : ℕ) → weigh rough_of (d f).next ≡ 0) →
     weigh rough_of (with_future v r d).next ≡ 0
@@ -323,13 +283,13 @@ plain-drop_run Ended r = refl
 -- a call leads to such only where it is the executor's drop
 pub plain-begun : (p : ℕ) (w : World) (here : Option Waker) (c : Call) → is_drop c ≡ false →
     weigh rough_of (begun p w here c).next ≡ 0
-plain-begun p w here (call.Wake k) n = plain-with w (kept w k) _ (λ f. refl)
-plain-begun p w here (call.WakeByRef k) n = plain-with w (kept w k) _ (λ f. refl)
-plain-begun p w here (call.Copy k) n = plain-with w (kept w k) _ (λ f. refl)
-plain-begun p w here (call.DropWaker k) n = plain-with w (kept w k) _ (λ f. refl)
-plain-begun p w here call.Keep n = plain-with w (future_of here) _ (λ f. refl)
-plain-begun p w here call.WakeSelf n = plain-with w (future_of here) _ (λ f. refl)
-plain-begun p w here (call.PollRun r b) n = plain-poll_run (run_of w r).stage _
-plain-begun p w here (call.DropRun r) n = plain-drop_run (run_of w r).stage r
-plain-begun p w here call.DropExecutor n = absurd (cc)
+plain-begun p w here (Call.Wake k) n = plain-with w (kept w k) _ (λ f. refl)
+plain-begun p w here (Call.WakeByRef k) n = plain-with w (kept w k) _ (λ f. refl)
+plain-begun p w here (Call.Copy k) n = plain-with w (kept w k) _ (λ f. refl)
+plain-begun p w here (Call.DropWaker k) n = plain-with w (kept w k) _ (λ f. refl)
+plain-begun p w here Call.Keep n = plain-with w (future_of here) _ (λ f. refl)
+plain-begun p w here Call.WakeSelf n = plain-with w (future_of here) _ (λ f. refl)
+plain-begun p w here (Call.PollRun r b) n = plain-poll_run (run_of w r).stage _
+plain-begun p w here (Call.DropRun r) n = plain-drop_run (run_of w r).stage r
+plain-begun p w here Call.DropExecutor n = absurd (cc)
 plain-begun p w here _ n = refl

@@ -1,64 +1,42 @@
 -- For awaiters_are_kept.
 -- The queue, the table and the moves of a task keep what holds of each future and of who waits on its handle.
-use Rattle.std.proofs.Common.{◌≡◌, ℕ, ◌+◌, ◌<◌, List, [], ◌∷◌, length, Bool, true, false, ◌||◌, ◌&&◌, not}
-use Rattle.std.proofs.Common.{eqb, drop, arith}
-use Rattle.std.proofs.lemmas.Bool.Decides.{nat_tests}
-use Rattle.std.proofs.lemmas.List.{length-set, length-append}
-use Rattle.executor_model.proofs.Steps.QueuesByMark.{times-last, times-first}
-use Rattle.executor_model.specs.declared.op.Look.TheVariants.{First, Second}
-use Rattle.executor_parts.specs.declared.mark.Mark as of_mark
-use Rattle.executor_model.specs.declared.op.Look.{Look}
-use Rattle.executor_model.specs.World.{queue_of}
-use Rattle.executor_model.specs.Acts.{mark_in, take_turn}
-use Rattle.task_moves.specs.declared.moves.owed.Moved.{Moved}
-use Rattle.task_moves.specs.Moves as moves
-use Rattle.executor_model.specs.declared.event.Event.TheVariants as event
-use Rattle.executor_model.specs.declared.op.Waker.TheVariants.{Task}
-use Rattle.executor_model.specs.declared.op.Polled.TheVariants as of
-use Rattle.executor_model.specs.declared.op.Op.{Op}
-use Rattle.executor_model.specs.declared.op.Op.TheVariants as op
-use Rattle.task_moves.specs.declared.moves.owed.Move.TheVariants as move
-use Rattle.executor_model.specs.declared.op.QueueOp.TheVariants as queue_op
-use Rattle.executor_model.specs.declared.op.TableOp.TheVariants as table_op
-use Rattle.executor_model.specs.declared.op.UserOp.TheVariants as user_op
-use Rattle.executor_model.specs.declared.op.WakerOp.TheVariants as waker_op
-use Rattle.executor_model.specs.World.{World, log, log_if, task, among}
-use Rattle.executor_model.specs.Carried.{carried}
-use Rattle.executor_model.specs.Acts.{append_by, take_by, enter_by, take_to_poll, put_back, take_to_drop}
-use Rattle.executor_model.specs.Acts.{leave_by}
-use Rattle.executor_model.specs.Acts.{begin_drop, begin_drop_output}
-use Rattle.executor_model.specs.Weights.{same}
-use Rattle.executor_model.specs.Sound.{Pend, with_ops, times}
-use Rattle.executor_model.proofs.Steps.Cases.{by_bool, by_list}
-use Rattle.executor_model.proofs.Steps.Marks.{IsUnmarked, unmarked, IsGoing, going}
-use Rattle.executor_model.proofs.Steps.Marks.{IsIdle, idle, last-one, IsUnheld, unheld}
-use Rattle.executor_model.proofs.Steps.Lists.{read_put, fresh_is, read_push}
-use Rattle.executor_model.proofs.Steps.Lists.{same_is, times-append}
+use Rattle.std.proofs.Common.{◌≡◌, ℕ, ◌+◌, ◌<◌, List, [], ◌∷◌, length, Bool, true, false, ◌||◌, ◌&&◌, not, eqb, drop, arith}
+use Rattle.std.{proofs.lemmas.Bool.Decides.nat_tests, proofs.lemmas.List.length-set, proofs.lemmas.List.length-append}
+use Rattle.executor_model.proofs.Types.{First, Second, Look, Moved, Event, Task, Polled, Op, Move, QueueOp, TableOp, UserOp}
+use Rattle.executor_model.specs.Acts.{mark_in, take_turn, append_by, take_by, enter_by, take_to_poll, put_back, take_to_drop}
+use Rattle.executor_model.specs.World.{queue_of, World, log, log_if, task, among}
+use Rattle.executor_model.specs.Acts.{leave_by, begin_drop, begin_drop_output}
+use Rattle.executor_model.specs.{Carried.carried, Weights.same, Sound.Pend, Sound.with_ops, Sound.times}
 use Rattle.executor_model.proofs.Counts.Counting.{settling, readied, pended, ending, dropping, taken_up, woken, woken_by}
+use Rattle.executor_model.proofs.Awaiters.Awaited.{Awaiting, Mark, heard-push, with_awaiting, Footing, Awaits, KeepsAwaits}
+use Rattle.executor_model.proofs.Steps.QueuesByMark.{times-last, times-first}
+use Rattle.executor_model.proofs.Steps.Marks.{IsUnmarked, unmarked, IsGoing, going, IsIdle, idle, last-one, IsUnheld, unheld}
+use Rattle.executor_model.proofs.Steps.Lists.{read_put, fresh_is, read_push, same_is, times-append}
 use Rattle.executor_model.proofs.Counts.Counting.{cancel_going, cancel_idle, cancel_over, detached}
-use Rattle.executor_model.proofs.Awaiters.Awaited.{Awaiting, Mark, heard-push, with_awaiting, Footing}
-use Rattle.executor_model.proofs.Awaiters.Awaited.{Awaits, KeepsAwaits, kept_push}
+use Rattle.executor_model.proofs.{Types.WakerOp, Steps.Cases.by_bool, Steps.Cases.by_list, Awaiters.Awaited.kept_push}
+use Rattle.executor_parts.specs.declared.mark.Mark as of_mark
+use Rattle.task_moves.specs.Moves as moves
 
 pub awaits-append : (b : Bool) (w : World) (mark : of_mark.Mark) (f : ℕ) →
-    KeepsAwaits w (op.Queue (queue_op.Append f) ∷ []) (append_by b w mark f)
+    KeepsAwaits w (Op.Queue (QueueOp.Append f) ∷ []) (append_by b w mark f)
 awaits-append = by_bool _
     (λ w mark f g r yy mm bb h. let z = times-last g f mark w.queues in grind (arith, same_is))
     (λ w mark f g r yy mm bb h. grind (arith, same_is))
 
 -- a turn is an event that speaks of no future
 pub awaits-turn : (p : ℕ) (w : World) →
-    KeepsAwaits w (op.Queue queue_op.TakeTurn ∷ []) (take_turn p w (λ l. op.Queue (queue_op.Take l)))
+    KeepsAwaits w (Op.Queue QueueOp.TakeTurn ∷ []) (take_turn p w (λ l. Op.Queue (QueueOp.Take l)))
 awaits-turn p w g r yy mm bb h = grind (arith, heard-push)
 
 pub awaits-take : (look : Look) (q : List ℕ) (w : World) → (queue_of w (mark_in look)).items ≡ q →
-    KeepsAwaits w (op.Queue (queue_op.Take look) ∷ []) (take_by w look q)
+    KeepsAwaits w (Op.Queue (QueueOp.Take look) ∷ []) (take_by w look q)
 awaits-take (First mark) [] w e g r yy mm bb h = grind arith
 awaits-take (Second mark) [] w e g r yy mm bb h = grind arith
 awaits-take look (f ∷ rest) w e g r yy mm bb h =
     let z = times-first g f rest (mark_in look) w.queues e in grind (arith, same_is)
 
 pub awaits-enter : (b c : Bool) (mark : of_mark.Mark) (p : ℕ) (w : World) → length w.awaiters ≡ length w.tasks →
-    KeepsAwaits w (op.Table (table_op.Enter mark) ∷ []) (enter_by b c mark p w)
+    KeepsAwaits w (Op.Table (TableOp.Enter mark) ∷ []) (enter_by b c mark p w)
 awaits-enter = by_bool _
     (λ c mark p w l g r yy mm bb h. grind arith)
     (by_bool _
@@ -66,36 +44,36 @@ awaits-enter = by_bool _
     (λ mark p w l g r yy mm bb h.
     grind (arith, same_is, fresh_is, read_push, kept_push, times-append, length-append, heard-push)))
 
-pub awaits-take_to_poll : (w : World) (f : ℕ) → KeepsAwaits w (op.Table (table_op.TakeToPoll f) ∷ []) (take_to_poll w f)
+pub awaits-take_to_poll : (w : World) (f : ℕ) → KeepsAwaits w (Op.Table (TableOp.TakeToPoll f) ∷ []) (take_to_poll w f)
 awaits-take_to_poll w f g r yy mm bb h = grind (arith, same_is)
 
-pub awaits-put_back : (w : World) (f : ℕ) → KeepsAwaits w (op.Table (table_op.PutBack f) ∷ []) (put_back w f)
+pub awaits-put_back : (w : World) (f : ℕ) → KeepsAwaits w (Op.Table (TableOp.PutBack f) ∷ []) (put_back w f)
 awaits-put_back w f g r yy mm bb h = grind (arith, same_is)
 
-pub awaits-take_to_drop : (w : World) (f : ℕ) → KeepsAwaits w (op.Table (table_op.TakeToDrop f) ∷ []) (take_to_drop w f)
+pub awaits-take_to_drop : (w : World) (f : ℕ) → KeepsAwaits w (Op.Table (TableOp.TakeToDrop f) ∷ []) (take_to_drop w f)
 awaits-take_to_drop w f g r yy mm bb h = grind (arith, same_is)
 
 pub awaits-leave : (b : Bool) (w : World) (f : ℕ) → among f w.table ≡ b →
-    KeepsAwaits w (op.Table (table_op.LeaveTable f) ∷ []) (leave_by b w f)
+    KeepsAwaits w (Op.Table (TableOp.LeaveTable f) ∷ []) (leave_by b w f)
 awaits-leave = by_bool _
     (λ w f e g r yy mm bb h. grind (arith, same_is))
     (λ w f e g r yy mm bb h. h)
 
 pub awaits-begin_drop : (p : ℕ) (w : World) (f : ℕ) →
-    KeepsAwaits w (op.User (user_op.BeginDrop f) ∷ []) (begin_drop p w f)
+    KeepsAwaits w (Op.User (UserOp.BeginDrop f) ∷ []) (begin_drop p w f)
 awaits-begin_drop p w f g r yy mm bb h = grind (arith, same_is, heard-push)
 
 pub awaits-begin_drop_output : (p : ℕ) (w : World) (f : ℕ) →
-    KeepsAwaits w (op.User (user_op.BeginDropOutput f) ∷ []) (begin_drop_output p w f)
+    KeepsAwaits w (Op.User (UserOp.BeginDropOutput f) ∷ []) (begin_drop_output p w f)
 awaits-begin_drop_output p w f g r yy mm bb h = grind (arith, heard-push)
 
 awaits-told : (g : ℕ) (w : World) (r : Pend) (y : Awaiting) (m : Mark) (p f : ℕ) → Awaits w g r y m →
-    Awaits (log w (event.LastWaker p f)) g r y m
+    Awaits (log w (Event.LastWaker p f)) g r y m
 awaits-told g w r y m p f h = grind (arith, heard-push)
 
 -- that nobody is left who could wake a task changes nothing for who awaits it
 pub awaits-last : (l : Bool) (p f : ℕ) (w v : World) (m : Moved) (old : List Op) → KeepsAwaits w old (carried v f m) →
-    KeepsAwaits w old (carried (log_if l v (event.LastWaker p f)) f m)
+    KeepsAwaits w old (carried (log_if l v (Event.LastWaker p f)) f m)
 awaits-last true p f w v m old k g r yy mm bb h =
     let x : Awaits (carried v f m).world g (with_ops g (carried v f m).next r) (with_awaiting g (carried v f m).next yy) mm =
     k g r yy mm bb h in
@@ -105,7 +83,7 @@ awaits-last false p f w v m old k g r yy mm bb h = k g r yy mm bb h
 -- the moves of a task, by what they find
 
 pub awaits-release : (b c : Bool) (w : World) (f : ℕ) → moves.is_last (task w f) ≡ b → moves.is_over (task w f) ≡ c →
-    f < length w.tasks → KeepsAwaits w (op.Move move.Release f ∷ []) (carried w f (moves.release_by b c (task w f)))
+    f < length w.tasks → KeepsAwaits w (Op.Move Move.Release f ∷ []) (carried w f (moves.release_by b c (task w f)))
 awaits-release = by_bool _
     (by_bool _
     (λ w f e q i g r yy mm bb h. let z : (task w f).references ≡ 1 = last-one (task w f) e in
@@ -115,13 +93,13 @@ awaits-release = by_bool _
     (λ c w f e q i g r yy mm bb h. grind (arith, same_is, read_put, length-set))
 
 pub awaits-settle_closed : (a : Bool) (w : World) (f : ℕ) → (task w f).awaiter ≡ a → f < length w.tasks →
-    KeepsAwaits w (op.Move move.SettleClosed f ∷ []) (settling a w f)
+    KeepsAwaits w (Op.Move Move.SettleClosed f ∷ []) (settling a w f)
 awaits-settle_closed = by_bool _
     (λ w f n i g r yy mm bb h. grind (arith, same_is, read_put, length-set))
     (λ w f n i g r yy mm bb h. grind (arith, same_is, read_put, length-set))
 
 pub awaits-give_up : (b : Bool) (w : World) (f : ℕ) → moves.is_last (task w f) ≡ b → f < length w.tasks →
-    KeepsAwaits w (op.Move move.GiveUp f ∷ []) (carried w f (moves.give_up_by b (task w f)))
+    KeepsAwaits w (Op.Move Move.GiveUp f ∷ []) (carried w f (moves.give_up_by b (task w f)))
 awaits-give_up = by_bool _
     (λ w f e i g r yy mm bb h. let z : (task w f).references ≡ 1 = last-one (task w f) e in
     grind (arith, same_is, read_put, length-set))
@@ -130,7 +108,7 @@ awaits-give_up = by_bool _
 -- by whether the output is unwanted, and whether there is an awaiter
 
 pub awaits-end_ready : (u a : Bool) (w : World) (f : ℕ) → ((task w f).closed || not (task w f).handle) ≡ u →
-    (task w f).awaiter ≡ a → f < length w.tasks → KeepsAwaits w (op.Move move.EndReady f ∷ []) (readied u a w f)
+    (task w f).awaiter ≡ a → f < length w.tasks → KeepsAwaits w (Op.Move Move.EndReady f ∷ []) (readied u a w f)
 awaits-end_ready = by_bool _
     (by_bool _
     (λ w f e n i g r yy mm bb h. grind (arith, same_is, read_put, length-set))
@@ -143,7 +121,7 @@ awaits-end_ready = by_bool _
 
 pub awaits-end_pending : (x s l there : Bool) (w : World) (f : ℕ) → (task w f).closed ≡ x → (task w f).scheduled ≡ s →
     moves.is_last (task w f) ≡ l → among f w.table ≡ there → f < length w.tasks →
-    KeepsAwaits w (op.Move move.EndPending f ∷ []) (pended x s l there w f)
+    KeepsAwaits w (Op.Move Move.EndPending f ∷ []) (pended x s l there w f)
 awaits-end_pending = by_bool _
     (λ s l. by_bool _
     (λ w f e q k m i g r yy mm bb h. grind (arith, same_is, read_put, length-set))
@@ -159,7 +137,7 @@ awaits-end_pending = by_bool _
     (λ there w f e q k m i g r yy mm bb h. grind (arith, same_is, read_put, length-set))))
 
 pub awaits-end_closed : (a : Bool) (w : World) (f : ℕ) → (task w f).awaiter ≡ a → f < length w.tasks →
-    KeepsAwaits w (op.Move move.EndClosed f ∷ []) (ending a w f)
+    KeepsAwaits w (Op.Move Move.EndClosed f ∷ []) (ending a w f)
 awaits-end_closed = by_bool _
     (λ w f n i g r yy mm bb h. grind (arith, same_is, read_put, length-set))
     (λ w f n i g r yy mm bb h. grind (arith, same_is, read_put, length-set))
@@ -168,7 +146,7 @@ awaits-end_closed = by_bool _
 
 pub awaits-drop_runnable : (c there : Bool) (w : World) (f : ℕ) → ((task w f).closed || not (task w f).completed) ≡ c →
     among f w.table ≡ there → f < length w.tasks →
-    KeepsAwaits w (op.Move move.DropRunnable f ∷ []) (dropping c there w f)
+    KeepsAwaits w (Op.Move Move.DropRunnable f ∷ []) (dropping c there w f)
 awaits-drop_runnable = by_bool _
     (by_bool _
     (λ w f e m i g r yy mm bb h. grind (arith, nat_tests, same_is, read_put, length-set))
@@ -180,8 +158,8 @@ awaits-drop_runnable = by_bool _
 -- by whether it is closed, and its entry in the table
 
 pub awaits-take_up : (b there : Bool) (p : ℕ) (w : World) (f : ℕ) → (task w f).closed ≡ b →
-    among f (log_if (not b) w (event.PollBegun p f)).table ≡ there → f < length w.tasks →
-    KeepsAwaits w (op.Move move.TakeUp f ∷ []) (taken_up b there p w f)
+    among f (log_if (not b) w (Event.PollBegun p f)).table ≡ there → f < length w.tasks →
+    KeepsAwaits w (Op.Move Move.TakeUp f ∷ []) (taken_up b there p w f)
 awaits-take_up = by_bool _
     (by_bool _
     (λ p w f e m i g r yy mm bb h. grind (arith, same_is, read_put, length-set))
@@ -192,7 +170,7 @@ awaits-take_up = by_bool _
 
 pub awaits-wake_by_reference : (o b c : Bool) (p : ℕ) (w : World) (f : ℕ) →
     (moves.is_over (task w f) || (task w f).scheduled) ≡ b → (task w f).running ≡ c → f < length w.tasks →
-    KeepsAwaits w (op.Move move.WakeByReference f ∷ []) (woken o b c p w f)
+    KeepsAwaits w (Op.Move Move.WakeByReference f ∷ []) (woken o b c p w f)
 awaits-wake_by_reference = by_bool _
     (by_bool _
     (λ c p w f e q i g r yy mm bb h. grind (arith, same_is, read_put, length-set, heard-push))
@@ -208,7 +186,7 @@ awaits-wake_by_reference = by_bool _
     grind (arith, same_is, read_put, length-set, heard-push))))
 
 pub awaits-wake : (o b c : Bool) (p : ℕ) (w : World) (f : ℕ) → (moves.is_over (task w f) || (task w f).scheduled) ≡ b →
-    (task w f).running ≡ c → f < length w.tasks → KeepsAwaits w (op.Move move.Wake f ∷ []) (woken_by o b c p w f)
+    (task w f).running ≡ c → f < length w.tasks → KeepsAwaits w (Op.Move Move.Wake f ∷ []) (woken_by o b c p w f)
 awaits-wake = by_bool _
     (by_bool _
     (λ c p w f e q i g r yy mm bb h. grind (arith, same_is, read_put, length-set, heard-push))
@@ -225,12 +203,12 @@ awaits-wake = by_bool _
 
 pub awaits-call_task : (o b c : Bool) (p e : ℕ) (k : ℕ) (w : World) (f : ℕ) →
     (moves.is_over (task w f) || (task w f).scheduled) ≡ b → (task w f).running ≡ c → f < length w.tasks →
-    KeepsAwaits w (op.Waker (waker_op.CallAwaiter e (Task f) k) ∷ [])
-    (woken_by o b c p (log w (event.WakerCalled p (of.Handle e) k (Task f))) f)
+    KeepsAwaits w (Op.Waker (WakerOp.CallAwaiter e (Task f) k) ∷ [])
+    (woken_by o b c p (log w (Event.WakerCalled p (Polled.Handle e) k (Task f))) f)
 awaits-call_task o b c p e k w f d q i g r yy mm bb h =
-    let called : World = log w (event.WakerCalled p (of.Handle e) k (Task f)) in
-    let stand : Footing called g (with_ops g (op.Move move.Wake f ∷ []) r)
-    (with_awaiting g (op.Move move.Wake f ∷ []) yy) =
+    let called : World = log w (Event.WakerCalled p (Polled.Handle e) k (Task f)) in
+    let stand : Footing called g (with_ops g (Op.Move Move.Wake f ∷ []) r)
+    (with_awaiting g (Op.Move Move.Wake f ∷ []) yy) =
     record {
       one = bb.one;
       live = bb.live;
@@ -244,21 +222,21 @@ awaits-call_task o b c p e k w f d q i g r yy mm bb h =
       few = bb.few;
       tied = bb.tied;
     } in
-    let waits : Awaits called g (with_ops g (op.Move move.Wake f ∷ []) r)
-    (with_awaiting g (op.Move move.Wake f ∷ []) yy) mm = grind (arith, same_is, heard-push) in
+    let waits : Awaits called g (with_ops g (Op.Move Move.Wake f ∷ []) r)
+    (with_awaiting g (Op.Move Move.Wake f ∷ []) yy) mm = grind (arith, same_is, heard-push) in
     awaits-wake o b c p called f d q i g r yy mm stand waits
 
 -- by whether an event is logged
 
 pub awaits-cancel_over : (o : Bool) (p : ℕ) (w : World) (f : ℕ) → f < length w.tasks →
-    KeepsAwaits w (op.Move move.Cancel f ∷ []) (cancel_over o p w f)
+    KeepsAwaits w (Op.Move Move.Cancel f ∷ []) (cancel_over o p w f)
 awaits-cancel_over = by_bool _
     (λ p w f i g r yy mm bb h. grind (arith, same_is, read_put, length-set, heard-push))
     (λ p w f i g r yy mm bb h. grind (arith, same_is, read_put, length-set, heard-push))
 
 pub awaits-cancel_going : (a : Bool) (p : ℕ) (w : World) (f : ℕ) → (task w f).awaiter ≡ a →
     moves.is_going (task w f) ≡ true → f < length w.tasks →
-    KeepsAwaits w (op.Move move.Cancel f ∷ []) (cancel_going true a p w f)
+    KeepsAwaits w (Op.Move Move.Cancel f ∷ []) (cancel_going true a p w f)
 awaits-cancel_going = by_bool _
     (λ p w f n e i g r yy mm bb h. let z : IsGoing (task w f) = going (task w f) e in
     grind (arith, same_is, read_put, length-set, heard-push))
@@ -267,7 +245,7 @@ awaits-cancel_going = by_bool _
 
 pub awaits-cancel_idle : (a : Bool) (p : ℕ) (w : World) (f : ℕ) → (task w f).awaiter ≡ a →
     moves.is_over (task w f) ≡ false → moves.is_going (task w f) ≡ false → f < length w.tasks →
-    KeepsAwaits w (op.Move move.Cancel f ∷ []) (cancel_idle true a p w f)
+    KeepsAwaits w (Op.Move Move.Cancel f ∷ []) (cancel_idle true a p w f)
 awaits-cancel_idle = by_bool _
     (λ p w f n e q i g r yy mm bb h. let k : IsIdle (task w f) = idle (task w f) e q in
     grind (arith, same_is, read_put, length-set, heard-push))
@@ -276,7 +254,7 @@ awaits-cancel_idle = by_bool _
 
 pub awaits-detach : (o x y : Bool) (p : ℕ) (w : World) (f : ℕ) → ((task w f).completed && not (task w f).closed) ≡ x →
     (eqb (task w f).references 0 && not (task w f).closed) ≡ y → f < length w.tasks →
-    KeepsAwaits w (op.Move move.Detach f ∷ []) (detached o x y p w f)
+    KeepsAwaits w (Op.Move Move.Detach f ∷ []) (detached o x y p w f)
 awaits-detach = by_bool _
     (by_bool _
     (λ y p w f e q i g r yy mm bb h. grind (arith, nat_tests, same_is, read_put, length-set, heard-push))

@@ -1,42 +1,25 @@
 -- For awaiters_are_kept.
 -- At a quiet trace the waker of the last poll of a handle was called, if that was answered that there is no output yet.
-use Rattle.std.proofs.Common.{◌≡◌, ◌⊎◌, ℕ, suc, ◌<◌, ◌≤◌, List, [], ◌∷◌, length}
-use Rattle.std.proofs.Common.{Bool, true, false, refl, sym, ap, ◌∙◌, subst, ⊎_elim, arith}
-use Rattle.std.proofs.lemmas.List.{get_or_past}
-use Rattle.executor_model.proofs.Steps.QueuesByMark.{times-all}
-use Rattle.executor_model.specs.declared.kind.Kind.{Kind}
-use Rattle.executor_model.specs.declared.step.Step.{Step}
-use Rattle.executor_model.specs.Trace.{Trace, is_dropped}
+use Rattle.std.proofs.Common.{◌≡◌, ◌⊎◌, ℕ, suc, ◌<◌, ◌≤◌, List, [], ◌∷◌, length, Bool, true, false, refl, sym, ap, ◌∙◌, subst}
+use Rattle.std.{proofs.Common.⊎_elim, proofs.Common.arith, proofs.lemmas.List.get_or_past}
 use Rattle.executor_model.specs.AwaiterKept.{since, IsOverWithHandle, AwaiterIsKept}
-use Rattle.executor_model.specs.World.{World, task, blank}
 use Rattle.executor_model.specs.Sound.{Sound, Pend, pend, queued, times, times_in, phase}
-use Rattle.executor_model.specs.Sound.Phase.{Over}
-use Rattle.executor_model.specs.Good.{Good}
-use Rattle.executor_model.specs.Weights.{past}
-use Rattle.executor_model.specs.Rows.{ousting_of}
-use Rattle.executor_model.specs.Steps.{Machine, stack, run, start}
-use Rattle.executor_model.proofs.Steps.Cases.{by_bool}
-use Rattle.executor_model.proofs.Steps.Lists.{past_is}
-use Rattle.executor_model.proofs.Steps.Lift.{good}
+use Rattle.executor_model.specs.{Trace.Trace, Trace.is_dropped, World.World, World.task, World.blank, Sound.Phase.Over}
+use Rattle.executor_model.specs.{Good.Good, Weights.past, Rows.ousting_of, Steps.Machine, Steps.stack, Steps.run, Steps.start}
+use Rattle.executor_model.proofs.Awaiters.AwaitedSweeps.{lists, Sweep, sweep, Sweeps, dropping_of, draining_plain_of}
+use Rattle.executor_model.proofs.Awaiters.AwaitedTelling.{parted-has, dropped-has, over-dropped, Begun, begun-at, called-from}
 use Rattle.executor_model.proofs.Quiet.Resting.{Deep, deep, rests, all-rest}
-use Rattle.executor_model.proofs.OneFuture.Stories.{story}
 use Rattle.executor_model.proofs.OneFuture.Telling.{fallen-counts, counted-there}
-use Rattle.executor_model.proofs.Table.Leaving.{Leaves}
 use Rattle.executor_model.proofs.OneFuture.Extras.{Extra, no_extra, extra, extra-none}
-use Rattle.executor_model.proofs.Table.LeavingExecutions.{Placed, placed}
 use Rattle.executor_model.proofs.Awaiters.Awaited.{Heard, heard, Awaiting, awaiting, Awaits, Mark}
 use Rattle.executor_model.proofs.OwnQueues.UsingSteps.{OwnEmptied, own-emptied}
-use Rattle.executor_model.proofs.Awaiters.AwaitedSweeps.{lists, Sweep, sweep, Sweeps, dropping_of}
-use Rattle.executor_model.proofs.Awaiters.AwaitedClosing.{Swept, swept}
-use Rattle.executor_model.proofs.Awaiters.AwaitedSweeps.{draining_plain_of, draining_urgent_of, rousing_of}
-use Rattle.executor_model.proofs.Awaiters.AwaitedSweeps.{shutting_plain_of, shutting_urgent_of}
-use Rattle.executor_model.proofs.Awaiters.AwaitedCalls.{marked}
+use Rattle.executor_model.proofs.Awaiters.AwaitedSweeps.{draining_urgent_of, rousing_of, shutting_plain_of, shutting_urgent_of}
 use Rattle.executor_model.proofs.Awaiters.AwaitedSteps.{Waited, awaiting-none, nothing_awaited}
-use Rattle.executor_model.proofs.Steps.Growing.{pend-none}
-use Rattle.executor_model.proofs.OneFuture.Views.{none}
-use Rattle.executor_model.proofs.Awaiters.AwaitedExecutions.{waited}
-use Rattle.executor_model.proofs.Awaiters.AwaitedTelling.{parted-has, dropped-has, over-dropped, Begun}
-use Rattle.executor_model.proofs.Awaiters.AwaitedTelling.{begun-at, called-from, pending-at}
+use Rattle.executor_model.proofs.{Steps.QueuesByMark.times-all, Types.Kind, Types.Step, Steps.Cases.by_bool}
+use Rattle.executor_model.proofs.{Steps.Lists.past_is, Steps.Lift.good, OneFuture.Stories.story, Table.Leaving.Leaves}
+use Rattle.executor_model.proofs.{Table.LeavingExecutions.Placed, Table.LeavingExecutions.placed, Awaiters.AwaitedClosing.Swept}
+use Rattle.executor_model.proofs.{Awaiters.AwaitedClosing.swept, Awaiters.AwaitedCalls.marked, Steps.Growing.pend-none}
+use Rattle.executor_model.proofs.{OneFuture.Views.none, Awaiters.AwaitedExecutions.waited, Awaiters.AwaitedTelling.pending-at}
 
 abbrev nothing_swept : Sweep
 nothing_swept = record {

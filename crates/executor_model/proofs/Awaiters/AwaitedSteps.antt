@@ -1,36 +1,22 @@
 -- For awaiters_are_kept.
 -- A step of a party, by what it keeps of each future and of who waits on its handle.
-use Rattle.std.proofs.Common.{◌≡◌, ◌≢◌, ℕ, suc, ◌+◌, ◌<◌, ◌≤◌, List, [], ◌∷◌, ◌++◌}
-use Rattle.std.proofs.Common.{length, set, get_or, Bool, true, false, cond, eqb}
-use Rattle.std.proofs.Common.{refl, sym, ap, ◌∙◌, subst, ⊎_elim, arith}
+use Rattle.std.proofs.Common.{◌≡◌, ◌≢◌, ℕ, suc, ◌+◌, ◌<◌, ◌≤◌, List, [], ◌∷◌, ◌++◌, length, set, get_or, Bool, true, false}
+use Rattle.std.proofs.Common.{cond, eqb, refl, sym, ap, ◌∙◌, subst, ⊎_elim, arith}
 use Rattle.std.specs.Prelude.{reverse}
-use Rattle.executor_model.specs.declared.call.Reply.TheVariants as reply
-use Rattle.executor_model.specs.declared.op.Hold.TheVariants as hold
-use Rattle.executor_model.specs.declared.op.Op.{Op}
-use Rattle.executor_model.specs.declared.op.Op.TheVariants as op
-use Rattle.executor_model.specs.declared.op.HandleOp.TheVariants as handle_op
-use Rattle.executor_model.specs.World.{World, Done}
-use Rattle.executor_model.specs.Weights.{same, weigh, weigh_all}
-use Rattle.executor_model.specs.Sound.{Pend, pend, with_ops}
-use Rattle.executor_model.specs.Good.{Good}
-use Rattle.executor_model.specs.Rows.{handling_of}
-use Rattle.executor_model.specs.Steps.{Machine, stack}
+use Rattle.executor_model.specs.{World.World, World.Done, Weights.same, Weights.weigh, Weights.weigh_all, Sound.Pend}
+use Rattle.executor_model.specs.{Sound.pend, Sound.with_ops, Good.Good, Rows.handling_of, Steps.Machine, Steps.stack}
+use Rattle.executor_model.proofs.Awaiters.Awaited.{heard, Awaiting, with_awaiting, awaiting, Footing, Awaits, Mark, looks_of}
+use Rattle.executor_model.proofs.Awaiters.Awaited.{fresh_of, storing_of, again_of, waits_of, over_of, notices_of, notifying_of}
 use Rattle.executor_model.proofs.Steps.Lists.{same_cases, weigh-reverse, weigh_all-push}
 use Rattle.executor_model.proofs.Steps.Lift.{split, split-pend, push-pend}
-use Rattle.executor_model.proofs.OneFuture.Telling.{same-cond, one-stray}
 use Rattle.executor_model.proofs.Quiet.Calls.{calling_of, Passes, Answering}
-use Rattle.executor_model.proofs.Quiet.Resting.{counts-answering}
-use Rattle.executor_model.proofs.Awaiters.Awaited.{heard, Awaiting, with_awaiting, awaiting}
-use Rattle.executor_model.proofs.Awaiters.Awaited.{Footing, Awaits, Mark, looks_of, fresh_of, storing_of}
-use Rattle.executor_model.proofs.Awaiters.Awaited.{again_of, waits_of, over_of, notices_of, notifying_of, mine_of}
-use Rattle.executor_model.proofs.Awaiters.Awaited.{detaches_of, lending_of, strays_of, calls_of}
-use Rattle.executor_model.proofs.Awaiters.AwaitedTies.{AllTied, tied-all}
+use Rattle.executor_model.proofs.Awaiters.Awaited.{mine_of, detaches_of, lending_of, strays_of, calls_of}
 use Rattle.executor_model.proofs.Awaiters.AwaitedHeld.{asks_of, asks-weighs, asks-calling, open_of}
-use Rattle.executor_model.proofs.Awaiters.Holding.{nowhere, seen, seen-light}
-use Rattle.executor_model.proofs.Awaiters.Holding.{seen-passes, Spotted, Holds, held-step, held-asks}
-use Rattle.executor_model.proofs.Awaiters.AwaitedCalls.{begun_in}
-use Rattle.executor_model.proofs.Awaiters.AwaitedCalls.{marked, Stages}
-use Rattle.executor_model.proofs.Awaiters.AwaitedTelling.{over-dropped}
+use Rattle.executor_model.proofs.Awaiters.Holding.{nowhere, seen, seen-light, seen-passes, Spotted, Holds, held-step, held-asks}
+use Rattle.executor_model.proofs.Awaiters.AwaitedCalls.{begun_in, marked, Stages}
+use Rattle.executor_model.proofs.{Types.Reply, Types.Hold, Types.Op, Types.HandleOp, OneFuture.Telling.same-cond}
+use Rattle.executor_model.proofs.{OneFuture.Telling.one-stray, Quiet.Resting.counts-answering, Awaiters.AwaitedTies.AllTied}
+use Rattle.executor_model.proofs.{Awaiters.AwaitedTies.tied-all, Awaiters.AwaitedTelling.over-dropped}
 
 pub record Waited (s : Machine) : Type 0 where
   pub awaits : (g : ℕ) → Awaits s.world g (pend g s.parties) (awaiting g s.parties)
@@ -60,14 +46,14 @@ nothing_awaited = record {
 
 stages-one : (g : ℕ) (o : Op) →
     looks_of g o + (fresh_of g o + (storing_of g o + (again_of g o + (waits_of g o + over_of g o)))) ≤ handling_of g o
-stages-one g (op.Handle (handle_op.Look f a)) = omega arith
-stages-one g (op.Handle (handle_op.CopyAwaiter f a)) = omega arith
-stages-one g (op.Handle (handle_op.Register f a k)) = omega arith
-stages-one g (op.Handle (handle_op.EndRegister f a k)) = omega arith
-stages-one g (op.Handle (handle_op.LookAgain f)) = omega arith
-stages-one g (op.End reply.Pending (hold.Handle f)) = omega arith
-stages-one g (op.End reply.Ready (hold.Handle f)) = omega arith
-stages-one g (op.End reply.Cancelled (hold.Handle f)) = omega arith
+stages-one g (Op.Handle (HandleOp.Look f a)) = omega arith
+stages-one g (Op.Handle (HandleOp.CopyAwaiter f a)) = omega arith
+stages-one g (Op.Handle (HandleOp.Register f a k)) = omega arith
+stages-one g (Op.Handle (HandleOp.EndRegister f a k)) = omega arith
+stages-one g (Op.Handle (HandleOp.LookAgain f)) = omega arith
+stages-one g (Op.End Reply.Pending (Hold.Handle f)) = omega arith
+stages-one g (Op.End Reply.Ready (Hold.Handle f)) = omega arith
+stages-one g (Op.End Reply.Cancelled (Hold.Handle f)) = omega arith
 stages-one g _ = omega arith
 
 stages-stack : (g : ℕ) (os : List Op) →
@@ -87,9 +73,9 @@ stages-all g [] = omega arith
 stages-all g (s ∷ ss) = omega (arith, stages-stack g s, stages-all g ss)
 
 few-one : (g k : ℕ) (o : Op) → strays_of g k o ≤ fresh_of g o + storing_of g o
-few-one g k (op.Handle (handle_op.Register f a l)) =
+few-one g k (Op.Handle (HandleOp.Register f a l)) =
     omega (arith, one-stray (eqb g f) (eqb k l) (same g f) (same-cond g f))
-few-one g k (op.Handle (handle_op.EndRegister f a l)) =
+few-one g k (Op.Handle (HandleOp.EndRegister f a l)) =
     omega (arith, one-stray (eqb g f) (eqb k l) (same g f) (same-cond g f))
 few-one g k _ = omega arith
 
@@ -223,10 +209,7 @@ module _ (s : Machine) (p : ℕ) (old rest : List Op) (d : Done) (l : p < length
       (marked d.world g (awaiting g (set s.parties p (rest ++ reverse d.next))))
   awaits-pushed m k = subst (λ (x : Pend × Awaiting). Awaits d.world g x.0 x.1 (marked d.world g x.1))
       (sym
-      (let q : (
-        pend g (set s.parties p (rest ++ reverse d.next)),
-        awaiting g (set s.parties p (rest ++ reverse d.next)),
-      )
+      (let q : (pend g (set s.parties p (rest ++ reverse d.next)), awaiting g (set s.parties p (rest ++ reverse d.next)))
       ≡ (with_ops g d.next others, with_awaiting g d.next beside) =
       λ i. (push-pend g s.parties p rest d.next l i, push-awaiting g s.parties p rest d.next l i) in q))
       (renew d.world g (with_ops g d.next others) (with_awaiting g d.next beside) m k)

@@ -1,56 +1,23 @@
 -- For awaiters_are_kept and calls_do_what_they_say.
 -- What the steps of the executor's drop look at, and how most of what is done leaves it as it was.
-use Rattle.std.proofs.Common.{◌≡◌, ◌⊎◌, ℕ, ◌+◌, ◌<◌, ◌≤◌, List, [], ◌∷◌, ◌++◌, length}
-use Rattle.std.proofs.Common.{Bool, true, false, not, refl, sym, ap, ◌∙◌, subst, arith}
+use Rattle.std.proofs.Common.{◌≡◌, ◌⊎◌, ℕ, ◌+◌, ◌<◌, ◌≤◌, List, [], ◌∷◌, ◌++◌, length, Bool, true, false, not, refl, sym, ap}
+use Rattle.std.proofs.Common.{◌∙◌, subst, arith}
 use Rattle.std.specs.Prelude.{Option, Some, None}
-use Rattle.executor_model.specs.Queues.{Queues}
-use Rattle.executor_parts.specs.declared.mark.Mark.TheVariants.{Plain, Urgent}
-use Rattle.executor_parts.specs.declared.mark.Mark.{Mark}
 use Rattle.task_moves.specs.declared.moves.owed.Answer.{Answer}
-use Rattle.task_moves.specs.declared.moves.owed.Moved.{Moved}
-use Rattle.task_moves.specs.Moves as moves
-use Rattle.task_moves.specs.declared.moves.owed.Move.{Move}
-use Rattle.executor_model.specs.declared.call.Reply.TheVariants as reply
-use Rattle.executor_model.specs.declared.event.Event.{Event}
-use Rattle.executor_model.specs.declared.event.Event.TheVariants as event
-use Rattle.executor_model.specs.declared.op.Waker.{Waker}
-use Rattle.executor_model.specs.declared.op.Waker.TheVariants.{Task, Outside}
-use Rattle.executor_model.specs.declared.op.Hold.{Hold}
-use Rattle.executor_model.specs.declared.op.Hold.TheVariants as hold
-use Rattle.executor_model.specs.declared.op.Polled.TheVariants as of
-use Rattle.executor_model.specs.declared.op.Op.{Op}
-use Rattle.executor_model.specs.declared.op.ListOp.{ListOp}
-use Rattle.executor_model.specs.declared.op.RunPoll.{RunPoll}
-use Rattle.executor_model.specs.declared.op.Steal.{Steal}
-use Rattle.executor_model.specs.declared.op.StealOp.TheVariants as steal_op
-use Rattle.executor_model.specs.declared.op.SleeperOp.TheVariants as sleeper_op
-use Rattle.executor_model.specs.declared.op.TickOp.TheVariants as tick_op
-use Rattle.executor_model.specs.declared.op.Op.TheVariants as op
-use Rattle.executor_model.specs.declared.op.ClosingOp.TheVariants as closing_op
-use Rattle.executor_model.specs.declared.op.HandleOp.TheVariants as handle_op
-use Rattle.task_moves.specs.declared.moves.owed.Move.TheVariants as move
-use Rattle.executor_model.specs.declared.op.QueueOp.TheVariants as queue_op
-use Rattle.executor_model.specs.declared.op.TableOp.TheVariants as table_op
-use Rattle.executor_model.specs.declared.op.UserOp.TheVariants as user_op
-use Rattle.executor_model.specs.declared.op.WakerOp.TheVariants as waker_op
-use Rattle.executor_model.specs.declared.step.Hint.{Hint}
+use Rattle.executor_model.proofs.Types.{Plain, Urgent, Mark, Moved, Move, Reply, Event, Waker, Task, Outside, Hold, Polled, Op}
+use Rattle.executor_model.proofs.Types.{ListOp, RunPoll, Steal, StealOp, SleeperOp, TickOp, ClosingOp, HandleOp, QueueOp}
+use Rattle.executor_model.specs.Acts.{is_last_waker, is_told, let_go_by, move_by, told_as, enter_by, leave_by, copy_by, look_by}
 use Rattle.executor_model.specs.World.{World, Done, done, log, log_if, task}
-use Rattle.executor_model.specs.Carried.{awaiter_ops}
-use Rattle.executor_model.specs.Acts.{is_last_waker, is_told, let_go_by, move_by, told_as}
-use Rattle.executor_model.specs.Acts.{enter_by, leave_by, copy_by, look_by}
-use Rattle.executor_model.specs.Acts.{look_again_by, copy_awaiter_by, register_by, end_register_by, notify_by}
-use Rattle.executor_model.specs.Acts.{call_awaiter}
+use Rattle.executor_model.specs.Acts.{look_again_by, copy_awaiter_by, register_by, end_register_by, notify_by, call_awaiter}
 use Rattle.executor_model.specs.ActsOfRuns.{call_by_reference, kept_by, wake_own}
-use Rattle.executor_model.specs.Doing.{act, list_act}
-use Rattle.executor_model.specs.Weights.{weigh, weigh_all}
-use Rattle.executor_model.specs.Rows.{Row, ousting_of}
-use Rattle.executor_model.specs.Steps.{mine}
-use Rattle.executor_model.proofs.Steps.RunsMoves.{Moves}
+use Rattle.executor_model.specs.{Queues.Queues, Carried.awaiter_ops, Doing.act, Doing.list_act, Weights.weigh}
+use Rattle.executor_model.specs.{Weights.weigh_all, Rows.Row, Rows.ousting_of, Steps.mine}
 use Rattle.executor_model.proofs.Steps.RunsPlain.{plain-list, plain-run, plain-steal}
-use Rattle.executor_model.proofs.Awaiters.RunsQueue.{queue-list}
-use Rattle.executor_model.proofs.Steps.RunsWays.{AllOfRuns, by-list}
 use Rattle.executor_model.proofs.Awaiters.SleepersWorlds.{Rest, sleeper-rest, tick-rest}
 use Rattle.executor_model.proofs.Awaiters.AwaitedLists.{rough_of, plain-act, is_special}
+use Rattle.executor_model.proofs.{Types.TableOp, Types.UserOp, Types.WakerOp, Types.Hint, Steps.RunsMoves.Moves}
+use Rattle.executor_model.proofs.{Awaiters.RunsQueue.queue-list, Steps.RunsWays.AllOfRuns, Steps.RunsWays.by-list}
+use Rattle.task_moves.specs.Moves as moves
 
 -- what the drop of the executor looks at
 pub record Lists : Type 0 where
@@ -74,27 +41,27 @@ lists w = record {
 }
 
 abbrev pub dropping_of : Op → ℕ
-dropping_of (op.Closing closing_op.DropNext) = 1
+dropping_of (Op.Closing ClosingOp.DropNext) = 1
 dropping_of _ = 0
 
 abbrev pub rousing_of : Op → ℕ
-rousing_of (op.Closing closing_op.WakeNext) = 1
+rousing_of (Op.Closing ClosingOp.WakeNext) = 1
 rousing_of _ = 0
 
 abbrev pub shutting_urgent_of : Op → ℕ
-shutting_urgent_of (op.Closing (closing_op.Close Urgent)) = 1
+shutting_urgent_of (Op.Closing (ClosingOp.Close Urgent)) = 1
 shutting_urgent_of _ = 0
 
 abbrev pub shutting_plain_of : Op → ℕ
-shutting_plain_of (op.Closing (closing_op.Close Plain)) = 1
+shutting_plain_of (Op.Closing (ClosingOp.Close Plain)) = 1
 shutting_plain_of _ = 0
 
 abbrev pub draining_urgent_of : Op → ℕ
-draining_urgent_of (op.Closing (closing_op.Drain Urgent)) = 1
+draining_urgent_of (Op.Closing (ClosingOp.Drain Urgent)) = 1
 draining_urgent_of _ = 0
 
 abbrev pub draining_plain_of : Op → ℕ
-draining_plain_of (op.Closing (closing_op.Drain Plain)) = 1
+draining_plain_of (Op.Closing (ClosingOp.Drain Plain)) = 1
 draining_plain_of _ = 0
 
 -- the steps that are left of it
@@ -157,23 +124,23 @@ step_of o = ousting_of o + (dropping_of o + (rousing_of o + (shutting_urgent_of 
     + (draining_urgent_of o + draining_plain_of o)))))
 
 rough-more : (o : Op) → step_of o ≤ rough_of o
-rough-more (op.Closing (closing_op.Close Urgent)) = omega arith
-rough-more (op.Closing (closing_op.Close Plain)) = omega arith
-rough-more (op.Closing (closing_op.Drain Urgent)) = omega arith
-rough-more (op.Closing (closing_op.Drain Plain)) = omega arith
-rough-more (op.Closing closing_op.TakeOut) = omega arith
-rough-more (op.Handle (handle_op.Notify f true)) = omega arith
-rough-more (op.Move move.Wake f) = omega arith
-rough-more (op.Table (table_op.Enter mark)) = omega arith
-rough-more (op.Queue queue_op.TakeTurn) = omega arith
-rough-more (op.Queue (queue_op.Take look)) = omega arith
-rough-more (op.User (user_op.Drop f)) = omega arith
-rough-more (op.Waker (waker_op.CopyWaker f held)) = omega arith
-rough-more (op.Sleeper sleeper_op.HandOut) = omega arith
-rough-more (op.Tick tick_op.MakeTick) = omega arith
-rough-more (op.List o) = omega (arith, ap (λ (x : Row). x.ousting) (plain-list o))
-rough-more (op.Steal o) = omega (arith, ap (λ (x : Row). x.ousting) (plain-steal o))
-rough-more (op.Run o) = omega (arith, ap (λ (x : Row). x.ousting) (plain-run o))
+rough-more (Op.Closing (ClosingOp.Close Urgent)) = omega arith
+rough-more (Op.Closing (ClosingOp.Close Plain)) = omega arith
+rough-more (Op.Closing (ClosingOp.Drain Urgent)) = omega arith
+rough-more (Op.Closing (ClosingOp.Drain Plain)) = omega arith
+rough-more (Op.Closing ClosingOp.TakeOut) = omega arith
+rough-more (Op.Handle (HandleOp.Notify f true)) = omega arith
+rough-more (Op.Move Move.Wake f) = omega arith
+rough-more (Op.Table (TableOp.Enter mark)) = omega arith
+rough-more (Op.Queue QueueOp.TakeTurn) = omega arith
+rough-more (Op.Queue (QueueOp.Take look)) = omega arith
+rough-more (Op.User (UserOp.Drop f)) = omega arith
+rough-more (Op.Waker (WakerOp.CopyWaker f held)) = omega arith
+rough-more (Op.Sleeper SleeperOp.HandOut) = omega arith
+rough-more (Op.Tick TickOp.MakeTick) = omega arith
+rough-more (Op.List o) = omega (arith, ap (λ (x : Row). x.ousting) (plain-list o))
+rough-more (Op.Steal o) = omega (arith, ap (λ (x : Row). x.ousting) (plain-steal o))
+rough-more (Op.Run o) = omega (arith, ap (λ (x : Row). x.ousting) (plain-run o))
 rough-more _ = omega arith
 
 -- how many of its steps are there
@@ -218,7 +185,7 @@ same-log_if false w e = refl
 same-move : (b : Bool) (m : Move) (p : ℕ) (w : World) (f : ℕ) → lists w ≡ lists (move_by b m p w f).world
 same-move true m p w f = let v = log_if (is_told m (task w f)) w (told_as m p f) in
     same-log_if (is_told m (task w f)) w (told_as m p f)
-    ∙ same-log_if (is_last_waker m (task w f)) v (event.LastWaker p f)
+    ∙ same-log_if (is_last_waker m (task w f)) v (Event.LastWaker p f)
 same-move false m p w f = refl
 
 same-let_go : (b : Bool) (w : World) (f : ℕ) → lists w ≡ lists (let_go_by b w f).world
@@ -241,12 +208,12 @@ same-copy false w f held = refl
 same-look : (o : Option Answer) (p : ℕ) (w : World) (f : ℕ) (a : Waker) (m : Moved) →
     lists w ≡ lists (look_by o p w f a m).world
 same-look None p w f a m = refl
-same-look (Some x) p w f a m = same-log_if _ _ (event.OutputGiven p f)
+same-look (Some x) p w f a m = same-log_if _ _ (Event.OutputGiven p f)
 
 same-again : (o : Option Answer) (p : ℕ) (w : World) (f : ℕ) (m : Moved) →
     lists w ≡ lists (look_again_by o p w f m).world
 same-again None p w f m = refl
-same-again (Some x) p w f m = same-log_if _ _ (event.OutputGiven p f)
+same-again (Some x) p w f m = same-log_if _ _ (Event.OutputGiven p f)
 
 same-copy_awaiter : (b : Bool) (p : ℕ) (w : World) (f : ℕ) (a : Waker) →
     lists w ≡ lists (copy_awaiter_by b p w f a).world
@@ -268,7 +235,7 @@ same-notify true w f mine = refl
 same-notify false w f mine = refl
 
 same-call : (p : ℕ) (w : World) (f : ℕ) (a : Waker) (k : ℕ) → lists w ≡ lists (call_awaiter p w f a k).world
-same-call p w f (Task g) k = same-log_if _ (log w (event.WakerCalled p (of.Handle f) k (Task g))) (event.Woken p g)
+same-call p w f (Task g) k = same-log_if _ (log w (Event.WakerCalled p (Polled.Handle f) k (Task g))) (Event.Woken p g)
 same-call p w f (Outside x) k = refl
 
 abbrev lists_in : Rest → Lists
@@ -292,8 +259,8 @@ pub kept-moves : (w : World) (old : List Op) (d : Done) → AllOfRuns old → Al
 kept-moves w old d a n m = record { gone = m.same.gone; leaving = m.same.leaving; waking = m.same.waking }
 
 pub kept-put : (p : ℕ) (w : World) (s : Steal) (more f : ℕ) (d : Done) → s.poll.run < length w.own →
-    Kept (kept_by p w s.poll.run f) (op.Steal (steal_op.OwnLength s 0) ∷ []) d →
-    Kept w (op.Steal (steal_op.Put s more f) ∷ []) d
+    Kept (kept_by p w s.poll.run f) (Op.Steal (StealOp.OwnLength s 0) ∷ []) d →
+    Kept w (Op.Steal (StealOp.Put s more f) ∷ []) d
 kept-put p w s more f d i k = record { gone = k.gone; leaving = k.leaving; waking = k.waking }
 
 kept-log_if : (b : Bool) (w : World) (e : Event) (old next : List Op) → Kept w old (done (log_if b w e) next)
@@ -302,16 +269,16 @@ kept-log_if false w e old next = record { gone = refl; leaving = refl; waking = 
 
 kept-by_waker : (p : ℕ) (a : Waker) (w : World) (old : List Op) → Kept w old (call_by_reference p w a)
 kept-by_waker p (Task f) w old =
-    let k = kept-log_if (not (moves.is_over (task w f))) w (event.Woken p f) old [] in
+    let k = kept-log_if (not (moves.is_over (task w f))) w (Event.Woken p f) old [] in
     record { gone = k.gone; leaving = k.leaving; waking = k.waking }
 kept-by_waker p (Outside y) w old = record { gone = refl; leaving = refl; waking = refl }
 
 pub kept-own : (p : ℕ) (w : World) (x : RunPoll) (old : List Op) → Kept w old (wake_own p w x)
 kept-own p w x old =
-    let k = kept-by_waker p x.waker (log w (event.WakerCalled p (of.Run x.run) x.poll x.waker)) old in
+    let k = kept-by_waker p x.waker (log w (Event.WakerCalled p (Polled.Run x.run) x.poll x.waker)) old in
     record { gone = k.gone; leaving = k.leaving; waking = k.waking }
 
-kept-list : (h : Hint) (o : ListOp) (w : World) → Kept w (op.List o ∷ []) (list_act h o w)
+kept-list : (h : Hint) (o : ListOp) (w : World) → Kept w (Op.List o ∷ []) (list_act h o w)
 kept-list h o w = by-list Kept kept-moves kept-put h o w
 
 same-lists : (w : World) (old : List Op) (d : Done) → Kept w old d → d.world.queues ≡ w.queues → lists w ≡ lists d.world
@@ -331,59 +298,53 @@ same-lists w old d k q = λ i. record {
 
 -- the queues, the two lists and their steps
 abbrev pub is_sweeping : Op → Bool
-is_sweeping (op.Queue queue_op.TakeTurn) = true
-is_sweeping (op.Queue (queue_op.Take look)) = true
-is_sweeping (op.Queue (queue_op.Append f)) = true
-is_sweeping (op.Tick (tick_op.Search s)) = true
-is_sweeping (op.Tick (tick_op.Look s look)) = true
-is_sweeping (op.Steal o) = true
-is_sweeping (op.Run o) = true
-is_sweeping (op.Closing closing_op.TakeOut) = true
-is_sweeping (op.Closing closing_op.DropNext) = true
-is_sweeping (op.Closing closing_op.WakeNext) = true
-is_sweeping (op.Closing (closing_op.Close mark)) = true
-is_sweeping (op.Closing (closing_op.Drain mark)) = true
-is_sweeping (op.Closing closing_op.LeakOut) = true
-is_sweeping (op.Closing closing_op.LeakNext) = true
+is_sweeping (Op.Queue QueueOp.TakeTurn) = true
+is_sweeping (Op.Queue (QueueOp.Take look)) = true
+is_sweeping (Op.Queue (QueueOp.Append f)) = true
+is_sweeping (Op.Tick (TickOp.Search s)) = true
+is_sweeping (Op.Tick (TickOp.Look s look)) = true
+is_sweeping (Op.Steal o) = true
+is_sweeping (Op.Run o) = true
+is_sweeping (Op.Closing ClosingOp.TakeOut) = true
+is_sweeping (Op.Closing ClosingOp.DropNext) = true
+is_sweeping (Op.Closing ClosingOp.WakeNext) = true
+is_sweeping (Op.Closing (ClosingOp.Close mark)) = true
+is_sweeping (Op.Closing (ClosingOp.Drain mark)) = true
+is_sweeping (Op.Closing ClosingOp.LeakOut) = true
+is_sweeping (Op.Closing ClosingOp.LeakNext) = true
 is_sweeping _ = false
 
 pub same-act : (p : ℕ) (h : Hint) (o : Op) (w : World) → is_sweeping o ≡ false → lists w ≡ lists (act p h o w).world
-same-act p h (op.Table (table_op.Enter mark)) w n = same-enter _ _ _ p w
-same-act p h (op.Move m f) w n = same-move _ m p w f
-same-act p h (op.Table (table_op.LeaveTable f)) w n = same-leave _ w f
-same-act p h (op.Waker (waker_op.CopyWaker f held)) w n = same-copy _ w f held
-same-act p h (op.Handle (handle_op.Look f a)) w n =
+same-act p h (Op.Table (TableOp.Enter mark)) w n = same-enter _ _ _ p w
+same-act p h (Op.Move m f) w n = same-move _ m p w f
+same-act p h (Op.Table (TableOp.LeaveTable f)) w n = same-leave _ w f
+same-act p h (Op.Waker (WakerOp.CopyWaker f held)) w n = same-copy _ w f held
+same-act p h (Op.Handle (HandleOp.Look f a)) w n =
     same-look (moves.poll (task w f)).owed.answer p w f a (moves.poll (task w f))
-same-act p h (op.Handle (handle_op.CopyAwaiter f a)) w n = same-copy_awaiter _ p w f a
-same-act p h (op.Handle (handle_op.Register f a k)) w n = same-register _ w f a k
-same-act p h (op.Handle (handle_op.EndRegister f a k)) w n = same-end_register _ w f a k
-same-act p h (op.Handle (handle_op.LookAgain f)) w n =
+same-act p h (Op.Handle (HandleOp.CopyAwaiter f a)) w n = same-copy_awaiter _ p w f a
+same-act p h (Op.Handle (HandleOp.Register f a k)) w n = same-register _ w f a k
+same-act p h (Op.Handle (HandleOp.EndRegister f a k)) w n = same-end_register _ w f a k
+same-act p h (Op.Handle (HandleOp.LookAgain f)) w n =
     same-again (moves.look_again (task w f)).owed.answer p w f (moves.look_again (task w f))
-same-act p h (op.Handle (handle_op.Notify f mine)) w n = same-notify _ w f mine
-same-act p h (op.Handle (handle_op.LetGo f)) w n = same-let_go _ w f
-same-act p h (op.Waker (waker_op.CallAwaiter f a k)) w n = same-call p w f a k
-same-act p h (op.Sleeper o) w n = ap lists_in (sleeper-rest p o w)
-same-act p h (op.Tick tick_op.MakeTick) w n = ap lists_in (tick-rest p h tick_op.MakeTick w refl)
-same-act p h (op.Tick (tick_op.Search s)) w n = absurd (cc)
-same-act p h (op.Tick (tick_op.Look s look)) w n = absurd (cc)
-same-act p h (op.Tick (tick_op.CopyWaker s)) w n = ap lists_in (tick-rest p h (tick_op.CopyWaker s) w refl)
-same-act p h (op.Tick (tick_op.FallAsleep s)) w n = ap lists_in (tick-rest p h (tick_op.FallAsleep s) w refl)
-same-act p h (op.Tick (tick_op.WakeUp t)) w n = ap lists_in (tick-rest p h (tick_op.WakeUp t) w refl)
-same-act p h (op.Tick (tick_op.Leave t)) w n = ap lists_in (tick-rest p h (tick_op.Leave t) w refl)
-same-act p h (op.List o) w n = same-lists w (op.List o ∷ []) (list_act h o w) (kept-list h o w) (queue-list h o w)
-same-act p h (op.Steal o) w n = absurd (cc)
-same-act p h (op.Run o) w n = absurd (cc)
-same-act p h (op.Queue queue_op.TakeTurn) w n = absurd (cc)
-same-act p h (op.Queue (queue_op.Take look)) w n = absurd (cc)
-same-act p h (op.Queue (queue_op.Append f)) w n = absurd (cc)
-same-act p h (op.Closing closing_op.TakeOut) w n = absurd (cc)
-same-act p h (op.Closing closing_op.DropNext) w n = absurd (cc)
-same-act p h (op.Closing closing_op.WakeNext) w n = absurd (cc)
-same-act p h (op.Closing (closing_op.Close mark)) w n = absurd (cc)
-same-act p h (op.Closing (closing_op.Drain mark)) w n = absurd (cc)
-same-act p h (op.Closing closing_op.LeakOut) w n = absurd (cc)
-same-act p h (op.Closing closing_op.LeakNext) w n = absurd (cc)
-same-act p h (op.User (user_op.BeginDrop f)) w n = refl
+same-act p h (Op.Handle (HandleOp.Notify f mine)) w n = same-notify _ w f mine
+same-act p h (Op.Handle (HandleOp.LetGo f)) w n = same-let_go _ w f
+same-act p h (Op.Waker (WakerOp.CallAwaiter f a k)) w n = same-call p w f a k
+same-act p h (Op.Sleeper o) w n = ap lists_in (sleeper-rest p o w)
+same-act p h (Op.Tick TickOp.MakeTick) w n = ap lists_in (tick-rest p h TickOp.MakeTick w refl)
+same-act p h (Op.Tick (TickOp.Search s)) w n = absurd (cc)
+same-act p h (Op.Tick (TickOp.Look s look)) w n = absurd (cc)
+same-act p h (Op.Tick (TickOp.CopyWaker s)) w n = ap lists_in (tick-rest p h (TickOp.CopyWaker s) w refl)
+same-act p h (Op.Tick (TickOp.FallAsleep s)) w n = ap lists_in (tick-rest p h (TickOp.FallAsleep s) w refl)
+same-act p h (Op.Tick (TickOp.WakeUp t)) w n = ap lists_in (tick-rest p h (TickOp.WakeUp t) w refl)
+same-act p h (Op.Tick (TickOp.Leave t)) w n = ap lists_in (tick-rest p h (TickOp.Leave t) w refl)
+same-act p h (Op.List o) w n = same-lists w (Op.List o ∷ []) (list_act h o w) (kept-list h o w) (queue-list h o w)
+same-act p h (Op.Steal o) w n = absurd (cc)
+same-act p h (Op.Run o) w n = absurd (cc)
+same-act p h (Op.Queue QueueOp.TakeTurn) w n = absurd (cc)
+same-act p h (Op.Queue _) w n = absurd (cc)
+same-act p h (Op.Closing ClosingOp.TakeOut) w n = absurd (cc)
+same-act p h (Op.Closing _) w n = absurd (cc)
+same-act p h (Op.User (UserOp.BeginDrop f)) w n = refl
 same-act p h _ w n = refl
 
 -- what a poll of the handle leads to
@@ -396,7 +357,7 @@ no-look false k false p w f a = refl
 no-look false k true p w f a = no-given (task w f).awaiter f
   where
     no-given : (b : Bool) (f : ℕ) →
-        NoSteps (awaiter_ops f (moves.notify_other_if b) ++ op.End reply.Ready (hold.Handle f) ∷ [])
+        NoSteps (awaiter_ops f (moves.notify_other_if b) ++ Op.End Reply.Ready (Hold.Handle f) ∷ [])
     no-given true f = refl
     no-given false f = refl
 
@@ -409,7 +370,7 @@ no-again false k false p w f = refl
 no-again false k true p w f = no-given (task w f).awaiter f
   where
     no-given : (b : Bool) (f : ℕ) →
-        NoSteps (awaiter_ops f (moves.notify_other_if b) ++ op.End reply.Ready (hold.Handle f) ∷ [])
+        NoSteps (awaiter_ops f (moves.notify_other_if b) ++ Op.End Reply.Ready (Hold.Handle f) ∷ [])
     no-given true f = refl
     no-given false f = refl
 
@@ -418,38 +379,28 @@ no-notify true w f mine = refl
 no-notify false w f mine = refl
 
 pub no-self : (o : Op) → is_sweeping o ≡ false → NoSteps (o ∷ [])
-no-self (op.Closing closing_op.TakeOut) n = absurd (cc)
-no-self (op.Closing closing_op.DropNext) n = absurd (cc)
-no-self (op.Closing closing_op.WakeNext) n = absurd (cc)
-no-self (op.Closing (closing_op.Close mark)) n = absurd (cc)
-no-self (op.Closing (closing_op.Drain mark)) n = absurd (cc)
-no-self (op.Closing closing_op.LeakOut) n = absurd (cc)
-no-self (op.Closing closing_op.LeakNext) n = absurd (cc)
-no-self (op.List o) n = omega (arith, ap (λ (x : Row). x.ousting) (plain-list o))
-no-self (op.Steal o) n = absurd (cc)
-no-self (op.Run o) n = absurd (cc)
-no-self (op.Move move.Wake f) n = refl
-no-self (op.Table (table_op.Enter mark)) n = refl
-no-self (op.Queue queue_op.TakeTurn) n = refl
-no-self (op.Queue (queue_op.Take look)) n = refl
-no-self (op.User (user_op.Drop f)) n = refl
-no-self (op.Waker (waker_op.CopyWaker f held)) n = refl
-no-self (op.Handle (handle_op.LookAgain f)) n = refl
-no-self (op.Sleeper sleeper_op.HandOut) n = refl
-no-self (op.Tick tick_op.MakeTick) n = refl
+no-self (Op.Closing ClosingOp.TakeOut) n = absurd (cc)
+no-self (Op.Closing _) n = absurd (cc)
+no-self (Op.List o) n = omega (arith, ap (λ (x : Row). x.ousting) (plain-list o))
+no-self (Op.Steal o) n = absurd (cc)
+no-self (Op.Run o) n = absurd (cc)
+no-self (Op.Move Move.Wake f) n = refl
+no-self (Op.Table (TableOp.Enter mark)) n = refl
+no-self (Op.Queue QueueOp.TakeTurn) n = refl
+no-self (Op.Queue (QueueOp.Take look)) n = refl
+no-self (Op.User (UserOp.Drop f)) n = refl
+no-self (Op.Waker (WakerOp.CopyWaker f held)) n = refl
+no-self (Op.Handle (HandleOp.LookAgain f)) n = refl
+no-self (Op.Sleeper SleeperOp.HandOut) n = refl
+no-self (Op.Tick TickOp.MakeTick) n = refl
 no-self _ n = refl
 
 pub no-act : (p : ℕ) (h : Hint) (o : Op) (w : World) (b : Bool) → is_special o ≡ b → is_sweeping o ≡ false →
     NoSteps (act p h o w).next
 no-act p h o w false s n = no-steps _ (plain-act p h o w s)
-no-act p h (op.Handle (handle_op.Look f a)) w true s n = no-look _ _ _ p w f a
-no-act p h (op.Handle (handle_op.LookAgain f)) w true s n = no-again _ _ _ p w f
-no-act p h (op.Handle (handle_op.Notify f mine)) w true s n = no-notify _ w f mine
-no-act p h (op.Closing closing_op.TakeOut) w true s n = absurd (cc)
-no-act p h (op.Closing closing_op.DropNext) w true s n = absurd (cc)
-no-act p h (op.Closing closing_op.WakeNext) w true s n = absurd (cc)
-no-act p h (op.Closing (closing_op.Close mark)) w true s n = absurd (cc)
-no-act p h (op.Closing (closing_op.Drain mark)) w true s n = absurd (cc)
-no-act p h (op.Closing closing_op.LeakOut) w true s n = absurd (cc)
-no-act p h (op.Closing closing_op.LeakNext) w true s n = absurd (cc)
+no-act p h (Op.Handle (HandleOp.Look f a)) w true s n = no-look _ _ _ p w f a
+no-act p h (Op.Handle (HandleOp.LookAgain f)) w true s n = no-again _ _ _ p w f
+no-act p h (Op.Handle (HandleOp.Notify f mine)) w true s n = no-notify _ w f mine
+no-act p h (Op.Closing ClosingOp.TakeOut) w true s n = absurd (cc)
+no-act p h (Op.Closing _) w true s n = absurd (cc)
 no-act p h _ w true s n = absurd (cc)

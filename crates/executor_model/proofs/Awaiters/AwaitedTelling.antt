@@ -1,27 +1,17 @@
 -- For awaiters_are_kept.
 -- What is heard of a future and of the last poll of its handle is what the definitions over its trace say.
-use Rattle.std.proofs.Common.{◌≡◌, ◌≢◌, ◌⊎◌, ℕ, zero, suc, ◌+◌, ◌≤◌, [], ◌∷◌, drop, Bool, true, false, ◌&&◌, ◌||◌, cond}
-use Rattle.std.proofs.Common.{eqb, take, refl, sym, ap, ◌∙◌, subst, inl, inr, ⊎_elim, arith}
-use Rattle.std.proofs.lemmas.Bool.Decides.{nat_tests}
-use Rattle.std.proofs.lemmas.List.Sums.{sum_by-append}
-use Rattle.std.proofs.Math.Bool.{or_assoc}
+use Rattle.std.proofs.Common.{◌≡◌, ◌≢◌, ◌⊎◌, ℕ, zero, suc, ◌+◌, ◌≤◌, [], ◌∷◌, drop, Bool, true, false, ◌&&◌, ◌||◌, cond, eqb}
+use Rattle.std.proofs.Common.{take, refl, sym, ap, ◌∙◌, subst, inl, inr, ⊎_elim, arith}
 use Rattle.std.specs.Prelude.{Some, count_by, slice_get}
-use Rattle.executor_model.specs.declared.call.Call.{Call}
-use Rattle.executor_model.specs.declared.call.Reply.{Reply}
-use Rattle.executor_model.specs.declared.call.Reply.TheVariants as reply
-use Rattle.executor_model.specs.declared.event.Answer.{Answer}
+use Rattle.std.{proofs.lemmas.Bool.Decides.nat_tests, proofs.lemmas.List.Sums.sum_by-append, proofs.Math.Bool.or_assoc}
 use Rattle.executor_model.specs.declared.event.Answer.TheVariants.{Pending, Ready}
-use Rattle.executor_model.specs.declared.event.Event.{Event}
-use Rattle.executor_model.specs.declared.event.Event.TheVariants as event
 use Rattle.executor_model.specs.Trace.{Trace, takes_handle, has, is_dropped}
-use Rattle.executor_model.specs.Quiet.{begins_call, ends_call}
 use Rattle.executor_model.specs.AwaiterKept.{is_handle_poll, calls_waker, since, EndsWith}
 use Rattle.executor_model.specs.Sound.{Phase, passes, phase_from, phase, after_begun, after_answered, after_dropped}
 use Rattle.executor_model.specs.Sound.Phase.{Fresh, Polling, Over, Broken}
-use Rattle.executor_model.specs.Weights.{same}
-use Rattle.executor_model.proofs.OneFuture.Telling.{same-cond}
+use Rattle.executor_model.specs.{Quiet.begins_call, Quiet.ends_call, Weights.same}
 use Rattle.executor_model.proofs.Awaiters.Awaited.{Heard, unheard, is_pending, ended_in, hears, heard_from, heard}
-use Rattle.executor_model.specs.declared.op.Polled.TheVariants as of
+use Rattle.executor_model.proofs.{Types.Call, Types.Reply, Types.Answer, Types.Event, Types.Polled, OneFuture.Telling.same-cond}
 
 or-false : (b : Bool) → b ≡ (b || false)
 or-false true = refl
@@ -51,12 +41,12 @@ parted-polled true n p s = refl
 parted-polled false n p s = refl
 
 parted-one : (g n : ℕ) (e : Event) (s : Heard) → (hears g n e s).parted ≡ (s.parted || takes_handle g e)
-parted-one g n (event.HandlePolled p f) s = parted-polled (eqb g f) n p s ∙ or-false s.parted
-parted-one g n (event.CallBegun p c) s = or-cond (takes_handle g (event.CallBegun p c)) s.parted
-parted-one g n (event.CallEnded p r) s = ended-same (λ (t : Heard). t.parted) (λ r s. refl) (λ n s. refl) _ s.inner r s
+parted-one g n (Event.HandlePolled p f) s = parted-polled (eqb g f) n p s ∙ or-false s.parted
+parted-one g n (Event.CallBegun p c) s = or-cond (takes_handle g (Event.CallBegun p c)) s.parted
+parted-one g n (Event.CallEnded p r) s = ended-same (λ (t : Heard). t.parted) (λ r s. refl) (λ n s. refl) _ s.inner r s
     ∙ or-false s.parted
-parted-one g n (event.WakerCalled p (of.Handle f) k a) s = or-false s.parted
-parted-one g n (event.Dropped p f) s = or-false s.parted
+parted-one g n (Event.WakerCalled p (Polled.Handle f) k a) s = or-false s.parted
+parted-one g n (Event.Dropped p f) s = or-false s.parted
 parted-one g n _ s = or-false s.parted
 
 parted-from : (g n : ℕ) (s : Heard) (es : Trace) → (heard_from g n s es).parted ≡ (s.parted || has (takes_handle g) es)
@@ -79,12 +69,12 @@ dropped-polled true n p s = refl
 dropped-polled false n p s = refl
 
 dropped-one : (g n : ℕ) (e : Event) (s : Heard) → (hears g n e s).dropped ≡ (s.dropped || is_dropped g e)
-dropped-one g n (event.HandlePolled p f) s = dropped-polled (eqb g f) n p s ∙ or-false s.dropped
-dropped-one g n (event.CallBegun p c) s = or-false s.dropped
-dropped-one g n (event.CallEnded p r) s = ended-same (λ (t : Heard). t.dropped) (λ r s. refl) (λ n s. refl) _ s.inner r
+dropped-one g n (Event.HandlePolled p f) s = dropped-polled (eqb g f) n p s ∙ or-false s.dropped
+dropped-one g n (Event.CallBegun p c) s = or-false s.dropped
+dropped-one g n (Event.CallEnded p r) s = ended-same (λ (t : Heard). t.dropped) (λ r s. refl) (λ n s. refl) _ s.inner r
     s ∙ or-false s.dropped
-dropped-one g n (event.WakerCalled p (of.Handle f) k a) s = or-false s.dropped
-dropped-one g n (event.Dropped p f) s = or-cond (eqb g f) s.dropped
+dropped-one g n (Event.WakerCalled p (Polled.Handle f) k a) s = or-false s.dropped
+dropped-one g n (Event.Dropped p f) s = or-cond (eqb g f) s.dropped
 dropped-one g n _ s = or-false s.dropped
 
 dropped-from : (g n : ℕ) (s : Heard) (es : Trace) → (heard_from g n s es).dropped ≡ (s.dropped || has (is_dropped g) es)
@@ -138,13 +128,13 @@ now-dropped true Polling h = inr refl
 now-dropped false s h = absurd (cc)
 
 past-one : (g : ℕ) (e : Event) (s : Phase) → IsPast s → IsPast (passes g e s)
-past-one g (event.PollBegun p f) s h = past-begun (eqb g f) s h
-past-one g (event.Answered p f a) s h = past-answered (eqb g f) a s h
-past-one g (event.Dropped p f) s h = past-dropped (eqb g f) s h
+past-one g (Event.PollBegun p f) s h = past-begun (eqb g f) s h
+past-one g (Event.Answered p f a) s h = past-answered (eqb g f) a s h
+past-one g (Event.Dropped p f) s h = past-dropped (eqb g f) s h
 past-one g _ s h = h
 
 drops-one : (g : ℕ) (e : Event) (s : Phase) → is_dropped g e ≡ true → IsPast (passes g e s)
-drops-one g (event.Dropped p f) s h = now-dropped (eqb g f) s h
+drops-one g (Event.Dropped p f) s h = now-dropped (eqb g f) s h
 drops-one g _ s h = absurd (cc)
 
 past-from : (g : ℕ) (s : Phase) (es : Trace) → IsPast s → IsPast (phase_from g s es)
@@ -173,7 +163,7 @@ eqb-self n = grind (arith, nat_tests)
 abbrev pub poll_begun : ℕ → ℕ → Heard → Heard
 poll_begun n p s = record s { poll = n; party = p; asking = true; inner = 0; pending = false; called = false }
 
-hears-own : (g n p f : ℕ) (s : Heard) → f ≡ g → hears g n (event.HandlePolled p f) s ≡ poll_begun n p s
+hears-own : (g n p f : ℕ) (s : Heard) → f ≡ g → hears g n (Event.HandlePolled p f) s ≡ poll_begun n p s
 hears-own g n p f s e = ap (λ (b : Bool). cond b (poll_begun n p s) s) (ap (λ (m : ℕ). eqb g m) e ∙ eqb-self g)
 
 -- what was heard where it begins
@@ -181,12 +171,12 @@ pub record Begun (g poll party : ℕ) (es : Trace) : Type 0 where
   pub before : Heard
   pub all : heard g es ≡ heard_from g (suc poll) (poll_begun poll party before) (since poll es)
 
-begun-from : (g n k p : ℕ) (s : Heard) (es : Trace) → slice_get es k ≡ Some (event.HandlePolled p g) →
+begun-from : (g n k p : ℕ) (s : Heard) (es : Trace) → slice_get es k ≡ Some (Event.HandlePolled p g) →
     (before : Heard) × (heard_from g n s es ≡ heard_from g (suc (n + k)) (poll_begun (n + k) p before)
     (drop (suc k) es))
 begun-from g n k p s [] e = absurd (cc)
 begun-from g n zero p s (x ∷ es) e =
-    let q : x ≡ event.HandlePolled p g = cc in (
+    let q : x ≡ Event.HandlePolled p g = cc in (
       s,
       ap (λ (y : Event). heard_from g (suc n) (hears g n y s) es) q
           ∙ (ap (λ (t : Heard). heard_from g (suc n) t es) (hears-own g n p g s refl)
@@ -199,7 +189,7 @@ begun-from g n (suc k) p s (x ∷ es) e =
           (let z : suc n + k ≡ n + suc k = omega arith in z),
     )
 
-pub begun-at : (g k p : ℕ) (es : Trace) → slice_get es k ≡ Some (event.HandlePolled p g) → Begun g k p es
+pub begun-at : (g k p : ℕ) (es : Trace) → slice_get es k ≡ Some (Event.HandlePolled p g) → Begun g k p es
 unfolding heard
 begun-at g k p es e =
     let x : _ = begun-from g 0 k p unheard es e in
@@ -223,9 +213,9 @@ not-polled false n p s e = refl
 not-polled true n p s e = absurd (cc)
 
 poll-one : (g n : ℕ) (e : Event) (s : Heard) → is_handle_poll g e ≡ false → (hears g n e s).poll ≡ s.poll
-poll-one g n (event.HandlePolled p f) s h = ap (λ (t : Heard). t.poll) (not-polled (eqb g f) n p s h)
-poll-one g n (event.CallEnded p r) s h = ended-same (λ (t : Heard). t.poll) (λ r s. refl) (λ n s. refl) _ s.inner r s
-poll-one g n (event.WakerCalled p (of.Handle f) k a) s h = refl
+poll-one g n (Event.HandlePolled p f) s h = ap (λ (t : Heard). t.poll) (not-polled (eqb g f) n p s h)
+poll-one g n (Event.CallEnded p r) s h = ended-same (λ (t : Heard). t.poll) (λ r s. refl) (λ n s. refl) _ s.inner r s
+poll-one g n (Event.WakerCalled p (Polled.Handle f) k a) s h = refl
 poll-one g n _ s h = refl
 
 pub poll-from : (g n : ℕ) (s : Heard) (es : Trace) → has (is_handle_poll g) es ≡ false →
@@ -246,11 +236,11 @@ or-conds false b false = refl
 
 called-one : (g n : ℕ) (e : Event) (s : Heard) → is_handle_poll g e ≡ false →
     (hears g n e s).called ≡ (s.called || calls_waker g s.poll e)
-called-one g n (event.HandlePolled p f) s h = ap (λ (t : Heard). t.called) (not-polled (eqb g f) n p s h)
+called-one g n (Event.HandlePolled p f) s h = ap (λ (t : Heard). t.called) (not-polled (eqb g f) n p s h)
     ∙ or-false s.called
-called-one g n (event.CallEnded p r) s h = ended-same (λ (t : Heard). t.called) (λ r s. refl) (λ n s. refl) _ s.inner r
+called-one g n (Event.CallEnded p r) s h = ended-same (λ (t : Heard). t.called) (λ r s. refl) (λ n s. refl) _ s.inner r
     s ∙ or-false s.called
-called-one g n (event.WakerCalled p (of.Handle f) k a) s h = or-conds (eqb g f) (eqb s.poll k) s.called
+called-one g n (Event.WakerCalled p (Polled.Handle f) k a) s h = or-conds (eqb g f) (eqb s.poll k) s.called
 called-one g n _ s h = or-false s.called
 
 pub called-from : (g n k : ℕ) (s : Heard) (es : Trace) → s.poll ≡ k → has (is_handle_poll g) es ≡ false →
@@ -280,9 +270,9 @@ stays-ended b r s h = subst (λ (a : Bool). IsAnsweredPending (cond (a && b) (en
 
 stays-one : (g n : ℕ) (e : Event) (s : Heard) → is_handle_poll g e ≡ false → IsAnsweredPending s →
     IsAnsweredPending (hears g n e s)
-stays-one g n (event.HandlePolled p f) s k h = subst IsAnsweredPending (sym (not-polled (eqb g f) n p s k)) h
-stays-one g n (event.CallEnded p r) s k h = stays-ended (eqb s.party p) r s h
-stays-one g n (event.WakerCalled p (of.Handle f) x a) s k h = h
+stays-one g n (Event.HandlePolled p f) s k h = subst IsAnsweredPending (sym (not-polled (eqb g f) n p s k)) h
+stays-one g n (Event.CallEnded p r) s k h = stays-ended (eqb s.party p) r s h
+stays-one g n (Event.WakerCalled p (Polled.Handle f) x a) s k h = h
 stays-one g n _ s k h = h
 
 stays-from : (g n : ℕ) (s : Heard) (es : Trace) → has (is_handle_poll g) es ≡ false → IsAnsweredPending s →
@@ -310,22 +300,22 @@ inside-same p s e a q x y = record { asking = a; party = q; inner = omega (arith
 
 inside-ended : (b : Bool) (m p q : ℕ) (r : Reply) (s : Heard) → eqb p q ≡ b → s.inner ≡ m → s.asking ≡ true →
     s.party ≡ p → cond b 1 0 ≤ m →
-    IsInside p s (cond (s.asking && eqb s.party q) (ended_in s.inner r s) s) (event.CallEnded q r)
+    IsInside p s (cond (s.asking && eqb s.party q) (ended_in s.inner r s) s) (Event.CallEnded q r)
 inside-ended true (suc m) p q r s e i a t h =
-    subst (λ (u : Heard). IsInside p s u (event.CallEnded q r))
+    subst (λ (u : Heard). IsInside p s u (Event.CallEnded q r))
     (sym (ap (λ (c : Bool). cond (c && eqb s.party q) (ended_in s.inner r s) s) a
     ∙ (ap (λ (c : Bool). cond c (ended_in s.inner r s) s) (ap (λ (n : ℕ). eqb n q) t ∙ e)
     ∙ ap (λ (n : ℕ). ended_in n r s) i)))
     record { asking = a; party = t; inner = omega (arith, i, ap (λ (c : Bool). let k : ℕ = cond c 1 0 in k) e) }
 inside-ended true zero p q r s e i a t h = absurd (omega (arith, h))
 inside-ended false m p q r s e i a t h =
-    subst (λ (u : Heard). IsInside p s u (event.CallEnded q r))
+    subst (λ (u : Heard). IsInside p s u (Event.CallEnded q r))
     (sym (ap (λ (c : Bool). cond (c && eqb s.party q) (ended_in s.inner r s) s) a
     ∙ ap (λ (c : Bool). cond c (ended_in s.inner r s) s) (ap (λ (n : ℕ). eqb n q) t ∙ e)))
     record { asking = a; party = t; inner = omega (arith, ap (λ (c : Bool). let k : ℕ = cond c 1 0 in k) e) }
 
 inside-begun : (g n p q : ℕ) (c : Call) (s : Heard) → s.asking ≡ true → s.party ≡ p →
-    IsInside p s (hears g n (event.CallBegun q c) s) (event.CallBegun q c)
+    IsInside p s (hears g n (Event.CallBegun q c) s) (Event.CallBegun q c)
 inside-begun g n p q c s a t =
     record {
       asking = a;
@@ -341,29 +331,29 @@ inside-begun g n p q c s a t =
 
 inside-one : (g n p : ℕ) (e : Event) (s : Heard) → is_handle_poll g e ≡ false → s.asking ≡ true → s.party ≡ p →
     ends_one p e ≤ s.inner → IsInside p s (hears g n e s) e
-inside-one g n p (event.HandlePolled q f) s k a t h = subst (λ (u : Heard). IsInside p s u (event.HandlePolled q f))
-    (sym (not-polled (eqb g f) n q s k)) (inside-same p s (event.HandlePolled q f) a t refl refl)
-inside-one g n p (event.CallEnded q r) s k a t h = inside-ended _ _ p q r s refl refl a t h
-inside-one g n p (event.CallBegun q c) s k a t h = inside-begun g n p q c s a t
-inside-one g n p (event.WakerCalled q (of.Handle f) x w) s k a t h = record { asking = a; party = t; inner = refl }
-inside-one g n p (event.Dropped q f) s k a t h = record { asking = a; party = t; inner = refl }
+inside-one g n p (Event.HandlePolled q f) s k a t h = subst (λ (u : Heard). IsInside p s u (Event.HandlePolled q f))
+    (sym (not-polled (eqb g f) n q s k)) (inside-same p s (Event.HandlePolled q f) a t refl refl)
+inside-one g n p (Event.CallEnded q r) s k a t h = inside-ended _ _ p q r s refl refl a t h
+inside-one g n p (Event.CallBegun q c) s k a t h = inside-begun g n p q c s a t
+inside-one g n p (Event.WakerCalled q (Polled.Handle f) x w) s k a t h = record { asking = a; party = t; inner = refl }
+inside-one g n p (Event.Dropped q f) s k a t h = record { asking = a; party = t; inner = refl }
 inside-one g n p _ s k a t h = record { asking = a; party = t; inner = refl }
 
 ends-own : (p : ℕ) (s : Heard) → s.asking ≡ true → s.party ≡ p → s.inner ≡ 0 →
-    IsAnsweredPending (cond (s.asking && eqb s.party p) (ended_in s.inner reply.Pending s) s)
+    IsAnsweredPending (cond (s.asking && eqb s.party p) (ended_in s.inner Reply.Pending s) s)
 ends-own p s a t i = subst IsAnsweredPending
-    (sym (ap (λ (c : Bool). cond (c && eqb s.party p) (ended_in s.inner reply.Pending s) s) a
-    ∙ (ap (λ (c : Bool). cond c (ended_in s.inner reply.Pending s) s) (ap (λ (n : ℕ). eqb n p) t ∙ eqb-self p)
-    ∙ ap (λ (n : ℕ). ended_in n reply.Pending s) i))) (refl, refl)
+    (sym (ap (λ (c : Bool). cond (c && eqb s.party p) (ended_in s.inner Reply.Pending s) s) a
+    ∙ (ap (λ (c : Bool). cond c (ended_in s.inner Reply.Pending s) s) (ap (λ (n : ℕ). eqb n p) t ∙ eqb-self p)
+    ∙ ap (λ (n : ℕ). ended_in n Reply.Pending s) i))) (refl, refl)
 
 pending-from : (g n p m : ℕ) (s : Heard) (es : Trace) → s.asking ≡ true → s.party ≡ p →
-    has (is_handle_poll g) es ≡ false → slice_get es m ≡ Some (event.CallEnded p reply.Pending) →
+    has (is_handle_poll g) es ≡ false → slice_get es m ≡ Some (Event.CallEnded p Reply.Pending) →
     ((j : ℕ) → j ≤ m → count_by (ends_call p) (take j es) ≤ s.inner + count_by (begins_call p) (take j es)) →
     count_by (ends_call p) (take m es) ≡ s.inner + count_by (begins_call p) (take m es) →
     (heard_from g n s es).pending ≡ true
 pending-from g n p m s [] a t k e first inner = absurd (cc)
 pending-from g n p zero s (x ∷ es) a t k e first inner =
-    let q : x ≡ event.CallEnded p reply.Pending = cc in
+    let q : x ≡ Event.CallEnded p Reply.Pending = cc in
     let z : s.inner ≡ 0 = omega (arith, inner) in
     let o : _ = or-none (is_handle_poll g x) (has (is_handle_poll g) es) k in
     (stays-from g (suc n) (hears g n x s) es o.1
@@ -384,12 +374,12 @@ pending-from g n p (suc m) s (x ∷ es) a t k e first inner =
     (omega (arith, inner, count-cons (ends_call p) x (take m es), count-cons (begins_call p) x (take m es), i.inner))
   where
     never-both : (p : ℕ) (x : Event) (n : ℕ) → ends_one p x ≤ n + begins_one p x → ends_one p x ≤ n
-    never-both p (event.CallEnded q r) n h = omega (arith, h)
-    never-both p (event.CallBegun q c) n h = omega arith
+    never-both p (Event.CallEnded q r) n h = omega (arith, h)
+    never-both p (Event.CallBegun q c) n h = omega arith
     never-both p _ n h = omega (arith, h)
 
 pub pending-at : (g n p k : ℕ) (s : Heard) (es : Trace) → has (is_handle_poll g) es ≡ false →
-    EndsWith p reply.Pending es →
+    EndsWith p Reply.Pending es →
     (heard_from g n (record s { poll = k; party = p; asking = true; inner = 0; pending = false; called = false })
     es).pending ≡ true
 pending-at g n p k s es h w =

@@ -1,39 +1,18 @@
 -- For awaiters_are_kept.
 -- What a poll of the handle has itself to notify stands right before the end of that poll, which has an answer by then.
-use Rattle.std.proofs.Common.{◌≡◌, ◌≢◌, ◌⊎◌, ℕ, suc, ◌+◌, ◌<◌, ◌≤◌, List, [], ◌∷◌, ◌++◌, length}
-use Rattle.std.proofs.Common.{set, get_or, Bool, true, false, eqb, refl, sym, subst, inl, inr}
-use Rattle.std.proofs.Common.{⊎_elim, arith, get_or-set_same, get_or-set_other}
+use Rattle.std.proofs.Common.{◌≡◌, ◌≢◌, ◌⊎◌, ℕ, suc, ◌+◌, ◌<◌, ◌≤◌, List, [], ◌∷◌, ◌++◌, length, set, get_or, Bool, true, false}
+use Rattle.std.proofs.Common.{eqb, refl, sym, subst, inl, inr, ⊎_elim, arith, get_or-set_same, get_or-set_other}
 use Rattle.std.specs.Prelude.{Option, reverse}
-use Rattle.executor_parts.specs.declared.mark.Mark.TheVariants.{Plain, Urgent}
-use Rattle.executor_parts.specs.declared.mark.Mark.{Mark}
-use Rattle.executor_model.specs.World.{queue_of}
-use Rattle.task_moves.specs.Moves as moves
-use Rattle.executor_model.specs.declared.call.Reply.{Reply}
-use Rattle.executor_model.specs.declared.call.Reply.TheVariants as reply
-use Rattle.executor_model.specs.declared.event.Event.TheVariants as event
-use Rattle.executor_model.specs.declared.call.Call.{Call}
-use Rattle.executor_model.specs.declared.call.Call.TheVariants as call
-use Rattle.executor_model.specs.declared.op.Hold.{Hold}
-use Rattle.executor_model.specs.declared.op.Hold.TheVariants as hold
-use Rattle.executor_model.specs.declared.op.Waker.{Waker}
-use Rattle.executor_model.specs.declared.op.Op.{Op}
-use Rattle.executor_model.specs.declared.op.Op.TheVariants as op
-use Rattle.executor_model.specs.declared.op.ClosingOp.TheVariants as closing_op
-use Rattle.executor_model.specs.declared.op.HandleOp.TheVariants as handle_op
-use Rattle.executor_model.specs.declared.step.Hint.{Hint}
-use Rattle.executor_model.specs.World.{World, Done, done, task, log}
-use Rattle.executor_model.specs.Carried.{awaiter_ops}
-use Rattle.executor_model.specs.Acts.{look_by, look_again_by, notify_by, closing_ops}
-use Rattle.executor_model.specs.Acts.{drop_next_by, wake, wake_next_by, drain_by}
-use Rattle.executor_model.specs.Doing.{act}
-use Rattle.executor_model.specs.Weights.{same, weigh, weigh_all}
+use Rattle.executor_model.proofs.Types.{Plain, Urgent, Mark, Reply, Event, Call, Hold, Waker, Op, ClosingOp, HandleOp, Hint}
+use Rattle.executor_model.specs.Acts.{look_by, look_again_by, notify_by, closing_ops, drop_next_by, wake, wake_next_by}
+use Rattle.executor_model.specs.World.{queue_of, World, Done, done, task, log}
 use Rattle.executor_model.specs.Steps.{Machine, stack, begun, is_drop}
+use Rattle.executor_model.specs.{Carried.awaiter_ops, Acts.drain_by, Doing.act, Weights.same, Weights.weigh, Weights.weigh_all}
 use Rattle.executor_model.proofs.Steps.Lists.{same_cases, weigh-append, weigh-reverse}
-use Rattle.executor_model.proofs.Steps.Lift.{unsettled}
-use Rattle.executor_model.proofs.Awaiters.Awaited.{mine_of, over_of}
 use Rattle.executor_model.proofs.Awaiters.AwaitedLists.{rough_of, is_special, plain-act, plain-wake, plain-react, plain-begun}
-use Rattle.executor_model.proofs.Steps.Ways.{Way}
 use Rattle.executor_model.proofs.Steps.Ways.Way.{acted, reacted, called}
+use Rattle.executor_model.proofs.{Steps.Lift.unsettled, Awaiters.Awaited.mine_of, Awaiters.Awaited.over_of, Steps.Ways.Way}
+use Rattle.task_moves.specs.Moves as moves
 
 abbrev pub Tied : ℕ → ℕ → List Op → Type 0
 Tied g below [] = Unit {0}
@@ -51,8 +30,8 @@ ties-light g old next z =
     record { keeps = λ below h. tied-light g below (reverse next) (omega (arith, weigh-reverse (mine_of g) next, z)) }
 
 none-mine : (g : ℕ) (o : Op) → rough_of o ≡ 0 → mine_of g o ≡ 0
-none-mine g (op.Handle (handle_op.Notify f true)) z = absurd (omega (arith, z))
-none-mine g (op.Handle (handle_op.EndNotify f true)) z = absurd (omega (arith, z))
+none-mine g (Op.Handle (HandleOp.Notify f true)) z = absurd (omega (arith, z))
+none-mine g (Op.Handle (HandleOp.EndNotify f true)) z = absurd (omega (arith, z))
 none-mine g _ z = refl
 
 pub none-mine-all : (g : ℕ) (os : List Op) → weigh rough_of os ≡ 0 → weigh (mine_of g) os ≡ 0
@@ -61,20 +40,20 @@ none-mine-all g (o ∷ os) z = omega (arith, none-mine g o (omega (arith, z)), n
 
 -- the poll that is answered and notifies
 ties-ready : (g f : ℕ) (old : List Op) →
-    Ties g old (op.Handle (handle_op.Notify f true) ∷ op.End reply.Ready (hold.Handle f) ∷ [])
+    Ties g old (Op.Handle (HandleOp.Notify f true) ∷ Op.End Reply.Ready (Hold.Handle f) ∷ [])
 ties-ready g f old = record { keeps = λ below h. (omega arith, (omega arith, tt)) }
 
 ties-cancelled : (g f : ℕ) (old : List Op) →
-    Ties g old (op.Handle (handle_op.Notify f true) ∷ op.End reply.Cancelled (hold.Handle f) ∷ [])
+    Ties g old (Op.Handle (HandleOp.Notify f true) ∷ Op.End Reply.Cancelled (Hold.Handle f) ∷ [])
 ties-cancelled g f old = record { keeps = λ below h. (omega arith, (omega arith, tt)) }
 
 ties-given : (a : Bool) (g f : ℕ) (old : List Op) →
-    Ties g old (awaiter_ops f (moves.notify_other_if a) ++ op.End reply.Ready (hold.Handle f) ∷ [])
+    Ties g old (awaiter_ops f (moves.notify_other_if a) ++ Op.End Reply.Ready (Hold.Handle f) ∷ [])
 ties-given true g f old = ties-ready g f old
 ties-given false g f old = ties-light g old _ refl
 
 ties-look : (x k c : Bool) (g p : ℕ) (w : World) (f : ℕ) (a : Waker) →
-    Ties g (op.Handle (handle_op.Look f a) ∷ [])
+    Ties g (Op.Handle (HandleOp.Look f a) ∷ [])
     (look_by (moves.poll_by x k c (task w f)).owed.answer p w f a (moves.poll_by x k c (task w f))).next
 ties-look true true c g p w f a = ties-light g _ _ refl
 ties-look true false c g p w f a = ties-cancelled g f _
@@ -82,7 +61,7 @@ ties-look false k false g p w f a = ties-light g _ _ refl
 ties-look false k true g p w f a = ties-given (task w f).awaiter g f _
 
 ties-again : (x k c : Bool) (g p : ℕ) (w : World) (f : ℕ) →
-    Ties g (op.Handle (handle_op.LookAgain f) ∷ [])
+    Ties g (Op.Handle (HandleOp.LookAgain f) ∷ [])
     (look_again_by (moves.look_again_by x k c (task w f)).owed.answer p w f (moves.look_again_by x k c (task w f))).next
 ties-again true true c g p w f = ties-light g _ _ refl
 ties-again true false c g p w f = ties-cancelled g f _
@@ -90,7 +69,7 @@ ties-again false k false g p w f = ties-light g _ _ refl
 ties-again false k true g p w f = ties-given (task w f).awaiter g f _
 
 ties-notify : (b mine : Bool) (g : ℕ) (w : World) (f : ℕ) →
-    Ties g (op.Handle (handle_op.Notify f mine) ∷ []) (notify_by b w f mine).next
+    Ties g (Op.Handle (HandleOp.Notify f mine) ∷ []) (notify_by b w f mine).next
 ties-notify true mine g w f = ties-light g _ _ refl
 ties-notify false true g w f = record { keeps = λ below h. h }
 ties-notify false false g w f = record { keeps = λ below h. h }
@@ -101,12 +80,12 @@ none-closing g [] (x ∷ ws) = refl
 none-closing g (x ∷ ls) ws = refl
 
 ties-drop_next : (g p : ℕ) (w : World) (ls : List ℕ) →
-    Ties g (op.Closing closing_op.DropNext ∷ []) (drop_next_by p w ls).next
+    Ties g (Op.Closing ClosingOp.DropNext ∷ []) (drop_next_by p w ls).next
 ties-drop_next g p w [] = ties-light g _ _ refl
 ties-drop_next g p w (f ∷ rest) = ties-light g _ _ (omega (arith, none-closing g rest (w.waking ++ f ∷ [])))
 
 ties-wake_next : (g p : ℕ) (w : World) (ws : List ℕ) →
-    Ties g (op.Closing closing_op.WakeNext ∷ []) (wake_next_by p w ws).next
+    Ties g (Op.Closing ClosingOp.WakeNext ∷ []) (wake_next_by p w ws).next
 ties-wake_next g p w [] = ties-light g _ _ refl
 ties-wake_next g p w (f ∷ rest) =
     ties-light g _ _
@@ -117,28 +96,28 @@ ties-wake_next g p w (f ∷ rest) =
       none-closing g [] rest,
     ))
 
-ties-drain : (mark : Mark) (g p : ℕ) (w : World) (q : List ℕ) → Ties g (op.Closing (closing_op.Drain mark) ∷ []) (drain_by p w mark q).next
+ties-drain : (mark : Mark) (g p : ℕ) (w : World) (q : List ℕ) → Ties g (Op.Closing (ClosingOp.Drain mark) ∷ []) (drain_by p w mark q).next
 ties-drain Urgent g p w [] = ties-light g _ _ refl
 ties-drain Plain g p w [] = ties-light g _ _ refl
 ties-drain mark g p w (f ∷ rest) = ties-light g _ _ refl
 
 ties-act : (b : Bool) (g p : ℕ) (h : Hint) (o : Op) (w : World) → is_special o ≡ b → Ties g (o ∷ []) (act p h o w).next
 ties-act false g p h o w n = ties-light g _ _ (none-mine-all g _ (plain-act p h o w n))
-ties-act true g p h (op.Handle (handle_op.Look f a)) w n = ties-look _ _ _ g p w f a
-ties-act true g p h (op.Handle (handle_op.LookAgain f)) w n = ties-again _ _ _ g p w f
-ties-act true g p h (op.Handle (handle_op.Notify f mine)) w n = ties-notify _ mine g w f
-ties-act true g p h (op.Closing closing_op.TakeOut) w n = ties-light g _ _ (none-closing g w.table w.waking)
-ties-act true g p h (op.Closing closing_op.DropNext) w n = ties-drop_next g p w w.leaving
-ties-act true g p h (op.Closing closing_op.WakeNext) w n = ties-wake_next g p w w.waking
-ties-act true g p h (op.Closing (closing_op.Close Urgent)) w n = ties-light g _ _ refl
-ties-act true g p h (op.Closing (closing_op.Close Plain)) w n = ties-light g _ _ refl
-ties-act true g p h (op.Closing (closing_op.Drain mark)) w n = ties-drain mark g p w (queue_of w mark).items
+ties-act true g p h (Op.Handle (HandleOp.Look f a)) w n = ties-look _ _ _ g p w f a
+ties-act true g p h (Op.Handle (HandleOp.LookAgain f)) w n = ties-again _ _ _ g p w f
+ties-act true g p h (Op.Handle (HandleOp.Notify f mine)) w n = ties-notify _ mine g w f
+ties-act true g p h (Op.Closing ClosingOp.TakeOut) w n = ties-light g _ _ (none-closing g w.table w.waking)
+ties-act true g p h (Op.Closing ClosingOp.DropNext) w n = ties-drop_next g p w w.leaving
+ties-act true g p h (Op.Closing ClosingOp.WakeNext) w n = ties-wake_next g p w w.waking
+ties-act true g p h (Op.Closing (ClosingOp.Close Urgent)) w n = ties-light g _ _ refl
+ties-act true g p h (Op.Closing (ClosingOp.Close Plain)) w n = ties-light g _ _ refl
+ties-act true g p h (Op.Closing (ClosingOp.Drain mark)) w n = ties-drain mark g p w (queue_of w mark).items
 ties-act true g p h _ w n = absurd (cc)
 
 ties-begun : (b : Bool) (g p : ℕ) (w : World) (here : Option Waker) (c : Call) → is_drop c ≡ b →
     Ties g [] (begun p w here c).next
 ties-begun false g p w here c n = ties-light g _ _ (none-mine-all g _ (plain-begun p w here c n))
-ties-begun true g p w here call.DropExecutor n = ties-light g _ _ refl
+ties-begun true g p w here Call.DropExecutor n = ties-light g _ _ refl
 ties-begun true g p w here _ n = absurd (cc)
 
 ties-way : (g : ℕ) (s : Machine) (p : ℕ) (old rest : List Op) (d : Done) → Way s p old rest d → Ties g old d.next
@@ -181,10 +160,10 @@ pub tied-moves : (s : Machine) (p : ℕ) (old rest : List Op) (d : Done) → p <
 tied-moves s p old rest d l e w h = tied-unsettled s p old rest d l e (λ g. ties-way g s p old rest d w) h
 
 pub tied-ends : (s : Machine) (p : ℕ) (a : Reply) (held : Hold) (below : List Op) → p < length s.parties →
-    stack s p ≡ below ++ reverse (op.End a held ∷ []) → AllTied s →
-    AllTied (unsettled s p below (done (log s.world (event.CallEnded p a)) []))
+    stack s p ≡ below ++ reverse (Op.End a held ∷ []) → AllTied s →
+    AllTied (unsettled s p below (done (log s.world (Event.CallEnded p a)) []))
 tied-ends s p a held below l e h =
-    tied-unsettled s p (op.End a held ∷ []) below (done (log s.world (event.CallEnded p a)) []) l e
+    tied-unsettled s p (Op.End a held ∷ []) below (done (log s.world (Event.CallEnded p a)) []) l e
     (λ g. ties-light g _ _ refl) h
 
 -- so who notifies for the handle does it in a poll that has its answer

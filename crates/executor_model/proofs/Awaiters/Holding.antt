@@ -1,15 +1,13 @@
 -- For awaiters_are_kept.
 -- A call that a trace has still open is what its party has to end, below the calls that began inside of it.
 -- What has to end such calls is counted by a count that sees only what answers a call.
-use Rattle.std.proofs.Common.{◌≡◌, ◌≢◌, ◌⊎◌, ℕ, zero, suc, ◌+◌, ◌<◌, ◌≤◌, List, [], ◌∷◌, ◌++◌, length, set, get_or}
-use Rattle.std.proofs.Common.{Bool, true, false, refl, sym, ap, ◌∙◌, subst, inl, inr, ⊎_elim, arith, get_or-set_same}
+use Rattle.std.proofs.Common.{◌≡◌, ◌≢◌, ◌⊎◌, ℕ, zero, suc, ◌+◌, ◌<◌, ◌≤◌, List, [], ◌∷◌, ◌++◌, length, set, get_or, Bool, true}
+use Rattle.std.proofs.Common.{false, refl, sym, ap, ◌∙◌, subst, inl, inr, ⊎_elim, arith, get_or-set_same}
 use Rattle.std.specs.Prelude.{reverse}
-use Rattle.executor_model.specs.declared.op.Op.{Op}
 use Rattle.executor_model.specs.Weights.{same, weigh}
-use Rattle.executor_model.proofs.Steps.Lists.{weigh-append, weigh-below, weigh-reverse}
-use Rattle.executor_model.proofs.Quiet.Calls.{calling_of, Answering, Passes}
-use Rattle.executor_model.proofs.Quiet.Resting.{calling-is, counts-answering, reverse-last}
-use Rattle.executor_model.proofs.Awaiters.AwaitedTies.{stack-then}
+use Rattle.executor_model.proofs.{Types.Op, Steps.Lists.weigh-append, Steps.Lists.weigh-below, Steps.Lists.weigh-reverse}
+use Rattle.executor_model.proofs.{Quiet.Calls.calling_of, Quiet.Calls.Answering, Quiet.Calls.Passes, Quiet.Resting.calling-is}
+use Rattle.executor_model.proofs.{Quiet.Resting.counts-answering, Quiet.Resting.reverse-last, Awaiters.AwaitedTies.stack-then}
 
 -- what is seen of a stack: whether such a call is there, and how many calls are above the topmost
 pub record Spot : Type 0 where

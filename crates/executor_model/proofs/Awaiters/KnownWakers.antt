@@ -1,13 +1,8 @@
 -- For awaiters_are_kept.
 -- The wakers that a thing to do names are of futures that are there.
-use Rattle.std.proofs.Common.{◌≡◌, ℕ, ◌+◌, length}
-use Rattle.std.proofs.Common.{arith}
-use Rattle.executor_model.specs.declared.op.Waker.{Waker}
-use Rattle.executor_model.specs.declared.op.Waker.TheVariants.{Task, Outside}
-use Rattle.executor_model.specs.World.{World}
-use Rattle.executor_model.specs.Weights.{waker_past}
-use Rattle.executor_model.specs.Good.{IsKnownWaker}
-use Rattle.executor_model.proofs.Counts.CountingHandles.{below}
+use Rattle.std.proofs.Common.{◌≡◌, ℕ, ◌+◌, length, arith}
+use Rattle.executor_model.specs.{World.World, Weights.waker_past, Good.IsKnownWaker}
+use Rattle.executor_model.proofs.{Types.Waker, Types.Task, Types.Outside, Counts.CountingHandles.below}
 
 pub known_waker : (w : World) (a : Waker) (n : ℕ) → n + waker_past (length w.tasks) a ≡ 0 → IsKnownWaker w a
 known_waker w (Task k) n z = below _ k (omega (arith, z))

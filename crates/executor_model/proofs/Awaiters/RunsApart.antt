@@ -2,105 +2,71 @@
 -- What a run does is no part of a poll of a handle.
 use Rattle.std.proofs.Common.{◌≡◌, ℕ, ◌+◌, List, [], refl, ap}
 use Rattle.std.proofs.Math.Path.{fun_ext}
-use Rattle.executor_model.specs.declared.call.Reply.{Reply}
-use Rattle.executor_model.specs.declared.call.Reply.TheVariants as reply
-use Rattle.executor_model.specs.declared.op.Hold.TheVariants as hold
-use Rattle.executor_model.specs.declared.op.Op.{Op}
-use Rattle.executor_model.specs.declared.op.Op.TheVariants as op
-use Rattle.executor_model.specs.Rows.{Row, handling_of}
-use Rattle.executor_model.specs.Weights.{weigh}
-use Rattle.executor_model.proofs.Awaiters.Awaited.{Awaiting, with_awaiting}
-use Rattle.executor_model.proofs.Awaiters.Awaited.{again_of, calls_of, detaches_of, fresh_of, lending_of, looks_of, mine_of}
-use Rattle.executor_model.proofs.Awaiters.Awaited.{notices_of}
-use Rattle.executor_model.proofs.Awaiters.Awaited.{notifying_of, over_of, storing_of, strays_of, waits_of}
+use Rattle.executor_model.proofs.Types.{Hold, Op, Reply, SleeperOp}
+use Rattle.executor_model.specs.{Rows.Row, Rows.handling_of, Weights.weigh}
+use Rattle.executor_model.proofs.Awaiters.Awaited.{Awaiting, with_awaiting, again_of, calls_of, detaches_of, fresh_of}
+use Rattle.executor_model.proofs.Awaiters.Awaited.{lending_of, looks_of, mine_of, notices_of, notifying_of, over_of, storing_of}
+use Rattle.executor_model.proofs.Awaiters.Awaited.{strays_of, waits_of}
 use Rattle.executor_model.proofs.Steps.RunsWays.{AllOfRuns, Unseeing, plain-of-runs}
 
-unseen-looks : (g : ℕ) → Unseeing (looks_of g)
-unseen-looks g = record {
-  blind = record {
-    exchange = refl;
-    search = λ s. refl;
-    copy = λ s. refl;
-    up = λ who. refl;
-    made = λ r. refl;
-    take_up = λ f. refl;
-    steal = λ o. refl;
-    list = λ o. refl;
-    run = λ o. refl;
-    poll = λ x. refl;
-    end = λ a r. refl;
-  };
-  append = λ f. refl;
-  leave = λ r. refl;
-  drop = λ r. refl;
+-- of such a poll, what none of the answers counts for
+record Parts : Type 0 where
+  looks : ℕ
+  fresh : ℕ
+  storing : ℕ
+  again : ℕ
+  notices : ℕ
+  notifying : ℕ
+  mine : ℕ
+  detaches : ℕ
+  lending : ℕ
+  strays : ℕ → ℕ
+  calls : ℕ → ℕ
+
+abbrev parts : ℕ → Op → Parts
+parts g o = record {
+  looks = looks_of g o;
+  fresh = fresh_of g o;
+  storing = storing_of g o;
+  again = again_of g o;
+  notices = notices_of g o;
+  notifying = notifying_of g o;
+  mine = mine_of g o;
+  detaches = detaches_of g o;
+  lending = lending_of g o;
+  strays = λ k. strays_of g k o;
+  calls = λ k. calls_of g k o;
 }
 
-unseen-fresh : (g : ℕ) → Unseeing (fresh_of g)
-unseen-fresh g = record {
+abbrev no_parts : Parts
+no_parts = parts 0 (Op.Sleeper SleeperOp.ExchangeFlag)
+
+unseen : (part : Parts → ℕ) (g : ℕ) → part no_parts ≡ 0 → Unseeing (λ o. part (parts g o))
+unseen part g z = record {
   blind = record {
-    exchange = refl;
-    search = λ s. refl;
-    copy = λ s. refl;
-    up = λ who. refl;
-    made = λ r. refl;
-    take_up = λ f. refl;
-    steal = λ o. refl;
-    list = λ o. refl;
-    run = λ o. refl;
-    poll = λ x. refl;
-    end = λ a r. refl;
+    exchange = z;
+    search = λ s. z;
+    copy = λ s. z;
+    up = λ who. z;
+    made = λ r. z;
+    take_up = λ f. z;
+    steal = λ o. z;
+    list = λ o. z;
+    run = λ o. z;
+    poll = λ x. z;
+    end = λ a r. z;
   };
-  append = λ f. refl;
-  leave = λ r. refl;
-  drop = λ r. refl;
+  append = λ f. z;
+  leave = λ r. z;
+  drop = λ r. z;
 }
 
-unseen-storing : (g : ℕ) → Unseeing (storing_of g)
-unseen-storing g = record {
-  blind = record {
-    exchange = refl;
-    search = λ s. refl;
-    copy = λ s. refl;
-    up = λ who. refl;
-    made = λ r. refl;
-    take_up = λ f. refl;
-    steal = λ o. refl;
-    list = λ o. refl;
-    run = λ o. refl;
-    poll = λ x. refl;
-    end = λ a r. refl;
-  };
-  append = λ f. refl;
-  leave = λ r. refl;
-  drop = λ r. refl;
-}
-
-unseen-again : (g : ℕ) → Unseeing (again_of g)
-unseen-again g = record {
-  blind = record {
-    exchange = refl;
-    search = λ s. refl;
-    copy = λ s. refl;
-    up = λ who. refl;
-    made = λ r. refl;
-    take_up = λ f. refl;
-    steal = λ o. refl;
-    list = λ o. refl;
-    run = λ o. refl;
-    poll = λ x. refl;
-    end = λ a r. refl;
-  };
-  append = λ f. refl;
-  leave = λ r. refl;
-  drop = λ r. refl;
-}
-
-waits-executor : (g : ℕ) (a : Reply) → waits_of g (op.End a hold.Executor) ≡ 0
-waits-executor g reply.Pending = refl
+waits-executor : (g : ℕ) (a : Reply) → waits_of g (Op.End a Hold.Executor) ≡ 0
+waits-executor g Reply.Pending = refl
 waits-executor g _ = refl
 
-waits-run : (g : ℕ) (a : Reply) (r : ℕ) → waits_of g (op.End a (hold.Run r)) ≡ 0
-waits-run g reply.Pending q = refl
+waits-run : (g : ℕ) (a : Reply) (r : ℕ) → waits_of g (Op.End a (Hold.Run r)) ≡ 0
+waits-run g Reply.Pending q = refl
 waits-run g _ q = refl
 
 unseen-waits : (g : ℕ) → Unseeing (waits_of g)
@@ -123,14 +89,14 @@ unseen-waits g = record {
   drop = λ r. refl;
 }
 
-over-executor : (g : ℕ) (a : Reply) → over_of g (op.End a hold.Executor) ≡ 0
-over-executor g reply.Ready = refl
-over-executor g reply.Cancelled = refl
+over-executor : (g : ℕ) (a : Reply) → over_of g (Op.End a Hold.Executor) ≡ 0
+over-executor g Reply.Ready = refl
+over-executor g Reply.Cancelled = refl
 over-executor g _ = refl
 
-over-run : (g : ℕ) (a : Reply) (r : ℕ) → over_of g (op.End a (hold.Run r)) ≡ 0
-over-run g reply.Ready q = refl
-over-run g reply.Cancelled q = refl
+over-run : (g : ℕ) (a : Reply) (r : ℕ) → over_of g (Op.End a (Hold.Run r)) ≡ 0
+over-run g Reply.Ready q = refl
+over-run g Reply.Cancelled q = refl
 over-run g _ q = refl
 
 unseen-over : (g : ℕ) → Unseeing (over_of g)
@@ -147,146 +113,6 @@ unseen-over g = record {
     run = λ o. refl;
     poll = λ x. refl;
     end = over-run g;
-  };
-  append = λ f. refl;
-  leave = λ r. refl;
-  drop = λ r. refl;
-}
-
-unseen-notices : (g : ℕ) → Unseeing (notices_of g)
-unseen-notices g = record {
-  blind = record {
-    exchange = refl;
-    search = λ s. refl;
-    copy = λ s. refl;
-    up = λ who. refl;
-    made = λ r. refl;
-    take_up = λ f. refl;
-    steal = λ o. refl;
-    list = λ o. refl;
-    run = λ o. refl;
-    poll = λ x. refl;
-    end = λ a r. refl;
-  };
-  append = λ f. refl;
-  leave = λ r. refl;
-  drop = λ r. refl;
-}
-
-unseen-notifying : (g : ℕ) → Unseeing (notifying_of g)
-unseen-notifying g = record {
-  blind = record {
-    exchange = refl;
-    search = λ s. refl;
-    copy = λ s. refl;
-    up = λ who. refl;
-    made = λ r. refl;
-    take_up = λ f. refl;
-    steal = λ o. refl;
-    list = λ o. refl;
-    run = λ o. refl;
-    poll = λ x. refl;
-    end = λ a r. refl;
-  };
-  append = λ f. refl;
-  leave = λ r. refl;
-  drop = λ r. refl;
-}
-
-unseen-mine : (g : ℕ) → Unseeing (mine_of g)
-unseen-mine g = record {
-  blind = record {
-    exchange = refl;
-    search = λ s. refl;
-    copy = λ s. refl;
-    up = λ who. refl;
-    made = λ r. refl;
-    take_up = λ f. refl;
-    steal = λ o. refl;
-    list = λ o. refl;
-    run = λ o. refl;
-    poll = λ x. refl;
-    end = λ a r. refl;
-  };
-  append = λ f. refl;
-  leave = λ r. refl;
-  drop = λ r. refl;
-}
-
-unseen-detaches : (g : ℕ) → Unseeing (detaches_of g)
-unseen-detaches g = record {
-  blind = record {
-    exchange = refl;
-    search = λ s. refl;
-    copy = λ s. refl;
-    up = λ who. refl;
-    made = λ r. refl;
-    take_up = λ f. refl;
-    steal = λ o. refl;
-    list = λ o. refl;
-    run = λ o. refl;
-    poll = λ x. refl;
-    end = λ a r. refl;
-  };
-  append = λ f. refl;
-  leave = λ r. refl;
-  drop = λ r. refl;
-}
-
-unseen-lending : (g : ℕ) → Unseeing (lending_of g)
-unseen-lending g = record {
-  blind = record {
-    exchange = refl;
-    search = λ s. refl;
-    copy = λ s. refl;
-    up = λ who. refl;
-    made = λ r. refl;
-    take_up = λ f. refl;
-    steal = λ o. refl;
-    list = λ o. refl;
-    run = λ o. refl;
-    poll = λ x. refl;
-    end = λ a r. refl;
-  };
-  append = λ f. refl;
-  leave = λ r. refl;
-  drop = λ r. refl;
-}
-
-unseen-strays : (g k : ℕ) → Unseeing (strays_of g k)
-unseen-strays g k = record {
-  blind = record {
-    exchange = refl;
-    search = λ s. refl;
-    copy = λ s. refl;
-    up = λ who. refl;
-    made = λ r. refl;
-    take_up = λ f. refl;
-    steal = λ o. refl;
-    list = λ o. refl;
-    run = λ o. refl;
-    poll = λ x. refl;
-    end = λ a r. refl;
-  };
-  append = λ f. refl;
-  leave = λ r. refl;
-  drop = λ r. refl;
-}
-
-unseen-calls : (g k : ℕ) → Unseeing (calls_of g k)
-unseen-calls g k = record {
-  blind = record {
-    exchange = refl;
-    search = λ s. refl;
-    copy = λ s. refl;
-    up = λ who. refl;
-    made = λ r. refl;
-    take_up = λ f. refl;
-    steal = λ o. refl;
-    list = λ o. refl;
-    run = λ o. refl;
-    poll = λ x. refl;
-    end = λ a r. refl;
   };
   append = λ f. refl;
   leave = λ r. refl;
@@ -313,19 +139,19 @@ pub record Away (g : ℕ) (os : List Op) : Type 0 where
 pub away : (g : ℕ) (os : List Op) → AllOfRuns os → Away g os
 away g os a = record {
   handling = plain-of-runs os a (handling_of g) (λ o e. ap (λ (x : Row). x.handling g) e);
-  looks = a (looks_of g) (unseen-looks g);
-  fresh = a (fresh_of g) (unseen-fresh g);
-  storing = a (storing_of g) (unseen-storing g);
-  again = a (again_of g) (unseen-again g);
+  looks = a (looks_of g) (unseen (λ x. x.looks) g refl);
+  fresh = a (fresh_of g) (unseen (λ x. x.fresh) g refl);
+  storing = a (storing_of g) (unseen (λ x. x.storing) g refl);
+  again = a (again_of g) (unseen (λ x. x.again) g refl);
   waits = a (waits_of g) (unseen-waits g);
   over = a (over_of g) (unseen-over g);
-  notices = a (notices_of g) (unseen-notices g);
-  notifying = a (notifying_of g) (unseen-notifying g);
-  mine = a (mine_of g) (unseen-mine g);
-  detaches = a (detaches_of g) (unseen-detaches g);
-  lending = a (lending_of g) (unseen-lending g);
-  strays = λ k. a (strays_of g k) (unseen-strays g k);
-  calls = λ k. a (calls_of g k) (unseen-calls g k);
+  notices = a (notices_of g) (unseen (λ x. x.notices) g refl);
+  notifying = a (notifying_of g) (unseen (λ x. x.notifying) g refl);
+  mine = a (mine_of g) (unseen (λ x. x.mine) g refl);
+  detaches = a (detaches_of g) (unseen (λ x. x.detaches) g refl);
+  lending = a (lending_of g) (unseen (λ x. x.lending) g refl);
+  strays = λ k. a (strays_of g k) (unseen (λ x. x.strays k) g refl);
+  calls = λ k. a (calls_of g k) (unseen (λ x. x.calls k) g refl);
 }
 
 -- so the polls of the handle are as they were

@@ -1,46 +1,23 @@
 -- For awaiters_are_kept.
 -- What a run does keeps what is known of each awaiter.
 use Rattle.std.proofs.Common.{◌≡◌, ℕ, ◌+◌, ◌<◌, List, [], ◌∷◌, ◌++◌, length, refl, sym, subst, ap, arith}
-use Rattle.task_moves.specs.Moves as moves
 use Rattle.std.proofs.Math.Path.{fun_ext}
-use Rattle.executor_model.proofs.Awaiters.SleepersAwaited.{awaits-tick_turn}
-use Rattle.executor_model.specs.declared.call.Reply.TheVariants as reply
-use Rattle.executor_model.specs.declared.event.Event.TheVariants as event
-use Rattle.executor_model.specs.declared.op.Hold.TheVariants as hold
-use Rattle.executor_model.specs.declared.op.ListOp.{ListOp}
-use Rattle.executor_model.specs.declared.op.Op.{Op}
-use Rattle.executor_model.specs.declared.op.Op.TheVariants as op
-use Rattle.executor_model.specs.declared.op.Polled.TheVariants as of
-use Rattle.executor_model.specs.declared.op.RunOp.{RunOp}
-use Rattle.executor_model.specs.declared.op.RunOp.TheVariants as run_op
-use Rattle.executor_model.specs.declared.op.RunPoll.{RunPoll}
-use Rattle.executor_model.specs.declared.op.TickOrRun.{TickOrRun}
-use Rattle.executor_model.specs.declared.op.TickOrRun.TheVariants as tick_or_run
-use Rattle.executor_model.specs.declared.op.Sleeping.{Sleeping}
-use Rattle.executor_model.specs.declared.op.Steal.{Steal}
-use Rattle.executor_model.specs.declared.op.StealOp.{StealOp}
-use Rattle.executor_model.specs.declared.op.StealOp.TheVariants as steal_op
-use Rattle.executor_model.specs.declared.op.TickOp.TheVariants as tick_op
-use Rattle.executor_model.specs.declared.op.Waker.{Waker}
-use Rattle.executor_model.specs.declared.op.Waker.TheVariants.{Task, Outside}
-use Rattle.executor_model.specs.declared.step.Hint.{Hint}
-use Rattle.executor_model.specs.Good.{IsKnownWaker}
-use Rattle.executor_model.specs.Rows.{handling_of}
-use Rattle.executor_model.specs.Sound.{Pend, with_ops}
-use Rattle.executor_model.specs.Weights.{weigh}
+use Rattle.executor_model.proofs.Types.{Reply, Event, Hold, ListOp, Op, Polled, RunOp, RunPoll, TickOrRun, Sleeping, Steal}
+use Rattle.executor_model.proofs.Types.{StealOp, TickOp, Waker, Task, Outside, Hint}
 use Rattle.executor_model.specs.World.{World, Done, log, own_of, task}
 use Rattle.executor_model.specs.ActsOfRuns.{call_by_reference, kept_by, wake_own, take_turn_of_run}
 use Rattle.executor_model.specs.Doing.{list_act, run_act, search_by_who, steal_act}
+use Rattle.executor_model.specs.{Good.IsKnownWaker, Rows.handling_of, Sound.Pend, Sound.with_ops, Weights.weigh}
 use Rattle.executor_model.proofs.Awaiters.Awaited.{Awaiting, Awaits, Footing, KeepsAwaits, Mark, heard-push, with_awaiting}
 use Rattle.executor_model.proofs.Awaiters.Awaited.{again_of, calls_of, detaches_of, fresh_of, lending_of, looks_of, mine_of}
-use Rattle.executor_model.proofs.Awaiters.Awaited.{notices_of}
-use Rattle.executor_model.proofs.Awaiters.Awaited.{notifying_of, over_of, storing_of, strays_of, waits_of}
-use Rattle.executor_model.proofs.Awaiters.AwaitedMoves.{awaits-wake_by_reference}
+use Rattle.executor_model.proofs.Awaiters.Awaited.{notices_of, notifying_of, over_of, storing_of, strays_of, waits_of}
 use Rattle.executor_model.proofs.Steps.Lists.{times-append, weigh-append}
 use Rattle.executor_model.proofs.Steps.RunsCounting.{Bare, bare, with_ops-append}
 use Rattle.executor_model.proofs.Steps.RunsMoves.{Moves, Same, times_in-set}
 use Rattle.executor_model.proofs.Steps.RunsWays.{AllOfRuns, by-list, by-run, by-search, by-steal, plain-of-runs}
 use Rattle.executor_model.proofs.Awaiters.RunsApart.{away, same-awaiting}
+use Rattle.executor_model.proofs.{Awaiters.SleepersAwaited.awaits-tick_turn, Awaiters.AwaitedMoves.awaits-wake_by_reference}
+use Rattle.task_moves.specs.Moves as moves
 
 -- what a run does but for its own waker's call changes nothing that is known of an awaiter
 still : (w v : World) (g : ℕ) (r r2 : Pend) (y : Awaiting) (m : Mark) → Same w v → r2.ready ≡ r.ready →
@@ -59,11 +36,11 @@ awaits-moves w old d a n m g r y k bb h =
     (subst (λ (x : Awaiting). Awaits w g (with_ops g old r) x k) (same-awaiting g old y (away g old a)) h))
 
 awaits-kept : (p : ℕ) (w : World) (s : Steal) (more f : ℕ) (d : Done) → s.poll.run < length w.own →
-    KeepsAwaits (kept_by p w s.poll.run f) (op.Steal (steal_op.OwnLength s 0) ∷ []) d →
-    KeepsAwaits w (op.Steal (steal_op.Put s more f) ∷ []) d
+    KeepsAwaits (kept_by p w s.poll.run f) (Op.Steal (StealOp.OwnLength s 0) ∷ []) d →
+    KeepsAwaits w (Op.Steal (StealOp.Put s more f) ∷ []) d
 awaits-kept p w s more f d i k g r y m bb h =
     let v = kept_by p w s.poll.run f in
-    let os : List Op = op.Steal (steal_op.OwnLength s 0) ∷ [] in
+    let os : List Op = Op.Steal (StealOp.OwnLength s 0) ∷ [] in
     let z = times_in-set g s.poll.run (own_of w s.poll.run ++ f ∷ []) w.own i in
     let x = times-append g (own_of w s.poll.run) (f ∷ []) in
     let foot : Footing v g (with_ops g os r) (with_awaiting g os y) = record {
@@ -82,33 +59,33 @@ awaits-kept p w s more f d i k g r y m bb h =
     let waits : Awaits v g (with_ops g os r) (with_awaiting g os y) m = grind (arith, heard-push) in
     k g r y m foot waits
 
-pub awaits-steal : (p : ℕ) (o : StealOp) (w : World) → KeepsAwaits w (op.Steal o ∷ []) (steal_act p o w)
+pub awaits-steal : (p : ℕ) (o : StealOp) (w : World) → KeepsAwaits w (Op.Steal o ∷ []) (steal_act p o w)
 awaits-steal p o w = by-steal KeepsAwaits awaits-moves awaits-kept p o w
 
-pub awaits-list : (h : Hint) (o : ListOp) (w : World) → KeepsAwaits w (op.List o ∷ []) (list_act h o w)
+pub awaits-list : (h : Hint) (o : ListOp) (w : World) → KeepsAwaits w (Op.List o ∷ []) (list_act h o w)
 awaits-list h o w = by-list KeepsAwaits awaits-moves awaits-kept h o w
 
 -- a tick takes a turn, a run looks at its own queue
 pub awaits-search_who : (who : TickOrRun) (p : ℕ) (w : World) (s : Sleeping) → s.who ≡ who →
-    KeepsAwaits w (op.Tick (tick_op.Search s) ∷ []) (search_by_who who p w s)
-awaits-search_who (tick_or_run.Tick t) p w s e = awaits-tick_turn p w s
-awaits-search_who (tick_or_run.Run r) p w s e = by-search KeepsAwaits awaits-moves awaits-kept w r s e
+    KeepsAwaits w (Op.Tick (TickOp.Search s) ∷ []) (search_by_who who p w s)
+awaits-search_who (TickOrRun.Tick t) p w s e = awaits-tick_turn p w s
+awaits-search_who (TickOrRun.Run r) p w s e = by-search KeepsAwaits awaits-moves awaits-kept w r s e
 
 abbrev ends : RunPoll → List Op
-ends x = op.End reply.Pending (hold.Run x.run) ∷ []
+ends x = Op.End Reply.Pending (Hold.Run x.run) ∷ []
 
 abbrev called : ℕ → World → RunPoll → World
-called p w x = log w (event.WakerCalled p (of.Run x.run) x.poll x.waker)
+called p w x = log w (Event.WakerCalled p (Polled.Run x.run) x.poll x.waker)
 
 own-called : (p : ℕ) (w : World) (x : RunPoll) (g : ℕ) (r : Pend) (y : Awaiting) (m : Mark) →
-    Awaits w g (with_ops g (op.Run (run_op.WakeOwn x) ∷ []) r)
-    (with_awaiting g (op.Run (run_op.WakeOwn x) ∷ []) y) m →
+    Awaits w g (with_ops g (Op.Run (RunOp.WakeOwn x) ∷ []) r)
+    (with_awaiting g (Op.Run (RunOp.WakeOwn x) ∷ []) y) m →
     Awaits (called p w x) g (with_ops g (ends x) r) (with_awaiting g (ends x) y) m
 own-called p w x g r y m h = grind (arith, heard-push)
 
 own-footing : (p : ℕ) (w : World) (x : RunPoll) (g : ℕ) (r : Pend) (y : Awaiting) →
-    Footing w g (with_ops g (op.Run (run_op.WakeOwn x) ∷ []) r)
-    (with_awaiting g (op.Run (run_op.WakeOwn x) ∷ []) y) →
+    Footing w g (with_ops g (Op.Run (RunOp.WakeOwn x) ∷ []) r)
+    (with_awaiting g (Op.Run (RunOp.WakeOwn x) ∷ []) y) →
     Footing (called p w x) g (with_ops g (ends x) r) (with_awaiting g (ends x) y)
 own-footing p w x g r y bb = record {
   one = bb.one;
@@ -155,7 +132,7 @@ ends-last g x xs y =
     )
     refl
   where
-    none : (v : Op → ℕ) → v (op.End reply.Pending (hold.Run x.run)) ≡ 0 → weigh v (xs ++ ends x) ≡ weigh v xs
+    none : (v : Op → ℕ) → v (Op.End Reply.Pending (Hold.Run x.run)) ≡ 0 → weigh v (xs ++ ends x) ≡ weigh v xs
     none v z = omega (arith, weigh-append v xs (ends x), z)
 
 -- nothing more is to do
@@ -179,7 +156,7 @@ zero-ops g r = λ i. record {
     zero n = omega arith
 
 pub awaits-wake_own : (p : ℕ) (w : World) (x : RunPoll) → IsKnownWaker w x.waker →
-    KeepsAwaits w (op.Run (run_op.WakeOwn x) ∷ []) (wake_own p w x)
+    KeepsAwaits w (Op.Run (RunOp.WakeOwn x) ∷ []) (wake_own p w x)
 awaits-wake_own p w x i g r y m bb h =
     let v = called p w x in
     let next : List Op = (call_by_reference p v x.waker).next in
@@ -200,10 +177,10 @@ awaits-wake_own p w x i g r y m bb h =
     known-then (Task f) k = k
     known-then (Outside y) k = k
 
-awaits-run_turn : (p : ℕ) (w : World) (x : RunPoll) → KeepsAwaits w (op.Run (run_op.TakeTurn x) ∷ []) (take_turn_of_run p w x)
+awaits-run_turn : (p : ℕ) (w : World) (x : RunPoll) → KeepsAwaits w (Op.Run (RunOp.TakeTurn x) ∷ []) (take_turn_of_run p w x)
 awaits-run_turn p w x g r y m bb h = grind (arith, heard-push)
 
 pub awaits-run : (p : ℕ) (h : Hint) (o : RunOp) (w : World) →
-    ((x : RunPoll) → o ≡ run_op.WakeOwn x → IsKnownWaker w x.waker) → KeepsAwaits w (op.Run o ∷ []) (run_act p h o w)
+    ((x : RunPoll) → o ≡ RunOp.WakeOwn x → IsKnownWaker w x.waker) → KeepsAwaits w (Op.Run o ∷ []) (run_act p h o w)
 awaits-run p h o w i =
     by-run KeepsAwaits awaits-moves awaits-kept p h o w (λ x e. awaits-wake_own p w x (i x e)) (λ x. awaits-run_turn p w x)

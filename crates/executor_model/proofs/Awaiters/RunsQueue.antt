@@ -1,40 +1,15 @@
 -- For awaiters_are_kept and calls_do_what_they_say.
 -- What a run does takes from the executor's queue at most, and neither closes nor opens it.
-use Rattle.std.proofs.Common.{◌≡◌, ◌≤◌, ℕ, zero, suc, List, [], ◌∷◌, length, drop, Bool, true, false, refl, sym, ap, subst}
-use Rattle.std.proofs.Common.{◌∙◌, arith}
-use Rattle.executor_model.proofs.Steps.QueuesByMark.{without_first_of, closed-first}
-use Rattle.executor_model.specs.Queues.{Queues, queue_in}
-use Rattle.executor_model.specs.Acts.{mark_in}
-use Rattle.executor_parts.specs.declared.mark.Mark.TheVariants.{Plain, Urgent}
-use Rattle.executor_parts.specs.declared.mark.Mark.{Mark}
-use Rattle.executor_model.specs.declared.op.Look.{Look}
-use Rattle.executor_model.specs.declared.op.Look.TheVariants.{First, Second}
-use Rattle.executor_model.specs.declared.call.Reply.{Reply}
-use Rattle.executor_model.specs.declared.event.Event.{Event}
-use Rattle.executor_model.specs.declared.event.Event.TheVariants as event
-use Rattle.executor_model.specs.declared.op.ListOp.{ListOp}
-use Rattle.executor_model.specs.declared.op.ListOp.TheVariants as list_op
-use Rattle.executor_model.specs.declared.op.Polled.TheVariants as of
-use Rattle.executor_model.specs.declared.op.RunOp.{RunOp}
-use Rattle.executor_model.specs.declared.op.RunOp.TheVariants as run_op
-use Rattle.executor_model.specs.declared.op.RunPoll.{RunPoll}
-use Rattle.executor_model.specs.declared.op.Section.TheVariants as section
-use Rattle.executor_model.specs.declared.op.Source.{Source}
-use Rattle.executor_model.specs.declared.op.Source.TheVariants.{Common, Own}
-use Rattle.executor_model.specs.declared.op.Steal.{Steal}
-use Rattle.executor_model.specs.declared.op.StealOp.{StealOp}
-use Rattle.executor_model.specs.declared.op.StealOp.TheVariants as steal_op
-use Rattle.executor_model.specs.declared.op.Then.{Then}
-use Rattle.executor_model.specs.declared.op.Then.TheVariants as then
-use Rattle.executor_model.specs.declared.op.Waker.{Waker}
-use Rattle.executor_model.specs.declared.op.Waker.TheVariants.{Task, Outside}
-use Rattle.executor_model.specs.declared.step.Hint.{Hint}
-use Rattle.executor_model.specs.World.{World, Stage, New, Listed, Ended, log, log_if, put_own, queue_of}
+use Rattle.std.proofs.Common.{◌≡◌, ◌≤◌, ℕ, zero, suc, List, [], ◌∷◌, length, drop, Bool, true, false, refl, sym, ap, subst, ◌∙◌}
+use Rattle.std.proofs.Common.{arith}
+use Rattle.executor_model.proofs.Types.{Plain, Urgent, Mark, Look, First, Second, Reply, Event, ListOp, Polled, RunOp, RunPoll}
+use Rattle.executor_model.proofs.Types.{Section, Source, Common, Own, Steal, StealOp, Then, Waker, Task, Outside, Hint}
 use Rattle.executor_model.specs.ActsOfRuns.{call_by_reference, counted_by, found, kept_by, look_own_by, make_room_by}
-use Rattle.executor_model.specs.ActsOfRuns.{make_run_by, registered}
-use Rattle.executor_model.specs.ActsOfRuns.{reschedule_by, run_by, search_common_by, search_own, search_own_by}
-use Rattle.executor_model.specs.ActsOfRuns.{steal_by, steal_length_by, steal_put_by, steal_take_by, stolen}
-use Rattle.executor_model.specs.Doing.{list_act, run_act, steal_act}
+use Rattle.executor_model.specs.ActsOfRuns.{make_run_by, registered, reschedule_by, run_by, search_common_by, search_own}
+use Rattle.executor_model.specs.World.{World, Stage, New, Listed, Ended, log, log_if, put_own, queue_of}
+use Rattle.executor_model.specs.ActsOfRuns.{search_own_by, steal_by, steal_length_by, steal_put_by, steal_take_by, stolen}
+use Rattle.executor_model.specs.{Queues.Queues, Queues.queue_in, Acts.mark_in, Doing.list_act, Doing.run_act, Doing.steal_act}
+use Rattle.executor_model.proofs.Steps.QueuesByMark.{without_first_of, closed-first}
 
 -- a run leaves the queues, or takes the first of one
 pub data Takes (w v : World) : Type 0 where
@@ -53,10 +28,10 @@ queue-found : (w : World) (x : RunPoll) (f : ℕ) → (found w x f).world.queues
 queue-found w x f = queue-counted _ w x f
 
 pub queue-stolen : (t : Then) (w : World) (x : RunPoll) → (stolen t w x).world.queues ≡ w.queues
-queue-stolen (then.Found f) w x = queue-found w x f
-queue-stolen (then.StealPlain f) w x = refl
-queue-stolen (then.Run f) w x = queue-run_by _ w x f
-queue-stolen (then.Walk at left) w x = refl
+queue-stolen (Then.Found f) w x = queue-found w x f
+queue-stolen (Then.StealPlain f) w x = refl
+queue-stolen (Then.Run f) w x = queue-run_by _ w x f
+queue-stolen (Then.Walk at left) w x = refl
 
 pub queue-length : (n : ℕ) (w : World) (s : Steal) → (steal_length_by n w s).world.queues ≡ w.queues
 queue-length zero w s = queue-stolen s.then w s.poll
@@ -78,10 +53,10 @@ queue-put true p w s more f = queue-more more (kept_by p w s.poll.run f) s
 queue-put false p w s more f = queue-stolen s.then w s.poll
 
 pub takes-steal : (p : ℕ) (o : StealOp) (w : World) → Takes w (steal_act p o w).world
-takes-steal p (steal_op.Length s) w = stays (queue-length _ w s)
-takes-steal p (steal_op.OwnLength s n) w = stays (queue-more _ w s)
-takes-steal p (steal_op.Take s more) w = takes-take s.from _ w s.poll s.then more
-takes-steal p (steal_op.Put s more f) w = stays (queue-put _ p w s more f)
+takes-steal p (StealOp.Length s) w = stays (queue-length _ w s)
+takes-steal p (StealOp.OwnLength s n) w = stays (queue-more _ w s)
+takes-steal p (StealOp.Take s more) w = takes-take s.from _ w s.poll s.then more
+takes-steal p (StealOp.Put s more f) w = stays (queue-put _ p w s more f)
 
 pub queue-own : (q : List ℕ) (w : World) (x : RunPoll) → (search_own_by q w x).world.queues ≡ w.queues
 queue-own [] w x = refl
@@ -113,8 +88,8 @@ queue-registered Listed w r = refl
 queue-registered Ended w r = refl
 
 pub queue-list : (h : Hint) (o : ListOp) (w : World) → (list_act h o w).world.queues ≡ w.queues
-queue-list h (list_op.Write section.MakeRun) w = queue-make h.refused w
-queue-list h (list_op.Write (section.Register x)) w = queue-registered _ w x.run
+queue-list h (ListOp.Write Section.MakeRun) w = queue-make h.refused w
+queue-list h (ListOp.Write (Section.Register x)) w = queue-registered _ w x.run
 queue-list h _ w = refl
 
 pub queue-reschedule : (q : List ℕ) (w : World) (r : ℕ) (a : Reply) → (reschedule_by q w r a).world.queues ≡ w.queues
@@ -126,18 +101,18 @@ queue-log_if true w e = refl
 queue-log_if false w e = refl
 
 pub queue-by_reference : (p : ℕ) (w : World) (a : Waker) → (call_by_reference p w a).world.queues ≡ w.queues
-queue-by_reference p w (Task f) = queue-log_if _ w (event.Woken p f)
+queue-by_reference p w (Task f) = queue-log_if _ w (Event.Woken p f)
 queue-by_reference p w (Outside y) = refl
 
 pub takes-run : (p : ℕ) (h : Hint) (o : RunOp) (w : World) → Takes w (run_act p h o w).world
-takes-run p h run_op.MakeRoom w = stays (queue-room h.refused w)
-takes-run p h run_op.ReturnRoom w = stays refl
-takes-run p h (run_op.TakeTurn x) w = stays refl
-takes-run p h (run_op.SearchCommon x look) w = takes-common look _ w x
-takes-run p h (run_op.LookOwn x at left) w = stays (queue-look _ w x at left)
-takes-run p h (run_op.WakeOwn x) w =
-    stays (queue-by_reference p (log w (event.WakerCalled p (of.Run x.run) x.poll x.waker)) x.waker)
-takes-run p h (run_op.Reschedule r a) w = stays (queue-reschedule _ w r a)
+takes-run p h RunOp.MakeRoom w = stays (queue-room h.refused w)
+takes-run p h RunOp.ReturnRoom w = stays refl
+takes-run p h (RunOp.TakeTurn x) w = stays refl
+takes-run p h (RunOp.SearchCommon x look) w = takes-common look _ w x
+takes-run p h (RunOp.LookOwn x at left) w = stays (queue-look _ w x at left)
+takes-run p h (RunOp.WakeOwn x) w =
+    stays (queue-by_reference p (log w (Event.WakerCalled p (Polled.Run x.run) x.poll x.waker)) x.waker)
+takes-run p h (RunOp.Reschedule r a) w = stays (queue-reschedule _ w r a)
 
 pub record Fewer (w v : World) : Type 0 where
   pub closed : (m : Mark) → (queue_of v m).closed ≡ (queue_of w m).closed

@@ -2,21 +2,10 @@
 -- What tells sleepers, and what a tick does but for its search, changes nothing of the table and the queue.
 use Rattle.std.proofs.Common.{◌≡◌, ℕ, List, Bool, true, false, refl, ap}
 use Rattle.std.specs.Prelude.{Option}
-use Rattle.executor_model.specs.Queues.{Queues}
-use Rattle.executor_model.specs.declared.event.Event.{Event}
-use Rattle.executor_model.specs.declared.event.Event.TheVariants as event
-use Rattle.executor_model.specs.declared.op.Polled.{Polled}
-use Rattle.executor_model.specs.declared.op.Sleeping.{Sleeping}
-use Rattle.executor_model.specs.declared.op.SleeperOp.{SleeperOp}
-use Rattle.executor_model.specs.declared.op.SleeperOp.TheVariants as sleeper_op
-use Rattle.executor_model.specs.declared.op.TickOp.{TickOp}
-use Rattle.executor_model.specs.declared.op.Waker.{Waker}
-use Rattle.executor_model.specs.declared.op.Waker.TheVariants.{Task, Outside}
-use Rattle.executor_model.specs.declared.step.Hint.{Hint}
+use Rattle.executor_model.proofs.Types.{Event, Polled, Sleeping, SleeperOp, TickOp, Waker, Task, Outside, Hint}
 use Rattle.executor_model.specs.World.{World, log, log_if}
-use Rattle.executor_model.specs.Acts.{call_waker}
 use Rattle.executor_model.specs.ActsOfSleepers.{exchange_by, hand_out_by, polled_as}
-use Rattle.executor_model.specs.Doing.{sleeper_act, tick_act}
+use Rattle.executor_model.specs.{Queues.Queues, Acts.call_waker, Doing.sleeper_act, Doing.tick_act}
 use Rattle.executor_model.proofs.OwnQueues.RunsMoving.{Wide, is_search, wide-tick}
 
 -- the parts that tasks, sleepers, ticks and the trace are no part of
@@ -47,7 +36,7 @@ log_if-rest true w e = refl
 log_if-rest false w e = refl
 
 pub call-rest : (p : ℕ) (w : World) (o : Polled) (a : Waker) (k : ℕ) → rest_of w ≡ rest_of (call_waker p w o a k).world
-call-rest p w o (Task g) k = log_if-rest _ (log w (event.WakerCalled p o k (Task g))) (event.Woken p g)
+call-rest p w o (Task g) k = log_if-rest _ (log w (Event.WakerCalled p o k (Task g))) (Event.Woken p g)
 call-rest p w o (Outside x) k = refl
 
 exchange-rest : (b : Bool) (w : World) → rest_of w ≡ rest_of (exchange_by b w).world
@@ -59,9 +48,9 @@ hand_out-rest true o w = refl
 hand_out-rest false o w = refl
 
 pub sleeper-rest : (p : ℕ) (o : SleeperOp) (w : World) → rest_of w ≡ rest_of (sleeper_act p o w).world
-sleeper-rest p sleeper_op.ExchangeFlag w = exchange-rest _ w
-sleeper-rest p sleeper_op.HandOut w = hand_out-rest _ _ w
-sleeper-rest p (sleeper_op.CallSleeper s) w = call-rest p w (polled_as s.who) s.waker s.poll
+sleeper-rest p SleeperOp.ExchangeFlag w = exchange-rest _ w
+sleeper-rest p SleeperOp.HandOut w = hand_out-rest _ _ w
+sleeper-rest p (SleeperOp.CallSleeper s) w = call-rest p w (polled_as s.who) s.waker s.poll
 
 abbrev pub searches : TickOp → Bool
 searches o = is_search o

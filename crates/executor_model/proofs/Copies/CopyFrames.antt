@@ -1,47 +1,22 @@
 -- For copies_are_counted.
 -- A copy of a waker has one thing to do, and then to end.
-use Rattle.std.proofs.Common.{◌≡◌, ◌∙◌, ℕ, ◌<◌, List, [], ◌∷◌, ◌++◌, length, Bool, true, false}
-use Rattle.std.proofs.Common.{refl, sym, ap, subst, arith}
+use Rattle.std.proofs.Common.{◌≡◌, ◌∙◌, ℕ, ◌<◌, List, [], ◌∷◌, ◌++◌, length, Bool, true, false, refl, sym, ap, subst, arith}
 use Rattle.std.specs.Prelude.{Option, Some, None, reverse}
-use Rattle.executor_model.specs.declared.kind.Kind.{Kind}
-use Rattle.executor_model.specs.declared.call.Call.{Call}
-use Rattle.executor_model.specs.declared.call.Call.TheVariants as call
-use Rattle.executor_model.specs.declared.call.Reply.{Reply}
-use Rattle.executor_model.specs.declared.call.Reply.TheVariants as reply
-use Rattle.executor_model.specs.declared.event.Event.TheVariants as event
-use Rattle.executor_model.specs.declared.op.Hold.{Hold}
-use Rattle.executor_model.specs.declared.op.Hold.TheVariants as hold
-use Rattle.executor_model.specs.declared.op.Op.{Op}
-use Rattle.executor_model.specs.declared.op.Op.TheVariants as op
-use Rattle.executor_model.specs.declared.op.WakerOp.TheVariants as waker_op
-use Rattle.executor_model.specs.declared.step.Hint.{Hint}
-use Rattle.executor_model.specs.declared.step.Step.{Step}
-use Rattle.executor_model.specs.declared.step.UserEnd.{UserEnd}
-use Rattle.executor_model.specs.Acts.{copy_by, is_refused}
-use Rattle.executor_model.specs.Calls.{Begun, Ended}
-use Rattle.executor_model.specs.CopiesMean.{is_copy}
-use Rattle.executor_model.specs.Doing.{act}
-use Rattle.executor_model.specs.Good.{Good}
-use Rattle.executor_model.specs.Steps.{Machine, accepts, begun, future_of, has_all, is_some, kept, mine, react, run, stack, start, top}
-use Rattle.executor_model.specs.Steps.{with_future}
-use Rattle.executor_model.specs.Trace.{Trace}
-use Rattle.executor_model.specs.Weights.{weigh}
+use Rattle.executor_model.proofs.Types.{Kind, Call, Reply, Event, Hold, Op, WakerOp, Hint, Step, UserEnd}
+use Rattle.executor_model.specs.Steps.{Machine, accepts, begun, future_of, has_all, is_some, kept, mine, react, run, stack}
 use Rattle.executor_model.specs.World.{Done, World, done, log, task}
-use Rattle.executor_model.proofs.Promises.CallFits.{fit-act, fit-react}
-use Rattle.executor_model.proofs.Promises.CallFrames.{Frames}
-use Rattle.executor_model.proofs.Promises.CallServes.{misfit}
+use Rattle.executor_model.specs.{Acts.copy_by, Acts.is_refused, Calls.Begun, Calls.Ended, CopiesMean.is_copy, Doing.act}
+use Rattle.executor_model.specs.{Good.Good, Steps.start, Steps.top, Steps.with_future, Trace.Trace, Weights.weigh}
 use Rattle.executor_model.proofs.Promises.FrameWays.{frames-end, frames-start, frames-way}
-use Rattle.executor_model.proofs.Quiet.Calls.{is_end}
-use Rattle.executor_model.proofs.Quiet.CallsDone.{fit-begun}
-use Rattle.executor_model.proofs.Steps.Lift.{good-start, unsettled}
-use Rattle.executor_model.proofs.Steps.Lists.{weigh-append}
-use Rattle.executor_model.proofs.Steps.Ways.{Way, along}
-use Rattle.executor_model.proofs.Steps.Ways.Way.{acted, called, reacted}
+use Rattle.executor_model.proofs.{Promises.CallFits.fit-act, Promises.CallFits.fit-react, Promises.CallFrames.Frames}
+use Rattle.executor_model.proofs.{Promises.CallServes.misfit, Quiet.Calls.is_end, Quiet.CallsDone.fit-begun}
+use Rattle.executor_model.proofs.{Steps.Lift.good-start, Steps.Lift.unsettled, Steps.Lists.weigh-append, Steps.Ways.Way}
+use Rattle.executor_model.proofs.{Steps.Ways.along, Steps.Ways.Way.acted, Steps.Ways.Way.called, Steps.Ways.Way.reacted}
 
 -- it asks for a copy, or it ends
 pub data Copying (os : List Op) : Type 0 where
-  asks : (f : ℕ) (held : Hold) → os ≡ op.Waker (waker_op.CopyWaker f held) ∷ [] → Copying os
-  ends : (a : Reply) (held : Hold) → os ≡ op.End a held ∷ [] → Copying os
+  asks : (f : ℕ) (held : Hold) → os ≡ Op.Waker (WakerOp.CopyWaker f held) ∷ [] → Copying os
+  ends : (a : Reply) (held : Hold) → os ≡ Op.End a held ∷ [] → Copying os
 
 -- the frame of a call
 pub record Copies (c : Call) (os : List Op) : Type 0 where
@@ -57,35 +32,35 @@ counting-later es more b os h = h
 abbrev pub Any : Ended → Type 0
 Any e = Unit {0}
 
-any-right : (es : Trace) (b : Begun) (a : Reply) (held : Hold) → Counting es b (op.End a held ∷ []) →
+any-right : (es : Trace) (b : Begun) (a : Reply) (held : Hold) → Counting es b (Op.End a held ∷ []) →
     Any (record { call = b.call; own = b.own; reply = a; past = es })
 any-right es b a held h = tt
 
 copied : (b : Bool) (w : World) (f : ℕ) (held : Hold) → Copying ((copy_by b w f held).next ++ [])
-copied true w f held = ends reply.NoMemory held refl
-copied false w f held = ends reply.Made held refl
+copied true w f held = ends Reply.NoMemory held refl
+copied false w f held = ends Reply.Made held refl
 
 copying-act : (p : ℕ) (h : Hint) (o : Op) (w : World) (rest : List Op) → is_end o ≡ false → Copying (o ∷ rest) →
     Copying ((act p h o w).next ++ rest)
 copying-act p h o w rest n (asks f held e) =
-    let i : o ≡ op.Waker (waker_op.CopyWaker f held) = cc in
+    let i : o ≡ Op.Waker (WakerOp.CopyWaker f held) = cc in
     let j : rest ≡ [] = cc in
     subst (λ (x : Op). Copying ((act p h x w).next ++ rest)) (sym i)
-    (subst (λ (os : List Op). Copying ((act p h (op.Waker (waker_op.CopyWaker f held)) w).next ++ os)) (sym j)
+    (subst (λ (os : List Op). Copying ((act p h (Op.Waker (WakerOp.CopyWaker f held)) w).next ++ os)) (sym j)
     (copied (is_refused h (task w f)) w f held))
 copying-act p h o w rest n (ends a held e) =
-    let i : o ≡ op.End a held = cc in
+    let i : o ≡ Op.End a held = cc in
     let no : true ≡ false = sym (ap is_end i) ∙ n in absurd (cc)
 
 copying-user : (o : Op) (u : UserEnd) (rest next : List Op) → accepts o u ≡ true → Copying (o ∷ rest) →
     Copying (next ++ rest)
 copying-user o u rest next a (asks f held e) =
-    let i : o ≡ op.Waker (waker_op.CopyWaker f held) = cc in
-    let no : accepts (op.Waker (waker_op.CopyWaker f held)) u ≡ true = ap (λ (x : Op). accepts x u) (sym i) ∙ a in
+    let i : o ≡ Op.Waker (WakerOp.CopyWaker f held) = cc in
+    let no : accepts (Op.Waker (WakerOp.CopyWaker f held)) u ≡ true = ap (λ (x : Op). accepts x u) (sym i) ∙ a in
     absurd (cc)
 copying-user o u rest next a (ends b held e) =
-    let i : o ≡ op.End b held = cc in
-    let no : accepts (op.End b held) u ≡ true = ap (λ (x : Op). accepts x u) (sym i) ∙ a in absurd (cc)
+    let i : o ≡ Op.End b held = cc in
+    let no : accepts (Op.End b held) u ≡ true = ap (λ (x : Op). accepts x u) (sym i) ∙ a in absurd (cc)
 
 fits-on : (c : Call) (o : Op) (rest next : List Op) → (misfit c o ≡ 0 → weigh (misfit c) next ≡ 0) →
     weigh (misfit c) (o ∷ rest) ≡ 0 → weigh (misfit c) (next ++ rest) ≡ 0
@@ -119,9 +94,9 @@ with-copy w None d e k = absurd (cc)
 with-copy w (Some f) d e k = k f
 
 copying-begun : (p : ℕ) (w : World) (ss : List (List Op)) (o : Option Op) (c : Call) → has_all w ss o c ≡ true →
-    is_copy c ≡ true → Copying (begun p (log w (event.CallBegun p c)) (mine o) c).next
-copying-begun p w ss o (call.Copy k) e i = with-copy _ (kept w k) _ e (λ f. asks f (hold.Waker k) refl)
-copying-begun p w ss o call.Keep e i = with-copy _ (future_of (mine o)) _ e (λ f. asks f hold.Nothing refl)
+    is_copy c ≡ true → Copying (begun p (log w (Event.CallBegun p c)) (mine o) c).next
+copying-begun p w ss o (Call.Copy k) e i = with-copy _ (kept w k) _ e (λ f. asks f (Hold.Waker k) refl)
+copying-begun p w ss o Call.Keep e i = with-copy _ (future_of (mine o)) _ e (λ f. asks f Hold.Nothing refl)
 copying-begun p w ss o _ e i = absurd (cc)
 
 -- at every moment
@@ -135,13 +110,13 @@ moves s p old rest d good l e way f =
     frames-way Counting counting-later Any any-right s p old rest d l e f
     (λ o q n more t b below h. way-on s p old rest d way o q n b.call below h)
     (λ c q a more z t. subst (λ (x : Done). Copies c x.next) (sym z) (record {
-      fits = fit-begun p (log s.world (event.CallBegun p c)) (mine (top (stack s p))) c;
+      fits = fit-begun p (log s.world (Event.CallBegun p c)) (mine (top (stack s p))) c;
       one = copying-begun p s.world s.parties (top (stack s p)) c a;
     })) way
 
 over : (s : Machine) (p : ℕ) (a : Reply) (held : Hold) (below : List Op) → p < length s.parties →
-    stack s p ≡ below ++ reverse (op.End a held ∷ []) → AllCounting s →
-    AllCounting (unsettled s p below (done (log s.world (event.CallEnded p a)) []))
+    stack s p ≡ below ++ reverse (Op.End a held ∷ []) → AllCounting s →
+    AllCounting (unsettled s p below (done (log s.world (Event.CallEnded p a)) []))
 over s p a held below l e f = frames-end Counting counting-later Any any-right s p a held below l e f
 
 pub all-counting : (limit : ℕ) (kind : Kind) (n : ℕ) (ts : List Step) → AllCounting (run ts (start limit kind n))

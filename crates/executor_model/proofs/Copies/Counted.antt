@@ -1,58 +1,33 @@
 -- For copies_are_counted.
 -- A copy that is made adds one waker and one reference, and a call that uses a waker up takes it out.
-use Rattle.std.proofs.Common.{◌≡◌, ◌∙◌, ℕ, List, [], ◌∷◌, ◌++◌, set, Bool, true, false, ◌&&◌}
-use Rattle.std.proofs.Common.{refl, sym, ap, subst, arith, Result}
-use Rattle.std.proofs.lemmas.Bool.Decides.{nat_tests}
-use Rattle.std.proofs.lemmas.List.{append_cancel_left}
+use Rattle.std.proofs.Common.{◌≡◌, ◌∙◌, ℕ, List, [], ◌∷◌, ◌++◌, set, Bool, true, false, ◌&&◌, refl, sym, ap, subst, arith}
 use Rattle.std.specs.Prelude.{Option, Some, None, reverse}
-use Rattle.executor_model.specs.declared.kind.Kind.{Kind}
-use Rattle.executor_model.specs.declared.call.Call.{Call}
-use Rattle.executor_model.specs.declared.call.Call.TheVariants as call
-use Rattle.executor_model.specs.declared.call.Reply.{Reply}
-use Rattle.executor_model.specs.declared.call.Reply.TheVariants as reply
-use Rattle.executor_model.specs.declared.event.Event.TheVariants as event
-use Rattle.executor_model.specs.declared.op.Hold.{Hold}
-use Rattle.executor_model.specs.declared.op.Op.{Op}
-use Rattle.executor_model.specs.declared.op.Op.TheVariants as op
-use Rattle.executor_model.specs.declared.op.WakerOp.TheVariants as waker_op
-use Rattle.executor_model.specs.declared.step.Hint.{Hint}
-use Rattle.executor_model.specs.declared.step.Step.{Step}
-use Rattle.executor_model.specs.declared.step.Step.TheVariants.{Begin, Go, Answer}
-use Rattle.executor_model.specs.declared.step.StepError.{StepError}
-use Rattle.executor_model.specs.declared.step.StepError.TheVariants.{NoSuch, WrongAnswer}
-use Rattle.executor_model.specs.Acts.{copy_by, is_refused}
-use Rattle.executor_model.specs.Calls.{Begun, calls}
+use Rattle.std.{proofs.Common.Result, proofs.lemmas.Bool.Decides.nat_tests, proofs.lemmas.List.append_cancel_left}
+use Rattle.executor_model.proofs.Types.{Kind, Call, Reply, Event, Hold, Op, WakerOp, Hint, Step, Begin, Go, StepError, NoSuch}
+use Rattle.executor_model.specs.declared.step.Step.TheVariants.{Answer}
+use Rattle.executor_model.specs.Steps.{Machine, accepts, after, answer_refusal, begin_refusal, begun, go_refusal, gone_on}
+use Rattle.executor_model.specs.Steps.{has_all, below_top, end_of, is_free, kept, mine, onto, part_after, part_refusal}
 use Rattle.executor_model.specs.CopiesMean.{AddsNone, AddsOne, CopiesAreCounted, IsCopying, begins_use, is_copy, uses_up}
-use Rattle.executor_model.specs.Doing.{act}
-use Rattle.executor_model.specs.SpawnWants.{Answers}
-use Rattle.executor_model.specs.SpawnWants as wants
-use Rattle.executor_model.specs.Steps.{Machine, accepts, after, answer_refusal, begin_refusal, begun, go_refusal, gone_on, has_all}
-use Rattle.executor_model.specs.Steps.{below_top, end_of, is_free, kept, mine, onto, part_after, part_refusal, party_of, react}
-use Rattle.executor_model.specs.Steps.{refusal, run, stack}
-use Rattle.executor_model.specs.Steps.{start, step, step_by, stepped, top, unless}
-use Rattle.executor_model.specs.Trace.{Trace}
-use Rattle.executor_model.specs.Weights.{weigh}
-use Rattle.executor_model.specs.World.{World, log, task}
+use Rattle.executor_model.specs.Steps.{party_of, react, refusal, run, stack, start, step, step_by, stepped, top, unless}
+use Rattle.executor_model.specs.{Acts.copy_by, Acts.is_refused, Calls.Begun, Calls.calls, Doing.act, SpawnWants.Answers}
+use Rattle.executor_model.specs.{Trace.Trace, Weights.weigh, World.World, World.log, World.task}
+use Rattle.executor_model.proofs.Copies.CopySteps.{act-wakers, adds-none, adds-one, begun-wakers, copy-world, copy_reply}
 use Rattle.executor_model.proofs.Copies.CopyFrames.{AllCounting, Any, Copying, Counting, all-counting, counting-later}
-use Rattle.executor_model.proofs.Copies.CopyFrames.Copying.{asks, ends}
-use Rattle.executor_model.proofs.Copies.CopySteps.{act-wakers, adds-none, adds-one, begun-wakers, copy-world, copy_reply, is_copying}
-use Rattle.executor_model.proofs.Copies.CopySteps.{onto-wakers, released-one, uses, with-used}
+use Rattle.executor_model.proofs.Copies.CopySteps.{is_copying, onto-wakers, released-one, uses, with-used}
 use Rattle.executor_model.proofs.Copies.Endings.{Own, last-event, whose}
-use Rattle.executor_model.proofs.Promises.CallAnswers.{served}
-use Rattle.executor_model.proofs.Promises.CallFrames.{Tied}
-use Rattle.executor_model.proofs.Promises.CallServes.{copies, misfit}
-use Rattle.executor_model.proofs.Quiet.Calls.{calling_of}
 use Rattle.executor_model.proofs.SpawnWants.Tops.{Tops, first, flipped, top-first, tops}
-use Rattle.executor_model.proofs.Steps.Lift.{none_refused, topped}
-use Rattle.executor_model.proofs.Steps.Placing.{Spots, same-react}
-use Rattle.executor_model.proofs.Steps.Stepping.{step-made}
+use Rattle.executor_model.proofs.{Types.WrongAnswer, Copies.CopyFrames.Copying.asks, Copies.CopyFrames.Copying.ends}
+use Rattle.executor_model.proofs.{Promises.CallAnswers.served, Promises.CallFrames.Tied, Promises.CallServes.copies}
+use Rattle.executor_model.proofs.{Promises.CallServes.misfit, Quiet.Calls.calling_of, Steps.Lift.none_refused}
+use Rattle.executor_model.proofs.{Steps.Lift.topped, Steps.Placing.Spots, Steps.Placing.same-react, Steps.Stepping.step-made}
+use Rattle.executor_model.specs.SpawnWants as wants
 
 -- where a copy is in progress, its party is about to make it
 
 pub record AtCopy (s : Machine) (p : ℕ) : Type 0 where
   pub future : ℕ
   pub held : Hold
-  pub is : top (stack s p) ≡ Some (op.Waker (waker_op.CopyWaker future held))
+  pub is : top (stack s p) ≡ Some (Op.Waker (WakerOp.CopyWaker future held))
 
 first-is : (front below os : List Op) (last o : Op) → front ++ last ∷ [] ≡ o ∷ [] → os ≡ front ++ last ∷ below →
     first os ≡ Some o
@@ -92,7 +67,7 @@ pub record Makes (s : Machine) (p : ℕ) (t : Step) : Type 0 where
   pub is : t ≡ Go p hint
   pub future : ℕ
   pub held : Hold
-  pub there : top (stack s p) ≡ Some (op.Waker (waker_op.CopyWaker future held))
+  pub there : top (stack s p) ≡ Some (Op.Waker (WakerOp.CopyWaker future held))
 
 module _ (s : Machine) (p : ℕ) (here : Tops s) (f : AllCounting s) (k : IsCopying p s.world.trace) where
   makes : (t : Step) → Own s p t → Makes s p t
@@ -107,75 +82,75 @@ module _ (s : Machine) (p : ℕ) (here : Tops s) (f : AllCounting s) (k : IsCopy
   makes (Answer q u) o =
       let a : AtCopy s p = at-copy s p here f k in
       let r : answer_refusal (top (stack s q)) u ≡ None = past _ _ o.possible in
-      let no : answer_refusal (Some (op.Waker (waker_op.CopyWaker a.future a.held))) u ≡ None =
+      let no : answer_refusal (Some (Op.Waker (WakerOp.CopyWaker a.future a.held))) u ≡ None =
       ap (λ (y : Option Op). answer_refusal y u) (sym (ap (λ (n : ℕ). top (stack s n)) (sym o.own) ∙ a.is)) ∙ r in
       absurd (cc)
 
 -- what that does
 
-told-last : (p : ℕ) (a b : Reply) (es told : Trace) → es ++ event.CallEnded p b ∷ [] ≡ es ++ (told ++ event.CallEnded p a ∷ []) →
+told-last : (p : ℕ) (a b : Reply) (es told : Trace) → es ++ Event.CallEnded p b ∷ [] ≡ es ++ (told ++ Event.CallEnded p a ∷ []) →
     b ≡ a
 told-last p a b es told e =
-    let i : event.CallEnded p b ∷ [] ≡ told ++ event.CallEnded p a ∷ [] = append_cancel_left es _ _ e in
-    let j : event.CallEnded p b ≡ event.CallEnded p a = last-event [] told _ _ i in cc
+    let i : Event.CallEnded p b ∷ [] ≡ told ++ Event.CallEnded p a ∷ [] = append_cancel_left es _ _ e in
+    let j : Event.CallEnded p b ≡ Event.CallEnded p a = last-event [] told _ _ i in cc
 
 copied-trace : (b : Bool) (w : World) (f : ℕ) (held : Hold) → (copy_by b w f held).world.trace ≡ w.trace
 copied-trace true w f held = refl
 copied-trace false w f held = refl
 
 module _ (s : Machine) (p : ℕ) (here : Tops s) (f : AllCounting s) where
-  made-so : (t : Step) → IsCopying p s.world.trace → Answers s t p reply.Made →
+  made-so : (t : Step) → IsCopying p s.world.trace → Answers s t p Reply.Made →
       AddsOne s.world (stepped s (step s t)).world
   made-so t k a =
-      let m : Makes s p t = makes s p here f k t (whose s p t reply.Made here a) in
+      let m : Makes s p t = makes s p here f k t (whose s p t Reply.Made here a) in
       by m (is_refused m.hint (task s.world m.future)) refl
     where
       by : (m : Makes s p t) (b : Bool) → is_refused m.hint (task s.world m.future) ≡ b →
           AddsOne s.world (stepped s (step s t)).world
       by m b e =
-          let w : (stepped s (step s t)).world ≡ log (copy_by b s.world m.future m.held).world (event.CallEnded p (copy_reply b)) =
+          let w : (stepped s (step s t)).world ≡ log (copy_by b s.world m.future m.held).world (Event.CallEnded p (copy_reply b)) =
           ap (λ (x : Step). (stepped s (step s x)).world) m.is
           ∙ (copy-world s p m.hint m.future m.held m.there
-          ∙ ap (λ (c : Bool). log (copy_by c s.world m.future m.held).world (event.CallEnded p (copy_reply c))) e) in
-          let r : copy_reply b ≡ reply.Made = told-last p reply.Made (copy_reply b) s.world.trace a.0
+          ∙ ap (λ (c : Bool). log (copy_by c s.world m.future m.held).world (Event.CallEnded p (copy_reply c))) e) in
+          let r : copy_reply b ≡ Reply.Made = told-last p Reply.Made (copy_reply b) s.world.trace a.0
           (sym (ap (λ (v : World). v.trace) w
-          ∙ ap (λ (es : Trace). es ++ event.CallEnded p (copy_reply b) ∷ []) (copied-trace b s.world m.future m.held))
+          ∙ ap (λ (es : Trace). es ++ Event.CallEnded p (copy_reply b) ∷ []) (copied-trace b s.world m.future m.held))
           ∙ a.1) in
           pick b e w r
         where
           pick : (c : Bool) → is_refused m.hint (task s.world m.future) ≡ c →
-              (stepped s (step s t)).world ≡ log (copy_by c s.world m.future m.held).world (event.CallEnded p (copy_reply c)) →
-              copy_reply c ≡ reply.Made → AddsOne s.world (stepped s (step s t)).world
+              (stepped s (step s t)).world ≡ log (copy_by c s.world m.future m.held).world (Event.CallEnded p (copy_reply c)) →
+              copy_reply c ≡ Reply.Made → AddsOne s.world (stepped s (step s t)).world
           pick true e w r = absurd (cc)
           pick false e w r = subst (AddsOne s.world) (sym w)
               (adds-one s.world m.hint m.future m.held (copy_reply false) p e)
 
-  refused-so : (t : Step) → IsCopying p s.world.trace → Answers s t p reply.NoMemory →
+  refused-so : (t : Step) → IsCopying p s.world.trace → Answers s t p Reply.NoMemory →
       AddsNone (wants.is_refused t) s.world (stepped s (step s t)).world
   refused-so t k a =
-      let m : Makes s p t = makes s p here f k t (whose s p t reply.NoMemory here a) in
+      let m : Makes s p t = makes s p here f k t (whose s p t Reply.NoMemory here a) in
       by m (is_refused m.hint (task s.world m.future)) refl
     where
       by : (m : Makes s p t) (b : Bool) → is_refused m.hint (task s.world m.future) ≡ b →
           AddsNone (wants.is_refused t) s.world (stepped s (step s t)).world
       by m b e =
-          let w : (stepped s (step s t)).world ≡ log (copy_by b s.world m.future m.held).world (event.CallEnded p (copy_reply b)) =
+          let w : (stepped s (step s t)).world ≡ log (copy_by b s.world m.future m.held).world (Event.CallEnded p (copy_reply b)) =
           ap (λ (x : Step). (stepped s (step s x)).world) m.is
           ∙ (copy-world s p m.hint m.future m.held m.there
-          ∙ ap (λ (c : Bool). log (copy_by c s.world m.future m.held).world (event.CallEnded p (copy_reply c))) e) in
-          let r : copy_reply b ≡ reply.NoMemory = told-last p reply.NoMemory (copy_reply b) s.world.trace a.0
+          ∙ ap (λ (c : Bool). log (copy_by c s.world m.future m.held).world (Event.CallEnded p (copy_reply c))) e) in
+          let r : copy_reply b ≡ Reply.NoMemory = told-last p Reply.NoMemory (copy_reply b) s.world.trace a.0
           (sym (ap (λ (v : World). v.trace) w
-          ∙ ap (λ (es : Trace). es ++ event.CallEnded p (copy_reply b) ∷ []) (copied-trace b s.world m.future m.held))
+          ∙ ap (λ (es : Trace). es ++ Event.CallEnded p (copy_reply b) ∷ []) (copied-trace b s.world m.future m.held))
           ∙ a.1) in
           pick b e w r
         where
           pick : (c : Bool) → is_refused m.hint (task s.world m.future) ≡ c →
-              (stepped s (step s t)).world ≡ log (copy_by c s.world m.future m.held).world (event.CallEnded p (copy_reply c)) →
-              copy_reply c ≡ reply.NoMemory → AddsNone (wants.is_refused t) s.world (stepped s (step s t)).world
+              (stepped s (step s t)).world ≡ log (copy_by c s.world m.future m.held).world (Event.CallEnded p (copy_reply c)) →
+              copy_reply c ≡ Reply.NoMemory → AddsNone (wants.is_refused t) s.world (stepped s (step s t)).world
           pick false e w r = absurd (cc)
           pick true e w r = subst (AddsNone (wants.is_refused t) s.world) (sym w)
               (subst (λ (x : Step). AddsNone (wants.is_refused x) s.world
-              (log (copy_by true s.world m.future m.held).world (event.CallEnded p (copy_reply true)))) (sym m.is)
+              (log (copy_by true s.world m.future m.held).world (Event.CallEnded p (copy_reply true)))) (sym m.is)
               (adds-none s.world m.hint m.future m.held (copy_reply true) p e))
 
 -- a call that uses a waker up begins
@@ -186,11 +161,11 @@ left-true false b e = absurd (cc)
 
 used-begun : (p k : ℕ) (w : World) (ss : List (List Op)) (o : Option Op) (c : Call) → uses_up k c ≡ true →
     has_all w ss o c ≡ true →
-    (begun p (log w (event.CallBegun p c)) (mine o) c).world.wakers ≡ set w.wakers k None
-used-begun p k w ss o (call.Wake j) u e =
+    (begun p (log w (Event.CallBegun p c)) (mine o) c).world.wakers ≡ set w.wakers k None
+used-begun p k w ss o (Call.Wake j) u e =
     let i : j ≡ k = (let z : k ≡ j = grind (arith, nat_tests) in sym z) in
     with-used w _ k (kept w j) _ (left-true _ _ e) (λ f. ap (λ (n : ℕ). set w.wakers n None) i)
-used-begun p k w ss o (call.DropWaker j) u e =
+used-begun p k w ss o (Call.DropWaker j) u e =
     let i : j ≡ k = (let z : k ≡ j = grind (arith, nat_tests) in sym z) in
     with-used w _ k (kept w j) _ (left-true _ _ e) (λ f. ap (λ (n : ℕ). set w.wakers n None) i)
 used-begun p k w ss o _ u e = absurd (cc)
@@ -203,35 +178,35 @@ used-so : (s : Machine) (p k : ℕ) (c : Call) → uses_up k c ≡ true → refu
 used-so s p k c u r =
     let x : _ = none_refused s.world s.parties (top (stack s p)) c (past _ _ r) in
     ap (λ (w : World). w.wakers) (stepped-is s (Begin p c) r)
-    ∙ (onto-wakers p (begun p (log s.world (event.CallBegun p c)) (mine (top (stack s p))) c) (stack s p)
+    ∙ (onto-wakers p (begun p (log s.world (Event.CallBegun p c)) (mine (top (stack s p))) c) (stack s p)
     ∙ used-begun p k s.world s.parties (top (stack s p)) c u x.1)
 
 -- all other steps
 
 -- a copy that is about to be made is one of a call
 copying-here : (s : Machine) (q f : ℕ) (held : Hold) (rest : List Op) → AllCounting s →
-    reverse (stack s q) ≡ op.Waker (waker_op.CopyWaker f held) ∷ rest → IsCopying q s.world.trace
+    reverse (stack s q) ≡ Op.Waker (WakerOp.CopyWaker f held) ∷ rest → IsCopying q s.world.trace
 copying-here s q f held rest h e = by (calls q s.world.trace).begun refl (h.tied q)
   where
     in-call : (c : Call) → copies c ≡ true → is_copy c ≡ true
-    in-call (call.Copy k) z = refl
-    in-call call.Keep z = refl
+    in-call (Call.Copy k) z = refl
+    in-call Call.Keep z = refl
     in-call _ z = absurd (cc)
 
     fits-copy : (c : Call) (front below : List Op) (last : Op) → reverse (stack s q) ≡ front ++ last ∷ below →
         weigh calling_of front ≡ 0 → weigh (misfit c) (front ++ last ∷ []) ≡ 0 → copies c ≡ true
     fits-copy c [] below last i n z =
-        let j : last ≡ op.Waker (waker_op.CopyWaker f held) =
-        (let y : last ∷ below ≡ op.Waker (waker_op.CopyWaker f held) ∷ rest = sym i ∙ e in cc) in
+        let j : last ≡ Op.Waker (WakerOp.CopyWaker f held) =
+        (let y : last ∷ below ≡ Op.Waker (WakerOp.CopyWaker f held) ∷ rest = sym i ∙ e in cc) in
         served (copies c) (omega (arith, z, ap (misfit c) j))
     fits-copy c (y ∷ front) below last i n z =
-        let j : y ≡ op.Waker (waker_op.CopyWaker f held) =
-        (let v : y ∷ (front ++ last ∷ below) ≡ op.Waker (waker_op.CopyWaker f held) ∷ rest = sym i ∙ e in cc) in
+        let j : y ≡ Op.Waker (WakerOp.CopyWaker f held) =
+        (let v : y ∷ (front ++ last ∷ below) ≡ Op.Waker (WakerOp.CopyWaker f held) ∷ rest = sym i ∙ e in cc) in
         absurd (omega (arith, n, ap calling_of j))
 
     by : (bs : List Begun) → (calls q s.world.trace).begun ≡ bs →
         Tied Counting counting-later Any s.world.trace bs (reverse (stack s q)) → IsCopying q s.world.trace
-    by [] i t = let no : op.Waker (waker_op.CopyWaker f held) ∷ rest ≡ [] = sym e ∙ t in absurd (cc)
+    by [] i t = let no : Op.Waker (WakerOp.CopyWaker f held) ∷ rest ≡ [] = sym e ∙ t in absurd (cc)
     by (b ∷ bs) i t = record {
       call = b.call;
       copies = in-call b.call (fits-copy b.call t.0 t.2 t.1 t.3.is t.3.none t.3.owes.fits);
@@ -241,17 +216,17 @@ copying-here s q f held rest h e = by (calls q s.world.trace).begun refl (h.tied
     }
 
 module _ (s : Machine) (here : Tops s) (f : AllCounting s) where
-  go-stays : (q : ℕ) (h : Hint) → ((p : ℕ) → IsCopying p s.world.trace → ¬ Answers s (Go q h) p reply.Made) →
+  go-stays : (q : ℕ) (h : Hint) → ((p : ℕ) → IsCopying p s.world.trace → ¬ Answers s (Go q h) p Reply.Made) →
       (o : Op) (b : Bool) → is_copying o ≡ b → top (stack s q) ≡ Some o →
       (onto q (act q h o s.world) (below_top (stack s q))).world.wakers ≡ s.world.wakers
   go-stays q h k o false n e =
       onto-wakers q (act q h o s.world) (below_top (stack s q)) ∙ act-wakers q h o s.world n
-  go-stays q h k (op.Waker (waker_op.CopyWaker g held)) true n e =
+  go-stays q h k (Op.Waker (WakerOp.CopyWaker g held)) true n e =
       by (is_refused h (task s.world g)) refl
     where
-      turned : reverse (stack s q) ≡ op.Waker (waker_op.CopyWaker g held) ∷ reverse (below_top (stack s q))
-      turned = ap (λ (os : List Op). reverse os) (topped (stack s q) (op.Waker (waker_op.CopyWaker g held)) e)
-          ∙ flipped (below_top (stack s q)) (op.Waker (waker_op.CopyWaker g held) ∷ [])
+      turned : reverse (stack s q) ≡ Op.Waker (WakerOp.CopyWaker g held) ∷ reverse (below_top (stack s q))
+      turned = ap (λ (os : List Op). reverse os) (topped (stack s q) (Op.Waker (WakerOp.CopyWaker g held)) e)
+          ∙ flipped (below_top (stack s q)) (Op.Waker (WakerOp.CopyWaker g held) ∷ [])
 
       by : (b : Bool) → is_refused h (task s.world g) ≡ b →
           (onto q (copy_by (is_refused h (task s.world g)) s.world g held) (below_top (stack s q))).world.wakers
@@ -261,20 +236,20 @@ module _ (s : Machine) (here : Tops s) (f : AllCounting s) where
       by false z = absurd (k q (copying-here s q g held (reverse (below_top (stack s q))) f turned) (
         [],
         ap (λ (v : World). v.trace) (copy-world s q h g held e)
-            ∙ ap (λ (c : Bool). (copy_by c s.world g held).world.trace ++ event.CallEnded q (copy_reply c) ∷ []) z,
+            ∙ ap (λ (c : Bool). (copy_by c s.world g held).world.trace ++ Event.CallEnded q (copy_reply c) ∷ []) z,
       ))
   go-stays q h k _ true n e = absurd (cc)
 
-  part-stays : (t : Step) → begins_use t ≡ false → ((p : ℕ) → IsCopying p s.world.trace → ¬ Answers s t p reply.Made) →
+  part-stays : (t : Step) → begins_use t ≡ false → ((p : ℕ) → IsCopying p s.world.trace → ¬ Answers s t p Reply.Made) →
       part_refusal s.world s.parties (stack s (party_of t)) t ≡ None →
       (part_after s.world (stack s (party_of t)) t).world.wakers ≡ s.world.wakers
   part-stays (Begin q c) n k r =
-      onto-wakers q (begun q (log s.world (event.CallBegun q c)) (mine (top (stack s q))) c) (stack s q)
+      onto-wakers q (begun q (log s.world (Event.CallBegun q c)) (mine (top (stack s q))) c) (stack s q)
       ∙ begun-wakers q s.world (mine (top (stack s q))) c (no-use c n)
     where
       no-use : (d : Call) → begins_use (Begin q d) ≡ false → uses d ≡ false
-      no-use (call.Wake j) z = absurd (cc)
-      no-use (call.DropWaker j) z = absurd (cc)
+      no-use (Call.Wake j) z = absurd (cc)
+      no-use (Call.DropWaker j) z = absurd (cc)
       no-use _ z = refl
   part-stays (Go q h) n k r = by (top (stack s q)) refl r
     where
@@ -295,12 +270,12 @@ module _ (s : Machine) (here : Tops s) (f : AllCounting s) where
           ∙ sym (ap (λ (x : Spots). x.wakers) (same-react q o u s.world (accepted o (accepts o u) refl z)))
 
   stays-by : (t : Step) (r : Option StepError) → refusal s t ≡ r → begins_use t ≡ false →
-      ((p : ℕ) → IsCopying p s.world.trace → ¬ Answers s t p reply.Made) →
+      ((p : ℕ) → IsCopying p s.world.trace → ¬ Answers s t p Reply.Made) →
       (stepped s (step_by r s t)).world.wakers ≡ s.world.wakers
   stays-by t (Some error) q n k = refl
   stays-by t None q n k = part-stays t n k (past _ _ q)
 
-  stays-so : (t : Step) → begins_use t ≡ false → ((p : ℕ) → IsCopying p s.world.trace → ¬ Answers s t p reply.Made) →
+  stays-so : (t : Step) → begins_use t ≡ false → ((p : ℕ) → IsCopying p s.world.trace → ¬ Answers s t p Reply.Made) →
       (stepped s (step s t)).world.wakers ≡ s.world.wakers
   unfolding step
   stays-so t n k = stays-by t (refusal s t) refl n k

@@ -3,26 +3,14 @@
 use Rattle.std.proofs.Common.{◌≡◌, ◌∙◌, ℕ, List, [], ◌∷◌, ◌++◌, Bool, true, false, refl, sym, ap, append-nil}
 use Rattle.std.proofs.lemmas.List.{append_assoc, append_cancel_left, reverse-append}
 use Rattle.std.specs.Prelude.{Option, Some, None, reverse}
-use Rattle.executor_model.specs.declared.call.Reply.{Reply}
-use Rattle.executor_model.specs.declared.event.Event.{Event}
-use Rattle.executor_model.specs.declared.event.Event.TheVariants as event
-use Rattle.executor_model.specs.declared.op.Op.{Op}
-use Rattle.executor_model.specs.declared.op.Op.TheVariants as op
-use Rattle.executor_model.specs.declared.op.Waker.{Waker}
-use Rattle.executor_model.specs.declared.step.Step.{Step}
-use Rattle.executor_model.specs.declared.step.StepError.{StepError}
-use Rattle.executor_model.specs.declared.step.StepError.TheVariants.{NoSuch}
-use Rattle.executor_model.specs.SpawnWants.{Answers}
-use Rattle.executor_model.specs.Steps.{Machine, Part, end_of, mine, part_after, party_of, refusal}
-use Rattle.executor_model.specs.Steps.{settled_by, stack, step, step_by, stepped, top, unless}
-use Rattle.executor_model.specs.Trace.{Trace, has}
-use Rattle.executor_model.specs.World.{Done, World, log}
-use Rattle.executor_model.proofs.Promises.CallPromises.{has-right}
-use Rattle.executor_model.proofs.Quiet.Calls.{is_end}
+use Rattle.executor_model.proofs.Types.{Reply, Event, Op, Waker, Step, StepError, NoSuch}
+use Rattle.executor_model.specs.Steps.{Machine, Part, end_of, mine, part_after, party_of, refusal, settled_by, stack, step}
+use Rattle.executor_model.specs.Steps.{step_by, stepped, top, unless}
+use Rattle.executor_model.specs.{SpawnWants.Answers, Trace.Trace, Trace.has, World.Done, World.World, World.log}
 use Rattle.executor_model.proofs.SpawnWants.Tops.{Tops, first, flipped, top-first}
 use Rattle.executor_model.proofs.Steps.Deeds.{ends_one, grows-act, grows-begun, grows-react}
-use Rattle.executor_model.proofs.Steps.Ways.{Made, Way, made}
-use Rattle.executor_model.proofs.Steps.Ways.Way.{acted, called, reacted}
+use Rattle.executor_model.proofs.{Promises.CallPromises.has-right, Quiet.Calls.is_end, Steps.Ways.Made, Steps.Ways.Way}
+use Rattle.executor_model.proofs.{Steps.Ways.made, Steps.Ways.Way.acted, Steps.Ways.Way.called, Steps.Ways.Way.reacted}
 
 pub last-event : (xs ys : Trace) (a b : Event) → xs ++ a ∷ [] ≡ ys ++ b ∷ [] → a ≡ b
 last-event xs ys a b e =
@@ -39,16 +27,16 @@ not-nothing (x ∷ xs) a e = absurd (cc)
 
 ended-by : (p q : ℕ) (a : Reply) (w : World) (os : List Op) (o : Option Reply) (es more told : Trace) →
     w.trace ≡ es ++ more → has ends_one more ≡ false →
-    (settled_by o q w os).world.trace ≡ es ++ (told ++ event.CallEnded p a ∷ []) → p ≡ q
+    (settled_by o q w os).world.trace ≡ es ++ (told ++ Event.CallEnded p a ∷ []) → p ≡ q
 ended-by p q a w os None es more told t n e =
-    let i : more ≡ told ++ event.CallEnded p a ∷ [] = append_cancel_left es _ _ (sym t ∙ e) in
+    let i : more ≡ told ++ Event.CallEnded p a ∷ [] = append_cancel_left es _ _ (sym t ∙ e) in
     absurd (not-both (has ends_one more)
-    (ap (has ends_one) i ∙ has-right ends_one told (event.CallEnded p a ∷ []) refl) n)
+    (ap (has ends_one) i ∙ has-right ends_one told (Event.CallEnded p a ∷ []) refl) n)
 ended-by p q a w os (Some b) es more told t n e =
-    let i : more ++ event.CallEnded q b ∷ [] ≡ told ++ event.CallEnded p a ∷ [] =
-    append_cancel_left es _ _ (sym (append_assoc es more (event.CallEnded q b ∷ []))
-    ∙ (ap (λ (xs : Trace). xs ++ event.CallEnded q b ∷ []) (sym t) ∙ e)) in
-    let j : event.CallEnded q b ≡ event.CallEnded p a = last-event more told _ _ i in cc
+    let i : more ++ Event.CallEnded q b ∷ [] ≡ told ++ Event.CallEnded p a ∷ [] =
+    append_cancel_left es _ _ (sym (append_assoc es more (Event.CallEnded q b ∷ []))
+    ∙ (ap (λ (xs : Trace). xs ++ Event.CallEnded q b ∷ []) (sym t) ∙ e)) in
+    let j : Event.CallEnded q b ≡ Event.CallEnded p a = last-event more told _ _ i in cc
 
 -- what the party does tells of no end of a call
 record Tells (w : World) (d : Done) : Type 0 where
@@ -65,7 +53,7 @@ no-end-top s q here o rest e =
     ∙ (ap end_of (sym (top-first (stack s q))) ∙ here.none q)) in by o z
   where
     by : (x : Op) → end_of (Some x) ≡ None → is_end x ≡ false
-    by (op.End a held) z = absurd (cc)
+    by (Op.End a held) z = absurd (cc)
     by _ z = refl
 
 tells-way : (s : Machine) (q : ℕ) (old rest : List Op) (d : Done) → Tops s → stack s q ≡ rest ++ reverse old →
@@ -78,13 +66,13 @@ tells-way s q old rest d here e (reacted o u a i z) =
     let g = grows-react q o u s.world in
     record { more = g.more; is = ap (λ (y : Done). y.world.trace) z ∙ g.is; none = g.none_ends }
 tells-way s q old rest d here e (called c i r n z) =
-    let w : World = log s.world (event.CallBegun q c) in
+    let w : World = log s.world (Event.CallBegun q c) in
     let o : Option Waker = mine (top (stack s q)) in
     let g = grows-begun q w o c in
     record {
-      more = event.CallBegun q c ∷ g.more;
+      more = Event.CallBegun q c ∷ g.more;
       is = ap (λ (y : Done). y.world.trace) z
-          ∙ (g.is ∙ append_assoc s.world.trace (event.CallBegun q c ∷ []) g.more);
+          ∙ (g.is ∙ append_assoc s.world.trace (Event.CallBegun q c ∷ []) g.more);
       none = g.none_ends;
     }
 
@@ -98,9 +86,9 @@ pub record Own (s : Machine) (p : ℕ) (t : Step) : Type 0 where
   pub own : p ≡ party_of t
 
 own-by : (s : Machine) (p : ℕ) (a : Reply) (told : Trace) → Tops s → (t : Step) (r : Option StepError) → refusal s t ≡ r →
-    (stepped s (step_by r s t)).world.trace ≡ s.world.trace ++ (told ++ event.CallEnded p a ∷ []) → Own s p t
+    (stepped s (step_by r s t)).world.trace ≡ s.world.trace ++ (told ++ Event.CallEnded p a ∷ []) → Own s p t
 own-by s p a told here t (Some error) q e =
-    absurd (not-nothing told (event.CallEnded p a)
+    absurd (not-nothing told (Event.CallEnded p a)
     (append_cancel_left s.world.trace _ [] (sym e ∙ sym (append-nil s.world.trace))))
 own-by s p a told here t None q e =
     let m : Made s (party_of t) (part_after s.world (stack s (party_of t)) t) = made s t (there _ _ q) in

@@ -1,63 +1,43 @@
 -- For one_runnable and references_are_counted.
 -- The counts of each future (specs/Sound) where user code answers; and what polls of a handle and the wakes of the
 -- executor's drop lead to, by what they find.
-use Rattle.std.proofs.Common.{◌≡◌, ℕ, ◌+◌, ◌^◌, ◌<◌, List, [], ◌∷◌, ◌++◌, length, Bool, true, false, not}
-use Rattle.std.proofs.Common.{sym, ap, ◌∙◌, ◌≤◌, arith}
-use Rattle.std.proofs.lemmas.Bool.Decides.{nat_tests}
+use Rattle.std.proofs.Common.{◌≡◌, ℕ, ◌+◌, ◌^◌, ◌<◌, List, [], ◌∷◌, ◌++◌, length, Bool, true, false, not, sym, ap, ◌∙◌, ◌≤◌}
 use Rattle.std.specs.Prelude.{Option, Some, None}
-use Rattle.task_moves.specs.declared.moves.state.State.{State}
-use Rattle.task_moves.specs.declared.moves.owed.Answer.TheVariants as said
-use Rattle.task_moves.specs.declared.moves.owed.Move.TheVariants as move
-use Rattle.task_moves.specs.declared.moves.owed.AwaiterDebt.TheVariants as debt
-use Rattle.task_moves.specs.Moves as moves
+use Rattle.std.{proofs.Common.arith, proofs.lemmas.Bool.Decides.nat_tests}
 use Rattle.task_moves.specs.Moves.{moved, nothing, notify_other_if}
-use Rattle.executor_model.specs.declared.event.Answer.TheVariants as answer
-use Rattle.executor_model.specs.declared.event.Event.TheVariants as event
-use Rattle.executor_model.specs.declared.op.Awaiter.{Awaiter}
-use Rattle.executor_model.specs.declared.op.Waker.{Waker}
-use Rattle.executor_model.specs.declared.op.Waker.TheVariants.{Task, Outside}
-use Rattle.executor_model.specs.declared.op.Op.{Op}
-use Rattle.executor_model.specs.declared.op.Op.TheVariants as op
-use Rattle.executor_model.specs.declared.op.HandleOp.TheVariants as handle_op
-use Rattle.executor_model.specs.declared.op.TableOp.TheVariants as table_op
-use Rattle.executor_model.specs.declared.op.UserOp.TheVariants as user_op
-use Rattle.executor_model.specs.declared.op.WakerOp.TheVariants as waker_op
-use Rattle.executor_model.specs.declared.step.Hint.{Hint}
+use Rattle.task_moves.{specs.declared.moves.owed.Answer.Answer, specs.declared.moves.owed.AwaiterDebt.AwaiterDebt}
+use Rattle.executor_model.proofs.Types.{State, Move, Event, Awaiter, Waker, Task, Outside, Op, HandleOp, TableOp, UserOp}
 use Rattle.executor_model.specs.World.{World, Done, done, log, log_if, task, put, put_awaiter, among}
-use Rattle.executor_model.specs.Carried.{owed_ops}
-use Rattle.executor_model.specs.Acts.{is_refused, answered}
-use Rattle.executor_model.specs.Acts.{is_copy_refused}
-use Rattle.executor_model.specs.Acts.{told, let_go}
-use Rattle.executor_model.specs.Acts.{closing_ops}
+use Rattle.executor_model.specs.Acts.{is_refused, answered, is_copy_refused, told, let_go, closing_ops}
 use Rattle.executor_model.specs.Weights.{same, weigh, past, waker_past}
-use Rattle.executor_model.specs.Good.{pasts}
-use Rattle.executor_model.specs.Rows.{past_of}
-use Rattle.executor_model.proofs.Steps.Lists.{past_is, same_is}
-use Rattle.executor_model.proofs.Steps.Lists.{phase-answered}
-use Rattle.executor_model.proofs.Counts.Counting.{Keeps, CanCopy}
+use Rattle.executor_model.specs.{Carried.owed_ops, Good.pasts, Rows.past_of}
+use Rattle.executor_model.proofs.Steps.Lists.{past_is, same_is, phase-answered}
+use Rattle.executor_model.proofs.{Types.WakerOp, Types.Hint, Counts.Counting.Keeps, Counts.Counting.CanCopy}
+use Rattle.task_moves.specs.Moves as moves
+use Rattle.executor_model.specs.declared.event.Answer.TheVariants as answer
 
 -- wakers and polls of a handle
 
 -- a poll of the handle that ends: as it was, or with its output
 abbrev pub stays_so : ℕ → World → World → ℕ → Done
 stays_so p w v f = answered p v f
-    (moved (task w f) (record nothing { awaiter = Some debt.NotifyOther; answer = Some said.Closed })) said.Closed
+    (moved (task w f) (record nothing { awaiter = Some AwaiterDebt.NotifyOther; answer = Some Answer.Closed })) Answer.Closed
 
 abbrev pub gives : Bool → ℕ → World → World → ℕ → Done
 gives a p w v f = answered p v f
     (moved (record (task w f) { closed = true })
-    (record nothing { awaiter = notify_other_if a; answer = Some said.Output })) said.Output
+    (record nothing { awaiter = notify_other_if a; answer = Some Answer.Output })) Answer.Output
 
 abbrev pub waits_on : ℕ → World → World → ℕ → Done
-waits_on p w v f = answered p v f (moved (task w f) (record nothing { answer = Some said.Pending })) said.Pending
+waits_on p w v f = answered p v f (moved (task w f) (record nothing { answer = Some Answer.Pending })) Answer.Pending
 
 -- by whether somebody wanted to notify meanwhile, and the old awaiter
 abbrev pub end_registered : Bool → Option Awaiter → World → ℕ → Waker → ℕ → Done
 end_registered true old w f a k = done (put_awaiter (put w f (moves.end_register_by true (task w f)).state) f None)
-    (op.Waker (waker_op.CallAwaiter f a k) ∷ let_go old ++ op.Handle (handle_op.LookAgain f) ∷ [])
+    (Op.Waker (WakerOp.CallAwaiter f a k) ∷ let_go old ++ Op.Handle (HandleOp.LookAgain f) ∷ [])
 end_registered false old w f a k =
     done (put_awaiter (put w f (moves.end_register_by false (task w f)).state) f
-    (Some (record { waker = a; poll = k }))) (let_go old ++ op.Handle (handle_op.LookAgain f) ∷ [])
+    (Some (record { waker = a; poll = k }))) (let_go old ++ Op.Handle (HandleOp.LookAgain f) ∷ [])
 
 abbrev pub end_notified : Bool → Option Awaiter → World → ℕ → Done
 end_notified same old w f = done (put_awaiter (put w f (moves.end_notify (task w f)).state) f None) (told same f old)
@@ -70,19 +50,19 @@ let_go_with old w f = done (put_awaiter (put w f (record (task w f) { awaiter = 
 
 abbrev pub next_woken : Bool → Bool → Bool → List ℕ → ℕ → World → ℕ → Done
 next_woken o b c rest p w f = let m = moves.wake_by_reference_by b c (task w f) in
-    done (put (log_if (not o) (record w { waking = rest }) (event.Woken p f)) f m.state)
-    (owed_ops (among f (log_if (not o) (record w { waking = rest }) (event.Woken p f)).table) f
-    (record m.owed { next = Some move.Release }) ++ closing_ops [] rest)
+    done (put (log_if (not o) (record w { waking = rest }) (Event.Woken p f)) f m.state)
+    (owed_ops (among f (log_if (not o) (record w { waking = rest }) (Event.Woken p f)).table) f
+    (record m.owed { next = Some Move.Release }) ++ closing_ops [] rest)
 
 -- the answers of user code
 pub sound-pending : (p : ℕ) (w : World) (f : ℕ) →
-    Keeps w (op.User (user_op.Poll f) ∷ [])
-    (done (log w (event.Answered p f answer.Pending)) (op.Table (table_op.PutBack f) ∷ []))
+    Keeps w (Op.User (UserOp.Poll f) ∷ [])
+    (done (log w (Event.Answered p f answer.Pending)) (Op.Table (TableOp.PutBack f) ∷ []))
 sound-pending p w f g r h = grind (arith, same_is, phase-answered)
 
 pub sound-ready : (p : ℕ) (w : World) (f : ℕ) →
-    Keeps w (op.User (user_op.Poll f) ∷ [])
-    (done (log w (event.Answered p f answer.Ready)) (op.User (user_op.BeginDrop f) ∷ op.Move move.EndReady f ∷ []))
+    Keeps w (Op.User (UserOp.Poll f) ∷ [])
+    (done (log w (Event.Answered p f answer.Ready)) (Op.User (UserOp.BeginDrop f) ∷ Op.Move Move.EndReady f ∷ []))
 sound-ready p w f g r h = grind (arith, same_is, phase-answered)
 
 pub below : (n f : ℕ) → past n f ≡ 0 → f < n

@@ -1,55 +1,25 @@
 -- For one_runnable and references_are_counted.
 -- Each thing that is done leaves numbers that are futures'.
-use Rattle.std.proofs.Common.{◌≡◌, ℕ, ◌+◌, ◌≤◌, ◌<◌, List, [], ◌∷◌, ◌++◌, length, Bool, true, false, not, ◌&&◌, set}
-use Rattle.std.proofs.Common.{drop, refl, sym, ap, ◌∙◌, subst, arith, length-append}
+use Rattle.std.proofs.Common.{◌≡◌, ℕ, ◌+◌, ◌≤◌, ◌<◌, List, [], ◌∷◌, ◌++◌, length, Bool, true, false, not, ◌&&◌, set, drop, refl}
+use Rattle.std.proofs.Common.{sym, ap, ◌∙◌, subst, arith, length-append}
 use Rattle.std.proofs.Math.ListN.{length-set}
 use Rattle.std.specs.Prelude.{Option, Some, None, slice_set}
-use Rattle.executor_model.proofs.Steps.QueuesByMark.{pasts-first}
-use Rattle.executor_parts.specs.declared.mark.Mark.TheVariants.{Plain, Urgent}
-use Rattle.executor_model.specs.declared.op.Look.TheVariants.{First, Second}
-use Rattle.executor_model.specs.declared.op.Look.{Look}
-use Rattle.executor_model.specs.World.{queue_of}
-use Rattle.executor_model.specs.Acts.{mark_in}
-use Rattle.executor_parts.specs.declared.mark.Mark.{Mark}
-use Rattle.task_moves.specs.declared.moves.state.State.{State}
-use Rattle.task_moves.specs.declared.moves.owed.Moved.{Moved}
-use Rattle.task_moves.specs.declared.moves.owed.Owed.{Owed}
-use Rattle.task_moves.specs.declared.moves.owed.Answer.{Answer}
-use Rattle.task_moves.specs.declared.moves.owed.AwaiterDebt.{AwaiterDebt}
-use Rattle.task_moves.specs.Moves as moves
-use Rattle.task_moves.specs.declared.moves.owed.Move.{Move}
-use Rattle.executor_model.specs.declared.event.Event.{Event}
-use Rattle.executor_model.specs.declared.event.Event.TheVariants as event
-use Rattle.executor_model.specs.declared.op.Awaiter.{Awaiter}
-use Rattle.executor_model.specs.declared.op.Waker.{Waker}
-use Rattle.executor_model.specs.declared.op.Waker.TheVariants.{Task, Outside}
-use Rattle.executor_model.specs.declared.op.Hold.{Hold}
-use Rattle.executor_model.specs.declared.op.Hold.TheVariants as hold
-use Rattle.executor_model.specs.declared.op.Polled.TheVariants as of
-use Rattle.executor_model.specs.declared.op.Op.{Op}
-use Rattle.executor_model.specs.declared.op.Op.TheVariants as op
-use Rattle.executor_model.specs.declared.op.ClosingOp.TheVariants as closing_op
-use Rattle.executor_model.specs.declared.op.HandleOp.TheVariants as handle_op
-use Rattle.executor_model.specs.declared.op.QueueOp.TheVariants as queue_op
-use Rattle.executor_model.specs.declared.op.TableOp.TheVariants as table_op
-use Rattle.executor_model.specs.declared.op.WakerOp.TheVariants as waker_op
-use Rattle.executor_model.specs.declared.step.Hint.{Hint}
-use Rattle.executor_model.specs.World.{World, Done, done, log, log_if, task, put, awaiter_of, put_awaiter, among}
-use Rattle.executor_model.specs.Carried.{awaiter_ops, owed_ops, carried}
-use Rattle.executor_model.specs.Acts.{is_last_waker, is_told, let_go_by, move_by, told_as, told_of}
-use Rattle.executor_model.specs.Acts.{append_by, take_by, enter_by, leave_by, copy_by}
-use Rattle.executor_model.specs.Acts.{answered, polled}
-use Rattle.executor_model.specs.Acts.{look_by, look_again_by, copy_awaiter_by, register_by, end_register_by, notify_by}
-use Rattle.executor_model.specs.Acts.{end_notify, told, let_go, waker_goes, call_awaiter, closing_ops}
-use Rattle.executor_model.specs.Acts.{drop_next_by}
-use Rattle.executor_model.specs.Acts.{wake_next_by, drain_by, followed, wake, reply_of, is_output}
-use Rattle.executor_model.specs.Weights.{weigh, past, waker_past}
-use Rattle.executor_model.specs.Good.{pasts, awaiters_past, Fits}
-use Rattle.executor_model.specs.Rows.{past_of}
+use Rattle.task_moves.{specs.declared.moves.owed.Answer.Answer, specs.declared.moves.owed.AwaiterDebt.AwaiterDebt}
+use Rattle.executor_model.proofs.Types.{Plain, Urgent, First, Second, Look, Mark, State, Moved, Owed, Move, Event, Awaiter}
+use Rattle.executor_model.proofs.Types.{Waker, Task, Outside, Hold, Polled, Op, ClosingOp, HandleOp, QueueOp, TableOp, WakerOp}
+use Rattle.executor_model.specs.Acts.{mark_in, is_last_waker, is_told, let_go_by, move_by, told_as, told_of, append_by, take_by}
+use Rattle.executor_model.specs.Acts.{enter_by, leave_by, copy_by, answered, polled, look_by, look_again_by, copy_awaiter_by}
+use Rattle.executor_model.specs.Acts.{register_by, end_register_by, notify_by, end_notify, told, let_go, waker_goes}
+use Rattle.executor_model.specs.Acts.{call_awaiter, closing_ops, drop_next_by, wake_next_by, drain_by, followed, wake, reply_of}
+use Rattle.executor_model.specs.World.{queue_of, World, Done, done, log, log_if, task, put, awaiter_of, put_awaiter, among}
+use Rattle.executor_model.specs.Acts.{is_output, leak_next_by, leak_out_by, leaked, leaking_ops}
+use Rattle.executor_model.specs.{Carried.awaiter_ops, Carried.owed_ops, Carried.carried, Weights.weigh, Weights.past}
+use Rattle.executor_model.specs.{Weights.waker_past, Good.pasts, Good.awaiters_past, Good.Fits, Rows.past_of}
 use Rattle.executor_model.proofs.Steps.Cases.{by_bool, by_list, by_waker}
 use Rattle.executor_model.proofs.Steps.Owed.{owed-future, owed-awaiter, owed-nothing}
 use Rattle.executor_model.proofs.Steps.Lists.{past_is, awaiters_past-set, past_if, weigh-append}
-use Rattle.executor_model.specs.Acts.{leak_next_by, leak_out_by, leaked, leaking_ops}
+use Rattle.executor_model.proofs.{Steps.QueuesByMark.pasts-first, Types.Hint}
+use Rattle.task_moves.specs.Moves as moves
 
 -- each future has its place in each list
 pub record Shaped (w : World) : Type 0 where
@@ -103,19 +73,19 @@ grows-carried w v f m l h z =
 below : (n f : ℕ) → past n f ≡ 0 → f < n
 below n f e = grind (arith, past_is)
 
-pub grows-append : (b : Bool) (w : World) (mark : Mark) (f : ℕ) → Grows w (op.Queue (queue_op.Append f) ∷ []) (append_by b w mark f)
+pub grows-append : (b : Bool) (w : World) (mark : Mark) (f : ℕ) → Grows w (Op.Queue (QueueOp.Append f) ∷ []) (append_by b w mark f)
 grows-append = by_bool _
     (λ w mark f h k. grind arith)
     (λ w mark f h k. grind arith)
 
 pub grows-take : (look : Look) (q : List ℕ) (w : World) → (queue_of w (mark_in look)).items ≡ q →
-    Grows w (op.Queue (queue_op.Take look) ∷ []) (take_by w look q)
+    Grows w (Op.Queue (QueueOp.Take look) ∷ []) (take_by w look q)
 grows-take (First mark) [] w e h k = grind arith
 grows-take (Second mark) [] w e h k = grind arith
 grows-take look (f ∷ rest) w e h k =
     let z = pasts-first (length w.tasks) f rest (mark_in look) w.queues e in grind arith
 
-pub grows-enter : (b c : Bool) (mark : Mark) (p : ℕ) (w : World) → Grows w (op.Table (table_op.Enter mark) ∷ []) (enter_by b c mark p w)
+pub grows-enter : (b c : Bool) (mark : Mark) (p : ℕ) (w : World) → Grows w (Op.Table (TableOp.Enter mark) ∷ []) (enter_by b c mark p w)
 grows-enter = by_bool _
     (λ c mark p w h k. grind arith)
     (by_bool _
@@ -136,13 +106,13 @@ grows-inside w f b old next z h = record {
   more = omega arith;
 }
 
-pub grows-leave : (b : Bool) (w : World) (f : ℕ) → Grows w (op.Table (table_op.LeaveTable f) ∷ []) (leave_by b w f)
+pub grows-leave : (b : Bool) (w : World) (f : ℕ) → Grows w (Op.Table (TableOp.LeaveTable f) ∷ []) (leave_by b w f)
 grows-leave = by_bool _
     (λ w f h k. grind arith)
     (λ w f h k. grind arith)
 
 pub grows-copy : (b : Bool) (w : World) (f : ℕ) (held : Hold) →
-    Grows w (op.Waker (waker_op.CopyWaker f held) ∷ []) (copy_by b w f held)
+    Grows w (Op.Waker (WakerOp.CopyWaker f held) ∷ []) (copy_by b w f held)
 grows-copy = by_bool _
     (λ w f held h k. grind arith)
     (λ w f held h k. grind (arith, length-set {A = State}))
@@ -152,32 +122,32 @@ grows-answered : (w v : World) (p f : ℕ) (m : Moved) (a : Answer) → length v
 grows-answered w v p f m a l h z =
     let q : length (set v.tasks f m.state) ≡ length w.tasks = length-set v.tasks f m.state ∙ l in
     let q2 : length (answered p v f m a).world.tasks ≡ length w.tasks =
-    same-log (is_output a) (put v f m.state) (event.OutputGiven p f) ∙ q in
+    same-log (is_output a) (put v f m.state) (Event.OutputGiven p f) ∙ q in
     record {
-      fits = fits-log (is_output a) (put v f m.state) (event.OutputGiven p f) (fits-put v f m.state h);
+      fits = fits-log (is_output a) (put v f m.state) (Event.OutputGiven p f) (fits-put v f m.state h);
       next = subst (λ n. weigh (past_of n) (answered p v f m a).next ≡ 0) (sym q2)
           (omega (
             arith,
             weigh-append (past_of (length w.tasks)) (awaiter_ops f m.owed.awaiter)
-                (op.End (reply_of a) (hold.Handle f) ∷ []),
+                (Op.End (reply_of a) (Hold.Handle f) ∷ []),
             past_awaiter (length w.tasks) f z m.owed.awaiter,
           ));
       more = omega (arith, q2);
     }
 
 pub grows-look : (a : Option Answer) (p : ℕ) (w : World) (f : ℕ) (x : Waker) (m : Moved) →
-    Grows w (op.Handle (handle_op.Look f x) ∷ []) (look_by a p w f x m)
+    Grows w (Op.Handle (HandleOp.Look f x) ∷ []) (look_by a p w f x m)
 grows-look None p w f x m h k = grind arith
 grows-look (Some a) p w f x m h k =
-    grows-answered w (polled p w f) p f m a refl (fits-log true w (event.HandlePolled p f) (shaped w h)) (omega (arith, k))
+    grows-answered w (polled p w f) p f m a refl (fits-log true w (Event.HandlePolled p f) (shaped w h)) (omega (arith, k))
 
 pub grows-again : (a : Option Answer) (p : ℕ) (w : World) (f : ℕ) (m : Moved) →
-    Grows w (op.Handle (handle_op.LookAgain f) ∷ []) (look_again_by a p w f m)
+    Grows w (Op.Handle (HandleOp.LookAgain f) ∷ []) (look_again_by a p w f m)
 grows-again None p w f m h k = grind arith
 grows-again (Some a) p w f m h k = grows-answered w w p f m a refl (shaped w h) (omega (arith, k))
 
 pub grows-copy_awaiter : (b : Bool) (p : ℕ) (w : World) (f : ℕ) (x : Waker) →
-    Grows w (op.Handle (handle_op.CopyAwaiter f x) ∷ []) (copy_awaiter_by b p w f x)
+    Grows w (Op.Handle (HandleOp.CopyAwaiter f x) ∷ []) (copy_awaiter_by b p w f x)
 grows-copy_awaiter = by_bool _
     (λ p w f x h k. grind arith)
     (λ p w f. by_waker _
@@ -185,7 +155,7 @@ grows-copy_awaiter = by_bool _
     (λ x h k. grind arith))
 
 pub grows-register : (b : Bool) (w : World) (f : ℕ) (x : Waker) (k : ℕ) →
-    Grows w (op.Handle (handle_op.Register f x k) ∷ []) (register_by b w f x k)
+    Grows w (Op.Handle (HandleOp.Register f x k) ∷ []) (register_by b w f x k)
 grows-register = by_bool _
     (λ w f x k h z. grind (arith, length-set {A = State}))
     (λ w f x k h z. grind (arith, length-set {A = State}))
@@ -217,7 +187,7 @@ grows-awaiter w f s a next i h z n =
     }
 
 pub grows-end_register : (b : Bool) (w : World) (f : ℕ) (x : Waker) (k : ℕ) →
-    Grows w (op.Handle (handle_op.EndRegister f x k) ∷ []) (end_register_by b w f x k)
+    Grows w (Op.Handle (HandleOp.EndRegister f x k) ∷ []) (end_register_by b w f x k)
 grows-end_register true w f x k h z =
     let n = length w.tasks in
     let i : f < n = below n f (omega (arith, z)) in
@@ -227,7 +197,7 @@ grows-end_register true w f x k h z =
       arith,
       y,
       z,
-      weigh-append (past_of n) (let_go (awaiter_of w f)) (op.Handle (handle_op.LookAgain f) ∷ []),
+      weigh-append (past_of n) (let_go (awaiter_of w f)) (Op.Handle (HandleOp.LookAgain f) ∷ []),
       past_let_go n (awaiter_of w f),
     ))
 grows-end_register false w f x k h z =
@@ -239,12 +209,12 @@ grows-end_register false w f x k h z =
       arith,
       y,
       z,
-      weigh-append (past_of n) (let_go (awaiter_of w f)) (op.Handle (handle_op.LookAgain f) ∷ []),
+      weigh-append (past_of n) (let_go (awaiter_of w f)) (Op.Handle (HandleOp.LookAgain f) ∷ []),
       past_let_go n (awaiter_of w f),
     ))
 
 pub grows-notify : (b m : Bool) (w : World) (f : ℕ) →
-    Grows w (op.Handle (handle_op.Notify f m) ∷ []) (notify_by b w f m)
+    Grows w (Op.Handle (HandleOp.Notify f m) ∷ []) (notify_by b w f m)
 grows-notify = by_bool _
     (λ m w f h k. grind (arith, length-set {A = State}))
     (λ m w f h k. grind (arith, length-set {A = State}))
@@ -256,7 +226,7 @@ past_told n f true (Some a) z e = past_goes n a.waker ∙ e
 past_told n f false (Some a) z e = omega (arith, z, e)
 
 pub grows-end_notify : (c : Hint) (m : Bool) (w : World) (f : ℕ) →
-    Grows w (op.Handle (handle_op.EndNotify f m) ∷ []) (end_notify c w f m)
+    Grows w (Op.Handle (HandleOp.EndNotify f m) ∷ []) (end_notify c w f m)
 grows-end_notify c m w f h z =
     let n = length w.tasks in
     let i : f < n = below n f (omega (arith, z)) in
@@ -264,7 +234,7 @@ grows-end_notify c m w f h z =
     grows-awaiter w f _ none _ (omega (arith, i, h.awaiting)) h refl
     (λ y. past_told n f (m && c.same) (awaiter_of w f) (omega (arith, z)) y)
 
-pub grows-let_go : (b : Bool) (w : World) (f : ℕ) → Grows w (op.Handle (handle_op.LetGo f) ∷ []) (let_go_by b w f)
+pub grows-let_go : (b : Bool) (w : World) (f : ℕ) → Grows w (Op.Handle (HandleOp.LetGo f) ∷ []) (let_go_by b w f)
 grows-let_go true w f h z = grind arith
 grows-let_go false w f h z =
     let n = length w.tasks in
@@ -274,12 +244,12 @@ grows-let_go false w f h z =
     (λ y. omega (arith, past_let_go n (awaiter_of w f), y))
 
 pub grows-call : (p : ℕ) (w : World) (f : ℕ) (x : Waker) (k : ℕ) →
-    Grows w (op.Waker (waker_op.CallAwaiter f x k) ∷ []) (call_awaiter p w f x k)
+    Grows w (Op.Waker (WakerOp.CallAwaiter f x k) ∷ []) (call_awaiter p w f x k)
 grows-call = λ p w f. by_waker _
-    (λ g k h z. let v = log w (event.WakerCalled p (of.Handle f) k (Task g)) in
+    (λ g k h z. let v = log w (Event.WakerCalled p (Polled.Handle f) k (Task g)) in
     let b = not (moves.is_over (task w g)) in
-    grows-carried w (log_if b v (event.Woken p g)) g (moves.wake (task w g)) (same-log b v (event.Woken p g))
-    (fits-log b v (event.Woken p g) (fits-log true w (event.WakerCalled p (of.Handle f) k (Task g)) (shaped w h)))
+    grows-carried w (log_if b v (Event.Woken p g)) g (moves.wake (task w g)) (same-log b v (Event.Woken p g))
+    (fits-log b v (Event.Woken p g) (fits-log true w (Event.WakerCalled p (Polled.Handle f) k (Task g)) (shaped w h)))
     (omega (arith, z)))
     (λ x k h z. grind arith)
 
@@ -289,7 +259,7 @@ past_closing n [] (f ∷ ws) = refl
 past_closing n [] [] = refl
 
 pub grows-drop_next : (p : ℕ) (w : World) (q : List ℕ) → w.leaving ≡ q →
-    Grows w (op.Closing closing_op.DropNext ∷ []) (drop_next_by p w q)
+    Grows w (Op.Closing ClosingOp.DropNext ∷ []) (drop_next_by p w q)
 grows-drop_next p w [] e h k = grind arith
 grows-drop_next p w (f ∷ rest) e h k =
     let n = length w.tasks in
@@ -318,7 +288,7 @@ past_leaking : (n : ℕ) (ws : List ℕ) → weigh (past_of n) (leaking_ops ws) 
 past_leaking n [] = refl
 past_leaking n (f ∷ ws) = refl
 
-pub grows-leak_out : (b : Bool) (w : World) → Grows w (op.Closing closing_op.LeakOut ∷ []) (leak_out_by b w)
+pub grows-leak_out : (b : Bool) (w : World) → Grows w (Op.Closing ClosingOp.LeakOut ∷ []) (leak_out_by b w)
 grows-leak_out true w h k = grind arith
 grows-leak_out false w h k = record {
   fits = record { awaiting = h.awaiting; inside = h.inside };
@@ -341,7 +311,7 @@ grows-leaked w d p f ws g = record {
 }
 
 pub grows-leak_next : (c : Bool) (p : ℕ) (w : World) (q : List ℕ) → w.waking ≡ q →
-    Grows w (op.Closing closing_op.LeakNext ∷ []) (leak_next_by c p w q)
+    Grows w (Op.Closing ClosingOp.LeakNext ∷ []) (leak_next_by c p w q)
 grows-leak_next true p w q e h k = grind arith
 grows-leak_next false p w [] e h k = grind arith
 grows-leak_next false p w (f ∷ rest) e h k =
@@ -351,11 +321,11 @@ grows-leak_next false p w (f ∷ rest) e h k =
     let b = not (moves.is_over (task w f)) in
     let fv : Shaped v = record { awaiting = h.awaiting; inside = h.inside } in
     grows-leaked w (wake p v f) p f rest
-    (grows-carried w (log_if b v (event.Woken p f)) f (moves.wake (task w f)) (same-log b v (event.Woken p f))
-    (fits-log b v (event.Woken p f) fv) (omega (arith, z)))
+    (grows-carried w (log_if b v (Event.Woken p f)) f (moves.wake (task w f)) (same-log b v (Event.Woken p f))
+    (fits-log b v (Event.Woken p f) fv) (omega (arith, z)))
 
 pub grows-wake_next : (p : ℕ) (w : World) (q : List ℕ) → w.waking ≡ q →
-    Grows w (op.Closing closing_op.WakeNext ∷ []) (wake_next_by p w q)
+    Grows w (Op.Closing ClosingOp.WakeNext ∷ []) (wake_next_by p w q)
 grows-wake_next p w [] e h k = grind arith
 grows-wake_next p w (f ∷ rest) e h k =
     let n = length w.tasks in
@@ -364,11 +334,11 @@ grows-wake_next p w (f ∷ rest) e h k =
     let b = not (moves.is_over (task w f)) in
     let fv : Shaped v = record { awaiting = h.awaiting; inside = h.inside } in
     grows-followed w (wake p v f) [] rest
-    (grows-carried w (log_if b v (event.Woken p f)) f (moves.wake (task w f)) (same-log b v (event.Woken p f))
-    (fits-log b v (event.Woken p f) fv) (omega (arith, z)))
+    (grows-carried w (log_if b v (Event.Woken p f)) f (moves.wake (task w f)) (same-log b v (Event.Woken p f))
+    (fits-log b v (Event.Woken p f) fv) (omega (arith, z)))
 
 pub grows-drain : (mark : Mark) (q : List ℕ) (p : ℕ) (w : World) → (queue_of w mark).items ≡ q →
-    Grows w (op.Closing (closing_op.Drain mark) ∷ []) (drain_by p w mark q)
+    Grows w (Op.Closing (ClosingOp.Drain mark) ∷ []) (drain_by p w mark q)
 grows-drain Urgent [] p w e h k = grind arith
 grows-drain Plain [] p w e h k = grind arith
 grows-drain mark (f ∷ rest) p w e h k = let z = pasts-first (length w.tasks) f rest mark w.queues e in grind arith
@@ -381,12 +351,12 @@ pub grows-logged : (w : World) (e : Event) (next : List Op) → weigh (past_of (
 grows-logged w e next z h = record { fits = fits-log true w e (shaped w h); next = z; more = omega arith }
 
 -- a move, and the events that it has
-pub grows-move : (b : Bool) (m : Move) (p : ℕ) (w : World) (f : ℕ) → Grows w (op.Move m f ∷ []) (move_by b m p w f)
+pub grows-move : (b : Bool) (m : Move) (p : ℕ) (w : World) (f : ℕ) → Grows w (Op.Move m f ∷ []) (move_by b m p w f)
 grows-move true m p w f h k =
     let a = told_as m p f in
     let c = is_told m (task w f) in
     let l = is_last_waker m (task w f) in
     grows-carried w (told_of l c m p w f) f (moves.after m (task w f))
-    (same-log l (log_if c w a) (event.LastWaker p f) ∙ same-log c w a)
-    (fits-log l (log_if c w a) (event.LastWaker p f) (fits-log c w a (shaped w h))) (omega (arith, k))
+    (same-log l (log_if c w a) (Event.LastWaker p f) ∙ same-log c w a)
+    (fits-log l (log_if c w a) (Event.LastWaker p f) (fits-log c w a (shaped w h))) (omega (arith, k))
 grows-move false m p w f h k = grind arith

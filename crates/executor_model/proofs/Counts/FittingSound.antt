@@ -2,20 +2,13 @@
 -- Each number that the world keeps is a future's (specs/Good): of any other the counts say that nothing holds it, since
 -- it has no task.
 use Rattle.std.proofs.Common.{◌≡◌, ℕ, ◌+◌, ◌≤◌, List, [], ◌∷◌, length, refl, ap, ⊎_elim, arith}
-use Rattle.std.proofs.lemmas.List.{get_or_past}
-use Rattle.std.specs.Prelude.{Option, Some, None}
-use Rattle.task_moves.specs.declared.moves.state.State.{State}
-use Rattle.executor_model.specs.declared.op.Awaiter.{Awaiter}
-use Rattle.executor_model.specs.declared.op.Sleeping.{Sleeping}
-use Rattle.executor_model.specs.declared.op.Waker.{Waker}
-use Rattle.executor_model.specs.declared.op.Waker.TheVariants.{Task, Outside}
+use Rattle.std.{proofs.lemmas.List.get_or_past, specs.Prelude.Option, specs.Prelude.Some, specs.Prelude.None}
+use Rattle.executor_model.proofs.Types.{State, Awaiter, Sleeping, Waker, Task, Outside}
 use Rattle.executor_model.specs.World.{World, blank, queued_in}
 use Rattle.executor_model.specs.Good.{Fits, pasts, pasts_in, wakers_past, awaiters_past, sleepers_past}
-use Rattle.executor_model.specs.Sound.{Sound, Pend, living, times, times_in, tokens, wakers_of, awaiters_of}
-use Rattle.executor_model.specs.Sound.{sleepers_of}
+use Rattle.executor_model.specs.Sound.{Sound, Pend, living, times, times_in, tokens, wakers_of, awaiters_of, sleepers_of}
 use Rattle.executor_model.specs.Weights.{same, past, waker_past, wakes}
-use Rattle.executor_model.proofs.Steps.Lists.{past_is, same_cases}
-use Rattle.executor_model.proofs.Counts.Fitting.{Shaped}
+use Rattle.executor_model.proofs.{Steps.Lists.past_is, Steps.Lists.same_cases, Counts.Fitting.Shaped}
 
 same-self : (f : ℕ) → same f f ≡ 1
 same-self f = grind (arith, same_cases)
@@ -32,11 +25,7 @@ module _ (n : ℕ) where
 
   none-times : (xs : List ℕ) → ((g : ℕ) → n ≤ g → times g xs ≡ 0) → pasts n xs ≡ 0
   none-times [] h = refl
-  none-times (x ∷ xs) h = omega (
-    arith,
-    none-past x (λ g l. omega (arith, h g l)),
-    none-times xs (λ g l. omega (arith, h g l)),
-  )
+  none-times (x ∷ xs) h = omega (arith, none-past x (λ g l. omega (arith, h g l)), none-times xs (λ g l. omega (arith, h g l)))
 
   none-times_in : (qs : List (List ℕ)) → ((g : ℕ) → n ≤ g → times_in g qs ≡ 0) → pasts_in n qs ≡ 0
   none-times_in [] h = refl

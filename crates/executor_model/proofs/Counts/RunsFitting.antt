@@ -1,60 +1,22 @@
 -- For one_runnable and references_are_counted.
 -- What a run does leaves numbers that are futures'.
-use Rattle.std.proofs.Common.{◌≡◌, ℕ, zero, suc, ◌+◌, ◌%◌, List, [], ◌∷◌, ◌++◌, length, get_or, set, Bool, true}
-use Rattle.std.proofs.Common.{false, eqb, not, refl, ap, arith}
-use Rattle.executor_model.proofs.Steps.QueuesByMark.{pasts-first}
-use Rattle.executor_model.specs.declared.op.Look.{Look}
-use Rattle.executor_model.specs.declared.op.Look.TheVariants.{First, Second}
-use Rattle.executor_model.specs.World.{queue_of}
-use Rattle.executor_model.specs.Acts.{mark_in}
-use Rattle.executor_model.specs.declared.call.Reply.{Reply}
-use Rattle.executor_model.specs.declared.call.Reply.TheVariants as reply
-use Rattle.executor_model.specs.declared.op.Hold.TheVariants as hold
-use Rattle.executor_model.specs.declared.op.ListOp.{ListOp}
-use Rattle.executor_model.specs.declared.op.ListOp.TheVariants as list_op
-use Rattle.executor_model.specs.declared.op.Op.{Op}
-use Rattle.executor_model.specs.declared.op.Op.TheVariants as op
-use Rattle.executor_model.specs.declared.op.RunOp.{RunOp}
-use Rattle.executor_model.specs.declared.op.RunOp.TheVariants as run_op
-use Rattle.executor_model.specs.declared.op.RunPoll.{RunPoll}
-use Rattle.executor_model.specs.declared.op.Section.TheVariants as section
-use Rattle.executor_model.specs.declared.op.TickOrRun.{TickOrRun}
-use Rattle.executor_model.specs.declared.op.TickOrRun.TheVariants as tick_or_run
-use Rattle.executor_model.specs.declared.op.SleeperOp.TheVariants as sleeper_op
-use Rattle.executor_model.specs.declared.op.Sleeping.{Sleeping}
-use Rattle.executor_model.specs.declared.op.Source.{Source}
-use Rattle.executor_model.specs.declared.op.Source.TheVariants.{Common, Own}
-use Rattle.executor_model.specs.declared.op.Steal.{Steal}
-use Rattle.executor_model.specs.declared.op.StealOp.{StealOp}
-use Rattle.executor_model.specs.declared.op.StealOp.TheVariants as steal_op
-use Rattle.executor_model.specs.declared.op.Then.{Then}
-use Rattle.executor_model.specs.declared.op.Then.TheVariants as then
-use Rattle.executor_model.specs.declared.op.TickOp.TheVariants as tick_op
-use Rattle.executor_model.specs.declared.op.UserOp.TheVariants as user_op
-use Rattle.executor_model.specs.declared.op.Waker.{Waker}
-use Rattle.executor_model.specs.declared.op.Waker.TheVariants.{Task, Outside}
-use Rattle.executor_model.specs.declared.step.Hint.{Hint}
-use Rattle.task_moves.specs.Moves as moves
-use Rattle.executor_model.specs.declared.event.Event.TheVariants as event
-use Rattle.executor_model.specs.declared.op.Polled.TheVariants as of
-use Rattle.executor_model.specs.World.{World, Ticker, Awake, Asleep, Left, Stage, New, Listed, Ended, Done, done, log}
+use Rattle.std.proofs.Common.{◌≡◌, ℕ, zero, suc, ◌+◌, ◌%◌, List, [], ◌∷◌, ◌++◌, length, get_or, set, Bool, true, false, eqb}
+use Rattle.std.proofs.Common.{not, refl, ap, arith}
+use Rattle.executor_model.proofs.Types.{Look, First, Second, Reply, Hold, ListOp, Op, RunOp, RunPoll, Section, TickOrRun}
+use Rattle.executor_model.proofs.Types.{SleeperOp, Sleeping, Source, Common, Own, Steal, StealOp, Then, TickOp, UserOp, Waker}
+use Rattle.executor_model.proofs.Types.{Task, Outside, Hint, Event, Polled}
+use Rattle.executor_model.specs.World.{queue_of, World, Ticker, Awake, Asleep, Left, Stage, New, Listed, Ended, Done, done, log}
+use Rattle.executor_model.specs.ActsOfRuns.{call_by_reference, run_by, counted_by, found, make_run_by, registered, kept_by}
+use Rattle.executor_model.specs.ActsOfRuns.{look_own_by, next_place, queue_at, search_common_by, walk, search_own_by, source_of}
+use Rattle.executor_model.specs.ActsOfRuns.{stolen, steal_by, steal_length_by, steal_put_by, steal_take_by, make_room_by}
 use Rattle.executor_model.specs.World.{log_if, own_of, put_own, run_of, task}
-use Rattle.executor_model.specs.ActsOfSleepers.{found_by}
-use Rattle.executor_model.specs.ActsOfRuns.{call_by_reference, run_by, counted_by, found, make_run_by}
-use Rattle.executor_model.specs.ActsOfRuns.{registered}
-use Rattle.executor_model.specs.ActsOfRuns.{kept_by, look_own_by, next_place, queue_at, search_common_by, walk}
-use Rattle.executor_model.specs.ActsOfRuns.{search_own_by, source_of, stolen, steal_by, steal_length_by}
-use Rattle.executor_model.specs.ActsOfRuns.{steal_put_by, steal_take_by}
-use Rattle.executor_model.specs.ActsOfRuns.{make_room_by, reschedule_by}
 use Rattle.executor_model.specs.Doing.{list_act, run_act, search_by_who, steal_act}
-use Rattle.executor_model.specs.Good.{Fits, pasts, pasts_in}
-use Rattle.executor_model.specs.Rows.{past_of, then_past}
-use Rattle.executor_model.specs.Weights.{past, waker_past, weigh}
+use Rattle.executor_model.specs.{Acts.mark_in, ActsOfSleepers.found_by, ActsOfRuns.reschedule_by, Good.Fits, Good.pasts}
+use Rattle.executor_model.specs.{Good.pasts_in, Rows.past_of, Rows.then_past, Weights.past, Weights.waker_past, Weights.weigh}
 use Rattle.executor_model.proofs.Counts.Fitting.{Grown, Grows, Shaped, shaped, fits-log, grows-carried, same-log}
-use Rattle.executor_model.proofs.Steps.Lists.{weigh-append}
-use Rattle.executor_model.proofs.Steps.RunsMoves.{Same, same-found, same-here, same-rooms, same-stolen, same-taken}
-use Rattle.executor_model.proofs.Steps.RunsMoves.{same-trans}
-use Rattle.executor_model.proofs.Steps.SleepersLists.{given_back-same}
+use Rattle.executor_model.proofs.Steps.RunsMoves.{Same, same-found, same-here, same-rooms, same-stolen, same-taken, same-trans}
+use Rattle.executor_model.proofs.{Steps.QueuesByMark.pasts-first, Steps.Lists.weigh-append, Steps.SleepersLists.given_back-same}
+use Rattle.task_moves.specs.Moves as moves
 
 -- own queues
 
@@ -76,27 +38,27 @@ module _ (n : ℕ) (x : RunPoll) (wz : waker_past n x.waker ≡ 0) where
   past-counted false w f z = past-run_by _ _ f z
 
   past-wakes_up : (p : Ticker) (who : TickOrRun) →
-      weigh (past_of n) (found_by p who (op.Sleeper sleeper_op.ExchangeFlag ∷ [])) ≡ 0
+      weigh (past_of n) (found_by p who (Op.Sleeper SleeperOp.ExchangeFlag ∷ [])) ≡ 0
   past-wakes_up Awake who = refl
   past-wakes_up (Asleep m) who = refl
   past-wakes_up Left who = refl
 
   past-found : (w : World) (f : ℕ) → past n f ≡ 0 → weigh (past_of n) (found w x f).next ≡ 0
   past-found w f z =
-      let first = found_by (run_of w x.run).place (tick_or_run.Run x.run) (op.Sleeper sleeper_op.ExchangeFlag ∷ []) in
+      let first = found_by (run_of w x.run).place (TickOrRun.Run x.run) (Op.Sleeper SleeperOp.ExchangeFlag ∷ []) in
       let b = eqb ((run_of w x.run).counted + 1) 64 in
       omega (
         arith,
         weigh-append (past_of n) first (counted_by b w x f).next,
-        past-wakes_up (run_of w x.run).place (tick_or_run.Run x.run),
+        past-wakes_up (run_of w x.run).place (TickOrRun.Run x.run),
         past-counted b w f z,
       )
 
   past-stolen : (t : Then) (w : World) → then_past n t ≡ 0 → weigh (past_of n) (stolen t w x).next ≡ 0
-  past-stolen (then.Found f) w z = past-found w f z
-  past-stolen (then.StealPlain f) w z = omega (arith, wz, z)
-  past-stolen (then.Run f) w z = past-run_by _ w f z
-  past-stolen (then.Walk at left) w z = omega (arith, wz)
+  past-stolen (Then.Found f) w z = past-found w f z
+  past-stolen (Then.StealPlain f) w z = omega (arith, wz, z)
+  past-stolen (Then.Run f) w z = past-run_by _ w f z
+  past-stolen (Then.Walk at left) w z = omega (arith, wz)
 
   past-walk : (qs : List ℕ) (at left : ℕ) → weigh (past_of n) (walk x qs at left) ≡ 0
   past-walk qs at zero = omega (arith, wz)
@@ -105,10 +67,10 @@ module _ (n : ℕ) (x : RunPoll) (wz : waker_past n x.waker ≡ 0) where
       by : (b : Bool) → weigh (past_of n) (walk x qs (next_place qs at) left) ≡ 0 →
           weigh (past_of n) (let h : List Op = elim b [
             | true ↦ walk x qs (next_place qs at) left
-            | false ↦ op.Steal (steal_op.Length (record {
+            | false ↦ Op.Steal (StealOp.Length (record {
               poll = x;
               from = Own (queue_at qs at);
-              then = then.Walk (next_place qs at) left;
+              then = Then.Walk (next_place qs at) left;
             })) ∷ []
           ] in h) ≡ 0
       by true z = z
@@ -133,10 +95,10 @@ grows-found : (w v : World) (old : List Op) (x : RunPoll) (f : ℕ) → Same w v
 grows-found w v old x f s a b = grows-moves w old (found v x f) (same-trans s (same-found v x f))
     (λ h k. past-found (length w.tasks) x (a k) v f (b h))
 
-grows-length : (n : ℕ) (w : World) (s : Steal) → Grows w (op.Steal (steal_op.Length s) ∷ []) (steal_length_by n w s)
-grows-length zero w s = grows-stolen w (op.Steal (steal_op.Length s) ∷ []) s.then s.poll (λ k. omega (arith, k))
+grows-length : (n : ℕ) (w : World) (s : Steal) → Grows w (Op.Steal (StealOp.Length s) ∷ []) (steal_length_by n w s)
+grows-length zero w s = grows-stolen w (Op.Steal (StealOp.Length s) ∷ []) s.then s.poll (λ k. omega (arith, k))
     (λ k. omega (arith, k))
-grows-length (suc n) w s = grows-moves w (op.Steal (steal_op.Length s) ∷ []) _ (same-here w _ _ _ _) (λ h k. k)
+grows-length (suc n) w s = grows-moves w (Op.Steal (StealOp.Length s) ∷ []) _ (same-here w _ _ _ _) (λ h k. k)
 
 grows-more : (n : ℕ) (w : World) (s : Steal) → Shaped w → waker_past (length w.tasks) s.poll.waker ≡ 0 →
     then_past (length w.tasks) s.then ≡ 0 → Grown w (steal_by n w s)
@@ -146,24 +108,24 @@ grows-more zero w s h a t =
 grows-more (suc n) w s h a t = grind arith
 
 grows-take_first : (from : Source) (q : List ℕ) (w : World) (x : RunPoll) (t : Then) (more : ℕ) → source_of w from ≡ q →
-    Grows w (op.Steal (steal_op.Take (record { poll = x; from = from; then = t }) more) ∷ [])
+    Grows w (Op.Steal (StealOp.Take (record { poll = x; from = from; then = t }) more) ∷ [])
     (steal_take_by q w (record { poll = x; from = from; then = t }) more)
 grows-take_first from [] w x t more e =
-    grows-stolen w (op.Steal (steal_op.Take (record { poll = x; from = from; then = t }) more) ∷ []) t x
+    grows-stolen w (Op.Steal (StealOp.Take (record { poll = x; from = from; then = t }) more) ∷ []) t x
     (λ k. omega (arith, k)) (λ k. omega (arith, k))
 grows-take_first (Common mark) (f ∷ rest) w x t more e =
-    grows-moves w (op.Steal (steal_op.Take (record { poll = x; from = Common mark; then = t }) more) ∷ []) _
+    grows-moves w (Op.Steal (StealOp.Take (record { poll = x; from = Common mark; then = t }) more) ∷ []) _
     (same-taken mark w)
     (λ h k. omega (arith, pasts-first (length w.tasks) f rest mark w.queues e, h.queue, k))
 grows-take_first (Own r) (f ∷ rest) w x t more e =
-    grows-moves w (op.Steal (steal_op.Take (record { poll = x; from = (Own r); then = t }) more) ∷ []) _
+    grows-moves w (Op.Steal (StealOp.Take (record { poll = x; from = (Own r); then = t }) more) ∷ []) _
     (same-here w _ _ _ _)
     (λ h k. omega (arith, pasts_in-first (length w.tasks) r f rest w.own e, h.own, k))
 
 grows-put : (b : Bool) (p : ℕ) (w : World) (s : Steal) (more f : ℕ) →
-    Grows w (op.Steal (steal_op.Put s more f) ∷ []) (steal_put_by b p w s more f)
+    Grows w (Op.Steal (StealOp.Put s more f) ∷ []) (steal_put_by b p w s more f)
 grows-put false p w s more f h k =
-    grows-moves w (op.Steal (steal_op.Put s more f) ∷ []) _ (same-stolen s.then w s.poll)
+    grows-moves w (Op.Steal (StealOp.Put s more f) ∷ []) _ (same-stolen s.then w s.poll)
     (λ h k. omega (arith, k, past-stolen (length w.tasks) s.poll (omega (arith, k)) s.then w (omega (arith, k)))) h k
 grows-put true p w s more f h k =
     let v = kept_by p w s.poll.run f in
@@ -171,124 +133,124 @@ grows-put true p w s more f h k =
     let g : Grown v (steal_by more v s) = grows-more more v s t (omega (arith, k)) (omega (arith, k)) in
     record { fits = g.fits; next = g.next; more = g.more }
 
-pub grows-steal : (p : ℕ) (o : StealOp) (w : World) → Grows w (op.Steal o ∷ []) (steal_act p o w)
-grows-steal p (steal_op.Length s) w = grows-length _ w s
-grows-steal p (steal_op.OwnLength s n) w = λ h k.
+pub grows-steal : (p : ℕ) (o : StealOp) (w : World) → Grows w (Op.Steal o ∷ []) (steal_act p o w)
+grows-steal p (StealOp.Length s) w = grows-length _ w s
+grows-steal p (StealOp.OwnLength s n) w = λ h k.
     grows-more _ w s (shaped w h) (omega (arith, k)) (omega (arith, k))
-grows-steal p (steal_op.Take s more) w = grows-take_first s.from _ w s.poll s.then more refl
-grows-steal p (steal_op.Put s more f) w = grows-put _ p w s more f
+grows-steal p (StealOp.Take s more) w = grows-take_first s.from _ w s.poll s.then more refl
+grows-steal p (StealOp.Put s more f) w = grows-put _ p w s more f
 
 grows-own : (q : List ℕ) (w : World) (s : Sleeping) (r : ℕ) → own_of w r ≡ q →
-    Grows w (op.Tick (tick_op.Search s) ∷ []) (search_own_by q w (record { run = r; waker = s.waker; poll = s.poll }))
-grows-own [] w s r e = grows-moves w (op.Tick (tick_op.Search s) ∷ []) _ (same-here w _ _ _ _) (λ h k. omega (arith, k))
-grows-own (f ∷ rest) w s r e = grows-found w (put_own w r rest) (op.Tick (tick_op.Search s) ∷ [])
+    Grows w (Op.Tick (TickOp.Search s) ∷ []) (search_own_by q w (record { run = r; waker = s.waker; poll = s.poll }))
+grows-own [] w s r e = grows-moves w (Op.Tick (TickOp.Search s) ∷ []) _ (same-here w _ _ _ _) (λ h k. omega (arith, k))
+grows-own (f ∷ rest) w s r e = grows-found w (put_own w r rest) (Op.Tick (TickOp.Search s) ∷ [])
     (record { run = r; waker = s.waker; poll = s.poll }) f
     (same-here w _ _ _ _) (λ k. omega (arith, k))
     (λ h. omega (arith, pasts_in-first (length w.tasks) r f rest w.own e, h.own))
 
 pub grows-search_who : (who : TickOrRun) (p : ℕ) (w : World) (s : Sleeping) →
-    Grows w (op.Tick (tick_op.Search s) ∷ []) (search_by_who who p w s)
-grows-search_who (tick_or_run.Tick t) p w s = λ h k. grind arith
-grows-search_who (tick_or_run.Run r) p w s = grows-own _ w s r refl
+    Grows w (Op.Tick (TickOp.Search s) ∷ []) (search_by_who who p w s)
+grows-search_who (TickOrRun.Tick t) p w s = λ h k. grind arith
+grows-search_who (TickOrRun.Run r) p w s = grows-own _ w s r refl
 
 grows-common : (look : Look) (q : List ℕ) (w : World) (x : RunPoll) → (queue_of w (mark_in look)).items ≡ q →
-    Grows w (op.Run (run_op.SearchCommon x look) ∷ []) (search_common_by q w x look)
-grows-common (First mark) [] w x e = grows-moves w (op.Run (run_op.SearchCommon x (First mark)) ∷ []) _
+    Grows w (Op.Run (RunOp.SearchCommon x look) ∷ []) (search_common_by q w x look)
+grows-common (First mark) [] w x e = grows-moves w (Op.Run (RunOp.SearchCommon x (First mark)) ∷ []) _
     (same-here w _ _ _ _) (λ h k. omega (arith, k))
-grows-common (Second mark) [] w x e = grows-moves w (op.Run (run_op.SearchCommon x (Second mark)) ∷ []) _
+grows-common (Second mark) [] w x e = grows-moves w (Op.Run (RunOp.SearchCommon x (Second mark)) ∷ []) _
     (same-here w _ _ _ _) (λ h k. omega (arith, k))
-grows-common look (f ∷ rest) w x e = grows-moves w (op.Run (run_op.SearchCommon x look) ∷ []) _
+grows-common look (f ∷ rest) w x e = grows-moves w (Op.Run (RunOp.SearchCommon x look) ∷ []) _
     (same-taken (mark_in look) w)
     (λ h k. omega (arith, pasts-first (length w.tasks) f rest (mark_in look) w.queues e, h.queue, k))
 
 grows-look : (q : List ℕ) (w : World) (x : RunPoll) (at left : ℕ) → own_of w x.run ≡ q →
-    Grows w (op.Run (run_op.LookOwn x at left) ∷ []) (look_own_by q w x at left)
-grows-look [] w x at left e h k = grows-moves w (op.Run (run_op.LookOwn x at left) ∷ []) _ (same-here w _ _ _ _)
+    Grows w (Op.Run (RunOp.LookOwn x at left) ∷ []) (look_own_by q w x at left)
+grows-look [] w x at left e h k = grows-moves w (Op.Run (RunOp.LookOwn x at left) ∷ []) _ (same-here w _ _ _ _)
     (λ h k. past-walk (length w.tasks) x (omega (arith, k)) w.listed at left) h k
 grows-look (f ∷ rest) w x at left e h k =
     let g : Grown w (found (put_own w x.run rest) x f) = grows-found w (put_own w x.run rest)
-    (op.Run (run_op.LookOwn x at left) ∷ []) x f (same-here w _ _ _ _)
+    (Op.Run (RunOp.LookOwn x at left) ∷ []) x f (same-here w _ _ _ _)
     (λ k. omega (arith, k))
     (λ h. omega (arith, pasts_in-first (length w.tasks) x.run f rest w.own e, h.own)) h k in
     record { fits = g.fits; next = omega (arith, g.next); more = g.more }
 
 grows-reschedule : (q : List ℕ) (w : World) (r : ℕ) (a : Reply) → own_of w r ≡ q →
-    Grows w (op.Run (run_op.Reschedule r a) ∷ []) (reschedule_by q w r a)
-grows-reschedule [] w r a e = grows-moves w (op.Run (run_op.Reschedule r a) ∷ []) _ (same-here w _ _ _ _)
+    Grows w (Op.Run (RunOp.Reschedule r a) ∷ []) (reschedule_by q w r a)
+grows-reschedule [] w r a e = grows-moves w (Op.Run (RunOp.Reschedule r a) ∷ []) _ (same-here w _ _ _ _)
     (λ h k. refl)
 grows-reschedule (f ∷ rest) w r a e =
-    grows-moves w (op.Run (run_op.Reschedule r a) ∷ []) _ (same-here w _ _ _ _)
+    grows-moves w (Op.Run (RunOp.Reschedule r a) ∷ []) _ (same-here w _ _ _ _)
     (λ h k. omega (arith, pasts_in-first (length w.tasks) r f rest w.own e, h.own, k))
 
-grows-make : (b : Bool) (w : World) → Grows w (op.List (list_op.Write section.MakeRun) ∷ []) (make_run_by b w)
-grows-make true w = grows-moves w (op.List (list_op.Write section.MakeRun) ∷ []) _ (same-here w _ _ _ _)
+grows-make : (b : Bool) (w : World) → Grows w (Op.List (ListOp.Write Section.MakeRun) ∷ []) (make_run_by b w)
+grows-make true w = grows-moves w (Op.List (ListOp.Write Section.MakeRun) ∷ []) _ (same-here w _ _ _ _)
     (λ h k. refl)
-grows-make false w = grows-moves w (op.List (list_op.Write section.MakeRun) ∷ []) _ (same-here w _ _ _ _)
+grows-make false w = grows-moves w (Op.List (ListOp.Write Section.MakeRun) ∷ []) _ (same-here w _ _ _ _)
     (λ h k. refl)
 
-grows-register : (t : Stage) (w : World) (x : RunPoll) → Grows w (op.List (list_op.Write (section.Register x)) ∷ [])
-    (done (registered t w x.run) (op.List list_op.UnlockWrite ∷ op.User (user_op.PollOwn x) ∷ []))
-grows-register New w x = grows-moves w (op.List (list_op.Write (section.Register x)) ∷ []) _ (same-here w _ _ _ _)
+grows-register : (t : Stage) (w : World) (x : RunPoll) → Grows w (Op.List (ListOp.Write (Section.Register x)) ∷ [])
+    (done (registered t w x.run) (Op.List ListOp.UnlockWrite ∷ Op.User (UserOp.PollOwn x) ∷ []))
+grows-register New w x = grows-moves w (Op.List (ListOp.Write (Section.Register x)) ∷ []) _ (same-here w _ _ _ _)
     (λ h k. omega (arith, k))
-grows-register Listed w x = grows-moves w (op.List (list_op.Write (section.Register x)) ∷ []) _ (same-here w _ _ _ _)
+grows-register Listed w x = grows-moves w (Op.List (ListOp.Write (Section.Register x)) ∷ []) _ (same-here w _ _ _ _)
     (λ h k. omega (arith, k))
-grows-register Ended w x = grows-moves w (op.List (list_op.Write (section.Register x)) ∷ []) _ (same-here w _ _ _ _)
+grows-register Ended w x = grows-moves w (Op.List (ListOp.Write (Section.Register x)) ∷ []) _ (same-here w _ _ _ _)
     (λ h k. omega (arith, k))
 
-pub grows-list : (h : Hint) (o : ListOp) (w : World) → Grows w (op.List o ∷ []) (list_act h o w)
-grows-list c (list_op.LockWrite s) w =
-    grows-moves w (op.List (list_op.LockWrite s) ∷ []) _ (same-here w _ _ _ _) (λ h k. k)
-grows-list c (list_op.Write section.MakeRun) w = grows-make c.refused w
-grows-list c (list_op.Write (section.Register x)) w = grows-register _ w x
-grows-list c (list_op.Write (section.Unregister r a)) w =
-    grows-moves w (op.List (list_op.Write (section.Unregister r a)) ∷ []) _ (same-here w _ _ _ _) (λ h k. refl)
-grows-list c list_op.UnlockWrite w = grows-moves w (op.List list_op.UnlockWrite ∷ []) _ (same-here w _ _ _ _)
+pub grows-list : (h : Hint) (o : ListOp) (w : World) → Grows w (Op.List o ∷ []) (list_act h o w)
+grows-list c (ListOp.LockWrite s) w =
+    grows-moves w (Op.List (ListOp.LockWrite s) ∷ []) _ (same-here w _ _ _ _) (λ h k. k)
+grows-list c (ListOp.Write Section.MakeRun) w = grows-make c.refused w
+grows-list c (ListOp.Write (Section.Register x)) w = grows-register _ w x
+grows-list c (ListOp.Write (Section.Unregister r a)) w =
+    grows-moves w (Op.List (ListOp.Write (Section.Unregister r a)) ∷ []) _ (same-here w _ _ _ _) (λ h k. refl)
+grows-list c ListOp.UnlockWrite w = grows-moves w (Op.List ListOp.UnlockWrite ∷ []) _ (same-here w _ _ _ _)
     (λ h k. refl)
-grows-list c (list_op.LockRead x) w =
-    grows-moves w (op.List (list_op.LockRead x) ∷ []) _ (same-here w _ _ _ _)
+grows-list c (ListOp.LockRead x) w =
+    grows-moves w (Op.List (ListOp.LockRead x) ∷ []) _ (same-here w _ _ _ _)
     (λ h k. past-walk (length w.tasks) x (omega (arith, k)) w.listed (c.start % length w.listed) (length w.listed))
-grows-list c list_op.UnlockRead w = grows-moves w (op.List list_op.UnlockRead ∷ []) _ (same-here w _ _ _ _)
+grows-list c ListOp.UnlockRead w = grows-moves w (Op.List ListOp.UnlockRead ∷ []) _ (same-here w _ _ _ _)
     (λ h k. refl)
 
-grows-room : (b : Bool) (w : World) → Grows w (op.Run run_op.MakeRoom ∷ []) (make_room_by b w)
-grows-room true w = grows-moves w (op.Run run_op.MakeRoom ∷ []) _ (same-here w _ _ _ _) (λ h k. refl)
-grows-room false w = grows-moves w (op.Run run_op.MakeRoom ∷ []) _ (same-rooms w _ refl) (λ h k. refl)
+grows-room : (b : Bool) (w : World) → Grows w (Op.Run RunOp.MakeRoom ∷ []) (make_room_by b w)
+grows-room true w = grows-moves w (Op.Run RunOp.MakeRoom ∷ []) _ (same-here w _ _ _ _) (λ h k. refl)
+grows-room false w = grows-moves w (Op.Run RunOp.MakeRoom ∷ []) _ (same-rooms w _ refl) (λ h k. refl)
 
 grows-wake_own : (p : ℕ) (a : Waker) (w v : World) (x : RunPoll) →
-    v ≡ log w (event.WakerCalled p (of.Run x.run) x.poll x.waker) →
+    v ≡ log w (Event.WakerCalled p (Polled.Run x.run) x.poll x.waker) →
     waker_past (length w.tasks) a ≡ 0 → Fits w →
     Grown w (done (call_by_reference p v a).world
-    ((call_by_reference p v a).next ++ op.End reply.Pending (hold.Run x.run) ∷ []))
+    ((call_by_reference p v a).next ++ Op.End Reply.Pending (Hold.Run x.run) ∷ []))
 grows-wake_own p (Outside y) w v x e z h =
     rw e (record {
-      fits = fits-log true w (event.WakerCalled p (of.Run x.run) x.poll x.waker) (shaped w h);
+      fits = fits-log true w (Event.WakerCalled p (Polled.Run x.run) x.poll x.waker) (shaped w h);
       next = refl;
       more = omega arith;
     })
 grows-wake_own p (Task g) w v x e z h =
-    let u = log w (event.WakerCalled p (of.Run x.run) x.poll x.waker) in
+    let u = log w (Event.WakerCalled p (Polled.Run x.run) x.poll x.waker) in
     let b = not (moves.is_over (task w g)) in
     let k : Grown w (call_by_reference p u (Task g)) =
-    grows-carried w (log_if b u (event.Woken p g)) g (moves.wake_by_reference (task w g))
-    (same-log b u (event.Woken p g)) (fits-log b u (event.Woken p g)
-    (fits-log true w (event.WakerCalled p (of.Run x.run) x.poll x.waker) (shaped w h))) z in
+    grows-carried w (log_if b u (Event.Woken p g)) g (moves.wake_by_reference (task w g))
+    (same-log b u (Event.Woken p g)) (fits-log b u (Event.Woken p g)
+    (fits-log true w (Event.WakerCalled p (Polled.Run x.run) x.poll x.waker) (shaped w h))) z in
     rw e (record {
       fits = k.fits;
       next = omega (
         arith,
         k.next,
         weigh-append (past_of (length (call_by_reference p u (Task g)).world.tasks))
-            (call_by_reference p u (Task g)).next (op.End reply.Pending (hold.Run x.run) ∷ []),
+            (call_by_reference p u (Task g)).next (Op.End Reply.Pending (Hold.Run x.run) ∷ []),
       );
       more = k.more;
     })
 
-pub grows-run : (p : ℕ) (h : Hint) (o : RunOp) (w : World) → Grows w (op.Run o ∷ []) (run_act p h o w)
-grows-run p c run_op.MakeRoom w = grows-room c.refused w
-grows-run p c run_op.ReturnRoom w = grows-moves w (op.Run run_op.ReturnRoom ∷ []) _
+pub grows-run : (p : ℕ) (h : Hint) (o : RunOp) (w : World) → Grows w (Op.Run o ∷ []) (run_act p h o w)
+grows-run p c RunOp.MakeRoom w = grows-room c.refused w
+grows-run p c RunOp.ReturnRoom w = grows-moves w (Op.Run RunOp.ReturnRoom ∷ []) _
     (same-rooms w _ (given_back-same w.sleepers)) (λ h k. refl)
-grows-run p c (run_op.TakeTurn x) w = λ h k. grind arith
-grows-run p c (run_op.SearchCommon x look) w = grows-common look _ w x refl
-grows-run p c (run_op.LookOwn x at left) w = grows-look _ w x at left refl
-grows-run p c (run_op.WakeOwn x) w = λ h k. grows-wake_own p x.waker w _ x refl (omega (arith, k)) h
-grows-run p c (run_op.Reschedule r a) w = grows-reschedule _ w r a refl
+grows-run p c (RunOp.TakeTurn x) w = λ h k. grind arith
+grows-run p c (RunOp.SearchCommon x look) w = grows-common look _ w x refl
+grows-run p c (RunOp.LookOwn x at left) w = grows-look _ w x at left refl
+grows-run p c (RunOp.WakeOwn x) w = λ h k. grows-wake_own p x.waker w _ x refl (omega (arith, k)) h
+grows-run p c (RunOp.Reschedule r a) w = grows-reschedule _ w r a refl

@@ -1,60 +1,28 @@
 -- For refused_calls_change_nothing and want_of_memory_is_told_of.
 -- A refused call changes nothing, and is refused for a reason.
-use Rattle.std.proofs.Common.{◌≡◌, ◌⊎◌, ℕ, ◌+◌, ◌-◌, ◌≤◌, List, [], ◌∷◌, ◌++◌, Bool, true, false, ◌||◌, not}
-use Rattle.std.proofs.Common.{refl, sym, ap, ◌∙◌, inl, inr, ⊎_elim, arith}
-use Rattle.std.proofs.lemmas.Bool.Decides.{nat_tests}
-use Rattle.std.specs.List.{list_any}
+use Rattle.std.proofs.Common.{◌≡◌, ◌⊎◌, ℕ, ◌+◌, ◌-◌, ◌≤◌, List, [], ◌∷◌, ◌++◌, Bool, true, false, ◌||◌, not, refl, sym, ap, ◌∙◌}
+use Rattle.std.proofs.Common.{inl, inr, ⊎_elim, arith}
 use Rattle.std.specs.Prelude.{Option, Some, None, nat_lt}
-use Rattle.task_moves.specs.Moves as moves
+use Rattle.std.{proofs.lemmas.Bool.Decides.nat_tests, specs.List.list_any}
 use Rattle.task_moves.specs.Moves.{most_references, is_going}
 use Rattle.executor_parts.specs.Sleepers.{Sleepers, waker_at}
-use Rattle.executor_parts.specs.declared.mark.Mark.{Mark}
-use Rattle.executor_model.specs.declared.call.Call.{Call}
-use Rattle.executor_model.specs.declared.call.Call.TheVariants as call
-use Rattle.executor_model.specs.declared.call.Reply.{Reply}
-use Rattle.executor_model.specs.declared.call.Reply.TheVariants as reply
-use Rattle.executor_model.specs.declared.op.Hold.{Hold}
-use Rattle.executor_model.specs.declared.op.Hold.TheVariants as hold
-use Rattle.executor_model.specs.declared.op.Waker.{Waker}
-use Rattle.executor_model.specs.declared.op.Waker.TheVariants.{Task, Outside}
-use Rattle.executor_model.specs.declared.op.Op.{Op}
-use Rattle.executor_model.specs.declared.op.Op.TheVariants as op
-use Rattle.executor_model.specs.declared.op.HandleOp.TheVariants as handle_op
-use Rattle.executor_model.specs.declared.op.Look.{Look}
-use Rattle.executor_model.specs.declared.op.Look.TheVariants.{First, Second}
-use Rattle.executor_model.specs.declared.op.Sleeping.{Sleeping}
-use Rattle.executor_model.specs.declared.op.ListOp.{ListOp}
-use Rattle.executor_model.specs.declared.op.ListOp.TheVariants as list_op
-use Rattle.executor_model.specs.declared.op.RunOp.{RunOp}
-use Rattle.executor_model.specs.declared.op.RunOp.TheVariants as run_op
-use Rattle.executor_model.specs.declared.op.RunPoll.{RunPoll}
-use Rattle.executor_model.specs.declared.op.Section.TheVariants as section
-use Rattle.executor_model.specs.declared.op.TickOrRun.TheVariants as tick_or_run
-use Rattle.executor_model.specs.declared.op.UserOp.TheVariants as user_op
-use Rattle.executor_model.specs.declared.step.UserEnd.{UserEnd}
-use Rattle.executor_model.specs.declared.step.UserEnd.TheVariants as end
-use Rattle.executor_model.specs.declared.event.Answer.TheVariants as answer
-use Rattle.executor_model.specs.declared.op.TableOp.TheVariants as table_op
-use Rattle.executor_model.specs.declared.op.TickOp.TheVariants as tick_op
-use Rattle.executor_model.specs.declared.op.WakerOp.TheVariants as waker_op
-use Rattle.executor_model.specs.declared.step.Hint.{Hint}
+use Rattle.executor_model.proofs.Types.{Mark, Call, Reply, Hold, Waker, Task, Outside, Op, HandleOp, Look, First, Second}
+use Rattle.executor_model.proofs.Types.{Sleeping, ListOp, RunOp, RunPoll, Section, UserOp, UserEnd, Answer, TableOp, TickOp}
+use Rattle.executor_model.specs.Refusals.{is_no_memory, ends_for_want, is_of_run, is_run_poll, is_search, falls_asleep}
+use Rattle.executor_model.specs.World.{World, Ticker, Awake, Asleep, Left, Stage, New, Listed, Ended, Done, done, place_of}
+use Rattle.executor_model.specs.Doing.{act, list_act, run_act, search_by_who}
+use Rattle.executor_model.specs.Memory.{may_refuse, refuses, takes_no_memory, AsksForNone}
+use Rattle.executor_model.specs.Refusals.{takes_turn, IsFull, CopiesOneTooMany, RefusedChangesNothing, IsWantToldOf}
+use Rattle.executor_model.specs.Steps.{begun, drop_run, future_of, kept, poll_run, react, with_future}
+use Rattle.executor_model.specs.{Carried.awaiter_ops, World.run_of, World.task}
+use Rattle.executor_model.proofs.Memory.RunsUntold.{Untold, untold-common, untold-look, untold-search, untold-steal}
+use Rattle.executor_model.proofs.Memory.Unasking.{both, none-awaiter}
+use Rattle.executor_model.proofs.Memory.RunsUntold.{untold-turn, untold-walk}
+use Rattle.executor_model.proofs.{Types.WakerOp, Types.Hint, Types.TickOrRun, Memory.UnaskingGroups.needs-no-memory}
+use Rattle.task_moves.specs.Moves as moves
 use Rattle.executor_model.specs.Acts as acts
 use Rattle.executor_model.specs.ActsOfRuns as of_runs
 use Rattle.executor_model.specs.ActsOfSleepers as of_sleepers
-use Rattle.executor_model.specs.Doing.{act, list_act, run_act, search_by_who}
-use Rattle.executor_model.specs.Carried.{awaiter_ops}
-use Rattle.executor_model.specs.Memory.{may_refuse, refuses, takes_no_memory, AsksForNone}
-use Rattle.executor_model.specs.Refusals.{is_no_memory, ends_for_want, is_of_run, is_run_poll, is_search, falls_asleep, takes_turn}
-use Rattle.executor_model.specs.Refusals.{IsFull}
-use Rattle.executor_model.specs.Refusals.{CopiesOneTooMany, RefusedChangesNothing, IsWantToldOf}
-use Rattle.executor_model.specs.Steps.{begun, drop_run, future_of, kept, poll_run, react, with_future}
-use Rattle.executor_model.specs.declared.op.TickOrRun.{TickOrRun}
-use Rattle.executor_model.specs.World.{World, Ticker, Awake, Asleep, Left, Stage, New, Listed, Ended, Done, done, place_of}
-use Rattle.executor_model.specs.World.{run_of, task}
-use Rattle.executor_model.proofs.Memory.Unasking.{both, none-awaiter}
-use Rattle.executor_model.proofs.Memory.UnaskingGroups.{needs-no-memory}
-use Rattle.executor_model.proofs.Memory.RunsUntold.{Untold, untold-common, untold-look, untold-search, untold-steal, untold-turn}
-use Rattle.executor_model.proofs.Memory.RunsUntold.{untold-walk}
 
 not-both : (b : Bool) → b ≡ true → b ≡ false → ⊥
 not-both b e k = let no : true ≡ false = sym e ∙ k in absurd (cc)
@@ -65,9 +33,9 @@ or-right false b e = e
 
 -- a poll of a handle whose answer is there asks for none
 none-output : (w : World) (f : ℕ) →
-    AsksForNone (awaiter_ops f (moves.notify_other_if (task w f).awaiter) ++ op.End reply.Ready (hold.Handle f) ∷ [])
+    AsksForNone (awaiter_ops f (moves.notify_other_if (task w f).awaiter) ++ Op.End Reply.Ready (Hold.Handle f) ∷ [])
 none-output w f = both (awaiter_ops f (moves.notify_other_if (task w f).awaiter))
-    (op.End reply.Ready (hold.Handle f) ∷ []) (none-awaiter f (moves.notify_other_if (task w f).awaiter)) refl
+    (Op.End Reply.Ready (Hold.Handle f) ∷ []) (none-awaiter f (moves.notify_other_if (task w f).awaiter)) refl
 
 -- nothing has changed
 
@@ -167,34 +135,34 @@ module _ (p : ℕ) (w : World) where
   -- a search of a tick takes a turn
   who-turns : (who : TickOrRun) → not (is_run_poll who) ≡ true → (s : Sleeping) →
       (search_by_who who p w s).world ≡ acts.turned p w
-  who-turns (tick_or_run.Tick t) e s = refl
-  who-turns (tick_or_run.Run x) e s = absurd (cc)
+  who-turns (TickOrRun.Tick t) e s = refl
+  who-turns (TickOrRun.Run x) e s = absurd (cc)
 
   turns : (h : Hint) (o : Op) → takes_turn o ≡ true → (act p h o w).world ≡ acts.turned p w
-  turns h (op.Tick (tick_op.Search s)) e = who-turns s.who e s
+  turns h (Op.Tick (TickOp.Search s)) e = who-turns s.who e s
   turns h _ e = absurd (cc)
 
   no-turn : (who : TickOrRun) → is_run_poll who ≡ false → not (is_run_poll who) ≡ false → ⊥
-  no-turn (tick_or_run.Tick t) r k = absurd (cc)
-  no-turn (tick_or_run.Run x) r k = absurd (cc)
+  no-turn (TickOrRun.Tick t) r k = absurd (cc)
+  no-turn (TickOrRun.Run x) r k = absurd (cc)
 
   unchanged : (h : Hint) (o : Op) → list_any may_refuse (act p h o w).next ≡ true → falls_asleep o ≡ false →
       is_of_run o ≡ false → takes_turn o ≡ false → (act p h o w).world ≡ w
-  unchanged h (op.Table (table_op.Enter mark)) e n r k = enter-unchanged _ h.refused mark e
-  unchanged h (op.Waker (waker_op.CopyWaker f held)) e n r k = copy-unchanged _ f held e
-  unchanged h (op.Handle (handle_op.Look f a)) e n r k =
+  unchanged h (Op.Table (TableOp.Enter mark)) e n r k = enter-unchanged _ h.refused mark e
+  unchanged h (Op.Waker (WakerOp.CopyWaker f held)) e n r k = copy-unchanged _ f held e
+  unchanged h (Op.Handle (HandleOp.Look f a)) e n r k =
       look-unchanged (task w f).closed (is_going (task w f)) (task w f).completed f a e
-  unchanged h (op.Handle (handle_op.CopyAwaiter f a)) e n r k = awaiter-unchanged _ f a e
-  unchanged h (op.Tick tick_op.MakeTick) e n r k = make-unchanged h.refused e
-  unchanged h (op.Tick (tick_op.Search s)) e n r k = absurd (no-turn s.who r k)
-  unchanged h (op.Tick (tick_op.Look s l)) e n r k = look-tick-unchanged _ l _ s e
-  unchanged h (op.Tick (tick_op.CopyWaker s)) e n r k = absurd (cc)
-  unchanged h (op.Tick (tick_op.FallAsleep s)) e n r k = absurd (cc)
-  unchanged h (op.User (user_op.PollOwn x)) e n r k = absurd (cc)
-  unchanged h (op.List o) e n r k = absurd (cc)
-  unchanged h (op.Steal o) e n r k = absurd (cc)
-  unchanged h (op.Run o) e n r k = absurd (cc)
-  unchanged h (op.End a held) e n r k = absurd (cc)
+  unchanged h (Op.Handle (HandleOp.CopyAwaiter f a)) e n r k = awaiter-unchanged _ f a e
+  unchanged h (Op.Tick TickOp.MakeTick) e n r k = make-unchanged h.refused e
+  unchanged h (Op.Tick (TickOp.Search s)) e n r k = absurd (no-turn s.who r k)
+  unchanged h (Op.Tick (TickOp.Look s l)) e n r k = look-tick-unchanged _ l _ s e
+  unchanged h (Op.Tick (TickOp.CopyWaker s)) e n r k = absurd (cc)
+  unchanged h (Op.Tick (TickOp.FallAsleep s)) e n r k = absurd (cc)
+  unchanged h (Op.User (UserOp.PollOwn x)) e n r k = absurd (cc)
+  unchanged h (Op.List o) e n r k = absurd (cc)
+  unchanged h (Op.Steal o) e n r k = absurd (cc)
+  unchanged h (Op.Run o) e n r k = absurd (cc)
+  unchanged h (Op.End a held) e n r k = absurd (cc)
   unchanged h o e n r k = absurd (not-both _ e ((needs-no-memory w p).goes_on h o refl))
 
   with-unchanged : (o : Option ℕ) (d : ℕ → Done) → ((f : ℕ) → (d f).world ≡ w) → (with_future w o d).world ≡ w
@@ -203,29 +171,29 @@ module _ (p : ℕ) (w : World) where
 
   begins-unchanged : (here : Option Waker) (c : Call) → takes_no_memory c ≡ false → is_search c ≡ false →
       (begun p w here c).world ≡ w
-  begins-unchanged here (call.Spawn mark) e n = refl
-  begins-unchanged here (call.Copy k) e n =
-      with-unchanged (kept w k) (λ f. done w (op.Waker (waker_op.CopyWaker f (hold.Waker k)) ∷ [])) (λ f. refl)
-  begins-unchanged here call.Keep e n =
-      with-unchanged (future_of here) (λ f. done w (op.Waker (waker_op.CopyWaker f hold.Nothing) ∷ [])) (λ f. refl)
-  begins-unchanged here (call.PollHandle f b) e n = refl
-  begins-unchanged here call.NewTick e n = refl
-  begins-unchanged here (call.PollTick t b) e n = absurd (cc)
-  begins-unchanged here call.NewRun e n = refl
-  begins-unchanged here (call.PollRun r b) e n = absurd (cc)
+  begins-unchanged here (Call.Spawn mark) e n = refl
+  begins-unchanged here (Call.Copy k) e n =
+      with-unchanged (kept w k) (λ f. done w (Op.Waker (WakerOp.CopyWaker f (Hold.Waker k)) ∷ [])) (λ f. refl)
+  begins-unchanged here Call.Keep e n =
+      with-unchanged (future_of here) (λ f. done w (Op.Waker (WakerOp.CopyWaker f Hold.Nothing) ∷ [])) (λ f. refl)
+  begins-unchanged here (Call.PollHandle f b) e n = refl
+  begins-unchanged here Call.NewTick e n = refl
+  begins-unchanged here (Call.PollTick t b) e n = absurd (cc)
+  begins-unchanged here Call.NewRun e n = refl
+  begins-unchanged here (Call.PollRun r b) e n = absurd (cc)
   begins-unchanged here c e n = absurd (cc)
 
 -- refused for a reason
 
 no-memory-refuses : (r : Reply) → is_no_memory r ≡ true → refuses r ≡ true
-no-memory-refuses reply.NoMemory e = refl
+no-memory-refuses Reply.NoMemory e = refl
 no-memory-refuses _ e = absurd (cc)
 
 want-refuses : (o : Op) → ends_for_want o ≡ true → may_refuse o ≡ true
-want-refuses (op.End r held) e = no-memory-refuses r e
-want-refuses (op.List (list_op.LockWrite (section.Unregister r a))) e = no-memory-refuses a e
-want-refuses (op.List (list_op.Write (section.Unregister r a))) e = no-memory-refuses a e
-want-refuses (op.Run (run_op.Reschedule r a)) e = no-memory-refuses a e
+want-refuses (Op.End r held) e = no-memory-refuses r e
+want-refuses (Op.List (ListOp.LockWrite (Section.Unregister r a))) e = no-memory-refuses a e
+want-refuses (Op.List (ListOp.Write (Section.Unregister r a))) e = no-memory-refuses a e
+want-refuses (Op.Run (RunOp.Reschedule r a)) e = no-memory-refuses a e
 want-refuses _ e = absurd (cc)
 
 refuses-first : (o : Op) (more : Bool) → ends_for_want o ≡ true → (may_refuse o || more) ≡ true
@@ -282,7 +250,7 @@ module _ (p : ℕ) (w : World) where
   look-told false going false f a e = absurd (cc)
   look-told false going true f a e =
       not-both _ (wants-refuse
-      (awaiter_ops f (moves.notify_other_if (task w f).awaiter) ++ op.End reply.Ready (hold.Handle f) ∷ []) e)
+      (awaiter_ops f (moves.notify_other_if (task w f).awaiter) ++ Op.End Reply.Ready (Hold.Handle f) ∷ []) e)
       (none-output w f)
 
   awaiter-told : (refused small : Bool) (f : ℕ) (a : Waker) →
@@ -366,8 +334,8 @@ module _ (p : ℕ) (w : World) where
       inl (outside-copied-told h.refused (record { waker = Outside x; who = t; poll = k }) e)
 
   who-told : (who : TickOrRun) (s : Sleeping) → list_any ends_for_want (search_by_who who p w s).next ≡ true → ⊥
-  who-told (tick_or_run.Tick t) s e = absurd (cc)
-  who-told (tick_or_run.Run r) s e =
+  who-told (TickOrRun.Tick t) s e = absurd (cc)
+  who-told (TickOrRun.Run r) s e =
       not-both _ e (untold-search ends_for_want untold-want w (record { run = r; waker = s.waker; poll = s.poll }))
 
   -- a call that isn't answered so goes on so
@@ -378,12 +346,12 @@ module _ (p : ℕ) (w : World) where
   made-told true e = refl
   made-told false e = absurd (cc)
 
-  list-told : (h : Hint) (o : ListOp) → ends_for_want (op.List o) ≡ false →
+  list-told : (h : Hint) (o : ListOp) → ends_for_want (Op.List o) ≡ false →
       list_any ends_for_want (list_act h o w).next ≡ true → h.refused ≡ true
-  list-told h (list_op.LockWrite (section.Unregister r a)) n e = absurd (left-told a n e)
-  list-told h (list_op.Write section.MakeRun) n e = made-told h.refused e
-  list-told h (list_op.Write (section.Unregister r a)) n e = absurd (left-told a n e)
-  list-told h (list_op.LockRead x) n e = absurd (not-both _ e
+  list-told h (ListOp.LockWrite (Section.Unregister r a)) n e = absurd (left-told a n e)
+  list-told h (ListOp.Write Section.MakeRun) n e = made-told h.refused e
+  list-told h (ListOp.Write (Section.Unregister r a)) n e = absurd (left-told a n e)
+  list-told h (ListOp.LockRead x) n e = absurd (not-both _ e
       (untold-walk ends_for_want untold-want (λ s. refl) x _ _ _))
   list-told h _ n e = absurd (cc)
 
@@ -396,44 +364,44 @@ module _ (p : ℕ) (w : World) where
   reschedule-told [] r a n e = left-told a n e
   reschedule-told (f ∷ rest) r a n e = left-told a n e
 
-  run-told : (h : Hint) (o : RunOp) → ends_for_want (op.Run o) ≡ false →
+  run-told : (h : Hint) (o : RunOp) → ends_for_want (Op.Run o) ≡ false →
       list_any ends_for_want (run_act p h o w).next ≡ true → h.refused ≡ true
-  run-told h run_op.MakeRoom n e = room-told h.refused e
-  run-told h run_op.ReturnRoom n e = absurd (cc)
-  run-told h (run_op.TakeTurn x) n e = absurd (not-both _ e (untold-turn ends_for_want untold-want p w x))
-  run-told h (run_op.SearchCommon x l) n e = absurd (not-both _ e (untold-common ends_for_want untold-want w x l))
-  run-told h (run_op.LookOwn x at left) n e =
+  run-told h RunOp.MakeRoom n e = room-told h.refused e
+  run-told h RunOp.ReturnRoom n e = absurd (cc)
+  run-told h (RunOp.TakeTurn x) n e = absurd (not-both _ e (untold-turn ends_for_want untold-want p w x))
+  run-told h (RunOp.SearchCommon x l) n e = absurd (not-both _ e (untold-common ends_for_want untold-want w x l))
+  run-told h (RunOp.LookOwn x at left) n e =
       absurd (not-both _ e (untold-look ends_for_want untold-want (λ s. refl) w x at left))
-  run-told h (run_op.WakeOwn x) n e =
+  run-told h (RunOp.WakeOwn x) n e =
       absurd
-      (not-both _ (wants-refuse (run_act p h (run_op.WakeOwn x) w).next e)
-      ((needs-no-memory w p).goes_on h (op.Run (run_op.WakeOwn x)) refl))
-  run-told h (run_op.Reschedule r a) n e = absurd (reschedule-told _ r a n e)
+      (not-both _ (wants-refuse (run_act p h (RunOp.WakeOwn x) w).next e)
+      ((needs-no-memory w p).goes_on h (Op.Run (RunOp.WakeOwn x)) refl))
+  run-told h (RunOp.Reschedule r a) n e = absurd (reschedule-told _ r a n e)
 
   told : (h : Hint) (o : Op) → ends_for_want o ≡ false → list_any ends_for_want (act p h o w).next ≡ true →
       (h.refused ≡ true) ⊎ CopiesOneTooMany o w
-  told h (op.Table (table_op.Enter mark)) n e = inl (enter-told _ h.refused mark e)
-  told h (op.Waker (waker_op.CopyWaker f held)) n e =
+  told h (Op.Table (TableOp.Enter mark)) n e = inl (enter-told _ h.refused mark e)
+  told h (Op.Waker (WakerOp.CopyWaker f held)) n e =
       ⊎_elim (λ (x : h.refused ≡ true). inl x)
       (λ (x : nat_lt (task w f).references most_references ≡ false). inr (many (task w f).references x))
       (copy-told h.refused (nat_lt (task w f).references most_references) f held e)
-  told h (op.Handle (handle_op.Look f a)) n e =
+  told h (Op.Handle (HandleOp.Look f a)) n e =
       absurd (look-told (task w f).closed (is_going (task w f)) (task w f).completed f a e)
-  told h (op.Handle (handle_op.CopyAwaiter f (Task g))) n e =
+  told h (Op.Handle (HandleOp.CopyAwaiter f (Task g))) n e =
       ⊎_elim (λ (x : h.refused ≡ true). inl x)
       (λ (x : nat_lt (task w g).references most_references ≡ false). inr (many (task w g).references x))
       (awaiter-told h.refused (nat_lt (task w g).references most_references) f (Task g) e)
-  told h (op.Handle (handle_op.CopyAwaiter f (Outside x))) n e = inl (outside-told h.refused f (Outside x) e)
-  told h (op.Tick tick_op.MakeTick) n e = inl (make-told h.refused e)
-  told h (op.Tick (tick_op.Search s)) n e = absurd (who-told s.who s e)
-  told h (op.Tick (tick_op.Look s l)) n e = absurd (look-tick-told (place_of w s.who) l _ s e)
-  told h (op.Tick (tick_op.CopyWaker s)) n e = sleeper-told h s.waker s.who s.poll e
-  told h (op.Tick (tick_op.FallAsleep s)) n e = absurd (sleep-told (place_of w s.who) s e)
-  told h (op.User (user_op.PollOwn x)) n e = absurd (cc)
-  told h (op.List o) n e = inl (list-told h o n e)
-  told h (op.Steal o) n e = absurd (not-both _ e (untold-steal ends_for_want untold-want p o w))
-  told h (op.Run o) n e = inl (run-told h o n e)
-  told h (op.End r held) n e = absurd (cc)
+  told h (Op.Handle (HandleOp.CopyAwaiter f (Outside x))) n e = inl (outside-told h.refused f (Outside x) e)
+  told h (Op.Tick TickOp.MakeTick) n e = inl (make-told h.refused e)
+  told h (Op.Tick (TickOp.Search s)) n e = absurd (who-told s.who s e)
+  told h (Op.Tick (TickOp.Look s l)) n e = absurd (look-tick-told (place_of w s.who) l _ s e)
+  told h (Op.Tick (TickOp.CopyWaker s)) n e = sleeper-told h s.waker s.who s.poll e
+  told h (Op.Tick (TickOp.FallAsleep s)) n e = absurd (sleep-told (place_of w s.who) s e)
+  told h (Op.User (UserOp.PollOwn x)) n e = absurd (cc)
+  told h (Op.List o) n e = inl (list-told h o n e)
+  told h (Op.Steal o) n e = absurd (not-both _ e (untold-steal ends_for_want untold-want p o w))
+  told h (Op.Run o) n e = inl (run-told h o n e)
+  told h (Op.End r held) n e = absurd (cc)
   told h o n e = absurd (not-both _ (wants-refuse (act p h o w).next e) ((needs-no-memory w p).goes_on h o refl))
 
   none-with : (o : Option ℕ) (d : ℕ → Done) → ((f : ℕ) → list_any ends_for_want (d f).next ≡ false) →
@@ -452,21 +420,21 @@ module _ (p : ℕ) (w : World) where
   drop-told Ended r = refl
 
   begins-told : (here : Option Waker) (c : Call) → list_any ends_for_want (begun p w here c).next ≡ false
-  begins-told here (call.Wake k) = none-with (kept w k) _ (λ f. refl)
-  begins-told here (call.WakeByRef k) = none-with (kept w k) _ (λ f. refl)
-  begins-told here (call.Copy k) = none-with (kept w k) _ (λ f. refl)
-  begins-told here (call.DropWaker k) = none-with (kept w k) _ (λ f. refl)
-  begins-told here call.Keep = none-with (future_of here) _ (λ f. refl)
-  begins-told here call.WakeSelf = none-with (future_of here) _ (λ f. refl)
-  begins-told here (call.PollRun r b) = poll-told (run_of w r).stage _
-  begins-told here (call.DropRun r) = drop-told (run_of w r).stage r
+  begins-told here (Call.Wake k) = none-with (kept w k) _ (λ f. refl)
+  begins-told here (Call.WakeByRef k) = none-with (kept w k) _ (λ f. refl)
+  begins-told here (Call.Copy k) = none-with (kept w k) _ (λ f. refl)
+  begins-told here (Call.DropWaker k) = none-with (kept w k) _ (λ f. refl)
+  begins-told here Call.Keep = none-with (future_of here) _ (λ f. refl)
+  begins-told here Call.WakeSelf = none-with (future_of here) _ (λ f. refl)
+  begins-told here (Call.PollRun r b) = poll-told (run_of w r).stage _
+  begins-told here (Call.DropRun r) = drop-told (run_of w r).stage r
   begins-told here _ = refl
 
   follows-told : (o : Op) (e : UserEnd) → list_any ends_for_want (react p o e w).next ≡ false
-  follows-told (op.User (user_op.Poll f)) (end.Polled answer.Pending) = refl
-  follows-told (op.User (user_op.Poll f)) (end.Polled answer.Ready) = refl
-  follows-told (op.User (user_op.PollOwn x)) (end.Polled answer.Pending) = refl
-  follows-told (op.User (user_op.PollOwn x)) (end.Polled answer.Ready) = refl
+  follows-told (Op.User (UserOp.Poll f)) (UserEnd.Polled Answer.Pending) = refl
+  follows-told (Op.User (UserOp.Poll f)) (UserEnd.Polled Answer.Ready) = refl
+  follows-told (Op.User (UserOp.PollOwn x)) (UserEnd.Polled Answer.Pending) = refl
+  follows-told (Op.User (UserOp.PollOwn x)) (UserEnd.Polled Answer.Ready) = refl
   follows-told _ _ = refl
 
 pub refused-changes-nothing : (w : World) (p : ℕ) → RefusedChangesNothing w p

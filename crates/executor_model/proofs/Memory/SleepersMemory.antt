@@ -1,10 +1,13 @@
 -- For refused_calls_change_nothing, wakes_and_drops_take_no_memory and want_of_memory_is_told_of.
 -- What tells sleepers, and a tick or run that leaves or has found a future, asks for no memory.
 use Rattle.std.proofs.Common.{◌≡◌, ℕ, List, [], ◌∷◌, Bool, true, false, refl}
+use Rattle.std.specs.List.{list_any}
 use Rattle.std.specs.Prelude.{Option, Some, None, is_none}
 use Rattle.executor_parts.specs.Sleepers.{waker_of}
 use Rattle.executor_model.specs.declared.event.Event.TheVariants as event
 use Rattle.executor_model.specs.declared.op.Look.{Look}
+use Rattle.executor_model.specs.declared.op.Look.TheVariants.{First}
+use Rattle.executor_parts.specs.declared.mark.Mark.{Mark}
 use Rattle.executor_model.specs.declared.op.Sleeping.{Sleeping}
 use Rattle.executor_model.specs.declared.op.SleeperOp.{SleeperOp}
 use Rattle.executor_model.specs.declared.op.SleeperOp.TheVariants as sleeper_op
@@ -16,7 +19,7 @@ use Rattle.executor_model.specs.Acts.{call_waker, mark_in}
 use Rattle.executor_model.specs.ActsOfSleepers.{exchange_by, hand_out_by, look_tick_by, polled_as}
 use Rattle.executor_model.specs.ActsOfSleepers.{sleeper_goes, wake_up_by, tell_and_return, leave_sleepers_by}
 use Rattle.executor_model.specs.Doing.{sleeper_act}
-use Rattle.executor_model.specs.Memory.{AsksForNone, FindsWithoutMemory}
+use Rattle.executor_model.specs.Memory.{AsksForNone, FindsWithoutMemory, asks}
 use Rattle.executor_model.proofs.Memory.Unasking.{both, none-waker, none-wake}
 
 none-goes : (o : Option Sleeping) → AsksForNone (sleeper_goes o)
@@ -64,10 +67,25 @@ none-found Awake w l f rest s = refl
 none-found (Asleep n) w l f rest s = refl
 none-found Left w l f rest s = refl
 
+unasked-found : (x : Ticker) (w : World) (l : Look) (f : ℕ) (rest : List ℕ) (s : Sleeping) →
+    list_any asks (look_tick_by x w l (f ∷ rest) s).next ≡ false
+unasked-found Awake w l f rest s = refl
+unasked-found (Asleep n) w l f rest s = refl
+unasked-found Left w l f rest s = refl
+
 -- a search that finds a future leads to nothing that asks for memory
-pub finds-without : (w : World) → FindsWithoutMemory w
-finds-without w f rest s l e = by (queue_of w (mark_in l)).items e
+pub finds-without : (w : World) (p : ℕ) → FindsWithoutMemory w p
+finds-without w p = record {
+  turns = λ s. refl;
+  looks = λ s m. first s m (queue_of w m).items;
+  finds = λ f rest s l e. by f rest s l (queue_of w (mark_in l)).items e;
+}
   where
-    by : (q : List ℕ) → q ≡ f ∷ rest → AsksForNone (look_tick_by (place_of w s.who) w l q s).next
-    by [] k = absurd (cc)
-    by (g ∷ more) k = none-found (place_of w s.who) w l g more s
+    first : (s : Sleeping) (m : Mark) (q : List ℕ) → list_any asks (look_tick_by (place_of w s.who) w (First m) q s).next ≡ false
+    first s m [] = refl
+    first s m (f ∷ rest) = unasked-found (place_of w s.who) w (First m) f rest s
+
+    by : (f : ℕ) (rest : List ℕ) (s : Sleeping) (l : Look) (q : List ℕ) → q ≡ f ∷ rest →
+        AsksForNone (look_tick_by (place_of w s.who) w l q s).next
+    by f rest s l [] k = absurd (cc)
+    by f rest s l (g ∷ more) k = none-found (place_of w s.who) w l g more s

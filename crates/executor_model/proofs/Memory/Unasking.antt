@@ -1,39 +1,18 @@
 -- For refused_calls_change_nothing, wakes_and_drops_take_no_memory and want_of_memory_is_told_of.
 -- Calls that take no memory ask for none.
 use Rattle.std.proofs.Common.{ℕ, List, [], ◌∷◌, ◌++◌, Bool, true, false, ◌||◌, not, refl, ap, ◌∙◌, ◌&&◌}
-use Rattle.std.proofs.lemmas.List.Folds.{list_any-append}
-use Rattle.std.specs.List.{list_any}
 use Rattle.std.specs.Prelude.{Option, Some, None}
-use Rattle.executor_parts.specs.declared.mark.Mark.{Mark}
-use Rattle.task_moves.specs.declared.moves.owed.Move.{Move}
-use Rattle.task_moves.specs.declared.moves.owed.Move.TheVariants as move
-use Rattle.task_moves.specs.declared.moves.owed.FutureDebt.{FutureDebt}
+use Rattle.std.{proofs.lemmas.List.Folds.list_any-append, specs.List.list_any}
 use Rattle.task_moves.specs.declared.moves.owed.FutureDebt.TheVariants.{PollFuture, DropFuture}
-use Rattle.task_moves.specs.declared.moves.owed.AwaiterDebt.{AwaiterDebt}
-use Rattle.task_moves.specs.declared.moves.owed.AwaiterDebt.TheVariants as debt
-use Rattle.task_moves.specs.declared.moves.owed.Moved.{Moved}
-use Rattle.task_moves.specs.declared.moves.owed.Owed.{Owed}
-use Rattle.task_moves.specs.declared.schedule_info.ScheduleInfo.{ScheduleInfo}
-use Rattle.task_moves.specs.Moves as moves
-use Rattle.task_moves.specs.Moves.{is_over}
-use Rattle.executor_parts.specs.declared.mark.Mark.{Mark}
-use Rattle.executor_parts.specs.declared.mark.Mark.TheVariants.{Plain, Urgent}
-use Rattle.executor_model.specs.declared.call.Reply.TheVariants as reply
-use Rattle.executor_model.specs.declared.event.Event.TheVariants as event
-use Rattle.executor_model.specs.declared.op.Hold.TheVariants as hold
-use Rattle.executor_model.specs.declared.op.Awaiter.{Awaiter}
-use Rattle.executor_model.specs.declared.op.Waker.{Waker}
-use Rattle.executor_model.specs.declared.op.Waker.TheVariants.{Task, Outside}
-use Rattle.executor_model.specs.declared.op.Polled.TheVariants as of
-use Rattle.executor_model.specs.declared.op.Op.{Op}
-use Rattle.executor_model.specs.declared.op.Op.TheVariants as op
-use Rattle.executor_model.specs.declared.op.HandleOp.TheVariants as handle_op
-use Rattle.executor_model.specs.declared.op.Look.{Look}
-use Rattle.executor_model.specs.declared.op.Look.TheVariants.{First, Second}
+use Rattle.task_moves.{specs.declared.moves.owed.FutureDebt.FutureDebt, specs.declared.moves.owed.AwaiterDebt.AwaiterDebt}
+use Rattle.task_moves.{specs.declared.schedule_info.ScheduleInfo.ScheduleInfo, specs.Moves.is_over}
+use Rattle.executor_model.proofs.Types.{Mark, Move, Moved, Owed, Plain, Urgent, Reply, Event, Hold, Awaiter, Waker, Task}
+use Rattle.executor_model.proofs.Types.{Outside, Polled, Op, HandleOp, Look, First, Second}
+use Rattle.executor_model.specs.Carried.{drops, emptied_ops, schedule_ops, future_ops, output_ops, awaiter_ops, next_ops}
 use Rattle.executor_model.specs.World.{World, task, log, log_if, awaiter_of, among}
-use Rattle.executor_model.specs.Carried.{drops, emptied_ops, schedule_ops, future_ops, output_ops, awaiter_ops, next_ops, owed_ops, carried}
+use Rattle.executor_model.specs.{Carried.owed_ops, Carried.carried, Memory.may_refuse, Memory.AsksForNone}
+use Rattle.task_moves.specs.Moves as moves
 use Rattle.executor_model.specs.Acts as acts
-use Rattle.executor_model.specs.Memory.{may_refuse, AsksForNone}
 
 -- two parts that ask for none
 pub both : (xs ys : List Op) → AsksForNone xs → AsksForNone ys → AsksForNone (xs ++ ys)
@@ -55,35 +34,35 @@ none-output false f = refl
 
 pub none-awaiter : (f : ℕ) (d : Option AwaiterDebt) → AsksForNone (awaiter_ops f d)
 none-awaiter f None = refl
-none-awaiter f (Some debt.NotifyAwaiter) = refl
-none-awaiter f (Some debt.NotifyOther) = refl
-none-awaiter f (Some debt.CallGiven) = refl
-none-awaiter f (Some debt.StoreCopy) = refl
-none-awaiter f (Some debt.CallStored) = refl
-none-awaiter f (Some debt.TakeAwaiter) = refl
-none-awaiter f (Some debt.CallTaken) = refl
+none-awaiter f (Some AwaiterDebt.NotifyAwaiter) = refl
+none-awaiter f (Some AwaiterDebt.NotifyOther) = refl
+none-awaiter f (Some AwaiterDebt.CallGiven) = refl
+none-awaiter f (Some AwaiterDebt.StoreCopy) = refl
+none-awaiter f (Some AwaiterDebt.CallStored) = refl
+none-awaiter f (Some AwaiterDebt.TakeAwaiter) = refl
+none-awaiter f (Some AwaiterDebt.CallTaken) = refl
 
 none-next : (f : ℕ) (m : Option Move) → AsksForNone (next_ops f m)
 none-next f None = refl
-none-next f (Some move.WakeByReference) = refl
-none-next f (Some move.Wake) = refl
-none-next f (Some move.Copy) = refl
-none-next f (Some move.Release) = refl
-none-next f (Some move.TakeUp) = refl
-none-next f (Some move.SettleClosed) = refl
-none-next f (Some move.GiveUp) = refl
-none-next f (Some move.EndReady) = refl
-none-next f (Some move.EndPending) = refl
-none-next f (Some move.EndClosed) = refl
-none-next f (Some move.DropRunnable) = refl
-none-next f (Some move.Cancel) = refl
-none-next f (Some move.Detach) = refl
-none-next f (Some move.Poll) = refl
-none-next f (Some move.LookAgain) = refl
-none-next f (Some move.Register) = refl
-none-next f (Some move.EndRegister) = refl
-none-next f (Some move.Notify) = refl
-none-next f (Some move.EndNotify) = refl
+none-next f (Some Move.WakeByReference) = refl
+none-next f (Some Move.Wake) = refl
+none-next f (Some Move.Copy) = refl
+none-next f (Some Move.Release) = refl
+none-next f (Some Move.TakeUp) = refl
+none-next f (Some Move.SettleClosed) = refl
+none-next f (Some Move.GiveUp) = refl
+none-next f (Some Move.EndReady) = refl
+none-next f (Some Move.EndPending) = refl
+none-next f (Some Move.EndClosed) = refl
+none-next f (Some Move.DropRunnable) = refl
+none-next f (Some Move.Cancel) = refl
+none-next f (Some Move.Detach) = refl
+none-next f (Some Move.Poll) = refl
+none-next f (Some Move.LookAgain) = refl
+none-next f (Some Move.Register) = refl
+none-next f (Some Move.EndRegister) = refl
+none-next f (Some Move.Notify) = refl
+none-next f (Some Move.EndNotify) = refl
 
 none-emptied : (b : Bool) (f : ℕ) → AsksForNone (emptied_ops b f)
 none-emptied true f = refl
@@ -107,7 +86,7 @@ pub none-carried : (w : World) (f : ℕ) (m : Moved) → AsksForNone (carried w 
 none-carried w f m = none-owed (among f w.table) f m.owed
 
 pub none-wake : (p : ℕ) (w : World) (f : ℕ) → AsksForNone (acts.wake p w f).next
-none-wake p w f = none-carried (log_if (not (is_over (task w f))) w (event.Woken p f)) f (moves.wake (task w f))
+none-wake p w f = none-carried (log_if (not (is_over (task w f))) w (Event.Woken p f)) f (moves.wake (task w f))
 
 -- queue and table
 
@@ -120,7 +99,7 @@ pub none-append : (b : Bool) (w : World) (m : Mark) (f : ℕ) → AsksForNone (a
 none-append true w m f = refl
 none-append false w m f = refl
 
-pub none-look_at_table : (w : World) (table : List ℕ) → AsksForNone (op.End (acts.emptiness table) hold.Executor ∷ [])
+pub none-look_at_table : (w : World) (table : List ℕ) → AsksForNone (Op.End (acts.emptiness table) Hold.Executor ∷ [])
 none-look_at_table w [] = refl
 none-look_at_table w (f ∷ fs) = refl
 
@@ -152,9 +131,9 @@ none-let_go_by false w f = none-let_go (awaiter_of w f)
 
 pub none-end_register : (b : Bool) (w : World) (f : ℕ) (a : Waker) (k : ℕ) →
     AsksForNone (acts.end_register_by b w f a k).next
-none-end_register true w f a k = both (acts.let_go (awaiter_of w f)) (op.Handle (handle_op.LookAgain f) ∷ [])
+none-end_register true w f a k = both (acts.let_go (awaiter_of w f)) (Op.Handle (HandleOp.LookAgain f) ∷ [])
     (none-let_go (awaiter_of w f)) refl
-none-end_register false w f a k = both (acts.let_go (awaiter_of w f)) (op.Handle (handle_op.LookAgain f) ∷ [])
+none-end_register false w f a k = both (acts.let_go (awaiter_of w f)) (Op.Handle (HandleOp.LookAgain f) ∷ [])
     (none-let_go (awaiter_of w f)) refl
 
 pub none-notify : (b : Bool) (w : World) (f : ℕ) (mine : Bool) → AsksForNone (acts.notify_by b w f mine).next
@@ -168,7 +147,7 @@ none-told true f (Some a) = none-waker a.waker
 none-told false f (Some a) = refl
 
 pub none-call : (p : ℕ) (w : World) (f : ℕ) (a : Waker) (k : ℕ) → AsksForNone (acts.call_awaiter p w f a k).next
-none-call p w f (Task g) k = none-wake p (log w (event.WakerCalled p (of.Handle f) k (Task g))) g
+none-call p w f (Task g) k = none-wake p (log w (Event.WakerCalled p (Polled.Handle f) k (Task g))) g
 none-call p w f (Outside x) k = refl
 
 -- the second look of a poll is never told of a refusal
@@ -179,7 +158,7 @@ none-again true true completed p w f = refl
 none-again true false completed p w f = refl
 none-again false going false p w f = refl
 none-again false going true p w f =
-    both (awaiter_ops f (moves.notify_other_if (task w f).awaiter)) (op.End reply.Ready (hold.Handle f) ∷ [])
+    both (awaiter_ops f (moves.notify_other_if (task w f).awaiter)) (Op.End Reply.Ready (Hold.Handle f) ∷ [])
     (none-awaiter f (moves.notify_other_if (task w f).awaiter)) refl
 
 -- the executor's drop

@@ -1,80 +1,53 @@
 -- For all laws of one future.
 -- Each way in which a party goes on has one effect on each future; and what such an effect keeps of the view of each future
 -- (proofs/OneFuture/Views), each step of the machine keeps.
-use Rattle.std.proofs.Common.{◌≡◌, ℕ, ◌<◌, List, [], ◌∷◌, ◌++◌, length, set, false, true, ◌&&◌, ◌||◌, not}
-use Rattle.std.proofs.Common.{refl, sym, subst, arith}
-use Rattle.std.specs.Prelude.{Option, reverse}
-use Rattle.task_moves.specs.declared.moves.owed.Move.TheVariants as move
-use Rattle.executor_model.specs.declared.kind.Kind.{Kind}
-use Rattle.executor_model.specs.declared.call.Call.{Call}
-use Rattle.executor_model.specs.declared.call.Call.TheVariants as call
-use Rattle.executor_model.specs.declared.call.Reply.{Reply}
-use Rattle.executor_model.specs.declared.call.Reply.TheVariants as reply
-use Rattle.executor_model.specs.declared.event.Answer.TheVariants as answer
-use Rattle.executor_model.specs.declared.event.Event.TheVariants as event
-use Rattle.executor_model.specs.declared.op.ClosingOp.TheVariants as closing_op
-use Rattle.executor_model.specs.declared.op.Hold.{Hold}
-use Rattle.executor_model.specs.declared.op.Hold.TheVariants as hold
-use Rattle.executor_model.specs.declared.op.Op.{Op}
-use Rattle.executor_model.specs.declared.op.Op.TheVariants as op
-use Rattle.executor_model.specs.declared.op.TableOp.TheVariants as table_op
-use Rattle.executor_model.specs.declared.op.UserOp.TheVariants as user_op
-use Rattle.executor_model.specs.declared.op.Waker.{Waker}
-use Rattle.executor_model.specs.declared.step.Step.{Step}
-use Rattle.executor_model.specs.declared.step.UserEnd.{UserEnd}
-use Rattle.executor_model.specs.declared.step.UserEnd.TheVariants as end
+use Rattle.std.proofs.Common.{◌≡◌, ℕ, ◌<◌, List, [], ◌∷◌, ◌++◌, length, set, false, true, ◌&&◌, ◌||◌, not, refl, sym, subst}
+use Rattle.std.{proofs.Common.arith, specs.Prelude.Option, specs.Prelude.reverse}
+use Rattle.executor_model.proofs.Types.{Move, Kind, Call, Reply, Answer, Event, ClosingOp, Hold, Op, TableOp, UserOp, Waker}
+use Rattle.executor_model.specs.Steps.{Machine, run, stack, mine, top, accepts, begun, react, is_drop, idle, is_on_executor}
 use Rattle.executor_model.specs.World.{World, Done, done, log}
-use Rattle.executor_model.specs.Sound.{Pend, pend, with_ops}
-use Rattle.executor_model.specs.Good.{Good}
-use Rattle.executor_model.specs.Rows.{past_of, borrowing_of}
-use Rattle.executor_model.specs.Steps.{Machine, run, stack, mine, top, accepts, begun, react, is_drop}
-use Rattle.executor_model.specs.Steps.{idle, is_on_executor, is_unused, start}
-use Rattle.executor_model.specs.Weights.{weigh, weigh_all}
-use Rattle.executor_model.proofs.Steps.Lists.{weigh_all-push}
-use Rattle.executor_model.proofs.Steps.Lift.{split, split-pend, push-pend, unsettled, none_refused, open_executor}
-use Rattle.executor_model.proofs.Steps.Lift.{unborrowed, unused}
-use Rattle.executor_model.proofs.Steps.Lift.{weigh_all-idle, good-start}
-use Rattle.executor_model.proofs.Steps.Growing.{pend-none}
-use Rattle.executor_model.proofs.Steps.Ways.{Way, along}
+use Rattle.executor_model.specs.{Sound.Pend, Sound.pend, Sound.with_ops, Good.Good, Rows.past_of, Rows.borrowing_of}
+use Rattle.executor_model.specs.{Steps.is_unused, Steps.start, Weights.weigh, Weights.weigh_all}
+use Rattle.executor_model.proofs.Steps.Lift.{split, split-pend, push-pend, unsettled, none_refused, open_executor, unborrowed}
+use Rattle.executor_model.proofs.Steps.Lift.{unused, weigh_all-idle, good-start}
 use Rattle.executor_model.proofs.Steps.Ways.Way.{acted, reacted, called}
 use Rattle.executor_model.proofs.OneFuture.Extras.{Extra, extra, extra-by, extra-none, no_extra, with_extra}
 use Rattle.executor_model.proofs.OneFuture.Views.{Seen, seen, none}
-use Rattle.executor_model.proofs.Counts.SoundAll.{sure-of}
-use Rattle.executor_model.proofs.Counts.SoundViews.{Sure}
-use Rattle.executor_model.proofs.OneFuture.Effects.{Effect, effect-act}
-use Rattle.executor_model.proofs.OneFuture.Effects.Effect.{passes}
 use Rattle.executor_model.proofs.OneFuture.EffectsCalls.{by_call, goes-begun}
+use Rattle.executor_model.proofs.{Types.Step, Types.UserEnd, Steps.Lists.weigh_all-push, Steps.Growing.pend-none}
+use Rattle.executor_model.proofs.{Steps.Ways.Way, Steps.Ways.along, Counts.SoundAll.sure-of, Counts.SoundViews.Sure}
+use Rattle.executor_model.proofs.{OneFuture.Effects.Effect, OneFuture.Effects.effect-act, OneFuture.Effects.Effect.passes}
 
 -- in a machine of this world and these parties
 pub data Effects (w : World) (ss : List (List Op)) : List Op → Done → Type 0 where
   does : {old : List Op} {d : Done} → Effect w old d → Effects w ss old d
   -- the future that is polled answers that it is pending, or ready
-  pends : (p f : ℕ) → Effects w ss (op.User (user_op.Poll f) ∷ [])
-      (done (log w (event.Answered p f answer.Pending)) (op.Table (table_op.PutBack f) ∷ []))
-  readies : (p f : ℕ) → Effects w ss (op.User (user_op.Poll f) ∷ [])
-      (done (log w (event.Answered p f answer.Ready)) (op.User (user_op.BeginDrop f) ∷ op.Move move.EndReady f ∷ []))
+  pends : (p f : ℕ) → Effects w ss (Op.User (UserOp.Poll f) ∷ [])
+      (done (log w (Event.Answered p f Answer.Pending)) (Op.Table (TableOp.PutBack f) ∷ []))
+  readies : (p f : ℕ) → Effects w ss (Op.User (UserOp.Poll f) ∷ [])
+      (done (log w (Event.Answered p f Answer.Ready)) (Op.User (UserOp.BeginDrop f) ∷ Op.Move Move.EndReady f ∷ []))
   -- the drop of the executor begins, where no call uses it
   closes : (p : ℕ) → w.gone ≡ false → weigh_all borrowing_of ss ≡ 0 → Effects w ss []
-      (done (log (record (log w (event.CallBegun p call.DropExecutor)) { gone = true }) (event.DropBegun p))
-      (op.Closing closing_op.TakeOut ∷ op.End reply.Done hold.Nothing ∷ []))
+      (done (log (record (log w (Event.CallBegun p Call.DropExecutor)) { gone = true }) (Event.DropBegun p))
+      (Op.Closing ClosingOp.TakeOut ∷ Op.End Reply.Done Hold.Nothing ∷ []))
 
 effect-react : (p : ℕ) (o : Op) (u : UserEnd) (w : World) (ss : List (List Op)) → accepts o u ≡ true →
     Effects w ss (o ∷ []) (react p o u w)
-effect-react p (op.User (user_op.Poll f)) (end.Polled answer.Pending) w ss a = pends p f
-effect-react p (op.User (user_op.Poll f)) (end.Polled answer.Ready) w ss a = readies p f
-effect-react p (op.User (user_op.Drop f)) end.Done w ss a = does (passes (λ g r y. grind arith))
-effect-react p (op.User (user_op.DropOutput f)) end.Done w ss a = does (passes (λ g r y. grind arith))
-effect-react p (op.User (user_op.CallOutside x)) end.Done w ss a = does (passes (λ g r y. grind arith))
-effect-react p (op.User (user_op.PollOwn x)) (end.Polled answer.Pending) w ss a = does (passes (λ g r y. grind arith))
-effect-react p (op.User (user_op.PollOwn x)) (end.Polled answer.Ready) w ss a = does (passes (λ g r y. grind arith))
-effect-react p (op.User (user_op.DropOwn r)) end.Done w ss a = does (passes (λ g r y. grind arith))
+effect-react p (Op.User (UserOp.Poll f)) (UserEnd.Polled Answer.Pending) w ss a = pends p f
+effect-react p (Op.User (UserOp.Poll f)) (UserEnd.Polled Answer.Ready) w ss a = readies p f
+effect-react p (Op.User (UserOp.Drop f)) UserEnd.Done w ss a = does (passes (λ g r y. grind arith))
+effect-react p (Op.User (UserOp.DropOutput f)) UserEnd.Done w ss a = does (passes (λ g r y. grind arith))
+effect-react p (Op.User (UserOp.CallOutside x)) UserEnd.Done w ss a = does (passes (λ g r y. grind arith))
+effect-react p (Op.User (UserOp.PollOwn x)) (UserEnd.Polled Answer.Pending) w ss a = does (passes (λ g r y. grind arith))
+effect-react p (Op.User (UserOp.PollOwn x)) (UserEnd.Polled Answer.Ready) w ss a = does (passes (λ g r y. grind arith))
+effect-react p (Op.User (UserOp.DropOwn r)) UserEnd.Done w ss a = does (passes (λ g r y. grind arith))
 effect-react p _ _ w ss a = absurd (cc)
 
 effect-begun : (p : ℕ) (w : World) (ss : List (List Op)) (here : Option Waker) (c : Call) →
     not (w.gone && is_on_executor c) ≡ true → (not (is_drop c) || is_unused borrowing_of ss) ≡ true →
-    Effects w ss [] (begun p (log w (event.CallBegun p c)) here c)
+    Effects w ss [] (begun p (log w (Event.CallBegun p c)) here c)
 effect-begun p w ss here = by_call _
-    (λ on un. closes p (open_executor w call.DropExecutor refl on) (unborrowed (weigh_all borrowing_of ss) un))
+    (λ on un. closes p (open_executor w Call.DropExecutor refl on) (unborrowed (weigh_all borrowing_of ss) un))
     (λ c d on un. does (passes (goes-begun p w here c d (λ e. open_executor w c e on))))
 
 -- the futures that it speaks of are there
@@ -122,14 +95,14 @@ module _ (F P : Seen → Type 0) (s : Machine) (p : ℕ) (old rest : List Op) (l
 -- and where a call ends, and none has begun
 
 pub ended : (P : Seen → Type 0) (s : Machine) (p : ℕ) (a : Reply) (held : Hold) (below : List Op) → p < length s.parties →
-    stack s p ≡ below ++ reverse (op.End a held ∷ []) →
+    stack s p ≡ below ++ reverse (Op.End a held ∷ []) →
     ((g : ℕ) (r : Pend) (y : Extra) →
-    P (seen s.world g (with_ops g (op.End a held ∷ []) r) (with_extra g (op.End a held ∷ []) y)) →
-    P (seen (log s.world (event.CallEnded p a)) g (with_ops g [] r) (with_extra g [] y))) →
+    P (seen s.world g (with_ops g (Op.End a held ∷ []) r) (with_extra g (Op.End a held ∷ []) y)) →
+    P (seen (log s.world (Event.CallEnded p a)) g (with_ops g [] r) (with_extra g [] y))) →
     ((g : ℕ) → P (view s g)) → (g : ℕ) →
-    P (view (unsettled s p below (done (log s.world (event.CallEnded p a)) [])) g)
+    P (view (unsettled s p below (done (log s.world (Event.CallEnded p a)) [])) g)
 ended P s p a held below l e k h =
-    lifted (λ x. Unit {0}) P s p (op.End a held ∷ []) below l e (done (log s.world (event.CallEnded p a)) [])
+    lifted (λ x. Unit {0}) P s p (Op.End a held ∷ []) below l e (done (log s.world (Event.CallEnded p a)) [])
     (λ g b q. k g _ _ q) (λ g. tt) h
 
 pub view-start : (P : Seen → Type 0) (limit : ℕ) (kind : Kind) (n g : ℕ) → P (seen (start limit kind 0).world g none no_extra) →
@@ -145,8 +118,8 @@ module _ (P : Seen → Type 0)
     Sure (seen w g (with_ops g old r) (with_extra g old y)) → P (seen w g (with_ops g old r) (with_extra g old y)) →
     P (seen d.world g (with_ops g d.next r) (with_extra g d.next y)))
     (end_kept : (w : World) (p : ℕ) (a : Reply) (held : Hold) (g : ℕ) (r : Pend) (y : Extra) →
-    P (seen w g (with_ops g (op.End a held ∷ []) r) (with_extra g (op.End a held ∷ []) y)) →
-    P (seen (log w (event.CallEnded p a)) g (with_ops g [] r) (with_extra g [] y)))
+    P (seen w g (with_ops g (Op.End a held ∷ []) r) (with_extra g (Op.End a held ∷ []) y)) →
+    P (seen (log w (Event.CallEnded p a)) g (with_ops g [] r) (with_extra g [] y)))
     (first : (limit : ℕ) (kind : Kind) (g : ℕ) → P (seen (start limit kind 0).world g none no_extra)) where
   moves-kept : (s : Machine) (p : ℕ) (old rest : List Op) (d : Done) → Good s → p < length s.parties →
       stack s p ≡ rest ++ reverse old → Way s p old rest d → ((g : ℕ) → P (view s g)) → (g : ℕ) →

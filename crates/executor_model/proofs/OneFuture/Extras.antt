@@ -2,79 +2,68 @@
 -- What the parties have still to do with a future beside what specs/Rows counts: with its entry, its output, its handle
 -- and the drop of the executor. Columns of the view of one future (proofs/OneFuture/Views).
 use Rattle.std.proofs.Common.{◌≡◌, ℕ, ◌+◌, List, [], ◌++◌, arith}
-use Rattle.executor_model.specs.declared.op.Op.{Op}
-use Rattle.executor_model.specs.declared.op.Op.TheVariants as op
-use Rattle.executor_model.specs.declared.op.ClosingOp.TheVariants as closing_op
-use Rattle.executor_model.specs.declared.op.HandleOp.TheVariants as handle_op
-use Rattle.executor_model.specs.declared.op.RunOp.{RunOp}
-use Rattle.executor_model.specs.declared.op.RunOp.TheVariants as run_op
-use Rattle.executor_model.specs.declared.op.TickOrRun.{TickOrRun}
-use Rattle.executor_model.specs.declared.op.TickOrRun.TheVariants as tick_or_run
-use Rattle.executor_model.specs.declared.op.TickOp.TheVariants as tick_op
-use Rattle.executor_model.specs.declared.op.UserOp.TheVariants as user_op
-use Rattle.task_moves.specs.declared.moves.owed.Move.TheVariants as move
-use Rattle.executor_model.specs.Rows.{appends_of, leaves_of}
-use Rattle.executor_model.specs.Weights.{same, weigh, weigh_all}
+use Rattle.executor_model.proofs.Types.{Op, ClosingOp, HandleOp, RunOp, TickOrRun, TickOp, UserOp, Move}
+use Rattle.executor_model.specs.{Rows.appends_of, Rows.leaves_of, Weights.same, Weights.weigh, Weights.weigh_all}
 use Rattle.executor_model.proofs.Steps.Lists.{weigh-append}
 
 -- what is only done after the drop of the executor has emptied the table
 abbrev pub closing_of : Op → ℕ
-closing_of (op.Move move.DropRunnable f) = 1
-closing_of (op.Closing closing_op.DropNext) = 1
-closing_of (op.Closing closing_op.WakeNext) = 1
-closing_of (op.Closing (closing_op.Close mark)) = 1
-closing_of (op.Closing (closing_op.Drain mark)) = 1
+closing_of (Op.Move Move.DropRunnable f) = 1
+closing_of (Op.Closing ClosingOp.DropNext) = 1
+closing_of (Op.Closing ClosingOp.WakeNext) = 1
+closing_of (Op.Closing (ClosingOp.Close mark)) = 1
+closing_of (Op.Closing (ClosingOp.Drain mark)) = 1
 closing_of _ = 0
 
 -- and after it has dropped all futures that it found there
 abbrev pub waking_of : Op → ℕ
-waking_of (op.Move move.DropRunnable f) = 1
-waking_of (op.Closing closing_op.WakeNext) = 1
-waking_of (op.Closing (closing_op.Close mark)) = 1
-waking_of (op.Closing (closing_op.Drain mark)) = 1
+waking_of (Op.Move Move.DropRunnable f) = 1
+waking_of (Op.Closing ClosingOp.WakeNext) = 1
+waking_of (Op.Closing (ClosingOp.Close mark)) = 1
+waking_of (Op.Closing (ClosingOp.Drain mark)) = 1
 waking_of _ = 0
 
 -- outputs of g that are to be dropped
 abbrev pub outs_of : ℕ → Op → ℕ
-outs_of g (op.User (user_op.BeginDropOutput f)) = same g f
+outs_of g (Op.User (UserOp.BeginDropOutput f)) = same g f
 outs_of g _ = 0
 
 abbrev pub detaches_of : ℕ → Op → ℕ
-detaches_of g (op.Move move.Detach f) = same g f
+detaches_of g (Op.Move Move.Detach f) = same g f
 detaches_of g _ = 0
 
 -- who will look whether the awaiter is to be called
 abbrev pub telling_of : ℕ → Op → ℕ
-telling_of g (op.Handle (handle_op.Notify f mine)) = same g f
-telling_of g (op.Handle (handle_op.LookAgain f)) = same g f
+telling_of g (Op.Handle (HandleOp.Notify f mine)) = same g f
+telling_of g (Op.Handle (HandleOp.LookAgain f)) = same g f
 telling_of g _ = 0
 
 -- who takes it out
 abbrev pub taking_of : ℕ → Op → ℕ
-taking_of g (op.Handle (handle_op.EndNotify f mine)) = same g f
+taking_of g (Op.Handle (HandleOp.EndNotify f mine)) = same g f
 taking_of g _ = 0
 
 -- who stores it
 abbrev pub storing_of : ℕ → Op → ℕ
-storing_of g (op.Handle (handle_op.EndRegister f a k)) = same g f
+storing_of g (Op.Handle (HandleOp.EndRegister f a k)) = same g f
 storing_of g _ = 0
 
 -- who searches is a run
 abbrev pub runs_of_who : TickOrRun → ℕ
-runs_of_who (tick_or_run.Run r) = 1
-runs_of_who (tick_or_run.Tick t) = 0
+runs_of_who (TickOrRun.Run r) = 1
+runs_of_who (TickOrRun.Tick t) = 0
 
 abbrev pub runs_of_run : RunOp → ℕ
-runs_of_run (run_op.WakeOwn x) = 0
+runs_of_run (RunOp.WakeOwn x) = 0
 runs_of_run _ = 1
 
 -- what a run does, but for the call of its own waker
 abbrev pub runs_of : Op → ℕ
-runs_of (op.Steal o) = 1
-runs_of (op.List o) = 1
-runs_of (op.Run o) = runs_of_run o
-runs_of (op.Tick (tick_op.Search s)) = runs_of_who s.who
-runs_of (op.Tick (tick_op.Look s look)) = runs_of_who s.who
+runs_of (Op.Steal o) = 1
+runs_of (Op.List o) = 1
+runs_of (Op.Run o) = runs_of_run o
+runs_of (Op.Tick (TickOp.Search s)) = runs_of_who s.who
+runs_of (Op.Tick (TickOp.Look s look)) = runs_of_who s.who
 runs_of _ = 0
 
 pub record Extra : Type 0 where

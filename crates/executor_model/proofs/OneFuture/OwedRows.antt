@@ -3,25 +3,16 @@
 use Rattle.std.proofs.Common.{◌≡◌, ℕ, ◌+◌, List, [], ◌∷◌, ◌++◌, Bool, true, false, ◌&&◌, refl, ap, ◌∙◌, arith}
 use Rattle.std.specs.Prelude.{Option, Some, None}
 use Rattle.task_moves.specs.declared.schedule_info.ScheduleInfo.{ScheduleInfo}
-use Rattle.task_moves.specs.declared.moves.owed.Move.{Move}
-use Rattle.task_moves.specs.declared.moves.owed.Move.TheVariants as move
-use Rattle.task_moves.specs.declared.moves.owed.FutureDebt.{FutureDebt}
 use Rattle.task_moves.specs.declared.moves.owed.FutureDebt.TheVariants.{PollFuture, DropFuture}
-use Rattle.task_moves.specs.declared.moves.owed.AwaiterDebt.{AwaiterDebt}
-use Rattle.task_moves.specs.declared.moves.owed.AwaiterDebt.TheVariants as debt
-use Rattle.task_moves.specs.declared.moves.owed.Owed.{Owed}
-use Rattle.executor_model.specs.declared.op.Op.{Op}
-use Rattle.executor_model.specs.declared.op.Op.TheVariants as op
+use Rattle.task_moves.{specs.declared.moves.owed.FutureDebt.FutureDebt, specs.declared.moves.owed.AwaiterDebt.AwaiterDebt}
 use Rattle.executor_model.specs.Carried.{schedule_ops, drop_ops, drops, emptied_ops, future_ops, output_ops, awaiter_ops}
-use Rattle.executor_model.specs.Carried.{next_ops, owed_ops}
-use Rattle.executor_model.specs.Weights.{same, weigh}
 use Rattle.executor_model.specs.Rows.{borrowing_of, waiting_of, polls_of, ending_of, ready_of, closing_of, settling_of}
 use Rattle.executor_model.specs.Rows.{giving_of, drops_of, releases_of, copies_of, ousting_of}
-use Rattle.executor_model.specs.Sound.{Pend}
-use Rattle.executor_model.proofs.Steps.Lists.{weigh-append}
-use Rattle.executor_model.proofs.OneFuture.Extras.{Extra, no_extra, plus_extra, extras, extras-append}
+use Rattle.executor_model.specs.{Carried.next_ops, Carried.owed_ops, Weights.same, Weights.weigh, Sound.Pend}
 use Rattle.executor_model.proofs.OneFuture.Views.{none, plus, hand, of_schedule, of_drop, of_future, of_next, of_owed}
+use Rattle.executor_model.proofs.OneFuture.Extras.{Extra, no_extra, plus_extra, extras, extras-append}
 use Rattle.executor_model.proofs.OneFuture.Views.{extra_hand, of_append, of_output, of_awaiter, extra_next, extra_owed}
+use Rattle.executor_model.proofs.{Types.Move, Types.Owed, Types.Op, Steps.Lists.weigh-append}
 
 -- the counts of a list of things to do, all at once
 
@@ -67,16 +58,16 @@ module _ (g f k : ℕ) (e : same g f ≡ k) where
   one : same g f + 0 ≡ k
   one = omega (arith, e)
 
-  pub row-hand : (m : Move) → weights g (op.Move m f ∷ []) ≡ hand k m
-  row-hand move.Wake = ap (λ (n : ℕ). record none { releases = n }) one
-  row-hand move.Release = ap (λ (n : ℕ). record none { releases = n }) one
-  row-hand move.TakeUp = ap (λ (n : ℕ). record none { waiting = n; borrowing = 1 }) one
-  row-hand move.SettleClosed = ap (λ (n : ℕ). record none { settling = n }) one
-  row-hand move.GiveUp = ap (λ (n : ℕ). record none { giving = n }) one
-  row-hand move.EndReady = ap (λ (n : ℕ). record none { ready = n; borrowing = 1 }) one
-  row-hand move.EndPending = ap (λ (n : ℕ). record none { ending = n; borrowing = 1 }) one
-  row-hand move.EndClosed = ap (λ (n : ℕ). record none { closing = n }) one
-  row-hand move.DropRunnable = ap (λ (n : ℕ). record none { waiting = n }) one
+  pub row-hand : (m : Move) → weights g (Op.Move m f ∷ []) ≡ hand k m
+  row-hand Move.Wake = ap (λ (n : ℕ). record none { releases = n }) one
+  row-hand Move.Release = ap (λ (n : ℕ). record none { releases = n }) one
+  row-hand Move.TakeUp = ap (λ (n : ℕ). record none { waiting = n; borrowing = 1 }) one
+  row-hand Move.SettleClosed = ap (λ (n : ℕ). record none { settling = n }) one
+  row-hand Move.GiveUp = ap (λ (n : ℕ). record none { giving = n }) one
+  row-hand Move.EndReady = ap (λ (n : ℕ). record none { ready = n; borrowing = 1 }) one
+  row-hand Move.EndPending = ap (λ (n : ℕ). record none { ending = n; borrowing = 1 }) one
+  row-hand Move.EndClosed = ap (λ (n : ℕ). record none { closing = n }) one
+  row-hand Move.DropRunnable = ap (λ (n : ℕ). record none { waiting = n }) one
   row-hand _ = refl
 
   row-schedule : (o : Option ScheduleInfo) → weights g (schedule_ops f o) ≡ of_schedule k o
@@ -97,17 +88,17 @@ module _ (g f k : ℕ) (e : same g f ≡ k) where
   row-output false = refl
 
   row-awaiter : (o : Option AwaiterDebt) → weights g (awaiter_ops f o) ≡ none
-  row-awaiter (Some debt.NotifyAwaiter) = refl
-  row-awaiter (Some debt.NotifyOther) = refl
+  row-awaiter (Some AwaiterDebt.NotifyAwaiter) = refl
+  row-awaiter (Some AwaiterDebt.NotifyOther) = refl
   row-awaiter (Some _) = refl
   row-awaiter None = refl
 
   row-next : (o : Option Move) → weights g (next_ops f o) ≡ of_next k o
-  row-next (Some move.Release) = ap (λ (n : ℕ). record none { releases = n }) one
-  row-next (Some move.SettleClosed) = ap (λ (n : ℕ). record none { settling = n }) one
-  row-next (Some move.GiveUp) = ap (λ (n : ℕ). record none { giving = n }) one
-  row-next (Some move.EndClosed) = ap (λ (n : ℕ). record none { closing = n }) one
-  row-next (Some move.Detach) = refl
+  row-next (Some Move.Release) = ap (λ (n : ℕ). record none { releases = n }) one
+  row-next (Some Move.SettleClosed) = ap (λ (n : ℕ). record none { settling = n }) one
+  row-next (Some Move.GiveUp) = ap (λ (n : ℕ). record none { giving = n }) one
+  row-next (Some Move.EndClosed) = ap (λ (n : ℕ). record none { closing = n }) one
+  row-next (Some Move.Detach) = refl
   row-next (Some _) = refl
   row-next None = refl
 
@@ -136,8 +127,8 @@ module _ (g f k : ℕ) (e : same g f ≡ k) where
       weights-append g (s ++ u ++ v ++ y ++ n) (emptied_ops (o.empty_cell && drops o.future) f)
       ∙ plus-both e4 (row-emptied (o.empty_cell && drops o.future))
 
-  pub extras-hand : (m : Move) → extras g (op.Move m f ∷ []) ≡ extra_hand k m
-  extras-hand move.Detach = ap (λ (n : ℕ). record no_extra { detaches = n }) one
+  pub extras-hand : (m : Move) → extras g (Op.Move m f ∷ []) ≡ extra_hand k m
+  extras-hand Move.Detach = ap (λ (n : ℕ). record no_extra { detaches = n }) one
   extras-hand _ = refl
 
   extras-schedule : (o : Option ScheduleInfo) → extras g (schedule_ops f o) ≡ of_append k o
@@ -155,17 +146,17 @@ module _ (g f k : ℕ) (e : same g f ≡ k) where
   extras-output false = refl
 
   extras-awaiter : (o : Option AwaiterDebt) → extras g (awaiter_ops f o) ≡ of_awaiter k o
-  extras-awaiter (Some debt.NotifyAwaiter) = ap (λ (n : ℕ). record no_extra { telling = n }) one
-  extras-awaiter (Some debt.NotifyOther) = ap (λ (n : ℕ). record no_extra { telling = n }) one
+  extras-awaiter (Some AwaiterDebt.NotifyAwaiter) = ap (λ (n : ℕ). record no_extra { telling = n }) one
+  extras-awaiter (Some AwaiterDebt.NotifyOther) = ap (λ (n : ℕ). record no_extra { telling = n }) one
   extras-awaiter (Some _) = refl
   extras-awaiter None = refl
 
   extras-next : (o : Option Move) → extras g (next_ops f o) ≡ extra_next k o
-  extras-next (Some move.Release) = refl
-  extras-next (Some move.SettleClosed) = refl
-  extras-next (Some move.GiveUp) = refl
-  extras-next (Some move.EndClosed) = refl
-  extras-next (Some move.Detach) = ap (λ (n : ℕ). record no_extra { detaches = n }) one
+  extras-next (Some Move.Release) = refl
+  extras-next (Some Move.SettleClosed) = refl
+  extras-next (Some Move.GiveUp) = refl
+  extras-next (Some Move.EndClosed) = refl
+  extras-next (Some Move.Detach) = ap (λ (n : ℕ). record no_extra { detaches = n }) one
   extras-next (Some _) = refl
   extras-next None = refl
 

@@ -3,11 +3,9 @@
 -- on, and its handle is polled. What holds of the views before and after (proofs/OneFuture/Views), in parts, each for the laws that
 -- need it.
 use Rattle.std.proofs.Common.{◌≡◌, ◌⊎◌, ℕ, ◌+◌, ◌^◌, ◌<◌, ◌≤◌, List, true, false}
-use Rattle.executor_model.specs.declared.op.Op.{Op}
-use Rattle.executor_model.specs.World.{World, Done}
-use Rattle.executor_model.specs.Sound.{Pend, with_ops}
+use Rattle.executor_model.specs.{World.World, World.Done, Sound.Pend, Sound.with_ops}
 use Rattle.executor_model.proofs.OneFuture.Extras.{Extra, with_extra}
-use Rattle.executor_model.proofs.OneFuture.Views.{Seen, seen}
+use Rattle.executor_model.proofs.{Types.Op, OneFuture.Views.Seen, OneFuture.Views.seen}
 
 -- its Runnables and wakers, the marks of its task but those of an awaiter, and what is told of polls and wakes
 pub record Passes (x y : Seen) : Type 0 where

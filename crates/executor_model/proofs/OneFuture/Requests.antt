@@ -1,11 +1,10 @@
 -- For all laws of one future.
 -- What a trace tells of who asked for a future, read from left to right.
 use Rattle.std.proofs.Common.{◌≡◌, ℕ, ◌+◌, ◌==◌, [], ◌∷◌, ◌++◌, Bool, true, false, cond, refl}
-use Rattle.executor_model.specs.declared.event.Answer.TheVariants.{Ready}
-use Rattle.executor_model.specs.declared.event.Event.{Event}
-use Rattle.executor_model.specs.declared.event.Event.TheVariants.{Accepted, PollBegun, Answered, Woken, Cancelled, LastWaker, Leaked}
-use Rattle.executor_model.specs.Trace.{Trace}
-use Rattle.executor_model.specs.Weights.{same}
+use Rattle.executor_model.proofs.Types.{Event}
+use Rattle.executor_model.specs.declared.event.Event.TheVariants.{Accepted, PollBegun, Answered, Woken, Cancelled, LastWaker}
+use Rattle.executor_model.specs.declared.{event.Answer.TheVariants.Ready, event.Event.TheVariants.Leaked}
+use Rattle.executor_model.specs.{Trace.Trace, Weights.same}
 
 pub record Request : Type 0 where
   -- it was asked for, or woken, since its last poll began, and it was polled at all

@@ -1,19 +1,14 @@
 -- For all laws of one future.
 -- What a trace tells of a future, read from left to right: how often it was accepted and dropped, whether there was a
 -- cause for a drop, and which accepted futures were not dropped before the drop of the executor began.
-use Rattle.std.proofs.Common.{◌≡◌, ◌≢◌, ◌⊎◌, ℕ, suc, ◌+◌, ◌==◌, ◌≤◌, List, [], ◌∷◌, ◌++◌, length}
-use Rattle.std.proofs.Common.{Bool, true, false, ◌||◌, not, cond, eqb, refl, ap, inl, inr, ⊎_elim, arith}
+use Rattle.std.proofs.Common.{◌≡◌, ◌≢◌, ◌⊎◌, ℕ, suc, ◌+◌, ◌==◌, ◌≤◌, List, [], ◌∷◌, ◌++◌, length, Bool, true, false, ◌||◌, not}
+use Rattle.std.proofs.Common.{cond, eqb, refl, ap, inl, inr, ⊎_elim, arith}
 use Rattle.std.proofs.lemmas.Bool.Decides.{nat_tests}
+use Rattle.executor_model.specs.declared.event.Event.TheVariants.{Accepted, Answered, Cancelled, Detached, LastWaker, Dropped}
 use Rattle.executor_model.specs.declared.event.Answer.TheVariants.{Ready}
-use Rattle.executor_model.specs.declared.event.Event.{Event}
-use Rattle.executor_model.specs.declared.event.Event.TheVariants.{Accepted, Answered, Cancelled}
-use Rattle.executor_model.specs.declared.event.Event.TheVariants.{Detached, LastWaker, Dropped, DropBegun, DropEnded}
-use Rattle.executor_model.specs.Trace.{Trace}
-use Rattle.executor_model.specs.World.{without, among}
-use Rattle.executor_model.specs.Weights.{same}
-use Rattle.executor_model.specs.Sound.{times}
-use Rattle.executor_model.proofs.Steps.Cases.{by_bool}
-use Rattle.executor_model.proofs.Steps.Lists.{same_cases, without_one}
+use Rattle.executor_model.specs.declared.event.Event.TheVariants.{DropBegun, DropEnded}
+use Rattle.executor_model.specs.{Trace.Trace, World.without, World.among, Weights.same, Sound.times}
+use Rattle.executor_model.proofs.{Types.Event, Steps.Cases.by_bool, Steps.Lists.same_cases, Steps.Lists.without_one}
 
 -- the list without any f
 abbrev pub except : ℕ → List ℕ → List ℕ

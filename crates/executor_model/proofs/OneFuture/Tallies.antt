@@ -2,16 +2,13 @@
 -- How often a future was ready, its output went, and its handle or its output was given up: numbers that are counted
 -- in a trace, for the laws of outputs (proofs/Outputs/Keeping, proofs/Outputs/Outputs).
 use Rattle.std.proofs.Common.{◌≡◌, ℕ, ◌+◌, [], ◌∷◌, ◌++◌, cond, refl, arith}
-use Rattle.std.proofs.lemmas.List.Sums.{sum_by_push}
-use Rattle.std.specs.Prelude.{count_by}
+use Rattle.std.{proofs.lemmas.List.Sums.sum_by_push, specs.Prelude.count_by}
+use Rattle.executor_model.proofs.Types.{Event}
 use Rattle.executor_model.specs.declared.call.Call.TheVariants.{Detach, DropHandle}
 use Rattle.executor_model.specs.declared.event.Answer.TheVariants.{Pending, Ready}
-use Rattle.executor_model.specs.declared.event.Event.{Event}
-use Rattle.executor_model.specs.declared.event.Event.TheVariants.{CallBegun, Answered, Cancelled, OutputGiven}
-use Rattle.executor_model.specs.declared.event.Event.TheVariants.{OutputDropped}
+use Rattle.executor_model.specs.declared.event.Event.TheVariants.{CallBegun, Answered, Cancelled, OutputGiven, OutputDropped}
 use Rattle.executor_model.specs.Trace.{Trace, takes_handle, is_ready, is_cancelled, is_output_dropped}
-use Rattle.executor_model.specs.OutputOnce.{is_output_given}
-use Rattle.executor_model.specs.Weights.{same}
+use Rattle.executor_model.specs.{OutputOnce.is_output_given, Weights.same}
 
 -- how often g was ready
 

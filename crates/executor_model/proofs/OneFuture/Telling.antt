@@ -1,21 +1,17 @@
 -- For all laws of one future.
 -- What a story says of a future is what the definitions over its trace say.
-use Rattle.std.proofs.Common.{◌≡◌, ◌⊎◌, ℕ, zero, suc, ◌+◌, ◌≤◌, List, [], ◌∷◌, ◌++◌, length, Bool, true, false, ◌||◌, not, cond, eqb}
-use Rattle.std.proofs.Common.{take, refl, sym, ap, ◌∙◌, subst, inl, inr, ⊎_elim, arith}
-use Rattle.std.specs.Prelude.{fold, count_by}
-use Rattle.std.specs.List.{before_first, position_or_len}
-use Rattle.executor_model.specs.declared.kind.Kind.{Kind}
+use Rattle.std.proofs.Common.{◌≡◌, ◌⊎◌, ℕ, zero, suc, ◌+◌, ◌≤◌, List, [], ◌∷◌, ◌++◌, length, Bool, true, false, ◌||◌, not, cond}
+use Rattle.std.proofs.Common.{eqb, take, refl, sym, ap, ◌∙◌, subst, inl, inr, ⊎_elim, arith}
+use Rattle.std.{specs.Prelude.fold, specs.Prelude.count_by, specs.List.before_first, specs.List.position_or_len}
+use Rattle.executor_model.proofs.Types.{Kind, Event}
+use Rattle.executor_model.specs.declared.event.Event.TheVariants.{Accepted, Answered, Cancelled, Detached, LastWaker, Dropped}
 use Rattle.executor_model.specs.declared.kind.Kind.TheVariants.{Static}
 use Rattle.executor_model.specs.declared.event.Answer.TheVariants.{Pending, Ready}
-use Rattle.executor_model.specs.declared.event.Event.{Event}
-use Rattle.executor_model.specs.declared.event.Event.TheVariants.{Accepted, Answered, Cancelled}
-use Rattle.executor_model.specs.declared.event.Event.TheVariants.{Detached, LastWaker, Dropped, DropBegun, DropEnded}
-use Rattle.executor_model.specs.Trace.{Trace, has, is_accepted, is_dropped, is_ready}
-use Rattle.executor_model.specs.Trace.{is_cancelled, is_detached, is_drop_begun, is_drop_ended, is_last_waker}
+use Rattle.executor_model.specs.declared.event.Event.TheVariants.{DropBegun, DropEnded}
+use Rattle.executor_model.specs.Trace.{Trace, has, is_accepted, is_dropped, is_ready, is_cancelled, is_detached, is_drop_begun}
 use Rattle.executor_model.specs.EarlyDrop.{before_drop, EarlyDropHasCause, IsForgotten, LastWakerIsLast}
-use Rattle.executor_model.specs.Weights.{same}
+use Rattle.executor_model.specs.{Trace.is_drop_ended, Trace.is_last_waker, Trace.is_leak_begun, Weights.same}
 use Rattle.executor_model.proofs.OneFuture.Stories.{Story, untold, except, hears, story_from, story}
-use Rattle.executor_model.specs.Trace.{is_leak_begun}
 
 pub same-cond : (g f : ℕ) → same g f ≡ cond (eqb g f) 1 0
 unfolding same

@@ -1,9 +1,7 @@
 -- For outputs_are_kept.
 -- What holds at every moment of a future whose output is or will be there, and of the awaiter of one that is completed.
 use Rattle.std.proofs.Common.{◌≡◌, ◌⊎◌, ◌+◌, ◌<◌, ◌≤◌, true, false, arith}
-use Rattle.executor_model.proofs.OneFuture.Passes.{Watched}
-use Rattle.executor_model.proofs.Counts.SoundViews.{Sure}
-use Rattle.executor_model.proofs.OneFuture.Views.{Seen}
+use Rattle.executor_model.proofs.{OneFuture.Passes.Watched, Counts.SoundViews.Sure, OneFuture.Views.Seen}
 
 -- what is used of that which holds of the future
 pub record Footing (x : Seen) : Type 0 where

@@ -1,25 +1,17 @@
 -- For outputs_go_once.
 -- In each execution an output goes at most once.
 use Rattle.std.proofs.Common.{ℕ, List, [], ◌∷◌, arith}
-use Rattle.executor_model.specs.declared.kind.Kind.{Kind}
-use Rattle.executor_model.specs.declared.call.Reply.{Reply}
-use Rattle.executor_model.specs.declared.event.Event.TheVariants as event
-use Rattle.executor_model.specs.declared.op.Hold.{Hold}
-use Rattle.executor_model.specs.declared.op.Op.TheVariants as op
-use Rattle.executor_model.specs.declared.step.Step.{Step}
-use Rattle.executor_model.specs.OutputOnce.{OutputGoesOnce}
-use Rattle.executor_model.specs.World.{World, log}
+use Rattle.executor_model.proofs.Types.{Kind, Reply, Event, Hold, Op, Step}
 use Rattle.executor_model.specs.Sound.{Pend, with_ops}
-use Rattle.executor_model.specs.Steps.{run, start}
+use Rattle.executor_model.specs.{OutputOnce.OutputGoesOnce, World.World, World.log, Steps.run, Steps.start}
 use Rattle.executor_model.proofs.OneFuture.Tallies.{outputs, outputs-none, outputs-push}
 use Rattle.executor_model.proofs.OneFuture.Extras.{Extra, no_extra, with_extra}
-use Rattle.executor_model.proofs.OneFuture.Views.{none, seen}
 use Rattle.executor_model.proofs.Outputs.Outputs.{Given, out-act}
-use Rattle.executor_model.proofs.OneFuture.EffectsWays.{each-run}
+use Rattle.executor_model.proofs.{OneFuture.Views.none, OneFuture.Views.seen, OneFuture.EffectsWays.each-run}
 
 given-end : (w : World) (p : ℕ) (a : Reply) (held : Hold) (g : ℕ) (r : Pend) (y : Extra) →
-    Given (seen w g (with_ops g (op.End a held ∷ []) r) (with_extra g (op.End a held ∷ []) y)) →
-    Given (seen (log w (event.CallEnded p a)) g (with_ops g [] r) (with_extra g [] y))
+    Given (seen w g (with_ops g (Op.End a held ∷ []) r) (with_extra g (Op.End a held ∷ []) y)) →
+    Given (seen (log w (Event.CallEnded p a)) g (with_ops g [] r) (with_extra g [] y))
 given-end w p a held g r y h = grind (arith, outputs-push)
 
 none-given : (limit : ℕ) (kind : Kind) (g : ℕ) → Given (seen (start limit kind 0).world g none no_extra)

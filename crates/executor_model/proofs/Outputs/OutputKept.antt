@@ -1,45 +1,23 @@
 -- For outputs_are_kept.
 -- Where no call is in progress, the next poll of the handle is given the output that is there.
-use Rattle.std.proofs.Common.{◌≡◌, ℕ, zero, suc, ◌<◌, ◌≤◌, List, [], ◌∷◌, ◌++◌, length, set, get_or, Bool, true, false}
-use Rattle.std.proofs.Common.{◌&&◌, not, refl, sym, ap, ◌∙◌, ⊎_elim, arith, get_or-set_same}
-use Rattle.std.proofs.Math.ListN.{length-set}
-use Rattle.std.proofs.lemmas.Bool.Decides.{nat_tests}
-use Rattle.std.proofs.lemmas.List.{append_assoc}
+use Rattle.std.proofs.Common.{◌≡◌, ℕ, zero, suc, ◌<◌, ◌≤◌, List, [], ◌∷◌, ◌++◌, length, set, get_or, Bool, true, false, ◌&&◌}
+use Rattle.std.proofs.Common.{not, refl, sym, ap, ◌∙◌, ⊎_elim, arith, get_or-set_same}
 use Rattle.std.specs.Prelude.{Option, Some, None, nat_lt, count_by, ◌==◌}
-use Rattle.task_moves.specs.declared.moves.state.State.{State}
-use Rattle.task_moves.specs.declared.moves.owed.Answer.TheVariants as said
-use Rattle.task_moves.specs.declared.moves.owed.Moved.{Moved}
-use Rattle.task_moves.specs.Moves as moves
-use Rattle.executor_model.specs.declared.kind.Kind.{Kind}
-use Rattle.executor_model.specs.declared.call.By.TheVariants as by
-use Rattle.executor_model.specs.declared.call.Call.TheVariants as call
-use Rattle.executor_model.specs.declared.call.Reply.TheVariants as reply
-use Rattle.executor_model.specs.declared.event.Event.{Event}
-use Rattle.executor_model.specs.declared.event.Event.TheVariants as event
-use Rattle.executor_model.specs.declared.op.Op.{Op}
-use Rattle.executor_model.specs.declared.op.Op.TheVariants as op
-use Rattle.executor_model.specs.declared.op.HandleOp.TheVariants as handle_op
-use Rattle.executor_model.specs.declared.op.Waker.TheVariants.{Outside}
-use Rattle.executor_model.specs.declared.step.Hint.{Hint}
-use Rattle.executor_model.specs.declared.step.Step.{Step}
-use Rattle.executor_model.specs.declared.step.Step.TheVariants.{Begin, Go}
-use Rattle.executor_model.specs.declared.step.StepError.{StepError}
-use Rattle.executor_model.specs.declared.step.StepError.TheVariants.{NoSuch, Gone}
+use Rattle.std.{proofs.Math.ListN.length-set, proofs.lemmas.Bool.Decides.nat_tests, proofs.lemmas.List.append_assoc}
+use Rattle.task_moves.specs.declared.moves.owed.Answer.{Answer}
+use Rattle.executor_model.proofs.Types.{State, Moved, Kind, By, Call, Reply, Event, Op, HandleOp, Outside, Hint, Step, Begin}
+use Rattle.executor_model.specs.Steps.{Machine, stack, top, step, step_by, stepped, refusal, unless, begin_refusal, go_refusal}
 use Rattle.executor_model.specs.Trace.{Trace, takes_handle, has, is_ready, is_cancelled}
-use Rattle.executor_model.specs.OutputOnce.{is_output_given}
 use Rattle.executor_model.specs.OutputKept.{polls_alone, OutputIsThere, GivesOutput, OutputIsKept}
-use Rattle.executor_model.specs.World.{World, log, task, blank}
-use Rattle.executor_model.specs.Acts.{look_by}
-use Rattle.executor_model.specs.Sound.{pend}
-use Rattle.executor_model.specs.Weights.{weigh_all}
-use Rattle.executor_model.specs.Rows.{handling_of, ready_of}
-use Rattle.executor_model.specs.Steps.{Machine, stack, top, step, step_by, stepped, refusal, unless, begin_refusal}
-use Rattle.executor_model.specs.Steps.{go_refusal, onto, part_after, with_part, run, start}
-use Rattle.executor_model.proofs.OneFuture.Telling.{counted-there, there-or-none}
+use Rattle.executor_model.specs.Steps.{onto, part_after, with_part, run, start}
+use Rattle.executor_model.specs.{OutputOnce.is_output_given, World.World, World.log, World.task, World.blank, Acts.look_by}
+use Rattle.executor_model.specs.{Sound.pend, Weights.weigh_all, Rows.handling_of, Rows.ready_of}
 use Rattle.executor_model.proofs.Quiet.Resting.{Deep, deep, rests, all-rest}
-use Rattle.executor_model.proofs.OneFuture.Tallies.{readies, spent}
 use Rattle.executor_model.proofs.OneFuture.Extras.{telling_of, taking_of, storing_of}
 use Rattle.executor_model.proofs.Outputs.KeepingExecutions.{Stores, stores}
+use Rattle.executor_model.proofs.{Types.Go, Types.StepError, Types.NoSuch, Types.Gone, OneFuture.Telling.counted-there}
+use Rattle.executor_model.proofs.{OneFuture.Telling.there-or-none, OneFuture.Tallies.readies, OneFuture.Tallies.spent}
+use Rattle.task_moves.specs.Moves as moves
 
 -- what the trace says, counted
 
@@ -105,8 +83,8 @@ module _ (s : Machine) (f : ℕ) (h : Stores s) (idle : (q : ℕ) → stack s q 
 abbrev polling : Machine → ℕ → ℕ → ℕ → Machine
 polling s p f x =
     record {
-      world = log s.world (event.CallBegun p (call.PollHandle f (by.Outside x)));
-      parties = set s.parties p (op.Handle (handle_op.Look f (Outside x)) ∷ []);
+      world = log s.world (Event.CallBegun p (Call.PollHandle f (By.Outside x)));
+      parties = set s.parties p (Op.Handle (HandleOp.Look f (Outside x)) ∷ []);
     }
 
 and-false : (b : Bool) → (b && false) ≡ false
@@ -118,27 +96,27 @@ module _ (s : Machine) (p f x : ℕ) (l : p < length s.parties) (e : stack s p �
   held : ((task s.world f).handle && (weigh_all (handling_of f) s.parties == 0)) ≡ true
   held = ap (λ (b : Bool). b && (weigh_all (handling_of f) s.parties == 0)) m.handle ∙ ap (λ (n : ℕ). n == 0) unused
 
-  none-refused : refusal s (Begin p (call.PollHandle f (by.Outside x))) ≡ None
+  none-refused : refusal s (Begin p (Call.PollHandle f (By.Outside x))) ≡ None
   none-refused =
       ap (λ (b : Bool). unless b NoSuch
-      (begin_refusal s.world s.parties (top (stack s p)) (call.PollHandle f (by.Outside x))))
+      (begin_refusal s.world s.parties (top (stack s p)) (Call.PollHandle f (By.Outside x))))
       (let z : nat_lt p (length s.parties) ≡ true = grind (arith, nat_tests) in z)
-      ∙ (ap (λ (os : List Op). begin_refusal s.world s.parties (top os) (call.PollHandle f (by.Outside x))) e
+      ∙ (ap (λ (os : List Op). begin_refusal s.world s.parties (top os) (Call.PollHandle f (By.Outside x))) e
       ∙ (ap (λ (b : Bool). unless (b && true) NoSuch (unless (not (s.world.gone && false)) Gone None)) held
       ∙ ap (λ (b : Bool). unless (not b) Gone None) (and-false s.world.gone)))
 
-  begun-alone : stepped s (step s (Begin p (call.PollHandle f (by.Outside x)))) ≡ polling s p f x
+  begun-alone : stepped s (step s (Begin p (Call.PollHandle f (By.Outside x)))) ≡ polling s p f x
   unfolding step
-  begun-alone = ap (λ (r : Option StepError). stepped s (step_by r s (Begin p (call.PollHandle f (by.Outside x)))))
+  begun-alone = ap (λ (r : Option StepError). stepped s (step_by r s (Begin p (Call.PollHandle f (By.Outside x)))))
       none-refused ∙ ap (λ (os : List Op). with_part s p
-      (part_after s.world os (Begin p (call.PollHandle f (by.Outside x))))) e
+      (part_after s.world os (Begin p (Call.PollHandle f (By.Outside x))))) e
 
-  looking : stack (polling s p f x) p ≡ op.Handle (handle_op.Look f (Outside x)) ∷ []
-  looking = get_or-set_same s.parties p (op.Handle (handle_op.Look f (Outside x)) ∷ []) [] l
+  looking : stack (polling s p f x) p ≡ Op.Handle (HandleOp.Look f (Outside x)) ∷ []
+  looking = get_or-set_same s.parties p (Op.Handle (HandleOp.Look f (Outside x)) ∷ []) [] l
 
   there : nat_lt p (length (polling s p f x).parties) ≡ true
-  there = let n : p < length (set s.parties p (op.Handle (handle_op.Look f (Outside x)) ∷ [])) =
-      omega (arith, l, length-set s.parties p (op.Handle (handle_op.Look f (Outside x)) ∷ [])) in
+  there = let n : p < length (set s.parties p (Op.Handle (HandleOp.Look f (Outside x)) ∷ [])) =
+      omega (arith, l, length-set s.parties p (Op.Handle (HandleOp.Look f (Outside x)) ∷ [])) in
       grind (arith, nat_tests)
 
   goes-on : (t : Hint) → refusal (polling s p f x) (Go p t) ≡ None
@@ -147,18 +125,18 @@ module _ (s : Machine) (p f x : ℕ) (l : p < length s.parties) (e : stack s p �
 
   -- what the look finds
   finds : moves.poll (task s.world f) ≡ moves.moved (record (task s.world f) { closed = true })
-      (record moves.nothing { answer = Some said.Output })
+      (record moves.nothing { answer = Some Answer.Output })
   finds =
       ap (λ (b : Bool). moves.poll_by b (moves.is_going (task s.world f)) (task s.world f).completed (task s.world f))
       m.unclosed
       ∙ (ap (λ (b : Bool). moves.poll_by false (moves.is_going (task s.world f)) b (task s.world f)) m.completed
       ∙ ap (λ (b : Bool). moves.moved (record (task s.world f) { closed = true })
-      (record moves.nothing { awaiter = moves.notify_other_if b; answer = Some said.Output })) m.unawaited)
+      (record moves.nothing { awaiter = moves.notify_other_if b; answer = Some Answer.Output })) m.unawaited)
 
   gone-on-alone : (t : Hint) →
       (run (polls_alone p f x t) s).world.trace
-      ≡ (((s.world.trace ++ event.CallBegun p (call.PollHandle f (by.Outside x)) ∷ []) ++ event.HandlePolled p f ∷ [])
-      ++ event.OutputGiven p f ∷ []) ++ event.CallEnded p reply.Ready ∷ []
+      ≡ (((s.world.trace ++ Event.CallBegun p (Call.PollHandle f (By.Outside x)) ∷ []) ++ Event.HandlePolled p f ∷ [])
+      ++ Event.OutputGiven p f ∷ []) ++ Event.CallEnded p Reply.Ready ∷ []
   unfolding step
   gone-on-alone t =
       ap (λ (y : Machine). (stepped y (step y (Go p t))).world.trace) begun-alone
@@ -171,12 +149,12 @@ module _ (s : Machine) (p f x : ℕ) (l : p < length s.parties) (e : stack s p �
   pub gives-output : (t : Hint) → GivesOutput s p f x t
   gives-output t =
       gone-on-alone t
-      ∙ (append_assoc ((s.world.trace ++ event.CallBegun p (call.PollHandle f (by.Outside x)) ∷ [])
-      ++ event.HandlePolled p f ∷ []) (event.OutputGiven p f ∷ []) (event.CallEnded p reply.Ready ∷ [])
-      ∙ (append_assoc (s.world.trace ++ event.CallBegun p (call.PollHandle f (by.Outside x)) ∷ [])
-      (event.HandlePolled p f ∷ []) (event.OutputGiven p f ∷ event.CallEnded p reply.Ready ∷ [])
-      ∙ append_assoc s.world.trace (event.CallBegun p (call.PollHandle f (by.Outside x)) ∷ [])
-      (event.HandlePolled p f ∷ event.OutputGiven p f ∷ event.CallEnded p reply.Ready ∷ [])))
+      ∙ (append_assoc ((s.world.trace ++ Event.CallBegun p (Call.PollHandle f (By.Outside x)) ∷ [])
+      ++ Event.HandlePolled p f ∷ []) (Event.OutputGiven p f ∷ []) (Event.CallEnded p Reply.Ready ∷ [])
+      ∙ (append_assoc (s.world.trace ++ Event.CallBegun p (Call.PollHandle f (By.Outside x)) ∷ [])
+      (Event.HandlePolled p f ∷ []) (Event.OutputGiven p f ∷ Event.CallEnded p Reply.Ready ∷ [])
+      ∙ append_assoc s.world.trace (Event.CallBegun p (Call.PollHandle f (By.Outside x)) ∷ [])
+      (Event.HandlePolled p f ∷ Event.OutputGiven p f ∷ Event.CallEnded p Reply.Ready ∷ [])))
 
 output-kept : (s : Machine) (f : ℕ) → Deep s → Stores s → OutputIsKept s f
 output-kept s f d h quiet k p x t l =

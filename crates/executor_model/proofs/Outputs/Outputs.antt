@@ -1,39 +1,21 @@
 -- For outputs_go_once.
 -- An output is given or dropped at most once: what holds of it at every moment, and each effect keeps.
 use Rattle.std.proofs.Common.{◌≡◌, ℕ, ◌+◌, ◌<◌, ◌≤◌, List, [], ◌∷◌, ◌++◌, true, false, arith}
-use Rattle.std.proofs.lemmas.Bool.Decides.{nat_tests}
-use Rattle.std.specs.Prelude.{slice_set}
-use Rattle.executor_parts.specs.declared.mark.Mark.{Mark}
-use Rattle.task_moves.specs.declared.moves.owed.Move.{Move}
-use Rattle.task_moves.specs.declared.moves.owed.Move.TheVariants as move
+use Rattle.std.{proofs.lemmas.Bool.Decides.nat_tests, specs.Prelude.slice_set}
 use Rattle.task_moves.proofs.Cases.{by_move}
-use Rattle.executor_model.specs.declared.call.Call.TheVariants as call
-use Rattle.executor_model.specs.declared.call.Reply.TheVariants as reply
-use Rattle.executor_model.specs.declared.event.Answer.TheVariants as answer
-use Rattle.executor_model.specs.declared.event.Event.TheVariants as event
-use Rattle.executor_model.specs.declared.op.ClosingOp.TheVariants as closing_op
-use Rattle.executor_model.specs.declared.op.Hold.TheVariants as hold
-use Rattle.executor_model.specs.declared.op.Op.{Op}
-use Rattle.executor_model.specs.declared.op.Op.TheVariants as op
-use Rattle.executor_model.specs.declared.op.TableOp.TheVariants as table_op
-use Rattle.executor_model.specs.declared.op.UserOp.TheVariants as user_op
-use Rattle.executor_model.specs.World.{World, Done, done, log}
-use Rattle.executor_model.specs.Acts.{begin_drop, closing_ops, enter_by, stands_alone}
-use Rattle.executor_model.specs.Sound.{Pend, with_ops}
+use Rattle.executor_model.proofs.Types.{Mark, Move, Call, Reply, Answer, Event, ClosingOp, Hold, Op, TableOp, UserOp}
+use Rattle.executor_model.specs.Acts.{begin_drop, closing_ops, enter_by, stands_alone, leak_out_by, leaked}
+use Rattle.executor_model.specs.{World.World, World.Done, World.done, World.log, Sound.Pend, Sound.with_ops}
+use Rattle.executor_model.proofs.OneFuture.Effects.Effect.{passes, turns, refuses, enters, unlists, drops, takes_out}
 use Rattle.executor_model.proofs.Steps.Lists.{fresh_is, read_push, same_is}
-use Rattle.executor_model.proofs.OneFuture.Tallies.{outputs-push}
-use Rattle.executor_model.proofs.OneFuture.Extras.{Extra, with_extra}
 use Rattle.executor_model.proofs.OneFuture.Views.{Seen, seen, before, after}
-use Rattle.executor_model.proofs.OneFuture.Passes.{Passes, Gives}
-use Rattle.executor_model.proofs.OneFuture.MoveViews.{Alike}
+use Rattle.executor_model.proofs.OneFuture.MoveViews.{Alike, HasAsked, leaked-keeps, leaks_out-keeps}
 use Rattle.executor_model.proofs.Counts.SoundViews.{Sure, sound-passes}
 use Rattle.executor_model.proofs.OneFuture.Effects.{Effect, turned-keeps}
-use Rattle.executor_model.proofs.OneFuture.Effects.Effect.{passes, turns, refuses, enters, unlists, drops, takes_out, drops_next}
-use Rattle.executor_model.proofs.OneFuture.EffectsWays.{Effects}
+use Rattle.executor_model.proofs.OneFuture.Effects.Effect.{drops_next, leaks, leaks_out}
 use Rattle.executor_model.proofs.OneFuture.EffectsWays.Effects.{does, pends, readies, closes}
-use Rattle.executor_model.specs.Acts.{leak_out_by, leaked}
-use Rattle.executor_model.proofs.OneFuture.MoveViews.{HasAsked, leaked-keeps, leaks_out-keeps}
-use Rattle.executor_model.proofs.OneFuture.Effects.Effect.{leaks, leaks_out}
+use Rattle.executor_model.proofs.{OneFuture.Tallies.outputs-push, OneFuture.Extras.Extra, OneFuture.Extras.with_extra}
+use Rattle.executor_model.proofs.{OneFuture.Passes.Passes, OneFuture.Passes.Gives, OneFuture.EffectsWays.Effects}
 
 pub record Given (x : Seen) : Type 0 where
   pub once : x.outputs + x.extra.outs ≤ 1
@@ -80,28 +62,28 @@ KeepsOutput w old d = (g : ℕ) (r : Pend) (y : Extra) → Sure (seen w g (with_
     Given (seen w g (with_ops g old r) (with_extra g old y)) →
     Given (seen d.world g (with_ops g d.next r) (with_extra g d.next y))
 
-out-enters : (mark : Mark) (p : ℕ) (w : World) → KeepsOutput w (op.Table (table_op.Enter mark) ∷ []) (enter_by false false mark p w)
+out-enters : (mark : Mark) (p : ℕ) (w : World) → KeepsOutput w (Op.Table (TableOp.Enter mark) ∷ []) (enter_by false false mark p w)
 out-enters mark p w g r y b h = grind (arith, same_is, fresh_is, read_push, outputs-push)
 
-out-drops : (p f : ℕ) (w : World) → KeepsOutput w (op.User (user_op.BeginDrop f) ∷ []) (begin_drop p w f)
+out-drops : (p f : ℕ) (w : World) → KeepsOutput w (Op.User (UserOp.BeginDrop f) ∷ []) (begin_drop p w f)
 out-drops p f w g r y b h = grind (arith, outputs-push)
 
-out-takes_out : (ls ws : List ℕ) (w : World) → KeepsOutput w (op.Closing closing_op.TakeOut ∷ [])
+out-takes_out : (ls ws : List ℕ) (w : World) → KeepsOutput w (Op.Closing ClosingOp.TakeOut ∷ [])
     (done (record w { table = w.leaving; leaving = w.table }) (closing_ops ls ws))
 out-takes_out [] [] w g r y b h = grind arith
 out-takes_out [] (x ∷ ws) w g r y b h = grind arith
 out-takes_out (x ∷ ls) ws w g r y b h = grind arith
 
 out-drops_next : (ls ws : List ℕ) (p : ℕ) (w : World) (f : ℕ) (rest : List ℕ) →
-    KeepsOutput w (op.Closing closing_op.DropNext ∷ [])
+    KeepsOutput w (Op.Closing ClosingOp.DropNext ∷ [])
     (done (log (record w { leaving = rest; waking = w.waking ++ f ∷ []; inside = slice_set w.inside f false })
-    (event.Dropped p f)) (op.User (user_op.Drop f) ∷ closing_ops ls ws))
+    (Event.Dropped p f)) (Op.User (UserOp.Drop f) ∷ closing_ops ls ws))
 out-drops_next [] [] p w f rest g r y b h = grind (arith, outputs-push)
 out-drops_next [] (x ∷ ws) p w f rest g r y b h = grind (arith, outputs-push)
 out-drops_next (x ∷ ls) ws p w f rest g r y b h = grind (arith, outputs-push)
 
 out-leaks_out : (w : World) → w.is_static ≡ false → w.gone ≡ false →
-    KeepsOutput w (op.Closing closing_op.LeakOut ∷ []) (leak_out_by false w)
+    KeepsOutput w (Op.Closing ClosingOp.LeakOut ∷ []) (leak_out_by false w)
 out-leaks_out w s n g r y k h = leaks_out-keeps Given (λ x s n t h. grind arith) w s n g r y h
 
 out-leaked : (d : Done) (p f g : ℕ) (r : Pend) (y : Extra) → HasAsked d.world f → Given (seen d.world g r y) →
@@ -122,17 +104,17 @@ out-effect w old d (drops_next p f rest e) g r y b h = out-drops_next rest (w.wa
 out-effect w old d (leaks_out s n) g r y b h = out-leaks_out w s n g r y b h
 out-effect w old _ (leaks d p f e a) g r y b h = out-leaked d p f g _ _ a (out-effect w _ d e g r y b h)
 
-out-pends : (p f : ℕ) (w : World) → KeepsOutput w (op.User (user_op.Poll f) ∷ [])
-    (done (log w (event.Answered p f answer.Pending)) (op.Table (table_op.PutBack f) ∷ []))
+out-pends : (p f : ℕ) (w : World) → KeepsOutput w (Op.User (UserOp.Poll f) ∷ [])
+    (done (log w (Event.Answered p f Answer.Pending)) (Op.Table (TableOp.PutBack f) ∷ []))
 out-pends p f w g r y b h = grind (arith, outputs-push)
 
-out-readies : (p f : ℕ) (w : World) → KeepsOutput w (op.User (user_op.Poll f) ∷ [])
-    (done (log w (event.Answered p f answer.Ready)) (op.User (user_op.BeginDrop f) ∷ op.Move move.EndReady f ∷ []))
+out-readies : (p f : ℕ) (w : World) → KeepsOutput w (Op.User (UserOp.Poll f) ∷ [])
+    (done (log w (Event.Answered p f Answer.Ready)) (Op.User (UserOp.BeginDrop f) ∷ Op.Move Move.EndReady f ∷ []))
 out-readies p f w g r y b h = grind (arith, outputs-push)
 
 out-closes : (p : ℕ) (w : World) → KeepsOutput w []
-    (done (log (record (log w (event.CallBegun p call.DropExecutor)) { gone = true }) (event.DropBegun p))
-    (op.Closing closing_op.TakeOut ∷ op.End reply.Done hold.Nothing ∷ []))
+    (done (log (record (log w (Event.CallBegun p Call.DropExecutor)) { gone = true }) (Event.DropBegun p))
+    (Op.Closing ClosingOp.TakeOut ∷ Op.End Reply.Done Hold.Nothing ∷ []))
 out-closes p w g r y b h = grind (arith, outputs-push)
 
 -- whatever a party does

@@ -2,39 +2,21 @@
 -- The output of a future that was ready was given or dropped, or is there: what holds of it at every moment, and each
 -- effect keeps.
 use Rattle.std.proofs.Common.{◌≡◌, ◌⊎◌, ℕ, ◌+◌, ◌<◌, ◌≤◌, List, [], ◌∷◌, ◌++◌, true, false, arith}
-use Rattle.std.proofs.lemmas.Bool.Decides.{nat_tests}
-use Rattle.std.specs.Prelude.{slice_set}
-use Rattle.executor_parts.specs.declared.mark.Mark.{Mark}
-use Rattle.task_moves.specs.declared.moves.owed.Move.{Move}
-use Rattle.task_moves.specs.declared.moves.owed.Move.TheVariants as move
+use Rattle.std.{proofs.lemmas.Bool.Decides.nat_tests, specs.Prelude.slice_set}
 use Rattle.task_moves.proofs.Cases.{by_move}
-use Rattle.executor_model.specs.declared.call.Call.TheVariants as call
-use Rattle.executor_model.specs.declared.call.Reply.TheVariants as reply
-use Rattle.executor_model.specs.declared.event.Answer.TheVariants as answer
-use Rattle.executor_model.specs.declared.event.Event.TheVariants as event
-use Rattle.executor_model.specs.declared.op.ClosingOp.TheVariants as closing_op
-use Rattle.executor_model.specs.declared.op.Hold.TheVariants as hold
-use Rattle.executor_model.specs.declared.op.Op.{Op}
-use Rattle.executor_model.specs.declared.op.Op.TheVariants as op
-use Rattle.executor_model.specs.declared.op.TableOp.TheVariants as table_op
-use Rattle.executor_model.specs.declared.op.UserOp.TheVariants as user_op
-use Rattle.executor_model.specs.World.{World, Done, done, log}
-use Rattle.executor_model.specs.Acts.{begin_drop, closing_ops, enter_by, stands_alone}
-use Rattle.executor_model.specs.Sound.{Pend, with_ops}
+use Rattle.executor_model.proofs.Types.{Mark, Move, Call, Reply, Answer, Event, ClosingOp, Hold, Op, TableOp, UserOp}
+use Rattle.executor_model.specs.Acts.{begin_drop, closing_ops, enter_by, stands_alone, leak_out_by, leaked}
+use Rattle.executor_model.specs.{World.World, World.Done, World.done, World.log, Sound.Pend, Sound.with_ops}
+use Rattle.executor_model.proofs.OneFuture.Effects.Effect.{passes, turns, refuses, enters, unlists, drops, takes_out}
 use Rattle.executor_model.proofs.Steps.Lists.{fresh_is, read_push, same_is}
-use Rattle.executor_model.proofs.OneFuture.Tallies.{outputs-push, readies-push}
-use Rattle.executor_model.proofs.OneFuture.Extras.{Extra, with_extra}
 use Rattle.executor_model.proofs.OneFuture.Views.{Seen, seen, before, after}
 use Rattle.executor_model.proofs.OneFuture.Passes.{Gives, Handles, Passes}
-use Rattle.executor_model.proofs.OneFuture.MoveViews.{Alike}
-use Rattle.executor_model.proofs.Counts.SoundViews.{Sure, sound-passes}
-use Rattle.executor_model.proofs.OneFuture.Effects.{Effect, turned-keeps}
-use Rattle.executor_model.proofs.OneFuture.Effects.Effect.{passes, turns, refuses, enters, unlists, drops, takes_out, drops_next}
-use Rattle.executor_model.proofs.OneFuture.EffectsWays.{Effects}
+use Rattle.executor_model.proofs.OneFuture.MoveViews.{Alike, HasAsked, leaked-keeps, leaks_out-keeps}
+use Rattle.executor_model.proofs.OneFuture.Effects.Effect.{drops_next, leaks, leaks_out}
 use Rattle.executor_model.proofs.OneFuture.EffectsWays.Effects.{does, pends, readies, closes}
-use Rattle.executor_model.specs.Acts.{leak_out_by, leaked}
-use Rattle.executor_model.proofs.OneFuture.MoveViews.{HasAsked, leaked-keeps, leaks_out-keeps}
-use Rattle.executor_model.proofs.OneFuture.Effects.Effect.{leaks, leaks_out}
+use Rattle.executor_model.proofs.{OneFuture.Tallies.outputs-push, OneFuture.Tallies.readies-push, OneFuture.Extras.Extra}
+use Rattle.executor_model.proofs.{OneFuture.Extras.with_extra, Counts.SoundViews.Sure, Counts.SoundViews.sound-passes}
+use Rattle.executor_model.proofs.{OneFuture.Effects.Effect, OneFuture.Effects.turned-keeps, OneFuture.EffectsWays.Effects}
 
 -- it went or is about to be dropped, or the poll that it came of has still to end, or it is there with its handle
 pub record Settled (x : Seen) : Type 0 where
@@ -83,28 +65,28 @@ KeepsSettled w old d = (g : ℕ) (r : Pend) (y : Extra) → Sure (seen w g (with
     Settled (seen w g (with_ops g old r) (with_extra g old y)) →
     Settled (seen d.world g (with_ops g d.next r) (with_extra g d.next y))
 
-settle-enters : (mark : Mark) (p : ℕ) (w : World) → KeepsSettled w (op.Table (table_op.Enter mark) ∷ []) (enter_by false false mark p w)
+settle-enters : (mark : Mark) (p : ℕ) (w : World) → KeepsSettled w (Op.Table (TableOp.Enter mark) ∷ []) (enter_by false false mark p w)
 settle-enters mark p w g r y b h = grind (arith, same_is, fresh_is, read_push, outputs-push, readies-push)
 
-settle-drops : (p f : ℕ) (w : World) → KeepsSettled w (op.User (user_op.BeginDrop f) ∷ []) (begin_drop p w f)
+settle-drops : (p f : ℕ) (w : World) → KeepsSettled w (Op.User (UserOp.BeginDrop f) ∷ []) (begin_drop p w f)
 settle-drops p f w g r y b h = grind (arith, outputs-push, readies-push)
 
-settle-takes_out : (ls ws : List ℕ) (w : World) → KeepsSettled w (op.Closing closing_op.TakeOut ∷ [])
+settle-takes_out : (ls ws : List ℕ) (w : World) → KeepsSettled w (Op.Closing ClosingOp.TakeOut ∷ [])
     (done (record w { table = w.leaving; leaving = w.table }) (closing_ops ls ws))
 settle-takes_out [] [] w g r y b h = grind arith
 settle-takes_out [] (x ∷ ws) w g r y b h = grind arith
 settle-takes_out (x ∷ ls) ws w g r y b h = grind arith
 
 settle-drops_next : (ls ws : List ℕ) (p : ℕ) (w : World) (f : ℕ) (rest : List ℕ) →
-    KeepsSettled w (op.Closing closing_op.DropNext ∷ [])
+    KeepsSettled w (Op.Closing ClosingOp.DropNext ∷ [])
     (done (log (record w { leaving = rest; waking = w.waking ++ f ∷ []; inside = slice_set w.inside f false })
-    (event.Dropped p f)) (op.User (user_op.Drop f) ∷ closing_ops ls ws))
+    (Event.Dropped p f)) (Op.User (UserOp.Drop f) ∷ closing_ops ls ws))
 settle-drops_next [] [] p w f rest g r y b h = grind (arith, outputs-push, readies-push)
 settle-drops_next [] (x ∷ ws) p w f rest g r y b h = grind (arith, outputs-push, readies-push)
 settle-drops_next (x ∷ ls) ws p w f rest g r y b h = grind (arith, outputs-push, readies-push)
 
 settle-leaks_out : (w : World) → w.is_static ≡ false → w.gone ≡ false →
-    KeepsSettled w (op.Closing closing_op.LeakOut ∷ []) (leak_out_by false w)
+    KeepsSettled w (Op.Closing ClosingOp.LeakOut ∷ []) (leak_out_by false w)
 settle-leaks_out w s n g r y k h = leaks_out-keeps Settled (λ x s n t h. grind arith) w s n g r y h
 
 settle-leaked : (d : Done) (p f g : ℕ) (r : Pend) (y : Extra) → HasAsked d.world f → Settled (seen d.world g r y) →
@@ -125,17 +107,17 @@ settle-effect w old d (drops_next p f rest e) g r y b h = settle-drops_next rest
 settle-effect w old d (leaks_out s n) g r y b h = settle-leaks_out w s n g r y b h
 settle-effect w old _ (leaks d p f e a) g r y b h = settle-leaked d p f g _ _ a (settle-effect w _ d e g r y b h)
 
-settle-pends : (p f : ℕ) (w : World) → KeepsSettled w (op.User (user_op.Poll f) ∷ [])
-    (done (log w (event.Answered p f answer.Pending)) (op.Table (table_op.PutBack f) ∷ []))
+settle-pends : (p f : ℕ) (w : World) → KeepsSettled w (Op.User (UserOp.Poll f) ∷ [])
+    (done (log w (Event.Answered p f Answer.Pending)) (Op.Table (TableOp.PutBack f) ∷ []))
 settle-pends p f w g r y b h = grind (arith, outputs-push, readies-push)
 
-settle-readies : (p f : ℕ) (w : World) → KeepsSettled w (op.User (user_op.Poll f) ∷ [])
-    (done (log w (event.Answered p f answer.Ready)) (op.User (user_op.BeginDrop f) ∷ op.Move move.EndReady f ∷ []))
+settle-readies : (p f : ℕ) (w : World) → KeepsSettled w (Op.User (UserOp.Poll f) ∷ [])
+    (done (log w (Event.Answered p f Answer.Ready)) (Op.User (UserOp.BeginDrop f) ∷ Op.Move Move.EndReady f ∷ []))
 settle-readies p f w g r y b h = grind (arith, outputs-push, readies-push)
 
 settle-closes : (p : ℕ) (w : World) → KeepsSettled w []
-    (done (log (record (log w (event.CallBegun p call.DropExecutor)) { gone = true }) (event.DropBegun p))
-    (op.Closing closing_op.TakeOut ∷ op.End reply.Done hold.Nothing ∷ []))
+    (done (log (record (log w (Event.CallBegun p Call.DropExecutor)) { gone = true }) (Event.DropBegun p))
+    (Op.Closing ClosingOp.TakeOut ∷ Op.End Reply.Done Hold.Nothing ∷ []))
 settle-closes p w g r y b h = grind (arith, outputs-push, readies-push)
 
 -- whatever a party does

@@ -2,34 +2,24 @@
 -- Where no call is in progress, the output of a future that was ready has gone, once, or the next poll of the handle is
 -- given it.
 use Rattle.std.proofs.Common.{◌≡◌, ◌⊎◌, ℕ, ◌+◌, ◌≤◌, List, [], ◌∷◌, true, false, inl, inr, ⊎_elim, arith}
-use Rattle.executor_model.specs.declared.kind.Kind.{Kind}
-use Rattle.executor_model.specs.declared.call.Reply.{Reply}
-use Rattle.executor_model.specs.declared.event.Event.TheVariants as event
-use Rattle.executor_model.specs.declared.op.Hold.{Hold}
-use Rattle.executor_model.specs.declared.op.Op.TheVariants as op
-use Rattle.executor_model.specs.declared.step.Step.{Step}
-use Rattle.executor_model.specs.OutputOnce.{OutputGoesOnce}
+use Rattle.executor_model.proofs.Types.{Kind, Reply, Event, Hold, Op, Step}
 use Rattle.executor_model.specs.OutputSettled.{CanTake, HasGone, OutputIsSettled}
-use Rattle.executor_model.specs.Rows.{handling_of, ready_of}
-use Rattle.executor_model.specs.Sound.{Pend, pend, with_ops}
-use Rattle.executor_model.specs.Steps.{Machine, run, stack, start}
-use Rattle.executor_model.specs.Trace.{Trace, has, is_ready}
-use Rattle.executor_model.specs.Weights.{weigh_all}
-use Rattle.executor_model.specs.World.{World, log, task}
+use Rattle.executor_model.specs.{OutputOnce.OutputGoesOnce, Rows.handling_of, Rows.ready_of, Sound.Pend, Sound.pend}
+use Rattle.executor_model.specs.{Sound.with_ops, Steps.Machine, Steps.run, Steps.stack, Steps.start, Trace.Trace, Trace.has}
+use Rattle.executor_model.specs.{Trace.is_ready, Weights.weigh_all, World.World, World.log, World.task}
+use Rattle.executor_model.proofs.OneFuture.Extras.{Extra, extra, no_extra, outs_of, storing_of, taking_of, telling_of}
 use Rattle.executor_model.proofs.OneFuture.EffectsWays.{each-run, view}
-use Rattle.executor_model.proofs.OneFuture.Extras.{Extra, extra, no_extra, outs_of, storing_of, taking_of, telling_of, with_extra}
 use Rattle.executor_model.proofs.OneFuture.Tallies.{outputs, outputs-none, outputs-push, readies, readies-none, readies-push}
-use Rattle.executor_model.proofs.OneFuture.Telling.{counted-there}
-use Rattle.executor_model.proofs.OneFuture.Views.{none, seen}
 use Rattle.executor_model.proofs.Outputs.KeepingExecutions.{Stores, stores}
-use Rattle.executor_model.proofs.Outputs.OutputExecutions.{output-goes-once}
 use Rattle.executor_model.proofs.Outputs.OutputKept.{Waits, gives-output, no-true}
 use Rattle.executor_model.proofs.Outputs.Settled.{Settled, settle-act}
 use Rattle.executor_model.proofs.Quiet.Resting.{Deep, all-rest, deep, rests}
+use Rattle.executor_model.proofs.{OneFuture.Extras.with_extra, OneFuture.Telling.counted-there, OneFuture.Views.none}
+use Rattle.executor_model.proofs.{OneFuture.Views.seen, Outputs.OutputExecutions.output-goes-once}
 
 settled-end : (w : World) (p : ℕ) (a : Reply) (held : Hold) (g : ℕ) (r : Pend) (y : Extra) →
-    Settled (seen w g (with_ops g (op.End a held ∷ []) r) (with_extra g (op.End a held ∷ []) y)) →
-    Settled (seen (log w (event.CallEnded p a)) g (with_ops g [] r) (with_extra g [] y))
+    Settled (seen w g (with_ops g (Op.End a held ∷ []) r) (with_extra g (Op.End a held ∷ []) y)) →
+    Settled (seen (log w (Event.CallEnded p a)) g (with_ops g [] r) (with_extra g [] y))
 settled-end w p a held g r y h = grind (arith, outputs-push, readies-push)
 
 none-settled : (limit : ℕ) (kind : Kind) (g : ℕ) → Settled (seen (start limit kind 0).world g none no_extra)

@@ -2,23 +2,12 @@
 -- What the counts of own queues see of the beginning of a call and of the end of user code, and what these change.
 use Rattle.std.proofs.Common.{◌≡◌, ℕ, ◌+◌, List, true, refl, arith}
 use Rattle.std.specs.Prelude.{Option, Some, None}
-use Rattle.executor_model.specs.declared.call.Call.{Call}
-use Rattle.executor_model.specs.declared.call.Call.TheVariants as call
-use Rattle.executor_model.specs.declared.event.Answer.TheVariants as answer
-use Rattle.executor_model.specs.declared.event.Event.TheVariants as event
-use Rattle.executor_model.specs.declared.op.Op.{Op}
-use Rattle.executor_model.specs.declared.op.Op.TheVariants as op
-use Rattle.executor_model.specs.declared.op.RunPoll.{RunPoll}
-use Rattle.executor_model.specs.declared.op.UserOp.TheVariants as user_op
-use Rattle.executor_model.specs.declared.op.Waker.{Waker}
-use Rattle.executor_model.specs.declared.step.UserEnd.{UserEnd}
-use Rattle.executor_model.specs.declared.step.UserEnd.TheVariants as end
+use Rattle.executor_model.proofs.Types.{Call, Answer, Event, Op, RunPoll, UserOp, Waker, UserEnd}
 use Rattle.executor_model.specs.OwnQueues.{empty_of, filling_of, reads_of, writes_of}
 use Rattle.executor_model.specs.Steps.{accepts, begun, drop_run, future_of, kept, poll_run, react, with_future}
 use Rattle.executor_model.specs.Weights.{weigh}
 use Rattle.executor_model.specs.World.{World, Stage, New, Listed, Ended, Done, done, log}
-use Rattle.executor_model.proofs.Steps.Lists.{weigh-below}
-use Rattle.executor_model.proofs.OwnQueues.RunsAside.{hull, hull-run}
+use Rattle.executor_model.proofs.{Steps.Lists.weigh-below, OwnQueues.RunsAside.hull, OwnQueues.RunsAside.hull-run}
 
 module _ (r : ℕ) where
   -- room that a steal may fill, sections and walks under the lock, and a search that found the own queue empty
@@ -46,14 +35,14 @@ module _ (r : ℕ) where
   uncounted w v next e z = record { hull = e; counts = z }
 
   pub counts-react : (p : ℕ) (o : Op) (u : UserEnd) (w : World) → accepts o u ≡ true → Uncounted w (react p o u w)
-  counts-react p (op.User (user_op.Poll f)) (end.Polled answer.Pending) w a = uncounted w _ _ refl refl
-  counts-react p (op.User (user_op.Poll f)) (end.Polled answer.Ready) w a = uncounted w _ _ refl refl
-  counts-react p (op.User (user_op.Drop f)) end.Done w a = uncounted w _ _ refl refl
-  counts-react p (op.User (user_op.DropOutput f)) end.Done w a = uncounted w _ _ refl refl
-  counts-react p (op.User (user_op.CallOutside x)) end.Done w a = uncounted w _ _ refl refl
-  counts-react p (op.User (user_op.PollOwn x)) (end.Polled answer.Pending) w a = uncounted w _ _ refl refl
-  counts-react p (op.User (user_op.PollOwn x)) (end.Polled answer.Ready) w a = uncounted w _ _ refl refl
-  counts-react p (op.User (user_op.DropOwn q)) end.Done w a = uncounted w _ _ refl refl
+  counts-react p (Op.User (UserOp.Poll f)) (UserEnd.Polled Answer.Pending) w a = uncounted w _ _ refl refl
+  counts-react p (Op.User (UserOp.Poll f)) (UserEnd.Polled Answer.Ready) w a = uncounted w _ _ refl refl
+  counts-react p (Op.User (UserOp.Drop f)) UserEnd.Done w a = uncounted w _ _ refl refl
+  counts-react p (Op.User (UserOp.DropOutput f)) UserEnd.Done w a = uncounted w _ _ refl refl
+  counts-react p (Op.User (UserOp.CallOutside x)) UserEnd.Done w a = uncounted w _ _ refl refl
+  counts-react p (Op.User (UserOp.PollOwn x)) (UserEnd.Polled Answer.Pending) w a = uncounted w _ _ refl refl
+  counts-react p (Op.User (UserOp.PollOwn x)) (UserEnd.Polled Answer.Ready) w a = uncounted w _ _ refl refl
+  counts-react p (Op.User (UserOp.DropOwn q)) UserEnd.Done w a = uncounted w _ _ refl refl
   counts-react p _ _ w a = absurd (cc)
 
   counts-with : (w v : World) (x : Option ℕ) (d : ℕ → Done) → hull w ≡ hull v → ((f : ℕ) → Uncounted w (d f)) →
@@ -72,19 +61,19 @@ module _ (r : ℕ) where
   counts-drop w v Ended q e = uncounted w v _ e refl
 
   pub counts-begun : (p : ℕ) (w : World) (here : Option Waker) (c : Call) →
-      Uncounted w (begun p (log w (event.CallBegun p c)) here c)
-  counts-begun p w here (call.Wake n) =
-      counts-with w (log w (event.CallBegun p (call.Wake n))) (kept w n) _ refl (λ f. uncounted w _ _ refl refl)
-  counts-begun p w here (call.WakeByRef n) =
-      counts-with w (log w (event.CallBegun p (call.WakeByRef n))) (kept w n) _ refl (λ f. uncounted w _ _ refl refl)
-  counts-begun p w here (call.Copy n) =
-      counts-with w (log w (event.CallBegun p (call.Copy n))) (kept w n) _ refl (λ f. uncounted w _ _ refl refl)
-  counts-begun p w here (call.DropWaker n) =
-      counts-with w (log w (event.CallBegun p (call.DropWaker n))) (kept w n) _ refl (λ f. uncounted w _ _ refl refl)
-  counts-begun p w here call.Keep =
-      counts-with w (log w (event.CallBegun p call.Keep)) (future_of here) _ refl (λ f. uncounted w _ _ refl refl)
-  counts-begun p w here call.WakeSelf =
-      counts-with w (log w (event.CallBegun p call.WakeSelf)) (future_of here) _ refl (λ f. uncounted w _ _ refl refl)
-  counts-begun p w here (call.PollRun q b) = counts-poll w _ _ _ refl
-  counts-begun p w here (call.DropRun q) = counts-drop w _ _ q (hull-run w q _ refl)
+      Uncounted w (begun p (log w (Event.CallBegun p c)) here c)
+  counts-begun p w here (Call.Wake n) =
+      counts-with w (log w (Event.CallBegun p (Call.Wake n))) (kept w n) _ refl (λ f. uncounted w _ _ refl refl)
+  counts-begun p w here (Call.WakeByRef n) =
+      counts-with w (log w (Event.CallBegun p (Call.WakeByRef n))) (kept w n) _ refl (λ f. uncounted w _ _ refl refl)
+  counts-begun p w here (Call.Copy n) =
+      counts-with w (log w (Event.CallBegun p (Call.Copy n))) (kept w n) _ refl (λ f. uncounted w _ _ refl refl)
+  counts-begun p w here (Call.DropWaker n) =
+      counts-with w (log w (Event.CallBegun p (Call.DropWaker n))) (kept w n) _ refl (λ f. uncounted w _ _ refl refl)
+  counts-begun p w here Call.Keep =
+      counts-with w (log w (Event.CallBegun p Call.Keep)) (future_of here) _ refl (λ f. uncounted w _ _ refl refl)
+  counts-begun p w here Call.WakeSelf =
+      counts-with w (log w (Event.CallBegun p Call.WakeSelf)) (future_of here) _ refl (λ f. uncounted w _ _ refl refl)
+  counts-begun p w here (Call.PollRun q b) = counts-poll w _ _ _ refl
+  counts-begun p w here (Call.DropRun q) = counts-drop w _ _ q (hull-run w q _ refl)
   counts-begun p w here _ = uncounted w _ _ refl refl

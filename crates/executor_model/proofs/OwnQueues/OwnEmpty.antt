@@ -1,43 +1,24 @@
 -- For own_queues_agree.
 -- A run that has found its own queue empty, and searches on or falls asleep, has it empty still, as it alone appends
 -- there.
-use Rattle.std.proofs.Common.{◌≡◌, ◌≢◌, ◌∙◌, ℕ, ◌+◌, ◌<◌, ◌≤◌, ◌%◌, List, [], ◌∷◌, ◌++◌}
-use Rattle.std.proofs.Common.{length, get_or, set, Bool, true, false, eqb, refl, ap, ⊎_elim}
-use Rattle.std.proofs.Common.{arith}
+use Rattle.std.proofs.Common.{◌≡◌, ◌≢◌, ◌∙◌, ℕ, ◌+◌, ◌<◌, ◌≤◌, ◌%◌, List, [], ◌∷◌, ◌++◌, length, get_or, set, Bool, true, false}
+use Rattle.std.proofs.Common.{eqb, refl, ap, ⊎_elim, arith}
 use Rattle.std.specs.Prelude.{reverse}
-use Rattle.executor_model.specs.declared.call.Reply.{Reply}
-use Rattle.executor_model.specs.declared.event.Event.TheVariants as event
-use Rattle.executor_model.specs.declared.op.Hold.{Hold}
-use Rattle.executor_model.specs.declared.op.ListOp.{ListOp}
-use Rattle.executor_model.specs.declared.op.ListOp.TheVariants as list_op
-use Rattle.executor_model.specs.declared.op.Op.{Op}
-use Rattle.executor_model.specs.declared.op.Op.TheVariants as op
-use Rattle.executor_model.specs.declared.op.RunOp.TheVariants as run_op
-use Rattle.executor_model.specs.declared.op.RunPoll.{RunPoll}
-use Rattle.executor_model.specs.declared.op.Section.TheVariants as section
-use Rattle.executor_model.specs.declared.op.Steal.{Steal}
-use Rattle.executor_model.specs.declared.op.StealOp.TheVariants as steal_op
-use Rattle.executor_model.specs.declared.op.TickOp.TheVariants as tick_op
-use Rattle.executor_model.specs.declared.step.Hint.{Hint}
-use Rattle.executor_model.specs.ActsOfRuns as runs
-use Rattle.executor_model.specs.Doing.{list_act}
-use Rattle.executor_model.specs.OwnQueues.{empty_of}
-use Rattle.executor_model.specs.Rows.{running_of}
-use Rattle.executor_model.specs.Steps.{Machine, begun, mine, react, stack, top}
-use Rattle.executor_model.specs.Weights.{same, weigh, weigh_all}
-use Rattle.executor_model.specs.Weights as weights
-use Rattle.executor_model.specs.World.{World, Done, done, log}
-use Rattle.executor_model.specs.World.{own_of, put_own}
-use Rattle.executor_model.proofs.Steps.Lift.{split, unsettled}
-use Rattle.executor_model.proofs.Steps.Lists.{same_cases, weigh_all-push}
-use Rattle.executor_model.proofs.OwnQueues.OwnCounts.{counts-begun, counts-empty, counts-react}
-use Rattle.executor_model.proofs.OwnQueues.RunsDone.{to_walk, walk_ends, walk_on}
-use Rattle.executor_model.proofs.OwnQueues.RunsDone.{Deed, keeps, takes, lacks, shares, grows, wakes, lists, deed-act, is_loud, loud}
-use Rattle.executor_model.proofs.OwnQueues.RunsDone.{loud-weigh, walks-by, Stole, More, no_more, one_more, Walks, Missing}
-use Rattle.executor_model.proofs.OwnQueues.RunsDone.{misses_there, Leads, turns, finds, stole, looks}
+use Rattle.executor_model.proofs.Types.{Reply, Event, Hold, ListOp, Op, RunOp, RunPoll, Section, Steal, StealOp, TickOp, Hint}
+use Rattle.executor_model.specs.World.{World, Done, done, log, own_of, put_own}
+use Rattle.executor_model.specs.{Doing.list_act, OwnQueues.empty_of, Rows.running_of, Steps.Machine, Steps.begun, Steps.mine}
+use Rattle.executor_model.specs.{Steps.react, Steps.stack, Steps.top, Weights.same, Weights.weigh, Weights.weigh_all}
+use Rattle.executor_model.proofs.OwnQueues.RunsDone.{to_walk, walk_ends, walk_on, Deed, keeps, takes, lacks, shares, grows}
+use Rattle.executor_model.proofs.OwnQueues.RunsDone.{wakes, lists, deed-act, is_loud, loud, loud-weigh, walks-by, Stole, More}
+use Rattle.executor_model.proofs.OwnQueues.RunsDone.{no_more, one_more, Walks, Missing, misses_there, Leads, turns, finds}
 use Rattle.executor_model.proofs.OwnQueues.OwnRooms.{of_coat, Shorter, grown, made-length, needed, of_hull, same-own}
+use Rattle.executor_model.proofs.OwnQueues.OwnCounts.{counts-begun, counts-empty, counts-react}
+use Rattle.executor_model.proofs.OwnQueues.RunsDone.{stole, looks}
 use Rattle.executor_model.proofs.OwnQueues.OwnRooms.{shorter-taken, registered-own}
 use Rattle.executor_model.proofs.Steps.Ways.{Way, acted, reacted, called}
+use Rattle.executor_model.proofs.{Steps.Lift.split, Steps.Lift.unsettled, Steps.Lists.same_cases, Steps.Lists.weigh_all-push}
+use Rattle.executor_model.specs.ActsOfRuns as runs
+use Rattle.executor_model.specs.Weights as weights
 
 -- it is so still where old is done, beside others who use the run m times, and have found it empty k times, never
 -- where they
@@ -71,12 +52,12 @@ empty-there w old d q o s f = record {
 }
 
 quiet-empty : (r : ℕ) (o : Op) → is_loud o ≡ false → empty_of r o ≡ 0
-quiet-empty r (op.Tick (tick_op.Look s look)) e = absurd (cc)
-quiet-empty r (op.Tick (tick_op.CopyWaker s)) e = absurd (cc)
-quiet-empty r (op.Tick (tick_op.FallAsleep s)) e = absurd (cc)
-quiet-empty r (op.List o) e = absurd (cc)
-quiet-empty r (op.Run (run_op.TakeTurn x)) e = absurd (cc)
-quiet-empty r (op.Run (run_op.SearchCommon x look)) e = absurd (cc)
+quiet-empty r (Op.Tick (TickOp.Look s look)) e = absurd (cc)
+quiet-empty r (Op.Tick (TickOp.CopyWaker s)) e = absurd (cc)
+quiet-empty r (Op.Tick (TickOp.FallAsleep s)) e = absurd (cc)
+quiet-empty r (Op.List o) e = absurd (cc)
+quiet-empty r (Op.Run (RunOp.TakeTurn x)) e = absurd (cc)
+quiet-empty r (Op.Run (RunOp.SearchCommon x look)) e = absurd (cc)
 quiet-empty r _ e = refl
 
 stays-of : (w : World) (o : Op) (d : Done) → Shorter w d.world →
@@ -111,7 +92,7 @@ leads-empty r o os _ = omega arith
 
 empty-grows : (w : World) (s : Steal) (i f : ℕ) (d : Done) →
     Shorter (put_own w s.poll.run (own_of w s.poll.run ++ f ∷ [])) d.world → More s i (loud d.next) →
-    KeepsEmpty w (op.Steal (steal_op.Put s i f) ∷ []) d
+    KeepsEmpty w (Op.Steal (StealOp.Put s i f) ∷ []) d
 empty-grows w s i f d y g = record {
   on = λ r m k n u z e h l.
       let v = put_own w s.poll.run (own_of w s.poll.run ++ f ∷ []) in
@@ -128,18 +109,18 @@ empty-grows w s i f d y g = record {
 
 -- the list
 
-empty-make : (b : Bool) (w : World) → KeepsEmpty w (op.List (list_op.Write section.MakeRun) ∷ []) (runs.make_run_by b w)
+empty-make : (b : Bool) (w : World) → KeepsEmpty w (Op.List (ListOp.Write Section.MakeRun) ∷ []) (runs.make_run_by b w)
 empty-make true w = stays w _ _ (same-own w w refl) (λ r. omega arith)
 empty-make false w = record {
   on = λ r m k n u z e h l. no-length (get_or (w.own ++ [] ∷ []) r [])
       (omega (arith, made-length w.own r, ap (λ (xs : List ℕ). length xs) (h (omega (arith, l, e)))));
 }
 
-empty-list : (h : Hint) (o : ListOp) (w : World) → KeepsEmpty w (op.List o ∷ []) (list_act h o w)
-empty-list h (list_op.Write section.MakeRun) w = empty-make h.refused w
-empty-list h (list_op.Write (section.Register x)) w =
+empty-list : (h : Hint) (o : ListOp) (w : World) → KeepsEmpty w (Op.List o ∷ []) (list_act h o w)
+empty-list h (ListOp.Write Section.MakeRun) w = empty-make h.refused w
+empty-list h (ListOp.Write (Section.Register x)) w =
     stays w _ _ (same-own w _ (registered-own _ w x.run)) (λ r. omega arith)
-empty-list h (list_op.LockRead x) w = stays-of w _ (runs.lock_read h w x) (same-own w _ refl)
+empty-list h (ListOp.LockRead x) w = stays-of w _ (runs.lock_read h w x) (same-own w _ refl)
     (λ r. walks-empty r x _ (walks-by x w.listed (h.start % length w.listed) (length w.listed)))
 empty-list h _ w = stays w _ _ (same-own w _ refl) (λ r. omega arith)
 
@@ -164,7 +145,7 @@ empty-way s p old rest d (reacted o u a q z) =
     (λ r. omega (arith, counts-empty r _ (counts-react r p o u s.world a).counts)))
 empty-way s p old rest d (called c q r n z) =
     let here = mine (top (stack s p)) in
-    rw (z, q) (stays s.world [] (begun p (log s.world (event.CallBegun p c)) here c)
+    rw (z, q) (stays s.world [] (begun p (log s.world (Event.CallBegun p c)) here c)
     (of_hull s.world _ (counts-begun 0 p s.world here c).hull)
     (λ k. omega (arith, counts-empty k _ (counts-begun k p s.world here c).counts)))
 
@@ -172,12 +153,12 @@ empty-way s p old rest d (called c q r n z) =
 
 -- who has found the own queue empty uses the run
 empty-uses : (r : ℕ) (o : Op) → running_of r o ≡ 0 → empty_of r o ≡ 0
-empty-uses r (op.Run (run_op.TakeTurn x)) z = z
-empty-uses r (op.Run (run_op.SearchCommon x look)) z = z
-empty-uses r (op.List (list_op.LockRead x)) z = z
-empty-uses r (op.Tick (tick_op.Look s look)) z = z
-empty-uses r (op.Tick (tick_op.CopyWaker s)) z = z
-empty-uses r (op.Tick (tick_op.FallAsleep s)) z = z
+empty-uses r (Op.Run (RunOp.TakeTurn x)) z = z
+empty-uses r (Op.Run (RunOp.SearchCommon x look)) z = z
+empty-uses r (Op.List (ListOp.LockRead x)) z = z
+empty-uses r (Op.Tick (TickOp.Look s look)) z = z
+empty-uses r (Op.Tick (TickOp.CopyWaker s)) z = z
+empty-uses r (Op.Tick (TickOp.FallAsleep s)) z = z
 empty-uses r _ z = refl
 
 abbrev pub EmptyMeanwhile : Machine → Type 0
@@ -195,11 +176,11 @@ empty-moves s p old rest d l e way once h r =
     (λ z. h r (omega (arith, z, split (empty_of r) s.parties p old rest l e)))
 
 pub empty-ends : (s : Machine) (p : ℕ) (a : Reply) (held : Hold) (below : List Op) → p < length s.parties →
-    stack s p ≡ below ++ reverse (op.End a held ∷ []) → EmptyMeanwhile s →
-    EmptyMeanwhile (unsettled s p below (done (log s.world (event.CallEnded p a)) []))
+    stack s p ≡ below ++ reverse (Op.End a held ∷ []) → EmptyMeanwhile s →
+    EmptyMeanwhile (unsettled s p below (done (log s.world (Event.CallEnded p a)) []))
 empty-ends s p a held below l e h r z = h r (omega (
   arith,
   z,
-  split (empty_of r) s.parties p (op.End a held ∷ []) below l e,
+  split (empty_of r) s.parties p (Op.End a held ∷ []) below l e,
   weigh_all-push (empty_of r) s.parties p below [] l,
 ))

@@ -3,22 +3,14 @@
 -- found so.
 use Rattle.std.proofs.Common.{◌≡◌, ℕ, ◌<◌, List, [], ◌∷◌, ◌++◌, length, arith}
 use Rattle.std.specs.Prelude.{reverse}
-use Rattle.executor_model.specs.declared.kind.Kind.{Kind}
-use Rattle.executor_model.specs.declared.call.Reply.{Reply}
-use Rattle.executor_model.specs.declared.event.Event.TheVariants as event
-use Rattle.executor_model.specs.declared.op.Hold.{Hold}
-use Rattle.executor_model.specs.declared.op.Op.{Op}
-use Rattle.executor_model.specs.declared.op.Op.TheVariants as op
-use Rattle.executor_model.specs.declared.step.Step.{Step}
-use Rattle.executor_model.specs.Good.{Good}
 use Rattle.executor_model.specs.OwnQueues.{HasOwnRoom, IsEmptyMeanwhile, empty_of, filling_of}
 use Rattle.executor_model.specs.Steps.{Machine, run, stack, start}
-use Rattle.executor_model.specs.World.{Done, done, log}
-use Rattle.executor_model.proofs.Steps.Lift.{good-start, unsettled, weigh_all-idle}
+use Rattle.executor_model.specs.{Good.Good, World.Done, World.done, World.log}
 use Rattle.executor_model.proofs.OwnQueues.OwnEmpty.{EmptyMeanwhile, empty-ends, empty-moves}
 use Rattle.executor_model.proofs.OwnQueues.OwnRooms.{Roomy, roomy-ends, roomy-moves}
 use Rattle.executor_model.proofs.OwnQueues.UsingSteps.{AllUsed, used-ends, used-moves, used-start}
-use Rattle.executor_model.proofs.Steps.Ways.{Way, along}
+use Rattle.executor_model.proofs.{Types.Kind, Types.Reply, Types.Event, Types.Hold, Types.Op, Types.Step, Steps.Lift.good-start}
+use Rattle.executor_model.proofs.{Steps.Lift.unsettled, Steps.Lift.weigh_all-idle, Steps.Ways.Way, Steps.Ways.along}
 
 record Owning (s : Machine) : Type 0 where
   pub used : AllUsed s
@@ -34,8 +26,8 @@ owning-moves s p old rest d good l e way k = record {
 }
 
 owning-ends : (s : Machine) (p : ℕ) (a : Reply) (held : Hold) (below : List Op) → p < length s.parties →
-    stack s p ≡ below ++ reverse (op.End a held ∷ []) → Owning s →
-    Owning (unsettled s p below (done (log s.world (event.CallEnded p a)) []))
+    stack s p ≡ below ++ reverse (Op.End a held ∷ []) → Owning s →
+    Owning (unsettled s p below (done (log s.world (Event.CallEnded p a)) []))
 owning-ends s p a held below l e k = record {
   used = used-ends s p a held below l e k.used;
   roomy = roomy-ends s p a held below l e k.roomy;

@@ -1,32 +1,18 @@
 -- For own_queues_agree.
 -- The list of queues holds that of each run that is listed once, and no other.
-use Rattle.std.proofs.Common.{◌≡◌, ◌≢◌, ◌∙◌, ℕ, zero, suc, ◌+◌, ◌<◌, ◌≤◌, List, [], ◌∷◌, ◌++◌, length, get_or}
-use Rattle.std.proofs.Common.{set, Bool, true, false, eqb, refl, sym, ap, subst, ⊎_elim, arith, get_or-set_same}
-use Rattle.std.proofs.Common.{get_or-set_other}
+use Rattle.std.proofs.Common.{◌≡◌, ◌≢◌, ◌∙◌, ℕ, zero, suc, ◌+◌, ◌<◌, ◌≤◌, List, [], ◌∷◌, ◌++◌, length, get_or, set, Bool, true}
+use Rattle.std.proofs.Common.{false, eqb, refl, sym, ap, subst, ⊎_elim, arith, get_or-set_same, get_or-set_other}
 use Rattle.std.proofs.lemmas.Bool.Decides.{nat_tests}
-use Rattle.executor_model.specs.declared.kind.Kind.{Kind}
-use Rattle.executor_model.specs.declared.event.Event.TheVariants as event
-use Rattle.executor_model.specs.declared.op.ListOp.{ListOp}
-use Rattle.executor_model.specs.declared.op.ListOp.TheVariants as list_op
-use Rattle.executor_model.specs.declared.op.Op.{Op}
-use Rattle.executor_model.specs.declared.op.Section.TheVariants as section
-use Rattle.executor_model.specs.declared.step.Hint.{Hint}
-use Rattle.executor_model.specs.declared.step.Step.{Step}
-use Rattle.executor_model.specs.ActsOfRuns as runs
-use Rattle.executor_model.specs.Doing.{list_act}
-use Rattle.executor_model.specs.OwnQueues.{ListAgrees, is_listed}
-use Rattle.executor_model.specs.Sound.{times}
+use Rattle.executor_model.proofs.Types.{Kind, Event, ListOp, Op, Section, Hint, Step}
 use Rattle.executor_model.specs.Steps.{Machine, begun, mine, react, run, stack, start, top}
-use Rattle.executor_model.specs.Weights.{same}
-use Rattle.executor_model.specs.World.{World, Stage, New, Listed, Ended, Done, log, own_of, put_own, run_of}
-use Rattle.executor_model.specs.World.{without}
-use Rattle.executor_model.proofs.Steps.Lift.{good-start}
-use Rattle.executor_model.proofs.Steps.Lists.{same_cases, times-append}
+use Rattle.executor_model.specs.World.{World, Stage, New, Listed, Ended, Done, log, own_of, put_own, run_of, without}
+use Rattle.executor_model.specs.{Doing.list_act, OwnQueues.ListAgrees, OwnQueues.is_listed, Sound.times, Weights.same}
 use Rattle.executor_model.proofs.OwnQueues.OwnCounts.{counts-begun, counts-react}
-use Rattle.executor_model.proofs.OwnQueues.RunsAside.{Hull, hull, hull_of, stages, stages-at, stages-push}
-use Rattle.executor_model.proofs.OwnQueues.RunsAside.{stages-set}
+use Rattle.executor_model.proofs.OwnQueues.RunsAside.{Hull, hull, hull_of, stages, stages-at, stages-push, stages-set}
 use Rattle.executor_model.proofs.OwnQueues.RunsDone.{Deed, keeps, takes, lacks, shares, grows, wakes, lists, deed-act}
 use Rattle.executor_model.proofs.Steps.Ways.{Way, acted, reacted, called, along}
+use Rattle.executor_model.proofs.{Steps.Lift.good-start, Steps.Lists.same_cases, Steps.Lists.times-append}
+use Rattle.executor_model.specs.ActsOfRuns as runs
 
 abbrev IsListedWell : List Stage → List ℕ → ℕ → Type 0
 IsListedWell ss ls r = times r ls ≡ is_listed (get_or ss r Ended)
@@ -130,9 +116,9 @@ listed-register Listed w q e = still w w refl
 listed-register Ended w q e = still w w refl
 
 listed-list : (h : Hint) (o : ListOp) (w : World) → KeepsListed w (list_act h o w).world
-listed-list h (list_op.Write section.MakeRun) w = listed-make h.refused w
-listed-list h (list_op.Write (section.Register x)) w = listed-register _ w x.run refl
-listed-list h (list_op.Write (section.Unregister q a)) w = λ r k.
+listed-list h (ListOp.Write Section.MakeRun) w = listed-make h.refused w
+listed-list h (ListOp.Write (Section.Register x)) w = listed-register _ w x.run refl
+listed-list h (ListOp.Write (Section.Unregister q a)) w = λ r k.
     subst (λ (ss : List Stage). IsListedWell ss (without q w.listed) r)
     (sym (stages-set w.runs q (record (run_of w q) { stage = Ended }))) (goes (stages w.runs) w.listed q r k)
 listed-list h _ w = λ r k. k
@@ -156,7 +142,7 @@ listed-way s p old rest d (acted h o q z) = rw z (listed-deed s.world o _ (deed-
 listed-way s p old rest d (reacted o u a q z) =
     rw z (still s.world (react p o u s.world).world (counts-react 0 p o u s.world a).hull)
 listed-way s p old rest d (called c q r n z) =
-    rw z (still s.world (begun p (log s.world (event.CallBegun p c)) (mine (top (stack s p))) c).world
+    rw z (still s.world (begun p (log s.world (Event.CallBegun p c)) (mine (top (stack s p))) c).world
     (counts-begun 0 p s.world (mine (top (stack s p))) c).hull)
 
 pub lists-agree : (limit : ℕ) (kind : Kind) (n : ℕ) (ts : List Step) (r : ℕ) → ListAgrees (run ts (start limit kind n)) r

@@ -1,42 +1,22 @@
 -- For own_queues_agree.
 -- Who has the lock of the list of queues has one thing still to do under it, or to give it back.
-use Rattle.std.proofs.Common.{◌≡◌, ◌∙◌, ℕ, ◌+◌, ◌<◌, ◌%◌, List, [], ◌∷◌, ◌++◌, length, set}
-use Rattle.std.proofs.Common.{Bool, true, false, ◌||◌, not, eqb, cond, refl, sym, ap, subst, arith}
-use Rattle.std.proofs.lemmas.Bool.Decides.{nat_tests}
-use Rattle.std.specs.Prelude.{reverse}
-use Rattle.executor_model.specs.declared.kind.Kind.{Kind}
-use Rattle.executor_model.specs.declared.call.Reply.{Reply}
-use Rattle.executor_model.specs.declared.event.Event.TheVariants as event
-use Rattle.executor_model.specs.declared.op.Hold.{Hold}
-use Rattle.executor_model.specs.declared.op.ListOp.{ListOp}
-use Rattle.executor_model.specs.declared.op.ListOp.TheVariants as list_op
-use Rattle.executor_model.specs.declared.op.Op.{Op}
-use Rattle.executor_model.specs.declared.op.Op.TheVariants as op
-use Rattle.executor_model.specs.declared.op.RunOp.TheVariants as run_op
-use Rattle.executor_model.specs.declared.op.RunPoll.{RunPoll}
-use Rattle.executor_model.specs.declared.op.Section.{Section}
-use Rattle.executor_model.specs.declared.op.Section.TheVariants as section
-use Rattle.executor_model.specs.declared.op.Steal.{Steal}
-use Rattle.executor_model.specs.declared.step.Hint.{Hint}
-use Rattle.executor_model.specs.declared.step.Step.{Step}
-use Rattle.executor_model.specs.ActsOfRuns as runs
-use Rattle.executor_model.specs.Doing.{list_act}
-use Rattle.executor_model.specs.Good.{Good}
+use Rattle.std.proofs.Common.{◌≡◌, ◌∙◌, ℕ, ◌+◌, ◌<◌, ◌%◌, List, [], ◌∷◌, ◌++◌, length, set, Bool, true, false, ◌||◌, not, eqb}
+use Rattle.std.proofs.Common.{cond, refl, sym, ap, subst, arith}
+use Rattle.std.{proofs.lemmas.Bool.Decides.nat_tests, specs.Prelude.reverse}
+use Rattle.executor_model.proofs.Types.{Kind, Reply, Event, Hold, ListOp, Op, RunOp, RunPoll, Section, Steal, Hint, Step}
 use Rattle.executor_model.specs.OwnQueues.{LockAgrees, reads_of, walks_then, writes_of}
-use Rattle.executor_model.specs.declared.step.UserEnd.{UserEnd}
 use Rattle.executor_model.specs.Steps.{Machine, accepts, begun, is_locked_out, mine, react, run, stack, start, top}
-use Rattle.executor_model.specs.Weights.{weigh, weigh_all}
 use Rattle.executor_model.specs.World.{World, Stage, New, Listed, Ended, Lock, Done, done, log, own_of, put_own}
+use Rattle.executor_model.specs.{Doing.list_act, Good.Good, Weights.weigh, Weights.weigh_all}
+use Rattle.executor_model.proofs.OwnQueues.RunsDone.{to_walk, walk_ends, walk_on, Deed, keeps, takes, lacks, shares, grows}
+use Rattle.executor_model.proofs.OwnQueues.RunsDone.{wakes, lists, deed-act, is_loud, loud, loud-weigh, walks-by, Stole, More}
+use Rattle.executor_model.proofs.OwnQueues.RunsDone.{no_more, one_more, Walks, Missing, misses_there, Leads, quiet, finds}
 use Rattle.executor_model.proofs.Steps.Lift.{good-start, split, unsettled, weigh_all-idle}
-use Rattle.executor_model.proofs.Steps.Lists.{weigh_all-push}
-use Rattle.executor_model.proofs.OwnQueues.OwnCounts.{counts-begun, counts-react, counts-reads}
-use Rattle.executor_model.proofs.OwnQueues.OwnCounts.{counts-writes}
+use Rattle.executor_model.proofs.OwnQueues.OwnCounts.{counts-begun, counts-react, counts-reads, counts-writes}
 use Rattle.executor_model.proofs.OwnQueues.RunsAside.{Hull, hull, hull_of}
-use Rattle.executor_model.proofs.OwnQueues.RunsDone.{to_walk, walk_ends, walk_on}
-use Rattle.executor_model.proofs.OwnQueues.RunsDone.{Deed, keeps, takes, lacks, shares, grows, wakes, lists, deed-act, is_loud, loud}
-use Rattle.executor_model.proofs.OwnQueues.RunsDone.{loud-weigh, walks-by, Stole, More, no_more, one_more, Walks, Missing}
-use Rattle.executor_model.proofs.OwnQueues.RunsDone.{misses_there, Leads, quiet, finds, stole, looks}
 use Rattle.executor_model.proofs.Steps.Ways.{HasWay, Way, acted, reacted, called, along-free}
+use Rattle.executor_model.proofs.{Types.UserEnd, Steps.Lists.weigh_all-push, OwnQueues.RunsDone.stole, OwnQueues.RunsDone.looks}
+use Rattle.executor_model.specs.ActsOfRuns as runs
 
 abbrev ones : Bool → ℕ
 ones b = cond b 1 0
@@ -67,13 +47,13 @@ of_hull : (w v : World) → hull w ≡ hull v → w.lock ≡ v.lock
 of_hull w v e = ap (λ (h : Hull). h.lock) e
 
 quiet-writes : (o : Op) → is_loud o ≡ false → writes_of o ≡ 0
-quiet-writes (op.List o) e = absurd (cc)
+quiet-writes (Op.List o) e = absurd (cc)
 quiet-writes _ e = refl
 
 quiet-reads : (o : Op) → is_loud o ≡ false → reads_of o ≡ 0
-quiet-reads (op.List o) e = absurd (cc)
-quiet-reads (op.Steal o) e = absurd (cc)
-quiet-reads (op.Run (run_op.LookOwn x at left)) e = absurd (cc)
+quiet-reads (Op.List o) e = absurd (cc)
+quiet-reads (Op.Steal o) e = absurd (cc)
+quiet-reads (Op.Run (RunOp.LookOwn x at left)) e = absurd (cc)
 quiet-reads _ e = refl
 
 -- so much is to be written, and so much to be read
@@ -120,8 +100,8 @@ free-both false n e = (refl, by (eqb n 0) refl e)
     by true q z = grind (arith, nat_tests)
     by false q z = absurd (cc)
 
-locked-writes : (s : Section) (w : World) → is_locked_out w.lock (op.List (list_op.LockWrite s)) ≡ false →
-    KeepsLock w (op.List (list_op.LockWrite s) ∷ []) (runs.lock_write w s)
+locked-writes : (s : Section) (w : World) → is_locked_out w.lock (Op.List (ListOp.LockWrite s)) ≡ false →
+    KeepsLock w (Op.List (ListOp.LockWrite s) ∷ []) (runs.lock_write w s)
 locked-writes s w e = record {
   on = λ i k m n x y l. let f = free-both w.lock.writing w.lock.readers e in record {
     writing = omega (arith, x, l.writing, ap ones f.0);
@@ -130,8 +110,8 @@ locked-writes s w e = record {
   };
 }
 
-locked-reader : (h : Hint) (w : World) (x : RunPoll) → is_locked_out w.lock (op.List (list_op.LockRead x)) ≡ false →
-    KeepsLock w (op.List (list_op.LockRead x) ∷ []) (runs.lock_read h w x)
+locked-reader : (h : Hint) (w : World) (x : RunPoll) → is_locked_out w.lock (Op.List (ListOp.LockRead x)) ≡ false →
+    KeepsLock w (Op.List (ListOp.LockRead x) ∷ []) (runs.lock_read h w x)
 locked-reader h w x e = record {
   on = λ i k m n a b l.
       let os = runs.walk x w.listed (h.start % length w.listed) (length w.listed) in
@@ -146,7 +126,7 @@ taken-once : (b : Bool) (i : ℕ) → 1 + i ≡ cond b 1 0 → i ≡ 0
 taken-once true i e = omega (arith, e)
 taken-once false i e = absurd (omega (arith, e))
 
-locked-writer : (w : World) → KeepsLock w (op.List list_op.UnlockWrite ∷ []) (runs.unlock_write w)
+locked-writer : (w : World) → KeepsLock w (Op.List ListOp.UnlockWrite ∷ []) (runs.unlock_write w)
 locked-writer w = record {
   on = λ i k m n x y l. record {
     writing = let z : i ≡ 0 = taken-once w.lock.writing i (omega (arith, l.writing)) in omega (arith, x, z);
@@ -155,7 +135,7 @@ locked-writer w = record {
   };
 }
 
-locked-unread : (w : World) → KeepsLock w (op.List list_op.UnlockRead ∷ []) (runs.unlock_read w)
+locked-unread : (w : World) → KeepsLock w (Op.List ListOp.UnlockRead ∷ []) (runs.unlock_read w)
 locked-unread w = record {
   on = λ i k m n x y l. record {
     writing = omega (arith, x, l.writing);
@@ -164,7 +144,7 @@ locked-unread w = record {
   };
 }
 
-locked-make : (b : Bool) (w : World) → KeepsLock w (op.List (list_op.Write section.MakeRun) ∷ []) (runs.make_run_by b w)
+locked-make : (b : Bool) (w : World) → KeepsLock w (Op.List (ListOp.Write Section.MakeRun) ∷ []) (runs.make_run_by b w)
 locked-make true w = stays-lock w _ _ refl refl refl
 locked-make false w = stays-lock w _ _ refl refl refl
 
@@ -173,15 +153,15 @@ registered-lock New w q = refl
 registered-lock Listed w q = refl
 registered-lock Ended w q = refl
 
-locked-list : (h : Hint) (o : ListOp) (w : World) → is_locked_out w.lock (op.List o) ≡ false →
-    KeepsLock w (op.List o ∷ []) (list_act h o w)
-locked-list h (list_op.LockWrite s) w e = locked-writes s w e
-locked-list h (list_op.Write section.MakeRun) w e = locked-make h.refused w
-locked-list h (list_op.Write (section.Register x)) w e = stays-lock w _ _ (registered-lock _ w x.run) refl refl
-locked-list h (list_op.Write (section.Unregister q a)) w e = stays-lock w _ _ refl refl refl
-locked-list h list_op.UnlockWrite w e = locked-writer w
-locked-list h (list_op.LockRead x) w e = locked-reader h w x e
-locked-list h list_op.UnlockRead w e = locked-unread w
+locked-list : (h : Hint) (o : ListOp) (w : World) → is_locked_out w.lock (Op.List o) ≡ false →
+    KeepsLock w (Op.List o ∷ []) (list_act h o w)
+locked-list h (ListOp.LockWrite s) w e = locked-writes s w e
+locked-list h (ListOp.Write Section.MakeRun) w e = locked-make h.refused w
+locked-list h (ListOp.Write (Section.Register x)) w e = stays-lock w _ _ (registered-lock _ w x.run) refl refl
+locked-list h (ListOp.Write (Section.Unregister q a)) w e = stays-lock w _ _ refl refl refl
+locked-list h ListOp.UnlockWrite w e = locked-writer w
+locked-list h (ListOp.LockRead x) w e = locked-reader h w x e
+locked-list h ListOp.UnlockRead w e = locked-unread w
 
 -- each thing that is done
 locked-deed : (w : World) (o : Op) (d : Done) → is_locked_out w.lock o ≡ false → Deed w o d → KeepsLock w (o ∷ []) d
@@ -198,11 +178,11 @@ locked-deed w o d n (lists h l) = locked-list h l w n
 -- every step
 
 answers-writes : (o : Op) (u : UserEnd) → accepts o u ≡ true → writes_of o ≡ 0
-answers-writes (op.User o) u e = refl
+answers-writes (Op.User o) u e = refl
 answers-writes _ u e = absurd (cc)
 
 answers-reads : (o : Op) (u : UserEnd) → accepts o u ≡ true → reads_of o ≡ 0
-answers-reads (op.User o) u e = refl
+answers-reads (Op.User o) u e = refl
 answers-reads _ u e = absurd (cc)
 
 locked-way : (s : Machine) (p : ℕ) (old rest : List Op) (d : Done) → HasWay s.world.lock old → Way s p old rest d →
@@ -215,8 +195,8 @@ locked-way s p old rest d free (reacted o u a q z) =
     (omega (arith, counts-reads 0 (react p o u s.world).next c.counts, answers-reads o u a)))
 locked-way s p old rest d free (called c q r n z) =
     let b = counts-begun 0 p s.world (mine (top (stack s p))) c in
-    rw (z, q) (stays-lock s.world [] (begun p (log s.world (event.CallBegun p c)) (mine (top (stack s p))) c)
-    (of_hull s.world (begun p (log s.world (event.CallBegun p c)) (mine (top (stack s p))) c).world b.hull)
+    rw (z, q) (stays-lock s.world [] (begun p (log s.world (Event.CallBegun p c)) (mine (top (stack s p))) c)
+    (of_hull s.world (begun p (log s.world (Event.CallBegun p c)) (mine (top (stack s p))) c).world b.hull)
     (counts-writes 0 _ b.counts) (counts-reads 0 _ b.counts))
 
 abbrev Locked : Machine → Type 0
@@ -238,11 +218,11 @@ locked-moves : (s : Machine) (p : ℕ) (old rest : List Op) (d : Done) → Good 
 locked-moves s p old rest d good l e free way h = moved s p old rest d l e (locked-way s p old rest d free way) h
 
 locked-ends : (s : Machine) (p : ℕ) (a : Reply) (held : Hold) (below : List Op) → p < length s.parties →
-    stack s p ≡ below ++ reverse (op.End a held ∷ []) → Locked s →
-    Locked (unsettled s p below (done (log s.world (event.CallEnded p a)) []))
+    stack s p ≡ below ++ reverse (Op.End a held ∷ []) → Locked s →
+    Locked (unsettled s p below (done (log s.world (Event.CallEnded p a)) []))
 locked-ends s p a held below l e h =
-    moved s p (op.End a held ∷ []) below _ l e
-    (stays-lock s.world _ (done (log s.world (event.CallEnded p a)) []) refl refl refl) h
+    moved s p (Op.End a held ∷ []) below _ l e
+    (stays-lock s.world _ (done (log s.world (Event.CallEnded p a)) []) refl refl refl) h
 
 locked : (limit : ℕ) (kind : Kind) (n : ℕ) (ts : List Step) → Locked (run ts (start limit kind n))
 locked limit kind n ts = along-free Locked locked-moves locked-ends ts (start limit kind n) (good-start limit kind n) (record {

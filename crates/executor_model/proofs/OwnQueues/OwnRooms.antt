@@ -1,39 +1,22 @@
 -- For own_queues_agree.
 -- For what a steal may still bring into a run's own queue there are free places, as a run is in one call at most.
-use Rattle.std.proofs.Common.{◌≡◌, ◌≢◌, ◌⊎◌, ◌∙◌, ℕ, zero, suc, ◌+◌, ◌<◌, ◌≤◌, ◌%◌, List, [], ◌∷◌, ◌++◌}
-use Rattle.std.proofs.Common.{length, get_or, set, Bool, true, false, ltb, eqb, cond, refl, sym, ap, subst, ⊎_elim}
-use Rattle.std.proofs.Common.{inl, inr, arith}
-use Rattle.std.proofs.lemmas.Bool.Decides.{nat_tests}
+use Rattle.std.proofs.Common.{◌≡◌, ◌≢◌, ◌⊎◌, ◌∙◌, ℕ, zero, suc, ◌+◌, ◌<◌, ◌≤◌, ◌%◌, List, [], ◌∷◌, ◌++◌, length, get_or, set}
+use Rattle.std.proofs.Common.{Bool, true, false, ltb, eqb, cond, refl, sym, ap, subst, ⊎_elim, inl, inr, arith}
 use Rattle.std.proofs.lemmas.List.{length-append, length-set}
-use Rattle.std.specs.Prelude.{reverse}
-use Rattle.executor_model.specs.declared.call.Reply.{Reply}
-use Rattle.executor_model.specs.declared.event.Event.TheVariants as event
-use Rattle.executor_model.specs.declared.op.Hold.{Hold}
-use Rattle.executor_model.specs.declared.op.ListOp.{ListOp}
-use Rattle.executor_model.specs.declared.op.ListOp.TheVariants as list_op
-use Rattle.executor_model.specs.declared.op.Op.{Op}
-use Rattle.executor_model.specs.declared.op.Op.TheVariants as op
-use Rattle.executor_model.specs.declared.op.RunPoll.{RunPoll}
-use Rattle.executor_model.specs.declared.op.Section.TheVariants as section
-use Rattle.executor_model.specs.declared.op.Steal.{Steal}
-use Rattle.executor_model.specs.declared.op.StealOp.TheVariants as steal_op
-use Rattle.executor_model.specs.declared.step.Hint.{Hint}
-use Rattle.executor_model.specs.ActsOfRuns as runs
-use Rattle.executor_model.specs.Doing.{list_act}
-use Rattle.executor_model.specs.OwnQueues.{filling_of}
-use Rattle.executor_model.specs.Rows.{running_of}
-use Rattle.executor_model.specs.Steps.{Machine, begun, mine, react, stack, top}
-use Rattle.executor_model.specs.Weights.{same, weigh, weigh_all}
+use Rattle.std.{proofs.lemmas.Bool.Decides.nat_tests, specs.Prelude.reverse}
+use Rattle.executor_model.proofs.Types.{Reply, Event, Hold, ListOp, Op, RunPoll, Section, Steal, StealOp, Hint}
 use Rattle.executor_model.specs.World.{World, Stage, New, Listed, Ended, Done, done, log, own_of, put_own}
-use Rattle.executor_model.proofs.Steps.Lift.{split, unsettled}
+use Rattle.executor_model.specs.{Doing.list_act, OwnQueues.filling_of, Rows.running_of, Steps.Machine, Steps.begun, Steps.mine}
+use Rattle.executor_model.specs.{Steps.react, Steps.stack, Steps.top, Weights.same, Weights.weigh, Weights.weigh_all}
+use Rattle.executor_model.proofs.OwnQueues.RunsDone.{to_walk, walk_ends, walk_on, Deed, keeps, takes, lacks, shares, grows}
+use Rattle.executor_model.proofs.OwnQueues.RunsDone.{wakes, lists, deed-act, is_loud, loud, loud-weigh, walks-by, Stole, More}
+use Rattle.executor_model.proofs.OwnQueues.RunsDone.{no_more, one_more, Walks, Missing, misses_there, Leads, finds, stole}
 use Rattle.executor_model.proofs.Steps.Lists.{same_cases, weigh_all-push}
 use Rattle.executor_model.proofs.OwnQueues.OwnCounts.{counts-begun, counts-filling, counts-react}
 use Rattle.executor_model.proofs.OwnQueues.RunsAside.{Hull, coat, hull, hull_of}
-use Rattle.executor_model.proofs.OwnQueues.RunsDone.{to_walk, walk_ends, walk_on}
-use Rattle.executor_model.proofs.OwnQueues.RunsDone.{Deed, keeps, takes, lacks, shares, grows, wakes, lists, deed-act, is_loud, loud}
-use Rattle.executor_model.proofs.OwnQueues.RunsDone.{loud-weigh, walks-by, Stole, More, no_more, one_more, Walks, Missing}
-use Rattle.executor_model.proofs.OwnQueues.RunsDone.{misses_there, Leads, finds, stole, looks}
 use Rattle.executor_model.proofs.Steps.Ways.{Way, acted, reacted, called}
+use Rattle.executor_model.proofs.{Steps.Lift.split, Steps.Lift.unsettled, OwnQueues.RunsDone.looks}
+use Rattle.executor_model.specs.ActsOfRuns as runs
 
 -- how many places run r's own queue has, and room there for k more
 abbrev pub places_in : List (List ℕ) → ℕ → ℕ
@@ -95,7 +78,7 @@ shorter-taken w v q f rest e k =
     shorter-and w (put_own w q rest) v (shorter-first w q f rest e) (of_coat (put_own w q rest) v k)
 
 quiet-filling : (r : ℕ) (o : Op) → is_loud o ≡ false → filling_of r o ≡ 0
-quiet-filling r (op.Steal o) e = absurd (cc)
+quiet-filling r (Op.Steal o) e = absurd (cc)
 quiet-filling r _ e = refl
 
 -- what follows fills no more
@@ -144,7 +127,7 @@ more-filling r s k os (one_more j) = by (eqb r s.poll.run)
 
 -- a steal may fill as many places as are free
 room-shares : (w : World) (s : Steal) (i k : ℕ) (d : Done) → k ≤ runs.free_places w s.poll.run → Shorter w d.world →
-    More s k (loud d.next) → KeepsRoom w (op.Steal (steal_op.OwnLength s i) ∷ []) d
+    More s k (loud d.next) → KeepsRoom w (Op.Steal (StealOp.OwnLength s i) ∷ []) d
 room-shares w s i k d l h y = record {
   on = λ r m j n u z e g.
       let f = loud-weigh (filling_of r) (quiet-filling r) d.next ∙ more-filling r s k (loud d.next) y in
@@ -175,7 +158,7 @@ grown-own (x ∷ qs) (suc q) f = grown-own qs q f
 
 room-grows : (w : World) (s : Steal) (i f : ℕ) (d : Done) →
     Shorter (put_own w s.poll.run (own_of w s.poll.run ++ f ∷ [])) d.world → More s i (loud d.next) →
-    KeepsRoom w (op.Steal (steal_op.Put s i f) ∷ []) d
+    KeepsRoom w (Op.Steal (StealOp.Put s i f) ∷ []) d
 room-grows w s i f d h y = record {
   on = λ r m k n u z e g.
       let v = put_own w s.poll.run (own_of w s.poll.run ++ f ∷ []) in
@@ -222,7 +205,7 @@ made-room qs r k h = omega (arith, h, made-length qs r, made-places qs r)
         by true false e q l = absurd (grind (arith, nat_tests))
         by false b e q l = omega arith
 
-room-make : (b : Bool) (w : World) → KeepsRoom w (op.List (list_op.Write section.MakeRun) ∷ []) (runs.make_run_by b w)
+room-make : (b : Bool) (w : World) → KeepsRoom w (Op.List (ListOp.Write Section.MakeRun) ∷ []) (runs.make_run_by b w)
 room-make true w = stays w _ _ (same-own w w refl) (λ r. omega arith)
 room-make false w = record { on = λ r m k n u z e h. made-room w.own r n (omega (arith, e, h)) }
 
@@ -231,11 +214,11 @@ registered-own New w q = refl
 registered-own Listed w q = refl
 registered-own Ended w q = refl
 
-room-list : (h : Hint) (o : ListOp) (w : World) → KeepsRoom w (op.List o ∷ []) (list_act h o w)
-room-list h (list_op.Write section.MakeRun) w = room-make h.refused w
-room-list h (list_op.Write (section.Register x)) w =
+room-list : (h : Hint) (o : ListOp) (w : World) → KeepsRoom w (Op.List o ∷ []) (list_act h o w)
+room-list h (ListOp.Write Section.MakeRun) w = room-make h.refused w
+room-list h (ListOp.Write (Section.Register x)) w =
     stays w _ _ (same-own w _ (registered-own _ w x.run)) (λ r. omega arith)
-room-list h (list_op.LockRead x) w = stays-of w _ (runs.lock_read h w x) (same-own w _ refl)
+room-list h (ListOp.LockRead x) w = stays-of w _ (runs.lock_read h w x) (same-own w _ refl)
     (λ r. omega (arith, walks-filling r x _ (walks-by x w.listed (h.start % length w.listed) (length w.listed))))
 room-list h _ w = stays w _ _ (same-own w _ refl) (λ r. omega arith)
 
@@ -259,7 +242,7 @@ room-way s p old rest d (reacted o u a q z) =
     (λ r. omega (arith, counts-filling r _ (counts-react r p o u s.world a).counts)))
 room-way s p old rest d (called c q r n z) =
     let here = mine (top (stack s p)) in
-    rw (z, q) (stays s.world [] (begun p (log s.world (event.CallBegun p c)) here c)
+    rw (z, q) (stays s.world [] (begun p (log s.world (Event.CallBegun p c)) here c)
     (of_hull s.world _ (counts-begun 0 p s.world here c).hull)
     (λ k. omega (arith, counts-filling k _ (counts-begun k p s.world here c).counts)))
 
@@ -267,22 +250,22 @@ room-way s p old rest d (called c q r n z) =
 
 -- what fills places of a run's own queue uses the run
 filling-uses : (r : ℕ) (o : Op) → running_of r o ≡ 0 → filling_of r o ≡ 0
-filling-uses r (op.Steal (steal_op.Take s more)) z = unused r s.poll.run (more + 1) z
+filling-uses r (Op.Steal (StealOp.Take s more)) z = unused r s.poll.run (more + 1) z
   where
     unused : (r q n : ℕ) → same r q ≡ 0 → cond (eqb r q) n 0 ≡ 0
     unused r q n e = ⊎_elim
         (λ (x : (same r q ≡ 1) × (eqb r q ≡ true) × (r ≡ q)). absurd (omega (arith, e, x.0)))
         (λ (x : (same r q ≡ 0) × (eqb r q ≡ false) × (r ≢ q)). ap (λ (b : Bool). cond b n 0) x.1)
         (same_cases r q)
-filling-uses r (op.Steal (steal_op.Put s more f)) z = unused r s.poll.run (more + 1) z
+filling-uses r (Op.Steal (StealOp.Put s more f)) z = unused r s.poll.run (more + 1) z
   where
     unused : (r q n : ℕ) → same r q ≡ 0 → cond (eqb r q) n 0 ≡ 0
     unused r q n e = ⊎_elim
         (λ (x : (same r q ≡ 1) × (eqb r q ≡ true) × (r ≡ q)). absurd (omega (arith, e, x.0)))
         (λ (x : (same r q ≡ 0) × (eqb r q ≡ false) × (r ≢ q)). ap (λ (b : Bool). cond b n 0) x.1)
         (same_cases r q)
-filling-uses r (op.Steal (steal_op.Length s)) z = refl
-filling-uses r (op.Steal (steal_op.OwnLength s n)) z = refl
+filling-uses r (Op.Steal (StealOp.Length s)) z = refl
+filling-uses r (Op.Steal (StealOp.OwnLength s n)) z = refl
 filling-uses r _ z = refl
 
 -- a count is nothing over stacks where another is that it needs
@@ -312,12 +295,12 @@ roomy-moves s p old rest d l e way once h r =
     (subst (HasRoom s.world.own r) (split (filling_of r) s.parties p old rest l e) (h r))
 
 pub roomy-ends : (s : Machine) (p : ℕ) (a : Reply) (held : Hold) (below : List Op) → p < length s.parties →
-    stack s p ≡ below ++ reverse (op.End a held ∷ []) → Roomy s →
-    Roomy (unsettled s p below (done (log s.world (event.CallEnded p a)) []))
+    stack s p ≡ below ++ reverse (Op.End a held ∷ []) → Roomy s →
+    Roomy (unsettled s p below (done (log s.world (Event.CallEnded p a)) []))
 roomy-ends s p a held below l e h r =
     omega (
       arith,
       h r,
-      split (filling_of r) s.parties p (op.End a held ∷ []) below l e,
+      split (filling_of r) s.parties p (Op.End a held ∷ []) below l e,
       weigh_all-push (filling_of r) s.parties p below [] l,
     )

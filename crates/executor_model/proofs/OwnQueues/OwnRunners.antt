@@ -1,53 +1,28 @@
 -- For own_queues_agree.
 -- What stands in a run's own queue belongs to a run in its poll or its drop, or to one whose last poll called its own
 -- waker.
-use Rattle.std.proofs.Common.{◌≡◌, ◌≢◌, ◌⊎◌, ◌∙◌, ℕ, ◌+◌, ◌<◌, ◌≤◌, List, [], ◌∷◌, ◌++◌, length, set}
-use Rattle.std.proofs.Common.{Bool, true, false, ◌||◌, eqb, cond, refl, sym, ap, subst, inl, inr, ⊎_elim}
-use Rattle.std.proofs.Common.{arith}
+use Rattle.std.proofs.Common.{◌≡◌, ◌≢◌, ◌⊎◌, ◌∙◌, ℕ, ◌+◌, ◌<◌, ◌≤◌, List, [], ◌∷◌, ◌++◌, length, set, Bool, true, false, ◌||◌}
+use Rattle.std.proofs.Common.{eqb, cond, refl, sym, ap, subst, inl, inr, ⊎_elim, arith}
 use Rattle.std.proofs.lemmas.Bool.Decides.{nat_tests}
 use Rattle.std.specs.Prelude.{Option, Some, None, reverse}
-use Rattle.executor_model.specs.declared.kind.Kind.{Kind}
-use Rattle.executor_model.specs.declared.call.By.{By}
-use Rattle.executor_model.specs.declared.call.Call.{Call}
-use Rattle.executor_model.specs.declared.call.Call.TheVariants as call
-use Rattle.executor_model.specs.declared.call.Reply.{Reply}
-use Rattle.executor_model.specs.declared.event.Answer.TheVariants as answer
-use Rattle.executor_model.specs.declared.event.Event.TheVariants as event
-use Rattle.executor_model.specs.declared.op.Hold.{Hold}
-use Rattle.executor_model.specs.declared.op.Op.{Op}
-use Rattle.executor_model.specs.declared.op.Op.TheVariants as op
-use Rattle.executor_model.specs.declared.op.RunPoll.{RunPoll}
-use Rattle.executor_model.specs.declared.op.UserOp.TheVariants as user_op
-use Rattle.executor_model.specs.declared.op.Waker.{Waker}
-use Rattle.executor_model.specs.declared.step.Step.{Step}
-use Rattle.executor_model.specs.declared.step.UserEnd.{UserEnd}
-use Rattle.executor_model.specs.declared.step.UserEnd.TheVariants as end
-use Rattle.executor_model.specs.Doing.{act}
-use Rattle.executor_model.specs.Good.{Good}
-use Rattle.executor_model.specs.OwnQueues.{OwnQueueHasRunner}
-use Rattle.executor_model.specs.Rows.{running_of}
-use Rattle.executor_model.specs.Steps.{Machine, accepts, begun, drop_run, future_of, has_all, has_run}
-use Rattle.executor_model.specs.Steps.{is_there, kept, mine, poll_run}
-use Rattle.executor_model.specs.Steps.{react, run, stack}
-use Rattle.executor_model.specs.Steps.{start, top, waker_of, with_future}
-use Rattle.executor_model.specs.Trace.{Trace}
+use Rattle.executor_model.proofs.Types.{Kind, By, Call, Reply, Answer, Event, Hold, Op, RunPoll, UserOp, Waker, Step, UserEnd}
+use Rattle.executor_model.specs.Steps.{Machine, accepts, begun, drop_run, future_of, has_all, has_run, is_there, kept, mine}
+use Rattle.executor_model.specs.Steps.{poll_run, react, run, stack, start, top, waker_of, with_future}
 use Rattle.executor_model.specs.Weights.{same, weigh, weigh_all}
 use Rattle.executor_model.specs.World.{World, Stage, New, Listed, Ended, Done, done, log, own_of, run_of}
+use Rattle.executor_model.specs.{Doing.act, Good.Good, OwnQueues.OwnQueueHasRunner, Rows.running_of, Trace.Trace}
 use Rattle.executor_model.proofs.Steps.Lift.{first-true, good-start, none_refused, set-own, split, unborrowed, unsettled}
-use Rattle.executor_model.proofs.Steps.Lift.{weigh_all-idle}
 use Rattle.executor_model.proofs.Steps.Lists.{same_cases, weigh_all-below, weigh_all-push}
 use Rattle.executor_model.proofs.OwnQueues.OwnCounts.{counts-begun, counts-react}
 use Rattle.executor_model.proofs.OwnQueues.OwnRunning.{KeepsRuns, keeps-uses, keeps_of, runs-act, runs-still}
 use Rattle.executor_model.proofs.OwnQueues.RunsNaming.{polling-parts, stray, stray-polls, stray_of, strays}
-use Rattle.executor_model.proofs.OwnQueues.RunsAside.{Hull}
-use Rattle.executor_model.proofs.OwnQueues.RunsCalm.{calm-act, calm-react}
 use Rattle.executor_model.proofs.OwnQueues.RunsSeen.{Later, Seen, seen-act, seen-and, seen-later, seen-log, seen-react}
 use Rattle.executor_model.proofs.OwnQueues.RunsWatched.{Watched, calls-itself, watched, watched-push}
 use Rattle.executor_model.proofs.OwnQueues.Using.{emptying-uses, emptying_of, polling-uses, polling_of}
-use Rattle.executor_model.proofs.OwnQueues.UsingWorlds.{is_over_stage}
 use Rattle.executor_model.proofs.OwnQueues.UsingSteps.{AllUsed, used-ends, used-moves, used-start}
 use Rattle.executor_model.proofs.Steps.Ways.{Way, acted, reacted, called, along}
-use Rattle.executor_model.proofs.Steps.Tests.{and-right}
+use Rattle.executor_model.proofs.{Steps.Lift.weigh_all-idle, OwnQueues.RunsAside.Hull, OwnQueues.RunsCalm.calm-act}
+use Rattle.executor_model.proofs.{OwnQueues.RunsCalm.calm-react, OwnQueues.UsingWorlds.is_over_stage, Steps.Tests.and-right}
 
 record Runner (s : Machine) (r : ℕ) : Type 0 where
   -- each part of a poll of r names its last poll
@@ -102,20 +77,20 @@ moved s p old rest d r l e seen polls names keeps h =
 
 keeps-react : (p : ℕ) (o : Op) (u : UserEnd) (w : World) → accepts o u ≡ true → (r : ℕ) →
     weigh (keeps_of r) (o ∷ []) ≤ weigh (keeps_of r) (react p o u w).next
-keeps-react p (op.User (user_op.PollOwn x)) (end.Polled answer.Pending) w a r = omega arith
-keeps-react p (op.User (user_op.PollOwn x)) (end.Polled answer.Ready) w a r = omega arith
-keeps-react p (op.User (user_op.Poll f)) (end.Polled answer.Pending) w a r = omega arith
-keeps-react p (op.User (user_op.Poll f)) (end.Polled answer.Ready) w a r = omega arith
-keeps-react p (op.User (user_op.Drop f)) end.Done w a r = omega arith
-keeps-react p (op.User (user_op.DropOutput f)) end.Done w a r = omega arith
-keeps-react p (op.User (user_op.CallOutside x)) end.Done w a r = omega arith
-keeps-react p (op.User (user_op.DropOwn q)) end.Done w a r = omega arith
+keeps-react p (Op.User (UserOp.PollOwn x)) (UserEnd.Polled Answer.Pending) w a r = omega arith
+keeps-react p (Op.User (UserOp.PollOwn x)) (UserEnd.Polled Answer.Ready) w a r = omega arith
+keeps-react p (Op.User (UserOp.Poll f)) (UserEnd.Polled Answer.Pending) w a r = omega arith
+keeps-react p (Op.User (UserOp.Poll f)) (UserEnd.Polled Answer.Ready) w a r = omega arith
+keeps-react p (Op.User (UserOp.Drop f)) UserEnd.Done w a r = omega arith
+keeps-react p (Op.User (UserOp.DropOutput f)) UserEnd.Done w a r = omega arith
+keeps-react p (Op.User (UserOp.CallOutside x)) UserEnd.Done w a r = omega arith
+keeps-react p (Op.User (UserOp.DropOwn q)) UserEnd.Done w a r = omega arith
 keeps-react p _ _ w a r = absurd (cc)
 
 -- the beginning of a call, but that of a poll of r
 
 abbrev polls_it : ℕ → Call → Bool
-polls_it r (call.PollRun q b) = eqb r q
+polls_it r (Call.PollRun q b) = eqb r q
 polls_it r _ = false
 
 record Begun (r : ℕ) (w : World) (d : Done) : Type 0 where
@@ -128,8 +103,8 @@ module _ (r : ℕ) where
       ((k : ℕ) → weigh (stray_of r k) next ≡ 0) → Begun r w (done v next)
   begins w v next a b c = record { seen = a; polls = b; named = c }
 
-  one : (p : ℕ) (w v : World) (c : Call) → v.trace ≡ w.trace ++ event.CallBegun p c ∷ [] → Seen r w v
-  one p w v c e = seen-log r w v (event.CallBegun p c) refl e
+  one : (p : ℕ) (w v : World) (c : Call) → v.trace ≡ w.trace ++ Event.CallBegun p c ∷ [] → Seen r w v
+  one p w v c e = seen-log r w v (Event.CallBegun p c) refl e
 
   begins-with : (w v : World) (x : Option ℕ) (d : ℕ → Done) → Seen r w v → ((f : ℕ) → Begun r w (d f)) →
       Begun r w (with_future v x d)
@@ -158,9 +133,9 @@ module _ (r : ℕ) where
       by Ended z = begins w v _ e refl (λ k. refl)
 
   -- the poll of another run is told of
-  other-poll : (p q : ℕ) (w : World) → eqb r q ≡ false → Seen r w (log w (event.RunPolled p q))
-  other-poll p q w n = seen-later r w (log w (event.RunPolled p q))
-      (subst (Later (watched r w.trace)) (sym (watched-push r w.trace (event.RunPolled p q) ∙ other w.trace p q n))
+  other-poll : (p q : ℕ) (w : World) → eqb r q ≡ false → Seen r w (log w (Event.RunPolled p q))
+  other-poll p q w n = seen-later r w (log w (Event.RunPolled p q))
+      (subst (Later (watched r w.trace)) (sym (watched-push r w.trace (Event.RunPolled p q) ∙ other w.trace p q n))
       (record { polled = refl; poll = refl; called = λ e. e }))
     where
       other : (es : Trace) (party m : ℕ) → eqb r m ≡ false →
@@ -171,54 +146,54 @@ module _ (r : ℕ) where
           in x) e
 
   begins-call : (p : ℕ) (w : World) (here : Option Waker) (c : Call) → polls_it r c ≡ false →
-      Begun r w (begun p (log w (event.CallBegun p c)) here c)
-  begins-call p w here (call.Wake n) e = let c = call.Wake n in
-      begins-with w (log w (event.CallBegun p c)) (kept w n) _ (one p w _ c refl)
+      Begun r w (begun p (log w (Event.CallBegun p c)) here c)
+  begins-call p w here (Call.Wake n) e = let c = Call.Wake n in
+      begins-with w (log w (Event.CallBegun p c)) (kept w n) _ (one p w _ c refl)
       (λ f. begins w _ _ (one p w _ c refl) refl (λ k. refl))
-  begins-call p w here (call.WakeByRef n) e = let c = call.WakeByRef n in
-      begins-with w (log w (event.CallBegun p c)) (kept w n) _ (one p w _ c refl)
+  begins-call p w here (Call.WakeByRef n) e = let c = Call.WakeByRef n in
+      begins-with w (log w (Event.CallBegun p c)) (kept w n) _ (one p w _ c refl)
       (λ f. begins w _ _ (one p w _ c refl) refl (λ k. refl))
-  begins-call p w here (call.Copy n) e = let c = call.Copy n in
-      begins-with w (log w (event.CallBegun p c)) (kept w n) _ (one p w _ c refl)
+  begins-call p w here (Call.Copy n) e = let c = Call.Copy n in
+      begins-with w (log w (Event.CallBegun p c)) (kept w n) _ (one p w _ c refl)
       (λ f. begins w _ _ (one p w _ c refl) refl (λ k. refl))
-  begins-call p w here (call.DropWaker n) e = let c = call.DropWaker n in
-      begins-with w (log w (event.CallBegun p c)) (kept w n) _ (one p w _ c refl)
+  begins-call p w here (Call.DropWaker n) e = let c = Call.DropWaker n in
+      begins-with w (log w (Event.CallBegun p c)) (kept w n) _ (one p w _ c refl)
       (λ f. begins w _ _ (one p w _ c refl) refl (λ k. refl))
-  begins-call p w here call.Keep e =
-      begins-with w (log w (event.CallBegun p call.Keep)) (future_of here) _ (one p w _ call.Keep refl)
-      (λ f. begins w _ _ (one p w _ call.Keep refl) refl (λ k. refl))
-  begins-call p w here call.WakeSelf e =
-      begins-with w (log w (event.CallBegun p call.WakeSelf)) (future_of here) _ (one p w _ call.WakeSelf refl)
-      (λ f. begins w _ _ (one p w _ call.WakeSelf refl) refl (λ k. refl))
-  begins-call p w here (call.Spawn mark) e = begins w _ _ (one p w _ (call.Spawn mark) refl) refl (λ k. refl)
-  begins-call p w here call.TryTick e = begins w _ _ (one p w _ call.TryTick refl) refl (λ k. refl)
-  begins-call p w here call.IsEmpty e = begins w _ _ (one p w _ call.IsEmpty refl) refl (λ k. refl)
-  begins-call p w here (call.PollHandle f b) e = begins w _ _ (one p w _ (call.PollHandle f b) refl) refl (λ k. refl)
-  begins-call p w here (call.Cancel f) e = begins w _ _ (one p w _ (call.Cancel f) refl) refl (λ k. refl)
-  begins-call p w here (call.Detach f) e = begins w _ _ (one p w _ (call.Detach f) refl) refl (λ k. refl)
-  begins-call p w here (call.DropHandle f) e = begins w _ _ (one p w _ (call.DropHandle f) refl) refl (λ k. refl)
-  begins-call p w here call.NewTick e = begins w _ _ (one p w _ call.NewTick refl) refl (λ k. refl)
-  begins-call p w here (call.PollTick t b) e = let v = log w (event.CallBegun p (call.PollTick t b)) in
-      begins w (log v (event.TickPolled p t)) _
-      (seen-and r w v (log v (event.TickPolled p t)) (one p w v (call.PollTick t b) refl)
-      (seen-log r v (log v (event.TickPolled p t)) (event.TickPolled p t) refl refl)) refl (λ k. refl)
-  begins-call p w here (call.DropTick t) e = let v = log w (event.CallBegun p (call.DropTick t)) in
-      begins w (log v (event.TickDropped p t)) _
-      (seen-and r w v (log v (event.TickDropped p t)) (one p w v (call.DropTick t) refl)
-      (seen-log r v (log v (event.TickDropped p t)) (event.TickDropped p t) refl refl)) refl (λ k. refl)
-  begins-call p w here call.NewRun e = begins w _ _ (one p w _ call.NewRun refl) refl (λ k. refl)
-  begins-call p w here (call.PollRun q b) e = let v = log w (event.CallBegun p (call.PollRun q b)) in
-      begins-poll w (log v (event.RunPolled p q)) (run_of v q).stage
+  begins-call p w here Call.Keep e =
+      begins-with w (log w (Event.CallBegun p Call.Keep)) (future_of here) _ (one p w _ Call.Keep refl)
+      (λ f. begins w _ _ (one p w _ Call.Keep refl) refl (λ k. refl))
+  begins-call p w here Call.WakeSelf e =
+      begins-with w (log w (Event.CallBegun p Call.WakeSelf)) (future_of here) _ (one p w _ Call.WakeSelf refl)
+      (λ f. begins w _ _ (one p w _ Call.WakeSelf refl) refl (λ k. refl))
+  begins-call p w here (Call.Spawn mark) e = begins w _ _ (one p w _ (Call.Spawn mark) refl) refl (λ k. refl)
+  begins-call p w here Call.TryTick e = begins w _ _ (one p w _ Call.TryTick refl) refl (λ k. refl)
+  begins-call p w here Call.IsEmpty e = begins w _ _ (one p w _ Call.IsEmpty refl) refl (λ k. refl)
+  begins-call p w here (Call.PollHandle f b) e = begins w _ _ (one p w _ (Call.PollHandle f b) refl) refl (λ k. refl)
+  begins-call p w here (Call.Cancel f) e = begins w _ _ (one p w _ (Call.Cancel f) refl) refl (λ k. refl)
+  begins-call p w here (Call.Detach f) e = begins w _ _ (one p w _ (Call.Detach f) refl) refl (λ k. refl)
+  begins-call p w here (Call.DropHandle f) e = begins w _ _ (one p w _ (Call.DropHandle f) refl) refl (λ k. refl)
+  begins-call p w here Call.NewTick e = begins w _ _ (one p w _ Call.NewTick refl) refl (λ k. refl)
+  begins-call p w here (Call.PollTick t b) e = let v = log w (Event.CallBegun p (Call.PollTick t b)) in
+      begins w (log v (Event.TickPolled p t)) _
+      (seen-and r w v (log v (Event.TickPolled p t)) (one p w v (Call.PollTick t b) refl)
+      (seen-log r v (log v (Event.TickPolled p t)) (Event.TickPolled p t) refl refl)) refl (λ k. refl)
+  begins-call p w here (Call.DropTick t) e = let v = log w (Event.CallBegun p (Call.DropTick t)) in
+      begins w (log v (Event.TickDropped p t)) _
+      (seen-and r w v (log v (Event.TickDropped p t)) (one p w v (Call.DropTick t) refl)
+      (seen-log r v (log v (Event.TickDropped p t)) (Event.TickDropped p t) refl refl)) refl (λ k. refl)
+  begins-call p w here Call.NewRun e = begins w _ _ (one p w _ Call.NewRun refl) refl (λ k. refl)
+  begins-call p w here (Call.PollRun q b) e = let v = log w (Event.CallBegun p (Call.PollRun q b)) in
+      begins-poll w (log v (Event.RunPolled p q)) (run_of v q).stage
       (record { run = q; waker = waker_of here b; poll = length v.trace }) e
-      (seen-and r w v (log v (event.RunPolled p q)) (one p w v (call.PollRun q b) refl) (other-poll p q v e))
-  begins-call p w here (call.DropRun q) e = let v = log w (event.CallBegun p (call.DropRun q)) in
-      let u = (begun p v here (call.DropRun q)).world in
+      (seen-and r w v (log v (Event.RunPolled p q)) (one p w v (Call.PollRun q b) refl) (other-poll p q v e))
+  begins-call p w here (Call.DropRun q) e = let v = log w (Event.CallBegun p (Call.DropRun q)) in
+      let u = (begun p v here (Call.DropRun q)).world in
       begins-drop w u (run_of v q).stage q
-      (seen-and r w v u (one p w v (call.DropRun q) refl) (seen-log r v u (event.RunDropped p q) refl refl))
-  begins-call p w here call.Leak e = begins w _ _ (one p w _ call.Leak refl) refl (λ k. refl)
-  begins-call p w here call.DropExecutor e = let v = log w (event.CallBegun p call.DropExecutor) in
-      let u = (begun p v here call.DropExecutor).world in
-      begins w u _ (seen-and r w v u (one p w v call.DropExecutor refl) (seen-log r v u (event.DropBegun p) refl refl))
+      (seen-and r w v u (one p w v (Call.DropRun q) refl) (seen-log r v u (Event.RunDropped p q) refl refl))
+  begins-call p w here Call.Leak e = begins w _ _ (one p w _ Call.Leak refl) refl (λ k. refl)
+  begins-call p w here Call.DropExecutor e = let v = log w (Event.CallBegun p Call.DropExecutor) in
+      let u = (begun p v here Call.DropExecutor).world in
+      begins w u _ (seen-and r w v u (one p w v Call.DropExecutor refl) (seen-log r v u (Event.DropBegun p) refl refl))
       refl (λ k. refl)
 
 -- the beginning of a poll of r, which no call uses
@@ -249,19 +224,19 @@ polled-run r t x i = by t
     by Listed = record { named = omega (arith, none); keeps = λ e. omega (arith, uses) }
     by Ended = record { named = refl; keeps = λ e. absurd (let no : true ≡ false = e in cc) }
 
-watched-polled : (r p q : ℕ) (es : Trace) → eqb r q ≡ true → watched r (es ++ event.RunPolled p q ∷ [])
+watched-polled : (r p q : ℕ) (es : Trace) → eqb r q ≡ true → watched r (es ++ Event.RunPolled p q ∷ [])
     ≡ record { polled = true; poll = length es; party = p; called = false }
-watched-polled r p q es e = watched-push r es (event.RunPolled p q) ∙ ap (λ (b : Bool).
+watched-polled r p q es e = watched-push r es (Event.RunPolled p q) ∙ ap (λ (b : Bool).
     let x : Watched = cond b (record { polled = true; poll = length es; party = p; called = false }) (watched r es) in x) e
 
 polls-own : (s : Machine) (p : ℕ) (q : ℕ) (b : By) (here : Option Waker) (rest : List Op) (r : ℕ) →
     p < length s.parties →
     eqb r q ≡ true → weigh_all (running_of r) (set s.parties p rest) ≡ 0 →
     ((run_of s.world q).stage ≡ Ended → own_of s.world r ≡ []) →
-    Runner (unsettled s p rest (begun p (log s.world (event.CallBegun p (call.PollRun q b))) here (call.PollRun q b))) r
+    Runner (unsettled s p rest (begun p (log s.world (Event.CallBegun p (Call.PollRun q b))) here (Call.PollRun q b))) r
 polls-own s p q b here rest r l e unused empty =
-    let v = log s.world (event.CallBegun p (call.PollRun q b)) in
-    let d = begun p v here (call.PollRun q b) in
+    let v = log s.world (Event.CallBegun p (Call.PollRun q b)) in
+    let d = begun p v here (Call.PollRun q b) in
     let others = set s.parties p rest in
     let x : RunPoll = record { run = q; waker = waker_of here b; poll = length v.trace } in
     let i : q ≡ r = let z : r ≡ q = grind (arith, nat_tests) in sym z in
@@ -285,25 +260,25 @@ polls-own s p q b here rest r l e unused empty =
     }
   where
     by : (t : Stage) → (run_of s.world q).stage ≡ t →
-        Polled r (is_over_stage t) (length (s.world.trace ++ event.CallBegun p (call.PollRun q b) ∷ []))
+        Polled r (is_over_stage t) (length (s.world.trace ++ Event.CallBegun p (Call.PollRun q b) ∷ []))
         (poll_run t (record {
           run = q;
           waker = waker_of here b;
-          poll = length (s.world.trace ++ event.CallBegun p (call.PollRun q b) ∷ []);
+          poll = length (s.world.trace ++ Event.CallBegun p (Call.PollRun q b) ∷ []);
         })) → 1 ≤ length (own_of s.world r) →
         1 ≤ weigh_all (keeps_of r)
-        (set s.parties p (rest ++ reverse (begun p (log s.world (event.CallBegun p (call.PollRun q b))) here
-        (call.PollRun q b)).next))
+        (set s.parties p (rest ++ reverse (begun p (log s.world (Event.CallBegun p (Call.PollRun q b))) here
+        (Call.PollRun q b)).next))
     by New k f z = omega (
       arith,
       f.keeps refl,
       ap (λ (u : Stage). weigh (keeps_of r) (poll_run u (record {
         run = q;
         waker = waker_of here b;
-        poll = length (s.world.trace ++ event.CallBegun p (call.PollRun q b) ∷ []);
+        poll = length (s.world.trace ++ Event.CallBegun p (Call.PollRun q b) ∷ []);
       }))) k,
       weigh_all-push (keeps_of r) s.parties p rest
-          (begun p (log s.world (event.CallBegun p (call.PollRun q b))) here (call.PollRun q b)).next l,
+          (begun p (log s.world (Event.CallBegun p (Call.PollRun q b))) here (Call.PollRun q b)).next l,
     )
     by Listed k f z = omega (
       arith,
@@ -311,10 +286,10 @@ polls-own s p q b here rest r l e unused empty =
       ap (λ (u : Stage). weigh (keeps_of r) (poll_run u (record {
         run = q;
         waker = waker_of here b;
-        poll = length (s.world.trace ++ event.CallBegun p (call.PollRun q b) ∷ []);
+        poll = length (s.world.trace ++ Event.CallBegun p (Call.PollRun q b) ∷ []);
       }))) k,
       weigh_all-push (keeps_of r) s.parties p rest
-          (begun p (log s.world (event.CallBegun p (call.PollRun q b))) here (call.PollRun q b)).next l,
+          (begun p (log s.world (Event.CallBegun p (Call.PollRun q b))) here (Call.PollRun q b)).next l,
     )
     by Ended k f z = absurd (omega (arith, z, ap (λ (ys : List ℕ). length ys) (empty k)))
 
@@ -325,13 +300,13 @@ record Running (s : Machine) : Type 0 where
   pub runner : (r : ℕ) → Runner s r
 
 keeps-none : (c : Call) (p : ℕ) (w : World) (here : Option Waker) (r : ℕ) →
-    weigh (keeps_of r) [] ≤ weigh (keeps_of r) (begun p (log w (event.CallBegun p c)) here c).next
+    weigh (keeps_of r) [] ≤ weigh (keeps_of r) (begun p (log w (Event.CallBegun p c)) here c).next
 keeps-none c p w here r = omega arith
 
 -- a run that is polled is used by no call
 unused-run : (s : Machine) (p q : ℕ) (b : By) (o : Option Op) (rest : List Op) (r : ℕ) →
     set s.parties p rest ≡ s.parties →
-    has_all s.world s.parties o (call.PollRun q b) ≡ true → eqb r q ≡ true →
+    has_all s.world s.parties o (Call.PollRun q b) ≡ true → eqb r q ≡ true →
     weigh_all (running_of r) (set s.parties p rest) ≡ 0
 unused-run s p q b o rest r own a e =
     let i : r ≡ q = grind (arith, nat_tests) in
@@ -380,13 +355,13 @@ runner-moves s p old rest d good l e (called c q t n z) k r =
 
     by : (b : Bool) (x : Call) → polls_it r x ≡ b → stack s p ≡ rest ++ reverse [] →
         has_all s.world s.parties (top (stack s p)) x ≡ true → set s.parties p rest ≡ s.parties →
-        Runner (unsettled s p rest (begun p (log s.world (event.CallBegun p x)) here x)) r
+        Runner (unsettled s p rest (begun p (log s.world (Event.CallBegun p x)) here x)) r
     by false x i e2 a own = let g = begins-call r p s.world here x i in
-        moved s p [] rest (begun p (log s.world (event.CallBegun p x)) here x) r l e2 g.seen (omega (arith, g.polls))
+        moved s p [] rest (begun p (log s.world (Event.CallBegun p x)) here x) r l e2 g.seen (omega (arith, g.polls))
         (λ j. omega (arith, g.named j))
-        (runs-still s.world [] (begun p (log s.world (event.CallBegun p x)) here x)
+        (runs-still s.world [] (begun p (log s.world (Event.CallBegun p x)) here x)
         (ap (λ (y : Hull). y.own) (counts-begun 0 p s.world here x).hull) (keeps-none x p s.world here)) (k.runner r)
-    by true (call.PollRun m b) i e2 a own =
+    by true (Call.PollRun m b) i e2 a own =
         let none = unused-run s p m b (top (stack s p)) rest r own a i in
         let j : r ≡ m = grind (arith, nat_tests) in
         polls-own s p m b here rest r l i none (λ ended. ⊎_elim (λ (y : own_of s.world r ≡ []). y)
@@ -409,14 +384,14 @@ running-moves s p old rest d good l e way k = record {
 }
 
 running-ends : (s : Machine) (p : ℕ) (a : Reply) (held : Hold) (below : List Op) → p < length s.parties →
-    stack s p ≡ below ++ reverse (op.End a held ∷ []) → Running s →
-    Running (unsettled s p below (done (log s.world (event.CallEnded p a)) []))
+    stack s p ≡ below ++ reverse (Op.End a held ∷ []) → Running s →
+    Running (unsettled s p below (done (log s.world (Event.CallEnded p a)) []))
 running-ends s p a held below l e k = record {
   used = used-ends s p a held below l e k.used;
-  runner = λ r. let d = done (log s.world (event.CallEnded p a)) [] in
-      moved s p (op.End a held ∷ []) below d r l e
-      (seen-log r s.world (log s.world (event.CallEnded p a)) (event.CallEnded p a) refl refl) (omega arith)
-      (λ n. omega arith) (runs-still s.world (op.End a held ∷ []) d refl (λ q. omega arith)) (k.runner r);
+  runner = λ r. let d = done (log s.world (Event.CallEnded p a)) [] in
+      moved s p (Op.End a held ∷ []) below d r l e
+      (seen-log r s.world (log s.world (Event.CallEnded p a)) (Event.CallEnded p a) refl refl) (omega arith)
+      (λ n. omega arith) (runs-still s.world (Op.End a held ∷ []) d refl (λ q. omega arith)) (k.runner r);
 }
 
 running-start : (limit : ℕ) (kind : Kind) (n : ℕ) → Running (start limit kind n)

@@ -1,81 +1,56 @@
 -- For own_queues_agree.
 -- What keeps the own queue of a run in hand.
-use Rattle.std.proofs.Common.{◌≡◌, ◌≢◌, ◌⊎◌, ◌∙◌, ℕ, ◌≤◌, List, [], ◌∷◌, ◌++◌, length, get_or}
-use Rattle.std.proofs.Common.{Bool, true, false, ◌&&◌, ◌||◌, eqb, cond, refl, ap, inl, inr, ⊎_elim}
-use Rattle.std.proofs.Common.{arith}
+use Rattle.std.proofs.Common.{◌≡◌, ◌≢◌, ◌⊎◌, ◌∙◌, ℕ, ◌≤◌, List, [], ◌∷◌, ◌++◌, length, get_or, Bool, true, false, ◌&&◌, ◌||◌}
+use Rattle.std.proofs.Common.{eqb, cond, refl, ap, inl, inr, ⊎_elim, arith}
 use Rattle.std.proofs.lemmas.Bool.Decides.{nat_tests}
-use Rattle.task_moves.specs.declared.moves.owed.Move.TheVariants as move
-use Rattle.executor_model.specs.declared.event.Event.TheVariants as event
-use Rattle.executor_model.specs.declared.op.ListOp.{ListOp}
-use Rattle.executor_model.specs.declared.op.ListOp.TheVariants as list_op
-use Rattle.executor_model.specs.declared.op.Op.{Op}
-use Rattle.executor_model.specs.declared.op.Op.TheVariants as op
-use Rattle.executor_model.specs.declared.op.Polled.TheVariants as of
-use Rattle.executor_model.specs.declared.op.RunOp.{RunOp}
-use Rattle.executor_model.specs.declared.op.RunOp.TheVariants as run_op
-use Rattle.executor_model.specs.declared.op.RunPoll.{RunPoll}
-use Rattle.executor_model.specs.declared.op.Section.{Section}
-use Rattle.executor_model.specs.declared.op.Section.TheVariants as section
-use Rattle.executor_model.specs.declared.op.Steal.{Steal}
-use Rattle.executor_model.specs.declared.op.StealOp.TheVariants as steal_op
-use Rattle.executor_model.specs.declared.op.TickOp.TheVariants as tick_op
-use Rattle.executor_model.specs.declared.op.UserOp.TheVariants as user_op
-use Rattle.executor_model.specs.declared.op.Waker.{Waker}
-use Rattle.executor_model.specs.declared.op.Waker.TheVariants.{Task, Outside}
-use Rattle.executor_model.specs.declared.step.Hint.{Hint}
-use Rattle.executor_model.specs.ActsOfRuns as runs
-use Rattle.executor_model.specs.Doing.{act, list_act}
-use Rattle.executor_model.specs.Rows.{running_of}
-use Rattle.executor_model.specs.Weights.{same, weigh, is_run}
+use Rattle.executor_model.proofs.Types.{Move, Event, ListOp, Op, Polled, RunOp, RunPoll, Section, Steal, StealOp, TickOp}
+use Rattle.executor_model.proofs.Types.{UserOp, Waker, Task, Outside, Hint}
 use Rattle.executor_model.specs.World.{World, Done, log, own_of, put_own}
-use Rattle.executor_model.proofs.Steps.Lift.{no_hint}
-use Rattle.executor_model.proofs.Steps.Lists.{same_cases}
+use Rattle.executor_model.specs.{Doing.act, Doing.list_act, Rows.running_of, Weights.same, Weights.weigh, Weights.is_run}
 use Rattle.executor_model.proofs.OwnQueues.OwnRooms.{of_coat, shorter-taken, Shorter, grown, made-length, same-own}
-use Rattle.executor_model.proofs.OwnQueues.OwnRooms.{registered-own}
-use Rattle.executor_model.proofs.OwnQueues.RunsAside.{Hull, apart-act}
-use Rattle.executor_model.proofs.OwnQueues.RunsDone.{to_walk, misses_last}
-use Rattle.executor_model.proofs.OwnQueues.RunsDone.{Deed, keeps, takes, lacks, shares, grows, wakes, lists, deed-act, is_loud, loud}
-use Rattle.executor_model.proofs.OwnQueues.RunsDone.{loud-weigh, poll_in, Stole, More, no_more, one_more, Missing}
-use Rattle.executor_model.proofs.OwnQueues.RunsDone.{Leads, quiet, slumbering, turns, finds, stole, looks}
+use Rattle.executor_model.proofs.OwnQueues.RunsDone.{to_walk, misses_last, Deed, keeps, takes, lacks, shares, grows, wakes}
+use Rattle.executor_model.proofs.OwnQueues.RunsDone.{lists, deed-act, is_loud, loud, loud-weigh, poll_in, Stole, More, no_more}
+use Rattle.executor_model.proofs.OwnQueues.RunsDone.{one_more, Missing, Leads, quiet, slumbering, turns, finds, stole, looks}
 use Rattle.executor_model.proofs.OwnQueues.RunsSeen.{seen, Seen, seen-act}
 use Rattle.executor_model.proofs.OwnQueues.RunsWatched.{Watched, watched, watched-push}
-use Rattle.executor_model.proofs.OwnQueues.Using.{polling_of}
-use Rattle.executor_model.proofs.OwnQueues.RunsNaming.{stray, stray_of}
-use Rattle.executor_model.proofs.Steps.Tests.{or-right}
+use Rattle.executor_model.proofs.{Steps.Lift.no_hint, Steps.Lists.same_cases, OwnQueues.OwnRooms.registered-own}
+use Rattle.executor_model.proofs.{OwnQueues.RunsAside.Hull, OwnQueues.RunsAside.apart-act, OwnQueues.Using.polling_of}
+use Rattle.executor_model.proofs.{OwnQueues.RunsNaming.stray, OwnQueues.RunsNaming.stray_of, Steps.Tests.or-right}
+use Rattle.executor_model.specs.ActsOfRuns as runs
 
 -- who has run r in hand, and hasn't found its own queue empty
 
 abbrev pub keeps_section : ℕ → Section → ℕ
-keeps_section r section.MakeRun = 0
-keeps_section r (section.Register x) = same r x.run
-keeps_section r (section.Unregister q a) = same r q
+keeps_section r Section.MakeRun = 0
+keeps_section r (Section.Register x) = same r x.run
+keeps_section r (Section.Unregister q a) = same r q
 
 abbrev pub keeps_list : ℕ → ListOp → ℕ
-keeps_list r (list_op.LockWrite s) = keeps_section r s
-keeps_list r (list_op.Write s) = keeps_section r s
+keeps_list r (ListOp.LockWrite s) = keeps_section r s
+keeps_list r (ListOp.Write s) = keeps_section r s
 keeps_list r _ = 0
 
 abbrev pub keeps_run : ℕ → RunOp → ℕ
-keeps_run r (run_op.LookOwn x at left) = same r x.run
-keeps_run r (run_op.WakeOwn x) = same r x.run
-keeps_run r (run_op.Reschedule q a) = same r q
+keeps_run r (RunOp.LookOwn x at left) = same r x.run
+keeps_run r (RunOp.WakeOwn x) = same r x.run
+keeps_run r (RunOp.Reschedule q a) = same r q
 keeps_run r _ = 0
 
 abbrev pub keeps_of : ℕ → Op → ℕ
-keeps_of r (op.User (user_op.PollOwn x)) = same r x.run
-keeps_of r (op.Tick (tick_op.Search s)) = is_run r s.who
-keeps_of r (op.List o) = keeps_list r o
-keeps_of r (op.Steal o) = same r (poll_in o).run
-keeps_of r (op.Run o) = keeps_run r o
+keeps_of r (Op.User (UserOp.PollOwn x)) = same r x.run
+keeps_of r (Op.Tick (TickOp.Search s)) = is_run r s.who
+keeps_of r (Op.List o) = keeps_list r o
+keeps_of r (Op.Steal o) = same r (poll_in o).run
+keeps_of r (Op.Run o) = keeps_run r o
 keeps_of r _ = 0
 
 pub keeps-uses : (r : ℕ) (o : Op) → keeps_of r o ≤ running_of r o
-keeps-uses r (op.User (user_op.PollOwn x)) = omega arith
-keeps-uses r (op.Tick (tick_op.Search s)) = omega arith
-keeps-uses r (op.List (list_op.LockWrite section.MakeRun)) = omega arith
-keeps-uses r (op.List (list_op.Write section.MakeRun)) = omega arith
-keeps-uses r (op.Steal (steal_op.Length s)) = omega arith
-keeps-uses r (op.Run run_op.MakeRoom) = omega arith
+keeps-uses r (Op.User (UserOp.PollOwn x)) = omega arith
+keeps-uses r (Op.Tick (TickOp.Search s)) = omega arith
+keeps-uses r (Op.List (ListOp.LockWrite Section.MakeRun)) = omega arith
+keeps-uses r (Op.List (ListOp.Write Section.MakeRun)) = omega arith
+keeps-uses r (Op.Steal (StealOp.Length s)) = omega arith
+keeps-uses r (Op.Run RunOp.MakeRoom) = omega arith
 keeps-uses r _ = omega arith
 
 -- it calls itself
@@ -96,13 +71,13 @@ stays : (w : World) (old : List Op) (d : Done) → Shorter w d.world →
 stays w old d s f = record { on = λ r z p l. inl (omega (arith, l, s.own r), f r) }
 
 quiet-keeps : (r : ℕ) (o : Op) → is_loud o ≡ false → keeps_of r o ≡ 0
-quiet-keeps r (op.User (user_op.PollOwn x)) e = absurd (cc)
-quiet-keeps r (op.Tick (tick_op.Search s)) e = absurd (cc)
-quiet-keeps r (op.List o) e = absurd (cc)
-quiet-keeps r (op.Steal o) e = absurd (cc)
-quiet-keeps r (op.Run (run_op.LookOwn x at left)) e = absurd (cc)
-quiet-keeps r (op.Run (run_op.WakeOwn x)) e = absurd (cc)
-quiet-keeps r (op.Run (run_op.Reschedule q a)) e = absurd (cc)
+quiet-keeps r (Op.User (UserOp.PollOwn x)) e = absurd (cc)
+quiet-keeps r (Op.Tick (TickOp.Search s)) e = absurd (cc)
+quiet-keeps r (Op.List o) e = absurd (cc)
+quiet-keeps r (Op.Steal o) e = absurd (cc)
+quiet-keeps r (Op.Run (RunOp.LookOwn x at left)) e = absurd (cc)
+quiet-keeps r (Op.Run (RunOp.WakeOwn x)) e = absurd (cc)
+quiet-keeps r (Op.Run (RunOp.Reschedule q a)) e = absurd (cc)
 quiet-keeps r _ e = refl
 
 stays-of : (w : World) (o : Op) (d : Done) → Shorter w d.world →
@@ -140,8 +115,8 @@ missing-keeps r q o os _ = omega arith
 
 leads-keeps : (r : ℕ) (o : Op) (os : List Op) → Leads o os → keeps_of r o ≤ weigh (keeps_of r) os
 leads-keeps r o os (quiet _ e) = omega (arith, quiet-keeps r o e)
-leads-keeps r o os (slumbering (tick_op.Search s) e) = absurd (cc)
-leads-keeps r o os (slumbering (tick_op.Look s look) e) = absurd (cc)
+leads-keeps r o os (slumbering (TickOp.Search s) e) = absurd (cc)
+leads-keeps r o os (slumbering (TickOp.Look s look) e) = absurd (cc)
 leads-keeps r o os (turns s t look e) = omega (arith, ap (is_run r) e)
 leads-keeps r o os (finds x z) = omega (arith, stole-keeps r x 0 os z)
 leads-keeps r o os (stole a z) = omega (arith, stole-keeps r _ _ os z)
@@ -150,7 +125,7 @@ leads-keeps r o os _ = omega arith
 
 runs-grows : (w : World) (s : Steal) (i f : ℕ) (d : Done) →
     Shorter (put_own w s.poll.run (own_of w s.poll.run ++ f ∷ [])) d.world → More s i (loud d.next) →
-    KeepsRuns w (op.Steal (steal_op.Put s i f) ∷ []) d
+    KeepsRuns w (Op.Steal (StealOp.Put s i f) ∷ []) d
 runs-grows w s i f d h y = record {
   on = λ r z j l.
       let now = loud-weigh (keeps_of r) (quiet-keeps r) d.next ∙ more-keeps r s i (loud d.next) y in ⊎_elim
@@ -180,25 +155,25 @@ named r k q n i z = by (eqb k n) refl
 
 own-queues : (p : ℕ) (w : World) (a : Waker) → w.own ≡ (runs.call_by_reference p w a).world.own
 own-queues p w (Outside y) = refl
-own-queues p w (Task g) = ap (λ (h : Hull). h.own) (apart-act p no_hint (op.Move move.WakeByReference g) w refl).hull
+own-queues p w (Task g) = ap (λ (h : Hull). h.own) (apart-act p no_hint (Op.Move Move.WakeByReference g) w refl).hull
 
 seen-reference : (r p : ℕ) (w : World) (a : Waker) → Seen r w (runs.call_by_reference p w a).world
 seen-reference r p w (Outside y) = seen r w w refl
-seen-reference r p w (Task g) = seen-act r p no_hint (op.Move move.WakeByReference g) w
+seen-reference r p w (Task g) = seen-act r p no_hint (Op.Move Move.WakeByReference g) w
 
 and-true : (a b : Bool) → a ≡ true → b ≡ true → (a && b) ≡ true
 and-true a b e q = rw (e, q) refl
 
-runs-wake : (p : ℕ) (w : World) (x : RunPoll) → KeepsRuns w (op.Run (run_op.WakeOwn x) ∷ []) (runs.wake_own p w x)
+runs-wake : (p : ℕ) (w : World) (x : RunPoll) → KeepsRuns w (Op.Run (RunOp.WakeOwn x) ∷ []) (runs.wake_own p w x)
 runs-wake p w x = record {
   on = λ r z i l.
-      let v = log w (event.WakerCalled p (of.Run x.run) x.poll x.waker) in
+      let v = log w (Event.WakerCalled p (Polled.Run x.run) x.poll x.waker) in
       let u = (runs.call_by_reference p v x.waker).world in
       ⊎_elim
       (λ (y : (same r x.run ≡ 1) × (eqb r x.run ≡ true) × (r ≡ x.run)).
       let a = watched r w.trace in
       let after : watched r v.trace ≡ record a { called = a.called || (eqb r x.run && eqb a.poll x.poll) } =
-      watched-push r w.trace (event.WakerCalled p (of.Run x.run) x.poll x.waker) in
+      watched-push r w.trace (Event.WakerCalled p (Polled.Run x.run) x.poll x.waker) in
       let names : eqb a.poll x.poll ≡ true = named r a.poll x.run x.poll y.2 (omega (arith, z)) in
       let called : (watched r v.trace).called ≡ true = ap (λ (t : Watched). t.called) after
       ∙ or-right a.called (eqb r x.run && eqb a.poll x.poll) (and-true _ _ y.1 names) in
@@ -206,22 +181,19 @@ runs-wake p w x = record {
       let later : Seen r v u = seen-reference r p v x.waker in
       inr (inr (later.polled ∙ polled, later.called called)))
       (λ (y : (same r x.run ≡ 0) × (eqb r x.run ≡ false) × (r ≢ x.run)).
-      inl (
-        omega (arith, l, ap (λ (qs : List (List ℕ)). length (get_or qs r [])) (own-queues p v x.waker)),
-        omega (arith, y.0),
-      ))
+      inl (omega (arith, l, ap (λ (qs : List (List ℕ)). length (get_or qs r [])) (own-queues p v x.waker)), omega (arith, y.0)))
       (same_cases r x.run);
 }
 
-runs-make : (b : Bool) (w : World) → KeepsRuns w (op.List (list_op.Write section.MakeRun) ∷ []) (runs.make_run_by b w)
+runs-make : (b : Bool) (w : World) → KeepsRuns w (Op.List (ListOp.Write Section.MakeRun) ∷ []) (runs.make_run_by b w)
 runs-make true w = stays w _ _ (same-own w w refl) (λ r. omega arith)
 runs-make false w = record { on = λ r z i l. inl (omega (arith, l, made-length w.own r), omega arith) }
 
-runs-list : (h : Hint) (o : ListOp) (w : World) → KeepsRuns w (op.List o ∷ []) (list_act h o w)
-runs-list h (list_op.Write section.MakeRun) w = runs-make h.refused w
-runs-list h (list_op.Write (section.Register x)) w =
+runs-list : (h : Hint) (o : ListOp) (w : World) → KeepsRuns w (Op.List o ∷ []) (list_act h o w)
+runs-list h (ListOp.Write Section.MakeRun) w = runs-make h.refused w
+runs-list h (ListOp.Write (Section.Register x)) w =
     stays w _ _ (same-own w _ (registered-own _ w x.run)) (λ r. omega arith)
-runs-list h (list_op.LockRead x) w = stays w _ (runs.lock_read h w x) (same-own w _ refl) (λ r. omega arith)
+runs-list h (ListOp.LockRead x) w = stays w _ (runs.lock_read h w x) (same-own w _ refl) (λ r. omega arith)
 runs-list h _ w = stays w _ _ (same-own w _ refl) (λ r. omega arith)
 
 runs-deed : (w : World) (o : Op) (d : Done) → Deed w o d → KeepsRuns w (o ∷ []) d

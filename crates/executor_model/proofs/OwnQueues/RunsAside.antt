@@ -1,50 +1,20 @@
 -- For own_queues_agree.
 -- What is no part of a run leaves what the runs keep as it is.
-use Rattle.std.proofs.Common.{◌≡◌, ◌∙◌, ◌+◌, ℕ, zero, suc, List, [], ◌∷◌, ◌++◌, get_or, set, Bool, true, false}
-use Rattle.std.proofs.Common.{refl, sym, ap, arith}
-use Rattle.std.specs.Prelude.{Option, Some, None}
-use Rattle.executor_parts.specs.declared.mark.Mark.TheVariants.{Plain, Urgent}
-use Rattle.executor_model.specs.declared.op.Look.{Look}
-use Rattle.executor_model.specs.declared.op.Look.TheVariants.{First, Second}
-use Rattle.executor_parts.specs.declared.mark.Mark.{Mark}
-use Rattle.task_moves.specs.Moves as moves
+use Rattle.std.proofs.Common.{◌≡◌, ◌∙◌, ◌+◌, ℕ, zero, suc, List, [], ◌∷◌, ◌++◌, get_or, set, Bool, true, false, refl, sym, ap}
+use Rattle.std.{proofs.Common.arith, specs.Prelude.Option, specs.Prelude.Some, specs.Prelude.None}
 use Rattle.task_moves.specs.declared.moves.owed.Answer.{Answer}
-use Rattle.task_moves.specs.declared.moves.owed.Move.{Move}
-use Rattle.task_moves.specs.declared.moves.owed.Move.TheVariants as move
-use Rattle.task_moves.specs.declared.moves.owed.Moved.{Moved}
-use Rattle.executor_model.specs.declared.event.Event.{Event}
-use Rattle.executor_model.specs.declared.event.Event.TheVariants as event
-use Rattle.executor_model.specs.declared.op.Hold.{Hold}
-use Rattle.executor_model.specs.declared.op.Op.{Op}
-use Rattle.executor_model.specs.declared.op.Op.TheVariants as op
-use Rattle.executor_model.specs.declared.op.ClosingOp.TheVariants as closing_op
-use Rattle.executor_model.specs.declared.op.HandleOp.TheVariants as handle_op
-use Rattle.executor_model.specs.declared.op.Polled.{Polled}
-use Rattle.executor_model.specs.declared.op.Polled.TheVariants as of
-use Rattle.executor_model.specs.declared.op.QueueOp.TheVariants as queue_op
-use Rattle.executor_model.specs.declared.op.TickOrRun.{TickOrRun}
-use Rattle.executor_model.specs.declared.op.TickOrRun.TheVariants as tick_or_run
-use Rattle.executor_model.specs.declared.op.SleeperOp.TheVariants as sleeper_op
-use Rattle.executor_model.specs.declared.op.Sleeping.{Sleeping}
-use Rattle.executor_model.specs.declared.op.TableOp.TheVariants as table_op
-use Rattle.executor_model.specs.declared.op.UserOp.TheVariants as user_op
-use Rattle.executor_model.specs.declared.op.Waker.{Waker}
-use Rattle.executor_model.specs.declared.op.Waker.TheVariants.{Task, Outside}
-use Rattle.executor_model.specs.declared.op.WakerOp.TheVariants as waker_op
-use Rattle.executor_model.specs.declared.step.Hint.{Hint}
-use Rattle.executor_model.specs.Acts as acts
-use Rattle.executor_model.specs.ActsOfSleepers.{exchange_by, hand_out_by, polled_as}
-use Rattle.executor_model.specs.Carried.{awaiter_ops}
-use Rattle.executor_model.specs.Doing.{act}
-use Rattle.executor_model.specs.Weights.{weigh}
-use Rattle.executor_model.specs.World.{World, Ticker, Stage, Ended, Run, Lock, Done, log, log_if, task, put}
-use Rattle.executor_model.specs.World.{put_run, run_of, no_run, new_run, runs_with, New, among, awaiter_of}
 use Rattle.executor_parts.specs.Sleepers.{Sleepers}
-use Rattle.executor_model.specs.Queues.{Queues}
-use Rattle.executor_model.specs.SleepersAgree.{hands_of}
-use Rattle.executor_model.proofs.Steps.Lists.{weigh-append, weigh-below}
-use Rattle.executor_model.proofs.Steps.Asides.{aside-entry, Aside, aside-awaiter, aside-owed, aside-let_go, aside-told, aside-closing}
-use Rattle.executor_model.proofs.Steps.Asides.{aside-leak_out, aside-leaking}
+use Rattle.executor_model.proofs.Types.{Plain, Urgent, Look, First, Second, Mark, Move, Moved, Event, Hold, Op, ClosingOp}
+use Rattle.executor_model.proofs.Types.{HandleOp, Polled, QueueOp, TickOrRun, SleeperOp, Sleeping, TableOp, UserOp, Waker, Task}
+use Rattle.executor_model.specs.World.{World, Ticker, Stage, Ended, Run, Lock, Done, log, log_if, task, put, put_run, run_of}
+use Rattle.executor_model.specs.ActsOfSleepers.{exchange_by, hand_out_by, polled_as}
+use Rattle.executor_model.specs.World.{no_run, new_run, runs_with, New, among, awaiter_of}
+use Rattle.executor_model.specs.{Carried.awaiter_ops, Doing.act, Weights.weigh, Queues.Queues, SleepersAgree.hands_of}
+use Rattle.executor_model.proofs.Steps.Asides.{aside-entry, Aside, aside-awaiter, aside-owed, aside-let_go, aside-told}
+use Rattle.executor_model.proofs.Steps.Asides.{aside-closing, aside-leak_out, aside-leaking}
+use Rattle.executor_model.proofs.{Types.Outside, Types.WakerOp, Types.Hint, Steps.Lists.weigh-append, Steps.Lists.weigh-below}
+use Rattle.task_moves.specs.Moves as moves
+use Rattle.executor_model.specs.Acts as acts
 
 -- the stages of the runs
 
@@ -123,24 +93,24 @@ coat-run w r x e d = λ i. record {
 }
 
 pub coat-placed : (w : World) (who : TickOrRun) (x : Ticker) → coat w ≡ coat (record w { runs = runs_with w.runs who x })
-coat-placed w (tick_or_run.Tick t) x = refl
-coat-placed w (tick_or_run.Run r) x = coat-run w r _ refl refl
+coat-placed w (TickOrRun.Tick t) x = refl
+coat-placed w (TickOrRun.Run r) x = coat-run w r _ refl refl
 
 -- what a run does, and a tick
 abbrev pub is_run : Op → Bool
-is_run (op.User (user_op.PollOwn x)) = true
-is_run (op.Tick o) = true
-is_run (op.List o) = true
-is_run (op.Steal o) = true
-is_run (op.Run o) = true
+is_run (Op.User (UserOp.PollOwn x)) = true
+is_run (Op.Tick o) = true
+is_run (Op.List o) = true
+is_run (Op.Steal o) = true
+is_run (Op.Run o) = true
 is_run _ = false
 
 abbrev pub runs_of : Op → ℕ
-runs_of (op.User (user_op.PollOwn x)) = 1
-runs_of (op.Tick o) = 1
-runs_of (op.List o) = 1
-runs_of (op.Steal o) = 1
-runs_of (op.Run o) = 1
+runs_of (Op.User (UserOp.PollOwn x)) = 1
+runs_of (Op.Tick o) = 1
+runs_of (Op.List o) = 1
+runs_of (Op.Steal o) = 1
+runs_of (Op.Run o) = 1
 runs_of _ = 0
 
 -- what the world has beside futures and the trace
@@ -209,12 +179,12 @@ frame-move true m p w v f x =
     let c = acts.is_told m (task v f) in
     let l = acts.is_last_waker m (task v f) in
     frame w (acts.move_by true m p v f)
-    (x ∙ (rest-log_if c v a ∙ rest-log_if l (log_if c v a) (event.LastWaker p f)))
+    (x ∙ (rest-log_if c v a ∙ rest-log_if l (log_if c v a) (Event.LastWaker p f)))
     (aside-owed bustle_of none f (among f (acts.told_of l c m p v f).table) (moves.after m (task v f)).owed)
 frame-move false m p w v f x = frame w _ x refl
 
 pub frame-call : (p : ℕ) (w : World) (o : Polled) (a : Waker) (k : ℕ) → Frame w (acts.call_waker p w o a k)
-frame-call p w o (Task g) k = frame-move true move.Wake p w (log w (event.WakerCalled p o k (Task g))) g refl
+frame-call p w o (Task g) k = frame-move true Move.Wake p w (log w (Event.WakerCalled p o k (Task g))) g refl
 frame-call p w o (Outside x) k = frame w _ refl refl
 
 -- the table
@@ -237,7 +207,7 @@ frame-copy false w f held = frame w _ refl refl
 frame-answered : (p : ℕ) (w v : World) (f : ℕ) (m : Moved) (a : Answer) → rest w ≡ rest v →
     Frame w (acts.answered p v f m a)
 frame-answered p w v f m a x =
-    frame w (acts.answered p v f m a) (x ∙ rest-log_if _ (put v f m.state) (event.OutputGiven p f))
+    frame w (acts.answered p v f m a) (x ∙ rest-log_if _ (put v f m.state) (Event.OutputGiven p f))
     (none-both (awaiter_ops f m.owed.awaiter) _ (aside-awaiter bustle_of none f m.owed.awaiter) refl)
 
 frame-look : (o : Option Answer) (p : ℕ) (w : World) (f : ℕ) (a : Waker) (m : Moved) →
@@ -260,10 +230,10 @@ frame-register false w f a k = frame w _ refl refl
 
 frame-end_register : (b : Bool) (w : World) (f : ℕ) (a : Waker) (k : ℕ) → Frame w (acts.end_register_by b w f a k)
 frame-end_register true w f a k =
-    frame w _ refl (none-both (op.Waker (waker_op.CallAwaiter f a k) ∷ acts.let_go (awaiter_of w f))
-    (op.Handle (handle_op.LookAgain f) ∷ []) (omega (arith, aside-let_go bustle_of none (awaiter_of w f))) refl)
+    frame w _ refl (none-both (Op.Waker (WakerOp.CallAwaiter f a k) ∷ acts.let_go (awaiter_of w f))
+    (Op.Handle (HandleOp.LookAgain f) ∷ []) (omega (arith, aside-let_go bustle_of none (awaiter_of w f))) refl)
 frame-end_register false w f a k =
-    frame w _ refl (none-both (acts.let_go (awaiter_of w f)) (op.Handle (handle_op.LookAgain f) ∷ [])
+    frame w _ refl (none-both (acts.let_go (awaiter_of w f)) (Op.Handle (HandleOp.LookAgain f) ∷ [])
     (aside-let_go bustle_of none (awaiter_of w f)) refl)
 
 frame-notify : (b : Bool) (w : World) (f : ℕ) (mine : Bool) → Frame w (acts.notify_by b w f mine)
@@ -285,7 +255,7 @@ frame-wake_next : (p : ℕ) (w : World) (ws : List ℕ) → Frame w (acts.wake_n
 frame-wake_next p w [] = frame w _ refl refl
 frame-wake_next p w (f ∷ rest) =
     let v : World = record w { waking = rest } in
-    let m : Frame w (acts.wake p v f) = frame-move true move.Wake p w v f refl in
+    let m : Frame w (acts.wake p v f) = frame-move true Move.Wake p w v f refl in
     frame w (acts.wake_next_by p w (f ∷ rest)) m.rest
     (none-both (acts.wake p v f).next (acts.closing_ops [] rest) m.plain (aside-closing bustle_of (λ o. refl) [] rest))
 
@@ -300,56 +270,56 @@ frame-leak_next true p w ws = frame w _ refl refl
 frame-leak_next false p w [] = frame w _ refl refl
 frame-leak_next false p w (f ∷ rest) =
     let v : World = record w { waking = rest } in
-    let m : Frame w (acts.wake p v f) = frame-move true move.Wake p w v f refl in
+    let m : Frame w (acts.wake p v f) = frame-move true Move.Wake p w v f refl in
     frame w (acts.leak_next_by false p w (f ∷ rest)) m.rest
     (none-both (acts.wake p v f).next (acts.leaking_ops rest) m.plain (aside-leaking bustle_of refl rest))
 
 -- what is done with one future, or ends a call
 abbrev pub is_lone : Op → Bool
-is_lone (op.User (user_op.PollOwn x)) = false
-is_lone (op.Queue o) = false
-is_lone (op.Sleeper sleeper_op.ExchangeFlag) = false
-is_lone (op.Sleeper sleeper_op.HandOut) = false
-is_lone (op.Tick o) = false
-is_lone (op.List o) = false
-is_lone (op.Steal o) = false
-is_lone (op.Run o) = false
-is_lone (op.Closing (closing_op.Close mark)) = false
-is_lone (op.Closing (closing_op.Drain mark)) = false
+is_lone (Op.User (UserOp.PollOwn x)) = false
+is_lone (Op.Queue o) = false
+is_lone (Op.Sleeper SleeperOp.ExchangeFlag) = false
+is_lone (Op.Sleeper SleeperOp.HandOut) = false
+is_lone (Op.Tick o) = false
+is_lone (Op.List o) = false
+is_lone (Op.Steal o) = false
+is_lone (Op.Run o) = false
+is_lone (Op.Closing (ClosingOp.Close mark)) = false
+is_lone (Op.Closing (ClosingOp.Drain mark)) = false
 is_lone _ = true
 
 pub frame-act : (p : ℕ) (h : Hint) (o : Op) (w : World) → is_lone o ≡ true → Frame w (act p h o w)
-frame-act p h (op.Move m f) w n = frame-move _ m p w w f refl
-frame-act p h (op.Table (table_op.Enter mark)) w n = frame-enter _ _ _ p w
-frame-act p h (op.Table (table_op.LeaveTable f)) w n = frame-leave _ w f
-frame-act p h (op.Waker (waker_op.CopyWaker f held)) w n = frame-copy _ w f held
-frame-act p h (op.Waker (waker_op.CallAwaiter f a k)) w n = frame-call p w (of.Handle f) a k
-frame-act p h (op.Handle (handle_op.Look f a)) w n = frame-look _ p w f a _
-frame-act p h (op.Handle (handle_op.CopyAwaiter f a)) w n = frame-copy_awaiter _ p w f a
-frame-act p h (op.Handle (handle_op.Register f a k)) w n = frame-register _ w f a k
-frame-act p h (op.Handle (handle_op.EndRegister f a k)) w n = frame-end_register _ w f a k
-frame-act p h (op.Handle (handle_op.LookAgain f)) w n = frame-again _ p w f _
-frame-act p h (op.Handle (handle_op.Notify f mine)) w n = frame-notify _ w f mine
-frame-act p h (op.Handle (handle_op.EndNotify f mine)) w n =
+frame-act p h (Op.Move m f) w n = frame-move _ m p w w f refl
+frame-act p h (Op.Table (TableOp.Enter mark)) w n = frame-enter _ _ _ p w
+frame-act p h (Op.Table (TableOp.LeaveTable f)) w n = frame-leave _ w f
+frame-act p h (Op.Waker (WakerOp.CopyWaker f held)) w n = frame-copy _ w f held
+frame-act p h (Op.Waker (WakerOp.CallAwaiter f a k)) w n = frame-call p w (Polled.Handle f) a k
+frame-act p h (Op.Handle (HandleOp.Look f a)) w n = frame-look _ p w f a _
+frame-act p h (Op.Handle (HandleOp.CopyAwaiter f a)) w n = frame-copy_awaiter _ p w f a
+frame-act p h (Op.Handle (HandleOp.Register f a k)) w n = frame-register _ w f a k
+frame-act p h (Op.Handle (HandleOp.EndRegister f a k)) w n = frame-end_register _ w f a k
+frame-act p h (Op.Handle (HandleOp.LookAgain f)) w n = frame-again _ p w f _
+frame-act p h (Op.Handle (HandleOp.Notify f mine)) w n = frame-notify _ w f mine
+frame-act p h (Op.Handle (HandleOp.EndNotify f mine)) w n =
     frame w _ refl (aside-told bustle_of none _ f (awaiter_of w f))
-frame-act p h (op.Handle (handle_op.LetGo f)) w n = frame-let_go _ w f
-frame-act p h (op.Closing closing_op.TakeOut) w n =
+frame-act p h (Op.Handle (HandleOp.LetGo f)) w n = frame-let_go _ w f
+frame-act p h (Op.Closing ClosingOp.TakeOut) w n =
     frame w _ refl (aside-closing bustle_of (λ o. refl) w.table w.waking)
-frame-act p h (op.Closing closing_op.DropNext) w n = frame-drop_next p w _
-frame-act p h (op.Closing closing_op.WakeNext) w n = frame-wake_next p w _
-frame-act p h (op.Closing closing_op.LeakOut) w n = frame-leak_out _ w
-frame-act p h (op.Closing closing_op.LeakNext) w n = frame-leak_next _ p w _
-frame-act p h (op.Sleeper sleeper_op.ExchangeFlag) w n = absurd (cc)
-frame-act p h (op.Sleeper sleeper_op.HandOut) w n = absurd (cc)
-frame-act p h (op.Sleeper (sleeper_op.CallSleeper s)) w n = frame-call p w (polled_as s.who) s.waker s.poll
-frame-act p h (op.User (user_op.PollOwn x)) w n = absurd (cc)
-frame-act p h (op.Queue o) w n = absurd (cc)
-frame-act p h (op.Tick o) w n = absurd (cc)
-frame-act p h (op.List o) w n = absurd (cc)
-frame-act p h (op.Steal o) w n = absurd (cc)
-frame-act p h (op.Run o) w n = absurd (cc)
-frame-act p h (op.Closing (closing_op.Close mark)) w n = absurd (cc)
-frame-act p h (op.Closing (closing_op.Drain mark)) w n = absurd (cc)
+frame-act p h (Op.Closing ClosingOp.DropNext) w n = frame-drop_next p w _
+frame-act p h (Op.Closing ClosingOp.WakeNext) w n = frame-wake_next p w _
+frame-act p h (Op.Closing ClosingOp.LeakOut) w n = frame-leak_out _ w
+frame-act p h (Op.Closing ClosingOp.LeakNext) w n = frame-leak_next _ p w _
+frame-act p h (Op.Sleeper SleeperOp.ExchangeFlag) w n = absurd (cc)
+frame-act p h (Op.Sleeper SleeperOp.HandOut) w n = absurd (cc)
+frame-act p h (Op.Sleeper (SleeperOp.CallSleeper s)) w n = frame-call p w (polled_as s.who) s.waker s.poll
+frame-act p h (Op.User (UserOp.PollOwn x)) w n = absurd (cc)
+frame-act p h (Op.Queue o) w n = absurd (cc)
+frame-act p h (Op.Tick o) w n = absurd (cc)
+frame-act p h (Op.List o) w n = absurd (cc)
+frame-act p h (Op.Steal o) w n = absurd (cc)
+frame-act p h (Op.Run o) w n = absurd (cc)
+frame-act p h (Op.Closing (ClosingOp.Close mark)) w n = absurd (cc)
+frame-act p h (Op.Closing (ClosingOp.Drain mark)) w n = absurd (cc)
 frame-act p h _ w n = frame w _ refl refl
 
 -- it stays, and nothing of a run or tick follows
@@ -402,18 +372,18 @@ apart-hand_out true None w = apart w _ refl refl
 apart-hand_out true (Some s) w = apart w _ refl refl
 
 pub apart-act : (p : ℕ) (h : Hint) (o : Op) (w : World) → is_run o ≡ false → Apart w (act p h o w)
-apart-act p h (op.Queue queue_op.TakeTurn) w n = apart w _ refl refl
-apart-act p h (op.Queue (queue_op.Take look)) w n = apart-take look _ w
-apart-act p h (op.Queue (queue_op.Append f)) w n = apart-append _ w _ f
-apart-act p h (op.User (user_op.PollOwn x)) w n = absurd (cc)
-apart-act p h (op.Sleeper sleeper_op.ExchangeFlag) w n = apart-exchange _ w
-apart-act p h (op.Sleeper sleeper_op.HandOut) w n = apart-hand_out _ _ w
-apart-act p h (op.Tick o) w n = absurd (cc)
-apart-act p h (op.List o) w n = absurd (cc)
-apart-act p h (op.Steal o) w n = absurd (cc)
-apart-act p h (op.Run o) w n = absurd (cc)
-apart-act p h (op.Closing (closing_op.Close mark)) w n = apart-close mark w
-apart-act p h (op.Closing (closing_op.Drain mark)) w n = apart-drain mark p w _
+apart-act p h (Op.Queue QueueOp.TakeTurn) w n = apart w _ refl refl
+apart-act p h (Op.Queue (QueueOp.Take look)) w n = apart-take look _ w
+apart-act p h (Op.Queue (QueueOp.Append f)) w n = apart-append _ w _ f
+apart-act p h (Op.User (UserOp.PollOwn x)) w n = absurd (cc)
+apart-act p h (Op.Sleeper SleeperOp.ExchangeFlag) w n = apart-exchange _ w
+apart-act p h (Op.Sleeper SleeperOp.HandOut) w n = apart-hand_out _ _ w
+apart-act p h (Op.Tick o) w n = absurd (cc)
+apart-act p h (Op.List o) w n = absurd (cc)
+apart-act p h (Op.Steal o) w n = absurd (cc)
+apart-act p h (Op.Run o) w n = absurd (cc)
+apart-act p h (Op.Closing (ClosingOp.Close mark)) w n = apart-close mark w
+apart-act p h (Op.Closing (ClosingOp.Drain mark)) w n = apart-drain mark p w _
 apart-act p h o w n = apart-frame w (act p h o w) (frame-act p h o w refl)
 
 -- a count that is nothing where none of these is

@@ -1,86 +1,63 @@
 -- For own_queues_agree.
 -- A count of the parts of runs' polls, so many for each part of a poll: what follows counts no more than what was done.
-use Rattle.std.proofs.Common.{◌≡◌, ℕ, ◌≤◌, ◌%◌, List, length, Bool, true, false}
-use Rattle.std.proofs.Common.{refl, ap, arith}
-use Rattle.executor_model.specs.declared.event.Answer.TheVariants as answer
-use Rattle.executor_model.specs.declared.op.ListOp.{ListOp}
-use Rattle.executor_model.specs.declared.op.ListOp.TheVariants as list_op
-use Rattle.executor_model.specs.declared.op.Op.{Op}
-use Rattle.executor_model.specs.declared.op.Op.TheVariants as op
-use Rattle.executor_model.specs.declared.op.RunOp.{RunOp}
-use Rattle.executor_model.specs.declared.op.RunOp.TheVariants as run_op
-use Rattle.executor_model.specs.declared.op.RunPoll.{RunPoll}
-use Rattle.executor_model.specs.declared.op.Section.{Section}
-use Rattle.executor_model.specs.declared.op.Section.TheVariants as section
-use Rattle.executor_model.specs.declared.op.TickOrRun.{TickOrRun}
-use Rattle.executor_model.specs.declared.op.TickOrRun.TheVariants as tick_or_run
-use Rattle.executor_model.specs.declared.op.Steal.{Steal}
-use Rattle.executor_model.specs.declared.op.TickOp.{TickOp}
-use Rattle.executor_model.specs.declared.op.TickOp.TheVariants as tick_op
-use Rattle.executor_model.specs.declared.op.UserOp.TheVariants as user_op
-use Rattle.executor_model.specs.declared.op.Waker.{Waker}
-use Rattle.executor_model.specs.declared.step.Hint.{Hint}
-use Rattle.executor_model.specs.declared.step.UserEnd.{UserEnd}
-use Rattle.executor_model.specs.declared.step.UserEnd.TheVariants as end
+use Rattle.std.proofs.Common.{◌≡◌, ℕ, ◌≤◌, ◌%◌, List, length, Bool, true, false, refl, ap, arith}
+use Rattle.executor_model.proofs.Types.{Answer, ListOp, Op, RunOp, RunPoll, Section, TickOrRun, Steal, TickOp, UserOp, Waker}
+use Rattle.executor_model.specs.{Doing.act, Doing.list_act, Steps.accepts, Steps.react, Weights.weigh, World.World, World.Done}
+use Rattle.executor_model.proofs.OwnQueues.RunsDone.{to_walk, walk_ends, walk_on, Deed, keeps, takes, lacks, shares, grows}
+use Rattle.executor_model.proofs.OwnQueues.RunsDone.{wakes, lists, deed-act, is_loud, loud, loud-weigh, poll_in, walks-by}
+use Rattle.executor_model.proofs.OwnQueues.RunsDone.{Stole, More, no_more, one_more, Walks, Missing, misses_there, Leads, finds}
+use Rattle.executor_model.proofs.{Types.Hint, Types.UserEnd, OwnQueues.RunsDone.stole, OwnQueues.RunsDone.looks}
 use Rattle.executor_model.specs.ActsOfRuns as runs
-use Rattle.executor_model.specs.Doing.{act, list_act}
-use Rattle.executor_model.specs.Steps.{accepts, react}
-use Rattle.executor_model.specs.Weights.{weigh}
-use Rattle.executor_model.specs.World.{World, Done}
-use Rattle.executor_model.proofs.OwnQueues.RunsDone.{to_walk, walk_ends, walk_on}
-use Rattle.executor_model.proofs.OwnQueues.RunsDone.{Deed, keeps, takes, lacks, shares, grows, wakes, lists, deed-act, is_loud, loud}
-use Rattle.executor_model.proofs.OwnQueues.RunsDone.{loud-weigh, poll_in, walks-by, Stole, More, no_more, one_more, Walks, Missing}
-use Rattle.executor_model.proofs.OwnQueues.RunsDone.{misses_there, Leads, finds, stole, looks}
 
 abbrev pub part_who : (RunPoll → ℕ) → TickOrRun → Waker → ℕ → ℕ
-part_who n (tick_or_run.Tick t) a k = 0
-part_who n (tick_or_run.Run r) a k = n (record { run = r; waker = a; poll = k })
+part_who n (TickOrRun.Tick t) a k = 0
+part_who n (TickOrRun.Run r) a k = n (record { run = r; waker = a; poll = k })
 
 abbrev pub part_section : (RunPoll → ℕ) → Section → ℕ
-part_section n section.MakeRun = 0
-part_section n (section.Register x) = n x
-part_section n (section.Unregister r a) = 0
+part_section n Section.MakeRun = 0
+part_section n (Section.Register x) = n x
+part_section n (Section.Unregister r a) = 0
 
 abbrev pub part_list : (RunPoll → ℕ) → ListOp → ℕ
-part_list n (list_op.LockWrite s) = part_section n s
-part_list n (list_op.Write s) = part_section n s
-part_list n (list_op.LockRead x) = n x
+part_list n (ListOp.LockWrite s) = part_section n s
+part_list n (ListOp.Write s) = part_section n s
+part_list n (ListOp.LockRead x) = n x
 part_list n _ = 0
 
 abbrev pub part_tick : (RunPoll → ℕ) → TickOp → ℕ
-part_tick n (tick_op.Search s) = part_who n s.who s.waker s.poll
-part_tick n (tick_op.Look s look) = part_who n s.who s.waker s.poll
-part_tick n (tick_op.CopyWaker s) = part_who n s.who s.waker s.poll
-part_tick n (tick_op.FallAsleep s) = part_who n s.who s.waker s.poll
+part_tick n (TickOp.Search s) = part_who n s.who s.waker s.poll
+part_tick n (TickOp.Look s look) = part_who n s.who s.waker s.poll
+part_tick n (TickOp.CopyWaker s) = part_who n s.who s.waker s.poll
+part_tick n (TickOp.FallAsleep s) = part_who n s.who s.waker s.poll
 part_tick n _ = 0
 
 abbrev pub part_run : (RunPoll → ℕ) → RunOp → ℕ
-part_run n (run_op.TakeTurn x) = n x
-part_run n (run_op.SearchCommon x look) = n x
-part_run n (run_op.LookOwn x at left) = n x
-part_run n (run_op.WakeOwn x) = n x
+part_run n (RunOp.TakeTurn x) = n x
+part_run n (RunOp.SearchCommon x look) = n x
+part_run n (RunOp.LookOwn x at left) = n x
+part_run n (RunOp.WakeOwn x) = n x
 part_run n _ = 0
 
 abbrev pub part_of : (RunPoll → ℕ) → Op → ℕ
-part_of n (op.User (user_op.PollOwn x)) = n x
-part_of n (op.Tick o) = part_tick n o
-part_of n (op.List o) = part_list n o
-part_of n (op.Steal o) = n (poll_in o)
-part_of n (op.Run o) = part_run n o
+part_of n (Op.User (UserOp.PollOwn x)) = n x
+part_of n (Op.Tick o) = part_tick n o
+part_of n (Op.List o) = part_list n o
+part_of n (Op.Steal o) = n (poll_in o)
+part_of n (Op.Run o) = part_run n o
 part_of n _ = 0
 
 module _ (n : RunPoll → ℕ) where
   quiet-part : (o : Op) → is_loud o ≡ false → part_of n o ≡ 0
-  quiet-part (op.User (user_op.PollOwn x)) e = absurd (cc)
-  quiet-part (op.Tick (tick_op.Search s)) e = absurd (cc)
-  quiet-part (op.Tick (tick_op.Look s look)) e = absurd (cc)
-  quiet-part (op.Tick (tick_op.CopyWaker s)) e = absurd (cc)
-  quiet-part (op.Tick (tick_op.FallAsleep s)) e = absurd (cc)
-  quiet-part (op.List o) e = absurd (cc)
-  quiet-part (op.Steal o) e = absurd (cc)
-  quiet-part (op.Run run_op.MakeRoom) e = refl
-  quiet-part (op.Run run_op.ReturnRoom) e = refl
-  quiet-part (op.Run _) e = absurd (cc)
+  quiet-part (Op.User (UserOp.PollOwn x)) e = absurd (cc)
+  quiet-part (Op.Tick (TickOp.Search s)) e = absurd (cc)
+  quiet-part (Op.Tick (TickOp.Look s look)) e = absurd (cc)
+  quiet-part (Op.Tick (TickOp.CopyWaker s)) e = absurd (cc)
+  quiet-part (Op.Tick (TickOp.FallAsleep s)) e = absurd (cc)
+  quiet-part (Op.List o) e = absurd (cc)
+  quiet-part (Op.Steal o) e = absurd (cc)
+  quiet-part (Op.Run RunOp.MakeRoom) e = refl
+  quiet-part (Op.Run RunOp.ReturnRoom) e = refl
+  quiet-part (Op.Run _) e = absurd (cc)
   quiet-part _ e = refl
 
   stole-part : (x : RunPoll) (k : ℕ) (os : List Op) → Stole x k os → weigh (part_of n) os ≡ n x
@@ -105,19 +82,19 @@ module _ (n : RunPoll → ℕ) where
   leads-part o _ (looks x at left {os = os} z) = omega (arith, stole-part x 0 os z)
   leads-part o os _ = omega arith
 
-  list-part : (h : Hint) (o : ListOp) (w : World) → weigh (part_of n) (list_act h o w).next ≤ part_of n (op.List o)
-  list-part h (list_op.Write section.MakeRun) w = by h.refused
+  list-part : (h : Hint) (o : ListOp) (w : World) → weigh (part_of n) (list_act h o w).next ≤ part_of n (Op.List o)
+  list-part h (ListOp.Write Section.MakeRun) w = by h.refused
     where
       by : (b : Bool) → weigh (part_of n) (runs.make_run_by b w).next ≤ 0
       by true = omega arith
       by false = omega arith
-  list-part h (list_op.LockRead x) w =
+  list-part h (ListOp.LockRead x) w =
       let os = runs.walk x w.listed (h.start % length w.listed) (length w.listed) in omega (
         arith,
         loud-weigh (part_of n) quiet-part os,
         walks-part x (loud os) (walks-by x w.listed (h.start % length w.listed) (length w.listed)),
       )
-  list-part h (list_op.Write (section.Register x)) w = omega arith
+  list-part h (ListOp.Write (Section.Register x)) w = omega arith
   list-part h _ w = omega arith
 
   calm-loud : (o : Op) (d : Done) → weigh (part_of n) (loud d.next) ≤ part_of n o → weigh (part_of n) d.next ≤ part_of n o
@@ -137,12 +114,12 @@ module _ (n : RunPoll → ℕ) where
 
   pub calm-react : (p : ℕ) (o : Op) (e : UserEnd) (w : World) → accepts o e ≡ true →
       weigh (part_of n) (react p o e w).next ≤ part_of n o
-  calm-react p (op.User (user_op.PollOwn x)) (end.Polled answer.Pending) w a = omega arith
-  calm-react p (op.User (user_op.PollOwn x)) (end.Polled answer.Ready) w a = omega arith
-  calm-react p (op.User (user_op.Poll f)) (end.Polled answer.Pending) w a = omega arith
-  calm-react p (op.User (user_op.Poll f)) (end.Polled answer.Ready) w a = omega arith
-  calm-react p (op.User (user_op.Drop f)) end.Done w a = omega arith
-  calm-react p (op.User (user_op.DropOutput f)) end.Done w a = omega arith
-  calm-react p (op.User (user_op.CallOutside x)) end.Done w a = omega arith
-  calm-react p (op.User (user_op.DropOwn q)) end.Done w a = omega arith
+  calm-react p (Op.User (UserOp.PollOwn x)) (UserEnd.Polled Answer.Pending) w a = omega arith
+  calm-react p (Op.User (UserOp.PollOwn x)) (UserEnd.Polled Answer.Ready) w a = omega arith
+  calm-react p (Op.User (UserOp.Poll f)) (UserEnd.Polled Answer.Pending) w a = omega arith
+  calm-react p (Op.User (UserOp.Poll f)) (UserEnd.Polled Answer.Ready) w a = omega arith
+  calm-react p (Op.User (UserOp.Drop f)) UserEnd.Done w a = omega arith
+  calm-react p (Op.User (UserOp.DropOutput f)) UserEnd.Done w a = omega arith
+  calm-react p (Op.User (UserOp.CallOutside x)) UserEnd.Done w a = omega arith
+  calm-react p (Op.User (UserOp.DropOwn q)) UserEnd.Done w a = omega arith
   calm-react p _ _ w a = absurd (cc)

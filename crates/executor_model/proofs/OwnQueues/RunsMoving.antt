@@ -2,45 +2,18 @@
 -- What a run does, by what it changes of the stages, the own queues, their list and its lock; and what follows, for
 -- counts
 -- that tell its operations apart.
-use Rattle.std.proofs.Common.{◌≡◌, ◌∙◌, ℕ, zero, suc, ◌+◌, List, [], ◌∷◌, Bool, true, false, eqb}
-use Rattle.std.proofs.Common.{refl, ap, arith}
+use Rattle.std.proofs.Common.{◌≡◌, ◌∙◌, ℕ, zero, suc, ◌+◌, List, [], ◌∷◌, Bool, true, false, eqb, refl, ap, arith}
 use Rattle.std.specs.Prelude.{Option, Some, None}
-use Rattle.executor_parts.specs.declared.mark.Mark.TheVariants.{Plain, Urgent}
-use Rattle.executor_model.specs.declared.op.Look.{Look}
-use Rattle.executor_model.specs.declared.op.Look.TheVariants.{First, Second}
-use Rattle.task_moves.specs.declared.moves.owed.Move.TheVariants as move
-use Rattle.executor_model.specs.declared.op.ListOp.TheVariants as list_op
-use Rattle.executor_model.specs.declared.op.Op.{Op}
-use Rattle.executor_model.specs.declared.op.Op.TheVariants as op
-use Rattle.executor_model.specs.declared.op.RunOp.TheVariants as run_op
-use Rattle.executor_model.specs.declared.op.RunPoll.{RunPoll}
-use Rattle.executor_model.specs.declared.op.TickOrRun.{TickOrRun}
-use Rattle.executor_model.specs.declared.op.TickOrRun.TheVariants as tick_or_run
-use Rattle.executor_model.specs.declared.op.SleeperOp.TheVariants as sleeper_op
-use Rattle.executor_model.specs.declared.op.Sleeping.{Sleeping}
-use Rattle.executor_model.specs.declared.op.Source.TheVariants.{Common, Own}
-use Rattle.executor_model.specs.declared.op.Steal.{Steal}
-use Rattle.executor_model.specs.declared.op.StealOp.TheVariants as steal_op
-use Rattle.executor_model.specs.declared.op.Then.{Then}
-use Rattle.executor_model.specs.declared.op.Then.TheVariants as then
-use Rattle.executor_model.specs.declared.op.TickOp.{TickOp}
-use Rattle.executor_model.specs.declared.op.TickOp.TheVariants as tick_op
-use Rattle.executor_model.specs.declared.op.Waker.{Waker}
-use Rattle.executor_model.specs.declared.op.Waker.TheVariants.{Task, Outside}
-use Rattle.executor_model.specs.declared.step.Hint.{Hint}
-use Rattle.executor_model.specs.Acts.{copied}
-use Rattle.executor_model.specs.ActsOfRuns as runs
+use Rattle.executor_model.proofs.Types.{Plain, Urgent, Look, First, Second, Move, ListOp, Op, RunOp, RunPoll, TickOrRun}
+use Rattle.executor_model.proofs.Types.{SleeperOp, Sleeping, Common, Own, Steal, StealOp, Then, TickOp, Waker, Task, Outside}
 use Rattle.executor_model.specs.ActsOfSleepers.{copy_sleeper_by, found_by, wake_up_by, leave_sleepers_by, sleep_again_by}
 use Rattle.executor_model.specs.ActsOfSleepers.{sleep_anew_by, fall_asleep_by, sleep_listed_by, make_tick_by, look_tick_by}
-use Rattle.executor_model.specs.Doing.{tick_act}
-use Rattle.executor_model.specs.Weights.{weigh}
-use Rattle.executor_model.specs.declared.op.Awaiter.{Awaiter}
-use Rattle.executor_model.specs.Queues.{Queues}
-use Rattle.executor_model.specs.Trace.{Trace}
 use Rattle.executor_model.specs.World.{World, Ticker, Awake, Asleep, Left, run_of, runs_with}
-use Rattle.executor_model.proofs.Steps.Lists.{weigh-append}
+use Rattle.executor_model.specs.{Acts.copied, Doing.tick_act, Weights.weigh, Queues.Queues, Trace.Trace}
 use Rattle.executor_model.proofs.OwnQueues.RunsAside.{Coat, coat, coat-placed, coat-run, hull, hull_of}
 use Rattle.executor_model.proofs.Steps.SleepersNext.{Blind, copy-blind, leave-blind, sleep-blind, make-blind, up-blind}
+use Rattle.executor_model.proofs.{Types.Hint, Types.Awaiter, Steps.Lists.weigh-append}
+use Rattle.executor_model.specs.ActsOfRuns as runs
 
 -- what it changes
 
@@ -57,10 +30,10 @@ pub coat-found : (w : World) (x : RunPoll) (f : ℕ) → coat w ≡ coat (runs.f
 coat-found w x f = coat-counted _ w x f
 
 pub coat-stolen : (t : Then) (w : World) (x : RunPoll) → coat w ≡ coat (runs.stolen t w x).world
-coat-stolen (then.Found f) w x = coat-found w x f
-coat-stolen (then.StealPlain f) w x = refl
-coat-stolen (then.Run f) w x = coat-run_by _ w x f
-coat-stolen (then.Walk at left) w x = refl
+coat-stolen (Then.Found f) w x = coat-found w x f
+coat-stolen (Then.StealPlain f) w x = refl
+coat-stolen (Then.Run f) w x = coat-run_by _ w x f
+coat-stolen (Then.Walk at left) w x = refl
 
 pub coat-more : (n : ℕ) (w : World) (s : Steal) → coat w ≡ coat (runs.steal_by n w s).world
 coat-more zero w s = coat-stolen s.then w s.poll
@@ -151,18 +124,18 @@ wide-leave (Asleep n) w t = wide-placed w t Left
 wide-leave Left w t = refl
 
 abbrev pub is_search : TickOp → Bool
-is_search (tick_op.Search s) = true
-is_search (tick_op.Look s look) = true
+is_search (TickOp.Search s) = true
+is_search (TickOp.Look s look) = true
 is_search _ = false
 
 pub wide-tick : (p : ℕ) (h : Hint) (o : TickOp) (w : World) → is_search o ≡ false → wide w ≡ wide (tick_act p h o w).world
-wide-tick p h tick_op.MakeTick w e = wide-make _ w
-wide-tick p h (tick_op.Search s) w e = absurd (cc)
-wide-tick p h (tick_op.Look s look) w e = absurd (cc)
-wide-tick p h (tick_op.CopyWaker s) w e = wide-copy _ w s
-wide-tick p h (tick_op.FallAsleep s) w e = wide-sleep _ w s
-wide-tick p h (tick_op.WakeUp t) w e = wide-up _ w t
-wide-tick p h (tick_op.Leave t) w e = wide-leave _ w t
+wide-tick p h TickOp.MakeTick w e = wide-make _ w
+wide-tick p h (TickOp.Search s) w e = absurd (cc)
+wide-tick p h (TickOp.Look s look) w e = absurd (cc)
+wide-tick p h (TickOp.CopyWaker s) w e = wide-copy _ w s
+wide-tick p h (TickOp.FallAsleep s) w e = wide-sleep _ w s
+wide-tick p h (TickOp.WakeUp t) w e = wide-up _ w t
+wide-tick p h (TickOp.Leave t) w e = wide-leave _ w t
 
 pub coat-tick : (p : ℕ) (h : Hint) (o : TickOp) (w : World) → is_search o ≡ false → coat w ≡ coat (tick_act p h o w).world
 coat-tick p h o w e = ap (λ (x : Wide). x.coat) (wide-tick p h o w e)
@@ -186,28 +159,28 @@ hull-more n w s = ap hull_of (coat-more n w s)
 
 -- what is found weighs so much in the end, and a walk so much
 pub record Weighs (v : Op → ℕ) (x : RunPoll) (found walks : ℕ) : Type 0 where
-  pub exchange : v (op.Sleeper sleeper_op.ExchangeFlag) ≡ 0
-  pub up : (who : TickOrRun) → v (op.Tick (tick_op.WakeUp who)) ≡ 0
-  pub take_up : (f : ℕ) → v (op.Move move.TakeUp f) ≡ 0
-  pub search : v (op.Tick (tick_op.Search (runs.asleep x))) ≡ found
-  pub wake : v (op.Run (run_op.WakeOwn x)) ≡ found
+  pub exchange : v (Op.Sleeper SleeperOp.ExchangeFlag) ≡ 0
+  pub up : (who : TickOrRun) → v (Op.Tick (TickOp.WakeUp who)) ≡ 0
+  pub take_up : (f : ℕ) → v (Op.Move Move.TakeUp f) ≡ 0
+  pub search : v (Op.Tick (TickOp.Search (runs.asleep x))) ≡ found
+  pub wake : v (Op.Run (RunOp.WakeOwn x)) ≡ found
   pub steal : (f : ℕ) →
-      v (op.Steal (steal_op.Length (record { poll = x; from = Common Urgent; then = then.StealPlain f }))) ≡ found
+      v (Op.Steal (StealOp.Length (record { poll = x; from = Common Urgent; then = Then.StealPlain f }))) ≡ found
   pub steal_plain : (f : ℕ) →
-      v (op.Steal (steal_op.Length (record { poll = x; from = Common Plain; then = then.Run f }))) ≡ found
-  pub look : (at left : ℕ) → v (op.Run (run_op.LookOwn x at left)) ≡ walks
+      v (Op.Steal (StealOp.Length (record { poll = x; from = Common Plain; then = Then.Run f }))) ≡ found
+  pub look : (at left : ℕ) → v (Op.Run (RunOp.LookOwn x at left)) ≡ walks
 
 abbrev pub by_then : ℕ → ℕ → Then → ℕ
-by_then found walks (then.Found f) = found
-by_then found walks (then.StealPlain f) = found
-by_then found walks (then.Run f) = found
-by_then found walks (then.Walk at left) = walks
+by_then found walks (Then.Found f) = found
+by_then found walks (Then.StealPlain f) = found
+by_then found walks (Then.Run f) = found
+by_then found walks (Then.Walk at left) = walks
 
 pub nothing-by : (t : Then) → by_then 0 0 t ≡ 0
-nothing-by (then.Found f) = refl
-nothing-by (then.StealPlain f) = refl
-nothing-by (then.Run f) = refl
-nothing-by (then.Walk at left) = refl
+nothing-by (Then.Found f) = refl
+nothing-by (Then.StealPlain f) = refl
+nothing-by (Then.Run f) = refl
+nothing-by (Then.Walk at left) = refl
 
 module _ (v : Op → ℕ) (x : RunPoll) (n m : ℕ) (z : Weighs v x n m) where
   weighs-run_by : (b : Bool) (w : World) (f : ℕ) → weigh v (runs.run_by b w x f).next ≡ n
@@ -218,32 +191,32 @@ module _ (v : Op → ℕ) (x : RunPoll) (n m : ℕ) (z : Weighs v x n m) where
   weighs-counted true w f = omega (arith, z.steal f)
   weighs-counted false w f = weighs-run_by _ _ f
 
-  weighs-wakes_up : (p : Ticker) (who : TickOrRun) → weigh v (found_by p who (op.Sleeper sleeper_op.ExchangeFlag ∷ [])) ≡ 0
+  weighs-wakes_up : (p : Ticker) (who : TickOrRun) → weigh v (found_by p who (Op.Sleeper SleeperOp.ExchangeFlag ∷ [])) ≡ 0
   weighs-wakes_up Awake who = omega (arith, z.exchange)
   weighs-wakes_up (Asleep k) who = omega (arith, z.up who, z.exchange)
   weighs-wakes_up Left who = omega (arith, z.exchange)
 
   pub weighs-found : (w : World) (f : ℕ) → weigh v (runs.found w x f).next ≡ n
   weighs-found w f =
-      let first = found_by (run_of w x.run).place (tick_or_run.Run x.run) (op.Sleeper sleeper_op.ExchangeFlag ∷ []) in
+      let first = found_by (run_of w x.run).place (TickOrRun.Run x.run) (Op.Sleeper SleeperOp.ExchangeFlag ∷ []) in
       let b = eqb ((run_of w x.run).counted + 1) 64 in
       omega (
         arith,
         weigh-append v first (runs.counted_by b w x f).next,
-        weighs-wakes_up (run_of w x.run).place (tick_or_run.Run x.run),
+        weighs-wakes_up (run_of w x.run).place (TickOrRun.Run x.run),
         weighs-counted b w f,
       )
 
   pub weighs-stolen : (t : Then) (w : World) → weigh v (runs.stolen t w x).next ≡ by_then n m t
-  weighs-stolen (then.Found f) w = weighs-found w f
-  weighs-stolen (then.StealPlain f) w = omega (arith, z.steal_plain f)
-  weighs-stolen (then.Run f) w = weighs-run_by _ w f
-  weighs-stolen (then.Walk at left) w = omega (arith, z.look at left)
+  weighs-stolen (Then.Found f) w = weighs-found w f
+  weighs-stolen (Then.StealPlain f) w = omega (arith, z.steal_plain f)
+  weighs-stolen (Then.Run f) w = weighs-run_by _ w f
+  weighs-stolen (Then.Walk at left) w = omega (arith, z.look at left)
 
 -- a walk goes on with a steal from a run's queue, or ends
 pub walk-by : (Q : List Op → Type 0) (x : RunPoll) →
-    Q (op.List list_op.UnlockRead ∷ op.Tick (tick_op.CopyWaker (runs.asleep x)) ∷ []) →
-    ((r at left : ℕ) → Q (op.Steal (steal_op.Length (record { poll = x; from = Own r; then = then.Walk at left })) ∷
+    Q (Op.List ListOp.UnlockRead ∷ Op.Tick (TickOp.CopyWaker (runs.asleep x)) ∷ []) →
+    ((r at left : ℕ) → Q (Op.Steal (StealOp.Length (record { poll = x; from = Own r; then = Then.Walk at left })) ∷
     [])) →
     (qs : List ℕ) (at left : ℕ) → Q (runs.walk x qs at left)
 walk-by Q x ends steals qs at zero = ends
@@ -252,10 +225,10 @@ walk-by Q x ends steals qs at (suc left) = by (eqb (runs.queue_at qs at) x.run)
   where
     by : (b : Bool) → Q (runs.walk x qs (runs.next_place qs at) left) → Q (let h : List Op = elim b [
       | true ↦ runs.walk x qs (runs.next_place qs at) left
-      | false ↦ op.Steal (steal_op.Length (record {
+      | false ↦ Op.Steal (StealOp.Length (record {
         poll = x;
         from = Own (runs.queue_at qs at);
-        then = then.Walk (runs.next_place qs at) left;
+        then = Then.Walk (runs.next_place qs at) left;
       })) ∷ []
     ] in h)
     by true z = z
@@ -264,10 +237,10 @@ walk-by Q x ends steals qs at (suc left) = by (eqb (runs.queue_at qs at) x.run)
 -- for counts that see nothing of ticks
 pub slumbering-blind : (v : Op → ℕ) → Blind v → (p : ℕ) (h : Hint) (o : TickOp) (w : World) → is_search o ≡ false →
     weigh v (tick_act p h o w).next ≡ 0
-slumbering-blind v u p h tick_op.MakeTick w e = make-blind v u _ w
-slumbering-blind v u p h (tick_op.Search s) w e = absurd (cc)
-slumbering-blind v u p h (tick_op.Look s look) w e = absurd (cc)
-slumbering-blind v u p h (tick_op.CopyWaker s) w e = copy-blind v u _ w s
-slumbering-blind v u p h (tick_op.FallAsleep s) w e = sleep-blind v u _ w s
-slumbering-blind v u p h (tick_op.WakeUp t) w e = up-blind v u _ w t
-slumbering-blind v u p h (tick_op.Leave t) w e = leave-blind v u _ w t
+slumbering-blind v u p h TickOp.MakeTick w e = make-blind v u _ w
+slumbering-blind v u p h (TickOp.Search s) w e = absurd (cc)
+slumbering-blind v u p h (TickOp.Look s look) w e = absurd (cc)
+slumbering-blind v u p h (TickOp.CopyWaker s) w e = copy-blind v u _ w s
+slumbering-blind v u p h (TickOp.FallAsleep s) w e = sleep-blind v u _ w s
+slumbering-blind v u p h (TickOp.WakeUp t) w e = up-blind v u _ w t
+slumbering-blind v u p h (TickOp.Leave t) w e = leave-blind v u _ w t

@@ -1,30 +1,18 @@
 -- For own_queues_agree.
 -- What each thing to do tells of a run's last poll: nothing, but that its waker may be called.
 use Rattle.std.proofs.Common.{◌≡◌, ◌∙◌, ℕ, [], ◌∷◌, ◌++◌, length, Bool, true, false, ◌&&◌, eqb, refl, sym, subst}
-use Rattle.task_moves.specs.declared.moves.owed.Move.TheVariants as move
-use Rattle.executor_model.specs.declared.event.Event.{Event}
-use Rattle.executor_model.specs.declared.event.Event.TheVariants as event
-use Rattle.executor_model.specs.declared.op.Op.{Op}
-use Rattle.executor_model.specs.declared.op.Op.TheVariants as op
-use Rattle.executor_model.specs.declared.op.Polled.TheVariants as of
-use Rattle.executor_model.specs.declared.op.StealOp.TheVariants as steal_op
-use Rattle.executor_model.specs.declared.step.Hint.{Hint}
-use Rattle.executor_model.specs.declared.step.UserEnd.{UserEnd}
-use Rattle.executor_model.specs.Doing.{act}
-use Rattle.executor_model.specs.Steps.{accepts, react}
-use Rattle.executor_model.specs.Trace.{Trace, has}
-use Rattle.executor_model.specs.World.{World}
+use Rattle.executor_model.proofs.Types.{Move, Event, Op, Polled, StealOp, Hint, UserEnd}
+use Rattle.executor_model.specs.{Doing.act, Steps.accepts, Steps.react, Trace.Trace, Trace.has, World.World}
 use Rattle.executor_model.proofs.OwnQueues.RunsWatched.{Watched, watched, watched-push, watches}
 use Rattle.executor_model.proofs.Steps.TraceGrows.{Allows, Grows, grows-act, grows-react, is_ordinary}
-use Rattle.executor_model.proofs.Steps.TraceMore.{over-more}
-use Rattle.executor_model.proofs.Steps.Tests.{or-left}
+use Rattle.executor_model.proofs.{Steps.TraceMore.over-more, Steps.Tests.or-left}
 
 abbrev pub polls_run : Event → Bool
-polls_run (event.RunPolled p q) = true
+polls_run (Event.RunPolled p q) = true
 polls_run _ = false
 
 ordinary-polls : (e : Event) → is_ordinary e ≡ true → polls_run e ≡ false
-ordinary-polls (event.RunPolled p q) z = absurd (cc)
+ordinary-polls (Event.RunPolled p q) z = absurd (cc)
 ordinary-polls _ z = refl
 
 -- the last poll stays, and what was called stays so
@@ -45,8 +33,8 @@ later-and a b c x y = record {
 
 module _ (r : ℕ) where
   mild : (n : ℕ) (e : Event) (s : Watched) → polls_run e ≡ false → Later s (watches r n e s)
-  mild n (event.RunPolled p q) s z = absurd (cc)
-  mild n (event.WakerCalled p (of.Run q) k a) s z =
+  mild n (Event.RunPolled p q) s z = absurd (cc)
+  mild n (Event.WakerCalled p (Polled.Run q) k a) s z =
       record { polled = refl; poll = refl; called = or-left s.called (eqb r q && eqb s.poll k) }
   mild n _ s z = same-later s
 
@@ -89,9 +77,9 @@ module _ (r : ℕ) where
   seen-act p h o w = seen-grown w (act p h o w).world (grows-act polls_run ordinary-polls p h o w (allows o))
     where
       allows : (x : Op) → Allows polls_run ordinary-polls p x
-      allows (op.Move move.TakeUp f) = refl
-      allows (op.Steal (steal_op.Put s more f)) = refl
-      allows (op.End a held) = refl
+      allows (Op.Move Move.TakeUp f) = refl
+      allows (Op.Steal (StealOp.Put s more f)) = refl
+      allows (Op.End a held) = refl
       allows _ = tt
 
   pub seen-react : (p : ℕ) (o : Op) (u : UserEnd) (w : World) → accepts o u ≡ true → Seen w (react p o u w).world

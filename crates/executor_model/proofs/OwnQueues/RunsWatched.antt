@@ -1,19 +1,12 @@
 -- For own_queues_agree.
 -- What a trace tells of a run's last poll, read from left to right.
-use Rattle.std.proofs.Common.{◌≡◌, ◌⊎◌, ◌∙◌, inl, inr, ⊎_elim, ℕ, zero, suc, ◌+◌, ◌<◌, [], ◌∷◌}
-use Rattle.std.proofs.Common.{◌++◌, length, drop, Bool, true, false, ◌&&◌, ◌||◌, eqb, cond, refl, sym, ap, subst}
-use Rattle.std.proofs.Common.{arith, append-nil}
-use Rattle.std.proofs.lemmas.Bool.Decides.{nat_tests}
-use Rattle.std.proofs.lemmas.List.{append_assoc, length-append}
+use Rattle.std.proofs.Common.{◌≡◌, ◌⊎◌, ◌∙◌, inl, inr, ⊎_elim, ℕ, zero, suc, ◌+◌, ◌<◌, [], ◌∷◌, ◌++◌, length, drop, Bool, true}
+use Rattle.std.proofs.Common.{false, ◌&&◌, ◌||◌, eqb, cond, refl, sym, ap, subst, arith, append-nil}
 use Rattle.std.specs.Prelude.{Option, Some, slice_get}
-use Rattle.executor_model.specs.declared.event.Event.{Event}
-use Rattle.executor_model.specs.declared.event.Event.TheVariants as event
-use Rattle.executor_model.specs.declared.op.Polled.TheVariants as of
-use Rattle.executor_model.specs.declared.op.TickOrRun.TheVariants as tick_or_run
-use Rattle.executor_model.specs.declared.op.Waker.{Waker}
-use Rattle.executor_model.specs.AwaiterKept.{since}
+use Rattle.std.{proofs.lemmas.Bool.Decides.nat_tests, proofs.lemmas.List.append_assoc, proofs.lemmas.List.length-append}
+use Rattle.executor_model.proofs.Types.{Event, Polled, TickOrRun, Waker}
 use Rattle.executor_model.specs.Standing.{CallsItself, calls_poll, polls_sleeper}
-use Rattle.executor_model.specs.Trace.{Trace, has}
+use Rattle.executor_model.specs.{AwaiterKept.since, Trace.Trace, Trace.has}
 
 pub record Watched : Type 0 where
   -- it was polled; where its last poll stands, and whose it is; and whether the waker of that was called since
@@ -27,8 +20,8 @@ unwatched = record { polled = false; poll = 0; party = 0; called = false }
 
 -- the event at place n
 abbrev pub watches : ℕ → ℕ → Event → Watched → Watched
-watches r n (event.RunPolled p q) s = cond (eqb r q) (record { polled = true; poll = n; party = p; called = false }) s
-watches r n (event.WakerCalled p (of.Run q) k a) s = record s { called = s.called || (eqb r q && eqb s.poll k) }
+watches r n (Event.RunPolled p q) s = cond (eqb r q) (record { polled = true; poll = n; party = p; called = false }) s
+watches r n (Event.WakerCalled p (Polled.Run q) k a) s = record s { called = s.called || (eqb r q && eqb s.poll k) }
 watches r n _ s = s
 
 abbrev pub watched_from : ℕ → ℕ → Watched → Trace → Watched
@@ -58,9 +51,9 @@ watched-none r = refl
 -- it is so: what is read is what the trace says
 record Reads (r : ℕ) (es : Trace) (s : Watched) : Type 0 where
   pub within : s.polled ≡ true → s.poll < length es
-  pub polled : s.polled ≡ true → slice_get es s.poll ≡ Some (event.RunPolled s.party r)
-  pub last : s.polled ≡ true → has (polls_sleeper (tick_or_run.Run r)) (since s.poll es) ≡ false
-  pub called : s.polled ≡ true → s.called ≡ true → has (calls_poll (tick_or_run.Run r) s.poll) (since s.poll es) ≡ true
+  pub polled : s.polled ≡ true → slice_get es s.poll ≡ Some (Event.RunPolled s.party r)
+  pub last : s.polled ≡ true → has (polls_sleeper (TickOrRun.Run r)) (since s.poll es) ≡ false
+  pub called : s.polled ≡ true → s.called ≡ true → has (calls_poll (TickOrRun.Run r) s.poll) (since s.poll es) ≡ true
 
 get-old : (es : Trace) (k : ℕ) (x : Event) → k < length es → slice_get (es ++ x ∷ []) k ≡ slice_get es k
 get-old [] k x h = absurd (omega (arith, h))
@@ -102,19 +95,19 @@ has-push test (e ∷ es) x = ap (λ (b : Bool). test e || b) (has-push test es x
     by false b c = refl
 
 -- an event that is no poll of it
-reads-more : (r : ℕ) (es : Trace) (e : Event) (s : Watched) (c : Bool) → polls_sleeper (tick_or_run.Run r) e ≡ false →
-    (c ≡ true → (s.called ≡ true) ⊎ (calls_poll (tick_or_run.Run r) s.poll e ≡ true)) → Reads r es s →
+reads-more : (r : ℕ) (es : Trace) (e : Event) (s : Watched) (c : Bool) → polls_sleeper (TickOrRun.Run r) e ≡ false →
+    (c ≡ true → (s.called ≡ true) ⊎ (calls_poll (TickOrRun.Run r) s.poll e ≡ true)) → Reads r es s →
     Reads r (es ++ e ∷ []) (record s { called = c })
 reads-more r es e s c n k h = record {
   within = λ p. omega (arith, h.within p, length-append es (e ∷ []));
   polled = λ p. get-old es s.poll e (h.within p) ∙ h.polled p;
-  last = λ p. ap (has (polls_sleeper (tick_or_run.Run r))) (since-old es s.poll e (h.within p))
-      ∙ has-push (polls_sleeper (tick_or_run.Run r)) (since s.poll es) e
+  last = λ p. ap (has (polls_sleeper (TickOrRun.Run r))) (since-old es s.poll e (h.within p))
+      ∙ has-push (polls_sleeper (TickOrRun.Run r)) (since s.poll es) e
       ∙ neither _ _ (h.last p) n;
-  called = λ p q. ap (has (calls_poll (tick_or_run.Run r) s.poll)) (since-old es s.poll e (h.within p))
-      ∙ has-push (calls_poll (tick_or_run.Run r) s.poll) (since s.poll es) e
+  called = λ p q. ap (has (calls_poll (TickOrRun.Run r) s.poll)) (since-old es s.poll e (h.within p))
+      ∙ has-push (calls_poll (TickOrRun.Run r) s.poll) (since s.poll es) e
       ∙ ⊎_elim (λ (z : s.called ≡ true). either _ _ (inl (h.called p z)))
-      (λ (z : calls_poll (tick_or_run.Run r) s.poll e ≡ true). either _ _ (inr z)) (k q);
+      (λ (z : calls_poll (TickOrRun.Run r) s.poll e ≡ true). either _ _ (inr z)) (k q);
 }
   where
     neither : (a b : Bool) → a ≡ false → b ≡ false → (a || b) ≡ false
@@ -127,18 +120,18 @@ reads-more r es e s c n k h = record {
 
 -- a poll of it
 reads-polled : (r : ℕ) (es : Trace) (p q : ℕ) (s : Watched) → eqb r q ≡ true →
-    Reads r (es ++ event.RunPolled p q ∷ []) (record { polled = true; poll = length es; party = p; called = false })
+    Reads r (es ++ Event.RunPolled p q ∷ []) (record { polled = true; poll = length es; party = p; called = false })
 reads-polled r es p q s e =
     let i : r ≡ q = grind (arith, nat_tests) in record {
-      within = λ z. omega (arith, length-append es (event.RunPolled p q ∷ []));
-      polled = λ z. get-new es (event.RunPolled p q) ∙
-          ap (λ (k : ℕ). let o : Option Event = Some (event.RunPolled p k) in o) (sym i);
-      last = λ z. ap (has (polls_sleeper (tick_or_run.Run r))) (since-new es (event.RunPolled p q));
+      within = λ z. omega (arith, length-append es (Event.RunPolled p q ∷ []));
+      polled = λ z. get-new es (Event.RunPolled p q) ∙
+          ap (λ (k : ℕ). let o : Option Event = Some (Event.RunPolled p k) in o) (sym i);
+      last = λ z. ap (has (polls_sleeper (TickOrRun.Run r))) (since-new es (Event.RunPolled p q));
       called = λ z c. let no : false ≡ true = c in absurd (cc);
     }
 
 -- an event that is nothing to it
-reads-other : (r : ℕ) (es : Trace) (e : Event) (s : Watched) → polls_sleeper (tick_or_run.Run r) e ≡ false → Reads r es s →
+reads-other : (r : ℕ) (es : Trace) (e : Event) (s : Watched) → polls_sleeper (TickOrRun.Run r) e ≡ false → Reads r es s →
     Reads r (es ++ e ∷ []) s
 reads-other r es e s n h = reads-more r es e s s.called n (λ q. inl q) h
 
@@ -147,44 +140,44 @@ or-cases true b e = inl refl
 or-cases false b e = inr e
 
 reads-called : (r : ℕ) (es : Trace) (p q k : ℕ) (a : Waker) (s : Watched) → Reads r es s →
-    Reads r (es ++ event.WakerCalled p (of.Run q) k a ∷ [])
+    Reads r (es ++ Event.WakerCalled p (Polled.Run q) k a ∷ [])
     (record s { called = s.called || (eqb r q && eqb s.poll k) })
 reads-called r es p q k a s h =
-    reads-more r es (event.WakerCalled p (of.Run q) k a) s (s.called || (eqb r q && eqb s.poll k)) refl
+    reads-more r es (Event.WakerCalled p (Polled.Run q) k a) s (s.called || (eqb r q && eqb s.poll k)) refl
     (or-cases s.called (eqb r q && eqb s.poll k)) h
 
 reads-push : (r : ℕ) (es : Trace) (e : Event) (s : Watched) → Reads r es s →
     Reads r (es ++ e ∷ []) (watches r (length es) e s)
-reads-push r es (event.RunPolled p q) s h = by (eqb r q) refl
+reads-push r es (Event.RunPolled p q) s h = by (eqb r q) refl
   where
-    by : (b : Bool) → eqb r q ≡ b → Reads r (es ++ event.RunPolled p q ∷ [])
+    by : (b : Bool) → eqb r q ≡ b → Reads r (es ++ Event.RunPolled p q ∷ [])
         (cond b (record { polled = true; poll = length es; party = p; called = false }) s)
     by true t = reads-polled r es p q s t
-    by false t = reads-other r es (event.RunPolled p q) s t h
-reads-push r es (event.WakerCalled p (of.Run q) k a) s h = reads-called r es p q k a s h
-reads-push r es (event.WakerCalled p (of.Tick q) k a) s h = reads-other r es _ s refl h
-reads-push r es (event.WakerCalled p (of.Handle q) k a) s h = reads-other r es _ s refl h
-reads-push r es (event.CallBegun p c) s h = reads-other r es _ s refl h
-reads-push r es (event.CallEnded p c) s h = reads-other r es _ s refl h
-reads-push r es (event.Accepted p c) s h = reads-other r es _ s refl h
-reads-push r es (event.PollBegun p c) s h = reads-other r es _ s refl h
-reads-push r es (event.Answered p c a) s h = reads-other r es _ s refl h
-reads-push r es (event.Woken p c) s h = reads-other r es _ s refl h
-reads-push r es (event.Cancelled p c) s h = reads-other r es _ s refl h
-reads-push r es (event.Detached p c) s h = reads-other r es _ s refl h
-reads-push r es (event.LastWaker p c) s h = reads-other r es _ s refl h
-reads-push r es (event.Leaked p c) s h = reads-other r es _ s refl h
-reads-push r es (event.Dropped p c) s h = reads-other r es _ s refl h
-reads-push r es (event.OutputDropped p c) s h = reads-other r es _ s refl h
-reads-push r es (event.OutputGiven p c) s h = reads-other r es _ s refl h
-reads-push r es (event.HandlePolled p c) s h = reads-other r es _ s refl h
-reads-push r es (event.TickPolled p c) s h = reads-other r es _ s refl h
-reads-push r es (event.TickDropped p c) s h = reads-other r es _ s refl h
-reads-push r es (event.RunDropped p c) s h = reads-other r es _ s refl h
-reads-push r es (event.Kept p c q) s h = reads-other r es _ s refl h
-reads-push r es (event.Looked p m) s h = reads-other r es _ s refl h
-reads-push r es (event.DropBegun p) s h = reads-other r es _ s refl h
-reads-push r es (event.DropEnded p) s h = reads-other r es _ s refl h
+    by false t = reads-other r es (Event.RunPolled p q) s t h
+reads-push r es (Event.WakerCalled p (Polled.Run q) k a) s h = reads-called r es p q k a s h
+reads-push r es (Event.WakerCalled p (Polled.Tick q) k a) s h = reads-other r es _ s refl h
+reads-push r es (Event.WakerCalled p (Polled.Handle q) k a) s h = reads-other r es _ s refl h
+reads-push r es (Event.CallBegun p c) s h = reads-other r es _ s refl h
+reads-push r es (Event.CallEnded p c) s h = reads-other r es _ s refl h
+reads-push r es (Event.Accepted p c) s h = reads-other r es _ s refl h
+reads-push r es (Event.PollBegun p c) s h = reads-other r es _ s refl h
+reads-push r es (Event.Answered p c a) s h = reads-other r es _ s refl h
+reads-push r es (Event.Woken p c) s h = reads-other r es _ s refl h
+reads-push r es (Event.Cancelled p c) s h = reads-other r es _ s refl h
+reads-push r es (Event.Detached p c) s h = reads-other r es _ s refl h
+reads-push r es (Event.LastWaker p c) s h = reads-other r es _ s refl h
+reads-push r es (Event.Leaked p c) s h = reads-other r es _ s refl h
+reads-push r es (Event.Dropped p c) s h = reads-other r es _ s refl h
+reads-push r es (Event.OutputDropped p c) s h = reads-other r es _ s refl h
+reads-push r es (Event.OutputGiven p c) s h = reads-other r es _ s refl h
+reads-push r es (Event.HandlePolled p c) s h = reads-other r es _ s refl h
+reads-push r es (Event.TickPolled p c) s h = reads-other r es _ s refl h
+reads-push r es (Event.TickDropped p c) s h = reads-other r es _ s refl h
+reads-push r es (Event.RunDropped p c) s h = reads-other r es _ s refl h
+reads-push r es (Event.Kept p c q) s h = reads-other r es _ s refl h
+reads-push r es (Event.Looked p m) s h = reads-other r es _ s refl h
+reads-push r es (Event.DropBegun p) s h = reads-other r es _ s refl h
+reads-push r es (Event.DropEnded p) s h = reads-other r es _ s refl h
 
 reads-from : (r : ℕ) (es rest : Trace) → Reads r es (watched r es) → Reads r (es ++ rest) (watched r (es ++ rest))
 reads-from r es [] h = subst (λ (t : Trace). Reads r t (watched r t)) (sym (append-nil es)) h

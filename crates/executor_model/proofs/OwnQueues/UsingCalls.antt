@@ -1,41 +1,14 @@
 -- For own_queues_agree and awaiters_are_kept.
 -- The beginning of each call, and what follows user code, keeps it that a run is in one call at most.
-use Rattle.std.proofs.Common.{◌≡◌, ◌≢◌, ◌⊎◌, ℕ, eqb, ltb, ◌+◌, ◌<◌, ◌≤◌, List, [], ◌∷◌, length, set, get_or}
-use Rattle.std.proofs.Common.{Bool, true, false, ◌||◌, not, refl, sym, ap, ◌∙◌, inl, inr, ⊎_elim, arith}
-use Rattle.std.proofs.Common.{get_or-set_same, get_or-set_other}
-use Rattle.std.proofs.lemmas.List.{get_or_past}
+use Rattle.std.proofs.Common.{◌≡◌, ◌≢◌, ◌⊎◌, ℕ, eqb, ltb, ◌+◌, ◌<◌, ◌≤◌, List, [], ◌∷◌, length, set, get_or, Bool, true, false}
+use Rattle.std.proofs.Common.{◌||◌, not, refl, sym, ap, ◌∙◌, inl, inr, ⊎_elim, arith, get_or-set_same, get_or-set_other}
 use Rattle.std.specs.Prelude.{Option, Some, None}
-use Rattle.std.proofs.lemmas.Bool.Decides.{nat_tests}
-use Rattle.task_moves.specs.declared.moves.owed.Move.TheVariants as move
-use Rattle.executor_model.specs.declared.call.Call.{Call}
-use Rattle.executor_model.specs.declared.call.Call.TheVariants as call
-use Rattle.executor_model.specs.declared.call.Reply.TheVariants as reply
-use Rattle.executor_model.specs.declared.event.Answer.TheVariants as answer
-use Rattle.executor_model.specs.declared.event.Event.{Event}
-use Rattle.executor_model.specs.declared.event.Event.TheVariants as event
-use Rattle.executor_model.specs.declared.op.ClosingOp.TheVariants as closing_op
-use Rattle.executor_model.specs.declared.op.HandleOp.TheVariants as handle_op
-use Rattle.executor_model.specs.declared.op.Hold.TheVariants as hold
-use Rattle.executor_model.specs.declared.op.Op.{Op}
-use Rattle.executor_model.specs.declared.op.Op.TheVariants as op
-use Rattle.executor_model.specs.declared.op.QueueOp.TheVariants as queue_op
-use Rattle.executor_model.specs.declared.op.RunOp.TheVariants as run_op
-use Rattle.executor_model.specs.declared.op.RunPoll.{RunPoll}
-use Rattle.executor_model.specs.declared.op.TickOrRun.TheVariants as tick_or_run
-use Rattle.executor_model.specs.declared.op.TableOp.TheVariants as table_op
-use Rattle.executor_model.specs.declared.op.TickOp.TheVariants as tick_op
-use Rattle.executor_model.specs.declared.op.UserOp.TheVariants as user_op
-use Rattle.executor_model.specs.declared.op.Waker.{Waker}
-use Rattle.executor_model.specs.declared.op.WakerOp.TheVariants as waker_op
-use Rattle.executor_model.specs.declared.step.UserEnd.{UserEnd}
-use Rattle.executor_model.specs.declared.step.UserEnd.TheVariants as end
-use Rattle.executor_model.specs.Rows.{running_of}
-use Rattle.executor_model.specs.Steps.{accepts, begun, drop_run, future_of}
-use Rattle.executor_model.specs.Steps.{is_there, kept, poll_run}
-use Rattle.executor_model.specs.Steps.{react, used_up, waker_of, with_future}
-use Rattle.executor_model.specs.Weights.{same, weigh}
-use Rattle.executor_model.specs.World.{World, Run, Stage, New, Listed, Ended, Done, done, log, no_run, own_of}
-use Rattle.executor_model.specs.World.{put_run, run_of}
+use Rattle.std.{proofs.lemmas.List.get_or_past, proofs.lemmas.Bool.Decides.nat_tests}
+use Rattle.executor_model.proofs.Types.{Move, Call, Reply, Answer, Event, ClosingOp, HandleOp, Hold, Op, QueueOp, RunOp}
+use Rattle.executor_model.proofs.Types.{RunPoll, TickOrRun, TableOp, TickOp, UserOp, Waker, WakerOp, UserEnd}
+use Rattle.executor_model.specs.Steps.{accepts, begun, drop_run, future_of, is_there, kept, poll_run, react, used_up, waker_of}
+use Rattle.executor_model.specs.World.{World, Run, Stage, New, Listed, Ended, Done, done, log, no_run, own_of, put_run, run_of}
+use Rattle.executor_model.specs.{Rows.running_of, Steps.with_future, Weights.same, Weights.weigh}
 use Rattle.executor_model.proofs.Steps.Lists.{same_cases}
 use Rattle.executor_model.proofs.OwnQueues.Using.{emptying_of, lending_of, polling_of}
 use Rattle.executor_model.proofs.OwnQueues.UsingWorlds.{Idle, count-set, idle, is_over_stage, is_past}
@@ -44,33 +17,33 @@ use Rattle.executor_model.proofs.OwnQueues.UsingKeeps.{Counts, KeepsUsed, Used, 
 -- the end of user code
 
 pub used-react : (p : ℕ) (o : Op) (u : UserEnd) (w : World) → accepts o u ≡ true → KeepsUsed w (o ∷ []) (react p o u w)
-used-react p (op.User (user_op.Poll f)) (end.Polled answer.Pending) w a =
-    used-idle w (op.User (user_op.Poll f) ∷ []) (react p (op.User (user_op.Poll f)) (end.Polled answer.Pending) w)
+used-react p (Op.User (UserOp.Poll f)) (UserEnd.Polled Answer.Pending) w a =
+    used-idle w (Op.User (UserOp.Poll f) ∷ []) (react p (Op.User (UserOp.Poll f)) (UserEnd.Polled Answer.Pending) w)
     (idle w _ refl refl refl)
     (λ r. record { uses = omega arith; polls = omega arith; empties = omega arith; lends = refl })
-used-react p (op.User (user_op.Poll f)) (end.Polled answer.Ready) w a =
-    used-idle w (op.User (user_op.Poll f) ∷ []) (react p (op.User (user_op.Poll f)) (end.Polled answer.Ready) w)
+used-react p (Op.User (UserOp.Poll f)) (UserEnd.Polled Answer.Ready) w a =
+    used-idle w (Op.User (UserOp.Poll f) ∷ []) (react p (Op.User (UserOp.Poll f)) (UserEnd.Polled Answer.Ready) w)
     (idle w _ refl refl refl)
     (λ r. record { uses = omega arith; polls = omega arith; empties = omega arith; lends = refl })
-used-react p (op.User (user_op.Drop f)) end.Done w a =
-    used-idle w (op.User (user_op.Drop f) ∷ []) (done w []) (idle w w refl refl refl)
+used-react p (Op.User (UserOp.Drop f)) UserEnd.Done w a =
+    used-idle w (Op.User (UserOp.Drop f) ∷ []) (done w []) (idle w w refl refl refl)
     (λ r. record { uses = omega arith; polls = omega arith; empties = omega arith; lends = refl })
-used-react p (op.User (user_op.DropOutput f)) end.Done w a =
-    used-idle w (op.User (user_op.DropOutput f) ∷ []) (done w []) (idle w w refl refl refl)
+used-react p (Op.User (UserOp.DropOutput f)) UserEnd.Done w a =
+    used-idle w (Op.User (UserOp.DropOutput f) ∷ []) (done w []) (idle w w refl refl refl)
     (λ r. record { uses = omega arith; polls = omega arith; empties = omega arith; lends = refl })
-used-react p (op.User (user_op.CallOutside x)) end.Done w a =
-    used-idle w (op.User (user_op.CallOutside x) ∷ []) (done w []) (idle w w refl refl refl)
+used-react p (Op.User (UserOp.CallOutside x)) UserEnd.Done w a =
+    used-idle w (Op.User (UserOp.CallOutside x) ∷ []) (done w []) (idle w w refl refl refl)
     (λ r. record { uses = omega arith; polls = omega arith; empties = omega arith; lends = refl })
-used-react p (op.User (user_op.PollOwn x)) (end.Polled answer.Pending) w a =
-    used-idle w (op.User (user_op.PollOwn x) ∷ []) (react p (op.User (user_op.PollOwn x)) (end.Polled answer.Pending) w)
+used-react p (Op.User (UserOp.PollOwn x)) (UserEnd.Polled Answer.Pending) w a =
+    used-idle w (Op.User (UserOp.PollOwn x) ∷ []) (react p (Op.User (UserOp.PollOwn x)) (UserEnd.Polled Answer.Pending) w)
     (idle w _ refl refl refl)
     (λ r. record { uses = omega arith; polls = omega arith; empties = omega arith; lends = refl })
-used-react p (op.User (user_op.PollOwn x)) (end.Polled answer.Ready) w a =
-    used-idle w (op.User (user_op.PollOwn x) ∷ []) (react p (op.User (user_op.PollOwn x)) (end.Polled answer.Ready) w)
+used-react p (Op.User (UserOp.PollOwn x)) (UserEnd.Polled Answer.Ready) w a =
+    used-idle w (Op.User (UserOp.PollOwn x) ∷ []) (react p (Op.User (UserOp.PollOwn x)) (UserEnd.Polled Answer.Ready) w)
     (idle w _ refl refl refl)
     (λ r. record { uses = omega arith; polls = omega arith; empties = omega arith; lends = refl })
-used-react p (op.User (user_op.DropOwn q)) end.Done w a =
-    used-idle w (op.User (user_op.DropOwn q) ∷ []) (done w []) (idle w w refl refl refl)
+used-react p (Op.User (UserOp.DropOwn q)) UserEnd.Done w a =
+    used-idle w (Op.User (UserOp.DropOwn q) ∷ []) (done w []) (idle w w refl refl refl)
     (λ r. record { uses = omega arith; polls = omega arith; empties = omega arith; lends = refl })
 used-react p _ _ w a = absurd (cc)
 
@@ -78,9 +51,9 @@ used-react p _ _ w a = absurd (cc)
 
 -- a call on a run finds that alive, and in no other call; the drop of the executor finds none alive
 abbrev pub FreeRun : World → Call → ℕ → Counts → Type 0
-FreeRun w (call.PollRun q b) r x = (is_there (run_of w q) ≡ true) × (r ≡ q → x.uses ≡ 0)
-FreeRun w (call.DropRun q) r x = (is_there (run_of w q) ≡ true) × (r ≡ q → x.uses ≡ 0)
-FreeRun w call.DropExecutor r x = is_past (run_of w r) ≡ true
+FreeRun w (Call.PollRun q b) r x = (is_there (run_of w q) ≡ true) × (r ≡ q → x.uses ≡ 0)
+FreeRun w (Call.DropRun q) r x = (is_there (run_of w q) ≡ true) × (r ≡ q → x.uses ≡ 0)
+FreeRun w Call.DropExecutor r x = is_past (run_of w r) ≡ true
 FreeRun w _ r x = Unit {0}
 
 there-known : (w : World) (q : ℕ) → is_there (run_of w q) ≡ true → length w.runs ≤ q → ⊥
@@ -181,7 +154,7 @@ or-right false b e = e
 used-drop : (t : Stage) (w : World) (p q : ℕ) (c : Event) (r : ℕ) (x : Counts) → (run_of w q).stage ≡ t →
     x.polls ≤ x.uses → x.empties ≤ x.uses → (is_there (run_of w q) ≡ true) × (r ≡ q → x.uses ≡ 0) →
     Used w r (with_counts r [] x) →
-    Used (log (put_run (log w c) q (record (run_of w q) { dropped = true })) (event.RunDropped p q)) r
+    Used (log (put_run (log w c) q (record (run_of w q) { dropped = true })) (Event.RunDropped p q)) r
     (with_counts r (drop_run t q) x)
 used-drop t w p q c r x s a b f h = ⊎_elim
     (λ (k : (same r q ≡ 1) × (eqb r q ≡ true) × (r ≡ q)).
@@ -203,7 +176,7 @@ used-drop t w p q c r x s a b f h = ⊎_elim
     })
     (λ (k : (same r q ≡ 0) × (eqb r q ≡ false) × (r ≢ q)).
     let run : get_or (set w.runs q new) r no_run ≡ run_of w r = get_or-set_other w.runs q r new no_run k.2 in
-    used-here w [] (done (log (put_run (log w c) q new) (event.RunDropped p q)) (drop_run t q)) r x (ap is_past run)
+    used-here w [] (done (log (put_run (log w c) q new) (Event.RunDropped p q)) (drop_run t q)) r x (ap is_past run)
     (omega (arith, count-set w.runs q new)) refl (inl (λ e. e))
     (record {
       uses = omega (arith, drop-uses t q r, k.0);
@@ -239,8 +212,8 @@ used-gone w v next r x o e p k h =
     }
 
 used-with : (w : World) (p : ℕ) (c : Call) (o : Option ℕ) (d : ℕ → Done) → ((f : ℕ) → KeepsUsed w [] (d f)) →
-    KeepsUsed w [] (with_future (log w (event.CallBegun p c)) o d)
-used-with w p c None d k = used-idle w [] (done (log w (event.CallBegun p c)) []) (idle w _ refl refl refl)
+    KeepsUsed w [] (with_future (log w (Event.CallBegun p c)) o d)
+used-with w p c None d k = used-idle w [] (done (log w (Event.CallBegun p c)) []) (idle w _ refl refl refl)
     (λ r. record { uses = omega arith; polls = omega arith; empties = omega arith; lends = refl })
 used-with w p c (Some f) d k = k f
 
@@ -254,90 +227,90 @@ used-other w v next o e g k = used-idle w [] (done v next) (idle w v o e g) k
 
 pub used-begun : (p : ℕ) (w : World) (here : Option Waker) (c : Call) (r : ℕ) (x : Counts) → x.polls ≤ x.uses →
     x.empties ≤ x.uses → FreeRun w c r x → Used w r (with_counts r [] x) →
-    Used (begun p (log w (event.CallBegun p c)) here c).world r
-    (with_counts r (begun p (log w (event.CallBegun p c)) here c).next x)
-used-begun p w here (call.Spawn mark) r x a b f =
-    used-other w (log w (event.CallBegun p (call.Spawn mark))) (op.Table (table_op.Enter mark) ∷ []) refl refl refl
+    Used (begun p (log w (Event.CallBegun p c)) here c).world r
+    (with_counts r (begun p (log w (Event.CallBegun p c)) here c).next x)
+used-begun p w here (Call.Spawn mark) r x a b f =
+    used-other w (log w (Event.CallBegun p (Call.Spawn mark))) (Op.Table (TableOp.Enter mark) ∷ []) refl refl refl
     (λ q. record { uses = omega arith; polls = omega arith; empties = omega arith; lends = refl }) r x a b
-used-begun p w here call.TryTick r x a b f =
-    used-other w (log w (event.CallBegun p call.TryTick)) (op.Queue queue_op.TakeTurn ∷ []) refl refl refl
+used-begun p w here Call.TryTick r x a b f =
+    used-other w (log w (Event.CallBegun p Call.TryTick)) (Op.Queue QueueOp.TakeTurn ∷ []) refl refl refl
     (λ q. record { uses = omega arith; polls = omega arith; empties = omega arith; lends = refl }) r x a b
-used-begun p w here call.IsEmpty r x a b f =
-    used-other w (log w (event.CallBegun p call.IsEmpty)) (op.Table table_op.LookAtTable ∷ []) refl refl refl
+used-begun p w here Call.IsEmpty r x a b f =
+    used-other w (log w (Event.CallBegun p Call.IsEmpty)) (Op.Table TableOp.LookAtTable ∷ []) refl refl refl
     (λ q. record { uses = omega arith; polls = omega arith; empties = omega arith; lends = refl }) r x a b
-used-begun p w here (call.Wake k) r x a b f =
-    used-with w p (call.Wake k) (kept w k) _
-    (λ g. used-other w (used_up (log w (event.CallBegun p (call.Wake k))) k)
-    (op.Move move.Wake g ∷ op.End reply.Done hold.Nothing ∷ []) refl refl refl
+used-begun p w here (Call.Wake k) r x a b f =
+    used-with w p (Call.Wake k) (kept w k) _
+    (λ g. used-other w (used_up (log w (Event.CallBegun p (Call.Wake k))) k)
+    (Op.Move Move.Wake g ∷ Op.End Reply.Done Hold.Nothing ∷ []) refl refl refl
     (λ q. record { uses = omega arith; polls = omega arith; empties = omega arith; lends = refl })) r x a b
-used-begun p w here (call.WakeByRef k) r x a b f =
-    used-with w p (call.WakeByRef k) (kept w k) _
-    (λ g. used-other w (log w (event.CallBegun p (call.WakeByRef k)))
-    (op.Move move.WakeByReference g ∷ op.End reply.Done (hold.Waker k) ∷ []) refl refl refl
+used-begun p w here (Call.WakeByRef k) r x a b f =
+    used-with w p (Call.WakeByRef k) (kept w k) _
+    (λ g. used-other w (log w (Event.CallBegun p (Call.WakeByRef k)))
+    (Op.Move Move.WakeByReference g ∷ Op.End Reply.Done (Hold.Waker k) ∷ []) refl refl refl
     (λ q. record { uses = omega arith; polls = omega arith; empties = omega arith; lends = refl })) r x a b
-used-begun p w here (call.Copy k) r x a b f =
-    used-with w p (call.Copy k) (kept w k) _
-    (λ g. used-other w (log w (event.CallBegun p (call.Copy k)))
-    (op.Waker (waker_op.CopyWaker g (hold.Waker k)) ∷ []) refl refl refl
+used-begun p w here (Call.Copy k) r x a b f =
+    used-with w p (Call.Copy k) (kept w k) _
+    (λ g. used-other w (log w (Event.CallBegun p (Call.Copy k)))
+    (Op.Waker (WakerOp.CopyWaker g (Hold.Waker k)) ∷ []) refl refl refl
     (λ q. record { uses = omega arith; polls = omega arith; empties = omega arith; lends = refl })) r x a b
-used-begun p w here (call.DropWaker k) r x a b f =
-    used-with w p (call.DropWaker k) (kept w k) _
-    (λ g. used-other w (used_up (log w (event.CallBegun p (call.DropWaker k))) k)
-    (op.Move move.Release g ∷ op.End reply.Done hold.Nothing ∷ []) refl refl refl
+used-begun p w here (Call.DropWaker k) r x a b f =
+    used-with w p (Call.DropWaker k) (kept w k) _
+    (λ g. used-other w (used_up (log w (Event.CallBegun p (Call.DropWaker k))) k)
+    (Op.Move Move.Release g ∷ Op.End Reply.Done Hold.Nothing ∷ []) refl refl refl
     (λ q. record { uses = omega arith; polls = omega arith; empties = omega arith; lends = refl })) r x a b
-used-begun p w here call.Keep r x a b f =
-    used-with w p call.Keep (future_of here) _
-    (λ g. used-other w (log w (event.CallBegun p call.Keep))
-    (op.Waker (waker_op.CopyWaker g hold.Nothing) ∷ []) refl refl refl
+used-begun p w here Call.Keep r x a b f =
+    used-with w p Call.Keep (future_of here) _
+    (λ g. used-other w (log w (Event.CallBegun p Call.Keep))
+    (Op.Waker (WakerOp.CopyWaker g Hold.Nothing) ∷ []) refl refl refl
     (λ q. record { uses = omega arith; polls = omega arith; empties = omega arith; lends = refl })) r x a b
-used-begun p w here call.WakeSelf r x a b f =
-    used-with w p call.WakeSelf (future_of here) _
-    (λ g. used-other w (log w (event.CallBegun p call.WakeSelf))
-    (op.Move move.WakeByReference g ∷ op.End reply.Done hold.Nothing ∷ []) refl refl refl
+used-begun p w here Call.WakeSelf r x a b f =
+    used-with w p Call.WakeSelf (future_of here) _
+    (λ g. used-other w (log w (Event.CallBegun p Call.WakeSelf))
+    (Op.Move Move.WakeByReference g ∷ Op.End Reply.Done Hold.Nothing ∷ []) refl refl refl
     (λ q. record { uses = omega arith; polls = omega arith; empties = omega arith; lends = refl })) r x a b
-used-begun p w here (call.PollHandle g y) r x a b f =
-    used-other w (log w (event.CallBegun p (call.PollHandle g y)))
-    (op.Handle (handle_op.Look g (waker_of here y)) ∷ []) refl refl refl
+used-begun p w here (Call.PollHandle g y) r x a b f =
+    used-other w (log w (Event.CallBegun p (Call.PollHandle g y)))
+    (Op.Handle (HandleOp.Look g (waker_of here y)) ∷ []) refl refl refl
     (λ q. record { uses = omega arith; polls = omega arith; empties = omega arith; lends = refl }) r x a b
-used-begun p w here (call.Cancel g) r x a b f =
-    used-other w (log w (event.CallBegun p (call.Cancel g)))
-    (op.Move move.Cancel g ∷ op.End reply.Done (hold.Handle g) ∷ []) refl refl refl
+used-begun p w here (Call.Cancel g) r x a b f =
+    used-other w (log w (Event.CallBegun p (Call.Cancel g)))
+    (Op.Move Move.Cancel g ∷ Op.End Reply.Done (Hold.Handle g) ∷ []) refl refl refl
     (λ q. record { uses = omega arith; polls = omega arith; empties = omega arith; lends = refl }) r x a b
-used-begun p w here (call.Detach g) r x a b f =
-    used-other w (log w (event.CallBegun p (call.Detach g)))
-    (op.Move move.Detach g ∷ op.End reply.Done (hold.Handle g) ∷ []) refl refl refl
+used-begun p w here (Call.Detach g) r x a b f =
+    used-other w (log w (Event.CallBegun p (Call.Detach g)))
+    (Op.Move Move.Detach g ∷ Op.End Reply.Done (Hold.Handle g) ∷ []) refl refl refl
     (λ q. record { uses = omega arith; polls = omega arith; empties = omega arith; lends = refl }) r x a b
-used-begun p w here (call.DropHandle g) r x a b f =
-    used-other w (log w (event.CallBegun p (call.DropHandle g)))
-    (op.Move move.Cancel g ∷ op.Move move.Detach g ∷ op.End reply.Done (hold.Handle g) ∷ []) refl refl refl
+used-begun p w here (Call.DropHandle g) r x a b f =
+    used-other w (log w (Event.CallBegun p (Call.DropHandle g)))
+    (Op.Move Move.Cancel g ∷ Op.Move Move.Detach g ∷ Op.End Reply.Done (Hold.Handle g) ∷ []) refl refl refl
     (λ q. record { uses = omega arith; polls = omega arith; empties = omega arith; lends = refl }) r x a b
-used-begun p w here call.NewTick r x a b f =
-    used-other w (log w (event.CallBegun p call.NewTick)) (op.Tick tick_op.MakeTick ∷ []) refl refl refl
+used-begun p w here Call.NewTick r x a b f =
+    used-other w (log w (Event.CallBegun p Call.NewTick)) (Op.Tick TickOp.MakeTick ∷ []) refl refl refl
     (λ q. record { uses = omega arith; polls = omega arith; empties = omega arith; lends = refl }) r x a b
-used-begun p w here (call.PollTick t y) r x a b f =
-    let v : World = log w (event.CallBegun p (call.PollTick t y)) in
-    used-other w (log v (event.TickPolled p t))
-    (op.Tick (tick_op.Search
-    (record { waker = waker_of here y; who = tick_or_run.Tick t; poll = length v.trace })) ∷ []) refl refl refl
+used-begun p w here (Call.PollTick t y) r x a b f =
+    let v : World = log w (Event.CallBegun p (Call.PollTick t y)) in
+    used-other w (log v (Event.TickPolled p t))
+    (Op.Tick (TickOp.Search
+    (record { waker = waker_of here y; who = TickOrRun.Tick t; poll = length v.trace })) ∷ []) refl refl refl
     (λ q. record { uses = omega arith; polls = omega arith; empties = omega arith; lends = refl }) r x a b
-used-begun p w here (call.DropTick t) r x a b f =
-    used-other w (log (log w (event.CallBegun p (call.DropTick t))) (event.TickDropped p t))
-    (op.Tick (tick_op.Leave (tick_or_run.Tick t)) ∷ op.End reply.Done (hold.Tick t) ∷ []) refl refl refl
+used-begun p w here (Call.DropTick t) r x a b f =
+    used-other w (log (log w (Event.CallBegun p (Call.DropTick t))) (Event.TickDropped p t))
+    (Op.Tick (TickOp.Leave (TickOrRun.Tick t)) ∷ Op.End Reply.Done (Hold.Tick t) ∷ []) refl refl refl
     (λ q. record { uses = omega arith; polls = omega arith; empties = omega arith; lends = refl }) r x a b
-used-begun p w here call.NewRun r x a b f =
-    used-other w (log w (event.CallBegun p call.NewRun)) (op.Run run_op.MakeRoom ∷ []) refl refl refl
+used-begun p w here Call.NewRun r x a b f =
+    used-other w (log w (Event.CallBegun p Call.NewRun)) (Op.Run RunOp.MakeRoom ∷ []) refl refl refl
     (λ q. record { uses = omega arith; polls = omega arith; empties = omega arith; lends = refl }) r x a b
-used-begun p w here (call.PollRun q y) r x a b f =
-    let v : World = log w (event.CallBegun p (call.PollRun q y)) in
-    used-poll (run_of w q).stage w (log v (event.RunPolled p q))
+used-begun p w here (Call.PollRun q y) r x a b f =
+    let v : World = log w (Event.CallBegun p (Call.PollRun q y)) in
+    used-poll (run_of w q).stage w (log v (Event.RunPolled p q))
     (record { run = q; waker = waker_of here y; poll = length v.trace }) r x refl (idle w _ refl refl refl) a b f
-used-begun p w here (call.DropRun q) r x a b f =
-    used-drop (run_of w q).stage w p q (event.CallBegun p (call.DropRun q)) r x refl a b f
-used-begun p w here call.Leak r x a b f =
-    used-other w (log w (event.CallBegun p call.Leak))
-    (op.Closing closing_op.LeakOut ∷ op.End reply.Done hold.Leaking ∷ []) refl refl refl
+used-begun p w here (Call.DropRun q) r x a b f =
+    used-drop (run_of w q).stage w p q (Event.CallBegun p (Call.DropRun q)) r x refl a b f
+used-begun p w here Call.Leak r x a b f =
+    used-other w (log w (Event.CallBegun p Call.Leak))
+    (Op.Closing ClosingOp.LeakOut ∷ Op.End Reply.Done Hold.Leaking ∷ []) refl refl refl
     (λ q. record { uses = omega arith; polls = omega arith; empties = omega arith; lends = refl }) r x a b
-used-begun p w here call.DropExecutor r x a b f =
-    used-gone w (begun p (log w (event.CallBegun p call.DropExecutor)) here call.DropExecutor).world
-    (op.Closing closing_op.TakeOut ∷ op.End reply.Done hold.Nothing ∷ []) r x refl refl f
+used-begun p w here Call.DropExecutor r x a b f =
+    used-gone w (begun p (log w (Event.CallBegun p Call.DropExecutor)) here Call.DropExecutor).world
+    (Op.Closing ClosingOp.TakeOut ∷ Op.End Reply.Done Hold.Nothing ∷ []) r x refl refl f
     (record { uses = omega arith; polls = omega arith; empties = omega arith; lends = refl })

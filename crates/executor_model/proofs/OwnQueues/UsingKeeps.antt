@@ -1,23 +1,14 @@
 -- For own_queues_agree and awaiters_are_kept.
 -- A run is in one call at most, and nobody polls it any more once it is ready or dropped; what stands then in its own
 -- queue is on its way to the executor's.
-use Rattle.std.proofs.Common.{◌≡◌, ◌⊎◌, ℕ, ◌+◌, ◌≤◌, List, [], ◌∷◌, length, true, false}
-use Rattle.std.proofs.Common.{refl, sym, ◌∙◌, inl, inr, ⊎_elim, arith}
-use Rattle.executor_model.specs.declared.op.Op.{Op}
-use Rattle.executor_model.specs.declared.op.Op.TheVariants as op
-use Rattle.executor_model.specs.declared.op.RunPoll.{RunPoll}
-use Rattle.executor_model.specs.declared.step.Hint.{Hint}
-use Rattle.executor_model.specs.Doing.{act}
-use Rattle.executor_model.specs.Rows.{running_of}
-use Rattle.executor_model.specs.Weights.{same, weigh, weigh_all}
-use Rattle.executor_model.specs.World.{World, Done}
-use Rattle.executor_model.specs.World.{own_of, run_of}
-use Rattle.executor_model.proofs.OwnQueues.UsingRuns.{Part}
-use Rattle.executor_model.proofs.OwnQueues.UsingRuns.{Lessens, lessens}
-use Rattle.executor_model.proofs.OwnQueues.Using.{Mild, emptying_of, is_for_runs, lending_of}
-use Rattle.executor_model.proofs.OwnQueues.Using.{mild-lending, mild-next, mild-polling, mild-running, polling_of}
-use Rattle.executor_model.proofs.OwnQueues.UsingWorlds.{Idle}
-use Rattle.executor_model.proofs.OwnQueues.UsingWorlds.{is_past}
+use Rattle.std.proofs.Common.{◌≡◌, ◌⊎◌, ℕ, ◌+◌, ◌≤◌, List, [], ◌∷◌, length, true, false, refl, sym, ◌∙◌, inl, inr, ⊎_elim}
+use Rattle.std.proofs.Common.{arith}
+use Rattle.executor_model.specs.World.{World, Done, own_of, run_of}
+use Rattle.executor_model.specs.{Doing.act, Rows.running_of, Weights.same, Weights.weigh, Weights.weigh_all}
+use Rattle.executor_model.proofs.OwnQueues.Using.{Mild, emptying_of, is_for_runs, lending_of, mild-lending, mild-next}
+use Rattle.executor_model.proofs.OwnQueues.Using.{mild-polling, mild-running, polling_of}
+use Rattle.executor_model.proofs.{Types.Op, Types.RunPoll, Types.Hint, OwnQueues.UsingRuns.Part, OwnQueues.UsingRuns.Lessens}
+use Rattle.executor_model.proofs.{OwnQueues.UsingRuns.lessens, OwnQueues.UsingWorlds.Idle, OwnQueues.UsingWorlds.is_past}
 
 pub record Counts : Type 0 where
   pub uses : ℕ
@@ -92,8 +83,8 @@ used-idle w old d i k = used-stays w old d (lessens w d.world i) k
 -- what uses no run
 
 not-emptying : (r : ℕ) (o : Op) → is_for_runs o ≡ false → emptying_of r o ≡ 0
-not-emptying r (op.List o) n = absurd (cc)
-not-emptying r (op.Run o) n = absurd (cc)
+not-emptying r (Op.List o) n = absurd (cc)
+not-emptying r (Op.Run o) n = absurd (cc)
 not-emptying r _ n = refl
 
 pub within-act : (r p : ℕ) (h : Hint) (o : Op) (w : World) → is_for_runs o ≡ false → Within r (o ∷ [])

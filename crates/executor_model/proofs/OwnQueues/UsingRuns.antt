@@ -1,101 +1,74 @@
 -- For own_queues_agree and awaiters_are_kept.
 -- What a part of a run's poll leads to, counted by a count that sees each part of it alike.
-use Rattle.std.proofs.Common.{◌≡◌, ℕ, zero, suc, ◌+◌, List, [], ◌∷◌, length, set, get_or, Bool, true, false, eqb}
-use Rattle.std.proofs.Common.{refl, ap, ◌∙◌, arith}
-use Rattle.executor_parts.specs.declared.mark.Mark.TheVariants.{Plain, Urgent}
+use Rattle.std.proofs.Common.{◌≡◌, ℕ, zero, suc, ◌+◌, List, [], ◌∷◌, length, set, get_or, Bool, true, false, eqb, refl, ap, ◌∙◌}
+use Rattle.std.proofs.Common.{arith}
 use Rattle.executor_parts.specs.Marks.{other}
-use Rattle.executor_model.specs.declared.op.Look.{Look}
-use Rattle.executor_model.specs.declared.op.Look.TheVariants.{First, Second}
-use Rattle.task_moves.specs.declared.moves.owed.Move.TheVariants as move
-use Rattle.executor_model.specs.declared.op.ListOp.{ListOp}
-use Rattle.executor_model.specs.declared.op.ListOp.TheVariants as list_op
-use Rattle.executor_model.specs.declared.op.Op.{Op}
-use Rattle.executor_model.specs.declared.op.Op.TheVariants as op
-use Rattle.executor_model.specs.declared.op.QueueOp.TheVariants as queue_op
-use Rattle.executor_model.specs.declared.op.RunOp.TheVariants as run_op
-use Rattle.executor_model.specs.declared.op.RunPoll.{RunPoll}
-use Rattle.executor_model.specs.declared.op.TickOrRun.{TickOrRun}
-use Rattle.executor_model.specs.declared.op.TickOrRun.TheVariants as tick_or_run
-use Rattle.executor_model.specs.declared.op.SleeperOp.TheVariants as sleeper_op
-use Rattle.executor_model.specs.declared.op.Source.{Source}
-use Rattle.executor_model.specs.declared.op.Source.TheVariants.{Common, Own}
-use Rattle.executor_model.specs.declared.op.Steal.{Steal}
-use Rattle.executor_model.specs.declared.op.StealOp.{StealOp}
-use Rattle.executor_model.specs.declared.op.StealOp.TheVariants as steal_op
-use Rattle.executor_model.specs.declared.op.Then.{Then}
-use Rattle.executor_model.specs.declared.op.Then.TheVariants as then
-use Rattle.executor_model.specs.declared.op.TickOp.TheVariants as tick_op
-use Rattle.executor_model.specs.Acts.{mark_in}
-use Rattle.executor_model.specs.ActsOfSleepers.{found_by}
-use Rattle.executor_model.specs.ActsOfRuns.{asleep, counted_by, found, kept_by, look_own_by, next_place}
-use Rattle.executor_model.specs.ActsOfRuns.{queue_at, run_by}
-use Rattle.executor_model.specs.ActsOfRuns.{search_common_by, search_own_by, steal_by, steal_length_by}
-use Rattle.executor_model.specs.ActsOfRuns.{steal_put_by}
-use Rattle.executor_model.specs.ActsOfRuns.{steal_take_by, stolen, walk}
-use Rattle.executor_model.specs.declared.step.Hint.{Hint}
-use Rattle.executor_model.specs.Doing.{act, list_act, steal_act}
-use Rattle.executor_model.specs.Weights.{weigh}
+use Rattle.executor_model.proofs.Types.{Plain, Urgent, Look, First, Second, Move, ListOp, Op, QueueOp, RunOp, RunPoll}
+use Rattle.executor_model.proofs.Types.{TickOrRun, SleeperOp, Source, Common, Own, Steal, StealOp, Then, TickOp, Hint}
+use Rattle.executor_model.specs.ActsOfRuns.{asleep, counted_by, found, kept_by, look_own_by, next_place, queue_at, run_by}
+use Rattle.executor_model.specs.ActsOfRuns.{search_common_by, search_own_by, steal_by, steal_length_by, steal_put_by}
 use Rattle.executor_model.specs.World.{World, Ticker, Awake, Asleep, Left, Done, own_of, put_own, run_of}
-use Rattle.executor_model.proofs.Steps.Lists.{weigh-append}
+use Rattle.executor_model.specs.{Acts.mark_in, ActsOfSleepers.found_by, ActsOfRuns.steal_take_by, ActsOfRuns.stolen}
+use Rattle.executor_model.specs.{ActsOfRuns.walk, Doing.act, Doing.list_act, Doing.steal_act, Weights.weigh}
 use Rattle.executor_model.proofs.OwnQueues.Using.{Mild, mild-none}
 use Rattle.executor_model.proofs.OwnQueues.RunsDone.{Deed, keeps, takes, lacks, shares, grows, wakes, lists, deed-act, poll_in}
-use Rattle.executor_model.proofs.OwnQueues.RunsAside.{coat}
 use Rattle.executor_model.proofs.OwnQueues.RunsMoving.{coat-common, coat-more, coat-stolen}
 use Rattle.executor_model.proofs.OwnQueues.UsingWorlds.{idle-coat, Idle, idle, is_past}
+use Rattle.executor_model.proofs.{Steps.Lists.weigh-append, OwnQueues.RunsAside.coat}
 
 -- each part of this poll counts n
 pub record Part (v : Op → ℕ) (x : RunPoll) (n : ℕ) : Type 0 where
-  pub search : v (op.Tick (tick_op.Search (asleep x))) ≡ n
-  pub copy : v (op.Tick (tick_op.CopyWaker (asleep x))) ≡ n
-  pub begin : (from : Source) (t : Then) → v (op.Steal (steal_op.Length (record { poll = x; from = from; then = t })))
+  pub search : v (Op.Tick (TickOp.Search (asleep x))) ≡ n
+  pub copy : v (Op.Tick (TickOp.CopyWaker (asleep x))) ≡ n
+  pub begin : (from : Source) (t : Then) → v (Op.Steal (StealOp.Length (record { poll = x; from = from; then = t })))
       ≡ n
   pub own_length : (from : Source) (t : Then) (m : ℕ) →
-      v (op.Steal (steal_op.OwnLength (record { poll = x; from = from; then = t }) m)) ≡ n
+      v (Op.Steal (StealOp.OwnLength (record { poll = x; from = from; then = t }) m)) ≡ n
   pub take : (from : Source) (t : Then) (m : ℕ) →
-      v (op.Steal (steal_op.Take (record { poll = x; from = from; then = t }) m)) ≡ n
+      v (Op.Steal (StealOp.Take (record { poll = x; from = from; then = t }) m)) ≡ n
   pub put : (from : Source) (t : Then) (m f : ℕ) →
-      v (op.Steal (steal_op.Put (record { poll = x; from = from; then = t }) m f)) ≡ n
-  pub turn : v (op.Run (run_op.TakeTurn x)) ≡ n
-  pub common : (look : Look) → v (op.Run (run_op.SearchCommon x look)) ≡ n
-  pub look : (at left : ℕ) → v (op.Run (run_op.LookOwn x at left)) ≡ n
-  pub own : v (op.Run (run_op.WakeOwn x)) ≡ n
-  pub lock : v (op.List (list_op.LockRead x)) ≡ n
+      v (Op.Steal (StealOp.Put (record { poll = x; from = from; then = t }) m f)) ≡ n
+  pub turn : v (Op.Run (RunOp.TakeTurn x)) ≡ n
+  pub common : (look : Look) → v (Op.Run (RunOp.SearchCommon x look)) ≡ n
+  pub look : (at left : ℕ) → v (Op.Run (RunOp.LookOwn x at left)) ≡ n
+  pub own : v (Op.Run (RunOp.WakeOwn x)) ≡ n
+  pub lock : v (Op.List (ListOp.LockRead x)) ≡ n
 
 module _ (v : Op → ℕ) (m : Mild v) (x : RunPoll) (n : ℕ) (c : Part v x n) where
   part-run_by : (b : Bool) (w : World) (f : ℕ) → weigh v (run_by b w x f).next ≡ n
-  part-run_by true w f = omega (arith, mild-none v m (op.Move move.TakeUp f) refl, c.own)
-  part-run_by false w f = omega (arith, mild-none v m (op.Move move.TakeUp f) refl, c.search)
+  part-run_by true w f = omega (arith, mild-none v m (Op.Move Move.TakeUp f) refl, c.own)
+  part-run_by false w f = omega (arith, mild-none v m (Op.Move Move.TakeUp f) refl, c.search)
 
   part-counted : (b : Bool) (w : World) (f : ℕ) → weigh v (counted_by b w x f).next ≡ n
-  part-counted true w f = omega (arith, c.begin (Common Urgent) (then.StealPlain f))
+  part-counted true w f = omega (arith, c.begin (Common Urgent) (Then.StealPlain f))
   part-counted false w f = part-run_by _ _ f
 
   part-wakes_up : (p : Ticker) (who : TickOrRun) →
-      weigh v (found_by p who (op.Sleeper sleeper_op.ExchangeFlag ∷ [])) ≡ 0
-  part-wakes_up Awake who = omega (arith, mild-none v m (op.Sleeper sleeper_op.ExchangeFlag) refl)
+      weigh v (found_by p who (Op.Sleeper SleeperOp.ExchangeFlag ∷ [])) ≡ 0
+  part-wakes_up Awake who = omega (arith, mild-none v m (Op.Sleeper SleeperOp.ExchangeFlag) refl)
   part-wakes_up (Asleep k) who = omega (
     arith,
-    mild-none v m (op.Tick (tick_op.WakeUp who)) refl,
-    mild-none v m (op.Sleeper sleeper_op.ExchangeFlag) refl,
+    mild-none v m (Op.Tick (TickOp.WakeUp who)) refl,
+    mild-none v m (Op.Sleeper SleeperOp.ExchangeFlag) refl,
   )
-  part-wakes_up Left who = omega (arith, mild-none v m (op.Sleeper sleeper_op.ExchangeFlag) refl)
+  part-wakes_up Left who = omega (arith, mild-none v m (Op.Sleeper SleeperOp.ExchangeFlag) refl)
 
   pub part-found : (w : World) (f : ℕ) → weigh v (found w x f).next ≡ n
   part-found w f =
-      let first = found_by (run_of w x.run).place (tick_or_run.Run x.run) (op.Sleeper sleeper_op.ExchangeFlag ∷ []) in
+      let first = found_by (run_of w x.run).place (TickOrRun.Run x.run) (Op.Sleeper SleeperOp.ExchangeFlag ∷ []) in
       let d = counted_by (eqb ((run_of w x.run).counted + 1) 64) w x f in
       omega (
         arith,
         weigh-append v first d.next,
-        part-wakes_up (run_of w x.run).place (tick_or_run.Run x.run),
+        part-wakes_up (run_of w x.run).place (TickOrRun.Run x.run),
         part-counted (eqb ((run_of w x.run).counted + 1) 64) w f,
       )
 
   part-stolen : (t : Then) (w : World) → weigh v (stolen t w x).next ≡ n
-  part-stolen (then.Found f) w = part-found w f
-  part-stolen (then.StealPlain f) w = omega (arith, c.begin (Common Plain) (then.Run f))
-  part-stolen (then.Run f) w = part-run_by _ w f
-  part-stolen (then.Walk at left) w = omega (arith, c.look at left)
+  part-stolen (Then.Found f) w = part-found w f
+  part-stolen (Then.StealPlain f) w = omega (arith, c.begin (Common Plain) (Then.Run f))
+  part-stolen (Then.Run f) w = part-run_by _ w f
+  part-stolen (Then.Walk at left) w = omega (arith, c.look at left)
 
   part-length : (from : Source) (t : Then) (k : ℕ) (w : World) →
       weigh v (steal_length_by k w (record { poll = x; from = from; then = t })).next ≡ n
@@ -115,22 +88,22 @@ module _ (v : Op → ℕ) (m : Mild v) (x : RunPoll) (n : ℕ) (c : Part v x n) 
   part-put : (from : Source) (t : Then) (b : Bool) (p k f : ℕ) (w : World) →
       weigh v (steal_put_by b p w (record { poll = x; from = from; then = t }) k f).next ≡ n
   part-put from t true p k f w = part-more from t k (kept_by p w x.run f)
-  part-put from t false p k f w = omega (arith, mild-none v m (op.Queue (queue_op.Append f)) refl, part-stolen t w)
+  part-put from t false p k f w = omega (arith, mild-none v m (Op.Queue (QueueOp.Append f)) refl, part-stolen t w)
 
   pub part-walk : (qs : List ℕ) (at left : ℕ) → weigh v (walk x qs at left) ≡ n
-  part-walk qs at zero = omega (arith, mild-none v m (op.List list_op.UnlockRead) refl, c.copy)
+  part-walk qs at zero = omega (arith, mild-none v m (Op.List ListOp.UnlockRead) refl, c.copy)
   part-walk qs at (suc left) = by (eqb (queue_at qs at) x.run) (part-walk qs (next_place qs at) left)
     where
       by : (b : Bool) → weigh v (walk x qs (next_place qs at) left) ≡ n → weigh v (let h : List Op = elim b [
         | true ↦ walk x qs (next_place qs at) left
-        | false ↦ op.Steal (steal_op.Length (record {
+        | false ↦ Op.Steal (StealOp.Length (record {
           poll = x;
           from = Own (queue_at qs at);
-          then = then.Walk (next_place qs at) left;
+          then = Then.Walk (next_place qs at) left;
         })) ∷ []
       ] in h) ≡ n
       by true z = z
-      by false z = omega (arith, c.begin (Own (queue_at qs at)) (then.Walk (next_place qs at) left))
+      by false z = omega (arith, c.begin (Own (queue_at qs at)) (Then.Walk (next_place qs at) left))
 
   pub part-own : (q : List ℕ) (w : World) → weigh v (search_own_by q w x).next ≡ n
   part-own [] w = omega (arith, c.turn)
@@ -139,19 +112,19 @@ module _ (v : Op → ℕ) (m : Mild v) (x : RunPoll) (n : ℕ) (c : Part v x n) 
   pub part-common : (look : Look) (q : List ℕ) (w : World) → weigh v (search_common_by q w x look).next ≡ n
   part-common (First mark) [] w = omega (arith, c.common (Second (other mark)))
   part-common (Second mark) [] w = omega (arith, c.lock)
-  part-common look (f ∷ rest) w = omega (arith, c.begin (Common (mark_in look)) (then.Found f))
+  part-common look (f ∷ rest) w = omega (arith, c.begin (Common (mark_in look)) (Then.Found f))
 
   pub part-look : (q : List ℕ) (w : World) (at left : ℕ) → weigh v (look_own_by q w x at left).next ≡ n
   part-look [] w at left = part-walk w.listed at left
   part-look (f ∷ rest) w at left =
-      omega (arith, mild-none v m (op.List list_op.UnlockRead) refl, part-found (put_own w x.run rest) f)
+      omega (arith, mild-none v m (Op.List ListOp.UnlockRead) refl, part-found (put_own w x.run rest) f)
 
 pub part-steal : (v : Op → ℕ) → Mild v → (n p : ℕ) (o : StealOp) (w : World) → Part v (poll_in o) n →
     weigh v (steal_act p o w).next ≡ n
-part-steal v m n p (steal_op.Length s) w c = part-length v m s.poll n c s.from s.then _ w
-part-steal v m n p (steal_op.OwnLength s k) w c = part-more v m s.poll n c s.from s.then _ w
-part-steal v m n p (steal_op.Take s more) w c = part-take v m s.poll n c s.from s.then _ more w
-part-steal v m n p (steal_op.Put s more f) w c = part-put v m s.poll n c s.from s.then _ p more f w
+part-steal v m n p (StealOp.Length s) w c = part-length v m s.poll n c s.from s.then _ w
+part-steal v m n p (StealOp.OwnLength s k) w c = part-more v m s.poll n c s.from s.then _ w
+part-steal v m n p (StealOp.Take s more) w c = part-take v m s.poll n c s.from s.then _ more w
+part-steal v m n p (StealOp.Put s more f) w c = part-put v m s.poll n c s.from s.then _ p more f w
 
 -- and what it changes: own queues that are empty stay so, but for that of a run to which something comes
 
@@ -192,15 +165,15 @@ idle-common look q w x = idle-coat w (search_common_by q w x look).world (coat-c
 
 -- all but what is done to the list, and the end of a steal that comes into an own queue
 abbrev pub is_even : Op → Bool
-is_even (op.List (list_op.Write s)) = false
-is_even (op.Steal (steal_op.Put s more f)) = false
+is_even (Op.List (ListOp.Write s)) = false
+is_even (Op.Steal (StealOp.Put s more f)) = false
 is_even _ = true
 
 lessens-coat : (w v : World) → coat w ≡ coat v → Lessens w v
 lessens-coat w v e = lessens w v (idle-coat w v e)
 
-lessens-list : (h : Hint) (o : ListOp) (w : World) → is_even (op.List o) ≡ true → Lessens w (list_act h o w).world
-lessens-list h (list_op.Write s) w n = absurd (cc)
+lessens-list : (h : Hint) (o : ListOp) (w : World) → is_even (Op.List o) ≡ true → Lessens w (list_act h o w).world
+lessens-list h (ListOp.Write s) w n = absurd (cc)
 lessens-list h _ w n = lessens w _ (idle w _ refl refl refl)
 
 lessens-deed : (w : World) (o : Op) (d : Done) → is_even o ≡ true → Deed w o d → Lessens w d.world

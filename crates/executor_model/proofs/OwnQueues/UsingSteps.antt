@@ -1,42 +1,23 @@
 -- For own_queues_agree and awaiters_are_kept.
 -- In each execution of the machine a run is in one call at most, and where the executor's drop has begun its own queue is
 -- empty.
-use Rattle.std.proofs.Common.{◌≡◌, ℕ, zero, suc, ◌<◌, ◌≤◌, List, [], ◌∷◌, ◌++◌, length, set, get_or}
-use Rattle.std.proofs.Common.{Bool, true, false, ◌&&◌, ◌||◌, not, refl, sym, ap, ◌∙◌, subst, inl, ⊎_elim, arith}
-use Rattle.std.specs.Prelude.{Option, reverse}
-use Rattle.std.specs.List.{list_any}
-use Rattle.executor_model.specs.declared.kind.Kind.{Kind}
-use Rattle.executor_model.specs.declared.call.Call.{Call}
-use Rattle.executor_model.specs.declared.call.Call.TheVariants as call
-use Rattle.executor_model.specs.declared.call.Reply.{Reply}
-use Rattle.executor_model.specs.declared.event.Event.TheVariants as event
-use Rattle.executor_model.specs.declared.op.Hold.{Hold}
-use Rattle.executor_model.specs.declared.op.ListOp.TheVariants as list_op
-use Rattle.executor_model.specs.declared.op.Op.{Op}
-use Rattle.executor_model.specs.declared.op.Op.TheVariants as op
-use Rattle.executor_model.specs.declared.op.RunOp.TheVariants as run_op
-use Rattle.executor_model.specs.declared.op.Section.TheVariants as section
-use Rattle.executor_model.specs.declared.step.Step.{Step}
-use Rattle.executor_model.specs.Doing.{act}
-use Rattle.executor_model.specs.Good.{Good}
-use Rattle.executor_model.specs.OwnQueues.{IsUsedOnce}
+use Rattle.std.proofs.Common.{◌≡◌, ℕ, zero, suc, ◌<◌, ◌≤◌, List, [], ◌∷◌, ◌++◌, length, set, get_or, Bool, true, false, ◌&&◌}
+use Rattle.std.proofs.Common.{◌||◌, not, refl, sym, ap, ◌∙◌, subst, inl, ⊎_elim, arith}
+use Rattle.std.{specs.Prelude.Option, specs.Prelude.reverse, specs.List.list_any}
+use Rattle.executor_model.proofs.Types.{Kind, Call, Reply, Event, Hold, ListOp, Op, RunOp, Section, Step}
+use Rattle.executor_model.specs.Steps.{Machine, begun, has_all, has_run, is_drop, is_there, is_unborrowed, is_unused, lives}
 use Rattle.executor_model.specs.Rows.{borrowing_of, running_of}
-use Rattle.executor_model.specs.Sound.{times, times_in}
-use Rattle.executor_model.specs.Steps.{Machine, begun, has_all, has_run, is_drop}
-use Rattle.executor_model.specs.Steps.{is_there, is_unborrowed, is_unused, lives, mine}
-use Rattle.executor_model.specs.Steps.{react, run, stack, start, top}
-use Rattle.executor_model.specs.Weights.{weigh_all}
+use Rattle.executor_model.specs.Steps.{mine, react, run, stack, start, top}
 use Rattle.executor_model.specs.World.{World, Run, Done, done, log, no_run, own_of, run_of}
-use Rattle.executor_model.proofs.Steps.Lift.{first-true, good, good-start, none_refused, set-own, split, unborrowed}
-use Rattle.executor_model.proofs.Steps.Lift.{unsettled, weigh_all-idle}
+use Rattle.executor_model.specs.{Doing.act, Good.Good, OwnQueues.IsUsedOnce, Sound.times, Sound.times_in, Weights.weigh_all}
+use Rattle.executor_model.proofs.Steps.Lift.{first-true, good, good-start, none_refused, set-own, split, unborrowed, unsettled}
 use Rattle.executor_model.proofs.Steps.Lists.{same_is, weigh_all-below, weigh_all-push}
-use Rattle.executor_model.proofs.Steps.Ways.{Way, along}
-use Rattle.executor_model.proofs.Steps.Ways.Way.{acted, reacted, called}
 use Rattle.executor_model.proofs.OwnQueues.Using.{emptying-uses, emptying_of, lending_of, polling-uses, polling_of}
-use Rattle.executor_model.proofs.OwnQueues.UsingWorlds.{is_over_stage, is_past}
 use Rattle.executor_model.proofs.OwnQueues.UsingCalls.{FreeRun, used-begun, used-react}
 use Rattle.executor_model.proofs.OwnQueues.UsingKeeps.{Used, counts, with_counts}
-use Rattle.executor_model.proofs.OwnQueues.UsingActs.{used-act, used-end}
+use Rattle.executor_model.proofs.{Steps.Lift.weigh_all-idle, Steps.Ways.Way, Steps.Ways.along, Steps.Ways.Way.acted}
+use Rattle.executor_model.proofs.{Steps.Ways.Way.reacted, Steps.Ways.Way.called, OwnQueues.UsingWorlds.is_over_stage}
+use Rattle.executor_model.proofs.{OwnQueues.UsingWorlds.is_past, OwnQueues.UsingActs.used-act, OwnQueues.UsingActs.used-end}
 
 -- the machine
 
@@ -115,9 +96,9 @@ none-there false l true e = absurd (cc)
 free : (s : Machine) (p : ℕ) (rest : List Op) (o : Option Op) (c : Call) (r : ℕ) → set s.parties p rest ≡ s.parties →
     has_all s.world s.parties o c ≡ true → (not (is_drop c) || is_unborrowed s.world s.parties) ≡ true →
     FreeRun s.world c r (counts r (set s.parties p rest))
-free s p rest o (call.PollRun q b) r e k n = free-run s.world s.parties (set s.parties p rest) q r e (first-true _ _ k)
-free s p rest o (call.DropRun q) r e k n = free-run s.world s.parties (set s.parties p rest) q r e k
-free s p rest o call.DropExecutor r e k n =
+free s p rest o (Call.PollRun q b) r e k n = free-run s.world s.parties (set s.parties p rest) q r e (first-true _ _ k)
+free s p rest o (Call.DropRun q) r e k n = free-run s.world s.parties (set s.parties p rest) q r e k
+free s p rest o Call.DropExecutor r e k n =
     all-past s.world.runs r (none-there (is_unused borrowing_of s.parties) (list_any lives s.world.ticks) _ n)
 free s p rest o _ r e k n = tt
 
@@ -134,15 +115,15 @@ used-moves s p old rest d good l e (called c q t n z) u =
     let e2 : stack s p ≡ rest ++ reverse [] = subst (λ (os : List Op). stack s p ≡ rest ++ reverse os) q e in
     let f : _ = none_refused s.world s.parties (top (stack s p)) c n in
     let own : set s.parties p rest ≡ s.parties = ap (set s.parties p) t ∙ set-own s.parties p l in
-    rw z (used-unsettled s p [] rest (begun p (log s.world (event.CallBegun p c)) (mine (top (stack s p))) c) l e2
+    rw z (used-unsettled s p [] rest (begun p (log s.world (Event.CallBegun p c)) (mine (top (stack s p))) c) l e2
     (λ r a b. used-begun p s.world (mine (top (stack s p))) c r (counts r (set s.parties p rest)) a b
     (free s p rest (top (stack s p)) c r own f.1 f.3)) u)
 
 pub used-ends : (s : Machine) (p : ℕ) (a : Reply) (held : Hold) (below : List Op) → p < length s.parties →
-    stack s p ≡ below ++ reverse (op.End a held ∷ []) → AllUsed s →
-    AllUsed (unsettled s p below (done (log s.world (event.CallEnded p a)) []))
+    stack s p ≡ below ++ reverse (Op.End a held ∷ []) → AllUsed s →
+    AllUsed (unsettled s p below (done (log s.world (Event.CallEnded p a)) []))
 used-ends s p a held below l e u =
-    used-unsettled s p (op.End a held ∷ []) below (done (log s.world (event.CallEnded p a)) []) l e
+    used-unsettled s p (Op.End a held ∷ []) below (done (log s.world (Event.CallEnded p a)) []) l e
     (λ r. used-end s.world p a held r _) u
 
 pub used-start : (limit : ℕ) (kind : Kind) (n : ℕ) → AllUsed (start limit kind n)
@@ -168,9 +149,9 @@ abbrev pub OwnEmptied : Machine → Type 0
 OwnEmptied s = s.world.gone ≡ true → (g : ℕ) → times_in g s.world.own ≡ 0
 
 emptying-borrows : (r : ℕ) (o : Op) → emptying_of r o ≤ borrowing_of o
-emptying-borrows r (op.List (list_op.LockWrite (section.Unregister q a))) = grind (arith, same_is)
-emptying-borrows r (op.List (list_op.Write (section.Unregister q a))) = grind (arith, same_is)
-emptying-borrows r (op.Run (run_op.Reschedule q a)) = grind (arith, same_is)
+emptying-borrows r (Op.List (ListOp.LockWrite (Section.Unregister q a))) = grind (arith, same_is)
+emptying-borrows r (Op.List (ListOp.Write (Section.Unregister q a))) = grind (arith, same_is)
+emptying-borrows r (Op.Run (RunOp.Reschedule q a)) = grind (arith, same_is)
 emptying-borrows r _ = omega arith
 
 none-in : (g : ℕ) (qs : List (List ℕ)) → ((r : ℕ) → get_or qs r [] ≡ []) → times_in g qs ≡ 0

@@ -1,22 +1,15 @@
 -- For own_queues_agree and awaiters_are_kept.
 -- What uses no run changes neither which runs were dropped or are ready, nor what stands in their own queues.
-use Rattle.std.proofs.Common.{◌≡◌, ℕ, zero, suc, List, [], ◌∷◌, length, set, get_or, Bool, true, false, ◌||◌}
-use Rattle.std.proofs.Common.{refl, sym, ap, ◌∙◌}
-use Rattle.executor_model.specs.declared.op.Look.{Look}
-use Rattle.executor_model.specs.declared.op.Hold.{Hold}
-use Rattle.executor_model.specs.declared.op.Op.{Op}
-use Rattle.executor_model.specs.declared.op.Op.TheVariants as op
-use Rattle.executor_model.specs.declared.op.Sleeping.{Sleeping}
-use Rattle.executor_model.specs.declared.op.TickOp.TheVariants as tick_op
-use Rattle.executor_model.specs.declared.op.UserOp.TheVariants as user_op
-use Rattle.executor_model.specs.declared.step.Hint.{Hint}
-use Rattle.executor_model.specs.Acts as acts
-use Rattle.executor_model.specs.ActsOfSleepers as of_sleepers
+use Rattle.std.proofs.Common.{◌≡◌, ℕ, zero, suc, List, [], ◌∷◌, length, set, get_or, Bool, true, false, ◌||◌, refl, sym, ap}
+use Rattle.std.proofs.Common.{◌∙◌}
+use Rattle.executor_model.proofs.Types.{Look, Hold, Op, Sleeping, TickOp, UserOp, Hint}
 use Rattle.executor_model.specs.Doing.{act, tick_act}
 use Rattle.executor_model.specs.World.{World, Ticker, Run, Stage, New, Listed, Ended, no_run, run_of}
 use Rattle.executor_model.proofs.OwnQueues.RunsAside.{Coat, apart-act, coat, drops, stages}
 use Rattle.executor_model.proofs.OwnQueues.RunsMoving.{coat-copy, coat-sleep, coat-search, coat-tick}
 use Rattle.executor_model.proofs.OwnQueues.Using.{is_for_runs}
+use Rattle.executor_model.specs.Acts as acts
+use Rattle.executor_model.specs.ActsOfSleepers as of_sleepers
 
 abbrev pub is_over_stage : Stage → Bool
 is_over_stage New = false
@@ -89,11 +82,11 @@ pub idle-search : (look : Look) (x : Ticker) (w : World) (q : List ℕ) (s : Sle
 idle-search look x w q s = idle-coat w (of_sleepers.look_tick_by x w look q s).world (coat-search look x q w s)
 
 pub idle-act : (p : ℕ) (h : Hint) (o : Op) (w : World) → is_for_runs o ≡ false → Idle w (act p h o w).world
-idle-act p h (op.User (user_op.PollOwn x)) w n = absurd (cc)
-idle-act p h (op.Tick (tick_op.Search s)) w n = absurd (cc)
-idle-act p h (op.Tick (tick_op.Look s look)) w n = absurd (cc)
-idle-act p h (op.Tick o) w n = idle-coat w (tick_act p h o w).world (coat-tick p h o w refl)
-idle-act p h (op.List o) w n = absurd (cc)
-idle-act p h (op.Steal o) w n = absurd (cc)
-idle-act p h (op.Run o) w n = absurd (cc)
+idle-act p h (Op.User (UserOp.PollOwn x)) w n = absurd (cc)
+idle-act p h (Op.Tick (TickOp.Search s)) w n = absurd (cc)
+idle-act p h (Op.Tick (TickOp.Look s look)) w n = absurd (cc)
+idle-act p h (Op.Tick o) w n = idle-coat w (tick_act p h o w).world (coat-tick p h o w refl)
+idle-act p h (Op.List o) w n = absurd (cc)
+idle-act p h (Op.Steal o) w n = absurd (cc)
+idle-act p h (Op.Run o) w n = absurd (cc)
 idle-act p h o w n = idle-coat w (act p h o w).world (apart-act p h o w refl).coat

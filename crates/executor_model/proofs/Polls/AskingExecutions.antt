@@ -1,40 +1,20 @@
 -- For polls_are_asked_for.
 -- In each execution a future is woken between two polls, and who is asked for is scheduled.
-use Rattle.std.proofs.Common.{◌≡◌, ◌≢◌, ◌⊎◌, ℕ, ◌<◌, ◌≤◌, List, [], ◌∷◌, ◌++◌, length}
-use Rattle.std.proofs.Common.{subst, inl, inr, arith}
+use Rattle.std.proofs.Common.{◌≡◌, ◌≢◌, ◌⊎◌, ℕ, ◌<◌, ◌≤◌, List, [], ◌∷◌, ◌++◌, length, subst, inl, inr, arith}
 use Rattle.std.specs.Prelude.{reverse}
-use Rattle.executor_model.specs.declared.kind.Kind.{Kind}
-use Rattle.executor_model.specs.declared.call.Reply.{Reply}
-use Rattle.executor_model.specs.declared.event.Event.TheVariants as event
-use Rattle.executor_model.specs.declared.op.Hold.{Hold}
-use Rattle.executor_model.specs.declared.op.Op.{Op}
-use Rattle.executor_model.specs.declared.op.Op.TheVariants as op
-use Rattle.task_moves.specs.declared.moves.owed.Move.TheVariants as move
-use Rattle.executor_model.specs.declared.step.Step.{Step}
-use Rattle.executor_model.specs.Trace.{Trace}
-use Rattle.executor_model.specs.World.{World, Done, done, log}
-use Rattle.executor_model.specs.Weights.{past}
-use Rattle.executor_model.specs.Sound.{Pend, pend, with_ops, phase}
-use Rattle.executor_model.specs.Sound.Phase.{Over, Broken}
-use Rattle.executor_model.specs.Good.{Good}
-use Rattle.executor_model.specs.Rows.{past_of}
-use Rattle.executor_model.specs.Steps.{Machine, stack, run, start}
-use Rattle.executor_model.proofs.Steps.Lists.{past_is}
+use Rattle.executor_model.proofs.Types.{Kind, Reply, Event, Hold, Op, Move, Step}
+use Rattle.executor_model.specs.{Trace.Trace, World.World, World.Done, World.done, World.log, Weights.past, Sound.Pend}
+use Rattle.executor_model.specs.{Sound.pend, Sound.with_ops, Sound.phase, Sound.Phase.Over, Sound.Phase.Broken, Good.Good}
+use Rattle.executor_model.specs.{Rows.past_of, Steps.Machine, Steps.stack, Steps.run, Steps.start}
 use Rattle.executor_model.proofs.Steps.Lift.{split, unsettled, good-start}
-use Rattle.executor_model.proofs.Steps.Ways.{Way, along}
-use Rattle.executor_model.proofs.Polls.Lawful.{dropped-over}
-use Rattle.executor_model.proofs.OneFuture.Stories.{story}
 use Rattle.executor_model.proofs.OneFuture.Extras.{Extra, extra, no_extra, waking_of, with_extra}
 use Rattle.executor_model.proofs.Table.LeavingExecutions.{Placed, placed-moves, placed-ends, placed-start}
-use Rattle.executor_model.proofs.OneFuture.Telling.{counted-drop}
-use Rattle.executor_model.proofs.OneFuture.Requests.{request-none}
-use Rattle.executor_model.proofs.OneFuture.Views.{none, seen}
-use Rattle.executor_model.proofs.Counts.SoundAll.{sure-of}
-use Rattle.executor_model.proofs.OneFuture.Passing.{goes-end}
 use Rattle.executor_model.proofs.Polls.Asking.{Grounds, grounded, Asked}
-use Rattle.executor_model.proofs.Polls.AskingViews.{asked-passes}
-use Rattle.executor_model.proofs.Polls.AskingAll.{asked-act}
 use Rattle.executor_model.proofs.OneFuture.EffectsWays.{effects-way, ended, lifted, view, view-start}
+use Rattle.executor_model.proofs.{Steps.Lists.past_is, Steps.Ways.Way, Steps.Ways.along, Polls.Lawful.dropped-over}
+use Rattle.executor_model.proofs.{OneFuture.Stories.story, OneFuture.Telling.counted-drop, OneFuture.Requests.request-none}
+use Rattle.executor_model.proofs.{OneFuture.Views.none, OneFuture.Views.seen, Counts.SoundAll.sure-of}
+use Rattle.executor_model.proofs.{OneFuture.Passing.goes-end, Polls.AskingViews.asked-passes, Polls.AskingAll.asked-act}
 
 pub record Heard (s : Machine) : Type 0 where
   pub placed : Placed s
@@ -51,17 +31,13 @@ over-or-broken f es n (inl e) = e
 over-or-broken f es n (inr e) = absurd (n e)
 
 was-dropped : (s : Machine) (p f : ℕ) (rest : List Op) → p < length s.parties →
-    stack s p ≡ rest ++ reverse (op.Move move.DropRunnable f ∷ []) → Good s → Placed s → phase f s.world.trace ≡ Over
+    stack s p ≡ rest ++ reverse (Op.Move Move.DropRunnable f ∷ []) → Good s → Placed s → phase f s.world.trace ≡ Over
 was-dropped s p f rest l e good h =
     let k : _ = (h.leaves f).left
-    (omega (arith, split waking_of s.parties p (op.Move move.DropRunnable f ∷ []) rest l e)) in
+    (omega (arith, split waking_of s.parties p (Op.Move Move.DropRunnable f ∷ []) rest l e)) in
     let i : f < length s.world.tasks =
     below _ f
-    (omega (
-      arith,
-      good.ops,
-      split (past_of (length s.world.tasks)) s.parties p (op.Move move.DropRunnable f ∷ []) rest l e,
-    )) in
+    (omega (arith, good.ops, split (past_of (length s.world.tasks)) s.parties p (Op.Move Move.DropRunnable f ∷ []) rest l e)) in
     let n : 1 ≤ (story f s.world.trace).fallen =
     omega (arith, ((h.leaves f).swept k.0 k.1.0).1, k.1.1, (h.leaves f).known i) in
     over-or-broken f s.world.trace (good.sound f).lawful (dropped-over f s.world.trace (counted-drop f s.world.trace n))
@@ -81,13 +57,13 @@ heard-moves s p old rest d good l e way h = record {
 }
 
 asked-end : (w : World) (p : ℕ) (a : Reply) (held : Hold) (g : ℕ) (r : Pend) (y : Extra) →
-    Asked (seen w g (with_ops g (op.End a held ∷ []) r) (with_extra g (op.End a held ∷ []) y)) →
-    Asked (seen (log w (event.CallEnded p a)) g (with_ops g [] r) (with_extra g [] y))
+    Asked (seen w g (with_ops g (Op.End a held ∷ []) r) (with_extra g (Op.End a held ∷ []) y)) →
+    Asked (seen (log w (Event.CallEnded p a)) g (with_ops g [] r) (with_extra g [] y))
 asked-end w p a held g r y h = asked-passes _ _ (goes-end p w a held g r y).passes h
 
 pub heard-ends : (s : Machine) (p : ℕ) (a : Reply) (held : Hold) (below : List Op) → p < length s.parties →
-    stack s p ≡ below ++ reverse (op.End a held ∷ []) → Heard s →
-    Heard (unsettled s p below (done (log s.world (event.CallEnded p a)) []))
+    stack s p ≡ below ++ reverse (Op.End a held ∷ []) → Heard s →
+    Heard (unsettled s p below (done (log s.world (Event.CallEnded p a)) []))
 heard-ends s p a held below l e h = record {
   placed = placed-ends s p a held below l e h.placed;
   asked = ended Asked s p a held below l e (asked-end s.world p a held) h.asked;

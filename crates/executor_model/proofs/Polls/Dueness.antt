@@ -1,19 +1,17 @@
 -- For laws of the crates above.
 -- What the automata tell of a future is what the definition of due says.
-use Rattle.std.proofs.Common.{◌≡◌, ◌≢◌, ℕ, Bool, true, false, ◌||◌, cond, ◌==◌, [], ◌∷◌, ◌++◌, refl}
-use Rattle.std.proofs.Common.{sym, ap, ◌∙◌, subst, append_assoc, append-nil}
+use Rattle.std.proofs.Common.{◌≡◌, ◌≢◌, ℕ, Bool, true, false, ◌||◌, cond, ◌==◌, [], ◌∷◌, ◌++◌, refl, sym, ap, ◌∙◌, subst}
+use Rattle.std.proofs.Common.{append_assoc, append-nil}
+use Rattle.executor_model.specs.declared.event.Event.TheVariants.{Accepted, PollBegun, Answered, LastWaker, Leaked, Woken}
 use Rattle.executor_model.specs.declared.event.Answer.TheVariants.{Pending, Ready}
-use Rattle.executor_model.specs.declared.event.Event.{Event}
-use Rattle.executor_model.specs.declared.event.Event.TheVariants.{Accepted, PollBegun, Answered, LastWaker, Leaked}
-use Rattle.executor_model.specs.declared.event.Event.TheVariants.{Woken, Cancelled, Dropped}
+use Rattle.executor_model.specs.declared.event.Event.TheVariants.{Cancelled, Dropped}
 use Rattle.executor_model.specs.Trace.{Trace, has, is_poll, is_answer, is_ready, is_dropped}
 use Rattle.executor_model.specs.Due.{is_request, since_poll, HasOpenPoll}
 use Rattle.executor_model.specs.Sound.{Phase, after_begun, after_answered, after_dropped, passes, phase}
 use Rattle.executor_model.specs.Sound.Phase.{Fresh, Polling, Over, Broken}
-use Rattle.executor_model.proofs.Steps.Lists.{phase-push}
 use Rattle.executor_model.proofs.OneFuture.Requests.{Request, notes, request, request-push, request-none}
 use Rattle.executor_model.proofs.Steps.Pushes.{any-push, since-push}
-use Rattle.executor_model.proofs.Steps.Tests.{or-left, or-right}
+use Rattle.executor_model.proofs.{Types.Event, Steps.Lists.phase-push, Steps.Tests.or-left, Steps.Tests.or-right}
 
 -- what is said of all traces by their last events
 pub by_last : (P : Trace → Type 0) → P [] → ((xs : Trace) (e : Event) → P xs → P (xs ++ e ∷ [])) → (ys : Trace) → P ys

@@ -2,40 +2,16 @@
 -- A wake that marks a task hands on one Runnable, or the end of the poll does.
 use Rattle.std.proofs.Common.{◌≡◌, ℕ, List, [], ◌∷◌, ◌++◌, Bool, true, false, ◌||◌, cond, refl, ◌∙◌, subst, arith}
 use Rattle.std.specs.Prelude.{Some}
-use Rattle.task_moves.specs.declared.moves.state.State.{State}
-use Rattle.task_moves.specs.declared.moves.owed.Move.TheVariants.{Release}
-use Rattle.task_moves.specs.Moves as moves
-use Rattle.task_moves.specs.Moves.{is_over, is_last}
-use Rattle.executor_model.specs.declared.op.Op.{Op}
-use Rattle.executor_model.specs.declared.op.Op.TheVariants as op
-use Rattle.executor_model.specs.declared.op.ClosingOp.TheVariants as closing_op
-use Rattle.task_moves.specs.declared.moves.owed.Move.TheVariants as move
-use Rattle.executor_model.specs.declared.call.Reply.TheVariants as reply
-use Rattle.executor_model.specs.declared.event.Event.TheVariants as event
-use Rattle.executor_model.specs.declared.op.Hold.TheVariants as hold
-use Rattle.executor_model.specs.declared.op.Polled.{Polled}
-use Rattle.executor_model.specs.declared.op.Polled.TheVariants as of
-use Rattle.executor_model.specs.declared.op.RunOp.TheVariants as run_op
-use Rattle.executor_model.specs.declared.op.RunPoll.{RunPoll}
-use Rattle.executor_model.specs.declared.op.SleeperOp.TheVariants as sleeper_op
-use Rattle.executor_model.specs.declared.op.Waker.{Waker}
-use Rattle.executor_model.specs.declared.op.WakerOp.TheVariants as waker_op
-use Rattle.executor_model.specs.declared.op.Waker.TheVariants.{Task, Outside}
-use Rattle.executor_model.specs.declared.step.Hint.{Hint}
-use Rattle.executor_model.specs.World.{World, log, task}
-use Rattle.executor_model.specs.Acts.{call_waker, wake_next_by}
-use Rattle.executor_model.specs.ActsOfRuns.{call_by_reference, wake_own}
-use Rattle.executor_model.specs.ActsOfSleepers.{polled_as}
-use Rattle.executor_model.specs.Carried.{owed_ops}
-use Rattle.executor_model.specs.Weights.{same, weigh}
-use Rattle.executor_model.specs.Sound.{Sound, Pend, pend, tokens}
-use Rattle.executor_model.specs.Steps.{Machine}
-use Rattle.executor_model.specs.Good.{Good}
+use Rattle.task_moves.{specs.declared.moves.owed.Move.TheVariants.Release, specs.Moves.is_over, specs.Moves.is_last}
+use Rattle.executor_model.proofs.Types.{State, Op, ClosingOp, Move, Reply, Event, Hold, Polled, RunOp, RunPoll, SleeperOp}
+use Rattle.executor_model.proofs.Types.{Waker, WakerOp, Task, Outside, Hint}
+use Rattle.executor_model.specs.Acts.{call_waker, wake_next_by, leak_next_by}
 use Rattle.executor_model.specs.HandingOn.{handed_on, HandsOn, IsFirst, IsIdle, IsOnItsWay, IsWakeOf, IsWakerOf}
-use Rattle.executor_model.specs.Rows.{appends_of}
-use Rattle.executor_model.proofs.Steps.Lists.{same_is, weigh-append, weigh-closing}
-use Rattle.executor_model.specs.Acts.{leak_next_by}
-use Rattle.executor_model.proofs.Steps.Lists.{weigh-leaking}
+use Rattle.executor_model.specs.{World.World, World.log, World.task, ActsOfRuns.call_by_reference, ActsOfRuns.wake_own}
+use Rattle.executor_model.specs.{ActsOfSleepers.polled_as, Carried.owed_ops, Weights.same, Weights.weigh, Sound.Sound}
+use Rattle.executor_model.specs.{Sound.Pend, Sound.pend, Sound.tokens, Steps.Machine, Good.Good, Rows.appends_of}
+use Rattle.executor_model.proofs.Steps.Lists.{same_is, weigh-append, weigh-closing, weigh-leaking}
+use Rattle.task_moves.specs.Moves as moves
 
 one : (f : ℕ) → same f f ≡ 1
 one f = grind (arith, same_is)
@@ -109,10 +85,10 @@ module _ (f p : ℕ) (h : Hint) (w : World) (n : ℕ) (stays : (b : Bool) →
   own-wake x = by x.waker
     where
       v : World
-      v = log w (event.WakerCalled p (of.Run x.run) x.poll x.waker)
+      v = log w (Event.WakerCalled p (Polled.Run x.run) x.poll x.waker)
 
       by : (a : Waker) → IsWakerOf f a →
-          weigh (appends_of f) ((call_by_reference p v a).next ++ op.End reply.Pending (hold.Run x.run) ∷ []) ≡ n
+          weigh (appends_of f) ((call_by_reference p v a).next ++ Op.End Reply.Pending (Hold.Run x.run) ∷ []) ≡ n
       by (Task g) e =
           let z : weigh (appends_of f) (call_by_reference p v (Task g)).next ≡ n =
           subst (λ (y : ℕ). weigh (appends_of f) (call_by_reference p v (Task y)).next ≡ n) e (stays _) in
@@ -120,19 +96,19 @@ module _ (f p : ℕ) (h : Hint) (w : World) (n : ℕ) (stays : (b : Bool) →
             arith,
             z,
             weigh-append (appends_of f) (call_by_reference p v (Task g)).next
-                (op.End reply.Pending (hold.Run x.run) ∷ []),
+                (Op.End Reply.Pending (Hold.Run x.run) ∷ []),
           )
       by (Outside y) e = let no : true ≡ false = e in absurd (cc)
 
   each-wake : (o : Op) → IsWakeOf f w o → handed_on f o p h w ≡ n
-  each-wake (op.Move move.WakeByReference g) e =
-      subst (λ (x : ℕ). handed_on f (op.Move move.WakeByReference x) p h w ≡ n) e (stays _)
-  each-wake (op.Move move.Wake g) e = subst (λ (x : ℕ). handed_on f (op.Move move.Wake x) p h w ≡ n) e (goes _)
-  each-wake (op.Waker (waker_op.CallAwaiter awaited a k)) e = called-wake (of.Handle awaited) k a e
-  each-wake (op.Sleeper (sleeper_op.CallSleeper s)) e = called-wake (polled_as s.who) s.poll s.waker e
-  each-wake (op.Run (run_op.WakeOwn x)) e = own-wake x e
-  each-wake (op.Closing closing_op.WakeNext) e = closing-wake w.waking e
-  each-wake (op.Closing closing_op.LeakNext) e = leak-wake w.gone w.waking e.0 e.1
+  each-wake (Op.Move Move.WakeByReference g) e =
+      subst (λ (x : ℕ). handed_on f (Op.Move Move.WakeByReference x) p h w ≡ n) e (stays _)
+  each-wake (Op.Move Move.Wake g) e = subst (λ (x : ℕ). handed_on f (Op.Move Move.Wake x) p h w ≡ n) e (goes _)
+  each-wake (Op.Waker (WakerOp.CallAwaiter awaited a k)) e = called-wake (Polled.Handle awaited) k a e
+  each-wake (Op.Sleeper (SleeperOp.CallSleeper s)) e = called-wake (polled_as s.who) s.poll s.waker e
+  each-wake (Op.Run (RunOp.WakeOwn x)) e = own-wake x e
+  each-wake (Op.Closing ClosingOp.WakeNext) e = closing-wake w.waking e
+  each-wake (Op.Closing ClosingOp.LeakNext) e = leak-wake w.gone w.waking e.0 e.1
   each-wake _ e = let no : true ≡ false = e in absurd (cc)
 
 none-handed : (w : World) (f p : ℕ) (h : Hint) → (is_over (task w f) || (task w f).scheduled) ≡ true → (o : Op) →

@@ -1,12 +1,10 @@
 -- For polls_are_asked_for and polls_are_lawful.
 -- Where the automaton of polls and answers doesn't break, they take turns, and no poll begins after the end.
-use Rattle.std.proofs.Common.{◌≡◌, ◌≢◌, ◌⊎◌, inl, inr, ℕ, suc, ◌+◌, arith, Bool, true, false, ◌||◌, cond}
-use Rattle.std.proofs.Common.{not, eqb, [], ◌∷◌, drop, refl, sym, ap, ◌∙◌, subst}
-use Rattle.std.specs.List.{filter, after_first, position_or_len}
-use Rattle.std.proofs.lemmas.Map.Views.{any-filter_same}
-use Rattle.executor_model.specs.declared.event.Answer.{Answer}
+use Rattle.std.proofs.Common.{◌≡◌, ◌≢◌, ◌⊎◌, inl, inr, ℕ, suc, ◌+◌, arith, Bool, true, false, ◌||◌, cond, not, eqb, [], ◌∷◌}
+use Rattle.std.proofs.Common.{drop, refl, sym, ap, ◌∙◌, subst}
+use Rattle.std.{specs.List.filter, specs.List.after_first, specs.List.position_or_len, proofs.lemmas.Map.Views.any-filter_same}
+use Rattle.executor_model.proofs.Types.{Answer, Event}
 use Rattle.executor_model.specs.declared.event.Answer.TheVariants.{Pending, Ready}
-use Rattle.executor_model.specs.declared.event.Event.{Event}
 use Rattle.executor_model.specs.declared.event.Event.TheVariants.{PollBegun, Answered, Dropped}
 use Rattle.executor_model.specs.Trace.{Trace, has, is_of, is_poll, is_dropped}
 use Rattle.executor_model.specs.LawfulPolls.{TakeTurns, HasLawfulPolls, is_end, is_poll_or_answer}

@@ -3,13 +3,11 @@
 use Rattle.std.proofs.Common.{◌≡◌, ℕ, ◌+◌, ◌≤◌, [], ◌∷◌, Bool, true, false, ◌||◌, cond, eqb, refl, arith}
 use Rattle.std.specs.Prelude.{filter}
 use Rattle.executor_model.specs.declared.event.Answer.TheVariants.{Pending, Ready}
-use Rattle.executor_model.specs.declared.event.Event.{Event}
 use Rattle.executor_model.specs.declared.event.Event.TheVariants.{PollBegun, Answered, Woken}
-use Rattle.executor_model.specs.Trace.{Trace}
 use Rattle.executor_model.specs.AskedPolls.{is_poll_or_wake, NoneTwice, IsWokenBetweenPolls}
-use Rattle.executor_model.specs.Weights.{same}
-use Rattle.executor_model.proofs.OneFuture.Telling.{same-cond}
+use Rattle.executor_model.specs.{Trace.Trace, Weights.same}
 use Rattle.executor_model.proofs.OneFuture.Requests.{Request, unheard, notes, request_from, request}
+use Rattle.executor_model.proofs.{Types.Event, OneFuture.Telling.same-cond}
 
 abbrev pub calls_of : ℕ → Trace → Trace
 calls_of f es = filter (is_poll_or_wake f) es

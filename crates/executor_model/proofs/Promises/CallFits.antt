@@ -1,69 +1,30 @@
 -- For calls_do_what_they_say.
 -- Calls do what they say: what is done for a call leads to nothing that serves another.
-use Rattle.std.proofs.Common.{◌≡◌, ℕ, ◌≤◌, List, [], ◌∷◌, ◌++◌, Bool, true, false, ◌&&◌}
-use Rattle.std.proofs.Common.{cond, ⊎_elim, refl, arith}
+use Rattle.std.proofs.Common.{◌≡◌, ℕ, ◌≤◌, List, [], ◌∷◌, ◌++◌, Bool, true, false, ◌&&◌, cond, ⊎_elim, refl, arith}
 use Rattle.std.specs.Prelude.{Option, Some, None}
-use Rattle.executor_model.specs.declared.op.Look.{Look}
-use Rattle.executor_model.specs.declared.op.Look.TheVariants.{First, Second}
-use Rattle.executor_parts.specs.declared.mark.Mark.{Mark}
-use Rattle.executor_parts.specs.Sleepers.{waker_at}
-use Rattle.task_moves.specs.Moves as moves
 use Rattle.task_moves.specs.declared.moves.owed.Answer.{Answer}
 use Rattle.task_moves.specs.declared.moves.owed.Answer.TheVariants.{Refused, Pending, Closed, Output}
-use Rattle.task_moves.specs.declared.moves.owed.Move.TheVariants as move
-use Rattle.task_moves.specs.declared.moves.owed.Moved.{Moved}
-use Rattle.executor_model.specs.declared.call.Call.{Call}
-use Rattle.executor_model.specs.declared.call.Call.TheVariants as call
-use Rattle.executor_model.specs.declared.call.Reply.{Reply}
-use Rattle.executor_model.specs.declared.call.Reply.TheVariants as reply
-use Rattle.executor_model.specs.declared.event.Answer.TheVariants as answer
-use Rattle.executor_model.specs.declared.event.Event.TheVariants as event
-use Rattle.executor_model.specs.declared.op.HandleOp.TheVariants as handle_op
-use Rattle.executor_model.specs.declared.op.Hold.{Hold}
-use Rattle.executor_model.specs.declared.op.Hold.TheVariants as hold
-use Rattle.executor_model.specs.declared.op.ListOp.TheVariants as list_op
-use Rattle.executor_model.specs.declared.op.Op.{Op}
-use Rattle.executor_model.specs.declared.op.Op.TheVariants as op
-use Rattle.executor_model.specs.declared.op.Polled.TheVariants as of
-use Rattle.executor_model.specs.declared.op.QueueOp.TheVariants as queue_op
-use Rattle.executor_model.specs.declared.op.RunOp.TheVariants as run_op
-use Rattle.executor_model.specs.declared.op.RunPoll.{RunPoll}
-use Rattle.executor_model.specs.declared.op.Section.TheVariants as section
-use Rattle.executor_model.specs.declared.op.TickOrRun.{TickOrRun}
-use Rattle.executor_model.specs.declared.op.TickOrRun.TheVariants as tick_or_run
-use Rattle.executor_model.specs.declared.op.Sleeping.{Sleeping}
-use Rattle.executor_model.specs.declared.op.TableOp.TheVariants as table_op
-use Rattle.executor_model.specs.declared.op.TickOp.TheVariants as tick_op
-use Rattle.executor_model.specs.declared.op.UserOp.TheVariants as user_op
-use Rattle.executor_model.specs.declared.op.Waker.{Waker}
-use Rattle.executor_model.specs.declared.op.Waker.TheVariants.{Task, Outside}
-use Rattle.executor_model.specs.declared.op.WakerOp.TheVariants as waker_op
-use Rattle.executor_model.specs.declared.step.Hint.{Hint}
-use Rattle.executor_model.specs.declared.step.UserEnd.{UserEnd}
-use Rattle.executor_model.specs.declared.step.UserEnd.TheVariants as end
+use Rattle.executor_parts.specs.Sleepers.{waker_at}
+use Rattle.executor_model.proofs.Types.{Look, First, Second, Mark, Move, Moved, Call, Reply, Event, HandleOp, Hold, ListOp, Op}
+use Rattle.executor_model.proofs.Types.{Polled, QueueOp, RunOp, RunPoll, Section, TickOrRun, Sleeping, TableOp, TickOp, UserOp}
+use Rattle.executor_model.proofs.Types.{Waker, Task, Outside, WakerOp, Hint, UserEnd}
 use Rattle.executor_model.specs.Acts.{answered, copy_awaiter_by, copy_by, emptiness, end_register_by, enter_by, let_go}
-use Rattle.executor_model.specs.Acts.{look_again_by, look_by, polled, register_by, reply_of, take_by}
-use Rattle.executor_model.specs.ActsOfRuns as runs
 use Rattle.executor_model.specs.ActsOfSleepers.{copy_sleeper_by, sleep_again_by, sleep_anew_by, fall_asleep_by, sleep_listed_by}
+use Rattle.executor_model.specs.Acts.{look_again_by, look_by, polled, register_by, reply_of, take_by}
 use Rattle.executor_model.specs.ActsOfSleepers.{make_tick_by, pend_as, look_tick_by, sleeper_goes}
-use Rattle.executor_model.specs.CallsMean.{is_reply}
-use Rattle.executor_model.specs.Carried.{awaiter_ops}
 use Rattle.executor_model.specs.Doing.{act, search_by_who}
-use Rattle.executor_model.specs.Steps.{accepts, react}
-use Rattle.executor_model.specs.Weights.{weigh}
 use Rattle.executor_model.specs.World.{World, Ticker, Awake, Asleep, Left, awaiter_of, log, place_of, task}
-use Rattle.executor_model.proofs.Steps.Asides.{Aside, aside-awaiter, aside-let_go}
-use Rattle.executor_model.proofs.Promises.CallPromises.{polls_run}
-use Rattle.executor_model.proofs.Promises.CallPromises.{asks, copies, leaves, makes_run, makes_tick, misfit, polls_by, polls_handle, serves}
-use Rattle.executor_model.proofs.Promises.CallPromises.{spawns, tries}
-use Rattle.executor_model.proofs.Quiet.Calls.{calling_of, is_end}
-use Rattle.executor_model.proofs.Quiet.CallsGroups.{calls-act}
-use Rattle.executor_model.proofs.Steps.Lists.{weigh-append, weigh-below}
-use Rattle.executor_model.proofs.Quiet.Resting.{calling-is}
+use Rattle.executor_model.specs.{CallsMean.is_reply, Carried.awaiter_ops, Steps.accepts, Steps.react, Weights.weigh}
+use Rattle.executor_model.proofs.Promises.CallPromises.{polls_run, asks, copies, leaves, makes_run, makes_tick, misfit}
 use Rattle.executor_model.proofs.Steps.RunsNext.{BlindToSearches, common-unseen, look-unseen, own-unseen, steal-unseen}
-use Rattle.executor_model.proofs.Steps.RunsNext.{walk-unseen}
-use Rattle.executor_model.proofs.Steps.SleepersNext.{goes-unseen}
-use Rattle.executor_model.proofs.Steps.Tests.{and-right}
+use Rattle.executor_model.proofs.Steps.Asides.{Aside, aside-awaiter, aside-let_go}
+use Rattle.executor_model.proofs.Promises.CallPromises.{polls_by, polls_handle, serves, spawns, tries}
+use Rattle.executor_model.proofs.{Quiet.Calls.calling_of, Quiet.Calls.is_end, Quiet.CallsGroups.calls-act}
+use Rattle.executor_model.proofs.{Steps.Lists.weigh-append, Steps.Lists.weigh-below, Quiet.Resting.calling-is}
+use Rattle.executor_model.proofs.{Steps.RunsNext.walk-unseen, Steps.SleepersNext.goes-unseen, Steps.Tests.and-right}
+use Rattle.task_moves.specs.Moves as moves
+use Rattle.executor_model.specs.declared.event.Answer.TheVariants as answer
+use Rattle.executor_model.specs.ActsOfRuns as runs
 
 one-at-most : (b : Bool) → (let n : ℕ = cond b 0 1 in n) ≤ 1
 one-at-most true = omega arith
@@ -87,33 +48,33 @@ few c o = ⊎_elim (λ (z : calling_of o ≡ 0). omega (arith, z, plain o z))
     (λ (z : calling_of o ≡ 1). omega (arith, z, one-at-most (serves o c))) (calling-is o)
   where
     plain : (o : Op) → calling_of o ≡ 0 → misfit c o ≡ 0
-    plain (op.Table (table_op.Enter mark)) z = absurd (omega (arith, z))
-    plain (op.Queue queue_op.TakeTurn) z = absurd (omega (arith, z))
-    plain (op.Queue (queue_op.Take look)) z = absurd (omega (arith, z))
-    plain (op.Table table_op.LookAtTable) z = absurd (omega (arith, z))
-    plain (op.Waker (waker_op.CopyWaker f held)) z = absurd (omega (arith, z))
-    plain (op.Handle (handle_op.Look f a)) z = absurd (omega (arith, z))
-    plain (op.Handle (handle_op.CopyAwaiter f a)) z = absurd (omega (arith, z))
-    plain (op.Handle (handle_op.Register f a k)) z = absurd (omega (arith, z))
-    plain (op.Handle (handle_op.EndRegister f a k)) z = absurd (omega (arith, z))
-    plain (op.Handle (handle_op.LookAgain f)) z = absurd (omega (arith, z))
-    plain (op.Tick tick_op.MakeTick) z = absurd (omega (arith, z))
-    plain (op.Tick (tick_op.Search s)) z = absurd (omega (arith, z))
-    plain (op.Tick (tick_op.Look s look)) z = absurd (omega (arith, z))
-    plain (op.Tick (tick_op.CopyWaker s)) z = absurd (omega (arith, z))
-    plain (op.Tick (tick_op.FallAsleep s)) z = absurd (omega (arith, z))
-    plain (op.User (user_op.PollOwn x)) z = absurd (omega (arith, z))
-    plain (op.List (list_op.LockWrite s)) z = absurd (omega (arith, z))
-    plain (op.List (list_op.Write s)) z = absurd (omega (arith, z))
-    plain (op.List (list_op.LockRead x)) z = absurd (omega (arith, z))
-    plain (op.Steal o) z = absurd (omega (arith, z))
-    plain (op.Run run_op.MakeRoom) z = absurd (omega (arith, z))
-    plain (op.Run (run_op.TakeTurn x)) z = absurd (omega (arith, z))
-    plain (op.Run (run_op.SearchCommon x look)) z = absurd (omega (arith, z))
-    plain (op.Run (run_op.LookOwn x at left)) z = absurd (omega (arith, z))
-    plain (op.Run (run_op.WakeOwn x)) z = absurd (omega (arith, z))
-    plain (op.Run (run_op.Reschedule r a)) z = absurd (omega (arith, z))
-    plain (op.End r held) z = absurd (omega (arith, z))
+    plain (Op.Table (TableOp.Enter mark)) z = absurd (omega (arith, z))
+    plain (Op.Queue QueueOp.TakeTurn) z = absurd (omega (arith, z))
+    plain (Op.Queue (QueueOp.Take look)) z = absurd (omega (arith, z))
+    plain (Op.Table TableOp.LookAtTable) z = absurd (omega (arith, z))
+    plain (Op.Waker (WakerOp.CopyWaker f held)) z = absurd (omega (arith, z))
+    plain (Op.Handle (HandleOp.Look f a)) z = absurd (omega (arith, z))
+    plain (Op.Handle (HandleOp.CopyAwaiter f a)) z = absurd (omega (arith, z))
+    plain (Op.Handle (HandleOp.Register f a k)) z = absurd (omega (arith, z))
+    plain (Op.Handle (HandleOp.EndRegister f a k)) z = absurd (omega (arith, z))
+    plain (Op.Handle (HandleOp.LookAgain f)) z = absurd (omega (arith, z))
+    plain (Op.Tick TickOp.MakeTick) z = absurd (omega (arith, z))
+    plain (Op.Tick (TickOp.Search s)) z = absurd (omega (arith, z))
+    plain (Op.Tick (TickOp.Look s look)) z = absurd (omega (arith, z))
+    plain (Op.Tick (TickOp.CopyWaker s)) z = absurd (omega (arith, z))
+    plain (Op.Tick (TickOp.FallAsleep s)) z = absurd (omega (arith, z))
+    plain (Op.User (UserOp.PollOwn x)) z = absurd (omega (arith, z))
+    plain (Op.List (ListOp.LockWrite s)) z = absurd (omega (arith, z))
+    plain (Op.List (ListOp.Write s)) z = absurd (omega (arith, z))
+    plain (Op.List (ListOp.LockRead x)) z = absurd (omega (arith, z))
+    plain (Op.Steal o) z = absurd (omega (arith, z))
+    plain (Op.Run RunOp.MakeRoom) z = absurd (omega (arith, z))
+    plain (Op.Run (RunOp.TakeTurn x)) z = absurd (omega (arith, z))
+    plain (Op.Run (RunOp.SearchCommon x look)) z = absurd (omega (arith, z))
+    plain (Op.Run (RunOp.LookOwn x at left)) z = absurd (omega (arith, z))
+    plain (Op.Run (RunOp.WakeOwn x)) z = absurd (omega (arith, z))
+    plain (Op.Run (RunOp.Reschedule r a)) z = absurd (omega (arith, z))
+    plain (Op.End r held) z = absurd (omega (arith, z))
     plain _ z = refl
 
 fit-aside : (c : Call) → Aside (misfit c)
@@ -131,57 +92,57 @@ fit-aside c = record {
 -- calls but polls of ticks and runs
 
 fit-enter : (c : Call) (a b : Bool) (mark : Mark) (p : ℕ) (w : World) → spawns c ≡ true → weigh (misfit c) (enter_by a b mark p w).next ≡ 0
-fit-enter (call.Spawn m) true b mark p w e = refl
-fit-enter (call.Spawn m) false true mark p w e = refl
-fit-enter (call.Spawn m) false false mark p w e = refl
+fit-enter (Call.Spawn m) true b mark p w e = refl
+fit-enter (Call.Spawn m) false true mark p w e = refl
+fit-enter (Call.Spawn m) false false mark p w e = refl
 fit-enter _ a b mark p w e = absurd (cc)
 
 fit-take : (look : Look) (c : Call) (q : List ℕ) (w : World) → tries c ≡ true → weigh (misfit c) (take_by w look q).next ≡ 0
-fit-take (First mark) call.TryTick [] w e = refl
-fit-take (Second mark) call.TryTick [] w e = refl
-fit-take look call.TryTick (f ∷ rest) w e = refl
+fit-take (First mark) Call.TryTick [] w e = refl
+fit-take (Second mark) Call.TryTick [] w e = refl
+fit-take look Call.TryTick (f ∷ rest) w e = refl
 fit-take look _ q w e = absurd (cc)
 
-fit-emptiness : (c : Call) (q : List ℕ) → asks c ≡ true → misfit c (op.End (emptiness q) hold.Executor) ≡ 0
-fit-emptiness call.IsEmpty [] e = refl
-fit-emptiness call.IsEmpty (f ∷ rest) e = refl
+fit-emptiness : (c : Call) (q : List ℕ) → asks c ≡ true → misfit c (Op.End (emptiness q) Hold.Executor) ≡ 0
+fit-emptiness Call.IsEmpty [] e = refl
+fit-emptiness Call.IsEmpty (f ∷ rest) e = refl
 fit-emptiness _ q e = absurd (cc)
 
 fit-copy : (c : Call) (b : Bool) (w : World) (f : ℕ) (held : Hold) → copies c ≡ true →
     weigh (misfit c) (copy_by b w f held).next ≡ 0
-fit-copy (call.Copy k) true w f held e = refl
-fit-copy (call.Copy k) false w f held e = refl
-fit-copy call.Keep true w f held e = refl
-fit-copy call.Keep false w f held e = refl
+fit-copy (Call.Copy k) true w f held e = refl
+fit-copy (Call.Copy k) false w f held e = refl
+fit-copy Call.Keep true w f held e = refl
+fit-copy Call.Keep false w f held e = refl
 fit-copy _ b w f held e = absurd (cc)
 
 fit-make : (c : Call) (b : Bool) (w : World) → makes_tick c ≡ true → weigh (misfit c) (make_tick_by b w).next ≡ 0
-fit-make call.NewTick true w e = refl
-fit-make call.NewTick false w e = refl
+fit-make Call.NewTick true w e = refl
+fit-make Call.NewTick false w e = refl
 fit-make _ b w e = absurd (cc)
 
 fit-room : (c : Call) (b : Bool) (w : World) → makes_run c ≡ true → weigh (misfit c) (runs.make_room_by b w).next ≡ 0
-fit-room call.NewRun true w e = refl
-fit-room call.NewRun false w e = refl
+fit-room Call.NewRun true w e = refl
+fit-room Call.NewRun false w e = refl
 fit-room _ b w e = absurd (cc)
 
 fit-run : (c : Call) (b : Bool) (w : World) → makes_run c ≡ true → weigh (misfit c) (runs.make_run_by b w).next ≡ 0
-fit-run call.NewRun true w e = refl
-fit-run call.NewRun false w e = refl
+fit-run Call.NewRun true w e = refl
+fit-run Call.NewRun false w e = refl
 fit-run _ b w e = absurd (cc)
 
 -- polls of handles
 
 handle-ends : (c : Call) (f : ℕ) (a : Answer) (held : Hold) → polls_handle f c ≡ true →
-    misfit c (op.End (reply_of a) held) ≡ 0
-handle-ends (call.PollHandle g b) f Refused held e = refl
-handle-ends (call.PollHandle g b) f Pending held e = refl
-handle-ends (call.PollHandle g b) f Closed held e = refl
-handle-ends (call.PollHandle g b) f Output held e = refl
+    misfit c (Op.End (reply_of a) held) ≡ 0
+handle-ends (Call.PollHandle g b) f Refused held e = refl
+handle-ends (Call.PollHandle g b) f Pending held e = refl
+handle-ends (Call.PollHandle g b) f Closed held e = refl
+handle-ends (Call.PollHandle g b) f Output held e = refl
 handle-ends _ f a held e = absurd (cc)
 
-handle-refused : (c : Call) (f : ℕ) (held : Hold) → polls_handle f c ≡ true → misfit c (op.End reply.NoMemory held) ≡ 0
-handle-refused (call.PollHandle g b) f held e = refl
+handle-refused : (c : Call) (f : ℕ) (held : Hold) → polls_handle f c ≡ true → misfit c (Op.End Reply.NoMemory held) ≡ 0
+handle-refused (Call.PollHandle g b) f held e = refl
 handle-refused _ f held e = absurd (cc)
 
 fit-answered : (c : Call) (p : ℕ) (w : World) (f : ℕ) (m : Moved) (a : Answer) → polls_handle f c ≡ true →
@@ -190,9 +151,9 @@ fit-answered c p w f m a e =
     omega (
       arith,
       weigh-append (misfit c) (awaiter_ops f m.owed.awaiter)
-          (op.End (reply_of a) (hold.Handle f) ∷ []),
+          (Op.End (reply_of a) (Hold.Handle f) ∷ []),
       aside-awaiter (misfit c) (fit-aside c) f m.owed.awaiter,
-      handle-ends c f a (hold.Handle f) e,
+      handle-ends c f a (Hold.Handle f) e,
     )
 
 fit-look : (c : Call) (o : Option Answer) (p : ℕ) (w : World) (f : ℕ) (a : Waker) (m : Moved) →
@@ -207,7 +168,7 @@ fit-again c (Some x) p w f m e = fit-answered c p w f m x e
 
 fit-copy_awaiter : (c : Call) (b : Bool) (p : ℕ) (w : World) (f : ℕ) (a : Waker) → polls_handle f c ≡ true →
     weigh (misfit c) (copy_awaiter_by b p w f a).next ≡ 0
-fit-copy_awaiter c true p w f a e = omega (arith, handle-refused c f (hold.Handle f) e)
+fit-copy_awaiter c true p w f a e = omega (arith, handle-refused c f (Hold.Handle f) e)
 fit-copy_awaiter c false p w f a e = omega (arith, zero (polls_handle f c) e)
 
 fit-register : (c : Call) (b : Bool) (w : World) (f : ℕ) (a : Waker) (k : ℕ) → polls_handle f c ≡ true →
@@ -216,11 +177,11 @@ fit-register c true w f a k e = omega (arith, zero (polls_handle f c) e)
 fit-register c false w f a k e = omega (arith, zero (polls_handle f c) e)
 
 fit-let_go : (c : Call) (w : World) (f : ℕ) → polls_handle f c ≡ true →
-    weigh (misfit c) (let_go (awaiter_of w f) ++ op.Handle (handle_op.LookAgain f) ∷ []) ≡ 0
+    weigh (misfit c) (let_go (awaiter_of w f) ++ Op.Handle (HandleOp.LookAgain f) ∷ []) ≡ 0
 fit-let_go c w f e =
     omega (
       arith,
-      weigh-append (misfit c) (let_go (awaiter_of w f)) (op.Handle (handle_op.LookAgain f) ∷ []),
+      weigh-append (misfit c) (let_go (awaiter_of w f)) (Op.Handle (HandleOp.LookAgain f) ∷ []),
       aside-let_go (misfit c) (fit-aside c) (awaiter_of w f),
       zero (polls_handle f c) e,
     )
@@ -233,16 +194,16 @@ fit-end_register c false w f a k e = omega (arith, fit-let_go c w f e)
 -- polls of ticks and runs
 
 record Answers (c : Call) : Type 0 where
-  pub ready : is_reply c reply.Ready ≡ true
-  pub pending : is_reply c reply.Pending ≡ true
-  pub refused : is_reply c reply.NoMemory ≡ true
+  pub ready : is_reply c Reply.Ready ≡ true
+  pub pending : is_reply c Reply.Pending ≡ true
+  pub refused : is_reply c Reply.NoMemory ≡ true
 
 answering : (who : TickOrRun) (c : Call) → polls_by who c ≡ true → Answers c
-answering (tick_or_run.Tick t) (call.PollTick u b) e = record { ready = refl; pending = refl; refused = refl }
-answering who (call.PollRun r b) e = record { ready = refl; pending = refl; refused = refl }
-answering (tick_or_run.Run r) (call.PollTick u b) e = absurd (cc)
-answering (tick_or_run.Tick t) _ e = absurd (cc)
-answering (tick_or_run.Run r) _ e = absurd (cc)
+answering (TickOrRun.Tick t) (Call.PollTick u b) e = record { ready = refl; pending = refl; refused = refl }
+answering who (Call.PollRun r b) e = record { ready = refl; pending = refl; refused = refl }
+answering (TickOrRun.Run r) (Call.PollTick u b) e = absurd (cc)
+answering (TickOrRun.Tick t) _ e = absurd (cc)
+answering (TickOrRun.Run r) _ e = absurd (cc)
 
 record Runs (c : Call) : Type 0 where
   pub is : polls_run c ≡ true
@@ -251,16 +212,16 @@ record Runs (c : Call) : Type 0 where
   pub answers : Answers c
 
 polling : (c : Call) → polls_run c ≡ true → Runs c
-polling (call.PollRun r b) e = record {
+polling (Call.PollRun r b) e = record {
   is = refl;
   by = by;
   left = refl;
   answers = record { ready = refl; pending = refl; refused = refl };
 }
   where
-    by : (who : TickOrRun) → polls_by who (call.PollRun r b) ≡ true
-    by (tick_or_run.Tick t) = refl
-    by (tick_or_run.Run q) = refl
+    by : (who : TickOrRun) → polls_by who (Call.PollRun r b) ≡ true
+    by (TickOrRun.Tick t) = refl
+    by (TickOrRun.Run q) = refl
 polling _ e = absurd (cc)
 
 -- what a tick or run does in its poll
@@ -268,14 +229,14 @@ module _ (c : Call) (s : Sleeping) (e : polls_by s.who c ≡ true) where
   here : lack (polls_by s.who c) ≡ 0
   here = zero (polls_by s.who c) e
 
-  ready : lack (is_reply c reply.Ready) ≡ 0
-  ready = zero (is_reply c reply.Ready) (answering s.who c e).ready
+  ready : lack (is_reply c Reply.Ready) ≡ 0
+  ready = zero (is_reply c Reply.Ready) (answering s.who c e).ready
 
-  pending : lack (is_reply c reply.Pending) ≡ 0
-  pending = zero (is_reply c reply.Pending) (answering s.who c e).pending
+  pending : lack (is_reply c Reply.Pending) ≡ 0
+  pending = zero (is_reply c Reply.Pending) (answering s.who c e).pending
 
-  refused : lack (is_reply c reply.NoMemory) ≡ 0
-  refused = zero (is_reply c reply.NoMemory) (answering s.who c e).refused
+  refused : lack (is_reply c Reply.NoMemory) ≡ 0
+  refused = zero (is_reply c Reply.NoMemory) (answering s.who c e).refused
 
   fit-search : (look : Look) (x : Ticker) (w : World) (q : List ℕ) → weigh (misfit c) (look_tick_by x w look q s).next ≡ 0
   fit-search (First mark) x w [] = omega (arith, here)
@@ -299,12 +260,7 @@ module _ (c : Call) (s : Sleeping) (e : polls_by s.who c ≡ true) where
   fit-sleep_again : (o : Option ℕ) (w : World) (n : ℕ) → weigh (misfit c) (sleep_again_by o w n s).next ≡ 0
   fit-sleep_again None w n = fit-listed _ w n
   fit-sleep_again (Some at) w n = let old = waker_at (Some at) w.sleepers.wakers in
-      omega (
-        arith,
-        weigh-append (misfit c) (sleeper_goes old) (pend_as s.who),
-        goes-unseen (misfit c) (λ f. refl) old,
-        pending,
-      )
+      omega (arith, weigh-append (misfit c) (sleeper_goes old) (pend_as s.who), goes-unseen (misfit c) (λ f. refl) old, pending)
 
   fit-sleep : (x : Ticker) (w : World) → weigh (misfit c) (fall_asleep_by x w s).next ≡ 0
   fit-sleep Awake w = fit-anew _ w
@@ -334,27 +290,27 @@ module _ (c : Call) (k : Runs c) where
 
   fit-wake_own : (p : ℕ) (h : Hint) (w : World) (x : RunPoll) → weigh (misfit c) (runs.wake_own p w x).next ≡ 0
   fit-wake_own p h w x =
-      let v : World = log w (event.WakerCalled p (of.Run x.run) x.poll x.waker) in
+      let v : World = log w (Event.WakerCalled p (Polled.Run x.run) x.poll x.waker) in
       let next = (runs.call_by_reference p v x.waker).next in
       omega (
         arith,
-        weigh-append (misfit c) next (op.End reply.Pending (hold.Run x.run) ∷ []),
+        weigh-append (misfit c) next (Op.End Reply.Pending (Hold.Run x.run) ∷ []),
         called p h v x.waker,
-        zero (is_reply c reply.Pending) k.answers.pending,
+        zero (is_reply c Reply.Pending) k.answers.pending,
       )
     where
       called : (p : ℕ) (h : Hint) (w : World) (a : Waker) → weigh (misfit c) (runs.call_by_reference p w a).next ≡ 0
       called p h w (Task g) = omega (
         arith,
         weigh-below (misfit c) calling_of (few c) (runs.call_by_reference p w (Task g)).next,
-        (calls-act p h (op.Move move.WakeByReference g) w refl).passes.none refl,
+        (calls-act p h (Op.Move Move.WakeByReference g) w refl).passes.none refl,
       )
       called p h w (Outside y) = refl
 
 fit-who : (c : Call) (who : TickOrRun) (p : ℕ) (w : World) (s : Sleeping) → polls_by who c ≡ true → polls_by s.who c ≡ true →
     weigh (misfit c) (search_by_who who p w s).next ≡ 0
-fit-who c (tick_or_run.Tick t) p w s a e = omega (arith, here c s e)
-fit-who c (tick_or_run.Run r) p w s a e = own-unseen (misfit c) (searching c (polling c a)) _ w _
+fit-who c (TickOrRun.Tick t) p w s a e = omega (arith, here c s e)
+fit-who c (TickOrRun.Run r) p w s a e = own-unseen (misfit c) (searching c (polling c a)) _ w _
 
 fit-reschedule : (c : Call) (q : List ℕ) (w : World) (r : ℕ) (a : Reply) → (leaves c && is_reply c a) ≡ true →
     weigh (misfit c) (runs.reschedule_by q w r a).next ≡ 0
@@ -364,43 +320,43 @@ fit-reschedule c (f ∷ rest) w r a e = omega (arith, zero (leaves c && is_reply
 -- of what answers a call
 fit-calling : (c : Call) (p : ℕ) (h : Hint) (o : Op) (w : World) → calling_of o ≡ 1 → serves o c ≡ true →
     is_end o ≡ false → weigh (misfit c) (act p h o w).next ≡ 0
-fit-calling c p h (op.Table (table_op.Enter mark)) w a e n = fit-enter c _ _ _ p w e
-fit-calling c p h (op.Queue queue_op.TakeTurn) w a e n = omega (arith, zero (tries c) e)
-fit-calling c p h (op.Queue (queue_op.Take look)) w a e n = fit-take look c _ w e
-fit-calling c p h (op.Table table_op.LookAtTable) w a e n = omega (arith, fit-emptiness c w.table e)
-fit-calling c p h (op.Waker (waker_op.CopyWaker f held)) w a e n = fit-copy c _ w f held e
-fit-calling c p h (op.Handle (handle_op.Look f x)) w a e n =
+fit-calling c p h (Op.Table (TableOp.Enter mark)) w a e n = fit-enter c _ _ _ p w e
+fit-calling c p h (Op.Queue QueueOp.TakeTurn) w a e n = omega (arith, zero (tries c) e)
+fit-calling c p h (Op.Queue (QueueOp.Take look)) w a e n = fit-take look c _ w e
+fit-calling c p h (Op.Table TableOp.LookAtTable) w a e n = omega (arith, fit-emptiness c w.table e)
+fit-calling c p h (Op.Waker (WakerOp.CopyWaker f held)) w a e n = fit-copy c _ w f held e
+fit-calling c p h (Op.Handle (HandleOp.Look f x)) w a e n =
     fit-look c (moves.poll (task w f)).owed.answer p w f x (moves.poll (task w f)) e
-fit-calling c p h (op.Handle (handle_op.CopyAwaiter f x)) w a e n = fit-copy_awaiter c _ p w f x e
-fit-calling c p h (op.Handle (handle_op.Register f x k)) w a e n = fit-register c _ w f x k e
-fit-calling c p h (op.Handle (handle_op.EndRegister f x k)) w a e n = fit-end_register c _ w f x k e
-fit-calling c p h (op.Handle (handle_op.LookAgain f)) w a e n =
+fit-calling c p h (Op.Handle (HandleOp.CopyAwaiter f x)) w a e n = fit-copy_awaiter c _ p w f x e
+fit-calling c p h (Op.Handle (HandleOp.Register f x k)) w a e n = fit-register c _ w f x k e
+fit-calling c p h (Op.Handle (HandleOp.EndRegister f x k)) w a e n = fit-end_register c _ w f x k e
+fit-calling c p h (Op.Handle (HandleOp.LookAgain f)) w a e n =
     fit-again c (moves.look_again (task w f)).owed.answer p w f (moves.look_again (task w f)) e
-fit-calling c p h (op.Tick tick_op.MakeTick) w a e n = fit-make c _ w e
-fit-calling c p h (op.Tick (tick_op.Search s)) w a e n = fit-who c s.who p w s e e
-fit-calling c p h (op.Tick (tick_op.Look s look)) w a e n = fit-search c s e look _ w _
-fit-calling c p h (op.Tick (tick_op.CopyWaker s)) w a e n = fit-copy_sleeper c s e _ w
-fit-calling c p h (op.Tick (tick_op.FallAsleep s)) w a e n = fit-sleep c s e _ w
-fit-calling c p h (op.User (user_op.PollOwn x)) w a e n = omega (arith, zero (polls_run c) e)
-fit-calling c p h (op.List (list_op.LockWrite section.MakeRun)) w a e n = omega (arith, zero (makes_run c) e)
-fit-calling c p h (op.List (list_op.LockWrite (section.Register x))) w a e n = omega (arith, zero (polls_run c) e)
-fit-calling c p h (op.List (list_op.LockWrite (section.Unregister r x))) w a e n =
+fit-calling c p h (Op.Tick TickOp.MakeTick) w a e n = fit-make c _ w e
+fit-calling c p h (Op.Tick (TickOp.Search s)) w a e n = fit-who c s.who p w s e e
+fit-calling c p h (Op.Tick (TickOp.Look s look)) w a e n = fit-search c s e look _ w _
+fit-calling c p h (Op.Tick (TickOp.CopyWaker s)) w a e n = fit-copy_sleeper c s e _ w
+fit-calling c p h (Op.Tick (TickOp.FallAsleep s)) w a e n = fit-sleep c s e _ w
+fit-calling c p h (Op.User (UserOp.PollOwn x)) w a e n = omega (arith, zero (polls_run c) e)
+fit-calling c p h (Op.List (ListOp.LockWrite Section.MakeRun)) w a e n = omega (arith, zero (makes_run c) e)
+fit-calling c p h (Op.List (ListOp.LockWrite (Section.Register x))) w a e n = omega (arith, zero (polls_run c) e)
+fit-calling c p h (Op.List (ListOp.LockWrite (Section.Unregister r x))) w a e n =
     omega (arith, zero (leaves c && is_reply c x) e)
-fit-calling c p h (op.List (list_op.Write section.MakeRun)) w a e n = fit-run c _ w e
-fit-calling c p h (op.List (list_op.Write (section.Register x))) w a e n = omega (arith, zero (polls_run c) e)
-fit-calling c p h (op.List (list_op.Write (section.Unregister r x))) w a e n =
+fit-calling c p h (Op.List (ListOp.Write Section.MakeRun)) w a e n = fit-run c _ w e
+fit-calling c p h (Op.List (ListOp.Write (Section.Register x))) w a e n = omega (arith, zero (polls_run c) e)
+fit-calling c p h (Op.List (ListOp.Write (Section.Unregister r x))) w a e n =
     omega (arith, zero (leaves c && is_reply c x) e)
-fit-calling c p h (op.List (list_op.LockRead x)) w a e n =
+fit-calling c p h (Op.List (ListOp.LockRead x)) w a e n =
     walk-unseen (misfit c) (searching c (polling c e)) x w.listed _ _
-fit-calling c p h (op.Steal o) w a e n = steal-unseen (misfit c) (searching c (polling c e)) (λ f. refl) p o w
-fit-calling c p h (op.Run run_op.MakeRoom) w a e n = fit-room c _ w e
-fit-calling c p h (op.Run (run_op.TakeTurn x)) w a e n = omega (arith, zero (polls_run c) e)
-fit-calling c p h (op.Run (run_op.SearchCommon x look)) w a e n =
+fit-calling c p h (Op.Steal o) w a e n = steal-unseen (misfit c) (searching c (polling c e)) (λ f. refl) p o w
+fit-calling c p h (Op.Run RunOp.MakeRoom) w a e n = fit-room c _ w e
+fit-calling c p h (Op.Run (RunOp.TakeTurn x)) w a e n = omega (arith, zero (polls_run c) e)
+fit-calling c p h (Op.Run (RunOp.SearchCommon x look)) w a e n =
     common-unseen (misfit c) (searching c (polling c e)) look _ w x
-fit-calling c p h (op.Run (run_op.LookOwn x at left)) w a e n =
+fit-calling c p h (Op.Run (RunOp.LookOwn x at left)) w a e n =
     look-unseen (misfit c) (searching c (polling c e)) _ w x at left
-fit-calling c p h (op.Run (run_op.WakeOwn x)) w a e n = fit-wake_own c (polling c e) p h w x
-fit-calling c p h (op.Run (run_op.Reschedule r x)) w a e n = fit-reschedule c _ w r x e
+fit-calling c p h (Op.Run (RunOp.WakeOwn x)) w a e n = fit-wake_own c (polling c e) p h w x
+fit-calling c p h (Op.Run (RunOp.Reschedule r x)) w a e n = fit-reschedule c _ w r x e
 fit-calling c p h _ w a e n = absurd (cc)
 
 pub fit-act : (c : Call) (p : ℕ) (h : Hint) (o : Op) (w : World) → is_end o ≡ false → misfit c o ≡ 0 →
@@ -412,19 +368,19 @@ fit-act c p h o w n e = ⊎_elim
 
 pub fit-react : (c : Call) (p : ℕ) (o : Op) (u : UserEnd) (w : World) → accepts o u ≡ true → misfit c o ≡ 0 →
     weigh (misfit c) (react p o u w).next ≡ 0
-fit-react c p (op.User (user_op.Poll f)) (end.Polled answer.Pending) w a e = refl
-fit-react c p (op.User (user_op.Poll f)) (end.Polled answer.Ready) w a e = refl
-fit-react c p (op.User (user_op.Drop f)) end.Done w a e = refl
-fit-react c p (op.User (user_op.DropOutput f)) end.Done w a e = refl
-fit-react c p (op.User (user_op.CallOutside x)) end.Done w a e = refl
-fit-react c p (op.User (user_op.PollOwn x)) (end.Polled answer.Pending) w a e = omega (arith, e)
-fit-react c p (op.User (user_op.PollOwn x)) (end.Polled answer.Ready) w a e = ready c (polling c (served (polls_run c) e))
+fit-react c p (Op.User (UserOp.Poll f)) (UserEnd.Polled answer.Pending) w a e = refl
+fit-react c p (Op.User (UserOp.Poll f)) (UserEnd.Polled answer.Ready) w a e = refl
+fit-react c p (Op.User (UserOp.Drop f)) UserEnd.Done w a e = refl
+fit-react c p (Op.User (UserOp.DropOutput f)) UserEnd.Done w a e = refl
+fit-react c p (Op.User (UserOp.CallOutside x)) UserEnd.Done w a e = refl
+fit-react c p (Op.User (UserOp.PollOwn x)) (UserEnd.Polled answer.Pending) w a e = omega (arith, e)
+fit-react c p (Op.User (UserOp.PollOwn x)) (UserEnd.Polled answer.Ready) w a e = ready c (polling c (served (polls_run c) e))
   where
-    ready : (c : Call) → Runs c → weigh (misfit c) (react p (op.User (user_op.PollOwn x)) (end.Polled answer.Ready) w).next ≡ 0
-    ready c k = omega (arith, zero (leaves c && is_reply c reply.Ready) (both (leaves c) (is_reply c reply.Ready) k.left k.answers.ready))
+    ready : (c : Call) → Runs c → weigh (misfit c) (react p (Op.User (UserOp.PollOwn x)) (UserEnd.Polled answer.Ready) w).next ≡ 0
+    ready c k = omega (arith, zero (leaves c && is_reply c Reply.Ready) (both (leaves c) (is_reply c Reply.Ready) k.left k.answers.ready))
       where
         both : (a b : Bool) → a ≡ true → b ≡ true → (a && b) ≡ true
         both true b x y = y
         both false b x y = absurd (cc)
-fit-react c p (op.User (user_op.DropOwn r)) end.Done w a e = refl
+fit-react c p (Op.User (UserOp.DropOwn r)) UserEnd.Done w a e = refl
 fit-react c p _ _ w a e = absurd (cc)

@@ -1,17 +1,11 @@
 -- For calls_do_what_they_say.
 -- What calls do what they say rests on: how the calls that a trace tells of change with it.
-use Rattle.std.proofs.Common.{◌≡◌, ◌≢◌, ◌∙◌, ℕ, List, [], ◌∷◌, ◌++◌, Bool, true, false, eqb, refl, sym, ap}
-use Rattle.std.proofs.Common.{arith, append-nil}
-use Rattle.std.proofs.lemmas.Bool.Decides.{nat_tests}
-use Rattle.std.proofs.lemmas.List.{append_assoc}
-use Rattle.executor_model.specs.declared.event.Event.{Event}
-use Rattle.executor_model.specs.declared.event.Event.TheVariants as event
+use Rattle.std.proofs.Common.{◌≡◌, ◌≢◌, ◌∙◌, ℕ, List, [], ◌∷◌, ◌++◌, Bool, true, false, eqb, refl, sym, ap, arith, append-nil}
+use Rattle.std.{proofs.lemmas.Bool.Decides.nat_tests, proofs.lemmas.List.append_assoc}
 use Rattle.executor_model.specs.Calls.{Begun, Calls, calls, calls_from, does, hears, hears_by, hears_own, no_calls}
-use Rattle.executor_model.specs.Deeds.{doer, is_by}
-use Rattle.executor_model.specs.Trace.{Trace, has}
-use Rattle.executor_model.proofs.Steps.Deeds.{begins_one, ends_one}
+use Rattle.executor_model.specs.{Deeds.doer, Deeds.is_by, Trace.Trace, Trace.has}
 use Rattle.executor_model.proofs.Steps.Tests.{left-false, or-left, right-false}
-use Rattle.executor_model.proofs.Steps.TraceMore.{over-more}
+use Rattle.executor_model.proofs.{Types.Event, Steps.Deeds.begins_one, Steps.Deeds.ends_one, Steps.TraceMore.over-more}
 
 calls_from-push : (q : ℕ) (s : Calls) (es : Trace) (e : Event) →
     calls_from q s (es ++ e ∷ []) ≡ hears q e (calls_from q s es)
@@ -69,8 +63,8 @@ pub record Heard (p : ℕ) (es more now : Trace) : Type 0 where
 
 hears-plain : (e : Event) (s : Calls) → begins_one e ≡ false → ends_one e ≡ false →
     hears_own e s ≡ record s { begun = does e s.begun }
-hears-plain (event.CallBegun p c) s a b = absurd (cc)
-hears-plain (event.CallEnded p r) s a b = absurd (cc)
+hears-plain (Event.CallBegun p c) s a b = absurd (cc)
+hears-plain (Event.CallEnded p r) s a b = absurd (cc)
 hears-plain _ s a b = refl
 
 -- nobody else did it

@@ -1,34 +1,17 @@
 -- For calls_do_what_they_say.
 -- Calls do what they say: what a party has still to do stands in frames, one for each of its calls in progress, the
 -- innermost on top. What is kept of each call and its frame by all that is done holds of each call as it ends.
-use Rattle.std.proofs.Common.{◌≡◌, ◌≢◌, ◌∙◌, ℕ, ◌<◌, List, [], ◌∷◌, ◌++◌, length, get_or, set, Bool, true, false}
-use Rattle.std.proofs.Common.{◌||◌, eqb, refl, sym, ap, subst, arith, append-nil, get_or-set_same, get_or-set_other}
-use Rattle.std.proofs.lemmas.Bool.Decides.{nat_tests}
+use Rattle.std.proofs.Common.{◌≡◌, ◌≢◌, ◌∙◌, ℕ, ◌<◌, List, [], ◌∷◌, ◌++◌, length, get_or, set, Bool, true, false, ◌||◌, eqb}
+use Rattle.std.proofs.Common.{refl, sym, ap, subst, arith, append-nil, get_or-set_same, get_or-set_other}
 use Rattle.std.proofs.lemmas.List.{append_assoc, reverse-append, reverse-reverse}
-use Rattle.std.specs.Prelude.{reverse}
-use Rattle.executor_model.specs.declared.call.Call.{Call}
-use Rattle.executor_model.specs.declared.call.Reply.{Reply}
-use Rattle.executor_model.specs.declared.event.Answer.TheVariants as answer
-use Rattle.executor_model.specs.declared.event.Event.{Event}
-use Rattle.executor_model.specs.declared.event.Event.TheVariants as event
-use Rattle.executor_model.specs.declared.op.Hold.{Hold}
-use Rattle.executor_model.specs.declared.op.Op.{Op}
-use Rattle.executor_model.specs.declared.op.Op.TheVariants as op
-use Rattle.executor_model.specs.declared.op.UserOp.TheVariants as user_op
-use Rattle.executor_model.specs.declared.step.UserEnd.{UserEnd}
-use Rattle.executor_model.specs.declared.step.UserEnd.TheVariants as end
+use Rattle.std.{proofs.lemmas.Bool.Decides.nat_tests, specs.Prelude.reverse}
+use Rattle.executor_model.proofs.Types.{Call, Reply, Answer, Event, Hold, Op, UserOp, UserEnd}
 use Rattle.executor_model.specs.Calls.{Begun, Calls, Each, Ended, calls, ends}
-use Rattle.executor_model.specs.Deeds.{is_by}
-use Rattle.executor_model.specs.Steps.{Machine, accepts}
-use Rattle.executor_model.specs.Steps.{react, stack}
-use Rattle.executor_model.specs.Trace.{Trace, has}
-use Rattle.executor_model.specs.Weights.{weigh}
-use Rattle.executor_model.specs.World.{World, Done, done, log}
+use Rattle.executor_model.specs.{Deeds.is_by, Steps.Machine, Steps.accepts, Steps.react, Steps.stack, Trace.Trace, Trace.has}
+use Rattle.executor_model.specs.{Weights.weigh, World.World, World.Done, World.done, World.log}
 use Rattle.executor_model.proofs.Promises.CallFolds.{does_all, heard, hears-it, past-is, unheard, Heard, Unheard}
 use Rattle.executor_model.proofs.Quiet.Calls.{Answering, Passes, calling_of, none-both, single, then}
-use Rattle.executor_model.proofs.Steps.Deeds.{Grows, not-by}
-use Rattle.executor_model.proofs.Steps.Lift.{unsettled}
-use Rattle.executor_model.proofs.Steps.Tests.{or-false}
+use Rattle.executor_model.proofs.{Steps.Deeds.Grows, Steps.Deeds.not-by, Steps.Lift.unsettled, Steps.Tests.or-false}
 
 nothing : (o : Op) (next : List Op) → calling_of o ≡ 0 → weigh calling_of next ≡ 0 → Passes o next
 nothing o next z n = record { none = λ e. n; one = λ e. absurd (omega (arith, z, e)) }
@@ -37,15 +20,15 @@ one : (o : Op) (next : List Op) → calling_of o ≡ 1 → Answering next → Pa
 one o next z a = record { none = λ e. absurd (omega (arith, z, e)); one = λ e. a }
 
 pub passes-react : (p : ℕ) (o : Op) (u : UserEnd) (w : World) → accepts o u ≡ true → Passes o (react p o u w).next
-passes-react p (op.User (user_op.Poll f)) (end.Polled answer.Pending) w a = nothing _ _ refl refl
-passes-react p (op.User (user_op.Poll f)) (end.Polled answer.Ready) w a = nothing _ _ refl refl
-passes-react p (op.User (user_op.Drop f)) end.Done w a = nothing _ _ refl refl
-passes-react p (op.User (user_op.DropOutput f)) end.Done w a = nothing _ _ refl refl
-passes-react p (op.User (user_op.CallOutside x)) end.Done w a = nothing _ _ refl refl
-passes-react p (op.User (user_op.PollOwn x)) (end.Polled answer.Pending) w a = one _ _ refl (single _ refl)
-passes-react p (op.User (user_op.PollOwn x)) (end.Polled answer.Ready) w a =
-    one _ _ refl (then (op.User (user_op.DropOwn x.run) ∷ []) _ refl refl)
-passes-react p (op.User (user_op.DropOwn r)) end.Done w a = nothing _ _ refl refl
+passes-react p (Op.User (UserOp.Poll f)) (UserEnd.Polled Answer.Pending) w a = nothing _ _ refl refl
+passes-react p (Op.User (UserOp.Poll f)) (UserEnd.Polled Answer.Ready) w a = nothing _ _ refl refl
+passes-react p (Op.User (UserOp.Drop f)) UserEnd.Done w a = nothing _ _ refl refl
+passes-react p (Op.User (UserOp.DropOutput f)) UserEnd.Done w a = nothing _ _ refl refl
+passes-react p (Op.User (UserOp.CallOutside x)) UserEnd.Done w a = nothing _ _ refl refl
+passes-react p (Op.User (UserOp.PollOwn x)) (UserEnd.Polled Answer.Pending) w a = one _ _ refl (single _ refl)
+passes-react p (Op.User (UserOp.PollOwn x)) (UserEnd.Polled Answer.Ready) w a =
+    one _ _ refl (then (Op.User (UserOp.DropOwn x.run) ∷ []) _ refl refl)
+passes-react p (Op.User (UserOp.DropOwn r)) UserEnd.Done w a = nothing _ _ refl refl
 passes-react p _ _ w a = absurd (cc)
 
 each-push : (R : Ended → Type 0) (es : List Ended) (e : Ended) → Each R es → R e → Each R (es ++ e ∷ [])
@@ -163,15 +146,15 @@ module _
       pub first : Begun
       pub others : List Begun
       pub is : bs ≡ first ∷ others
-      pub owes : O es first (op.End a held ∷ [])
+      pub owes : O es first (Op.End a held ∷ [])
       pub tied : Tied es others rest
 
     on-end : (es : Trace) (b : Begun) (bs : List Begun) (a : Reply) (held : Hold) (rest front : List Op) (last : Op)
-        (below : List Op) → Frame es b front last below (op.End a held ∷ rest) → Tied es bs below →
+        (below : List Op) → Frame es b front last below (Op.End a held ∷ rest) → Tied es bs below →
         Ends es (b ∷ bs) a held rest
     on-end es b bs a held rest [] last below f t =
-        let i : last ≡ op.End a held = (let q : op.End a held ∷ rest ≡ last ∷ below = f.is in cc) in
-        let j : below ≡ rest = (let q : op.End a held ∷ rest ≡ last ∷ below = f.is in cc) in
+        let i : last ≡ Op.End a held = (let q : Op.End a held ∷ rest ≡ last ∷ below = f.is in cc) in
+        let j : below ≡ rest = (let q : Op.End a held ∷ rest ≡ last ∷ below = f.is in cc) in
         record {
           first = b;
           others = bs;
@@ -180,12 +163,12 @@ module _
           tied = subst (Tied es bs) j t;
         }
     on-end es b bs a held rest (x ∷ fs) last below f t =
-        let i : op.End a held ≡ x =
-        (let q : op.End a held ∷ rest ≡ x ∷ (fs ++ last ∷ below) = f.is in cc) in
+        let i : Op.End a held ≡ x =
+        (let q : Op.End a held ∷ rest ≡ x ∷ (fs ++ last ∷ below) = f.is in cc) in
         absurd (omega (arith, ap calling_of i, f.none))
 
     tied-ends : (es : Trace) (bs : List Begun) (a : Reply) (held : Hold) (rest : List Op) →
-        Tied es bs (op.End a held ∷ rest) → Ends es bs a held rest
+        Tied es bs (Op.End a held ∷ rest) → Ends es bs a held rest
     tied-ends es [] a held rest h = absurd (cc)
     tied-ends es (b ∷ bs) a held rest h = on-end es b bs a held rest h.0 h.1 h.2 h.3 h.4
 
@@ -257,12 +240,12 @@ module _
     -- a call begins
     pub frames-begun : (s : Machine) (p : ℕ) (rest : List Op) (c : Call) (d : Done) → p < length s.parties →
         stack s p ≡ rest ++ reverse [] → Answering d.next →
-        (g : Grows p (log s.world (event.CallBegun p c)) d.world) →
-        O ((s.world.trace ++ event.CallBegun p c ∷ []) ++ g.more) (record { call = c; own = g.more }) d.next →
+        (g : Grows p (log s.world (Event.CallBegun p c)) d.world) →
+        O ((s.world.trace ++ Event.CallBegun p c ∷ []) ++ g.more) (record { call = c; own = g.more }) d.next →
         Frames s → Frames (unsettled s p rest d)
     frames-begun s p rest c d l e a g k f =
         let es : Trace = s.world.trace in
-        let begin : Event = event.CallBegun p c in
+        let begin : Event = Event.CallBegun p c in
         let h : Heard p (es ++ begin ∷ []) g.more ((es ++ begin ∷ []) ++ g.more) =
         heard p (es ++ begin ∷ []) g.more g.none_begins g.none_ends g.own in
         let first : calls p (es ++ begin ∷ []) ≡ record {
@@ -284,21 +267,21 @@ module _
         (λ q n. step q n g.own)
       where
         step : (q : ℕ) → q ≢ p → ((q : ℕ) → q ≢ p → has (is_by q) g.more ≡ false) →
-            (is_by q (event.CallBegun p c) || has (is_by q) g.more) ≡ false
-        step q n own = ap (λ (b : Bool). b || has (is_by q) g.more) (not-by p q (event.CallBegun p c) refl n) ∙ own q n
+            (is_by q (Event.CallBegun p c) || has (is_by q) g.more) ≡ false
+        step q n own = ap (λ (b : Bool). b || has (is_by q) g.more) (not-by p q (Event.CallBegun p c) refl n) ∙ own q n
 
     -- a call ends
-    module _ (right : (es : Trace) (b : Begun) (a : Reply) (held : Hold) → O es b (op.End a held ∷ []) →
+    module _ (right : (es : Trace) (b : Begun) (a : Reply) (held : Hold) → O es b (Op.End a held ∷ []) →
         R (record { call = b.call; own = b.own; reply = a; past = es })) where
       pub frames-ends : (s : Machine) (p : ℕ) (a : Reply) (held : Hold) (below : List Op) → p < length s.parties →
-          stack s p ≡ below ++ reverse (op.End a held ∷ []) → Frames s →
-          Frames (unsettled s p below (done (log s.world (event.CallEnded p a)) []))
+          stack s p ≡ below ++ reverse (Op.End a held ∷ []) → Frames s →
+          Frames (unsettled s p below (done (log s.world (Event.CallEnded p a)) []))
       frames-ends s p a held below l e f =
           let es : Trace = s.world.trace in
-          let last : Event = event.CallEnded p a in
+          let last : Event = Event.CallEnded p a in
           let d : Done = done (log s.world last) [] in
           let x : Ends es (calls p es).begun a held (reverse below) =
-          tied-ends es (calls p es).begun a held (reverse below) (was s p (op.End a held ∷ []) below d l e f) in
+          tied-ends es (calls p es).begun a held (reverse below) (was s p (Op.End a held ∷ []) below d l e f) in
           let now : calls p (es ++ last ∷ []) ≡ record {
             past = (calls p es).past ++ last ∷ [];
             begun = x.others;
@@ -307,7 +290,7 @@ module _
           } = hears-it p es last (by-itself p)
           ∙ ap (λ (bs : List Begun). let c : Calls =
           record (ends a (calls p es) bs) { past = (calls p es).past ++ last ∷ [] } in c) x.is in
-          all s p (op.End a held ∷ []) below d l e f
+          all s p (Op.End a held ∷ []) below d l e f
           (tied-is (es ++ last ∷ []) (es ++ last ∷ []) x.others _ (reverse below) _ refl
           (sym (ap (λ (c : Calls). c.begun) now)) refl
           (later-tied es (last ∷ []) x.others (reverse below) x.tied))

@@ -1,83 +1,66 @@
 -- For calls_do_what_they_say.
 -- Calls do what they say: what the frame of each call still promises, kept by one thing that is done.
-use Rattle.std.proofs.Common.{◌≡◌, ◌⊎◌, ◌∙◌, ℕ, ◌+◌, ◌≤◌, List, [], ◌∷◌, ◌++◌, Bool, true, false}
-use Rattle.std.proofs.Common.{cond, inl, inr, ⊎_elim, refl, arith}
-use Rattle.std.proofs.lemmas.List.Folds.{list_any-append}
-use Rattle.task_moves.specs.declared.moves.owed.Move.TheVariants as move
-use Rattle.executor_model.specs.declared.call.Call.{Call}
-use Rattle.executor_model.specs.declared.call.Call.TheVariants as call
-use Rattle.executor_model.specs.declared.call.Reply.{Reply}
-use Rattle.executor_model.specs.declared.call.Reply.TheVariants as reply
-use Rattle.executor_model.specs.declared.event.Event.{Event}
-use Rattle.executor_model.specs.declared.op.HandleOp.TheVariants as handle_op
-use Rattle.executor_model.specs.declared.op.Hold.{Hold}
-use Rattle.executor_model.specs.declared.op.Op.{Op}
-use Rattle.executor_model.specs.declared.op.Op.TheVariants as op
-use Rattle.executor_model.specs.declared.op.TableOp.TheVariants as table_op
-use Rattle.executor_model.specs.declared.op.UserOp.TheVariants as user_op
-use Rattle.executor_model.specs.AwaiterKept.{is_handle_poll}
-use Rattle.executor_model.specs.Calls.{Begun}
-use Rattle.executor_model.specs.CallsMean.{HasAccepted, HasCancelled, HasDetached, HasPolled, HasTaken, HasWoken, IsWhatItSays}
-use Rattle.executor_model.specs.CallsMean.{MayBeOver, is_reply}
-use Rattle.executor_model.specs.OutputOnce.{is_output_given}
-use Rattle.executor_model.specs.Trace.{Trace, has, is_cancelled, is_detached, is_drop_begun, is_drop_ended, is_dropped}
-use Rattle.executor_model.specs.Trace.{is_poll, is_ready, is_woken, is_last_waker}
-use Rattle.executor_model.specs.Weights.{same, weigh}
 pub use Rattle.executor_model.proofs.Promises.CallServes.{spawns, tries, asks, copies, polls_handle, makes_tick, makes_run}
 pub use Rattle.executor_model.proofs.Promises.CallServes.{polls, polls_run}
 pub use Rattle.executor_model.proofs.Promises.CallServes.{polls_by, leaves, serves_section, serves_list, serves_run}
 pub use Rattle.executor_model.proofs.Promises.CallServes.{serves_tick, serves_handle, serves, misfit}
-use Rattle.executor_model.proofs.OneFuture.Extras.{detaches_of}
-use Rattle.executor_model.proofs.Steps.Lists.{weigh-append}
+use Rattle.std.proofs.Common.{◌≡◌, ◌⊎◌, ◌∙◌, ℕ, ◌+◌, ◌≤◌, List, [], ◌∷◌, ◌++◌, Bool, true, false, cond, inl, inr, ⊎_elim, refl}
+use Rattle.std.{proofs.Common.arith, proofs.lemmas.List.Folds.list_any-append}
+use Rattle.executor_model.proofs.Types.{Move, Call, Reply, Event, HandleOp, Hold, Op, TableOp, UserOp, ClosingOp}
+use Rattle.executor_model.specs.CallsMean.{HasAccepted, HasCancelled, HasDetached, HasPolled, HasTaken, HasWoken, IsWhatItSays}
+use Rattle.executor_model.specs.Trace.{Trace, has, is_cancelled, is_detached, is_drop_begun, is_drop_ended, is_dropped, is_poll}
+use Rattle.executor_model.specs.Trace.{is_ready, is_woken, is_last_waker}
+use Rattle.executor_model.specs.{AwaiterKept.is_handle_poll, Calls.Begun, CallsMean.MayBeOver, CallsMean.is_reply}
+use Rattle.executor_model.specs.{OutputOnce.is_output_given, Weights.same, Weights.weigh}
 use Rattle.executor_model.proofs.Steps.Tests.{or-left, or-right}
-use Rattle.executor_model.specs.declared.op.ClosingOp.TheVariants as closing_op
+use Rattle.executor_model.proofs.{OneFuture.Extras.detaches_of, Steps.Lists.weigh-append}
 
 -- a call that ends so
 abbrev pub made_of : Op → ℕ
-made_of (op.End reply.Made held) = 1
+made_of (Op.End Reply.Made held) = 1
 made_of _ = 0
 
 abbrev pub ready_of : Op → ℕ
-ready_of (op.End reply.Ready held) = 1
+ready_of (Op.End Reply.Ready held) = 1
 ready_of _ = 0
 
 -- a poll of a handle that was told of
 abbrev pub told_of : Op → ℕ
-told_of (op.Handle (handle_op.Register f a k)) = 1
-told_of (op.Handle (handle_op.EndRegister f a k)) = 1
-told_of (op.Handle (handle_op.LookAgain f)) = 1
-told_of (op.End reply.Pending held) = 1
-told_of (op.End reply.Ready held) = 1
-told_of (op.End reply.Cancelled held) = 1
+told_of (Op.Handle (HandleOp.Register f a k)) = 1
+told_of (Op.Handle (HandleOp.EndRegister f a k)) = 1
+told_of (Op.Handle (HandleOp.LookAgain f)) = 1
+told_of (Op.End Reply.Pending held) = 1
+told_of (Op.End Reply.Ready held) = 1
+told_of (Op.End Reply.Cancelled held) = 1
 told_of _ = 0
 
 -- future f is to be cancelled
 abbrev pub cancels_of : ℕ → Op → ℕ
-cancels_of f (op.Move move.Cancel g) = same f g
+cancels_of f (Op.Move Move.Cancel g) = same f g
 cancels_of f _ = 0
 
 abbrev pub yes_of : Op → ℕ
-yes_of (op.End reply.Yes held) = 1
+yes_of (Op.End Reply.Yes held) = 1
 yes_of _ = 0
 
 -- a future is to be taken up, or, as its task is closed, dropped
 abbrev pub taking_of : Op → ℕ
-taking_of (op.Move move.TakeUp f) = 1
-taking_of (op.Table (table_op.TakeToDrop f)) = 1
-taking_of (op.User (user_op.BeginDrop f)) = 1
+taking_of (Op.Move Move.TakeUp f) = 1
+taking_of (Op.Table (TableOp.TakeToDrop f)) = 1
+taking_of (Op.User (UserOp.BeginDrop f)) = 1
 taking_of _ = 0
 
 -- a task is to be woken
 abbrev pub wakes_of : Op → ℕ
-wakes_of (op.Move move.Wake f) = 1
-wakes_of (op.Move move.WakeByReference f) = 1
+wakes_of (Op.Move Move.Wake f) = 1
+wakes_of (Op.Move Move.WakeByReference f) = 1
 wakes_of _ = 0
 
 -- the drop of the executor goes on
 abbrev pub closes_of : Op → ℕ
-closes_of (op.Closing closing_op.LeakOut) = 0
-closes_of (op.Closing closing_op.LeakNext) = 0
-closes_of (op.Closing o) = 1
+closes_of (Op.Closing ClosingOp.LeakOut) = 0
+closes_of (Op.Closing ClosingOp.LeakNext) = 0
+closes_of (Op.Closing o) = 1
 closes_of _ = 0
 
 abbrev pub WakePromised : Trace → Trace → List Op → Type 0
@@ -85,19 +68,19 @@ WakePromised past own os = (1 ≤ weigh wakes_of os) ⊎ HasWoken own past
 
 -- what a call that has done this promises by what it has still to do
 abbrev pub Promised : Call → Trace → Trace → List Op → Type 0
-Promised (call.Spawn mark) past own os = 1 ≤ weigh made_of os → HasAccepted own
-Promised call.TryTick past own os = 1 ≤ weigh yes_of os → (1 ≤ weigh taking_of os) ⊎ HasTaken own
-Promised (call.PollTick t b) past own os = 1 ≤ weigh ready_of os → (1 ≤ weigh taking_of os) ⊎ HasTaken own
-Promised (call.Wake k) past own os = WakePromised past own os
-Promised (call.WakeByRef k) past own os = WakePromised past own os
-Promised call.WakeSelf past own os = WakePromised past own os
-Promised call.DropExecutor past own os = (has is_drop_begun own ≡ true)
+Promised (Call.Spawn mark) past own os = 1 ≤ weigh made_of os → HasAccepted own
+Promised Call.TryTick past own os = 1 ≤ weigh yes_of os → (1 ≤ weigh taking_of os) ⊎ HasTaken own
+Promised (Call.PollTick t b) past own os = 1 ≤ weigh ready_of os → (1 ≤ weigh taking_of os) ⊎ HasTaken own
+Promised (Call.Wake k) past own os = WakePromised past own os
+Promised (Call.WakeByRef k) past own os = WakePromised past own os
+Promised Call.WakeSelf past own os = WakePromised past own os
+Promised Call.DropExecutor past own os = (has is_drop_begun own ≡ true)
     × ((1 ≤ weigh closes_of os) ⊎ (has is_drop_ended own ≡ true))
-Promised (call.PollHandle f b) past own os = (1 ≤ weigh ready_of os → has (is_output_given f) own ≡ true)
+Promised (Call.PollHandle f b) past own os = (1 ≤ weigh ready_of os → has (is_output_given f) own ≡ true)
     × (1 ≤ weigh told_of os → HasPolled f own)
-Promised (call.Cancel f) past own os = (1 ≤ weigh (cancels_of f) os) ⊎ HasCancelled f own past
-Promised (call.Detach f) past own os = (1 ≤ weigh (detaches_of f) os) ⊎ HasDetached f own
-Promised (call.DropHandle f) past own os = ((1 ≤ weigh (cancels_of f) os) ⊎ HasCancelled f own past)
+Promised (Call.Cancel f) past own os = (1 ≤ weigh (cancels_of f) os) ⊎ HasCancelled f own past
+Promised (Call.Detach f) past own os = (1 ≤ weigh (detaches_of f) os) ⊎ HasDetached f own
+Promised (Call.DropHandle f) past own os = ((1 ≤ weigh (cancels_of f) os) ⊎ HasCancelled f own past)
     × ((1 ≤ weigh (detaches_of f) os) ⊎ HasDetached f own)
 Promised _ past own os = Unit {0}
 
@@ -186,19 +169,19 @@ wake-later past more own os h = ⊎_elim
 
 promised-later : (c : Call) (past more own : Trace) (os : List Op) → Promised c past own os →
     Promised c (past ++ more) own os
-promised-later (call.Spawn mark) past more own os h = h
-promised-later call.TryTick past more own os h = h
-promised-later (call.PollTick t b) past more own os h = h
-promised-later (call.Wake k) past more own os h = wake-later past more own os h
-promised-later (call.WakeByRef k) past more own os h = wake-later past more own os h
-promised-later call.WakeSelf past more own os h = wake-later past more own os h
-promised-later call.DropExecutor past more own os h = h
-promised-later (call.PollHandle f b) past more own os h = h
-promised-later (call.Cancel f) past more own os h = ⊎_elim
+promised-later (Call.Spawn mark) past more own os h = h
+promised-later Call.TryTick past more own os h = h
+promised-later (Call.PollTick t b) past more own os h = h
+promised-later (Call.Wake k) past more own os h = wake-later past more own os h
+promised-later (Call.WakeByRef k) past more own os h = wake-later past more own os h
+promised-later Call.WakeSelf past more own os h = wake-later past more own os h
+promised-later Call.DropExecutor past more own os h = h
+promised-later (Call.PollHandle f b) past more own os h = h
+promised-later (Call.Cancel f) past more own os h = ⊎_elim
     (λ (a : 1 ≤ weigh (cancels_of f) os). inl a)
     (λ (a : HasCancelled f own past). inr (cancelled-later f own past more a)) h
-promised-later (call.Detach f) past more own os h = h
-promised-later (call.DropHandle f) past more own os h = (
+promised-later (Call.Detach f) past more own os h = h
+promised-later (Call.DropHandle f) past more own os h = (
   ⊎_elim
       (λ (a : 1 ≤ weigh (cancels_of f) os). inl a)
       (λ (a : HasCancelled f own past). inr (cancelled-later f own past more a)) h.0,
@@ -216,21 +199,21 @@ abbrev pub WakeTurns : Trace → Trace → Op → List Op → Type 0
 WakeTurns past more o next = (wakes_of o ≤ weigh wakes_of next) ⊎ HasWoken more past
 
 abbrev pub Turns : Call → Trace → Trace → Op → List Op → Type 0
-Turns (call.Spawn mark) past more o next = (weigh made_of next ≡ 0) ⊎ HasAccepted more
-Turns call.TryTick past more o next = ((weigh yes_of next ≡ 0) ⊎ (1 ≤ weigh taking_of next))
+Turns (Call.Spawn mark) past more o next = (weigh made_of next ≡ 0) ⊎ HasAccepted more
+Turns Call.TryTick past more o next = ((weigh yes_of next ≡ 0) ⊎ (1 ≤ weigh taking_of next))
     × ((taking_of o ≤ weigh taking_of next) ⊎ HasTaken more)
-Turns (call.PollTick t b) past more o next = ((weigh ready_of next ≡ 0) ⊎ (1 ≤ weigh taking_of next))
+Turns (Call.PollTick t b) past more o next = ((weigh ready_of next ≡ 0) ⊎ (1 ≤ weigh taking_of next))
     × ((taking_of o ≤ weigh taking_of next) ⊎ HasTaken more)
-Turns (call.Wake k) past more o next = WakeTurns past more o next
-Turns (call.WakeByRef k) past more o next = WakeTurns past more o next
-Turns call.WakeSelf past more o next = WakeTurns past more o next
-Turns call.DropExecutor past more o next = (closes_of o ≤ weigh closes_of next) ⊎ (has is_drop_ended more ≡ true)
-Turns (call.PollHandle f b) past more o next =
+Turns (Call.Wake k) past more o next = WakeTurns past more o next
+Turns (Call.WakeByRef k) past more o next = WakeTurns past more o next
+Turns Call.WakeSelf past more o next = WakeTurns past more o next
+Turns Call.DropExecutor past more o next = (closes_of o ≤ weigh closes_of next) ⊎ (has is_drop_ended more ≡ true)
+Turns (Call.PollHandle f b) past more o next =
     ((weigh ready_of next ≡ 0) ⊎ (has (is_output_given f) more ≡ true))
     × ((weigh told_of next ≤ told_of o) ⊎ HasPolled f more)
-Turns (call.Cancel f) past more o next = (cancels_of f o ≤ weigh (cancels_of f) next) ⊎ HasCancelled f more past
-Turns (call.Detach f) past more o next = (detaches_of f o ≤ weigh (detaches_of f) next) ⊎ HasDetached f more
-Turns (call.DropHandle f) past more o next =
+Turns (Call.Cancel f) past more o next = (cancels_of f o ≤ weigh (cancels_of f) next) ⊎ HasCancelled f more past
+Turns (Call.Detach f) past more o next = (detaches_of f o ≤ weigh (detaches_of f) next) ⊎ HasDetached f more
+Turns (Call.DropHandle f) past more o next =
     ((cancels_of f o ≤ weigh (cancels_of f) next) ⊎ HasCancelled f more past)
     × ((detaches_of f o ≤ weigh (detaches_of f) next) ⊎ HasDetached f more)
 Turns _ past more o next = Unit {0}
@@ -308,27 +291,27 @@ accepted-right xs ys a = (a.0, has-right _ xs ys a.1)
 
 pub promised-on : (c : Call) (past own more : Trace) (o : Op) (rest next : List Op) → Turns c past more o next →
     Promised c past own (o ∷ rest) → Promised c (past ++ more) (own ++ more) (next ++ rest)
-promised-on (call.Spawn mark) past own more o rest next t h =
+promised-on (Call.Spawn mark) past own more o rest next t h =
     arises made_of HasAccepted accepted-left accepted-right own more o rest next t h
-promised-on call.TryTick past own more o rest next t h = take-turns yes_of own more o rest next t h
-promised-on (call.PollTick i b) past own more o rest next t h = take-turns ready_of own more o rest next t h
-promised-on (call.Wake k) past own more o rest next t h = wake-turns past own more o rest next t h
-promised-on (call.WakeByRef k) past own more o rest next t h = wake-turns past own more o rest next t h
-promised-on call.WakeSelf past own more o rest next t h = wake-turns past own more o rest next t h
-promised-on call.DropExecutor past own more o rest next t h = (
+promised-on Call.TryTick past own more o rest next t h = take-turns yes_of own more o rest next t h
+promised-on (Call.PollTick i b) past own more o rest next t h = take-turns ready_of own more o rest next t h
+promised-on (Call.Wake k) past own more o rest next t h = wake-turns past own more o rest next t h
+promised-on (Call.WakeByRef k) past own more o rest next t h = wake-turns past own more o rest next t h
+promised-on Call.WakeSelf past own more o rest next t h = wake-turns past own more o rest next t h
+promised-on Call.DropExecutor past own more o rest next t h = (
   has-left is_drop_begun own more h.0,
   kept-up closes_of (λ xs. has is_drop_ended xs ≡ true) (has-left is_drop_ended) (has-right is_drop_ended) own more o
       rest next t h.1,
 )
-promised-on (call.PollHandle f b) past own more o rest next t h = (
+promised-on (Call.PollHandle f b) past own more o rest next t h = (
   arises ready_of (λ xs. has (is_output_given f) xs ≡ true) (has-left (is_output_given f))
       (has-right (is_output_given f)) own more o rest next t.0 h.0,
   stays-told told_of (HasPolled f) (has-left (is_handle_poll f)) (has-right (is_handle_poll f)) own more o rest next
       t.1 h.1,
 )
-promised-on (call.Cancel f) past own more o rest next t h = cancel-turns f past own more o rest next t h
-promised-on (call.Detach f) past own more o rest next t h = detach-turns f own more o rest next t h
-promised-on (call.DropHandle f) past own more o rest next t h =
+promised-on (Call.Cancel f) past own more o rest next t h = cancel-turns f past own more o rest next t h
+promised-on (Call.Detach f) past own more o rest next t h = detach-turns f own more o rest next t h
+promised-on (Call.DropHandle f) past own more o rest next t h =
     (cancel-turns f past own more o rest next t.0 h.0, detach-turns f own more o rest next t.1 h.1)
 promised-on _ past own more o rest next t h = tt
 
@@ -347,51 +330,51 @@ served : (b : Bool) → cond b 0 1 + 0 ≡ 0 → b ≡ true
 served true e = refl
 served false e = absurd (omega (arith, e))
 
-pub kind-right : (past : Trace) (b : Begun) (a : Reply) (held : Hold) → Owes past b (op.End a held ∷ []) →
+pub kind-right : (past : Trace) (b : Begun) (a : Reply) (held : Hold) → Owes past b (Op.End a held ∷ []) →
     is_reply b.call a ≡ true
 kind-right past b a held h = served (is_reply b.call a) h.fits
 
 cancel-right : (f : ℕ) (own past : Trace) (a : Reply) (held : Hold) →
-    (1 ≤ weigh (cancels_of f) (op.End a held ∷ [])) ⊎ HasCancelled f own past → HasCancelled f own past
+    (1 ≤ weigh (cancels_of f) (Op.End a held ∷ [])) ⊎ HasCancelled f own past → HasCancelled f own past
 cancel-right f own past a held h = ⊎_elim
-    (λ (x : 1 ≤ weigh (cancels_of f) (op.End a held ∷ [])). absurd (omega (arith, x)))
+    (λ (x : 1 ≤ weigh (cancels_of f) (Op.End a held ∷ [])). absurd (omega (arith, x)))
     (λ (x : HasCancelled f own past). x) h
 
 detach-right : (f : ℕ) (own : Trace) (a : Reply) (held : Hold) →
-    (1 ≤ weigh (detaches_of f) (op.End a held ∷ [])) ⊎ HasDetached f own → HasDetached f own
+    (1 ≤ weigh (detaches_of f) (Op.End a held ∷ [])) ⊎ HasDetached f own → HasDetached f own
 detach-right f own a held h = ⊎_elim
-    (λ (x : 1 ≤ weigh (detaches_of f) (op.End a held ∷ [])). absurd (omega (arith, x)))
+    (λ (x : 1 ≤ weigh (detaches_of f) (Op.End a held ∷ [])). absurd (omega (arith, x)))
     (λ (x : HasDetached f own). x) h
 
-wake-right : (own past : Trace) (a : Reply) (held : Hold) → WakePromised past own (op.End a held ∷ []) →
+wake-right : (own past : Trace) (a : Reply) (held : Hold) → WakePromised past own (Op.End a held ∷ []) →
     HasWoken own past
 wake-right own past a held h = ⊎_elim
-    (λ (x : 1 ≤ weigh wakes_of (op.End a held ∷ [])). absurd (omega (arith, x)))
+    (λ (x : 1 ≤ weigh wakes_of (Op.End a held ∷ [])). absurd (omega (arith, x)))
     (λ (x : HasWoken own past). x) h
 
-pub done-right : (c : Call) (a : Reply) (held : Hold) (past own : Trace) → Promised c past own (op.End a held ∷ []) →
+pub done-right : (c : Call) (a : Reply) (held : Hold) (past own : Trace) → Promised c past own (Op.End a held ∷ []) →
     IsWhatItSays c a own past
-done-right (call.Spawn mark) reply.Made held past own h = h (omega arith)
-done-right call.TryTick reply.Yes held past own h = ⊎_elim
-    (λ (x : 1 ≤ weigh taking_of (op.End reply.Yes held ∷ [])). absurd (omega (arith, x)))
+done-right (Call.Spawn mark) Reply.Made held past own h = h (omega arith)
+done-right Call.TryTick Reply.Yes held past own h = ⊎_elim
+    (λ (x : 1 ≤ weigh taking_of (Op.End Reply.Yes held ∷ [])). absurd (omega (arith, x)))
     (λ (x : HasTaken own). x) (h (omega arith))
-done-right (call.PollTick t b) reply.Ready held past own h = ⊎_elim
-    (λ (x : 1 ≤ weigh taking_of (op.End reply.Ready held ∷ [])). absurd (omega (arith, x)))
+done-right (Call.PollTick t b) Reply.Ready held past own h = ⊎_elim
+    (λ (x : 1 ≤ weigh taking_of (Op.End Reply.Ready held ∷ [])). absurd (omega (arith, x)))
     (λ (x : HasTaken own). x) (h (omega arith))
-done-right (call.Wake k) a held past own h = wake-right own past a held h
-done-right (call.WakeByRef k) a held past own h = wake-right own past a held h
-done-right call.WakeSelf a held past own h = wake-right own past a held h
-done-right call.DropExecutor a held past own h = (
+done-right (Call.Wake k) a held past own h = wake-right own past a held h
+done-right (Call.WakeByRef k) a held past own h = wake-right own past a held h
+done-right Call.WakeSelf a held past own h = wake-right own past a held h
+done-right Call.DropExecutor a held past own h = (
   h.0,
   ⊎_elim
-      (λ (x : 1 ≤ weigh closes_of (op.End a held ∷ [])). absurd (omega (arith, x)))
+      (λ (x : 1 ≤ weigh closes_of (Op.End a held ∷ [])). absurd (omega (arith, x)))
       (λ (x : has is_drop_ended own ≡ true). x) h.1,
 )
-done-right (call.PollHandle f b) reply.Ready held past own h = (h.0 (omega arith), h.1 (omega arith))
-done-right (call.PollHandle f b) reply.Pending held past own h = h.1 (omega arith)
-done-right (call.PollHandle f b) reply.Cancelled held past own h = h.1 (omega arith)
-done-right (call.Cancel f) a held past own h = cancel-right f own past a held h
-done-right (call.Detach f) a held past own h = detach-right f own a held h
-done-right (call.DropHandle f) a held past own h =
+done-right (Call.PollHandle f b) Reply.Ready held past own h = (h.0 (omega arith), h.1 (omega arith))
+done-right (Call.PollHandle f b) Reply.Pending held past own h = h.1 (omega arith)
+done-right (Call.PollHandle f b) Reply.Cancelled held past own h = h.1 (omega arith)
+done-right (Call.Cancel f) a held past own h = cancel-right f own past a held h
+done-right (Call.Detach f) a held past own h = detach-right f own a held h
+done-right (Call.DropHandle f) a held past own h =
     (cancel-right f own past a held h.0, detach-right f own a held h.1)
 done-right _ _ held past own h = tt

@@ -2,21 +2,13 @@
 -- Calls do what they say: who is over was ready or cancelled, or nobody was left who could wake it, or the drop of the
 -- executor had begun; and what a step added to a trace.
 use Rattle.std.proofs.Common.{◌≡◌, ◌⊎◌, ◌∙◌, ℕ, ◌∷◌, ◌++◌, [], Bool, true, false, ◌||◌, cond, eqb, inl, inr, ⊎_elim, refl, sym}
-use Rattle.std.proofs.Common.{arith}
-use Rattle.std.proofs.lemmas.Bool.Decides.{nat_tests}
-use Rattle.std.proofs.lemmas.List.{append_cancel_left}
+use Rattle.std.{proofs.Common.arith, proofs.lemmas.Bool.Decides.nat_tests, proofs.lemmas.List.append_cancel_left}
 use Rattle.task_moves.specs.Moves.{is_over}
-use Rattle.task_moves.specs.declared.moves.state.State.{State}
-use Rattle.executor_model.specs.CallsMean.{MayBeOver}
-use Rattle.executor_model.specs.Steps.{Machine}
 use Rattle.executor_model.specs.Trace.{Trace, has, is_cancelled, is_drop_begun, is_last_waker, is_ready}
-use Rattle.executor_model.specs.World.{task}
-use Rattle.executor_model.specs.declared.event.Answer.TheVariants as answer
-use Rattle.executor_model.specs.declared.event.Event.{Event}
-use Rattle.executor_model.specs.declared.event.Event.TheVariants as event
-use Rattle.executor_model.proofs.Table.LeavingExecutions.{Placed}
+use Rattle.executor_model.specs.{CallsMean.MayBeOver, Steps.Machine, World.task}
 use Rattle.executor_model.proofs.OneFuture.Stories.{Story, hears, story, story_from, untold}
 use Rattle.executor_model.proofs.Steps.Tests.{or-left, or-right}
+use Rattle.executor_model.proofs.{Types.State, Types.Answer, Types.Event, Table.LeavingExecutions.Placed}
 
 -- whose task is closed or completed has one of these causes
 
@@ -33,26 +25,26 @@ over-more g e es h = ⊎_elim
 -- the first event is a cause, or there was one before
 first-tells : (g : ℕ) (e : Event) (es : Trace) (s : Story) → (hears g e s).caused ≡ true →
     (s.caused ≡ true) ⊎ MayBeOver g (e ∷ es)
-first-tells g (event.Answered p f answer.Ready) es s k = by (eqb g f) refl k
+first-tells g (Event.Answered p f Answer.Ready) es s k = by (eqb g f) refl k
   where
     by : (b : Bool) → eqb g f ≡ b → cond b true s.caused ≡ true →
-        (s.caused ≡ true) ⊎ MayBeOver g (event.Answered p f answer.Ready ∷ es)
+        (s.caused ≡ true) ⊎ MayBeOver g (Event.Answered p f Answer.Ready ∷ es)
     by true z q = inr (inl (or-left (eqb g f) (has (is_ready g) es) z))
     by false z q = inl q
-first-tells g (event.Answered p f answer.Pending) es s k = inl k
-first-tells g (event.Cancelled p f) es s k = by (eqb g f) refl k
+first-tells g (Event.Answered p f Answer.Pending) es s k = inl k
+first-tells g (Event.Cancelled p f) es s k = by (eqb g f) refl k
   where
     by : (b : Bool) → eqb g f ≡ b → cond b true s.caused ≡ true →
-        (s.caused ≡ true) ⊎ MayBeOver g (event.Cancelled p f ∷ es)
+        (s.caused ≡ true) ⊎ MayBeOver g (Event.Cancelled p f ∷ es)
     by true z q = inr (inr (inl (or-left (eqb g f) (has (is_cancelled g) es) z)))
     by false z q = inl q
-first-tells g (event.LastWaker p f) es s k = by (eqb g f) refl k
+first-tells g (Event.LastWaker p f) es s k = by (eqb g f) refl k
   where
     by : (b : Bool) → eqb g f ≡ b → cond b (s.caused || s.detached) s.caused ≡ true →
-        (s.caused ≡ true) ⊎ MayBeOver g (event.LastWaker p f ∷ es)
+        (s.caused ≡ true) ⊎ MayBeOver g (Event.LastWaker p f ∷ es)
     by true z q = inr (inr (inr (inl (or-left (eqb g f) (has (is_last_waker g) es) z))))
     by false z q = inl q
-first-tells g (event.DropBegun p) es s k = inr (inr (inr (inr refl)))
+first-tells g (Event.DropBegun p) es s k = inr (inr (inr (inr refl)))
 first-tells g _ es s k = inl k
 
 caused-tells : (g : ℕ) (es : Trace) (s : Story) → (story_from g s es).caused ≡ true →

@@ -1,51 +1,25 @@
 -- For spawns_are_limited.
 -- Who has still to take an entry out of the table is a call in progress that itself began that future's drop.
-use Rattle.std.proofs.Common.{◌≡◌, ◌≢◌, ◌⊎◌, ℕ, zero, suc, ◌<◌, ◌≤◌, List, [], ◌∷◌, ◌++◌, length, get_or, true, ◌||◌}
-use Rattle.std.proofs.Common.{false}
-use Rattle.std.proofs.Common.{eqb, inl, inr, ⊎_elim, refl, subst, ap, ◌∙◌, arith}
+use Rattle.std.proofs.Common.{◌≡◌, ◌≢◌, ◌⊎◌, ℕ, zero, suc, ◌<◌, ◌≤◌, List, [], ◌∷◌, ◌++◌, length, get_or, true, ◌||◌, false}
+use Rattle.std.proofs.Common.{eqb, inl, inr, ⊎_elim, refl, subst, ap, ◌∙◌, arith, Bool, sym}
 use Rattle.std.proofs.lemmas.List.{append_assoc, append_cancel_left}
-use Rattle.std.specs.List.{list_any}
-use Rattle.std.specs.Prelude.{reverse}
-use Rattle.executor_model.specs.declared.kind.Kind.{Kind}
-use Rattle.executor_model.specs.declared.call.Reply.{Reply}
-use Rattle.executor_model.specs.declared.event.Event.TheVariants as event
-use Rattle.executor_model.specs.declared.op.ClosingOp.{ClosingOp}
-use Rattle.executor_model.specs.declared.op.ClosingOp.TheVariants as closing_op
-use Rattle.executor_model.specs.declared.op.Hold.{Hold}
-use Rattle.executor_model.specs.declared.op.Op.{Op}
-use Rattle.executor_model.specs.declared.op.Op.TheVariants as op
-use Rattle.executor_model.specs.declared.op.TableOp.TheVariants as table_op
-use Rattle.executor_model.specs.declared.op.UserOp.TheVariants as user_op
-use Rattle.task_moves.specs.declared.moves.owed.Move.{Move}
-use Rattle.task_moves.specs.declared.moves.owed.Move.TheVariants as move
-use Rattle.task_moves.specs.Moves as moves
-use Rattle.executor_model.specs.Acts.{leave_by, move_by}
-use Rattle.executor_model.specs.Calls.{Begun, Ended, calls}
-use Rattle.executor_model.specs.Good.{Good}
-use Rattle.executor_model.specs.Rows.{leaves_of}
-use Rattle.executor_model.specs.SpawnsMean.{IsBeingDropped}
-use Rattle.executor_model.specs.Steps.{Machine, stack, start}
-use Rattle.executor_model.specs.Trace.{Trace, has, is_dropped}
-use Rattle.executor_model.specs.Weights.{same, weigh, weigh_all}
+use Rattle.std.{specs.List.list_any, specs.Prelude.reverse}
+use Rattle.executor_model.proofs.Types.{Kind, Reply, Event, ClosingOp, Hold, Op, TableOp, UserOp, Move}
 use Rattle.executor_model.specs.World.{World, Done, done, log, task}
-use Rattle.executor_model.proofs.OneFuture.Effects.{Effect}
-use Rattle.executor_model.proofs.OneFuture.Effects.Effect.{passes, turns, refuses, enters, unlists, drops, takes_out, drops_next}
-use Rattle.executor_model.proofs.OneFuture.EffectsWays.{Effects, effects-way}
+use Rattle.executor_model.specs.{Acts.leave_by, Acts.move_by, Acts.begin_drop, Calls.Begun, Calls.Ended, Calls.calls, Good.Good}
+use Rattle.executor_model.specs.{Rows.leaves_of, SpawnsMean.IsBeingDropped, Steps.Machine, Steps.stack, Steps.start}
+use Rattle.executor_model.specs.{Trace.Trace, Trace.has, Trace.is_dropped, Weights.same, Weights.weigh, Weights.weigh_all}
+use Rattle.executor_model.proofs.OneFuture.Effects.Effect.{passes, turns, refuses, enters, unlists, drops, takes_out}
+use Rattle.executor_model.proofs.OneFuture.Effects.Effect.{drops_next, leaks, leaks_out}
 use Rattle.executor_model.proofs.OneFuture.EffectsWays.Effects.{does, pends, readies, closes}
-use Rattle.executor_model.proofs.OneFuture.Extras.{no_extra}
-use Rattle.executor_model.proofs.OneFuture.Views.{none}
-use Rattle.executor_model.proofs.Promises.CallFrames.{Frames, Tied}
-use Rattle.executor_model.proofs.Promises.CallPromises.{has-left, has-right}
 use Rattle.executor_model.proofs.Promises.FrameWays.{frames-end, frames-start, frames-way}
-use Rattle.executor_model.proofs.Steps.Asides.{Aside, aside-closing, aside-entry, aside-owed}
-use Rattle.executor_model.proofs.Steps.Lift.{unsettled}
+use Rattle.executor_model.proofs.Steps.Asides.{Aside, aside-closing, aside-entry, aside-owed, aside-leak_out}
 use Rattle.executor_model.proofs.Steps.Lists.{same_cases, weigh-append, weigh-reverse}
-use Rattle.executor_model.proofs.Steps.Tests.{or-left, or-right}
-use Rattle.executor_model.proofs.Steps.Ways.{Way}
-use Rattle.executor_model.proofs.Steps.Asides.{aside-leak_out}
-use Rattle.executor_model.proofs.OneFuture.Effects.Effect.{leaks, leaks_out}
-use Rattle.std.proofs.Common.{Bool, sym}
-use Rattle.executor_model.specs.Acts.{begin_drop}
+use Rattle.executor_model.proofs.{OneFuture.Effects.Effect, OneFuture.EffectsWays.Effects, OneFuture.EffectsWays.effects-way}
+use Rattle.executor_model.proofs.{OneFuture.Extras.no_extra, OneFuture.Views.none, Promises.CallFrames.Frames}
+use Rattle.executor_model.proofs.{Promises.CallFrames.Tied, Promises.CallPromises.has-left, Promises.CallPromises.has-right}
+use Rattle.executor_model.proofs.{Steps.Lift.unsettled, Steps.Tests.or-left, Steps.Tests.or-right, Steps.Ways.Way}
+use Rattle.task_moves.specs.Moves as moves
 
 -- an entry that is to be taken out was so before, or its future's drop began
 abbrev pub Takes : ℕ → List Op → List Op → Trace → Type 0
@@ -63,30 +37,30 @@ leaves-aside g = record {
   goes = λ f. refl;
 }
   where
-    no-leave : (m : Move) (f : ℕ) → leaves_of g (op.Move m f) ≡ 0
-    no-leave move.Wake f = refl
+    no-leave : (m : Move) (f : ℕ) → leaves_of g (Op.Move m f) ≡ 0
+    no-leave Move.Wake f = refl
     no-leave _ f = refl
 
-begins-drop : (g f p : ℕ) (w : World) (more : Trace) → w.trace ++ event.Dropped p f ∷ [] ≡ w.trace ++ more →
-    Takes g (op.User (user_op.BeginDrop f) ∷ []) (op.User (user_op.Drop f) ∷ op.Table (table_op.LeaveTable f) ∷ []) more
+begins-drop : (g f p : ℕ) (w : World) (more : Trace) → w.trace ++ Event.Dropped p f ∷ [] ≡ w.trace ++ more →
+    Takes g (Op.User (UserOp.BeginDrop f) ∷ []) (Op.User (UserOp.Drop f) ∷ Op.Table (TableOp.LeaveTable f) ∷ []) more
 begins-drop g f p w more t = ⊎_elim
     (λ (x : (same g f ≡ 1) × (eqb g f ≡ true) × (g ≡ f)).
-    let q : event.Dropped p f ∷ [] ≡ more = append_cancel_left w.trace (event.Dropped p f ∷ []) more t in
+    let q : Event.Dropped p f ∷ [] ≡ more = append_cancel_left w.trace (Event.Dropped p f ∷ []) more t in
     inr (subst (λ (xs : Trace). has (is_dropped g) xs ≡ true) q (or-left (eqb g f) false x.1)))
     (λ (x : (same g f ≡ 0) × (eqb g f ≡ false) × (g ≢ f)). inl (omega (arith, x.0)))
     (same_cases g f)
 
-closing-none : (g : ℕ) (o : ClosingOp) → leaves_of g (op.Closing o) ≡ 0
-closing-none g closing_op.TakeOut = refl
+closing-none : (g : ℕ) (o : ClosingOp) → leaves_of g (Op.Closing o) ≡ 0
+closing-none g ClosingOp.TakeOut = refl
 closing-none g _ = refl
 
 abbrev is_leak : List Op → Bool
-is_leak (op.Closing o ∷ os) = true
+is_leak (Op.Closing o ∷ os) = true
 is_leak _ = false
 
 -- no thing more is to be left, or a drop begins and is told of
 abbrev Begins : World → List Op → Done → Type 0
-Begins w old d = (p : ℕ) × ((f : ℕ) × ((old ≡ op.User (user_op.BeginDrop f) ∷ []) × (d ≡ begin_drop p w f)))
+Begins w old d = (p : ℕ) × ((f : ℕ) × ((old ≡ Op.User (UserOp.BeginDrop f) ∷ []) × (d ≡ begin_drop p w f)))
 
 leaves-effect : (w : World) (old : List Op) (d : Done) (g : ℕ) → Effect w old d →
     (weigh (leaves_of g) d.next ≤ weigh (leaves_of g) old) ⊎ Begins w old d
@@ -98,8 +72,8 @@ leaves-effect w old _ g (turns d m p f v rest i j k s a e) =
     inl (omega (
       arith,
       own,
-      ⊎_elim (λ x. let z : weigh (leaves_of g) (op.Move m f ∷ rest) ≤ weigh (leaves_of g) old = omega (arith, x) in z)
-          (λ x. let z : weigh (leaves_of g) (op.Move m f ∷ rest) ≤ weigh (leaves_of g) old = omega (arith, x.1) in z)
+      ⊎_elim (λ x. let z : weigh (leaves_of g) (Op.Move m f ∷ rest) ≤ weigh (leaves_of g) old = omega (arith, x) in z)
+          (λ x. let z : weigh (leaves_of g) (Op.Move m f ∷ rest) ≤ weigh (leaves_of g) old = omega (arith, x.1) in z)
           (s g none no_extra).stays.leaves,
       ap (weigh (leaves_of g)) e,
       weigh-append (leaves_of g) (move_by true m p v f).next rest,
@@ -116,11 +90,11 @@ leaves-effect w old d g (drops_next p f rest e) =
     inl (omega (arith, aside-closing (leaves_of g) (closing-none g) rest (w.waking ++ f ∷ [])))
 leaves-effect w old d g (leaks_out s n) = inl (omega (arith, aside-leak_out (leaves_of g) refl false w))
 leaves-effect w old _ g (leaks d p f e a) = ⊎_elim
-    (λ (x : weigh (leaves_of g) d.next ≤ weigh (leaves_of g) (op.Closing closing_op.LeakNext ∷ [])). inl x)
-    (λ (x : Begins w (op.Closing closing_op.LeakNext ∷ []) d). absurd (no x.1.0 x.1.1.0))
-    (leaves-effect w (op.Closing closing_op.LeakNext ∷ []) d g e)
+    (λ (x : weigh (leaves_of g) d.next ≤ weigh (leaves_of g) (Op.Closing ClosingOp.LeakNext ∷ [])). inl x)
+    (λ (x : Begins w (Op.Closing ClosingOp.LeakNext ∷ []) d). absurd (no x.1.0 x.1.1.0))
+    (leaves-effect w (Op.Closing ClosingOp.LeakNext ∷ []) d g e)
   where
-    no : (f : ℕ) → op.Closing closing_op.LeakNext ∷ [] ≡ op.User (user_op.BeginDrop f) ∷ [] → ⊥
+    no : (f : ℕ) → Op.Closing ClosingOp.LeakNext ∷ [] ≡ Op.User (UserOp.BeginDrop f) ∷ [] → ⊥
     no f q = let z : true ≡ false = ap (λ (os : List Op). is_leak os) q in cc
 
 takes-effect : (w : World) (old : List Op) (d : Done) (g : ℕ) (more : Trace) → Effect w old d →
@@ -129,7 +103,7 @@ takes-effect w old d g more e t = ⊎_elim
     (λ (x : weigh (leaves_of g) d.next ≤ weigh (leaves_of g) old). inl x)
     (λ (x : Begins w old d).
     subst (λ (os : List Op). Takes g os d.next more) (sym x.1.1.0)
-    (subst (λ (c : Done). Takes g (op.User (user_op.BeginDrop x.1.0) ∷ []) c.next more) (sym x.1.1.1)
+    (subst (λ (c : Done). Takes g (Op.User (UserOp.BeginDrop x.1.0) ∷ []) c.next more) (sym x.1.1.1)
     (begins-drop g x.1.0 x.0 w more (ap (λ (c : Done). c.world.trace) (sym x.1.1.1) ∙ t)))) (leaves-effect w old d g e)
 
 pub takes-effects : (w : World) (ss : List (List Op)) (old : List Op) (d : Done) (g : ℕ) (more : Trace) →
@@ -153,7 +127,7 @@ Anyhow e = Unit {0}
 abbrev pub Droppings : Machine → Type 0
 Droppings s = Frames Dropping dropping-later Anyhow s
 
-anyhow : (es : Trace) (b : Begun) (a : Reply) (held : Hold) → Dropping es b (op.End a held ∷ []) →
+anyhow : (es : Trace) (b : Begun) (a : Reply) (held : Hold) → Dropping es b (Op.End a held ∷ []) →
     Anyhow (record { call = b.call; own = b.own; reply = a; past = es })
 anyhow es b a held h = tt
 
@@ -161,8 +135,8 @@ pub droppings-start : (limit : ℕ) (kind : Kind) (n : ℕ) → Droppings (start
 droppings-start limit kind n = frames-start Dropping dropping-later Anyhow anyhow limit kind n
 
 pub droppings-end : (s : Machine) (p : ℕ) (a : Reply) (held : Hold) (below : List Op) → p < length s.parties →
-    stack s p ≡ below ++ reverse (op.End a held ∷ []) → Droppings s →
-    Droppings (unsettled s p below (done (log s.world (event.CallEnded p a)) []))
+    stack s p ≡ below ++ reverse (Op.End a held ∷ []) → Droppings s →
+    Droppings (unsettled s p below (done (log s.world (Event.CallEnded p a)) []))
 droppings-end s p a held below l e f = frames-end Dropping dropping-later Anyhow anyhow s p a held below l e f
 
 pub droppings-moves : (s : Machine) (p : ℕ) (old rest : List Op) (d : Done) → Good s → p < length s.parties →
@@ -184,9 +158,9 @@ droppings-moves s p old rest d good l e way k =
     (λ c q a more y t f u. ⊎_elim
     (λ (z : weigh (leaves_of f) d.next ≤ weigh (leaves_of f) old).
     absurd (omega (arith, z, u, ap (weigh (leaves_of f)) q)))
-    (λ (z : has (is_dropped f) (event.CallBegun p c ∷ more) ≡ true). z)
-    (takes-effects s.world s.parties old d f (event.CallBegun p c ∷ more) x
-    (t ∙ append_assoc s.world.trace (event.CallBegun p c ∷ []) more))) way
+    (λ (z : has (is_dropped f) (Event.CallBegun p c ∷ more) ≡ true). z)
+    (takes-effects s.world s.parties old d f (Event.CallBegun p c ∷ more) x
+    (t ∙ append_assoc s.world.trace (Event.CallBegun p c ∷ []) more))) way
 
 -- who has this to do
 

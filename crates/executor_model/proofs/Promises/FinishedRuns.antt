@@ -1,47 +1,20 @@
 -- For runs_are_finished_at_once.
 -- A step that tells that a run is finished is the beginning of a poll of a run that has ended.
-use Rattle.std.proofs.Common.{◌≡◌, ℕ, ◌<◌, List, [], ◌∷◌, ◌++◌, length, Bool, true, false}
-use Rattle.std.proofs.Common.{◌||◌, ltb, refl, sym, ap, subst, arith, ◌∙◌, append-nil}
-use Rattle.std.proofs.lemmas.Bool.Decides.{nat_tests}
+use Rattle.std.proofs.Common.{◌≡◌, ℕ, ◌<◌, List, [], ◌∷◌, ◌++◌, length, Bool, true, false, ◌||◌, ltb, refl, sym, ap, subst}
 use Rattle.std.proofs.lemmas.List.{append_assoc, append_cancel_left}
 use Rattle.std.specs.Prelude.{Option, Some, None, reverse}
-use Rattle.executor_model.specs.declared.call.By.{By}
-use Rattle.executor_model.specs.declared.call.Call.{Call}
-use Rattle.executor_model.specs.declared.call.Call.TheVariants as call
-use Rattle.executor_model.specs.declared.call.Reply.{Reply}
-use Rattle.executor_model.specs.declared.call.Reply.TheVariants as reply
-use Rattle.executor_model.specs.declared.event.Event.{Event}
-use Rattle.executor_model.specs.declared.event.Event.TheVariants as event
-use Rattle.executor_model.specs.declared.kind.Kind.{Kind}
-use Rattle.executor_model.specs.declared.op.Hold.{Hold}
-use Rattle.executor_model.specs.declared.op.Hold.TheVariants as hold
-use Rattle.executor_model.specs.declared.op.Op.{Op}
-use Rattle.executor_model.specs.declared.op.Op.TheVariants as op
-use Rattle.executor_model.specs.declared.step.Hint.{Hint}
-use Rattle.executor_model.specs.declared.step.Step.{Step}
-use Rattle.executor_model.specs.declared.step.Step.TheVariants as steps_of
-use Rattle.executor_model.specs.declared.step.StepError.{StepError}
-use Rattle.executor_model.specs.declared.step.StepError.TheVariants as error
-use Rattle.executor_model.specs.Doing.{act}
+use Rattle.std.{proofs.Common.arith, proofs.Common.◌∙◌, proofs.Common.append-nil, proofs.lemmas.Bool.Decides.nat_tests}
+use Rattle.executor_model.proofs.Types.{By, Call, Reply, Event, Kind, Hold, Op, Hint, Step, StepError}
+use Rattle.executor_model.specs.Steps.{Machine, Part, begun, below_top, end_of, gone_on, mine, onto, part_after, part_refusal}
+use Rattle.executor_model.specs.Steps.{party_of, react, refusal, run, settled_by, stack, start, step, step_by, stepped, top}
 use Rattle.executor_model.specs.FinishedRuns.{FinishedAtOnce, says_finished}
-use Rattle.executor_model.specs.Steps.{Machine, Part, begun, below_top, end_of, gone_on}
-use Rattle.executor_model.specs.Steps.{mine, onto, part_after}
-use Rattle.executor_model.specs.Steps.{part_refusal, party_of, react, refusal, run, settled_by, stack, start}
-use Rattle.executor_model.specs.Steps.{step, step_by, stepped, top}
-use Rattle.executor_model.specs.Steps.{unless}
-use Rattle.executor_model.specs.Trace.{Trace, has}
-use Rattle.executor_model.specs.Weights.{weigh, weigh_all}
-use Rattle.executor_model.specs.World.{World, Ended, Done}
-use Rattle.executor_model.specs.World.{done, log}
-use Rattle.executor_model.specs.World.{run_of}
-use Rattle.executor_model.proofs.Quiet.Calls.{is_end}
+use Rattle.executor_model.specs.World.{World, Ended, Done, done, log, run_of}
+use Rattle.executor_model.specs.{Doing.act, Steps.unless, Trace.Trace, Trace.has, Weights.weigh, Weights.weigh_all}
 use Rattle.executor_model.proofs.Steps.Deeds.{ends_one, grows-act, grows-begun, grows-react}
-use Rattle.executor_model.proofs.Steps.Lift.{topped, weigh_all-idle}
 use Rattle.executor_model.proofs.Steps.Lists.{weigh-append, weigh-reverse, weigh_all-set}
-use Rattle.executor_model.proofs.Steps.TraceMore.{has-append}
-use Rattle.executor_model.proofs.Table.Spawning.{top-last}
 use Rattle.executor_model.proofs.Promises.FinishedActs.{Leads, begins, fin, fin-act, fin-react, fin_reply}
-use Rattle.executor_model.proofs.Promises.FinishedActs.Leads.{none, over}
+use Rattle.executor_model.proofs.{Quiet.Calls.is_end, Steps.Lift.topped, Steps.Lift.weigh_all-idle, Steps.TraceMore.has-append}
+use Rattle.executor_model.proofs.{Table.Spawning.top-last, Promises.FinishedActs.Leads.none, Promises.FinishedActs.Leads.over}
 
 -- what is told
 
@@ -50,7 +23,7 @@ not-both true e f = absurd (cc)
 not-both false e f = absurd (cc)
 
 no-end : (e : Event) → ends_one e ≡ false → says_finished e ≡ false
-no-end (event.CallEnded p r) z = absurd (cc)
+no-end (Event.CallEnded p r) z = absurd (cc)
 no-end _ z = refl
 
 none-said : (es : Trace) → has ends_one es ≡ false → has says_finished es ≡ false
@@ -62,8 +35,8 @@ none-said (e ∷ es) z = by (ends_one e) refl z (none-said es)
     by true q k n = absurd (cc)
     by false q k n = ap (λ (x : Bool). x || has says_finished es) (no-end e q) ∙ n k
 
-said-other : (p : ℕ) (a : Reply) → fin_reply a ≡ 0 → says_finished (event.CallEnded p a) ≡ false
-said-other p reply.Finished z = absurd (omega (arith, z))
+said-other : (p : ℕ) (a : Reply) → fin_reply a ≡ 0 → says_finished (Event.CallEnded p a) ≡ false
+said-other p Reply.Finished z = absurd (omega (arith, z))
 said-other p _ z = refl
 
 record Quietly (w v : World) : Type 0 where
@@ -74,8 +47,8 @@ record Quietly (w v : World) : Type 0 where
 quiet-act : (p : ℕ) (h : Hint) (o : Op) (w : World) (b : Bool) → is_end o ≡ b → fin o ≡ 0 → Quietly w (act p h o w).world
 quiet-act p h o w false n z =
     let g = grows-act p h o w n in record { more = g.more; is = g.is; unsaid = none-said g.more g.none_ends }
-quiet-act p h (op.End a held) w true n z = record {
-  more = event.CallEnded p a ∷ [];
+quiet-act p h (Op.End a held) w true n z = record {
+  more = Event.CallEnded p a ∷ [];
   is = refl;
   unsaid = ap (λ (x : Bool). x || false) (said-other p a z);
 }
@@ -87,30 +60,20 @@ record Settles (w : World) (l : Part) : Type 0 where
   pub quiet : Quietly w l.world
 
 first-of : (os : List Op) (o : Op) → top os ≡ Some o → weigh fin os ≡ 0 → fin o ≡ 0
-first-of os o e z = omega (
-  arith,
-  z,
-  ap (weigh fin) (topped os o e),
-  weigh-append fin (below_top os) (o ∷ []),
-)
+first-of os o e z = omega (arith, z, ap (weigh fin) (topped os o e), weigh-append fin (below_top os) (o ∷ []))
 
 below-of : (os : List Op) (o : Op) → top os ≡ Some o → weigh fin os ≡ 0 → weigh fin (below_top os) ≡ 0
-below-of os o e z = omega (
-  arith,
-  z,
-  ap (weigh fin) (topped os o e),
-  weigh-append fin (below_top os) (o ∷ []),
-)
+below-of os o e z = omega (arith, z, ap (weigh fin) (topped os o e), weigh-append fin (below_top os) (o ∷ []))
 
 ends-calmly : (o : Option Op) (p : ℕ) (w v : World) (os : List Op) → top os ≡ o → weigh fin os ≡ 0 → Quietly w v →
     Settles w (settled_by (end_of o) p v os)
-ends-calmly (Some (op.End a held)) p w v os e z q = record {
-  todo = below-of os (op.End a held) e z;
+ends-calmly (Some (Op.End a held)) p w v os e z q = record {
+  todo = below-of os (Op.End a held) e z;
   quiet = record {
-    more = q.more ++ event.CallEnded p a ∷ [];
-    is = ap (λ (es : Trace). es ++ event.CallEnded p a ∷ []) q.is ∙ append_assoc w.trace q.more (event.CallEnded p a ∷ []);
-    unsaid = has-append says_finished q.more (event.CallEnded p a ∷ []) q.unsaid
-        (ap (λ (x : Bool). x || false) (said-other p a (first-of os (op.End a held) e z)));
+    more = q.more ++ Event.CallEnded p a ∷ [];
+    is = ap (λ (es : Trace). es ++ Event.CallEnded p a ∷ []) q.is ∙ append_assoc w.trace q.more (Event.CallEnded p a ∷ []);
+    unsaid = has-append says_finished q.more (Event.CallEnded p a ∷ []) q.unsaid
+        (ap (λ (x : Bool). x || false) (said-other p a (first-of os (Op.End a held) e z)));
   };
 }
 ends-calmly None p w v os e z q = record { todo = z; quiet = q }
@@ -132,16 +95,16 @@ on-settles p w os (Some x) d e z k =
 
 -- or a poll of a run that has ended begins
 abbrev AtOnce : World → Step → Type 0
-AtOnce w t = (p : ℕ) × ((r : ℕ) × ((b : By) × ((t ≡ steps_of.Begin p (call.PollRun r b)) × ((run_of w r).stage ≡ Ended))))
+AtOnce w t = (p : ℕ) × ((r : ℕ) × ((b : By) × ((t ≡ Step.Begin p (Call.PollRun r b)) × ((run_of w r).stage ≡ Ended))))
 
 data Moved (w : World) (t : Step) (l : Part) : Type 0 where
   calmly : Settles w l → Moved w t l
   ended : weigh fin l.todo ≡ 0 → AtOnce w t → Moved w t l
 
 top-of : (os : List Op) (r : ℕ) (held : Hold) (p : ℕ) (w : World) → weigh fin os ≡ 0 →
-    weigh fin (onto p (done w (op.End reply.Finished held ∷ [])) os).todo ≡ 0
+    weigh fin (onto p (done w (Op.End Reply.Finished held ∷ [])) os).todo ≡ 0
 top-of os r held p w z =
-    let x : Op = op.End reply.Finished held in
+    let x : Op = Op.End Reply.Finished held in
     let e : top (os ++ x ∷ []) ≡ Some x = top-last os x in
     ap (λ (o : Option Op). weigh fin (settled_by (end_of o) p w (os ++ x ∷ [])).todo) e
     ∙ omega (
@@ -153,39 +116,39 @@ top-of os r held p w z =
     )
 
 moves-on : (w : World) (os : List Op) (t : Step) → weigh fin os ≡ 0 → Moved w t (part_after w os t)
-moves-on w os (steps_of.Go p h) z = calmly (on-settles p w os (top os) (λ o. act p h o w) refl z
+moves-on w os (Step.Go p h) z = calmly (on-settles p w os (top os) (λ o. act p h o w) refl z
     (λ x k. (fin-act p h x w k, quiet-act p h x w (is_end x) refl k)))
-moves-on w os (steps_of.Answer p u) z = calmly (on-settles p w os (top os) (λ o. react p o u w) refl z
+moves-on w os (Step.Answer p u) z = calmly (on-settles p w os (top os) (λ o. react p o u w) refl z
     (λ x k. (
       fin-react p x u w,
       (let g = grows-react p x u w in
           record { more = g.more; is = g.is; unsaid = none-said g.more g.none_ends }),
     )))
-moves-on w os (steps_of.Begin p c) z = by (begins p w (mine (top os)) c)
+moves-on w os (Step.Begin p c) z = by (begins p w (mine (top os)) c)
   where
     d : Done
-    d = begun p (log w (event.CallBegun p c)) (mine (top os)) c
+    d = begun p (log w (Event.CallBegun p c)) (mine (top os)) c
 
     quiet : Quietly w d.world
-    quiet = let g = grows-begun p (log w (event.CallBegun p c)) (mine (top os)) c in record {
-      more = event.CallBegun p c ∷ g.more;
-      is = g.is ∙ append_assoc w.trace (event.CallBegun p c ∷ []) g.more;
+    quiet = let g = grows-begun p (log w (Event.CallBegun p c)) (mine (top os)) c in record {
+      more = Event.CallBegun p c ∷ g.more;
+      is = g.is ∙ append_assoc w.trace (Event.CallBegun p c ∷ []) g.more;
       unsaid = none-said g.more g.none_ends;
     }
 
-    by : Leads w c d.next → Moved w (steps_of.Begin p c) (onto p d os)
+    by : Leads w c d.next → Moved w (Step.Begin p c) (onto p d os)
     by (none k) = calmly (onto-settles p w d os z k quiet)
     by (over r b i e n) = ended
         (subst (λ (ns : List Op). weigh fin (onto p (done d.world ns) os).todo ≡ 0) (sym n)
-        (top-of os r (hold.Run r) p d.world z))
-        (p, (r, (b, (ap (λ (x : Call). steps_of.Begin p x) i, e))))
+        (top-of os r (Hold.Run r) p d.world z))
+        (p, (r, (b, (ap (λ (x : Call). Step.Begin p x) i, e))))
 
 -- so it is in each machine to which steps lead
 
 abbrev NoneLeft : Machine → Type 0
 NoneLeft s = weigh_all fin s.parties ≡ 0
 
-there : (b : Bool) (r : Option StepError) → unless b error.NoSuch r ≡ None → (b ≡ true) × (r ≡ None)
+there : (b : Bool) (r : Option StepError) → unless b StepError.NoSuch r ≡ None → (b ≡ true) × (r ≡ None)
 there true r e = (refl, e)
 there false r e = absurd (cc)
 

@@ -1,33 +1,16 @@
 -- For spawns_are_limited and wakers_wake_their_own.
 -- What is kept of each call and its frame (proofs/Promises/CallFrames) in each way in which a party goes on.
-use Rattle.std.proofs.Common.{◌≡◌, ℕ, ◌<◌, List, [], ◌∷◌, ◌++◌, length, Bool, true, false, refl}
-use Rattle.std.proofs.Common.{ap, subst, sym}
+use Rattle.std.proofs.Common.{◌≡◌, ℕ, ◌<◌, List, [], ◌∷◌, ◌++◌, length, Bool, true, false, refl, ap, subst, sym}
 use Rattle.std.specs.Prelude.{Option, reverse}
-use Rattle.executor_model.specs.declared.kind.Kind.{Kind}
-use Rattle.executor_model.specs.declared.call.Call.{Call}
-use Rattle.executor_model.specs.declared.call.Reply.{Reply}
-use Rattle.executor_model.specs.declared.event.Event.TheVariants as event
-use Rattle.executor_model.specs.declared.op.Hold.{Hold}
-use Rattle.executor_model.specs.declared.op.Op.{Op}
-use Rattle.executor_model.specs.declared.op.Op.TheVariants as op
-use Rattle.executor_model.specs.declared.op.Waker.{Waker}
-use Rattle.executor_model.specs.declared.step.Hint.{Hint}
-use Rattle.executor_model.specs.declared.step.UserEnd.{UserEnd}
+use Rattle.executor_model.proofs.Types.{Kind, Call, Reply, Event, Hold, Op, Waker, Hint, UserEnd}
 use Rattle.executor_model.specs.Calls.{Begun, Each, Ended, calls}
-use Rattle.executor_model.specs.Doing.{act}
-use Rattle.executor_model.specs.Steps.{Machine, accepts, begun, has_all, mine, react}
-use Rattle.executor_model.specs.Steps.{stack, start, top}
-use Rattle.executor_model.specs.Trace.{Trace}
-use Rattle.executor_model.specs.World.{World, Done, done, log}
-use Rattle.executor_model.proofs.Promises.CallFrames.{Frames, Keeps, Tied, frames-begun, frames-done}
-use Rattle.executor_model.proofs.Promises.CallFrames.{frames-ends, passes-react, tied-none}
-use Rattle.executor_model.proofs.Quiet.Calls.{is_end}
-use Rattle.executor_model.proofs.Quiet.CallsGroups.{calls-act}
-use Rattle.executor_model.proofs.Quiet.Resting.{idle-stack, opens}
+use Rattle.executor_model.specs.Steps.{Machine, accepts, begun, has_all, mine, react, stack, start, top}
+use Rattle.executor_model.specs.{Doing.act, Trace.Trace, World.World, World.Done, World.done, World.log}
+use Rattle.executor_model.proofs.Promises.CallFrames.{Frames, Keeps, Tied, frames-begun, frames-done, frames-ends, passes-react}
 use Rattle.executor_model.proofs.Steps.Deeds.{grows-act, grows-begun, grows-react}
-use Rattle.executor_model.proofs.Steps.Lift.{none_refused, unsettled}
-use Rattle.executor_model.proofs.Steps.Ways.{Way}
-use Rattle.executor_model.proofs.Steps.Ways.Way.{acted, called, reacted}
+use Rattle.executor_model.proofs.{Promises.CallFrames.tied-none, Quiet.Calls.is_end, Quiet.CallsGroups.calls-act}
+use Rattle.executor_model.proofs.{Quiet.Resting.idle-stack, Quiet.Resting.opens, Steps.Lift.none_refused, Steps.Lift.unsettled}
+use Rattle.executor_model.proofs.{Steps.Ways.Way, Steps.Ways.Way.acted, Steps.Ways.Way.called, Steps.Ways.Way.reacted}
 
 none-begun : (q : ℕ) → (calls q []).begun ≡ []
 unfolding calls
@@ -35,7 +18,7 @@ none-begun q = refl
 
 -- user code isn't the end of a call
 unended : (o : Op) (u : UserEnd) → accepts o u ≡ true → is_end o ≡ false
-unended (op.User x) u a = refl
+unended (Op.User x) u a = refl
 unended _ u a = absurd (cc)
 
 none-ended : (R : Ended → Type 0) (q : ℕ) → Each R (calls q []).ended
@@ -46,7 +29,7 @@ module _
     (O : Trace → Begun → List Op → Type 0)
     (later : (es more : Trace) (b : Begun) (os : List Op) → O es b os → O (es ++ more) b os)
     (R : Ended → Type 0)
-    (right : (es : Trace) (b : Begun) (a : Reply) (held : Hold) → O es b (op.End a held ∷ []) →
+    (right : (es : Trace) (b : Begun) (a : Reply) (held : Hold) → O es b (Op.End a held ∷ []) →
     R (record { call = b.call; own = b.own; reply = a; past = es }))
   where
     pub frames-start : (limit : ℕ) (kind : Kind) (n : ℕ) → Frames O later R (start limit kind n)
@@ -57,8 +40,8 @@ module _
     }
 
     pub frames-end : (s : Machine) (p : ℕ) (a : Reply) (held : Hold) (below : List Op) → p < length s.parties →
-        stack s p ≡ below ++ reverse (op.End a held ∷ []) → Frames O later R s →
-        Frames O later R (unsettled s p below (done (log s.world (event.CallEnded p a)) []))
+        stack s p ≡ below ++ reverse (Op.End a held ∷ []) → Frames O later R s →
+        Frames O later R (unsettled s p below (done (log s.world (Event.CallEnded p a)) []))
     frames-end s p a held below l e f = frames-ends O later R right s p a held below l e f
 
     module _ (s : Machine) (p : ℕ) (old rest : List Op) (d : Done) (l : p < length s.parties)
@@ -66,9 +49,9 @@ module _
         (keeps : (o : Op) → old ≡ o ∷ [] → is_end o ≡ false → (more : Trace) → d.world.trace ≡ s.world.trace ++ more →
         Keeps O later R s.world.trace more o d.next)
         (begins : (c : Call) → old ≡ [] → has_all s.world s.parties (top (stack s p)) c ≡ true → (more : Trace) →
-        d ≡ begun p (log s.world (event.CallBegun p c)) (mine (top (stack s p))) c →
-        d.world.trace ≡ (s.world.trace ++ event.CallBegun p c ∷ []) ++ more →
-        O ((s.world.trace ++ event.CallBegun p c ∷ []) ++ more) (record { call = c; own = more }) d.next) where
+        d ≡ begun p (log s.world (Event.CallBegun p c)) (mine (top (stack s p))) c →
+        d.world.trace ≡ (s.world.trace ++ Event.CallBegun p c ∷ []) ++ more →
+        O ((s.world.trace ++ Event.CallBegun p c ∷ []) ++ more) (record { call = c; own = more }) d.next) where
       acts : (h : Hint) (o : Op) (b : Bool) → is_end o ≡ b → old ≡ o ∷ [] → d ≡ act p h o s.world →
           Frames O later R (unsettled s p rest d)
       acts h o false n q z =
@@ -78,8 +61,8 @@ module _
           subst (λ (x : Done). Frames O later R (unsettled s p rest x)) (sym z)
           (frames-done O later R s p o rest (act p h o s.world) l here (calls-act p h o s.world n).passes g
           (subst (λ (x : Done). Keeps O later R s.world.trace g.more o x.next) z k) f)
-      acts h (op.End a held) true n q z =
-          let here : stack s p ≡ rest ++ reverse (op.End a held ∷ []) =
+      acts h (Op.End a held) true n q z =
+          let here : stack s p ≡ rest ++ reverse (Op.End a held ∷ []) =
           subst (λ (os : List Op). stack s p ≡ rest ++ reverse os) q e in
           subst (λ (x : Done). Frames O later R (unsettled s p rest x)) (sym z)
           (frames-ends O later R right s p a held rest l here f)
@@ -97,17 +80,17 @@ module _
           (subst (λ (x : Done). Keeps O later R s.world.trace g.more o x.next) z k) f)
       frames-way (called c q r n z) =
           let x : _ = none_refused s.world s.parties (top (stack s p)) c n in
-          let w : World = log s.world (event.CallBegun p c) in
+          let w : World = log s.world (Event.CallBegun p c) in
           let here : Option Waker = mine (top (stack s p)) in
           let g = grows-begun p w here c in
           let k = begins c q x.1 g.more z
-          (subst (λ (y : Done). y.world.trace ≡ (s.world.trace ++ event.CallBegun p c ∷ []) ++ g.more) (sym z)
+          (subst (λ (y : Done). y.world.trace ≡ (s.world.trace ++ Event.CallBegun p c ∷ []) ++ g.more) (sym z)
           g.is) in
           subst (λ (y : Done). Frames O later R (unsettled s p rest y)) (sym z)
           (frames-begun O later R s p rest c (begun p w here c) l
           (subst (λ (os : List Op). stack s p ≡ rest ++ reverse os) q e)
           (opens p s.world s.parties (top (stack s p)) c x.1).1 g
-          (subst (λ (y : Done). O ((s.world.trace ++ event.CallBegun p c ∷ []) ++ g.more) (record { call = c; own = g.more })
+          (subst (λ (y : Done). O ((s.world.trace ++ Event.CallBegun p c ∷ []) ++ g.more) (record { call = c; own = g.more })
           y.next) z k) f)
 
 -- what is kept of each call implies something else

@@ -1,56 +1,30 @@
 -- For outside_wakers_are_called.
 -- What tells that an outside waker is called leads to that waker's user code, which comes first.
-use Rattle.std.proofs.Common.{◌≡◌, ◌<◌, ℕ, List, [], ◌∷◌, ◌++◌, length, Bool, true, false, eqb, refl, sym, ap, ◌∙◌}
-use Rattle.std.proofs.Common.{subst, append-nil, ltb, arith, get_or-set_same}
+use Rattle.std.proofs.Common.{◌≡◌, ◌<◌, ℕ, List, [], ◌∷◌, ◌++◌, length, Bool, true, false, eqb, refl, sym, ap, ◌∙◌, subst}
+use Rattle.std.proofs.Common.{append-nil, ltb, arith, get_or-set_same}
 use Rattle.std.proofs.lemmas.Bool.Decides.{nat_tests}
 use Rattle.std.proofs.lemmas.List.{append_assoc, append_cancel_left, reverse-append}
 use Rattle.std.specs.Prelude.{Option, Some, None, reverse}
-use Rattle.executor_model.specs.declared.call.Call.{Call}
-use Rattle.executor_model.specs.declared.call.Call.TheVariants as call
-use Rattle.executor_model.specs.declared.event.Event.{Event}
-use Rattle.executor_model.specs.declared.event.Event.TheVariants as event
-use Rattle.executor_model.specs.declared.op.ClosingOp.TheVariants as closing_op
-use Rattle.executor_model.specs.declared.op.Op.{Op}
-use Rattle.executor_model.specs.declared.op.Op.TheVariants as op
-use Rattle.executor_model.specs.declared.op.Polled.{Polled}
-use Rattle.executor_model.specs.declared.op.Polled.TheVariants as of
-use Rattle.executor_model.specs.declared.op.RunOp.TheVariants as run_op
-use Rattle.executor_model.specs.declared.op.RunPoll.{RunPoll}
-use Rattle.executor_model.specs.declared.op.SleeperOp.TheVariants as sleeper_op
-use Rattle.executor_model.specs.declared.op.TableOp.TheVariants as table_op
-use Rattle.executor_model.specs.declared.op.UserOp.TheVariants as user_op
-use Rattle.executor_model.specs.declared.op.Waker.{Waker}
-use Rattle.executor_model.specs.declared.op.Waker.TheVariants.{Task, Outside}
-use Rattle.executor_model.specs.declared.op.WakerOp.TheVariants as waker_op
-use Rattle.executor_model.specs.declared.kind.Kind.{Kind}
-use Rattle.executor_model.specs.declared.step.Hint.{Hint}
-use Rattle.executor_model.specs.declared.step.Step.{Step}
-use Rattle.executor_model.specs.declared.step.StepError.{StepError}
-use Rattle.executor_model.specs.declared.step.StepError.TheVariants.{NoSuch}
-use Rattle.executor_model.specs.Acts.{call_waker}
-use Rattle.executor_model.specs.ActsOfRuns.{wake_own}
-use Rattle.executor_model.specs.ActsOfSleepers.{polled_as}
-use Rattle.executor_model.specs.Doing.{act}
+use Rattle.executor_model.proofs.Types.{Call, Event, ClosingOp, Op, Polled, RunOp, RunPoll, SleeperOp, TableOp, UserOp, Waker}
+use Rattle.executor_model.proofs.Types.{Task, Outside, WakerOp, Kind, Hint, Step, StepError, NoSuch}
+use Rattle.executor_model.specs.Steps.{Machine, Part, end_of, mine, onto, part_after, part_refusal, party_of, refusal, run}
 use Rattle.executor_model.specs.OutsideWakers.{OutsideWakersAreCalled, is_outside_call}
-use Rattle.executor_model.specs.Steps.{Machine, Part, end_of, mine, onto, part_after, part_refusal, party_of}
-use Rattle.executor_model.specs.Steps.{refusal, run, settled_by, stack, start, step, step_by, stepped, top, unless}
-use Rattle.executor_model.specs.Trace.{Trace, has}
-use Rattle.executor_model.specs.World.{World, Done}
-use Rattle.executor_model.proofs.Steps.Hushed.{Hushed, Hushes, HushesCall, hushed-act, hushed-called, hushed-is, hushed-react, is_hushed}
-use Rattle.executor_model.proofs.Steps.Tests.{or-false}
-use Rattle.executor_model.proofs.Steps.TraceMore.{has-append}
-use Rattle.executor_model.proofs.Steps.Ways.{Made, Way, made}
+use Rattle.executor_model.specs.Steps.{settled_by, stack, start, step, step_by, stepped, top, unless}
+use Rattle.executor_model.specs.{Acts.call_waker, ActsOfRuns.wake_own, ActsOfSleepers.polled_as, Doing.act, Trace.Trace}
+use Rattle.executor_model.specs.{Trace.has, World.World, World.Done}
+use Rattle.executor_model.proofs.Steps.Hushed.{Hushed, Hushes, HushesCall, hushed-act, hushed-called, hushed-is, hushed-react}
 use Rattle.executor_model.proofs.Steps.Ways.Way.{acted, called, reacted}
-use Rattle.executor_model.proofs.Table.Spawning.{top-last}
+use Rattle.executor_model.proofs.{Steps.Hushed.is_hushed, Steps.Tests.or-false, Steps.TraceMore.has-append, Steps.Ways.Made}
+use Rattle.executor_model.proofs.{Steps.Ways.Way, Steps.Ways.made, Table.Spawning.top-last}
 
 hushed-none : (x : ℕ) (e : Event) → is_hushed e ≡ true → is_outside_call x e ≡ false
-hushed-none x (event.WakerCalled p o k a) z = absurd (cc)
+hushed-none x (Event.WakerCalled p o k a) z = absurd (cc)
 hushed-none x _ z = refl
 
 -- no call of outside waker x is told of, or its user code comes first
 pub data Comes (x : ℕ) (next : List Op) (more : Trace) : Type 0 where
   untold : has (is_outside_call x) more ≡ false → Comes x next more
-  first : (rest : List Op) → next ≡ op.User (user_op.CallOutside x) ∷ rest → Comes x next more
+  first : (rest : List Op) → next ≡ Op.User (UserOp.CallOutside x) ∷ rest → Comes x next more
 
 abbrev Leads : ℕ → World → Done → Type 0
 Leads x w d = (more : Trace) → d.world.trace ≡ w.trace ++ more → Comes x d.next more
@@ -62,8 +36,8 @@ silent x p h o w z more e = untold (hushed-is (is_outside_call x) (hushed-none x
 
 -- one of the three things that call a waker: it is another's call, or this one's
 calls : (x p : ℕ) (h : Hint) (o : Op) (w : World) (a : Waker) →
-    (is_outside_call x (event.WakerCalled p (of.Handle 0) 0 a) ≡ false → Hushes (is_outside_call x) (hushed-none x) p o) →
-    ((y : ℕ) → a ≡ Outside y → (rest : List Op) × ((act p h o w).next ≡ op.User (user_op.CallOutside y) ∷ rest)) →
+    (is_outside_call x (Event.WakerCalled p (Polled.Handle 0) 0 a) ≡ false → Hushes (is_outside_call x) (hushed-none x) p o) →
+    ((y : ℕ) → a ≡ Outside y → (rest : List Op) × ((act p h o w).next ≡ Op.User (UserOp.CallOutside y) ∷ rest)) →
     Leads x w (act p h o w)
 calls x p h o w (Task g) z k = silent x p h o w (z refl)
 calls x p h o w (Outside y) z k = by (eqb x y) refl
@@ -73,42 +47,42 @@ calls x p h o w (Outside y) z k = by (eqb x y) refl
     by true e = λ more t.
         let i : y ≡ x = grind (arith, nat_tests) in
         let r = k y refl in
-        first r.0 (subst (λ (n : ℕ). (act p h o w).next ≡ op.User (user_op.CallOutside n) ∷ r.0) i r.1)
+        first r.0 (subst (λ (n : ℕ). (act p h o w).next ≡ Op.User (UserOp.CallOutside n) ∷ r.0) i r.1)
 
-any-call : (x p q : ℕ) (o n : Polled) (k j : ℕ) (a : Waker) → is_outside_call x (event.WakerCalled p o k a) ≡ false →
-    is_outside_call x (event.WakerCalled q n j a) ≡ false
+any-call : (x p q : ℕ) (o n : Polled) (k j : ℕ) (a : Waker) → is_outside_call x (Event.WakerCalled p o k a) ≡ false →
+    is_outside_call x (Event.WakerCalled q n j a) ≡ false
 any-call x p q o n k j (Task g) z = refl
 any-call x p q o n k j (Outside y) z = z
 
 waker-comes : (p : ℕ) (w : World) (o : Polled) (a : Waker) (k y : ℕ) → a ≡ Outside y →
-    (rest : List Op) × ((call_waker p w o a k).next ≡ op.User (user_op.CallOutside y) ∷ rest)
+    (rest : List Op) × ((call_waker p w o a k).next ≡ Op.User (UserOp.CallOutside y) ∷ rest)
 waker-comes p w o (Task g) k y e = absurd (cc)
 waker-comes p w o (Outside z) k y e =
-    let i : z ≡ y = cc in ([], ap (λ (n : ℕ). op.User (user_op.CallOutside n) ∷ []) i)
+    let i : z ≡ y = cc in ([], ap (λ (n : ℕ). Op.User (UserOp.CallOutside n) ∷ []) i)
 
 own-comes : (p : ℕ) (w : World) (x : RunPoll) (a : Waker) (y : ℕ) → x.waker ≡ a → a ≡ Outside y →
-    (rest : List Op) × ((wake_own p w x).next ≡ op.User (user_op.CallOutside y) ∷ rest)
+    (rest : List Op) × ((wake_own p w x).next ≡ Op.User (UserOp.CallOutside y) ∷ rest)
 own-comes p w x (Task g) y i e = absurd (cc)
 own-comes p w x (Outside z) y i e =
     let j : x.waker ≡ Outside y = i ∙ e in rw j (_, refl)
 
 leads-act : (x p : ℕ) (h : Hint) (o : Op) (w : World) → Leads x w (act p h o w)
-leads-act x p h (op.Waker (waker_op.CallAwaiter f a k)) w =
-    calls x p h (op.Waker (waker_op.CallAwaiter f a k)) w a (λ z. any-call x p p (of.Handle 0) (of.Handle f) 0 k a z)
-    (λ y e. waker-comes p w (of.Handle f) a k y e)
-leads-act x p h (op.Sleeper (sleeper_op.CallSleeper s)) w =
-    calls x p h (op.Sleeper (sleeper_op.CallSleeper s)) w s.waker (λ z. any-call x p p (of.Handle 0) (polled_as s.who) 0 s.poll s.waker z)
+leads-act x p h (Op.Waker (WakerOp.CallAwaiter f a k)) w =
+    calls x p h (Op.Waker (WakerOp.CallAwaiter f a k)) w a (λ z. any-call x p p (Polled.Handle 0) (Polled.Handle f) 0 k a z)
+    (λ y e. waker-comes p w (Polled.Handle f) a k y e)
+leads-act x p h (Op.Sleeper (SleeperOp.CallSleeper s)) w =
+    calls x p h (Op.Sleeper (SleeperOp.CallSleeper s)) w s.waker (λ z. any-call x p p (Polled.Handle 0) (polled_as s.who) 0 s.poll s.waker z)
     (λ y e. waker-comes p w (polled_as s.who) s.waker s.poll y e)
-leads-act x p h (op.Run (run_op.WakeOwn r)) w =
-    calls x p h (op.Run (run_op.WakeOwn r)) w r.waker (λ z. any-call x p p (of.Handle 0) (of.Run r.run) 0 r.poll r.waker z)
+leads-act x p h (Op.Run (RunOp.WakeOwn r)) w =
+    calls x p h (Op.Run (RunOp.WakeOwn r)) w r.waker (λ z. any-call x p p (Polled.Handle 0) (Polled.Run r.run) 0 r.poll r.waker z)
     (λ y e. own-comes p w r r.waker y refl e)
-leads-act x p h (op.Table (table_op.Enter mark)) w = silent x p h (op.Table (table_op.Enter mark)) w (λ f. refl)
-leads-act x p h (op.User (user_op.BeginDrop f)) w = silent x p h (op.User (user_op.BeginDrop f)) w refl
-leads-act x p h (op.Closing closing_op.DropNext) w = silent x p h (op.Closing closing_op.DropNext) w (λ f. refl)
+leads-act x p h (Op.Table (TableOp.Enter mark)) w = silent x p h (Op.Table (TableOp.Enter mark)) w (λ f. refl)
+leads-act x p h (Op.User (UserOp.BeginDrop f)) w = silent x p h (Op.User (UserOp.BeginDrop f)) w refl
+leads-act x p h (Op.Closing ClosingOp.DropNext) w = silent x p h (Op.Closing ClosingOp.DropNext) w (λ f. refl)
 leads-act x p h o w = silent x p h o w tt
 
 called-none : (x p : ℕ) (c : Call) → HushesCall (is_outside_call x) (hushed-none x) p c
-called-none x p call.DropExecutor = refl
+called-none x p Call.DropExecutor = refl
 called-none x p c = tt
 
 -- each way in which a party goes on
@@ -134,7 +108,7 @@ has-more x more e a b = has-append (is_outside_call x) more (e ∷ []) a (or-fal
 
 abbrev Stands : ℕ → Trace → Part → Type 0
 Stands x es l = (more : Trace) → l.world.trace ≡ es ++ more → has (is_outside_call x) more ≡ true →
-    top l.todo ≡ Some (op.User (user_op.CallOutside x))
+    top l.todo ≡ Some (Op.User (UserOp.CallOutside x))
 
 not-both : (b : Bool) → b ≡ true → b ≡ false → ⊥
 not-both true e f = absurd (cc)
@@ -142,11 +116,11 @@ not-both false e f = absurd (cc)
 
 stands-untold : (x p : ℕ) (es before : Trace) (w : World) (os : List Op) (o : Option Op) → w.trace ≡ es ++ before →
     has (is_outside_call x) before ≡ false → Stands x es (settled_by (end_of o) p w os)
-stands-untold x p es before w os (Some (op.End r held)) e n more q t =
-    let i : before ++ event.CallEnded p r ∷ [] ≡ more = append_cancel_left es (before ++ event.CallEnded p r ∷ []) more
-    (sym (append_assoc es before (event.CallEnded p r ∷ [])) ∙ (ap (λ (xs : Trace). xs ++ event.CallEnded p r ∷ []) (sym e) ∙ q)) in
+stands-untold x p es before w os (Some (Op.End r held)) e n more q t =
+    let i : before ++ Event.CallEnded p r ∷ [] ≡ more = append_cancel_left es (before ++ Event.CallEnded p r ∷ []) more
+    (sym (append_assoc es before (Event.CallEnded p r ∷ [])) ∙ (ap (λ (xs : Trace). xs ++ Event.CallEnded p r ∷ []) (sym e) ∙ q)) in
     absurd (not-both (has (is_outside_call x) more) t
-    (ap (has (is_outside_call x)) (sym i) ∙ has-more x before (event.CallEnded p r) n refl))
+    (ap (has (is_outside_call x)) (sym i) ∙ has-more x before (Event.CallEnded p r) n refl))
 stands-untold x p es before w os None e n more q t =
     absurd (not-both (has (is_outside_call x) more) t
     (ap (has (is_outside_call x)) (append_cancel_left es more before (sym q ∙ e)) ∙ n))
@@ -155,7 +129,7 @@ stands-untold x p es before w os (Some _) e n more q t =
     (ap (has (is_outside_call x)) (append_cancel_left es more before (sym q ∙ e)) ∙ n))
 
 stands-first : (x p : ℕ) (es : Trace) (w : World) (os : List Op) (o : Option Op) → top os ≡ o →
-    o ≡ Some (op.User (user_op.CallOutside x)) → Stands x es (settled_by (end_of o) p w os)
+    o ≡ Some (Op.User (UserOp.CallOutside x)) → Stands x es (settled_by (end_of o) p w os)
 stands-first x p es w os o e i =
     subst (λ (y : Option Op). Stands x es (settled_by (end_of y) p w os)) (sym i) (λ more q t. e ∙ i)
 
@@ -165,7 +139,7 @@ stands-onto x s p rest d before e (untold n) =
     stands-untold x p s.world.trace before d.world (rest ++ reverse d.next) (top (rest ++ reverse d.next)) e n
 stands-onto x s p rest d before e (first os i) =
     stands-first x p s.world.trace d.world (rest ++ reverse d.next) (top (rest ++ reverse d.next)) refl
-    (ap (λ (ns : List Op). top (rest ++ reverse ns)) i ∙ top-first rest (op.User (user_op.CallOutside x)) os)
+    (ap (λ (ns : List Op). top (rest ++ reverse ns)) i ∙ top-first rest (Op.User (UserOp.CallOutside x)) os)
 
 pub way-more : (s : Machine) (p : ℕ) (old rest : List Op) (d : Done) → Way s p old rest d →
     Hushed (λ (e : Event). false) (λ e z. refl) s.world d.world
@@ -174,12 +148,12 @@ way-more s p old rest d (acted h o q z) =
     (hushed-act (λ (e : Event). false) (λ e i. refl) p h o s.world (allows o))
   where
     allows : (o : Op) → Hushes (λ (e : Event). false) (λ e i. refl) p o
-    allows (op.Waker (waker_op.CallAwaiter f a k)) = refl
-    allows (op.Sleeper (sleeper_op.CallSleeper n)) = refl
-    allows (op.Run (run_op.WakeOwn r)) = refl
-    allows (op.Table (table_op.Enter mark)) = λ f. refl
-    allows (op.User (user_op.BeginDrop f)) = refl
-    allows (op.Closing closing_op.DropNext) = λ f. refl
+    allows (Op.Waker (WakerOp.CallAwaiter f a k)) = refl
+    allows (Op.Sleeper (SleeperOp.CallSleeper n)) = refl
+    allows (Op.Run (RunOp.WakeOwn r)) = refl
+    allows (Op.Table (TableOp.Enter mark)) = λ f. refl
+    allows (Op.User (UserOp.BeginDrop f)) = refl
+    allows (Op.Closing ClosingOp.DropNext) = λ f. refl
     allows _ = tt
 way-more s p old rest d (reacted o u a q z) =
     subst (λ (y : Done). Hushed (λ (e : Event). false) (λ e i. refl) s.world y.world) (sym z)
@@ -189,7 +163,7 @@ way-more s p old rest d (called c q r n z) =
     (hushed-called (λ (e : Event). false) (λ e i. refl) p s.world (mine (top (stack s p))) c (allows c))
   where
     allows : (c : Call) → HushesCall (λ (e : Event). false) (λ e i. refl) p c
-    allows call.DropExecutor = refl
+    allows Call.DropExecutor = refl
     allows c = tt
 
 stands-made : (x : ℕ) (s : Machine) (p : ℕ) (l : Part) → Made s p l → Stands x s.world.trace l
@@ -204,7 +178,7 @@ there false r e = absurd (cc)
 
 outside-by : (s : Machine) (t : Step) (r : Option StepError) → refusal s t ≡ r → (x : ℕ) (more : Trace) →
     (stepped s (step_by r s t)).world.trace ≡ s.world.trace ++ more → has (is_outside_call x) more ≡ true →
-    top (stack (stepped s (step_by r s t)) (party_of t)) ≡ Some (op.User (user_op.CallOutside x))
+    top (stack (stepped s (step_by r s t)) (party_of t)) ≡ Some (Op.User (UserOp.CallOutside x))
 outside-by s t (Some error) q x more e h =
     absurd (not-both (has (is_outside_call x) more) h (ap (has (is_outside_call x))
     (append_cancel_left s.world.trace more [] (sym e ∙ sym (append-nil s.world.trace)))))

@@ -1,33 +1,21 @@
 -- For wakers_wake_their_own.
 -- Waker k stays one of its future, and each call of it wakes that.
-use Rattle.std.proofs.Common.{◌≡◌, ◌≢◌, ◌⊎◌, ℕ, ◌<◌, ◌≤◌, List, [], ◌∷◌, ◌++◌, length, set, Bool, true, false, not}
-use Rattle.std.proofs.Common.{eqb, inl, inr, ⊎_elim, refl, subst, ap, ◌∙◌, arith}
+use Rattle.std.proofs.Common.{◌≡◌, ◌≢◌, ◌⊎◌, ℕ, ◌<◌, ◌≤◌, List, [], ◌∷◌, ◌++◌, length, set, Bool, true, false, not, eqb, inl}
+use Rattle.std.proofs.Common.{inr, ⊎_elim, refl, subst, ap, ◌∙◌, arith}
 use Rattle.std.specs.Prelude.{Option, Some, None}
 use Rattle.task_moves.specs.Moves.{is_over}
-use Rattle.task_moves.specs.declared.moves.owed.Move.TheVariants as move
-use Rattle.executor_model.specs.declared.call.Reply.{Reply}
-use Rattle.executor_model.specs.declared.event.Event.TheVariants as event
-use Rattle.executor_model.specs.declared.op.Hold.{Hold}
-use Rattle.executor_model.specs.declared.op.Op.{Op}
-use Rattle.executor_model.specs.declared.op.Op.TheVariants as op
-use Rattle.executor_model.specs.declared.step.Hint.{Hint}
-use Rattle.executor_model.specs.Calls.{Begun, Ended}
-use Rattle.executor_model.specs.CallsMean.{MayBeOver}
-use Rattle.executor_model.specs.Doing.{act}
-use Rattle.executor_model.specs.Steps.{kept}
-use Rattle.executor_model.specs.Trace.{Trace, has, is_woken}
+use Rattle.executor_model.proofs.Types.{Move, Reply, Event, Hold, Op, Hint}
 use Rattle.executor_model.specs.WakersMean.{HasWokenIts, WakesIts, is_wake}
-use Rattle.executor_model.specs.Weights.{same, weigh}
-use Rattle.executor_model.specs.World.{World, log_if, task}
+use Rattle.executor_model.specs.{Calls.Begun, Calls.Ended, CallsMean.MayBeOver, Doing.act, Steps.kept, Trace.Trace, Trace.has}
+use Rattle.executor_model.specs.{Trace.is_woken, Weights.same, Weights.weigh, World.World, World.log_if, World.task}
 use Rattle.executor_model.proofs.Promises.CallPromises.{has-left, has-right, over-later}
-use Rattle.executor_model.proofs.Promises.CallTold.{added}
 use Rattle.executor_model.proofs.Steps.Lists.{same_cases, weigh-append}
-use Rattle.executor_model.proofs.Steps.Tests.{or-left}
+use Rattle.executor_model.proofs.{Promises.CallTold.added, Steps.Tests.or-left}
 
 -- future f is to be woken
 abbrev pub wakes_at : ℕ → Op → ℕ
-wakes_at f (op.Move move.Wake g) = same f g
-wakes_at f (op.Move move.WakeByReference g) = same f g
+wakes_at f (Op.Move Move.Wake g) = same f g
+wakes_at f (Op.Move Move.WakeByReference g) = same f g
 wakes_at f _ = 0
 
 -- what a wake by waker k promises, where that is one of this future, or isn't made yet
@@ -56,30 +44,30 @@ pub waking-later : (k : ℕ) (x : Option ℕ) (es more : Trace) (b : Begun) (os 
 waking-later k x es more b os h n = promises-later x es more b.own os (h n)
 
 pub waking-right : (k : ℕ) (x : Option ℕ) (es : Trace) (b : Begun) (a : Reply) (held : Hold) →
-    Waking k x es b (op.End a held ∷ []) → Woke k x (record { call = b.call; own = b.own; reply = a; past = es })
+    Waking k x es b (Op.End a held ∷ []) → Woke k x (record { call = b.call; own = b.own; reply = a; past = es })
 waking-right k None es b a held h = h
 waking-right k (Some f) es b a held h = λ n. ⊎_elim
-    (λ (z : 1 ≤ weigh (wakes_at f) (op.End a held ∷ [])). absurd (omega (arith, z)))
+    (λ (z : 1 ≤ weigh (wakes_at f) (Op.End a held ∷ [])). absurd (omega (arith, z)))
     (λ (z : HasWokenIts f b.own es). z) (h n)
 
 -- a wake that is made
 
 woke-now : (b : Bool) (p f g : ℕ) (w : World) (more now : Trace) → f ≡ g → eqb f g ≡ true → is_over (task w g) ≡ b →
-    now ≡ (log_if (not (is_over (task w g))) w (event.Woken p g)).trace → now ≡ w.trace ++ more →
+    now ≡ (log_if (not (is_over (task w g))) w (Event.Woken p g)).trace → now ≡ w.trace ++ more →
     (is_over (task w f) ≡ true → MayBeOver f w.trace) → HasWokenIts f more w.trace
 woke-now true p f g w more now i j z e t k = inr (k (ap (λ (x : ℕ). is_over (task w x)) i ∙ z))
 woke-now false p f g w more now i j z e t k = inl (subst (λ (x : Trace). has (is_woken f) x ≡ true)
-    (added w.trace more (event.Woken p g ∷ []) now t
-    (e ∙ ap (λ (b : Bool). (log_if (not b) w (event.Woken p g)).trace) z)) (or-left (eqb f g) false j))
+    (added w.trace more (Event.Woken p g ∷ []) now t
+    (e ∙ ap (λ (b : Bool). (log_if (not b) w (Event.Woken p g)).trace) z)) (or-left (eqb f g) false j))
 
 pub wakes-now : (p : ℕ) (h : Hint) (o : Op) (w : World) (f : ℕ) (more : Trace) →
     (is_over (task w f) ≡ true → MayBeOver f w.trace) → (act p h o w).world.trace ≡ w.trace ++ more →
     (wakes_at f o ≡ 0) ⊎ HasWokenIts f more w.trace
-wakes-now p h (op.Move move.Wake g) w f more k t = ⊎_elim
+wakes-now p h (Op.Move Move.Wake g) w f more k t = ⊎_elim
     (λ (x : (same f g ≡ 1) × (eqb f g ≡ true) × (f ≡ g)).
     inr (woke-now (is_over (task w g)) p f g w more _ x.2 x.1 refl refl t k))
     (λ (x : (same f g ≡ 0) × (eqb f g ≡ false) × (f ≢ g)). inl x.0) (same_cases f g)
-wakes-now p h (op.Move move.WakeByReference g) w f more k t = ⊎_elim
+wakes-now p h (Op.Move Move.WakeByReference g) w f more k t = ⊎_elim
     (λ (x : (same f g ≡ 1) × (eqb f g ≡ true) × (f ≡ g)).
     inr (woke-now (is_over (task w g)) p f g w more _ x.2 x.1 refl refl t k))
     (λ (x : (same f g ≡ 0) × (eqb f g ≡ false) × (f ≢ g)). inl x.0) (same_cases f g)

@@ -5,44 +5,22 @@ use Rattle.std.proofs.Common.{◌&&◌, eqb, inl, inr, ⊎_elim, refl, subst, sy
 use Rattle.std.proofs.lemmas.Bool.Decides.{nat_tests}
 use Rattle.std.proofs.lemmas.List.{get_or-append-add, get_or_append_left, get_or_past, length-append, length-set}
 use Rattle.std.specs.Prelude.{Option, Some, None, reverse}
-use Rattle.executor_parts.specs.declared.mark.Mark.{Mark}
-use Rattle.executor_model.specs.declared.kind.Kind.{Kind}
-use Rattle.executor_model.specs.declared.call.Call.{Call}
-use Rattle.executor_model.specs.declared.call.Call.TheVariants as call
-use Rattle.executor_model.specs.declared.call.Reply.{Reply}
-use Rattle.executor_model.specs.declared.event.Event.TheVariants as event
-use Rattle.executor_model.specs.declared.op.ClosingOp.TheVariants as closing_op
-use Rattle.executor_model.specs.declared.op.Hold.{Hold}
-use Rattle.executor_model.specs.declared.op.Op.{Op}
-use Rattle.executor_model.specs.declared.op.Op.TheVariants as op
-use Rattle.executor_model.specs.declared.op.TableOp.TheVariants as table_op
-use Rattle.executor_model.specs.declared.op.Waker.{Waker}
-use Rattle.executor_model.specs.declared.op.WakerOp.TheVariants as waker_op
-use Rattle.executor_model.specs.declared.step.Hint.{Hint}
-use Rattle.executor_model.specs.declared.step.Step.{Step}
-use Rattle.executor_model.specs.declared.step.UserEnd.{UserEnd}
-use Rattle.executor_model.specs.Acts.{copy_by, drop_next_by, enter_by}
-use Rattle.executor_model.specs.Calls.{Each, Ended, calls}
-use Rattle.executor_model.specs.Doing.{act}
-use Rattle.executor_model.specs.Good.{Good}
+use Rattle.executor_model.proofs.Types.{Mark, Kind, Call, Reply, Event, ClosingOp, Hold, Op, TableOp, Waker, WakerOp, Hint}
 use Rattle.executor_model.specs.Steps.{Machine, accepts, begun, future_of, has_all, is_some, kept, mine, run, stack, start, top}
-use Rattle.executor_model.specs.Steps.{with_future}
-use Rattle.executor_model.specs.Trace.{Trace}
 use Rattle.executor_model.specs.WakersMean.{HasWokenIts, WakersWakeTheirOwn, WakesIts, is_wake}
-use Rattle.executor_model.specs.Weights.{same, weigh}
 use Rattle.executor_model.specs.World.{World, Done, done, log}
-use Rattle.executor_model.proofs.Promises.CallFrames.{Frames}
-use Rattle.executor_model.proofs.Promises.CallTold.{over-told}
-use Rattle.executor_model.proofs.Promises.FrameWays.{frames-end, frames-map, frames-start, frames-way}
+use Rattle.executor_model.specs.{Acts.copy_by, Acts.drop_next_by, Acts.enter_by, Calls.Each, Calls.Ended, Calls.calls}
+use Rattle.executor_model.specs.{Doing.act, Good.Good, Steps.with_future, Trace.Trace, Weights.same, Weights.weigh}
 use Rattle.executor_model.proofs.Promises.OwnWakers.{Follows, Knows, Next, Promises, Turned, Waking, Woke, promises-on}
+use Rattle.executor_model.proofs.Promises.FrameWays.{frames-end, frames-map, frames-start, frames-way}
 use Rattle.executor_model.proofs.Promises.OwnWakers.{waking-later, waking-right, wakes-now, wakes_at}
 use Rattle.executor_model.proofs.Promises.OwnWakers.Turned.{made, still, used}
 use Rattle.executor_model.proofs.Steps.Lift.{good, good-start, unsettled}
-use Rattle.executor_model.proofs.Steps.Lists.{same_cases}
 use Rattle.executor_model.proofs.Steps.Placing.{Spots, places, same-react, same-spots}
-use Rattle.executor_model.proofs.Steps.Ways.{Way, along}
 use Rattle.executor_model.proofs.Steps.Ways.Way.{acted, called, reacted}
 use Rattle.executor_model.proofs.Table.LeavingExecutions.{Placed, placed-ends, placed-moves, placed-start}
+use Rattle.executor_model.proofs.{Types.Step, Types.UserEnd, Promises.CallFrames.Frames, Promises.CallTold.over-told}
+use Rattle.executor_model.proofs.{Steps.Lists.same_cases, Steps.Ways.Way, Steps.Ways.along}
 
 -- how the kept wakers change
 
@@ -61,12 +39,12 @@ turned-drop_next (f ∷ rest) p w = still refl
 
 turned-act : (b : Bool) (p : ℕ) (h : Hint) (o : Op) (w : World) → places o ≡ b → Turned w (act p h o w).world
 turned-act false p h o w e = still (sym (ap (λ (x : Spots). x.wakers) (same-spots p h o w e)))
-turned-act true p h (op.Table (table_op.Enter mark)) w e = turned-enter _ _ _ p w
-turned-act true p h (op.Table (table_op.TakeToPoll f)) w e = still refl
-turned-act true p h (op.Table (table_op.PutBack f)) w e = still refl
-turned-act true p h (op.Table (table_op.TakeToDrop f)) w e = still refl
-turned-act true p h (op.Waker (waker_op.CopyWaker f held)) w e = turned-copy _ w f held
-turned-act true p h (op.Closing closing_op.DropNext) w e = turned-drop_next _ p w
+turned-act true p h (Op.Table (TableOp.Enter mark)) w e = turned-enter _ _ _ p w
+turned-act true p h (Op.Table (TableOp.TakeToPoll f)) w e = still refl
+turned-act true p h (Op.Table (TableOp.PutBack f)) w e = still refl
+turned-act true p h (Op.Table (TableOp.TakeToDrop f)) w e = still refl
+turned-act true p h (Op.Waker (WakerOp.CopyWaker f held)) w e = turned-copy _ w f held
+turned-act true p h (Op.Closing ClosingOp.DropNext) w e = turned-drop_next _ p w
 turned-act true p h _ w e = absurd (cc)
 
 turned-with : (w v : World) (o : Option ℕ) (d : ℕ → Done) → v.wakers ≡ w.wakers → ((f : ℕ) → Turned w (d f).world) →
@@ -75,13 +53,13 @@ turned-with w v None d e k = still e
 turned-with w v (Some f) d e k = k f
 
 turned-begun : (p : ℕ) (w : World) (here : Option Waker) (c : Call) →
-    Turned w (begun p (log w (event.CallBegun p c)) here c).world
-turned-begun p w here (call.Wake j) = turned-with w _ (kept w j) _ refl (λ f. used j refl)
-turned-begun p w here (call.WakeByRef j) = turned-with w _ (kept w j) _ refl (λ f. still refl)
-turned-begun p w here (call.Copy j) = turned-with w _ (kept w j) _ refl (λ f. still refl)
-turned-begun p w here (call.DropWaker j) = turned-with w _ (kept w j) _ refl (λ f. used j refl)
-turned-begun p w here call.Keep = turned-with w _ (future_of here) _ refl (λ f. still refl)
-turned-begun p w here call.WakeSelf = turned-with w _ (future_of here) _ refl (λ f. still refl)
+    Turned w (begun p (log w (Event.CallBegun p c)) here c).world
+turned-begun p w here (Call.Wake j) = turned-with w _ (kept w j) _ refl (λ f. used j refl)
+turned-begun p w here (Call.WakeByRef j) = turned-with w _ (kept w j) _ refl (λ f. still refl)
+turned-begun p w here (Call.Copy j) = turned-with w _ (kept w j) _ refl (λ f. still refl)
+turned-begun p w here (Call.DropWaker j) = turned-with w _ (kept w j) _ refl (λ f. used j refl)
+turned-begun p w here Call.Keep = turned-with w _ (future_of here) _ refl (λ f. still refl)
+turned-begun p w here Call.WakeSelf = turned-with w _ (future_of here) _ refl (λ f. still refl)
 turned-begun p w here _ = still refl
 
 turned-way : (s : Machine) (p : ℕ) (old rest : List Op) (d : Done) → Way s p old rest d → Turned s.world d.world
@@ -145,10 +123,7 @@ next-of w v k None (used j e) h =
 next-of w v k (Some f) (still e) h = record {
   now = Some f;
   follows = refl;
-  knows = (
-    omega (arith, h.0, ap length e),
-    keeps-known w v k f (ap (λ (ws : List (Option ℕ)). get_or ws k None) e) h.1,
-  );
+  knows = (omega (arith, h.0, ap length e), keeps-known w v k f (ap (λ (ws : List (Option ℕ)). get_or ws k None) e) h.1);
 }
 next-of w v k (Some f) (made g e) h = record {
   now = Some f;
@@ -162,10 +137,7 @@ next-of w v k (Some f) (made g e) h = record {
 next-of w v k (Some f) (used j e) h = record {
   now = Some f;
   follows = refl;
-  knows = (
-    omega (arith, h.0, ap length e, length-set w.wakers j None),
-    after-used (eqb k j) w v k j f refl e h.0 h.1,
-  );
+  knows = (omega (arith, h.0, ap length e, length-set w.wakers j None), after-used (eqb k j) w v k j f refl e h.0 h.1);
 }
 
 -- a wake by it begins
@@ -195,17 +167,17 @@ left-true false b e = absurd (cc)
 
 begins-wake : (k : ℕ) (x : Option ℕ) (p : ℕ) (w : World) (ss : List (List Op)) (o : Option Op) (c : Call)
     (past own : Trace) → has_all w ss o c ≡ true → is_wake k c ≡ true → Knows w k x →
-    Promises x past own (begun p (log w (event.CallBegun p c)) (mine o) c).next
-begins-wake k x p w ss o (call.Wake j) past own e n h =
+    Promises x past own (begun p (log w (Event.CallBegun p c)) (mine o) c).next
+begins-wake k x p w ss o (Call.Wake j) past own e n h =
     promised-one x past own w _ k j _ (kept w j) refl (left-true _ _ e) n h (λ f. omega (arith, same-self f))
-begins-wake k x p w ss o (call.WakeByRef j) past own e n h =
+begins-wake k x p w ss o (Call.WakeByRef j) past own e n h =
     promised-one x past own w _ k j _ (kept w j) refl e n h (λ f. omega (arith, same-self f))
 begins-wake k x p w ss o _ past own e n h = absurd (cc)
 
 -- what a thing that is done wakes
 
 user-wakes : (o : Op) (u : UserEnd) (f : ℕ) → accepts o u ≡ true → wakes_at f o ≡ 0
-user-wakes (op.User x) u f a = refl
+user-wakes (Op.User x) u f a = refl
 user-wakes _ u f a = absurd (cc)
 
 way-wakes : (s : Machine) (p : ℕ) (old rest : List Op) (d : Done) → Way s p old rest d → (o : Op) → old ≡ o ∷ [] →
@@ -262,13 +234,13 @@ own-moves least k s p old rest d fine l e way h =
           (λ o q i more t b below a y. promises-on h.who s.world.trace b.own more o below d.next
           (way-wakes s p old rest d way o q h.placed more t) (a y))
           (λ c q a more z t y. subst (λ (x : Done).
-          Promises h.who ((s.world.trace ++ event.CallBegun p c ∷ []) ++ more) more x.next) (sym z)
+          Promises h.who ((s.world.trace ++ Event.CallBegun p c ∷ []) ++ more) more x.next) (sym z)
           (begins-wake k h.who p s.world s.parties (top (stack s p)) c _ more a y h.knows)) way);
     }
 
 own-ends : (least : Option ℕ) (k : ℕ) (s : Machine) (p : ℕ) (a : Reply) (held : Hold) (below : List Op) →
-    p < length s.parties → stack s p ≡ below ++ reverse (op.End a held ∷ []) → Own least k s →
-    Own least k (unsettled s p below (done (log s.world (event.CallEnded p a)) []))
+    p < length s.parties → stack s p ≡ below ++ reverse (Op.End a held ∷ []) → Own least k s →
+    Own least k (unsettled s p below (done (log s.world (Event.CallEnded p a)) []))
 own-ends least k s p a held below l e h = record {
   placed = placed-ends s p a held below l e h.placed;
   who = h.who;

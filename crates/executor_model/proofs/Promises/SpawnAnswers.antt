@@ -1,137 +1,88 @@
 -- For spawns_are_limited.
 -- A spawn is answered that the executor is full where it is, and no more futures are undropped than its limit.
-use Rattle.std.proofs.Common.{◌≡◌, ◌⊎◌, ℕ, ◌≤◌, List, [], ◌∷◌, ◌++◌, Bool, true, false}
-use Rattle.std.proofs.Common.{cond, ⊎_elim, refl, subst, sym, ap, ◌∙◌, append-nil, arith}
+use Rattle.std.proofs.Common.{◌≡◌, ◌⊎◌, ℕ, ◌≤◌, List, [], ◌∷◌, ◌++◌, Bool, true, false, cond, ⊎_elim, refl, subst, sym, ap, ◌∙◌}
 use Rattle.std.proofs.lemmas.List.{append_assoc, reverse-append, reverse-reverse}
-use Rattle.std.specs.Prelude.{reverse}
-use Rattle.executor_parts.specs.declared.mark.Mark.{Mark}
-use Rattle.executor_model.specs.declared.call.Call.{Call}
-use Rattle.executor_model.specs.declared.call.Call.TheVariants as call
-use Rattle.executor_model.specs.declared.call.Reply.{Reply}
-use Rattle.executor_model.specs.declared.call.Reply.TheVariants as reply
-use Rattle.executor_model.specs.declared.event.Event.{Event}
-use Rattle.executor_model.specs.declared.event.Event.TheVariants as event
-use Rattle.executor_model.specs.declared.op.HandleOp.TheVariants as handle_op
-use Rattle.executor_model.specs.declared.op.Hold.{Hold}
-use Rattle.executor_model.specs.declared.op.ListOp.TheVariants as list_op
-use Rattle.executor_model.specs.declared.op.Op.{Op}
-use Rattle.executor_model.specs.declared.op.Op.TheVariants as op
-use Rattle.executor_model.specs.declared.op.QueueOp.TheVariants as queue_op
-use Rattle.executor_model.specs.declared.op.RunOp.TheVariants as run_op
-use Rattle.executor_model.specs.declared.op.Section.TheVariants as section
-use Rattle.executor_model.specs.declared.op.TableOp.TheVariants as table_op
-use Rattle.executor_model.specs.declared.op.TickOp.TheVariants as tick_op
-use Rattle.executor_model.specs.declared.op.UserOp.TheVariants as user_op
-use Rattle.executor_model.specs.declared.op.WakerOp.TheVariants as waker_op
-use Rattle.executor_model.specs.declared.step.Hint.{Hint}
-use Rattle.executor_model.specs.declared.step.UserEnd.{UserEnd}
-use Rattle.executor_model.specs.declared.step.UserEnd.TheVariants as end
-use Rattle.executor_model.specs.declared.event.Answer.TheVariants as answer
-use Rattle.executor_model.specs.Calls.{Begun, calls}
-use Rattle.executor_model.specs.CallsMean.{IsAnsweredRight, is_reply}
-use Rattle.executor_model.specs.Doing.{act}
+use Rattle.std.{proofs.Common.append-nil, proofs.Common.arith, specs.Prelude.reverse}
+use Rattle.executor_model.proofs.Types.{Mark, Call, Reply, Event, HandleOp, Hold, ListOp, Op, QueueOp, RunOp, Section, TableOp}
+use Rattle.executor_model.proofs.Types.{TickOp, UserOp, WakerOp, Hint, UserEnd, Answer}
 use Rattle.executor_model.specs.SpawnsMean.{AreMany, FullAt, FullFrom, TookPlace}
 use Rattle.executor_model.specs.Steps.{Machine, accepts, react, stack}
-use Rattle.executor_model.specs.Trace.{Trace, has}
-use Rattle.executor_model.specs.Weights.{weigh, weigh_all}
-use Rattle.executor_model.specs.World.{World}
+use Rattle.executor_model.specs.{Calls.Begun, Calls.calls, CallsMean.IsAnsweredRight, CallsMean.is_reply, Doing.act}
+use Rattle.executor_model.specs.{Trace.Trace, Trace.has, Weights.weigh, Weights.weigh_all, World.World}
 use Rattle.executor_model.proofs.Promises.CallAnswers.{no-poll, served}
-use Rattle.executor_model.proofs.Promises.CallFits.{fit-act}
-use Rattle.executor_model.proofs.Promises.CallFrames.{Frame, Tied}
 use Rattle.executor_model.proofs.Promises.CallPromises.{Owes, misfit, owes-later, serves, spawns}
-use Rattle.executor_model.proofs.Promises.Dropping.{Droppings}
-use Rattle.executor_model.proofs.Quiet.Calls.{calling_of, is_end}
-use Rattle.executor_model.proofs.Quiet.CallsDone.{Held}
-use Rattle.executor_model.proofs.Quiet.CallsGroups.{calls-act}
-use Rattle.executor_model.proofs.Quiet.Resting.{calling-is}
-use Rattle.executor_model.proofs.Steps.Deeds.{ends_one}
-use Rattle.executor_model.proofs.Steps.Lists.{weigh-below}
-use Rattle.executor_model.proofs.Steps.Tests.{left-false, right-false}
+use Rattle.executor_model.proofs.{Promises.CallFits.fit-act, Promises.CallFrames.Frame, Promises.CallFrames.Tied}
+use Rattle.executor_model.proofs.{Promises.Dropping.Droppings, Quiet.Calls.calling_of, Quiet.Calls.is_end, Quiet.CallsDone.Held}
+use Rattle.executor_model.proofs.{Quiet.CallsGroups.calls-act, Quiet.Resting.calling-is, Steps.Deeds.ends_one}
+use Rattle.executor_model.proofs.{Steps.Lists.weigh-below, Steps.Tests.left-false, Steps.Tests.right-false}
 
 -- an answer that the executor is full
 abbrev pub full_of : Op → ℕ
-full_of (op.End reply.Full held) = 1
+full_of (Op.End Reply.Full held) = 1
 full_of _ = 0
 
 abbrev pub is_enter : Op → Bool
-is_enter (op.Table (table_op.Enter mark)) = true
+is_enter (Op.Table (TableOp.Enter mark)) = true
 is_enter _ = false
 
 -- who gives it
 
 few-full : (o : Op) → full_of o ≤ calling_of o
-few-full (op.End reply.Full held) = omega arith
+few-full (Op.End Reply.Full held) = omega arith
 few-full _ = omega arith
 
-not-full : (c : Call) → spawns c ≡ false → is_reply c reply.Full ≡ false
-not-full (call.Spawn mark) e = absurd (cc)
+not-full : (c : Call) → spawns c ≡ false → is_reply c Reply.Full ≡ false
+not-full (Call.Spawn mark) e = absurd (cc)
 not-full _ e = refl
 
 pub full-misfit : (c : Call) → spawns c ≡ false → (o : Op) → full_of o ≤ misfit c o
-full-misfit c e (op.End reply.Full held) =
-    let z : cond (is_reply c reply.Full) 0 1 ≡ 1 = ap (λ (b : Bool). let n : ℕ = cond b 0 1 in n) (not-full c e) in
+full-misfit c e (Op.End Reply.Full held) =
+    let z : cond (is_reply c Reply.Full) 0 1 ≡ 1 = ap (λ (b : Bool). let n : ℕ = cond b 0 1 in n) (not-full c e) in
     omega (arith, z)
 full-misfit c e _ = omega arith
 
-pub only-enter : (mark : Mark) (o : Op) → calling_of o ≡ 1 → serves o (call.Spawn mark) ≡ true → is_end o ≡ false → is_enter o ≡ true
-only-enter mark (op.Table (table_op.Enter m)) a e n = refl
-only-enter mark (op.List (list_op.LockWrite section.MakeRun)) a e n = absurd (cc)
-only-enter mark (op.List (list_op.LockWrite (section.Register x))) a e n = absurd (cc)
-only-enter mark (op.List (list_op.LockWrite (section.Unregister r x))) a e n = absurd (cc)
-only-enter mark (op.List (list_op.Write section.MakeRun)) a e n = absurd (cc)
-only-enter mark (op.List (list_op.Write (section.Register x))) a e n = absurd (cc)
-only-enter mark (op.List (list_op.Write (section.Unregister r x))) a e n = absurd (cc)
-only-enter mark (op.Handle (handle_op.Look x k)) a e n = absurd (cc)
-only-enter mark (op.Handle (handle_op.CopyAwaiter x k)) a e n = absurd (cc)
-only-enter mark (op.Handle (handle_op.Register x k i)) a e n = absurd (cc)
-only-enter mark (op.Handle (handle_op.EndRegister x k i)) a e n = absurd (cc)
-only-enter mark (op.Handle (handle_op.LookAgain x)) a e n = absurd (cc)
-only-enter mark (op.Table table_op.LookAtTable) a e n = absurd (cc)
-only-enter mark (op.Queue queue_op.TakeTurn) a e n = absurd (cc)
-only-enter mark (op.Queue (queue_op.Take look)) a e n = absurd (cc)
-only-enter mark (op.Waker (waker_op.CopyWaker x held)) a e n = absurd (cc)
-only-enter mark (op.Tick tick_op.MakeTick) a e n = absurd (cc)
-only-enter mark (op.Tick (tick_op.Search s)) a e n = absurd (no-poll s.who (call.Spawn mark) refl refl e)
-only-enter mark (op.Tick (tick_op.Look s look)) a e n = absurd (no-poll s.who (call.Spawn mark) refl refl e)
-only-enter mark (op.Tick (tick_op.CopyWaker s)) a e n = absurd (no-poll s.who (call.Spawn mark) refl refl e)
-only-enter mark (op.Tick (tick_op.FallAsleep s)) a e n = absurd (no-poll s.who (call.Spawn mark) refl refl e)
-only-enter mark (op.User (user_op.PollOwn x)) a e n = absurd (cc)
-only-enter mark (op.List (list_op.LockRead x)) a e n = absurd (cc)
-only-enter mark (op.Steal o) a e n = absurd (cc)
-only-enter mark (op.Run run_op.MakeRoom) a e n = absurd (cc)
-only-enter mark (op.Run (run_op.TakeTurn x)) a e n = absurd (cc)
-only-enter mark (op.Run (run_op.SearchCommon x look)) a e n = absurd (cc)
-only-enter mark (op.Run (run_op.LookOwn x at left)) a e n = absurd (cc)
-only-enter mark (op.Run (run_op.WakeOwn x)) a e n = absurd (cc)
-only-enter mark (op.Run (run_op.Reschedule r x)) a e n = absurd (cc)
-only-enter mark (op.End r held) a e n = absurd (cc)
+pub only-enter : (mark : Mark) (o : Op) → calling_of o ≡ 1 → serves o (Call.Spawn mark) ≡ true → is_end o ≡ false → is_enter o ≡ true
+only-enter mark (Op.Table (TableOp.Enter m)) a e n = refl
+only-enter mark (Op.List (ListOp.LockWrite Section.MakeRun)) a e n = absurd (cc)
+only-enter mark (Op.List (ListOp.LockWrite (Section.Register x))) a e n = absurd (cc)
+only-enter mark (Op.List (ListOp.LockWrite (Section.Unregister r x))) a e n = absurd (cc)
+only-enter mark (Op.List (ListOp.Write Section.MakeRun)) a e n = absurd (cc)
+only-enter mark (Op.List (ListOp.Write (Section.Register x))) a e n = absurd (cc)
+only-enter mark (Op.List (ListOp.Write (Section.Unregister r x))) a e n = absurd (cc)
+only-enter mark (Op.Handle (HandleOp.Look x k)) a e n = absurd (cc)
+only-enter mark (Op.Handle _) a e n = absurd (cc)
+only-enter mark (Op.Table TableOp.LookAtTable) a e n = absurd (cc)
+only-enter mark (Op.Queue QueueOp.TakeTurn) a e n = absurd (cc)
+only-enter mark (Op.Queue (QueueOp.Take look)) a e n = absurd (cc)
+only-enter mark (Op.Waker (WakerOp.CopyWaker x held)) a e n = absurd (cc)
+only-enter mark (Op.Tick TickOp.MakeTick) a e n = absurd (cc)
+only-enter mark (Op.Tick (TickOp.Search s)) a e n = absurd (no-poll s.who (Call.Spawn mark) refl refl e)
+only-enter mark (Op.Tick (TickOp.Look s look)) a e n = absurd (no-poll s.who (Call.Spawn mark) refl refl e)
+only-enter mark (Op.Tick (TickOp.CopyWaker s)) a e n = absurd (no-poll s.who (Call.Spawn mark) refl refl e)
+only-enter mark (Op.Tick (TickOp.FallAsleep s)) a e n = absurd (no-poll s.who (Call.Spawn mark) refl refl e)
+only-enter mark (Op.User (UserOp.PollOwn x)) a e n = absurd (cc)
+only-enter mark (Op.List (ListOp.LockRead x)) a e n = absurd (cc)
+only-enter mark (Op.Steal o) a e n = absurd (cc)
+only-enter mark (Op.Run RunOp.MakeRoom) a e n = absurd (cc)
+only-enter mark (Op.Run _) a e n = absurd (cc)
+only-enter mark (Op.End r held) a e n = absurd (cc)
 only-enter mark _ a e n = absurd (cc)
 
 pub spawn-next : (b : Bool) (c : Call) → spawns c ≡ b → (p : ℕ) (h : Hint) (o : Op) (w : World) → is_end o ≡ false →
     misfit c o ≡ 0 → is_enter o ≡ false → weigh full_of (act p h o w).next ≡ 0
 spawn-next false c s p h o w n e k =
-    omega (
-      arith,
-      weigh-below full_of (misfit c) (full-misfit c s) (act p h o w).next,
-      fit-act c p h o w n e,
-    )
-spawn-next true (call.Spawn mark) s p h o w n e k = ⊎_elim
+    omega (arith, weigh-below full_of (misfit c) (full-misfit c s) (act p h o w).next, fit-act c p h o w n e)
+spawn-next true (Call.Spawn mark) s p h o w n e k = ⊎_elim
     (λ (z : calling_of o ≡ 0).
     omega (arith, weigh-below full_of calling_of few-full (act p h o w).next, (calls-act p h o w n).passes.none z))
     (λ (z : calling_of o ≡ 1).
-    let no : true ≡ false = sym (only-enter mark o z (served (serves o (call.Spawn mark)) e) n) ∙ k in absurd (cc)) (calling-is o)
+    let no : true ≡ false = sym (only-enter mark o z (served (serves o (Call.Spawn mark)) e) n) ∙ k in absurd (cc)) (calling-is o)
 spawn-next true _ s p h o w n e k = absurd (cc)
 
 pub full-react : (p : ℕ) (o : Op) (u : UserEnd) (w : World) → accepts o u ≡ true → weigh full_of (react p o u w).next ≡ 0
-full-react p (op.User (user_op.Poll f)) (end.Polled answer.Pending) w a = refl
-full-react p (op.User (user_op.Poll f)) (end.Polled answer.Ready) w a = refl
-full-react p (op.User (user_op.Drop f)) end.Done w a = refl
-full-react p (op.User (user_op.DropOutput f)) end.Done w a = refl
-full-react p (op.User (user_op.CallOutside x)) end.Done w a = refl
-full-react p (op.User (user_op.PollOwn x)) (end.Polled answer.Pending) w a = refl
-full-react p (op.User (user_op.PollOwn x)) (end.Polled answer.Ready) w a = refl
-full-react p (op.User (user_op.DropOwn r)) end.Done w a = refl
-full-react p _ _ w a = absurd (cc)
+full-react p (Op.User (UserOp.Poll f)) (UserEnd.Polled Answer.Pending) w a = refl
+full-react p (Op.User (UserOp.PollOwn x)) (UserEnd.Polled Answer.Pending) w a = refl
+full-react p _ _ w a = refl
 
 -- the call that a party is in
 pub record Serves (o : Op) : Type 0 where
@@ -172,7 +123,7 @@ full-push n past (x ∷ es) e h k = (
 )
 
 no-answer : (n : ℕ) (past : Trace) (e : Event) → ends_one e ≡ false → FullAt n past e
-no-answer n past (event.CallEnded p a) z = absurd (cc)
+no-answer n past (Event.CallEnded p a) z = absurd (cc)
 no-answer n past _ z = tt
 
 pub full-more : (n : ℕ) (es more : Trace) → FullFrom n [] es → has ends_one more ≡ false → FullFrom n [] (es ++ more)
@@ -182,9 +133,9 @@ full-more n es (e ∷ more) h z = subst (FullFrom n []) (append_assoc es (e ∷ 
     (full-push n [] es e h (no-answer n es e (left-false (ends_one e) (has ends_one more) z)))
     (right-false (ends_one e) (has ends_one more) z))
 
-pub full-ended : (n : ℕ) (es : Trace) (p : ℕ) (a : Reply) → FullFrom n [] es → (a ≡ reply.Full → AreMany n (TookPlace es)) →
-    FullFrom n [] (es ++ event.CallEnded p a ∷ [])
-full-ended n es p reply.Full h k = full-push n [] es (event.CallEnded p reply.Full) h (k refl)
+pub full-ended : (n : ℕ) (es : Trace) (p : ℕ) (a : Reply) → FullFrom n [] es → (a ≡ Reply.Full → AreMany n (TookPlace es)) →
+    FullFrom n [] (es ++ Event.CallEnded p a ∷ [])
+full-ended n es p Reply.Full h k = full-push n [] es (Event.CallEnded p Reply.Full) h (k refl)
 full-ended n es p _ h k = full-push n [] es _ h tt
 
 -- between two steps, and in the middle of one
@@ -199,7 +150,7 @@ pub record Between (n : ℕ) (s : Machine) : Type 0 where
 pub record Told (n : ℕ) (s : Machine) (p : ℕ) : Type 0 where
   pub below : List Op
   pub held : Hold
-  pub is : stack s p ≡ below ++ op.End reply.Full held ∷ []
+  pub is : stack s p ≡ below ++ Op.End Reply.Full held ∷ []
   pub one : weigh_all full_of s.parties ≡ 1
   pub many : AreMany n (TookPlace s.world.trace)
 

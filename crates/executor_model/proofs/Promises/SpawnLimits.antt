@@ -1,64 +1,36 @@
 -- For spawns_are_limited.
 -- What holds between two steps and in the middle of one (proofs/Promises/SpawnAnswers), each step keeps; and no more futures
 -- are undropped than the limit.
-use Rattle.std.proofs.Common.{◌≡◌, ◌⊎◌, ℕ, zero, suc, ◌+◌, ◌<◌, ◌≤◌, List, [], ◌∷◌, ◌++◌, length, Bool, true, false}
-use Rattle.std.proofs.Common.{cond, not, inl, inr, ⊎_elim, refl, subst, sym, ap, ◌∙◌, get_or-set_same, arith}
-use Rattle.std.proofs.lemmas.Bool.Decides.{nat_tests}
-use Rattle.std.proofs.lemmas.List.{append_assoc}
+use Rattle.std.proofs.Common.{◌≡◌, ◌⊎◌, ℕ, zero, suc, ◌+◌, ◌<◌, ◌≤◌, List, [], ◌∷◌, ◌++◌, length, Bool, true, false, cond, not}
+use Rattle.std.proofs.Common.{inl, inr, ⊎_elim, refl, subst, sym, ap, ◌∙◌, get_or-set_same, arith}
 use Rattle.std.specs.Prelude.{Option, Some, None, nat_lt, reverse}
-use Rattle.executor_parts.specs.declared.mark.Mark.{Mark}
-use Rattle.executor_model.specs.declared.kind.Kind.{Kind}
-use Rattle.executor_model.specs.declared.call.Call.{Call}
-use Rattle.executor_model.specs.declared.call.Call.TheVariants as call
-use Rattle.executor_model.specs.declared.call.Reply.{Reply}
-use Rattle.executor_model.specs.declared.call.Reply.TheVariants as reply
+use Rattle.std.{proofs.lemmas.Bool.Decides.nat_tests, proofs.lemmas.List.append_assoc}
+use Rattle.executor_model.proofs.Types.{Mark, Kind, Call, Reply, Event, Hold, Op, TableOp, Waker, Hint, Step}
 use Rattle.executor_model.specs.declared.event.Answer.TheVariants.{Pending, Ready}
-use Rattle.executor_model.specs.declared.event.Event.{Event}
-use Rattle.executor_model.specs.declared.event.Event.TheVariants as event
-use Rattle.executor_model.specs.declared.op.Hold.{Hold}
-use Rattle.executor_model.specs.declared.op.Hold.TheVariants as hold
-use Rattle.executor_model.specs.declared.op.Op.{Op}
-use Rattle.executor_model.specs.declared.op.Op.TheVariants as op
-use Rattle.executor_model.specs.declared.op.TableOp.TheVariants as table_op
-use Rattle.executor_model.specs.declared.op.Waker.{Waker}
-use Rattle.executor_model.specs.declared.step.Hint.{Hint}
-use Rattle.executor_model.specs.declared.step.Step.{Step}
-use Rattle.executor_model.specs.Acts.{enter_by, is_last_waker, is_told}
-use Rattle.executor_model.specs.Doing.{act}
-use Rattle.executor_model.specs.Entries.{Remains}
-use Rattle.executor_model.specs.Good.{Good}
-use Rattle.executor_model.specs.Rows.{borrowing_of, leaves_of}
-use Rattle.executor_model.specs.Sound.{times}
 use Rattle.executor_model.specs.SpawnsMean.{AreMany, FullFrom, SpawnsAreLimited, TookPlace, WasUndropped}
 use Rattle.executor_model.specs.Steps.{Machine, begun, end_of, mine, react, run, stack, start, top}
 use Rattle.executor_model.specs.Trace.{Trace, has, is_accepted, is_dropped}
-use Rattle.executor_model.specs.Weights.{same, weigh, weigh_all}
 use Rattle.executor_model.specs.World.{World, Done, done, log, task}
-use Rattle.executor_model.proofs.OneFuture.Effects.{Effect}
-use Rattle.executor_model.proofs.OneFuture.Effects.Effect.{passes, turns, refuses, enters, unlists, drops, takes_out, drops_next}
-use Rattle.executor_model.proofs.OneFuture.EffectsWays.{Effects, effects-way}
+use Rattle.executor_model.specs.{Acts.enter_by, Acts.is_last_waker, Acts.is_told, Doing.act, Entries.Remains, Good.Good}
+use Rattle.executor_model.specs.{Rows.borrowing_of, Rows.leaves_of, Sound.times, Weights.same, Weights.weigh, Weights.weigh_all}
+use Rattle.executor_model.proofs.OneFuture.Effects.Effect.{passes, turns, refuses, enters, unlists, drops, takes_out}
+use Rattle.executor_model.proofs.Promises.SpawnAnswers.{Between, Serves, Told, Within, full-ended, full-misfit, full-more}
+use Rattle.executor_model.proofs.OneFuture.Effects.Effect.{drops_next, leaks, leaks_out}
 use Rattle.executor_model.proofs.OneFuture.EffectsWays.Effects.{does, pends, readies, closes}
-use Rattle.executor_model.proofs.OneFuture.Extras.{no_extra}
-use Rattle.executor_model.proofs.OneFuture.MoveViews.{told-world}
 use Rattle.executor_model.proofs.OneFuture.Stories.{Story, hears, no-longer, story, story_from, untold}
 use Rattle.executor_model.proofs.OneFuture.Telling.{accepted-counts, fallen-counts, same-standing}
-use Rattle.executor_model.proofs.OneFuture.Views.{none}
-use Rattle.executor_model.proofs.Promises.CallPromises.{misfit, spawns}
 use Rattle.executor_model.proofs.Promises.Dropping.{droppings-end, droppings-moves, droppings-start, is-being-dropped}
-use Rattle.executor_model.proofs.Promises.SpawnAnswers.{Between, Serves, Told, Within, full-ended, full-misfit, full-more}
 use Rattle.executor_model.proofs.Promises.SpawnAnswers.{full-react, full_of, is_enter, serves-call, spawn-next}
-use Rattle.executor_model.proofs.Quiet.Calls.{is_end}
 use Rattle.executor_model.proofs.Quiet.CallsDone.{fit-begun, held-ends, held-moves, held-start}
 use Rattle.executor_model.proofs.Steps.Deeds.{grows-act, grows-begun, grows-react}
 use Rattle.executor_model.proofs.Steps.Lift.{good-start, split, unsettled, weigh_all-idle}
-use Rattle.executor_model.proofs.Steps.Lists.{weigh-below, weigh_all-push}
-use Rattle.executor_model.proofs.Steps.Settled.{along-settled}
-use Rattle.executor_model.proofs.Steps.Ways.{Way}
-use Rattle.executor_model.proofs.Steps.Ways.Way.{acted, called, reacted}
 use Rattle.executor_model.proofs.Table.Entering.{counts, counts-none, table-agrees}
-use Rattle.executor_model.proofs.Table.LeavingExecutions.{Placed}
-use Rattle.executor_model.proofs.Table.Spawning.{has-table-by, top-last}
-use Rattle.executor_model.proofs.OneFuture.Effects.Effect.{leaks, leaks_out}
+use Rattle.executor_model.proofs.{OneFuture.Effects.Effect, OneFuture.EffectsWays.Effects, OneFuture.EffectsWays.effects-way}
+use Rattle.executor_model.proofs.{OneFuture.Extras.no_extra, OneFuture.MoveViews.told-world, OneFuture.Views.none}
+use Rattle.executor_model.proofs.{Promises.CallPromises.misfit, Promises.CallPromises.spawns, Quiet.Calls.is_end}
+use Rattle.executor_model.proofs.{Steps.Lists.weigh-below, Steps.Lists.weigh_all-push, Steps.Settled.along-settled}
+use Rattle.executor_model.proofs.{Steps.Ways.Way, Steps.Ways.Way.acted, Steps.Ways.Way.called, Steps.Ways.Way.reacted}
+use Rattle.executor_model.proofs.{Table.LeavingExecutions.Placed, Table.Spawning.has-table-by, Table.Spawning.top-last}
 
 -- the limit stays
 
@@ -92,12 +64,12 @@ took-place s f m k = ⊎_elim
     (λ (x : 1 ≤ weigh_all (leaves_of f) s.parties). k x) m.remains
 
 full-now : (n : ℕ) (s : Machine) (p : ℕ) (mark : Mark) (rest : List Op) → Good s → p < length s.parties →
-    stack s p ≡ rest ++ reverse (op.Table (table_op.Enter mark) ∷ []) → Between n s →
+    stack s p ≡ rest ++ reverse (Op.Table (TableOp.Enter mark) ∷ []) → Between n s →
     not (nat_lt (length s.world.table) s.world.limit) ≡ true → AreMany n (TookPlace s.world.trace)
 full-now n s p mark rest fine l e k b =
     let placed : Placed s = k.held.placed in
     let uses : 1 ≤ weigh_all borrowing_of s.parties =
-    omega (arith, split borrowing_of s.parties p (op.Table (table_op.Enter mark) ∷ []) rest l e) in
+    omega (arith, split borrowing_of s.parties p (Op.Table (TableOp.Enter mark) ∷ []) rest l e) in
     let full : s.world.limit ≤ length s.world.table = grind (arith, nat_tests, b) in
     record {
       futures = s.world.table;
@@ -112,16 +84,12 @@ called-next : (p : ℕ) (w : World) (here : Option Waker) (c : Call) → weigh f
 called-next p w here c = by (spawns c) refl
   where
     spawned : (c : Call) → spawns c ≡ true → weigh full_of (begun p w here c).next ≡ 0
-    spawned (call.Spawn mark) e = refl
+    spawned (Call.Spawn mark) e = refl
     spawned _ e = absurd (cc)
 
     by : (b : Bool) → spawns c ≡ b → weigh full_of (begun p w here c).next ≡ 0
     by true e = spawned c e
-    by false e = omega (
-      arith,
-      weigh-below full_of (misfit c) (full-misfit c e) (begun p w here c).next,
-      fit-begun p w here c,
-    )
+    by false e = omega (arith, weigh-below full_of (misfit c) (full-misfit c e) (begun p w here c).next, fit-begun p w here c)
 
 -- each move
 
@@ -149,17 +117,17 @@ module _ (n : ℕ) (s : Machine) (p : ℕ) (old rest : List Op) (fine : Good s) 
   }
 
   entered : (b c : Bool) (mark : Mark) → not (nat_lt (length s.world.table) s.world.limit) ≡ b →
-      old ≡ op.Table (table_op.Enter mark) ∷ [] →
+      old ≡ Op.Table (TableOp.Enter mark) ∷ [] →
       (weigh_all full_of (unsettled s p rest (enter_by b c mark p s.world)).parties ≡ 0)
       ⊎ Told n (unsettled s p rest (enter_by b c mark p s.world)) p
   entered true c mark z q = inr (record {
     below = rest;
-    held = hold.Executor;
-    is = get_or-set_same s.parties p (rest ++ op.End reply.Full hold.Executor ∷ []) [] l;
+    held = Hold.Executor;
+    is = get_or-set_same s.parties p (rest ++ Op.End Reply.Full Hold.Executor ∷ []) [] l;
     one = omega (
       arith,
       k.none,
-      weigh_all-push full_of s.parties p rest (op.End reply.Full hold.Executor ∷ []) l,
+      weigh_all-push full_of s.parties p rest (Op.End Reply.Full Hold.Executor ∷ []) l,
       split full_of s.parties p old rest l e,
       ap (weigh full_of) q,
     );
@@ -173,7 +141,7 @@ module _ (n : ℕ) (s : Machine) (p : ℕ) (old rest : List Op) (fine : Good s) 
       ⊎ Told n (unsettled s p rest (act p h o s.world)) p
   answer-acted h o false i u q x = inl (none-more (act p h o s.world)
       (spawn-next (spawns x.call) x.call refl p h o s.world u x.fits i))
-  answer-acted h (op.Table (table_op.Enter mark)) true i u q x = entered _ _ mark refl q
+  answer-acted h (Op.Table (TableOp.Enter mark)) true i u q x = entered _ _ mark refl q
   answer-acted h _ true i u q x = absurd (cc)
 
   by-act : (h : Hint) (o : Op) (b : Bool) → is_end o ≡ b → old ≡ o ∷ [] →
@@ -184,16 +152,16 @@ module _ (n : ℕ) (s : Machine) (p : ℕ) (old rest : List Op) (fine : Good s) 
       (subst (FullFrom n []) (sym g.is) (full-more n s.world.trace g.more k.full g.none_ends))
       (answer-acted h o (is_enter o) refl i q
       (serves-call s p o rest (subst (λ (os : List Op). stack s p ≡ rest ++ reverse os) q e) k.held))
-  by-act h (op.End a held) true i q way =
-      within (done (log s.world (event.CallEnded p a)) []) way
+  by-act h (Op.End a held) true i q way =
+      within (done (log s.world (Event.CallEnded p a)) []) way
       (full-ended n s.world.trace p a k.full (λ r. absurd (omega (
         arith,
         k.none,
         split full_of s.parties p old rest l e,
         ap (weigh full_of) q,
-        ap (λ (x : Reply). full_of (op.End x held)) r,
+        ap (λ (x : Reply). full_of (Op.End x held)) r,
       ))))
-      (inl (none-more (done (log s.world (event.CallEnded p a)) []) refl))
+      (inl (none-more (done (log s.world (Event.CallEnded p a)) []) refl))
   by-act h _ true i q way = absurd (cc)
 
   within-moves : (d : Done) → Way s p old rest d → Within n (unsettled s p rest d) p
@@ -208,13 +176,13 @@ module _ (n : ℕ) (s : Machine) (p : ℕ) (old rest : List Op) (fine : Good s) 
       (inl (none-more (react p o u s.world) (full-react p o u s.world a))) in
       subst (λ (x : Done). Within n (unsettled s p rest x) p) (sym z) y
   within-moves d (called c q r i z) =
-      let w : World = log s.world (event.CallBegun p c) in
+      let w : World = log s.world (Event.CallBegun p c) in
       let here : Option Waker = mine (top (stack s p)) in
       let g = grows-begun p w here c in
       let y : Within n (unsettled s p rest (begun p w here c)) p =
       within (begun p w here c) (called c q r i refl)
-      (subst (FullFrom n []) (sym (g.is ∙ append_assoc s.world.trace (event.CallBegun p c ∷ []) g.more))
-      (full-more n s.world.trace (event.CallBegun p c ∷ g.more) k.full g.none_ends))
+      (subst (FullFrom n []) (sym (g.is ∙ append_assoc s.world.trace (Event.CallBegun p c ∷ []) g.more))
+      (full-more n s.world.trace (Event.CallBegun p c ∷ g.more) k.full g.none_ends))
       (inl (none-more (begun p w here c) (called-next p w here c))) in
       subst (λ (x : Done). Within n (unsettled s p rest x) p) (sym z) y
 
@@ -225,28 +193,24 @@ last-one xs ys a b e =
     let q : Some a ≡ Some b = sym (top-last xs a) ∙ (ap top e ∙ top-last ys b) in cc
 
 within-ends : (n : ℕ) (s : Machine) (p : ℕ) (a : Reply) (held : Hold) (below : List Op) → p < length s.parties →
-    stack s p ≡ below ++ reverse (op.End a held ∷ []) → Within n s p →
-    Between n (unsettled s p below (done (log s.world (event.CallEnded p a)) []))
+    stack s p ≡ below ++ reverse (Op.End a held ∷ []) → Within n s p →
+    Between n (unsettled s p below (done (log s.world (Event.CallEnded p a)) []))
 within-ends n s p a held below l e k =
-    let x : weigh_all full_of s.parties ≡ full_of (op.End a held) + 0
-    + weigh_all full_of (unsettled s p below (done (log s.world (event.CallEnded p a)) [])).parties =
-    omega (
-      arith,
-      split full_of s.parties p (op.End a held ∷ []) below l e,
-      weigh_all-push full_of s.parties p below [] l,
-    ) in
+    let x : weigh_all full_of s.parties ≡ full_of (Op.End a held) + 0
+    + weigh_all full_of (unsettled s p below (done (log s.world (Event.CallEnded p a)) [])).parties =
+    omega (arith, split full_of s.parties p (Op.End a held ∷ []) below l e, weigh_all-push full_of s.parties p below [] l) in
     record {
       held = held-ends s p a held below l e k.held;
       droppings = droppings-end s p a held below l e k.droppings;
       limit = k.limit;
       full = full-ended n s.world.trace p a k.full (λ r. ⊎_elim
           (λ (z : weigh_all full_of s.parties ≡ 0).
-          absurd (omega (arith, z, x, ap (λ (y : Reply). full_of (op.End y held)) r)))
+          absurd (omega (arith, z, x, ap (λ (y : Reply). full_of (Op.End y held)) r)))
           (λ (t : Told n s p). t.many) k.answer);
       none = ⊎_elim
           (λ (z : weigh_all full_of s.parties ≡ 0). omega (arith, z, x))
           (λ (t : Told n s p).
-          let q : op.End a held ≡ op.End reply.Full t.held = last-one below t.below _ _ (sym e ∙ t.is) in
+          let q : Op.End a held ≡ Op.End Reply.Full t.held = last-one below t.below _ _ (sym e ∙ t.is) in
           omega (arith, t.one, x, ap full_of q)) k.answer;
     }
 
@@ -259,9 +223,9 @@ within-stays n s p l e k = record {
   full = k.full;
   none = ⊎_elim (λ (z : weigh_all full_of s.parties ≡ 0). z)
       (λ (t : Told n s p).
-      let no : Some reply.Full ≡ None =
+      let no : Some Reply.Full ≡ None =
       sym (ap (λ (os : List Op). end_of (top os)) t.is
-      ∙ ap end_of (top-last t.below (op.End reply.Full t.held))) ∙ e in absurd (cc)) k.answer;
+      ∙ ap end_of (top-last t.below (Op.End Reply.Full t.held))) ∙ e in absurd (cc)) k.answer;
 }
 
 between-start : (limit : ℕ) (kind : Kind) (n : ℕ) → Between limit (start limit kind n)
@@ -281,13 +245,13 @@ between limit kind n ts = along-settled (Between limit) (Within limit)
 -- never more than the limit
 
 early-one : (g : ℕ) (e : Event) (s : Story) → s.early ≤ s.fallen → (hears g e s).early ≤ (hears g e s).fallen
-early-one g (event.Dropped p f) s h = by s.begun
+early-one g (Event.Dropped p f) s h = by s.begun
   where
     by : (b : Bool) → s.early + cond b 0 (same g f) ≤ s.fallen + same g f
     by true = omega (arith, h)
     by false = omega (arith, h)
-early-one g (event.Answered p f Ready) s h = h
-early-one g (event.Answered p f Pending) s h = h
+early-one g (Event.Answered p f Ready) s h = h
+early-one g (Event.Answered p f Pending) s h = h
 early-one g _ s h = h
 
 early-from : (g : ℕ) (s : Story) (es : Trace) → s.early ≤ s.fallen → (story_from g s es).early ≤ (story_from g s es).fallen

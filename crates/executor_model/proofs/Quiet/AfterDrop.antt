@@ -1,47 +1,30 @@
 -- For dropped_executors_drop_each_future_once.
 -- Where the executor was dropped and no call is in progress, each accepted future was dropped, and once.
-use Rattle.std.proofs.Common.{◌≡◌, ◌⊎◌, ℕ, ◌+◌, ◌<◌, ◌≤◌, List, [], ◌∷◌, ◌++◌, length, Bool, true, false, ◌||◌}
-use Rattle.std.proofs.Common.{inl, inr, ⊎_elim, refl, subst, sym, ap, ◌∙◌, arith}
-use Rattle.std.proofs.lemmas.List.{append_cancel_left}
-use Rattle.std.proofs.lemmas.List.Folds.{list_any-append}
-use Rattle.std.specs.Prelude.{reverse}
-use Rattle.executor_model.proofs.Steps.QueuesByMark.{any-shut}
-use Rattle.executor_parts.specs.declared.mark.Mark.TheVariants.{Urgent}
-use Rattle.executor_model.specs.declared.kind.Kind.{Kind}
-use Rattle.executor_model.specs.declared.call.Call.{Call}
-use Rattle.executor_model.specs.declared.call.Call.TheVariants as call
-use Rattle.executor_model.specs.declared.event.Event.{Event}
-use Rattle.executor_model.specs.declared.event.Event.TheVariants as event
-use Rattle.executor_model.specs.declared.op.Op.{Op}
-use Rattle.executor_model.specs.declared.op.Op.TheVariants as op
-use Rattle.executor_model.specs.declared.step.Step.{Step}
-use Rattle.executor_model.specs.Doing.{act}
+use Rattle.std.proofs.Common.{◌≡◌, ◌⊎◌, ℕ, ◌+◌, ◌<◌, ◌≤◌, List, [], ◌∷◌, ◌++◌, length, Bool, true, false, ◌||◌, inl, inr}
+use Rattle.std.proofs.Common.{⊎_elim, refl, subst, sym, ap, ◌∙◌, arith}
+use Rattle.std.{proofs.lemmas.List.append_cancel_left, proofs.lemmas.List.Folds.list_any-append, specs.Prelude.reverse}
+use Rattle.executor_model.proofs.Types.{Urgent, Kind, Call, Event, Op, Step}
 use Rattle.executor_model.specs.DroppedAtRest.{IsDroppedAtRest, is_executor_drop}
-use Rattle.executor_model.specs.Good.{Good}
-use Rattle.executor_model.specs.Rows.{ousting_of}
 use Rattle.executor_model.specs.Steps.{Machine, begun, mine, run, stack, start, top}
 use Rattle.executor_model.specs.Trace.{Trace, has, is_accepted, is_drop_begun}
-use Rattle.executor_model.specs.World.{World, Done, log}
-use Rattle.executor_model.proofs.Awaiters.AwaitedClosing.{Swept, swept}
+use Rattle.executor_model.specs.{Doing.act, Good.Good, Rows.ousting_of, World.World, World.Done, World.log}
 use Rattle.executor_model.proofs.Awaiters.AwaitedSweeps.{dropping_of, rousing_of, shutting_urgent_of}
 use Rattle.executor_model.proofs.OneFuture.Telling.{accepted-counts, begun-has, fallen-counts}
 use Rattle.executor_model.proofs.Promises.CallPromises.{has-left, has-right}
-use Rattle.executor_model.proofs.Quiet.Calls.{is_end}
 use Rattle.executor_model.proofs.Quiet.Resting.{Deep, all-rest, deep, rests}
 use Rattle.executor_model.proofs.Steps.Deeds.{begins_one, grows-act, grows-begun, grows-react}
-use Rattle.executor_model.proofs.Steps.Lift.{good, good-start}
-use Rattle.executor_model.proofs.Steps.Tests.{left-false, right-false}
-use Rattle.executor_model.proofs.Steps.Ways.{Way, along}
 use Rattle.executor_model.proofs.Steps.Ways.Way.{acted, called, reacted}
-use Rattle.executor_model.proofs.Table.Entering.{counts, one-accepted}
-use Rattle.executor_model.proofs.Table.LeavingExecutions.{Placed, placed}
+use Rattle.executor_model.proofs.{Steps.QueuesByMark.any-shut, Awaiters.AwaitedClosing.Swept, Awaiters.AwaitedClosing.swept}
+use Rattle.executor_model.proofs.{Quiet.Calls.is_end, Steps.Lift.good, Steps.Lift.good-start, Steps.Tests.left-false}
+use Rattle.executor_model.proofs.{Steps.Tests.right-false, Steps.Ways.Way, Steps.Ways.along, Table.Entering.counts}
+use Rattle.executor_model.proofs.{Table.Entering.one-accepted, Table.LeavingExecutions.Placed, Table.LeavingExecutions.placed}
 
 -- whoever drops the executor begins its drop
 abbrev pub Begins : Trace → Type 0
 Begins es = has is_executor_drop es ≡ true → has is_drop_begun es ≡ true
 
 not-drop : (e : Event) → begins_one e ≡ false → is_executor_drop e ≡ false
-not-drop (event.CallBegun p c) z = absurd (cc)
+not-drop (Event.CallBegun p c) z = absurd (cc)
 not-drop _ z = refl
 
 none-drops : (more : Trace) → has begins_one more ≡ false → has is_executor_drop more ≡ false
@@ -62,12 +45,12 @@ begins-more es more z k h = ⊎_elim
     (sym (list_any-append is_executor_drop es more) ∙ h))
 
 call-begins : (p : ℕ) (w : World) (s : Machine) (c : Call) (more : Trace) →
-    (begun p (log w (event.CallBegun p c)) (mine (top (stack s p))) c).world.trace
-    ≡ (w.trace ++ event.CallBegun p c ∷ []) ++ more → has is_executor_drop (event.CallBegun p c ∷ []) ≡ true →
+    (begun p (log w (Event.CallBegun p c)) (mine (top (stack s p))) c).world.trace
+    ≡ (w.trace ++ Event.CallBegun p c ∷ []) ++ more → has is_executor_drop (Event.CallBegun p c ∷ []) ≡ true →
     has is_drop_begun more ≡ true
-call-begins p w s call.DropExecutor more t h =
-    let es : Trace = w.trace ++ event.CallBegun p call.DropExecutor ∷ [] in
-    let q : event.DropBegun p ∷ [] ≡ more = append_cancel_left es (event.DropBegun p ∷ []) more t in
+call-begins p w s Call.DropExecutor more t h =
+    let es : Trace = w.trace ++ Event.CallBegun p Call.DropExecutor ∷ [] in
+    let q : Event.DropBegun p ∷ [] ≡ more = append_cancel_left es (Event.DropBegun p ∷ []) more t in
     subst (λ (xs : Trace). has is_drop_begun xs ≡ true) q refl
 call-begins p w s _ more t h = absurd (cc)
 
@@ -80,32 +63,32 @@ begins-moves s p old rest d fine l e (acted t o q z) k =
     by o false n =
         let g = grows-act p t o s.world n in
         subst Begins (sym g.is) (begins-more s.world.trace g.more (none-drops g.more g.none_begins) k)
-    by (op.End a held) true n = begins-more s.world.trace (event.CallEnded p a ∷ []) refl k
+    by (Op.End a held) true n = begins-more s.world.trace (Event.CallEnded p a ∷ []) refl k
     by _ true n = absurd (cc)
 begins-moves s p old rest d fine l e (reacted o u a q z) k =
     let g = grows-react p o u s.world in
     subst (λ (x : Done). Begins x.world.trace) (sym z)
     (subst Begins (sym g.is) (begins-more s.world.trace g.more (none-drops g.more g.none_begins) k))
 begins-moves s p old rest d fine l e (called c q r n z) k =
-    let w : World = log s.world (event.CallBegun p c) in
+    let w : World = log s.world (Event.CallBegun p c) in
     let es : Trace = s.world.trace in
     let g = grows-begun p w (mine (top (stack s p))) c in
     subst (λ (x : Done). Begins x.world.trace) (sym z) (subst Begins (sym g.is) (λ h. ⊎_elim
-    (λ (a : has is_executor_drop (es ++ event.CallBegun p c ∷ []) ≡ true). ⊎_elim
+    (λ (a : has is_executor_drop (es ++ Event.CallBegun p c ∷ []) ≡ true). ⊎_elim
     (λ (b : has is_executor_drop es ≡ true).
-    has-left is_drop_begun (es ++ event.CallBegun p c ∷ []) g.more
-    (has-left is_drop_begun es (event.CallBegun p c ∷ []) (k b)))
-    (λ (b : has is_executor_drop (event.CallBegun p c ∷ []) ≡ true).
-    has-right is_drop_begun (es ++ event.CallBegun p c ∷ []) g.more (call-begins p s.world s c g.more g.is b))
-    (either (has is_executor_drop es) _ (sym (list_any-append is_executor_drop es (event.CallBegun p c ∷ [])) ∙ a)))
+    has-left is_drop_begun (es ++ Event.CallBegun p c ∷ []) g.more
+    (has-left is_drop_begun es (Event.CallBegun p c ∷ []) (k b)))
+    (λ (b : has is_executor_drop (Event.CallBegun p c ∷ []) ≡ true).
+    has-right is_drop_begun (es ++ Event.CallBegun p c ∷ []) g.more (call-begins p s.world s c g.more g.is b))
+    (either (has is_executor_drop es) _ (sym (list_any-append is_executor_drop es (Event.CallBegun p c ∷ [])) ∙ a)))
     (λ (a : has is_executor_drop g.more ≡ true).
     let no : true ≡ false = sym a ∙ none-drops g.more g.none_begins in absurd (cc))
-    (either (has is_executor_drop (es ++ event.CallBegun p c ∷ [])) (has is_executor_drop g.more)
-    (sym (list_any-append is_executor_drop (es ++ event.CallBegun p c ∷ []) g.more) ∙ h))))
+    (either (has is_executor_drop (es ++ Event.CallBegun p c ∷ [])) (has is_executor_drop g.more)
+    (sym (list_any-append is_executor_drop (es ++ Event.CallBegun p c ∷ []) g.more) ∙ h))))
 
 begins : (limit : ℕ) (kind : Kind) (n : ℕ) (ts : List Step) → Begins (run ts (start limit kind n)).world.trace
 begins limit kind n ts = along (λ (s : Machine). Begins s.world.trace) begins-moves
-    (λ s p a held below l e k. begins-more s.world.trace (event.CallEnded p a ∷ []) refl k) ts (start limit kind n)
+    (λ s p a held below l e k. begins-more s.world.trace (Event.CallEnded p a ∷ []) refl k) ts (start limit kind n)
     (good-start limit kind n) (λ h. absurd (cc))
 
 closes : (a b c d : ℕ) (shut : Bool) → a ≡ 0 → b ≡ 0 → c ≡ 0 → d ≡ 0 →

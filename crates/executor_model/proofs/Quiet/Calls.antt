@@ -1,82 +1,53 @@
 -- For quiet_emptiness_is_exact, outputs_are_kept, awaiters_are_kept and own_queues_agree.
 -- How many calls of a party are in progress: as many as it has begun and not ended,
 -- and as many as its stack has still to answer.
-use Rattle.std.proofs.Common.{◌≡◌, ℕ, ◌+◌, List, [], ◌∷◌, ◌++◌, length}
-use Rattle.std.proofs.Common.{Bool, true, false, cond, refl, sym, ap, ◌∙◌, arith}
-use Rattle.std.proofs.lemmas.List.{append_assoc}
-use Rattle.std.proofs.lemmas.List.Sums.{sum_by_push}
+use Rattle.std.proofs.Common.{◌≡◌, ℕ, ◌+◌, List, [], ◌∷◌, ◌++◌, length, Bool, true, false, cond, refl, sym, ap, ◌∙◌, arith}
 use Rattle.std.specs.Prelude.{Option, Some, None, count_by}
-use Rattle.executor_parts.specs.declared.mark.Mark.TheVariants.{Plain, Urgent}
-use Rattle.executor_parts.specs.Marks.{first_of}
-use Rattle.executor_model.specs.declared.op.Look.{Look}
-use Rattle.executor_model.specs.declared.op.Look.TheVariants.{First, Second}
-use Rattle.executor_parts.specs.declared.mark.Mark.{Mark}
-use Rattle.task_moves.specs.declared.moves.owed.Owed.{Owed}
-use Rattle.task_moves.specs.declared.moves.owed.Move.TheVariants as move
+use Rattle.std.{proofs.lemmas.List.append_assoc, proofs.lemmas.List.Sums.sum_by_push}
 use Rattle.task_moves.specs.declared.moves.owed.Answer.{Answer}
-use Rattle.task_moves.specs.declared.moves.owed.Moved.{Moved}
-use Rattle.task_moves.specs.Moves as moves
-use Rattle.executor_model.specs.declared.event.Event.{Event}
-use Rattle.executor_model.specs.declared.event.Event.TheVariants as event
-use Rattle.executor_model.specs.declared.op.Waker.{Waker}
-use Rattle.executor_model.specs.declared.op.Waker.TheVariants.{Task, Outside}
-use Rattle.executor_model.specs.declared.op.Hold.{Hold}
-use Rattle.executor_model.specs.declared.op.Polled.TheVariants as of
-use Rattle.executor_model.specs.declared.op.Op.{Op}
-use Rattle.executor_model.specs.declared.op.Op.TheVariants as op
-use Rattle.executor_model.specs.declared.op.ClosingOp.TheVariants as closing_op
-use Rattle.executor_model.specs.declared.op.HandleOp.TheVariants as handle_op
-use Rattle.executor_model.specs.declared.op.ListOp.TheVariants as list_op
-use Rattle.executor_model.specs.declared.op.QueueOp.TheVariants as queue_op
-use Rattle.executor_model.specs.declared.op.RunOp.TheVariants as run_op
-use Rattle.executor_model.specs.declared.op.SleeperOp.TheVariants as sleeper_op
-use Rattle.executor_model.specs.declared.op.TableOp.TheVariants as table_op
-use Rattle.executor_model.specs.declared.op.TickOp.TheVariants as tick_op
-use Rattle.executor_model.specs.declared.op.UserOp.TheVariants as user_op
-use Rattle.executor_model.specs.declared.op.WakerOp.TheVariants as waker_op
-use Rattle.executor_model.specs.Trace.{Trace}
-use Rattle.executor_model.specs.Quiet.{begins_call, ends_call}
+use Rattle.executor_parts.specs.Marks.{first_of}
+use Rattle.executor_model.proofs.Types.{Plain, Urgent, Look, First, Second, Mark, Owed, Move, Moved, Event, Waker, Task}
+use Rattle.executor_model.proofs.Types.{Outside, Hold, Polled, Op, ClosingOp, HandleOp, ListOp, QueueOp, RunOp, SleeperOp}
+use Rattle.executor_model.specs.Acts.{append_by, take_by, enter_by, leave_by, copy_by, look_by, look_again_by, copy_awaiter_by}
+use Rattle.executor_model.specs.Acts.{register_by, let_go, end_register_by, notify_by, call_awaiter, close, closing_ops}
 use Rattle.executor_model.specs.World.{World, Done, log, log_if, task, put, awaiter_of}
 use Rattle.executor_model.specs.Carried.{owed_ops, awaiter_ops}
-use Rattle.executor_model.specs.Acts.{append_by, take_by, enter_by, leave_by, copy_by, look_by, look_again_by}
-use Rattle.executor_model.specs.Acts.{copy_awaiter_by, register_by, let_go, end_register_by, notify_by}
-use Rattle.executor_model.specs.Acts.{call_awaiter, close, closing_ops, drop_next_by, take_turn, wake, wake_next_by, drain_by}
-use Rattle.executor_model.specs.Weights.{same, weigh}
-use Rattle.executor_model.proofs.Steps.Lists.{weigh-append}
+use Rattle.executor_model.specs.Acts.{drop_next_by, take_turn, wake, wake_next_by, drain_by, leak_next_by, leak_out_by}
+use Rattle.executor_model.specs.{Trace.Trace, Quiet.begins_call, Quiet.ends_call, Weights.same, Weights.weigh}
 use Rattle.executor_model.proofs.Steps.Asides.{aside-entry, Aside, aside-awaiter, aside-owed, aside-let_go, aside-closing}
-use Rattle.executor_model.proofs.OneFuture.Telling.{same-cond}
-use Rattle.executor_model.specs.Acts.{leak_next_by, leak_out_by}
-use Rattle.executor_model.proofs.Steps.Asides.{aside-leak_next, aside-leak_out}
+use Rattle.executor_model.proofs.{Types.TableOp, Types.TickOp, Types.UserOp, Types.WakerOp, Steps.Lists.weigh-append}
+use Rattle.executor_model.proofs.{Steps.Asides.aside-leak_next, Steps.Asides.aside-leak_out, OneFuture.Telling.same-cond}
+use Rattle.task_moves.specs.Moves as moves
 
 -- what has still to answer its call
 abbrev pub calling_of : Op → ℕ
-calling_of (op.Table (table_op.Enter mark)) = 1
-calling_of (op.Queue queue_op.TakeTurn) = 1
-calling_of (op.Queue (queue_op.Take look)) = 1
-calling_of (op.Table table_op.LookAtTable) = 1
-calling_of (op.Waker (waker_op.CopyWaker f held)) = 1
-calling_of (op.Handle (handle_op.Look f a)) = 1
-calling_of (op.Handle (handle_op.CopyAwaiter f a)) = 1
-calling_of (op.Handle (handle_op.Register f a k)) = 1
-calling_of (op.Handle (handle_op.EndRegister f a k)) = 1
-calling_of (op.Handle (handle_op.LookAgain f)) = 1
-calling_of (op.Tick tick_op.MakeTick) = 1
-calling_of (op.Tick (tick_op.Search s)) = 1
-calling_of (op.Tick (tick_op.Look s look)) = 1
-calling_of (op.Tick (tick_op.CopyWaker s)) = 1
-calling_of (op.Tick (tick_op.FallAsleep s)) = 1
-calling_of (op.User (user_op.PollOwn x)) = 1
-calling_of (op.List (list_op.LockWrite s)) = 1
-calling_of (op.List (list_op.Write s)) = 1
-calling_of (op.List (list_op.LockRead x)) = 1
-calling_of (op.Steal o) = 1
-calling_of (op.Run run_op.MakeRoom) = 1
-calling_of (op.Run (run_op.TakeTurn x)) = 1
-calling_of (op.Run (run_op.SearchCommon x look)) = 1
-calling_of (op.Run (run_op.LookOwn x at left)) = 1
-calling_of (op.Run (run_op.WakeOwn x)) = 1
-calling_of (op.Run (run_op.Reschedule r a)) = 1
-calling_of (op.End r held) = 1
+calling_of (Op.Table (TableOp.Enter mark)) = 1
+calling_of (Op.Queue QueueOp.TakeTurn) = 1
+calling_of (Op.Queue (QueueOp.Take look)) = 1
+calling_of (Op.Table TableOp.LookAtTable) = 1
+calling_of (Op.Waker (WakerOp.CopyWaker f held)) = 1
+calling_of (Op.Handle (HandleOp.Look f a)) = 1
+calling_of (Op.Handle (HandleOp.CopyAwaiter f a)) = 1
+calling_of (Op.Handle (HandleOp.Register f a k)) = 1
+calling_of (Op.Handle (HandleOp.EndRegister f a k)) = 1
+calling_of (Op.Handle (HandleOp.LookAgain f)) = 1
+calling_of (Op.Tick TickOp.MakeTick) = 1
+calling_of (Op.Tick (TickOp.Search s)) = 1
+calling_of (Op.Tick (TickOp.Look s look)) = 1
+calling_of (Op.Tick (TickOp.CopyWaker s)) = 1
+calling_of (Op.Tick (TickOp.FallAsleep s)) = 1
+calling_of (Op.User (UserOp.PollOwn x)) = 1
+calling_of (Op.List (ListOp.LockWrite s)) = 1
+calling_of (Op.List (ListOp.Write s)) = 1
+calling_of (Op.List (ListOp.LockRead x)) = 1
+calling_of (Op.Steal o) = 1
+calling_of (Op.Run RunOp.MakeRoom) = 1
+calling_of (Op.Run (RunOp.TakeTurn x)) = 1
+calling_of (Op.Run (RunOp.SearchCommon x look)) = 1
+calling_of (Op.Run (RunOp.LookOwn x at left)) = 1
+calling_of (Op.Run (RunOp.WakeOwn x)) = 1
+calling_of (Op.Run (RunOp.Reschedule r a)) = 1
+calling_of (Op.End r held) = 1
 calling_of _ = 0
 
 unfoldable pub begun_by : ℕ → Trace → ℕ
@@ -86,19 +57,19 @@ unfoldable pub ended_by : ℕ → Trace → ℕ
 ended_by q es = count_by (ends_call q) es
 
 abbrev pub begin_of : ℕ → Event → ℕ
-begin_of q (event.CallBegun p c) = same q p
+begin_of q (Event.CallBegun p c) = same q p
 begin_of q _ = 0
 
 abbrev pub end_of : ℕ → Event → ℕ
-end_of q (event.CallEnded p r) = same q p
+end_of q (Event.CallEnded p r) = same q p
 end_of q _ = 0
 
 one-begins : (q : ℕ) (e : Event) → cond (begins_call q e) 1 0 ≡ begin_of q e
-one-begins q (event.CallBegun p c) = sym (same-cond q p)
+one-begins q (Event.CallBegun p c) = sym (same-cond q p)
 one-begins q _ = refl
 
 one-ends : (q : ℕ) (e : Event) → cond (ends_call q e) 1 0 ≡ end_of q e
-one-ends q (event.CallEnded p r) = sym (same-cond q p)
+one-ends q (Event.CallEnded p r) = sym (same-cond q p)
 one-ends q _ = refl
 
 pub begun-push : (q : ℕ) (es : Trace) (e : Event) → begun_by q (es ++ e ∷ []) ≡ begun_by q es + begin_of q e
@@ -200,7 +171,7 @@ none-owed f there o = aside-owed calling_of no-call f there o
 -- each thing to do, but for the end of a call
 
 pub calls-append : (b : Bool) (w : World) (mark : Mark) (f : ℕ) →
-    Calls w (op.Queue (queue_op.Append f)) (append_by b w mark f)
+    Calls w (Op.Queue (QueueOp.Append f)) (append_by b w mark f)
 calls-append true w mark f = inside w _ _ refl (steady-same _ _ refl) refl
 calls-append false w mark f = inside w _ _ refl (steady-same _ _ refl) refl
 
@@ -209,105 +180,105 @@ pub calls-turn : (p : ℕ) (w : World) (o : Op) (looks : Look → Op) → callin
     ((look : Look) → calling_of (looks look) ≡ 1) → Calls w o (take_turn p w looks)
 calls-turn p w o looks z n =
     answers w o (take_turn p w looks) z
-    (steady-log w _ (event.Looked p (first_of w.urgent_turns)) refl (λ q. refl) (λ q. refl)) (single _ (n _))
+    (steady-log w _ (Event.Looked p (first_of w.urgent_turns)) refl (λ q. refl) (λ q. refl)) (single _ (n _))
 
-pub calls-take : (look : Look) (q : List ℕ) (w : World) → Calls w (op.Queue (queue_op.Take look)) (take_by w look q)
+pub calls-take : (look : Look) (q : List ℕ) (w : World) → Calls w (Op.Queue (QueueOp.Take look)) (take_by w look q)
 calls-take (First mark) [] w = answers w _ _ refl (steady-same _ _ refl) (single _ refl)
 calls-take (Second mark) [] w = answers w _ _ refl (steady-same _ _ refl) (single _ refl)
 calls-take look (f ∷ rest) w =
     answers w _ _ refl (steady-same _ _ refl)
-    (then (op.Sleeper sleeper_op.ExchangeFlag ∷ op.Move move.TakeUp f ∷ []) _ refl refl)
+    (then (Op.Sleeper SleeperOp.ExchangeFlag ∷ Op.Move Move.TakeUp f ∷ []) _ refl refl)
 
-pub calls-enter : (b c : Bool) (mark : Mark) (p : ℕ) (w : World) → Calls w (op.Table (table_op.Enter mark)) (enter_by b c mark p w)
+pub calls-enter : (b c : Bool) (mark : Mark) (p : ℕ) (w : World) → Calls w (Op.Table (TableOp.Enter mark)) (enter_by b c mark p w)
 calls-enter true c mark p w = answers w _ _ refl (steady-same _ _ refl) (single _ refl)
 calls-enter false true mark p w = answers w _ _ refl (steady-same _ _ refl) (single _ refl)
 calls-enter false false mark p w =
-    answers w _ _ refl (steady-log _ _ (event.Accepted p (length w.tasks)) refl (λ q. refl) (λ q. refl))
-    (then (op.Queue (queue_op.Append (length w.tasks)) ∷ []) _ refl refl)
+    answers w _ _ refl (steady-log _ _ (Event.Accepted p (length w.tasks)) refl (λ q. refl) (λ q. refl))
+    (then (Op.Queue (QueueOp.Append (length w.tasks)) ∷ []) _ refl refl)
 
-pub calls-leave : (b : Bool) (w : World) (f : ℕ) → Calls w (op.Table (table_op.LeaveTable f)) (leave_by b w f)
+pub calls-leave : (b : Bool) (w : World) (f : ℕ) → Calls w (Op.Table (TableOp.LeaveTable f)) (leave_by b w f)
 calls-leave true w f = inside w _ _ refl (steady-same _ _ refl) (aside-entry calling_of no-call w.is_static f)
 calls-leave false w f = inside w _ _ refl (steady-same _ _ refl) refl
 
 pub calls-copy : (b : Bool) (w : World) (f : ℕ) (held : Hold) →
-    Calls w (op.Waker (waker_op.CopyWaker f held)) (copy_by b w f held)
+    Calls w (Op.Waker (WakerOp.CopyWaker f held)) (copy_by b w f held)
 calls-copy true w f held = answers w _ _ refl (steady-same _ _ refl) (single _ refl)
 calls-copy false w f held = answers w _ _ refl (steady-same _ _ refl) (single _ refl)
 
 -- the poll of a handle that is answered
 pub calls-answered : (o : Option Answer) (p : ℕ) (w v : World) (f : ℕ) (a : Waker) (m : Moved) →
-    Calls w (op.Handle (handle_op.Look f a)) (look_by o p w f a m)
+    Calls w (Op.Handle (HandleOp.Look f a)) (look_by o p w f a m)
 calls-answered None p w v f a m = answers w _ _ refl (steady-same _ _ refl) (single _ refl)
 calls-answered (Some x) p w v f a m =
-    answers w _ _ refl (steady-and w (put (log w (event.HandlePolled p f)) f m.state) _
-    (steady-log w _ (event.HandlePolled p f) refl (λ q. refl) (λ q. refl))
-    (steady-log_if _ (put (log w (event.HandlePolled p f)) f m.state) _ (event.OutputGiven p f) refl (λ q. refl)
+    answers w _ _ refl (steady-and w (put (log w (Event.HandlePolled p f)) f m.state) _
+    (steady-log w _ (Event.HandlePolled p f) refl (λ q. refl) (λ q. refl))
+    (steady-log_if _ (put (log w (Event.HandlePolled p f)) f m.state) _ (Event.OutputGiven p f) refl (λ q. refl)
     (λ q. refl))) (then (awaiter_ops f m.owed.awaiter) _ (aside-awaiter calling_of no-call f m.owed.awaiter) refl)
 
 pub calls-again : (x k c : Bool) (p : ℕ) (w : World) (f : ℕ) →
-    Calls w (op.Handle (handle_op.LookAgain f))
+    Calls w (Op.Handle (HandleOp.LookAgain f))
     (look_again_by (moves.look_again_by x k c (task w f)).owed.answer p w f (moves.look_again_by x k c (task w f)))
 calls-again true true c p w f = answers w _ _ refl (steady-same _ _ refl) (single _ refl)
 calls-again true false c p w f =
-    answers w _ _ refl (steady-same _ _ refl) (then (op.Handle (handle_op.Notify f true) ∷ []) _ refl refl)
+    answers w _ _ refl (steady-same _ _ refl) (then (Op.Handle (HandleOp.Notify f true) ∷ []) _ refl refl)
 calls-again false k false p w f = answers w _ _ refl (steady-same _ _ refl) (single _ refl)
 calls-again false k true p w f =
-    answers w _ _ refl (steady-log _ _ (event.OutputGiven p f) refl (λ q. refl) (λ q. refl))
+    answers w _ _ refl (steady-log _ _ (Event.OutputGiven p f) refl (λ q. refl) (λ q. refl))
     (then (awaiter_ops f (moves.look_again_by false k true (task w f)).owed.awaiter) _
     (aside-awaiter calling_of no-call f _) refl)
 
 pub calls-copy_awaiter : (b : Bool) (p : ℕ) (w : World) (f : ℕ) (a : Waker) →
-    Calls w (op.Handle (handle_op.CopyAwaiter f a)) (copy_awaiter_by b p w f a)
+    Calls w (Op.Handle (HandleOp.CopyAwaiter f a)) (copy_awaiter_by b p w f a)
 calls-copy_awaiter true p w f a = answers w _ _ refl (steady-same _ _ refl) (single _ refl)
 calls-copy_awaiter false p w f (Task k) =
-    answers w _ _ refl (steady-log _ _ (event.HandlePolled p f) refl (λ q. refl) (λ q. refl)) (single _ refl)
+    answers w _ _ refl (steady-log _ _ (Event.HandlePolled p f) refl (λ q. refl) (λ q. refl)) (single _ refl)
 calls-copy_awaiter false p w f (Outside x) =
-    answers w _ _ refl (steady-log _ _ (event.HandlePolled p f) refl (λ q. refl) (λ q. refl)) (single _ refl)
+    answers w _ _ refl (steady-log _ _ (Event.HandlePolled p f) refl (λ q. refl) (λ q. refl)) (single _ refl)
 
 pub calls-register : (b : Bool) (w : World) (f : ℕ) (a : Waker) (k : ℕ) →
-    Calls w (op.Handle (handle_op.Register f a k)) (register_by b w f a k)
+    Calls w (Op.Handle (HandleOp.Register f a k)) (register_by b w f a k)
 calls-register true w f a k =
-    answers w _ _ refl (steady-same _ _ refl) (then (op.Waker (waker_op.CallAwaiter f a k) ∷ []) _ refl refl)
+    answers w _ _ refl (steady-same _ _ refl) (then (Op.Waker (WakerOp.CallAwaiter f a k) ∷ []) _ refl refl)
 calls-register false w f a k = answers w _ _ refl (steady-same _ _ refl) (single _ refl)
 
 pub calls-end_register : (b : Bool) (w : World) (f : ℕ) (a : Waker) (k : ℕ) →
-    Calls w (op.Handle (handle_op.EndRegister f a k)) (end_register_by b w f a k)
+    Calls w (Op.Handle (HandleOp.EndRegister f a k)) (end_register_by b w f a k)
 calls-end_register true w f a k =
     answers w _ _ refl (steady-same _ _ refl)
-    (then (op.Waker (waker_op.CallAwaiter f a k) ∷ let_go (awaiter_of w f)) _
+    (then (Op.Waker (WakerOp.CallAwaiter f a k) ∷ let_go (awaiter_of w f)) _
     (omega (arith, aside-let_go calling_of no-call (awaiter_of w f))) refl)
 calls-end_register false w f a k =
     answers w _ _ refl (steady-same _ _ refl)
     (then (let_go (awaiter_of w f)) _ (aside-let_go calling_of no-call (awaiter_of w f)) refl)
 
 pub calls-notify : (b : Bool) (w : World) (f : ℕ) (mine : Bool) →
-    Calls w (op.Handle (handle_op.Notify f mine)) (notify_by b w f mine)
+    Calls w (Op.Handle (HandleOp.Notify f mine)) (notify_by b w f mine)
 calls-notify true w f mine = inside w _ _ refl (steady-same _ _ refl) refl
 calls-notify false w f mine = inside w _ _ refl (steady-same _ _ refl) refl
 
 pub steady-wake : (p : ℕ) (w : World) (f : ℕ) → Steady w (wake p w f).world
-steady-wake p w f = steady-log_if _ w _ (event.Woken p f) refl (λ q. refl) (λ q. refl)
+steady-wake p w f = steady-log_if _ w _ (Event.Woken p f) refl (λ q. refl) (λ q. refl)
 
 pub none-wake : (p : ℕ) (w : World) (f : ℕ) → weigh calling_of (wake p w f).next ≡ 0
 none-wake p w f = none-owed f _ (moves.wake (task w f)).owed
 
 pub calls-call : (p : ℕ) (w : World) (f : ℕ) (a : Waker) (k : ℕ) →
-    Calls w (op.Waker (waker_op.CallAwaiter f a k)) (call_awaiter p w f a k)
+    Calls w (Op.Waker (WakerOp.CallAwaiter f a k)) (call_awaiter p w f a k)
 calls-call p w f (Task m) k =
-    inside w _ _ refl (steady-and w (log w (event.WakerCalled p (of.Handle f) k (Task m))) _
-    (steady-log w _ (event.WakerCalled p (of.Handle f) k (Task m)) refl (λ q. refl) (λ q. refl))
-    (steady-wake p (log w (event.WakerCalled p (of.Handle f) k (Task m))) m))
-    (none-wake p (log w (event.WakerCalled p (of.Handle f) k (Task m))) m)
+    inside w _ _ refl (steady-and w (log w (Event.WakerCalled p (Polled.Handle f) k (Task m))) _
+    (steady-log w _ (Event.WakerCalled p (Polled.Handle f) k (Task m)) refl (λ q. refl) (λ q. refl))
+    (steady-wake p (log w (Event.WakerCalled p (Polled.Handle f) k (Task m))) m))
+    (none-wake p (log w (Event.WakerCalled p (Polled.Handle f) k (Task m))) m)
 calls-call p w f (Outside x) k =
-    inside w _ _ refl (steady-log _ _ (event.WakerCalled p (of.Handle f) k (Outside x)) refl (λ q. refl) (λ q. refl))
+    inside w _ _ refl (steady-log _ _ (Event.WakerCalled p (Polled.Handle f) k (Outside x)) refl (λ q. refl) (λ q. refl))
     refl
 
-pub calls-drop_next : (p : ℕ) (w : World) (ls : List ℕ) → Calls w (op.Closing closing_op.DropNext) (drop_next_by p w ls)
+pub calls-drop_next : (p : ℕ) (w : World) (ls : List ℕ) → Calls w (Op.Closing ClosingOp.DropNext) (drop_next_by p w ls)
 calls-drop_next p w [] = inside w _ _ refl (steady-same _ _ refl) refl
-calls-drop_next p w (f ∷ rest) = inside w _ _ refl (steady-log _ _ (event.Dropped p f) refl (λ q. refl) (λ q. refl))
+calls-drop_next p w (f ∷ rest) = inside w _ _ refl (steady-log _ _ (Event.Dropped p f) refl (λ q. refl) (λ q. refl))
     (omega (arith, aside-closing calling_of (λ o. refl) rest (w.waking ++ f ∷ [])))
 
-pub calls-wake_next : (p : ℕ) (w : World) (ws : List ℕ) → Calls w (op.Closing closing_op.WakeNext) (wake_next_by p w ws)
+pub calls-wake_next : (p : ℕ) (w : World) (ws : List ℕ) → Calls w (Op.Closing ClosingOp.WakeNext) (wake_next_by p w ws)
 calls-wake_next p w [] = inside w _ _ refl (steady-same _ _ refl) refl
 calls-wake_next p w (f ∷ rest) =
     inside w _ _ refl (steady-and w (record w { waking = rest }) _ (steady-same w (record w { waking = rest }) refl)
@@ -315,31 +286,31 @@ calls-wake_next p w (f ∷ rest) =
     (none-both (wake p (record w { waking = rest }) f).next (closing_ops [] rest)
     (none-wake p (record w { waking = rest }) f) (aside-closing calling_of (λ o. refl) [] rest))
 
-pub calls-leak_out : (b : Bool) (w : World) → Calls w (op.Closing closing_op.LeakOut) (leak_out_by b w)
+pub calls-leak_out : (b : Bool) (w : World) → Calls w (Op.Closing ClosingOp.LeakOut) (leak_out_by b w)
 calls-leak_out true w = inside w _ _ refl (steady-same _ _ refl) refl
 calls-leak_out false w = inside w _ _ refl (steady-same _ _ refl) (aside-leak_out calling_of refl false w)
 
 pub calls-leak_next : (b : Bool) (p : ℕ) (w : World) (ws : List ℕ) →
-    Calls w (op.Closing closing_op.LeakNext) (leak_next_by b p w ws)
+    Calls w (Op.Closing ClosingOp.LeakNext) (leak_next_by b p w ws)
 calls-leak_next true p w ws = inside w _ _ refl (steady-same _ _ refl) refl
 calls-leak_next false p w [] = inside w _ _ refl (steady-same _ _ refl) refl
 calls-leak_next false p w (f ∷ rest) =
     let v : World = record w { waking = rest } in
     let u : World = (wake p v f).world in
-    inside w _ _ refl (steady-and w u (log u (event.Leaked p f))
+    inside w _ _ refl (steady-and w u (log u (Event.Leaked p f))
     (steady-and w v u (steady-same w v refl) (steady-wake p v f))
-    (steady-log u _ (event.Leaked p f) refl (λ q. refl) (λ q. refl)))
+    (steady-log u _ (Event.Leaked p f) refl (λ q. refl) (λ q. refl)))
     (aside-leak_next calling_of refl none-wake false p w (f ∷ rest))
 
-pub calls-close : (mark : Mark) (w : World) → Calls w (op.Closing (closing_op.Close mark)) (close w mark)
+pub calls-close : (mark : Mark) (w : World) → Calls w (Op.Closing (ClosingOp.Close mark)) (close w mark)
 calls-close Urgent w = inside w _ _ refl (steady-same _ _ refl) refl
 calls-close Plain w = inside w _ _ refl (steady-same _ _ refl) refl
 
-pub calls-drain : (mark : Mark) (p : ℕ) (w : World) (q : List ℕ) → Calls w (op.Closing (closing_op.Drain mark)) (drain_by p w mark q)
+pub calls-drain : (mark : Mark) (p : ℕ) (w : World) (q : List ℕ) → Calls w (Op.Closing (ClosingOp.Drain mark)) (drain_by p w mark q)
 calls-drain Urgent p w [] = inside w _ _ refl (steady-same _ _ refl) refl
-calls-drain Plain p w [] = inside w _ _ refl (steady-log _ _ (event.DropEnded p) refl (λ q. refl) (λ q. refl)) refl
+calls-drain Plain p w [] = inside w _ _ refl (steady-log _ _ (Event.DropEnded p) refl (λ q. refl) (λ q. refl)) refl
 calls-drain mark p w (f ∷ rest) = inside w _ _ refl (steady-same _ _ refl) refl
 
 abbrev pub is_end : Op → Bool
-is_end (op.End r held) = true
+is_end (Op.End r held) = true
 is_end _ = false

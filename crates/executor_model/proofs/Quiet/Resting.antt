@@ -1,52 +1,22 @@
 -- For quiet_emptiness_is_exact, outputs_are_kept, awaiters_are_kept and own_queues_agree.
 -- At a quiet trace no party has anything to do.
-use Rattle.std.proofs.Common.{◌≡◌, ◌≢◌, ◌⊎◌, ℕ, zero, suc, ◌+◌, ◌<◌, List, [], ◌∷◌, ◌++◌, length, set, get_or}
-use Rattle.std.proofs.Common.{Bool, true, false, ◌&&◌, cond, eqb, refl, sym, ap, ◌∙◌, subst, inl}
-use Rattle.std.proofs.Common.{inr, ⊎_elim, arith, get_or-set_same, get_or-set_other}
+use Rattle.std.proofs.Common.{◌≡◌, ◌≢◌, ◌⊎◌, ℕ, zero, suc, ◌+◌, ◌<◌, List, [], ◌∷◌, ◌++◌, length, set, get_or, Bool, true}
+use Rattle.std.proofs.Common.{false, ◌&&◌, cond, eqb, refl, sym, ap, ◌∙◌, subst, inl, inr, ⊎_elim, arith, get_or-set_same}
+use Rattle.std.proofs.Common.{get_or-set_other}
 use Rattle.std.specs.Prelude.{Option, Some, None, reverse}
-use mathlib.Core.List.{reverse_aux}
-use Rattle.executor_model.specs.declared.kind.Kind.{Kind}
-use Rattle.executor_model.specs.declared.call.Call.{Call}
-use Rattle.executor_model.specs.declared.call.Call.TheVariants as call
-use Rattle.executor_model.specs.declared.call.Reply.{Reply}
-use Rattle.executor_model.specs.declared.event.Answer.TheVariants as answer
-use Rattle.executor_model.specs.declared.event.Event.TheVariants as event
-use Rattle.executor_model.specs.declared.op.Hold.{Hold}
-use Rattle.executor_model.specs.declared.op.Op.{Op}
-use Rattle.executor_model.specs.declared.op.Op.TheVariants as op
-use Rattle.executor_model.specs.declared.op.ClosingOp.TheVariants as closing_op
-use Rattle.executor_model.specs.declared.op.HandleOp.TheVariants as handle_op
-use Rattle.task_moves.specs.declared.moves.owed.Move.TheVariants as move
-use Rattle.executor_model.specs.declared.op.ListOp.TheVariants as list_op
-use Rattle.executor_model.specs.declared.op.QueueOp.TheVariants as queue_op
-use Rattle.executor_model.specs.declared.op.RunOp.TheVariants as run_op
-use Rattle.executor_model.specs.declared.op.TickOrRun.TheVariants as tick_or_run
-use Rattle.executor_model.specs.declared.op.SleeperOp.TheVariants as sleeper_op
-use Rattle.executor_model.specs.declared.op.TableOp.TheVariants as table_op
-use Rattle.executor_model.specs.declared.op.TickOp.TheVariants as tick_op
-use Rattle.executor_model.specs.declared.op.UserOp.TheVariants as user_op
-use Rattle.executor_model.specs.declared.op.WakerOp.TheVariants as waker_op
-use Rattle.executor_model.specs.declared.step.Hint.{Hint}
-use Rattle.executor_model.specs.declared.step.Step.{Step}
-use Rattle.executor_model.specs.declared.step.UserEnd.{UserEnd}
-use Rattle.executor_model.specs.declared.step.UserEnd.TheVariants as end
-use Rattle.executor_model.specs.Trace.{Trace}
-use Rattle.executor_model.specs.Quiet.{IsQuiet}
+use Rattle.executor_model.proofs.Types.{Kind, Call, Reply, Answer, Event, Hold, Op, ClosingOp, HandleOp, Move, ListOp, QueueOp}
+use Rattle.executor_model.proofs.Types.{RunOp, TickOrRun, SleeperOp, TableOp, TickOp, UserOp, WakerOp, Hint, Step, UserEnd}
+use Rattle.executor_model.specs.Steps.{Machine, stack, run, start, idle, mine, future_of, top, is_some, has_all, accepts, begun}
 use Rattle.executor_model.specs.World.{World, Done, done, log, run_of}
-use Rattle.executor_model.specs.Doing.{act}
 use Rattle.executor_model.specs.Weights.{same, weigh, weigh_all}
-use Rattle.executor_model.specs.Good.{Good}
-use Rattle.executor_model.specs.Steps.{Machine, stack, run, start, idle, mine, future_of, top, is_some}
-use Rattle.executor_model.specs.Steps.{has_all}
-use Rattle.executor_model.specs.Steps.{accepts, begun, react, with_future, kept}
-use Rattle.executor_model.proofs.Steps.Lists.{same_cases, weigh-append, weigh-reverse}
-use Rattle.executor_model.proofs.Steps.Lift.{unsettled, good-start, none_refused}
-use Rattle.executor_model.proofs.Steps.Ways.{Way, along}
-use Rattle.executor_model.proofs.Steps.Ways.Way.{acted, reacted, called}
+use Rattle.executor_model.specs.{Trace.Trace, Quiet.IsQuiet, Doing.act, Good.Good, Steps.react, Steps.with_future, Steps.kept}
 use Rattle.executor_model.proofs.Quiet.Calls.{calling_of, begun_by, ended_by, begun-push, ended-push, Steady, steady-same}
+use Rattle.executor_model.proofs.Steps.Lists.{same_cases, weigh-append, weigh-reverse}
 use Rattle.executor_model.proofs.Quiet.Calls.{steady-log, Answering, Calls, answers, inside, single, then, is_end}
-use Rattle.executor_model.proofs.Quiet.RunsCalls.{one-drop, one-poll}
-use Rattle.executor_model.proofs.Quiet.CallsGroups.{calls-act}
+use Rattle.executor_model.proofs.{Steps.Lift.unsettled, Steps.Lift.good-start, Steps.Lift.none_refused, Steps.Ways.Way}
+use Rattle.executor_model.proofs.{Steps.Ways.along, Steps.Ways.Way.acted, Steps.Ways.Way.reacted, Steps.Ways.Way.called}
+use Rattle.executor_model.proofs.{Quiet.RunsCalls.one-drop, Quiet.RunsCalls.one-poll, Quiet.CallsGroups.calls-act}
+use mathlib.Core.List.{reverse_aux}
 
 -- a stack that is not empty has at its bottom what answers its first call
 abbrev pub Grounded : List Op → Type 0
@@ -81,37 +51,37 @@ counts-answering next a =
     ap (weigh calling_of) a.is ∙ omega (arith, weigh-append calling_of a.front (a.last ∷ []), a.none, a.call)
 
 pub calling-is : (o : Op) → (calling_of o ≡ 0) ⊎ (calling_of o ≡ 1)
-calling-is (op.Table (table_op.Enter mark)) = inr refl
-calling-is (op.Queue queue_op.TakeTurn) = inr refl
-calling-is (op.Queue (queue_op.Take look)) = inr refl
-calling-is (op.Table table_op.LookAtTable) = inr refl
-calling-is (op.Waker (waker_op.CopyWaker f held)) = inr refl
-calling-is (op.Handle (handle_op.Look f a)) = inr refl
-calling-is (op.Handle (handle_op.CopyAwaiter f a)) = inr refl
-calling-is (op.Handle (handle_op.Register f a k)) = inr refl
-calling-is (op.Handle (handle_op.EndRegister f a k)) = inr refl
-calling-is (op.Handle (handle_op.LookAgain f)) = inr refl
-calling-is (op.Sleeper sleeper_op.ExchangeFlag) = inl refl
-calling-is (op.Sleeper sleeper_op.HandOut) = inl refl
-calling-is (op.Sleeper (sleeper_op.CallSleeper s)) = inl refl
-calling-is (op.Tick tick_op.MakeTick) = inr refl
-calling-is (op.Tick (tick_op.Search s)) = inr refl
-calling-is (op.Tick (tick_op.Look s look)) = inr refl
-calling-is (op.Tick (tick_op.CopyWaker s)) = inr refl
-calling-is (op.Tick (tick_op.FallAsleep s)) = inr refl
-calling-is (op.User (user_op.PollOwn x)) = inr refl
-calling-is (op.List (list_op.LockWrite s)) = inr refl
-calling-is (op.List (list_op.Write s)) = inr refl
-calling-is (op.List (list_op.LockRead x)) = inr refl
-calling-is (op.Steal o) = inr refl
-calling-is (op.Run run_op.MakeRoom) = inr refl
-calling-is (op.Run run_op.ReturnRoom) = inl refl
-calling-is (op.Run (run_op.TakeTurn x)) = inr refl
-calling-is (op.Run (run_op.SearchCommon x look)) = inr refl
-calling-is (op.Run (run_op.LookOwn x at left)) = inr refl
-calling-is (op.Run (run_op.WakeOwn x)) = inr refl
-calling-is (op.Run (run_op.Reschedule r a)) = inr refl
-calling-is (op.End r held) = inr refl
+calling-is (Op.Table (TableOp.Enter mark)) = inr refl
+calling-is (Op.Queue QueueOp.TakeTurn) = inr refl
+calling-is (Op.Queue (QueueOp.Take look)) = inr refl
+calling-is (Op.Table TableOp.LookAtTable) = inr refl
+calling-is (Op.Waker (WakerOp.CopyWaker f held)) = inr refl
+calling-is (Op.Handle (HandleOp.Look f a)) = inr refl
+calling-is (Op.Handle (HandleOp.CopyAwaiter f a)) = inr refl
+calling-is (Op.Handle (HandleOp.Register f a k)) = inr refl
+calling-is (Op.Handle (HandleOp.EndRegister f a k)) = inr refl
+calling-is (Op.Handle (HandleOp.LookAgain f)) = inr refl
+calling-is (Op.Sleeper SleeperOp.ExchangeFlag) = inl refl
+calling-is (Op.Sleeper SleeperOp.HandOut) = inl refl
+calling-is (Op.Sleeper (SleeperOp.CallSleeper s)) = inl refl
+calling-is (Op.Tick TickOp.MakeTick) = inr refl
+calling-is (Op.Tick (TickOp.Search s)) = inr refl
+calling-is (Op.Tick (TickOp.Look s look)) = inr refl
+calling-is (Op.Tick (TickOp.CopyWaker s)) = inr refl
+calling-is (Op.Tick (TickOp.FallAsleep s)) = inr refl
+calling-is (Op.User (UserOp.PollOwn x)) = inr refl
+calling-is (Op.List (ListOp.LockWrite s)) = inr refl
+calling-is (Op.List (ListOp.Write s)) = inr refl
+calling-is (Op.List (ListOp.LockRead x)) = inr refl
+calling-is (Op.Steal o) = inr refl
+calling-is (Op.Run RunOp.MakeRoom) = inr refl
+calling-is (Op.Run RunOp.ReturnRoom) = inl refl
+calling-is (Op.Run (RunOp.TakeTurn x)) = inr refl
+calling-is (Op.Run (RunOp.SearchCommon x look)) = inr refl
+calling-is (Op.Run (RunOp.LookOwn x at left)) = inr refl
+calling-is (Op.Run (RunOp.WakeOwn x)) = inr refl
+calling-is (Op.Run (RunOp.Reschedule r a)) = inr refl
+calling-is (Op.End r held) = inr refl
 calling-is _ = inl refl
 
 turns-calls : (w : World) (o : Op) (d : Done) → Calls w o d → Turns w (o ∷ []) d
@@ -203,30 +173,30 @@ turned s p old rest d l e t h = deep-moved s p old rest l e d false false (λ q.
 
 -- the end of a call
 ended-call : (s : Machine) (p : ℕ) (a : Reply) (held : Hold) (rest : List Op) → p < length s.parties →
-    stack s p ≡ rest ++ reverse (op.End a held ∷ []) → Deep s →
-    Deep (unsettled s p rest (done (log s.world (event.CallEnded p a)) []))
+    stack s p ≡ rest ++ reverse (Op.End a held ∷ []) → Deep s →
+    Deep (unsettled s p rest (done (log s.world (Event.CallEnded p a)) []))
 ended-call s p a held rest l e h =
-    deep-moved s p (op.End a held ∷ []) rest l e (done (log s.world (event.CallEnded p a)) []) false true
-    (λ q. omega (arith, begun-push q s.world.trace (event.CallEnded p a)))
-    (λ q. omega (arith, ended-push q s.world.trace (event.CallEnded p a))) refl
-    (ground-rest rest (op.End a held ∷ []) [] (λ z. tt)) h
+    deep-moved s p (Op.End a held ∷ []) rest l e (done (log s.world (Event.CallEnded p a)) []) false true
+    (λ q. omega (arith, begun-push q s.world.trace (Event.CallEnded p a)))
+    (λ q. omega (arith, ended-push q s.world.trace (Event.CallEnded p a))) refl
+    (ground-rest rest (Op.End a held ∷ []) [] (λ z. tt)) h
 
 -- the beginning of a call
 
 abbrev pub Opens : World → ℕ → Call → Done → Type 0
-Opens w p c d = Steady (log w (event.CallBegun p c)) d.world × Answering d.next
+Opens w p c d = Steady (log w (Event.CallBegun p c)) d.world × Answering d.next
 
 opened : (s : Machine) (p : ℕ) (rest : List Op) (c : Call) (d : Done) → p < length s.parties →
     stack s p ≡ rest ++ reverse [] → Opens s.world p c d → Deep s → Deep (unsettled s p rest d)
 opened s p rest c d l e o h =
     deep-moved s p [] rest l e d true false
-    (λ q. omega (arith, o.0.begun q, begun-push q s.world.trace (event.CallBegun p c)))
-    (λ q. omega (arith, o.0.ended q, ended-push q s.world.trace (event.CallBegun p c)))
+    (λ q. omega (arith, o.0.begun q, begun-push q s.world.trace (Event.CallBegun p c)))
+    (λ q. omega (arith, o.0.ended q, ended-push q s.world.trace (Event.CallBegun p c)))
     (omega (arith, counts-answering d.next o.1))
     (ground-rest rest [] (reverse d.next) (λ z. ground-answering d.next o.1)) h
 
 open-with : (w : World) (p : ℕ) (c : Call) (x : Option ℕ) (d : ℕ → Done) → is_some x ≡ true →
-    ((f : ℕ) → Opens w p c (d f)) → Opens w p c (with_future (log w (event.CallBegun p c)) x d)
+    ((f : ℕ) → Opens w p c (d f)) → Opens w p c (with_future (log w (Event.CallBegun p c)) x d)
 open-with w p c None d e k = absurd (cc)
 open-with w p c (Some f) d e k = k f
 
@@ -235,76 +205,76 @@ left-true true b e = refl
 left-true false b e = absurd (cc)
 
 pub opens : (p : ℕ) (w : World) (ss : List (List Op)) (o : Option Op) (c : Call) → has_all w ss o c ≡ true →
-    Opens w p c (begun p (log w (event.CallBegun p c)) (mine o) c)
-opens p w ss o (call.Spawn mark) k = (steady-same _ _ refl, single _ refl)
-opens p w ss o call.TryTick k = (steady-same _ _ refl, single _ refl)
-opens p w ss o call.IsEmpty k = (steady-same _ _ refl, single _ refl)
-opens p w ss o (call.Wake n) k =
-    open-with w p (call.Wake n) (kept w n) _ (left-true _ _ k)
-    (λ f. (steady-same _ _ refl, then (op.Move move.Wake f ∷ []) _ refl refl))
-opens p w ss o (call.WakeByRef n) k =
-    open-with w p (call.WakeByRef n) (kept w n) _ k
-    (λ f. (steady-same _ _ refl, then (op.Move move.WakeByReference f ∷ []) _ refl refl))
-opens p w ss o (call.Copy n) k = open-with w p (call.Copy n) (kept w n) _ k (λ f. (steady-same _ _ refl, single _ refl))
-opens p w ss o (call.DropWaker n) k =
-    open-with w p (call.DropWaker n) (kept w n) _ (left-true _ _ k)
-    (λ f. (steady-same _ _ refl, then (op.Move move.Release f ∷ []) _ refl refl))
-opens p w ss o call.Keep k = open-with w p call.Keep (future_of (mine o)) _ k
+    Opens w p c (begun p (log w (Event.CallBegun p c)) (mine o) c)
+opens p w ss o (Call.Spawn mark) k = (steady-same _ _ refl, single _ refl)
+opens p w ss o Call.TryTick k = (steady-same _ _ refl, single _ refl)
+opens p w ss o Call.IsEmpty k = (steady-same _ _ refl, single _ refl)
+opens p w ss o (Call.Wake n) k =
+    open-with w p (Call.Wake n) (kept w n) _ (left-true _ _ k)
+    (λ f. (steady-same _ _ refl, then (Op.Move Move.Wake f ∷ []) _ refl refl))
+opens p w ss o (Call.WakeByRef n) k =
+    open-with w p (Call.WakeByRef n) (kept w n) _ k
+    (λ f. (steady-same _ _ refl, then (Op.Move Move.WakeByReference f ∷ []) _ refl refl))
+opens p w ss o (Call.Copy n) k = open-with w p (Call.Copy n) (kept w n) _ k (λ f. (steady-same _ _ refl, single _ refl))
+opens p w ss o (Call.DropWaker n) k =
+    open-with w p (Call.DropWaker n) (kept w n) _ (left-true _ _ k)
+    (λ f. (steady-same _ _ refl, then (Op.Move Move.Release f ∷ []) _ refl refl))
+opens p w ss o Call.Keep k = open-with w p Call.Keep (future_of (mine o)) _ k
     (λ f. (steady-same _ _ refl, single _ refl))
-opens p w ss o call.WakeSelf k =
-    open-with w p call.WakeSelf (future_of (mine o)) _ k
-    (λ f. (steady-same _ _ refl, then (op.Move move.WakeByReference f ∷ []) _ refl refl))
-opens p w ss o (call.PollHandle f b) k = (steady-same _ _ refl, single _ refl)
-opens p w ss o (call.Cancel f) k = (steady-same _ _ refl, then (op.Move move.Cancel f ∷ []) _ refl refl)
-opens p w ss o (call.Detach f) k = (steady-same _ _ refl, then (op.Move move.Detach f ∷ []) _ refl refl)
-opens p w ss o (call.DropHandle f) k =
-    (steady-same _ _ refl, then (op.Move move.Cancel f ∷ op.Move move.Detach f ∷ []) _ refl refl)
-opens p w ss o call.NewTick k = (steady-same _ _ refl, single _ refl)
-opens p w ss o (call.PollTick t b) k =
-    (steady-log _ _ (event.TickPolled p t) refl (λ q. refl) (λ q. refl), single _ refl)
-opens p w ss o (call.DropTick t) k = (
-  steady-log _ _ (event.TickDropped p t) refl (λ q. refl) (λ q. refl),
-  then (op.Tick (tick_op.Leave (tick_or_run.Tick t)) ∷ []) _ refl refl,
+opens p w ss o Call.WakeSelf k =
+    open-with w p Call.WakeSelf (future_of (mine o)) _ k
+    (λ f. (steady-same _ _ refl, then (Op.Move Move.WakeByReference f ∷ []) _ refl refl))
+opens p w ss o (Call.PollHandle f b) k = (steady-same _ _ refl, single _ refl)
+opens p w ss o (Call.Cancel f) k = (steady-same _ _ refl, then (Op.Move Move.Cancel f ∷ []) _ refl refl)
+opens p w ss o (Call.Detach f) k = (steady-same _ _ refl, then (Op.Move Move.Detach f ∷ []) _ refl refl)
+opens p w ss o (Call.DropHandle f) k =
+    (steady-same _ _ refl, then (Op.Move Move.Cancel f ∷ Op.Move Move.Detach f ∷ []) _ refl refl)
+opens p w ss o Call.NewTick k = (steady-same _ _ refl, single _ refl)
+opens p w ss o (Call.PollTick t b) k =
+    (steady-log _ _ (Event.TickPolled p t) refl (λ q. refl) (λ q. refl), single _ refl)
+opens p w ss o (Call.DropTick t) k = (
+  steady-log _ _ (Event.TickDropped p t) refl (λ q. refl) (λ q. refl),
+  then (Op.Tick (TickOp.Leave (TickOrRun.Tick t)) ∷ []) _ refl refl,
 )
-opens p w ss o call.NewRun k = (steady-same _ _ refl, single _ refl)
-opens p w ss o (call.PollRun r b) k =
-    (steady-log _ _ (event.RunPolled p r) refl (λ q. refl) (λ q. refl), one-poll (run_of w r).stage _)
-opens p w ss o (call.DropRun r) k =
-    (steady-log _ _ (event.RunDropped p r) refl (λ q. refl) (λ q. refl), one-drop (run_of w r).stage r)
-opens p w ss o call.Leak k = (steady-same _ _ refl, then (op.Closing closing_op.LeakOut ∷ []) _ refl refl)
-opens p w ss o call.DropExecutor k = (
-  steady-log _ _ (event.DropBegun p) refl (λ q. refl) (λ q. refl),
-  then (op.Closing closing_op.TakeOut ∷ []) _ refl refl,
+opens p w ss o Call.NewRun k = (steady-same _ _ refl, single _ refl)
+opens p w ss o (Call.PollRun r b) k =
+    (steady-log _ _ (Event.RunPolled p r) refl (λ q. refl) (λ q. refl), one-poll (run_of w r).stage _)
+opens p w ss o (Call.DropRun r) k =
+    (steady-log _ _ (Event.RunDropped p r) refl (λ q. refl) (λ q. refl), one-drop (run_of w r).stage r)
+opens p w ss o Call.Leak k = (steady-same _ _ refl, then (Op.Closing ClosingOp.LeakOut ∷ []) _ refl refl)
+opens p w ss o Call.DropExecutor k = (
+  steady-log _ _ (Event.DropBegun p) refl (λ q. refl) (λ q. refl),
+  then (Op.Closing ClosingOp.TakeOut ∷ []) _ refl refl,
 )
 
 -- the end of user code
 turns-react : (p : ℕ) (o : Op) (u : UserEnd) (w : World) → accepts o u ≡ true → Turns w (o ∷ []) (react p o u w)
-turns-react p (op.User (user_op.Poll f)) (end.Polled answer.Pending) w a =
-    turns-calls w (op.User (user_op.Poll f)) _
-    (inside w _ _ refl (steady-log _ _ (event.Answered p f answer.Pending) refl (λ q. refl) (λ q. refl)) refl)
-turns-react p (op.User (user_op.Poll f)) (end.Polled answer.Ready) w a =
-    turns-calls w (op.User (user_op.Poll f)) _
-    (inside w _ _ refl (steady-log _ _ (event.Answered p f answer.Ready) refl (λ q. refl) (λ q. refl)) refl)
-turns-react p (op.User (user_op.Drop f)) end.Done w a =
-    turns-calls w (op.User (user_op.Drop f)) _ (inside w _ _ refl (steady-same _ _ refl) refl)
-turns-react p (op.User (user_op.DropOutput f)) end.Done w a =
-    turns-calls w (op.User (user_op.DropOutput f)) _ (inside w _ _ refl (steady-same _ _ refl) refl)
-turns-react p (op.User (user_op.CallOutside x)) end.Done w a =
-    turns-calls w (op.User (user_op.CallOutside x)) _ (inside w _ _ refl (steady-same _ _ refl) refl)
-turns-react p (op.User (user_op.PollOwn x)) (end.Polled answer.Pending) w a =
-    turns-calls w (op.User (user_op.PollOwn x)) _ (answers w _ _ refl (steady-same _ _ refl) (single _ refl))
-turns-react p (op.User (user_op.PollOwn x)) (end.Polled answer.Ready) w a =
-    turns-calls w (op.User (user_op.PollOwn x)) _
-    (answers w _ _ refl (steady-same _ _ refl) (then (op.User (user_op.DropOwn x.run) ∷ []) _ refl refl))
-turns-react p (op.User (user_op.DropOwn r)) end.Done w a =
-    turns-calls w (op.User (user_op.DropOwn r)) _ (inside w _ _ refl (steady-same _ _ refl) refl)
+turns-react p (Op.User (UserOp.Poll f)) (UserEnd.Polled Answer.Pending) w a =
+    turns-calls w (Op.User (UserOp.Poll f)) _
+    (inside w _ _ refl (steady-log _ _ (Event.Answered p f Answer.Pending) refl (λ q. refl) (λ q. refl)) refl)
+turns-react p (Op.User (UserOp.Poll f)) (UserEnd.Polled Answer.Ready) w a =
+    turns-calls w (Op.User (UserOp.Poll f)) _
+    (inside w _ _ refl (steady-log _ _ (Event.Answered p f Answer.Ready) refl (λ q. refl) (λ q. refl)) refl)
+turns-react p (Op.User (UserOp.Drop f)) UserEnd.Done w a =
+    turns-calls w (Op.User (UserOp.Drop f)) _ (inside w _ _ refl (steady-same _ _ refl) refl)
+turns-react p (Op.User (UserOp.DropOutput f)) UserEnd.Done w a =
+    turns-calls w (Op.User (UserOp.DropOutput f)) _ (inside w _ _ refl (steady-same _ _ refl) refl)
+turns-react p (Op.User (UserOp.CallOutside x)) UserEnd.Done w a =
+    turns-calls w (Op.User (UserOp.CallOutside x)) _ (inside w _ _ refl (steady-same _ _ refl) refl)
+turns-react p (Op.User (UserOp.PollOwn x)) (UserEnd.Polled Answer.Pending) w a =
+    turns-calls w (Op.User (UserOp.PollOwn x)) _ (answers w _ _ refl (steady-same _ _ refl) (single _ refl))
+turns-react p (Op.User (UserOp.PollOwn x)) (UserEnd.Polled Answer.Ready) w a =
+    turns-calls w (Op.User (UserOp.PollOwn x)) _
+    (answers w _ _ refl (steady-same _ _ refl) (then (Op.User (UserOp.DropOwn x.run) ∷ []) _ refl refl))
+turns-react p (Op.User (UserOp.DropOwn r)) UserEnd.Done w a =
+    turns-calls w (Op.User (UserOp.DropOwn r)) _ (inside w _ _ refl (steady-same _ _ refl) refl)
 turns-react p _ _ w a = absurd (cc)
 
 acted-by : (s : Machine) (p : ℕ) (rest : List Op) (t : Hint) (o : Op) (b : Bool) → is_end o ≡ b → p < length s.parties →
     stack s p ≡ rest ++ reverse (o ∷ []) → Deep s → Deep (unsettled s p rest (act p t o s.world))
 acted-by s p rest t o false n l e h =
     turned s p (o ∷ []) rest (act p t o s.world) l e (turns-calls s.world o _ (calls-act p t o s.world n)) h
-acted-by s p rest t (op.End a held) true n l e h = ended-call s p a held rest l e h
+acted-by s p rest t (Op.End a held) true n l e h = ended-call s p a held rest l e h
 acted-by s p rest t _ true n l e h = absurd (cc)
 
 deep-moves : (s : Machine) (p : ℕ) (old rest : List Op) (d : Done) → Good s → p < length s.parties →
@@ -320,8 +290,8 @@ deep-moves s p old rest d good l e (called c q r n z) h =
     (opens p s.world s.parties (top (stack s p)) c f.1) h)
 
 deep-ends : (s : Machine) (p : ℕ) (a : Reply) (held : Hold) (below : List Op) → p < length s.parties →
-    stack s p ≡ below ++ reverse (op.End a held ∷ []) → Deep s →
-    Deep (unsettled s p below (done (log s.world (event.CallEnded p a)) []))
+    stack s p ≡ below ++ reverse (Op.End a held ∷ []) → Deep s →
+    Deep (unsettled s p below (done (log s.world (Event.CallEnded p a)) []))
 deep-ends s p a held below l e h = ended-call s p a held below l e h
 
 pub idle-stack : (n q : ℕ) → get_or (idle n) q [] ≡ []

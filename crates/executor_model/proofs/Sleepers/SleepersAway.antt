@@ -1,56 +1,23 @@
 -- For sleepers_agree and sleepers_are_told.
 -- What is no part of the sleepers, of a tick or of a run's making leaves the sleepers, and who sleeps, as they are.
-use Rattle.std.proofs.Common.{◌≡◌, ◌∙◌, ℕ, zero, suc, ◌+◌, ◌≤◌, List, [], ◌∷◌, length, Bool, true}
-use Rattle.std.proofs.Common.{false, eqb, refl, sym, ap, subst, arith}
-use Rattle.executor_model.proofs.Steps.QueuesByMark.{items-shut, fewer-first}
-use Rattle.executor_model.specs.Queues.{Queues, queue_in}
-use Rattle.executor_model.specs.declared.op.Look.{Look}
-use Rattle.executor_parts.specs.declared.mark.Mark.TheVariants.{Plain, Urgent}
-use Rattle.executor_parts.specs.declared.mark.Mark.{Mark}
-use Rattle.executor_model.specs.declared.op.Look.TheVariants.{First, Second}
-use Rattle.executor_model.specs.World.{queue_of}
-use Rattle.executor_model.specs.Acts.{mark_in}
+use Rattle.std.proofs.Common.{◌≡◌, ◌∙◌, ℕ, zero, suc, ◌+◌, ◌≤◌, List, [], ◌∷◌, length, Bool, true, false, eqb, refl, sym, ap}
+use Rattle.std.proofs.Common.{subst, arith}
 use Rattle.executor_parts.specs.Sleepers.{Sleepers}
-use Rattle.task_moves.specs.declared.moves.owed.Move.TheVariants as move
-use Rattle.executor_model.specs.declared.event.Event.TheVariants as event
-use Rattle.executor_model.specs.declared.call.Reply.{Reply}
-use Rattle.executor_model.specs.declared.call.Reply.TheVariants as reply
-use Rattle.executor_model.specs.declared.op.Hold.TheVariants as hold
-use Rattle.executor_model.specs.declared.op.Op.{Op}
-use Rattle.executor_model.specs.declared.op.Op.TheVariants as op
-use Rattle.executor_model.specs.declared.op.ClosingOp.TheVariants as closing_op
-use Rattle.executor_model.specs.declared.op.Polled.{Polled}
-use Rattle.executor_model.specs.declared.op.Polled.TheVariants as of
-use Rattle.executor_model.specs.declared.op.QueueOp.TheVariants as queue_op
-use Rattle.executor_model.specs.declared.op.RunOp.TheVariants as run_op
-use Rattle.executor_model.specs.declared.op.RunPoll.{RunPoll}
-use Rattle.executor_model.specs.declared.op.SleeperOp.TheVariants as sleeper_op
-use Rattle.executor_model.specs.declared.op.Sleeping.{Sleeping}
-use Rattle.executor_model.specs.declared.op.Source.{Source}
-use Rattle.executor_model.specs.declared.op.Source.TheVariants.{Common, Own}
-use Rattle.executor_model.specs.declared.op.Steal.{Steal}
-use Rattle.executor_model.specs.declared.op.StealOp.{StealOp}
-use Rattle.executor_model.specs.declared.op.StealOp.TheVariants as steal_op
-use Rattle.executor_model.specs.declared.op.Then.{Then}
-use Rattle.executor_model.specs.declared.op.Then.TheVariants as then
-use Rattle.executor_model.specs.declared.op.UserOp.TheVariants as user_op
-use Rattle.executor_model.specs.declared.op.Waker.{Waker}
-use Rattle.executor_model.specs.declared.op.Waker.TheVariants.{Task, Outside}
-use Rattle.executor_model.specs.declared.step.Hint.{Hint}
-use Rattle.executor_model.specs.Acts as acts
-use Rattle.executor_model.specs.ActsOfRuns as runs
-use Rattle.executor_model.specs.Doing.{act, steal_act}
-use Rattle.executor_model.specs.Weights.{weigh}
-use Rattle.executor_model.specs.World.{World, Ticker, Run, Done, done, log, put_own, put_run}
-use Rattle.executor_model.specs.World.{run_of}
-use Rattle.executor_model.proofs.Steps.Lists.{weigh-append, weigh-below}
-use Rattle.executor_model.proofs.Steps.RunsNext.{BlindToSearches, found-unseen, more-unseen, stolen-unseen, walk-unseen}
-use Rattle.executor_model.proofs.Steps.Lift.{no_hint}
-use Rattle.executor_model.proofs.OwnQueues.RunsAside.{Frame, Rest, bustle_of, frame-act, frame-call}
+use Rattle.executor_model.proofs.Types.{Look, Plain, Urgent, Mark, First, Second, Move, Event, Reply, Hold, Op, ClosingOp}
+use Rattle.executor_model.proofs.Types.{Polled, QueueOp, RunOp, RunPoll, SleeperOp, Sleeping, Source, Common, Own, Steal}
+use Rattle.executor_model.proofs.Types.{StealOp, Then, UserOp, Waker, Task, Outside, Hint}
+use Rattle.executor_model.specs.World.{queue_of, World, Ticker, Run, Done, done, log, put_own, put_run, run_of}
+use Rattle.executor_model.specs.SleepersAgree.{hands_of, room_of}
+use Rattle.executor_model.specs.{Queues.Queues, Queues.queue_in, Acts.mark_in, Doing.act, Doing.steal_act, Weights.weigh}
 use Rattle.executor_model.proofs.Sleepers.SleepersWakingUp.{wakes_up-append, wakes_up-by, wakes_up-none, wakes_up-run}
+use Rattle.executor_model.proofs.Steps.QueuesByMark.{items-shut, fewer-first}
+use Rattle.executor_model.proofs.Steps.RunsNext.{BlindToSearches, found-unseen, more-unseen, stolen-unseen, walk-unseen}
+use Rattle.executor_model.proofs.OwnQueues.RunsAside.{Frame, Rest, bustle_of, frame-act, frame-call}
 use Rattle.executor_model.proofs.Sleepers.SleepersWakingUp.{wakes_up_of, wakes_up_well}
 use Rattle.executor_model.proofs.Sleepers.TickLists.{places, places-same}
-use Rattle.executor_model.specs.SleepersAgree.{hands_of, room_of}
+use Rattle.executor_model.proofs.{Steps.Lists.weigh-append, Steps.Lists.weigh-below, Steps.Lift.no_hint}
+use Rattle.executor_model.specs.Acts as acts
+use Rattle.executor_model.specs.ActsOfRuns as runs
 
 -- where ticks and runs are, the sleepers and the flag
 pub record SleepersSeen : Type 0 where
@@ -102,10 +69,10 @@ away-run : (w : World) (d : Done) → sleepers_seen w ≡ sleepers_seen d.world 
 away-run w d b q h r = record { sleepers_seen = b; owes = h; wakes_up = r; queue = same-queue w d.world q }
 
 calm-stirs : (o : Op) → bustle_of o ≡ 0 → stirs_of o ≡ 0
-calm-stirs (op.Sleeper sleeper_op.HandOut) z = absurd (omega (arith, z))
-calm-stirs (op.Tick o) z = absurd (omega (arith, z))
-calm-stirs (op.List o) z = absurd (omega (arith, z))
-calm-stirs (op.Run o) z = absurd (omega (arith, z))
+calm-stirs (Op.Sleeper SleeperOp.HandOut) z = absurd (omega (arith, z))
+calm-stirs (Op.Tick o) z = absurd (omega (arith, z))
+calm-stirs (Op.List o) z = absurd (omega (arith, z))
+calm-stirs (Op.Run o) z = absurd (omega (arith, z))
 calm-stirs _ z = refl
 
 none-stir : (os : List Op) → weigh bustle_of os ≡ 0 → weigh stirs_of os ≡ 0
@@ -208,20 +175,20 @@ pub stays-found : (w : World) (x : RunPoll) (f : ℕ) → Stays w (runs.found w 
 stays-found w x f = stays-counted _ w x f
 
 pub stays-stolen : (t : Then) (w : World) (x : RunPoll) → Stays w (runs.stolen t w x).world
-stays-stolen (then.Found f) w x = stays-found w x f
-stays-stolen (then.StealPlain f) w x = record { sleepers_seen = refl; queue = refl }
-stays-stolen (then.Run f) w x = stays-run_by _ w x f
-stays-stolen (then.Walk at left) w x = record { sleepers_seen = refl; queue = refl }
+stays-stolen (Then.Found f) w x = stays-found w x f
+stays-stolen (Then.StealPlain f) w x = record { sleepers_seen = refl; queue = refl }
+stays-stolen (Then.Run f) w x = stays-run_by _ w x f
+stays-stolen (Then.Walk at left) w x = record { sleepers_seen = refl; queue = refl }
 
 stays-more : (n : ℕ) (w : World) (s : Steal) → Stays w (runs.steal_by n w s).world
 stays-more zero w s = stays-stolen s.then w s.poll
 stays-more (suc n) w s = record { sleepers_seen = refl; queue = refl }
 
 wakes_up-stolen : (t : Then) (w : World) (x : RunPoll) → wakes_up_well (runs.stolen t w x).next ≡ true
-wakes_up-stolen (then.Found f) w x = wakes_up-run w x f
-wakes_up-stolen (then.StealPlain f) w x = refl
-wakes_up-stolen (then.Run f) w x = wakes_up-by _ w x f
-wakes_up-stolen (then.Walk at left) w x = refl
+wakes_up-stolen (Then.Found f) w x = wakes_up-run w x f
+wakes_up-stolen (Then.StealPlain f) w x = refl
+wakes_up-stolen (Then.Run f) w x = wakes_up-by _ w x f
+wakes_up-stolen (Then.Walk at left) w x = refl
 
 wakes_up-more : (n : ℕ) (w : World) (s : Steal) → wakes_up_well (runs.steal_by n w s).next ≡ true
 wakes_up-more zero w s = wakes_up-stolen s.then w s.poll
@@ -234,10 +201,10 @@ wakes_up-walk x qs at (suc left) = by (eqb (runs.queue_at qs at) x.run) (wakes_u
     by : (b : Bool) → wakes_up_well (runs.walk x qs (runs.next_place qs at) left) ≡ true →
         wakes_up_well (let h : List Op = elim b [
           | true ↦ runs.walk x qs (runs.next_place qs at) left
-          | false ↦ op.Steal (steal_op.Length (record {
+          | false ↦ Op.Steal (StealOp.Length (record {
             poll = x;
             from = Own (runs.queue_at qs at);
-            then = then.Walk (runs.next_place qs at) left;
+            then = Then.Walk (runs.next_place qs at) left;
           })) ∷ []
         ] in h) ≡ true
     by true z = z
@@ -252,7 +219,7 @@ away-without from [] w s more e i = away-stays w _ (stays-stolen s.then w s.poll
     (stolen-unseen owes_of no-owes-searching s.then w s.poll) (wakes_up-stolen s.then w s.poll)
 away-without (Common mark) (f ∷ rest) w s more e i = by s.from i
   where
-    by : (a : Source) → a ≡ Common mark → Away w (done (runs.without_first w a rest) (op.Steal (steal_op.Put s more f) ∷ []))
+    by : (a : Source) → a ≡ Common mark → Away w (done (runs.without_first w a rest) (Op.Steal (StealOp.Put s more f) ∷ []))
     by (Common n) j = record {
       sleepers_seen = refl;
       owes = refl;
@@ -262,7 +229,7 @@ away-without (Common mark) (f ∷ rest) w s more e i = by s.from i
     by (Own r) j = away w _ refl refl refl
 away-without (Own r) (f ∷ rest) w s more e i = by s.from i
   where
-    by : (a : Source) → a ≡ Own r → Away w (done (runs.without_first w a rest) (op.Steal (steal_op.Put s more f) ∷ []))
+    by : (a : Source) → a ≡ Own r → Away w (done (runs.without_first w a rest) (Op.Steal (StealOp.Put s more f) ∷ []))
     by (Common n) j = absurd (cc)
     by (Own q) j = away w _ refl refl refl
 
@@ -282,11 +249,11 @@ away-put false p w s more f =
     (omega (arith, stolen-unseen owes_of no-owes-searching s.then w s.poll)) (wakes_up-stolen s.then w s.poll)
 
 away-steal : (p : ℕ) (o : StealOp) (w : World) → Away w (steal_act p o w)
-away-steal p (steal_op.Length s) w = away-length _ w s
-away-steal p (steal_op.OwnLength s n) w = away-stays w _ (stays-more _ w s)
+away-steal p (StealOp.Length s) w = away-length _ w s
+away-steal p (StealOp.OwnLength s n) w = away-stays w _ (stays-more _ w s)
     (more-unseen owes_of no-owes-searching _ w s) (wakes_up-more _ w s)
-away-steal p (steal_op.Take s more) w = away-without s.from _ w s more refl refl
-away-steal p (steal_op.Put s more f) w = away-put _ p w s more f
+away-steal p (StealOp.Take s more) w = away-without s.from _ w s more refl refl
+away-steal p (StealOp.Put s more f) w = away-put _ p w s more f
 
 away-common : (look : Look) (q : List ℕ) (w : World) (x : RunPoll) → (queue_of w (mark_in look)).items ≡ q →
     Away w (runs.search_common_by q w x look)
@@ -317,17 +284,17 @@ away-own (f ∷ rest) w x =
     (wakes_up-run v x f)
 
 away-by_reference : (p : ℕ) (w : World) (x : RunPoll) (a : Waker) → Away w
-    (acts.followed (runs.call_by_reference p (log w (event.WakerCalled p (of.Run x.run) x.poll x.waker)) a)
-    (op.End reply.Pending (hold.Run x.run) ∷ []))
+    (acts.followed (runs.call_by_reference p (log w (Event.WakerCalled p (Polled.Run x.run) x.poll x.waker)) a)
+    (Op.End Reply.Pending (Hold.Run x.run) ∷ []))
 away-by_reference p w x (Task g) =
-    let v : World = log w (event.WakerCalled p (of.Run x.run) x.poll x.waker) in
-    let next = (acts.move_task move.WakeByReference p v g).next in
-    let m = away-frame v (acts.move_task move.WakeByReference p v g)
-    (frame-act p no_hint (op.Move move.WakeByReference g) v refl) in
+    let v : World = log w (Event.WakerCalled p (Polled.Run x.run) x.poll x.waker) in
+    let next = (acts.move_task Move.WakeByReference p v g).next in
+    let m = away-frame v (acts.move_task Move.WakeByReference p v g)
+    (frame-act p no_hint (Op.Move Move.WakeByReference g) v refl) in
     record {
       sleepers_seen = m.sleepers_seen;
-      owes = omega (arith, m.owes, weigh-append owes_of next (op.End reply.Pending (hold.Run x.run) ∷ []));
-      wakes_up = wakes_up-append next (op.End reply.Pending (hold.Run x.run) ∷ []) m.wakes_up refl;
+      owes = omega (arith, m.owes, weigh-append owes_of next (Op.End Reply.Pending (Hold.Run x.run) ∷ []));
+      wakes_up = wakes_up-append next (Op.End Reply.Pending (Hold.Run x.run) ∷ []) m.wakes_up refl;
       queue = m.queue;
     }
 away-by_reference p w x (Outside y) = away w _ refl refl refl
@@ -338,30 +305,30 @@ away-reschedule (f ∷ rest) w r a = away w _ refl refl refl
 
 -- what has a place of its own: an append, what tells and ticks, and what changes the lock of the list or owes room
 abbrev pub is_seen_asleep : Op → Bool
-is_seen_asleep (op.Queue (queue_op.Append f)) = true
-is_seen_asleep (op.Sleeper o) = true
-is_seen_asleep (op.Tick o) = true
-is_seen_asleep (op.List o) = true
-is_seen_asleep (op.Run run_op.MakeRoom) = true
-is_seen_asleep (op.Run run_op.ReturnRoom) = true
+is_seen_asleep (Op.Queue (QueueOp.Append f)) = true
+is_seen_asleep (Op.Sleeper o) = true
+is_seen_asleep (Op.Tick o) = true
+is_seen_asleep (Op.List o) = true
+is_seen_asleep (Op.Run RunOp.MakeRoom) = true
+is_seen_asleep (Op.Run RunOp.ReturnRoom) = true
 is_seen_asleep _ = false
 
 pub away-act : (p : ℕ) (h : Hint) (o : Op) (w : World) → is_seen_asleep o ≡ false → Away w (act p h o w)
-away-act p h (op.Queue queue_op.TakeTurn) w n = away w _ refl refl refl
-away-act p h (op.Queue (queue_op.Take look)) w n = away-take look _ w refl
-away-act p h (op.Queue (queue_op.Append f)) w n = absurd (cc)
-away-act p h (op.User (user_op.PollOwn x)) w n = away w _ refl refl refl
-away-act p h (op.Closing (closing_op.Close mark)) w n = away-close mark w
-away-act p h (op.Closing (closing_op.Drain mark)) w n = away-drain mark p w _ refl
-away-act p h (op.Sleeper o) w n = absurd (cc)
-away-act p h (op.Tick o) w n = absurd (cc)
-away-act p h (op.List o) w n = absurd (cc)
-away-act p h (op.Steal o) w n = away-steal p o w
-away-act p h (op.Run run_op.MakeRoom) w n = absurd (cc)
-away-act p h (op.Run run_op.ReturnRoom) w n = absurd (cc)
-away-act p h (op.Run (run_op.TakeTurn x)) w n = away w _ refl refl refl
-away-act p h (op.Run (run_op.SearchCommon x look)) w n = away-common look _ w x refl
-away-act p h (op.Run (run_op.LookOwn x at left)) w n = away-looks _ w x at left
-away-act p h (op.Run (run_op.WakeOwn x)) w n = away-by_reference p w x x.waker
-away-act p h (op.Run (run_op.Reschedule r a)) w n = away-reschedule _ w r a
+away-act p h (Op.Queue QueueOp.TakeTurn) w n = away w _ refl refl refl
+away-act p h (Op.Queue (QueueOp.Take look)) w n = away-take look _ w refl
+away-act p h (Op.Queue (QueueOp.Append f)) w n = absurd (cc)
+away-act p h (Op.User (UserOp.PollOwn x)) w n = away w _ refl refl refl
+away-act p h (Op.Closing (ClosingOp.Close mark)) w n = away-close mark w
+away-act p h (Op.Closing (ClosingOp.Drain mark)) w n = away-drain mark p w _ refl
+away-act p h (Op.Sleeper o) w n = absurd (cc)
+away-act p h (Op.Tick o) w n = absurd (cc)
+away-act p h (Op.List o) w n = absurd (cc)
+away-act p h (Op.Steal o) w n = away-steal p o w
+away-act p h (Op.Run RunOp.MakeRoom) w n = absurd (cc)
+away-act p h (Op.Run RunOp.ReturnRoom) w n = absurd (cc)
+away-act p h (Op.Run (RunOp.TakeTurn x)) w n = away w _ refl refl refl
+away-act p h (Op.Run (RunOp.SearchCommon x look)) w n = away-common look _ w x refl
+away-act p h (Op.Run (RunOp.LookOwn x at left)) w n = away-looks _ w x at left
+away-act p h (Op.Run (RunOp.WakeOwn x)) w n = away-by_reference p w x x.waker
+away-act p h (Op.Run (RunOp.Reschedule r a)) w n = away-reschedule _ w r a
 away-act p h o w n = away-frame w (act p h o w) (frame-act p h o w refl)

@@ -1,33 +1,25 @@
 -- For sleepers_agree and sleepers_are_told.
 -- The sleepers of the machine are sleepers after sections of theirs.
-use Rattle.std.proofs.Common.{◌≡◌, ◌≢◌, ◌∙◌, ℕ, ◌+◌, ◌<◌, ◌≤◌, List, [], ◌∷◌, ◌++◌, length}
-use Rattle.std.proofs.Common.{Bool, true, false, ltb, eqb, refl, sym, ap, subst, arith}
-use Rattle.std.proofs.lemmas.Bool.Decides.{nat_tests}
-use Rattle.std.proofs.lemmas.List.{length-append}
+use Rattle.std.proofs.Common.{◌≡◌, ◌≢◌, ◌∙◌, ℕ, ◌+◌, ◌<◌, ◌≤◌, List, [], ◌∷◌, ◌++◌, length, Bool, true, false, ltb, eqb, refl}
+use Rattle.std.proofs.Common.{sym, ap, subst, arith}
 use Rattle.std.specs.Prelude.{◌-◌, Option, Some, None}
-use Rattle.executor_parts.specs.Order.{IsIn, without}
-use Rattle.executor_parts.specs.Sleepers.{Sleepers, flag_of, next_number, without_entry, freed, woken_up}
-use Rattle.executor_parts.specs.Sleepers.{put_to_sleep, position_of}
-use Rattle.executor_parts.specs.Sleeping.{ExchangeFlag, HandOut, FallAsleep, FallAsleepAgain, WakeUp, MakeRoom}
-use Rattle.executor_parts.specs.Sleeping.{GiveBack, AllSleepers, handed_by, exchanged_by, again_by}
+use Rattle.std.{proofs.lemmas.Bool.Decides.nat_tests, proofs.lemmas.List.length-append}
+use Rattle.executor_parts.specs.Sleepers.{Sleepers, flag_of, next_number, without_entry, freed, woken_up, put_to_sleep}
+use Rattle.executor_parts.specs.Sleeping.{ExchangeFlag, HandOut, FallAsleep, FallAsleepAgain, WakeUp, MakeRoom, GiveBack}
+use Rattle.executor_parts.specs.Sleeping.{AllSleepers, handed_by, exchanged_by, again_by}
 use Rattle.executor_parts.proofs.Agreeing.{Keeps, keeps}
-use Rattle.executor_parts.proofs.Ring.{length-without}
-use Rattle.executor_model.specs.declared.op.TickOrRun.{TickOrRun}
-use Rattle.executor_model.specs.declared.op.Sleeping.{Sleeping}
-use Rattle.executor_model.specs.declared.op.Waker.TheVariants.{Outside}
-use Rattle.executor_model.specs.ActsOfRuns.{make_room_by, make_run_by, return_room}
+use Rattle.executor_parts.{specs.Order.IsIn, specs.Order.without, specs.Sleepers.position_of, proofs.Ring.length-without}
+use Rattle.executor_model.proofs.Types.{TickOrRun, Sleeping, Outside}
 use Rattle.executor_model.specs.ActsOfSleepers.{exchange_by, given_back, hand_out_by, make_tick_by, sleep_anew_by}
-use Rattle.executor_model.specs.ActsOfSleepers.{sleep_listed_by}
-use Rattle.executor_model.specs.ActsOfSleepers.{sleep_again_by, wake_up_by, leave_sleepers_by}
-use Rattle.executor_model.specs.Sound.{times}
+use Rattle.executor_model.specs.ActsOfRuns.{make_room_by, make_run_by, return_room}
+use Rattle.executor_model.specs.ActsOfSleepers.{sleep_listed_by, sleep_again_by, wake_up_by, leave_sleepers_by}
 use Rattle.executor_model.specs.World.{World, Ticker, Awake, Asleep, Left, place_of, put_place, ticks_with}
-use Rattle.executor_model.specs.SleepersAgree.{sleeps, room}
+use Rattle.executor_model.specs.{Sound.times, SleepersAgree.sleeps, SleepersAgree.room}
+use Rattle.executor_model.proofs.Sleepers.TickLists.{at_place, asleep_at, sleeps-here, all_asleep, all_asleep-set}
+use Rattle.executor_model.proofs.Sleepers.TickLists.{slumbering-push, slumbering-rooms, place-at, places, places-push}
+use Rattle.executor_model.proofs.Sleepers.TickLists.{places-with, places_with, rooms_all, rooms_all-set, rooms-push, times-in}
 use Rattle.executor_model.proofs.Sleepers.SleepersAway.{SleepersSeen, sleepers_seen}
-use Rattle.executor_model.proofs.Sleepers.TickLists.{at_place, asleep_at, sleeps-here, all_asleep, all_asleep-set, slumbering-push}
-use Rattle.executor_model.proofs.Sleepers.TickLists.{slumbering-rooms, place-at, places, places-push, places-with, places_with}
-use Rattle.executor_model.proofs.Sleepers.TickLists.{rooms_all}
-use Rattle.executor_model.proofs.Sleepers.TickLists.{rooms_all-set, rooms-push, times-in, times-without, up-here, used_all}
-use Rattle.executor_model.proofs.Sleepers.TickLists.{used_all-by, used_all-set, used-push}
+use Rattle.executor_model.proofs.Sleepers.TickLists.{times-without, up-here, used_all, used_all-by, used_all-set, used-push}
 
 abbrev pub as_sleepers : SleepersSeen → List ℕ → ℕ → AllSleepers Sleeping
 as_sleepers b numbers k = record { sleepers = b.sleepers; flag = b.notified; numbers = numbers; tellers = k }
@@ -258,14 +250,7 @@ woken_up-follows b who n k m x spare z y v e f =
             ap sleeps e,
             z,
           );
-      roomed = omega (
-        arith,
-        f.roomed,
-        rooms-woken_up n b.sleepers,
-        rooms_all-set b.ticks b.places who x there,
-        ap room e,
-        v,
-      );
+      roomed = omega (arith, f.roomed, rooms-woken_up n b.sleepers, rooms_all-set b.ticks b.places who x there, ap room e, v);
     }
 
 pub follows-up : (w : World) (who : TickOrRun) (n k m : ℕ) → place_of w who ≡ Asleep n → Follows (sleepers_seen w) k m →

@@ -1,81 +1,37 @@
 -- For sleepers_agree and sleepers_are_told.
 -- After every list of steps the sleepers of the machine are sleepers after sections of theirs.
-use Rattle.std.proofs.Common.{◌≡◌, ℕ, zero, suc, ◌+◌, ◌%◌, ◌<◌, ◌≤◌, List, [], ◌∷◌, ◌++◌, length, get_or, set, Bool}
-use Rattle.std.proofs.Common.{true, false, ltb, eqb}
-use Rattle.std.proofs.Common.{refl, sym, ap, subst, ⊎_elim, ◌⊎◌, inl, inr, ◌||◌, arith}
+use Rattle.std.proofs.Common.{◌≡◌, ℕ, zero, suc, ◌+◌, ◌%◌, ◌<◌, ◌≤◌, List, [], ◌∷◌, ◌++◌, length, get_or, set, Bool, true}
+use Rattle.std.proofs.Common.{false, ltb, eqb, refl, sym, ap, subst, ⊎_elim, ◌⊎◌, inl, inr, ◌||◌, arith}
 use Rattle.std.proofs.lemmas.Bool.Decides.{nat_tests}
 use Rattle.std.specs.Prelude.{Option, Some, None, is_none, reverse}
-use Rattle.executor_model.specs.declared.op.Look.{Look}
-use Rattle.executor_parts.specs.declared.mark.Mark.{Mark}
-use Rattle.executor_model.specs.declared.op.Look.TheVariants.{First, Second}
 use Rattle.executor_parts.specs.Sleepers.{flag_of, position_of, waker_at, waker_of}
 use Rattle.executor_parts.proofs.Agreeing.{first}
-use Rattle.executor_model.specs.declared.kind.Kind.{Kind}
-use Rattle.executor_model.specs.declared.call.Call.{Call}
-use Rattle.executor_model.specs.declared.call.Call.TheVariants as call
-use Rattle.executor_model.specs.declared.call.Reply.{Reply}
-use Rattle.executor_model.specs.declared.event.Event.TheVariants as event
-use Rattle.executor_model.specs.declared.event.Answer.TheVariants as answer
-use Rattle.executor_model.specs.declared.op.Hold.{Hold}
-use Rattle.executor_model.specs.declared.op.Op.{Op}
-use Rattle.executor_model.specs.declared.op.Op.TheVariants as op
-use Rattle.executor_model.specs.declared.op.QueueOp.TheVariants as queue_op
-use Rattle.executor_model.specs.declared.op.ListOp.{ListOp}
-use Rattle.executor_model.specs.declared.op.ListOp.TheVariants as list_op
-use Rattle.executor_model.specs.declared.op.RunOp.TheVariants as run_op
-use Rattle.executor_model.specs.declared.op.RunPoll.{RunPoll}
-use Rattle.executor_model.specs.declared.op.Section.{Section}
-use Rattle.executor_model.specs.declared.op.Section.TheVariants as section
-use Rattle.executor_model.specs.declared.op.TickOrRun.TheVariants as tick_or_run
-use Rattle.executor_model.specs.declared.op.Sleeping.{Sleeping}
-use Rattle.executor_model.specs.declared.op.SleeperOp.{SleeperOp}
-use Rattle.executor_model.specs.declared.op.SleeperOp.TheVariants as sleeper_op
-use Rattle.executor_model.specs.declared.op.TickOp.{TickOp}
-use Rattle.executor_model.specs.declared.op.TickOp.TheVariants as tick_op
-use Rattle.executor_model.specs.declared.op.UserOp.TheVariants as user_op
-use Rattle.executor_model.specs.declared.op.Waker.{Waker}
-use Rattle.executor_model.specs.declared.op.Waker.TheVariants.{Task, Outside}
-use Rattle.executor_model.specs.declared.step.Hint.{Hint}
-use Rattle.executor_model.specs.declared.step.Step.{Step}
-use Rattle.executor_model.specs.declared.step.UserEnd.{UserEnd}
-use Rattle.executor_model.specs.declared.step.UserEnd.TheVariants as end
-use Rattle.executor_model.specs.Acts.{append_by}
+use Rattle.executor_model.proofs.Types.{Look, Mark, First, Second, Kind, Call, Reply, Event, Answer, Hold, Op, QueueOp, ListOp}
+use Rattle.executor_model.proofs.Types.{RunOp, RunPoll, Section, Sleeping, SleeperOp, TickOp, UserOp, Waker, Task, Outside}
+use Rattle.executor_model.proofs.Types.{Hint, Step, UserEnd, TickOrRun}
+use Rattle.executor_model.specs.ActsOfSleepers.{exchange_by, hand_out_by, call_sleeper, make_tick_by, polled_as, look_tick_by}
+use Rattle.executor_model.specs.ActsOfSleepers.{copy_sleeper_by, sleep_anew_by, sleeper_goes, sleep_listed_by, sleep_again_by}
+use Rattle.executor_model.specs.Steps.{Machine, stack, run, start, mine, top, accepts, begun, drop_run, future_of, idle, kept}
 use Rattle.executor_model.specs.ActsOfRuns.{lock_read, lock_write, make_room_by, make_run_by, registered, return_room}
-use Rattle.executor_model.specs.ActsOfSleepers.{exchange_by, hand_out_by, call_sleeper, make_tick_by, polled_as}
-use Rattle.executor_model.specs.Doing.{act}
-use Rattle.executor_model.specs.Acts.{copied}
-use Rattle.executor_model.specs.ActsOfSleepers.{look_tick_by, copy_sleeper_by, sleep_anew_by, sleeper_goes}
-use Rattle.executor_model.specs.ActsOfSleepers.{sleep_listed_by, sleep_again_by, fall_asleep_by, wake_up_by, tell_and_return}
-use Rattle.executor_model.specs.ActsOfSleepers.{pend_as}
-use Rattle.executor_model.specs.ActsOfSleepers.{leave_sleepers_by}
-use Rattle.executor_model.specs.Doing.{list_act, search_by_who, sleeper_act, tick_act}
-use Rattle.executor_model.specs.Good.{Good}
-use Rattle.executor_model.specs.Steps.{Machine, stack, run, start, mine, top, accepts}
-use Rattle.executor_model.specs.Steps.{begun, drop_run, future_of, idle, kept, poll_run, react, with_future}
-use Rattle.executor_model.specs.Weights.{weigh, weigh_all}
-use Rattle.executor_model.specs.declared.op.TickOrRun.{TickOrRun}
-use Rattle.executor_model.specs.World.{World, Ticker, Awake, Asleep, Left, Stage, New, Listed, Ended, Done, done, log}
-use Rattle.executor_model.specs.World.{place_of}
+use Rattle.executor_model.specs.ActsOfSleepers.{fall_asleep_by, wake_up_by, tell_and_return, pend_as, leave_sleepers_by}
+use Rattle.executor_model.specs.World.{World, Ticker, Awake, Asleep, Left, Stage, New, Listed, Ended, Done, done, log, place_of}
+use Rattle.executor_model.specs.{Acts.append_by, Acts.copied, Doing.act, Doing.list_act, Doing.search_by_who, Doing.sleeper_act}
+use Rattle.executor_model.specs.{Doing.tick_act, Good.Good, Steps.poll_run, Steps.react, Steps.with_future, Weights.weigh}
+use Rattle.executor_model.specs.{Weights.weigh_all, SleepersAgree.SleepersAgree, SleepersAgree.hands_of, SleepersAgree.room_of}
+use Rattle.executor_model.proofs.Sleepers.SleepersAway.{sleepers_seen, sleepers_seen-run, Away, away-act, away-call, away-own}
+use Rattle.executor_model.proofs.Sleepers.SleepersAway.{is_seen_asleep, no-owes-searching, owes-hands, owes-rooms, owes_of}
+use Rattle.executor_model.proofs.Sleepers.SleepersWakingUp.{WakesUpWell, wakes_up-append, wakes_up-none, wakes_up-push}
+use Rattle.executor_model.proofs.Sleepers.TickLists.{slumbering-places, places, rooms-places, times-apart, up_rooms-all}
+use Rattle.executor_model.proofs.Sleepers.SleepersFollowing.{Follows, shift, follows-won, follows-hand_out, follows-make}
+use Rattle.executor_model.proofs.Sleepers.SleepersFollowing.{in-flagged, follows-anew, follows-listed, follows-again}
+use Rattle.executor_model.proofs.Sleepers.SleepersFollowing.{follows-returned, follows-room, follows-run, follows-up}
 use Rattle.executor_model.proofs.Steps.Lift.{split, unsettled, weigh_all-idle, good-start}
-use Rattle.executor_model.proofs.Steps.Lists.{weigh-append, weigh_all-push}
 use Rattle.executor_model.proofs.Steps.SleepersNext.{goes-unseen, tell-unseen}
 use Rattle.executor_model.proofs.Steps.Ways.{Way, acted, reacted, called, along}
-use Rattle.executor_model.specs.SleepersAgree.{SleepersAgree, hands_of, room_of}
-use Rattle.executor_model.proofs.Steps.RunsNext.{walk-unseen}
-use Rattle.executor_model.proofs.Sleepers.SleepersAway.{sleepers_seen, sleepers_seen-run, Away, away-act, away-call}
-use Rattle.executor_model.proofs.Sleepers.SleepersAway.{away-own, is_seen_asleep}
-use Rattle.executor_model.proofs.Sleepers.SleepersAway.{no-owes-searching}
-use Rattle.executor_model.proofs.Sleepers.SleepersAway.{owes-hands, owes-rooms, owes_of, wakes_up-walk}
-use Rattle.executor_model.proofs.Sleepers.SleepersWakingUp.{WakesUpWell, wakes_up-append, wakes_up-none, wakes_up-push}
-use Rattle.executor_model.proofs.Sleepers.SleepersWakingUp.{wakes_up-rest, wakes_up-set}
-use Rattle.executor_model.proofs.Sleepers.SleepersWakingUp.{wakes_up_of, wakes_up_well}
-use Rattle.executor_model.proofs.Sleepers.TickLists.{slumbering-places, places, rooms-places, times-apart, up_rooms-all}
-use Rattle.executor_model.proofs.Sleepers.TickLists.{used_all-apart}
-use Rattle.executor_model.proofs.Sleepers.SleepersFollowing.{Follows, shift, follows-won, follows-hand_out, follows-make, in-flagged}
-use Rattle.executor_model.proofs.Sleepers.SleepersFollowing.{follows-anew, follows-listed, follows-again, follows-returned}
-use Rattle.executor_model.proofs.Sleepers.SleepersFollowing.{follows-room, follows-run, follows-up, follows-left}
-use Rattle.executor_model.proofs.Sleepers.SleepersFollowing.{follows-left_awake}
-use Rattle.executor_model.proofs.Sleepers.SleepersFollowing.{follows-unlisted}
+use Rattle.executor_model.proofs.Sleepers.SleepersWakingUp.{wakes_up-rest, wakes_up-set, wakes_up_of, wakes_up_well}
+use Rattle.executor_model.proofs.Sleepers.SleepersFollowing.{follows-left, follows-left_awake, follows-unlisted}
+use Rattle.executor_model.proofs.{Steps.Lists.weigh-append, Steps.Lists.weigh_all-push, Steps.RunsNext.walk-unseen}
+use Rattle.executor_model.proofs.{Sleepers.SleepersAway.wakes_up-walk, Sleepers.TickLists.used_all-apart}
 
 -- they follow on where old is done, while others have still to hand out k times and owe so much room; and who wakes up
 -- tells
@@ -115,12 +71,12 @@ goes o = goes-unseen owes_of (λ f. refl) o
 goes-well : (o : Option Sleeping) → wakes_up_well (sleeper_goes o) ≡ true
 goes-well o = wakes_up-none (sleeper_goes o) (goes-unseen wakes_up_of (λ f. refl) o)
 
-follow-append : (b : Bool) (w : World) (mark : Mark) (f : ℕ) → Follow w (op.Queue (queue_op.Append f) ∷ []) (append_by b w mark f)
+follow-append : (b : Bool) (w : World) (mark : Mark) (f : ℕ) → Follow w (Op.Queue (QueueOp.Append f) ∷ []) (append_by b w mark f)
 follow-append true w mark f = still w _ _ _ refl refl refl refl
 follow-append false w mark f = still w _ _ _ refl refl refl refl
 
 follow-exchange : (b : Bool) (w : World) → w.notified ≡ b →
-    Follow w (op.Sleeper sleeper_op.ExchangeFlag ∷ []) (exchange_by b w)
+    Follow w (Op.Sleeper SleeperOp.ExchangeFlag ∷ []) (exchange_by b w)
 follow-exchange true w e = still w _ _ _ refl refl refl refl
 follow-exchange false w e =
     record {
@@ -132,7 +88,7 @@ follow-exchange false w e =
 
 hands-out : (b : Bool) (o : Option Sleeping) (w : World) → eqb (length w.sleepers.wakers) w.sleepers.count ≡ b →
     weigh owes_of (hand_out_by b o w).next ≡ 0 → wakes_up_well (hand_out_by b o w).next ≡ true →
-    Follow w (op.Sleeper sleeper_op.HandOut ∷ []) (hand_out_by b o w)
+    Follow w (Op.Sleeper SleeperOp.HandOut ∷ []) (hand_out_by b o w)
 hands-out t o w e n r =
     record {
       on = λ i j k a b c x y z u f. let v = (hand_out_by t o w).world in
@@ -143,7 +99,7 @@ hands-out t o w e n r =
     }
 
 follow-hand_out : (b : Bool) (o : Option Sleeping) (w : World) → eqb (length w.sleepers.wakers) w.sleepers.count ≡ b →
-    Follow w (op.Sleeper sleeper_op.HandOut ∷ []) (hand_out_by b o w)
+    Follow w (Op.Sleeper SleeperOp.HandOut ∷ []) (hand_out_by b o w)
 follow-hand_out false o w e = hands-out false o w e refl refl
 follow-hand_out true None w e = hands-out true None w e refl refl
 follow-hand_out true (Some s) w e = hands-out true (Some s) w e refl refl
@@ -151,18 +107,18 @@ follow-hand_out true (Some s) w e = hands-out true (Some s) w e refl refl
 follow-away : (w : World) (old : List Op) (d : Done) → weigh owes_of old ≡ 0 → Away w d → Follow w old d
 follow-away w old d z a = still w d.world old d.next a.sleepers_seen z a.owes a.wakes_up
 
-follow-sleeper : (p : ℕ) (o : SleeperOp) (w : World) → Follow w (op.Sleeper o ∷ []) (sleeper_act p o w)
-follow-sleeper p sleeper_op.ExchangeFlag w = follow-exchange _ w refl
-follow-sleeper p sleeper_op.HandOut w = follow-hand_out _ _ w refl
-follow-sleeper p (sleeper_op.CallSleeper s) w =
+follow-sleeper : (p : ℕ) (o : SleeperOp) (w : World) → Follow w (Op.Sleeper o ∷ []) (sleeper_act p o w)
+follow-sleeper p SleeperOp.ExchangeFlag w = follow-exchange _ w refl
+follow-sleeper p SleeperOp.HandOut w = follow-hand_out _ _ w refl
+follow-sleeper p (SleeperOp.CallSleeper s) w =
     follow-away w _ (call_sleeper p w s) refl (away-call p w (polled_as s.who) s.waker s.poll)
 
-follow-make : (b : Bool) (w : World) → Follow w (op.Tick tick_op.MakeTick ∷ []) (make_tick_by b w)
+follow-make : (b : Bool) (w : World) → Follow w (Op.Tick TickOp.MakeTick ∷ []) (make_tick_by b w)
 follow-make true w = still w _ _ _ refl refl refl refl
 follow-make false w = turned w _ _ _ refl refl refl (λ k m f. follows-make w k m f)
 
 follow-search : (look : Look) (x : Ticker) (q : List ℕ) (w : World) (s : Sleeping) →
-    Follow w (op.Tick (tick_op.Look s look) ∷ []) (look_tick_by x w look q s)
+    Follow w (Op.Tick (TickOp.Look s look) ∷ []) (look_tick_by x w look q s)
 follow-search (First mark) x [] w s = still w _ _ _ refl refl refl refl
 follow-search (Second mark) x [] w s = still w _ _ _ refl refl refl refl
 follow-search look Awake (f ∷ rest) w s = still w _ _ _ refl refl refl refl
@@ -170,9 +126,9 @@ follow-search look (Asleep n) (f ∷ rest) w s = still w _ _ _ refl refl refl re
 follow-search look Left (f ∷ rest) w s = still w _ _ _ refl refl refl refl
 
 follow-search_who : (who : TickOrRun) (p : ℕ) (w : World) (s : Sleeping) →
-    Follow w (op.Tick (tick_op.Search s) ∷ []) (search_by_who who p w s)
-follow-search_who (tick_or_run.Tick t) p w s = still w _ _ _ refl refl refl refl
-follow-search_who (tick_or_run.Run r) p w s = follow-away w _ _ refl
+    Follow w (Op.Tick (TickOp.Search s) ∷ []) (search_by_who who p w s)
+follow-search_who (TickOrRun.Tick t) p w s = still w _ _ _ refl refl refl refl
+follow-search_who (TickOrRun.Run r) p w s = follow-away w _ _ refl
     (away-own _ w (record { run = r; waker = s.waker; poll = s.poll }))
 
 sleepers_seen-copied : (a : Waker) (w : World) → sleepers_seen w ≡ sleepers_seen (copied w a)
@@ -180,22 +136,22 @@ sleepers_seen-copied (Task g) w = refl
 sleepers_seen-copied (Outside x) w = refl
 
 follow-copy : (b : Bool) (w : World) (s : Sleeping) →
-    Follow w (op.Tick (tick_op.CopyWaker s) ∷ []) (copy_sleeper_by b w s)
+    Follow w (Op.Tick (TickOp.CopyWaker s) ∷ []) (copy_sleeper_by b w s)
 follow-copy true w s = still w _ _ _ refl refl refl refl
 follow-copy false w s = still w _ _ _ (sleepers_seen-copied s.waker w) refl refl refl
 
 follow-anew : (b : Bool) (w : World) (s : Sleeping) → place_of w s.who ≡ Awake →
-    ltb w.sleepers.count w.sleepers.rooms ≡ b → Follow w (op.Tick (tick_op.FallAsleep s) ∷ []) (sleep_anew_by b w s)
+    ltb w.sleepers.count w.sleepers.rooms ≡ b → Follow w (Op.Tick (TickOp.FallAsleep s) ∷ []) (sleep_anew_by b w s)
 follow-anew true w s e r = turned w _ _ _ refl refl refl (λ k m f. follows-anew w s k m e r f)
 follow-anew false w s e r = still w _ _ _ refl refl refl refl
 
 follow-listed : (b : Bool) (w : World) (n : ℕ) (s : Sleeping) → place_of w s.who ≡ Asleep n →
-    position_of n w.sleepers.wakers ≡ None → Follow w (op.Tick (tick_op.FallAsleep s) ∷ []) (sleep_listed_by b w n s)
+    position_of n w.sleepers.wakers ≡ None → Follow w (Op.Tick (TickOp.FallAsleep s) ∷ []) (sleep_listed_by b w n s)
 follow-listed true w n s e q = turned w _ _ _ refl refl refl (λ k m f. follows-listed w n s k m e q f)
 follow-listed false w n s e q = still w _ _ _ refl refl refl refl
 
 follow-again : (o : Option ℕ) (w : World) (n : ℕ) (s : Sleeping) → place_of w s.who ≡ Asleep n →
-    position_of n w.sleepers.wakers ≡ o → Follow w (op.Tick (tick_op.FallAsleep s) ∷ []) (sleep_again_by o w n s)
+    position_of n w.sleepers.wakers ≡ o → Follow w (Op.Tick (TickOp.FallAsleep s) ∷ []) (sleep_again_by o w n s)
 follow-again None w n s e q = follow-listed _ w n s e q
 follow-again (Some at) w n s e q =
     let old = waker_at (Some at) w.sleepers.wakers in
@@ -204,13 +160,13 @@ follow-again (Some at) w n s e q =
     (λ k m f. follows-again w n at s k m e q f)
 
 follow-sleep : (x : Ticker) (w : World) (s : Sleeping) → place_of w s.who ≡ x →
-    Follow w (op.Tick (tick_op.FallAsleep s) ∷ []) (fall_asleep_by x w s)
+    Follow w (Op.Tick (TickOp.FallAsleep s) ∷ []) (fall_asleep_by x w s)
 follow-sleep Awake w s e = follow-anew _ w s e refl
 follow-sleep (Asleep n) w s e = follow-again _ w n s e refl
 follow-sleep Left w s e = still w _ _ _ refl refl refl refl
 
 follow-up : (x : Ticker) (w : World) (t : TickOrRun) → place_of w t ≡ x →
-    Follow w (op.Tick (tick_op.WakeUp t) ∷ []) (wake_up_by x w t)
+    Follow w (Op.Tick (TickOp.WakeUp t) ∷ []) (wake_up_by x w t)
 follow-up Awake w t e = still w _ _ _ refl refl refl refl
 follow-up (Asleep n) w t e =
     let old = waker_of n w.sleepers.wakers in
@@ -227,7 +183,7 @@ returns true = refl
 returns false = refl
 
 follow-leave : (x : Ticker) (w : World) (t : TickOrRun) → place_of w t ≡ x →
-    Follow w (op.Tick (tick_op.Leave t) ∷ []) (leave_sleepers_by x w t)
+    Follow w (Op.Tick (TickOp.Leave t) ∷ []) (leave_sleepers_by x w t)
 follow-leave Awake w t e = turned w _ _ _ refl refl refl (λ k m h. follows-left_awake w t k m e h)
 follow-leave (Asleep n) w t e =
     let old = waker_of n w.sleepers.wakers in
@@ -252,23 +208,23 @@ follow-leave (Asleep n) w t e =
     }
 follow-leave Left w t e = still w _ _ _ refl refl refl refl
 
-follow-tick : (p : ℕ) (h : Hint) (o : TickOp) (w : World) → Follow w (op.Tick o ∷ []) (tick_act p h o w)
-follow-tick p h tick_op.MakeTick w = follow-make _ w
-follow-tick p h (tick_op.Search s) w = follow-search_who s.who p w s
-follow-tick p h (tick_op.Look s look) w = follow-search look _ _ w s
-follow-tick p h (tick_op.CopyWaker s) w = follow-copy _ w s
-follow-tick p h (tick_op.FallAsleep s) w = follow-sleep _ w s refl
-follow-tick p h (tick_op.WakeUp t) w = follow-up _ w t refl
-follow-tick p h (tick_op.Leave t) w = follow-leave _ w t refl
+follow-tick : (p : ℕ) (h : Hint) (o : TickOp) (w : World) → Follow w (Op.Tick o ∷ []) (tick_act p h o w)
+follow-tick p h TickOp.MakeTick w = follow-make _ w
+follow-tick p h (TickOp.Search s) w = follow-search_who s.who p w s
+follow-tick p h (TickOp.Look s look) w = follow-search look _ _ w s
+follow-tick p h (TickOp.CopyWaker s) w = follow-copy _ w s
+follow-tick p h (TickOp.FallAsleep s) w = follow-sleep _ w s refl
+follow-tick p h (TickOp.WakeUp t) w = follow-up _ w t refl
+follow-tick p h (TickOp.Leave t) w = follow-leave _ w t refl
 
 -- the list of queues, and room for a run
 
-follow-lock : (s : Section) (w : World) → Follow w (op.List (list_op.LockWrite s) ∷ []) (lock_write w s)
-follow-lock section.MakeRun w = shifted w _ _ _ refl refl refl refl
-follow-lock (section.Register x) w = shifted w _ _ _ refl refl refl refl
-follow-lock (section.Unregister r a) w = shifted w _ _ _ refl refl refl refl
+follow-lock : (s : Section) (w : World) → Follow w (Op.List (ListOp.LockWrite s) ∷ []) (lock_write w s)
+follow-lock Section.MakeRun w = shifted w _ _ _ refl refl refl refl
+follow-lock (Section.Register x) w = shifted w _ _ _ refl refl refl refl
+follow-lock (Section.Unregister r a) w = shifted w _ _ _ refl refl refl refl
 
-follow-make_run : (b : Bool) (w : World) → Follow w (op.List (list_op.Write section.MakeRun) ∷ []) (make_run_by b w)
+follow-make_run : (b : Bool) (w : World) → Follow w (Op.List (ListOp.Write Section.MakeRun) ∷ []) (make_run_by b w)
 follow-make_run true w = shifted w _ _ _ refl refl refl refl
 follow-make_run false w =
     record {
@@ -283,18 +239,18 @@ sleepers_seen-registered New w r = sleepers_seen-run w r _ refl
 sleepers_seen-registered Listed w r = refl
 sleepers_seen-registered Ended w r = refl
 
-follow-list : (h : Hint) (o : ListOp) (w : World) → Follow w (op.List o ∷ []) (list_act h o w)
-follow-list h (list_op.LockWrite s) w = follow-lock s w
-follow-list h (list_op.Write section.MakeRun) w = follow-make_run h.refused w
-follow-list h (list_op.Write (section.Register x)) w = still w _ _ _ (sleepers_seen-registered _ w x.run) refl refl refl
-follow-list h (list_op.Write (section.Unregister r a)) w = still w _ _ _ (sleepers_seen-run w r _ refl) refl refl refl
-follow-list h list_op.UnlockWrite w = still w _ _ _ refl refl refl refl
-follow-list h (list_op.LockRead x) w = still w (lock_read h w x).world _ (lock_read h w x).next refl refl
+follow-list : (h : Hint) (o : ListOp) (w : World) → Follow w (Op.List o ∷ []) (list_act h o w)
+follow-list h (ListOp.LockWrite s) w = follow-lock s w
+follow-list h (ListOp.Write Section.MakeRun) w = follow-make_run h.refused w
+follow-list h (ListOp.Write (Section.Register x)) w = still w _ _ _ (sleepers_seen-registered _ w x.run) refl refl refl
+follow-list h (ListOp.Write (Section.Unregister r a)) w = still w _ _ _ (sleepers_seen-run w r _ refl) refl refl refl
+follow-list h ListOp.UnlockWrite w = still w _ _ _ refl refl refl refl
+follow-list h (ListOp.LockRead x) w = still w (lock_read h w x).world _ (lock_read h w x).next refl refl
     (walk-unseen owes_of no-owes-searching x w.listed (h.start % length w.listed) (length w.listed))
     (wakes_up-walk x w.listed (h.start % length w.listed) (length w.listed))
-follow-list h list_op.UnlockRead w = still w _ _ _ refl refl refl refl
+follow-list h ListOp.UnlockRead w = still w _ _ _ refl refl refl refl
 
-follow-room : (b : Bool) (w : World) → Follow w (op.Run run_op.MakeRoom ∷ []) (make_room_by b w)
+follow-room : (b : Bool) (w : World) → Follow w (Op.Run RunOp.MakeRoom ∷ []) (make_room_by b w)
 follow-room true w = still w _ _ _ refl refl refl refl
 follow-room false w =
     record {
@@ -303,7 +259,7 @@ follow-room false w =
       wakes_up = refl;
     }
 
-follow-returned : (w : World) → Follow w (op.Run run_op.ReturnRoom ∷ []) (return_room w)
+follow-returned : (w : World) → Follow w (Op.Run RunOp.ReturnRoom ∷ []) (return_room w)
 follow-returned w =
     record {
       on = λ i j k a b c x y z u f. let v = (return_room w).world in
@@ -313,30 +269,30 @@ follow-returned w =
     }
 
 no-owes : (o : Op) → is_seen_asleep o ≡ false → owes_of o ≡ 0
-no-owes (op.Sleeper o) e = absurd (cc)
-no-owes (op.List o) e = absurd (cc)
-no-owes (op.Run run_op.ReturnRoom) e = absurd (cc)
+no-owes (Op.Sleeper o) e = absurd (cc)
+no-owes (Op.List o) e = absurd (cc)
+no-owes (Op.Run RunOp.ReturnRoom) e = absurd (cc)
 no-owes _ e = refl
 
 pub follow-act : (b : Bool) (p : ℕ) (h : Hint) (o : Op) (w : World) → is_seen_asleep o ≡ b → Follow w (o ∷ []) (act p h o w)
 follow-act false p h o w n = follow-away w (o ∷ []) (act p h o w) (omega (arith, no-owes o n)) (away-act p h o w n)
-follow-act true p h (op.Queue (queue_op.Append g)) w n = follow-append _ w _ g
-follow-act true p h (op.Sleeper o) w n = follow-sleeper p o w
-follow-act true p h (op.Tick o) w n = follow-tick p h o w
-follow-act true p h (op.List o) w n = follow-list h o w
-follow-act true p h (op.Run run_op.MakeRoom) w n = follow-room _ w
-follow-act true p h (op.Run run_op.ReturnRoom) w n = follow-returned w
+follow-act true p h (Op.Queue (QueueOp.Append g)) w n = follow-append _ w _ g
+follow-act true p h (Op.Sleeper o) w n = follow-sleeper p o w
+follow-act true p h (Op.Tick o) w n = follow-tick p h o w
+follow-act true p h (Op.List o) w n = follow-list h o w
+follow-act true p h (Op.Run RunOp.MakeRoom) w n = follow-room _ w
+follow-act true p h (Op.Run RunOp.ReturnRoom) w n = follow-returned w
 follow-act true p h _ w n = absurd (cc)
 
 pub follow-react : (p : ℕ) (o : Op) (u : UserEnd) (w : World) → accepts o u ≡ true → Follow w (o ∷ []) (react p o u w)
-follow-react p (op.User (user_op.Poll f)) (end.Polled answer.Pending) w a = still w _ _ _ refl refl refl refl
-follow-react p (op.User (user_op.Poll f)) (end.Polled answer.Ready) w a = still w _ _ _ refl refl refl refl
-follow-react p (op.User (user_op.Drop f)) end.Done w a = still w _ _ _ refl refl refl refl
-follow-react p (op.User (user_op.DropOutput f)) end.Done w a = still w _ _ _ refl refl refl refl
-follow-react p (op.User (user_op.CallOutside x)) end.Done w a = still w _ _ _ refl refl refl refl
-follow-react p (op.User (user_op.PollOwn x)) (end.Polled answer.Pending) w a = still w _ _ _ refl refl refl refl
-follow-react p (op.User (user_op.PollOwn x)) (end.Polled answer.Ready) w a = still w _ _ _ refl refl refl refl
-follow-react p (op.User (user_op.DropOwn r)) end.Done w a = still w _ _ _ refl refl refl refl
+follow-react p (Op.User (UserOp.Poll f)) (UserEnd.Polled Answer.Pending) w a = still w _ _ _ refl refl refl refl
+follow-react p (Op.User (UserOp.Poll f)) (UserEnd.Polled Answer.Ready) w a = still w _ _ _ refl refl refl refl
+follow-react p (Op.User (UserOp.Drop f)) UserEnd.Done w a = still w _ _ _ refl refl refl refl
+follow-react p (Op.User (UserOp.DropOutput f)) UserEnd.Done w a = still w _ _ _ refl refl refl refl
+follow-react p (Op.User (UserOp.CallOutside x)) UserEnd.Done w a = still w _ _ _ refl refl refl refl
+follow-react p (Op.User (UserOp.PollOwn x)) (UserEnd.Polled Answer.Pending) w a = still w _ _ _ refl refl refl refl
+follow-react p (Op.User (UserOp.PollOwn x)) (UserEnd.Polled Answer.Ready) w a = still w _ _ _ refl refl refl refl
+follow-react p (Op.User (UserOp.DropOwn r)) UserEnd.Done w a = still w _ _ _ refl refl refl refl
 follow-react p _ _ w a = absurd (cc)
 
 follow-with : (w v : World) (x : Option ℕ) (d : ℕ → Done) → sleepers_seen w ≡ sleepers_seen v → ((f : ℕ) → Follow w [] (d f)) →
@@ -355,21 +311,21 @@ follow-drop_run w v Listed r e = still w v _ _ e refl refl refl
 follow-drop_run w v Ended r e = still w v _ _ e refl refl refl
 
 pub follow-begun : (p : ℕ) (w : World) (here : Option Waker) (c : Call) →
-    Follow w [] (begun p (log w (event.CallBegun p c)) here c)
-follow-begun p w here (call.Wake n) = follow-with w (log w (event.CallBegun p (call.Wake n))) (kept w n) _ refl
+    Follow w [] (begun p (log w (Event.CallBegun p c)) here c)
+follow-begun p w here (Call.Wake n) = follow-with w (log w (Event.CallBegun p (Call.Wake n))) (kept w n) _ refl
     (λ f. still w _ _ _ refl refl refl refl)
-follow-begun p w here (call.WakeByRef n) = follow-with w (log w (event.CallBegun p (call.WakeByRef n))) (kept w n) _
+follow-begun p w here (Call.WakeByRef n) = follow-with w (log w (Event.CallBegun p (Call.WakeByRef n))) (kept w n) _
     refl (λ f. still w _ _ _ refl refl refl refl)
-follow-begun p w here (call.Copy n) = follow-with w (log w (event.CallBegun p (call.Copy n))) (kept w n) _ refl
+follow-begun p w here (Call.Copy n) = follow-with w (log w (Event.CallBegun p (Call.Copy n))) (kept w n) _ refl
     (λ f. still w _ _ _ refl refl refl refl)
-follow-begun p w here (call.DropWaker n) = follow-with w (log w (event.CallBegun p (call.DropWaker n))) (kept w n) _
+follow-begun p w here (Call.DropWaker n) = follow-with w (log w (Event.CallBegun p (Call.DropWaker n))) (kept w n) _
     refl (λ f. still w _ _ _ refl refl refl refl)
-follow-begun p w here call.Keep =
-    follow-with w (log w (event.CallBegun p call.Keep)) (future_of here) _ refl (λ f. still w _ _ _ refl refl refl refl)
-follow-begun p w here call.WakeSelf = follow-with w (log w (event.CallBegun p call.WakeSelf)) (future_of here) _ refl
+follow-begun p w here Call.Keep =
+    follow-with w (log w (Event.CallBegun p Call.Keep)) (future_of here) _ refl (λ f. still w _ _ _ refl refl refl refl)
+follow-begun p w here Call.WakeSelf = follow-with w (log w (Event.CallBegun p Call.WakeSelf)) (future_of here) _ refl
     (λ f. still w _ _ _ refl refl refl refl)
-follow-begun p w here (call.PollRun r b) = follow-poll_run w _ _ _ refl
-follow-begun p w here (call.DropRun r) = follow-drop_run w _ _ r (sleepers_seen-run w r _ refl)
+follow-begun p w here (Call.PollRun r b) = follow-poll_run w _ _ _ refl
+follow-begun p w here (Call.DropRun r) = follow-drop_run w _ _ r (sleepers_seen-run w r _ refl)
 follow-begun p w here _ = still w _ _ _ refl refl refl refl
 
 -- every step
@@ -398,10 +354,10 @@ pub followed-moves : (s : Machine) (p : ℕ) (old rest : List Op) (d : Done) →
 followed-moves s p old rest d good l e w f = moved s p old rest d l e (follow-way s p old rest d w) f
 
 pub followed-ends : (s : Machine) (p : ℕ) (a : Reply) (held : Hold) (below : List Op) → p < length s.parties →
-    stack s p ≡ below ++ reverse (op.End a held ∷ []) → Followed s →
-    Followed (unsettled s p below (done (log s.world (event.CallEnded p a)) []))
-followed-ends s p a held below l e f = moved s p (op.End a held ∷ []) below _ l e
-    (still s.world (log s.world (event.CallEnded p a)) (op.End a held ∷ []) [] refl refl refl refl) f
+    stack s p ≡ below ++ reverse (Op.End a held ∷ []) → Followed s →
+    Followed (unsettled s p below (done (log s.world (Event.CallEnded p a)) []))
+followed-ends s p a held below l e f = moved s p (Op.End a held ∷ []) below _ l e
+    (still s.world (log s.world (Event.CallEnded p a)) (Op.End a held ∷ []) [] refl refl refl refl) f
 
 idle-stack : (n q : ℕ) → get_or (idle n) q [] ≡ []
 idle-stack zero q = refl

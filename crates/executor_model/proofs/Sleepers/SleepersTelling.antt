@@ -1,75 +1,30 @@
 -- For sleepers_are_told.
 -- Where a Runnable stands in one of the executor's queues and a tick or run sleeps, a sleeper is notified or will be told.
-use Rattle.std.proofs.Common.{◌≡◌, ℕ, zero, suc, ◌+◌, ◌<◌, ◌≤◌, List, [], ◌∷◌, ◌++◌, length, take, Bool, true, false}
-use Rattle.std.proofs.Common.{ltb, eqb, refl, sym, ap, subst, inl, inr, ◌⊎◌, ⊎_elim, arith}
-use Rattle.std.proofs.lemmas.Bool.Decides.{nat_tests}
+use Rattle.std.proofs.Common.{◌≡◌, ℕ, zero, suc, ◌+◌, ◌<◌, ◌≤◌, List, [], ◌∷◌, ◌++◌, length, take, Bool, true, false, ltb, eqb}
+use Rattle.std.proofs.Common.{refl, sym, ap, subst, inl, inr, ◌⊎◌, ⊎_elim, arith}
 use Rattle.std.proofs.lemmas.List.{length-set, length-take-le}
-use Rattle.std.proofs.lemmas.List.Edits.{length-remove}
 use Rattle.std.specs.Prelude.{◌-◌, Option, Some, None, is_none, remove, slice_get}
-use Rattle.executor_model.specs.Queues.{Queues, queue_in}
-use Rattle.executor_parts.specs.Marks.{other}
-use Rattle.executor_parts.specs.declared.mark.Mark.TheVariants.{Plain, Urgent}
-use Rattle.executor_model.specs.declared.op.Look.{Look}
-use Rattle.executor_parts.specs.declared.mark.Mark.{Mark}
-use Rattle.executor_model.specs.declared.op.Look.TheVariants.{First, Second}
-use Rattle.executor_model.specs.World.{queue_of}
-use Rattle.executor_model.specs.Acts.{mark_in}
-use Rattle.executor_parts.specs.Sleepers.{Sleepers, last_waker, waker_in, waker_at, waker_of}
-use Rattle.executor_parts.specs.Sleepers.{position_of, without_entry, freed, woken_up}
-use Rattle.executor_model.specs.declared.call.Call.{Call}
-use Rattle.executor_model.specs.declared.call.Call.TheVariants as call
-use Rattle.executor_model.specs.declared.event.Answer.TheVariants as answer
-use Rattle.executor_model.specs.declared.event.Event.TheVariants as event
-use Rattle.executor_model.specs.declared.op.Op.{Op}
-use Rattle.executor_model.specs.declared.op.Op.TheVariants as op
-use Rattle.executor_model.specs.declared.op.QueueOp.TheVariants as queue_op
-use Rattle.executor_model.specs.declared.op.ListOp.{ListOp}
-use Rattle.executor_model.specs.declared.op.ListOp.TheVariants as list_op
-use Rattle.executor_model.specs.declared.op.RunOp.TheVariants as run_op
-use Rattle.executor_model.specs.declared.op.RunPoll.{RunPoll}
-use Rattle.executor_model.specs.declared.op.Section.TheVariants as section
-use Rattle.executor_model.specs.declared.op.TickOrRun.TheVariants as tick_or_run
-use Rattle.executor_model.specs.declared.op.Sleeping.{Sleeping}
-use Rattle.executor_model.specs.declared.op.Steal.{Steal}
-use Rattle.executor_model.specs.declared.op.StealOp.{StealOp}
-use Rattle.executor_model.specs.declared.op.StealOp.TheVariants as steal_op
-use Rattle.executor_model.specs.declared.op.Then.{Then}
-use Rattle.executor_model.specs.declared.op.Then.TheVariants as then
-use Rattle.executor_model.specs.declared.op.SleeperOp.{SleeperOp}
-use Rattle.executor_model.specs.declared.op.SleeperOp.TheVariants as sleeper_op
-use Rattle.executor_model.specs.declared.op.TickOp.{TickOp}
-use Rattle.executor_model.specs.declared.op.TickOp.TheVariants as tick_op
-use Rattle.executor_model.specs.declared.op.UserOp.TheVariants as user_op
-use Rattle.executor_model.specs.declared.op.Waker.{Waker}
-use Rattle.executor_model.specs.declared.op.Waker.TheVariants.{Task, Outside}
-use Rattle.executor_model.specs.declared.step.Hint.{Hint}
-use Rattle.executor_model.specs.declared.step.UserEnd.{UserEnd}
-use Rattle.executor_model.specs.declared.step.UserEnd.TheVariants as end
-use Rattle.executor_model.specs.Acts.{append_by}
-use Rattle.executor_model.specs.ActsOfSleepers.{exchange_by, found_by, hand_out_by, call_sleeper, make_tick_by}
-use Rattle.executor_model.specs.ActsOfSleepers.{polled_as}
-use Rattle.executor_model.specs.ActsOfRuns.{counted_by, found, kept_by, make_room_by, make_run_by, registered}
-use Rattle.executor_model.specs.ActsOfRuns.{return_room}
+use Rattle.std.{proofs.lemmas.Bool.Decides.nat_tests, proofs.lemmas.List.Edits.length-remove}
+use Rattle.executor_parts.specs.Sleepers.{Sleepers, last_waker, waker_in, waker_at, waker_of, position_of, without_entry, freed}
+use Rattle.executor_parts.{specs.Marks.other, specs.Sleepers.woken_up}
+use Rattle.executor_model.proofs.Types.{Plain, Urgent, Look, Mark, First, Second, Call, Answer, Event, Op, QueueOp, ListOp}
+use Rattle.executor_model.proofs.Types.{RunOp, RunPoll, Section, Sleeping, Steal, StealOp, Then, SleeperOp, TickOp, UserOp}
+use Rattle.executor_model.proofs.Types.{Waker, Task, Outside, Hint, UserEnd, TickOrRun}
+use Rattle.executor_model.specs.World.{queue_of, World, Ticker, Awake, Asleep, Left, Stage, New, Listed, Ended, Done, done, log}
+use Rattle.executor_model.specs.ActsOfSleepers.{exchange_by, found_by, hand_out_by, call_sleeper, make_tick_by, polled_as}
+use Rattle.executor_model.specs.ActsOfSleepers.{look_tick_by, copy_sleeper_by, sleep_anew_by, sleeper_goes, sleep_listed_by}
+use Rattle.executor_model.specs.ActsOfSleepers.{sleep_again_by, fall_asleep_by, wake_up_by, given_back, tell_and_return}
+use Rattle.executor_model.specs.ActsOfRuns.{counted_by, found, kept_by, make_room_by, make_run_by, registered, return_room}
 use Rattle.executor_model.specs.ActsOfRuns.{search_common_by, search_own_by, steal_by, steal_length_by, steal_put_by}
 use Rattle.executor_model.specs.ActsOfRuns.{steal_take_by, stolen}
-use Rattle.executor_model.specs.Doing.{act}
-use Rattle.executor_model.specs.Acts.{copied}
-use Rattle.executor_model.specs.ActsOfSleepers.{look_tick_by, copy_sleeper_by, sleep_anew_by, sleeper_goes}
-use Rattle.executor_model.specs.ActsOfSleepers.{sleep_listed_by, sleep_again_by, fall_asleep_by, wake_up_by, given_back}
-use Rattle.executor_model.specs.ActsOfSleepers.{tell_and_return}
-use Rattle.executor_model.specs.ActsOfSleepers.{leave_sleepers_by}
-use Rattle.executor_model.specs.Doing.{list_act, search_by_who, sleeper_act, steal_act, tick_act}
+use Rattle.executor_model.specs.Doing.{act, list_act, search_by_who, sleeper_act, steal_act, tick_act}
 use Rattle.executor_model.specs.Steps.{accepts, begun, future_of, react, with_future, kept}
-use Rattle.executor_model.specs.Weights.{weigh}
-use Rattle.executor_model.specs.declared.op.TickOrRun.{TickOrRun}
-use Rattle.executor_model.specs.World.{World, Ticker, Awake, Asleep, Left, Stage, New, Listed, Ended, Done, done, log}
-use Rattle.executor_model.specs.World.{put_own, run_of}
-use Rattle.executor_model.proofs.Steps.Lists.{weigh-append}
-use Rattle.executor_model.proofs.Steps.SleepersLists.{position-within}
-use Rattle.executor_model.specs.SleepersAgree.{hands_of}
 use Rattle.executor_model.specs.SleepersTold.{tells_of, tells_steal, tells_then, tells_look}
-use Rattle.executor_model.proofs.Sleepers.SleepersAway.{sleepers_seen, sleepers_seen-run, Away, away-act, away-call, is_seen_asleep}
-use Rattle.executor_model.proofs.Sleepers.SleepersWakingUp.{wakes_up_of}
+use Rattle.executor_model.specs.{Queues.Queues, Queues.queue_in, World.put_own, World.run_of, Acts.mark_in, Acts.append_by}
+use Rattle.executor_model.specs.{Acts.copied, ActsOfSleepers.leave_sleepers_by, Weights.weigh, SleepersAgree.hands_of}
+use Rattle.executor_model.proofs.Sleepers.SleepersAway.{sleepers_seen, sleepers_seen-run, Away, away-act, away-call}
+use Rattle.executor_model.proofs.{Steps.Lists.weigh-append, Steps.SleepersLists.position-within}
+use Rattle.executor_model.proofs.{Sleepers.SleepersAway.is_seen_asleep, Sleepers.SleepersWakingUp.wakes_up_of}
 
 -- what is used of the sleepers, where so many have still to hand out
 pub record Ground (w : World) (a : ℕ) : Type 0 where
@@ -134,12 +89,12 @@ module _ (mark : Mark) where
   loud w v old next z =
       record { on = λ i j k a m x y u l r g t. record { told = λ p q. let b : 1 ≤ j = omega (arith, y, z) in inr b } }
 
-  tells-append : (b : Bool) (w : World) (n : Mark) (f : ℕ) → Tells w (op.Queue (queue_op.Append f) ∷ []) (append_by b w n f)
+  tells-append : (b : Bool) (w : World) (n : Mark) (f : ℕ) → Tells w (Op.Queue (QueueOp.Append f) ∷ []) (append_by b w n f)
   tells-append true w n f = loud w _ _ _ (omega arith)
   tells-append false w n f = quiet w _ _ _ refl (omega arith) refl
 
   tells-exchange : (b : Bool) (w : World) → w.notified ≡ b →
-      Tells w (op.Sleeper sleeper_op.ExchangeFlag ∷ []) (exchange_by b w)
+      Tells w (Op.Sleeper SleeperOp.ExchangeFlag ∷ []) (exchange_by b w)
   tells-exchange true w e = record { on = λ i j k a m x y u l r g t. grind arith }
   tells-exchange false w e = loud w _ _ _ (omega arith)
 
@@ -154,7 +109,7 @@ module _ (mark : Mark) where
       by x (y ∷ ys) q = by y ys q
 
   tells-hand_out : (b : Bool) (o : Option Sleeping) (w : World) → eqb (length w.sleepers.wakers) w.sleepers.count ≡ b →
-      last_waker w.sleepers.wakers ≡ o → Tells w (op.Sleeper sleeper_op.HandOut ∷ []) (hand_out_by b o w)
+      last_waker w.sleepers.wakers ≡ o → Tells w (Op.Sleeper SleeperOp.HandOut ∷ []) (hand_out_by b o w)
   tells-hand_out false o w e q = record { on = λ i j k a m x y u l r g t. grind (arith, nat_tests) }
   tells-hand_out true None w e q = let z = no-last w.sleepers.wakers q in
       record { on = λ i j k a m x y u l r g t. grind (arith, nat_tests) }
@@ -169,20 +124,20 @@ module _ (mark : Mark) where
           shorter : (ws : List (ℕ × Sleeping)) (n : ℕ) → length ws ≡ n → 1 ≤ n → length (take (length ws - 1) ws) < n
           shorter ws n e c = omega (arith, e, c, length-take-le (length ws - 1) ws)
 
-  tells-sleeper : (p : ℕ) (o : SleeperOp) (w : World) → Tells w (op.Sleeper o ∷ []) (sleeper_act p o w)
-  tells-sleeper p sleeper_op.ExchangeFlag w = tells-exchange _ w refl
-  tells-sleeper p sleeper_op.HandOut w = tells-hand_out _ _ w refl refl
-  tells-sleeper p (sleeper_op.CallSleeper s) w = let a = away-call p w (polled_as s.who) s.waker s.poll in
+  tells-sleeper : (p : ℕ) (o : SleeperOp) (w : World) → Tells w (Op.Sleeper o ∷ []) (sleeper_act p o w)
+  tells-sleeper p SleeperOp.ExchangeFlag w = tells-exchange _ w refl
+  tells-sleeper p SleeperOp.HandOut w = tells-hand_out _ _ w refl refl
+  tells-sleeper p (SleeperOp.CallSleeper s) w = let a = away-call p w (polled_as s.who) s.waker s.poll in
       quiet w (call_sleeper p w s).world _ (call_sleeper p w s).next a.sleepers_seen (a.queue mark) refl
 
   -- ticks and runs
 
-  tells-make : (b : Bool) (w : World) → Tells w (op.Tick tick_op.MakeTick ∷ []) (make_tick_by b w)
+  tells-make : (b : Bool) (w : World) → Tells w (Op.Tick TickOp.MakeTick ∷ []) (make_tick_by b w)
   tells-make true w = quiet w _ _ _ refl (omega arith) refl
   tells-make false w = record { on = λ i j k a m x y u l r g t. record { told = λ p q. grind arith } }
 
   tells-search : (look : Look) (x : Ticker) (q : List ℕ) (w : World) (s : Sleeping) → (queue_of w (mark_in look)).items ≡ q →
-      Tells w (op.Tick (tick_op.Look s look) ∷ []) (look_tick_by x w look q s)
+      Tells w (Op.Tick (TickOp.Look s look) ∷ []) (look_tick_by x w look q s)
   tells-search (First n) x [] w s e = ⊎_elim (none-there w w _ _) (λ z. loud w _ _ _ (omega (arith, z)))
       (looked-first mark n w e)
   tells-search (Second n) x [] w s e = ⊎_elim (none-there w w _ _)
@@ -197,21 +152,21 @@ module _ (mark : Mark) where
   tells-copied (Outside x) w = (refl, omega arith)
 
   tells-copy : (b : Bool) (w : World) (s : Sleeping) →
-      Tells w (op.Tick (tick_op.CopyWaker s) ∷ []) (copy_sleeper_by b w s)
+      Tells w (Op.Tick (TickOp.CopyWaker s) ∷ []) (copy_sleeper_by b w s)
   tells-copy true w s = quiet w _ _ _ refl (omega arith) refl
   tells-copy false w s = let c = tells-copied s.waker w in quiet w _ _ _ c.0 c.1 refl
 
-  tells-anew : (b : Bool) (w : World) (s : Sleeping) → Tells w (op.Tick (tick_op.FallAsleep s) ∷ []) (sleep_anew_by b w s)
+  tells-anew : (b : Bool) (w : World) (s : Sleeping) → Tells w (Op.Tick (TickOp.FallAsleep s) ∷ []) (sleep_anew_by b w s)
   tells-anew true w s = loud w _ _ _ (omega arith)
   tells-anew false w s = quiet w _ _ _ refl (omega arith) refl
 
   tells-listed : (b : Bool) (w : World) (n : ℕ) (s : Sleeping) →
-      Tells w (op.Tick (tick_op.FallAsleep s) ∷ []) (sleep_listed_by b w n s)
+      Tells w (Op.Tick (TickOp.FallAsleep s) ∷ []) (sleep_listed_by b w n s)
   tells-listed true w n s = loud w _ _ _ (omega arith)
   tells-listed false w n s = quiet w _ _ _ refl (omega arith) refl
 
   tells-again : (o : Option ℕ) (w : World) (n : ℕ) (s : Sleeping) →
-      Tells w (op.Tick (tick_op.FallAsleep s) ∷ []) (sleep_again_by o w n s)
+      Tells w (Op.Tick (TickOp.FallAsleep s) ∷ []) (sleep_again_by o w n s)
   tells-again None w n s = tells-listed _ w n s
   tells-again (Some at) w n s =
       record {
@@ -219,12 +174,12 @@ module _ (mark : Mark) where
             record { told = λ p q. grind arith };
       }
 
-  tells-sleep : (x : Ticker) (w : World) (s : Sleeping) → Tells w (op.Tick (tick_op.FallAsleep s) ∷ []) (fall_asleep_by x w s)
+  tells-sleep : (x : Ticker) (w : World) (s : Sleeping) → Tells w (Op.Tick (TickOp.FallAsleep s) ∷ []) (fall_asleep_by x w s)
   tells-sleep Awake w s = tells-anew _ w s
   tells-sleep (Asleep n) w s = tells-again _ w n s
   tells-sleep Left w s = quiet w _ _ _ refl (omega arith) refl
 
-  tells-up : (x : Ticker) (w : World) (t : TickOrRun) → Tells w (op.Tick (tick_op.WakeUp t) ∷ []) (wake_up_by x w t)
+  tells-up : (x : Ticker) (w : World) (t : TickOrRun) → Tells w (Op.Tick (TickOp.WakeUp t) ∷ []) (wake_up_by x w t)
   tells-up x w t = record {
     on = λ i j k a m y z u l r g h. record { told = λ p q. let b : 1 ≤ j = omega (arith, z, r) in inr b };
   }
@@ -267,7 +222,7 @@ module _ (mark : Mark) where
       by (Some at) q k = (at, q)
 
   tells-left : (old : Option Sleeping) (w : World) (t : TickOrRun) (n : ℕ) → waker_of n w.sleepers.wakers ≡ old →
-      Tells w (op.Tick (tick_op.Leave t) ∷ []) (leave_sleepers_by (Asleep n) w t)
+      Tells w (Op.Tick (TickOp.Leave t) ∷ []) (leave_sleepers_by (Asleep n) w t)
   tells-left None w t n e =
       let o = waker_of n w.sleepers.wakers in
       let told : weigh (tells_of mark) (tell_and_return (is_none o)) ≡ 1 =
@@ -288,7 +243,7 @@ module _ (mark : Mark) where
       moved c n c2 n2 i j a b l (inl x) = inl (omega (arith, a, b, x))
       moved c n c2 n2 i j a b l (inr x) = inr (omega (arith, l, x))
 
-  tells-leave : (x : Ticker) (w : World) (t : TickOrRun) → Tells w (op.Tick (tick_op.Leave t) ∷ []) (leave_sleepers_by x w t)
+  tells-leave : (x : Ticker) (w : World) (t : TickOrRun) → Tells w (Op.Tick (TickOp.Leave t) ∷ []) (leave_sleepers_by x w t)
   tells-leave Awake w t =
       record {
         on = λ i j k a m x y u l r g h. let same = given w.sleepers in
@@ -302,44 +257,44 @@ module _ (mark : Mark) where
   -- runs
 
   tells-wakes_up : (x : Ticker) (who : TickOrRun) (more : List Op) →
-      1 ≤ weigh (tells_of mark) (found_by x who (op.Sleeper sleeper_op.ExchangeFlag ∷ more))
+      1 ≤ weigh (tells_of mark) (found_by x who (Op.Sleeper SleeperOp.ExchangeFlag ∷ more))
   tells-wakes_up Awake who more = omega arith
   tells-wakes_up (Asleep n) who more = omega arith
   tells-wakes_up Left who more = omega arith
 
   tells-found : (w : World) (x : RunPoll) (f : ℕ) → 1 ≤ weigh (tells_of mark) (found w x f).next
   tells-found w x f =
-      let first = found_by (run_of w x.run).place (tick_or_run.Run x.run) (op.Sleeper sleeper_op.ExchangeFlag ∷ []) in
+      let first = found_by (run_of w x.run).place (TickOrRun.Run x.run) (Op.Sleeper SleeperOp.ExchangeFlag ∷ []) in
       omega (
         arith,
         weigh-append (tells_of mark) first (counted_by (eqb ((run_of w x.run).counted + 1) 64) w x f).next,
-        tells-wakes_up (run_of w x.run).place (tick_or_run.Run x.run) [],
+        tells-wakes_up (run_of w x.run).place (TickOrRun.Run x.run) [],
       )
 
   tells-own : (q : List ℕ) (w : World) (s : Sleeping) (x : RunPoll) →
-      Tells w (op.Tick (tick_op.Search s) ∷ []) (search_own_by q w x)
+      Tells w (Op.Tick (TickOp.Search s) ∷ []) (search_own_by q w x)
   tells-own [] w s x = loud w _ _ _ (omega arith)
   tells-own (f ∷ rest) w s x = loud w (found (put_own w x.run rest) x f).world _ (found (put_own w x.run rest) x f).next
       (tells-found (put_own w x.run rest) x f)
 
   tells-search_who : (who : TickOrRun) (p : ℕ) (w : World) (s : Sleeping) →
-      Tells w (op.Tick (tick_op.Search s) ∷ []) (search_by_who who p w s)
-  tells-search_who (tick_or_run.Tick t) p w s = loud w _ _ _ (omega arith)
-  tells-search_who (tick_or_run.Run r) p w s = tells-own _ w s _
+      Tells w (Op.Tick (TickOp.Search s) ∷ []) (search_by_who who p w s)
+  tells-search_who (TickOrRun.Tick t) p w s = loud w _ _ _ (omega arith)
+  tells-search_who (TickOrRun.Run r) p w s = tells-own _ w s _
 
   tells-common : (look : Look) (q : List ℕ) (w : World) (x : RunPoll) → (queue_of w (mark_in look)).items ≡ q →
-      Tells w (op.Run (run_op.SearchCommon x look) ∷ []) (search_common_by q w x look)
+      Tells w (Op.Run (RunOp.SearchCommon x look) ∷ []) (search_common_by q w x look)
   tells-common (First n) [] w x e = ⊎_elim (none-there w w _ _) (λ z. loud w _ _ _ (omega (arith, z)))
       (looked-first mark n w e)
   tells-common (Second n) [] w x e = ⊎_elim (none-there w w _ _)
       (λ z. quiet w w _ _ refl (omega arith) (omega (arith, z))) (looked-second mark n w e)
   tells-common look (f ∷ rest) w x e = loud w _ _ _ (omega arith)
 
-  tells-room : (b : Bool) (w : World) → Tells w (op.Run run_op.MakeRoom ∷ []) (make_room_by b w)
+  tells-room : (b : Bool) (w : World) → Tells w (Op.Run RunOp.MakeRoom ∷ []) (make_room_by b w)
   tells-room true w = quiet w _ _ _ refl (omega arith) refl
   tells-room false w = record { on = λ i j k a m x y u l r g t. record { told = λ p q. grind arith } }
 
-  tells-returned : (w : World) → Tells w (op.Run run_op.ReturnRoom ∷ []) (return_room w)
+  tells-returned : (w : World) → Tells w (Op.Run RunOp.ReturnRoom ∷ []) (return_room w)
   tells-returned w =
       record {
         on = λ i j k a m x y u l r g h. let same = given w.sleepers in
@@ -361,8 +316,8 @@ module _ (mark : Mark) where
 
   list-still : (h : Hint) (o : ListOp) (w : World) →
       ((list_act h o w).world.sleepers ≡ w.sleepers) × ((list_act h o w).world.queues ≡ w.queues)
-  list-still h (list_op.Write section.MakeRun) w = make-still h.refused w
-  list-still h (list_op.Write (section.Register x)) w = register-still _ w x.run
+  list-still h (ListOp.Write Section.MakeRun) w = make-still h.refused w
+  list-still h (ListOp.Write (Section.Register x)) w = register-still _ w x.run
   list-still h _ w = (refl, refl)
 
   told-still : (w v : World) (i j : ℕ) → v.sleepers ≡ w.sleepers → v.queues ≡ w.queues → i ≤ j → Told w i → Told v j
@@ -374,17 +329,17 @@ module _ (mark : Mark) where
       grind arith
 
   -- the list of queues has no part in it
-  tells-list : (h : Hint) (o : ListOp) (w : World) → Tells w (op.List o ∷ []) (list_act h o w)
+  tells-list : (h : Hint) (o : ListOp) (w : World) → Tells w (Op.List o ∷ []) (list_act h o w)
   tells-list h o w = let s = list-still h o w in
       record { on = λ i j k a m x y u l r g t. told-still w (list_act h o w).world i j s.0 s.1 (omega (arith, x, y)) t }
 
   -- a steal that tells goes on with what tells
 
   tells-stolen : (t : Then) (w : World) (x : RunPoll) → tells_then t ≤ weigh (tells_of mark) (stolen t w x).next
-  tells-stolen (then.Found f) w x = tells-found w x f
-  tells-stolen (then.StealPlain f) w x = omega arith
-  tells-stolen (then.Run f) w x = omega arith
-  tells-stolen (then.Walk at left) w x = omega arith
+  tells-stolen (Then.Found f) w x = tells-found w x f
+  tells-stolen (Then.StealPlain f) w x = omega arith
+  tells-stolen (Then.Run f) w x = omega arith
+  tells-stolen (Then.Walk at left) w x = omega arith
 
   tells-more : (n : ℕ) (w : World) (s : Steal) → tells_then s.then ≤ weigh (tells_of mark) (steal_by n w s).next
   tells-more zero w s = tells-stolen s.then w s.poll
@@ -405,33 +360,33 @@ module _ (mark : Mark) where
   tells-put false p w s more f = omega (arith, tells-stolen s.then w s.poll)
 
   tells-steal : (p : ℕ) (o : StealOp) (w : World) → tells_steal o ≤ weigh (tells_of mark) (steal_act p o w).next
-  tells-steal p (steal_op.Length s) w = tells-length _ w s
-  tells-steal p (steal_op.OwnLength s n) w = tells-more _ w s
-  tells-steal p (steal_op.Take s more) w = tells-take _ w s more
-  tells-steal p (steal_op.Put s more f) w = tells-put _ p w s more f
+  tells-steal p (StealOp.Length s) w = tells-length _ w s
+  tells-steal p (StealOp.OwnLength s n) w = tells-more _ w s
+  tells-steal p (StealOp.Take s more) w = tells-take _ w s more
+  tells-steal p (StealOp.Put s more f) w = tells-put _ p w s more f
 
-  tells-tick : (p : ℕ) (h : Hint) (o : TickOp) (w : World) → Tells w (op.Tick o ∷ []) (tick_act p h o w)
-  tells-tick p h tick_op.MakeTick w = tells-make _ w
-  tells-tick p h (tick_op.Search s) w = tells-search_who s.who p w s
-  tells-tick p h (tick_op.Look s look) w = tells-search look _ _ w s refl
-  tells-tick p h (tick_op.CopyWaker s) w = tells-copy _ w s
-  tells-tick p h (tick_op.FallAsleep s) w = tells-sleep _ w s
-  tells-tick p h (tick_op.WakeUp t) w = tells-up _ w t
-  tells-tick p h (tick_op.Leave t) w = tells-leave _ w t
+  tells-tick : (p : ℕ) (h : Hint) (o : TickOp) (w : World) → Tells w (Op.Tick o ∷ []) (tick_act p h o w)
+  tells-tick p h TickOp.MakeTick w = tells-make _ w
+  tells-tick p h (TickOp.Search s) w = tells-search_who s.who p w s
+  tells-tick p h (TickOp.Look s look) w = tells-search look _ _ w s refl
+  tells-tick p h (TickOp.CopyWaker s) w = tells-copy _ w s
+  tells-tick p h (TickOp.FallAsleep s) w = tells-sleep _ w s
+  tells-tick p h (TickOp.WakeUp t) w = tells-up _ w t
+  tells-tick p h (TickOp.Leave t) w = tells-leave _ w t
 
   -- a steal, and a run that looks at the executor's queue
   abbrev hunts : Op → Bool
-  hunts (op.Steal o) = true
-  hunts (op.Run (run_op.TakeTurn x)) = true
-  hunts (op.Run (run_op.SearchCommon x look)) = true
+  hunts (Op.Steal o) = true
+  hunts (Op.Run (RunOp.TakeTurn x)) = true
+  hunts (Op.Run (RunOp.SearchCommon x look)) = true
   hunts _ = false
 
   no-tells : (o : Op) → is_seen_asleep o ≡ false → hunts o ≡ false → (tells_of mark) o ≡ 0
-  no-tells (op.Sleeper o) e q = absurd (cc)
-  no-tells (op.Tick o) e q = absurd (cc)
-  no-tells (op.Steal o) e q = absurd (cc)
-  no-tells (op.Run (run_op.TakeTurn x)) e q = absurd (cc)
-  no-tells (op.Run (run_op.SearchCommon x look)) e q = absurd (cc)
+  no-tells (Op.Sleeper o) e q = absurd (cc)
+  no-tells (Op.Tick o) e q = absurd (cc)
+  no-tells (Op.Steal o) e q = absurd (cc)
+  no-tells (Op.Run (RunOp.TakeTurn x)) e q = absurd (cc)
+  no-tells (Op.Run (RunOp.SearchCommon x look)) e q = absurd (cc)
   no-tells _ e q = refl
 
   tells-hunt : (b : Bool) (p : ℕ) (h : Hint) (o : Op) (w : World) → is_seen_asleep o ≡ false → hunts o ≡ b →
@@ -439,33 +394,33 @@ module _ (mark : Mark) where
   tells-hunt false p h o w n e =
       let a : Away w (act p h o w) = away-act p h o w n in
       quiet w (act p h o w).world (o ∷ []) (act p h o w).next a.sleepers_seen (a.queue mark) (omega (arith, no-tells o n e))
-  tells-hunt true p h (op.Steal o) w n e =
-      let a : Away w (steal_act p o w) = away-act p h (op.Steal o) w n in
-      steady w (steal_act p o w).world (op.Steal o ∷ []) (steal_act p o w).next a.sleepers_seen (a.queue mark)
+  tells-hunt true p h (Op.Steal o) w n e =
+      let a : Away w (steal_act p o w) = away-act p h (Op.Steal o) w n in
+      steady w (steal_act p o w).world (Op.Steal o ∷ []) (steal_act p o w).next a.sleepers_seen (a.queue mark)
       (omega (arith, tells-steal p o w))
-  tells-hunt true p h (op.Run (run_op.TakeTurn x)) w n e = loud w _ _ _ (omega arith)
-  tells-hunt true p h (op.Run (run_op.SearchCommon x look)) w n e = tells-common look _ w x refl
+  tells-hunt true p h (Op.Run (RunOp.TakeTurn x)) w n e = loud w _ _ _ (omega arith)
+  tells-hunt true p h (Op.Run (RunOp.SearchCommon x look)) w n e = tells-common look _ w x refl
   tells-hunt true p h _ w n e = absurd (cc)
 
   pub tells-act : (b : Bool) (p : ℕ) (h : Hint) (o : Op) (w : World) → is_seen_asleep o ≡ b → Tells w (o ∷ []) (act p h o w)
   tells-act false p h o w n = tells-hunt _ p h o w n refl
-  tells-act true p h (op.Queue (queue_op.Append g)) w n = tells-append _ w _ g
-  tells-act true p h (op.Sleeper o) w n = tells-sleeper p o w
-  tells-act true p h (op.Tick o) w n = tells-tick p h o w
-  tells-act true p h (op.List o) w n = tells-list h o w
-  tells-act true p h (op.Run run_op.MakeRoom) w n = tells-room _ w
-  tells-act true p h (op.Run run_op.ReturnRoom) w n = tells-returned w
+  tells-act true p h (Op.Queue (QueueOp.Append g)) w n = tells-append _ w _ g
+  tells-act true p h (Op.Sleeper o) w n = tells-sleeper p o w
+  tells-act true p h (Op.Tick o) w n = tells-tick p h o w
+  tells-act true p h (Op.List o) w n = tells-list h o w
+  tells-act true p h (Op.Run RunOp.MakeRoom) w n = tells-room _ w
+  tells-act true p h (Op.Run RunOp.ReturnRoom) w n = tells-returned w
   tells-act true p h _ w n = absurd (cc)
 
   pub tells-react : (p : ℕ) (o : Op) (u : UserEnd) (w : World) → accepts o u ≡ true → Tells w (o ∷ []) (react p o u w)
-  tells-react p (op.User (user_op.Poll f)) (end.Polled answer.Pending) w a = quiet w _ _ _ refl (omega arith) refl
-  tells-react p (op.User (user_op.Poll f)) (end.Polled answer.Ready) w a = quiet w _ _ _ refl (omega arith) refl
-  tells-react p (op.User (user_op.Drop f)) end.Done w a = quiet w _ _ _ refl (omega arith) refl
-  tells-react p (op.User (user_op.DropOutput f)) end.Done w a = quiet w _ _ _ refl (omega arith) refl
-  tells-react p (op.User (user_op.CallOutside x)) end.Done w a = quiet w _ _ _ refl (omega arith) refl
-  tells-react p (op.User (user_op.PollOwn x)) (end.Polled answer.Pending) w a = quiet w _ _ _ refl (omega arith) refl
-  tells-react p (op.User (user_op.PollOwn x)) (end.Polled answer.Ready) w a = quiet w _ _ _ refl (omega arith) refl
-  tells-react p (op.User (user_op.DropOwn r)) end.Done w a = quiet w _ _ _ refl (omega arith) refl
+  tells-react p (Op.User (UserOp.Poll f)) (UserEnd.Polled Answer.Pending) w a = quiet w _ _ _ refl (omega arith) refl
+  tells-react p (Op.User (UserOp.Poll f)) (UserEnd.Polled Answer.Ready) w a = quiet w _ _ _ refl (omega arith) refl
+  tells-react p (Op.User (UserOp.Drop f)) UserEnd.Done w a = quiet w _ _ _ refl (omega arith) refl
+  tells-react p (Op.User (UserOp.DropOutput f)) UserEnd.Done w a = quiet w _ _ _ refl (omega arith) refl
+  tells-react p (Op.User (UserOp.CallOutside x)) UserEnd.Done w a = quiet w _ _ _ refl (omega arith) refl
+  tells-react p (Op.User (UserOp.PollOwn x)) (UserEnd.Polled Answer.Pending) w a = quiet w _ _ _ refl (omega arith) refl
+  tells-react p (Op.User (UserOp.PollOwn x)) (UserEnd.Polled Answer.Ready) w a = quiet w _ _ _ refl (omega arith) refl
+  tells-react p (Op.User (UserOp.DropOwn r)) UserEnd.Done w a = quiet w _ _ _ refl (omega arith) refl
   tells-react p _ _ w a = absurd (cc)
 
   tells-with : (w v : World) (x : Option ℕ) (d : ℕ → Done) → sleepers_seen w ≡ sleepers_seen v → v.queues ≡ w.queues →
@@ -474,19 +429,19 @@ module _ (mark : Mark) where
   tells-with w v (Some f) d e q n = n f
 
   pub tells-begun : (p : ℕ) (w : World) (here : Option Waker) (c : Call) →
-      Tells w [] (begun p (log w (event.CallBegun p c)) here c)
-  tells-begun p w here (call.Wake n) = tells-with w (log w (event.CallBegun p (call.Wake n))) (kept w n) _ refl refl
+      Tells w [] (begun p (log w (Event.CallBegun p c)) here c)
+  tells-begun p w here (Call.Wake n) = tells-with w (log w (Event.CallBegun p (Call.Wake n))) (kept w n) _ refl refl
       (λ f. quiet w _ _ _ refl (omega arith) refl)
-  tells-begun p w here (call.WakeByRef n) = tells-with w (log w (event.CallBegun p (call.WakeByRef n))) (kept w n) _ refl
+  tells-begun p w here (Call.WakeByRef n) = tells-with w (log w (Event.CallBegun p (Call.WakeByRef n))) (kept w n) _ refl
       refl (λ f. quiet w _ _ _ refl (omega arith) refl)
-  tells-begun p w here (call.Copy n) = tells-with w (log w (event.CallBegun p (call.Copy n))) (kept w n) _ refl refl
+  tells-begun p w here (Call.Copy n) = tells-with w (log w (Event.CallBegun p (Call.Copy n))) (kept w n) _ refl refl
       (λ f. quiet w _ _ _ refl (omega arith) refl)
-  tells-begun p w here (call.DropWaker n) = tells-with w (log w (event.CallBegun p (call.DropWaker n))) (kept w n) _ refl
+  tells-begun p w here (Call.DropWaker n) = tells-with w (log w (Event.CallBegun p (Call.DropWaker n))) (kept w n) _ refl
       refl (λ f. quiet w _ _ _ refl (omega arith) refl)
-  tells-begun p w here call.Keep =
-      tells-with w (log w (event.CallBegun p call.Keep)) (future_of here) _ refl refl
+  tells-begun p w here Call.Keep =
+      tells-with w (log w (Event.CallBegun p Call.Keep)) (future_of here) _ refl refl
       (λ f. quiet w _ _ _ refl (omega arith) refl)
-  tells-begun p w here call.WakeSelf = tells-with w (log w (event.CallBegun p call.WakeSelf)) (future_of here) _ refl refl
+  tells-begun p w here Call.WakeSelf = tells-with w (log w (Event.CallBegun p Call.WakeSelf)) (future_of here) _ refl refl
       (λ f. quiet w _ _ _ refl (omega arith) refl)
-  tells-begun p w here (call.DropRun r) = quiet w _ _ _ (sleepers_seen-run w r _ refl) (omega arith) refl
+  tells-begun p w here (Call.DropRun r) = quiet w _ _ _ (sleepers_seen-run w r _ refl) (omega arith) refl
   tells-begun p w here _ = quiet w _ _ _ refl (omega arith) refl

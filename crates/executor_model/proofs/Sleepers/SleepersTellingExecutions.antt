@@ -3,35 +3,23 @@
 -- a sleeper is notified or will be told.
 use Rattle.std.proofs.Common.{◌≡◌, ℕ, zero, suc, ◌<◌, ◌≤◌, List, [], ◌∷◌, ◌++◌, length, set, refl, subst, arith}
 use Rattle.std.specs.Prelude.{reverse}
-use Rattle.executor_parts.specs.declared.mark.Mark.TheVariants.{Plain, Urgent}
-use Rattle.executor_parts.specs.declared.mark.Mark.{Mark}
-use Rattle.executor_model.specs.declared.kind.Kind.{Kind}
-use Rattle.executor_model.specs.declared.call.Reply.{Reply}
-use Rattle.executor_model.specs.declared.event.Event.TheVariants as event
-use Rattle.executor_model.specs.declared.op.Hold.{Hold}
-use Rattle.executor_model.specs.declared.op.Op.{Op}
-use Rattle.executor_model.specs.declared.op.Op.TheVariants as op
-use Rattle.executor_model.specs.declared.op.QueueOp.TheVariants as queue_op
-use Rattle.executor_model.specs.declared.op.SleeperOp.TheVariants as sleeper_op
-use Rattle.executor_model.specs.declared.step.Step.{Step}
-use Rattle.executor_model.specs.Good.{Good}
+use Rattle.executor_model.proofs.Types.{Plain, Urgent, Mark, Kind, Reply, Event, Hold, Op, QueueOp, SleeperOp, Step}
 use Rattle.executor_model.specs.Steps.{Machine, stack, run, start, mine, top}
-use Rattle.executor_model.specs.Weights.{weigh, weigh_all}
-use Rattle.executor_model.specs.World.{Done, done, log}
-use Rattle.executor_model.proofs.Steps.Lift.{split, unsettled, good-start}
-use Rattle.executor_model.proofs.Steps.Lists.{weigh_all-below, weigh_all-push}
-use Rattle.executor_model.proofs.Steps.Ways.{Way, acted, reacted, called, along}
 use Rattle.executor_model.specs.SleepersAgree.{SleepersAgree, hands_of}
 use Rattle.executor_model.specs.SleepersTold.{SleepersAreTold, tells_of}
+use Rattle.executor_model.specs.{Good.Good, Weights.weigh, Weights.weigh_all, World.Done, World.done, World.log}
+use Rattle.executor_model.proofs.Sleepers.SleepersFollowingExecutions.{Followed, followed-moves, followed-ends, followed-start}
+use Rattle.executor_model.proofs.Steps.Ways.{Way, acted, reacted, called, along}
 use Rattle.executor_model.proofs.Sleepers.SleepersWakingUp.{WakesUpWell, wakes_up-old, wakes_up_of}
-use Rattle.executor_model.proofs.Sleepers.SleepersFollowingExecutions.{Followed, followed-moves, followed-ends, followed-start, agrees}
 use Rattle.executor_model.proofs.Sleepers.SleepersTelling.{Told, Ground, Tells, tells-act, tells-react, tells-begun, quiet}
+use Rattle.executor_model.proofs.{Steps.Lift.split, Steps.Lift.unsettled, Steps.Lift.good-start, Steps.Lists.weigh_all-below}
+use Rattle.executor_model.proofs.{Steps.Lists.weigh_all-push, Sleepers.SleepersFollowingExecutions.agrees}
 
 -- who hands out tells
 hands-tell : (m : Mark) (o : Op) → hands_of o ≤ tells_of m o
-hands-tell m (op.Sleeper sleeper_op.ExchangeFlag) = omega arith
-hands-tell m (op.Queue queue_op.TakeTurn) = omega arith
-hands-tell m (op.Queue (queue_op.Take look)) = omega arith
+hands-tell m (Op.Sleeper SleeperOp.ExchangeFlag) = omega arith
+hands-tell m (Op.Queue QueueOp.TakeTurn) = omega arith
+hands-tell m (Op.Queue (QueueOp.Take look)) = omega arith
 hands-tell m _ = omega arith
 
 hands-all : (m : Mark) (ss : List (List Op)) → weigh_all hands_of ss ≤ weigh_all (tells_of m) ss
@@ -82,15 +70,15 @@ tell-moves s p old rest d good l e w h = record {
 }
 
 tell-ends : (s : Machine) (p : ℕ) (a : Reply) (held : Hold) (below : List Op) → p < length s.parties →
-    stack s p ≡ below ++ reverse (op.End a held ∷ []) → Tell s →
-    Tell (unsettled s p below (done (log s.world (event.CallEnded p a)) []))
+    stack s p ≡ below ++ reverse (Op.End a held ∷ []) → Tell s →
+    Tell (unsettled s p below (done (log s.world (Event.CallEnded p a)) []))
 tell-ends s p a held below l e h = record {
   followed = followed-ends s p a held below l e h.followed;
-  told = λ m. (quiet m s.world (log s.world (event.CallEnded p a)) (op.End a held ∷ []) [] refl (omega arith) refl).on _ _
+  told = λ m. (quiet m s.world (log s.world (Event.CallEnded p a)) (Op.End a held ∷ []) [] refl (omega arith) refl).on _ _
       (weigh_all (tells_of m) (set s.parties p below)) _ (weigh_all hands_of (set s.parties p below))
-      (split (tells_of m) s.parties p (op.End a held ∷ []) below l e)
+      (split (tells_of m) s.parties p (Op.End a held ∷ []) below l e)
       (weigh_all-push (tells_of m) s.parties p below [] l)
-      (split hands_of s.parties p (op.End a held ∷ []) below l e) (hands-all m (set s.parties p below)) (omega arith)
+      (split hands_of s.parties p (Op.End a held ∷ []) below l e) (hands-all m (set s.parties p below)) (omega arith)
       (ground s h.followed) (h.told m);
 }
 

@@ -1,36 +1,25 @@
 -- For sleepers_agree and sleepers_are_told.
 -- Who wakes up tells next: among what is to do, in order, each waking up stands right before an exchange of the flag.
-use Rattle.std.proofs.Common.{◌≡◌, ◌≢◌, ◌∙◌, ℕ, ◌+◌, ◌<◌, ◌≤◌, List, [], ◌∷◌, ◌++◌, length, set, Bool, true, false}
-use Rattle.std.proofs.Common.{◌&&◌, ◌||◌, not, eqb, refl, sym, ap, subst, arith, get_or, get_or-set_same}
-use Rattle.std.proofs.Common.{get_or-set_other}
-use Rattle.std.proofs.lemmas.Bool.Decides.{nat_tests}
+use Rattle.std.proofs.Common.{◌≡◌, ◌≢◌, ◌∙◌, ℕ, ◌+◌, ◌<◌, ◌≤◌, List, [], ◌∷◌, ◌++◌, length, set, Bool, true, false, ◌&&◌, ◌||◌}
+use Rattle.std.proofs.Common.{not, eqb, refl, sym, ap, subst, arith, get_or, get_or-set_same, get_or-set_other}
 use Rattle.std.proofs.lemmas.List.{reverse-append, reverse-reverse}
-use Rattle.std.specs.Prelude.{reverse}
-use Rattle.executor_parts.specs.declared.mark.Mark.{Mark}
-use Rattle.executor_model.specs.declared.op.Op.{Op}
-use Rattle.executor_model.specs.declared.op.Op.TheVariants as op
-use Rattle.executor_model.specs.declared.op.RunPoll.{RunPoll}
-use Rattle.executor_model.specs.declared.op.TickOrRun.{TickOrRun}
-use Rattle.executor_model.specs.declared.op.TickOrRun.TheVariants as tick_or_run
-use Rattle.executor_model.specs.declared.op.SleeperOp.TheVariants as sleeper_op
-use Rattle.executor_model.specs.declared.op.TickOp.TheVariants as tick_op
-use Rattle.executor_model.specs.ActsOfRuns as runs
-use Rattle.executor_model.specs.ActsOfSleepers.{found_by}
-use Rattle.executor_model.specs.SleepersTold.{tells_of}
-use Rattle.executor_model.specs.Weights.{weigh}
+use Rattle.std.{proofs.lemmas.Bool.Decides.nat_tests, specs.Prelude.reverse}
+use Rattle.executor_model.proofs.Types.{Mark, Op, RunPoll, TickOrRun, SleeperOp, TickOp}
 use Rattle.executor_model.specs.World.{World, Ticker, Awake, Asleep, Left, run_of}
+use Rattle.executor_model.specs.{ActsOfSleepers.found_by, SleepersTold.tells_of, Weights.weigh}
 use Rattle.executor_model.proofs.Steps.Lists.{weigh-reverse}
+use Rattle.executor_model.specs.ActsOfRuns as runs
 
 abbrev pub wakes_up_of : Op → ℕ
-wakes_up_of (op.Tick (tick_op.WakeUp who)) = 1
+wakes_up_of (Op.Tick (TickOp.WakeUp who)) = 1
 wakes_up_of _ = 0
 
 abbrev pub is_wake_up : Op → Bool
-is_wake_up (op.Tick (tick_op.WakeUp who)) = true
+is_wake_up (Op.Tick (TickOp.WakeUp who)) = true
 is_wake_up _ = false
 
 abbrev pub is_exchange : Op → Bool
-is_exchange (op.Sleeper sleeper_op.ExchangeFlag) = true
+is_exchange (Op.Sleeper SleeperOp.ExchangeFlag) = true
 is_exchange _ = false
 
 abbrev pub starts_telling : List Op → Bool
@@ -42,7 +31,7 @@ wakes_up_well [] = true
 wakes_up_well (o ∷ os) = (not (is_wake_up o) || starts_telling os) && wakes_up_well os
 
 none : (o : Op) → wakes_up_of o ≡ 0 → is_wake_up o ≡ false
-none (op.Tick (tick_op.WakeUp who)) z = absurd (omega (arith, z))
+none (Op.Tick (TickOp.WakeUp who)) z = absurd (omega (arith, z))
 none _ z = refl
 
 -- where nobody wakes up
@@ -79,7 +68,7 @@ pub wakes_up-told : (m : Mark) (o : Op) (os : List Op) → wakes_up_well (o ∷ 
 wakes_up-told m o os e = by (is_wake_up o) refl (first _ _ e)
   where
     telling : (x : Op) → is_exchange x ≡ true → 1 ≤ tells_of m x
-    telling (op.Sleeper sleeper_op.ExchangeFlag) q = omega arith
+    telling (Op.Sleeper SleeperOp.ExchangeFlag) q = omega arith
     telling _ q = absurd (cc)
 
     starts : (xs : List Op) → starts_telling xs ≡ true → 1 ≤ weigh (tells_of m) xs
@@ -87,11 +76,11 @@ wakes_up-told m o os e = by (is_wake_up o) refl (first _ _ e)
     starts (x ∷ xs) q = omega (arith, telling x q)
 
     few : (x : Op) → wakes_up_of x ≤ 1
-    few (op.Tick (tick_op.WakeUp who)) = omega arith
+    few (Op.Tick (TickOp.WakeUp who)) = omega arith
     few _ = omega arith
 
     nothing : (x : Op) → is_wake_up x ≡ false → wakes_up_of x ≡ 0
-    nothing (op.Tick (tick_op.WakeUp who)) q = absurd (cc)
+    nothing (Op.Tick (TickOp.WakeUp who)) q = absurd (cc)
     nothing _ q = refl
 
     by : (b : Bool) → is_wake_up o ≡ b → (not b || starts_telling os) ≡ true → wakes_up_of o ≤ weigh (tells_of m) os
@@ -101,7 +90,7 @@ wakes_up-told m o os e = by (is_wake_up o) refl (first _ _ e)
 -- who has found something
 
 pub wakes_up-found : (x : Ticker) (who : TickOrRun) (more : List Op) → wakes_up_well more ≡ true →
-    wakes_up_well (found_by x who (op.Sleeper sleeper_op.ExchangeFlag ∷ more)) ≡ true
+    wakes_up_well (found_by x who (Op.Sleeper SleeperOp.ExchangeFlag ∷ more)) ≡ true
 wakes_up-found Awake who more e = e
 wakes_up-found (Asleep n) who more e = e
 wakes_up-found Left who more e = e
@@ -116,9 +105,9 @@ wakes_up-counted false w x f = wakes_up-run_by _ _ x f
 
 pub wakes_up-run : (w : World) (x : RunPoll) (f : ℕ) → wakes_up_well (runs.found w x f).next ≡ true
 wakes_up-run w x f =
-    wakes_up-append (found_by (run_of w x.run).place (tick_or_run.Run x.run) (op.Sleeper sleeper_op.ExchangeFlag ∷ []))
+    wakes_up-append (found_by (run_of w x.run).place (TickOrRun.Run x.run) (Op.Sleeper SleeperOp.ExchangeFlag ∷ []))
     (runs.counted_by (eqb ((run_of w x.run).counted + 1) 64) w x f).next
-    (wakes_up-found (run_of w x.run).place (tick_or_run.Run x.run) [] refl) (wakes_up-counted _ w x f)
+    (wakes_up-found (run_of w x.run).place (TickOrRun.Run x.run) [] refl) (wakes_up-counted _ w x f)
 
 pub wakes_up-by : (b : Bool) (w : World) (x : RunPoll) (f : ℕ) → wakes_up_well (runs.run_by b w x f).next ≡ true
 wakes_up-by = wakes_up-run_by

@@ -1,17 +1,13 @@
 -- For sleepers_agree and sleepers_are_told.
 -- How many ticks and runs sleep, and under which numbers, where one of them changes.
-use Rattle.std.proofs.Common.{◌≡◌, ◌≢◌, ℕ, zero, suc, ◌+◌, ◌<◌, ◌≤◌, List, [], ◌∷◌, ◌++◌, length, get_or, set}
-use Rattle.std.proofs.Common.{Bool, true, false, eqb, refl, sym, ap, ◌∙◌, inl, inr, ⊎_elim, subst, arith}
+use Rattle.std.proofs.Common.{◌≡◌, ◌≢◌, ℕ, zero, suc, ◌+◌, ◌<◌, ◌≤◌, List, [], ◌∷◌, ◌++◌, length, get_or, set, Bool, true}
+use Rattle.std.proofs.Common.{false, eqb, refl, sym, ap, ◌∙◌, inl, inr, ⊎_elim, subst, arith}
 use Rattle.std.proofs.lemmas.Bool.Decides.{nat_tests}
 use Rattle.executor_parts.specs.Order.{IsIn, IsApart, without}
-use Rattle.executor_model.specs.Sound.{times}
-use Rattle.executor_model.specs.Weights.{same}
-use Rattle.executor_model.specs.declared.op.TickOrRun.{TickOrRun}
-use Rattle.executor_model.specs.declared.op.TickOrRun.TheVariants as tick_or_run
 use Rattle.executor_model.specs.World.{World, Ticker, Awake, Asleep, Left, Run, no_run, new_run, place_of, ticks_with}
-use Rattle.executor_model.specs.World.{runs_with}
-use Rattle.executor_model.proofs.Steps.Lists.{same_is, same_cases}
 use Rattle.executor_model.specs.SleepersAgree.{sleeps, slumbering, room, rooms_of, rooms_of_runs, runs_asleep}
+use Rattle.executor_model.specs.{Sound.times, Weights.same, World.runs_with}
+use Rattle.executor_model.proofs.{Types.TickOrRun, Steps.Lists.same_is, Steps.Lists.same_cases}
 
 abbrev pub asleep_at : ℕ → Ticker → ℕ
 asleep_at n (Asleep m) = same n m
@@ -140,21 +136,21 @@ rooms-places (y ∷ rs) = omega (arith, rooms-places rs)
 -- ticks and runs together, by their places
 
 abbrev pub at_place : List Ticker → List Ticker → TickOrRun → Ticker
-at_place ts ps (tick_or_run.Tick t) = get_or ts t Left
-at_place ts ps (tick_or_run.Run r) = get_or ps r Left
+at_place ts ps (TickOrRun.Tick t) = get_or ts t Left
+at_place ts ps (TickOrRun.Run r) = get_or ps r Left
 
 abbrev pub places_with : List Ticker → TickOrRun → Ticker → List Ticker
-places_with ps (tick_or_run.Tick t) x = ps
-places_with ps (tick_or_run.Run r) x = set ps r x
+places_with ps (TickOrRun.Tick t) x = ps
+places_with ps (TickOrRun.Run r) x = set ps r x
 
 pub places-with : (rs : List Run) (who : TickOrRun) (x : Ticker) →
     places (runs_with rs who x) ≡ places_with (places rs) who x
-places-with rs (tick_or_run.Tick t) x = refl
-places-with rs (tick_or_run.Run r) x = places-set rs r _
+places-with rs (TickOrRun.Tick t) x = refl
+places-with rs (TickOrRun.Run r) x = places-set rs r _
 
 pub place-at : (w : World) (who : TickOrRun) → place_of w who ≡ at_place w.ticks (places w.runs) who
-place-at w (tick_or_run.Tick t) = refl
-place-at w (tick_or_run.Run r) = sym (places-at w.runs r)
+place-at w (TickOrRun.Tick t) = refl
+place-at w (TickOrRun.Run r) = sym (places-at w.runs r)
 
 -- how many of both sleep under this number, sleep, and have room
 abbrev pub used_all : ℕ → List Ticker → List Ticker → ℕ
@@ -169,37 +165,37 @@ rooms_all ts ps = rooms_of ts + rooms_of ps
 pub used_all-set : (n : ℕ) (ts ps : List Ticker) (who : TickOrRun) (x : Ticker) → at_place ts ps who ≢ Left →
     used_all n (ticks_with ts who x) (places_with ps who x) + asleep_at n (at_place ts ps who)
     ≡ used_all n ts ps + asleep_at n x
-used_all-set n ts ps (tick_or_run.Tick t) x h = omega (arith, used-set n ts t x (is_tick ts t h))
-used_all-set n ts ps (tick_or_run.Run r) x h = omega (arith, used-set n ps r x (is_tick ps r h))
+used_all-set n ts ps (TickOrRun.Tick t) x h = omega (arith, used-set n ts t x (is_tick ts t h))
+used_all-set n ts ps (TickOrRun.Run r) x h = omega (arith, used-set n ps r x (is_tick ps r h))
 
 pub all_asleep-set : (ts ps : List Ticker) (who : TickOrRun) (x : Ticker) → at_place ts ps who ≢ Left →
     all_asleep (ticks_with ts who x) (places_with ps who x) + sleeps (at_place ts ps who) ≡ all_asleep ts ps + sleeps x
-all_asleep-set ts ps (tick_or_run.Tick t) x h = omega (arith, slumbering-set ts t x (is_tick ts t h))
-all_asleep-set ts ps (tick_or_run.Run r) x h = omega (arith, slumbering-set ps r x (is_tick ps r h))
+all_asleep-set ts ps (TickOrRun.Tick t) x h = omega (arith, slumbering-set ts t x (is_tick ts t h))
+all_asleep-set ts ps (TickOrRun.Run r) x h = omega (arith, slumbering-set ps r x (is_tick ps r h))
 
 pub rooms_all-set : (ts ps : List Ticker) (who : TickOrRun) (x : Ticker) → at_place ts ps who ≢ Left →
     rooms_all (ticks_with ts who x) (places_with ps who x) + room (at_place ts ps who) ≡ rooms_all ts ps + room x
-rooms_all-set ts ps (tick_or_run.Tick t) x h = omega (arith, rooms-set ts t x (is_tick ts t h))
-rooms_all-set ts ps (tick_or_run.Run r) x h = omega (arith, rooms-set ps r x (is_tick ps r h))
+rooms_all-set ts ps (TickOrRun.Tick t) x h = omega (arith, rooms-set ts t x (is_tick ts t h))
+rooms_all-set ts ps (TickOrRun.Run r) x h = omega (arith, rooms-set ps r x (is_tick ps r h))
 
 pub used_all-by : (n : ℕ) (ts ps : List Ticker) (who : TickOrRun) → at_place ts ps who ≡ Asleep n → 1 ≤ used_all n ts ps
-used_all-by n ts ps (tick_or_run.Tick t) e = omega (arith, used-by n ts t e)
-used_all-by n ts ps (tick_or_run.Run r) e = omega (arith, used-by n ps r e)
+used_all-by n ts ps (TickOrRun.Tick t) e = omega (arith, used-by n ts t e)
+used_all-by n ts ps (TickOrRun.Run r) e = omega (arith, used-by n ps r e)
 
 pub used_all-apart : (n : ℕ) (ts ps : List Ticker) (t u : TickOrRun) → used_all n ts ps ≤ 1 → at_place ts ps t ≡ Asleep n →
     at_place ts ps u ≡ Asleep n → t ≡ u
-used_all-apart n ts ps (tick_or_run.Tick t) (tick_or_run.Tick u) h a b =
-    ap (λ (k : ℕ). tick_or_run.Tick k) (used-apart n ts t u (omega (arith, h)) a b)
-used_all-apart n ts ps (tick_or_run.Tick t) (tick_or_run.Run u) h a b =
+used_all-apart n ts ps (TickOrRun.Tick t) (TickOrRun.Tick u) h a b =
+    ap (λ (k : ℕ). TickOrRun.Tick k) (used-apart n ts t u (omega (arith, h)) a b)
+used_all-apart n ts ps (TickOrRun.Tick t) (TickOrRun.Run u) h a b =
     absurd (omega (arith, h, used-by n ts t a, used-by n ps u b))
-used_all-apart n ts ps (tick_or_run.Run t) (tick_or_run.Tick u) h a b =
+used_all-apart n ts ps (TickOrRun.Run t) (TickOrRun.Tick u) h a b =
     absurd (omega (arith, h, used-by n ps t a, used-by n ts u b))
-used_all-apart n ts ps (tick_or_run.Run t) (tick_or_run.Run u) h a b =
-    ap (λ (k : ℕ). tick_or_run.Run k) (used-apart n ps t u (omega (arith, h)) a b)
+used_all-apart n ts ps (TickOrRun.Run t) (TickOrRun.Run u) h a b =
+    ap (λ (k : ℕ). TickOrRun.Run k) (used-apart n ps t u (omega (arith, h)) a b)
 
 pub up_rooms-all : (ts ps : List Ticker) (who : TickOrRun) → at_place ts ps who ≡ Awake → all_asleep ts ps < rooms_all ts ps
-up_rooms-all ts ps (tick_or_run.Tick t) e = omega (arith, up-rooms ts t e, slumbering-rooms ps)
-up_rooms-all ts ps (tick_or_run.Run r) e = omega (arith, up-rooms ps r e, slumbering-rooms ts)
+up_rooms-all ts ps (TickOrRun.Tick t) e = omega (arith, up-rooms ts t e, slumbering-rooms ps)
+up_rooms-all ts ps (TickOrRun.Run r) e = omega (arith, up-rooms ps r e, slumbering-rooms ts)
 
 -- who is awake or sleeps didn't leave
 pub up-here : (x : Ticker) → x ≡ Awake → x ≢ Left

@@ -1,32 +1,18 @@
 -- For spawns_want_memory_as_told.
 -- Between two steps nobody has the end of a call on top: what answers a call stands on user code, or on nothing.
-use Rattle.std.proofs.Common.{◌≡◌, ◌≢◌, ◌∙◌, ℕ, ◌<◌, List, [], ◌∷◌, ◌++◌, length, get_or, set, Bool, true, false}
-use Rattle.std.proofs.Common.{eqb, ⊎_elim, refl, sym, ap, subst, arith, append-nil, get_or-set_same, get_or-set_other}
+use Rattle.std.proofs.Common.{◌≡◌, ◌≢◌, ◌∙◌, ℕ, ◌<◌, List, [], ◌∷◌, ◌++◌, length, get_or, set, Bool, true, false, eqb, ⊎_elim}
+use Rattle.std.proofs.Common.{refl, sym, ap, subst, arith, append-nil, get_or-set_same, get_or-set_other}
 use Rattle.std.proofs.lemmas.Bool.Decides.{nat_tests}
 use Rattle.std.proofs.lemmas.List.{append_assoc, reverse-append, reverse-reverse}
 use Rattle.std.specs.Prelude.{Option, Some, None, reverse}
-use Rattle.executor_model.specs.declared.kind.Kind.{Kind}
-use Rattle.executor_model.specs.declared.call.Reply.{Reply}
-use Rattle.executor_model.specs.declared.event.Event.TheVariants as event
-use Rattle.executor_model.specs.declared.op.Hold.{Hold}
-use Rattle.executor_model.specs.declared.op.Op.{Op}
-use Rattle.executor_model.specs.declared.op.Op.TheVariants as op
-use Rattle.executor_model.specs.declared.step.Hint.{Hint}
-use Rattle.executor_model.specs.declared.step.Step.{Step}
-use Rattle.executor_model.specs.Doing.{act}
-use Rattle.executor_model.specs.Good.{Good}
+use Rattle.executor_model.proofs.Types.{Kind, Reply, Event, Hold, Op, Hint, Step}
 use Rattle.executor_model.specs.Steps.{Machine, end_of, is_free, react, run, stack, start, top, waits}
-use Rattle.executor_model.specs.Weights.{weigh}
-use Rattle.executor_model.specs.World.{Done, done, log}
-use Rattle.executor_model.proofs.Promises.CallFrames.{passes-react}
+use Rattle.executor_model.specs.{Doing.act, Good.Good, Weights.weigh, World.Done, World.done, World.log}
 use Rattle.executor_model.proofs.Quiet.Calls.{Answering, Passes, calling_of, is_end}
-use Rattle.executor_model.proofs.Quiet.CallsGroups.{calls-act}
 use Rattle.executor_model.proofs.Quiet.Resting.{calling-is, idle-stack, opens}
-use Rattle.executor_model.proofs.Steps.Lift.{good-start, none_refused, unsettled}
-use Rattle.executor_model.proofs.Steps.Settled.{along-settled}
-use Rattle.executor_model.proofs.Steps.Ways.{Way}
-use Rattle.executor_model.proofs.Steps.Ways.Way.{acted, called, reacted}
-use Rattle.executor_model.proofs.Table.Spawning.{top-last}
+use Rattle.executor_model.proofs.{Promises.CallFrames.passes-react, Quiet.CallsGroups.calls-act, Steps.Lift.good-start}
+use Rattle.executor_model.proofs.{Steps.Lift.none_refused, Steps.Lift.unsettled, Steps.Settled.along-settled, Steps.Ways.Way}
+use Rattle.executor_model.proofs.{Steps.Ways.Way.acted, Steps.Ways.Way.called, Steps.Ways.Way.reacted, Table.Spawning.top-last}
 
 -- the first of a list whose first thing is done next
 abbrev pub first : List Op → Option Op
@@ -97,8 +83,8 @@ over-way s p old rest d e way h = subst Over (sym (flipped rest d.next)) (by way
     acts : (x : Hint) (o : Op) (b : Bool) → is_end o ≡ b → old ≡ o ∷ [] → Over ((act p x o s.world).next ++ reverse rest)
     acts x o false n q = over-on o (act p x o s.world).next (reverse rest) (calls-act p x o s.world n).passes
         (subst (λ (os : List Op). Over (os ++ reverse rest)) q was)
-    acts x (op.End a held) true n q =
-        let k : Over (op.End a held ∷ reverse rest) = subst (λ (os : List Op). Over (os ++ reverse rest)) q was in k.1
+    acts x (Op.End a held) true n q =
+        let k : Over (Op.End a held ∷ reverse rest) = subst (λ (os : List Op). Over (os ++ reverse rest)) q was in k.1
     acts x _ true n q = absurd (cc)
 
     by : Way s p old rest d → Over (d.next ++ reverse rest)
@@ -149,23 +135,23 @@ moves s p old rest d good l e way k = record {
 }
 
 user-no-end : (x : Op) → waits x ≡ true → end_of (Some x) ≡ None
-user-no-end (op.End a held) e = absurd (cc)
+user-no-end (Op.End a held) e = absurd (cc)
 user-no-end _ e = refl
 
-below-no-end : (a : Reply) (held : Hold) (os : List Op) → Sits (op.End a held) os → end_of (first os) ≡ None
+below-no-end : (a : Reply) (held : Hold) (os : List Op) → Sits (Op.End a held) os → end_of (first os) ≡ None
 below-no-end a held [] h = refl
 below-no-end a held (x ∷ os) h = user-no-end x (h refl)
 
 ends : (s : Machine) (p : ℕ) (a : Reply) (held : Hold) (below : List Op) → p < length s.parties →
-    stack s p ≡ below ++ reverse (op.End a held ∷ []) → Within s p →
-    Tops (unsettled s p below (done (log s.world (event.CallEnded p a)) []))
+    stack s p ≡ below ++ reverse (Op.End a held ∷ []) → Within s p →
+    Tops (unsettled s p below (done (log s.world (Event.CallEnded p a)) []))
 ends s p a held below l e k =
-    let h : Over (op.End a held ∷ reverse below) =
-    subst Over (ap (λ (xs : List Op). reverse xs) e ∙ flipped below (op.End a held ∷ [])) (k.over p) in
+    let h : Over (Op.End a held ∷ reverse below) =
+    subst Over (ap (λ (xs : List Op). reverse xs) e ∙ flipped below (Op.End a held ∷ [])) (k.over p) in
     record {
-      over = each (λ (os : List Op). Over (reverse os)) s p below (done (log s.world (event.CallEnded p a)) []) l
+      over = each (λ (os : List Op). Over (reverse os)) s p below (done (log s.world (Event.CallEnded p a)) []) l
           (subst Over (sym (flipped below [])) h.1) (λ q n. k.over q);
-      none = each (λ (os : List Op). end_of (top os) ≡ None) s p below (done (log s.world (event.CallEnded p a)) []) l
+      none = each (λ (os : List Op). end_of (top os) ≡ None) s p below (done (log s.world (Event.CallEnded p a)) []) l
           (ap (λ (os : List Op). end_of (top os)) (append-nil below)
           ∙ (ap end_of (top-first below) ∙ below-no-end a held (reverse below) h.0)) k.none;
     }

@@ -1,53 +1,29 @@
 -- For spawns_want_memory_as_told.
 -- What a spawn has still to do answers no want of memory, unless the end of a call is what comes first.
-use Rattle.std.proofs.Common.{◌≡◌, ◌⊎◌, ◌∙◌, ℕ, ◌<◌, ◌≤◌, List, [], ◌∷◌, ◌++◌, length, Bool, true, false}
-use Rattle.std.proofs.Common.{inl, inr, ⊎_elim, refl, sym, ap, subst, arith}
+use Rattle.std.proofs.Common.{◌≡◌, ◌⊎◌, ◌∙◌, ℕ, ◌<◌, ◌≤◌, List, [], ◌∷◌, ◌++◌, length, Bool, true, false, inl, inr, ⊎_elim}
+use Rattle.std.proofs.Common.{refl, sym, ap, subst, arith}
 use Rattle.std.specs.Prelude.{Option, reverse}
-use Rattle.executor_parts.specs.declared.mark.Mark.{Mark}
-use Rattle.executor_model.specs.declared.kind.Kind.{Kind}
-use Rattle.executor_model.specs.declared.call.Call.{Call}
-use Rattle.executor_model.specs.declared.call.Call.TheVariants as call
-use Rattle.executor_model.specs.declared.call.Reply.{Reply}
-use Rattle.executor_model.specs.declared.call.Reply.TheVariants as reply
-use Rattle.executor_model.specs.declared.event.Event.TheVariants as event
-use Rattle.executor_model.specs.declared.op.Hold.{Hold}
-use Rattle.executor_model.specs.declared.op.Op.{Op}
-use Rattle.executor_model.specs.declared.op.Op.TheVariants as op
-use Rattle.executor_model.specs.declared.op.TableOp.TheVariants as table_op
-use Rattle.executor_model.specs.declared.op.Waker.{Waker}
-use Rattle.executor_model.specs.declared.step.Hint.{Hint}
-use Rattle.executor_model.specs.declared.step.Step.{Step}
-use Rattle.executor_model.specs.declared.step.UserEnd.{UserEnd}
-use Rattle.executor_model.specs.Acts.{enter_by}
-use Rattle.executor_model.specs.Calls.{Begun, Ended}
-use Rattle.executor_model.specs.Doing.{act}
-use Rattle.executor_model.specs.Good.{Good}
+use Rattle.executor_model.proofs.Types.{Mark, Kind, Call, Reply, Event, Hold, Op, TableOp, Waker, Hint, Step, UserEnd}
 use Rattle.executor_model.specs.Steps.{Machine, accepts, begun, mine, react, run, stack, start, top}
-use Rattle.executor_model.specs.Trace.{Trace}
-use Rattle.executor_model.specs.Weights.{weigh}
 use Rattle.executor_model.specs.World.{Done, World, done, log}
-use Rattle.executor_model.proofs.Promises.CallAnswers.{served}
-use Rattle.executor_model.proofs.Promises.CallFits.{fit-act, fit-react}
-use Rattle.executor_model.proofs.Promises.CallFrames.{Frames, passes-react}
+use Rattle.executor_model.specs.{Acts.enter_by, Calls.Begun, Calls.Ended, Doing.act, Good.Good, Trace.Trace, Weights.weigh}
 use Rattle.executor_model.proofs.Promises.CallServes.{misfit, serves, spawns}
 use Rattle.executor_model.proofs.Promises.FrameWays.{frames-end, frames-start, frames-way}
-use Rattle.executor_model.proofs.Promises.SpawnAnswers.{is_enter, only-enter}
 use Rattle.executor_model.proofs.Quiet.Calls.{Answering, Passes, calling_of, is_end}
-use Rattle.executor_model.proofs.Quiet.CallsDone.{fit-begun}
-use Rattle.executor_model.proofs.Quiet.CallsGroups.{calls-act}
-use Rattle.executor_model.proofs.Quiet.Resting.{calling-is, opens}
-use Rattle.executor_model.proofs.Steps.Lift.{good-start, unsettled}
-use Rattle.executor_model.proofs.Steps.Lists.{weigh-append, weigh-below}
-use Rattle.executor_model.proofs.Steps.Ways.{Way, along}
 use Rattle.executor_model.proofs.Steps.Ways.Way.{acted, called, reacted}
+use Rattle.executor_model.proofs.{Promises.CallAnswers.served, Promises.CallFits.fit-act, Promises.CallFits.fit-react}
+use Rattle.executor_model.proofs.{Promises.CallFrames.Frames, Promises.CallFrames.passes-react, Promises.SpawnAnswers.is_enter}
+use Rattle.executor_model.proofs.{Promises.SpawnAnswers.only-enter, Quiet.CallsDone.fit-begun, Quiet.CallsGroups.calls-act}
+use Rattle.executor_model.proofs.{Quiet.Resting.calling-is, Quiet.Resting.opens, Steps.Lift.good-start, Steps.Lift.unsettled}
+use Rattle.executor_model.proofs.{Steps.Lists.weigh-append, Steps.Lists.weigh-below, Steps.Ways.Way, Steps.Ways.along}
 
 -- a call ends for want of memory
 abbrev pub want_of : Op → ℕ
-want_of (op.End reply.NoMemory held) = 1
+want_of (Op.End Reply.NoMemory held) = 1
 want_of _ = 0
 
 pub few-want : (o : Op) → want_of o ≤ calling_of o
-few-want (op.End reply.NoMemory held) = omega arith
+few-want (Op.End Reply.NoMemory held) = omega arith
 few-want _ = omega arith
 
 abbrev pub is_end_first : List Op → Bool
@@ -74,13 +50,7 @@ first-more [] rest e = absurd (cc)
 first-more (n ∷ next) rest e = e
 
 counts : (next : List Op) → Answering next → weigh calling_of next ≡ 1
-counts next a = omega (
-  arith,
-  ap (weigh calling_of) a.is,
-  weigh-append calling_of a.front (a.last ∷ []),
-  a.none,
-  a.call,
-)
+counts next a = omega (arith, ap (weigh calling_of) a.is, weigh-append calling_of a.front (a.last ∷ []), a.none, a.call)
 
 abbrev Wants : List Op → Type 0
 Wants os = (weigh want_of os ≡ 0) ⊎ (is_end_first os ≡ true)
@@ -133,14 +103,14 @@ enter-wants false false mark p w = inl refl
 
 -- it asks for a place
 abbrev pub Enters : Op → Type 0
-Enters o = (mark : Mark) × (o ≡ op.Table (table_op.Enter mark))
+Enters o = (mark : Mark) × (o ≡ Op.Table (TableOp.Enter mark))
 
 pub enter-is : (o : Op) → is_enter o ≡ true → Enters o
-enter-is (op.Table (table_op.Enter mark)) e = (mark, refl)
+enter-is (Op.Table (TableOp.Enter mark)) e = (mark, refl)
 enter-is _ e = absurd (cc)
 
 pub asks-place : (c : Call) (o : Op) → spawns c ≡ true → calling_of o ≡ 1 → is_end o ≡ false → misfit c o ≡ 0 → Enters o
-asks-place (call.Spawn mark) o s z n e = enter-is o (only-enter mark o z (served (serves o (call.Spawn mark)) e) n)
+asks-place (Call.Spawn mark) o s z n e = enter-is o (only-enter mark o z (served (serves o (Call.Spawn mark)) e) n)
 asks-place _ o s z n e = absurd (cc)
 
 act-wants : (c : Call) (p : ℕ) (h : Hint) (o : Op) (w : World) → is_end o ≡ false → spawns c ≡ true →
@@ -153,10 +123,10 @@ user-wants : (c : Call) (o : Op) (u : UserEnd) (next : List Op) → accepts o u 
     spawns c ≡ true → calling_of o ≡ 1 → misfit c o ≡ 0 → Wants next
 user-wants c o u next a n s z e =
     let i : Enters o = asks-place c o s z n e in
-    let no : accepts (op.Table (table_op.Enter i.0)) u ≡ true = ap (λ (x : Op). accepts x u) (sym i.1) ∙ a in absurd (cc)
+    let no : accepts (Op.Table (TableOp.Enter i.0)) u ≡ true = ap (λ (x : Op). accepts x u) (sym i.1) ∙ a in absurd (cc)
 
 pub unended : (o : Op) (u : UserEnd) → accepts o u ≡ true → is_end o ≡ false
-unended (op.User x) u a = refl
+unended (Op.User x) u a = refl
 unended _ u a = absurd (cc)
 
 way-on : (s : Machine) (p : ℕ) (old rest : List Op) (d : Done) → Way s p old rest d → (o : Op) → old ≡ o ∷ [] →
@@ -177,12 +147,12 @@ way-on s p old rest d (called c q r n z) o e m b below k =
     let no : [] ≡ o ∷ [] = sym q ∙ e in absurd (cc)
 
 begun-wants : (p : ℕ) (w : World) (here : Option Waker) (c : Call) → spawns c ≡ true → Wants (begun p w here c).next
-begun-wants p w here (call.Spawn mark) s = inl refl
+begun-wants p w here (Call.Spawn mark) s = inl refl
 begun-wants p w here _ s = absurd (cc)
 
 -- at every moment
 
-any-right : (es : Trace) (b : Begun) (a : Reply) (held : Hold) → Asking es b (op.End a held ∷ []) →
+any-right : (es : Trace) (b : Begun) (a : Reply) (held : Hold) → Asking es b (Op.End a held ∷ []) →
     Any (record { call = b.call; own = b.own; reply = a; past = es })
 any-right es b a held h = tt
 
@@ -195,14 +165,14 @@ moves s p old rest d good l e way f =
     frames-way Asking asking-later Any any-right s p old rest d l e f
     (λ o q n more t b below h. way-on s p old rest d way o q n b.call below h)
     (λ c q a more z t. subst (λ (x : Done). Spawning c x.next) (sym z) (record {
-      fits = fit-begun p (log s.world (event.CallBegun p c)) (mine (top (stack s p))) c;
+      fits = fit-begun p (log s.world (Event.CallBegun p c)) (mine (top (stack s p))) c;
       one = counts _ (opens p s.world s.parties (top (stack s p)) c a).1;
-      wants = begun-wants p (log s.world (event.CallBegun p c)) (mine (top (stack s p))) c;
+      wants = begun-wants p (log s.world (Event.CallBegun p c)) (mine (top (stack s p))) c;
     })) way
 
 ends : (s : Machine) (p : ℕ) (a : Reply) (held : Hold) (below : List Op) → p < length s.parties →
-    stack s p ≡ below ++ reverse (op.End a held ∷ []) → Askings s →
-    Askings (unsettled s p below (done (log s.world (event.CallEnded p a)) []))
+    stack s p ≡ below ++ reverse (Op.End a held ∷ []) → Askings s →
+    Askings (unsettled s p below (done (log s.world (Event.CallEnded p a)) []))
 ends s p a held below l e f = frames-end Asking asking-later Any any-right s p a held below l e f
 
 pub askings : (limit : ℕ) (kind : Kind) (n : ℕ) (ts : List Step) → Askings (run ts (start limit kind n))

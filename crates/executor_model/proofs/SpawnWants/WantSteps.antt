@@ -1,24 +1,13 @@
 -- For spawns_want_memory_as_told.
 -- Where one thing is done for a spawn and the end of a call for want of memory comes first then, it asked for a place.
-use Rattle.std.proofs.Common.{◌≡◌, ◌∙◌, ℕ, List, [], ◌∷◌, ◌++◌, true, false}
-use Rattle.std.proofs.Common.{⊎_elim, refl, sym, ap, subst, arith}
-use Rattle.std.proofs.lemmas.List.{append_assoc}
-use Rattle.std.specs.Prelude.{Some, reverse}
-use Rattle.executor_parts.specs.declared.mark.Mark.{Mark}
-use Rattle.executor_model.specs.declared.call.Call.TheVariants as call
-use Rattle.executor_model.specs.declared.op.Op.{Op}
-use Rattle.executor_model.specs.declared.op.Op.TheVariants as op
-use Rattle.executor_model.specs.Calls.{Begun}
-use Rattle.executor_model.specs.SpawnWants.{IsSpawning}
-use Rattle.executor_model.specs.Steps.{Machine, stack}
-use Rattle.executor_model.specs.Weights.{weigh}
-use Rattle.executor_model.proofs.Promises.CallFrames.{Tied}
-use Rattle.executor_model.proofs.Promises.CallServes.{misfit}
-use Rattle.executor_model.proofs.Quiet.Calls.{Passes, calling_of, is_end}
-use Rattle.executor_model.proofs.Steps.Lists.{weigh-append, weigh-below}
-use Rattle.executor_model.proofs.SpawnWants.Tops.{first}
+use Rattle.std.proofs.Common.{◌≡◌, ◌∙◌, ℕ, List, [], ◌∷◌, ◌++◌, true, false, ⊎_elim, refl, sym, ap, subst, arith}
+use Rattle.std.{proofs.lemmas.List.append_assoc, specs.Prelude.Some, specs.Prelude.reverse}
+use Rattle.executor_model.specs.{Calls.Begun, SpawnWants.IsSpawning, Steps.Machine, Steps.stack, Weights.weigh}
 use Rattle.executor_model.proofs.SpawnWants.WantFrames.{Any, Asking, Askings, Spawning, asking-later, asks-place, few-want}
+use Rattle.executor_model.proofs.Quiet.Calls.{Passes, calling_of, is_end}
 use Rattle.executor_model.proofs.SpawnWants.WantFrames.{Enters, is_end_first, want_of}
+use Rattle.executor_model.proofs.{Types.Mark, Types.Call, Types.Op, Promises.CallFrames.Tied, Promises.CallServes.misfit}
+use Rattle.executor_model.proofs.{Steps.Lists.weigh-append, Steps.Lists.weigh-below, SpawnWants.Tops.first}
 
 -- the frame of a spawn, with what is below it
 pub record InSpawn (os : List Op) : Type 0 where
@@ -29,11 +18,11 @@ pub record InSpawn (os : List Op) : Type 0 where
   pub is : os ≡ front ++ last ∷ below
   pub none : weigh calling_of front ≡ 0
   pub answers : calling_of last ≡ 1
-  pub spawning : Spawning (call.Spawn mark) (front ++ last ∷ [])
+  pub spawning : Spawning (Call.Spawn mark) (front ++ last ∷ [])
 
 pub in-spawn : (s : Machine) (p : ℕ) → Askings s → IsSpawning p s.world.trace → InSpawn (reverse (stack s p))
 in-spawn s p f k =
-    let b : Begun = record { call = call.Spawn k.mark; own = k.own } in
+    let b : Begun = record { call = Call.Spawn k.mark; own = k.own } in
     let t : Tied Asking asking-later Any s.world.trace (b ∷ k.outer) (reverse (stack s p)) =
     subst (λ (l : List Begun). Tied Asking asking-later Any s.world.trace l (reverse (stack s p))) k.is (f.tied p) in
     record {
@@ -56,7 +45,7 @@ first-of (y ∷ xs) below last x z e = let i : y ≡ x = cc in omega (arith, z, 
 module _ (o x : Op) (rest next : List Op) (k : Passes o next) (n : is_end o ≡ false) (w : want_of x ≡ 1)
     (e : first (next ++ rest) ≡ Some x) where
   in-front : (mark : Mark) (y : Op) (fs below : List Op) (last : Op) → o ∷ rest ≡ y ∷ (fs ++ last ∷ below) →
-      weigh calling_of (y ∷ fs) ≡ 0 → Spawning (call.Spawn mark) (y ∷ (fs ++ last ∷ [])) → Enters o
+      weigh calling_of (y ∷ fs) ≡ 0 → Spawning (Call.Spawn mark) (y ∷ (fs ++ last ∷ [])) → Enters o
   in-front mark y fs below last is none h =
       let i : o ≡ y = cc in
       let j : rest ≡ fs ++ last ∷ below = cc in
@@ -78,9 +67,9 @@ module _ (o x : Op) (rest next : List Op) (k : Passes o next) (n : is_end o ≡ 
   asked h = by h.front h.is h.none h.spawning
     where
       by : (front : List Op) → o ∷ rest ≡ front ++ h.last ∷ h.below → weigh calling_of front ≡ 0 →
-          Spawning (call.Spawn h.mark) (front ++ h.last ∷ []) → Enters o
+          Spawning (Call.Spawn h.mark) (front ++ h.last ∷ []) → Enters o
       by [] is none y =
           let i : o ≡ h.last = (let q : o ∷ rest ≡ h.last ∷ h.below = is in cc) in
-          asks-place (call.Spawn h.mark) o refl (ap calling_of i ∙ h.answers) n
-          (omega (arith, ap (misfit (call.Spawn h.mark)) i, y.fits))
+          asks-place (Call.Spawn h.mark) o refl (ap calling_of i ∙ h.answers) n
+          (omega (arith, ap (misfit (Call.Spawn h.mark)) i, y.fits))
       by (z ∷ fs) is none y = in-front h.mark z fs h.below h.last is none y

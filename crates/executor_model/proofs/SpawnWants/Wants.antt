@@ -1,52 +1,26 @@
 -- For spawns_want_memory_as_told.
 -- A spawn is answered that memory is wanted where its step is told so and the executor isn't full, and nowhere else.
-use Rattle.std.proofs.Common.{◌≡◌, ◌∙◌, ℕ, List, [], ◌∷◌, ◌++◌, length, Bool, true, false, not, ltb}
-use Rattle.std.proofs.Common.{refl, sym, ap, subst, arith, append-nil}
+use Rattle.std.proofs.Common.{◌≡◌, ◌∙◌, ℕ, List, [], ◌∷◌, ◌++◌, length, Bool, true, false, not, ltb, refl, sym, ap, subst}
 use Rattle.std.proofs.lemmas.List.{append_assoc, append_cancel_left, reverse-append}
 use Rattle.std.specs.Prelude.{Option, Some, None, nat_lt, reverse}
-use Rattle.std.specs.List.{list_any}
-use Rattle.executor_model.specs.declared.kind.Kind.{Kind}
-use Rattle.executor_model.specs.declared.call.Call.{Call}
-use Rattle.executor_model.specs.declared.call.Reply.{Reply}
-use Rattle.executor_model.specs.declared.call.Reply.TheVariants as reply
-use Rattle.executor_model.specs.declared.event.Event.{Event}
-use Rattle.executor_model.specs.declared.event.Event.TheVariants as event
-use Rattle.executor_model.specs.declared.op.Op.{Op}
-use Rattle.executor_model.specs.declared.op.Hold.TheVariants as hold
-use Rattle.executor_model.specs.declared.op.Op.TheVariants as op
-use Rattle.executor_model.specs.declared.op.QueueOp.TheVariants as queue_op
-use Rattle.executor_model.specs.declared.op.TableOp.TheVariants as table_op
-use Rattle.executor_model.specs.declared.op.Waker.{Waker}
-use Rattle.executor_model.specs.declared.step.Hint.{Hint}
-use Rattle.executor_model.specs.declared.step.Step.{Step}
-use Rattle.executor_model.specs.declared.step.Step.TheVariants.{Begin, Go, Answer}
-use Rattle.executor_model.specs.declared.step.StepError.{StepError}
-use Rattle.executor_model.specs.declared.step.StepError.TheVariants.{NoSuch, WrongAnswer}
-use Rattle.executor_model.specs.declared.step.UserEnd.{UserEnd}
-use Rattle.executor_model.specs.Acts.{enter_by}
-use Rattle.executor_model.specs.Doing.{act}
-use Rattle.executor_model.specs.Limit.{Asks, IsLimitExact, IsUndropped, ReachLimit}
-use Rattle.executor_model.specs.Entries.{Remains}
-use Rattle.executor_model.specs.Refusals.{ends_for_want}
-use Rattle.executor_model.specs.SpawnWants.{Answers, IsSpawning, SpawnsWantAsTold, is_refused}
+use Rattle.std.{proofs.Common.arith, proofs.Common.append-nil, specs.List.list_any}
+use Rattle.executor_model.proofs.Types.{Kind, Call, Reply, Event, Op, Hold, QueueOp, TableOp, Waker, Hint, Step, Begin, Go}
+use Rattle.executor_model.proofs.Types.{StepError, NoSuch, WrongAnswer, UserEnd, Mark}
+use Rattle.executor_model.specs.declared.step.Step.TheVariants.{Answer}
 use Rattle.executor_model.specs.Steps.{Machine, accepts, begun, end_of, go_refusal, answer_refusal, gone_on, mine, onto}
 use Rattle.executor_model.specs.Steps.{below_top, part_after, part_refusal, party_of, react, refusal, run, settled_by, stack}
-use Rattle.executor_model.specs.Steps.{start, step, step_by, stepped, top, unless}
-use Rattle.executor_model.specs.Trace.{Trace, has}
-use Rattle.executor_model.specs.World.{Done, World, log}
-use Rattle.executor_model.proofs.Memory.Refusing.{want-is-told-of}
-use Rattle.executor_model.proofs.Promises.CallFrames.{passes-react}
-use Rattle.executor_model.proofs.Promises.CallPromises.{has-right}
-use Rattle.executor_model.proofs.Quiet.Calls.{Answering, is_end}
-use Rattle.executor_model.proofs.Quiet.CallsGroups.{calls-act}
-use Rattle.executor_model.proofs.Quiet.Resting.{opens}
+use Rattle.executor_model.specs.SpawnWants.{Answers, IsSpawning, SpawnsWantAsTold, is_refused}
+use Rattle.executor_model.specs.{Acts.enter_by, Doing.act, Limit.Asks, Limit.IsLimitExact, Limit.IsUndropped, Limit.ReachLimit}
+use Rattle.executor_model.specs.{Entries.Remains, Refusals.ends_for_want, Steps.start, Steps.step, Steps.step_by, Steps.stepped}
+use Rattle.executor_model.specs.{Steps.top, Steps.unless, Trace.Trace, Trace.has, World.Done, World.World, World.log}
 use Rattle.executor_model.proofs.Steps.Deeds.{ends_one, grows-act, grows-begun, grows-react}
-use Rattle.executor_model.proofs.Steps.Lift.{none_refused, topped}
 use Rattle.executor_model.proofs.Table.Spawning.{asked, in-range, limits, says-full, step-trace}
 use Rattle.executor_model.proofs.SpawnWants.Tops.{Tops, first, flipped, top-first, tops}
 use Rattle.executor_model.proofs.SpawnWants.WantFrames.{Askings, askings, Enters, unended, want_of}
-use Rattle.executor_parts.specs.declared.mark.Mark.{Mark}
 use Rattle.executor_model.proofs.SpawnWants.WantSteps.{InSpawn, asked as asked-place, in-spawn}
+use Rattle.executor_model.proofs.{Memory.Refusing.want-is-told-of, Promises.CallFrames.passes-react}
+use Rattle.executor_model.proofs.{Promises.CallPromises.has-right, Quiet.Calls.Answering, Quiet.Calls.is_end}
+use Rattle.executor_model.proofs.{Quiet.CallsGroups.calls-act, Quiet.Resting.opens, Steps.Lift.none_refused, Steps.Lift.topped}
 
 -- lists with the same last
 
@@ -66,28 +40,28 @@ not-nothing (x ∷ xs) a e = absurd (cc)
 -- which call has ended
 
 abbrev Ends : ℕ → ℕ → Option Reply → Type 0
-Ends p q o = (p ≡ q) × (o ≡ Some reply.NoMemory)
+Ends p q o = (p ≡ q) × (o ≡ Some Reply.NoMemory)
 
 ended-by : (p q : ℕ) (w : World) (os : List Op) (o : Option Reply) (es more told : Trace) → w.trace ≡ es ++ more →
     has ends_one more ≡ false →
-    (settled_by o q w os).world.trace ≡ es ++ (told ++ event.CallEnded p reply.NoMemory ∷ []) → Ends p q o
+    (settled_by o q w os).world.trace ≡ es ++ (told ++ Event.CallEnded p Reply.NoMemory ∷ []) → Ends p q o
 ended-by p q w os None es more told t n e =
-    let i : more ≡ told ++ event.CallEnded p reply.NoMemory ∷ [] = append_cancel_left es _ _ (sym t ∙ e) in
+    let i : more ≡ told ++ Event.CallEnded p Reply.NoMemory ∷ [] = append_cancel_left es _ _ (sym t ∙ e) in
     absurd (not-both (has ends_one more)
-    (ap (has ends_one) i ∙ has-right ends_one told (event.CallEnded p reply.NoMemory ∷ []) refl) n)
+    (ap (has ends_one) i ∙ has-right ends_one told (Event.CallEnded p Reply.NoMemory ∷ []) refl) n)
 ended-by p q w os (Some a) es more told t n e =
-    let i : more ++ event.CallEnded q a ∷ [] ≡ told ++ event.CallEnded p reply.NoMemory ∷ [] =
-    append_cancel_left es _ _ (sym (append_assoc es more (event.CallEnded q a ∷ []))
-    ∙ (ap (λ (xs : Trace). xs ++ event.CallEnded q a ∷ []) (sym t) ∙ e)) in
-    let j : event.CallEnded q a ≡ event.CallEnded p reply.NoMemory = last-event more told _ _ i in
+    let i : more ++ Event.CallEnded q a ∷ [] ≡ told ++ Event.CallEnded p Reply.NoMemory ∷ [] =
+    append_cancel_left es _ _ (sym (append_assoc es more (Event.CallEnded q a ∷ []))
+    ∙ (ap (λ (xs : Trace). xs ++ Event.CallEnded q a ∷ []) (sym t) ∙ e)) in
+    let j : Event.CallEnded q a ≡ Event.CallEnded p Reply.NoMemory = last-event more told _ _ i in
     let k : p ≡ q = cc in
-    let m : a ≡ reply.NoMemory = cc in (k, ap (λ (x : Reply). Some x) m)
+    let m : a ≡ Reply.NoMemory = cc in (k, ap (λ (x : Reply). Some x) m)
 
-wants-first : (o : Option Op) → end_of o ≡ Some reply.NoMemory → (x : Op) × (o ≡ Some x) × (want_of x ≡ 1)
+wants-first : (o : Option Op) → end_of o ≡ Some Reply.NoMemory → (x : Op) × (o ≡ Some x) × (want_of x ≡ 1)
 wants-first None e = absurd (cc)
-wants-first (Some (op.End a held)) e =
-    let i : a ≡ reply.NoMemory = cc in
-    (op.End a held, refl, ap (λ (b : Reply). want_of (op.End b held)) i)
+wants-first (Some (Op.End a held)) e =
+    let i : a ≡ Reply.NoMemory = cc in
+    (Op.End a held, refl, ap (λ (b : Reply). want_of (Op.End b held)) i)
 wants-first (Some _) e = absurd (cc)
 
 -- there is no place for one more
@@ -104,7 +78,7 @@ record Tells (w : World) (d : Done) : Type 0 where
 
 module _ (s : Machine) (p q : ℕ) (here : Tops s) (f : Askings s) (k : IsSpawning p s.world.trace) (told : Trace) where
   -- the end of a call comes first
-  comes-first : (rest : List Op) (d : Done) → end_of (top (rest ++ reverse d.next)) ≡ Some reply.NoMemory →
+  comes-first : (rest : List Op) (d : Done) → end_of (top (rest ++ reverse d.next)) ≡ Some Reply.NoMemory →
       (x : Op) × (first (d.next ++ reverse rest) ≡ Some x) × (want_of x ≡ 1)
   comes-first rest d e =
       let i : top (rest ++ reverse d.next) ≡ first (d.next ++ reverse rest) =
@@ -112,7 +86,7 @@ module _ (s : Machine) (p q : ℕ) (here : Tops s) (f : Askings s) (k : IsSpawni
       wants-first (first (d.next ++ reverse rest)) (ap end_of (sym i) ∙ e)
 
   was-end : (rest : List Op) (d : Done) → Tells s.world d →
-      (onto q d rest).world.trace ≡ s.world.trace ++ (told ++ event.CallEnded p reply.NoMemory ∷ []) →
+      (onto q d rest).world.trace ≡ s.world.trace ++ (told ++ Event.CallEnded p Reply.NoMemory ∷ []) →
       Ends p q (end_of (top (rest ++ reverse d.next)))
   was-end rest d t e = ended-by p q d.world (rest ++ reverse d.next) (end_of (top (rest ++ reverse d.next)))
       s.world.trace t.more told t.is t.none e
@@ -125,7 +99,7 @@ module _ (s : Machine) (p q : ℕ) (here : Tops s) (f : Askings s) (k : IsSpawni
       ∙ (ap end_of (sym (top-first (stack s q))) ∙ here.none q)) in by o z
     where
       by : (x : Op) → end_of (Some x) ≡ None → is_end x ≡ false
-      by (op.End a held) z = absurd (cc)
+      by (Op.End a held) z = absurd (cc)
       by _ z = refl
 
   frame : (o : Op) (rest : List Op) → stack s q ≡ rest ++ reverse (o ∷ []) → p ≡ q → InSpawn (o ∷ reverse rest)
@@ -133,7 +107,7 @@ module _ (s : Machine) (p q : ℕ) (here : Tops s) (f : Askings s) (k : IsSpawni
       (in-spawn s q f (subst (λ (n : ℕ). IsSpawning n s.world.trace) i k))
 
   by-act : (h : Hint) (o : Op) (rest : List Op) → stack s q ≡ rest ++ reverse (o ∷ []) →
-      (onto q (act q h o s.world) rest).world.trace ≡ s.world.trace ++ (told ++ event.CallEnded p reply.NoMemory ∷ []) →
+      (onto q (act q h o s.world) rest).world.trace ≡ s.world.trace ++ (told ++ Event.CallEnded p Reply.NoMemory ∷ []) →
       (p ≡ q) × Enters o × (h.refused ≡ true) × (is_full s.world ≡ false)
   by-act h o rest e t =
       let n : is_end o ≡ false = unended-top o rest e in
@@ -150,12 +124,12 @@ module _ (s : Machine) (p q : ℕ) (here : Tops s) (f : Askings s) (k : IsSpawni
           first ((enter_by b c mark q s.world).next ++ below) ≡ Some y → want_of y ≡ 1 → (c ≡ true) × (b ≡ false)
       refuses mark false true y below v u = (refl, refl)
       refuses mark true c y below v u =
-          let j : op.End reply.Full hold.Executor ≡ y = cc in absurd (omega (arith, u, ap want_of j))
+          let j : Op.End Reply.Full Hold.Executor ≡ y = cc in absurd (omega (arith, u, ap want_of j))
       refuses mark false false y below v u =
-          let j : op.Queue (queue_op.Append (length s.world.tasks)) ≡ y = cc in absurd (omega (arith, u, ap want_of j))
+          let j : Op.Queue (QueueOp.Append (length s.world.tasks)) ≡ y = cc in absurd (omega (arith, u, ap want_of j))
 
   by-react : (o : Op) (u : UserEnd) (rest : List Op) → stack s q ≡ rest ++ reverse (o ∷ []) → accepts o u ≡ true →
-      (onto q (react q o u s.world) rest).world.trace ≡ s.world.trace ++ (told ++ event.CallEnded p reply.NoMemory ∷ []) →
+      (onto q (react q o u s.world) rest).world.trace ≡ s.world.trace ++ (told ++ Event.CallEnded p Reply.NoMemory ∷ []) →
       ⊥
   by-react o u rest e a t =
       let n : is_end o ≡ false = unended o u a in
@@ -165,18 +139,18 @@ module _ (s : Machine) (p q : ℕ) (here : Tops s) (f : Askings s) (k : IsSpawni
       let x = comes-first rest (react q o u s.world) z.1 in
       let i : Enters o = asked-place o x.0 (reverse rest) (react q o u s.world).next
       (passes-react q o u s.world a) n x.2 x.1 (frame o rest e z.0) in
-      let no : accepts (op.Table (table_op.Enter i.0)) u ≡ true = ap (λ (y : Op). accepts y u) (sym i.1) ∙ a in absurd (cc)
+      let no : accepts (Op.Table (TableOp.Enter i.0)) u ≡ true = ap (λ (y : Op). accepts y u) (sym i.1) ∙ a in absurd (cc)
 
   by-begin : (c : Call) (rest : List Op) (d : Done) → Answering d.next → list_any ends_for_want d.next ≡ false →
       Tells s.world d →
-      (onto q d rest).world.trace ≡ s.world.trace ++ (told ++ event.CallEnded p reply.NoMemory ∷ []) → ⊥
+      (onto q d rest).world.trace ≡ s.world.trace ++ (told ++ Event.CallEnded p Reply.NoMemory ∷ []) → ⊥
   by-begin c rest d a n g t =
       let z : Ends p q (end_of (top (rest ++ reverse d.next))) = was-end rest d g t in
       let x = comes-first rest d z.1 in
       by d.next a n x.0 x.1 x.2
     where
       asks-none : (o : Op) (os : List Op) → list_any ends_for_want (o ∷ os) ≡ false → want_of o ≡ 1 → ⊥
-      asks-none (op.End reply.NoMemory held) os e w = absurd (cc)
+      asks-none (Op.End Reply.NoMemory held) os e w = absurd (cc)
       asks-none _ os e w = absurd (omega (arith, w))
 
       by : (next : List Op) → Answering next → list_any ends_for_want next ≡ false → (y : Op) →
@@ -202,7 +176,7 @@ there false r e = absurd (cc)
 module _ (s : Machine) (p : ℕ) (here : Tops s) (f : Askings s) (k : IsSpawning p s.world.trace) (told : Trace) where
   go-found : (q : ℕ) (h : Hint) (o : Option Op) → top (stack s q) ≡ o → go_refusal s.world o ≡ None →
       (gone_on q s.world (stack s q) o (λ x. act q h x s.world)).world.trace
-      ≡ s.world.trace ++ (told ++ event.CallEnded p reply.NoMemory ∷ []) → Found s (Go q h) p
+      ≡ s.world.trace ++ (told ++ Event.CallEnded p Reply.NoMemory ∷ []) → Found s (Go q h) p
   go-found q h None e r t = absurd (cc)
   go-found q h (Some o) e r t =
       let x = by-act s p q here f k told h o (below_top (stack s q)) (topped (stack s q) o e) t in
@@ -221,39 +195,39 @@ module _ (s : Machine) (p : ℕ) (here : Tops s) (f : Askings s) (k : IsSpawning
 
   answer-found : (q : ℕ) (u : UserEnd) (o : Option Op) → top (stack s q) ≡ o → answer_refusal o u ≡ None →
       (gone_on q s.world (stack s q) o (λ x. react q x u s.world)).world.trace
-      ≡ s.world.trace ++ (told ++ event.CallEnded p reply.NoMemory ∷ []) → ⊥
+      ≡ s.world.trace ++ (told ++ Event.CallEnded p Reply.NoMemory ∷ []) → ⊥
   answer-found q u None e r t = absurd (cc)
   answer-found q u (Some o) e r t =
       by-react s p q here f k told o u (below_top (stack s q)) (topped (stack s q) o e) (accepted o u r) t
 
   found-by : (t : Step) → part_refusal s.world s.parties (stack s (party_of t)) t ≡ None →
       (part_after s.world (stack s (party_of t)) t).world.trace
-      ≡ s.world.trace ++ (told ++ event.CallEnded p reply.NoMemory ∷ []) → Found s t p
+      ≡ s.world.trace ++ (told ++ Event.CallEnded p Reply.NoMemory ∷ []) → Found s t p
   found-by (Begin q c) r t =
-      let w : World = log s.world (event.CallBegun q c) in
+      let w : World = log s.world (Event.CallBegun q c) in
       let o : Option Waker = mine (top (stack s q)) in
       let x : _ = none_refused s.world s.parties (top (stack s q)) c r in
       let g = grows-begun q w o c in
       absurd (by-begin s p q here f k told c (stack s q) (begun q w o c)
       (opens q s.world s.parties (top (stack s q)) c x.1).1 ((want-is-told-of w q).begins o c)
       (record {
-        more = event.CallBegun q c ∷ g.more;
-        is = g.is ∙ append_assoc s.world.trace (event.CallBegun q c ∷ []) g.more;
+        more = Event.CallBegun q c ∷ g.more;
+        is = g.is ∙ append_assoc s.world.trace (Event.CallBegun q c ∷ []) g.more;
         none = g.none_ends;
       }) t)
   found-by (Go q h) r t = go-found q h _ refl r t
   found-by (Answer q u) r t = absurd (answer-found q u _ refl r t)
 
   found-step : (t : Step) (r : Option StepError) → refusal s t ≡ r →
-      (stepped s (step_by r s t)).world.trace ≡ s.world.trace ++ (told ++ event.CallEnded p reply.NoMemory ∷ []) →
+      (stepped s (step_by r s t)).world.trace ≡ s.world.trace ++ (told ++ Event.CallEnded p Reply.NoMemory ∷ []) →
       Found s t p
   found-step t (Some error) q e =
-      absurd (not-nothing told (event.CallEnded p reply.NoMemory)
+      absurd (not-nothing told (Event.CallEnded p Reply.NoMemory)
       (append_cancel_left s.world.trace _ [] (sym e ∙ sym (append-nil s.world.trace))))
   found-step t None q e = found-by t (there (ltb (party_of t) (length s.parties)) _ q) e
 
 found : (s : Machine) (p : ℕ) → Tops s → Askings s → IsSpawning p s.world.trace → (t : Step) →
-    Answers s t p reply.NoMemory → Found s t p
+    Answers s t p Reply.NoMemory → Found s t p
 unfolding step
 found s p here f k t a = found-step s p here f k a.0 t (refusal s t) refl a.1
 
@@ -263,18 +237,18 @@ module _ (s : Machine) (here : Tops s) (f : Askings s) (exact : IsLimitExact s) 
   abbrev any_hint : Hint
   any_hint = record { refused = false; same = false; start = 0 }
 
-  few : (p : ℕ) (t : Step) → IsSpawning p s.world.trace → Answers s t p reply.NoMemory →
+  few : (p : ℕ) (t : Step) → IsSpawning p s.world.trace → Answers s t p Reply.NoMemory →
       ¬ ReachLimit s (λ g. IsUndropped g s)
   few p t k a r =
       let x : Found s t p = found s p here f k t a in
       let full : is_full s.world ≡ true = says-full (is_full s.world) false p s.world s.world.trace
-      (sym (step-trace s p any_hint (in-range s p (op.Table (table_op.Enter x.asks.0)) x.asks.1) x.asks)
+      (sym (step-trace s p any_hint (in-range s p (Op.Table (TableOp.Enter x.asks.0)) x.asks.1) x.asks)
       ∙ exact.always p any_hint x.asks r) in
       not-both (is_full s.world) full x.free
 
   module _ (p : ℕ) (h : Hint) (asks : Asks s p) (none : ¬ ReachLimit s (λ g. Remains g s)) where
     told-trace : (stepped s (step s (Go p h))).world.trace ≡ s.world.trace ++ asked (is_full s.world) h.refused p s.world ∷ []
-    told-trace = step-trace s p h (in-range s p (op.Table (table_op.Enter asks.0)) asks.1) asks
+    told-trace = step-trace s p h (in-range s p (Op.Table (TableOp.Enter asks.0)) asks.1) asks
 
     free : is_full s.world ≡ false
     free = by (is_full s.world) refl

@@ -1,44 +1,26 @@
 -- For all laws.
 -- What a move owes, what is left to do where a waker goes, and the steps of the executor's drop weigh nothing
 -- in a count that sees none of it.
-use Rattle.std.proofs.Common.{◌≡◌, ℕ, List, [], ◌∷◌, Bool, true, false, refl, arith}
+use Rattle.std.proofs.Common.{◌≡◌, ℕ, List, [], ◌∷◌, Bool, true, false, refl, arith, ◌++◌}
 use Rattle.std.specs.Prelude.{Option, Some, None}
 use Rattle.task_moves.specs.declared.moves.owed.AwaiterDebt.{AwaiterDebt}
-use Rattle.task_moves.specs.declared.moves.owed.Move.{Move}
-use Rattle.task_moves.specs.declared.moves.owed.Move.TheVariants as move
-use Rattle.task_moves.specs.declared.moves.owed.Owed.{Owed}
-use Rattle.executor_model.specs.declared.op.Awaiter.{Awaiter}
-use Rattle.executor_model.specs.declared.op.Op.{Op}
-use Rattle.executor_model.specs.declared.op.Op.TheVariants as op
-use Rattle.executor_model.specs.declared.op.ClosingOp.{ClosingOp}
-use Rattle.executor_model.specs.declared.op.ClosingOp.TheVariants as closing_op
-use Rattle.executor_model.specs.declared.op.HandleOp.TheVariants as handle_op
-use Rattle.executor_model.specs.declared.op.QueueOp.TheVariants as queue_op
-use Rattle.executor_model.specs.declared.op.TableOp.TheVariants as table_op
-use Rattle.executor_model.specs.declared.op.UserOp.TheVariants as user_op
-use Rattle.executor_model.specs.declared.op.Waker.{Waker}
-use Rattle.executor_model.specs.declared.op.Waker.TheVariants.{Task, Outside}
-use Rattle.executor_model.specs.declared.op.WakerOp.TheVariants as waker_op
-use Rattle.executor_model.specs.Acts.{closing_ops, entry_goes, let_go, let_go_by, told, waker_goes}
+use Rattle.executor_model.proofs.Types.{Move, Owed, Awaiter, Op, ClosingOp, HandleOp, QueueOp, TableOp, UserOp, Waker, Task}
+use Rattle.executor_model.specs.Acts.{closing_ops, entry_goes, let_go, let_go_by, told, waker_goes, leak_next_by, leak_out_by}
 use Rattle.executor_model.specs.Carried.{awaiter_ops, owed_ops}
-use Rattle.executor_model.specs.Weights.{weigh}
-use Rattle.executor_model.specs.World.{World, awaiter_of}
+use Rattle.executor_model.specs.{Acts.leaking_ops, Acts.wake, Weights.weigh, World.World, World.awaiter_of}
 use Rattle.executor_model.proofs.Steps.Owed.{owed-future, owed-awaiter, owed-nothing}
-use Rattle.executor_model.specs.Acts.{leak_next_by, leak_out_by, leaking_ops, wake}
-use Rattle.executor_model.proofs.Steps.Lists.{weigh-append}
-use Rattle.std.proofs.Common.{◌++◌}
-use Rattle.executor_parts.specs.declared.mark.Mark.TheVariants.{Urgent}
+use Rattle.executor_model.proofs.{Types.Outside, Types.WakerOp, Types.Urgent, Steps.Lists.weigh-append}
 
 -- v sees no move, nothing that a move owes, and no call of an awaiter
 pub record Aside (v : Op → ℕ) : Type 0 where
-  pub move : (m : Move) (f : ℕ) → v (op.Move m f) ≡ 0
-  pub append : (f : ℕ) → v (op.Queue (queue_op.Append f)) ≡ 0
-  pub poll : (f : ℕ) → v (op.Table (table_op.TakeToPoll f)) ≡ 0
-  pub drop : (f : ℕ) → v (op.Table (table_op.TakeToDrop f)) ≡ 0
-  pub output : (f : ℕ) → v (op.User (user_op.BeginDropOutput f)) ≡ 0
-  pub notify : (f : ℕ) (mine : Bool) → v (op.Handle (handle_op.Notify f mine)) ≡ 0
-  pub call : (f : ℕ) (a : Waker) (k : ℕ) → v (op.Waker (waker_op.CallAwaiter f a k)) ≡ 0
-  pub goes : (f : ℕ) → v (op.Handle (handle_op.LetGo f)) ≡ 0
+  pub move : (m : Move) (f : ℕ) → v (Op.Move m f) ≡ 0
+  pub append : (f : ℕ) → v (Op.Queue (QueueOp.Append f)) ≡ 0
+  pub poll : (f : ℕ) → v (Op.Table (TableOp.TakeToPoll f)) ≡ 0
+  pub drop : (f : ℕ) → v (Op.Table (TableOp.TakeToDrop f)) ≡ 0
+  pub output : (f : ℕ) → v (Op.User (UserOp.BeginDropOutput f)) ≡ 0
+  pub notify : (f : ℕ) (mine : Bool) → v (Op.Handle (HandleOp.Notify f mine)) ≡ 0
+  pub call : (f : ℕ) (a : Waker) (k : ℕ) → v (Op.Waker (WakerOp.CallAwaiter f a k)) ≡ 0
+  pub goes : (f : ℕ) → v (Op.Handle (HandleOp.LetGo f)) ≡ 0
 
 module _ (v : Op → ℕ) (h : Aside v) where
   pub aside-awaiter : (f : ℕ) (o : Option AwaiterDebt) → weigh v (awaiter_ops f o) ≡ 0
@@ -50,17 +32,17 @@ module _ (v : Op → ℕ) (h : Aside v) where
       (record {
         append = h.append f;
         output = h.output f;
-        release = h.move move.Release f;
-        settle_closed = h.move move.SettleClosed f;
-        give_up = h.move move.GiveUp f;
-        end_closed = h.move move.EndClosed f;
-        detach = h.move move.Detach f;
+        release = h.move Move.Release f;
+        settle_closed = h.move Move.SettleClosed f;
+        give_up = h.move Move.GiveUp f;
+        end_closed = h.move Move.EndClosed f;
+        detach = h.move Move.Detach f;
         let_go = h.goes f;
       }) there o (owed-future v f (record { poll = h.poll f; drop = h.drop f }) there o.future)
       (aside-awaiter f o.awaiter)
 
   aside-goes : (a : Waker) → weigh v (waker_goes a) ≡ 0
-  aside-goes (Task g) = omega (arith, h.move move.Release g)
+  aside-goes (Task g) = omega (arith, h.move Move.Release g)
   aside-goes (Outside x) = refl
 
   pub aside-let_go : (a : Option Awaiter) → weigh v (let_go a) ≡ 0
@@ -69,7 +51,7 @@ module _ (v : Op → ℕ) (h : Aside v) where
 
   pub aside-entry : (b : Bool) (f : ℕ) → weigh v (entry_goes b f) ≡ 0
   aside-entry true f = refl
-  aside-entry false f = omega (arith, h.move move.Release f)
+  aside-entry false f = omega (arith, h.move Move.Release f)
 
   pub aside-let_go_by : (b : Bool) (w : World) (f : ℕ) → weigh v (let_go_by b w f).next ≡ 0
   aside-let_go_by true w f = refl
@@ -80,22 +62,22 @@ module _ (v : Op → ℕ) (h : Aside v) where
   aside-told true f (Some a) = aside-goes a.waker
   aside-told false f (Some a) = omega (arith, h.call f a.waker a.poll)
 
-pub aside-closing : (v : Op → ℕ) → ((o : ClosingOp) → v (op.Closing o) ≡ 0) → (ls ws : List ℕ) →
+pub aside-closing : (v : Op → ℕ) → ((o : ClosingOp) → v (Op.Closing o) ≡ 0) → (ls ws : List ℕ) →
     weigh v (closing_ops ls ws) ≡ 0
-aside-closing v h [] [] = omega (arith, h (closing_op.Close Urgent))
-aside-closing v h [] (x ∷ ws) = omega (arith, h closing_op.WakeNext)
-aside-closing v h (x ∷ ls) ws = omega (arith, h closing_op.DropNext)
+aside-closing v h [] [] = omega (arith, h (ClosingOp.Close Urgent))
+aside-closing v h [] (x ∷ ws) = omega (arith, h ClosingOp.WakeNext)
+aside-closing v h (x ∷ ls) ws = omega (arith, h ClosingOp.DropNext)
 
-pub aside-leaking : (v : Op → ℕ) → v (op.Closing closing_op.LeakNext) ≡ 0 → (ws : List ℕ) → weigh v (leaking_ops ws) ≡ 0
+pub aside-leaking : (v : Op → ℕ) → v (Op.Closing ClosingOp.LeakNext) ≡ 0 → (ws : List ℕ) → weigh v (leaking_ops ws) ≡ 0
 aside-leaking v h [] = refl
 aside-leaking v h (x ∷ ws) = omega (arith, h)
 
-pub aside-leak_out : (v : Op → ℕ) → v (op.Closing closing_op.LeakNext) ≡ 0 → (b : Bool) (w : World) →
+pub aside-leak_out : (v : Op → ℕ) → v (Op.Closing ClosingOp.LeakNext) ≡ 0 → (b : Bool) (w : World) →
     weigh v (leak_out_by b w).next ≡ 0
 aside-leak_out v h true w = refl
 aside-leak_out v h false w = aside-leaking v h (w.waking ++ w.table)
 
-pub aside-leak_next : (v : Op → ℕ) → v (op.Closing closing_op.LeakNext) ≡ 0 →
+pub aside-leak_next : (v : Op → ℕ) → v (Op.Closing ClosingOp.LeakNext) ≡ 0 →
     ((p : ℕ) (w : World) (f : ℕ) → weigh v (wake p w f).next ≡ 0) → (b : Bool) (p : ℕ) (w : World) (ws : List ℕ) →
     weigh v (leak_next_by b p w ws).next ≡ 0
 aside-leak_next v h k true p w ws = refl

@@ -1,72 +1,41 @@
 -- For all laws.
 -- What the beginning of a call keeps.
-use Rattle.std.proofs.Common.{◌≡◌, ℕ, zero, suc, ◌+◌, ◌≤◌, List, [], ◌∷◌, length}
-use Rattle.std.proofs.Common.{Bool, true, false, ◌&&◌, ◌||◌, not, eqb, refl, sym, ap, ◌∙◌}
-use Rattle.std.proofs.Common.{⊎_elim, arith}
-use Rattle.std.proofs.lemmas.Bool.Decides.{nat_tests}
-use Rattle.std.proofs.lemmas.List.{get_or_past}
-use Rattle.task_moves.specs.declared.moves.state.State.{State}
+use Rattle.std.proofs.Common.{◌≡◌, ℕ, zero, suc, ◌+◌, ◌≤◌, List, [], ◌∷◌, length, Bool, true, false, ◌&&◌, ◌||◌, not, eqb, refl}
+use Rattle.std.proofs.Common.{sym, ap, ◌∙◌, ⊎_elim, arith}
 use Rattle.std.specs.Prelude.{Option, Some, None, slice_get, slice_index_or}
-use Rattle.executor_model.specs.declared.call.By.{By}
-use Rattle.executor_model.specs.declared.call.By.TheVariants as by
-use Rattle.executor_model.specs.declared.call.Call.{Call}
-use Rattle.executor_model.specs.declared.call.Call.TheVariants as call
-use Rattle.executor_model.specs.declared.call.Reply.TheVariants as reply
-use Rattle.executor_model.specs.declared.event.Event.{Event}
-use Rattle.executor_model.specs.declared.event.Event.TheVariants as event
-use Rattle.executor_model.specs.declared.op.Waker.{Waker}
-use Rattle.executor_model.specs.declared.op.Waker.TheVariants.{Task, Outside}
-use Rattle.executor_model.specs.declared.op.Hold.TheVariants as hold
-use Rattle.executor_model.specs.declared.op.Op.{Op}
-use Rattle.executor_model.specs.declared.op.Op.TheVariants as op
-use Rattle.executor_model.specs.declared.op.ClosingOp.TheVariants as closing_op
-use Rattle.executor_model.specs.declared.op.HandleOp.TheVariants as handle_op
-use Rattle.task_moves.specs.declared.moves.owed.Move.TheVariants as move
-use Rattle.executor_model.specs.declared.op.QueueOp.TheVariants as queue_op
-use Rattle.executor_model.specs.declared.op.RunPoll.{RunPoll}
-use Rattle.executor_model.specs.declared.op.SleeperOp.TheVariants as sleeper_op
-use Rattle.executor_model.specs.declared.op.TableOp.TheVariants as table_op
-use Rattle.executor_model.specs.declared.op.TickOp.TheVariants as tick_op
-use Rattle.executor_model.specs.declared.op.UserOp.TheVariants as user_op
-use Rattle.executor_model.specs.declared.op.WakerOp.TheVariants as waker_op
-use Rattle.executor_model.specs.declared.step.StepError.TheVariants.{Busy, NoSuch, Gone, Borrowed}
+use Rattle.std.{proofs.lemmas.Bool.Decides.nat_tests, proofs.lemmas.List.get_or_past}
+use Rattle.executor_model.proofs.Types.{State, By, Call, Reply, Event, Waker, Task, Outside, Hold, Op, ClosingOp, HandleOp}
+use Rattle.executor_model.proofs.Types.{Move, QueueOp, RunPoll, SleeperOp, TableOp, TickOp, UserOp, WakerOp, Busy, NoSuch, Gone}
+use Rattle.executor_model.specs.declared.step.StepError.TheVariants.{Borrowed}
+use Rattle.executor_model.specs.Steps.{kept, has_all, is_free, begin_refusal, is_on_executor, is_drop, is_owners, is_unused}
+use Rattle.executor_model.specs.Steps.{is_unborrowed, unless, used_up, with_future, waker_of, future_of, poll_run, drop_run}
 use Rattle.executor_model.specs.World.{World, Stage, New, Listed, Ended, Run, Done, done, log, task, blank, run_of}
 use Rattle.executor_model.specs.Weights.{weigh, weigh_all, past, waker_past}
-use Rattle.executor_model.specs.Sound.{Sound, Pend, with_ops}
-use Rattle.executor_model.specs.Good.{Fits}
-use Rattle.executor_model.specs.Rows.{borrowing_of, leaking_of, polls_of}
-use Rattle.executor_model.specs.Rows.{past_of}
-use Rattle.executor_model.specs.Rows.{Row}
-use Rattle.executor_model.specs.Steps.{kept, has_all, is_free, begin_refusal}
-use Rattle.executor_model.specs.Steps.{is_on_executor, is_drop, is_owners, is_unused, is_unborrowed, unless}
-use Rattle.executor_model.specs.Steps.{used_up, with_future}
-use Rattle.executor_model.specs.Steps.{waker_of, future_of, poll_run, drop_run, begun}
-use Rattle.executor_model.proofs.Steps.Lists.{same_is, past_is, phase-push}
-use Rattle.executor_model.proofs.Steps.Lists.{wakers_past-used, weigh_all-below}
+use Rattle.executor_model.specs.Rows.{borrowing_of, leaking_of, polls_of, past_of, Row}
+use Rattle.executor_model.specs.{Sound.Sound, Sound.Pend, Sound.with_ops, Good.Fits, Steps.begun}
+use Rattle.executor_model.proofs.Steps.Lists.{same_is, past_is, phase-push, wakers_past-used, weigh_all-below}
 use Rattle.executor_model.proofs.OneFuture.Effects.Effect.{passes}
 use Rattle.executor_model.proofs.OneFuture.EffectsCalls.{by_call, goes-begun}
-use Rattle.executor_model.proofs.Counts.SoundAll.{sound-effect}
-use Rattle.executor_model.proofs.Counts.Fitting.{Grows}
 use Rattle.executor_model.proofs.Steps.RunsPlain.{plain-list, plain-run, plain-steal}
-use Rattle.executor_model.proofs.Steps.Growing.{KeepsHere}
+use Rattle.executor_model.proofs.{Counts.SoundAll.sound-effect, Counts.Fitting.Grows, Steps.Growing.KeepsHere}
 
 -- the beginning of a call
 
 -- no poll of g is in progress where no call uses the executor
 polls-borrow : (g : ℕ) (o : Op) → polls_of g o ≤ borrowing_of o
-polls-borrow g (op.Table (table_op.TakeToPoll f)) = grind (arith, same_is)
-polls-borrow g (op.User (user_op.Poll f)) = grind (arith, same_is)
-polls-borrow g (op.Move move.Wake f) = omega arith
-polls-borrow g (op.Queue queue_op.TakeTurn) = omega arith
-polls-borrow g (op.Queue (queue_op.Take look)) = omega arith
-polls-borrow g (op.Waker (waker_op.CopyWaker f held)) = omega arith
-polls-borrow g (op.Handle (handle_op.LookAgain f)) = omega arith
-polls-borrow g (op.Sleeper sleeper_op.HandOut) = omega arith
-polls-borrow g (op.Tick tick_op.MakeTick) = omega arith
-polls-borrow g (op.List o) = omega (arith, ap (λ (x : Row). x.polls g) (plain-list o))
-polls-borrow g (op.Steal o) = omega (arith, ap (λ (x : Row). x.polls g) (plain-steal o))
-polls-borrow g (op.Run o) = omega (arith, ap (λ (x : Row). x.polls g) (plain-run o))
-polls-borrow g (op.Closing (closing_op.Drain mark)) = omega arith
+polls-borrow g (Op.Table (TableOp.TakeToPoll f)) = grind (arith, same_is)
+polls-borrow g (Op.User (UserOp.Poll f)) = grind (arith, same_is)
+polls-borrow g (Op.Move Move.Wake f) = omega arith
+polls-borrow g (Op.Queue QueueOp.TakeTurn) = omega arith
+polls-borrow g (Op.Queue (QueueOp.Take look)) = omega arith
+polls-borrow g (Op.Waker (WakerOp.CopyWaker f held)) = omega arith
+polls-borrow g (Op.Handle (HandleOp.LookAgain f)) = omega arith
+polls-borrow g (Op.Sleeper SleeperOp.HandOut) = omega arith
+polls-borrow g (Op.Tick TickOp.MakeTick) = omega arith
+polls-borrow g (Op.List o) = omega (arith, ap (λ (x : Row). x.polls g) (plain-list o))
+polls-borrow g (Op.Steal o) = omega (arith, ap (λ (x : Row). x.polls g) (plain-steal o))
+polls-borrow g (Op.Run o) = omega (arith, ap (λ (x : Row). x.polls g) (plain-run o))
+polls-borrow g (Op.Closing (ClosingOp.Drain mark)) = omega arith
 polls-borrow g _ = omega arith
 
 polls-borrow-all : (g : ℕ) (ss : List (List Op)) → weigh_all (polls_of g) ss ≤ weigh_all borrowing_of ss
@@ -88,8 +57,8 @@ not-static false e = refl
 -- the drop of an owned executor, where no call uses it
 begins-drop : (w : World) (p : ℕ) (c : Call) (g : ℕ) (r : Pend) → w.gone ≡ false → w.is_static ≡ false →
     r.borrowing ≡ 0 → r.polls ≡ 0 → Sound w g (with_ops g [] r) →
-    Sound (log (record (log w (event.CallBegun p c)) { gone = true }) (event.DropBegun p)) g
-    (with_ops g (op.Closing closing_op.TakeOut ∷ op.End reply.Done hold.Nothing ∷ []) r)
+    Sound (log (record (log w (Event.CallBegun p c)) { gone = true }) (Event.DropBegun p)) g
+    (with_ops g (Op.Closing ClosingOp.TakeOut ∷ Op.End Reply.Done Hold.Nothing ∷ []) r)
 begins-drop w p c g r n k b q h = grind (arith, phase-push)
 
 all-passed : (a b c l k d : Bool) →
@@ -105,11 +74,11 @@ all-passed false b c l k d e = absurd (cc)
 
 -- what its owner alone does is asked of the drop
 drop-unborrowed : (c : Call) (b : Bool) → (not (is_owners c) || b) ≡ true → (not (is_drop c) || b) ≡ true
-drop-unborrowed call.DropExecutor b e = e
+drop-unborrowed Call.DropExecutor b e = e
 drop-unborrowed c b e = refl
 
 drop-owned : (c : Call) (b : Bool) → not (is_owners c && b) ≡ true → not (is_drop c && b) ≡ true
-drop-owned call.DropExecutor b e = e
+drop-owned Call.DropExecutor b e = e
 drop-owned c b e = refl
 
 -- what is known of a call that may begin
@@ -167,7 +136,7 @@ kept-known w k f h e = omega (arith, wakers_past-used (length w.tasks) f k w.wak
 
 -- what is to do speaks of futures that are there, and the world is as it was
 grows-begun : (w : World) (p : ℕ) (c : Call) (next : List Op) → (Fits w → weigh (past_of (length w.tasks)) next ≡ 0) →
-    Grows w [] (done (log w (event.CallBegun p c)) next)
+    Grows w [] (done (log w (Event.CallBegun p c)) next)
 grows-begun w p c next z h k =
     record {
       fits = record { awaiting = h.awaiting; inside = h.inside };
@@ -177,7 +146,7 @@ grows-begun w p c next z h k =
 
 -- a tick's call is told of too
 grows-told : (w : World) (p : ℕ) (c : Call) (e : Event) (next : List Op) → weigh (past_of (length w.tasks)) next ≡ 0 →
-    Grows w [] (done (log (log w (event.CallBegun p c)) e) next)
+    Grows w [] (done (log (log w (Event.CallBegun p c)) e) next)
 grows-told w p c e next z h k =
     record {
       fits = record { awaiting = h.awaiting; inside = h.inside };
@@ -188,7 +157,7 @@ grows-told w p c e next z h k =
 -- and a run's
 grows-told_run : (w : World) (p : ℕ) (c : Call) (rs : List Run) (e : Event) (next : List Op) →
     weigh (past_of (length w.tasks)) next ≡ 0 →
-    Grows w [] (done (log (record (log w (event.CallBegun p c)) { runs = rs }) e) next)
+    Grows w [] (done (log (record (log w (Event.CallBegun p c)) { runs = rs }) e) next)
 grows-told_run w p c rs e next z h k =
     record {
       fits = record { awaiting = h.awaiting; inside = h.inside };
@@ -208,7 +177,7 @@ past-drop_run n Ended r = refl
 
 grows-used : (w : World) (p k f : ℕ) (c : Call) (next : List Op) → slice_get w.wakers k ≡ Some (Some f) →
     (past (length w.tasks) f ≡ 0 → weigh (past_of (length w.tasks)) next ≡ 0) →
-    Grows w [] (done (used_up (log w (event.CallBegun p c)) k) next)
+    Grows w [] (done (used_up (log w (Event.CallBegun p c)) k) next)
 grows-used w p k f c next e z h y =
     record {
       fits = record { awaiting = h.awaiting; inside = h.inside };
@@ -219,30 +188,30 @@ grows-used w p k f c next e z h y =
 module _ (w : World) (p : ℕ) where
   begins-kept : (c : Call) (k : ℕ) (r : Option ℕ) (d : ℕ → Done) → kept w k ≡ r →
       ((f : ℕ) → slice_get w.wakers k ≡ Some (Some f) → Grows w [] (d f)) →
-      Grows w [] (with_future (log w (event.CallBegun p c)) r d)
+      Grows w [] (with_future (log w (Event.CallBegun p c)) r d)
   begins-kept c k None d e b = grows-begun w p c [] (λ h. refl)
   begins-kept c k (Some f) d e b = b f (kept-used w k f e)
 
   begins-here : (c : Call) (r : Option ℕ) (d : ℕ → Done) → ((f : ℕ) → r ≡ Some f → Grows w [] (d f)) →
-      Grows w [] (with_future (log w (event.CallBegun p c)) r d)
+      Grows w [] (with_future (log w (Event.CallBegun p c)) r d)
   begins-here c None d b = grows-begun w p c [] (λ h. refl)
   begins-here c (Some f) d b = b f refl
 
   begins-waker : (c : Call) (here : Option Waker) (b : By) (f : ℕ) → past (length w.tasks) f ≡ 0 →
       ((a : Waker) → here ≡ Some a → waker_past (length w.tasks) a ≡ 0) →
-      Grows w [] (done (log w (event.CallBegun p c)) (op.Handle (handle_op.Look f (waker_of here b)) ∷ []))
-  begins-waker c (Some g) by.Mine f z k = grows-begun w p c _ (λ h. omega (arith, z, k g refl))
-  begins-waker c None by.Mine f z k = grows-begun w p c _ (λ h. omega (arith, z))
-  begins-waker c (Some g) (by.Outside x) f z k = grows-begun w p c _ (λ h. omega (arith, z))
-  begins-waker c None (by.Outside x) f z k = grows-begun w p c _ (λ h. omega (arith, z))
+      Grows w [] (done (log w (Event.CallBegun p c)) (Op.Handle (HandleOp.Look f (waker_of here b)) ∷ []))
+  begins-waker c (Some g) By.Mine f z k = grows-begun w p c _ (λ h. omega (arith, z, k g refl))
+  begins-waker c None By.Mine f z k = grows-begun w p c _ (λ h. omega (arith, z))
+  begins-waker c (Some g) (By.Outside x) f z k = grows-begun w p c _ (λ h. omega (arith, z))
+  begins-waker c None (By.Outside x) f z k = grows-begun w p c _ (λ h. omega (arith, z))
 
 waker-known : (w : World) (here : Option Waker) (b : By) →
     ((a : Waker) → here ≡ Some a → waker_past (length w.tasks) a ≡ 0) →
     waker_past (length w.tasks) (waker_of here b) + 0 ≡ 0
-waker-known w (Some g) by.Mine k = omega (arith, k g refl)
-waker-known w None by.Mine k = omega arith
-waker-known w (Some g) (by.Outside x) k = omega arith
-waker-known w None (by.Outside x) k = omega arith
+waker-known w (Some g) By.Mine k = omega (arith, k g refl)
+waker-known w None By.Mine k = omega arith
+waker-known w (Some g) (By.Outside x) k = omega arith
+waker-known w None (By.Outside x) k = omega arith
 
 -- the future that such a waker wakes is one
 future-known : (w : World) (here : Option Waker) → ((a : Waker) → here ≡ Some a → waker_past (length w.tasks) a ≡ 0) →
@@ -262,58 +231,58 @@ unborrowed a e = grind (arith, nat_tests)
 pub sound-begun : (w : World) (p : ℕ) (ss others : List (List Op)) (here : Option Waker) (c : Call) →
     ((v : Op → ℕ) → weigh_all v others ≤ weigh_all v ss) → not (w.gone && is_on_executor c) ≡ true →
     not (is_drop c && w.is_static) ≡ true → (not (is_drop c) || is_unused borrowing_of ss) ≡ true →
-    KeepsHere w [] (begun p (log w (event.CallBegun p c)) here c) others
+    KeepsHere w [] (begun p (log w (Event.CallBegun p c)) here c) others
 sound-begun w p ss others here = by_call _
     (λ le on st un g. (let z : weigh_all borrowing_of others ≡ 0 =
     omega (arith, le borrowing_of, unborrowed (weigh_all borrowing_of ss) un) in
-    begins-drop w p call.DropExecutor g _ (open_executor w call.DropExecutor refl on)
+    begins-drop w p Call.DropExecutor g _ (open_executor w Call.DropExecutor refl on)
     (not-static w.is_static st) z
     (omega (arith, z, polls-borrow-all g others))))
-    (λ c d le on st un g. sound-effect w [] (begun p (log w (event.CallBegun p c)) here c)
+    (λ c d le on st un g. sound-effect w [] (begun p (log w (Event.CallBegun p c)) here c)
     (passes (goes-begun p w here c d (λ e. open_executor w c e on))) g _)
 
 -- and that what is to do speaks of futures that are there
 pub begins : (w : World) (p : ℕ) (ss : List (List Op)) (o : Option Op) (here : Option Waker) (c : Call) →
     ((a : Waker) → here ≡ Some a → waker_past (length w.tasks) a ≡ 0) → has_all w ss o c ≡ true →
-    Grows w [] (begun p (log w (event.CallBegun p c)) here c)
-begins w p ss o here (call.Spawn mark) k has = grows-begun w p _ _ (λ h. refl)
-begins w p ss o here call.TryTick k has = grows-begun w p _ _ (λ h. refl)
-begins w p ss o here call.IsEmpty k has = grows-begun w p _ _ (λ h. refl)
-begins w p ss o here (call.Wake n) k has = begins-kept w p (call.Wake n) n _ _ refl
-    (λ f e. grows-used w p n f (call.Wake n) _ e (λ z. omega (arith, z)))
-begins w p ss o here (call.WakeByRef n) k has = begins-kept w p (call.WakeByRef n) n _ _ refl
-    (λ f e. grows-begun w p (call.WakeByRef n) _ (λ h. omega (arith, kept-known w n f h e)))
-begins w p ss o here (call.Copy n) k has = begins-kept w p (call.Copy n) n _ _ refl
-    (λ f e. grows-begun w p (call.Copy n) _ (λ h. omega (arith, kept-known w n f h e)))
-begins w p ss o here (call.DropWaker n) k has = begins-kept w p (call.DropWaker n) n _ _ refl
-    (λ f e. grows-used w p n f (call.DropWaker n) _ e (λ z. omega (arith, z)))
-begins w p ss o here call.Keep k has = begins-here w p call.Keep (future_of here) _
-    (λ f e. grows-begun w p call.Keep _ (λ h. omega (arith, future-known w here k f e)))
-begins w p ss o here call.WakeSelf k has = begins-here w p call.WakeSelf (future_of here) _
-    (λ f e. grows-begun w p call.WakeSelf _ (λ h. omega (arith, future-known w here k f e)))
-begins w p ss o here (call.PollHandle f b) k has =
-    begins-waker w p (call.PollHandle f b) here b f (handle-known w f (first-true _ _ (first-true _ _ has))) k
-begins w p ss o here (call.Cancel f) k has =
-    grows-begun w p (call.Cancel f) _ (λ h. omega (arith, handle-known w f (first-true _ _ has)))
-begins w p ss o here (call.Detach f) k has =
-    grows-begun w p (call.Detach f) _ (λ h. omega (arith, handle-known w f (first-true _ _ has)))
-begins w p ss o here (call.DropHandle f) k has =
-    grows-begun w p (call.DropHandle f) _ (λ h. omega (arith, handle-known w f (first-true _ _ has)))
-begins w p ss o here call.NewTick k has = grows-begun w p _ _ (λ h. refl)
-begins w p ss o here (call.PollTick t b) k has = grows-told w p _ _ _ (waker-known w here b k)
-begins w p ss o here (call.DropTick t) k has = grows-told w p _ _ _ refl
-begins w p ss o here call.NewRun k has = grows-begun w p _ _ (λ h. refl)
-begins w p ss o here (call.PollRun r b) k has =
+    Grows w [] (begun p (log w (Event.CallBegun p c)) here c)
+begins w p ss o here (Call.Spawn mark) k has = grows-begun w p _ _ (λ h. refl)
+begins w p ss o here Call.TryTick k has = grows-begun w p _ _ (λ h. refl)
+begins w p ss o here Call.IsEmpty k has = grows-begun w p _ _ (λ h. refl)
+begins w p ss o here (Call.Wake n) k has = begins-kept w p (Call.Wake n) n _ _ refl
+    (λ f e. grows-used w p n f (Call.Wake n) _ e (λ z. omega (arith, z)))
+begins w p ss o here (Call.WakeByRef n) k has = begins-kept w p (Call.WakeByRef n) n _ _ refl
+    (λ f e. grows-begun w p (Call.WakeByRef n) _ (λ h. omega (arith, kept-known w n f h e)))
+begins w p ss o here (Call.Copy n) k has = begins-kept w p (Call.Copy n) n _ _ refl
+    (λ f e. grows-begun w p (Call.Copy n) _ (λ h. omega (arith, kept-known w n f h e)))
+begins w p ss o here (Call.DropWaker n) k has = begins-kept w p (Call.DropWaker n) n _ _ refl
+    (λ f e. grows-used w p n f (Call.DropWaker n) _ e (λ z. omega (arith, z)))
+begins w p ss o here Call.Keep k has = begins-here w p Call.Keep (future_of here) _
+    (λ f e. grows-begun w p Call.Keep _ (λ h. omega (arith, future-known w here k f e)))
+begins w p ss o here Call.WakeSelf k has = begins-here w p Call.WakeSelf (future_of here) _
+    (λ f e. grows-begun w p Call.WakeSelf _ (λ h. omega (arith, future-known w here k f e)))
+begins w p ss o here (Call.PollHandle f b) k has =
+    begins-waker w p (Call.PollHandle f b) here b f (handle-known w f (first-true _ _ (first-true _ _ has))) k
+begins w p ss o here (Call.Cancel f) k has =
+    grows-begun w p (Call.Cancel f) _ (λ h. omega (arith, handle-known w f (first-true _ _ has)))
+begins w p ss o here (Call.Detach f) k has =
+    grows-begun w p (Call.Detach f) _ (λ h. omega (arith, handle-known w f (first-true _ _ has)))
+begins w p ss o here (Call.DropHandle f) k has =
+    grows-begun w p (Call.DropHandle f) _ (λ h. omega (arith, handle-known w f (first-true _ _ has)))
+begins w p ss o here Call.NewTick k has = grows-begun w p _ _ (λ h. refl)
+begins w p ss o here (Call.PollTick t b) k has = grows-told w p _ _ _ (waker-known w here b k)
+begins w p ss o here (Call.DropTick t) k has = grows-told w p _ _ _ refl
+begins w p ss o here Call.NewRun k has = grows-begun w p _ _ (λ h. refl)
+begins w p ss o here (Call.PollRun r b) k has =
     let x : RunPoll = record {
       run = r;
       waker = waker_of here b;
-      poll = length (log w (event.CallBegun p (call.PollRun r b))).trace;
+      poll = length (log w (Event.CallBegun p (Call.PollRun r b))).trace;
     } in
     grows-told w p _ _ _ (past-poll_run (length w.tasks) (run_of w r).stage x (waker-known w here b k))
-begins w p ss o here (call.DropRun r) k has =
+begins w p ss o here (Call.DropRun r) k has =
     grows-told_run w p _ _ _ _ (past-drop_run (length w.tasks) (run_of w r).stage r)
-begins w p ss o here call.Leak k has = grows-begun w p _ _ (λ h. refl)
-begins w p ss o here call.DropExecutor k has = λ h y. record {
+begins w p ss o here Call.Leak k has = grows-begun w p _ _ (λ h. refl)
+begins w p ss o here Call.DropExecutor k has = λ h y. record {
   fits = record { awaiting = h.awaiting; inside = h.inside };
   next = refl;
   more = omega arith;

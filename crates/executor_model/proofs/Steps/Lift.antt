@@ -1,52 +1,25 @@
 -- For all laws.
 -- A step leaves a good machine good.
-use Rattle.std.proofs.Common.{◌≡◌, ℕ, zero, suc, ◌+◌, ◌-◌, ◌<◌, List, [], ◌∷◌, ◌++◌, length, set}
-use Rattle.std.proofs.Common.{get_or, take, Bool, true, false, ltb, refl, sym, ap, ◌∙◌}
-use Rattle.std.proofs.Common.{subst, arith, append-nil, get_or-set_same}
-use Rattle.std.proofs.Math.ListN.{length-set}
-use Rattle.std.proofs.lemmas.Bool.Decides.{nat_tests}
-use Rattle.std.specs.Prelude.{Option, Some, None, slice_get, reverse}
-use Rattle.executor_model.specs.declared.kind.Kind.{Kind}
-use Rattle.executor_model.specs.declared.call.Call.{Call}
-use Rattle.executor_model.specs.declared.event.Answer.TheVariants as answer
-use Rattle.executor_model.specs.declared.event.Event.TheVariants as event
-use Rattle.executor_model.specs.declared.op.Waker.{Waker}
-use Rattle.executor_model.specs.declared.op.Waker.TheVariants.{Task}
-use Rattle.executor_model.specs.declared.op.Op.{Op}
-use Rattle.executor_model.specs.declared.op.Op.TheVariants as op
-use Rattle.executor_model.specs.declared.op.UserOp.TheVariants as user_op
-use Rattle.executor_model.specs.declared.step.Hint.{Hint}
-use Rattle.executor_model.specs.declared.step.Step.{Step}
-use Rattle.executor_model.specs.declared.step.Step.TheVariants.{Begin, Go, Answer}
-use Rattle.executor_model.specs.declared.step.StepError.{StepError}
-use Rattle.executor_model.specs.declared.step.StepError.TheVariants.{NoSuch, WrongAnswer}
-use Rattle.executor_model.specs.declared.step.UserEnd.{UserEnd}
-use Rattle.executor_model.specs.declared.step.UserEnd.TheVariants as end
-use Rattle.executor_model.specs.World.{World, Done, done, log}
-use Rattle.executor_model.specs.Doing.{act}
-use Rattle.executor_model.specs.Weights.{weigh, weigh_all, waker_past}
-use Rattle.executor_model.specs.Sound.{Sound, pend}
-use Rattle.executor_model.specs.Good.{Good}
-use Rattle.executor_model.specs.Rows.{past_of}
-use Rattle.executor_model.specs.Steps.{Machine, stack, top, below_top, mine}
-use Rattle.executor_model.specs.Steps.{unless, begin_refusal}
-use Rattle.executor_model.specs.Steps.{answer_refusal, accepts, party_of, part_refusal, refusal}
-use Rattle.executor_model.specs.Steps.{begun, react, end_of, settled_by}
-use Rattle.executor_model.specs.Steps.{onto, gone_on, part_after}
-use Rattle.executor_model.specs.Steps.{with_part, after, step_by, step, stepped, run, idle, start}
-use Rattle.executor_model.proofs.Steps.Lists.{weigh_all-push}
-use Rattle.executor_model.proofs.Counts.Counting.{Keeps}
-use Rattle.executor_model.proofs.Counts.CountingHandles.{sound-pending, sound-ready}
-use Rattle.executor_model.proofs.Counts.SoundAll.{sound-act}
-use Rattle.executor_model.proofs.Counts.Fitting.{Grown, Grows}
-use Rattle.executor_model.proofs.Counts.FittingActs.{grows-act}
-use Rattle.executor_model.proofs.Counts.FittingSound.{fits-sound}
 pub use Rattle.executor_model.proofs.Steps.Growing.{KeepsHere, pend-none, push-pend, split, split-pend}
-use Rattle.executor_model.proofs.OneFuture.Views.{none}
-use Rattle.executor_model.proofs.Steps.Growing.{more-all}
 pub use Rattle.executor_model.proofs.Steps.Begins.{first-true, handle-known, kept-used, none_refused, open_executor, unborrowed}
 pub use Rattle.executor_model.proofs.Steps.Begins.{unused}
-use Rattle.executor_model.proofs.Steps.Begins.{begins, sound-begun}
+use Rattle.std.proofs.Common.{◌≡◌, ℕ, zero, suc, ◌+◌, ◌-◌, ◌<◌, List, [], ◌∷◌, ◌++◌, length, set, get_or, take, Bool, true}
+use Rattle.std.proofs.Common.{false, ltb, refl, sym, ap, ◌∙◌, subst, arith, append-nil, get_or-set_same}
+use Rattle.std.specs.Prelude.{Option, Some, None, slice_get, reverse}
+use Rattle.std.{proofs.Math.ListN.length-set, proofs.lemmas.Bool.Decides.nat_tests}
+use Rattle.executor_model.proofs.Types.{Kind, Call, Event, Waker, Task, Op, UserOp, Hint, Step, Begin, Go, StepError, NoSuch}
+use Rattle.executor_model.specs.declared.step.Step.TheVariants.{Answer}
+use Rattle.executor_model.specs.Steps.{Machine, stack, top, below_top, mine, unless, begin_refusal, answer_refusal, accepts}
+use Rattle.executor_model.specs.Steps.{party_of, part_refusal, refusal, begun, react, end_of, settled_by, onto, gone_on}
+use Rattle.executor_model.specs.Steps.{part_after, with_part, after, step_by, step, stepped, run, idle, start}
+use Rattle.executor_model.specs.{World.World, World.Done, World.done, World.log, Doing.act, Weights.weigh, Weights.weigh_all}
+use Rattle.executor_model.specs.{Weights.waker_past, Sound.Sound, Sound.pend, Good.Good, Rows.past_of}
+use Rattle.executor_model.proofs.Counts.CountingHandles.{sound-pending, sound-ready}
+use Rattle.executor_model.proofs.{Types.WrongAnswer, Types.UserEnd, Steps.Lists.weigh_all-push, Counts.Counting.Keeps}
+use Rattle.executor_model.proofs.{Counts.SoundAll.sound-act, Counts.Fitting.Grown, Counts.Fitting.Grows}
+use Rattle.executor_model.proofs.{Counts.FittingActs.grows-act, Counts.FittingSound.fits-sound, OneFuture.Views.none}
+use Rattle.executor_model.proofs.{Steps.Growing.more-all, Steps.Begins.begins, Steps.Begins.sound-begun}
+use Rattle.executor_model.specs.declared.event.Answer.TheVariants as answer
 
 -- the machine, with this for p to do on top of the rest
 abbrev pub unsettled : Machine → ℕ → List Op → Done → Machine
@@ -99,17 +72,17 @@ set-set (s ∷ ss) (suc p) x y = ap (λ (l : List (List Op)). s ∷ l) (set-set 
 good-end : (s : Machine) (p : ℕ) (os : List Op) (w : World) (o : Option Op) → p < length s.parties → top os ≡ o →
     Good (record { world = w; parties = set s.parties p os }) → Good (with_part s p (settled_by (end_of o) p w os))
 good-end s p os w None h e good = good
-good-end s p os w (Some (op.End a held)) h e good =
+good-end s p os w (Some (Op.End a held)) h e good =
     let t : Machine = record { world = w; parties = set s.parties p os } in
     let l : p < length t.parties = omega (arith, h, length-set s.parties p os) in
-    let q : stack t p ≡ below_top os ++ reverse (op.End a held ∷ []) = get_or-set_same s.parties p os [] h
-    ∙ topped os (op.End a held) e in
-    let d : Done = done (log w (event.CallEnded p a)) [] in
+    let q : stack t p ≡ below_top os ++ reverse (Op.End a held ∷ []) = get_or-set_same s.parties p os [] h
+    ∙ topped os (Op.End a held) e in
+    let d : Done = done (log w (Event.CallEnded p a)) [] in
     let k : Good (unsettled t p (below_top os) d) =
-    good-unsettled t p (op.End a held ∷ []) (below_top os) d l q
-    (λ g. sound-act p no_hint (op.End a held) w good.fits.awaiting good.fits.waking refl g _)
-    (grows-act p no_hint (op.End a held) w) good in
-    subst (λ (ss : List (List Op)). Good (record { world = log w (event.CallEnded p a); parties = ss }))
+    good-unsettled t p (Op.End a held ∷ []) (below_top os) d l q
+    (λ g. sound-act p no_hint (Op.End a held) w good.fits.awaiting good.fits.waking refl g _)
+    (grows-act p no_hint (Op.End a held) w) good in
+    subst (λ (ss : List (List Op)). Good (record { world = log w (Event.CallEnded p a); parties = ss }))
     (ap (set (set s.parties p os) p) (append-nil (below_top os)) ∙ set-set s.parties p os (below_top os)) k
 good-end s p os w (Some _) h e good = good
 
@@ -133,37 +106,32 @@ good-go s p h None l e good = subst (λ (ss : List (List Op)). Good (record { wo
 good-go s p h (Some o) l e good =
     let q : stack s p ≡ below_top (stack s p) ++ reverse (o ∷ []) = topped _ o e in
     let z : weigh (past_of (length s.world.tasks)) (o ∷ []) ≡ 0 =
-    omega (
-      arith,
-      good.ops,
-      split (past_of (length s.world.tasks)) s.parties p (o ∷ []) (below_top (stack s p)) l
-          q,
-    ) in
+    omega (arith, good.ops, split (past_of (length s.world.tasks)) s.parties p (o ∷ []) (below_top (stack s p)) l q) in
     good-onto s p (o ∷ []) (below_top (stack s p)) (act p h o s.world) l q
     (λ g. sound-act p h o s.world good.fits.awaiting good.fits.waking z g _) (grows-act p h o s.world) good
 
 -- the end of user code
 
 grows-react : (p : ℕ) (o : Op) (e : UserEnd) (w : World) → accepts o e ≡ true → Grows w (o ∷ []) (react p o e w)
-grows-react p (op.User (user_op.Poll f)) (end.Polled answer.Pending) w a h k = grind arith
-grows-react p (op.User (user_op.Poll f)) (end.Polled answer.Ready) w a h k = grind arith
-grows-react p (op.User (user_op.Drop f)) end.Done w a h k = grind arith
-grows-react p (op.User (user_op.DropOutput f)) end.Done w a h k = grind arith
-grows-react p (op.User (user_op.CallOutside x)) end.Done w a h k = grind arith
-grows-react p (op.User (user_op.PollOwn x)) (end.Polled answer.Pending) w a h k = grind arith
-grows-react p (op.User (user_op.PollOwn x)) (end.Polled answer.Ready) w a h k = grind arith
-grows-react p (op.User (user_op.DropOwn r)) end.Done w a h k = grind arith
+grows-react p (Op.User (UserOp.Poll f)) (UserEnd.Polled answer.Pending) w a h k = grind arith
+grows-react p (Op.User (UserOp.Poll f)) (UserEnd.Polled answer.Ready) w a h k = grind arith
+grows-react p (Op.User (UserOp.Drop f)) UserEnd.Done w a h k = grind arith
+grows-react p (Op.User (UserOp.DropOutput f)) UserEnd.Done w a h k = grind arith
+grows-react p (Op.User (UserOp.CallOutside x)) UserEnd.Done w a h k = grind arith
+grows-react p (Op.User (UserOp.PollOwn x)) (UserEnd.Polled answer.Pending) w a h k = grind arith
+grows-react p (Op.User (UserOp.PollOwn x)) (UserEnd.Polled answer.Ready) w a h k = grind arith
+grows-react p (Op.User (UserOp.DropOwn r)) UserEnd.Done w a h k = grind arith
 grows-react p _ _ w a h k = absurd (cc)
 
 keeps-react : (p : ℕ) (o : Op) (e : UserEnd) (w : World) → accepts o e ≡ true → Keeps w (o ∷ []) (react p o e w)
-keeps-react p (op.User (user_op.Poll f)) (end.Polled answer.Pending) w a g r h = sound-pending p w f g r h
-keeps-react p (op.User (user_op.Poll f)) (end.Polled answer.Ready) w a g r h = sound-ready p w f g r h
-keeps-react p (op.User (user_op.Drop f)) end.Done w a g r h = h
-keeps-react p (op.User (user_op.DropOutput f)) end.Done w a g r h = h
-keeps-react p (op.User (user_op.CallOutside x)) end.Done w a g r h = h
-keeps-react p (op.User (user_op.PollOwn x)) (end.Polled answer.Pending) w a g r h = h
-keeps-react p (op.User (user_op.PollOwn x)) (end.Polled answer.Ready) w a g r h = h
-keeps-react p (op.User (user_op.DropOwn r)) end.Done w a g s h = h
+keeps-react p (Op.User (UserOp.Poll f)) (UserEnd.Polled answer.Pending) w a g r h = sound-pending p w f g r h
+keeps-react p (Op.User (UserOp.Poll f)) (UserEnd.Polled answer.Ready) w a g r h = sound-ready p w f g r h
+keeps-react p (Op.User (UserOp.Drop f)) UserEnd.Done w a g r h = h
+keeps-react p (Op.User (UserOp.DropOutput f)) UserEnd.Done w a g r h = h
+keeps-react p (Op.User (UserOp.CallOutside x)) UserEnd.Done w a g r h = h
+keeps-react p (Op.User (UserOp.PollOwn x)) (UserEnd.Polled answer.Pending) w a g r h = h
+keeps-react p (Op.User (UserOp.PollOwn x)) (UserEnd.Polled answer.Ready) w a g r h = h
+keeps-react p (Op.User (UserOp.DropOwn r)) UserEnd.Done w a g s h = h
 keeps-react p _ _ w a g r h = absurd (cc)
 
 accepted : (b : Bool) → unless b WrongAnswer None ≡ None → b ≡ true
@@ -181,21 +149,21 @@ good-answer s p e (Some o) l q n good =
 
 here-known : (s : Machine) (p : ℕ) (o : Option Op) → p < length s.parties → top (stack s p) ≡ o → Good s → (a : Waker) →
     mine o ≡ Some a → waker_past (length s.world.tasks) a ≡ 0
-here-known s p (Some (op.User (user_op.PollOwn x))) h e good a q =
+here-known s p (Some (Op.User (UserOp.PollOwn x))) h e good a q =
     let same_one : x.waker ≡ a = cc in
     rw (sym same_one) (omega (
       arith,
       good.ops,
-      split (past_of (length s.world.tasks)) s.parties p (op.User (user_op.PollOwn x) ∷ [])
-          (below_top (stack s p)) h (topped _ (op.User (user_op.PollOwn x)) e),
+      split (past_of (length s.world.tasks)) s.parties p (Op.User (UserOp.PollOwn x) ∷ [])
+          (below_top (stack s p)) h (topped _ (Op.User (UserOp.PollOwn x)) e),
     ))
-here-known s p (Some (op.User (user_op.Poll f))) h e good a q =
+here-known s p (Some (Op.User (UserOp.Poll f))) h e good a q =
     let same_one : Task f ≡ a = cc in
     rw (sym same_one) (omega (
       arith,
       good.ops,
-      split (past_of (length s.world.tasks)) s.parties p (op.User (user_op.Poll f) ∷ [])
-          (below_top (stack s p)) h (topped _ (op.User (user_op.Poll f)) e),
+      split (past_of (length s.world.tasks)) s.parties p (Op.User (UserOp.Poll f) ∷ [])
+          (below_top (stack s p)) h (topped _ (Op.User (UserOp.Poll f)) e),
     ))
 here-known s p (Some _) h e good a q = absurd (cc)
 here-known s p None h e good a q = absurd (cc)
@@ -206,7 +174,7 @@ good-begin : (s : Machine) (p : ℕ) (c : Call) → p < length s.parties →
 good-begin s p c l n good =
     let f : _ = none_refused s.world s.parties (top (stack s p)) c n in
     let own : set s.parties p (stack s p) ≡ s.parties = set-own s.parties p l in
-    good-onto s p [] (stack s p) (begun p (log s.world (event.CallBegun p c)) (mine (top (stack s p))) c) l
+    good-onto s p [] (stack s p) (begun p (log s.world (Event.CallBegun p c)) (mine (top (stack s p))) c) l
     (sym (append-nil (stack s p)))
     (sound-begun s.world p s.parties (set s.parties p (stack s p)) (mine (top (stack s p))) c
     (λ v. omega (arith, ap (weigh_all v) own)) f.2 f.4 (unused c s.world s.parties f.3))

@@ -2,28 +2,12 @@
 -- What a good machine gives to the thing that a party does.
 use Rattle.std.proofs.Common.{◌≡◌, ℕ, ◌+◌, ◌<◌, ◌≤◌, [], ◌∷◌, ◌++◌, length, ap, arith}
 use Rattle.std.specs.Prelude.{Some}
-use Rattle.task_moves.specs.declared.moves.owed.Move.{Move}
 use Rattle.task_moves.specs.Moves.{HoldsReference}
-use Rattle.executor_model.specs.World.{task}
-use Rattle.executor_model.specs.declared.op.Waker.{Waker}
-use Rattle.executor_model.specs.declared.op.Waker.TheVariants.{Task, Outside}
-use Rattle.executor_model.specs.declared.op.Op.{Op}
-use Rattle.executor_model.specs.declared.op.Op.TheVariants as op
-use Rattle.executor_model.specs.declared.op.RunOp.TheVariants as run_op
-use Rattle.executor_model.specs.declared.op.SleeperOp.TheVariants as sleeper_op
-use Rattle.executor_model.specs.declared.op.TickOp.TheVariants as tick_op
-use Rattle.executor_model.specs.declared.op.ClosingOp.TheVariants as closing_op
-use Rattle.executor_model.specs.declared.op.HandleOp.TheVariants as handle_op
-use Rattle.task_moves.specs.declared.moves.owed.Move.TheVariants as move
-use Rattle.executor_model.specs.declared.op.TableOp.TheVariants as table_op
-use Rattle.executor_model.specs.declared.op.WakerOp.TheVariants as waker_op
-use Rattle.executor_model.specs.Weights.{same, past, waker_past}
-use Rattle.executor_model.specs.Good.{Good, Needs, CanGrow, IsHeld, HasPlace}
-use Rattle.executor_model.specs.Good.{KeepsAwaiter, IsKnownWaker, CanWake, pasts}
-use Rattle.executor_model.specs.Rows.{ending_of, giving_of, releases_of, past_of}
-use Rattle.executor_model.specs.Steps.{Machine, stack, top, below_top}
-use Rattle.executor_model.proofs.Steps.Lists.{past_is, same_is}
-use Rattle.executor_model.proofs.Steps.Lift.{split, topped}
+use Rattle.executor_model.proofs.Types.{Move, Waker, Task, Outside, Op, RunOp, SleeperOp, TickOp, ClosingOp, HandleOp, TableOp}
+use Rattle.executor_model.specs.Good.{Good, Needs, CanGrow, IsHeld, HasPlace, KeepsAwaiter, IsKnownWaker, CanWake, pasts}
+use Rattle.executor_model.specs.{World.task, Weights.same, Weights.past, Weights.waker_past, Rows.ending_of, Rows.giving_of}
+use Rattle.executor_model.specs.{Rows.releases_of, Rows.past_of, Steps.Machine, Steps.stack, Steps.top, Steps.below_top}
+use Rattle.executor_model.proofs.{Types.WakerOp, Steps.Lists.past_is, Steps.Lists.same_is, Steps.Lift.split, Steps.Lift.topped}
 
 below : (n f : ℕ) → past n f ≡ 0 → f < n
 below n f e = grind (arith, past_is)
@@ -75,57 +59,57 @@ can_wake s (Task g) good z = can_grow s g good z
 can_wake s (Outside x) good z = tt
 
 -- and a move has the reference that it gives up
-can_move : (s : Machine) (p : ℕ) (m : Move) (f : ℕ) → p < length s.parties → top (stack s p) ≡ Some (op.Move m f) →
+can_move : (s : Machine) (p : ℕ) (m : Move) (f : ℕ) → p < length s.parties → top (stack s p) ≡ Some (Op.Move m f) →
     Good s → HoldsReference m (task s.world f)
-can_move s p move.Release f h e good =
-    (held s p f (op.Move move.Release f) h e good (speaks s p (op.Move move.Release f) h e good)
+can_move s p Move.Release f h e good =
+    (held s p f (Op.Move Move.Release f) h e good (speaks s p (Op.Move Move.Release f) h e good)
     (omega (arith, same_self f))).1
-can_move s p move.GiveUp f h e good =
-    (held s p f (op.Move move.GiveUp f) h e good (speaks s p (op.Move move.GiveUp f) h e good)
+can_move s p Move.GiveUp f h e good =
+    (held s p f (Op.Move Move.GiveUp f) h e good (speaks s p (Op.Move Move.GiveUp f) h e good)
     (omega (arith, same_self f))).1
-can_move s p move.EndPending f h e good =
-    (held s p f (op.Move move.EndPending f) h e good (speaks s p (op.Move move.EndPending f) h e good)
+can_move s p Move.EndPending f h e good =
+    (held s p f (Op.Move Move.EndPending f) h e good (speaks s p (Op.Move Move.EndPending f) h e good)
     (omega (arith, same_self f))).1
 can_move s p _ f h e good = tt
 
 pub needs : (s : Machine) (p : ℕ) (o : Op) → p < length s.parties → top (stack s p) ≡ Some o → Good s → Needs s.world o
-needs s p (op.Handle (handle_op.LookAgain f)) h e good =
-    below _ f (speaks s p (op.Handle (handle_op.LookAgain f)) h e good)
-needs s p (op.Move m f) h e good = (can_grow s f good (speaks s p (op.Move m f) h e good), can_move s p m f h e good)
-needs s p (op.Table (table_op.TakeToPoll f)) h e good =
-    has_place s f good (speaks s p (op.Table (table_op.TakeToPoll f)) h e good)
-needs s p (op.Table (table_op.PutBack f)) h e good =
-    has_place s f good (speaks s p (op.Table (table_op.PutBack f)) h e good)
-needs s p (op.Table (table_op.TakeToDrop f)) h e good =
-    has_place s f good (speaks s p (op.Table (table_op.TakeToDrop f)) h e good)
-needs s p (op.Waker (waker_op.CopyWaker f x)) h e good =
-    below _ f (speaks s p (op.Waker (waker_op.CopyWaker f x)) h e good)
-needs s p (op.Handle (handle_op.Look f a)) h e good =
-    below _ f (omega (arith, speaks s p (op.Handle (handle_op.Look f a)) h e good))
-needs s p (op.Handle (handle_op.CopyAwaiter f a)) h e good =
-    known_waker s a (omega (arith, speaks s p (op.Handle (handle_op.CopyAwaiter f a)) h e good))
-needs s p (op.Handle (handle_op.Register f a k)) h e good =
-    below _ f (omega (arith, speaks s p (op.Handle (handle_op.Register f a k)) h e good))
-needs s p (op.Handle (handle_op.EndRegister f a k)) h e good =
-    keeps_awaiter s f good (omega (arith, speaks s p (op.Handle (handle_op.EndRegister f a k)) h e good))
-needs s p (op.Handle (handle_op.Notify f m)) h e good =
-    below _ f (speaks s p (op.Handle (handle_op.Notify f m)) h e good)
-needs s p (op.Handle (handle_op.EndNotify f m)) h e good =
-    keeps_awaiter s f good (speaks s p (op.Handle (handle_op.EndNotify f m)) h e good)
-needs s p (op.Handle (handle_op.LetGo f)) h e good =
-    keeps_awaiter s f good (speaks s p (op.Handle (handle_op.LetGo f)) h e good)
-needs s p (op.Waker (waker_op.CallAwaiter f a k)) h e good =
-    can_wake s a good (omega (arith, speaks s p (op.Waker (waker_op.CallAwaiter f a k)) h e good))
-needs s p (op.Closing closing_op.DropNext) h e good =
+needs s p (Op.Handle (HandleOp.LookAgain f)) h e good =
+    below _ f (speaks s p (Op.Handle (HandleOp.LookAgain f)) h e good)
+needs s p (Op.Move m f) h e good = (can_grow s f good (speaks s p (Op.Move m f) h e good), can_move s p m f h e good)
+needs s p (Op.Table (TableOp.TakeToPoll f)) h e good =
+    has_place s f good (speaks s p (Op.Table (TableOp.TakeToPoll f)) h e good)
+needs s p (Op.Table (TableOp.PutBack f)) h e good =
+    has_place s f good (speaks s p (Op.Table (TableOp.PutBack f)) h e good)
+needs s p (Op.Table (TableOp.TakeToDrop f)) h e good =
+    has_place s f good (speaks s p (Op.Table (TableOp.TakeToDrop f)) h e good)
+needs s p (Op.Waker (WakerOp.CopyWaker f x)) h e good =
+    below _ f (speaks s p (Op.Waker (WakerOp.CopyWaker f x)) h e good)
+needs s p (Op.Handle (HandleOp.Look f a)) h e good =
+    below _ f (omega (arith, speaks s p (Op.Handle (HandleOp.Look f a)) h e good))
+needs s p (Op.Handle (HandleOp.CopyAwaiter f a)) h e good =
+    known_waker s a (omega (arith, speaks s p (Op.Handle (HandleOp.CopyAwaiter f a)) h e good))
+needs s p (Op.Handle (HandleOp.Register f a k)) h e good =
+    below _ f (omega (arith, speaks s p (Op.Handle (HandleOp.Register f a k)) h e good))
+needs s p (Op.Handle (HandleOp.EndRegister f a k)) h e good =
+    keeps_awaiter s f good (omega (arith, speaks s p (Op.Handle (HandleOp.EndRegister f a k)) h e good))
+needs s p (Op.Handle (HandleOp.Notify f m)) h e good =
+    below _ f (speaks s p (Op.Handle (HandleOp.Notify f m)) h e good)
+needs s p (Op.Handle (HandleOp.EndNotify f m)) h e good =
+    keeps_awaiter s f good (speaks s p (Op.Handle (HandleOp.EndNotify f m)) h e good)
+needs s p (Op.Handle (HandleOp.LetGo f)) h e good =
+    keeps_awaiter s f good (speaks s p (Op.Handle (HandleOp.LetGo f)) h e good)
+needs s p (Op.Waker (WakerOp.CallAwaiter f a k)) h e good =
+    can_wake s a good (omega (arith, speaks s p (Op.Waker (WakerOp.CallAwaiter f a k)) h e good))
+needs s p (Op.Closing ClosingOp.DropNext) h e good =
     λ f rest q. has_place s f good (omega (arith, ap (pasts (length s.world.tasks)) q, good.fits.leaving))
-needs s p (op.Closing closing_op.WakeNext) h e good =
+needs s p (Op.Closing ClosingOp.WakeNext) h e good =
     λ f rest q. can_grow s f good (omega (arith, ap (pasts (length s.world.tasks)) q, good.fits.waking))
-needs s p (op.Closing closing_op.LeakNext) h e good =
+needs s p (Op.Closing ClosingOp.LeakNext) h e good =
     λ f rest q. can_grow s f good (omega (arith, ap (pasts (length s.world.tasks)) q, good.fits.waking))
-needs s p (op.Sleeper (sleeper_op.CallSleeper a)) h e good =
-    can_wake s a.waker good (omega (arith, speaks s p (op.Sleeper (sleeper_op.CallSleeper a)) h e good))
-needs s p (op.Tick (tick_op.CopyWaker a)) h e good =
-    known_waker s a.waker (omega (arith, speaks s p (op.Tick (tick_op.CopyWaker a)) h e good))
-needs s p (op.Run (run_op.WakeOwn x)) h e good =
-    can_wake s x.waker good (omega (arith, speaks s p (op.Run (run_op.WakeOwn x)) h e good))
+needs s p (Op.Sleeper (SleeperOp.CallSleeper a)) h e good =
+    can_wake s a.waker good (omega (arith, speaks s p (Op.Sleeper (SleeperOp.CallSleeper a)) h e good))
+needs s p (Op.Tick (TickOp.CopyWaker a)) h e good =
+    known_waker s a.waker (omega (arith, speaks s p (Op.Tick (TickOp.CopyWaker a)) h e good))
+needs s p (Op.Run (RunOp.WakeOwn x)) h e good =
+    can_wake s x.waker good (omega (arith, speaks s p (Op.Run (RunOp.WakeOwn x)) h e good))
 needs s p _ h e good = tt

@@ -3,42 +3,33 @@
 -- whatever that count is.
 use Rattle.std.proofs.Common.{◌≡◌, ℕ, List, [], ◌∷◌, ◌++◌, Bool, true, false, refl, arith, ◌&&◌}
 use Rattle.std.specs.Prelude.{Option, Some, None}
+use Rattle.task_moves.specs.declared.moves.owed.AwaiterDebt.TheVariants.{NotifyAwaiter, NotifyOther, CallGiven, StoreCopy}
 use Rattle.task_moves.specs.declared.schedule_info.ScheduleInfo.{ScheduleInfo}
-use Rattle.task_moves.specs.declared.moves.owed.Move.{Move}
-use Rattle.task_moves.specs.declared.moves.owed.Move.TheVariants as move
-use Rattle.task_moves.specs.declared.moves.owed.FutureDebt.{FutureDebt}
 use Rattle.task_moves.specs.declared.moves.owed.FutureDebt.TheVariants.{PollFuture, DropFuture}
-use Rattle.task_moves.specs.declared.moves.owed.AwaiterDebt.{AwaiterDebt}
-use Rattle.task_moves.specs.declared.moves.owed.AwaiterDebt.TheVariants.{NotifyAwaiter, NotifyOther, CallGiven}
-use Rattle.task_moves.specs.declared.moves.owed.AwaiterDebt.TheVariants.{StoreCopy, CallStored, TakeAwaiter, CallTaken}
-use Rattle.task_moves.specs.declared.moves.owed.Owed.{Owed}
-use Rattle.executor_model.specs.declared.op.Op.{Op}
-use Rattle.executor_model.specs.declared.op.Op.TheVariants as op
-use Rattle.executor_model.specs.declared.op.HandleOp.TheVariants as handle_op
-use Rattle.executor_model.specs.declared.op.QueueOp.TheVariants as queue_op
-use Rattle.executor_model.specs.declared.op.TableOp.TheVariants as table_op
-use Rattle.executor_model.specs.declared.op.UserOp.TheVariants as user_op
-use Rattle.executor_model.specs.Carried.{schedule_ops, drops, emptied_ops, future_ops, output_ops, awaiter_ops, next_ops, owed_ops}
-use Rattle.executor_model.specs.Weights.{weigh}
+use Rattle.task_moves.specs.declared.moves.owed.AwaiterDebt.TheVariants.{CallStored, TakeAwaiter, CallTaken}
+use Rattle.task_moves.{specs.declared.moves.owed.FutureDebt.FutureDebt, specs.declared.moves.owed.AwaiterDebt.AwaiterDebt}
+use Rattle.executor_model.proofs.Types.{Move, Owed, Op, HandleOp, QueueOp, TableOp, UserOp}
+use Rattle.executor_model.specs.Carried.{schedule_ops, drops, emptied_ops, future_ops, output_ops, awaiter_ops, next_ops}
+use Rattle.executor_model.specs.{Carried.owed_ops, Weights.weigh}
 use Rattle.executor_model.proofs.Steps.Lists.{weigh-append}
 
 -- v weighs nothing in these for future f
 pub record FewOwed (v : Op → ℕ) (f : ℕ) : Type 0 where
-  pub append : v (op.Queue (queue_op.Append f)) ≡ 0
-  pub output : v (op.User (user_op.BeginDropOutput f)) ≡ 0
-  pub release : v (op.Move move.Release f) ≡ 0
-  pub settle_closed : v (op.Move move.SettleClosed f) ≡ 0
-  pub give_up : v (op.Move move.GiveUp f) ≡ 0
-  pub end_closed : v (op.Move move.EndClosed f) ≡ 0
-  pub detach : v (op.Move move.Detach f) ≡ 0
-  pub let_go : v (op.Handle (handle_op.LetGo f)) ≡ 0
+  pub append : v (Op.Queue (QueueOp.Append f)) ≡ 0
+  pub output : v (Op.User (UserOp.BeginDropOutput f)) ≡ 0
+  pub release : v (Op.Move Move.Release f) ≡ 0
+  pub settle_closed : v (Op.Move Move.SettleClosed f) ≡ 0
+  pub give_up : v (Op.Move Move.GiveUp f) ≡ 0
+  pub end_closed : v (Op.Move Move.EndClosed f) ≡ 0
+  pub detach : v (Op.Move Move.Detach f) ≡ 0
+  pub let_go : v (Op.Handle (HandleOp.LetGo f)) ≡ 0
 
 pub record NoFuture (v : Op → ℕ) (f : ℕ) : Type 0 where
-  pub poll : v (op.Table (table_op.TakeToPoll f)) ≡ 0
-  pub drop : v (op.Table (table_op.TakeToDrop f)) ≡ 0
+  pub poll : v (Op.Table (TableOp.TakeToPoll f)) ≡ 0
+  pub drop : v (Op.Table (TableOp.TakeToDrop f)) ≡ 0
 
 pub record NoAwaiter (v : Op → ℕ) (f : ℕ) : Type 0 where
-  pub notify : (mine : Bool) → v (op.Handle (handle_op.Notify f mine)) ≡ 0
+  pub notify : (mine : Bool) → v (Op.Handle (HandleOp.Notify f mine)) ≡ 0
 
 module _ (v : Op → ℕ) (f : ℕ) where
   one : (o : Op) → v o ≡ 0 → weigh v (o ∷ []) ≡ 0
@@ -69,11 +60,11 @@ module _ (v : Op → ℕ) (f : ℕ) where
   output h false = refl
 
   follows : FewOwed v f → (o : Option Move) → weigh v (next_ops f o) ≡ 0
-  follows h (Some move.Release) = one _ h.release
-  follows h (Some move.SettleClosed) = one _ h.settle_closed
-  follows h (Some move.GiveUp) = one _ h.give_up
-  follows h (Some move.EndClosed) = one _ h.end_closed
-  follows h (Some move.Detach) = one _ h.detach
+  follows h (Some Move.Release) = one _ h.release
+  follows h (Some Move.SettleClosed) = one _ h.settle_closed
+  follows h (Some Move.GiveUp) = one _ h.give_up
+  follows h (Some Move.EndClosed) = one _ h.end_closed
+  follows h (Some Move.Detach) = one _ h.detach
   follows h (Some _) = refl
   follows h None = refl
 

@@ -1,13 +1,11 @@
 -- For laws of the crates above.
 -- What one more element does to the words in which a trace is described.
-use Rattle.std.proofs.Common.{◌≡◌, ℕ, ◌+◌, ◌-◌, ◌≤◌, Bool, true, false, ◌||◌, not, cond, List, [], ◌∷◌, ◌++◌}
-use Rattle.std.proofs.Common.{length, drop, refl, ap, ◌∙◌, arith, length-append}
+use Rattle.std.proofs.Common.{◌≡◌, ℕ, ◌+◌, ◌-◌, ◌≤◌, Bool, true, false, ◌||◌, not, cond, List, [], ◌∷◌, ◌++◌, length, drop}
+use Rattle.std.proofs.Common.{refl, ap, ◌∙◌, arith, length-append}
 use Rattle.std.specs.List.{list_any, filter, prefix_len, suffix_len, after_last}
-use Rattle.std.proofs.Math.Bool.{or-false}
 use Rattle.std.proofs.lemmas.List.{reverse-append, drop_all, drop-append-le, append-nil}
-use Rattle.std.proofs.lemmas.List.Folds.{list_any-append}
 use Rattle.std.proofs.lemmas.List.Sums.{suffix_len-le-length}
-use Rattle.std.proofs.lemmas.List.Elements.{filter-append}
+use Rattle.std.{proofs.Math.Bool.or-false, proofs.lemmas.List.Folds.list_any-append, proofs.lemmas.List.Elements.filter-append}
 
 module _ {X : Type 0} (p t : X → Bool) where
   pub any-push : (xs : List X) (e : X) → list_any t (xs ++ e ∷ []) ≡ (list_any t xs || t e)

@@ -1,17 +1,13 @@
 -- For all laws.
 -- What stands in the executor's two queues together, and what is kept of each, where the queue of one mark changes.
 use Rattle.std.proofs.Common.{◌≡◌, ◌≢◌, ◌⊎◌, inl, inr, ◌∙◌, ℕ, suc, ◌+◌, ◌≤◌, List, [], ◌∷◌, ◌++◌, length, drop, Bool, true}
-use Rattle.std.proofs.Common.{false, ◌||◌, refl, arith}
-use Rattle.std.proofs.Common.{length-append}
+use Rattle.std.proofs.Common.{false, ◌||◌, refl, arith, length-append}
 use Rattle.std.specs.Prelude.{Option}
 use Rattle.queue_steps.specs.ClosableQueue.{ClosableQueue, appended, taken, shut}
-use Rattle.executor_parts.specs.declared.mark.Mark.{Mark}
-use Rattle.executor_parts.specs.declared.mark.Mark.TheVariants.{Plain, Urgent}
 use Rattle.executor_parts.specs.Marks.{other}
+use Rattle.executor_model.proofs.Types.{Mark, Plain, Urgent}
 use Rattle.executor_model.specs.Queues.{Queues, queue_in, with_queue, all_in}
-use Rattle.executor_model.specs.Good.{pasts}
-use Rattle.executor_model.specs.Sound.{times}
-use Rattle.executor_model.specs.Weights.{past, same}
+use Rattle.executor_model.specs.{Good.pasts, Sound.times, Weights.past, Weights.same}
 use Rattle.executor_model.proofs.Steps.Lists.{pasts-drop, times-append, times-drop}
 
 pub pasts-append : (n : ℕ) (xs ys : List ℕ) → pasts n (xs ++ ys) ≡ pasts n xs + pasts n ys

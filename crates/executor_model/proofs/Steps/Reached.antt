@@ -1,17 +1,11 @@
 -- For laws of the crates above.
 -- What holds of each machine to which steps lead.
-use Rattle.std.proofs.Common.{◌≡◌, ℕ, List, [], ◌∷◌, ◌++◌}
-use Rattle.std.proofs.Common.{refl, sym, ap, ◌∙◌, subst, Ok, Err, Result}
+use Rattle.std.proofs.Common.{◌≡◌, ℕ, List, [], ◌∷◌, ◌++◌, refl, sym, ap, ◌∙◌, subst, Ok, Err, Result}
 use Rattle.std.specs.Prelude.{Option, Some, None}
-use Rattle.executor_model.specs.declared.kind.Kind.{Kind}
-use Rattle.executor_model.specs.declared.step.Step.{Step}
-use Rattle.executor_model.specs.declared.step.StepError.{StepError}
-use Rattle.executor_model.specs.Executions.{run_all}
-use Rattle.executor_model.specs.Good.{Good}
 use Rattle.executor_model.specs.Steps.{Machine, refusal, after, step, stepped, run, start}
-use Rattle.executor_model.proofs.Steps.Lift.{good}
-use Rattle.executor_model.proofs.Steps.Stepping.{step-refused, step-made}
-use Rattle.executor_model.proofs.Quiet.Resting.{Deep, deep}
+use Rattle.executor_model.specs.{Executions.run_all, Good.Good}
+use Rattle.executor_model.proofs.{Types.Kind, Types.Step, Types.StepError, Steps.Lift.good, Steps.Stepping.step-refused}
+use Rattle.executor_model.proofs.{Steps.Stepping.step-made, Quiet.Resting.Deep, Quiet.Resting.deep}
 
 -- a list of steps that is possible is so step by step
 abbrev then : List Step → Result Machine StepError → Result Machine StepError

@@ -1,17 +1,11 @@
 -- For all laws.
 -- What a run does counts for a Runnable in hand and a use of the executor alone: for the laws of each future.
-use Rattle.std.proofs.Common.{◌≡◌, ℕ, ◌+◌, ◌-◌, ◌<◌, List, [], ◌∷◌, ◌++◌, length, Bool, true, false, ltb, cond}
-use Rattle.std.proofs.Common.{refl, ap, arith}
+use Rattle.std.proofs.Common.{◌≡◌, ℕ, ◌+◌, ◌-◌, ◌<◌, List, [], ◌∷◌, ◌++◌, length, Bool, true, false, ltb, cond, refl, ap, arith}
 use Rattle.std.proofs.lemmas.Bool.Decides.{nat_tests}
-use Rattle.executor_model.specs.declared.op.Op.{Op}
-use Rattle.executor_model.specs.World.{World, own_of}
-use Rattle.executor_model.specs.ActsOfRuns.{free_places}
-use Rattle.executor_model.specs.Rows.{Row, polls_of, ending_of, ready_of, closing_of, settling_of}
-use Rattle.executor_model.specs.Rows.{giving_of, drops_of, releases_of, copies_of, ousting_of, borrowing_of, waiting_of}
-use Rattle.executor_model.specs.Sound.{Pend, with_ops}
-use Rattle.executor_model.specs.Weights.{weigh}
-use Rattle.executor_model.proofs.Steps.RunsPlain.{IsPlain, AllPlain}
-use Rattle.executor_model.proofs.Steps.Lists.{weigh-append}
+use Rattle.executor_model.specs.Rows.{Row, polls_of, ending_of, ready_of, closing_of, settling_of, giving_of, drops_of}
+use Rattle.executor_model.specs.Rows.{releases_of, copies_of, ousting_of, borrowing_of, waiting_of}
+use Rattle.executor_model.specs.{World.World, World.own_of, ActsOfRuns.free_places, Sound.Pend, Sound.with_ops, Weights.weigh}
+use Rattle.executor_model.proofs.{Types.Op, Steps.RunsPlain.IsPlain, Steps.RunsPlain.AllPlain, Steps.Lists.weigh-append}
 
 -- these count for a Runnable in hand and a use of the executor alone
 pub record Bare (g : ℕ) (os : List Op) : Type 0 where

@@ -1,54 +1,22 @@
 -- For all laws.
 -- What a run does moves Runnables from one queue to another or into a hand, and changes nothing else that is kept of
 -- futures.
-use Rattle.std.proofs.Common.{◌≡◌, ℕ, zero, suc, ◌+◌, ◌<◌, List, [], ◌∷◌, ◌++◌, length, get_or, set, Bool}
-use Rattle.std.proofs.Common.{true, false, eqb, refl, ap, ◌∙◌, ◌%◌, arith}
-use Rattle.executor_model.specs.declared.op.Look.TheVariants.{First, Second}
-use Rattle.executor_model.specs.declared.op.Look.{Look}
-use Rattle.executor_model.specs.World.{put_queue, queue_of}
-use Rattle.executor_parts.specs.declared.mark.Mark.{Mark}
-use Rattle.executor_model.specs.Acts.{mark_in}
-use Rattle.executor_model.specs.declared.call.Reply.{Reply}
-use Rattle.executor_model.specs.declared.op.ListOp.{ListOp}
-use Rattle.executor_model.specs.declared.op.ListOp.TheVariants as list_op
-use Rattle.executor_model.specs.declared.op.Op.{Op}
-use Rattle.executor_model.specs.declared.op.Op.TheVariants as op
-use Rattle.executor_model.specs.declared.op.QueueOp.TheVariants as queue_op
-use Rattle.executor_model.specs.declared.op.RunOp.TheVariants as run_op
-use Rattle.executor_model.specs.declared.op.RunPoll.{RunPoll}
-use Rattle.executor_model.specs.declared.op.Section.{Section}
-use Rattle.executor_model.specs.declared.op.Section.TheVariants as section
-use Rattle.executor_model.specs.declared.op.TickOrRun.{TickOrRun}
-use Rattle.executor_model.specs.declared.op.TickOrRun.TheVariants as tick_or_run
-use Rattle.executor_model.specs.declared.op.SleeperOp.TheVariants as sleeper_op
-use Rattle.executor_model.specs.declared.op.Sleeping.{Sleeping}
-use Rattle.executor_model.specs.declared.op.Source.{Source}
-use Rattle.executor_model.specs.declared.op.Source.TheVariants.{Common, Own}
-use Rattle.executor_model.specs.declared.op.Steal.{Steal}
-use Rattle.executor_model.specs.declared.op.StealOp.TheVariants as steal_op
-use Rattle.executor_model.specs.declared.op.Then.{Then}
-use Rattle.executor_model.specs.declared.op.Then.TheVariants as then
-use Rattle.executor_model.specs.declared.op.TickOp.TheVariants as tick_op
-use Rattle.executor_model.specs.declared.op.UserOp.TheVariants as user_op
-use Rattle.executor_model.specs.declared.step.Hint.{Hint}
+use Rattle.std.proofs.Common.{◌≡◌, ℕ, zero, suc, ◌+◌, ◌<◌, List, [], ◌∷◌, ◌++◌, length, get_or, set, Bool, true, false, eqb}
+use Rattle.std.proofs.Common.{refl, ap, ◌∙◌, ◌%◌, arith}
 use Rattle.queue_steps.specs.ClosableQueue.{taken}
-use Rattle.executor_model.specs.World.{World, Ticker, Awake, Asleep, Left, Stage, New, Listed, Ended, Run, Lock, Done}
-use Rattle.executor_model.specs.World.{own_of, put_own, run_of}
-use Rattle.executor_model.specs.ActsOfSleepers.{found_by}
 use Rattle.executor_parts.specs.Sleepers.{Sleepers}
-use Rattle.executor_model.specs.Doing.{list_act}
-use Rattle.executor_model.proofs.Steps.SleepersLists.{given_back-same}
-use Rattle.executor_model.specs.ActsOfRuns.{behind, lock_read, return_room}
-use Rattle.executor_model.specs.ActsOfRuns.{run_by, counted_by, counted_to, found, make_run_by, registered, walk, next_place}
-use Rattle.executor_model.specs.ActsOfRuns.{queue_at}
-use Rattle.executor_model.specs.ActsOfRuns.{search_own_by, search_common_by, look_own_by, source_of, stolen}
-use Rattle.executor_model.specs.ActsOfRuns.{steal_length_by}
-use Rattle.executor_model.specs.ActsOfRuns.{steal_by, steal_take_by, make_room_by, reschedule_by, write}
-use Rattle.executor_model.specs.Rows.{waiting_of, borrowing_of, then_waiting}
-use Rattle.executor_model.specs.Sound.{times, times_in, queued}
-use Rattle.executor_model.specs.Weights.{same, weigh}
-use Rattle.executor_model.proofs.Steps.Lists.{weigh-append}
+use Rattle.executor_model.proofs.Types.{First, Second, Look, Mark, Reply, ListOp, Op, QueueOp, RunOp, RunPoll, Section}
+use Rattle.executor_model.proofs.Types.{TickOrRun, SleeperOp, Sleeping, Source, Common, Own, Steal, StealOp, Then, TickOp}
+use Rattle.executor_model.specs.World.{put_queue, queue_of, World, Ticker, Awake, Asleep, Left, Stage, New, Listed, Ended, Run}
+use Rattle.executor_model.specs.ActsOfRuns.{behind, lock_read, return_room, run_by, counted_by, counted_to, found, make_run_by}
+use Rattle.executor_model.specs.ActsOfRuns.{registered, walk, next_place, queue_at, search_own_by, search_common_by}
+use Rattle.executor_model.specs.ActsOfRuns.{look_own_by, source_of, stolen, steal_length_by, steal_by, steal_take_by}
+use Rattle.executor_model.specs.World.{Lock, Done, own_of, put_own, run_of}
+use Rattle.executor_model.specs.ActsOfRuns.{make_room_by, reschedule_by, write}
+use Rattle.executor_model.specs.{Acts.mark_in, ActsOfSleepers.found_by, Doing.list_act, Rows.waiting_of, Rows.borrowing_of}
+use Rattle.executor_model.specs.{Rows.then_waiting, Sound.times, Sound.times_in, Sound.queued, Weights.same, Weights.weigh}
 use Rattle.executor_model.proofs.Steps.QueuesByMark.{capacity-first, closed-first, times-first}
+use Rattle.executor_model.proofs.{Types.UserOp, Types.Hint, Steps.SleepersLists.given_back-same, Steps.Lists.weigh-append}
 
 -- the lists that are kept of futures are the same
 pub record Same (w v : World) : Type 0 where
@@ -64,6 +32,7 @@ pub record Same (w v : World) : Type 0 where
   pub waking : v.waking ≡ w.waking
   pub wakers : v.wakers ≡ w.wakers
   pub sleepers : v.sleepers.wakers ≡ w.sleepers.wakers
+  pub turns : v.urgent_turns ≡ w.urgent_turns
   pub is_static : v.is_static ≡ w.is_static
   pub gone : v.gone ≡ w.gone
   pub trace : v.trace ≡ w.trace
@@ -83,6 +52,7 @@ same-here w rs qs ls l = record {
   waking = refl;
   wakers = refl;
   sleepers = refl;
+  turns = refl;
   is_static = refl;
   gone = refl;
   trace = refl;
@@ -103,6 +73,7 @@ same-taken mark w = record {
   waking = refl;
   wakers = refl;
   sleepers = refl;
+  turns = refl;
   is_static = refl;
   gone = refl;
   trace = refl;
@@ -140,28 +111,28 @@ waiting-counted g true w x f = omega arith
 waiting-counted g false w x f = waiting-run_by g _ _ x f
 
 waiting-wakes_up : (g : ℕ) (p : Ticker) (who : TickOrRun) →
-    weigh (waiting_of g) (found_by p who (op.Sleeper sleeper_op.ExchangeFlag ∷ [])) ≡ 0
+    weigh (waiting_of g) (found_by p who (Op.Sleeper SleeperOp.ExchangeFlag ∷ [])) ≡ 0
 waiting-wakes_up g Awake who = refl
 waiting-wakes_up g (Asleep n) who = refl
 waiting-wakes_up g Left who = refl
 
 pub waiting-found : (g : ℕ) (w : World) (x : RunPoll) (f : ℕ) → weigh (waiting_of g) (found w x f).next ≡ same g f
 waiting-found g w x f =
-    let first = found_by (run_of w x.run).place (tick_or_run.Run x.run) (op.Sleeper sleeper_op.ExchangeFlag ∷ []) in
+    let first = found_by (run_of w x.run).place (TickOrRun.Run x.run) (Op.Sleeper SleeperOp.ExchangeFlag ∷ []) in
     let b = eqb ((run_of w x.run).counted + 1) 64 in
     omega (
       arith,
       weigh-append (waiting_of g) first (counted_by b w x f).next,
-      waiting-wakes_up g (run_of w x.run).place (tick_or_run.Run x.run),
+      waiting-wakes_up g (run_of w x.run).place (TickOrRun.Run x.run),
       waiting-counted g b w x f,
     )
 
 pub waiting-stolen : (g : ℕ) (t : Then) (w : World) (x : RunPoll) →
     weigh (waiting_of g) (stolen t w x).next ≡ then_waiting g t
-waiting-stolen g (then.Found f) w x = waiting-found g w x f
-waiting-stolen g (then.StealPlain f) w x = omega arith
-waiting-stolen g (then.Run f) w x = waiting-run_by g _ w x f
-waiting-stolen g (then.Walk at left) w x = refl
+waiting-stolen g (Then.Found f) w x = waiting-found g w x f
+waiting-stolen g (Then.StealPlain f) w x = omega arith
+waiting-stolen g (Then.Run f) w x = waiting-run_by g _ w x f
+waiting-stolen g (Then.Walk at left) w x = refl
 
 pub waiting-walk : (g : ℕ) (x : RunPoll) (qs : List ℕ) (at left : ℕ) → weigh (waiting_of g) (walk x qs at left) ≡ 0
 waiting-walk g x qs at zero = refl
@@ -170,10 +141,10 @@ waiting-walk g x qs at (suc left) = by (eqb (queue_at qs at) x.run) (waiting-wal
     by : (b : Bool) → weigh (waiting_of g) (walk x qs (next_place qs at) left) ≡ 0 →
         weigh (waiting_of g) (let h : List Op = elim b [
           | true ↦ walk x qs (next_place qs at) left
-          | false ↦ op.Steal (steal_op.Length (record {
+          | false ↦ Op.Steal (StealOp.Length (record {
             poll = x;
             from = Own (queue_at qs at);
-            then = then.Walk (next_place qs at) left;
+            then = Then.Walk (next_place qs at) left;
           })) ∷ []
         ] in h) ≡ 0
     by true z = z
@@ -203,6 +174,7 @@ same-trans a b = record {
   waking = b.waking ∙ a.waking;
   wakers = b.wakers ∙ a.wakers;
   sleepers = b.sleepers ∙ a.sleepers;
+  turns = b.turns ∙ a.turns;
   is_static = b.is_static ∙ a.is_static;
   gone = b.gone ∙ a.gone;
   trace = b.trace ∙ a.trace;
@@ -225,16 +197,16 @@ pub queued-found : (g : ℕ) (w : World) (x : RunPoll) (f : ℕ) → queued (fou
 queued-found g w x f = queued-counted g _ w x f
 
 pub same-stolen : (t : Then) (w : World) (x : RunPoll) → Same w (stolen t w x).world
-same-stolen (then.Found f) w x = same-found w x f
-same-stolen (then.StealPlain f) w x = same-here w _ _ _ _
-same-stolen (then.Run f) w x = same-run_by _ w x f
-same-stolen (then.Walk at left) w x = same-here w _ _ _ _
+same-stolen (Then.Found f) w x = same-found w x f
+same-stolen (Then.StealPlain f) w x = same-here w _ _ _ _
+same-stolen (Then.Run f) w x = same-run_by _ w x f
+same-stolen (Then.Walk at left) w x = same-here w _ _ _ _
 
 pub queued-stolen : (g : ℕ) (t : Then) (w : World) (x : RunPoll) → queued (stolen t w x).world g ≡ queued w g
-queued-stolen g (then.Found f) w x = queued-found g w x f
-queued-stolen g (then.StealPlain f) w x = refl
-queued-stolen g (then.Run f) w x = queued-run_by g _ w x f
-queued-stolen g (then.Walk at left) w x = refl
+queued-stolen g (Then.Found f) w x = queued-found g w x f
+queued-stolen g (Then.StealPlain f) w x = refl
+queued-stolen g (Then.Run f) w x = queued-run_by g _ w x f
+queued-stolen g (Then.Walk at left) w x = refl
 
 -- Runnables only move
 
@@ -243,7 +215,7 @@ pub record Moves (w : World) (old : List Op) (d : Done) : Type 0 where
   pub moved : (g : ℕ) → queued d.world g + weigh (waiting_of g) d.next ≡ queued w g + weigh (waiting_of g) old
   pub lent : weigh borrowing_of old ≡ 0 → weigh borrowing_of d.next ≡ 0
 
-pub moves-length : (n : ℕ) (w : World) (s : Steal) → Moves w (op.Steal (steal_op.Length s) ∷ []) (steal_length_by n w s)
+pub moves-length : (n : ℕ) (w : World) (s : Steal) → Moves w (Op.Steal (StealOp.Length s) ∷ []) (steal_length_by n w s)
 moves-length zero w s = record {
   same = same-stolen s.then w s.poll;
   moved = λ g. omega (arith, queued-stolen g s.then w s.poll, waiting-stolen g s.then w s.poll);
@@ -256,7 +228,7 @@ moves-length (suc n) w s = record {
 }
 
 pub moves-own_length : (n m : ℕ) (w : World) (s : Steal) →
-    Moves w (op.Steal (steal_op.OwnLength s m) ∷ []) (steal_by n w s)
+    Moves w (Op.Steal (StealOp.OwnLength s m) ∷ []) (steal_by n w s)
 moves-own_length zero m w s = record {
   same = same-stolen s.then w s.poll;
   moved = λ g. omega (arith, queued-stolen g s.then w s.poll, waiting-stolen g s.then w s.poll);
@@ -269,7 +241,7 @@ moves-own_length (suc n) m w s = record {
 }
 
 pub moves-take : (from : Source) (q : List ℕ) (w : World) (x : RunPoll) (t : Then) (more : ℕ) → source_of w from ≡ q →
-    Moves w (op.Steal (steal_op.Take (record { poll = x; from = from; then = t }) more) ∷ [])
+    Moves w (Op.Steal (StealOp.Take (record { poll = x; from = from; then = t }) more) ∷ [])
     (steal_take_by q w (record { poll = x; from = from; then = t }) more)
 moves-take from [] w x t more e = record {
   same = same-stolen t w x;
@@ -288,16 +260,16 @@ moves-take (Own r) (f ∷ rest) w x t more e = record {
 }
 
 -- one that finds no place is scheduled
-pub moves-put_back : (w : World) (s : Steal) (more f : ℕ) → Moves w (op.Steal (steal_op.Put s more f) ∷ [])
-    (behind (op.Queue (queue_op.Append f) ∷ []) (stolen s.then w s.poll))
+pub moves-put_back : (w : World) (s : Steal) (more f : ℕ) → Moves w (Op.Steal (StealOp.Put s more f) ∷ [])
+    (behind (Op.Queue (QueueOp.Append f) ∷ []) (stolen s.then w s.poll))
 moves-put_back w s more f = record {
   same = same-stolen s.then w s.poll;
   moved = λ g. omega (arith, queued-stolen g s.then w s.poll, waiting-stolen g s.then w s.poll);
   lent = λ z. absurd (omega (arith, z));
 }
 
-pub moves-own : (q : List ℕ) (w : World) (s : Sleeping) (r : ℕ) → s.who ≡ tick_or_run.Run r → own_of w r ≡ q →
-    Moves w (op.Tick (tick_op.Search s) ∷ []) (search_own_by q w (record { run = r; waker = s.waker; poll = s.poll }))
+pub moves-own : (q : List ℕ) (w : World) (s : Sleeping) (r : ℕ) → s.who ≡ TickOrRun.Run r → own_of w r ≡ q →
+    Moves w (Op.Tick (TickOp.Search s) ∷ []) (search_own_by q w (record { run = r; waker = s.waker; poll = s.poll }))
 moves-own [] w s r i e = record { same = same-here w _ _ _ _; moved = λ g. refl; lent = λ z. absurd (omega (arith, z)) }
 moves-own (f ∷ rest) w s r i e = let x : RunPoll = record { run = r; waker = s.waker; poll = s.poll } in record {
   same = same-trans (same-here w _ _ _ _) (same-found (put_own w r rest) x f);
@@ -311,7 +283,7 @@ moves-own (f ∷ rest) w s r i e = let x : RunPoll = record { run = r; waker = s
 }
 
 pub moves-common : (look : Look) (q : List ℕ) (w : World) (x : RunPoll) → (queue_of w (mark_in look)).items ≡ q →
-    Moves w (op.Run (run_op.SearchCommon x look) ∷ []) (search_common_by q w x look)
+    Moves w (Op.Run (RunOp.SearchCommon x look) ∷ []) (search_common_by q w x look)
 moves-common (First mark) [] w x e = record { same = same-here w _ _ _ _; moved = λ g. refl; lent = λ z. absurd (omega (arith, z)) }
 moves-common (Second mark) [] w x e = record { same = same-here w _ _ _ _; moved = λ g. refl; lent = λ z. absurd (omega (arith, z)) }
 moves-common look (f ∷ rest) w x e = record {
@@ -321,7 +293,7 @@ moves-common look (f ∷ rest) w x e = record {
 }
 
 pub moves-look : (q : List ℕ) (w : World) (x : RunPoll) (at left : ℕ) → own_of w x.run ≡ q →
-    Moves w (op.Run (run_op.LookOwn x at left) ∷ []) (look_own_by q w x at left)
+    Moves w (Op.Run (RunOp.LookOwn x at left) ∷ []) (look_own_by q w x at left)
 moves-look [] w x at left e = record {
   same = same-here w _ _ _ _;
   moved = λ g. omega (arith, waiting-walk g x w.listed at left);
@@ -339,7 +311,7 @@ moves-look (f ∷ rest) w x at left e = record {
 }
 
 pub moves-reschedule : (q : List ℕ) (w : World) (r : ℕ) (a : Reply) → own_of w r ≡ q →
-    Moves w (op.Run (run_op.Reschedule r a) ∷ []) (reschedule_by q w r a)
+    Moves w (Op.Run (RunOp.Reschedule r a) ∷ []) (reschedule_by q w r a)
 moves-reschedule [] w r a e = record {
   same = same-here w _ _ _ _;
   moved = λ g. refl;
@@ -351,7 +323,7 @@ moves-reschedule (f ∷ rest) w r a e = record {
   lent = λ z. absurd (omega (arith, z));
 }
 
-moves-make : (b : Bool) (w : World) → Moves w (op.List (list_op.Write section.MakeRun) ∷ []) (make_run_by b w)
+moves-make : (b : Bool) (w : World) → Moves w (Op.List (ListOp.Write Section.MakeRun) ∷ []) (make_run_by b w)
 moves-make true w = record { same = same-here w _ _ _ _; moved = λ g. refl; lent = λ z. absurd (omega (arith, z)) }
 moves-make false w = record {
   same = same-here w _ _ _ _;
@@ -359,8 +331,8 @@ moves-make false w = record {
   lent = λ z. absurd (omega (arith, z));
 }
 
-moves-register : (t : Stage) (w : World) (x : RunPoll) → Moves w (op.List (list_op.Write (section.Register x)) ∷ [])
-    (record { world = registered t w x.run; next = op.List list_op.UnlockWrite ∷ op.User (user_op.PollOwn x) ∷ [] })
+moves-register : (t : Stage) (w : World) (x : RunPoll) → Moves w (Op.List (ListOp.Write (Section.Register x)) ∷ [])
+    (record { world = registered t w x.run; next = Op.List ListOp.UnlockWrite ∷ Op.User (UserOp.PollOwn x) ∷ [] })
 moves-register New w x = record { same = same-here w _ _ _ _; moved = λ g. refl; lent = λ z. absurd (omega (arith, z)) }
 moves-register Listed w x = record {
   same = same-here w _ _ _ _;
@@ -373,14 +345,14 @@ moves-register Ended w x = record {
   lent = λ z. absurd (omega (arith, z));
 }
 
-pub moves-write : (h : Hint) (s : Section) (w : World) → Moves w (op.List (list_op.Write s) ∷ []) (write h s w)
-moves-write h section.MakeRun w = moves-make h.refused w
-moves-write h (section.Register x) w = moves-register _ w x
-moves-write h (section.Unregister r a) w =
+pub moves-write : (h : Hint) (s : Section) (w : World) → Moves w (Op.List (ListOp.Write s) ∷ []) (write h s w)
+moves-write h Section.MakeRun w = moves-make h.refused w
+moves-write h (Section.Register x) w = moves-register _ w x
+moves-write h (Section.Unregister r a) w =
     record { same = same-here w _ _ _ _; moved = λ g. refl; lent = λ z. absurd (omega (arith, z)) }
 
 pub moves-lock_read : (h : Hint) (w : World) (x : RunPoll) →
-    Moves w (op.List (list_op.LockRead x) ∷ []) (lock_read h w x)
+    Moves w (Op.List (ListOp.LockRead x) ∷ []) (lock_read h w x)
 moves-lock_read h w x = record {
   same = same-here w _ _ _ _;
   moved = λ g. omega (arith, waiting-walk g x w.listed (h.start % length w.listed) (length w.listed));
@@ -388,13 +360,13 @@ moves-lock_read h w x = record {
 }
 
 -- the other sections of the lock change it alone
-pub moves-list : (h : Hint) (o : ListOp) (w : World) → Moves w (op.List o ∷ []) (list_act h o w)
-moves-list h (list_op.LockWrite section.MakeRun) w =
+pub moves-list : (h : Hint) (o : ListOp) (w : World) → Moves w (Op.List o ∷ []) (list_act h o w)
+moves-list h (ListOp.LockWrite Section.MakeRun) w =
     record { same = same-here w _ _ _ _; moved = λ g. refl; lent = λ z. absurd (omega (arith, z)) }
-moves-list h (list_op.Write s) w = moves-write h s w
-moves-list h list_op.UnlockWrite w = record { same = same-here w _ _ _ _; moved = λ g. refl; lent = λ z. refl }
-moves-list h (list_op.LockRead x) w = moves-lock_read h w x
-moves-list h list_op.UnlockRead w = record { same = same-here w _ _ _ _; moved = λ g. refl; lent = λ z. refl }
+moves-list h (ListOp.Write s) w = moves-write h s w
+moves-list h ListOp.UnlockWrite w = record { same = same-here w _ _ _ _; moved = λ g. refl; lent = λ z. refl }
+moves-list h (ListOp.LockRead x) w = moves-lock_read h w x
+moves-list h ListOp.UnlockRead w = record { same = same-here w _ _ _ _; moved = λ g. refl; lent = λ z. refl }
 moves-list h _ w = record { same = same-here w _ _ _ _; moved = λ g. refl; lent = λ z. absurd (omega (arith, z)) }
 
 -- the other lists are as they were, and so are the wakers of the sleepers
@@ -412,17 +384,18 @@ same-rooms w s e = record {
   waking = refl;
   wakers = refl;
   sleepers = e;
+  turns = refl;
   is_static = refl;
   gone = refl;
   trace = refl;
 }
 
-pub moves-make_room : (b : Bool) (w : World) → Moves w (op.Run run_op.MakeRoom ∷ []) (make_room_by b w)
+pub moves-make_room : (b : Bool) (w : World) → Moves w (Op.Run RunOp.MakeRoom ∷ []) (make_room_by b w)
 moves-make_room true w =
     record { same = same-here w _ _ _ _; moved = λ g. refl; lent = λ z. absurd (omega (arith, z)) }
 moves-make_room false w =
     record { same = same-rooms w _ refl; moved = λ g. refl; lent = λ z. absurd (omega (arith, z)) }
 
-pub moves-return_room : (w : World) → Moves w (op.Run run_op.ReturnRoom ∷ []) (return_room w)
+pub moves-return_room : (w : World) → Moves w (Op.Run RunOp.ReturnRoom ∷ []) (return_room w)
 moves-return_room w =
     record { same = same-rooms w _ (given_back-same w.sleepers); moved = λ g. refl; lent = λ z. refl }

@@ -2,42 +2,23 @@
 -- What each thing that a run does keeps, where it is kept by what moves Runnables and no more, by the event that one is
 -- kept, and by the call of the run's own waker.
 use Rattle.std.proofs.Common.{◌≡◌, ℕ, ◌<◌, List, [], ◌∷◌, length, Bool, true, false, ltb, refl, arith}
-use Rattle.executor_model.specs.ActsOfRuns.{take_turn_of_run}
-use Rattle.executor_model.specs.declared.call.Reply.{Reply}
-use Rattle.executor_model.specs.declared.op.ListOp.{ListOp}
-use Rattle.executor_model.specs.declared.op.Op.{Op}
-use Rattle.executor_model.specs.declared.op.Op.TheVariants as op
-use Rattle.executor_model.specs.declared.op.QueueOp.TheVariants as queue_op
-use Rattle.executor_model.specs.declared.op.RunOp.{RunOp}
-use Rattle.executor_model.specs.declared.op.RunOp.TheVariants as run_op
-use Rattle.executor_model.specs.declared.op.RunPoll.{RunPoll}
-use Rattle.executor_model.specs.declared.op.TickOrRun.TheVariants as tick_or_run
-use Rattle.executor_model.specs.declared.op.Sleeping.{Sleeping}
-use Rattle.executor_model.specs.declared.op.Steal.{Steal}
-use Rattle.executor_model.specs.declared.op.StealOp.{StealOp}
-use Rattle.executor_model.specs.declared.op.StealOp.TheVariants as steal_op
-use Rattle.executor_model.specs.declared.op.TickOp.TheVariants as tick_op
-use Rattle.executor_model.specs.declared.op.UserOp.TheVariants as user_op
-use Rattle.executor_model.specs.declared.step.Hint.{Hint}
-use Rattle.executor_model.specs.Weights.{weigh}
-use Rattle.executor_model.specs.World.{World, Done}
-use Rattle.executor_model.specs.ActsOfRuns.{free_places, kept_by, reschedule_by, search_own, steal_put_by, wake_own}
+use Rattle.executor_model.proofs.Types.{Reply, ListOp, Op, QueueOp, RunOp, RunPoll, TickOrRun, Sleeping, Steal, StealOp, TickOp}
+use Rattle.executor_model.specs.ActsOfRuns.{take_turn_of_run, free_places, kept_by, reschedule_by, search_own, steal_put_by}
 use Rattle.executor_model.specs.Doing.{list_act, run_act, steal_act}
-use Rattle.executor_model.proofs.Steps.RunsCounting.{known-run}
-use Rattle.executor_model.proofs.Steps.RunsMoves.{Moves, moves-common, moves-length, moves-list, moves-look}
-use Rattle.executor_model.proofs.Steps.RunsMoves.{moves-make_room, moves-own}
-use Rattle.executor_model.proofs.Steps.RunsMoves.{moves-own_length, moves-put_back, moves-reschedule, moves-return_room}
-use Rattle.executor_model.proofs.Steps.RunsMoves.{moves-take}
+use Rattle.executor_model.specs.{ActsOfRuns.wake_own, Weights.weigh, World.World, World.Done}
+use Rattle.executor_model.proofs.Steps.RunsMoves.{Moves, moves-common, moves-length, moves-list, moves-look, moves-make_room}
+use Rattle.executor_model.proofs.Steps.RunsMoves.{moves-own, moves-own_length, moves-put_back, moves-reschedule}
 use Rattle.executor_model.proofs.Steps.RunsNext.{BlindToRuns, common-blind, list-blind, look-blind, more-blind, room-blind}
 use Rattle.executor_model.proofs.Steps.RunsNext.{search_run-blind, steal-blind, stolen-blind}
-use Rattle.executor_model.proofs.Steps.RunsPlain.{AllPlain, blind-plain}
+use Rattle.executor_model.proofs.{Types.UserOp, Types.Hint, Steps.RunsCounting.known-run, Steps.RunsMoves.moves-return_room}
+use Rattle.executor_model.proofs.{Steps.RunsMoves.moves-take, Steps.RunsPlain.AllPlain, Steps.RunsPlain.blind-plain}
 
 -- a count that sees nothing of a run, its leaving and the drop of its own future too
 pub record Unseeing (v : Op → ℕ) : Type 0 where
   pub blind : BlindToRuns v
-  pub append : (f : ℕ) → v (op.Queue (queue_op.Append f)) ≡ 0
-  pub leave : (r : ℕ) → v (op.Tick (tick_op.Leave (tick_or_run.Run r))) ≡ 0
-  pub drop : (r : ℕ) → v (op.User (user_op.DropOwn r)) ≡ 0
+  pub append : (f : ℕ) → v (Op.Queue (QueueOp.Append f)) ≡ 0
+  pub leave : (r : ℕ) → v (Op.Tick (TickOp.Leave (TickOrRun.Run r))) ≡ 0
+  pub drop : (r : ℕ) → v (Op.User (UserOp.DropOwn r)) ≡ 0
 
 abbrev pub AllOfRuns : List Op → Type 0
 AllOfRuns os = (v : Op → ℕ) → Unseeing v → weigh v os ≡ 0
@@ -45,76 +26,76 @@ AllOfRuns os = (v : Op → ℕ) → Unseeing v → weigh v os ≡ 0
 pub plain-of-runs : (os : List Op) → AllOfRuns os → AllPlain os
 plain-of-runs os a v z = a v record {
   blind = blind-plain v z;
-  append = λ f. z (op.Queue (queue_op.Append f)) refl;
-  leave = λ r. z (op.Tick (tick_op.Leave (tick_or_run.Run r))) refl;
-  drop = λ r. z (op.User (user_op.DropOwn r)) refl;
+  append = λ f. z (Op.Queue (QueueOp.Append f)) refl;
+  leave = λ r. z (Op.Tick (TickOp.Leave (TickOrRun.Run r))) refl;
+  drop = λ r. z (Op.User (UserOp.DropOwn r)) refl;
 }
 
 after-reschedule : (q : List ℕ) (w : World) (r : ℕ) (a : Reply) → AllOfRuns (reschedule_by q w r a).next
 after-reschedule [] w r a v u = omega (arith, u.leave r, u.blind.end a r)
-after-reschedule (f ∷ rest) w r a v u = omega (arith, u.append f, u.blind.run (run_op.Reschedule r a))
+after-reschedule (f ∷ rest) w r a v u = omega (arith, u.append f, u.blind.run (RunOp.Reschedule r a))
 
 module _
     (P : World → List Op → Done → Type 0)
     (moves : (w : World) (old : List Op) (d : Done) → AllOfRuns old → AllOfRuns d.next → Moves w old d → P w old d)
     (keeps : (p : ℕ) (w : World) (s : Steal) (more f : ℕ) (d : Done) → s.poll.run < length w.own →
-    P (kept_by p w s.poll.run f) (op.Steal (steal_op.OwnLength s 0) ∷ []) d →
-    P w (op.Steal (steal_op.Put s more f) ∷ []) d)
+    P (kept_by p w s.poll.run f) (Op.Steal (StealOp.OwnLength s 0) ∷ []) d →
+    P w (Op.Steal (StealOp.Put s more f) ∷ []) d)
   where
-    step-steal : (o : StealOp) → AllOfRuns (op.Steal o ∷ [])
+    step-steal : (o : StealOp) → AllOfRuns (Op.Steal o ∷ [])
     step-steal o v u = omega (arith, u.blind.steal o)
 
-    step-run : (o : RunOp) → AllOfRuns (op.Run o ∷ [])
+    step-run : (o : RunOp) → AllOfRuns (Op.Run o ∷ [])
     step-run o v u = omega (arith, u.blind.run o)
 
     by-put : (b : Bool) (p : ℕ) (w : World) (s : Steal) (more f : ℕ) → ltb 0 (free_places w s.poll.run) ≡ b →
-        P w (op.Steal (steal_op.Put s more f) ∷ []) (steal_put_by b p w s more f)
+        P w (Op.Steal (StealOp.Put s more f) ∷ []) (steal_put_by b p w s more f)
     by-put true p w s more f e =
         keeps p w s more f _ (known-run w s.poll.run e)
-        (moves (kept_by p w s.poll.run f) _ _ (step-steal (steal_op.OwnLength s 0))
+        (moves (kept_by p w s.poll.run f) _ _ (step-steal (StealOp.OwnLength s 0))
         (λ v u. more-blind v u.blind more (kept_by p w s.poll.run f) s)
         (moves-own_length more 0 (kept_by p w s.poll.run f) s))
-    by-put false p w s more f e = moves w _ _ (step-steal (steal_op.Put s more f))
+    by-put false p w s more f e = moves w _ _ (step-steal (StealOp.Put s more f))
         (λ v u. omega (arith, u.append f, stolen-blind v u.blind s.then w s.poll)) (moves-put_back w s more f)
 
-    pub by-steal : (p : ℕ) (o : StealOp) (w : World) → P w (op.Steal o ∷ []) (steal_act p o w)
-    by-steal p (steal_op.Length s) w =
-        moves w _ _ (step-steal (steal_op.Length s)) (λ v u. steal-blind v u.blind u.append p (steal_op.Length s) w)
+    pub by-steal : (p : ℕ) (o : StealOp) (w : World) → P w (Op.Steal o ∷ []) (steal_act p o w)
+    by-steal p (StealOp.Length s) w =
+        moves w _ _ (step-steal (StealOp.Length s)) (λ v u. steal-blind v u.blind u.append p (StealOp.Length s) w)
         (moves-length _ w s)
-    by-steal p (steal_op.OwnLength s n) w =
-        moves w _ _ (step-steal (steal_op.OwnLength s n))
-        (λ v u. steal-blind v u.blind u.append p (steal_op.OwnLength s n) w)
+    by-steal p (StealOp.OwnLength s n) w =
+        moves w _ _ (step-steal (StealOp.OwnLength s n))
+        (λ v u. steal-blind v u.blind u.append p (StealOp.OwnLength s n) w)
         (moves-own_length _ n w s)
-    by-steal p (steal_op.Take s more) w =
-        moves w _ _ (step-steal (steal_op.Take s more))
-        (λ v u. steal-blind v u.blind u.append p (steal_op.Take s more) w)
+    by-steal p (StealOp.Take s more) w =
+        moves w _ _ (step-steal (StealOp.Take s more))
+        (λ v u. steal-blind v u.blind u.append p (StealOp.Take s more) w)
         (moves-take s.from _ w s.poll s.then more refl)
-    by-steal p (steal_op.Put s more f) w = by-put _ p w s more f refl
+    by-steal p (StealOp.Put s more f) w = by-put _ p w s more f refl
 
-    pub by-list : (h : Hint) (o : ListOp) (w : World) → P w (op.List o ∷ []) (list_act h o w)
+    pub by-list : (h : Hint) (o : ListOp) (w : World) → P w (Op.List o ∷ []) (list_act h o w)
     by-list h o w = moves w _ _ (λ v u. omega (arith, u.blind.list o)) (λ v u. list-blind v u.blind h o w)
         (moves-list h o w)
 
     -- a run looks at its own queue
-    pub by-search : (w : World) (r : ℕ) (s : Sleeping) → s.who ≡ tick_or_run.Run r →
-        P w (op.Tick (tick_op.Search s) ∷ []) (search_own w (record { run = r; waker = s.waker; poll = s.poll }))
+    pub by-search : (w : World) (r : ℕ) (s : Sleeping) → s.who ≡ TickOrRun.Run r →
+        P w (Op.Tick (TickOp.Search s) ∷ []) (search_own w (record { run = r; waker = s.waker; poll = s.poll }))
     by-search w r s e =
         moves w _ _ (λ v u. omega (arith, u.blind.search s)) (λ v u. search_run-blind v u.blind w _)
         (moves-own _ w s r e refl)
 
     pub by-run : (p : ℕ) (h : Hint) (o : RunOp) (w : World) →
-        ((x : RunPoll) → o ≡ run_op.WakeOwn x → P w (op.Run (run_op.WakeOwn x) ∷ []) (wake_own p w x)) →
-        ((x : RunPoll) → P w (op.Run (run_op.TakeTurn x) ∷ []) (take_turn_of_run p w x)) →
-        P w (op.Run o ∷ []) (run_act p h o w)
-    by-run p h run_op.MakeRoom w k t =
-        moves w _ _ (step-run run_op.MakeRoom) (λ v u. room-blind v u.blind h.refused w) (moves-make_room h.refused w)
-    by-run p h run_op.ReturnRoom w k t = moves w _ _ (step-run run_op.ReturnRoom) (λ v u. refl) (moves-return_room w)
-    by-run p h (run_op.TakeTurn x) w k t = t x
-    by-run p h (run_op.SearchCommon x look) w k t =
-        moves w _ _ (step-run (run_op.SearchCommon x look)) (λ v u. common-blind v u.blind look _ w x) (moves-common look _ w x refl)
-    by-run p h (run_op.LookOwn x at left) w k t =
-        moves w _ _ (step-run (run_op.LookOwn x at left)) (λ v u. look-blind v u.blind _ w x at left)
+        ((x : RunPoll) → o ≡ RunOp.WakeOwn x → P w (Op.Run (RunOp.WakeOwn x) ∷ []) (wake_own p w x)) →
+        ((x : RunPoll) → P w (Op.Run (RunOp.TakeTurn x) ∷ []) (take_turn_of_run p w x)) →
+        P w (Op.Run o ∷ []) (run_act p h o w)
+    by-run p h RunOp.MakeRoom w k t =
+        moves w _ _ (step-run RunOp.MakeRoom) (λ v u. room-blind v u.blind h.refused w) (moves-make_room h.refused w)
+    by-run p h RunOp.ReturnRoom w k t = moves w _ _ (step-run RunOp.ReturnRoom) (λ v u. refl) (moves-return_room w)
+    by-run p h (RunOp.TakeTurn x) w k t = t x
+    by-run p h (RunOp.SearchCommon x look) w k t =
+        moves w _ _ (step-run (RunOp.SearchCommon x look)) (λ v u. common-blind v u.blind look _ w x) (moves-common look _ w x refl)
+    by-run p h (RunOp.LookOwn x at left) w k t =
+        moves w _ _ (step-run (RunOp.LookOwn x at left)) (λ v u. look-blind v u.blind _ w x at left)
         (moves-look _ w x at left refl)
-    by-run p h (run_op.WakeOwn x) w k t = k x refl
-    by-run p h (run_op.Reschedule r a) w k t = moves w _ _ (step-run (run_op.Reschedule r a)) (after-reschedule _ w r a)
+    by-run p h (RunOp.WakeOwn x) w k t = k x refl
+    by-run p h (RunOp.Reschedule r a) w k t = moves w _ _ (step-run (RunOp.Reschedule r a)) (after-reschedule _ w r a)
         (moves-reschedule _ w r a refl)

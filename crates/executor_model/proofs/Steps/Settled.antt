@@ -1,24 +1,14 @@
 -- For spawns_are_limited.
 -- Between two steps nobody has a call still to end whose end is all that is left of it. What holds then, and what holds
 -- in the middle of a step of one party, where that is still to come.
-use Rattle.std.proofs.Common.{◌≡◌, ℕ, ◌<◌, List, [], ◌∷◌, ◌++◌, length, set, Bool, true, false, ltb, refl}
-use Rattle.std.proofs.Common.{ap, arith, append-nil, ◌∙◌, subst, get_or-set_same}
-use Rattle.std.proofs.Math.ListN.{length-set}
-use Rattle.std.proofs.lemmas.Bool.Decides.{nat_tests}
-use Rattle.std.proofs.lemmas.List.{set-set}
+use Rattle.std.proofs.Common.{◌≡◌, ℕ, ◌<◌, List, [], ◌∷◌, ◌++◌, length, set, Bool, true, false, ltb, refl, ap, arith}
+use Rattle.std.proofs.Common.{append-nil, ◌∙◌, subst, get_or-set_same}
 use Rattle.std.specs.Prelude.{Option, Some, None, reverse}
-use Rattle.executor_model.specs.declared.call.Reply.{Reply}
-use Rattle.executor_model.specs.declared.event.Event.TheVariants as event
-use Rattle.executor_model.specs.declared.op.Hold.{Hold}
-use Rattle.executor_model.specs.declared.op.Op.{Op}
-use Rattle.executor_model.specs.declared.op.Op.TheVariants as op
-use Rattle.executor_model.specs.declared.step.Step.{Step}
-use Rattle.executor_model.specs.declared.step.StepError.{StepError}
-use Rattle.executor_model.specs.declared.step.StepError.TheVariants.{NoSuch}
-use Rattle.executor_model.specs.Good.{Good}
+use Rattle.std.{proofs.Math.ListN.length-set, proofs.lemmas.Bool.Decides.nat_tests, proofs.lemmas.List.set-set}
+use Rattle.executor_model.proofs.Types.{Reply, Event, Hold, Op, Step, StepError, NoSuch}
 use Rattle.executor_model.specs.Steps.{Machine, Part, below_top, end_of, part_after, part_refusal, party_of, refusal, run}
 use Rattle.executor_model.specs.Steps.{settled_by, stack, step, step_by, stepped, top, unless, with_part}
-use Rattle.executor_model.specs.World.{World, Done, done, log}
+use Rattle.executor_model.specs.{Good.Good, World.World, World.Done, World.done, World.log}
 use Rattle.executor_model.proofs.Steps.Lift.{good-stepped, topped, unsettled}
 use Rattle.executor_model.proofs.Steps.Ways.{Made, Way, made}
 
@@ -28,8 +18,8 @@ module _
     (moves : (s : Machine) (p : ℕ) (old rest : List Op) (d : Done) → Good s → p < length s.parties →
     stack s p ≡ rest ++ reverse old → Way s p old rest d → P s → Q (unsettled s p rest d) p)
     (ends : (s : Machine) (p : ℕ) (a : Reply) (held : Hold) (below : List Op) → p < length s.parties →
-    stack s p ≡ below ++ reverse (op.End a held ∷ []) → Q s p →
-    P (unsettled s p below (done (log s.world (event.CallEnded p a)) [])))
+    stack s p ≡ below ++ reverse (Op.End a held ∷ []) → Q s p →
+    P (unsettled s p below (done (log s.world (Event.CallEnded p a)) [])))
     (stays : (s : Machine) (p : ℕ) → p < length s.parties → end_of (top (stack s p)) ≡ None → Q s p → P s)
   where
     goes-on : (s : Machine) (p : ℕ) (os : List Op) (w : World) (o : Option Op) → p < length s.parties → top os ≡ o →
@@ -45,14 +35,14 @@ module _
     settles : (s : Machine) (p : ℕ) (os : List Op) (w : World) (o : Option Op) → p < length s.parties → top os ≡ o →
         Q (record { world = w; parties = set s.parties p os }) p → P (with_part s p (settled_by (end_of o) p w os))
     settles s p os w None h e k = goes-on s p os w None h e refl k
-    settles s p os w (Some (op.End a held)) h e k =
+    settles s p os w (Some (Op.End a held)) h e k =
         let t : Machine = record { world = w; parties = set s.parties p os } in
         let l : p < length t.parties = omega (arith, h, length-set s.parties p os) in
-        let q : stack t p ≡ below_top os ++ reverse (op.End a held ∷ []) = get_or-set_same s.parties p os [] h
-        ∙ topped os (op.End a held) e in
-        let n : P (unsettled t p (below_top os) (done (log w (event.CallEnded p a)) [])) =
+        let q : stack t p ≡ below_top os ++ reverse (Op.End a held ∷ []) = get_or-set_same s.parties p os [] h
+        ∙ topped os (Op.End a held) e in
+        let n : P (unsettled t p (below_top os) (done (log w (Event.CallEnded p a)) [])) =
         ends t p a held (below_top os) l q k in
-        subst (λ (ss : List (List Op)). P (record { world = log w (event.CallEnded p a); parties = ss }))
+        subst (λ (ss : List (List Op)). P (record { world = log w (Event.CallEnded p a); parties = ss }))
         (ap (set (set s.parties p os) p) (append-nil (below_top os)) ∙ set-set s.parties p os (below_top os)) n
     settles s p os w (Some _) h e k = goes-on s p os w _ h e refl k
 

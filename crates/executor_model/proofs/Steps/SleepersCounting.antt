@@ -1,15 +1,10 @@
 -- For all laws.
 -- What a tick that falls asleep, wakes up or leaves leads to, by the waker that it finds: for the laws of each future.
-use Rattle.std.proofs.Common.{ℕ, ◌++◌}
-use Rattle.std.specs.Prelude.{Option, slice_set, is_none}
+use Rattle.std.{proofs.Common.ℕ, proofs.Common.◌++◌, specs.Prelude.Option, specs.Prelude.slice_set, specs.Prelude.is_none}
 use Rattle.executor_parts.specs.Sleepers.{woken_up}
-use Rattle.executor_model.specs.declared.op.Sleeping.{Sleeping}
-use Rattle.executor_model.specs.declared.op.Waker.{Waker}
-use Rattle.executor_model.specs.declared.op.TickOrRun.{TickOrRun}
+use Rattle.executor_model.proofs.Types.{Sleeping, Waker, TickOrRun}
 use Rattle.executor_model.specs.World.{World, Awake, Left, Done, done, put_place, put_sleepers}
-use Rattle.executor_model.specs.ActsOfSleepers.{pend_as}
-use Rattle.executor_model.specs.ActsOfSleepers.{sleeper_goes}
-use Rattle.executor_model.specs.ActsOfSleepers.{tell_and_return}
+use Rattle.executor_model.specs.ActsOfSleepers.{pend_as, sleeper_goes, tell_and_return}
 
 -- telling
 

@@ -1,12 +1,9 @@
 -- For laws of the crates above.
 -- Steps by their party's part.
-use Rattle.std.proofs.Common.{◌≡◌, ◌<◌, ◌≤◌, List, [], ◌∷◌, ◌++◌, length, true, false, ltb}
-use Rattle.std.proofs.Common.{refl, ap, ◌∙◌, arith, Ok, Err, Result}
+use Rattle.std.proofs.Common.{◌≡◌, ◌<◌, ◌≤◌, List, [], ◌∷◌, ◌++◌, length, true, false, ltb, refl, ap, ◌∙◌, arith, Ok, Err}
 use Rattle.std.specs.Prelude.{Option, Some, None}
-use Rattle.std.proofs.lemmas.Bool.Decides.{nat_tests}
-use Rattle.executor_model.specs.declared.step.Step.{Step}
-use Rattle.executor_model.specs.declared.step.StepError.{StepError}
-use Rattle.executor_model.specs.declared.step.StepError.TheVariants.{NoSuch}
+use Rattle.std.{proofs.Common.Result, proofs.lemmas.Bool.Decides.nat_tests}
+use Rattle.executor_model.proofs.Types.{Step, StepError, NoSuch}
 use Rattle.executor_model.specs.Steps.{Machine, stack, party_of, part_refusal, refusal, after, step_by, step}
 use Rattle.executor_model.specs.Executions.{run_all}
 

@@ -1,11 +1,9 @@
 -- For calls_do_what_they_say and own_queues_agree.
 -- What many more events leave of a trace, where none of them passes a test.
 use Rattle.std.proofs.Common.{◌≡◌, ◌∙◌, [], ◌∷◌, ◌++◌, Bool, false, ◌||◌, sym, ap, subst, append-nil}
-use Rattle.std.proofs.lemmas.List.{append_assoc}
-use Rattle.std.proofs.lemmas.List.Folds.{list_any-append}
-use Rattle.executor_model.specs.declared.event.Event.{Event}
+use Rattle.std.{proofs.lemmas.List.append_assoc, proofs.lemmas.List.Folds.list_any-append}
 use Rattle.executor_model.specs.Trace.{Trace, has}
-use Rattle.executor_model.proofs.Steps.Tests.{left-false, right-false}
+use Rattle.executor_model.proofs.{Types.Event, Steps.Tests.left-false, Steps.Tests.right-false}
 
 pub has-append : (test : Event → Bool) (xs ys : Trace) → has test xs ≡ false → has test ys ≡ false →
     has test (xs ++ ys) ≡ false

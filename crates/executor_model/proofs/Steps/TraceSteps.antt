@@ -1,33 +1,15 @@
 -- For laws of the crates above.
 -- What a step adds to the trace: at most the beginning of one call, and then nothing that begins another.
-use Rattle.std.proofs.Common.{◌≡◌, ℕ, List, [], ◌∷◌, ◌++◌, Bool, true, false}
-use Rattle.std.proofs.Common.{refl, sym, ap, ◌∙◌, append-nil}
+use Rattle.std.proofs.Common.{◌≡◌, ℕ, List, [], ◌∷◌, ◌++◌, Bool, true, false, refl, sym, ap, ◌∙◌, append-nil}
 use Rattle.std.proofs.lemmas.List.{append_assoc}
 use Rattle.std.specs.Prelude.{Option, Some, None, reverse}
-use Rattle.task_moves.specs.declared.moves.owed.Move.TheVariants as move
-use Rattle.executor_model.specs.declared.call.Call.{Call}
-use Rattle.executor_model.specs.declared.call.Call.TheVariants as call
-use Rattle.executor_model.specs.declared.event.Answer.TheVariants as answer
-use Rattle.executor_model.specs.declared.event.Event.{Event}
-use Rattle.executor_model.specs.declared.event.Event.TheVariants as event
-use Rattle.executor_model.specs.declared.op.Op.{Op}
-use Rattle.executor_model.specs.declared.op.Op.TheVariants as op
-use Rattle.executor_model.specs.declared.op.StealOp.TheVariants as steal_op
-use Rattle.executor_model.specs.declared.op.UserOp.TheVariants as user_op
-use Rattle.executor_model.specs.declared.op.Waker.{Waker}
-use Rattle.executor_model.specs.declared.step.Hint.{Hint}
-use Rattle.executor_model.specs.declared.step.Step.{Step}
-use Rattle.executor_model.specs.declared.step.Step.TheVariants.{Begin, Go, Answer as Answers}
-use Rattle.executor_model.specs.declared.step.StepError.{StepError}
-use Rattle.executor_model.specs.declared.step.UserEnd.{UserEnd}
-use Rattle.executor_model.specs.declared.step.UserEnd.TheVariants as end
-use Rattle.executor_model.specs.Doing.{act}
-use Rattle.executor_model.specs.Trace.{Trace, has}
-use Rattle.executor_model.specs.World.{World, Done, log}
-use Rattle.executor_model.specs.Steps.{Machine, stack, top, below_top, mine, refusal, begun}
-use Rattle.executor_model.specs.Steps.{react, end_of, settled_by, onto, gone_on, after, step_by, step, stepped, run}
+use Rattle.executor_model.proofs.Types.{Move, Call, Answer, Event, Op, StealOp, UserOp, Waker, Hint, Step, Begin, Go, StepError}
+use Rattle.executor_model.specs.declared.step.Step.TheVariants.{Answer as Answers}
+use Rattle.executor_model.specs.Steps.{Machine, stack, top, below_top, mine, refusal, begun, react, end_of, settled_by, onto}
+use Rattle.executor_model.specs.Steps.{gone_on, after, step_by, step, stepped, run}
+use Rattle.executor_model.specs.{Doing.act, Trace.Trace, Trace.has, World.World, World.Done, World.log}
 use Rattle.executor_model.proofs.Steps.TraceGrows.{Allows, AllowsCall, grows-act, grows-begun, is_ordinary}
-use Rattle.executor_model.proofs.Steps.TraceMore.{has-append}
+use Rattle.executor_model.proofs.{Types.UserEnd, Steps.TraceMore.has-append}
 
 -- a later trace has the earlier one at its beginning
 abbrev pub IsContinued : Trace → Trace → Type 0
@@ -40,19 +22,19 @@ is_onward (Go p h) = true
 is_onward (Answers p e) = true
 
 abbrev pub begins_one : Event → Bool
-begins_one (event.CallBegun p c) = true
+begins_one (Event.CallBegun p c) = true
 begins_one _ = false
 
 abbrev pub ends_one : Event → Bool
-ends_one (event.CallEnded p r) = true
+ends_one (Event.CallEnded p r) = true
 ends_one _ = false
 
 pub none-begins : (e : Event) → is_ordinary e ≡ true → begins_one e ≡ false
-none-begins (event.CallBegun p c) z = absurd (cc)
+none-begins (Event.CallBegun p c) z = absurd (cc)
 none-begins _ z = refl
 
 pub none-ends : (e : Event) → is_ordinary e ≡ true → ends_one e ≡ false
-none-ends (event.CallEnded p r) z = absurd (cc)
+none-ends (Event.CallEnded p r) z = absurd (cc)
 none-ends _ z = refl
 
 -- a whole step
@@ -66,10 +48,10 @@ pub record More (es now : Trace) : Type 0 where
 -- a call that ends adds its end
 more-settled : (o : Option Op) (es : Trace) (p : ℕ) (w : World) (os : List Op) (more : Trace) → w.trace ≡ es ++ more →
     has begins_one more ≡ false → More es (settled_by (end_of o) p w os).world.trace
-more-settled (Some (op.End r held)) es p w os more e n = record {
-  more = more ++ event.CallEnded p r ∷ [];
-  is = ap (λ (xs : Trace). xs ++ event.CallEnded p r ∷ []) e ∙ append_assoc es more (event.CallEnded p r ∷ []);
-  none = has-append begins_one more (event.CallEnded p r ∷ []) n refl;
+more-settled (Some (Op.End r held)) es p w os more e n = record {
+  more = more ++ Event.CallEnded p r ∷ [];
+  is = ap (λ (xs : Trace). xs ++ Event.CallEnded p r ∷ []) e ∙ append_assoc es more (Event.CallEnded p r ∷ []);
+  none = has-append begins_one more (Event.CallEnded p r ∷ []) n refl;
 }
 more-settled None es p w os more e n = record { more = more; is = e; none = n }
 more-settled (Some _) es p w os more e n = record { more = more; is = e; none = n }
@@ -84,36 +66,36 @@ more-act p h o w =
     let g = grows-act begins_one none-begins p h o w (allows o) in record { more = g.more; is = g.is; none = g.none }
   where
     allows : (x : Op) → Allows begins_one none-begins p x
-    allows (op.Move move.TakeUp f) = refl
-    allows (op.Steal (steal_op.Put x more f)) = refl
-    allows (op.End a held) = refl
+    allows (Op.Move Move.TakeUp f) = refl
+    allows (Op.Steal (StealOp.Put x more f)) = refl
+    allows (Op.End a held) = refl
     allows _ = tt
 
 -- what isn't accepted does nothing
 pub more-react : (p : ℕ) (o : Op) (u : UserEnd) (w : World) → More w.trace (react p o u w).world.trace
-more-react p (op.User (user_op.Poll f)) (end.Polled answer.Pending) w =
-    record { more = event.Answered p f answer.Pending ∷ []; is = refl; none = refl }
-more-react p (op.User (user_op.Poll f)) (end.Polled answer.Ready) w =
-    record { more = event.Answered p f answer.Ready ∷ []; is = refl; none = refl }
-more-react p (op.User (user_op.Poll f)) end.Done w =
+more-react p (Op.User (UserOp.Poll f)) (UserEnd.Polled Answer.Pending) w =
+    record { more = Event.Answered p f Answer.Pending ∷ []; is = refl; none = refl }
+more-react p (Op.User (UserOp.Poll f)) (UserEnd.Polled Answer.Ready) w =
+    record { more = Event.Answered p f Answer.Ready ∷ []; is = refl; none = refl }
+more-react p (Op.User (UserOp.Poll f)) UserEnd.Done w =
     record { more = []; is = sym (append-nil w.trace); none = refl }
-more-react p (op.User (user_op.PollOwn x)) (end.Polled answer.Pending) w =
+more-react p (Op.User (UserOp.PollOwn x)) (UserEnd.Polled Answer.Pending) w =
     record { more = []; is = sym (append-nil w.trace); none = refl }
-more-react p (op.User (user_op.PollOwn x)) (end.Polled answer.Ready) w =
+more-react p (Op.User (UserOp.PollOwn x)) (UserEnd.Polled Answer.Ready) w =
     record { more = []; is = sym (append-nil w.trace); none = refl }
-more-react p (op.User (user_op.PollOwn x)) end.Done w =
+more-react p (Op.User (UserOp.PollOwn x)) UserEnd.Done w =
     record { more = []; is = sym (append-nil w.trace); none = refl }
 more-react p _ _ w = record { more = []; is = sym (append-nil w.trace); none = refl }
 
 more-begun : (p : ℕ) (w : World) (o : Option Waker) (c : Call) →
-    More (w.trace ++ event.CallBegun p c ∷ []) (begun p (log w (event.CallBegun p c)) o c).world.trace
+    More (w.trace ++ Event.CallBegun p c ∷ []) (begun p (log w (Event.CallBegun p c)) o c).world.trace
 more-begun p w o c =
-    let g = grows-begun begins_one none-begins p (log w (event.CallBegun p c)) o c (allows c) in
+    let g = grows-begun begins_one none-begins p (log w (Event.CallBegun p c)) o c (allows c) in
     record { more = g.more; is = g.is; none = g.none }
   where
     allows : (x : Call) → AllowsCall begins_one none-begins p x
-    allows (call.PollRun q b) = refl
-    allows (call.DropRun q) = refl
+    allows (Call.PollRun q b) = refl
+    allows (Call.DropRun q) = refl
     allows _ = tt
 
 more-gone_on : (p : ℕ) (w : World) (os : List Op) (o : Option Op) (d : Op → Done) →
@@ -127,13 +109,13 @@ more-gone_on p w os (Some o) d k = more-onto w.trace p (d o) (below_top os) (k o
 pub data Adds (s : Machine) (t : Step) (now : Machine) : Type 0 where
   refused : now ≡ s → Adds s t now
   goes_on : is_onward t ≡ true → More s.world.trace now.world.trace → Adds s t now
-  begins : (p : ℕ) (c : Call) → t ≡ Begin p c → More (s.world.trace ++ event.CallBegun p c ∷ []) now.world.trace →
+  begins : (p : ℕ) (c : Call) → t ≡ Begin p c → More (s.world.trace ++ Event.CallBegun p c ∷ []) now.world.trace →
       Adds s t now
 
 adds-after : (s : Machine) (t : Step) → Adds s t (after s t)
 adds-after s (Begin p c) =
-    begins p c refl (more-onto (s.world.trace ++ event.CallBegun p c ∷ []) p
-    (begun p (log s.world (event.CallBegun p c)) (mine (top (stack s p))) c) (stack s p)
+    begins p c refl (more-onto (s.world.trace ++ Event.CallBegun p c ∷ []) p
+    (begun p (log s.world (Event.CallBegun p c)) (mine (top (stack s p))) c) (stack s p)
     (more-begun p s.world (mine (top (stack s p))) c))
 adds-after s (Go p h) =
     goes_on refl (more-gone_on p s.world (stack s p) (top (stack s p)) (λ o. act p h o s.world)
@@ -158,7 +140,7 @@ continues s t = by-kind (adds s t)
     by-kind (refused e) = ([], ap (λ (m : Machine). m.world.trace) e ∙ sym (append-nil s.world.trace))
     by-kind (goes_on k m) = (m.more, m.is)
     by-kind (begins p c e m) =
-        (event.CallBegun p c ∷ m.more, m.is ∙ append_assoc s.world.trace (event.CallBegun p c ∷ []) m.more)
+        (Event.CallBegun p c ∷ m.more, m.is ∙ append_assoc s.world.trace (Event.CallBegun p c ∷ []) m.more)
 
 pub run-continues : (ts : List Step) (s : Machine) → IsContinued s.world.trace (run ts s).world.trace
 run-continues [] s = ([], sym (append-nil s.world.trace))

@@ -1,39 +1,23 @@
 -- For all laws.
 -- How a step changes the machine: one move of one party, and the end of a call where that is all that is left of it.
-use Rattle.std.proofs.Common.{◌≡◌, ℕ, ◌<◌, List, [], ◌∷◌, ◌++◌, length, set, Bool, true, false, not, ltb, refl, sym}
-use Rattle.std.proofs.Common.{ap, arith, append-nil, ◌∙◌, subst, get_or-set_same}
-use Rattle.std.proofs.lemmas.Bool.Decides.{nat_tests}
+use Rattle.std.proofs.Common.{◌≡◌, ℕ, ◌<◌, List, [], ◌∷◌, ◌++◌, length, set, Bool, true, false, not, ltb, refl, sym, ap, arith}
+use Rattle.std.proofs.Common.{append-nil, ◌∙◌, subst, get_or-set_same}
 use Rattle.std.specs.Prelude.{Option, Some, None, reverse}
-use Rattle.executor_model.specs.declared.call.Call.{Call}
-use Rattle.executor_model.specs.declared.call.Reply.{Reply}
-use Rattle.executor_model.specs.declared.event.Event.TheVariants as event
-use Rattle.executor_model.specs.declared.op.Hold.{Hold}
-use Rattle.executor_model.specs.declared.op.Op.{Op}
-use Rattle.executor_model.specs.declared.op.Op.TheVariants as op
-use Rattle.executor_model.specs.declared.step.Hint.{Hint}
-use Rattle.executor_model.specs.declared.step.Step.{Step}
-use Rattle.executor_model.specs.declared.step.Step.TheVariants.{Begin, Go, Answer}
-use Rattle.executor_model.specs.declared.step.StepError.{StepError}
-use Rattle.executor_model.specs.declared.step.StepError.TheVariants.{NoSuch, Waits, WrongAnswer}
-use Rattle.executor_model.specs.declared.step.UserEnd.{UserEnd}
-use Rattle.executor_model.specs.World.{World, Lock, Done, done, log}
-use Rattle.executor_model.specs.Doing.{act}
-use Rattle.executor_model.specs.Steps.{Machine, stack, top, below_top, mine, begin_refusal, waits}
-use Rattle.executor_model.specs.Steps.{go_refusal, answer_refusal, accepts, is_locked_out, unless, party_of}
-use Rattle.executor_model.specs.Steps.{part_refusal}
-use Rattle.executor_model.specs.Steps.{refusal, begun, react, Part, end_of, settled_by, onto, gone_on}
-use Rattle.executor_model.specs.Steps.{part_after, with_part, step_by, step, stepped, run}
-use Rattle.std.proofs.lemmas.List.{set-set}
-use Rattle.std.proofs.Math.ListN.{length-set}
-use Rattle.executor_model.specs.Good.{Good}
-use Rattle.executor_model.proofs.Steps.Lift.{topped, unsettled, good-stepped}
+use Rattle.std.{proofs.lemmas.Bool.Decides.nat_tests, proofs.lemmas.List.set-set, proofs.Math.ListN.length-set}
+use Rattle.executor_model.proofs.Types.{Call, Reply, Event, Hold, Op, Hint, Step, Begin, Go, StepError, NoSuch, WrongAnswer}
+use Rattle.executor_model.specs.declared.{step.Step.TheVariants.Answer, step.StepError.TheVariants.Waits}
+use Rattle.executor_model.specs.Steps.{Machine, stack, top, below_top, mine, begin_refusal, waits, go_refusal, answer_refusal}
+use Rattle.executor_model.specs.Steps.{accepts, is_locked_out, unless, party_of, part_refusal, refusal, begun, react, Part}
+use Rattle.executor_model.specs.Steps.{end_of, settled_by, onto, gone_on, part_after, with_part, step_by, step, stepped, run}
+use Rattle.executor_model.specs.{World.World, World.Lock, World.Done, World.done, World.log, Doing.act, Good.Good}
+use Rattle.executor_model.proofs.{Types.UserEnd, Steps.Lift.topped, Steps.Lift.unsettled, Steps.Lift.good-stepped}
 
 -- how party p came from having old on top of rest to d
 pub data Way (s : Machine) (p : ℕ) (old rest : List Op) (d : Done) : Type 0 where
   acted : (h : Hint) (o : Op) → old ≡ o ∷ [] → d ≡ act p h o s.world → Way s p old rest d
   reacted : (o : Op) (e : UserEnd) → accepts o e ≡ true → old ≡ o ∷ [] → d ≡ react p o e s.world → Way s p old rest d
   called : (c : Call) → old ≡ [] → rest ≡ stack s p → begin_refusal s.world s.parties (top (stack s p)) c ≡ None →
-      d ≡ begun p (log s.world (event.CallBegun p c)) (mine (top (stack s p))) c → Way s p old rest d
+      d ≡ begun p (log s.world (Event.CallBegun p c)) (mine (top (stack s p))) c → Way s p old rest d
 
 -- no other party has the lock that it waits for
 abbrev pub HasWay : Lock → List Op → Type 0
@@ -49,7 +33,7 @@ goes-way true b e = absurd (cc)
 
 -- user code waits for no lock
 answers-way : (l : Lock) (o : Op) (u : UserEnd) → accepts o u ≡ true → is_locked_out l o ≡ false
-answers-way l (op.User o) u e = refl
+answers-way l (Op.User o) u e = refl
 answers-way l _ u e = absurd (cc)
 
 pub record Made (s : Machine) (p : ℕ) (os : Part) : Type 0 where
@@ -100,7 +84,7 @@ made s (Begin p c) k =
     record {
       old = [];
       rest = stack s p;
-      d = begun p (log s.world (event.CallBegun p c)) (mine (top (stack s p))) c;
+      d = begun p (log s.world (Event.CallBegun p c)) (mine (top (stack s p))) c;
       was = sym (append-nil (stack s p));
       now = refl;
       way = called c refl refl k refl;
@@ -115,20 +99,20 @@ module _
     (moves : (s : Machine) (p : ℕ) (old rest : List Op) (d : Done) → Good s → p < length s.parties →
     stack s p ≡ rest ++ reverse old → HasWay s.world.lock old → Way s p old rest d → P s → P (unsettled s p rest d))
     (ends : (s : Machine) (p : ℕ) (a : Reply) (held : Hold) (below : List Op) → p < length s.parties →
-    stack s p ≡ below ++ reverse (op.End a held ∷ []) → P s →
-    P (unsettled s p below (done (log s.world (event.CallEnded p a)) [])))
+    stack s p ≡ below ++ reverse (Op.End a held ∷ []) → P s →
+    P (unsettled s p below (done (log s.world (Event.CallEnded p a)) [])))
   where
     ended : (s : Machine) (p : ℕ) (os : List Op) (w : World) (o : Option Op) → p < length s.parties → top os ≡ o →
         P (record { world = w; parties = set s.parties p os }) → P (with_part s p (settled_by (end_of o) p w os))
     ended s p os w None h e k = k
-    ended s p os w (Some (op.End a held)) h e k =
+    ended s p os w (Some (Op.End a held)) h e k =
         let t : Machine = record { world = w; parties = set s.parties p os } in
         let l : p < length t.parties = omega (arith, h, length-set s.parties p os) in
-        let q : stack t p ≡ below_top os ++ reverse (op.End a held ∷ []) = get_or-set_same s.parties p os [] h
-        ∙ topped os (op.End a held) e in
-        let n : P (unsettled t p (below_top os) (done (log w (event.CallEnded p a)) [])) =
+        let q : stack t p ≡ below_top os ++ reverse (Op.End a held ∷ []) = get_or-set_same s.parties p os [] h
+        ∙ topped os (Op.End a held) e in
+        let n : P (unsettled t p (below_top os) (done (log w (Event.CallEnded p a)) [])) =
         ends t p a held (below_top os) l q k in
-        subst (λ (ss : List (List Op)). P (record { world = log w (event.CallEnded p a); parties = ss }))
+        subst (λ (ss : List (List Op)). P (record { world = log w (Event.CallEnded p a); parties = ss }))
         (ap (set (set s.parties p os) p) (append-nil (below_top os)) ∙ set-set s.parties p os (below_top os)) n
     ended s p os w (Some _) h e k = k
 
@@ -167,8 +151,8 @@ module _
     (moves : (s : Machine) (p : ℕ) (old rest : List Op) (d : Done) → Good s → p < length s.parties →
     stack s p ≡ rest ++ reverse old → Way s p old rest d → P s → P (unsettled s p rest d))
     (ends : (s : Machine) (p : ℕ) (a : Reply) (held : Hold) (below : List Op) → p < length s.parties →
-    stack s p ≡ below ++ reverse (op.End a held ∷ []) → P s →
-    P (unsettled s p below (done (log s.world (event.CallEnded p a)) [])))
+    stack s p ≡ below ++ reverse (Op.End a held ∷ []) → P s →
+    P (unsettled s p below (done (log s.world (Event.CallEnded p a)) [])))
   where
     pub along : (ts : List Step) (s : Machine) → Good s → P s → P (run ts s)
     along = along-free P (λ s p old rest d good l e free way k. moves s p old rest d good l e way k) ends

@@ -1,16 +1,10 @@
 -- For the_closing_drop_keeps_the_order and the_closing_drop_wakes_in_order.
 -- Lists of rising numbers, and which futures a trace has accepted and dropped, as more happens.
-use Rattle.std.proofs.Common.{◌≡◌, ℕ, ◌<◌, ◌≤◌, List, [], ◌∷◌, ◌++◌, Bool, true, false, eqb, refl, sym, ap}
-use Rattle.std.proofs.Common.{◌∙◌, arith, append-nil}
-use Rattle.executor_model.specs.declared.event.Event.{Event}
-use Rattle.executor_model.specs.declared.event.Event.TheVariants as event
+use Rattle.std.proofs.Common.{◌≡◌, ℕ, ◌<◌, ◌≤◌, List, [], ◌∷◌, ◌++◌, Bool, true, false, eqb, refl, sym, ap, ◌∙◌, arith}
+use Rattle.std.proofs.Common.{append-nil}
 use Rattle.executor_model.specs.ClosingOrder.{AllAbove, Ascends, accepted_in, dropped_in, dropped_since}
-use Rattle.executor_model.specs.Sound.{times}
-use Rattle.executor_model.specs.Trace.{Trace, has, is_drop_begun}
-use Rattle.executor_model.specs.Weights.{same}
-use Rattle.executor_model.specs.World.{without}
-use Rattle.executor_model.proofs.Steps.Hushed.{is_hushed}
-use Rattle.executor_model.proofs.Steps.Lists.{same_cases}
+use Rattle.executor_model.specs.{Sound.times, Trace.Trace, Trace.has, Trace.is_drop_begun, Weights.same, World.without}
+use Rattle.executor_model.proofs.{Types.Event, Steps.Hushed.is_hushed, Steps.Lists.same_cases}
 
 -- rising numbers
 
@@ -64,64 +58,64 @@ nothing-there (x ∷ xs) k = absurd (omega (arith, k x, same-self x))
 
 -- a future comes or goes, or the executor's drop begins
 abbrev pub tells_order : Event → Bool
-tells_order (event.Accepted p f) = true
-tells_order (event.Dropped p f) = true
-tells_order (event.DropBegun p) = true
+tells_order (Event.Accepted p f) = true
+tells_order (Event.Dropped p f) = true
+tells_order (Event.DropBegun p) = true
 tells_order _ = false
 
 pub hushed-order : (e : Event) → is_hushed e ≡ true → tells_order e ≡ false
-hushed-order (event.Accepted p f) z = absurd (cc)
-hushed-order (event.Dropped p f) z = absurd (cc)
-hushed-order (event.DropBegun p) z = absurd (cc)
+hushed-order (Event.Accepted p f) z = absurd (cc)
+hushed-order (Event.Dropped p f) z = absurd (cc)
+hushed-order (Event.DropBegun p) z = absurd (cc)
 hushed-order _ z = refl
 
 pub accepted-append : (es more : Trace) → accepted_in (es ++ more) ≡ accepted_in es ++ accepted_in more
 accepted-append [] more = refl
-accepted-append (event.Accepted p f ∷ es) more = ap (λ (xs : List ℕ). f ∷ xs) (accepted-append es more)
+accepted-append (Event.Accepted p f ∷ es) more = ap (λ (xs : List ℕ). f ∷ xs) (accepted-append es more)
 accepted-append (_ ∷ es) more = accepted-append es more
 
 dropped-append : (es more : Trace) → dropped_in (es ++ more) ≡ dropped_in es ++ dropped_in more
 dropped-append [] more = refl
-dropped-append (event.Dropped p f ∷ es) more = ap (λ (xs : List ℕ). f ∷ xs) (dropped-append es more)
+dropped-append (Event.Dropped p f ∷ es) more = ap (λ (xs : List ℕ). f ∷ xs) (dropped-append es more)
 dropped-append (_ ∷ es) more = dropped-append es more
 
 pub since-append : (es more : Trace) → has is_drop_begun es ≡ true →
     dropped_since (es ++ more) ≡ dropped_since es ++ dropped_in more
 since-append [] more h = absurd (cc)
-since-append (event.DropBegun p ∷ es) more h = dropped-append es more
+since-append (Event.DropBegun p ∷ es) more h = dropped-append es more
 since-append (_ ∷ es) more h = since-append es more h
 
 pub since-late : (es more : Trace) → has is_drop_begun es ≡ false → dropped_since (es ++ more) ≡ dropped_since more
 since-late [] more h = refl
-since-late (event.DropBegun p ∷ es) more h = absurd (cc)
+since-late (Event.DropBegun p ∷ es) more h = absurd (cc)
 since-late (_ ∷ es) more h = since-late es more h
 
 pub since-none : (es : Trace) → has is_drop_begun es ≡ false → dropped_since es ≡ []
 since-none [] h = refl
-since-none (event.DropBegun p ∷ es) h = absurd (cc)
+since-none (Event.DropBegun p ∷ es) h = absurd (cc)
 since-none (_ ∷ es) h = since-none es h
 
 -- where nothing more is told of these
 
 none-accepted : (more : Trace) → has tells_order more ≡ false → accepted_in more ≡ []
 none-accepted [] h = refl
-none-accepted (event.Accepted p f ∷ es) h = absurd (cc)
-none-accepted (event.Dropped p f ∷ es) h = absurd (cc)
-none-accepted (event.DropBegun p ∷ es) h = absurd (cc)
+none-accepted (Event.Accepted p f ∷ es) h = absurd (cc)
+none-accepted (Event.Dropped p f ∷ es) h = absurd (cc)
+none-accepted (Event.DropBegun p ∷ es) h = absurd (cc)
 none-accepted (_ ∷ es) h = none-accepted es h
 
 none-dropped : (more : Trace) → has tells_order more ≡ false → dropped_in more ≡ []
 none-dropped [] h = refl
-none-dropped (event.Accepted p f ∷ es) h = absurd (cc)
-none-dropped (event.Dropped p f ∷ es) h = absurd (cc)
-none-dropped (event.DropBegun p ∷ es) h = absurd (cc)
+none-dropped (Event.Accepted p f ∷ es) h = absurd (cc)
+none-dropped (Event.Dropped p f ∷ es) h = absurd (cc)
+none-dropped (Event.DropBegun p ∷ es) h = absurd (cc)
 none-dropped (_ ∷ es) h = none-dropped es h
 
 none-since : (more : Trace) → has tells_order more ≡ false → dropped_since more ≡ []
 none-since [] h = refl
-none-since (event.Accepted p f ∷ es) h = absurd (cc)
-none-since (event.Dropped p f ∷ es) h = absurd (cc)
-none-since (event.DropBegun p ∷ es) h = absurd (cc)
+none-since (Event.Accepted p f ∷ es) h = absurd (cc)
+none-since (Event.Dropped p f ∷ es) h = absurd (cc)
+none-since (Event.DropBegun p ∷ es) h = absurd (cc)
 none-since (_ ∷ es) h = none-since es h
 
 pub accepted-same : (es more : Trace) → has tells_order more ≡ false → accepted_in (es ++ more) ≡ accepted_in es

@@ -1,35 +1,24 @@
 -- For table_and_queue_agree, no_append_is_refused_full, the_limit_is_exact, drops_come_once, early_drops_have_causes
 -- and closing_drops_each_future_once.
 -- A future is only polled, dropped or taken out of the table for good inside of a call that uses the executor.
-use Rattle.std.proofs.Common.{◌≡◌, ℕ, zero, suc, ◌+◌, ◌<◌, ◌≤◌, List, [], ◌∷◌, ◌++◌, length, set, get_or}
-use Rattle.std.proofs.Common.{Bool, true, false, ◌||◌, cond, ltb, refl, ap, ◌∙◌, arith}
+use Rattle.std.proofs.Common.{◌≡◌, ℕ, zero, suc, ◌+◌, ◌<◌, ◌≤◌, List, [], ◌∷◌, ◌++◌, length, set, get_or, Bool, true, false}
+use Rattle.std.proofs.Common.{◌||◌, cond, ltb, refl, ap, ◌∙◌, arith}
 use Rattle.std.specs.Prelude.{reverse}
-use Rattle.executor_model.specs.declared.op.Op.{Op}
-use Rattle.executor_model.specs.declared.op.Op.TheVariants as op
-use Rattle.executor_model.specs.declared.op.ClosingOp.TheVariants as closing_op
-use Rattle.executor_model.specs.declared.op.HandleOp.TheVariants as handle_op
-use Rattle.executor_model.specs.declared.op.WakerOp.TheVariants as waker_op
-use Rattle.executor_model.specs.declared.op.QueueOp.TheVariants as queue_op
-use Rattle.task_moves.specs.declared.moves.owed.Move.TheVariants as move
-use Rattle.executor_model.specs.declared.op.SleeperOp.TheVariants as sleeper_op
-use Rattle.executor_model.specs.declared.op.TableOp.TheVariants as table_op
-use Rattle.executor_model.specs.declared.op.TickOp.TheVariants as tick_op
-use Rattle.executor_model.specs.declared.op.UserOp.TheVariants as user_op
-use Rattle.executor_model.specs.Weights.{weigh, weigh_all}
+use Rattle.executor_model.proofs.Types.{Op, ClosingOp, HandleOp, WakerOp, QueueOp, Move, SleeperOp, TableOp, TickOp, UserOp}
+use Rattle.executor_model.specs.{Weights.weigh, Weights.weigh_all, Rows.Row, Rows.borrowing_of, Rows.drops_of, Rows.leaves_of}
 use Rattle.executor_model.proofs.Steps.Lists.{same_is, weigh-reverse}
-use Rattle.executor_model.specs.Rows.{Row, borrowing_of, drops_of, leaves_of}
 use Rattle.executor_model.proofs.Steps.RunsPlain.{plain-list, plain-run, plain-steal}
 
 -- what is only done inside of such a call
 abbrev pub uses_of : Op → ℕ
-uses_of (op.Move move.TakeUp f) = 1
-uses_of (op.Table (table_op.TakeToPoll f)) = 1
-uses_of (op.User (user_op.Poll f)) = 1
-uses_of (op.Table (table_op.PutBack f)) = 1
-uses_of (op.Move move.EndPending f) = 1
-uses_of (op.Table (table_op.TakeToDrop f)) = 1
-uses_of (op.User (user_op.BeginDrop f)) = 1
-uses_of (op.Table (table_op.LeaveTable f)) = 1
+uses_of (Op.Move Move.TakeUp f) = 1
+uses_of (Op.Table (TableOp.TakeToPoll f)) = 1
+uses_of (Op.User (UserOp.Poll f)) = 1
+uses_of (Op.Table (TableOp.PutBack f)) = 1
+uses_of (Op.Move Move.EndPending f) = 1
+uses_of (Op.Table (TableOp.TakeToDrop f)) = 1
+uses_of (Op.User (UserOp.BeginDrop f)) = 1
+uses_of (Op.Table (TableOp.LeaveTable f)) = 1
 uses_of _ = 0
 
 abbrev pub holds : Op → Bool
@@ -111,23 +100,23 @@ none-uses (s ∷ ss) e z =
     omega (arith, unheld-stack s (omega (arith, e)), none-uses ss (omega (arith, e)) (omega (arith, z)), z)
 
 drop-uses : (g : ℕ) (o : Op) → drops_of g o + leaves_of g o ≤ uses_of o
-drop-uses g (op.Table (table_op.TakeToDrop f)) = grind (arith, same_is)
-drop-uses g (op.User (user_op.BeginDrop f)) = grind (arith, same_is)
-drop-uses g (op.Table (table_op.LeaveTable f)) = grind (arith, same_is)
-drop-uses g (op.Move move.Wake f) = omega arith
-drop-uses g (op.Queue queue_op.TakeTurn) = omega arith
-drop-uses g (op.Queue (queue_op.Take look)) = omega arith
-drop-uses g (op.Waker (waker_op.CopyWaker f held)) = omega arith
-drop-uses g (op.Handle (handle_op.LookAgain f)) = omega arith
-drop-uses g (op.Sleeper sleeper_op.HandOut) = omega arith
-drop-uses g (op.Tick tick_op.MakeTick) = omega arith
-drop-uses g (op.List o) =
+drop-uses g (Op.Table (TableOp.TakeToDrop f)) = grind (arith, same_is)
+drop-uses g (Op.User (UserOp.BeginDrop f)) = grind (arith, same_is)
+drop-uses g (Op.Table (TableOp.LeaveTable f)) = grind (arith, same_is)
+drop-uses g (Op.Move Move.Wake f) = omega arith
+drop-uses g (Op.Queue QueueOp.TakeTurn) = omega arith
+drop-uses g (Op.Queue (QueueOp.Take look)) = omega arith
+drop-uses g (Op.Waker (WakerOp.CopyWaker f held)) = omega arith
+drop-uses g (Op.Handle (HandleOp.LookAgain f)) = omega arith
+drop-uses g (Op.Sleeper SleeperOp.HandOut) = omega arith
+drop-uses g (Op.Tick TickOp.MakeTick) = omega arith
+drop-uses g (Op.List o) =
     omega (arith, ap (λ (x : Row). x.drops g) (plain-list o), ap (λ (x : Row). x.leaves g) (plain-list o))
-drop-uses g (op.Steal o) =
+drop-uses g (Op.Steal o) =
     omega (arith, ap (λ (x : Row). x.drops g) (plain-steal o), ap (λ (x : Row). x.leaves g) (plain-steal o))
-drop-uses g (op.Run o) =
+drop-uses g (Op.Run o) =
     omega (arith, ap (λ (x : Row). x.drops g) (plain-run o), ap (λ (x : Row). x.leaves g) (plain-run o))
-drop-uses g (op.Closing (closing_op.Drain mark)) = omega arith
+drop-uses g (Op.Closing (ClosingOp.Drain mark)) = omega arith
 drop-uses g _ = omega arith
 
 drop-uses-stack : (g : ℕ) (os : List Op) → weigh (drops_of g) os + weigh (leaves_of g) os ≤ weigh uses_of os

@@ -1,29 +1,16 @@
 -- For the_table_is_kept.
 -- The table has no more entries than the limit.
 use Rattle.std.proofs.Common.{◌≡◌, ℕ, ◌<◌, ◌≤◌, List, [], ◌∷◌, length, Bool, true, false, ap, arith}
-use Rattle.std.proofs.lemmas.Bool.Decides.{nat_tests}
-use Rattle.std.proofs.lemmas.List.{length-append}
-use Rattle.executor_model.specs.declared.kind.Kind.{Kind}
-use Rattle.executor_model.specs.declared.event.Event.{Event}
-use Rattle.executor_model.specs.declared.event.Event.TheVariants as event
-use Rattle.executor_model.specs.declared.op.Op.{Op}
-use Rattle.executor_model.specs.declared.op.Op.TheVariants as op
-use Rattle.executor_model.specs.declared.step.Step.{Step}
-use Rattle.executor_model.specs.Acts.{is_last_waker, is_told, told_as}
-use Rattle.executor_model.specs.Steps.{Machine, run, start}
-use Rattle.executor_model.specs.TableKeeps.{IsTableBound}
-use Rattle.executor_model.specs.World.{World, Done, done, log_if, task}
-use Rattle.executor_model.proofs.OneFuture.Effects.{Effect}
-use Rattle.executor_model.proofs.OneFuture.Effects.Effect.{passes, turns, refuses, enters, unlists, drops, takes_out, drops_next}
+use Rattle.std.{proofs.lemmas.Bool.Decides.nat_tests, proofs.lemmas.List.length-append}
+use Rattle.executor_model.specs.{Acts.is_last_waker, Acts.is_told, Acts.told_as, Steps.Machine, Steps.run, Steps.start}
+use Rattle.executor_model.specs.{TableKeeps.IsTableBound, World.World, World.Done, World.done, World.log_if, World.task}
+use Rattle.executor_model.proofs.OneFuture.Effects.Effect.{passes, turns, refuses, enters, unlists, drops, takes_out}
+use Rattle.executor_model.proofs.OneFuture.Effects.Effect.{drops_next, leaks, leaks_out}
 use Rattle.executor_model.proofs.OneFuture.EffectsWays.{Effects, effects-way}
 use Rattle.executor_model.proofs.OneFuture.EffectsWays.Effects.{does, pends, readies, closes}
-use Rattle.executor_model.proofs.OneFuture.Extras.{no_extra}
-use Rattle.executor_model.proofs.OneFuture.Passes.{GoesBy}
-use Rattle.executor_model.proofs.OneFuture.Stories.{length-without, no-longer}
-use Rattle.executor_model.proofs.OneFuture.Views.{none}
-use Rattle.executor_model.proofs.Steps.Lift.{good-start}
-use Rattle.executor_model.proofs.Steps.Ways.{along}
-use Rattle.executor_model.proofs.OneFuture.Effects.Effect.{leaks, leaks_out}
+use Rattle.executor_model.proofs.{Types.Kind, Types.Event, Types.Op, Types.Step, OneFuture.Effects.Effect}
+use Rattle.executor_model.proofs.{OneFuture.Extras.no_extra, OneFuture.Passes.GoesBy, OneFuture.Stories.length-without}
+use Rattle.executor_model.proofs.{OneFuture.Stories.no-longer, OneFuture.Views.none, Steps.Lift.good-start, Steps.Ways.along}
 
 -- the table, and those that the drop of the executor has taken out of it
 pub record Bound (w : World) : Type 0 where
@@ -50,11 +37,11 @@ bound-log_if false w e h = h
 bound-effect : (w : World) (old : List Op) (d : Done) → Effect w old d → KeepsBound w d.world
 bound-effect w old d (passes s) h = bound-goes w d.world old d.next s h
 bound-effect w old _ (turns d m p f v more i j k s a e) h =
-    let x : Bound v = bound-goes w v old (op.Move m f ∷ more) s h in
+    let x : Bound v = bound-goes w v old (Op.Move m f ∷ more) s h in
     let t : World = log_if (is_told m (task v f)) v (told_as m p f) in
     let z : Bound t = bound-log_if (is_told m (task v f)) v (told_as m p f) x in
-    let u : World = log_if (is_last_waker m (task v f)) t (event.LastWaker p f) in
-    let y : Bound u = bound-log_if (is_last_waker m (task v f)) t (event.LastWaker p f) z in
+    let u : World = log_if (is_last_waker m (task v f)) t (Event.LastWaker p f) in
+    let y : Bound u = bound-log_if (is_last_waker m (task v f)) t (Event.LastWaker p f) z in
     record {
       table = omega (arith, y.table, ap (λ (z : World). length z.table) a, ap (λ (z : World). z.limit) a);
       leaving = omega (arith, y.leaving, ap (λ (z : World). length z.leaving) a, ap (λ (z : World). z.limit) a);

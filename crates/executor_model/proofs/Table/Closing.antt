@@ -1,73 +1,41 @@
 -- For the_closing_drop_keeps_the_order and the_closing_drop_wakes_in_order.
 -- The table has the futures in the order of acceptance, so the executor's drop, which goes through it, drops them so; and a
 -- leak wakes them so.
-use Rattle.std.proofs.Common.{◌≡◌, ◌⊎◌, ℕ, ◌+◌, ◌<◌, ◌≤◌, List, [], ◌∷◌, ◌++◌, length, Bool, true, false, not, inl, inr}
-use Rattle.std.proofs.Common.{◌&&◌, ◌||◌, cond, eqb, zero, suc}
-use Rattle.std.specs.Prelude.{fold}
-use Rattle.std.proofs.Common.{⊎_elim, refl, sym, ap, ◌∙◌, subst, arith, append-nil}
-use Rattle.std.proofs.lemmas.List.{append_assoc}
-use Rattle.std.specs.Prelude.{reverse}
-use Rattle.executor_parts.specs.declared.mark.Mark.{Mark}
-use Rattle.task_moves.specs.Moves as moves
-use Rattle.task_moves.specs.declared.moves.owed.Move.{Move}
-use Rattle.task_moves.specs.declared.moves.owed.Move.TheVariants as move
-use Rattle.executor_model.specs.declared.call.Call.{Call}
-use Rattle.executor_model.specs.declared.call.Call.TheVariants as call
-use Rattle.executor_model.specs.declared.call.Reply.{Reply}
-use Rattle.executor_model.specs.declared.event.Event.{Event}
-use Rattle.executor_model.specs.declared.event.Event.TheVariants as event
-use Rattle.executor_model.specs.declared.kind.Kind.{Kind}
-use Rattle.executor_model.specs.declared.op.ClosingOp.TheVariants as closing_op
-use Rattle.executor_model.specs.declared.op.Hold.{Hold}
-use Rattle.executor_model.specs.declared.op.Op.{Op}
-use Rattle.executor_model.specs.declared.op.Op.TheVariants as op
-use Rattle.executor_model.specs.declared.op.RunOp.TheVariants as run_op
-use Rattle.executor_model.specs.declared.op.SleeperOp.TheVariants as sleeper_op
-use Rattle.executor_model.specs.declared.op.TableOp.TheVariants as table_op
-use Rattle.executor_model.specs.declared.op.UserOp.TheVariants as user_op
-use Rattle.executor_model.specs.declared.op.WakerOp.TheVariants as waker_op
-use Rattle.executor_model.specs.declared.step.Hint.{Hint}
-use Rattle.executor_model.specs.declared.step.Step.{Step}
+use Rattle.std.proofs.Common.{◌≡◌, ◌⊎◌, ℕ, ◌+◌, ◌<◌, ◌≤◌, List, [], ◌∷◌, ◌++◌, length, Bool, true, false, not, inl, inr, ◌&&◌}
+use Rattle.std.proofs.Common.{◌||◌, cond, eqb, zero, suc, ⊎_elim, refl, sym, ap, ◌∙◌, subst, arith, append-nil}
+use Rattle.std.{specs.Prelude.fold, specs.Prelude.reverse, proofs.lemmas.List.append_assoc}
+use Rattle.executor_model.proofs.Types.{Mark, Move, Call, Reply, Event, Kind, ClosingOp, Hold, Op, RunOp, SleeperOp, TableOp}
+use Rattle.executor_model.proofs.Types.{UserOp, WakerOp, Hint, Step}
 use Rattle.executor_model.specs.Acts.{closing_ops, drop_next_by, enter_by, leak_next_by, leak_out_by, leave_by, move_by}
-use Rattle.executor_model.specs.Acts.{wake_next_by}
 use Rattle.executor_model.specs.ClosingOrder.{Ascends, DropsInOrder, accepted_in, dropped_in, dropped_since}
-use Rattle.executor_model.specs.Doing.{act}
-use Rattle.executor_model.specs.Good.{Good}
 use Rattle.executor_model.specs.Rows.{borrowing_of, drops_of, leaves_of, ousting_of}
-use Rattle.executor_model.specs.Sound.{times}
-use Rattle.executor_model.specs.Steps.{Machine, begun, is_on_executor, mine, react, run, stack}
-use Rattle.executor_model.specs.Steps.{start, top}
+use Rattle.executor_model.specs.Steps.{Machine, begun, is_on_executor, mine, react, run, stack, start, top}
 use Rattle.executor_model.specs.Trace.{Trace, has, is_accepted, is_drop_begun}
-use Rattle.executor_model.specs.Weights.{same, weigh, weigh_all}
-use Rattle.executor_model.specs.World.{World, Done, done, log, task}
-use Rattle.executor_model.proofs.OneFuture.Effects.{Effect}
-use Rattle.executor_model.proofs.OneFuture.Effects.Effect.{passes, turns, refuses, enters, unlists, drops, takes_out, drops_next}
-use Rattle.executor_model.proofs.OneFuture.Effects.Effect.{leaks_out, leaks}
+use Rattle.executor_model.specs.{Acts.wake_next_by, Doing.act, Good.Good, Sound.times, Weights.same, Weights.weigh}
+use Rattle.executor_model.specs.{Weights.weigh_all, World.World, World.Done, World.done, World.log, World.task}
+use Rattle.executor_model.proofs.OneFuture.Effects.Effect.{passes, turns, refuses, enters, unlists, drops, takes_out}
+use Rattle.executor_model.proofs.Steps.Hushed.{Hushed, Hushes, hushed-act, hushed-called, hushed-leak_next, hushed-react}
+use Rattle.executor_model.proofs.Table.Ascending.{accepted-append, accepted-same, ascends-left, ascends-push, ascends-without}
+use Rattle.executor_model.proofs.Table.Ascending.{hushed-order, nothing-there, since-append, since-late, since-none, since-same}
+use Rattle.executor_model.proofs.OneFuture.Effects.Effect.{drops_next, leaks_out, leaks}
 use Rattle.executor_model.proofs.OneFuture.EffectsWays.{Effects, effects-way}
 use Rattle.executor_model.proofs.OneFuture.EffectsWays.Effects.{does, pends, readies, closes}
-use Rattle.executor_model.proofs.OneFuture.Extras.{no_extra}
-use Rattle.executor_model.proofs.OneFuture.Stories.{story}
 use Rattle.executor_model.proofs.OneFuture.Telling.{accepted-counts, begun-has, same-cond}
-use Rattle.executor_model.proofs.OneFuture.Views.{none}
 use Rattle.executor_model.proofs.Steps.Asides.{Aside, aside-entry, aside-leaking, aside-owed}
-use Rattle.executor_model.proofs.Steps.Growing.{split}
-use Rattle.executor_model.proofs.Steps.Hushed.{Hushed, Hushes, hushed-act, hushed-called, hushed-leak_next, hushed-react}
-use Rattle.executor_model.proofs.Steps.Hushed.{hushed-wake_next}
 use Rattle.executor_model.proofs.Steps.Lift.{good-start, none_refused, unsettled}
 use Rattle.executor_model.proofs.Steps.Listing.{Entries, entries, entries-move, lists, same-begun, same-entries, same-react}
 use Rattle.executor_model.proofs.Steps.Lists.{same_cases, weigh-append, weigh_all-push}
-use Rattle.executor_model.proofs.Steps.Ways.{Way, along}
 use Rattle.executor_model.proofs.Steps.Ways.Way.{acted, called, reacted}
-use Rattle.executor_model.proofs.Table.Ascending.{accepted-append, accepted-same, ascends-left, ascends-push, ascends-without}
-use Rattle.executor_model.proofs.Table.Ascending.{hushed-order, nothing-there, since-append, since-late, since-none, since-same}
-use Rattle.executor_model.proofs.Table.Ascending.{tells_order}
-use Rattle.executor_model.proofs.Table.Leaking.{static-effects}
 use Rattle.executor_model.proofs.Table.LeavingExecutions.{Placed, placed-ends, placed-moves, placed-start}
+use Rattle.executor_model.proofs.{OneFuture.Effects.Effect, OneFuture.Extras.no_extra, OneFuture.Stories.story}
+use Rattle.executor_model.proofs.{OneFuture.Views.none, Steps.Growing.split, Steps.Hushed.hushed-wake_next, Steps.Ways.Way}
+use Rattle.executor_model.proofs.{Steps.Ways.along, Table.Ascending.tells_order, Table.Leaking.static-effects}
+use Rattle.task_moves.specs.Moves as moves
 
 -- nothing leads to the taking out of the table but the beginning of the executor's drop
 
-no-oust : (m : Move) (f : ℕ) → ousting_of (op.Move m f) ≡ 0
-no-oust move.Wake f = refl
+no-oust : (m : Move) (f : ℕ) → ousting_of (Op.Move m f) ≡ 0
+no-oust Move.Wake f = refl
 no-oust _ f = refl
 
 ousts-aside : Aside ousting_of
@@ -107,7 +75,7 @@ ousts-effect w old d (drops p f) = omega arith
 ousts-effect w old d takes_out = omega (arith, ousts-closing w.table w.waking)
 ousts-effect w old d (drops_next p f rest e) = omega (arith, ousts-closing rest (w.waking ++ f ∷ []))
 ousts-effect w old d (leaks_out s n) = omega (arith, aside-leaking ousting_of refl (w.waking ++ w.table))
-ousts-effect w old _ (leaks d p f e a) = ousts-effect w (op.Closing closing_op.LeakNext ∷ []) d e
+ousts-effect w old _ (leaks d p f e a) = ousts-effect w (Op.Closing ClosingOp.LeakNext ∷ []) d e
 
 ousts : (w : World) (ss : List (List Op)) (old : List Op) (d : Done) → Effects w ss old d →
     (weigh ousting_of d.next ≤ weigh ousting_of old) ⊎ (w.gone ≡ false)
@@ -139,7 +107,7 @@ some-last (x ∷ xs) f e = absurd (cc)
 accepted-from : (g n : ℕ) (es : Trace) →
     n + times g (accepted_in es) ≡ fold (λ a x. a + cond (is_accepted g x) 1 0) n es
 accepted-from g n [] = omega arith
-accepted-from g n (event.Accepted p f ∷ es) =
+accepted-from g n (Event.Accepted p f ∷ es) =
     omega (arith, accepted-from g (n + cond (eqb g f) 1 0) es, same-cond g f)
 accepted-from g n (_ ∷ es) = omega (arith, accepted-from g (n + 0) es)
 
@@ -208,7 +176,7 @@ module _ (s : Machine) (fine : Good s) (h : Ordered s) where
   after-enter true c mark p n = unchanged
   after-enter false true mark p n = unchanged
   after-enter false false mark p n =
-      let e : Event = event.Accepted p (length s.world.tasks) in record {
+      let e : Event = Event.Accepted p (length s.world.tasks) in record {
         accepted = subst Ascends (sym (accepted-append s.world.trace (e ∷ [])))
             (ascends-push (accepted_in s.world.trace) (length s.world.tasks) known h.accepted);
         table = ascends-push s.world.table (length s.world.tasks) (entered n) h.table;
@@ -231,9 +199,9 @@ module _ (s : Machine) (fine : Good s) (h : Ordered s) where
   after-leave false f = unchanged
 
   -- a future's drop begins, where the executor's hasn't
-  after-drop : (p f : ℕ) → s.world.gone ≡ false → After (log s.world (event.Dropped p f))
+  after-drop : (p f : ℕ) → s.world.gone ≡ false → After (log s.world (Event.Dropped p f))
   after-drop p f n =
-      let e : Event = event.Dropped p f in
+      let e : Event = Event.Dropped p f in
       let q : has is_drop_begun s.world.trace ≡ false = begun-is ∙ n in
       let z : dropped_since (s.world.trace ++ e ∷ []) ≡ dropped_since s.world.trace =
       since-late s.world.trace (e ∷ []) q ∙ sym (since-none s.world.trace q) in record {
@@ -267,7 +235,7 @@ module _ (s : Machine) (fine : Good s) (h : Ordered s) where
   after-next p (f ∷ rest) e =
       let there : 1 ≤ times f s.world.leaving = omega (arith, ap (times f) e, same-self f) in
       let gone : s.world.gone ≡ true = (fine.sound f).ousted (omega (arith, there)) in
-      let new : Event = event.Dropped p f in
+      let new : Event = Event.Dropped p f in
       let z : dropped_since (s.world.trace ++ new ∷ []) ≡ dropped_since s.world.trace ++ f ∷ [] =
       since-append s.world.trace (new ∷ []) (begun-is ∙ gone) in record {
         accepted = subst Ascends (sym (accepted-append s.world.trace (new ∷ []) ∙ append-nil (accepted_in s.world.trace)))
@@ -306,7 +274,7 @@ module _ (s : Machine) (fine : Good s) (h : Ordered s) where
   after-wake p [] e = unchanged
   after-wake p (f ∷ rest) e =
       after-woken f rest (wake_next_by p s.world (f ∷ rest)).world e
-      (entries-move true move.Wake p (record s.world { waking = rest }) f)
+      (entries-move true Move.Wake p (record s.world { waking = rest }) f)
       (hushed-wake_next tells_order hushed-order p s.world (f ∷ rest))
 
   after-leak_next : (b : Bool) (p : ℕ) (ls : List ℕ) → s.world.waking ≡ ls → After (leak_next_by b p s.world ls).world
@@ -314,7 +282,7 @@ module _ (s : Machine) (fine : Good s) (h : Ordered s) where
   after-leak_next false p [] e = unchanged
   after-leak_next false p (f ∷ rest) e =
       after-woken f rest (leak_next_by false p s.world (f ∷ rest)).world e
-      (entries-move true move.Wake p (record s.world { waking = rest }) f)
+      (entries-move true Move.Wake p (record s.world { waking = rest }) f)
       (hushed-leak_next tells_order hushed-order false p s.world (f ∷ rest))
 
   -- all are to be woken that have an entry
@@ -344,14 +312,14 @@ module _ (s : Machine) (fine : Good s) (h : Ordered s) where
 
   -- the executor's drop begins
   after-begun : (p : ℕ) → s.world.gone ≡ false →
-      After (log (record (log s.world (event.CallBegun p call.DropExecutor)) { gone = true }) (event.DropBegun p))
+      After (log (record (log s.world (Event.CallBegun p Call.DropExecutor)) { gone = true }) (Event.DropBegun p))
   after-begun p n =
-      let a : Trace = event.CallBegun p call.DropExecutor ∷ [] in
-      let more : Trace = event.CallBegun p call.DropExecutor ∷ event.DropBegun p ∷ [] in
+      let a : Trace = Event.CallBegun p Call.DropExecutor ∷ [] in
+      let more : Trace = Event.CallBegun p Call.DropExecutor ∷ Event.DropBegun p ∷ [] in
       let q : has is_drop_begun s.world.trace ≡ false = begun-is ∙ n in
-      let i : (s.world.trace ++ a) ++ event.DropBegun p ∷ [] ≡ s.world.trace ++ more =
-      append_assoc s.world.trace a (event.DropBegun p ∷ []) in
-      let z : dropped_since ((s.world.trace ++ a) ++ event.DropBegun p ∷ []) ≡ [] =
+      let i : (s.world.trace ++ a) ++ Event.DropBegun p ∷ [] ≡ s.world.trace ++ more =
+      append_assoc s.world.trace a (Event.DropBegun p ∷ []) in
+      let z : dropped_since ((s.world.trace ++ a) ++ Event.DropBegun p ∷ []) ≡ [] =
       ap dropped_since i ∙ since-late s.world.trace more q in record {
         accepted = subst Ascends (sym (ap accepted_in i
             ∙ (accepted-append s.world.trace more ∙ append-nil (accepted_in s.world.trace)))) h.accepted;
@@ -372,7 +340,7 @@ module _ (s : Machine) (fine : Good s) (h : Ordered s) where
         by false k = refl
         by true k = absurd (omega (arith, k refl, n, split borrowing_of s.parties p (o ∷ []) rest l e))
 
-    open-drop : (f : ℕ) → stack s p ≡ rest ++ reverse (op.User (user_op.BeginDrop f) ∷ []) → s.world.gone ≡ false
+    open-drop : (f : ℕ) → stack s p ≡ rest ++ reverse (Op.User (UserOp.BeginDrop f) ∷ []) → s.world.gone ≡ false
     open-drop f e = by s.world.gone (h.placed.leaves f).still
       where
         by : (b : Bool) → (b ≡ true → weigh_all (drops_of f) s.parties + weigh_all (leaves_of f) s.parties ≡ 0) → b ≡ false
@@ -381,7 +349,7 @@ module _ (s : Machine) (fine : Good s) (h : Ordered s) where
           arith,
           k refl,
           same-self f,
-          split (drops_of f) s.parties p (op.User (user_op.BeginDrop f) ∷ []) rest l e,
+          split (drops_of f) s.parties p (Op.User (UserOp.BeginDrop f) ∷ []) rest l e,
         ))
 
     plain : (t : Hint) (o : Op) → lists o ≡ false → Hushes tells_order hushed-order p o → After (act p t o s.world).world
@@ -389,29 +357,29 @@ module _ (s : Machine) (fine : Good s) (h : Ordered s) where
         (hushed-act tells_order hushed-order p t o s.world z)
 
     after-act : (t : Hint) (o : Op) → stack s p ≡ rest ++ reverse (o ∷ []) → After (act p t o s.world).world
-    after-act t (op.Table (table_op.Enter mark)) e = after-enter _ _ _ p (open-still (op.Table (table_op.Enter mark)) e (omega arith))
-    after-act t (op.Table (table_op.LeaveTable f)) e = after-leave _ f
-    after-act t (op.Closing closing_op.TakeOut) e =
-        after-out (omega (arith, split ousting_of s.parties p (op.Closing closing_op.TakeOut ∷ []) rest l e))
-    after-act t (op.Closing closing_op.DropNext) e = after-next p s.world.leaving refl
-    after-act t (op.Closing closing_op.WakeNext) e = after-wake p s.world.waking refl
-    after-act t (op.Closing closing_op.LeakOut) e = after-leak_out s.world.is_static s.world.gone refl refl
-    after-act t (op.Closing closing_op.LeakNext) e = after-leak_next _ p s.world.waking refl
-    after-act t (op.User (user_op.BeginDrop f)) e = after-drop p f (open-drop f e)
-    after-act t (op.Waker (waker_op.CallAwaiter f a k)) e = plain t (op.Waker (waker_op.CallAwaiter f a k)) refl refl
-    after-act t (op.Sleeper (sleeper_op.CallSleeper x)) e = plain t (op.Sleeper (sleeper_op.CallSleeper x)) refl refl
-    after-act t (op.Run (run_op.WakeOwn x)) e = plain t (op.Run (run_op.WakeOwn x)) refl refl
+    after-act t (Op.Table (TableOp.Enter mark)) e = after-enter _ _ _ p (open-still (Op.Table (TableOp.Enter mark)) e (omega arith))
+    after-act t (Op.Table (TableOp.LeaveTable f)) e = after-leave _ f
+    after-act t (Op.Closing ClosingOp.TakeOut) e =
+        after-out (omega (arith, split ousting_of s.parties p (Op.Closing ClosingOp.TakeOut ∷ []) rest l e))
+    after-act t (Op.Closing ClosingOp.DropNext) e = after-next p s.world.leaving refl
+    after-act t (Op.Closing ClosingOp.WakeNext) e = after-wake p s.world.waking refl
+    after-act t (Op.Closing ClosingOp.LeakOut) e = after-leak_out s.world.is_static s.world.gone refl refl
+    after-act t (Op.Closing ClosingOp.LeakNext) e = after-leak_next _ p s.world.waking refl
+    after-act t (Op.User (UserOp.BeginDrop f)) e = after-drop p f (open-drop f e)
+    after-act t (Op.Waker (WakerOp.CallAwaiter f a k)) e = plain t (Op.Waker (WakerOp.CallAwaiter f a k)) refl refl
+    after-act t (Op.Sleeper (SleeperOp.CallSleeper x)) e = plain t (Op.Sleeper (SleeperOp.CallSleeper x)) refl refl
+    after-act t (Op.Run (RunOp.WakeOwn x)) e = plain t (Op.Run (RunOp.WakeOwn x)) refl refl
     after-act t o e = plain t o refl tt
 
     after-call : (c : Call) → not (s.world.gone && is_on_executor c) ≡ true →
-        After (begun p (log s.world (event.CallBegun p c)) (mine (top (stack s p))) c).world
-    after-call call.DropExecutor n = after-begun p (by s.world.gone n)
+        After (begun p (log s.world (Event.CallBegun p c)) (mine (top (stack s p))) c).world
+    after-call Call.DropExecutor n = after-begun p (by s.world.gone n)
       where
         by : (b : Bool) → not (b && true) ≡ true → b ≡ false
         by false k = refl
         by true k = absurd (cc)
-    after-call c n = stays (begun p (log s.world (event.CallBegun p c)) (mine (top (stack s p))) c).world
-        (same-begun p (log s.world (event.CallBegun p c)) (mine (top (stack s p))) c)
+    after-call c n = stays (begun p (log s.world (Event.CallBegun p c)) (mine (top (stack s p))) c).world
+        (same-begun p (log s.world (Event.CallBegun p c)) (mine (top (stack s p))) c)
         (hushed-called tells_order hushed-order p s.world (mine (top (stack s p))) c tt)
 
     after-way : (old : List Op) (d : Done) → stack s p ≡ rest ++ reverse old → Way s p old rest d → After d.world
@@ -445,17 +413,17 @@ ordered-moves s p old rest d fine l e way h =
   where
     owned-before : d.world.is_static ≡ false → s.world.is_static ≡ false
     owned-before i = ⊎_elim (λ (x : d.world.is_static ≡ s.world.is_static). sym x ∙ i)
-        (λ (x : (s.world.is_static ≡ false) × (old ≡ op.Closing closing_op.LeakOut ∷ [])). x.0)
+        (λ (x : (s.world.is_static ≡ false) × (old ≡ Op.Closing ClosingOp.LeakOut ∷ [])). x.0)
         (static-effects s.world s.parties old d (effects-way s p old rest d fine l e way))
 
 pub ordered-ends : (s : Machine) (p : ℕ) (a : Reply) (held : Hold) (below : List Op) → p < length s.parties →
-    stack s p ≡ below ++ reverse (op.End a held ∷ []) → Ordered s →
-    Ordered (unsettled s p below (done (log s.world (event.CallEnded p a)) []))
+    stack s p ≡ below ++ reverse (Op.End a held ∷ []) → Ordered s →
+    Ordered (unsettled s p below (done (log s.world (Event.CallEnded p a)) []))
 ordered-ends s p a held below l e h =
     let es : Trace = s.world.trace in
-    let end : Trace = event.CallEnded p a ∷ [] in
+    let end : Trace = Event.CallEnded p a ∷ [] in
     let now = weigh_all-push ousting_of s.parties p below [] l in
-    let before = split ousting_of s.parties p (op.End a held ∷ []) below l e in record {
+    let before = split ousting_of s.parties p (Op.End a held ∷ []) below l e in record {
       placed = placed-ends s p a held below l e h.placed;
       accepted = subst Ascends (sym (accepted-same es end refl)) h.accepted;
       table = h.table;

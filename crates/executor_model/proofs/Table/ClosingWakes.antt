@@ -2,38 +2,19 @@
 -- Whoever is first among those that the executor's drop or its leak has still to wake stays so until it is woken.
 use Rattle.std.proofs.Common.{◌≡◌, ◌⊎◌, ℕ, List, [], ◌∷◌, ◌++◌, length, Bool, true, false, not, eqb, inl, inr, ltb, refl, sym}
 use Rattle.std.proofs.Common.{ap, ◌∙◌, subst, arith, append-nil, ⊎_elim}
-use Rattle.std.proofs.lemmas.Bool.Decides.{nat_tests}
-use Rattle.std.proofs.lemmas.List.{append_assoc, append_cancel_left}
 use Rattle.std.specs.Prelude.{Option, Some, None, reverse}
-use Rattle.executor_parts.specs.declared.mark.Mark.{Mark}
+use Rattle.std.{proofs.lemmas.Bool.Decides.nat_tests, proofs.lemmas.List.append_assoc, proofs.lemmas.List.append_cancel_left}
 use Rattle.task_moves.specs.Moves.{is_over}
-use Rattle.task_moves.specs.declared.moves.owed.Move.TheVariants as move
-use Rattle.executor_model.specs.declared.event.Event.{Event}
-use Rattle.executor_model.specs.declared.event.Event.TheVariants as event
-use Rattle.executor_model.specs.declared.kind.Kind.{Kind}
-use Rattle.executor_model.specs.declared.op.ClosingOp.TheVariants as closing_op
-use Rattle.executor_model.specs.declared.op.Op.{Op}
-use Rattle.executor_model.specs.declared.op.Op.TheVariants as op
-use Rattle.executor_model.specs.declared.op.TableOp.TheVariants as table_op
-use Rattle.executor_model.specs.declared.step.Hint.{Hint}
-use Rattle.executor_model.specs.declared.step.Step.{Step}
-use Rattle.executor_model.specs.declared.step.StepError.{StepError}
-use Rattle.executor_model.specs.declared.step.StepError.TheVariants.{NoSuch}
-use Rattle.executor_model.specs.Acts.{drop_next_by, enter_by, leak_next_by, leak_out_by, leave_by, wake_next_by}
-use Rattle.executor_model.specs.ClosingWakes.{StaysFirst, WakesInOrder}
-use Rattle.executor_model.specs.Doing.{act}
+use Rattle.executor_model.proofs.Types.{Mark, Move, Event, Kind, ClosingOp, Op, TableOp, Hint, Step, StepError, NoSuch}
 use Rattle.executor_model.specs.Steps.{Machine, Part, end_of, mine, part_after, part_refusal, party_of, refusal, run}
+use Rattle.executor_model.specs.Acts.{drop_next_by, enter_by, leak_next_by, leak_out_by, leave_by, wake_next_by}
 use Rattle.executor_model.specs.Steps.{settled_by, stack, start, step, step_by, stepped, top, unless}
-use Rattle.executor_model.specs.Trace.{Trace, has, is_woken}
-use Rattle.executor_model.specs.World.{World, Done, log, log_if, task}
-use Rattle.executor_model.proofs.Promises.CallPromises.{has-left}
-use Rattle.executor_model.proofs.Promises.OutsideCalls.{way-more}
-use Rattle.executor_model.proofs.Steps.Hushed.{hushed-wake_next}
+use Rattle.executor_model.specs.{ClosingWakes.StaysFirst, ClosingWakes.WakesInOrder, Doing.act, Trace.Trace, Trace.has}
+use Rattle.executor_model.specs.{Trace.is_woken, World.World, World.Done, World.log, World.log_if, World.task}
 use Rattle.executor_model.proofs.Steps.Listing.{Entries, entries, entries-move, same-begun, same-entries, same-react}
-use Rattle.executor_model.proofs.Steps.Tests.{or-left}
-use Rattle.executor_model.proofs.Steps.Ways.{Made, Way, made}
 use Rattle.executor_model.proofs.Steps.Ways.Way.{acted, called, reacted}
-use Rattle.executor_model.proofs.Table.Closing.{ordered}
+use Rattle.executor_model.proofs.{Promises.CallPromises.has-left, Promises.OutsideCalls.way-more, Steps.Hushed.hushed-wake_next}
+use Rattle.executor_model.proofs.{Steps.Tests.or-left, Steps.Ways.Made, Steps.Ways.Way, Steps.Ways.made, Table.Closing.ordered}
 
 -- what is told behind that changes nothing of it
 more-later : (w v u : World) (f : ℕ) (fs : List ℕ) (before more last : Trace) → u.waking ≡ v.waking →
@@ -61,20 +42,20 @@ module _ (w : World) (f : ℕ) (rest : List ℕ) (e : w.waking ≡ f ∷ rest) w
   listed-so v more q = as-before v more (sym (ap (λ (x : Entries). x.waking) q))
 
   woken-so : (b : Bool) (p : ℕ) (v : World) (more now : Trace) → is_over (task w f) ≡ b →
-      now ≡ (log_if (not (is_over (task w f))) w (event.Woken p f)).trace → now ≡ w.trace ++ more →
+      now ≡ (log_if (not (is_over (task w f))) w (Event.Woken p f)).trace → now ≡ w.trace ++ more →
       (has (is_woken f) more ≡ true) ⊎ (is_over (task w f) ≡ true)
   woken-so true p v more now z n t = inr z
   woken-so false p v more now z n t =
-      let i : now ≡ w.trace ++ event.Woken p f ∷ [] =
-      n ∙ ap (λ (b : Bool). (log_if (not b) w (event.Woken p f)).trace) z in
-      let q : event.Woken p f ∷ [] ≡ more = append_cancel_left w.trace (event.Woken p f ∷ []) more (sym i ∙ t) in
+      let i : now ≡ w.trace ++ Event.Woken p f ∷ [] =
+      n ∙ ap (λ (b : Bool). (log_if (not b) w (Event.Woken p f)).trace) z in
+      let q : Event.Woken p f ∷ [] ≡ more = append_cancel_left w.trace (Event.Woken p f ∷ []) more (sym i ∙ t) in
       inl (subst (λ (xs : Trace). has (is_woken f) xs ≡ true) q (or-left (eqb f f) false (itself f)))
     where
       itself : (n : ℕ) → eqb n n ≡ true
       itself n = grind (arith, nat_tests)
 
   told-so : (b : Bool) (p g : ℕ) (gs : List ℕ) →
-      (log_if b (record w { waking = gs }) (event.Woken p g)).trace ≡ (log_if b w (event.Woken p g)).trace
+      (log_if b (record w { waking = gs }) (Event.Woken p g)).trace ≡ (log_if b w (Event.Woken p g)).trace
   told-so true p g gs = refl
   told-so false p g gs = refl
 
@@ -86,11 +67,11 @@ module _ (w : World) (f : ℕ) (rest : List ℕ) (e : w.waking ≡ f ∷ rest) w
       let j : gs ≡ rest = cc in
       let v : World = record w { waking = gs } in
       let now : World = (wake_next_by p w (g ∷ gs)).world in
-      let k : gs ≡ now.waking = ap (λ (x : Entries). x.waking) (entries-move true move.Wake p v g) in
+      let k : gs ≡ now.waking = ap (λ (x : Entries). x.waking) (entries-move true Move.Wake p v g) in
       inr (
         sym k ∙ j,
         woken-so (is_over (task w f)) p now more now.trace refl
-            (told-so (not (is_over (task w g))) p g gs ∙ ap (λ (n : ℕ). (log_if (not (is_over (task w n))) w (event.Woken p n)).trace) i) t,
+            (told-so (not (is_over (task w g))) p g gs ∙ ap (λ (n : ℕ). (log_if (not (is_over (task w n))) w (Event.Woken p n)).trace) i) t,
       )
 
   first-leaks : (b : Bool) (p : ℕ) (ls : List ℕ) (more : Trace) → ls ≡ f ∷ rest →
@@ -99,7 +80,7 @@ module _ (w : World) (f : ℕ) (rest : List ℕ) (e : w.waking ≡ f ∷ rest) w
   first-leaks false p [] more q t = absurd (cc)
   first-leaks false p (g ∷ gs) more q t =
       let v : World = (wake_next_by p w (g ∷ gs)).world in
-      let last : Trace = event.Leaked p g ∷ [] in
+      let last : Trace = Event.Leaked p g ∷ [] in
       let k = hushed-wake_next (λ (x : Event). false) (λ x z. refl) p w (g ∷ gs) in
       more-later w v (leak_next_by false p w (g ∷ gs)).world f rest k.more more last refl
       (append_cancel_left w.trace more (k.more ++ last)
@@ -128,14 +109,14 @@ module _ (w : World) (f : ℕ) (rest : List ℕ) (e : w.waking ≡ f ∷ rest) w
 
   first-act : (p : ℕ) (h : Hint) (o : Op) (more : Trace) → (act p h o w).world.trace ≡ w.trace ++ more →
       StaysFirst w (act p h o w).world f rest more
-  first-act p h (op.Table (table_op.Enter mark)) more t = first-enters _ _ _ p more
-  first-act p h (op.Table (table_op.LeaveTable g)) more t = first-leaves _ g more
-  first-act p h (op.Closing closing_op.TakeOut) more t =
-      as-before (act p h (op.Closing closing_op.TakeOut) w).world more refl
-  first-act p h (op.Closing closing_op.DropNext) more t = first-drops p w.leaving more
-  first-act p h (op.Closing closing_op.WakeNext) more t = first-wakes p w.waking more e t
-  first-act p h (op.Closing closing_op.LeakOut) more t = first-leaks_out _ more
-  first-act p h (op.Closing closing_op.LeakNext) more t = first-leaks _ p w.waking more e t
+  first-act p h (Op.Table (TableOp.Enter mark)) more t = first-enters _ _ _ p more
+  first-act p h (Op.Table (TableOp.LeaveTable g)) more t = first-leaves _ g more
+  first-act p h (Op.Closing ClosingOp.TakeOut) more t =
+      as-before (act p h (Op.Closing ClosingOp.TakeOut) w).world more refl
+  first-act p h (Op.Closing ClosingOp.DropNext) more t = first-drops p w.leaving more
+  first-act p h (Op.Closing ClosingOp.WakeNext) more t = first-wakes p w.waking more e t
+  first-act p h (Op.Closing ClosingOp.LeakOut) more t = first-leaks_out _ more
+  first-act p h (Op.Closing ClosingOp.LeakNext) more t = first-leaks _ p w.waking more e t
   first-act p h o more t = listed-so (act p h o w).world more (same-entries p h o w refl)
 
 first-way : (s : Machine) (p : ℕ) (old rest : List Op) (d : Done) → Way s p old rest d → (f : ℕ) (fs : List ℕ) →
@@ -147,7 +128,7 @@ first-way s p old rest d (reacted o u a q z) f fs e more t =
     listed-so s.world f fs e d.world more (same-react p o u s.world a ∙ ap (λ (x : Done). entries x.world) (sym z))
 first-way s p old rest d (called c q r n z) f fs e more t =
     listed-so s.world f fs e d.world more
-    (same-begun p (log s.world (event.CallBegun p c)) (mine (top (stack s p))) c
+    (same-begun p (log s.world (Event.CallBegun p c)) (mine (top (stack s p))) c
     ∙ ap (λ (x : Done). entries x.world) (sym z))
 
 -- and then the call ends, where its end is all that is left of it
@@ -156,11 +137,11 @@ first-settled : (w v : World) (p : ℕ) (os : List Op) (o : Option Op) (f : ℕ)
     v.trace ≡ w.trace ++ before → StaysFirst w v f fs before →
     (settled_by (end_of o) p v os).world.trace ≡ w.trace ++ more →
     StaysFirst w (settled_by (end_of o) p v os).world f fs more
-first-settled w v p os (Some (op.End r held)) f fs before more b h t =
-    more-later w v (log v (event.CallEnded p r)) f fs before more (event.CallEnded p r ∷ []) refl
-    (append_cancel_left w.trace more (before ++ event.CallEnded p r ∷ [])
-    (sym t ∙ (ap (λ (xs : Trace). xs ++ event.CallEnded p r ∷ []) b
-    ∙ append_assoc w.trace before (event.CallEnded p r ∷ [])))) h
+first-settled w v p os (Some (Op.End r held)) f fs before more b h t =
+    more-later w v (log v (Event.CallEnded p r)) f fs before more (Event.CallEnded p r ∷ []) refl
+    (append_cancel_left w.trace more (before ++ Event.CallEnded p r ∷ [])
+    (sym t ∙ (ap (λ (xs : Trace). xs ++ Event.CallEnded p r ∷ []) b
+    ∙ append_assoc w.trace before (Event.CallEnded p r ∷ [])))) h
 first-settled w v p os None f fs before more b h t =
     more-later w v v f fs before more [] refl
     (append_cancel_left w.trace more before (sym t ∙ b) ∙ sym (append-nil before)) h

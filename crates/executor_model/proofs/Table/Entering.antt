@@ -1,35 +1,23 @@
 -- For table_and_queue_agree, no_append_is_refused_full, the_limit_is_exact, drops_come_once, early_drops_have_causes
 -- and closing_drops_each_future_once.
 -- Table and queue agree with the trace, and a spawn finds the executor full exactly where it is.
-use Rattle.std.proofs.Common.{◌≡◌, ◌⊎◌, ℕ, zero, suc, ◌+◌, ◌<◌, ◌≤◌, List, [], length, take, Bool, true, false}
-use Rattle.std.proofs.Common.{refl, sym, ap, ◌∙◌, subst, inl, inr, ⊎_elim, arith}
+use Rattle.std.proofs.Common.{◌≡◌, ◌⊎◌, ℕ, zero, suc, ◌+◌, ◌<◌, ◌≤◌, List, [], length, take, Bool, true, false, refl, sym, ap}
+use Rattle.std.proofs.Common.{◌∙◌, subst, inl, inr, ⊎_elim, arith}
 use Rattle.std.proofs.lemmas.List.{get_or_past}
 use Rattle.std.specs.Prelude.{Option, Some, None, MatchOption, count_by, slice_get}
-use Rattle.executor_model.specs.World.{queue_of, queued_in, mark_of}
-use Rattle.executor_parts.specs.declared.mark.Mark.TheVariants.{Plain, Urgent}
-use Rattle.executor_parts.specs.declared.mark.Mark.{Mark}
 use Rattle.queue_steps.specs.ClosableQueue.{ClosableQueue, HasRoom}
-use Rattle.executor_model.specs.declared.kind.Kind.{Kind}
+use Rattle.executor_model.proofs.Types.{Plain, Urgent, Mark, Kind, Event, Op, QueueOp, Step}
 use Rattle.executor_model.specs.declared.kind.Kind.TheVariants.{Static}
-use Rattle.executor_model.specs.declared.event.Event.{Event}
-use Rattle.executor_model.specs.declared.op.Op.{Op}
-use Rattle.executor_model.specs.declared.op.Op.TheVariants as op
-use Rattle.executor_model.specs.declared.op.QueueOp.TheVariants as queue_op
-use Rattle.executor_model.specs.declared.step.Step.{Step}
 use Rattle.executor_model.specs.Trace.{Trace, has, is_accepted, is_dropped, is_drop_begun, is_last_waker, is_leak_begun}
-use Rattle.executor_model.specs.DroppedOnce.{DropComesOnce, IsDroppedByTheEnd}
-use Rattle.executor_model.specs.EarlyDrop.{EarlyDropHasCause, LastWakerIsLast}
-use Rattle.executor_model.specs.Weights.{weigh_all}
-use Rattle.executor_model.specs.Sound.{times, times_in}
-use Rattle.executor_model.specs.Good.{Good}
 use Rattle.executor_model.specs.Steps.{Machine, stack, top, below_top, run, start}
 use Rattle.executor_model.specs.Entries.{HasTable, Remains, TableAgrees, OwnAgrees, QueueAgrees, FindsPlace}
-use Rattle.executor_model.specs.Rows.{ousting_of, leaves_of}
-use Rattle.executor_model.proofs.Steps.Lift.{topped, good}
-use Rattle.executor_model.proofs.OneFuture.Stories.{story}
-use Rattle.executor_model.proofs.OneFuture.Telling.{fallen-counts, accepted-counts, counted-there, there-or-none}
-use Rattle.executor_model.proofs.OneFuture.Telling.{begun-has, ended-has, drop-has-cause, drop-follows, last-forgotten, take-all}
+use Rattle.executor_model.specs.{World.queue_of, World.queued_in, World.mark_of, DroppedOnce.DropComesOnce}
+use Rattle.executor_model.specs.{DroppedOnce.IsDroppedByTheEnd, EarlyDrop.EarlyDropHasCause, EarlyDrop.LastWakerIsLast}
+use Rattle.executor_model.specs.{Weights.weigh_all, Sound.times, Sound.times_in, Good.Good, Rows.ousting_of, Rows.leaves_of}
+use Rattle.executor_model.proofs.OneFuture.Telling.{fallen-counts, accepted-counts, counted-there, there-or-none, begun-has}
+use Rattle.executor_model.proofs.OneFuture.Telling.{ended-has, drop-has-cause, drop-follows, last-forgotten, take-all}
 use Rattle.executor_model.proofs.Table.LeavingExecutions.{Placed, placed, has-place}
+use Rattle.executor_model.proofs.{Steps.Lift.topped, Steps.Lift.good, OneFuture.Stories.story}
 
 -- a machine is static where it was made so, or a leak of its executor has begun
 abbrev pub IsOfKind : Kind → Machine → Type 0
@@ -113,13 +101,7 @@ module _ (s : Machine) (f : ℕ) (fine : Good s) (h : Placed s) where
       remains = ⊎_elim
           (λ (x : has (is_dropped f) s.world.trace ≡ true).
           inr
-          (omega (
-            arith,
-            agrees t,
-            n,
-            one-accepted,
-            counts (is_dropped f) s.world.trace _ (fallen-counts f s.world.trace) x,
-          )))
+          (omega (arith, agrees t, n, one-accepted, counts (is_dropped f) s.world.trace _ (fallen-counts f s.world.trace) x)))
           (λ (x : has (is_dropped f) s.world.trace ≡ false). inl x)
           (either (has (is_dropped f) s.world.trace));
     };
@@ -202,9 +184,9 @@ module _ (s : Machine) (f : ℕ) (fine : Good s) (h : Placed s) where
   finds-place p e = ⊎_elim
       (λ (l : p < length s.parties). let m : Mark = mark_of s.world f in
       room None (queue_of s.world m) (capacities m)
-      (has-place s p f (below_top (stack s p)) l (topped (stack s p) (op.Queue (queue_op.Append f)) e) fine h m))
+      (has-place s p f (below_top (stack s p)) l (topped (stack s p) (Op.Queue (QueueOp.Append f)) e) fine h m))
       (λ (l : length s.parties ≤ p). let z : stack s p ≡ [] = get_or_past s.parties p [] l in
-      let no : slice_get (let os : List Op = [] in os) 0 ≡ Some (op.Queue (queue_op.Append f)) = sym (ap top z) ∙ e in
+      let no : slice_get (let os : List Op = [] in os) 0 ≡ Some (Op.Queue (QueueOp.Append f)) = sym (ap top z) ∙ e in
       absurd (cc))
       (or-past p (length s.parties))
     where

@@ -1,48 +1,26 @@
 -- For open_futures_are_in_hands.
 -- An open future has its handle, or a reference: what holds of it at every moment, and each effect keeps.
-use Rattle.std.proofs.Common.{◌≡◌, ◌⊎◌, ℕ, ◌+◌, ◌<◌, ◌≤◌, List, [], ◌∷◌, ◌++◌, true, false, arith, Bool, refl, sym, ◌∙◌}
-use Rattle.std.proofs.Common.{inl, inr, ⊎_elim}
-use Rattle.std.proofs.lemmas.Bool.Decides.{nat_tests}
-use Rattle.std.proofs.lemmas.List.{length-append}
-use Rattle.std.specs.Prelude.{slice_set}
-use Rattle.executor_parts.specs.declared.mark.Mark.{Mark}
-use Rattle.task_moves.specs.declared.moves.owed.Move.{Move}
-use Rattle.task_moves.specs.declared.moves.owed.Move.TheVariants as move
+use Rattle.std.proofs.Common.{◌≡◌, ◌⊎◌, ℕ, ◌+◌, ◌<◌, ◌≤◌, List, [], ◌∷◌, ◌++◌, true, false, arith, Bool, refl, sym, ◌∙◌, inl}
+use Rattle.std.proofs.Common.{inr, ⊎_elim}
+use Rattle.std.{proofs.lemmas.Bool.Decides.nat_tests, proofs.lemmas.List.length-append, specs.Prelude.slice_set}
 use Rattle.task_moves.proofs.Cases.{by_move}
-use Rattle.executor_model.specs.declared.call.Call.TheVariants as call
-use Rattle.executor_model.specs.declared.call.Reply.TheVariants as reply
-use Rattle.executor_model.specs.declared.event.Answer.TheVariants as answer
-use Rattle.executor_model.specs.declared.event.Event.TheVariants as event
-use Rattle.executor_model.specs.declared.op.ClosingOp.TheVariants as closing_op
-use Rattle.executor_model.specs.declared.op.Hold.TheVariants as hold
-use Rattle.executor_model.specs.declared.op.Op.{Op}
-use Rattle.executor_model.specs.declared.op.Op.TheVariants as op
-use Rattle.executor_model.specs.declared.op.TableOp.TheVariants as table_op
-use Rattle.executor_model.specs.declared.op.UserOp.TheVariants as user_op
-use Rattle.executor_model.specs.World.{World, Done, done, log, task}
+use Rattle.executor_model.proofs.Types.{Mark, Move, Call, Answer, Event, ClosingOp, Op, TableOp, UserOp, Kind, Reply, Hold}
 use Rattle.executor_model.specs.Acts.{begin_drop, closing_ops, enter_by, entered, stands_alone, leak_out_by, leaked}
-use Rattle.executor_model.specs.Sound.{Pend, with_ops, pend, living, tokens}
-use Rattle.executor_model.specs.InHands.{HasHandle, IsInHands}
-use Rattle.executor_model.specs.Steps.{Machine, run, start}
-use Rattle.executor_model.specs.Trace.{Trace, has, is_detached}
-use Rattle.executor_model.specs.declared.kind.Kind.{Kind}
-use Rattle.executor_model.specs.declared.call.Reply.{Reply}
-use Rattle.executor_model.specs.declared.op.Hold.{Hold}
-use Rattle.executor_model.specs.declared.step.Step.{Step}
+use Rattle.executor_model.specs.{World.World, World.Done, World.done, World.log, World.task, Sound.Pend, Sound.with_ops}
+use Rattle.executor_model.specs.{Sound.pend, Sound.living, Sound.tokens, InHands.HasHandle, InHands.IsInHands, Steps.Machine}
+use Rattle.executor_model.specs.{Steps.run, Steps.start, Trace.Trace, Trace.has, Trace.is_detached}
+use Rattle.executor_model.proofs.OneFuture.Effects.Effect.{passes, turns, refuses, enters, unlists, drops, takes_out}
 use Rattle.executor_model.proofs.Steps.Lists.{fresh_is, read_push, same_is}
 use Rattle.executor_model.proofs.OneFuture.Stories.{story-push, story, untold}
 use Rattle.executor_model.proofs.OneFuture.Extras.{Extra, with_extra, no_extra}
 use Rattle.executor_model.proofs.OneFuture.Views.{Seen, seen, before, after, none}
-use Rattle.executor_model.proofs.OneFuture.Passes.{Goes}
 use Rattle.executor_model.proofs.OneFuture.MoveViews.{Alike, HasAsked, leaked-keeps, leaks_out-keeps}
 use Rattle.executor_model.proofs.Counts.SoundViews.{Sure, sound-passes}
 use Rattle.executor_model.proofs.OneFuture.Effects.{Effect, turned-keeps}
-use Rattle.executor_model.proofs.OneFuture.Effects.Effect.{passes, turns, refuses, enters, unlists, drops, takes_out}
 use Rattle.executor_model.proofs.OneFuture.Effects.Effect.{drops_next, leaks, leaks_out}
 use Rattle.executor_model.proofs.OneFuture.EffectsWays.{Effects, each-run, view}
 use Rattle.executor_model.proofs.OneFuture.EffectsWays.Effects.{does, pends, readies, closes}
-use Rattle.executor_model.proofs.Steps.Lift.{good}
-use Rattle.executor_model.proofs.OneFuture.Telling.{detached-from}
+use Rattle.executor_model.proofs.{Types.Step, OneFuture.Passes.Goes, Steps.Lift.good, OneFuture.Telling.detached-from}
 
 pub record InHands (x : Seen) : Type 0 where
   pub held : x.number < x.tasks → x.state.completed ≡ false → x.state.closed ≡ false →
@@ -103,28 +81,28 @@ handled : (b : Bool) → (entered b).handle ≡ true
 handled true = refl
 handled false = refl
 
-hands-enters : (mark : Mark) (p : ℕ) (w : World) → KeepsHands w (op.Table (table_op.Enter mark) ∷ []) (enter_by false false mark p w)
+hands-enters : (mark : Mark) (p : ℕ) (w : World) → KeepsHands w (Op.Table (TableOp.Enter mark) ∷ []) (enter_by false false mark p w)
 hands-enters mark p w g r y b h = let k = handled w.is_static in grind (arith, same_is, fresh_is, read_push, length-append, story-push)
 
-hands-drops : (p f : ℕ) (w : World) → KeepsHands w (op.User (user_op.BeginDrop f) ∷ []) (begin_drop p w f)
+hands-drops : (p f : ℕ) (w : World) → KeepsHands w (Op.User (UserOp.BeginDrop f) ∷ []) (begin_drop p w f)
 hands-drops p f w g r y b h = grind (arith, story-push)
 
-hands-takes_out : (ls ws : List ℕ) (w : World) → KeepsHands w (op.Closing closing_op.TakeOut ∷ [])
+hands-takes_out : (ls ws : List ℕ) (w : World) → KeepsHands w (Op.Closing ClosingOp.TakeOut ∷ [])
     (done (record w { table = w.leaving; leaving = w.table }) (closing_ops ls ws))
 hands-takes_out [] [] w g r y b h = grind arith
 hands-takes_out [] (x ∷ ws) w g r y b h = grind arith
 hands-takes_out (x ∷ ls) ws w g r y b h = grind arith
 
 hands-drops_next : (ls ws : List ℕ) (p : ℕ) (w : World) (f : ℕ) (rest : List ℕ) →
-    KeepsHands w (op.Closing closing_op.DropNext ∷ [])
+    KeepsHands w (Op.Closing ClosingOp.DropNext ∷ [])
     (done (log (record w { leaving = rest; waking = w.waking ++ f ∷ []; inside = slice_set w.inside f false })
-    (event.Dropped p f)) (op.User (user_op.Drop f) ∷ closing_ops ls ws))
+    (Event.Dropped p f)) (Op.User (UserOp.Drop f) ∷ closing_ops ls ws))
 hands-drops_next [] [] p w f rest g r y b h = grind (arith, story-push)
 hands-drops_next [] (x ∷ ws) p w f rest g r y b h = grind (arith, story-push)
 hands-drops_next (x ∷ ls) ws p w f rest g r y b h = grind (arith, story-push)
 
 hands-leaks_out : (w : World) → w.is_static ≡ false → w.gone ≡ false →
-    KeepsHands w (op.Closing closing_op.LeakOut ∷ []) (leak_out_by false w)
+    KeepsHands w (Op.Closing ClosingOp.LeakOut ∷ []) (leak_out_by false w)
 hands-leaks_out w s n g r y k h = leaks_out-keeps InHands (λ x s n t h. grind arith) w s n g r y h
 
 hands-leaked : (d : Done) (p f g : ℕ) (r : Pend) (y : Extra) → HasAsked d.world f → InHands (seen d.world g r y) →
@@ -145,17 +123,17 @@ hands-effect w old d (drops_next p f rest e) g r y b h = hands-drops_next rest (
 hands-effect w old d (leaks_out s n) g r y b h = hands-leaks_out w s n g r y b h
 hands-effect w old _ (leaks d p f e a) g r y b h = hands-leaked d p f g _ _ a (hands-effect w _ d e g r y b h)
 
-hands-pends : (p f : ℕ) (w : World) → KeepsHands w (op.User (user_op.Poll f) ∷ [])
-    (done (log w (event.Answered p f answer.Pending)) (op.Table (table_op.PutBack f) ∷ []))
+hands-pends : (p f : ℕ) (w : World) → KeepsHands w (Op.User (UserOp.Poll f) ∷ [])
+    (done (log w (Event.Answered p f Answer.Pending)) (Op.Table (TableOp.PutBack f) ∷ []))
 hands-pends p f w g r y b h = grind (arith, story-push)
 
-hands-readies : (p f : ℕ) (w : World) → KeepsHands w (op.User (user_op.Poll f) ∷ [])
-    (done (log w (event.Answered p f answer.Ready)) (op.User (user_op.BeginDrop f) ∷ op.Move move.EndReady f ∷ []))
+hands-readies : (p f : ℕ) (w : World) → KeepsHands w (Op.User (UserOp.Poll f) ∷ [])
+    (done (log w (Event.Answered p f Answer.Ready)) (Op.User (UserOp.BeginDrop f) ∷ Op.Move Move.EndReady f ∷ []))
 hands-readies p f w g r y b h = grind (arith, story-push)
 
 hands-closes : (p : ℕ) (w : World) → KeepsHands w []
-    (done (log (record (log w (event.CallBegun p call.DropExecutor)) { gone = true }) (event.DropBegun p))
-    (op.Closing closing_op.TakeOut ∷ op.End reply.Done hold.Nothing ∷ []))
+    (done (log (record (log w (Event.CallBegun p Call.DropExecutor)) { gone = true }) (Event.DropBegun p))
+    (Op.Closing ClosingOp.TakeOut ∷ Op.End Reply.Done Hold.Nothing ∷ []))
 hands-closes p w g r y b h = grind (arith, story-push)
 
 -- whatever a party does
@@ -168,8 +146,8 @@ hands-act w ss old d (closes p e u) g r y b h = hands-closes p w g r y b h
 -- each execution
 
 hands-end : (w : World) (p : ℕ) (a : Reply) (held : Hold) (g : ℕ) (r : Pend) (y : Extra) →
-    InHands (seen w g (with_ops g (op.End a held ∷ []) r) (with_extra g (op.End a held ∷ []) y)) →
-    InHands (seen (log w (event.CallEnded p a)) g (with_ops g [] r) (with_extra g [] y))
+    InHands (seen w g (with_ops g (Op.End a held ∷ []) r) (with_extra g (Op.End a held ∷ []) y)) →
+    InHands (seen (log w (Event.CallEnded p a)) g (with_ops g [] r) (with_extra g [] y))
 hands-end w p a held g r y h = grind (arith, story-push)
 
 none-hands : (limit : ℕ) (kind : Kind) (g : ℕ) → InHands (seen (start limit kind 0).world g none no_extra)

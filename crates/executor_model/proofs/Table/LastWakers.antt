@@ -1,9 +1,9 @@
 -- For early_drops_have_causes and last_wakers_are_of_detached_futures.
 -- Where nobody is left who could wake a future, and the drop of the executor hasn't begun, a leak of an owned executor had
 -- begun by then.
-use Rattle.std.proofs.Common.{◌≡◌, ◌⊎◌, ℕ, zero, suc, [], ◌∷◌, ◌++◌, Bool, true, false, ◌&&◌, ◌||◌, not, take}
-use Rattle.std.proofs.Common.{refl, sym, ap, ◌∙◌, inl, inr, ⊎_elim}
-use Rattle.executor_model.specs.declared.event.Event.{Event}
+use Rattle.std.proofs.Common.{◌≡◌, ◌⊎◌, ℕ, zero, suc, [], ◌∷◌, ◌++◌, Bool, true, false, ◌&&◌, ◌||◌, not, take, refl, sym, ap}
+use Rattle.std.proofs.Common.{◌∙◌, inl, inr, ⊎_elim}
+use Rattle.executor_model.proofs.Types.{Event}
 use Rattle.executor_model.specs.Trace.{Trace, has, is_drop_begun, is_last_waker, is_leak_begun}
 use Rattle.executor_model.proofs.OneFuture.Stories.{Story, hears, story, story_from, untold}
 use Rattle.executor_model.proofs.OneFuture.Telling.{begun-hears, first-last, one-last}

@@ -1,48 +1,22 @@
 -- For leaks_wake_each_future.
 -- What holds of a leak at every moment, and what keeps it: who is to be woken stays so or is told of.
-use Rattle.std.proofs.Common.{◌≡◌, ◌⊎◌, ⊎_elim, ℕ, ◌+◌, ◌<◌, ◌≤◌, List, [], ◌∷◌, ◌++◌, length, Bool, true, false}
-use Rattle.std.proofs.Common.{◌||◌, not, cond, eqb, inl, inr, refl, sym, ap, ◌∙◌, subst, arith, take}
-use Rattle.std.specs.List.{before_first, position_or_len}
-use Rattle.std.specs.Prelude.{count_by, reverse}
-use Rattle.executor_model.specs.declared.event.Event.{Event}
-use Rattle.executor_model.specs.declared.event.Event.TheVariants as event
-use Rattle.executor_model.specs.declared.op.ClosingOp.TheVariants as closing_op
-use Rattle.executor_model.specs.declared.op.Op.{Op}
-use Rattle.executor_model.specs.declared.op.Op.TheVariants as op
-use Rattle.executor_model.specs.declared.op.RunOp.TheVariants as run_op
-use Rattle.executor_model.specs.declared.op.SleeperOp.TheVariants as sleeper_op
-use Rattle.executor_model.specs.declared.op.TableOp.TheVariants as table_op
-use Rattle.executor_model.specs.declared.op.UserOp.TheVariants as user_op
-use Rattle.executor_model.specs.declared.op.WakerOp.TheVariants as waker_op
-use Rattle.executor_model.specs.declared.step.Hint.{Hint}
-use Rattle.task_moves.specs.declared.moves.owed.Move.TheVariants as move
+use Rattle.std.proofs.Common.{◌≡◌, ◌⊎◌, ⊎_elim, ℕ, ◌+◌, ◌<◌, ◌≤◌, List, [], ◌∷◌, ◌++◌, length, Bool, true, false, ◌||◌, not}
+use Rattle.std.proofs.Common.{cond, eqb, inl, inr, refl, sym, ap, ◌∙◌, subst, arith, take}
+use Rattle.std.{specs.List.before_first, specs.List.position_or_len, specs.Prelude.count_by, specs.Prelude.reverse}
+use Rattle.executor_model.proofs.Types.{Event, ClosingOp, Op, RunOp, SleeperOp, TableOp, UserOp, WakerOp, Hint, Move}
 use Rattle.executor_model.specs.Acts.{drop_next_by, enter_by, leak_next_by, leak_out_by, leaking_ops, leave_by, wake}
-use Rattle.executor_model.specs.Acts.{wake_next_by}
-use Rattle.executor_model.specs.Doing.{act}
-use Rattle.executor_model.specs.Good.{Good}
-use Rattle.executor_model.specs.LeakWakes.{before_leak}
-use Rattle.executor_model.specs.Sound.{times}
-use Rattle.executor_model.specs.Steps.{Machine}
-use Rattle.executor_model.specs.Steps.{stack}
 use Rattle.executor_model.specs.Trace.{Trace, has, is_accepted, is_drop_begun, is_dropped, is_leak_begun, is_leaked}
-use Rattle.executor_model.specs.Weights.{same, weigh, weigh_all}
-use Rattle.executor_model.specs.World.{World, Done}
-use Rattle.executor_model.proofs.OneFuture.Extras.{waking_of}
+use Rattle.executor_model.specs.{Acts.wake_next_by, Doing.act, Good.Good, LeakWakes.before_leak, Sound.times, Steps.Machine}
+use Rattle.executor_model.specs.{Steps.stack, Weights.same, Weights.weigh, Weights.weigh_all, World.World, World.Done}
 use Rattle.executor_model.proofs.OneFuture.Telling.{accepted-counts, before-cons, begun-has, counted-there, fallen-counts}
-use Rattle.executor_model.proofs.OneFuture.Telling.{same-cond, there-or-none}
 use Rattle.executor_model.proofs.Promises.CallPromises.{has-left, has-right}
-use Rattle.executor_model.proofs.Steps.Growing.{split}
-use Rattle.executor_model.proofs.Steps.Hushed.{Hushed, Hushes}
-use Rattle.executor_model.proofs.Steps.Hushed.{is_hushed}
-use Rattle.executor_model.proofs.Steps.Lift.{unsettled}
+use Rattle.executor_model.proofs.Steps.Hushed.{Hushed, Hushes, is_hushed}
 use Rattle.executor_model.proofs.Steps.Listing.{Entries, entries-move, same-entries}
 use Rattle.executor_model.proofs.Steps.Lists.{same_cases, times-append, weigh-append, weigh_all-push}
-use Rattle.executor_model.proofs.Steps.Tests.{or-left}
-use Rattle.executor_model.proofs.Steps.TraceMore.{has-append}
-use Rattle.executor_model.proofs.Table.Closing.{Ordered}
-use Rattle.executor_model.proofs.Table.LeakCounts.{goes-leak_next, goes-leak_out, goes_of}
-use Rattle.executor_model.proofs.Table.LeakCounts.{is_leaking, leaks_of}
-use Rattle.executor_model.proofs.Table.LeakWithin.{Withins, going_of}
+use Rattle.executor_model.proofs.Table.LeakCounts.{goes-leak_next, goes-leak_out, goes_of, is_leaking, leaks_of}
+use Rattle.executor_model.proofs.{OneFuture.Extras.waking_of, OneFuture.Telling.same-cond, OneFuture.Telling.there-or-none}
+use Rattle.executor_model.proofs.{Steps.Growing.split, Steps.Lift.unsettled, Steps.Tests.or-left, Steps.TraceMore.has-append}
+use Rattle.executor_model.proofs.{Table.Closing.Ordered, Table.LeakWithin.Withins, Table.LeakWithin.going_of}
 
 -- the next one is to be woken
 abbrev pub nexts_of : Op → ℕ
@@ -116,16 +90,16 @@ begun-is s h = sym (begun-has 0 s.world.trace) ∙ (h.placed.leaves 0).begun
 
 -- no call leads to the beginning of a drop but that of the executor
 pub hushed-drop : (e : Event) → is_hushed e ≡ true → is_drop_begun e ≡ false
-hushed-drop (event.DropBegun p) z = absurd (cc)
+hushed-drop (Event.DropBegun p) z = absurd (cc)
 hushed-drop _ z = refl
 
 pub drops-none : (p : ℕ) (o : Op) → Hushes is_drop_begun hushed-drop p o
-drops-none p (op.Waker (waker_op.CallAwaiter f a k)) = refl
-drops-none p (op.Sleeper (sleeper_op.CallSleeper n)) = refl
-drops-none p (op.Run (run_op.WakeOwn r)) = refl
-drops-none p (op.Table (table_op.Enter mark)) = λ f. refl
-drops-none p (op.User (user_op.BeginDrop f)) = refl
-drops-none p (op.Closing closing_op.DropNext) = λ f. refl
+drops-none p (Op.Waker (WakerOp.CallAwaiter f a k)) = refl
+drops-none p (Op.Sleeper (SleeperOp.CallSleeper n)) = refl
+drops-none p (Op.Run (RunOp.WakeOwn r)) = refl
+drops-none p (Op.Table (TableOp.Enter mark)) = λ f. refl
+drops-none p (Op.User (UserOp.BeginDrop f)) = refl
+drops-none p (Op.Closing ClosingOp.DropNext) = λ f. refl
 drops-none p _ = tt
 
 same-self : (f : ℕ) → same f f ≡ 1
@@ -199,11 +173,11 @@ module _ (s : Machine) (p : ℕ) (old rest : List Op) (d : Done) (l : p < length
       (λ (x : s.world.gone ≡ true). absurd (let no : true ≡ false = sym x ∙ g in cc)) c)
     where
       leaks-least : (o : Op) → leaks_of o ≤ going_of o
-      leaks-least (op.Closing closing_op.LeakOut) = omega arith
+      leaks-least (Op.Closing ClosingOp.LeakOut) = omega arith
       leaks-least _ = omega arith
 
       nexts-least : (o : Op) → nexts_of o ≤ going_of o
-      nexts-least (op.Closing closing_op.LeakNext) = omega arith
+      nexts-least (Op.Closing ClosingOp.LeakNext) = omega arith
       nexts-least _ = omega arith
 
       less-leaks : (os : List Op) → weigh leaks_of os ≤ weigh going_of os
@@ -214,7 +188,7 @@ module _ (s : Machine) (p : ℕ) (old rest : List Op) (d : Done) (l : p < length
       less-nexts [] = omega arith
       less-nexts (o ∷ os) = omega (arith, nexts-least o, less-nexts os)
 
-  there : old ≡ op.Closing closing_op.LeakOut ∷ [] → 1 ≤ weigh_all leaks_of s.parties
+  there : old ≡ Op.Closing ClosingOp.LeakOut ∷ [] → 1 ≤ weigh_all leaks_of s.parties
   there q = omega (arith, split leaks_of s.parties p old rest l e, ap (weigh leaks_of) q)
 
   none-counted : (test : Event → Bool) (es : Trace) → has test es ≡ false → count_by test es ≡ 0
@@ -235,7 +209,7 @@ module _ (s : Machine) (p : ℕ) (old rest : List Op) (d : Done) (l : p < length
   )
 
   -- the wakers are taken out of the table
-  pub leaks-out : (i n : Bool) → s.world.is_static ≡ i → s.world.gone ≡ n → old ≡ op.Closing closing_op.LeakOut ∷ [] →
+  pub leaks-out : (i n : Bool) → s.world.is_static ≡ i → s.world.gone ≡ n → old ≡ Op.Closing ClosingOp.LeakOut ∷ [] →
       d ≡ leak_out_by (i || n) s.world → Leaks (unsettled s p rest d)
   leaks-out true n i g q z = absurd (let no : true ≡ false = sym i ∙ (k.opened (there q)).0 in cc)
   leaks-out false true i g q z = absurd (let no : true ≡ false = sym g ∙ (k.opened (there q)).1 in cc)
@@ -276,7 +250,7 @@ module _ (s : Machine) (p : ℕ) (old rest : List Op) (d : Done) (l : p < length
 
   -- the next is woken
   pub leaks-next : (b : Bool) (ls : List ℕ) → s.world.gone ≡ b → s.world.waking ≡ ls →
-      old ≡ op.Closing closing_op.LeakNext ∷ [] → d ≡ leak_next_by b p s.world ls → (more : Trace) →
+      old ≡ Op.Closing ClosingOp.LeakNext ∷ [] → d ≡ leak_next_by b p s.world ls → (more : Trace) →
       d.world.trace ≡ s.world.trace ++ more → has is_leak_begun more ≡ false → d.world.is_static ≡ s.world.is_static →
       d.world.gone ≡ s.world.gone → Leaks (unsettled s p rest d)
   leaks-next true ls g i q z more t n static gone = stays more t n static gone (ap (weigh leaks_of) q)
@@ -294,7 +268,7 @@ module _ (s : Machine) (p : ℕ) (old rest : List Op) (d : Done) (l : p < length
       u = record s.world { waking = gs }
 
       left : d.world.waking ≡ gs
-      left = ap (λ (c : Done). c.world.waking) z ∙ sym (ap (λ (x : Entries). x.waking) (entries-move true move.Wake p u f))
+      left = ap (λ (c : Done). c.world.waking) z ∙ sym (ap (λ (x : Entries). x.waking) (entries-move true Move.Wake p u f))
 
       on : (ws : List ℕ) → gs ≡ ws → (d.world.waking ≡ []) ⊎ (1 ≤ weigh_all nexts_of (unsettled s p rest d).parties)
       on [] j = inl (left ∙ j)
@@ -312,7 +286,7 @@ module _ (s : Machine) (p : ℕ) (old rest : List Op) (d : Done) (l : p < length
           (1 ≤ times h d.world.waking) ⊎ (has (is_leaked h) d.world.trace ≡ true)
       keeps h true j y = inr (subst (λ (es : Trace). has (is_leaked h) es ≡ true)
           (sym (ap (λ (c : Done). c.world.trace) z))
-          (has-right (is_leaked h) (wake_next_by p s.world (f ∷ gs)).world.trace (event.Leaked p f ∷ [])
+          (has-right (is_leaked h) (wake_next_by p s.world (f ∷ gs)).world.trace (Event.Leaked p f ∷ [])
           (or-left (eqb h f) false j)))
       keeps h false j y = inl (omega (
         arith,
@@ -330,30 +304,26 @@ module _ (s : Machine) (p : ℕ) (old rest : List Op) (d : Done) (l : p < length
   -- who to wake is changed by a leak alone, before the drop of the executor begins
   pub waking-act : Good s → (h : Hint) (o : Op) → is_leaking o ≡ false → old ≡ o ∷ [] →
       ((act p h o s.world).world.waking ≡ s.world.waking) ⊎ (s.world.gone ≡ true)
-  waking-act fine h (op.Closing closing_op.LeakOut) n q = absurd (cc)
-  waking-act fine h (op.Closing closing_op.LeakNext) n q = absurd (cc)
-  waking-act fine h (op.Table (table_op.Enter mark)) n q = inl (enter-waking _ _)
+  waking-act fine h (Op.Closing ClosingOp.LeakOut) n q = absurd (cc)
+  waking-act fine h (Op.Closing ClosingOp.LeakNext) n q = absurd (cc)
+  waking-act fine h (Op.Table (TableOp.Enter mark)) n q = inl (enter-waking _ _)
     where
       enter-waking : (b c : Bool) → (enter_by b c mark p s.world).world.waking ≡ s.world.waking
       enter-waking true c = refl
       enter-waking false true = refl
       enter-waking false false = refl
-  waking-act fine h (op.Table (table_op.LeaveTable f)) n q = inl (leave-waking _)
+  waking-act fine h (Op.Table (TableOp.LeaveTable f)) n q = inl (leave-waking _)
     where
       leave-waking : (b : Bool) → (leave_by b s.world f).world.waking ≡ s.world.waking
       leave-waking true = refl
       leave-waking false = refl
-  waking-act fine h (op.Closing closing_op.TakeOut) n q = inl refl
-  waking-act fine h (op.Closing closing_op.DropNext) n q = drop-waking s.world.leaving refl
+  waking-act fine h (Op.Closing ClosingOp.TakeOut) n q = inl refl
+  waking-act fine h (Op.Closing ClosingOp.DropNext) n q = drop-waking s.world.leaving refl
     where
       drop-waking : (ls : List ℕ) → s.world.leaving ≡ ls →
           ((drop_next_by p s.world ls).world.waking ≡ s.world.waking) ⊎ (s.world.gone ≡ true)
       drop-waking [] i = inl refl
       drop-waking (f ∷ ls) i = inr ((fine.sound f).ousted (omega (arith, ap (times f) i, same-self f)))
-  waking-act fine h (op.Closing closing_op.WakeNext) n q =
-      inr ((k.ordered.placed.leaves 0).left (omega (
-        arith,
-        split waking_of s.parties p old rest l e,
-        ap (weigh waking_of) q,
-      ))).0
+  waking-act fine h (Op.Closing ClosingOp.WakeNext) n q =
+      inr ((k.ordered.placed.leaves 0).left (omega (arith, split waking_of s.parties p old rest l e, ap (weigh waking_of) q))).0
   waking-act fine h o n q = inl (sym (ap (λ (x : Entries). x.waking) (same-entries p h o s.world refl)))

@@ -1,44 +1,24 @@
 -- For leaks_wake_each_future.
 -- What is to be done of a leak belongs to a leak that is in progress.
-use Rattle.std.proofs.Common.{◌≡◌, ⊎_elim, ℕ, suc, ◌<◌, ◌≤◌, List, [], ◌∷◌, ◌++◌, length, false, get_or}
-use Rattle.std.proofs.Common.{refl, sym, ap, ◌∙◌, subst, arith}
-use Rattle.std.specs.Prelude.{reverse}
-use Rattle.executor_model.specs.declared.call.Call.{Call}
-use Rattle.executor_model.specs.declared.call.Call.TheVariants as call
-use Rattle.executor_model.specs.declared.call.Reply.{Reply}
-use Rattle.executor_model.specs.declared.kind.Kind.{Kind}
-use Rattle.executor_model.specs.declared.op.ClosingOp.TheVariants as closing_op
-use Rattle.executor_model.specs.declared.op.Hold.{Hold}
-use Rattle.executor_model.specs.declared.op.Op.{Op}
-use Rattle.executor_model.specs.declared.op.Op.TheVariants as op
-use Rattle.executor_model.specs.declared.op.Waker.{Waker}
-use Rattle.executor_model.specs.declared.step.Hint.{Hint}
-use Rattle.std.specs.Prelude.{Option}
-use Rattle.executor_model.specs.declared.event.Event.TheVariants as event
-use Rattle.executor_model.specs.Calls.{Begun, calls}
-use Rattle.executor_model.specs.Doing.{act}
-use Rattle.executor_model.specs.Rows.{leaking_of}
+use Rattle.std.proofs.Common.{◌≡◌, ⊎_elim, ℕ, suc, ◌<◌, ◌≤◌, List, [], ◌∷◌, ◌++◌, length, false, get_or, refl, sym, ap, ◌∙◌}
+use Rattle.std.{proofs.Common.subst, proofs.Common.arith, specs.Prelude.reverse, specs.Prelude.Option}
+use Rattle.executor_model.proofs.Types.{Call, Reply, Kind, ClosingOp, Hold, Op, Waker, Hint, Event}
 use Rattle.executor_model.specs.Steps.{Machine, begun, mine, stack, start, top}
-use Rattle.executor_model.specs.Trace.{Trace}
-use Rattle.executor_model.specs.Weights.{weigh, weigh_all}
-use Rattle.executor_model.specs.World.{World, Done, done, log}
-use Rattle.executor_model.proofs.Promises.CallFrames.{Frames, Tied}
-use Rattle.executor_model.proofs.Promises.Dropping.{Anyhow}
+use Rattle.executor_model.specs.{Calls.Begun, Calls.calls, Doing.act, Rows.leaking_of, Trace.Trace, Weights.weigh}
+use Rattle.executor_model.specs.{Weights.weigh_all, World.World, World.Done, World.done, World.log}
 use Rattle.executor_model.proofs.Promises.FrameWays.{frames-end, frames-start, frames-way}
-use Rattle.executor_model.proofs.Quiet.Calls.{is_end}
-use Rattle.executor_model.proofs.Steps.Lift.{unsettled}
-use Rattle.executor_model.proofs.Steps.Lists.{weigh-append, weigh-reverse}
-use Rattle.executor_model.proofs.Steps.Ways.{Way}
-use Rattle.executor_model.proofs.Steps.Ways.Way.{acted, called, reacted}
 use Rattle.executor_model.proofs.Table.LeakCounts.{goes-act, goes-begun, goes-leak_next, goes-leak_out, goes-react, goes_of}
+use Rattle.executor_model.proofs.{Promises.CallFrames.Frames, Promises.CallFrames.Tied, Promises.Dropping.Anyhow}
+use Rattle.executor_model.proofs.{Quiet.Calls.is_end, Steps.Lift.unsettled, Steps.Lists.weigh-append, Steps.Lists.weigh-reverse}
+use Rattle.executor_model.proofs.{Steps.Ways.Way, Steps.Ways.Way.acted, Steps.Ways.Way.called, Steps.Ways.Way.reacted}
 
 -- the wakers are to be taken out of the table, or the next is to be woken
 abbrev pub going_of : Op → ℕ
 going_of o = goes_of 1 1 o
 
 less-act : (p : ℕ) (h : Hint) (o : Op) (w : World) → is_end o ≡ false → weigh going_of (act p h o w).next ≤ going_of o
-less-act p h (op.Closing closing_op.LeakOut) w n = goes-leak_out 1 1 _ w
-less-act p h (op.Closing closing_op.LeakNext) w n = goes-leak_next 1 1 _ p w w.waking
+less-act p h (Op.Closing ClosingOp.LeakOut) w n = goes-leak_out 1 1 _ w
+less-act p h (Op.Closing ClosingOp.LeakNext) w n = goes-leak_next 1 1 _ p w w.waking
 less-act p h o w n = omega (arith, goes-act 1 1 p h o w refl)
 
 less-way : (s : Machine) (p : ℕ) (old rest : List Op) (d : Done) → Way s p old rest d → (o : Op) → old ≡ o ∷ [] →
@@ -52,14 +32,14 @@ less-way s p old rest d (reacted x u a q z) o e n =
 less-way s p old rest d (called c q r m z) o e n = absurd (let y : o ∷ [] ≡ [] = sym e ∙ q in cc)
 
 unheld : (o : Op) → is_end o ≡ false → leaking_of o ≡ 0
-unheld (op.End a held) n = absurd (cc)
+unheld (Op.End a held) n = absurd (cc)
 unheld _ n = refl
 
 within-begun : (p : ℕ) (w : World) (here : Option Waker) (c : Call) →
     weigh going_of (begun p w here c).next ≤ weigh leaking_of (begun p w here c).next
 within-begun p w here c = ⊎_elim
     (λ (x : weigh going_of (begun p w here c).next ≡ 0). omega (arith, x))
-    (λ (x : c ≡ call.Leak). subst (λ (k : Call). weigh going_of (begun p w here k).next
+    (λ (x : c ≡ Call.Leak). subst (λ (k : Call). weigh going_of (begun p w here k).next
     ≤ weigh leaking_of (begun p w here k).next) (sym x) (omega arith)) (goes-begun 1 1 p w here c)
 
 -- of each call
@@ -73,7 +53,7 @@ within-later es more b os h = h
 abbrev pub Withins : Machine → Type 0
 Withins s = Frames Within within-later Anyhow s
 
-anyhow : (es : Trace) (b : Begun) (a : Reply) (held : Hold) → Within es b (op.End a held ∷ []) →
+anyhow : (es : Trace) (b : Begun) (a : Reply) (held : Hold) → Within es b (Op.End a held ∷ []) →
     Anyhow (record { call = b.call; own = b.own; reply = a; past = es })
 anyhow es b a held h = tt
 
@@ -81,8 +61,8 @@ pub withins-start : (limit : ℕ) (kind : Kind) (n : ℕ) → Withins (start lim
 withins-start limit kind n = frames-start Within within-later Anyhow anyhow limit kind n
 
 pub withins-end : (s : Machine) (p : ℕ) (a : Reply) (held : Hold) (below : List Op) → p < length s.parties →
-    stack s p ≡ below ++ reverse (op.End a held ∷ []) → Withins s →
-    Withins (unsettled s p below (done (log s.world (event.CallEnded p a)) []))
+    stack s p ≡ below ++ reverse (Op.End a held ∷ []) → Withins s →
+    Withins (unsettled s p below (done (log s.world (Event.CallEnded p a)) []))
 withins-end s p a held below l e f = frames-end Within within-later Anyhow anyhow s p a held below l e f
 
 pub withins-moves : (s : Machine) (p : ℕ) (old rest : List Op) (d : Done) → p < length s.parties →
@@ -98,7 +78,7 @@ withins-moves s p old rest d l e way k =
       weigh-append leaking_of d.next below,
     ))
     (λ c q a more z t. subst (λ (x : Done). weigh going_of x.next ≤ weigh leaking_of x.next) (sym z)
-    (within-begun p (log s.world (event.CallBegun p c)) (mine (top (stack s p))) c)) way
+    (within-begun p (log s.world (Event.CallBegun p c)) (mine (top (stack s p))) c)) way
 
 -- of all
 

@@ -1,57 +1,35 @@
 -- For early_drops_have_causes and last_wakers_are_of_detached_futures.
 -- A machine is static where it was made so, or a leak of its executor has begun.
-use Rattle.std.proofs.Common.{◌≡◌, ◌⊎◌, ℕ, ◌<◌, ◌≤◌, List, [], ◌∷◌, ◌++◌, length, take, Bool, true, false, ◌||◌, inl, inr, ⊎_elim}
-use Rattle.std.proofs.Common.{refl, sym, subst, ap, ◌∙◌, arith}
+use Rattle.std.proofs.Common.{◌≡◌, ◌⊎◌, ℕ, ◌<◌, ◌≤◌, List, [], ◌∷◌, ◌++◌, length, take, Bool, true, false, ◌||◌, inl, inr}
+use Rattle.std.proofs.Common.{⊎_elim, refl, sym, subst, ap, ◌∙◌, arith}
 use Rattle.std.specs.Prelude.{Option, reverse}
-use Rattle.task_moves.specs.declared.moves.owed.Move.{Move}
-use Rattle.executor_model.specs.declared.kind.Kind.{Kind}
+use Rattle.executor_model.proofs.Types.{Move, Kind, Call, Reply, Event, ClosingOp, Hold, Op, Step, Waker}
 use Rattle.executor_model.specs.declared.kind.Kind.TheVariants.{Owned, Static}
-use Rattle.executor_model.specs.declared.call.Call.{Call}
-use Rattle.executor_model.specs.declared.call.Call.TheVariants as call
-use Rattle.executor_model.specs.declared.call.Reply.{Reply}
-use Rattle.executor_model.specs.declared.event.Event.{Event}
-use Rattle.executor_model.specs.declared.event.Event.TheVariants as event
-use Rattle.executor_model.specs.declared.op.ClosingOp.TheVariants as closing_op
-use Rattle.executor_model.specs.declared.op.Hold.{Hold}
-use Rattle.executor_model.specs.declared.op.Op.{Op}
-use Rattle.executor_model.specs.declared.op.Op.TheVariants as op
-use Rattle.executor_model.specs.declared.step.Step.{Step}
-use Rattle.executor_model.specs.Acts.{is_last_waker, is_told, move_by}
-use Rattle.executor_model.specs.Doing.{act}
-use Rattle.executor_model.specs.Good.{Good}
 use Rattle.executor_model.specs.Steps.{Machine, begun, mine, run, stack, start, top}
 use Rattle.executor_model.specs.Trace.{Trace, has, is_drop_begun, is_leak_begun}
-use Rattle.executor_model.specs.Weights.{weigh, weigh_all}
-use Rattle.executor_model.specs.declared.op.Waker.{Waker}
-use Rattle.executor_model.specs.World.{World, Done, done, log, task}
-use Rattle.executor_model.proofs.OneFuture.Effects.{Effect}
-use Rattle.executor_model.proofs.OneFuture.Effects.Effect.{passes, turns, refuses, enters, unlists, drops, takes_out, drops_next}
-use Rattle.executor_model.proofs.OneFuture.Effects.Effect.{leaks, leaks_out}
-use Rattle.executor_model.proofs.OneFuture.EffectsWays.{Effects, effects-way}
+use Rattle.executor_model.specs.{Acts.is_last_waker, Acts.is_told, Acts.move_by, Doing.act, Good.Good, Weights.weigh}
+use Rattle.executor_model.specs.{Weights.weigh_all, World.World, World.Done, World.done, World.log, World.task}
+use Rattle.executor_model.proofs.OneFuture.Effects.Effect.{passes, turns, refuses, enters, unlists, drops, takes_out}
+use Rattle.executor_model.proofs.Table.LastWakers.{Reading, bare-told, begun-by, leaked-is, newly, reads-append, reads_from}
+use Rattle.executor_model.proofs.OneFuture.Effects.Effect.{drops_next, leaks, leaks_out}
 use Rattle.executor_model.proofs.OneFuture.EffectsWays.Effects.{does, pends, readies, closes}
-use Rattle.executor_model.proofs.OneFuture.Extras.{no_extra}
-use Rattle.executor_model.proofs.OneFuture.MoveViews.{told-world}
-use Rattle.executor_model.proofs.OneFuture.Views.{none}
-use Rattle.executor_model.proofs.Promises.CallPromises.{has-left, has-right}
-use Rattle.executor_model.proofs.Quiet.Calls.{is_end}
 use Rattle.executor_model.proofs.Steps.Deeds.{Grows, begins_one, grows-act, grows-begun, grows-react}
 use Rattle.executor_model.proofs.Steps.Lift.{good, good-start, split, unsettled, weigh_all-idle}
-use Rattle.executor_model.proofs.Steps.Lists.{weigh_all-push}
 use Rattle.executor_model.proofs.Table.LeakCounts.{leak-act, leak-begun, leak-react, leaks_of}
-use Rattle.executor_model.proofs.Steps.Ways.{Way, along}
 use Rattle.executor_model.proofs.Steps.Ways.Way.{acted, called, reacted}
-use Rattle.executor_model.proofs.OneFuture.Stories.{story}
-use Rattle.executor_model.proofs.Steps.Tests.{left-false, right-false}
-use Rattle.executor_model.proofs.Steps.TraceMore.{has-append}
-use Rattle.executor_model.proofs.Table.Entering.{IsOfKind, LastIsTold}
-use Rattle.executor_model.proofs.Table.LastWakers.{Reading, bare-told, begun-by, leaked-is, newly, reads-append, reads_from, unread}
 use Rattle.executor_model.proofs.Table.LeavingExecutions.{Placed, placed-ends, placed-moves, placed-start}
+use Rattle.executor_model.proofs.{OneFuture.Effects.Effect, OneFuture.EffectsWays.Effects, OneFuture.EffectsWays.effects-way}
+use Rattle.executor_model.proofs.{OneFuture.Extras.no_extra, OneFuture.MoveViews.told-world, OneFuture.Views.none}
+use Rattle.executor_model.proofs.{Promises.CallPromises.has-left, Promises.CallPromises.has-right, Quiet.Calls.is_end}
+use Rattle.executor_model.proofs.{Steps.Lists.weigh_all-push, Steps.Ways.Way, Steps.Ways.along, OneFuture.Stories.story}
+use Rattle.executor_model.proofs.{Steps.Tests.left-false, Steps.Tests.right-false, Steps.TraceMore.has-append}
+use Rattle.executor_model.proofs.{Table.Entering.IsOfKind, Table.Entering.LastIsTold, Table.LastWakers.unread}
 
 -- nothing but a leak makes a machine static
 
 abbrev pub Becomes : World → List Op → Done → Type 0
 Becomes w old d = (d.world.is_static ≡ w.is_static)
-    ⊎ ((w.is_static ≡ false) × (old ≡ op.Closing closing_op.LeakOut ∷ []))
+    ⊎ ((w.is_static ≡ false) × (old ≡ Op.Closing ClosingOp.LeakOut ∷ []))
 
 static-moved : (m : Move) (p : ℕ) (w : World) (f : ℕ) → (move_by true m p w f).world.is_static ≡ w.is_static
 static-moved m p w f =
@@ -68,7 +46,7 @@ static-effect w old d (drops p f) = inl refl
 static-effect w old d takes_out = inl refl
 static-effect w old d (drops_next p f rest e) = inl refl
 static-effect w old d (leaks_out s n) = inr (s, refl)
-static-effect w old _ (leaks d p f e a) = static-effect w (op.Closing closing_op.LeakNext ∷ []) d e
+static-effect w old _ (leaks d p f e a) = static-effect w (Op.Closing ClosingOp.LeakNext ∷ []) d e
 
 pub static-effects : (w : World) (ss : List (List Op)) (old : List Op) (d : Done) → Effects w ss old d → Becomes w old d
 static-effects w ss old d (does e) = static-effect w old d e
@@ -87,18 +65,18 @@ leak-stays s p old rest d (acted t o q z) k =
     by o false n =
         let g = grows-act p t o s.world n in
         subst (λ (es : Trace). has is_leak_begun es ≡ true) (sym g.is) (has-left is_leak_begun s.world.trace g.more k)
-    by (op.End a held) true n = has-left is_leak_begun s.world.trace (event.CallEnded p a ∷ []) k
+    by (Op.End a held) true n = has-left is_leak_begun s.world.trace (Event.CallEnded p a ∷ []) k
     by _ true n = absurd (cc)
 leak-stays s p old rest d (reacted o u a q z) k =
     let g = grows-react p o u s.world in
     subst (λ (x : Done). has is_leak_begun x.world.trace ≡ true) (sym z)
     (subst (λ (es : Trace). has is_leak_begun es ≡ true) (sym g.is) (has-left is_leak_begun s.world.trace g.more k))
 leak-stays s p old rest d (called c q r n z) k =
-    let w : World = log s.world (event.CallBegun p c) in
+    let w : World = log s.world (Event.CallBegun p c) in
     let g = grows-begun p w (mine (top (stack s p))) c in
     subst (λ (x : Done). has is_leak_begun x.world.trace ≡ true) (sym z)
     (subst (λ (es : Trace). has is_leak_begun es ≡ true) (sym g.is)
-    (has-left is_leak_begun w.trace g.more (has-left is_leak_begun s.world.trace (event.CallBegun p c ∷ []) k)))
+    (has-left is_leak_begun w.trace g.more (has-left is_leak_begun s.world.trace (Event.CallBegun p c ∷ []) k)))
 
 -- who is about to take the wakers out of the table has begun a leak
 
@@ -111,17 +89,17 @@ leads s p old rest d (acted t o q z) = inl (ap (λ (x : Done). weigh leaks_of x.
 leads s p old rest d (reacted o u a q z) = inl (ap (λ (x : Done). weigh leaks_of x.next) z ∙ leak-react p o u s.world)
 leads s p old rest d (called c q r n z) = ⊎_elim
     (λ (x : weigh leaks_of (begun p w here c).next ≡ 0). inl (ap (λ (x : Done). weigh leaks_of x.next) z ∙ x))
-    (λ (x : c ≡ call.Leak). inr (subst (λ (y : Done). has is_leak_begun y.world.trace ≡ true) (sym z)
+    (λ (x : c ≡ Call.Leak). inr (subst (λ (y : Done). has is_leak_begun y.world.trace ≡ true) (sym z)
     (subst (λ (es : Trace). has is_leak_begun es ≡ true) (sym g.is)
-    (has-left is_leak_begun w.trace g.more (has-right is_leak_begun s.world.trace (event.CallBegun p c ∷ [])
-    (subst (λ (k : Call). has is_leak_begun (event.CallBegun p k ∷ []) ≡ true) (sym x) refl))))))
+    (has-left is_leak_begun w.trace g.more (has-right is_leak_begun s.world.trace (Event.CallBegun p c ∷ [])
+    (subst (λ (k : Call). has is_leak_begun (Event.CallBegun p k ∷ []) ≡ true) (sym x) refl))))))
     (leak-begun p w here c)
   where
     here : Option Waker
     here = mine (top (stack s p))
 
     w : World
-    w = log s.world (event.CallBegun p c)
+    w = log s.world (Event.CallBegun p c)
 
     g : Grows p w (begun p w here c).world
     g = grows-begun p w here c
@@ -140,21 +118,17 @@ begun-moves s p old rest d l e way k = λ m. ⊎_elim
 
 -- the wakers of the table go to be woken only behind that
 leak-told : (s : Machine) (p : ℕ) (old rest : List Op) → p < length s.parties → stack s p ≡ rest ++ reverse old →
-    old ≡ op.Closing closing_op.LeakOut ∷ [] → Begun s → has is_leak_begun s.world.trace ≡ true
-leak-told s p old rest l e x k = k (omega (
-  arith,
-  ap (weigh leaks_of) x,
-  split leaks_of s.parties p old rest l e,
-))
+    old ≡ Op.Closing ClosingOp.LeakOut ∷ [] → Begun s → has is_leak_begun s.world.trace ≡ true
+leak-told s p old rest l e x k = k (omega (arith, ap (weigh leaks_of) x, split leaks_of s.parties p old rest l e))
 
 begun-ends : (s : Machine) (p : ℕ) (a : Reply) (held : Hold) (below : List Op) → p < length s.parties →
-    stack s p ≡ below ++ reverse (op.End a held ∷ []) → Begun s →
-    Begun (unsettled s p below (done (log s.world (event.CallEnded p a)) []))
-begun-ends s p a held below l e k = λ m. has-left is_leak_begun s.world.trace (event.CallEnded p a ∷ []) (k (omega (
+    stack s p ≡ below ++ reverse (Op.End a held ∷ []) → Begun s →
+    Begun (unsettled s p below (done (log s.world (Event.CallEnded p a)) []))
+begun-ends s p a held below l e k = λ m. has-left is_leak_begun s.world.trace (Event.CallEnded p a ∷ []) (k (omega (
   arith,
   m,
   weigh_all-push leaks_of s.parties p below [] l,
-  split leaks_of s.parties p (op.End a held ∷ []) below l e,
+  split leaks_of s.parties p (Op.End a held ∷ []) below l e,
 )))
 
 begun-start : (limit : ℕ) (kind : Kind) (n : ℕ) → Begun (start limit kind n)
@@ -169,7 +143,7 @@ none-leaks (e ∷ more) z = ap (λ (b : Bool). b || has is_leak_begun more)
     ∙ none-leaks more (right-false (begins_one e) (has begins_one more) z)
   where
     not-leak : (e : Event) → begins_one e ≡ false → is_leak_begun e ≡ false
-    not-leak (event.CallBegun p c) z = absurd (cc)
+    not-leak (Event.CallBegun p c) z = absurd (cc)
     not-leak _ z = refl
 
 -- what a step adds, behind the beginning of a call, begins no leak
@@ -192,9 +166,9 @@ parts-of s p old rest d (acted t o q z) = subst (λ (x : Done). Parts s.world.tr
       none = none-leaks g.more g.none_begins;
       same = λ f k. k;
     }
-    by (op.End a held) true n = record {
+    by (Op.End a held) true n = record {
       first = s.world.trace;
-      more = event.CallEnded p a ∷ [];
+      more = Event.CallEnded p a ∷ [];
       is = refl;
       none = refl;
       same = λ f k. k;
@@ -209,14 +183,14 @@ parts-of s p old rest d (reacted o u a q z) = let g = grows-react p o u s.world 
       same = λ f k. k;
     }
 parts-of s p old rest d (called c q r n z) =
-    let w : World = log s.world (event.CallBegun p c) in
+    let w : World = log s.world (Event.CallBegun p c) in
     let g = grows-begun p w (mine (top (stack s p))) c in
     subst (λ (x : Done). Parts s.world.trace x.world.trace) (sym z) record {
       first = w.trace;
       more = g.more;
       is = g.is;
       none = none-leaks g.more g.none_begins;
-      same = λ f k. ap (λ (x : Reading). x.bare) (reads-append f unread s.world.trace (event.CallBegun p c ∷ []))
+      same = λ f k. ap (λ (x : Reading). x.bare) (reads-append f unread s.world.trace (Event.CallBegun p c ∷ []))
           ∙ ap (λ (b : Bool). b || false) k;
     }
 
@@ -273,14 +247,14 @@ module _ (kind : Kind) where
       stack s p ≡ rest ++ reverse old → Way s p old rest d → Known s → IsOfKind kind (unsettled s p rest d)
   kind-moves s p old rest d fine l e way k = λ t. ⊎_elim
       (λ (x : d.world.is_static ≡ s.world.is_static). later s d.world (leak-stays s p old rest d way) (k.2 (sym x ∙ t)))
-      (λ (x : (s.world.is_static ≡ false) × (old ≡ op.Closing closing_op.LeakOut ∷ [])).
+      (λ (x : (s.world.is_static ≡ false) × (old ≡ Op.Closing ClosingOp.LeakOut ∷ [])).
       inr (leak-stays s p old rest d way (leak-told s p old rest l e x.1 k.1)))
       (static-effects s.world s.parties old d (effects-way s p old rest d fine l e way))
 
   kind-ends : (s : Machine) (p : ℕ) (a : Reply) (held : Hold) (below : List Op) → IsOfKind kind s →
-      IsOfKind kind (unsettled s p below (done (log s.world (event.CallEnded p a)) []))
-  kind-ends s p a held below k = λ t. later s (log s.world (event.CallEnded p a))
-      (has-left is_leak_begun s.world.trace (event.CallEnded p a ∷ [])) (k t)
+      IsOfKind kind (unsettled s p below (done (log s.world (Event.CallEnded p a)) []))
+  kind-ends s p a held below k = λ t. later s (log s.world (Event.CallEnded p a))
+      (has-left is_leak_begun s.world.trace (Event.CallEnded p a ∷ [])) (k t)
 
   kind-start : (limit n : ℕ) → IsOfKind kind (start limit kind n)
   kind-start limit n = by kind
@@ -302,19 +276,19 @@ module _ (kind : Kind) where
       )
 
   ends : (s : Machine) (p : ℕ) (a : Reply) (held : Hold) (below : List Op) → p < length s.parties →
-      stack s p ≡ below ++ reverse (op.End a held ∷ []) → Known s →
-      Known (unsettled s p below (done (log s.world (event.CallEnded p a)) []))
+      stack s p ≡ below ++ reverse (Op.End a held ∷ []) → Known s →
+      Known (unsettled s p below (done (log s.world (Event.CallEnded p a)) []))
   ends s p a held below l e k =
-      let placed : Placed (unsettled s p below (done (log s.world (event.CallEnded p a)) [])) =
+      let placed : Placed (unsettled s p below (done (log s.world (Event.CallEnded p a)) [])) =
       placed-ends s p a held below l e k.0 in
-      let now : IsOfKind kind (unsettled s p below (done (log s.world (event.CallEnded p a)) [])) =
+      let now : IsOfKind kind (unsettled s p below (done (log s.world (Event.CallEnded p a)) [])) =
       kind-ends s p a held below k.2 in (
         placed,
         begun-ends s p a held below l e k.1,
         now,
-        told-moves kind s.world.trace (s.world.trace ++ event.CallEnded p a ∷ []) (record {
+        told-moves kind s.world.trace (s.world.trace ++ Event.CallEnded p a ∷ []) (record {
           first = s.world.trace;
-          more = event.CallEnded p a ∷ [];
+          more = Event.CallEnded p a ∷ [];
           is = refl;
           none = refl;
           same = λ f k. k;

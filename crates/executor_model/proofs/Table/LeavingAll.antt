@@ -3,71 +3,51 @@
 -- What holds of each future and its place in the table (proofs/Table/Leaving) is kept by each effect, and so by each thing that
 -- is done.
 use Rattle.std.proofs.Common.{◌≡◌, ℕ, ◌+◌, ◌<◌, List, [], ◌∷◌, ◌++◌, length, true, false, ◌&&◌, not, refl, ap, arith}
-use Rattle.std.proofs.lemmas.List.{length-append}
-use Rattle.std.specs.Prelude.{nat_lt, slice_set}
-use Rattle.executor_model.proofs.Steps.QueuesByMark.{is_any_shut}
-use Rattle.executor_model.specs.Acts.{takes_more}
-use Rattle.executor_parts.specs.declared.mark.Mark.{Mark}
-use Rattle.task_moves.specs.declared.moves.owed.Move.TheVariants as move
-use Rattle.executor_model.specs.declared.call.Call.TheVariants as call
-use Rattle.executor_model.specs.declared.call.Reply.{Reply}
-use Rattle.executor_model.specs.declared.call.Reply.TheVariants as reply
-use Rattle.executor_model.specs.declared.event.Answer.TheVariants as answer
-use Rattle.executor_model.specs.declared.event.Event.TheVariants as event
-use Rattle.executor_model.specs.declared.op.ClosingOp.TheVariants as closing_op
-use Rattle.executor_model.specs.declared.op.Hold.{Hold}
-use Rattle.executor_model.specs.declared.op.Hold.TheVariants as hold
-use Rattle.executor_model.specs.declared.op.Op.{Op}
-use Rattle.executor_model.specs.declared.op.Op.TheVariants as op
-use Rattle.executor_model.specs.declared.op.QueueOp.TheVariants as queue_op
-use Rattle.executor_model.specs.declared.op.TableOp.TheVariants as table_op
-use Rattle.executor_model.specs.declared.op.UserOp.TheVariants as user_op
+use Rattle.std.{proofs.lemmas.List.length-append, specs.Prelude.nat_lt, specs.Prelude.slice_set}
+use Rattle.executor_model.proofs.Types.{Mark, Move, Call, Reply, Answer, Event, ClosingOp, Hold, Op, QueueOp, TableOp, UserOp}
+use Rattle.executor_model.specs.Acts.{takes_more, append_by, begin_drop, closing_ops, enter_by, leave_by, stands_alone}
 use Rattle.executor_model.specs.World.{World, Done, done, log, among, queue_of, mark_of}
-use Rattle.executor_model.specs.Acts.{append_by, begin_drop, closing_ops, enter_by, leave_by, stands_alone}
-use Rattle.executor_model.specs.Weights.{same}
-use Rattle.executor_model.specs.Sound.{Pend, times, with_ops}
+use Rattle.executor_model.specs.{Acts.leak_out_by, Acts.leaked, Weights.same, Sound.Pend, Sound.times, Sound.with_ops}
+use Rattle.executor_model.proofs.OneFuture.Effects.Effect.{passes, turns, refuses, enters, unlists, drops, takes_out}
 use Rattle.executor_model.proofs.Steps.Lists.{fresh_is, read_push, same_is, times-append, without_one}
 use Rattle.executor_model.proofs.OneFuture.Stories.{length-except, story, story-push, times-except}
 use Rattle.executor_model.proofs.OneFuture.Extras.{Extra, with_extra}
 use Rattle.executor_model.proofs.Table.Leaving.{Base, Entered, Leaves, KeepsLeaves}
 use Rattle.executor_model.proofs.Table.LeavingViews.{base-passes, entered-loose, entered-moved, entered-passes}
-use Rattle.executor_model.proofs.OneFuture.Views.{seen}
-use Rattle.executor_model.proofs.OneFuture.Passing.{goes-end}
 use Rattle.executor_model.proofs.OneFuture.Effects.{Effect, turned-keeps}
-use Rattle.executor_model.proofs.OneFuture.Effects.Effect.{passes, turns, refuses, enters, unlists, drops, takes_out, drops_next}
-use Rattle.executor_model.specs.Acts.{leak_out_by, leaked}
+use Rattle.executor_model.proofs.OneFuture.Effects.Effect.{drops_next, leaks, leaks_out}
 use Rattle.executor_model.proofs.OneFuture.MoveViews.{HasAsked, leaked-keeps, leaks_out-keeps}
-use Rattle.executor_model.proofs.OneFuture.Effects.Effect.{leaks, leaks_out}
+use Rattle.executor_model.proofs.{Steps.QueuesByMark.is_any_shut, OneFuture.Views.seen, OneFuture.Passing.goes-end}
 
 leaves-refuses : (w : World) (mark : Mark) (f : ℕ) → is_any_shut w.queues ≡ true →
-    KeepsLeaves w (op.Queue (queue_op.Append f) ∷ []) (append_by false w mark f)
+    KeepsLeaves w (Op.Queue (QueueOp.Append f) ∷ []) (append_by false w mark f)
 leaves-refuses w mark f c g r y b h = grind (arith, same_is)
 
 leaves-enters : (mark : Mark) (p : ℕ) (w : World) → (w.gone ≡ false → (g : ℕ) → length (story g w.trace).standing < w.limit) →
-    KeepsLeaves w (op.Table (table_op.Enter mark) ∷ []) (enter_by false false mark p w)
+    KeepsLeaves w (Op.Table (TableOp.Enter mark) ∷ []) (enter_by false false mark p w)
 leaves-enters mark p w l g r y b h =
     let n : w.gone ≡ false = grind arith in
     let z : length (story g w.trace).standing < w.limit = l n g in
     grind (arith, same_is, fresh_is, read_push, times-append, length-append, story-push)
 
 leaves-unlists : (w : World) (f : ℕ) → among f w.table ≡ true →
-    KeepsLeaves w (op.Table (table_op.LeaveTable f) ∷ []) (leave_by true w f)
+    KeepsLeaves w (Op.Table (TableOp.LeaveTable f) ∷ []) (leave_by true w f)
 leaves-unlists w f e g r y b h = grind (arith, same_is, without_one)
 
-leaves-drops : (p f : ℕ) (w : World) → KeepsLeaves w (op.User (user_op.BeginDrop f) ∷ []) (begin_drop p w f)
+leaves-drops : (p f : ℕ) (w : World) → KeepsLeaves w (Op.User (UserOp.BeginDrop f) ∷ []) (begin_drop p w f)
 leaves-drops p f w g r y b h = let z : _ = length-except f (story g w.trace).standing in
     grind (arith, same_is, times-except, story-push)
 
-leaves-takes_out : (ls ws : List ℕ) (w : World) → w.table ≡ ls → KeepsLeaves w (op.Closing closing_op.TakeOut ∷ [])
+leaves-takes_out : (ls ws : List ℕ) (w : World) → w.table ≡ ls → KeepsLeaves w (Op.Closing ClosingOp.TakeOut ∷ [])
     (done (record w { table = w.leaving; leaving = w.table }) (closing_ops ls ws))
 leaves-takes_out [] [] w e g r y b h = let z : times g w.table ≡ 0 = ap (times g) e in grind arith
 leaves-takes_out [] (x ∷ ws) w e g r y b h = let z : times g w.table ≡ 0 = ap (times g) e in grind arith
 leaves-takes_out (x ∷ ls) ws w e g r y b h = grind arith
 
 leaves-drops_next : (rest ws : List ℕ) (p : ℕ) (w : World) (f : ℕ) → w.leaving ≡ f ∷ rest →
-    KeepsLeaves w (op.Closing closing_op.DropNext ∷ [])
+    KeepsLeaves w (Op.Closing ClosingOp.DropNext ∷ [])
     (done (log (record w { leaving = rest; waking = w.waking ++ f ∷ []; inside = slice_set w.inside f false })
-    (event.Dropped p f)) (op.User (user_op.Drop f) ∷ closing_ops rest ws))
+    (Event.Dropped p f)) (Op.User (UserOp.Drop f) ∷ closing_ops rest ws))
 leaves-drops_next [] [] p w f e g r y b h = let z : times g w.leaving ≡ same g f + 0 = ap (times g) e in
     grind (arith, same_is, times-append, story-push)
 leaves-drops_next [] (x ∷ ws) p w f e g r y b h = let z : times g w.leaving ≡ same g f + 0 = ap (times g) e in
@@ -77,7 +57,7 @@ leaves-drops_next (x ∷ ls) ws p w f e g r y b h =
     grind (arith, same_is, times-append, story-push)
 
 leaves-leaks_out : (w : World) → w.is_static ≡ false → w.gone ≡ false →
-    KeepsLeaves w (op.Closing closing_op.LeakOut ∷ []) (leak_out_by false w)
+    KeepsLeaves w (Op.Closing ClosingOp.LeakOut ∷ []) (leak_out_by false w)
 leaves-leaks_out w s n g r y b h = leaks_out-keeps Entered (λ x s n t h. grind arith) w s n g r y h
 
 leaves-leaked : (d : Done) (p f g : ℕ) (r : Pend) (y : Extra) → HasAsked d.world f → Entered (seen d.world g r y) →
@@ -86,9 +66,9 @@ leaves-leaked d p f g r y a h = leaked-keeps Entered (λ x a h. grind arith) d.w
 
 -- what it needs beside: room for a Runnable, or one of the queues closed; and room for a future
 abbrev pub NeedsPlaces : World → Op → Type 0
-NeedsPlaces w (op.Queue (queue_op.Append f)) = takes_more (queue_of w (mark_of w f)) w.limit ≡ false →
+NeedsPlaces w (Op.Queue (QueueOp.Append f)) = takes_more (queue_of w (mark_of w f)) w.limit ≡ false →
     is_any_shut w.queues ≡ true
-NeedsPlaces w (op.Table (table_op.Enter mark)) = not (nat_lt (length w.table) w.limit) ≡ false → w.gone ≡ false → (g : ℕ) →
+NeedsPlaces w (Op.Table (TableOp.Enter mark)) = not (nat_lt (length w.table) w.limit) ≡ false → w.gone ≡ false → (g : ℕ) →
     length (story g w.trace).standing < w.limit
 NeedsPlaces w _ = Unit {0}
 
@@ -100,8 +80,8 @@ leaves-effect w old _ n (turns d m p f v more i j k s a e) g r y b h =
     (λ x y z. base-passes x y z.passes) (λ x y z c. entered-passes x y z.passes z.stays) w old d m p f v more i
     (λ q u. j) s a e g r y b h
 leaves-effect w old d n (refuses f e) g r y b h = leaves-refuses w (mark_of w f) f
-    (n (op.Queue (queue_op.Append f)) refl e) g r y b h
-leaves-effect w old d n (enters mark p e) g r y b h = leaves-enters mark p w (n (op.Table (table_op.Enter mark)) refl e) g r y b h
+    (n (Op.Queue (QueueOp.Append f)) refl e) g r y b h
+leaves-effect w old d n (enters mark p e) g r y b h = leaves-enters mark p w (n (Op.Table (TableOp.Enter mark)) refl e) g r y b h
 leaves-effect w old d n (unlists f e) g r y b h = leaves-unlists w f e g r y b h
 leaves-effect w old d n (drops p f) g r y b h = leaves-drops p f w g r y b h
 leaves-effect w old d n takes_out g r y b h = leaves-takes_out _ _ w refl g r y b h
@@ -111,23 +91,23 @@ leaves-effect w old d n (leaks_out s z) g r y b h = leaves-leaks_out w s z g r y
 leaves-effect w old _ n (leaks d p f e a) g r y b h = leaves-leaked d p f g _ _ a (leaves-effect w _ d n e g r y b h)
 
 -- the answers of user code
-pub leaves-pends : (p f : ℕ) (w : World) → KeepsLeaves w (op.User (user_op.Poll f) ∷ [])
-    (done (log w (event.Answered p f answer.Pending)) (op.Table (table_op.PutBack f) ∷ []))
+pub leaves-pends : (p f : ℕ) (w : World) → KeepsLeaves w (Op.User (UserOp.Poll f) ∷ [])
+    (done (log w (Event.Answered p f Answer.Pending)) (Op.Table (TableOp.PutBack f) ∷ []))
 leaves-pends p f w g r y b h = grind (arith, same_is, story-push)
 
-pub leaves-readies : (p f : ℕ) (w : World) → KeepsLeaves w (op.User (user_op.Poll f) ∷ [])
-    (done (log w (event.Answered p f answer.Ready)) (op.User (user_op.BeginDrop f) ∷ op.Move move.EndReady f ∷ []))
+pub leaves-readies : (p f : ℕ) (w : World) → KeepsLeaves w (Op.User (UserOp.Poll f) ∷ [])
+    (done (log w (Event.Answered p f Answer.Ready)) (Op.User (UserOp.BeginDrop f) ∷ Op.Move Move.EndReady f ∷ []))
 leaves-readies p f w g r y b h = grind (arith, same_is, story-push)
 
 -- the drop of the executor begins, where no call uses it
 pub leaves-closes : (p : ℕ) (w : World) (g : ℕ) (r : Pend) (y : Extra) → w.gone ≡ false → r.drops + y.leaves ≡ 0 →
     Base (seen w g (with_ops g [] r) (with_extra g [] y)) → Leaves w g (with_ops g [] r) (with_extra g [] y) →
-    Leaves (log (record (log w (event.CallBegun p call.DropExecutor)) { gone = true }) (event.DropBegun p)) g
-    (with_ops g (op.Closing closing_op.TakeOut ∷ op.End reply.Done hold.Nothing ∷ []) r)
-    (with_extra g (op.Closing closing_op.TakeOut ∷ op.End reply.Done hold.Nothing ∷ []) y)
+    Leaves (log (record (log w (Event.CallBegun p Call.DropExecutor)) { gone = true }) (Event.DropBegun p)) g
+    (with_ops g (Op.Closing ClosingOp.TakeOut ∷ Op.End Reply.Done Hold.Nothing ∷ []) r)
+    (with_extra g (Op.Closing ClosingOp.TakeOut ∷ Op.End Reply.Done Hold.Nothing ∷ []) y)
 leaves-closes p w g r y n z b h = grind (arith, story-push)
 
 pub leaves-end : (w : World) (p : ℕ) (a : Reply) (held : Hold) (g : ℕ) (r : Pend) (y : Extra) →
-    Leaves w g (with_ops g (op.End a held ∷ []) r) (with_extra g (op.End a held ∷ []) y) →
-    Leaves (log w (event.CallEnded p a)) g (with_ops g [] r) (with_extra g [] y)
+    Leaves w g (with_ops g (Op.End a held ∷ []) r) (with_extra g (Op.End a held ∷ []) y) →
+    Leaves (log w (Event.CallEnded p a)) g (with_ops g [] r) (with_extra g [] y)
 leaves-end w p a held g r y h = let s = goes-end p w a held g r y in entered-passes _ _ s.passes s.stays h

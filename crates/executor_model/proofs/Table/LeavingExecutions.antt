@@ -1,43 +1,27 @@
 -- For table_and_queue_agree, no_append_is_refused_full, the_limit_is_exact, drops_come_once, early_drops_have_causes
 -- and closing_drops_each_future_once.
 -- In each execution every future leaves the table as it should, and no append finds its queue full.
-use Rattle.std.proofs.Common.{◌≡◌, ℕ, zero, suc, ◌+◌, ◌<◌, ◌≤◌, List, [], ◌∷◌, ◌++◌, length, set}
-use Rattle.std.proofs.Common.{Bool, true, false, ◌&&◌, not, refl, subst, inl, ⊎_elim, arith}
-use Rattle.std.proofs.lemmas.Bool.Decides.{nat_tests}
-use Rattle.std.specs.Prelude.{reverse, nat_lt}
-use Rattle.executor_model.proofs.Steps.QueuesByMark.{any-shut, times-one}
-use Rattle.executor_parts.specs.declared.mark.Mark.{Mark}
-use Rattle.executor_model.specs.declared.kind.Kind.{Kind}
-use Rattle.executor_model.specs.declared.call.Reply.{Reply}
-use Rattle.executor_model.specs.declared.event.Event.TheVariants as event
-use Rattle.executor_model.specs.declared.op.Hold.{Hold}
-use Rattle.executor_model.specs.declared.op.Op.{Op}
-use Rattle.executor_model.specs.declared.op.Op.TheVariants as op
-use Rattle.task_moves.specs.declared.moves.owed.Move.TheVariants as move
-use Rattle.executor_model.specs.declared.op.QueueOp.TheVariants as queue_op
-use Rattle.executor_model.specs.declared.op.TableOp.TheVariants as table_op
-use Rattle.executor_model.specs.declared.step.Step.{Step}
+use Rattle.std.proofs.Common.{◌≡◌, ℕ, zero, suc, ◌+◌, ◌<◌, ◌≤◌, List, [], ◌∷◌, ◌++◌, length, set, Bool, true, false, ◌&&◌, not}
+use Rattle.std.proofs.Common.{refl, subst, inl, ⊎_elim, arith}
+use Rattle.std.{proofs.lemmas.Bool.Decides.nat_tests, specs.Prelude.reverse, specs.Prelude.nat_lt}
+use Rattle.executor_model.proofs.Types.{Mark, Kind, Reply, Event, Hold, Op, Move, QueueOp, TableOp, Step}
 use Rattle.executor_model.specs.World.{World, Done, done, log, among, queue_of, mark_of}
-use Rattle.executor_model.specs.Weights.{same}
 use Rattle.executor_model.specs.Sound.{Pend, pend, queued, times}
-use Rattle.executor_model.specs.Good.{Good}
 use Rattle.executor_model.specs.Steps.{Machine, stack, idle, run, start, mine, top}
-use Rattle.executor_model.specs.Rows.{waiting_of}
-use Rattle.executor_model.specs.Rows.{drops_of, leaves_of}
-use Rattle.executor_model.proofs.Steps.Cases.{by_bool}
+use Rattle.executor_model.specs.{Weights.same, Good.Good, Rows.waiting_of, Rows.drops_of, Rows.leaves_of}
+use Rattle.executor_model.proofs.Table.LeavingAll.{NeedsPlaces, leaves-effect, leaves-pends, leaves-readies, leaves-closes}
+use Rattle.executor_model.proofs.Steps.QueuesByMark.{any-shut, times-one}
 use Rattle.executor_model.proofs.Steps.Lift.{split, unsettled, good-start}
-use Rattle.executor_model.proofs.OneFuture.Views.{none, seen}
-use Rattle.executor_model.proofs.Steps.Ways.{Way, along}
 use Rattle.executor_model.proofs.Steps.Ways.Way.{acted, reacted, called}
 use Rattle.executor_model.proofs.OneFuture.Stories.{story, story-none, among_is, no-longer}
-use Rattle.executor_model.proofs.OneFuture.Telling.{same-standing}
 use Rattle.executor_model.proofs.OneFuture.Extras.{closing_of, no_extra, extra}
 use Rattle.executor_model.proofs.Table.Leaving.{Base, based, Entered, Leaves}
-use Rattle.executor_model.proofs.Table.LeavingAll.{NeedsPlaces, leaves-effect, leaves-pends, leaves-readies, leaves-closes, leaves-end}
 use Rattle.executor_model.proofs.OneFuture.EffectsWays.{Effects, effects-way, ended, lifted, view_with, view-start}
 use Rattle.executor_model.proofs.OneFuture.EffectsWays.Effects.{does, pends, readies, closes}
 use Rattle.executor_model.proofs.Table.Borrowing.{bare_all, Tidy, bare-moved, none-uses, drop-uses-all}
 use Rattle.executor_model.proofs.Table.TidyingGroups.{NeedsNoEntry, tidy-act, tidy-react, tidy-begun}
+use Rattle.executor_model.proofs.{Steps.Cases.by_bool, OneFuture.Views.none, OneFuture.Views.seen, Steps.Ways.Way}
+use Rattle.executor_model.proofs.{Steps.Ways.along, OneFuture.Telling.same-standing, Table.LeavingAll.leaves-end}
 
 pub record Placed (s : Machine) : Type 0 where
   pub leaves : (g : ℕ) → Leaves s.world g (pend g s.parties) (extra g s.parties)
@@ -46,9 +30,9 @@ pub record Placed (s : Machine) : Type 0 where
 -- a Runnable on its way finds a place in either queue
 
 waits-here : (s : Machine) (p f : ℕ) (rest : List Op) (g : ℕ) → p < length s.parties →
-    stack s p ≡ rest ++ reverse (op.Queue (queue_op.Append f) ∷ []) → same g f ≤ (pend g s.parties).waiting
+    stack s p ≡ rest ++ reverse (Op.Queue (QueueOp.Append f) ∷ []) → same g f ≤ (pend g s.parties).waiting
 waits-here s p f rest g l e =
-    omega (arith, split (waiting_of g) s.parties p (op.Queue (queue_op.Append f) ∷ []) rest l e)
+    omega (arith, split (waiting_of g) s.parties p (Op.Queue (QueueOp.Append f) ∷ []) rest l e)
 
 stands-once : (w : World) (g f : ℕ) (p : Pend) (st : ℕ) (m : Mark) → same g f ≤ p.waiting →
     queued w g + (p.waiting + (p.polls + (p.ending + (p.ready + (p.closing + (p.settling + p.giving))))))
@@ -57,7 +41,7 @@ stands-once : (w : World) (g f : ℕ) (p : Pend) (st : ℕ) (m : Mark) → same 
 stands-once w g f p st m a o r = let z = times-one g m w.queues in grind arith
 
 pub has-place : (s : Machine) (p f : ℕ) (rest : List Op) → p < length s.parties →
-    stack s p ≡ rest ++ reverse (op.Queue (queue_op.Append f) ∷ []) → Good s → Placed s → (m : Mark) →
+    stack s p ≡ rest ++ reverse (Op.Queue (QueueOp.Append f) ∷ []) → Good s → Placed s → (m : Mark) →
     length (queue_of s.world m).items < s.world.limit
 has-place s p f rest l e good h m =
     let xs : List ℕ = (queue_of s.world m).items in
@@ -82,10 +66,10 @@ no-room = by_bool _
 
 needs-places : (s : Machine) (p : ℕ) (o : Op) (rest : List Op) → p < length s.parties →
     stack s p ≡ rest ++ reverse (o ∷ []) → Good s → Placed s → NeedsPlaces s.world o
-needs-places s p (op.Queue (queue_op.Append f)) rest l e good h =
+needs-places s p (Op.Queue (QueueOp.Append f)) rest l e good h =
     λ n. let m : Mark = mark_of s.world f in
     any-shut m s.world.queues (no-room (queue_of s.world m).closed _ _ (has-place s p f rest l e good h m) n)
-needs-places s p (op.Table (table_op.Enter mark)) rest l e good h =
+needs-places s p (Op.Table (TableOp.Enter mark)) rest l e good h =
     λ b n g. let x : length s.world.table < s.world.limit = grind (arith, nat_tests) in
     omega (arith, x, has-entries s n h g)
 needs-places s p _ rest l e good h = tt
@@ -93,8 +77,8 @@ needs-places s p _ rest l e good h = tt
 -- a Runnable that is dropped is one of a future that has no entry any more
 
 closing-here : (s : Machine) (p f : ℕ) (rest : List Op) → p < length s.parties →
-    stack s p ≡ rest ++ reverse (op.Move move.DropRunnable f ∷ []) → 1 ≤ (extra f s.parties).closing
-closing-here s p f rest l e = omega (arith, split closing_of s.parties p (op.Move move.DropRunnable f ∷ []) rest l e)
+    stack s p ≡ rest ++ reverse (Op.Move Move.DropRunnable f ∷ []) → 1 ≤ (extra f s.parties).closing
+closing-here s p f rest l e = omega (arith, split closing_of s.parties p (Op.Move Move.DropRunnable f ∷ []) rest l e)
 
 no-entry : (f : ℕ) (xs : List ℕ) → times f xs ≡ 0 → among f xs ≡ false
 no-entry f xs z = ⊎_elim (λ (x : (among f xs ≡ true) × (1 ≤ times f xs)). absurd (omega (arith, x.1, z)))
@@ -102,7 +86,7 @@ no-entry f xs z = ⊎_elim (λ (x : (among f xs ≡ true) × (1 ≤ times f xs))
 
 needs-no-entry : (s : Machine) (p : ℕ) (o : Op) (rest : List Op) → p < length s.parties →
     stack s p ≡ rest ++ reverse (o ∷ []) → Placed s → NeedsNoEntry s.world o
-needs-no-entry s p (op.Move move.DropRunnable f) rest l e h =
+needs-no-entry s p (Op.Move Move.DropRunnable f) rest l e h =
     let x : _ = (h.leaves f).late (closing-here s p f rest l e) in
     no-entry f s.world.table ((h.leaves f).swept x.0 x.1).0
 needs-no-entry s p _ rest l e h = tt
@@ -135,7 +119,7 @@ tidy-way s p old rest d l e h (acted t o q z) =
     (needs-no-entry s p o rest l (subst (λ (os : List Op). stack s p ≡ rest ++ reverse os) q e) h)))
 tidy-way s p old rest d l e h (reacted o u a q z) = rw z (rw q (tidy-react p o u s.world a))
 tidy-way s p old rest d l e h (called c q r n z) =
-    rw z (rw q (tidy-begun p (log s.world (event.CallBegun p c)) (mine (top (stack s p))) c))
+    rw z (rw q (tidy-begun p (log s.world (Event.CallBegun p c)) (mine (top (stack s p))) c))
 
 pub placed-moves : (s : Machine) (p : ℕ) (old rest : List Op) (d : Done) → Good s → p < length s.parties →
     stack s p ≡ rest ++ reverse old → Way s p old rest d → Placed s → Placed (unsettled s p rest d)
@@ -147,11 +131,11 @@ placed-moves s p old rest d good l e way h = record {
 }
 
 pub placed-ends : (s : Machine) (p : ℕ) (a : Reply) (held : Hold) (below : List Op) → p < length s.parties →
-    stack s p ≡ below ++ reverse (op.End a held ∷ []) → Placed s →
-    Placed (unsettled s p below (done (log s.world (event.CallEnded p a)) []))
+    stack s p ≡ below ++ reverse (Op.End a held ∷ []) → Placed s →
+    Placed (unsettled s p below (done (log s.world (Event.CallEnded p a)) []))
 placed-ends s p a held below l e h = record {
   leaves = ended Entered s p a held below l e (leaves-end s.world p a held) h.leaves;
-  bare = bare-moved s.parties p (op.End a held ∷ []) below [] l e (record { keeps = λ x. refl }) h.bare;
+  bare = bare-moved s.parties p (Op.End a held ∷ []) below [] l e (record { keeps = λ x. refl }) h.bare;
 }
 
 bare-idle : (n : ℕ) → bare_all (idle n) ≡ 0

@@ -1,64 +1,43 @@
 -- For the_table_is_kept.
 -- Right behind the drop of a future comes the section that takes its entry out, or the drop of the executor goes on.
-use Rattle.std.proofs.Common.{◌≡◌, ◌≢◌, ◌⊎◌, ℕ, zero, suc, ◌+◌, ◌<◌, ◌≤◌, List, [], ◌∷◌, ◌++◌, length, get_or, set, Bool, true, false}
-use Rattle.std.proofs.Common.{eqb, ⊎_elim, refl, subst, sym, ap, ◌∙◌, get_or-set_same, get_or-set_other, arith}
-use Rattle.std.proofs.lemmas.Bool.Decides.{nat_tests}
+use Rattle.std.proofs.Common.{◌≡◌, ◌≢◌, ◌⊎◌, ℕ, zero, suc, ◌+◌, ◌<◌, ◌≤◌, List, [], ◌∷◌, ◌++◌, length, get_or, set, Bool, true}
+use Rattle.std.proofs.Common.{false, eqb, ⊎_elim, refl, subst, sym, ap, ◌∙◌, get_or-set_same, get_or-set_other, arith}
 use Rattle.std.proofs.lemmas.List.{reverse-append, reverse-reverse}
-use Rattle.std.specs.Prelude.{reverse}
-use Rattle.executor_model.specs.declared.kind.Kind.{Kind}
-use Rattle.executor_model.specs.declared.call.Reply.{Reply}
-use Rattle.executor_model.specs.declared.event.Answer.TheVariants as answer
-use Rattle.executor_model.specs.declared.event.Event.TheVariants as event
-use Rattle.executor_model.specs.declared.op.ClosingOp.TheVariants as closing_op
-use Rattle.executor_model.specs.declared.op.Hold.{Hold}
-use Rattle.executor_model.specs.declared.op.Op.{Op}
-use Rattle.executor_model.specs.declared.op.Op.TheVariants as op
-use Rattle.executor_model.specs.declared.op.TableOp.TheVariants as table_op
-use Rattle.executor_model.specs.declared.op.UserOp.TheVariants as user_op
-use Rattle.executor_model.specs.declared.step.Hint.{Hint}
-use Rattle.executor_model.specs.declared.step.Step.{Step}
-use Rattle.executor_model.specs.declared.step.UserEnd.{UserEnd}
-use Rattle.executor_model.specs.declared.step.UserEnd.TheVariants as end
-use Rattle.executor_model.specs.Acts.{closing_ops, drop_next_by}
-use Rattle.executor_model.specs.Doing.{act}
-use Rattle.executor_model.specs.Good.{Good}
-use Rattle.executor_model.specs.Rows.{leaves_of}
+use Rattle.std.{proofs.lemmas.Bool.Decides.nat_tests, specs.Prelude.reverse}
+use Rattle.executor_model.proofs.Types.{Kind, Reply, Answer, Event, ClosingOp, Hold, Op, TableOp, UserOp, Hint, Step, UserEnd}
 use Rattle.executor_model.specs.Steps.{Machine, accepts, mine, react, run, stack, start, top}
 use Rattle.executor_model.specs.TableKeeps.{EntryOutlastsDrop, dropping_of}
-use Rattle.executor_model.specs.Weights.{same, weigh, weigh_all}
-use Rattle.executor_model.specs.World.{World, Done, done, log}
-use Rattle.executor_model.proofs.OneFuture.Extras.{closing_of}
-use Rattle.executor_model.proofs.Quiet.Resting.{idle-stack}
-use Rattle.executor_model.proofs.Steps.Lift.{good, good-start, unsettled}
-use Rattle.executor_model.proofs.Steps.Lists.{same_cases, weigh-reverse}
+use Rattle.executor_model.specs.{Acts.closing_ops, Acts.drop_next_by, Doing.act, Good.Good, Rows.leaves_of, Weights.same}
+use Rattle.executor_model.specs.{Weights.weigh, Weights.weigh_all, World.World, World.Done, World.done, World.log}
 use Rattle.executor_model.proofs.Steps.Nears.{leads_near, near-act, near-begun, near_of}
-use Rattle.executor_model.proofs.Steps.Ways.{Way, along}
 use Rattle.executor_model.proofs.Steps.Ways.Way.{acted, called, reacted}
 use Rattle.executor_model.proofs.Table.Entering.{agrees, one-accepted, tables}
-use Rattle.executor_model.proofs.Table.LeavingExecutions.{Placed, placed}
+use Rattle.executor_model.proofs.{OneFuture.Extras.closing_of, Quiet.Resting.idle-stack, Steps.Lift.good, Steps.Lift.good-start}
+use Rattle.executor_model.proofs.{Steps.Lift.unsettled, Steps.Lists.same_cases, Steps.Lists.weigh-reverse, Steps.Ways.Way}
+use Rattle.executor_model.proofs.{Steps.Ways.along, Table.LeavingExecutions.Placed, Table.LeavingExecutions.placed}
 
 -- what may come behind the drop of future f
 abbrev pub Behind : ℕ → List Op → Type 0
-Behind f (op.Table (table_op.LeaveTable g) ∷ os) = f ≡ g
-Behind f (op.Closing o ∷ os) = closing_of (op.Closing o) ≡ 1
+Behind f (Op.Table (TableOp.LeaveTable g) ∷ os) = f ≡ g
+Behind f (Op.Closing o ∷ os) = closing_of (Op.Closing o) ≡ 1
 Behind f _ = ⊥
 
 abbrev pub Paired : List Op → Type 0
 Paired [] = Unit {0}
-Paired (op.User (user_op.Drop f) ∷ os) = Behind f os × Paired os
+Paired (Op.User (UserOp.Drop f) ∷ os) = Behind f os × Paired os
 Paired (o ∷ os) = Paired os
 
 paired-rest : (o : Op) (os : List Op) → Paired (o ∷ os) → Paired os
-paired-rest (op.User (user_op.Drop f)) os h = h.1
-paired-rest (op.User (user_op.Poll f)) os h = h
-paired-rest (op.Table (table_op.Enter mark)) os h = h
+paired-rest (Op.User (UserOp.Drop f)) os h = h.1
+paired-rest (Op.User (UserOp.Poll f)) os h = h
+paired-rest (Op.Table (TableOp.Enter mark)) os h = h
 paired-rest _ os h = h
 
 -- what isn't near a future's drop
 paired-one : (o : Op) (os : List Op) → near_of o ≡ 0 → Paired os → Paired (o ∷ os)
-paired-one (op.User (user_op.Drop f)) os z h = absurd (omega (arith, z))
-paired-one (op.User (user_op.CallOutside x)) os z h = h
-paired-one (op.Table (table_op.Enter mark)) os z h = h
+paired-one (Op.User (UserOp.Drop f)) os z h = absurd (omega (arith, z))
+paired-one (Op.User (UserOp.CallOutside x)) os z h = h
+paired-one (Op.Table (TableOp.Enter mark)) os z h = h
 paired-one _ os z h = h
 
 paired-more : (xs os : List Op) → weigh near_of xs ≡ 0 → Paired os → Paired (xs ++ os)
@@ -66,7 +45,7 @@ paired-more [] os z h = h
 paired-more (x ∷ xs) os z h = paired-one x (xs ++ os) (omega (arith, z)) (paired-more xs os (omega (arith, z)) h)
 
 paired-closing : (f : ℕ) (ls ws : List ℕ) (os : List Op) → Paired os →
-    Paired (op.User (user_op.Drop f) ∷ (closing_ops ls ws ++ os))
+    Paired (Op.User (UserOp.Drop f) ∷ (closing_ops ls ws ++ os))
 paired-closing f (x ∷ ls) ws os h = (refl, h)
 paired-closing f [] (x ∷ ws) os h = (refl, h)
 paired-closing f [] [] os h = (refl, h)
@@ -78,24 +57,24 @@ paired-drop_next (f ∷ rest) p w os h = paired-closing f rest (w.waking ++ f �
 paired-act : (b : Bool) (p : ℕ) (h : Hint) (o : Op) (w : World) (os : List Op) → leads_near o ≡ b → Paired (o ∷ os) →
     Paired ((act p h o w).next ++ os)
 paired-act false p h o w os n k = paired-more (act p h o w).next os (near-act p h o w n) (paired-rest o os k)
-paired-act true p h (op.Table (table_op.TakeToPoll f)) w os n k = k
-paired-act true p h (op.Table (table_op.TakeToDrop f)) w os n k = k
-paired-act true p h (op.User (user_op.BeginDrop f)) w os n k = (refl, k)
-paired-act true p h (op.User (user_op.BeginDropOutput f)) w os n k = k
-paired-act true p h (op.User o) w os n k = k
-paired-act true p h (op.Closing closing_op.DropNext) w os n k = paired-drop_next _ p w os k
+paired-act true p h (Op.Table (TableOp.TakeToPoll f)) w os n k = k
+paired-act true p h (Op.Table (TableOp.TakeToDrop f)) w os n k = k
+paired-act true p h (Op.User (UserOp.BeginDrop f)) w os n k = (refl, k)
+paired-act true p h (Op.User (UserOp.BeginDropOutput f)) w os n k = k
+paired-act true p h (Op.User o) w os n k = k
+paired-act true p h (Op.Closing ClosingOp.DropNext) w os n k = paired-drop_next _ p w os k
 paired-act true p h _ w os n k = absurd (cc)
 
 paired-react : (p : ℕ) (o : Op) (u : UserEnd) (w : World) (os : List Op) → accepts o u ≡ true → Paired (o ∷ os) →
     Paired ((react p o u w).next ++ os)
-paired-react p (op.User (user_op.Poll f)) (end.Polled answer.Pending) w os a k = k
-paired-react p (op.User (user_op.Poll f)) (end.Polled answer.Ready) w os a k = k
-paired-react p (op.User (user_op.Drop f)) end.Done w os a k = k.1
-paired-react p (op.User (user_op.DropOutput f)) end.Done w os a k = k
-paired-react p (op.User (user_op.CallOutside x)) end.Done w os a k = k
-paired-react p (op.User (user_op.PollOwn x)) (end.Polled answer.Pending) w os a k = k
-paired-react p (op.User (user_op.PollOwn x)) (end.Polled answer.Ready) w os a k = k
-paired-react p (op.User (user_op.DropOwn r)) end.Done w os a k = k
+paired-react p (Op.User (UserOp.Poll f)) (UserEnd.Polled Answer.Pending) w os a k = k
+paired-react p (Op.User (UserOp.Poll f)) (UserEnd.Polled Answer.Ready) w os a k = k
+paired-react p (Op.User (UserOp.Drop f)) UserEnd.Done w os a k = k.1
+paired-react p (Op.User (UserOp.DropOutput f)) UserEnd.Done w os a k = k
+paired-react p (Op.User (UserOp.CallOutside x)) UserEnd.Done w os a k = k
+paired-react p (Op.User (UserOp.PollOwn x)) (UserEnd.Polled Answer.Pending) w os a k = k
+paired-react p (Op.User (UserOp.PollOwn x)) (UserEnd.Polled Answer.Ready) w os a k = k
+paired-react p (Op.User (UserOp.DropOwn r)) UserEnd.Done w os a k = k
 paired-react p _ _ w os a k = absurd (cc)
 
 -- of a machine
@@ -138,16 +117,16 @@ pairs-moves s p old rest d good l e way h = pairs-push s p rest d l (by way) h
         subst (λ (x : Done). Paired (x.next ++ reverse rest)) (sym z)
         (paired-react p o u s.world (reverse rest) a (subst (λ (xs : List Op). Paired (xs ++ reverse rest)) q was))
     by (called c q r n z) =
-        let w : World = log s.world (event.CallBegun p c) in
+        let w : World = log s.world (Event.CallBegun p c) in
         subst (λ (x : Done). Paired (x.next ++ reverse rest)) (sym z)
         (paired-more _ (reverse rest) (near-begun p w (mine (top (stack s p))) c)
         (subst (λ (xs : List Op). Paired (xs ++ reverse rest)) q was))
 
 pairs-ends : (s : Machine) (p : ℕ) (a : Reply) (held : Hold) (below : List Op) → p < length s.parties →
-    stack s p ≡ below ++ reverse (op.End a held ∷ []) → Pairs s →
-    Pairs (unsettled s p below (done (log s.world (event.CallEnded p a)) []))
-pairs-ends s p a held below l e h = pairs-push s p below (done (log s.world (event.CallEnded p a)) []) l
-    (subst Paired (ap (λ (xs : List Op). reverse xs) e ∙ flipped below (op.End a held ∷ [])) (h p)) h
+    stack s p ≡ below ++ reverse (Op.End a held ∷ []) → Pairs s →
+    Pairs (unsettled s p below (done (log s.world (Event.CallEnded p a)) []))
+pairs-ends s p a held below l e h = pairs-push s p below (done (log s.world (Event.CallEnded p a)) []) l
+    (subst Paired (ap (λ (xs : List Op). reverse xs) e ∙ flipped below (Op.End a held ∷ [])) (h p)) h
 
 pairs-start : (limit : ℕ) (kind : Kind) (n : ℕ) → Pairs (start limit kind n)
 pairs-start limit kind n q = subst Paired (sym (ap (λ (xs : List Op). reverse xs) (idle-stack n q))) tt
@@ -166,15 +145,15 @@ few-same f g = grind (arith, same_cases)
 
 covers-all : (f : ℕ) (o : Op) (os : List Op) → Paired (o ∷ os) → Covers f os →
     weigh (dropping_of f) (o ∷ os) ≤ weigh (leaves_of f) (o ∷ os) + weigh closing_of (o ∷ os)
-covers-all f (op.User (user_op.Drop g)) os h c = omega (arith, c.first g h.0)
-covers-all f (op.User (user_op.Poll g)) os h c = omega (arith, c.all)
-covers-all f (op.Table (table_op.Enter mark)) os h c = omega (arith, c.all)
+covers-all f (Op.User (UserOp.Drop g)) os h c = omega (arith, c.first g h.0)
+covers-all f (Op.User (UserOp.Poll g)) os h c = omega (arith, c.all)
+covers-all f (Op.Table (TableOp.Enter mark)) os h c = omega (arith, c.all)
 covers-all f _ os h c = omega (arith, c.all)
 
 covers-first : (f : ℕ) (o : Op) (os : List Op) → Covers f os → (g : ℕ) → Behind g (o ∷ os) →
     same f g + weigh (dropping_of f) (o ∷ os) ≤ weigh (leaves_of f) (o ∷ os) + weigh closing_of (o ∷ os)
-covers-first f (op.Table (table_op.LeaveTable j)) os c g b = omega (arith, c.all, ap (same f) b)
-covers-first f (op.Closing o) os c g b = omega (arith, c.all, b, few-same f g)
+covers-first f (Op.Table (TableOp.LeaveTable j)) os c g b = omega (arith, c.all, ap (same f) b)
+covers-first f (Op.Closing o) os c g b = omega (arith, c.all, b, few-same f g)
 covers-first f _ os c g b = absurd b
 
 covers : (f : ℕ) (os : List Op) → Paired os → Covers f os

@@ -1,44 +1,19 @@
 -- For the_limit_is_exact, emptiness_is_exact and quiet_emptiness_is_exact.
 -- A spawn is answered that the executor is full exactly where it is.
-use Rattle.std.proofs.Common.{◌≡◌, ◌⊎◌, ℕ, zero, suc, ◌-◌, ◌<◌, ◌≤◌, List, [], ◌∷◌, ◌++◌, length}
-use Rattle.std.proofs.Common.{Bool, true, false, not, refl, sym, ap, ◌∙◌, subst, inl, ⊎_elim, arith}
+use Rattle.std.proofs.Common.{◌≡◌, ◌⊎◌, ℕ, zero, suc, ◌-◌, ◌<◌, ◌≤◌, List, [], ◌∷◌, ◌++◌, length, Bool, true, false, not, refl}
+use Rattle.std.proofs.Common.{sym, ap, ◌∙◌, subst, inl, ⊎_elim, arith}
 use Rattle.std.proofs.lemmas.Bool.Decides.{nat_tests}
 use Rattle.std.proofs.lemmas.List.{get_or_past, append_cancel_left, append_assoc, length-append}
 use Rattle.std.specs.Prelude.{Option, Some, None, slice_get, nat_lt}
-use Rattle.executor_parts.specs.declared.mark.Mark.{Mark}
-use Rattle.executor_model.specs.declared.kind.Kind.{Kind}
-use Rattle.executor_model.specs.declared.call.Reply.{Reply}
-use Rattle.executor_model.specs.declared.call.Reply.TheVariants as reply
-use Rattle.executor_model.specs.declared.event.Event.{Event}
-use Rattle.executor_model.specs.declared.event.Event.TheVariants as event
-use Rattle.executor_model.specs.declared.op.Hold.{Hold}
-use Rattle.executor_model.specs.declared.op.Hold.TheVariants as hold
-use Rattle.executor_model.specs.declared.op.Op.{Op}
-use Rattle.executor_model.specs.declared.op.Op.TheVariants as op
-use Rattle.executor_model.specs.declared.op.QueueOp.TheVariants as queue_op
-use Rattle.executor_model.specs.declared.op.TableOp.TheVariants as table_op
-use Rattle.executor_model.specs.declared.step.Hint.{Hint}
-use Rattle.executor_model.specs.declared.step.Step.{Step}
-use Rattle.executor_model.specs.declared.step.Step.TheVariants.{Go}
-use Rattle.executor_model.specs.declared.step.StepError.{StepError}
-use Rattle.executor_model.specs.declared.step.StepError.TheVariants.{NoSuch}
-use Rattle.executor_model.specs.Trace.{Trace}
-use Rattle.executor_model.specs.World.{World}
-use Rattle.executor_model.specs.Acts.{enter_by}
-use Rattle.executor_model.specs.Doing.{act}
-use Rattle.executor_model.specs.Weights.{weigh_all}
-use Rattle.executor_model.specs.Rows.{borrowing_of}
-use Rattle.executor_model.specs.Sound.{times}
-use Rattle.executor_model.specs.Good.{Good}
-use Rattle.executor_model.specs.Steps.{Machine, stack, top, below_top, step, step_by, stepped, refusal, go_refusal}
-use Rattle.executor_model.specs.Steps.{unless, settled, settled_by, end_of, onto, gone_on, run, start}
-use Rattle.executor_model.specs.Entries.{HasTable}
+use Rattle.executor_model.proofs.Types.{Mark, Kind, Reply, Event, Hold, Op, QueueOp, TableOp, Hint, Step, Go, StepError, NoSuch}
+use Rattle.executor_model.specs.Steps.{Machine, stack, top, below_top, step, step_by, stepped, refusal, go_refusal, unless}
+use Rattle.executor_model.specs.Steps.{settled, settled_by, end_of, onto, gone_on, run, start}
 use Rattle.executor_model.specs.Limit.{Asks, ReachLimit, IsUndropped, IsLimitExact}
+use Rattle.executor_model.specs.{Trace.Trace, World.World, Acts.enter_by, Doing.act, Weights.weigh_all, Rows.borrowing_of}
+use Rattle.executor_model.specs.{Sound.times, Good.Good, Entries.HasTable}
 use Rattle.executor_model.proofs.Steps.Lift.{split, topped, good}
-use Rattle.executor_model.proofs.OneFuture.Stories.{no-longer}
-use Rattle.executor_model.proofs.OneFuture.Telling.{begun-has}
 use Rattle.executor_model.proofs.Table.LeavingExecutions.{Placed, placed}
-use Rattle.executor_model.proofs.Table.Entering.{table-agrees}
+use Rattle.executor_model.proofs.{OneFuture.Stories.no-longer, OneFuture.Telling.begun-has, Table.Entering.table-agrees}
 
 -- the last thing of a list
 pub last-get : (os : List Op) (x : Op) → slice_get (os ++ x ∷ []) (length os) ≡ Some x
@@ -51,29 +26,29 @@ top-last os x = ap (slice_get (os ++ x ∷ []))
 
 -- the trace after the table was asked for a place
 abbrev pub asked : Bool → Bool → ℕ → World → Event
-asked true c p w = event.CallEnded p reply.Full
-asked false true p w = event.CallEnded p reply.NoMemory
-asked false false p w = event.Accepted p (length w.tasks)
+asked true c p w = Event.CallEnded p Reply.Full
+asked false true p w = Event.CallEnded p Reply.NoMemory
+asked false false p w = Event.Accepted p (length w.tasks)
 
-pub ended-trace : (p : ℕ) (w : World) (os : List Op) (a : Reply) (held : Hold) → top os ≡ Some (op.End a held) →
-    (settled p w os).world.trace ≡ w.trace ++ event.CallEnded p a ∷ []
+pub ended-trace : (p : ℕ) (w : World) (os : List Op) (a : Reply) (held : Hold) → top os ≡ Some (Op.End a held) →
+    (settled p w os).world.trace ≡ w.trace ++ Event.CallEnded p a ∷ []
 ended-trace p w os a held e = ap (λ (x : Option Op). (settled_by (end_of x) p w os).world.trace) e
 
 asked-trace : (b c : Bool) (mark : Mark) (p : ℕ) (w : World) (rest : List Op) →
     (onto p (enter_by b c mark p w) rest).world.trace ≡ w.trace ++ asked b c p w ∷ []
-asked-trace true c mark p w rest = ended-trace p w (rest ++ op.End reply.Full hold.Executor ∷ []) reply.Full hold.Executor
-    (top-last rest (op.End reply.Full hold.Executor))
-asked-trace false true mark p w rest = ended-trace p w (rest ++ op.End reply.NoMemory hold.Executor ∷ []) reply.NoMemory
-    hold.Executor (top-last rest (op.End reply.NoMemory hold.Executor))
+asked-trace true c mark p w rest = ended-trace p w (rest ++ Op.End Reply.Full Hold.Executor ∷ []) Reply.Full Hold.Executor
+    (top-last rest (Op.End Reply.Full Hold.Executor))
+asked-trace false true mark p w rest = ended-trace p w (rest ++ Op.End Reply.NoMemory Hold.Executor ∷ []) Reply.NoMemory
+    Hold.Executor (top-last rest (Op.End Reply.NoMemory Hold.Executor))
 asked-trace false false mark p w rest =
-    let os : List Op = rest ++ op.End reply.Made (hold.Spawned (length w.tasks))
-    ∷ op.Queue (queue_op.Append (length w.tasks)) ∷ [] in
-    let e : top os ≡ Some (op.Queue (queue_op.Append (length w.tasks))) =
-    subst (λ (xs : List Op). top xs ≡ Some (op.Queue (queue_op.Append (length w.tasks))))
-    (append_assoc rest (op.End reply.Made (hold.Spawned (length w.tasks)) ∷ [])
-    (op.Queue (queue_op.Append (length w.tasks)) ∷ []))
-    (top-last (rest ++ op.End reply.Made (hold.Spawned (length w.tasks)) ∷ [])
-    (op.Queue (queue_op.Append (length w.tasks)))) in
+    let os : List Op = rest ++ Op.End Reply.Made (Hold.Spawned (length w.tasks))
+    ∷ Op.Queue (QueueOp.Append (length w.tasks)) ∷ [] in
+    let e : top os ≡ Some (Op.Queue (QueueOp.Append (length w.tasks))) =
+    subst (λ (xs : List Op). top xs ≡ Some (Op.Queue (QueueOp.Append (length w.tasks))))
+    (append_assoc rest (Op.End Reply.Made (Hold.Spawned (length w.tasks)) ∷ [])
+    (Op.Queue (QueueOp.Append (length w.tasks)) ∷ []))
+    (top-last (rest ++ Op.End Reply.Made (Hold.Spawned (length w.tasks)) ∷ [])
+    (Op.Queue (QueueOp.Append (length w.tasks)))) in
     ap (λ (x : Option Op). (settled_by (end_of x) p (enter_by false false mark p w).world os).world.trace) e
 
 pub step-trace : (s : Machine) (p : ℕ) (h : Hint) → p < length s.parties → Asks s p →
@@ -90,12 +65,12 @@ step-trace s p h l e =
 
 -- which is full exactly where the table is
 pub says-full : (b c : Bool) (p : ℕ) (w : World) (es : Trace) →
-    es ++ asked b c p w ∷ [] ≡ es ++ event.CallEnded p reply.Full ∷ [] → b ≡ true
+    es ++ asked b c p w ∷ [] ≡ es ++ Event.CallEnded p Reply.Full ∷ [] → b ≡ true
 says-full true c p w es e = refl
 says-full false true p w es e =
-    let z : asked false true p w ∷ [] ≡ event.CallEnded p reply.Full ∷ [] = append_cancel_left es _ _ e in absurd (cc)
+    let z : asked false true p w ∷ [] ≡ Event.CallEnded p Reply.Full ∷ [] = append_cancel_left es _ _ e in absurd (cc)
 says-full false false p w es e =
-    let z : asked false false p w ∷ [] ≡ event.CallEnded p reply.Full ∷ [] = append_cancel_left es _ _ e in absurd (cc)
+    let z : asked false false p w ∷ [] ≡ Event.CallEnded p Reply.Full ∷ [] = append_cancel_left es _ _ e in absurd (cc)
 
 or-past : (a b : ℕ) → (a < b) ⊎ (b ≤ a)
 or-past a b = grind arith
@@ -119,8 +94,8 @@ module _ (s : Machine) (fine : Good s) (h : Placed s) where
   uses-executor : (p : ℕ) → Asks s p → 1 ≤ weigh_all borrowing_of s.parties
   uses-executor p e = omega (
     arith,
-    split borrowing_of s.parties p (op.Table (table_op.Enter e.0) ∷ []) (below_top (stack s p))
-        (in-range s p (op.Table (table_op.Enter e.0)) e.1) (topped (stack s p) (op.Table (table_op.Enter e.0)) e.1),
+    split borrowing_of s.parties p (Op.Table (TableOp.Enter e.0) ∷ []) (below_top (stack s p))
+        (in-range s p (Op.Table (TableOp.Enter e.0)) e.1) (topped (stack s p) (Op.Table (TableOp.Enter e.0)) e.1),
   )
 
   has-table : (p : ℕ) → Asks s p → HasTable s
@@ -146,12 +121,12 @@ module _ (s : Machine) (fine : Good s) (h : Placed s) where
     always = λ p t e r.
         let n : length r.futures ≤ length s.world.table = no-longer r.futures s.world.table (at-most p e r) in
         let b : not (nat_lt (length s.world.table) s.world.limit) ≡ true = grind (arith, nat_tests, n, r.many) in
-        step-trace s p t (in-range s p (op.Table (table_op.Enter e.0)) e.1) e
+        step-trace s p t (in-range s p (Op.Table (TableOp.Enter e.0)) e.1) e
         ∙ ap (λ (x : Bool). s.world.trace ++ asked x t.refused p s.world ∷ []) b;
     only = λ p t e q.
         let b : not (nat_lt (length s.world.table) s.world.limit) ≡ true =
         says-full _ t.refused p s.world s.world.trace
-        (sym (step-trace s p t (in-range s p (op.Table (table_op.Enter e.0)) e.1) e) ∙ q) in
+        (sym (step-trace s p t (in-range s p (Op.Table (TableOp.Enter e.0)) e.1) e) ∙ q) in
         record {
           futures = s.world.table;
           different = λ f. (table-agrees s f fine h).once;

@@ -1,42 +1,19 @@
 -- For futures_are_in_their_places.
 -- A future is in its place but while it is polled and once its drop is on its way: kept by each thing that is done.
-use Rattle.std.proofs.Common.{◌≡◌, ◌≢◌, ◌⊎◌, ℕ, ◌+◌, ◌<◌, ◌≤◌, List, [], ◌∷◌, ◌++◌, length, get_or, set, Bool, true, false}
-use Rattle.std.proofs.Common.{eqb, inl, inr, ⊎_elim, refl, subst, sym, ap, ◌∙◌, get_or-set_same, get_or-set_other, arith}
+use Rattle.std.proofs.Common.{◌≡◌, ◌≢◌, ◌⊎◌, ℕ, ◌+◌, ◌<◌, ◌≤◌, List, [], ◌∷◌, ◌++◌, length, get_or, set, Bool, true, false, eqb}
+use Rattle.std.proofs.Common.{inl, inr, ⊎_elim, refl, subst, sym, ap, ◌∙◌, get_or-set_same, get_or-set_other, arith}
 use Rattle.std.proofs.lemmas.List.{get_or-append-add, get_or_append_left, get_or_past, length-append, length-set}
-use Rattle.executor_parts.specs.declared.mark.Mark.{Mark}
-use Rattle.task_moves.specs.declared.moves.owed.Move.{Move}
-use Rattle.task_moves.specs.declared.moves.owed.Move.TheVariants as move
-use Rattle.executor_model.specs.declared.event.Answer.TheVariants as answer
-use Rattle.executor_model.specs.declared.event.Event.{Event}
-use Rattle.executor_model.specs.declared.event.Event.TheVariants as event
-use Rattle.executor_model.specs.declared.op.ClosingOp.TheVariants as closing_op
-use Rattle.executor_model.specs.declared.op.Hold.{Hold}
-use Rattle.executor_model.specs.declared.op.Op.{Op}
-use Rattle.executor_model.specs.declared.op.Op.TheVariants as op
-use Rattle.executor_model.specs.declared.op.TableOp.TheVariants as table_op
-use Rattle.executor_model.specs.declared.op.UserOp.TheVariants as user_op
-use Rattle.executor_model.specs.declared.op.WakerOp.TheVariants as waker_op
-use Rattle.executor_model.specs.declared.step.Hint.{Hint}
-use Rattle.executor_model.specs.declared.step.UserEnd.{UserEnd}
-use Rattle.executor_model.specs.declared.step.UserEnd.TheVariants as end
+use Rattle.executor_model.proofs.Types.{Mark, Move, Answer, Event, ClosingOp, Hold, Op, TableOp, WakerOp, Hint, UserEnd, UserOp}
 use Rattle.executor_model.specs.Acts.{closing_ops, copy_by, drop_next_by, enter_by, is_last_waker, is_told, told_as}
-use Rattle.executor_model.specs.Doing.{act, user_act}
-use Rattle.executor_model.specs.Trace.{Trace}
-use Rattle.executor_model.specs.declared.op.UserOp.{UserOp}
-use Rattle.executor_model.specs.InPlace.{away_of}
-use Rattle.executor_model.specs.Steps.{accepts, react}
-use Rattle.executor_model.specs.Weights.{same, weigh}
-use Rattle.executor_model.specs.World.{World, Done, log, log_if, task}
-use Rattle.executor_model.proofs.OneFuture.Effects.{Effect}
-use Rattle.executor_model.proofs.OneFuture.Effects.Effect.{passes, turns, refuses, enters, unlists, drops, takes_out, drops_next}
-use Rattle.executor_model.proofs.OneFuture.Extras.{no_extra}
+use Rattle.executor_model.specs.{Doing.act, Doing.user_act, Trace.Trace, InPlace.away_of, Steps.accepts, Steps.react}
+use Rattle.executor_model.specs.{Weights.same, Weights.weigh, World.World, World.Done, World.log, World.log_if, World.task}
+use Rattle.executor_model.proofs.OneFuture.Effects.Effect.{passes, turns, refuses, enters, unlists, drops, takes_out}
+use Rattle.executor_model.proofs.OneFuture.Effects.Effect.{drops_next, leaks, leaks_out}
 use Rattle.executor_model.proofs.OneFuture.Stories.{Story, hears, story, story-push}
-use Rattle.executor_model.proofs.OneFuture.Views.{none}
-use Rattle.executor_model.proofs.Steps.Asides.{aside-closing}
-use Rattle.executor_model.proofs.Steps.Lists.{same_cases, weigh-below}
 use Rattle.executor_model.proofs.Steps.Nears.{leads_near, near-act, near_of}
 use Rattle.executor_model.proofs.Steps.Placing.{Spots, places, same-spots}
-use Rattle.executor_model.proofs.OneFuture.Effects.Effect.{leaks, leaks_out}
+use Rattle.executor_model.proofs.{OneFuture.Effects.Effect, OneFuture.Extras.no_extra, OneFuture.Views.none}
+use Rattle.executor_model.proofs.{Steps.Asides.aside-closing, Steps.Lists.same_cases, Steps.Lists.weigh-below}
 
 abbrev pub is_inside : World → ℕ → Bool
 is_inside w g = get_or w.inside g false
@@ -50,9 +27,9 @@ pub record Spot (w : World) (g n : ℕ) : Type 0 where
   pub out : (1 ≤ n) ⊎ (1 ≤ fallen w g) → is_inside w g ≡ false
 
 pub few-away : (g : ℕ) (o : Op) → away_of g o ≤ near_of o
-few-away g (op.User (user_op.Poll f)) = let z : same g f ≤ 1 = grind (arith, same_cases) in omega (arith, z)
-few-away g (op.User (user_op.BeginDrop f)) = let z : same g f ≤ 1 = grind (arith, same_cases) in omega (arith, z)
-few-away g (op.Table (table_op.PutBack f)) = let z : same g f ≤ 1 = grind (arith, same_cases) in omega (arith, z)
+few-away g (Op.User (UserOp.Poll f)) = let z : same g f ≤ 1 = grind (arith, same_cases) in omega (arith, z)
+few-away g (Op.User (UserOp.BeginDrop f)) = let z : same g f ≤ 1 = grind (arith, same_cases) in omega (arith, z)
+few-away g (Op.Table (TableOp.PutBack f)) = let z : same g f ≤ 1 = grind (arith, same_cases) in omega (arith, z)
 few-away g _ = omega arith
 
 -- what is the same to it
@@ -72,9 +49,9 @@ spot-same w v g n m l a b c h = record {
 
 -- what is told of a move is no drop
 told-falls : (m : Move) (p f g : ℕ) (s : Story) → (hears g (told_as m p f) s).fallen ≡ s.fallen
-told-falls move.TakeUp p f g s = refl
-told-falls move.Cancel p f g s = refl
-told-falls move.Detach p f g s = refl
+told-falls Move.TakeUp p f g s = refl
+told-falls Move.Cancel p f g s = refl
+told-falls Move.Detach p f g s = refl
 told-falls _ p f g s = refl
 
 logged-falls : (b : Bool) (w : World) (m : Move) (p f g : ℕ) → fallen (log_if b w (told_as m p f)) g ≡ fallen w g
@@ -82,8 +59,8 @@ logged-falls true w m p f g =
     ap (λ (s : Story). s.fallen) (story-push g w.trace (told_as m p f)) ∙ told-falls m p f g (story g w.trace)
 logged-falls false w m p f g = refl
 
-last-falls : (l : Bool) (w : World) (p f g : ℕ) → fallen (log_if l w (event.LastWaker p f)) g ≡ fallen w g
-last-falls true w p f g = ap (λ (s : Story). s.fallen) (story-push g w.trace (event.LastWaker p f))
+last-falls : (l : Bool) (w : World) (p f g : ℕ) → fallen (log_if l w (Event.LastWaker p f)) g ≡ fallen w g
+last-falls true w p f g = ap (λ (s : Story). s.fallen) (story-push g w.trace (Event.LastWaker p f))
 last-falls false w p f g = refl
 
 abbrev pub LeadsNear : List Op → Type 0
@@ -98,23 +75,23 @@ falls-effect w old _ g (turns d m p f v more i j k s a e) = inl (
     (s g none no_extra).stays.story)))
 falls-effect w old d g (refuses f e) = inl refl
 falls-effect w old d g (enters mark p e) =
-    inl (ap (λ (s : Story). s.fallen) (story-push g w.trace (event.Accepted p (length w.tasks))))
+    inl (ap (λ (s : Story). s.fallen) (story-push g w.trace (Event.Accepted p (length w.tasks))))
 falls-effect w old d g (unlists f e) = inl refl
-falls-effect w old d g (drops p f) = inr (op.User (user_op.BeginDrop f), (refl, refl))
+falls-effect w old d g (drops p f) = inr (Op.User (UserOp.BeginDrop f), (refl, refl))
 falls-effect w old d g takes_out = inl refl
-falls-effect w old d g (drops_next p f rest e) = inr (op.Closing closing_op.DropNext, (refl, refl))
+falls-effect w old d g (drops_next p f rest e) = inr (Op.Closing ClosingOp.DropNext, (refl, refl))
 falls-effect w old d g (leaks_out s n) = inl refl
 falls-effect w old _ g (leaks d p f e a) = ⊎_elim
     (λ (x : fallen d.world g ≡ fallen w g).
-    inl (ap (λ (s : Story). s.fallen) (story-push g d.world.trace (event.Leaked p f)) ∙ x))
-    (λ (x : LeadsNear (op.Closing closing_op.LeakNext ∷ [])). inr x) (falls-effect w (op.Closing closing_op.LeakNext ∷ []) d g e)
+    inl (ap (λ (s : Story). s.fallen) (story-push g d.world.trace (Event.Leaked p f)) ∙ x))
+    (λ (x : LeadsNear (Op.Closing ClosingOp.LeakNext ∷ [])). inr x) (falls-effect w (Op.Closing ClosingOp.LeakNext ∷ []) d g e)
 
 -- each thing that is done
 
 not-away : (g : ℕ) (o : Op) → leads_near o ≡ false → places o ≡ false → away_of g o ≡ 0
-not-away g (op.User o) a b = absurd (cc)
-not-away g (op.Table (table_op.PutBack f)) a b = absurd (cc)
-not-away g (op.Table (table_op.Enter mark)) a b = refl
+not-away g (Op.User o) a b = absurd (cc)
+not-away g (Op.Table (TableOp.PutBack f)) a b = absurd (cc)
+not-away g (Op.Table (TableOp.Enter mark)) a b = refl
 not-away g _ a b = refl
 
 unset : (xs : List Bool) (f : ℕ) → get_or (set xs f false) f false ≡ false
@@ -192,22 +169,22 @@ fallen-push w v e g t = ap (λ (es : Trace). (story g es).fallen) t
 -- what it needs: nothing of a future that isn't there, and a future that is put back is not on its way elsewhere
 pub record Alone (w : World) (g : ℕ) (o : Op) (r : ℕ) : Type 0 where
   pub fresh : length w.inside ≤ g → (away_of g o + r ≡ 0) × (fallen w g ≡ 0)
-  pub back : (f : ℕ) → o ≡ op.Table (table_op.PutBack f) → g ≡ f → (r ≡ 0) × (fallen w g ≡ 0)
+  pub back : (f : ℕ) → o ≡ Op.Table (TableOp.PutBack f) → g ≡ f → (r ≡ 0) × (fallen w g ≡ 0)
 
 abbrev pub KeepsSpot : World → ℕ → Op → Done → ℕ → Type 0
 KeepsSpot w g o d r = Spot w g (away_of g o + r) → Spot d.world g (weigh (away_of g) d.next + r)
 
-spot-enter : (b c : Bool) (mark : Mark) (p : ℕ) (w : World) (g r : ℕ) → Alone w g (op.Table (table_op.Enter mark)) r →
-    KeepsSpot w g (op.Table (table_op.Enter mark)) (enter_by b c mark p w) r
+spot-enter : (b c : Bool) (mark : Mark) (p : ℕ) (w : World) (g r : ℕ) → Alone w g (Op.Table (TableOp.Enter mark)) r →
+    KeepsSpot w g (Op.Table (TableOp.Enter mark)) (enter_by b c mark p w) r
 spot-enter true c mark p w g r k h = spot-same w w g _ _ refl refl refl (omega arith) h
 spot-enter false true mark p w g r k h = spot-same w w g _ _ refl refl refl (omega arith) h
 spot-enter false false mark p w g r k h =
     let v : World = (enter_by false false mark p w).world in
-    let b : fallen v g ≡ fallen w g = fallen-push w v (event.Accepted p (length w.tasks)) g refl in
+    let b : fallen v g ≡ fallen w g = fallen-push w v (Event.Accepted p (length w.tasks)) g refl in
     spot-new w v g (0 + r) refl b k.fresh h
 
 spot-copy : (b : Bool) (w : World) (f : ℕ) (held : Hold) (g r : ℕ) →
-    KeepsSpot w g (op.Waker (waker_op.CopyWaker f held)) (copy_by b w f held) r
+    KeepsSpot w g (Op.Waker (WakerOp.CopyWaker f held)) (copy_by b w f held) r
 spot-copy true w f held g r h = spot-same w w g _ _ refl refl refl (omega arith) h
 spot-copy false w f held g r h =
     spot-same w (copy_by false w f held).world g _ _ refl refl refl (omega arith) h
@@ -215,11 +192,11 @@ spot-copy false w f held g r h =
 away-closing : (g : ℕ) (ls ws : List ℕ) → weigh (away_of g) (closing_ops ls ws) ≡ 0
 away-closing g ls ws = aside-closing (away_of g) (λ o. refl) ls ws
 
-falls : (w v : World) (p f g : ℕ) → v.trace ≡ w.trace ++ event.Dropped p f ∷ [] → fallen v g ≡ fallen w g + same g f
-falls w v p f g t = fallen-push w v (event.Dropped p f) g t
+falls : (w v : World) (p f g : ℕ) → v.trace ≡ w.trace ++ Event.Dropped p f ∷ [] → fallen v g ≡ fallen w g + same g f
+falls w v p f g t = fallen-push w v (Event.Dropped p f) g t
 
 spot-drop_next : (q : List ℕ) (p : ℕ) (w : World) (g r : ℕ) →
-    KeepsSpot w g (op.Closing closing_op.DropNext) (drop_next_by p w q) r
+    KeepsSpot w g (Op.Closing ClosingOp.DropNext) (drop_next_by p w q) r
 spot-drop_next [] p w g r h = spot-same w w g _ _ refl refl refl (omega arith) h
 spot-drop_next (f ∷ rest) p w g r h =
     let d : Done = drop_next_by p w (f ∷ rest) in
@@ -230,9 +207,9 @@ spot-drop_next (f ∷ rest) p w g r h =
     (λ (x : (same g f ≡ 0) × (eqb g f ≡ false) × (g ≢ f)). inr (x.2, (omega (arith, z), omega (arith, b, x.0))))
     (same_cases g f)) h
 
-spot-drop : (p : ℕ) (w : World) (f g r : ℕ) → Spot w g (same g f + r) → Spot (log w (event.Dropped p f)) g r
+spot-drop : (p : ℕ) (w : World) (f g r : ℕ) → Spot w g (same g f + r) → Spot (log w (Event.Dropped p f)) g r
 spot-drop p w f g r h =
-    let v : World = log w (event.Dropped p f) in
+    let v : World = log w (Event.Dropped p f) in
     let b : fallen v g ≡ fallen w g + same g f = falls w v p f g refl in
     ⊎_elim
     (λ (x : (same g f ≡ 1) × (eqb g f ≡ true) × (g ≡ f)). record {
@@ -249,14 +226,14 @@ spot-out w v f g r e b h = spot-taken w v g f (0 + r) (same g f + 0 + r) e (⊎_
     (λ (x : (same g f ≡ 0) × (eqb g f ≡ false) × (g ≢ f)). inr (x.2, (omega (arith, x.0), b)))
     (same_cases g f)) h
 
-spot-user : (p : ℕ) (o : UserOp) (w : World) (g r : ℕ) → KeepsSpot w g (op.User o) (user_act p o w) r
-spot-user p (user_op.BeginDrop f) w g r h =
-    spot-same (log w (event.Dropped p f)) (log w (event.Dropped p f)) g r _ refl refl refl (omega arith)
+spot-user : (p : ℕ) (o : UserOp) (w : World) (g r : ℕ) → KeepsSpot w g (Op.User o) (user_act p o w) r
+spot-user p (UserOp.BeginDrop f) w g r h =
+    spot-same (log w (Event.Dropped p f)) (log w (Event.Dropped p f)) g r _ refl refl refl (omega arith)
     (spot-drop p w f g r h)
-spot-user p (user_op.BeginDropOutput f) w g r h =
-    let v : World = log w (event.OutputDropped p f) in
-    spot-same w v g _ _ refl refl (fallen-push w v (event.OutputDropped p f) g refl) (omega arith) h
-spot-user p (user_op.Poll f) w g r h = spot-same w w g _ _ refl refl refl (omega arith) h
+spot-user p (UserOp.BeginDropOutput f) w g r h =
+    let v : World = log w (Event.OutputDropped p f) in
+    spot-same w v g _ _ refl refl (fallen-push w v (Event.OutputDropped p f) g refl) (omega arith) h
+spot-user p (UserOp.Poll f) w g r h = spot-same w w g _ _ refl refl refl (omega arith) h
 spot-user p _ w g r h = spot-same w w g _ _ refl refl refl (omega arith) h
 
 pub spot-act : (b c : Bool) (p : ℕ) (t : Hint) (o : Op) (w : World) (g r : ℕ) → leads_near o ≡ b → places o ≡ c →
@@ -272,34 +249,34 @@ spot-act false false p t o w g r a c f k h =
     let i : o ≡ x.0 = (let y : o ∷ [] ≡ x.0 ∷ [] = x.1.0 in cc) in
     let no : true ≡ false = sym x.1.1 ∙ (ap leads_near (sym i) ∙ a) in absurd (cc)) f)
     (omega (arith, z, not-away g o a c)) h
-spot-act false true p t (op.Table (table_op.Enter mark)) w g r a c f k h = spot-enter _ _ _ p w g r k h
-spot-act false true p t (op.Table (table_op.PutBack j)) w g r a c f k h =
+spot-act false true p t (Op.Table (TableOp.Enter mark)) w g r a c f k h = spot-enter _ _ _ p w g r k h
+spot-act false true p t (Op.Table (TableOp.PutBack j)) w g r a c f k h =
     let v : World = record w { inside = set w.inside j true } in
     spot-same v v g r _ refl refl refl (omega arith) (spot-back w v g j r refl refl (k.back j refl) h)
-spot-act false true p t (op.Waker (waker_op.CopyWaker j held)) w g r a c f k h = spot-copy _ w j held g r h
-spot-act true c p t (op.Table (table_op.TakeToPoll j)) w g r a q f k h =
+spot-act false true p t (Op.Waker (WakerOp.CopyWaker j held)) w g r a c f k h = spot-copy _ w j held g r h
+spot-act true c p t (Op.Table (TableOp.TakeToPoll j)) w g r a q f k h =
     spot-out w (record w { inside = set w.inside j false }) j g r refl refl h
-spot-act true c p t (op.Table (table_op.TakeToDrop j)) w g r a q f k h =
+spot-act true c p t (Op.Table (TableOp.TakeToDrop j)) w g r a q f k h =
     spot-out w (record w { inside = set w.inside j false }) j g r refl refl h
-spot-act true c p t (op.User o) w g r a q f k h = spot-user p o w g r h
-spot-act true c p t (op.Closing closing_op.DropNext) w g r a q f k h = spot-drop_next _ p w g r h
+spot-act true c p t (Op.User o) w g r a q f k h = spot-user p o w g r h
+spot-act true c p t (Op.Closing ClosingOp.DropNext) w g r a q f k h = spot-drop_next _ p w g r h
 spot-act true c p t _ w g r a q f k h = absurd (cc)
 spot-act false true p t _ w g r a q f k h = absurd (cc)
 
 pub spot-react : (p : ℕ) (o : Op) (u : UserEnd) (w : World) (g r : ℕ) → accepts o u ≡ true →
     KeepsSpot w g o (react p o u w) r
-spot-react p (op.User (user_op.Poll f)) (end.Polled answer.Pending) w g r a h =
-    let v : World = log w (event.Answered p f answer.Pending) in
-    spot-same w v g _ _ refl refl (fallen-push w v (event.Answered p f answer.Pending) g refl) (omega arith) h
-spot-react p (op.User (user_op.Poll f)) (end.Polled answer.Ready) w g r a h =
-    let v : World = log w (event.Answered p f answer.Ready) in
-    spot-same w v g _ _ refl refl (fallen-push w v (event.Answered p f answer.Ready) g refl) (omega arith) h
-spot-react p (op.User (user_op.Drop f)) end.Done w g r a h = spot-same w w g _ _ refl refl refl (omega arith) h
-spot-react p (op.User (user_op.DropOutput f)) end.Done w g r a h = spot-same w w g _ _ refl refl refl (omega arith) h
-spot-react p (op.User (user_op.CallOutside x)) end.Done w g r a h = spot-same w w g _ _ refl refl refl (omega arith) h
-spot-react p (op.User (user_op.PollOwn x)) (end.Polled answer.Pending) w g r a h =
+spot-react p (Op.User (UserOp.Poll f)) (UserEnd.Polled Answer.Pending) w g r a h =
+    let v : World = log w (Event.Answered p f Answer.Pending) in
+    spot-same w v g _ _ refl refl (fallen-push w v (Event.Answered p f Answer.Pending) g refl) (omega arith) h
+spot-react p (Op.User (UserOp.Poll f)) (UserEnd.Polled Answer.Ready) w g r a h =
+    let v : World = log w (Event.Answered p f Answer.Ready) in
+    spot-same w v g _ _ refl refl (fallen-push w v (Event.Answered p f Answer.Ready) g refl) (omega arith) h
+spot-react p (Op.User (UserOp.Drop f)) UserEnd.Done w g r a h = spot-same w w g _ _ refl refl refl (omega arith) h
+spot-react p (Op.User (UserOp.DropOutput f)) UserEnd.Done w g r a h = spot-same w w g _ _ refl refl refl (omega arith) h
+spot-react p (Op.User (UserOp.CallOutside x)) UserEnd.Done w g r a h = spot-same w w g _ _ refl refl refl (omega arith) h
+spot-react p (Op.User (UserOp.PollOwn x)) (UserEnd.Polled Answer.Pending) w g r a h =
     spot-same w w g _ _ refl refl refl (omega arith) h
-spot-react p (op.User (user_op.PollOwn x)) (end.Polled answer.Ready) w g r a h =
+spot-react p (Op.User (UserOp.PollOwn x)) (UserEnd.Polled Answer.Ready) w g r a h =
     spot-same w w g _ _ refl refl refl (omega arith) h
-spot-react p (op.User (user_op.DropOwn q)) end.Done w g r a h = spot-same w w g _ _ refl refl refl (omega arith) h
+spot-react p (Op.User (UserOp.DropOwn q)) UserEnd.Done w g r a h = spot-same w w g _ _ refl refl refl (omega arith) h
 spot-react p _ _ w g r a h = absurd (cc)

@@ -1,43 +1,24 @@
 -- For futures_are_in_their_places.
 -- In each execution every accepted future is in its place, or away.
-use Rattle.std.proofs.Common.{◌≡◌, ◌⊎◌, ℕ, zero, suc, ◌+◌, ◌<◌, ◌≤◌, List, []}
-use Rattle.std.proofs.Common.{◌∷◌, ◌++◌, length, get_or, set, Bool, true, false}
-use Rattle.std.proofs.Common.{inl, inr, ⊎_elim, refl, subst, sym, ap, ◌∙◌, arith}
+use Rattle.std.proofs.Common.{◌≡◌, ◌⊎◌, ℕ, zero, suc, ◌+◌, ◌<◌, ◌≤◌, List, [], ◌∷◌, ◌++◌, length, get_or, set, Bool, true}
+use Rattle.std.proofs.Common.{false, inl, inr, ⊎_elim, refl, subst, sym, ap, ◌∙◌, arith}
 use Rattle.std.specs.Prelude.{Option, Some, None, reverse}
-use Rattle.executor_model.specs.declared.kind.Kind.{Kind}
-use Rattle.executor_model.specs.declared.call.Call.{Call}
-use Rattle.executor_model.specs.declared.call.Call.TheVariants as call
-use Rattle.executor_model.specs.declared.call.Reply.{Reply}
-use Rattle.executor_model.specs.declared.event.Event.TheVariants as event
-use Rattle.executor_model.specs.declared.op.Hold.{Hold}
-use Rattle.executor_model.specs.declared.op.Op.{Op}
-use Rattle.executor_model.specs.declared.op.Op.TheVariants as op
-use Rattle.executor_model.specs.declared.op.TableOp.TheVariants as table_op
-use Rattle.executor_model.specs.declared.op.UserOp.TheVariants as user_op
-use Rattle.executor_model.specs.declared.op.Waker.{Waker}
-use Rattle.executor_model.specs.declared.step.Step.{Step}
-use Rattle.executor_model.specs.Doing.{act}
-use Rattle.executor_model.specs.Good.{Good}
-use Rattle.executor_model.specs.InPlace.{IsInPlace, away_of}
-use Rattle.executor_model.specs.Rows.{borrowing_of, drops_of, ending_of, polls_of}
+use Rattle.executor_model.proofs.Types.{Kind, Call, Reply, Event, Hold, Op, TableOp, UserOp, Waker, Step}
 use Rattle.executor_model.specs.Steps.{Machine, begun, future_of, kept, mine, run, stack, start, top, with_future}
-use Rattle.executor_model.specs.Trace.{has, is_accepted, is_dropped}
-use Rattle.executor_model.specs.Weights.{same, weigh, weigh_all}
-use Rattle.executor_model.specs.World.{World, Done, done, log}
-use Rattle.executor_model.proofs.OneFuture.EffectsWays.{Effects, effects-way}
+use Rattle.executor_model.specs.{Doing.act, Good.Good, InPlace.IsInPlace, InPlace.away_of, Rows.borrowing_of, Rows.drops_of}
+use Rattle.executor_model.specs.{Rows.ending_of, Rows.polls_of, Trace.has, Trace.is_accepted, Trace.is_dropped, Weights.same}
+use Rattle.executor_model.specs.{Weights.weigh, Weights.weigh_all, World.World, World.Done, World.done, World.log}
+use Rattle.executor_model.proofs.Table.Spots.{LeadsNear, Spot, fallen, fallen-push, falls-effect, few-away, is_inside, spot-act}
 use Rattle.executor_model.proofs.OneFuture.EffectsWays.Effects.{does, pends, readies, closes}
-use Rattle.executor_model.proofs.OneFuture.Stories.{story}
 use Rattle.executor_model.proofs.OneFuture.Telling.{accepted-counts, counted-drop, fallen-counts}
 use Rattle.executor_model.proofs.Steps.Lift.{good, good-start, split, unsettled}
 use Rattle.executor_model.proofs.Steps.Lists.{same_cases, weigh-below, weigh_all-push}
 use Rattle.executor_model.proofs.Steps.Nears.{leads_near, near-begun, near_of}
-use Rattle.executor_model.proofs.Steps.Placing.{places}
-use Rattle.executor_model.proofs.Steps.Ways.{Way, along}
 use Rattle.executor_model.proofs.Steps.Ways.Way.{acted, called, reacted}
-use Rattle.executor_model.proofs.Table.Entering.{counts, one-accepted}
 use Rattle.executor_model.proofs.Table.LeavingExecutions.{Placed, placed-ends, placed-moves, placed-start}
-use Rattle.executor_model.proofs.Table.Spots.{LeadsNear, Spot, fallen, fallen-push, falls-effect, few-away, is_inside, spot-act}
-use Rattle.executor_model.proofs.Table.Spots.{spot-react, spot-same}
+use Rattle.executor_model.proofs.{OneFuture.EffectsWays.Effects, OneFuture.EffectsWays.effects-way, OneFuture.Stories.story}
+use Rattle.executor_model.proofs.{Steps.Placing.places, Steps.Ways.Way, Steps.Ways.along, Table.Entering.counts}
+use Rattle.executor_model.proofs.{Table.Entering.one-accepted, Table.Spots.spot-react, Table.Spots.spot-same}
 
 record Spotted (s : Machine) : Type 0 where
   pub placed : Placed s
@@ -46,9 +27,9 @@ record Spotted (s : Machine) : Type 0 where
 -- what is away is polled, ends or is to be dropped
 
 away-three : (g : ℕ) (o : Op) → away_of g o ≤ polls_of g o + (ending_of g o + drops_of g o)
-away-three g (op.User (user_op.Poll f)) = omega arith
-away-three g (op.User (user_op.BeginDrop f)) = omega arith
-away-three g (op.Table (table_op.PutBack f)) = omega arith
+away-three g (Op.User (UserOp.Poll f)) = omega arith
+away-three g (Op.User (UserOp.BeginDrop f)) = omega arith
+away-three g (Op.Table (TableOp.PutBack f)) = omega arith
 away-three g _ = omega arith
 
 weigh-three : (g : ℕ) (os : List Op) →
@@ -98,7 +79,7 @@ module _ (s : Machine) (p : ℕ) (o : Op) (rest : List Op) (fine : Good s) (l : 
       ((h.leaves g).fresh (omega (arith, k, fine.fits.inside))) in
       (omega (arith, x.0, all-away), x.1)
 
-  back-none : (f : ℕ) → o ≡ op.Table (table_op.PutBack f) → g ≡ f → (left ≡ 0) × (fallen s.world g ≡ 0)
+  back-none : (f : ℕ) → o ≡ Op.Table (TableOp.PutBack f) → g ≡ f → (left ≡ 0) × (fallen s.world g ≡ 0)
   back-none f q i =
       let one : same g f ≡ 1 = grind (arith, same_cases, i) in
       let ends : 1 ≤ weigh_all (ending_of g) s.parties =
@@ -114,8 +95,8 @@ module _ (s : Machine) (p : ℕ) (o : Op) (rest : List Op) (fine : Good s) (l : 
 falls-effects : (w : World) (ss : List (List Op)) (o : Op) (d : Done) (g : ℕ) → Effects w ss (o ∷ []) d →
     ((d.world.trace ≡ d.world.trace) × (fallen d.world g ≡ fallen w g)) ⊎ LeadsNear (o ∷ [])
 falls-effects w ss o d g (does x) = ⊎_elim (λ y. inl (refl, y)) (λ y. inr y) (falls-effect w (o ∷ []) d g x)
-falls-effects w ss o d g (pends p f) = inr (op.User (user_op.Poll f), (refl, refl))
-falls-effects w ss o d g (readies p f) = inr (op.User (user_op.Poll f), (refl, refl))
+falls-effects w ss o d g (pends p f) = inr (Op.User (UserOp.Poll f), (refl, refl))
+falls-effects w ss o d g (readies p f) = inr (Op.User (UserOp.Poll f), (refl, refl))
 
 -- a call begins
 
@@ -127,9 +108,9 @@ falls-begun w ss old d g (does x) q = ⊎_elim
 falls-begun w ss old _ g (pends p f) q = absurd (cc)
 falls-begun w ss old _ g (readies p f) q = absurd (cc)
 falls-begun w ss old _ g (closes p n u) q =
-    let v : World = record (log w (event.CallBegun p call.DropExecutor)) { gone = true } in
-    fallen-push v (log v (event.DropBegun p)) (event.DropBegun p) g refl
-    ∙ fallen-push w (log w (event.CallBegun p call.DropExecutor)) (event.CallBegun p call.DropExecutor) g refl
+    let v : World = record (log w (Event.CallBegun p Call.DropExecutor)) { gone = true } in
+    fallen-push v (log v (Event.DropBegun p)) (Event.DropBegun p) g refl
+    ∙ fallen-push w (log w (Event.CallBegun p Call.DropExecutor)) (Event.CallBegun p Call.DropExecutor) g refl
 
 inside-with : (w v : World) (o : Option ℕ) (d : ℕ → Done) → v.inside ≡ w.inside → ((f : ℕ) → (d f).world.inside ≡ w.inside) →
     (with_future v o d).world.inside ≡ w.inside
@@ -137,13 +118,13 @@ inside-with w v None d e k = e
 inside-with w v (Some f) d e k = k f
 
 inside-begun : (p : ℕ) (w : World) (here : Option Waker) (c : Call) →
-    (begun p (log w (event.CallBegun p c)) here c).world.inside ≡ w.inside
-inside-begun p w here (call.Wake j) = inside-with w _ (kept w j) _ refl (λ f. refl)
-inside-begun p w here (call.WakeByRef j) = inside-with w _ (kept w j) _ refl (λ f. refl)
-inside-begun p w here (call.Copy j) = inside-with w _ (kept w j) _ refl (λ f. refl)
-inside-begun p w here (call.DropWaker j) = inside-with w _ (kept w j) _ refl (λ f. refl)
-inside-begun p w here call.Keep = inside-with w _ (future_of here) _ refl (λ f. refl)
-inside-begun p w here call.WakeSelf = inside-with w _ (future_of here) _ refl (λ f. refl)
+    (begun p (log w (Event.CallBegun p c)) here c).world.inside ≡ w.inside
+inside-begun p w here (Call.Wake j) = inside-with w _ (kept w j) _ refl (λ f. refl)
+inside-begun p w here (Call.WakeByRef j) = inside-with w _ (kept w j) _ refl (λ f. refl)
+inside-begun p w here (Call.Copy j) = inside-with w _ (kept w j) _ refl (λ f. refl)
+inside-begun p w here (Call.DropWaker j) = inside-with w _ (kept w j) _ refl (λ f. refl)
+inside-begun p w here Call.Keep = inside-with w _ (future_of here) _ refl (λ f. refl)
+inside-begun p w here Call.WakeSelf = inside-with w _ (future_of here) _ refl (λ f. refl)
 inside-begun p w here _ = refl
 
 spotted-moves : (s : Machine) (p : ℕ) (old rest : List Op) (d : Done) → Good s → p < length s.parties →
@@ -180,12 +161,12 @@ spotted-moves s p old rest d fine l e way k = record {
         omega (arith, split (away_of g) s.parties p (o ∷ []) rest l here) in i) (k.spots g)))
     by g (called c q r i z) =
         let n : weigh (away_of g) d.next ≡ 0 = ap (λ (y : Done). weigh (away_of g) y.next) z
-        ∙ (let j : weigh (away_of g) (begun p (log s.world (event.CallBegun p c)) (mine (top (stack s p))) c).next ≡ 0 =
+        ∙ (let j : weigh (away_of g) (begun p (log s.world (Event.CallBegun p c)) (mine (top (stack s p))) c).next ≡ 0 =
         omega (
           arith,
           weigh-below (away_of g) near_of (few-away g)
-              (begun p (log s.world (event.CallBegun p c)) (mine (top (stack s p))) c).next,
-          near-begun p (log s.world (event.CallBegun p c)) (mine (top (stack s p))) c,
+              (begun p (log s.world (Event.CallBegun p c)) (mine (top (stack s p))) c).next,
+          near-begun p (log s.world (Event.CallBegun p c)) (mine (top (stack s p))) c,
         ) in j) in
         let b : d.world.inside ≡ s.world.inside = ap (λ (y : Done). y.world.inside) z
         ∙ inside-begun p s.world (mine (top (stack s p))) c in
@@ -195,16 +176,16 @@ spotted-moves s p old rest d fine l e way k = record {
         (omega (arith, n, split (away_of g) s.parties p old rest l e, ap (weigh (away_of g)) q)) (k.spots g)
 
 spotted-ends : (s : Machine) (p : ℕ) (a : Reply) (held : Hold) (below : List Op) → p < length s.parties →
-    stack s p ≡ below ++ reverse (op.End a held ∷ []) → Spotted s →
-    Spotted (unsettled s p below (done (log s.world (event.CallEnded p a)) []))
+    stack s p ≡ below ++ reverse (Op.End a held ∷ []) → Spotted s →
+    Spotted (unsettled s p below (done (log s.world (Event.CallEnded p a)) []))
 spotted-ends s p a held below l e k = record {
   placed = placed-ends s p a held below l e k.placed;
   spots = λ g.
-      let v : World = log s.world (event.CallEnded p a) in
-      spot-same s.world v g _ _ refl refl (fallen-push s.world v (event.CallEnded p a) g refl) (omega (
+      let v : World = log s.world (Event.CallEnded p a) in
+      spot-same s.world v g _ _ refl refl (fallen-push s.world v (Event.CallEnded p a) g refl) (omega (
         arith,
         weigh_all-push (away_of g) s.parties p below [] l,
-        split (away_of g) s.parties p (op.End a held ∷ []) below l e,
+        split (away_of g) s.parties p (Op.End a held ∷ []) below l e,
       )) (k.spots g);
 }
 

@@ -3,36 +3,18 @@
 -- Each thing that is done leads to uses of the executor only inside of a call that holds it.
 use Rattle.std.proofs.Common.{◌≡◌, ℕ, List, [], ◌∷◌, ◌++◌, Bool, true, false, refl, ap, arith}
 use Rattle.std.specs.Prelude.{Option, Some, None}
-use Rattle.executor_model.specs.declared.op.Look.{Look}
-use Rattle.executor_parts.specs.declared.mark.Mark.TheVariants.{Plain, Urgent}
-use Rattle.executor_model.specs.declared.op.Look.TheVariants.{First, Second}
-use Rattle.executor_parts.specs.declared.mark.Mark.{Mark}
-use Rattle.task_moves.specs.declared.moves.state.State.{State}
-use Rattle.task_moves.specs.declared.moves.owed.FutureDebt.{FutureDebt}
 use Rattle.task_moves.specs.declared.moves.owed.AwaiterDebt.{AwaiterDebt}
-use Rattle.task_moves.specs.declared.moves.owed.Answer.{Answer}
-use Rattle.task_moves.specs.declared.moves.owed.Owed.{Owed}
-use Rattle.task_moves.specs.declared.moves.owed.Moved.{Moved}
-use Rattle.task_moves.specs.Moves as moves
-use Rattle.executor_model.specs.declared.op.Awaiter.{Awaiter}
-use Rattle.executor_model.specs.declared.op.Waker.{Waker}
-use Rattle.executor_model.specs.declared.op.Waker.TheVariants.{Task, Outside}
-use Rattle.executor_model.specs.declared.op.Hold.{Hold}
-use Rattle.executor_model.specs.declared.op.Op.{Op}
-use Rattle.executor_model.specs.declared.op.Op.TheVariants as op
-use Rattle.executor_model.specs.declared.op.HandleOp.TheVariants as handle_op
-use Rattle.executor_model.specs.declared.op.QueueOp.TheVariants as queue_op
-use Rattle.executor_model.specs.World.{World, task, awaiter_of}
+use Rattle.task_moves.{specs.declared.moves.owed.FutureDebt.FutureDebt, specs.declared.moves.owed.Answer.Answer}
+use Rattle.executor_model.proofs.Types.{Look, Plain, Urgent, First, Second, Mark, State, Owed, Moved, Awaiter, Waker, Task}
+use Rattle.executor_model.proofs.Types.{Outside, Hold, Op, HandleOp, QueueOp}
+use Rattle.executor_model.specs.Acts.{append_by, take_by, enter_by, copy_by, look_by, look_again_by, copy_awaiter_by}
+use Rattle.executor_model.specs.Acts.{register_by, waker_goes, let_go, end_register_by, notify_by, told, call_awaiter}
 use Rattle.executor_model.specs.Carried.{owed_ops, future_ops, awaiter_ops}
-use Rattle.executor_model.specs.Acts.{append_by, take_by, enter_by, copy_by, look_by, look_again_by}
-use Rattle.executor_model.specs.Acts.{copy_awaiter_by}
-use Rattle.executor_model.specs.Acts.{register_by, waker_goes, let_go, end_register_by, notify_by, told}
-use Rattle.executor_model.specs.Acts.{call_awaiter, let_go_by}
-use Rattle.executor_model.specs.Acts.{closing_ops, drop_next_by, wake, wake_next_by, drain_by}
-use Rattle.executor_model.specs.Weights.{weigh}
-use Rattle.executor_model.proofs.Steps.Lists.{weigh-append}
+use Rattle.executor_model.specs.Acts.{let_go_by, closing_ops, drop_next_by, wake, wake_next_by, drain_by}
+use Rattle.executor_model.specs.{World.World, World.task, World.awaiter_of, Weights.weigh}
 use Rattle.executor_model.proofs.Steps.Owed.{owed-awaiter, owed-nothing}
-use Rattle.executor_model.proofs.Table.Borrowing.{uses_of, Tidy}
+use Rattle.executor_model.proofs.{Steps.Lists.weigh-append, Table.Borrowing.uses_of, Table.Borrowing.Tidy}
+use Rattle.task_moves.specs.Moves as moves
 
 light-both : (xs ys : List Op) → weigh uses_of xs ≡ 0 → weigh uses_of ys ≡ 0 → weigh uses_of (xs ++ ys) ≡ 0
 light-both xs ys a b = omega (arith, weigh-append uses_of xs ys, a, b)
@@ -88,7 +70,7 @@ pub light-append : (b : Bool) (w : World) (mark : Mark) (f : ℕ) → weigh uses
 light-append true w mark f = refl
 light-append false w mark f = refl
 
-pub tidy-take : (look : Look) (q : List ℕ) (w : World) → Tidy (op.Queue (queue_op.Take look) ∷ []) (take_by w look q).next
+pub tidy-take : (look : Look) (q : List ℕ) (w : World) → Tidy (Op.Queue (QueueOp.Take look) ∷ []) (take_by w look q).next
 tidy-take (First mark) [] w = record { keeps = λ h. refl }
 tidy-take (Second mark) [] w = record { keeps = λ h. refl }
 tidy-take look (f ∷ rest) w = record { keeps = λ h. refl }
@@ -138,10 +120,10 @@ pub light-end_register : (b : Bool) (w : World) (f : ℕ) (a : Waker) (k : ℕ) 
 light-end_register true w f a k =
     omega (
       arith,
-      light-both (let_go (awaiter_of w f)) (op.Handle (handle_op.LookAgain f) ∷ [])
+      light-both (let_go (awaiter_of w f)) (Op.Handle (HandleOp.LookAgain f) ∷ [])
           (light-let_go (awaiter_of w f)) refl,
     )
-light-end_register false w f a k = light-both (let_go (awaiter_of w f)) (op.Handle (handle_op.LookAgain f) ∷ [])
+light-end_register false w f a k = light-both (let_go (awaiter_of w f)) (Op.Handle (HandleOp.LookAgain f) ∷ [])
     (light-let_go (awaiter_of w f)) refl
 
 pub light-notify : (b : Bool) (w : World) (f : ℕ) (mine : Bool) → weigh uses_of (notify_by b w f mine).next ≡ 0

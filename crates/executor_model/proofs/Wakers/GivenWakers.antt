@@ -1,59 +1,27 @@
 -- For polls_keep_their_wakers.
 -- What the party of a call that polls does next tells of the poll, which has the waker that the call was given.
-use Rattle.std.proofs.Common.{◌≡◌, ◌≢◌, ℕ, ◌<◌, List, [], ◌∷◌, ◌++◌, length, set, get_or, Bool, true}
-use Rattle.std.proofs.Common.{false, refl, subst, sym, ap}
-use Rattle.std.proofs.Common.{arith, ◌∙◌, ◌||◌, eqb, get_or-set_same, get_or-set_other}
-use Rattle.std.proofs.Common.{append-nil, ltb}
-use Rattle.std.proofs.lemmas.Bool.Decides.{nat_tests}
+use Rattle.std.proofs.Common.{◌≡◌, ◌≢◌, ℕ, ◌<◌, List, [], ◌∷◌, ◌++◌, length, set, get_or, Bool, true, false, refl, subst, sym}
+use Rattle.std.proofs.Common.{ap, arith, ◌∙◌, ◌||◌, eqb, get_or-set_same, get_or-set_other, append-nil, ltb}
 use Rattle.std.proofs.lemmas.List.{append_assoc, append_cancel_left, length-append, set-set}
-use Rattle.std.proofs.Math.ListN.{length-set}
 use Rattle.std.specs.Prelude.{Option, Some, None, reverse}
+use Rattle.std.{proofs.lemmas.Bool.Decides.nat_tests, proofs.Math.ListN.length-set}
 use Rattle.task_moves.specs.declared.moves.owed.Answer.{Answer}
-use Rattle.task_moves.specs.declared.moves.owed.Moved.{Moved}
-use Rattle.task_moves.specs.Moves as moves
-use Rattle.executor_model.specs.declared.call.By.{By}
-use Rattle.executor_model.specs.declared.call.By.TheVariants as by
-use Rattle.executor_model.specs.declared.call.Call.{Call}
-use Rattle.executor_model.specs.declared.call.Call.TheVariants as call
-use Rattle.executor_model.specs.declared.call.Reply.{Reply}
-use Rattle.executor_model.specs.declared.event.Event.{Event}
-use Rattle.executor_model.specs.declared.event.Event.TheVariants as event
-use Rattle.executor_model.specs.declared.kind.Kind.{Kind}
-use Rattle.executor_model.specs.declared.op.HandleOp.TheVariants as handle_op
-use Rattle.executor_model.specs.declared.op.Hold.{Hold}
-use Rattle.executor_model.specs.declared.op.Op.{Op}
-use Rattle.executor_model.specs.declared.op.Op.TheVariants as op
-use Rattle.executor_model.specs.declared.op.Waker.{Waker}
-use Rattle.executor_model.specs.declared.op.Waker.TheVariants.{Task, Outside}
-use Rattle.executor_model.specs.declared.step.Hint.{Hint}
-use Rattle.executor_model.specs.declared.step.Step.{Step}
-use Rattle.executor_model.specs.declared.step.Step.TheVariants.{Begin}
-use Rattle.executor_model.specs.declared.step.StepError.{StepError}
-use Rattle.executor_model.specs.declared.step.StepError.TheVariants.{NoSuch}
-use Rattle.executor_model.specs.declared.step.UserEnd.{UserEnd}
+use Rattle.executor_model.proofs.Types.{Moved, By, Call, Reply, Event, Kind, HandleOp, Hold, Op, Waker, Task, Outside, Hint}
+use Rattle.executor_model.proofs.Types.{Step, Begin, StepError, NoSuch, UserEnd}
+use Rattle.executor_model.specs.Steps.{Machine, accepts, begin_refusal, begun, end_of, is_free, mine, onto, run, settled_by}
 use Rattle.executor_model.specs.Acts.{answered, copied, copy_awaiter_by, is_copy_refused, is_output, look_by, polled}
-use Rattle.executor_model.specs.Deeds.{is_by}
-use Rattle.executor_model.specs.Doing.{act}
 use Rattle.executor_model.specs.GivenWakers.{IsItsWaker, PollsKeepTheirWakers, given, tells_of_poll}
-use Rattle.executor_model.specs.Good.{Good}
-use Rattle.executor_model.specs.Steps.{Machine, accepts, begin_refusal, begun, end_of, is_free, mine, onto}
-use Rattle.executor_model.specs.Steps.{run}
-use Rattle.executor_model.specs.Steps.{settled_by, stack, start, step, stepped, top, unless, waker_of}
-use Rattle.executor_model.specs.Steps.{with_part}
-use Rattle.executor_model.specs.Trace.{Trace, has}
+use Rattle.executor_model.specs.Steps.{stack, start, step, stepped, top, unless, waker_of, with_part}
 use Rattle.executor_model.specs.World.{World, Done, done, log, log_if, put, task}
-use Rattle.executor_model.proofs.Quiet.Calls.{is_end}
+use Rattle.executor_model.specs.{Deeds.is_by, Doing.act, Good.Good, Trace.Trace, Trace.has}
 use Rattle.executor_model.proofs.Steps.Deeds.{grows-act, grows-begun, grows-react, not-by}
 use Rattle.executor_model.proofs.Steps.Lift.{good, good-start, good-stepped, no_hint, none_refused, topped, unsettled}
-use Rattle.executor_model.proofs.Steps.Stepping.{step-made}
-use Rattle.executor_model.proofs.Steps.Tests.{or-false}
-use Rattle.executor_model.proofs.Steps.TraceMore.{has-append}
-use Rattle.executor_model.proofs.Steps.Ways.{Way, along}
 use Rattle.executor_model.proofs.Steps.Ways.Way.{acted, called, reacted}
-use Rattle.executor_model.proofs.Table.Spawning.{top-last}
-use Rattle.executor_model.proofs.Wakers.Names.{RightEntry, RightEvent, RightSlot, every-at}
-use Rattle.executor_model.proofs.Wakers.Names.{every-get}
+use Rattle.executor_model.proofs.Wakers.Names.{RightEntry, RightEvent, RightSlot, every-at, every-get}
 use Rattle.executor_model.proofs.Wakers.NamesWays.{Fresh, Named, NewlyIn, fresh-start, fresh-way, later-in, names-way}
+use Rattle.executor_model.proofs.{Quiet.Calls.is_end, Steps.Stepping.step-made, Steps.Tests.or-false}
+use Rattle.executor_model.proofs.{Steps.TraceMore.has-append, Steps.Ways.Way, Steps.Ways.along, Table.Spawning.top-last}
+use Rattle.task_moves.specs.Moves as moves
 
 -- lists
 
@@ -109,9 +77,9 @@ first-none t (u ∷ xs) (v ∷ ys) more y e a d =
 
 -- a poll of a handle that isn't told of yet was given this waker, or it ends
 abbrev Waits : Waker → Op → Type 0
-Waits a (op.Handle (handle_op.Look f b)) = b ≡ a
-Waits a (op.Handle (handle_op.CopyAwaiter f b)) = b ≡ a
-Waits a (op.End r held) = Unit {0}
+Waits a (Op.Handle (HandleOp.Look f b)) = b ≡ a
+Waits a (Op.Handle (HandleOp.CopyAwaiter f b)) = b ≡ a
+Waits a (Op.End r held) = Unit {0}
 Waits a _ = ⊥
 
 data Stands (es : Trace) (p : ℕ) (c : Call) (a : Waker) (s : Machine) : Type 0 where
@@ -129,10 +97,10 @@ record Grown (p : ℕ) (w v : World) : Type 0 where
 
 grown-act : (p : ℕ) (h : Hint) (o : Op) (w : World) (b : Bool) → is_end o ≡ b → Grown p w (act p h o w).world
 grown-act p h o w false n = let g = grows-act p h o w n in record { more = g.more; is = g.is; own = g.own }
-grown-act p h (op.End r held) w true n = record {
-  more = event.CallEnded p r ∷ [];
+grown-act p h (Op.End r held) w true n = record {
+  more = Event.CallEnded p r ∷ [];
   is = refl;
-  own = λ q k. or-false (is_by q (event.CallEnded p r)) (not-by p q (event.CallEnded p r) refl k);
+  own = λ q k. or-false (is_by q (Event.CallEnded p r)) (not-by p q (Event.CallEnded p r) refl k);
 }
 grown-act p h _ w true n = absurd (cc)
 
@@ -142,12 +110,12 @@ grown-way s p old rest d (acted h o q z) =
 grown-way s p old rest d (reacted o u x q z) = subst (λ (y : Done). Grown p s.world y.world) (sym z)
     (let g = grows-react p o u s.world in record { more = g.more; is = g.is; own = g.own })
 grown-way s p old rest d (called c q r x z) = subst (λ (y : Done). Grown p s.world y.world) (sym z)
-    (let w = log s.world (event.CallBegun p c) in
+    (let w = log s.world (Event.CallBegun p c) in
     let g = grows-begun p w (mine (top (stack s p))) c in record {
-      more = event.CallBegun p c ∷ g.more;
-      is = g.is ∙ append_assoc s.world.trace (event.CallBegun p c ∷ []) g.more;
-      own = λ n k. has-append (is_by n) (event.CallBegun p c ∷ []) g.more
-          (or-false (is_by n (event.CallBegun p c)) (not-by p n (event.CallBegun p c) refl k)) (g.own n k);
+      more = Event.CallBegun p c ∷ g.more;
+      is = g.is ∙ append_assoc s.world.trace (Event.CallBegun p c ∷ []) g.more;
+      own = λ n k. has-append (is_by n) (Event.CallBegun p c ∷ []) g.more
+          (or-false (is_by n (Event.CallBegun p c)) (not-by p n (Event.CallBegun p c) refl k)) (g.own n k);
     })
 
 by-self : (p : ℕ) → eqb p p ≡ true
@@ -155,12 +123,12 @@ by-self p = grind (arith, nat_tests)
 
 -- the beginning of an answered poll's events: the poll itself
 looked : (p : ℕ) (w : World) (f : ℕ) (m : Moved) (x : Answer) → (more : Trace)
-    × ((answered p (polled p w f) f m x).world.trace ≡ w.trace ++ (event.HandlePolled p f ∷ more))
+    × ((answered p (polled p w f) f m x).world.trace ≡ w.trace ++ (Event.HandlePolled p f ∷ more))
 looked p w f m x = by (is_output x)
   where
-    by : (b : Bool) → (more : Trace) × ((log_if b (put (polled p w f) f m.state) (event.OutputGiven p f)).trace
-        ≡ w.trace ++ (event.HandlePolled p f ∷ more))
-    by true = (event.OutputGiven p f ∷ [], append_assoc w.trace (event.HandlePolled p f ∷ []) (event.OutputGiven p f ∷ []))
+    by : (b : Bool) → (more : Trace) × ((log_if b (put (polled p w f) f m.state) (Event.OutputGiven p f)).trace
+        ≡ w.trace ++ (Event.HandlePolled p f ∷ more))
+    by true = (Event.OutputGiven p f ∷ [], append_assoc w.trace (Event.HandlePolled p f ∷ []) (Event.OutputGiven p f ∷ []))
     by false = ([], refl)
 
 copied-trace : (w : World) (b : Waker) → (copied w b).trace ≡ w.trace
@@ -198,71 +166,71 @@ module _ (es : Trace) (p : ℕ) (c : Call) (a : Waker) where
   place-is w mid t = ap length t
 
   on-look : (s : Machine) (h : Hint) (f : ℕ) (b : Waker) (rest : List Op) (mid : Trace) → Fresh s → p < length s.parties →
-      stack s p ≡ rest ++ op.Handle (handle_op.Look f b) ∷ [] → s.world.trace ≡ es ++ mid → has (is_by p) mid ≡ false →
-      b ≡ a → Stands es p c a (unsettled s p rest (act p h (op.Handle (handle_op.Look f b)) s.world))
+      stack s p ≡ rest ++ Op.Handle (HandleOp.Look f b) ∷ [] → s.world.trace ≡ es ++ mid → has (is_by p) mid ≡ false →
+      b ≡ a → Stands es p c a (unsettled s p rest (act p h (Op.Handle (HandleOp.Look f b)) s.world))
   on-look s h f b rest mid fresh l e t n i = by (moves.poll (task s.world f)).owed.answer refl
     where
       m : Moved
       m = moves.poll (task s.world f)
 
-      named : Named (length (es ++ mid)) a (unsettled s p rest (act p h (op.Handle (handle_op.Look f b)) s.world))
-      named = names-way (length (es ++ mid)) a s p (op.Handle (handle_op.Look f b) ∷ []) rest _
-          (acted h (op.Handle (handle_op.Look f b)) refl refl) e tt
+      named : Named (length (es ++ mid)) a (unsettled s p rest (act p h (Op.Handle (HandleOp.Look f b)) s.world))
+      named = names-way (length (es ++ mid)) a s p (Op.Handle (HandleOp.Look f b) ∷ []) rest _
+          (acted h (Op.Handle (HandleOp.Look f b)) refl refl) e tt
           (fresh (length (es ++ mid)) a (omega (arith, ap length t)))
 
       by : (o : Option Answer) → m.owed.answer ≡ o →
-          Stands es p c a (unsettled s p rest (act p h (op.Handle (handle_op.Look f b)) s.world))
+          Stands es p c a (unsettled s p rest (act p h (Op.Handle (HandleOp.Look f b)) s.world))
       by None q = subst (λ (x : Option Answer). Stands es p c a (unsettled s p rest (look_by x p s.world f b m))) (sym q)
-          (waits mid t n rest (op.Handle (handle_op.CopyAwaiter f b)) (get_or-set_same s.parties p _ [] l) i)
+          (waits mid t n rest (Op.Handle (HandleOp.CopyAwaiter f b)) (get_or-set_same s.parties p _ [] l) i)
       by (Some x) q =
           let y = looked p s.world f m x in
-          told mid y.0 (event.HandlePolled p f) (push-trace s.world _ mid (event.HandlePolled p f ∷ y.0) t
+          told mid y.0 (Event.HandlePolled p f) (push-trace s.world _ mid (Event.HandlePolled p f ∷ y.0) t
           (ap (λ (z : Option Answer). (look_by z p s.world f b m).world.trace) q ∙ y.1)) n (by-self p) (λ z. named)
 
   on-copy : (s : Machine) (h : Hint) (f : ℕ) (b : Waker) (rest : List Op) (mid : Trace) → Fresh s → p < length s.parties →
-      stack s p ≡ rest ++ op.Handle (handle_op.CopyAwaiter f b) ∷ [] → s.world.trace ≡ es ++ mid → has (is_by p) mid ≡ false →
-      b ≡ a → Stands es p c a (unsettled s p rest (act p h (op.Handle (handle_op.CopyAwaiter f b)) s.world))
+      stack s p ≡ rest ++ Op.Handle (HandleOp.CopyAwaiter f b) ∷ [] → s.world.trace ≡ es ++ mid → has (is_by p) mid ≡ false →
+      b ≡ a → Stands es p c a (unsettled s p rest (act p h (Op.Handle (HandleOp.CopyAwaiter f b)) s.world))
   on-copy s h f b rest mid fresh l e t n i = by (is_copy_refused h s.world b) refl
     where
-      named : Named (length (es ++ mid)) a (unsettled s p rest (act p h (op.Handle (handle_op.CopyAwaiter f b)) s.world))
-      named = names-way (length (es ++ mid)) a s p (op.Handle (handle_op.CopyAwaiter f b) ∷ []) rest _
-          (acted h (op.Handle (handle_op.CopyAwaiter f b)) refl refl) e (λ q j. i)
+      named : Named (length (es ++ mid)) a (unsettled s p rest (act p h (Op.Handle (HandleOp.CopyAwaiter f b)) s.world))
+      named = names-way (length (es ++ mid)) a s p (Op.Handle (HandleOp.CopyAwaiter f b) ∷ []) rest _
+          (acted h (Op.Handle (HandleOp.CopyAwaiter f b)) refl refl) e (λ q j. i)
           (fresh (length (es ++ mid)) a (omega (arith, ap length t)))
 
       by : (x : Bool) → is_copy_refused h s.world b ≡ x →
-          Stands es p c a (unsettled s p rest (act p h (op.Handle (handle_op.CopyAwaiter f b)) s.world))
+          Stands es p c a (unsettled s p rest (act p h (Op.Handle (HandleOp.CopyAwaiter f b)) s.world))
       by true q = subst (λ (x : Bool). Stands es p c a (unsettled s p rest (copy_awaiter_by x p s.world f b))) (sym q)
-          (waits mid t n rest (op.End _ (_)) (get_or-set_same s.parties p _ [] l) tt)
-      by false q = told mid [] (event.HandlePolled p f) (push-trace s.world _ mid (event.HandlePolled p f ∷ []) t
+          (waits mid t n rest (Op.End _ (_)) (get_or-set_same s.parties p _ [] l) tt)
+      by false q = told mid [] (Event.HandlePolled p f) (push-trace s.world _ mid (Event.HandlePolled p f ∷ []) t
           (ap (λ (z : Bool). (copy_awaiter_by z p s.world f b).world.trace) q
-          ∙ ap (λ (xs : Trace). xs ++ event.HandlePolled p f ∷ []) (copied-trace s.world b))) n (by-self p) (λ z. named)
+          ∙ ap (λ (xs : Trace). xs ++ Event.HandlePolled p f ∷ []) (copied-trace s.world b))) n (by-self p) (λ z. named)
 
-  tells-no-end : (x : Call) (r : Reply) → tells_of_poll p x (event.CallEnded p r) ≡ false
-  tells-no-end (call.PollHandle f b) r = refl
-  tells-no-end (call.PollTick t b) r = refl
-  tells-no-end (call.PollRun o b) r = refl
+  tells-no-end : (x : Call) (r : Reply) → tells_of_poll p x (Event.CallEnded p r) ≡ false
+  tells-no-end (Call.PollHandle f b) r = refl
+  tells-no-end (Call.PollTick t b) r = refl
+  tells-no-end (Call.PollRun o b) r = refl
   tells-no-end _ r = refl
 
   on-act : (s : Machine) (h : Hint) (o : Op) (rest : List Op) (mid : Trace) → Fresh s → p < length s.parties →
       stack s p ≡ rest ++ o ∷ [] → s.world.trace ≡ es ++ mid → has (is_by p) mid ≡ false → Waits a o →
       Stands es p c a (unsettled s p rest (act p h o s.world))
-  on-act s h (op.Handle (handle_op.Look f b)) rest mid fresh l e t n i = on-look s h f b rest mid fresh l e t n i
-  on-act s h (op.Handle (handle_op.CopyAwaiter f b)) rest mid fresh l e t n i = on-copy s h f b rest mid fresh l e t n i
-  on-act s h (op.End r held) rest mid fresh l e t n i =
-      told mid [] (event.CallEnded p r) (push-trace s.world _ mid (event.CallEnded p r ∷ []) t refl) n (by-self p)
+  on-act s h (Op.Handle (HandleOp.Look f b)) rest mid fresh l e t n i = on-look s h f b rest mid fresh l e t n i
+  on-act s h (Op.Handle (HandleOp.CopyAwaiter f b)) rest mid fresh l e t n i = on-copy s h f b rest mid fresh l e t n i
+  on-act s h (Op.End r held) rest mid fresh l e t n i =
+      told mid [] (Event.CallEnded p r) (push-trace s.world _ mid (Event.CallEnded p r ∷ []) t refl) n (by-self p)
       (λ z. absurd (not-both _ z (tells-no-end c r)))
   on-act s h _ rest mid fresh l e t n i = absurd i
 
   no-answer : (o : Op) (u : UserEnd) → accepts o u ≡ true → Waits a o → ⊥
-  no-answer (op.Handle (handle_op.Look f b)) u x i = absurd (cc)
-  no-answer (op.Handle (handle_op.CopyAwaiter f b)) u x i = absurd (cc)
-  no-answer (op.End r held) u x i = absurd (cc)
+  no-answer (Op.Handle (HandleOp.Look f b)) u x i = absurd (cc)
+  no-answer (Op.Handle (HandleOp.CopyAwaiter f b)) u x i = absurd (cc)
+  no-answer (Op.End r held) u x i = absurd (cc)
   no-answer _ u x i = i
 
   not-free : (o : Op) → is_free (Some o) ≡ true → Waits a o → ⊥
-  not-free (op.Handle (handle_op.Look f b)) x i = absurd (cc)
-  not-free (op.Handle (handle_op.CopyAwaiter f b)) x i = absurd (cc)
-  not-free (op.End r held) x i = absurd (cc)
+  not-free (Op.Handle (HandleOp.Look f b)) x i = absurd (cc)
+  not-free (Op.Handle (HandleOp.CopyAwaiter f b)) x i = absurd (cc)
+  not-free (Op.End r held) x i = absurd (cc)
   not-free _ x i = i
 
   own-way : (s : Machine) (old rest : List Op) (d : Done) → Way s p old rest d → stack s p ≡ rest ++ reverse old →
@@ -308,22 +276,22 @@ module _ (es : Trace) (p : ℕ) (c : Call) (a : Waker) where
   }
 
   standing-ends : (s : Machine) (q : ℕ) (r : Reply) (held : Hold) (below : List Op) → q < length s.parties →
-      stack s q ≡ below ++ reverse (op.End r held ∷ []) → Standing s →
-      Standing (unsettled s q below (done (log s.world (event.CallEnded q r)) []))
+      stack s q ≡ below ++ reverse (Op.End r held ∷ []) → Standing s →
+      Standing (unsettled s q below (done (log s.world (Event.CallEnded q r)) []))
   standing-ends s q r held below l e h =
-      let way : Way s q (op.End r held ∷ []) below (done (log s.world (event.CallEnded q r)) []) =
-      acted no_hint (op.End r held) refl refl in record {
-        fresh = fresh-way s q (op.End r held ∷ []) below _ way e h.fresh;
-        stands = stands-way s q (op.End r held ∷ []) below _ way e l h.fresh h.stands;
+      let way : Way s q (Op.End r held ∷ []) below (done (log s.world (Event.CallEnded q r)) []) =
+      acted no_hint (Op.End r held) refl refl in record {
+        fresh = fresh-way s q (Op.End r held ∷ []) below _ way e h.fresh;
+        stands = stands-way s q (Op.End r held ∷ []) below _ way e l h.fresh h.stands;
       }
 
   standing-settled : (s : Machine) (q : ℕ) (os : List Op) (w : World) (o : Option Op) → q < length s.parties → top os ≡ o →
       Standing (record { world = w; parties = set s.parties q os }) → Standing (with_part s q (settled_by (end_of o) q w os))
-  standing-settled s q os w (Some (op.End r held)) h e k =
+  standing-settled s q os w (Some (Op.End r held)) h e k =
       let t : Machine = record { world = w; parties = set s.parties q os } in
       let l : q < length t.parties = omega (arith, h, length-set s.parties q os) in
-      let i : stack t q ≡ _ ++ reverse (op.End r held ∷ []) = get_or-set_same s.parties q os [] h ∙ topped os (op.End r held) e in
-      subst (λ (ss : List (List Op)). Standing (record { world = log w (event.CallEnded q r); parties = ss }))
+      let i : stack t q ≡ _ ++ reverse (Op.End r held ∷ []) = get_or-set_same s.parties q os [] h ∙ topped os (Op.End r held) e in
+      subst (λ (ss : List (List Op)). Standing (record { world = log w (Event.CallEnded q r); parties = ss }))
       (ap (set (set s.parties q os) q) (append-nil _) ∙ set-set s.parties q os _)
       (standing-ends t q r held _ l i k)
   standing-settled s q os w None h e k = k
@@ -331,18 +299,18 @@ module _ (es : Trace) (p : ℕ) (c : Call) (a : Waker) where
 
 -- the call begins
 
-given-is : (here : Option Waker) (b : By) (a : Waker) → given here (call.PollTick 0 b) ≡ Some a → waker_of here b ≡ a
-given-is (Some x) by.Mine a e = cc
-given-is None by.Mine a e = absurd (cc)
-given-is (Some x) (by.Outside y) a e = cc
-given-is None (by.Outside y) a e = cc
+given-is : (here : Option Waker) (b : By) (a : Waker) → given here (Call.PollTick 0 b) ≡ Some a → waker_of here b ≡ a
+given-is (Some x) By.Mine a e = cc
+given-is None By.Mine a e = absurd (cc)
+given-is (Some x) (By.Outside y) a e = cc
+given-is None (By.Outside y) a e = cc
 
 module _ (s : Machine) (p : ℕ) (fresh : Fresh s) (l : p < length s.parties) where
   abbrev es : Call → Trace
-  es c = s.world.trace ++ event.CallBegun p c ∷ []
+  es c = s.world.trace ++ Event.CallBegun p c ∷ []
 
   abbrev first : Call → Done
-  first c = begun p (log s.world (event.CallBegun p c)) (mine (top (stack s p))) c
+  first c = begun p (log s.world (Event.CallBegun p c)) (mine (top (stack s p))) c
 
   -- one that is told of as it begins
   named-first : (c : Call) (a : Waker) (n : begin_refusal s.world s.parties (top (stack s p)) c ≡ None) →
@@ -353,22 +321,22 @@ module _ (s : Machine) (p : ℕ) (fresh : Fresh s) (l : p < length s.parties) wh
       (fresh (length (es c ++ [])) a (omega (
         arith,
         length-append (es c) [],
-        length-append s.world.trace (event.CallBegun p c ∷ []),
+        length-append s.world.trace (Event.CallBegun p c ∷ []),
       )))
 
   begins : (c : Call) (a : Waker) → begin_refusal s.world s.parties (top (stack s p)) c ≡ None →
       given (mine (top (stack s p))) c ≡ Some a → Stands (es c) p c a (unsettled s p (stack s p) (first c))
-  begins (call.PollHandle f b) a n g =
-      waits [] (sym (append-nil (es (call.PollHandle f b)))) refl (stack s p)
-      (op.Handle (handle_op.Look f (waker_of (mine (top (stack s p))) b)))
-      (get_or-set_same s.parties p (stack s p ++ op.Handle (handle_op.Look f (waker_of (mine (top (stack s p))) b)) ∷ []) [] l)
+  begins (Call.PollHandle f b) a n g =
+      waits [] (sym (append-nil (es (Call.PollHandle f b)))) refl (stack s p)
+      (Op.Handle (HandleOp.Look f (waker_of (mine (top (stack s p))) b)))
+      (get_or-set_same s.parties p (stack s p ++ Op.Handle (HandleOp.Look f (waker_of (mine (top (stack s p))) b)) ∷ []) [] l)
       (given-is (mine (top (stack s p))) b a g)
-  begins (call.PollTick t b) a n g =
-      told [] [] (event.TickPolled p t) refl refl (by-self p)
-      (λ z. named-first (call.PollTick t b) a n (λ q. given-is (mine (top (stack s p))) b a g))
-  begins (call.PollRun r b) a n g =
-      told [] [] (event.RunPolled p r) refl refl (by-self p)
-      (λ z. named-first (call.PollRun r b) a n (λ q. given-is (mine (top (stack s p))) b a g))
+  begins (Call.PollTick t b) a n g =
+      told [] [] (Event.TickPolled p t) refl refl (by-self p)
+      (λ z. named-first (Call.PollTick t b) a n (λ q. given-is (mine (top (stack s p))) b a g))
+  begins (Call.PollRun r b) a n g =
+      told [] [] (Event.RunPolled p r) refl refl (by-self p)
+      (λ z. named-first (Call.PollRun r b) a n (λ q. given-is (mine (top (stack s p))) b a g))
   begins _ a n g = absurd (cc)
 
   standing-begun : (c : Call) (a : Waker) → begin_refusal s.world s.parties (top (stack s p)) c ≡ None →
@@ -387,34 +355,34 @@ there false r e = absurd (cc)
 
 -- what tells of the poll is the party's
 
-at-handle : (p f : ℕ) (e : Event) → tells_of_poll p (call.PollHandle f by.Mine) e ≡ true → is_by p e ≡ true
-at-handle p f (event.HandlePolled q g) h = grind (arith, nat_tests)
+at-handle : (p f : ℕ) (e : Event) → tells_of_poll p (Call.PollHandle f By.Mine) e ≡ true → is_by p e ≡ true
+at-handle p f (Event.HandlePolled q g) h = grind (arith, nat_tests)
 at-handle p f _ h = absurd (cc)
 
-at-tick : (p t : ℕ) (e : Event) → tells_of_poll p (call.PollTick t by.Mine) e ≡ true → is_by p e ≡ true
-at-tick p t (event.TickPolled q u) h = grind (arith, nat_tests)
+at-tick : (p t : ℕ) (e : Event) → tells_of_poll p (Call.PollTick t By.Mine) e ≡ true → is_by p e ≡ true
+at-tick p t (Event.TickPolled q u) h = grind (arith, nat_tests)
 at-tick p t _ h = absurd (cc)
 
-at-run : (p r : ℕ) (e : Event) → tells_of_poll p (call.PollRun r by.Mine) e ≡ true → is_by p e ≡ true
-at-run p r (event.RunPolled q o) h = grind (arith, nat_tests)
+at-run : (p r : ℕ) (e : Event) → tells_of_poll p (Call.PollRun r By.Mine) e ≡ true → is_by p e ≡ true
+at-run p r (Event.RunPolled q o) h = grind (arith, nat_tests)
 at-run p r _ h = absurd (cc)
 
-same-handle : (p f : ℕ) (b : By) (e : Event) → tells_of_poll p (call.PollHandle f b) e ≡ tells_of_poll p (call.PollHandle f by.Mine) e
-same-handle p f b (event.HandlePolled q g) = refl
+same-handle : (p f : ℕ) (b : By) (e : Event) → tells_of_poll p (Call.PollHandle f b) e ≡ tells_of_poll p (Call.PollHandle f By.Mine) e
+same-handle p f b (Event.HandlePolled q g) = refl
 same-handle p f b _ = refl
 
-same-tick : (p t : ℕ) (b : By) (e : Event) → tells_of_poll p (call.PollTick t b) e ≡ tells_of_poll p (call.PollTick t by.Mine) e
-same-tick p t b (event.TickPolled q u) = refl
+same-tick : (p t : ℕ) (b : By) (e : Event) → tells_of_poll p (Call.PollTick t b) e ≡ tells_of_poll p (Call.PollTick t By.Mine) e
+same-tick p t b (Event.TickPolled q u) = refl
 same-tick p t b _ = refl
 
-same-run : (p r : ℕ) (b : By) (e : Event) → tells_of_poll p (call.PollRun r b) e ≡ tells_of_poll p (call.PollRun r by.Mine) e
-same-run p r b (event.RunPolled q o) = refl
+same-run : (p r : ℕ) (b : By) (e : Event) → tells_of_poll p (Call.PollRun r b) e ≡ tells_of_poll p (Call.PollRun r By.Mine) e
+same-run p r b (Event.RunPolled q o) = refl
 same-run p r b _ = refl
 
 teller : (p : ℕ) (c : Call) (e : Event) → tells_of_poll p c e ≡ true → is_by p e ≡ true
-teller p (call.PollHandle f b) e h = at-handle p f e (sym (same-handle p f b e) ∙ h)
-teller p (call.PollTick t b) e h = at-tick p t e (sym (same-tick p t b e) ∙ h)
-teller p (call.PollRun r b) e h = at-run p r e (sym (same-run p r b e) ∙ h)
+teller p (Call.PollHandle f b) e h = at-handle p f e (sym (same-handle p f b e) ∙ h)
+teller p (Call.PollTick t b) e h = at-tick p t e (sym (same-tick p t b e) ∙ h)
+teller p (Call.PollRun r b) e h = at-run p r e (sym (same-run p r b e) ∙ h)
 teller p _ e h = absurd (cc)
 
 concluded : (es : Trace) (p : ℕ) (c : Call) (a : Waker) (s : Machine) → Stands es p c a s → (between later : Trace) (e : Event) →
@@ -432,7 +400,7 @@ named-is : (k : ℕ) (a : Waker) (s : Machine) → Named k a s → IsItsWaker k 
 named-is k a s h = record {
   awaiters = λ f x e. subst (RightSlot k a) e (every-get (RightSlot k a) f s.world.awaiters None h.stored.awaiters tt);
   sleepers = λ n m x e. every-at (RightEntry k a) n s.world.sleepers.wakers (m, x) h.stored.sleepers e;
-  called = λ n p o b e. every-at (RightEvent k a) n s.world.trace (event.WakerCalled p o k b) h.stored.told e refl;
+  called = λ n p o b e. every-at (RightEvent k a) n s.world.trace (Event.WakerCalled p o k b) h.stored.told e refl;
 }
 
 module _ (s : Machine) (fine : Good s) (fresh : Fresh s) where
@@ -440,16 +408,16 @@ module _ (s : Machine) (fine : Good s) (fresh : Fresh s) where
   keeps p c a q g steps between later e t m h =
       let x = there (ltb p (length s.parties)) (begin_refusal s.world s.parties (top (stack s p)) c) q in
       let l : p < length s.parties = grind (arith, nat_tests) in
-      let es : Trace = s.world.trace ++ event.CallBegun p c ∷ [] in
-      let start-is : stepped s (step s (Begin p c)) ≡ with_part s p (onto p (begun p (log s.world (event.CallBegun p c))
+      let es : Trace = s.world.trace ++ Event.CallBegun p c ∷ [] in
+      let start-is : stepped s (step s (Begin p c)) ≡ with_part s p (onto p (begun p (log s.world (Event.CallBegun p c))
       (mine (top (stack s p))) c) (stack s p)) = ap (stepped s) (step-made s (Begin p c) q) in
       let first : Standing es p c a (stepped s (step s (Begin p c))) =
       subst (Standing es p c a) (sym start-is) (standing-begun s p fresh l c a x.1 g) in
       let now : Standing es p c a (run steps (stepped s (step s (Begin p c)))) =
       along (Standing es p c a) (standing-moves es p c a) (standing-ends es p c a) steps (stepped s (step s (Begin p c)))
       (good-stepped s (Begin p c) fine) first in
-      let u : es ++ between ≡ s.world.trace ++ event.CallBegun p c ∷ between =
-      append_assoc s.world.trace (event.CallBegun p c ∷ []) between in
+      let u : es ++ between ≡ s.world.trace ++ Event.CallBegun p c ∷ between =
+      append_assoc s.world.trace (Event.CallBegun p c ∷ []) between in
       named-is _ a _ (subst (λ (xs : Trace). Named (length xs) a (run steps (stepped s (step s (Begin p c))))) u
       (concluded es p c a (run steps (stepped s (step s (Begin p c)))) now.stands between later e
       (t ∙ (ap (λ (xs : Trace). xs ++ e ∷ later) (sym u) ∙ append_assoc es between (e ∷ later))) m h))
@@ -459,6 +427,6 @@ pub polls-keep : (limit : ℕ) (kind : Kind) (parties : ℕ) (steps : List Step)
 polls-keep limit kind parties steps = keeps (run steps (start limit kind parties)) (good limit kind parties steps)
     (along Fresh
     (λ s p old rest d fine l e way h. fresh-way s p old rest d way e h)
-    (λ s p r held below l e h. fresh-way s p (op.End r held ∷ []) below (done (log s.world (event.CallEnded p r)) [])
-    (acted no_hint (op.End r held) refl refl) e h)
+    (λ s p r held below l e h. fresh-way s p (Op.End r held ∷ []) below (done (log s.world (Event.CallEnded p r)) [])
+    (acted no_hint (Op.End r held) refl refl) e h)
     steps (start limit kind parties) (good-start limit kind parties) (fresh-start limit kind parties))

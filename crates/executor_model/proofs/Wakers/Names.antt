@@ -1,37 +1,16 @@
 -- For polls_keep_their_wakers.
 -- What names a poll, by its place in the trace, has this waker: things that are to do, what is stored, and what was told.
-use Rattle.std.proofs.Common.{◌≡◌, ℕ, zero, suc, List, [], ◌∷◌, ◌++◌, set, get_or, take, Bool, true, false}
-use Rattle.std.proofs.Common.{refl, subst, ◌&&◌}
+use Rattle.std.proofs.Common.{◌≡◌, ℕ, zero, suc, List, [], ◌∷◌, ◌++◌, set, get_or, take, Bool, true, false, refl, subst, ◌&&◌}
 use Rattle.std.specs.Prelude.{Option, Some, None, remove, slice_get}
 use Rattle.task_moves.specs.declared.schedule_info.ScheduleInfo.{ScheduleInfo}
-use Rattle.task_moves.specs.declared.moves.owed.AwaiterDebt.{AwaiterDebt}
 use Rattle.task_moves.specs.declared.moves.owed.AwaiterDebt.TheVariants.{NotifyAwaiter, NotifyOther}
-use Rattle.task_moves.specs.declared.moves.owed.FutureDebt.{FutureDebt}
 use Rattle.task_moves.specs.declared.moves.owed.FutureDebt.TheVariants.{PollFuture, DropFuture}
-use Rattle.task_moves.specs.declared.moves.owed.Move.{Move}
-use Rattle.task_moves.specs.declared.moves.owed.Move.TheVariants as move
-use Rattle.task_moves.specs.declared.moves.owed.Owed.{Owed}
+use Rattle.task_moves.{specs.declared.moves.owed.AwaiterDebt.AwaiterDebt, specs.declared.moves.owed.FutureDebt.FutureDebt}
 use Rattle.executor_parts.specs.Sleepers.{waker_at, waker_in}
-use Rattle.executor_model.specs.declared.event.Event.{Event}
-use Rattle.executor_model.specs.declared.event.Event.TheVariants as event
-use Rattle.executor_model.specs.declared.op.Awaiter.{Awaiter}
-use Rattle.executor_model.specs.declared.op.HandleOp.TheVariants as handle_op
-use Rattle.executor_model.specs.declared.op.ListOp.TheVariants as list_op
-use Rattle.executor_model.specs.declared.op.Op.{Op}
-use Rattle.executor_model.specs.declared.op.Op.TheVariants as op
-use Rattle.executor_model.specs.declared.op.RunOp.TheVariants as run_op
-use Rattle.executor_model.specs.declared.op.Section.{Section}
-use Rattle.executor_model.specs.declared.op.Section.TheVariants as section
-use Rattle.executor_model.specs.declared.op.SleeperOp.TheVariants as sleeper_op
-use Rattle.executor_model.specs.declared.op.Sleeping.{Sleeping}
-use Rattle.executor_model.specs.declared.op.StealOp.TheVariants as steal_op
-use Rattle.executor_model.specs.declared.op.TickOp.TheVariants as tick_op
-use Rattle.executor_model.specs.declared.op.UserOp.TheVariants as user_op
-use Rattle.executor_model.specs.declared.op.Waker.{Waker}
-use Rattle.executor_model.specs.declared.op.WakerOp.TheVariants as waker_op
+use Rattle.executor_model.proofs.Types.{Move, Owed, Event, Awaiter, HandleOp, ListOp, Op, RunOp, Section, SleeperOp, Sleeping}
+use Rattle.executor_model.proofs.Types.{StealOp, TickOp, UserOp, Waker, WakerOp}
 use Rattle.executor_model.specs.Carried.{awaiter_ops, drops, emptied_ops, future_ops, next_ops, output_ops, owed_ops}
-use Rattle.executor_model.specs.Carried.{schedule_ops}
-use Rattle.executor_model.specs.World.{World, Done, log, log_if}
+use Rattle.executor_model.specs.{Carried.schedule_ops, World.World, World.Done, World.log, World.log_if}
 
 -- each of the list is so
 abbrev pub Every : {A : Type 0} → (A → Type 0) → List A → Type 0
@@ -85,31 +64,31 @@ abbrev pub Right : ℕ → Waker → ℕ → Waker → Type 0
 Right k a j b = j ≡ k → b ≡ a
 
 abbrev pub RightSection : ℕ → Waker → Section → Type 0
-RightSection k a section.MakeRun = Unit {0}
-RightSection k a (section.Register x) = Right k a x.poll x.waker
-RightSection k a (section.Unregister r b) = Unit {0}
+RightSection k a Section.MakeRun = Unit {0}
+RightSection k a (Section.Register x) = Right k a x.poll x.waker
+RightSection k a (Section.Unregister r b) = Unit {0}
 
 abbrev pub Names : ℕ → Waker → Op → Type 0
-Names k a (op.Waker (waker_op.CallAwaiter f b j)) = Right k a j b
-Names k a (op.Handle (handle_op.Register f b j)) = Right k a j b
-Names k a (op.Handle (handle_op.EndRegister f b j)) = Right k a j b
-Names k a (op.Sleeper (sleeper_op.CallSleeper s)) = Right k a s.poll s.waker
-Names k a (op.Tick (tick_op.Search s)) = Right k a s.poll s.waker
-Names k a (op.Tick (tick_op.Look s look)) = Right k a s.poll s.waker
-Names k a (op.Tick (tick_op.CopyWaker s)) = Right k a s.poll s.waker
-Names k a (op.Tick (tick_op.FallAsleep s)) = Right k a s.poll s.waker
-Names k a (op.User (user_op.PollOwn x)) = Right k a x.poll x.waker
-Names k a (op.List (list_op.LockWrite s)) = RightSection k a s
-Names k a (op.List (list_op.Write s)) = RightSection k a s
-Names k a (op.List (list_op.LockRead x)) = Right k a x.poll x.waker
-Names k a (op.Steal (steal_op.Length s)) = Right k a s.poll.poll s.poll.waker
-Names k a (op.Steal (steal_op.OwnLength s n)) = Right k a s.poll.poll s.poll.waker
-Names k a (op.Steal (steal_op.Take s n)) = Right k a s.poll.poll s.poll.waker
-Names k a (op.Steal (steal_op.Put s n f)) = Right k a s.poll.poll s.poll.waker
-Names k a (op.Run (run_op.TakeTurn x)) = Right k a x.poll x.waker
-Names k a (op.Run (run_op.SearchCommon x look)) = Right k a x.poll x.waker
-Names k a (op.Run (run_op.LookOwn x at left)) = Right k a x.poll x.waker
-Names k a (op.Run (run_op.WakeOwn x)) = Right k a x.poll x.waker
+Names k a (Op.Waker (WakerOp.CallAwaiter f b j)) = Right k a j b
+Names k a (Op.Handle (HandleOp.Register f b j)) = Right k a j b
+Names k a (Op.Handle (HandleOp.EndRegister f b j)) = Right k a j b
+Names k a (Op.Sleeper (SleeperOp.CallSleeper s)) = Right k a s.poll s.waker
+Names k a (Op.Tick (TickOp.Search s)) = Right k a s.poll s.waker
+Names k a (Op.Tick (TickOp.Look s look)) = Right k a s.poll s.waker
+Names k a (Op.Tick (TickOp.CopyWaker s)) = Right k a s.poll s.waker
+Names k a (Op.Tick (TickOp.FallAsleep s)) = Right k a s.poll s.waker
+Names k a (Op.User (UserOp.PollOwn x)) = Right k a x.poll x.waker
+Names k a (Op.List (ListOp.LockWrite s)) = RightSection k a s
+Names k a (Op.List (ListOp.Write s)) = RightSection k a s
+Names k a (Op.List (ListOp.LockRead x)) = Right k a x.poll x.waker
+Names k a (Op.Steal (StealOp.Length s)) = Right k a s.poll.poll s.poll.waker
+Names k a (Op.Steal (StealOp.OwnLength s n)) = Right k a s.poll.poll s.poll.waker
+Names k a (Op.Steal (StealOp.Take s n)) = Right k a s.poll.poll s.poll.waker
+Names k a (Op.Steal (StealOp.Put s n f)) = Right k a s.poll.poll s.poll.waker
+Names k a (Op.Run (RunOp.TakeTurn x)) = Right k a x.poll x.waker
+Names k a (Op.Run (RunOp.SearchCommon x look)) = Right k a x.poll x.waker
+Names k a (Op.Run (RunOp.LookOwn x at left)) = Right k a x.poll x.waker
+Names k a (Op.Run (RunOp.WakeOwn x)) = Right k a x.poll x.waker
 Names k a _ = Unit {0}
 
 abbrev pub RightSlot : ℕ → Waker → Option Awaiter → Type 0
@@ -121,7 +100,7 @@ RightSleep k a None = Unit {0}
 RightSleep k a (Some s) = Right k a s.poll s.waker
 
 abbrev pub RightEvent : ℕ → Waker → Event → Type 0
-RightEvent k a (event.WakerCalled p o j b) = Right k a j b
+RightEvent k a (Event.WakerCalled p o j b) = Right k a j b
 RightEvent k a _ = Unit {0}
 
 abbrev pub RightEntry : ℕ → Waker → ℕ × Sleeping → Type 0
@@ -181,11 +160,11 @@ module _ (k : ℕ) (a : Waker) where
   owes-awaiter f None = tt
 
   follows : (f : ℕ) (o : Option Move) → Every (Names k a) (next_ops f o)
-  follows f (Some move.Release) = (tt, tt)
-  follows f (Some move.SettleClosed) = (tt, tt)
-  follows f (Some move.GiveUp) = (tt, tt)
-  follows f (Some move.EndClosed) = (tt, tt)
-  follows f (Some move.Detach) = (tt, tt)
+  follows f (Some Move.Release) = (tt, tt)
+  follows f (Some Move.SettleClosed) = (tt, tt)
+  follows f (Some Move.GiveUp) = (tt, tt)
+  follows f (Some Move.EndClosed) = (tt, tt)
+  follows f (Some Move.Detach) = (tt, tt)
   follows f (Some _) = tt
   follows f None = tt
 

@@ -2,41 +2,20 @@
 -- What is done with tasks, the table, the queue, handles and sleepers names a poll by its own waker, where what was to do does.
 use Rattle.std.proofs.Common.{◌≡◌, ℕ, List, [], ◌∷◌, ◌++◌, length, Bool, true, false, refl, ◌&&◌}
 use Rattle.std.specs.Prelude.{Option, Some, None}
-use Rattle.executor_parts.specs.declared.mark.Mark.TheVariants.{Plain, Urgent}
-use Rattle.executor_parts.specs.Marks.{first_of, turn_after}
-use Rattle.executor_model.specs.declared.op.Look.{Look}
-use Rattle.executor_model.specs.declared.op.Look.TheVariants.{First, Second}
-use Rattle.executor_parts.specs.declared.mark.Mark.{Mark}
 use Rattle.task_moves.specs.declared.moves.owed.Answer.{Answer}
-use Rattle.task_moves.specs.declared.moves.owed.Move.{Move}
-use Rattle.task_moves.specs.declared.moves.owed.Move.TheVariants as move
-use Rattle.task_moves.specs.declared.moves.owed.Moved.{Moved}
-use Rattle.task_moves.specs.declared.moves.state.State.{State}
-use Rattle.task_moves.specs.Moves as moves
-use Rattle.executor_model.specs.declared.event.Event.TheVariants as event
-use Rattle.executor_model.specs.declared.op.Awaiter.{Awaiter}
-use Rattle.executor_model.specs.declared.op.Hold.{Hold}
-use Rattle.executor_model.specs.declared.op.Op.{Op}
-use Rattle.executor_model.specs.declared.op.Polled.{Polled}
-use Rattle.executor_model.specs.declared.op.Waker.{Waker}
-use Rattle.executor_model.specs.declared.op.Waker.TheVariants.{Task, Outside}
-use Rattle.executor_model.specs.declared.step.Hint.{Hint}
-use Rattle.executor_model.specs.Acts.{answered, append_by, call_waker, closing_ops, copied, copy_awaiter_by, copy_by}
-use Rattle.executor_model.specs.Acts.{close, drain_by, turned}
-use Rattle.executor_model.specs.Acts.{drop_next_by, end_notify, end_register_by, enter_by, entry_goes, followed}
-use Rattle.executor_model.specs.Acts.{is_last_waker}
-use Rattle.executor_model.specs.Acts.{is_output, is_told, leak_next_by, leak_out_by, leaking_ops, leave_by}
-use Rattle.executor_model.specs.Acts.{let_go, let_go_by}
-use Rattle.executor_model.specs.Acts.{look_again_by, look_by, move_by, notify_by, polled, register_by, take_by, told}
-use Rattle.executor_model.specs.Acts.{told_as, told_of}
-use Rattle.executor_model.specs.Acts.{wake, wake_next_by, waker_goes}
+use Rattle.executor_parts.specs.Marks.{first_of, turn_after}
+use Rattle.executor_model.proofs.Types.{Plain, Urgent, Look, First, Second, Mark, Move, Moved, State, Event, Awaiter, Hold, Op}
+use Rattle.executor_model.proofs.Types.{Polled, Waker, Task, Outside, Hint}
+use Rattle.executor_model.specs.Acts.{answered, append_by, call_waker, closing_ops, copied, copy_awaiter_by, copy_by, close}
+use Rattle.executor_model.specs.Acts.{drain_by, turned, drop_next_by, end_notify, end_register_by, enter_by, entry_goes}
+use Rattle.executor_model.specs.Acts.{followed, is_last_waker, is_output, is_told, leak_next_by, leak_out_by, leaking_ops}
+use Rattle.executor_model.specs.Acts.{leave_by, let_go, let_go_by, look_again_by, look_by, move_by, notify_by, polled}
+use Rattle.executor_model.specs.Acts.{register_by, take_by, told, told_as, told_of, wake, wake_next_by, waker_goes}
 use Rattle.executor_model.specs.Carried.{awaiter_ops, carried}
-use Rattle.executor_model.specs.World.{World, Done, among, awaiter_of, log, log_if, put}
-use Rattle.executor_model.specs.World.{put_awaiter, task}
-use Rattle.executor_model.proofs.Wakers.Names.{Ends, Every, Names, Right, RightEvent, RightSlot}
-use Rattle.executor_model.proofs.Wakers.Names.{Stored}
-use Rattle.executor_model.proofs.Wakers.Names.{every-append, every-get, every-push, every-set}
-use Rattle.executor_model.proofs.Wakers.Names.{owes, owes-awaiter, stored-log, stored-log_if}
+use Rattle.executor_model.specs.World.{World, Done, among, awaiter_of, log, log_if, put, put_awaiter, task}
+use Rattle.executor_model.proofs.Wakers.Names.{Ends, Every, Names, Right, RightEvent, RightSlot, Stored, every-append}
+use Rattle.executor_model.proofs.Wakers.Names.{every-get, every-push, every-set, owes, owes-awaiter, stored-log, stored-log_if}
+use Rattle.task_moves.specs.Moves as moves
 
 module _ (k : ℕ) (a : Waker) where
   -- tasks change, and nothing that is named
@@ -47,9 +26,9 @@ module _ (k : ℕ) (a : Waker) where
   carries w f m h = (stored-put w f m.state h, owes k a (among f w.table) f m.owed)
 
   told-so : (m : Move) (p f : ℕ) → RightEvent k a (told_as m p f)
-  told-so move.TakeUp p f = tt
-  told-so move.Cancel p f = tt
-  told-so move.Detach p f = tt
+  told-so Move.TakeUp p f = tt
+  told-so Move.Cancel p f = tt
+  told-so Move.Detach p f = tt
   told-so _ p f = tt
 
   pub moves-task : (b : Bool) (m : Move) (p : ℕ) (w : World) (f : ℕ) → Stored k a w → Ends k a (move_by b m p w f)
@@ -59,16 +38,16 @@ module _ (k : ℕ) (a : Waker) where
       let b = is_told m (task w f) in
       let v : World = log_if b w (told_as m p f) in
       carries (told_of l b m p w f) f (moves.after m (task w f))
-      (stored-log_if k a l v (event.LastWaker p f) (stored-log_if k a b w (told_as m p f) h (told-so m p f)) tt)
+      (stored-log_if k a l v (Event.LastWaker p f) (stored-log_if k a b w (told_as m p f) h (told-so m p f)) tt)
 
   -- a waker is called that is the poll's
   pub calls-waker : (p : ℕ) (w : World) (o : Polled) (b : Waker) (j : ℕ) → Right k a j b → Stored k a w →
       Ends k a (call_waker p w o b j)
   calls-waker p w o (Task g) j r h =
-      moves-task true move.Wake p (log w (event.WakerCalled p o j (Task g))) g
-      (stored-log k a w (event.WakerCalled p o j (Task g)) h r)
+      moves-task true Move.Wake p (log w (Event.WakerCalled p o j (Task g))) g
+      (stored-log k a w (Event.WakerCalled p o j (Task g)) h r)
   calls-waker p w o (Outside x) j r h =
-      (stored-log k a w (event.WakerCalled p o j (Outside x)) h r, (tt, tt))
+      (stored-log k a w (Event.WakerCalled p o j (Outside x)) h r, (tt, tt))
 
   -- the table and the queue
 
@@ -79,7 +58,7 @@ module _ (k : ℕ) (a : Waker) where
     record {
       awaiters = every-append (RightSlot k a) w.awaiters (None ∷ []) h.awaiters (tt, tt);
       sleepers = h.sleepers;
-      told = every-push (RightEvent k a) w.trace (event.Accepted p (length w.tasks)) h.told tt;
+      told = every-push (RightEvent k a) w.trace (Event.Accepted p (length w.tasks)) h.told tt;
     },
     (tt, (tt, tt)),
   )
@@ -99,7 +78,7 @@ module _ (k : ℕ) (a : Waker) where
 
   pub turns : (p : ℕ) (w : World) → Stored k a w → Stored k a (turned p w)
   turns p w h =
-      stored-log k a (record w { urgent_turns = turn_after w.urgent_turns }) (event.Looked p (first_of w.urgent_turns))
+      stored-log k a (record w { urgent_turns = turn_after w.urgent_turns }) (Event.Looked p (first_of w.urgent_turns))
       (record { awaiters = h.awaiters; sleepers = h.sleepers; told = h.told }) tt
 
   pub appends : (b : Bool) (w : World) (mark : Mark) (f : ℕ) → Stored k a w → Ends k a (append_by b w mark f)
@@ -114,14 +93,14 @@ module _ (k : ℕ) (a : Waker) where
 
   answers : (p : ℕ) (w : World) (f : ℕ) (m : Moved) (x : Answer) → Stored k a w → Ends k a (answered p w f m x)
   answers p w f m x h = (
-    stored-log_if k a (is_output x) (put w f m.state) (event.OutputGiven p f) (stored-put w f m.state h) tt,
+    stored-log_if k a (is_output x) (put w f m.state) (Event.OutputGiven p f) (stored-put w f m.state h) tt,
     every-append (Names k a) (awaiter_ops f m.owed.awaiter) _ (owes-awaiter k a f m.owed.awaiter) (tt, tt),
   )
 
   pub looks : (o : Option Answer) (p : ℕ) (w : World) (f : ℕ) (b : Waker) (m : Moved) → Stored k a w →
       Ends k a (look_by o p w f b m)
   looks None p w f b m h = (h, (tt, tt))
-  looks (Some x) p w f b m h = answers p (polled p w f) f m x (stored-log k a w (event.HandlePolled p f) h tt)
+  looks (Some x) p w f b m h = answers p (polled p w f) f m x (stored-log k a w (Event.HandlePolled p f) h tt)
 
   pub looks-again : (o : Option Answer) (p : ℕ) (w : World) (f : ℕ) (m : Moved) → Stored k a w →
       Ends k a (look_again_by o p w f m)
@@ -137,7 +116,7 @@ module _ (k : ℕ) (a : Waker) where
       Stored k a w → Ends k a (copy_awaiter_by c p w f b)
   copies-awaiter true p w f b r h = (h, (tt, tt))
   copies-awaiter false p w f b r h =
-      (stored-log k a (copied w b) (event.HandlePolled p f) (stored-copied w b h) tt, (r refl, tt))
+      (stored-log k a (copied w b) (Event.HandlePolled p f) (stored-copied w b h) tt, (r refl, tt))
 
   pub registers : (c : Bool) (w : World) (f : ℕ) (b : Waker) (j : ℕ) → Right k a j b → Stored k a w →
       Ends k a (register_by c w f b j)
@@ -204,7 +183,7 @@ module _ (k : ℕ) (a : Waker) where
     record {
       awaiters = h.awaiters;
       sleepers = h.sleepers;
-      told = every-push (RightEvent k a) w.trace (event.Dropped p f) h.told tt;
+      told = every-push (RightEvent k a) w.trace (Event.Dropped p f) h.told tt;
     },
     (tt, closes rest (w.waking ++ f ∷ [])),
   )
@@ -217,7 +196,7 @@ module _ (k : ℕ) (a : Waker) where
   wakes-next (f ∷ rest) p w h =
       let v : World = record w { waking = rest } in
       follows-on (wake p v f) (closing_ops [] rest)
-      (moves-task true move.Wake p v f (record { awaiters = h.awaiters; sleepers = h.sleepers; told = h.told })) (closes [] rest)
+      (moves-task true Move.Wake p v f (record { awaiters = h.awaiters; sleepers = h.sleepers; told = h.told })) (closes [] rest)
 
   leaking : (ws : List ℕ) → Every (Names k a) (leaking_ops ws)
   leaking [] = tt
@@ -235,8 +214,8 @@ module _ (k : ℕ) (a : Waker) where
       let v : World = record w { waking = rest } in
       let d : Done = followed (wake p v f) (leaking_ops rest) in
       let e : Ends k a d = follows-on (wake p v f) (leaking_ops rest)
-      (moves-task true move.Wake p v f (record { awaiters = h.awaiters; sleepers = h.sleepers; told = h.told })) (leaking rest) in
-      (stored-log k a d.world (event.Leaked p f) e.0 tt, e.1)
+      (moves-task true Move.Wake p v f (record { awaiters = h.awaiters; sleepers = h.sleepers; told = h.told })) (leaking rest) in
+      (stored-log k a d.world (Event.Leaked p f) e.0 tt, e.1)
 
   pub shuts : (mark : Mark) (w : World) → Stored k a w → Ends k a (close w mark)
   shuts Urgent w h = (record { awaiters = h.awaiters; sleepers = h.sleepers; told = h.told }, (tt, tt))
@@ -244,6 +223,6 @@ module _ (k : ℕ) (a : Waker) where
 
   pub drains : (mark : Mark) (q : List ℕ) (p : ℕ) (w : World) → Stored k a w → Ends k a (drain_by p w mark q)
   drains Urgent [] p w h = (h, (tt, tt))
-  drains Plain [] p w h = (stored-log k a w (event.DropEnded p) h tt, tt)
+  drains Plain [] p w h = (stored-log k a w (Event.DropEnded p) h tt, tt)
   drains mark (f ∷ rest) p w h =
       (record { awaiters = h.awaiters; sleepers = h.sleepers; told = h.told }, (tt, (tt, tt)))

@@ -1,78 +1,33 @@
 -- For polls_keep_their_wakers.
 -- What is done with sleepers and runs names a poll by its own waker, and so does each thing that is done.
-use Rattle.std.proofs.Common.{◌≡◌, ℕ, zero, suc, ◌+◌, List, [], ◌∷◌, ◌++◌, length, Bool, true, false, refl, subst}
-use Rattle.std.proofs.Common.{sym, eqb}
+use Rattle.std.proofs.Common.{◌≡◌, ℕ, zero, suc, ◌+◌, List, [], ◌∷◌, ◌++◌, length, Bool, true, false, refl, subst, sym, eqb}
 use Rattle.std.specs.Prelude.{◌-◌, ◌%◌, Option, Some, None, is_none}
-use Rattle.executor_model.specs.declared.op.Look.{Look}
-use Rattle.executor_model.specs.declared.op.Look.TheVariants.{First, Second}
-use Rattle.task_moves.specs.declared.moves.owed.Move.TheVariants as move
-use Rattle.executor_parts.specs.Sleepers.{Sleepers, last_waker, position_of, waker_at, waker_of, without_entry}
-use Rattle.executor_parts.specs.Sleepers.{woken_up}
-use Rattle.executor_model.specs.declared.call.Reply.{Reply}
-use Rattle.executor_model.specs.declared.event.Event.TheVariants as event
-use Rattle.executor_model.specs.declared.op.ClosingOp.TheVariants as closing_op
-use Rattle.executor_model.specs.declared.op.HandleOp.TheVariants as handle_op
-use Rattle.executor_model.specs.declared.op.ListOp.TheVariants as list_op
-use Rattle.executor_model.specs.declared.op.Op.{Op}
-use Rattle.executor_model.specs.declared.op.Op.TheVariants as op
-use Rattle.executor_model.specs.declared.op.Polled.TheVariants as of
-use Rattle.executor_model.specs.declared.op.QueueOp.TheVariants as queue_op
-use Rattle.executor_model.specs.declared.op.RunOp.{RunOp}
-use Rattle.executor_model.specs.declared.op.RunOp.TheVariants as run_op
-use Rattle.executor_model.specs.declared.op.RunPoll.{RunPoll}
-use Rattle.executor_model.specs.declared.op.Section.{Section}
-use Rattle.executor_model.specs.declared.op.Section.TheVariants as section
-use Rattle.executor_model.specs.declared.op.SleeperOp.TheVariants as sleeper_op
-use Rattle.executor_model.specs.declared.op.Sleeping.{Sleeping}
-use Rattle.executor_model.specs.declared.op.Source.{Source}
-use Rattle.executor_model.specs.declared.op.Source.TheVariants.{Common, Own}
-use Rattle.executor_model.specs.declared.op.Steal.{Steal}
-use Rattle.executor_model.specs.declared.op.StealOp.{StealOp}
-use Rattle.executor_model.specs.declared.op.StealOp.TheVariants as steal_op
-use Rattle.executor_model.specs.declared.op.TableOp.TheVariants as table_op
-use Rattle.executor_model.specs.declared.op.Then.{Then}
-use Rattle.executor_model.specs.declared.op.Then.TheVariants as then
-use Rattle.executor_model.specs.declared.op.TickOp.TheVariants as tick_op
-use Rattle.executor_model.specs.declared.op.TickOrRun.{TickOrRun}
-use Rattle.executor_model.specs.declared.op.TickOrRun.TheVariants as tick_or_run
-use Rattle.executor_model.specs.declared.op.UserOp.{UserOp}
-use Rattle.executor_model.specs.declared.op.UserOp.TheVariants as user_op
-use Rattle.executor_model.specs.declared.op.Waker.{Waker}
-use Rattle.executor_model.specs.declared.op.Waker.TheVariants.{Task, Outside}
-use Rattle.executor_model.specs.declared.op.WakerOp.TheVariants as waker_op
-use Rattle.executor_model.specs.declared.step.Hint.{Hint}
-use Rattle.executor_model.specs.Acts.{is_copy_refused, stands_alone}
-use Rattle.executor_model.specs.ActsOfRuns.{call_by_reference, counted_by, found, kept_by, look_own_by}
-use Rattle.executor_model.specs.ActsOfRuns.{make_room_by, make_run_by}
-use Rattle.executor_model.specs.ActsOfRuns.{next_place, queue_at, registered, reschedule_by, run_by, search_common_by}
-use Rattle.executor_model.specs.ActsOfRuns.{search_own_by}
-use Rattle.executor_model.specs.ActsOfRuns.{steal_by, steal_length_by, steal_put_by, steal_take_by}
-use Rattle.executor_model.specs.ActsOfRuns.{stolen}
-use Rattle.executor_model.specs.ActsOfRuns.{wake_own, walk, without_first, write}
-use Rattle.executor_model.specs.ActsOfSleepers.{call_of, copy_sleeper_by, exchange_by, fall_asleep_by, found_by}
-use Rattle.executor_model.specs.ActsOfSleepers.{hand_out_by}
+use Rattle.executor_parts.specs.Sleepers.{Sleepers, last_waker, position_of, waker_at, waker_of, without_entry, woken_up}
+use Rattle.executor_model.proofs.Types.{Look, First, Second, Move, Reply, Event, ClosingOp, HandleOp, ListOp, Op, Polled}
+use Rattle.executor_model.proofs.Types.{QueueOp, RunOp, RunPoll, Section, SleeperOp, Sleeping, Source, Common, Own, Steal}
+use Rattle.executor_model.proofs.Types.{StealOp, TableOp, Then, TickOp, TickOrRun, UserOp, Waker, Task, Outside, WakerOp, Hint}
+use Rattle.executor_model.specs.ActsOfRuns.{call_by_reference, counted_by, found, kept_by, look_own_by, make_room_by}
+use Rattle.executor_model.specs.ActsOfRuns.{make_run_by, next_place, queue_at, registered, reschedule_by, run_by}
+use Rattle.executor_model.specs.ActsOfRuns.{search_common_by, search_own_by, steal_by, steal_length_by, steal_put_by}
+use Rattle.executor_model.specs.ActsOfSleepers.{call_of, copy_sleeper_by, exchange_by, fall_asleep_by, found_by, hand_out_by}
 use Rattle.executor_model.specs.ActsOfSleepers.{leave_sleepers_by, make_tick_by, polled_as, look_tick_by, sleep_again_by}
-use Rattle.executor_model.specs.ActsOfSleepers.{sleep_anew_by}
-use Rattle.executor_model.specs.ActsOfSleepers.{sleep_listed_by, sleeper_goes, tell_and_return, wake_up_by}
+use Rattle.executor_model.specs.World.{World, Ticker, Awake, Asleep, Left, Stage, New, Listed, Ended, Done, own_of, put_own}
+use Rattle.executor_model.specs.ActsOfRuns.{steal_take_by, stolen, wake_own, walk, without_first, write}
+use Rattle.executor_model.specs.ActsOfSleepers.{sleep_anew_by, sleep_listed_by, sleeper_goes, tell_and_return, wake_up_by}
 use Rattle.executor_model.specs.Doing.{act, run_act, search_by_who, steal_act}
-use Rattle.executor_model.specs.World.{World, Ticker, Awake, Asleep, Left, Stage, New, Listed, Ended, Done}
-use Rattle.executor_model.specs.World.{own_of, put_own}
-use Rattle.executor_model.specs.World.{run_of}
+use Rattle.executor_model.specs.{Acts.is_copy_refused, Acts.stands_alone, World.run_of}
+use Rattle.executor_model.proofs.Wakers.Names.{Ends, Every, Names, Right, RightEntry, RightEvent, RightSection, RightSleep}
+use Rattle.executor_model.proofs.Wakers.Names.{RightSlot, Stored, entry-at, every-append, every-push, every-remove, every-set}
+use Rattle.executor_model.proofs.Wakers.NamesActs.{appends, calls-waker, closes, copies, copies-awaiter, drains, drops-next}
+use Rattle.executor_model.proofs.Wakers.NamesActs.{ends-notify, ends-register, enters, leaks-next, leaks-out, leaves}
+use Rattle.executor_model.proofs.Wakers.NamesActs.{lets-go-emptied, looks, looks-again, moves-task, notifies, registers}
 use Rattle.executor_model.proofs.Steps.SleepersLists.{freed-same, given_back-same}
-use Rattle.executor_model.proofs.Wakers.Names.{Ends, Every, Names, Right, RightEntry, RightEvent, RightSection}
-use Rattle.executor_model.proofs.Wakers.Names.{RightSleep, RightSlot, Stored}
-use Rattle.executor_model.proofs.Wakers.Names.{entry-at, every-append, every-push, every-remove, every-set, every-take}
-use Rattle.executor_model.proofs.Wakers.Names.{stored-log}
-use Rattle.executor_model.proofs.Wakers.NamesActs.{appends, calls-waker, closes, copies, copies-awaiter, drains}
-use Rattle.executor_model.proofs.Wakers.NamesActs.{drops-next, ends-notify}
-use Rattle.executor_model.proofs.Wakers.NamesActs.{ends-register, enters, leaks-next, leaks-out, leaves}
-use Rattle.executor_model.proofs.Wakers.NamesActs.{lets-go-emptied, looks}
-use Rattle.executor_model.proofs.Wakers.NamesActs.{looks-again, moves-task, notifies, registers, stored-copied, takes}
-use Rattle.executor_model.proofs.Wakers.NamesActs.{shuts, turns, waker-goes, wakes-next}
+use Rattle.executor_model.proofs.Wakers.Names.{every-take, stored-log}
+use Rattle.executor_model.proofs.Wakers.NamesActs.{stored-copied, takes, shuts, turns, waker-goes, wakes-next}
 
 -- what a thing to do that names a poll by its place only now needs of its waker
 abbrev pub Newly : ℕ → Waker → Hint → World → Op → Type 0
-Newly k a h w (op.Handle (handle_op.CopyAwaiter f b)) = is_copy_refused h w b ≡ false → Right k a (length w.trace) b
+Newly k a h w (Op.Handle (HandleOp.CopyAwaiter f b)) = is_copy_refused h w b ≡ false → Right k a (length w.trace) b
 Newly k a h w _ = Unit {0}
 
 module _ (k : ℕ) (a : Waker) where
@@ -213,15 +168,15 @@ module _ (k : ℕ) (a : Waker) where
   has-found w x f r h =
       let c = counts (eqb ((run_of w x.run).counted + 1) 64) w x f r h in (
         c.0,
-        every-append (Names k a) (found_by (run_of w x.run).place (tick_or_run.Run x.run) (op.Sleeper sleeper_op.ExchangeFlag ∷ [])) _
-            (finds (run_of w x.run).place (tick_or_run.Run x.run) _ (tt, tt)) c.1,
+        every-append (Names k a) (found_by (run_of w x.run).place (TickOrRun.Run x.run) (Op.Sleeper SleeperOp.ExchangeFlag ∷ [])) _
+            (finds (run_of w x.run).place (TickOrRun.Run x.run) _ (tt, tt)) c.1,
       )
 
   has-stolen : (t : Then) (w : World) (x : RunPoll) → Right k a x.poll x.waker → Stored k a w → Ends k a (stolen t w x)
-  has-stolen (then.Found f) w x r h = has-found w x f r h
-  has-stolen (then.StealPlain f) w x r h = (h, (r, tt))
-  has-stolen (then.Run f) w x r h = runs-found _ w x f r h
-  has-stolen (then.Walk at left) w x r h = (h, (r, tt))
+  has-stolen (Then.Found f) w x r h = has-found w x f r h
+  has-stolen (Then.StealPlain f) w x r h = (h, (r, tt))
+  has-stolen (Then.Run f) w x r h = runs-found _ w x f r h
+  has-stolen (Then.Walk at left) w x r h = (h, (r, tt))
 
   walks : (x : RunPoll) (qs : List ℕ) (at left : ℕ) → Right k a x.poll x.waker → Every (Names k a) (walk x qs at left)
   walks x qs at zero r = (tt, (r, tt))
@@ -230,10 +185,10 @@ module _ (k : ℕ) (a : Waker) where
       by : (b : Bool) → Every (Names k a) (walk x qs (next_place qs at) left) →
           Every (Names k a) (let h : List Op = elim b [
             | true ↦ walk x qs (next_place qs at) left
-            | false ↦ op.Steal (steal_op.Length (record {
+            | false ↦ Op.Steal (StealOp.Length (record {
               poll = x;
               from = Own (queue_at qs at);
-              then = then.Walk (next_place qs at) left;
+              then = Then.Walk (next_place qs at) left;
             })) ∷ []
           ] in h)
       by true n = n
@@ -262,15 +217,15 @@ module _ (k : ℕ) (a : Waker) where
       Stored k a w → Ends k a (steal_put_by b p w s more f)
   steals-put true p w s more f r h =
       steals-more more (kept_by p w s.poll.run f) s r
-      (stored-log k a (put_own w s.poll.run (own_of w s.poll.run ++ f ∷ [])) (event.Kept p f s.poll.run)
+      (stored-log k a (put_own w s.poll.run (own_of w s.poll.run ++ f ∷ [])) (Event.Kept p f s.poll.run)
       (same-store w _ refl refl refl h) tt)
   steals-put false p w s more f r h = let e = has-stolen s.then w s.poll r h in (e.0, (tt, e.1))
 
-  steals : (p : ℕ) (o : StealOp) (w : World) → Keeps w (op.Steal o) (steal_act p o w)
-  steals p (steal_op.Length s) w h r = steals-length _ w s r h
-  steals p (steal_op.OwnLength s n) w h r = steals-more _ w s r h
-  steals p (steal_op.Take s more) w h r = steals-first _ w s more r h
-  steals p (steal_op.Put s more f) w h r = steals-put _ p w s more f r h
+  steals : (p : ℕ) (o : StealOp) (w : World) → Keeps w (Op.Steal o) (steal_act p o w)
+  steals p (StealOp.Length s) w h r = steals-length _ w s r h
+  steals p (StealOp.OwnLength s n) w h r = steals-more _ w s r h
+  steals p (StealOp.Take s more) w h r = steals-first _ w s more r h
+  steals p (StealOp.Put s more f) w h r = steals-put _ p w s more f r h
 
   makes-run : (b : Bool) (w : World) → Stored k a w → Ends k a (make_run_by b w)
   makes-run true w h = (h, (tt, (tt, (tt, tt))))
@@ -282,9 +237,9 @@ module _ (k : ℕ) (a : Waker) where
   is-registered Ended w r h = h
 
   writes : (c : Hint) (s : Section) (w : World) → RightSection k a s → Stored k a w → Ends k a (write c s w)
-  writes c section.MakeRun w r h = makes-run c.refused w h
-  writes c (section.Register x) w r h = (is-registered _ w x.run h, (tt, (r, tt)))
-  writes c (section.Unregister n b) w r h = (same-store w _ refl refl refl h, (tt, (tt, tt)))
+  writes c Section.MakeRun w r h = makes-run c.refused w h
+  writes c (Section.Register x) w r h = (is-registered _ w x.run h, (tt, (r, tt)))
+  writes c (Section.Unregister n b) w r h = (same-store w _ refl refl refl h, (tt, (tt, tt)))
 
   searches-own : (q : List ℕ) (w : World) (x : RunPoll) → Right k a x.poll x.waker → Stored k a w →
       Ends k a (search_own_by q w x)
@@ -293,8 +248,8 @@ module _ (k : ℕ) (a : Waker) where
 
   searches-who : (who : TickOrRun) (p : ℕ) (w : World) (s : Sleeping) → Right k a s.poll s.waker → Stored k a w →
       Ends k a (search_by_who who p w s)
-  searches-who (tick_or_run.Tick t) p w s r h = (turns k a p w h, (r, tt))
-  searches-who (tick_or_run.Run n) p w s r h =
+  searches-who (TickOrRun.Tick t) p w s r h = (turns k a p w h, (r, tt))
+  searches-who (TickOrRun.Run n) p w s r h =
       searches-own _ w (record { run = n; waker = s.waker; poll = s.poll }) r h
 
   searches-common : (look : Look) (q : List ℕ) (w : World) (x : RunPoll) → Right k a x.poll x.waker → Stored k a w →
@@ -314,80 +269,80 @@ module _ (k : ℕ) (a : Waker) where
   makes-room false w h = (same-store w _ refl refl refl h, (tt, tt))
 
   calls-by-reference : (p : ℕ) (w : World) (b : Waker) → Stored k a w → Ends k a (call_by_reference p w b)
-  calls-by-reference p w (Task g) h = moves-task k a true move.WakeByReference p w g h
+  calls-by-reference p w (Task g) h = moves-task k a true Move.WakeByReference p w g h
   calls-by-reference p w (Outside y) h = (h, (tt, tt))
 
   wakes-own : (p : ℕ) (w : World) (x : RunPoll) → Right k a x.poll x.waker → Stored k a w → Ends k a (wake_own p w x)
   wakes-own p w x r h =
       let e = calls-by-reference p _ x.waker
-      (stored-log k a w (event.WakerCalled p (of.Run x.run) x.poll x.waker) h r) in
+      (stored-log k a w (Event.WakerCalled p (Polled.Run x.run) x.poll x.waker) h r) in
       (e.0, every-append (Names k a) _ _ e.1 (tt, tt))
 
   reschedules : (q : List ℕ) (w : World) (n : ℕ) (b : Reply) → Stored k a w → Ends k a (reschedule_by q w n b)
   reschedules [] w n b h = (h, (tt, (tt, tt)))
   reschedules (f ∷ rest) w n b h = (same-store w _ refl refl refl h, (tt, (tt, tt)))
 
-  runs : (p : ℕ) (c : Hint) (o : RunOp) (w : World) → Keeps w (op.Run o) (run_act p c o w)
-  runs p c run_op.MakeRoom w h r = makes-room c.refused w h
-  runs p c run_op.ReturnRoom w h r = (same-store w _ refl (given_back-same w.sleepers) refl h, tt)
-  runs p c (run_op.TakeTurn x) w h r = (turns k a p w h, (r, tt))
-  runs p c (run_op.SearchCommon x look) w h r = searches-common look _ w x r h
-  runs p c (run_op.LookOwn x at left) w h r = looks-own _ w x at left r h
-  runs p c (run_op.WakeOwn x) w h r = wakes-own p w x r h
-  runs p c (run_op.Reschedule n b) w h r = reschedules _ w n b h
+  runs : (p : ℕ) (c : Hint) (o : RunOp) (w : World) → Keeps w (Op.Run o) (run_act p c o w)
+  runs p c RunOp.MakeRoom w h r = makes-room c.refused w h
+  runs p c RunOp.ReturnRoom w h r = (same-store w _ refl (given_back-same w.sleepers) refl h, tt)
+  runs p c (RunOp.TakeTurn x) w h r = (turns k a p w h, (r, tt))
+  runs p c (RunOp.SearchCommon x look) w h r = searches-common look _ w x r h
+  runs p c (RunOp.LookOwn x at left) w h r = looks-own _ w x at left r h
+  runs p c (RunOp.WakeOwn x) w h r = wakes-own p w x r h
+  runs p c (RunOp.Reschedule n b) w h r = reschedules _ w n b h
 
-  users : (p : ℕ) (c : Hint) (o : UserOp) (w : World) → Keeps w (op.User o) (act p c (op.User o) w)
-  users p c (user_op.BeginDrop f) w h r = (stored-log k a w (event.Dropped p f) h tt, (tt, (tt, tt)))
-  users p c (user_op.BeginDropOutput f) w h r = (stored-log k a w (event.OutputDropped p f) h tt, (tt, tt))
-  users p c (user_op.PollOwn x) w h r = (h, (r, tt))
+  users : (p : ℕ) (c : Hint) (o : UserOp) (w : World) → Keeps w (Op.User o) (act p c (Op.User o) w)
+  users p c (UserOp.BeginDrop f) w h r = (stored-log k a w (Event.Dropped p f) h tt, (tt, (tt, tt)))
+  users p c (UserOp.BeginDropOutput f) w h r = (stored-log k a w (Event.OutputDropped p f) h tt, (tt, tt))
+  users p c (UserOp.PollOwn x) w h r = (h, (r, tt))
   users p c _ w h r = (h, (tt, tt))
 
   -- each thing that is done
   pub names-act : (p : ℕ) (c : Hint) (o : Op) (w : World) → Newly k a c w o → Keeps w o (act p c o w)
-  names-act p c (op.Move m f) w n h r = moves-task k a (stands_alone m) m p w f h
-  names-act p c (op.Table (table_op.Enter mark)) w n h r = enters k a _ _ _ p w h
-  names-act p c (op.Table table_op.LookAtTable) w n h r = (h, (tt, tt))
-  names-act p c (op.Table (table_op.TakeToPoll f)) w n h r = (same-store w _ refl refl refl h, (tt, tt))
-  names-act p c (op.Table (table_op.PutBack f)) w n h r = (same-store w _ refl refl refl h, (tt, tt))
-  names-act p c (op.Table (table_op.TakeToDrop f)) w n h r = (same-store w _ refl refl refl h, (tt, tt))
-  names-act p c (op.Table (table_op.LeaveTable f)) w n h r = leaves k a _ w f h
-  names-act p c (op.Queue queue_op.TakeTurn) w n h r = (turns k a p w h, (tt, tt))
-  names-act p c (op.Queue (queue_op.Take look)) w n h r = takes k a look _ w h
-  names-act p c (op.Queue (queue_op.Append f)) w n h r = appends k a _ w _ f h
-  names-act p c (op.User o) w n h r = users p c o w h r
-  names-act p c (op.Waker (waker_op.CopyWaker f held)) w n h r = copies k a _ w f held h
-  names-act p c (op.Waker (waker_op.CallAwaiter f b j)) w n h r = calls-waker k a p w (of.Handle f) b j r h
-  names-act p c (op.Handle (handle_op.Look f b)) w n h r = looks k a _ p w f b _ h
-  names-act p c (op.Handle (handle_op.CopyAwaiter f b)) w n h r = copies-awaiter k a _ p w f b n h
-  names-act p c (op.Handle (handle_op.Register f b j)) w n h r = registers k a _ w f b j r h
-  names-act p c (op.Handle (handle_op.EndRegister f b j)) w n h r = ends-register k a _ w f b j r h
-  names-act p c (op.Handle (handle_op.LookAgain f)) w n h r = looks-again k a _ p w f _ h
-  names-act p c (op.Handle (handle_op.Notify f mine)) w n h r = notifies k a _ w f mine h
-  names-act p c (op.Handle (handle_op.EndNotify f mine)) w n h r = ends-notify k a c w f mine h
-  names-act p c (op.Handle (handle_op.LetGo f)) w n h r = lets-go-emptied k a _ w f h
-  names-act p c (op.Sleeper sleeper_op.ExchangeFlag) w n h r = exchanges _ w h
-  names-act p c (op.Sleeper sleeper_op.HandOut) w n h r = hands-out _ w h
-  names-act p c (op.Sleeper (sleeper_op.CallSleeper s)) w n h r = calls-waker k a p w (polled_as s.who) s.waker s.poll r h
-  names-act p c (op.Tick tick_op.MakeTick) w n h r = makes-tick _ w h
-  names-act p c (op.Tick (tick_op.Search s)) w n h r = searches-who s.who p w s r h
-  names-act p c (op.Tick (tick_op.Look s look)) w n h r = searches look _ _ w s r h
-  names-act p c (op.Tick (tick_op.CopyWaker s)) w n h r = copies-sleeper _ w s r h
-  names-act p c (op.Tick (tick_op.FallAsleep s)) w n h r = falls-asleep _ w s r h
-  names-act p c (op.Tick (tick_op.WakeUp t)) w n h r = wakes-up _ w t h
-  names-act p c (op.Tick (tick_op.Leave t)) w n h r = leaves-sleepers _ w t h
-  names-act p c (op.List (list_op.LockWrite s)) w n h r = (same-store w _ refl refl refl h, (r, tt))
-  names-act p c (op.List (list_op.Write s)) w n h r = writes c s w r h
-  names-act p c (op.List list_op.UnlockWrite) w n h r = (same-store w _ refl refl refl h, tt)
-  names-act p c (op.List (list_op.LockRead x)) w n h r =
+  names-act p c (Op.Move m f) w n h r = moves-task k a (stands_alone m) m p w f h
+  names-act p c (Op.Table (TableOp.Enter mark)) w n h r = enters k a _ _ _ p w h
+  names-act p c (Op.Table TableOp.LookAtTable) w n h r = (h, (tt, tt))
+  names-act p c (Op.Table (TableOp.TakeToPoll f)) w n h r = (same-store w _ refl refl refl h, (tt, tt))
+  names-act p c (Op.Table (TableOp.PutBack f)) w n h r = (same-store w _ refl refl refl h, (tt, tt))
+  names-act p c (Op.Table (TableOp.TakeToDrop f)) w n h r = (same-store w _ refl refl refl h, (tt, tt))
+  names-act p c (Op.Table (TableOp.LeaveTable f)) w n h r = leaves k a _ w f h
+  names-act p c (Op.Queue QueueOp.TakeTurn) w n h r = (turns k a p w h, (tt, tt))
+  names-act p c (Op.Queue (QueueOp.Take look)) w n h r = takes k a look _ w h
+  names-act p c (Op.Queue (QueueOp.Append f)) w n h r = appends k a _ w _ f h
+  names-act p c (Op.User o) w n h r = users p c o w h r
+  names-act p c (Op.Waker (WakerOp.CopyWaker f held)) w n h r = copies k a _ w f held h
+  names-act p c (Op.Waker (WakerOp.CallAwaiter f b j)) w n h r = calls-waker k a p w (Polled.Handle f) b j r h
+  names-act p c (Op.Handle (HandleOp.Look f b)) w n h r = looks k a _ p w f b _ h
+  names-act p c (Op.Handle (HandleOp.CopyAwaiter f b)) w n h r = copies-awaiter k a _ p w f b n h
+  names-act p c (Op.Handle (HandleOp.Register f b j)) w n h r = registers k a _ w f b j r h
+  names-act p c (Op.Handle (HandleOp.EndRegister f b j)) w n h r = ends-register k a _ w f b j r h
+  names-act p c (Op.Handle (HandleOp.LookAgain f)) w n h r = looks-again k a _ p w f _ h
+  names-act p c (Op.Handle (HandleOp.Notify f mine)) w n h r = notifies k a _ w f mine h
+  names-act p c (Op.Handle (HandleOp.EndNotify f mine)) w n h r = ends-notify k a c w f mine h
+  names-act p c (Op.Handle (HandleOp.LetGo f)) w n h r = lets-go-emptied k a _ w f h
+  names-act p c (Op.Sleeper SleeperOp.ExchangeFlag) w n h r = exchanges _ w h
+  names-act p c (Op.Sleeper SleeperOp.HandOut) w n h r = hands-out _ w h
+  names-act p c (Op.Sleeper (SleeperOp.CallSleeper s)) w n h r = calls-waker k a p w (polled_as s.who) s.waker s.poll r h
+  names-act p c (Op.Tick TickOp.MakeTick) w n h r = makes-tick _ w h
+  names-act p c (Op.Tick (TickOp.Search s)) w n h r = searches-who s.who p w s r h
+  names-act p c (Op.Tick (TickOp.Look s look)) w n h r = searches look _ _ w s r h
+  names-act p c (Op.Tick (TickOp.CopyWaker s)) w n h r = copies-sleeper _ w s r h
+  names-act p c (Op.Tick (TickOp.FallAsleep s)) w n h r = falls-asleep _ w s r h
+  names-act p c (Op.Tick (TickOp.WakeUp t)) w n h r = wakes-up _ w t h
+  names-act p c (Op.Tick (TickOp.Leave t)) w n h r = leaves-sleepers _ w t h
+  names-act p c (Op.List (ListOp.LockWrite s)) w n h r = (same-store w _ refl refl refl h, (r, tt))
+  names-act p c (Op.List (ListOp.Write s)) w n h r = writes c s w r h
+  names-act p c (Op.List ListOp.UnlockWrite) w n h r = (same-store w _ refl refl refl h, tt)
+  names-act p c (Op.List (ListOp.LockRead x)) w n h r =
       (same-store w _ refl refl refl h, (walks x w.listed (c.start % length w.listed) (length w.listed) r))
-  names-act p c (op.List list_op.UnlockRead) w n h r = (same-store w _ refl refl refl h, tt)
-  names-act p c (op.Steal o) w n h r = steals p o w h r
-  names-act p c (op.Run o) w n h r = runs p c o w h r
-  names-act p c (op.Closing closing_op.TakeOut) w n h r = (same-store w _ refl refl refl h, (closes k a w.table w.waking))
-  names-act p c (op.Closing closing_op.DropNext) w n h r = drops-next k a _ p w h
-  names-act p c (op.Closing closing_op.WakeNext) w n h r = wakes-next k a _ p w h
-  names-act p c (op.Closing (closing_op.Close mark)) w n h r = shuts k a mark w h
-  names-act p c (op.Closing (closing_op.Drain mark)) w n h r = drains k a mark _ p w h
-  names-act p c (op.Closing closing_op.LeakOut) w n h r = leaks-out k a _ w h
-  names-act p c (op.Closing closing_op.LeakNext) w n h r = leaks-next k a _ _ p w h
-  names-act p c (op.End b held) w n h r = (stored-log k a w (event.CallEnded p b) h tt, tt)
+  names-act p c (Op.List ListOp.UnlockRead) w n h r = (same-store w _ refl refl refl h, tt)
+  names-act p c (Op.Steal o) w n h r = steals p o w h r
+  names-act p c (Op.Run o) w n h r = runs p c o w h r
+  names-act p c (Op.Closing ClosingOp.TakeOut) w n h r = (same-store w _ refl refl refl h, (closes k a w.table w.waking))
+  names-act p c (Op.Closing ClosingOp.DropNext) w n h r = drops-next k a _ p w h
+  names-act p c (Op.Closing ClosingOp.WakeNext) w n h r = wakes-next k a _ p w h
+  names-act p c (Op.Closing (ClosingOp.Close mark)) w n h r = shuts k a mark w h
+  names-act p c (Op.Closing (ClosingOp.Drain mark)) w n h r = drains k a mark _ p w h
+  names-act p c (Op.Closing ClosingOp.LeakOut) w n h r = leaks-out k a _ w h
+  names-act p c (Op.Closing ClosingOp.LeakNext) w n h r = leaks-next k a _ _ p w h
+  names-act p c (Op.End b held) w n h r = (stored-log k a w (Event.CallEnded p b) h tt, tt)

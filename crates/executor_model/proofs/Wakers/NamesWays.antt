@@ -1,40 +1,19 @@
 -- For polls_keep_their_wakers.
 -- What names a poll by its place has its waker, in the whole machine, however a party goes on; and none is named yet by a
 -- place that the trace hasn't reached.
-use Rattle.std.proofs.Common.{◌≡◌, ℕ, zero, suc, ◌<◌, ◌≤◌, List, [], ◌∷◌, ◌++◌, length, Bool}
-use Rattle.std.proofs.Common.{false, refl, subst, sym, ap}
-use Rattle.std.proofs.Common.{arith}
-use Rattle.std.proofs.lemmas.List.{length-append}
-use mathlib.Core.List.{reverse_aux}
+use Rattle.std.proofs.Common.{◌≡◌, ℕ, zero, suc, ◌<◌, ◌≤◌, List, [], ◌∷◌, ◌++◌, length, Bool, false, refl, subst, sym, ap}
 use Rattle.std.specs.Prelude.{Option, Some, None, reverse}
-use Rattle.executor_model.specs.declared.call.Call.{Call}
-use Rattle.executor_model.specs.declared.call.Call.TheVariants as call
-use Rattle.executor_model.specs.declared.event.Answer.TheVariants as answer
-use Rattle.executor_model.specs.declared.event.Event.TheVariants as event
-use Rattle.executor_model.specs.declared.kind.Kind.{Kind}
-use Rattle.executor_model.specs.declared.op.HandleOp.TheVariants as handle_op
-use Rattle.executor_model.specs.declared.op.Op.{Op}
-use Rattle.executor_model.specs.declared.op.Op.TheVariants as op
-use Rattle.executor_model.specs.declared.op.RunPoll.{RunPoll}
-use Rattle.executor_model.specs.declared.op.UserOp.TheVariants as user_op
-use Rattle.executor_model.specs.declared.op.Waker.{Waker}
-use Rattle.executor_model.specs.declared.op.Waker.TheVariants.{Task, Outside}
-use Rattle.executor_model.specs.declared.step.Hint.{Hint}
-use Rattle.executor_model.specs.declared.step.UserEnd.{UserEnd}
-use Rattle.executor_model.specs.declared.step.UserEnd.TheVariants as end
-use Rattle.executor_model.specs.Acts.{copied, copy_awaiter_by}
-use Rattle.executor_model.specs.Doing.{act}
-use Rattle.executor_model.specs.Steps.{Machine, begun, drop_run, future_of, kept, mine, poll_run, react, stack, start}
-use Rattle.executor_model.specs.Steps.{top, waker_of}
-use Rattle.executor_model.specs.Steps.{idle, with_future}
+use Rattle.std.{proofs.Common.arith, proofs.lemmas.List.length-append}
+use Rattle.executor_model.proofs.Types.{Call, Answer, Event, Kind, HandleOp, Op, RunPoll, UserOp, Waker, Task, Outside, Hint}
+use Rattle.executor_model.specs.Steps.{Machine, begun, drop_run, future_of, kept, mine, poll_run, react, stack, start, top}
 use Rattle.executor_model.specs.World.{World, Stage, New, Listed, Ended, Done, log, run_of}
-use Rattle.executor_model.proofs.Promises.OutsideCalls.{way-more}
-use Rattle.executor_model.proofs.Steps.Lift.{unsettled}
-use Rattle.executor_model.proofs.Steps.Ways.{Way}
+use Rattle.executor_model.specs.{Acts.copied, Acts.copy_awaiter_by, Doing.act, Steps.waker_of, Steps.idle, Steps.with_future}
+use Rattle.executor_model.proofs.Wakers.Names.{Ends, Every, Names, Right, Stored, every-append, every-get, every-left}
 use Rattle.executor_model.proofs.Steps.Ways.Way.{acted, called, reacted}
-use Rattle.executor_model.proofs.Wakers.Names.{Ends, Every, Names, Right, Stored}
-use Rattle.executor_model.proofs.Wakers.Names.{every-append, every-get, every-left, every-right, every-set, stored-log}
+use Rattle.executor_model.proofs.Wakers.Names.{every-right, every-set, stored-log}
 use Rattle.executor_model.proofs.Wakers.NamesGroups.{Newly, names-act}
+use Rattle.executor_model.proofs.{Types.UserEnd, Promises.OutsideCalls.way-more, Steps.Lift.unsettled, Steps.Ways.Way}
+use mathlib.Core.List.{reverse_aux}
 
 every-reversed : {A : Type 0} (P : A → Type 0) (xs ys : List A) → Every P xs → Every P ys → Every P (reverse_aux xs ys)
 every-reversed P [] ys a b = b
@@ -50,25 +29,25 @@ pub record Named (k : ℕ) (a : Waker) (s : Machine) : Type 0 where
 
 -- a call that polls names the poll by the place that the trace has reached
 abbrev pub NewlyCalled : ℕ → Waker → World → Option Waker → Call → Type 0
-NewlyCalled k a w here (call.PollTick t b) = Right k a (length w.trace) (waker_of here b)
-NewlyCalled k a w here (call.PollRun r b) = Right k a (length w.trace) (waker_of here b)
+NewlyCalled k a w here (Call.PollTick t b) = Right k a (length w.trace) (waker_of here b)
+NewlyCalled k a w here (Call.PollRun r b) = Right k a (length w.trace) (waker_of here b)
 NewlyCalled k a w here _ = Unit {0}
 
 abbrev pub NewlyIn : ℕ → Waker → (s : Machine) → (p : ℕ) → (old rest : List Op) → (d : Done) → Way s p old rest d → Type 0
 NewlyIn k a s p old rest d (acted h o q z) = Newly k a h s.world o
 NewlyIn k a s p old rest d (reacted o u x q z) = Unit {0}
-NewlyIn k a s p old rest d (called c q r n z) = NewlyCalled k a (log s.world (event.CallBegun p c)) (mine (top (stack s p))) c
+NewlyIn k a s p old rest d (called c q r n z) = NewlyCalled k a (log s.world (Event.CallBegun p c)) (mine (top (stack s p))) c
 
 module _ (k : ℕ) (a : Waker) where
   names-react : (p : ℕ) (o : Op) (u : UserEnd) (w : World) → Stored k a w → Names k a o → Ends k a (react p o u w)
-  names-react p (op.User (user_op.Poll f)) (end.Polled answer.Pending) w h r =
-      (stored-log k a w (event.Answered p f answer.Pending) h tt, (tt, tt))
-  names-react p (op.User (user_op.Poll f)) (end.Polled answer.Ready) w h r =
-      (stored-log k a w (event.Answered p f answer.Ready) h tt, (tt, (tt, tt)))
-  names-react p (op.User (user_op.Poll f)) end.Done w h r = (h, tt)
-  names-react p (op.User (user_op.PollOwn x)) (end.Polled answer.Pending) w h r = (h, (r, tt))
-  names-react p (op.User (user_op.PollOwn x)) (end.Polled answer.Ready) w h r = (h, (tt, (tt, tt)))
-  names-react p (op.User (user_op.PollOwn x)) end.Done w h r = (h, tt)
+  names-react p (Op.User (UserOp.Poll f)) (UserEnd.Polled Answer.Pending) w h r =
+      (stored-log k a w (Event.Answered p f Answer.Pending) h tt, (tt, tt))
+  names-react p (Op.User (UserOp.Poll f)) (UserEnd.Polled Answer.Ready) w h r =
+      (stored-log k a w (Event.Answered p f Answer.Ready) h tt, (tt, (tt, tt)))
+  names-react p (Op.User (UserOp.Poll f)) UserEnd.Done w h r = (h, tt)
+  names-react p (Op.User (UserOp.PollOwn x)) (UserEnd.Polled Answer.Pending) w h r = (h, (r, tt))
+  names-react p (Op.User (UserOp.PollOwn x)) (UserEnd.Polled Answer.Ready) w h r = (h, (tt, (tt, tt)))
+  names-react p (Op.User (UserOp.PollOwn x)) UserEnd.Done w h r = (h, tt)
   names-react p _ _ w h r = (h, tt)
 
   names-with : (w : World) (o : Option ℕ) (d : ℕ → Done) → Stored k a w → ((f : ℕ) → Ends k a (d f)) →
@@ -91,32 +70,32 @@ module _ (k : ℕ) (a : Waker) where
 
   names-begun : (p : ℕ) (w : World) (here : Option Waker) (c : Call) → NewlyCalled k a w here c → Stored k a w →
       Ends k a (begun p w here c)
-  names-begun p w here (call.Spawn mark) n h = (h, (tt, tt))
-  names-begun p w here call.TryTick n h = (h, (tt, tt))
-  names-begun p w here call.IsEmpty n h = (h, (tt, tt))
-  names-begun p w here (call.Wake j) n h = names-with w (kept w j) _ h (λ f. (used w h _, (tt, (tt, tt))))
-  names-begun p w here (call.WakeByRef j) n h = names-with w (kept w j) _ h (λ f. (h, (tt, (tt, tt))))
-  names-begun p w here (call.Copy j) n h = names-with w (kept w j) _ h (λ f. (h, (tt, tt)))
-  names-begun p w here (call.DropWaker j) n h = names-with w (kept w j) _ h (λ f. (used w h _, (tt, (tt, tt))))
-  names-begun p w here call.Keep n h = names-with w (future_of here) _ h (λ f. (h, (tt, tt)))
-  names-begun p w here call.WakeSelf n h = names-with w (future_of here) _ h (λ f. (h, (tt, (tt, tt))))
-  names-begun p w here (call.PollHandle f b) n h = (h, (tt, tt))
-  names-begun p w here (call.Cancel f) n h = (h, (tt, (tt, tt)))
-  names-begun p w here (call.Detach f) n h = (h, (tt, (tt, tt)))
-  names-begun p w here (call.DropHandle f) n h = (h, (tt, (tt, (tt, tt))))
-  names-begun p w here call.NewTick n h = (h, (tt, tt))
-  names-begun p w here (call.PollTick t b) n h = (stored-log k a w (event.TickPolled p t) h tt, (n, tt))
-  names-begun p w here (call.DropTick t) n h = (stored-log k a w (event.TickDropped p t) h tt, (tt, (tt, tt)))
-  names-begun p w here call.NewRun n h = (h, (tt, tt))
-  names-begun p w here (call.PollRun r b) n h =
-      (stored-log k a w (event.RunPolled p r) h tt, polls-run (run_of w r).stage _ n)
-  names-begun p w here (call.DropRun r) n h = (
-    stored-log k a _ (event.RunDropped p r) (record { awaiters = h.awaiters; sleepers = h.sleepers; told = h.told }) tt,
+  names-begun p w here (Call.Spawn mark) n h = (h, (tt, tt))
+  names-begun p w here Call.TryTick n h = (h, (tt, tt))
+  names-begun p w here Call.IsEmpty n h = (h, (tt, tt))
+  names-begun p w here (Call.Wake j) n h = names-with w (kept w j) _ h (λ f. (used w h _, (tt, (tt, tt))))
+  names-begun p w here (Call.WakeByRef j) n h = names-with w (kept w j) _ h (λ f. (h, (tt, (tt, tt))))
+  names-begun p w here (Call.Copy j) n h = names-with w (kept w j) _ h (λ f. (h, (tt, tt)))
+  names-begun p w here (Call.DropWaker j) n h = names-with w (kept w j) _ h (λ f. (used w h _, (tt, (tt, tt))))
+  names-begun p w here Call.Keep n h = names-with w (future_of here) _ h (λ f. (h, (tt, tt)))
+  names-begun p w here Call.WakeSelf n h = names-with w (future_of here) _ h (λ f. (h, (tt, (tt, tt))))
+  names-begun p w here (Call.PollHandle f b) n h = (h, (tt, tt))
+  names-begun p w here (Call.Cancel f) n h = (h, (tt, (tt, tt)))
+  names-begun p w here (Call.Detach f) n h = (h, (tt, (tt, tt)))
+  names-begun p w here (Call.DropHandle f) n h = (h, (tt, (tt, (tt, tt))))
+  names-begun p w here Call.NewTick n h = (h, (tt, tt))
+  names-begun p w here (Call.PollTick t b) n h = (stored-log k a w (Event.TickPolled p t) h tt, (n, tt))
+  names-begun p w here (Call.DropTick t) n h = (stored-log k a w (Event.TickDropped p t) h tt, (tt, (tt, tt)))
+  names-begun p w here Call.NewRun n h = (h, (tt, tt))
+  names-begun p w here (Call.PollRun r b) n h =
+      (stored-log k a w (Event.RunPolled p r) h tt, polls-run (run_of w r).stage _ n)
+  names-begun p w here (Call.DropRun r) n h = (
+    stored-log k a _ (Event.RunDropped p r) (record { awaiters = h.awaiters; sleepers = h.sleepers; told = h.told }) tt,
     drops-run (run_of w r).stage r,
   )
-  names-begun p w here call.Leak n h = (h, (tt, (tt, tt)))
-  names-begun p w here call.DropExecutor n h = (
-    stored-log k a _ (event.DropBegun p) (record { awaiters = h.awaiters; sleepers = h.sleepers; told = h.told }) tt,
+  names-begun p w here Call.Leak n h = (h, (tt, (tt, tt)))
+  names-begun p w here Call.DropExecutor n h = (
+    stored-log k a _ (Event.DropBegun p) (record { awaiters = h.awaiters; sleepers = h.sleepers; told = h.told }) tt,
     (tt, (tt, tt)),
   )
 
@@ -127,8 +106,8 @@ module _ (k : ℕ) (a : Waker) where
   names-done s p old rest d (reacted o u x q z) n t m =
       subst (Ends k a) (sym z) (names-react p o u s.world t (subst (Every (Names k a)) q m).0)
   names-done s p old rest d (called c q r x z) n t m =
-      subst (Ends k a) (sym z) (names-begun p (log s.world (event.CallBegun p c)) (mine (top (stack s p))) c n
-      (stored-log k a s.world (event.CallBegun p c) t tt))
+      subst (Ends k a) (sym z) (names-begun p (log s.world (Event.CallBegun p c)) (mine (top (stack s p))) c n
+      (stored-log k a s.world (Event.CallBegun p c) t tt))
 
   own-old : (rest old : List Op) → Every (Names k a) (rest ++ reverse old) → (o : Op) → old ≡ o ∷ [] → Names k a o
   own-old rest old h o q = (every-right (Names k a) rest (o ∷ [])
@@ -156,20 +135,20 @@ module _ (k : ℕ) (a : Waker) where
 
 -- a poll that is named only now has a later place
 newly-later : (k : ℕ) (a : Waker) (h : Hint) (w : World) (o : Op) → k < length w.trace → Newly k a h w o
-newly-later k a h w (op.Handle (handle_op.CopyAwaiter f b)) l = λ q e. absurd (omega (arith, l, e))
+newly-later k a h w (Op.Handle (HandleOp.CopyAwaiter f b)) l = λ q e. absurd (omega (arith, l, e))
 newly-later k a h w _ l = tt
 
 called-later : (k : ℕ) (a : Waker) (w : World) (here : Option Waker) (c : Call) → k < length w.trace → NewlyCalled k a w here c
-called-later k a w here (call.PollTick t b) l = λ e. absurd (omega (arith, l, e))
-called-later k a w here (call.PollRun r b) l = λ e. absurd (omega (arith, l, e))
+called-later k a w here (Call.PollTick t b) l = λ e. absurd (omega (arith, l, e))
+called-later k a w here (Call.PollRun r b) l = λ e. absurd (omega (arith, l, e))
 called-later k a w here _ l = tt
 
 pub later-in : (k : ℕ) (a : Waker) (s : Machine) (p : ℕ) (old rest : List Op) (d : Done) (way : Way s p old rest d) →
     k < length s.world.trace → NewlyIn k a s p old rest d way
 later-in k a s p old rest d (acted h o q z) l = newly-later k a h s.world o l
 later-in k a s p old rest d (reacted o u x q z) l = tt
-later-in k a s p old rest d (called c q r x z) l = called-later k a (log s.world (event.CallBegun p c)) (mine (top (stack s p))) c
-    (omega (arith, l, length-append s.world.trace (event.CallBegun p c ∷ [])))
+later-in k a s p old rest d (called c q r x z) l = called-later k a (log s.world (Event.CallBegun p c)) (mine (top (stack s p))) c
+    (omega (arith, l, length-append s.world.trace (Event.CallBegun p c ∷ [])))
 
 -- and so none has one that the trace hasn't reached
 
@@ -178,24 +157,18 @@ copied-trace w (Task g) = refl
 copied-trace w (Outside x) = refl
 
 newly-fresh : (k : ℕ) (a : Waker) (p : ℕ) (h : Hint) (w : World) (o : Op) → length (act p h o w).world.trace ≤ k → Newly k a h w o
-newly-fresh k a p h w (op.Handle (handle_op.CopyAwaiter f b)) l = λ q e.
+newly-fresh k a p h w (Op.Handle (HandleOp.CopyAwaiter f b)) l = λ q e.
     let m : length (copy_awaiter_by false p w f b).world.trace ≤ k =
     subst (λ (c : Bool). length (copy_awaiter_by c p w f b).world.trace ≤ k) q l in
-    absurd (omega (
-      arith,
-      m,
-      e,
-      length-append (copied w b).trace (event.HandlePolled p f ∷ []),
-      ap length (copied-trace w b),
-    ))
+    absurd (omega (arith, m, e, length-append (copied w b).trace (Event.HandlePolled p f ∷ []), ap length (copied-trace w b)))
 newly-fresh k a p h w _ l = tt
 
 called-fresh : (k : ℕ) (a : Waker) (p : ℕ) (w : World) (here : Option Waker) (c : Call) →
     length (begun p w here c).world.trace ≤ k → NewlyCalled k a w here c
-called-fresh k a p w here (call.PollTick t b) l = λ e.
-    absurd (omega (arith, l, e, length-append w.trace (event.TickPolled p t ∷ [])))
-called-fresh k a p w here (call.PollRun r b) l = λ e.
-    absurd (omega (arith, l, e, length-append w.trace (event.RunPolled p r ∷ [])))
+called-fresh k a p w here (Call.PollTick t b) l = λ e.
+    absurd (omega (arith, l, e, length-append w.trace (Event.TickPolled p t ∷ [])))
+called-fresh k a p w here (Call.PollRun r b) l = λ e.
+    absurd (omega (arith, l, e, length-append w.trace (Event.RunPolled p r ∷ [])))
 called-fresh k a p w here _ l = tt
 
 fresh-in : (k : ℕ) (a : Waker) (s : Machine) (p : ℕ) (old rest : List Op) (d : Done) (way : Way s p old rest d) →
@@ -204,7 +177,7 @@ fresh-in k a s p old rest d (acted h o q z) l =
     newly-fresh k a p h s.world o (subst (λ (y : Done). length y.world.trace ≤ k) z l)
 fresh-in k a s p old rest d (reacted o u x q z) l = tt
 fresh-in k a s p old rest d (called c q r x z) l =
-    called-fresh k a p (log s.world (event.CallBegun p c)) (mine (top (stack s p))) c
+    called-fresh k a p (log s.world (Event.CallBegun p c)) (mine (top (stack s p))) c
     (subst (λ (y : Done). length y.world.trace ≤ k) z l)
 
 abbrev pub Fresh : Machine → Type 0

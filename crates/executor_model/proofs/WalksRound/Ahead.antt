@@ -1,20 +1,11 @@
 -- For walks_go_round.
 -- A walk goes to each queue of the list but the walker's own.
-use Rattle.std.proofs.Common.{◌≡◌, ◌≢◌, ◌⊎◌, ℕ, zero, suc, ◌+◌, ◌-◌, ◌<◌, ◌≤◌, List, [], ◌∷◌, length, Bool, true, false}
-use Rattle.std.proofs.Common.{cond, eqb, inl, inr, ⊎_elim, refl, sym, ap, subst, arith}
-use Rattle.std.proofs.lemmas.Bool.Decides.{nat_tests}
-use Rattle.std.specs.Prelude.{nat_lt}
-use Rattle.executor_model.specs.declared.op.Op.{Op}
-use Rattle.executor_model.specs.declared.op.Op.TheVariants as op
-use Rattle.executor_model.specs.declared.op.RunPoll.{RunPoll}
-use Rattle.executor_model.specs.declared.op.Source.TheVariants.{Own}
-use Rattle.executor_model.specs.declared.op.StealOp.TheVariants as steal_op
-use Rattle.executor_model.specs.declared.op.Then.TheVariants as then
+use Rattle.std.proofs.Common.{◌≡◌, ◌≢◌, ◌⊎◌, ℕ, zero, suc, ◌+◌, ◌-◌, ◌<◌, ◌≤◌, List, [], ◌∷◌, length, Bool, true, false, cond}
+use Rattle.std.proofs.Common.{eqb, inl, inr, ⊎_elim, refl, sym, ap, subst, arith}
+use Rattle.std.{proofs.lemmas.Bool.Decides.nat_tests, specs.Prelude.nat_lt}
 use Rattle.executor_model.specs.ActsOfRuns.{next_place, queue_at, walk}
-use Rattle.executor_model.specs.Sound.{times}
-use Rattle.executor_model.specs.WalksRound.{theft}
-use Rattle.executor_model.specs.Weights.{same}
-use Rattle.executor_model.proofs.Steps.Lists.{same_cases}
+use Rattle.executor_model.specs.{Sound.times, WalksRound.theft, Weights.same}
+use Rattle.executor_model.proofs.{Types.Op, Types.RunPoll, Types.Own, Types.StealOp, Types.Then, Steps.Lists.same_cases}
 
 -- one of the next so many places of the list, from this one on, has such a queue
 abbrev pub Ahead : (ℕ → Type 0) → List ℕ → ℕ → ℕ → Type 0
@@ -81,7 +72,7 @@ pub record WalksOn (P : ℕ → Type 0) (x : RunPoll) (qs : List ℕ) (os : List
   pub queue : ℕ
   pub at : ℕ
   pub left : ℕ
-  pub is : os ≡ op.Steal (steal_op.Length (theft x queue at left)) ∷ []
+  pub is : os ≡ Op.Steal (StealOp.Length (theft x queue at left)) ∷ []
   pub other : queue ≢ x.run
   pub ahead : P queue ⊎ Ahead P qs at left
 
@@ -95,10 +86,10 @@ walks-on P x qs k at (suc left) h =
         (Ahead P qs (next_place qs at) left → WalksOn P x qs (walk x qs (next_place qs at) left)) →
         WalksOn P x qs (let os : List Op = elim b [
           | true ↦ walk x qs (next_place qs at) left
-          | false ↦ op.Steal (steal_op.Length (record {
+          | false ↦ Op.Steal (StealOp.Length (record {
             poll = x;
             from = Own (queue_at qs at);
-            then = then.Walk (next_place qs at) left;
+            then = Then.Walk (next_place qs at) left;
           })) ∷ []
         ] in os)
     by true e again =

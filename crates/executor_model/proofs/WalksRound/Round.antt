@@ -1,24 +1,12 @@
 -- For walks_go_round.
 -- So a walk that finds nothing comes to each of them.
-use Rattle.std.proofs.Common.{◌≡◌, ◌≢◌, ◌⊎◌, ℕ, zero, suc, ◌%◌, ◌≤◌, List, [], ◌∷◌, length, Bool, true, false, eqb}
-use Rattle.std.proofs.Common.{◌∙◌, ⊎_elim, refl, sym, subst, arith}
-use Rattle.std.proofs.Math.Nat.{mod-lt}
-use Rattle.std.proofs.lemmas.Bool.Decides.{nat_tests}
-use Rattle.executor_model.specs.declared.kind.Kind.{Kind}
-use Rattle.executor_model.specs.declared.op.Op.{Op}
-use Rattle.executor_model.specs.declared.op.Op.TheVariants as op
-use Rattle.executor_model.specs.declared.op.RunPoll.{RunPoll}
-use Rattle.executor_model.specs.declared.op.Source.TheVariants.{Own}
-use Rattle.executor_model.specs.declared.op.StealOp.TheVariants as steal_op
-use Rattle.executor_model.specs.declared.op.Then.TheVariants as then
-use Rattle.executor_model.specs.declared.step.Hint.{Hint}
-use Rattle.executor_model.specs.declared.step.Step.{Step}
-use Rattle.executor_model.specs.ActsOfRuns.{next_place, queue_at, walk}
-use Rattle.executor_model.specs.Sound.{times}
-use Rattle.executor_model.specs.Steps.{run, start}
+use Rattle.std.proofs.Common.{◌≡◌, ◌≢◌, ◌⊎◌, ℕ, zero, suc, ◌%◌, ◌≤◌, List, [], ◌∷◌, length, Bool, true, false, eqb, ◌∙◌, ⊎_elim}
+use Rattle.std.proofs.Common.{refl, sym, subst, arith}
+use Rattle.std.{proofs.Math.Nat.mod-lt, proofs.lemmas.Bool.Decides.nat_tests}
+use Rattle.executor_model.proofs.Types.{Kind, Op, RunPoll, Own, StealOp, Then, Hint, Step}
 use Rattle.executor_model.specs.WalksRound.{ComesTo, WalksGoRound, theft}
-use Rattle.executor_model.specs.WalksRound.ComesTo.{at_once, behind}
-use Rattle.executor_model.specs.World.{World}
+use Rattle.executor_model.specs.{ActsOfRuns.next_place, ActsOfRuns.queue_at, ActsOfRuns.walk, Sound.times, Steps.run}
+use Rattle.executor_model.specs.{Steps.start, WalksRound.ComesTo.at_once, WalksRound.ComesTo.behind, World.World}
 use Rattle.executor_model.proofs.WalksRound.Ahead.{Ahead, InList, all-ahead, in-list}
 
 module _ (w : World) (x : RunPoll) (r : ℕ) (other : r ≢ x.run) where
@@ -33,10 +21,10 @@ module _ (w : World) (x : RunPoll) (r : ℕ) (other : r ≢ x.run) where
           ComesTo w x r (walk x w.listed (next_place w.listed at) left)) →
           ComesTo w x r (let os : List Op = elim b [
             | true ↦ walk x w.listed (next_place w.listed at) left
-            | false ↦ op.Steal (steal_op.Length (record {
+            | false ↦ Op.Steal (StealOp.Length (record {
               poll = x;
               from = Own (queue_at w.listed at);
-              then = then.Walk (next_place w.listed at) left;
+              then = Then.Walk (next_place w.listed at) left;
             })) ∷ []
           ] in os)
       by true e k again =
@@ -45,7 +33,7 @@ module _ (w : World) (x : RunPoll) (r : ℕ) (other : r ≢ x.run) where
           (λ (z : Ahead (λ (q : ℕ). q ≡ r) w.listed (next_place w.listed at) left). z) k)
       by false e k again = ⊎_elim
           (λ (z : queue_at w.listed at ≡ r).
-          subst (λ (q : ℕ). ComesTo w x r (op.Steal (steal_op.Length (theft x q (next_place w.listed at) left)) ∷ []))
+          subst (λ (q : ℕ). ComesTo w x r (Op.Steal (StealOp.Length (theft x q (next_place w.listed at) left)) ∷ []))
           (sym z) (at_once (next_place w.listed at) left))
           (λ (z : Ahead (λ (q : ℕ). q ≡ r) w.listed (next_place w.listed at) left).
           behind (queue_at w.listed at) (next_place w.listed at) left (again z)) k

@@ -3,7 +3,7 @@ use crate::executor::awaited::Awaited;
 use crate::executor::futures::Yields;
 use crate::executor::names::{Futures, Timed};
 use crate::executor::ticks::{complete, tick_all};
-use crate::executor::workplace::{Share, Worker, spawn_share};
+use crate::executor::workplace::{Marks, Share, Worker, spawn_share};
 use crate::{Fault, Timing, round};
 use std::alloc::Global;
 use std::rt::Clock;
@@ -68,6 +68,7 @@ where
         jobs: count,
         times: 0,
         number: 1,
+        marks: Marks::Plain,
     };
     spawn_share(executor, share, &mut awaited);
     tick_all(&rt, executor);

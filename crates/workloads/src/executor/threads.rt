@@ -3,7 +3,7 @@ ghost use Rattle.std.specs.Prelude.{◌<◌};
 
 use crate::executor::names::Futures;
 use crate::executor::ticks::complete;
-use crate::executor::workplace::{Share, Worker};
+use crate::executor::workplace::{Marks, Share, Worker};
 use crate::{Fault, Timing, round, share};
 use std::alloc::AllocGlobal;
 use std::rt::Clock;
@@ -49,6 +49,7 @@ where
             jobs: round(ops, JOBS, number),
             times: 1,
             number: 0,
+            marks: Marks::Plain,
         };
         moved = moved.wrapping_add(work_of_all(rt, place, workers, all)?);
     }
@@ -61,6 +62,7 @@ pub fn storm<P, R>(
     rt: &R,
     realm: &'static Futures<R>,
     workers: usize,
+    marks: Marks,
     ops: u64,
 ) -> Result<Timing, Fault>
 where
@@ -69,12 +71,18 @@ where
     requires { (0 < workers) × (workers < 1000) }
 {
     match P::new(*rt, rt.alloc(), realm, FUTURES as usize) {
-        Ok(place) => time_storm(rt, &place, workers, ops),
+        Ok(place) => time_storm(rt, &place, workers, marks, ops),
         Err(fault) => Err(fault),
     }
 }
 
-fn time_storm<P, R>(rt: &R, place: &P, workers: usize, ops: u64) -> Result<Timing, Fault>
+fn time_storm<P, R>(
+    rt: &R,
+    place: &P,
+    workers: usize,
+    marks: Marks,
+    ops: u64,
+) -> Result<Timing, Fault>
 where
     P: Worker<R> + Sync,
     R: AllocGlobal + Clock + Wait + Threads + Sync + Copy + Drop + 'static,
@@ -85,6 +93,7 @@ where
         jobs: FUTURES,
         times,
         number: 0,
+        marks,
     };
     let start = Instant::now(rt)?;
     let moved = work_of_all(rt, place, workers, all)?;

@@ -1,7 +1,8 @@
-//! Work of one thread on an executor with place for one future.
+//! Work of one thread on an executor with place for one future, or for one of each mark.
 use crate::executor::futures::Yields;
 use crate::executor::names::{Futures, Timed, Waker};
 use crate::{Fault, Timing};
+use async_executor::Mark;
 use async_task::Future;
 use std::alloc::Global;
 use std::rt::Clock;
@@ -29,7 +30,7 @@ fn time_spawn_tick<R: Clock + Wait + Copy + Drop + 'static>(
     let mut moved = 0u64;
     let start = Instant::now(rt)?;
     for number in 0..ops {
-        spawn_detached(executor, Yields { times: 0, number })?;
+        spawn_detached(executor, Yields { times: 0, number }, Mark::Plain)?;
         moved = moved.wrapping_add(u64::from(executor.try_tick()));
     }
     complete(Timing::since(rt, start, moved)?, ops)
@@ -43,7 +44,20 @@ pub fn ping<R: Clock + Wait + Copy + Drop + 'static>(
     ops: u64,
 ) -> Result<Timing, Fault> {
     match Timed::new(rt, alloc, realm, 1) {
-        Ok(executor) => time_ping(&rt, &executor, ops),
+        Ok(executor) => time_ping(&rt, &executor, &[Mark::Plain], ops),
+        Err(_) => Err(Fault::NoMemory),
+    }
+}
+
+/// Ticks, where an urgent future and a plain one wake themselves at each poll.
+pub fn ping_marked<R: Clock + Wait + Copy + Drop + 'static>(
+    rt: R,
+    alloc: Global,
+    realm: &'static Futures<R>,
+    ops: u64,
+) -> Result<Timing, Fault> {
+    match Timed::new(rt, alloc, realm, 2) {
+        Ok(executor) => time_ping(&rt, &executor, &[Mark::Urgent, Mark::Plain], ops),
         Err(_) => Err(Fault::NoMemory),
     }
 }
@@ -51,15 +65,16 @@ pub fn ping<R: Clock + Wait + Copy + Drop + 'static>(
 fn time_ping<R: Clock + Wait + Copy + Drop + 'static>(
     rt: &R,
     executor: &Timed<Yields, R>,
+    marks: &[Mark],
     ops: u64,
 ) -> Result<Timing, Fault> {
-    spawn_detached(
-        executor,
-        Yields {
+    for mark in marks {
+        let endless = Yields {
             times: u64::MAX,
             number: 0,
-        },
-    )?;
+        };
+        spawn_detached(executor, endless, *mark)?;
+    }
     let mut moved = 0u64;
     let start = Instant::now(rt)?;
     for _ in 0..ops {
@@ -72,8 +87,9 @@ fn time_ping<R: Clock + Wait + Copy + Drop + 'static>(
 fn spawn_detached<R: Wait + Copy + Drop + 'static>(
     executor: &Timed<Yields, R>,
     future: Yields,
+    mark: Mark,
 ) -> Result<(), Fault> {
-    match executor.spawn(future) {
+    match executor.spawn_marked(future, mark) {
         Ok(task) => {
             task.detach();
             Ok(())

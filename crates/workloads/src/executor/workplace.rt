@@ -7,18 +7,40 @@ use crate::Fault;
 use crate::executor::awaited::Awaited;
 use crate::executor::futures::Yields;
 use crate::executor::names::{Futures, Timed, Waker};
+use async_executor::Mark;
 use async_task::Future;
 use blocking::block_on;
 use std::alloc::Global;
 use std::marker::PhantomData;
 use std::sync::Wait;
 
-/// What there is to spawn: so many futures, each of which gives way so often, and then gives this number and how often that was.
+/// What there is to spawn: so many futures with marks as these, each of which gives way so often, and then gives this number
+/// and how often that was.
 #[derive(Clone, Copy)]
 pub struct Share {
     pub jobs: u64,
     pub times: u64,
     pub number: u64,
+    pub marks: Marks,
+}
+
+/// How futures are marked.
+#[derive(Clone, Copy)]
+pub enum Marks {
+    /// All are plain.
+    Plain,
+    /// The first is urgent, the next one plain, and so on by turns.
+    Mixed,
+}
+
+impl Marks {
+    /// The mark of the future of this number.
+    pub fn mark_of(self, number: u64) -> Mark {
+        match self {
+            Marks::Mixed if number.is_multiple_of(2) => Mark::Urgent,
+            _ => Mark::Plain,
+        }
+    }
 }
 
 /// What threads do, and how handles are awaited.
@@ -101,12 +123,12 @@ pub fn spawn_share<R: Wait + Copy + Drop + 'static>(
     share: Share,
     awaited: &mut Awaited<R>,
 ) {
-    for _ in 0..share.jobs {
+    for number in 0..share.jobs {
         let future = Yields {
             times: share.times,
             number: share.number,
         };
-        if let Ok(task) = executor.spawn(future) {
+        if let Ok(task) = executor.spawn_marked(future, share.marks.mark_of(number)) {
             awaited.push(task);
         }
     }

@@ -1,8 +1,8 @@
 //! The list of jobs that is worked on: half of it sums of a number below 5,000, half of it products.
 ghost use Rattle.std.specs.Prelude.{◌<◌, ◌≤◌, All, IfOk, length};
-ghost use Rattle.job_text.specs.Answers.{IsInRange};
+ghost use Rattle.jobs.specs.Answers.{IsInRange};
 
-use job_text::Job;
+use jobs::Job;
 use std::alloc::{AllocError, Global};
 
 /// How many jobs there are in one round.

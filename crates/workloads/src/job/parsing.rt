@@ -1,7 +1,7 @@
 //! The text of lists of jobs, read.
 use crate::job::list::{JOBS, job};
 use crate::{Fault, Timing};
-use job_text::{Job, ParseError};
+use jobs::{Job, ParseError};
 use std::alloc::{AllocError, AllocGlobal, Global};
 use std::rt::Clock;
 use std::time::Instant;
@@ -30,7 +30,7 @@ fn time_parse<R: AllocGlobal + Clock>(
 
 /// How many jobs are read.
 fn lines_of(alloc: Global, text: &[u8]) -> Result<u64, Fault> {
-    match job_text::parse(alloc, text) {
+    match jobs::parse(alloc, text) {
         Ok(list) => Ok(list.len() as u64),
         Err(ParseError::NoMemory) => Err(Fault::NoMemory),
         Err(ParseError::BadLine(_)) => Err(Fault::Refused),

@@ -1,11 +1,10 @@
 //! Jobs done by workers.
 ghost use Rattle.std.specs.Prelude.{◌<◌, ◌≤◌, All, length};
-ghost use Rattle.job_text.specs.Answers.{IsInRange};
+ghost use Rattle.jobs.specs.Answers.{IsInRange};
 
 use crate::job::list::{JOBS, jobs};
 use crate::{Fault, Timing};
-use job_text::Job;
-use jobs::{JobRealm, JobSite, Open, run_jobs};
+use jobs::{Job, JobRealm, JobSite, Open, run_jobs};
 use std::alloc::{AllocGlobal, Global};
 use std::rt::Clock;
 use std::sync::Wait;

@@ -1,8 +1,8 @@
 use Rattle.std.proofs.Common.{List, Vec, subst}
 use Rattle.std.specs.Global.{Global}
 use Rattle.std.proofs.lemmas.Result.{IfOk-weaker}
-use Rattle.job_text.specs.Gathered.{EachCameOnce, IsLeastMissing}
-use Rattle.job_text.specs.declared.job.Solved.{Solved}
+use Rattle.jobs.specs.Gathered.{EachCameOnce, IsLeastMissing}
+use Rattle.jobs.specs.declared.job.Solved.{Solved}
 use Rattle.jobs.proofs.running.run_jobs.Goals as goal
 
 pub returns-in-Ok-work_together-clause-once : goal.returns-in-Ok-work_together-clause-once

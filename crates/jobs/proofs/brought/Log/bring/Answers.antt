@@ -3,7 +3,7 @@ use Rattle.std.proofs.Common.{◌≡◌, ◌∙◌, ap, Ok, Some, ◌++◌, [], 
 use Rattle.std.proofs.Math.Logic.{∥∥₁_map}
 use Rattle.jobs.specs.Bringing.{given_by}
 use Rattle.async_task.specs.declared.poll.Poll.TheVariants.{Ready}
-use Rattle.job_text.specs.declared.job.Solved.{Solved}
+use Rattle.jobs.specs.declared.job.Solved.{Solved}
 use Rattle.jobs.proofs.brought.Log.bring.Goals as goal
 
 pub invariant_of-self : goal.invariant_of-self

@@ -3,7 +3,7 @@ use Rattle.std.proofs.Common.{sym, subst}
 use Rattle.std.specs.Prelude.{Vec}
 use Rattle.std.specs.Global.{Global}
 use Rattle.std.proofs.Math.Logic.{∥∥₁_map}
-use Rattle.job_text.specs.declared.job.Solved.{Solved}
+use Rattle.jobs.specs.declared.job.Solved.{Solved}
 use Rattle.jobs.proofs.brought.Log.end.Goals as goal
 
 pub invariant_of-result : goal.invariant_of-result

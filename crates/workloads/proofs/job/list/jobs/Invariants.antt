@@ -1,5 +1,5 @@
 use Rattle.std.proofs.Common.{◌≡◌, length, All}
-use Rattle.job_text.specs.Answers.{IsInRange}
+use Rattle.jobs.specs.Answers.{IsInRange}
 use Rattle.workloads.proofs.job.list.jobs.Given as goal
 
 abbrev pub invariant-loop-number : goal.invariant-loop-number

@@ -1,5 +1,0 @@
-use Rattle.job_text.proofs.Backs.{AreAnswered}
-use Rattle.job_text.proofs.results.Results.in_order.Given as goal
-
-abbrev pub invariant-loop-back : goal.invariant-loop-back
-invariant-loop-back l = AreAnswered l.self.jobs.now l.self.backs.items l.back-index l.all.items

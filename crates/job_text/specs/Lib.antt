@@ -1,4 +1,0 @@
-pub mod Answers
-pub mod Gathered
-pub mod Results
-pub mod Lines

@@ -1,0 +1,39 @@
+//! Who calls the kept wakers of a script's futures, and lets them go.
+use crate::one_thread::handle::Kept;
+use crate::{Keep, SharedShelf};
+use async_task::Wake;
+use script::Name;
+use std::sync::Wait;
+
+/// Who calls the wakers of a shelf.
+#[derive(Drop)]
+pub struct Keeper<R: Wait + Copy + Drop> {
+    pub shelf: SharedShelf<Kept<R>>,
+}
+
+impl<R: Wait + Copy + Drop> Keep for Keeper<R> {
+    fn wake(&self, name: Name) -> bool {
+        match self.shelf.take_kept(name) {
+            Some(kept) => {
+                kept.waker.wake_by_ref();
+                self.shelf.keep(name, kept);
+                true
+            }
+            None => false,
+        }
+    }
+
+    fn unkeep(&self, name: Name) -> bool {
+        match self.shelf.take_kept(name) {
+            Some(kept) => {
+                drop(kept);
+                true
+            }
+            None => false,
+        }
+    }
+
+    fn let_replaced_go(&self) {
+        drop(self.shelf.take_replaced());
+    }
+}

@@ -106,7 +106,7 @@ module _ {T A : Type 0} where
 
     -- a waker that goes: called, or not; and one more
     abbrev pub used : (Plain T A → Plain T A) → ℕ → Plain T A → Plain T A
-    used more f p = release more f (wake more f p)
+    used more f p = becomes more f (abstract.release (abstract.wake (task f p))) p
 
     abbrev pub called : (Plain T A → Plain T A) → A → Plain T A → Plain T A
     called more w p = or (wakes w) (λ f. used more f p) (see (Calls w) p)

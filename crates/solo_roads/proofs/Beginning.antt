@@ -1,5 +1,5 @@
 -- A new executor stands where the new plain scheduler does.
-use Rattle.std.proofs.Common.{◌≡◌, ℕ, Bool, [], map, refl, ap, ◌∙◌, arith}
+use Rattle.std.proofs.Common.{◌≡◌, ℕ, Bool, false, Some, [], map, refl, ap, ◌∙◌, arith}
 use Rattle.executor_parts.specs.Sleepers.{Sleepers}
 use Rattle.executor_parts.specs.declared.mark.Mark.{Mark}
 use Rattle.executor_parts.specs.declared.mark.Mark.TheVariants.{Plain as PlainMark, Urgent}
@@ -18,12 +18,30 @@ module _ {F T X : Type 0} (name : ℕ → Task) where
   begins limit kind is_static s fresh = record {
     numbered = λ f below. absurd (omega (arith, below));
     tasks = λ f below. absurd (omega (arith, below));
-    lines = λ mark. ap (λ l. (line_of mark l).items) fresh.lines ∙ empty mark;
-    wakers = ap (λ (sleepers : Sleepers (SoloWaker X)). map (λ e. e.1) sleepers.wakers) fresh.sleepers;
-    count = ap (λ (sleepers : Sleepers (SoloWaker X)). sleepers.count) fresh.sleepers;
-    flag = fresh.notified;
+    within = omega arith;
+    queued = record {
+      lines = λ mark. ap (λ l. (line_of mark l).items) fresh.lines ∙ empty mark;
+      unclosed = λ mark. ap (λ l. (line_of mark l).closed) fresh.lines ∙ unclosed mark;
+      limit = λ mark. ap (λ l. (line_of mark l).capacity) fresh.lines ∙ long mark;
+    };
+    once = refl;
+    ready = λ f due. absurd cc;
+    asleep = record {
+      wakers = ap (λ (sleepers : Sleepers (SoloWaker X)). map (λ e. e.1) sleepers.wakers) fresh.sleepers;
+      count = ap (λ (sleepers : Sleepers (SoloWaker X)). sleepers.count) fresh.sleepers;
+      flag = fresh.notified;
+      callers = λ at t is. absurd cc;
+    };
   }
     where
       empty : (mark : Mark) → (line_of mark (new_lines limit)).items ≡ []
       empty PlainMark = refl
       empty Urgent = refl
+
+      unclosed : (mark : Mark) → (line_of mark (new_lines limit)).closed ≡ false
+      unclosed PlainMark = refl
+      unclosed Urgent = refl
+
+      long : (mark : Mark) → (line_of mark (new_lines limit)).capacity ≡ Some limit
+      long PlainMark = refl
+      long Urgent = refl

@@ -35,11 +35,18 @@ module _ {T X : Type 0} where
   pub asks_found : {B : Type 0} (h : Kept T X → B) (b : B) (t : Task) (s : Cells T X) → asked h b t s ≡ of_found h b (found t s)
   asks_found h b t s = found_by h b t (get s.slab t.key)
 
+  -- a task of which something is so is there
+  pub there : (q : Kept T X → Bool) (o : Option (Kept T X)) → of_found q false o ≡ true
+      → (v : Kept T X) × (o ≡ Some v) × (q v ≡ true)
+  there q None is = absurd cc
+  there q (Some v) is = (v, refl, is)
+
   some_there : (cell : Option (Cell T X)) (c : Cell T X) → cell ≡ Some c → IsSome cell
   some_there (Some d) c is = refl
   some_there None c is = absurd cc
 
-  with_cell : (s : Slab (Cell T X)) (key : ℕ) (c d : Cell T X) → get s key ≡ Some c → Updates s (with_value s key d) key (Some d)
+  pub with_cell : (s : Slab (Cell T X)) (key : ℕ) (c d : Cell T X) → get s key ≡ Some c
+      → Updates s (with_value s key d) key (Some d)
   with_cell s key c d is = Updates-with_value s key d (some_there (get s key) c is)
 
   abbrev pub changed_found : (Kept T X → Kept T X) → Option (Kept T X) → Option (Kept T X)
@@ -64,7 +71,8 @@ module _ {T X : Type 0} where
 
     module _ (u : Task) (apart : (t.number == u.number) ≡ false) where
       numbers : (c : ℕ) → (c == u.number) ≡ true → (c == t.number) ≡ false
-      numbers c is = let same : c ≡ u.number = same_number c u.number is in subst (λ n. (n == t.number) ≡ false) (sym same) (turn apart)
+      numbers c is = let same : c ≡ u.number = same_number c u.number is in subst (λ n. (n == t.number) ≡ false) (sym same)
+          (turn apart)
         where
           turn : (t.number == u.number) ≡ false → (u.number == t.number) ≡ false
           turn is = grind (arith, nat_tests)

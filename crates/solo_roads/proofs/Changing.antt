@@ -1,5 +1,6 @@
 -- The executor goes on standing where the plain scheduler does, as a task is changed and as one is queued.
-use Rattle.std.proofs.Common.{◌≡◌, ℕ, ◌<◌, ◌==◌, Bool, true, false, List, [], ◌∷◌, ◌++◌, length, Option, Some, None, slice_get}
+use Rattle.std.proofs.Common.{◌≡◌, ℕ, ◌<◌, ◌≤◌, ◌==◌, Bool, true, false, List, [], ◌∷◌, ◌++◌, length, Option, Some, None}
+use Rattle.std.proofs.Common.{slice_get}
 use Rattle.std.proofs.Common.{slice_set, refl, sym, ap, subst, ◌∙◌}
 use Rattle.executor_parts.specs.declared.mark.Mark.TheVariants.{Plain as PlainMark}
 use Rattle.task_moves.specs.AbstractTask.{AbstractTask}
@@ -10,12 +11,13 @@ use Rattle.solo.specs.declared.solo.Solo.{Solo}
 use Rattle.solo.specs.Cells.{Kept, choose, asked}
 use Rattle.solo.specs.Cells as cells
 use Rattle.solo.specs.Turns as turns
-use Rattle.plain_scheduler.specs.State.{Future, Plain}
+use Rattle.plain_scheduler.specs.State.{Due, Future, Plain}
 use Rattle.plain_scheduler.specs.Lists.{on, or}
 use Rattle.plain_scheduler.specs.Moves.{put, task, mark, appended, no_task}
-use Rattle.solo_roads.specs.Road.{TaskIs, IsOver, Follows}
+use Rattle.solo_roads.specs.Road.{IsTaskOf, TaskIs, IsOver, IsAsleep, FollowsBut, beside, stands, once}
+use Rattle.solo_roads.proofs.Due.{living_set, once_last, stands_last, beside_last}
 use Rattle.solo_roads.proofs.Lists.{set_same, set_other, get_below, length_set}
-use Rattle.solo_roads.proofs.Cells.{found, changed_found, found_here, found_there, same_number}
+use Rattle.solo_roads.proofs.Cells.{found, of_found, asks_found, there, changed_found, found_here, found_there, same_number}
 use Rattle.solo_roads.proofs.Lines as lines
 
 module _ {T A : Type 0} where
@@ -34,22 +36,39 @@ module _ {T A : Type 0} where
       is
 
 module _ {T X : Type 0} (g : Kept T X → Kept T X) (h : AbstractTask T (SoloWaker X) → AbstractTask T (SoloWaker X)) where
-  here_is : ((t : AbstractTask T (SoloWaker X)) → IsOver t → IsOver (told (h t))) → (o : Option (Kept T X))
-      → ((v : Kept T X) → o ≡ Some v → ((g v).task ≡ told (h v.task)) × ((g v).metadata ≡ v.metadata)) → (x : Future T (SoloWaker X)) (t : AbstractTask T (SoloWaker X)) → t ≡ x.task → TaskIs o (Some x)
+  here_is : ((t : AbstractTask T (SoloWaker X)) → IsOver t → IsOver (told (h t)))
+      → (o : Option (Kept T X)) (x : Future T (SoloWaker X))
+      → ((v : Kept T X) → o ≡ Some v → IsTaskOf v x → IsTaskOf (g v) (record x { task = told (h x.task) }))
+      → (t : AbstractTask T (SoloWaker X)) → t ≡ x.task → TaskIs o (Some x)
       → TaskIs (changed_found g o) (Some (record x { task = told (h t) }))
-  here_is over None goes x t same is = over t (subst IsOver (sym same) is)
-  here_is over (Some v) goes x t same is =
-      ((goes v refl).0 ∙ ap (λ t. told (h t)) (is.0 ∙ sym same), (goes v refl).1 ∙ is.1, refl)
+  here_is over None x goes t same is = over t (subst IsOver (sym same) is)
+  here_is over (Some v) x goes t same is =
+      subst (λ t. IsTaskOf (g v) (record x { task = told (h t) })) (sym same) (goes v refl is)
 
-module _ {F T X : Type 0} (name : ℕ → Task) where
+module _ {F T X : Type 0} (aside : Option Due) (name : ℕ → Task) where
+  -- the task of a future that is there, where something is so of the one that is kept
+  pub kept : (q : Kept T X → Bool) (f : ℕ) (s : Solo F T X) (p : Plain T (SoloWaker X)) → FollowsBut aside name s p
+      → f < length p.futures
+      → asked q false (name f) s.cells ≡ true
+      → (v : Kept T X) × (x : Future T (SoloWaker X)) × (found (name f) s.cells ≡ Some v) × (slice_get p.futures f ≡ Some x)
+      × (q v ≡ true) × IsTaskOf v x
+  kept q f s p r at is =
+      let v = there q (found (name f) s.cells) (sym (asks_found q false (name f) s.cells) ∙ is) in
+      let x = get_below p.futures f at in
+      (v.0, x.0, v.1, x.1, v.2, subst (λ o. TaskIs o (Some x.0)) v.1 (subst (TaskIs (found (name f) s.cells)) x.1 (r.tasks f at)))
+
   module _ (g : Kept T X → Kept T X) (h : AbstractTask T (SoloWaker X) → AbstractTask T (SoloWaker X))
       (over : (t : AbstractTask T (SoloWaker X)) → IsOver t → IsOver (told (h t))) where
-    -- the change is one of the task's state
-    abbrev pub Goes : ℕ → Solo F T X → Type 0
-    Goes f s =
-        (v : Kept T X) → found (name f) s.cells ≡ Some v → ((g v).task ≡ told (h v.task)) × ((g v).metadata ≡ v.metadata)
+    -- the change is one of the task's state; and where the future is due, it stays ready
+    abbrev pub Goes : ℕ → Solo F T X → Plain T (SoloWaker X) → Type 0
+    Goes f s p =
+        (v : Kept T X) (x : Future T (SoloWaker X)) → found (name f) s.cells ≡ Some v → slice_get p.futures f ≡ Some x
+        → IsTaskOf v x
+        → IsTaskOf (g v) (record x { task = told (h x.task) })
+        × (stands f (beside aside p.due) ≡ true → cells.may_start v ≡ true → cells.may_start (g v) ≡ true)
 
-    tasks_by : (s : Solo F T X) (p : Plain T (SoloWaker X)) → Follows name s p → (f : ℕ) → Goes f s → (x : Future T (SoloWaker X)) (b : Bool) (j : ℕ)
+    tasks_by : (s : Solo F T X) (p : Plain T (SoloWaker X)) → FollowsBut aside name s p → (f : ℕ) → Goes f s p
+        → (x : Future T (SoloWaker X)) (b : Bool) (j : ℕ)
         → f < length p.futures → j < length p.futures → slice_get p.futures f ≡ Some x → (f == j) ≡ b
         → TaskIs (found (name j) (cells.changed g (name f) s.cells))
         (slice_get (slice_set p.futures f (record x { task = told (h (task f p)) })) j)
@@ -63,7 +82,7 @@ module _ {F T X : Type 0} (name : ℕ → Task) where
         (sym (set_same p.futures f (record x { task = told (h (task f p)) }) x is))
         (subst (λ o. TaskIs o (Some (record x { task = told (h (task f p)) })))
         (sym (found_here g (name f) s.cells))
-        (here_is g h over (found (name f) s.cells) goes x (task f p) (task_is f p x is)
+        (here_is g h over (found (name f) s.cells) x (λ v here fits. (goes v x here is fits).0) (task f p) (task_is f p x is)
         (subst (λ o. TaskIs (found (name f) s.cells) o) is (r.tasks f at)))))
     tasks_by s p r f goes x false j at below is same =
         let apart : ((name f).number == (name j).number) ≡ false =
@@ -74,36 +93,82 @@ module _ {F T X : Type 0} (name : ℕ → Task) where
         (sym (found_there g (name f) (name j) apart s.cells))
         (r.tasks j below))
 
+    ready_by : (s : Solo F T X) (p : Plain T (SoloWaker X)) → FollowsBut aside name s p → (f : ℕ) → Goes f s p
+        → (b : Bool) (j : ℕ) → f < length p.futures
+        → stands j (beside aside p.due) ≡ true → (f == j) ≡ b
+        → asked cells.may_start false (name j) (cells.changed g (name f) s.cells) ≡ true
+    ready_by s p r f goes true j at due same =
+        let one : f ≡ j = same_number f j same in
+        let here : stands f (beside aside p.due) ≡ true = subst (λ n. stands n (beside aside p.due) ≡ true) (sym one) due in
+        let k = kept cells.may_start f s p r at (r.ready f here).1 in
+        subst (λ j. asked cells.may_start false (name j) (cells.changed g (name f) s.cells) ≡ true) one
+        (asks_found cells.may_start false (name f) (cells.changed g (name f) s.cells)
+        ∙ (ap (of_found cells.may_start false) (found_here g (name f) s.cells ∙ ap (changed_found g) k.2)
+        ∙ (goes k.0 k.1 k.2 k.3 k.5).1 here k.4))
+    ready_by s p r f goes false j at due same =
+        let can = r.ready j due in
+        let apart : ((name f).number == (name j).number) ≡ false =
+        ap (λ n. n == (name j).number) (r.numbered f at) ∙ (ap (λ n. f == n) (r.numbered j can.0) ∙ same) in
+        asks_found cells.may_start false (name j) (cells.changed g (name f) s.cells)
+        ∙ (ap (of_found cells.may_start false) (found_there g (name f) (name j) apart s.cells)
+        ∙ (sym (asks_found cells.may_start false (name j) s.cells) ∙ can.1))
+
     -- the task of a future is changed in both
-    pub turned : (f : ℕ) (s : Solo F T X) (p : Plain T (SoloWaker X)) → f < length p.futures → Goes f s → Follows name s p
-        → Follows name (turns.turned g (name f) s) (put f (h (task f p)) p)
+    pub turned : (f : ℕ) (s : Solo F T X) (p : Plain T (SoloWaker X)) → f < length p.futures → Goes f s p
+        → FollowsBut aside name s p
+        → FollowsBut aside name (turns.turned g (name f) s) (put f (h (task f p)) p)
     turned f s p at goes r =
         let x = get_below p.futures f at in
-        let now : List (Future T (SoloWaker X)) = slice_set p.futures f (record x.0 { task = told (h (task f p)) }) in
-        let long : length now ≡ length p.futures = length_set p.futures f (record x.0 { task = told (h (task f p)) }) in
-        subst (Follows name (turns.turned g (name f) s)) (sym (put_is f (h (task f p)) p x.0 x.1))
+        let new : Future T (SoloWaker X) = record x.0 { task = told (h (task f p)) } in
+        let now : List (Future T (SoloWaker X)) = slice_set p.futures f new in
+        let long : length now ≡ length p.futures = length_set p.futures f new in
+        subst (FollowsBut aside name (turns.turned g (name f) s)) (sym (put_is f (h (task f p)) p x.0 x.1))
         (record {
           numbered = λ j below. r.numbered j (subst (λ n. j < n) long below);
           tasks = λ j below. tasks_by s p r f goes x.0 (f == j) j at (subst (λ n. j < n) long below) x.1 refl;
-          lines = r.lines;
-          wakers = r.wakers;
-          count = r.count;
-          flag = r.flag;
+          within = subst (λ ns. length ns ≤ p.limit) (sym (living_set p.futures 0 f x.0 new x.1 refl)) r.within;
+          queued = r.queued;
+          once = r.once;
+          ready = λ j due. (subst (λ n. j < n) (sym long) (r.ready j due).0, ready_by s p r f goes (f == j) j at due refl);
+          asleep = subst (λ n. IsAsleep name n s.sleepers s.notified p.lying) (sym long) r.asleep;
         })
 
   -- a task comes last in its queue, as its future does in the list
   pub lined : (f : ℕ) (s : Solo F T X) (p : Plain T (SoloWaker X)) → turns.takes (name f) s ≡ true
-      → turns.mark_of (name f) s ≡ mark f p → Follows name s p → Follows name (turns.lined (name f) s) (appended f p)
-  lined f s p place same r =
+      → turns.mark_of (name f) s ≡ mark f p → f < length p.futures → stands f (beside aside p.due) ≡ false
+      → asked cells.may_start false (name f) s.cells ≡ true → FollowsBut aside name s p
+      → FollowsBut aside name (turns.lined (name f) s) (appended f p)
+  lined f s p place same at none ready r =
       subst
-      (λ m. Follows name (turns.lined (name f) s)
+      (λ m. FollowsBut aside name (turns.lined (name f) s)
       (record p { due = p.due ++ record { future = f; mark = m; keeper = None } ∷ [] }))
       same
       (record {
         numbered = r.numbered;
         tasks = r.tasks;
-        lines = lines.lined name p.due f (turns.mark_of (name f) s) s.lines place r.lines;
-        wakers = r.wakers;
-        count = r.count;
-        flag = r.flag;
+        within = r.within;
+        queued = record {
+          lines = lines.lined name p.due f (turns.mark_of (name f) s) s.lines place r.queued.lines;
+          unclosed = lines.unclosed (name f) (turns.mark_of (name f) s) s.lines place r.queued.unclosed;
+          limit = lines.as_long (name f) (turns.mark_of (name f) s) s.lines place p.limit r.queued.limit;
+        };
+        once =
+            ap once (beside_last aside p.due (lines.last name p.due f (turns.mark_of (name f) s)))
+            ∙ once_last (beside aside p.due) (lines.last name p.due f (turns.mark_of (name f) s)) r.once none;
+        ready = λ j due.
+            by (j == f) j
+            (sym (ap (stands j) (beside_last aside p.due (lines.last name p.due f (turns.mark_of (name f) s)))) ∙ due) refl;
+        asleep = r.asleep;
       })
+    where
+      by : (b : Bool) (j : ℕ) → stands j (beside aside p.due ++ lines.last name p.due f (turns.mark_of (name f) s) ∷ [])
+          ≡ true → (j == f) ≡ b
+          → (j < length p.futures) × (asked cells.may_start false (name j) s.cells ≡ true)
+      by true j due same =
+          let one : j ≡ f = same_number j f same in (
+            subst (λ n. n < length p.futures) (sym one) at,
+            subst (λ n. asked cells.may_start false (name n) s.cells ≡ true)
+                (sym one) ready,
+          )
+      by false j due same = r.ready j (stands_last j (beside aside p.due)
+          (lines.last name p.due f (turns.mark_of (name f) s)) due same)

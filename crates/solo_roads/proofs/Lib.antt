@@ -1,8 +1,14 @@
 pub mod Lists
+pub mod Due
+pub mod Tasks
 pub mod Cells
 pub mod Lines
 pub mod Lying
 pub mod Changing
+pub mod Placing
+pub mod Sweeping
+pub mod Using
+pub mod Quiet
 pub mod Telling
 pub mod Waking
 pub mod Taking

@@ -29,6 +29,12 @@ module _ {A : Type 0} where
   length_set (z ∷ zs) zero x = refl
   length_set (z ∷ zs) (suc i) x = ap suc (length_set zs i x)
 
+  pub get_take : (n : ℕ) (xs : List A) (i : ℕ) (x : A) → slice_get (take n xs) i ≡ Some x → slice_get xs i ≡ Some x
+  get_take zero xs i x is = absurd cc
+  get_take (suc n) [] i x is = absurd cc
+  get_take (suc n) (y ∷ ys) zero x is = is
+  get_take (suc n) (y ∷ ys) (suc i) x is = get_take n ys i x is
+
 module _ {A B : Type 0} (f : A → B) where
   pub map_append : (xs ys : List A) → map f (xs ++ ys) ≡ map f xs ++ map f ys
   map_append [] ys = refl
@@ -38,3 +44,7 @@ module _ {A B : Type 0} (f : A → B) where
   map_take zero xs = refl
   map_take (suc n) [] = refl
   map_take (suc n) (x ∷ xs) = ap (λ zs. f x ∷ zs) (map_take n xs)
+
+  pub length_map : (xs : List A) → length (map f xs) ≡ length xs
+  length_map [] = refl
+  length_map (x ∷ xs) = ap suc (length_map xs)

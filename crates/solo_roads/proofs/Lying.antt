@@ -72,7 +72,8 @@ module _ {A : Type 0} where
       by true is = refl
       by false is = is
 
-      any_called : (ls : List (Lying A)) (i : ℕ) (l : Lying A) → i < length ls → any is_called (slice_set ls i (called_one l)) ≡ true
+      any_called : (ls : List (Lying A)) (i : ℕ) (l : Lying A) → i < length ls → any is_called (slice_set ls i (called_one l))
+          ≡ true
       any_called [] i l below = absurd (omega arith)
       any_called (m ∷ ls) zero l below = refl
       any_called (m ∷ ls) (suc i) l below = by (is_called m) (any_called ls i l (omega arith))

@@ -1,12 +1,15 @@
--- A search of the executor's queues finds what the plain scheduler takes: the first without a keeper of the mark that is looked at
+-- A search of the executor's queues finds what the plain scheduler takes: the first without a keeper of the mark that is looked
+-- at
 -- first, or else of the other.
-use Rattle.std.proofs.Common.{◌≡◌, ℕ, cond, ◌&&◌, not, Bool, true, false, List, [], ◌∷◌, map, filter, find, drop, Option, Some, None}
+use Rattle.std.proofs.Common.{◌≡◌, ℕ, cond, ◌&&◌, not, Bool, true, false, List, [], ◌∷◌, map, filter, find, drop, Option, Some}
+use Rattle.std.proofs.Common.{None}
 use Rattle.std.proofs.Common.{slice_get, is_some, refl, sym, ap, subst, ◌∙◌}
 use Rattle.executor_parts.specs.declared.mark.Mark.{Mark}
 use Rattle.executor_parts.specs.declared.mark.Mark.TheVariants.{Plain, Urgent}
 use Rattle.executor_parts.specs.Marks.{same_mark, other}
 use Rattle.solo.specs.declared.names.Task.{Task}
-use Rattle.solo.specs.Lines.{LinesValue, line_of, first_of, popped_from, taken_from, found_from, taken_by, found_by, turned, mark_of_turn}
+use Rattle.solo.specs.Lines.{LinesValue, line_of, first_of, popped_from, taken_from, found_from, taken_by, found_by, turned}
+use Rattle.solo.specs.Lines.{mark_of_turn}
 use Rattle.plain_scheduler.specs.State.{Due}
 use Rattle.plain_scheduler.specs.Lists.{any, without}
 use Rattle.plain_scheduler.specs.Moves.{is_common, chosen}
@@ -18,7 +21,8 @@ module _ {A : Type 0} (test : A → Bool) where
   found_any [] = refl
   found_any (x ∷ xs) = by (test x) (found_any xs)
     where
-      by : (b : Bool) → any test xs ≡ is_some (find test xs) → cond b true (any test xs) ≡ is_some (cond b (Some x) (find test xs))
+      by : (b : Bool) → any test xs ≡ is_some (find test xs) → cond b true (any test xs)
+          ≡ is_some (cond b (Some x) (find test xs))
       by true is = refl
       by false is = is
 
@@ -47,7 +51,8 @@ only false b is = refl
 
 -- one of this mark is none of the other
 apart : (m : Mark) (d : Due) → is_common m d ≡ true → is_common (other m) d ≡ false
-apart m d is = only (not (is_some d.keeper)) (same_mark (other m) d.mark) (other_mark m d.mark (both (not (is_some d.keeper)) (same_mark m d.mark) is))
+apart m d is = only (not (is_some d.keeper)) (same_mark (other m) d.mark)
+    (other_mark m d.mark (both (not (is_some d.keeper)) (same_mark m d.mark) is))
 
 module _ (name : ℕ → Task) where
   abbrev name_of : Option Due → Option Task
@@ -86,7 +91,8 @@ module _ (name : ℕ → Task) where
 
   -- what is found is what is taken, and the queues stay what is due
   pub taken : (m : Mark) (l : LinesValue) (due : List Due) → Lined l due
-      → ((found_from m l).task ≡ name_of (find (chosen (tests m) due) due)) × Lined (taken_from m l) (without (chosen (tests m) due) due)
+      → ((found_from m l).task ≡ name_of (find (chosen (tests m) due) due)) × Lined (taken_from m l)
+      (without (chosen (tests m) due) due)
   taken m l due lines = by (find (is_common m) due) refl
     where
       -- with the first test, or past it
@@ -120,7 +126,8 @@ module _ (name : ℕ → Task) where
                 (popped (other m) (popped_from m l) due left),
           )
 
-      last_by : (b : Bool) → any (is_common (other m)) due ≡ b → Same (is_common (other m)) → Same (chosen (is_common (other m) ∷ []) due)
+      last_by : (b : Bool) → any (is_common (other m)) due ≡ b → Same (is_common (other m))
+          → Same (chosen (is_common (other m) ∷ []) due)
       last_by true is same = subst (λ b. Same (λ d. cond b (is_common (other m) d) false)) (sym is) same
       last_by false is same =
           subst (λ b. Same (λ d. cond b (is_common (other m) d) false)) (sym is) (

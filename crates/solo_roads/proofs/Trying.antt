@@ -1,12 +1,14 @@
--- A take of the executor is a try of the plain scheduler: what a search finds leaves its queue, a sleeper is told, and its run begins.
--- Where it is ready to be run, and whoever fell asleep last has an outside waker.
-use Rattle.std.proofs.Common.{◌≡◌, ℕ, zero, suc, ◌<◌, ◌≤◌, if◌then◌else◌, Bool, true, false, List, [], ◌∷◌, ◌++◌, length, find}
+-- A take of the executor is a try of the plain scheduler: what a search finds leaves its queue, a sleeper is told, and its run
+-- begins.
+use Rattle.std.proofs.Common.{◌≡◌, ℕ, zero, suc, ◌<◌, ◌≤◌, ◌+◌, ◌==◌, not, cond, if◌then◌else◌, Bool, true, false, List, [], ◌∷◌}
+use Rattle.std.proofs.Common.{◌++◌, length, find}
 use Rattle.std.proofs.Common.{Option, Some, None, slice_get, slice_set, is_some, refl, sym, ap, subst, ◌∙◌}
 use Rattle.executor_parts.specs.declared.places.EntryPlace.{EntryPlace}
 use Rattle.task_moves.specs.AbstractTask as abstract
 use Rattle.task_moves.specs.AbstractTask.{AbstractTask}
 use Rattle.task_moves.specs.LocalTask as local
-use Rattle.task_moves.specs.LocalTask.{told as told_of}
+use Rattle.task_moves.specs.LocalTask.{told as told_of, is_home, is_gone, is_queued}
+use Rattle.queue_steps.specs.ClosableQueue.{most_accepted}
 use Rattle.task_moves.specs.declared.local_task.answers.Start.{Start}
 use Rattle.task_moves.specs.declared.local_task.answers.Start.TheVariants.{Poll as StartPoll, Drop as StartDrop}
 use Rattle.solo.specs.declared.names.Task.{Task}
@@ -17,18 +19,24 @@ use Rattle.solo.specs.Cells as cells
 use Rattle.solo.specs.Lines.{mark_of_turn, searched}
 use Rattle.solo.specs.Solo as solo
 use Rattle.solo.specs.Turns as turns
-use Rattle.plain_scheduler.specs.State.{Due, Future, Choice, Plain, Try, Closed, Code, Poll, Drop as DropCode, Event, Polls, Drops}
+use Rattle.plain_scheduler.specs.State.{Due, Future, Choice, Plain, Try, Closed, Code, Poll, Drop as DropCode, Event, Polls}
+use Rattle.plain_scheduler.specs.State.{Drops}
 use Rattle.plain_scheduler.specs.Lists.{without, or}
 use Rattle.plain_scheduler.specs.Moves.{put, task, tell, chosen, enters, see}
 use Rattle.plain_scheduler.specs.Takes as takes
-use Rattle.solo_roads.specs.Road.{TaskIs, IsOver, Follows, Lined, tests, name_of, wakes}
-use Rattle.solo_roads.specs.Alike.{IsOutside, IsReady, TakesAlike}
+use Rattle.solo_roads.specs.Road.{IsTaskOf, IsOver, FollowsBut, Follows, IsQueued, Lined, HasLife, stands, once, is_forgotten}
+use Rattle.solo_roads.specs.Road.{count_of, tests, name_of, wakes}
+use Rattle.solo_roads.specs.Alike.{TakesAlike}
 use Rattle.solo_roads.proofs.Lists.{get_below}
-use Rattle.solo_roads.proofs.Cells.{found, of_found, asks_found}
-use Rattle.solo_roads.proofs.Changing.{task_is, put_is, turned}
+use Rattle.solo_roads.proofs.Cells.{found, of_found, asks_found, same_number}
+use Rattle.solo_roads.proofs.Due.{clash, both_true, and_true, not_true, not_false, later, equal, stood, once_without}
+use Rattle.solo_roads.proofs.Due.{found_stands, found_gone}
+use Rattle.solo_roads.proofs.Tasks.{queued_idle}
+use Rattle.solo_roads.proofs.Lines.{searched_same}
+use Rattle.solo_roads.proofs.Changing.{task_is, put_is, kept, turned}
 use Rattle.solo_roads.proofs.Taking.{searched_alike, found_any, without_none}
 use Rattle.solo_roads.proofs.Telling.{told}
-use Rattle.solo_roads.proofs.Waking.{stays}
+use Rattle.solo_roads.proofs.Using.{stays}
 
 set_same_one : {B : Type 0} (xs : List B) (i : ℕ) (x : B) → slice_get xs i ≡ Some x → slice_set xs i x ≡ xs
 set_same_one [] i x is = refl
@@ -63,86 +71,115 @@ module _ {T A : Type 0} where
       ∙ ap (λ fs. record p { futures = fs })
       (ap (slice_set p.futures f) same ∙ set_same_one p.futures f x.0 x.1)
 
+  not_idle : (t : AbstractTask T A) → is_queued t.phase ≡ true → abstract.is_idle (abstract.begin_run t).phase ≡ true → ⊥
+  not_idle t queued is = by t.closed is
+    where
+      by : (b : Bool) → abstract.is_idle (if b then t else record t { phase = abstract.Phase.Polling }).phase ≡ true → ⊥
+      by true idle = clash (queued_idle t.phase queued) idle
+      by false idle = absurd cc
+
+  still_reached : (t : AbstractTask T A) → is_forgotten t ≡ false → is_forgotten (abstract.begin_run t) ≡ false
+  still_reached t is = by t.closed
+    where
+      by : (b : Bool) → is_forgotten (if b then t else record t { phase = abstract.Phase.Polling }) ≡ false
+      by true = is
+      by false = refl
+
+not_gone : (P : Type 0) (b : Bool) → is_gone (local.started {F = P} b) ≡ true → ⊥
+not_gone P true is = absurd cc
+not_gone P false is = absurd cc
+
+not_home : (P : Type 0) (b : Bool) → is_home (local.started {F = P} b) ≡ true → ⊥
+not_home P true is = absurd cc
+not_home P false is = absurd cc
+
+module _ {T X : Type 0} where
+  -- a task that is ready is begun
+  started_is : (v : Kept T X) (x : Future T (SoloWaker X)) → IsTaskOf v x → cells.may_start v ≡ true
+      → IsTaskOf (cells.started v) (record x { task = told_of (abstract.begin_run x.task) })
+  started_is v x of may =
+      let queued : is_queued x.task.phase ≡ true =
+      ap (λ (t : AbstractTask T (SoloWaker X)). is_queued t.phase) (sym of.task)
+      ∙ (both_true (is_home v.future) (is_queued v.task.phase) may).1 in
+      let turns_to : cells.started v ≡ record v { task = abstract.begin_run v.task; future = local.started v.task.closed } =
+      ap (λ b. choose b (record v { task = abstract.begin_run v.task; future = local.started v.task.closed }) v) may in
+      subst (λ w. IsTaskOf w (record x { task = told_of (abstract.begin_run x.task) })) (sym turns_to)
+      (record {
+        task = ap abstract.begin_run of.task ∙ untold (abstract.begin_run x.task) (begun_infos x.task of.told);
+        mark = of.mark;
+        told = refl;
+        idle = λ idle. absurd (not_idle x.task queued idle);
+        done = λ gone. absurd (not_gone EntryPlace v.task.closed gone);
+        reached = still_reached x.task of.reached;
+        there = λ home. absurd (not_home EntryPlace v.task.closed home);
+      })
+
 module _ {F T X : Type 0} (name : ℕ → Task) where
-  out : (o : Option (Start EntryPlace)) (s : Solo F T X) (p : Plain T (SoloWaker X)) → Follows name s p → Follows name (turns.out_of o s) p
+  out : (o : Option (Start EntryPlace)) (s : Solo F T X) (p : Plain T (SoloWaker X)) → Follows name s p
+      → Follows name (turns.out_of o s) p
   out None s p r = r
   out (Some (StartPoll place)) s p r = record {
     numbered = r.numbered;
     tasks = r.tasks;
-    lines = r.lines;
-    wakers = r.wakers;
-    count = r.count;
-    flag = r.flag;
+    within = r.within;
+    queued = r.queued;
+    once = r.once;
+    ready = r.ready;
+    asleep = r.asleep;
   }
   out (Some (StartDrop place)) s p r = record {
     numbered = r.numbered;
     tasks = r.tasks;
-    lines = r.lines;
-    wakers = r.wakers;
-    count = r.count;
-    flag = r.flag;
+    within = r.within;
+    queued = r.queued;
+    once = r.once;
+    ready = r.ready;
+    asleep = r.asleep;
   }
 
   -- what is only seen, and the users' code in which calls stand, are nothing to the executor
-  seen : (s : Solo F T X) (p : Plain T (SoloWaker X)) (events : List (Event T (SoloWaker X))) (inside : List (Code T (SoloWaker X)))
+  seen : (s : Solo F T X) (p : Plain T (SoloWaker X)) (events : List (Event T (SoloWaker X)))
+      (inside : List (Code T (SoloWaker X)))
       → Follows name s p → Follows name s (record p { events = events; inside = inside })
   seen s p events inside r = record {
     numbered = r.numbered;
     tasks = r.tasks;
-    lines = r.lines;
-    wakers = r.wakers;
-    count = r.count;
-    flag = r.flag;
+    within = r.within;
+    queued = r.queued;
+    once = r.once;
+    ready = r.ready;
+    asleep = r.asleep;
   }
 
   -- the run of a task that is ready begins in both
-  begun : (c : Choice) (f : ℕ) (s : Solo F T X) (p : Plain T (SoloWaker X)) → f < length p.futures
+  begun : (c : Choice) (f : ℕ) (s : Solo F T X) (p : Plain T (SoloWaker X)) → f < length p.futures → stands f p.due ≡ false
       → asked cells.may_start false (name f) s.cells ≡ true → Follows name s p
       → Follows name (turns.begun (name f) s) (takes.run wakes c f Try p)
-  begun c f s p at ready r =
+  begun c f s p at gone ready r =
       out (asked cells.start_answer None (name f) s.cells) (turns.turned cells.started (name f) s) (takes.run wakes c f Try p)
       (by (task f p).closed refl)
     where
       there : (v : Kept T X) → found (name f) s.cells ≡ Some v → cells.may_start v ≡ true
-      there v is = sym (ap (of_found cells.may_start false) is) ∙ (sym (asks_found cells.may_start false (name f) s.cells) ∙ ready)
-
-      same : (v : Kept T X) → found (name f) s.cells ≡ Some v → TaskIs (Some v) (slice_get p.futures f)
-      same v is = subst (λ o. TaskIs o (slice_get p.futures f)) is (r.tasks f at)
-
-      of_task : (o : Option (Future T (SoloWaker X))) (v : Kept T X) → TaskIs (Some v) o → v.task.infos ≡ []
-      of_task (Some x) v is = ap (λ (t : AbstractTask T (SoloWaker X)). t.infos) is.0 ∙ is.2
-      of_task None v is = absurd is
-
-      goes : (v : Kept T X) → found (name f) s.cells ≡ Some v
-          → ((cells.started v).task ≡ told_of (abstract.begin_run v.task)) × ((cells.started v).metadata ≡ v.metadata)
-      goes v is =
-          let none : v.task.infos ≡ [] = of_task (slice_get p.futures f) v (same v is) in
-          let turns_to : cells.started v ≡ record v { task = abstract.begin_run v.task; future = local.started v.task.closed } =
-          ap (λ b. choose b (record v { task = abstract.begin_run v.task; future = local.started v.task.closed }) v) (there v is) in (
-            ap (λ (w : Kept T X). w.task) turns_to ∙ untold (abstract.begin_run v.task) (begun_infos v.task none),
-            ap (λ (w : Kept T X). w.metadata) turns_to,
-          )
+      there v is = sym (ap (of_found cells.may_start false) is)
+          ∙ (sym (asks_found cells.may_start false (name f) s.cells) ∙ ready)
 
       next : Follows name (turns.turned cells.started (name f) s) (put f (abstract.begin_run (task f p)) p)
       next =
-          turned name cells.started abstract.begin_run (stays abstract.begin_run over_begun) f s p at goes r
+          turned None name cells.started abstract.begin_run (stays abstract.begin_run over_begun) f s p at
+          (λ v x here is of. (started_is v x of (there v here), λ due start. absurd (clash gone due))) r
 
-      infos : (o : Option (Kept T X)) → found (name f) s.cells ≡ o → (task f p).infos ≡ []
-      infos (Some v) is =
-          let x = get_below p.futures f at in
-          ap (λ (t : AbstractTask T (SoloWaker X)). t.infos) (task_is f p x.0 x.1)
-          ∙ (subst (λ o. TaskIs (Some v) o) x.1 (same v is)).2
-      infos None is =
-          let no : false ≡ true =
-          sym (ap (of_found cells.may_start false) is) ∙ (sym (asks_found cells.may_start false (name f) s.cells) ∙ ready) in
-          absurd cc
+      infos : (task f p).infos ≡ []
+      infos =
+          let k = kept None name cells.may_start f s p r at ready in
+          let of : IsTaskOf k.0 k.1 = k.5 in
+          ap (λ (t : AbstractTask T (SoloWaker X)). t.infos) (task_is f p k.1 k.3) ∙ of.told
 
       by : (b : Bool) → (task f p).closed ≡ b
           → Follows name (turns.turned cells.started (name f) s) (takes.run wakes c f Try p)
       by true is =
           let still : put f (abstract.begin_run (task f p)) p ≡ p =
           ap (λ b. put f (if b then task f p else record (task f p) { phase = abstract.Phase.Polling }) p) is
-          ∙ put_same f p at (infos (found (name f) s.cells) refl) in
+          ∙ put_same f p at infos in
           subst (λ b. Follows name (turns.turned cells.started (name f) s)
           (if b then takes.dropping wakes c f Closed Try p
           else enters (Poll f Try) (see (Polls f) (put f (abstract.begin_run (task f p)) p)))) (sym is)
@@ -155,15 +192,66 @@ module _ {F T X : Type 0} (name : ℕ → Task) where
           else enters (Poll f Try) (see (Polls f) (put f (abstract.begin_run (task f p)) p)))) (sym is)
           (seen (turns.turned cells.started (name f) s) q (q.events ++ Polls f ∷ []) (Poll f Try ∷ q.inside) next)
 
+  -- one that was taken is put aside no more
+  forget : (d : Due) (s : Solo F T X) (p : Plain T (SoloWaker X)) → FollowsBut (Some d) name s p → Follows name s p
+  forget d s p r = record {
+    numbered = r.numbered;
+    tasks = r.tasks;
+    within = r.within;
+    queued = r.queued;
+    once = (both_true (not (stands d.future p.due)) (once p.due) r.once).1;
+    ready = λ j due. r.ready j (later (j == d.future) (stands j p.due) due);
+    asleep = r.asleep;
+  }
+
   -- a take
   pub taken : (c : Choice) (s : Solo F T X) (p : Plain T (SoloWaker X)) → c.first ≡ mark_of_turn s.lines.turn
-      → length p.lying ≤ c.tells → IsReady name c s p → IsOutside s → Follows name s p
-      → Follows name (solo.taken s) (takes.take wakes c Try p)
-  taken c s p turn many ready outside r =
+      → length p.lying ≤ c.tells → HasLife 1 s.lines → Follows name s p → Follows name (solo.taken s) (takes.take wakes c Try p)
+  taken c s p turn many life r =
       let alike = subst (λ m. ((solo.sought s) ≡ name_of name (find (chosen (tests m) p.due) p.due))
-      × Lined name (searched s.lines) (without (chosen (tests m) p.due) p.due)) (sym turn) (searched_alike name s.lines p.due r.lines) in
+      × Lined name (searched s.lines) (without (chosen (tests m) p.due) p.due)) (sym turn)
+      (searched_alike name s.lines p.due r.queued.lines) in
       by (find (chosen (tests c.first) p.due) p.due) refl alike.0 alike.1
     where
+      queued : (due : List Due) → Lined name (searched s.lines) due → IsQueued name p.limit (searched s.lines) due
+      queued due lines = record {
+        lines = lines;
+        unclosed = λ mark. searched_same (λ q. q.closed) (λ q. refl) mark s.lines ∙ r.queued.unclosed mark;
+        limit = λ mark. searched_same (λ q. q.capacity) (λ q. refl) mark s.lines ∙ r.queued.limit mark;
+      }
+
+      lives : HasLife 1 (searched s.lines)
+      lives mark =
+          subst (λ n. n + 1 ≤ most_accepted) (sym (searched_same (λ q. count_of q.accepted) (λ q. refl) mark s.lines)) (life mark)
+
+      was : (d : Due) → find (chosen (tests c.first) p.due) p.due ≡ Some d → (b : Bool) (j : ℕ)
+          → cond (j == d.future) true (stands j (without (chosen (tests c.first) p.due) p.due)) ≡ true → (j == d.future) ≡ b
+          → stands j p.due ≡ true
+      was d is true j due same =
+          let one : j ≡ d.future = same_number j d.future same in
+          subst (λ n. stands n p.due ≡ true) (sym one) (found_stands (chosen (tests c.first) p.due) p.due d is)
+      was d is false j due same =
+          stood (chosen (tests c.first) p.due) j p.due
+          (sym (ap (λ b. cond b true (stands j (without (chosen (tests c.first) p.due) p.due))) same) ∙ due)
+
+      popped : (d : Due) → find (chosen (tests c.first) p.due) p.due ≡ Some d
+          → Lined name (searched s.lines) (without (chosen (tests c.first) p.due) p.due)
+          → FollowsBut (Some d) name (solo.popped s) (record p { due = without (chosen (tests c.first) p.due) p.due })
+      popped d is lines = record {
+        numbered = r.numbered;
+        tasks = r.tasks;
+        within = r.within;
+        queued = queued (without (chosen (tests c.first) p.due) p.due) lines;
+        once =
+            and_true (not (stands d.future (without (chosen (tests c.first) p.due) p.due)))
+            (once (without (chosen (tests c.first) p.due) p.due))
+            (not_false (stands d.future (without (chosen (tests c.first) p.due) p.due))
+            (found_gone (chosen (tests c.first) p.due) p.due d is r.once))
+            (once_without (chosen (tests c.first) p.due) p.due r.once);
+        ready = λ j due. r.ready j (was d is (j == d.future) j due refl);
+        asleep = r.asleep;
+      }
+
       by : (o : Option Due) → find (chosen (tests c.first) p.due) p.due ≡ o
           → solo.sought s ≡ name_of name (find (chosen (tests c.first) p.due) p.due)
           → Lined name (searched s.lines) (without (chosen (tests c.first) p.due) p.due)
@@ -171,37 +259,37 @@ module _ {F T X : Type 0} (name : ℕ → Task) where
       by None is sought lines =
           let none : without (chosen (tests c.first) p.due) p.due ≡ p.due =
           without_none (chosen (tests c.first) p.due) p.due (found_any (chosen (tests c.first) p.due) p.due ∙ ap is_some is) in
-          subst (λ o. Follows name (solo.taken_by o (solo.popped s)) (takes.take wakes c Try p)) (sym (sought ∙ ap (name_of name) is))
+          subst (λ o. Follows name (solo.taken_by o (solo.popped s)) (takes.take wakes c Try p))
+          (sym (sought ∙ ap (name_of name) is))
           (subst (λ o. Follows name (solo.popped s)
-          (or o (λ d. takes.takes wakes c Try d (record p { due = without (chosen (tests c.first) p.due) p.due })) (takes.nothing wakes c Try p)))
+          (or o (λ d. takes.takes wakes c Try d (record p { due = without (chosen (tests c.first) p.due) p.due }))
+          (takes.nothing wakes c Try p)))
           (sym is)
           (record {
             numbered = r.numbered;
             tasks = r.tasks;
-            lines = subst (Lined name (searched s.lines)) none lines;
-            wakers = r.wakers;
-            count = r.count;
-            flag = r.flag;
+            within = r.within;
+            queued = queued p.due (subst (Lined name (searched s.lines)) none lines);
+            once = r.once;
+            ready = r.ready;
+            asleep = r.asleep;
           }))
       by (Some d) is sought lines =
-          let can = ready d is in
-          let popped : Follows name (solo.popped s) (record p { due = without (chosen (tests c.first) p.due) p.due }) =
-          record {
-            numbered = r.numbered;
-            tasks = r.tasks;
-            lines = lines;
-            wakers = r.wakers;
-            count = r.count;
-            flag = r.flag;
-          } in
-          subst (λ o. Follows name (solo.taken_by o (solo.popped s)) (takes.take wakes c Try p)) (sym (sought ∙ ap (name_of name) is))
+          let q : Plain T (SoloWaker X) = tell wakes c (record p { due = without (chosen (tests c.first) p.due) p.due }) in
+          let told_both : FollowsBut (Some d) name (turns.told (solo.popped s)) q =
+          told (Some d) name c (solo.popped s) (record p { due = without (chosen (tests c.first) p.due) p.due }) many
+          (popped d is lines) lives in
+          let can = told_both.ready d.future (ap (λ b. cond b true (stands d.future q.due)) (equal d.future d.future refl)) in
+          let gone : stands d.future q.due ≡ false =
+          not_true (stands d.future q.due) (both_true (not (stands d.future q.due)) (once q.due) told_both.once).0 in
+          subst (λ o. Follows name (solo.taken_by o (solo.popped s)) (takes.take wakes c Try p))
+          (sym (sought ∙ ap (name_of name) is))
           (subst (λ o. Follows name (turns.begun (name d.future) (turns.told (solo.popped s)))
-          (or o (λ d. takes.takes wakes c Try d (record p { due = without (chosen (tests c.first) p.due) p.due })) (takes.nothing wakes c Try p)))
+          (or o (λ d. takes.takes wakes c Try d (record p { due = without (chosen (tests c.first) p.due) p.due }))
+          (takes.nothing wakes c Try p)))
           (sym is)
-          (begun c d.future (turns.told (solo.popped s))
-          (tell wakes c (record p { due = without (chosen (tests c.first) p.due) p.due })) can.0 can.1
-          (told name c (solo.popped s) (record p { due = without (chosen (tests c.first) p.due) p.due }) many popped outside)))
+          (begun c d.future (turns.told (solo.popped s)) q can.0 gone can.1 (forget d (turns.told (solo.popped s)) q told_both)))
 
 pub takes_alike : {F T X : Type 0} (name : ℕ → Task) (s : Solo F T X) (p : Plain T (SoloWaker X)) → Follows name s p
     → TakesAlike name s p
-takes_alike name s p r c turn many ready outside = taken name c s p turn many ready outside r
+takes_alike name s p r c turn many life = taken name c s p turn many life r

@@ -1,43 +1,40 @@
--- What calls of an executor of one owner and of the plain scheduler have in common.
-use Rattle.std.specs.Prelude.{◌≡◌, ℕ, ◌<◌, ◌≤◌, true, false, length, find, Some}
-use Rattle.executor_parts.specs.Sleepers.{last_waker}
+-- What calls of an executor of one owner and of the plain scheduler have in common: where both stand alike they leave both alike.
+-- The
+-- plain scheduler is told by its choices what the executor does: who lay down last is told, and the turn names the mark.
+use Rattle.std.specs.Prelude.{◌≡◌, ℕ, ◌<◌, ◌≤◌, length}
+use Rattle.task_moves.specs.AbstractTask as abstract
 use Rattle.solo.specs.declared.names.Task.{Task}
 use Rattle.solo.specs.declared.names.SoloWaker.{SoloWaker}
-use Rattle.solo.specs.declared.names.SoloWaker.TheVariants.{Task as OfTask}
 use Rattle.solo.specs.declared.solo.Solo.{Solo}
-use Rattle.solo.specs.Cells.{asked}
-use Rattle.solo.specs.Cells as cells
 use Rattle.solo.specs.Lines.{mark_of_turn}
 use Rattle.solo.specs.Solo as solo
-use Rattle.solo.specs.Turns as turns
-use Rattle.plain_scheduler.specs.State.{Due, Choice, Plain, Try}
-use Rattle.plain_scheduler.specs.Lists.{without}
-use Rattle.plain_scheduler.specs.Moves.{tell, chosen, wake}
+use Rattle.plain_scheduler.specs.State.{Choice, Plain, Try}
+use Rattle.plain_scheduler.specs.Moves.{task, tell, becomes, wake, release, used}
 use Rattle.plain_scheduler.specs.Takes as takes
-use Rattle.solo_roads.specs.Road.{Follows, tests, wakes}
+use Rattle.solo_roads.specs.Road.{Follows, HasLife, wakes}
 
-module _ {F T X : Type 0} where
-  -- whoever fell asleep last has an outside waker
-  abbrev pub IsOutside : Solo F T X → Type 0
-  IsOutside s = (t : Task) → last_waker s.sleepers.wakers ≡ Some (OfTask t) → ⊥
+module _ {F T X : Type 0} (name : ℕ → Task) (s : Solo F T X) (p : Plain T (SoloWaker X)) where
+  -- a take is a try
+  abbrev pub TakesAlike : Type 0
+  TakesAlike =
+      (c : Choice) → c.first ≡ mark_of_turn s.lines.turn → length p.lying ≤ c.tells → HasLife 1 s.lines
+      → Follows name (solo.taken s) (takes.take wakes c Try p)
 
-  module _ (name : ℕ → Task) where
-    -- what a search finds is ready to be run, once a sleeper is told
-    abbrev pub IsReady : Choice → Solo F T X → Plain T (SoloWaker X) → Type 0
-    IsReady c s p =
-        (d : Due) → find (chosen (tests c.first) p.due) p.due ≡ Some d
-        → (d.future < length (tell wakes c (record p { due = without (chosen (tests c.first) p.due) p.due })).futures)
-        × (asked cells.may_start false (name d.future) (turns.told (solo.popped s)).cells ≡ true)
+  -- a call on a task: what the executor's does, and the plain scheduler's with one that is told
+  abbrev pub CallsAlike : (Task → Solo F T X → Solo F T X) → ((Plain T (SoloWaker X) → Plain T (SoloWaker X)) → ℕ
+      → Plain T (SoloWaker X) → Plain T (SoloWaker X)) → Type 0
+  CallsAlike call does =
+      (c : Choice) (f : ℕ) → f < length p.futures → length p.lying ≤ c.tells → HasLife 2 s.lines
+      → Follows name (call (name f) s) (does (tell wakes c) f p)
 
-    -- a take is a try, where the turn names the mark and the sleeper who lay down last is told
-    abbrev pub TakesAlike : Solo F T X → Plain T (SoloWaker X) → Type 0
-    TakesAlike s p =
-        (c : Choice) → c.first ≡ mark_of_turn s.lines.turn → length p.lying ≤ c.tells → IsReady c s p → IsOutside s
-        → Follows name (solo.taken s) (takes.take wakes c Try p)
+  abbrev pub WakesAlike : Type 0
+  WakesAlike = CallsAlike solo.woken (wake wakes)
 
-    -- a wake is a wake, where the task's queue has a place
-    abbrev pub WakesAlike : Solo F T X → Plain T (SoloWaker X) → Type 0
-    WakesAlike s p =
-        (c : Choice) (f : ℕ) → f < length p.futures → length p.lying ≤ c.tells
-        → turns.takes (name f) (turns.turned cells.woken (name f) s) ≡ true → IsOutside s
-        → Follows name (solo.woken (name f) s) (wake wakes (tell wakes c) f p)
+  abbrev pub ReleasesAlike : Type 0
+  ReleasesAlike = CallsAlike solo.released (release wakes)
+
+  abbrev pub UsesAlike : Type 0
+  UsesAlike = CallsAlike solo.woken_and_released (used wakes)
+
+  abbrev pub CancelsAlike : Type 0
+  CancelsAlike = CallsAlike solo.cancelled (λ more f p. becomes wakes more f (abstract.cancel (task f p)).task p)

@@ -1,5 +1,8 @@
 -- When an executor of one owner stands where the plain scheduler does: tasks, queues and sleepers are those of its lists.
-use Rattle.std.specs.Prelude.{◌≡◌, ℕ, ◌<◌, Bool, true, false, List, [], ◌∷◌, length, map, filter, find, slice_get, Option, Some, None}
+use Rattle.std.specs.Prelude.{◌≡◌, ℕ, ◌+◌, ◌<◌, ◌≤◌, ◌==◌, Bool, true, false, ◌&&◌, ◌||◌, not, List, [], ◌∷◌, length, map, filter}
+use Rattle.std.specs.Prelude.{find, slice_get, Option, Some, None, is_some}
+use Rattle.queue_steps.specs.ClosableQueue.{most_accepted}
+use Rattle.executor_parts.specs.Sleepers.{Sleepers}
 use Rattle.executor_parts.specs.declared.mark.Mark.{Mark}
 use Rattle.task_moves.specs.AbstractTask as abstract
 use Rattle.task_moves.specs.AbstractTask.{AbstractTask}
@@ -7,7 +10,9 @@ use Rattle.solo.specs.declared.names.Task.{Task}
 use Rattle.solo.specs.declared.names.SoloWaker.{SoloWaker}
 use Rattle.solo.specs.declared.names.SoloWaker.TheVariants.{Task as OfTask, Outside}
 use Rattle.solo.specs.declared.solo.Solo.{Solo}
-use Rattle.solo.specs.Cells.{Kept, asked}
+use Rattle.solo.specs.Cells.{Kept, asked, may_start}
+use Rattle.task_moves.specs.LocalTask.{is_home, is_gone}
+use Rattle.plain_scheduler.specs.Calls.{living_from}
 use Rattle.executor_parts.specs.Marks.{other}
 use Rattle.solo.specs.Lines.{LinesValue, line_of, mark_of_turn, searched, search_answer}
 use Rattle.plain_scheduler.specs.State.{Due, Future, Lying, Plain}
@@ -44,12 +49,39 @@ pub record IsOver {T A : Type 0} (t : AbstractTask T A) : Type 0 where
   pub output : t.output ≡ None
   pub awaiter : t.awaiter ≡ None
 
+module _ {T A : Type 0} where
+  -- nobody can wake it or ask for it, and it waits for a wake
+  abbrev pub is_forgotten : AbstractTask T A → Bool
+  is_forgotten t = abstract.is_idle t.phase && (not t.closed && (not t.handle && (t.wakers == 0)))
+
+  -- it is over, and closed but for an output that is still to be given
+  abbrev pub is_done : AbstractTask T A → Bool
+  is_done t = abstract.is_over t.phase && (t.closed || is_some t.output)
+
 module _ {T X : Type 0} where
-  -- the task of a name is that of the future, and was told of each queueing; where it is gone, that is over
+  -- a task as it is kept is that of the future, and was told of each queueing; and where its future is fits
+  pub record IsTaskOf (v : Kept T X) (f : Future T (SoloWaker X)) : Type 0 where
+    pub task : v.task ≡ f.task
+    pub mark : v.metadata ≡ f.mark
+    pub told : f.task.infos ≡ []
+    pub idle : abstract.is_idle f.task.phase ≡ true → is_home v.future ≡ true
+    pub done : is_gone v.future ≡ true → is_done f.task ≡ true
+    pub reached : is_forgotten f.task ≡ false
+    pub there : is_home v.future ≡ true → f.is_dropped ≡ false
+
+  -- where it is gone, that of the future is over
   abbrev pub TaskIs : Option (Kept T X) → Option (Future T (SoloWaker X)) → Type 0
-  TaskIs (Some v) (Some f) = (v.task ≡ f.task) × (v.metadata ≡ f.mark) × (f.task.infos ≡ [])
+  TaskIs (Some v) (Some f) = IsTaskOf v f
   TaskIs None (Some f) = IsOver f.task
   TaskIs _ None = ⊥
+
+-- whether a future is due, and whether each is at most once
+abbrev pub stands : ℕ → List Due → Bool
+stands f due = any (λ d. f == d.future) due
+
+abbrev pub once : List Due → Bool
+once [] = true
+once (d ∷ ds) = not (stands d.future ds) && once ds
 
 abbrev pub named : (ℕ → Task) → Due → Task
 named name d = name d.future
@@ -73,11 +105,46 @@ module _ (name : ℕ → Task) where
       let test = chosen (tests (mark_of_turn l.turn)) due in
       ((search_answer l).task ≡ name_of (find test due)) × Lined (searched l) (without test due)
 
+-- the queues are what is due, open, and as long as the limit
+pub record IsQueued (name : ℕ → Task) (most : ℕ) (l : LinesValue) (due : List Due) : Type 0 where
+  pub lines : Lined name l due
+  pub unclosed : (mark : Mark) → (line_of mark l).closed ≡ false
+  pub limit : (mark : Mark) → (line_of mark l).capacity ≡ Some most
+
+-- who sleeps is who lies; a task's waker is one of these many
+pub record IsAsleep {X : Type 0} (name : ℕ → Task) (many : ℕ) (s : Sleepers (SoloWaker X)) (notified : Bool)
+    (lying : List (Lying (SoloWaker X))) : Type 0 where
+  pub wakers : map (λ e. e.1) s.wakers ≡ wakers_in lying
+  pub count : s.count ≡ length lying
+  pub flag : notified ≡ is_told lying
+  pub callers : (at : ℕ) (t : Task) → slice_get (wakers_in lying) at ≡ Some (OfTask t) → (t.number < many) × (name t.number ≡ t)
+
+-- what is due, and one that was taken, if one was
+abbrev pub beside : Option Due → List Due → List Due
+beside None due = due
+beside (Some d) due = d ∷ due
+
 -- by the names that futures have in the executor, of which each has one of its own
-pub record Follows {F T X : Type 0} (name : ℕ → Task) (s : Solo F T X) (p : Plain T (SoloWaker X)) : Type 0 where
+pub record FollowsBut {F T X : Type 0} (aside : Option Due) (name : ℕ → Task) (s : Solo F T X)
+    (p : Plain T (SoloWaker X)) : Type 0 where
   pub numbered : (f : ℕ) → f < length p.futures → (name f).number ≡ f
   pub tasks : (f : ℕ) → f < length p.futures → TaskIs (asked Some None (name f) s.cells) (slice_get p.futures f)
-  pub lines : (mark : Mark) → (line_of mark s.lines).items ≡ map (named name) (filter (is_common mark) p.due)
-  pub wakers : map (λ e. e.1) s.sleepers.wakers ≡ wakers_in p.lying
-  pub count : s.sleepers.count ≡ length p.lying
-  pub flag : s.notified ≡ is_told p.lying
+  pub within : length (living_from 0 p.futures) ≤ p.limit
+  pub queued : IsQueued name p.limit s.lines p.due
+  -- each is due once, and ready to be run
+  pub once : once (beside aside p.due) ≡ true
+  pub ready : (f : ℕ) → stands f (beside aside p.due) ≡ true → (f < length p.futures) ×
+      (asked may_start false (name f) s.cells ≡ true)
+  pub asleep : IsAsleep name (length p.futures) s.sleepers s.notified p.lying
+
+abbrev pub Follows : {F T X : Type 0} → (ℕ → Task) → Solo F T X → Plain T (SoloWaker X) → Type 0
+Follows name s p = FollowsBut None name s p
+
+-- how many tasks a queue has accepted, if it counts them
+abbrev pub count_of : Option ℕ → ℕ
+count_of None = 0
+count_of (Some n) = n
+
+-- so many more tasks are fewer than a queue accepts in its life
+abbrev pub HasLife : ℕ → LinesValue → Type 0
+HasLife more l = (mark : Mark) → count_of (line_of mark l).accepted + more ≤ most_accepted

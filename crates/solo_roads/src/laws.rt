@@ -8,7 +8,7 @@ ghost use Rattle.solo.specs.declared.names.Task.{Task};
 ghost use Rattle.solo.specs.declared.solo.Solo.{Solo};
 ghost use Rattle.plain_scheduler.specs.Calls.{new};
 ghost use Rattle.plain_scheduler.specs.State.{Due, Plain};
-ghost use Rattle.solo_roads.specs.Alike.{TakesAlike, WakesAlike};
+ghost use Rattle.solo_roads.specs.Alike.{TakesAlike, WakesAlike, ReleasesAlike, UsesAlike, CancelsAlike};
 ghost use Rattle.solo_roads.specs.Road.{Follows, Lined, SearchesAlike};
 
 /// A new executor stands where the new plain scheduler does.
@@ -17,13 +17,16 @@ pub fn both_begin_alike<F, T, X>()
         → Follows name s (new limit is_static) }
 {}
 
-/// As long as the two queues are what is due without a keeper, by marks and in order, a search of them finds what the plain scheduler
+/// As long as the two queues are what is due without a keeper, by marks and in order, a search of them finds what the plain
+/// scheduler
 /// takes where it looks first at the mark that the turn names; and the queues are again what is due.
 pub fn a_search_takes_what_is_due()
     ensures { (name : ℕ → Task) (lines : LinesValue) (due : List Due) → Lined name lines due → SearchesAlike name lines due }
 {}
 
-/// Where both stand alike, a take leaves them alike: it is a try of the plain scheduler.
+/// Where both stand alike, a take leaves them alike: it is a try of the plain scheduler. Here and below the plain scheduler tells
+/// who
+/// lay down last, and fewer tasks came into a queue than it accepts in its life.
 pub fn a_take_is_a_try<F, T, X>()
     ensures { (name : ℕ → Task) (s : Solo F T X) (p : Plain T (SoloWaker X)) → Follows name s p → TakesAlike name s p }
 {}
@@ -31,4 +34,15 @@ pub fn a_take_is_a_try<F, T, X>()
 /// And so does a wake.
 pub fn a_wake_is_a_wake<F, T, X>()
     ensures { (name : ℕ → Task) (s : Solo F T X) (p : Plain T (SoloWaker X)) → Follows name s p → WakesAlike name s p }
+{}
+
+/// So does the drop of a task's waker, and a wake by one that then goes.
+pub fn a_waker_goes_alike<F, T, X>()
+    ensures { (name : ℕ → Task) (s : Solo F T X) (p : Plain T (SoloWaker X)) → Follows name s p
+        → ReleasesAlike name s p × UsesAlike name s p }
+{}
+
+/// So does a cancel; who awaited the task is called by the executor's owner.
+pub fn a_cancel_is_a_cancel<F, T, X>()
+    ensures { (name : ℕ → Task) (s : Solo F T X) (p : Plain T (SoloWaker X)) → Follows name s p → CancelsAlike name s p }
 {}

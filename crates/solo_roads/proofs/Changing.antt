@@ -36,13 +36,13 @@ module _ {T A : Type 0} where
       is
 
 module _ {T X : Type 0} (g : Kept T X → Kept T X) (h : AbstractTask T (SoloWaker X) → AbstractTask T (SoloWaker X)) where
-  here_is : ((t : AbstractTask T (SoloWaker X)) → IsOver t → IsOver (told (h t)))
-      → (o : Option (Kept T X)) (x : Future T (SoloWaker X))
+  here_is : (o : Option (Kept T X)) (x : Future T (SoloWaker X)) (t : AbstractTask T (SoloWaker X))
+      → (o ≡ None → IsOver t → IsOver (told (h t)))
       → ((v : Kept T X) → o ≡ Some v → IsTaskOf v x → IsTaskOf (g v) (record x { task = told (h x.task) }))
-      → (t : AbstractTask T (SoloWaker X)) → t ≡ x.task → TaskIs o (Some x)
+      → t ≡ x.task → TaskIs o (Some x)
       → TaskIs (changed_found g o) (Some (record x { task = told (h t) }))
-  here_is over None x goes t same is = over t (subst IsOver (sym same) is)
-  here_is over (Some v) x goes t same is =
+  here_is None x t over goes same is = over refl (subst IsOver (sym same) is)
+  here_is (Some v) x t over goes same is =
       subst (λ t. IsTaskOf (g v) (record x { task = told (h t) })) (sym same) (goes v refl is)
 
 module _ {F T X : Type 0} (aside : Option Due) (name : ℕ → Task) where
@@ -57,8 +57,11 @@ module _ {F T X : Type 0} (aside : Option Due) (name : ℕ → Task) where
       let x = get_below p.futures f at in
       (v.0, x.0, v.1, x.1, v.2, subst (λ o. TaskIs o (Some x.0)) v.1 (subst (TaskIs (found (name f) s.cells)) x.1 (r.tasks f at)))
 
-  module _ (g : Kept T X → Kept T X) (h : AbstractTask T (SoloWaker X) → AbstractTask T (SoloWaker X))
-      (over : (t : AbstractTask T (SoloWaker X)) → IsOver t → IsOver (told (h t))) where
+  module _ (g : Kept T X → Kept T X) (h : AbstractTask T (SoloWaker X) → AbstractTask T (SoloWaker X)) where
+    -- a task that is gone stays over
+    abbrev pub StaysOver : ℕ → Solo F T X → Plain T (SoloWaker X) → Type 0
+    StaysOver f s p = found (name f) s.cells ≡ None → IsOver (task f p) → IsOver (told (h (task f p)))
+
     -- the change is one of the task's state; and where the future is due, it stays ready
     abbrev pub Goes : ℕ → Solo F T X → Plain T (SoloWaker X) → Type 0
     Goes f s p =
@@ -67,12 +70,12 @@ module _ {F T X : Type 0} (aside : Option Due) (name : ℕ → Task) where
         → IsTaskOf (g v) (record x { task = told (h x.task) })
         × (stands f (beside aside p.due) ≡ true → cells.may_start v ≡ true → cells.may_start (g v) ≡ true)
 
-    tasks_by : (s : Solo F T X) (p : Plain T (SoloWaker X)) → FollowsBut aside name s p → (f : ℕ) → Goes f s p
+    tasks_by : (s : Solo F T X) (p : Plain T (SoloWaker X)) → FollowsBut aside name s p → (f : ℕ) → StaysOver f s p → Goes f s p
         → (x : Future T (SoloWaker X)) (b : Bool) (j : ℕ)
         → f < length p.futures → j < length p.futures → slice_get p.futures f ≡ Some x → (f == j) ≡ b
         → TaskIs (found (name j) (cells.changed g (name f) s.cells))
         (slice_get (slice_set p.futures f (record x { task = told (h (task f p)) })) j)
-    tasks_by s p r f goes x true j at below is same =
+    tasks_by s p r f over goes x true j at below is same =
         let one : f ≡ j = same_number f j same in
         subst
         (λ j. TaskIs (found (name j) (cells.changed g (name f) s.cells))
@@ -82,9 +85,9 @@ module _ {F T X : Type 0} (aside : Option Due) (name : ℕ → Task) where
         (sym (set_same p.futures f (record x { task = told (h (task f p)) }) x is))
         (subst (λ o. TaskIs o (Some (record x { task = told (h (task f p)) })))
         (sym (found_here g (name f) s.cells))
-        (here_is g h over (found (name f) s.cells) x (λ v here fits. (goes v x here is fits).0) (task f p) (task_is f p x is)
+        (here_is g h (found (name f) s.cells) x (task f p) over (λ v here fits. (goes v x here is fits).0) (task_is f p x is)
         (subst (λ o. TaskIs (found (name f) s.cells) o) is (r.tasks f at)))))
-    tasks_by s p r f goes x false j at below is same =
+    tasks_by s p r f over goes x false j at below is same =
         let apart : ((name f).number == (name j).number) ≡ false =
         ap (λ n. n == (name j).number) (r.numbered f at) ∙ (ap (λ n. f == n) (r.numbered j below) ∙ same) in
         subst (λ o. TaskIs (found (name j) (cells.changed g (name f) s.cells)) o)
@@ -114,10 +117,10 @@ module _ {F T X : Type 0} (aside : Option Due) (name : ℕ → Task) where
         ∙ (sym (asks_found cells.may_start false (name j) s.cells) ∙ can.1))
 
     -- the task of a future is changed in both
-    pub turned : (f : ℕ) (s : Solo F T X) (p : Plain T (SoloWaker X)) → f < length p.futures → Goes f s p
+    pub turned : (f : ℕ) (s : Solo F T X) (p : Plain T (SoloWaker X)) → f < length p.futures → StaysOver f s p → Goes f s p
         → FollowsBut aside name s p
         → FollowsBut aside name (turns.turned g (name f) s) (put f (h (task f p)) p)
-    turned f s p at goes r =
+    turned f s p at over goes r =
         let x = get_below p.futures f at in
         let new : Future T (SoloWaker X) = record x.0 { task = told (h (task f p)) } in
         let now : List (Future T (SoloWaker X)) = slice_set p.futures f new in
@@ -125,7 +128,7 @@ module _ {F T X : Type 0} (aside : Option Due) (name : ℕ → Task) where
         subst (FollowsBut aside name (turns.turned g (name f) s)) (sym (put_is f (h (task f p)) p x.0 x.1))
         (record {
           numbered = λ j below. r.numbered j (subst (λ n. j < n) long below);
-          tasks = λ j below. tasks_by s p r f goes x.0 (f == j) j at (subst (λ n. j < n) long below) x.1 refl;
+          tasks = λ j below. tasks_by s p r f over goes x.0 (f == j) j at (subst (λ n. j < n) long below) x.1 refl;
           within = subst (λ ns. length ns ≤ p.limit) (sym (living_set p.futures 0 f x.0 new x.1 refl)) r.within;
           queued = r.queued;
           once = r.once;

@@ -1,4 +1,5 @@
 pub mod Lists
+pub mod Seeing
 pub mod Due
 pub mod Tasks
 pub mod Cells
@@ -13,4 +14,5 @@ pub mod Telling
 pub mod Waking
 pub mod Taking
 pub mod Trying
+pub mod Handling
 pub mod Beginning

@@ -1,5 +1,5 @@
 -- A task that is over, and that nobody can reach, goes.
-use Rattle.std.proofs.Common.{◌≡◌, ◌≢◌, ℕ, ◌+◌, ◌<◌, ◌==◌, ◌&&◌, ◌||◌, not, Bool, true, false, Option, Some, None, is_some}
+use Rattle.std.proofs.Common.{◌≡◌, ◌≢◌, ℕ, ◌+◌, ◌<◌, ◌==◌, ◌&&◌, ◌||◌, not, Bool, true, false, Option, Some, None, [], is_some}
 use Rattle.std.proofs.Common.{length, slice_get, slice_set}
 use Rattle.std.proofs.Common.{IsSome, refl, sym, ap, subst, ◌∙◌, arith}
 use Rattle.std.proofs.lemmas.Bool.Decides.{nat_tests}
@@ -49,8 +49,8 @@ closed_by false (Some b) none is = absurd cc
 module _ {T A : Type 0} where
   -- out of reach and done it is over
   over_of : (t : AbstractTask T A) → (is_unreachable t && (not (is_some t.output) && not (is_some t.awaiter))) ≡ true
-      → is_done t ≡ true → IsOver t
-  over_of t is done =
+      → is_done t ≡ true → t.infos ≡ [] → IsOver t
+  over_of t is done told =
       let a = both_true (is_unreachable t) (not (is_some t.output) && not (is_some t.awaiter)) is in
       let b = both_true (references_of t == 0) (not t.handle) a.0 in
       let c = both_true (not (is_some t.output)) (not (is_some t.awaiter)) a.1 in
@@ -63,6 +63,7 @@ module _ {T A : Type 0} where
         wakers = omega (arith, none);
         output = none_of t.output c.0;
         awaiter = none_of t.awaiter c.1;
+        infos = told;
       }
 
 module _ {T X : Type 0} (t : Task) where
@@ -116,7 +117,7 @@ module _ {T X : Type 0} where
       over_of x.task
       (subst (λ (t : AbstractTask T (SoloWaker X)). (is_unreachable t && (not (is_some t.output) && not (is_some t.awaiter)))
       ≡ true) of.task two.1)
-      (of.done two.0)
+      (of.done two.0) of.told
 
 module _ {F T X : Type 0} (aside : Option Due) (name : ℕ → Task) where
   pub swept : (f : ℕ) (s : Solo F T X) (p : Plain T (SoloWaker X)) → f < length p.futures → FollowsBut aside name s p

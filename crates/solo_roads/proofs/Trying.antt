@@ -28,6 +28,7 @@ use Rattle.solo_roads.specs.Road.{IsTaskOf, IsOver, FollowsBut, Follows, IsQueue
 use Rattle.solo_roads.specs.Road.{count_of, tests, name_of, wakes}
 use Rattle.solo_roads.specs.Alike.{TakesAlike}
 use Rattle.solo_roads.proofs.Lists.{get_below}
+use Rattle.solo_roads.proofs.Seeing.{seen}
 use Rattle.solo_roads.proofs.Cells.{found, of_found, asks_found, same_number}
 use Rattle.solo_roads.proofs.Due.{clash, both_true, and_true, not_true, not_false, later, equal, stood, once_without}
 use Rattle.solo_roads.proofs.Due.{found_stands, found_gone}
@@ -47,7 +48,7 @@ set_same_one (y ∷ ys) zero x is = ap (λ z. z ∷ ys) (sym (some y x is))
 set_same_one (y ∷ ys) (suc i) x is = ap (λ zs. y ∷ zs) (set_same_one ys i x is)
 
 module _ {T A : Type 0} where
-  untold : (t : AbstractTask T A) → t.infos ≡ [] → t ≡ told_of t
+  pub untold : (t : AbstractTask T A) → t.infos ≡ [] → t ≡ told_of t
   untold t is = ap (λ (infos : List Bool). record t { infos = infos }) is
 
   begun_infos : (t : AbstractTask T A) → t.infos ≡ [] → (abstract.begin_run t).infos ≡ []
@@ -61,7 +62,7 @@ module _ {T A : Type 0} where
   over_begun t is = ap (λ b. if b then t else record t { phase = abstract.Phase.Polling }) is.closed
 
   -- a task that is put where it is
-  put_same : (f : ℕ) (p : Plain T A) → f < length p.futures → (task f p).infos ≡ [] → put f (task f p) p ≡ p
+  pub put_same : (f : ℕ) (p : Plain T A) → f < length p.futures → (task f p).infos ≡ [] → put f (task f p) p ≡ p
   put_same f p at is =
       let x = get_below p.futures f at in
       let it : task f p ≡ x.0.task = task_is f p x.0 x.1 in
@@ -137,20 +138,6 @@ module _ {F T X : Type 0} (name : ℕ → Task) where
     asleep = r.asleep;
   }
 
-  -- what is only seen, and the users' code in which calls stand, are nothing to the executor
-  seen : (s : Solo F T X) (p : Plain T (SoloWaker X)) (events : List (Event T (SoloWaker X)))
-      (inside : List (Code T (SoloWaker X)))
-      → Follows name s p → Follows name s (record p { events = events; inside = inside })
-  seen s p events inside r = record {
-    numbered = r.numbered;
-    tasks = r.tasks;
-    within = r.within;
-    queued = r.queued;
-    once = r.once;
-    ready = r.ready;
-    asleep = r.asleep;
-  }
-
   -- the run of a task that is ready begins in both
   begun : (c : Choice) (f : ℕ) (s : Solo F T X) (p : Plain T (SoloWaker X)) → f < length p.futures → stands f p.due ≡ false
       → asked cells.may_start false (name f) s.cells ≡ true → Follows name s p
@@ -165,7 +152,7 @@ module _ {F T X : Type 0} (name : ℕ → Task) where
 
       next : Follows name (turns.turned cells.started (name f) s) (put f (abstract.begin_run (task f p)) p)
       next =
-          turned None name cells.started abstract.begin_run (stays abstract.begin_run over_begun) f s p at
+          turned None name cells.started abstract.begin_run f s p at (λ none. stays abstract.begin_run over_begun (task f p))
           (λ v x here is of. (started_is v x of (there v here), λ due start. absurd (clash gone due))) r
 
       infos : (task f p).infos ≡ []
@@ -183,14 +170,14 @@ module _ {F T X : Type 0} (name : ℕ → Task) where
           subst (λ b. Follows name (turns.turned cells.started (name f) s)
           (if b then takes.dropping wakes c f Closed Try p
           else enters (Poll f Try) (see (Polls f) (put f (abstract.begin_run (task f p)) p)))) (sym is)
-          (seen (turns.turned cells.started (name f) s) p (p.events ++ Drops f ∷ []) (DropCode f Closed Try ∷ p.inside)
+          (seen name (turns.turned cells.started (name f) s) p (p.events ++ Drops f ∷ []) (DropCode f Closed Try ∷ p.inside)
           (subst (Follows name (turns.turned cells.started (name f) s)) still next))
       by false is =
           let q : Plain T (SoloWaker X) = put f (abstract.begin_run (task f p)) p in
           subst (λ b. Follows name (turns.turned cells.started (name f) s)
           (if b then takes.dropping wakes c f Closed Try p
           else enters (Poll f Try) (see (Polls f) (put f (abstract.begin_run (task f p)) p)))) (sym is)
-          (seen (turns.turned cells.started (name f) s) q (q.events ++ Polls f ∷ []) (Poll f Try ∷ q.inside) next)
+          (seen name (turns.turned cells.started (name f) s) q (q.events ++ Polls f ∷ []) (Poll f Try ∷ q.inside) next)
 
   -- one that was taken is put aside no more
   forget : (d : Due) (s : Solo F T X) (p : Plain T (SoloWaker X)) → FollowsBut (Some d) name s p → Follows name s p

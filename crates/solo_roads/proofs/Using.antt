@@ -44,6 +44,7 @@ module _ {T A : Type 0} where
     wakers = is.wakers;
     output = is.output;
     awaiter = is.awaiter;
+    infos = refl;
   }
 
   pub stays : (h : AbstractTask T A → AbstractTask T A) → ((t : AbstractTask T A) → IsOver t → h t ≡ t) → (t : AbstractTask T A)
@@ -190,7 +191,7 @@ module _ {F T X : Type 0} (aside : Option Due) (name : ℕ → Task) where
 
   module _ (g : Kept T X → Kept T X) (q : Kept T X → Bool) (h : AbstractTask T (SoloWaker X) → AbstractTask T (SoloWaker X))
       (is : IsChange h) (fits : Fits g q h) where
-    goes : (f : ℕ) (s : Solo F T X) (p : Plain T (SoloWaker X)) → Goes aside name g h (stays h is.over) f s p
+    goes : (f : ℕ) (s : Solo F T X) (p : Plain T (SoloWaker X)) → Goes aside name g h f s p
     goes f s p v x here at of =
         let e = (fits v x of).0 in (
           subst (λ w. IsTaskOf w (record x { task = told_of (h x.task) })) (sym e) (changes h is v x of),
@@ -209,7 +210,7 @@ module _ {F T X : Type 0} (aside : Option Due) (name : ℕ → Task) where
       after = put f (h (task f p)) p
 
       pub next : FollowsBut aside name now after
-      next = turned aside name g h (stays h is.over) f s p at (goes f s p) r
+      next = turned aside name g h f s p at (λ gone. stays h is.over (task f p)) (goes f s p) r
 
       -- it asks as the state says
       pub asks : asked q false (name f) s.cells ≡ queues h (task f p)

@@ -1,7 +1,7 @@
 -- A change of a task that may queue it, and then a sleeper is told, is one of the plain scheduler: a wake, a cancel, a release of
 -- a
 -- waker, both a wake and a release.
-use Rattle.std.proofs.Common.{◌≡◌, ℕ, ◌<◌, ◌≤◌, Bool, false, List, length, Option, Some, None, is_some, refl, sym, ap, subst, ◌∙◌}
+use Rattle.std.proofs.Common.{◌≡◌, ℕ, ◌<◌, ◌≤◌, Bool, false, List, [], ◌∷◌, ◌++◌, length, Option, Some, None, is_some, refl, sym, ap, subst, ◌∙◌}
 use Rattle.task_moves.specs.AbstractTask as abstract
 use Rattle.task_moves.specs.AbstractTask.{AbstractTask}
 use Rattle.solo.specs.declared.names.Task.{Task}
@@ -12,10 +12,11 @@ use Rattle.solo.specs.Cells.{Kept, choose, asked}
 use Rattle.solo.specs.Cells as cells
 use Rattle.solo.specs.Solo as solo
 use Rattle.solo.specs.Turns as turns
-use Rattle.plain_scheduler.specs.State.{Due, Lying, Choice, Plain}
+use Rattle.plain_scheduler.specs.State.{Due, Lying, Choice, Plain, Answers, Done}
 use Rattle.plain_scheduler.specs.Moves.{task, put, appended, tell, becomes, wake, release, used}
 use Rattle.solo_roads.specs.Alike.{WakesAlike, CancelsAlike, ReleasesAlike, UsesAlike}
 use Rattle.solo_roads.specs.Road.{FollowsBut, Follows, HasLife, wakes as wakes_of}
+use Rattle.solo_roads.proofs.Seeing.{seen}
 use Rattle.solo_roads.proofs.Cells.{of_found, asks_found, found}
 use Rattle.solo_roads.proofs.Lines.{younger, life_pushed}
 use Rattle.solo_roads.proofs.Tasks.{IsChange, wakes, releases, uses, cancels}
@@ -27,7 +28,7 @@ use Rattle.solo_roads.proofs.Telling.{told, tell_long}
 
 module _ {T X : Type 0} where
   -- whether it is asked for an answer that is there
-  is_there : {B : Type 0} (q : Kept T X → Option B) (t : Task) (s : Cells T X)
+  pub is_there : {B : Type 0} (q : Kept T X → Option B) (t : Task) (s : Cells T X)
       → asked (λ v. is_some (q v)) false t s ≡ is_some (asked q None t s)
   is_there q t s =
       asks_found (λ v. is_some (q v)) false t s ∙ (by (found t s) ∙ sym (ap is_some (asks_found q None t s)))
@@ -94,13 +95,20 @@ module _ {F T X : Type 0} (aside : Option Due) (name : ℕ → Task) (c : Choice
 
 module _ {F T X : Type 0} (name : ℕ → Task) (s : Solo F T X) (p : Plain T (SoloWaker X)) (r : Follows name s p) where
   pub wakes_alike : WakesAlike name s p
-  wakes_alike c f at many life = woken None name c f s p at r many life
+  wakes_alike c f at many life =
+      let q = wake wakes_of (tell wakes_of c) f p in
+      seen name (solo.woken (name f) s) q (q.events ++ Answers Done ∷ []) q.inside (woken None name c f s p at r many life)
 
   pub cancels_alike : CancelsAlike name s p
   cancels_alike c f at many life = cancelled None name c f s p at r many life
 
   pub releases_alike : ReleasesAlike name s p
-  releases_alike c f at many life = released None name c f s p at r many life
+  releases_alike c f at many life =
+      let q = release wakes_of (tell wakes_of c) f p in
+      seen name (solo.released (name f) s) q (q.events ++ Answers Done ∷ []) q.inside (released None name c f s p at r many life)
 
   pub uses_alike : UsesAlike name s p
-  uses_alike c f at many life = woken_and_released None name c f s p at r many life
+  uses_alike c f at many life =
+      let q = used wakes_of (tell wakes_of c) f p in
+      seen name (solo.woken_and_released (name f) s) q (q.events ++ Answers Done ∷ []) q.inside
+      (woken_and_released None name c f s p at r many life)

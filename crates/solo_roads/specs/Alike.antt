@@ -1,40 +1,57 @@
 -- What calls of an executor of one owner and of the plain scheduler have in common: where both stand alike they leave both alike.
--- The
--- plain scheduler is told by its choices what the executor does: who lay down last is told, and the turn names the mark.
-use Rattle.std.specs.Prelude.{◌≡◌, ℕ, ◌<◌, ◌≤◌, length}
+-- The plain scheduler is told by its choices what the executor does: who lay down last is told, the turn names the mark, and a copy is
+-- refused where a task has as many references as it may.
+use Rattle.std.specs.Prelude.{◌≡◌, ℕ, ◌<◌, ◌≤◌, true, if◌then◌else◌, length}
 use Rattle.task_moves.specs.AbstractTask as abstract
 use Rattle.solo.specs.declared.names.Task.{Task}
 use Rattle.solo.specs.declared.names.SoloWaker.{SoloWaker}
 use Rattle.solo.specs.declared.solo.Solo.{Solo}
 use Rattle.solo.specs.Lines.{mark_of_turn}
 use Rattle.solo.specs.Solo as solo
-use Rattle.plain_scheduler.specs.State.{Choice, Plain, Try}
-use Rattle.plain_scheduler.specs.Moves.{task, tell, becomes, wake, release, used}
-use Rattle.plain_scheduler.specs.Takes as takes
+use Rattle.plain_scheduler.specs.State.{Choice, Granted, AtOnce, Plain}
+use Rattle.plain_scheduler.specs.Moves.{task, put, tell, becomes}
+use Rattle.plain_scheduler.specs.Calls.{Call, TryTick, Wake, Use, Copy, Release, Detach, does}
 use Rattle.solo_roads.specs.Road.{Follows, HasLife, wakes}
 
 module _ {F T X : Type 0} (name : ℕ → Task) (s : Solo F T X) (p : Plain T (SoloWaker X)) where
-  -- a take is a try
   abbrev pub TakesAlike : Type 0
   TakesAlike =
       (c : Choice) → c.first ≡ mark_of_turn s.lines.turn → length p.lying ≤ c.tells → HasLife 1 s.lines
-      → Follows name (solo.taken s) (takes.take wakes c Try p)
+      → Follows name (solo.taken s) (does wakes c TryTick p)
 
-  -- a call on a task: what the executor's does, and the plain scheduler's with one that is told
-  abbrev pub CallsAlike : (Task → Solo F T X → Solo F T X) → ((Plain T (SoloWaker X) → Plain T (SoloWaker X)) → ℕ
-      → Plain T (SoloWaker X) → Plain T (SoloWaker X)) → Type 0
-  CallsAlike call does =
+  -- a call on a task and what the plain scheduler does
+  abbrev pub BothAlike : (Task → Solo F T X → Solo F T X) → (Choice → ℕ → Plain T (SoloWaker X)) → Type 0
+  BothAlike call after =
       (c : Choice) (f : ℕ) → f < length p.futures → length p.lying ≤ c.tells → HasLife 2 s.lines
-      → Follows name (call (name f) s) (does (tell wakes c) f p)
+      → Follows name (call (name f) s) (after c f)
+
+  abbrev pub CallsAlike : (Task → Solo F T X → Solo F T X) → (ℕ → Call T (SoloWaker X)) → Type 0
+  CallsAlike call its = BothAlike call (λ c f. does wakes c (its f) p)
 
   abbrev pub WakesAlike : Type 0
-  WakesAlike = CallsAlike solo.woken (wake wakes)
+  WakesAlike = CallsAlike solo.woken Wake
 
   abbrev pub ReleasesAlike : Type 0
-  ReleasesAlike = CallsAlike solo.released (release wakes)
+  ReleasesAlike = CallsAlike solo.released Release
 
   abbrev pub UsesAlike : Type 0
-  UsesAlike = CallsAlike solo.woken_and_released (used wakes)
+  UsesAlike = CallsAlike solo.woken_and_released Use
 
+  abbrev pub DetachesAlike : Type 0
+  DetachesAlike = CallsAlike solo.detached Detach
+
+  -- up to the call of who awaits it
   abbrev pub CancelsAlike : Type 0
-  CancelsAlike = CallsAlike solo.cancelled (λ more f p. becomes wakes more f (abstract.cancel (task f p)).task p)
+  CancelsAlike = BothAlike solo.cancelled (λ c f. becomes wakes (tell wakes c) f (abstract.cancel (task f p)).task p)
+
+  -- a copy of a task's waker, also one that is refused
+  abbrev pub CopiesAlike : Type 0
+  CopiesAlike =
+      (c : Choice) (f : ℕ) → f < length p.futures → c.refusal ≡ (if solo.may_hold (name f) s then Granted else AtOnce)
+      → Follows name (solo.held (name f) s) (does wakes c (Copy f) p)
+
+  -- what a poll of a handle that is there does to its task
+  abbrev pub PollsAlike : Type 0
+  PollsAlike =
+      (w : SoloWaker X) (f : ℕ) → f < length p.futures → (task f p).handle ≡ true
+      → Follows name (solo.polled (name f) w s) (put f (abstract.poll w (task f p)).task p)

@@ -48,6 +48,7 @@ pub record IsOver {T A : Type 0} (t : AbstractTask T A) : Type 0 where
   pub wakers : t.wakers ≡ 0
   pub output : t.output ≡ None
   pub awaiter : t.awaiter ≡ None
+  pub infos : t.infos ≡ []
 
 module _ {T A : Type 0} where
   -- nobody can wake it or ask for it, and it waits for a wake

@@ -8,7 +8,8 @@ ghost use Rattle.solo.specs.declared.names.Task.{Task};
 ghost use Rattle.solo.specs.declared.solo.Solo.{Solo};
 ghost use Rattle.plain_scheduler.specs.Calls.{new};
 ghost use Rattle.plain_scheduler.specs.State.{Due, Plain};
-ghost use Rattle.solo_roads.specs.Alike.{TakesAlike, WakesAlike, ReleasesAlike, UsesAlike, CancelsAlike};
+ghost use Rattle.solo_roads.specs.Alike.{TakesAlike, WakesAlike, ReleasesAlike, UsesAlike, CancelsAlike, CopiesAlike};
+ghost use Rattle.solo_roads.specs.Alike.{PollsAlike, DetachesAlike};
 ghost use Rattle.solo_roads.specs.Road.{Follows, Lined, SearchesAlike};
 
 /// A new executor stands where the new plain scheduler does.
@@ -42,7 +43,22 @@ pub fn a_waker_goes_alike<F, T, X>()
         → ReleasesAlike name s p × UsesAlike name s p }
 {}
 
-/// So does a cancel; who awaited the task is called by the executor's owner.
+/// So does a cancel, up to the call of who awaited the task.
 pub fn a_cancel_is_a_cancel<F, T, X>()
     ensures { (name : ℕ → Task) (s : Solo F T X) (p : Plain T (SoloWaker X)) → Follows name s p → CancelsAlike name s p }
+{}
+
+/// So does a detach: an output that was kept is dropped.
+pub fn a_detach_is_a_detach<F, T, X>()
+    ensures { (name : ℕ → Task) (s : Solo F T X) (p : Plain T (SoloWaker X)) → Follows name s p → DetachesAlike name s p }
+{}
+
+/// So does a copy of a task's waker, also one that is refused.
+pub fn a_copy_is_a_copy<F, T, X>()
+    ensures { (name : ℕ → Task) (s : Solo F T X) (p : Plain T (SoloWaker X)) → Follows name s p → CopiesAlike name s p }
+{}
+
+/// So does what a poll of a handle does to its task.
+pub fn a_handle_is_polled_alike<F, T, X>()
+    ensures { (name : ℕ → Task) (s : Solo F T X) (p : Plain T (SoloWaker X)) → Follows name s p → PollsAlike name s p }
 {}

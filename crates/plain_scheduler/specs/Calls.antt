@@ -155,7 +155,7 @@ module _ {T A : Type 0} (wakes : A → Option ℕ) (c : Choice) where
   ends (Close fs all) p = close fs all p
   ends _ p = p
 
-  abbrev innermost : List (Code T A) → (Code T A → Plain T A → Plain T A) → Plain T A → Plain T A
+  abbrev pub innermost : List (Code T A) → (Code T A → Plain T A → Plain T A) → Plain T A → Plain T A
   innermost [] end p = p
   innermost (code ∷ rest) end p = end code (record p { inside = rest })
 

@@ -32,6 +32,12 @@ module _ {F T X : Type 0} (name : ℕ → Task) where
       flag = fresh.notified;
       callers = λ at t is. absurd cc;
     };
+    inside = record {
+      lent = λ f has. absurd cc;
+      dropping = λ f has. absurd cc;
+      lent_once = refl;
+      dropping_once = refl;
+    };
   }
     where
       empty : (mark : Mark) → (line_of mark (new_lines limit)).items ≡ []

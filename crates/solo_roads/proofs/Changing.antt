@@ -14,7 +14,8 @@ use Rattle.solo.specs.Turns as turns
 use Rattle.plain_scheduler.specs.State.{Due, Future, Plain}
 use Rattle.plain_scheduler.specs.Lists.{on, or}
 use Rattle.plain_scheduler.specs.Moves.{put, task, mark, appended, no_task}
-use Rattle.solo_roads.specs.Road.{IsTaskOf, TaskIs, IsOver, IsAsleep, FollowsBut, beside, stands, once}
+use Rattle.solo_roads.specs.Road.{IsTaskOf, TaskIs, IsOver, IsAsleep, FollowsBut, beside, stands, once, is_in, lents}
+use Rattle.solo_roads.specs.Road.{drops}
 use Rattle.solo_roads.proofs.Due.{living_set, once_last, stands_last, beside_last}
 use Rattle.solo_roads.proofs.Lists.{set_same, set_other, get_below, length_set}
 use Rattle.solo_roads.proofs.Cells.{found, of_found, asks_found, there, changed_found, found_here, found_there, same_number}
@@ -45,6 +46,18 @@ module _ {T X : Type 0} (g : Kept T X → Kept T X) (h : AbstractTask T (SoloWak
   here_is (Some v) x t over goes same is =
       subst (λ t. IsTaskOf (g v) (record x { task = told (h t) })) (sym same) (goes v refl is)
 
+back : (f j : ℕ) (test : ℕ → Bool) → (f == j) ≡ true → test j ≡ true → test f ≡ true
+back f j test same is = subst (λ n. test n ≡ true) (sym (same_number f j same)) is
+
+module _ {T X : Type 0} (aside : Option Due) (g : Kept T X → Kept T X)
+    (h : AbstractTask T (SoloWaker X) → AbstractTask T (SoloWaker X)) where
+  -- the change is one of the task's state; and where the future is due, it stays ready, and where it is in hand, it stays out
+  pub record IsGoing (f : ℕ) (p : Plain T (SoloWaker X)) (v : Kept T X) (x : Future T (SoloWaker X)) : Type 0 where
+    pub is : IsTaskOf (g v) (record x { task = told (h x.task) })
+    pub ready : stands f (beside aside p.due) ≡ true → cells.may_start v ≡ true → cells.may_start (g v) ≡ true
+    pub lent : is_in f (lents p.inside) ≡ true → cells.is_lent v ≡ true → cells.is_lent (g v) ≡ true
+    pub dropping : is_in f (drops p.inside) ≡ true → cells.is_dropping v ≡ true → cells.is_dropping (g v) ≡ true
+
 module _ {F T X : Type 0} (aside : Option Due) (name : ℕ → Task) where
   -- the task of a future that is there, where something is so of the one that is kept
   pub kept : (q : Kept T X → Bool) (f : ℕ) (s : Solo F T X) (p : Plain T (SoloWaker X)) → FollowsBut aside name s p
@@ -62,13 +75,10 @@ module _ {F T X : Type 0} (aside : Option Due) (name : ℕ → Task) where
     abbrev pub StaysOver : ℕ → Solo F T X → Plain T (SoloWaker X) → Type 0
     StaysOver f s p = found (name f) s.cells ≡ None → IsOver (task f p) → IsOver (told (h (task f p)))
 
-    -- the change is one of the task's state; and where the future is due, it stays ready
     abbrev pub Goes : ℕ → Solo F T X → Plain T (SoloWaker X) → Type 0
     Goes f s p =
         (v : Kept T X) (x : Future T (SoloWaker X)) → found (name f) s.cells ≡ Some v → slice_get p.futures f ≡ Some x
-        → IsTaskOf v x
-        → IsTaskOf (g v) (record x { task = told (h x.task) })
-        × (stands f (beside aside p.due) ≡ true → cells.may_start v ≡ true → cells.may_start (g v) ≡ true)
+        → IsTaskOf v x → IsGoing aside g h f p v x
 
     tasks_by : (s : Solo F T X) (p : Plain T (SoloWaker X)) → FollowsBut aside name s p → (f : ℕ) → StaysOver f s p → Goes f s p
         → (x : Future T (SoloWaker X)) (b : Bool) (j : ℕ)
@@ -85,7 +95,7 @@ module _ {F T X : Type 0} (aside : Option Due) (name : ℕ → Task) where
         (sym (set_same p.futures f (record x { task = told (h (task f p)) }) x is))
         (subst (λ o. TaskIs o (Some (record x { task = told (h (task f p)) })))
         (sym (found_here g (name f) s.cells))
-        (here_is g h (found (name f) s.cells) x (task f p) over (λ v here fits. (goes v x here is fits).0) (task_is f p x is)
+        (here_is g h (found (name f) s.cells) x (task f p) over (λ v here fits. (goes v x here is fits).is) (task_is f p x is)
         (subst (λ o. TaskIs (found (name f) s.cells) o) is (r.tasks f at)))))
     tasks_by s p r f over goes x false j at below is same =
         let apart : ((name f).number == (name j).number) ≡ false =
@@ -96,25 +106,26 @@ module _ {F T X : Type 0} (aside : Option Due) (name : ℕ → Task) where
         (sym (found_there g (name f) (name j) apart s.cells))
         (r.tasks j below))
 
-    ready_by : (s : Solo F T X) (p : Plain T (SoloWaker X)) → FollowsBut aside name s p → (f : ℕ) → Goes f s p
-        → (b : Bool) (j : ℕ) → f < length p.futures
-        → stands j (beside aside p.due) ≡ true → (f == j) ≡ b
-        → asked cells.may_start false (name j) (cells.changed g (name f) s.cells) ≡ true
-    ready_by s p r f goes true j at due same =
+    -- what is so of a task stays so
+    still_by : (s : Solo F T X) (p : Plain T (SoloWaker X)) → FollowsBut aside name s p
+        → (f : ℕ) (q : Kept T X → Bool) (b : Bool) (j : ℕ)
+        → f < length p.futures → j < length p.futures → (f == j) ≡ b
+        → (b ≡ true → (v : Kept T X) (x : Future T (SoloWaker X)) → found (name f) s.cells ≡ Some v → slice_get p.futures f
+        ≡ Some x
+        → IsTaskOf v x → q v ≡ true → q (g v) ≡ true)
+        → asked q false (name j) s.cells ≡ true → asked q false (name j) (cells.changed g (name f) s.cells) ≡ true
+    still_by s p r f q true j at below same keeps is =
         let one : f ≡ j = same_number f j same in
-        let here : stands f (beside aside p.due) ≡ true = subst (λ n. stands n (beside aside p.due) ≡ true) (sym one) due in
-        let k = kept cells.may_start f s p r at (r.ready f here).1 in
-        subst (λ j. asked cells.may_start false (name j) (cells.changed g (name f) s.cells) ≡ true) one
-        (asks_found cells.may_start false (name f) (cells.changed g (name f) s.cells)
-        ∙ (ap (of_found cells.may_start false) (found_here g (name f) s.cells ∙ ap (changed_found g) k.2)
-        ∙ (goes k.0 k.1 k.2 k.3 k.5).1 here k.4))
-    ready_by s p r f goes false j at due same =
-        let can = r.ready j due in
+        let k = kept q f s p r at (subst (λ n. asked q false (name n) s.cells ≡ true) (sym one) is) in
+        subst (λ j. asked q false (name j) (cells.changed g (name f) s.cells) ≡ true) one
+        (asks_found q false (name f) (cells.changed g (name f) s.cells)
+        ∙ (ap (of_found q false) (found_here g (name f) s.cells ∙ ap (changed_found g) k.2) ∙ keeps refl k.0 k.1 k.2 k.3 k.5 k.4))
+    still_by s p r f q false j at below same keeps is =
         let apart : ((name f).number == (name j).number) ≡ false =
-        ap (λ n. n == (name j).number) (r.numbered f at) ∙ (ap (λ n. f == n) (r.numbered j can.0) ∙ same) in
-        asks_found cells.may_start false (name j) (cells.changed g (name f) s.cells)
-        ∙ (ap (of_found cells.may_start false) (found_there g (name f) (name j) apart s.cells)
-        ∙ (sym (asks_found cells.may_start false (name j) s.cells) ∙ can.1))
+        ap (λ n. n == (name j).number) (r.numbered f at) ∙ (ap (λ n. f == n) (r.numbered j below) ∙ same) in
+        asks_found q false (name j) (cells.changed g (name f) s.cells)
+        ∙ (ap (of_found q false) (found_there g (name f) (name j) apart s.cells)
+        ∙ (sym (asks_found q false (name j) s.cells) ∙ is))
 
     -- the task of a future is changed in both
     pub turned : (f : ℕ) (s : Solo F T X) (p : Plain T (SoloWaker X)) → f < length p.futures → StaysOver f s p → Goes f s p
@@ -132,8 +143,32 @@ module _ {F T X : Type 0} (aside : Option Due) (name : ℕ → Task) where
           within = subst (λ ns. length ns ≤ p.limit) (sym (living_set p.futures 0 f x.0 new x.1 refl)) r.within;
           queued = r.queued;
           once = r.once;
-          ready = λ j due. (subst (λ n. j < n) (sym long) (r.ready j due).0, ready_by s p r f goes (f == j) j at due refl);
+          ready = λ j due.
+              let can = r.ready j due in (
+                subst (λ n. j < n) (sym long) can.0,
+                still_by s p r f cells.may_start (f == j) j at can.0 refl
+                    (λ same v x here is of. (goes v x here is of).ready
+                    (back f j (λ n. stands n (beside aside p.due)) same due)) can.1,
+              );
           asleep = subst (λ n. IsAsleep name n s.sleepers s.notified p.lying) (sym long) r.asleep;
+          inside = record {
+            lent = λ j has.
+                let can = r.inside.lent j has in (
+                  subst (λ n. j < n) (sym long) can.0,
+                  still_by s p r f cells.is_lent (f == j) j at can.0 refl
+                      (λ same v x here is of. (goes v x here is of).lent
+                      (back f j (λ n. is_in n (lents p.inside)) same has)) can.1,
+                );
+            dropping = λ j has.
+                let can = r.inside.dropping j has in (
+                  subst (λ n. j < n) (sym long) can.0,
+                  still_by s p r f cells.is_dropping (f == j) j at can.0 refl
+                      (λ same v x here is of. (goes v x here is of).dropping
+                      (back f j (λ n. is_in n (drops p.inside)) same has)) can.1,
+                );
+            lent_once = r.inside.lent_once;
+            dropping_once = r.inside.dropping_once;
+          };
         })
 
   -- a task comes last in its queue, as its future does in the list
@@ -162,6 +197,7 @@ module _ {F T X : Type 0} (aside : Option Due) (name : ℕ → Task) where
             by (j == f) j
             (sym (ap (stands j) (beside_last aside p.due (lines.last name p.due f (turns.mark_of (name f) s)))) ∙ due) refl;
         asleep = r.asleep;
+        inside = r.inside;
       })
     where
       by : (b : Bool) (j : ℕ) → stands j (beside aside p.due ++ lines.last name p.due f (turns.mark_of (name f) s) ∷ [])

@@ -3,9 +3,9 @@ use Rattle.std.proofs.Common.{◌≡◌, ℕ, zero, suc, ◌+◌, ◌≤◌, ◌
 use Rattle.std.proofs.Common.{length, filter, find, Option, Some, None, slice_get, slice_set, refl, sym, ap, subst, ◌∙◌, arith}
 use Rattle.std.proofs.lemmas.Bool.Decides.{nat_tests}
 use Rattle.plain_scheduler.specs.State.{Due, Future}
-use Rattle.plain_scheduler.specs.Lists.{any, without}
+use Rattle.plain_scheduler.specs.Lists.{without}
 use Rattle.plain_scheduler.specs.Calls.{living_from}
-use Rattle.solo_roads.specs.Road.{stands, once, beside}
+use Rattle.solo_roads.specs.Road.{stands, once, beside, is_in}
 use Rattle.solo_roads.proofs.Cells.{same_number}
 
 pub clash : {b : Bool} → b ≡ false → b ≡ true → ⊥
@@ -41,10 +41,6 @@ later false b is = is
 
 pub equal : (n m : ℕ) → n ≡ m → (n == m) ≡ true
 equal n m is = grind (arith, nat_tests)
-
--- numbers in a list
-abbrev pub mem : ℕ → List ℕ → Bool
-mem f xs = any (λ x. f == x) xs
 
 module _ (test : Due → Bool) where
   pub stands_without : (f : ℕ) (ds : List Due) → stands f ds ≡ false → stands f (without test ds) ≡ false
@@ -154,37 +150,37 @@ beside_long None ds = omega arith
 beside_long (Some e) ds = omega arith
 
 -- as many as there are numbers for them
-shorter : (f : ℕ) (xs : List ℕ) → mem f xs ≡ true → suc (length (without (λ x. f == x) xs)) ≡ length xs
+shorter : (f : ℕ) (xs : List ℕ) → is_in f xs ≡ true → suc (length (without (λ x. f == x) xs)) ≡ length xs
 shorter f [] is = absurd cc
 shorter f (x ∷ xs) is = by (f == x) (shorter f xs) is
   where
-    by : (b : Bool) → (mem f xs ≡ true → suc (length (without (λ x. f == x) xs)) ≡ length xs) → cond b true (mem f xs) ≡ true
+    by : (b : Bool) → (is_in f xs ≡ true → suc (length (without (λ x. f == x) xs)) ≡ length xs) → cond b true (is_in f xs) ≡ true
         → suc (length (cond b xs (x ∷ without (λ x. f == x) xs))) ≡ suc (length xs)
     by true rest here = refl
     by false rest here = ap suc (rest here)
 
-still : (f g : ℕ) (xs : List ℕ) → (f == g) ≡ false → mem g xs ≡ true → mem g (without (λ x. f == x) xs) ≡ true
+still : (f g : ℕ) (xs : List ℕ) → (f == g) ≡ false → is_in g xs ≡ true → is_in g (without (λ x. f == x) xs) ≡ true
 still f g [] apart is = is
 still f g (x ∷ xs) apart is = by (f == x) (g == x) (still f g xs apart) refl refl is
   where
     one : (f == x) ≡ true → (g == x) ≡ true → (f == g) ≡ true
     one here there = equal f g (same_number f x here ∙ sym (same_number g x there))
 
-    by : (b c : Bool) → (mem g xs ≡ true → mem g (without (λ x. f == x) xs) ≡ true) → (f == x) ≡ b → (g == x) ≡ c
-        → cond c true (mem g xs) ≡ true
-        → mem g (cond b xs (x ∷ without (λ x. f == x) xs)) ≡ true
+    by : (b c : Bool) → (is_in g xs ≡ true → is_in g (without (λ x. f == x) xs) ≡ true) → (f == x) ≡ b → (g == x) ≡ c
+        → cond c true (is_in g xs) ≡ true
+        → is_in g (cond b xs (x ∷ without (λ x. f == x) xs)) ≡ true
     by true true rest here there is = absurd (clash apart (one here there))
     by true false rest here there is = is
-    by false true rest here there is = ap (λ b. cond b true (mem g (without (λ x. f == x) xs))) there
+    by false true rest here there is = ap (λ b. cond b true (is_in g (without (λ x. f == x) xs))) there
     by false false rest here there is =
-        later (g == x) (mem g (without (λ x. f == x) xs)) (rest is)
+        later (g == x) (is_in g (without (λ x. f == x) xs)) (rest is)
 
-pub room : (ds : List Due) (xs : List ℕ) → once ds ≡ true → ((f : ℕ) → stands f ds ≡ true → mem f xs ≡ true)
+pub room : (ds : List Due) (xs : List ℕ) → once ds ≡ true → ((f : ℕ) → stands f ds ≡ true → is_in f xs ≡ true)
     → length ds ≤ length xs
 room [] xs one all = omega arith
 room (d ∷ ds) xs one all =
     let two = both_true (not (stands d.future ds)) (once ds) one in
-    let here : mem d.future xs ≡ true =
+    let here : is_in d.future xs ≡ true =
     all d.future (ap (λ b. cond b true (stands d.future ds)) (equal d.future d.future refl)) in
     let rest : length ds ≤ length (without (λ x. d.future == x) xs) =
     room ds (without (λ x. d.future == x) xs) two.1
@@ -211,22 +207,22 @@ filter_short test (x ∷ xs) = by (test x) (filter_short test xs)
 module _ {T A : Type 0} where
   -- a future that isn't dropped is one of the living
   pub lives : (fs : List (Future T A)) (n i at : ℕ) (x : Future T A) → at ≡ n + i → slice_get fs i ≡ Some x → x.is_dropped ≡ false
-      → mem at (living_from n fs) ≡ true
+      → is_in at (living_from n fs) ≡ true
   lives [] n i at x same is here = absurd cc
   lives (y ∷ ys) n zero at x same is here =
       let it : y.is_dropped ≡ false = ap (λ (o : Option (Future T A)). by o) is ∙ here in
-      ap (λ b. mem at (cond b (living_from (suc n) ys) (n ∷ living_from (suc n) ys))) it
-      ∙ ap (λ b. cond b true (mem at (living_from (suc n) ys))) (equal at n (omega (arith, same)))
+      ap (λ b. is_in at (cond b (living_from (suc n) ys) (n ∷ living_from (suc n) ys))) it
+      ∙ ap (λ b. cond b true (is_in at (living_from (suc n) ys))) (equal at n (omega (arith, same)))
     where
       by : Option (Future T A) → Bool
       by None = false
       by (Some x) = x.is_dropped
   lives (y ∷ ys) n (suc i) at x same is here = by y.is_dropped (lives ys (suc n) i at x (omega (arith, same)) is here)
     where
-      by : (b : Bool) → mem at (living_from (suc n) ys) ≡ true
-          → mem at (cond b (living_from (suc n) ys) (n ∷ living_from (suc n) ys)) ≡ true
+      by : (b : Bool) → is_in at (living_from (suc n) ys) ≡ true
+          → is_in at (cond b (living_from (suc n) ys) (n ∷ living_from (suc n) ys)) ≡ true
       by true rest = rest
-      by false rest = later (at == n) (mem at (living_from (suc n) ys)) rest
+      by false rest = later (at == n) (is_in at (living_from (suc n) ys)) rest
 
   -- whose future isn't changed
   pub living_set : (fs : List (Future T A)) (n i : ℕ) (x y : Future T A) → slice_get fs i ≡ Some x → y.is_dropped ≡ x.is_dropped

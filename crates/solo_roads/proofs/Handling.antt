@@ -1,10 +1,11 @@
 -- A handle's poll, a copy of a task's waker and a detach are those of the plain scheduler.
-use Rattle.std.proofs.Common.{◌≡◌, ℕ, ◌+◌, ◌<◌, ◌≤◌, ◌==◌, ◌&&◌, ◌||◌, not, Bool, true, false, List, [], ◌∷◌, ◌++◌, length, Option, Some, None}
-use Rattle.std.proofs.Common.{if◌then◌else◌, is_some, slice_get, refl, sym, ap, subst, ◌∙◌, arith}
+use Rattle.std.proofs.Common.{◌≡◌, ℕ, ◌+◌, ◌<◌, ◌==◌, ◌&&◌, ◌||◌, not, Bool, true, false, [], ◌∷◌, ◌++◌, length}
+use Rattle.std.proofs.Common.{Option, Some, None}
+use Rattle.std.proofs.Common.{if◌then◌else◌, is_some, refl, sym, ap, subst, ◌∙◌, arith}
 use Rattle.std.proofs.lemmas.Bool.Decides.{nat_tests}
 use Rattle.task_moves.specs.AbstractTask as abstract
 use Rattle.task_moves.specs.AbstractTask.{AbstractTask, Left}
-use Rattle.task_moves.specs.LocalTask.{told as told_of, info_of, with_task, is_home, is_queued}
+use Rattle.task_moves.specs.LocalTask.{told as told_of, with_task, is_home, is_queued}
 use Rattle.solo.specs.declared.names.Task.{Task}
 use Rattle.solo.specs.declared.names.SoloWaker.{SoloWaker}
 use Rattle.solo.specs.declared.solo.Solo.{Solo}
@@ -12,16 +13,18 @@ use Rattle.solo.specs.Cells.{Kept, choose, asked}
 use Rattle.solo.specs.Cells as cells
 use Rattle.solo.specs.Solo as solo
 use Rattle.solo.specs.Turns as turns
-use Rattle.plain_scheduler.specs.State.{Due, Future, Choice, Plain, Lose, Loses, Answers, Done, Made, NoMemory, Refusal, Granted, AtOnce}
-use Rattle.plain_scheduler.specs.Lists.{or}
+use Rattle.plain_scheduler.specs.State.{Future, Choice, Plain, Lose, Loses, Answers, Done, Made, NoMemory, Granted}
+use Rattle.plain_scheduler.specs.State.{AtOnce}
 use Rattle.plain_scheduler.specs.Moves.{task, put, tell, becomes}
 use Rattle.plain_scheduler.specs.Takes as takes
 use Rattle.plain_scheduler.specs.Calls as calls
 use Rattle.solo_roads.specs.Alike.{CopiesAlike, PollsAlike, DetachesAlike}
-use Rattle.solo_roads.specs.Road.{IsTaskOf, TaskIs, IsOver, FollowsBut, Follows, HasLife, is_forgotten, is_done, wakes as wakes_of}
+use Rattle.solo_roads.specs.Road.{IsTaskOf, TaskIs, Follows, is_forgotten, is_done}
+use Rattle.solo_roads.specs.Road.{wakes as wakes_of}
 use Rattle.solo_roads.proofs.Lists.{get_below}
 use Rattle.solo_roads.proofs.Seeing.{seen}
 use Rattle.solo_roads.proofs.Due.{clash, both_true, and_true}
+use Rattle.solo_roads.proofs.Inside.{same_inside}
 use Rattle.solo_roads.proofs.Cells.{found, of_found, asks_found}
 use Rattle.solo_roads.proofs.Tasks.{detaches}
 use Rattle.solo_roads.proofs.Changing.{task_is, turned}
@@ -50,7 +53,8 @@ module _ {T A : Type 0} where
   poll_phase abstract.Polled.Cancelled w t = refl
   poll_phase abstract.Polled.Waits w t = refl
 
-  poll_done : (e : abstract.Polled T) (w : A) (t : AbstractTask T A) → is_done t ≡ true → is_done (abstract.poll_by e w t).task ≡ true
+  poll_done : (e : abstract.Polled T) (w : A) (t : AbstractTask T A) → is_done t ≡ true
+      → is_done (abstract.poll_by e w t).task ≡ true
   poll_done (abstract.Polled.Output v) w t is =
       and_true (abstract.is_over t.phase) true (both_true (abstract.is_over t.phase) (t.closed || is_some t.output) is).0 refl
   poll_done abstract.Polled.Cancelled w t is = is
@@ -95,14 +99,18 @@ module _ {F T X : Type 0} (name : ℕ → Task) (s : Solo F T X) (p : Plain T (S
       → Follows name (solo.held (name f) s) (put f (abstract.copy (task f p)) p)
   held f at may =
       turned None name cells.held abstract.copy f s p at
-      (λ none over. absurd (clash refl (sym (ap (of_found cells.may_hold false) none) ∙ (sym (asks_found cells.may_hold false (name f) s.cells) ∙ may))))
+      (λ none over. absurd (clash refl (sym (ap (of_found cells.may_hold false) none)
+      ∙ (sym (asks_found cells.may_hold false (name f) s.cells) ∙ may))))
       (λ v x here is of.
       let so : cells.may_hold v ≡ true =
       sym (ap (of_found cells.may_hold false) here) ∙ (sym (asks_found cells.may_hold false (name f) s.cells) ∙ may) in
-      let e : cells.held v ≡ with_task v (abstract.copy v.task) = ap (λ b. choose b (with_task v (abstract.copy v.task)) v) so in (
-        subst (λ w. IsTaskOf w (record x { task = told_of (abstract.copy x.task) })) (sym e) (copies v x of),
-        λ due start. subst (λ w. cells.may_start w ≡ true) (sym e) start,
-      ))
+      let e : cells.held v ≡ with_task v (abstract.copy v.task) = ap (λ b. choose b (with_task v (abstract.copy v.task)) v) so in
+      record {
+        is = subst (λ w. IsTaskOf w (record x { task = told_of (abstract.copy x.task) })) (sym e) (copies v x of);
+        ready = λ due start. subst (λ w. cells.may_start w ≡ true) (sym e) start;
+        lent = λ has out. subst (λ w. cells.is_lent w ≡ true) (sym e) out;
+        dropping = λ has out. subst (λ w. cells.is_dropping w ≡ true) (sym e) out;
+      })
       r
 
   infos : (f : ℕ) (z : Solo F T X) (q : Plain T (SoloWaker X)) → f < length q.futures → Follows name z q → (task f q).infos ≡ []
@@ -123,11 +131,15 @@ module _ {F T X : Type 0} (name : ℕ → Task) (s : Solo F T X) (p : Plain T (S
       (λ v x here is of.
       let so : cells.may_hold v ≡ false =
       sym (ap (of_found cells.may_hold false) here) ∙ (sym (asks_found cells.may_hold false (name f) s.cells) ∙ may) in
-      let e : cells.held v ≡ v = ap (λ b. choose b (with_task v (abstract.copy v.task)) v) so in (
-        subst (λ w. IsTaskOf w (record x { task = told_of x.task })) (sym e)
-            (subst (λ t. IsTaskOf v (record x { task = t })) (untold x.task of.told) of),
-        λ due start. subst (λ w. cells.may_start w ≡ true) (sym e) start,
-      ))
+      let e : cells.held v ≡ v = ap (λ b. choose b (with_task v (abstract.copy v.task)) v) so in
+      record {
+        is =
+            subst (λ w. IsTaskOf w (record x { task = told_of x.task })) (sym e)
+            (subst (λ t. IsTaskOf v (record x { task = t })) (untold x.task of.told) of);
+        ready = λ due start. subst (λ w. cells.may_start w ≡ true) (sym e) start;
+        lent = λ has out. subst (λ w. cells.is_lent w ≡ true) (sym e) out;
+        dropping = λ has out. subst (λ w. cells.is_dropping w ≡ true) (sym e) out;
+      })
       r)
 
   pub copies_alike : CopiesAlike name s p
@@ -139,16 +151,19 @@ module _ {F T X : Type 0} (name : ℕ → Task) (s : Solo F T X) (p : Plain T (S
           let q = put f (abstract.copy (task f p)) p in
           subst
           (λ o. Follows name (solo.held (name f) s)
-          (if calls.is_granted o then record q { events = q.events ++ Answers Made ∷ [] } else record p { events = p.events ++ Answers NoMemory ∷ [] }))
+          (if calls.is_granted o then record q { events = q.events ++ Answers Made ∷ [] }
+          else record p { events = p.events ++ Answers NoMemory ∷ [] }))
           (sym says)
-          (seen name (solo.held (name f) s) q (q.events ++ Answers Made ∷ []) q.inside (held f at may))
+          (seen name (solo.held (name f) s) q (q.events ++ Answers Made ∷ []) q.inside (held f at may).inside (held f at may))
       by false may says =
           let q = put f (abstract.copy (task f p)) p in
           subst
           (λ o. Follows name (solo.held (name f) s)
-          (if calls.is_granted o then record q { events = q.events ++ Answers Made ∷ [] } else record p { events = p.events ++ Answers NoMemory ∷ [] }))
+          (if calls.is_granted o then record q { events = q.events ++ Answers Made ∷ [] }
+          else record p { events = p.events ++ Answers NoMemory ∷ [] }))
           (sym says)
-          (seen name (solo.held (name f) s) p (p.events ++ Answers NoMemory ∷ []) p.inside (refused f at may))
+          (seen name (solo.held (name f) s) p (p.events ++ Answers NoMemory ∷ []) p.inside (refused f at may).inside
+          (refused f at may))
 
   -- a poll of its handle
   pub polls_alike : PollsAlike name s p
@@ -159,30 +174,37 @@ module _ {F T X : Type 0} (name : ℕ → Task) (s : Solo F T X) (p : Plain T (S
       let so : v.task.handle ≡ true =
       ap (λ (t : AbstractTask T (SoloWaker X)). t.handle) (of.task ∙ sym (task_is f p x is)) ∙ handle in
       let e : cells.polled w v ≡ with_task v (abstract.poll w v.task).task =
-      ap (λ b. choose b (with_task v (abstract.poll w v.task).task) v) so in (
-        subst (λ u. IsTaskOf u (record x { task = told_of (abstract.poll w x.task).task })) (sym e) (polls w v x of),
-        λ due start.
+      ap (λ b. choose b (with_task v (abstract.poll w v.task).task) v) so in
+      record {
+        is = subst (λ u. IsTaskOf u (record x { task = told_of (abstract.poll w x.task).task })) (sym e) (polls w v x of);
+        ready = λ due start.
             let two = both_true (is_home v.future) (is_queued v.task.phase) start in
             subst (λ u. cells.may_start u ≡ true) (sym e)
             (and_true (is_home v.future) (is_queued (abstract.poll w v.task).task.phase) two.0
-            (ap (λ p. is_queued p) (poll_phase (abstract.polled v.task) w v.task) ∙ two.1)),
-      ))
+            (ap (λ p. is_queued p) (poll_phase (abstract.polled v.task) w v.task) ∙ two.1));
+        lent = λ has out. subst (λ u. cells.is_lent u ≡ true) (sym e) out;
+        dropping = λ has out. subst (λ u. cells.is_dropping u ≡ true) (sym e) out;
+      })
       r
 
   -- what follows a detach is only seen: an output that was kept is dropped
   ended : (c : Choice) (f : ℕ) (z : Solo F T X) (q : Plain T (SoloWaker X)) (dropped : Option T) → f < length q.futures
       → Follows name z q
-      → Follows name z (takes.ended wakes_of c f (record { task = task f q; called = None; dropped = dropped; let_go = None }) None q)
+      → Follows name z (takes.ended wakes_of c f
+      (record { task = task f q; called = None; dropped = dropped; let_go = None }) None q)
   ended c f z q dropped at all =
       subst
-      (λ q. Follows name z (takes.out wakes_of c (record { task = task f q; called = None; dropped = dropped; let_go = None }) None q))
+      (λ q. Follows name z (takes.out wakes_of c
+      (record { task = task f q; called = None; dropped = dropped; let_go = None }) None q))
       (sym (put_same f q at (infos f z q at all)))
       (by dropped)
     where
       by : (dropped : Option T)
-          → Follows name z (takes.out wakes_of c (record { task = task f q; called = None; dropped = dropped; let_go = None }) None q)
-      by None = seen name z q (q.events ++ Answers Done ∷ []) q.inside all
-      by (Some v) = seen name z q (q.events ++ Loses v ∷ []) (Lose None None ∷ q.inside) all
+          → Follows name z (takes.out wakes_of c
+          (record { task = task f q; called = None; dropped = dropped; let_go = None }) None q)
+      by None = seen name z q (q.events ++ Answers Done ∷ []) q.inside all.inside all
+      by (Some v) = seen name z q (q.events ++ Loses v ∷ []) (Lose None None ∷ q.inside)
+          (same_inside name (length q.futures) z.cells q.inside (Lose None None ∷ q.inside) all.inside refl refl) all
 
   -- a detach
   pub detaches_alike : DetachesAlike name s p
@@ -190,11 +212,14 @@ module _ {F T X : Type 0} (name : ℕ → Task) (s : Solo F T X) (p : Plain T (S
       let loud : Plain T (SoloWaker X) → Plain T (SoloWaker X) = tell wakes_of c in
       let q : Plain T (SoloWaker X) = becomes wakes_of loud f (abstract.detach (task f p)).task p in
       let long : f < length q.futures =
-      below None name c f s p at r many life cells.detached (λ v. is_some (cells.detach_queues v)) (λ t. (abstract.detach t).task) detaches detached_fits in
+      below None name c f s p at r many life cells.detached (λ v. is_some (cells.detach_queues v))
+      (λ t. (abstract.detach t).task) detaches detached_fits in
       let z : Solo F T X =
-      turns.scheduled_if (is_some (asked cells.detach_queues None (name f) s.cells)) (name f) (turns.turned cells.detached (name f) s) in
+      turns.scheduled_if (is_some (asked cells.detach_queues None (name f) s.cells)) (name f)
+      (turns.turned cells.detached (name f) s) in
       ended c f (turns.swept (name f) z) q (abstract.detach (task f p)).dropped long
       (swept None name f z q long
       (subst (λ b. Follows name (turns.scheduled_if b (name f) (turns.turned cells.detached (name f) s)) q)
       (is_there cells.detach_queues (name f) s.cells)
-      (changes None name c f s p at r many life cells.detached (λ v. is_some (cells.detach_queues v)) (λ t. (abstract.detach t).task) detaches detached_fits)))
+      (changes None name c f s p at r many life cells.detached (λ v. is_some (cells.detach_queues v))
+      (λ t. (abstract.detach t).task) detaches detached_fits)))

@@ -3,6 +3,7 @@ pub mod Seeing
 pub mod Due
 pub mod Tasks
 pub mod Cells
+pub mod Inside
 pub mod Lines
 pub mod Lying
 pub mod Changing
@@ -15,4 +16,5 @@ pub mod Waking
 pub mod Taking
 pub mod Trying
 pub mod Handling
+pub mod Ending
 pub mod Beginning

@@ -8,8 +8,6 @@ use Rattle.slab.proofs.SlabLemmas.{Updates-set, ContainsKey-within}
 use Rattle.task_moves.specs.AbstractTask as abstract
 use Rattle.task_moves.specs.AbstractTask.{AbstractTask, Phase, Idle, Queued, Polling, PollingWoken, Finished}
 use Rattle.task_moves.specs.LocalTask.{is_gone, is_home, is_queued, is_unreachable, references_of, token_by}
-use Rattle.task_moves.specs.declared.local_task.answers.FuturePlace.{FuturePlace}
-use Rattle.task_moves.specs.declared.local_task.answers.FuturePlace.TheVariants.{Home, Lent, Dropping, Gone}
 use Rattle.solo.specs.declared.names.Task.{Task}
 use Rattle.solo.specs.declared.names.SoloWaker.{SoloWaker}
 use Rattle.solo.specs.declared.cells.Cell.{Cell}
@@ -19,16 +17,11 @@ use Rattle.solo.specs.Cells.{Kept, choose, asked_by, asked, tidied}
 use Rattle.solo.specs.Cells as cells
 use Rattle.solo.specs.Turns as turns
 use Rattle.plain_scheduler.specs.State.{Due, Future, Plain}
-use Rattle.solo_roads.specs.Road.{TaskIs, IsTaskOf, IsOver, FollowsBut, beside, is_done, stands}
+use Rattle.solo_roads.specs.Road.{TaskIs, IsTaskOf, IsOver, FollowsBut, is_done}
 use Rattle.solo_roads.proofs.Due.{clash, both_true, not_true}
 use Rattle.solo_roads.proofs.Cells.{same_number, found, of_found, asks_found}
+use Rattle.solo_roads.proofs.Inside.{home_stays, lent_stays, dropping_stays}
 use Rattle.solo_roads.proofs.Changing.{kept}
-
-home_gone : {P : Type 0} (place : FuturePlace P) → is_home place ≡ true → is_gone place ≡ true → ⊥
-home_gone (Home a) home gone = absurd cc
-home_gone Lent home gone = absurd cc
-home_gone Dropping home gone = absurd cc
-home_gone Gone home gone = absurd cc
 
 none_of : {B : Type 0} (o : Option B) → not (is_some o) ≡ true → o ≡ None
 none_of None is = refl
@@ -132,8 +125,28 @@ module _ {F T X : Type 0} (aside : Option Due) (name : ℕ → Task) where
         within = r.within;
         queued = r.queued;
         once = r.once;
-        ready = λ j due. ((r.ready j due).0, ready (f == j) j due refl);
+        ready = λ j due.
+            let can = r.ready j due in (
+              can.0,
+              spared cells.may_start
+                  (λ v is gone. clash (home_stays v.future (both_true (is_home v.future) (is_queued v.task.phase) is).0) gone)
+                  (f == j) j can.0
+                  can.1 refl,
+            );
         asleep = r.asleep;
+        inside = record {
+          lent = λ j has.
+              let can = r.inside.lent j has in
+              (can.0, spared cells.is_lent (λ v is gone. clash (lent_stays v.future is) gone) (f == j) j can.0 can.1 refl);
+          dropping = λ j has.
+              let can = r.inside.dropping j has in (
+                can.0,
+                spared cells.is_dropping (λ v is gone. clash (dropping_stays v.future is) gone)
+                    (f == j) j can.0 can.1 refl,
+              );
+          lent_once = r.inside.lent_once;
+          dropping_once = r.inside.dropping_once;
+        };
       }
         where
           apart : (j : ℕ) → j < length p.futures → (f == j) ≡ false → ((name f).number == (name j).number) ≡ false
@@ -151,24 +164,23 @@ module _ {F T X : Type 0} (aside : Option Due) (name : ℕ → Task) where
               (sym (cleared_there (name f) (name j) (apart j below same) cells.is_spent s.cells is))
               (r.tasks j below)
 
-          ready : (b : Bool) (j : ℕ) → stands j (beside aside p.due) ≡ true → (f == j) ≡ b
-              → asked cells.may_start false (name j) (cleared (name f) s.cells) ≡ true
-          ready true j due same =
+          -- of one whose future isn't gone all stays so
+          spared : (q : Kept T X → Bool) → ((v : Kept T X) → q v ≡ true → is_gone v.future ≡ true → ⊥) → (b : Bool) (j : ℕ)
+              → j < length p.futures
+              → asked q false (name j) s.cells ≡ true → (f == j) ≡ b → asked q false (name j) (cleared (name f) s.cells) ≡ true
+          spared q stays true j below can same =
               let one : f ≡ j = same_number f j same in
-              let can : asked cells.may_start false (name f) s.cells ≡ true =
-              subst (λ n. asked cells.may_start false (name n) s.cells ≡ true) (sym one) (r.ready j due).1 in
+              let here : asked q false (name f) s.cells ≡ true = subst (λ n. asked q false (name n) s.cells ≡ true)
+              (sym one) can in
               let k = kept aside name cells.is_spent f s p r at is in
-              let start : cells.may_start k.0 ≡ true =
-              sym (ap (of_found cells.may_start false) k.2) ∙ (sym (asks_found cells.may_start false (name f) s.cells) ∙ can) in
-              absurd (home_gone k.0.future (both_true (is_home k.0.future) (is_queued k.0.task.phase) start).0
+              let so : q k.0 ≡ true = sym (ap (of_found q false) k.2) ∙ (sym (asks_found q false (name f) s.cells) ∙ here) in
+              absurd (stays k.0 so
               (both_true (is_gone k.0.future) (is_unreachable k.0.task &&
               (not (is_some k.0.task.output) && not (is_some k.0.task.awaiter))) k.4).0)
-          ready false j due same =
-              let can = r.ready j due in
-              asks_found cells.may_start false (name j) (cleared (name f) s.cells)
-              ∙ (ap (of_found cells.may_start false) (cleared_there (name f) (name j)
-              (apart j can.0 same) cells.is_spent s.cells is)
-              ∙ (sym (asks_found cells.may_start false (name j) s.cells) ∙ can.1))
+          spared q stays false j below can same =
+              asks_found q false (name j) (cleared (name f) s.cells)
+              ∙ (ap (of_found q false) (cleared_there (name f) (name j) (apart j below same) cells.is_spent s.cells is)
+              ∙ (sym (asks_found q false (name j) s.cells) ∙ can))
 
       by : (b : Bool) → asked cells.is_spent false (name f) s.cells ≡ b → FollowsBut aside name (turns.swept (name f) s) p
       by true is =

@@ -131,6 +131,7 @@ module _ {F T X : Type 0} (aside : Option Due) (name : ℕ → Task) (c : Choice
         queued = r.queued;
         once = r.once;
         ready = r.ready;
+        inside = r.inside;
         asleep = record {
           wakers =
               map_take (λ e. e.1) (length wakers - 1) wakers
@@ -165,6 +166,7 @@ module _ {F T X : Type 0} (aside : Option Due) (name : ℕ → Task) (c : Choice
         once = q.once;
         ready = q.ready;
         asleep = q.asleep;
+        inside = q.inside;
       }
 
   told_none : (ls : List (Lying (SoloWaker X))) (s : Solo F T X) (p : Plain T (SoloWaker X)) → p.lying ≡ ls → is_told ls

@@ -7,7 +7,8 @@ use Rattle.executor_parts.specs.declared.places.EntryPlace.{EntryPlace}
 use Rattle.task_moves.specs.AbstractTask as abstract
 use Rattle.task_moves.specs.AbstractTask.{AbstractTask}
 use Rattle.task_moves.specs.LocalTask as local
-use Rattle.task_moves.specs.LocalTask.{told as told_of, is_home, is_gone, is_queued}
+use Rattle.task_moves.specs.LocalTask.{told as told_of, is_home, is_gone, is_lent, is_dropping, is_queued}
+use Rattle.task_moves.specs.declared.local_task.answers.FuturePlace.{FuturePlace}
 use Rattle.queue_steps.specs.ClosableQueue.{most_accepted}
 use Rattle.task_moves.specs.declared.local_task.answers.Start.{Start}
 use Rattle.task_moves.specs.declared.local_task.answers.Start.TheVariants.{Poll as StartPoll, Drop as StartDrop}
@@ -19,17 +20,19 @@ use Rattle.solo.specs.Cells as cells
 use Rattle.solo.specs.Lines.{mark_of_turn, searched}
 use Rattle.solo.specs.Solo as solo
 use Rattle.solo.specs.Turns as turns
-use Rattle.plain_scheduler.specs.State.{Due, Future, Choice, Plain, Try, Closed, Code, Poll, Drop as DropCode, Event, Polls}
+use Rattle.plain_scheduler.specs.State.{Due, Future, Choice, Plain, Try, Closed, Poll, Drop as DropCode, Polls}
 use Rattle.plain_scheduler.specs.State.{Drops}
 use Rattle.plain_scheduler.specs.Lists.{without, or}
 use Rattle.plain_scheduler.specs.Moves.{put, task, tell, chosen, enters, see}
 use Rattle.plain_scheduler.specs.Takes as takes
-use Rattle.solo_roads.specs.Road.{IsTaskOf, IsOver, FollowsBut, Follows, IsQueued, Lined, HasLife, stands, once, is_forgotten}
+use Rattle.solo_roads.specs.Road.{IsTaskOf, IsOver, is_in, lents, drops, FollowsBut, Follows, IsQueued, Lined, HasLife, stands}
+use Rattle.solo_roads.specs.Road.{once, is_forgotten}
 use Rattle.solo_roads.specs.Road.{count_of, tests, name_of, wakes}
 use Rattle.solo_roads.specs.Alike.{TakesAlike}
 use Rattle.solo_roads.proofs.Lists.{get_below}
 use Rattle.solo_roads.proofs.Seeing.{seen}
-use Rattle.solo_roads.proofs.Cells.{found, of_found, asks_found, same_number}
+use Rattle.solo_roads.proofs.Cells.{found, of_found, asks_found, changed_found, found_here, same_number}
+use Rattle.solo_roads.proofs.Inside.{home_stays, home_lent, home_dropping, one_lent, one_dropped}
 use Rattle.solo_roads.proofs.Due.{clash, both_true, and_true, not_true, not_false, later, equal, stood, once_without}
 use Rattle.solo_roads.proofs.Due.{found_stands, found_gone}
 use Rattle.solo_roads.proofs.Tasks.{queued_idle}
@@ -37,7 +40,7 @@ use Rattle.solo_roads.proofs.Lines.{searched_same}
 use Rattle.solo_roads.proofs.Changing.{task_is, put_is, kept, turned}
 use Rattle.solo_roads.proofs.Taking.{searched_alike, found_any, without_none}
 use Rattle.solo_roads.proofs.Telling.{told}
-use Rattle.solo_roads.proofs.Using.{stays}
+use Rattle.solo_roads.proofs.Using.{stays, put_long, put_inside}
 
 set_same_one : {B : Type 0} (xs : List B) (i : ℕ) (x : B) → slice_get xs i ≡ Some x → slice_set xs i x ≡ xs
 set_same_one [] i x is = refl
@@ -90,10 +93,6 @@ not_gone : (P : Type 0) (b : Bool) → is_gone (local.started {F = P} b) ≡ tru
 not_gone P true is = absurd cc
 not_gone P false is = absurd cc
 
-not_home : (P : Type 0) (b : Bool) → is_home (local.started {F = P} b) ≡ true → ⊥
-not_home P true is = absurd cc
-not_home P false is = absurd cc
-
 module _ {T X : Type 0} where
   -- a task that is ready is begun
   started_is : (v : Kept T X) (x : Future T (SoloWaker X)) → IsTaskOf v x → cells.may_start v ≡ true
@@ -112,7 +111,7 @@ module _ {T X : Type 0} where
         idle = λ idle. absurd (not_idle x.task queued idle);
         done = λ gone. absurd (not_gone EntryPlace v.task.closed gone);
         reached = still_reached x.task of.reached;
-        there = λ home. absurd (not_home EntryPlace v.task.closed home);
+        there = λ stays. of.there (home_stays v.future (both_true (is_home v.future) (is_queued v.task.phase) may).0);
       })
 
 module _ {F T X : Type 0} (name : ℕ → Task) where
@@ -127,6 +126,7 @@ module _ {F T X : Type 0} (name : ℕ → Task) where
     once = r.once;
     ready = r.ready;
     asleep = r.asleep;
+    inside = r.inside;
   }
   out (Some (StartDrop place)) s p r = record {
     numbered = r.numbered;
@@ -136,6 +136,7 @@ module _ {F T X : Type 0} (name : ℕ → Task) where
     once = r.once;
     ready = r.ready;
     asleep = r.asleep;
+    inside = r.inside;
   }
 
   -- the run of a task that is ready begins in both
@@ -150,10 +151,54 @@ module _ {F T X : Type 0} (name : ℕ → Task) where
       there v is = sym (ap (of_found cells.may_start false) is)
           ∙ (sym (asks_found cells.may_start false (name f) s.cells) ∙ ready)
 
+      -- at home it isn't in hand
+      away : (v : Kept T X) → found (name f) s.cells ≡ Some v → (q : Kept T X → Bool) → (q v ≡ true → ⊥) → (b : Bool)
+          → (b ≡ true → asked q false (name f) s.cells ≡ true) → b ≡ false
+      away v here q never false has = refl
+      away v here q never true has =
+          absurd (never (sym (ap (of_found q false) here) ∙ (sym (asks_found q false (name f) s.cells) ∙ has refl)))
+
+      home : (v : Kept T X) → found (name f) s.cells ≡ Some v → is_home v.future ≡ true
+      home v here = (both_true (is_home v.future) (is_queued v.task.phase) (there v here)).0
+
+      not_lent : (v : Kept T X) → found (name f) s.cells ≡ Some v → is_in f (lents p.inside) ≡ false
+      not_lent v here =
+          away v here cells.is_lent (λ so. clash (home_lent v.future (home v here)) so) (is_in f (lents p.inside))
+          (λ has. (r.inside.lent f has).1)
+
+      not_dropped : (v : Kept T X) → found (name f) s.cells ≡ Some v → is_in f (drops p.inside) ≡ false
+      not_dropped v here =
+          away v here cells.is_dropping (λ so. clash (home_dropping v.future (home v here)) so) (is_in f (drops p.inside))
+          (λ has. (r.inside.dropping f has).1)
+
       next : Follows name (turns.turned cells.started (name f) s) (put f (abstract.begin_run (task f p)) p)
       next =
           turned None name cells.started abstract.begin_run f s p at (λ none. stays abstract.begin_run over_begun (task f p))
-          (λ v x here is of. (started_is v x of (there v here), λ due start. absurd (clash gone due))) r
+          (λ v x here is of.
+          record {
+            is = started_is v x of (there v here);
+            ready = λ due start. absurd (clash gone due);
+            lent = λ has so. absurd (clash (not_lent v here) has);
+            dropping = λ has so. absurd (clash (not_dropped v here) has);
+          })
+          r
+
+      -- where its future is then
+      placed : (q : FuturePlace EntryPlace → Bool) → q (local.started (task f p).closed) ≡ true
+          → asked (λ v. q v.future) false (name f) (cells.changed cells.started (name f) s.cells) ≡ true
+      placed q is =
+          let k = kept None name cells.may_start f s p r at ready in
+          let of : IsTaskOf k.0 k.1 = k.5 in
+          let closed : k.0.task.closed ≡ (task f p).closed =
+          ap (λ (t : AbstractTask T (SoloWaker X)). t.closed) (of.task ∙ sym (task_is f p k.1 k.3)) in
+          let v = record k.0 { task = abstract.begin_run k.0.task; future = local.started k.0.task.closed } in
+          asks_found (λ v. q v.future) false (name f) (cells.changed cells.started (name f) s.cells)
+          ∙ (ap (of_found (λ v. q v.future) false) (found_here cells.started (name f) s.cells
+          ∙ ap (changed_found cells.started) k.2)
+          ∙ (ap (λ b. q (choose b v k.0).future) k.4 ∙ (ap (λ b. q (local.started b)) closed ∙ is)))
+
+      spare : (v : Kept T X) × (found (name f) s.cells ≡ Some v)
+      spare = let k = kept None name cells.may_start f s p r at ready in (k.0, k.2)
 
       infos : (task f p).infos ≡ []
       infos =
@@ -170,14 +215,27 @@ module _ {F T X : Type 0} (name : ℕ → Task) where
           subst (λ b. Follows name (turns.turned cells.started (name f) s)
           (if b then takes.dropping wakes c f Closed Try p
           else enters (Poll f Try) (see (Polls f) (put f (abstract.begin_run (task f p)) p)))) (sym is)
-          (seen name (turns.turned cells.started (name f) s) p (p.events ++ Drops f ∷ []) (DropCode f Closed Try ∷ p.inside)
-          (subst (Follows name (turns.turned cells.started (name f) s)) still next))
+          (let it : Follows name (turns.turned cells.started (name f) s) p = subst
+          (Follows name (turns.turned cells.started (name f) s)) still next in
+          seen name (turns.turned cells.started (name f) s) p (p.events ++ Drops f ∷ []) (DropCode f Closed Try ∷ p.inside)
+          (one_dropped name (length p.futures) (cells.changed cells.started (name f) s.cells) p.inside
+          (DropCode f Closed Try ∷ p.inside)
+          it.inside f at refl refl (placed (λ place. is_dropping place)
+          (ap (λ b. is_dropping (local.started {F = EntryPlace} b)) is))
+          (not_dropped spare.0 spare.1)) it)
       by false is =
           let q : Plain T (SoloWaker X) = put f (abstract.begin_run (task f p)) p in
           subst (λ b. Follows name (turns.turned cells.started (name f) s)
           (if b then takes.dropping wakes c f Closed Try p
           else enters (Poll f Try) (see (Polls f) (put f (abstract.begin_run (task f p)) p)))) (sym is)
-          (seen name (turns.turned cells.started (name f) s) q (q.events ++ Polls f ∷ []) (Poll f Try ∷ q.inside) next)
+          (seen name (turns.turned cells.started (name f) s) q (q.events ++ Polls f ∷ []) (Poll f Try ∷ q.inside)
+          (one_lent name (length q.futures) (cells.changed cells.started (name f) s.cells) q.inside
+          (Poll f Try ∷ q.inside) next.inside f
+          (subst (λ n. f < n) (sym (put_long f (abstract.begin_run (task f p)) p)) at) refl refl
+          (placed (λ place. is_lent place) (ap (λ b. is_lent (local.started {F = EntryPlace} b)) is))
+          (subst (λ cs. is_in f (lents cs) ≡ false) (sym (put_inside f (abstract.begin_run (task f p)) p))
+          (not_lent spare.0 spare.1)))
+          next)
 
   -- one that was taken is put aside no more
   forget : (d : Due) (s : Solo F T X) (p : Plain T (SoloWaker X)) → FollowsBut (Some d) name s p → Follows name s p
@@ -189,6 +247,7 @@ module _ {F T X : Type 0} (name : ℕ → Task) where
     once = (both_true (not (stands d.future p.due)) (once p.due) r.once).1;
     ready = λ j due. r.ready j (later (j == d.future) (stands j p.due) due);
     asleep = r.asleep;
+    inside = r.inside;
   }
 
   -- a take
@@ -237,6 +296,7 @@ module _ {F T X : Type 0} (name : ℕ → Task) where
             (once_without (chosen (tests c.first) p.due) p.due r.once);
         ready = λ j due. r.ready j (was d is (j == d.future) j due refl);
         asleep = r.asleep;
+        inside = r.inside;
       }
 
       by : (o : Option Due) → find (chosen (tests c.first) p.due) p.due ≡ o
@@ -260,6 +320,7 @@ module _ {F T X : Type 0} (name : ℕ → Task) where
             once = r.once;
             ready = r.ready;
             asleep = r.asleep;
+            inside = r.inside;
           }))
       by (Some d) is sought lines =
           let q : Plain T (SoloWaker X) = tell wakes c (record p { due = without (chosen (tests c.first) p.due) p.due }) in

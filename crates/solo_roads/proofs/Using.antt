@@ -72,6 +72,9 @@ module _ {T A : Type 0} where
   pub put_due : (f : ℕ) (new : AbstractTask T A) (p : Plain T A) → (put f new p).due ≡ p.due
   put_due f new p = put_by (λ p. p.due) f new p (λ fs. refl)
 
+  pub put_inside : (f : ℕ) (new : AbstractTask T A) (p : Plain T A) → (put f new p).inside ≡ p.inside
+  put_inside f new p = put_by (λ p. p.inside) f new p (λ fs. refl)
+
   pub put_lying : (f : ℕ) (new : AbstractTask T A) (p : Plain T A) → (put f new p).lying ≡ p.lying
   put_lying f new p = put_by (λ p. p.lying) f new p (λ fs. refl)
 
@@ -140,7 +143,8 @@ module _ {T X : Type 0} where
   wake_and_release t = abstract.release (abstract.wake t)
 
   told_release : (t : AbstractTask T (SoloWaker X)) → told_of (abstract.release (told_of t)) ≡ told_of (abstract.release t)
-  told_release t = by (record t { wakers = t.wakers - 1 }) (is_forgotten (record t { wakers = t.wakers - 1 })) (abstract.is_idle t.phase)
+  told_release t = by (record t { wakers = t.wakers - 1 }) (is_forgotten (record t { wakers = t.wakers - 1 }))
+      (abstract.is_idle t.phase)
     where
       closed_if : Bool → AbstractTask T (SoloWaker X) → AbstractTask T (SoloWaker X)
       closed_if c u = record (if c then abstract.queue false u else u) { closed = true }
@@ -193,13 +197,16 @@ module _ {F T X : Type 0} (aside : Option Due) (name : ℕ → Task) where
       (is : IsChange h) (fits : Fits g q h) where
     goes : (f : ℕ) (s : Solo F T X) (p : Plain T (SoloWaker X)) → Goes aside name g h f s p
     goes f s p v x here at of =
-        let e = (fits v x of).0 in (
-          subst (λ w. IsTaskOf w (record x { task = told_of (h x.task) })) (sym e) (changes h is v x of),
-          λ due start.
+        let e = (fits v x of).0 in
+        record {
+          is = subst (λ w. IsTaskOf w (record x { task = told_of (h x.task) })) (sym e) (changes h is v x of);
+          ready = λ due start.
               let two = both_true (is_home v.future) (is_queued v.task.phase) start in
               subst (λ w. cells.may_start w ≡ true) (sym e)
-              (and_true (is_home v.future) (is_queued (h v.task).phase) two.0 (is.queued v.task two.1)),
-        )
+              (and_true (is_home v.future) (is_queued (h v.task).phase) two.0 (is.queued v.task two.1));
+          lent = λ has so. subst (λ w. cells.is_lent w ≡ true) (sym e) so;
+          dropping = λ has so. subst (λ w. cells.is_dropping w ≡ true) (sym e) so;
+        }
 
     module _ (f : ℕ) (s : Solo F T X) (p : Plain T (SoloWaker X)) (at : f < length p.futures)
         (r : FollowsBut aside name s p) where

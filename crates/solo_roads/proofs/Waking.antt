@@ -1,7 +1,8 @@
 -- A change of a task that may queue it, and then a sleeper is told, is one of the plain scheduler: a wake, a cancel, a release of
 -- a
 -- waker, both a wake and a release.
-use Rattle.std.proofs.Common.{◌≡◌, ℕ, ◌<◌, ◌≤◌, Bool, false, List, [], ◌∷◌, ◌++◌, length, Option, Some, None, is_some, refl, sym, ap, subst, ◌∙◌}
+use Rattle.std.proofs.Common.{◌≡◌, ℕ, ◌<◌, ◌≤◌, Bool, false, List, [], ◌∷◌, ◌++◌, length, Option, Some, None, is_some, refl, sym}
+use Rattle.std.proofs.Common.{ap, subst, ◌∙◌}
 use Rattle.task_moves.specs.AbstractTask as abstract
 use Rattle.task_moves.specs.AbstractTask.{AbstractTask}
 use Rattle.solo.specs.declared.names.Task.{Task}
@@ -97,7 +98,8 @@ module _ {F T X : Type 0} (name : ℕ → Task) (s : Solo F T X) (p : Plain T (S
   pub wakes_alike : WakesAlike name s p
   wakes_alike c f at many life =
       let q = wake wakes_of (tell wakes_of c) f p in
-      seen name (solo.woken (name f) s) q (q.events ++ Answers Done ∷ []) q.inside (woken None name c f s p at r many life)
+      let it = woken None name c f s p at r many life in
+      seen name (solo.woken (name f) s) q (q.events ++ Answers Done ∷ []) q.inside it.inside it
 
   pub cancels_alike : CancelsAlike name s p
   cancels_alike c f at many life = cancelled None name c f s p at r many life
@@ -105,10 +107,11 @@ module _ {F T X : Type 0} (name : ℕ → Task) (s : Solo F T X) (p : Plain T (S
   pub releases_alike : ReleasesAlike name s p
   releases_alike c f at many life =
       let q = release wakes_of (tell wakes_of c) f p in
-      seen name (solo.released (name f) s) q (q.events ++ Answers Done ∷ []) q.inside (released None name c f s p at r many life)
+      let it = released None name c f s p at r many life in
+      seen name (solo.released (name f) s) q (q.events ++ Answers Done ∷ []) q.inside it.inside it
 
   pub uses_alike : UsesAlike name s p
   uses_alike c f at many life =
       let q = used wakes_of (tell wakes_of c) f p in
-      seen name (solo.woken_and_released (name f) s) q (q.events ++ Answers Done ∷ []) q.inside
-      (woken_and_released None name c f s p at r many life)
+      let it = woken_and_released None name c f s p at r many life in
+      seen name (solo.woken_and_released (name f) s) q (q.events ++ Answers Done ∷ []) q.inside it.inside it

@@ -1,16 +1,18 @@
 -- What calls of an executor of one owner and of the plain scheduler have in common: where both stand alike they leave both alike.
--- The plain scheduler is told by its choices what the executor does: who lay down last is told, the turn names the mark, and a copy is
+-- The plain scheduler is told by its choices what the executor does: who lay down last is told, the turn names the mark, and a
+-- copy is
 -- refused where a task has as many references as it may.
-use Rattle.std.specs.Prelude.{◌≡◌, ℕ, ◌<◌, ◌≤◌, true, if◌then◌else◌, length}
+use Rattle.std.specs.Prelude.{◌≡◌, ℕ, ◌<◌, ◌≤◌, true, if◌then◌else◌, List, ◌∷◌, length}
 use Rattle.task_moves.specs.AbstractTask as abstract
 use Rattle.solo.specs.declared.names.Task.{Task}
 use Rattle.solo.specs.declared.names.SoloWaker.{SoloWaker}
+use Rattle.solo.specs.declared.owed.Lent.{Lent}
 use Rattle.solo.specs.declared.solo.Solo.{Solo}
 use Rattle.solo.specs.Lines.{mark_of_turn}
 use Rattle.solo.specs.Solo as solo
-use Rattle.plain_scheduler.specs.State.{Choice, Granted, AtOnce, Plain}
+use Rattle.plain_scheduler.specs.State.{Choice, Granted, AtOnce, Code, Poll, Try, Plain}
 use Rattle.plain_scheduler.specs.Moves.{task, put, tell, becomes}
-use Rattle.plain_scheduler.specs.Calls.{Call, TryTick, Wake, Use, Copy, Release, Detach, does}
+use Rattle.plain_scheduler.specs.Calls.{Call, TryTick, Wake, Use, Copy, Release, Detach, Pends, does}
 use Rattle.solo_roads.specs.Road.{Follows, HasLife, wakes}
 
 module _ {F T X : Type 0} (name : ℕ → Task) (s : Solo F T X) (p : Plain T (SoloWaker X)) where
@@ -49,6 +51,13 @@ module _ {F T X : Type 0} (name : ℕ → Task) (s : Solo F T X) (p : Plain T (S
   CopiesAlike =
       (c : Choice) (f : ℕ) → f < length p.futures → c.refusal ≡ (if solo.may_hold (name f) s then Granted else AtOnce)
       → Follows name (solo.held (name f) s) (does wakes c (Copy f) p)
+
+  -- the end of a poll in a try that gave no output, with what was lent for it
+  abbrev pub PendsAlike : Type 0
+  PendsAlike =
+      (c : Choice) (f : ℕ) (rest : List (Code T (SoloWaker X))) (lent : Lent) (future : F) → p.inside ≡ Poll f Try ∷ rest
+      → lent.task ≡ name f → length p.lying ≤ c.tells → HasLife 2 s.lines
+      → Follows name (solo.settled_pending lent future s) (does wakes c Pends p)
 
   -- what a poll of a handle that is there does to its task
   abbrev pub PollsAlike : Type 0

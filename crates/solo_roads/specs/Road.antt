@@ -9,13 +9,14 @@ use Rattle.task_moves.specs.AbstractTask.{AbstractTask}
 use Rattle.solo.specs.declared.names.Task.{Task}
 use Rattle.solo.specs.declared.names.SoloWaker.{SoloWaker}
 use Rattle.solo.specs.declared.names.SoloWaker.TheVariants.{Task as OfTask, Outside}
+use Rattle.solo.specs.declared.cells.Cells.{Cells}
 use Rattle.solo.specs.declared.solo.Solo.{Solo}
-use Rattle.solo.specs.Cells.{Kept, asked, may_start}
+use Rattle.solo.specs.Cells.{Kept, asked, may_start, is_lent, is_dropping}
 use Rattle.task_moves.specs.LocalTask.{is_home, is_gone}
 use Rattle.plain_scheduler.specs.Calls.{living_from}
 use Rattle.executor_parts.specs.Marks.{other}
 use Rattle.solo.specs.Lines.{LinesValue, line_of, mark_of_turn, searched, search_answer}
-use Rattle.plain_scheduler.specs.State.{Due, Future, Lying, Plain}
+use Rattle.plain_scheduler.specs.State.{Due, Future, Lying, Code, Poll, Drop, Closed, Forgotten, Gave, Plain}
 use Rattle.plain_scheduler.specs.Lists.{any, without}
 use Rattle.plain_scheduler.specs.Moves.{is_common, is_called, chosen}
 
@@ -68,7 +69,7 @@ module _ {T X : Type 0} where
     pub idle : abstract.is_idle f.task.phase ≡ true → is_home v.future ≡ true
     pub done : is_gone v.future ≡ true → is_done f.task ≡ true
     pub reached : is_forgotten f.task ≡ false
-    pub there : is_home v.future ≡ true → f.is_dropped ≡ false
+    pub there : is_gone v.future ≡ false → f.is_dropped ≡ false
 
   -- where it is gone, that of the future is over
   abbrev pub TaskIs : Option (Kept T X) → Option (Future T (SoloWaker X)) → Type 0
@@ -125,6 +126,43 @@ abbrev pub beside : Option Due → List Due → List Due
 beside None due = due
 beside (Some d) due = d ∷ due
 
+-- whether a number is one of these, and whether each is there once
+abbrev pub is_in : ℕ → List ℕ → Bool
+is_in f ns = any (λ n. f == n) ns
+
+abbrev pub apart : List ℕ → Bool
+apart [] = true
+apart (n ∷ ns) = not (is_in n ns) && apart ns
+
+module _ {T A : Type 0} where
+  -- the future that a user's code has to poll, or to drop once it gave its output
+  abbrev pub lent_in : Code T A → Option ℕ
+  lent_in (Poll f by) = Some f
+  lent_in (Drop f (Gave v) by) = Some f
+  lent_in _ = None
+
+  -- the one that it has to drop before it ended
+  abbrev pub dropped_in : Code T A → Option ℕ
+  dropped_in (Drop f Closed by) = Some f
+  dropped_in (Drop f Forgotten by) = Some f
+  dropped_in _ = None
+
+  abbrev pub lents : List (Code T A) → List ℕ
+  lents [] = []
+  lents (c ∷ cs) = first_if (lent_in c) (lents cs)
+
+  abbrev pub drops : List (Code T A) → List ℕ
+  drops [] = []
+  drops (c ∷ cs) = first_if (dropped_in c) (drops cs)
+
+-- what users' codes have in hand is out of the executor, each once
+pub record IsInside {T X : Type 0} (name : ℕ → Task) (many : ℕ) (s : Cells T X)
+    (inside : List (Code T (SoloWaker X))) : Type 0 where
+  pub lent : (f : ℕ) → is_in f (lents inside) ≡ true → (f < many) × (asked is_lent false (name f) s ≡ true)
+  pub dropping : (f : ℕ) → is_in f (drops inside) ≡ true → (f < many) × (asked is_dropping false (name f) s ≡ true)
+  pub lent_once : apart (lents inside) ≡ true
+  pub dropping_once : apart (drops inside) ≡ true
+
 -- by the names that futures have in the executor, of which each has one of its own
 pub record FollowsBut {F T X : Type 0} (aside : Option Due) (name : ℕ → Task) (s : Solo F T X)
     (p : Plain T (SoloWaker X)) : Type 0 where
@@ -137,6 +175,7 @@ pub record FollowsBut {F T X : Type 0} (aside : Option Due) (name : ℕ → Task
   pub ready : (f : ℕ) → stands f (beside aside p.due) ≡ true → (f < length p.futures) ×
       (asked may_start false (name f) s.cells ≡ true)
   pub asleep : IsAsleep name (length p.futures) s.sleepers s.notified p.lying
+  pub inside : IsInside name (length p.futures) s.cells p.inside
 
 abbrev pub Follows : {F T X : Type 0} → (ℕ → Task) → Solo F T X → Plain T (SoloWaker X) → Type 0
 Follows name s p = FollowsBut None name s p

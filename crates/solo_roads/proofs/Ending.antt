@@ -1,4 +1,4 @@
--- The end of a poll that gave no output is that of the plain scheduler.
+-- The end of a poll is that of the plain scheduler.
 use Rattle.std.proofs.Common.{◌≡◌, ℕ, ◌<◌, ◌≤◌, ◌==◌, cond, ◌&&◌, not, if◌then◌else◌, Bool, true, false, List, [], ◌∷◌, ◌++◌}
 use Rattle.std.proofs.Common.{length, Some, None}
 use Rattle.std.proofs.Common.{slice_get, is_some, refl, sym, ap, subst, ◌∙◌}
@@ -18,16 +18,16 @@ use Rattle.solo.specs.Cells.{Kept, choose, asked}
 use Rattle.solo.specs.Cells as cells
 use Rattle.solo.specs.Solo as solo
 use Rattle.solo.specs.Turns as turns
-use Rattle.plain_scheduler.specs.State.{Future, Lying, Choice, Plain, Code, Try, Drop as DropCode, Closed, Forgotten, Drops}
+use Rattle.plain_scheduler.specs.State.{Future, Lying, Choice, Plain, Code, Try, Drop as DropCode, Closed, Forgotten, Gave, Drops}
 use Rattle.plain_scheduler.specs.State.{Answers, Yes}
 use Rattle.plain_scheduler.specs.Moves.{task, put, appended, tell}
 use Rattle.plain_scheduler.specs.Calls as calls
-use Rattle.solo_roads.specs.Alike.{PendsAlike}
+use Rattle.solo_roads.specs.Alike.{PendsAlike, GivesAlike}
 use Rattle.solo_roads.specs.Road.{IsTaskOf, Follows, HasLife, IsInside, apart, is_forgotten, stands, is_in, lents, drops}
 use Rattle.solo_roads.specs.Road.{wakes as wakes_of}
 use Rattle.solo_roads.proofs.Seeing.{seen}
 use Rattle.solo_roads.proofs.Due.{clash, both_true, not_true, equal}
-use Rattle.solo_roads.proofs.Inside.{home_lent, lent_dropping, lent_stays, one_dropped, less_lent}
+use Rattle.solo_roads.proofs.Inside.{home_lent, lent_dropping, lent_stays, same_inside, one_dropped, less_lent}
 use Rattle.solo_roads.proofs.Cells.{found, of_found, asks_found, changed_found, found_here}
 use Rattle.solo_roads.proofs.Tasks.{none_told}
 use Rattle.solo_roads.proofs.Changing.{task_is, kept, turned, lined}
@@ -287,6 +287,17 @@ module _ {F T X : Type 0} (name : ℕ → Task) (s : Solo F T X) (p : Plain T (S
       (q.events ++ Answers Yes ∷ []) q.inside all.inside all))
 
 module _ {F T X : Type 0} (name : ℕ → Task) (s : Solo F T X) (p : Plain T (SoloWaker X)) (r : Follows name s p) where
+  -- one that gave an output stays out until its future is dropped
+  pub gives_alike : GivesAlike name s p
+  gives_alike c f by rest v stands_in =
+      let now : List (Code T (SoloWaker X)) = DropCode f (Gave v) by ∷ rest in
+      subst
+      (λ cs. Follows name s (calls.innermost wakes_of c cs (calls.gives wakes_of c v) p))
+      (sym stands_in)
+      (seen name s p (p.events ++ Drops f ∷ []) now
+      (same_inside name (length p.futures) s.cells p.inside now r.inside
+      (sym (ap (λ cs. lents cs) stands_in)) (sym (ap (λ cs. drops cs) stands_in))) r)
+
   pub pends_alike : PendsAlike name s p
   pends_alike c f rest lent future stands_in names many life =
       let out : lents p.inside ≡ f ∷ lents rest = ap (λ cs. lents cs) stands_in in

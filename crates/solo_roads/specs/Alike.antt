@@ -10,9 +10,9 @@ use Rattle.solo.specs.declared.owed.Lent.{Lent}
 use Rattle.solo.specs.declared.solo.Solo.{Solo}
 use Rattle.solo.specs.Lines.{mark_of_turn}
 use Rattle.solo.specs.Solo as solo
-use Rattle.plain_scheduler.specs.State.{Choice, Granted, AtOnce, Code, Poll, Try, Plain}
+use Rattle.plain_scheduler.specs.State.{Choice, Granted, AtOnce, Code, Poll, Taker, Try, Plain}
 use Rattle.plain_scheduler.specs.Moves.{task, put, tell, becomes}
-use Rattle.plain_scheduler.specs.Calls.{Call, TryTick, Wake, Use, Copy, Release, Detach, Pends, does}
+use Rattle.plain_scheduler.specs.Calls.{Call, TryTick, Wake, Use, Copy, Release, Detach, Pends, EndsWith, does}
 use Rattle.solo_roads.specs.Road.{Follows, HasLife, wakes}
 
 module _ {F T X : Type 0} (name : ℕ → Task) (s : Solo F T X) (p : Plain T (SoloWaker X)) where
@@ -58,6 +58,12 @@ module _ {F T X : Type 0} (name : ℕ → Task) (s : Solo F T X) (p : Plain T (S
       (c : Choice) (f : ℕ) (rest : List (Code T (SoloWaker X))) (lent : Lent) (future : F) → p.inside ≡ Poll f Try ∷ rest
       → lent.task ≡ name f → length p.lying ≤ c.tells → HasLife 2 s.lines
       → Follows name (solo.settled_pending lent future s) (does wakes c Pends p)
+
+  -- and the end of one that gave an output: until its future is dropped it is nothing to the executor
+  abbrev pub GivesAlike : Type 0
+  GivesAlike =
+      (c : Choice) (f : ℕ) (by : Taker (SoloWaker X)) (rest : List (Code T (SoloWaker X))) (v : T) → p.inside ≡ Poll f by ∷ rest
+      → Follows name s (does wakes c (EndsWith v) p)
 
   -- what a poll of a handle that is there does to its task
   abbrev pub PollsAlike : Type 0

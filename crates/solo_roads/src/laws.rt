@@ -9,7 +9,7 @@ ghost use Rattle.solo.specs.declared.solo.Solo.{Solo};
 ghost use Rattle.plain_scheduler.specs.Calls.{new};
 ghost use Rattle.plain_scheduler.specs.State.{Due, Plain};
 ghost use Rattle.solo_roads.specs.Alike.{TakesAlike, WakesAlike, ReleasesAlike, UsesAlike, CancelsAlike, CopiesAlike};
-ghost use Rattle.solo_roads.specs.Alike.{PollsAlike, PendsAlike, DetachesAlike};
+ghost use Rattle.solo_roads.specs.Alike.{PollsAlike, PendsAlike, GivesAlike, DetachesAlike};
 ghost use Rattle.solo_roads.specs.Road.{Follows, Lined, SearchesAlike};
 
 /// A new executor stands where the new plain scheduler does.
@@ -66,4 +66,9 @@ pub fn a_handle_is_polled_alike<F, T, X>()
 /// So does the end of a poll that gave no output: the future waits, or is queued again, or is to be dropped.
 pub fn a_poll_ends_alike<F, T, X>()
     ensures { (name : ℕ → Task) (s : Solo F T X) (p : Plain T (SoloWaker X)) → Follows name s p → PendsAlike name s p }
+{}
+
+/// And one that gave an output is nothing to the executor until its future is dropped.
+pub fn a_poll_gives_alike<F, T, X>()
+    ensures { (name : ℕ → Task) (s : Solo F T X) (p : Plain T (SoloWaker X)) → Follows name s p → GivesAlike name s p }
 {}

@@ -1,0 +1,5 @@
+pub mod Lists
+pub mod State
+pub mod Moves
+pub mod Takes
+pub mod Calls

@@ -1,0 +1,2 @@
+pub mod Road
+pub mod Alike

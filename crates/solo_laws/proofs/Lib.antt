@@ -26,3 +26,4 @@ pub mod Looks
 pub mod RoomParts
 pub mod RoomFrames
 pub mod RoomCourses
+pub mod Roads

@@ -6,3 +6,5 @@ pub mod Queueing
 pub mod Outputs
 pub mod Looks
 pub mod Rooms
+pub mod Road
+pub mod Alike

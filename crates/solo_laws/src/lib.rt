@@ -1,5 +1,6 @@
 //! Laws over lists of calls of an executor of one owner, from its making on: each takes what a call does from `solo`. A crate of
-//! its own so that neither waits for the other's checks.
+//! its own so that neither waits for the other's checks. And that calls of it are those of the plain scheduler.
 #![tactic(auto)]
 
 pub mod laws;
+pub mod roads;

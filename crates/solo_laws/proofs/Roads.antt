@@ -1,0 +1,21 @@
+-- That calls of an executor of one owner are those of the plain scheduler: the laws of `src/roads.rt`.
+pub mod Lists
+pub mod Seeing
+pub mod Due
+pub mod Tasks
+pub mod Cells
+pub mod Inside
+pub mod Lines
+pub mod Lying
+pub mod Changing
+pub mod Placing
+pub mod Sweeping
+pub mod Using
+pub mod Quiet
+pub mod Telling
+pub mod Waking
+pub mod Taking
+pub mod Trying
+pub mod Handling
+pub mod Ending
+pub mod Beginning

@@ -1,0 +1,53 @@
+-- A new executor stands where the new plain scheduler does.
+use Rattle.std.proofs.Common.{◌≡◌, ℕ, Bool, false, Some, [], map, refl, ap, ◌∙◌, arith}
+use Rattle.executor_parts.specs.Sleepers.{Sleepers}
+use Rattle.executor_parts.specs.declared.mark.Mark.{Mark}
+use Rattle.executor_parts.specs.declared.mark.Mark.TheVariants.{Plain as PlainMark, Urgent}
+use Rattle.solo.specs.declared.names.Kind.{Kind}
+use Rattle.solo.specs.declared.names.Task.{Task}
+use Rattle.solo.specs.declared.names.SoloWaker.{SoloWaker}
+use Rattle.solo.specs.declared.solo.Solo.{Solo}
+use Rattle.solo.specs.Lines.{line_of, new_lines}
+use Rattle.solo.specs.Solo as solo
+use Rattle.plain_scheduler.specs.Calls.{new}
+use Rattle.solo_laws.specs.Road.{Follows}
+
+module _ {F T X : Type 0} (name : ℕ → Task) where
+  pub begins : (limit : ℕ) (kind : Kind) (is_static : Bool) (s : Solo F T X) → solo.IsNew limit kind s
+      → Follows name s (new limit is_static)
+  begins limit kind is_static s fresh = record {
+    numbered = λ f below. absurd (omega (arith, below));
+    tasks = λ f below. absurd (omega (arith, below));
+    within = omega arith;
+    queued = record {
+      lines = λ mark. ap (λ l. (line_of mark l).items) fresh.lines ∙ empty mark;
+      unclosed = λ mark. ap (λ l. (line_of mark l).closed) fresh.lines ∙ unclosed mark;
+      limit = λ mark. ap (λ l. (line_of mark l).capacity) fresh.lines ∙ long mark;
+    };
+    once = refl;
+    ready = λ f due. absurd cc;
+    asleep = record {
+      wakers = ap (λ (sleepers : Sleepers (SoloWaker X)). map (λ e. e.1) sleepers.wakers) fresh.sleepers;
+      count = ap (λ (sleepers : Sleepers (SoloWaker X)). sleepers.count) fresh.sleepers;
+      flag = fresh.notified;
+      callers = λ at t is. absurd cc;
+    };
+    inside = record {
+      lent = λ f has. absurd cc;
+      dropping = λ f has. absurd cc;
+      lent_once = refl;
+      dropping_once = refl;
+    };
+  }
+    where
+      empty : (mark : Mark) → (line_of mark (new_lines limit)).items ≡ []
+      empty PlainMark = refl
+      empty Urgent = refl
+
+      unclosed : (mark : Mark) → (line_of mark (new_lines limit)).closed ≡ false
+      unclosed PlainMark = refl
+      unclosed Urgent = refl
+
+      long : (mark : Mark) → (line_of mark (new_lines limit)).capacity ≡ Some limit
+      long PlainMark = refl
+      long Urgent = refl

@@ -1,0 +1,328 @@
+-- The end of a poll is that of the plain scheduler.
+use Rattle.std.proofs.Common.{◌≡◌, ℕ, ◌<◌, ◌≤◌, ◌==◌, cond, ◌&&◌, not, if◌then◌else◌, Bool, true, false, List, [], ◌∷◌, ◌++◌}
+use Rattle.std.proofs.Common.{length, Some, None}
+use Rattle.std.proofs.Common.{slice_get, is_some, refl, sym, ap, subst, ◌∙◌}
+use Rattle.executor_parts.specs.declared.places.EntryPlace.{EntryPlace}
+use Rattle.task_moves.specs.AbstractTask as abstract
+use Rattle.task_moves.specs.AbstractTask.{AbstractTask, Phase, Idle, Queued, Polling, PollingWoken, Finished}
+use Rattle.task_moves.specs.AbstractTask.PendingEnd.{Drops as EndDrops, Queues as EndQueues, Forgets as EndForgets}
+use Rattle.task_moves.specs.AbstractTask.PendingEnd.{Rests as EndRests}
+use Rattle.task_moves.specs.LocalTask as local
+use Rattle.task_moves.specs.LocalTask.{told as told_of, info_of, info_from, is_home, is_queued, is_gone}
+use Rattle.solo.specs.declared.names.Task.{Task}
+use Rattle.solo.specs.declared.names.SoloWaker.{SoloWaker}
+use Rattle.solo.specs.declared.owed.Lent.{Lent}
+use Rattle.solo.specs.declared.cells.After.TheVariants.{Unknown}
+use Rattle.solo.specs.declared.solo.Solo.{Solo}
+use Rattle.solo.specs.Cells.{Kept, choose, asked}
+use Rattle.solo.specs.Cells as cells
+use Rattle.solo.specs.Solo as solo
+use Rattle.solo.specs.Turns as turns
+use Rattle.plain_scheduler.specs.State.{Future, Lying, Choice, Plain, Code, Try, Drop as DropCode, Closed, Forgotten, Gave, Drops}
+use Rattle.plain_scheduler.specs.State.{Answers, Yes}
+use Rattle.plain_scheduler.specs.Moves.{task, put, appended, tell}
+use Rattle.plain_scheduler.specs.Calls as calls
+use Rattle.solo_laws.specs.Alike.{PendsAlike, GivesAlike}
+use Rattle.solo_laws.specs.Road.{IsTaskOf, Follows, HasLife, IsInside, apart, is_forgotten, stands, is_in, lents, drops}
+use Rattle.solo_laws.specs.Road.{wakes as wakes_of}
+use Rattle.solo_laws.proofs.Roads.Seeing.{seen}
+use Rattle.solo_laws.proofs.Roads.Due.{clash, both_true, not_true, equal}
+use Rattle.solo_laws.proofs.Roads.Inside.{home_lent, lent_dropping, lent_stays, same_inside, one_dropped, less_lent}
+use Rattle.solo_laws.proofs.Roads.Cells.{found, of_found, asks_found, changed_found, found_here}
+use Rattle.solo_laws.proofs.Roads.Tasks.{none_told}
+use Rattle.solo_laws.proofs.Roads.Changing.{task_is, kept, turned, lined}
+use Rattle.solo_laws.proofs.Roads.Placing.{places}
+use Rattle.solo_laws.proofs.Roads.Lines.{younger, life_pushed}
+use Rattle.solo_laws.proofs.Roads.Using.{put_long, put_due, put_lying, put_inside, marks}
+use Rattle.solo_laws.proofs.Roads.Telling.{told}
+use Rattle.solo_laws.proofs.Roads.Trying.{put_same}
+
+module _ {T A : Type 0} where
+  -- what waits again is in reach
+  rests_reached : (t : AbstractTask T A) → abstract.pending_end t ≡ EndRests → is_forgotten (record t { phase = Idle }) ≡ false
+  rests_reached t is = by t.closed t.handle t.phase t.wakers is
+    where
+      none : (b : Bool) → (if b then EndForgets else EndRests) ≡ EndRests → b ≡ false
+      none true is = absurd cc
+      none false is = refl
+
+      by : (closed handle : Bool) (phase : Phase) (n : ℕ)
+          → (if closed then EndDrops else abstract.pending_end_of_open phase handle n) ≡ EndRests
+          → (not closed && (not handle && (n == 0))) ≡ false
+      by true handle phase n is = refl
+      by false true phase n is = refl
+      by false false PollingWoken n is = absurd cc
+      by false false Idle n is = none (n == 0) is
+      by false false Queued n is = none (n == 0) is
+      by false false Polling n is = none (n == 0) is
+      by false false Finished n is = none (n == 0) is
+
+module _ {T X : Type 0} (place : EntryPlace) where
+  -- how the end leaves a task's state, and the task that is kept
+  abbrev pub left_so : abstract.PendingEnd → AbstractTask T (SoloWaker X) → AbstractTask T (SoloWaker X)
+  left_so e t = (local.settle_pending_by e place t).task
+
+  abbrev pub kept_so : abstract.PendingEnd → Kept T X → Kept T X
+  kept_so e v = cells.settled (local.settle_pending_by e place v.task) v
+
+  ended_is : (e : abstract.PendingEnd) (v : Kept T X) → cells.is_lent v ≡ true → abstract.pending_end v.task ≡ e
+      → cells.ended_pending place v ≡ kept_so e v
+  ended_is e v lent is =
+      ap (λ b. choose b (cells.settled (local.settle_pending_by (abstract.pending_end v.task) place v.task) v) v) lent
+      ∙ ap (λ e. cells.settled (local.settle_pending_by e place v.task) v) is
+
+  left_is : (e : abstract.PendingEnd) (v : Kept T X) (x : Future T (SoloWaker X)) → cells.is_lent v ≡ true
+      → abstract.pending_end x.task ≡ e
+      → IsTaskOf v x → IsTaskOf (kept_so e v) (record x { task = told_of (left_so e x.task) })
+  left_is EndDrops v x lent is of = record {
+    task = ap (λ t. told_of t) of.task;
+    mark = of.mark;
+    told = refl;
+    idle = λ idle. absurd (clash (home_lent v.future (of.idle idle)) lent);
+    done = λ gone. absurd cc;
+    reached = of.reached;
+    there = λ stays. of.there (lent_stays v.future lent);
+  }
+  left_is EndQueues v x lent is of = record {
+    task = ap (λ t. told_of (abstract.queue true t)) of.task;
+    mark = of.mark;
+    told = refl;
+    idle = λ idle. refl;
+    done = λ gone. absurd cc;
+    reached = refl;
+    there = λ stays. of.there (lent_stays v.future lent);
+  }
+  left_is EndForgets v x lent is of = record {
+    task = ap (λ (t : AbstractTask T (SoloWaker X)). told_of (record t { phase = Finished; closed = true })) of.task;
+    mark = of.mark;
+    told = refl;
+    idle = λ idle. absurd cc;
+    done = λ gone. absurd cc;
+    reached = refl;
+    there = λ stays. of.there (lent_stays v.future lent);
+  }
+  left_is EndRests v x lent is of = record {
+    task = ap (λ (t : AbstractTask T (SoloWaker X)). told_of (record t { phase = Idle })) of.task;
+    mark = of.mark;
+    told = refl;
+    idle = λ idle. refl;
+    done = λ gone. absurd cc;
+    reached = rests_reached x.task is;
+    there = λ stays. of.there (lent_stays v.future lent);
+  }
+
+module _ {F T X : Type 0} (name : ℕ → Task) (s : Solo F T X) (p : Plain T (SoloWaker X)) (r : Follows name s p) (c : Choice)
+    (f : ℕ)
+    (place : EntryPlace) (future : F) (at : f < length p.futures) (has : asked cells.is_lent false (name f) s.cells ≡ true)
+    (not_lent : is_in f (lents p.inside) ≡ false) where
+  abbrev now : Solo F T X
+  now = turns.turned (cells.ended_pending place) (name f) s
+
+  abbrev its : Lent
+  its = record { task = name f; place = place }
+
+  abbrev Its : Type 0
+  Its = (v : Kept T X) × (x : Future T (SoloWaker X)) × (found (name f) s.cells ≡ Some v) × (slice_get p.futures f ≡ Some x)
+      × (cells.is_lent v ≡ true) × IsTaskOf v x
+
+  it : Its
+  it = kept None name cells.is_lent f s p r at has
+
+  lent_of : (v : Kept T X) → found (name f) s.cells ≡ Some v → cells.is_lent v ≡ true
+  lent_of v here = sym (ap (of_found cells.is_lent false) here) ∙ (sym (asks_found cells.is_lent false (name f) s.cells) ∙ has)
+
+  not_so : (q : Kept T X → Bool) → ((v : Kept T X) → cells.is_lent v ≡ true → q v ≡ false) → (b : Bool)
+      → (b ≡ true → asked q false (name f) s.cells ≡ true) → b ≡ false
+  not_so q never false is = refl
+  not_so q never true is =
+      absurd (clash (never it.0 (lent_of it.0 it.2))
+      (sym (ap (of_found q false) it.2) ∙ (sym (asks_found q false (name f) s.cells) ∙ is refl)))
+
+  not_due : stands f p.due ≡ false
+  not_due =
+      not_so cells.may_start (λ v lent. by (is_home v.future) (is_queued v.task.phase) (home_lent v.future) lent) (stands f p.due)
+      (λ due. (r.ready f due).1)
+    where
+      by : (home queued : Bool) {lent : Bool} → (home ≡ true → lent ≡ false) → lent ≡ true → (home && queued) ≡ false
+      by true queued never is = absurd (clash (never refl) is)
+      by false queued never is = refl
+
+  not_dropped : is_in f (drops p.inside) ≡ false
+  not_dropped =
+      not_so cells.is_dropping (λ v lent. lent_dropping v.future lent) (is_in f (drops p.inside))
+      (λ has. (r.inside.dropping f has).1)
+
+  module _ (e : abstract.PendingEnd) (is : abstract.pending_end (task f p) ≡ e) where
+    abbrev after : Plain T (SoloWaker X)
+    after = put f (left_so place e (task f p)) p
+
+    end_of : (v : Kept T X) (x : Future T (SoloWaker X)) → slice_get p.futures f ≡ Some x → IsTaskOf v x
+        → abstract.pending_end x.task ≡ e
+    end_of v x here of = ap (λ t. abstract.pending_end t) (sym (task_is f p x here)) ∙ is
+
+    next : Follows name now after
+    next =
+        turned None name (cells.ended_pending place) (left_so place e) f s p at
+        (λ none over. absurd (clash refl (sym (ap (of_found cells.is_lent false) none)
+        ∙ (sym (asks_found cells.is_lent false (name f) s.cells) ∙ has))))
+        (λ v x here is of.
+        let end = end_of v x is of in
+        record {
+          is =
+              subst (λ w. IsTaskOf w (record x { task = told_of (left_so place e x.task) }))
+              (sym (ended_is place e v (lent_of v here) (ap (λ t. abstract.pending_end t) of.task ∙ end)))
+              (left_is place e v x (lent_of v here) end of);
+          ready = λ due start. absurd (clash not_due due);
+          lent = λ has so. absurd (clash not_lent has);
+          dropping = λ has so. absurd (clash not_dropped has);
+        })
+        r
+
+    -- what is so of it then
+    asks_so : (q : Kept T X → Bool) → q (kept_so place e it.0) ≡ true
+        → asked q false (name f) (cells.changed (cells.ended_pending place) (name f) s.cells) ≡ true
+    asks_so q so =
+        asks_found q false (name f) (cells.changed (cells.ended_pending place) (name f) s.cells)
+        ∙ (ap (of_found q false) (found_here (cells.ended_pending place) (name f) s.cells
+        ∙ ap (changed_found (cells.ended_pending place)) it.2)
+        ∙ (ap q (ended_is place e it.0 it.4 (ap (λ t. abstract.pending_end t) it.5.task ∙ end_of it.0 it.1 it.3 it.5)) ∙ so))
+
+    here : f < length after.futures
+    here = subst (λ n. f < n) (sym (put_long f (left_so place e (task f p)) p)) at
+
+    -- the future is to be dropped
+    drops_it : (code : Code T (SoloWaker X)) → lents (code ∷ after.inside) ≡ lents after.inside → drops (code ∷ after.inside)
+        ≡ f ∷ drops after.inside
+        → cells.is_dropping (kept_so place e it.0) ≡ true
+        → Follows name now (record after { events = after.events ++ Drops f ∷ []; inside = code ∷ after.inside })
+    drops_it code lent dropped so =
+        seen name now after (after.events ++ Drops f ∷ []) (code ∷ after.inside)
+        (one_dropped name (length after.futures) now.cells after.inside (code ∷ after.inside) next.inside f here lent dropped
+        (asks_so cells.is_dropping so)
+        (subst (λ cs. is_in f (drops cs) ≡ false) (sym (put_inside f (left_so place e (task f p)) p)) not_dropped)) next
+
+    -- the future is back
+    back : Follows name (solo.put_back its future now) after
+    back = record {
+      numbered = next.numbered;
+      tasks = next.tasks;
+      within = next.within;
+      queued = next.queued;
+      once = next.once;
+      ready = next.ready;
+      asleep = next.asleep;
+      inside = next.inside;
+    }
+
+    -- and is queued
+    queues_it : length p.lying ≤ c.tells → HasLife 2 s.lines → cells.may_start (kept_so place e it.0) ≡ true
+        → Follows name (turns.scheduled (name f) (solo.put_back its future now)) (tell wakes_of c (appended f after))
+    queues_it many life so =
+        let none : stands f after.due ≡ false =
+        subst (λ due. stands f due ≡ false) (sym (put_due f (left_so place e (task f p)) p)) not_due in
+        let ready : asked cells.may_start false (name f) (cells.changed (cells.ended_pending place) (name f) s.cells) ≡ true =
+        asks_so cells.may_start so in
+        let found_now : found (name f) (cells.changed (cells.ended_pending place) (name f) s.cells)
+        ≡ Some (cells.ended_pending place it.0) =
+        found_here (cells.ended_pending place) (name f) s.cells ∙ ap (changed_found (cells.ended_pending place)) it.2 in
+        let there = solo.put_back its future now in
+        let room : turns.takes (name f) there ≡ true =
+        places None name there after back f here none ready (younger 1 s.lines life) (turns.mark_of (name f) there) in
+        let few : length (appended f after).lying ≤ c.tells =
+        subst (λ (ls : List (Lying (SoloWaker X))). length ls ≤ c.tells)
+        (sym (put_lying f (left_so place e (task f p)) p)) many in
+        subst (λ b. Follows name (choose b (turns.told (turns.lined (name f) there)) (turns.lined (name f) there))
+        (tell wakes_of c (appended f after)))
+        (sym room)
+        (told None name c (turns.lined (name f) there) (appended f after) few
+        (lined None name f there after room (marks None name f there after
+        (cells.ended_pending place it.0) here back found_now) here none ready back)
+        (life_pushed (name f) 1 (turns.mark_of (name f) there) s.lines life))
+
+  infos : (task f p).infos ≡ []
+  infos =
+      ap (λ (t : AbstractTask T (SoloWaker X)). t.infos) (task_is f p it.1 it.3) ∙ told_so it.5
+    where
+      told_so : {v : Kept T X} {x : Future T (SoloWaker X)} → IsTaskOf v x → x.task.infos ≡ []
+      told_so of = of.told
+
+  pub ends : length p.lying ≤ c.tells → HasLife 2 s.lines → (e : abstract.PendingEnd) → abstract.pending_end (task f p) ≡ e
+      → Follows name (solo.pending_by (cells.pending_by e) its future now) (calls.pending_by wakes_of c e f Try p)
+  ends many life EndDrops is =
+      subst
+      (λ q. Follows name now (record q { events = q.events ++ Drops f ∷ []; inside = DropCode f Closed Try ∷ q.inside }))
+      (put_same f p at infos)
+      (drops_it EndDrops is (DropCode f Closed Try) refl refl refl)
+  ends many life EndForgets is = drops_it EndForgets is (DropCode f Forgotten Try) refl refl refl
+  ends many life EndRests is =
+      let q = after EndRests is in
+      let all = back EndRests is in
+      subst
+      (λ e. Follows name (solo.put_back its future now)
+      (let new = (abstract.end_pending_by e (task f p)).task in
+      let q = if is_some (info_of (task f p) new) then tell wakes_of c (appended f (put f new p)) else put f new p in
+      record q { events = q.events ++ Answers Yes ∷ [] }))
+      (sym is)
+      (subst
+      (λ b. Follows name (solo.put_back its future now)
+      (let q = if b then tell wakes_of c
+      (appended f (after EndRests is)) else after EndRests is in record q { events = q.events ++ Answers Yes ∷ [] }))
+      (sym (none_told (task f p)))
+      (seen name (solo.put_back its future now) q (q.events ++ Answers Yes ∷ []) q.inside all.inside all))
+  ends many life EndQueues is =
+      let q = tell wakes_of c (appended f (after EndQueues is)) in
+      let all = queues_it EndQueues is many life refl in
+      subst
+      (λ e. Follows name (turns.scheduled (name f) (solo.put_back its future now))
+      (let new = (abstract.end_pending_by e (task f p)).task in
+      let q = if is_some (info_of (task f p) new) then tell wakes_of c (appended f (put f new p)) else put f new p in
+      record q { events = q.events ++ Answers Yes ∷ [] }))
+      (sym is)
+      (subst
+      (λ b. Follows name (turns.scheduled (name f) (solo.put_back its future now))
+      (let q = if b then tell wakes_of c
+      (appended f (after EndQueues is)) else after EndQueues is in record q { events = q.events ++ Answers Yes ∷ [] }))
+      (sym (ap (λ (infos : List Bool). is_some (info_from (slice_get (infos ++ true ∷ []) (length infos)))) infos))
+      (seen name (turns.scheduled (name f) (solo.put_back its future now)) q
+      (q.events ++ Answers Yes ∷ []) q.inside all.inside all))
+
+module _ {F T X : Type 0} (name : ℕ → Task) (s : Solo F T X) (p : Plain T (SoloWaker X)) (r : Follows name s p) where
+  -- one that gave an output stays out until its future is dropped
+  pub gives_alike : GivesAlike name s p
+  gives_alike c f by rest v stands_in =
+      let now : List (Code T (SoloWaker X)) = DropCode f (Gave v) by ∷ rest in
+      subst
+      (λ cs. Follows name s (calls.innermost wakes_of c cs (calls.gives wakes_of c v) p))
+      (sym stands_in)
+      (seen name s p (p.events ++ Drops f ∷ []) now
+      (same_inside name (length p.futures) s.cells p.inside now r.inside
+      (sym (ap (λ cs. lents cs) stands_in)) (sym (ap (λ cs. drops cs) stands_in))) r)
+
+  pub pends_alike : PendsAlike name s p
+  pends_alike c f rest lent future stands_in names many life =
+      let out : lents p.inside ≡ f ∷ lents rest = ap (λ cs. lents cs) stands_in in
+      let here = r.inside.lent f (ap (is_in f) out ∙ ap (λ b. cond b true (is_in f (lents rest))) (equal f f refl)) in
+      let left : IsInside name (length p.futures) s.cells rest =
+      less_lent name (length p.futures) s.cells p.inside rest r.inside f out (ap (λ cs. drops cs) stands_in) in
+      let once = both_true (not (is_in f (lents rest))) (apart (lents rest))
+      (sym (ap (λ ns. apart ns) out) ∙ r.inside.lent_once) in
+      let q : Plain T (SoloWaker X) = record p { inside = rest } in
+      let all : Follows name s q = seen name s p p.events rest left r in
+      let its : Lent = record { task = name f; place = lent.place } in
+      let k = kept None name cells.is_lent f s q all here.0 here.1 in
+      let answer : solo.after_poll its s ≡ cells.pending_by (abstract.pending_end (task f q)) =
+      asks_found cells.pending_answer Unknown (name f) s.cells
+      ∙ (ap (of_found cells.pending_answer Unknown) k.2
+      ∙ (ap (λ b. choose b (cells.pending_by (abstract.pending_end k.0.task)) Unknown) k.4
+      ∙ ap (λ t. cells.pending_by (abstract.pending_end t)) (k.5.task ∙ sym (task_is f q k.1 k.3)))) in
+      subst
+      (λ cs. Follows name (solo.settled_pending lent future s) (calls.innermost wakes_of c cs (calls.pends wakes_of c) p))
+      (sym stands_in)
+      (subst (λ l. Follows name (solo.settled_pending l future s)
+      (calls.pending_by wakes_of c (abstract.pending_end (task f q)) f Try q))
+      (sym (ap (λ t. record { task = t; place = lent.place }) names))
+      (subst (λ a. Follows name (solo.pending_by a its future (turns.turned (cells.ended_pending lent.place) (name f) s))
+      (calls.pending_by wakes_of c (abstract.pending_end (task f q)) f Try q))
+      (sym answer)
+      (ends name s q all c f lent.place future here.0 here.1 (not_true (is_in f (lents rest)) once.0) many life
+      (abstract.pending_end (task f q)) refl)))

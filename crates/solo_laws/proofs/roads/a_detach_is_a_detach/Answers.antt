@@ -1,0 +1,5 @@
+use Rattle.solo_laws.proofs.Roads.Handling.{detaches_alike}
+use Rattle.solo_laws.proofs.roads.a_detach_is_a_detach.Goals as goal
+
+pub returns : goal.returns
+returns g c name s p r = detaches_alike name s p r

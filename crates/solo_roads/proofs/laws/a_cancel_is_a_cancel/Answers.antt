@@ -1,5 +1,0 @@
-use Rattle.solo_roads.proofs.Waking.{cancels_alike}
-use Rattle.solo_roads.proofs.laws.a_cancel_is_a_cancel.Goals as goal
-
-pub returns : goal.returns
-returns g c name s p r = cancels_alike name s p r

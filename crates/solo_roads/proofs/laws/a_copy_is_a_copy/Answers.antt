@@ -1,5 +1,0 @@
-use Rattle.solo_roads.proofs.Handling.{copies_alike}
-use Rattle.solo_roads.proofs.laws.a_copy_is_a_copy.Goals as goal
-
-pub returns : goal.returns
-returns g c name s p r = copies_alike name s p r

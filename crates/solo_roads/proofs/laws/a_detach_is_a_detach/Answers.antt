@@ -1,5 +1,0 @@
-use Rattle.solo_roads.proofs.Handling.{detaches_alike}
-use Rattle.solo_roads.proofs.laws.a_detach_is_a_detach.Goals as goal
-
-pub returns : goal.returns
-returns g c name s p r = detaches_alike name s p r

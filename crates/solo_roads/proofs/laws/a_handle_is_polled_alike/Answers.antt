@@ -1,5 +1,0 @@
-use Rattle.solo_roads.proofs.Handling.{polls_alike}
-use Rattle.solo_roads.proofs.laws.a_handle_is_polled_alike.Goals as goal
-
-pub returns : goal.returns
-returns g c name s p r = polls_alike name s p r

@@ -1,5 +1,0 @@
-use Rattle.solo_roads.proofs.Ending.{pends_alike}
-use Rattle.solo_roads.proofs.laws.a_poll_ends_alike.Goals as goal
-
-pub returns : goal.returns
-returns g c name s p r = pends_alike name s p r

@@ -1,5 +1,0 @@
-use Rattle.solo_roads.proofs.Ending.{gives_alike}
-use Rattle.solo_roads.proofs.laws.a_poll_gives_alike.Goals as goal
-
-pub returns : goal.returns
-returns g c name s p r = gives_alike name s p r

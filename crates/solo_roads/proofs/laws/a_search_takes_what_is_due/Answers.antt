@@ -1,5 +1,0 @@
-use Rattle.solo_roads.proofs.Taking.{searched_alike}
-use Rattle.solo_roads.proofs.laws.a_search_takes_what_is_due.Goals as goal
-
-pub returns : goal.returns
-returns c name lines due = searched_alike name lines due

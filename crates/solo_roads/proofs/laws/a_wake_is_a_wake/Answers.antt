@@ -1,5 +1,0 @@
-use Rattle.solo_roads.proofs.Waking.{wakes_alike}
-use Rattle.solo_roads.proofs.laws.a_wake_is_a_wake.Goals as goal
-
-pub returns : goal.returns
-returns g c name s p r = wakes_alike name s p r

@@ -1,5 +1,0 @@
-use Rattle.solo_roads.proofs.Waking.{releases_alike, uses_alike}
-use Rattle.solo_roads.proofs.laws.a_waker_goes_alike.Goals as goal
-
-pub returns : goal.returns
-returns g c name s p r = (releases_alike name s p r, uses_alike name s p r)

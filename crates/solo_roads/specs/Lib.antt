@@ -1,2 +1,0 @@
-pub mod Road
-pub mod Alike

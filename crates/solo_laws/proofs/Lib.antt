@@ -26,4 +26,4 @@ pub mod Looks
 pub mod RoomParts
 pub mod RoomFrames
 pub mod RoomCourses
-pub mod Roads
+pub mod Following

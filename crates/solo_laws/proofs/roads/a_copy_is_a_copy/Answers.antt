@@ -1,4 +1,4 @@
-use Rattle.solo_laws.proofs.Roads.Handling.{copies_alike}
+use Rattle.solo_laws.proofs.Following.Handling.{copies_alike}
 use Rattle.solo_laws.proofs.roads.a_copy_is_a_copy.Goals as goal
 
 pub returns : goal.returns

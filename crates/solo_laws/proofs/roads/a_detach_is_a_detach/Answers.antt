@@ -1,4 +1,4 @@
-use Rattle.solo_laws.proofs.Roads.Handling.{detaches_alike}
+use Rattle.solo_laws.proofs.Following.Handling.{detaches_alike}
 use Rattle.solo_laws.proofs.roads.a_detach_is_a_detach.Goals as goal
 
 pub returns : goal.returns

@@ -1,4 +1,4 @@
-use Rattle.solo_laws.proofs.Roads.Handling.{polls_alike}
+use Rattle.solo_laws.proofs.Following.Handling.{polls_alike}
 use Rattle.solo_laws.proofs.roads.a_handle_is_polled_alike.Goals as goal
 
 pub returns : goal.returns

@@ -1,4 +1,4 @@
-use Rattle.solo_laws.proofs.Roads.Ending.{pends_alike}
+use Rattle.solo_laws.proofs.Following.Ending.{pends_alike}
 use Rattle.solo_laws.proofs.roads.a_poll_ends_alike.Goals as goal
 
 pub returns : goal.returns

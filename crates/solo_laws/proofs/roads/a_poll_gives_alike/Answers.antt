@@ -1,4 +1,4 @@
-use Rattle.solo_laws.proofs.Roads.Ending.{gives_alike}
+use Rattle.solo_laws.proofs.Following.Ending.{gives_alike}
 use Rattle.solo_laws.proofs.roads.a_poll_gives_alike.Goals as goal
 
 pub returns : goal.returns

@@ -1,4 +1,4 @@
-use Rattle.solo_laws.proofs.Roads.Waking.{releases_alike, uses_alike}
+use Rattle.solo_laws.proofs.Following.Waking.{releases_alike, uses_alike}
 use Rattle.solo_laws.proofs.roads.a_waker_goes_alike.Goals as goal
 
 pub returns : goal.returns

@@ -1,4 +1,4 @@
-use Rattle.solo_laws.proofs.Roads.Beginning.{begins}
+use Rattle.solo_laws.proofs.Following.Beginning.{begins}
 use Rattle.solo_laws.proofs.roads.both_begin_alike.Goals as goal
 
 pub returns : goal.returns

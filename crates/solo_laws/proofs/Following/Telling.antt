@@ -14,9 +14,9 @@ use Rattle.plain_scheduler.specs.State.{Due, Lying, Choice, Plain}
 use Rattle.plain_scheduler.specs.Lists.{any, on}
 use Rattle.plain_scheduler.specs.Moves.{is_called, called, used, tell, told_at}
 use Rattle.solo_laws.specs.Road.{FollowsBut, HasLife, wakes, is_told, wakers_in}
-use Rattle.solo_laws.proofs.Roads.Lists.{get_below, get_take, map_take, length_set, length_map}
-use Rattle.solo_laws.proofs.Roads.Quiet.{quietly, used_long}
-use Rattle.solo_laws.proofs.Roads.Lying.{waker_at, all_waking, waking_at, called_one, last_called, one_called, its_waker_of}
+use Rattle.solo_laws.proofs.Following.Lists.{get_below, get_take, map_take, length_set, length_map}
+use Rattle.solo_laws.proofs.Following.Quiet.{quietly, used_long}
+use Rattle.solo_laws.proofs.Following.Lying.{waker_at, all_waking, waking_at, called_one, last_called, one_called, its_waker_of}
 
 equal_test : (n m : ℕ) → n ≡ m → (n == m) ≡ true
 equal_test n m is = grind (arith, nat_tests)

@@ -17,13 +17,13 @@ use Rattle.solo.specs.Turns as turns
 use Rattle.plain_scheduler.specs.State.{Due, Plain}
 use Rattle.plain_scheduler.specs.Moves.{put, task, appended, becomes, used}
 use Rattle.solo_laws.specs.Road.{FollowsBut, HasLife, wakes as wakes_of}
-use Rattle.solo_laws.proofs.Roads.Due.{clash, both_true}
-use Rattle.solo_laws.proofs.Roads.Cells.{found, of_found, asks_found, changed_found, found_here}
-use Rattle.solo_laws.proofs.Roads.Tasks.{queues, queued_idle, wakes, releases, uses}
-use Rattle.solo_laws.proofs.Roads.Changing.{kept}
-use Rattle.solo_laws.proofs.Roads.Sweeping.{swept}
-use Rattle.solo_laws.proofs.Roads.Using.{used_kept, use_queues, wake_and_release, used_fits, becoming, changed_twice, asked_twice}
-use Rattle.solo_laws.proofs.Roads.Using.{put_long}
+use Rattle.solo_laws.proofs.Following.Due.{clash, both_true}
+use Rattle.solo_laws.proofs.Following.Cells.{found, of_found, asks_found, changed_found, found_here}
+use Rattle.solo_laws.proofs.Following.Tasks.{queues, queued_idle, wakes, releases, uses}
+use Rattle.solo_laws.proofs.Following.Changing.{kept}
+use Rattle.solo_laws.proofs.Following.Sweeping.{swept}
+use Rattle.solo_laws.proofs.Following.Using.{used_kept, use_queues, wake_and_release, used_fits, becoming, changed_twice, asked_twice}
+use Rattle.solo_laws.proofs.Following.Using.{put_long}
 
 module _ {T X : Type 0} where
   pub becomes_long : (more : Plain T (SoloWaker X) → Plain T (SoloWaker X))

@@ -15,8 +15,8 @@ use Rattle.plain_scheduler.specs.State.{Due}
 use Rattle.plain_scheduler.specs.Lists.{any, without}
 use Rattle.plain_scheduler.specs.Moves.{is_common}
 use Rattle.solo_laws.specs.Road.{named, count_of, HasLife}
-use Rattle.solo_laws.proofs.Roads.Due.{and_true, not_false}
-use Rattle.solo_laws.proofs.Roads.Lists.{map_append}
+use Rattle.solo_laws.proofs.Following.Due.{and_true, not_false}
+use Rattle.solo_laws.proofs.Following.Lists.{map_append}
 
 module _ {A : Type 0} (test : A → Bool) where
   abbrev pub kept_if : Bool → A → List A

@@ -14,7 +14,7 @@ use Rattle.plain_scheduler.specs.State.{Due}
 use Rattle.plain_scheduler.specs.Lists.{any, without}
 use Rattle.plain_scheduler.specs.Moves.{is_common, chosen}
 use Rattle.solo_laws.specs.Road.{named, name_of as named_of, Lined as LinedBy, tests, SearchesAlike}
-use Rattle.solo_laws.proofs.Roads.Lines.{find_first, without_first, without_other}
+use Rattle.solo_laws.proofs.Following.Lines.{find_first, without_first, without_other}
 
 module _ {A : Type 0} (test : A → Bool) where
   pub found_any : (xs : List A) → any test xs ≡ is_some (find test xs)

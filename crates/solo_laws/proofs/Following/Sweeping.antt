@@ -18,10 +18,10 @@ use Rattle.solo.specs.Cells as cells
 use Rattle.solo.specs.Turns as turns
 use Rattle.plain_scheduler.specs.State.{Due, Future, Plain}
 use Rattle.solo_laws.specs.Road.{TaskIs, IsTaskOf, IsOver, FollowsBut, is_done}
-use Rattle.solo_laws.proofs.Roads.Due.{clash, both_true, not_true}
-use Rattle.solo_laws.proofs.Roads.Cells.{same_number, found, of_found, asks_found}
-use Rattle.solo_laws.proofs.Roads.Inside.{home_stays, lent_stays, dropping_stays}
-use Rattle.solo_laws.proofs.Roads.Changing.{kept}
+use Rattle.solo_laws.proofs.Following.Due.{clash, both_true, not_true}
+use Rattle.solo_laws.proofs.Following.Cells.{same_number, found, of_found, asks_found}
+use Rattle.solo_laws.proofs.Following.Inside.{home_stays, lent_stays, dropping_stays}
+use Rattle.solo_laws.proofs.Following.Changing.{kept}
 
 none_of : {B : Type 0} (o : Option B) → not (is_some o) ≡ true → o ≡ None
 none_of None is = refl

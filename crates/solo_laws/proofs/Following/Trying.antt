@@ -29,18 +29,18 @@ use Rattle.solo_laws.specs.Road.{IsTaskOf, IsOver, is_in, lents, drops, FollowsB
 use Rattle.solo_laws.specs.Road.{once, is_forgotten}
 use Rattle.solo_laws.specs.Road.{count_of, tests, name_of, wakes}
 use Rattle.solo_laws.specs.Alike.{TakesAlike}
-use Rattle.solo_laws.proofs.Roads.Lists.{get_below}
-use Rattle.solo_laws.proofs.Roads.Seeing.{seen}
-use Rattle.solo_laws.proofs.Roads.Cells.{found, of_found, asks_found, changed_found, found_here, same_number}
-use Rattle.solo_laws.proofs.Roads.Inside.{home_stays, home_lent, home_dropping, one_lent, one_dropped}
-use Rattle.solo_laws.proofs.Roads.Due.{clash, both_true, and_true, not_true, not_false, later, equal, stood, once_without}
-use Rattle.solo_laws.proofs.Roads.Due.{found_stands, found_gone}
-use Rattle.solo_laws.proofs.Roads.Tasks.{queued_idle}
-use Rattle.solo_laws.proofs.Roads.Lines.{searched_same}
-use Rattle.solo_laws.proofs.Roads.Changing.{task_is, put_is, kept, turned}
-use Rattle.solo_laws.proofs.Roads.Taking.{searched_alike, found_any, without_none}
-use Rattle.solo_laws.proofs.Roads.Telling.{told}
-use Rattle.solo_laws.proofs.Roads.Using.{stays, put_long, put_inside}
+use Rattle.solo_laws.proofs.Following.Lists.{get_below}
+use Rattle.solo_laws.proofs.Following.Seeing.{seen}
+use Rattle.solo_laws.proofs.Following.Cells.{found, of_found, asks_found, changed_found, found_here, same_number}
+use Rattle.solo_laws.proofs.Following.Inside.{home_stays, home_lent, home_dropping, one_lent, one_dropped}
+use Rattle.solo_laws.proofs.Following.Due.{clash, both_true, and_true, not_true, not_false, later, equal, stood, once_without}
+use Rattle.solo_laws.proofs.Following.Due.{found_stands, found_gone}
+use Rattle.solo_laws.proofs.Following.Tasks.{queued_idle}
+use Rattle.solo_laws.proofs.Following.Lines.{searched_same}
+use Rattle.solo_laws.proofs.Following.Changing.{task_is, put_is, kept, turned}
+use Rattle.solo_laws.proofs.Following.Taking.{searched_alike, found_any, without_none}
+use Rattle.solo_laws.proofs.Following.Telling.{told}
+use Rattle.solo_laws.proofs.Following.Using.{stays, put_long, put_inside}
 
 set_same_one : {B : Type 0} (xs : List B) (i : ℕ) (x : B) → slice_get xs i ≡ Some x → slice_set xs i x ≡ xs
 set_same_one [] i x is = refl

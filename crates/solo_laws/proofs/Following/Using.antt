@@ -22,12 +22,12 @@ use Rattle.plain_scheduler.specs.State.{Due, Future, Plain}
 use Rattle.plain_scheduler.specs.Lists.{on}
 use Rattle.plain_scheduler.specs.Moves.{put, task, mark, appended, becomes}
 use Rattle.solo_laws.specs.Road.{IsTaskOf, TaskIs, IsOver, FollowsBut, beside, HasLife, stands, is_forgotten, wakes as wakes_of}
-use Rattle.solo_laws.proofs.Roads.Lists.{get_below, length_set}
-use Rattle.solo_laws.proofs.Roads.Due.{clash, both_true, and_true}
-use Rattle.solo_laws.proofs.Roads.Cells.{found, of_found, asks_found, changed_found, found_here, with_cell}
-use Rattle.solo_laws.proofs.Roads.Tasks.{IsChange, queues, none_told, queued_idle, wakes}
-use Rattle.solo_laws.proofs.Roads.Changing.{task_is, mark_is, kept, turned, lined, Goes}
-use Rattle.solo_laws.proofs.Roads.Placing.{places}
+use Rattle.solo_laws.proofs.Following.Lists.{get_below, length_set}
+use Rattle.solo_laws.proofs.Following.Due.{clash, both_true, and_true}
+use Rattle.solo_laws.proofs.Following.Cells.{found, of_found, asks_found, changed_found, found_here, with_cell}
+use Rattle.solo_laws.proofs.Following.Tasks.{IsChange, queues, none_told, queued_idle, wakes}
+use Rattle.solo_laws.proofs.Following.Changing.{task_is, mark_is, kept, turned, lined, Goes}
+use Rattle.solo_laws.proofs.Following.Placing.{places}
 
 no_waker : (n : ℕ) → nat_lt 0 n ≡ false → n - 1 ≡ n
 no_waker n is = omega (arith, none n is)

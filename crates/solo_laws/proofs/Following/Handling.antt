@@ -21,17 +21,17 @@ use Rattle.plain_scheduler.specs.Calls as calls
 use Rattle.solo_laws.specs.Alike.{CopiesAlike, PollsAlike, DetachesAlike}
 use Rattle.solo_laws.specs.Road.{IsTaskOf, TaskIs, Follows, is_forgotten, is_done}
 use Rattle.solo_laws.specs.Road.{wakes as wakes_of}
-use Rattle.solo_laws.proofs.Roads.Lists.{get_below}
-use Rattle.solo_laws.proofs.Roads.Seeing.{seen}
-use Rattle.solo_laws.proofs.Roads.Due.{clash, both_true, and_true}
-use Rattle.solo_laws.proofs.Roads.Inside.{same_inside}
-use Rattle.solo_laws.proofs.Roads.Cells.{found, of_found, asks_found}
-use Rattle.solo_laws.proofs.Roads.Tasks.{detaches}
-use Rattle.solo_laws.proofs.Roads.Changing.{task_is, turned}
-use Rattle.solo_laws.proofs.Roads.Using.{detached_fits, told_over}
-use Rattle.solo_laws.proofs.Roads.Sweeping.{swept}
-use Rattle.solo_laws.proofs.Roads.Waking.{changes, below, is_there}
-use Rattle.solo_laws.proofs.Roads.Trying.{put_same, untold}
+use Rattle.solo_laws.proofs.Following.Lists.{get_below}
+use Rattle.solo_laws.proofs.Following.Seeing.{seen}
+use Rattle.solo_laws.proofs.Following.Due.{clash, both_true, and_true}
+use Rattle.solo_laws.proofs.Following.Inside.{same_inside}
+use Rattle.solo_laws.proofs.Following.Cells.{found, of_found, asks_found}
+use Rattle.solo_laws.proofs.Following.Tasks.{detaches}
+use Rattle.solo_laws.proofs.Following.Changing.{task_is, turned}
+use Rattle.solo_laws.proofs.Following.Using.{detached_fits, told_over}
+use Rattle.solo_laws.proofs.Following.Sweeping.{swept}
+use Rattle.solo_laws.proofs.Following.Waking.{changes, below, is_there}
+use Rattle.solo_laws.proofs.Following.Trying.{put_same, untold}
 
 none_of : (b : Bool) → (b && false) ≡ false
 none_of true = refl

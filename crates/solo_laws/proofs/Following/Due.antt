@@ -6,7 +6,7 @@ use Rattle.plain_scheduler.specs.State.{Due, Future}
 use Rattle.plain_scheduler.specs.Lists.{without}
 use Rattle.plain_scheduler.specs.Calls.{living_from}
 use Rattle.solo_laws.specs.Road.{stands, once, beside, is_in}
-use Rattle.solo_laws.proofs.Roads.Cells.{same_number}
+use Rattle.solo_laws.proofs.Following.Cells.{same_number}
 
 pub clash : {b : Bool} → b ≡ false → b ≡ true → ⊥
 clash off so = absurd cc

@@ -17,15 +17,15 @@ use Rattle.plain_scheduler.specs.State.{Due, Lying, Choice, Plain, Answers, Done
 use Rattle.plain_scheduler.specs.Moves.{task, put, appended, tell, becomes, wake, release, used}
 use Rattle.solo_laws.specs.Alike.{WakesAlike, CancelsAlike, ReleasesAlike, UsesAlike}
 use Rattle.solo_laws.specs.Road.{FollowsBut, Follows, HasLife, wakes as wakes_of}
-use Rattle.solo_laws.proofs.Roads.Seeing.{seen}
-use Rattle.solo_laws.proofs.Roads.Cells.{of_found, asks_found, found}
-use Rattle.solo_laws.proofs.Roads.Lines.{younger, life_pushed}
-use Rattle.solo_laws.proofs.Roads.Tasks.{IsChange, wakes, releases, uses, cancels}
-use Rattle.solo_laws.proofs.Roads.Using.{Fits, becoming, put_lying, woken_fits, released_fits, cancelled_fits, used_fits, used_kept}
-use Rattle.solo_laws.proofs.Roads.Using.{use_queues, wake_and_release}
-use Rattle.solo_laws.proofs.Roads.Quiet.{becomes_long, same_end, both_ask, first}
-use Rattle.solo_laws.proofs.Roads.Sweeping.{swept}
-use Rattle.solo_laws.proofs.Roads.Telling.{told, tell_long}
+use Rattle.solo_laws.proofs.Following.Seeing.{seen}
+use Rattle.solo_laws.proofs.Following.Cells.{of_found, asks_found, found}
+use Rattle.solo_laws.proofs.Following.Lines.{younger, life_pushed}
+use Rattle.solo_laws.proofs.Following.Tasks.{IsChange, wakes, releases, uses, cancels}
+use Rattle.solo_laws.proofs.Following.Using.{Fits, becoming, put_lying, woken_fits, released_fits, cancelled_fits, used_fits, used_kept}
+use Rattle.solo_laws.proofs.Following.Using.{use_queues, wake_and_release}
+use Rattle.solo_laws.proofs.Following.Quiet.{becomes_long, same_end, both_ask, first}
+use Rattle.solo_laws.proofs.Following.Sweeping.{swept}
+use Rattle.solo_laws.proofs.Following.Telling.{told, tell_long}
 
 module _ {T X : Type 0} where
   -- whether it is asked for an answer that is there

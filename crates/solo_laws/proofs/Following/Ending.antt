@@ -25,17 +25,17 @@ use Rattle.plain_scheduler.specs.Calls as calls
 use Rattle.solo_laws.specs.Alike.{PendsAlike, GivesAlike}
 use Rattle.solo_laws.specs.Road.{IsTaskOf, Follows, HasLife, IsInside, apart, is_forgotten, stands, is_in, lents, drops}
 use Rattle.solo_laws.specs.Road.{wakes as wakes_of}
-use Rattle.solo_laws.proofs.Roads.Seeing.{seen}
-use Rattle.solo_laws.proofs.Roads.Due.{clash, both_true, not_true, equal}
-use Rattle.solo_laws.proofs.Roads.Inside.{home_lent, lent_dropping, lent_stays, same_inside, one_dropped, less_lent}
-use Rattle.solo_laws.proofs.Roads.Cells.{found, of_found, asks_found, changed_found, found_here}
-use Rattle.solo_laws.proofs.Roads.Tasks.{none_told}
-use Rattle.solo_laws.proofs.Roads.Changing.{task_is, kept, turned, lined}
-use Rattle.solo_laws.proofs.Roads.Placing.{places}
-use Rattle.solo_laws.proofs.Roads.Lines.{younger, life_pushed}
-use Rattle.solo_laws.proofs.Roads.Using.{put_long, put_due, put_lying, put_inside, marks}
-use Rattle.solo_laws.proofs.Roads.Telling.{told}
-use Rattle.solo_laws.proofs.Roads.Trying.{put_same}
+use Rattle.solo_laws.proofs.Following.Seeing.{seen}
+use Rattle.solo_laws.proofs.Following.Due.{clash, both_true, not_true, equal}
+use Rattle.solo_laws.proofs.Following.Inside.{home_lent, lent_dropping, lent_stays, same_inside, one_dropped, less_lent}
+use Rattle.solo_laws.proofs.Following.Cells.{found, of_found, asks_found, changed_found, found_here}
+use Rattle.solo_laws.proofs.Following.Tasks.{none_told}
+use Rattle.solo_laws.proofs.Following.Changing.{task_is, kept, turned, lined}
+use Rattle.solo_laws.proofs.Following.Placing.{places}
+use Rattle.solo_laws.proofs.Following.Lines.{younger, life_pushed}
+use Rattle.solo_laws.proofs.Following.Using.{put_long, put_due, put_lying, put_inside, marks}
+use Rattle.solo_laws.proofs.Following.Telling.{told}
+use Rattle.solo_laws.proofs.Following.Trying.{put_same}
 
 module _ {T A : Type 0} where
   -- what waits again is in reach

@@ -16,10 +16,10 @@ use Rattle.plain_scheduler.specs.Lists.{on, or}
 use Rattle.plain_scheduler.specs.Moves.{put, task, mark, appended, no_task}
 use Rattle.solo_laws.specs.Road.{IsTaskOf, TaskIs, IsOver, IsAsleep, FollowsBut, beside, stands, once, is_in, lents}
 use Rattle.solo_laws.specs.Road.{drops}
-use Rattle.solo_laws.proofs.Roads.Due.{living_set, once_last, stands_last, beside_last}
-use Rattle.solo_laws.proofs.Roads.Lists.{set_same, set_other, get_below, length_set}
-use Rattle.solo_laws.proofs.Roads.Cells.{found, of_found, asks_found, there, changed_found, found_here, found_there, same_number}
-use Rattle.solo_laws.proofs.Roads.Lines as lines
+use Rattle.solo_laws.proofs.Following.Due.{living_set, once_last, stands_last, beside_last}
+use Rattle.solo_laws.proofs.Following.Lists.{set_same, set_other, get_below, length_set}
+use Rattle.solo_laws.proofs.Following.Cells.{found, of_found, asks_found, there, changed_found, found_here, found_there, same_number}
+use Rattle.solo_laws.proofs.Following.Lines as lines
 
 module _ {T A : Type 0} where
   -- the task of a future that is there

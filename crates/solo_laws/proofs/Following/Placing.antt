@@ -15,12 +15,12 @@ use Rattle.plain_scheduler.specs.State.{Due, Plain}
 use Rattle.plain_scheduler.specs.Moves.{is_common}
 use Rattle.plain_scheduler.specs.Calls.{living_from}
 use Rattle.solo_laws.specs.Road.{FollowsBut, beside, IsTaskOf, stands, once, named, is_in, HasLife}
-use Rattle.solo_laws.proofs.Roads.Lists.{length_map}
-use Rattle.solo_laws.proofs.Roads.Due.{both_true, and_true, not_false, room, lives, filter_short, beside_long}
-use Rattle.solo_laws.proofs.Roads.Cells.{same_number}
-use Rattle.solo_laws.proofs.Roads.Changing.{kept}
-use Rattle.solo_laws.proofs.Roads.Inside.{home_stays}
-use Rattle.solo_laws.proofs.Roads.Lines.{accepts_more}
+use Rattle.solo_laws.proofs.Following.Lists.{length_map}
+use Rattle.solo_laws.proofs.Following.Due.{both_true, and_true, not_false, room, lives, filter_short, beside_long}
+use Rattle.solo_laws.proofs.Following.Cells.{same_number}
+use Rattle.solo_laws.proofs.Following.Changing.{kept}
+use Rattle.solo_laws.proofs.Following.Inside.{home_stays}
+use Rattle.solo_laws.proofs.Following.Lines.{accepts_more}
 
 module _ {F T X : Type 0} (aside : Option Due) (name : ℕ → Task) (s : Solo F T X) (p : Plain T (SoloWaker X))
     (r : FollowsBut aside name s p) where

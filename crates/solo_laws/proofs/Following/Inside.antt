@@ -11,8 +11,8 @@ use Rattle.solo.specs.Cells.{asked}
 use Rattle.solo.specs.Cells as cells
 use Rattle.plain_scheduler.specs.State.{Code}
 use Rattle.solo_laws.specs.Road.{IsInside, is_in, apart, lents, drops}
-use Rattle.solo_laws.proofs.Roads.Due.{both_true, and_true, not_false, later}
-use Rattle.solo_laws.proofs.Roads.Cells.{same_number}
+use Rattle.solo_laws.proofs.Following.Due.{both_true, and_true, not_false, later}
+use Rattle.solo_laws.proofs.Following.Cells.{same_number}
 
 -- a future is in one place
 module _ {P : Type 0} where

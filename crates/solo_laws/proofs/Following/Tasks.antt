@@ -6,7 +6,7 @@ use Rattle.task_moves.specs.AbstractTask as abstract
 use Rattle.task_moves.specs.AbstractTask.{AbstractTask, Phase, Idle, Queued, Polling, PollingWoken, Finished}
 use Rattle.task_moves.specs.LocalTask.{info_of, info_from, is_queued}
 use Rattle.solo_laws.specs.Road.{IsOver, is_forgotten, is_done}
-use Rattle.solo_laws.proofs.Roads.Due.{clash, both_true}
+use Rattle.solo_laws.proofs.Following.Due.{clash, both_true}
 
 over_idle : (phase : Phase) → abstract.is_over phase ≡ true → abstract.is_idle phase ≡ false
 over_idle Finished is = refl

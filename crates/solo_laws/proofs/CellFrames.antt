@@ -19,7 +19,6 @@ use Rattle.solo.specs.OwnQueues as own
 use Rattle.solo.specs.Line.{pushed, accepts}
 use Rattle.solo.specs.Cells.{asked, changed, tidied}
 use Rattle.solo.specs.Cells as cells
-use Rattle.solo.specs.Turns as turns
 use Rattle.solo.specs.Turns.{turned, marked, loosed, handed_by, is_full, handed, told, scheduled, scheduled_if, let_go, let_go_if}
 use Rattle.solo.specs.Turns.{left_by_parts}
 use Rattle.solo.specs.Turns.{left, without, out_of, begun}

@@ -15,7 +15,8 @@ use Rattle.solo.specs.Cells as cells
 use Rattle.solo.specs.Turns as turns
 use Rattle.solo.specs.Turns.{turned}
 use Rattle.solo.specs.Solo as solo
-use Rattle.solo_laws.specs.Calls.{Call, Does, Course, Spawn, SpawnRefused, Take, Settle, Finish, Wake, WakeAndRelease, Hold, Release, Cancel, Detach}
+use Rattle.solo_laws.specs.Calls.{Call, Does, Course, Spawn, SpawnRefused, Take, Settle}
+use Rattle.solo_laws.specs.Calls.{Finish, Wake, WakeAndRelease, Hold, Release, Cancel, Detach}
 use Rattle.solo_laws.specs.Calls.{Poll, Retract, MakeTick, TickTake, TickSearch, TickLeave, MakeRun, RunBegin, RunTake, RunSearch}
 use Rattle.solo_laws.specs.Calls.{RunLeave, RunDrain, Leak, LeakNext, Close, Drain}
 use Rattle.solo_laws.specs.Sleeping.{SomeoneIsTold}

@@ -229,7 +229,8 @@ module _ {T X : Type 0} where
   pending_if true place v is fits = pending_end_by (abstract.pending_end v.task) place v is fits
   pending_if false place v is fits = same_so v fits
 
-  pub ended_pending_asks : (place : EntryPlace) → Asking {T = T} {X = X} (cells.ended_pending place) (λ v. is_queue (cells.pending_answer v))
+  pub ended_pending_asks : (place : EntryPlace) →
+      Asking {T = T} {X = X} (cells.ended_pending place) (λ v. is_queue (cells.pending_answer v))
   ended_pending_asks place v fits = pending_if (cells.is_lent v) place v refl fits
 
   finished_end : (p : Phase) (t : AbstractTask T (SoloWaker X)) → is_idle (local.finish_by p t).task.phase ≡ false

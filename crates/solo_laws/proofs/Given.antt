@@ -77,11 +77,13 @@ module _ {T X : Type 0} (weigh : T → ℕ) where
     gone_holds n u s h =
         tidy n u (changed cells.finished u s.cells) (keeps_so weigh cells.finished (finished_gives weigh) n u s.cells h)
 
-    retracted_future : (future : Option F) (n : ℕ) (u : Task) (s : Solo F T X) → H n s.cells → H n (closing.retracted_future future u s).cells
+    retracted_future : (future : Option F) (n : ℕ) (u : Task) (s : Solo F T X) → H n s.cells →
+        H n (closing.retracted_future future u s).cells
     retracted_future (Some future) n u s h = h
     retracted_future None n u s h = gone_holds n u s h
 
-    retracted_by : (place : Option EntryPlace) (n : ℕ) (u : Task) (s : Solo F T X) → H n s.cells → H n (closing.retracted_by place u s).cells
+    retracted_by : (place : Option EntryPlace) (n : ℕ) (u : Task) (s : Solo F T X) → H n s.cells →
+        H n (closing.retracted_by place u s).cells
     retracted_by (Some place) n u s h = retracted_future (future_of (entry_in place s.table.entries)) n u (closing.out place s) h
     retracted_by None n u s h = h
 
@@ -124,7 +126,8 @@ module _ {T X : Type 0} (weigh : T → ℕ) where
     waking_holds (Some u) n s h = leaving_holds n u s h
     waking_holds None n s h = line_holds (slice_get s.line.items 0) n (solo.popped (closing.shut_line s)) h
 
-    drained_holds : (parts : Option (Option F × Option Task)) (n : ℕ) (s : Solo F T X) → H n s.cells → H n (closing.drained_by parts s).cells
+    drained_holds : (parts : Option (Option F × Option Task)) (n : ℕ) (s : Solo F T X) → H n s.cells →
+        H n (closing.drained_by parts s).cells
     drained_holds (Some parts) n s h = h
     drained_holds None n s h = waking_holds (slice_get s.leaving.items 0) n (closing.first_left s) h
 

@@ -179,7 +179,8 @@ module _ {T : Type 0} (weigh : T → ℕ) where
     polled_if true waker v is = polled_as v.task.output v.task.phase waker v v.task refl refl is
     polled_if false waker v is = (is, refl)
 
-    pub polled_gives : (waker : SoloWaker X) → Gives {X = X} weigh (cells.polled waker) (λ v. weight_polled weigh (cells.poll_answer waker v)) 0
+    pub polled_gives : (waker : SoloWaker X) →
+        Gives {X = X} weigh (cells.polled waker) (λ v. weight_polled weigh (cells.poll_answer waker v)) 0
     polled_gives waker v is = polled_if v.task.handle waker v is
 
     started_by : (b : Bool) (v : Kept T X) → cells.may_start v ≡ b → early v ≡ false
@@ -248,5 +249,6 @@ module _ {T : Type 0} (weigh : T → ℕ) where
         (refl, omega (arith, none, both))
     ready_if false output v lent is = (is, refl)
 
-    pub ended_ready_gives : (output : T) → Gives {X = X} weigh (cells.ended_ready output) (λ v. weight (cells.ready_drops output v)) (weigh output)
+    pub ended_ready_gives : (output : T) →
+        Gives {X = X} weigh (cells.ended_ready output) (λ v. weight (cells.ready_drops output v)) (weigh output)
     ended_ready_gives output v is = ready_if (cells.is_lent v) output v refl is

@@ -21,7 +21,8 @@ not_early : (b : Bool) → one_if b ≤ 0 → b ≡ false
 not_early true none = absurd (omega (arith, none))
 not_early false none = refl
 
-spent_none : {T : Type 0} (weigh : T → ℕ) (gone rest : Bool) (o : Option T) (waits : Bool) → (gone && (rest && (not (is_some o) && waits))) ≡ true
+spent_none : {T : Type 0} (weigh : T → ℕ) (gone rest : Bool) (o : Option T) (waits : Bool) →
+    (gone && (rest && (not (is_some o) && waits))) ≡ true
     → weight_out weigh o ≡ 0
 spent_none weigh true true None waits is = refl
 spent_none weigh true true (Some output) waits is = absurd cc

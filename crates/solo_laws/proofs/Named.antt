@@ -4,7 +4,6 @@ use Rattle.std.proofs.Common.{Option, Some, None, slice_set, refl, sym, ap, subs
 use Rattle.std.proofs.lemmas.Bool.Decides.{nat_tests}
 use Rattle.slab.specs.Slab.{Slab, get, with_value, Updates}
 use Rattle.executor_parts.specs.declared.places.EntryPlace.{EntryPlace}
-use Rattle.task_moves.specs.AbstractTask as abstract
 use Rattle.task_moves.specs.AbstractTask.{is_idle}
 use Rattle.task_moves.specs.LocalTask as local
 use Rattle.task_moves.specs.LocalTask.{is_queued, is_home}

@@ -11,7 +11,8 @@ use Rattle.solo.specs.declared.steals.Source.TheVariants.{Common, Own}
 use Rattle.solo.specs.declared.solo.Solo.{Solo}
 use Rattle.solo.specs.OwnQueues as own
 use Rattle.solo.specs.Solo.{popped}
-use Rattle.solo.specs.Steals.{moved, moved_on, first_of, without_first, kept, stolen, share, length_of, stolen_if, is_own, stolen_at, looked}
+use Rattle.solo.specs.Steals.{moved, moved_on, first_of, without_first, kept, stolen}
+use Rattle.solo.specs.Steals.{share, length_of, stolen_if, is_own, stolen_at, looked}
 use Rattle.solo.specs.Steals.{look_answer, round_on, round, next_place, walked, further_by, sought_by}
 use Rattle.solo.specs.Steals.{sought, seek_answer, seek_answer_by, further_answer_by, own_popped}
 use Rattle.solo.specs.Runs.{told, found, took_by, took, searched_by, searched, is_steal_due, drained_by, drained, first_left}
@@ -131,7 +132,8 @@ module _ {F T X : Type 0} where
   searched_by_prompt (Some task) runner ticker s p = found_prompt runner ticker task s p.0
   searched_by_prompt None runner ticker s p = p
 
-  pub searched_prompt : (runner : Runner) (ticker : Ticker) (start : ℕ) (s : Solo F T X) → Prompt s → Prompt (searched runner ticker start s)
+  pub searched_prompt : (runner : Runner) (ticker : Ticker) (start : ℕ) (s : Solo F T X) → Prompt s →
+      Prompt (searched runner ticker start s)
   searched_prompt runner ticker start s p =
       searched_by_prompt (seek_answer runner.number start s).task runner ticker (sought runner.number start s)
       (sought_prompt runner.number start s p)

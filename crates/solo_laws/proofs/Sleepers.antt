@@ -67,7 +67,8 @@ module _ {W : Type 0} where
       let rest : Sleepers W = without_entry (position_of number s.wakers) s in
       freed_fits_by (nat_lt (length rest.wakers) rest.count) number rest (entry_fits (position_of number s.wakers) number s refl fits) refl
 
-  freed_flag_by : (b : Bool) (number : ℕ) (s : Sleepers W) → b ≡ true → ((s.count - 1 == 0) || nat_lt (length s.wakers) (s.count - 1)) ≡ true
+  freed_flag_by : (b : Bool) (number : ℕ) (s : Sleepers W) → b ≡ true →
+      ((s.count - 1 == 0) || nat_lt (length s.wakers) (s.count - 1)) ≡ true
       → flag_of (elim b [ true ↦ record s { count = s.count - 1; free = s.free ++ number ∷ [] } | false ↦ s ]) ≡ true
   freed_flag_by true number s is flag = flag
   freed_flag_by false number s is flag = absurd cc

@@ -103,7 +103,7 @@ impl<T> ConcurrentQueue<T> {
     }
 
     /// Takes out the oldest item. Without one a closed queue answers `Closed`, and an open one `Empty`.
-    #[inline]
+    #[inline(always)]
     pub fn pop<R: Wait>(&self, rt: &R) -> Result<T, PopError> {
         match &self.kept {
             Kept::Single(slot) => slot.pop(rt),

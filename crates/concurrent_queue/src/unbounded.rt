@@ -70,7 +70,7 @@ impl<T> Unbounded<T> {
         chain.force_push(value)
     }
 
-    #[inline]
+    #[inline(never)]
     pub(crate) fn pop<R: Wait>(&self, rt: &R) -> Result<T, PopError> {
         let item = self.locked(rt).pop()?;
         Ok(item)

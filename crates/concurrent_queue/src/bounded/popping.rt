@@ -122,11 +122,11 @@ fn pop_at_once<T>(ring: &Bounded<T>, pass: &mut Pass<T>) -> Result<T, PopTurn>
     let PopTurn::Stamp(head) = turn else {
         return Err(turn);
     };
-    let turn = at_stamp(ring, pass, head);
-    let PopTurn::Take(head) = turn else {
-        return Err(turn);
-    };
-    take(ring, pass, head)
+    match at_stamp(ring, pass, head) {
+        PopTurn::Take(head) => take(ring, pass, head),
+        PopTurn::TailFor(head) => Err(at_tail(ring, pass, head)),
+        turn => Err(turn),
+    }
 }
 
 /// Takes out the oldest item. It waits for one on its way in.
@@ -138,6 +138,7 @@ pub fn pop<T, R: Wait>(rt: &R, ring: &Bounded<T>, pass: &mut Pass<T>) -> Result<
 {
     match pop_at_once(ring, pass) {
         Ok(item) => Ok(item),
+        Err(PopTurn::Empty) => Err(PopError::Empty),
         Err(turn) => pop_from(rt, ring, pass, turn),
     }
 }

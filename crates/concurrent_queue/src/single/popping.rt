@@ -72,6 +72,7 @@ pub fn pop<T, R: Wait>(rt: &R, slot: &Single<T>, pass: &mut Pass<T>) -> Result<T
 {
     match pop_at_once(slot, pass) {
         Ok(item) => Ok(item),
+        Err(PopTurn::Empty) => Err(PopError::Empty),
         Err(turn) => pop_from(rt, slot, pass, turn),
     }
 }

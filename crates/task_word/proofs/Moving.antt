@@ -4,7 +4,7 @@ use Rattle.std.proofs.Common.{refl, ap, ◌∙◌, subst, arith}
 use mathlib.Core.Option.{some}
 use lib.ListN.{get_elem?}
 use prog.Atomic.{either}
-use Rattle.std.specs.Prelude.{Option, Some, None, nat_lt}
+use Rattle.std.specs.Prelude.{Option, Some, None, nat_lt, ⊤, MatchBool, ◌-◌}
 use Rattle.atomic_table.specs.Table.{Allows, keeps}
 use Rattle.atomic_table.specs.declared.shared.Seat.{Seat}
 use Rattle.task_moves.specs.declared.moves.state.State.{State}
@@ -219,6 +219,27 @@ given_up_by true st h = omega (arith, h)
 
 pub few_given_up : (st : State) (mv : Moved) → mv ≡ moves.give_up st → st.references ≤ most + 1 → mv.state.references < 2 ^ 54
 few_given_up st mv its h = few_of st mv moves.give_up its (given_up_by _ st h)
+
+-- where others are left, nothing but the count changes
+one_of_released : (l o : Bool) (st : State) → MatchBool l ⊤ ((release_by l o st).state ≡ record st { references = st.references - 1 })
+one_of_released true o st = tt
+one_of_released false o st = refl
+
+pub one_released : (l : Bool) (st : State) (mv : Moved) → l ≡ is_last st → mv ≡ moves.release st
+    → MatchBool l ⊤ (mv.state ≡ record st { references = st.references - 1 })
+one_released l st mv el its = subst (λ (b : Bool). MatchBool b ⊤ (mv.state ≡ record st { references = st.references - 1 })) (sym el)
+    (subst (λ (z : Moved). MatchBool (is_last st) ⊤ (z.state ≡ record st { references = st.references - 1 })) (sym its)
+    (one_of_released (is_last st) (is_over st) st))
+
+one_of_given_up : (l : Bool) (st : State) → MatchBool l ⊤ ((give_up_by l st).state ≡ record st { references = st.references - 1 })
+one_of_given_up true st = tt
+one_of_given_up false st = refl
+
+pub one_given_up : (l : Bool) (st : State) (mv : Moved) → l ≡ is_last st → mv ≡ moves.give_up st
+    → MatchBool l ⊤ (mv.state ≡ record st { references = st.references - 1 })
+one_given_up l st mv el its = subst (λ (b : Bool). MatchBool b ⊤ (mv.state ≡ record st { references = st.references - 1 })) (sym el)
+    (subst (λ (z : Moved). MatchBool (is_last st) ⊤ (z.state ≡ record st { references = st.references - 1 })) (sym its)
+    (one_of_given_up (is_last st) st))
 
 -- of a move that leaves the count
 pub few_same : (st : State) (mv : Moved) (move : State → Moved) → mv ≡ move st → (move st).state.references ≡ st.references

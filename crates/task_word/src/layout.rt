@@ -8,7 +8,7 @@ use task_moves::moves::State;
 pub const RESTS: u64 = 256;
 
 /// One reference. The bits above this one count them.
-const REFERENCE: u64 = 512;
+pub const REFERENCE: u64 = 512;
 
 /// The word of a cell with no task: it is closed, and has no reference.
 pub const EMPTY: u64 = 8;

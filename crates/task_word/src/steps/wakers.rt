@@ -1,11 +1,12 @@
 //! The moves of wakers.
-ghost use Rattle.std.specs.Prelude.{◌≡◌};
+ghost use Rattle.std.specs.Prelude.{◌≡◌, ◌-◌, ◌^◌, ◌<◌, ⊤, MatchBool};
 ghost use Rattle.task_moves.specs.Moves as moves;
 ghost use Rattle.task_word.specs.Steps as steps;
+ghost use Rattle.task_word.specs.Word.{pack};
 ghost use Rattle.task_word.specs.Steps.{is_dead, Makes, Has, HasQueued, HasCopy, HasLeft, IsSeatOf, IsSameSeat};
 ghost use Rattle.task_word.specs.declared.rule.Hold.TheVariants.{Nothing, Reference, Leaving};
 
-use crate::layout::{decode, encode};
+use crate::layout::{REFERENCE, Word, decode, encode};
 use crate::rule;
 use crate::steps::{Board, Pass, leaves_awaiter, look};
 use std::sync::Wait;
@@ -90,6 +91,31 @@ pub fn copy<F, T, W, R: Wait>(rt: &R, board: &Board<F, T, W>, pass: &mut Pass<F,
     unreachable!()
 }
 
+/// Whether who has a reference of this state has the last of a task without handle.
+#[inline(always)]
+fn is_last_now(state: State) -> bool
+    ensures { result ≡ moves.is_last state }
+{
+    state.references == 1 && !state.handle
+}
+
+/// The word that this one becomes as a reference goes. Where others are left it is one reference less, and no bit is looked at.
+#[inline(always)]
+fn encode_left(old: u64, word: Word, is_last: bool, left: State) -> u64
+    requires word { pack word.state word.rests ≡ old }
+    requires some { 0 < word.state.references }
+    requires few { left.references < 2 ^ 54 }
+    requires one { MatchBool is_last ⊤
+        (left ≡ record word.state { references = word.state.references - 1 }) }
+    ensures { result ≡ pack left word.rests }
+{
+    if is_last {
+        encode(left, word.rests)
+    } else {
+        old - REFERENCE
+    }
+}
+
 /// A waker goes. Where it was the last of an open task, a Runnable is owed, and the seat has it. Where nobody can reach
 /// the task any more and its awaiter is left, the second answer is true, and the seat has the awaiter's slot.
 #[inline(always)]
@@ -108,7 +134,8 @@ pub fn release<F, T, W, R: Wait>(
         let old = look(board, pass);
         let word = decode(old);
         let moved = moves::release(word.state);
-        let new = encode(moved.state, word.rests);
+        let last = is_last_now(word.state);
+        let new = encode_left(old, word, last, moved.state);
         if board.compare_exchange::<rule::Release>(pass, 0, old, new) == old {
             return (moved.owed, leaves_awaiter(moved));
         }
@@ -133,7 +160,8 @@ pub fn give_up<F, T, W, R: Wait>(
         let old = look(board, pass);
         let word = decode(old);
         let moved = moves::give_up(word.state);
-        let new = encode(moved.state, word.rests);
+        let last = is_last_now(word.state);
+        let new = encode_left(old, word, last, moved.state);
         if board.compare_exchange::<rule::GiveUp>(pass, 0, old, new) == old {
             return (moved.owed, leaves_awaiter(moved));
         }

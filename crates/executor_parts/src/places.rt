@@ -189,7 +189,7 @@ impl<F, W> Places<F, W> {
         requires { IsVacancy vacancy self.old }
         ensures entered { self.new.entries ≡ self.old.entries
             ++ record { key = vacancy.place.key; stamp = vacancy.place.stamp; future = Some future; waker = waker } ∷ [] }
-        ensures was_free { entry_in vacancy.place self.old.entries ≡ None }
+        ensures was_free { entry_at vacancy.place.key self.old.entries ≡ None }
         ensures stamp { self.new.next.stamp ≡ (self.old.next.stamp + 1) % 2 ^ 64 }
         ensures limit { self.new.limit ≡ self.old.limit }
         ensures all_room { self.old.has_all_room ≡ true → self.new.has_all_room ≡ true }

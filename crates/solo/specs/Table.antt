@@ -1,7 +1,7 @@
 -- The futures that aren't dropped, in the order in which they were accepted, each with a waker, where entries count one.
 use Rattle.std.specs.Prelude.{◌≡◌, ℕ, ◌<◌, ◌≤◌, Bool, true, List, [], ◌∷◌, ◌++◌, length, Option, Some, None}
 use Rattle.slab.specs.Slab.{get, Updates, HasRoomFor}
-use Rattle.executor_parts.specs.Places.{Entry, entry_in, left_by, parts_of}
+use Rattle.executor_parts.specs.Places.{Entry, entry_at, entry_in, left_by, parts_of}
 use Rattle.executor_parts.specs.declared.mark.Mark.{Mark}
 use Rattle.executor_parts.specs.declared.places.EntryPlace.{EntryPlace}
 use Rattle.solo.specs.declared.names.Task.{Task}
@@ -53,6 +53,8 @@ module _ {F T X : Type 0} where
       (new : TableValue F) (cells_after : Cells T X) : Type 0 where
     pub below : length old.entries < old.limit
     pub place : EntryPlace
+    -- no entry has its key
+    pub fresh : entry_at place.key old.entries ≡ None
     pub entered :
         new ≡ record old { entries = old.entries ++ new_entry place future (counted_waker held task) ∷ []; has_room = new.has_room }
     pub numbered : task.number ≡ number

@@ -1,7 +1,7 @@
 use Rattle.std.proofs.Common.{◌≡◌, ap, sym, ◌∙◌, arith}
 use Rattle.slab.specs.Slab.{get}
 use Rattle.executor_parts.specs.declared.places.EntryPlace.{EntryPlace}
-use Rattle.executor_parts.proofs.Placing.{vacant_at, none_in, entered, placed_entered, length-entries}
+use Rattle.executor_parts.proofs.Placing.{vacant_at, reads_none, entered, placed_entered, length-entries}
 use Rattle.executor_parts.proofs.places.Places.enter.Goals as goal
 
 pub invariant_of-self : goal.invariant_of-self
@@ -23,5 +23,5 @@ pub returns-clause-was_free : goal.returns-clause-was_free
 returns-clause-was_free g c =
     let key : c.args.vacancy.place.key ≡ c.insert_reserved-key.result = ap (λ (p : EntryPlace). p.key) c.requires.place
     ∙ sym (ap (λ s. s.next.key) c.self.view_is) ∙ sym c.insert_reserved-key.ensures.key in
-    rw (← c.self.view_is) (none_in c.args.vacancy.place _ _ c.self.invariant.0 (ap (get c.self.inside.slab) key
+    rw (← c.self.view_is) (reads_none _ _ _ c.self.invariant.0 (ap (get c.self.inside.slab) key
     ∙ c.insert_reserved-key.ensures.was_vacant))

@@ -4,15 +4,14 @@ use Rattle.std.specs.Prelude.{Option, Some, None}
 use Rattle.task_moves.specs.declared.schedule_info.ScheduleInfo.{ScheduleInfo}
 use Rattle.task_moves.specs.declared.moves.owed.FutureDebt.TheVariants.{PollFuture, DropFuture}
 use Rattle.task_moves.{specs.declared.moves.owed.AwaiterDebt.AwaiterDebt, specs.declared.moves.owed.FutureDebt.FutureDebt}
-use Rattle.call_steps.specs.Owing.{awaited, dropping, drops, emptied, futures, moves as moved_on, outputs, owed, released}
 use Rattle.call_steps.{specs.Owing.scheduled, specs.declared.step.CallStep.CallStep, specs.Next.next, specs.Next.next_call}
 use Rattle.executor_laws.proofs.Types.{Move, Moved, Owed, Event, Op, Polled, Waker, Task, Outside}
 use Rattle.executor_model.specs.Carried.{carried, owed_ops, schedule_ops, future_ops, output_ops, awaiter_ops, next_ops}
-use Rattle.executor_model.specs.Carried.{drop_ops, emptied_ops, drops as model_drops}
 use Rattle.executor_model.specs.Acts.{call_waker, is_last_waker, is_told, move_by, told_as, waker_goes}
 use Rattle.executor_model.specs.World.{World, among, log, log_if, task}
-use Rattle.executor_laws.specs.SeenByCalls.{moved_by, woken}
-use Rattle.executor_laws.specs.StepsOfCalls.{step_of, steps_of, waker_of}
+use Rattle.executor_laws.specs.{SeenByCalls.moved_by, SeenByCalls.woken, StepsOfCalls.step_of, StepsOfCalls.steps_of, StepsOfCalls.waker_of}
+use Rattle.call_steps.specs.Owing.{awaited, dropping, drops, emptied, futures, moves as moved_on, outputs, owed, released}
+use Rattle.executor_model.specs.Carried.{drop_ops, emptied_ops, drops as model_drops}
 use Rattle.task_moves.specs.Moves as moves
 
 pub steps-append : (xs ys : List Op) → steps_of (xs ++ ys) ≡ steps_of xs ++ steps_of ys

@@ -3,21 +3,20 @@
 use Rattle.std.proofs.Common.{◌≡◌, ◌≢◌, ◌∙◌, ℕ, zero, suc, ◌+◌, ◌<◌, ◌≤◌, List, [], ◌∷◌, ◌++◌, length, get_or, set, Bool, true}
 use Rattle.std.proofs.Common.{false, ◌||◌, not, cond, eqb, refl, sym, ap, subst, inl, inr, ⊎_elim, arith}
 use Rattle.std.{proofs.lemmas.Bool.Decides.nat_tests, specs.Prelude.nat_lt, specs.Prelude.reverse}
-use Rattle.executor_laws.proofs.Types.{Event, Op, Steal, StealOp, Hint}
-use Rattle.executor_model.specs.Weights.{same, weigh, weigh_all}
-use Rattle.executor_model.specs.World.{World, Done, own_of, run_of}
 use Rattle.executor_model.specs.{Doing.act, OwnQueues.filling_of, Rows.then_waiting, Sound.times, Steps.Machine, Steps.stack}
-use Rattle.executor_model.proofs.Steps.Lists.{same_cases, same_is, weigh_all-push, times-append}
-use Rattle.executor_model.proofs.OwnQueues.UsingWorlds.{is_over_stage, is_past}
 use Rattle.executor_model.proofs.{Polls.AskingExecutions.Heard, Steps.Lift.split, Steps.Lift.unsettled}
 use Rattle.executor_model.proofs.{OwnQueues.OwnRooms.Roomy, OwnQueues.Using.polling_of, Steps.RunsMoves.same-stolen}
+use Rattle.executor_laws.proofs.{Keepers.KeptTrace.Kept.now, Keepers.KeptTrace.Kept.before, Wakeups.StandsSteps.Standing}
+use Rattle.executor_laws.proofs.{Wakeups.StandsRuns.Calm, Wakeups.StandsRuns.walks-more, Wakeups.StandsUses.run-there}
+use Rattle.executor_laws.proofs.Types.{Event, Op, Steal, StealOp, Hint}
+use Rattle.executor_model.specs.{Weights.same, Weights.weigh, Weights.weigh_all, World.World, World.Done, World.own_of, World.run_of}
+use Rattle.executor_model.proofs.Steps.Lists.{same_cases, same_is, weigh_all-push, times-append}
+use Rattle.executor_model.proofs.OwnQueues.UsingWorlds.{is_over_stage, is_past}
 use Rattle.executor_laws.proofs.Keepers.KeptLeads.{IsPast, count-seated, past-seated}
 use Rattle.executor_laws.proofs.Keepers.KeptSearch.{load-more, quits-more}
 use Rattle.executor_laws.proofs.Keepers.KeptTrace.{Keeps, Kept, Parted, keeps-one, one-other, parted-more}
 use Rattle.executor_laws.proofs.Keepers.KeptWeights.{load_of, quits_of, readies_of}
 use Rattle.executor_laws.proofs.Keepers.KeptHere.{Here, Keeping, gone-more}
-use Rattle.executor_laws.proofs.{Keepers.KeptTrace.Kept.now, Keepers.KeptTrace.Kept.before, Wakeups.StandsSteps.Standing}
-use Rattle.executor_laws.proofs.{Wakeups.StandsRuns.Calm, Wakeups.StandsRuns.walks-more, Wakeups.StandsUses.run-there}
 use Rattle.executor_model.specs.ActsOfRuns as runs
 
 -- one comes into the own queue of the run that steals

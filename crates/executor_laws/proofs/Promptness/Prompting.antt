@@ -6,92 +6,54 @@ use Rattle.std.proofs.lemmas.Bool.Decides.{nat_tests}
 use Rattle.std.proofs.lemmas.List.Elements.{filter-append}
 use Rattle.std.specs.List.{filter}
 use Rattle.std.specs.Prelude.{Option, Some, None, is_none}
-use Rattle.executor_model.specs.declared.op.Look.{Look}
-use Rattle.executor_model.specs.declared.op.Look.TheVariants.{First, Second}
-use Rattle.executor_parts.specs.declared.mark.Mark.{Mark}
 use Rattle.executor_parts.specs.Sleepers.{waker_at, waker_of}
 use Rattle.task_moves.specs.declared.moves.owed.Answer.{Answer}
 use Rattle.task_moves.specs.declared.moves.owed.Answer.TheVariants.{Refused, Pending, Closed, Output}
 use Rattle.task_moves.specs.declared.moves.owed.AwaiterDebt.{AwaiterDebt}
 use Rattle.task_moves.specs.declared.moves.owed.AwaiterDebt.TheVariants.{NotifyAwaiter, NotifyOther, CallGiven}
 use Rattle.task_moves.specs.declared.moves.owed.AwaiterDebt.TheVariants.{StoreCopy, CallStored, TakeAwaiter, CallTaken}
-use Rattle.task_moves.specs.declared.moves.owed.Move.TheVariants as move
-use Rattle.task_moves.specs.declared.moves.owed.Moved.{Moved}
+use Rattle.executor_laws.proofs.Types.{Look, First, Second, Mark, Move, Moved, Call, Reply, Event, Awaiter, Hold, Op, HandleOp, ListOp}
+use Rattle.executor_laws.proofs.Types.{Polled, QueueOp, RunOp, Section, TickOrRun, Sleeping, TableOp, TickOp, UserOp, WakerOp, Waker, Task}
+use Rattle.executor_laws.proofs.Types.{Outside, Hint}
+use Rattle.executor_model.specs.{Quiet.begins_call, Trace.Trace, Trace.has, World.World, World.Ticker, World.Awake, World.Asleep}
+use Rattle.executor_model.specs.{World.Left, World.log, World.task, World.awaiter_of, Carried.awaiter_ops, Acts.enter_by, Acts.copy_by}
+use Rattle.executor_model.specs.{Acts.answered, Acts.polled, Acts.look_by, Acts.let_go, Acts.look_again_by, Acts.copy_awaiter_by}
+use Rattle.executor_model.specs.{Acts.register_by, Acts.end_register_by, ActsOfSleepers.make_tick_by, ActsOfSleepers.look_tick_by}
+use Rattle.executor_model.specs.{ActsOfSleepers.copy_sleeper_by, ActsOfSleepers.pend_as, ActsOfSleepers.sleep_anew_by}
+use Rattle.executor_model.specs.{ActsOfSleepers.sleeper_goes, ActsOfSleepers.sleep_listed_by, ActsOfSleepers.sleep_again_by}
+use Rattle.executor_model.specs.{ActsOfSleepers.fall_asleep_by, ActsOfSleepers.wake_up_by, ActsOfSleepers.tell_and_return}
+use Rattle.executor_model.specs.{ActsOfSleepers.leave_sleepers_by, Doing.act, Doing.list_act, Doing.run_act, Doing.search_by_who}
+use Rattle.executor_model.specs.{Doing.tick_act, Weights.weigh, Deeds.doer, Deeds.is_by, Deeds.deeds}
+use Rattle.executor_model.proofs.{Quiet.Calls.calling_of, Quiet.CallsGroups.calls-act, Steps.Lists.weigh-append, Quiet.Resting.calling-is}
+use Rattle.executor_model.proofs.{Steps.RunsNext.BlindToSearches, Steps.RunsNext.common-unseen, Steps.RunsNext.look-unseen}
+use Rattle.executor_model.proofs.{Steps.RunsNext.own-unseen, Steps.RunsNext.steal-unseen, Steps.RunsNext.walk-unseen}
+use Rattle.executor_model.proofs.{Steps.SleepersNext.goes-unseen, Steps.SleepersNext.tell-unseen, Steps.Tests.left-false}
+use Rattle.executor_model.proofs.{Steps.Tests.right-false, Steps.Deeds.ends_one, Steps.Deeds.is_end, Steps.Deeds.Grows, Steps.Deeds.not-by}
 use Rattle.task_moves.specs.Moves as moves
-use Rattle.executor_model.specs.declared.call.Call.TheVariants as call
-use Rattle.executor_model.specs.declared.call.Reply.{Reply}
-use Rattle.executor_model.specs.declared.call.Reply.TheVariants as reply
-use Rattle.executor_model.specs.declared.event.Event.{Event}
-use Rattle.executor_model.specs.declared.event.Event.TheVariants as event
-use Rattle.executor_model.specs.declared.op.Awaiter.{Awaiter}
-use Rattle.executor_model.specs.declared.op.Hold.{Hold}
-use Rattle.executor_model.specs.declared.op.Hold.TheVariants as hold
-use Rattle.executor_model.specs.declared.op.Op.{Op}
-use Rattle.executor_model.specs.declared.op.Op.TheVariants as op
-use Rattle.executor_model.specs.declared.op.HandleOp.TheVariants as handle_op
-use Rattle.executor_model.specs.declared.op.ListOp.{ListOp}
-use Rattle.executor_model.specs.declared.op.ListOp.TheVariants as list_op
-use Rattle.executor_model.specs.declared.op.Polled.TheVariants as of
-use Rattle.executor_model.specs.declared.op.QueueOp.TheVariants as queue_op
-use Rattle.executor_model.specs.declared.op.RunOp.{RunOp}
-use Rattle.executor_model.specs.declared.op.RunOp.TheVariants as run_op
-use Rattle.executor_model.specs.declared.op.Section.TheVariants as section
-use Rattle.executor_model.specs.declared.op.TickOrRun.{TickOrRun}
-use Rattle.executor_model.specs.declared.op.TickOrRun.TheVariants as tick_or_run
-use Rattle.executor_model.specs.declared.op.Sleeping.{Sleeping}
-use Rattle.executor_model.specs.declared.op.TableOp.TheVariants as table_op
-use Rattle.executor_model.specs.declared.op.TickOp.{TickOp}
-use Rattle.executor_model.specs.declared.op.TickOp.TheVariants as tick_op
-use Rattle.executor_model.specs.declared.op.UserOp.TheVariants as user_op
-use Rattle.executor_model.specs.declared.op.WakerOp.TheVariants as waker_op
-use Rattle.executor_model.specs.declared.op.Waker.{Waker}
-use Rattle.executor_model.specs.declared.op.Waker.TheVariants.{Task, Outside}
-use Rattle.executor_model.specs.declared.step.Hint.{Hint}
-use Rattle.executor_model.specs.Quiet.{begins_call}
-use Rattle.executor_model.specs.Trace.{Trace, has}
-use Rattle.executor_model.specs.World.{World, Ticker, Awake, Asleep, Left, log, task, awaiter_of}
-use Rattle.executor_model.specs.Carried.{awaiter_ops}
-use Rattle.executor_model.specs.Acts.{enter_by, copy_by, answered, polled, look_by, let_go, look_again_by}
-use Rattle.executor_model.specs.Acts.{copy_awaiter_by, register_by, end_register_by}
-use Rattle.executor_model.specs.ActsOfSleepers.{make_tick_by, look_tick_by, copy_sleeper_by, pend_as, sleep_anew_by}
-use Rattle.executor_model.specs.ActsOfSleepers.{sleeper_goes, sleep_listed_by, sleep_again_by, fall_asleep_by, wake_up_by}
-use Rattle.executor_model.specs.ActsOfSleepers.{tell_and_return, leave_sleepers_by}
 use Rattle.executor_model.specs.ActsOfRuns as runs
-use Rattle.executor_model.specs.Doing.{act, list_act, run_act, search_by_who, tick_act}
-use Rattle.executor_model.specs.Weights.{weigh}
-use Rattle.executor_model.proofs.Quiet.Calls.{calling_of}
-use Rattle.executor_model.proofs.Quiet.CallsGroups.{calls-act}
-use Rattle.executor_model.proofs.Steps.Lists.{weigh-append}
-use Rattle.executor_model.proofs.Quiet.Resting.{calling-is}
-use Rattle.executor_model.proofs.Steps.RunsNext.{BlindToSearches, common-unseen, look-unseen, own-unseen, steal-unseen}
-use Rattle.executor_model.proofs.Steps.RunsNext.{walk-unseen}
-use Rattle.executor_model.proofs.Steps.SleepersNext.{goes-unseen, tell-unseen}
-use Rattle.executor_model.proofs.Steps.Tests.{left-false, right-false}
-use Rattle.executor_model.specs.Deeds.{doer, is_by, deeds}
-use Rattle.executor_model.proofs.Steps.Deeds.{ends_one, is_end, Grows, not-by}
 
 abbrev pub is_refusal : Reply → ℕ
-is_refusal reply.No = 1
+is_refusal Reply.No = 1
 is_refusal _ = 0
 
 -- what is answered no next, if it is
 abbrev pub quick_of : Op → ℕ
-quick_of (op.Queue queue_op.TakeTurn) = 1
-quick_of (op.Queue (queue_op.Take look)) = 1
-quick_of (op.Table table_op.LookAtTable) = 1
-quick_of (op.End r held) = is_refusal r
+quick_of (Op.Queue QueueOp.TakeTurn) = 1
+quick_of (Op.Queue (QueueOp.Take look)) = 1
+quick_of (Op.Table TableOp.LookAtTable) = 1
+quick_of (Op.End r held) = is_refusal r
 quick_of _ = 0
 
 -- and what is answered so later, which nothing is
 abbrev pub hasty : Op → ℕ
-hasty (op.List (list_op.LockWrite (section.Unregister r a))) = is_refusal a
-hasty (op.List (list_op.Write (section.Unregister r a))) = is_refusal a
-hasty (op.Run (run_op.Reschedule r a)) = is_refusal a
+hasty (Op.List (ListOp.LockWrite (Section.Unregister r a))) = is_refusal a
+hasty (Op.List (ListOp.Write (Section.Unregister r a))) = is_refusal a
+hasty (Op.Run (RunOp.Reschedule r a)) = is_refusal a
 hasty o = quick_of o
 
 -- of what p did, b being the last before: each answer no stands behind a tick's turn, or behind the beginning of another call
 abbrev pub is_no : Event → Bool
-is_no (event.CallEnded p reply.No) = true
+is_no (Event.CallEnded p Reply.No) = true
 is_no _ = false
 
 -- what p did last: begin a try of a tick, or then take a turn, or begin another call, or anything else
@@ -118,12 +80,12 @@ on_turn Asked = Other
 on_turn Other = Other
 
 abbrev pub begun_by : Event → Last
-begun_by (event.CallBegun p call.TryTick) = Tried
+begun_by (Event.CallBegun p Call.TryTick) = Tried
 begun_by _ = Asked
 
 abbrev pub last_by : Bool → ℕ → Last → Event → Last
 last_by true p n e = begun_by e
-last_by false p n (event.Looked q m) = cond (eqb p q) (on_turn n) Other
+last_by false p n (Event.Looked q m) = cond (eqb p q) (on_turn n) Other
 last_by false p n _ = Other
 
 abbrev pub last_after : ℕ → Last → Event → Last
@@ -140,7 +102,7 @@ fresh p b (e ∷ es) = fresh p (last_after p b e) es
 
 -- it may be done where this came last
 abbrev pub fits : Op → Last → Bool
-fits (op.Queue queue_op.TakeTurn) b = has_tried b
+fits (Op.Queue QueueOp.TakeTurn) b = has_tried b
 fits _ b = may b
 
 and-assoc : (a b c : Bool) → (a && (b && c)) ≡ ((a && b) && c)
@@ -168,7 +130,7 @@ fresh-append p b [] ys = refl
 fresh-append p b (e ∷ xs) ys = fresh-append p (last_after p b e) xs ys
 
 no-ends : (e : Event) → ends_one e ≡ false → is_no e ≡ false
-no-ends (event.CallEnded p r) k = absurd (cc)
+no-ends (Event.CallEnded p r) k = absurd (cc)
 no-ends _ k = refl
 
 -- no call ends, so none is answered
@@ -260,17 +222,17 @@ fresh-log p es e d = ap (fresh p Other) (deeds-own p es e d) ∙ fresh-append p 
 -- what is to do
 
 few-refusals : (r : Reply) → is_refusal r ≤ 1
-few-refusals reply.No = omega arith
+few-refusals Reply.No = omega arith
 few-refusals _ = omega arith
 
 hasty-calling : (o : Op) → hasty o ≤ calling_of o
-hasty-calling (op.Queue queue_op.TakeTurn) = omega arith
-hasty-calling (op.Queue (queue_op.Take look)) = omega arith
-hasty-calling (op.Table table_op.LookAtTable) = omega arith
-hasty-calling (op.End r held) = omega (arith, few-refusals r)
-hasty-calling (op.List (list_op.LockWrite (section.Unregister r a))) = omega (arith, few-refusals a)
-hasty-calling (op.List (list_op.Write (section.Unregister r a))) = omega (arith, few-refusals a)
-hasty-calling (op.Run (run_op.Reschedule r a)) = omega (arith, few-refusals a)
+hasty-calling (Op.Queue QueueOp.TakeTurn) = omega arith
+hasty-calling (Op.Queue (QueueOp.Take look)) = omega arith
+hasty-calling (Op.Table TableOp.LookAtTable) = omega arith
+hasty-calling (Op.End r held) = omega (arith, few-refusals r)
+hasty-calling (Op.List (ListOp.LockWrite (Section.Unregister r a))) = omega (arith, few-refusals a)
+hasty-calling (Op.List (ListOp.Write (Section.Unregister r a))) = omega (arith, few-refusals a)
+hasty-calling (Op.Run (RunOp.Reschedule r a)) = omega (arith, few-refusals a)
 hasty-calling _ = omega arith
 
 hasty-calling-all : (os : List Op) → weigh hasty os ≤ weigh calling_of os
@@ -316,11 +278,11 @@ slow-register : (b : Bool) (w : World) (f : ℕ) (a : Waker) (k : ℕ) → weigh
 slow-register true w f a k = refl
 slow-register false w f a k = refl
 
-slow-let_go : (f : ℕ) (o : Option Awaiter) → weigh hasty (let_go o ++ op.Handle (handle_op.LookAgain f) ∷ []) ≡ 0
+slow-let_go : (f : ℕ) (o : Option Awaiter) → weigh hasty (let_go o ++ Op.Handle (HandleOp.LookAgain f) ∷ []) ≡ 0
 slow-let_go f None = refl
 slow-let_go f (Some a) = go a.waker
   where
-    go : (x : Waker) → weigh hasty (let_go (Some (record a { waker = x })) ++ op.Handle (handle_op.LookAgain f) ∷ [])
+    go : (x : Waker) → weigh hasty (let_go (Some (record a { waker = x })) ++ Op.Handle (HandleOp.LookAgain f) ∷ [])
         ≡ 0
     go (Task g) = refl
     go (Outside x) = refl
@@ -411,27 +373,27 @@ searching = record {
 }
 
 slow-searches : (who : TickOrRun) (p : ℕ) (w : World) (s : Sleeping) → weigh hasty (search_by_who who p w s).next ≡ 0
-slow-searches (tick_or_run.Tick t) p w s = refl
-slow-searches (tick_or_run.Run r) p w s = own-unseen hasty searching _ w _
+slow-searches (TickOrRun.Tick t) p w s = refl
+slow-searches (TickOrRun.Run r) p w s = own-unseen hasty searching _ w _
 
 slow-tick : (p : ℕ) (h : Hint) (o : TickOp) (w : World) → weigh hasty (tick_act p h o w).next ≡ 0
-slow-tick p h tick_op.MakeTick w = slow-make _ w
-slow-tick p h (tick_op.Search s) w = slow-searches s.who p w s
-slow-tick p h (tick_op.Look s look) w = slow-search look _ w _ s
-slow-tick p h (tick_op.CopyWaker s) w = slow-copy_sleeper _ w s
-slow-tick p h (tick_op.FallAsleep s) w = slow-sleep _ w s
-slow-tick p h (tick_op.WakeUp who) w = slow-up _ w who
-slow-tick p h (tick_op.Leave who) w = slow-leave _ w who
+slow-tick p h TickOp.MakeTick w = slow-make _ w
+slow-tick p h (TickOp.Search s) w = slow-searches s.who p w s
+slow-tick p h (TickOp.Look s look) w = slow-search look _ w _ s
+slow-tick p h (TickOp.CopyWaker s) w = slow-copy_sleeper _ w s
+slow-tick p h (TickOp.FallAsleep s) w = slow-sleep _ w s
+slow-tick p h (TickOp.WakeUp who) w = slow-up _ w who
+slow-tick p h (TickOp.Leave who) w = slow-leave _ w who
 
 slow-made : (b : Bool) (w : World) → weigh hasty (runs.make_run_by b w).next ≡ 0
 slow-made true w = refl
 slow-made false w = refl
 
-slow-list : (h : Hint) (o : ListOp) (w : World) → hasty (op.List o) ≡ 0 → weigh hasty (list_act h o w).next ≡ 0
-slow-list h (list_op.LockWrite (section.Unregister r a)) w z = omega (arith, z)
-slow-list h (list_op.Write section.MakeRun) w z = slow-made _ w
-slow-list h (list_op.Write (section.Unregister r a)) w z = omega (arith, z)
-slow-list h (list_op.LockRead x) w z = walk-unseen hasty searching x w.listed _ _
+slow-list : (h : Hint) (o : ListOp) (w : World) → hasty (Op.List o) ≡ 0 → weigh hasty (list_act h o w).next ≡ 0
+slow-list h (ListOp.LockWrite (Section.Unregister r a)) w z = omega (arith, z)
+slow-list h (ListOp.Write Section.MakeRun) w z = slow-made _ w
+slow-list h (ListOp.Write (Section.Unregister r a)) w z = omega (arith, z)
+slow-list h (ListOp.LockRead x) w z = walk-unseen hasty searching x w.listed _ _
 slow-list h _ w z = refl
 
 slow-wake : (p : ℕ) (h : Hint) (w : World) (a : Waker) → weigh hasty (runs.call_by_reference p w a).next ≡ 0
@@ -440,7 +402,7 @@ slow-wake p h w (Task g) =
     omega (
       arith,
       hasty-calling-all next,
-      (calls-act p h (op.Move move.WakeByReference g) w refl).passes.none refl,
+      (calls-act p h (Op.Move Move.WakeByReference g) w refl).passes.none refl,
     )
 slow-wake p h w (Outside y) = refl
 
@@ -453,39 +415,39 @@ slow-room : (b : Bool) (w : World) → weigh hasty (runs.make_room_by b w).next 
 slow-room true w = refl
 slow-room false w = refl
 
-slow-run : (p : ℕ) (h : Hint) (o : RunOp) (w : World) → hasty (op.Run o) ≡ 0 → weigh hasty (run_act p h o w).next ≡ 0
-slow-run p h run_op.MakeRoom w z = slow-room _ w
-slow-run p h run_op.ReturnRoom w z = refl
-slow-run p h (run_op.TakeTurn x) w z = refl
-slow-run p h (run_op.SearchCommon x look) w z = common-unseen hasty searching look _ w x
-slow-run p h (run_op.LookOwn x at left) w z = look-unseen hasty searching _ w x at left
-slow-run p h (run_op.WakeOwn x) w z =
-    let v : World = log w (event.WakerCalled p (of.Run x.run) x.poll x.waker) in
+slow-run : (p : ℕ) (h : Hint) (o : RunOp) (w : World) → hasty (Op.Run o) ≡ 0 → weigh hasty (run_act p h o w).next ≡ 0
+slow-run p h RunOp.MakeRoom w z = slow-room _ w
+slow-run p h RunOp.ReturnRoom w z = refl
+slow-run p h (RunOp.TakeTurn x) w z = refl
+slow-run p h (RunOp.SearchCommon x look) w z = common-unseen hasty searching look _ w x
+slow-run p h (RunOp.LookOwn x at left) w z = look-unseen hasty searching _ w x at left
+slow-run p h (RunOp.WakeOwn x) w z =
+    let v : World = log w (Event.WakerCalled p (Polled.Run x.run) x.poll x.waker) in
     let next = (runs.call_by_reference p v x.waker).next in
     omega (
       arith,
-      weigh-append hasty next (op.End reply.Pending (hold.Run x.run) ∷ []),
+      weigh-append hasty next (Op.End Reply.Pending (Hold.Run x.run) ∷ []),
       slow-wake p h v x.waker,
     )
-slow-run p h (run_op.Reschedule r a) w z = slow-reschedule _ w r a z
+slow-run p h (RunOp.Reschedule r a) w z = slow-reschedule _ w r a z
 
 -- of what answers a call
 slow-calling : (p : ℕ) (h : Hint) (o : Op) (w : World) → calling_of o ≡ 1 → hasty o ≡ 0 → is_end o ≡ false →
     weigh hasty (act p h o w).next ≡ 0
-slow-calling p h (op.Table (table_op.Enter mark)) w c z n = slow-enter _ _ _ p w
-slow-calling p h (op.Waker (waker_op.CopyWaker f held)) w c z n = slow-copy _ w f held
-slow-calling p h (op.Handle (handle_op.Look f a)) w c z n =
+slow-calling p h (Op.Table (TableOp.Enter mark)) w c z n = slow-enter _ _ _ p w
+slow-calling p h (Op.Waker (WakerOp.CopyWaker f held)) w c z n = slow-copy _ w f held
+slow-calling p h (Op.Handle (HandleOp.Look f a)) w c z n =
     slow-look (moves.poll (task w f)).owed.answer p w f a (moves.poll (task w f))
-slow-calling p h (op.Handle (handle_op.CopyAwaiter f a)) w c z n = slow-copy_awaiter _ p w f a
-slow-calling p h (op.Handle (handle_op.Register f a k)) w c z n = slow-register _ w f a k
-slow-calling p h (op.Handle (handle_op.EndRegister f a k)) w c z n = slow-end_register _ w f a k
-slow-calling p h (op.Handle (handle_op.LookAgain f)) w c z n =
+slow-calling p h (Op.Handle (HandleOp.CopyAwaiter f a)) w c z n = slow-copy_awaiter _ p w f a
+slow-calling p h (Op.Handle (HandleOp.Register f a k)) w c z n = slow-register _ w f a k
+slow-calling p h (Op.Handle (HandleOp.EndRegister f a k)) w c z n = slow-end_register _ w f a k
+slow-calling p h (Op.Handle (HandleOp.LookAgain f)) w c z n =
     slow-again (moves.look_again (task w f)).owed.answer p w f (moves.look_again (task w f))
-slow-calling p h (op.Tick o) w c z n = slow-tick p h o w
-slow-calling p h (op.List o) w c z n = slow-list h o w z
-slow-calling p h (op.Steal o) w c z n = steal-unseen hasty searching (λ f. refl) p o w
-slow-calling p h (op.Run o) w c z n = slow-run p h o w z
-slow-calling p h (op.User (user_op.PollOwn x)) w c z n = refl
+slow-calling p h (Op.Tick o) w c z n = slow-tick p h o w
+slow-calling p h (Op.List o) w c z n = slow-list h o w z
+slow-calling p h (Op.Steal o) w c z n = steal-unseen hasty searching (λ f. refl) p o w
+slow-calling p h (Op.Run o) w c z n = slow-run p h o w z
+slow-calling p h (Op.User (UserOp.PollOwn x)) w c z n = refl
 slow-calling p h _ w c z n = absurd (cc)
 
 pub slow-act : (p : ℕ) (h : Hint) (o : Op) (w : World) → hasty o ≡ 0 → is_end o ≡ false →

@@ -5,24 +5,23 @@ use Rattle.std.proofs.Common.{subst, arith, length-append, get_or}
 use Rattle.std.specs.Prelude.{Option, Some, None, reverse}
 use Rattle.std.{proofs.lemmas.Bool.Decides.nat_tests, proofs.lemmas.List.get_or_past, proofs.lemmas.List.length-set}
 use Rattle.executor_parts.specs.Sleepers.{next_number}
-use Rattle.executor_laws.proofs.Types.{Mark, Look, First, Second, Move, Call, Reply, Answer, Event, Kind, Hold, ListOp, Op}
-use Rattle.executor_laws.proofs.Types.{QueueOp, RunOp, Section, SleeperOp, Sleeping, StealOp, TickOp, TickOrRun, UserOp, Waker}
-use Rattle.executor_model.specs.ActsOfSleepers.{copy_sleeper_by, exchange_by, fall_asleep_by, hand_out_by, leave_sleepers_by}
-use Rattle.executor_model.specs.ActsOfSleepers.{make_tick_by, polled_as, look_tick_by, sleep_again_by, sleep_anew_by}
-use Rattle.executor_model.specs.Steps.{Machine, accepts, begun, has_all, has_tick, lives, mine, react, run, stack, start, top}
+use Rattle.executor_model.specs.{World.tick_of, World.ticks_with, Acts.append_by, Good.Good, Rows.ticking_of, Trace.has}
+use Rattle.executor_model.proofs.{Steps.Reached.Reached, Steps.TraceMore.has-append, Steps.Ways.Way, Steps.Ways.along}
+use Rattle.executor_laws.proofs.{Types.Outside, Types.Task, Types.Hint, Types.Step, Types.UserEnd, Placement.Ran.has-same}
+use Rattle.executor_laws.proofs.Types.{Mark, Look, First, Second, Move, Call, Reply, Answer, Event, Kind, Hold, ListOp, Op, QueueOp, RunOp}
+use Rattle.executor_laws.proofs.Types.{Section, SleeperOp, Sleeping, StealOp, TickOp, TickOrRun, UserOp, Waker}
+use Rattle.executor_model.specs.ActsOfSleepers.{copy_sleeper_by, exchange_by, fall_asleep_by, hand_out_by, leave_sleepers_by, make_tick_by}
+use Rattle.executor_model.specs.ActsOfSleepers.{polled_as, look_tick_by, sleep_again_by, sleep_anew_by, sleep_listed_by, wake_up_by}
+use Rattle.executor_model.specs.Steps.{Machine, accepts, begun, has_all, has_tick, lives, mine, react, run, stack, start, top, future_of}
+use Rattle.executor_model.specs.Steps.{is_known, is_unused, kept, with_future}
 use Rattle.executor_model.specs.World.{Asleep, Awake, Done, Ended, Left, Listed, New, Stage, Ticker, World, done, log, own_of}
-use Rattle.executor_model.specs.ActsOfSleepers.{sleep_listed_by, wake_up_by}
-use Rattle.executor_model.specs.Steps.{future_of, is_known, is_unused, kept, with_future}
 use Rattle.executor_model.specs.ActsOfRuns.{make_room_by, make_run_by, registered}
 use Rattle.executor_model.specs.Doing.{act, list_act, search_by_who, sleeper_act, tick_act}
-use Rattle.executor_model.specs.{World.tick_of, World.ticks_with, Acts.append_by, Good.Good, Rows.ticking_of, Trace.has}
 use Rattle.executor_laws.specs.Makings.{polls_tick}
 use Rattle.executor_model.proofs.Sleepers.SleepersAway.{Away, SleepersSeen, away-act, away-call, away-own, is_seen_asleep}
 use Rattle.executor_model.proofs.Steps.Lift.{good-start, none_refused, unsettled}
 use Rattle.executor_model.proofs.Steps.TraceGrows.{Allows, AllowsCall, Grows, grows-act, grows-begun, grows-react, is_ordinary}
 use Rattle.executor_model.proofs.Steps.Ways.Way.{acted, called, reacted}
-use Rattle.executor_model.proofs.{Steps.Reached.Reached, Steps.TraceMore.has-append, Steps.Ways.Way, Steps.Ways.along}
-use Rattle.executor_laws.proofs.{Types.Outside, Types.Task, Types.Hint, Types.Step, Types.UserEnd, Placement.Ran.has-same}
 
 -- ticks are only added
 

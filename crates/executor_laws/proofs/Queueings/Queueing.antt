@@ -4,58 +4,19 @@ use Rattle.std.proofs.Common.{◌≡◌, ◌⊎◌, inl, inr, ⊎_elim, ℕ, ◌
 use Rattle.std.proofs.Common.{true, false, ◌&&◌, not, ltb, refl, sym, ap, ◌∙◌, subst, arith, length-append, Result}
 use Rattle.std.proofs.lemmas.Bool.Decides.{nat_tests}
 use Rattle.std.specs.Prelude.{Option, Some, None, reverse}
-use Rattle.executor_parts.specs.declared.mark.Mark.{Mark}
-use Rattle.executor_parts.specs.declared.mark.Mark.TheVariants.{Plain, Urgent}
 use Rattle.executor_parts.specs.Marks.{other}
-use Rattle.executor_model.specs.declared.op.Look.{Look}
-use Rattle.executor_model.specs.Queues.{Queues, queue_in, with_queue}
-use Rattle.executor_model.specs.World.{mark_of, queue_of}
-use Rattle.executor_model.specs.Acts.{append_to, mark_in, takes_more}
-use Rattle.executor_model.proofs.Steps.QueuesByMark.{queue-put-same, with_last, with_shut, without_first_of}
 use Rattle.queue_steps.specs.ClosableQueue.{ClosableQueue, most_accepted, HasRoom, appended, new_queue, taken, shut}
-use Rattle.executor_model.specs.declared.call.Call.{Call}
-use Rattle.executor_model.specs.declared.call.Call.TheVariants as call
-use Rattle.executor_model.specs.declared.call.Reply.{Reply}
-use Rattle.executor_model.specs.declared.event.Answer.TheVariants as answer
-use Rattle.executor_model.specs.declared.event.Event.TheVariants as event
-use Rattle.executor_model.specs.declared.kind.Kind.{Kind}
-use Rattle.executor_model.specs.declared.op.Waker.{Waker}
-use Rattle.executor_model.specs.declared.op.Op.{Op}
-use Rattle.executor_model.specs.declared.op.Op.TheVariants as op
-use Rattle.executor_model.specs.declared.op.ClosingOp.TheVariants as closing_op
-use Rattle.executor_model.specs.declared.op.Polled.TheVariants as of
-use Rattle.executor_model.specs.declared.op.RunOp.{RunOp}
-use Rattle.executor_model.specs.declared.op.RunOp.TheVariants as run_op
-use Rattle.executor_model.specs.declared.op.RunPoll.{RunPoll}
-use Rattle.executor_model.specs.declared.op.TickOrRun.{TickOrRun}
-use Rattle.executor_model.specs.declared.op.TickOrRun.TheVariants as tick_or_run
-use Rattle.executor_model.specs.declared.op.Sleeping.{Sleeping}
-use Rattle.executor_model.specs.declared.op.Source.{Source}
-use Rattle.executor_model.specs.declared.op.Source.TheVariants.{Common, Own}
-use Rattle.executor_model.specs.declared.op.Steal.{Steal}
-use Rattle.executor_model.specs.declared.op.StealOp.{StealOp}
-use Rattle.executor_model.specs.declared.op.StealOp.TheVariants as steal_op
-use Rattle.executor_model.specs.declared.op.TickOp.{TickOp}
-use Rattle.executor_model.specs.declared.op.TickOp.TheVariants as tick_op
-use Rattle.executor_model.specs.declared.op.QueueOp.TheVariants as queue_op
-use Rattle.executor_model.specs.declared.op.UserOp.TheVariants as user_op
-use Rattle.executor_model.specs.declared.step.Hint.{Hint}
-use Rattle.executor_model.specs.declared.step.Step.{Step}
-use Rattle.executor_model.specs.declared.step.Step.TheVariants.{Begin, Go}
-use Rattle.executor_model.specs.declared.step.Step.TheVariants as step_is
-use Rattle.executor_model.specs.declared.step.StepError.{StepError}
-use Rattle.executor_model.specs.declared.step.StepError.TheVariants.{NoSuch}
-use Rattle.executor_model.specs.declared.step.UserEnd.{UserEnd}
-use Rattle.executor_model.specs.declared.step.UserEnd.TheVariants as end
-use Rattle.executor_model.specs.World.{World, Ticker, Done, log}
-use Rattle.executor_model.specs.Acts.{append_by, take_by}
-use Rattle.executor_model.specs.Acts.{drain_by}
+use Rattle.executor_laws.proofs.Types.{Mark, Plain, Urgent, Look, Call, Reply, Answer, Event, Kind, Waker, Op, ClosingOp, Polled, RunOp}
+use Rattle.executor_laws.proofs.Types.{RunPoll, TickOrRun, Sleeping, Source, Common, Own, Steal, StealOp, TickOp, QueueOp, UserOp, Hint}
+use Rattle.executor_laws.proofs.Types.{Step, Begin, Go, StepError, NoSuch, UserEnd}
+use Rattle.executor_model.specs.Queues.{Queues, queue_in, with_queue}
+use Rattle.executor_model.specs.World.{mark_of, queue_of, World, Ticker, Done, log}
+use Rattle.executor_model.specs.Acts.{append_to, mark_in, takes_more, append_by, take_by, drain_by}
 use Rattle.executor_model.specs.ActsOfSleepers.{look_tick_by}
-use Rattle.executor_model.specs.ActsOfRuns as runs
 use Rattle.executor_model.specs.Doing.{act, run_act, search_by_who, steal_act, tick_act}
-use Rattle.executor_model.specs.Steps.{Machine, stack, top, below_top, refusal, go_refusal, unless}
-use Rattle.executor_model.specs.Steps.{begun, react, future_of, mine, kept, with_future, settled_by}
-use Rattle.executor_model.specs.Steps.{gone_on, after, step, stepped, run, start}
+use Rattle.executor_model.specs.Steps.{Machine, stack, top, below_top, refusal, go_refusal, unless, begun, react, future_of, mine, kept}
+use Rattle.executor_model.specs.Steps.{with_future, settled_by, gone_on, after, step, stepped, run, start}
+use Rattle.executor_model.proofs.Steps.QueuesByMark.{queue-put-same, with_last, with_shut, without_first_of}
 use Rattle.executor_model.proofs.Steps.Lift.{topped, good}
 use Rattle.executor_model.proofs.Table.LeavingExecutions.{placed, has-place}
 use Rattle.executor_model.proofs.Table.Entering.{finds-place}
@@ -63,33 +24,34 @@ use Rattle.executor_model.proofs.Table.Spawning.{in-range}
 use Rattle.executor_model.proofs.Steps.Stepping.{step-refused, step-made}
 use Rattle.executor_model.proofs.Awaiters.RunsQueue.{queue-by_reference, queue-length, queue-list, queue-look, queue-more, queue-own}
 use Rattle.executor_model.proofs.Awaiters.RunsQueue.{queue-put, queue-reschedule, queue-room, queue-stolen}
-use Rattle.executor_model.proofs.OwnQueues.RunsAside.{Rest as Whole, frame-act}
 use Rattle.executor_model.proofs.Awaiters.SleepersWorlds.{Rest, sleeper-rest, tick-rest, searches}
 use Rattle.executor_laws.specs.Queueings.{queued_by, queueings, counting, Changes, counted_after, CountsQueueings}
 use Rattle.executor_laws.specs.Queueings.Changes.{stays, appends, takes, closes}
+use Rattle.executor_model.specs.ActsOfRuns as runs
+use Rattle.executor_model.proofs.OwnQueues.RunsAside.{Rest as Whole, frame-act}
 
 -- what doing o does to the queues
 pub data Turns (w : World) (o : Op) (new : Queues) : Type 0 where
   same : new ≡ w.queues → Turns w o new
-  more : (f : ℕ) → o ≡ op.Queue (queue_op.Append f) → (queue_of w (mark_of w f)).closed ≡ false →
+  more : (f : ℕ) → o ≡ Op.Queue (QueueOp.Append f) → (queue_of w (mark_of w f)).closed ≡ false →
       new ≡ with_last (mark_of w f) f w.queues → Turns w o new
   less : (m : Mark) (f : ℕ) (rest : List ℕ) → (queue_of w m).items ≡ f ∷ rest → new ≡ without_first_of m w.queues →
       Turns w o new
   shuts : (m : Mark) → new ≡ with_shut m w.queues → Turns w o new
 
 turns-append : (c : Bool) (l : Bool) (w : World) (f : ℕ) → (queue_of w (mark_of w f)).closed ≡ c →
-    Turns w (op.Queue (queue_op.Append f)) (append_by (not c && l) w (mark_of w f) f).world.queues
+    Turns w (Op.Queue (QueueOp.Append f)) (append_by (not c && l) w (mark_of w f) f).world.queues
 turns-append true l w f e = same refl
 turns-append false true w f e = more f refl e refl
 turns-append false false w f e = same refl
 
 turns-take : (w : World) (look : Look) (items : List ℕ) → (queue_of w (mark_in look)).items ≡ items →
-    Turns w (op.Queue (queue_op.Take look)) (take_by w look items).world.queues
+    Turns w (Op.Queue (QueueOp.Take look)) (take_by w look items).world.queues
 turns-take w look [] e = same refl
 turns-take w look (f ∷ rest) e = less (mark_in look) f rest e refl
 
 turns-drain : (mark : Mark) (p : ℕ) (w : World) (items : List ℕ) → (queue_of w mark).items ≡ items →
-    Turns w (op.Closing (closing_op.Drain mark)) (drain_by p w mark items).world.queues
+    Turns w (Op.Closing (ClosingOp.Drain mark)) (drain_by p w mark items).world.queues
 turns-drain Urgent p w [] e = same refl
 turns-drain Plain p w [] e = same refl
 turns-drain mark p w (f ∷ rest) e = less mark f rest e refl
@@ -97,7 +59,7 @@ turns-drain mark p w (f ∷ rest) e = less mark f rest e refl
 -- of what a tick does, its looks alone take
 turns-look : (look : Look) (x : Ticker) (w : World) (items : List ℕ) (s : Sleeping) →
     (queue_of w (mark_in look)).items ≡ items →
-    Turns w (op.Tick (tick_op.Look s look)) (look_tick_by x w look items s).world.queues
+    Turns w (Op.Tick (TickOp.Look s look)) (look_tick_by x w look items s).world.queues
 turns-look look x w [] s e = same refl
 turns-look look x w (f ∷ rest) s e = less (mark_in look) f rest e refl
 
@@ -105,64 +67,64 @@ turns-look look x w (f ∷ rest) s e = less (mark_in look) f rest e refl
 
 turns-stolen : (from : Source) (q : List ℕ) (w : World) (s : Steal) (left : ℕ) → s.from ≡ from →
     runs.source_of w from ≡ q →
-    Turns w (op.Steal (steal_op.Take s left)) (runs.steal_take_by q w s left).world.queues
+    Turns w (Op.Steal (StealOp.Take s left)) (runs.steal_take_by q w s left).world.queues
 turns-stolen from [] w s left i e = same (queue-stolen s.then w s.poll)
 turns-stolen (Common mark) (f ∷ rest) w s left i e =
     less mark f rest e (ap (λ (a : Source). (runs.without_first w a rest).queues) i)
 turns-stolen (Own r) (f ∷ rest) w s left i e = same (ap (λ (a : Source). (runs.without_first w a rest).queues) i)
 
-turns-steal : (p : ℕ) (o : StealOp) (w : World) → Turns w (op.Steal o) (steal_act p o w).world.queues
-turns-steal p (steal_op.Length s) w = same (queue-length _ w s)
-turns-steal p (steal_op.OwnLength s n) w = same (queue-more _ w s)
-turns-steal p (steal_op.Take s left) w = turns-stolen s.from _ w s left refl refl
-turns-steal p (steal_op.Put s left f) w = same (queue-put _ p w s left f)
+turns-steal : (p : ℕ) (o : StealOp) (w : World) → Turns w (Op.Steal o) (steal_act p o w).world.queues
+turns-steal p (StealOp.Length s) w = same (queue-length _ w s)
+turns-steal p (StealOp.OwnLength s n) w = same (queue-more _ w s)
+turns-steal p (StealOp.Take s left) w = turns-stolen s.from _ w s left refl refl
+turns-steal p (StealOp.Put s left f) w = same (queue-put _ p w s left f)
 
 turns-common : (look : Look) (q : List ℕ) (w : World) (x : RunPoll) → (queue_of w (mark_in look)).items ≡ q →
-    Turns w (op.Run (run_op.SearchCommon x look)) (runs.search_common_by q w x look).world.queues
+    Turns w (Op.Run (RunOp.SearchCommon x look)) (runs.search_common_by q w x look).world.queues
 turns-common look [] w x e = same refl
 turns-common look (f ∷ rest) w x e = less (mark_in look) f rest e refl
 
-turns-run : (p : ℕ) (h : Hint) (o : RunOp) (w : World) → Turns w (op.Run o) (run_act p h o w).world.queues
-turns-run p h run_op.MakeRoom w = same (queue-room _ w)
-turns-run p h run_op.ReturnRoom w = same refl
-turns-run p h (run_op.TakeTurn x) w = same refl
-turns-run p h (run_op.SearchCommon x look) w = turns-common look _ w x refl
-turns-run p h (run_op.LookOwn x at left) w = same (queue-look _ w x at left)
-turns-run p h (run_op.WakeOwn x) w =
-    same (queue-by_reference p (log w (event.WakerCalled p (of.Run x.run) x.poll x.waker)) x.waker)
-turns-run p h (run_op.Reschedule r a) w = same (queue-reschedule _ w r a)
+turns-run : (p : ℕ) (h : Hint) (o : RunOp) (w : World) → Turns w (Op.Run o) (run_act p h o w).world.queues
+turns-run p h RunOp.MakeRoom w = same (queue-room _ w)
+turns-run p h RunOp.ReturnRoom w = same refl
+turns-run p h (RunOp.TakeTurn x) w = same refl
+turns-run p h (RunOp.SearchCommon x look) w = turns-common look _ w x refl
+turns-run p h (RunOp.LookOwn x at left) w = same (queue-look _ w x at left)
+turns-run p h (RunOp.WakeOwn x) w =
+    same (queue-by_reference p (log w (Event.WakerCalled p (Polled.Run x.run) x.poll x.waker)) x.waker)
+turns-run p h (RunOp.Reschedule r a) w = same (queue-reschedule _ w r a)
 
 turns-searches : (who : TickOrRun) (p : ℕ) (w : World) (s : Sleeping) →
-    Turns w (op.Tick (tick_op.Search s)) (search_by_who who p w s).world.queues
-turns-searches (tick_or_run.Tick t) p w s = same refl
-turns-searches (tick_or_run.Run r) p w s = same (queue-own _ w _)
+    Turns w (Op.Tick (TickOp.Search s)) (search_by_who who p w s).world.queues
+turns-searches (TickOrRun.Tick t) p w s = same refl
+turns-searches (TickOrRun.Run r) p w s = same (queue-own _ w _)
 
 turns-tick : (p : ℕ) (h : Hint) (o : TickOp) (w : World) (b : Bool) → searches o ≡ b →
-    Turns w (op.Tick o) (tick_act p h o w).world.queues
-turns-tick p h (tick_op.Search s) w b e = turns-searches s.who p w s
-turns-tick p h (tick_op.Look s look) w b e = turns-look look _ w _ s refl
+    Turns w (Op.Tick o) (tick_act p h o w).world.queues
+turns-tick p h (TickOp.Search s) w b e = turns-searches s.who p w s
+turns-tick p h (TickOp.Look s look) w b e = turns-look look _ w _ s refl
 turns-tick p h o w false e = same (sym (ap (λ (r : Rest). r.queue) (tick-rest p h o w e)))
 turns-tick p h _ w true e = absurd (cc)
 
 pub turns-act : (p : ℕ) (h : Hint) (o : Op) (w : World) → Turns w o (act p h o w).world.queues
-turns-act p h (op.Queue queue_op.TakeTurn) w = same refl
-turns-act p h (op.Queue (queue_op.Take look)) w = turns-take w look _ refl
-turns-act p h (op.Queue (queue_op.Append f)) w = turns-append (queue_of w (mark_of w f)).closed _ w f refl
-turns-act p h (op.Sleeper o) w = same (sym (ap (λ (r : Rest). r.queue) (sleeper-rest p o w)))
-turns-act p h (op.Tick o) w = turns-tick p h o w (searches o) refl
-turns-act p h (op.List o) w = same (queue-list h o w)
-turns-act p h (op.Steal o) w = turns-steal p o w
-turns-act p h (op.Run o) w = turns-run p h o w
-turns-act p h (op.Closing (closing_op.Close mark)) w = shuts mark refl
-turns-act p h (op.Closing (closing_op.Drain mark)) w = turns-drain mark p w _ refl
-turns-act p h (op.User (user_op.PollOwn x)) w = same refl
+turns-act p h (Op.Queue QueueOp.TakeTurn) w = same refl
+turns-act p h (Op.Queue (QueueOp.Take look)) w = turns-take w look _ refl
+turns-act p h (Op.Queue (QueueOp.Append f)) w = turns-append (queue_of w (mark_of w f)).closed _ w f refl
+turns-act p h (Op.Sleeper o) w = same (sym (ap (λ (r : Rest). r.queue) (sleeper-rest p o w)))
+turns-act p h (Op.Tick o) w = turns-tick p h o w (searches o) refl
+turns-act p h (Op.List o) w = same (queue-list h o w)
+turns-act p h (Op.Steal o) w = turns-steal p o w
+turns-act p h (Op.Run o) w = turns-run p h o w
+turns-act p h (Op.Closing (ClosingOp.Close mark)) w = shuts mark refl
+turns-act p h (Op.Closing (ClosingOp.Drain mark)) w = turns-drain mark p w _ refl
+turns-act p h (Op.User (UserOp.PollOwn x)) w = same refl
 turns-act p h o w = same (ap (λ (r : Whole). r.queue) (sym (frame-act p h o w refl).rest))
 
 pub reacts : (p : ℕ) (o : Op) (u : UserEnd) (w : World) → (react p o u w).world.queues ≡ w.queues
-reacts p (op.User (user_op.Poll f)) (end.Polled answer.Pending) w = refl
-reacts p (op.User (user_op.Poll f)) (end.Polled answer.Ready) w = refl
-reacts p (op.User (user_op.PollOwn x)) (end.Polled answer.Pending) w = refl
-reacts p (op.User (user_op.PollOwn x)) (end.Polled answer.Ready) w = refl
+reacts p (Op.User (UserOp.Poll f)) (UserEnd.Polled Answer.Pending) w = refl
+reacts p (Op.User (UserOp.Poll f)) (UserEnd.Polled Answer.Ready) w = refl
+reacts p (Op.User (UserOp.PollOwn x)) (UserEnd.Polled Answer.Pending) w = refl
+reacts p (Op.User (UserOp.PollOwn x)) (UserEnd.Polled Answer.Ready) w = refl
 reacts p _ _ w = refl
 
 with-future : (w : World) (x : Option ℕ) (d : ℕ → Done) → ((f : ℕ) → (d f).world.queues ≡ w.queues) →
@@ -171,12 +133,12 @@ with-future w None d k = refl
 with-future w (Some f) d k = k f
 
 begins : (p : ℕ) (w : World) (here : Option Waker) (c : Call) → (begun p w here c).world.queues ≡ w.queues
-begins p w here (call.Wake k) = with-future w (kept w k) _ (λ f. refl)
-begins p w here (call.WakeByRef k) = with-future w (kept w k) _ (λ f. refl)
-begins p w here (call.Copy k) = with-future w (kept w k) _ (λ f. refl)
-begins p w here (call.DropWaker k) = with-future w (kept w k) _ (λ f. refl)
-begins p w here call.Keep = with-future w (future_of here) _ (λ f. refl)
-begins p w here call.WakeSelf = with-future w (future_of here) _ (λ f. refl)
+begins p w here (Call.Wake k) = with-future w (kept w k) _ (λ f. refl)
+begins p w here (Call.WakeByRef k) = with-future w (kept w k) _ (λ f. refl)
+begins p w here (Call.Copy k) = with-future w (kept w k) _ (λ f. refl)
+begins p w here (Call.DropWaker k) = with-future w (kept w k) _ (λ f. refl)
+begins p w here Call.Keep = with-future w (future_of here) _ (λ f. refl)
+begins p w here Call.WakeSelf = with-future w (future_of here) _ (λ f. refl)
 begins p w here _ = refl
 
 -- the end of a call leaves it
@@ -187,7 +149,7 @@ settles p w os (Some r) = refl
 -- what a step does to the queue of this mark
 pub data Steps (m : Mark) (s : Machine) (new : ClosableQueue ℕ) : Type 0 where
   as-was : new ≡ queue_of s.world m → Steps m s new
-  longer : (p f : ℕ) → top (stack s p) ≡ Some (op.Queue (queue_op.Append f)) → mark_of s.world f ≡ m →
+  longer : (p f : ℕ) → top (stack s p) ≡ Some (Op.Queue (QueueOp.Append f)) → mark_of s.world f ≡ m →
       (queue_of s.world m).closed ≡ false →
       new ≡ appended (queue_of s.world m) f → Steps m s new
   shorter : (f : ℕ) (rest : List ℕ) → (queue_of s.world m).items ≡ f ∷ rest → new ≡ taken (queue_of s.world m) → Steps m s new
@@ -243,11 +205,11 @@ by-answer m s p u (Some o) =
 
 by-after : (m : Mark) (s : Machine) (t : Step) → Steps m s (queue_of (after s t).world m)
 by-after m s (Begin p c) =
-    let w : World = log s.world (event.CallBegun p c) in
+    let w : World = log s.world (Event.CallBegun p c) in
     let d : Done = begun p w (mine (top (stack s p))) c in
     as-was (ap (queue_in m) (settles p d.world (stack s p ++ reverse d.next) _ ∙ begins p w (mine (top (stack s p))) c))
 by-after m s (Go p h) = by-go m s p h (top (stack s p)) refl
-by-after m s (step_is.Answer p u) = by-answer m s p u (top (stack s p))
+by-after m s (Step.Answer p u) = by-answer m s p u (top (stack s p))
 
 pub by-step : (m : Mark) (s : Machine) (t : Step) → Steps m s (queue_of (stepped s (step s t)).world m)
 by-step m s t = go (refusal s t) refl
@@ -306,11 +268,11 @@ few-answer s p u (Some o) = few-same s.world.queues _
 
 few-after : (s : Machine) (t : Step) → FewMore s.world.queues (after s t).world.queues
 few-after s (Begin p c) =
-    let w : World = log s.world (event.CallBegun p c) in
+    let w : World = log s.world (Event.CallBegun p c) in
     let d : Done = begun p w (mine (top (stack s p))) c in
     few-same s.world.queues _ (settles p d.world (stack s p ++ reverse d.next) _ ∙ begins p w (mine (top (stack s p))) c)
 few-after s (Go p h) = few-go s p h (top (stack s p))
-few-after s (step_is.Answer p u) = few-answer s p u (top (stack s p))
+few-after s (Step.Answer p u) = few-answer s p u (top (stack s p))
 
 few-step : (s : Machine) (t : Step) → FewMore s.world.queues (stepped s (step s t)).world.queues
 few-step s t = go (refusal s t) refl
@@ -364,7 +326,7 @@ module _ (m : Mark) (limit : ℕ) (kind : Kind) (parties : ℕ) (steps : List St
       ∙ ap (counting (count + n))
       (ap (λ (x : Machine). queue_of x.world m) (run-push steps t (start limit kind parties)) ∙ e)
 
-  has-room : (p f : ℕ) → top (stack now p) ≡ Some (op.Queue (queue_op.Append f)) → mark_of now.world f ≡ m → HasRoom here
+  has-room : (p f : ℕ) → top (stack now p) ≡ Some (Op.Queue (QueueOp.Append f)) → mark_of now.world f ≡ m → HasRoom here
   has-room p f e i = subst (λ (k : Mark). HasRoom (queue_of now.world k)) i
       (finds-place now f (good limit kind parties steps) (placed limit kind parties steps) p e)
 
@@ -382,25 +344,25 @@ module _ (m : Mark) (limit : ℕ) (kind : Kind) (parties : ℕ) (steps : List St
   changes-by few t q e (shut-by x) = closes (later t (shut here) 0 (e ∙ x) (omega arith) ∙ same-count (shut here))
 
   -- who is about to append does
-  appends-now : (p : ℕ) (h : Hint) (f : ℕ) → top (stack now p) ≡ Some (op.Queue (queue_op.Append f)) →
+  appends-now : (p : ℕ) (h : Hint) (f : ℕ) → top (stack now p) ≡ Some (Op.Queue (QueueOp.Append f)) →
       mark_of now.world f ≡ m → here.closed ≡ false →
       queue_of (stepped now (step now (Go p h))).world m ≡ appended here f
   appends-now p h f e i c =
-      let l : p < length now.parties = in-range now p (op.Queue (queue_op.Append f)) e in
+      let l : p < length now.parties = in-range now p (Op.Queue (QueueOp.Append f)) e in
       let b : ltb p (length now.parties) ≡ true = grind (arith, nat_tests) in
       let r : refusal now (Go p h) ≡ None =
       ap (λ (x : Bool). unless x NoSuch (go_refusal now.world (top (stack now p)))) b
       ∙ ap (go_refusal now.world) e in
       let room : length here.items < now.world.limit =
-      has-place now p f (below_top (stack now p)) l (topped (stack now p) (op.Queue (queue_op.Append f)) e)
+      has-place now p f (below_top (stack now p)) l (topped (stack now p) (Op.Queue (QueueOp.Append f)) e)
       (good limit kind parties steps) (placed limit kind parties steps) m in
       let free : takes_more here now.world.limit ≡ true =
       ap (λ (x : Bool). not x && ltb (length here.items) now.world.limit) c
       ∙ (let z : ltb (length here.items) now.world.limit ≡ true = grind (arith, nat_tests) in z) in
       ap (λ (x : Result Machine StepError). queue_of (stepped now x).world m) (step-made now (Go p h) r)
       ∙ (ap (λ (x : Option Op). queue_of (gone_on p now.world (stack now p) x (λ o. act p h o now.world)).world m) e
-      ∙ (ap (queue_in m) (settles p (act p h (op.Queue (queue_op.Append f)) now.world).world
-      (below_top (stack now p) ++ reverse (act p h (op.Queue (queue_op.Append f)) now.world).next) _)
+      ∙ (ap (queue_in m) (settles p (act p h (Op.Queue (QueueOp.Append f)) now.world).world
+      (below_top (stack now p) ++ reverse (act p h (Op.Queue (QueueOp.Append f)) now.world).next) _)
       ∙ (ap (λ (k : Mark). queue_of (append_to now.world k f).world m) i
       ∙ (ap (λ (x : Bool). queue_of (append_by x now.world m f).world m) free
       ∙ queue-put-same m (appended here f) now.world.queues))))

@@ -2,27 +2,16 @@
 -- A tick that is tried alone takes the first future of the queue that its turn names.
 use Rattle.std.proofs.Common.{◌≡◌, ◌∙◌, ⊎_elim, ℕ, ◌+◌, ◌≤◌, List, [], ◌∷◌, Bool, true, false, ◌||◌, cond}
 use Rattle.std.proofs.Common.{refl, sym, ap, arith}
-use Rattle.executor_parts.specs.declared.mark.Mark.{Mark}
-use Rattle.executor_parts.specs.declared.mark.Mark.TheVariants.{Plain, Urgent}
 use Rattle.executor_parts.specs.Marks.{first_of, other, same_mark}
-use Rattle.executor_model.specs.declared.call.Call.TheVariants as call
-use Rattle.executor_model.specs.declared.call.Reply.TheVariants as reply
-use Rattle.executor_model.specs.declared.kind.Kind.{Kind}
-use Rattle.executor_model.specs.declared.step.Step.{Step}
-use Rattle.executor_model.specs.Emptiness.{IsAtRest}
-use Rattle.executor_model.specs.Keeper.{IsCommon}
-use Rattle.executor_model.specs.Sound.{times}
-use Rattle.executor_model.specs.Steps.{Machine, run, start}
-use Rattle.executor_model.specs.Trace.{Trace, has}
-use Rattle.executor_model.specs.World.{mark_of, queue_of}
+use Rattle.executor_laws.proofs.Types.{Mark, Plain, Urgent, Call, Reply, Kind, Step}
+use Rattle.executor_model.specs.{Emptiness.IsAtRest, Keeper.IsCommon, Sound.times, Steps.Machine, Steps.run, Steps.start, Trace.Trace}
+use Rattle.executor_model.specs.{Trace.has, World.mark_of, World.queue_of}
 use Rattle.executor_model.proofs.Steps.Reached.{Reached}
-use Rattle.executor_laws.specs.Looks.{TakesByItsTurn, TakesFirst}
-use Rattle.executor_laws.specs.Reach.{IsLoneTick, names, since, takes}
-use Rattle.executor_laws.proofs.Exactness.Ticking.{first-times}
-use Rattle.executor_laws.proofs.Reach.Marked.{marked-here}
-use Rattle.executor_laws.proofs.Reach.Reaching.{common-spot, found-events, has-around, in-queue, one-turn, since-is, spot-common}
-use Rattle.executor_laws.proofs.Reach.Spots.{Spot, named}
-use Rattle.executor_laws.proofs.Reach.Searching.{First, first-taken}
+use Rattle.executor_laws.specs.{Looks.TakesByItsTurn, Looks.TakesFirst, Reach.IsLoneTick, Reach.names, Reach.since, Reach.takes}
+use Rattle.executor_laws.proofs.{Exactness.Ticking.first-times, Reach.Marked.marked-here, Reach.Reaching.common-spot}
+use Rattle.executor_laws.proofs.{Reach.Reaching.found-events, Reach.Reaching.has-around, Reach.Reaching.in-queue, Reach.Reaching.one-turn}
+use Rattle.executor_laws.proofs.{Reach.Reaching.since-is, Reach.Reaching.spot-common, Reach.Spots.Spot, Reach.Spots.named}
+use Rattle.executor_laws.proofs.{Reach.Searching.First, Reach.Searching.first-taken}
 
 -- what is told is counted
 counted : (m : Mark) (es : Trace) → has (names m) es ≡ true → 1 ≤ named m es
@@ -46,20 +35,20 @@ module _ (s : Machine) (r : Reached s) (rest : IsAtRest s) (p : ℕ) (steps : Li
   x : Spot s.world
   x = common-spot s r rest f c
 
-  taken : First x.mark x.future p call.TryTick reply.Yes s new
-  taken = first-taken s r rest p call.TryTick reply.Yes refl steps new k x
+  taken : First x.mark x.future p Call.TryTick Reply.Yes s new
+  taken = first-taken s r rest p Call.TryTick Reply.Yes refl steps new k x
 
   abbrev events : Trace
-  events = (found-events x.mark x.future p call.TryTick reply.Yes s new taken).grown
+  events = (found-events x.mark x.future p Call.TryTick Reply.Yes s new taken).grown
 
   since-told : since s new ≡ events
-  since-told = since-is s new (found-events x.mark x.future p call.TryTick reply.Yes s new taken)
+  since-told = since-is s new (found-events x.mark x.future p Call.TryTick Reply.Yes s new taken)
 
   turn : m ≡ first_of s.world.urgent_turns
   turn = same-one m (first_of s.world.urgent_turns) (omega (
     arith,
     counted m events (ap (has (names m)) (sym since-told) ∙ told),
-    one-turn x.mark x.future p call.TryTick reply.Yes s new taken m,
+    one-turn x.mark x.future p Call.TryTick Reply.Yes s new taken m,
   ))
 
   -- its queue isn't empty, since f stands there
@@ -88,7 +77,7 @@ module _ (s : Machine) (r : Reached s) (rest : IsAtRest s) (p : ℕ) (steps : Li
     ));
     common = spot-common s r rest x;
     taken = ap (has (takes x.future)) since-told
-        ∙ has-around x.future p call.TryTick reply.Yes taken.meanwhile taken.taken;
+        ∙ has-around x.future p Call.TryTick Reply.Yes taken.meanwhile taken.taken;
   }
 
 pub takes-by-its-turn : (limit : ℕ) (kind : Kind) (parties : ℕ) (steps : List Step) →

@@ -8,25 +8,14 @@ use Rattle.std.proofs.lemmas.Bool.Decides.{nat_tests}
 use Rattle.std.proofs.lemmas.List.{append_cancel_left}
 use Rattle.std.proofs.lemmas.List.Folds.{list_any-append}
 use Rattle.std.specs.List.{list_any}
-use Rattle.executor_parts.specs.declared.mark.Mark.TheVariants.{Plain, Urgent}
-use Rattle.executor_model.specs.declared.event.Event.{Event}
-use Rattle.executor_model.specs.declared.event.Event.TheVariants as event
-use Rattle.executor_model.specs.declared.step.Step.TheVariants.{Begin}
-use Rattle.executor_model.specs.Due.{is_request, since_poll}
-use Rattle.executor_model.specs.Emptiness.{IsAtRest}
-use Rattle.executor_model.specs.Keeper.{IsCommon}
-use Rattle.executor_model.specs.Sound.{times}
-use Rattle.executor_model.specs.Steps.{Machine}
-use Rattle.executor_model.specs.Trace.{Trace, has, is_dropped, is_poll}
-use Rattle.executor_model.specs.Weights.{same}
-use Rattle.executor_model.specs.World.{queued_in}
-use Rattle.executor_model.proofs.OneFuture.Stories.{no-longer}
-use Rattle.executor_model.proofs.Steps.Lists.{same_cases, same_is, times-append}
-use Rattle.executor_model.proofs.Steps.Pushes.{any-push, since-push}
-use Rattle.executor_model.proofs.Steps.QueuesByMark.{length-all, length-first, times-all, times-first, without_first_of}
-use Rattle.executor_model.proofs.Steps.Reached.{Reached, deep-here, good-here}
-use Rattle.executor_model.proofs.Steps.Tests.{left-false, right-false}
-use Rattle.executor_model.proofs.Table.Entering.{queue-agrees}
+use Rattle.executor_laws.proofs.Types.{Plain, Urgent, Event, Begin}
+use Rattle.executor_model.specs.{Due.is_request, Due.since_poll, Emptiness.IsAtRest, Keeper.IsCommon, Sound.times, Steps.Machine}
+use Rattle.executor_model.specs.{Trace.Trace, Trace.has, Trace.is_dropped, Trace.is_poll, Weights.same, World.queued_in}
+use Rattle.executor_model.proofs.{OneFuture.Stories.no-longer, Steps.Lists.same_cases, Steps.Lists.same_is, Steps.Lists.times-append}
+use Rattle.executor_model.proofs.{Steps.Pushes.any-push, Steps.Pushes.since-push, Steps.QueuesByMark.length-all}
+use Rattle.executor_model.proofs.{Steps.QueuesByMark.length-first, Steps.QueuesByMark.times-all, Steps.QueuesByMark.times-first}
+use Rattle.executor_model.proofs.{Steps.QueuesByMark.without_first_of, Steps.Reached.Reached, Steps.Reached.deep-here}
+use Rattle.executor_model.proofs.{Steps.Reached.good-here, Steps.Tests.left-false, Steps.Tests.right-false, Table.Entering.queue-agrees}
 use Rattle.executor_laws.specs.Reach.{AreLoneSearches, BecomesCommon, Coming, HasComings, HasCommons, LoneSearch, is_coming, since, takes}
 use Rattle.executor_laws.proofs.Placement.Placing.{common-queue, queue-common}
 use Rattle.executor_laws.proofs.Reach.Reached.{bonded-here, heard-here}
@@ -142,21 +131,21 @@ module _ (s : Machine) (r : Reached s) (rest : IsAtRest s) (t : LoneSearch) (k0 
   not-taken g e later =
       let y : Split (takes g) a.meanwhile =
       split-at (takes g) a.meanwhile (ap (λ (n : ℕ). has (takes n) a.meanwhile) (sym e) ∙ a.taken) in
-      let pre : Trace = s.world.trace ++ event.CallBegun t.party t.call ∷ y.before in
-      let post : Trace = y.after ++ event.CallEnded t.party t.found ∷ [] in
+      let pre : Trace = s.world.trace ++ Event.CallBegun t.party t.call ∷ y.before in
+      let post : Trace = y.after ++ Event.CallEnded t.party t.found ∷ [] in
       let whole : k0.world.trace ≡ (pre ++ y.this ∷ []) ++ post =
       a.events
-      ∙ (ap (λ (es : Trace). s.world.trace ++ event.CallBegun t.party t.call ∷ (es ++ event.CallEnded t.party t.found ∷ [])) y.is
-      ∙ (ap (λ (es : Trace). s.world.trace ++ event.CallBegun t.party t.call ∷ es)
-      (append_assoc y.before (y.this ∷ y.after) (event.CallEnded t.party t.found ∷ []))
-      ∙ (sym (append_assoc s.world.trace (event.CallBegun t.party t.call ∷ y.before) (y.this ∷ post))
+      ∙ (ap (λ (es : Trace). s.world.trace ++ Event.CallBegun t.party t.call ∷ (es ++ Event.CallEnded t.party t.found ∷ [])) y.is
+      ∙ (ap (λ (es : Trace). s.world.trace ++ Event.CallBegun t.party t.call ∷ es)
+      (append_assoc y.before (y.this ∷ y.after) (Event.CallEnded t.party t.found ∷ []))
+      ∙ (sym (append_assoc s.world.trace (Event.CallBegun t.party t.call ∷ y.before) (y.this ∷ post))
       ∙ sym (append_assoc pre (y.this ∷ []) post)))) in
       record {
         moment = length (pre ++ y.this ∷ []);
         later = omega (
           arith,
           length-append pre (y.this ∷ []),
-          length-append s.world.trace (event.CallBegun t.party t.call ∷ y.before),
+          length-append s.world.trace (Event.CallBegun t.party t.call ∷ y.before),
         );
         within = omega (arith, ap (λ (es : Trace). length es) whole, length-append (pre ++ y.this ∷ []) post);
         not = subst (λ (es : Trace). ¬ IsCommon g es)
@@ -346,7 +335,7 @@ not-all (t ∷ ts) s new r rest k f q n cs h =
     let e : Grows s k0 = run-grows (Begin t.party t.call ∷ t.steps) s k0 k.1.made in
     let y : Grows k0 new = grows ts k0 new k.2 in
     let none : (has (takes f) e.grown || has (takes f) y.grown) ≡ false = sym (list_any-append (takes f) e.grown y.grown) ∙ n in
-    let own_events : e.grown ≡ event.CallBegun t.party t.call ∷ (a.meanwhile ++ event.CallEnded t.party t.found ∷ []) =
+    let own_events : e.grown ≡ Event.CallBegun t.party t.call ∷ (a.meanwhile ++ Event.CallEnded t.party t.found ∷ []) =
     append_cancel_left s.world.trace e.grown _ (sym e.trace ∙ a.events) in
     let apart : same f x.future ≡ 0 = ⊎_elim
     (λ (z : (same f x.future ≡ 1) × (eqb f x.future ≡ true) × (f ≡ x.future)).

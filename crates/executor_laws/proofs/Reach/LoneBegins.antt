@@ -3,22 +3,12 @@
 use Rattle.std.proofs.Common.{◌≡◌, ℕ, ◌<◌, List, [], length, Bool, true, false, ◌&&◌, not, ◌==◌, ap, ◌∙◌, arith}
 use Rattle.std.proofs.lemmas.Bool.Decides.{nat_tests}
 use Rattle.std.specs.Prelude.{None, nat_lt}
-use Rattle.executor_model.specs.declared.call.By.TheVariants as by
-use Rattle.executor_model.specs.declared.call.Call.{Call}
-use Rattle.executor_model.specs.declared.call.Call.TheVariants as call
-use Rattle.executor_model.specs.declared.op.Op.{Op}
-use Rattle.executor_model.specs.declared.step.Step.TheVariants.{Begin}
-use Rattle.executor_model.specs.declared.step.StepError.TheVariants.{NoSuch, Gone}
-use Rattle.executor_model.specs.Emptiness.{IsAtRest}
-use Rattle.executor_model.specs.Rows.{leaking_of, ticking_of}
-use Rattle.executor_model.specs.Weights.{weigh_all}
-use Rattle.executor_model.specs.Steps.{Machine, stack, top, is_unused, lives, unless, begin_refusal, refusal}
-use Rattle.executor_model.specs.World.{tick_of}
-use Rattle.executor_model.proofs.Quiet.Resting.{all-rest}
-use Rattle.executor_laws.proofs.Reach.Reached.{bonded-here, heard-here}
-use Rattle.executor_model.proofs.Steps.Reached.{Reached, good-here, deep-here}
-use Rattle.executor_laws.proofs.Placement.Placing.{here, idle}
-use Rattle.executor_laws.proofs.Exactness.Ticking.{none-refused}
+use Rattle.executor_laws.proofs.Types.{By, Call, Op, Begin, NoSuch, Gone}
+use Rattle.executor_model.specs.{Emptiness.IsAtRest, Rows.leaking_of, Rows.ticking_of, Weights.weigh_all, Steps.Machine, Steps.stack}
+use Rattle.executor_model.specs.{Steps.top, Steps.is_unused, Steps.lives, Steps.unless, Steps.begin_refusal, Steps.refusal, World.tick_of}
+use Rattle.executor_model.proofs.{Quiet.Resting.all-rest, Steps.Reached.Reached, Steps.Reached.good-here, Steps.Reached.deep-here}
+use Rattle.executor_laws.proofs.{Reach.Reached.bonded-here, Reach.Reached.heard-here, Placement.Placing.here, Placement.Placing.idle}
+use Rattle.executor_laws.proofs.{Exactness.Ticking.none-refused}
 
 module _ (s : Machine) (r : Reached s) (rest : IsAtRest s) (p : ℕ) where
   idles : (q : ℕ) → stack s q ≡ []
@@ -31,14 +21,14 @@ module _ (s : Machine) (r : Reached s) (rest : IsAtRest s) (p : ℕ) where
   unleaked = all-rest leaking_of s.parties idles
 
   -- a tick can be tried
-  pub tick-begins : p < length s.parties → refusal s (Begin p call.TryTick) ≡ None
+  pub tick-begins : p < length s.parties → refusal s (Begin p Call.TryTick) ≡ None
   tick-begins l = none-refused s p l there (idles p) unleaked
 
   -- and one that lives can be polled
   pub poll-begins : (t x : ℕ) → p < length s.parties → lives (tick_of s.world t) ≡ true →
-      refusal s (Begin p (call.PollTick t (by.Outside x))) ≡ None
+      refusal s (Begin p (Call.PollTick t (By.Outside x))) ≡ None
   poll-begins t x l alive =
-      let c : Call = call.PollTick t (by.Outside x) in
+      let c : Call = Call.PollTick t (By.Outside x) in
       let unused : is_unused (ticking_of t) s.parties ≡ true =
       ap (λ (n : ℕ). n == 0) (all-rest (ticking_of t) s.parties idles) in
       ap (λ (b : Bool). unless b NoSuch (begin_refusal s.world s.parties (top (stack s p)) c))

@@ -4,92 +4,58 @@
 use Rattle.std.proofs.Common.{◌≡◌, ℕ, ◌+◌, List, [], ◌∷◌, ◌++◌, Bool, true, false, ◌||◌, refl, arith}
 use Rattle.std.proofs.Common.{sym, ap, ◌∙◌, append-nil, append_assoc}
 use Rattle.std.specs.Prelude.{Option, Some, None}
-use Rattle.executor_parts.specs.declared.mark.Mark.{Mark}
-use Rattle.executor_parts.specs.declared.mark.Mark.TheVariants.{Plain, Urgent}
 use Rattle.queue_steps.specs.ClosableQueue.{appended}
-use Rattle.task_moves.specs.declared.moves.owed.Move.TheVariants as move
-use Rattle.task_moves.specs.declared.moves.owed.Moved.{Moved}
-use Rattle.task_moves.specs.Moves as moves
-use Rattle.executor_model.specs.declared.event.Answer.TheVariants as answer
-use Rattle.executor_model.specs.declared.event.Event.{Event}
-use Rattle.executor_model.specs.declared.event.Event.TheVariants as event
-use Rattle.executor_model.specs.declared.op.Waker.{Waker}
-use Rattle.executor_model.specs.declared.op.Waker.TheVariants.{Task, Outside}
-use Rattle.executor_model.specs.declared.op.Op.{Op}
-use Rattle.executor_model.specs.declared.op.Op.TheVariants as op
-use Rattle.executor_model.specs.declared.op.ClosingOp.TheVariants as closing_op
-use Rattle.executor_model.specs.declared.op.HandleOp.TheVariants as handle_op
-use Rattle.executor_model.specs.declared.op.Polled.{Polled}
-use Rattle.executor_model.specs.declared.op.Polled.TheVariants as of
-use Rattle.executor_model.specs.declared.op.QueueOp.TheVariants as queue_op
-use Rattle.executor_model.specs.declared.op.RunOp.TheVariants as run_op
-use Rattle.executor_model.specs.declared.op.Sleeping.{Sleeping}
-use Rattle.executor_model.specs.declared.op.SleeperOp.{SleeperOp}
-use Rattle.executor_model.specs.declared.op.SleeperOp.TheVariants as sleeper_op
-use Rattle.executor_model.specs.declared.op.TickOrRun.{TickOrRun}
-use Rattle.executor_model.specs.declared.op.TableOp.TheVariants as table_op
-use Rattle.executor_model.specs.declared.op.TickOp.TheVariants as tick_op
-use Rattle.executor_model.specs.declared.op.UserOp.TheVariants as user_op
-use Rattle.executor_model.specs.declared.op.WakerOp.TheVariants as waker_op
-use Rattle.executor_model.specs.declared.step.Hint.{Hint}
-use Rattle.executor_model.specs.declared.step.UserEnd.{UserEnd}
-use Rattle.executor_model.specs.declared.step.UserEnd.TheVariants as end
-use Rattle.executor_model.specs.Queues.{Queues, queue_in, with_queue}
-use Rattle.executor_model.specs.Sound.{times}
-use Rattle.executor_model.specs.Trace.{Trace, has}
 use Rattle.executor_parts.specs.Sleepers.{waker_of}
-use Rattle.executor_model.specs.ActsOfRuns.{return_room}
-use Rattle.executor_model.specs.ActsOfSleepers.{wake_up_by, polled_as}
-use Rattle.executor_model.proofs.Steps.SleepersNext.{goes-unseen}
-use Rattle.executor_model.specs.World.{Ticker, Awake, Asleep, Left}
-use Rattle.executor_model.specs.World.{World, Done, done, log, log_if, task, put, among, awaiter_of, queue_of, queued_in}
-use Rattle.executor_model.proofs.Steps.Lists.{times-append}
-use Rattle.executor_model.proofs.Steps.QueuesByMark.{times-all}
-use Rattle.executor_model.specs.Carried.{carried}
-use Rattle.executor_model.specs.Acts.{append_by, entry_goes, leave_by, let_go_by, notify_by}
-use Rattle.executor_model.specs.Acts.{call_waker}
-use Rattle.executor_model.specs.Steps.{waits, accepts, react}
-use Rattle.executor_model.specs.Weights.{weigh}
-use Rattle.executor_model.proofs.Steps.Asides.{Aside, aside-let_go, aside-owed, aside-told}
-use Rattle.executor_model.specs.Doing.{sleeper_act, act}
-use Rattle.executor_model.specs.ActsOfSleepers.{exchange_by, hand_out_by}
+use Rattle.executor_laws.proofs.Types.{Mark, Plain, Urgent, Move, Moved, Answer, Event, Waker, Task, Outside, Op, ClosingOp, HandleOp}
+use Rattle.executor_laws.proofs.Types.{Polled, QueueOp, RunOp, Sleeping, SleeperOp, TickOrRun, TableOp, TickOp, UserOp, WakerOp, Hint}
+use Rattle.executor_laws.proofs.Types.{UserEnd}
+use Rattle.executor_model.specs.{Queues.Queues, Queues.queue_in, Queues.with_queue, Sound.times, Trace.Trace, Trace.has}
+use Rattle.executor_model.specs.{ActsOfRuns.return_room, ActsOfSleepers.wake_up_by, ActsOfSleepers.polled_as, World.Ticker, World.Awake}
+use Rattle.executor_model.specs.{World.Asleep, World.Left, World.World, World.Done, World.done, World.log, World.log_if, World.task}
+use Rattle.executor_model.specs.{World.put, World.among, World.awaiter_of, World.queue_of, World.queued_in, Carried.carried, Acts.append_by}
+use Rattle.executor_model.specs.{Acts.entry_goes, Acts.leave_by, Acts.let_go_by, Acts.notify_by, Acts.call_waker, Steps.waits}
+use Rattle.executor_model.specs.{Steps.accepts, Steps.react, Weights.weigh, Doing.sleeper_act, Doing.act, ActsOfSleepers.exchange_by}
+use Rattle.executor_model.specs.{ActsOfSleepers.hand_out_by}
+use Rattle.executor_model.proofs.{Steps.SleepersNext.goes-unseen, Steps.Lists.times-append, Steps.QueuesByMark.times-all}
+use Rattle.executor_model.proofs.{Steps.Asides.Aside, Steps.Asides.aside-let_go, Steps.Asides.aside-owed, Steps.Asides.aside-told}
+use Rattle.task_moves.specs.Moves as moves
 
 -- what belongs to no such call whose future is taken
 abbrev pub stray_of : Op → ℕ
-stray_of (op.Table (table_op.Enter mark)) = 1
-stray_of (op.Queue queue_op.TakeTurn) = 1
-stray_of (op.Queue (queue_op.Take look)) = 1
-stray_of (op.Table table_op.LookAtTable) = 1
-stray_of (op.Waker (waker_op.CopyWaker f held)) = 1
-stray_of (op.Handle (handle_op.Look f a)) = 1
-stray_of (op.Handle (handle_op.CopyAwaiter f a)) = 1
-stray_of (op.Handle (handle_op.Register f a k)) = 1
-stray_of (op.Handle (handle_op.EndRegister f a k)) = 1
-stray_of (op.Handle (handle_op.LookAgain f)) = 1
-stray_of (op.Closing closing_op.TakeOut) = 1
-stray_of (op.Closing closing_op.DropNext) = 1
-stray_of (op.Closing closing_op.WakeNext) = 1
-stray_of (op.Closing (closing_op.Close mark)) = 1
-stray_of (op.Closing (closing_op.Drain mark)) = 1
-stray_of (op.Closing closing_op.LeakOut) = 1
-stray_of (op.Closing closing_op.LeakNext) = 1
-stray_of (op.Tick tick_op.MakeTick) = 1
-stray_of (op.Tick (tick_op.Search s)) = 1
-stray_of (op.Tick (tick_op.Look s look)) = 1
-stray_of (op.Tick (tick_op.CopyWaker s)) = 1
-stray_of (op.Tick (tick_op.FallAsleep s)) = 1
-stray_of (op.Tick (tick_op.Leave who)) = 1
-stray_of (op.List o) = 1
-stray_of (op.Steal o) = 1
-stray_of (op.Run run_op.ReturnRoom) = 0
-stray_of (op.Run o) = 1
-stray_of (op.User (user_op.PollOwn x)) = 1
-stray_of (op.User (user_op.DropOwn r)) = 1
-stray_of (op.End a held) = 1
+stray_of (Op.Table (TableOp.Enter mark)) = 1
+stray_of (Op.Queue QueueOp.TakeTurn) = 1
+stray_of (Op.Queue (QueueOp.Take look)) = 1
+stray_of (Op.Table TableOp.LookAtTable) = 1
+stray_of (Op.Waker (WakerOp.CopyWaker f held)) = 1
+stray_of (Op.Handle (HandleOp.Look f a)) = 1
+stray_of (Op.Handle (HandleOp.CopyAwaiter f a)) = 1
+stray_of (Op.Handle (HandleOp.Register f a k)) = 1
+stray_of (Op.Handle (HandleOp.EndRegister f a k)) = 1
+stray_of (Op.Handle (HandleOp.LookAgain f)) = 1
+stray_of (Op.Closing ClosingOp.TakeOut) = 1
+stray_of (Op.Closing ClosingOp.DropNext) = 1
+stray_of (Op.Closing ClosingOp.WakeNext) = 1
+stray_of (Op.Closing (ClosingOp.Close mark)) = 1
+stray_of (Op.Closing (ClosingOp.Drain mark)) = 1
+stray_of (Op.Closing ClosingOp.LeakOut) = 1
+stray_of (Op.Closing ClosingOp.LeakNext) = 1
+stray_of (Op.Tick TickOp.MakeTick) = 1
+stray_of (Op.Tick (TickOp.Search s)) = 1
+stray_of (Op.Tick (TickOp.Look s look)) = 1
+stray_of (Op.Tick (TickOp.CopyWaker s)) = 1
+stray_of (Op.Tick (TickOp.FallAsleep s)) = 1
+stray_of (Op.Tick (TickOp.Leave who)) = 1
+stray_of (Op.List o) = 1
+stray_of (Op.Steal o) = 1
+stray_of (Op.Run RunOp.ReturnRoom) = 0
+stray_of (Op.Run o) = 1
+stray_of (Op.User (UserOp.PollOwn x)) = 1
+stray_of (Op.User (UserOp.DropOwn r)) = 1
+stray_of (Op.End a held) = 1
 stray_of _ = 0
 
 abbrev pub is_turn : Event → Bool
-is_turn (event.Looked p m) = true
+is_turn (Event.Looked p m) = true
 is_turn _ = false
 
 -- nothing strays, no turn is taken, and queues and trace get longer at their ends
@@ -228,10 +194,10 @@ inner-let_go false w f = still w _ _ refl refl refl (aside-let_go stray_of no-st
 
 inner-call : (p : ℕ) (w : World) (o : Polled) (a : Waker) (k : ℕ) → Inner w (call_waker p w o a k)
 inner-call p w o (Task g) k =
-    then-inner w (event.WakerCalled p o k (Task g)) _ refl
-    (inner-logged _ (log w (event.WakerCalled p o k (Task g))) (event.Woken p g) refl g
+    then-inner w (Event.WakerCalled p o k (Task g)) _ refl
+    (inner-logged _ (log w (Event.WakerCalled p o k (Task g))) (Event.Woken p g) refl g
     (moves.wake (task w g)))
-inner-call p w o (Outside x) k = logged w _ (event.WakerCalled p o k (Outside x)) _ refl refl refl refl refl
+inner-call p w o (Outside x) k = logged w _ (Event.WakerCalled p o k (Outside x)) _ refl refl refl refl refl
 
 inner-exchange : (b : Bool) (w : World) → Inner w (exchange_by b w)
 inner-exchange true w = still w _ _ refl refl refl refl
@@ -243,9 +209,9 @@ inner-hand_out true (Some s) w = still w _ _ refl refl refl refl
 inner-hand_out false o w = still w _ _ refl refl refl refl
 
 inner-sleeper : (p : ℕ) (o : SleeperOp) (w : World) → Inner w (sleeper_act p o w)
-inner-sleeper p sleeper_op.ExchangeFlag w = inner-exchange _ w
-inner-sleeper p sleeper_op.HandOut w = inner-hand_out _ _ w
-inner-sleeper p (sleeper_op.CallSleeper s) w = inner-call p w (polled_as s.who) s.waker s.poll
+inner-sleeper p SleeperOp.ExchangeFlag w = inner-exchange _ w
+inner-sleeper p SleeperOp.HandOut w = inner-hand_out _ _ w
+inner-sleeper p (SleeperOp.CallSleeper s) w = inner-call p w (polled_as s.who) s.waker s.poll
 
 -- a tick wakes up, and its old waker goes
 inner-up : (x : Ticker) (w : World) (who : TickOrRun) → Inner w (wake_up_by x w who)
@@ -256,68 +222,68 @@ inner-up (Asleep n) w who =
 inner-up Left w who = still w w [] refl refl refl refl
 
 pub inner-act : (p : ℕ) (h : Hint) (o : Op) (w : World) → waits o ≡ false → stray_of o ≡ 0 → Inner w (act p h o w)
-inner-act p h (op.Queue (queue_op.Append f)) w n z = inner-append _ w _ f
-inner-act p h (op.Move move.WakeByReference f) w n z =
-    inner-logged _ w (event.Woken p f) refl f (moves.wake_by_reference (task w f))
-inner-act p h (op.Move move.Wake f) w n z = inner-logged _ w (event.Woken p f) refl f (moves.wake (task w f))
-inner-act p h (op.Move move.Release f) w n z = inner-logged _ w (event.LastWaker p f) refl f (moves.release (task w f))
-inner-act p h (op.Move move.TakeUp f) w n z = inner-logged _ w (event.PollBegun p f) refl f (moves.take_up (task w f))
-inner-act p h (op.Move move.SettleClosed f) w n z = inner-carried w f (moves.settle_closed (task w f))
-inner-act p h (op.Move move.GiveUp f) w n z = inner-carried w f (moves.give_up (task w f))
-inner-act p h (op.Move move.EndReady f) w n z = inner-carried w f (moves.end_ready (task w f))
-inner-act p h (op.Move move.EndPending f) w n z =
-    inner-logged _ w (event.LastWaker p f) refl f (moves.end_pending (task w f))
-inner-act p h (op.Move move.EndClosed f) w n z = inner-carried w f (moves.end_closed (task w f))
-inner-act p h (op.Move move.DropRunnable f) w n z = inner-carried w f (moves.drop_runnable (task w f))
-inner-act p h (op.Move move.Cancel f) w n z = inner-logged _ w (event.Cancelled p f) refl f (moves.cancel (task w f))
-inner-act p h (op.Move move.Detach f) w n z =
-    inner-told _ _ w (event.Detached p f) (event.LastWaker p f) refl refl f (moves.detach (task w f))
-inner-act p h (op.User (user_op.BeginDrop f)) w n z = logged w _ (event.Dropped p f) _ refl refl refl refl refl
-inner-act p h (op.Table (table_op.LeaveTable f)) w n z = inner-leave _ w f
-inner-act p h (op.User (user_op.BeginDropOutput f)) w n z = logged w _ (event.OutputDropped p f) _ refl refl refl refl refl
-inner-act p h (op.Handle (handle_op.Notify f mine)) w n z = inner-notify _ w f mine
-inner-act p h (op.Handle (handle_op.EndNotify f mine)) w n z =
+inner-act p h (Op.Queue (QueueOp.Append f)) w n z = inner-append _ w _ f
+inner-act p h (Op.Move Move.WakeByReference f) w n z =
+    inner-logged _ w (Event.Woken p f) refl f (moves.wake_by_reference (task w f))
+inner-act p h (Op.Move Move.Wake f) w n z = inner-logged _ w (Event.Woken p f) refl f (moves.wake (task w f))
+inner-act p h (Op.Move Move.Release f) w n z = inner-logged _ w (Event.LastWaker p f) refl f (moves.release (task w f))
+inner-act p h (Op.Move Move.TakeUp f) w n z = inner-logged _ w (Event.PollBegun p f) refl f (moves.take_up (task w f))
+inner-act p h (Op.Move Move.SettleClosed f) w n z = inner-carried w f (moves.settle_closed (task w f))
+inner-act p h (Op.Move Move.GiveUp f) w n z = inner-carried w f (moves.give_up (task w f))
+inner-act p h (Op.Move Move.EndReady f) w n z = inner-carried w f (moves.end_ready (task w f))
+inner-act p h (Op.Move Move.EndPending f) w n z =
+    inner-logged _ w (Event.LastWaker p f) refl f (moves.end_pending (task w f))
+inner-act p h (Op.Move Move.EndClosed f) w n z = inner-carried w f (moves.end_closed (task w f))
+inner-act p h (Op.Move Move.DropRunnable f) w n z = inner-carried w f (moves.drop_runnable (task w f))
+inner-act p h (Op.Move Move.Cancel f) w n z = inner-logged _ w (Event.Cancelled p f) refl f (moves.cancel (task w f))
+inner-act p h (Op.Move Move.Detach f) w n z =
+    inner-told _ _ w (Event.Detached p f) (Event.LastWaker p f) refl refl f (moves.detach (task w f))
+inner-act p h (Op.User (UserOp.BeginDrop f)) w n z = logged w _ (Event.Dropped p f) _ refl refl refl refl refl
+inner-act p h (Op.Table (TableOp.LeaveTable f)) w n z = inner-leave _ w f
+inner-act p h (Op.User (UserOp.BeginDropOutput f)) w n z = logged w _ (Event.OutputDropped p f) _ refl refl refl refl refl
+inner-act p h (Op.Handle (HandleOp.Notify f mine)) w n z = inner-notify _ w f mine
+inner-act p h (Op.Handle (HandleOp.EndNotify f mine)) w n z =
     still w _ _ refl refl refl (aside-told stray_of no-stray _ f (awaiter_of w f))
-inner-act p h (op.Handle (handle_op.LetGo f)) w n z = inner-let_go _ w f
-inner-act p h (op.Waker (waker_op.CallAwaiter f a k)) w n z = inner-call p w (of.Handle f) a k
-inner-act p h (op.Sleeper o) w n z = inner-sleeper p o w
-inner-act p h (op.Tick (tick_op.WakeUp who)) w n z = inner-up _ w who
-inner-act p h (op.Tick _) w n z = absurd (cc)
-inner-act p h (op.List o) w n z = absurd (cc)
-inner-act p h (op.Steal o) w n z = absurd (cc)
-inner-act p h (op.Run run_op.ReturnRoom) w n z = still w (return_room w).world [] refl refl refl refl
-inner-act p h (op.Run o) w n z = absurd (cc)
-inner-act p h (op.Table (table_op.Enter mark)) w n z = absurd (cc)
-inner-act p h (op.Table table_op.LookAtTable) w n z = absurd (cc)
-inner-act p h (op.Queue queue_op.TakeTurn) w n z = absurd (cc)
-inner-act p h (op.Queue (queue_op.Take look)) w n z = absurd (cc)
-inner-act p h (op.User (user_op.Poll f)) w n z = absurd (cc)
-inner-act p h (op.User (user_op.Drop f)) w n z = absurd (cc)
-inner-act p h (op.User (user_op.DropOutput f)) w n z = absurd (cc)
-inner-act p h (op.User (user_op.CallOutside x)) w n z = absurd (cc)
-inner-act p h (op.User (user_op.PollOwn x)) w n z = absurd (cc)
-inner-act p h (op.User (user_op.DropOwn r)) w n z = absurd (cc)
-inner-act p h (op.Waker (waker_op.CopyWaker f held)) w n z = absurd (cc)
-inner-act p h (op.Handle (handle_op.Look f a)) w n z = absurd (cc)
-inner-act p h (op.Handle (handle_op.CopyAwaiter f a)) w n z = absurd (cc)
-inner-act p h (op.Handle (handle_op.Register f a k)) w n z = absurd (cc)
-inner-act p h (op.Handle (handle_op.EndRegister f a k)) w n z = absurd (cc)
-inner-act p h (op.Handle (handle_op.LookAgain f)) w n z = absurd (cc)
-inner-act p h (op.Closing (closing_op.Drain mark)) w n z = absurd (cc)
-inner-act p h (op.Closing _) w n z = absurd (cc)
-inner-act p h (op.End a held) w n z = absurd (cc)
+inner-act p h (Op.Handle (HandleOp.LetGo f)) w n z = inner-let_go _ w f
+inner-act p h (Op.Waker (WakerOp.CallAwaiter f a k)) w n z = inner-call p w (Polled.Handle f) a k
+inner-act p h (Op.Sleeper o) w n z = inner-sleeper p o w
+inner-act p h (Op.Tick (TickOp.WakeUp who)) w n z = inner-up _ w who
+inner-act p h (Op.Tick _) w n z = absurd (cc)
+inner-act p h (Op.List o) w n z = absurd (cc)
+inner-act p h (Op.Steal o) w n z = absurd (cc)
+inner-act p h (Op.Run RunOp.ReturnRoom) w n z = still w (return_room w).world [] refl refl refl refl
+inner-act p h (Op.Run o) w n z = absurd (cc)
+inner-act p h (Op.Table (TableOp.Enter mark)) w n z = absurd (cc)
+inner-act p h (Op.Table TableOp.LookAtTable) w n z = absurd (cc)
+inner-act p h (Op.Queue QueueOp.TakeTurn) w n z = absurd (cc)
+inner-act p h (Op.Queue (QueueOp.Take look)) w n z = absurd (cc)
+inner-act p h (Op.User (UserOp.Poll f)) w n z = absurd (cc)
+inner-act p h (Op.User (UserOp.Drop f)) w n z = absurd (cc)
+inner-act p h (Op.User (UserOp.DropOutput f)) w n z = absurd (cc)
+inner-act p h (Op.User (UserOp.CallOutside x)) w n z = absurd (cc)
+inner-act p h (Op.User (UserOp.PollOwn x)) w n z = absurd (cc)
+inner-act p h (Op.User (UserOp.DropOwn r)) w n z = absurd (cc)
+inner-act p h (Op.Waker (WakerOp.CopyWaker f held)) w n z = absurd (cc)
+inner-act p h (Op.Handle (HandleOp.Look f a)) w n z = absurd (cc)
+inner-act p h (Op.Handle (HandleOp.CopyAwaiter f a)) w n z = absurd (cc)
+inner-act p h (Op.Handle (HandleOp.Register f a k)) w n z = absurd (cc)
+inner-act p h (Op.Handle (HandleOp.EndRegister f a k)) w n z = absurd (cc)
+inner-act p h (Op.Handle (HandleOp.LookAgain f)) w n z = absurd (cc)
+inner-act p h (Op.Closing (ClosingOp.Drain mark)) w n z = absurd (cc)
+inner-act p h (Op.Closing _) w n z = absurd (cc)
+inner-act p h (Op.End a held) w n z = absurd (cc)
 inner-act p h _ w n z = still w _ _ refl refl refl refl
 
 -- the end of user code
 pub inner-react : (p : ℕ) (o : Op) (u : UserEnd) (w : World) → accepts o u ≡ true → stray_of o ≡ 0 →
     Inner w (react p o u w)
-inner-react p (op.User (user_op.Poll f)) (end.Polled answer.Pending) w a z =
-    logged w _ (event.Answered p f answer.Pending) _ refl refl refl refl refl
-inner-react p (op.User (user_op.Poll f)) (end.Polled answer.Ready) w a z =
-    logged w _ (event.Answered p f answer.Ready) _ refl refl refl refl refl
-inner-react p (op.User (user_op.Drop f)) end.Done w a z = still w w _ refl refl refl refl
-inner-react p (op.User (user_op.DropOutput f)) end.Done w a z = still w w _ refl refl refl refl
-inner-react p (op.User (user_op.CallOutside x)) end.Done w a z = still w w _ refl refl refl refl
-inner-react p (op.User (user_op.PollOwn x)) u w a z = absurd (cc)
-inner-react p (op.User (user_op.DropOwn r)) u w a z = absurd (cc)
+inner-react p (Op.User (UserOp.Poll f)) (UserEnd.Polled Answer.Pending) w a z =
+    logged w _ (Event.Answered p f Answer.Pending) _ refl refl refl refl refl
+inner-react p (Op.User (UserOp.Poll f)) (UserEnd.Polled Answer.Ready) w a z =
+    logged w _ (Event.Answered p f Answer.Ready) _ refl refl refl refl refl
+inner-react p (Op.User (UserOp.Drop f)) UserEnd.Done w a z = still w w _ refl refl refl refl
+inner-react p (Op.User (UserOp.DropOutput f)) UserEnd.Done w a z = still w w _ refl refl refl refl
+inner-react p (Op.User (UserOp.CallOutside x)) UserEnd.Done w a z = still w w _ refl refl refl refl
+inner-react p (Op.User (UserOp.PollOwn x)) u w a z = absurd (cc)
+inner-react p (Op.User (UserOp.DropOwn r)) u w a z = absurd (cc)
 inner-react p _ _ w a z = absurd (cc)

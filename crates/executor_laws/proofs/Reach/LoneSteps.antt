@@ -6,33 +6,18 @@ use Rattle.std.proofs.lemmas.Bool.Decides.{nat_tests}
 use Rattle.std.proofs.lemmas.List.{reverse-append, append_cancel_right}
 use Rattle.std.proofs.lemmas.List.Folds.{list_any-append}
 use Rattle.std.specs.Prelude.{Option, Some, None, reverse}
-use Rattle.executor_parts.specs.declared.mark.Mark.{Mark}
-use Rattle.task_moves.specs.Moves as moves
-use Rattle.executor_model.specs.declared.call.Reply.{Reply}
-use Rattle.executor_model.specs.declared.event.Event.TheVariants as event
-use Rattle.executor_model.specs.declared.op.Hold.{Hold}
-use Rattle.executor_model.specs.declared.op.Op.{Op}
-use Rattle.executor_model.specs.declared.op.Op.TheVariants as op
-use Rattle.task_moves.specs.declared.moves.owed.Move.TheVariants as move
-use Rattle.executor_model.specs.declared.op.TableOp.TheVariants as table_op
-use Rattle.executor_model.specs.declared.op.UserOp.TheVariants as user_op
-use Rattle.executor_model.specs.declared.step.Hint.{Hint}
-use Rattle.executor_model.specs.declared.step.Step.TheVariants.{Go, Answer}
-use Rattle.executor_model.specs.declared.step.StepError.TheVariants.{Waits as IsLockedOut, WrongAnswer}
-use Rattle.executor_model.specs.declared.step.UserEnd.{UserEnd}
-use Rattle.executor_model.specs.Trace.{Trace, has}
-use Rattle.executor_model.specs.World.{World, Done, log_if, task, among, queue_of}
-use Rattle.executor_model.specs.Carried.{owed_ops, carried}
-use Rattle.executor_model.specs.Steps.{Part, top, below_top, waits, accepts, is_locked_out, unless, go_refusal, answer_refusal, react, part}
-use Rattle.executor_model.specs.Steps.{end_of, settled, settled_by, onto, gone_on, part_after}
-use Rattle.executor_model.specs.Weights.{weigh}
-use Rattle.executor_model.proofs.Steps.Lists.{weigh-append, weigh-reverse}
-use Rattle.executor_model.proofs.Steps.Lift.{topped}
-use Rattle.executor_model.proofs.Table.Spawning.{top-last}
+use Rattle.executor_laws.proofs.Types.{Mark, Reply, Event, Hold, Op, Move, TableOp, UserOp, Hint, Go, WrongAnswer, UserEnd}
+use Rattle.executor_model.specs.{declared.step.Step.TheVariants.Answer, Trace.Trace, Trace.has, World.World, World.Done, World.log_if}
+use Rattle.executor_model.specs.{World.task, World.among, World.queue_of, Carried.owed_ops, Carried.carried, Steps.Part, Steps.top}
+use Rattle.executor_model.specs.{Steps.below_top, Steps.waits, Steps.accepts, Steps.is_locked_out, Steps.unless, Steps.go_refusal}
+use Rattle.executor_model.specs.{Steps.answer_refusal, Steps.react, Steps.part, Steps.end_of, Steps.settled, Steps.settled_by, Steps.onto}
+use Rattle.executor_model.specs.{Steps.gone_on, Steps.part_after, Weights.weigh, Doing.act}
+use Rattle.executor_model.proofs.{Steps.Lists.weigh-append, Steps.Lists.weigh-reverse, Steps.Lift.topped, Table.Spawning.top-last}
+use Rattle.executor_model.proofs.{Steps.Tests.or-left, Steps.Tests.or-right}
 use Rattle.executor_laws.specs.Reach.{takes}
 use Rattle.executor_laws.proofs.Reach.LoneMoves.{stray_of, is_turn, Inner, logged, inner-act, inner-carried, inner-react}
-use Rattle.executor_model.specs.Doing.{act}
-use Rattle.executor_model.proofs.Steps.Tests.{or-left, or-right}
+use Rattle.task_moves.specs.Moves as moves
+use Rattle.executor_model.specs.declared.step.StepError.TheVariants.{Waits as IsLockedOut}
 
 -- what goes on isn't user code, and what answers is accepted
 
@@ -52,15 +37,15 @@ answers o u e = by (accepts o u) e
 
 -- f's poll or drop is still to come, and this thing to do is on the way to it
 abbrev pub Next : ℕ → Op → Type 0
-Next f (op.Move move.TakeUp g) = f ≡ g
-Next f (op.Table (table_op.TakeToDrop g)) = f ≡ g
-Next f (op.User (user_op.BeginDrop g)) = f ≡ g
+Next f (Op.Move Move.TakeUp g) = f ≡ g
+Next f (Op.Table (TableOp.TakeToDrop g)) = f ≡ g
+Next f (Op.User (UserOp.BeginDrop g)) = f ≡ g
 Next f _ = ⊥
 
 -- f is taken up below what comes first
 pub record Waits (f : ℕ) (below : List Op) : Type 0 where
   pub under : List Op
-  pub is : below ≡ op.Move move.TakeUp f ∷ under
+  pub is : below ≡ Op.Move Move.TakeUp f ∷ under
 
 -- f's poll or drop has begun, or it has its entry in the table
 abbrev pub HasEntry : ℕ → World → Trace → Type 0
@@ -81,16 +66,16 @@ self : (f g : ℕ) → f ≡ g → eqb f g ≡ true
 self f g e = grind (arith, nat_tests)
 
 taken-up : (p f g : ℕ) (w : World) (closed : Bool) → f ≡ g → among f w.table ≡ true →
-    Advances f w (carried (log_if (not closed) w (event.PollBegun p g)) g (moves.take_up_by closed (task w g)))
+    Advances f w (carried (log_if (not closed) w (Event.PollBegun p g)) g (moves.take_up_by closed (task w g)))
 taken-up p f g w false e k = record {
-  inner = logged w _ (event.PollBegun p g) (op.Table (table_op.TakeToPoll g) ∷ []) refl refl refl refl refl;
+  inner = logged w _ (Event.PollBegun p g) (Op.Table (TableOp.TakeToPoll g) ∷ []) refl refl refl refl refl;
   stage = inl (ap (λ (b : Bool). (b || false) || false) (self f g e));
 }
 taken-up p f g w true e k = record {
   inner = inner-carried w g (moves.take_up_by true (task w g));
   stage = inr record {
-    first = op.Table (table_op.TakeToDrop g);
-    others = op.Move move.SettleClosed g ∷ [];
+    first = Op.Table (TableOp.TakeToDrop g);
+    others = Op.Move Move.SettleClosed g ∷ [];
     is = ap (λ (b : Bool). owed_ops b g (moves.take_up_by true (task w g)).owed)
         (subst (λ (x : ℕ). among x w.table ≡ true) e k);
     next = e;
@@ -98,20 +83,20 @@ taken-up p f g w true e k = record {
 }
 
 pub advances : (p f : ℕ) (h : Hint) (o : Op) (w : World) → among f w.table ≡ true → Next f o → Advances f w (act p h o w)
-advances p f h (op.Move move.TakeUp g) w e k = taken-up p f g w (task w g).closed k e
-advances p f h (op.Table (table_op.TakeToDrop g)) w e k =
+advances p f h (Op.Move Move.TakeUp g) w e k = taken-up p f g w (task w g).closed k e
+advances p f h (Op.Table (TableOp.TakeToDrop g)) w e k =
     record {
-      inner = inner-act p h (op.Table (table_op.TakeToDrop g)) w refl refl;
+      inner = inner-act p h (Op.Table (TableOp.TakeToDrop g)) w refl refl;
       stage = inr record {
-        first = op.User
-            (user_op.BeginDrop g);
+        first = Op.User
+            (UserOp.BeginDrop g);
         others = [];
         is = refl;
         next = k;
       };
     }
-advances p f h (op.User (user_op.BeginDrop g)) w e k = record {
-  inner = logged w _ (event.Dropped p g) (op.User (user_op.Drop g) ∷ op.Table (table_op.LeaveTable g) ∷ []) refl
+advances p f h (Op.User (UserOp.BeginDrop g)) w e k = record {
+  inner = logged w _ (Event.Dropped p g) (Op.User (UserOp.Drop g) ∷ Op.Table (TableOp.LeaveTable g) ∷ []) refl
       refl refl refl refl;
   stage = inl (ap (λ (b : Bool). b || false) (self f g k));
 }
@@ -134,12 +119,12 @@ pub record Ended (p : ℕ) (r : Reply) (f : ℕ) (xs : Mark → List ℕ) (befor
   pub queue : (m : Mark) → (queue_of w m).items ≡ xs m ++ added m
   pub meanwhile : Trace
   pub no_turn : has is_turn meanwhile ≡ false
-  pub trace : w.trace ≡ before ++ (meanwhile ++ event.CallEnded p r ∷ [])
+  pub trace : w.trace ≡ before ++ (meanwhile ++ Event.CallEnded p r ∷ [])
   pub taken : has (takes f) meanwhile ≡ true
   pub there : w.gone ≡ false
 
 abbrev pub answering : Reply → Hold → List Op → List Op
-answering r held os = op.End r held ∷ os
+answering r held os = Op.End r held ∷ os
 
 pub data Arrives (p : ℕ) (r : Reply) (held : Hold) (f : ℕ) (xs : Mark → List ℕ) (before : Trace) (x : Part) : Type 0 where
   going : (below : List Op) (o : Op) → x.todo ≡ answering r held (below ++ o ∷ []) → Going f xs before x.world below o →
@@ -160,7 +145,7 @@ from-end (o ∷ os) = inr (go (from-end os))
     go (inr r) = record { below = o ∷ r.below; last = r.last; is = ap (λ (xs : List Op). o ∷ xs) r.is }
 
 no-end : (o : Op) → stray_of o ≡ 0 → end_of (Some o) ≡ None
-no-end (op.End a held) e = absurd (omega (arith, e))
+no-end (Op.End a held) e = absurd (omega (arith, e))
 no-end _ e = refl
 
 last-plain : (below : List Op) (o : Op) → weigh stray_of (below ++ o ∷ []) ≡ 0 →
@@ -219,8 +204,8 @@ module _ (p : ℕ) (r : Reply) (held : Hold) (f : ℕ) (xs : Mark → List ℕ) 
             queue = far.queue;
             meanwhile = far.meanwhile;
             no_turn = far.no_turn;
-            trace = ap (λ (es : Trace). es ++ event.CallEnded p r ∷ []) far.trace
-                ∙ append_assoc before far.meanwhile (event.CallEnded p r ∷ []);
+            trace = ap (λ (es : Trace). es ++ Event.CallEnded p r ∷ []) far.trace
+                ∙ append_assoc before far.meanwhile (Event.CallEnded p r ∷ []);
             taken = k;
             there = far.there;
           })
@@ -230,21 +215,21 @@ module _ (p : ℕ) (r : Reply) (held : Hold) (f : ℕ) (xs : Mark → List ℕ) 
 
   -- f is still to be taken up, and this comes first
   waiting : (rest : List Op) (w : World) → weigh stray_of rest ≡ 0 → Far w →
-      Arrives p r held f xs before (settled p w (answering r held (op.Move move.TakeUp f ∷ rest)))
+      Arrives p r held f xs before (settled p w (answering r held (Op.Move Move.TakeUp f ∷ rest)))
   waiting rest w z far = go (from-end rest)
     where
       go : (rest ≡ []) ⊎ Last rest →
-          Arrives p r held f xs before (settled p w (answering r held (op.Move move.TakeUp f ∷ rest)))
+          Arrives p r held f xs before (settled p w (answering r held (Op.Move Move.TakeUp f ∷ rest)))
       go (inl e) =
           subst (λ (os : List Op). Arrives p r held f xs before
-          (settled p w (answering r held (op.Move move.TakeUp f ∷ os))))
+          (settled p w (answering r held (Op.Move Move.TakeUp f ∷ os))))
           (sym e)
-          (on-top w [] (op.Move move.TakeUp f) (at w [] (op.Move move.TakeUp f) far refl (inr (inl refl))))
+          (on-top w [] (Op.Move Move.TakeUp f) (at w [] (Op.Move Move.TakeUp f) far refl (inr (inl refl))))
       go (inr l) =
           subst (λ (os : List Op). Arrives p r held f xs before
-          (settled p w (answering r held (op.Move move.TakeUp f ∷ os))))
+          (settled p w (answering r held (Op.Move Move.TakeUp f ∷ os))))
           (sym l.is)
-          (on-top w (op.Move move.TakeUp f ∷ l.below) l.last (at w (op.Move move.TakeUp f ∷ l.below) l.last far (omega (
+          (on-top w (Op.Move Move.TakeUp f ∷ l.below) l.last (at w (Op.Move Move.TakeUp f ∷ l.below) l.last far (omega (
             arith,
             z,
             ap (weigh stray_of) l.is,
@@ -328,12 +313,12 @@ module _ (p : ℕ) (r : Reply) (held : Hold) (f : ℕ) (xs : Mark → List ℕ) 
 
   -- user code isn't on the way
   user : (o : Op) (u : UserEnd) → accepts o u ≡ true → Next f o → ⊥
-  user (op.User (user_op.Poll g)) u a k = k
-  user (op.User (user_op.Drop g)) u a k = k
-  user (op.User (user_op.DropOutput g)) u a k = k
-  user (op.User (user_op.CallOutside x)) u a k = k
-  user (op.User (user_op.PollOwn x)) u a k = k
-  user (op.User (user_op.DropOwn x)) u a k = k
+  user (Op.User (UserOp.Poll g)) u a k = k
+  user (Op.User (UserOp.Drop g)) u a k = k
+  user (Op.User (UserOp.DropOutput g)) u a k = k
+  user (Op.User (UserOp.CallOutside x)) u a k = k
+  user (Op.User (UserOp.PollOwn x)) u a k = k
+  user (Op.User (UserOp.DropOwn x)) u a k = k
   user _ u a k = absurd (cc)
 
   reacted : (w : World) (below : List Op) (o : Op) (u : UserEnd) → accepts o u ≡ true → Going f xs before w below o →

@@ -4,25 +4,14 @@ use Rattle.std.proofs.Common.{◌≡◌, ℕ, ◌<◌, List, [], ◌∷◌, ◌+
 use Rattle.std.proofs.Common.{refl, sym, ap, ◌∙◌, subst, arith, get_or-set_same, Ok}
 use Rattle.std.proofs.lemmas.Bool.Decides.{nat_tests}
 use Rattle.std.specs.Prelude.{Option, None}
-use Rattle.executor_parts.specs.declared.mark.Mark.{Mark}
-use Rattle.executor_model.specs.declared.call.Reply.{Reply}
-use Rattle.executor_model.specs.declared.op.Hold.{Hold}
-use Rattle.executor_model.specs.declared.op.Op.{Op}
-use Rattle.executor_model.specs.declared.step.Hint.{Hint}
-use Rattle.executor_model.specs.declared.step.UserEnd.{UserEnd}
-use Rattle.executor_model.specs.declared.step.Step.{Step}
-use Rattle.executor_model.specs.declared.step.Step.TheVariants.{Begin, Go, Answer}
-use Rattle.executor_model.specs.declared.step.StepError.{StepError}
-use Rattle.executor_model.specs.declared.step.StepError.TheVariants.{NoSuch, WrongAnswer}
-use Rattle.executor_model.specs.Trace.{Trace}
-use Rattle.executor_model.specs.World.{World}
-use Rattle.executor_model.specs.Executions.{run_all}
-use Rattle.executor_model.specs.Steps.{Machine, Part, stack, top, accepts, onto, go_refusal, answer_refusal}
-use Rattle.executor_model.specs.Steps.{part_refusal, party_of, refusal, unless, part_after, with_part, after}
+use Rattle.executor_laws.proofs.Types.{Mark, Reply, Hold, Op, Hint, UserEnd, Step, Begin, Go, StepError, NoSuch, WrongAnswer}
+use Rattle.executor_model.specs.{declared.step.Step.TheVariants.Answer, Trace.Trace, World.World, Executions.run_all, Steps.Machine}
+use Rattle.executor_model.specs.{Steps.Part, Steps.stack, Steps.top, Steps.accepts, Steps.onto, Steps.go_refusal, Steps.answer_refusal}
+use Rattle.executor_model.specs.{Steps.part_refusal, Steps.party_of, Steps.refusal, Steps.unless, Steps.part_after, Steps.with_part}
+use Rattle.executor_model.specs.{Steps.after, Doing.act}
 use Rattle.executor_laws.specs.LoneEnds.{is_onward_of, are_onward_of}
 use Rattle.executor_laws.proofs.Reach.LoneSteps.{Going, Ended, Arrives, HasEntry, answering, on-go, on-answer}
 use Rattle.executor_laws.proofs.Reach.LoneSteps.Arrives.{going, ended}
-use Rattle.executor_model.specs.Doing.{act}
 use Rattle.executor_model.proofs.Steps.Reached.{Reached, run-first, reached-step}
 
 pub left-true : (a b : Bool) → (a && b) ≡ true → (a ≡ true) × (b ≡ true)

@@ -6,40 +6,20 @@ use Rattle.std.proofs.lemmas.Bool.Decides.{nat_tests}
 use Rattle.std.proofs.lemmas.List.{get_or_past}
 use Rattle.std.specs.Prelude.{All, Option, Some, None, Result}
 use Rattle.queue_steps.specs.ClosableQueue.{ClosableQueue}
-use Rattle.executor_parts.specs.declared.mark.Mark.{Mark}
-use Rattle.executor_parts.specs.declared.mark.Mark.TheVariants.{Plain, Urgent}
-use Rattle.executor_model.specs.declared.call.Reply.{Reply}
-use Rattle.executor_model.specs.declared.event.Event.TheVariants as event
-use Rattle.executor_model.specs.declared.kind.Kind.{Kind}
-use Rattle.executor_model.specs.declared.op.Op.{Op}
-use Rattle.executor_model.specs.declared.op.Op.TheVariants as op
-use Rattle.executor_model.specs.declared.op.QueueOp.TheVariants as queue_op
-use Rattle.executor_model.specs.declared.op.TableOp.TheVariants as table_op
-use Rattle.executor_model.specs.declared.step.Hint.{Hint}
-use Rattle.executor_model.specs.declared.step.Step.{Step}
-use Rattle.executor_model.specs.declared.step.Step.TheVariants as step_is
-use Rattle.executor_model.specs.declared.step.StepError.{StepError}
-use Rattle.executor_model.specs.Acts.{enter_by, entered}
-use Rattle.executor_model.specs.Doing.{act}
-use Rattle.executor_model.specs.Executions.{run_all}
-use Rattle.executor_model.specs.Good.{Good, pasts}
-use Rattle.executor_model.specs.Rows.{past_of}
-use Rattle.executor_model.specs.Sound.{times}
-use Rattle.executor_model.specs.Steps.{Machine, after, answer_refusal, begun, below_top, gone_on, mine, part_after}
-use Rattle.executor_model.specs.Steps.{part_refusal, react, refusal}
-use Rattle.executor_model.specs.Steps.{run, settled_by, stack, start, step, stepped, top}
-use Rattle.executor_model.specs.Weights.{past, same, weigh, weigh_all}
-use Rattle.executor_model.specs.World.{World, Done, log, mark_of, queue_of, queued_in}
-use Rattle.executor_model.proofs.Steps.Lift.{topped}
-use Rattle.executor_model.proofs.Steps.Lists.{past_is, same_cases, times-append, weigh-append, weigh_all-set}
-use Rattle.executor_model.proofs.Steps.Marking.{Entries, entries, lists, same-begun, same-entries, same-react}
-use Rattle.executor_model.proofs.Steps.QueuesByMark.{times-one}
-use Rattle.executor_model.proofs.Steps.Reached.{Reached, good-here, run-first}
-use Rattle.executor_model.proofs.Steps.Stepping.{step-made, step-refused}
-use Rattle.executor_laws.proofs.Placement.OwnReady.{reached-on, there}
-use Rattle.executor_laws.proofs.Queueings.Queueing.{Steps, by-step}
-use Rattle.executor_laws.proofs.Queueings.Queueing.Steps.{as-was, longer, shorter, shut-by}
-use Rattle.executor_laws.proofs.Reach.LoneSteps.{answers}
+use Rattle.executor_laws.proofs.Types.{Mark, Plain, Urgent, Reply, Event, Kind, Op, QueueOp, TableOp, Hint, Step, StepError}
+use Rattle.executor_model.specs.{Acts.enter_by, Acts.entered, Doing.act, Executions.run_all, Good.Good, Good.pasts, Rows.past_of}
+use Rattle.executor_model.specs.{Sound.times, Steps.Machine, Steps.after, Steps.answer_refusal, Steps.begun, Steps.below_top, Steps.gone_on}
+use Rattle.executor_model.specs.{Steps.mine, Steps.part_after, Steps.part_refusal, Steps.react, Steps.refusal, Steps.run, Steps.settled_by}
+use Rattle.executor_model.specs.{Steps.stack, Steps.start, Steps.step, Steps.stepped, Steps.top, Weights.past, Weights.same, Weights.weigh}
+use Rattle.executor_model.specs.{Weights.weigh_all, World.World, World.Done, World.log, World.mark_of, World.queue_of, World.queued_in}
+use Rattle.executor_model.proofs.{Steps.Lift.topped, Steps.Lists.past_is, Steps.Lists.same_cases, Steps.Lists.times-append}
+use Rattle.executor_model.proofs.{Steps.Lists.weigh-append, Steps.Lists.weigh_all-set, Steps.Marking.Entries, Steps.Marking.entries}
+use Rattle.executor_model.proofs.{Steps.Marking.lists, Steps.Marking.same-begun, Steps.Marking.same-entries, Steps.Marking.same-react}
+use Rattle.executor_model.proofs.{Steps.QueuesByMark.times-one, Steps.Reached.Reached, Steps.Reached.good-here, Steps.Reached.run-first}
+use Rattle.executor_model.proofs.{Steps.Stepping.step-made, Steps.Stepping.step-refused}
+use Rattle.executor_laws.proofs.{Placement.OwnReady.reached-on, Placement.OwnReady.there, Queueings.Queueing.Steps}
+use Rattle.executor_laws.proofs.{Queueings.Queueing.by-step, Queueings.Queueing.Steps.as-was, Queueings.Queueing.Steps.longer}
+use Rattle.executor_laws.proofs.{Queueings.Queueing.Steps.shorter, Queueings.Queueing.Steps.shut-by, Reach.LoneSteps.answers}
 
 -- the marks and the number of tasks stay, or both grow by one
 pub data Grown (w v : World) : Type 0 where
@@ -53,7 +33,7 @@ grown-enter false false m p w = one m refl (omega (arith, length-append w.tasks 
 
 grown-act : (b : Bool) (p : ℕ) (h : Hint) (o : Op) (w : World) → lists o ≡ b → Grown w (act p h o w).world
 grown-act false p h o w n = kept (same-entries p h o w n)
-grown-act true p h (op.Table (table_op.Enter m)) w n = grown-enter _ _ m p w
+grown-act true p h (Op.Table (TableOp.Enter m)) w n = grown-enter _ _ m p w
 grown-act true p h _ w n = absurd (cc)
 
 grown-settled : (w v : World) (o : Option Reply) (p : ℕ) (os : List Op) → Grown w v → Grown w (settled_by o p v os).world
@@ -68,12 +48,12 @@ grown-went w os p d (Some x) k = grown-settled w (d x).world _ p _ (k x refl)
 
 grown-part : (w : World) (ss : List (List Op)) (os : List Op) (t : Step) → part_refusal w ss os t ≡ None →
     Grown w (part_after w os t).world
-grown-part w ss os (step_is.Begin p c) e =
-    grown-settled w (begun p (log w (event.CallBegun p c)) (mine (top os)) c).world _ p _
-    (kept (same-begun p (log w (event.CallBegun p c)) (mine (top os)) c))
-grown-part w ss os (step_is.Go p h) e =
+grown-part w ss os (Step.Begin p c) e =
+    grown-settled w (begun p (log w (Event.CallBegun p c)) (mine (top os)) c).world _ p _
+    (kept (same-begun p (log w (Event.CallBegun p c)) (mine (top os)) c))
+grown-part w ss os (Step.Go p h) e =
     grown-went w os p (λ x. act p h x w) (top os) (λ x i. grown-act (lists x) p h x w refl)
-grown-part w ss os (step_is.Answer p u) e = grown-went w os p (λ x. react p x u w) (top os)
+grown-part w ss os (Step.Answer p u) e = grown-went w os p (λ x. react p x u w) (top os)
     (λ x i. kept (same-react p x u w (answers x u (sym (ap (λ (o : Option Op). answer_refusal o u) i) ∙ e))))
 
 pub grown-after : (s : Machine) (t : Step) → refusal s t ≡ None → Grown s.world (after s t).world
@@ -111,7 +91,7 @@ known-in n f (g ∷ xs) z k = ⊎_elim
     (same_cases f g)
 
 known-top : (n : ℕ) (s : Machine) (p g : ℕ) → weigh_all (past_of n) s.parties ≡ 0 →
-    top (stack s p) ≡ Some (op.Queue (queue_op.Append g)) → past n g ≡ 0
+    top (stack s p) ≡ Some (Op.Queue (QueueOp.Append g)) → past n g ≡ 0
 known-top n s p g z e = by (ltb p (length s.parties)) refl
   where
     by : (b : Bool) → ltb p (length s.parties) ≡ b → past n g ≡ 0
@@ -121,12 +101,12 @@ known-top n s p g z e = by (ltb p (length s.parties)) refl
           arith,
           z,
           weigh_all-set (past_of n) s.parties p [] l,
-          ap (weigh (past_of n)) (topped (stack s p) (op.Queue (queue_op.Append g)) e),
-          weigh-append (past_of n) (below_top (stack s p)) (op.Queue (queue_op.Append g) ∷ []),
+          ap (weigh (past_of n)) (topped (stack s p) (Op.Queue (QueueOp.Append g)) e),
+          weigh-append (past_of n) (below_top (stack s p)) (Op.Queue (QueueOp.Append g) ∷ []),
         )
     by false q =
         let l : length s.parties ≤ p = grind (arith, nat_tests) in
-        let none : top (let os : List Op = [] in os) ≡ Some (op.Queue (queue_op.Append g)) =
+        let none : top (let os : List Op = [] in os) ≡ Some (Op.Queue (QueueOp.Append g)) =
         sym (ap top (get_or_past s.parties p [] l)) ∙ e in absurd (cc)
 
 pub record Marked (s : Machine) : Type 0 where

@@ -2,8 +2,7 @@
 -- What holds of the requests and of the own queues of each machine to which steps lead.
 use Rattle.std.proofs.Common.{sym, subst}
 use Rattle.executor_model.specs.Steps.{Machine}
-use Rattle.executor_model.proofs.Polls.AskingExecutions.{Heard, heard}
-use Rattle.executor_model.proofs.Steps.Reached.{Reached}
+use Rattle.executor_model.proofs.{Polls.AskingExecutions.Heard, Polls.AskingExecutions.heard, Steps.Reached.Reached}
 use Rattle.executor_laws.proofs.Placement.BoundWays.{Bonded, bonded}
 
 pub heard-here : (s : Machine) → Reached s → Heard s

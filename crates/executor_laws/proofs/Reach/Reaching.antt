@@ -8,41 +8,23 @@ use Rattle.std.proofs.lemmas.Bool.Decides.{nat_tests}
 use Rattle.std.proofs.lemmas.List.{append_cancel_left, get_or_past}
 use Rattle.std.proofs.lemmas.List.Folds.{list_any-append}
 use Rattle.std.specs.Prelude.{All, Some, filter}
-use Rattle.executor_parts.specs.declared.mark.Mark.{Mark}
-use Rattle.executor_parts.specs.declared.mark.Mark.TheVariants.{Plain, Urgent}
 use Rattle.executor_parts.specs.Marks.{first_of, other, same_mark}
-use Rattle.executor_model.specs.declared.call.Call.{Call}
-use Rattle.executor_model.specs.declared.call.Reply.{Reply}
-use Rattle.executor_model.specs.declared.event.Event.TheVariants as event
-use Rattle.executor_model.specs.declared.kind.Kind.{Kind}
-use Rattle.executor_model.specs.declared.step.Step.{Step}
-use Rattle.executor_model.specs.declared.step.Step.TheVariants.{Begin}
-use Rattle.executor_model.specs.Trace.{Trace, has}
-use Rattle.executor_model.specs.Keeper.{IsCommon}
-use Rattle.executor_model.specs.Emptiness.{IsAtRest}
-use Rattle.executor_model.specs.Executions.{run_all}
-use Rattle.executor_model.specs.Weights.{same}
-use Rattle.executor_model.specs.Sound.{times}
-use Rattle.executor_model.specs.Steps.{Machine, run, start}
-use Rattle.executor_model.specs.World.{World, mark_of, queue_of, queued_in}
-use Rattle.executor_model.proofs.Steps.Lists.{same_cases, times-append}
-use Rattle.executor_model.proofs.Steps.QueuesByMark.{mark-cases, times-all, times-one}
-use Rattle.executor_model.proofs.OneFuture.Stories.{no-longer}
-use Rattle.executor_model.proofs.Table.Entering.{queue-agrees}
-use Rattle.executor_model.proofs.Steps.TraceSteps.{IsContinued, run-continues}
-use Rattle.executor_model.proofs.Steps.Reached.{Reached, run-of, good-here, deep-here}
-use Rattle.executor_model.proofs.Steps.Tests.{or-left, or-right}
-use Rattle.executor_laws.specs.LoneEnds.{IsLoneCall}
-use Rattle.executor_laws.specs.Reach.{found_answer, LoneSearch, AreLoneSearches, takes, TakesCommon}
-use Rattle.executor_laws.specs.Reach.{names, since, HasCommons, HasCommonsOf, IsReachedInOrder}
+use Rattle.executor_laws.proofs.Types.{Mark, Plain, Urgent, Call, Reply, Event, Kind, Step, Begin}
+use Rattle.executor_model.specs.{Trace.Trace, Trace.has, Keeper.IsCommon, Emptiness.IsAtRest, Executions.run_all, Weights.same, Sound.times}
+use Rattle.executor_model.specs.{Steps.Machine, Steps.run, Steps.start, World.World, World.mark_of, World.queue_of, World.queued_in}
+use Rattle.executor_model.proofs.{Steps.Lists.same_cases, Steps.Lists.times-append, Steps.QueuesByMark.mark-cases}
+use Rattle.executor_model.proofs.{Steps.QueuesByMark.times-all, Steps.QueuesByMark.times-one, OneFuture.Stories.no-longer}
+use Rattle.executor_model.proofs.{Table.Entering.queue-agrees, Steps.TraceSteps.IsContinued, Steps.TraceSteps.run-continues}
+use Rattle.executor_model.proofs.{Steps.Reached.Reached, Steps.Reached.run-of, Steps.Reached.good-here, Steps.Reached.deep-here}
+use Rattle.executor_model.proofs.{Steps.Tests.or-left, Steps.Tests.or-right}
+use Rattle.executor_laws.specs.{LoneEnds.IsLoneCall, Reach.found_answer, Reach.LoneSearch, Reach.AreLoneSearches, Reach.takes}
+use Rattle.executor_laws.specs.{Reach.TakesCommon, Reach.names, Reach.since, Reach.HasCommons, Reach.HasCommonsOf, Reach.IsReachedInOrder}
 use Rattle.executor_laws.proofs.Reach.Reached.{bonded-here, heard-here}
 use Rattle.executor_laws.proofs.Placement.Placing.{common-queue, queue-common}
 use Rattle.executor_laws.proofs.Exactness.Ticking.{first-queued, first-times, none-queued}
 use Rattle.executor_laws.proofs.Reach.Marked.{all-before, marked-here}
-use Rattle.executor_laws.proofs.Reach.Spots.{AllEmpty, Spot, left-other, left-same, left_in, named}
-use Rattle.executor_laws.proofs.Reach.Searching.{First, at-rest, first-taken}
-use Rattle.executor_laws.proofs.Reach.Spots.{named-append, named-filter, spot}
-use Rattle.executor_laws.proofs.Reach.Searching.{reached-new}
+use Rattle.executor_laws.proofs.Reach.Spots.{AllEmpty, Spot, left-other, left-same, left_in, named, named-append, named-filter, spot}
+use Rattle.executor_laws.proofs.Reach.Searching.{First, at-rest, first-taken, reached-new}
 
 module _ (s : Machine) (r : Reached s) (rest : IsAtRest s) where
   -- where a future is common, some queue isn't empty
@@ -102,20 +84,20 @@ pub record Takes (f : ℕ) (s new : Machine) : Type 0 where
   pub taken : has (takes f) grows.grown ≡ true
 
 pub has-around : (f p : ℕ) (c : Call) (a : Reply) (es : Trace) → has (takes f) es ≡ true →
-    has (takes f) (event.CallBegun p c ∷ (es ++ event.CallEnded p a ∷ [])) ≡ true
-has-around f p c a es e = list_any-append (takes f) es (event.CallEnded p a ∷ []) ∙ ap (λ (b : Bool). b || false) e
+    has (takes f) (Event.CallBegun p c ∷ (es ++ Event.CallEnded p a ∷ [])) ≡ true
+has-around f p c a es e = list_any-append (takes f) es (Event.CallEnded p a ∷ []) ∙ ap (λ (b : Bool). b || false) e
 
 -- what a search does that finds a future
 abbrev pub found-events : (m : Mark) (f p : ℕ) (c : Call) (a : Reply) (s new : Machine) → First m f p c a s new → Grows s new
 found-events m f p c a s new x = record {
-  grown = event.CallBegun p c ∷ (x.meanwhile ++ event.CallEnded p a ∷ []);
+  grown = Event.CallBegun p c ∷ (x.meanwhile ++ Event.CallEnded p a ∷ []);
   trace = x.events;
 }
 
 -- one turn is taken by it
 pub one-turn : (m : Mark) (f p : ℕ) (c : Call) (a : Reply) (s new : Machine) (x : First m f p c a s new) (n : Mark) →
     named n (found-events m f p c a s new x).grown ≡ cond (same_mark n (first_of s.world.urgent_turns)) 1 0
-one-turn m f p c a s new x n = omega (arith, named-append n x.meanwhile (event.CallEnded p a ∷ []), x.turn n)
+one-turn m f p c a s new x n = omega (arith, named-append n x.meanwhile (Event.CallEnded p a ∷ []), x.turn n)
 
 -- where a search finds its future, by the place of another in the queue of mark m
 pub data Where (m : Mark) (front : List ℕ) (f : ℕ) (back : List ℕ) (w : World) (x : Spot w) : Type 0 where
@@ -185,7 +167,7 @@ module _ (m : Mark) (f : ℕ) where
       let a : First x.mark x.future t.party t.call t.found s k.0 =
       first-taken s r rest t.party t.call t.found t.searches t.steps k.0 k.1 x in
       let e : Grows s k.0 = run-grows (Begin t.party t.call ∷ t.steps) s k.0 k.1.made in
-      let same_events : e.grown ≡ event.CallBegun t.party t.call ∷ (a.meanwhile ++ event.CallEnded t.party t.found ∷ []) =
+      let same_events : e.grown ≡ Event.CallBegun t.party t.call ∷ (a.meanwhile ++ Event.CallEnded t.party t.found ∷ []) =
       append_cancel_left s.world.trace e.grown _ (sym e.trace ∙ a.events) in
       let count : named m (grows (t ∷ ts) s new k).grown
       ≡ cond (same_mark m (first_of s.world.urgent_turns)) 1 0 + named m (grows ts k.0 new k.2).grown =
@@ -216,7 +198,7 @@ module _ (m : Mark) (f : ℕ) where
       }
 
       on : (x : Spot s.world) → (a : First x.mark x.future t.party t.call t.found s k.0) → (e : Grows s k.0) →
-          e.grown ≡ event.CallBegun t.party t.call ∷ (a.meanwhile ++ event.CallEnded t.party t.found ∷ []) →
+          e.grown ≡ Event.CallBegun t.party t.call ∷ (a.meanwhile ++ Event.CallEnded t.party t.found ∷ []) →
           named m (grows (t ∷ ts) s new k).grown
           ≡ cond (same_mark m (first_of s.world.urgent_turns)) 1 0 + named m (grows ts k.0 new k.2).grown →
           ((less more : List ℕ) → (queue_of k.0.world m).items ≡ less ++ f ∷ more →
@@ -315,7 +297,7 @@ module _ (f : ℕ) where
       on x a further (takes_it _ g _ _) = record {
         grows = grows-and s k.0 new (found-events x.mark x.future t.party t.call t.found s k.0 a) (grows ts k.0 new k.2);
         taken = list_any-append (takes f)
-            (event.CallBegun t.party t.call ∷ (a.meanwhile ++ event.CallEnded t.party t.found ∷ []))
+            (Event.CallBegun t.party t.call ∷ (a.meanwhile ++ Event.CallEnded t.party t.found ∷ []))
             (grows ts k.0 new k.2).grown
             ∙ or-left _ _ (has-around f t.party t.call t.found a.meanwhile
             (ap (λ (y : ℕ). has (takes y) a.meanwhile) (sym g) ∙ a.taken));

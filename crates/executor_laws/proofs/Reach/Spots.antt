@@ -4,14 +4,9 @@ use Rattle.std.proofs.Common.{◌≡◌, ◌⊎◌, ℕ, ◌+◌, List, [], ◌�
 use Rattle.std.proofs.Common.{Bool, true, false, ◌||◌, refl, ap, inl, inr}
 use Rattle.std.proofs.Common.{arith}
 use Rattle.std.specs.Prelude.{filter}
-use Rattle.executor_parts.specs.declared.mark.Mark.{Mark}
-use Rattle.executor_parts.specs.declared.mark.Mark.TheVariants.{Plain, Urgent}
 use Rattle.executor_parts.specs.Marks.{first_of, other}
-use Rattle.executor_model.specs.declared.event.Event.TheVariants as event
-use Rattle.executor_model.specs.declared.event.Event.{Event}
-use Rattle.executor_model.specs.Trace.{Trace, has}
-use Rattle.executor_model.specs.World.{World, queue_of}
-use Rattle.executor_model.specs.Queues.{queue_in}
+use Rattle.executor_laws.proofs.Types.{Mark, Plain, Urgent, Event}
+use Rattle.executor_model.specs.{Trace.Trace, Trace.has, World.World, World.queue_of, Queues.queue_in}
 use Rattle.executor_laws.specs.Reach.{names}
 use Rattle.executor_laws.proofs.Reach.LoneMoves.{is_turn}
 use Rattle.executor_model.proofs.Steps.QueuesByMark.{without_first_of}
@@ -47,7 +42,7 @@ named-none m (e ∷ es) k = omega (
     left-no false b q = (refl, q)
 
     quiet : (e : Event) → is_turn e ≡ false → (let n : ℕ = cond (names m e) 1 0 in n) ≡ 0
-    quiet (event.Looked p n) q = absurd (cc)
+    quiet (Event.Looked p n) q = absurd (cc)
     quiet _ q = refl
 
 -- what is left in each queue once the first future of that one is taken

@@ -5,50 +5,27 @@ use Rattle.std.proofs.Common.{refl, sym, ap, subst, arith, append-nil, append_as
 use Rattle.std.proofs.Math.Seq.{drop-append_seam}
 use Rattle.std.proofs.lemmas.List.Elements.{filter-append}
 use Rattle.std.specs.Prelude.{All, Some, cond, filter, slice_get}
-use Rattle.executor_parts.specs.declared.mark.Mark.{Mark}
-use Rattle.executor_parts.specs.declared.mark.Mark.TheVariants.{Plain}
 use Rattle.executor_parts.specs.Marks.{same_mark}
-use Rattle.executor_model.specs.declared.call.Call.TheVariants as call
-use Rattle.executor_model.specs.declared.kind.Kind.{Kind}
-use Rattle.executor_model.specs.declared.step.Step.{Step}
-use Rattle.executor_model.specs.declared.step.Step.TheVariants.{Begin}
-use Rattle.executor_model.specs.Emptiness.{IsAtRest}
-use Rattle.executor_model.specs.Sound.{times}
-use Rattle.executor_model.specs.Steps.{Machine, run, start, step, stepped}
-use Rattle.executor_model.specs.declared.event.Event.TheVariants as event
-use Rattle.executor_model.specs.declared.op.TickOrRun.TheVariants as tick_or_run
-use Rattle.executor_model.specs.Standing.{WasCalled, polls_sleeper}
-use Rattle.executor_model.specs.Trace.{has}
-use Rattle.executor_model.specs.World.{World, mark_of, own_of, queue_of}
-use Rattle.executor_model.proofs.Steps.Marking.{Entries}
-use Rattle.executor_model.proofs.Steps.Reached.{Reached, deep-here, good-here}
-use Rattle.executor_laws.specs.RunOrder.{GoesOnSo, IsBegun, IsPolledSo, KeepsAlone, Piece, Polling, TakesAlone, TakesInOrder}
-use Rattle.executor_laws.specs.RunOrder.{TakesNothing, Within, begun_by, behind_all, joined_in_all, joined_within, joins, line}
-use Rattle.executor_laws.specs.RunOrder.{of_mark, taken_in_all, taken_within}
-use Rattle.executor_laws.specs.RunOrder.Piece.{between, polled}
-use Rattle.executor_laws.specs.RunOrder.Within.{by_itself, meanwhile}
-use Rattle.executor_laws.specs.RunReach.{Keeps}
-use Rattle.executor_model.proofs.OwnQueues.OwnRunners.{own-queue-has-runner}
-use Rattle.executor_model.proofs.Polls.AskingExecutions.{heard}
-use Rattle.executor_model.proofs.Quiet.Resting.{deep}
-use Rattle.executor_model.proofs.Sleepers.SleepersTellingExecutions.{are_told}
-use Rattle.executor_model.proofs.Steps.Lift.{good}
-use Rattle.executor_laws.proofs.Exactness.Ticking.{first-times}
-use Rattle.executor_laws.proofs.Keepers.KeptTrace.{none-at}
-use Rattle.executor_laws.proofs.Placement.Placing.{keeper-own}
-use Rattle.executor_laws.proofs.Reach.Reached.{bonded-here, heard-here}
-use Rattle.executor_laws.proofs.Walks.Finding.{itself}
-use Rattle.executor_laws.proofs.Wakeups.Queued.{times-length}
-use Rattle.executor_laws.proofs.Wakeups.StandsMachine.{standing}
-use Rattle.executor_laws.proofs.Wakeups.StandsRest.{keeper-called, keeper-lives}
-use Rattle.executor_laws.proofs.Placement.OwnReady.{reached-on}
-use Rattle.executor_laws.proofs.Reach.Marked.{Grown, grown-step, mark-stays, there-marked}
-use Rattle.executor_laws.proofs.Reach.Marked.Grown.{kept, one}
+use Rattle.executor_laws.proofs.Types.{Mark, Plain, Call, Kind, Step, Begin, Event, TickOrRun}
+use Rattle.executor_model.specs.{Emptiness.IsAtRest, Sound.times, Steps.Machine, Steps.run, Steps.start, Steps.step, Steps.stepped}
+use Rattle.executor_model.specs.{Standing.WasCalled, Standing.polls_sleeper, Trace.has, World.World, World.mark_of, World.own_of}
+use Rattle.executor_model.specs.{World.queue_of}
+use Rattle.executor_model.proofs.{Steps.Marking.Entries, Steps.Reached.Reached, Steps.Reached.deep-here, Steps.Reached.good-here}
+use Rattle.executor_model.proofs.{OwnQueues.OwnRunners.own-queue-has-runner, Polls.AskingExecutions.heard, Quiet.Resting.deep}
+use Rattle.executor_model.proofs.{Sleepers.SleepersTellingExecutions.are_told, Steps.Lift.good}
+use Rattle.executor_laws.specs.{RunOrder.GoesOnSo, RunOrder.IsBegun, RunOrder.IsPolledSo, RunOrder.KeepsAlone, RunOrder.Piece}
+use Rattle.executor_laws.specs.{RunOrder.Polling, RunOrder.TakesAlone, RunOrder.TakesInOrder, RunOrder.TakesNothing, RunOrder.Within}
+use Rattle.executor_laws.specs.{RunOrder.begun_by, RunOrder.behind_all, RunOrder.joined_in_all, RunOrder.joined_within, RunOrder.joins}
+use Rattle.executor_laws.specs.{RunOrder.line, RunOrder.of_mark, RunOrder.taken_in_all, RunOrder.taken_within, RunOrder.Piece.between}
+use Rattle.executor_laws.specs.{RunOrder.Piece.polled, RunOrder.Within.by_itself, RunOrder.Within.meanwhile, RunReach.Keeps}
+use Rattle.executor_laws.proofs.{Exactness.Ticking.first-times, Keepers.KeptTrace.none-at, Placement.Placing.keeper-own}
+use Rattle.executor_laws.proofs.{Reach.Reached.bonded-here, Reach.Reached.heard-here, Walks.Finding.itself, Wakeups.Queued.times-length}
+use Rattle.executor_laws.proofs.{Wakeups.StandsMachine.standing, Wakeups.StandsRest.keeper-called, Wakeups.StandsRest.keeper-lives}
+use Rattle.executor_laws.proofs.{Placement.OwnReady.reached-on, Reach.Marked.Grown, Reach.Marked.grown-step, Reach.Marked.mark-stays}
+use Rattle.executor_laws.proofs.{Reach.Marked.there-marked, Reach.Marked.Grown.kept, Reach.Marked.Grown.one, RunOrder.SpanBeside.NoneBeside}
+use Rattle.executor_laws.proofs.{RunOrder.SpanWalks.Result, RunOrder.SpanWalks.from-beginning, RunOrder.Spans.ahead}
+use Rattle.executor_laws.proofs.{RunReach.KeptWalks.kept-there}
 use Rattle.executor_laws.proofs.Reach.Reaching as reaching
-use Rattle.executor_laws.proofs.RunOrder.SpanBeside.{NoneBeside}
-use Rattle.executor_laws.proofs.RunOrder.SpanWalks.{Result, from-beginning}
-use Rattle.executor_laws.proofs.RunOrder.Spans.{ahead}
-use Rattle.executor_laws.proofs.RunReach.KeptWalks.{kept-there}
 
 -- a future that is there keeps its mark
 
@@ -84,7 +61,7 @@ stays-within p (meanwhile ts ∷ ws) s new k =
 
 stays-poll : (r : ℕ) (t : Polling) (s new : Machine) → IsPolledSo r t s new → Stays s.world new.world
 stays-poll r t s new k =
-    stays-and s.world (begun_by r t s).world new.world (stays-step (Begin t.party (call.PollRun r t.by)) s)
+    stays-and s.world (begun_by r t s).world new.world (stays-step (Begin t.party (Call.PollRun r t.by)) s)
     (stays-within t.party t.within (begun_by r t s) new k.goes_on)
 
 stays-pieces : (r : ℕ) (pieces : List Piece) (s new : Machine) → TakesAlone r pieces s new → Stays s.world new.world
@@ -170,7 +147,7 @@ in-order m last (polled t ∷ ps) s new y r none k z =
     stays-and next.world new.world last.world (stays-pieces r ps next new k.2) z in
     let now = one-poll m last s y r t next k.1 later none in
     let others = in-order m last ps next new
-    (reached-within t.party t.within first next (reached-on s (Begin t.party (call.PollRun r t.by) ∷ []) y) k.1.goes_on) r
+    (reached-within t.party t.within first next (reached-on s (Begin t.party (Call.PollRun r t.by) ∷ []) y) k.1.goes_on) r
     now.none k.2 z in
     ap (λ (v : Machine).
     of_mark m last.world (taken_within t.party t.within first ++ taken_in_all r ps v) ++ line m r last.world new) is
@@ -232,24 +209,24 @@ module _ (limit : ℕ) (kind : Kind) (parties : ℕ) (steps : List Step) where
       keeper-own now (good-here now reached) (heard-here now reached) (deep-here now reached) (bonded-here now reached) rest f q
       k.due k.keeper in
       let some : 1 ≤ length (own_of now.world q) = omega (arith, stands, times-length f (own_of now.world q)) in
-      let called : WasCalled (tick_or_run.Run q) now.world.trace =
+      let called : WasCalled (TickOrRun.Run q) now.world.trace =
       keeper-called now (good limit kind parties steps) (heard limit kind parties steps) (deep limit kind parties steps)
       (are_told limit kind parties steps) (own-queue-has-runner limit kind parties steps) (standing limit kind parties steps)
       rest.quiet q some in
       record {
-        polled = by called.party called.poll called.polled.polled (has (polls_sleeper (tick_or_run.Run q)) now.world.trace) refl;
+        polled = by called.party called.poll called.polled.polled (has (polls_sleeper (TickOrRun.Run q)) now.world.trace) refl;
         there = keeper-lives now (good limit kind parties steps) (heard limit kind parties steps)
             (deep limit kind parties steps) (are_told limit kind parties steps)
             (own-queue-has-runner limit kind parties steps) (standing limit kind parties steps) rest.quiet q some;
       }
     where
-      by : (party place : ℕ) → slice_get now.world.trace place ≡ Some (event.RunPolled party q) → (b : Bool) →
-          has (polls_sleeper (tick_or_run.Run q)) now.world.trace ≡ b →
-          has (polls_sleeper (tick_or_run.Run q)) now.world.trace ≡ true
+      by : (party place : ℕ) → slice_get now.world.trace place ≡ Some (Event.RunPolled party q) → (b : Bool) →
+          has (polls_sleeper (TickOrRun.Run q)) now.world.trace ≡ b →
+          has (polls_sleeper (TickOrRun.Run q)) now.world.trace ≡ true
       by party place e true h = h
       by party place e false h =
           let no : true ≡ false = sym (itself q).1
-          ∙ none-at (polls_sleeper (tick_or_run.Run q)) now.world.trace place (event.RunPolled party q) h e in absurd (cc)
+          ∙ none-at (polls_sleeper (TickOrRun.Run q)) now.world.trace place (Event.RunPolled party q) h e in absurd (cc)
 
 pub takes-in-order : (limit : ℕ) (kind : Kind) (parties : ℕ) (steps : List Step) →
     TakesInOrder (run steps (start limit kind parties))

@@ -3,33 +3,16 @@
 use Rattle.std.proofs.Common.{◌≡◌, ◌⊎◌, ◌∙◌, inl, inr, ⊎_elim, ℕ, List, [], ◌∷◌, ◌++◌, get_or}
 use Rattle.std.proofs.Common.{true, false, refl, sym, ap, subst, append-nil}
 use Rattle.std.specs.Prelude.{Option, Some, None, reverse}
-use Rattle.executor_model.specs.declared.call.Reply.{Reply}
-use Rattle.executor_model.specs.declared.op.ListOp.{ListOp}
-use Rattle.executor_model.specs.declared.op.ListOp.TheVariants as list_op
-use Rattle.executor_model.specs.declared.op.Op.{Op}
-use Rattle.executor_model.specs.declared.op.Op.TheVariants as op
-use Rattle.executor_model.specs.declared.step.Hint.{Hint}
-use Rattle.executor_model.specs.declared.step.UserEnd.{UserEnd}
-use Rattle.executor_model.specs.Doing.{act, list_act}
-use Rattle.executor_model.specs.Steps.{accepts, end_of, onto, react}
-use Rattle.executor_model.specs.Steps.{settled_by}
-use Rattle.executor_model.specs.Weights.{weigh}
-use Rattle.executor_model.specs.World.{Done, World, own_of}
-use Rattle.executor_model.proofs.OwnQueues.RunsAside.{Coat}
-use Rattle.executor_model.proofs.OwnQueues.RunsDone.{Deed, deed-act}
-use Rattle.executor_laws.proofs.RunReach.RunSteps.{Aside, Control, aside-act, aside-react, side_of}
 use Rattle.std.proofs.Common.{◌≢◌, eqb, get_or-set_other}
-use Rattle.executor_parts.specs.declared.mark.Mark.{Mark}
-use Rattle.executor_model.specs.Queues.{Queues, queue_in}
-use Rattle.executor_model.specs.Weights.{same}
-use Rattle.executor_model.specs.World.{put_own, queue_of}
-use Rattle.executor_model.proofs.OwnQueues.RunsAside.{coat, hull_of}
-use Rattle.executor_model.proofs.Steps.Lists.{same_cases}
+use Rattle.executor_laws.proofs.Types.{Reply, ListOp, Op, Hint, UserEnd, Mark}
+use Rattle.executor_model.specs.{Doing.act, Doing.list_act, Steps.accepts, Steps.end_of, Steps.onto, Steps.react, Steps.settled_by}
+use Rattle.executor_model.specs.{Weights.weigh, World.Done, World.World, World.own_of, Queues.Queues, Queues.queue_in, Weights.same}
+use Rattle.executor_model.specs.{World.put_own, World.queue_of, Steps.waits, Steps.top}
+use Rattle.executor_model.proofs.{OwnQueues.RunsAside.Coat, OwnQueues.RunsDone.Deed, OwnQueues.RunsDone.deed-act, OwnQueues.RunsAside.coat}
+use Rattle.executor_model.proofs.{OwnQueues.RunsAside.hull_of, Steps.Lists.same_cases}
+use Rattle.executor_laws.proofs.RunReach.RunSteps.{Aside, Control, aside-act, aside-react, side_of, side-kind}
 use Rattle.executor_laws.proofs.Reach.LoneMoves.{Inner, inner-act, stray_of}
-use Rattle.executor_laws.proofs.RunReach.RunSteps.{side-kind}
 use Rattle.executor_laws.proofs.Queueings.Queueing.{reacts}
-use Rattle.executor_model.specs.Steps.{waits}
-use Rattle.executor_model.specs.Steps.{top}
 
 -- no own queue but that of run q has anything
 
@@ -53,9 +36,9 @@ takes-beside q r f rest w e k = ⊎_elim
     let no : f ∷ rest ≡ [] = sym e ∙ k r x.2 in absurd (cc))
     (same_cases r q)
 
-list-beside : (q : ℕ) (h : Hint) (o : ListOp) (w : World) → Control q (op.List o) → NoneBeside q w →
+list-beside : (q : ℕ) (h : Hint) (o : ListOp) (w : World) → Control q (Op.List o) → NoneBeside q w →
     NoneBeside q (list_act h o w).world
-list-beside q h (list_op.LockRead x) w e k = k
+list-beside q h (ListOp.LockRead x) w e k = k
 list-beside q h _ w e k = absurd e
 
 deed-beside : (q : ℕ) (w : World) (o : Op) (d : Done) → Control q o → NoneBeside q w → Deed w o d → NoneBeside q d.world
@@ -96,7 +79,7 @@ side-act m p h o w n z = by (side-kind o z)
     a : Aside w (act p h o w)
     a = aside-act p h o w n z
 
-    by : (o ≡ op.List list_op.UnlockRead) ⊎ (stray_of o ≡ 0) → Beside m w (act p h o w)
+    by : (o ≡ Op.List ListOp.UnlockRead) ⊎ (stray_of o ≡ 0) → Beside m w (act p h o w)
     by (inl e) = record {
       light = a.light;
       own = a.own;

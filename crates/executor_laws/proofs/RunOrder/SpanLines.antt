@@ -3,29 +3,17 @@
 use Rattle.std.proofs.Common.{◌≡◌, ◌⊎◌, ◌∙◌, inl, inr, ℕ, List, [], ◌∷◌, ◌++◌}
 use Rattle.std.proofs.Common.{Bool, refl, sym, ap, subst, append_assoc}
 use Rattle.std.specs.Prelude.{Option, Some, None}
-use Rattle.executor_model.specs.declared.call.Reply.{Reply}
-use Rattle.executor_model.specs.declared.op.Op.{Op}
-use Rattle.executor_model.specs.declared.op.Op.TheVariants as op
-use Rattle.executor_model.specs.declared.step.Step.{Step}
-use Rattle.executor_model.specs.Steps.{Machine, Part, end_of, part}
-use Rattle.executor_model.specs.Steps.{settled, settled_by}
-use Rattle.executor_model.specs.Weights.{weigh}
-use Rattle.executor_model.specs.World.{World, own_of}
-use Rattle.executor_model.proofs.Table.Spawning.{top-last}
-use Rattle.executor_laws.proofs.Reach.LoneSteps.{Last, from-end}
-use Rattle.executor_laws.proofs.RunReach.RunKeeps.{light-last, side-no-end}
-use Rattle.executor_laws.proofs.RunReach.RunSteps.{Control, side_of}
 use Rattle.std.proofs.lemmas.List.Elements.{filter-append}
 use Rattle.std.specs.Prelude.{filter}
-use Rattle.executor_parts.specs.declared.mark.Mark.{Mark}
-use Rattle.executor_model.specs.declared.op.QueueOp.TheVariants as queue_op
-use Rattle.executor_model.specs.World.{queue_of}
+use Rattle.executor_laws.proofs.Types.{Reply, Op, Step, Mark, QueueOp}
+use Rattle.executor_model.specs.{Steps.Machine, Steps.Part, Steps.end_of, Steps.part, Steps.settled, Steps.settled_by, Weights.weigh}
+use Rattle.executor_model.specs.{World.World, World.own_of, World.queue_of, Steps.run}
+use Rattle.executor_model.proofs.Table.Spawning.{top-last}
+use Rattle.executor_laws.proofs.{Reach.LoneSteps.Last, Reach.LoneSteps.from-end, RunReach.RunKeeps.light-last}
+use Rattle.executor_laws.proofs.{RunReach.RunKeeps.side-no-end, RunReach.RunSteps.Control, RunReach.RunSteps.side_of, RunOrder.Spans.ahead}
+use Rattle.executor_laws.proofs.{RunOrder.Spans.span, RunReach.KeptLines.hand_of, RunReach.KeptLines.ups_in, Turns.LineSteps.with_hand}
+use Rattle.executor_laws.proofs.{RunOrder.SpanSteps.Left}
 use Rattle.executor_laws.specs.RunOrder.{joined}
-use Rattle.executor_laws.proofs.RunOrder.Spans.{ahead, span}
-use Rattle.executor_laws.proofs.RunReach.KeptLines.{hand_of, ups_in}
-use Rattle.executor_laws.proofs.Turns.LineSteps.{with_hand}
-use Rattle.executor_model.specs.Steps.{run}
-use Rattle.executor_laws.proofs.RunOrder.SpanSteps.{Left}
 
 -- what is left of the poll: what is about to be taken up, what it has in hand, its own queue and the executor's are this line
 pub data InLine (b : ℕ → Bool) (m : Mark) (q : ℕ) (line : List ℕ) (w : World) (os : List Op) : Type 0 where
@@ -34,7 +22,7 @@ pub data InLine (b : ℕ → Bool) (m : Mark) (q : ℕ) (line : List ℕ) (w : W
   over : os ≡ [] → ahead b m (own_of w q) w ≡ line → InLine b m q line w os
 
 ended-span : (q : ℕ) (c : Op) (a : Reply) (w : World) → end_of (Some c) ≡ Some a → own_of w q ≡ span q c w
-ended-span q (op.End r held) a w e = refl
+ended-span q (Op.End r held) a w e = refl
 ended-span q _ a w e = absurd (cc)
 
 module _ (b : ℕ → Bool) (m : Mark) where
@@ -83,7 +71,7 @@ side-line b up rest old added now line e i =
     ∙ (ap (λ (xs : List ℕ). xs ++ (old ++ added)) (sym (filter-append b up rest))
     ∙ (sym (append_assoc (filter b (up ++ rest)) old added) ∙ ap (λ (xs : List ℕ). xs ++ added) i)))
 
-pub no-append : (q : ℕ) (c : Op) → Control q c → (f : ℕ) → c ≡ op.Queue (queue_op.Append f) → ⊥
+pub no-append : (q : ℕ) (c : Op) → Control q c → (f : ℕ) → c ≡ Op.Queue (QueueOp.Append f) → ⊥
 no-append q c k f e = subst (Control q) e k
 
 -- steps of others make the line longer

@@ -6,28 +6,17 @@ use Rattle.std.proofs.Math.Seq.{drop-append_seam}
 use Rattle.std.proofs.lemmas.List.{drop_all}
 use Rattle.std.specs.Prelude.{None, Option, Some, reverse}
 use Rattle.queue_steps.specs.ClosableQueue.{ClosableQueue, shut, taken}
-use Rattle.executor_parts.specs.declared.mark.Mark.{Mark}
-use Rattle.executor_model.specs.declared.op.Op.{Op}
-use Rattle.executor_model.specs.declared.op.Op.TheVariants as op
-use Rattle.executor_model.specs.declared.op.QueueOp.TheVariants as queue_op
-use Rattle.executor_model.specs.declared.step.Hint.{Hint}
-use Rattle.executor_model.specs.declared.step.Step.{Step}
-use Rattle.executor_model.specs.declared.step.Step.TheVariants.{Answer, Begin, Go}
-use Rattle.executor_model.specs.declared.step.UserEnd.{UserEnd}
-use Rattle.executor_model.specs.Doing.{act}
-use Rattle.executor_model.specs.Queues.{Queues, queue_in}
-use Rattle.executor_model.specs.Steps.{Machine, accepts, answer_refusal, go_refusal, gone_on, onto, part_after, react, refusal}
-use Rattle.executor_model.specs.Steps.{run, stack, step, stepped, top, waits, with_part}
-use Rattle.executor_model.specs.World.{Done, World, own_of, queue_of}
-use Rattle.executor_laws.specs.KeptFirst.{taken_by}
-use Rattle.executor_laws.specs.LoneEnds.{is_onward_of}
-use Rattle.executor_laws.specs.RunOrder.{TakeNothing, joined, joins}
-use Rattle.executor_laws.proofs.Promptness.Turns.{below-is, next-is}
-use Rattle.executor_laws.proofs.Queueings.Queueing.{Turns, put-at, settles}
-use Rattle.executor_laws.proofs.Queueings.Queueing.Turns.{less, more, same, shuts}
-use Rattle.executor_laws.proofs.Reach.LoneSteps.{answers, goes}
-use Rattle.executor_laws.proofs.Reach.LoneTicks.{OfParty, after-is, of-party}
-use Rattle.executor_laws.proofs.RunReach.TakenUp.{go-takes, up_of}
+use Rattle.executor_laws.proofs.Types.{Mark, Op, QueueOp, Hint, Step, Begin, Go, UserEnd}
+use Rattle.executor_model.specs.{declared.step.Step.TheVariants.Answer, Doing.act, Queues.Queues, Queues.queue_in, Steps.Machine}
+use Rattle.executor_model.specs.{Steps.accepts, Steps.answer_refusal, Steps.go_refusal, Steps.gone_on, Steps.onto, Steps.part_after}
+use Rattle.executor_model.specs.{Steps.react, Steps.refusal, Steps.run, Steps.stack, Steps.step, Steps.stepped, Steps.top, Steps.waits}
+use Rattle.executor_model.specs.{Steps.with_part, World.Done, World.World, World.own_of, World.queue_of}
+use Rattle.executor_laws.specs.{KeptFirst.taken_by, LoneEnds.is_onward_of, RunOrder.TakeNothing, RunOrder.joined, RunOrder.joins}
+use Rattle.executor_laws.proofs.{Promptness.Turns.below-is, Promptness.Turns.next-is, Queueings.Queueing.Turns, Queueings.Queueing.put-at}
+use Rattle.executor_laws.proofs.{Queueings.Queueing.settles, Queueings.Queueing.Turns.less, Queueings.Queueing.Turns.more}
+use Rattle.executor_laws.proofs.{Queueings.Queueing.Turns.same, Queueings.Queueing.Turns.shuts, Reach.LoneSteps.answers}
+use Rattle.executor_laws.proofs.{Reach.LoneSteps.goes, Reach.LoneTicks.OfParty, Reach.LoneTicks.after-is, Reach.LoneTicks.of-party}
+use Rattle.executor_laws.proofs.{RunReach.TakenUp.go-takes, RunReach.TakenUp.up_of}
 use Rattle.executor_model.proofs.Table.Spawning.{top-last}
 
 -- what a step puts behind what stood in one of the executor's queues
@@ -45,7 +34,7 @@ first-gone [] = refl
 first-gone (x ∷ xs) = drop_all (length (x ∷ xs)) xs (omega arith)
 
 pub nothing-joins : (m : Mark) (w : World) (o : Op) (new : Queues) → Turns w o new →
-    ((f : ℕ) → o ≡ op.Queue (queue_op.Append f) → ⊥) → drop (length (queue_of w m).items) (queue_in m new).items ≡ []
+    ((f : ℕ) → o ≡ Op.Queue (QueueOp.Append f) → ⊥) → drop (length (queue_of w m).items) (queue_in m new).items ≡ []
 nothing-joins m w o new (same e) k = joins-none _ _ (ap (λ (qs : Queues). (queue_in m qs).items) e)
 nothing-joins m w o new (more f x c e) k = absurd (k f x)
 nothing-joins m w o new (less n f rest i e) k = ⊎_elim

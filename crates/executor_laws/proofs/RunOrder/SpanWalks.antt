@@ -3,83 +3,46 @@
 use Rattle.std.proofs.Common.{◌≡◌, ◌⊎◌, ◌∙◌, inl, inr, ⊎_elim, ℕ, ◌<◌, ◌≤◌, List, [], ◌∷◌, ◌++◌, length, get_or}
 use Rattle.std.proofs.Common.{Bool, true, refl, sym, ap, subst, arith, append-nil, append_assoc}
 use Rattle.std.specs.Prelude.{Option, Some, None, reverse}
-use Rattle.executor_model.specs.declared.op.ListOp.TheVariants as list_op
-use Rattle.executor_model.specs.declared.op.Op.{Op}
-use Rattle.executor_model.specs.declared.op.Op.TheVariants as op
-use Rattle.executor_model.specs.declared.step.Hint.{Hint}
-use Rattle.executor_model.specs.declared.step.Step.{Step}
-use Rattle.executor_model.specs.declared.step.UserEnd.{UserEnd}
-use Rattle.executor_model.specs.Doing.{act}
-use Rattle.executor_model.specs.OwnQueues.{IsEmptyMeanwhile, empty_of}
-use Rattle.executor_model.specs.Steps.{Machine, Part, onto, part, react}
-use Rattle.executor_model.specs.Steps.{settled, stack, with_part}
-use Rattle.executor_model.specs.Weights.{weigh}
-use Rattle.executor_model.specs.World.{Done, World, own_of}
-use Rattle.executor_model.proofs.Steps.Lift.{split}
-use Rattle.executor_model.proofs.Steps.Lists.{weigh-append, weigh-reverse}
-use Rattle.executor_model.proofs.Steps.Reached.{Reached}
-use Rattle.executor_laws.proofs.Fewness.FewSides.{ups-act, ups-react}
-use Rattle.executor_laws.proofs.Reach.LoneSteps.{Last, from-end}
-use Rattle.executor_laws.proofs.Reach.LoneTicks.{idle-none, of-party, stack-set}
-use Rattle.executor_laws.proofs.RunReach.RunKeeps.{light-last}
-use Rattle.executor_laws.proofs.RunReach.RunSteps.{Control, no-user, side_of}
-use Rattle.executor_laws.proofs.Walks.Finding.{itself}
 use Rattle.std.proofs.Common.{drop, eqb, suc, ◌+◌}
 use Rattle.std.proofs.Math.Seq.{drop-append_seam}
 use Rattle.std.proofs.lemmas.Bool.Decides.{nat_tests}
 use Rattle.std.specs.Prelude.{cond, filter}
-use Rattle.executor_parts.specs.declared.mark.Mark.{Mark}
 use Rattle.executor_parts.specs.Marks.{same_mark}
-use Rattle.executor_model.specs.declared.op.StealOp.{StealOp}
-use Rattle.executor_model.specs.declared.op.StealOp.TheVariants as steal_op
-use Rattle.executor_model.specs.ActsOfRuns.{free_places}
-use Rattle.executor_model.specs.OwnQueues.{filling_of}
-use Rattle.executor_model.specs.Queues.{Queues, queue_in}
-use Rattle.executor_model.specs.Rows.{running_of}
-use Rattle.executor_model.specs.World.{queue_of}
-use Rattle.executor_model.proofs.OwnQueues.OwnExecutions.{is-empty-meanwhile}
-use Rattle.executor_laws.specs.RunOrder.{joined}
-use Rattle.executor_laws.proofs.Queueings.Queueing.{turns-act}
-use Rattle.executor_laws.proofs.RunOrder.SpanActs.{Goes, lines-act}
-use Rattle.executor_laws.proofs.RunOrder.SpanActs.Goes.{on as goes_on, over as goes_over}
-use Rattle.executor_laws.proofs.RunOrder.Spans.{Facts, ahead, span}
-use Rattle.executor_laws.proofs.RunReach.KeptLines.{hand_of, no-ups-back, ups_in, ups_in-append}
-use Rattle.executor_laws.proofs.RunReach.KeptWalks.{control-no-up, user-no-up}
-use Rattle.executor_laws.proofs.RunReach.RunSteps.{steal_of}
-use Rattle.executor_laws.proofs.RunReach.TakenUp.{up_of}
-use Rattle.executor_laws.proofs.Turns.LineSteps.{with_hand}
-use Rattle.executor_laws.proofs.Walks.Enrolled.{Enrolled}
-use Rattle.executor_laws.proofs.Walks.Finding.{enrolled-here, room-here}
-use Rattle.executor_model.specs.declared.call.By.{By}
-use Rattle.executor_model.specs.declared.call.Call.TheVariants as call
-use Rattle.executor_model.specs.declared.event.Answer.TheVariants as answer
-use Rattle.executor_model.specs.declared.event.Event.TheVariants as event
-use Rattle.executor_model.specs.declared.op.Section.TheVariants as section
-use Rattle.executor_model.specs.declared.op.TickOp.TheVariants as tick_op
-use Rattle.executor_model.specs.declared.op.TickOrRun.TheVariants as tick_or_run
-use Rattle.executor_model.specs.declared.op.UserOp.TheVariants as user_op
-use Rattle.executor_model.specs.declared.step.UserEnd.TheVariants as end
-use Rattle.executor_model.specs.ActsOfRuns.{asleep}
-use Rattle.executor_model.specs.Steps.{part_after, poll_run, refusal, run, step, stepped, top, waker_of}
-use Rattle.executor_model.specs.World.{Ended, Listed, New, Stage, done, log, run_of}
-use Rattle.executor_laws.specs.KeptFirst.{taken_by}
-use Rattle.executor_laws.specs.LoneEnds.{is_onward_of}
-use Rattle.executor_laws.specs.RunOrder.{GoesOnSo, Within, first_of_poll, joined_within, joins, taken_within}
-use Rattle.executor_laws.specs.RunOrder.Within.{by_itself, meanwhile}
-use Rattle.executor_laws.proofs.Placement.OwnReady.{reached-on}
-use Rattle.executor_laws.proofs.Promptness.Turns.{next-is}
-use Rattle.executor_laws.proofs.Reach.LoneTicks.{in-range}
-use Rattle.executor_laws.proofs.RunOrder.SpanLines.{InLine, LineIn, later-line, longer, next-line, no-append, settles, side-line}
-use Rattle.executor_laws.proofs.RunOrder.SpanLines.InLine.{going, over}
-use Rattle.executor_laws.proofs.RunOrder.SpanBeside.{Beside, NoneBeside, beside-act, onto-own, own-same, side-act, side-react}
-use Rattle.executor_laws.proofs.RunOrder.SpanSteps.{Left, OneStep, joins-none, left-there, nothing-joins, one-step, onto-queues}
-use Rattle.executor_laws.proofs.RunOrder.SpanSteps.{step-joins}
-use Rattle.executor_laws.proofs.RunOrder.SpanSteps.OneStep.{acted, answered}
-use Rattle.executor_laws.proofs.RunOrder.Spans.{ahead-same}
-use Rattle.executor_laws.proofs.RunReach.RunArrives.{registered-own, registered-queue}
-use Rattle.executor_model.specs.declared.op.RunPoll.{RunPoll}
-use Rattle.executor_model.specs.declared.step.Step.TheVariants.{Begin, Go}
 use Rattle.std.proofs.Common.{ltb}
+use Rattle.executor_laws.proofs.Types.{ListOp, Op, Hint, Step, UserEnd, Mark, StealOp, By, Call, Answer, Event, Section, TickOp, TickOrRun}
+use Rattle.executor_laws.proofs.Types.{UserOp, RunPoll, Begin, Go}
+use Rattle.executor_model.specs.{Doing.act, OwnQueues.IsEmptyMeanwhile, OwnQueues.empty_of, Steps.Machine, Steps.Part, Steps.onto}
+use Rattle.executor_model.specs.{Steps.part, Steps.react, Steps.settled, Steps.stack, Steps.with_part, Weights.weigh, World.Done}
+use Rattle.executor_model.specs.{World.World, World.own_of, ActsOfRuns.free_places, OwnQueues.filling_of, Queues.Queues, Queues.queue_in}
+use Rattle.executor_model.specs.{Rows.running_of, World.queue_of, ActsOfRuns.asleep, Steps.part_after, Steps.poll_run, Steps.refusal}
+use Rattle.executor_model.specs.{Steps.run, Steps.step, Steps.stepped, Steps.top, Steps.waker_of, World.Ended, World.Listed, World.New}
+use Rattle.executor_model.specs.{World.Stage, World.done, World.log, World.run_of}
+use Rattle.executor_model.proofs.{Steps.Lift.split, Steps.Lists.weigh-append, Steps.Lists.weigh-reverse, Steps.Reached.Reached}
+use Rattle.executor_model.proofs.{OwnQueues.OwnExecutions.is-empty-meanwhile}
+use Rattle.executor_laws.proofs.{Fewness.FewSides.ups-act, Fewness.FewSides.ups-react, Reach.LoneSteps.Last, Reach.LoneSteps.from-end}
+use Rattle.executor_laws.proofs.{Reach.LoneTicks.idle-none, Reach.LoneTicks.of-party, Reach.LoneTicks.stack-set}
+use Rattle.executor_laws.proofs.{RunReach.RunKeeps.light-last, RunReach.RunSteps.Control, RunReach.RunSteps.no-user}
+use Rattle.executor_laws.proofs.{RunReach.RunSteps.side_of, Walks.Finding.itself, Queueings.Queueing.turns-act, RunOrder.SpanActs.Goes}
+use Rattle.executor_laws.proofs.{RunOrder.SpanActs.lines-act, RunOrder.Spans.Facts, RunOrder.Spans.ahead, RunOrder.Spans.span}
+use Rattle.executor_laws.proofs.{RunReach.KeptLines.hand_of, RunReach.KeptLines.no-ups-back, RunReach.KeptLines.ups_in}
+use Rattle.executor_laws.proofs.{RunReach.KeptLines.ups_in-append, RunReach.KeptWalks.control-no-up, RunReach.KeptWalks.user-no-up}
+use Rattle.executor_laws.proofs.{RunReach.RunSteps.steal_of, RunReach.TakenUp.up_of, Turns.LineSteps.with_hand, Walks.Enrolled.Enrolled}
+use Rattle.executor_laws.proofs.{Walks.Finding.enrolled-here, Walks.Finding.room-here, Placement.OwnReady.reached-on}
+use Rattle.executor_laws.proofs.{Promptness.Turns.next-is, Reach.LoneTicks.in-range, RunOrder.SpanLines.InLine, RunOrder.SpanLines.LineIn}
+use Rattle.executor_laws.proofs.{RunOrder.SpanLines.later-line, RunOrder.SpanLines.longer, RunOrder.SpanLines.next-line}
+use Rattle.executor_laws.proofs.{RunOrder.SpanLines.no-append, RunOrder.SpanLines.settles, RunOrder.SpanLines.side-line}
+use Rattle.executor_laws.proofs.{RunOrder.SpanLines.InLine.going, RunOrder.SpanLines.InLine.over, RunOrder.SpanBeside.Beside}
+use Rattle.executor_laws.proofs.{RunOrder.SpanBeside.NoneBeside, RunOrder.SpanBeside.beside-act, RunOrder.SpanBeside.onto-own}
+use Rattle.executor_laws.proofs.{RunOrder.SpanBeside.own-same, RunOrder.SpanBeside.side-act, RunOrder.SpanBeside.side-react}
+use Rattle.executor_laws.proofs.{RunOrder.SpanSteps.Left, RunOrder.SpanSteps.OneStep, RunOrder.SpanSteps.joins-none}
+use Rattle.executor_laws.proofs.{RunOrder.SpanSteps.left-there, RunOrder.SpanSteps.nothing-joins, RunOrder.SpanSteps.one-step}
+use Rattle.executor_laws.proofs.{RunOrder.SpanSteps.onto-queues, RunOrder.SpanSteps.step-joins, RunOrder.SpanSteps.OneStep.acted}
+use Rattle.executor_laws.proofs.{RunOrder.SpanSteps.OneStep.answered, RunOrder.Spans.ahead-same, RunReach.RunArrives.registered-own}
+use Rattle.executor_laws.proofs.{RunReach.RunArrives.registered-queue}
+use Rattle.executor_laws.specs.{RunOrder.joined, KeptFirst.taken_by, LoneEnds.is_onward_of, RunOrder.GoesOnSo, RunOrder.Within}
+use Rattle.executor_laws.specs.{RunOrder.first_of_poll, RunOrder.joined_within, RunOrder.joins, RunOrder.taken_within}
+use Rattle.executor_laws.specs.{RunOrder.Within.by_itself, RunOrder.Within.meanwhile}
+use Rattle.executor_laws.proofs.RunOrder.SpanActs.Goes.{on as goes_on, over as goes_over}
 
 -- the line at the end
 pub record Result (b : ℕ → Bool) (m : Mark) (p q : ℕ) (new : Machine) (line : List ℕ) (ws : List Within) (s : Machine) :
@@ -89,10 +52,10 @@ pub record Result (b : ℕ → Bool) (m : Mark) (p q : ℕ) (new : Machine) (lin
 
 -- before the run searches
 data Early (q : ℕ) (os : List Op) : Type 0 where
-  locks : (x : RunPoll) → x.run ≡ q → os ≡ op.List (list_op.LockWrite (section.Register x)) ∷ [] → Early q os
-  writes : (x : RunPoll) → x.run ≡ q → os ≡ op.List (list_op.Write (section.Register x)) ∷ [] → Early q os
-  unlocks : (x : RunPoll) → x.run ≡ q → os ≡ op.User (user_op.PollOwn x) ∷ op.List list_op.UnlockWrite ∷ [] → Early q os
-  asks : (x : RunPoll) → x.run ≡ q → os ≡ op.User (user_op.PollOwn x) ∷ [] → Early q os
+  locks : (x : RunPoll) → x.run ≡ q → os ≡ Op.List (ListOp.LockWrite (Section.Register x)) ∷ [] → Early q os
+  writes : (x : RunPoll) → x.run ≡ q → os ≡ Op.List (ListOp.Write (Section.Register x)) ∷ [] → Early q os
+  unlocks : (x : RunPoll) → x.run ≡ q → os ≡ Op.User (UserOp.PollOwn x) ∷ Op.List ListOp.UnlockWrite ∷ [] → Early q os
+  asks : (x : RunPoll) → x.run ≡ q → os ≡ Op.User (UserOp.PollOwn x) ∷ [] → Early q os
 
 module _ (b : ℕ → Bool) (m : Mark) (p q : ℕ) (new : Machine) (idles : stack new p ≡ [])
     (marked : (v : Machine) → Reached v → (ws : List Within) → GoesOnSo p ws v new → (k : Mark) (f : ℕ) (rest : List ℕ) →
@@ -178,11 +141,11 @@ module _ (b : ℕ → Bool) (m : Mark) (p q : ℕ) (new : Machine) (idles : stac
           ) in grind (arith, nat_tests));
     }
       where
-        uses : (o : StealOp) → running_of (steal_of o).poll.run (op.Steal o) ≡ 1
-        uses (steal_op.Length x) = (itself x.poll.run).0
-        uses (steal_op.OwnLength x j) = (itself x.poll.run).0
-        uses (steal_op.Take x more) = (itself x.poll.run).0
-        uses (steal_op.Put x more g) = (itself x.poll.run).0
+        uses : (o : StealOp) → running_of (steal_of o).poll.run (Op.Steal o) ≡ 1
+        uses (StealOp.Length x) = (itself x.poll.run).0
+        uses (StealOp.OwnLength x j) = (itself x.poll.run).0
+        uses (StealOp.Take x more) = (itself x.poll.run).0
+        uses (StealOp.Put x more g) = (itself x.poll.run).0
 
         fills : (r more : ℕ) → (let i : ℕ = cond (eqb r r) (more + 1) 0 in i) ≡ suc more
         fills r more = ap (λ (c : Bool). let i : ℕ = cond c (more + 1) 0 in i) (itself r).1
@@ -306,11 +269,11 @@ module _ (b : ℕ → Bool) (m : Mark) (p q : ℕ) (new : Machine) (idles : stac
 
   module _ (t : Step) (ws : List Within) (s : Machine) (line : List ℕ) (none : NoneBeside q s.world)
       (lined : ahead b m (own_of s.world q) s.world ≡ line)
-      (pending : first_of_poll (by_itself t ∷ ws) ≡ Some (end.Polled answer.Pending))
+      (pending : first_of_poll (by_itself t ∷ ws) ≡ Some (UserEnd.Polled Answer.Pending))
       (on : is_onward_of p t ≡ true) (possible : refusal s t ≡ None)
       (early-on : NoneBeside q (stepped s (step s t)).world →
       ahead b m (own_of (stepped s (step s t)).world q) (stepped s (step s t)).world ≡ line →
-      first_of_poll ws ≡ Some (end.Polled answer.Pending) → Early q (stack (stepped s (step s t)) p) →
+      first_of_poll ws ≡ Some (UserEnd.Polled Answer.Pending) → Early q (stack (stepped s (step s t)) p) →
       Ends line ws (stepped s (step s t)))
       (walks-on : NoneBeside q (stepped s (step s t)).world →
       InLine b m q line (stepped s (step s t)).world (stack (stepped s (step s t)) p) → Ends line ws (stepped s (step s t))) where
@@ -331,47 +294,47 @@ module _ (b : ℕ → Bool) (m : Mark) (p q : ℕ) (new : Machine) (idles : stac
         (subst (λ (x : Machine). Early q (stack x p)) (sym j) (subst (Early q) (sym (stack-set p s v l)) r)))
 
     by-early : Early q (stack s p) → Ends line (by_itself t ∷ ws) s
-    by-early (locks x e i) = go (one-step p s [] (op.List (list_op.LockWrite (section.Register x))) t i on possible)
+    by-early (locks x e i) = go (one-step p s [] (Op.List (ListOp.LockWrite (Section.Register x))) t i on possible)
       where
-        go : OneStep p s [] (op.List (list_op.LockWrite (section.Register x))) t → Ends line (by_itself t ∷ ws) s
+        go : OneStep p s [] (Op.List (ListOp.LockWrite (Section.Register x))) t → Ends line (by_itself t ∷ ws) s
         go (answered u te z j k l) = absurd (cc)
         go (acted h te z j k l) =
-            early-again h [] (op.List (list_op.LockWrite (section.Register x))) te j l k refl refl (writes x e refl)
-    by-early (writes x e i) = go (one-step p s [] (op.List (list_op.Write (section.Register x))) t i on possible)
+            early-again h [] (Op.List (ListOp.LockWrite (Section.Register x))) te j l k refl refl (writes x e refl)
+    by-early (writes x e i) = go (one-step p s [] (Op.List (ListOp.Write (Section.Register x))) t i on possible)
       where
-        go : OneStep p s [] (op.List (list_op.Write (section.Register x))) t → Ends line (by_itself t ∷ ws) s
+        go : OneStep p s [] (Op.List (ListOp.Write (Section.Register x))) t → Ends line (by_itself t ∷ ws) s
         go (answered u te z j k l) = absurd (cc)
         go (acted h te z j k l) =
-            early-again h [] (op.List (list_op.Write (section.Register x))) te j l k
+            early-again h [] (Op.List (ListOp.Write (Section.Register x))) te j l k
             (registered-queue (run_of s.world x.run).stage s.world x.run)
             (registered-own (run_of s.world x.run).stage s.world x.run) (unlocks x e refl)
     by-early (unlocks x e i) =
-        go (one-step p s (op.User (user_op.PollOwn x) ∷ []) (op.List list_op.UnlockWrite) t i on possible)
+        go (one-step p s (Op.User (UserOp.PollOwn x) ∷ []) (Op.List ListOp.UnlockWrite) t i on possible)
       where
-        go : OneStep p s (op.User (user_op.PollOwn x) ∷ []) (op.List list_op.UnlockWrite) t → Ends line (by_itself t ∷ ws) s
+        go : OneStep p s (Op.User (UserOp.PollOwn x) ∷ []) (Op.List ListOp.UnlockWrite) t → Ends line (by_itself t ∷ ws) s
         go (answered u te z j k l) = absurd (cc)
         go (acted h te z j k l) =
-            early-again h (op.User (user_op.PollOwn x) ∷ []) (op.List list_op.UnlockWrite) te j l k refl refl (asks x e refl)
-    by-early (asks x e i) = go (one-step p s [] (op.User (user_op.PollOwn x)) t i on possible)
+            early-again h (Op.User (UserOp.PollOwn x) ∷ []) (Op.List ListOp.UnlockWrite) te j l k refl refl (asks x e refl)
+    by-early (asks x e i) = go (one-step p s [] (Op.User (UserOp.PollOwn x)) t i on possible)
       where
-        go : OneStep p s [] (op.User (user_op.PollOwn x)) t → Ends line (by_itself t ∷ ws) s
+        go : OneStep p s [] (Op.User (UserOp.PollOwn x)) t → Ends line (by_itself t ∷ ws) s
         go (acted h te z j k l) = absurd (cc)
         go (answered u te z j k l) =
-            let is : ◌≡◌ {A = Option UserEnd} (Some u) (Some (end.Polled answer.Pending)) =
+            let is : ◌≡◌ {A = Option UserEnd} (Some u) (Some (UserEnd.Polled Answer.Pending)) =
             sym (ap (λ (y : Step). first_of_poll (by_itself y ∷ ws)) te) ∙ pending in
-            let v : u ≡ end.Polled answer.Pending = cc in
-            let w : Part = part s.world (op.Tick (tick_op.Search (asleep x)) ∷ []) in
-            let d : Done = react p (op.User (user_op.PollOwn x)) (end.Polled answer.Pending) s.world in
+            let v : u ≡ UserEnd.Polled Answer.Pending = cc in
+            let w : Part = part s.world (Op.Tick (TickOp.Search (asleep x)) ∷ []) in
+            let d : Done = react p (Op.User (UserOp.PollOwn x)) (UserEnd.Polled Answer.Pending) s.world in
             let j2 : stepped s (step s t) ≡ with_part s p (onto p d []) =
-            j ∙ ap (λ (y : UserEnd). with_part s p (onto p (react p (op.User (user_op.PollOwn x)) y s.world) [])) v in
-            early-end line t ws s [] (op.User (user_op.PollOwn x)) d j2 refl k (walks-on
+            j ∙ ap (λ (y : UserEnd). with_part s p (onto p (react p (Op.User (UserOp.PollOwn x)) y s.world) [])) v in
+            early-end line t ws s [] (Op.User (UserOp.PollOwn x)) d j2 refl k (walks-on
             (subst (λ (y : Machine). NoneBeside q y.world) (sym j2) none)
             (subst (λ (y : Machine). InLine b m q line y.world (stack y p)) (sym j2)
             (subst (InLine b m q line s.world) (sym (stack-set p s w l))
-            (going (op.Tick (tick_op.Search (asleep x))) [] refl (ap tick_or_run.Run e) refl lined))))
+            (going (Op.Tick (TickOp.Search (asleep x))) [] refl (ap TickOrRun.Run e) refl lined))))
 
   early : (ws : List Within) (s : Machine) (line : List ℕ) → Reached s → NoneBeside q s.world →
-      ahead b m (own_of s.world q) s.world ≡ line → first_of_poll ws ≡ Some (end.Polled answer.Pending) →
+      ahead b m (own_of s.world q) s.world ≡ line → first_of_poll ws ≡ Some (UserEnd.Polled Answer.Pending) →
       Early q (stack s p) → GoesOnSo p ws s new → Ends line ws s
   early [] s line y none lined pending r made = absurd (cc)
   early (meanwhile ts ∷ ws) s line y none lined pending r made =
@@ -386,7 +349,7 @@ module _ (b : ℕ → Bool) (m : Mark) (p q : ℕ) (new : Machine) (idles : stac
 
   -- a run that has ended isn't asked
   ended-none : (ws : List Within) (s : Machine) → stack s p ≡ [] → GoesOnSo p ws s new →
-      first_of_poll ws ≡ Some (end.Polled answer.Pending) → ⊥
+      first_of_poll ws ≡ Some (UserEnd.Polled Answer.Pending) → ⊥
   ended-none [] s e made pending = absurd (cc)
   ended-none (meanwhile ts ∷ ws) s e made pending = ended-none ws (run ts s) (made.1 ∙ e) made.2 pending
   ended-none (by_itself t ∷ ws) s e made pending =
@@ -394,30 +357,30 @@ module _ (b : ℕ → Bool) (m : Mark) (p q : ℕ) (new : Machine) (idles : stac
 
   -- the whole poll
   pub from-beginning : (by : By) (s : Machine) (ws : List Within) → Reached s → NoneBeside q s.world → stack s p ≡ [] →
-      refusal s (Begin p (call.PollRun q by)) ≡ None → first_of_poll ws ≡ Some (end.Polled answer.Pending) →
-      GoesOnSo p ws (stepped s (step s (Begin p (call.PollRun q by)))) new →
-      Ends (ahead b m (own_of s.world q) s.world) ws (stepped s (step s (Begin p (call.PollRun q by))))
+      refusal s (Begin p (Call.PollRun q by)) ≡ None → first_of_poll ws ≡ Some (UserEnd.Polled Answer.Pending) →
+      GoesOnSo p ws (stepped s (step s (Begin p (Call.PollRun q by)))) new →
+      Ends (ahead b m (own_of s.world q) s.world) ws (stepped s (step s (Begin p (Call.PollRun q by))))
   from-beginning by s ws y none e possible pending made = go (run_of s.world q).stage refl
     where
       x : RunPoll
       x = record {
         run = q;
         waker = waker_of None by;
-        poll = length (s.world.trace ++ event.CallBegun p (call.PollRun q by) ∷ []);
+        poll = length (s.world.trace ++ Event.CallBegun p (Call.PollRun q by) ∷ []);
       }
 
       first : World
-      first = log (log s.world (event.CallBegun p (call.PollRun q by))) (event.RunPolled p q)
+      first = log (log s.world (Event.CallBegun p (Call.PollRun q by))) (Event.RunPolled p q)
 
       next : Machine
-      next = stepped s (step s (Begin p (call.PollRun q by)))
+      next = stepped s (step s (Begin p (Call.PollRun q by)))
 
       l : p < length s.parties
       l = let z : ltb p (length s.parties) ≡ true = (in-range _ _ possible).0 in grind (arith, nat_tests)
 
       is : (st : Stage) → (run_of s.world q).stage ≡ st → next ≡ with_part s p (onto p (done first (poll_run st x)) [])
-      is st i = next-is s (Begin p (call.PollRun q by)) possible
-          ∙ (ap (λ (os : List Op). with_part s p (part_after s.world os (Begin p (call.PollRun q by)))) e
+      is st i = next-is s (Begin p (Call.PollRun q by)) possible
+          ∙ (ap (λ (os : List Op). with_part s p (part_after s.world os (Begin p (Call.PollRun q by)))) e
           ∙ ap (λ (z : Stage). with_part s p (onto p (done first (poll_run z x)) [])) i)
 
       from : (st : Stage) (os : List Op) → (run_of s.world q).stage ≡ st →
@@ -425,14 +388,14 @@ module _ (b : ℕ → Bool) (m : Mark) (p q : ℕ) (new : Machine) (idles : stac
           Ends (ahead b m (own_of s.world q) s.world) ws next
       from st os i j r =
           let k : next ≡ with_part s p (part first os) = is st i ∙ ap (with_part s p) j in
-          early ws next (ahead b m (own_of s.world q) s.world) (reached-on s (Begin p (call.PollRun q by) ∷ []) y)
+          early ws next (ahead b m (own_of s.world q) s.world) (reached-on s (Begin p (Call.PollRun q by) ∷ []) y)
           (subst (λ (v : Machine). NoneBeside q v.world) (sym k) none)
           (ap (λ (v : Machine). ahead b m (own_of v.world q) v.world) k) pending
           (subst (λ (v : Machine). Early q (stack v p)) (sym k) (subst (Early q) (sym (stack-set p s (part first os) l)) r)) made
 
       go : (st : Stage) → (run_of s.world q).stage ≡ st → Ends (ahead b m (own_of s.world q) s.world) ws next
-      go New i = from New (op.List (list_op.LockWrite (section.Register x)) ∷ []) i refl (locks x refl refl)
-      go Listed i = from Listed (op.User (user_op.PollOwn x) ∷ []) i refl (asks x refl refl)
+      go New i = from New (Op.List (ListOp.LockWrite (Section.Register x)) ∷ []) i refl (locks x refl refl)
+      go Listed i = from Listed (Op.User (UserOp.PollOwn x) ∷ []) i refl (asks x refl refl)
       go Ended i = absurd (ended-none ws next
           (ap (λ (v : Machine). stack v p) (is Ended i) ∙ stack-set p s (onto p (done first (poll_run Ended x)) []) l)
           made pending)

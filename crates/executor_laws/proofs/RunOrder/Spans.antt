@@ -5,45 +5,22 @@ use Rattle.std.proofs.Common.{◌≡◌, ◌≢◌, ◌∙◌, ℕ, zero, suc, L
 use Rattle.std.proofs.Common.{Bool, true, false, refl, sym, ap, subst, arith, append-nil, append_assoc, get_or-set_same}
 use Rattle.std.proofs.lemmas.List.{reverse-append}
 use Rattle.std.specs.Prelude.{reverse}
-use Rattle.executor_model.specs.declared.op.Look.{Look}
-use Rattle.executor_parts.specs.declared.mark.Mark.TheVariants.{Plain, Urgent}
-use Rattle.executor_model.specs.World.{queue_of}
-use Rattle.task_moves.specs.declared.moves.owed.Move.TheVariants as move
-use Rattle.executor_model.specs.declared.op.Op.{Op}
-use Rattle.executor_model.specs.declared.op.Op.TheVariants as op
-use Rattle.executor_model.specs.declared.op.RunOp.TheVariants as run_op
-use Rattle.executor_model.specs.declared.op.RunPoll.{RunPoll}
-use Rattle.executor_model.specs.declared.op.SleeperOp.TheVariants as sleeper_op
-use Rattle.executor_model.specs.declared.op.Source.{Source}
-use Rattle.executor_model.specs.declared.op.Source.TheVariants.{Common, Own}
-use Rattle.executor_model.specs.declared.op.Steal.{Steal}
-use Rattle.executor_model.specs.declared.op.StealOp.{StealOp}
-use Rattle.executor_model.specs.declared.op.StealOp.TheVariants as steal_op
-use Rattle.executor_model.specs.declared.op.Then.{Then}
-use Rattle.executor_model.specs.declared.op.Then.TheVariants as then
-use Rattle.executor_model.specs.declared.op.TickOp.TheVariants as tick_op
-use Rattle.executor_model.specs.declared.op.TickOrRun.TheVariants as tick_or_run
-use Rattle.executor_model.specs.ActsOfRuns.{asleep, counted_by, counted_to, found, kept_by}
-use Rattle.executor_model.specs.ActsOfRuns.{run_by}
-use Rattle.executor_model.specs.ActsOfRuns.{steal_by, steal_length_by, steal_put_by, steal_take_by, stolen}
-use Rattle.executor_model.specs.ActsOfSleepers.{found_by}
-use Rattle.executor_model.specs.Doing.{steal_act}
-use Rattle.executor_model.specs.Weights.{weigh}
-use Rattle.executor_model.specs.World.{Done, World, done, own_of, run_of}
-use Rattle.executor_model.proofs.Steps.Lists.{weigh-append, weigh-reverse}
-use Rattle.executor_laws.proofs.Fewness.FewSides.{ups}
-use Rattle.executor_laws.proofs.RunReach.RunSteps.{Control, NotOwn, side_of, steal_of}
 use Rattle.std.proofs.lemmas.List.Elements.{filter-append}
 use Rattle.std.proofs.Common.{◌<◌, ltb}
 use Rattle.std.specs.Prelude.{cond, drop, filter}
 use Rattle.queue_steps.specs.ClosableQueue.{taken}
-use Rattle.executor_parts.specs.declared.mark.Mark.{Mark}
 use Rattle.executor_parts.specs.Marks.{same_mark}
-use Rattle.executor_model.specs.ActsOfRuns.{free_places, source_of}
-use Rattle.executor_model.specs.Queues.{Queues, queue_in}
-use Rattle.executor_model.specs.World.{put_queue}
-use Rattle.executor_laws.proofs.RunReach.KeptLines.{found-side, hand_of, hand_then, no-ups-back, ups_in}
-use Rattle.executor_laws.proofs.RunReach.KeptLines.{ups_in-append}
+use Rattle.executor_laws.proofs.Types.{Look, Plain, Urgent, Move, Op, RunOp, RunPoll, SleeperOp, Source, Common, Own, Steal, StealOp, Then}
+use Rattle.executor_laws.proofs.Types.{TickOp, TickOrRun, Mark}
+use Rattle.executor_model.specs.{World.queue_of, ActsOfRuns.asleep, ActsOfRuns.counted_by, ActsOfRuns.counted_to, ActsOfRuns.found}
+use Rattle.executor_model.specs.{ActsOfRuns.kept_by, ActsOfRuns.run_by, ActsOfRuns.steal_by, ActsOfRuns.steal_length_by}
+use Rattle.executor_model.specs.{ActsOfRuns.steal_put_by, ActsOfRuns.steal_take_by, ActsOfRuns.stolen, ActsOfSleepers.found_by}
+use Rattle.executor_model.specs.{Doing.steal_act, Weights.weigh, World.Done, World.World, World.done, World.own_of, World.run_of}
+use Rattle.executor_model.specs.{ActsOfRuns.free_places, ActsOfRuns.source_of, Queues.Queues, Queues.queue_in, World.put_queue}
+use Rattle.executor_model.proofs.Steps.Lists.{weigh-append, weigh-reverse}
+use Rattle.executor_laws.proofs.Fewness.FewSides.{ups}
+use Rattle.executor_laws.proofs.RunReach.RunSteps.{Control, NotOwn, side_of, steal_of}
+use Rattle.executor_laws.proofs.RunReach.KeptLines.{found-side, hand_of, hand_then, no-ups-back, ups_in, ups_in-append}
 use Rattle.executor_laws.proofs.Turns.LineSteps.{with_hand}
 
 -- what is taken from a queue stands behind what was before it
@@ -91,9 +68,9 @@ pub record Lines (b : ℕ → Bool) (m : Mark) (q : ℕ) (line : List ℕ) (d : 
 pub record Facts (b : ℕ → Bool) (m : Mark) (q : ℕ) (c : Op) (w : World) : Type 0 where
   pub none : (n : ℕ) → n ≢ q → own_of w n ≡ []
   pub marked : (k : Mark) (f : ℕ) (rest : List ℕ) → (queue_of w k).items ≡ f ∷ rest → b f ≡ same_mark m k
-  pub empty : (x : RunPoll) (look : Look) → c ≡ op.Run (run_op.SearchCommon x look) → own_of w x.run ≡ []
-  pub known : (o : StealOp) → c ≡ op.Steal o → (steal_of o).poll.run < length w.own
-  pub free : (s : Steal) (more g : ℕ) → c ≡ op.Steal (steal_op.Put s more g) → ltb 0 (free_places w s.poll.run) ≡ true
+  pub empty : (x : RunPoll) (look : Look) → c ≡ Op.Run (RunOp.SearchCommon x look) → own_of w x.run ≡ []
+  pub known : (o : StealOp) → c ≡ Op.Steal o → (steal_of o).poll.run < length w.own
+  pub free : (s : Steal) (more g : ℕ) → c ≡ Op.Steal (StealOp.Put s more g) → ltb 0 (free_places w s.poll.run) ≡ true
 
 module _ (b : ℕ → Bool) (m : Mark) where
   abbrev pub Line : ℕ → List ℕ → Done → Type 0
@@ -128,16 +105,16 @@ module _ (b : ℕ → Bool) (m : Mark) where
 
   lines-run_by : (c : Bool) (w : World) (x : RunPoll) (f : ℕ) → Line x.run (ahead b m (f ∷ own_of w x.run) w) (run_by c w x f)
   lines-run_by true w x f = record {
-    control = op.Run (run_op.WakeOwn x);
-    side = op.Move move.TakeUp f ∷ [];
+    control = Op.Run (RunOp.WakeOwn x);
+    side = Op.Move Move.TakeUp f ∷ [];
     is = refl;
     kind = refl;
     light = refl;
     line_is = refl;
   }
   lines-run_by false w x f = record {
-    control = op.Tick (tick_op.Search (asleep x));
-    side = op.Move move.TakeUp f ∷ [];
+    control = Op.Tick (TickOp.Search (asleep x));
+    side = Op.Move Move.TakeUp f ∷ [];
     is = refl;
     kind = refl;
     light = refl;
@@ -147,23 +124,23 @@ module _ (b : ℕ → Bool) (m : Mark) where
   lines-counted : (c : Bool) (w : World) (x : RunPoll) (f : ℕ) →
       Line x.run (ahead b m (f ∷ own_of w x.run) w) (counted_by c w x f)
   lines-counted true w x f = one x.run (counted_to w x.run 0)
-      (op.Steal (steal_op.Length (record { poll = x; from = Common Urgent; then = then.StealPlain f }))) (refl, refl)
+      (Op.Steal (StealOp.Length (record { poll = x; from = Common Urgent; then = Then.StealPlain f }))) (refl, refl)
   lines-counted false w x f = lines-run_by _ (counted_to w x.run _) x f
 
   pub lines-found : (w : World) (x : RunPoll) (f : ℕ) → Line x.run (ahead b m (f ∷ own_of w x.run) w) (found w x f)
   lines-found w x f =
-      let s : _ = found-side (run_of w x.run).place (tick_or_run.Run x.run) in
+      let s : _ = found-side (run_of w x.run).place (TickOrRun.Run x.run) in
       behind-ops x.run (ahead b m (f ∷ own_of w x.run) w)
-      (found_by _ (tick_or_run.Run x.run) (op.Sleeper sleeper_op.ExchangeFlag ∷ []))
+      (found_by _ (TickOrRun.Run x.run) (Op.Sleeper SleeperOp.ExchangeFlag ∷ []))
       (counted_by _ w x f) s.0 s.1 (lines-counted _ w x f)
 
   pub lines-stolen : (t : Then) (w : World) (x : RunPoll) →
       Line x.run (ahead b m (hand_then t ++ own_of w x.run) w) (stolen t w x)
-  lines-stolen (then.Found f) w x = lines-found w x f
-  lines-stolen (then.StealPlain f) w x =
-      one x.run w (op.Steal (steal_op.Length (record { poll = x; from = Common Plain; then = then.Run f }))) (refl, refl)
-  lines-stolen (then.Run f) w x = lines-run_by _ w x f
-  lines-stolen (then.Walk at left) w x = one x.run w (op.Run (run_op.LookOwn x at left)) refl
+  lines-stolen (Then.Found f) w x = lines-found w x f
+  lines-stolen (Then.StealPlain f) w x =
+      one x.run w (Op.Steal (StealOp.Length (record { poll = x; from = Common Plain; then = Then.Run f }))) (refl, refl)
+  lines-stolen (Then.Run f) w x = lines-run_by _ w x f
+  lines-stolen (Then.Walk at left) w x = one x.run w (Op.Run (RunOp.LookOwn x at left)) refl
 
   -- a steal
 
@@ -173,12 +150,12 @@ module _ (b : ℕ → Bool) (m : Mark) where
   lines-length : (n : ℕ) (w : World) (s : Steal) → NotOwn s.poll.run s.from →
       Line s.poll.run (ahead b m (front_of w s) w) (steal_length_by n w s)
   lines-length zero w s k = lines-stolen s.then w s.poll
-  lines-length (suc n) w s k = one s.poll.run w (op.Steal (steal_op.OwnLength s (suc n))) (refl, k)
+  lines-length (suc n) w s k = one s.poll.run w (Op.Steal (StealOp.OwnLength s (suc n))) (refl, k)
 
   lines-steal_by : (n : ℕ) (w : World) (s : Steal) → NotOwn s.poll.run s.from →
       Line s.poll.run (ahead b m (front_of w s) w) (steal_by n w s)
   lines-steal_by zero w s k = lines-stolen s.then w s.poll
-  lines-steal_by (suc n) w s k = one s.poll.run w (op.Steal (steal_op.Take s n)) (refl, k)
+  lines-steal_by (suc n) w s k = one s.poll.run w (Op.Steal (StealOp.Take s n)) (refl, k)
 
   lines-take : (from : Source) (xs : List ℕ) (w : World) (x : RunPoll) (t : Then) (more : ℕ) → source_of w from ≡ xs →
       NotOwn x.run from → ((n : ℕ) → n ≢ x.run → own_of w n ≡ []) →
@@ -195,7 +172,7 @@ module _ (b : ℕ → Bool) (m : Mark) where
       (steal_take_by (f ∷ rest) w s more)
       (ap (λ (ns : List ℕ). ahead b m ns v) (sym (append_assoc (hand_then t) (own_of w x.run) (f ∷ [])))
       ∙ moved b m i w f rest (hand_then t ++ own_of w x.run) e (marked i f rest e))
-      (one x.run v (op.Steal (steal_op.Put s more f)) (refl, k))
+      (one x.run v (Op.Steal (StealOp.Put s more f)) (refl, k))
 
   lines-put : (c : Bool) (p : ℕ) (w : World) (s : Steal) (more f : ℕ) → c ≡ true → s.poll.run < length w.own →
       NotOwn s.poll.run s.from →
@@ -210,10 +187,10 @@ module _ (b : ℕ → Bool) (m : Mark) where
       (lines-steal_by more v s k)
 
   pub lines-steal : (p : ℕ) (o : StealOp) (w : World) → NotOwn (steal_of o).poll.run (steal_of o).from →
-      Facts b m (steal_of o).poll.run (op.Steal o) w →
-      Line (steal_of o).poll.run (ahead b m (span (steal_of o).poll.run (op.Steal o) w) w) (steal_act p o w)
-  lines-steal p (steal_op.Length s) w k h = lines-length _ w s k
-  lines-steal p (steal_op.OwnLength s n) w k h = lines-steal_by _ w s k
-  lines-steal p (steal_op.Take s more) w k h = lines-take s.from _ w s.poll s.then more refl k h.none h.marked
-  lines-steal p (steal_op.Put s more f) w k h =
-      lines-put _ p w s more f (h.free s more f refl) (h.known (steal_op.Put s more f) refl) k
+      Facts b m (steal_of o).poll.run (Op.Steal o) w →
+      Line (steal_of o).poll.run (ahead b m (span (steal_of o).poll.run (Op.Steal o) w) w) (steal_act p o w)
+  lines-steal p (StealOp.Length s) w k h = lines-length _ w s k
+  lines-steal p (StealOp.OwnLength s n) w k h = lines-steal_by _ w s k
+  lines-steal p (StealOp.Take s more) w k h = lines-take s.from _ w s.poll s.then more refl k h.none h.marked
+  lines-steal p (StealOp.Put s more f) w k h =
+      lines-put _ p w s more f (h.free s more f refl) (h.known (StealOp.Put s more f) refl) k

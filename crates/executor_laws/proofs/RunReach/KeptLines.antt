@@ -5,67 +5,36 @@ use Rattle.std.proofs.Common.{Bool, true, false, eqb, refl, sym, ap, subst, arit
 use Rattle.std.proofs.Common.{get_or-set_other}
 use Rattle.std.proofs.lemmas.List.{reverse-append}
 use Rattle.std.specs.Prelude.{Option, Some, None, reverse}
-use Rattle.executor_model.specs.declared.op.Look.{Look}
-use Rattle.executor_parts.specs.declared.mark.Mark.TheVariants.{Plain, Urgent}
 use Rattle.executor_parts.specs.Marks.{first_of, other}
-use Rattle.executor_model.specs.Acts.{turned}
-use Rattle.executor_model.specs.declared.op.Look.TheVariants.{First, Second}
-use Rattle.executor_model.specs.World.{queue_of}
-use Rattle.executor_model.specs.Acts.{mark_in}
 use Rattle.executor_parts.specs.Sleepers.{waker_at}
-use Rattle.task_moves.specs.declared.moves.owed.Move.TheVariants as move
-use Rattle.executor_model.specs.declared.call.Reply.TheVariants as reply
-use Rattle.executor_model.specs.declared.event.Event.TheVariants as event
-use Rattle.executor_model.specs.declared.op.Hold.TheVariants as hold
-use Rattle.executor_model.specs.declared.op.ListOp.TheVariants as list_op
-use Rattle.executor_model.specs.declared.op.Op.{Op}
-use Rattle.executor_model.specs.declared.op.Op.TheVariants as op
-use Rattle.executor_model.specs.declared.op.Polled.TheVariants as of
-use Rattle.executor_model.specs.declared.op.QueueOp.TheVariants as queue_op
-use Rattle.executor_model.specs.declared.op.RunOp.TheVariants as run_op
-use Rattle.executor_model.specs.declared.op.RunPoll.{RunPoll}
-use Rattle.executor_model.specs.declared.op.Sleeping.{Sleeping}
-use Rattle.executor_model.specs.declared.op.SleeperOp.TheVariants as sleeper_op
-use Rattle.executor_model.specs.declared.op.Source.{Source}
-use Rattle.executor_model.specs.declared.op.Source.TheVariants.{Common, Own}
-use Rattle.executor_model.specs.declared.op.Steal.{Steal}
-use Rattle.executor_model.specs.declared.op.StealOp.{StealOp}
-use Rattle.executor_model.specs.declared.op.StealOp.TheVariants as steal_op
-use Rattle.executor_model.specs.declared.op.Then.{Then}
-use Rattle.executor_model.specs.declared.op.Then.TheVariants as then
-use Rattle.executor_model.specs.declared.op.TickOp.TheVariants as tick_op
-use Rattle.executor_model.specs.declared.op.TickOrRun.{TickOrRun}
-use Rattle.executor_model.specs.declared.op.TickOrRun.TheVariants as tick_or_run
-use Rattle.executor_model.specs.declared.op.UserOp.TheVariants as user_op
-use Rattle.executor_model.specs.declared.op.Waker.{Waker}
-use Rattle.executor_model.specs.declared.op.Waker.TheVariants.{Task, Outside}
-use Rattle.executor_model.specs.declared.step.Hint.{Hint}
-use Rattle.executor_model.specs.Acts.{copied, followed}
-use Rattle.executor_model.specs.ActsOfRuns.{asleep, call_by_reference, counted_by, counted_to, found, kept_by}
-use Rattle.executor_model.specs.ActsOfRuns.{look_own_by, next_place, queue_at, run_by, search_common_by, search_own_by}
-use Rattle.executor_model.specs.ActsOfRuns.{steal_by, steal_length_by, steal_put_by, steal_take_by, stolen, wake_own, walk, without_first}
-use Rattle.executor_model.specs.ActsOfSleepers.{copy_sleeper_by, fall_asleep_by, found_by, sleep_again_by, sleep_anew_by}
-use Rattle.executor_model.specs.ActsOfSleepers.{sleep_listed_by, sleeper_goes}
+use Rattle.executor_laws.proofs.Types.{Look, Plain, Urgent, First, Second, Move, Reply, Event, Hold, ListOp, Op, Polled, QueueOp, RunOp}
+use Rattle.executor_laws.proofs.Types.{RunPoll, Sleeping, SleeperOp, Source, Common, Own, Steal, StealOp, Then, TickOp, TickOrRun, UserOp}
+use Rattle.executor_laws.proofs.Types.{Waker, Task, Outside, Hint}
+use Rattle.executor_model.specs.Acts.{turned, mark_in, copied, followed}
+use Rattle.executor_model.specs.World.{queue_of, Asleep, Awake, Done, Left, Ticker, World, done, log, own_of, place_of, put_own, run_of}
+use Rattle.executor_model.specs.ActsOfRuns.{asleep, call_by_reference, counted_by, counted_to, found, kept_by, look_own_by, next_place}
+use Rattle.executor_model.specs.ActsOfRuns.{queue_at, run_by, search_common_by, search_own_by, steal_by, steal_length_by, steal_put_by}
+use Rattle.executor_model.specs.ActsOfRuns.{steal_take_by, stolen, wake_own, walk, without_first}
+use Rattle.executor_model.specs.ActsOfSleepers.{copy_sleeper_by, fall_asleep_by, found_by, sleep_again_by, sleep_anew_by, sleep_listed_by}
+use Rattle.executor_model.specs.ActsOfSleepers.{sleeper_goes}
 use Rattle.executor_model.specs.Doing.{act, search_by_who, steal_act}
 use Rattle.executor_model.specs.Weights.{same, weigh}
-use Rattle.executor_model.specs.World.{Asleep, Awake, Done, Left, Ticker, World, done, log, own_of, place_of, put_own, run_of}
 use Rattle.executor_model.proofs.Steps.Lists.{same_cases, weigh-append, weigh-reverse}
 use Rattle.executor_model.proofs.Steps.SleepersNext.{goes-unseen}
-use Rattle.executor_laws.proofs.Fewness.FewSides.{ups, ups-act}
-use Rattle.executor_laws.proofs.RunReach.RunLeaves.{within}
-use Rattle.executor_laws.proofs.RunReach.RunSteps.{Aside, Control, NotOwn, aside-act, side_of, steal_of}
-use Rattle.executor_laws.proofs.RunReach.TakenUp.{up_of}
+use Rattle.executor_laws.proofs.{Fewness.FewSides.ups, Fewness.FewSides.ups-act, RunReach.RunLeaves.within, RunReach.RunSteps.Aside}
+use Rattle.executor_laws.proofs.{RunReach.RunSteps.Control, RunReach.RunSteps.NotOwn, RunReach.RunSteps.aside-act}
+use Rattle.executor_laws.proofs.{RunReach.RunSteps.side_of, RunReach.RunSteps.steal_of, RunReach.TakenUp.up_of}
 
 -- what is in hand, or about to be taken up
 
 abbrev pub hand_then : Then → List ℕ
-hand_then (then.Found f) = f ∷ []
-hand_then (then.StealPlain f) = f ∷ []
-hand_then (then.Run f) = f ∷ []
-hand_then (then.Walk at left) = []
+hand_then (Then.Found f) = f ∷ []
+hand_then (Then.StealPlain f) = f ∷ []
+hand_then (Then.Run f) = f ∷ []
+hand_then (Then.Walk at left) = []
 
 abbrev pub hand_of : Op → List ℕ
-hand_of (op.Steal o) = hand_then (steal_of o).then
+hand_of (Op.Steal o) = hand_then (steal_of o).then
 hand_of _ = []
 
 -- the last of these comes first
@@ -79,7 +48,7 @@ ups_in-append (x ∷ xs) ys =
     ap (λ (ns : List ℕ). ns ++ up_of x) (ups_in-append xs ys) ∙ append_assoc (ups_in ys) (ups_in xs) (up_of x)
 
 no-up : (o : Op) → ups o ≡ 0 → up_of o ≡ []
-no-up (op.Move move.TakeUp f) z = absurd (omega (arith, z))
+no-up (Op.Move Move.TakeUp f) z = absurd (omega (arith, z))
 no-up _ z = refl
 
 pub no-ups : (os : List Op) → weigh ups os ≡ 0 → ups_in os ≡ []
@@ -135,8 +104,8 @@ fronts q xs ys d e h = subst (λ (ns : List ℕ). Lines q ns d) e h
 
 lines-run_by : (b : Bool) (w : World) (x : RunPoll) (f : ℕ) → Lines x.run (f ∷ own_of w x.run) (run_by b w x f)
 lines-run_by true w x f = record {
-  control = op.Run (run_op.WakeOwn x);
-  side = op.Move move.TakeUp f ∷ [];
+  control = Op.Run (RunOp.WakeOwn x);
+  side = Op.Move Move.TakeUp f ∷ [];
   is = refl;
   kind = refl;
   light = refl;
@@ -144,8 +113,8 @@ lines-run_by true w x f = record {
   line = sym (append-nil (f ∷ own_of w x.run));
 }
 lines-run_by false w x f = record {
-  control = op.Tick (tick_op.Search (asleep x));
-  side = op.Move move.TakeUp f ∷ [];
+  control = Op.Tick (TickOp.Search (asleep x));
+  side = Op.Move Move.TakeUp f ∷ [];
   is = refl;
   kind = refl;
   light = refl;
@@ -155,27 +124,27 @@ lines-run_by false w x f = record {
 
 lines-counted : (b : Bool) (w : World) (x : RunPoll) (f : ℕ) → Lines x.run (f ∷ own_of w x.run) (counted_by b w x f)
 lines-counted true w x f = one x.run (counted_to w x.run 0)
-    (op.Steal (steal_op.Length (record { poll = x; from = Common Urgent; then = then.StealPlain f }))) (refl, refl)
+    (Op.Steal (StealOp.Length (record { poll = x; from = Common Urgent; then = Then.StealPlain f }))) (refl, refl)
 lines-counted false w x f = lines-run_by _ (counted_to w x.run _) x f
 
-pub found-side : (x : Ticker) (who : TickOrRun) → (weigh side_of (found_by x who (op.Sleeper sleeper_op.ExchangeFlag ∷ [])) ≡ 0)
-    × (weigh ups (found_by x who (op.Sleeper sleeper_op.ExchangeFlag ∷ [])) ≡ 0)
+pub found-side : (x : Ticker) (who : TickOrRun) → (weigh side_of (found_by x who (Op.Sleeper SleeperOp.ExchangeFlag ∷ [])) ≡ 0)
+    × (weigh ups (found_by x who (Op.Sleeper SleeperOp.ExchangeFlag ∷ [])) ≡ 0)
 found-side Awake who = (refl, refl)
 found-side (Asleep n) who = (refl, refl)
 found-side Left who = (refl, refl)
 
 lines-found : (w : World) (x : RunPoll) (f : ℕ) → Lines x.run (f ∷ own_of w x.run) (found w x f)
 lines-found w x f =
-    let s : _ = found-side (run_of w x.run).place (tick_or_run.Run x.run) in
-    behind-ops x.run (f ∷ own_of w x.run) (found_by _ (tick_or_run.Run x.run) (op.Sleeper sleeper_op.ExchangeFlag ∷ []))
+    let s : _ = found-side (run_of w x.run).place (TickOrRun.Run x.run) in
+    behind-ops x.run (f ∷ own_of w x.run) (found_by _ (TickOrRun.Run x.run) (Op.Sleeper SleeperOp.ExchangeFlag ∷ []))
     (counted_by _ w x f) s.0 s.1 (lines-counted _ w x f)
 
 lines-stolen : (t : Then) (w : World) (x : RunPoll) → Lines x.run (hand_then t ++ own_of w x.run) (stolen t w x)
-lines-stolen (then.Found f) w x = lines-found w x f
-lines-stolen (then.StealPlain f) w x =
-    one x.run w (op.Steal (steal_op.Length (record { poll = x; from = Common Plain; then = then.Run f }))) (refl, refl)
-lines-stolen (then.Run f) w x = lines-run_by _ w x f
-lines-stolen (then.Walk at left) w x = one x.run w (op.Run (run_op.LookOwn x at left)) refl
+lines-stolen (Then.Found f) w x = lines-found w x f
+lines-stolen (Then.StealPlain f) w x =
+    one x.run w (Op.Steal (StealOp.Length (record { poll = x; from = Common Plain; then = Then.Run f }))) (refl, refl)
+lines-stolen (Then.Run f) w x = lines-run_by _ w x f
+lines-stolen (Then.Walk at left) w x = one x.run w (Op.Run (RunOp.LookOwn x at left)) refl
 
 -- a steal
 
@@ -184,11 +153,11 @@ front_of w s = hand_then s.then ++ own_of w s.poll.run
 
 lines-length : (n : ℕ) (w : World) (s : Steal) → NotOwn s.poll.run s.from → Lines s.poll.run (front_of w s) (steal_length_by n w s)
 lines-length zero w s k = lines-stolen s.then w s.poll
-lines-length (suc n) w s k = one s.poll.run w (op.Steal (steal_op.OwnLength s (suc n))) (refl, k)
+lines-length (suc n) w s k = one s.poll.run w (Op.Steal (StealOp.OwnLength s (suc n))) (refl, k)
 
 lines-steal_by : (n : ℕ) (w : World) (s : Steal) → NotOwn s.poll.run s.from → Lines s.poll.run (front_of w s) (steal_by n w s)
 lines-steal_by zero w s k = lines-stolen s.then w s.poll
-lines-steal_by (suc n) w s k = one s.poll.run w (op.Steal (steal_op.Take s n)) (refl, k)
+lines-steal_by (suc n) w s k = one s.poll.run w (Op.Steal (StealOp.Take s n)) (refl, k)
 
 own-without : (q : ℕ) (x : Source) (w : World) (rest : List ℕ) → NotOwn q x → own_of (without_first w x rest) q ≡ own_of w q
 own-without q (Common mark) w rest k = refl
@@ -199,9 +168,9 @@ lines-take : (xs : List ℕ) (w : World) (s : Steal) (more : ℕ) → NotOwn s.p
 lines-take [] w s more k = lines-stolen s.then w s.poll
 lines-take (f ∷ rest) w s more k =
     let v : World = without_first w s.from rest in
-    fronts s.poll.run (front_of v s) (front_of w s) (done v (op.Steal (steal_op.Put s more f) ∷ []))
+    fronts s.poll.run (front_of v s) (front_of w s) (done v (Op.Steal (StealOp.Put s more f) ∷ []))
     (ap (λ (ns : List ℕ). hand_then s.then ++ ns) (own-without s.poll.run s.from w rest k))
-    (one s.poll.run v (op.Steal (steal_op.Put s more f)) (refl, k))
+    (one s.poll.run v (Op.Steal (StealOp.Put s more f)) (refl, k))
 
 put-behind : (qs : List (List ℕ)) (q f : ℕ) →
     (extra : List ℕ) × (get_or (set qs q (get_or qs q [] ++ f ∷ [])) q [] ≡ get_or qs q [] ++ extra)
@@ -219,15 +188,15 @@ lines-put true p w s more f k =
     (ap (λ (ns : List ℕ). hand_then s.then ++ ns) e.1 ∙ sym (append_assoc (hand_then s.then) (own_of w s.poll.run) e.0))
     (lines-steal_by more v s k))
 lines-put false p w s more f k =
-    behind-ops s.poll.run (front_of w s) (op.Queue (queue_op.Append f) ∷ []) (stolen s.then w s.poll) refl refl
+    behind-ops s.poll.run (front_of w s) (Op.Queue (QueueOp.Append f) ∷ []) (stolen s.then w s.poll) refl refl
     (lines-stolen s.then w s.poll)
 
 lines-steal : (p : ℕ) (o : StealOp) (w : World) → NotOwn (steal_of o).poll.run (steal_of o).from →
     Lines (steal_of o).poll.run (front_of w (steal_of o)) (steal_act p o w)
-lines-steal p (steal_op.Length s) w k = lines-length _ w s k
-lines-steal p (steal_op.OwnLength s n) w k = lines-steal_by _ w s k
-lines-steal p (steal_op.Take s more) w k = lines-take _ w s more k
-lines-steal p (steal_op.Put s more f) w k = lines-put _ p w s more f k
+lines-steal p (StealOp.Length s) w k = lines-length _ w s k
+lines-steal p (StealOp.OwnLength s n) w k = lines-steal_by _ w s k
+lines-steal p (StealOp.Take s more) w k = lines-take _ w s more k
+lines-steal p (StealOp.Put s more f) w k = lines-put _ p w s more f k
 
 -- searches
 
@@ -240,16 +209,16 @@ lines-first w x f rest e =
     (lines-found v x f)
 
 lines-own : (xs : List ℕ) (w : World) (x : RunPoll) → own_of w x.run ≡ xs → Lines x.run (own_of w x.run) (search_own_by xs w x)
-lines-own [] w x e = one x.run w (op.Run (run_op.TakeTurn x)) refl
+lines-own [] w x e = one x.run w (Op.Run (RunOp.TakeTurn x)) refl
 lines-own (f ∷ rest) w x e = lines-first w x f rest e
 
 -- its own queue is empty then
 lines-common : (look : Look) (xs : List ℕ) (w : World) (x : RunPoll) → own_of w x.run ≡ [] →
     Lines x.run (own_of w x.run) (search_common_by xs w x look)
-lines-common (First mark) [] w x e = one x.run w (op.Run (run_op.SearchCommon x (Second (other mark)))) refl
-lines-common (Second mark) [] w x e = one x.run w (op.List (list_op.LockRead x)) refl
+lines-common (First mark) [] w x e = one x.run w (Op.Run (RunOp.SearchCommon x (Second (other mark)))) refl
+lines-common (Second mark) [] w x e = one x.run w (Op.List (ListOp.LockRead x)) refl
 lines-common look (f ∷ rest) w x e =
-    let c : Op = op.Steal (steal_op.Length (record { poll = x; from = Common (mark_in look); then = then.Found f })) in
+    let c : Op = Op.Steal (StealOp.Length (record { poll = x; from = Common (mark_in look); then = Then.Found f })) in
     let v : World = (search_common_by (f ∷ rest) w x look).world in
     record {
       control = c;
@@ -269,8 +238,8 @@ another-queue n m b k = ⊎_elim
 
 lines-walk : (v : World) (x : RunPoll) (qs : List ℕ) (at left : ℕ) → Lines x.run (own_of v x.run) (done v (walk x qs at left))
 lines-walk v x qs at zero =
-    behind-ops x.run (own_of v x.run) (op.List list_op.UnlockRead ∷ []) (done v (op.Tick (tick_op.CopyWaker (asleep x)) ∷ []))
-    refl refl (one x.run v (op.Tick (tick_op.CopyWaker (asleep x))) refl)
+    behind-ops x.run (own_of v x.run) (Op.List ListOp.UnlockRead ∷ []) (done v (Op.Tick (TickOp.CopyWaker (asleep x)) ∷ []))
+    refl refl (one x.run v (Op.Tick (TickOp.CopyWaker (asleep x))) refl)
 lines-walk v x qs at (suc left) =
     by (eqb (queue_at qs at) x.run) (another-queue (queue_at qs at) x.run) (lines-walk v x qs (next_place qs at) left)
   where
@@ -278,24 +247,24 @@ lines-walk v x qs at (suc left) =
         Lines x.run (own_of v x.run) (done v (walk x qs (next_place qs at) left)) →
         Lines x.run (own_of v x.run) (done v (let os : List Op = elim b [
           | true ↦ walk x qs (next_place qs at) left
-          | false ↦ op.Steal (steal_op.Length (record {
+          | false ↦ Op.Steal (StealOp.Length (record {
             poll = x;
             from = Own (queue_at qs at);
-            then = then.Walk (next_place qs at) left;
+            then = Then.Walk (next_place qs at) left;
           })) ∷ []
         ] in os))
     by true k a = a
-    by false k a = one x.run v (op.Steal (steal_op.Length (record {
+    by false k a = one x.run v (Op.Steal (StealOp.Length (record {
       poll = x;
       from = Own (queue_at qs at);
-      then = then.Walk (next_place qs at) left;
+      then = Then.Walk (next_place qs at) left;
     }))) (refl, k refl)
 
 lines-look : (xs : List ℕ) (w : World) (x : RunPoll) (at left : ℕ) → own_of w x.run ≡ xs →
     Lines x.run (own_of w x.run) (look_own_by xs w x at left)
 lines-look [] w x at left e = lines-walk w x w.listed at left
 lines-look (f ∷ rest) w x at left e =
-    behind-ops x.run (own_of w x.run) (op.List list_op.UnlockRead ∷ []) (found (put_own w x.run rest) x f) refl refl
+    behind-ops x.run (own_of w x.run) (Op.List ListOp.UnlockRead ∷ []) (found (put_own w x.run rest) x f) refl refl
     (lines-first w x f rest e)
 
 -- falling asleep
@@ -304,29 +273,29 @@ copied-own : (w : World) (a : Waker) → (copied w a).own ≡ w.own
 copied-own w (Task g) = refl
 copied-own w (Outside x) = refl
 
-lines-copy : (q : ℕ) (b : Bool) (w : World) (s : Sleeping) → s.who ≡ tick_or_run.Run q →
+lines-copy : (q : ℕ) (b : Bool) (w : World) (s : Sleeping) → s.who ≡ TickOrRun.Run q →
     Lines q (own_of w q) (copy_sleeper_by b w s)
 lines-copy q true w s e = one q w _ refl
 lines-copy q false w s e =
     fronts q (own_of (copied w s.waker) q) (own_of w q) (copy_sleeper_by false w s)
     (ap (λ (qs : List (List ℕ)). get_or qs q []) (copied-own w s.waker))
-    (one q (copied w s.waker) (op.Tick (tick_op.FallAsleep s)) e)
+    (one q (copied w s.waker) (Op.Tick (TickOp.FallAsleep s)) e)
 
 lines-nowhere : (q : ℕ) (w : World) (s : Sleeping) (c : Op) → Control q c → hand_of c ≡ [] →
-    Lines q (own_of w q) (done w (op.Sleeper (sleeper_op.CallSleeper s) ∷ c ∷ []))
-lines-nowhere q w s c k h = behind-ops q (own_of w q) (op.Sleeper (sleeper_op.CallSleeper s) ∷ []) (done w (c ∷ [])) refl refl
+    Lines q (own_of w q) (done w (Op.Sleeper (SleeperOp.CallSleeper s) ∷ c ∷ []))
+lines-nowhere q w s c k h = behind-ops q (own_of w q) (Op.Sleeper (SleeperOp.CallSleeper s) ∷ []) (done w (c ∷ [])) refl refl
     (fronts q (hand_of c ++ own_of w q) (own_of w q) (done w (c ∷ [])) (ap (λ (ns : List ℕ). ns ++ own_of w q) h) (one q w c k))
 
-lines-anew : (q : ℕ) (b : Bool) (w : World) (s : Sleeping) → s.who ≡ tick_or_run.Run q → Lines q (own_of w q) (sleep_anew_by b w s)
-lines-anew q true w s e = one q (sleep_anew_by true w s).world (op.Tick (tick_op.Search s)) e
+lines-anew : (q : ℕ) (b : Bool) (w : World) (s : Sleeping) → s.who ≡ TickOrRun.Run q → Lines q (own_of w q) (sleep_anew_by b w s)
+lines-anew q true w s e = one q (sleep_anew_by true w s).world (Op.Tick (TickOp.Search s)) e
 lines-anew q false w s e = lines-nowhere q w s _ refl refl
 
-lines-listed : (q : ℕ) (b : Bool) (w : World) (m : ℕ) (s : Sleeping) → s.who ≡ tick_or_run.Run q →
+lines-listed : (q : ℕ) (b : Bool) (w : World) (m : ℕ) (s : Sleeping) → s.who ≡ TickOrRun.Run q →
     Lines q (own_of w q) (sleep_listed_by b w m s)
-lines-listed q true w m s e = one q (sleep_listed_by true w m s).world (op.Tick (tick_op.Search s)) e
+lines-listed q true w m s e = one q (sleep_listed_by true w m s).world (Op.Tick (TickOp.Search s)) e
 lines-listed q false w m s e = lines-nowhere q w s _ refl refl
 
-lines-again : (q : ℕ) (o : Option ℕ) (w : World) (m : ℕ) (s : Sleeping) → s.who ≡ tick_or_run.Run q →
+lines-again : (q : ℕ) (o : Option ℕ) (w : World) (m : ℕ) (s : Sleeping) → s.who ≡ TickOrRun.Run q →
     Lines q (own_of w q) (sleep_again_by o w m s)
 lines-again q (Some at) w m s e =
     behind-ops q (own_of w q) (sleeper_goes (waker_at (Some at) w.sleepers.wakers)) (done (sleep_again_by (Some at) w m s).world _)
@@ -335,7 +304,7 @@ lines-again q (Some at) w m s e =
     (one q (sleep_again_by (Some at) w m s).world _ refl)
 lines-again q None w m s e = lines-listed q _ w m s e
 
-lines-sleep : (q : ℕ) (x : Ticker) (w : World) (s : Sleeping) → s.who ≡ tick_or_run.Run q → Lines q (own_of w q) (fall_asleep_by x w s)
+lines-sleep : (q : ℕ) (x : Ticker) (w : World) (s : Sleeping) → s.who ≡ TickOrRun.Run q → Lines q (own_of w q) (fall_asleep_by x w s)
 lines-sleep q Awake w s e = lines-anew q _ w s e
 lines-sleep q (Asleep m) w s e = lines-again q _ w m s e
 lines-sleep q Left w s e = lines-nowhere q w s _ refl refl
@@ -345,20 +314,20 @@ lines-wake : (p : ℕ) (h : Hint) (w : World) (x : RunPoll) (q : ℕ) → Lines 
 lines-wake p h w x q = by x.waker
   where
     by : (a : Waker) → Lines q (own_of w q)
-        (followed (call_by_reference p (log w (event.WakerCalled p (of.Run x.run) x.poll x.waker)) a)
-        (op.End reply.Pending (hold.Run x.run) ∷ []))
+        (followed (call_by_reference p (log w (Event.WakerCalled p (Polled.Run x.run) x.poll x.waker)) a)
+        (Op.End Reply.Pending (Hold.Run x.run) ∷ []))
     by (Task g) =
-        let u : World = log w (event.WakerCalled p (of.Run x.run) x.poll x.waker) in
-        let d : Done = act p h (op.Move move.WakeByReference g) u in
-        let a : Aside u d = aside-act p h (op.Move move.WakeByReference g) u refl refl in
-        behind-ops q (own_of w q) d.next (done d.world (op.End reply.Pending (hold.Run x.run) ∷ []))
-        a.light (ups-act p h (op.Move move.WakeByReference g) u refl refl)
-        (fronts q (own_of d.world q) (own_of w q) (done d.world (op.End reply.Pending (hold.Run x.run) ∷ []))
+        let u : World = log w (Event.WakerCalled p (Polled.Run x.run) x.poll x.waker) in
+        let d : Done = act p h (Op.Move Move.WakeByReference g) u in
+        let a : Aside u d = aside-act p h (Op.Move Move.WakeByReference g) u refl refl in
+        behind-ops q (own_of w q) d.next (done d.world (Op.End Reply.Pending (Hold.Run x.run) ∷ []))
+        a.light (ups-act p h (Op.Move Move.WakeByReference g) u refl refl)
+        (fronts q (own_of d.world q) (own_of w q) (done d.world (Op.End Reply.Pending (Hold.Run x.run) ∷ []))
         (ap (λ (qs : List (List ℕ)). get_or qs q []) a.own)
-        (one q d.world (op.End reply.Pending (hold.Run x.run)) refl))
-    by (Outside y) = behind-ops q (own_of w q) (op.User (user_op.CallOutside y) ∷ [])
-        (done (log w (event.WakerCalled p (of.Run x.run) x.poll x.waker)) (op.End reply.Pending (hold.Run x.run) ∷ [])) refl refl
-        (one q (log w (event.WakerCalled p (of.Run x.run) x.poll x.waker)) (op.End reply.Pending (hold.Run x.run)) refl)
+        (one q d.world (Op.End Reply.Pending (Hold.Run x.run)) refl))
+    by (Outside y) = behind-ops q (own_of w q) (Op.User (UserOp.CallOutside y) ∷ [])
+        (done (log w (Event.WakerCalled p (Polled.Run x.run) x.poll x.waker)) (Op.End Reply.Pending (Hold.Run x.run) ∷ [])) refl refl
+        (one q (log w (Event.WakerCalled p (Polled.Run x.run) x.poll x.waker)) (Op.End Reply.Pending (Hold.Run x.run)) refl)
 
 -- it goes on so, or it has ended
 pub data Goes (q : ℕ) (front : List ℕ) (d : Done) : Type 0 where
@@ -366,28 +335,28 @@ pub data Goes (q : ℕ) (front : List ℕ) (d : Done) : Type 0 where
   over : d.next ≡ [] → own_of d.world q ≡ front → Goes q front d
 
 pub lines-act : (q p : ℕ) (h : Hint) (c : Op) (w : World) → Control q c →
-    ((x : RunPoll) (look : Look) → c ≡ op.Run (run_op.SearchCommon x look) → own_of w x.run ≡ []) →
+    ((x : RunPoll) (look : Look) → c ≡ Op.Run (RunOp.SearchCommon x look) → own_of w x.run ≡ []) →
     Goes q (hand_of c ++ own_of w q) (act p h c w)
-lines-act q p h (op.Tick (tick_op.Search s)) w e k =
+lines-act q p h (Op.Tick (TickOp.Search s)) w e k =
     subst (λ (who : TickOrRun). Goes q (own_of w q) (search_by_who who p w s)) (sym e)
     (on (lines-own (own_of w q) w (record { run = q; waker = s.waker; poll = s.poll }) refl))
-lines-act q p h (op.Tick (tick_op.CopyWaker s)) w e k = on (lines-copy q _ w s e)
-lines-act q p h (op.Tick (tick_op.FallAsleep s)) w e k = on (lines-sleep q (place_of w s.who) w s e)
-lines-act q p h (op.Run (run_op.TakeTurn x)) w e k =
-    subst (λ (n : ℕ). Goes n (own_of w n) (act p h (op.Run (run_op.TakeTurn x)) w)) e
-    (on (one x.run (turned p w) (op.Run (run_op.SearchCommon x (First (first_of w.urgent_turns)))) refl))
-lines-act q p h (op.Run (run_op.SearchCommon x look)) w e k =
-    subst (λ (n : ℕ). Goes n (own_of w n) (act p h (op.Run (run_op.SearchCommon x look)) w)) e
+lines-act q p h (Op.Tick (TickOp.CopyWaker s)) w e k = on (lines-copy q _ w s e)
+lines-act q p h (Op.Tick (TickOp.FallAsleep s)) w e k = on (lines-sleep q (place_of w s.who) w s e)
+lines-act q p h (Op.Run (RunOp.TakeTurn x)) w e k =
+    subst (λ (n : ℕ). Goes n (own_of w n) (act p h (Op.Run (RunOp.TakeTurn x)) w)) e
+    (on (one x.run (turned p w) (Op.Run (RunOp.SearchCommon x (First (first_of w.urgent_turns)))) refl))
+lines-act q p h (Op.Run (RunOp.SearchCommon x look)) w e k =
+    subst (λ (n : ℕ). Goes n (own_of w n) (act p h (Op.Run (RunOp.SearchCommon x look)) w)) e
     (on (lines-common look (queue_of w (mark_in look)).items w x (k x look refl)))
-lines-act q p h (op.Run (run_op.LookOwn x at left)) w e k =
-    subst (λ (n : ℕ). Goes n (own_of w n) (act p h (op.Run (run_op.LookOwn x at left)) w)) e
+lines-act q p h (Op.Run (RunOp.LookOwn x at left)) w e k =
+    subst (λ (n : ℕ). Goes n (own_of w n) (act p h (Op.Run (RunOp.LookOwn x at left)) w)) e
     (on (lines-look (own_of w x.run) w x at left refl))
-lines-act q p h (op.Run (run_op.WakeOwn x)) w e k = on (lines-wake p h w x q)
-lines-act q p h (op.List (list_op.LockRead x)) w e k =
-    subst (λ (n : ℕ). Goes n (own_of w n) (act p h (op.List (list_op.LockRead x)) w)) e
-    (on (lines-walk (act p h (op.List (list_op.LockRead x)) w).world x w.listed _ (length w.listed)))
-lines-act q p h (op.Steal o) w e k =
-    subst (λ (n : ℕ). Goes n (hand_then (steal_of o).then ++ own_of w n) (act p h (op.Steal o) w)) e.0
+lines-act q p h (Op.Run (RunOp.WakeOwn x)) w e k = on (lines-wake p h w x q)
+lines-act q p h (Op.List (ListOp.LockRead x)) w e k =
+    subst (λ (n : ℕ). Goes n (own_of w n) (act p h (Op.List (ListOp.LockRead x)) w)) e
+    (on (lines-walk (act p h (Op.List (ListOp.LockRead x)) w).world x w.listed _ (length w.listed)))
+lines-act q p h (Op.Steal o) w e k =
+    subst (λ (n : ℕ). Goes n (hand_then (steal_of o).then ++ own_of w n) (act p h (Op.Steal o) w)) e.0
     (on (lines-steal p o w (subst (λ (n : ℕ). NotOwn n (steal_of o).from) (sym e.0) e.1)))
-lines-act q p h (op.End a held) w e k = over refl refl
+lines-act q p h (Op.End a held) w e k = over refl refl
 lines-act q p h _ w e k = absurd e

@@ -3,64 +3,37 @@
 use Rattle.std.proofs.Common.{◌≡◌, ◌⊎◌, ◌∙◌, inl, inr, ⊎_elim, ℕ, ◌<◌, ◌≤◌, List, [], ◌∷◌, ◌++◌, length, get_or}
 use Rattle.std.proofs.Common.{Bool, true, false, refl, sym, ap, subst, arith, append-nil, append_assoc, Ok}
 use Rattle.std.specs.Prelude.{Option, Some, None, reverse}
-use Rattle.executor_model.specs.declared.op.Look.{Look}
-use Rattle.executor_model.specs.declared.call.By.{By}
-use Rattle.executor_model.specs.declared.call.Call.TheVariants as call
-use Rattle.executor_model.specs.declared.call.Reply.{Reply}
-use Rattle.executor_model.specs.declared.event.Answer.TheVariants as answer
-use Rattle.executor_model.specs.declared.event.Event.TheVariants as event
-use Rattle.executor_model.specs.declared.kind.Kind.{Kind}
-use Rattle.executor_model.specs.declared.op.ListOp.{ListOp}
-use Rattle.executor_model.specs.declared.op.ListOp.TheVariants as list_op
-use Rattle.executor_model.specs.declared.op.Op.{Op}
-use Rattle.executor_model.specs.declared.op.Op.TheVariants as op
-use Rattle.executor_model.specs.declared.op.RunOp.TheVariants as run_op
-use Rattle.executor_model.specs.declared.op.RunPoll.{RunPoll}
-use Rattle.executor_model.specs.declared.op.Section.TheVariants as section
-use Rattle.executor_model.specs.declared.op.UserOp.TheVariants as user_op
-use Rattle.executor_model.specs.declared.step.Hint.{Hint}
-use Rattle.executor_model.specs.declared.step.Step.{Step}
-use Rattle.executor_model.specs.declared.step.Step.TheVariants.{Answer, Begin, Go}
-use Rattle.executor_model.specs.declared.step.UserEnd.{UserEnd}
-use Rattle.executor_model.specs.declared.step.UserEnd.TheVariants as end
-use Rattle.executor_model.specs.ActsOfRuns.{make_run_by, registered}
-use Rattle.executor_model.specs.Doing.{act, list_act}
-use Rattle.executor_model.specs.Emptiness.{IsAtRest}
-use Rattle.executor_model.specs.Executions.{run_all}
-use Rattle.executor_model.specs.OwnQueues.{IsEmptyMeanwhile, empty_of}
-use Rattle.executor_model.specs.Sound.{times}
-use Rattle.executor_model.specs.Steps.{Machine, Part, accepts, after, begun, below_top, end_of, gone_on, mine, onto, part, react, run}
-use Rattle.executor_model.specs.Steps.{settled, settled_by, stack, start, top, with_part}
-use Rattle.executor_model.specs.Weights.{weigh}
-use Rattle.executor_model.specs.World.{Done, Ended, Listed, New, Stage, World, log, own_of, run_of}
-use Rattle.executor_model.proofs.OwnQueues.OwnExecutions.{is-empty-meanwhile}
-use Rattle.executor_model.proofs.OwnQueues.RunsAside.{Coat}
-use Rattle.executor_model.proofs.OwnQueues.RunsDone.{Deed, deed-act}
-use Rattle.executor_model.proofs.Steps.Lift.{split}
-use Rattle.executor_model.proofs.Steps.Lists.{times-append, weigh-append, weigh-reverse}
-use Rattle.executor_model.proofs.Steps.Reached.{Reached, deep-here, good-here, run-first, run-of}
-use Rattle.executor_model.proofs.Table.Spawning.{top-last}
+use Rattle.executor_laws.proofs.Types.{Look, By, Call, Reply, Event, Kind, ListOp, Op, RunOp, RunPoll, Section, UserOp, Hint, Step, Begin}
+use Rattle.executor_laws.proofs.Types.{Go, UserEnd}
+use Rattle.executor_model.specs.{declared.step.Step.TheVariants.Answer, ActsOfRuns.make_run_by, ActsOfRuns.registered, Doing.act}
+use Rattle.executor_model.specs.{Doing.list_act, Emptiness.IsAtRest, Executions.run_all, OwnQueues.IsEmptyMeanwhile, OwnQueues.empty_of}
+use Rattle.executor_model.specs.{Sound.times, Steps.Machine, Steps.Part, Steps.accepts, Steps.after, Steps.begun, Steps.below_top}
+use Rattle.executor_model.specs.{Steps.end_of, Steps.gone_on, Steps.mine, Steps.onto, Steps.part, Steps.react, Steps.run, Steps.settled}
+use Rattle.executor_model.specs.{Steps.settled_by, Steps.stack, Steps.start, Steps.top, Steps.with_part, Weights.weigh, World.Done}
+use Rattle.executor_model.specs.{World.Ended, World.Listed, World.New, World.Stage, World.World, World.log, World.own_of, World.run_of}
+use Rattle.executor_model.proofs.{OwnQueues.OwnExecutions.is-empty-meanwhile, OwnQueues.RunsAside.Coat, OwnQueues.RunsDone.Deed}
+use Rattle.executor_model.proofs.{OwnQueues.RunsDone.deed-act, Steps.Lift.split, Steps.Lists.times-append, Steps.Lists.weigh-append}
+use Rattle.executor_model.proofs.{Steps.Lists.weigh-reverse, Steps.Reached.Reached, Steps.Reached.deep-here, Steps.Reached.good-here}
+use Rattle.executor_model.proofs.{Steps.Reached.run-first, Steps.Reached.run-of, Table.Spawning.top-last}
 use Rattle.executor_laws.specs.KeptFirst.{BeginsWith, KeptComeFirst, TakesKeptFirst, poll_steps, taken_in, taken_up}
 use Rattle.executor_laws.specs.LoneEnds.{are_onward_of, is_onward_of}
 use Rattle.executor_laws.specs.RunReach.{AreLonePolls, IsLonePoll, Keeps, LoneRunPoll}
-use Rattle.executor_laws.proofs.Exactness.Ticking.{first-times}
-use Rattle.executor_laws.proofs.Fewness.FewSides.{ups-act, ups-react}
-use Rattle.executor_laws.proofs.Placement.Placing.{here, in-own, keeper-own, own-keeper, queued-due}
-use Rattle.executor_laws.proofs.Promptness.Turns.{next-is}
-use Rattle.executor_laws.proofs.Reach.LoneSteps.{Last, from-end}
-use Rattle.executor_laws.proofs.Reach.LoneTicks.{idle-none, left-true, of-party, stack-set}
-use Rattle.executor_laws.proofs.Reach.Reached.{bonded-here, heard-here}
-use Rattle.executor_laws.proofs.Reach.Searching.{at-rest}
-use Rattle.executor_laws.proofs.RunReach.KeptLines.{Goes, hand_of, lines-act, no-ups-back, ups_in, ups_in-append}
+use Rattle.executor_laws.proofs.{Exactness.Ticking.first-times, Fewness.FewSides.ups-act, Fewness.FewSides.ups-react}
+use Rattle.executor_laws.proofs.{Placement.Placing.here, Placement.Placing.in-own, Placement.Placing.keeper-own}
+use Rattle.executor_laws.proofs.{Placement.Placing.own-keeper, Placement.Placing.queued-due, Promptness.Turns.next-is, Reach.LoneSteps.Last}
+use Rattle.executor_laws.proofs.{Reach.LoneSteps.from-end, Reach.LoneTicks.idle-none, Reach.LoneTicks.left-true, Reach.LoneTicks.of-party}
+use Rattle.executor_laws.proofs.{Reach.LoneTicks.stack-set, Reach.Reached.bonded-here, Reach.Reached.heard-here, Reach.Searching.at-rest}
+use Rattle.executor_laws.proofs.{RunReach.KeptLines.Goes, RunReach.KeptLines.hand_of, RunReach.KeptLines.lines-act}
+use Rattle.executor_laws.proofs.{RunReach.KeptLines.no-ups-back, RunReach.KeptLines.ups_in, RunReach.KeptLines.ups_in-append}
+use Rattle.executor_laws.proofs.{RunReach.RunKeeps.light-last, RunReach.RunKeeps.side-no-end, RunReach.RunLeaves.gone-onto}
+use Rattle.executor_laws.proofs.{RunReach.RunReaching.arrived, RunReach.RunReaching.first-is, RunReach.RunReaching.first-machine}
+use Rattle.executor_laws.proofs.{RunReach.RunReaching.new-idle, RunReach.RunReaching.reached-new, RunReach.RunSteps.Aside}
+use Rattle.executor_laws.proofs.{RunReach.RunSteps.Control, RunReach.RunSteps.aside-act, RunReach.RunSteps.aside-react}
+use Rattle.executor_laws.proofs.{RunReach.RunSteps.no-user, RunReach.RunSteps.side_of, RunReach.RunWalks.Onward, RunReach.RunWalks.onward}
+use Rattle.executor_laws.proofs.{RunReach.RunWalks.Onward.acted, RunReach.RunWalks.Onward.answered, RunReach.TakenUp.answers-up}
+use Rattle.executor_laws.proofs.{RunReach.TakenUp.goes-up, RunReach.TakenUp.up_of, Walks.Finding.itself}
+use Rattle.executor_model.specs.declared.event.Answer.TheVariants as answer
 use Rattle.executor_laws.proofs.RunReach.KeptLines.Goes.{on as goes_on, over as goes_over}
-use Rattle.executor_laws.proofs.RunReach.RunKeeps.{light-last, side-no-end}
-use Rattle.executor_laws.proofs.RunReach.RunLeaves.{gone-onto}
-use Rattle.executor_laws.proofs.RunReach.RunReaching.{arrived, first-is, first-machine, new-idle, reached-new}
-use Rattle.executor_laws.proofs.RunReach.RunSteps.{Aside, Control, aside-act, aside-react, no-user, side_of}
-use Rattle.executor_laws.proofs.RunReach.RunWalks.{Onward, onward}
-use Rattle.executor_laws.proofs.RunReach.RunWalks.Onward.{acted, answered}
-use Rattle.executor_laws.proofs.RunReach.TakenUp.{answers-up, goes-up, up_of}
-use Rattle.executor_laws.proofs.Walks.Finding.{itself}
 
 begins-is : (xs ys zs : List ℕ) → ys ≡ zs → BeginsWith xs ys → BeginsWith xs zs
 begins-is xs ys zs e b = (b.0, sym e ∙ b.1)
@@ -79,7 +52,7 @@ abbrev LineIn : ℕ → List ℕ → List ℕ → Part → Type 0
 LineIn q first xs x = Line q first xs x.world x.todo
 
 ended-hand : (c : Op) (a : Reply) → end_of (Some c) ≡ Some a → hand_of c ≡ []
-ended-hand (op.End r held) a e = refl
+ended-hand (Op.End r held) a e = refl
 ended-hand _ a e = absurd (cc)
 
 settles : (q : ℕ) (first xs : List ℕ) (p : ℕ) (w : World) (c : Op) (side : List Op) → Control q c → weigh side_of side ≡ 0 →
@@ -106,11 +79,11 @@ settles q first xs p w c side k z t = go (from-end side)
         (subst (λ (os : List Op). BeginsWith first (xs ++ (ups_in os ++ (hand_of c ++ own_of w q)))) l.is t)))
 
 pub control-no-up : (q : ℕ) (c : Op) → Control q c → up_of c ≡ []
-control-no-up q (op.Move m f) k = absurd k
+control-no-up q (Op.Move m f) k = absurd k
 control-no-up q _ k = refl
 
 pub user-no-up : (o : Op) (u : UserEnd) → accepts o u ≡ true → up_of o ≡ []
-user-no-up (op.Move m f) u a = absurd (cc)
+user-no-up (Op.Move m f) u a = absurd (cc)
 user-no-up _ u a = refl
 
 module _ (p q : ℕ) (first : List ℕ) (new : Machine) (idles : stack new p ≡ []) where
@@ -145,7 +118,7 @@ module _ (p q : ℕ) (first : List ℕ) (new : Machine) (idles : stack new p ≡
         (sym (ap (λ (zs : List ℕ). xs ++ zs) i ∙ append-nil xs)) h) y2 n2 on2 l k
 
     empty : (c : Op) → stack s p ≡ [] ++ c ∷ [] → p < length s.parties → (x : RunPoll) (look : Look) →
-        c ≡ op.Run (run_op.SearchCommon x look) →
+        c ≡ Op.Run (RunOp.SearchCommon x look) →
         own_of s.world x.run ≡ []
     empty c e l x look i =
         let z : IsEmptyMeanwhile s x.run = subst (λ (v : Machine). IsEmptyMeanwhile v x.run) (sym y.is)
@@ -266,13 +239,13 @@ gone-register Listed w r = refl
 gone-register Ended w r = refl
 
 gone-list : (h : Hint) (o : ListOp) (w : World) → (list_act h o w).world.gone ≡ w.gone
-gone-list h (list_op.Write section.MakeRun) w = gone-make h.refused w
-gone-list h (list_op.Write (section.Register x)) w = gone-register (run_of w x.run).stage w x.run
-gone-list h (list_op.Write (section.Unregister q a)) w = refl
-gone-list h (list_op.LockWrite s) w = refl
-gone-list h list_op.UnlockWrite w = refl
-gone-list h (list_op.LockRead x) w = refl
-gone-list h list_op.UnlockRead w = refl
+gone-list h (ListOp.Write Section.MakeRun) w = gone-make h.refused w
+gone-list h (ListOp.Write (Section.Register x)) w = gone-register (run_of w x.run).stage w x.run
+gone-list h (ListOp.Write (Section.Unregister q a)) w = refl
+gone-list h (ListOp.LockWrite s) w = refl
+gone-list h ListOp.UnlockWrite w = refl
+gone-list h (ListOp.LockRead x) w = refl
+gone-list h ListOp.UnlockRead w = refl
 
 gone-deed : (w : World) (o : Op) (d : Done) → Deed w o d → d.world.gone ≡ w.gone
 gone-deed w o d (Deed.keeps e l) = sym (ap (λ (c : Coat). c.gone) e)
@@ -284,10 +257,10 @@ gone-deed w o d (Deed.wakes p x e z) = sym (ap (λ (c : Coat). c.gone) e)
 gone-deed w o d (Deed.lists h l) = gone-list h l w
 
 gone-react : (p : ℕ) (o : Op) (u : UserEnd) (w : World) → (react p o u w).world.gone ≡ w.gone
-gone-react p (op.User (user_op.Poll f)) (end.Polled answer.Pending) w = refl
-gone-react p (op.User (user_op.Poll f)) (end.Polled answer.Ready) w = refl
-gone-react p (op.User (user_op.PollOwn x)) (end.Polled answer.Pending) w = refl
-gone-react p (op.User (user_op.PollOwn x)) (end.Polled answer.Ready) w = refl
+gone-react p (Op.User (UserOp.Poll f)) (UserEnd.Polled answer.Pending) w = refl
+gone-react p (Op.User (UserOp.Poll f)) (UserEnd.Polled answer.Ready) w = refl
+gone-react p (Op.User (UserOp.PollOwn x)) (UserEnd.Polled answer.Pending) w = refl
+gone-react p (Op.User (UserOp.PollOwn x)) (UserEnd.Polled answer.Ready) w = refl
 gone-react p _ _ w = refl
 
 gone-went : (w : World) (os : List Op) (p : ℕ) (d : Op → Done) (o : Option Op) → ((x : Op) → (d x).world.gone ≡ w.gone) →
@@ -326,20 +299,20 @@ module _ (s : Machine) (y : Reached s) (rest : IsAtRest s) (r p : ℕ) (b : By) 
       (walks p r (own_of s.world r) new idle-there a.others a.machine [] a.here.reached
       (going _ [] a.here.todo refl refl ([], a.here.so_far.own_is ∙ sym (append-nil (own_of s.world r)))) a.onward a.made)
 
-  one-poll : BeginsWith (own_of s.world r) (taken_up p (Begin p (call.PollRun r b) ∷ steps) s ++ own_of new.world r)
+  one-poll : BeginsWith (own_of s.world r) (taken_up p (Begin p (Call.PollRun r b) ∷ steps) s ++ own_of new.world r)
   one-poll =
       begins-is (own_of s.world r) (taken_up p steps (first-machine s y rest r p b steps new k) ++ own_of new.world r)
-      (taken_up p (Begin p (call.PollRun r b) ∷ steps) s ++ own_of new.world r)
+      (taken_up p (Begin p (Call.PollRun r b) ∷ steps) s ++ own_of new.world r)
       (ap (λ (v : Machine). taken_up p steps v ++ own_of new.world r)
-      (sym (next-is s (Begin p (call.PollRun r b)) (run-first (Begin p (call.PollRun r b)) steps s new k.call.made).0
+      (sym (next-is s (Begin p (Call.PollRun r b)) (run-first (Begin p (Call.PollRun r b)) steps s new k.call.made).0
       ∙ first-is s y rest r p b steps new k))) from-beginning
 
   -- no call is in progress behind it
   rests-then : IsAtRest new
-  rests-then = at-rest s y rest p (call.PollRun r b) steps new k.call
-      (gone-along p steps (after s (Begin p (call.PollRun r b))) new k.call.alone
-      (run-first (Begin p (call.PollRun r b)) steps s new k.call.made).1
-      ∙ (gone-onto p (begun p (log s.world (event.CallBegun p (call.PollRun r b))) (mine (top (stack s p))) (call.PollRun r b)) (stack s p)
+  rests-then = at-rest s y rest p (Call.PollRun r b) steps new k.call
+      (gone-along p steps (after s (Begin p (Call.PollRun r b))) new k.call.alone
+      (run-first (Begin p (Call.PollRun r b)) steps s new k.call.made).1
+      ∙ (gone-onto p (begun p (log s.world (Event.CallBegun p (Call.PollRun r b))) (mine (top (stack s p))) (Call.PollRun r b)) (stack s p)
       ∙ here s (good-here s y) (heard-here s y) (deep-here s y) (bonded-here s y) rest))
 
 -- lists of such polls

@@ -4,43 +4,17 @@ use Rattle.std.proofs.Common.{◌≡◌, ◌∙◌, inl, inr, ⊎_elim, ℕ, ◌
 use Rattle.std.proofs.Common.{Bool, true, false, ◌||◌, refl, sym, ap, subst, arith, Ok}
 use Rattle.std.proofs.lemmas.List.Folds.{list_any-append}
 use Rattle.std.specs.Prelude.{Option, Some}
-use Rattle.executor_model.specs.declared.event.Answer.TheVariants as answer
-use Rattle.executor_model.specs.declared.op.ListOp.TheVariants as list_op
-use Rattle.executor_model.specs.declared.op.Op.{Op}
-use Rattle.executor_model.specs.declared.op.Op.TheVariants as op
-use Rattle.executor_model.specs.declared.op.RunPoll.{RunPoll}
-use Rattle.executor_model.specs.declared.op.Section.TheVariants as section
-use Rattle.executor_model.specs.declared.op.TickOp.TheVariants as tick_op
-use Rattle.executor_model.specs.declared.op.UserOp.TheVariants as user_op
-use Rattle.executor_model.specs.declared.step.Step.{Step}
-use Rattle.executor_model.specs.declared.step.UserEnd.{UserEnd}
-use Rattle.executor_model.specs.declared.step.UserEnd.TheVariants as end
-use Rattle.executor_model.specs.ActsOfRuns.{asleep, registered}
-use Rattle.executor_model.specs.Doing.{act}
-use Rattle.executor_model.specs.Due.{IsDue}
-use Rattle.executor_model.specs.Executions.{run_all}
-use Rattle.executor_model.specs.Sound.{times}
-use Rattle.executor_model.specs.Steps.{Machine, Part, onto, part, react, stack}
-use Rattle.executor_model.specs.Steps.{with_part}
-use Rattle.executor_model.specs.Trace.{Trace, has, is_accepted, is_drop_begun, is_dropped}
-use Rattle.executor_model.specs.World.{Ended, Listed, New, Stage, World, among, own_of, run_of}
-use Rattle.executor_model.proofs.Table.Entering.{table-agrees}
-use Rattle.executor_model.proofs.OneFuture.Stories.{among_is}
-use Rattle.executor_model.proofs.OneFuture.Telling.{begun-has}
-use Rattle.executor_model.proofs.Steps.Reached.{Reached, good-here}
-use Rattle.executor_laws.specs.LoneEnds.{are_onward_of}
-use Rattle.executor_laws.specs.KeptFirst.{taken_up}
-use Rattle.executor_laws.specs.Reach.{takes}
-use Rattle.executor_laws.specs.RunFew.{polls_in}
-use Rattle.executor_laws.specs.RunReach.{first_answer}
-use Rattle.executor_laws.proofs.Reach.LoneMoves.{is_turn}
-use Rattle.executor_laws.proofs.Reach.LoneSteps.{HasEntry}
-use Rattle.executor_laws.proofs.Reach.LoneTicks.{stack-set}
-use Rattle.executor_laws.proofs.Reach.Reached.{heard-here}
-use Rattle.executor_laws.proofs.RunReach.TakenUp.{answers-up, goes-up}
-use Rattle.executor_laws.proofs.RunReach.RunWalks.{Onward, onward}
-use Rattle.executor_laws.proofs.RunReach.RunWalks.Onward.{acted, answered}
-use Rattle.executor_laws.proofs.Reach.Searching.{takes-none}
+use Rattle.executor_laws.proofs.Types.{Answer, ListOp, Op, RunPoll, Section, TickOp, UserOp, Step, UserEnd}
+use Rattle.executor_model.specs.{ActsOfRuns.asleep, ActsOfRuns.registered, Doing.act, Due.IsDue, Executions.run_all, Sound.times}
+use Rattle.executor_model.specs.{Steps.Machine, Steps.Part, Steps.onto, Steps.part, Steps.react, Steps.stack, Steps.with_part, Trace.Trace}
+use Rattle.executor_model.specs.{Trace.has, Trace.is_accepted, Trace.is_drop_begun, Trace.is_dropped, World.Ended, World.Listed, World.New}
+use Rattle.executor_model.specs.{World.Stage, World.World, World.among, World.own_of, World.run_of}
+use Rattle.executor_model.proofs.{Table.Entering.table-agrees, OneFuture.Stories.among_is, OneFuture.Telling.begun-has}
+use Rattle.executor_model.proofs.{Steps.Reached.Reached, Steps.Reached.good-here}
+use Rattle.executor_laws.specs.{LoneEnds.are_onward_of, KeptFirst.taken_up, Reach.takes, RunFew.polls_in, RunReach.first_answer}
+use Rattle.executor_laws.proofs.{Reach.LoneMoves.is_turn, Reach.LoneSteps.HasEntry, Reach.LoneTicks.stack-set, Reach.Reached.heard-here}
+use Rattle.executor_laws.proofs.{RunReach.TakenUp.answers-up, RunReach.TakenUp.goes-up, RunReach.RunWalks.Onward, RunReach.RunWalks.onward}
+use Rattle.executor_laws.proofs.{RunReach.RunWalks.Onward.acted, RunReach.RunWalks.Onward.answered, Reach.Searching.takes-none}
 
 -- where f is due, it has its entry until it is taken
 
@@ -123,7 +97,7 @@ module _ (p : ℕ) (before : Trace) (x : RunPoll) (own : List ℕ) (base : World
     pub machine : Machine
     pub others : List Step
     pub taken : taken_up p ts s ≡ taken_up p others machine
-    pub here : At (op.Tick (tick_op.Search (asleep x)) ∷ []) machine
+    pub here : At (Op.Tick (TickOp.Search (asleep x)) ∷ []) machine
     pub onward : are_onward_of p others ≡ true
     pub made : run_all others machine ≡ Ok new
 
@@ -138,46 +112,46 @@ module _ (p : ℕ) (before : Trace) (x : RunPoll) (own : List ℕ) (base : World
   }
 
   -- the run's own future isn't ready
-  pub at-own : (s : Machine) → At (op.User (user_op.PollOwn x) ∷ []) s → (ts : List Step) →
-      first_answer ts ≡ Some (end.Polled answer.Pending) → are_onward_of p ts ≡ true → run_all ts s ≡ Ok new →
+  pub at-own : (s : Machine) → At (Op.User (UserOp.PollOwn x) ∷ []) s → (ts : List Step) →
+      first_answer ts ≡ Some (UserEnd.Polled Answer.Pending) → are_onward_of p ts ≡ true → run_all ts s ≡ Ok new →
       Arrived ts s
   at-own s a ts c on n =
-      go (onward p s new [] (op.User (user_op.PollOwn x)) ts a.todo a.reached idles on n)
+      go (onward p s new [] (Op.User (UserOp.PollOwn x)) ts a.todo a.reached idles on n)
     where
-      go : Onward p s new [] (op.User (user_op.PollOwn x)) ts → Arrived ts s
+      go : Onward p s new [] (Op.User (UserOp.PollOwn x)) ts → Arrived ts s
       go (acted h others te z y n2 on2 l) = absurd (cc)
       go (answered u others te z y n2 on2 l) =
-          let q : ◌≡◌ {A = Option UserEnd} (Some u) (Some (end.Polled answer.Pending)) = sym (ap first_answer te) ∙ c in
-          let v : u ≡ end.Polled answer.Pending = cc in
+          let q : ◌≡◌ {A = Option UserEnd} (Some u) (Some (UserEnd.Polled Answer.Pending)) = sym (ap first_answer te) ∙ c in
+          let v : u ≡ UserEnd.Polled Answer.Pending = cc in
           record {
-            machine = with_part s p (part s.world (op.Tick (tick_op.Search (asleep x)) ∷ []));
+            machine = with_part s p (part s.world (Op.Tick (TickOp.Search (asleep x)) ∷ []));
             others = others;
-            taken = answers-up p s new [] (op.User (user_op.PollOwn x)) ts a.todo n u others te
-                ∙ ap (λ (w : UserEnd). taken_up p others (with_part s p (onto p (react p (op.User (user_op.PollOwn x)) w s.world) []))) v;
+            taken = answers-up p s new [] (Op.User (UserOp.PollOwn x)) ts a.todo n u others te
+                ∙ ap (λ (w : UserEnd). taken_up p others (with_part s p (onto p (react p (Op.User (UserOp.PollOwn x)) w s.world) []))) v;
             here = record {
               reached = subst (λ (w : UserEnd).
-                  Reached (with_part s p (onto p (react p (op.User (user_op.PollOwn x)) w s.world) []))) v y;
+                  Reached (with_part s p (onto p (react p (Op.User (UserOp.PollOwn x)) w s.world) []))) v y;
               so_far = a.so_far;
-              todo = stack-set p s (part s.world (op.Tick (tick_op.Search (asleep x)) ∷ [])) l;
+              todo = stack-set p s (part s.world (Op.Tick (TickOp.Search (asleep x)) ∷ [])) l;
             };
             onward = on2;
             made = sym (ap (λ (w : UserEnd).
-                run_all others (with_part s p (onto p (react p (op.User (user_op.PollOwn x)) w s.world) []))) v) ∙ n2;
+                run_all others (with_part s p (onto p (react p (Op.User (UserOp.PollOwn x)) w s.world) []))) v) ∙ n2;
           }
 
-  at-unlock : (s : Machine) → At (op.User (user_op.PollOwn x) ∷ op.List list_op.UnlockWrite ∷ []) s → (ts : List Step) →
-      first_answer ts ≡ Some (end.Polled answer.Pending) → are_onward_of p ts ≡ true → run_all ts s ≡ Ok new →
+  at-unlock : (s : Machine) → At (Op.User (UserOp.PollOwn x) ∷ Op.List ListOp.UnlockWrite ∷ []) s → (ts : List Step) →
+      first_answer ts ≡ Some (UserEnd.Polled Answer.Pending) → are_onward_of p ts ≡ true → run_all ts s ≡ Ok new →
       Arrived ts s
   at-unlock s a ts c on n =
-      go (onward p s new (op.User (user_op.PollOwn x) ∷ []) (op.List list_op.UnlockWrite) ts a.todo a.reached idles on n)
+      go (onward p s new (Op.User (UserOp.PollOwn x) ∷ []) (Op.List ListOp.UnlockWrite) ts a.todo a.reached idles on n)
     where
-      go : Onward p s new (op.User (user_op.PollOwn x) ∷ []) (op.List list_op.UnlockWrite) ts →
+      go : Onward p s new (Op.User (UserOp.PollOwn x) ∷ []) (Op.List ListOp.UnlockWrite) ts →
           Arrived ts s
       go (answered u others te z y n2 on2 l) = absurd (cc)
       go (acted h others te z y n2 on2 l) =
-          let d : Part = onto p (act p h (op.List list_op.UnlockWrite) s.world) (op.User (user_op.PollOwn x) ∷ []) in
+          let d : Part = onto p (act p h (Op.List ListOp.UnlockWrite) s.world) (Op.User (UserOp.PollOwn x) ∷ []) in
           earlier ts others s (with_part s p d)
-          (goes-up p s new (op.User (user_op.PollOwn x) ∷ []) (op.List list_op.UnlockWrite) ts a.todo n h others te)
+          (goes-up p s new (Op.User (UserOp.PollOwn x) ∷ []) (Op.List ListOp.UnlockWrite) ts a.todo n h others te)
           (at-own (with_part s p d) (record {
             reached = y;
             so_far = record {
@@ -193,18 +167,18 @@ module _ (p : ℕ) (before : Trace) (x : RunPoll) (own : List ℕ) (base : World
             todo = stack-set p s d l;
           }) others (sym (ap first_answer te) ∙ c) on2 n2)
 
-  at-write : (s : Machine) → At (op.List (list_op.Write (section.Register x)) ∷ []) s → (ts : List Step) →
-      first_answer ts ≡ Some (end.Polled answer.Pending) → are_onward_of p ts ≡ true → run_all ts s ≡ Ok new →
+  at-write : (s : Machine) → At (Op.List (ListOp.Write (Section.Register x)) ∷ []) s → (ts : List Step) →
+      first_answer ts ≡ Some (UserEnd.Polled Answer.Pending) → are_onward_of p ts ≡ true → run_all ts s ≡ Ok new →
       Arrived ts s
   at-write s a ts c on n =
-      go (onward p s new [] (op.List (list_op.Write (section.Register x))) ts a.todo a.reached idles on n)
+      go (onward p s new [] (Op.List (ListOp.Write (Section.Register x))) ts a.todo a.reached idles on n)
     where
-      go : Onward p s new [] (op.List (list_op.Write (section.Register x))) ts → Arrived ts s
+      go : Onward p s new [] (Op.List (ListOp.Write (Section.Register x))) ts → Arrived ts s
       go (answered u others te z y n2 on2 l) = absurd (cc)
       go (acted h others te z y n2 on2 l) =
-          let d : Part = onto p (act p h (op.List (list_op.Write (section.Register x))) s.world) [] in
+          let d : Part = onto p (act p h (Op.List (ListOp.Write (Section.Register x))) s.world) [] in
           let st : Stage = (run_of s.world x.run).stage in
-          earlier ts others s (with_part s p d) (goes-up p s new [] (op.List (list_op.Write (section.Register x))) ts a.todo n h others te)
+          earlier ts others s (with_part s p d) (goes-up p s new [] (Op.List (ListOp.Write (Section.Register x))) ts a.todo n h others te)
           (at-unlock (with_part s p d) (record {
             reached = y;
             so_far = record {
@@ -221,18 +195,18 @@ module _ (p : ℕ) (before : Trace) (x : RunPoll) (own : List ℕ) (base : World
             todo = stack-set p s d l;
           }) others (sym (ap first_answer te) ∙ c) on2 n2)
 
-  pub at-lock : (s : Machine) → At (op.List (list_op.LockWrite (section.Register x)) ∷ []) s → (ts : List Step) →
-      first_answer ts ≡ Some (end.Polled answer.Pending) → are_onward_of p ts ≡ true → run_all ts s ≡ Ok new →
+  pub at-lock : (s : Machine) → At (Op.List (ListOp.LockWrite (Section.Register x)) ∷ []) s → (ts : List Step) →
+      first_answer ts ≡ Some (UserEnd.Polled Answer.Pending) → are_onward_of p ts ≡ true → run_all ts s ≡ Ok new →
       Arrived ts s
   at-lock s a ts c on n =
-      go (onward p s new [] (op.List (list_op.LockWrite (section.Register x))) ts a.todo a.reached idles on n)
+      go (onward p s new [] (Op.List (ListOp.LockWrite (Section.Register x))) ts a.todo a.reached idles on n)
     where
-      go : Onward p s new [] (op.List (list_op.LockWrite (section.Register x))) ts → Arrived ts s
+      go : Onward p s new [] (Op.List (ListOp.LockWrite (Section.Register x))) ts → Arrived ts s
       go (answered u others te z y n2 on2 l) = absurd (cc)
       go (acted h others te z y n2 on2 l) =
-          let d : Part = onto p (act p h (op.List (list_op.LockWrite (section.Register x))) s.world) [] in
+          let d : Part = onto p (act p h (Op.List (ListOp.LockWrite (Section.Register x))) s.world) [] in
           earlier ts others s (with_part s p d)
-          (goes-up p s new [] (op.List (list_op.LockWrite (section.Register x))) ts a.todo n h others te)
+          (goes-up p s new [] (Op.List (ListOp.LockWrite (Section.Register x))) ts a.todo n h others te)
           (at-write (with_part s p d) (record {
             reached = y;
             so_far = record {

@@ -4,43 +4,18 @@ use Rattle.std.proofs.Common.{◌≡◌, ◌⊎◌, ◌∙◌, inl, inr, ⊎_eli
 use Rattle.std.proofs.Common.{get_or, Bool, true, false, ◌||◌, ltb, refl, sym, ap, subst, arith, Ok}
 use Rattle.std.proofs.lemmas.Bool.Decides.{nat_tests}
 use Rattle.std.specs.Prelude.{reverse}
-use Rattle.executor_model.specs.declared.call.Call.TheVariants as call
-use Rattle.executor_model.specs.declared.call.Reply.{Reply}
-use Rattle.executor_model.specs.declared.call.Reply.TheVariants as reply
-use Rattle.executor_model.specs.declared.event.Event.TheVariants as event
-use Rattle.executor_model.specs.declared.kind.Kind.{Kind}
-use Rattle.executor_model.specs.declared.op.Hold.{Hold}
-use Rattle.executor_model.specs.declared.op.ListOp.TheVariants as list_op
-use Rattle.executor_model.specs.declared.op.Op.{Op}
-use Rattle.executor_model.specs.declared.op.Op.TheVariants as op
-use Rattle.executor_model.specs.declared.op.QueueOp.TheVariants as queue_op
-use Rattle.executor_model.specs.declared.op.RunOp.TheVariants as run_op
-use Rattle.executor_model.specs.declared.op.Section.TheVariants as section
-use Rattle.executor_model.specs.declared.op.TickOrRun.{TickOrRun}
-use Rattle.executor_model.specs.declared.op.TickOp.TheVariants as tick_op
-use Rattle.executor_model.specs.declared.op.UserOp.TheVariants as user_op
-use Rattle.executor_model.specs.declared.step.Step.{Step}
-use Rattle.executor_model.specs.declared.step.Step.TheVariants.{Begin}
-use Rattle.executor_model.specs.ActsOfRuns.{reschedule_by}
-use Rattle.executor_model.specs.Doing.{act}
-use Rattle.executor_model.specs.Emptiness.{IsAtRest}
-use Rattle.executor_model.specs.Keeper.{IsCommon}
-use Rattle.executor_model.specs.Executions.{run_all}
-use Rattle.executor_model.specs.Sound.{times}
-use Rattle.executor_model.specs.Steps.{Machine, Part, drop_run, onto, part_after, react, run}
-use Rattle.executor_model.specs.Steps.{stack, start, with_part}
-use Rattle.executor_model.specs.Weights.{weigh, weigh_all}
-use Rattle.executor_model.specs.World.{Ended, Listed, New, Stage, World, done, log, own_of}
-use Rattle.executor_model.specs.World.{mark_of, place_of, put_run, queue_of, queued_in, run_of}
-use Rattle.executor_model.proofs.Steps.QueuesByMark.{any-shut}
-use Rattle.executor_model.proofs.Table.LeavingExecutions.{has-place}
-use Rattle.executor_model.proofs.Steps.Lists.{weigh-reverse}
-use Rattle.executor_model.proofs.Quiet.Resting.{all-rest, rests}
-use Rattle.executor_model.proofs.OwnQueues.Using.{emptying_of}
-use Rattle.executor_model.proofs.OwnQueues.UsingWorlds.{idle-act, is_over_stage}
-use Rattle.executor_model.proofs.Steps.Reached.{Reached, deep-here, good-here, reached-more, reached-step, run-first}
-use Rattle.executor_laws.specs.LoneEnds.{IsLoneCall, are_onward_of, is_onward_of}
-use Rattle.executor_laws.specs.RunReach.{Keeps, LeavesCommon}
+use Rattle.executor_laws.proofs.Types.{Call, Reply, Event, Kind, Hold, ListOp, Op, QueueOp, RunOp, Section, TickOrRun, TickOp, UserOp, Step}
+use Rattle.executor_laws.proofs.Types.{Begin}
+use Rattle.executor_model.specs.{ActsOfRuns.reschedule_by, Doing.act, Emptiness.IsAtRest, Keeper.IsCommon, Executions.run_all, Sound.times}
+use Rattle.executor_model.specs.{Steps.Machine, Steps.Part, Steps.drop_run, Steps.onto, Steps.part_after, Steps.react, Steps.run}
+use Rattle.executor_model.specs.{Steps.stack, Steps.start, Steps.with_part, Weights.weigh, Weights.weigh_all, World.Ended, World.Listed}
+use Rattle.executor_model.specs.{World.New, World.Stage, World.World, World.done, World.log, World.own_of, World.mark_of, World.place_of}
+use Rattle.executor_model.specs.{World.put_run, World.queue_of, World.queued_in, World.run_of}
+use Rattle.executor_model.proofs.{Steps.QueuesByMark.any-shut, Table.LeavingExecutions.has-place, Steps.Lists.weigh-reverse}
+use Rattle.executor_model.proofs.{Quiet.Resting.all-rest, Quiet.Resting.rests, OwnQueues.Using.emptying_of, OwnQueues.UsingWorlds.idle-act}
+use Rattle.executor_model.proofs.{OwnQueues.UsingWorlds.is_over_stage, Steps.Reached.Reached, Steps.Reached.deep-here}
+use Rattle.executor_model.proofs.{Steps.Reached.good-here, Steps.Reached.reached-more, Steps.Reached.reached-step, Steps.Reached.run-first}
+use Rattle.executor_laws.specs.{LoneEnds.IsLoneCall, LoneEnds.are_onward_of, LoneEnds.is_onward_of, RunReach.Keeps, RunReach.LeavesCommon}
 use Rattle.executor_laws.proofs.Reach.LoneMoves.{Inner, inner-act, inner-react, stray_of}
 use Rattle.executor_laws.proofs.Reach.LoneSteps.{Last, from-end}
 use Rattle.executor_laws.proofs.Reach.Reached.{bonded-here, heard-here}
@@ -49,9 +24,8 @@ use Rattle.executor_laws.proofs.Placement.Placing.{here, idle, keeper-own, queue
 use Rattle.executor_laws.proofs.RunReach.RunWalks.{Onward, both-light, light, onward}
 use Rattle.executor_laws.proofs.RunReach.RunWalks.Onward.{acted, answered}
 use Rattle.executor_laws.proofs.Reach.Searching.{at-rest}
-use Rattle.executor_laws.proofs.RunReach.RunLeaves.{own-act, own-react, more-stands, Remains, Rests, to-end, from-queue}
-use Rattle.executor_laws.proofs.RunReach.RunLeaves.{from-leaving, from-append, has-room, not-true, gone-onto, gone-reschedule}
-use Rattle.executor_laws.proofs.RunReach.RunLeaves.{back-again}
+use Rattle.executor_laws.proofs.RunReach.RunLeaves.{own-act, own-react, more-stands, Remains, Rests, to-end, from-queue, from-leaving}
+use Rattle.executor_laws.proofs.RunReach.RunLeaves.{from-append, has-room, not-true, gone-onto, gone-reschedule, back-again}
 use Rattle.executor_laws.proofs.RunReach.RunLeaves.Remains.{back, puts, leaves, ends, over}
 
 -- f stands in the executor's queue, which is there
@@ -74,33 +48,33 @@ module _ (p r f : ℕ) (new : Machine) (idles : stack new p ≡ []) where
         (ap (are_onward_of p) q ∙ on2) (ap (λ (xs : List Step). run_all xs (with_part s p v)) q ∙ n2)
 
     by-back : (a : Reply) (rest : List ℕ) (below : List Op) (o : Op) →
-        stack s p ≡ (op.Run (run_op.Reschedule r a) ∷ below) ++ o ∷ [] → weigh stray_of below ≡ 0 → stray_of o ≡ 0 →
+        stack s p ≡ (Op.Run (RunOp.Reschedule r a) ∷ below) ++ o ∷ [] → weigh stray_of below ≡ 0 → stray_of o ≡ 0 →
         own_of s.world r ≡ rest → 1 ≤ times f (queued_in s.world) + times f rest → Stands f new
     by-back a rest below o e z x w k =
-        go (onward p s new (op.Run (run_op.Reschedule r a) ∷ below) o (t ∷ ts) e y idles on n)
+        go (onward p s new (Op.Run (RunOp.Reschedule r a) ∷ below) o (t ∷ ts) e y idles on n)
       where
-        go : Onward p s new (op.Run (run_op.Reschedule r a) ∷ below) o (t ∷ ts) → Stands f new
+        go : Onward p s new (Op.Run (RunOp.Reschedule r a) ∷ below) o (t ∷ ts) → Stands f new
         go (acted h others te wt y2 n2 on2 l) =
             let i : Inner s.world (act p h o s.world) = inner-act p h o s.world wt x in
-            again others _ (onto p (act p h o s.world) (op.Run (run_op.Reschedule r a) ∷ below)) te
-            (gone-onto p (act p h o s.world) (op.Run (run_op.Reschedule r a) ∷ below) ∙ (i.there ∙ there))
+            again others _ (onto p (act p h o s.world) (Op.Run (RunOp.Reschedule r a) ∷ below)) te
+            (gone-onto p (act p h o s.world) (Op.Run (RunOp.Reschedule r a) ∷ below) ∙ (i.there ∙ there))
             (back-again p r f a (act p h o s.world) below rest z i.plain
             (ap (λ (qs : List (List ℕ)). get_or qs r []) (own-act p h o s.world x) ∙ w)
             (omega (arith, k, more-stands f s.world (act p h o s.world) i))) y2 n2 on2 l
         go (answered u others te b y2 n2 on2 l) =
             let i : Inner s.world (react p o u s.world) = inner-react p o u s.world b x in
-            again others _ (onto p (react p o u s.world) (op.Run (run_op.Reschedule r a) ∷ below)) te
-            (gone-onto p (react p o u s.world) (op.Run (run_op.Reschedule r a) ∷ below) ∙ (i.there ∙ there))
+            again others _ (onto p (react p o u s.world) (Op.Run (RunOp.Reschedule r a) ∷ below)) te
+            (gone-onto p (react p o u s.world) (Op.Run (RunOp.Reschedule r a) ∷ below) ∙ (i.there ∙ there))
             (back-again p r f a (react p o u s.world) below rest z i.plain
             (ap (λ (qs : List (List ℕ)). get_or qs r []) (own-react p o u s.world) ∙ w)
             (omega (arith, k, more-stands f s.world (react p o u s.world) i))) y2 n2 on2 l
 
-    by-reschedule : (a : Reply) (rest : List ℕ) → stack s p ≡ [] ++ op.Run (run_op.Reschedule r a) ∷ [] →
+    by-reschedule : (a : Reply) (rest : List ℕ) → stack s p ≡ [] ++ Op.Run (RunOp.Reschedule r a) ∷ [] →
         own_of s.world r ≡ rest → 1 ≤ times f (queued_in s.world) + times f rest → Stands f new
     by-reschedule a rest e w k =
-        go (onward p s new [] (op.Run (run_op.Reschedule r a)) (t ∷ ts) e y idles on n)
+        go (onward p s new [] (Op.Run (RunOp.Reschedule r a)) (t ∷ ts) e y idles on n)
       where
-        go : Onward p s new [] (op.Run (run_op.Reschedule r a)) (t ∷ ts) → Stands f new
+        go : Onward p s new [] (Op.Run (RunOp.Reschedule r a)) (t ∷ ts) → Stands f new
         go (answered u others te b y2 n2 on2 l) = absurd (cc)
         go (acted h others te wt y2 n2 on2 l) =
             again others _ (onto p (reschedule_by (own_of s.world r) s.world r a) []) te
@@ -109,66 +83,66 @@ module _ (p r f : ℕ) (new : Machine) (idles : stack new p ≡ []) where
             (from-queue p r f a s.world (own_of s.world r) rest w w k) y2 n2 on2 l
 
     by-puts : (a : Reply) (g : ℕ) (rest : List ℕ) →
-        stack s p ≡ (op.Run (run_op.Reschedule r a) ∷ []) ++ op.Queue (queue_op.Append g) ∷ [] →
+        stack s p ≡ (Op.Run (RunOp.Reschedule r a) ∷ []) ++ Op.Queue (QueueOp.Append g) ∷ [] →
         own_of s.world r ≡ rest → 1 ≤ times f (queued_in s.world) + times f (g ∷ rest) → Stands f new
     by-puts a g rest e w k =
-        go (onward p s new (op.Run (run_op.Reschedule r a) ∷ []) (op.Queue (queue_op.Append g)) (t ∷ ts) e y idles on n)
+        go (onward p s new (Op.Run (RunOp.Reschedule r a) ∷ []) (Op.Queue (QueueOp.Append g)) (t ∷ ts) e y idles on n)
       where
         open_queue : (queue_of s.world (mark_of s.world g)).closed ≡ false
         open_queue = not-true (queue_of s.world (mark_of s.world g)).closed
             (λ z. let no : true ≡ false =
             sym (((heard-here s y).placed.leaves 0).shut (any-shut (mark_of s.world g) s.world.queues z)).0 ∙ there in cc)
 
-        go : Onward p s new (op.Run (run_op.Reschedule r a) ∷ []) (op.Queue (queue_op.Append g)) (t ∷ ts) →
+        go : Onward p s new (Op.Run (RunOp.Reschedule r a) ∷ []) (Op.Queue (QueueOp.Append g)) (t ∷ ts) →
             Stands f new
         go (answered u others te b y2 n2 on2 l) = absurd (cc)
         go (acted h others te wt y2 n2 on2 l) =
-            let i : Inner s.world (act p h (op.Queue (queue_op.Append g)) s.world) =
-            inner-act p h (op.Queue (queue_op.Append g)) s.world refl refl in
+            let i : Inner s.world (act p h (Op.Queue (QueueOp.Append g)) s.world) =
+            inner-act p h (Op.Queue (QueueOp.Append g)) s.world refl refl in
             again others _
-            (onto p (act p h (op.Queue (queue_op.Append g)) s.world) (op.Run (run_op.Reschedule r a) ∷ [])) te
-            (gone-onto p (act p h (op.Queue (queue_op.Append g)) s.world) (op.Run (run_op.Reschedule r a) ∷ [])
+            (onto p (act p h (Op.Queue (QueueOp.Append g)) s.world) (Op.Run (RunOp.Reschedule r a) ∷ [])) te
+            (gone-onto p (act p h (Op.Queue (QueueOp.Append g)) s.world) (Op.Run (RunOp.Reschedule r a) ∷ [])
             ∙ (i.there ∙ there))
             (from-append p r f g a _ s.world (mark_of s.world g) rest
             (has-room (queue_of s.world (mark_of s.world g)).closed
             (length (queue_of s.world (mark_of s.world g)).items) s.world.limit open_queue
-            (has-place s p g (op.Run (run_op.Reschedule r a) ∷ []) l e (good-here s y) (heard-here s y).placed
+            (has-place s p g (Op.Run (RunOp.Reschedule r a) ∷ []) l e (good-here s y) (heard-here s y).placed
             (mark_of s.world g))) w k)
             y2 n2 on2 l
 
     by-leaves : (a : Reply) (held : Hold) (who : TickOrRun) →
-        stack s p ≡ (op.End a held ∷ []) ++ op.Tick (tick_op.Leave who) ∷ [] → 1 ≤ times f (queued_in s.world) →
+        stack s p ≡ (Op.End a held ∷ []) ++ Op.Tick (TickOp.Leave who) ∷ [] → 1 ≤ times f (queued_in s.world) →
         Stands f new
     by-leaves a held who e k =
-        go (onward p s new (op.End a held ∷ []) (op.Tick (tick_op.Leave who)) (t ∷ ts) e y idles on n)
+        go (onward p s new (Op.End a held ∷ []) (Op.Tick (TickOp.Leave who)) (t ∷ ts) e y idles on n)
       where
-        go : Onward p s new (op.End a held ∷ []) (op.Tick (tick_op.Leave who)) (t ∷ ts) → Stands f new
+        go : Onward p s new (Op.End a held ∷ []) (Op.Tick (TickOp.Leave who)) (t ∷ ts) → Stands f new
         go (answered u others te b y2 n2 on2 l) = absurd (cc)
         go (acted h others te wt y2 n2 on2 l) =
-            again others _ (onto p (act p h (op.Tick (tick_op.Leave who)) s.world) (op.End a held ∷ [])) te
-            (gone-onto p (act p h (op.Tick (tick_op.Leave who)) s.world) (op.End a held ∷ [])
-            ∙ ((idle-act p h (op.Tick (tick_op.Leave who)) s.world refl).gone ∙ there))
+            again others _ (onto p (act p h (Op.Tick (TickOp.Leave who)) s.world) (Op.End a held ∷ [])) te
+            (gone-onto p (act p h (Op.Tick (TickOp.Leave who)) s.world) (Op.End a held ∷ [])
+            ∙ ((idle-act p h (Op.Tick (TickOp.Leave who)) s.world refl).gone ∙ there))
             (from-leaving p r f a held (place_of s.world who) s.world who k) y2 n2 on2 l
 
     by-ends : (a : Reply) (held : Hold) (below : List Op) (o : Op) →
-        stack s p ≡ (op.End a held ∷ below) ++ o ∷ [] → weigh stray_of below ≡ 0 → stray_of o ≡ 0 →
+        stack s p ≡ (Op.End a held ∷ below) ++ o ∷ [] → weigh stray_of below ≡ 0 → stray_of o ≡ 0 →
         1 ≤ times f (queued_in s.world) → Stands f new
     by-ends a held below o e z x k =
-        go (onward p s new (op.End a held ∷ below) o (t ∷ ts) e y idles on n)
+        go (onward p s new (Op.End a held ∷ below) o (t ∷ ts) e y idles on n)
       where
-        go : Onward p s new (op.End a held ∷ below) o (t ∷ ts) → Stands f new
+        go : Onward p s new (Op.End a held ∷ below) o (t ∷ ts) → Stands f new
         go (acted h others te wt y2 n2 on2 l) =
             let i : Inner s.world (act p h o s.world) = inner-act p h o s.world wt x in
-            again others _ (onto p (act p h o s.world) (op.End a held ∷ below)) te
-            (gone-onto p (act p h o s.world) (op.End a held ∷ below) ∙ (i.there ∙ there))
+            again others _ (onto p (act p h o s.world) (Op.End a held ∷ below)) te
+            (gone-onto p (act p h o s.world) (Op.End a held ∷ below) ∙ (i.there ∙ there))
             (to-end p r f a held (act p h o s.world).world (below ++ reverse (act p h o s.world).next)
             (both-light below (reverse (act p h o s.world).next) z
             (weigh-reverse stray_of (act p h o s.world).next ∙ i.plain))
             (omega (arith, k, more-stands f s.world (act p h o s.world) i))) y2 n2 on2 l
         go (answered u others te b y2 n2 on2 l) =
             let i : Inner s.world (react p o u s.world) = inner-react p o u s.world b x in
-            again others _ (onto p (react p o u s.world) (op.End a held ∷ below)) te
-            (gone-onto p (react p o u s.world) (op.End a held ∷ below) ∙ (i.there ∙ there))
+            again others _ (onto p (react p o u s.world) (Op.End a held ∷ below)) te
+            (gone-onto p (react p o u s.world) (Op.End a held ∷ below) ∙ (i.there ∙ there))
             (to-end p r f a held (react p o u s.world).world (below ++ reverse (react p o u s.world).next)
             (both-light below (reverse (react p o u s.world).next) z
             (weigh-reverse stray_of (react p o u s.world).next ∙ i.plain))
@@ -181,14 +155,14 @@ module _ (p r f : ℕ) (new : Machine) (idles : stack new p ≡ []) where
         (of-party p s t first (run-first t ts s new n).0).2)
 
     side-back : (a : Reply) (rest : List ℕ) (side : List Op) →
-        stack s p ≡ op.Run (run_op.Reschedule r a) ∷ side → weigh stray_of side ≡ 0 → own_of s.world r ≡ rest →
+        stack s p ≡ Op.Run (RunOp.Reschedule r a) ∷ side → weigh stray_of side ≡ 0 → own_of s.world r ≡ rest →
         1 ≤ times f (queued_in s.world) + times f rest → Stands f new
     side-back a rest side e z w k = go (from-end side)
       where
         go : (side ≡ []) ⊎ Last side → Stands f new
-        go (inl x) = by-reschedule a rest (e ∙ ap (λ (os : List Op). op.Run (run_op.Reschedule r a) ∷ os) x) w k
+        go (inl x) = by-reschedule a rest (e ∙ ap (λ (os : List Op). Op.Run (RunOp.Reschedule r a) ∷ os) x) w k
         go (inr x) = let b : _ = light side x.below x.last x.is z in
-            by-back a rest x.below x.last (e ∙ ap (λ (os : List Op). op.Run (run_op.Reschedule r a) ∷ os) x.is)
+            by-back a rest x.below x.last (e ∙ ap (λ (os : List Op). Op.Run (RunOp.Reschedule r a) ∷ os) x.is)
             b.0 b.1 w k
 
     by-rest : Remains r f s.world (stack s p) → Stands f new
@@ -205,19 +179,19 @@ module _ (p r f : ℕ) (new : Machine) (idles : stack new p ≡ []) where
       let same : s ≡ new = cc in subst (Stands f) same (record { there = g; stands = k })
   walks [] s y g (back a rest side e z w k) on n =
       let same : s ≡ new = cc in
-      let no : op.Run (run_op.Reschedule r a) ∷ side ≡ [] =
+      let no : Op.Run (RunOp.Reschedule r a) ∷ side ≡ [] =
       sym e ∙ (ap (λ (m : Machine). stack m p) same ∙ idles) in absurd (cc)
   walks [] s y g (puts a h rest e w k) on n =
       let same : s ≡ new = cc in
-      let no : op.Run (run_op.Reschedule r a) ∷ op.Queue (queue_op.Append h) ∷ [] ≡ [] =
+      let no : Op.Run (RunOp.Reschedule r a) ∷ Op.Queue (QueueOp.Append h) ∷ [] ≡ [] =
       sym e ∙ (ap (λ (m : Machine). stack m p) same ∙ idles) in absurd (cc)
   walks [] s y g (leaves a held who e k) on n =
       let same : s ≡ new = cc in
-      let no : op.End a held ∷ op.Tick (tick_op.Leave who) ∷ [] ≡ [] =
+      let no : Op.End a held ∷ Op.Tick (TickOp.Leave who) ∷ [] ≡ [] =
       sym e ∙ (ap (λ (m : Machine). stack m p) same ∙ idles) in absurd (cc)
   walks [] s y g (ends a held below o e z k) on n =
       let same : s ≡ new = cc in
-      let no : op.End a held ∷ (below ++ o ∷ []) ≡ [] =
+      let no : Op.End a held ∷ (below ++ o ∷ []) ≡ [] =
       sym e ∙ (ap (λ (m : Machine). stack m p) same ∙ idles) in absurd (cc)
   walks (t ∷ ts) s y g k on n =
       by-rest t ts s y g on n (λ m y2 g2 k2 on2 n2. walks ts m y2 g2 k2 on2 n2) k
@@ -231,22 +205,22 @@ module _ (p r f : ℕ) (new : Machine) (idles : stack new p ≡ []) where
     pub there : s.world.gone ≡ false
     pub todo : stack s p ≡ os
 
-  at-reschedule : (a : Reply) (rest : List ℕ) (s : Machine) → At (op.Run (run_op.Reschedule r a) ∷ []) rest s →
+  at-reschedule : (a : Reply) (rest : List ℕ) (s : Machine) → At (Op.Run (RunOp.Reschedule r a) ∷ []) rest s →
       (ts : List Step) → are_onward_of p ts ≡ true → run_all ts s ≡ Ok new → Stands f new
   at-reschedule a rest s k ts on n =
       walks ts s k.reached k.there (back a rest [] k.todo refl k.own k.stands) on n
 
   at-unlock : (a : Reply) (rest : List ℕ) (s : Machine) →
-      At (op.Run (run_op.Reschedule r a) ∷ op.List list_op.UnlockWrite ∷ []) rest s → (ts : List Step) →
+      At (Op.Run (RunOp.Reschedule r a) ∷ Op.List ListOp.UnlockWrite ∷ []) rest s → (ts : List Step) →
       are_onward_of p ts ≡ true → run_all ts s ≡ Ok new → Stands f new
   at-unlock a rest s k ts on n =
-      go (onward p s new (op.Run (run_op.Reschedule r a) ∷ []) (op.List list_op.UnlockWrite) ts k.todo k.reached idles
+      go (onward p s new (Op.Run (RunOp.Reschedule r a) ∷ []) (Op.List ListOp.UnlockWrite) ts k.todo k.reached idles
       on n)
     where
-      go : Onward p s new (op.Run (run_op.Reschedule r a) ∷ []) (op.List list_op.UnlockWrite) ts → Stands f new
+      go : Onward p s new (Op.Run (RunOp.Reschedule r a) ∷ []) (Op.List ListOp.UnlockWrite) ts → Stands f new
       go (answered u others te z y n2 on2 l) = absurd (cc)
       go (acted h others te z y n2 on2 l) =
-          let d : Part = onto p (act p h (op.List list_op.UnlockWrite) s.world) (op.Run (run_op.Reschedule r a) ∷ []) in
+          let d : Part = onto p (act p h (Op.List ListOp.UnlockWrite) s.world) (Op.Run (RunOp.Reschedule r a) ∷ []) in
           at-reschedule a rest (with_part s p d) (record {
             reached = y;
             own = k.own;
@@ -256,15 +230,15 @@ module _ (p r f : ℕ) (new : Machine) (idles : stack new p ≡ []) where
           }) others on2 n2
 
   at-write : (a : Reply) (rest : List ℕ) (s : Machine) →
-      At (op.List (list_op.Write (section.Unregister r a)) ∷ []) rest s → (ts : List Step) →
+      At (Op.List (ListOp.Write (Section.Unregister r a)) ∷ []) rest s → (ts : List Step) →
       are_onward_of p ts ≡ true → run_all ts s ≡ Ok new → Stands f new
   at-write a rest s k ts on n =
-      go (onward p s new [] (op.List (list_op.Write (section.Unregister r a))) ts k.todo k.reached idles on n)
+      go (onward p s new [] (Op.List (ListOp.Write (Section.Unregister r a))) ts k.todo k.reached idles on n)
     where
-      go : Onward p s new [] (op.List (list_op.Write (section.Unregister r a))) ts → Stands f new
+      go : Onward p s new [] (Op.List (ListOp.Write (Section.Unregister r a))) ts → Stands f new
       go (answered u others te z y n2 on2 l) = absurd (cc)
       go (acted h others te z y n2 on2 l) =
-          let d : Part = onto p (act p h (op.List (list_op.Write (section.Unregister r a))) s.world) [] in
+          let d : Part = onto p (act p h (Op.List (ListOp.Write (Section.Unregister r a))) s.world) [] in
           at-unlock a rest (with_part s p d) (record {
             reached = y;
             own = k.own;
@@ -274,15 +248,15 @@ module _ (p r f : ℕ) (new : Machine) (idles : stack new p ≡ []) where
           }) others on2 n2
 
   at-lock : (a : Reply) (rest : List ℕ) (s : Machine) →
-      At (op.List (list_op.LockWrite (section.Unregister r a)) ∷ []) rest s → (ts : List Step) →
+      At (Op.List (ListOp.LockWrite (Section.Unregister r a)) ∷ []) rest s → (ts : List Step) →
       are_onward_of p ts ≡ true → run_all ts s ≡ Ok new → Stands f new
   at-lock a rest s k ts on n =
-      go (onward p s new [] (op.List (list_op.LockWrite (section.Unregister r a))) ts k.todo k.reached idles on n)
+      go (onward p s new [] (Op.List (ListOp.LockWrite (Section.Unregister r a))) ts k.todo k.reached idles on n)
     where
-      go : Onward p s new [] (op.List (list_op.LockWrite (section.Unregister r a))) ts → Stands f new
+      go : Onward p s new [] (Op.List (ListOp.LockWrite (Section.Unregister r a))) ts → Stands f new
       go (answered u others te z y n2 on2 l) = absurd (cc)
       go (acted h others te z y n2 on2 l) =
-          let d : Part = onto p (act p h (op.List (list_op.LockWrite (section.Unregister r a))) s.world) [] in
+          let d : Part = onto p (act p h (Op.List (ListOp.LockWrite (Section.Unregister r a))) s.world) [] in
           at-write a rest (with_part s p d) (record {
             reached = y;
             own = k.own;
@@ -292,20 +266,20 @@ module _ (p r f : ℕ) (new : Machine) (idles : stack new p ≡ []) where
           }) others on2 n2
 
   -- the run's own future is dropped
-  at-listed : (rest : List ℕ) (s : Machine) → At (op.List (list_op.LockWrite (section.Unregister r reply.Done))
-      ∷ op.User (user_op.DropOwn r) ∷ []) rest s → (ts : List Step) → are_onward_of p ts ≡ true →
+  at-listed : (rest : List ℕ) (s : Machine) → At (Op.List (ListOp.LockWrite (Section.Unregister r Reply.Done))
+      ∷ Op.User (UserOp.DropOwn r) ∷ []) rest s → (ts : List Step) → are_onward_of p ts ≡ true →
       run_all ts s ≡ Ok new → Stands f new
   at-listed rest s k ts on n =
-      go (onward p s new (op.List (list_op.LockWrite (section.Unregister r reply.Done)) ∷ [])
-      (op.User (user_op.DropOwn r)) ts k.todo k.reached idles on n)
+      go (onward p s new (Op.List (ListOp.LockWrite (Section.Unregister r Reply.Done)) ∷ [])
+      (Op.User (UserOp.DropOwn r)) ts k.todo k.reached idles on n)
     where
-      go : Onward p s new (op.List (list_op.LockWrite (section.Unregister r reply.Done)) ∷ [])
-          (op.User (user_op.DropOwn r)) ts → Stands f new
+      go : Onward p s new (Op.List (ListOp.LockWrite (Section.Unregister r Reply.Done)) ∷ [])
+          (Op.User (UserOp.DropOwn r)) ts → Stands f new
       go (acted h others te z y n2 on2 l) = absurd (cc)
       go (answered u others te z y n2 on2 l) =
-          let d : Part = onto p (react p (op.User (user_op.DropOwn r)) u s.world)
-          (op.List (list_op.LockWrite (section.Unregister r reply.Done)) ∷ []) in
-          at-lock reply.Done rest (with_part s p d) (record {
+          let d : Part = onto p (react p (Op.User (UserOp.DropOwn r)) u s.world)
+          (Op.List (ListOp.LockWrite (Section.Unregister r Reply.Done)) ∷ []) in
+          at-lock Reply.Done rest (with_part s p d) (record {
             reached = y;
             own = k.own;
             stands = k.stands;
@@ -313,19 +287,19 @@ module _ (p r f : ℕ) (new : Machine) (idles : stack new p ≡ []) where
             todo = stack-set p s d l;
           }) others on2 n2
 
-  at-new : (rest : List ℕ) (s : Machine) → At (op.Run (run_op.Reschedule r reply.Done)
-      ∷ op.User (user_op.DropOwn r) ∷ []) rest s → (ts : List Step) → are_onward_of p ts ≡ true →
+  at-new : (rest : List ℕ) (s : Machine) → At (Op.Run (RunOp.Reschedule r Reply.Done)
+      ∷ Op.User (UserOp.DropOwn r) ∷ []) rest s → (ts : List Step) → are_onward_of p ts ≡ true →
       run_all ts s ≡ Ok new → Stands f new
   at-new rest s k ts on n =
-      go (onward p s new (op.Run (run_op.Reschedule r reply.Done) ∷ []) (op.User (user_op.DropOwn r)) ts k.todo
+      go (onward p s new (Op.Run (RunOp.Reschedule r Reply.Done) ∷ []) (Op.User (UserOp.DropOwn r)) ts k.todo
       k.reached idles on n)
     where
-      go : Onward p s new (op.Run (run_op.Reschedule r reply.Done) ∷ []) (op.User (user_op.DropOwn r)) ts → Stands f new
+      go : Onward p s new (Op.Run (RunOp.Reschedule r Reply.Done) ∷ []) (Op.User (UserOp.DropOwn r)) ts → Stands f new
       go (acted h others te z y n2 on2 l) = absurd (cc)
       go (answered u others te z y n2 on2 l) =
-          let d : Part = onto p (react p (op.User (user_op.DropOwn r)) u s.world)
-          (op.Run (run_op.Reschedule r reply.Done) ∷ []) in
-          at-reschedule reply.Done rest (with_part s p d) (record {
+          let d : Part = onto p (react p (Op.User (UserOp.DropOwn r)) u s.world)
+          (Op.Run (RunOp.Reschedule r Reply.Done) ∷ []) in
+          at-reschedule Reply.Done rest (with_part s p d) (record {
             reached = y;
             own = k.own;
             stands = k.stands;
@@ -334,26 +308,26 @@ module _ (p r f : ℕ) (new : Machine) (idles : stack new p ≡ []) where
           }) others on2 n2
 
 module _ (s : Machine) (y : Reached s) (rest : IsAtRest s) (r p : ℕ) (steps : List Step) (new : Machine)
-    (k : IsLoneCall p (call.DropRun r) steps s new) (f : ℕ) (z : Keeps r f s.world.trace) where
+    (k : IsLoneCall p (Call.DropRun r) steps s new) (f : ℕ) (z : Keeps r f s.world.trace) where
   idles : (q : ℕ) → stack s q ≡ []
   idles q = idle s (good-here s y) (heard-here s y) (deep-here s y) (bonded-here s y) rest q
 
   reached-new : Reached new
-  reached-new = reached-more (Begin p (call.DropRun r) ∷ steps) s new y k.made
+  reached-new = reached-more (Begin p (Call.DropRun r) ∷ steps) s new y k.made
 
   new-idle : stack new p ≡ []
   new-idle = rests new (deep-here new reached-new) k.ended p
 
   in-parties : p < length s.parties
   in-parties = let b : ltb p (length s.parties) ≡ true =
-      (in-range _ _ (run-first (Begin p (call.DropRun r)) steps s new k.made).0).0 in
+      (in-range _ _ (run-first (Begin p (Call.DropRun r)) steps s new k.made).0).0 in
       grind (arith, nat_tests)
 
   abbrev told : World
-  told = log s.world (event.CallBegun p (call.DropRun r))
+  told = log s.world (Event.CallBegun p (Call.DropRun r))
 
   abbrev beginning : World
-  beginning = log (put_run told r (record (run_of told r) { dropped = true })) (event.RunDropped p r)
+  beginning = log (put_run told r (record (run_of told r) { dropped = true })) (Event.RunDropped p r)
 
   abbrev begun-as : Stage → Part
   begun-as st = onto p (done beginning (drop_run st r)) []
@@ -363,13 +337,13 @@ module _ (s : Machine) (y : Reached s) (rest : IsAtRest s) (r p : ℕ) (steps : 
 
   on-begun : run_all steps (from-stage (run_of s.world r).stage) ≡ Ok new
   on-begun = sym (ap (λ (os : List Op). run_all steps
-      (with_part s p (part_after s.world os (Begin p (call.DropRun r))))) (idles p))
-      ∙ (run-first (Begin p (call.DropRun r)) steps s new k.made).1
+      (with_part s p (part_after s.world os (Begin p (Call.DropRun r))))) (idles p))
+      ∙ (run-first (Begin p (Call.DropRun r)) steps s new k.made).1
 
   reached-begun : Reached (from-stage (run_of s.world r).stage)
-  reached-begun = subst (λ (os : List Op). Reached (with_part s p (part_after s.world os (Begin p (call.DropRun r)))))
+  reached-begun = subst (λ (os : List Op). Reached (with_part s p (part_after s.world os (Begin p (Call.DropRun r)))))
       (idles p)
-      (reached-step s (Begin p (call.DropRun r)) (run-first (Begin p (call.DropRun r)) steps s new k.made).0 y)
+      (reached-step s (Begin p (Call.DropRun r)) (run-first (Begin p (Call.DropRun r)) steps s new k.made).0 y)
 
   there : s.world.gone ≡ false
   there = here s (good-here s y) (heard-here s y) (deep-here s y) (bonded-here s y) rest
@@ -413,7 +387,7 @@ module _ (s : Machine) (y : Reached s) (rest : IsAtRest s) (r p : ℕ) (steps : 
   becomes-common =
       queue-common new (good-here new reached-new) (heard-here new reached-new) (deep-here new reached-new)
       (bonded-here new reached-new)
-      (at-rest s y rest p (call.DropRun r) steps new k stands.there) f stands.stands
+      (at-rest s y rest p (Call.DropRun r) steps new k stands.there) f stands.stands
 
 pub leaves-common : (limit : ℕ) (kind : Kind) (parties : ℕ) (steps : List Step) → LeavesCommon (run steps (start limit kind parties))
 leaves-common limit kind parties steps = λ rest r f z p ts new k.

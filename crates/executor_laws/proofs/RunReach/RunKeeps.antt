@@ -6,39 +6,17 @@ use Rattle.std.proofs.lemmas.List.{reverse-append}
 use Rattle.std.proofs.lemmas.List.Folds.{list_any-append}
 use Rattle.std.proofs.Math.Seq.{drop-append_seam}
 use Rattle.std.specs.Prelude.{Option, Some, None, reverse}
-use Rattle.executor_model.specs.declared.call.By.{By}
-use Rattle.executor_model.specs.declared.call.Call.TheVariants as call
-use Rattle.executor_model.specs.declared.call.Reply.{Reply}
-use Rattle.executor_model.specs.declared.event.Event.TheVariants as event
-use Rattle.executor_model.specs.declared.kind.Kind.{Kind}
-use Rattle.executor_model.specs.declared.op.ListOp.TheVariants as list_op
-use Rattle.executor_model.specs.declared.op.Op.{Op}
-use Rattle.executor_model.specs.declared.op.Op.TheVariants as op
-use Rattle.executor_model.specs.declared.op.RunPoll.{RunPoll}
-use Rattle.executor_model.specs.declared.op.TickOp.TheVariants as tick_op
-use Rattle.executor_model.specs.declared.step.Hint.{Hint}
-use Rattle.executor_model.specs.declared.step.Step.{Step}
-use Rattle.executor_model.specs.declared.step.Step.TheVariants.{Begin}
-use Rattle.executor_model.specs.declared.step.UserEnd.{UserEnd}
-use Rattle.executor_model.specs.ActsOfRuns.{asleep, behind, search_own_by}
-use Rattle.executor_model.specs.Doing.{act}
-use Rattle.executor_model.specs.Due.{IsDue}
-use Rattle.executor_model.specs.Emptiness.{IsAtRest}
-use Rattle.executor_model.specs.Executions.{run_all}
-use Rattle.executor_model.specs.Sound.{times}
-use Rattle.executor_model.specs.Steps.{Machine, Part, end_of, onto, part, react, run, settled, settled_by, stack, start, top, with_part}
-use Rattle.executor_model.specs.Trace.{Trace, has}
-use Rattle.executor_model.specs.Weights.{weigh}
-use Rattle.executor_model.specs.World.{Done, World, log, own_of}
-use Rattle.executor_model.proofs.Steps.Lists.{times-append, weigh-append, weigh-reverse}
-use Rattle.executor_model.proofs.Table.Spawning.{top-last}
-use Rattle.executor_model.proofs.OneFuture.Stories.{no-longer}
-use Rattle.executor_model.proofs.Steps.TraceSteps.{More, more-act, more-onto, more-react}
-use Rattle.executor_model.proofs.Steps.Reached.{Reached, deep-here, good-here, run-first}
-use Rattle.executor_model.proofs.Steps.Tests.{or-left, or-right}
-use Rattle.executor_laws.specs.LoneEnds.{are_onward_of, is_onward_of}
-use Rattle.executor_laws.specs.Reach.{since, takes}
-use Rattle.executor_laws.specs.RunReach.{AreLonePolls, HasKept, IsKeptReached, IsLonePoll, Keeps, LoneRunPoll}
+use Rattle.executor_laws.proofs.Types.{By, Call, Reply, Event, Kind, ListOp, Op, RunPoll, TickOp, Hint, Step, Begin, UserEnd}
+use Rattle.executor_model.specs.{ActsOfRuns.asleep, ActsOfRuns.behind, ActsOfRuns.search_own_by, Doing.act, Due.IsDue, Emptiness.IsAtRest}
+use Rattle.executor_model.specs.{Executions.run_all, Sound.times, Steps.Machine, Steps.Part, Steps.end_of, Steps.onto, Steps.part}
+use Rattle.executor_model.specs.{Steps.react, Steps.run, Steps.settled, Steps.settled_by, Steps.stack, Steps.start, Steps.top}
+use Rattle.executor_model.specs.{Steps.with_part, Trace.Trace, Trace.has, Weights.weigh, World.Done, World.World, World.log, World.own_of}
+use Rattle.executor_model.proofs.{Steps.Lists.times-append, Steps.Lists.weigh-append, Steps.Lists.weigh-reverse, Table.Spawning.top-last}
+use Rattle.executor_model.proofs.{OneFuture.Stories.no-longer, Steps.TraceSteps.More, Steps.TraceSteps.more-act, Steps.TraceSteps.more-onto}
+use Rattle.executor_model.proofs.{Steps.TraceSteps.more-react, Steps.Reached.Reached, Steps.Reached.deep-here, Steps.Reached.good-here}
+use Rattle.executor_model.proofs.{Steps.Reached.run-first, Steps.Tests.or-left, Steps.Tests.or-right}
+use Rattle.executor_laws.specs.{LoneEnds.are_onward_of, LoneEnds.is_onward_of, Reach.since, Reach.takes, RunReach.AreLonePolls}
+use Rattle.executor_laws.specs.{RunReach.HasKept, RunReach.IsKeptReached, RunReach.IsLonePoll, RunReach.Keeps, RunReach.LoneRunPoll}
 use Rattle.executor_laws.proofs.Reach.LoneMoves.{stray_of}
 use Rattle.executor_laws.proofs.Reach.LoneSteps.{HasEntry, Last, from-end}
 use Rattle.executor_laws.proofs.Reach.Reached.{bonded-here, heard-here}
@@ -50,13 +28,13 @@ use Rattle.executor_laws.proofs.RunReach.RunFinds.{Heading, light-no-end}
 use Rattle.executor_laws.proofs.RunReach.RunArrives.{entry}
 use Rattle.executor_laws.proofs.RunReach.RunReaching.{arrived, is-due, new-idle, poll, reached-new, takes-first}
 use Rattle.executor_laws.proofs.RunReach.RunReaching.First.{in_own}
-use Rattle.executor_laws.proofs.RunReach.RunSteps.{After, Aside, Control, Goes, Tracked, after-control, after-own, aside-act}
-use Rattle.executor_laws.proofs.RunReach.RunSteps.Goes.{ends, finds, finds_behind, on as on_with}
-use Rattle.executor_laws.proofs.RunReach.RunSteps.{aside-react, no-user, same-own, side-kind, side_of}
+use Rattle.executor_laws.proofs.RunReach.RunSteps.{After, Aside, Control, Goes, Tracked, after-control, after-own, aside-act, aside-react}
+use Rattle.executor_laws.proofs.RunReach.RunSteps.{no-user, same-own, side-kind, side_of}
 use Rattle.executor_laws.proofs.RunReach.RunWalks.{Onward, Taken, from-heading, not-nil, onward, with-heading}
 use Rattle.executor_laws.proofs.RunReach.RunWalks.Onward.{acted, answered}
 use Rattle.executor_laws.proofs.Reach.Searching.{at-rest}
 use Rattle.executor_laws.proofs.Exactness.Ticking.{first-times}
+use Rattle.executor_laws.proofs.RunReach.RunSteps.Goes.{ends, finds, finds_behind, on as on_with}
 
 -- what has happened since
 pub record So (before : Trace) (w : World) : Type 0 where
@@ -76,7 +54,7 @@ pub data Keeping (q f n : ℕ) (w : World) (os : List Op) : Type 0 where
   going : (c : Op) (side : List Op) → os ≡ c ∷ side → Control q c → weigh side_of side ≡ 0 → Tracked q f n w →
       Keeping q f n w os
   found_it : Heading f os → Keeping q f n w os
-  unlocks : (hs : List Op) → os ≡ hs ++ op.List list_op.UnlockRead ∷ [] → Heading f hs → Keeping q f n w os
+  unlocks : (hs : List Op) → os ≡ hs ++ Op.List ListOp.UnlockRead ∷ [] → Heading f hs → Keeping q f n w os
   over : os ≡ [] → Tracked q f n w → Keeping q f n w os
 
 abbrev Keeps-on : ℕ → ℕ → ℕ → Part → Type 0
@@ -84,7 +62,7 @@ Keeps-on q f n x = Keeping q f n x.world x.todo
 
 pub side-no-end : (o : Op) → side_of o ≡ 0 → end_of (Some o) ≡ None
 side-no-end o z = ⊎_elim
-    (λ (e : o ≡ op.List list_op.UnlockRead). ap (λ (x : Op). end_of (Some x)) e)
+    (λ (e : o ≡ Op.List ListOp.UnlockRead). ap (λ (x : Op). end_of (Some x)) e)
     (λ (x : stray_of o ≡ 0). light-no-end o x)
     (side-kind o z)
 
@@ -107,7 +85,7 @@ settles q f n p w c side k z t = go (from-end side)
   where
     by-end : (o : Option Reply) → Keeps-on q f n (settled_by o p w (c ∷ []))
     by-end None = going c [] refl k refl t
-    by-end (Some a) = over refl (same-own q f n w (log w (event.CallEnded p a)) refl t)
+    by-end (Some a) = over refl (same-own q f n w (log w (Event.CallEnded p a)) refl t)
 
     go : (side ≡ []) ⊎ Last side → Keeps-on q f n (settled p w (c ∷ side))
     go (inl e) = subst (λ (os : List Op). Keeps-on q f n (settled p w (c ∷ os))) (sym e) (by-end (end_of (top (c ∷ []))))
@@ -134,14 +112,14 @@ after-part q f n p w d (finds_behind x e h) =
     subst (λ (y : Done). Keeps-on q f n (onto p y [])) (sym e) (by (reverse x.next) refl)
   where
     by : (hs : List Op) → reverse x.next ≡ hs →
-        Keeps-on q f n (onto p (behind (op.List list_op.UnlockRead ∷ []) x) [])
+        Keeps-on q f n (onto p (behind (Op.List ListOp.UnlockRead ∷ []) x) [])
     by hs z =
-        let turned : reverse (op.List list_op.UnlockRead ∷ x.next) ≡ reverse x.next ++ op.List list_op.UnlockRead ∷ [] =
-        reverse-append (op.List list_op.UnlockRead ∷ []) x.next in
-        let still : settled p x.world (reverse x.next ++ op.List list_op.UnlockRead ∷ []) ≡
-        part x.world (reverse x.next ++ op.List list_op.UnlockRead ∷ []) =
-        ap (λ (v : Option Reply). settled_by v p x.world (reverse x.next ++ op.List list_op.UnlockRead ∷ []))
-        (ap end_of (top-last (reverse x.next) (op.List list_op.UnlockRead))) in
+        let turned : reverse (Op.List ListOp.UnlockRead ∷ x.next) ≡ reverse x.next ++ Op.List ListOp.UnlockRead ∷ [] =
+        reverse-append (Op.List ListOp.UnlockRead ∷ []) x.next in
+        let still : settled p x.world (reverse x.next ++ Op.List ListOp.UnlockRead ∷ []) ≡
+        part x.world (reverse x.next ++ Op.List ListOp.UnlockRead ∷ []) =
+        ap (λ (v : Option Reply). settled_by v p x.world (reverse x.next ++ Op.List ListOp.UnlockRead ∷ []))
+        (ap end_of (top-last (reverse x.next) (Op.List ListOp.UnlockRead))) in
         subst (λ (os : List Op). Keeps-on q f n (settled p x.world os)) (sym turned)
         (subst (Keeps-on q f n) (sym still) (unlocks (reverse x.next) refl h.heading))
 
@@ -210,17 +188,17 @@ module _ (p q f n : ℕ) (before : Trace) (new : Machine) (idles : stack new p �
             (both (react p o u s.world) a.light)
             (same-own q f n s.world (react p o u s.world).world a.own tr)) y2 n2 on2 l
 
-    by-unlock : (hs : List Op) → stack s p ≡ hs ++ op.List list_op.UnlockRead ∷ [] → Heading f hs →
+    by-unlock : (hs : List Op) → stack s p ≡ hs ++ Op.List ListOp.UnlockRead ∷ [] → Heading f hs →
         Outcome q f n before new
-    by-unlock hs e z = go (onward p s new hs (op.List list_op.UnlockRead) (t ∷ ts) e y idles on m)
+    by-unlock hs e z = go (onward p s new hs (Op.List ListOp.UnlockRead) (t ∷ ts) e y idles on m)
       where
-        go : Onward p s new hs (op.List list_op.UnlockRead) (t ∷ ts) → Outcome q f n before new
+        go : Onward p s new hs (Op.List ListOp.UnlockRead) (t ∷ ts) → Outcome q f n before new
         go (answered u others te a y2 n2 on2 l) = absurd (cc)
         go (acted h others te w y2 n2 on2 l) =
-            again others _ (onto p (act p h (op.List list_op.UnlockRead) s.world) hs) te
-            (acts-so h (op.List list_op.UnlockRead) hs refl)
+            again others _ (onto p (act p h (Op.List ListOp.UnlockRead) s.world) hs) te
+            (acts-so h (Op.List ListOp.UnlockRead) hs refl)
             (subst (Keeps-on q f n)
-            (sym (with-heading p f (act p h (op.List list_op.UnlockRead) s.world) hs
+            (sym (with-heading p f (act p h (Op.List ListOp.UnlockRead) s.world) hs
             (subst (Heading f) (sym (append-nil hs)) z)))
             (found_it (subst (Heading f) (sym (append-nil hs)) z))) y2 n2 on2 l
 
@@ -259,7 +237,7 @@ module _ (p q f n : ℕ) (before : Trace) (new : Machine) (idles : stack new p �
       taken (from-heading p f before new idles has-entry [] s y k.meanwhile k.trace k.there h on m)
   walks [] s y k (unlocks hs e h) on m =
       let same : s ≡ new = cc in
-      absurd (not-nil hs (op.List list_op.UnlockRead) (sym e ∙ (ap (λ (v : Machine). stack v p) same ∙ idles)))
+      absurd (not-nil hs (Op.List ListOp.UnlockRead) (sym e ∙ (ap (λ (v : Machine). stack v p) same ∙ idles)))
   walks (t ∷ ts) s y k h on m =
       by-kind t ts s y k on m (λ v y2 k2 h2 on2 m2. walks ts v y2 k2 h2 on2 m2) h
 
@@ -278,24 +256,24 @@ module _ (s : Machine) (y : Reached s) (rest : IsAtRest s) (r p : ℕ) (b : By) 
 
   -- it searches in its own queue
   from-search : (m : Machine) (others : List Step) → Reached m → So s.world.trace m.world →
-      own_of m.world r ≡ own_of s.world r → stack m p ≡ op.Tick (tick_op.Search (asleep x)) ∷ [] →
+      own_of m.world r ≡ own_of s.world r → stack m p ≡ Op.Tick (TickOp.Search (asleep x)) ∷ [] →
       are_onward_of p others ≡ true → run_all others m ≡ Ok new → (n : ℕ) → Tracked r f (suc n) s.world →
       Outcome r f n s.world.trace new
   from-search m others z so own todo on made n q =
-      go (onward p m new [] (op.Tick (tick_op.Search (asleep x))) others todo z idles on made)
+      go (onward p m new [] (Op.Tick (TickOp.Search (asleep x))) others todo z idles on made)
     where
       nearer-one : After r f n m.world (search_own_by (own_of m.world r) m.world x)
       nearer-one = after-own r f (suc n) n (own_of m.world r) m.world x refl refl (less n)
           (record { front = q.front; later = q.later; is = own ∙ q.is; few = q.few })
 
-      go : Onward p m new [] (op.Tick (tick_op.Search (asleep x))) others → Outcome r f n s.world.trace new
+      go : Onward p m new [] (Op.Tick (TickOp.Search (asleep x))) others → Outcome r f n s.world.trace new
       go (answered u others2 te a y2 n2 on2 l) = absurd (cc)
       go (acted h others2 te w y2 n2 on2 l) =
           walks p r f n s.world.trace new idles (entry s.world.trace f due) others2
           (with_part m p (onto p (search_own_by (own_of m.world r) m.world x) [])) y2
           (so-more s.world.trace m.world (onto p (search_own_by (own_of m.world r) m.world x) []).world so
           (more-onto m.world.trace p (search_own_by (own_of m.world r) m.world x) []
-          (more-act p h (op.Tick (tick_op.Search (asleep x))) m.world))
+          (more-act p h (Op.Tick (TickOp.Search (asleep x))) m.world))
           (gone-onto p (search_own_by (own_of m.world r) m.world x) [] ∙ nearer-one.gone))
           (subst (Keeping r f n (onto p (search_own_by (own_of m.world r) m.world x) []).world)
           (sym (stack-set p m (onto p (search_own_by (own_of m.world r) m.world x) []) l))
@@ -317,7 +295,7 @@ pub grows-polls : (r : ℕ) (ts : List LoneRunPoll) (s new : Machine) → AreLon
 grows-polls r [] s new e =
     record { grown = []; trace = sym (ap (λ (m : Machine). m.world.trace) e) ∙ sym (append-nil s.world.trace) }
 grows-polls r (t ∷ ts) s new k =
-    grows-and s k.0 new (run-grows (Begin t.party (call.PollRun r t.by) ∷ t.steps) s k.0 k.1.call.made)
+    grows-and s k.0 new (run-grows (Begin t.party (Call.PollRun r t.by) ∷ t.steps) s k.0 k.1.call.made)
     (grows-polls r ts k.0 new k.2)
 
 pub takes-now : (f : ℕ) (s next new : Machine) → Taken f s.world.trace next.world.trace → Grows next new → Takes f s new
@@ -363,9 +341,9 @@ module _ (t : LoneRunPoll) (ts : List LoneRunPoll) (s new : Machine) (y : Reache
       go : Outcome r f n s.world.trace k.0 → Takes f s new
       go (taken x) = takes-now f s k.0 new x (grows-polls r ts k.0 new k.2)
       go (stands q so) =
-          takes-later f s k.0 new (run-grows (Begin t.party (call.PollRun r t.by) ∷ t.steps) s k.0 k.1.call.made)
+          takes-later f s k.0 new (run-grows (Begin t.party (Call.PollRun r t.by) ∷ t.steps) s k.0 k.1.call.made)
           (again (reached-new s y rest r t.party t.by t.steps k.0 k.1)
-          (at-rest s y rest t.party (call.PollRun r t.by) t.steps k.0 k.1.call so.there) q)
+          (at-rest s y rest t.party (Call.PollRun r t.by) t.steps k.0 k.1.call so.there) q)
 
 takes-place : (ts : List LoneRunPoll) (s new : Machine) → Reached s → IsAtRest s → (r f n : ℕ) →
     Tracked r f n s.world → n < length ts → AreLonePolls r ts s new → Takes f s new

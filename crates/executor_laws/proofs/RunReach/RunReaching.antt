@@ -5,38 +5,15 @@ use Rattle.std.proofs.Common.{true, false, ltb, refl, sym, ap, subst, arith, app
 use Rattle.std.proofs.lemmas.Bool.Decides.{nat_tests}
 use Rattle.std.proofs.Math.Seq.{drop-append_seam}
 use Rattle.std.specs.Prelude.{Some, None, reverse}
-use Rattle.executor_parts.specs.declared.mark.Mark.{Mark}
 use Rattle.executor_parts.specs.Marks.{first_of, other}
-use Rattle.executor_model.specs.declared.call.By.{By}
-use Rattle.executor_model.specs.declared.call.Call.TheVariants as call
-use Rattle.executor_model.specs.declared.event.Answer.TheVariants as answer
-use Rattle.executor_model.specs.declared.event.Event.TheVariants as event
-use Rattle.executor_model.specs.declared.kind.Kind.{Kind}
-use Rattle.executor_model.specs.declared.op.Look.{Look}
-use Rattle.executor_model.specs.declared.op.Look.TheVariants as look_at
-use Rattle.executor_model.specs.declared.op.Op.{Op}
-use Rattle.executor_model.specs.declared.op.Op.TheVariants as op
-use Rattle.executor_model.specs.declared.op.RunOp.TheVariants as run_op
-use Rattle.executor_model.specs.declared.op.RunPoll.{RunPoll}
-use Rattle.executor_model.specs.declared.op.Source.TheVariants.{Common}
-use Rattle.executor_model.specs.declared.op.StealOp.TheVariants as steal_op
-use Rattle.executor_model.specs.declared.op.Then.TheVariants as then
-use Rattle.executor_model.specs.declared.op.TickOp.TheVariants as tick_op
-use Rattle.executor_model.specs.declared.step.Step.{Step}
-use Rattle.executor_model.specs.declared.step.Step.TheVariants.{Begin}
-use Rattle.executor_model.specs.declared.step.UserEnd.TheVariants as end
-use Rattle.executor_model.specs.Acts.{mark_in, turned}
-use Rattle.executor_model.specs.ActsOfRuns.{asleep, search_common_by, search_own_by}
-use Rattle.executor_model.specs.Due.{IsDue}
-use Rattle.executor_model.specs.Emptiness.{IsAtRest}
-use Rattle.executor_model.specs.Keeper.{IsCommon}
-use Rattle.executor_model.specs.Executions.{run_all}
-use Rattle.executor_model.specs.Queues.{Queues, queue_in}
-use Rattle.executor_model.specs.Sound.{queued, times}
-use Rattle.executor_model.specs.Steps.{Machine, Part, after, onto, part, part_after, poll_run, run, stack, start}
-use Rattle.executor_model.specs.Steps.{waker_of, with_part}
-use Rattle.executor_model.specs.Trace.{Trace, has}
-use Rattle.executor_model.specs.World.{Done, Ended, Listed, New, Stage, World, done, log, own_of, put_own, queue_of, run_of}
+use Rattle.executor_laws.proofs.Types.{Mark, By, Call, Answer, Event, Kind, Look, Op, RunOp, RunPoll, Common, StealOp, Then, TickOp, Step}
+use Rattle.executor_laws.proofs.Types.{Begin, UserEnd}
+use Rattle.executor_model.specs.{Acts.mark_in, Acts.turned, ActsOfRuns.asleep, ActsOfRuns.search_common_by, ActsOfRuns.search_own_by}
+use Rattle.executor_model.specs.{Due.IsDue, Emptiness.IsAtRest, Keeper.IsCommon, Executions.run_all, Queues.Queues, Queues.queue_in}
+use Rattle.executor_model.specs.{Sound.queued, Sound.times, Steps.Machine, Steps.Part, Steps.after, Steps.onto, Steps.part}
+use Rattle.executor_model.specs.{Steps.part_after, Steps.poll_run, Steps.run, Steps.stack, Steps.start, Steps.waker_of, Steps.with_part}
+use Rattle.executor_model.specs.{Trace.Trace, Trace.has, World.Done, World.Ended, World.Listed, World.New, World.Stage, World.World}
+use Rattle.executor_model.specs.{World.done, World.log, World.own_of, World.put_own, World.queue_of, World.run_of}
 use Rattle.executor_model.proofs.Quiet.Resting.{rests}
 use Rattle.executor_model.proofs.Steps.Reached.{Reached, deep-here, good-here, reached-more, reached-step, run-first}
 use Rattle.executor_laws.specs.LoneEnds.{are_onward_of, is_onward_of}
@@ -107,21 +84,21 @@ module _ (p f : ℕ) (before : Trace) (due : IsDue f before) (x : RunPoll) (new 
 
   -- it looks at a queue in which f is first
   at-look : (s : Machine) (look : Look) (rest : List ℕ) → (queue_of s.world (mark_in look)).items ≡ f ∷ rest →
-      (ts : List Step) → On (op.Run (run_op.SearchCommon x look)) ts s → Taken f before new.world.trace
+      (ts : List Step) → On (Op.Run (RunOp.SearchCommon x look)) ts s → Taken f before new.world.trace
   at-look s look rest e ts a =
-      go (onward p s new [] (op.Run (run_op.SearchCommon x look)) ts a.todo a.reached idles a.onward a.made)
+      go (onward p s new [] (Op.Run (RunOp.SearchCommon x look)) ts a.todo a.reached idles a.onward a.made)
     where
       by : (items : List ℕ) → items ≡ f ∷ rest → Heads f s.world.trace s.world.gone (search_common_by items s.world x look)
       by items z = subst (λ (ys : List ℕ). Heads f s.world.trace s.world.gone (search_common_by ys s.world x look)) (sym z)
           (record {
-            heading = stealing (steal_op.Length (record { poll = x; from = Common (mark_in look); then = then.Found f })) []
+            heading = stealing (StealOp.Length (record { poll = x; from = Common (mark_in look); then = Then.Found f })) []
                 refl refl refl;
             events = [];
             trace = sym (append-nil s.world.trace);
             there = refl;
           })
 
-      go : Onward p s new [] (op.Run (run_op.SearchCommon x look)) ts → Taken f before new.world.trace
+      go : Onward p s new [] (Op.Run (RunOp.SearchCommon x look)) ts → Taken f before new.world.trace
       go (answered u others te z y n2 on2 l) = absurd (cc)
       go (acted h others te z y n2 on2 l) =
           from-found s (search_common_by (queue_of s.world (mark_in look)).items s.world x look) others a.meanwhile a.trace
@@ -130,20 +107,20 @@ module _ (p f : ℕ) (before : Trace) (due : IsDue f before) (x : RunPoll) (new 
   -- it looks at one that is empty, and then at the other one, in which f is first
   at-both : (s : Machine) (m : Mark) (rest : List ℕ) → (queue_of s.world m).items ≡ [] →
       (queue_of s.world (other m)).items ≡ f ∷ rest → (ts : List Step) →
-      On (op.Run (run_op.SearchCommon x (look_at.First m))) ts s → Taken f before new.world.trace
+      On (Op.Run (RunOp.SearchCommon x (Look.First m))) ts s → Taken f before new.world.trace
   at-both s m rest none e ts a =
-      go (onward p s new [] (op.Run (run_op.SearchCommon x (look_at.First m))) ts a.todo a.reached idles a.onward a.made)
+      go (onward p s new [] (Op.Run (RunOp.SearchCommon x (Look.First m))) ts a.todo a.reached idles a.onward a.made)
     where
       next : Part
-      next = part s.world (op.Run (run_op.SearchCommon x (look_at.Second (other m))) ∷ [])
+      next = part s.world (Op.Run (RunOp.SearchCommon x (Look.Second (other m))) ∷ [])
 
-      go : Onward p s new [] (op.Run (run_op.SearchCommon x (look_at.First m))) ts → Taken f before new.world.trace
+      go : Onward p s new [] (Op.Run (RunOp.SearchCommon x (Look.First m))) ts → Taken f before new.world.trace
       go (answered u others te z y n2 on2 l) = absurd (cc)
       go (acted h others te z y n2 on2 l) =
-          let q : search_common_by (queue_of s.world m).items s.world x (look_at.First m)
-          ≡ done s.world (op.Run (run_op.SearchCommon x (look_at.Second (other m))) ∷ []) =
-          ap (λ (ys : List ℕ). search_common_by ys s.world x (look_at.First m)) none in
-          at-look (with_part s p next) (look_at.Second (other m)) rest e others (record {
+          let q : search_common_by (queue_of s.world m).items s.world x (Look.First m)
+          ≡ done s.world (Op.Run (RunOp.SearchCommon x (Look.Second (other m))) ∷ []) =
+          ap (λ (ys : List ℕ). search_common_by ys s.world x (Look.First m)) none in
+          at-look (with_part s p next) (Look.Second (other m)) rest e others (record {
             reached = subst (λ (d : Done). Reached (with_part s p (onto p d []))) q y;
             meanwhile = a.meanwhile;
             trace = a.trace;
@@ -154,22 +131,22 @@ module _ (p f : ℕ) (before : Trace) (due : IsDue f before) (x : RunPoll) (new 
           })
 
   -- it takes its turn
-  at-turn : (s : Machine) (y : Spot s.world) → y.future ≡ f → (ts : List Step) → On (op.Run (run_op.TakeTurn x)) ts s →
+  at-turn : (s : Machine) (y : Spot s.world) → y.future ≡ f → (ts : List Step) → On (Op.Run (RunOp.TakeTurn x)) ts s →
       Taken f before new.world.trace
   at-turn s y e ts a =
-      go (onward p s new [] (op.Run (run_op.TakeTurn x)) ts a.todo a.reached idles a.onward a.made)
+      go (onward p s new [] (Op.Run (RunOp.TakeTurn x)) ts a.todo a.reached idles a.onward a.made)
     where
-      go : Onward p s new [] (op.Run (run_op.TakeTurn x)) ts → Taken f before new.world.trace
+      go : Onward p s new [] (Op.Run (RunOp.TakeTurn x)) ts → Taken f before new.world.trace
       go (answered u others te z y2 n2 on2 l) = absurd (cc)
       go (acted h others te z y2 n2 on2 l) =
           let next : Part =
-          part (turned p s.world) (op.Run (run_op.SearchCommon x (look_at.First (first_of s.world.urgent_turns))) ∷ []) in
-          let o : On (op.Run (run_op.SearchCommon x (look_at.First (first_of s.world.urgent_turns)))) others
+          part (turned p s.world) (Op.Run (RunOp.SearchCommon x (Look.First (first_of s.world.urgent_turns))) ∷ []) in
+          let o : On (Op.Run (RunOp.SearchCommon x (Look.First (first_of s.world.urgent_turns)))) others
           (with_part s p next) = record {
             reached = y2;
-            meanwhile = a.meanwhile ++ event.Looked p (first_of s.world.urgent_turns) ∷ [];
-            trace = ap (λ (es : Trace). es ++ event.Looked p (first_of s.world.urgent_turns) ∷ []) a.trace
-                ∙ append_assoc before a.meanwhile (event.Looked p (first_of s.world.urgent_turns) ∷ []);
+            meanwhile = a.meanwhile ++ Event.Looked p (first_of s.world.urgent_turns) ∷ [];
+            trace = ap (λ (es : Trace). es ++ Event.Looked p (first_of s.world.urgent_turns) ∷ []) a.trace
+                ∙ append_assoc before a.meanwhile (Event.Looked p (first_of s.world.urgent_turns) ∷ []);
             there = a.there;
             todo = stack-set p s next l;
             onward = on2;
@@ -178,7 +155,7 @@ module _ (p f : ℕ) (before : Trace) (due : IsDue f before) (x : RunPoll) (new 
           let here : (queue_of s.world y.mark).items ≡ f ∷ y.rest = y.is ∙ ap (λ (g : ℕ). g ∷ y.rest) e in
           ⊎_elim
           (λ (i : y.mark ≡ first_of s.world.urgent_turns).
-          at-look (with_part s p next) (look_at.First (first_of s.world.urgent_turns)) y.rest
+          at-look (with_part s p next) (Look.First (first_of s.world.urgent_turns)) y.rest
           (subst (λ (m : Mark). (queue_of s.world m).items ≡ f ∷ y.rest) i here) others o)
           (λ (i : (y.mark ≡ other (first_of s.world.urgent_turns))
           × ((queue_of s.world (first_of s.world.urgent_turns)).items ≡ [])).
@@ -187,10 +164,10 @@ module _ (p f : ℕ) (before : Trace) (due : IsDue f before) (x : RunPoll) (new 
           y.turn
 
   module _ (own : List ℕ) (base : World) (first : First f own base) where
-    pub at-search : (s : Machine) → At p before x own base new idles (op.Tick (tick_op.Search (asleep x)) ∷ []) s →
+    pub at-search : (s : Machine) → At p before x own base new idles (Op.Tick (TickOp.Search (asleep x)) ∷ []) s →
         (ts : List Step) → are_onward_of p ts ≡ true → run_all ts s ≡ Ok new → Taken f before new.world.trace
     at-search s a ts on n =
-        go (onward p s new [] (op.Tick (tick_op.Search (asleep x))) ts a.todo a.reached idles on n)
+        go (onward p s new [] (Op.Tick (TickOp.Search (asleep x))) ts a.todo a.reached idles on n)
       where
         by-first : (others : List Step) → Reached (with_part s p (onto p (search_own_by own s.world x) [])) →
             run_all others (with_part s p (onto p (search_own_by own s.world x) [])) ≡ Ok new →
@@ -200,22 +177,22 @@ module _ (p f : ℕ) (before : Trace) (due : IsDue f before) (x : RunPoll) (new 
             (subst (λ (ys : List ℕ). Heads f s.world.trace s.world.gone (search_own_by ys s.world x)) (sym e)
             (heads-found f (put_own s.world x.run rest) x)) y n2 on2 l
         by-first others y n2 on2 l (in_common e spot i) =
-            let q : search_own_by own s.world x ≡ done s.world (op.Run (run_op.TakeTurn x) ∷ []) =
+            let q : search_own_by own s.world x ≡ done s.world (Op.Run (RunOp.TakeTurn x) ∷ []) =
             ap (λ (ys : List ℕ). search_own_by ys s.world x) e in
             let found-there : (v : Spot s.world) × (v.future ≡ spot.future) =
             same-spot base s.world a.so_far.common_is a.so_far.turn_is spot in
-            at-turn (with_part s p (part s.world (op.Run (run_op.TakeTurn x) ∷ []))) found-there.0 (found-there.1 ∙ i) others
+            at-turn (with_part s p (part s.world (Op.Run (RunOp.TakeTurn x) ∷ []))) found-there.0 (found-there.1 ∙ i) others
             (record {
               reached = subst (λ (d : Done). Reached (with_part s p (onto p d []))) q y;
               meanwhile = a.so_far.meanwhile;
               trace = a.so_far.trace;
               there = a.so_far.there;
-              todo = stack-set p s (part s.world (op.Run (run_op.TakeTurn x) ∷ [])) l;
+              todo = stack-set p s (part s.world (Op.Run (RunOp.TakeTurn x) ∷ [])) l;
               onward = on2;
               made = sym (ap (λ (d : Done). run_all others (with_part s p (onto p d []))) q) ∙ n2;
             })
 
-        go : Onward p s new [] (op.Tick (tick_op.Search (asleep x))) ts → Taken f before new.world.trace
+        go : Onward p s new [] (Op.Tick (TickOp.Search (asleep x))) ts → Taken f before new.world.trace
         go (answered u others te z y n2 on2 l) = absurd (cc)
         go (acted h others te z y n2 on2 l) =
             by-first others
@@ -229,27 +206,27 @@ module _ (s : Machine) (r : Reached s) (rest : IsAtRest s) (n p : ℕ) (b : By) 
   idles q = idle s (good-here s r) (heard-here s r) (deep-here s r) (bonded-here s r) rest q
 
   pub reached-new : Reached new
-  reached-new = reached-more (Begin p (call.PollRun n b) ∷ steps) s new r k.call.made
+  reached-new = reached-more (Begin p (Call.PollRun n b) ∷ steps) s new r k.call.made
 
   pub new-idle : stack new p ≡ []
   new-idle = rests new (deep-here new reached-new) k.call.ended p
 
   in-parties : p < length s.parties
   in-parties = let z : ltb p (length s.parties) ≡ true =
-      (in-range _ _ (run-first (Begin p (call.PollRun n b)) steps s new k.call.made).0).0 in
+      (in-range _ _ (run-first (Begin p (Call.PollRun n b)) steps s new k.call.made).0).0 in
       grind (arith, nat_tests)
 
   abbrev told : Trace
-  told = event.CallBegun p (call.PollRun n b) ∷ event.RunPolled p n ∷ []
+  told = Event.CallBegun p (Call.PollRun n b) ∷ Event.RunPolled p n ∷ []
 
   abbrev beginning : World
-  beginning = log (log s.world (event.CallBegun p (call.PollRun n b))) (event.RunPolled p n)
+  beginning = log (log s.world (Event.CallBegun p (Call.PollRun n b))) (Event.RunPolled p n)
 
   abbrev pub poll : RunPoll
   poll = record {
     run = n;
     waker = waker_of None b;
-    poll = length (s.world.trace ++ event.CallBegun p (call.PollRun n b) ∷ []);
+    poll = length (s.world.trace ++ Event.CallBegun p (Call.PollRun n b) ∷ []);
   }
 
   abbrev begun-as : Stage → Part
@@ -258,22 +235,22 @@ module _ (s : Machine) (r : Reached s) (rest : IsAtRest s) (n p : ℕ) (b : By) 
   abbrev from-stage : Stage → Machine
   from-stage st = with_part s p (begun-as st)
 
-  pub first-is : after s (Begin p (call.PollRun n b)) ≡ from-stage (run_of s.world n).stage
-  first-is = ap (λ (os : List Op). with_part s p (part_after s.world os (Begin p (call.PollRun n b)))) (idles p)
+  pub first-is : after s (Begin p (Call.PollRun n b)) ≡ from-stage (run_of s.world n).stage
+  first-is = ap (λ (os : List Op). with_part s p (part_after s.world os (Begin p (Call.PollRun n b)))) (idles p)
 
   on-begun : run_all steps (from-stage (run_of s.world n).stage) ≡ Ok new
   on-begun = sym (ap (λ (os : List Op). run_all steps
-      (with_part s p (part_after s.world os (Begin p (call.PollRun n b))))) (idles p))
-      ∙ (run-first (Begin p (call.PollRun n b)) steps s new k.call.made).1
+      (with_part s p (part_after s.world os (Begin p (Call.PollRun n b))))) (idles p))
+      ∙ (run-first (Begin p (Call.PollRun n b)) steps s new k.call.made).1
 
   reached-begun : Reached (from-stage (run_of s.world n).stage)
-  reached-begun = subst (λ (os : List Op). Reached (with_part s p (part_after s.world os (Begin p (call.PollRun n b)))))
+  reached-begun = subst (λ (os : List Op). Reached (with_part s p (part_after s.world os (Begin p (Call.PollRun n b)))))
       (idles p)
-      (reached-step s (Begin p (call.PollRun n b))
-      (run-first (Begin p (call.PollRun n b)) steps s new k.call.made).0 r)
+      (reached-step s (Begin p (Call.PollRun n b))
+      (run-first (Begin p (Call.PollRun n b)) steps s new k.call.made).0 r)
 
   trace-is : beginning.trace ≡ s.world.trace ++ told
-  trace-is = append_assoc s.world.trace (event.CallBegun p (call.PollRun n b) ∷ []) (event.RunPolled p n ∷ [])
+  trace-is = append_assoc s.world.trace (Event.CallBegun p (Call.PollRun n b) ∷ []) (Event.RunPolled p n ∷ [])
 
   abbrev pub first-machine : Machine
   first-machine = from-stage (run_of s.world n).stage
@@ -313,7 +290,7 @@ module _ (s : Machine) (r : Reached s) (rest : IsAtRest s) (n p : ℕ) (b : By) 
           (sym (ap (λ (z : Stage). run_all steps (from-stage z)) e) ∙ on-begun) k.pending)
         where
           over : (q : ℕ) (ts : List Step) (m last : Machine) → stack m q ≡ [] → are_onward_of q ts ≡ true →
-              run_all ts m ≡ Ok last → first_answer ts ≡ Some (end.Polled answer.Pending) → ⊥
+              run_all ts m ≡ Ok last → first_answer ts ≡ Some (UserEnd.Polled Answer.Pending) → ⊥
           over q [] m last z on e2 c = absurd (cc)
           over q (t ∷ ts) m last z on e2 c =
               let first : is_onward_of q t ≡ true = (left-true (is_onward_of q t) (are_onward_of q ts) on).0 in

@@ -5,31 +5,17 @@ use Rattle.std.proofs.Common.{refl, sym, ap, subst, arith, append-nil, append_as
 use Rattle.std.proofs.lemmas.List.{append_cancel_right, reverse-append}
 use Rattle.std.proofs.lemmas.List.Folds.{list_any-append}
 use Rattle.std.specs.Prelude.{Option, Some, None, reverse}
-use Rattle.task_moves.specs.declared.moves.owed.Move.TheVariants as move
-use Rattle.executor_model.specs.declared.call.Reply.{Reply}
-use Rattle.executor_model.specs.declared.op.Op.{Op}
-use Rattle.executor_model.specs.declared.op.Op.TheVariants as op
-use Rattle.executor_model.specs.declared.op.StealOp.{StealOp}
-use Rattle.executor_model.specs.declared.op.UserOp.TheVariants as user_op
-use Rattle.executor_model.specs.declared.step.Hint.{Hint}
-use Rattle.executor_model.specs.declared.step.Step.{Step}
-use Rattle.executor_model.specs.declared.step.Step.TheVariants.{Begin, Go, Answer}
-use Rattle.executor_model.specs.declared.step.UserEnd.{UserEnd}
-use Rattle.executor_model.specs.Doing.{act}
-use Rattle.executor_model.specs.Executions.{run_all}
-use Rattle.executor_model.specs.Steps.{Machine, Part, accepts, answer_refusal, below_top, end_of, go_refusal, gone_on, onto}
-use Rattle.executor_model.specs.Steps.{after, part, part_after, react, run, settled_by, stack, top, waits, with_part}
-use Rattle.executor_model.specs.Trace.{Trace, has}
-use Rattle.executor_model.specs.Weights.{weigh}
-use Rattle.executor_model.specs.World.{Done, World, among}
-use Rattle.executor_model.proofs.Steps.Lift.{topped}
-use Rattle.executor_model.proofs.Steps.Lists.{weigh-append, weigh-reverse}
-use Rattle.executor_model.proofs.Table.Spawning.{top-last}
-use Rattle.executor_model.proofs.Steps.TraceSteps.{IsContinued, More, more-onto, run-continues}
-use Rattle.executor_model.proofs.Steps.Reached.{Reached, reached-step, run-first, run-of}
-use Rattle.executor_model.proofs.Steps.Tests.{or-left, or-right}
-use Rattle.executor_laws.specs.LoneEnds.{are_onward_of, is_onward_of}
-use Rattle.executor_laws.specs.Reach.{takes}
+use Rattle.executor_laws.proofs.Types.{Move, Reply, Op, StealOp, UserOp, Hint, Step, Begin, Go, UserEnd}
+use Rattle.executor_model.specs.{declared.step.Step.TheVariants.Answer, Doing.act, Executions.run_all, Steps.Machine, Steps.Part}
+use Rattle.executor_model.specs.{Steps.accepts, Steps.answer_refusal, Steps.below_top, Steps.end_of, Steps.go_refusal, Steps.gone_on}
+use Rattle.executor_model.specs.{Steps.onto, Steps.after, Steps.part, Steps.part_after, Steps.react, Steps.run, Steps.settled_by}
+use Rattle.executor_model.specs.{Steps.stack, Steps.top, Steps.waits, Steps.with_part, Trace.Trace, Trace.has, Weights.weigh, World.Done}
+use Rattle.executor_model.specs.{World.World, World.among}
+use Rattle.executor_model.proofs.{Steps.Lift.topped, Steps.Lists.weigh-append, Steps.Lists.weigh-reverse, Table.Spawning.top-last}
+use Rattle.executor_model.proofs.{Steps.TraceSteps.IsContinued, Steps.TraceSteps.More, Steps.TraceSteps.more-onto}
+use Rattle.executor_model.proofs.{Steps.TraceSteps.run-continues, Steps.Reached.Reached, Steps.Reached.reached-step}
+use Rattle.executor_model.proofs.{Steps.Reached.run-first, Steps.Reached.run-of, Steps.Tests.or-left, Steps.Tests.or-right}
+use Rattle.executor_laws.specs.{LoneEnds.are_onward_of, LoneEnds.is_onward_of, Reach.takes}
 use Rattle.executor_laws.proofs.Reach.LoneMoves.{Inner, inner-act, inner-react, stray_of}
 use Rattle.executor_laws.proofs.Reach.LoneSteps.{Advances, HasEntry, Last, Leads, Next, advances, answers, from-end, goes}
 use Rattle.executor_laws.proofs.Reach.LoneTicks.{OfParty, after-is, left-true, of-party, stack-set}
@@ -119,12 +105,12 @@ taken-after f before ts s new n k =
 -- user code isn't on the way
 
 no-answer : (f : ℕ) (o : Op) (u : UserEnd) → accepts o u ≡ true → Next f o → ⊥
-no-answer f (op.User (user_op.Poll g)) u a k = k
-no-answer f (op.User (user_op.Drop g)) u a k = k
-no-answer f (op.User (user_op.DropOutput g)) u a k = k
-no-answer f (op.User (user_op.CallOutside x)) u a k = k
-no-answer f (op.User (user_op.PollOwn x)) u a k = k
-no-answer f (op.User (user_op.DropOwn x)) u a k = k
+no-answer f (Op.User (UserOp.Poll g)) u a k = k
+no-answer f (Op.User (UserOp.Drop g)) u a k = k
+no-answer f (Op.User (UserOp.DropOutput g)) u a k = k
+no-answer f (Op.User (UserOp.CallOutside x)) u a k = k
+no-answer f (Op.User (UserOp.PollOwn x)) u a k = k
+no-answer f (Op.User (UserOp.DropOwn x)) u a k = k
 no-answer f _ u a k = absurd (cc)
 
 pub with-heading : (p f : ℕ) (d : Done) (below : List Op) → Heading f (below ++ reverse d.next) →
@@ -133,7 +119,7 @@ with-heading p f d below h =
     ap (λ (x : Option Reply). settled_by x p d.world (below ++ reverse d.next)) (no-end f (below ++ reverse d.next) h)
 
 next-no-end : (f : ℕ) (o : Op) → Next f o → end_of (Some o) ≡ None
-next-no-end f (op.End a held) z = absurd z
+next-no-end f (Op.End a held) z = absurd z
 next-no-end f _ z = refl
 
 pub light : (side below : List Op) (o : Op) → side ≡ below ++ o ∷ [] → weigh stray_of side ≡ 0 →
@@ -266,36 +252,36 @@ module _ (p f : ℕ) (before : Trace) (new : Machine) (idle : stack new p ≡ []
         by-entry (inr x) = go x (onward p s new under o (t ∷ ts) e y idle on n)
 
     -- the steal itself
-    by-steal : (o : StealOp) → stack s p ≡ op.Steal o ∷ [] → Steals f o → Taken f before new.world.trace
-    by-steal o e h = go (onward p s new [] (op.Steal o) (t ∷ ts) e y idle on n)
+    by-steal : (o : StealOp) → stack s p ≡ Op.Steal o ∷ [] → Steals f o → Taken f before new.world.trace
+    by-steal o e h = go (onward p s new [] (Op.Steal o) (t ∷ ts) e y idle on n)
       where
-        go : Onward p s new [] (op.Steal o) (t ∷ ts) → Taken f before new.world.trace
+        go : Onward p s new [] (Op.Steal o) (t ∷ ts) → Taken f before new.world.trace
         go (answered u others te a y2 n2 on2 l) = absurd (cc)
         go (acted g others te w y2 n2 on2 l) =
-            let x : Heads f s.world.trace s.world.gone (act p g (op.Steal o) s.world) = heads-steal f p o s.world h in
-            heads-on others (act p g (op.Steal o) s.world) [] x.events (others-are _ others te) x.trace x.there
+            let x : Heads f s.world.trace s.world.gone (act p g (Op.Steal o) s.world) = heads-steal f p o s.world h in
+            heads-on others (act p g (Op.Steal o) s.world) [] x.events (others-are _ others te) x.trace x.there
             x.heading y2 n2 on2 l
 
-    steal-near : (o : StealOp) (side : List Op) → stack s p ≡ op.Steal o ∷ side → Steals f o →
+    steal-near : (o : StealOp) (side : List Op) → stack s p ≡ Op.Steal o ∷ side → Steals f o →
         weigh stray_of side ≡ 0 → Taken f before new.world.trace
     steal-near o side e h z = go (from-end side)
       where
         go : (side ≡ []) ⊎ Last side → Taken f before new.world.trace
-        go (inl x) = by-steal o (e ∙ ap (λ (os : List Op). op.Steal o ∷ os) x) h
+        go (inl x) = by-steal o (e ∙ ap (λ (os : List Op). Op.Steal o ∷ os) x) h
         go (inr x) = let b : _ = light side x.below x.last x.is z in
-            by-side (op.Steal o ∷ x.below) x.last b.1 (e ∙ ap (λ (os : List Op). op.Steal o ∷ os) x.is)
+            by-side (Op.Steal o ∷ x.below) x.last b.1 (e ∙ ap (λ (os : List Op). Op.Steal o ∷ os) x.is)
             (λ next z2. stealing o (x.below ++ next) refl h (both-light x.below next b.0 z2))
 
-    take-near : (c : Op) (side : List Op) → stack s p ≡ c ∷ op.Move move.TakeUp f ∷ side → weigh stray_of side ≡ 0 →
+    take-near : (c : Op) (side : List Op) → stack s p ≡ c ∷ Op.Move Move.TakeUp f ∷ side → weigh stray_of side ≡ 0 →
         Taken f before new.world.trace
     take-near c side e z = go (from-end side)
       where
         go : (side ≡ []) ⊎ Last side → Taken f before new.world.trace
-        go (inl x) = by-next (c ∷ []) (op.Move move.TakeUp f)
-            (e ∙ ap (λ (os : List Op). c ∷ op.Move move.TakeUp f ∷ os) x) refl
+        go (inl x) = by-next (c ∷ []) (Op.Move Move.TakeUp f)
+            (e ∙ ap (λ (os : List Op). c ∷ Op.Move Move.TakeUp f ∷ os) x) refl
         go (inr x) = let b : _ = light side x.below x.last x.is z in
-            by-side (c ∷ op.Move move.TakeUp f ∷ x.below) x.last b.1
-            (e ∙ ap (λ (os : List Op). c ∷ op.Move move.TakeUp f ∷ os) x.is)
+            by-side (c ∷ Op.Move Move.TakeUp f ∷ x.below) x.last b.1
+            (e ∙ ap (λ (os : List Op). c ∷ Op.Move Move.TakeUp f ∷ os) x.is)
             (λ next z2. taking c (x.below ++ next) refl (both-light x.below next b.0 z2))
 
     by-near : Near f (stack s p) → Taken f before new.world.trace
@@ -307,10 +293,10 @@ module _ (p f : ℕ) (before : Trace) (new : Machine) (idle : stack new p ≡ []
       are_onward_of p ts ≡ true → run_all ts s ≡ Ok new → Taken f before new.world.trace
   walks [] s y k (heading (stealing o side e h z)) on n =
       let same : s ≡ new = cc in
-      let no : op.Steal o ∷ side ≡ [] = sym e ∙ (ap (λ (m : Machine). stack m p) same ∙ idle) in absurd (cc)
+      let no : Op.Steal o ∷ side ≡ [] = sym e ∙ (ap (λ (m : Machine). stack m p) same ∙ idle) in absurd (cc)
   walks [] s y k (heading (taking c side e z)) on n =
       let same : s ≡ new = cc in
-      let no : c ∷ op.Move move.TakeUp f ∷ side ≡ [] = sym e ∙ (ap (λ (m : Machine). stack m p) same ∙ idle) in
+      let no : c ∷ Op.Move Move.TakeUp f ∷ side ≡ [] = sym e ∙ (ap (λ (m : Machine). stack m p) same ∙ idle) in
       absurd (cc)
   walks [] s y k (nearing under o e h) on n =
       let same : s ≡ new = cc in

@@ -2,28 +2,20 @@
 -- What a step of a party that alone takes steps takes up.
 use Rattle.std.proofs.Common.{◌≡◌, ◌∙◌, ℕ, List, [], ◌∷◌, ◌++◌, refl, sym, ap, Ok}
 use Rattle.std.specs.Prelude.{Option, Some, None}
-use Rattle.task_moves.specs.declared.moves.owed.Move.TheVariants as move
-use Rattle.executor_model.specs.declared.op.Op.{Op}
-use Rattle.executor_model.specs.declared.op.Op.TheVariants as op
-use Rattle.executor_model.specs.declared.step.Hint.{Hint}
-use Rattle.executor_model.specs.declared.step.Step.{Step}
-use Rattle.executor_model.specs.declared.step.Step.TheVariants.{Answer, Go}
-use Rattle.executor_model.specs.declared.step.UserEnd.{UserEnd}
-use Rattle.executor_model.specs.Doing.{act}
-use Rattle.executor_model.specs.Executions.{run_all}
-use Rattle.executor_model.specs.Steps.{Machine, gone_on, onto, react, refusal, stack, step, stepped, top, with_part}
-use Rattle.executor_model.specs.World.{Done}
-use Rattle.executor_model.proofs.Steps.Reached.{run-first}
-use Rattle.executor_model.proofs.Table.Spawning.{top-last}
+use Rattle.executor_laws.proofs.Types.{Move, Op, Hint, Step, Go, UserEnd}
+use Rattle.executor_model.specs.{declared.step.Step.TheVariants.Answer, Doing.act, Executions.run_all, Steps.Machine, Steps.gone_on}
+use Rattle.executor_model.specs.{Steps.onto, Steps.react, Steps.refusal, Steps.stack, Steps.step, Steps.stepped, Steps.top, Steps.with_part}
+use Rattle.executor_model.specs.{World.Done}
+use Rattle.executor_model.proofs.{Steps.Reached.run-first, Table.Spawning.top-last}
 use Rattle.executor_laws.specs.KeptFirst.{taken_by, taken_up}
 use Rattle.executor_laws.proofs.Promptness.Turns.{below-is, next-is}
 
 abbrev pub up_of : Op → List ℕ
-up_of (op.Move move.TakeUp f) = f ∷ []
+up_of (Op.Move Move.TakeUp f) = f ∷ []
 up_of _ = []
 
 pub go-takes : (p : ℕ) (h : Hint) (o : Op) → taken_by (Go p h) (Some o) ≡ up_of o
-go-takes p h (op.Move move.TakeUp f) = refl
+go-takes p h (Op.Move Move.TakeUp f) = refl
 go-takes p h _ = refl
 
 module _ (p : ℕ) (s new : Machine) (below : List Op) (o : Op) (ts : List Step) (e : stack s p ≡ below ++ o ∷ [])

@@ -4,23 +4,22 @@ use Rattle.std.proofs.Common.{◌≡◌, ◌≢◌, ◌⊎◌, ◌∙◌, inl, i
 use Rattle.std.proofs.Common.{false, eqb, refl, sym, ap, subst, arith}
 use Rattle.std.{proofs.lemmas.List.reverse-append, specs.Prelude.Some, specs.Prelude.None, specs.Prelude.reverse}
 use Rattle.executor_parts.specs.Marks.{other}
-use Rattle.executor_laws.proofs.Types.{Step, Begin, Go, UserEnd, Mark, Call, Reply, Kind, Hold, ListOp, Look, First, Second, Op}
-use Rattle.executor_laws.proofs.Types.{QueueOp, RunOp, RunPoll, Section, SleeperOp, Sleeping, Steal, StealOp, Then, TickOp}
-use Rattle.executor_model.specs.declared.step.Step.TheVariants.{Answer}
-use Rattle.executor_model.specs.ActsOfRuns.{asleep, behind, counted_by, found, free_places, reschedule_by, run_by, run_found}
-use Rattle.executor_model.specs.ActsOfRuns.{search_common_by, search_own_by, share, source_of, steal_by, steal_length_by}
-use Rattle.executor_model.specs.World.{Asleep, Awake, Done, Ended, Left, Listed, New, Stage, Ticker, World, own_of, put_own}
-use Rattle.executor_model.specs.ActsOfRuns.{steal_put_by, steal_take_by, stolen}
-use Rattle.executor_model.specs.Steps.{Machine, accepts, poll_run, react, refusal, run, stack, start, step, stepped, top, waits}
 use Rattle.executor_model.specs.{World.queue_of, World.run_of, ActsOfSleepers.found_by, Doing.act, Weights.weigh}
-use Rattle.executor_laws.specs.PendingPolls.{CommonHadNone, IsAnswered, OtherHadNone, RunFoundNone, RunsLookFirst, Walked}
-use Rattle.executor_laws.specs.PendingPolls.{run_poll}
-use Rattle.executor_model.proofs.Steps.Lists.{weigh-append, weigh-reverse}
 use Rattle.executor_model.proofs.{Quiet.Calls.is_end, Steps.Reached.Reached}
-use Rattle.executor_laws.proofs.Seeking.SeekStacks.{Comes, Follows, Lands, Next, answered-long, begins-so, own_part, seek}
-use Rattle.executor_laws.proofs.Seeking.SeekStacks.Next.{goes_on, had}
 use Rattle.executor_laws.proofs.{Types.TickOrRun, Types.UserOp, Types.Hint, Fewness.AnySteps.beside_of}
 use Rattle.executor_laws.proofs.{Placement.OwnReady.reached-on, Seeking.SeekStacks.Lands.on, Seeking.SeekStacks.Lands.over}
+use Rattle.executor_laws.proofs.Types.{Step, Begin, Go, UserEnd, Mark, Call, Reply, Kind, Hold, ListOp, Look, First, Second, Op, QueueOp}
+use Rattle.executor_laws.proofs.Types.{RunOp, RunPoll, Section, SleeperOp, Sleeping, Steal, StealOp, Then, TickOp}
+use Rattle.executor_model.specs.declared.step.Step.TheVariants.{Answer}
+use Rattle.executor_model.specs.ActsOfRuns.{asleep, behind, counted_by, found, free_places, reschedule_by, run_by, run_found}
+use Rattle.executor_model.specs.ActsOfRuns.{search_common_by, search_own_by, share, source_of, steal_by, steal_length_by, steal_put_by}
+use Rattle.executor_model.specs.ActsOfRuns.{steal_take_by, stolen}
+use Rattle.executor_model.specs.World.{Asleep, Awake, Done, Ended, Left, Listed, New, Stage, Ticker, World, own_of, put_own}
+use Rattle.executor_model.specs.Steps.{Machine, accepts, poll_run, react, refusal, run, stack, start, step, stepped, top, waits}
+use Rattle.executor_laws.specs.PendingPolls.{CommonHadNone, IsAnswered, OtherHadNone, RunFoundNone, RunsLookFirst, Walked, run_poll}
+use Rattle.executor_model.proofs.Steps.Lists.{weigh-append, weigh-reverse}
+use Rattle.executor_laws.proofs.Seeking.SeekStacks.{Comes, Follows, Lands, Next, answered-long, begins-so, own_part, seek}
+use Rattle.executor_laws.proofs.Seeking.SeekStacks.Next.{goes_on, had}
 use Rattle.executor_model.specs.declared.event.Answer.TheVariants as answer
 
 -- it looks on; its own queue has none; one of the executor's queues has none either, and it looks at that of this mark; or none

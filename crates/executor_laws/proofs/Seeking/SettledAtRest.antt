@@ -3,16 +3,15 @@
 use Rattle.std.proofs.Common.{◌≡◌, ◌⊎◌, inl, inr, ⊎_elim, ◌∙◌, ℕ, zero, suc, ◌≤◌, List, [], Bool, true, false, ◌||◌, not, cond}
 use Rattle.std.proofs.Common.{refl, sym, ap, arith}
 use Rattle.task_moves.specs.Moves.{is_going}
-use Rattle.executor_model.specs.Rows.{closing_of, ending_of, giving_of, polls_of, ready_of, settling_of, waiting_of}
 use Rattle.executor_model.specs.{Emptiness.IsAtRest, Good.Good, Sound.Sound, Sound.pend, Sound.phase, Sound.queued, Sound.times}
 use Rattle.executor_model.specs.{Sound.times_in, Sound.Phase.Broken, Sound.Phase.Over, Steps.Machine, Steps.run, Steps.stack}
 use Rattle.executor_model.specs.{Steps.start, Trace.has, Trace.is_drop_begun, Trace.is_dropped, World.queued_in, World.task}
-use Rattle.executor_laws.specs.HandlePolls.{DroppedIsSettled, is_unsettled}
-use Rattle.executor_model.proofs.Steps.Reached.{Reached, deep-here, good-here}
-use Rattle.executor_model.proofs.Table.Entering.{own-agrees, queue-agrees}
-use Rattle.executor_model.proofs.Quiet.Resting.{all-rest, rests}
 use Rattle.executor_model.proofs.{OneFuture.Telling.begun-has, Polls.Lawful.dropped-over, Table.LeavingExecutions.Placed}
 use Rattle.executor_laws.proofs.{Types.State, Types.Kind, Types.Step, Reach.Reached.heard-here}
+use Rattle.executor_model.specs.Rows.{closing_of, ending_of, giving_of, polls_of, ready_of, settling_of, waiting_of}
+use Rattle.executor_laws.specs.HandlePolls.{DroppedIsSettled, is_unsettled}
+use Rattle.executor_model.proofs.{Steps.Reached.Reached, Steps.Reached.deep-here, Steps.Reached.good-here, Table.Entering.own-agrees}
+use Rattle.executor_model.proofs.{Table.Entering.queue-agrees, Quiet.Resting.all-rest, Quiet.Resting.rests}
 
 no-more : (n : ℕ) → (1 ≤ n → ⊥) → n ≡ 0
 no-more zero k = refl

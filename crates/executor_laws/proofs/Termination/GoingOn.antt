@@ -3,15 +3,14 @@
 use Rattle.std.proofs.Common.{◌≡◌, ◌∙◌, ℕ, zero, suc, ◌<◌, ◌≤◌, List, [], ◌∷◌, length, get_or, Bool, true, false, cond, not}
 use Rattle.std.proofs.Common.{ltb, refl, sym, ap, subst, ⊎_elim, arith}
 use Rattle.std.{proofs.lemmas.Bool.Decides.nat_tests, specs.Prelude.Option, specs.Prelude.Some, specs.Prelude.None}
-use Rattle.executor_laws.proofs.Types.{UserEnd, Answer, Kind, ListOp, Op, UserOp, Hint, Step, Go, StepError, NoSuch}
-use Rattle.executor_laws.proofs.Types.{WrongAnswer}
-use Rattle.executor_model.specs.declared.step.StepError.TheVariants.{Waits}
-use Rattle.executor_model.specs.Steps.{Machine, accepts, answer_refusal, below_top, go_refusal, is_locked_out, refusal, run}
 use Rattle.executor_model.specs.{Steps.stack, Steps.start, Steps.top, Steps.unless, Steps.waits, OwnQueues.LockAgrees}
 use Rattle.executor_model.specs.{OwnQueues.reads_of, OwnQueues.writes_of, Weights.weigh, Weights.weigh_all, World.Lock}
-use Rattle.executor_laws.specs.GoingOn.{GoesOn, HolderGoesOn, IsTaken, held_of}
 use Rattle.executor_model.proofs.{Steps.Lift.topped, Steps.Lists.weigh-append, Steps.Lists.weigh_all-below}
 use Rattle.executor_model.proofs.{OwnQueues.OwnLocks.lock-agrees, Table.Spawning.in-range, Steps.Reached.Reached}
+use Rattle.executor_laws.proofs.Types.{UserEnd, Answer, Kind, ListOp, Op, UserOp, Hint, Step, Go, StepError, NoSuch, WrongAnswer}
+use Rattle.executor_model.specs.declared.step.StepError.TheVariants.{Waits}
+use Rattle.executor_model.specs.Steps.{Machine, accepts, answer_refusal, below_top, go_refusal, is_locked_out, refusal, run}
+use Rattle.executor_laws.specs.GoingOn.{GoesOn, HolderGoesOn, IsTaken, held_of}
 use Rattle.executor_laws.proofs.Termination.Holding.{has-top, held-on-top, weigh_below}
 
 -- how the user code on top may end

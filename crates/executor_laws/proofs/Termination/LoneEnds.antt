@@ -4,19 +4,17 @@ use Rattle.std.proofs.Common.{◌≡◌, ◌≢◌, ◌⊎◌, ◌∙◌, ℕ, z
 use Rattle.std.proofs.Common.{not, ◌==◌, eqb, ltb, refl, sym, ap, subst, inl, inr, arith, get_or-set_other, Ok}
 use Rattle.std.specs.Prelude.{Option, Some, None}
 use Rattle.std.{proofs.lemmas.Bool.Decides.nat_tests, proofs.Math.ListN.length-set}
+use Rattle.executor_model.specs.{Trace.Trace, Quiet.IsQuiet, Executions.run_all, Weights.weigh, World.Lock}
+use Rattle.executor_model.proofs.{Steps.Lift.no_hint, Quiet.Resting.Deep, Quiet.Resting.rests}
+use Rattle.executor_laws.proofs.{Termination.Ends.lowers, Termination.Ends.ends, Termination.Holding.has-top}
 use Rattle.executor_laws.proofs.Types.{Call, Kind, ListOp, Op, Step, Begin, Go, StepError, NoSuch}
 use Rattle.executor_model.specs.declared.step.Step.TheVariants.{Answer}
-use Rattle.executor_model.specs.Steps.{Machine, stack, top, waits, is_locked_out, unless, refusal, part_after, after, party_of}
-use Rattle.executor_model.specs.Steps.{run, start}
-use Rattle.executor_model.specs.{Trace.Trace, Quiet.IsQuiet, Executions.run_all, Weights.weigh, World.Lock}
-use Rattle.executor_laws.specs.LoneEnds.{is_onward_of, are_onward_of, IsLoneCall, LoneCallsEnd}
-use Rattle.executor_laws.specs.GoingOn.{CanGoOn, IsTaken, held_of}
-use Rattle.executor_laws.specs.Remaining.{remaining, is_onward, are_onward}
+use Rattle.executor_model.specs.Steps.{Machine, stack, top, waits, is_locked_out, unless, refusal, part_after, after, party_of, run, start}
+use Rattle.executor_laws.specs.{LoneEnds.is_onward_of, LoneEnds.are_onward_of, LoneEnds.IsLoneCall, LoneEnds.LoneCallsEnd, GoingOn.CanGoOn}
+use Rattle.executor_laws.specs.{GoingOn.IsTaken, GoingOn.held_of, Remaining.remaining, Remaining.is_onward, Remaining.are_onward}
 use Rattle.executor_model.proofs.Quiet.Calls.{calling_of, begun_by, ended_by}
 use Rattle.executor_model.proofs.Steps.Reached.{Reached, run-first, run-then, reached-more, reached-step, deep-here}
-use Rattle.executor_model.proofs.{Steps.Lift.no_hint, Quiet.Resting.Deep, Quiet.Resting.rests}
 use Rattle.executor_laws.proofs.Termination.GoingOn.{goes-on, held-here, holder-goes-on, holding-free}
-use Rattle.executor_laws.proofs.{Termination.Ends.lowers, Termination.Ends.ends, Termination.Holding.has-top}
 
 left-true : (a b : Bool) → (a && b) ≡ true → (a ≡ true) × (b ≡ true)
 left-true true b e = (refl, e)

@@ -6,22 +6,21 @@ use Rattle.std.{proofs.Common.arith, specs.Prelude.Option, specs.Prelude.Some, s
 use Rattle.task_moves.specs.declared.moves.owed.Answer.TheVariants.{Pending, Closed, Output}
 use Rattle.task_moves.{specs.declared.moves.owed.Answer.Answer, specs.Moves.is_over}
 use Rattle.queue_steps.specs.ClosableQueue.{appended, taken}
-use Rattle.executor_laws.proofs.Types.{Look, QueueOp, Plain, Urgent, First, Second, Mark, State, Moved, Event, Awaiter, Polled}
-use Rattle.executor_laws.proofs.Types.{Hold, Waker, Task, Outside, Op, HandleOp, Hint}
-use Rattle.executor_model.specs.World.{put_queue, queue_of, queued_in, World, Done, done, log, task, put, awaiter_of, without}
-use Rattle.executor_model.specs.Acts.{mark_in, take_turn, turned, close, append_by, take_by, enter_by, entered, entry_goes}
-use Rattle.executor_model.specs.Acts.{leave_by, copy_by, polled, reply_of, is_output, answered, look_by, look_again_by, copied}
-use Rattle.executor_model.specs.Acts.{copy_awaiter_by, register_by, waker_goes, let_go, let_go_by, end_register_by, notify_by}
-use Rattle.executor_model.specs.Acts.{told, end_notify, call_waker, closing_ops, take_out, drop_next_by, followed, wake}
-use Rattle.executor_model.specs.Acts.{wake_next_by, drain_by, leak_next_by, leak_out_by, leaking_ops}
 use Rattle.executor_model.specs.{World.among, Carried.awaiter_ops, Weights.weigh, Good.CanGrow, Good.CanWake, Good.IsKnownWaker}
-use Rattle.executor_laws.specs.Remaining.{stored, steps_of_task, steps_of_tasks, steps_of_runs, notified_of, ups, steps_kept}
 use Rattle.executor_laws.specs.{Remaining.steps_of_leak, Costs.steps_of, Costs.looks_left, Costs.queues_left}
 use Rattle.executor_model.proofs.{Steps.QueuesByMark.length-first, Steps.Lists.weigh-append}
-use Rattle.executor_laws.proofs.Termination.Spending.{length-last, Spends, kept-parts, leak-less, leak-more, tasks-push}
-use Rattle.executor_laws.proofs.Termination.Spending.{one_stored, stored-push, without-one, kept-put, kept-put_awaiter}
-use Rattle.executor_laws.proofs.Termination.Spending.{kept-log, kept-log_if, notify_other-steps, spends-logged, costs-waking}
-use Rattle.executor_laws.proofs.Termination.Spending.{closed-spent}
+use Rattle.executor_laws.proofs.Types.{Look, QueueOp, Plain, Urgent, First, Second, Mark, State, Moved, Event, Awaiter, Polled, Hold, Waker}
+use Rattle.executor_laws.proofs.Types.{Task, Outside, Op, HandleOp, Hint}
+use Rattle.executor_model.specs.World.{put_queue, queue_of, queued_in, World, Done, done, log, task, put, awaiter_of, without}
+use Rattle.executor_model.specs.Acts.{mark_in, take_turn, turned, close, append_by, take_by, enter_by, entered, entry_goes, leave_by}
+use Rattle.executor_model.specs.Acts.{copy_by, polled, reply_of, is_output, answered, look_by, look_again_by, copied, copy_awaiter_by}
+use Rattle.executor_model.specs.Acts.{register_by, waker_goes, let_go, let_go_by, end_register_by, notify_by, told, end_notify, call_waker}
+use Rattle.executor_model.specs.Acts.{closing_ops, take_out, drop_next_by, followed, wake, wake_next_by, drain_by, leak_next_by}
+use Rattle.executor_model.specs.Acts.{leak_out_by, leaking_ops}
+use Rattle.executor_laws.specs.Remaining.{stored, steps_of_task, steps_of_tasks, steps_of_runs, notified_of, ups, steps_kept}
+use Rattle.executor_laws.proofs.Termination.Spending.{length-last, Spends, kept-parts, leak-less, leak-more, tasks-push, one_stored}
+use Rattle.executor_laws.proofs.Termination.Spending.{stored-push, without-one, kept-put, kept-put_awaiter, kept-log, kept-log_if}
+use Rattle.executor_laws.proofs.Termination.Spending.{notify_other-steps, spends-logged, costs-waking, closed-spent}
 use Rattle.task_moves.specs.Moves as moves
 
 -- queue and table

@@ -2,22 +2,20 @@
 -- Each thing that is done spends a step of those that remain, by groups; those of ticks and runs apart.
 use Rattle.std.proofs.Common.{◌≡◌, ℕ, ◌<◌, [], ◌∷◌, length, true, false, refl, arith}
 use Rattle.task_moves.specs.Moves.{is_over}
+use Rattle.executor_model.specs.{World.World, World.task, Acts.take_to_drop, Acts.move_task, Doing.act, Good.Needs}
+use Rattle.executor_laws.proofs.{Types.UserOp, Types.WakerOp, Termination.SpendingTicks.spends-sleeper}
 use Rattle.executor_laws.proofs.Types.{Hint, UserEnd, Answer, Event, Polled, Op, ClosingOp, HandleOp, Move, QueueOp, TableOp}
 use Rattle.executor_model.specs.Steps.{waits, accepts, react}
-use Rattle.executor_model.specs.{World.World, World.task, Acts.take_to_drop, Acts.move_task, Doing.act, Good.Needs}
 use Rattle.executor_laws.specs.Costs.{steps_of}
 use Rattle.executor_model.proofs.OwnQueues.RunsAside.{is_run}
-use Rattle.executor_laws.proofs.Termination.SpendingActs.{spends-turn, spends-close, spends-append, spends-take, spends-enter}
-use Rattle.executor_laws.proofs.Termination.SpendingActs.{spends-leave, spends-as, kept-as, spends-look, spends-again}
-use Rattle.executor_laws.proofs.Termination.SpendingActs.{spends-copy, spends-copy_awaiter, spends-register}
-use Rattle.executor_laws.proofs.Termination.SpendingActs.{spends-end_register, spends-notify, spends-end_notify, spends-let_go}
-use Rattle.executor_laws.proofs.Termination.SpendingActs.{spends-wake, spends-call, spends-take_out, spends-drop_next}
-use Rattle.executor_laws.proofs.Termination.Spending.{Spends, kept-log, spends-carried, spends-logged, spends-told, costs-wake}
-use Rattle.executor_laws.proofs.Termination.Spending.{costs-release, costs-take_up, costs-settle_closed, costs-give_up}
-use Rattle.executor_laws.proofs.Termination.Spending.{costs-end_ready, costs-end_pending, costs-end_closed, costs-drop_runnable}
+use Rattle.executor_laws.proofs.Termination.SpendingActs.{spends-turn, spends-close, spends-append, spends-take, spends-enter, spends-leave}
+use Rattle.executor_laws.proofs.Termination.SpendingActs.{spends-as, kept-as, spends-look, spends-again, spends-copy, spends-copy_awaiter}
+use Rattle.executor_laws.proofs.Termination.SpendingActs.{spends-register, spends-end_register, spends-notify, spends-end_notify}
+use Rattle.executor_laws.proofs.Termination.SpendingActs.{spends-let_go, spends-wake, spends-call, spends-take_out, spends-drop_next}
 use Rattle.executor_laws.proofs.Termination.SpendingActs.{spends-leak_next, spends-leak_out, spends-wake_next, spends-drain}
-use Rattle.executor_laws.proofs.Termination.Spending.{costs-cancel, costs-detach}
-use Rattle.executor_laws.proofs.{Types.UserOp, Types.WakerOp, Termination.SpendingTicks.spends-sleeper}
+use Rattle.executor_laws.proofs.Termination.Spending.{Spends, kept-log, spends-carried, spends-logged, spends-told, costs-wake}
+use Rattle.executor_laws.proofs.Termination.Spending.{costs-release, costs-take_up, costs-settle_closed, costs-give_up, costs-end_ready}
+use Rattle.executor_laws.proofs.Termination.Spending.{costs-end_pending, costs-end_closed, costs-drop_runnable, costs-cancel, costs-detach}
 use Rattle.task_moves.specs.Moves as moves
 
 -- who settles a task that was closed, does so where it is over

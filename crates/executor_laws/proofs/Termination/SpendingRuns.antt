@@ -4,21 +4,20 @@ use Rattle.std.proofs.Common.{◌≡◌, ℕ, zero, suc, ◌+◌, ◌-◌, ◌*�
 use Rattle.std.proofs.Common.{get_or-set_same, Bool, true, false, ltb, eqb, cond, refl, ap, ◌∙◌, arith}
 use Rattle.std.proofs.lemmas.Bool.Decides.{nat_tests}
 use Rattle.queue_steps.specs.ClosableQueue.{taken}
-use Rattle.executor_laws.proofs.Types.{Look, First, Second, Reply, Event, Hold, ListOp, Op, Polled, RunOp, RunPoll, Section}
-use Rattle.executor_laws.proofs.Types.{TickOrRun, SleeperOp, Sleeping, Source, Common, Own, Steal, StealOp, Then, TickOp, Waker}
-use Rattle.executor_laws.proofs.Types.{Task, Outside, Hint}
-use Rattle.executor_model.specs.World.{put_queue, queue_of, Ticker, Awake, Asleep, Left, Lock, World, Stage, New, Listed, Ended}
-use Rattle.executor_model.specs.World.{Run, Done, log, no_run, new_run, run_of, put_run, own_of, put_own, task}
 use Rattle.executor_model.specs.{Acts.mark_in, ActsOfSleepers.found_by, Doing.list_act, Doing.run_act, Doing.steal_act}
 use Rattle.executor_model.specs.{Good.CanWake, Good.RunNeeds, Rows.running_of, Weights.is_run, Weights.same, Weights.weigh}
+use Rattle.executor_model.proofs.{Steps.QueuesByMark.length-first, Steps.Lists.same_is, Steps.Lists.weigh-append}
+use Rattle.executor_laws.proofs.{Termination.SpendingActs.kept-turned, Termination.Beside.by_reference}
+use Rattle.executor_laws.proofs.Types.{Look, First, Second, Reply, Event, Hold, ListOp, Op, Polled, RunOp, RunPoll, Section, TickOrRun}
+use Rattle.executor_laws.proofs.Types.{SleeperOp, Sleeping, Source, Common, Own, Steal, StealOp, Then, TickOp, Waker, Task, Outside, Hint}
+use Rattle.executor_model.specs.World.{put_queue, queue_of, Ticker, Awake, Asleep, Left, Lock, World, Stage, New, Listed, Ended, Run, Done}
+use Rattle.executor_model.specs.World.{log, no_run, new_run, run_of, put_run, own_of, put_own, task}
 use Rattle.executor_laws.specs.Costs.{left_by, steps_of, steps_of_search, steps_then, walk_of, walk_then}
 use Rattle.executor_laws.specs.Remaining.{steps_kept, steps_of_place, steps_of_runs}
 use Rattle.executor_model.proofs.OwnQueues.RunsAside.{runs_of, unseen}
 use Rattle.executor_model.proofs.OwnQueues.RunsMoving.{Weighs, walk-by, weighs-found, weighs-stolen, nothing-by}
-use Rattle.executor_model.proofs.{Steps.QueuesByMark.length-first, Steps.Lists.same_is, Steps.Lists.weigh-append}
 use Rattle.executor_laws.proofs.Termination.Spending.{length-less, Spends, kept-log, kept-parts, costs-wake, spends-logged}
 use Rattle.executor_laws.proofs.Termination.SpendingTicks.{notified-back, wakes_up-steps}
-use Rattle.executor_laws.proofs.{Termination.SpendingActs.kept-turned, Termination.Beside.by_reference}
 use Rattle.task_moves.specs.Moves as moves
 use Rattle.executor_model.specs.ActsOfRuns as runs
 

@@ -8,20 +8,18 @@ use Rattle.std.{proofs.lemmas.Bool.Decides.nat_tests, proofs.lemmas.List.length_
 use Rattle.queue_steps.specs.ClosableQueue.{taken}
 use Rattle.executor_parts.specs.Sleepers.{Sleepers, position_of, without_last, waker_at, waker_of, next_number, put_to_sleep}
 use Rattle.executor_parts.specs.Sleepers.{listed, without_entry, freed, woken_up}
-use Rattle.executor_laws.proofs.Types.{Look, First, Second, Move, Reply, Op, TickOrRun, Sleeping, SleeperOp}
-use Rattle.executor_model.specs.ActsOfSleepers.{search_tick, exchange_by, call_of, hand_out_by, make_tick_by, found_by, held_as}
-use Rattle.executor_model.specs.ActsOfSleepers.{polled_as, look_tick_by, copy_sleeper_by, pend_as, sleep_anew_by, sleeper_goes}
-use Rattle.executor_model.specs.ActsOfSleepers.{sleep_listed_by, sleep_again_by, fall_asleep_by, wake_up_by, given_back}
-use Rattle.executor_model.specs.World.{put_queue, queue_of, queued_in, World, Ticker, Awake, Asleep, Left, Run, no_run}
-use Rattle.executor_model.specs.ActsOfSleepers.{tell_and_return, leave_sleepers_by}
-use Rattle.executor_model.specs.World.{place_of, ticks_with, runs_with}
 use Rattle.executor_model.specs.{Acts.mark_in, Doing.sleeper_act, Good.IsKnownWaker, Good.SleeperNeeds, Weights.weigh}
+use Rattle.executor_model.proofs.{Steps.QueuesByMark.length-first, Steps.Lists.weigh-append}
+use Rattle.executor_laws.proofs.Types.{Look, First, Second, Move, Reply, Op, TickOrRun, Sleeping, SleeperOp}
+use Rattle.executor_model.specs.ActsOfSleepers.{search_tick, exchange_by, call_of, hand_out_by, make_tick_by, found_by, held_as, polled_as}
+use Rattle.executor_model.specs.ActsOfSleepers.{look_tick_by, copy_sleeper_by, pend_as, sleep_anew_by, sleeper_goes, sleep_listed_by}
+use Rattle.executor_model.specs.ActsOfSleepers.{sleep_again_by, fall_asleep_by, wake_up_by, given_back, tell_and_return, leave_sleepers_by}
+use Rattle.executor_model.specs.World.{put_queue, queue_of, queued_in, World, Ticker, Awake, Asleep, Left, Run, no_run, place_of}
+use Rattle.executor_model.specs.World.{ticks_with, runs_with}
 use Rattle.executor_laws.specs.Costs.{steps_of, steps_of_copy, steps_of_sleeping, steps_of_search, looks_left}
 use Rattle.executor_laws.specs.Remaining.{notified_of, up_of, ups, steps_kept, steps_of_runs}
 use Rattle.executor_model.proofs.Steps.SleepersLists.{position-within}
-use Rattle.executor_model.proofs.{Steps.QueuesByMark.length-first, Steps.Lists.weigh-append}
-use Rattle.executor_laws.proofs.Termination.SpendingActs.{looks-some, kept-turned, kept-as, spends-as, kept-copied, goes-steps}
-use Rattle.executor_laws.proofs.Termination.SpendingActs.{spends-call}
+use Rattle.executor_laws.proofs.Termination.SpendingActs.{looks-some, kept-turned, kept-as, spends-as, kept-copied, goes-steps, spends-call}
 use Rattle.executor_laws.proofs.Termination.Spending.{Spends, kept-parts}
 
 -- sleepers that were notified

@@ -5,63 +5,27 @@ use Rattle.std.proofs.Common.{◌≡◌, ◌∙◌, ◌⊎◌, inl, inr, ⊎_eli
 use Rattle.std.proofs.Common.{get_or, get_or-set_same, Bool, true, false, ltb, refl, sym, ap, subst, arith, append-nil}
 use Rattle.std.proofs.lemmas.List.{reverse-append}
 use Rattle.std.specs.Prelude.{reverse}
-use Rattle.executor_model.specs.declared.op.Look.TheVariants.{First, Second}
-use Rattle.executor_model.specs.declared.op.Look.{Look}
-use Rattle.executor_parts.specs.declared.mark.Mark.{Mark}
-use Rattle.executor_parts.specs.declared.mark.Mark.TheVariants.{Plain, Urgent}
 use Rattle.executor_parts.specs.Marks.{first_of, other}
 use Rattle.queue_steps.specs.ClosableQueue.{ClosableQueue, taken}
-use Rattle.executor_model.specs.Queues.{Queues, queue_in}
-use Rattle.executor_model.specs.World.{done, put_queue, queue_of}
-use Rattle.executor_model.specs.Acts.{mark_in, take_turn, turned}
-use Rattle.executor_model.specs.declared.event.Event.{Event}
-use Rattle.task_moves.specs.declared.moves.owed.Move.TheVariants as move
-use Rattle.executor_model.specs.declared.call.Reply.TheVariants as reply
-use Rattle.executor_model.specs.declared.event.Event.TheVariants as event
-use Rattle.executor_model.specs.declared.op.Hold.TheVariants as hold
-use Rattle.executor_model.specs.declared.op.Op.{Op}
-use Rattle.executor_model.specs.declared.op.Op.TheVariants as op
-use Rattle.executor_model.specs.declared.op.Polled.TheVariants as of
-use Rattle.executor_model.specs.declared.op.RunOp.TheVariants as run_op
-use Rattle.executor_model.specs.declared.op.RunPoll.{RunPoll}
-use Rattle.executor_model.specs.declared.op.SleeperOp.TheVariants as sleeper_op
-use Rattle.executor_model.specs.declared.op.Source.TheVariants.{Common}
-use Rattle.executor_model.specs.declared.op.Steal.{Steal}
-use Rattle.executor_model.specs.declared.op.StealOp.{StealOp}
-use Rattle.executor_model.specs.declared.op.StealOp.TheVariants as steal_op
-use Rattle.executor_model.specs.declared.op.Then.{Then}
-use Rattle.executor_model.specs.declared.op.Then.TheVariants as then
-use Rattle.executor_model.specs.declared.op.TickOp.TheVariants as tick_op
-use Rattle.executor_model.specs.declared.op.TickOrRun.{TickOrRun}
-use Rattle.executor_model.specs.declared.op.TickOrRun.TheVariants as tick_or_run
-use Rattle.executor_model.specs.declared.op.UserOp.TheVariants as user_op
-use Rattle.executor_model.specs.declared.op.Waker.{Waker}
-use Rattle.executor_model.specs.declared.op.Waker.TheVariants.{Task, Outside}
-use Rattle.executor_model.specs.declared.step.Hint.{Hint}
-use Rattle.executor_model.specs.Acts.{followed}
-use Rattle.executor_model.specs.ActsOfRuns.{asleep, call_by_reference, counted_by, counted_to, found, free_places, kept_by}
-use Rattle.executor_model.specs.ActsOfRuns.{run_by, search_common_by, search_own_by, steal_by, steal_length_by}
-use Rattle.executor_model.specs.ActsOfRuns.{steal_put_by, steal_take_by, stolen, wake_own}
-use Rattle.executor_model.specs.ActsOfSleepers.{found_by}
-use Rattle.executor_model.specs.Doing.{act}
-use Rattle.executor_model.specs.Trace.{Trace}
-use Rattle.executor_model.specs.Weights.{weigh}
-use Rattle.executor_model.specs.World.{Asleep, Awake, Done, Left, Ticker, World, log, own_of, put_own}
-use Rattle.executor_model.proofs.OwnQueues.UsingRuns.{idle-stolen}
-use Rattle.executor_model.proofs.OwnQueues.UsingWorlds.{idle-act}
-use Rattle.executor_model.proofs.Steps.Lists.{weigh-append, weigh-reverse}
-use Rattle.executor_model.proofs.Steps.QueuesByMark.{mark-cases, queue-put-same}
-use Rattle.executor_laws.proofs.Reach.LoneMoves.{Inner, inner-act, stray_of}
-use Rattle.executor_laws.proofs.Reach.Spots.{named, named-append, named-none}
-use Rattle.executor_laws.proofs.RunReach.RunFinds.{Heads, heads-found}
-use Rattle.executor_laws.proofs.RunReach.RunFinds.Heading.{stealing}
-use Rattle.executor_laws.proofs.RunReach.RunLeaves.{within}
-use Rattle.executor_laws.proofs.Turns.Standing.{Beside, Phase, Standing, Untold}
-use Rattle.executor_laws.proofs.Turns.Standing.Phase.{looking, ongoing}
+use Rattle.executor_laws.proofs.Types.{First, Second, Look, Mark, Plain, Urgent, Event, Move, Reply, Hold, Op, Polled, RunOp, RunPoll}
+use Rattle.executor_laws.proofs.Types.{SleeperOp, Common, Steal, StealOp, Then, TickOp, TickOrRun, UserOp, Waker, Task, Outside, Hint}
+use Rattle.executor_model.specs.{Queues.Queues, Queues.queue_in, World.done, World.put_queue, World.queue_of, Acts.mark_in, Acts.take_turn}
+use Rattle.executor_model.specs.{Acts.turned, Acts.followed, ActsOfRuns.asleep, ActsOfRuns.call_by_reference, ActsOfRuns.counted_by}
+use Rattle.executor_model.specs.{ActsOfRuns.counted_to, ActsOfRuns.found, ActsOfRuns.free_places, ActsOfRuns.kept_by, ActsOfRuns.run_by}
+use Rattle.executor_model.specs.{ActsOfRuns.search_common_by, ActsOfRuns.search_own_by, ActsOfRuns.steal_by, ActsOfRuns.steal_length_by}
+use Rattle.executor_model.specs.{ActsOfRuns.steal_put_by, ActsOfRuns.steal_take_by, ActsOfRuns.stolen, ActsOfRuns.wake_own}
+use Rattle.executor_model.specs.{ActsOfSleepers.found_by, Doing.act, Trace.Trace, Weights.weigh, World.Asleep, World.Awake, World.Done}
+use Rattle.executor_model.specs.{World.Left, World.Ticker, World.World, World.log, World.own_of, World.put_own}
+use Rattle.executor_model.proofs.{OwnQueues.UsingRuns.idle-stolen, OwnQueues.UsingWorlds.idle-act, Steps.Lists.weigh-append}
+use Rattle.executor_model.proofs.{Steps.Lists.weigh-reverse, Steps.QueuesByMark.mark-cases, Steps.QueuesByMark.queue-put-same}
+use Rattle.executor_laws.proofs.{Reach.LoneMoves.Inner, Reach.LoneMoves.inner-act, Reach.LoneMoves.stray_of, Reach.Spots.named}
+use Rattle.executor_laws.proofs.{Reach.Spots.named-append, Reach.Spots.named-none, RunReach.RunFinds.Heads, RunReach.RunFinds.heads-found}
+use Rattle.executor_laws.proofs.{RunReach.RunFinds.Heading.stealing, RunReach.RunLeaves.within, Turns.Standing.Beside, Turns.Standing.Phase}
+use Rattle.executor_laws.proofs.{Turns.Standing.Standing, Turns.Standing.Untold, Turns.Standing.Phase.looking, Turns.Standing.Phase.ongoing}
 
 -- what a steal has in hand stands behind the run's own queue
 abbrev pub with_hand : Op → List ℕ → List ℕ
-with_hand (op.Steal (steal_op.Put s more g)) own = own ++ g ∷ []
+with_hand (Op.Steal (StealOp.Put s more g)) own = own ++ g ∷ []
 with_hand _ own = own
 
 -- so near is f to run q, which is about to do this
@@ -83,16 +47,16 @@ other-twice Urgent = refl
 -- what the run itself does while something is queued
 
 abbrev pub NoWalk : Then → Type 0
-NoWalk (then.Found f) = true ≡ true
-NoWalk (then.StealPlain f) = true ≡ true
-NoWalk (then.Run f) = true ≡ true
-NoWalk (then.Walk at left) = ⊥
+NoWalk (Then.Found f) = true ≡ true
+NoWalk (Then.StealPlain f) = true ≡ true
+NoWalk (Then.Run f) = true ≡ true
+NoWalk (Then.Walk at left) = ⊥
 
 abbrev pub steal_in : StealOp → Steal
-steal_in (steal_op.Length s) = s
-steal_in (steal_op.OwnLength s n) = s
-steal_in (steal_op.Take s more) = s
-steal_in (steal_op.Put s more f) = s
+steal_in (StealOp.Length s) = s
+steal_in (StealOp.OwnLength s n) = s
+steal_in (StealOp.Take s more) = s
+steal_in (StealOp.Put s more f) = s
 
 abbrev pub OfCommon : ℕ → Steal → Type 0
 OfCommon q s = (s.poll.run ≡ q) × ((mark : Mark) × (s.from ≡ Common mark)) × NoWalk s.then
@@ -102,13 +66,13 @@ abbrev pub LooksSo : Mark → Phase → Mark → Type 0
 LooksSo m t k = (k ≡ m) ⊎ ((k ≡ other m) × Untold t)
 
 abbrev pub Doing : Mark → ℕ → Phase → Op → Type 0
-Doing m q t (op.Tick (tick_op.Search s)) = (s.who ≡ tick_or_run.Run q) × Untold t
-Doing m q t (op.Run (run_op.TakeTurn x)) = (x.run ≡ q) × Untold t
-Doing m q t (op.Run (run_op.SearchCommon x (First k))) = (x.run ≡ q) × LooksSo m t k
-Doing m q t (op.Run (run_op.SearchCommon x (Second k))) = (x.run ≡ q) × (k ≡ m)
-Doing m q t (op.Run (run_op.WakeOwn x)) = (x.run ≡ q) × (t ≡ ongoing)
-Doing m q t (op.Steal o) = OfCommon q (steal_in o) × (t ≡ ongoing)
-Doing m q t (op.End a held) = t ≡ ongoing
+Doing m q t (Op.Tick (TickOp.Search s)) = (s.who ≡ TickOrRun.Run q) × Untold t
+Doing m q t (Op.Run (RunOp.TakeTurn x)) = (x.run ≡ q) × Untold t
+Doing m q t (Op.Run (RunOp.SearchCommon x (First k))) = (x.run ≡ q) × LooksSo m t k
+Doing m q t (Op.Run (RunOp.SearchCommon x (Second k))) = (x.run ≡ q) × (k ≡ m)
+Doing m q t (Op.Run (RunOp.WakeOwn x)) = (x.run ≡ q) × (t ≡ ongoing)
+Doing m q t (Op.Steal o) = OfCommon q (steal_in o) × (t ≡ ongoing)
+Doing m q t (Op.End a held) = t ≡ ongoing
 Doing m q t _ = ⊥
 
 -- it goes on with one thing of its own, below others, with nothing in its hand
@@ -135,37 +99,37 @@ holds-behind m q ops next z h = record {
 
 holds-run_by : (m : Mark) (b : Bool) (w : World) (x : RunPoll) (f : ℕ) → Holds m x.run (run_by b w x f).next
 holds-run_by m true w x f =
-    holds-behind m x.run (op.Move move.TakeUp f ∷ []) (op.Run (run_op.WakeOwn x) ∷ []) refl
-    (holds-one m x.run (op.Run (run_op.WakeOwn x)) (refl, refl) (λ own. refl))
+    holds-behind m x.run (Op.Move Move.TakeUp f ∷ []) (Op.Run (RunOp.WakeOwn x) ∷ []) refl
+    (holds-one m x.run (Op.Run (RunOp.WakeOwn x)) (refl, refl) (λ own. refl))
 holds-run_by m false w x f =
-    holds-behind m x.run (op.Move move.TakeUp f ∷ []) (op.Tick (tick_op.Search (asleep x)) ∷ []) refl
-    (holds-one m x.run (op.Tick (tick_op.Search (asleep x))) (refl, refl) (λ own. refl))
+    holds-behind m x.run (Op.Move Move.TakeUp f ∷ []) (Op.Tick (TickOp.Search (asleep x)) ∷ []) refl
+    (holds-one m x.run (Op.Tick (TickOp.Search (asleep x))) (refl, refl) (λ own. refl))
 
 -- a steal that begins
 begins : (m k : Mark) (x : RunPoll) (t : Then) → NoWalk t →
-    Holds m x.run (op.Steal (steal_op.Length (record { poll = x; from = Common k; then = t })) ∷ [])
-begins m k x t n = holds-one m x.run (op.Steal (steal_op.Length (record { poll = x; from = Common k; then = t })))
+    Holds m x.run (Op.Steal (StealOp.Length (record { poll = x; from = Common k; then = t })) ∷ [])
+begins m k x t n = holds-one m x.run (Op.Steal (StealOp.Length (record { poll = x; from = Common k; then = t })))
     ((refl, (k, refl), n), refl) (λ own. refl)
 
 holds-counted_by : (m : Mark) (b : Bool) (w : World) (x : RunPoll) (f : ℕ) → Holds m x.run (counted_by b w x f).next
-holds-counted_by m true w x f = begins m Urgent x (then.StealPlain f) refl
+holds-counted_by m true w x f = begins m Urgent x (Then.StealPlain f) refl
 holds-counted_by m false w x f = holds-run_by m _ (counted_to w x.run _) x f
 
-found-light : (x : Ticker) (who : TickOrRun) → weigh stray_of (found_by x who (op.Sleeper sleeper_op.ExchangeFlag ∷ [])) ≡ 0
+found-light : (x : Ticker) (who : TickOrRun) → weigh stray_of (found_by x who (Op.Sleeper SleeperOp.ExchangeFlag ∷ [])) ≡ 0
 found-light Awake who = refl
 found-light (Asleep n) who = refl
 found-light Left who = refl
 
 holds-found : (m : Mark) (w : World) (x : RunPoll) (f : ℕ) → Holds m x.run (found w x f).next
 holds-found m w x f =
-    holds-behind m x.run (found_by _ (tick_or_run.Run x.run) (op.Sleeper sleeper_op.ExchangeFlag ∷ [])) (counted_by _ w x f).next
-    (found-light _ (tick_or_run.Run x.run)) (holds-counted_by m _ w x f)
+    holds-behind m x.run (found_by _ (TickOrRun.Run x.run) (Op.Sleeper SleeperOp.ExchangeFlag ∷ [])) (counted_by _ w x f).next
+    (found-light _ (TickOrRun.Run x.run)) (holds-counted_by m _ w x f)
 
 holds-stolen : (m : Mark) (t : Then) (w : World) (x : RunPoll) → NoWalk t → Holds m x.run (stolen t w x).next
-holds-stolen m (then.Found f) w x k = holds-found m w x f
-holds-stolen m (then.StealPlain f) w x k = begins m Plain x (then.Run f) refl
-holds-stolen m (then.Run f) w x k = holds-run_by m _ w x f
-holds-stolen m (then.Walk at left) w x k = absurd k
+holds-stolen m (Then.Found f) w x k = holds-found m w x f
+holds-stolen m (Then.StealPlain f) w x k = begins m Plain x (Then.Run f) refl
+holds-stolen m (Then.Run f) w x k = holds-run_by m _ w x f
+holds-stolen m (Then.Walk at left) w x k = absurd k
 
 -- the executor's queues stay, and nothing is told of
 abbrev Still : World → World → Type 0
@@ -180,23 +144,23 @@ still-counted true w x f = (refl, refl)
 still-counted false w x f = still-run _ (counted_to w x.run _) x f
 
 still-stolen : (t : Then) (w : World) (x : RunPoll) → Still w (stolen t w x).world
-still-stolen (then.Found f) w x = still-counted _ w x f
-still-stolen (then.StealPlain f) w x = (refl, refl)
-still-stolen (then.Run f) w x = still-run _ w x f
-still-stolen (then.Walk at left) w x = (refl, refl)
+still-stolen (Then.Found f) w x = still-counted _ w x f
+still-stolen (Then.StealPlain f) w x = (refl, refl)
+still-stolen (Then.Run f) w x = still-run _ w x f
+still-stolen (Then.Walk at left) w x = (refl, refl)
 
 -- how often a mark was named
 
 named-last : (m : Mark) (e : Event) (es : Trace) → named m (e ∷ []) ≡ 0 → named m (es ++ e ∷ []) ≡ named m es
 named-last m e es z = omega (arith, z, named-append m es (e ∷ []))
 
-named-turn : (m : Mark) (p : ℕ) (es : Trace) → named m (es ++ event.Looked p m ∷ []) ≡ suc (named m es)
-named-turn Plain p es = omega (arith, named-append Plain es (event.Looked p Plain ∷ []))
-named-turn Urgent p es = omega (arith, named-append Urgent es (event.Looked p Urgent ∷ []))
+named-turn : (m : Mark) (p : ℕ) (es : Trace) → named m (es ++ Event.Looked p m ∷ []) ≡ suc (named m es)
+named-turn Plain p es = omega (arith, named-append Plain es (Event.Looked p Plain ∷ []))
+named-turn Urgent p es = omega (arith, named-append Urgent es (Event.Looked p Urgent ∷ []))
 
-named-other : (m : Mark) (p : ℕ) (es : Trace) → named m (es ++ event.Looked p (other m) ∷ []) ≡ named m es
-named-other Plain p es = named-last Plain (event.Looked p Urgent) es refl
-named-other Urgent p es = named-last Urgent (event.Looked p Plain) es refl
+named-other : (m : Mark) (p : ℕ) (es : Trace) → named m (es ++ Event.Looked p (other m) ∷ []) ≡ named m es
+named-other Plain p es = named-last Plain (Event.Looked p Urgent) es refl
+named-other Urgent p es = named-last Urgent (Event.Looked p Plain) es refl
 
 -- what is left of a queue whose first is taken
 
@@ -249,15 +213,15 @@ module _ (f : ℕ) (m : Mark) (P : Phase → ℕ → List ℕ → List ℕ → T
 
   pub after-own : (t : Phase) (xs : List ℕ) (w : World) (x : RunPoll) → own_of w x.run ≡ xs → Untold t →
       Rests P m x.run t w → After P m x.run f w (search_own_by xs w x)
-  after-own t [] w x o u z = record { goes = on t (op.Run (run_op.TakeTurn x)) [] refl (refl, u) refl z; gone = refl }
+  after-own t [] w x o u z = record { goes = on t (Op.Run (RunOp.TakeTurn x)) [] refl (refl, u) refl z; gone = refl }
   after-own t (h ∷ rest) w x o u z = ⊎_elim
       (λ (y : h ≡ f). record {
         goes = finds (subst (λ (g : ℕ). Heads f w.trace w.gone (found (put_own w x.run rest) x g)) (sym y)
             (heads-found f (put_own w x.run rest) x));
-        gone = (idle-stolen (then.Found h) (put_own w x.run rest) x).gone;
+        gone = (idle-stolen (Then.Found h) (put_own w x.run rest) x).gone;
       })
       (λ (y : P ongoing (named m w.trace) rest (queue_of w m).items).
-      after-stolen (then.Found h) w (put_own w x.run rest) x refl refl
+      after-stolen (Then.Found h) w (put_own w x.run rest) x refl refl
       (subst (λ (ys : List ℕ). P ongoing (named m w.trace) ys (queue_of w m).items)
       (sym (get_or-set_same w.own x.run rest [] (within w.own x.run h rest o))) y))
       (law.first t (named m w.trace) h rest (queue_of w m).items
@@ -265,36 +229,36 @@ module _ (f : ℕ) (m : Mark) (P : Phase → ℕ → List ℕ → List ℕ → T
 
   -- it takes its turn
   pub after-turn : (t : Phase) (p : ℕ) (w : World) (x : RunPoll) → own_of w x.run ≡ [] → Untold t → Rests P m x.run t w →
-      After P m x.run f w (take_turn p w (λ (look : Look). op.Run (run_op.SearchCommon x look)))
+      After P m x.run f w (take_turn p w (λ (look : Look). Op.Run (RunOp.SearchCommon x look)))
   after-turn t p w x o u z = record {
     goes = by (first_of w.urgent_turns) (mark-cases m (first_of w.urgent_turns));
     gone = refl;
   }
     where
       by : (k : Mark) → (k ≡ m) ⊎ (k ≡ other m) → Goes P m x.run f w.trace w.gone
-          (done (record w { trace = w.trace ++ event.Looked p k ∷ []; urgent_turns = (turned p w).urgent_turns })
-          (op.Run (run_op.SearchCommon x (First k)) ∷ []))
-      by k (inl e) = on looking (op.Run (run_op.SearchCommon x (First k))) [] refl (refl, inl e) refl
-          (carry looking (suc (named m w.trace)) (named m (w.trace ++ event.Looked p k ∷ [])) [] (own_of w x.run)
+          (done (record w { trace = w.trace ++ Event.Looked p k ∷ []; urgent_turns = (turned p w).urgent_turns })
+          (Op.Run (RunOp.SearchCommon x (First k)) ∷ []))
+      by k (inl e) = on looking (Op.Run (RunOp.SearchCommon x (First k))) [] refl (refl, inl e) refl
+          (carry looking (suc (named m w.trace)) (named m (w.trace ++ Event.Looked p k ∷ [])) [] (own_of w x.run)
           (queue_of w m).items (queue_of w m).items
-          (ap (λ (n : Mark). named m (w.trace ++ event.Looked p n ∷ [])) e ∙ named-turn m p w.trace) o refl
+          (ap (λ (n : Mark). named m (w.trace ++ Event.Looked p n ∷ [])) e ∙ named-turn m p w.trace) o refl
           (law.turns t (named m w.trace) (queue_of w m).items u
           (subst (λ (ys : List ℕ). P t (named m w.trace) ys (queue_of w m).items) o z)))
-      by k (inr e) = on t (op.Run (run_op.SearchCommon x (First k))) [] refl (refl, inr (e, u)) refl
-          (carry t (named m w.trace) (named m (w.trace ++ event.Looked p k ∷ [])) (own_of w x.run) (own_of w x.run)
+      by k (inr e) = on t (Op.Run (RunOp.SearchCommon x (First k))) [] refl (refl, inr (e, u)) refl
+          (carry t (named m w.trace) (named m (w.trace ++ Event.Looked p k ∷ [])) (own_of w x.run) (own_of w x.run)
           (queue_of w m).items (queue_of w m).items
-          (ap (λ (n : Mark). named m (w.trace ++ event.Looked p n ∷ [])) e ∙ named-other m p w.trace) refl refl z)
+          (ap (λ (n : Mark). named m (w.trace ++ Event.Looked p n ∷ [])) e ∙ named-other m p w.trace) refl refl z)
 
   -- it looks at the queue of the mark, first or second
 
   after-found : (t : Phase) (k : Mark) (h : ℕ) (rest : List ℕ) (w : World) (x : RunPoll) → k ≡ m →
       (queue_of w m).items ≡ h ∷ rest → own_of w x.run ≡ [] → Rests P m x.run t w →
       After P m x.run f w (done (put_queue w k (taken (queue_of w k)))
-      (op.Steal (steal_op.Length (common_steal x k (then.Found h))) ∷ []))
+      (Op.Steal (StealOp.Length (common_steal x k (Then.Found h))) ∷ []))
   after-found t k h rest w x e i o z = ⊎_elim
       (λ (y : h ≡ f). record {
         goes = finds (record {
-          heading = stealing (steal_op.Length (common_steal x k (then.Found h))) [] refl (sym y) refl;
+          heading = stealing (StealOp.Length (common_steal x k (Then.Found h))) [] refl (sym y) refl;
           events = [];
           trace = sym (append-nil w.trace);
           there = refl;
@@ -302,7 +266,7 @@ module _ (f : ℕ) (m : Mark) (P : Phase → ℕ → List ℕ → List ℕ → T
         gone = refl;
       })
       (λ (y : P ongoing (named m w.trace) [] rest). record {
-        goes = on ongoing (op.Steal (steal_op.Length (common_steal x k (then.Found h)))) [] refl
+        goes = on ongoing (Op.Steal (StealOp.Length (common_steal x k (Then.Found h)))) [] refl
             ((refl, (k, refl), refl), refl) refl
             (carry ongoing (named m w.trace) (named m w.trace) [] (own_of w x.run) rest
             (queue_of (put_queue w k (taken (queue_of w k))) m).items refl o
@@ -329,13 +293,13 @@ module _ (f : ℕ) (m : Mark) (P : Phase → ℕ → List ℕ → List ℕ → T
       (queue_of w k).items ≡ xs → own_of w x.run ≡ [] → Others P m w → Rests P m x.run t w →
       After P m x.run f w (search_common_by xs w x (First k))
   after-other t k [] w x e u i o b z = record {
-    goes = on t (op.Run (run_op.SearchCommon x (Second (other k)))) [] refl (refl, ap other e ∙ other-twice m) refl z;
+    goes = on t (Op.Run (RunOp.SearchCommon x (Second (other k)))) [] refl (refl, ap other e ∙ other-twice m) refl z;
     gone = refl;
   }
   after-other t k (h ∷ rest) w x e u i o (inl gone) z =
       let empty : h ∷ rest ≡ [] = sym i ∙ (ap (λ (n : Mark). (queue_of w n).items) e ∙ gone) in absurd (cc)
   after-other t k (h ∷ rest) w x e u i o (inr b) z = record {
-    goes = on ongoing (op.Steal (steal_op.Length (common_steal x k (then.Found h)))) [] refl
+    goes = on ongoing (Op.Steal (StealOp.Length (common_steal x k (Then.Found h)))) [] refl
         ((refl, (k, refl), refl), refl) refl
         (carry ongoing (named m w.trace) (named m w.trace) [] (own_of w x.run) (queue_of w m).items
         (queue_of (put_queue w k (taken (queue_of w k))) m).items refl o
@@ -351,7 +315,7 @@ module _ (f : ℕ) (m : Mark) (P : Phase → ℕ → List ℕ → List ℕ → T
       After P m x.run f w (steal_length_by l w (common_steal x mark t))
   after-length zero w x mark t n z = after-stolen t w w x n refl z
   after-length (suc l) w x mark t n z = record {
-    goes = on ongoing (op.Steal (steal_op.OwnLength (common_steal x mark t) (suc l))) [] refl
+    goes = on ongoing (Op.Steal (StealOp.OwnLength (common_steal x mark t) (suc l))) [] refl
         ((refl, (mark, refl), n), refl) refl z;
     gone = refl;
   }
@@ -360,7 +324,7 @@ module _ (f : ℕ) (m : Mark) (P : Phase → ℕ → List ℕ → List ℕ → T
       Rests P m x.run ongoing v → After P m x.run f w (steal_by l v (common_steal x mark t))
   after-steal_by zero w v x mark t e n z = after-stolen t w v x n e z
   after-steal_by (suc l) w v x mark t e n z = record {
-    goes = on ongoing (op.Steal (steal_op.Take (common_steal x mark t) l)) [] refl ((refl, (mark, refl), n), refl) refl z;
+    goes = on ongoing (Op.Steal (StealOp.Take (common_steal x mark t) l)) [] refl ((refl, (mark, refl), n), refl) refl z;
     gone = e;
   }
 
@@ -374,7 +338,7 @@ module _ (f : ℕ) (m : Mark) (P : Phase → ℕ → List ℕ → List ℕ → T
           (queue_of (put_queue w mark (taken (queue_of w mark))) m).items →
           After P m x.run f w (steal_take_by (h ∷ rest) w (common_steal x mark t) more)
       has y = record {
-        goes = on ongoing (op.Steal (steal_op.Put (common_steal x mark t) more h)) [] refl
+        goes = on ongoing (Op.Steal (StealOp.Put (common_steal x mark t) more h)) [] refl
             ((refl, (mark, refl), n), refl) refl y;
         gone = refl;
       }
@@ -405,24 +369,24 @@ module _ (f : ℕ) (m : Mark) (P : Phase → ℕ → List ℕ → List ℕ → T
       let v : World = kept_by p w x.run h in
       after-steal_by more w v x mark t refl n
       (carry ongoing (named m w.trace) (named m v.trace) (own_of w x.run ++ h ∷ []) (own_of v x.run) (queue_of w m).items
-      (queue_of w m).items (named-last m (event.Kept p h x.run) w.trace refl)
+      (queue_of w m).items (named-last m (Event.Kept p h x.run) w.trace refl)
       (get_or-set_same w.own x.run (own_of w x.run ++ h ∷ []) [] l) refl z)
 
   pub after-steal : (p : ℕ) (o : StealOp) (w : World) (x : RunPoll) (mark : Mark) (t : Then) (h : Hint) →
       Others P m w → steal_in o ≡ common_steal x mark t → NoWalk t → x.run < length w.own →
-      ((s : Steal) (more g : ℕ) → o ≡ steal_op.Put s more g → ltb 0 (free_places w x.run) ≡ true) →
-      Stands P m x.run ongoing (op.Steal o) w → After P m x.run f w (act p h (op.Steal o) w)
-  after-steal p (steal_op.Length s) w x mark t h b e n l r z =
-      subst (λ (y : Steal). After P m x.run f w (act p h (op.Steal (steal_op.Length y)) w)) (sym e)
+      ((s : Steal) (more g : ℕ) → o ≡ StealOp.Put s more g → ltb 0 (free_places w x.run) ≡ true) →
+      Stands P m x.run ongoing (Op.Steal o) w → After P m x.run f w (act p h (Op.Steal o) w)
+  after-steal p (StealOp.Length s) w x mark t h b e n l r z =
+      subst (λ (y : Steal). After P m x.run f w (act p h (Op.Steal (StealOp.Length y)) w)) (sym e)
       (after-length _ w x mark t n z)
-  after-steal p (steal_op.OwnLength s j) w x mark t h b e n l r z =
-      subst (λ (y : Steal). After P m x.run f w (act p h (op.Steal (steal_op.OwnLength y j)) w)) (sym e)
+  after-steal p (StealOp.OwnLength s j) w x mark t h b e n l r z =
+      subst (λ (y : Steal). After P m x.run f w (act p h (Op.Steal (StealOp.OwnLength y j)) w)) (sym e)
       (after-steal_by _ w w x mark t refl n z)
-  after-steal p (steal_op.Take s more) w x mark t h b e n l r z =
-      subst (λ (y : Steal). After P m x.run f w (act p h (op.Steal (steal_op.Take y more)) w)) (sym e)
+  after-steal p (StealOp.Take s more) w x mark t h b e n l r z =
+      subst (λ (y : Steal). After P m x.run f w (act p h (Op.Steal (StealOp.Take y more)) w)) (sym e)
       (after-take mark (queue_of w mark).items w x t more refl b n z)
-  after-steal p (steal_op.Put s more g) w x mark t h b e n l r z =
-      subst (λ (y : Steal). After P m x.run f w (act p h (op.Steal (steal_op.Put y more g)) w)) (sym e)
+  after-steal p (StealOp.Put s more g) w x mark t h b e n l r z =
+      subst (λ (y : Steal). After P m x.run f w (act p h (Op.Steal (StealOp.Put y more g)) w)) (sym e)
       (after-put p _ w x mark t more g (r s more g refl) l n z)
 
   -- it calls its own waker
@@ -431,17 +395,17 @@ module _ (f : ℕ) (m : Mark) (P : Phase → ℕ → List ℕ → List ℕ → T
   after-wake p h w x z = by x.waker
     where
       by : (a : Waker) → After P m x.run f w
-          (followed (call_by_reference p (log w (event.WakerCalled p (of.Run x.run) x.poll x.waker)) a)
-          (op.End reply.Pending (hold.Run x.run) ∷ []))
+          (followed (call_by_reference p (log w (Event.WakerCalled p (Polled.Run x.run) x.poll x.waker)) a)
+          (Op.End Reply.Pending (Hold.Run x.run) ∷ []))
       by (Task g) =
-          let u : World = log w (event.WakerCalled p (of.Run x.run) x.poll x.waker) in
-          let d : Done = act p h (op.Move move.WakeByReference g) u in
-          let i : Inner u d = inner-act p h (op.Move move.WakeByReference g) u refl refl in
+          let u : World = log w (Event.WakerCalled p (Polled.Run x.run) x.poll x.waker) in
+          let d : Done = act p h (Op.Move Move.WakeByReference g) u in
+          let i : Inner u d = inner-act p h (Op.Move Move.WakeByReference g) u refl refl in
           let told : named m u.trace ≡ named m w.trace =
-          named-last m (event.WakerCalled p (of.Run x.run) x.poll x.waker) w.trace refl in
+          named-last m (Event.WakerCalled p (Polled.Run x.run) x.poll x.waker) w.trace refl in
           record {
-            goes = on ongoing (op.End reply.Pending (hold.Run x.run)) (reverse d.next)
-                (reverse-append d.next (op.End reply.Pending (hold.Run x.run) ∷ [])) refl
+            goes = on ongoing (Op.End Reply.Pending (Hold.Run x.run)) (reverse d.next)
+                (reverse-append d.next (Op.End Reply.Pending (Hold.Run x.run) ∷ [])) refl
                 (weigh-reverse stray_of d.next ∙ i.plain)
                 (carry ongoing (named m w.trace) (named m d.world.trace) (own_of w x.run) (own_of d.world x.run)
                 ((queue_of w m).items ++ i.added m) (queue_of d.world m).items (omega (
@@ -452,13 +416,13 @@ module _ (f : ℕ) (m : Mark) (P : Phase → ℕ → List ℕ → List ℕ → T
                   told,
                 ))
                 (ap (λ (qs : List (List ℕ)). get_or qs x.run [])
-                (idle-act p h (op.Move move.WakeByReference g) u refl).own) (i.queue m)
+                (idle-act p h (Op.Move Move.WakeByReference g) u refl).own) (i.queue m)
                 (law.added ongoing (named m w.trace) (own_of w x.run) (queue_of w m).items (i.added m) z));
-            gone = (idle-act p h (op.Move move.WakeByReference g) u refl).gone;
+            gone = (idle-act p h (Op.Move Move.WakeByReference g) u refl).gone;
           }
       by (Outside y) = record {
-        goes = on ongoing (op.End reply.Pending (hold.Run x.run)) (op.User (user_op.CallOutside y) ∷ []) refl refl refl
+        goes = on ongoing (Op.End Reply.Pending (Hold.Run x.run)) (Op.User (UserOp.CallOutside y) ∷ []) refl refl refl
             (carry ongoing (named m w.trace) _ (own_of w x.run) (own_of w x.run) (queue_of w m).items (queue_of w m).items
-            (named-last m (event.WakerCalled p (of.Run x.run) x.poll x.waker) w.trace refl) refl refl z);
+            (named-last m (Event.WakerCalled p (Polled.Run x.run) x.poll x.waker) w.trace refl) refl refl z);
         gone = refl;
       }

@@ -4,40 +4,16 @@ use Rattle.std.proofs.Common.{◌≡◌, ◌∙◌, ◌⊎◌, inl, inr, ⊎_eli
 use Rattle.std.proofs.Common.{get_or, Bool, true, false, eqb, ltb, refl, sym, ap, subst, arith, Ok}
 use Rattle.std.proofs.lemmas.Bool.Decides.{nat_tests}
 use Rattle.std.specs.Prelude.{Option, Some, None, cond, reverse}
-use Rattle.executor_parts.specs.declared.mark.Mark.{Mark}
-use Rattle.executor_model.specs.declared.op.Look.{Look}
-use Rattle.executor_model.specs.declared.op.Look.TheVariants.{First, Second}
-use Rattle.executor_model.specs.declared.call.Reply.{Reply}
-use Rattle.executor_model.specs.declared.event.Event.TheVariants as event
-use Rattle.executor_model.specs.declared.op.Op.{Op}
-use Rattle.executor_model.specs.declared.op.Op.TheVariants as op
-use Rattle.executor_model.specs.declared.op.RunOp.TheVariants as run_op
-use Rattle.executor_model.specs.declared.op.RunPoll.{RunPoll}
-use Rattle.executor_model.specs.declared.op.Source.{Source}
-use Rattle.executor_model.specs.declared.op.Source.TheVariants.{Common}
-use Rattle.executor_model.specs.declared.op.Steal.{Steal}
-use Rattle.executor_model.specs.declared.op.StealOp.{StealOp}
-use Rattle.executor_model.specs.declared.op.StealOp.TheVariants as steal_op
-use Rattle.executor_model.specs.declared.op.TickOp.TheVariants as tick_op
-use Rattle.executor_model.specs.declared.op.TickOrRun.{TickOrRun}
-use Rattle.executor_model.specs.declared.step.Hint.{Hint}
-use Rattle.executor_model.specs.declared.step.Step.{Step}
-use Rattle.executor_model.specs.declared.step.UserEnd.{UserEnd}
-use Rattle.executor_model.specs.ActsOfRuns.{free_places}
-use Rattle.executor_model.specs.Doing.{act, search_by_who}
-use Rattle.executor_model.specs.Executions.{run_all}
-use Rattle.executor_model.specs.OwnQueues.{IsEmptyMeanwhile, empty_of, filling_of}
-use Rattle.executor_model.specs.Rows.{running_of}
-use Rattle.executor_model.specs.Steps.{Machine, Part, accepts, end_of, onto, part, react, settled, settled_by, stack, with_part}
-use Rattle.executor_model.specs.Trace.{Trace}
-use Rattle.executor_model.specs.Weights.{weigh}
-use Rattle.executor_model.specs.World.{Done, World, log, own_of, queue_of}
-use Rattle.executor_model.proofs.OwnQueues.OwnExecutions.{is-empty-meanwhile}
-use Rattle.executor_model.proofs.Steps.Lift.{split}
-use Rattle.executor_model.proofs.Steps.Lists.{weigh-reverse}
-use Rattle.executor_model.proofs.Steps.Reached.{Reached, run-first}
-use Rattle.executor_model.proofs.Steps.TraceSteps.{more-act, more-onto, more-react}
-use Rattle.executor_model.proofs.Table.Spawning.{top-last}
+use Rattle.executor_laws.proofs.Types.{Mark, Look, First, Second, Reply, Event, Op, RunOp, RunPoll, Source, Common, Steal, StealOp, TickOp}
+use Rattle.executor_laws.proofs.Types.{TickOrRun, Hint, Step, UserEnd}
+use Rattle.executor_model.specs.{ActsOfRuns.free_places, Doing.act, Doing.search_by_who, Executions.run_all, OwnQueues.IsEmptyMeanwhile}
+use Rattle.executor_model.specs.{OwnQueues.empty_of, OwnQueues.filling_of, Rows.running_of, Steps.Machine, Steps.Part, Steps.accepts}
+use Rattle.executor_model.specs.{Steps.end_of, Steps.onto, Steps.part, Steps.react, Steps.settled, Steps.settled_by, Steps.stack}
+use Rattle.executor_model.specs.{Steps.with_part, Trace.Trace, Weights.weigh, World.Done, World.World, World.log, World.own_of}
+use Rattle.executor_model.specs.{World.queue_of}
+use Rattle.executor_model.proofs.{OwnQueues.OwnExecutions.is-empty-meanwhile, Steps.Lift.split, Steps.Lists.weigh-reverse}
+use Rattle.executor_model.proofs.{Steps.Reached.Reached, Steps.Reached.run-first, Steps.TraceSteps.more-act, Steps.TraceSteps.more-onto}
+use Rattle.executor_model.proofs.{Steps.TraceSteps.more-react, Table.Spawning.top-last}
 use Rattle.executor_laws.specs.LoneEnds.{are_onward_of, is_onward_of}
 use Rattle.executor_laws.proofs.Reach.LoneMoves.{Inner, inner-act, inner-react, stray_of}
 use Rattle.executor_laws.proofs.Reach.Spots.{named, named-append, named-none}
@@ -48,14 +24,13 @@ use Rattle.executor_laws.proofs.RunReach.RunKeeps.{So, so-more}
 use Rattle.executor_laws.proofs.RunReach.RunLeaves.{gone-onto, own-act, own-react}
 use Rattle.executor_laws.proofs.RunReach.RunWalks.{Onward, Taken, both-light, from-heading, light, onward, with-heading}
 use Rattle.executor_laws.proofs.RunReach.RunWalks.Onward.{acted, answered}
-use Rattle.executor_laws.proofs.Turns.LineSteps.{After, Doing, Goes, LooksSo, Others, Rests, Stands, after-look, after-other}
-use Rattle.executor_laws.proofs.Turns.LineSteps.{after-own}
+use Rattle.executor_laws.proofs.Turns.LineSteps.{After, Doing, Goes, LooksSo, Others, Rests, Stands, after-look, after-other, after-own}
 use Rattle.executor_laws.proofs.Turns.LineSteps.{after-steal, after-turn, after-wake, carry, steal_in, with_hand}
-use Rattle.executor_laws.proofs.Turns.LineSteps.Goes.{finds, on as on_with, over as over_with}
 use Rattle.executor_laws.proofs.Turns.Standing.{Phase, Standing}
 use Rattle.executor_laws.proofs.Turns.Standing.Phase.{ongoing}
 use Rattle.executor_laws.proofs.Walks.Enrolled.{Enrolled}
 use Rattle.executor_laws.proofs.Walks.Finding.{enrolled-here, itself, room-here}
+use Rattle.executor_laws.proofs.Turns.LineSteps.Goes.{finds, on as on_with, over as over_with}
 
 -- what is left of the poll: the run goes on, below what is beside it; or it has f in hand; or it is over
 pub data Waiting (P : Phase → ℕ → List ℕ → List ℕ → Type 0) (m : Mark) (q f : ℕ) (w : World) (os : List Op) : Type 0 where
@@ -65,20 +40,20 @@ pub data Waiting (P : Phase → ℕ → List ℕ → List ℕ → Type 0) (m : M
   over : os ≡ [] → Rests P m q ongoing w → Waiting P m q f w os
 
 ended-hand : (c : Op) (a : Reply) (own : List ℕ) → end_of (Some c) ≡ Some a → own ≡ with_hand c own
-ended-hand (op.End r held) a own e = refl
+ended-hand (Op.End r held) a own e = refl
 ended-hand _ a own e = absurd (cc)
 
 ended-phase : (m : Mark) (q : ℕ) (t : Phase) (c : Op) (a : Reply) → end_of (Some c) ≡ Some a → Doing m q t c → t ≡ ongoing
-ended-phase m q t (op.End r held) a e k = k
+ended-phase m q t (Op.End r held) a e k = k
 ended-phase m q t _ a e k = absurd (cc)
 
 -- what holds where the run does this
 record Facts (P : Phase → ℕ → List ℕ → List ℕ → Type 0) (m : Mark) (q : ℕ) (c : Op) (w : World) : Type 0 where
-  pub turning : (x : RunPoll) → c ≡ op.Run (run_op.TakeTurn x) → own_of w x.run ≡ []
-  pub empty : (x : RunPoll) (look : Look) → c ≡ op.Run (run_op.SearchCommon x look) → own_of w x.run ≡ []
+  pub turning : (x : RunPoll) → c ≡ Op.Run (RunOp.TakeTurn x) → own_of w x.run ≡ []
+  pub empty : (x : RunPoll) (look : Look) → c ≡ Op.Run (RunOp.SearchCommon x look) → own_of w x.run ≡ []
   pub others : Others P m w
-  pub known : (o : StealOp) → c ≡ op.Steal o → (steal_in o).poll.run < length w.own
-  pub free : (s : Steal) (more g : ℕ) → c ≡ op.Steal (steal_op.Put s more g) → ltb 0 (free_places w s.poll.run) ≡ true
+  pub known : (o : StealOp) → c ≡ Op.Steal o → (steal_in o).poll.run < length w.own
+  pub free : (s : Steal) (more g : ℕ) → c ≡ Op.Steal (StealOp.Put s more g) → ltb 0 (free_places w s.poll.run) ≡ true
 
 same-steal : (s : Steal) (mark : Mark) → s.from ≡ Common mark → s ≡ record { poll = s.poll; from = Common mark; then = s.then }
 same-steal s mark e = ap (λ (x : Source). let y : Steal = record { poll = s.poll; from = x; then = s.then } in y) e
@@ -94,10 +69,10 @@ module _ (f : ℕ) (m : Mark) (P : Phase → ℕ → List ℕ → List ℕ → T
       by-end : (o : Option Reply) → end_of (Some c) ≡ o → Waits-on q (settled_by o p w (c ∷ []))
       by-end None e = going t c [] refl k refl y
       by-end (Some a) e = over refl
-          (subst (λ (n : Phase). Rests P m q n (log w (event.CallEnded p a))) (ended-phase m q t c a e k)
-          (carry f m P law t (named m w.trace) (named m (w.trace ++ event.CallEnded p a ∷ [])) (with_hand c (own_of w q))
+          (subst (λ (n : Phase). Rests P m q n (log w (Event.CallEnded p a))) (ended-phase m q t c a e k)
+          (carry f m P law t (named m w.trace) (named m (w.trace ++ Event.CallEnded p a ∷ [])) (with_hand c (own_of w q))
           (own_of w q) (queue_of w m).items (queue_of w m).items
-          (omega (arith, named-append m w.trace (event.CallEnded p a ∷ []))) (ended-hand c a (own_of w q) e) refl y))
+          (omega (arith, named-append m w.trace (Event.CallEnded p a ∷ []))) (ended-hand c a (own_of w q) e) refl y))
 
       go : (side ≡ []) ⊎ Last side → Waits-on q (settled p w (c ∷ side))
       go (inl e) = subst (λ (os : List Op). Waits-on q (settled p w (c ∷ os))) (sym e) (by-end (end_of (Some c)) refl)
@@ -122,50 +97,50 @@ module _ (f : ℕ) (m : Mark) (P : Phase → ℕ → List ℕ → List ℕ → T
   -- what the run does itself
 
   after-first : (p : ℕ) (h : Hint) (t : Phase) (x : RunPoll) (k : Mark) (w : World) → LooksSo m t k → own_of w x.run ≡ [] →
-      Others P m w → Rests P m x.run t w → After P m x.run f w (act p h (op.Run (run_op.SearchCommon x (First k))) w)
+      Others P m w → Rests P m x.run t w → After P m x.run f w (act p h (Op.Run (RunOp.SearchCommon x (First k))) w)
   after-first p h t x k w (inl e) o b z =
       after-look f m P law t (First k) (queue_of w k).items w x e (ap (λ (n : Mark). (queue_of w n).items) (sym e)) o z
   after-first p h t x k w (inr e) o b z = after-other f m P law t k (queue_of w k).items w x e.0 e.1 refl o b z
 
   after-doing : (q p : ℕ) (h : Hint) (t : Phase) (c : Op) (w : World) → Doing m q t c → Facts P m q c w →
       Stands P m q t c w → After P m q f w (act p h c w)
-  after-doing q p h t (op.Tick (tick_op.Search s)) w e k z =
+  after-doing q p h t (Op.Tick (TickOp.Search s)) w e k z =
       subst (λ (who : TickOrRun). After P m q f w (search_by_who who p w s)) (sym e.0)
       (after-own f m P law t (own_of w q) w (record { run = q; waker = s.waker; poll = s.poll }) refl e.1 z)
-  after-doing q p h t (op.Run (run_op.TakeTurn x)) w e k z =
-      subst (λ (r : ℕ). After P m r f w (act p h (op.Run (run_op.TakeTurn x)) w)) e.0
+  after-doing q p h t (Op.Run (RunOp.TakeTurn x)) w e k z =
+      subst (λ (r : ℕ). After P m r f w (act p h (Op.Run (RunOp.TakeTurn x)) w)) e.0
       (after-turn f m P law t p w x (k.turning x refl) e.1 (subst (λ (r : ℕ). Rests P m r t w) (sym e.0) z))
-  after-doing q p h t (op.Run (run_op.SearchCommon x (First n))) w e k z =
-      subst (λ (r : ℕ). After P m r f w (act p h (op.Run (run_op.SearchCommon x (First n))) w)) e.0
+  after-doing q p h t (Op.Run (RunOp.SearchCommon x (First n))) w e k z =
+      subst (λ (r : ℕ). After P m r f w (act p h (Op.Run (RunOp.SearchCommon x (First n))) w)) e.0
       (after-first p h t x n w e.1 (k.empty x (First n) refl) k.others (subst (λ (r : ℕ). Rests P m r t w) (sym e.0) z))
-  after-doing q p h t (op.Run (run_op.SearchCommon x (Second n))) w e k z =
-      subst (λ (r : ℕ). After P m r f w (act p h (op.Run (run_op.SearchCommon x (Second n))) w)) e.0
+  after-doing q p h t (Op.Run (RunOp.SearchCommon x (Second n))) w e k z =
+      subst (λ (r : ℕ). After P m r f w (act p h (Op.Run (RunOp.SearchCommon x (Second n))) w)) e.0
       (after-look f m P law t (Second n) (queue_of w n).items w x e.1 (ap (λ (i : Mark). (queue_of w i).items) (sym e.1))
       (k.empty x (Second n) refl) (subst (λ (r : ℕ). Rests P m r t w) (sym e.0) z))
-  after-doing q p h t (op.Run (run_op.WakeOwn x)) w e k z =
-      subst (λ (r : ℕ). After P m r f w (act p h (op.Run (run_op.WakeOwn x)) w)) e.0
+  after-doing q p h t (Op.Run (RunOp.WakeOwn x)) w e k z =
+      subst (λ (r : ℕ). After P m r f w (act p h (Op.Run (RunOp.WakeOwn x)) w)) e.0
       (after-wake f m P law p h w x (subst (λ (n : Phase). Rests P m x.run n w) e.1
       (subst (λ (r : ℕ). Rests P m r t w) (sym e.0) z)))
-  after-doing q p h t (op.Steal o) w e k z =
-      subst (λ (r : ℕ). After P m r f w (act p h (op.Steal o) w)) e.0.0
+  after-doing q p h t (Op.Steal o) w e k z =
+      subst (λ (r : ℕ). After P m r f w (act p h (Op.Steal o) w)) e.0.0
       (after-steal f m P law p o w (steal_in o).poll e.0.1.0 (steal_in o).then h k.others
       (same-steal (steal_in o) e.0.1.0 e.0.1.1) e.0.2 (k.known o refl)
       (λ s more g i. subst (λ (y : StealOp). ltb 0 (free_places w (steal_in y).poll.run) ≡ true) (sym i)
-      (k.free s more g (ap op.Steal i)))
-      (subst (λ (n : Phase). Stands P m (steal_in o).poll.run n (op.Steal o) w) e.1
-      (subst (λ (r : ℕ). Stands P m r t (op.Steal o) w) (sym e.0.0) z)))
-  after-doing q p h t (op.End a held) w e k z =
+      (k.free s more g (ap Op.Steal i)))
+      (subst (λ (n : Phase). Stands P m (steal_in o).poll.run n (Op.Steal o) w) e.1
+      (subst (λ (r : ℕ). Stands P m r t (Op.Steal o) w) (sym e.0.0) z)))
+  after-doing q p h t (Op.End a held) w e k z =
       record {
-        goes = over_with refl (carry f m P law ongoing (named m w.trace) (named m (w.trace ++ event.CallEnded p a ∷ []))
+        goes = over_with refl (carry f m P law ongoing (named m w.trace) (named m (w.trace ++ Event.CallEnded p a ∷ []))
             (own_of w q) (own_of w q) (queue_of w m).items (queue_of w m).items
-            (omega (arith, named-append m w.trace (event.CallEnded p a ∷ []))) refl refl
+            (omega (arith, named-append m w.trace (Event.CallEnded p a ∷ []))) refl refl
             (subst (λ (n : Phase). Rests P m q n w) e z));
         gone = refl;
       }
   after-doing q p h t _ w e k z = absurd e
 
 no-user : (m : Mark) (q : ℕ) (t : Phase) (o : Op) (u : UserEnd) → Doing m q t o → accepts o u ≡ true → ⊥
-no-user m q t (op.User o) u k a = k
+no-user m q t (Op.User o) u k a = k
 no-user m q t _ u k a = absurd (cc)
 
 -- where the poll leads: f is taken, or it is as near as it was
@@ -255,11 +230,11 @@ module _ (f : ℕ) (m : Mark) (P : Phase → ℕ → List ℕ → List ℕ → T
           ) in grind (arith, nat_tests));
     }
       where
-        uses : (o : StealOp) → running_of (steal_in o).poll.run (op.Steal o) ≡ 1
-        uses (steal_op.Length x) = (itself x.poll.run).0
-        uses (steal_op.OwnLength x j) = (itself x.poll.run).0
-        uses (steal_op.Take x more) = (itself x.poll.run).0
-        uses (steal_op.Put x more g) = (itself x.poll.run).0
+        uses : (o : StealOp) → running_of (steal_in o).poll.run (Op.Steal o) ≡ 1
+        uses (StealOp.Length x) = (itself x.poll.run).0
+        uses (StealOp.OwnLength x j) = (itself x.poll.run).0
+        uses (StealOp.Take x more) = (itself x.poll.run).0
+        uses (StealOp.Put x more g) = (itself x.poll.run).0
 
         fills : (r more : ℕ) → (let i : ℕ = cond (eqb r r) (more + 1) 0 in i) ≡ suc more
         fills r more = ap (λ (b : Bool). let i : ℕ = cond b (more + 1) 0 in i) (itself r).1

@@ -3,8 +3,7 @@
 -- mark, and by how many turns have named that mark. Such a nearness holds while the run takes from both in their order.
 use Rattle.std.proofs.Common.{◌≡◌, ◌∙◌, ◌⊎◌, inl, inr, ⊎_elim, ℕ, suc, ◌+◌, ◌<◌, ◌≤◌, List, [], ◌∷◌, ◌++◌, length}
 use Rattle.std.proofs.Common.{eqb, true, false, refl, sym, ap, subst, arith, append_assoc, ◌≢◌}
-use Rattle.executor_model.specs.Sound.{times}
-use Rattle.executor_model.specs.Weights.{same}
+use Rattle.executor_model.specs.{Sound.times, Weights.same}
 use Rattle.executor_model.proofs.Steps.Lists.{same_cases, times-append}
 use Rattle.executor_laws.proofs.Exactness.Ticking.{first-times}
 

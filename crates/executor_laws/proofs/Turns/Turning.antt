@@ -5,49 +5,28 @@ use Rattle.std.proofs.Common.{◌≡◌, ℕ, suc, ◌+◌, ◌<◌, ◌≤◌, 
 use Rattle.std.proofs.Common.{true, refl, ap, subst, arith, sym, inl, inr, Ok}
 use Rattle.std.proofs.lemmas.List.{length-append}
 use Rattle.std.specs.Prelude.{All, filter}
-use Rattle.executor_parts.specs.declared.mark.Mark.{Mark}
-use Rattle.executor_parts.specs.declared.mark.Mark.TheVariants.{Plain}
-use Rattle.executor_model.specs.declared.call.By.{By}
-use Rattle.executor_model.specs.declared.call.Call.TheVariants as call
-use Rattle.executor_model.specs.declared.kind.Kind.{Kind}
-use Rattle.executor_model.specs.declared.op.Op.TheVariants as op
-use Rattle.executor_model.specs.declared.op.TickOp.TheVariants as tick_op
-use Rattle.executor_model.specs.declared.step.Step.{Step}
-use Rattle.executor_model.specs.declared.step.Step.TheVariants.{Begin}
-use Rattle.executor_model.specs.ActsOfRuns.{asleep}
-use Rattle.executor_model.specs.Due.{IsDue}
-use Rattle.executor_model.specs.Emptiness.{IsAtRest}
-use Rattle.executor_model.specs.Executions.{run_all}
-use Rattle.executor_model.specs.Keeper.{IsCommon}
-use Rattle.executor_model.specs.Queues.{Queues, queue_in}
-use Rattle.executor_model.specs.Sound.{times}
-use Rattle.executor_model.specs.Steps.{Machine, run, start}
-use Rattle.executor_model.specs.Trace.{Trace, has}
-use Rattle.executor_model.specs.World.{mark_of, own_of, queue_of}
-use Rattle.executor_model.proofs.Steps.Lists.{times-append}
-use Rattle.executor_model.proofs.Steps.QueuesByMark.{times-one}
-use Rattle.executor_model.proofs.Steps.Reached.{Reached, deep-here, good-here}
-use Rattle.executor_laws.specs.Reach.{HasCommons, HasCommonsOf, names, since, takes}
-use Rattle.executor_laws.specs.RunReach.{AreLonePolls, HasKept, IsLonePoll, LoneRunPoll}
-use Rattle.executor_laws.specs.RunTurns.{IsCommonReached}
-use Rattle.executor_laws.proofs.Exactness.Ticking.{first-times}
-use Rattle.executor_laws.proofs.Placement.Placing.{in-own}
-use Rattle.executor_laws.proofs.Reach.Reached.{bonded-here, heard-here}
-use Rattle.executor_laws.proofs.Reach.Reaching.{Grows, QueuePlace, Takes, none-urgent, place, run-grows}
+use Rattle.executor_laws.proofs.Types.{Mark, Plain, By, Call, Kind, Op, TickOp, Step, Begin}
+use Rattle.executor_model.specs.{ActsOfRuns.asleep, Due.IsDue, Emptiness.IsAtRest, Executions.run_all, Keeper.IsCommon, Queues.Queues}
+use Rattle.executor_model.specs.{Queues.queue_in, Sound.times, Steps.Machine, Steps.run, Steps.start, Trace.Trace, Trace.has, World.mark_of}
+use Rattle.executor_model.specs.{World.own_of, World.queue_of}
+use Rattle.executor_model.proofs.{Steps.Lists.times-append, Steps.QueuesByMark.times-one, Steps.Reached.Reached, Steps.Reached.deep-here}
+use Rattle.executor_model.proofs.{Steps.Reached.good-here}
+use Rattle.executor_laws.specs.{Reach.HasCommons, Reach.HasCommonsOf, Reach.names, Reach.since, Reach.takes, RunReach.AreLonePolls}
+use Rattle.executor_laws.specs.{RunReach.HasKept, RunReach.IsLonePoll, RunReach.LoneRunPoll, RunTurns.IsCommonReached}
+use Rattle.executor_laws.proofs.{Exactness.Ticking.first-times, Placement.Placing.in-own, Reach.Reached.bonded-here}
+use Rattle.executor_laws.proofs.{Reach.Reached.heard-here, Reach.Reaching.Grows, Reach.Reaching.QueuePlace, Reach.Reaching.Takes}
+use Rattle.executor_laws.proofs.{Reach.Reaching.none-urgent, Reach.Reaching.place, Reach.Reaching.run-grows, Reach.Marked.all-before}
+use Rattle.executor_laws.proofs.{Reach.Searching.at-rest, Reach.Spots.named, Reach.Spots.named-append, Reach.Spots.named-filter}
+use Rattle.executor_laws.proofs.{Reach.Spots.named-none, RunReach.RunKeeps.grows-polls, RunReach.RunKeeps.takes-between}
+use Rattle.executor_laws.proofs.{RunReach.RunKeeps.takes-later, RunReach.RunKeeps.takes-now, RunReach.RunArrives.entry}
+use Rattle.executor_laws.proofs.{RunReach.RunReaching.arrived, RunReach.RunReaching.is-due, RunReach.RunReaching.new-idle}
+use Rattle.executor_laws.proofs.{RunReach.RunReaching.poll, RunReach.RunReaching.reached-new, Turns.LineSteps.Others, Turns.LineSteps.Rests}
+use Rattle.executor_laws.proofs.{Turns.LineSteps.carry, Turns.LineWalks.Outcome, Turns.LineWalks.walks, Turns.LineWalks.Outcome.stands}
+use Rattle.executor_laws.proofs.{Turns.LineWalks.Outcome.taken, Turns.LineWalks.Waiting.going, Turns.Standing.ByTurns, Turns.Standing.InAll}
+use Rattle.executor_laws.proofs.{Turns.Standing.InLine, Turns.Standing.Phase, Turns.Standing.Standing, Turns.Standing.beside-turns}
+use Rattle.executor_laws.proofs.{Turns.Standing.by-turns, Turns.Standing.in-all, Turns.Standing.Phase.fresh, Turns.Standing.Phase.ongoing}
 use Rattle.executor_laws.proofs.Reach.Reaching as reaching
-use Rattle.executor_laws.proofs.Reach.Marked.{all-before}
-use Rattle.executor_laws.proofs.Reach.Searching.{at-rest}
-use Rattle.executor_laws.proofs.Reach.Spots.{named, named-append, named-filter, named-none}
-use Rattle.executor_laws.proofs.RunReach.RunKeeps.{grows-polls, takes-between, takes-later, takes-now}
 use Rattle.executor_laws.proofs.RunReach.RunKeeps as keeping
-use Rattle.executor_laws.proofs.RunReach.RunArrives.{entry}
-use Rattle.executor_laws.proofs.RunReach.RunReaching.{arrived, is-due, new-idle, poll, reached-new}
-use Rattle.executor_laws.proofs.Turns.LineSteps.{Others, Rests, carry}
-use Rattle.executor_laws.proofs.Turns.LineWalks.{Outcome, walks}
-use Rattle.executor_laws.proofs.Turns.LineWalks.Outcome.{stands, taken}
-use Rattle.executor_laws.proofs.Turns.LineWalks.Waiting.{going}
-use Rattle.executor_laws.proofs.Turns.Standing.{ByTurns, InAll, InLine, Phase, Standing, beside-turns, by-turns, in-all}
-use Rattle.executor_laws.proofs.Turns.Standing.Phase.{fresh, ongoing}
 
 -- one poll
 
@@ -65,7 +44,7 @@ module _ (f : ℕ) (m : Mark) (P : Phase → ℕ → List ℕ → List ℕ → T
         trace = a.here.so_far.trace;
         there = a.here.so_far.there;
       })
-      (going fresh (op.Tick (tick_op.Search (asleep (poll s y rest r p b steps new k)))) [] a.here.todo (refl, refl) refl
+      (going fresh (Op.Tick (TickOp.Search (asleep (poll s y rest r p b steps new k)))) [] a.here.todo (refl, refl) refl
       (carry f m P law fresh (named m s.world.trace) (named m a.machine.world.trace) (own_of s.world r)
       (own_of a.machine.world r) (queue_of s.world m).items (queue_of a.machine.world m).items (omega (
         arith,
@@ -96,9 +75,9 @@ module _ (f : ℕ) (m : Mark) (P : Phase → ℕ → List ℕ → List ℕ → T
       go : Outcome P m r f s.world.trace k.0 → Takes f s new
       go (taken x) = takes-now f s k.0 new x (grows-polls r ts k.0 new k.2)
       go (stands q so) =
-          takes-later f s k.0 new (run-grows (Begin t.party (call.PollRun r t.by) ∷ t.steps) s k.0 k.1.call.made)
+          takes-later f s k.0 new (run-grows (Begin t.party (Call.PollRun r t.by) ∷ t.steps) s k.0 k.1.call.made)
           (again (reached-new s y rest r t.party t.by t.steps k.0 k.1)
-          (at-rest s y rest t.party (call.PollRun r t.by) t.steps k.0 k.1.call so.there) q)
+          (at-rest s y rest t.party (Call.PollRun r t.by) t.steps k.0 k.1.call so.there) q)
 
 -- f stands in one of both
 module _ (f : ℕ) where
@@ -144,7 +123,7 @@ by-mark-place f m (t ∷ ts) s new y rest r z k =
 plain-before : (r : ℕ) (ts : List LoneRunPoll) (s new : Machine) → AreLonePolls r ts s new →
     All (λ m. m ≡ Plain) new.world.marks → All (λ m. m ≡ Plain) s.world.marks
 plain-before r [] s new e plain = subst (λ (m : Machine). All (λ k. k ≡ Plain) m.world.marks) (sym e) plain
-plain-before r (t ∷ ts) s new k plain = all-before s k.0 (Begin t.party (call.PollRun r t.by) ∷ t.steps) k.1.call.made
+plain-before r (t ∷ ts) s new k plain = all-before s k.0 (Begin t.party (Call.PollRun r t.by) ∷ t.steps) k.1.call.made
     (plain-before r ts k.0 new k.2 plain)
 
 plain-place : (f : ℕ) (ts : List LoneRunPoll) (s new : Machine) → Reached s → IsAtRest s → (r : ℕ) →

@@ -5,63 +5,33 @@ use Rattle.std.proofs.Common.{Bool, true, false, ◌||◌, ltb, refl, sym, ap, s
 use Rattle.std.proofs.Math.ListN.{length-set}
 use Rattle.std.proofs.lemmas.Bool.Decides.{nat_tests}
 use Rattle.std.specs.Prelude.{Option, Some}
-use Rattle.executor_parts.specs.declared.mark.Mark.{Mark}
 use Rattle.executor_parts.specs.Marks.{first_of, other}
-use Rattle.executor_model.specs.declared.call.By.{By}
-use Rattle.executor_model.specs.declared.call.Call.TheVariants as call
-use Rattle.executor_model.specs.declared.event.Answer.TheVariants as answer
-use Rattle.executor_model.specs.declared.event.Event.TheVariants as event
-use Rattle.executor_model.specs.declared.kind.Kind.{Kind}
-use Rattle.executor_model.specs.declared.op.ListOp.TheVariants as list_op
-use Rattle.executor_model.specs.declared.op.Look.TheVariants as look_at
-use Rattle.executor_model.specs.declared.op.Op.{Op}
-use Rattle.executor_model.specs.declared.op.Op.TheVariants as op
-use Rattle.executor_model.specs.declared.op.RunOp.TheVariants as run_op
-use Rattle.executor_model.specs.declared.op.RunPoll.{RunPoll}
-use Rattle.executor_model.specs.declared.op.Section.TheVariants as section
-use Rattle.executor_model.specs.declared.op.TickOp.TheVariants as tick_op
-use Rattle.executor_model.specs.declared.op.UserOp.TheVariants as user_op
-use Rattle.executor_model.specs.declared.step.Step.{Step}
-use Rattle.executor_model.specs.declared.step.Step.TheVariants.{Begin}
-use Rattle.executor_model.specs.declared.step.UserEnd.{UserEnd}
-use Rattle.executor_model.specs.declared.step.UserEnd.TheVariants as end
-use Rattle.executor_model.specs.Acts.{turned}
-use Rattle.executor_model.specs.ActsOfRuns.{asleep, registered, search_common_by, search_own_by}
-use Rattle.executor_model.specs.Doing.{act}
-use Rattle.executor_model.specs.Due.{IsDue}
-use Rattle.executor_model.specs.Emptiness.{IsAtRest}
-use Rattle.executor_model.specs.Executions.{run_all}
-use Rattle.executor_model.specs.Queues.{Queues, queue_in}
-use Rattle.executor_model.specs.Sound.{times, times_in}
-use Rattle.executor_model.specs.Steps.{Machine, Part, onto, part, part_after, poll_run, react, run, stack, start, with_part}
-use Rattle.executor_model.specs.Trace.{Trace}
-use Rattle.executor_model.specs.Weights.{weigh_all}
-use Rattle.executor_model.specs.World.{Done, Ended, Listed, New, Stage, World, done, log, own_of, queue_of, run_of}
-use Rattle.executor_model.proofs.OwnQueues.Using.{emptying_of}
-use Rattle.executor_model.proofs.OwnQueues.UsingWorlds.{is_over_stage, is_past}
-use Rattle.executor_model.proofs.Quiet.Resting.{all-rest}
-use Rattle.executor_model.proofs.Steps.Lists.{times-append}
-use Rattle.executor_model.proofs.Steps.QueuesByMark.{mark-cases}
-use Rattle.executor_model.proofs.Steps.Reached.{Reached, deep-here, good-here, reached-step, run-first}
-use Rattle.executor_laws.specs.LoneEnds.{are_onward_of, is_onward_of}
-use Rattle.executor_laws.specs.RunReach.{IsLonePoll, first_answer}
-use Rattle.executor_laws.specs.RunSearch.{FindsDue, TakesOneDue}
-use Rattle.executor_laws.proofs.Exactness.Ticking.{first-queued, first-times, none-queued}
-use Rattle.executor_laws.proofs.Placement.Placing.{due-queued, here, idle, in-own, queued-due}
-use Rattle.executor_laws.proofs.Reach.LoneTicks.{idle-none, in-range, left-true, of-party, stack-set}
-use Rattle.executor_laws.proofs.Reach.Reached.{bonded-here, heard-here}
+use Rattle.executor_laws.proofs.Types.{Mark, By, Call, Answer, Event, Kind, ListOp, Look, Op, RunOp, RunPoll, Section, TickOp, UserOp, Step}
+use Rattle.executor_laws.proofs.Types.{Begin, UserEnd}
+use Rattle.executor_model.specs.{Acts.turned, ActsOfRuns.asleep, ActsOfRuns.registered, ActsOfRuns.search_common_by}
+use Rattle.executor_model.specs.{ActsOfRuns.search_own_by, Doing.act, Due.IsDue, Emptiness.IsAtRest, Executions.run_all, Queues.Queues}
+use Rattle.executor_model.specs.{Queues.queue_in, Sound.times, Sound.times_in, Steps.Machine, Steps.Part, Steps.onto, Steps.part}
+use Rattle.executor_model.specs.{Steps.part_after, Steps.poll_run, Steps.react, Steps.run, Steps.stack, Steps.start, Steps.with_part}
+use Rattle.executor_model.specs.{Trace.Trace, Weights.weigh_all, World.Done, World.Ended, World.Listed, World.New, World.Stage, World.World}
+use Rattle.executor_model.specs.{World.done, World.log, World.own_of, World.queue_of, World.run_of}
+use Rattle.executor_model.proofs.{OwnQueues.Using.emptying_of, OwnQueues.UsingWorlds.is_over_stage, OwnQueues.UsingWorlds.is_past}
+use Rattle.executor_model.proofs.{Quiet.Resting.all-rest, Steps.Lists.times-append, Steps.QueuesByMark.mark-cases, Steps.Reached.Reached}
+use Rattle.executor_model.proofs.{Steps.Reached.deep-here, Steps.Reached.good-here, Steps.Reached.reached-step, Steps.Reached.run-first}
+use Rattle.executor_laws.specs.{LoneEnds.are_onward_of, LoneEnds.is_onward_of, RunReach.IsLonePoll, RunReach.first_answer}
+use Rattle.executor_laws.specs.{RunSearch.FindsDue, RunSearch.TakesOneDue}
+use Rattle.executor_laws.proofs.{Exactness.Ticking.first-queued, Exactness.Ticking.first-times, Exactness.Ticking.none-queued}
+use Rattle.executor_laws.proofs.{Placement.Placing.due-queued, Placement.Placing.here, Placement.Placing.idle, Placement.Placing.in-own}
+use Rattle.executor_laws.proofs.{Placement.Placing.queued-due, Reach.LoneTicks.idle-none, Reach.LoneTicks.in-range}
+use Rattle.executor_laws.proofs.{Reach.LoneTicks.left-true, Reach.LoneTicks.of-party, Reach.LoneTicks.stack-set, Reach.Reached.bonded-here}
+use Rattle.executor_laws.proofs.{Reach.Reached.heard-here, Reach.Spots.AllEmpty, RunReach.RunArrives.registered-gone}
+use Rattle.executor_laws.proofs.{RunReach.RunArrives.registered-own, RunReach.RunArrives.registered-queue, RunReach.RunReaching.is-due}
+use Rattle.executor_laws.proofs.{RunReach.RunReaching.new-idle, RunReach.RunReaching.poll, RunReach.RunArrives.registered-trace}
+use Rattle.executor_laws.proofs.{RunReach.RunReaching.taken-since, RunReach.RunReaching.takes-first, RunReach.RunReaching.First.in_common}
+use Rattle.executor_laws.proofs.{RunReach.RunReaching.First.in_own, RunReach.RunWalks.Onward, RunReach.RunWalks.onward}
+use Rattle.executor_laws.proofs.{RunReach.RunWalks.Onward.acted, RunReach.RunWalks.Onward.answered, Walks.Enrolled.kept-listed}
+use Rattle.executor_laws.proofs.{Walks.Finding.TakesOne, Walks.Finding.enrolled-here, Walks.Finding.listed-here, Walks.Finding.walks}
+use Rattle.executor_laws.proofs.{Walks.Searches.Seeking.locks}
 use Rattle.executor_laws.proofs.Reach.Spots as common
-use Rattle.executor_laws.proofs.Reach.Spots.{AllEmpty}
-use Rattle.executor_laws.proofs.RunReach.RunArrives.{registered-gone, registered-own, registered-queue}
-use Rattle.executor_laws.proofs.RunReach.RunReaching.{is-due, new-idle, poll}
-use Rattle.executor_laws.proofs.RunReach.RunArrives.{registered-trace}
-use Rattle.executor_laws.proofs.RunReach.RunReaching.{taken-since, takes-first}
-use Rattle.executor_laws.proofs.RunReach.RunReaching.First.{in_common, in_own}
-use Rattle.executor_laws.proofs.RunReach.RunWalks.{Onward, onward}
-use Rattle.executor_laws.proofs.RunReach.RunWalks.Onward.{acted, answered}
-use Rattle.executor_laws.proofs.Walks.Enrolled.{kept-listed}
-use Rattle.executor_laws.proofs.Walks.Finding.{TakesOne, enrolled-here, listed-here, walks}
-use Rattle.executor_laws.proofs.Walks.Searches.Seeking.{locks}
 
 registered-listed : (x : Stage) (w : World) (r q : ℕ) → times q w.listed ≤ times q (registered x w r).listed
 registered-listed New w r q = omega (arith, times-append q w.listed (r ∷ []))
@@ -91,7 +61,7 @@ module _ (p : ℕ) (before : Trace) (x : RunPoll) (owns : List (List ℕ)) (qs :
   record Arrived : Type 0 where
     pub machine : Machine
     pub others : List Step
-    pub here : At (op.List (list_op.LockRead x) ∷ []) machine
+    pub here : At (Op.List (ListOp.LockRead x) ∷ []) machine
     pub onward : are_onward_of p others ≡ true
     pub made : run_all others machine ≡ Ok new
 
@@ -100,18 +70,18 @@ module _ (p : ℕ) (before : Trace) (x : RunPoll) (owns : List (List ℕ)) (qs :
     set-known s v l = omega (arith, l, length-set s.parties p v.todo)
 
     -- it looks at the second queue
-    at-second : (s : Machine) (m : Mark) → At (op.Run (run_op.SearchCommon x (look_at.Second m)) ∷ []) s → (ts : List Step) →
+    at-second : (s : Machine) (m : Mark) → At (Op.Run (RunOp.SearchCommon x (Look.Second m)) ∷ []) s → (ts : List Step) →
         are_onward_of p ts ≡ true → run_all ts s ≡ Ok new → Arrived
     at-second s m a ts on n =
-        go (onward p s new [] (op.Run (run_op.SearchCommon x (look_at.Second m))) ts a.todo a.reached idles on n)
+        go (onward p s new [] (Op.Run (RunOp.SearchCommon x (Look.Second m))) ts a.todo a.reached idles on n)
       where
-        go : Onward p s new [] (op.Run (run_op.SearchCommon x (look_at.Second m))) ts → Arrived
+        go : Onward p s new [] (Op.Run (RunOp.SearchCommon x (Look.Second m))) ts → Arrived
         go (answered u others te z y n2 on2 l) = absurd (cc)
         go (acted h others te z y n2 on2 l) =
-            let v : Part = part s.world (op.List (list_op.LockRead x) ∷ []) in
-            let q : search_common_by (queue_of s.world m).items s.world x (look_at.Second m)
-            ≡ done s.world (op.List (list_op.LockRead x) ∷ []) =
-            ap (λ (ys : List ℕ). search_common_by ys s.world x (look_at.Second m)) (a.so_far.common_is m) in
+            let v : Part = part s.world (Op.List (ListOp.LockRead x) ∷ []) in
+            let q : search_common_by (queue_of s.world m).items s.world x (Look.Second m)
+            ≡ done s.world (Op.List (ListOp.LockRead x) ∷ []) =
+            ap (λ (ys : List ℕ). search_common_by ys s.world x (Look.Second m)) (a.so_far.common_is m) in
             record {
               machine = with_part s p v;
               others = others;
@@ -126,18 +96,18 @@ module _ (p : ℕ) (before : Trace) (x : RunPoll) (owns : List (List ℕ)) (qs :
             }
 
     -- and before that at the first
-    at-first : (s : Machine) (m : Mark) → At (op.Run (run_op.SearchCommon x (look_at.First m)) ∷ []) s → (ts : List Step) →
+    at-first : (s : Machine) (m : Mark) → At (Op.Run (RunOp.SearchCommon x (Look.First m)) ∷ []) s → (ts : List Step) →
         are_onward_of p ts ≡ true → run_all ts s ≡ Ok new → Arrived
     at-first s m a ts on n =
-        go (onward p s new [] (op.Run (run_op.SearchCommon x (look_at.First m))) ts a.todo a.reached idles on n)
+        go (onward p s new [] (Op.Run (RunOp.SearchCommon x (Look.First m))) ts a.todo a.reached idles on n)
       where
-        go : Onward p s new [] (op.Run (run_op.SearchCommon x (look_at.First m))) ts → Arrived
+        go : Onward p s new [] (Op.Run (RunOp.SearchCommon x (Look.First m))) ts → Arrived
         go (answered u others te z y n2 on2 l) = absurd (cc)
         go (acted h others te z y n2 on2 l) =
-            let v : Part = part s.world (op.Run (run_op.SearchCommon x (look_at.Second (other m))) ∷ []) in
-            let q : search_common_by (queue_of s.world m).items s.world x (look_at.First m)
-            ≡ done s.world (op.Run (run_op.SearchCommon x (look_at.Second (other m))) ∷ []) =
-            ap (λ (ys : List ℕ). search_common_by ys s.world x (look_at.First m)) (a.so_far.common_is m) in
+            let v : Part = part s.world (Op.Run (RunOp.SearchCommon x (Look.Second (other m))) ∷ []) in
+            let q : search_common_by (queue_of s.world m).items s.world x (Look.First m)
+            ≡ done s.world (Op.Run (RunOp.SearchCommon x (Look.Second (other m))) ∷ []) =
+            ap (λ (ys : List ℕ). search_common_by ys s.world x (Look.First m)) (a.so_far.common_is m) in
             at-second (with_part s p v) (other m) (record {
               reached = subst (λ (d : Done). Reached (with_part s p (onto p d []))) q y;
               so_far = a.so_far;
@@ -146,44 +116,44 @@ module _ (p : ℕ) (before : Trace) (x : RunPoll) (owns : List (List ℕ)) (qs :
             }) others on2 (sym (ap (λ (d : Done). run_all others (with_part s p (onto p d []))) q) ∙ n2)
 
     -- it takes its turn
-    at-turn : (s : Machine) → At (op.Run (run_op.TakeTurn x) ∷ []) s → (ts : List Step) →
+    at-turn : (s : Machine) → At (Op.Run (RunOp.TakeTurn x) ∷ []) s → (ts : List Step) →
         are_onward_of p ts ≡ true → run_all ts s ≡ Ok new → Arrived
     at-turn s a ts on n =
-        go (onward p s new [] (op.Run (run_op.TakeTurn x)) ts a.todo a.reached idles on n)
+        go (onward p s new [] (Op.Run (RunOp.TakeTurn x)) ts a.todo a.reached idles on n)
       where
-        go : Onward p s new [] (op.Run (run_op.TakeTurn x)) ts → Arrived
+        go : Onward p s new [] (Op.Run (RunOp.TakeTurn x)) ts → Arrived
         go (answered u others te z y n2 on2 l) = absurd (cc)
         go (acted h others te z y n2 on2 l) =
             let m : Mark = first_of s.world.urgent_turns in
-            let v : Part = part (turned p s.world) (op.Run (run_op.SearchCommon x (look_at.First m)) ∷ []) in
+            let v : Part = part (turned p s.world) (Op.Run (RunOp.SearchCommon x (Look.First m)) ∷ []) in
             at-first (with_part s p v) m (record {
               reached = y;
               so_far = record {
                 own_is = a.so_far.own_is;
                 common_is = a.so_far.common_is;
                 listed_is = a.so_far.listed_is;
-                meanwhile = a.so_far.meanwhile ++ event.Looked p m ∷ [];
-                trace = ap (λ (es : Trace). es ++ event.Looked p m ∷ []) a.so_far.trace
-                    ∙ append_assoc before a.so_far.meanwhile (event.Looked p m ∷ []);
+                meanwhile = a.so_far.meanwhile ++ Event.Looked p m ∷ [];
+                trace = ap (λ (es : Trace). es ++ Event.Looked p m ∷ []) a.so_far.trace
+                    ∙ append_assoc before a.so_far.meanwhile (Event.Looked p m ∷ []);
                 there = a.so_far.there;
               };
               todo = stack-set p s v l;
               known = set-known s v l;
             }) others on2 n2
 
-    at-search : (s : Machine) → At (op.Tick (tick_op.Search (asleep x)) ∷ []) s → (ts : List Step) →
+    at-search : (s : Machine) → At (Op.Tick (TickOp.Search (asleep x)) ∷ []) s → (ts : List Step) →
         are_onward_of p ts ≡ true → run_all ts s ≡ Ok new → Arrived
     at-search s a ts on n =
-        go (onward p s new [] (op.Tick (tick_op.Search (asleep x))) ts a.todo a.reached idles on n)
+        go (onward p s new [] (Op.Tick (TickOp.Search (asleep x))) ts a.todo a.reached idles on n)
       where
         none : own_of s.world x.run ≡ []
         none = ap (λ (ys : List (List ℕ)). get_or ys x.run []) a.so_far.own_is ∙ empty
 
-        go : Onward p s new [] (op.Tick (tick_op.Search (asleep x))) ts → Arrived
+        go : Onward p s new [] (Op.Tick (TickOp.Search (asleep x))) ts → Arrived
         go (answered u others te z y n2 on2 l) = absurd (cc)
         go (acted h others te z y n2 on2 l) =
-            let v : Part = part s.world (op.Run (run_op.TakeTurn x) ∷ []) in
-            let q : search_own_by (own_of s.world x.run) s.world x ≡ done s.world (op.Run (run_op.TakeTurn x) ∷ []) =
+            let v : Part = part s.world (Op.Run (RunOp.TakeTurn x) ∷ []) in
+            let q : search_own_by (own_of s.world x.run) s.world x ≡ done s.world (Op.Run (RunOp.TakeTurn x) ∷ []) =
             ap (λ (ys : List ℕ). search_own_by ys s.world x) none in
             at-turn (with_part s p v) (record {
               reached = subst (λ (d : Done). Reached (with_part s p (onto p d []))) q y;
@@ -193,38 +163,38 @@ module _ (p : ℕ) (before : Trace) (x : RunPoll) (owns : List (List ℕ)) (qs :
             }) others on2 (sym (ap (λ (d : Done). run_all others (with_part s p (onto p d []))) q) ∙ n2)
 
     -- the run's own future isn't ready
-    at-own : (s : Machine) → At (op.User (user_op.PollOwn x) ∷ []) s → (ts : List Step) →
-        first_answer ts ≡ Some (end.Polled answer.Pending) → are_onward_of p ts ≡ true → run_all ts s ≡ Ok new →
+    at-own : (s : Machine) → At (Op.User (UserOp.PollOwn x) ∷ []) s → (ts : List Step) →
+        first_answer ts ≡ Some (UserEnd.Polled Answer.Pending) → are_onward_of p ts ≡ true → run_all ts s ≡ Ok new →
         Arrived
     at-own s a ts c on n =
-        go (onward p s new [] (op.User (user_op.PollOwn x)) ts a.todo a.reached idles on n)
+        go (onward p s new [] (Op.User (UserOp.PollOwn x)) ts a.todo a.reached idles on n)
       where
-        go : Onward p s new [] (op.User (user_op.PollOwn x)) ts → Arrived
+        go : Onward p s new [] (Op.User (UserOp.PollOwn x)) ts → Arrived
         go (acted h others te z y n2 on2 l) = absurd (cc)
         go (answered u others te z y n2 on2 l) =
-            let q : ◌≡◌ {A = Option UserEnd} (Some u) (Some (end.Polled answer.Pending)) =
+            let q : ◌≡◌ {A = Option UserEnd} (Some u) (Some (UserEnd.Polled Answer.Pending)) =
             sym (ap first_answer te) ∙ c in
-            let i : u ≡ end.Polled answer.Pending = cc in
-            let v : Part = part s.world (op.Tick (tick_op.Search (asleep x)) ∷ []) in
+            let i : u ≡ UserEnd.Polled Answer.Pending = cc in
+            let v : Part = part s.world (Op.Tick (TickOp.Search (asleep x)) ∷ []) in
             at-search (with_part s p v) (record {
               reached = subst (λ (w : UserEnd).
-                  Reached (with_part s p (onto p (react p (op.User (user_op.PollOwn x)) w s.world) []))) i y;
+                  Reached (with_part s p (onto p (react p (Op.User (UserOp.PollOwn x)) w s.world) []))) i y;
               so_far = a.so_far;
               todo = stack-set p s v l;
               known = set-known s v l;
             }) others on2 (sym (ap (λ (w : UserEnd).
-            run_all others (with_part s p (onto p (react p (op.User (user_op.PollOwn x)) w s.world) []))) i) ∙ n2)
+            run_all others (with_part s p (onto p (react p (Op.User (UserOp.PollOwn x)) w s.world) []))) i) ∙ n2)
 
-    at-unlock : (s : Machine) → At (op.User (user_op.PollOwn x) ∷ op.List list_op.UnlockWrite ∷ []) s →
-        (ts : List Step) → first_answer ts ≡ Some (end.Polled answer.Pending) → are_onward_of p ts ≡ true →
+    at-unlock : (s : Machine) → At (Op.User (UserOp.PollOwn x) ∷ Op.List ListOp.UnlockWrite ∷ []) s →
+        (ts : List Step) → first_answer ts ≡ Some (UserEnd.Polled Answer.Pending) → are_onward_of p ts ≡ true →
         run_all ts s ≡ Ok new → Arrived
     at-unlock s a ts c on n =
-        go (onward p s new (op.User (user_op.PollOwn x) ∷ []) (op.List list_op.UnlockWrite) ts a.todo a.reached idles on n)
+        go (onward p s new (Op.User (UserOp.PollOwn x) ∷ []) (Op.List ListOp.UnlockWrite) ts a.todo a.reached idles on n)
       where
-        go : Onward p s new (op.User (user_op.PollOwn x) ∷ []) (op.List list_op.UnlockWrite) ts → Arrived
+        go : Onward p s new (Op.User (UserOp.PollOwn x) ∷ []) (Op.List ListOp.UnlockWrite) ts → Arrived
         go (answered u others te z y n2 on2 l) = absurd (cc)
         go (acted h others te z y n2 on2 l) =
-            let d : Part = onto p (act p h (op.List list_op.UnlockWrite) s.world) (op.User (user_op.PollOwn x) ∷ []) in
+            let d : Part = onto p (act p h (Op.List ListOp.UnlockWrite) s.world) (Op.User (UserOp.PollOwn x) ∷ []) in
             at-own (with_part s p d) (record {
               reached = y;
               so_far = record {
@@ -239,16 +209,16 @@ module _ (p : ℕ) (before : Trace) (x : RunPoll) (owns : List (List ℕ)) (qs :
               known = set-known s d l;
             }) others (sym (ap first_answer te) ∙ c) on2 n2
 
-    at-write : (s : Machine) → At (op.List (list_op.Write (section.Register x)) ∷ []) s → (ts : List Step) →
-        first_answer ts ≡ Some (end.Polled answer.Pending) → are_onward_of p ts ≡ true → run_all ts s ≡ Ok new →
+    at-write : (s : Machine) → At (Op.List (ListOp.Write (Section.Register x)) ∷ []) s → (ts : List Step) →
+        first_answer ts ≡ Some (UserEnd.Polled Answer.Pending) → are_onward_of p ts ≡ true → run_all ts s ≡ Ok new →
         Arrived
     at-write s a ts c on n =
-        go (onward p s new [] (op.List (list_op.Write (section.Register x))) ts a.todo a.reached idles on n)
+        go (onward p s new [] (Op.List (ListOp.Write (Section.Register x))) ts a.todo a.reached idles on n)
       where
-        go : Onward p s new [] (op.List (list_op.Write (section.Register x))) ts → Arrived
+        go : Onward p s new [] (Op.List (ListOp.Write (Section.Register x))) ts → Arrived
         go (answered u others te z y n2 on2 l) = absurd (cc)
         go (acted h others te z y n2 on2 l) =
-            let d : Part = onto p (act p h (op.List (list_op.Write (section.Register x))) s.world) [] in
+            let d : Part = onto p (act p h (Op.List (ListOp.Write (Section.Register x))) s.world) [] in
             let st : Stage = (run_of s.world x.run).stage in
             at-unlock (with_part s p d) (record {
               reached = y;
@@ -265,16 +235,16 @@ module _ (p : ℕ) (before : Trace) (x : RunPoll) (owns : List (List ℕ)) (qs :
               known = set-known s d l;
             }) others (sym (ap first_answer te) ∙ c) on2 n2
 
-    at-lock : (s : Machine) → At (op.List (list_op.LockWrite (section.Register x)) ∷ []) s → (ts : List Step) →
-        first_answer ts ≡ Some (end.Polled answer.Pending) → are_onward_of p ts ≡ true → run_all ts s ≡ Ok new →
+    at-lock : (s : Machine) → At (Op.List (ListOp.LockWrite (Section.Register x)) ∷ []) s → (ts : List Step) →
+        first_answer ts ≡ Some (UserEnd.Polled Answer.Pending) → are_onward_of p ts ≡ true → run_all ts s ≡ Ok new →
         Arrived
     at-lock s a ts c on n =
-        go (onward p s new [] (op.List (list_op.LockWrite (section.Register x))) ts a.todo a.reached idles on n)
+        go (onward p s new [] (Op.List (ListOp.LockWrite (Section.Register x))) ts a.todo a.reached idles on n)
       where
-        go : Onward p s new [] (op.List (list_op.LockWrite (section.Register x))) ts → Arrived
+        go : Onward p s new [] (Op.List (ListOp.LockWrite (Section.Register x))) ts → Arrived
         go (answered u others te z y n2 on2 l) = absurd (cc)
         go (acted h others te z y n2 on2 l) =
-            let d : Part = onto p (act p h (op.List (list_op.LockWrite (section.Register x))) s.world) [] in
+            let d : Part = onto p (act p h (Op.List (ListOp.LockWrite (Section.Register x))) s.world) [] in
             at-write (with_part s p d) (record {
               reached = y;
               so_far = record {
@@ -322,14 +292,14 @@ module _ (s : Machine) (r : Reached s) (rest : IsAtRest s) (n p : ℕ) (b : By) 
 
   in-parties : p < length s.parties
   in-parties = let z : ltb p (length s.parties) ≡ true =
-      (in-range _ _ (run-first (Begin p (call.PollRun n b)) steps s new k.call.made).0).0 in
+      (in-range _ _ (run-first (Begin p (Call.PollRun n b)) steps s new k.call.made).0).0 in
       grind (arith, nat_tests)
 
   abbrev told : Trace
-  told = event.CallBegun p (call.PollRun n b) ∷ event.RunPolled p n ∷ []
+  told = Event.CallBegun p (Call.PollRun n b) ∷ Event.RunPolled p n ∷ []
 
   abbrev beginning : World
-  beginning = log (log s.world (event.CallBegun p (call.PollRun n b))) (event.RunPolled p n)
+  beginning = log (log s.world (Event.CallBegun p (Call.PollRun n b))) (Event.RunPolled p n)
 
   abbrev begun-as : Stage → Part
   begun-as st = onto p (done beginning (poll_run st x)) []
@@ -339,14 +309,14 @@ module _ (s : Machine) (r : Reached s) (rest : IsAtRest s) (n p : ℕ) (b : By) 
 
   on-begun : run_all steps (from-stage (run_of s.world n).stage) ≡ Ok new
   on-begun = sym (ap (λ (os : List Op). run_all steps
-      (with_part s p (part_after s.world os (Begin p (call.PollRun n b))))) (idles p))
-      ∙ (run-first (Begin p (call.PollRun n b)) steps s new k.call.made).1
+      (with_part s p (part_after s.world os (Begin p (Call.PollRun n b))))) (idles p))
+      ∙ (run-first (Begin p (Call.PollRun n b)) steps s new k.call.made).1
 
   reached-begun : Reached (from-stage (run_of s.world n).stage)
-  reached-begun = subst (λ (os : List Op). Reached (with_part s p (part_after s.world os (Begin p (call.PollRun n b)))))
+  reached-begun = subst (λ (os : List Op). Reached (with_part s p (part_after s.world os (Begin p (Call.PollRun n b)))))
       (idles p)
-      (reached-step s (Begin p (call.PollRun n b))
-      (run-first (Begin p (call.PollRun n b)) steps s new k.call.made).0 r)
+      (reached-step s (Begin p (Call.PollRun n b))
+      (run-first (Begin p (Call.PollRun n b)) steps s new k.call.made).0 r)
 
   set-in : (v : Part) → p < length (with_part s p v).parties
   set-in v = omega (arith, in-parties, length-set s.parties p v.todo)
@@ -362,12 +332,12 @@ module _ (s : Machine) (r : Reached s) (rest : IsAtRest s) (n p : ℕ) (b : By) 
         common_is = none;
         listed_is = λ q. omega arith;
         meanwhile = told;
-        trace = append_assoc s.world.trace (event.CallBegun p (call.PollRun n b) ∷ []) (event.RunPolled p n ∷ []);
+        trace = append_assoc s.world.trace (Event.CallBegun p (Call.PollRun n b) ∷ []) (Event.RunPolled p n ∷ []);
         there = here s (good-here s r) (heard-here s r) (deep-here s r) (bonded-here s r) rest;
       }
 
       over : (q : ℕ) (ts : List Step) (m then : Machine) → stack m q ≡ [] → are_onward_of q ts ≡ true →
-          run_all ts m ≡ Ok then → first_answer ts ≡ Some (end.Polled answer.Pending) → ⊥
+          run_all ts m ≡ Ok then → first_answer ts ≡ Some (UserEnd.Polled Answer.Pending) → ⊥
       over q [] m then z on e2 c = absurd (cc)
       over q (t ∷ ts) m then z on e2 c =
           let first : is_onward_of q t ≡ true = (left-true (is_onward_of q t) (are_onward_of q ts) on).0 in

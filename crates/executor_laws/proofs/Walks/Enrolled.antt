@@ -6,36 +6,14 @@ use Rattle.std.proofs.Common.{Bool, true, false, eqb, refl, sym, ap, subst, ⊎_
 use Rattle.std.proofs.Math.ListN.{length-set}
 use Rattle.std.proofs.lemmas.List.{length-append}
 use Rattle.std.specs.Prelude.{Option, Some, None, reverse}
-use Rattle.executor_model.specs.declared.kind.Kind.{Kind}
-use Rattle.executor_model.specs.declared.call.Call.{Call}
-use Rattle.executor_model.specs.declared.call.Call.TheVariants as call
-use Rattle.executor_model.specs.declared.call.Reply.{Reply}
-use Rattle.executor_model.specs.declared.event.Event.TheVariants as event
-use Rattle.executor_model.specs.declared.op.Hold.{Hold}
-use Rattle.executor_model.specs.declared.op.ListOp.{ListOp}
-use Rattle.executor_model.specs.declared.op.ListOp.TheVariants as list_op
-use Rattle.executor_model.specs.declared.op.Op.{Op}
-use Rattle.executor_model.specs.declared.op.Op.TheVariants as op
-use Rattle.executor_model.specs.declared.op.RunOp.TheVariants as run_op
-use Rattle.executor_model.specs.declared.op.RunPoll.{RunPoll}
-use Rattle.executor_model.specs.declared.op.Section.TheVariants as section
-use Rattle.executor_model.specs.declared.op.Steal.{Steal}
-use Rattle.executor_model.specs.declared.op.StealOp.TheVariants as steal_op
-use Rattle.executor_model.specs.declared.op.UserOp.TheVariants as user_op
-use Rattle.executor_model.specs.declared.op.Waker.{Waker}
-use Rattle.executor_model.specs.declared.step.Hint.{Hint}
-use Rattle.executor_model.specs.declared.step.Step.{Step}
-use Rattle.executor_model.specs.declared.step.UserEnd.{UserEnd}
-use Rattle.executor_model.specs.ActsOfRuns as runs
-use Rattle.executor_model.specs.Doing.{act}
-use Rattle.executor_model.specs.Good.{Good}
-use Rattle.executor_model.specs.OwnQueues.{ListAgrees, is_listed}
-use Rattle.executor_model.specs.Rows.{running_of}
-use Rattle.executor_model.specs.Sound.{times}
-use Rattle.executor_model.specs.Steps.{Machine, accepts, begun, drop_run, future_of, kept, mine, poll_run, react, run, stack, start, top}
-use Rattle.executor_model.specs.Steps.{with_future}
-use Rattle.executor_model.specs.Weights.{same, weigh, weigh_all}
-use Rattle.executor_model.specs.World.{World, Run, Stage, New, Listed, Ended, Done, done, log, new_run, own_of, put_own, run_of}
+use Rattle.executor_laws.proofs.Types.{Kind, Call, Reply, Event, Hold, ListOp, Op, RunOp, RunPoll, Section, Steal, StealOp, UserOp, Waker}
+use Rattle.executor_laws.proofs.Types.{Hint, Step, UserEnd}
+use Rattle.executor_model.specs.{Doing.act, Good.Good, OwnQueues.ListAgrees, OwnQueues.is_listed, Rows.running_of, Sound.times}
+use Rattle.executor_model.specs.{Steps.Machine, Steps.accepts, Steps.begun, Steps.drop_run, Steps.future_of, Steps.kept, Steps.mine}
+use Rattle.executor_model.specs.{Steps.poll_run, Steps.react, Steps.run, Steps.stack, Steps.start, Steps.top, Steps.with_future}
+use Rattle.executor_model.specs.{Weights.same, Weights.weigh, Weights.weigh_all, World.World, World.Run, World.Stage, World.New}
+use Rattle.executor_model.specs.{World.Listed, World.Ended, World.Done, World.done, World.log, World.new_run, World.own_of, World.put_own}
+use Rattle.executor_model.specs.{World.run_of}
 use Rattle.executor_model.proofs.OwnQueues.OwnCounts.{counts-begun, counts-react}
 use Rattle.executor_model.proofs.OwnQueues.OwnRooms.{grown, made-length, of_coat, shorter-taken}
 use Rattle.executor_model.proofs.OwnQueues.RunsAside.{Coat, Hull, coat, stages, stages-at, stages-push, stages-set}
@@ -47,14 +25,15 @@ use Rattle.executor_model.proofs.OwnQueues.UsingSteps.{AllUsed, used-ends, used-
 use Rattle.executor_model.proofs.OwnQueues.UsingWorlds.{is_over_stage}
 use Rattle.executor_model.proofs.Steps.Lift.{good-start, split, unsettled, weigh_all-idle}
 use Rattle.executor_model.proofs.Steps.Lists.{same_cases, weigh_all-below, weigh_all-push}
-use Rattle.executor_laws.proofs.Walks.Stages.{Staged, ended-old, listed-old, push-old, set-other, set-same}
 use Rattle.executor_model.proofs.Steps.Ways.{Way, along}
 use Rattle.executor_model.proofs.Steps.Ways.Way.{acted, called, reacted}
+use Rattle.executor_laws.proofs.Walks.Stages.{Staged, ended-old, listed-old, push-old, set-other, set-same}
+use Rattle.executor_model.specs.ActsOfRuns as runs
 
 -- the own queue comes into the list
 abbrev pub registers : Op → Bool
-registers (op.List (list_op.LockWrite (section.Register x))) = true
-registers (op.List (list_op.Write (section.Register x))) = true
+registers (Op.List (ListOp.LockWrite (Section.Register x))) = true
+registers (Op.List (ListOp.Write (Section.Register x))) = true
 registers _ = false
 
 abbrev pub busy_by : Bool → ℕ → Op → ℕ
@@ -143,11 +122,11 @@ busy-act p h o w n r = omega (
 )
 
 abbrev is_list : Op → Bool
-is_list (op.List o) = true
+is_list (Op.List o) = true
 is_list _ = false
 
 unlisted : (o : Op) → is_list o ≡ false → registers o ≡ false
-unlisted (op.List o) e = absurd (cc)
+unlisted (Op.List o) e = absurd (cc)
 unlisted _ e = refl
 
 module _ (w : World) (o : Op) (d : Done) (busy : (r : ℕ) → weigh (busy_of r) d.next ≤ weigh (busy_of r) (o ∷ [])) where
@@ -161,7 +140,7 @@ module _ (w : World) (o : Op) (d : Done) (busy : (r : ℕ) → weigh (busy_of r)
       (shorter-taken w d.world q f rest i e).count
       (λ r. inl ((shorter-taken w d.world q f rest i e).own r)) busy
 
-  of-grown : (s : Steal) (k f : ℕ) → o ≡ op.Steal (steal_op.Put s k f) →
+  of-grown : (s : Steal) (k f : ℕ) → o ≡ Op.Steal (StealOp.Put s k f) →
       coat (put_own w s.poll.run (own_of w s.poll.run ++ f ∷ [])) ≡ coat d.world → KeepsEnrolled w (o ∷ []) d
   of-grown s k f i e = calm w (o ∷ []) d (sym (ap (λ (c : Coat). c.hull.stages) e))
       ((of_coat (put_own w s.poll.run (own_of w s.poll.run ++ f ∷ [])) d.world e).count
@@ -194,7 +173,7 @@ same-world w v o next e k b = calm w (o ∷ []) (done v next) (ap (λ (rs : List
     ap (λ (qs : List (List ℕ)). length (get_or qs r [])) k in omega (arith, z))) b
 
 enrolled-make : (b : Bool) (w : World) →
-    KeepsEnrolled w (op.List (list_op.Write section.MakeRun) ∷ []) (runs.make_run_by b w)
+    KeepsEnrolled w (Op.List (ListOp.Write Section.MakeRun) ∷ []) (runs.make_run_by b w)
 enrolled-make true w = same-world w w _ _ refl refl (λ r. omega arith)
 enrolled-make false w = record {
   even = λ z. length-append w.own ([] ∷ []) ∙ (ap (λ (k : ℕ). k + 1) z ∙ sym (length-append w.runs (new_run ∷ [])));
@@ -227,10 +206,10 @@ enrolled-make false w = record {
 -- the queue of a run comes into the list, and its poll goes on
 
 abbrev goes_on : RunPoll → List Op
-goes_on x = op.List list_op.UnlockWrite ∷ op.User (user_op.PollOwn x) ∷ []
+goes_on x = Op.List ListOp.UnlockWrite ∷ Op.User (UserOp.PollOwn x) ∷ []
 
 enrolled-there : (t : Stage) (w : World) (x : RunPoll) → (run_of w x.run).stage ≡ t → t ≢ New →
-    KeepsEnrolled w (op.List (list_op.Write (section.Register x)) ∷ []) (done w (goes_on x))
+    KeepsEnrolled w (Op.List (ListOp.Write (Section.Register x)) ∷ []) (done w (goes_on x))
 enrolled-there t w x e n = record {
   even = λ z. z;
   on = λ r m unused none born staged. (
@@ -246,7 +225,7 @@ enrolled-there t w x e n = record {
 }
 
 enrolled-register : (t : Stage) (w : World) (x : RunPoll) → (run_of w x.run).stage ≡ t →
-    KeepsEnrolled w (op.List (list_op.Write (section.Register x)) ∷ []) (done (runs.registered t w x.run) (goes_on x))
+    KeepsEnrolled w (Op.List (ListOp.Write (Section.Register x)) ∷ []) (done (runs.registered t w x.run) (goes_on x))
 enrolled-register New w x e = record {
   even = λ z. z ∙ sym (length-set w.runs x.run (record (run_of w x.run) { stage = Listed }));
   on = λ r m unused none born staged.
@@ -270,8 +249,8 @@ enrolled-register Ended w x e = enrolled-there Ended w x e ended-old
 
 -- and goes from it
 enrolled-unregister : (w : World) (q : ℕ) (a : Reply) →
-    KeepsEnrolled w (op.List (list_op.Write (section.Unregister q a)) ∷ [])
-    (done (runs.unregistered w q) (op.List list_op.UnlockWrite ∷ op.Run (run_op.Reschedule q a) ∷ []))
+    KeepsEnrolled w (Op.List (ListOp.Write (Section.Unregister q a)) ∷ [])
+    (done (runs.unregistered w q) (Op.List ListOp.UnlockWrite ∷ Op.Run (RunOp.Reschedule q a) ∷ []))
 enrolled-unregister w q a = record {
   even = λ z. z ∙ sym (length-set w.runs q (record (run_of w q) { stage = Ended }));
   on = λ r m unused none born staged.
@@ -286,23 +265,23 @@ enrolled-unregister w q a = record {
       );
 }
 
-enrolled-list : (p : ℕ) (h : Hint) (o : ListOp) (w : World) → KeepsEnrolled w (op.List o ∷ []) (act p h (op.List o) w)
-enrolled-list p h (list_op.Write section.MakeRun) w = enrolled-make h.refused w
-enrolled-list p h (list_op.Write (section.Register x)) w = enrolled-register (run_of w x.run).stage w x refl
-enrolled-list p h (list_op.Write (section.Unregister q a)) w = enrolled-unregister w q a
-enrolled-list p h (list_op.LockWrite section.MakeRun) w = same-world w _ _ _ refl refl (λ r. omega arith)
-enrolled-list p h (list_op.LockWrite (section.Register x)) w = same-world w _ _ _ refl refl (λ r. omega arith)
-enrolled-list p h (list_op.LockWrite (section.Unregister q a)) w = same-world w _ _ _ refl refl (λ r. omega arith)
-enrolled-list p h list_op.UnlockWrite w = same-world w _ _ _ refl refl (λ r. omega arith)
-enrolled-list p h list_op.UnlockRead w = same-world w _ _ _ refl refl (λ r. omega arith)
-enrolled-list p h (list_op.LockRead x) w =
-    same-world w _ _ _ refl refl (λ r. busy-act p h (op.List (list_op.LockRead x)) w refl r)
+enrolled-list : (p : ℕ) (h : Hint) (o : ListOp) (w : World) → KeepsEnrolled w (Op.List o ∷ []) (act p h (Op.List o) w)
+enrolled-list p h (ListOp.Write Section.MakeRun) w = enrolled-make h.refused w
+enrolled-list p h (ListOp.Write (Section.Register x)) w = enrolled-register (run_of w x.run).stage w x refl
+enrolled-list p h (ListOp.Write (Section.Unregister q a)) w = enrolled-unregister w q a
+enrolled-list p h (ListOp.LockWrite Section.MakeRun) w = same-world w _ _ _ refl refl (λ r. omega arith)
+enrolled-list p h (ListOp.LockWrite (Section.Register x)) w = same-world w _ _ _ refl refl (λ r. omega arith)
+enrolled-list p h (ListOp.LockWrite (Section.Unregister q a)) w = same-world w _ _ _ refl refl (λ r. omega arith)
+enrolled-list p h ListOp.UnlockWrite w = same-world w _ _ _ refl refl (λ r. omega arith)
+enrolled-list p h ListOp.UnlockRead w = same-world w _ _ _ refl refl (λ r. omega arith)
+enrolled-list p h (ListOp.LockRead x) w =
+    same-world w _ _ _ refl refl (λ r. busy-act p h (Op.List (ListOp.LockRead x)) w refl r)
 
 enrolled-act : (p : ℕ) (h : Hint) (o : Op) (w : World) → KeepsEnrolled w (o ∷ []) (act p h o w)
 enrolled-act p h o w = by (is_list o) refl
   where
     listed : (x : Op) → is_list x ≡ true → KeepsEnrolled w (x ∷ []) (act p h x w)
-    listed (op.List x) e = enrolled-list p h x w
+    listed (Op.List x) e = enrolled-list p h x w
     listed _ e = absurd (cc)
 
     by : (b : Bool) → is_list o ≡ b → KeepsEnrolled w (o ∷ []) (act p h o w)
@@ -312,7 +291,7 @@ enrolled-act p h o w = by (is_list o) refl
 -- user code ends
 
 user-unlisted : (o : Op) (u : UserEnd) → accepts o u ≡ true → registers o ≡ false
-user-unlisted (op.User x) u a = refl
+user-unlisted (Op.User x) u a = refl
 user-unlisted _ u a = absurd (cc)
 
 enrolled-react : (p : ℕ) (o : Op) (u : UserEnd) (w : World) → accepts o u ≡ true →
@@ -360,27 +339,27 @@ module _ (r : ℕ) where
 
   busy-begun : (p : ℕ) (w : World) (here : Option Waker) (c : Call) → 1 ≤ weigh (busy_of r) (begun p w here c).next →
       Staged (stages w.runs) r
-  busy-begun p w here (call.Wake k) z = nothing _ _ (none-with w (kept w k) _ (λ f. refl)) z
-  busy-begun p w here (call.WakeByRef k) z = nothing _ _ (none-with w (kept w k) _ (λ f. refl)) z
-  busy-begun p w here (call.Copy k) z = nothing _ _ (none-with w (kept w k) _ (λ f. refl)) z
-  busy-begun p w here (call.DropWaker k) z = nothing _ _ (none-with w (kept w k) _ (λ f. refl)) z
-  busy-begun p w here call.Keep z = nothing _ _ (none-with w (future_of here) _ (λ f. refl)) z
-  busy-begun p w here call.WakeSelf z = nothing _ _ (none-with w (future_of here) _ (λ f. refl)) z
-  busy-begun p w here (call.PollRun q b) z = busy-poll (run_of w q).stage w _ refl z
-  busy-begun p w here (call.DropRun q) z = nothing _ _ (none-drop (run_of w q).stage q) z
+  busy-begun p w here (Call.Wake k) z = nothing _ _ (none-with w (kept w k) _ (λ f. refl)) z
+  busy-begun p w here (Call.WakeByRef k) z = nothing _ _ (none-with w (kept w k) _ (λ f. refl)) z
+  busy-begun p w here (Call.Copy k) z = nothing _ _ (none-with w (kept w k) _ (λ f. refl)) z
+  busy-begun p w here (Call.DropWaker k) z = nothing _ _ (none-with w (kept w k) _ (λ f. refl)) z
+  busy-begun p w here Call.Keep z = nothing _ _ (none-with w (future_of here) _ (λ f. refl)) z
+  busy-begun p w here Call.WakeSelf z = nothing _ _ (none-with w (future_of here) _ (λ f. refl)) z
+  busy-begun p w here (Call.PollRun q b) z = busy-poll (run_of w q).stage w _ refl z
+  busy-begun p w here (Call.DropRun q) z = nothing _ _ (none-drop (run_of w q).stage q) z
   busy-begun p w here _ z = absurd (omega (arith, z))
 
 enrolled-begun : (p : ℕ) (w : World) (here : Option Waker) (c : Call) →
-    KeepsEnrolled w [] (begun p (log w (event.CallBegun p c)) here c)
+    KeepsEnrolled w [] (begun p (log w (Event.CallBegun p c)) here c)
 enrolled-begun p w here c = record {
   even = λ y.
       let e = (counts-begun 0 p w here c).hull in
-      let s : stages (begun p (log w (event.CallBegun p c)) here c).world.runs ≡ stages w.runs =
+      let s : stages (begun p (log w (Event.CallBegun p c)) here c).world.runs ≡ stages w.runs =
       sym (ap (λ (x : Hull). x.stages) e) in
       sym (ap (λ (x : Hull). length x.own) e)
-      ∙ (y ∙ sym (same-count w (begun p (log w (event.CallBegun p c)) here c).world s));
+      ∙ (y ∙ sym (same-count w (begun p (log w (Event.CallBegun p c)) here c).world s));
   on = λ r m unused none born staged.
-      let v : World = log w (event.CallBegun p c) in
+      let v : World = log w (Event.CallBegun p c) in
       let e = (counts-begun 0 p w here c).hull in
       let s : stages (begun p v here c).world.runs ≡ stages w.runs = sym (ap (λ (x : Hull). x.stages) e) in
       let z : length (own_of (begun p v here c).world r) ≡ length (own_of w r) =
@@ -442,12 +421,12 @@ moves s p old rest d good l e way k =
     enrolled-on s p old rest d l e (used-moves s p old rest d good l e way k.used) (enrolled-way s p old rest d way) k
 
 ends : (s : Machine) (p : ℕ) (a : Reply) (held : Hold) (below : List Op) → p < length s.parties →
-    stack s p ≡ below ++ reverse (op.End a held ∷ []) → Enrolled s →
-    Enrolled (unsettled s p below (done (log s.world (event.CallEnded p a)) []))
+    stack s p ≡ below ++ reverse (Op.End a held ∷ []) → Enrolled s →
+    Enrolled (unsettled s p below (done (log s.world (Event.CallEnded p a)) []))
 ends s p a held below l e k =
-    enrolled-on s p (op.End a held ∷ []) below (done (log s.world (event.CallEnded p a)) []) l e
+    enrolled-on s p (Op.End a held ∷ []) below (done (log s.world (Event.CallEnded p a)) []) l e
     (used-ends s p a held below l e k.used)
-    (same-world s.world (log s.world (event.CallEnded p a)) (op.End a held) [] refl refl (λ r. omega arith)) k
+    (same-world s.world (log s.world (Event.CallEnded p a)) (Op.End a held) [] refl refl (λ r. omega arith)) k
 
 enrolled-start : (limit : ℕ) (kind : Kind) (n : ℕ) → Enrolled (start limit kind n)
 enrolled-start limit kind n = record {

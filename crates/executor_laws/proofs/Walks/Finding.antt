@@ -5,30 +5,12 @@ use Rattle.std.proofs.Common.{Bool, true, false, cond, eqb, refl, sym, ap, subst
 use Rattle.std.proofs.lemmas.Bool.Decides.{nat_tests}
 use Rattle.std.proofs.lemmas.List.{get_or_past}
 use Rattle.std.specs.Prelude.{nat_lt, reverse}
-use Rattle.executor_model.specs.declared.op.ListOp.TheVariants as list_op
-use Rattle.executor_model.specs.declared.op.Op.{Op}
-use Rattle.executor_model.specs.declared.op.Op.TheVariants as op
-use Rattle.executor_model.specs.declared.op.RunOp.TheVariants as run_op
-use Rattle.executor_model.specs.declared.op.RunPoll.{RunPoll}
-use Rattle.executor_model.specs.declared.op.StealOp.{StealOp}
-use Rattle.executor_model.specs.declared.step.Hint.{Hint}
-use Rattle.executor_model.specs.declared.step.Step.{Step}
-use Rattle.executor_model.specs.declared.step.UserEnd.{UserEnd}
-use Rattle.executor_model.specs.ActsOfRuns.{free_places}
-use Rattle.executor_model.specs.Doing.{act}
-use Rattle.executor_model.specs.Due.{IsDue}
-use Rattle.executor_model.specs.Executions.{run_all}
-use Rattle.executor_model.specs.OwnQueues.{HasOwnRoom, ListAgrees, filling_of}
-use Rattle.executor_model.specs.Rows.{running_of}
-use Rattle.executor_model.specs.Steps.{Machine, Part, accepts, onto, stack, with_part}
-use Rattle.executor_model.specs.Trace.{Trace}
-use Rattle.executor_model.specs.Weights.{same}
-use Rattle.executor_model.specs.World.{World}
-use Rattle.executor_model.proofs.OwnQueues.OwnExecutions.{has-own-room}
-use Rattle.executor_model.proofs.OwnQueues.OwnListed.{lists-agree}
-use Rattle.executor_model.proofs.Steps.Lift.{split}
-use Rattle.executor_model.proofs.Steps.Lists.{same_cases}
-use Rattle.executor_model.proofs.Steps.Reached.{Reached}
+use Rattle.executor_laws.proofs.Types.{ListOp, Op, RunOp, RunPoll, StealOp, Hint, Step, UserEnd}
+use Rattle.executor_model.specs.{ActsOfRuns.free_places, Doing.act, Due.IsDue, Executions.run_all, OwnQueues.HasOwnRoom}
+use Rattle.executor_model.specs.{OwnQueues.ListAgrees, OwnQueues.filling_of, Rows.running_of, Steps.Machine, Steps.Part, Steps.accepts}
+use Rattle.executor_model.specs.{Steps.onto, Steps.stack, Steps.with_part, Trace.Trace, Weights.same, World.World}
+use Rattle.executor_model.proofs.{OwnQueues.OwnExecutions.has-own-room, OwnQueues.OwnListed.lists-agree, Steps.Lift.split}
+use Rattle.executor_model.proofs.{Steps.Lists.same_cases, Steps.Reached.Reached}
 use Rattle.executor_laws.specs.LoneEnds.{are_onward_of}
 use Rattle.executor_laws.proofs.Reach.LoneTicks.{stack-set}
 use Rattle.executor_laws.proofs.RunReach.RunFinds.{Heading}
@@ -39,8 +21,7 @@ use Rattle.executor_laws.proofs.RunReach.RunWalks.Onward.{acted, answered}
 use Rattle.executor_laws.proofs.Walks.Enrolled.{Enrolled, enrolled}
 use Rattle.executor_laws.proofs.Walks.Searches.{Next, Seeking, next-counts, next-finds, next-lengths, next-locks, next-looks}
 use Rattle.executor_laws.proofs.Walks.Searches.{next-more_puts, next-more_takes, next-puts, next-takes}
-use Rattle.executor_laws.proofs.Walks.Searches.Seeking.{counts, finds, lengths, locks, looks, more_puts, more_takes, puts, takes}
-use Rattle.executor_laws.proofs.Walks.Searches.Seeking.{unlocks}
+use Rattle.executor_laws.proofs.Walks.Searches.Seeking.{counts, finds, lengths, locks, looks, more_puts, more_takes, puts, takes, unlocks}
 
 pub enrolled-here : (s : Machine) → Reached s → Enrolled s
 enrolled-here s y = subst Enrolled (sym y.is) (enrolled y.limit y.kind y.parties y.steps)
@@ -96,12 +77,12 @@ module _ (p : ℕ) (before : Trace) (x : RunPoll) (new : Machine) (idles : stack
         go (answered u others te a y2 n2 on2 z) = absurd (none u a)
         go (acted h others te w y2 n2 on2 z) = again others _ (onto p (act p h o s.world) []) te (next h) y2 n2 on2
 
-    step-steal : (o : StealOp) → stack s p ≡ [] ++ op.Steal o ∷ [] →
-        ((h : Hint) → Next before x s.world (onto p (act p h (op.Steal o) s.world) [])) → TakesOne before new
-    step-steal o e next = step-on (op.Steal o) e (λ v a. absurd (cc)) next
+    step-steal : (o : StealOp) → stack s p ≡ [] ++ Op.Steal o ∷ [] →
+        ((h : Hint) → Next before x s.world (onto p (act p h (Op.Steal o) s.world) [])) → TakesOne before new
+    step-steal o e next = step-on (Op.Steal o) e (λ v a. absurd (cc)) next
 
     -- the run has a queue, with a free place for what it is about to put there
-    has-queue : (o : StealOp) → stack s p ≡ [] ++ op.Steal o ∷ [] → running_of x.run (op.Steal o) ≡ 1 →
+    has-queue : (o : StealOp) → stack s p ≡ [] ++ Op.Steal o ∷ [] → running_of x.run (Op.Steal o) ≡ 1 →
         x.run < length s.world.own
     has-queue o e u =
         let h : Enrolled s = enrolled-here s y in
@@ -112,7 +93,7 @@ module _ (p : ℕ) (before : Trace) (x : RunPoll) (new : Machine) (idles : stack
             arith,
             u,
             (h.used x.run).unborn z,
-            split (running_of x.run) s.parties p (op.Steal o ∷ []) [] l e,
+            split (running_of x.run) s.parties p (Op.Steal o ∷ []) [] l e,
           )),
         )
       where
@@ -122,28 +103,28 @@ module _ (p : ℕ) (before : Trace) (x : RunPoll) (new : Machine) (idles : stack
             or-past : (i j : ℕ) → (i < j) ⊎ (j ≤ i)
             or-past i j = grind arith
 
-    has-place : (o : StealOp) (n : ℕ) → stack s p ≡ [] ++ op.Steal o ∷ [] → filling_of x.run (op.Steal o) ≡ suc n →
+    has-place : (o : StealOp) (n : ℕ) → stack s p ≡ [] ++ Op.Steal o ∷ [] → filling_of x.run (Op.Steal o) ≡ suc n →
         nat_lt 0 (free_places s.world x.run) ≡ true
     has-place o n e u =
         let some : 1 ≤ free_places s.world x.run = omega (
           arith,
           u,
           room-here s x.run y,
-          split (filling_of x.run) s.parties p (op.Steal o ∷ []) [] l e,
+          split (filling_of x.run) s.parties p (Op.Steal o ∷ []) [] l e,
         ) in grind (arith, nat_tests)
 
     fills : (more : ℕ) → (let n : ℕ = cond (eqb x.run x.run) (more + 1) 0 in n) ≡ suc more
     fills more = ap (λ (b : Bool). let n : ℕ = cond b (more + 1) 0 in n) (itself x.run).1
         ∙ (let z : more + 1 ≡ suc more = omega arith in z)
 
-    by-unlock : (g : ℕ) (hs : List Op) → stack s p ≡ hs ++ op.List list_op.UnlockRead ∷ [] → Heading g hs →
+    by-unlock : (g : ℕ) (hs : List Op) → stack s p ≡ hs ++ Op.List ListOp.UnlockRead ∷ [] → Heading g hs →
         IsDue g before → TakesOne before new
-    by-unlock g hs e z due = go (onward p s new hs (op.List list_op.UnlockRead) (t ∷ ts) e y idles on m)
+    by-unlock g hs e z due = go (onward p s new hs (Op.List ListOp.UnlockRead) (t ∷ ts) e y idles on m)
       where
-        go : Onward p s new hs (op.List list_op.UnlockRead) (t ∷ ts) → TakesOne before new
+        go : Onward p s new hs (Op.List ListOp.UnlockRead) (t ∷ ts) → TakesOne before new
         go (answered u others te a y2 n2 on2 w) = absurd (cc)
         go (acted h others te w y2 n2 on2 v) =
-            let d = act p h (op.List list_op.UnlockRead) s.world in
+            let d = act p h (Op.List ListOp.UnlockRead) s.world in
             let turned : Heading g (hs ++ reverse d.next) = subst (Heading g) (sym (append-nil hs)) z in
             let q : onto p d hs ≡ record { world = d.world; todo = hs ++ reverse d.next } = with-heading p g d hs turned in
             let at : Machine = with_part s p (record { world = d.world; todo = hs ++ reverse d.next }) in
@@ -158,9 +139,9 @@ module _ (p : ℕ) (before : Trace) (x : RunPoll) (new : Machine) (idles : stack
 
     by-kind : Seeking before x s.world (stack s p) → TakesOne before new
     by-kind (locks q e o u z f) =
-        step-on (op.List (list_op.LockRead x)) e (λ v a. absurd (cc)) (λ h. next-locks before x p q h s.world o u z f)
+        step-on (Op.List (ListOp.LockRead x)) e (λ v a. absurd (cc)) (λ h. next-locks before x p q h s.world o u z f)
     by-kind (looks at left e o u z) =
-        step-on (op.Run (run_op.LookOwn x at left)) e (λ v a. absurd (cc))
+        step-on (Op.Run (RunOp.LookOwn x at left)) e (λ v a. absurd (cc))
         (λ h. next-looks before x p at left s.world o u z)
     by-kind (lengths q at left e o u n z) =
         step-steal _ e (λ h. next-lengths before x p q at left s.world o u n z)
@@ -178,7 +159,7 @@ module _ (p : ℕ) (before : Trace) (x : RunPoll) (new : Machine) (idles : stack
         step-steal _ e (λ h. next-more_puts before x p q at left more f g xs _ s.world
         (has-place _ more e (fills more)) (has-queue _ e (itself x.run).0) o i due)
     by-kind (finds at left g xs e o due) =
-        step-on (op.Run (run_op.LookOwn x at left)) e (λ v a. absurd (cc))
+        step-on (Op.Run (RunOp.LookOwn x at left)) e (λ v a. absurd (cc))
         (λ h. next-finds before x p at left g xs s.world o due)
     by-kind (unlocks g hs e z due) = by-unlock g hs e z due
 
@@ -193,7 +174,7 @@ module _ (p : ℕ) (before : Trace) (x : RunPoll) (new : Machine) (idles : stack
   has-todo w os (more_takes q at left more g xs e o i due) n = let no : _ ∷ [] ≡ [] = sym e ∙ n in absurd (cc)
   has-todo w os (more_puts q at left more f g xs e o i due) n = let no : _ ∷ [] ≡ [] = sym e ∙ n in absurd (cc)
   has-todo w os (finds at left g xs e o due) n = let no : _ ∷ [] ≡ [] = sym e ∙ n in absurd (cc)
-  has-todo w os (unlocks g hs e z due) n = not-nil hs (op.List list_op.UnlockRead) (sym e ∙ n)
+  has-todo w os (unlocks g hs e z due) n = not-nil hs (Op.List ListOp.UnlockRead) (sym e ∙ n)
 
   pub walks : (ts : List Step) (s : Machine) → Reached s → So before s.world → p < length s.parties →
       Seeking before x s.world (stack s p) → are_onward_of p ts ≡ true → run_all ts s ≡ Ok new → TakesOne before new

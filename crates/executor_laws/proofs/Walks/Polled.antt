@@ -4,46 +4,24 @@ use Rattle.std.proofs.Common.{◌≡◌, ◌∙◌, ℕ, ◌<◌, ◌≤◌, Lis
 use Rattle.std.proofs.Common.{◌++◌, eqb, refl, sym, ap, arith, ⊎_elim, Ok}
 use Rattle.std.proofs.lemmas.Bool.Decides.{nat_tests}
 use Rattle.std.specs.Prelude.{◌==◌, Option, Some, None, nat_lt}
-use Rattle.executor_model.specs.declared.call.By.TheVariants as by
-use Rattle.executor_model.specs.declared.call.Call.{Call}
-use Rattle.executor_model.specs.declared.call.Call.TheVariants as call
+use Rattle.executor_laws.proofs.Types.{By, Call, Event, Kind, Op, ListOp, RunPoll, Section, UserOp, Step, Begin, Go, Gone, NoSuch, UserEnd}
+use Rattle.executor_model.specs.{declared.step.Step.TheVariants.Answer, Emptiness.IsAtRest, Executions.run_all, Quiet.IsQuiet}
+use Rattle.executor_model.specs.{Rows.leaking_of, Rows.running_of, Steps.Machine, Steps.after, Steps.answer_refusal, Steps.begin_refusal}
+use Rattle.executor_model.specs.{Steps.is_there, Steps.is_unused, Steps.onto, Steps.part_after, Steps.poll_run, Steps.party_of}
+use Rattle.executor_model.specs.{Steps.refusal, Steps.run, Steps.stack, Steps.start, Steps.top, Steps.unless, Steps.waits, Steps.waker_of}
+use Rattle.executor_model.specs.{Sound.times, Weights.weigh_all, World.Ended, World.Listed, World.New, World.Stage, World.World, World.done}
+use Rattle.executor_model.specs.{World.log, World.own_of, World.run_of}
+use Rattle.executor_model.proofs.{OwnQueues.Using.emptying_of, OwnQueues.UsingWorlds.is_over_stage, OwnQueues.UsingWorlds.is_past}
+use Rattle.executor_model.proofs.{Quiet.Resting.all-rest, Steps.Lift.no_hint, Steps.Reached.Reached, Steps.Reached.deep-here}
+use Rattle.executor_model.proofs.{Steps.Reached.good-here, Steps.Reached.reached-step, Steps.Reached.run-then}
+use Rattle.executor_laws.specs.{LoneEnds.are_onward_of, Remaining.remaining, RunPolls.KeepersCanBePolled, RunPolls.RunsCanBePolled}
+use Rattle.executor_laws.specs.{RunReach.IsLonePoll, RunReach.Keeps, RunReach.first_answer}
+use Rattle.executor_laws.proofs.{Placement.Placing.here, Placement.Placing.idle, Placement.Placing.keeper-own, Reach.LoneTicks.stack-set}
+use Rattle.executor_laws.proofs.{Reach.Reached.bonded-here, Reach.Reached.heard-here, Termination.GoingOn.goes-on}
+use Rattle.executor_laws.proofs.{Termination.LoneEnds.Finish, Termination.LoneEnds.OthersRest, Termination.LoneEnds.alone-free}
+use Rattle.executor_laws.proofs.{Termination.LoneEnds.finishes, Termination.LoneEnds.still-party, Termination.LoneEnds.still-rest}
+use Rattle.executor_laws.proofs.{Walks.Finding.enrolled-here}
 use Rattle.executor_model.specs.declared.event.Answer.TheVariants as answer
-use Rattle.executor_model.specs.declared.event.Event.TheVariants as event
-use Rattle.executor_model.specs.declared.kind.Kind.{Kind}
-use Rattle.executor_model.specs.declared.op.Op.{Op}
-use Rattle.executor_model.specs.declared.op.Op.TheVariants as op
-use Rattle.executor_model.specs.declared.op.ListOp.TheVariants as list_op
-use Rattle.executor_model.specs.declared.op.RunPoll.{RunPoll}
-use Rattle.executor_model.specs.declared.op.Section.TheVariants as section
-use Rattle.executor_model.specs.declared.op.UserOp.TheVariants as user_op
-use Rattle.executor_model.specs.declared.step.Step.{Step}
-use Rattle.executor_model.specs.declared.step.Step.TheVariants.{Answer, Begin, Go}
-use Rattle.executor_model.specs.declared.step.StepError.TheVariants.{Gone, NoSuch}
-use Rattle.executor_model.specs.declared.step.UserEnd.TheVariants as end
-use Rattle.executor_model.specs.Emptiness.{IsAtRest}
-use Rattle.executor_model.specs.Executions.{run_all}
-use Rattle.executor_model.specs.Quiet.{IsQuiet}
-use Rattle.executor_model.specs.Rows.{leaking_of, running_of}
-use Rattle.executor_model.specs.Steps.{Machine, after, answer_refusal, begin_refusal, is_there, is_unused, onto, part_after, poll_run}
-use Rattle.executor_model.specs.Steps.{party_of, refusal, run, stack, start, top, unless, waits, waker_of}
-use Rattle.executor_model.specs.Sound.{times}
-use Rattle.executor_model.specs.Weights.{weigh_all}
-use Rattle.executor_model.specs.World.{Ended, Listed, New, Stage, World, done, log, own_of, run_of}
-use Rattle.executor_model.proofs.OwnQueues.Using.{emptying_of}
-use Rattle.executor_model.proofs.OwnQueues.UsingWorlds.{is_over_stage, is_past}
-use Rattle.executor_model.proofs.Quiet.Resting.{all-rest}
-use Rattle.executor_model.proofs.Steps.Lift.{no_hint}
-use Rattle.executor_model.proofs.Steps.Reached.{Reached, deep-here, good-here, reached-step, run-then}
-use Rattle.executor_laws.specs.LoneEnds.{are_onward_of}
-use Rattle.executor_laws.specs.Remaining.{remaining}
-use Rattle.executor_laws.specs.RunPolls.{KeepersCanBePolled, RunsCanBePolled}
-use Rattle.executor_laws.specs.RunReach.{IsLonePoll, Keeps, first_answer}
-use Rattle.executor_laws.proofs.Placement.Placing.{here, idle, keeper-own}
-use Rattle.executor_laws.proofs.Reach.LoneTicks.{stack-set}
-use Rattle.executor_laws.proofs.Reach.Reached.{bonded-here, heard-here}
-use Rattle.executor_laws.proofs.Termination.GoingOn.{goes-on}
-use Rattle.executor_laws.proofs.Termination.LoneEnds.{Finish, OthersRest, alone-free, finishes, still-party, still-rest}
-use Rattle.executor_laws.proofs.Walks.Finding.{enrolled-here}
 
 -- from here p can go on to the end, and what user code answers first is that the run's own future isn't ready
 record Lone (p : ℕ) (s : Machine) : Type 0 where
@@ -52,7 +30,7 @@ record Lone (p : ℕ) (s : Machine) : Type 0 where
   pub onward : are_onward_of p steps ≡ true
   pub made : run_all steps s ≡ Ok new
   pub quiet : IsQuiet new.world.trace
-  pub pending : first_answer steps ≡ Some (end.Polled answer.Pending)
+  pub pending : first_answer steps ≡ Some (UserEnd.Polled answer.Pending)
 
 -- a party that is alone
 record IsAlone (p : ℕ) (s : Machine) : Type 0 where
@@ -72,15 +50,15 @@ module _ (p : ℕ) (x : RunPoll) where
   }
 
   abbrev answers : Step
-  answers = Answer p (end.Polled answer.Pending)
+  answers = Answer p (UserEnd.Polled answer.Pending)
 
   -- where the own future is polled
-  at-own : (s : Machine) → IsAlone p s → top (stack s p) ≡ Some (op.User (user_op.PollOwn x)) → Lone p s
+  at-own : (s : Machine) → IsAlone p s → top (stack s p) ≡ Some (Op.User (UserOp.PollOwn x)) → Lone p s
   at-own s a e =
       let b : nat_lt p (length s.parties) ≡ true = (let l : p < length s.parties = a.there in grind (arith, nat_tests)) in
       let goes : refusal s answers ≡ None =
-      ap (λ (c : Bool). unless c NoSuch (answer_refusal (top (stack s p)) (end.Polled answer.Pending))) b
-      ∙ ap (λ (o : Option Op). answer_refusal o (end.Polled answer.Pending)) e in
+      ap (λ (c : Bool). unless c NoSuch (answer_refusal (top (stack s p)) (UserEnd.Polled answer.Pending))) b
+      ∙ ap (λ (o : Option Op). answer_refusal o (UserEnd.Polled answer.Pending)) e in
       let k : IsAlone p (after s answers) = still-alone s answers refl goes a in
       let f : Finish p (after s answers) =
       finishes (remaining (after s answers)) p (after s answers) k.reached k.there k.others (omega arith) _ refl in
@@ -117,20 +95,20 @@ module _ (p : ℕ) (x : RunPoll) where
   todo-of s os e = ap (λ (ns : List Op). (part_after s.world ns (Go p no_hint)).todo) e
 
   abbrev asks : Op
-  asks = op.User (user_op.PollOwn x)
+  asks = Op.User (UserOp.PollOwn x)
 
   -- a run's first poll brings its own queue into the list
-  at-unlock : (s : Machine) → IsAlone p s → stack s p ≡ asks ∷ op.List list_op.UnlockWrite ∷ [] → Lone p s
-  at-unlock s a e = does-first s (op.List list_op.UnlockWrite) (asks ∷ []) a (ap top e) refl (todo-of s _ e)
+  at-unlock : (s : Machine) → IsAlone p s → stack s p ≡ asks ∷ Op.List ListOp.UnlockWrite ∷ [] → Lone p s
+  at-unlock s a e = does-first s (Op.List ListOp.UnlockWrite) (asks ∷ []) a (ap top e) refl (todo-of s _ e)
       (λ now k i. at-own now k (ap top i))
 
-  at-write : (s : Machine) → IsAlone p s → stack s p ≡ op.List (list_op.Write (section.Register x)) ∷ [] → Lone p s
-  at-write s a e = does-first s (op.List (list_op.Write (section.Register x))) (asks ∷ op.List list_op.UnlockWrite ∷ []) a
+  at-write : (s : Machine) → IsAlone p s → stack s p ≡ Op.List (ListOp.Write (Section.Register x)) ∷ [] → Lone p s
+  at-write s a e = does-first s (Op.List (ListOp.Write (Section.Register x))) (asks ∷ Op.List ListOp.UnlockWrite ∷ []) a
       (ap top e) refl (todo-of s _ e) at-unlock
 
-  at-lock : (s : Machine) → IsAlone p s → stack s p ≡ op.List (list_op.LockWrite (section.Register x)) ∷ [] → Lone p s
-  at-lock s a e = does-first s (op.List (list_op.LockWrite (section.Register x)))
-      (op.List (list_op.Write (section.Register x)) ∷ []) a (ap top e) refl (todo-of s _ e) at-write
+  at-lock : (s : Machine) → IsAlone p s → stack s p ≡ Op.List (ListOp.LockWrite (Section.Register x)) ∷ [] → Lone p s
+  at-lock s a e = does-first s (Op.List (ListOp.LockWrite (Section.Register x)))
+      (Op.List (ListOp.Write (Section.Register x)) ∷ []) a (ap top e) refl (todo-of s _ e) at-write
 
 module _ (s : Machine) (r : Reached s) (rest : IsAtRest s) (p n x : ℕ) (l : p < length s.parties)
     (alive : is_there (run_of s.world n) ≡ true) (unended : ¬ ((run_of s.world n).stage ≡ Ended)) where
@@ -141,7 +119,7 @@ module _ (s : Machine) (r : Reached s) (rest : IsAtRest s) (p n x : ℕ) (l : p 
   there = here s (good-here s r) (heard-here s r) (deep-here s r) (bonded-here s r) rest
 
   abbrev c : Call
-  c = call.PollRun n (by.Outside x)
+  c = Call.PollRun n (By.Outside x)
 
   begins : refusal s (Begin p c) ≡ None
   begins =
@@ -159,10 +137,10 @@ module _ (s : Machine) (r : Reached s) (rest : IsAtRest s) (p n x : ℕ) (l : p 
       ∙ ap (λ (m : ℕ). unless (m == 0) Gone None) unleaked))))
 
   abbrev beginning : World
-  beginning = log (log s.world (event.CallBegun p c)) (event.RunPolled p n)
+  beginning = log (log s.world (Event.CallBegun p c)) (Event.RunPolled p n)
 
   abbrev poll : RunPoll
-  poll = record { run = n; waker = waker_of None (by.Outside x); poll = length (s.world.trace ++ event.CallBegun p c ∷ []) }
+  poll = record { run = n; waker = waker_of None (By.Outside x); poll = length (s.world.trace ++ Event.CallBegun p c ∷ []) }
 
   abbrev now : Machine
   now = after s (Begin p c)
@@ -185,7 +163,7 @@ module _ (s : Machine) (r : Reached s) (rest : IsAtRest s) (p n x : ℕ) (l : p 
   by-stage Listed e = at-own p poll now alone (ap top (begun-stack Listed e))
   by-stage Ended e = absurd (unended e)
 
-  pub lone-poll : (steps : List Step) × (new : Machine) × IsLonePoll p n (by.Outside x) steps s new
+  pub lone-poll : (steps : List Step) × (new : Machine) × IsLonePoll p n (By.Outside x) steps s new
   lone-poll = let f : Lone p now = by-stage (run_of s.world n).stage refl in (
     f.steps,
     f.new,
@@ -226,7 +204,7 @@ module _ (s : Machine) (y : Reached s) (rest : IsAtRest s) (r f : ℕ) (k : Keep
       ∙ (or-parts (run_of s.world r).dropped (is_over_stage (run_of s.world r).stage) open_run).1 in cc
 
   pub keeper-polled : (p x : ℕ) → p < length s.parties →
-      (steps : List Step) × (new : Machine) × IsLonePoll p r (by.Outside x) steps s new
+      (steps : List Step) × (new : Machine) × IsLonePoll p r (By.Outside x) steps s new
   keeper-polled p x l = lone-poll s y rest p r x l
       (ap not (or-parts (run_of s.world r).dropped (is_over_stage (run_of s.world r).stage) open_run).0) unended-run
 

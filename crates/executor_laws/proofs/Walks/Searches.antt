@@ -7,26 +7,15 @@ use Rattle.std.proofs.Math.Nat.{mod-lt}
 use Rattle.std.proofs.lemmas.Bool.Decides.{nat_tests}
 use Rattle.std.proofs.lemmas.List.{reverse-append}
 use Rattle.std.specs.Prelude.{Option, nat_lt, reverse}
-use Rattle.executor_model.specs.declared.call.Reply.{Reply}
-use Rattle.executor_model.specs.declared.event.Event.TheVariants as event
-use Rattle.executor_model.specs.declared.op.ListOp.TheVariants as list_op
-use Rattle.executor_model.specs.declared.op.Op.{Op}
-use Rattle.executor_model.specs.declared.op.Op.TheVariants as op
-use Rattle.executor_model.specs.declared.op.RunOp.TheVariants as run_op
-use Rattle.executor_model.specs.declared.op.RunPoll.{RunPoll}
-use Rattle.executor_model.specs.declared.op.StealOp.TheVariants as steal_op
-use Rattle.executor_model.specs.declared.step.Hint.{Hint}
-use Rattle.executor_model.specs.ActsOfRuns.{behind, free_places, found, kept_by, look_own_by, lock_read, own_places, share}
-use Rattle.executor_model.specs.ActsOfRuns.{steal_by, steal_length_by, steal_put_by, steal_take_by, walk}
-use Rattle.executor_model.specs.Due.{IsDue}
-use Rattle.executor_model.specs.Sound.{times}
-use Rattle.executor_model.specs.Steps.{Part, end_of, onto, part, settled_by, top}
-use Rattle.executor_model.specs.Trace.{Trace}
-use Rattle.executor_model.specs.World.{Done, World, done, own_of, put_own}
+use Rattle.executor_laws.proofs.Types.{Reply, Event, ListOp, Op, RunOp, RunPoll, StealOp, Hint}
+use Rattle.executor_model.specs.{ActsOfRuns.behind, ActsOfRuns.free_places, ActsOfRuns.found, ActsOfRuns.kept_by, ActsOfRuns.look_own_by}
+use Rattle.executor_model.specs.{ActsOfRuns.lock_read, ActsOfRuns.own_places, ActsOfRuns.share, ActsOfRuns.steal_by}
+use Rattle.executor_model.specs.{ActsOfRuns.steal_length_by, ActsOfRuns.steal_put_by, ActsOfRuns.steal_take_by, ActsOfRuns.walk, Due.IsDue}
+use Rattle.executor_model.specs.{Sound.times, Steps.Part, Steps.end_of, Steps.onto, Steps.part, Steps.settled_by, Steps.top, Trace.Trace}
+use Rattle.executor_model.specs.{World.Done, World.World, World.done, World.own_of, World.put_own, WalksRound.theft}
 use Rattle.executor_model.proofs.Table.Spawning.{top-last}
-use Rattle.executor_laws.proofs.RunReach.RunFinds.{Heading, Heads, heads-found}
 use Rattle.executor_model.proofs.WalksRound.Ahead.{Ahead, InList, WalksOn, all-ahead, in-list, walks-on}
-use Rattle.executor_model.specs.WalksRound.{theft}
+use Rattle.executor_laws.proofs.RunReach.RunFinds.{Heading, Heads, heads-found}
 
 -- another queue, which isn't empty
 abbrev pub Full : RunPoll → World → ℕ → Type 0
@@ -38,25 +27,25 @@ Dues before w = (q g : ℕ) (rest : List ℕ) → own_of w q ≡ g ∷ rest → 
 
 -- what the run is about to do, which is all that it has to do
 pub data Seeking (before : Trace) (x : RunPoll) (w : World) (os : List Op) : Type 0 where
-  locks : (q : ℕ) → os ≡ op.List (list_op.LockRead x) ∷ [] → own_of w x.run ≡ [] → Dues before w →
+  locks : (q : ℕ) → os ≡ Op.List (ListOp.LockRead x) ∷ [] → own_of w x.run ≡ [] → Dues before w →
       1 ≤ times q w.listed → Full x w q → Seeking before x w os
-  looks : (at left : ℕ) → os ≡ op.Run (run_op.LookOwn x at left) ∷ [] → own_of w x.run ≡ [] → Dues before w →
+  looks : (at left : ℕ) → os ≡ Op.Run (RunOp.LookOwn x at left) ∷ [] → own_of w x.run ≡ [] → Dues before w →
       Ahead (Full x w) w.listed at left → Seeking before x w os
-  lengths : (q at left : ℕ) → os ≡ op.Steal (steal_op.Length (theft x q at left)) ∷ [] → own_of w x.run ≡ [] →
+  lengths : (q at left : ℕ) → os ≡ Op.Steal (StealOp.Length (theft x q at left)) ∷ [] → own_of w x.run ≡ [] →
       Dues before w → q ≢ x.run → Full x w q ⊎ Ahead (Full x w) w.listed at left → Seeking before x w os
-  counts : (q at left n g : ℕ) (rest : List ℕ) → os ≡ op.Steal (steal_op.OwnLength (theft x q at left) (suc n)) ∷ [] →
+  counts : (q at left n g : ℕ) (rest : List ℕ) → os ≡ Op.Steal (StealOp.OwnLength (theft x q at left) (suc n)) ∷ [] →
       own_of w x.run ≡ [] → own_of w q ≡ g ∷ rest → q ≢ x.run → IsDue g before → Seeking before x w os
-  takes : (q at left more g : ℕ) (rest : List ℕ) → os ≡ op.Steal (steal_op.Take (theft x q at left) more) ∷ [] →
+  takes : (q at left more g : ℕ) (rest : List ℕ) → os ≡ Op.Steal (StealOp.Take (theft x q at left) more) ∷ [] →
       own_of w x.run ≡ [] → own_of w q ≡ g ∷ rest → q ≢ x.run → IsDue g before → Seeking before x w os
-  puts : (q at left more g : ℕ) → os ≡ op.Steal (steal_op.Put (theft x q at left) more g) ∷ [] →
+  puts : (q at left more g : ℕ) → os ≡ Op.Steal (StealOp.Put (theft x q at left) more g) ∷ [] →
       own_of w x.run ≡ [] → q ≢ x.run → IsDue g before → Seeking before x w os
-  more_takes : (q at left more g : ℕ) (xs : List ℕ) → os ≡ op.Steal (steal_op.Take (theft x q at left) more) ∷ [] →
+  more_takes : (q at left more g : ℕ) (xs : List ℕ) → os ≡ Op.Steal (StealOp.Take (theft x q at left) more) ∷ [] →
       own_of w x.run ≡ g ∷ xs → q ≢ x.run → IsDue g before → Seeking before x w os
-  more_puts : (q at left more h g : ℕ) (xs : List ℕ) → os ≡ op.Steal (steal_op.Put (theft x q at left) more h) ∷ [] →
+  more_puts : (q at left more h g : ℕ) (xs : List ℕ) → os ≡ Op.Steal (StealOp.Put (theft x q at left) more h) ∷ [] →
       own_of w x.run ≡ g ∷ xs → q ≢ x.run → IsDue g before → Seeking before x w os
-  finds : (at left g : ℕ) (xs : List ℕ) → os ≡ op.Run (run_op.LookOwn x at left) ∷ [] → own_of w x.run ≡ g ∷ xs →
+  finds : (at left g : ℕ) (xs : List ℕ) → os ≡ Op.Run (RunOp.LookOwn x at left) ∷ [] → own_of w x.run ≡ g ∷ xs →
       IsDue g before → Seeking before x w os
-  unlocks : (g : ℕ) (hs : List Op) → os ≡ hs ++ op.List list_op.UnlockRead ∷ [] → Heading g hs → IsDue g before →
+  unlocks : (g : ℕ) (hs : List Op) → os ≡ hs ++ Op.List ListOp.UnlockRead ∷ [] → Heading g hs → IsDue g before →
       Seeking before x w os
 
 -- and then
@@ -80,7 +69,7 @@ module _ (before : Trace) (x : RunPoll) where
       let y : WalksOn (Full x v) x v.listed (walk x v.listed at left) =
       walks-on (Full x v) x v.listed (λ q z. z.0) at left k in
       subst (λ (os : List Op). Next before x w (onto p (done v os) [])) (sym y.is)
-      (same-trace w v (op.Steal (steal_op.Length (theft x y.queue y.at y.left)) ∷ []) e g
+      (same-trace w v (Op.Steal (StealOp.Length (theft x y.queue y.at y.left)) ∷ []) e g
       (lengths y.queue y.at y.left refl o u y.other y.ahead))
 
   pub next-locks : (p q : ℕ) (h : Hint) (w : World) → own_of w x.run ≡ [] → Dues before w → 1 ≤ times q w.listed →
@@ -110,9 +99,9 @@ module _ (before : Trace) (x : RunPoll) where
 
       by : (xs : List ℕ) → own_of w q ≡ xs →
           Next before x w (onto p (steal_length_by (length xs) w (theft x q at left)) [])
-      by [] e = same-trace w w (op.Run (run_op.LookOwn x at left) ∷ []) refl refl (looks at left refl o u (ahead e))
+      by [] e = same-trace w w (Op.Run (RunOp.LookOwn x at left) ∷ []) refl refl (looks at left refl o u (ahead e))
       by (g ∷ rest) e =
-          same-trace w w (op.Steal (steal_op.OwnLength (theft x q at left) (suc (length rest))) ∷ []) refl refl
+          same-trace w w (Op.Steal (StealOp.OwnLength (theft x q at left) (suc (length rest))) ∷ []) refl refl
           (counts q at left (length rest) g rest refl o e n (u q g rest e))
 
   -- about half of it is taken, where a place is free
@@ -139,7 +128,7 @@ module _ (before : Trace) (x : RunPoll) where
       let free : 1 ≤ free_places w x.run = omega (arith, places w l, ap (λ (xs : List ℕ). length xs) o) in
       let k : _ = share-some (suc n) (free_places w x.run) (omega arith) free in
       subst (λ (i : ℕ). Next before x w (onto p (steal_by i w (theft x q at left)) [])) (sym k.1)
-      (same-trace w w (op.Steal (steal_op.Take (theft x q at left) k.0) ∷ []) refl refl
+      (same-trace w w (Op.Steal (StealOp.Take (theft x q at left) k.0) ∷ []) refl refl
       (takes q at left k.0 g rest refl o e m due))
 
   pub next-takes : (p q at left more g : ℕ) (rest : List ℕ) (w : World) → own_of w x.run ≡ [] →
@@ -147,7 +136,7 @@ module _ (before : Trace) (x : RunPoll) where
       Next before x w (onto p (steal_take_by (own_of w q) w (theft x q at left) more) [])
   next-takes p q at left more g rest w o e m due =
       subst (λ (xs : List ℕ). Next before x w (onto p (steal_take_by xs w (theft x q at left) more) [])) (sym e)
-      (same-trace w (put_own w q rest) (op.Steal (steal_op.Put (theft x q at left) more g) ∷ []) refl refl
+      (same-trace w (put_own w q rest) (Op.Steal (StealOp.Put (theft x q at left) more g) ∷ []) refl refl
       (puts q at left more g refl (get_or-set_other w.own q x.run rest [] (λ z. m (sym z)) ∙ o) m due))
 
   -- more is taken, or the own queue is looked at
@@ -172,7 +161,7 @@ module _ (before : Trace) (x : RunPoll) where
       Next before x w (onto p (steal_put_by b p w (theft x q at left) more g) [])
   next-puts p q at left more g false w b l o m due = absurd (cc)
   next-puts p q at left more g true w b l o m due =
-      next-steals p q at left more g [] w (kept_by p w x.run g) (event.Kept p g x.run ∷ []) refl refl
+      next-steals p q at left more g [] w (kept_by p w x.run g) (Event.Kept p g x.run ∷ []) refl refl
       (get_or-set_same w.own x.run (own_of w x.run ++ g ∷ []) [] l ∙ ap (λ (xs : List ℕ). xs ++ g ∷ []) o) m due
 
   pub next-more_takes : (p q at left more g : ℕ) (xs : List ℕ) (w : World) → own_of w x.run ≡ g ∷ xs → q ≢ x.run →
@@ -180,9 +169,9 @@ module _ (before : Trace) (x : RunPoll) where
   next-more_takes p q at left more g xs w o m due = by (own_of w q)
     where
       by : (ys : List ℕ) → Next before x w (onto p (steal_take_by ys w (theft x q at left) more) [])
-      by [] = same-trace w w (op.Run (run_op.LookOwn x at left) ∷ []) refl refl (finds at left g xs refl o due)
+      by [] = same-trace w w (Op.Run (RunOp.LookOwn x at left) ∷ []) refl refl (finds at left g xs refl o due)
       by (h ∷ rest) =
-          same-trace w (put_own w q rest) (op.Steal (steal_op.Put (theft x q at left) more h) ∷ []) refl refl
+          same-trace w (put_own w q rest) (Op.Steal (StealOp.Put (theft x q at left) more h) ∷ []) refl refl
           (more_puts q at left more h g xs refl (get_or-set_other w.own q x.run rest [] (λ z. m (sym z)) ∙ o) m due)
 
   pub next-more_puts : (p q at left more h g : ℕ) (xs : List ℕ) (b : Bool) (w : World) → b ≡ true →
@@ -190,20 +179,20 @@ module _ (before : Trace) (x : RunPoll) where
       Next before x w (onto p (steal_put_by b p w (theft x q at left) more h) [])
   next-more_puts p q at left more h g xs false w b l o m due = absurd (cc)
   next-more_puts p q at left more h g xs true w b l o m due =
-      next-steals p q at left more g (xs ++ h ∷ []) w (kept_by p w x.run h) (event.Kept p h x.run ∷ []) refl refl
+      next-steals p q at left more g (xs ++ h ∷ []) w (kept_by p w x.run h) (Event.Kept p h x.run ∷ []) refl refl
       (get_or-set_same w.own x.run (own_of w x.run ++ h ∷ []) [] l ∙ ap (λ (ys : List ℕ). ys ++ h ∷ []) o) m due
 
   -- what is found in the walk is run once the list's lock is given back
   next-behind : (p g : ℕ) (w : World) (z : Done) → Heads g w.trace w.gone z → IsDue g before →
-      Next before x w (onto p (behind (op.List list_op.UnlockRead ∷ []) z) [])
+      Next before x w (onto p (behind (Op.List ListOp.UnlockRead ∷ []) z) [])
   next-behind p g w z heads due =
-      let turned : reverse (op.List list_op.UnlockRead ∷ z.next) ≡ reverse z.next ++ op.List list_op.UnlockRead ∷ [] =
-      reverse-append (op.List list_op.UnlockRead ∷ []) z.next in
-      let still : settled_by (end_of (top (reverse z.next ++ op.List list_op.UnlockRead ∷ []))) p z.world
-      (reverse z.next ++ op.List list_op.UnlockRead ∷ [])
-      ≡ part z.world (reverse z.next ++ op.List list_op.UnlockRead ∷ []) =
-      ap (λ (v : Option Reply). settled_by v p z.world (reverse z.next ++ op.List list_op.UnlockRead ∷ []))
-      (ap end_of (top-last (reverse z.next) (op.List list_op.UnlockRead))) in
+      let turned : reverse (Op.List ListOp.UnlockRead ∷ z.next) ≡ reverse z.next ++ Op.List ListOp.UnlockRead ∷ [] =
+      reverse-append (Op.List ListOp.UnlockRead ∷ []) z.next in
+      let still : settled_by (end_of (top (reverse z.next ++ Op.List ListOp.UnlockRead ∷ []))) p z.world
+      (reverse z.next ++ Op.List ListOp.UnlockRead ∷ [])
+      ≡ part z.world (reverse z.next ++ Op.List ListOp.UnlockRead ∷ []) =
+      ap (λ (v : Option Reply). settled_by v p z.world (reverse z.next ++ Op.List ListOp.UnlockRead ∷ []))
+      (ap end_of (top-last (reverse z.next) (Op.List ListOp.UnlockRead))) in
       subst (λ (os : List Op). Next before x w (settled_by (end_of (top os)) p z.world os)) (sym turned)
       (subst (Next before x w) (sym still) (record {
         seeks = unlocks g (reverse z.next) refl heads.heading due;

@@ -3,8 +3,7 @@
 use Rattle.std.proofs.Common.{◌≡◌, ◌∙◌, ℕ, ◌<◌, ◌+◌, ◌==◌, List, [], ◌∷◌, ◌++◌, Bool, true, false, refl, ap, subst, arith}
 use Rattle.std.{proofs.lemmas.Bool.Decides.nat_tests, specs.Prelude.cond}
 use Rattle.executor_laws.proofs.Types.{Step, Begin, Go}
-use Rattle.executor_model.specs.declared.step.Step.TheVariants.{Answer}
-use Rattle.executor_model.specs.Steps.{Machine, run, step, stepped}
+use Rattle.executor_model.specs.{declared.step.Step.TheVariants.Answer, Steps.Machine, Steps.run, Steps.step, Steps.stepped}
 use Rattle.executor_laws.specs.Continued.{IsContinued}
 use Rattle.executor_laws.specs.Numbered.{is_request, left, refusing, requests, told}
 use Rattle.executor_model.proofs.Steps.TraceSteps.{run-continues}

@@ -20,39 +20,46 @@ pub enum Stop {
     Leak(usize),
 }
 
+/// Which whole calls an executor of a script has.
+#[derive(Clone, Copy, PartialEq, Eq)]
+pub enum Takes {
+    /// All.
+    All,
+    /// Those that are refused no memory, and spawn no future that runs another in its poll: that would need the executor, whose type
+    /// has the future's.
+    Running,
+}
+
 /// Reads a script of whole calls. None is one without a line. The first bad line is refused, and then the first that is no
-/// whole call of one party, is refused memory, or has an item `nest`.
-pub fn read_whole(alloc: Global, text: &[u8]) -> Result<Option<Script>, PlayError> {
+/// whole call of one party, or none that the executor has.
+pub fn read_whole(alloc: Global, text: &[u8], takes: Takes) -> Result<Option<Script>, PlayError> {
     let Some(script) = parse(alloc, text)? else {
         return Ok(None);
     };
-    match first_not_whole(script.commands.as_slice()) {
+    match first_not_whole(script.commands.as_slice(), takes) {
         Some(line) => Err(PlayError::NotWhole(line)),
         None => Ok(Some(script)),
     }
 }
 
-/// The number of the first line that is no whole call.
-fn first_not_whole(commands: &[Command]) -> Option<u64> {
+/// The number of the first line that is no whole call which is taken.
+fn first_not_whole(commands: &[Command], takes: Takes) -> Option<u64> {
     for (place, command) in commands.iter().enumerate() {
-        if whole(command).is_none() {
+        let is_taken = match command {
+            Command::Whole(request) => is_taken(request, takes),
+            _ => false,
+        };
+        if !is_taken {
             return Some((place as u64).saturating_add(2));
         }
     }
     None
 }
 
-/// The call of a command, where it is a whole one of one party, is refused no memory, and spawns no future that runs another in
-/// its poll: that would need the executor, whose type has the future's.
-fn whole(command: &Command) -> Option<&Plain> {
-    match command {
-        Command::Whole(
-            Request {
-                refusal: Refusal::Nothing,
-                plain,
-            },
-        ) if !nests(plain) => Some(plain),
-        _ => None,
+fn is_taken(request: &Request, takes: Takes) -> bool {
+    match takes {
+        Takes::All => true,
+        Takes::Running => request.refusal == Refusal::Nothing && !nests(&request.plain),
     }
 }
 
@@ -80,7 +87,8 @@ where
 {
     let mut seats: Seats<T, N> = Seats::new(player.alloc);
     for (place, command) in commands.iter().enumerate().skip(from) {
-        if let Some(plain) = whole(command) {
+        if let Command::Whole(Request { refusal, plain }) = command {
+            player.requests.begin(*refusal);
             if desk.may_end() && seats.are_free() {
                 match plain {
                     Plain::End => return Stop::End(place),
@@ -105,7 +113,8 @@ where
 {
     show_end(&player.stage, Word::End, Answer::Done);
     for command in commands.iter().skip(place.saturating_add(1)) {
-        if let Some(plain) = whole(command) {
+        if let Command::Whole(Request { refusal, plain }) = command {
+            player.requests.begin(*refusal);
             let answer = player.call_on_handle(plain);
             show_end(&player.stage, plain.word(), answer);
         }

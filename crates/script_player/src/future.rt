@@ -84,6 +84,18 @@ impl<H: Drop, S: Drop> Scripted<H, S> {
         held
     }
 
+    /// Begins a poll in which another future is run, where its next item is that.
+    pub fn begins_nest(&mut self) -> bool {
+        match self.items.get(self.next) {
+            Some(Item::Nest) => {
+                self.shelf.stage.show_on(b"poll", self.name);
+                self.take_item();
+                true
+            }
+            _ => false,
+        }
+    }
+
     /// Does its next item, and gives the output where that is ready.
     fn do_next<W>(&mut self, waker: &W) -> Option<u64>
     where
@@ -107,7 +119,7 @@ impl<H: Drop, S: Drop> Scripted<H, S> {
                 drop(self.handles.take(name));
                 None
             }
-            // No script with one is played here.
+            // Who polls the future runs the other: `begins_nest`. No running executor can.
             Item::Nest => None,
         }
     }
@@ -124,13 +136,14 @@ impl<H: Drop, S: Drop> Scripted<H, S> {
         item
     }
 
-    /// Has a copy of the waker kept, in place of the one that was kept before, which goes.
+    /// Has a copy of the waker kept, in place of the one that was kept before, which goes. Where there is no copy none is kept.
     fn keep<W>(&self, waker: &W)
     where
         S: KeptOf<W>,
     {
-        if let Some(kept) = S::kept_of(waker) {
-            self.shelf.keep(self.name, kept);
+        match S::kept_of(waker) {
+            Some(kept) => self.shelf.keep(self.name, kept),
+            None => drop(self.shelf.take_kept(self.name)),
         }
     }
 

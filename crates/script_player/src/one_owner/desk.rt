@@ -18,6 +18,8 @@ pub struct OnSolo<'a, R: Wait + Copy + Drop> {
     pub store: &'a Store<R>,
     /// Where the wakers of its futures are kept.
     pub shelf: &'a SharedShelf<TaskWaker<R>>,
+    /// How many futures it has places for.
+    pub limit: usize,
     /// It is neither static nor leaked.
     pub may_end: bool,
 }
@@ -27,7 +29,11 @@ impl<R: Wait + Copy + Drop> Desk<Handle<R>, ScriptTick<R>, ScriptRun<R>> for OnS
         let mark = plan.mark;
         let future = scripted(self.shelf, plan)?;
         let name = future.name;
-        let spawned = self.link.tasks().spawn(name, mark);
+        let spawned = if self.grants_place() {
+            self.link.tasks().spawn(name, mark)
+        } else {
+            Err(SpawnError::NoMemory(name))
+        };
         match spawned {
             Ok(Spawned { task, told }) => {
                 self.store.put(name, future);
@@ -45,9 +51,7 @@ impl<R: Wait + Copy + Drop> Desk<Handle<R>, ScriptTick<R>, ScriptRun<R>> for OnS
     }
 
     fn try_tick(&self) -> bool {
-        let Taken { found, sleeper } = self.link.tasks().take();
-        self.link.call_sleeper(sleeper);
-        self.run_found(found)
+        self.run_found(self.take_next())
     }
 
     fn is_empty(&self) -> bool {
@@ -77,19 +81,58 @@ impl<R: Wait + Copy + Drop> Desk<Handle<R>, ScriptTick<R>, ScriptRun<R>> for OnS
 }
 
 impl<R: Wait + Copy + Drop> OnSolo<'_, R> {
+    /// Whether a spawn is granted what it asks for: it asks only where a place is free.
+    fn grants_place(&self) -> bool {
+        let count = self.link.tasks().future_count();
+        count >= self.limit || self.link.grants()
+    }
+
     /// Runs what was found, and says whether that was a task.
     pub fn run_found(&self, found: Found<Name>) -> bool {
+        self.run(found, self.limit)
+    }
+
+    /// What a search of the executor's queues finds.
+    pub fn take_next(&self) -> Found<Name> {
+        let Taken { found, sleeper } = self.link.tasks().take();
+        self.link.call_sleeper(sleeper);
+        found
+    }
+
+    /// Runs what was found; polls that run others are open in one another up to this depth, so at as many futures never deeper.
+    fn run(&self, found: Found<Name>, depth: usize) -> bool {
         match found {
             Found::Nothing => false,
             Found::Gone => true,
-            Found::Poll(lent, name) => {
-                self.poll(lent, name);
-                true
-            }
             Found::Drop(lent, name) => {
                 self.drop_future(lent, name);
                 true
             }
+            Found::Poll(lent, name) => {
+                if self.begins_nest(name) {
+                    if depth > 0 {
+                        self.run(self.take_next(), depth - 1);
+                    }
+                    self.shelf.stage.show_on(b"pending", name);
+                    self.settle_pending(lent, name);
+                } else {
+                    self.poll(lent, name);
+                }
+                true
+            }
+        }
+    }
+
+    /// Begins the poll of the future of this name, where it runs another in it.
+    fn begins_nest(&self, name: Name) -> bool {
+        match self.store.take(name) {
+            Some(future) => {
+                let mut future = future;
+                let begins = future.begins_nest();
+                self.store.put(name, future);
+                begins
+            }
+            None => false,
         }
     }
 

@@ -105,7 +105,7 @@ where
             Err(fault) => return Err(fault),
         }
     }
-    if is_all_alike(Lists::WITH_A_WRONG_ONE.play(rt, players))? {
+    if is_all_alike(Lists::WRONG.play(rt, players))? {
         ended = Err(Fault::Differs);
     }
     ended

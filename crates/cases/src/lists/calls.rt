@@ -107,7 +107,7 @@ impl Writer {
     }
 
     /// A new run, one of four with a future of its own that awaits another.
-    fn write_run(&mut self) -> Result<(), AllocError> {
+    pub fn write_run(&mut self) -> Result<(), AllocError> {
         let number = self.new_seat();
         self.write_word("run ", 'r', number)?;
         if self.draws.comes(25) {

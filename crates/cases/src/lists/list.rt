@@ -43,8 +43,8 @@ pub struct Writer {
     pub runs: Hand,
 }
 
-/// The list of so many calls that this seed makes. One of 25 has 201 spawns or more before them, so that runs give way, keep futures
-/// and take those of others. Half of the lists have a few calls more, which drop each tick and run, and an executor that isn't static.
+/// The list of so many calls that this seed makes. One of 25 has 201 spawns or more before them, and makes three runs first, so that
+/// runs give way, keep futures and take those of others. Half of the lists have a few calls more, which drop each tick and run, and an executor that isn't static.
 pub fn list(alloc: Global, seed: u64, calls: u64, holds: Holds) -> Result<List, AllocError> {
     let mut draws = Draws::of(seed);
     let crowd = if draws.comes(4) {
@@ -55,6 +55,11 @@ pub fn list(alloc: Global, seed: u64, calls: u64, holds: Holds) -> Result<List, 
     let mut writer = Writer::new(alloc, draws, crowd, holds)?;
     for _ in 0..crowd {
         writer.write_one_of_crowd()?;
+    }
+    if crowd > 0 {
+        for _ in 0..3 {
+            writer.write_run()?;
+        }
     }
     for _ in 0..calls {
         if writer.calls < calls {

@@ -2,22 +2,41 @@
 
 use crate::family::Family;
 use crate::fault::Fault;
-use crate::lists::list::{Holds, List, list};
+use crate::lists::list::{Holds, list};
 use crate::players::Players;
-use crate::shown::Shown;
+use crate::shown::{Shown, machine, print_text};
 use call_player::PlaysTasks;
 use executor_player::Plays;
-use std::alloc::{AllocError, AllocGlobal, Global};
+use std::alloc::AllocGlobal;
+use std::io;
 use std::random::RandomSource;
 use std::sync::Wait;
 
-/// The families that play lists as the step machine does.
-const FAMILIES: [Family; 5] = [
-    Family::Solo,
-    Family::Executor,
-    Family::Static,
-    Family::Local,
-    Family::StaticLocal,
+/// Families that play the same lists.
+#[derive(Clone, Copy)]
+struct Group {
+    families: &'static [Family],
+    holds: Holds,
+    /// They play lists of an executor that is static or leaked, or of one that is neither; without this of both.
+    is_static: Option<bool>,
+}
+
+const GROUPS: [Group; 3] = [
+    Group {
+        families: &[Family::Solo],
+        holds: Holds::All,
+        is_static: None,
+    },
+    Group {
+        families: &[Family::Executor, Family::Local],
+        holds: Holds::Running,
+        is_static: Some(false),
+    },
+    Group {
+        families: &[Family::Static, Family::StaticLocal],
+        holds: Holds::Running,
+        is_static: Some(true),
+    },
 ];
 
 /// Lists of seeds from 0 on.
@@ -26,17 +45,26 @@ pub struct Lists {
     seeds: u64,
     /// How many calls each has.
     calls: u64,
-    /// On the machine that of the last seed lacks its last call.
-    lacks_one: bool,
+    /// How many of the last ones the machine lacks.
+    lacks: u64,
 }
 
-/// How many lists a family plays as the step machine does.
+/// How many lists a group plays as the step machine does.
 #[derive(Drop)]
 struct Alike {
     agreed: u64,
     all: u64,
-    /// The seed of the first that it doesn't.
-    first: Option<u64>,
+    first: Option<Parting>,
+}
+
+/// A list of which a family shows something else.
+#[derive(Drop)]
+struct Parting {
+    seed: u64,
+    script: String,
+    family: Family,
+    owed: Shown,
+    shown: Shown,
 }
 
 impl Lists {
@@ -44,18 +72,18 @@ impl Lists {
     pub const ALL: Lists = Lists {
         seeds: 1_000,
         calls: 50,
-        lacks_one: false,
+        lacks: 0,
     };
 
-    /// Two short ones, of which one isn't the same on the machine.
-    pub const WITH_A_WRONG_ONE: Lists = Lists {
-        seeds: 2,
+    /// A few short ones, of which the machine lacks the last call.
+    pub const WRONG: Lists = Lists {
+        seeds: 4,
         calls: 12,
-        lacks_one: true,
+        lacks: 1,
     };
 
-    /// Plays those that a family answers on it and on the step machine, for each family, and says how many show the same. The error
-    /// is `Differs` where not all do; the first that doesn't is printed with both texts.
+    /// Plays those that a group of families answers on each of it and on the step machine, for each group, and says of how many all
+    /// show the same. The error is `Differs` where not of all; the first other one is printed with the two texts.
     pub fn play<E, T, R>(self, rt: R, players: &mut Players<E, T>) -> Result<(), Fault>
     where
         E: Plays,
@@ -63,12 +91,10 @@ impl Lists {
         R: AllocGlobal + Print + RandomSource + Wait + Copy + Drop,
     {
         let mut ended = Ok(());
-        for family in FAMILIES {
-            let alike = self.judged(rt, players, family)?;
-            let (name, agreed, all) = (family.name(), alike.agreed, alike.all);
-            println!(rt; "lists on machine and {name}: {agreed} of {all} agree")?;
-            if let Some(seed) = alike.first {
-                self.print(rt, players, family, seed)?;
+        for group in GROUPS {
+            let alike = self.judged(rt, players, group)?;
+            alike.print(&rt, group)?;
+            if alike.first.is_some() {
                 ended = Err(Fault::Differs);
             }
         }
@@ -79,112 +105,62 @@ impl Lists {
         self,
         rt: R,
         players: &mut Players<E, T>,
-        family: Family,
+        group: Group,
     ) -> Result<Alike, Fault>
     where
         E: Plays,
         T: PlaysTasks,
         R: AllocGlobal + RandomSource + Wait + Copy + Drop,
     {
-        let mut alike = Alike::new();
+        let mut alike = Alike {
+            agreed: 0,
+            all: 0,
+            first: None,
+        };
         for seed in 0..self.seeds {
-            let made = list(rt.alloc(), seed, self.calls, holds(family))?;
-            if answers(family, made.is_static) {
-                let (owed, shown) = self.both(rt, players, family, seed, &made)?;
-                alike.count(seed, is_same(&owed, &shown));
+            let made = list(rt.alloc(), seed, self.calls, group.holds)?;
+            if group
+                .is_static
+                .is_none_or(|is_static| is_static == made.is_static)
+            {
+                let calls = self.calls.saturating_sub(self.lacks);
+                let on_machine = list(rt.alloc(), seed, calls, group.holds)?;
+                let owed = machine(rt.alloc(), on_machine.script.as_bytes())?;
+                let parting = first_parting(rt, players, group, seed, made.script, owed)?;
+                alike.count(parting);
             }
         }
         Ok(alike)
     }
-
-    /// The list of this seed, as the machine plays it beside this family.
-    fn on_machine(self, alloc: Global, family: Family, seed: u64) -> Result<List, AllocError> {
-        let lacks_one = self.lacks_one && seed.saturating_add(1) == self.seeds;
-        let calls = self.calls.saturating_sub(lacks_one as u64);
-        list(alloc, seed, calls, holds(family))
-    }
-
-    /// What the machine shows of the list of this seed, and what the family does.
-    fn both<E, T, R>(
-        self,
-        rt: R,
-        players: &mut Players<E, T>,
-        family: Family,
-        seed: u64,
-        made: &List,
-    ) -> Result<(Shown, Shown), Fault>
-    where
-        E: Plays,
-        T: PlaysTasks,
-        R: AllocGlobal + RandomSource + Wait + Copy + Drop,
-    {
-        let on_machine = self.on_machine(rt.alloc(), family, seed)?;
-        let owed = Family::Machine.play(rt, players, on_machine.script.as_bytes())?;
-        let shown = family.play(rt, players, made.script.as_bytes())?;
-        Ok((owed, shown))
-    }
-
-    /// Prints the list of this seed, with both texts.
-    fn print<E, T, R>(
-        self,
-        rt: R,
-        players: &mut Players<E, T>,
-        family: Family,
-        seed: u64,
-    ) -> Result<(), Fault>
-    where
-        E: Plays,
-        T: PlaysTasks,
-        R: AllocGlobal + Print + RandomSource + Wait + Copy + Drop,
-    {
-        let made = list(rt.alloc(), seed, self.calls, holds(family))?;
-        let (owed, shown) = self.both(rt, players, family, seed, &made)?;
-        println!(rt; "the list of seed {seed}:")?;
-        print!(rt; "{}", made.script)?;
-        println!(rt; "on machine:")?;
-        owed.print(&rt)?;
-        println!(rt; "on {}:", family.name())?;
-        shown.print(&rt)?;
-        Ok(())
-    }
 }
 
-impl Alike {
-    /// None was played.
-    fn new() -> Alike {
-        Alike {
-            agreed: 0,
-            all: 0,
-            first: None,
+/// Where a family of the group shows something else of a list than what is owed, the first that does.
+fn first_parting<E, T, R>(
+    rt: R,
+    players: &mut Players<E, T>,
+    group: Group,
+    seed: u64,
+    script: String,
+    owed: Shown,
+) -> Result<Option<Parting>, Fault>
+where
+    E: Plays,
+    T: PlaysTasks,
+    R: AllocGlobal + RandomSource + Wait + Copy + Drop,
+{
+    for family in group.families {
+        let shown = family.play(rt, players, script.as_bytes())?;
+        if !is_same(&owed, &shown) {
+            return Ok(Some(Parting {
+                seed,
+                script,
+                family: *family,
+                owed,
+                shown,
+            }));
         }
     }
-
-    /// The list of this seed was played.
-    fn count(&mut self, seed: u64, is_same: bool) {
-        self.all = self.all.saturating_add(1);
-        if is_same {
-            self.agreed = self.agreed.saturating_add(1);
-        } else if self.first.is_none() {
-            self.first = Some(seed);
-        }
-    }
-}
-
-/// What the lists hold that a family plays.
-fn holds(family: Family) -> Holds {
-    match family {
-        Family::Solo => Holds::All,
-        _ => Holds::Running,
-    }
-}
-
-/// Whether a family plays lists of this kind: on an executor that is static or leaked, or on an owned one alone.
-fn answers(family: Family, is_static: bool) -> bool {
-    match family {
-        Family::Static | Family::StaticLocal => is_static,
-        Family::Executor | Family::Local => !is_static,
-        _ => true,
-    }
+    Ok(None)
 }
 
 /// Both are the same text.
@@ -192,5 +168,42 @@ fn is_same(owed: &Shown, shown: &Shown) -> bool {
     match (owed, shown) {
         (Shown::Text(owed), Shown::Text(shown)) => owed.as_slice() == shown.as_slice(),
         _ => false,
+    }
+}
+
+impl Alike {
+    /// A list was played.
+    fn count(&mut self, parting: Option<Parting>) {
+        self.all = self.all.saturating_add(1);
+        match parting {
+            None => self.agreed = self.agreed.saturating_add(1),
+            Some(_) if self.first.is_some() => {}
+            parting => self.first = parting,
+        }
+    }
+
+    /// Prints how many agree, and the first list that doesn't.
+    fn print<R: Print>(&self, rt: &R, group: Group) -> io::Result<()> {
+        print!(rt; "lists on machine")?;
+        for family in group.families {
+            print!(rt; ", {}", family.name())?;
+        }
+        let (agreed, all) = (self.agreed, self.all);
+        println!(rt; ": {agreed} of {all} agree")?;
+        match &self.first {
+            Some(parting) => parting.print(rt),
+            None => Ok(()),
+        }
+    }
+}
+
+impl Parting {
+    fn print<R: Print>(&self, rt: &R) -> io::Result<()> {
+        println!(rt; "the list of seed {}:", self.seed)?;
+        print_text(rt, self.script.as_bytes())?;
+        println!(rt; "machine:")?;
+        self.owed.print(rt)?;
+        println!(rt; "{}:", self.family.name())?;
+        self.shown.print(rt)
     }
 }

@@ -3,6 +3,7 @@
 #![tactic(auto)]
 
 mod answer;
+mod asking;
 mod commands;
 mod desk;
 mod errors;
@@ -14,13 +15,12 @@ mod one_thread;
 mod outside;
 mod own;
 mod player;
-mod requests;
 mod shelf;
 mod sitting;
 mod stage;
 
 use answer::{Answer, answer_of_cancel, answer_of_task, answer_of_tick, show_end};
-use commands::{Stop, Takes, play_closed, play_on, read_whole};
+use commands::{Stop, play_closed, play_on, read_whole};
 use desk::{Desk, Plan, Refused, scripted};
 pub use errors::PlayError;
 use future::{KeptOf, Scripted};
@@ -31,6 +31,5 @@ pub use one_thread::play_local;
 use outside::{Bell, Gift};
 use own::Own;
 use player::Player;
-use requests::{Requests, SharedRequests};
 use shelf::{Keep, SharedShelf, Shelf};
 use stage::{Shared, Stage};

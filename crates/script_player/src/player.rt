@@ -3,7 +3,6 @@ use crate::answer::Answer;
 use crate::handle::{Held, Hold};
 use crate::handles::SharedHandles;
 use crate::outside::Bell;
-use crate::requests::SharedRequests;
 use crate::shelf::Keep;
 use crate::stage::{Shared, Stage};
 use script::{Item, Name, Names, Plain};
@@ -19,8 +18,6 @@ pub struct Player<H: Drop, K: Drop> {
     pub alloc: Global,
     pub stage: Shared,
     pub keeper: K,
-    /// Which requests for memory the command is refused that is played.
-    pub requests: SharedRequests,
     /// The names of the accepted futures, the ticks and the runs.
     names: Names,
     /// Those that no future and no run holds, which futures drop too.
@@ -28,18 +25,11 @@ pub struct Player<H: Drop, K: Drop> {
 }
 
 impl<H: Hold, K: Keep> Player<H, K> {
-    pub fn new(
-        alloc: Global,
-        stage: Shared,
-        keeper: K,
-        requests: SharedRequests,
-        handles: SharedHandles<H>,
-    ) -> Player<H, K> {
+    pub fn new(alloc: Global, stage: Shared, keeper: K, handles: SharedHandles<H>) -> Player<H, K> {
         Player {
             alloc,
             stage,
             keeper,
-            requests,
             names: Names::new(alloc),
             handles,
         }

@@ -11,6 +11,9 @@ use script::Name;
 use solo::{Back, Found, Lent, SpawnError, Spawned, Taken};
 use std::sync::Wait;
 
+/// How many polls of a script may run others in them at a time. More are as where memory lacks.
+const MOST_NESTED: u64 = 1_000;
+
 /// An executor of a script.
 #[derive(Drop)]
 pub struct OnSolo<'a, R: Wait + Copy + Drop> {
@@ -18,8 +21,6 @@ pub struct OnSolo<'a, R: Wait + Copy + Drop> {
     pub store: &'a Store<R>,
     /// Where the wakers of its futures are kept.
     pub shelf: &'a SharedShelf<TaskWaker<R>>,
-    /// How many futures it has places for.
-    pub limit: usize,
     /// It is neither static nor leaked.
     pub may_end: bool,
 }
@@ -29,11 +30,7 @@ impl<R: Wait + Copy + Drop> Desk<Handle<R>, ScriptTick<R>, ScriptRun<R>> for OnS
         let mark = plan.mark;
         let future = scripted(self.shelf, plan)?;
         let name = future.name;
-        let spawned = if self.grants_place() {
-            self.link.tasks().spawn(name, mark)
-        } else {
-            Err(SpawnError::NoMemory(name))
-        };
+        let spawned = self.link.tasks().spawn(name, mark);
         match spawned {
             Ok(Spawned { task, told }) => {
                 self.store.put(name, future);
@@ -51,7 +48,7 @@ impl<R: Wait + Copy + Drop> Desk<Handle<R>, ScriptTick<R>, ScriptRun<R>> for OnS
     }
 
     fn try_tick(&self) -> bool {
-        self.run_found(self.take_next())
+        self.run_next(MOST_NESTED)
     }
 
     fn is_empty(&self) -> bool {
@@ -81,66 +78,64 @@ impl<R: Wait + Copy + Drop> Desk<Handle<R>, ScriptTick<R>, ScriptRun<R>> for OnS
 }
 
 impl<R: Wait + Copy + Drop> OnSolo<'_, R> {
-    /// Whether a spawn is granted what it asks for: it asks only where a place is free.
-    fn grants_place(&self) -> bool {
-        let count = self.link.tasks().future_count();
-        count >= self.limit || self.link.grants()
+    /// Runs what a tick or run has found, and says whether that was a task.
+    pub fn run_found(&self, found: Found<Name>) -> bool {
+        self.run_within(found, MOST_NESTED)
+    }
+
+    /// A search without a waker gives its turn back, for the one with a waker. Where no waker can be had none follows: a take that
+    /// finds nothing has that turn, as the search of the step machine has.
+    pub fn spend_turn(&self) {
+        self.run_next(MOST_NESTED);
+    }
+
+    /// Takes what a search finds and runs it, and says whether that was a task. So many polls may run others in them.
+    #[cycle(nesting)]
+    fn run_next(&self, nested: u64) -> bool {
+        let Taken { found, sleeper } = self.link.tasks().take();
+        self.link.call_sleeper(sleeper);
+        self.run_within(found, nested)
     }
 
     /// Runs what was found, and says whether that was a task.
-    pub fn run_found(&self, found: Found<Name>) -> bool {
-        self.run(found, self.limit)
-    }
-
-    /// What a search of the executor's queues finds.
-    pub fn take_next(&self) -> Found<Name> {
-        let Taken { found, sleeper } = self.link.tasks().take();
-        self.link.call_sleeper(sleeper);
-        found
-    }
-
-    /// Runs what was found; polls that run others are open in one another up to this depth, so at as many futures never deeper.
-    fn run(&self, found: Found<Name>, depth: usize) -> bool {
+    #[cycle(nesting)]
+    fn run_within(&self, found: Found<Name>, nested: u64) -> bool {
         match found {
             Found::Nothing => false,
             Found::Gone => true,
+            Found::Poll(lent, name) => {
+                self.poll(lent, name, nested);
+                true
+            }
             Found::Drop(lent, name) => {
                 self.drop_future(lent, name);
                 true
             }
-            Found::Poll(lent, name) => {
-                if self.begins_nest(name) {
-                    if depth > 0 {
-                        self.run(self.take_next(), depth - 1);
-                    }
-                    self.shelf.stage.show_on(b"pending", name);
-                    self.settle_pending(lent, name);
-                } else {
-                    self.poll(lent, name);
-                }
-                true
-            }
         }
     }
 
-    /// Begins the poll of the future of this name, where it runs another in it.
-    fn begins_nest(&self, name: Name) -> bool {
+    #[cycle(nesting)]
+    fn poll(&self, lent: Lent, name: Name, nested: u64) {
         match self.store.take(name) {
-            Some(future) => {
-                let mut future = future;
-                let begins = future.begins_nest();
-                self.store.put(name, future);
-                begins
-            }
-            None => false,
-        }
-    }
-
-    fn poll(&self, lent: Lent, name: Name) {
-        match self.store.take(name) {
+            Some(future) if future.nests() => self.poll_nesting(lent, name, future, nested),
             Some(future) => self.poll_taken(lent, name, future),
             None => self.settle_pending(lent, name),
         }
+    }
+
+    /// Polls a future that runs another in its poll: that is run here, between its beginning and its end.
+    #[cycle(nesting)]
+    fn poll_nesting(&self, lent: Lent, name: Name, future: ScriptFuture<R>, nested: u64) {
+        let mut future = future;
+        future.begin_nest();
+        if nested == 0 {
+            self.shelf.stage.lack_memory();
+        } else {
+            self.run_next(nested - 1);
+        }
+        future.end_nest();
+        self.store.put(name, future);
+        self.settle_pending(lent, name);
     }
 
     /// Polls a future, and drops it where it is ready.

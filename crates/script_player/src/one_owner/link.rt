@@ -1,7 +1,7 @@
 //! The executor of a script, as its desk, its handles and its wakers share it, and what follows its calls.
 ghost use Rattle.std.specs.Prelude.{◌≡◌, ◌<◌, None};
 
-use crate::{Bell, Gift, SharedRequests};
+use crate::{Bell, Gift};
 use async_task::Wake;
 use script::Name;
 use solo::{Dropped, Kind, Lent, Owed, Solo, SoloWaker, Task, Told};
@@ -17,8 +17,6 @@ pub type Tasks = Solo<Name, Gift, Bell>;
 #[derive(Drop)]
 pub struct Link<R: Wait + Copy + Drop> {
     tasks: Rc<RefCell<Tasks>, Global>,
-    /// Its requests for memory, and those for copies of wakers.
-    requests: SharedRequests,
     rt: R,
 }
 
@@ -32,24 +30,14 @@ struct Paid {
 
 impl<R: Wait + Copy + Drop> Link<R> {
     /// The way to a new executor, where there is memory for it.
-    pub fn new(
-        rt: R,
-        alloc: Global,
-        limit: usize,
-        kind: Kind,
-        requests: SharedRequests,
-    ) -> Option<Link<R>>
+    pub fn new(rt: R, alloc: Global, limit: usize, kind: Kind) -> Option<Link<R>>
         requires { 0 < limit }
     {
         let Ok(tasks) = Solo::new(alloc, limit, kind) else {
             return None;
         };
         match Rc::new(alloc, RefCell::new(tasks)) {
-            Ok(tasks) => Some(Link {
-                tasks,
-                requests,
-                rt,
-            }),
+            Ok(tasks) => Some(Link { tasks, rt }),
             Err(_) => None,
         }
     }
@@ -57,12 +45,8 @@ impl<R: Wait + Copy + Drop> Link<R> {
     /// One more. A count of 2^63 of them is out of reach: this waits there.
     pub fn share(&self) -> Link<R> {
         for _ in self.rt.forever() {
-            if let (Ok(tasks), Ok(requests)) = (Rc::clone(&self.tasks), Rc::clone(&self.requests)) {
-                return Link {
-                    tasks,
-                    requests,
-                    rt: self.rt,
-                };
+            if let Ok(tasks) = Rc::clone(&self.tasks) {
+                return Link { tasks, rt: self.rt };
             }
         }
         unreachable!()
@@ -81,11 +65,6 @@ impl<R: Wait + Copy + Drop> Link<R> {
             }
         }
         unreachable!()
-    }
-
-    /// The command that is played asks for memory. Says whether that is granted.
-    pub fn grants(&self) -> bool {
-        self.requests.grant()
     }
 
     /// Wakes a task, and calls who is told of it.

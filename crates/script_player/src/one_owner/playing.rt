@@ -10,8 +10,8 @@ use crate::one_owner::store::Store;
 use crate::one_owner::ticks::ScriptTick;
 use crate::one_owner::waker::TaskWaker;
 use crate::{
-    Answer, Handles, PlayError, Player, Requests, Shared, SharedRequests, SharedShelf, Shelf,
-    Stage, Stop, Takes, play_closed, play_on, read_whole, show_end,
+    Answer, Handles, PlayError, Player, Shared, SharedShelf, Shelf, Stage, Stop, play_closed,
+    play_on, read_whole, show_end,
 };
 use script::{Command, Word};
 use solo::Kind;
@@ -27,26 +27,23 @@ type SoloPlayer<R> = Player<Handle<R>, Keeper<R>>;
 struct House<R: Wait + Copy + Drop> {
     store: Store<R>,
     shelf: SharedShelf<TaskWaker<R>>,
-    requests: SharedRequests,
     link: Link<R>,
-    limit: usize,
 }
 
 /// Plays a script of `taskrun sim` on an executor of one owner, owned or static, and gives the text of what happens: that of the
-/// simulator. It takes whole calls of one party, with refused requests and items `nest` too; others are `NotWhole`. Before anything
-/// is played the first bad line is refused, and then the first that isn't whole. A request that a script refuses is never made: where
-/// a spawn, or the making of a tick or run, makes it, the executor isn't called. A static executor, and a leaked one, has no `end` and no `leak`.
+/// simulator. It takes whole calls of one party; others are `NotWhole`. Before anything is played the first bad line is refused,
+/// and then the first that isn't whole. A static executor, and a leaked one, has no `end` and no `leak`.
 pub fn play_solo<R>(rt: R, alloc: Global, script: &[u8]) -> Result<Vec<u8>, PlayError>
 where
     R: Wait + Copy + Drop,
 {
-    let Some(script) = read_whole(alloc, script, Takes::All)? else {
+    let Some(script) = read_whole(alloc, script, true)? else {
         return Ok(Vec::new(alloc));
     };
     if script.limit == 0 {
         return Err(PlayError::NoMemory);
     }
-    let stage = Stage::new(alloc)?;
+    let stage = Stage::new(alloc, script.limit)?;
     let kind = if script.is_static {
         Kind::Static
     } else {
@@ -56,13 +53,9 @@ where
         new_house(rt, alloc, &stage, script.limit as usize, kind),
         Handles::new(alloc, &stage),
     ) {
-        (Some(house), Ok(handles)) => match (
-            Rc::clone(&stage),
-            Rc::clone(&house.shelf),
-            Rc::clone(&house.requests),
-        ) {
-            (Ok(shown), Ok(shelf), Ok(requests)) => {
-                let mut player = Player::new(alloc, shown, Keeper { shelf }, requests, handles);
+        (Some(house), Ok(handles)) => match (Rc::clone(&stage), Rc::clone(&house.shelf)) {
+            (Ok(shown), Ok(shelf)) => {
+                let mut player = Player::new(alloc, shown, Keeper { shelf }, handles);
                 play_in(
                     &mut player,
                     &house,
@@ -87,23 +80,15 @@ fn new_house<R: Wait + Copy + Drop>(
 ) -> Option<House<R>>
     requires { 0 < limit }
 {
-    let Ok(requests) = Requests::new(alloc) else {
-        return None;
-    };
-    let Ok(shared) = Rc::clone(&requests) else {
-        return None;
-    };
     match (
         Rc::clone(stage),
         Shelf::new(alloc, stage),
-        Link::new(rt, alloc, limit, kind, shared),
+        Link::new(rt, alloc, limit, kind),
     ) {
         (Ok(stage), Ok(shelf), Some(link)) => Some(House {
             store: Store::new(alloc, stage),
             shelf,
-            requests,
             link,
-            limit,
         }),
         _ => None,
     }
@@ -144,7 +129,6 @@ fn play_from<'a, R: Wait + Copy + Drop>(
         link: &house.link,
         store: &house.store,
         shelf: &house.shelf,
-        limit: house.limit,
         may_end,
     };
     play_on::<OnSolo<'a, R>, ScriptTick<R>, ScriptRun<R>, Handle<R>, Keeper<R>>(

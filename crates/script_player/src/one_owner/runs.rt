@@ -40,11 +40,8 @@ struct Sought {
 }
 
 impl<R: Wait + Copy + Drop> ScriptRun<R> {
-    /// A new one, which asks for memory twice: for room to sleep in, and for its queue. For want of it its own future comes back.
+    /// A new one. For want of memory its own future comes back.
     pub fn new(link: &Link<R>, own: Own<Handle<R>>) -> Result<ScriptRun<R>, Own<Handle<R>>> {
-        if !(link.grants() && link.grants()) {
-            return Err(own);
-        }
         let made = link.tasks().run();
         match made {
             Ok((runner, ticker)) => Ok(ScriptRun {

@@ -36,11 +36,8 @@ pub struct Looked {
 }
 
 impl<R: Wait + Copy + Drop> ScriptTick<R> {
-    /// A new one, where there is memory for it, for which it asks once.
+    /// A new one, where there is memory for it.
     pub fn new(link: &Link<R>) -> Option<ScriptTick<R>> {
-        if !link.grants() {
-            return None;
-        }
         let made = link.tasks().tick();
         match made {
             Ok(ticker) => Some(ScriptTick {
@@ -90,12 +87,6 @@ impl<R: Wait + Copy + Drop> OnSolo<'_, R> {
             }
         }
         unreachable!()
-    }
-
-    /// A search without a waker gives its turn back, for the one with a waker. Where no waker could be had there is none, and a take that
-    /// finds nothing has that turn, as the search of the step machine has.
-    pub fn spend_turn(&self) {
-        self.run_found(self.take_next());
     }
 
     /// A copy of the waker is taken only where there is no task.

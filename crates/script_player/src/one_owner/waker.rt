@@ -55,9 +55,9 @@ impl<R: Wait + Copy + Drop> KeptOf<ScriptWaker<R>> for TaskWaker<R> {
     }
 }
 
-/// One more of a task, where it has fewer than 2^40 references and memory is granted.
+/// One more of a task, where it has fewer than 2^40 references.
 fn copy_of_task<R: Wait + Copy + Drop>(waker: &TaskWaker<R>) -> Option<TaskWaker<R>> {
-    let is_held = waker.link.grants() && waker.link.tasks().hold(waker.task);
+    let is_held = waker.link.tasks().hold(waker.task);
     if is_held {
         Some(TaskWaker {
             link: waker.link.share(),
@@ -127,14 +127,11 @@ impl<R: Wait + Copy + Drop> LentWaker<R> {
     }
 }
 
-/// A copy of a waker, for the executor to keep, where memory for it is granted.
+/// A copy of a waker, for the executor to keep.
 pub fn copy_for<R: Wait + Copy + Drop>(
     link: &Link<R>,
     waker: &ScriptWaker<R>,
 ) -> Option<SoloWaker<Bell>> {
-    if !link.grants() {
-        return None;
-    }
     match waker {
         ScriptWaker::Task(waker) => {
             let is_held = link.tasks().hold(waker.task);

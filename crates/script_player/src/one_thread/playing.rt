@@ -7,8 +7,8 @@ use crate::one_thread::desk::{
 use crate::one_thread::handle::{Handle, Kept};
 use crate::one_thread::keeper::Keeper;
 use crate::{
-    Answer, Handles, PlayError, Player, Requests, Shared, SharedShelf, Shelf, Stage, Stop, Takes,
-    play_closed, play_on, read_whole, show_end,
+    Answer, Handles, PlayError, Player, Shared, SharedShelf, Shelf, Stage, Stop, play_closed,
+    play_on, read_whole, show_end,
 };
 use local_executor::{LocalExecutor, StaticLocalExecutor};
 use script::{Command, Word};
@@ -28,13 +28,13 @@ pub fn play_local<R>(rt: R, alloc: Global, script: &[u8]) -> Result<Vec<u8>, Pla
 where
     R: RandomSource + Wait + Copy + Drop,
 {
-    let Some(script) = read_whole(alloc, script, Takes::Running)? else {
+    let Some(script) = read_whole(alloc, script, false)? else {
         return Ok(Vec::new(alloc));
     };
     if script.limit == 0 {
         return Err(PlayError::NoMemory);
     }
-    let stage = Stage::new(alloc)?;
+    let stage = Stage::new(alloc, script.limit)?;
     play_in(
         rt,
         alloc,
@@ -91,16 +91,11 @@ where
     match (
         Rc::clone(stage),
         Rc::clone(shelf),
-        Requests::new(alloc),
         Handles::new(alloc, stage),
     ) {
-        (Ok(stage), Ok(shelf), Ok(requests), Ok(handles)) => Some(Player::new(
-            alloc,
-            stage,
-            Keeper { shelf },
-            requests,
-            handles,
-        )),
+        (Ok(stage), Ok(shelf), Ok(handles)) => {
+            Some(Player::new(alloc, stage, Keeper { shelf }, handles))
+        }
         _ => None,
     }
 }

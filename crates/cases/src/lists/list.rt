@@ -4,14 +4,16 @@ use crate::lists::draws::Draws;
 use crate::lists::names::{Hand, write_name};
 use std::alloc::{AllocError, Global};
 
-/// What a list may hold.
+/// What a list may hold. Lists of one seed differ in nothing else.
 #[derive(Clone, Copy, PartialEq, Eq)]
 pub enum Holds {
-    /// What the step machine and an executor of one owner answer: refused requests and futures that run others too.
+    /// All that the step machine and an executor of one owner answer.
     All,
-    /// What running executors answer. Where a list of the same seed has a refused request, here it is granted; where a future runs
-    /// another there, here it isn't ready.
+    /// What running executors answer: a future that runs another in its poll isn't ready here.
     Running,
+    /// What executors of one thread answer as the step machine does. There a poll of a tick or run that is refused takes no turn, so
+    /// that later ones may look at the other queue first. Here no such poll is refused.
+    OneThread,
 }
 
 /// A list of whole calls, written as a script.
@@ -114,9 +116,18 @@ impl Writer {
 
     /// In front of one call of ten: its requests for memory are refused, each or one of the first three.
     pub fn write_refusal(&mut self) -> Result<(), AllocError> {
+        self.write_refusal_if(true)
+    }
+
+    /// The same in front of a poll of a tick or run.
+    pub fn write_refusal_of_poll(&mut self) -> Result<(), AllocError> {
+        self.write_refusal_if(self.holds != Holds::OneThread)
+    }
+
+    fn write_refusal_if(&mut self, may_refuse: bool) -> Result<(), AllocError> {
         let comes = self.draws.comes(10);
         let number = self.draws.below(4);
-        if !comes || self.holds == Holds::Running {
+        if !comes || !may_refuse {
             return Ok(());
         }
         match number {

@@ -12,57 +12,68 @@ use std::io;
 use std::random::RandomSource;
 use std::sync::Wait;
 
-/// Families that play the same lists.
+/// A family that plays lists as the step machine does.
 #[derive(Clone, Copy)]
-struct Group {
-    families: &'static [Family],
+struct Road {
+    family: Family,
     holds: Holds,
-    /// They play lists of an executor that is static or leaked, or of one that is neither; without this of both.
+    /// It plays lists of an executor that is static or leaked, or of one that is neither; without this of both.
     is_static: Option<bool>,
 }
 
-const GROUPS: [Group; 3] = [
-    Group {
-        families: &[Family::Solo],
+const ROADS: [Road; 5] = [
+    Road {
+        family: Family::Solo,
         holds: Holds::All,
         is_static: None,
     },
-    Group {
-        families: &[Family::Executor, Family::Local],
+    Road {
+        family: Family::Executor,
         holds: Holds::Running,
         is_static: Some(false),
     },
-    Group {
-        families: &[Family::Static, Family::StaticLocal],
+    Road {
+        family: Family::Static,
         holds: Holds::Running,
+        is_static: Some(true),
+    },
+    Road {
+        family: Family::Local,
+        holds: Holds::OneThread,
+        is_static: Some(false),
+    },
+    Road {
+        family: Family::StaticLocal,
+        holds: Holds::OneThread,
         is_static: Some(true),
     },
 ];
 
-/// Lists of seeds from 0 on.
+/// Lists of seeds.
 #[derive(Clone, Copy)]
 pub struct Lists {
-    seeds: u64,
+    from: u64,
+    /// The seed behind the last.
+    to: u64,
     /// How many calls each has.
     calls: u64,
-    /// How many of the last ones the machine lacks.
+    /// How many of the last ones it lacks on the machine.
     lacks: u64,
 }
 
-/// How many lists a group plays as the step machine does.
+/// How many lists a family plays as the step machine does.
 #[derive(Drop)]
 struct Alike {
     agreed: u64,
     all: u64,
-    first: Option<Parting>,
+    first: Option<Played>,
 }
 
-/// A list of which a family shows something else.
+/// A list, and what both show of it.
 #[derive(Drop)]
-struct Parting {
+struct Played {
     seed: u64,
     script: String,
-    family: Family,
     owed: Shown,
     shown: Shown,
 }
@@ -70,20 +81,22 @@ struct Parting {
 impl Lists {
     /// A thousand of fifty calls.
     pub const ALL: Lists = Lists {
-        seeds: 1_000,
+        from: 0,
+        to: 1_000,
         calls: 50,
         lacks: 0,
     };
 
-    /// A few short ones, of which the machine lacks the last call.
+    /// Two short ones, an owned one and a static one, of which the machine lacks the last call.
     pub const WRONG: Lists = Lists {
-        seeds: 4,
+        from: 8,
+        to: 10,
         calls: 12,
         lacks: 1,
     };
 
-    /// Plays those that a group of families answers on each of it and on the step machine, for each group, and says of how many all
-    /// show the same. The error is `Differs` where not of all; the first other one is printed with the two texts.
+    /// Plays those that a family answers on it and on the step machine, for each family, and says of how many both show the same. The
+    /// error is `Differs` where not of all; the first other one is printed with both texts.
     pub fn play<E, T, R>(self, rt: R, players: &mut Players<E, T>) -> Result<(), Fault>
     where
         E: Plays,
@@ -91,9 +104,9 @@ impl Lists {
         R: AllocGlobal + Print + RandomSource + Wait + Copy + Drop,
     {
         let mut ended = Ok(());
-        for group in GROUPS {
-            let alike = self.judged(rt, players, group)?;
-            alike.print(&rt, group)?;
+        for road in ROADS {
+            let alike = self.judged(rt, players, road)?;
+            alike.print(&rt, road.family.name())?;
             if alike.first.is_some() {
                 ended = Err(Fault::Differs);
             }
@@ -101,12 +114,7 @@ impl Lists {
         ended
     }
 
-    fn judged<E, T, R>(
-        self,
-        rt: R,
-        players: &mut Players<E, T>,
-        group: Group,
-    ) -> Result<Alike, Fault>
+    fn judged<E, T, R>(self, rt: R, players: &mut Players<E, T>, road: Road) -> Result<Alike, Fault>
     where
         E: Plays,
         T: PlaysTasks,
@@ -117,50 +125,33 @@ impl Lists {
             all: 0,
             first: None,
         };
-        for seed in 0..self.seeds {
-            let made = list(rt.alloc(), seed, self.calls, group.holds)?;
-            if group
-                .is_static
-                .is_none_or(|is_static| is_static == made.is_static)
-            {
+        for seed in self.from..self.to {
+            let made = list(rt.alloc(), seed, self.calls, road.holds)?;
+            if road.plays(made.is_static) {
                 let calls = self.calls.saturating_sub(self.lacks);
-                let on_machine = list(rt.alloc(), seed, calls, group.holds)?;
+                let on_machine = list(rt.alloc(), seed, calls, road.holds)?;
                 let owed = machine(rt.alloc(), on_machine.script.as_bytes())?;
-                let parting = first_parting(rt, players, group, seed, made.script, owed)?;
-                alike.count(parting);
+                let shown = road.family.play(rt, players, made.script.as_bytes())?;
+                alike.count(Played {
+                    seed,
+                    script: made.script,
+                    owed,
+                    shown,
+                });
             }
         }
         Ok(alike)
     }
 }
 
-/// Where a family of the group shows something else of a list than what is owed, the first that does.
-fn first_parting<E, T, R>(
-    rt: R,
-    players: &mut Players<E, T>,
-    group: Group,
-    seed: u64,
-    script: String,
-    owed: Shown,
-) -> Result<Option<Parting>, Fault>
-where
-    E: Plays,
-    T: PlaysTasks,
-    R: AllocGlobal + RandomSource + Wait + Copy + Drop,
-{
-    for family in group.families {
-        let shown = family.play(rt, players, script.as_bytes())?;
-        if !is_same(&owed, &shown) {
-            return Ok(Some(Parting {
-                seed,
-                script,
-                family: *family,
-                owed,
-                shown,
-            }));
+impl Road {
+    /// Whether it plays lists of an executor of this kind.
+    fn plays(&self, is_static: bool) -> bool {
+        match self.is_static {
+            Some(kind) => kind == is_static,
+            None => true,
         }
     }
-    Ok(None)
 }
 
 /// Both are the same text.
@@ -172,38 +163,34 @@ fn is_same(owed: &Shown, shown: &Shown) -> bool {
 }
 
 impl Alike {
-    /// A list was played.
-    fn count(&mut self, parting: Option<Parting>) {
+    /// A list was played, which shows both.
+    fn count(&mut self, played: Played) {
         self.all = self.all.saturating_add(1);
-        match parting {
-            None => self.agreed = self.agreed.saturating_add(1),
-            Some(_) if self.first.is_some() => {}
-            parting => self.first = parting,
+        if is_same(&played.owed, &played.shown) {
+            self.agreed = self.agreed.saturating_add(1);
+        } else if self.first.is_none() {
+            self.first = Some(played);
         }
     }
 
     /// Prints how many agree, and the first list that doesn't.
-    fn print<R: Print>(&self, rt: &R, group: Group) -> io::Result<()> {
-        print!(rt; "lists on machine")?;
-        for family in group.families {
-            print!(rt; ", {}", family.name())?;
-        }
+    fn print<R: Print>(&self, rt: &R, name: &str) -> io::Result<()> {
         let (agreed, all) = (self.agreed, self.all);
-        println!(rt; ": {agreed} of {all} agree")?;
+        println!(rt; "lists on machine and {name}: {agreed} of {all} agree")?;
         match &self.first {
-            Some(parting) => parting.print(rt),
+            Some(played) => played.print(rt, name),
             None => Ok(()),
         }
     }
 }
 
-impl Parting {
-    fn print<R: Print>(&self, rt: &R) -> io::Result<()> {
+impl Played {
+    fn print<R: Print>(&self, rt: &R, name: &str) -> io::Result<()> {
         println!(rt; "the list of seed {}:", self.seed)?;
         print_text(rt, self.script.as_bytes())?;
         println!(rt; "machine:")?;
         self.owed.print(rt)?;
-        println!(rt; "{}:", self.family.name())?;
+        println!(rt; "{name}:")?;
         self.shown.print(rt)
     }
 }

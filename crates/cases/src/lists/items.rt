@@ -48,7 +48,7 @@ impl Writer {
     pub fn write_ready(&mut self) -> Result<(), AllocError> {
         let value = self.draws.below(10);
         self.text.push_str("ready=")?;
-        self.text.push((b'0' + value as u8) as char)
+        self.text.push((b'0' + (value % 10) as u8) as char)
     }
 
     /// It polls another's handle, where one is in hand.

@@ -38,7 +38,7 @@ impl fmt::Display for Fault {
         match self {
             Fault::Usage => write!(
                 f,
-                "usage: cases, or cases <family> <file>; a family is the name of a line that cases prints"
+                "usage: cases, cases lists, or cases <family> <file>; a family is the name of a line that cases prints"
             ),
             Fault::NoCase(number) => write!(f, "behind case {number} stands no case"),
             Fault::Differs => write!(f, "not all scripts show what is owed"),

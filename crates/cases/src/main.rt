@@ -1,12 +1,14 @@
 //! Plays scripts with what is owed for them, by families, and says how many show it.
 //!
 //! `cases` plays all of its `data/`, a line a family, and the first script of a family that doesn't show what is owed, with
-//! both texts; then, of each family, a few scripts of which one has a wrong line. `cases FAMILY FILE` plays one file.
+//! both texts; then lists that seeds make, of which each executor shows what the step machine does; then, of each family, a few
+//! scripts of which one has a wrong line, and lists of which one is wrong. `cases FAMILY FILE` plays one file, `cases lists` the lists.
 #![tactic(auto)]
 
 mod case;
 mod family;
 mod fault;
+mod lists;
 mod players;
 mod shown;
 mod verdict;
@@ -15,6 +17,7 @@ use call_player::{Kept, PlaysTasks, TaskPlayer, Tasks};
 use executor_player::{ExecutorPlayer, Plays, ScriptRealm};
 use family::Family;
 use fault::Fault;
+use lists::Lists;
 use players::Players;
 use std::alloc::AllocGlobal;
 use std::marker::PhantomData;
@@ -66,6 +69,7 @@ where
     let words: Vec<String> = env::args(&rt)?.skip(1).collect(rt.alloc())?;
     match words.as_slice() {
         [] => play_all(rt, players),
+        [lists] if lists.as_str() == "lists" => Lists::ALL.play(rt, players),
         [family, file] => match Family::named(family.as_str()) {
             Some(family) => play_files(rt, players, family, &[file.as_str()]),
             None => Err(Fault::Usage),
@@ -89,6 +93,9 @@ where
             Ok(()) => {}
         }
     }
+    if !is_all_alike(Lists::ALL.play(rt, players))? {
+        ended = Err(Fault::Differs);
+    }
     println!(rt; "With a wrong line:")?;
     for family in Family::ALL {
         match play_files(rt, players, family, &[family.file_with_a_wrong_line()]) {
@@ -98,7 +105,19 @@ where
             Err(fault) => return Err(fault),
         }
     }
+    if is_all_alike(Lists::WRONG.play(rt, players))? {
+        ended = Err(Fault::Differs);
+    }
     ended
+}
+
+/// Whether lists were played alike, where nothing else kept them from being played.
+fn is_all_alike(ended: Result<(), Fault>) -> Result<bool, Fault> {
+    match ended {
+        Ok(()) => Ok(true),
+        Err(Fault::Differs) => Ok(false),
+        Err(fault) => Err(fault),
+    }
 }
 
 /// Plays the scripts of files, one file behind the other. The error is `Differs` where one doesn't show what is owed.

@@ -5,6 +5,7 @@ ghost use Rattle.cases.specs.Owed.{IsShown};
 
 use executor_player::PlayError;
 use std::alloc::{AllocError, Global};
+use std::io::{self, Write};
 
 /// What a player shows of a script.
 #[derive(Drop)]
@@ -13,6 +14,21 @@ pub enum Shown {
     Text(Vec<u8>),
     /// The script isn't played, since the line of this number, from 1 on, is bad.
     BadLine(u64),
+}
+
+impl Shown {
+    /// Prints the text, or the bad line.
+    pub fn print<R: Print>(&self, rt: &R) -> io::Result<()> {
+        match self {
+            Shown::Text(text) => print_text(rt, text.as_slice()),
+            Shown::BadLine(line) => println!(rt; "line {line}: bad line"),
+        }
+    }
+}
+
+/// Prints the bytes of a text, as they are.
+pub fn print_text<R: Print>(rt: &R, text: &[u8]) -> io::Result<()> {
+    io::writer(rt).write_all(text)
 }
 
 /// What the step machine shows of a script. The error is a want of memory.

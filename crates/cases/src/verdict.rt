@@ -4,11 +4,11 @@ use crate::case::Case;
 use crate::family::Family;
 use crate::fault::Fault;
 use crate::players::Players;
-use crate::shown::Shown;
+use crate::shown::{Shown, print_text};
 use call_player::PlaysTasks;
 use executor_player::Plays;
 use std::alloc::AllocGlobal;
-use std::io::{self, Write};
+use std::io;
 use std::random::RandomSource;
 use std::sync::Wait;
 
@@ -104,14 +104,6 @@ impl<'a> Difference<'a> {
             line => println!(rt; "line {line}: bad line")?,
         }
         println!(rt; "shown:")?;
-        match &self.shown {
-            Shown::Text(text) => print_text(rt, text.as_slice()),
-            Shown::BadLine(line) => println!(rt; "line {line}: bad line"),
-        }
+        self.shown.print(rt)
     }
-}
-
-/// Prints the bytes of a text, as they are.
-fn print_text<R: Print>(rt: &R, text: &[u8]) -> io::Result<()> {
-    io::writer(rt).write_all(text)
 }

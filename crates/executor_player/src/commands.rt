@@ -31,16 +31,11 @@ pub fn first_not_whole(commands: &[Command]) -> Option<u64> {
     None
 }
 
-/// The call of a command, where it is a whole one of one party, is refused no memory, and spawns no future that runs another in
-/// its poll: that would need the executor, whose type has the future's.
-fn whole(command: &Command) -> Option<&Plain> {
+/// A command that is a whole call of one party, and spawns no future that runs another in its poll: that would need the executor,
+/// whose type has the future's.
+fn whole(command: &Command) -> Option<&Request> {
     match command {
-        Command::Whole(
-            Request {
-                refusal: Refusal::Nothing,
-                plain,
-            },
-        ) if !nests(plain) => Some(plain),
+        Command::Whole(request) if !nests(&request.plain) => Some(request),
         _ => None,
     }
 }
@@ -107,7 +102,7 @@ where
 {
     let mut seats: Seats<T, N> = Seats::new(player.alloc);
     for (place, command) in commands.iter().enumerate().skip(from) {
-        if let Some(plain) = whole(command) {
+        if let Some(Request { refusal, plain }) = whole(command) {
             if desk.may_end() && seats.are_free() {
                 match plain {
                     Plain::End => return Stop::End(place),
@@ -115,7 +110,9 @@ where
                     _ => {}
                 }
             }
+            player.stage.asking.begin(*refusal);
             let answer = player.call(desk, &mut seats, plain);
+            player.stage.asking.begin(Refusal::Nothing);
             player.keeper.let_replaced_go();
             show_end(&player.stage, plain.word(), answer);
         }
@@ -132,7 +129,8 @@ where
 {
     show_end(&player.stage, Word::End, Answer::Done);
     for command in commands.iter().skip(place.saturating_add(1)) {
-        if let Some(plain) = whole(command) {
+        if let Some(Request { refusal, plain }) = whole(command) {
+            player.stage.asking.begin(*refusal);
             let answer = player.call_on_handle(plain);
             show_end(&player.stage, plain.word(), answer);
         }

@@ -80,7 +80,7 @@ where
         match scripted(self.shelf, plan) {
             Ok(future) => {
                 let spawned = self.executor.spawn_marked(F::planned(future), mark);
-                answered(self.shelf, spawned)
+                answered(spawned)
             }
             Err(refused) => Err(refused),
         }
@@ -110,7 +110,7 @@ where
         match scripted(self.shelf, plan) {
             Ok(future) => {
                 let spawned = self.executor.spawn_marked(F::planned(future), mark);
-                answered(self.shelf, spawned)
+                answered(spawned)
             }
             Err(refused) => Err(refused),
         }
@@ -122,7 +122,7 @@ where
 
     /// It has no call for it: what it accepted is counted here, and what was dropped.
     fn is_empty(&self) -> bool {
-        self.shelf.has_counted_all_out()
+        self.shelf.stage.has_counted_all_out()
     }
 
     fn may_end(&self) -> bool {
@@ -156,20 +156,14 @@ fn scripted<H: Drop>(shelf: &SharedShelf, plan: Plan<H>) -> Result<Scripted<H>, 
 }
 
 /// What a spawn answers.
-fn answered<F, H, R>(
-    shelf: &SharedShelf,
-    spawned: Result<ScriptTask<R>, SpawnError<F>>,
-) -> Result<H, Refused<H>>
+fn answered<F, H, R>(spawned: Result<ScriptTask<R>, SpawnError<F>>) -> Result<H, Refused<H>>
 where
     F: Planned<H, R>,
     H: HoldIn<R>,
     R: Wait + Copy + Drop + 'static,
 {
     match spawned {
-        Ok(task) => {
-            shelf.count_one();
-            Ok(H::of(task))
-        }
+        Ok(task) => Ok(H::of(task)),
         Err(SpawnError::Full(future)) => Err(Refused {
             answer: Answer::Full,
             held: future.into_held(),

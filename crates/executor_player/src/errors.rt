@@ -7,7 +7,7 @@ use std::alloc::AllocError;
 pub enum PlayError {
     /// This line is the first bad one.
     BadLine(u64),
-    /// This line is the first that is no whole call of one party, wants memory to be refused, or has an item `nest`.
+    /// This line is the first that is no whole call of one party, or has an item `nest` where no future can run another.
     NotWhole(u64),
     NoMemory,
 }

@@ -1,7 +1,8 @@
 //! The futures that a script spawns.
-use crate::handle::{Held, HoldIn, poll_twice};
+use crate::answer::Answer;
+use crate::handle::{Held, HoldIn, doubled};
 use crate::handles::SharedHandles;
-use crate::outside::{Gift, ScriptWaker};
+use crate::outside::{Bell, Gift, ScriptWaker};
 use crate::shelf::SharedShelf;
 use async_task::{Awaiter, Future, Poll, Returning, Wake};
 use script::{Item, Name};
@@ -44,7 +45,7 @@ impl<H: Drop> Drop for Scripted<H> {
             shelf,
         } = self;
         drop(items);
-        shelf.count_out();
+        shelf.stage.count_out();
         shelf.stage.show_on(b"drop", name);
         drop(held);
         drop(handles);
@@ -138,24 +139,36 @@ impl<H: Drop> Scripted<H> {
         item
     }
 
-    /// Has a copy of the waker kept, in place of the one that was kept before, which goes.
+    /// Has a copy of the waker kept, in place of the one that was kept before, which goes. Refused the copy, none is kept.
     fn keep<R>(&self, waker: &ScriptWaker<R>)
     where
         R: Wait + Copy + Drop + 'static,
     {
-        if let Some(Awaiter::Task(copy)) = waker.clone() {
+        if self.shelf.stage.asking.is_refused() {
+            self.shelf.keep_none(self.name);
+        } else if let Some(Awaiter::Task(copy)) = waker.clone() {
             self.shelf.keep(self.name, Returning::new(copy.store()));
         }
     }
 
+    /// Polls the handle of this name. Where a request of the command may be refused, a waker that can't be copied tells first
+    /// whether the poll would make one.
     fn poll_held<R>(&mut self, name: Name, waker: &ScriptWaker<R>) -> Option<u64>
     where
         H: HoldIn<R>,
         R: Wait + Copy + Drop + 'static,
     {
+        let asking = &self.shelf.stage.asking;
         for held in self.held.iter_mut() {
             if held.name == name {
-                return poll_twice(&mut held.handle, waker);
+                if asking.may_refuse() {
+                    match held.handle.poll_by(Bell::without_copies(name)) {
+                        Answer::NoMemory if asking.is_refused() => return None,
+                        Answer::NoMemory => {}
+                        answer => return doubled(answer),
+                    }
+                }
+                return doubled(held.handle.poll(waker));
             }
         }
         None

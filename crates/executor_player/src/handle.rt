@@ -24,13 +24,9 @@ pub trait HoldIn<R: Wait + Copy + Drop + 'static>: Hold {
     fn poll(&mut self, waker: &ScriptWaker<R>) -> Answer;
 }
 
-/// Twice the output of a handle's future, or 0 where it was cancelled; none as long as neither is known.
-pub fn poll_twice<H, R>(handle: &mut H, waker: &ScriptWaker<R>) -> Option<u64>
-where
-    H: HoldIn<R>,
-    R: Wait + Copy + Drop + 'static,
-{
-    match handle.poll(waker) {
+/// Twice the output of a handle's future, or 0 where it was cancelled; none where its poll told neither.
+pub fn doubled(answer: Answer) -> Option<u64> {
+    match answer {
         Answer::Output(number) => Some(number.saturating_mul(2)),
         Answer::Cancelled => Some(0),
         _ => None,

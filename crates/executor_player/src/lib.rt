@@ -2,6 +2,7 @@
 #![tactic(auto)]
 
 mod answer;
+mod asking;
 mod commands;
 mod desk;
 mod errors;

@@ -85,6 +85,11 @@ impl Bell {
             stage: shared(stage),
         }
     }
+
+    /// One that can't be copied, and so is never called.
+    pub fn without_copies(name: Name) -> Bell {
+        Bell { name, stage: None }
+    }
 }
 
 impl Wake for Bell {
@@ -100,10 +105,11 @@ impl Wake for Bell {
         }
     }
 
+    /// A copy is a request of the command that is played.
     fn clone(&self) -> Option<Self> {
         match &self.stage {
-            Some(stage) => Some(Bell::of(self.name, stage)),
-            None => None,
+            Some(stage) if !stage.asking.is_refused() => Some(Bell::of(self.name, stage)),
+            _ => None,
         }
     }
 

@@ -1,5 +1,5 @@
 //! The futures that runs wait for.
-use crate::handle::{Held, HoldIn, poll_twice};
+use crate::handle::{Held, HoldIn, doubled};
 use crate::outside::ScriptWaker;
 use async_task::{Future, Poll};
 use std::sync::Wait;
@@ -19,7 +19,7 @@ where
 
     fn poll(&mut self, waker: &ScriptWaker<R>) -> Poll<u64> {
         let output = match &mut self.twice {
-            Some(held) => poll_twice(&mut held.handle, waker),
+            Some(held) => doubled(held.handle.poll(waker)),
             None => None,
         };
         match output {

@@ -40,7 +40,7 @@ where
     if script.limit == 0 {
         return Err(PlayError::NoMemory);
     }
-    let stage = Stage::new(alloc)?;
+    let stage = Stage::new(alloc, script.limit)?;
     play_in::<F, H, K, R>(
         rt,
         alloc,

@@ -4,7 +4,7 @@ use crate::stage::Shared;
 use async_task::{Returning, StoredWaker, Wake};
 use script::Name;
 use std::alloc::{AllocError, Global};
-use std::cell::{Cell, RefCell};
+use std::cell::RefCell;
 use std::collections::BTreeMap;
 use std::rc::Rc;
 use std::sync::Wait;
@@ -24,8 +24,6 @@ pub struct Shelf {
     kept: RefCell<BTreeMap<Name, Stored>>,
     /// Wakers in whose place others came.
     replaced: RefCell<Vec<Stored>>,
-    /// How many futures were accepted and aren't dropped yet.
-    alive: Cell<u64>,
 }
 
 impl Shelf {
@@ -36,27 +34,11 @@ impl Shelf {
             alloc,
             kept: RefCell::new(BTreeMap::new(alloc)),
             replaced: RefCell::new(Vec::new(alloc)),
-            alive: Cell::new(0),
         };
         match Rc::new(alloc, shelf) {
             Ok(shelf) => Ok(shelf),
             Err(_) => Err(AllocError),
         }
-    }
-
-    /// One more future was accepted.
-    pub fn count_one(&self) {
-        self.alive.set(self.alive.get().saturating_add(1));
-    }
-
-    /// One of them is dropped.
-    pub fn count_out(&self) {
-        self.alive.set(self.alive.get().saturating_sub(1));
-    }
-
-    /// Whether each future that was accepted is dropped.
-    pub fn has_counted_all_out(&self) -> bool {
-        self.alive.get() == 0
     }
 
     /// Keeps a waker of the future of this name, in place of the one that was kept before.
@@ -68,6 +50,15 @@ impl Shelf {
         };
         if !is_kept {
             self.stage.lack_memory();
+        }
+    }
+
+    /// Keeps none of the future of this name. One that was kept goes once the command is over.
+    pub fn keep_none(&self, name: Name) {
+        if let Some(old) = self.take_kept(name) {
+            if !self.put_replaced(old) {
+                self.stage.lack_memory();
+            }
         }
     }
 

@@ -65,6 +65,9 @@ impl<H: Hold, K: Keep> Player<H, K> {
         if self.knows(name) || !self.has_handles(items) {
             return Answer::NotPossible;
         }
+        if !self.stage.is_full() && self.stage.asking.is_refused() {
+            return Answer::NoMemory;
+        }
         let Ok(own_items) = Vec::from_slice(self.alloc, items) else {
             return Answer::NoMemory;
         };
@@ -80,6 +83,7 @@ impl<H: Hold, K: Keep> Player<H, K> {
             handles,
         }) {
             Ok(handle) => {
+                self.stage.count_one();
                 self.learn(name);
                 self.put_handle(name, handle);
                 Answer::Made
@@ -99,6 +103,9 @@ impl<H: Hold, K: Keep> Player<H, K> {
     ) -> Answer {
         if self.knows(name) {
             return Answer::NotPossible;
+        }
+        if self.stage.asking.is_refused() {
+            return Answer::NoMemory;
         }
         match T::at(desk) {
             Some(tick) => self.sit(ticks, name, tick),
@@ -125,6 +132,10 @@ impl<H: Hold, K: Keep> Player<H, K> {
         }
         match twice {
             Some(twice) if !self.has_handle(twice) => Answer::NotPossible,
+            // Its room, and its place in the list of the runs' queues.
+            _ if self.stage.asking.is_refused() || self.stage.asking.is_refused() => {
+                Answer::NoMemory
+            }
             Some(twice) => {
                 let held = self.take_held(twice);
                 self.hand_over(desk, runs, name, Own { twice: held })

@@ -13,8 +13,9 @@ use std::sync::Wait;
 /// Where scripts are played, each on an executor of its own.
 pub trait Plays {
     /// Plays a script of `taskrun sim` on an executor of its own, owned or static, and gives the text of what happens: that of
-    /// the simulator. It takes whole calls of one party, and no futures that run others in their polls: `begin`, `go`, `finish`,
-    /// `refuse`, `refuse@<k>` and a `spawn` with an item `nest` are `NotWhole`. Before anything is played the first bad line is
+    /// the simulator. It takes whole calls of one party, and no futures that run others in their polls: `begin`, `go`, `finish`
+    /// and a `spawn` with an item `nest` are `NotWhole`. Of requests that a script refuses the copies of wakers are refused to the
+    /// executor and its handles; a refused `spawn`, `tick` or `run` isn't handed to it. Before anything is played the first bad line is
     /// refused, and then the first that isn't whole. Behind a `leak` the executor is the static one that this gives. A static
     /// executor has no `end` and no `leak`, and `empty` is answered there by the player's own count of drops.
     fn play(&self, script: &[u8]) -> Result<Vec<u8>, PlayError>;

@@ -59,6 +59,33 @@ impl<F: Planned<R>, R: Abort + Wait + Copy + Drop + 'static> Stage<F, R> {
         }
     }
 
+    /// Ticks when a poll asks, and then lets that poll go on. Says whether it ran a future.
+    fn tick_when_asked(&self) -> bool {
+        let asks = &self.notes.asks;
+        for _ in 0..MOST_TURNS {
+            if asks.asked.load(SeqCst) > 0 {
+                let has_ticked = self.try_tick();
+                asks.answered.store(u64::MAX, SeqCst);
+                return has_ticked;
+            }
+            thread::yield_now();
+        }
+        false
+    }
+
+    /// Spawns a future that asks in its poll, and one that is ready and asks nothing, and says whether one tick is all that is
+    /// left for this thread.
+    fn tick_the_first_of_two(&self) -> bool {
+        self.notes.asks.is_on.store(true, SeqCst);
+        let Some(task) = self.spawn(self.job(0, Work::Pend)) else {
+            return false;
+        };
+        let is_well = self.spawn_detached(self.ready(OWN)) & self.try_tick() & !self.try_tick();
+        self.notes.asks.is_on.store(false, SeqCst);
+        self.drop_handle(task);
+        is_well & self.try_tick() & self.is_empty()
+    }
+
     /// Lets a tick lie down and be told, cancels what it polled, and says whether all was as it has to be.
     fn tick_and_ask(&self) -> bool {
         let mut tick = self.tick();
@@ -94,4 +121,19 @@ fn code_of_a_user_runs_under_no_lock(rt: HostRuntime) {
         is_well & (missed == 0) & (asked >= 12),
         "{missed} of {asked}"
     );
+}
+
+/// A future has another of its executor run in its poll, which waits for that. No future can hold its own executor, so a second
+/// thread makes the call.
+#[test]
+fn a_future_has_another_run_in_its_poll(rt: HostRuntime) {
+    let stage = Stage::<Job<_>, _>::new(rt, rt.alloc(), TestRealm::leak(rt, rt.alloc()), 2);
+    let (inner, outer) = thread::join(
+        &rt,
+        || stage.tick_when_asked(),
+        || stage.tick_the_first_of_two(),
+    );
+    let missed = stage.notes.asks.missed.load(SeqCst);
+    let polls = stage.notes.of(0).polls.load(SeqCst);
+    assert!(rt; inner & outer & (missed == 0) & (polls == 1));
 }

@@ -21,37 +21,35 @@ pub enum Stop {
 }
 
 /// Reads a script of whole calls. None is one without a line. The first bad line is refused, and then the first that is no
-/// whole call of one party, is refused memory, or has an item `nest`.
-pub fn read_whole(alloc: Global, text: &[u8]) -> Result<Option<Script>, PlayError> {
+/// whole call of one party, or has an item `nest` where none may.
+pub fn read_whole(alloc: Global, text: &[u8], may_nest: bool) -> Result<Option<Script>, PlayError> {
     let Some(script) = parse(alloc, text)? else {
         return Ok(None);
     };
-    match first_not_whole(script.commands.as_slice()) {
+    match first_not_whole(script.commands.as_slice(), may_nest) {
         Some(line) => Err(PlayError::NotWhole(line)),
         None => Ok(Some(script)),
     }
 }
 
 /// The number of the first line that is no whole call.
-fn first_not_whole(commands: &[Command]) -> Option<u64> {
+fn first_not_whole(commands: &[Command], may_nest: bool) -> Option<u64> {
     for (place, command) in commands.iter().enumerate() {
-        if whole(command).is_none() {
+        let is_whole = match whole(command) {
+            Some(request) => may_nest || !nests(&request.plain),
+            None => false,
+        };
+        if !is_whole {
             return Some((place as u64).saturating_add(2));
         }
     }
     None
 }
 
-/// The call of a command, where it is a whole one of one party, is refused no memory, and spawns no future that runs another in
-/// its poll: that would need the executor, whose type has the future's.
-fn whole(command: &Command) -> Option<&Plain> {
+/// A command that is a whole call of one party.
+fn whole(command: &Command) -> Option<&Request> {
     match command {
-        Command::Whole(
-            Request {
-                refusal: Refusal::Nothing,
-                plain,
-            },
-        ) if !nests(plain) => Some(plain),
+        Command::Whole(request) => Some(request),
         _ => None,
     }
 }
@@ -80,7 +78,7 @@ where
 {
     let mut seats: Seats<T, N> = Seats::new(player.alloc);
     for (place, command) in commands.iter().enumerate().skip(from) {
-        if let Some(plain) = whole(command) {
+        if let Some(Request { refusal, plain }) = whole(command) {
             if desk.may_end() && seats.are_free() {
                 match plain {
                     Plain::End => return Stop::End(place),
@@ -88,7 +86,9 @@ where
                     _ => {}
                 }
             }
+            player.stage.asking.begin(*refusal);
             let answer = player.call(desk, &mut seats, plain);
+            player.stage.asking.begin(Refusal::Nothing);
             player.keeper.let_replaced_go();
             show_end(&player.stage, plain.word(), answer);
         }
@@ -105,7 +105,8 @@ where
 {
     show_end(&player.stage, Word::End, Answer::Done);
     for command in commands.iter().skip(place.saturating_add(1)) {
-        if let Some(plain) = whole(command) {
+        if let Some(Request { refusal, plain }) = whole(command) {
+            player.stage.asking.begin(*refusal);
             let answer = player.call_on_handle(plain);
             show_end(&player.stage, plain.word(), answer);
         }

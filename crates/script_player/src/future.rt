@@ -1,7 +1,8 @@
 //! The futures that a script spawns.
-use crate::handle::{Await, Held, poll_twice};
+use crate::answer::Answer;
+use crate::handle::{Await, Held, Hold, doubled};
 use crate::handles::SharedHandles;
-use crate::outside::Gift;
+use crate::outside::{Bell, Gift};
 use crate::shelf::SharedShelf;
 use async_task::{Future, Poll, Wake};
 use script::{Item, Name};
@@ -37,7 +38,7 @@ impl<H: Drop, S: Drop> Drop for Scripted<H, S> {
             shelf,
         } = self;
         drop(items);
-        shelf.count_out();
+        shelf.stage.count_out();
         shelf.stage.show_on(b"drop", name);
         drop(held);
         drop(handles);
@@ -46,7 +47,7 @@ impl<H: Drop, S: Drop> Drop for Scripted<H, S> {
 
 impl<H, S, W> Future<W> for Scripted<H, S>
 where
-    H: Await<W>,
+    H: Hold + Await<W>,
     S: KeptOf<W>,
     W: Wake,
 {
@@ -84,10 +85,29 @@ impl<H: Drop, S: Drop> Scripted<H, S> {
         held
     }
 
+    /// Whether its next poll runs another future.
+    pub fn nests(&self) -> bool {
+        match self.items.get(self.next) {
+            Some(Item::Nest) => true,
+            _ => false,
+        }
+    }
+
+    /// Begins such a poll.
+    pub fn begin_nest(&mut self) {
+        self.shelf.stage.show_on(b"poll", self.name);
+        let _ = self.take_item();
+    }
+
+    /// Ends such a poll. What was run since it began was run in it.
+    pub fn end_nest(&self) {
+        self.shelf.stage.show_on(b"pending", self.name);
+    }
+
     /// Does its next item, and gives the output where that is ready.
     fn do_next<W>(&mut self, waker: &W) -> Option<u64>
     where
-        H: Await<W>,
+        H: Hold + Await<W>,
         S: KeptOf<W>,
         W: Wake,
     {
@@ -107,7 +127,7 @@ impl<H: Drop, S: Drop> Scripted<H, S> {
                 drop(self.handles.take(name));
                 None
             }
-            // No script with one is played here.
+            // Who plays it begins such a poll and ends it.
             Item::Nest => None,
         }
     }
@@ -124,23 +144,35 @@ impl<H: Drop, S: Drop> Scripted<H, S> {
         item
     }
 
-    /// Has a copy of the waker kept, in place of the one that was kept before, which goes.
+    /// Has a copy of the waker kept, in place of the one that was kept before, which goes. Refused the copy, none is kept.
     fn keep<W>(&self, waker: &W)
     where
         S: KeptOf<W>,
     {
-        if let Some(kept) = S::kept_of(waker) {
+        if self.shelf.stage.asking.is_refused() {
+            drop(self.shelf.take_kept(self.name));
+        } else if let Some(kept) = S::kept_of(waker) {
             self.shelf.keep(self.name, kept);
         }
     }
 
+    /// Polls the handle of this name. Where a request of the command may be refused, a waker that can't be copied tells first
+    /// whether the poll would make one.
     fn poll_held<W>(&mut self, name: Name, waker: &W) -> Option<u64>
     where
-        H: Await<W>,
+        H: Hold + Await<W>,
     {
+        let asking = &self.shelf.stage.asking;
         for held in self.held.iter_mut() {
             if held.name == name {
-                return poll_twice(&mut held.handle, waker);
+                if asking.may_refuse() {
+                    match held.handle.poll_by(Bell::without_copies(name)) {
+                        Answer::NoMemory if asking.is_refused() => return None,
+                        Answer::NoMemory => {}
+                        answer => return doubled(answer),
+                    }
+                }
+                return doubled(held.handle.poll(waker));
             }
         }
         None

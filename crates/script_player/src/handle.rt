@@ -20,9 +20,9 @@ pub trait Await<W>: Drop {
     fn poll(&mut self, waker: &W) -> Answer;
 }
 
-/// Twice the output of a handle's future, or 0 where it was cancelled; none as long as neither is known.
-pub fn poll_twice<H: Await<W>, W>(handle: &mut H, waker: &W) -> Option<u64> {
-    match handle.poll(waker) {
+/// Twice the output of a handle's future, or 0 where it was cancelled; none where its poll told neither.
+pub fn doubled(answer: Answer) -> Option<u64> {
+    match answer {
         Answer::Output(number) => Some(number.saturating_mul(2)),
         Answer::Cancelled => Some(0),
         _ => None,

@@ -3,6 +3,7 @@
 #![tactic(auto)]
 
 mod answer;
+mod asking;
 mod commands;
 mod desk;
 mod errors;

@@ -1,5 +1,5 @@
 //! The futures that runs wait for.
-use crate::handle::{Await, Held, poll_twice};
+use crate::handle::{Await, Held, doubled};
 use async_task::{Future, Poll};
 
 /// The own future of a run: it gives twice the output of the future whose handle it has, and without one it is never ready.
@@ -13,7 +13,7 @@ impl<H: Await<W>, W> Future<W> for Own<H> {
 
     fn poll(&mut self, waker: &W) -> Poll<u64> {
         let output = match &mut self.twice {
-            Some(held) => poll_twice(&mut held.handle, waker),
+            Some(held) => doubled(held.handle.poll(waker)),
             None => None,
         };
         match output {

@@ -2,7 +2,7 @@
 use crate::stage::Shared;
 use script::Name;
 use std::alloc::{AllocError, Global};
-use std::cell::{Cell, RefCell};
+use std::cell::RefCell;
 use std::collections::BTreeMap;
 use std::rc::Rc;
 
@@ -18,8 +18,6 @@ pub struct Shelf<S: Drop> {
     kept: RefCell<BTreeMap<Name, S>>,
     /// Wakers in whose place others came.
     replaced: RefCell<Vec<S>>,
-    /// How many futures were accepted and aren't dropped yet.
-    alive: Cell<u64>,
 }
 
 impl<S: Drop> Shelf<S> {
@@ -30,27 +28,11 @@ impl<S: Drop> Shelf<S> {
             alloc,
             kept: RefCell::new(BTreeMap::new(alloc)),
             replaced: RefCell::new(Vec::new(alloc)),
-            alive: Cell::new(0),
         };
         match Rc::new(alloc, shelf) {
             Ok(shelf) => Ok(shelf),
             Err(_) => Err(AllocError),
         }
-    }
-
-    /// One more future was accepted.
-    pub fn count_one(&self) {
-        self.alive.set(self.alive.get().saturating_add(1));
-    }
-
-    /// One of them is dropped.
-    pub fn count_out(&self) {
-        self.alive.set(self.alive.get().saturating_sub(1));
-    }
-
-    /// Whether each future that was accepted is dropped.
-    pub fn has_counted_all_out(&self) -> bool {
-        self.alive.get() == 0
     }
 
     /// Keeps a waker of the future of this name, in place of the one that was kept before.

@@ -76,6 +76,9 @@ impl<H: Hold, K: Keep> Player<H, K> {
         if self.knows(name) || !self.has_handles(items) {
             return Answer::NotPossible;
         }
+        if !self.stage.is_full() && self.stage.asking.is_refused() {
+            return Answer::NoMemory;
+        }
         let Ok(own_items) = Vec::from_slice(self.alloc, items) else {
             return Answer::NoMemory;
         };
@@ -91,6 +94,7 @@ impl<H: Hold, K: Keep> Player<H, K> {
             handles,
         }) {
             Ok(handle) => {
+                self.stage.count_one();
                 self.learn(name);
                 self.put_handle(name, handle);
                 Answer::Made
@@ -110,6 +114,9 @@ impl<H: Hold, K: Keep> Player<H, K> {
     {
         if self.knows(name) {
             return Answer::NotPossible;
+        }
+        if self.stage.asking.is_refused() {
+            return Answer::NoMemory;
         }
         match desk.tick() {
             Some(tick) => self.sit(ticks, name, tick),
@@ -141,6 +148,10 @@ impl<H: Hold, K: Keep> Player<H, K> {
         }
         match twice {
             Some(twice) if !self.has_handle(twice) => Answer::NotPossible,
+            // Its room, and its place in the list of the runs' queues.
+            _ if self.stage.asking.is_refused() || self.stage.asking.is_refused() => {
+                Answer::NoMemory
+            }
             Some(twice) => {
                 let held = self.take_held(twice);
                 self.hand_over::<D, T, N>(desk, runs, name, Own { twice: held })

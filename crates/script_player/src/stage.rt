@@ -1,4 +1,5 @@
 //! What a script shows.
+use crate::asking::Asking;
 use script::{Ending, Name};
 use std::alloc::{AllocError, Global};
 use std::cell::{Cell, RefCell};
@@ -17,16 +18,25 @@ pub struct Stage {
     is_over: Cell<bool>,
     /// Something that the script needs found no memory.
     lacks_memory: Cell<bool>,
+    /// The requests for memory of the command that is played.
+    pub asking: Asking,
+    /// How many places the executor has.
+    limit: u64,
+    /// How many futures were accepted and aren't dropped yet.
+    alive: Cell<u64>,
 }
 
 impl Stage {
-    /// A stage on which nothing is shown yet.
-    pub fn new(alloc: Global) -> Result<Shared, AllocError> {
+    /// A stage on which nothing is shown yet, for an executor of so many places.
+    pub fn new(alloc: Global, limit: u64) -> Result<Shared, AllocError> {
         let stage = Stage {
             alloc,
             text: RefCell::new(Vec::new(alloc)),
             is_over: Cell::new(false),
             lacks_memory: Cell::new(false),
+            asking: Asking::new(),
+            limit,
+            alive: Cell::new(0),
         };
         match Rc::new(alloc, stage) {
             Ok(stage) => Ok(stage),
@@ -81,6 +91,26 @@ impl Stage {
     /// Something that the script needs found no memory.
     pub fn lack_memory(&self) {
         self.lacks_memory.set(true);
+    }
+
+    /// One more future was accepted.
+    pub fn count_one(&self) {
+        self.alive.set(self.alive.get().saturating_add(1));
+    }
+
+    /// One of them is dropped.
+    pub fn count_out(&self) {
+        self.alive.set(self.alive.get().saturating_sub(1));
+    }
+
+    /// Whether each future that was accepted is dropped.
+    pub fn has_counted_all_out(&self) -> bool {
+        self.alive.get() == 0
+    }
+
+    /// Whether the executor has no place left.
+    pub fn is_full(&self) -> bool {
+        self.alive.get() >= self.limit
     }
 
     /// The script has ended: what happens from now on isn't shown.

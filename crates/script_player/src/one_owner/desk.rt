@@ -11,6 +11,9 @@ use script::Name;
 use solo::{Back, Found, Lent, SpawnError, Spawned, Taken};
 use std::sync::Wait;
 
+/// How many polls of a script may run others in them at a time. More are as where memory lacks.
+const MOST_NESTED: u64 = 1_000;
+
 /// An executor of a script.
 #[derive(Drop)]
 pub struct OnSolo<'a, R: Wait + Copy + Drop> {
@@ -45,9 +48,7 @@ impl<R: Wait + Copy + Drop> Desk<Handle<R>, ScriptTick<R>, ScriptRun<R>> for OnS
     }
 
     fn try_tick(&self) -> bool {
-        let Taken { found, sleeper } = self.link.tasks().take();
-        self.link.call_sleeper(sleeper);
-        self.run_found(found)
+        self.run_next(MOST_NESTED)
     }
 
     fn is_empty(&self) -> bool {
@@ -77,13 +78,33 @@ impl<R: Wait + Copy + Drop> Desk<Handle<R>, ScriptTick<R>, ScriptRun<R>> for OnS
 }
 
 impl<R: Wait + Copy + Drop> OnSolo<'_, R> {
-    /// Runs what was found, and says whether that was a task.
+    /// Runs what a tick or run has found, and says whether that was a task.
     pub fn run_found(&self, found: Found<Name>) -> bool {
+        self.run_within(found, MOST_NESTED)
+    }
+
+    /// A search without a waker gives its turn back, for the one with a waker. Where no waker can be had none follows: a take that
+    /// finds nothing has that turn, as the search of the step machine has.
+    pub fn spend_turn(&self) {
+        self.run_next(MOST_NESTED);
+    }
+
+    /// Takes what a search finds and runs it, and says whether that was a task. So many polls may run others in them.
+    #[cycle(nesting)]
+    fn run_next(&self, nested: u64) -> bool {
+        let Taken { found, sleeper } = self.link.tasks().take();
+        self.link.call_sleeper(sleeper);
+        self.run_within(found, nested)
+    }
+
+    /// Runs what was found, and says whether that was a task.
+    #[cycle(nesting)]
+    fn run_within(&self, found: Found<Name>, nested: u64) -> bool {
         match found {
             Found::Nothing => false,
             Found::Gone => true,
             Found::Poll(lent, name) => {
-                self.poll(lent, name);
+                self.poll(lent, name, nested);
                 true
             }
             Found::Drop(lent, name) => {
@@ -93,11 +114,28 @@ impl<R: Wait + Copy + Drop> OnSolo<'_, R> {
         }
     }
 
-    fn poll(&self, lent: Lent, name: Name) {
+    #[cycle(nesting)]
+    fn poll(&self, lent: Lent, name: Name, nested: u64) {
         match self.store.take(name) {
+            Some(future) if future.nests() => self.poll_nesting(lent, name, future, nested),
             Some(future) => self.poll_taken(lent, name, future),
             None => self.settle_pending(lent, name),
         }
+    }
+
+    /// Polls a future that runs another in its poll: that is run here, between its beginning and its end.
+    #[cycle(nesting)]
+    fn poll_nesting(&self, lent: Lent, name: Name, future: ScriptFuture<R>, nested: u64) {
+        let mut future = future;
+        future.begin_nest();
+        if nested == 0 {
+            self.shelf.stage.lack_memory();
+        } else {
+            self.run_next(nested - 1);
+        }
+        future.end_nest();
+        self.store.put(name, future);
+        self.settle_pending(lent, name);
     }
 
     /// Polls a future, and drops it where it is ready.

@@ -37,13 +37,13 @@ pub fn play_solo<R>(rt: R, alloc: Global, script: &[u8]) -> Result<Vec<u8>, Play
 where
     R: Wait + Copy + Drop,
 {
-    let Some(script) = read_whole(alloc, script)? else {
+    let Some(script) = read_whole(alloc, script, true)? else {
         return Ok(Vec::new(alloc));
     };
     if script.limit == 0 {
         return Err(PlayError::NoMemory);
     }
-    let stage = Stage::new(alloc)?;
+    let stage = Stage::new(alloc, script.limit)?;
     let kind = if script.is_static {
         Kind::Static
     } else {

@@ -149,11 +149,14 @@ impl<R: Wait + Copy + Drop> OnSolo<'_, R> {
                 let ran = self.link.tasks().run_take(&mut runner, ticker, copy, START);
                 self.ran(runner, ran)
             }
-            None => Sought {
-                running: Running { runner, ticker },
-                step: Step::NoMemory,
-                gives_way: false,
-            },
+            None => {
+                self.spend_turn();
+                Sought {
+                    running: Running { runner, ticker },
+                    step: Step::NoMemory,
+                    gives_way: false,
+                }
+            }
         }
     }
 

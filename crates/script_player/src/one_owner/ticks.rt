@@ -101,10 +101,13 @@ impl<R: Wait + Copy + Drop> OnSolo<'_, R> {
                 let ticked = self.link.tasks().tick_take(ticker, copy);
                 self.looked(ticked)
             }
-            None => Looked {
-                ticker,
-                step: Step::NoMemory,
-            },
+            None => {
+                self.spend_turn();
+                Looked {
+                    ticker,
+                    step: Step::NoMemory,
+                }
+            }
         }
     }
 

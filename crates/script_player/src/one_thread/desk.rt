@@ -50,7 +50,7 @@ where
             OneOf::Owned(executor) => executor.spawn_marked(future, mark),
             OneOf::Static(executor) => executor.spawn_marked(future, mark),
         };
-        answered(self.shelf, spawned)
+        answered(spawned)
     }
 
     fn try_tick(&self) -> bool {
@@ -64,7 +64,7 @@ where
     fn is_empty(&self) -> bool {
         match &self.executor {
             OneOf::Owned(executor) => executor.is_empty(),
-            OneOf::Static(_) => self.shelf.has_counted_all_out(),
+            OneOf::Static(_) => self.shelf.stage.has_counted_all_out(),
         }
     }
 
@@ -116,14 +116,10 @@ where
 
 /// What a spawn answers.
 fn answered<R: Wait + Copy + Drop>(
-    shelf: &SharedShelf<Kept<R>>,
     spawned: Result<LocalHandle<Gift, Bell, R>, SpawnError<ScriptFuture<R>>>,
 ) -> Result<Handle<R>, Refused<Handle<R>>> {
     match spawned {
-        Ok(handle) => {
-            shelf.count_one();
-            Ok(Handle::Task(handle))
-        }
+        Ok(handle) => Ok(Handle::Task(handle)),
         Err(SpawnError::Full(future)) => Err(Refused {
             answer: Answer::Full,
             held: future.into_held(),

@@ -28,13 +28,13 @@ pub fn play_local<R>(rt: R, alloc: Global, script: &[u8]) -> Result<Vec<u8>, Pla
 where
     R: RandomSource + Wait + Copy + Drop,
 {
-    let Some(script) = read_whole(alloc, script)? else {
+    let Some(script) = read_whole(alloc, script, false)? else {
         return Ok(Vec::new(alloc));
     };
     if script.limit == 0 {
         return Err(PlayError::NoMemory);
     }
-    let stage = Stage::new(alloc)?;
+    let stage = Stage::new(alloc, script.limit)?;
     play_in(
         rt,
         alloc,

@@ -4,8 +4,6 @@ use Rattle.async_executor.specs.declared.errors.SpawnError.{SpawnError}
 use Rattle.async_executor.specs.declared.errors.SpawnError.TheVariants.{Full, NoMemory}
 use Rattle.async_task.specs.Handles.{Handle, Resting}
 use Rattle.async_task.specs.declared.cell.Identity.{Identity}
-use Rattle.executor_parts.specs.declared.places.SpawnRefused.{SpawnRefused}
-use Rattle.executor_parts.specs.declared.places.SpawnRefused.TheVariants.{Full as AtLimit, NoMemory as WithoutMemory}
 use Rattle.executor_parts.specs.Places.{Entry, Places}
 
 -- what the table keeps beside a future: a waker of its task, and none where the executor is static
@@ -21,11 +19,6 @@ module _ {F M : Type 0} where
     pub entered : new.entries ≡ old.entries ++ entry ∷ []
     pub inside : entry.future ≡ Some future
     pub waker : WakerFits is_static entry.waker task.identity
-
--- the future comes back with the cause
-abbrev pub refused_as : {F : Type 0} → SpawnRefused → F → SpawnError F
-refused_as AtLimit future = Full future
-refused_as WithoutMemory future = NoMemory future
 
 -- full only where there are as many entries as the limit, and out of memory only where there are fewer
 abbrev pub IsRefusedAt : {F : Type 0} → Places F (Option Resting) → SpawnError F → Type 0

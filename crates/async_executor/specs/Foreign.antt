@@ -1,5 +1,5 @@
 -- What came out from under a lock.
-use Rattle.std.specs.Prelude.{Option, Some, None}
+use Rattle.std.specs.Prelude.{Bool, false, Option, Some, None, is_some}
 use Rattle.async_executor.specs.declared.foreign.Foreign.{Foreign}
 
 -- the value, where there is one
@@ -11,3 +11,8 @@ value_of (Some it) = Some it.value
 abbrev pub parts_left : {F W : Type 0} → Option (Option (Foreign F) × W) → Option (Option F × W)
 parts_left None = None
 parts_left (Some both) = Some (value_of both.0, both.1)
+
+-- whether a waker left with it
+abbrev pub has_waker : {F W : Type 0} → Option (Option (Foreign F) × Option W) → Bool
+has_waker None = false
+has_waker (Some both) = is_some both.1

@@ -1,7 +1,52 @@
 -- What a poll of a task has of its future.
-use Rattle.std.specs.Prelude.{Option, Some, None}
+use Rattle.std.specs.Prelude.{Option, Some, None, List, ◌∷◌}
 use Rattle.async_executor.specs.declared.sections.Taken.{Taken}
+use Rattle.async_executor.specs.declared.task_run.Begun.{Begun}
+use Rattle.async_executor.specs.declared.task_run.Begun.TheVariants as begun
+use Rattle.async_executor.specs.declared.task_run.Settled.{Settled}
+use Rattle.async_executor.specs.declared.task_run.Settled.TheVariants as settled
+use Rattle.async_task.specs.declared.cell.Identity.{Identity}
+use Rattle.async_task.specs.declared.poll.Poll.{Poll}
+use Rattle.async_task.specs.declared.wake.Wake.{Ghosts}
+use Rattle.async_task.specs.declared.poll.Poll.TheVariants.{Ready, Pending}
+use Rattle.call_steps.specs.declared.saw.Saw.{Saw}
+use Rattle.call_steps.specs.declared.saw.Saw.TheVariants as saw
+use Rattle.call_steps.specs.declared.step.CallStep.{CallStep}
+use Rattle.call_steps.specs.declared.step.CallStep.TheVariants as step
+use Rattle.call_steps.specs.declared.step.table.TableStep.TheVariants as table_step
+use Rattle.task_moves.specs.declared.local_task.answers.Back.{Back}
+use Rattle.task_moves.specs.declared.local_task.answers.Back.TheVariants as back
+use Rattle.task_moves.specs.declared.moves.owed.Move.{Move}
+use Rattle.task_moves.specs.declared.moves.owed.Move.TheVariants as move
 
 abbrev pub future_taken : {F : Type 0} → Option (Taken F) → Option F
 future_taken None = None
 future_taken (Some taken) = Some taken.future
+
+abbrev pub Todo : Type 0
+Todo = List (CallStep Identity (Unit {0}))
+
+-- what a run begins with: its future is taken out, to be polled or dropped
+abbrev pub begun_as : {T W R : Type 0} {wakes : Ghosts W} → Begun T W R wakes → Identity → Todo → Todo
+begun_as (begun.Poll place polling) f rest = step.Table (table_step.TakeToPoll f) ∷ rest
+begun_as (begun.Drop place dropping) f rest = step.Table (table_step.TakeToDrop f) ∷ rest
+
+-- what a poll sees
+abbrev pub poll_seen : {O : Type 0} → Poll O → Saw Identity (Unit {0})
+poll_seen (Ready output) = saw.Ready
+poll_seen Pending = saw.Pending
+
+-- by which move a poll ends
+abbrev pub end_of : {O : Type 0} → Poll O → Move
+end_of (Ready output) = move.EndReady
+end_of Pending = move.EndPending
+
+abbrev pub end_by : {P O : Type 0} → Back P O → Move
+end_by (back.Ready output) = move.EndReady
+end_by (back.Pending place) = move.EndPending
+
+-- what the end of a poll leaves to be done
+abbrev pub settled_as : {T W R : Type 0} → Settled T W R → Identity → Todo → Todo
+settled_as settled.Over f rest = rest
+settled_as (settled.Woken runnable) f rest = rest
+settled_as (settled.Drop place dropping) f rest = step.Table (table_step.TakeToDrop f) ∷ rest

@@ -2,20 +2,24 @@
 ghost use Rattle.std.specs.Prelude.{◌≡◌, ◌<◌, [], true, Some, IfOk, IfErr};
 ghost use Rattle.std.specs.Arc.{arc_value};
 ghost use Rattle.async_executor.specs.Errors.{refused};
-ghost use Rattle.async_executor.specs.Stages.{given};
+ghost use Rattle.call_steps.specs.Todo.{below, top};
+ghost use Rattle.call_steps.specs.declared.step.CallStep.TheVariants as step;
+ghost use Rattle.call_steps.specs.declared.step.table.QueueStep.TheVariants as queue_step;
 
-use crate::call::{Call, Polled};
 use crate::closing::ClosesReturned;
 use crate::due::share;
 use crate::entry::Unlocked;
 use crate::errors::SpawnError;
 use crate::locks::Guarded;
-use crate::names::{ExRealm, ExRunnable, ExTask, ExWaker, TableWaker};
+use crate::marked::Marked;
+use crate::names::{ExRealm, ExTask, ExWaker, TableWaker};
 use crate::queue::ExQueue;
 use crate::sections;
 use crate::spawning::accept;
 use crate::state::State;
+use crate::steps::Steps;
 use async_task::{Future, NoMemory, Wake};
+use call_steps::{Asked, Reply};
 use executor_parts::{Mark, Places};
 use std::alloc::Global;
 use std::mem;
@@ -144,12 +148,12 @@ where
     {
         let closed = self.returned.close(self.rt, self.realm, unlocked);
         let schedule = ExQueue::new(self.rt, share(self.rt, &self.state));
-        let mut call = Call::begin();
+        let mut steps = Steps::begin(Asked::Spawn(mark));
         let accepted = accept(
             self.table.lock(&self.rt, unlocked).get(),
             self.rt,
             self.realm,
-            &mut call,
+            &mut steps,
             schedule,
             self.is_static,
             mark,
@@ -158,12 +162,17 @@ where
         );
         match accepted {
             Ok((runnable, task)) => {
-                self.queue(call, runnable, unlocked);
+                self.queue(&mut steps, runnable, unlocked);
+                let _ = steps.end(Reply::Made);
                 Ok(task)
             }
-            Err(refused) => {
-                call.end();
-                Err(refused)
+            Err(SpawnError::Full(future)) => {
+                let _ = steps.end(Reply::Full);
+                Err(SpawnError::Full(future))
+            }
+            Err(SpawnError::NoMemory(future)) => {
+                let _ = steps.end(Reply::NoMemory);
+                Err(SpawnError::NoMemory(future))
             }
         }
     }
@@ -175,17 +184,17 @@ where
     /// 3. Runs it: true.
     #[inline(always)]
     pub(crate) fn run_one(&self, unlocked: &mut Unlocked) -> bool {
-        let mut call = Call::begin();
-        match self.state.take(&self.rt, &mut call) {
+        let mut steps = Steps::begin(Asked::TryTick);
+        match self.state.take(&self.rt, &mut steps) {
             Some(stored) => {
                 self.state
-                    .notify_and_pay(self.rt, self.realm, &mut call, unlocked);
-                let last = self.poll_or_drop(stored, call, unlocked);
-                Polled::never().end(last);
+                    .notify_and_pay(self.rt, self.realm, &mut steps, unlocked);
+                self.poll_or_drop(stored, &mut steps, unlocked);
+                let _ = steps.end(Reply::Yes);
                 true
             }
             None => {
-                call.end();
+                let _ = steps.end(Reply::No);
                 false
             }
         }
@@ -193,10 +202,11 @@ where
 
     /// Puts the Runnable of a new task into the queue of its mark, and tells a sleeper.
     #[inline(always)]
-    fn queue(&self, call: Call, runnable: ExRunnable<T, W, R>, unlocked: &mut Unlocked)
-        requires { call ≡ given }
+    fn queue(&self, steps: &mut Steps, runnable: Marked, unlocked: &mut Unlocked)
+        requires { top steps.old ≡ Some (step.Queue (queue_step.Append runnable.stored.identity)) }
+        ensures { steps.new ≡ below steps.old }
     {
-        let runnable = runnable.into_scheduled();
-        self.state.push_and_pay(self.rt, call, runnable, unlocked);
+        self.state
+            .push_and_pay(self.rt, self.realm, steps, runnable, unlocked);
     }
 }

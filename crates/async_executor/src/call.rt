@@ -1,7 +1,14 @@
-//! A call on the executor, as contracts follow it from section to section.
-ghost use Rattle.std.specs.Prelude.{◌≡◌, true, false, not, Some, None};
-ghost use Rattle.async_executor.specs.Stages.{begun, given, in_hand, took, looked_in, emptied, IsDone};
+//! A search, a leave or a drop, as contracts follow it from section to section.
+ghost use Rattle.std.specs.Prelude.{◌≡◌, ◌∷◌, [], true, false, not, Some, None};
+ghost use Rattle.task_moves.specs.declared.moves.owed.Move.TheVariants as move;
+ghost use Rattle.call_steps.specs.declared.step.CallStep.TheVariants as step;
+ghost use Rattle.call_steps.specs.declared.step.table.QueueStep.TheVariants as queue_step;
+ghost use Rattle.call_steps.specs.declared.step.tick.SleeperStep.TheVariants as sleeper_step;
+ghost use Rattle.async_executor.specs.Stages.{begun, in_hand, took, looked_in, emptied, IsDone};
 
+use crate::names::ExStoredRunnable;
+use crate::steps::Steps;
+use call_steps::Part;
 use executor_parts::Mark;
 use std::marker::Model;
 use std::snapshot::Snapshot;
@@ -10,7 +17,7 @@ mod counts;
 
 pub use counts::{Counts, OwesSteal};
 
-/// What a call on the executor has done, has in hand and owes. Only contracts read it, so it has no bytes. It has no drop: it
+/// What a search of a tick or run, its leaving, or a drop has done, has in hand and owes. Only contracts read it, so it has no bytes. It has no drop: it
 /// ends with nothing in hand and nothing owed.
 #[must_use]
 pub struct Call {
@@ -22,8 +29,6 @@ pub struct Call {
     found: Snapshot<bool>,
     // Whether a sleeper is to be told that there may be something to do.
     owes: Snapshot<bool>,
-    // Whether it won the exchange of the flag, and hands out a waker.
-    won: Snapshot<bool>,
     // Whether the executor's queue is closed, so that a Runnable in hand is closed too.
     closed: Snapshot<bool>,
     // What the flag is stored as, before the sleepers' lock is given back.
@@ -120,7 +125,6 @@ impl Model for Call {
       holds = c.holds.value;
       found = c.found.value;
       owes = c.owes.value;
-      won = c.won.value;
       closed = c.closed.value;
       flag = c.flag.value;
       urgent_empty = c.urgent_empty.value;
@@ -132,15 +136,15 @@ impl Model for Call {
 }
 
 impl Call {
-    fn at(is_new: bool, holds: bool) -> Call
-        ensures { result ≡ record begun { is_new = is_new; holds = holds } }
+    /// A call that has its section before it.
+    pub fn begin() -> Call
+        ensures { result ≡ begun }
     {
         Call {
-            is_new: Snapshot::of(&is_new),
-            holds: Snapshot::of(&holds),
+            is_new: Snapshot::of(&true),
+            holds: Snapshot::of(&false),
             found: Snapshot::of(&false),
             owes: Snapshot::of(&false),
-            won: Snapshot::of(&false),
             closed: Snapshot::of(&false),
             flag: Snapshot::of(&None),
             urgent_empty: Snapshot::of(&false),
@@ -149,20 +153,6 @@ impl Call {
             sleeps: Snapshot::of(&false),
             wanted: Snapshot::of(&false),
         }
-    }
-
-    /// A call that has its section before it.
-    pub fn begin() -> Call
-        ensures { result ≡ begun }
-    {
-        Call::at(true, false)
-    }
-
-    /// A call that is given a Runnable.
-    pub fn given() -> Call
-        ensures { result ≡ given }
-    {
-        Call::at(false, true)
     }
 
     /// The call ends.
@@ -174,7 +164,6 @@ impl Call {
             holds: _,
             found: _,
             owes: _,
-            won: _,
             closed: _,
             flag: _,
             urgent_empty: _,
@@ -185,25 +174,17 @@ impl Call {
         } = self;
     }
 
-    /// The Runnable in hand, which was taken from a queue, is run, and the call ends.
-    pub fn start(self) -> Last
+    /// The Runnable in hand, which was taken from a queue, is to be run, and the call ends.
+    pub fn start(self, runnable: &ExStoredRunnable) -> (Last, Steps)
         requires { self ≡ in_hand }
-        ensures { result ≡ Ending.Ran }
+        ensures ran { result.0 ≡ Ending.Ran }
+        ensures steps { result.1 ≡ step.Move move.TakeUp runnable.now.identity ∷ [] }
     {
         let mut call = self;
         call.holds = Snapshot::of(&false);
         call.end();
-        Last::of(Ending::Ran)
-    }
-
-    /// What was taken from a queue is a number of another realm: there is nothing to run, and the call ends.
-    pub fn end_missed(self) -> Last
-        requires found { self.found ≡ true }
-        requires done { IsDone self }
-        ensures { result ≡ Ending.Ran }
-    {
-        self.end();
-        Last::of(Ending::Ran)
+        let steps = Steps::part(Part::TakeUp(runnable.identity()));
+        (Last::of(Ending::Ran), steps)
     }
 
     /// Nothing was found, and it is among the sleepers: the call ends.
@@ -253,15 +234,6 @@ impl Call {
         ensures { self.new ≡ record self.old { wanted = refused } }
     {
         self.wanted = Snapshot::of(&refused);
-    }
-
-    /// A future was refused, or its Runnable came in hand.
-    pub fn accept(&mut self, accepted: bool)
-        requires { self.old ≡ begun }
-        ensures { self.new ≡ record self.old { is_new = false; holds = accepted } }
-    {
-        self.is_new = Snapshot::of(&false);
-        self.holds = Snapshot::of(&accepted);
     }
 
     /// A queue was looked into. Where a Runnable came in hand there may be more: a sleeper is to be told.
@@ -320,20 +292,23 @@ impl Call {
         self.owes = Snapshot::of(&false);
     }
 
-    /// The Runnable in hand was appended to the executor's queue: a sleeper is to be told.
-    pub fn append(&mut self)
+    /// The Runnable in hand is to be appended to the executor's queue.
+    pub fn hand_over(&mut self, runnable: &ExStoredRunnable) -> Steps
         requires { self.old.holds ≡ true }
-        ensures { self.new ≡ record self.old { holds = false; owes = true } }
+        ensures call { self.new ≡ record self.old { holds = false; owes = false } }
+        ensures steps { result ≡ step.Queue (queue_step.Append runnable.now.identity) ∷ [] }
     {
         self.holds = Snapshot::of(&false);
-        self.owes = Snapshot::of(&true);
+        self.owes = Snapshot::of(&false);
+        Steps::part(Part::Append(runnable.identity()))
     }
 
     /// This call closed the executor's urgent queue.
     pub fn close_urgent(&mut self)
         ensures { self.new ≡ record self.old { is_new = false; closed = true } }
     {
-        self.find_closed();
+        self.is_new = Snapshot::of(&false);
+        self.closed = Snapshot::of(&true);
     }
 
     /// This call closed the executor's plain queue, after the urgent one: all is to be taken from both then.
@@ -344,40 +319,27 @@ impl Call {
         self.undrained = Snapshot::of(&true);
     }
 
-    /// The executor's queue is closed.
-    pub fn find_closed(&mut self)
-        ensures { self.new ≡ record self.old { is_new = false; closed = true } }
-    {
-        self.is_new = Snapshot::of(&false);
-        self.closed = Snapshot::of(&true);
-    }
-
-    /// The Runnable in hand was closed, as the executor's queue is: nobody is told.
-    pub fn close(&mut self)
+    /// The Runnable in hand is to be closed, as the executor's queue is: nobody is told.
+    pub fn close(&mut self, runnable: &ExStoredRunnable) -> Steps
         requires holds { self.old.holds ≡ true }
         requires closed { self.old.closed ≡ true }
-        ensures { self.new ≡ record self.old { holds = false; found = false; owes = false } }
+        ensures call { self.new ≡ record self.old { holds = false; found = false; owes = false } }
+        ensures steps { result ≡ step.Move move.DropRunnable runnable.now.identity ∷ [] }
     {
         self.holds = Snapshot::of(&false);
         self.found = Snapshot::of(&false);
         self.owes = Snapshot::of(&false);
+        Steps::part(Part::Close(runnable.identity()))
     }
 
-    /// The flag was exchanged.
-    pub fn exchange(&mut self, won: bool)
+    /// A sleeper is to be told, as is owed.
+    pub fn tell(&mut self) -> Steps
         requires { self.old.owes ≡ true }
-        ensures { self.new ≡ record self.old { owes = false; won = won } }
+        ensures call { self.new ≡ record self.old { owes = false } }
+        ensures steps { result ≡ step.Sleeper sleeper_step.ExchangeFlag ∷ [] }
     {
         self.owes = Snapshot::of(&false);
-        self.won = Snapshot::of(&won);
-    }
-
-    /// The winner of the exchange handed out.
-    pub fn hand_out(&mut self)
-        requires { self.old.won ≡ true }
-        ensures { self.new ≡ record self.old { won = false } }
-    {
-        self.won = Snapshot::of(&false);
+        Steps::part(Part::Tell)
     }
 
     /// One left the sleepers, and had been told or not: then it tells another.

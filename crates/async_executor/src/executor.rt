@@ -7,7 +7,7 @@ ghost use Rattle.executor_parts.specs.Places.{unwoken};
 
 use crate::body::Body;
 use crate::call::Call;
-use crate::due::pay;
+use crate::due::close_and_pay;
 use crate::entry::{Executor, Unlocked};
 use crate::foreign::Foreign;
 use crate::leaving::Leaving;
@@ -15,7 +15,7 @@ use crate::locks::Guarded;
 use crate::names::{ExRealm, ExWaker, TableWaker};
 use crate::queues::FromQueues;
 use crate::sections;
-use crate::state::{State, close};
+use crate::state::State;
 use async_task::{Future, NoMemory, Returning, StoredWaker, Wake};
 use executor_parts::{Mark, Places};
 use std::alloc::Global;
@@ -171,13 +171,14 @@ where
 {
     let mut call = call;
     for _ in rt.forever() {
-        let found = state.take_from(Mark::Urgent, &rt, &mut call);
+        let found = state.look_from(Mark::Urgent, &rt, &mut call);
         let Some(FromQueues { runnable, mark: _ }) = found else {
             call.end();
             return;
         };
-        let due = close(rt, realm, &mut call, runnable, unlocked);
-        pay(rt, due, unlocked);
+        let mut steps = call.close(&runnable);
+        close_and_pay(rt, realm, &mut steps, runnable, unlocked);
+        steps.close();
     }
     unreachable!()
 }

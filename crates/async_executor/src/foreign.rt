@@ -1,11 +1,19 @@
 //! Values of a user's, which came out from under a lock.
-ghost use Rattle.std.specs.Prelude.{◌≡◌};
+ghost use Rattle.std.specs.Prelude.{◌≡◌, Some};
+ghost use Rattle.call_steps.specs.Seeing.{due};
+ghost use Rattle.call_steps.specs.Todo.{below, top};
+ghost use Rattle.call_steps.specs.declared.step.CallStep.TheVariants as step;
+ghost use Rattle.call_steps.specs.declared.step.tick.SleeperStep.TheVariants as sleeper_step;
 ghost use Rattle.async_executor.specs.Foreign.{value_of};
+ghost use Rattle.async_executor.specs.Steps.{of_handed, sleeper};
 
+use crate::due::Handed;
 use crate::entry::Unlocked;
 use crate::names::{ExDue, ExRealm, ExWaker};
 use crate::sleeping::SleeperWaker;
-use async_task::{Future, Poll, Wake};
+use crate::steps::Steps;
+use async_task::{Future, Identity, Poll, Wake};
+use call_steps::Sleeping;
 use std::sync::Wait;
 
 /// A value of a user's, whose code runs only while no lock is held. It has no drop: it is let go, or called, by who is lent an
@@ -68,19 +76,32 @@ pub fn came_out<X>(value: Option<X>) -> Option<Foreign<X>>
 }
 
 impl<W: Wake + Drop + 'static> Foreign<SleeperWaker<W>> {
+    /// The waker, and who sleeps with it.
+    pub fn named(self) -> (Sleeping<Identity, ()>, Self)
+        ensures name { result.0 ≡ sleeper self.value }
+        ensures same { result.1.value ≡ self.value }
+    {
+        let Foreign { value } = self;
+        let (name, value) = value.named();
+        (name, Foreign { value })
+    }
+
     /// Calls the waker. Where a task has to be queued then, it is the answer.
     pub fn wake<T, R>(
         self,
         rt: R,
         realm: &'static ExRealm<T, W, R>,
+        steps: &mut Steps,
         unlocked: &Unlocked,
-    ) -> Option<ExDue<T, W, R>>
+    ) -> Option<Handed<T, W, R>>
     where
         T: Drop + 'static,
         R: Wait + Copy + Drop + 'static,
+        requires { top steps.old ≡ Some (step.Sleeper (sleeper_step.CallSleeper (sleeper self.value))) }
+        ensures { steps.new ≡ due (of_handed result) (below steps.old) }
     {
         let Foreign { value } = self;
-        value.wake(rt, realm, unlocked)
+        value.wake(rt, realm, steps, unlocked)
     }
 
     /// Drops the waker. Where a task has to be queued then, it is the answer.

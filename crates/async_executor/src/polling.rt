@@ -1,6 +1,12 @@
 //! How a task of the executor is run: its future is polled, or dropped where the task is closed. Each look at the table is
 //! one section of its lock, and no lock is held while code of a user runs.
-ghost use Rattle.std.specs.Prelude.{◌≡◌};
+ghost use Rattle.std.specs.Prelude.{◌≡◌, ◌∷◌, Some, IfSome};
+ghost use Rattle.task_moves.specs.declared.moves.owed.Move.TheVariants as move;
+ghost use Rattle.call_steps.specs.Todo.{below, top};
+ghost use Rattle.call_steps.specs.declared.step.CallStep.TheVariants as step;
+ghost use Rattle.call_steps.specs.declared.step.table.TableStep.TheVariants as table_step;
+ghost use Rattle.call_steps.specs.declared.step.user.UserStep.TheVariants as user_step;
+ghost use Rattle.async_executor.specs.Polling.{end_by, end_of};
 ghost use Rattle.async_executor.specs.Stages.{in_hand};
 
 use crate::body::Body;
@@ -11,8 +17,10 @@ use crate::names::{ExStoredRunnable, ExWaker};
 use crate::sections;
 use crate::sections::Taken;
 use crate::state::redeem;
+use crate::steps::Steps;
 use crate::task_run::{Begun, Dropping, Polling, Settled, begin};
-use async_task::{Back, Future, Poll, Wake};
+use async_task::{Back, Future, Identity, Poll, Returning, StoredWaker, Wake};
+use call_steps::Saw;
 use executor_parts::EntryPlace;
 use std::sync::Wait;
 
@@ -23,9 +31,9 @@ where
     W: Wake + Drop + 'static,
     R: Wait + Copy + Drop + 'static,
 {
-    /// Runs the task in hand, and ends the call.
+    /// Runs the task in hand of a tick or run, and ends the call.
     #[inline(always)]
-    pub(crate) fn poll_or_drop(
+    pub(crate) fn run_found(
         &self,
         stored: ExStoredRunnable,
         call: Call,
@@ -34,35 +42,82 @@ where
         requires { call ≡ in_hand }
         ensures { result ≡ Ending.Ran }
     {
-        let mut call = call;
-        let Some(scheduled) = redeem(self.rt, self.realm, &mut call, stored) else {
-            return call.end_missed();
-        };
-        let last = call.start();
-        match begin(scheduled) {
-            Begun::Poll(place, polling) => self.poll(place, polling, unlocked),
-            Begun::Drop(place, dropping) => self.drop_future(place, dropping, unlocked),
-        }
+        let (last, mut steps) = call.start(&stored);
+        self.poll_or_drop(stored, &mut steps, unlocked);
+        steps.close();
         last
     }
 
+    /// Runs a task that was found.
     #[inline(always)]
-    fn poll(&self, place: EntryPlace, polling: Polling<T, W, R>, unlocked: &mut Unlocked) {
-        let taken = sections::take(self.table.lock(&self.rt, unlocked).get(), place);
-        let back = match taken {
-            Some(taken) => match self.poll_future(place, taken, &polling, unlocked) {
-                Poll::Ready(output) => Back::Ready(output),
-                Poll::Pending => Back::Pending(place),
-            },
-            None => Back::Pending(place),
+    pub(crate) fn poll_or_drop(
+        &self,
+        stored: ExStoredRunnable,
+        steps: &mut Steps,
+        unlocked: &mut Unlocked,
+    )
+        requires { top steps.old ≡ Some (step.Move move.TakeUp stored.identity) }
+        ensures { steps.new ≡ below steps.old }
+    {
+        let name = stored.identity();
+        let Some(scheduled) = redeem(self.rt, self.realm, stored) else {
+            steps.see_moved(false);
+            return;
         };
-        match polling.settle(back, unlocked) {
-            Settled::Over => {}
-            Settled::Woken(runnable) => {
-                self.state
-                    .push_and_pay(self.rt, Call::given(), runnable, unlocked);
+        match begin(scheduled, name, steps) {
+            Begun::Poll(place, polling) => self.poll(place, polling, name, steps, unlocked),
+            Begun::Drop(place, dropping) => {
+                self.drop_future(place, dropping, name, steps, unlocked);
             }
-            Settled::Drop(place, dropping) => self.drop_future(place, dropping, unlocked),
+        }
+    }
+
+    #[inline(always)]
+    fn poll(
+        &self,
+        place: EntryPlace,
+        polling: Polling<T, W, R>,
+        name: Identity,
+        steps: &mut Steps,
+        unlocked: &mut Unlocked,
+    )
+        requires { top steps.old ≡ Some (step.Table (table_step.TakeToPoll name)) }
+        ensures { steps.new ≡ below steps.old }
+    {
+        let taken = sections::take(self.table.lock(&self.rt, unlocked).get(), place, steps);
+        let polled = self.poll_taken(place, taken, &polling, name, steps, unlocked);
+        let back = back_of(polled, place);
+        match polling.settle(back, name, steps, unlocked) {
+            Settled::Over => {}
+            Settled::Woken(runnable) => self.state.push_apart(self.rt, runnable, unlocked),
+            Settled::Drop(place, dropping) => {
+                self.drop_future(place, dropping, name, steps, unlocked);
+            }
+        }
+    }
+
+    /// Polls the future that was taken out. One that isn't in its entry counts as pending.
+    #[inline(always)]
+    fn poll_taken(
+        &self,
+        place: EntryPlace,
+        taken: Option<Taken<F>>,
+        polling: &Polling<T, W, R>,
+        name: Identity,
+        steps: &mut Steps,
+        unlocked: &mut Unlocked,
+    ) -> Poll<T>
+        requires place { IfSome taken (λ taken. taken.place ≡ place) }
+        requires polls { top steps.old ≡ Some (step.User (user_step.Poll name)) }
+        ensures { steps.new ≡ step.Move (end_of result) name ∷ below steps.old }
+    {
+        match taken {
+            Some(taken) => self.poll_future(place, taken, polling, name, steps, unlocked),
+            None => {
+                steps.follow(Saw::Pending);
+                steps.see(true);
+                Poll::Pending
+            }
         }
     }
 
@@ -73,21 +128,26 @@ where
         place: EntryPlace,
         taken: Taken<F>,
         polling: &Polling<T, W, R>,
+        name: Identity,
+        steps: &mut Steps,
         unlocked: &mut Unlocked,
     ) -> Poll<T>
-        requires { taken.place ≡ place }
+        requires place { taken.place ≡ place }
+        requires polls { top steps.old ≡ Some (step.User (user_step.Poll name)) }
+        ensures { steps.new ≡ step.Move (end_of result) name ∷ below steps.old }
     {
         let mut taken = taken;
-        match taken.poll(polling.waker(), unlocked) {
+        match taken.poll(polling.waker(), steps, unlocked) {
             Poll::Ready(output) => {
-                taken.let_go(unlocked);
-                self.leave(place, unlocked);
+                taken.let_go(name, steps, unlocked);
+                self.leave(place, name, steps, unlocked);
                 Poll::Ready(output)
             }
             Poll::Pending => {
                 let displaced = sections::put_back(
                     self.table.lock(&self.rt, unlocked).get(),
                     taken,
+                    steps,
                 );
                 if let Some(future) = displaced {
                     future.let_go(unlocked);
@@ -99,26 +159,66 @@ where
 
     #[cold]
     #[inline(never)]
-    fn drop_future(&self, place: EntryPlace, dropping: Dropping<T, W, R>, unlocked: &mut Unlocked) {
-        let taken = sections::take(self.table.lock(&self.rt, unlocked).get(), place);
-        if let Some(taken) = taken {
-            taken.let_go(unlocked);
-        }
-        self.leave(place, unlocked);
+    fn drop_future(
+        &self,
+        place: EntryPlace,
+        dropping: Dropping<T, W, R>,
+        name: Identity,
+        steps: &mut Steps,
+        unlocked: &mut Unlocked,
+    )
+        requires { top steps.old ≡ Some (step.Table (table_step.TakeToDrop name)) }
+        ensures { steps.new ≡ below steps.old }
+    {
+        let taken = sections::take(self.table.lock(&self.rt, unlocked).get(), place, steps);
+        sections::let_go(taken, name, steps, unlocked);
+        self.leave(place, name, steps, unlocked);
         dropping.finish(unlocked);
     }
 
     #[inline(always)]
-    fn leave(&self, place: EntryPlace, unlocked: &mut Unlocked) {
-        let left = sections::leave(self.table.lock(&self.rt, unlocked).get(), place);
-        if let Some((future, waker)) = left {
-            if let Some(future) = future {
-                future.let_go(unlocked);
-            }
-            if let Some(waker) = waker {
-                let due = waker.release(self.rt, self.realm);
-                pay(self.rt, due, unlocked);
-            }
+    fn leave(&self, place: EntryPlace, name: Identity, steps: &mut Steps, unlocked: &mut Unlocked)
+        requires { top steps.old ≡ Some (step.Table (table_step.LeaveTable name)) }
+        ensures { steps.new ≡ below steps.old }
+    {
+        let left = sections::leave(self.table.lock(&self.rt, unlocked).get(), place, steps);
+        let Some((future, waker)) = left else {
+            return;
+        };
+        if let Some(future) = future {
+            future.let_go(unlocked);
         }
+        if let Some(waker) = waker {
+            self.release(waker, name, steps, unlocked);
+        }
+    }
+
+    /// The waker that an entry had goes.
+    #[inline(always)]
+    fn release(
+        &self,
+        waker: Returning<StoredWaker>,
+        name: Identity,
+        steps: &mut Steps,
+        unlocked: &mut Unlocked,
+    )
+        requires { top steps.old ≡ Some (step.Move move.Release name) }
+        ensures { steps.new ≡ below steps.old }
+    {
+        let _ = name;
+        steps.see_moved(false);
+        let due = waker.release(self.rt, self.realm);
+        pay(self.rt, due, unlocked);
+    }
+}
+
+/// What a poll gave, or the place where its future lies again.
+#[inline(always)]
+fn back_of<T>(polled: Poll<T>, place: EntryPlace) -> Back<EntryPlace, T>
+    ensures { end_by result ≡ end_of polled }
+{
+    match polled {
+        Poll::Ready(output) => Back::Ready(output),
+        Poll::Pending => Back::Pending(place),
     }
 }

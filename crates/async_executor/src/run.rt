@@ -129,7 +129,7 @@ where
         if let Some(owed) = self.counts.count() {
             self.runner.pay(executor.rt, &executor.state, executor.realm, owed, unlocked);
         }
-        let last = executor.poll_or_drop(runnable, call, unlocked);
+        let last = executor.run_found(runnable, call, unlocked);
         self.counts.take(last)
     }
 

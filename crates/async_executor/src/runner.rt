@@ -169,8 +169,7 @@ impl Runner {
                 call.end();
                 return;
             };
-            let due = state.push_stored(rt, realm, call, stored, unlocked);
-            pay(rt, due, unlocked);
+            state.push_stored(rt, realm, call, stored, unlocked);
         }
         unreachable!()
     }

@@ -1,11 +1,19 @@
-ghost use Rattle.std.specs.Prelude.{◌≡◌, IfSome, is_none};
+ghost use Rattle.std.specs.Prelude.{◌≡◌, IfSome, Some, is_none};
+ghost use Rattle.call_steps.specs.Seeing.{due};
+ghost use Rattle.call_steps.specs.Todo.{below, top};
+ghost use Rattle.call_steps.specs.declared.step.CallStep.TheVariants as step;
+ghost use Rattle.call_steps.specs.declared.step.tick.SleeperStep.TheVariants as sleeper_step;
 ghost use Rattle.async_executor.specs.Copies.{IsCopyOf};
+ghost use Rattle.async_executor.specs.Steps.{of_handed, sleeper};
 
 use crate::call::Call;
+use crate::due::Handed;
 use crate::entry::Unlocked;
 use crate::foreign::Foreign;
 use crate::names::{ExDue, ExRealm, ExWaker};
-use async_task::{Awaiter, Returning, StoredWaker, Wake};
+use crate::steps::Steps;
+use async_task::{Awaiter, Identity, Returning, StoredWaker, Wake};
+use call_steps::{Saw, Sleeping, TickOrRun, Waker};
 use std::sync::Wait;
 
 /// The waker of a tick or run that sleeps.
@@ -15,6 +23,33 @@ pub enum SleeperWaker<W> {
     Task(Returning<StoredWaker>),
     /// From outside.
     Outside(W),
+}
+
+impl<W> SleeperWaker<W> {
+    /// The waker, and who sleeps with it.
+    pub fn named(self) -> (Sleeping<Identity, ()>, Self)
+        ensures name { result.0 ≡ sleeper self }
+        ensures same { result.1 ≡ self }
+    {
+        let who = TickOrRun::Tick(());
+        match self {
+            SleeperWaker::Task(waker) => {
+                let stored = waker.into_inner();
+                let waker = Waker::Task(stored.identity());
+                (
+                    Sleeping { waker, who },
+                    SleeperWaker::Task(Returning::new(stored)),
+                )
+            }
+            SleeperWaker::Outside(waker) => (
+                Sleeping {
+                    waker: Waker::Outside,
+                    who,
+                },
+                SleeperWaker::Outside(waker),
+            ),
+        }
+    }
 }
 
 impl<W: Wake + Drop + 'static> SleeperWaker<W> {
@@ -70,17 +105,31 @@ impl<W: Wake + Drop + 'static> SleeperWaker<W> {
         self,
         rt: R,
         realm: &'static ExRealm<T, W, R>,
+        steps: &mut Steps,
         unlocked: &Unlocked,
-    ) -> Option<ExDue<T, W, R>>
+    ) -> Option<Handed<T, W, R>>
     where
         T: Drop + 'static,
         R: Wait + Copy + Drop + 'static,
+        requires { top steps.old ≡ Some (step.Sleeper (sleeper_step.CallSleeper (sleeper self))) }
+        ensures { steps.new ≡ due (of_handed result) (below steps.old) }
     {
         let _ = unlocked;
         match self {
-            SleeperWaker::Task(waker) => waker.wake(rt, realm),
+            SleeperWaker::Task(waker) => match waker.wake(rt, realm) {
+                Some(due) => {
+                    steps.see_moved(true);
+                    Some(Handed::of(due))
+                }
+                None => {
+                    steps.see_moved(false);
+                    None
+                }
+            },
             SleeperWaker::Outside(waker) => {
                 waker.wake();
+                steps.follow(Saw::Outside);
+                steps.follow(Saw::Nothing);
                 None
             }
         }

@@ -1,15 +1,20 @@
-ghost use Rattle.std.specs.Prelude.{◌≡◌, IfOk, IfErr, IfSome, is_ok};
-ghost use Rattle.async_executor.specs.Accepting.{Accepts, IsRefusedAt, refused_as, WakerFits};
+ghost use Rattle.std.specs.Prelude.{◌≡◌, ◌∷◌, [], IfOk, IfErr, IfSome};
+ghost use Rattle.call_steps.specs.Todo.{following};
+ghost use Rattle.call_steps.specs.declared.step.CallStep.TheVariants as step;
+ghost use Rattle.call_steps.specs.declared.step.table.TableStep.TheVariants as table_step;
+ghost use Rattle.async_executor.specs.Accepting.{Accepts, IsRefusedAt, WakerFits};
 ghost use Rattle.async_executor.specs.Errors.{refused};
-ghost use Rattle.async_executor.specs.Stages.{begun, idle};
+ghost use Rattle.async_executor.specs.Steps.{accepted_as};
 ghost use Rattle.async_task.specs.Handles.{task_of};
 
-use crate::call::Call;
 use crate::closing::HasClosed;
 use crate::errors::SpawnError;
+use crate::marked::Marked;
 use crate::names::{ExRealm, ExRunnable, ExTask, TableWaker};
 use crate::queue::ExQueue;
+use crate::steps::Steps;
 use async_task::{Builder, Returning, Wake};
+use call_steps::Saw;
 use executor_parts::{EntryPlace, Mark, Places, SpawnRefused};
 use std::sync::Wait;
 
@@ -23,24 +28,25 @@ pub fn accept<F, T, W, R>(
     table: &mut Places<F, TableWaker>,
     rt: R,
     realm: &'static ExRealm<T, W, R>,
-    call: &mut Call,
+    steps: &mut Steps,
     schedule: ExQueue<T, W, R>,
     is_static: bool,
     mark: Mark,
     future: F,
     closed: HasClosed,
-) -> Result<(ExRunnable<T, W, R>, ExTask<T, W, R>), SpawnError<F>>
+) -> Result<(Marked, ExTask<T, W, R>), SpawnError<F>>
 where
     F: Drop,
     T: Drop + 'static,
     W: Wake + Drop + 'static,
     R: Wait + Copy + Drop + 'static,
-    requires { call.old ≡ begun }
-    ensures call { call.new ≡ record idle { holds = is_ok result } }
+    requires { steps.old ≡ step.Table (table_step.Enter mark) ∷ [] }
+    ensures steps { steps.new ≡ following (accepted_as result) steps.old }
     ensures here { IfOk result (λ both. both.1.identity.realm ≡ realm.now.number) }
     ensures accepted { IfOk result (λ both. Accepts is_static table.old table.new future (task_of both.1)) }
-    ensures one_task { IfOk result (λ both. both.0 ≡ task_of both.1) }
-    ensures marked { IfOk result (λ both. both.0.metadata ≡ mark) }
+    ensures one_task { IfOk result (λ both. both.0.stored.identity ≡ both.1.identity) }
+    ensures queue { IfOk result (λ both. both.0.stored.metadata ≡ mark) }
+    ensures marked { IfOk result (λ both. both.1.metadata ≡ mark) }
     ensures future { IfErr result (λ error. refused error ≡ future) }
     ensures cause { IfErr result (IsRefusedAt table.old) }
     ensures same { IfErr result (λ _. (table.new.entries ≡ table.old.entries) × (table.new.limit ≡ table.old.limit)) }
@@ -48,32 +54,27 @@ where
     closed.spend();
     let vacancy = match table.vacancy() {
         Ok(vacancy) => vacancy,
-        Err(refused) => {
-            call.accept(false);
-            return Err(because(refused, future));
+        Err(SpawnRefused::Full) => {
+            steps.follow(Saw::Full);
+            return Err(SpawnError::Full(future));
+        }
+        Err(SpawnRefused::NoMemory) => {
+            steps.follow(Saw::NoMemory);
+            return Err(SpawnError::NoMemory(future));
         }
     };
     match made(rt, realm, schedule, is_static, mark, vacancy.place()) {
         Some((runnable, task, waker)) => {
             table.enter(vacancy, future, waker);
-            call.accept(true);
-            Ok((runnable, task))
+            let marked = Marked::of(runnable.into_scheduled());
+            steps.follow(Saw::Entered(marked.identity()));
+            Ok((marked, task))
         }
         None => {
             vacancy.give_back();
-            call.accept(false);
+            steps.follow(Saw::NoMemory);
             Err(SpawnError::NoMemory(future))
         }
-    }
-}
-
-/// Why the table refused a future, which goes back.
-fn because<F>(refused: SpawnRefused, future: F) -> SpawnError<F>
-    ensures { result ≡ refused_as refused future }
-{
-    match refused {
-        SpawnRefused::Full => SpawnError::Full(future),
-        SpawnRefused::NoMemory => SpawnError::NoMemory(future),
     }
 }
 

@@ -1,7 +1,15 @@
 //! A task while it is run. Its end calls who awaits it, so it is lent an `Unlocked`.
+ghost use Rattle.std.specs.Prelude.{◌≡◌, Some};
+ghost use Rattle.task_moves.specs.declared.moves.owed.Move.TheVariants as move;
+ghost use Rattle.call_steps.specs.Todo.{below, top};
+ghost use Rattle.call_steps.specs.declared.step.CallStep.TheVariants as step;
+ghost use Rattle.async_executor.specs.Polling.{begun_as, end_by, settled_as};
+
 use crate::entry::Unlocked;
 use crate::names::{ExClosing, ExRunning, ExScheduled, ExWaker};
-use async_task::{Back, Due, RunEnd, Started, Wake};
+use crate::steps::Steps;
+use async_task::moves::FutureDebt;
+use async_task::{Back, Due, Identity, RunEnd, Started, Wake};
 use executor_parts::EntryPlace;
 use std::sync::Wait;
 
@@ -57,17 +65,31 @@ where
     Drop(EntryPlace, Dropping<T, W, R>),
 }
 
-/// Begins the run of a task.
+/// Begins the run of a task, which has this name.
 #[inline(always)]
-pub fn begin<T, W, R>(scheduled: ExScheduled<T, W, R>) -> Begun<T, W, R>
+pub fn begin<T, W, R>(
+    scheduled: ExScheduled<T, W, R>,
+    name: Identity,
+    steps: &mut Steps,
+) -> Begun<T, W, R>
 where
     T: Drop + 'static,
     W: Wake + Drop + 'static,
     R: Wait + Copy + Drop + 'static,
+    requires named { name ≡ scheduled.identity }
+    requires taken_up { top steps.old ≡ Some (step.Move move.TakeUp name) }
+    ensures { steps.new ≡ begun_as result name (below steps.old) }
 {
+    let _ = name;
     match scheduled.into_runnable().start() {
-        Started::Poll(place, running) => Begun::Poll(place, Polling { running }),
-        Started::Drop(place, closing) => Begun::Drop(place, Dropping { closing }),
+        Started::Poll(place, running) => {
+            steps.see_future(FutureDebt::PollFuture);
+            Begun::Poll(place, Polling { running })
+        }
+        Started::Drop(place, closing) => {
+            steps.see_future(FutureDebt::DropFuture);
+            Begun::Drop(place, Dropping { closing })
+        }
     }
 }
 
@@ -86,16 +108,34 @@ where
     /// Ends the run, with no lock held. A task that was woken meanwhile is the answer: its schedule value would put it into the
     /// queue of the executor that runs it.
     #[inline(always)]
-    pub fn settle(self, back: Back<EntryPlace, T>, unlocked: &Unlocked) -> Settled<T, W, R> {
-        let _ = unlocked;
+    pub fn settle(
+        self,
+        back: Back<EntryPlace, T>,
+        name: Identity,
+        steps: &mut Steps,
+        unlocked: &Unlocked,
+    ) -> Settled<T, W, R>
+        requires { top steps.old ≡ Some (step.Move (end_by back) name) }
+        ensures { steps.new ≡ settled_as result name (below steps.old) }
+    {
+        let (_, _) = (unlocked, name);
         let Polling { running } = self;
         match running.settle(back) {
-            RunEnd::Over => Settled::Over,
-            RunEnd::Pause(pause) => match pause.into_due() {
-                Some(Due { runnable, info: _ }) => Settled::Woken(runnable),
-                None => Settled::Over,
-            },
-            RunEnd::Drop(place, closing) => Settled::Drop(place, Dropping { closing }),
+            RunEnd::Over => {
+                steps.see_moved(false);
+                Settled::Over
+            }
+            RunEnd::Pause(pause) => {
+                steps.see_moved(false);
+                match pause.into_due() {
+                    Some(Due { runnable, info: _ }) => Settled::Woken(runnable),
+                    None => Settled::Over,
+                }
+            }
+            RunEnd::Drop(place, closing) => {
+                steps.see_future(FutureDebt::DropFuture);
+                Settled::Drop(place, Dropping { closing })
+            }
         }
     }
 }

@@ -30,7 +30,7 @@ where
         let executor = self.executor;
         for _ in executor.rt.forever() {
             let mut call = Call::begin();
-            let found = executor.state.take(&executor.rt, &mut call);
+            let found = executor.state.look(&executor.rt, &mut call);
             match self.ticker.after_search(
                 executor.rt,
                 &executor.state,
@@ -42,7 +42,7 @@ where
             ) {
                 Found::Runnable(runnable, call) => {
                     self.polled
-                        .end(executor.poll_or_drop(runnable, call, unlocked));
+                        .end(executor.run_found(runnable, call, unlocked));
                     return Poll::Ready(Ok(()));
                 }
                 Found::SearchAgain => {}

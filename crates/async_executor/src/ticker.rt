@@ -8,7 +8,7 @@ ghost use Rattle.executor_parts.specs.Sleepers.{flag_of};
 ghost use Rattle.async_executor.specs.Stages.{idle, begun, looked};
 
 use crate::call::{Call, Last};
-use crate::due::pay;
+use crate::due::{call_apart, pay};
 use crate::entry::Unlocked;
 use crate::foreign::{Foreign, came_out};
 use crate::names::{ExRealm, ExStoredRunnable, ExWaker};
@@ -91,7 +91,7 @@ impl Ticker {
             Some(runnable) => {
                 let mut call = call;
                 self.wake_up(rt, state, realm, &mut call, unlocked);
-                state.notify_and_pay(rt, realm, &mut call, unlocked);
+                state.notify_apart(rt, realm, &mut call, unlocked);
                 Found::Runnable(runnable, call)
             }
             None => self.after_nothing(rt, state, realm, call, waker, unlocked),
@@ -171,8 +171,7 @@ impl Ticker {
             }
             FellAsleep::Nowhere(waker) => {
                 let last = call.end_called();
-                let due = waker.wake(rt, realm, unlocked);
-                pay(rt, due, unlocked);
+                call_apart(rt, realm, waker, unlocked);
                 Found::Nothing(last)
             }
         }
@@ -349,7 +348,7 @@ where
         pay(rt, due, unlocked);
     }
     if was_told {
-        state.notify_and_pay(rt, realm, &mut call, unlocked);
+        state.notify_apart(rt, realm, &mut call, unlocked);
     }
     call.end();
     room

@@ -8,6 +8,8 @@ use Rattle.call_steps.specs.declared.names.Section.TheVariants as section
 use Rattle.call_steps.specs.declared.names.Stage.{Stage}
 use Rattle.call_steps.specs.declared.names.Stage.TheVariants.{New, Listed, Ended}
 use Rattle.call_steps.specs.declared.names.TickOrRun.TheVariants as tick_or_run
+use Rattle.call_steps.specs.declared.part.Part.{Part}
+use Rattle.call_steps.specs.declared.part.Part.TheVariants as part
 use Rattle.call_steps.specs.declared.reply.Reply.TheVariants as reply
 use Rattle.call_steps.specs.declared.step.CallStep.{CallStep}
 use Rattle.call_steps.specs.declared.step.CallStep.TheVariants as step
@@ -18,6 +20,7 @@ use Rattle.call_steps.specs.declared.step.run.RunStep.TheVariants as run_step
 use Rattle.call_steps.specs.declared.step.table.ClosingStep.TheVariants as closing_step
 use Rattle.call_steps.specs.declared.step.table.QueueStep.TheVariants as queue_step
 use Rattle.call_steps.specs.declared.step.table.TableStep.TheVariants as table_step
+use Rattle.call_steps.specs.declared.step.tick.SleeperStep.TheVariants as sleeper_step
 use Rattle.call_steps.specs.declared.step.tick.TickStep.TheVariants as tick_step
 use Rattle.call_steps.specs.declared.step.user.UserStep.TheVariants as user_step
 
@@ -56,3 +59,11 @@ module _ {F T : Type 0} where
   begins (asked.DropRun r at) = drop_run at r
   begins asked.Leak = step.Closing closing_step.LeakOut ∷ step.End reply.Done ∷ []
   begins asked.DropExecutor = step.Closing closing_step.TakeOut ∷ step.End reply.Done ∷ []
+
+  -- a part of a call answers nothing
+  abbrev pub part_begins : Part F T → List (CallStep F T)
+  part_begins (part.Append f) = step.Queue (queue_step.Append f) ∷ []
+  part_begins part.Tell = step.Sleeper sleeper_step.ExchangeFlag ∷ []
+  part_begins (part.CallSleeper s) = step.Sleeper (sleeper_step.CallSleeper s) ∷ []
+  part_begins (part.TakeUp f) = step.Move move.TakeUp f ∷ []
+  part_begins (part.Close f) = step.Move move.DropRunnable f ∷ []

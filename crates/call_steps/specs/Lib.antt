@@ -6,3 +6,4 @@ pub mod Closing
 pub mod Next
 pub mod Begins
 pub mod Todo
+pub mod Seeing

@@ -1,9 +1,9 @@
 -- What a call has still to do, by how it has gone so far.
 use Rattle.std.specs.Prelude.{Option, Some, None, List, [], ◌∷◌, ◌++◌}
-use Rattle.call_steps.specs.declared.call.Past.{Past, Begun, Did'}
+use Rattle.call_steps.specs.declared.call.Past.{Past, Begun, Apart, Did'}
 use Rattle.call_steps.specs.declared.saw.Saw.{Saw}
 use Rattle.call_steps.specs.declared.step.CallStep.{CallStep}
-use Rattle.call_steps.specs.Begins.{begins}
+use Rattle.call_steps.specs.Begins.{begins, part_begins}
 use Rattle.call_steps.specs.Next.{next}
 
 module _ {F T : Type 0} where
@@ -24,4 +24,5 @@ module _ {F T : Type 0} where
 
   abbrev pub todo_of : Past F T → List (CallStep F T)
   todo_of (Begun asked) = begins asked.value
+  todo_of (Apart part) = part_begins part.value
   todo_of (Did' saw shape past) = following saw.value (todo_of past)

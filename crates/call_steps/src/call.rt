@@ -1,9 +1,10 @@
 //! A call in progress, as contracts follow it. It has no bytes.
 ghost use Rattle.std.specs.Prelude.{◌≡◌};
-ghost use Rattle.call_steps.specs.Begins.{begins};
+ghost use Rattle.call_steps.specs.Begins.{begins, part_begins};
 ghost use Rattle.call_steps.specs.Todo.{todo_of};
 
 use crate::asked::Asked;
+use crate::part::Part;
 use crate::reply::Reply;
 use crate::saw::Saw;
 use std::marker::Model;
@@ -15,6 +16,8 @@ use std::snapshot::Snapshot;
 pub enum Past<F, T> {
     /// It began, and was asked for this.
     Begun(Snapshot<Asked<F, T>>),
+    /// It is a part of a call that is to do this.
+    Apart(Snapshot<Part<F, T>>),
     /// It did what was to be done next, and saw this.
     Did(Snapshot<Saw<F, T>>, Snapshot<Past<F, T>>),
 }
@@ -64,10 +67,11 @@ impl Last {
 impl<F: Copy, T: Copy> Call<F, T> {
     ghost use Rattle.std.specs.Prelude.{◌≡◌, [], ◌∷◌};
     ghost use Rattle.call_steps.specs.declared.step.CallStep.TheVariants as step;
-    ghost use Rattle.call_steps.specs.Begins.{begins};
+    ghost use Rattle.call_steps.specs.Begins.{begins, part_begins};
     ghost use Rattle.call_steps.specs.Todo.{following};
 
     /// A call that is asked for this.
+    #[inline(always)]
     pub fn begin(asked: Asked<F, T>) -> Self
         ensures { result ≡ begins asked }
     {
@@ -76,7 +80,18 @@ impl<F: Copy, T: Copy> Call<F, T> {
         }
     }
 
+    /// A part of a call that is to do this.
+    #[inline(always)]
+    pub fn part(part: Part<F, T>) -> Self
+        ensures { result ≡ part_begins part }
+    {
+        Call {
+            past: Snapshot::of(&Past::Apart(Snapshot::of(&part))),
+        }
+    }
+
     /// What was to be done next is done, and this was seen.
+    #[inline(always)]
     pub fn follow(&mut self, saw: Saw<F, T>)
         ensures { self.new ≡ following saw self.old }
     {
@@ -85,6 +100,7 @@ impl<F: Copy, T: Copy> Call<F, T> {
     }
 
     /// The call ends with this answer, which is all that is left of it.
+    #[inline(always)]
     pub fn end(self, reply: Reply) -> Last
         requires { self ≡ step.End reply ∷ [] }
         ensures { result ≡ reply }
@@ -94,6 +110,7 @@ impl<F: Copy, T: Copy> Call<F, T> {
     }
 
     /// A part of a call ends that answers nothing, with nothing left to do.
+    #[inline(always)]
     pub fn close(self)
         requires { self ≡ [] }
     {
@@ -101,6 +118,7 @@ impl<F: Copy, T: Copy> Call<F, T> {
     }
 }
 
+#[inline(always)]
 fn begun<F: Copy, T: Copy>(asked: &Asked<F, T>) -> Snapshot<Past<F, T>>
     ensures { todo_of result.value ≡ begins asked.now }
 {

@@ -5,13 +5,16 @@
 mod asked;
 mod call;
 mod names;
+mod part;
 mod reply;
 mod saw;
+mod seeing;
 mod step;
 
 pub use asked::Asked;
 pub use call::{Call, Last};
 pub use names::{Look, RunPoll, Section, Sleeping, Source, Stage, Steal, Then, TickOrRun, Waker};
+pub use part::Part;
 pub use reply::Reply;
 pub use saw::{Saw, Searcher};
 pub use step::{

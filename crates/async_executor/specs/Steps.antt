@@ -1,0 +1,70 @@
+-- How a call on the executor goes, step by step: futures have the names of their tasks.
+use Rattle.std.specs.Prelude.{Option, Some, None, Result, Ok, Err, List, [], ◌∷◌}
+use Rattle.task_moves.specs.declared.moves.owed.Move.TheVariants as move
+use Rattle.async_task.specs.Handles.{Handle}
+use Rattle.async_task.specs.declared.cell.Identity.{Identity}
+use Rattle.async_task.specs.declared.cell.scheduled.Due.{Due}
+use Rattle.executor_parts.specs.declared.mark.Mark.{Mark}
+use Rattle.executor_parts.specs.Marks.{other}
+use Rattle.call_steps.specs.declared.names.Look.TheVariants.{Second}
+use Rattle.call_steps.specs.declared.names.Sleeping.{Sleeping}
+use Rattle.call_steps.specs.declared.names.TickOrRun.TheVariants as tick_or_run
+use Rattle.call_steps.specs.declared.names.Waker.{Waker}
+use Rattle.call_steps.specs.declared.names.Waker.TheVariants as waker
+use Rattle.call_steps.specs.declared.reply.Reply.TheVariants as reply
+use Rattle.call_steps.specs.declared.saw.Saw.{Saw}
+use Rattle.call_steps.specs.declared.saw.Saw.TheVariants as saw
+use Rattle.call_steps.specs.declared.step.CallStep.{CallStep}
+use Rattle.call_steps.specs.declared.step.CallStep.TheVariants as step
+use Rattle.call_steps.specs.declared.step.table.QueueStep.TheVariants as queue_step
+use Rattle.call_steps.specs.declared.step.tick.SleeperStep.TheVariants as sleeper_step
+use Rattle.async_executor.specs.declared.due.Handed.{Handed}
+use Rattle.async_executor.specs.declared.errors.SpawnError.{SpawnError}
+use Rattle.async_executor.specs.declared.errors.SpawnError.TheVariants.{Full, NoMemory}
+use Rattle.async_executor.specs.declared.foreign.Foreign.{Foreign}
+use Rattle.async_executor.specs.declared.marked.Marked.{Marked}
+use Rattle.async_executor.specs.declared.sleeping.SleeperWaker.{SleeperWaker}
+use Rattle.async_executor.specs.declared.sleeping.SleeperWaker.TheVariants.{Task, Outside}
+
+-- whose Runnable it is
+abbrev pub of_stored : {M : Type 0} → Option (Handle M) → Option Identity
+of_stored None = None
+of_stored (Some stored) = Some stored.identity
+
+abbrev pub of_due : {F T S M W R : Type 0} → Option (Due F T S M W R) → Option Identity
+of_due None = None
+of_due (Some due) = Some due.runnable.identity
+
+abbrev pub of_handed : {T W R : Type 0} → Option (Handed T W R) → Option Identity
+of_handed None = None
+of_handed (Some handed) = Some handed.runnable.stored.identity
+
+module _ {W : Type 0} where
+  -- the name of a sleeper's waker
+  abbrev pub name_of : SleeperWaker W → Waker Identity
+  name_of (Task stored) = waker.Task stored.identity
+  name_of (Outside w) = waker.Outside
+
+  -- who sleeps with it: the list of sleepers has no names of ticks and runs, and doesn't know which of both it is
+  abbrev pub sleeper : SleeperWaker W → Sleeping Identity (Unit {0})
+  sleeper w = record { waker = name_of w; who = tick_or_run.Tick tt }
+
+  abbrev pub sleeper_of : Option (Foreign (SleeperWaker W)) → Option (Sleeping Identity (Unit {0}))
+  sleeper_of None = None
+  sleeper_of (Some it) = Some (sleeper it.value)
+
+-- what a try has still to do once it has found nothing in both queues, or the Runnable of this future
+abbrev pub tried : Option Identity → List (CallStep Identity (Unit {0}))
+tried None = step.End reply.No ∷ []
+tried (Some f) = step.Sleeper sleeper_step.ExchangeFlag ∷ step.Move move.TakeUp f ∷ step.End reply.Yes ∷ []
+
+-- the same after its first look, at the queue of this mark
+abbrev pub tried_first : Mark → Option Identity → List (CallStep Identity (Unit {0}))
+tried_first mark None = step.Queue (queue_step.Take (Second (other mark))) ∷ []
+tried_first mark (Some f) = tried (Some f)
+
+-- what a spawn sees in the table
+abbrev pub accepted_as : {F H : Type 0} → Result (Marked × H) (SpawnError F) → Saw Identity (Unit {0})
+accepted_as (Ok both) = saw.Entered both.0.stored.identity
+accepted_as (Err (Full future)) = saw.Full
+accepted_as (Err (NoMemory future)) = saw.NoMemory

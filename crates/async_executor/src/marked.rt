@@ -1,0 +1,43 @@
+//! A Runnable that is to be appended, with the mark of its task.
+ghost use Rattle.std.specs.Prelude.{◌≡◌};
+
+use crate::names::{ExScheduled, ExStoredRunnable};
+use async_task::{Identity, Wake};
+use executor_parts::Mark;
+use std::sync::Wait;
+
+/// A Runnable as a queue keeps it, and the mark that its task was made with, which says into which queue it comes. It has no
+/// drop: it is appended, or closed.
+#[must_use]
+pub struct Marked {
+    pub mark: Mark,
+    pub stored: ExStoredRunnable,
+    ghost marked: { mark ≡ stored.metadata },
+}
+
+impl Marked {
+    /// A Runnable of a task, for the queue of its mark.
+    #[inline(always)]
+    pub fn of<T, W, R>(runnable: ExScheduled<T, W, R>) -> Marked
+    where
+        T: Drop + 'static,
+        W: Wake + Drop + 'static,
+        R: Wait + Copy + Drop + 'static,
+        ensures task { result.stored.identity ≡ runnable.identity }
+        ensures metadata { result.stored.metadata ≡ runnable.metadata }
+    {
+        let mark = *runnable.metadata();
+        Marked {
+            mark,
+            stored: runnable.store(),
+        }
+    }
+
+    /// Whose it is.
+    #[inline(always)]
+    pub fn identity(&self) -> Identity
+        ensures { result ≡ self.now.stored.identity }
+    {
+        self.stored.identity()
+    }
+}

@@ -1,0 +1,81 @@
+-- What a running call sees, and how that leaves what it has still to do.
+use Rattle.std.specs.Prelude.{◌≡◌, Bool, true, false, Option, Some, None, List, ◌∷◌}
+use Rattle.task_moves.specs.declared.moves.owed.FutureDebt.{FutureDebt}
+use Rattle.task_moves.specs.declared.moves.owed.Owed.{Owed}
+use Rattle.task_moves.specs.declared.schedule_info.ScheduleInfo.{ScheduleInfo}
+use Rattle.call_steps.specs.declared.names.Sleeping.{Sleeping}
+use Rattle.call_steps.specs.declared.saw.Saw.{Saw}
+use Rattle.call_steps.specs.declared.saw.Saw.TheVariants as saw
+use Rattle.call_steps.specs.declared.step.CallStep.{CallStep}
+use Rattle.call_steps.specs.declared.step.CallStep.TheVariants as step
+use Rattle.call_steps.specs.declared.step.table.QueueStep.TheVariants as queue_step
+use Rattle.call_steps.specs.declared.step.tick.SleeperStep.TheVariants as sleeper_step
+use Rattle.call_steps.specs.Todo.{below, top}
+
+-- a task that wasn't woken while it was polled is to be scheduled, or not
+abbrev pub infos : Bool → Option ScheduleInfo
+infos true = Some (record { woken_while_running = false })
+infos false = None
+
+-- a Runnable is due, or nothing
+abbrev pub owes : Bool → Owed
+owes is_due = record {
+  schedule = infos is_due;
+  future = None;
+  drop_output = false;
+  awaiter = None;
+  next = None;
+  answer = None;
+  empty_cell = false;
+}
+
+-- this is owed to the future
+abbrev pub owes_future : FutureDebt → Owed
+owes_future debt = record {
+  schedule = None;
+  future = Some debt;
+  drop_output = false;
+  awaiter = None;
+  next = None;
+  answer = None;
+  empty_cell = false;
+}
+
+module _ {F T : Type 0} where
+  -- it was there, or not
+  abbrev pub seen : Bool → Saw F T
+  seen true = saw.Something
+  seen false = saw.Nothing
+
+  -- the first Runnable of a queue
+  abbrev pub first : Option F → Saw F T
+  first None = saw.Nothing
+  first (Some f) = saw.Found f
+
+  -- a task has moved, and all was paid but a Runnable, where that is due
+  abbrev pub moved : Bool → Saw F T
+  moved is_due = saw.Moved false (owes is_due)
+
+  -- a task has moved, and this is owed to its future
+  abbrev pub futured : FutureDebt → Saw F T
+  futured debt = saw.Moved true (owes_future debt)
+
+  -- the waker that was handed out is called first
+  abbrev pub called : Option (Sleeping F T) → List (CallStep F T) → List (CallStep F T)
+  called (Some s) rest = step.Sleeper (sleeper_step.CallSleeper s) ∷ rest
+  called None rest = rest
+
+  -- a Runnable that is due is appended first
+  abbrev pub due : Option F → List (CallStep F T) → List (CallStep F T)
+  due (Some f) rest = step.Queue (queue_step.Append f) ∷ rest
+  due None rest = rest
+
+  -- the Runnable of this future, where there is one, is to be appended next
+  abbrev pub IsDue : Option F → List (CallStep F T) → Type 0
+  IsDue (Some f) todo = top todo ≡ Some (step.Queue (queue_step.Append f))
+  IsDue None todo = Unit {0}
+
+  -- once it was, with all that this led to
+  abbrev pub paid : Option F → List (CallStep F T) → List (CallStep F T)
+  paid (Some f) todo = below todo
+  paid None todo = todo

@@ -1,0 +1,16 @@
+use crate::names::Sleeping;
+
+/// What a part of a call is to do, which stands for itself: whatever led to it, no call waits for its answer.
+#[derive(Clone, Copy)]
+pub enum Part<F, T> {
+    /// A Runnable of this future is handed to the executor's queue.
+    Append(F),
+    /// A sleeper is told that there is something to do.
+    Tell,
+    /// The waker of this sleeper is called.
+    CallSleeper(Sleeping<F, T>),
+    /// A Runnable of this future, which was found, is run.
+    TakeUp(F),
+    /// A Runnable of this future is closed.
+    Close(F),
+}

@@ -1,0 +1,43 @@
+-- Outputs that came of the first tasks of a list.
+use Rattle.std.proofs.Common.{◌≡◌, ◌≤◌, ◌<◌, ◌+◌, ◌∷◌, ◌++◌, [], ℕ, List, Option, Some, None, Result, Ok, arith, ap, refl, subst, sym, ◌∙◌, length, drop}
+use Rattle.std.proofs.lemmas.List.{append-nil, append_assoc, drop_more, length-append, length-drop}
+use Rattle.async_task.specs.declared.cell.Identity.{Identity}
+use Rattle.async_task.specs.declared.poll.Poll.TheVariants.{Ready}
+use Rattle.async_task.specs.declared.task.TaskError.{TaskError}
+use Rattle.workers.specs.Joining.{AllHaveCome, HasStepped, HaveCome}
+
+-- one more went from the front
+left_then :
+    {X : Type 0} (n : ℕ) (tasks left then : List X)
+    → left ≡ drop n tasks → 0 < length left → then ≡ drop 1 left → (n < length tasks) × (then ≡ drop (n + 1) tasks)
+left_then n tasks [] then is some next = absurd (omega (arith, some))
+left_then n tasks (x ∷ rest) then is some next =
+    let within : n < length tasks = omega (arith, some, ap length is, length-drop n tasks) in
+    (within, next ∙ ap (λ l. drop 1 l) (is ∙ drop_more tasks n x within))
+
+-- at first none came
+pub none_came : {T : Type 0} (old : List T) (tasks : List Identity) → HaveCome old tasks old tasks
+none_came old tasks = ([], sym (append-nil old), omega arith, refl)
+
+-- the first of those that are left gave its output
+pub one_came :
+    {T : Type 0} (old new more : List T) (tasks left then : List Identity) (answer : Option (Result T TaskError)) (output : T)
+    → HaveCome old tasks new left → HasStepped left then (Ready answer) → answer ≡ Some (Ok output) → more ≡ new ++ output ∷ []
+    → HaveCome old tasks more then
+one_came old new more tasks left then answer output came step is same =
+    let stepped = subst (λ a. HasStepped left then (Ready a)) is step in
+    let both = left_then (length came.0) tasks left then came.3 stepped.0 stepped.1 in
+    let longer = length-append came.0 (output ∷ []) in (
+      came.0 ++ output ∷ [],
+      same ∙ ap (λ l. l ++ output ∷ []) came.1 ∙ append_assoc old came.0 (output ∷ []),
+      omega (arith, both.0, longer),
+      both.1 ∙ ap (λ n. drop n tasks) (sym longer),
+    )
+
+-- none is left
+pub all_came :
+    {T : Type 0} (old new given : List T) (tasks left then : List Identity) (answer : Option (Result T TaskError))
+    → HaveCome old tasks new left → HasStepped left then (Ready answer) → answer ≡ None → given ≡ new → AllHaveCome old tasks given
+all_came old new given tasks left then answer came step is same =
+    let empty = subst (λ a. HasStepped left then (Ready a)) is step in
+    (came.0, same ∙ came.1, omega (arith, came.2, length-drop (length came.0) tasks, ap length (sym came.3 ∙ empty)))

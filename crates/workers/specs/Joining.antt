@@ -1,5 +1,5 @@
 -- What a future over handles has to await, and what a poll of it does.
-use Rattle.std.specs.Prelude.{◌≡◌, ◌<◌, ◌≤◌, Option, Some, None, Result, Ok, Err, List, [], ◌∷◌, ◌++◌, drop, length, Vec}
+use Rattle.std.specs.Prelude.{◌≡◌, ◌<◌, ◌≤◌, IsTrue, is_some, Option, Some, None, Result, Ok, Err, List, [], ◌∷◌, ◌++◌, drop, length, Vec}
 use Rattle.std.specs.Global.{Global}
 use Rattle.async_executor.specs.Handing.{Handles}
 use Rattle.async_task.specs.Handles.{Handle}
@@ -12,6 +12,11 @@ use Rattle.async_task.specs.declared.task.TaskError.{TaskError}
 abbrev pub to_come : {M : Type 0} → Option (Handle M) → Handles → List Identity
 to_come None handles = handles.tasks
 to_come (Some task) handles = task.identity ∷ handles.tasks
+
+-- a poll that is pending has polled a handle last, which it awaits
+abbrev pub Awaits : {M X : Type 0} → Option (Handle M) → Poll X → Type 0
+Awaits awaited Pending = IsTrue (is_some awaited)
+Awaits awaited (Ready _) = Unit {0}
 
 module _ {T : Type 0} where
   -- the first task that is to be awaited gave its output, and is to be awaited no more; or it stays the first; or there is none

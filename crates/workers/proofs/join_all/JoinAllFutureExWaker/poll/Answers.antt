@@ -3,8 +3,8 @@ use Rattle.std.specs.Prelude.{vec_items}
 use Rattle.workers.proofs.Joins.{all_came, one_came}
 use Rattle.workers.proofs.join_all.JoinAllFutureExWaker.poll.Goals as goal
 
-pub returns-in-Ready-None : goal.returns-in-Ready-None
-returns-in-Ready-None g c =
+pub returns-in-Ready-None-clause-joined : goal.returns-in-Ready-None-clause-joined
+returns-in-Ready-None-clause-joined g c =
     let n = c.in-Ready-None in
     let given = ap vec_items (c.replace-outputs.ensures.value ∙ n.ensures.outputs) in
     all_came _ _ _ _ _ _ _ c.loop.invariant.2 n.ensures.stepped n.field-0-is given

@@ -35,7 +35,7 @@ module _ {T : Type 0} where
   abbrev pub AllHaveCome : List T → List Identity → List T → Type 0
   AllHaveCome old tasks new = (more : List T) × (new ≡ old ++ more) × (length more ≡ length tasks)
 
-  -- what a poll answers: an output for each task, in the tasks' order; or it is pending, and some came
+  -- what a poll answers: the outputs, of which one more came for each task; or it is pending, and some came
   abbrev pub HasJoined : List T → List Identity → List T → List Identity → Poll (Result (Vec T Global) TaskError) → Type 0
   HasJoined old tasks new left Pending = HaveCome old tasks new left
   HasJoined old tasks new left (Ready (Ok outputs)) = AllHaveCome old tasks outputs.items

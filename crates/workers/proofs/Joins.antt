@@ -1,6 +1,8 @@
 -- Outputs that came of the first tasks of a list.
 use Rattle.std.proofs.Common.{◌≡◌, ◌≤◌, ◌<◌, ◌+◌, ◌∷◌, ◌++◌, [], ℕ, List, Option, Some, None, Result, Ok, arith, ap, refl, subst, sym, ◌∙◌, length, drop}
 use Rattle.std.proofs.lemmas.List.{append-nil, append_assoc, drop_more, length-append, length-drop}
+use Rattle.std.proofs.lemmas.Option.{get_or_from_slice_get, slice_get_within}
+use Rattle.std.specs.Prelude.{slice_get}
 use Rattle.async_task.specs.declared.cell.Identity.{Identity}
 use Rattle.async_task.specs.declared.poll.Poll.TheVariants.{Ready}
 use Rattle.async_task.specs.declared.task.TaskError.{TaskError}
@@ -14,6 +16,13 @@ left_then n tasks [] then is some next = absurd (omega (arith, some))
 left_then n tasks (x ∷ rest) then is some next =
     let within : n < length tasks = omega (arith, some, ap length is, length-drop n tasks) in
     (within, next ∙ ap (λ l. drop 1 l) (is ∙ drop_more tasks n x within))
+
+-- the first of a list, before what stands behind it
+pub put_back :
+    {X : Type 0} (one first : X) (tasks rest : List X) → one ≡ first → slice_get tasks 0 ≡ Some first → rest ≡ drop 1 tasks → one ∷ rest ≡ tasks
+put_back one first tasks rest same is behind =
+    let there = same ∙ sym (get_or_from_slice_get tasks 0 first first is) in
+    ap (λ xs. one ∷ xs) behind ∙ ap (λ x. x ∷ drop 1 tasks) there ∙ sym (drop_more tasks 0 first (slice_get_within tasks 0 first is))
 
 -- at first none came
 pub none_came : {T : Type 0} (old : List T) (tasks : List Identity) → HaveCome old tasks old tasks

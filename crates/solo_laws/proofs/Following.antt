@@ -17,5 +17,8 @@ pub mod Waking
 pub mod Taking
 pub mod Trying
 pub mod Handling
+pub mod Lives
+pub mod Frames
+pub mod Calling
 pub mod Ending
 pub mod Beginning

@@ -9,7 +9,7 @@ ghost use Rattle.solo.specs.declared.solo.Solo.{Solo};
 ghost use Rattle.plain_scheduler.specs.Calls.{new};
 ghost use Rattle.plain_scheduler.specs.State.{Due, Plain};
 ghost use Rattle.solo_laws.specs.Alike.{TakesAlike, WakesAlike, ReleasesAlike, UsesAlike, CancelsAlike, CopiesAlike};
-ghost use Rattle.solo_laws.specs.Alike.{PollsAlike, PendsAlike, GivesAlike, DetachesAlike};
+ghost use Rattle.solo_laws.specs.Alike.{HandlesAlike, HandleDropsAlike, PendsAlike, GivesAlike, DetachesAlike};
 ghost use Rattle.solo_laws.specs.Road.{Follows, Lined, SearchesAlike};
 
 /// A new executor stands where the new plain scheduler does.
@@ -43,7 +43,7 @@ pub fn a_waker_goes_alike<F, T, X>()
         → ReleasesAlike name s p × UsesAlike name s p }
 {}
 
-/// So does a cancel, up to the call of who awaited the task.
+/// So does a cancel, with the call of who awaited the task.
 pub fn a_cancel_is_a_cancel<F, T, X>()
     ensures { (name : ℕ → Task) (s : Solo F T X) (p : Plain T (SoloWaker X)) → Follows name s p → CancelsAlike name s p }
 {}
@@ -58,9 +58,15 @@ pub fn a_copy_is_a_copy<F, T, X>()
     ensures { (name : ℕ → Task) (s : Solo F T X) (p : Plain T (SoloWaker X)) → Follows name s p → CopiesAlike name s p }
 {}
 
-/// So does what a poll of a handle does to its task.
+/// So does a poll of a handle: with a copy of its waker where it has to wait and the copy isn't refused, and the drop of the waker
+/// that was left before.
 pub fn a_handle_is_polled_alike<F, T, X>()
-    ensures { (name : ℕ → Task) (s : Solo F T X) (p : Plain T (SoloWaker X)) → Follows name s p → PollsAlike name s p }
+    ensures { (name : ℕ → Task) (s : Solo F T X) (p : Plain T (SoloWaker X)) → Follows name s p → HandlesAlike name s p }
+{}
+
+/// So does the drop of a handle, which cancels and detaches its task.
+pub fn a_handle_goes_alike<F, T, X>()
+    ensures { (name : ℕ → Task) (s : Solo F T X) (p : Plain T (SoloWaker X)) → Follows name s p → HandleDropsAlike name s p }
 {}
 
 /// So does the end of a poll that gave no output: the future waits, or is queued again, or is to be dropped.

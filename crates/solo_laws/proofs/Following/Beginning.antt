@@ -32,11 +32,13 @@ module _ {F T X : Type 0} (name : ℕ → Task) where
       flag = fresh.notified;
       callers = λ at t is. absurd cc;
     };
+    awaiters = λ f t is. absurd cc;
     inside = record {
       lent = λ f has. absurd cc;
       dropping = λ f has. absurd cc;
       lent_once = refl;
       dropping_once = refl;
+      callers = λ at t is. absurd cc;
     };
   }
     where

@@ -11,6 +11,7 @@ use Rattle.task_moves.specs.LocalTask as local
 use Rattle.task_moves.specs.LocalTask.{told as told_of, info_of, info_from, is_home, is_queued, is_gone}
 use Rattle.solo.specs.declared.names.Task.{Task}
 use Rattle.solo.specs.declared.names.SoloWaker.{SoloWaker}
+use Rattle.solo.specs.declared.names.SoloWaker.TheVariants.{Task as OfTask}
 use Rattle.solo.specs.declared.owed.Lent.{Lent}
 use Rattle.solo.specs.declared.cells.After.TheVariants.{Unknown}
 use Rattle.solo.specs.declared.solo.Solo.{Solo}
@@ -23,7 +24,7 @@ use Rattle.plain_scheduler.specs.State.{Answers, Yes}
 use Rattle.plain_scheduler.specs.Moves.{task, put, appended, tell}
 use Rattle.plain_scheduler.specs.Calls as calls
 use Rattle.solo_laws.specs.Alike.{PendsAlike, GivesAlike}
-use Rattle.solo_laws.specs.Road.{IsTaskOf, Follows, HasLife, IsInside, apart, is_forgotten, stands, is_in, lents, drops}
+use Rattle.solo_laws.specs.Road.{IsTaskOf, Follows, HasLife, IsInside, apart, is_forgotten, stands, is_in, lents, drops, awaiters}
 use Rattle.solo_laws.specs.Road.{wakes as wakes_of}
 use Rattle.solo_laws.proofs.Following.Seeing.{seen}
 use Rattle.solo_laws.proofs.Following.Due.{clash, both_true, not_true, equal}
@@ -70,6 +71,14 @@ module _ {T X : Type 0} (place : EntryPlace) where
   ended_is e v lent is =
       ap (λ b. choose b (cells.settled (local.settle_pending_by (abstract.pending_end v.task) place v.task) v) v) lent
       ∙ ap (λ e. cells.settled (local.settle_pending_by e place v.task) v) is
+
+  -- nobody comes to await it
+  left_awaiter : (e : abstract.PendingEnd) (t : AbstractTask T (SoloWaker X)) (w : SoloWaker X)
+      → (left_so e t).awaiter ≡ Some w → t.awaiter ≡ Some w
+  left_awaiter EndDrops t w is = is
+  left_awaiter EndQueues t w is = is
+  left_awaiter EndForgets t w is = is
+  left_awaiter EndRests t w is = is
 
   left_is : (e : abstract.PendingEnd) (v : Kept T X) (x : Future T (SoloWaker X)) → cells.is_lent v ≡ true
       → abstract.pending_end x.task ≡ e
@@ -176,6 +185,7 @@ module _ {F T X : Type 0} (name : ℕ → Task) (s : Solo F T X) (p : Plain T (S
           lent = λ has so. absurd (clash not_lent has);
           dropping = λ has so. absurd (clash not_dropped has);
         })
+        (λ t has. r.awaiters f t (left_awaiter place e (task f p) (OfTask t) has))
         r
 
     -- what is so of it then
@@ -192,12 +202,12 @@ module _ {F T X : Type 0} (name : ℕ → Task) (s : Solo F T X) (p : Plain T (S
 
     -- the future is to be dropped
     drops_it : (code : Code T (SoloWaker X)) → lents (code ∷ after.inside) ≡ lents after.inside → drops (code ∷ after.inside)
-        ≡ f ∷ drops after.inside
+        ≡ f ∷ drops after.inside → awaiters (code ∷ after.inside) ≡ awaiters after.inside
         → cells.is_dropping (kept_so place e it.0) ≡ true
         → Follows name now (record after { events = after.events ++ Drops f ∷ []; inside = code ∷ after.inside })
-    drops_it code lent dropped so =
+    drops_it code lent dropped waits so =
         seen name now after (after.events ++ Drops f ∷ []) (code ∷ after.inside)
-        (one_dropped name (length after.futures) now.cells after.inside (code ∷ after.inside) next.inside f here lent dropped
+        (one_dropped name (length after.futures) now.cells after.inside (code ∷ after.inside) next.inside f here lent dropped waits
         (asks_so cells.is_dropping so)
         (subst (λ cs. is_in f (drops cs) ≡ false) (sym (put_inside f (left_so place e (task f p)) p)) not_dropped)) next
 
@@ -211,6 +221,7 @@ module _ {F T X : Type 0} (name : ℕ → Task) (s : Solo F T X) (p : Plain T (S
       once = next.once;
       ready = next.ready;
       asleep = next.asleep;
+      awaiters = next.awaiters;
       inside = next.inside;
     }
 
@@ -252,8 +263,8 @@ module _ {F T X : Type 0} (name : ℕ → Task) (s : Solo F T X) (p : Plain T (S
       subst
       (λ q. Follows name now (record q { events = q.events ++ Drops f ∷ []; inside = DropCode f Closed Try ∷ q.inside }))
       (put_same f p at infos)
-      (drops_it EndDrops is (DropCode f Closed Try) refl refl refl)
-  ends many life EndForgets is = drops_it EndForgets is (DropCode f Forgotten Try) refl refl refl
+      (drops_it EndDrops is (DropCode f Closed Try) refl refl refl refl)
+  ends many life EndForgets is = drops_it EndForgets is (DropCode f Forgotten Try) refl refl refl refl
   ends many life EndRests is =
       let q = after EndRests is in
       let all = back EndRests is in
@@ -296,14 +307,15 @@ module _ {F T X : Type 0} (name : ℕ → Task) (s : Solo F T X) (p : Plain T (S
       (sym stands_in)
       (seen name s p (p.events ++ Drops f ∷ []) now
       (same_inside name (length p.futures) s.cells p.inside now r.inside
-      (sym (ap (λ cs. lents cs) stands_in)) (sym (ap (λ cs. drops cs) stands_in))) r)
+      (sym (ap (λ cs. lents cs) stands_in)) (sym (ap (λ cs. drops cs) stands_in)) (sym (ap (λ cs. awaiters cs) stands_in))) r)
 
   pub pends_alike : PendsAlike name s p
   pends_alike c f rest lent future stands_in names many life =
       let out : lents p.inside ≡ f ∷ lents rest = ap (λ cs. lents cs) stands_in in
       let here = r.inside.lent f (ap (is_in f) out ∙ ap (λ b. cond b true (is_in f (lents rest))) (equal f f refl)) in
       let left : IsInside name (length p.futures) s.cells rest =
-      less_lent name (length p.futures) s.cells p.inside rest r.inside f out (ap (λ cs. drops cs) stands_in) in
+      less_lent name (length p.futures) s.cells p.inside rest r.inside f out (ap (λ cs. drops cs) stands_in)
+      (ap (λ cs. awaiters cs) stands_in) in
       let once = both_true (not (is_in f (lents rest))) (apart (lents rest))
       (sym (ap (λ ns. apart ns) out) ∙ r.inside.lent_once) in
       let q : Plain T (SoloWaker X) = record p { inside = rest } in

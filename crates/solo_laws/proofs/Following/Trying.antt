@@ -61,6 +61,13 @@ module _ {T A : Type 0} where
       by true = is
       by false = is
 
+  begun_awaiter : (t : AbstractTask T A) → (abstract.begin_run t).awaiter ≡ t.awaiter
+  begun_awaiter t = by t.closed
+    where
+      by : (b : Bool) → (if b then t else record t { phase = abstract.Phase.Polling }).awaiter ≡ t.awaiter
+      by true = refl
+      by false = refl
+
   over_begun : (t : AbstractTask T A) → IsOver t → abstract.begin_run t ≡ t
   over_begun t is = ap (λ b. if b then t else record t { phase = abstract.Phase.Polling }) is.closed
 
@@ -126,6 +133,7 @@ module _ {F T X : Type 0} (name : ℕ → Task) where
     once = r.once;
     ready = r.ready;
     asleep = r.asleep;
+    awaiters = r.awaiters;
     inside = r.inside;
   }
   out (Some (StartDrop place)) s p r = record {
@@ -136,6 +144,7 @@ module _ {F T X : Type 0} (name : ℕ → Task) where
     once = r.once;
     ready = r.ready;
     asleep = r.asleep;
+    awaiters = r.awaiters;
     inside = r.inside;
   }
 
@@ -181,6 +190,7 @@ module _ {F T X : Type 0} (name : ℕ → Task) where
             lent = λ has so. absurd (clash (not_lent v here) has);
             dropping = λ has so. absurd (clash (not_dropped v here) has);
           })
+          (λ t is. r.awaiters f t (sym (begun_awaiter (task f p)) ∙ is))
           r
 
       -- where its future is then
@@ -220,7 +230,7 @@ module _ {F T X : Type 0} (name : ℕ → Task) where
           seen name (turns.turned cells.started (name f) s) p (p.events ++ Drops f ∷ []) (DropCode f Closed Try ∷ p.inside)
           (one_dropped name (length p.futures) (cells.changed cells.started (name f) s.cells) p.inside
           (DropCode f Closed Try ∷ p.inside)
-          it.inside f at refl refl (placed (λ place. is_dropping place)
+          it.inside f at refl refl refl (placed (λ place. is_dropping place)
           (ap (λ b. is_dropping (local.started {F = EntryPlace} b)) is))
           (not_dropped spare.0 spare.1)) it)
       by false is =
@@ -231,7 +241,7 @@ module _ {F T X : Type 0} (name : ℕ → Task) where
           (seen name (turns.turned cells.started (name f) s) q (q.events ++ Polls f ∷ []) (Poll f Try ∷ q.inside)
           (one_lent name (length q.futures) (cells.changed cells.started (name f) s.cells) q.inside
           (Poll f Try ∷ q.inside) next.inside f
-          (subst (λ n. f < n) (sym (put_long f (abstract.begin_run (task f p)) p)) at) refl refl
+          (subst (λ n. f < n) (sym (put_long f (abstract.begin_run (task f p)) p)) at) refl refl refl
           (placed (λ place. is_lent place) (ap (λ b. is_lent (local.started {F = EntryPlace} b)) is))
           (subst (λ cs. is_in f (lents cs) ≡ false) (sym (put_inside f (abstract.begin_run (task f p)) p))
           (not_lent spare.0 spare.1)))
@@ -247,6 +257,7 @@ module _ {F T X : Type 0} (name : ℕ → Task) where
     once = (both_true (not (stands d.future p.due)) (once p.due) r.once).1;
     ready = λ j due. r.ready j (later (j == d.future) (stands j p.due) due);
     asleep = r.asleep;
+    awaiters = r.awaiters;
     inside = r.inside;
   }
 
@@ -296,6 +307,7 @@ module _ {F T X : Type 0} (name : ℕ → Task) where
             (once_without (chosen (tests c.first) p.due) p.due r.once);
         ready = λ j due. r.ready j (was d is (j == d.future) j due refl);
         asleep = r.asleep;
+        awaiters = r.awaiters;
         inside = r.inside;
       }
 
@@ -320,6 +332,7 @@ module _ {F T X : Type 0} (name : ℕ → Task) where
             once = r.once;
             ready = r.ready;
             asleep = r.asleep;
+            awaiters = r.awaiters;
             inside = r.inside;
           }))
       by (Some d) is sought lines =

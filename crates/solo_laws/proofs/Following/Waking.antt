@@ -15,7 +15,7 @@ use Rattle.solo.specs.Solo as solo
 use Rattle.solo.specs.Turns as turns
 use Rattle.plain_scheduler.specs.State.{Due, Lying, Choice, Plain, Answers, Done}
 use Rattle.plain_scheduler.specs.Moves.{task, put, appended, tell, becomes, wake, release, used}
-use Rattle.solo_laws.specs.Alike.{WakesAlike, CancelsAlike, ReleasesAlike, UsesAlike}
+use Rattle.solo_laws.specs.Alike.{WakesAlike, ReleasesAlike, UsesAlike}
 use Rattle.solo_laws.specs.Road.{FollowsBut, Follows, HasLife, wakes as wakes_of}
 use Rattle.solo_laws.proofs.Following.Seeing.{seen}
 use Rattle.solo_laws.proofs.Following.Cells.{of_found, asks_found, found}
@@ -100,9 +100,6 @@ module _ {F T X : Type 0} (name : ℕ → Task) (s : Solo F T X) (p : Plain T (S
       let q = wake wakes_of (tell wakes_of c) f p in
       let it = woken None name c f s p at r many life in
       seen name (solo.woken (name f) s) q (q.events ++ Answers Done ∷ []) q.inside it.inside it
-
-  pub cancels_alike : CancelsAlike name s p
-  cancels_alike c f at many life = cancelled None name c f s p at r many life
 
   pub releases_alike : ReleasesAlike name s p
   releases_alike c f at many life =

@@ -20,5 +20,8 @@ pub mod Handling
 pub mod Lives
 pub mod Frames
 pub mod Calling
+pub mod Bases
+pub mod Tabling
+pub mod Both
 pub mod Ending
 pub mod Beginning

@@ -17,7 +17,7 @@ use Rattle.plain_scheduler.specs.State.{Choice, Granted, AtOnce, Code, Poll, Tak
 use Rattle.plain_scheduler.specs.Moves.{task}
 use Rattle.plain_scheduler.specs.Calls.{Call, TryTick, Wake, Use, Copy, Release, PollHandle, Cancel, Detach, DropHandle, Pends}
 use Rattle.plain_scheduler.specs.Calls.{EndsWith, is_granted, does}
-use Rattle.solo_laws.specs.Road.{Follows, HasLife, IsNamed, wakes}
+use Rattle.solo_laws.specs.Road.{HasLife, IsNamed, wakes}
 
 -- the waker in whose place another is left
 abbrev pub replaced_by : {T X : Type 0} → Polled T (SoloWaker X) → Option (SoloWaker X)
@@ -50,17 +50,19 @@ module _ {F T X : Type 0} where
   handle_polled copied task w s =
       choose (solo.must_wait task s) (choose copied (registered task w (copies w s)) s) (solo.polled task w s)
 
-module _ {F T X : Type 0} (name : ℕ → Task) (s : Solo F T X) (p : Plain T (SoloWaker X)) where
+-- where both stand alike, by names of futures, they do after a call
+module _ {F T X : Type 0} (name : ℕ → Task) (Alike : Solo F T X → Plain T (SoloWaker X) → Type 0) (s : Solo F T X)
+    (p : Plain T (SoloWaker X)) where
   abbrev pub TakesAlike : Type 0
   TakesAlike =
       (c : Choice) → c.first ≡ mark_of_turn s.lines.turn → length p.lying ≤ c.tells → HasLife 1 s.lines
-      → Follows name (solo.taken s) (does wakes c TryTick p)
+      → Alike (solo.taken s) (does wakes c TryTick p)
 
   -- a call on a task is one of the plain scheduler, where so many more tasks may come into a queue
   abbrev pub CallsAlike : ℕ → (Task → Solo F T X → Solo F T X) → (ℕ → Call T (SoloWaker X)) → Type 0
   CallsAlike more call its =
       (c : Choice) (f : ℕ) → f < length p.futures → length p.lying ≤ c.tells → HasLife more s.lines
-      → Follows name (call (name f) s) (does wakes c (its f) p)
+      → Alike (call (name f) s) (does wakes c (its f) p)
 
   abbrev pub WakesAlike : Type 0
   WakesAlike = CallsAlike 2 solo.woken Wake
@@ -85,20 +87,20 @@ module _ {F T X : Type 0} (name : ℕ → Task) (s : Solo F T X) (p : Plain T (S
   abbrev pub CopiesAlike : Type 0
   CopiesAlike =
       (c : Choice) (f : ℕ) → f < length p.futures → c.refusal ≡ (if solo.may_hold (name f) s then Granted else AtOnce)
-      → Follows name (solo.held (name f) s) (does wakes c (Copy f) p)
+      → Alike (solo.held (name f) s) (does wakes c (Copy f) p)
 
   -- the end of a poll in a try that gave no output, with what was lent for it
   abbrev pub PendsAlike : Type 0
   PendsAlike =
       (c : Choice) (f : ℕ) (rest : List (Code T (SoloWaker X))) (lent : Lent) (future : F) → p.inside ≡ Poll f Try ∷ rest
       → lent.task ≡ name f → length p.lying ≤ c.tells → HasLife 2 s.lines
-      → Follows name (solo.settled_pending lent future s) (does wakes c Pends p)
+      → Alike (solo.settled_pending lent future s) (does wakes c Pends p)
 
   -- and the end of one that gave an output: until its future is dropped it is nothing to the executor
   abbrev pub GivesAlike : Type 0
   GivesAlike =
       (c : Choice) (f : ℕ) (by : Taker (SoloWaker X)) (rest : List (Code T (SoloWaker X))) (v : T) → p.inside ≡ Poll f by ∷ rest
-      → Follows name s (does wakes c (EndsWith v) p)
+      → Alike s (does wakes c (EndsWith v) p)
 
   -- a poll of a handle that is there, with a copy of its waker where that is to be left
   abbrev pub HandlesAlike : Type 0
@@ -106,4 +108,4 @@ module _ {F T X : Type 0} (name : ℕ → Task) (s : Solo F T X) (p : Plain T (S
       (c : Choice) (f : ℕ) (w : SoloWaker X) → f < length p.futures → (task f p).handle ≡ true
       → ((t : Task) → w ≡ OfTask t → IsNamed name (length p.futures) t × (is_granted c.refusal ≡ solo.may_hold t s))
       → length p.lying ≤ c.tells → HasLife 2 s.lines
-      → Follows name (handle_polled (is_granted c.refusal) (name f) w s) (does wakes c (PollHandle f w) p)
+      → Alike (handle_polled (is_granted c.refusal) (name f) w s) (does wakes c (PollHandle f w) p)

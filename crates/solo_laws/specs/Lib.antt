@@ -7,4 +7,5 @@ pub mod Outputs
 pub mod Looks
 pub mod Rooms
 pub mod Road
+pub mod Tabled
 pub mod Alike

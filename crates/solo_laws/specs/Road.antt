@@ -69,7 +69,7 @@ module _ {T X : Type 0} where
     pub idle : abstract.is_idle f.task.phase ≡ true → is_home v.future ≡ true
     pub done : is_gone v.future ≡ true → is_done f.task ≡ true
     pub reached : is_forgotten f.task ≡ false
-    pub there : is_gone v.future ≡ false → f.is_dropped ≡ false
+    pub there : is_home v.future ≡ true → f.is_dropped ≡ false
 
   -- where it is gone, that of the future is over
   abbrev pub TaskIs : Option (Kept T X) → Option (Future T (SoloWaker X)) → Type 0

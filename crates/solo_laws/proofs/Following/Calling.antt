@@ -78,7 +78,7 @@ module _ {T X : Type 0} where
     copied_asks (OfTask t) f p = put_asks ask (abstract.copy (task t.number p)) t.number f p (same (task t.number p))
 
   -- a cancel, and the call of who awaits the task
-  cancel_still : (c : Choice) (f : ℕ) (p : Plain T (SoloWaker X)) → Still p (calls.cancel wakes_of c f p)
+  pub cancel_still : (c : Choice) (f : ℕ) (p : Plain T (SoloWaker X)) → Still p (calls.cancel wakes_of c f p)
   cancel_still c f p =
       let left = abstract.cancel (task f p) in
       let q = becomes wakes_of (tell wakes_of c) f left.task p in
@@ -174,7 +174,7 @@ module _ {F T X : Type 0} (name : ℕ → Task) (s : Solo F T X) (p : Plain T (S
       (abstract.cancel (task f p)).called
       (λ t is. subst (λ n. IsNamed name n t) (sym still.futures) (cancel_named f t is)))
 
-  pub cancels_alike : CancelsAlike name s p
+  pub cancels_alike : CancelsAlike name (Follows name) s p
   cancels_alike c f at many life =
       let q = calls.cancel wakes_of c f p in
       let it = cancels c f at many life in
@@ -226,7 +226,7 @@ module _ {F T X : Type 0} (name : ℕ → Task) (c : Choice) where
       (handling.held name s p r t.number it.0.0 (subst (λ u. solo.may_hold u s ≡ true) (sym it.0.1) (sym it.1)))
 
 module _ {F T X : Type 0} (name : ℕ → Task) (s : Solo F T X) (p : Plain T (SoloWaker X)) (r : Follows name s p) where
-  pub handles_alike : HandlesAlike name s p
+  pub handles_alike : HandlesAlike name (Follows name) s p
   handles_alike c f w at handle named many life = by (abstract.polled (task f p)) refl
     where
       waits : (e : abstract.Polled T) → abstract.polled (task f p) ≡ e → solo.must_wait (name f) s ≡ local.waits_by e
@@ -278,7 +278,7 @@ module _ {F T X : Type 0} (name : ℕ → Task) (s : Solo F T X) (p : Plain T (S
           (copied_and_polled is (calls.is_granted c.refusal) named)
 
   -- a handle that goes cancels and detaches
-  pub handle_drops_alike : HandleDropsAlike name s p
+  pub handle_drops_alike : HandleDropsAlike name (Follows name) s p
   handle_drops_alike c f at many life =
       let z = cancelled (name f) s in
       let q = calls.cancel wakes_of c f p in

@@ -1,6 +1,6 @@
 -- The end of a poll is that of the plain scheduler.
 use Rattle.std.proofs.Common.{◌≡◌, ℕ, ◌<◌, ◌≤◌, ◌==◌, cond, ◌&&◌, not, if◌then◌else◌, Bool, true, false, List, [], ◌∷◌, ◌++◌}
-use Rattle.std.proofs.Common.{length, Some, None}
+use Rattle.std.proofs.Common.{length, Option, Some, None}
 use Rattle.std.proofs.Common.{slice_get, is_some, refl, sym, ap, subst, ◌∙◌}
 use Rattle.executor_parts.specs.declared.places.EntryPlace.{EntryPlace}
 use Rattle.task_moves.specs.AbstractTask as abstract
@@ -21,14 +21,16 @@ use Rattle.solo.specs.Solo as solo
 use Rattle.solo.specs.Turns as turns
 use Rattle.plain_scheduler.specs.State.{Future, Lying, Choice, Plain, Code, Try, Drop as DropCode, Closed, Forgotten, Gave, Drops}
 use Rattle.plain_scheduler.specs.State.{Answers, Yes}
+use Rattle.plain_scheduler.specs.Lists.{or}
 use Rattle.plain_scheduler.specs.Moves.{task, put, appended, tell}
 use Rattle.plain_scheduler.specs.Calls as calls
 use Rattle.solo_laws.specs.Alike.{PendsAlike, GivesAlike}
+use Rattle.solo_laws.specs.Tabled.{is_dropped}
 use Rattle.solo_laws.specs.Road.{IsTaskOf, Follows, HasLife, IsInside, apart, is_forgotten, stands, is_in, lents, drops, awaiters}
 use Rattle.solo_laws.specs.Road.{wakes as wakes_of}
 use Rattle.solo_laws.proofs.Following.Seeing.{seen}
 use Rattle.solo_laws.proofs.Following.Due.{clash, both_true, not_true, equal}
-use Rattle.solo_laws.proofs.Following.Inside.{home_lent, lent_dropping, lent_stays, same_inside, one_dropped, less_lent}
+use Rattle.solo_laws.proofs.Following.Inside.{home_lent, lent_dropping, same_inside, one_dropped, less_lent}
 use Rattle.solo_laws.proofs.Following.Cells.{found, of_found, asks_found, changed_found, found_here}
 use Rattle.solo_laws.proofs.Following.Tasks.{none_told}
 use Rattle.solo_laws.proofs.Following.Changing.{task_is, kept, turned, lined}
@@ -82,48 +84,48 @@ module _ {T X : Type 0} (place : EntryPlace) where
 
   left_is : (e : abstract.PendingEnd) (v : Kept T X) (x : Future T (SoloWaker X)) → cells.is_lent v ≡ true
       → abstract.pending_end x.task ≡ e
-      → IsTaskOf v x → IsTaskOf (kept_so e v) (record x { task = told_of (left_so e x.task) })
-  left_is EndDrops v x lent is of = record {
+      → x.is_dropped ≡ false → IsTaskOf v x → IsTaskOf (kept_so e v) (record x { task = told_of (left_so e x.task) })
+  left_is EndDrops v x lent is live of = record {
     task = ap (λ t. told_of t) of.task;
     mark = of.mark;
     told = refl;
     idle = λ idle. absurd (clash (home_lent v.future (of.idle idle)) lent);
     done = λ gone. absurd cc;
     reached = of.reached;
-    there = λ stays. of.there (lent_stays v.future lent);
+    there = λ home. absurd cc;
   }
-  left_is EndQueues v x lent is of = record {
+  left_is EndQueues v x lent is live of = record {
     task = ap (λ t. told_of (abstract.queue true t)) of.task;
     mark = of.mark;
     told = refl;
     idle = λ idle. refl;
     done = λ gone. absurd cc;
     reached = refl;
-    there = λ stays. of.there (lent_stays v.future lent);
+    there = λ home. live;
   }
-  left_is EndForgets v x lent is of = record {
+  left_is EndForgets v x lent is live of = record {
     task = ap (λ (t : AbstractTask T (SoloWaker X)). told_of (record t { phase = Finished; closed = true })) of.task;
     mark = of.mark;
     told = refl;
     idle = λ idle. absurd cc;
     done = λ gone. absurd cc;
     reached = refl;
-    there = λ stays. of.there (lent_stays v.future lent);
+    there = λ home. absurd cc;
   }
-  left_is EndRests v x lent is of = record {
+  left_is EndRests v x lent is live of = record {
     task = ap (λ (t : AbstractTask T (SoloWaker X)). told_of (record t { phase = Idle })) of.task;
     mark = of.mark;
     told = refl;
     idle = λ idle. refl;
     done = λ gone. absurd cc;
     reached = rests_reached x.task is;
-    there = λ stays. of.there (lent_stays v.future lent);
+    there = λ home. live;
   }
 
 module _ {F T X : Type 0} (name : ℕ → Task) (s : Solo F T X) (p : Plain T (SoloWaker X)) (r : Follows name s p) (c : Choice)
     (f : ℕ)
     (place : EntryPlace) (future : F) (at : f < length p.futures) (has : asked cells.is_lent false (name f) s.cells ≡ true)
-    (not_lent : is_in f (lents p.inside) ≡ false) where
+    (not_lent : is_in f (lents p.inside) ≡ false) (live : is_dropped f p ≡ false) where
   abbrev now : Solo F T X
   now = turns.turned (cells.ended_pending place) (name f) s
 
@@ -180,7 +182,7 @@ module _ {F T X : Type 0} (name : ℕ → Task) (s : Solo F T X) (p : Plain T (S
           is =
               subst (λ w. IsTaskOf w (record x { task = told_of (left_so place e x.task) }))
               (sym (ended_is place e v (lent_of v here) (ap (λ t. abstract.pending_end t) of.task ∙ end)))
-              (left_is place e v x (lent_of v here) end of);
+              (left_is place e v x (lent_of v here) end (sym (ap (λ (o : Option (Future T (SoloWaker X))). or o (λ future. future.is_dropped) true) is) ∙ live) of);
           ready = λ due start. absurd (clash not_due due);
           lent = λ has so. absurd (clash not_lent has);
           dropping = λ has so. absurd (clash not_dropped has);
@@ -299,7 +301,7 @@ module _ {F T X : Type 0} (name : ℕ → Task) (s : Solo F T X) (p : Plain T (S
 
 module _ {F T X : Type 0} (name : ℕ → Task) (s : Solo F T X) (p : Plain T (SoloWaker X)) (r : Follows name s p) where
   -- one that gave an output stays out until its future is dropped
-  pub gives_alike : GivesAlike name s p
+  pub gives_alike : GivesAlike name (Follows name) s p
   gives_alike c f by rest v stands_in =
       let now : List (Code T (SoloWaker X)) = DropCode f (Gave v) by ∷ rest in
       subst
@@ -309,10 +311,12 @@ module _ {F T X : Type 0} (name : ℕ → Task) (s : Solo F T X) (p : Plain T (S
       (same_inside name (length p.futures) s.cells p.inside now r.inside
       (sym (ap (λ cs. lents cs) stands_in)) (sym (ap (λ cs. drops cs) stands_in)) (sym (ap (λ cs. awaiters cs) stands_in))) r)
 
-  pub pends_alike : PendsAlike name s p
-  pends_alike c f rest lent future stands_in names many life =
+  pub pends_alike : ((f : ℕ) → is_in f (lents p.inside) ≡ true → is_dropped f p ≡ false) → PendsAlike name (Follows name) s p
+  pends_alike live c f rest lent future stands_in names many life =
       let out : lents p.inside ≡ f ∷ lents rest = ap (λ cs. lents cs) stands_in in
-      let here = r.inside.lent f (ap (is_in f) out ∙ ap (λ b. cond b true (is_in f (lents rest))) (equal f f refl)) in
+      let mine : is_in f (lents p.inside) ≡ true =
+      ap (is_in f) out ∙ ap (λ b. cond b true (is_in f (lents rest))) (equal f f refl) in
+      let here = r.inside.lent f mine in
       let left : IsInside name (length p.futures) s.cells rest =
       less_lent name (length p.futures) s.cells p.inside rest r.inside f out (ap (λ cs. drops cs) stands_in)
       (ap (λ cs. awaiters cs) stands_in) in
@@ -336,5 +340,5 @@ module _ {F T X : Type 0} (name : ℕ → Task) (s : Solo F T X) (p : Plain T (S
       (subst (λ a. Follows name (solo.pending_by a its future (turns.turned (cells.ended_pending lent.place) (name f) s))
       (calls.pending_by wakes_of c (abstract.pending_end (task f q)) f Try q))
       (sym answer)
-      (ends name s q all c f lent.place future here.0 here.1 (not_true (is_in f (lents rest)) once.0) many life
+      (ends name s q all c f lent.place future here.0 here.1 (not_true (is_in f (lents rest)) once.0) (live f mine) many life
       (abstract.pending_end (task f q)) refl)))

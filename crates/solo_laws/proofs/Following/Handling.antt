@@ -160,7 +160,7 @@ module _ {F T X : Type 0} (name : ℕ → Task) (s : Solo F T X) (p : Plain T (S
       (λ t is. r.awaiters f t is)
       r)
 
-  pub copies_alike : CopiesAlike name s p
+  pub copies_alike : CopiesAlike name (Follows name) s p
   copies_alike c f at says = by (solo.may_hold (name f) s) refl says
     where
       by : (b : Bool) → solo.may_hold (name f) s ≡ b → c.refusal ≡ (if b then Granted else AtOnce)
@@ -228,7 +228,7 @@ module _ {F T X : Type 0} (name : ℕ → Task) (s : Solo F T X) (p : Plain T (S
           (same_inside name (length q.futures) z.cells q.inside (Lose None None ∷ q.inside) all.inside refl refl refl) all
 
   -- a detach
-  pub detaches_alike : DetachesAlike name s p
+  pub detaches_alike : DetachesAlike name (Follows name) s p
   detaches_alike c f at many life =
       let loud : Plain T (SoloWaker X) → Plain T (SoloWaker X) = tell wakes_of c in
       let q : Plain T (SoloWaker X) = becomes wakes_of loud f (abstract.detach (task f p)).task p in

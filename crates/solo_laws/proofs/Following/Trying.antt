@@ -32,7 +32,7 @@ use Rattle.solo_laws.specs.Alike.{TakesAlike}
 use Rattle.solo_laws.proofs.Following.Lists.{get_below}
 use Rattle.solo_laws.proofs.Following.Seeing.{seen}
 use Rattle.solo_laws.proofs.Following.Cells.{found, of_found, asks_found, changed_found, found_here, same_number}
-use Rattle.solo_laws.proofs.Following.Inside.{home_stays, home_lent, home_dropping, one_lent, one_dropped}
+use Rattle.solo_laws.proofs.Following.Inside.{home_lent, home_dropping, one_lent, one_dropped}
 use Rattle.solo_laws.proofs.Following.Due.{clash, both_true, and_true, not_true, not_false, later, equal, stood, once_without}
 use Rattle.solo_laws.proofs.Following.Due.{found_stands, found_gone}
 use Rattle.solo_laws.proofs.Following.Tasks.{queued_idle}
@@ -100,6 +100,10 @@ not_gone : (P : Type 0) (b : Bool) → is_gone (local.started {F = P} b) ≡ tru
 not_gone P true is = absurd cc
 not_gone P false is = absurd cc
 
+not_home : (P : Type 0) (b : Bool) → is_home (local.started {F = P} b) ≡ true → ⊥
+not_home P true is = absurd cc
+not_home P false is = absurd cc
+
 module _ {T X : Type 0} where
   -- a task that is ready is begun
   started_is : (v : Kept T X) (x : Future T (SoloWaker X)) → IsTaskOf v x → cells.may_start v ≡ true
@@ -118,7 +122,7 @@ module _ {T X : Type 0} where
         idle = λ idle. absurd (not_idle x.task queued idle);
         done = λ gone. absurd (not_gone EntryPlace v.task.closed gone);
         reached = still_reached x.task of.reached;
-        there = λ stays. of.there (home_stays v.future (both_true (is_home v.future) (is_queued v.task.phase) may).0);
+        there = λ home. absurd (not_home EntryPlace v.task.closed home);
       })
 
 module _ {F T X : Type 0} (name : ℕ → Task) where
@@ -352,5 +356,5 @@ module _ {F T X : Type 0} (name : ℕ → Task) where
           (begun c d.future (turns.told (solo.popped s)) q can.0 gone can.1 (forget d (turns.told (solo.popped s)) q told_both)))
 
 pub takes_alike : {F T X : Type 0} (name : ℕ → Task) (s : Solo F T X) (p : Plain T (SoloWaker X)) → Follows name s p
-    → TakesAlike name s p
+    → TakesAlike name (Follows name) s p
 takes_alike name s p r c turn many life = taken name c s p turn many life r

@@ -95,19 +95,19 @@ module _ {F T X : Type 0} (aside : Option Due) (name : ℕ → Task) (c : Choice
       (changes used_kept use_queues wake_and_release uses used_fits)))
 
 module _ {F T X : Type 0} (name : ℕ → Task) (s : Solo F T X) (p : Plain T (SoloWaker X)) (r : Follows name s p) where
-  pub wakes_alike : WakesAlike name s p
+  pub wakes_alike : WakesAlike name (Follows name) s p
   wakes_alike c f at many life =
       let q = wake wakes_of (tell wakes_of c) f p in
       let it = woken None name c f s p at r many life in
       seen name (solo.woken (name f) s) q (q.events ++ Answers Done ∷ []) q.inside it.inside it
 
-  pub releases_alike : ReleasesAlike name s p
+  pub releases_alike : ReleasesAlike name (Follows name) s p
   releases_alike c f at many life =
       let q = release wakes_of (tell wakes_of c) f p in
       let it = released None name c f s p at r many life in
       seen name (solo.released (name f) s) q (q.events ++ Answers Done ∷ []) q.inside it.inside it
 
-  pub uses_alike : UsesAlike name s p
+  pub uses_alike : UsesAlike name (Follows name) s p
   uses_alike c f at many life =
       let q = used wakes_of (tell wakes_of c) f p in
       let it = woken_and_released None name c f s p at r many life in

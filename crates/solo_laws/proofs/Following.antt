@@ -23,5 +23,8 @@ pub mod Calling
 pub mod Bases
 pub mod Tabling
 pub mod Both
+pub mod Adding
+pub mod Spawning
+pub mod Refusing
 pub mod Ending
 pub mod Beginning

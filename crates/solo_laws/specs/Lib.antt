@@ -9,3 +9,4 @@ pub mod Rooms
 pub mod Road
 pub mod Tabled
 pub mod Alike
+pub mod Spawning

@@ -12,6 +12,7 @@ ghost use Rattle.plain_scheduler.specs.State.{Due, Plain};
 ghost use Rattle.solo_laws.specs.Alike.{TakesAlike, WakesAlike, ReleasesAlike, UsesAlike, CancelsAlike, CopiesAlike};
 ghost use Rattle.solo_laws.specs.Alike.{HandlesAlike, HandleDropsAlike, PendsAlike, GivesAlike, DetachesAlike};
 ghost use Rattle.solo_laws.specs.Road.{Lined, SearchesAlike};
+ghost use Rattle.solo_laws.specs.Spawning.{SpawnsAlike, RefusesAlike, EmptyAlike};
 ghost use Rattle.solo_laws.specs.Tabled.{Stands, named};
 
 /// A new executor stands where the new plain scheduler does.
@@ -77,4 +78,19 @@ pub fn a_poll_ends_alike<F, T, X>()
 /// And one that gave an output is nothing to the executor until its future is dropped.
 pub fn a_poll_gives_alike<F, T, X>()
     ensures { (its : ℕ → Lent) (s : Solo F T X) (p : Plain T (SoloWaker X)) → Stands its s p → GivesAlike (named its) (Stands its) s p }
+{}
+
+/// A spawn that isn't refused is one of the plain scheduler: its future has the next number, and comes last in the table.
+pub fn a_spawn_is_a_spawn<F, T, X>()
+    ensures { (its : ℕ → Lent) (s : Solo F T X) (p : Plain T (SoloWaker X)) → Stands its s p → SpawnsAlike its s p }
+{}
+
+/// One that is refused is refused by the plain scheduler: `Full` exactly where that says so.
+pub fn a_refused_spawn_is_refused<F, T, X>()
+    ensures { (its : ℕ → Lent) (s : Solo F T X) (p : Plain T (SoloWaker X)) → Stands its s p → RefusesAlike its s p }
+{}
+
+/// And both say alike whether they are empty.
+pub fn both_say_whether_empty<F, T, X>()
+    ensures { (its : ℕ → Lent) (s : Solo F T X) (p : Plain T (SoloWaker X)) → Stands its s p → EmptyAlike its s p }
 {}

@@ -12,11 +12,11 @@ use Rattle.solo.specs.declared.names.SoloWaker.TheVariants.{Task as OfTask, Outs
 use Rattle.solo.specs.declared.cells.Cells.{Cells}
 use Rattle.solo.specs.declared.solo.Solo.{Solo}
 use Rattle.solo.specs.Cells.{Kept, asked, may_start, is_lent, is_dropping}
-use Rattle.task_moves.specs.LocalTask.{is_home, is_gone}
+use Rattle.task_moves.specs.LocalTask.{is_home, is_gone, is_dropping as is_being_dropped}
 use Rattle.plain_scheduler.specs.Calls.{living_from}
 use Rattle.executor_parts.specs.Marks.{other}
 use Rattle.solo.specs.Lines.{LinesValue, line_of, mark_of_turn, searched, search_answer}
-use Rattle.plain_scheduler.specs.State.{Due, Future, Lying, Code, Poll, Drop, Lose, Closed, Forgotten, Gave, Plain}
+use Rattle.plain_scheduler.specs.State.{Due, Future, Lying, Code, Poll, Drop, Lose, Closed, Gave, Plain}
 use Rattle.plain_scheduler.specs.Lists.{any, without}
 use Rattle.plain_scheduler.specs.Moves.{is_common, is_called, chosen, task}
 
@@ -70,6 +70,7 @@ module _ {T X : Type 0} where
     pub done : is_gone v.future ≡ true → is_done f.task ≡ true
     pub reached : is_forgotten f.task ≡ false
     pub there : is_home v.future ≡ true → f.is_dropped ≡ false
+    pub closing : is_being_dropped v.future ≡ true → f.task.closed ≡ true
 
   -- where it is gone, that of the future is over
   abbrev pub TaskIs : Option (Kept T X) → Option (Future T (SoloWaker X)) → Type 0
@@ -148,7 +149,6 @@ module _ {T A : Type 0} where
   -- the one that it has to drop before it ended
   abbrev pub dropped_in : Code T A → Option ℕ
   dropped_in (Drop f Closed by) = Some f
-  dropped_in (Drop f Forgotten by) = Some f
   dropped_in _ = None
 
   -- who is called once an output is dropped

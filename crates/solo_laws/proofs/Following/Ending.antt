@@ -19,7 +19,7 @@ use Rattle.solo.specs.Cells.{Kept, choose, asked}
 use Rattle.solo.specs.Cells as cells
 use Rattle.solo.specs.Solo as solo
 use Rattle.solo.specs.Turns as turns
-use Rattle.plain_scheduler.specs.State.{Future, Lying, Choice, Plain, Code, Try, Drop as DropCode, Closed, Forgotten, Gave, Drops}
+use Rattle.plain_scheduler.specs.State.{Future, Lying, Choice, Plain, Code, Try, Drop as DropCode, Closed, Gave, Drops}
 use Rattle.plain_scheduler.specs.State.{Answers, Yes}
 use Rattle.plain_scheduler.specs.Lists.{or}
 use Rattle.plain_scheduler.specs.Moves.{task, put, appended, tell}
@@ -41,6 +41,28 @@ use Rattle.solo_laws.proofs.Following.Telling.{told}
 use Rattle.solo_laws.proofs.Following.Trying.{put_same}
 
 module _ {T A : Type 0} where
+  -- the future of a closed task is dropped
+  drops_closed : (t : AbstractTask T A) → abstract.pending_end t ≡ EndDrops → t.closed ≡ true
+  drops_closed t is = by t.closed refl t.handle t.phase t.wakers is
+    where
+      none : (b : Bool) → (if b then EndForgets else EndRests) ≡ EndDrops → ⊥
+      none true is = absurd cc
+      none false is = absurd cc
+
+      by : (b : Bool) → t.closed ≡ b → (handle : Bool) (phase : Phase) (n : ℕ)
+          → (if b then EndDrops else abstract.pending_end_of_open phase handle n) ≡ EndDrops → b ≡ true
+      by true c handle phase n is = refl
+      by false c true PollingWoken n is = absurd cc
+      by false c false PollingWoken n is = absurd cc
+      by false c true Idle n is = absurd cc
+      by false c true Queued n is = absurd cc
+      by false c true Polling n is = absurd cc
+      by false c true Finished n is = absurd cc
+      by false c false Idle n is = absurd (none (n == 0) is)
+      by false c false Queued n is = absurd (none (n == 0) is)
+      by false c false Polling n is = absurd (none (n == 0) is)
+      by false c false Finished n is = absurd (none (n == 0) is)
+
   -- what waits again is in reach
   rests_reached : (t : AbstractTask T A) → abstract.pending_end t ≡ EndRests → is_forgotten (record t { phase = Idle }) ≡ false
   rests_reached t is = by t.closed t.handle t.phase t.wakers is
@@ -93,6 +115,7 @@ module _ {T X : Type 0} (place : EntryPlace) where
     done = λ gone. absurd cc;
     reached = of.reached;
     there = λ home. absurd cc;
+    closing = λ goes. drops_closed x.task is;
   }
   left_is EndQueues v x lent is live of = record {
     task = ap (λ t. told_of (abstract.queue true t)) of.task;
@@ -102,6 +125,7 @@ module _ {T X : Type 0} (place : EntryPlace) where
     done = λ gone. absurd cc;
     reached = refl;
     there = λ home. live;
+    closing = λ goes. absurd cc;
   }
   left_is EndForgets v x lent is live of = record {
     task = ap (λ (t : AbstractTask T (SoloWaker X)). told_of (record t { phase = Finished; closed = true })) of.task;
@@ -111,6 +135,7 @@ module _ {T X : Type 0} (place : EntryPlace) where
     done = λ gone. absurd cc;
     reached = refl;
     there = λ home. absurd cc;
+    closing = λ goes. refl;
   }
   left_is EndRests v x lent is live of = record {
     task = ap (λ (t : AbstractTask T (SoloWaker X)). told_of (record t { phase = Idle })) of.task;
@@ -120,6 +145,7 @@ module _ {T X : Type 0} (place : EntryPlace) where
     done = λ gone. absurd cc;
     reached = rests_reached x.task is;
     there = λ home. live;
+    closing = λ goes. absurd cc;
   }
 
 module _ {F T X : Type 0} (name : ℕ → Task) (s : Solo F T X) (p : Plain T (SoloWaker X)) (r : Follows name s p) (c : Choice)
@@ -266,7 +292,7 @@ module _ {F T X : Type 0} (name : ℕ → Task) (s : Solo F T X) (p : Plain T (S
       (λ q. Follows name now (record q { events = q.events ++ Drops f ∷ []; inside = DropCode f Closed Try ∷ q.inside }))
       (put_same f p at infos)
       (drops_it EndDrops is (DropCode f Closed Try) refl refl refl refl)
-  ends many life EndForgets is = drops_it EndForgets is (DropCode f Forgotten Try) refl refl refl refl
+  ends many life EndForgets is = drops_it EndForgets is (DropCode f Closed Try) refl refl refl refl
   ends many life EndRests is =
       let q = after EndRests is in
       let all = back EndRests is in

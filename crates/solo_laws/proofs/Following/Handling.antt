@@ -68,6 +68,12 @@ module _ {T A : Type 0} where
   poll_done abstract.Polled.Cancelled w t is = is
   poll_done abstract.Polled.Waits w t is = is
 
+  poll_closed : (e : abstract.Polled T) (w : A) (t : AbstractTask T A) → t.closed ≡ true
+      → (abstract.poll_by e w t).task.closed ≡ true
+  poll_closed (abstract.Polled.Output v) w t is = refl
+  poll_closed abstract.Polled.Cancelled w t is = is
+  poll_closed abstract.Polled.Waits w t is = is
+
   poll_reached : (e : abstract.Polled T) (w : A) (t : AbstractTask T A) → is_forgotten t ≡ false
       → is_forgotten (abstract.poll_by e w t).task ≡ false
   poll_reached (abstract.Polled.Output v) w t is = none_of (abstract.is_idle t.phase)
@@ -85,6 +91,7 @@ module _ {T X : Type 0} where
     done = of.done;
     reached = copy_reached x.task;
     there = of.there;
+    closing = of.closing;
   }
 
   polls : (w : SoloWaker X) (v : Kept T X) (x : Future T (SoloWaker X)) → IsTaskOf v x
@@ -99,6 +106,7 @@ module _ {T X : Type 0} where
         done = λ gone. poll_done e w x.task (of.done gone);
         reached = poll_reached e w x.task of.reached;
         there = of.there;
+        closing = λ goes. poll_closed e w x.task (of.closing goes);
       }
 
   -- who awaits it after a poll is who did, or the waker of the poll

@@ -147,6 +147,7 @@ module _ {F T X : Type 0} (its : ℕ → Lent) (s : Solo F T X) (p : Plain T (So
     done = λ gone. absurd cc;
     reached = refl;
     there = λ home. refl;
+    closing = λ goes. absurd cc;
   }
 
   more : (m : ℕ) → m < n → m < length entered.futures

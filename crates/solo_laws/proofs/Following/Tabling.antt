@@ -9,7 +9,7 @@ use Rattle.solo.specs.declared.owed.Lent.{Lent}
 use Rattle.solo.specs.declared.solo.Solo.{Solo}
 use Rattle.solo.specs.Cells as cells
 use Rattle.solo.specs.Solo.{counts}
-use Rattle.plain_scheduler.specs.State.{Due, Future, Choice, Plain, Code, Event, Poll, Drop, Lose, Taker, Try, Closed, Forgotten, Gave}
+use Rattle.plain_scheduler.specs.State.{Due, Future, Choice, Plain, Code, Event, Poll, Drop, Lose, Taker, Try, Closed, Gave}
 use Rattle.plain_scheduler.specs.State.{Polls, Drops, Loses, Answers, Yes, No, Done, Pending, NoMemory, Gives, Cancelled}
 use Rattle.plain_scheduler.specs.Lists.{on, or, without}
 use Rattle.plain_scheduler.specs.Moves.{task, put, tell, becomes, chosen, looks, let_go, copied}
@@ -90,12 +90,6 @@ module _ {F T X : Type 0} (its : ℕ → Lent) where
       → IsTable its s (record p { events = events; inside = Drop f Closed by ∷ p.inside })
   one_closed s p events f by live t =
       handed s p events (Drop f Closed by ∷ p.inside) t.lent (more_of p f live (drops p.inside) t.dropping) t
-
-  pub one_forgotten : (s : Solo F T X) (p : Plain T (SoloWaker X)) (events : List (Event T (SoloWaker X))) (f : ℕ)
-      (by : Taker (SoloWaker X)) → is_dropped f p ≡ false → IsTable its s p
-      → IsTable its s (record p { events = events; inside = Drop f Forgotten by ∷ p.inside })
-  one_forgotten s p events f by live t =
-      handed s p events (Drop f Forgotten by ∷ p.inside) t.lent (more_of p f live (drops p.inside) t.dropping) t
 
   -- a run that begins has in hand a future that isn't dropped
   pub run_tabled : (c : Choice) (f : ℕ) (s : Solo F T X) (p : Plain T (SoloWaker X)) → is_dropped f p ≡ false → IsTable its s p
@@ -215,7 +209,7 @@ module _ {F T X : Type 0} (its : ℕ → Lent) where
             let new = record (task f q) { phase = abstract.Phase.Finished; closed = true } in
             let a = put f new q in
             let stays = put_still f new q in
-            one_forgotten z a (a.events ++ Drops f ∷ []) f Try (stays.dropped f ∙ live f Try rest stands_in)
+            one_closed z a (a.events ++ Drops f ∷ []) f Try (stays.dropped f ∙ live f Try rest stands_in)
             (tabled z z q a (refl, refl, refl, refl) stays now)
         by abstract.PendingEnd.Queues = goes_on
         by abstract.PendingEnd.Rests = goes_on

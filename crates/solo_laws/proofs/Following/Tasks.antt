@@ -43,6 +43,7 @@ module _ {T A : Type 0} where
         → (abstract.is_idle t.phase ≡ true) × (is_queued (h t).phase ≡ true)
     -- nobody comes to await it
     pub awaiter : (t : AbstractTask T A) (w : A) → (h t).awaiter ≡ Some w → t.awaiter ≡ Some w
+    pub closed : (t : AbstractTask T A) → t.closed ≡ true → (h t).closed ≡ true
 
   abbrev of : Phase → Bool → AbstractTask T A → AbstractTask T A
   of phase closed t = record t { phase = phase; closed = closed }
@@ -59,6 +60,7 @@ module _ {T A : Type 0} where
     queued = λ t. queued t.phase t.closed t;
     queues = λ t. told t.phase t.closed t;
     awaiter = λ t. awaiter t.phase t.closed t;
+    closed = λ t. closed t.phase t.closed t;
   }
     where
       over_by : (closed : Bool) (t : AbstractTask T A) → (if closed then t else abstract.wake_open Finished t) ≡ t
@@ -104,6 +106,11 @@ module _ {T A : Type 0} where
       queued PollingWoken false t is = is
       queued Finished false t is = is
 
+      closed : (phase : Phase) (closed : Bool) (t : AbstractTask T A) → closed ≡ true
+          → (abstract.wake (of phase closed t)).closed ≡ true
+      closed phase true t is = refl
+      closed phase false t is = absurd cc
+
       awaiter : (phase : Phase) (closed : Bool) (t : AbstractTask T A) (w : A)
           → (abstract.wake (of phase closed t)).awaiter ≡ Some w → t.awaiter ≡ Some w
       awaiter phase true t w is = is
@@ -145,6 +152,13 @@ module _ {T A : Type 0} where
     past : abstract.is_idle u.phase ≡ false → is_forgotten u ≡ false
     past is = ap (λ b. b && (not u.closed && (not u.handle && (u.wakers == 0)))) is
 
+    swept_closed : u.closed ≡ true → swept.closed ≡ true
+    swept_closed is = by (is_forgotten u)
+      where
+        by : (b : Bool) → (if b then abstract.close u else u).closed ≡ true
+        by true = refl
+        by false = is
+
     pub swept_awaiter : swept.awaiter ≡ u.awaiter
     swept_awaiter = by (is_forgotten u) (abstract.is_idle u.phase)
       where
@@ -183,8 +197,9 @@ module _ {T A : Type 0} where
   sweeps : (g : AbstractTask T A → AbstractTask T A) → ((t : AbstractTask T A) → IsOver t → g t ≡ t)
       → ((t : AbstractTask T A) → (g t).phase ≡ t.phase) → ((t : AbstractTask T A) → (g t).infos ≡ t.infos)
       → ((t : AbstractTask T A) → is_done t ≡ true → is_done (g t) ≡ true) → ((t : AbstractTask T A) → (g t).awaiter ≡ t.awaiter)
+      → ((t : AbstractTask T A) → t.closed ≡ true → (g t).closed ≡ true)
       → IsChange (λ t. abstract.close_forgotten (g t))
-  sweeps g over phase infos done waits = record {
+  sweeps g over phase infos done waits closed = record {
     over = λ t is. ap (λ u. abstract.close_forgotten u) (over t is) ∙ busy t (past t (ap (λ p. abstract.is_idle p) is.phase));
     idle = λ t is. subst (λ p. abstract.is_idle p ≡ true) (phase t) (swept_idle (g t) is);
     done = λ t is.
@@ -201,19 +216,20 @@ module _ {T A : Type 0} where
         let two = swept_queues (g t) t (infos t) is in
         (subst (λ p. abstract.is_idle p ≡ true) (phase t) two.0, two.1);
     awaiter = λ t w is. sym (waits t) ∙ (sym (swept_awaiter (g t)) ∙ is);
+    closed = λ t is. swept_closed (g t) (closed t is);
   }
 
   pub releases : IsChange abstract.release
   releases = sweeps (λ t. record t { wakers = t.wakers - 1 })
       (λ t is. ap (λ n. record t { wakers = n }) (less t.wakers is.wakers))
-      (λ t. refl) (λ t. refl) (λ t is. is) (λ t. refl)
+      (λ t. refl) (λ t. refl) (λ t is. is) (λ t. refl) (λ t is. is)
     where
       less : (n : ℕ) → n ≡ 0 → n - 1 ≡ n
       less n is = omega (arith, is)
 
   pub detaches : IsChange (λ t. (abstract.detach t).task)
   detaches = sweeps (λ t. record t { handle = false; closed = t.closed || is_some t.output; output = None }) over
-      (λ t. refl) (λ t. refl) done (λ t. refl)
+      (λ t. refl) (λ t. refl) done (λ t. refl) (λ t is. ap (λ b. b || is_some t.output) is)
     where
       over : (t : AbstractTask T A) → IsOver t
           → record t { handle = false; closed = t.closed || is_some t.output; output = None } ≡ t
@@ -241,6 +257,7 @@ module _ {T A : Type 0} where
     queued = λ t is. releases.queued (abstract.wake t) (wakes.queued t is);
     queues = λ t. told t.phase t.closed t;
     awaiter = λ t w is. wakes.awaiter t w (releases.awaiter (abstract.wake t) w is);
+    closed = λ t is. releases.closed (abstract.wake t) (wakes.closed t is);
   }
     where
       told : (phase : Phase) (closed : Bool) (t : AbstractTask T A)
@@ -265,6 +282,7 @@ module _ {T A : Type 0} where
     queued = λ t. queued t.phase t.closed t;
     queues = λ t. told t.phase t.closed t;
     awaiter = λ t. awaiter t.phase t.closed t;
+    closed = λ t. closed t.phase t.closed t;
   }
     where
       over_by : (closed : Bool) (t : AbstractTask T A) → cancelled (of Finished closed t) ≡ of Finished closed t
@@ -311,6 +329,11 @@ module _ {T A : Type 0} where
       queued Polling false t is = is
       queued PollingWoken false t is = is
       queued Finished false t is = is
+
+      closed : (phase : Phase) (closed : Bool) (t : AbstractTask T A) → closed ≡ true
+          → (cancelled (of phase closed t)).closed ≡ true
+      closed phase true t is = refl
+      closed phase false t is = absurd cc
 
       awaiter : (phase : Phase) (closed : Bool) (t : AbstractTask T A) (w : A)
           → (cancelled (of phase closed t)).awaiter ≡ Some w → t.awaiter ≡ Some w

@@ -61,6 +61,13 @@ module _ {T A : Type 0} where
       by true = is
       by false = is
 
+  begun_closed : (t : AbstractTask T A) → t.closed ≡ true → (abstract.begin_run t).closed ≡ true
+  begun_closed t is = by t.closed
+    where
+      by : (b : Bool) → (if b then t else record t { phase = abstract.Phase.Polling }).closed ≡ true
+      by true = is
+      by false = is
+
   begun_awaiter : (t : AbstractTask T A) → (abstract.begin_run t).awaiter ≡ t.awaiter
   begun_awaiter t = by t.closed
     where
@@ -104,6 +111,10 @@ not_home : (P : Type 0) (b : Bool) → is_home (local.started {F = P} b) ≡ tru
 not_home P true is = absurd cc
 not_home P false is = absurd cc
 
+is_closing : (P : Type 0) (b : Bool) → is_dropping (local.started {F = P} b) ≡ true → b ≡ true
+is_closing P true is = refl
+is_closing P false is = absurd cc
+
 module _ {T X : Type 0} where
   -- a task that is ready is begun
   started_is : (v : Kept T X) (x : Future T (SoloWaker X)) → IsTaskOf v x → cells.may_start v ≡ true
@@ -123,6 +134,8 @@ module _ {T X : Type 0} where
         done = λ gone. absurd (not_gone EntryPlace v.task.closed gone);
         reached = still_reached x.task of.reached;
         there = λ home. absurd (not_home EntryPlace v.task.closed home);
+        closing = λ goes. begun_closed x.task (sym (ap (λ (t : AbstractTask T (SoloWaker X)). t.closed) of.task)
+            ∙ is_closing EntryPlace v.task.closed goes);
       })
 
 module _ {F T X : Type 0} (name : ℕ → Task) where

@@ -92,6 +92,7 @@ module _ {T X : Type 0} where
     done = λ gone. is.done x.task (of.done gone);
     reached = is.reached x.task of.reached;
     there = of.there;
+    closing = λ goes. is.closed x.task (of.closing goes);
   }
 
   -- g is that change, and q whether it queues the task

@@ -5,7 +5,7 @@ use Rattle.executor_parts.specs.declared.mark.Mark.{Mark}
 use Rattle.executor_parts.specs.declared.mark.Mark.TheVariants.{Plain as PlainMark, Urgent}
 use Rattle.task_moves.specs.AbstractTask as abstract
 use Rattle.task_moves.specs.AbstractTask.{AbstractTask}
-use Rattle.plain_scheduler.specs.State.{Future, ATick, ARun, Taker, Try, Tick, Run, Closed, Forgotten, Gave, Code, Poll, Drop}
+use Rattle.plain_scheduler.specs.State.{Future, ATick, ARun, Taker, Try, Tick, Run, Closed, Gave, Code, Poll, Drop}
 use Rattle.plain_scheduler.specs.State.{Lose, PollOwn, DropOwn, Close, Drops, Made, Full, NoMemory, Yes, No, Pending, Ready}
 use Rattle.plain_scheduler.specs.State.{Gives, Cancelled, Finished, Done, Refusal, Granted, Choice, Plain}
 use Rattle.plain_scheduler.specs.Lists.{repeat, each, on, or}
@@ -135,7 +135,7 @@ module _ {T A : Type 0} (wakes : A → Option ℕ) (c : Choice) where
   abbrev pub pending_by : abstract.PendingEnd → ℕ → Taker A → Plain T A → Plain T A
   pending_by abstract.PendingEnd.Drops f by p = takes.dropping wakes c f Closed by p
   pending_by abstract.PendingEnd.Forgets f by p =
-      takes.dropping wakes c f Forgotten by (put f (record (task f p) { phase = abstract.Phase.Finished; closed = true }) p)
+      takes.dropping wakes c f Closed by (put f (record (task f p) { phase = abstract.Phase.Finished; closed = true }) p)
   pending_by _ f by p = takes.next wakes c by (becomes f (abstract.end_pending (task f p)).task p)
 
   abbrev pub pends : Code T A → Plain T A → Plain T A

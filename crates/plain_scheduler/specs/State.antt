@@ -36,10 +36,9 @@ pub data Taker (A : Type 0) : Type 0 where
   Tick : ℕ → A → Taker A
   Run : ℕ → A → Taker A
 
--- why a future is dropped: its task is closed, nobody can reach it, or it gave its output
+-- why a future is dropped: its task is closed, or it gave its output
 pub data End (T : Type 0) : Type 0 where
   Closed : End T
-  Forgotten : End T
   Gave : T → End T
 
 pub data Answer (T : Type 0) : Type 0 where

@@ -2,7 +2,8 @@
 use Rattle.std.specs.Prelude.{ℕ, ◌+◌, ◌==◌, nat_lt, true, if◌then◌else◌, [], ◌∷◌, ◌++◌, map, slice_get, find, Option, Some}
 use Rattle.task_moves.specs.AbstractTask as abstract
 use Rattle.task_moves.specs.AbstractTask.{AbstractTask, Left}
-use Rattle.plain_scheduler.specs.State.{Due, Who, ATick, ARun, Taker, Try, Tick, Run, End, Closed, Forgotten, Gave, Poll, Drop}
+use Rattle.task_moves.specs.LocalTask.{finish}
+use Rattle.plain_scheduler.specs.State.{Due, Who, ATick, ARun, Taker, Try, Tick, Run, End, Closed, Gave, Poll, Drop}
 use Rattle.plain_scheduler.specs.State.{Lose}
 use Rattle.plain_scheduler.specs.State.{Polls, Drops, Loses, Calls, Yes, No, Pending, Ready, NoMemory, Done, Refusal, Granted}
 use Rattle.plain_scheduler.specs.State.{AtOnce, Later}
@@ -99,9 +100,9 @@ module _ {T A : Type 0} (wakes : A → Option ℕ) (c : Choice) where
   abbrev pub given_up : ℕ → Plain T A → Plain T A
   given_up f p = if p.is_static then p else moves.release wakes tell f p
 
+  -- who awaits a task is called, but one that nobody can reach is awaited by nobody
   abbrev pub left_by : End T → AbstractTask T A → Left T A
-  left_by Closed t = abstract.settle_closed t
-  left_by Forgotten t = abstract.forget t
+  left_by Closed t = finish t
   left_by (Gave v) t = abstract.end_ready v t
 
   abbrev pub dropped : ℕ → End T → Taker A → Plain T A → Plain T A

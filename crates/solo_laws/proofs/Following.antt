@@ -17,5 +17,14 @@ pub mod Waking
 pub mod Taking
 pub mod Trying
 pub mod Handling
+pub mod Lives
+pub mod Frames
+pub mod Calling
+pub mod Bases
+pub mod Tabling
+pub mod Both
+pub mod Adding
+pub mod Spawning
+pub mod Refusing
 pub mod Ending
 pub mod Beginning

@@ -7,4 +7,6 @@ pub mod Outputs
 pub mod Looks
 pub mod Rooms
 pub mod Road
+pub mod Tabled
 pub mod Alike
+pub mod Spawning

@@ -12,13 +12,13 @@ use Rattle.solo.specs.declared.names.SoloWaker.TheVariants.{Task as OfTask, Outs
 use Rattle.solo.specs.declared.cells.Cells.{Cells}
 use Rattle.solo.specs.declared.solo.Solo.{Solo}
 use Rattle.solo.specs.Cells.{Kept, asked, may_start, is_lent, is_dropping}
-use Rattle.task_moves.specs.LocalTask.{is_home, is_gone}
+use Rattle.task_moves.specs.LocalTask.{is_home, is_gone, is_dropping as is_being_dropped}
 use Rattle.plain_scheduler.specs.Calls.{living_from}
 use Rattle.executor_parts.specs.Marks.{other}
 use Rattle.solo.specs.Lines.{LinesValue, line_of, mark_of_turn, searched, search_answer}
-use Rattle.plain_scheduler.specs.State.{Due, Future, Lying, Code, Poll, Drop, Closed, Forgotten, Gave, Plain}
+use Rattle.plain_scheduler.specs.State.{Due, Future, Lying, Code, Poll, Drop, Lose, Closed, Gave, Plain}
 use Rattle.plain_scheduler.specs.Lists.{any, without}
-use Rattle.plain_scheduler.specs.Moves.{is_common, is_called, chosen}
+use Rattle.plain_scheduler.specs.Moves.{is_common, is_called, chosen, task}
 
 module _ {X : Type 0} where
   -- which future a waker wakes: tasks are numbered as futures are
@@ -69,7 +69,8 @@ module _ {T X : Type 0} where
     pub idle : abstract.is_idle f.task.phase ≡ true → is_home v.future ≡ true
     pub done : is_gone v.future ≡ true → is_done f.task ≡ true
     pub reached : is_forgotten f.task ≡ false
-    pub there : is_gone v.future ≡ false → f.is_dropped ≡ false
+    pub there : is_home v.future ≡ true → f.is_dropped ≡ false
+    pub closing : is_being_dropped v.future ≡ true → f.task.closed ≡ true
 
   -- where it is gone, that of the future is over
   abbrev pub TaskIs : Option (Kept T X) → Option (Future T (SoloWaker X)) → Type 0
@@ -93,6 +94,10 @@ abbrev pub tests : Mark → List (Due → Bool)
 tests m = is_common m ∷ is_common (other m) ∷ []
 
 module _ (name : ℕ → Task) where
+  -- the name of one of so many futures
+  abbrev pub IsNamed : ℕ → Task → Type 0
+  IsNamed many t = (t.number < many) × (name t.number ≡ t)
+
   abbrev pub name_of : Option Due → Option Task
   name_of None = None
   name_of (Some d) = Some (name d.future)
@@ -119,7 +124,7 @@ pub record IsAsleep {X : Type 0} (name : ℕ → Task) (many : ℕ) (s : Sleeper
   pub wakers : map (λ e. e.1) s.wakers ≡ wakers_in lying
   pub count : s.count ≡ length lying
   pub flag : notified ≡ is_told lying
-  pub callers : (at : ℕ) (t : Task) → slice_get (wakers_in lying) at ≡ Some (OfTask t) → (t.number < many) × (name t.number ≡ t)
+  pub callers : (at : ℕ) (t : Task) → slice_get (wakers_in lying) at ≡ Some (OfTask t) → IsNamed name many t
 
 -- what is due, and one that was taken, if one was
 abbrev pub beside : Option Due → List Due → List Due
@@ -144,8 +149,12 @@ module _ {T A : Type 0} where
   -- the one that it has to drop before it ended
   abbrev pub dropped_in : Code T A → Option ℕ
   dropped_in (Drop f Closed by) = Some f
-  dropped_in (Drop f Forgotten by) = Some f
   dropped_in _ = None
+
+  -- who is called once an output is dropped
+  abbrev pub awaiter_in : Code T A → Option A
+  awaiter_in (Lose awaiter by) = awaiter
+  awaiter_in _ = None
 
   abbrev pub lents : List (Code T A) → List ℕ
   lents [] = []
@@ -155,13 +164,18 @@ module _ {T A : Type 0} where
   drops [] = []
   drops (c ∷ cs) = first_if (dropped_in c) (drops cs)
 
--- what users' codes have in hand is out of the executor, each once
+  abbrev pub awaiters : List (Code T A) → List A
+  awaiters [] = []
+  awaiters (c ∷ cs) = first_if (awaiter_in c) (awaiters cs)
+
+-- what users' codes have in hand is out of the executor, each once; a task's waker that is called after them is one of these many
 pub record IsInside {T X : Type 0} (name : ℕ → Task) (many : ℕ) (s : Cells T X)
     (inside : List (Code T (SoloWaker X))) : Type 0 where
   pub lent : (f : ℕ) → is_in f (lents inside) ≡ true → (f < many) × (asked is_lent false (name f) s ≡ true)
   pub dropping : (f : ℕ) → is_in f (drops inside) ≡ true → (f < many) × (asked is_dropping false (name f) s ≡ true)
   pub lent_once : apart (lents inside) ≡ true
   pub dropping_once : apart (drops inside) ≡ true
+  pub callers : (at : ℕ) (t : Task) → slice_get (awaiters inside) at ≡ Some (OfTask t) → IsNamed name many t
 
 -- by the names that futures have in the executor, of which each has one of its own
 pub record FollowsBut {F T X : Type 0} (aside : Option Due) (name : ℕ → Task) (s : Solo F T X)
@@ -175,6 +189,8 @@ pub record FollowsBut {F T X : Type 0} (aside : Option Due) (name : ℕ → Task
   pub ready : (f : ℕ) → stands f (beside aside p.due) ≡ true → (f < length p.futures) ×
       (asked may_start false (name f) s.cells ≡ true)
   pub asleep : IsAsleep name (length p.futures) s.sleepers s.notified p.lying
+  -- a task's waker that awaits a task is one of theirs
+  pub awaiters : (f : ℕ) (t : Task) → (task f p).awaiter ≡ Some (OfTask t) → IsNamed name (length p.futures) t
   pub inside : IsInside name (length p.futures) s.cells p.inside
 
 abbrev pub Follows : {F T X : Type 0} → (ℕ → Task) → Solo F T X → Plain T (SoloWaker X) → Type 0

@@ -1,74 +1,96 @@
 //! What an executor of one owner has in common with the plain scheduler.
-ghost use Rattle.std.specs.Prelude.{ℕ, List, Bool};
+ghost use Rattle.std.specs.Prelude.{◌≡◌, ℕ, List, Bool, not};
 ghost use Rattle.solo.specs.Lines.{LinesValue};
-ghost use Rattle.solo.specs.Solo.{IsNew};
+ghost use Rattle.solo.specs.Solo.{IsNew, counts};
 ghost use Rattle.solo.specs.declared.names.Kind.{Kind};
 ghost use Rattle.solo.specs.declared.names.SoloWaker.{SoloWaker};
 ghost use Rattle.solo.specs.declared.names.Task.{Task};
+ghost use Rattle.solo.specs.declared.owed.Lent.{Lent};
 ghost use Rattle.solo.specs.declared.solo.Solo.{Solo};
 ghost use Rattle.plain_scheduler.specs.Calls.{new};
 ghost use Rattle.plain_scheduler.specs.State.{Due, Plain};
 ghost use Rattle.solo_laws.specs.Alike.{TakesAlike, WakesAlike, ReleasesAlike, UsesAlike, CancelsAlike, CopiesAlike};
-ghost use Rattle.solo_laws.specs.Alike.{PollsAlike, PendsAlike, GivesAlike, DetachesAlike};
-ghost use Rattle.solo_laws.specs.Road.{Follows, Lined, SearchesAlike};
+ghost use Rattle.solo_laws.specs.Alike.{HandlesAlike, HandleDropsAlike, PendsAlike, GivesAlike, DetachesAlike};
+ghost use Rattle.solo_laws.specs.Road.{Lined, SearchesAlike};
+ghost use Rattle.solo_laws.specs.Spawning.{SpawnsAlike, RefusesAlike, EmptyAlike};
+ghost use Rattle.solo_laws.specs.Tabled.{Stands, named};
 
 /// A new executor stands where the new plain scheduler does.
 pub fn both_begin_alike<F, T, X>()
-    ensures { (name : ℕ → Task) (limit : ℕ) (kind : Kind) (is_static : Bool) (s : Solo F T X) → IsNew limit kind s
-        → Follows name s (new limit is_static) }
+    ensures { (its : ℕ → Lent) (limit : ℕ) (kind : Kind) (is_static : Bool) (s : Solo F T X) → IsNew limit kind s
+        → counts kind ≡ not is_static → Stands its s (new limit is_static) }
 {}
 
 /// As long as the two queues are what is due without a keeper, by marks and in order, a search of them finds what the plain
-/// scheduler
-/// takes where it looks first at the mark that the turn names; and the queues are again what is due.
+/// scheduler takes where it looks first at the mark that the turn names; and the queues are again what is due.
 pub fn a_search_takes_what_is_due()
     ensures { (name : ℕ → Task) (lines : LinesValue) (due : List Due) → Lined name lines due → SearchesAlike name lines due }
 {}
 
 /// Where both stand alike, a take leaves them alike: it is a try of the plain scheduler. Here and below the plain scheduler tells
-/// who
-/// lay down last, and fewer tasks came into a queue than it accepts in its life.
+/// who lay down last, and fewer tasks came into a queue than it accepts in its life.
 pub fn a_take_is_a_try<F, T, X>()
-    ensures { (name : ℕ → Task) (s : Solo F T X) (p : Plain T (SoloWaker X)) → Follows name s p → TakesAlike name s p }
+    ensures { (its : ℕ → Lent) (s : Solo F T X) (p : Plain T (SoloWaker X)) → Stands its s p → TakesAlike (named its) (Stands its) s p }
 {}
 
 /// And so does a wake.
 pub fn a_wake_is_a_wake<F, T, X>()
-    ensures { (name : ℕ → Task) (s : Solo F T X) (p : Plain T (SoloWaker X)) → Follows name s p → WakesAlike name s p }
+    ensures { (its : ℕ → Lent) (s : Solo F T X) (p : Plain T (SoloWaker X)) → Stands its s p → WakesAlike (named its) (Stands its) s p }
 {}
 
 /// So does the drop of a task's waker, and a wake by one that then goes.
 pub fn a_waker_goes_alike<F, T, X>()
-    ensures { (name : ℕ → Task) (s : Solo F T X) (p : Plain T (SoloWaker X)) → Follows name s p
-        → ReleasesAlike name s p × UsesAlike name s p }
+    ensures { (its : ℕ → Lent) (s : Solo F T X) (p : Plain T (SoloWaker X)) → Stands its s p
+        → ReleasesAlike (named its) (Stands its) s p × UsesAlike (named its) (Stands its) s p }
 {}
 
-/// So does a cancel, up to the call of who awaited the task.
+/// So does a cancel, with the call of who awaited the task.
 pub fn a_cancel_is_a_cancel<F, T, X>()
-    ensures { (name : ℕ → Task) (s : Solo F T X) (p : Plain T (SoloWaker X)) → Follows name s p → CancelsAlike name s p }
+    ensures { (its : ℕ → Lent) (s : Solo F T X) (p : Plain T (SoloWaker X)) → Stands its s p → CancelsAlike (named its) (Stands its) s p }
 {}
 
 /// So does a detach: an output that was kept is dropped.
 pub fn a_detach_is_a_detach<F, T, X>()
-    ensures { (name : ℕ → Task) (s : Solo F T X) (p : Plain T (SoloWaker X)) → Follows name s p → DetachesAlike name s p }
+    ensures { (its : ℕ → Lent) (s : Solo F T X) (p : Plain T (SoloWaker X)) → Stands its s p → DetachesAlike (named its) (Stands its) s p }
 {}
 
 /// So does a copy of a task's waker, also one that is refused.
 pub fn a_copy_is_a_copy<F, T, X>()
-    ensures { (name : ℕ → Task) (s : Solo F T X) (p : Plain T (SoloWaker X)) → Follows name s p → CopiesAlike name s p }
+    ensures { (its : ℕ → Lent) (s : Solo F T X) (p : Plain T (SoloWaker X)) → Stands its s p → CopiesAlike (named its) (Stands its) s p }
 {}
 
-/// So does what a poll of a handle does to its task.
+/// So does a poll of a handle: with a copy of its waker where it has to wait and the copy isn't refused, and the drop of the waker
+/// that was left before.
 pub fn a_handle_is_polled_alike<F, T, X>()
-    ensures { (name : ℕ → Task) (s : Solo F T X) (p : Plain T (SoloWaker X)) → Follows name s p → PollsAlike name s p }
+    ensures { (its : ℕ → Lent) (s : Solo F T X) (p : Plain T (SoloWaker X)) → Stands its s p → HandlesAlike (named its) (Stands its) s p }
+{}
+
+/// So does the drop of a handle, which cancels and detaches its task.
+pub fn a_handle_goes_alike<F, T, X>()
+    ensures { (its : ℕ → Lent) (s : Solo F T X) (p : Plain T (SoloWaker X)) → Stands its s p → HandleDropsAlike (named its) (Stands its) s p }
 {}
 
 /// So does the end of a poll that gave no output: the future waits, or is queued again, or is to be dropped.
 pub fn a_poll_ends_alike<F, T, X>()
-    ensures { (name : ℕ → Task) (s : Solo F T X) (p : Plain T (SoloWaker X)) → Follows name s p → PendsAlike name s p }
+    ensures { (its : ℕ → Lent) (s : Solo F T X) (p : Plain T (SoloWaker X)) → Stands its s p → PendsAlike (named its) (Stands its) s p }
 {}
 
 /// And one that gave an output is nothing to the executor until its future is dropped.
 pub fn a_poll_gives_alike<F, T, X>()
-    ensures { (name : ℕ → Task) (s : Solo F T X) (p : Plain T (SoloWaker X)) → Follows name s p → GivesAlike name s p }
+    ensures { (its : ℕ → Lent) (s : Solo F T X) (p : Plain T (SoloWaker X)) → Stands its s p → GivesAlike (named its) (Stands its) s p }
+{}
+
+/// A spawn that isn't refused is one of the plain scheduler: its future has the next number, and comes last in the table.
+pub fn a_spawn_is_a_spawn<F, T, X>()
+    ensures { (its : ℕ → Lent) (s : Solo F T X) (p : Plain T (SoloWaker X)) → Stands its s p → SpawnsAlike its s p }
+{}
+
+/// One that is refused is refused by the plain scheduler: `Full` exactly where that says so.
+pub fn a_refused_spawn_is_refused<F, T, X>()
+    ensures { (its : ℕ → Lent) (s : Solo F T X) (p : Plain T (SoloWaker X)) → Stands its s p → RefusesAlike its s p }
+{}
+
+/// And both say alike whether they are empty.
+pub fn both_say_whether_empty<F, T, X>()
+    ensures { (its : ℕ → Lent) (s : Solo F T X) (p : Plain T (SoloWaker X)) → Stands its s p → EmptyAlike its s p }
 {}

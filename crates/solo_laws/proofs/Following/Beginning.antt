@@ -1,16 +1,19 @@
 -- A new executor stands where the new plain scheduler does.
-use Rattle.std.proofs.Common.{◌≡◌, ℕ, Bool, false, Some, [], map, refl, ap, ◌∙◌, arith}
+use Rattle.std.proofs.Common.{◌≡◌, ℕ, Bool, false, not, Some, [], map, refl, ap, ◌∙◌, arith}
 use Rattle.executor_parts.specs.Sleepers.{Sleepers}
 use Rattle.executor_parts.specs.declared.mark.Mark.{Mark}
 use Rattle.executor_parts.specs.declared.mark.Mark.TheVariants.{Plain as PlainMark, Urgent}
 use Rattle.solo.specs.declared.names.Kind.{Kind}
 use Rattle.solo.specs.declared.names.Task.{Task}
 use Rattle.solo.specs.declared.names.SoloWaker.{SoloWaker}
+use Rattle.solo.specs.declared.owed.Lent.{Lent}
 use Rattle.solo.specs.declared.solo.Solo.{Solo}
+use Rattle.solo.specs.Table.{TableValue}
 use Rattle.solo.specs.Lines.{line_of, new_lines}
 use Rattle.solo.specs.Solo as solo
 use Rattle.plain_scheduler.specs.Calls.{new}
 use Rattle.solo_laws.specs.Road.{Follows}
+use Rattle.solo_laws.specs.Tabled.{Stands, named, row}
 
 module _ {F T X : Type 0} (name : ℕ → Task) where
   pub begins : (limit : ℕ) (kind : Kind) (is_static : Bool) (s : Solo F T X) → solo.IsNew limit kind s
@@ -32,11 +35,13 @@ module _ {F T X : Type 0} (name : ℕ → Task) where
       flag = fresh.notified;
       callers = λ at t is. absurd cc;
     };
+    awaiters = λ f t is. absurd cc;
     inside = record {
       lent = λ f has. absurd cc;
       dropping = λ f has. absurd cc;
       lent_once = refl;
       dropping_once = refl;
+      callers = λ at t is. absurd cc;
     };
   }
     where
@@ -51,3 +56,19 @@ module _ {F T X : Type 0} (name : ℕ → Task) where
       long : (mark : Mark) → (line_of mark (new_lines limit)).capacity ≡ Some limit
       long PlainMark = refl
       long Urgent = refl
+
+module _ {F T X : Type 0} (its : ℕ → Lent) where
+  pub both_begin : (limit : ℕ) (kind : Kind) (is_static : Bool) (s : Solo F T X) → solo.IsNew limit kind s
+      → solo.counts kind ≡ not is_static → Stands its s (new limit is_static)
+  both_begin limit kind is_static s fresh counted = (
+    begins (named its) limit kind is_static s fresh,
+    record {
+      rows = ap (λ (t : TableValue F). map row t.entries) fresh.table;
+      keys_apart = refl;
+      limit = ap (λ (t : TableValue F). t.limit) fresh.table;
+      accepted = fresh.accepted;
+      kind = ap solo.counts fresh.kind_of ∙ counted;
+      lent = λ f has. absurd cc;
+      dropping = λ f has. absurd cc;
+    },
+  )

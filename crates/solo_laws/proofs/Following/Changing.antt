@@ -7,6 +7,7 @@ use Rattle.task_moves.specs.AbstractTask.{AbstractTask}
 use Rattle.task_moves.specs.LocalTask.{told}
 use Rattle.solo.specs.declared.names.Task.{Task}
 use Rattle.solo.specs.declared.names.SoloWaker.{SoloWaker}
+use Rattle.solo.specs.declared.names.SoloWaker.TheVariants.{Task as OfTask}
 use Rattle.solo.specs.declared.solo.Solo.{Solo}
 use Rattle.solo.specs.Cells.{Kept, choose, asked}
 use Rattle.solo.specs.Cells as cells
@@ -14,7 +15,7 @@ use Rattle.solo.specs.Turns as turns
 use Rattle.plain_scheduler.specs.State.{Due, Future, Plain}
 use Rattle.plain_scheduler.specs.Lists.{on, or}
 use Rattle.plain_scheduler.specs.Moves.{put, task, mark, appended, no_task}
-use Rattle.solo_laws.specs.Road.{IsTaskOf, TaskIs, IsOver, IsAsleep, FollowsBut, beside, stands, once, is_in, lents}
+use Rattle.solo_laws.specs.Road.{IsTaskOf, TaskIs, IsOver, IsAsleep, IsNamed, FollowsBut, beside, stands, once, is_in, lents}
 use Rattle.solo_laws.specs.Road.{drops}
 use Rattle.solo_laws.proofs.Following.Due.{living_set, once_last, stands_last, beside_last}
 use Rattle.solo_laws.proofs.Following.Lists.{set_same, set_other, get_below, length_set}
@@ -45,6 +46,11 @@ module _ {T X : Type 0} (g : Kept T X → Kept T X) (h : AbstractTask T (SoloWak
   here_is None x t over goes same is = over refl (subst IsOver (sym same) is)
   here_is (Some v) x t over goes same is =
       subst (λ t. IsTaskOf (g v) (record x { task = told (h t) })) (sym same) (goes v refl is)
+
+-- a task's waker that awaits the task after a change is one of theirs
+abbrev pub Awaits : {T X : Type 0} → (ℕ → Task) → (AbstractTask T (SoloWaker X) → AbstractTask T (SoloWaker X)) → ℕ
+    → Plain T (SoloWaker X) → Type 0
+Awaits name h f p = (t : Task) → (h (task f p)).awaiter ≡ Some (OfTask t) → IsNamed name (length p.futures) t
 
 back : (f j : ℕ) (test : ℕ → Bool) → (f == j) ≡ true → test j ≡ true → test f ≡ true
 back f j test same is = subst (λ n. test n ≡ true) (sym (same_number f j same)) is
@@ -106,6 +112,21 @@ module _ {F T X : Type 0} (aside : Option Due) (name : ℕ → Task) where
         (sym (found_there g (name f) (name j) apart s.cells))
         (r.tasks j below))
 
+    awaiters_by : (s : Solo F T X) (p : Plain T (SoloWaker X)) → FollowsBut aside name s p → (f : ℕ) → Awaits name h f p
+        → (x : Future T (SoloWaker X)) (b : Bool) (j : ℕ) → f < length p.futures → slice_get p.futures f ≡ Some x → (f == j) ≡ b
+        → (t : Task)
+        → (task j (record p { futures = slice_set p.futures f (record x { task = told (h (task f p)) }) })).awaiter ≡ Some (OfTask t)
+        → IsNamed name (length p.futures) t
+    awaiters_by s p r f awaits x true j at is same t has =
+        let new : Future T (SoloWaker X) = record x { task = told (h (task f p)) } in
+        let here : slice_get (slice_set p.futures f new) j ≡ Some new =
+        ap (slice_get (slice_set p.futures f new)) (sym (same_number f j same)) ∙ set_same p.futures f new x is in
+        awaits t (sym (ap (λ t. t.awaiter) (task_is j (record p { futures = slice_set p.futures f new }) new here)) ∙ has)
+    awaiters_by s p r f awaits x false j at is same t has =
+        let new : Future T (SoloWaker X) = record x { task = told (h (task f p)) } in
+        r.awaiters j t (sym (ap (λ (o : Option (Future T (SoloWaker X))). (or o (λ future. future.task) no_task).awaiter)
+        (set_other p.futures f j new same)) ∙ has)
+
     -- what is so of a task stays so
     still_by : (s : Solo F T X) (p : Plain T (SoloWaker X)) → FollowsBut aside name s p
         → (f : ℕ) (q : Kept T X → Bool) (b : Bool) (j : ℕ)
@@ -129,9 +150,9 @@ module _ {F T X : Type 0} (aside : Option Due) (name : ℕ → Task) where
 
     -- the task of a future is changed in both
     pub turned : (f : ℕ) (s : Solo F T X) (p : Plain T (SoloWaker X)) → f < length p.futures → StaysOver f s p → Goes f s p
-        → FollowsBut aside name s p
+        → Awaits name h f p → FollowsBut aside name s p
         → FollowsBut aside name (turns.turned g (name f) s) (put f (h (task f p)) p)
-    turned f s p at over goes r =
+    turned f s p at over goes awaits r =
         let x = get_below p.futures f at in
         let new : Future T (SoloWaker X) = record x.0 { task = told (h (task f p)) } in
         let now : List (Future T (SoloWaker X)) = slice_set p.futures f new in
@@ -151,6 +172,7 @@ module _ {F T X : Type 0} (aside : Option Due) (name : ℕ → Task) where
                     (back f j (λ n. stands n (beside aside p.due)) same due)) can.1,
               );
           asleep = subst (λ n. IsAsleep name n s.sleepers s.notified p.lying) (sym long) r.asleep;
+          awaiters = λ j t is. subst (λ n. IsNamed name n t) (sym long) (awaiters_by s p r f awaits x.0 (f == j) j at x.1 refl t is);
           inside = record {
             lent = λ j has.
                 let can = r.inside.lent j has in (
@@ -168,6 +190,7 @@ module _ {F T X : Type 0} (aside : Option Due) (name : ℕ → Task) where
                 );
             lent_once = r.inside.lent_once;
             dropping_once = r.inside.dropping_once;
+            callers = λ i t is. subst (λ n. IsNamed name n t) (sym long) (r.inside.callers i t is);
           };
         })
 
@@ -197,6 +220,7 @@ module _ {F T X : Type 0} (aside : Option Due) (name : ℕ → Task) where
             by (j == f) j
             (sym (ap (stands j) (beside_last aside p.due (lines.last name p.due f (turns.mark_of (name f) s)))) ∙ due) refl;
         asleep = r.asleep;
+        awaiters = r.awaiters;
         inside = r.inside;
       })
     where

@@ -1,6 +1,6 @@
 -- The end of a poll is that of the plain scheduler.
 use Rattle.std.proofs.Common.{◌≡◌, ℕ, ◌<◌, ◌≤◌, ◌==◌, cond, ◌&&◌, not, if◌then◌else◌, Bool, true, false, List, [], ◌∷◌, ◌++◌}
-use Rattle.std.proofs.Common.{length, Some, None}
+use Rattle.std.proofs.Common.{length, Option, Some, None}
 use Rattle.std.proofs.Common.{slice_get, is_some, refl, sym, ap, subst, ◌∙◌}
 use Rattle.executor_parts.specs.declared.places.EntryPlace.{EntryPlace}
 use Rattle.task_moves.specs.AbstractTask as abstract
@@ -11,6 +11,7 @@ use Rattle.task_moves.specs.LocalTask as local
 use Rattle.task_moves.specs.LocalTask.{told as told_of, info_of, info_from, is_home, is_queued, is_gone}
 use Rattle.solo.specs.declared.names.Task.{Task}
 use Rattle.solo.specs.declared.names.SoloWaker.{SoloWaker}
+use Rattle.solo.specs.declared.names.SoloWaker.TheVariants.{Task as OfTask}
 use Rattle.solo.specs.declared.owed.Lent.{Lent}
 use Rattle.solo.specs.declared.cells.After.TheVariants.{Unknown}
 use Rattle.solo.specs.declared.solo.Solo.{Solo}
@@ -18,16 +19,18 @@ use Rattle.solo.specs.Cells.{Kept, choose, asked}
 use Rattle.solo.specs.Cells as cells
 use Rattle.solo.specs.Solo as solo
 use Rattle.solo.specs.Turns as turns
-use Rattle.plain_scheduler.specs.State.{Future, Lying, Choice, Plain, Code, Try, Drop as DropCode, Closed, Forgotten, Gave, Drops}
+use Rattle.plain_scheduler.specs.State.{Future, Lying, Choice, Plain, Code, Try, Drop as DropCode, Closed, Gave, Drops}
 use Rattle.plain_scheduler.specs.State.{Answers, Yes}
+use Rattle.plain_scheduler.specs.Lists.{or}
 use Rattle.plain_scheduler.specs.Moves.{task, put, appended, tell}
 use Rattle.plain_scheduler.specs.Calls as calls
 use Rattle.solo_laws.specs.Alike.{PendsAlike, GivesAlike}
-use Rattle.solo_laws.specs.Road.{IsTaskOf, Follows, HasLife, IsInside, apart, is_forgotten, stands, is_in, lents, drops}
+use Rattle.solo_laws.specs.Tabled.{is_dropped}
+use Rattle.solo_laws.specs.Road.{IsTaskOf, Follows, HasLife, IsInside, apart, is_forgotten, stands, is_in, lents, drops, awaiters}
 use Rattle.solo_laws.specs.Road.{wakes as wakes_of}
 use Rattle.solo_laws.proofs.Following.Seeing.{seen}
 use Rattle.solo_laws.proofs.Following.Due.{clash, both_true, not_true, equal}
-use Rattle.solo_laws.proofs.Following.Inside.{home_lent, lent_dropping, lent_stays, same_inside, one_dropped, less_lent}
+use Rattle.solo_laws.proofs.Following.Inside.{home_lent, lent_dropping, same_inside, one_dropped, less_lent}
 use Rattle.solo_laws.proofs.Following.Cells.{found, of_found, asks_found, changed_found, found_here}
 use Rattle.solo_laws.proofs.Following.Tasks.{none_told}
 use Rattle.solo_laws.proofs.Following.Changing.{task_is, kept, turned, lined}
@@ -38,6 +41,28 @@ use Rattle.solo_laws.proofs.Following.Telling.{told}
 use Rattle.solo_laws.proofs.Following.Trying.{put_same}
 
 module _ {T A : Type 0} where
+  -- the future of a closed task is dropped
+  drops_closed : (t : AbstractTask T A) → abstract.pending_end t ≡ EndDrops → t.closed ≡ true
+  drops_closed t is = by t.closed refl t.handle t.phase t.wakers is
+    where
+      none : (b : Bool) → (if b then EndForgets else EndRests) ≡ EndDrops → ⊥
+      none true is = absurd cc
+      none false is = absurd cc
+
+      by : (b : Bool) → t.closed ≡ b → (handle : Bool) (phase : Phase) (n : ℕ)
+          → (if b then EndDrops else abstract.pending_end_of_open phase handle n) ≡ EndDrops → b ≡ true
+      by true c handle phase n is = refl
+      by false c true PollingWoken n is = absurd cc
+      by false c false PollingWoken n is = absurd cc
+      by false c true Idle n is = absurd cc
+      by false c true Queued n is = absurd cc
+      by false c true Polling n is = absurd cc
+      by false c true Finished n is = absurd cc
+      by false c false Idle n is = absurd (none (n == 0) is)
+      by false c false Queued n is = absurd (none (n == 0) is)
+      by false c false Polling n is = absurd (none (n == 0) is)
+      by false c false Finished n is = absurd (none (n == 0) is)
+
   -- what waits again is in reach
   rests_reached : (t : AbstractTask T A) → abstract.pending_end t ≡ EndRests → is_forgotten (record t { phase = Idle }) ≡ false
   rests_reached t is = by t.closed t.handle t.phase t.wakers is
@@ -71,50 +96,62 @@ module _ {T X : Type 0} (place : EntryPlace) where
       ap (λ b. choose b (cells.settled (local.settle_pending_by (abstract.pending_end v.task) place v.task) v) v) lent
       ∙ ap (λ e. cells.settled (local.settle_pending_by e place v.task) v) is
 
+  -- nobody comes to await it
+  left_awaiter : (e : abstract.PendingEnd) (t : AbstractTask T (SoloWaker X)) (w : SoloWaker X)
+      → (left_so e t).awaiter ≡ Some w → t.awaiter ≡ Some w
+  left_awaiter EndDrops t w is = is
+  left_awaiter EndQueues t w is = is
+  left_awaiter EndForgets t w is = is
+  left_awaiter EndRests t w is = is
+
   left_is : (e : abstract.PendingEnd) (v : Kept T X) (x : Future T (SoloWaker X)) → cells.is_lent v ≡ true
       → abstract.pending_end x.task ≡ e
-      → IsTaskOf v x → IsTaskOf (kept_so e v) (record x { task = told_of (left_so e x.task) })
-  left_is EndDrops v x lent is of = record {
+      → x.is_dropped ≡ false → IsTaskOf v x → IsTaskOf (kept_so e v) (record x { task = told_of (left_so e x.task) })
+  left_is EndDrops v x lent is live of = record {
     task = ap (λ t. told_of t) of.task;
     mark = of.mark;
     told = refl;
     idle = λ idle. absurd (clash (home_lent v.future (of.idle idle)) lent);
     done = λ gone. absurd cc;
     reached = of.reached;
-    there = λ stays. of.there (lent_stays v.future lent);
+    there = λ home. absurd cc;
+    closing = λ goes. drops_closed x.task is;
   }
-  left_is EndQueues v x lent is of = record {
+  left_is EndQueues v x lent is live of = record {
     task = ap (λ t. told_of (abstract.queue true t)) of.task;
     mark = of.mark;
     told = refl;
     idle = λ idle. refl;
     done = λ gone. absurd cc;
     reached = refl;
-    there = λ stays. of.there (lent_stays v.future lent);
+    there = λ home. live;
+    closing = λ goes. absurd cc;
   }
-  left_is EndForgets v x lent is of = record {
+  left_is EndForgets v x lent is live of = record {
     task = ap (λ (t : AbstractTask T (SoloWaker X)). told_of (record t { phase = Finished; closed = true })) of.task;
     mark = of.mark;
     told = refl;
     idle = λ idle. absurd cc;
     done = λ gone. absurd cc;
     reached = refl;
-    there = λ stays. of.there (lent_stays v.future lent);
+    there = λ home. absurd cc;
+    closing = λ goes. refl;
   }
-  left_is EndRests v x lent is of = record {
+  left_is EndRests v x lent is live of = record {
     task = ap (λ (t : AbstractTask T (SoloWaker X)). told_of (record t { phase = Idle })) of.task;
     mark = of.mark;
     told = refl;
     idle = λ idle. refl;
     done = λ gone. absurd cc;
     reached = rests_reached x.task is;
-    there = λ stays. of.there (lent_stays v.future lent);
+    there = λ home. live;
+    closing = λ goes. absurd cc;
   }
 
 module _ {F T X : Type 0} (name : ℕ → Task) (s : Solo F T X) (p : Plain T (SoloWaker X)) (r : Follows name s p) (c : Choice)
     (f : ℕ)
     (place : EntryPlace) (future : F) (at : f < length p.futures) (has : asked cells.is_lent false (name f) s.cells ≡ true)
-    (not_lent : is_in f (lents p.inside) ≡ false) where
+    (not_lent : is_in f (lents p.inside) ≡ false) (live : is_dropped f p ≡ false) where
   abbrev now : Solo F T X
   now = turns.turned (cells.ended_pending place) (name f) s
 
@@ -171,11 +208,12 @@ module _ {F T X : Type 0} (name : ℕ → Task) (s : Solo F T X) (p : Plain T (S
           is =
               subst (λ w. IsTaskOf w (record x { task = told_of (left_so place e x.task) }))
               (sym (ended_is place e v (lent_of v here) (ap (λ t. abstract.pending_end t) of.task ∙ end)))
-              (left_is place e v x (lent_of v here) end of);
+              (left_is place e v x (lent_of v here) end (sym (ap (λ (o : Option (Future T (SoloWaker X))). or o (λ future. future.is_dropped) true) is) ∙ live) of);
           ready = λ due start. absurd (clash not_due due);
           lent = λ has so. absurd (clash not_lent has);
           dropping = λ has so. absurd (clash not_dropped has);
         })
+        (λ t has. r.awaiters f t (left_awaiter place e (task f p) (OfTask t) has))
         r
 
     -- what is so of it then
@@ -192,12 +230,12 @@ module _ {F T X : Type 0} (name : ℕ → Task) (s : Solo F T X) (p : Plain T (S
 
     -- the future is to be dropped
     drops_it : (code : Code T (SoloWaker X)) → lents (code ∷ after.inside) ≡ lents after.inside → drops (code ∷ after.inside)
-        ≡ f ∷ drops after.inside
+        ≡ f ∷ drops after.inside → awaiters (code ∷ after.inside) ≡ awaiters after.inside
         → cells.is_dropping (kept_so place e it.0) ≡ true
         → Follows name now (record after { events = after.events ++ Drops f ∷ []; inside = code ∷ after.inside })
-    drops_it code lent dropped so =
+    drops_it code lent dropped waits so =
         seen name now after (after.events ++ Drops f ∷ []) (code ∷ after.inside)
-        (one_dropped name (length after.futures) now.cells after.inside (code ∷ after.inside) next.inside f here lent dropped
+        (one_dropped name (length after.futures) now.cells after.inside (code ∷ after.inside) next.inside f here lent dropped waits
         (asks_so cells.is_dropping so)
         (subst (λ cs. is_in f (drops cs) ≡ false) (sym (put_inside f (left_so place e (task f p)) p)) not_dropped)) next
 
@@ -211,6 +249,7 @@ module _ {F T X : Type 0} (name : ℕ → Task) (s : Solo F T X) (p : Plain T (S
       once = next.once;
       ready = next.ready;
       asleep = next.asleep;
+      awaiters = next.awaiters;
       inside = next.inside;
     }
 
@@ -252,8 +291,8 @@ module _ {F T X : Type 0} (name : ℕ → Task) (s : Solo F T X) (p : Plain T (S
       subst
       (λ q. Follows name now (record q { events = q.events ++ Drops f ∷ []; inside = DropCode f Closed Try ∷ q.inside }))
       (put_same f p at infos)
-      (drops_it EndDrops is (DropCode f Closed Try) refl refl refl)
-  ends many life EndForgets is = drops_it EndForgets is (DropCode f Forgotten Try) refl refl refl
+      (drops_it EndDrops is (DropCode f Closed Try) refl refl refl refl)
+  ends many life EndForgets is = drops_it EndForgets is (DropCode f Closed Try) refl refl refl refl
   ends many life EndRests is =
       let q = after EndRests is in
       let all = back EndRests is in
@@ -288,7 +327,7 @@ module _ {F T X : Type 0} (name : ℕ → Task) (s : Solo F T X) (p : Plain T (S
 
 module _ {F T X : Type 0} (name : ℕ → Task) (s : Solo F T X) (p : Plain T (SoloWaker X)) (r : Follows name s p) where
   -- one that gave an output stays out until its future is dropped
-  pub gives_alike : GivesAlike name s p
+  pub gives_alike : GivesAlike name (Follows name) s p
   gives_alike c f by rest v stands_in =
       let now : List (Code T (SoloWaker X)) = DropCode f (Gave v) by ∷ rest in
       subst
@@ -296,14 +335,17 @@ module _ {F T X : Type 0} (name : ℕ → Task) (s : Solo F T X) (p : Plain T (S
       (sym stands_in)
       (seen name s p (p.events ++ Drops f ∷ []) now
       (same_inside name (length p.futures) s.cells p.inside now r.inside
-      (sym (ap (λ cs. lents cs) stands_in)) (sym (ap (λ cs. drops cs) stands_in))) r)
+      (sym (ap (λ cs. lents cs) stands_in)) (sym (ap (λ cs. drops cs) stands_in)) (sym (ap (λ cs. awaiters cs) stands_in))) r)
 
-  pub pends_alike : PendsAlike name s p
-  pends_alike c f rest lent future stands_in names many life =
+  pub pends_alike : ((f : ℕ) → is_in f (lents p.inside) ≡ true → is_dropped f p ≡ false) → PendsAlike name (Follows name) s p
+  pends_alike live c f rest lent future stands_in names many life =
       let out : lents p.inside ≡ f ∷ lents rest = ap (λ cs. lents cs) stands_in in
-      let here = r.inside.lent f (ap (is_in f) out ∙ ap (λ b. cond b true (is_in f (lents rest))) (equal f f refl)) in
+      let mine : is_in f (lents p.inside) ≡ true =
+      ap (is_in f) out ∙ ap (λ b. cond b true (is_in f (lents rest))) (equal f f refl) in
+      let here = r.inside.lent f mine in
       let left : IsInside name (length p.futures) s.cells rest =
-      less_lent name (length p.futures) s.cells p.inside rest r.inside f out (ap (λ cs. drops cs) stands_in) in
+      less_lent name (length p.futures) s.cells p.inside rest r.inside f out (ap (λ cs. drops cs) stands_in)
+      (ap (λ cs. awaiters cs) stands_in) in
       let once = both_true (not (is_in f (lents rest))) (apart (lents rest))
       (sym (ap (λ ns. apart ns) out) ∙ r.inside.lent_once) in
       let q : Plain T (SoloWaker X) = record p { inside = rest } in
@@ -324,5 +366,5 @@ module _ {F T X : Type 0} (name : ℕ → Task) (s : Solo F T X) (p : Plain T (S
       (subst (λ a. Follows name (solo.pending_by a its future (turns.turned (cells.ended_pending lent.place) (name f) s))
       (calls.pending_by wakes_of c (abstract.pending_end (task f q)) f Try q))
       (sym answer)
-      (ends name s q all c f lent.place future here.0 here.1 (not_true (is_in f (lents rest)) once.0) many life
+      (ends name s q all c f lent.place future here.0 here.1 (not_true (is_in f (lents rest)) once.0) (live f mine) many life
       (abstract.pending_end (task f q)) refl)))

@@ -8,6 +8,7 @@ use Rattle.task_moves.specs.AbstractTask.{AbstractTask, Left}
 use Rattle.task_moves.specs.LocalTask.{told as told_of, with_task, is_home, is_queued}
 use Rattle.solo.specs.declared.names.Task.{Task}
 use Rattle.solo.specs.declared.names.SoloWaker.{SoloWaker}
+use Rattle.solo.specs.declared.names.SoloWaker.TheVariants.{Task as OfTask}
 use Rattle.solo.specs.declared.solo.Solo.{Solo}
 use Rattle.solo.specs.Cells.{Kept, choose, asked}
 use Rattle.solo.specs.Cells as cells
@@ -18,8 +19,8 @@ use Rattle.plain_scheduler.specs.State.{AtOnce}
 use Rattle.plain_scheduler.specs.Moves.{task, put, tell, becomes}
 use Rattle.plain_scheduler.specs.Takes as takes
 use Rattle.plain_scheduler.specs.Calls as calls
-use Rattle.solo_laws.specs.Alike.{CopiesAlike, PollsAlike, DetachesAlike}
-use Rattle.solo_laws.specs.Road.{IsTaskOf, TaskIs, Follows, is_forgotten, is_done}
+use Rattle.solo_laws.specs.Alike.{CopiesAlike, DetachesAlike}
+use Rattle.solo_laws.specs.Road.{IsNamed, IsTaskOf, TaskIs, Follows, is_forgotten, is_done}
 use Rattle.solo_laws.specs.Road.{wakes as wakes_of}
 use Rattle.solo_laws.proofs.Following.Lists.{get_below}
 use Rattle.solo_laws.proofs.Following.Seeing.{seen}
@@ -32,6 +33,13 @@ use Rattle.solo_laws.proofs.Following.Using.{detached_fits, told_over}
 use Rattle.solo_laws.proofs.Following.Sweeping.{swept}
 use Rattle.solo_laws.proofs.Following.Waking.{changes, below, is_there}
 use Rattle.solo_laws.proofs.Following.Trying.{put_same, untold}
+
+some_waker : {X : Type 0} (t : Task) (w : SoloWaker X) → ◌≡◌ {A = Option (SoloWaker X)} (Some w) (Some (OfTask t)) → w ≡ OfTask t
+some_waker {X} t w is = ap (λ o. by o) is
+  where
+    by : Option (SoloWaker X) → SoloWaker X
+    by None = w
+    by (Some u) = u
 
 none_of : (b : Bool) → (b && false) ≡ false
 none_of true = refl
@@ -60,6 +68,12 @@ module _ {T A : Type 0} where
   poll_done abstract.Polled.Cancelled w t is = is
   poll_done abstract.Polled.Waits w t is = is
 
+  poll_closed : (e : abstract.Polled T) (w : A) (t : AbstractTask T A) → t.closed ≡ true
+      → (abstract.poll_by e w t).task.closed ≡ true
+  poll_closed (abstract.Polled.Output v) w t is = refl
+  poll_closed abstract.Polled.Cancelled w t is = is
+  poll_closed abstract.Polled.Waits w t is = is
+
   poll_reached : (e : abstract.Polled T) (w : A) (t : AbstractTask T A) → is_forgotten t ≡ false
       → is_forgotten (abstract.poll_by e w t).task ≡ false
   poll_reached (abstract.Polled.Output v) w t is = none_of (abstract.is_idle t.phase)
@@ -77,6 +91,7 @@ module _ {T X : Type 0} where
     done = of.done;
     reached = copy_reached x.task;
     there = of.there;
+    closing = of.closing;
   }
 
   polls : (w : SoloWaker X) (v : Kept T X) (x : Future T (SoloWaker X)) → IsTaskOf v x
@@ -91,11 +106,20 @@ module _ {T X : Type 0} where
         done = λ gone. poll_done e w x.task (of.done gone);
         reached = poll_reached e w x.task of.reached;
         there = of.there;
+        closing = λ goes. poll_closed e w x.task (of.closing goes);
       }
+
+  -- who awaits it after a poll is who did, or the waker of the poll
+  poll_awaits : {P : Type 0} (t : Task) (w : SoloWaker X) (e : abstract.Polled T) (u : AbstractTask T (SoloWaker X))
+      → abstract.polled u ≡ e → (abstract.poll_by e w u).task.awaiter ≡ Some (OfTask t)
+      → (u.awaiter ≡ Some (OfTask t) → P) → (w ≡ OfTask t → P) → P
+  poll_awaits t w (abstract.Polled.Output v) u so is was new = was is
+  poll_awaits t w abstract.Polled.Cancelled u so is was new = was is
+  poll_awaits t w abstract.Polled.Waits u so is was new = new (some_waker t w is)
 
 module _ {F T X : Type 0} (name : ℕ → Task) (s : Solo F T X) (p : Plain T (SoloWaker X)) (r : Follows name s p) where
   -- a copy of its waker, where that isn't refused
-  held : (f : ℕ) → f < length p.futures → solo.may_hold (name f) s ≡ true
+  pub held : (f : ℕ) → f < length p.futures → solo.may_hold (name f) s ≡ true
       → Follows name (solo.held (name f) s) (put f (abstract.copy (task f p)) p)
   held f at may =
       turned None name cells.held abstract.copy f s p at
@@ -111,9 +135,10 @@ module _ {F T X : Type 0} (name : ℕ → Task) (s : Solo F T X) (p : Plain T (S
         lent = λ has out. subst (λ w. cells.is_lent w ≡ true) (sym e) out;
         dropping = λ has out. subst (λ w. cells.is_dropping w ≡ true) (sym e) out;
       })
+      (λ t is. r.awaiters f t is)
       r
 
-  infos : (f : ℕ) (z : Solo F T X) (q : Plain T (SoloWaker X)) → f < length q.futures → Follows name z q → (task f q).infos ≡ []
+  pub infos : (f : ℕ) (z : Solo F T X) (q : Plain T (SoloWaker X)) → f < length q.futures → Follows name z q → (task f q).infos ≡ []
   infos f z q at all =
       let x = get_below q.futures f at in
       ap (λ (t : AbstractTask T (SoloWaker X)). t.infos) (task_is f q x.0 x.1)
@@ -140,9 +165,10 @@ module _ {F T X : Type 0} (name : ℕ → Task) (s : Solo F T X) (p : Plain T (S
         lent = λ has out. subst (λ w. cells.is_lent w ≡ true) (sym e) out;
         dropping = λ has out. subst (λ w. cells.is_dropping w ≡ true) (sym e) out;
       })
+      (λ t is. r.awaiters f t is)
       r)
 
-  pub copies_alike : CopiesAlike name s p
+  pub copies_alike : CopiesAlike name (Follows name) s p
   copies_alike c f at says = by (solo.may_hold (name f) s) refl says
     where
       by : (b : Bool) → solo.may_hold (name f) s ≡ b → c.refusal ≡ (if b then Granted else AtOnce)
@@ -166,8 +192,10 @@ module _ {F T X : Type 0} (name : ℕ → Task) (s : Solo F T X) (p : Plain T (S
           (refused f at may))
 
   -- a poll of its handle
-  pub polls_alike : PollsAlike name s p
-  polls_alike w f at handle =
+  pub polled : (w : SoloWaker X) (f : ℕ) → f < length p.futures → (task f p).handle ≡ true
+      → ((t : Task) → w ≡ OfTask t → IsNamed name (length p.futures) t)
+      → Follows name (solo.polled (name f) w s) (put f (abstract.poll w (task f p)).task p)
+  polled w f at handle named =
       turned None name (cells.polled w) (λ t. (abstract.poll w t).task) f s p at
       (λ none over. absurd (clash over.handle handle))
       (λ v x here is of.
@@ -185,6 +213,7 @@ module _ {F T X : Type 0} (name : ℕ → Task) (s : Solo F T X) (p : Plain T (S
         lent = λ has out. subst (λ u. cells.is_lent u ≡ true) (sym e) out;
         dropping = λ has out. subst (λ u. cells.is_dropping u ≡ true) (sym e) out;
       })
+      (λ t is. poll_awaits t w (abstract.polled (task f p)) (task f p) refl is (r.awaiters f t) (named t))
       r
 
   -- what follows a detach is only seen: an output that was kept is dropped
@@ -204,10 +233,10 @@ module _ {F T X : Type 0} (name : ℕ → Task) (s : Solo F T X) (p : Plain T (S
           (record { task = task f q; called = None; dropped = dropped; let_go = None }) None q)
       by None = seen name z q (q.events ++ Answers Done ∷ []) q.inside all.inside all
       by (Some v) = seen name z q (q.events ++ Loses v ∷ []) (Lose None None ∷ q.inside)
-          (same_inside name (length q.futures) z.cells q.inside (Lose None None ∷ q.inside) all.inside refl refl) all
+          (same_inside name (length q.futures) z.cells q.inside (Lose None None ∷ q.inside) all.inside refl refl refl) all
 
   -- a detach
-  pub detaches_alike : DetachesAlike name s p
+  pub detaches_alike : DetachesAlike name (Follows name) s p
   detaches_alike c f at many life =
       let loud : Plain T (SoloWaker X) → Plain T (SoloWaker X) = tell wakes_of c in
       let q : Plain T (SoloWaker X) = becomes wakes_of loud f (abstract.detach (task f p)).task p in

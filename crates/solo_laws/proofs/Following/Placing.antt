@@ -19,7 +19,6 @@ use Rattle.solo_laws.proofs.Following.Lists.{length_map}
 use Rattle.solo_laws.proofs.Following.Due.{both_true, and_true, not_false, room, lives, filter_short, beside_long}
 use Rattle.solo_laws.proofs.Following.Cells.{same_number}
 use Rattle.solo_laws.proofs.Following.Changing.{kept}
-use Rattle.solo_laws.proofs.Following.Inside.{home_stays}
 use Rattle.solo_laws.proofs.Following.Lines.{accepts_more}
 
 module _ {F T X : Type 0} (aside : Option Due) (name : ℕ → Task) (s : Solo F T X) (p : Plain T (SoloWaker X))
@@ -30,8 +29,7 @@ module _ {F T X : Type 0} (aside : Option Due) (name : ℕ → Task) (s : Solo F
   living f at is =
       let k = kept aside name cells.may_start f s p r at is in
       let of : IsTaskOf k.0 k.1 = k.5 in
-      lives p.futures 0 f f k.1 (omega arith) k.3 (of.there (home_stays k.0.future
-      (both_true (is_home k.0.future) (is_queued k.0.task.phase) k.4).0))
+      lives p.futures 0 f f k.1 (omega arith) k.3 (of.there (both_true (is_home k.0.future) (is_queued k.0.task.phase) k.4).0)
 
   pub places : (f : ℕ) → f < length p.futures → stands f (beside aside p.due) ≡ false
       → asked cells.may_start false (name f) s.cells ≡ true

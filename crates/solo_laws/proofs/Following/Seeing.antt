@@ -20,5 +20,6 @@ module _ {F T X : Type 0} (name : ℕ → Task) where
     once = r.once;
     ready = r.ready;
     asleep = r.asleep;
+    awaiters = r.awaiters;
     inside = hands;
   }

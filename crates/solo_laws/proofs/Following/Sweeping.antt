@@ -134,6 +134,7 @@ module _ {F T X : Type 0} (aside : Option Due) (name : ℕ → Task) where
                   can.1 refl,
             );
         asleep = r.asleep;
+        awaiters = r.awaiters;
         inside = record {
           lent = λ j has.
               let can = r.inside.lent j has in
@@ -146,6 +147,7 @@ module _ {F T X : Type 0} (aside : Option Due) (name : ℕ → Task) where
               );
           lent_once = r.inside.lent_once;
           dropping_once = r.inside.dropping_once;
+          callers = r.inside.callers;
         };
       }
         where

@@ -1,5 +1,5 @@
 -- What changes of a task's state that aren't turns of its own keep: a wake, a release of a waker, both, a cancel, a detach.
-use Rattle.std.proofs.Common.{◌≡◌, ℕ, ◌-◌, ◌==◌, ◌&&◌, ◌||◌, not, if◌then◌else◌, Bool, true, false, length, Option, None}
+use Rattle.std.proofs.Common.{◌≡◌, ℕ, ◌-◌, ◌==◌, ◌&&◌, ◌||◌, not, if◌then◌else◌, Bool, true, false, length, Option, Some, None}
 use Rattle.std.proofs.Common.{slice_get, is_some, refl, sym, ap, subst, ◌∙◌, arith}
 use Rattle.std.proofs.lemmas.Option.{slice_get_past}
 use Rattle.task_moves.specs.AbstractTask as abstract
@@ -41,6 +41,9 @@ module _ {T A : Type 0} where
     pub queued : (t : AbstractTask T A) → is_queued t.phase ≡ true → is_queued (h t).phase ≡ true
     pub queues : (t : AbstractTask T A) → queues h t ≡ true
         → (abstract.is_idle t.phase ≡ true) × (is_queued (h t).phase ≡ true)
+    -- nobody comes to await it
+    pub awaiter : (t : AbstractTask T A) (w : A) → (h t).awaiter ≡ Some w → t.awaiter ≡ Some w
+    pub closed : (t : AbstractTask T A) → t.closed ≡ true → (h t).closed ≡ true
 
   abbrev of : Phase → Bool → AbstractTask T A → AbstractTask T A
   of phase closed t = record t { phase = phase; closed = closed }
@@ -56,6 +59,8 @@ module _ {T A : Type 0} where
     reached = λ t. reached t.phase t.closed t;
     queued = λ t. queued t.phase t.closed t;
     queues = λ t. told t.phase t.closed t;
+    awaiter = λ t. awaiter t.phase t.closed t;
+    closed = λ t. closed t.phase t.closed t;
   }
     where
       over_by : (closed : Bool) (t : AbstractTask T A) → (if closed then t else abstract.wake_open Finished t) ≡ t
@@ -101,6 +106,20 @@ module _ {T A : Type 0} where
       queued PollingWoken false t is = is
       queued Finished false t is = is
 
+      closed : (phase : Phase) (closed : Bool) (t : AbstractTask T A) → closed ≡ true
+          → (abstract.wake (of phase closed t)).closed ≡ true
+      closed phase true t is = refl
+      closed phase false t is = absurd cc
+
+      awaiter : (phase : Phase) (closed : Bool) (t : AbstractTask T A) (w : A)
+          → (abstract.wake (of phase closed t)).awaiter ≡ Some w → t.awaiter ≡ Some w
+      awaiter phase true t w is = is
+      awaiter Idle false t w is = is
+      awaiter Queued false t w is = is
+      awaiter Polling false t w is = is
+      awaiter PollingWoken false t w is = is
+      awaiter Finished false t w is = is
+
       told : (phase : Phase) (closed : Bool) (t : AbstractTask T A) → queues abstract.wake (of phase closed t) ≡ true
           → (abstract.is_idle phase ≡ true) × (is_queued (abstract.wake (of phase closed t)).phase ≡ true)
       told phase true t is = never (of phase true t) is
@@ -133,6 +152,21 @@ module _ {T A : Type 0} where
     past : abstract.is_idle u.phase ≡ false → is_forgotten u ≡ false
     past is = ap (λ b. b && (not u.closed && (not u.handle && (u.wakers == 0)))) is
 
+    swept_closed : u.closed ≡ true → swept.closed ≡ true
+    swept_closed is = by (is_forgotten u)
+      where
+        by : (b : Bool) → (if b then abstract.close u else u).closed ≡ true
+        by true = refl
+        by false = is
+
+    pub swept_awaiter : swept.awaiter ≡ u.awaiter
+    swept_awaiter = by (is_forgotten u) (abstract.is_idle u.phase)
+      where
+        by : (b c : Bool) → (if b then record (if c then abstract.queue false u else u) { closed = true } else u).awaiter ≡ u.awaiter
+        by true true = refl
+        by true false = refl
+        by false c = refl
+
     swept_reached : is_forgotten swept ≡ false
     swept_reached = by (is_forgotten u) refl
       where
@@ -162,8 +196,10 @@ module _ {T A : Type 0} where
   -- a change that closes it where it is out of reach
   sweeps : (g : AbstractTask T A → AbstractTask T A) → ((t : AbstractTask T A) → IsOver t → g t ≡ t)
       → ((t : AbstractTask T A) → (g t).phase ≡ t.phase) → ((t : AbstractTask T A) → (g t).infos ≡ t.infos)
-      → ((t : AbstractTask T A) → is_done t ≡ true → is_done (g t) ≡ true) → IsChange (λ t. abstract.close_forgotten (g t))
-  sweeps g over phase infos done = record {
+      → ((t : AbstractTask T A) → is_done t ≡ true → is_done (g t) ≡ true) → ((t : AbstractTask T A) → (g t).awaiter ≡ t.awaiter)
+      → ((t : AbstractTask T A) → t.closed ≡ true → (g t).closed ≡ true)
+      → IsChange (λ t. abstract.close_forgotten (g t))
+  sweeps g over phase infos done waits closed = record {
     over = λ t is. ap (λ u. abstract.close_forgotten u) (over t is) ∙ busy t (past t (ap (λ p. abstract.is_idle p) is.phase));
     idle = λ t is. subst (λ p. abstract.is_idle p ≡ true) (phase t) (swept_idle (g t) is);
     done = λ t is.
@@ -179,19 +215,21 @@ module _ {T A : Type 0} where
     queues = λ t is.
         let two = swept_queues (g t) t (infos t) is in
         (subst (λ p. abstract.is_idle p ≡ true) (phase t) two.0, two.1);
+    awaiter = λ t w is. sym (waits t) ∙ (sym (swept_awaiter (g t)) ∙ is);
+    closed = λ t is. swept_closed (g t) (closed t is);
   }
 
   pub releases : IsChange abstract.release
   releases = sweeps (λ t. record t { wakers = t.wakers - 1 })
       (λ t is. ap (λ n. record t { wakers = n }) (less t.wakers is.wakers))
-      (λ t. refl) (λ t. refl) (λ t is. is)
+      (λ t. refl) (λ t. refl) (λ t is. is) (λ t. refl) (λ t is. is)
     where
       less : (n : ℕ) → n ≡ 0 → n - 1 ≡ n
       less n is = omega (arith, is)
 
   pub detaches : IsChange (λ t. (abstract.detach t).task)
   detaches = sweeps (λ t. record t { handle = false; closed = t.closed || is_some t.output; output = None }) over
-      (λ t. refl) (λ t. refl) done
+      (λ t. refl) (λ t. refl) done (λ t. refl) (λ t is. ap (λ b. b || is_some t.output) is)
     where
       over : (t : AbstractTask T A) → IsOver t
           → record t { handle = false; closed = t.closed || is_some t.output; output = None } ≡ t
@@ -218,6 +256,8 @@ module _ {T A : Type 0} where
     reached = λ t is. releases.reached (abstract.wake t) (wakes.reached t is);
     queued = λ t is. releases.queued (abstract.wake t) (wakes.queued t is);
     queues = λ t. told t.phase t.closed t;
+    awaiter = λ t w is. wakes.awaiter t w (releases.awaiter (abstract.wake t) w is);
+    closed = λ t is. releases.closed (abstract.wake t) (wakes.closed t is);
   }
     where
       told : (phase : Phase) (closed : Bool) (t : AbstractTask T A)
@@ -241,6 +281,8 @@ module _ {T A : Type 0} where
     reached = λ t. reached t.phase t.closed t;
     queued = λ t. queued t.phase t.closed t;
     queues = λ t. told t.phase t.closed t;
+    awaiter = λ t. awaiter t.phase t.closed t;
+    closed = λ t. closed t.phase t.closed t;
   }
     where
       over_by : (closed : Bool) (t : AbstractTask T A) → cancelled (of Finished closed t) ≡ of Finished closed t
@@ -287,6 +329,20 @@ module _ {T A : Type 0} where
       queued Polling false t is = is
       queued PollingWoken false t is = is
       queued Finished false t is = is
+
+      closed : (phase : Phase) (closed : Bool) (t : AbstractTask T A) → closed ≡ true
+          → (cancelled (of phase closed t)).closed ≡ true
+      closed phase true t is = refl
+      closed phase false t is = absurd cc
+
+      awaiter : (phase : Phase) (closed : Bool) (t : AbstractTask T A) (w : A)
+          → (cancelled (of phase closed t)).awaiter ≡ Some w → t.awaiter ≡ Some w
+      awaiter phase true t w is = is
+      awaiter Idle false t w is = absurd cc
+      awaiter Queued false t w is = absurd cc
+      awaiter Polling false t w is = absurd cc
+      awaiter PollingWoken false t w is = absurd cc
+      awaiter Finished false t w is = is
 
       told : (phase : Phase) (closed : Bool) (t : AbstractTask T A) → queues cancelled (of phase closed t) ≡ true
           → (abstract.is_idle phase ≡ true) × (is_queued (cancelled (of phase closed t)).phase ≡ true)

@@ -131,6 +131,7 @@ module _ {F T X : Type 0} (aside : Option Due) (name : ℕ → Task) (c : Choice
         queued = r.queued;
         once = r.once;
         ready = r.ready;
+        awaiters = r.awaiters;
         inside = r.inside;
         asleep = record {
           wakers =
@@ -166,6 +167,7 @@ module _ {F T X : Type 0} (aside : Option Due) (name : ℕ → Task) (c : Choice
         once = q.once;
         ready = q.ready;
         asleep = q.asleep;
+        awaiters = q.awaiters;
         inside = q.inside;
       }
 

@@ -32,7 +32,7 @@ use Rattle.solo_laws.specs.Alike.{TakesAlike}
 use Rattle.solo_laws.proofs.Following.Lists.{get_below}
 use Rattle.solo_laws.proofs.Following.Seeing.{seen}
 use Rattle.solo_laws.proofs.Following.Cells.{found, of_found, asks_found, changed_found, found_here, same_number}
-use Rattle.solo_laws.proofs.Following.Inside.{home_stays, home_lent, home_dropping, one_lent, one_dropped}
+use Rattle.solo_laws.proofs.Following.Inside.{home_lent, home_dropping, one_lent, one_dropped}
 use Rattle.solo_laws.proofs.Following.Due.{clash, both_true, and_true, not_true, not_false, later, equal, stood, once_without}
 use Rattle.solo_laws.proofs.Following.Due.{found_stands, found_gone}
 use Rattle.solo_laws.proofs.Following.Tasks.{queued_idle}
@@ -60,6 +60,20 @@ module _ {T A : Type 0} where
       by : (b : Bool) → (if b then t else record t { phase = abstract.Phase.Polling }).infos ≡ []
       by true = is
       by false = is
+
+  begun_closed : (t : AbstractTask T A) → t.closed ≡ true → (abstract.begin_run t).closed ≡ true
+  begun_closed t is = by t.closed
+    where
+      by : (b : Bool) → (if b then t else record t { phase = abstract.Phase.Polling }).closed ≡ true
+      by true = is
+      by false = is
+
+  begun_awaiter : (t : AbstractTask T A) → (abstract.begin_run t).awaiter ≡ t.awaiter
+  begun_awaiter t = by t.closed
+    where
+      by : (b : Bool) → (if b then t else record t { phase = abstract.Phase.Polling }).awaiter ≡ t.awaiter
+      by true = refl
+      by false = refl
 
   over_begun : (t : AbstractTask T A) → IsOver t → abstract.begin_run t ≡ t
   over_begun t is = ap (λ b. if b then t else record t { phase = abstract.Phase.Polling }) is.closed
@@ -93,6 +107,14 @@ not_gone : (P : Type 0) (b : Bool) → is_gone (local.started {F = P} b) ≡ tru
 not_gone P true is = absurd cc
 not_gone P false is = absurd cc
 
+not_home : (P : Type 0) (b : Bool) → is_home (local.started {F = P} b) ≡ true → ⊥
+not_home P true is = absurd cc
+not_home P false is = absurd cc
+
+is_closing : (P : Type 0) (b : Bool) → is_dropping (local.started {F = P} b) ≡ true → b ≡ true
+is_closing P true is = refl
+is_closing P false is = absurd cc
+
 module _ {T X : Type 0} where
   -- a task that is ready is begun
   started_is : (v : Kept T X) (x : Future T (SoloWaker X)) → IsTaskOf v x → cells.may_start v ≡ true
@@ -111,7 +133,9 @@ module _ {T X : Type 0} where
         idle = λ idle. absurd (not_idle x.task queued idle);
         done = λ gone. absurd (not_gone EntryPlace v.task.closed gone);
         reached = still_reached x.task of.reached;
-        there = λ stays. of.there (home_stays v.future (both_true (is_home v.future) (is_queued v.task.phase) may).0);
+        there = λ home. absurd (not_home EntryPlace v.task.closed home);
+        closing = λ goes. begun_closed x.task (sym (ap (λ (t : AbstractTask T (SoloWaker X)). t.closed) of.task)
+            ∙ is_closing EntryPlace v.task.closed goes);
       })
 
 module _ {F T X : Type 0} (name : ℕ → Task) where
@@ -126,6 +150,7 @@ module _ {F T X : Type 0} (name : ℕ → Task) where
     once = r.once;
     ready = r.ready;
     asleep = r.asleep;
+    awaiters = r.awaiters;
     inside = r.inside;
   }
   out (Some (StartDrop place)) s p r = record {
@@ -136,6 +161,7 @@ module _ {F T X : Type 0} (name : ℕ → Task) where
     once = r.once;
     ready = r.ready;
     asleep = r.asleep;
+    awaiters = r.awaiters;
     inside = r.inside;
   }
 
@@ -181,6 +207,7 @@ module _ {F T X : Type 0} (name : ℕ → Task) where
             lent = λ has so. absurd (clash (not_lent v here) has);
             dropping = λ has so. absurd (clash (not_dropped v here) has);
           })
+          (λ t is. r.awaiters f t (sym (begun_awaiter (task f p)) ∙ is))
           r
 
       -- where its future is then
@@ -220,7 +247,7 @@ module _ {F T X : Type 0} (name : ℕ → Task) where
           seen name (turns.turned cells.started (name f) s) p (p.events ++ Drops f ∷ []) (DropCode f Closed Try ∷ p.inside)
           (one_dropped name (length p.futures) (cells.changed cells.started (name f) s.cells) p.inside
           (DropCode f Closed Try ∷ p.inside)
-          it.inside f at refl refl (placed (λ place. is_dropping place)
+          it.inside f at refl refl refl (placed (λ place. is_dropping place)
           (ap (λ b. is_dropping (local.started {F = EntryPlace} b)) is))
           (not_dropped spare.0 spare.1)) it)
       by false is =
@@ -231,7 +258,7 @@ module _ {F T X : Type 0} (name : ℕ → Task) where
           (seen name (turns.turned cells.started (name f) s) q (q.events ++ Polls f ∷ []) (Poll f Try ∷ q.inside)
           (one_lent name (length q.futures) (cells.changed cells.started (name f) s.cells) q.inside
           (Poll f Try ∷ q.inside) next.inside f
-          (subst (λ n. f < n) (sym (put_long f (abstract.begin_run (task f p)) p)) at) refl refl
+          (subst (λ n. f < n) (sym (put_long f (abstract.begin_run (task f p)) p)) at) refl refl refl
           (placed (λ place. is_lent place) (ap (λ b. is_lent (local.started {F = EntryPlace} b)) is))
           (subst (λ cs. is_in f (lents cs) ≡ false) (sym (put_inside f (abstract.begin_run (task f p)) p))
           (not_lent spare.0 spare.1)))
@@ -247,6 +274,7 @@ module _ {F T X : Type 0} (name : ℕ → Task) where
     once = (both_true (not (stands d.future p.due)) (once p.due) r.once).1;
     ready = λ j due. r.ready j (later (j == d.future) (stands j p.due) due);
     asleep = r.asleep;
+    awaiters = r.awaiters;
     inside = r.inside;
   }
 
@@ -296,6 +324,7 @@ module _ {F T X : Type 0} (name : ℕ → Task) where
             (once_without (chosen (tests c.first) p.due) p.due r.once);
         ready = λ j due. r.ready j (was d is (j == d.future) j due refl);
         asleep = r.asleep;
+        awaiters = r.awaiters;
         inside = r.inside;
       }
 
@@ -320,6 +349,7 @@ module _ {F T X : Type 0} (name : ℕ → Task) where
             once = r.once;
             ready = r.ready;
             asleep = r.asleep;
+            awaiters = r.awaiters;
             inside = r.inside;
           }))
       by (Some d) is sought lines =
@@ -339,5 +369,5 @@ module _ {F T X : Type 0} (name : ℕ → Task) where
           (begun c d.future (turns.told (solo.popped s)) q can.0 gone can.1 (forget d (turns.told (solo.popped s)) q told_both)))
 
 pub takes_alike : {F T X : Type 0} (name : ℕ → Task) (s : Solo F T X) (p : Plain T (SoloWaker X)) → Follows name s p
-    → TakesAlike name s p
+    → TakesAlike name (Follows name) s p
 takes_alike name s p r c turn many life = taken name c s p turn many life r

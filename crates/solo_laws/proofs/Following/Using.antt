@@ -12,6 +12,7 @@ use Rattle.task_moves.specs.AbstractTask.{AbstractTask, Phase, Idle, Queued, Pol
 use Rattle.task_moves.specs.LocalTask.{told as told_of, info_of, is_home, is_queued, with_task}
 use Rattle.solo.specs.declared.names.Task.{Task}
 use Rattle.solo.specs.declared.names.SoloWaker.{SoloWaker}
+use Rattle.solo.specs.declared.names.SoloWaker.TheVariants.{Task as OfTask}
 use Rattle.solo.specs.declared.cells.Cell.{Cell}
 use Rattle.solo.specs.declared.cells.Cells.{Cells}
 use Rattle.solo.specs.declared.solo.Solo.{Solo}
@@ -91,6 +92,7 @@ module _ {T X : Type 0} where
     done = λ gone. is.done x.task (of.done gone);
     reached = is.reached x.task of.reached;
     there = of.there;
+    closing = λ goes. is.closed x.task (of.closing goes);
   }
 
   -- g is that change, and q whether it queues the task
@@ -217,7 +219,9 @@ module _ {F T X : Type 0} (aside : Option Due) (name : ℕ → Task) where
       after = put f (h (task f p)) p
 
       pub next : FollowsBut aside name now after
-      next = turned aside name g h f s p at (λ gone. stays h is.over (task f p)) (goes f s p) r
+      next =
+          turned aside name g h f s p at (λ gone. stays h is.over (task f p)) (goes f s p)
+          (λ t here. r.awaiters f t (is.awaiter (task f p) (OfTask t) here)) r
 
       -- it asks as the state says
       pub asks : asked q false (name f) s.cells ≡ queues h (task f p)

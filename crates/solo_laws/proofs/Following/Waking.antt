@@ -15,7 +15,7 @@ use Rattle.solo.specs.Solo as solo
 use Rattle.solo.specs.Turns as turns
 use Rattle.plain_scheduler.specs.State.{Due, Lying, Choice, Plain, Answers, Done}
 use Rattle.plain_scheduler.specs.Moves.{task, put, appended, tell, becomes, wake, release, used}
-use Rattle.solo_laws.specs.Alike.{WakesAlike, CancelsAlike, ReleasesAlike, UsesAlike}
+use Rattle.solo_laws.specs.Alike.{WakesAlike, ReleasesAlike, UsesAlike}
 use Rattle.solo_laws.specs.Road.{FollowsBut, Follows, HasLife, wakes as wakes_of}
 use Rattle.solo_laws.proofs.Following.Seeing.{seen}
 use Rattle.solo_laws.proofs.Following.Cells.{of_found, asks_found, found}
@@ -95,22 +95,19 @@ module _ {F T X : Type 0} (aside : Option Due) (name : ℕ → Task) (c : Choice
       (changes used_kept use_queues wake_and_release uses used_fits)))
 
 module _ {F T X : Type 0} (name : ℕ → Task) (s : Solo F T X) (p : Plain T (SoloWaker X)) (r : Follows name s p) where
-  pub wakes_alike : WakesAlike name s p
+  pub wakes_alike : WakesAlike name (Follows name) s p
   wakes_alike c f at many life =
       let q = wake wakes_of (tell wakes_of c) f p in
       let it = woken None name c f s p at r many life in
       seen name (solo.woken (name f) s) q (q.events ++ Answers Done ∷ []) q.inside it.inside it
 
-  pub cancels_alike : CancelsAlike name s p
-  cancels_alike c f at many life = cancelled None name c f s p at r many life
-
-  pub releases_alike : ReleasesAlike name s p
+  pub releases_alike : ReleasesAlike name (Follows name) s p
   releases_alike c f at many life =
       let q = release wakes_of (tell wakes_of c) f p in
       let it = released None name c f s p at r many life in
       seen name (solo.released (name f) s) q (q.events ++ Answers Done ∷ []) q.inside it.inside it
 
-  pub uses_alike : UsesAlike name s p
+  pub uses_alike : UsesAlike name (Follows name) s p
   uses_alike c f at many life =
       let q = used wakes_of (tell wakes_of c) f p in
       let it = woken_and_released None name c f s p at r many life in

@@ -1,5 +1,5 @@
-use Rattle.solo_laws.proofs.Following.Handling.{polls_alike}
+use Rattle.solo_laws.proofs.Following.Both.{handles_alike}
 use Rattle.solo_laws.proofs.roads.a_handle_is_polled_alike.Goals as goal
 
 pub returns : goal.returns
-returns g c name s p r = polls_alike name s p r
+returns g c its s p both = handles_alike its s p both

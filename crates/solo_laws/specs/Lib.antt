@@ -8,3 +8,14 @@ pub mod Looks
 pub mod Rooms
 pub mod Road
 pub mod Alike
+pub mod Going
+pub mod Seen
+pub mod Done
+pub mod Goes
+pub mod HandedOut
+pub mod CallsGo
+pub mod TicksGo
+pub mod PollsGo
+pub mod EndsGo
+pub mod RunsGo
+pub mod SearchesGo

@@ -22,7 +22,8 @@ use Rattle.solo.specs.Closing as closing
 use Rattle.solo.specs.Lines as lines
 use Rattle.solo.specs.Solo as solo
 use Rattle.solo.specs.Turns as turns
-use Rattle.solo.specs.Turns.{turned, swept, lined, loosed, let_go, let_go_answer, scheduled, schedule_answer, scheduled_if, schedule_if_answer}
+use Rattle.solo.specs.Turns.{turned, swept, lined, loosed, let_go, let_go_answer, scheduled, schedule_answer, scheduled_if}
+use Rattle.solo.specs.Turns.{schedule_if_answer}
 use Rattle.solo_laws.specs.Going.{Going, Out, Step, calm, quiet}
 use Rattle.solo_laws.specs.Seen.{due, first, named_by, seen_next}
 use Rattle.solo_laws.specs.Done as done
@@ -222,20 +223,24 @@ module _ {F T X : Type 0} where
   line_as None mark s = (refl, refl)
 
   drains_at : (es : List (Entry F (Option Task))) (wakers : List Task) (s : Solo F T X) → DrainsAt es wakers (with_those es wakers s)
-  drains_at (e ∷ es) wakers s =
-      (drop_tail (length es) (length (closing.to_wake e.waker (with_those (e ∷ es) wakers s)).leaving.items) (named_by e.waker)
-      (closing.drained (with_those (e ∷ es) wakers s)) (handing (closing.drain_answer (with_those (e ∷ es) wakers s))),
-      refl, refl)
+  drains_at (e ∷ es) wakers s = (
+    drop_tail (length es) (length (closing.to_wake e.waker (with_those (e ∷ es) wakers s)).leaving.items) (named_by e.waker)
+        (closing.drained (with_those (e ∷ es) wakers s)) (handing (closing.drain_answer (with_those (e ∷ es) wakers s))),
+    refl,
+    refl,
+  )
   drains_at [] (task ∷ wakers) s =
       let left : Solo F T X = with_those [] wakers s in
       let out : Out F T X = telling (solo.wake_answer task left) in
       let after : Solo F T X = closing.leaving_woken task left in
-      let n : ℕ = length wakers in
-      (ap (goes 19 (step.End reply.Done ∷ []))
-      (wakes_then (asked cells.wake_queues false task s.cells) (closes_by 0 n) (record (calm after) { out = out; left = closes_by 0 n })
-      task left (rests task left) (λ m. wake_tail n m after out))
-      ∙ wake_ends n after out,
-      refl, refl)
+      let n : ℕ = length wakers in (
+        ap (goes 19 (step.End reply.Done ∷ []))
+            (wakes_then (asked cells.wake_queues false task s.cells) (closes_by 0 n) (record (calm after) { out = out; left = closes_by 0 n })
+            task left (rests task left) (λ m. wake_tail n m after out))
+            ∙ wake_ends n after out,
+        refl,
+        refl,
+      )
   drains_at [] [] s =
       let shut : Solo F T X = closing.shut_line (with_those [] [] s) in
       let found = lines.found_from Urgent shut.lines in

@@ -39,7 +39,8 @@ use Rattle.solo_laws.specs.Done.{either, future_in, swept_by, leaves}
 use Rattle.solo_laws.specs.Done as done
 use Rattle.solo_laws.specs.Goes.{goes}
 use Rattle.solo_laws.specs.HandedOut.{telling, owing}
-use Rattle.solo_laws.specs.PollsGo.{ReadySettlesGo, PendingSettlesGo, FinishesGo, FinishesBy, RetractsGo, waker_in, at, left_by_end, left_by_future, left_by_place, taken_back, IsOwn}
+use Rattle.solo_laws.specs.PollsGo.{ReadySettlesGo, PendingSettlesGo, FinishesGo, FinishesBy, RetractsGo, waker_in, at, left_by_end}
+use Rattle.solo_laws.specs.PollsGo.{left_by_future, left_by_place, taken_back, IsOwn}
 use Rattle.solo_laws.proofs.Stepping.Telling.{two, five, nine, free, lets_go, alone, telling_in, appends}
 use Rattle.solo_laws.proofs.Stepping.Paying.{calls}
 use Rattle.solo_laws.proofs.Stepping.Taking.{either_none}
@@ -116,21 +117,22 @@ module _ {F T X : Type 0} where
       let drops : Option T = asked (cells.ready_drops output) (Some output) lent.task gone.cells in
       let calls : Option (SoloWaker X) = asked (cells.ready_calls output) None lent.task gone.cells in
       let ended : Solo F T X = turned (cells.ended_ready output) lent.task gone in
-      let out : Out F T X = record (telling left.told) { future = left.future } in
-      (refl,
-      ap (goes 19 (step.Move move.EndReady lent.task ∷ []))
-      (parts_leave (parts_of (entry_in lent.place s.table.entries)) lent.task (Some lent.place) (Some output) (without lent.place s) own)
-      ∙ ap (swept_by lent.task) (pays_by drops calls (nine 0) lent.task (record (at lent ended) { out = out }))
-      ∙ ap
-      (λ (o : Option T). record (at lent (solo.settled_ready lent output s)) {
-        out = record out { output = o; awaiter = either calls None };
-      })
-      (either_none drops)
-      ∙ ap
-      (λ (w : Option (SoloWaker X)). record (at lent (solo.settled_ready lent output s)) {
-        out = record out { output = drops; awaiter = w };
-      })
-      (either_none calls))
+      let out : Out F T X = record (telling left.told) { future = left.future } in (
+        refl,
+        ap (goes 19 (step.Move move.EndReady lent.task ∷ []))
+            (parts_leave (parts_of (entry_in lent.place s.table.entries)) lent.task (Some lent.place) (Some output) (without lent.place s) own)
+            ∙ ap (swept_by lent.task) (pays_by drops calls (nine 0) lent.task (record (at lent ended) { out = out }))
+            ∙ ap
+            (λ (o : Option T). record (at lent (solo.settled_ready lent output s)) {
+              out = record out { output = o; awaiter = either calls None };
+            })
+            (either_none drops)
+            ∙ ap
+            (λ (w : Option (SoloWaker X)). record (at lent (solo.settled_ready lent output s)) {
+              out = record out { output = drops; awaiter = w };
+            })
+            (either_none calls),
+      )
 
   -- without one
 
@@ -200,28 +202,29 @@ module _ {F T X : Type 0} where
   pub finishes_go : (s : Solo F T X) → FinishesGo s
   finishes_go s lent own =
       let end : Finish (SoloWaker X) = asked cells.finish_answer NoAwaiter lent.task (turns.left lent.place s).cells in
-      let gone = parts_leave (parts_of (entry_in lent.place s.table.entries)) lent.task (Some lent.place) None (without lent.place s) own in
-      (ap (goes 19 (step.Move move.SettleClosed lent.task ∷ [])) gone ∙ ends_as lent s end refl,
-      ap (goes 19 (step.Move move.EndClosed lent.task ∷ [])) gone ∙ ends_as lent s end refl,
-      λ nobody. ap (goes 19 (step.Handle (handle_step.LetGo lent.task) ∷ [])) gone
-      ∙ ap
-      (λ (w : Option (SoloWaker X)). record (at lent (solo.finished lent s)) {
-        awaiter = w;
-        out = record (telling (turns.left_answer lent.place s).told) {
-          future = (turns.left_answer lent.place s).future;
-          old = solo.dropped end;
-        };
-      })
-      nobody
-      ∙ ap
-      (λ (w : Option (SoloWaker X)). record (at lent (solo.finished lent s)) {
-        out = record (telling (turns.left_answer lent.place s).told) {
-          future = (turns.left_answer lent.place s).future;
-          awaiter = w;
-          old = solo.dropped end;
-        };
-      })
-      (sym nobody))
+      let gone = parts_leave (parts_of (entry_in lent.place s.table.entries)) lent.task (Some lent.place) None (without lent.place s) own in (
+        ap (goes 19 (step.Move move.SettleClosed lent.task ∷ [])) gone ∙ ends_as lent s end refl,
+        ap (goes 19 (step.Move move.EndClosed lent.task ∷ [])) gone ∙ ends_as lent s end refl,
+        λ nobody. ap (goes 19 (step.Handle (handle_step.LetGo lent.task) ∷ [])) gone
+            ∙ ap
+            (λ (w : Option (SoloWaker X)). record (at lent (solo.finished lent s)) {
+              awaiter = w;
+              out = record (telling (turns.left_answer lent.place s).told) {
+                future = (turns.left_answer lent.place s).future;
+                old = solo.dropped end;
+              };
+            })
+            nobody
+            ∙ ap
+            (λ (w : Option (SoloWaker X)). record (at lent (solo.finished lent s)) {
+              out = record (telling (turns.left_answer lent.place s).told) {
+                future = (turns.left_answer lent.place s).future;
+                awaiter = w;
+                old = solo.dropped end;
+              };
+            })
+            (sym nobody),
+      )
 
   -- a task is taken back
 

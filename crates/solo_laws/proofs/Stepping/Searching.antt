@@ -135,7 +135,7 @@ module _ {F T X : Type 0} where
 
     abbrev common_end : Option Task → Mark → Solo F T X → Option Task × Solo F T X
     common_end a mark s =
-        (( steals.further_answer_by a runner.number start s).task, steals.further_by a mark runner.number start s)
+        ((steals.further_answer_by a runner.number start s).task, steals.further_by a mark runner.number start s)
 
     found_common : (look : Look) (task : Task) (s : Solo F T X) (end : Going F T X)
         → Behind (Some task, stolen (source_of (source.Common (mark_in look))) runner.number s) end
@@ -213,10 +213,11 @@ module _ {F T X : Type 0} where
   pub run_takes_go : (s : Solo F T X) → RunTakesGo s
   run_takes_go s runner ticker waker start few fewer is =
       let task : Option Task = (seek_answer runner.number start s).task in
-      let left : Solo F T X = sought runner.number start s in
-      (searches_so runner start ticker (Some waker) (name_of waker) s (run_ticked task runner start ticker waker left)
-      (taken_so task runner start ticker waker left few fewer is),
-      runs_as task (seek_answer runner.number start s).has_walked runner start ticker waker left)
+      let left : Solo F T X = sought runner.number start s in (
+        searches_so runner start ticker (Some waker) (name_of waker) s (run_ticked task runner start ticker waker left)
+            (taken_so task runner start ticker waker left few fewer is),
+        runs_as task (seek_answer runner.number start s).has_walked runner start ticker waker left,
+      )
 
   -- without one
 
@@ -236,7 +237,8 @@ module _ {F T X : Type 0} where
   pub run_searches_go : (s : Solo F T X) → RunSearchesGo s
   run_searches_go s runner ticker waker start few fewer =
       let task : Option Task = (seek_answer runner.number start s).task in
-      let left : Solo F T X = sought runner.number start s in
-      (searches_so runner start ticker None (name_of waker) s (run_searched task runner start ticker waker left)
-      (searched_so task runner start ticker waker left few fewer),
-      turns_so task runner start s.lines.turn ticker waker left)
+      let left : Solo F T X = sought runner.number start s in (
+        searches_so runner start ticker None (name_of waker) s (run_searched task runner start ticker waker left)
+            (searched_so task runner start ticker waker left few fewer),
+        turns_so task runner start s.lines.turn ticker waker left,
+      )

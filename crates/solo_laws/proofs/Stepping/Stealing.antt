@@ -184,17 +184,18 @@ module _ {F T X : Type 0} where
       let a : Told X = let_go_answer t s in
       let gone : Solo F T X = let_go t s in
       let g : Going F T X = run_at runner start (Awake its_room) spare s in
-      let mid : Going F T X = record (run_at runner start (Awake its_room) spare gone) { out = telling_in a quiet } in
-      (mid,
-      fixed (λ n. two (two (two (nine n)))) 15 (step.Move move.Release t ∷ []) g mid (λ m le. omega (arith, le)) (λ n. lets_go n t g),
-      app (step.Sleeper sleeper_step.ExchangeFlag) more mid
-      (told_with runner start spare None (tell_unless_answer a.sleeper gone) a.returned (told_unless a.sleeper gone)) end
-      (ends_as tell mid _ _ (tells_so mid)
-      (ap (λ (w : Option X). told_with runner start spare None w (either a.returned None) (told gone))
-      (unless_answer a.sleeper gone (let_go_flag t s))
-      ∙ ap (λ (r : Option Task). told_with runner start spare None (tell_unless_answer a.sleeper gone) r (told gone)) (either_none a.returned)
-      ∙ ap (told_with runner start spare None (tell_unless_answer a.sleeper gone) a.returned) (unless_state a.sleeper gone (let_go_flag t s))))
-      tail)
+      let mid : Going F T X = record (run_at runner start (Awake its_room) spare gone) { out = telling_in a quiet } in (
+        mid,
+        fixed (λ n. two (two (two (nine n)))) 15 (step.Move move.Release t ∷ []) g mid (λ m le. omega (arith, le)) (λ n. lets_go n t g),
+        app (step.Sleeper sleeper_step.ExchangeFlag) more mid
+            (told_with runner start spare None (tell_unless_answer a.sleeper gone) a.returned (told_unless a.sleeper gone)) end
+            (ends_as tell mid _ _ (tells_so mid)
+            (ap (λ (w : Option X). told_with runner start spare None w (either a.returned None) (told gone))
+            (unless_answer a.sleeper gone (let_go_flag t s))
+            ∙ ap (λ (r : Option Task). told_with runner start spare None (tell_unless_answer a.sleeper gone) r (told gone)) (either_none a.returned)
+            ∙ ap (told_with runner start spare None (tell_unless_answer a.sleeper gone) a.returned) (unless_state a.sleeper gone (let_go_flag t s))))
+            tail,
+      )
 
   wakes_so : (ticker : Ticker) (r : ℕ) (more : List Step) (runner : Runner) (start : ℕ) (spare : Option (SoloWaker X))
       (s : Solo F T X) (end : Going F T X)

@@ -61,10 +61,13 @@ module _ {F T X : Type 0} where
 
   pub spawns_go : (s : Solo F T X) → SpawnsGo s
   spawns_go old mark future spawned new does =
-      let s : Solo F T X = does.0 in
-      (s, does.1, spawned_goes spawned.task s
-      ∙ ap (λ (n : Solo F T X). ends n reply.Made (telling (turns.schedule_answer spawned.task s))) (sym does.2)
-      ∙ ap (λ (told : Told X). ends new reply.Made (telling told)) (sym does.3))
+      let s : Solo F T X = does.0 in (
+        s,
+        does.1,
+        spawned_goes spawned.task s
+            ∙ ap (λ (n : Solo F T X). ends n reply.Made (telling (turns.schedule_answer spawned.task s))) (sym does.2)
+            ∙ ap (λ (told : Told X). ends new reply.Made (telling told)) (sym does.3),
+      )
 
   runs_by : (start : Option (Start EntryPlace)) (n : ℕ) (task : Task) (answer : Reply) (s : Solo F T X) (g : Going F T X)
       → goes (five n) (step.End answer ∷ [])
@@ -133,7 +136,8 @@ module _ {F T X : Type 0} where
   tries_by None s = (refl, refl, refl)
 
   pub takes_go : (s : Solo F T X) → TakesGo s
-  takes_go s =
-      (first_by (first_of (mark_of_turn s.lines.turn) (turned s.lines)) (mark_of_turn s.lines.turn)
-      (record s { lines = turned s.lines }),
-      tries_by (sought s) (popped s))
+  takes_go s = (
+    first_by (first_of (mark_of_turn s.lines.turn) (turned s.lines)) (mark_of_turn s.lines.turn)
+        (record s { lines = turned s.lines }),
+    tries_by (sought s) (popped s),
+  )

@@ -126,8 +126,8 @@ module _ {F T X : Type 0} where
       ≡ record (free g) {
         solo = choose a (told g.solo) g.solo;
         out = telling_in
-        (choose a (record { sleeper = told_waker g.solo; returned = None }) (record { sleeper = None; returned = Some task }))
-        g.out;
+            (choose a (record { sleeper = told_waker g.solo; returned = None }) (record { sleeper = None; returned = Some task }))
+            g.out;
       }
   appends_by true n task g = tells n g
   appends_by false n task g = refl

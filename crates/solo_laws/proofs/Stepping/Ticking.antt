@@ -42,7 +42,8 @@ use Rattle.solo_laws.specs.Done.{either, slept_anew, slept_again}
 use Rattle.solo_laws.specs.Goes.{goes}
 use Rattle.solo_laws.specs.TicksGo as calls
 use Rattle.solo_laws.specs.HandedOut.{ends, runs, dropping}
-use Rattle.solo_laws.specs.TicksGo.{TickTakesGo, TickSearchesGo, TickLeavesGo, TicksBegin, of_tick, has_place, has_place_at, lies, ticked, searched, turn_back, TicksAs}
+use Rattle.solo_laws.specs.TicksGo.{TickTakesGo, TickSearchesGo, TickLeavesGo, TicksBegin, of_tick, has_place, has_place_at, lies, ticked}
+use Rattle.solo_laws.specs.TicksGo.{searched, turn_back, TicksAs}
 use Rattle.solo_laws.proofs.Stepping.Telling.{two, nine, free, tells, lets_go, alone, telling_in}
 use Rattle.solo_laws.proofs.Stepping.Taking.{tells_and_runs, either_none}
 
@@ -282,10 +283,11 @@ module _ {F T X : Type 0} where
   ticks_by None t ticker waker s = (refl, refl, found_nothing ticker waker s, refl, refl, refl, refl)
 
   pub tick_takes_go : (s : Solo F T X) → TickTakesGo s
-  tick_takes_go s t ticker waker is =
-      (first_taken (first_of (mark_of_turn s.lines.turn) (turned s.lines)) (mark_of_turn s.lines.turn) t ticker waker
-      (record s { lines = turned s.lines }) (place_kept ticker s (turned s.lines) is),
-      ticks_by (sought s) t ticker waker (popped s))
+  tick_takes_go s t ticker waker is = (
+    first_taken (first_of (mark_of_turn s.lines.turn) (turned s.lines)) (mark_of_turn s.lines.turn) t ticker waker
+        (record s { lines = turned s.lines }) (place_kept ticker s (turned s.lines) is),
+    ticks_by (sought s) t ticker waker (popped s),
+  )
 
   -- without one
 
@@ -311,10 +313,11 @@ module _ {F T X : Type 0} where
   turns_back None t ticker waker turn s = refl
 
   pub tick_searches_go : (s : Solo F T X) → TickSearchesGo s
-  tick_searches_go s t ticker waker =
-      (first_searched (first_of (mark_of_turn s.lines.turn) (turned s.lines)) (mark_of_turn s.lines.turn) t ticker waker
-      (record s { lines = turned s.lines }),
-      turns_back (sought s) t ticker waker s.lines.turn (popped s))
+  tick_searches_go s t ticker waker = (
+    first_searched (first_of (mark_of_turn s.lines.turn) (turned s.lines)) (mark_of_turn s.lines.turn) t ticker waker
+        (record s { lines = turned s.lines }),
+    turns_back (sought s) t ticker waker s.lines.turn (popped s),
+  )
 
   -- a tick goes
 
@@ -326,8 +329,8 @@ module _ {F T X : Type 0} where
   leaves_with None n who own s =
       ap
       (λ (g : Going F T X).
-        goes (two (two (two (nine n)))) (step.End reply.Done ∷ [])
-        (goes (suc (two (two (nine n)))) (step.Run run_step.ReturnRoom ∷ []) g))
+      goes (two (two (two (nine n)))) (step.End reply.Done ∷ [])
+      (goes (suc (two (two (nine n)))) (step.Run run_step.ReturnRoom ∷ []) g))
       (tells (two (two n)) (record (calm s) { own = own }))
       ∙ ap
       (λ (w : Option X). record (ends (told s) reply.Done (record quiet { sleeper = w })) { own = own })
@@ -336,8 +339,8 @@ module _ {F T X : Type 0} where
   leaves_with (Some (OfTask task)) n who own s =
       ap
       (λ (g : Going F T X).
-        goes (two (two (two (nine n)))) (step.End reply.Done ∷ [])
-        (goes (suc (two (two (nine n)))) (step.Run run_step.ReturnRoom ∷ []) g))
+      goes (two (two (two (nine n)))) (step.End reply.Done ∷ [])
+      (goes (suc (two (two (nine n)))) (step.Run run_step.ReturnRoom ∷ []) g))
       (lets_go n task (record (calm s) { own = own }))
       ∙ ap (λ (out : Out F T X). record (ends (let_go task s) reply.Done out) { own = own }) (alone (let_go_answer task s) quiet)
 

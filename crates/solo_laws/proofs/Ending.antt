@@ -51,7 +51,7 @@ module _ {F T X : Type 0} where
   scheduled_rests task other s rests =
       chosen (Resting task) (takes other s) (told (lined other s)) (lined other s) (told_rests task (lined other s) rests) rests
 
-  woken_rests : (task : Task) (s : Solo F T X) → Resting task (woken task s)
+  pub woken_rests : (task : Task) (s : Solo F T X) → Resting task (woken task s)
   woken_rests task s =
       let marked : Solo F T X = turned cells.woken task s in
       let rests : Resting task marked = itself_woken task s.cells in

@@ -27,3 +27,4 @@ pub mod RoomParts
 pub mod RoomFrames
 pub mod RoomCourses
 pub mod Following
+pub mod Stepping

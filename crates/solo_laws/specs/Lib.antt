@@ -10,3 +10,14 @@ pub mod Road
 pub mod Tabled
 pub mod Alike
 pub mod Spawning
+pub mod Going
+pub mod Seen
+pub mod Done
+pub mod Goes
+pub mod HandedOut
+pub mod CallsGo
+pub mod TicksGo
+pub mod PollsGo
+pub mod EndsGo
+pub mod RunsGo
+pub mod SearchesGo

@@ -48,7 +48,12 @@ pub struct Writer {
 /// The list of so many calls that this seed makes. One of 25 has 201 spawns or more before them, and makes three runs first, so that
 /// runs give way, keep futures and take those of others. Half of the lists have a few calls more, which drop each tick and run, and
 /// an executor that isn't static.
-pub fn list(alloc: Global, seed: u64, calls: u64, holds: Holds) -> Result<List, AllocError> {
+pub fn list_of_seed(
+    alloc: Global,
+    seed: u64,
+    calls: u64,
+    holds: Holds,
+) -> Result<List, AllocError> {
     let mut draws = Draws::of(seed);
     let crowd = if draws.comes(4) {
         draws.below(60).saturating_add(201)

@@ -2,7 +2,7 @@
 
 use crate::family::Family;
 use crate::fault::Fault;
-use crate::lists::list::{Holds, list};
+use crate::lists::list::{Holds, list_of_seed};
 use crate::players::Players;
 use crate::shown::{Shown, machine, print_text};
 use call_player::PlaysTasks;
@@ -133,10 +133,10 @@ impl Lists {
             first: None,
         };
         for seed in self.from..self.to.min(road.below) {
-            let made = list(rt.alloc(), seed, self.calls, road.holds)?;
+            let made = list_of_seed(rt.alloc(), seed, self.calls, road.holds)?;
             if road.plays(made.is_static) {
                 let calls = self.calls.saturating_sub(self.lacks);
-                let on_machine = list(rt.alloc(), seed, calls, road.holds)?;
+                let on_machine = list_of_seed(rt.alloc(), seed, calls, road.holds)?;
                 let owed = machine(rt.alloc(), on_machine.script.as_bytes())?;
                 let shown = road.family.play(rt, players, made.script.as_bytes())?;
                 alike.count(Played {

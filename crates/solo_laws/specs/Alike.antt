@@ -1,6 +1,5 @@
 -- What calls of an executor of one owner and of the plain scheduler have in common: where both stand alike they leave both alike.
--- The plain scheduler is told by its choices what the executor does: who lay down last is told, the turn names the mark, and a
--- copy is
+-- The plain scheduler is told by its choices what the executor does: who lay down last is told, the turn names the mark, and a copy is
 -- refused where a task has as many references as it may.
 use Rattle.std.specs.Prelude.{◌≡◌, ℕ, ◌<◌, ◌≤◌, Bool, true, if◌then◌else◌, List, ◌∷◌, length, Option, Some, None}
 use Rattle.task_moves.specs.declared.local_task.answers.Polled.{Polled}

@@ -1,6 +1,6 @@
 -- That wakes, calls of a handle, spawns and takes go as `next` says: what each leaves and hands out is what its steps do, one after
 -- the other, each followed by what `next` says for what it saw.
-use Rattle.std.specs.Prelude.{◌≡◌, ℕ, Option, Some, None, Ok}
+use Rattle.std.specs.Prelude.{◌≡◌, ℕ, Option, Some, None, Ok, Err}
 use Rattle.executor_parts.specs.declared.mark.Mark.{Mark}
 use Rattle.call_steps.specs.declared.saw.Saw.{Saw}
 use Rattle.call_steps.specs.declared.saw.Saw.TheVariants as saw
@@ -60,9 +60,16 @@ module _ {F T X : Type 0} where
       × (goes deep (following (saw.Entered spawned.task) (begins (asked.Spawn mark))) (calm s)
       ≡ ends new reply.Made (telling spawned.told))
 
+  -- nothing is left changed but room
   abbrev pub RefusalsGo : Solo F T X → Type 0
-  RefusalsGo s = (mark : Mark) (refused : SpawnError F) →
-      goes deep (following (refusal refused) (begins (asked.Spawn mark))) (calm s) ≡ ends s (refused_as refused) quiet
+  RefusalsGo old = (mark : Mark) (future : F) (refused : SpawnError F) (new : Solo F T X)
+      → solo.Spawns mark future old (Err refused) new
+      → (goes deep (following (refusal refused) (begins (asked.Spawn mark))) (calm new)
+      ≡ ends
+      (record old { table = record old.table { has_room = new.table.has_room }; cells = new.cells })
+      (refused_as refused)
+      quiet)
+      × (new.cells.slab.slots ≡ old.cells.slab.slots) × (solo.refused refused ≡ future)
 
   abbrev pub LooksGo : Solo F T X → Type 0
   LooksGo s = goes deep (begins asked.IsEmpty) (calm s) ≡ ends s (choose (solo.is_empty s) reply.Yes reply.No) quiet

@@ -11,6 +11,7 @@ use Rattle.call_steps.specs.declared.asked.Asked.TheVariants as asked
 use Rattle.call_steps.specs.declared.reply.Reply.TheVariants as reply
 use Rattle.call_steps.specs.Begins.{begins}
 use Rattle.solo.specs.declared.names.Task.{Task}
+use Rattle.solo.specs.declared.owed.Told.{Told}
 use Rattle.solo.specs.declared.solo.Solo.{Solo}
 use Rattle.solo.specs.Cells.{asked}
 use Rattle.solo.specs.Cells as cells
@@ -41,11 +42,18 @@ module _ {F T X : Type 0} where
       leaks_on (length s.leaving.items) (closing.leaving_woken task s) (telling (closing.leaving_answer task s))
   leaks_next None s = record (ends s reply.Done quiet) { pauses = false }
 
+  abbrev pub telling_if : Option (Told X) → Out F T X
+  telling_if (Some told) = telling told
+  telling_if None = quiet
+
   -- one of those that the leak has taken out is called
   abbrev pub LeakNextsGo : Solo F T X → Type 0
   LeakNextsGo s =
-      goes deep (step.Closing closing_step.LeakNext ∷ step.End reply.Done ∷ []) (record (calm s) { pauses = false })
-      ≡ leaks_next (slice_get s.leaving.items 0) (closing.first_left s)
+      (goes deep (step.Closing closing_step.LeakNext ∷ step.End reply.Done ∷ []) (record (calm s) { pauses = false })
+      ≡ leaks_next (slice_get s.leaving.items 0) (closing.first_left s))
+      × ((leaks_next (slice_get s.leaving.items 0) (closing.first_left s)).solo ≡ closing.leak_woken s)
+      × (record (leaks_next (slice_get s.leaving.items 0) (closing.first_left s)).out { reply = None }
+      ≡ telling_if (closing.leak_answer s))
 
   abbrev pub ClosesGo : Solo F T X → Type 0
   ClosesGo s =

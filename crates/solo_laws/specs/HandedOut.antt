@@ -1,5 +1,5 @@
 -- What calls on an executor of one owner hand out, answer and leave to be done, as the steps have it.
-use Rattle.std.specs.Prelude.{ℕ, List, [], ◌∷◌, Option, Some, None}
+use Rattle.std.specs.Prelude.{◌≡◌, ℕ, List, [], ◌∷◌, Option, Some, None}
 use Rattle.executor_parts.specs.declared.places.EntryPlace.{EntryPlace}
 use Rattle.task_moves.specs.declared.local_task.answers.Start.{Start}
 use Rattle.task_moves.specs.declared.local_task.answers.Start.TheVariants.{Poll, Drop}
@@ -13,7 +13,7 @@ use Rattle.call_steps.specs.declared.reply.Reply.{Reply}
 use Rattle.call_steps.specs.Begins.{begins}
 use Rattle.solo.specs.declared.names.Task.{Task}
 use Rattle.solo.specs.declared.owed.Found.{Found}
-use Rattle.solo.specs.declared.owed.Found.TheVariants.{Drop as Drops, Nothing}
+use Rattle.solo.specs.declared.owed.Found.TheVariants.{Poll as Polls, Drop as Drops, Nothing}
 use Rattle.solo.specs.declared.owed.Lent.{Lent}
 use Rattle.solo.specs.declared.owed.Owed.{Owed}
 use Rattle.solo.specs.declared.ticks.Dropped.{Dropped}
@@ -42,6 +42,17 @@ to_run task None more = []
 abbrev pub reply_if : Option (Start EntryPlace) → Reply → Option Reply → Option Reply
 reply_if (Some start) reply before = before
 reply_if None reply before = Some reply
+
+-- the poll or the drop of a future with which what is left begins, and that of one that is handed out for it
+abbrev pub first_use : List Step → Option Step
+first_use (step.User (user_step.Poll task) ∷ more) = Some (step.User (user_step.Poll task))
+first_use (step.User (user_step.Drop task) ∷ more) = Some (step.User (user_step.Drop task))
+first_use _ = None
+
+abbrev pub use_of : {F : Type 0} → Found F → Option Step
+use_of (Polls lent future) = Some (step.User (user_step.Poll lent.task))
+use_of (Drops lent future) = Some (step.User (user_step.Drop lent.task))
+use_of _ = None
 
 -- a future that is dropped before the rest, or with nothing more to do
 abbrev pub drop_with : {F : Type 0} → Option Lent → Option F → Found F
@@ -85,6 +96,10 @@ module _ {F T X : Type 0} where
     };
     left = to_run task (start_of task g.solo) (step.End reply ∷ []);
   }
+
+  -- what is left begins with the poll or the drop of a future exactly where one is handed out for it
+  abbrev pub IsLent : Going F T X → Type 0
+  IsLent g = first_use g.left ≡ use_of g.out.found
 
   -- what a sleeper's waker that goes hands out
   abbrev pub dropping : Dropped X → Out F T X

@@ -18,7 +18,7 @@ use Rattle.solo.specs.Closing as closing
 use Rattle.solo.specs.Solo as solo
 use Rattle.solo_laws.specs.Seen.{poll_end}
 use Rattle.solo_laws.specs.Going.{Going, Step, calm}
-use Rattle.solo_laws.specs.HandedOut.{to_drop, owing, resumes}
+use Rattle.solo_laws.specs.HandedOut.{IsLent, to_drop, owing, resumes}
 
 -- the future of a closed task is dropped, and of one that nobody can reach
 abbrev pub left_by_end : Option abstract.PendingEnd → Task → List Step
@@ -50,13 +50,17 @@ module _ {F T X : Type 0} where
       × (resumes saw.Nothing (to_drop lent.task (step.Move move.EndReady lent.task ∷ [])) (record (at lent s) { given = Some output })
       ≡ record (at lent (solo.settled_ready lent output s)) { out = owing (solo.settle_ready_answer lent output s) })
 
+  abbrev pub pended : Lent → F → Solo F T X → Going F T X
+  pended lent future s = record (at lent (solo.settled_pending lent future s)) {
+    out = owing (solo.settle_pending_answer lent future s);
+    left = left_by_end (asked poll_end None lent.task s.cells) lent.task;
+  }
+
   abbrev pub PendingSettlesGo : Solo F T X → Type 0
   PendingSettlesGo s = (lent : Lent) (future : F) →
-      resumes saw.Pending (step.User (user_step.Poll lent.task) ∷ []) (record (at lent s) { back = Some future })
-      ≡ record (at lent (solo.settled_pending lent future s)) {
-        out = owing (solo.settle_pending_answer lent future s);
-        left = left_by_end (asked poll_end None lent.task s.cells) lent.task;
-      }
+      (resumes saw.Pending (step.User (user_step.Poll lent.task) ∷ []) (record (at lent s) { back = Some future })
+      ≡ pended lent future s)
+      × IsLent (pended lent future s)
 
   abbrev pub FinishesBy : Step → Lent → Solo F T X → Type 0
   FinishesBy last lent s =
@@ -84,4 +88,5 @@ module _ {F T X : Type 0} where
   -- a task that its queue has turned away
   abbrev pub RetractsGo : Solo F T X → Type 0
   RetractsGo s = (task : Task) →
-      resumes saw.Nothing (step.Queue (queue_step.Append task) ∷ []) (record (calm s) { retracts = true }) ≡ taken_back task s
+      (resumes saw.Nothing (step.Queue (queue_step.Append task) ∷ []) (record (calm s) { retracts = true }) ≡ taken_back task s)
+      × IsLent (taken_back task s)

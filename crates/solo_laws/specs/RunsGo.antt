@@ -11,6 +11,8 @@ use Rattle.call_steps.specs.declared.step.user.UserStep.TheVariants as user_step
 use Rattle.call_steps.specs.Begins.{begins}
 use Rattle.solo.specs.declared.names.Task.{Task}
 use Rattle.solo.specs.declared.runs.Leaving.{Leaving}
+use Rattle.solo.specs.declared.runs.RunLeft.{RunLeft}
+use Rattle.solo.specs.declared.runs.RunLeft.TheVariants.{Scheduled, Gone}
 use Rattle.solo.specs.declared.runs.Runner.{Runner}
 use Rattle.solo.specs.declared.ticks.Ticker.{Ticker}
 use Rattle.solo.specs.declared.solo.Solo.{Solo}
@@ -59,9 +61,16 @@ module _ {F T X : Type 0} where
         own = runs.rest_left leaving.own;
       }
 
+  -- this is what `solo` says of it
+  abbrev pub DrainsAs : RunLeft X → Runner → Going F T X → Type 0
+  DrainsAs (Scheduled leaving told) runner g =
+      (g.ticker ≡ leaving.ticker) × (g.own ≡ leaving.own) × (g.out ≡ telling told) × (g.left ≡ again runner)
+  DrainsAs (Gone dropped) runner g = (record g.out { reply = None } ≡ dropping dropped) × (g.left ≡ [])
+
   -- the first task that is left is queued; behind the last the run leaves the sleepers
   abbrev pub RunDrainsGo : Solo F T X → Type 0
   RunDrainsGo s = (runner : Runner) (leaving : Leaving) →
       (goes deep (again runner) (record (calm s) { ticker = leaving.ticker; own = leaving.own; pauses = false })
       ≡ run_drained (runs.first_left leaving.own) runner leaving s)
       × ((run_drained (runs.first_left leaving.own) runner leaving s).solo ≡ runs.drained leaving s)
+      × DrainsAs (runs.drain_answer leaving s) runner (run_drained (runs.first_left leaving.own) runner leaving s)

@@ -1,5 +1,5 @@
 -- That ticks go as `next` says.
-use Rattle.std.specs.Prelude.{◌≡◌, ℕ, ◌||◌, nat_lt, Bool, true, false, List, [], ◌∷◌, Option, Some, None}
+use Rattle.std.specs.Prelude.{◌≡◌, ℕ, ◌||◌, nat_lt, Bool, true, false, List, [], ◌∷◌, Option, Some, None, Result, Ok, Err}
 use Rattle.executor_parts.specs.Sleepers.{position_of}
 use Rattle.call_steps.specs.declared.names.Sleeping.{Sleeping}
 use Rattle.call_steps.specs.declared.names.TickOrRun.TheVariants as tick_or_run
@@ -94,10 +94,13 @@ module _ {F T X : Type 0} where
   ticked None sleeping ticker waker s = lies sleeping ticker waker (calm s)
 
   -- this is what `solo` says of the look of a tick
-  abbrev pub TicksAs : Ticked F X → Solo F T X → Going F T X → Type 0
-  TicksAs answer new g =
-      (g.solo ≡ new) × (g.ticker ≡ answer.ticker) × (g.out.found ≡ found_in answer.look) × (g.out.sleeper ≡ answer.sleeper)
+  abbrev pub AnswersAs : Ticked F X → Going F T X → Type 0
+  AnswersAs answer g =
+      (g.ticker ≡ answer.ticker) × (g.out.found ≡ found_in answer.look) × (g.out.sleeper ≡ answer.sleeper)
       × (g.out.gone ≡ answer.old) × (g.waker ≡ answer.spare) × (g.out.returned ≡ answer.returned)
+
+  abbrev pub TicksAs : Ticked F X → Solo F T X → Going F T X → Type 0
+  TicksAs answer new g = (g.solo ≡ new) × AnswersAs answer g
 
   abbrev pub TickTakesGo : Solo F T X → Type 0
   TickTakesGo s = (tick : ℕ) (ticker : Ticker) (waker : SoloWaker X) → has_place ticker s ≡ true →
@@ -116,6 +119,11 @@ module _ {F T X : Type 0} where
   turn_back (Some task) turn s = s
   turn_back None turn s = ticks.unturned turn s
 
+  -- and of one without a waker: where it finds nothing the tick comes back
+  abbrev pub SearchesAs : Result (Ticked F X) Ticker → Going F T X → Type 0
+  SearchesAs (Ok answer) g = AnswersAs answer g
+  SearchesAs (Err ticker) g = (g.ticker ≡ ticker) × (g.out ≡ quiet)
+
   -- a tick without a waker looks, and has to copy one where it finds nothing
   abbrev pub TickSearchesGo : Solo F T X → Type 0
   TickSearchesGo s = (tick : ℕ) (ticker : Ticker) (waker : SoloWaker X) →
@@ -123,6 +131,7 @@ module _ {F T X : Type 0} where
       ≡ searched (sought s) (of_tick waker tick) ticker (popped s))
       × (ticks.searched ticker s
       ≡ turn_back (sought s) s.lines.turn (searched (sought s) (of_tick waker tick) ticker (popped s)).solo)
+      × SearchesAs (ticks.search_answer ticker s) (searched (sought s) (of_tick waker tick) ticker (popped s))
 
   abbrev pub TickLeavesGo : Solo F T X → Type 0
   TickLeavesGo s = (tick : ℕ) (ticker : Ticker) →

@@ -67,7 +67,8 @@ pub fn a_handle_is_polled_alike<F, T, X>()
 
 /// So does the drop of a handle, which cancels and detaches its task.
 pub fn a_handle_goes_alike<F, T, X>()
-    ensures { (its : ℕ → Lent) (s : Solo F T X) (p : Plain T (SoloWaker X)) → Stands its s p → HandleDropsAlike (named its) (Stands its) s p }
+    ensures { (its : ℕ → Lent) (s : Solo F T X) (p : Plain T (SoloWaker X)) → Stands its s p
+        → HandleDropsAlike (named its) (Stands its) s p }
 {}
 
 /// So does the end of a poll that gave no output: the future waits, or is queued again, or is to be dropped.

@@ -1,4 +1,4 @@
-//! The calls of an executor of one owner take the steps that `begins` and `next` of `call_steps` say: what a call leaves, hands out and
+//! Calls of an executor of one owner take the steps that `begins` and `next` of `call_steps` say: what a call leaves, hands out and
 //! leaves to its owner is what these do one after the other, each followed by what `next` says for what it saw.
 ghost use Rattle.solo.specs.declared.solo.Solo.{Solo};
 ghost use Rattle.solo_laws.specs.CallsGo.{WakesGo, UsesGo, ReleasesGo, CancelsGo, DetachesGo, LooksGo, SpawnsGo, RefusalsGo, TakesGo};
@@ -16,7 +16,7 @@ pub fn wakes_go_by_next<F, T, X>()
     ensures releases { (s : Solo F T X) → ReleasesGo s }
 {}
 
-/// A cancel and a detach: what the task owes is paid in the order of `next`.
+/// A cancel and a detach: the task is queued and a sleeper told; an output and who awaits are handed out.
 pub fn handles_go_by_next<F, T, X>()
     ensures cancels { (s : Solo F T X) → CancelsGo s }
     ensures detaches { (s : Solo F T X) → DetachesGo s }
@@ -66,7 +66,7 @@ pub fn runs_go_by_next<F, T, X>()
 
 /// The search of a run, with a copy of its waker and without one: its own queue, the executor's, a steal, the walk, and what it does
 /// with what it has found. It has counted fewer than 64 since its last steal for their number, and taken fewer than 200 since it last
-/// let others go first; where it falls asleep it has room to.
+/// let others go first; it has room to fall asleep in, or sleeps.
 pub fn runs_search_by_next<F, T, X>()
     ensures takes { (s : Solo F T X) → RunTakesGo s }
     ensures searches { (s : Solo F T X) → RunSearchesGo s }

@@ -29,7 +29,7 @@ use Rattle.solo_laws.specs.Seen.{due, first, named_by, seen_next}
 use Rattle.solo_laws.specs.Done as done
 use Rattle.solo_laws.specs.Goes.{goes}
 use Rattle.solo_laws.specs.HandedOut.{ends, telling, owing, handing}
-use Rattle.solo_laws.specs.EndsGo.{LeaksGo, LeakNextsGo, ClosesGo, DrainsGo, leaks, leaks_on, leaks_next, drains, drains_line}
+use Rattle.solo_laws.specs.EndsGo.{LeaksGo, LeakNextsGo, ClosesGo, DrainsGo, leaks, leaks_on, leaks_next, telling_if, drains, drains_line}
 use Rattle.solo_laws.specs.PollsGo.{taken_back, left_by_place}
 use Rattle.solo_laws.proofs.Stepping.Telling.{two, nine, free, appends, lets_go, alone, telling_in}
 use Rattle.solo_laws.proofs.Stepping.Ending.{takes_back}
@@ -124,8 +124,24 @@ module _ {F T X : Type 0} where
       (λ m. leak_tail n m after out))
       ∙ leak_ends n after out
 
+  abbrev LeaksAs : Option Task → Solo F T X → Type 0
+  LeaksAs a s =
+      ((leaks_next a s).solo ≡ closing.leak_woken_by a s)
+      × (record (leaks_next a s).out { reply = None } ≡ telling_if (closing.leak_answer_by a s))
+
+  leaks_on_as : (n : ℕ) (s : Solo F T X) (told : Told X)
+      → ((leaks_on n s (telling told)).solo ≡ s) × (record (leaks_on n s (telling told)).out { reply = None } ≡ telling told)
+  leaks_on_as zero s told = (refl, refl)
+  leaks_on_as (suc n) s told = (refl, refl)
+
+  leaks_as : (a : Option Task) (s : Solo F T X) → LeaksAs a s
+  leaks_as (Some task) s = leaks_on_as (length s.leaving.items) (closing.leaving_woken task s) (closing.leaving_answer task s)
+  leaks_as None s = (refl, refl)
+
   pub leak_nexts_go : (s : Solo F T X) → LeakNextsGo s
-  leak_nexts_go s = leaks_next_by (slice_get s.leaving.items 0) s
+  leak_nexts_go s =
+      let said = leaks_as (slice_get s.leaving.items 0) (closing.first_left s) in
+      (leaks_next_by (slice_get s.leaving.items 0) s, said.0, said.1)
 
   -- the end
 

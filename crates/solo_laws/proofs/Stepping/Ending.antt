@@ -38,7 +38,7 @@ use Rattle.solo_laws.specs.Seen.{seen_back, allowed, has_waker, notify, ends_by,
 use Rattle.solo_laws.specs.Done.{either, future_in, swept_by, leaves}
 use Rattle.solo_laws.specs.Done as done
 use Rattle.solo_laws.specs.Goes.{goes}
-use Rattle.solo_laws.specs.HandedOut.{telling, owing}
+use Rattle.solo_laws.specs.HandedOut.{first_use, telling, owing, use_of}
 use Rattle.solo_laws.specs.PollsGo.{ReadySettlesGo, PendingSettlesGo, FinishesGo, FinishesBy, RetractsGo, waker_in, at, left_by_end}
 use Rattle.solo_laws.specs.PollsGo.{left_by_future, left_by_place, taken_back, IsOwn}
 use Rattle.solo_laws.proofs.Stepping.Telling.{two, five, nine, free, lets_go, alone, telling_in, appends}
@@ -154,20 +154,32 @@ module _ {F T X : Type 0} where
       ∙ ap (λ (out : Out F T X). record (at lent (turns.scheduled lent.task back)) { out = out })
       (alone (turns.schedule_answer lent.task back) (record quiet { future = over }))
 
+  -- a future is handed out to be dropped where its drop is left
+  pended_lent : (e : Option abstract.PendingEnd) (lent : Lent) (future : F) (s : Solo F T X)
+      → first_use (left_by_end e lent.task) ≡ use_of (owing (solo.pending_answer_by (after_of e) lent future s)).found
+  pended_lent (Some abstract.PendingEnd.Drops) lent future s = refl
+  pended_lent (Some abstract.PendingEnd.Forgets) lent future s = refl
+  pended_lent (Some abstract.PendingEnd.Rests) lent future s = refl
+  pended_lent (Some abstract.PendingEnd.Queues) lent future s = refl
+  pended_lent None lent future s = refl
+
   pub pending_settles_go : (s : Solo F T X) → PendingSettlesGo s
   pending_settles_go s lent future =
       let end : Option abstract.PendingEnd = asked poll_end None lent.task s.cells in
       let same = after_in lent.task (get s.cells.slab lent.task.key) in
-      let ended : Solo F T X = turned (cells.ended_pending lent.place) lent.task s in
-      ap (λ (a : After). goes 18 (owed true lent.task (ends_by end)) (done.pending_by a lent.place (record (at lent ended) { future = Some future })))
-      same
-      ∙ pends_by end lent future ended
-      ∙ ap
-      (λ (a : After). record (at lent (solo.pending_by a lent future ended)) {
-        out = owing (solo.pending_answer_by a lent future ended);
-        left = left_by_end end lent.task;
-      })
-      (sym same)
+      let ended : Solo F T X = turned (cells.ended_pending lent.place) lent.task s in (
+        ap (λ (a : After). goes 18 (owed true lent.task (ends_by end)) (done.pending_by a lent.place (record (at lent ended) { future = Some future })))
+            same
+            ∙ pends_by end lent future ended
+            ∙ ap
+            (λ (a : After). record (at lent (solo.pending_by a lent future ended)) {
+              out = owing (solo.pending_answer_by a lent future ended);
+              left = left_by_end end lent.task;
+            })
+            (sym same),
+        pended_lent end lent future ended
+            ∙ ap (λ (a : After). use_of (owing (solo.pending_answer_by a lent future ended)).found) (sym same),
+      )
 
   -- the last drop of a future
 
@@ -280,5 +292,16 @@ module _ {F T X : Type 0} where
   takes_back n task s =
       back_by (asked cells.retract_answer None task s.cells) n task s (turned cells.retracted task s).cells
 
+  lent_future : (future : Option F) (task : Task) (place : EntryPlace) (s : Solo F T X)
+      → first_use (left_by_future future task) ≡ use_of (owing (closing.retract_future_answer future place task s)).found
+  lent_future (Some future) task place s = refl
+  lent_future None task place s = refl
+
+  lent_back : (p : Option EntryPlace) (task : Task) (s : Solo F T X)
+      → first_use (left_by_place p task s) ≡ use_of (owing (closing.retract_answer_by p task (turned cells.retracted task s))).found
+  lent_back (Some place) task s =
+      lent_future (future_of (entry_in place s.table.entries)) task place (closing.out place (turned cells.retracted task s))
+  lent_back None task s = refl
+
   pub retracts_go : (s : Solo F T X) → RetractsGo s
-  retracts_go s task = takes_back 9 task s
+  retracts_go s task = (takes_back 9 task s, lent_back (asked cells.retract_answer None task s.cells) task s)

@@ -13,7 +13,7 @@ use Rattle.solo.specs.Turns.{scheduled, schedule_answer}
 use Rattle.solo_laws.specs.Going.{Going, Out, calm, quiet}
 use Rattle.solo_laws.specs.Seen.{first}
 use Rattle.solo_laws.specs.Goes.{goes}
-use Rattle.solo_laws.specs.RunsGo.{RunsBegin, RunsRegister, RunLeavesGo, RunDrainsGo, again, run_drained}
+use Rattle.solo_laws.specs.RunsGo.{RunsBegin, RunsRegister, RunLeavesGo, RunDrainsGo, DrainsAs, again, run_drained}
 use Rattle.solo_laws.proofs.Stepping.Telling.{appends, alone}
 use Rattle.solo_laws.proofs.Stepping.Ticking.{leaves_as}
 
@@ -48,6 +48,14 @@ module _ {F T X : Type 0} where
   solo_by (Some task) runner leaving s = refl
   solo_by None runner leaving s = refl
 
+  drains_as : (a : Option Task) (runner : Runner) (leaving : Leaving) (s : Solo F T X)
+      → DrainsAs (runs.drain_answer_by a leaving s) runner (run_drained a runner leaving s)
+  drains_as (Some task) runner leaving s = (refl, refl, refl, refl)
+  drains_as None runner leaving s = (refl, refl)
+
   pub run_drains_go : (s : Solo F T X) → RunDrainsGo s
-  run_drains_go s runner leaving =
-      (drains_by (runs.first_left leaving.own) runner leaving s, solo_by (runs.first_left leaving.own) runner leaving s)
+  run_drains_go s runner leaving = (
+    drains_by (runs.first_left leaving.own) runner leaving s,
+    solo_by (runs.first_left leaving.own) runner leaving s,
+    drains_as (runs.first_left leaving.own) runner leaving s,
+  )

@@ -2,10 +2,14 @@
 use Rattle.std.proofs.Common.{◌≡◌, ℕ, zero, suc, ◌%◌, ◌<◌, Bool, true, false, List, [], ◌∷◌}
 use Rattle.std.proofs.Common.{Option, Some, None, refl, arith}
 use Rattle.executor_parts.specs.declared.mark.Mark.{Mark}
+use Rattle.executor_parts.specs.declared.places.EntryPlace.{EntryPlace}
 use Rattle.executor_parts.specs.Marks.{other}
+use Rattle.task_moves.specs.declared.local_task.answers.Start.{Start}
+use Rattle.task_moves.specs.declared.local_task.answers.Start.TheVariants.{Poll, Drop}
 use Rattle.call_steps.specs.declared.names.Look.{Look}
 use Rattle.call_steps.specs.declared.names.Look.TheVariants.{First, Second}
 use Rattle.call_steps.specs.declared.names.RunPoll.{RunPoll}
+use Rattle.call_steps.specs.declared.names.Sleeping.{Sleeping}
 use Rattle.call_steps.specs.declared.names.Source.TheVariants as source
 use Rattle.call_steps.specs.declared.names.Steal.{Steal}
 use Rattle.call_steps.specs.declared.names.Then.TheVariants as then
@@ -30,13 +34,16 @@ use Rattle.solo.specs.OwnQueues as own
 use Rattle.solo.specs.Runs as runs
 use Rattle.solo.specs.Steals as steals
 use Rattle.solo.specs.Steals.{is_own, next_place, own_popped, round, round_on, seek_answer, sought}
-use Rattle.solo.specs.Steals.{stolen}
+use Rattle.solo.specs.Steals.{stolen, stolen_if}
+use Rattle.solo.specs.Ticks as ticks
 use Rattle.solo_laws.specs.Going.{Going, Step}
 use Rattle.solo_laws.specs.Seen.{name_of, first, found_or, sleeps, source_of, walk_at, walk_from}
 use Rattle.solo_laws.specs.Done.{walks_to}
 use Rattle.solo_laws.specs.Goes.{goes}
-use Rattle.solo_laws.specs.TicksGo.{has_place, lies, turn_back, TicksAs}
-use Rattle.solo_laws.specs.SearchesGo.{Ends, of_run, run_at, run_searched, run_ticked, RunSearchesGo, RunTakesGo}
+use Rattle.solo_laws.specs.HandedOut.{start_of}
+use Rattle.solo_laws.specs.TicksGo.{has_place, is_again, lies, looks_again, turn_back, woken}
+use Rattle.solo_laws.specs.SearchesGo.{Ends, behind_run, calls_own, of_run, run_at, run_searched, run_ticked, to_run_on}
+use Rattle.solo_laws.specs.SearchesGo.{RunsAs, RunSearchesAs, RunSearchesGo, RunTakesGo}
 use Rattle.solo_laws.proofs.Stepping.Telling.{two, nine}
 use Rattle.solo_laws.proofs.Stepping.Ticking.{found_nothing, lies_down}
 use Rattle.solo_laws.proofs.Stepping.Depth.{app, fixed, nil, one}
@@ -52,6 +59,21 @@ searcher_of runner ticker = record { sleeps = sleeps ticker; counted = runner.co
 abbrev after : Runner → Ticker → Waker Task → Option Task → List Step
 after runner ticker w (Some task) = found_by_run (searcher_of runner ticker) (poll_of runner.number w) task
 after runner ticker w None = step.Tick (tick_step.CopyWaker (asleep (poll_of runner.number w))) ∷ []
+
+-- it gives way where it calls its own waker behind what it has found
+
+gives_by : (start : Option (Start EntryPlace)) (gives : Bool) (task : Task) (x : RunPoll Task ℕ)
+    → calls_own (to_run_on task start (behind_run gives x)) ≡ gives
+gives_by (Some (Poll place)) true task x = refl
+gives_by (Some (Poll place)) false task x = refl
+gives_by (Some (Drop place)) true task x = refl
+gives_by (Some (Drop place)) false task x = refl
+gives_by None true task x = refl
+gives_by None false task x = refl
+
+lies_on : (again : Bool) (sleeping : Sleeping Task ℕ) → calls_own (looks_again again sleeping) ≡ false
+lies_on true sleeping = refl
+lies_on false sleeping = refl
 
 module _ {F T X : Type 0} where
   -- the walk
@@ -204,11 +226,27 @@ module _ {F T X : Type 0} where
   taken_so (Some task) runner start ticker waker s few fewer is = finds_so runner start ticker (Some waker) (name_of waker) task s few fewer
   taken_so None runner start ticker waker s few fewer is = lies_so runner start ticker waker s is
 
+  gives_found : (runner : Runner) (ticker : Ticker) (w : SoloWaker X) (task : Task) (s : Solo F T X)
+      → calls_own (to_run_on task (start_of task (stolen_if (runs.is_steal_due runner) runner.number (woken ticker s)))
+      (behind_run (runs.gives_way runner) (of_run w runner)))
+      ≡ runs.gives_way runner
+  gives_found runner ticker w task s =
+      gives_by (start_of task (stolen_if (runs.is_steal_due runner) runner.number (woken ticker s))) (runs.gives_way runner) task
+      (of_run w runner)
+
+  took_as : (a : Option Task) (runner : Runner) (start : ℕ) (ticker : Ticker) (waker : SoloWaker X) (s : Solo F T X)
+      → (run_ticked a runner start ticker waker s).solo ≡ runs.took_by a runner ticker waker s
+  took_as (Some task) runner start ticker waker s = refl
+  took_as None runner start ticker waker s = refl
+
   runs_as : (a : Option Task) (walked : Bool) (runner : Runner) (start : ℕ) (ticker : Ticker) (waker : SoloWaker X) (s : Solo F T X)
-      → TicksAs (runs.take_answer_by a walked runner ticker waker s).ticked (runs.took_by a runner ticker waker s)
-      (run_ticked a runner start ticker waker s)
-  runs_as (Some task) walked runner start ticker waker s = (refl, refl, refl, refl, refl, refl, refl)
-  runs_as None walked runner start ticker waker s = (refl, refl, found_nothing ticker waker s, refl, refl, refl, refl)
+      → RunsAs (runs.take_answer_by a walked runner ticker waker s) (run_ticked a runner start ticker waker s)
+  runs_as (Some task) walked runner start ticker waker s =
+      (gives_found runner ticker waker task s, (refl, refl, refl, refl, refl, refl))
+  runs_as None walked runner start ticker waker s = (
+    lies_on (is_again (ticks.sleep_answer ticker waker s).look) (asleep (of_run waker runner)),
+    (refl, found_nothing ticker waker s, refl, refl, refl, refl),
+  )
 
   pub run_takes_go : (s : Solo F T X) → RunTakesGo s
   run_takes_go s runner ticker waker start few fewer is =
@@ -216,6 +254,7 @@ module _ {F T X : Type 0} where
       let left : Solo F T X = sought runner.number start s in (
         searches_so runner start ticker (Some waker) (name_of waker) s (run_ticked task runner start ticker waker left)
             (taken_so task runner start ticker waker left few fewer is),
+        took_as task runner start ticker waker left,
         runs_as task (seek_answer runner.number start s).has_walked runner start ticker waker left,
       )
 
@@ -234,6 +273,12 @@ module _ {F T X : Type 0} where
   turns_so (Some task) runner start turn ticker waker s = refl
   turns_so None runner start turn ticker waker s = refl
 
+  misses_as : (a : Option Task) (walked : Bool) (runner : Runner) (start : ℕ) (ticker : Ticker) (waker : SoloWaker X) (s : Solo F T X)
+      → RunSearchesAs (runs.search_answer_by a walked runner ticker s) (run_searched a runner start ticker waker s)
+  misses_as (Some task) walked runner start ticker waker s =
+      (gives_found runner ticker waker task s, (refl, refl, refl, refl, refl, refl))
+  misses_as None walked runner start ticker waker s = (refl, refl)
+
   pub run_searches_go : (s : Solo F T X) → RunSearchesGo s
   run_searches_go s runner ticker waker start few fewer =
       let task : Option Task = (seek_answer runner.number start s).task in
@@ -241,4 +286,5 @@ module _ {F T X : Type 0} where
         searches_so runner start ticker None (name_of waker) s (run_searched task runner start ticker waker left)
             (searched_so task runner start ticker waker left few fewer),
         turns_so task runner start s.lines.turn ticker waker left,
+        misses_as task (seek_answer runner.number start s).has_walked runner start ticker waker left,
       )

@@ -26,6 +26,7 @@ use Rattle.solo.specs.Cells as cells
 use Rattle.solo.specs.Lines.{LinesValue, first_of, popped_from, mark_of_turn, turned, taken_by, found_by}
 use Rattle.solo.specs.Solo as solo
 use Rattle.solo.specs.Solo.{sought, popped}
+use Rattle.solo.specs.Table.{Same, TableValue}
 use Rattle.solo.specs.Turns as turns
 use Rattle.solo_laws.specs.Going.{Going, Out, Step, calm, quiet}
 use Rattle.solo_laws.specs.Seen.{allowed, begins_by, first}
@@ -48,9 +49,17 @@ module _ {F T X : Type 0} where
   pub looks_go : (s : Solo F T X) → LooksGo s
   looks_go s = looks_by (solo.is_empty s) s
 
+  -- a refused spawn changes nothing but room
+  is_same : (old new : Solo F T X) → Same old.table old.cells new.table new.cells
+      → new ≡ record old { table = new.table; cells = new.cells }
+      → new ≡ record old { table = record old.table { has_room = new.table.has_room }; cells = new.cells }
+  is_same old new same is = is ∙ ap (λ (t : TableValue F). record old { table = t; cells = new.cells }) same.table
+
   pub refusals_go : (s : Solo F T X) → RefusalsGo s
-  refusals_go s mark (Full future) = refl
-  refusals_go s mark (NoMemory future) = refl
+  refusals_go old mark future (Full back) new does =
+      (ap (λ (n : Solo F T X). ends n reply.Full quiet) (is_same old new does.0.2 does.1), does.0.2.slots, does.0.0)
+  refusals_go old mark future (NoMemory back) new does =
+      (ap (λ (n : Solo F T X). ends n reply.NoMemory quiet) (is_same old new does.0.3 does.1), does.0.3.slots, does.0.0)
 
   spawned_goes : (task : Task) (s : Solo F T X)
       → goes 20 (step.Queue (queue_step.Append task) ∷ step.End reply.Made ∷ []) (calm s)

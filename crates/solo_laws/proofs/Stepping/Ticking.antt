@@ -43,7 +43,7 @@ use Rattle.solo_laws.specs.Goes.{goes}
 use Rattle.solo_laws.specs.TicksGo as calls
 use Rattle.solo_laws.specs.HandedOut.{ends, runs, dropping}
 use Rattle.solo_laws.specs.TicksGo.{TickTakesGo, TickSearchesGo, TickLeavesGo, TicksBegin, of_tick, has_place, has_place_at, lies, ticked}
-use Rattle.solo_laws.specs.TicksGo.{searched, turn_back, TicksAs}
+use Rattle.solo_laws.specs.TicksGo.{searched, turn_back, SearchesAs, TicksAs}
 use Rattle.solo_laws.proofs.Stepping.Telling.{two, nine, free, tells, lets_go, alone, telling_in}
 use Rattle.solo_laws.proofs.Stepping.Taking.{tells_and_runs, either_none}
 
@@ -279,8 +279,8 @@ module _ {F T X : Type 0} where
 
   ticks_by : (a : Option Task) (t : ℕ) (ticker : Ticker) (waker : SoloWaker X) (s : Solo F T X)
       → TicksAs (ticks.take_answer_by a ticker waker s) (ticks.taken_by a ticker waker s) (ticked a (of_tick waker t) ticker waker s)
-  ticks_by (Some task) t ticker waker s = (refl, refl, refl, refl, refl, refl, refl)
-  ticks_by None t ticker waker s = (refl, refl, found_nothing ticker waker s, refl, refl, refl, refl)
+  ticks_by (Some task) t ticker waker s = (refl, (refl, refl, refl, refl, refl, refl))
+  ticks_by None t ticker waker s = (refl, (refl, found_nothing ticker waker s, refl, refl, refl, refl))
 
   pub tick_takes_go : (s : Solo F T X) → TickTakesGo s
   tick_takes_go s t ticker waker is = (
@@ -312,11 +312,17 @@ module _ {F T X : Type 0} where
   turns_back (Some task) t ticker waker turn s = refl
   turns_back None t ticker waker turn s = refl
 
+  searches_by : (a : Option Task) (t : ℕ) (ticker : Ticker) (waker : SoloWaker X) (s : Solo F T X)
+      → SearchesAs (ticks.search_answer_by a ticker s) (searched a (of_tick waker t) ticker s)
+  searches_by (Some task) t ticker waker s = (refl, refl, refl, refl, refl, refl)
+  searches_by None t ticker waker s = (refl, refl)
+
   pub tick_searches_go : (s : Solo F T X) → TickSearchesGo s
   tick_searches_go s t ticker waker = (
     first_searched (first_of (mark_of_turn s.lines.turn) (turned s.lines)) (mark_of_turn s.lines.turn) t ticker waker
         (record s { lines = turned s.lines }),
     turns_back (sought s) t ticker waker s.lines.turn (popped s),
+    searches_by (sought s) t ticker waker (popped s),
   )
 
   -- a tick goes

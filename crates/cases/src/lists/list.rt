@@ -127,7 +127,8 @@ impl Writer {
 
     /// The same in front of a poll of a tick or run.
     pub fn write_refusal_of_poll(&mut self) -> Result<(), AllocError> {
-        self.write_refusal_if(self.holds != Holds::OneThread)
+        let is_spared = self.holds == Holds::OneThread;
+        self.write_refusal_if(!is_spared)
     }
 
     fn write_refusal_if(&mut self, may_refuse: bool) -> Result<(), AllocError> {

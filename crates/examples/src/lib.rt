@@ -13,13 +13,9 @@ mod hello;
 #[cfg(test)]
 mod one_thread;
 #[cfg(test)]
-mod orders;
-#[cfg(test)]
 mod own_executor;
 #[cfg(test)]
 mod pipeline;
-#[cfg(test)]
-mod scheduler;
 #[cfg(test)]
 mod sleepers;
 #[cfg(test)]

@@ -29,7 +29,7 @@ use Rattle.solo_laws.specs.Seen.{due, first, named_by, seen_next}
 use Rattle.solo_laws.specs.Done as done
 use Rattle.solo_laws.specs.Goes.{goes}
 use Rattle.solo_laws.specs.HandedOut.{ends, telling, owing, handing}
-use Rattle.solo_laws.specs.EndsGo.{LeaksGo, LeakNextsGo, ClosesGo, DrainsGo, leaks, leaks_on, leaks_next, telling_if, drains, drains_line}
+use Rattle.solo_laws.specs.EndsGo.{LeaksGo, LeakNextsGo, ClosesGo, DrainsGo, leaks_on, leaks_next, telling_if, drains, drains_line}
 use Rattle.solo_laws.specs.PollsGo.{taken_back, left_by_place}
 use Rattle.solo_laws.proofs.Stepping.Telling.{two, nine, free, appends, lets_go, alone, telling_in}
 use Rattle.solo_laws.proofs.Stepping.Ending.{takes_back}
@@ -83,7 +83,7 @@ module _ {F T X : Type 0} where
 
   -- a leak
 
-  leaks_by : (n : ℕ) (s : Solo F T X) → goes 19 (step.End reply.Done ∷ []) (goes 19 (leaking n) (calm s)) ≡ leaks n s
+  leaks_by : (n : ℕ) (s : Solo F T X) → goes 19 (step.End reply.Done ∷ []) (goes 19 (leaking n) (calm s)) ≡ leaks_on n s quiet
   leaks_by zero s = refl
   leaks_by (suc n) s = refl
 

@@ -41,11 +41,11 @@ use Rattle.solo_laws.specs.Seen.{name_of, first, found_or, sleeps, source_of, wa
 use Rattle.solo_laws.specs.Done.{walks_to}
 use Rattle.solo_laws.specs.Goes.{goes}
 use Rattle.solo_laws.specs.HandedOut.{start_of}
-use Rattle.solo_laws.specs.TicksGo.{has_place, is_again, lies, looks_again, turn_back, woken}
+use Rattle.solo_laws.specs.TicksGo.{has_place, is_again, lies, looks_again, turn_back}
 use Rattle.solo_laws.specs.SearchesGo.{Ends, behind_run, calls_own, of_run, run_at, run_searched, run_ticked, to_run_on}
 use Rattle.solo_laws.specs.SearchesGo.{RunsAs, RunSearchesAs, RunSearchesGo, RunTakesGo}
 use Rattle.solo_laws.proofs.Stepping.Telling.{two, nine}
-use Rattle.solo_laws.proofs.Stepping.Ticking.{found_nothing, lies_down}
+use Rattle.solo_laws.proofs.Stepping.Ticking.{found_nothing, lies_down, pending_as}
 use Rattle.solo_laws.proofs.Stepping.Depth.{app, fixed, nil, one}
 use Rattle.solo_laws.proofs.Stepping.Stealing.{finds_so, steals_so}
 
@@ -227,11 +227,11 @@ module _ {F T X : Type 0} where
   taken_so None runner start ticker waker s few fewer is = lies_so runner start ticker waker s is
 
   gives_found : (runner : Runner) (ticker : Ticker) (w : SoloWaker X) (task : Task) (s : Solo F T X)
-      → calls_own (to_run_on task (start_of task (stolen_if (runs.is_steal_due runner) runner.number (woken ticker s)))
+      → calls_own (to_run_on task (start_of task (stolen_if (runs.is_steal_due runner) runner.number (runs.told ticker s)))
       (behind_run (runs.gives_way runner) (of_run w runner)))
       ≡ runs.gives_way runner
   gives_found runner ticker w task s =
-      gives_by (start_of task (stolen_if (runs.is_steal_due runner) runner.number (woken ticker s))) (runs.gives_way runner) task
+      gives_by (start_of task (stolen_if (runs.is_steal_due runner) runner.number (runs.told ticker s))) (runs.gives_way runner) task
       (of_run w runner)
 
   took_as : (a : Option Task) (runner : Runner) (start : ℕ) (ticker : Ticker) (waker : SoloWaker X) (s : Solo F T X)
@@ -242,10 +242,10 @@ module _ {F T X : Type 0} where
   runs_as : (a : Option Task) (walked : Bool) (runner : Runner) (start : ℕ) (ticker : Ticker) (waker : SoloWaker X) (s : Solo F T X)
       → RunsAs (runs.take_answer_by a walked runner ticker waker s) (run_ticked a runner start ticker waker s)
   runs_as (Some task) walked runner start ticker waker s =
-      (gives_found runner ticker waker task s, (refl, refl, refl, refl, refl, refl))
+      (gives_found runner ticker waker task s, (refl, refl, refl, refl, refl, refl, refl))
   runs_as None walked runner start ticker waker s = (
     lies_on (is_again (ticks.sleep_answer ticker waker s).look) (asleep (of_run waker runner)),
-    (refl, found_nothing ticker waker s, refl, refl, refl, refl),
+    (refl, found_nothing ticker waker s, refl, refl, refl, refl, pending_as ticker waker s),
   )
 
   pub run_takes_go : (s : Solo F T X) → RunTakesGo s
@@ -276,7 +276,7 @@ module _ {F T X : Type 0} where
   misses_as : (a : Option Task) (walked : Bool) (runner : Runner) (start : ℕ) (ticker : Ticker) (waker : SoloWaker X) (s : Solo F T X)
       → RunSearchesAs (runs.search_answer_by a walked runner ticker s) (run_searched a runner start ticker waker s)
   misses_as (Some task) walked runner start ticker waker s =
-      (gives_found runner ticker waker task s, (refl, refl, refl, refl, refl, refl))
+      (gives_found runner ticker waker task s, (refl, refl, refl, refl, refl, refl, refl))
   misses_as None walked runner start ticker waker s = (refl, refl)
 
   pub run_searches_go : (s : Solo F T X) → RunSearchesGo s

@@ -81,7 +81,8 @@ module _ {F T X : Type 0} where
   -- with a copy of its waker
   abbrev pub RunTakesGo : Solo F T X → Type 0
   RunTakesGo s = (runner : Runner) (ticker : Ticker) (waker : SoloWaker X) (start : ℕ)
-      → runner.counted < 64 → runner.taken < 200 → has_place ticker (sought runner.number start s) ≡ true
+      → runner.counted < 64 → runner.taken < 200
+      → ((seek_answer runner.number start s).task ≡ None → has_place ticker (sought runner.number start s) ≡ true)
       → Ends (following saw.Pending (step.User (user_step.PollOwn (of_run waker runner)) ∷ []))
       (record (run_at runner start ticker (Some waker) s) { rests = false })
       (run_ticked (seek_answer runner.number start s).task runner start ticker waker (sought runner.number start s))

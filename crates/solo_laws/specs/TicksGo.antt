@@ -109,7 +109,7 @@ module _ {F T X : Type 0} where
   TicksAs answer new g = (g.solo ≡ new) × AnswersAs answer g
 
   abbrev pub TickTakesGo : Solo F T X → Type 0
-  TickTakesGo s = (tick : ℕ) (ticker : Ticker) (waker : SoloWaker X) → has_place ticker s ≡ true →
+  TickTakesGo s = (tick : ℕ) (ticker : Ticker) (waker : SoloWaker X) → (sought s ≡ None → has_place ticker s ≡ true) →
       (goes deep (begins (asks.PollTick (of_tick waker tick))) (record (calm s) { ticker = ticker; waker = Some waker })
       ≡ ticked (sought s) (of_tick waker tick) ticker waker (popped s))
       × TicksAs (ticks.take_answer ticker waker s) (ticks.taken ticker waker s)

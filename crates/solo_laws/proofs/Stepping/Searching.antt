@@ -220,11 +220,11 @@ module _ {F T X : Type 0} where
       (λ n. lies_down ticker n (asleep (of_run waker runner)) waker (run_at runner start ticker (Some waker) s) is)
 
   taken_so : (a : Option Task) (runner : Runner) (start : ℕ) (ticker : Ticker) (waker : SoloWaker X) (s : Solo F T X)
-      → runner.counted < 64 → runner.taken < 200 → has_place ticker s ≡ true
+      → runner.counted < 64 → runner.taken < 200 → (a ≡ None → has_place ticker s ≡ true)
       → Ends (after runner ticker (name_of waker) a) (run_at runner start ticker (Some waker) s)
       (run_ticked a runner start ticker waker s)
   taken_so (Some task) runner start ticker waker s few fewer is = finds_so runner start ticker (Some waker) (name_of waker) task s few fewer
-  taken_so None runner start ticker waker s few fewer is = lies_so runner start ticker waker s is
+  taken_so None runner start ticker waker s few fewer is = lies_so runner start ticker waker s (is refl)
 
   gives_found : (runner : Runner) (ticker : Ticker) (w : SoloWaker X) (task : Task) (s : Solo F T X)
       → calls_own (to_run_on task (start_of task (stolen_if (runs.is_steal_due runner) runner.number (runs.told ticker s)))

@@ -246,15 +246,15 @@ module _ {F T X : Type 0} where
   -- with a waker
 
   second_taken : (b : Option Task) (mark : Mark) (t : ℕ) (ticker : Ticker) (waker : SoloWaker X) (s : Solo F T X)
-      → has_place ticker s ≡ true
+      → (b ≡ None → has_place ticker s ≡ true)
       → goes 17 (next_tick (tick_step.Look (of_tick waker t) (Second mark)) (first_by (sleeps ticker) b))
       (record (calm s) { ticker = ticker; waker = Some waker })
       ≡ ticked b (of_tick waker t) ticker waker s
   second_taken (Some task) mark t ticker waker s is = finds ticker 1 t task (Some waker) s
-  second_taken None mark t ticker waker s is = lies_down ticker 0 (of_tick waker t) waker (calm s) is
+  second_taken None mark t ticker waker s is = lies_down ticker 0 (of_tick waker t) waker (calm s) (is refl)
 
   first_taken : (a : Option Task) (mark : Mark) (t : ℕ) (ticker : Ticker) (waker : SoloWaker X) (s : Solo F T X)
-      → has_place ticker s ≡ true
+      → ((found_by a mark (popped_from mark s.lines)).task ≡ None → has_place ticker s ≡ true)
       → goes 18 (next_tick (tick_step.Look (of_tick waker t) (First mark)) (first_by (sleeps ticker) a))
       (record (calm (record s { lines = popped_from mark s.lines })) { ticker = ticker; waker = Some waker })
       ≡ ticked (found_by a mark (popped_from mark s.lines)).task (of_tick waker t) ticker waker
@@ -263,7 +263,7 @@ module _ {F T X : Type 0} where
       finds ticker 2 t task (Some waker) (record s { lines = popped_from mark s.lines })
   first_taken None mark t ticker waker s is =
       second_taken (first_of (other mark) (popped_from mark s.lines)) (other mark) t ticker waker
-      (record s { lines = popped_from (other mark) (popped_from mark s.lines) }) (place_kept ticker s _ is)
+      (record s { lines = popped_from (other mark) (popped_from mark s.lines) }) (λ none. place_kept ticker s _ (is none))
 
   again_found : (p : Option ℕ) (b : Bool) (sleeper : Sleeper) (waker : SoloWaker X) (s : Solo F T X) → b ≡ ticks.is_short s
       → Nothing ≡ calls.found_in (ticks.sleep_again_answer p sleeper waker s).look
@@ -321,7 +321,7 @@ module _ {F T X : Type 0} where
   pub tick_takes_go : (s : Solo F T X) → TickTakesGo s
   tick_takes_go s t ticker waker is = (
     first_taken (first_of (mark_of_turn s.lines.turn) (turned s.lines)) (mark_of_turn s.lines.turn) t ticker waker
-        (record s { lines = turned s.lines }) (place_kept ticker s (turned s.lines) is),
+        (record s { lines = turned s.lines }) (λ none. place_kept ticker s (turned s.lines) (is none)),
     ticks_by (sought s) t ticker waker (popped s),
   )
 

@@ -23,6 +23,7 @@ use Rattle.call_steps.specs.declared.step.run.RunStep.TheVariants as run_step
 use Rattle.call_steps.specs.declared.step.tick.TickStep.TheVariants as tick_step
 use Rattle.call_steps.specs.Next.{next_list, next_run, next_tick}
 use Rattle.call_steps.specs.Sleeping.{asleep, found_by_run}
+use Rattle.call_steps.specs.Seeing.{first}
 use Rattle.solo.specs.declared.names.Task.{Task}
 use Rattle.solo.specs.declared.names.SoloWaker.{SoloWaker}
 use Rattle.solo.specs.declared.runs.Runner.{Runner}
@@ -37,7 +38,7 @@ use Rattle.solo.specs.Steals.{is_own, next_place, own_popped, round, round_on, s
 use Rattle.solo.specs.Steals.{stolen, stolen_if}
 use Rattle.solo.specs.Ticks as ticks
 use Rattle.solo_laws.specs.Going.{Going, Step}
-use Rattle.solo_laws.specs.Seen.{name_of, first, found_or, sleeps, source_of, walk_at, walk_from}
+use Rattle.solo_laws.specs.Seen.{name_of, found_or, sleeps, source_of, walk_at, walk_from}
 use Rattle.solo_laws.specs.Done.{walks_to}
 use Rattle.solo_laws.specs.Goes.{goes}
 use Rattle.solo_laws.specs.HandedOut.{start_of}

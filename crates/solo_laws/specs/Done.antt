@@ -135,13 +135,10 @@ module _ {F T X : Type 0} where
         out = record g.out { old = solo.dropped end };
       }
 
-  abbrev pub out_at : EntryPlace → Solo F T X → Solo F T X
-  out_at place s = record s { table = record s.table { entries = set_future place None s.table.entries } }
-
   -- a task that is taken back is closed, and its future is in hand
   abbrev pub back_by : Option EntryPlace → Task → Solo F T X → Going F T X → Going F T X
   back_by (Some place) f s g = record g {
-    solo = out_at place s;
+    solo = closing.out place s;
     retracts = false;
     place = Some place;
     future = future_of (entry_in place s.table.entries);
@@ -173,7 +170,7 @@ module _ {F T X : Type 0} where
 
   abbrev pub to_poll : Option (Start EntryPlace) → Task → Going F T X → Going F T X
   to_poll (Some (Poll place)) f g = record g {
-    solo = out_at place g.solo;
+    solo = closing.out place g.solo;
     starts = None;
     out = record g.out { found = poll_found f place (future_of (entry_in place g.solo.table.entries)) };
   }
@@ -189,7 +186,7 @@ module _ {F T X : Type 0} where
 
   abbrev pub to_drop : Option (Start EntryPlace) → Task → Going F T X → Going F T X
   to_drop (Some (Drop place)) f g = record g {
-    solo = out_at place g.solo;
+    solo = closing.out place g.solo;
     starts = None;
     out = record g.out { found = drop_found f place (future_of (entry_in place g.solo.table.entries)) };
   }
@@ -209,13 +206,17 @@ module _ {F T X : Type 0} where
   done_table (table_step.LeaveTable f) g = left_at g.place g
   done_table _ g = g
 
+  -- the first task leaves the queue of a mark
+  abbrev pub popped : Mark → Solo F T X → Solo F T X
+  popped mark s = record s { lines = lines.popped_from mark s.lines }
+
   abbrev pub turn_taken : Solo F T X → Solo F T X
   turn_taken s = record s { lines = lines.turned s.lines }
 
   abbrev pub done_queue : QueueStep Task → Going F T X → Going F T X
   done_queue queue_step.TakeTurn g = leaves (turn_taken g.solo) g
   done_queue (queue_step.Take look) g =
-      leaves (record g.solo { lines = lines.popped_from (mark_in look) g.solo.lines }) g
+      leaves (popped (mark_in look) g.solo) g
   done_queue (queue_step.Append f) g = leaves (lined f g.solo) g
 
   abbrev pub done_user : UserStep Task ℕ → Going F T X → Going F T X
@@ -286,7 +287,7 @@ module _ {F T X : Type 0} where
   done_tick tick_step.MakeTick g = leaves (ticks.roomy g.solo) g
   done_tick (tick_step.Search s) g = searched s.who g
   done_tick (tick_step.Look s look) g =
-      leaves (record g.solo { lines = lines.popped_from (mark_in look) g.solo.lines }) g
+      leaves (popped (mark_in look) g.solo) g
   done_tick (tick_step.CopyWaker s) g = g
   done_tick (tick_step.FallAsleep s) g = slept g.ticker g
   done_tick (tick_step.WakeUp who) g = record g {
@@ -328,7 +329,7 @@ module _ {F T X : Type 0} where
   done_closing closing_step.WakeNext g = next_woken (slice_get g.solo.leaving.items 0) g
   done_closing (closing_step.Close mark) g = leaves (shut_at mark g.solo) g
   done_closing (closing_step.Drain mark) g =
-      drained_by (lines.first_of mark g.solo.lines) (leaves (record g.solo { lines = lines.popped_from mark g.solo.lines }) g)
+      drained_by (lines.first_of mark g.solo.lines) (leaves (popped mark g.solo) g)
   done_closing closing_step.LeakOut g = leaves (closing.leaked g.solo) g
   done_closing closing_step.LeakNext g = next_woken (slice_get g.solo.leaving.items 0) g
 
@@ -356,7 +357,7 @@ module _ {F T X : Type 0} where
   done_run run_step.MakeRoom g = leaves (ticks.roomy g.solo) g
   done_run (run_step.TakeTurn x) g = leaves (turn_taken g.solo) g
   done_run (run_step.SearchCommon x look) g =
-      leaves (record g.solo { lines = lines.popped_from (mark_in look) g.solo.lines }) g
+      leaves (popped (mark_in look) g.solo) g
   done_run (run_step.LookOwn x left) g = record g {
     solo = own_popped x.run g.solo;
     at = walks_to (own.first_of x.run g.solo.runs) g.at (walk_at g.count x.run left g.at (own_popped x.run g.solo));

@@ -7,7 +7,7 @@ use Rattle.call_steps.specs.declared.step.CallStep.TheVariants as step
 use Rattle.call_steps.specs.declared.step.table.ClosingStep.TheVariants as closing_step
 use Rattle.call_steps.specs.declared.step.user.UserStep.TheVariants as user_step
 use Rattle.call_steps.specs.Closing.{closing as closes_by}
-use Rattle.call_steps.specs.declared.asked.Asked.TheVariants as asked
+use Rattle.call_steps.specs.declared.asked.Asked.TheVariants as asks
 use Rattle.call_steps.specs.declared.reply.Reply.TheVariants as reply
 use Rattle.call_steps.specs.Begins.{begins}
 use Rattle.solo.specs.declared.names.Task.{Task}
@@ -24,18 +24,14 @@ use Rattle.solo_laws.specs.HandedOut.{deep, telling, ends, handing}
 use Rattle.solo_laws.specs.PollsGo.{left_by_place, taken_back}
 
 module _ {F T X : Type 0} where
-  abbrev pub leaks : ℕ → Solo F T X → Going F T X
-  leaks zero s = ends s reply.Done quiet
-  leaks (suc wakers) s = record (calm s) { left = step.Closing closing_step.LeakNext ∷ step.End reply.Done ∷ [] }
-
-  abbrev pub LeaksGo : Solo F T X → Type 0
-  LeaksGo s =
-      goes deep (begins asked.Leak) (calm s) ≡ leaks (length (closing.leaked s).leaving.items) (closing.leaked s)
-
   abbrev pub leaks_on : ℕ → Solo F T X → Out F T X → Going F T X
   leaks_on zero s out = ends s reply.Done out
   leaks_on (suc wakers) s out =
       record (calm s) { out = out; left = step.Closing closing_step.LeakNext ∷ step.End reply.Done ∷ [] }
+
+  abbrev pub LeaksGo : Solo F T X → Type 0
+  LeaksGo s =
+      goes deep (begins asks.Leak) (calm s) ≡ leaks_on (length (closing.leaked s).leaving.items) (closing.leaked s) quiet
 
   abbrev pub leaks_next : Option Task → Solo F T X → Going F T X
   leaks_next (Some task) s =
@@ -57,7 +53,7 @@ module _ {F T X : Type 0} where
 
   abbrev pub ClosesGo : Solo F T X → Type 0
   ClosesGo s =
-      goes deep (begins asked.DropExecutor) (calm s)
+      goes deep (begins asks.DropExecutor) (calm s)
       ≡ record (calm (closing.closed s)) {
         left = closes_by (length s.table.entries) (length s.leaving.items) ++ step.End reply.Done ∷ [];
       }

@@ -86,8 +86,8 @@ abbrev pub once : List Due → Bool
 once [] = true
 once (d ∷ ds) = not (stands d.future ds) && once ds
 
-abbrev pub named : (ℕ → Task) → Due → Task
-named name d = name d.future
+abbrev pub due_task : (ℕ → Task) → Due → Task
+due_task name d = name d.future
 
 -- first at one mark, and then at the other
 abbrev pub tests : Mark → List (Due → Bool)
@@ -98,19 +98,19 @@ module _ (name : ℕ → Task) where
   abbrev pub IsNamed : ℕ → Task → Type 0
   IsNamed many t = (t.number < many) × (name t.number ≡ t)
 
-  abbrev pub name_of : Option Due → Option Task
-  name_of None = None
-  name_of (Some d) = Some (name d.future)
+  abbrev pub due_task_if : Option Due → Option Task
+  due_task_if None = None
+  due_task_if (Some d) = Some (name d.future)
 
   -- the queues are what is due without a keeper
   abbrev pub Lined : LinesValue → List Due → Type 0
-  Lined l due = (m : Mark) → (line_of m l).items ≡ map (named name) (filter (is_common m) due)
+  Lined l due = (m : Mark) → (line_of m l).items ≡ map (due_task name) (filter (is_common m) due)
 
   -- a search finds what is taken, and the queues are what is due still
   abbrev pub SearchesAlike : LinesValue → List Due → Type 0
   SearchesAlike l due =
       let test = chosen (tests (mark_of_turn l.turn)) due in
-      ((search_answer l).task ≡ name_of (find test due)) × Lined (searched l) (without test due)
+      ((search_answer l).task ≡ due_task_if (find test due)) × Lined (searched l) (without test due)
 
 -- the queues are what is due, open, and as long as the limit
 pub record IsQueued (name : ℕ → Task) (most : ℕ) (l : LinesValue) (due : List Due) : Type 0 where

@@ -1,6 +1,6 @@
 -- That the making of a run, its first poll and its leave go as `next` says.
 use Rattle.std.specs.Prelude.{◌≡◌, ℕ, false, List, [], ◌∷◌, Option, Some, None}
-use Rattle.call_steps.specs.declared.asked.Asked.TheVariants as asked
+use Rattle.call_steps.specs.declared.asked.Asked.TheVariants as asks
 use Rattle.call_steps.specs.declared.names.RunPoll.{RunPoll}
 use Rattle.call_steps.specs.declared.names.Stage.TheVariants as stage
 use Rattle.call_steps.specs.declared.names.Waker.{Waker}
@@ -29,12 +29,12 @@ again runner = step.Run (run_step.Reschedule runner.number reply.Done) ∷ []
 
 module _ {F T X : Type 0} where
   abbrev pub RunsBegin : Solo F T X → Type 0
-  RunsBegin s = goes deep (begins asked.NewRun) (calm s) ≡ ends (runs.made s) reply.Made quiet
+  RunsBegin s = goes deep (begins asks.NewRun) (calm s) ≡ ends (runs.made s) reply.Made quiet
 
   -- its own queue comes into the list, before its own future is polled
   abbrev pub RunsRegister : Solo F T X → Type 0
   RunsRegister s = (runner : Runner) (waker : Waker Task) →
-      goes deep (begins (asked.PollRun (record { run = runner.number; waker = waker }) stage.New)) (calm s)
+      goes deep (begins (asks.PollRun (record { run = runner.number; waker = waker }) stage.New)) (calm s)
       ≡ record (calm (runs.begun runner s)) {
         left = step.User (user_step.PollOwn (record { run = runner.number; waker = waker })) ∷ [];
       }
@@ -42,7 +42,7 @@ module _ {F T X : Type 0} where
   -- its own queue goes from there, and what is left in it comes back
   abbrev pub RunLeavesGo : Solo F T X → Type 0
   RunLeavesGo s = (runner : Runner) (ticker : Ticker) →
-      goes deep (begins (asked.DropRun runner.number stage.Listed)) (record (calm s) { ticker = ticker })
+      goes deep (begins (asks.DropRun runner.number stage.Listed)) (record (calm s) { ticker = ticker })
       ≡ record (calm (runs.left runner s)) {
         ticker = (runs.leave_answer runner ticker s).ticker;
         own = (runs.leave_answer runner ticker s).own;

@@ -26,7 +26,7 @@ use Rattle.solo_laws.specs.Seen.{name_of}
 use Rattle.solo_laws.specs.Going.{Going, Step, calm, quiet}
 use Rattle.solo_laws.specs.Goes.{goes}
 use Rattle.solo_laws.specs.HandedOut.{start_of, to_drop}
-use Rattle.solo_laws.specs.TicksGo.{AnswersAs, has_place, lies, turn_back, waking, woken}
+use Rattle.solo_laws.specs.TicksGo.{AnswersAs, has_place, lies, turn_back, waking}
 
 abbrev pub of_run : {X : Type 0} → SoloWaker X → Runner → RunPoll Task ℕ
 of_run waker runner = record { run = runner.number; waker = name_of waker }
@@ -62,7 +62,7 @@ module _ {F T X : Type 0} where
   -- at every 64th that it counts it steals from the executor's queues before the task's turn begins
   abbrev pub runs_found : Runner → ℕ → Ticker → Option (SoloWaker X) → RunPoll Task ℕ → Task → Solo F T X → Going F T X
   runs_found runner start ticker spare x task s =
-      let stolen = stolen_if (runs.is_steal_due runner) runner.number (woken ticker s) in
+      let stolen = stolen_if (runs.is_steal_due runner) runner.number (runs.told ticker s) in
       record (run_at runner start runs.awake spare (turns.begun task stolen)) {
         out = record (waking ticker s) { found = turns.begin_answer task stolen };
         left = to_run_on task (start_of task stolen) (behind_run (runs.gives_way runner) x);
@@ -81,7 +81,8 @@ module _ {F T X : Type 0} where
   -- with a copy of its waker
   abbrev pub RunTakesGo : Solo F T X → Type 0
   RunTakesGo s = (runner : Runner) (ticker : Ticker) (waker : SoloWaker X) (start : ℕ)
-      → runner.counted < 64 → runner.taken < 200 → has_place ticker (sought runner.number start s) ≡ true
+      → runner.counted < 64 → runner.taken < 200
+      → ((seek_answer runner.number start s).task ≡ None → has_place ticker (sought runner.number start s) ≡ true)
       → Ends (following saw.Pending (step.User (user_step.PollOwn (of_run waker runner)) ∷ []))
       (record (run_at runner start ticker (Some waker) s) { rests = false })
       (run_ticked (seek_answer runner.number start s).task runner start ticker waker (sought runner.number start s))

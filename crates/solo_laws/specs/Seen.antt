@@ -45,6 +45,7 @@ use Rattle.call_steps.specs.declared.step.tick.SleeperStep.TheVariants as sleepe
 use Rattle.call_steps.specs.declared.step.tick.TickStep.{TickStep}
 use Rattle.call_steps.specs.declared.step.tick.TickStep.TheVariants as tick_step
 use Rattle.call_steps.specs.Looking.{mark_in}
+use Rattle.call_steps.specs.Seeing.{first, owes, seen}
 use Rattle.solo.specs.declared.names.Task.{Task}
 use Rattle.solo.specs.declared.names.SoloWaker.{SoloWaker}
 use Rattle.solo.specs.declared.names.SoloWaker.TheVariants.{Task as OfTask, Outside}
@@ -68,15 +69,6 @@ use Rattle.solo_laws.specs.Going.{Going, Step}
 
 abbrev pub Seen : Type 0
 Seen = Saw Task ℕ
-
-abbrev pub allowed : Bool → Seen
-allowed true = saw.Something
-allowed false = saw.Nothing
-
--- what a move owes: the task's place in its queue, where it has to be queued
-abbrev pub due : Bool → Owed
-due true = record nothing { schedule = Some (record { woken_while_running = false }) }
-due false = nothing
 
 -- the notify of who awaits it, if somebody does
 abbrev pub notify : Bool → Option AwaiterDebt
@@ -109,11 +101,6 @@ module _ {X : Type 0} where
 module _ {T X : Type 0} where
   abbrev pub poll_end : Kept T X → Option abstract.PendingEnd
   poll_end v = choose (cells.is_lent v) (Some (abstract.pending_end v.task)) None
-
--- the first Runnable, if one is there
-abbrev pub first : Option Task → Seen
-first (Some task) = saw.Found task
-first None = saw.Nothing
 
 abbrev pub first_by : Bool → Option Task → Seen
 first_by sleeps (Some task) = saw.FoundBy task (record { sleeps = sleeps; counted = 0; taken = 0 })
@@ -194,22 +181,22 @@ module _ {F T X : Type 0} where
   abbrev pub seen_call : Waker Task → Going F T X → Seen
   seen_call (named.Task f) g =
       saw.Moved true
-      (record (due (asked cells.wake_queues false f g.solo.cells)) { next = Some move.Release })
+      (record (owes (asked cells.wake_queues false f g.solo.cells)) { next = Some move.Release })
   seen_call named.Outside g = saw.Outside
 
   -- a wake by a waker that goes is one move here, of which no release is owed
   abbrev pub seen_move : Move → Task → Going F T X → Seen
-  seen_move move.WakeByReference f g = saw.Moved true (due (asked cells.wake_queues false f g.solo.cells))
-  seen_move move.Wake f g = saw.Moved true (due (solo.wakes_or_closes f g.solo))
-  seen_move move.Release f g = saw.Moved true (due (asked cells.release_queues false f g.solo.cells))
+  seen_move move.WakeByReference f g = saw.Moved true (owes (asked cells.wake_queues false f g.solo.cells))
+  seen_move move.Wake f g = saw.Moved true (owes (solo.wakes_or_closes f g.solo))
+  seen_move move.Release f g = saw.Moved true (owes (asked cells.release_queues false f g.solo.cells))
   seen_move move.Cancel f g =
       saw.Moved true
-      (record (due (is_some (asked cells.cancel_queues None f g.solo.cells))) {
+      (record (owes (is_some (asked cells.cancel_queues None f g.solo.cells))) {
         awaiter = notify (is_some (asked cells.cancel_calls None f g.solo.cells));
       })
   seen_move move.Detach f g =
       saw.Moved true
-      (record (due (is_some (asked cells.detach_queues None f g.solo.cells))) {
+      (record (owes (is_some (asked cells.detach_queues None f g.solo.cells))) {
         drop_output = is_some (asked cells.detach_drops None f g.solo.cells);
       })
   seen_move move.TakeUp f g = saw.Moved true (begins_by (asked cells.start_answer None f g.solo.cells))
@@ -226,21 +213,21 @@ module _ {F T X : Type 0} where
   has_waker_at None s = false
 
   abbrev pub seen_table : TableStep Task → Going F T X → Seen
-  seen_table table_step.LookAtTable g = allowed (not (solo.is_empty g.solo))
-  seen_table (table_step.LeaveTable f) g = allowed (has_waker_at g.place g.solo)
+  seen_table table_step.LookAtTable g = seen (not (solo.is_empty g.solo))
+  seen_table (table_step.LeaveTable f) g = seen (has_waker_at g.place g.solo)
   seen_table _ g = saw.Nothing
 
   abbrev pub seen_queue : QueueStep Task → Going F T X → Seen
   seen_queue queue_step.TakeTurn g = saw.Turn (mark_of_turn g.solo.lines.turn)
   seen_queue (queue_step.Take look) g = first (first_of (mark_in look) g.solo.lines)
-  seen_queue (queue_step.Append f) g = allowed (takes f g.solo)
+  seen_queue (queue_step.Append f) g = seen (takes f g.solo)
 
   abbrev pub seen_handle : HandleStep Task → Going F T X → Seen
   seen_handle (handle_step.EndNotify f mine) g = saw.Awaiter false (name_if g.awaiter)
   seen_handle _ g = saw.Awaiter false None
 
   abbrev pub seen_sleeper : SleeperStep Task ℕ → Going F T X → Seen
-  seen_sleeper sleeper_step.ExchangeFlag g = allowed (not g.solo.notified)
+  seen_sleeper sleeper_step.ExchangeFlag g = seen (not g.solo.notified)
   seen_sleeper sleeper_step.HandOut g =
       choose (is_full g.solo) (handed_out (last_waker g.solo.sleepers.wakers)) saw.Nothing
   seen_sleeper (sleeper_step.CallSleeper s) g = seen_call s.waker g
@@ -284,7 +271,7 @@ module _ {F T X : Type 0} where
   abbrev pub seen_next : Option Task → Solo F T X → Seen
   seen_next (Some f) s =
       saw.Wakes f true
-      (record (due (asked cells.wake_queues false f s.cells)) { next = Some move.Release })
+      (record (owes (asked cells.wake_queues false f s.cells)) { next = Some move.Release })
       (length (closing.first_left s).leaving.items)
   seen_next None s = saw.Nothing
 

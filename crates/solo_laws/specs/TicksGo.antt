@@ -5,7 +5,7 @@ use Rattle.call_steps.specs.declared.names.Sleeping.{Sleeping}
 use Rattle.call_steps.specs.declared.names.TickOrRun.TheVariants as tick_or_run
 use Rattle.call_steps.specs.declared.step.CallStep.TheVariants as step
 use Rattle.call_steps.specs.declared.step.tick.TickStep.TheVariants as tick_step
-use Rattle.call_steps.specs.declared.asked.Asked.TheVariants as asked
+use Rattle.call_steps.specs.declared.asked.Asked.TheVariants as asks
 use Rattle.call_steps.specs.declared.reply.Reply.{Reply}
 use Rattle.call_steps.specs.declared.reply.Reply.TheVariants as reply
 use Rattle.call_steps.specs.Begins.{begins}
@@ -14,13 +14,13 @@ use Rattle.solo.specs.declared.names.SoloWaker.{SoloWaker}
 use Rattle.solo.specs.declared.owed.Found.{Found}
 use Rattle.solo.specs.declared.owed.Found.TheVariants.{Nothing}
 use Rattle.solo.specs.declared.ticks.Look.{Look}
-use Rattle.solo.specs.declared.ticks.Look.TheVariants.{Took, Again}
+use Rattle.solo.specs.declared.ticks.Look.TheVariants.{Took, Again, Nothing as NothingThere}
 use Rattle.solo.specs.declared.ticks.Ticked.{Ticked}
 use Rattle.solo.specs.declared.ticks.Ticker.{Ticker}
 use Rattle.solo.specs.declared.ticks.Ticker.TheVariants.{Awake, Asleep}
 use Rattle.solo.specs.declared.solo.Solo.{Solo}
-use Rattle.solo.specs.Cells.{asked}
 use Rattle.solo.specs.Solo.{sought, popped}
+use Rattle.solo.specs.Runs.{told}
 use Rattle.solo.specs.Ticks as ticks
 use Rattle.solo_laws.specs.Seen.{name_of}
 use Rattle.solo_laws.specs.Going.{Going, Out, Step, quiet, calm}
@@ -37,6 +37,14 @@ is_again _ = false
 abbrev pub found_in : {F : Type 0} → Look F → Found F
 found_in (Took found) = found
 found_in _ = Nothing
+
+abbrev pub is_nothing : {F : Type 0} → Look F → Bool
+is_nothing NothingThere = true
+is_nothing _ = false
+
+abbrev pub is_pending : Option Reply → Bool
+is_pending (Some reply.Pending) = true
+is_pending _ = false
 
 abbrev pub pending_if : Bool → Option Reply
 pending_if true = None
@@ -58,9 +66,6 @@ module _ {F T X : Type 0} where
   has_place (Asleep sleeper) s = has_place_at (position_of sleeper.number s.sleepers.wakers) s
 
   -- it wakes up and a sleeper is told
-  abbrev pub woken : Ticker → Solo F T X → Solo F T X
-  woken ticker s = ticks.told_unless (ticks.wake_up_answer ticker s).told.sleeper (ticks.woke_up ticker s)
-
   abbrev pub waking : Ticker → Solo F T X → Out F T X
   waking ticker s = record (dropping (ticks.wake_up_answer ticker s)) {
     sleeper = ticks.tell_unless_answer (ticks.wake_up_answer ticker s).told.sleeper (ticks.woke_up ticker s);
@@ -69,7 +74,7 @@ module _ {F T X : Type 0} where
   -- it takes a task, with this waker to spare
   abbrev pub found_by : Ticker → Option (SoloWaker X) → Task → Solo F T X → Going F T X
   found_by ticker spare task s =
-      runs task reply.Ready (record (calm (woken ticker s)) { waker = spare; out = waking ticker s })
+      runs task reply.Ready (record (calm (told ticker s)) { waker = spare; out = waking ticker s })
 
   -- it falls asleep, or again; or it has no room to
   abbrev pub lies : Sleeping Task ℕ → Ticker → SoloWaker X → Going F T X → Going F T X
@@ -98,13 +103,14 @@ module _ {F T X : Type 0} where
   AnswersAs answer g =
       (g.ticker ≡ answer.ticker) × (g.out.found ≡ found_in answer.look) × (g.out.sleeper ≡ answer.sleeper)
       × (g.out.gone ≡ answer.old) × (g.waker ≡ answer.spare) × (g.out.returned ≡ answer.returned)
+      × (is_pending g.out.reply ≡ is_nothing answer.look)
 
   abbrev pub TicksAs : Ticked F X → Solo F T X → Going F T X → Type 0
   TicksAs answer new g = (g.solo ≡ new) × AnswersAs answer g
 
   abbrev pub TickTakesGo : Solo F T X → Type 0
-  TickTakesGo s = (tick : ℕ) (ticker : Ticker) (waker : SoloWaker X) → has_place ticker s ≡ true →
-      (goes deep (begins (asked.PollTick (of_tick waker tick))) (record (calm s) { ticker = ticker; waker = Some waker })
+  TickTakesGo s = (tick : ℕ) (ticker : Ticker) (waker : SoloWaker X) → (sought s ≡ None → has_place ticker s ≡ true) →
+      (goes deep (begins (asks.PollTick (of_tick waker tick))) (record (calm s) { ticker = ticker; waker = Some waker })
       ≡ ticked (sought s) (of_tick waker tick) ticker waker (popped s))
       × TicksAs (ticks.take_answer ticker waker s) (ticks.taken ticker waker s)
       (ticked (sought s) (of_tick waker tick) ticker waker (popped s))
@@ -127,7 +133,7 @@ module _ {F T X : Type 0} where
   -- a tick without a waker looks, and has to copy one where it finds nothing
   abbrev pub TickSearchesGo : Solo F T X → Type 0
   TickSearchesGo s = (tick : ℕ) (ticker : Ticker) (waker : SoloWaker X) →
-      (goes deep (begins (asked.PollTick (of_tick waker tick))) (record (calm s) { ticker = ticker })
+      (goes deep (begins (asks.PollTick (of_tick waker tick))) (record (calm s) { ticker = ticker })
       ≡ searched (sought s) (of_tick waker tick) ticker (popped s))
       × (ticks.searched ticker s
       ≡ turn_back (sought s) s.lines.turn (searched (sought s) (of_tick waker tick) ticker (popped s)).solo)
@@ -135,8 +141,8 @@ module _ {F T X : Type 0} where
 
   abbrev pub TickLeavesGo : Solo F T X → Type 0
   TickLeavesGo s = (tick : ℕ) (ticker : Ticker) →
-      goes deep (begins (asked.DropTick tick)) (record (calm s) { ticker = ticker })
+      goes deep (begins (asks.DropTick tick)) (record (calm s) { ticker = ticker })
       ≡ ends (ticks.left ticker s) reply.Done (dropping (ticks.leave_answer ticker s))
 
   abbrev pub TicksBegin : Solo F T X → Type 0
-  TicksBegin s = goes deep (begins asked.NewTick) (calm s) ≡ ends (ticks.roomy s) reply.Made quiet
+  TicksBegin s = goes deep (begins asks.NewTick) (calm s) ≡ ends (ticks.roomy s) reply.Made quiet

@@ -30,8 +30,8 @@ pub fn takes_go_by_next<F, T, X>()
     ensures takes { (s : Solo F T X) → TakesGo s }
 {}
 
-/// A tick: its making, its look with a copy of its waker and without one, and its leave. One with a waker has room to fall asleep in,
-/// or sleeps.
+/// A tick: its making, its look with a copy of its waker and without one, and its leave. One with a waker that finds nothing has room
+/// to fall asleep in, or sleeps.
 pub fn ticks_go_by_next<F, T, X>()
     ensures begin { (s : Solo F T X) → TicksBegin s }
     ensures takes { (s : Solo F T X) → TickTakesGo s }
@@ -66,7 +66,7 @@ pub fn runs_go_by_next<F, T, X>()
 
 /// The search of a run, with a copy of its waker and without one: its own queue, the executor's, a steal, the walk, and what it does
 /// with what it has found. It has counted fewer than 64 since its last steal for their number, and taken fewer than 200 since it last
-/// let others go first; it has room to fall asleep in, or sleeps.
+/// let others go first; where it finds nothing it has room to fall asleep in, or sleeps.
 pub fn runs_search_by_next<F, T, X>()
     ensures takes { (s : Solo F T X) → RunTakesGo s }
     ensures searches { (s : Solo F T X) → RunSearchesGo s }

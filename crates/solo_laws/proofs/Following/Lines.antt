@@ -14,7 +14,7 @@ use Rattle.solo.specs.Lines.{LinesValue, line_of, pushed_in, first_of, popped_fr
 use Rattle.plain_scheduler.specs.State.{Due}
 use Rattle.plain_scheduler.specs.Lists.{any, without}
 use Rattle.plain_scheduler.specs.Moves.{is_common}
-use Rattle.solo_laws.specs.Road.{named, count_of, HasLife}
+use Rattle.solo_laws.specs.Road.{due_task, count_of, HasLife}
 use Rattle.solo_laws.proofs.Following.Due.{and_true, not_false}
 use Rattle.solo_laws.proofs.Following.Lists.{map_append}
 
@@ -89,20 +89,20 @@ module _ (name : ℕ → Task) (due : List Due) (f : ℕ) where
   abbrev pub last : Mark → Due
   last mark = record { future = f; mark = mark; keeper = None }
 
-  comes : (mark other : Mark) (items : List Task) → items ≡ map (named name) (filter (is_common other) due)
-      → items ++ map (named name) (kept_if (is_common other) (is_common other (last mark)) (last mark))
-      ≡ map (named name) (filter (is_common other) (due ++ last mark ∷ []))
+  comes : (mark other : Mark) (items : List Task) → items ≡ map (due_task name) (filter (is_common other) due)
+      → items ++ map (due_task name) (kept_if (is_common other) (is_common other (last mark)) (last mark))
+      ≡ map (due_task name) (filter (is_common other) (due ++ last mark ∷ []))
   comes mark other items is =
-      ap (λ (items : List Task). items ++ map (named name) (kept_if (is_common other) (is_common other (last mark))
+      ap (λ (items : List Task). items ++ map (due_task name) (kept_if (is_common other) (is_common other (last mark))
       (last mark))) is
-      ∙ (sym (map_append (named name) (filter (is_common other) due)
+      ∙ (sym (map_append (due_task name) (filter (is_common other) due)
       (kept_if (is_common other) (is_common other (last mark)) (last mark)))
-      ∙ sym (ap (map (named name)) (filter_last (is_common other) due (last mark))))
+      ∙ sym (ap (map (due_task name)) (filter_last (is_common other) due (last mark))))
 
   pub lined : (mark : Mark) (l : LinesValue) → accepts (line_of mark l) ≡ true
-      → ((other : Mark) → (line_of other l).items ≡ map (named name) (filter (is_common other) due))
+      → ((other : Mark) → (line_of other l).items ≡ map (due_task name) (filter (is_common other) due))
       → (other : Mark) → (line_of other (pushed_in mark (name f) l)).items
-      ≡ map (named name) (filter (is_common other) (due ++ last mark ∷ []))
+      ≡ map (due_task name) (filter (is_common other) (due ++ last mark ∷ []))
   lined Plain l is lines Plain = pushed_last (name f) l.plain is ∙ comes Plain Plain l.plain.items (lines Plain)
   lined Urgent l is lines Urgent = pushed_last (name f) l.urgent is ∙ comes Urgent Urgent l.urgent.items (lines Urgent)
   lined Plain l is lines Urgent = sym (append-nil l.urgent.items) ∙ comes Plain Urgent l.urgent.items (lines Urgent)

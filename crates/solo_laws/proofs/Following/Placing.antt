@@ -14,7 +14,7 @@ use Rattle.solo.specs.Lines.{line_of}
 use Rattle.plain_scheduler.specs.State.{Due, Plain}
 use Rattle.plain_scheduler.specs.Moves.{is_common}
 use Rattle.plain_scheduler.specs.Calls.{living_from}
-use Rattle.solo_laws.specs.Road.{FollowsBut, beside, IsTaskOf, stands, once, named, is_in, HasLife}
+use Rattle.solo_laws.specs.Road.{FollowsBut, beside, IsTaskOf, stands, once, due_task, is_in, HasLife}
 use Rattle.solo_laws.proofs.Following.Lists.{length_map}
 use Rattle.solo_laws.proofs.Following.Due.{both_true, and_true, not_false, room, lives, filter_short, beside_long}
 use Rattle.solo_laws.proofs.Following.Cells.{same_number}
@@ -41,7 +41,7 @@ module _ {F T X : Type 0} (aside : Option Due) (name : ℕ → Task) (s : Solo F
       (not_false (stands f (beside aside p.due)) none) r.once)
       (λ j due. by (j == f) j due refl) in
       let items : length (line_of mark s.lines).items ≡ length (filter (is_common mark) p.due) =
-      ap length (r.queued.lines mark) ∙ length_map (named name) (filter (is_common mark) p.due) in
+      ap length (r.queued.lines mark) ∙ length_map (due_task name) (filter (is_common mark) p.due) in
       accepts_more (line_of mark s.lines) p.limit (r.queued.unclosed mark) (r.queued.limit mark)
       (omega (arith, few, items, filter_short (is_common mark) p.due, beside_long aside p.due, r.within)) (life mark)
     where

@@ -13,7 +13,7 @@ use Rattle.solo.specs.Lines.{mark_of_turn}
 use Rattle.plain_scheduler.specs.State.{Due}
 use Rattle.plain_scheduler.specs.Lists.{any, without}
 use Rattle.plain_scheduler.specs.Moves.{is_common, chosen}
-use Rattle.solo_laws.specs.Road.{named, name_of as named_of, Lined as LinedBy, tests, SearchesAlike}
+use Rattle.solo_laws.specs.Road.{due_task, due_task_if as task_if, Lined as LinedBy, tests, SearchesAlike}
 use Rattle.solo_laws.proofs.Following.Lines.{find_first, without_first, without_other}
 
 module _ {A : Type 0} (test : A → Bool) where
@@ -56,16 +56,16 @@ apart m d is = only (not (is_some d.keeper)) (same_mark (other m) d.mark)
 
 module _ (name : ℕ → Task) where
   abbrev name_of : Option Due → Option Task
-  name_of o = named_of name o
+  name_of o = task_if name o
 
   abbrev Lined : LinesValue → List Due → Type 0
   Lined l due = LinedBy name l due
 
-  head_named : (ds : List Due) → slice_get (map (named name) ds) 0 ≡ name_of (slice_get ds 0)
+  head_named : (ds : List Due) → slice_get (map (due_task name) ds) 0 ≡ name_of (slice_get ds 0)
   head_named [] = refl
   head_named (d ∷ ds) = refl
 
-  rest_named : (ds : List Due) → drop 1 (map (named name) ds) ≡ map (named name) (drop 1 ds)
+  rest_named : (ds : List Due) → drop 1 (map (due_task name) ds) ≡ map (due_task name) (drop 1 ds)
   rest_named [] = refl
   rest_named (d ∷ ds) = refl
 
@@ -75,19 +75,19 @@ module _ (name : ℕ → Task) where
       ∙ (head_named (filter (is_common m) due) ∙ ap name_of (sym (find_first (is_common m) due)))
 
   same_line : (m : Mark) (l : LinesValue) (due : List Due) → Lined l due
-      → drop 1 (line_of m l).items ≡ map (named name) (filter (is_common m) (without (is_common m) due))
+      → drop 1 (line_of m l).items ≡ map (due_task name) (filter (is_common m) (without (is_common m) due))
   same_line m l due lines =
       ap (drop 1) (lines m)
-      ∙ (rest_named (filter (is_common m) due) ∙ ap (map (named name)) (sym (without_first (is_common m) due)))
+      ∙ (rest_named (filter (is_common m) due) ∙ ap (map (due_task name)) (sym (without_first (is_common m) due)))
 
   -- without the first of one mark
   popped : (m : Mark) (l : LinesValue) (due : List Due) → Lined l due → Lined (popped_from m l) (without (is_common m) due)
   popped Plain l due lines Plain = same_line Plain l due lines
   popped Urgent l due lines Urgent = same_line Urgent l due lines
   popped Plain l due lines Urgent =
-      lines Urgent ∙ ap (map (named name)) (sym (without_other (is_common Plain) (is_common Urgent) (apart Plain) due))
+      lines Urgent ∙ ap (map (due_task name)) (sym (without_other (is_common Plain) (is_common Urgent) (apart Plain) due))
   popped Urgent l due lines Plain =
-      lines Plain ∙ ap (map (named name)) (sym (without_other (is_common Urgent) (is_common Plain) (apart Urgent) due))
+      lines Plain ∙ ap (map (due_task name)) (sym (without_other (is_common Urgent) (is_common Plain) (apart Urgent) due))
 
   -- what is found is what is taken, and the queues stay what is due
   pub taken : (m : Mark) (l : LinesValue) (due : List Due) → Lined l due

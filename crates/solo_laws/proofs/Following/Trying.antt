@@ -27,7 +27,7 @@ use Rattle.plain_scheduler.specs.Moves.{put, task, tell, chosen, enters, see}
 use Rattle.plain_scheduler.specs.Takes as takes
 use Rattle.solo_laws.specs.Road.{IsTaskOf, IsOver, is_in, lents, drops, FollowsBut, Follows, IsQueued, Lined, HasLife, stands}
 use Rattle.solo_laws.specs.Road.{once, is_forgotten}
-use Rattle.solo_laws.specs.Road.{count_of, tests, name_of, wakes}
+use Rattle.solo_laws.specs.Road.{count_of, tests, due_task_if, wakes}
 use Rattle.solo_laws.specs.Alike.{TakesAlike}
 use Rattle.solo_laws.proofs.Following.Lists.{get_below}
 use Rattle.solo_laws.proofs.Following.Seeing.{seen}
@@ -282,7 +282,7 @@ module _ {F T X : Type 0} (name : ℕ → Task) where
   pub taken : (c : Choice) (s : Solo F T X) (p : Plain T (SoloWaker X)) → c.first ≡ mark_of_turn s.lines.turn
       → length p.lying ≤ c.tells → HasLife 1 s.lines → Follows name s p → Follows name (solo.taken s) (takes.take wakes c Try p)
   taken c s p turn many life r =
-      let alike = subst (λ m. ((solo.sought s) ≡ name_of name (find (chosen (tests m) p.due) p.due))
+      let alike = subst (λ m. ((solo.sought s) ≡ due_task_if name (find (chosen (tests m) p.due) p.due))
       × Lined name (searched s.lines) (without (chosen (tests m) p.due) p.due)) (sym turn)
       (searched_alike name s.lines p.due r.queued.lines) in
       by (find (chosen (tests c.first) p.due) p.due) refl alike.0 alike.1
@@ -329,14 +329,14 @@ module _ {F T X : Type 0} (name : ℕ → Task) where
       }
 
       by : (o : Option Due) → find (chosen (tests c.first) p.due) p.due ≡ o
-          → solo.sought s ≡ name_of name (find (chosen (tests c.first) p.due) p.due)
+          → solo.sought s ≡ due_task_if name (find (chosen (tests c.first) p.due) p.due)
           → Lined name (searched s.lines) (without (chosen (tests c.first) p.due) p.due)
           → Follows name (solo.taken s) (takes.take wakes c Try p)
       by None is sought lines =
           let none : without (chosen (tests c.first) p.due) p.due ≡ p.due =
           without_none (chosen (tests c.first) p.due) p.due (found_any (chosen (tests c.first) p.due) p.due ∙ ap is_some is) in
           subst (λ o. Follows name (solo.taken_by o (solo.popped s)) (takes.take wakes c Try p))
-          (sym (sought ∙ ap (name_of name) is))
+          (sym (sought ∙ ap (due_task_if name) is))
           (subst (λ o. Follows name (solo.popped s)
           (or o (λ d. takes.takes wakes c Try d (record p { due = without (chosen (tests c.first) p.due) p.due }))
           (takes.nothing wakes c Try p)))
@@ -361,7 +361,7 @@ module _ {F T X : Type 0} (name : ℕ → Task) where
           let gone : stands d.future q.due ≡ false =
           not_true (stands d.future q.due) (both_true (not (stands d.future q.due)) (once q.due) told_both.once).0 in
           subst (λ o. Follows name (solo.taken_by o (solo.popped s)) (takes.take wakes c Try p))
-          (sym (sought ∙ ap (name_of name) is))
+          (sym (sought ∙ ap (due_task_if name) is))
           (subst (λ o. Follows name (turns.begun (name d.future) (turns.told (solo.popped s)))
           (or o (λ d. takes.takes wakes c Try d (record p { due = without (chosen (tests c.first) p.due) p.due }))
           (takes.nothing wakes c Try p)))

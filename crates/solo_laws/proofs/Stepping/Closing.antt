@@ -13,6 +13,7 @@ use Rattle.call_steps.specs.declared.step.user.UserStep.TheVariants as user_step
 use Rattle.call_steps.specs.Closing.{closing as closes_by, leaking}
 use Rattle.call_steps.specs.Next.{next_closing}
 use Rattle.call_steps.specs.Owing.{owed}
+use Rattle.call_steps.specs.Seeing.{first, owes}
 use Rattle.solo.specs.declared.names.Task.{Task}
 use Rattle.solo.specs.declared.owed.Told.{Told}
 use Rattle.solo.specs.declared.solo.Solo.{Solo}
@@ -25,11 +26,11 @@ use Rattle.solo.specs.Turns as turns
 use Rattle.solo.specs.Turns.{turned, swept, lined, loosed, let_go, let_go_answer, scheduled, schedule_answer, scheduled_if}
 use Rattle.solo.specs.Turns.{schedule_if_answer}
 use Rattle.solo_laws.specs.Going.{Going, Out, Step, calm, quiet}
-use Rattle.solo_laws.specs.Seen.{due, first, named_by, seen_next}
+use Rattle.solo_laws.specs.Seen.{named_by, seen_next}
 use Rattle.solo_laws.specs.Done as done
 use Rattle.solo_laws.specs.Goes.{goes}
 use Rattle.solo_laws.specs.HandedOut.{ends, telling, owing, handing}
-use Rattle.solo_laws.specs.EndsGo.{LeaksGo, LeakNextsGo, ClosesGo, DrainsGo, leaks, leaks_on, leaks_next, telling_if, drains, drains_line}
+use Rattle.solo_laws.specs.EndsGo.{LeaksGo, LeakNextsGo, ClosesGo, DrainsGo, leaks_on, leaks_next, telling_if, drains, drains_line}
 use Rattle.solo_laws.specs.PollsGo.{taken_back, left_by_place}
 use Rattle.solo_laws.proofs.Stepping.Telling.{two, nine, free, appends, lets_go, alone, telling_in}
 use Rattle.solo_laws.proofs.Stepping.Ending.{takes_back}
@@ -66,7 +67,7 @@ module _ {F T X : Type 0} where
   wakes_then : (q : Bool) (more : List Step) (end : Going F T X) (task : Task) (s : Solo F T X)
       → asked cells.release_queues false task (woken_if q task s).cells ≡ false
       → ((n : ℕ) → goes (two n) more (woken_so q task s) ≡ end)
-      → goes 19 (owed true task (record (due q) { next = Some move.Release }) ++ more) (calm (turned cells.woken task s)) ≡ end
+      → goes 19 (owed true task (record (owes q) { next = Some move.Release }) ++ more) (calm (turned cells.woken task s)) ≡ end
   wakes_then true more end task s not tail =
       let w : Solo F T X = turned cells.woken task s in
       let told : Told X = schedule_answer task w in
@@ -83,7 +84,7 @@ module _ {F T X : Type 0} where
 
   -- a leak
 
-  leaks_by : (n : ℕ) (s : Solo F T X) → goes 19 (step.End reply.Done ∷ []) (goes 19 (leaking n) (calm s)) ≡ leaks n s
+  leaks_by : (n : ℕ) (s : Solo F T X) → goes 19 (step.End reply.Done ∷ []) (goes 19 (leaking n) (calm s)) ≡ leaks_on n s quiet
   leaks_by zero s = refl
   leaks_by (suc n) s = refl
 

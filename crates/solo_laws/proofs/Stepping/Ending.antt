@@ -16,6 +16,7 @@ use Rattle.call_steps.specs.declared.step.handle.HandleStep.TheVariants as handl
 use Rattle.call_steps.specs.declared.step.table.TableStep.TheVariants as table_step
 use Rattle.call_steps.specs.Next.{next_move, next_table}
 use Rattle.call_steps.specs.Owing.{owed}
+use Rattle.call_steps.specs.Seeing.{seen}
 use Rattle.solo.specs.declared.names.Task.{Task}
 use Rattle.solo.specs.declared.names.SoloWaker.{SoloWaker}
 use Rattle.solo.specs.declared.names.SoloWaker.TheVariants.{Task as OfTask, Outside}
@@ -34,7 +35,7 @@ use Rattle.solo.specs.Solo as solo
 use Rattle.solo.specs.Turns as turns
 use Rattle.solo.specs.Turns.{turned, left_by_parts, left_answer_by, let_go, let_go_answer, without}
 use Rattle.solo_laws.specs.Going.{Going, Out, Step, calm, quiet}
-use Rattle.solo_laws.specs.Seen.{seen_back, allowed, has_waker, notify, ends_by, poll_end}
+use Rattle.solo_laws.specs.Seen.{seen_back, has_waker, notify, ends_by, poll_end}
 use Rattle.solo_laws.specs.Done.{either, future_in, swept_by, leaves}
 use Rattle.solo_laws.specs.Done as done
 use Rattle.solo_laws.specs.Goes.{goes}
@@ -72,7 +73,7 @@ module _ {F T X : Type 0} where
 
   parts_leave : (parts : Option (Option F × Option Task)) (task : Task) (place : Option EntryPlace) (given : Option T) (s : Solo F T X)
       → ((t : Task) → waker_in parts ≡ Some t → t ≡ task)
-      → goes 19 (next_table (table_step.LeaveTable task) (allowed (has_waker parts)))
+      → goes 19 (next_table (table_step.LeaveTable task) (seen (has_waker parts)))
       (record (calm s) { place = place; given = given; out = record quiet { future = future_in parts } })
       ≡ record (calm (left_by_parts parts s)) {
         place = place;

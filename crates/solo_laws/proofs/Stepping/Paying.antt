@@ -4,12 +4,13 @@ use Rattle.call_steps.specs.declared.step.CallStep.TheVariants as step
 use Rattle.call_steps.specs.declared.step.handle.HandleStep.TheVariants as handle_step
 use Rattle.call_steps.specs.declared.step.user.UserStep.TheVariants as user_step
 use Rattle.call_steps.specs.Owing.{owed}
+use Rattle.call_steps.specs.Seeing.{owes}
 use Rattle.solo.specs.declared.names.Task.{Task}
 use Rattle.solo.specs.declared.names.SoloWaker.{SoloWaker}
 use Rattle.solo.specs.declared.names.SoloWaker.TheVariants.{Task as OfTask, Outside}
 use Rattle.solo.specs.Turns.{scheduled_if, schedule_if_answer}
 use Rattle.solo_laws.specs.Going.{Going, Out, Step}
-use Rattle.solo_laws.specs.Seen.{due, notify}
+use Rattle.solo_laws.specs.Seen.{notify}
 use Rattle.solo_laws.specs.Done.{either}
 use Rattle.solo_laws.specs.Goes.{goes}
 use Rattle.solo_laws.proofs.Stepping.Telling.{two, nine, free, telling_in, appends}
@@ -23,7 +24,7 @@ module _ {F T X : Type 0} where
 
   -- a task is queued where it has to be, and who awaits it called
   pub calls : (q : Bool) (w : Option (SoloWaker X)) (n : ℕ) (task : Task) (g : Going F T X)
-      → goes (two (two (two (nine n)))) (owed true task (record (due q) { awaiter = notify (is_some w) })) (record (free g) { awaiter = w })
+      → goes (two (two (two (nine n)))) (owed true task (record (owes q) { awaiter = notify (is_some w) })) (record (free g) { awaiter = w })
       ≡ record (free g) {
         solo = scheduled_if q task g.solo;
         awaiter = None;
@@ -39,7 +40,7 @@ module _ {F T X : Type 0} where
 
   -- a task is queued where it has to be, and an output dropped
   pub drops : (q : Bool) (o : Option T) (n : ℕ) (task : Task) (g : Going F T X)
-      → goes (two (two (two (nine n)))) (owed true task (record (due q) { drop_output = is_some o })) (record (free g) { output = o })
+      → goes (two (two (two (nine n)))) (owed true task (record (owes q) { drop_output = is_some o })) (record (free g) { output = o })
       ≡ record (free g) {
         solo = scheduled_if q task g.solo;
         output = None;

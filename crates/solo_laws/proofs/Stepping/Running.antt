@@ -4,6 +4,7 @@ use Rattle.call_steps.specs.declared.names.TickOrRun.TheVariants as tick_or_run
 use Rattle.call_steps.specs.declared.reply.Reply.TheVariants as reply
 use Rattle.call_steps.specs.declared.step.run.RunStep.TheVariants as run_step
 use Rattle.call_steps.specs.Next.{next_run}
+use Rattle.call_steps.specs.Seeing.{first}
 use Rattle.solo.specs.declared.names.Task.{Task}
 use Rattle.solo.specs.declared.runs.Leaving.{Leaving}
 use Rattle.solo.specs.declared.runs.Runner.{Runner}
@@ -11,7 +12,6 @@ use Rattle.solo.specs.declared.solo.Solo.{Solo}
 use Rattle.solo.specs.Runs as runs
 use Rattle.solo.specs.Turns.{scheduled, schedule_answer}
 use Rattle.solo_laws.specs.Going.{Going, Out, calm, quiet}
-use Rattle.solo_laws.specs.Seen.{first}
 use Rattle.solo_laws.specs.Goes.{goes}
 use Rattle.solo_laws.specs.RunsGo.{RunsBegin, RunsRegister, RunLeavesGo, RunDrainsGo, DrainsAs, again, run_drained}
 use Rattle.solo_laws.proofs.Stepping.Telling.{appends, alone}

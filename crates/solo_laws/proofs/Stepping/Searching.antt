@@ -23,6 +23,7 @@ use Rattle.call_steps.specs.declared.step.run.RunStep.TheVariants as run_step
 use Rattle.call_steps.specs.declared.step.tick.TickStep.TheVariants as tick_step
 use Rattle.call_steps.specs.Next.{next_list, next_run, next_tick}
 use Rattle.call_steps.specs.Sleeping.{asleep, found_by_run}
+use Rattle.call_steps.specs.Seeing.{first}
 use Rattle.solo.specs.declared.names.Task.{Task}
 use Rattle.solo.specs.declared.names.SoloWaker.{SoloWaker}
 use Rattle.solo.specs.declared.runs.Runner.{Runner}
@@ -37,15 +38,15 @@ use Rattle.solo.specs.Steals.{is_own, next_place, own_popped, round, round_on, s
 use Rattle.solo.specs.Steals.{stolen, stolen_if}
 use Rattle.solo.specs.Ticks as ticks
 use Rattle.solo_laws.specs.Going.{Going, Step}
-use Rattle.solo_laws.specs.Seen.{name_of, first, found_or, sleeps, source_of, walk_at, walk_from}
+use Rattle.solo_laws.specs.Seen.{name_of, found_or, sleeps, source_of, walk_at, walk_from}
 use Rattle.solo_laws.specs.Done.{walks_to}
 use Rattle.solo_laws.specs.Goes.{goes}
 use Rattle.solo_laws.specs.HandedOut.{start_of}
-use Rattle.solo_laws.specs.TicksGo.{has_place, is_again, lies, looks_again, turn_back, woken}
+use Rattle.solo_laws.specs.TicksGo.{has_place, is_again, lies, looks_again, turn_back}
 use Rattle.solo_laws.specs.SearchesGo.{Ends, behind_run, calls_own, of_run, run_at, run_searched, run_ticked, to_run_on}
 use Rattle.solo_laws.specs.SearchesGo.{RunsAs, RunSearchesAs, RunSearchesGo, RunTakesGo}
 use Rattle.solo_laws.proofs.Stepping.Telling.{two, nine}
-use Rattle.solo_laws.proofs.Stepping.Ticking.{found_nothing, lies_down}
+use Rattle.solo_laws.proofs.Stepping.Ticking.{found_nothing, lies_down, pending_as}
 use Rattle.solo_laws.proofs.Stepping.Depth.{app, fixed, nil, one}
 use Rattle.solo_laws.proofs.Stepping.Stealing.{finds_so, steals_so}
 
@@ -220,18 +221,18 @@ module _ {F T X : Type 0} where
       (λ n. lies_down ticker n (asleep (of_run waker runner)) waker (run_at runner start ticker (Some waker) s) is)
 
   taken_so : (a : Option Task) (runner : Runner) (start : ℕ) (ticker : Ticker) (waker : SoloWaker X) (s : Solo F T X)
-      → runner.counted < 64 → runner.taken < 200 → has_place ticker s ≡ true
+      → runner.counted < 64 → runner.taken < 200 → (a ≡ None → has_place ticker s ≡ true)
       → Ends (after runner ticker (name_of waker) a) (run_at runner start ticker (Some waker) s)
       (run_ticked a runner start ticker waker s)
   taken_so (Some task) runner start ticker waker s few fewer is = finds_so runner start ticker (Some waker) (name_of waker) task s few fewer
-  taken_so None runner start ticker waker s few fewer is = lies_so runner start ticker waker s is
+  taken_so None runner start ticker waker s few fewer is = lies_so runner start ticker waker s (is refl)
 
   gives_found : (runner : Runner) (ticker : Ticker) (w : SoloWaker X) (task : Task) (s : Solo F T X)
-      → calls_own (to_run_on task (start_of task (stolen_if (runs.is_steal_due runner) runner.number (woken ticker s)))
+      → calls_own (to_run_on task (start_of task (stolen_if (runs.is_steal_due runner) runner.number (runs.told ticker s)))
       (behind_run (runs.gives_way runner) (of_run w runner)))
       ≡ runs.gives_way runner
   gives_found runner ticker w task s =
-      gives_by (start_of task (stolen_if (runs.is_steal_due runner) runner.number (woken ticker s))) (runs.gives_way runner) task
+      gives_by (start_of task (stolen_if (runs.is_steal_due runner) runner.number (runs.told ticker s))) (runs.gives_way runner) task
       (of_run w runner)
 
   took_as : (a : Option Task) (runner : Runner) (start : ℕ) (ticker : Ticker) (waker : SoloWaker X) (s : Solo F T X)
@@ -242,10 +243,10 @@ module _ {F T X : Type 0} where
   runs_as : (a : Option Task) (walked : Bool) (runner : Runner) (start : ℕ) (ticker : Ticker) (waker : SoloWaker X) (s : Solo F T X)
       → RunsAs (runs.take_answer_by a walked runner ticker waker s) (run_ticked a runner start ticker waker s)
   runs_as (Some task) walked runner start ticker waker s =
-      (gives_found runner ticker waker task s, (refl, refl, refl, refl, refl, refl))
+      (gives_found runner ticker waker task s, (refl, refl, refl, refl, refl, refl, refl))
   runs_as None walked runner start ticker waker s = (
     lies_on (is_again (ticks.sleep_answer ticker waker s).look) (asleep (of_run waker runner)),
-    (refl, found_nothing ticker waker s, refl, refl, refl, refl),
+    (refl, found_nothing ticker waker s, refl, refl, refl, refl, pending_as ticker waker s),
   )
 
   pub run_takes_go : (s : Solo F T X) → RunTakesGo s
@@ -276,7 +277,7 @@ module _ {F T X : Type 0} where
   misses_as : (a : Option Task) (walked : Bool) (runner : Runner) (start : ℕ) (ticker : Ticker) (waker : SoloWaker X) (s : Solo F T X)
       → RunSearchesAs (runs.search_answer_by a walked runner ticker s) (run_searched a runner start ticker waker s)
   misses_as (Some task) walked runner start ticker waker s =
-      (gives_found runner ticker waker task s, (refl, refl, refl, refl, refl, refl))
+      (gives_found runner ticker waker task s, (refl, refl, refl, refl, refl, refl, refl))
   misses_as None walked runner start ticker waker s = (refl, refl)
 
   pub run_searches_go : (s : Solo F T X) → RunSearchesGo s

@@ -49,7 +49,7 @@ use Rattle.solo_laws.specs.Seen.{begins_by, name_if, searcher, sleeps, source_of
 use Rattle.solo_laws.specs.Done.{either, gone_if, leaves}
 use Rattle.solo_laws.specs.Goes.{goes}
 use Rattle.solo_laws.specs.HandedOut.{start_of}
-use Rattle.solo_laws.specs.TicksGo.{waking, woken}
+use Rattle.solo_laws.specs.TicksGo.{waking}
 use Rattle.solo_laws.specs.SearchesGo.{Ends, behind_run, run_at, runs_found, to_run_on}
 use Rattle.solo_laws.proofs.Stepping.Telling.{two, five, nine, free, lets_go, telling_in, tells}
 use Rattle.solo_laws.proofs.Stepping.Taking.{either_none}
@@ -199,7 +199,7 @@ module _ {F T X : Type 0} where
 
   wakes_so : (ticker : Ticker) (r : ℕ) (more : List Step) (runner : Runner) (start : ℕ) (spare : Option (SoloWaker X))
       (s : Solo F T X) (end : Going F T X)
-      → Ends more (record (run_at runner start runs.awake spare (woken ticker s)) { out = waking ticker s }) end
+      → Ends more (record (run_at runner start runs.awake spare (runs.told ticker s)) { out = waking ticker s }) end
       → Ends (woken_first (sleeps ticker) (tick_or_run.Run r) tell ++ more) (run_at runner start ticker spare s) end
   wakes_so (Awake room) r more runner start spare s end tail = tells_then more runner start spare None s end tail
   wakes_so (Asleep sleeper) r more runner start spare s end tail =
@@ -288,12 +288,12 @@ module _ {F T X : Type 0} where
       (runs_found runner start ticker spare (record { run = runner.number; waker = w }) task s)
   finds_so runner start ticker spare w task s few fewer =
       let x : RunPoll Task ℕ = record { run = runner.number; waker = w } in
-      let g : Going F T X = record (run_at runner start runs.awake spare (woken ticker s)) { out = waking ticker s } in
+      let g : Going F T X = record (run_at runner start runs.awake spare (runs.told ticker s)) { out = waking ticker s } in
       let at : Searcher = searches_as (sleeps ticker) g in
       wakes_so ticker runner.number (counted_by (runner.counted + 1 == 64) at x task) runner start spare s
       (runs_found runner start ticker spare x task s)
       (subst
       (λ (c : Bool). Ends (counted_by c at x task) g
-      (turned_so (runs.gives_way runner) task x g (stolen_if (runs.is_steal_due runner) runner.number (woken ticker s))))
+      (turned_so (runs.gives_way runner) task x g (stolen_if (runs.is_steal_due runner) runner.number (runs.told ticker s))))
       (sym (due_same runner few))
       (counts_as (runs.is_steal_due runner) (sleeps ticker) (runs.gives_way runner) task x g (way_same runner fewer)))

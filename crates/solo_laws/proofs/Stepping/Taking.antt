@@ -15,6 +15,7 @@ use Rattle.call_steps.specs.declared.step.table.TableStep.TheVariants as table_s
 use Rattle.call_steps.specs.declared.step.tick.SleeperStep.TheVariants as sleeper_step
 use Rattle.call_steps.specs.Next.{next_queue, next_table}
 use Rattle.call_steps.specs.Owing.{owed}
+use Rattle.call_steps.specs.Seeing.{first, seen}
 use Rattle.solo.specs.declared.names.Task.{Task}
 use Rattle.solo.specs.declared.owed.SpawnError.{SpawnError}
 use Rattle.solo.specs.declared.owed.SpawnError.TheVariants.{Full, NoMemory}
@@ -29,7 +30,7 @@ use Rattle.solo.specs.Solo.{sought, popped}
 use Rattle.solo.specs.Table.{Same, TableValue}
 use Rattle.solo.specs.Turns as turns
 use Rattle.solo_laws.specs.Going.{Going, Out, Step, calm, quiet}
-use Rattle.solo_laws.specs.Seen.{allowed, begins_by, first}
+use Rattle.solo_laws.specs.Seen.{begins_by}
 use Rattle.solo_laws.specs.Done.{either, gone_if}
 use Rattle.solo_laws.specs.Goes.{goes}
 use Rattle.solo_laws.specs.HandedOut.{ends, telling, runs, to_run, reply_if}
@@ -42,7 +43,7 @@ either_none None = refl
 
 module _ {F T X : Type 0} where
   looks_by : (b : Bool) (s : Solo F T X)
-      → goes 19 (next_table table_step.LookAtTable (allowed (not b))) (calm s) ≡ ends s (choose b reply.Yes reply.No) quiet
+      → goes 19 (next_table table_step.LookAtTable (seen (not b))) (calm s) ≡ ends s (choose b reply.Yes reply.No) quiet
   looks_by true s = refl
   looks_by false s = refl
 

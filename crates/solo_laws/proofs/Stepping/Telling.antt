@@ -9,6 +9,7 @@ use Rattle.task_moves.specs.declared.moves.owed.Move.TheVariants as move
 use Rattle.call_steps.specs.Next.{next_queue, next_sleeper}
 use Rattle.call_steps.specs.Owing.{owed}
 use Rattle.call_steps.specs.Sleeping.{tell}
+use Rattle.call_steps.specs.Seeing.{owes, seen}
 use Rattle.solo.specs.declared.names.Task.{Task}
 use Rattle.solo.specs.declared.names.SoloWaker.{SoloWaker}
 use Rattle.solo.specs.declared.names.SoloWaker.TheVariants.{Task as OfTask, Outside}
@@ -19,7 +20,7 @@ use Rattle.solo.specs.Cells as cells
 use Rattle.solo.specs.Turns.{turned, swept, lined, lined_if, takes, is_full, outside, told, told_waker, handed, handed_by, sleeper_woken}
 use Rattle.solo.specs.Turns.{schedule_answer, scheduled, scheduled_if, schedule_if_answer, let_go, let_go_answer}
 use Rattle.solo_laws.specs.Going.{Going, Out, Step, quiet}
-use Rattle.solo_laws.specs.Seen.{allowed, due, handed_out}
+use Rattle.solo_laws.specs.Seen.{handed_out}
 use Rattle.solo_laws.specs.Done.{either, leaves, handed_back, swept_by}
 use Rattle.solo_laws.specs.Goes.{goes}
 
@@ -47,13 +48,13 @@ module _ {F T X : Type 0} where
 
   -- where the flag stands, nobody is told
   quietly_by : (a : Bool) (n : ℕ) (task : Task) (s : Solo F T X) (g : Going F T X)
-      → goes (two n) (next_queue (queue_step.Append task) (allowed a)) (leaves (stirred s) (free g))
+      → goes (two n) (next_queue (queue_step.Append task) (seen a)) (leaves (stirred s) (free g))
       ≡ handed_back (choose a g.out.returned (Some task)) (leaves (stirred s) (free g))
   quietly_by true n task s g = refl
   quietly_by false n task s g = refl
 
   loosed_by : (b : Bool) (n : ℕ) (task : Task) (s : Solo F T X) (g : Going F T X) (r : Option Task)
-      → handed_back r (swept_by task (goes (two (suc n)) (owed true task (due b)) (leaves (stirred s) (free g))))
+      → handed_back r (swept_by task (goes (two (suc n)) (owed true task (owes b)) (leaves (stirred s) (free g))))
       ≡ handed_back r (leaves (swept task (lined_if b task (stirred s))) (free g))
   loosed_by true n task s g r =
       ap (λ (h : Going F T X). handed_back r (swept_by task h)) (quietly_by (takes task s) n task (lined task s) g)
@@ -61,7 +62,7 @@ module _ {F T X : Type 0} where
 
   marked_by : (b : Bool) (n : ℕ) (task : Task) (s : Solo F T X) (g : Going F T X) (r : Option Task)
       → handed_back r
-      (goes (five n) (owed true task (record (due b) { next = Some move.Release })) (leaves (turned cells.woken task (stirred s)) (free g)))
+      (goes (five n) (owed true task (record (owes b) { next = Some move.Release })) (leaves (turned cells.woken task (stirred s)) (free g)))
       ≡ handed_back r
       (leaves
       (let m = lined_if b task (turned cells.woken task (stirred s)) in
@@ -105,7 +106,7 @@ module _ {F T X : Type 0} where
   full_by false n s g = refl
 
   told_by : (b : Bool) (n : ℕ) (g : Going F T X) → g.solo.notified ≡ b
-      → goes (two (two (five n))) (next_sleeper sleeper_step.ExchangeFlag (allowed (not b))) (leaves (stirred g.solo) (free g))
+      → goes (two (two (five n))) (next_sleeper sleeper_step.ExchangeFlag (seen (not b))) (leaves (stirred g.solo) (free g))
       ≡ record (free g) {
         solo = choose b g.solo (handed (stirred g.solo));
         out = record g.out {
@@ -122,7 +123,7 @@ module _ {F T X : Type 0} where
   tells n g = told_by g.solo.notified (suc n) g refl
 
   appends_by : (a : Bool) (n : ℕ) (task : Task) (g : Going F T X)
-      → goes (two (nine n)) (next_queue (queue_step.Append task) (allowed a)) (free g)
+      → goes (two (nine n)) (next_queue (queue_step.Append task) (seen a)) (free g)
       ≡ record (free g) {
         solo = choose a (told g.solo) g.solo;
         out = telling_in
@@ -140,7 +141,7 @@ module _ {F T X : Type 0} where
 
   -- where it has to
   pub queues : (b : Bool) (n : ℕ) (task : Task) (g : Going F T X)
-      → goes (two (two (nine n))) (owed true task (due b)) (free g)
+      → goes (two (two (nine n))) (owed true task (owes b)) (free g)
       ≡ record (free g) { solo = scheduled_if b task g.solo; out = telling_in (schedule_if_answer b task g.solo) g.out }
   queues true n task g = appends n task g
   queues false n task g = refl

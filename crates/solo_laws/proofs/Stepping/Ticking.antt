@@ -1,7 +1,9 @@
 -- Ticks go as `next` says.
 use Rattle.std.proofs.Common.{◌≡◌, ℕ, suc, ◌||◌, nat_lt, Bool, true, false, List, [], ◌∷◌, Option, Some, None, refl, ap, sym, ◌∙◌}
 use Rattle.executor_parts.specs.declared.mark.Mark.{Mark}
+use Rattle.executor_parts.specs.declared.places.EntryPlace.{EntryPlace}
 use Rattle.executor_parts.specs.Marks.{other}
+use Rattle.task_moves.specs.declared.local_task.answers.Start.{Start}
 use Rattle.executor_parts.specs.Sleepers.{last_waker, without_last, listed, position_of, waker_of, woken_up}
 use Rattle.task_moves.specs.declared.moves.owed.Move.TheVariants as move
 use Rattle.call_steps.specs.declared.names.Look.TheVariants.{First, Second}
@@ -23,6 +25,7 @@ use Rattle.solo.specs.declared.owed.Told.{Told}
 use Rattle.executor_parts.specs.declared.sleepers.Room.{Room}
 use Rattle.executor_parts.specs.declared.sleepers.Sleeper.{Sleeper}
 use Rattle.solo.specs.declared.owed.Found.TheVariants.{Nothing}
+use Rattle.solo.specs.declared.ticks.Look.{Look as Answered}
 use Rattle.solo.specs.declared.ticks.Look.TheVariants.{Again, Nothing as FoundNothing}
 use Rattle.solo.specs.declared.ticks.Ticked.{Ticked}
 use Rattle.solo.specs.declared.ticks.Ticker.{Ticker}
@@ -34,6 +37,7 @@ use Rattle.solo.specs.Lines.{LinesValue, first_of, popped_from, mark_of_turn, tu
 use Rattle.solo.specs.Solo.{sought, popped}
 use Rattle.solo.specs.Turns as turns
 use Rattle.solo.specs.Turns.{told, told_waker, is_full, outside, handed, handed_by, lined, takes, let_go, let_go_answer}
+use Rattle.solo.specs.Runs as running
 use Rattle.solo.specs.Ticks as ticks
 use Rattle.solo.specs.Ticks.{told_unless, tell_unless_answer, waker_dropped, drop_waker_answer, its_room}
 use Rattle.solo_laws.specs.Going.{Going, Out, Step, calm, quiet}
@@ -41,11 +45,20 @@ use Rattle.solo_laws.specs.Seen.{first_by, sleeps, name_if, fell_again}
 use Rattle.solo_laws.specs.Done.{either, slept_anew, slept_again}
 use Rattle.solo_laws.specs.Goes.{goes}
 use Rattle.solo_laws.specs.TicksGo as calls
-use Rattle.solo_laws.specs.HandedOut.{ends, runs, dropping}
+use Rattle.solo_laws.specs.HandedOut.{ends, runs, dropping, reply_if, start_of}
 use Rattle.solo_laws.specs.TicksGo.{TickTakesGo, TickSearchesGo, TickLeavesGo, TicksBegin, of_tick, has_place, has_place_at, lies, ticked}
-use Rattle.solo_laws.specs.TicksGo.{searched, turn_back, SearchesAs, TicksAs}
+use Rattle.solo_laws.specs.TicksGo.{searched, turn_back, is_nothing, is_pending, SearchesAs, TicksAs}
 use Rattle.solo_laws.proofs.Stepping.Telling.{two, nine, free, tells, lets_go, alone, telling_in}
 use Rattle.solo_laws.proofs.Stepping.Taking.{tells_and_runs, either_none}
+
+-- who takes a task isn't pending
+takes_up : (start : Option (Start EntryPlace)) → is_pending (reply_if start reply.Ready None) ≡ false
+takes_up (Some start) = refl
+takes_up None = refl
+
+-- who lies down, or lies already, looks again or is pending
+abbrev pub WaitsAs : {F : Type 0} → Answered F → Type 0
+WaitsAs look = is_pending (calls.pending_if (calls.is_again look)) ≡ is_nothing look
 
 module _ {F T X : Type 0} where
   -- who has told one leaves the flag standing
@@ -233,15 +246,15 @@ module _ {F T X : Type 0} where
   -- with a waker
 
   second_taken : (b : Option Task) (mark : Mark) (t : ℕ) (ticker : Ticker) (waker : SoloWaker X) (s : Solo F T X)
-      → has_place ticker s ≡ true
+      → (b ≡ None → has_place ticker s ≡ true)
       → goes 17 (next_tick (tick_step.Look (of_tick waker t) (Second mark)) (first_by (sleeps ticker) b))
       (record (calm s) { ticker = ticker; waker = Some waker })
       ≡ ticked b (of_tick waker t) ticker waker s
   second_taken (Some task) mark t ticker waker s is = finds ticker 1 t task (Some waker) s
-  second_taken None mark t ticker waker s is = lies_down ticker 0 (of_tick waker t) waker (calm s) is
+  second_taken None mark t ticker waker s is = lies_down ticker 0 (of_tick waker t) waker (calm s) (is refl)
 
   first_taken : (a : Option Task) (mark : Mark) (t : ℕ) (ticker : Ticker) (waker : SoloWaker X) (s : Solo F T X)
-      → has_place ticker s ≡ true
+      → ((found_by a mark (popped_from mark s.lines)).task ≡ None → has_place ticker s ≡ true)
       → goes 18 (next_tick (tick_step.Look (of_tick waker t) (First mark)) (first_by (sleeps ticker) a))
       (record (calm (record s { lines = popped_from mark s.lines })) { ticker = ticker; waker = Some waker })
       ≡ ticked (found_by a mark (popped_from mark s.lines)).task (of_tick waker t) ticker waker
@@ -250,7 +263,7 @@ module _ {F T X : Type 0} where
       finds ticker 2 t task (Some waker) (record s { lines = popped_from mark s.lines })
   first_taken None mark t ticker waker s is =
       second_taken (first_of (other mark) (popped_from mark s.lines)) (other mark) t ticker waker
-      (record s { lines = popped_from (other mark) (popped_from mark s.lines) }) (place_kept ticker s _ is)
+      (record s { lines = popped_from (other mark) (popped_from mark s.lines) }) (λ none. place_kept ticker s _ (is none))
 
   again_found : (p : Option ℕ) (b : Bool) (sleeper : Sleeper) (waker : SoloWaker X) (s : Solo F T X) → b ≡ ticks.is_short s
       → Nothing ≡ calls.found_in (ticks.sleep_again_answer p sleeper waker s).look
@@ -277,15 +290,38 @@ module _ {F T X : Type 0} where
   found_nothing (Asleep sleeper) waker s =
       again_found (position_of sleeper.number s.sleepers.wakers) (ticks.is_short s) sleeper waker s refl
 
+  anew_waits : (b : Bool) (waker : SoloWaker X) (s : Solo F T X) → WaitsAs (ticks.sleep_anew_answer b waker s).look
+  anew_waits true waker s = refl
+  anew_waits false waker s = refl
+
+  short_waits : (b : Bool) (sleeper : Sleeper) (waker : SoloWaker X) (s : Solo F T X)
+      → WaitsAs
+      (choose b
+      (ticks.look_answer (Asleep sleeper) Again None None s)
+      (ticks.look_answer (Asleep sleeper) FoundNothing None (Some waker) s)).look
+  short_waits true sleeper waker s = refl
+  short_waits false sleeper waker s = refl
+
+  again_waits : (p : Option ℕ) (sleeper : Sleeper) (waker : SoloWaker X) (s : Solo F T X)
+      → WaitsAs (ticks.sleep_again_answer p sleeper waker s).look
+  again_waits (Some at) sleeper waker s = refl
+  again_waits None sleeper waker s = short_waits (ticks.is_short s) sleeper waker s
+
+  pub pending_as : (ticker : Ticker) (waker : SoloWaker X) (s : Solo F T X) → WaitsAs (ticks.sleep_answer ticker waker s).look
+  pending_as (Awake room) waker s = anew_waits (nat_lt s.sleepers.count s.sleepers.rooms) waker s
+  pending_as (Asleep sleeper) waker s = again_waits (position_of sleeper.number s.sleepers.wakers) sleeper waker s
+
   ticks_by : (a : Option Task) (t : ℕ) (ticker : Ticker) (waker : SoloWaker X) (s : Solo F T X)
       → TicksAs (ticks.take_answer_by a ticker waker s) (ticks.taken_by a ticker waker s) (ticked a (of_tick waker t) ticker waker s)
-  ticks_by (Some task) t ticker waker s = (refl, (refl, refl, refl, refl, refl, refl))
-  ticks_by None t ticker waker s = (refl, (refl, found_nothing ticker waker s, refl, refl, refl, refl))
+  ticks_by (Some task) t ticker waker s =
+      (refl, (refl, refl, refl, refl, refl, refl, takes_up (start_of task (running.told ticker s))))
+  ticks_by None t ticker waker s =
+      (refl, (refl, found_nothing ticker waker s, refl, refl, refl, refl, pending_as ticker waker s))
 
   pub tick_takes_go : (s : Solo F T X) → TickTakesGo s
   tick_takes_go s t ticker waker is = (
     first_taken (first_of (mark_of_turn s.lines.turn) (turned s.lines)) (mark_of_turn s.lines.turn) t ticker waker
-        (record s { lines = turned s.lines }) (place_kept ticker s (turned s.lines) is),
+        (record s { lines = turned s.lines }) (λ none. place_kept ticker s (turned s.lines) (is none)),
     ticks_by (sought s) t ticker waker (popped s),
   )
 
@@ -314,7 +350,8 @@ module _ {F T X : Type 0} where
 
   searches_by : (a : Option Task) (t : ℕ) (ticker : Ticker) (waker : SoloWaker X) (s : Solo F T X)
       → SearchesAs (ticks.search_answer_by a ticker s) (searched a (of_tick waker t) ticker s)
-  searches_by (Some task) t ticker waker s = (refl, refl, refl, refl, refl, refl)
+  searches_by (Some task) t ticker waker s =
+      (refl, refl, refl, refl, refl, refl, takes_up (start_of task (running.told ticker s)))
   searches_by None t ticker waker s = (refl, refl)
 
   pub tick_searches_go : (s : Solo F T X) → TickSearchesGo s

@@ -48,6 +48,7 @@ module _ {F T : Type 0} where
   begins (asked.Cancel f) = step.Move move.Cancel f ∷ step.End reply.Done ∷ []
   begins (asked.Detach f) = step.Move move.Detach f ∷ step.End reply.Done ∷ []
   begins (asked.DropHandle f) = step.Move move.Cancel f ∷ step.Move move.Detach f ∷ step.End reply.Done ∷ []
+  begins (asked.Rouse f left) = step.Table (table_step.Rouse f left) ∷ step.End reply.Done ∷ []
   begins asked.NewTick = step.Tick tick_step.MakeTick ∷ []
   begins (asked.PollTick s) = step.Tick (tick_step.Search s) ∷ []
   begins (asked.DropTick t) = step.Tick (tick_step.Leave (tick_or_run.Tick t)) ∷ step.End reply.Done ∷ []

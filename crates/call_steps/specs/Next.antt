@@ -1,5 +1,5 @@
 -- What comes next in a call, by what was done and by what that saw. What was not seen leads to nothing.
-use Rattle.std.specs.Prelude.{◌++◌, true, false, Option, Some, None, is_none, List, [], ◌∷◌}
+use Rattle.std.specs.Prelude.{suc, ◌++◌, true, false, Option, Some, None, is_none, List, [], ◌∷◌}
 use Rattle.task_moves.specs.declared.moves.owed.Answer.{Answer}
 use Rattle.task_moves.specs.declared.moves.owed.Move.TheVariants as move
 use Rattle.task_moves.specs.declared.moves.owed.Owed.{Owed}
@@ -66,6 +66,9 @@ module _ {F T : Type 0} where
   next_table (table_step.PutBack f) _ = step.Move move.EndPending f ∷ []
   next_table (table_step.TakeToDrop f) _ = step.User (user_step.BeginDrop f) ∷ []
   next_table (table_step.LeaveTable f) saw.Something = step.Move move.Release f ∷ []
+  next_table (table_step.Rouse f (suc left)) (saw.Roused true g) =
+      step.Move move.Wake f ∷ step.Table (table_step.Rouse g left) ∷ []
+  next_table (table_step.Rouse f (suc left)) (saw.Roused false g) = step.Table (table_step.Rouse g left) ∷ []
   next_table _ _ = []
 
   abbrev pub next_queue : QueueStep F → Saw F T → List (CallStep F T)

@@ -26,6 +26,8 @@ pub enum Asked<F, T> {
     Detach(F),
     /// The handle of this future is let go, which cancels the future and detaches it.
     DropHandle(F),
+    /// From this future on, so many are roused: all that were accepted.
+    Rouse(F, u64),
     /// A tick is made.
     NewTick,
     /// A tick is polled, and given this waker.

@@ -68,4 +68,6 @@ pub enum Saw<F, T> {
     Drops(F, u64, u64),
     /// The task of this future was woken, as in `Moved`; so many wakers are left.
     Wakes(F, bool, Owed, u64),
+    /// Whether a copy of the waker was made, to be called; and the next future.
+    Roused(bool, F),
 }

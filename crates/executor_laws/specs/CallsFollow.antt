@@ -1,5 +1,5 @@
 -- That the machine's calls go as `next` says, step for step.
-use Rattle.std.specs.Prelude.{◌≡◌, ℕ, true, false, Option, Some, None, List, []}
+use Rattle.std.specs.Prelude.{◌≡◌, ℕ, true, false, Option, Some, None, List, [], length}
 use Rattle.executor_model.specs.declared.call.Call.{Call}
 use Rattle.executor_model.specs.declared.call.Call.TheVariants as call
 use Rattle.executor_model.specs.declared.op.Op.{Op}
@@ -55,6 +55,7 @@ asked_of w here (call.PollHandle f b) = Some (asked.PollHandle f (waker_of (give
 asked_of w here (call.Cancel f) = Some (asked.Cancel f)
 asked_of w here (call.Detach f) = Some (asked.Detach f)
 asked_of w here (call.DropHandle f) = Some (asked.DropHandle f)
+asked_of w here call.Rouse = Some (asked.Rouse 0 (length w.tasks))
 asked_of w here call.NewTick = Some asked.NewTick
 asked_of w here (call.PollTick t b) =
     Some (asked.PollTick (record { waker = waker_of (given here b); who = of_who.Tick t }))

@@ -62,6 +62,7 @@ steps_of_table (table_op.TakeToPoll f) = 49
 steps_of_table (table_op.PutBack f) = 47
 steps_of_table (table_op.TakeToDrop f) = 5
 steps_of_table (table_op.LeaveTable f) = 1
+steps_of_table (table_op.Rouse f left) = 1 + 27 * left
 
 -- a first look may be followed by one more
 abbrev pub looks_left : Look → ℕ

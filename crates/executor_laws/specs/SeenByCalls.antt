@@ -42,7 +42,7 @@ use Rattle.executor_model.specs.declared.step.UserEnd.{UserEnd}
 use Rattle.executor_model.specs.declared.step.UserEnd.TheVariants as end
 use Rattle.executor_model.specs.World.{World, Ticker, Awake, Asleep, Left, task, awaiter_of, among, tick_of, run_of, own_of, place_of}
 use Rattle.executor_model.specs.World.{mark_of, queue_of}
-use Rattle.executor_model.specs.Acts.{stands_alone, is_refused, is_copy_refused, mark_in, takes_more}
+use Rattle.executor_model.specs.Acts.{has_no_copy, stands_alone, is_refused, is_copy_refused, mark_in, takes_more}
 use Rattle.executor_model.specs.ActsOfRuns.{queue_at, next_place, source_of, free_places}
 use Rattle.call_steps.specs.declared.names.Waker.{Waker as WakerOf}
 use Rattle.call_steps.specs.declared.saw.Saw.{Saw}
@@ -99,6 +99,7 @@ abbrev pub seen_table : Hint → TableOp → World → Seen
 seen_table h (table_op.Enter m) w = entry (not (nat_lt (length w.table) w.limit)) h.refused w
 seen_table h table_op.LookAtTable w = some_there w.table
 seen_table h (table_op.LeaveTable f) w = entry_with_waker (among f w.table) w.is_static
+seen_table h (table_op.Rouse f left) w = saw.Roused (not (has_no_copy w f)) (suc f)
 seen_table h _ w = saw.Nothing
 
 abbrev pub seen_queue : QueueOp → World → Seen

@@ -139,6 +139,7 @@ table_step_of (table_op.TakeToPoll f) = table_step.TakeToPoll f
 table_step_of (table_op.PutBack f) = table_step.PutBack f
 table_step_of (table_op.TakeToDrop f) = table_step.TakeToDrop f
 table_step_of (table_op.LeaveTable f) = table_step.LeaveTable f
+table_step_of (table_op.Rouse f left) = table_step.Rouse f left
 
 abbrev pub queue_step_of : QueueOp → QueueStep ℕ
 queue_step_of queue_op.TakeTurn = queue_step.TakeTurn

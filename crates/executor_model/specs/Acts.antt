@@ -1,6 +1,6 @@
 -- What each thing that a party has to do changes, and what it leads to. The queue is the closable queue,
 -- and a task's change is its table of moves; neither is said again here.
-use Rattle.std.specs.Prelude.{ℕ, ◌+◌, ◌==◌, Bool, true, false, ◌&&◌, ◌||◌, not, Option, Some, None, List, [], ◌∷◌}
+use Rattle.std.specs.Prelude.{ℕ, zero, suc, ◌+◌, ◌==◌, Bool, true, false, ◌&&◌, ◌||◌, not, Option, Some, None, List, [], ◌∷◌}
 use Rattle.std.specs.Prelude.{◌++◌, length, slice_set, nat_lt}
 use Rattle.queue_steps.specs.ClosableQueue.{ClosableQueue, appended, taken, shut}
 use Rattle.executor_parts.specs.declared.mark.Mark.{Mark}
@@ -139,6 +139,20 @@ leave_by false w f = done w []
 
 abbrev pub leave_table : World → ℕ → Done
 leave_table w f = leave_by (among f w.table) w f
+
+-- its entry has no waker, or that can't be copied; or a copy is made, and called. Then comes the next future
+abbrev pub rouse_by : Bool → World → ℕ → ℕ → Done
+rouse_by true w f left = done w (op.Table (table_op.Rouse (suc f) left) ∷ [])
+rouse_by false w f left = done
+    (put w f (record (task w f) { references = (task w f).references + 1 }))
+    (op.Move move.Wake f ∷ op.Table (table_op.Rouse (suc f) left) ∷ [])
+
+abbrev pub has_no_copy : World → ℕ → Bool
+has_no_copy w f = w.is_static || (not (among f w.table) || not (nat_lt (task w f).references most_references))
+
+abbrev pub rouse : World → ℕ → ℕ → Done
+rouse w f zero = done w []
+rouse w f (suc left) = rouse_by (has_no_copy w f) w f left
 
 -- the moves of a task that stand alone: those that are no part of a poll of its handle, or of a notify
 abbrev pub stands_alone : Move → Bool

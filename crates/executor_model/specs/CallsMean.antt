@@ -41,6 +41,7 @@ is_reply (call.PollHandle f b) reply.NoMemory = true
 is_reply (call.Cancel f) r = is_done r
 is_reply (call.Detach f) r = is_done r
 is_reply (call.DropHandle f) r = is_done r
+is_reply call.Rouse r = is_done r
 is_reply call.NewTick r = is_made r
 is_reply (call.PollTick t b) reply.Pending = true
 is_reply (call.PollTick t b) reply.Ready = true

@@ -145,6 +145,7 @@ has_all w ss o (call.PollHandle f b) = has_handle w ss f && is_known o b
 has_all w ss o (call.Cancel f) = has_handle w ss f
 has_all w ss o (call.Detach f) = has_handle w ss f
 has_all w ss o (call.DropHandle f) = has_handle w ss f
+has_all w ss o call.Rouse = true
 has_all w ss o call.NewTick = true
 has_all w ss o (call.PollTick t b) = has_tick w ss t && is_known o b
 has_all w ss o (call.DropTick t) = has_tick w ss t
@@ -158,6 +159,7 @@ abbrev pub is_on_executor : Call → Bool
 is_on_executor (call.Spawn m) = true
 is_on_executor call.TryTick = true
 is_on_executor call.IsEmpty = true
+is_on_executor call.Rouse = true
 is_on_executor call.NewTick = true
 is_on_executor (call.PollTick t b) = true
 is_on_executor (call.DropTick t) = true
@@ -286,6 +288,7 @@ begun p w here (call.Cancel f) = done w (op.Move move.Cancel f ∷ op.End reply.
 begun p w here (call.Detach f) = done w (op.Move move.Detach f ∷ op.End reply.Done (hold.Handle f) ∷ [])
 begun p w here (call.DropHandle f) =
     done w (op.Move move.Cancel f ∷ op.Move move.Detach f ∷ op.End reply.Done (hold.Handle f) ∷ [])
+begun p w here call.Rouse = done w (op.Table (table_op.Rouse 0 (length w.tasks)) ∷ op.End reply.Done hold.Executor ∷ [])
 begun p w here call.NewTick = done w (op.Tick tick_op.MakeTick ∷ [])
 begun p w here (call.PollTick t b) = done (log w (event.TickPolled p t))
     (op.Tick (tick_op.Search (record { waker = waker_of here b; who = tick_or_run.Tick t; poll = length w.trace })) ∷ [])

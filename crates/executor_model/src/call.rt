@@ -29,6 +29,8 @@ pub enum Call {
     Detach(u64),
     /// The handle of the future with this number is let go, which cancels the future and detaches it.
     DropHandle(u64),
+    /// Each accepted future that is undropped is woken once, by a copy of the waker of its entry.
+    Rouse,
     /// A tick is made. It has the next number.
     NewTick,
     /// The tick with this number is polled, and given this waker.

@@ -91,6 +91,8 @@ pub enum TableOp {
     TakeToDrop(u64),
     /// The future's entry is taken out.
     LeaveTable(u64),
+    /// From this future on, so many are roused: a copy of the waker of each one's entry is called, where it has one.
+    Rouse(u64, u64),
 }
 
 /// One of the two looks of a search at the executor's queues.

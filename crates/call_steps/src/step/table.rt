@@ -15,6 +15,8 @@ pub enum TableStep<F> {
     TakeToDrop(F),
     /// The future's entry is taken out.
     LeaveTable(F),
+    /// From this future on, so many are roused: a copy of the waker of each one's entry is called, where it has one.
+    Rouse(F, u64),
 }
 
 /// What a call does with the executor's queues.

@@ -50,6 +50,7 @@ calls-begin p w here (Call.PollHandle f b) = refl
 calls-begin p w here (Call.Cancel f) = refl
 calls-begin p w here (Call.Detach f) = refl
 calls-begin p w here (Call.DropHandle f) = refl
+calls-begin p w here Call.Rouse = refl
 calls-begin p w here Call.NewTick = refl
 calls-begin p w here (Call.PollTick t b) = refl
 calls-begin p w here (Call.DropTick t) = refl

@@ -1,10 +1,11 @@
 -- What is done with the table and the queue goes as `call_steps` says.
-use Rattle.std.proofs.Common.{◌≡◌, ℕ, Bool, true, false, not, List, [], ◌∷◌, length, refl, sym}
+use Rattle.std.proofs.Common.{◌≡◌, ℕ, zero, suc, Bool, true, false, not, List, [], ◌∷◌, length, refl, sym}
 use Rattle.std.specs.Prelude.{nat_lt}
 use Rattle.call_steps.specs.Next.{next, next_queue, next_table}
-use Rattle.call_steps.specs.declared.step.table.QueueStep.{QueueStep}
+use Rattle.call_steps.specs.declared.{saw.Saw.Saw, step.table.QueueStep.QueueStep}
 use Rattle.call_steps.{specs.declared.step.table.TableStep.TableStep, specs.declared.step.CallStep.CallStep}
 use Rattle.executor_laws.proofs.Types.{Look, First, Second, Mark, QueueOp, TableOp, Hint}
+use Rattle.executor_model.specs.Acts.{has_no_copy, rouse, rouse_by}
 use Rattle.executor_model.specs.Acts.{mark_in, takes_more, append_by, enter_by, emptiness, entry_goes, leave_by, take_by}
 use Rattle.executor_model.specs.{World.mark_of, World.queue_of, World.World, World.among, Doing.queue_act, Doing.table_act}
 use Rattle.executor_laws.specs.SeenByCalls.{allowed, entry, entry_with_waker, first, some_there, seen_queue, seen_table}
@@ -30,6 +31,16 @@ of-leave : (b : Bool) (w : World) (f : ℕ) →
 of-leave true w f = of-entry w.is_static f
 of-leave false w f = refl
 
+of-roused : (b : Bool) (w : World) (f left : ℕ) →
+    steps_of (rouse_by b w f left).next ≡ next_table (TableStep.Rouse f (suc left)) (Saw.Roused (not b) (suc f))
+of-roused true w f left = refl
+of-roused false w f left = refl
+
+of-rouse : (w : World) (f left : ℕ) →
+    steps_of (rouse w f left).next ≡ next_table (TableStep.Rouse f left) (Saw.Roused (not (has_no_copy w f)) (suc f))
+of-rouse w f zero = refl
+of-rouse w f (suc left) = of-roused _ w f left
+
 of-take : (w : World) (look : Look) (fs : List ℕ) →
     steps_of (take_by w look fs).next ≡ next_queue (QueueStep.Take (look_of look)) (first fs)
 of-take w (First mark) [] = refl
@@ -49,6 +60,7 @@ of-table p h (TableOp.TakeToPoll f) w = refl
 of-table p h (TableOp.PutBack f) w = refl
 of-table p h (TableOp.TakeToDrop f) w = refl
 of-table p h (TableOp.LeaveTable f) w = of-leave (among f w.table) w f
+of-table p h (TableOp.Rouse f left) w = of-rouse w f left
 
 pub of-queue : (p : ℕ) (o : QueueOp) (w : World) →
     steps_of (queue_act p o w).next ≡ next (CallStep.Queue (queue_step_of o)) (seen_queue o w)

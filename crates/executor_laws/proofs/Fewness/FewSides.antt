@@ -154,6 +154,7 @@ ups-act p h (Op.Run RunOp.ReturnRoom) w n z = refl
 ups-act p h (Op.Run _) w n z = absurd (cc)
 ups-act p h (Op.Table (TableOp.Enter mark)) w n z = absurd (cc)
 ups-act p h (Op.Table TableOp.LookAtTable) w n z = absurd (cc)
+ups-act p h (Op.Table (TableOp.Rouse f left)) w n z = absurd (cc)
 ups-act p h (Op.Queue QueueOp.TakeTurn) w n z = absurd (cc)
 ups-act p h (Op.Queue (QueueOp.Take look)) w n z = absurd (cc)
 ups-act p h (Op.User (UserOp.Poll f)) w n z = absurd (cc)

@@ -288,6 +288,7 @@ own-begun p w here c os z t = record { told = told-begun p w here c t; stands = 
     go (call.Cancel f) = as-slow (call.Cancel f) refl
     go (call.Detach f) = as-slow (call.Detach f) refl
     go (call.DropHandle f) = as-slow (call.DropHandle f) refl
+    go call.Rouse = as-slow call.Rouse refl
     go call.NewTick = as-slow call.NewTick refl
     go (call.PollTick t b) = as-slow (call.PollTick t b) refl
     go (call.DropTick t) = as-slow (call.DropTick t) refl

@@ -1,6 +1,7 @@
 -- For calls_end and lone_calls_end.
 -- Each thing that is done spends a step of those that remain.
 use Rattle.std.proofs.Common.{◌≡◌, ℕ, ◌+◌, ◌*◌, ◌<◌, ◌≤◌, List, [], ◌∷◌, ◌++◌, length, Bool, true, false, ◌&&◌, ◌||◌, refl, ap}
+use Rattle.std.{proofs.Common.zero, proofs.Common.suc}
 use Rattle.std.proofs.lemmas.List.{length_push, length-append}
 use Rattle.std.{proofs.Common.arith, specs.Prelude.Option, specs.Prelude.Some, specs.Prelude.None}
 use Rattle.task_moves.specs.declared.moves.owed.Answer.TheVariants.{Pending, Closed, Output}
@@ -13,7 +14,7 @@ use Rattle.executor_model.specs.Acts.{mark_in, take_turn, turned, close, append_
 use Rattle.executor_model.specs.Acts.{leave_by, copy_by, polled, reply_of, is_output, answered, look_by, look_again_by, copied}
 use Rattle.executor_model.specs.Acts.{copy_awaiter_by, register_by, waker_goes, let_go, let_go_by, end_register_by, notify_by}
 use Rattle.executor_model.specs.Acts.{told, end_notify, call_waker, closing_ops, take_out, drop_next_by, followed, wake}
-use Rattle.executor_model.specs.Acts.{wake_next_by, drain_by, leak_next_by, leak_out_by, leaking_ops}
+use Rattle.executor_model.specs.Acts.{rouse, rouse_by, wake_next_by, drain_by, leak_next_by, leak_out_by, leaking_ops}
 use Rattle.executor_model.specs.{World.among, Carried.awaiter_ops, Weights.weigh, Good.CanGrow, Good.CanWake, Good.IsKnownWaker}
 use Rattle.executor_laws.specs.Remaining.{stored, steps_of_task, steps_of_tasks, steps_of_runs, notified_of, ups, steps_kept}
 use Rattle.executor_laws.specs.{Remaining.steps_of_leak, Costs.steps_of, Costs.looks_left, Costs.queues_left}
@@ -183,6 +184,16 @@ spends-copy false w f held l =
       kept-marks w f (record (task w f) { references = (task w f).references + 1 }) l refl,
       kept-as v (copy_by false w f held).world refl refl refl refl refl refl refl refl refl refl,
     )
+
+spends-roused : (b : Bool) (w : World) (f left : ℕ) → f < length w.tasks →
+    Spends w (1 + 27 * suc left) (rouse_by b w f left)
+spends-roused true w f left l = omega arith
+spends-roused false w f left l =
+    omega (arith, kept-marks w f (record (task w f) { references = (task w f).references + 1 }) l refl)
+
+pub spends-rouse : (w : World) (f left : ℕ) → (0 < left → f < length w.tasks) → Spends w (1 + 27 * left) (rouse w f left)
+spends-rouse w f zero l = omega arith
+spends-rouse w f (suc left) l = spends-roused _ w f left (l (omega arith))
 
 pub kept-copied : (w : World) (a : Waker) → IsKnownWaker w a → steps_kept (copied w a) ≡ steps_kept w
 kept-copied w (Task g) l = kept-marks w g _ l refl

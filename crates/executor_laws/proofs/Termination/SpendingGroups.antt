@@ -8,7 +8,7 @@ use Rattle.executor_model.specs.{World.World, World.task, Acts.take_to_drop, Act
 use Rattle.executor_laws.specs.Costs.{steps_of}
 use Rattle.executor_model.proofs.OwnQueues.RunsAside.{is_run}
 use Rattle.executor_laws.proofs.Termination.SpendingActs.{spends-turn, spends-close, spends-append, spends-take, spends-enter}
-use Rattle.executor_laws.proofs.Termination.SpendingActs.{spends-leave, spends-as, kept-as, spends-look, spends-again}
+use Rattle.executor_laws.proofs.Termination.SpendingActs.{spends-rouse, spends-leave, spends-as, kept-as, spends-look, spends-again}
 use Rattle.executor_laws.proofs.Termination.SpendingActs.{spends-copy, spends-copy_awaiter, spends-register}
 use Rattle.executor_laws.proofs.Termination.SpendingActs.{spends-end_register, spends-notify, spends-end_notify, spends-let_go}
 use Rattle.executor_laws.proofs.Termination.SpendingActs.{spends-wake, spends-call, spends-take_out, spends-drop_next}
@@ -74,6 +74,7 @@ spends-act p h (Op.Table (TableOp.TakeToDrop f)) w n r l k =
 spends-act p h (Op.User (UserOp.BeginDrop f)) w n r l k = omega (arith, kept-log w (Event.Dropped p f))
 spends-act p h (Op.User (UserOp.Drop f)) w n r l k = absurd (cc)
 spends-act p h (Op.Table (TableOp.LeaveTable f)) w n r l k = spends-leave _ w f refl
+spends-act p h (Op.Table (TableOp.Rouse f left)) w n r l k = spends-rouse w f left l
 spends-act p h (Op.User (UserOp.BeginDropOutput f)) w n r l k = omega (arith, kept-log w (Event.OutputDropped p f))
 spends-act p h (Op.User (UserOp.DropOutput f)) w n r l k = absurd (cc)
 spends-act p h (Op.Waker (WakerOp.CopyWaker f held)) w n r l k = spends-copy _ w f held l

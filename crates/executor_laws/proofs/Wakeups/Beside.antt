@@ -1,7 +1,7 @@
 -- For some_standing_is_called.
 -- What is no part of a poll or drop of a tick or run, and takes no waker out of the sleepers' list, is nothing to
 -- any of these.
-use Rattle.std.proofs.Common.{◌≡◌, ◌∙◌, ℕ, List, [], ◌∷◌, ◌++◌, length, Bool, true, false, refl, ap, arith}
+use Rattle.std.proofs.Common.{◌≡◌, ◌∙◌, ℕ, zero, suc, List, [], ◌∷◌, ◌++◌, length, Bool, true, false, refl, ap, arith}
 use Rattle.std.specs.Prelude.{Option, Some, None}
 use Rattle.task_moves.specs.declared.moves.owed.Answer.{Answer}
 use Rattle.executor_parts.specs.Marks.{first_of, turn_after}
@@ -198,6 +198,14 @@ beside-notify : (b : Bool) (w : World) (f : ℕ) (mine : Bool) → Beside w (act
 beside-notify true w f mine = besides w _ (λ t. refl) refl
 beside-notify false w f mine = besides w _ (λ t. refl) refl
 
+beside-roused : (b : Bool) (w : World) (f left : ℕ) → Beside w (acts.rouse_by b w f left)
+beside-roused true w f left = besides w _ (λ t. refl) refl
+beside-roused false w f left = besides w _ (λ t. refl) refl
+
+beside-rouse : (w : World) (f left : ℕ) → Beside w (acts.rouse w f left)
+beside-rouse w f zero = besides w _ (λ t. refl) refl
+beside-rouse w f (suc left) = beside-roused _ w f left
+
 beside-let_go : (b : Bool) (w : World) (f : ℕ) → Beside w (acts.let_go_by b w f)
 beside-let_go true w f = besides w _ (λ t. refl) refl
 beside-let_go false w f = besides w _ (λ t. refl) (aside-let_go sits_of no-sits (awaiter_of w f))
@@ -254,6 +262,7 @@ pub beside-act : (p : ℕ) (h : Hint) (o : Op) (w : World) → is_sits o ≡ fal
 beside-act p h (Op.Move m f) w n = beside-move _ m p w w f (λ t. refl)
 beside-act p h (Op.Table (TableOp.Enter mark)) w n = beside-enter _ _ _ p w
 beside-act p h (Op.Table (TableOp.LeaveTable f)) w n = beside-leave _ w f
+beside-act p h (Op.Table (TableOp.Rouse f left)) w n = beside-rouse w f left
 beside-act p h (Op.Table o) w n = besides w _ (λ t. refl) refl
 beside-act p h (Op.Queue QueueOp.TakeTurn) w n = besides w _ (λ t. view-turned t p w) refl
 beside-act p h (Op.Queue (QueueOp.Take look)) w n = beside-take look _ w

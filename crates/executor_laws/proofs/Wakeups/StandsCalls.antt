@@ -236,6 +236,7 @@ stands-begun t p w here (Call.PollHandle g b) r m k f h = plain t p w here (Call
 stands-begun t p w here (Call.Cancel g) r m k f h = plain t p w here (Call.Cancel g) (λ j. refl) refl r m f h
 stands-begun t p w here (Call.Detach g) r m k f h = plain t p w here (Call.Detach g) (λ j. refl) refl r m f h
 stands-begun t p w here (Call.DropHandle g) r m k f h = plain t p w here (Call.DropHandle g) (λ j. refl) refl r m f h
+stands-begun t p w here Call.Rouse r m k f h = plain t p w here Call.Rouse (λ j. refl) refl r m f h
 stands-begun t p w here Call.NewTick r m k f h = plain t p w here Call.NewTick (λ j. refl) refl r m f h
 stands-begun t p w here (Call.PollTick u b) r m k f h = begins-poll t p w here u b r m k f h
 stands-begun t p w here (Call.DropTick u) r m k f h = begins-drop_tick t p w here u r m k f h

@@ -82,6 +82,11 @@ begins-leak : (w : World) (p : ℕ) →
     (Op.Closing ClosingOp.LeakOut ∷ Op.End Reply.Done Hold.Leaking ∷ []))
 begins-leak w p g r y m b h = grind (arith, heard-push)
 
+begins-rouse : (w : World) (p : ℕ) →
+    KeepsBegun w p (done (log w (Event.CallBegun p Call.Rouse))
+    (Op.Table (TableOp.Rouse 0 (length w.tasks)) ∷ Op.End Reply.Done Hold.Executor ∷ []))
+begins-rouse w p g r y m b h = grind (arith, heard-push)
+
 begins-make_tick : (w : World) (p : ℕ) →
     KeepsBegun w p (done (log w (Event.CallBegun p Call.NewTick)) (Op.Tick TickOp.MakeTick ∷ []))
 begins-make_tick w p g r y m b h = grind (arith, heard-push)
@@ -183,6 +188,7 @@ awaits-begun p w here (Call.PollHandle f b) g r y m u = begins-poll w p f b (wak
 awaits-begun p w here (Call.Cancel f) g r y m u = begins-cancel w p f g r y m u.0 u.1
 awaits-begun p w here (Call.Detach f) g r y m u = begins-detach w p f g r y m u.0 u.1
 awaits-begun p w here (Call.DropHandle f) g r y m u = begins-drop_handle w p f g r y m u.0 u.1
+awaits-begun p w here Call.Rouse g r y m u = begins-rouse w p g r y m
 awaits-begun p w here Call.NewTick g r y m u = begins-make_tick w p g r y m
 awaits-begun p w here (Call.PollTick t b) g r y m u =
     begins-poll_tick w p t b

@@ -1,6 +1,6 @@
 -- For awaiters_are_kept.
 -- Each thing that is done keeps what is known of each awaiter, by groups.
-use Rattle.std.proofs.Common.{◌≡◌, ℕ, ◌<◌, [], ◌∷◌, length, true, false, not, refl, subst, arith}
+use Rattle.std.proofs.Common.{◌≡◌, ℕ, suc, ◌+◌, ◌<◌, [], ◌∷◌, length, true, false, not, refl, subst, arith}
 use Rattle.executor_model.proofs.Types.{Answer, Event, Op, ClosingOp, HandleOp, Move, QueueOp, RunOp, RunPoll, SleeperOp}
 use Rattle.executor_model.proofs.Types.{TableOp, TickOp, UserOp, WakerOp, Hint, UserEnd}
 use Rattle.executor_model.specs.Acts.{is_copy_refused, is_last_waker, is_told}
@@ -18,10 +18,10 @@ use Rattle.executor_model.proofs.Awaiters.AwaitedActs.{awaits-register, awaits-t
 use Rattle.executor_model.proofs.Awaiters.AwaitedActs.{awaits-end_register_by, awaits-look, awaits-notify, awaits-copy}
 use Rattle.executor_model.proofs.Awaiters.AwaitedActs.{awaits-copy_awaiter, awaits-drain, awaits-drop_first, both-true}
 use Rattle.executor_model.proofs.Awaiters.AwaitedActs.{awaits-again, awaits-call, awaits-cancel, awaits-close, awaits-let_go}
-use Rattle.executor_model.proofs.Awaiters.AwaitedMoves.{awaits-wake, awaits-wake_by_reference}
+use Rattle.executor_model.proofs.Awaiters.AwaitedMoves.{awaits-wake, awaits-wake_by_reference, awaits-rouse}
 use Rattle.executor_model.proofs.Awaiters.SleepersAwaited.{awaits-wake_up, awaits-leave_sleepers}
 use Rattle.executor_model.proofs.Awaiters.Awaited.{Mark, KeepsBy, KeepsAwaits, asks_if}
-use Rattle.executor_model.proofs.Counts.CountingHandles.{first_known, own}
+use Rattle.executor_model.proofs.Counts.CountingHandles.{first_known, own, below}
 use Rattle.executor_model.proofs.Awaiters.AwaitedActs.{awaits-leak_first, awaits-leak_out}
 use Rattle.executor_model.proofs.Awaiters.RunsAwaited.{awaits-list, awaits-run, awaits-search_who, awaits-steal}
 use Rattle.executor_model.proofs.{Quiet.Calls.is_end, Awaiters.KnownWakers.known_waker}
@@ -83,6 +83,7 @@ awaits-act p h (Op.Table (TableOp.PutBack f)) w n u z m = awaits-put_back w f
 awaits-act p h (Op.Table (TableOp.TakeToDrop f)) w n u z m = awaits-take_to_drop w f
 awaits-act p h (Op.User (UserOp.BeginDrop f)) w n u z m = awaits-begin_drop p w f
 awaits-act p h (Op.Table (TableOp.LeaveTable f)) w n u z m = awaits-leave _ w f refl
+awaits-act p h (Op.Table (TableOp.Rouse f left)) w n u z m = awaits-rouse w f left (below (suc (length w.tasks)) (f + left) (omega (arith, z)))
 awaits-act p h (Op.User (UserOp.BeginDropOutput f)) w n u z m = awaits-begin_drop_output p w f
 awaits-act p h (Op.Waker (WakerOp.CopyWaker f held)) w n u z m =
     awaits-copy _ w f held (own _ f (Op.Waker (WakerOp.CopyWaker f held)) (omega arith) z)

@@ -17,6 +17,7 @@ use Rattle.executor_model.proofs.Steps.RunsNext.{BlindToRuns, list-blind, run-bl
 use Rattle.executor_model.proofs.{Steps.Lists.weigh-append, Steps.Owed.owed-future, Steps.Owed.owed-nothing}
 use Rattle.executor_model.proofs.{Steps.SleepersNext.sleeper-unseen, Steps.Asides.aside-leak_next, Steps.Asides.aside-leak_out}
 use Rattle.task_moves.specs.Moves as moves
+use Rattle.executor_model.proofs.Steps.Asides.{aside-rouse}
 
 -- a notice by a poll of the handle itself, the rest of a notice, and the steps of the executor's drop
 abbrev pub rough_of : Op → ℕ
@@ -229,6 +230,7 @@ plain-act p h (Op.Move Move.Cancel f) w n =
     plain-owed f _ (moves.cancel (task w f)).owed (plain-cancel _ _ f (task w f))
 plain-act p h (Op.Move Move.Detach f) w n = plain-carried f _ (moves.detach (task w f)) (no-detach _ _ (task w f))
 plain-act p h (Op.Table (TableOp.LeaveTable f)) w n = plain-leave _ w f
+plain-act p h (Op.Table (TableOp.Rouse f left)) w n = aside-rouse rough_of (λ g l. refl) (λ g. refl) w f left
 plain-act p h (Op.Waker (WakerOp.CopyWaker f held)) w n = plain-copy _ w f held
 plain-act p h (Op.Handle (HandleOp.CopyAwaiter f a)) w n = plain-copy_awaiter _ p w f a
 plain-act p h (Op.Handle (HandleOp.Register f a k)) w n = plain-register _ w f a k

@@ -5,7 +5,7 @@ use Rattle.std.{proofs.lemmas.Bool.Decides.nat_tests, proofs.lemmas.List.length-
 use Rattle.executor_model.proofs.Types.{First, Second, Look, Moved, Event, Task, Polled, Op, Move, QueueOp, TableOp, UserOp}
 use Rattle.executor_model.specs.Acts.{mark_in, take_turn, append_by, take_by, enter_by, take_to_poll, put_back, take_to_drop}
 use Rattle.executor_model.specs.World.{queue_of, World, log, log_if, task, among}
-use Rattle.executor_model.specs.Acts.{leave_by, begin_drop, begin_drop_output}
+use Rattle.executor_model.specs.Acts.{leave_by, begin_drop, begin_drop_output, rouse, rouse_by}
 use Rattle.executor_model.specs.{Carried.carried, Weights.same, Sound.Pend, Sound.with_ops, Sound.times}
 use Rattle.executor_model.proofs.Counts.Counting.{settling, readied, pended, ending, dropping, taken_up, woken, woken_by}
 use Rattle.executor_model.proofs.Awaiters.Awaited.{Awaiting, Mark, heard-push, with_awaiting, Footing, Awaits, KeepsAwaits}
@@ -16,6 +16,7 @@ use Rattle.executor_model.proofs.Counts.Counting.{cancel_going, cancel_idle, can
 use Rattle.executor_model.proofs.{Types.WakerOp, Steps.Cases.by_bool, Steps.Cases.by_list, Awaiters.Awaited.kept_push}
 use Rattle.executor_parts.specs.declared.mark.Mark as of_mark
 use Rattle.task_moves.specs.Moves as moves
+use Rattle.std.proofs.Common.{zero, suc}
 
 pub awaits-append : (b : Bool) (w : World) (mark : of_mark.Mark) (f : ℕ) →
     KeepsAwaits w (Op.Queue (QueueOp.Append f) ∷ []) (append_by b w mark f)
@@ -52,6 +53,17 @@ awaits-put_back w f g r yy mm bb h = grind (arith, same_is)
 
 pub awaits-take_to_drop : (w : World) (f : ℕ) → KeepsAwaits w (Op.Table (TableOp.TakeToDrop f) ∷ []) (take_to_drop w f)
 awaits-take_to_drop w f g r yy mm bb h = grind (arith, same_is)
+
+awaits-roused : (b : Bool) (w : World) (f left : ℕ) → f < length w.tasks →
+    KeepsAwaits w (Op.Table (TableOp.Rouse f (suc left)) ∷ []) (rouse_by b w f left)
+awaits-roused = by_bool _
+    (λ w f left i g r yy mm bb h. grind arith)
+    (λ w f left i g r yy mm bb h. grind (arith, same_is, read_put, length-set))
+
+pub awaits-rouse : (w : World) (f left : ℕ) → f + left < suc (length w.tasks) →
+    KeepsAwaits w (Op.Table (TableOp.Rouse f left) ∷ []) (rouse w f left)
+awaits-rouse w f zero i = λ g r yy mm bb h. grind arith
+awaits-rouse w f (suc left) i = awaits-roused _ w f left (omega (arith, i))
 
 pub awaits-leave : (b : Bool) (w : World) (f : ℕ) → among f w.table ≡ b →
     KeepsAwaits w (Op.Table (TableOp.LeaveTable f) ∷ []) (leave_by b w f)

@@ -1,7 +1,7 @@
 -- For awaiters_are_kept and calls_do_what_they_say.
 -- What the steps of the executor's drop look at, and how most of what is done leaves it as it was.
 use Rattle.std.proofs.Common.{◌≡◌, ◌⊎◌, ℕ, ◌+◌, ◌<◌, ◌≤◌, List, [], ◌∷◌, ◌++◌, length, Bool, true, false, not, refl, sym, ap}
-use Rattle.std.proofs.Common.{◌∙◌, subst, arith}
+use Rattle.std.proofs.Common.{◌∙◌, subst, arith, zero, suc}
 use Rattle.std.specs.Prelude.{Option, Some, None}
 use Rattle.task_moves.specs.declared.moves.owed.Answer.{Answer}
 use Rattle.executor_model.proofs.Types.{Plain, Urgent, Mark, Moved, Move, Reply, Event, Waker, Task, Outside, Hold, Polled, Op}
@@ -18,6 +18,7 @@ use Rattle.executor_model.proofs.Awaiters.AwaitedLists.{rough_of, plain-act, is_
 use Rattle.executor_model.proofs.{Types.TableOp, Types.UserOp, Types.WakerOp, Types.Hint, Steps.RunsMoves.Moves}
 use Rattle.executor_model.proofs.{Awaiters.RunsQueue.queue-list, Steps.RunsWays.AllOfRuns, Steps.RunsWays.by-list}
 use Rattle.task_moves.specs.Moves as moves
+use Rattle.executor_model.specs.Acts.{rouse, rouse_by}
 
 -- what the drop of the executor looks at
 pub record Lists : Type 0 where
@@ -201,6 +202,14 @@ same-leave : (b : Bool) (w : World) (f : ℕ) → lists w ≡ lists (leave_by b 
 same-leave true w f = refl
 same-leave false w f = refl
 
+same-roused : (b : Bool) (w : World) (f left : ℕ) → lists w ≡ lists (rouse_by b w f left).world
+same-roused true w f left = refl
+same-roused false w f left = refl
+
+same-rouse : (w : World) (f left : ℕ) → lists w ≡ lists (rouse w f left).world
+same-rouse w f zero = refl
+same-rouse w f (suc left) = same-roused _ w f left
+
 same-copy : (b : Bool) (w : World) (f : ℕ) (held : Hold) → lists w ≡ lists (copy_by b w f held).world
 same-copy true w f held = refl
 same-copy false w f held = refl
@@ -318,6 +327,7 @@ pub same-act : (p : ℕ) (h : Hint) (o : Op) (w : World) → is_sweeping o ≡ f
 same-act p h (Op.Table (TableOp.Enter mark)) w n = same-enter _ _ _ p w
 same-act p h (Op.Move m f) w n = same-move _ m p w f
 same-act p h (Op.Table (TableOp.LeaveTable f)) w n = same-leave _ w f
+same-act p h (Op.Table (TableOp.Rouse f left)) w n = same-rouse w f left
 same-act p h (Op.Waker (WakerOp.CopyWaker f held)) w n = same-copy _ w f held
 same-act p h (Op.Handle (HandleOp.Look f a)) w n =
     same-look (moves.poll (task w f)).owed.answer p w f a (moves.poll (task w f))

@@ -1,7 +1,7 @@
 -- For one_runnable and references_are_counted.
 -- Each thing that is done leaves numbers that are futures'.
 use Rattle.std.proofs.Common.{◌≡◌, ℕ, ◌+◌, ◌≤◌, ◌<◌, List, [], ◌∷◌, ◌++◌, length, Bool, true, false, not, ◌&&◌, set, drop, refl}
-use Rattle.std.proofs.Common.{sym, ap, ◌∙◌, subst, arith, length-append}
+use Rattle.std.proofs.Common.{sym, ap, ◌∙◌, subst, arith, length-append, zero, suc}
 use Rattle.std.proofs.Math.ListN.{length-set}
 use Rattle.std.specs.Prelude.{Option, Some, None, slice_set}
 use Rattle.task_moves.{specs.declared.moves.owed.Answer.Answer, specs.declared.moves.owed.AwaiterDebt.AwaiterDebt}
@@ -12,7 +12,7 @@ use Rattle.executor_model.specs.Acts.{enter_by, leave_by, copy_by, answered, pol
 use Rattle.executor_model.specs.Acts.{register_by, end_register_by, notify_by, end_notify, told, let_go, waker_goes}
 use Rattle.executor_model.specs.Acts.{call_awaiter, closing_ops, drop_next_by, wake_next_by, drain_by, followed, wake, reply_of}
 use Rattle.executor_model.specs.World.{queue_of, World, Done, done, log, log_if, task, put, awaiter_of, put_awaiter, among}
-use Rattle.executor_model.specs.Acts.{is_output, leak_next_by, leak_out_by, leaked, leaking_ops}
+use Rattle.executor_model.specs.Acts.{rouse, rouse_by, is_output, leak_next_by, leak_out_by, leaked, leaking_ops}
 use Rattle.executor_model.specs.{Carried.awaiter_ops, Carried.owed_ops, Carried.carried, Weights.weigh, Weights.past}
 use Rattle.executor_model.specs.{Weights.waker_past, Good.pasts, Good.awaiters_past, Good.Fits, Rows.past_of}
 use Rattle.executor_model.proofs.Steps.Cases.{by_bool, by_list, by_waker}
@@ -110,6 +110,31 @@ pub grows-leave : (b : Bool) (w : World) (f : ℕ) → Grows w (Op.Table (TableO
 grows-leave = by_bool _
     (λ w f h k. grind arith)
     (λ w f h k. grind arith)
+
+grows-roused : (b : Bool) (w : World) (f left : ℕ) →
+    Grows w (Op.Table (TableOp.Rouse f (suc left)) ∷ []) (rouse_by b w f left)
+grows-roused true w f left h k = let e : suc f + left ≡ f + suc left = omega arith in record {
+  fits = shaped w h;
+  next = omega (arith, ap (past (suc (length w.tasks))) e, k);
+  more = omega arith;
+}
+grows-roused false w f left h k =
+    let n = length w.tasks in
+    let s : State = record (task w f) { references = (task w f).references + 1 } in
+    let q : length (set w.tasks f s) ≡ n = length-set w.tasks f s in
+    let e : suc f + left ≡ f + suc left = omega arith in
+    let i : f + suc left < suc n = below (suc n) (f + suc left) (omega (arith, k)) in
+    let z : past n f ≡ 0 = grind (arith, past_is) in
+    record {
+      fits = fits-put w f s (shaped w h);
+      next = subst (λ x. weigh (past_of x) (Op.Move Move.Wake f ∷ Op.Table (TableOp.Rouse (suc f) left) ∷ []) ≡ 0) (sym q)
+          (omega (arith, ap (past (suc n)) e, k, z));
+      more = omega (arith, q);
+    }
+
+pub grows-rouse : (w : World) (f left : ℕ) → Grows w (Op.Table (TableOp.Rouse f left) ∷ []) (rouse w f left)
+grows-rouse w f zero h k = grind arith
+grows-rouse w f (suc left) h k = grows-roused _ w f left h k
 
 pub grows-copy : (b : Bool) (w : World) (f : ℕ) (held : Hold) →
     Grows w (Op.Waker (WakerOp.CopyWaker f held) ∷ []) (copy_by b w f held)

@@ -11,7 +11,7 @@ use Rattle.executor_model.proofs.Counts.Fitting.{grows-drain, grows-drop_next, g
 use Rattle.executor_model.proofs.Counts.Fitting.{grows-enter, grows-inside, grows-leave, grows-logged, grows-look, grows-let_go}
 use Rattle.executor_model.proofs.Counts.Fitting.{grows-move, grows-notify, grows-register, grows-take, grows-leak_next}
 use Rattle.executor_model.proofs.Counts.SleepersFitting.{grows-leave_sleepers}
-use Rattle.executor_model.proofs.Counts.Fitting.{grows-leak_out, grows-wake_next, past_closing}
+use Rattle.executor_model.proofs.Counts.Fitting.{grows-rouse, grows-leak_out, grows-wake_next, past_closing}
 use Rattle.executor_model.proofs.Counts.RunsFitting.{grows-list, grows-run, grows-search_who, grows-steal}
 
 pub grows-act : (p : ℕ) (c : Hint) (o : Op) (w : World) → Grows w (o ∷ []) (act p c o w)
@@ -30,6 +30,7 @@ grows-act p c (Op.User (UserOp.BeginDrop f)) w h k =
     grows-logged w (Event.Dropped p f) (Op.User (UserOp.Drop f) ∷ Op.Table (TableOp.LeaveTable f) ∷ [])
     (omega (arith, k)) h
 grows-act p c (Op.Table (TableOp.LeaveTable f)) w h k = grows-leave _ w f h k
+grows-act p c (Op.Table (TableOp.Rouse f left)) w h k = grows-rouse w f left h k
 grows-act p c (Op.User (UserOp.BeginDropOutput f)) w h k =
     grows-logged w (Event.OutputDropped p f) (Op.User (UserOp.DropOutput f) ∷ []) refl h
 grows-act p c (Op.Waker (WakerOp.CopyWaker f held)) w h k = grows-copy _ w f held h k

@@ -1,6 +1,6 @@
 -- For refused_calls_change_nothing, wakes_and_drops_take_no_memory and want_of_memory_is_told_of.
 -- Calls that take no memory ask for none.
-use Rattle.std.proofs.Common.{ℕ, List, [], ◌∷◌, ◌++◌, Bool, true, false, ◌||◌, not, refl, ap, ◌∙◌, ◌&&◌}
+use Rattle.std.proofs.Common.{ℕ, List, [], ◌∷◌, ◌++◌, Bool, true, false, ◌||◌, not, refl, ap, ◌∙◌, ◌&&◌, zero, suc}
 use Rattle.std.specs.Prelude.{Option, Some, None}
 use Rattle.std.{proofs.lemmas.List.Folds.list_any-append, specs.List.list_any}
 use Rattle.task_moves.specs.declared.moves.owed.FutureDebt.TheVariants.{PollFuture, DropFuture}
@@ -124,6 +124,14 @@ none-waker (Outside x) = refl
 none-let_go : (a : Option Awaiter) → AsksForNone (acts.let_go a)
 none-let_go None = refl
 none-let_go (Some a) = none-waker a.waker
+
+none-roused : (b : Bool) (w : World) (f left : ℕ) → AsksForNone (acts.rouse_by b w f left).next
+none-roused true w f left = refl
+none-roused false w f left = refl
+
+pub none-rouse : (w : World) (f left : ℕ) → AsksForNone (acts.rouse w f left).next
+none-rouse w f zero = refl
+none-rouse w f (suc left) = none-roused _ w f left
 
 pub none-let_go_by : (b : Bool) (w : World) (f : ℕ) → AsksForNone (acts.let_go_by b w f).next
 none-let_go_by true w f = refl

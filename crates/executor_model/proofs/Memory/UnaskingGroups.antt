@@ -16,7 +16,7 @@ use Rattle.executor_model.proofs.Memory.Unasking.{none-let_go_by, both, none-aga
 use Rattle.executor_model.proofs.Memory.Unasking.{none-close, none-closing, none-drain, none-drop_next, none-end_register}
 use Rattle.executor_model.proofs.Memory.Unasking.{none-leave, none-look_at_table, none-notify, none-register, none-take}
 use Rattle.executor_model.proofs.Memory.RunsUntold.{Untold, untold-common, untold-finds, untold-search, untold-steal}
-use Rattle.executor_model.proofs.Memory.Unasking.{none-told, none-leak_next, none-leak_out, none-wake_next}
+use Rattle.executor_model.proofs.Memory.Unasking.{none-rouse, none-told, none-leak_next, none-leak_out, none-wake_next}
 use Rattle.executor_model.proofs.Memory.SleepersMemory.{none-sleeper, none-up, none-leave_sleepers, finds-without}
 use Rattle.executor_model.proofs.{Types.Hint, Types.UserEnd, Memory.RunsUntold.untold-turn}
 use Rattle.task_moves.specs.Moves as moves
@@ -71,6 +71,7 @@ none-act p w h (Op.Table TableOp.LookAtTable) e = none-look_at_table w w.table
 none-act p w h (Op.Queue (QueueOp.Append f)) e = none-append _ w _ f
 none-act p w h (Op.Move m f) e = none-move _ m p w f
 none-act p w h (Op.Table (TableOp.LeaveTable f)) e = none-leave _ w f
+none-act p w h (Op.Table (TableOp.Rouse f left)) e = none-rouse w f left
 none-act p w h (Op.Waker (WakerOp.CopyWaker f held)) e = absurd (cc)
 none-act p w h (Op.Handle (HandleOp.Look f a)) e = absurd (cc)
 none-act p w h (Op.Handle (HandleOp.CopyAwaiter f a)) e = absurd (cc)
@@ -130,6 +131,7 @@ none-begun : (p : ℕ) (w : World) (here : Option Waker) (c : Call) → takes_no
     AsksForNone (begun p w here c).next
 none-begun p w here Call.TryTick e = refl
 none-begun p w here Call.IsEmpty e = refl
+none-begun p w here Call.Rouse e = refl
 none-begun p w here (Call.Wake k) e = none-with w (kept w k) _ (λ f. refl)
 none-begun p w here (Call.WakeByRef k) e = none-with w (kept w k) _ (λ f. refl)
 none-begun p w here (Call.DropWaker k) e = none-with w (kept w k) _ (λ f. refl)

@@ -172,6 +172,7 @@ module _ (r : ℕ) where
   begins-call p w here (Call.Cancel f) e = begins w _ _ (one p w _ (Call.Cancel f) refl) refl (λ k. refl)
   begins-call p w here (Call.Detach f) e = begins w _ _ (one p w _ (Call.Detach f) refl) refl (λ k. refl)
   begins-call p w here (Call.DropHandle f) e = begins w _ _ (one p w _ (Call.DropHandle f) refl) refl (λ k. refl)
+  begins-call p w here Call.Rouse e = begins w _ _ (one p w _ Call.Rouse refl) refl (λ k. refl)
   begins-call p w here Call.NewTick e = begins w _ _ (one p w _ Call.NewTick refl) refl (λ k. refl)
   begins-call p w here (Call.PollTick t b) e = let v = log w (Event.CallBegun p (Call.PollTick t b)) in
       begins w (log v (Event.TickPolled p t)) _

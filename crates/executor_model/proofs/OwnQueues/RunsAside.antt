@@ -198,6 +198,14 @@ frame-leave : (b : Bool) (w : World) (f : ℕ) → Frame w (acts.leave_by b w f)
 frame-leave true w f = frame w _ refl (aside-entry bustle_of none w.is_static f)
 frame-leave false w f = frame w _ refl refl
 
+frame-roused : (b : Bool) (w : World) (f left : ℕ) → Frame w (acts.rouse_by b w f left)
+frame-roused true w f left = frame w _ refl refl
+frame-roused false w f left = frame w _ refl refl
+
+frame-rouse : (w : World) (f left : ℕ) → Frame w (acts.rouse w f left)
+frame-rouse w f zero = frame w _ refl refl
+frame-rouse w f (suc left) = frame-roused _ w f left
+
 -- handles
 
 frame-copy : (b : Bool) (w : World) (f : ℕ) (held : Hold) → Frame w (acts.copy_by b w f held)
@@ -292,6 +300,7 @@ pub frame-act : (p : ℕ) (h : Hint) (o : Op) (w : World) → is_lone o ≡ true
 frame-act p h (Op.Move m f) w n = frame-move _ m p w w f refl
 frame-act p h (Op.Table (TableOp.Enter mark)) w n = frame-enter _ _ _ p w
 frame-act p h (Op.Table (TableOp.LeaveTable f)) w n = frame-leave _ w f
+frame-act p h (Op.Table (TableOp.Rouse f left)) w n = frame-rouse w f left
 frame-act p h (Op.Waker (WakerOp.CopyWaker f held)) w n = frame-copy _ w f held
 frame-act p h (Op.Waker (WakerOp.CallAwaiter f a k)) w n = frame-call p w (Polled.Handle f) a k
 frame-act p h (Op.Handle (HandleOp.Look f a)) w n = frame-look _ p w f a _

@@ -284,6 +284,10 @@ used-begun p w here (Call.DropHandle g) r x a b f =
     used-other w (log w (Event.CallBegun p (Call.DropHandle g)))
     (Op.Move Move.Cancel g ∷ Op.Move Move.Detach g ∷ Op.End Reply.Done (Hold.Handle g) ∷ []) refl refl refl
     (λ q. record { uses = omega arith; polls = omega arith; empties = omega arith; lends = refl }) r x a b
+used-begun p w here Call.Rouse r x a b f =
+    used-other w (log w (Event.CallBegun p Call.Rouse))
+    (Op.Table (TableOp.Rouse 0 (length w.tasks)) ∷ Op.End Reply.Done Hold.Executor ∷ []) refl refl refl
+    (λ q. record { uses = omega arith; polls = omega arith; empties = omega arith; lends = refl }) r x a b
 used-begun p w here Call.NewTick r x a b f =
     used-other w (log w (Event.CallBegun p Call.NewTick)) (Op.Tick TickOp.MakeTick ∷ []) refl refl refl
     (λ q. record { uses = omega arith; polls = omega arith; empties = omega arith; lends = refl }) r x a b

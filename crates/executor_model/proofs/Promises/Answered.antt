@@ -18,7 +18,7 @@ use Rattle.executor_model.specs.World.{World, Ticker, Awake, Asleep, Left, among
 use Rattle.executor_model.specs.ActsOfRuns.{call_by_reference, make_room_by, make_run_by, reschedule_by, wake_own}
 use Rattle.executor_model.specs.Doing.{act, handle_act, list_act, run_act, search_by_who, table_act, tick_act, user_act}
 use Rattle.executor_model.specs.{Steps.mine, Carried.awaiter_ops, Weights.weigh}
-use Rattle.executor_model.proofs.Steps.Asides.{Aside, aside-awaiter, aside-closing, aside-entry, aside-leak_next}
+use Rattle.executor_model.proofs.Steps.Asides.{Aside, aside-awaiter, aside-closing, aside-entry, aside-leak_next, aside-rouse}
 use Rattle.executor_model.proofs.Steps.RunsNext.{BlindToSearches, common-unseen, look-unseen, own-unseen, steal-unseen}
 use Rattle.executor_model.proofs.Steps.Asides.{aside-leak_out, aside-let_go, aside-let_go_by, aside-owed, aside-told}
 use Rattle.executor_model.proofs.Steps.SleepersNext.{Unseen, call-unseen, goes-unseen, sleeper-unseen, tell-unseen}
@@ -110,6 +110,7 @@ module _ (t : Reply → ℕ) (q : ℕ) (rare : Rare t q) where
   ends-table p h (TableOp.PutBack f) w z = refl
   ends-table p h (TableOp.TakeToDrop f) w z = refl
   ends-table p h (TableOp.LeaveTable f) w z = ends-leave _ w f
+  ends-table p h (TableOp.Rouse f left) w z = aside-rouse (ends_of t q) (λ g l. refl) (λ g. refl) w f left
 
   ends-take : (look : Look) (qs : List ℕ) (w : World) → q ≡ 0 → weigh (ends_of t q) (take_by w look qs).next ≡ 0
   ends-take (First mark) [] w z = omega (arith, z)

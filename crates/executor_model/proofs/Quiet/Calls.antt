@@ -18,6 +18,8 @@ use Rattle.executor_model.proofs.Steps.Asides.{aside-entry, Aside, aside-awaiter
 use Rattle.executor_model.proofs.{Types.TableOp, Types.TickOp, Types.UserOp, Types.WakerOp, Steps.Lists.weigh-append}
 use Rattle.executor_model.proofs.{Steps.Asides.aside-leak_next, Steps.Asides.aside-leak_out, OneFuture.Telling.same-cond}
 use Rattle.task_moves.specs.Moves as moves
+use Rattle.std.proofs.Common.{zero, suc}
+use Rattle.executor_model.specs.Acts.{rouse, rouse_by}
 
 -- what has still to answer its call
 abbrev pub calling_of : Op → ℕ
@@ -199,6 +201,14 @@ calls-enter false false mark p w =
 pub calls-leave : (b : Bool) (w : World) (f : ℕ) → Calls w (Op.Table (TableOp.LeaveTable f)) (leave_by b w f)
 calls-leave true w f = inside w _ _ refl (steady-same _ _ refl) (aside-entry calling_of no-call w.is_static f)
 calls-leave false w f = inside w _ _ refl (steady-same _ _ refl) refl
+
+calls-roused : (b : Bool) (w : World) (f left : ℕ) → Calls w (Op.Table (TableOp.Rouse f (suc left))) (rouse_by b w f left)
+calls-roused true w f left = inside w _ _ refl (steady-same _ _ refl) refl
+calls-roused false w f left = inside w _ _ refl (steady-same _ _ refl) refl
+
+pub calls-rouse : (w : World) (f left : ℕ) → Calls w (Op.Table (TableOp.Rouse f left)) (rouse w f left)
+calls-rouse w f zero = inside w _ _ refl (steady-same _ _ refl) refl
+calls-rouse w f (suc left) = calls-roused _ w f left
 
 pub calls-copy : (b : Bool) (w : World) (f : ℕ) (held : Hold) →
     Calls w (Op.Waker (WakerOp.CopyWaker f held)) (copy_by b w f held)

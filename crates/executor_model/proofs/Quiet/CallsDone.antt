@@ -60,6 +60,7 @@ fit-begun p w here (Call.PollHandle f b) = itself f
 fit-begun p w here (Call.Cancel f) = refl
 fit-begun p w here (Call.Detach f) = refl
 fit-begun p w here (Call.DropHandle f) = refl
+fit-begun p w here Call.Rouse = refl
 fit-begun p w here Call.NewTick = refl
 fit-begun p w here (Call.PollTick t b) = refl
 fit-begun p w here (Call.DropTick t) = refl

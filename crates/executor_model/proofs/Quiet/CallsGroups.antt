@@ -10,7 +10,7 @@ use Rattle.executor_model.proofs.Quiet.Calls.{calls-close, calls-copy, calls-cop
 use Rattle.executor_model.proofs.Quiet.Calls.{calls-end_register, calls-enter, calls-leave, calls-notify, calls-register}
 use Rattle.executor_model.proofs.Quiet.Calls.{calls-take, calls-turn, calls-wake_next, inside, no-call, none-owed, calling_of}
 use Rattle.executor_model.proofs.Quiet.Calls.{begin_of, end_of, single, steady-and, steady-log, steady-log_if, steady-same}
-use Rattle.executor_model.proofs.Quiet.Calls.{calls-leak_next, calls-leak_out}
+use Rattle.executor_model.proofs.Quiet.Calls.{calls-leak_next, calls-leak_out, calls-rouse}
 use Rattle.executor_model.proofs.Steps.Asides.{aside-told, aside-closing, aside-let_go}
 use Rattle.executor_model.proofs.Quiet.RunsCalls.{calls-list, calls-run, calls-steal}
 use Rattle.executor_model.proofs.Quiet.SleepersCalls.{calls-sleeper, calls-tick}
@@ -54,6 +54,7 @@ calls-act p h (Op.Move m f) w n = calls-move _ m p w f
 calls-act p h (Op.User (UserOp.BeginDrop f)) w n =
     inside w _ _ refl (steady-log _ _ (Event.Dropped p f) refl (λ q. refl) (λ q. refl)) refl
 calls-act p h (Op.Table (TableOp.LeaveTable f)) w n = calls-leave _ w f
+calls-act p h (Op.Table (TableOp.Rouse f left)) w n = calls-rouse w f left
 calls-act p h (Op.User (UserOp.BeginDropOutput f)) w n =
     inside w _ _ refl (steady-log _ _ (Event.OutputDropped p f) refl (λ q. refl) (λ q. refl)) refl
 calls-act p h (Op.Waker (WakerOp.CopyWaker f held)) w n = calls-copy _ w f held

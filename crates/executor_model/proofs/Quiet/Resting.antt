@@ -229,6 +229,7 @@ opens p w ss o (Call.Cancel f) k = (steady-same _ _ refl, then (Op.Move Move.Can
 opens p w ss o (Call.Detach f) k = (steady-same _ _ refl, then (Op.Move Move.Detach f ∷ []) _ refl refl)
 opens p w ss o (Call.DropHandle f) k =
     (steady-same _ _ refl, then (Op.Move Move.Cancel f ∷ Op.Move Move.Detach f ∷ []) _ refl refl)
+opens p w ss o Call.Rouse k = (steady-same _ _ refl, then (Op.Table (TableOp.Rouse 0 (length w.tasks)) ∷ []) _ refl refl)
 opens p w ss o Call.NewTick k = (steady-same _ _ refl, single _ refl)
 opens p w ss o (Call.PollTick t b) k =
     (steady-log _ _ (Event.TickPolled p t) refl (λ q. refl) (λ q. refl), single _ refl)

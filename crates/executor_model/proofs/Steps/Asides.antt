@@ -1,13 +1,13 @@
 -- For all laws.
 -- What a move owes, what is left to do where a waker goes, and the steps of the executor's drop weigh nothing
 -- in a count that sees none of it.
-use Rattle.std.proofs.Common.{◌≡◌, ℕ, List, [], ◌∷◌, Bool, true, false, refl, arith, ◌++◌}
+use Rattle.std.proofs.Common.{◌≡◌, ℕ, List, [], ◌∷◌, Bool, true, false, refl, arith, ◌++◌, zero, suc}
 use Rattle.std.specs.Prelude.{Option, Some, None}
 use Rattle.task_moves.specs.declared.moves.owed.AwaiterDebt.{AwaiterDebt}
 use Rattle.executor_model.proofs.Types.{Move, Owed, Awaiter, Op, ClosingOp, HandleOp, QueueOp, TableOp, UserOp, Waker, Task}
 use Rattle.executor_model.specs.Acts.{closing_ops, entry_goes, let_go, let_go_by, told, waker_goes, leak_next_by, leak_out_by}
 use Rattle.executor_model.specs.Carried.{awaiter_ops, owed_ops}
-use Rattle.executor_model.specs.{Acts.leaking_ops, Acts.wake, Weights.weigh, World.World, World.awaiter_of}
+use Rattle.executor_model.specs.{Acts.leaking_ops, Acts.rouse, Acts.rouse_by, Acts.wake, Weights.weigh, World.World, World.awaiter_of}
 use Rattle.executor_model.proofs.Steps.Owed.{owed-future, owed-awaiter, owed-nothing}
 use Rattle.executor_model.proofs.{Types.Outside, Types.WakerOp, Types.Urgent, Steps.Lists.weigh-append}
 
@@ -85,3 +85,14 @@ aside-leak_next v h k false p w [] = refl
 aside-leak_next v h k false p w (f ∷ rest) =
     let u : World = record w { waking = rest } in
     omega (arith, weigh-append v (wake p u f).next (leaking_ops rest), k p u f, aside-leaking v h rest)
+
+-- who is roused is woken, and then come those behind it
+aside-roused : (v : Op → ℕ) → ((f left : ℕ) → v (Op.Table (TableOp.Rouse f left)) ≡ 0) →
+    ((f : ℕ) → v (Op.Move Move.Wake f) ≡ 0) → (b : Bool) (w : World) (f left : ℕ) → weigh v (rouse_by b w f left).next ≡ 0
+aside-roused v h k true w f left = omega (arith, h (suc f) left)
+aside-roused v h k false w f left = omega (arith, h (suc f) left, k f)
+
+pub aside-rouse : (v : Op → ℕ) → ((f left : ℕ) → v (Op.Table (TableOp.Rouse f left)) ≡ 0) →
+    ((f : ℕ) → v (Op.Move Move.Wake f) ≡ 0) → (w : World) (f left : ℕ) → weigh v (rouse w f left).next ≡ 0
+aside-rouse v h k w f zero = refl
+aside-rouse v h k w f (suc left) = aside-roused v h k _ w f left

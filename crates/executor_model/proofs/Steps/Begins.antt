@@ -248,6 +248,8 @@ pub begins : (w : World) (p : ℕ) (ss : List (List Op)) (o : Option Op) (here :
 begins w p ss o here (Call.Spawn mark) k has = grows-begun w p _ _ (λ h. refl)
 begins w p ss o here Call.TryTick k has = grows-begun w p _ _ (λ h. refl)
 begins w p ss o here Call.IsEmpty k has = grows-begun w p _ _ (λ h. refl)
+begins w p ss o here Call.Rouse k has = grows-begun w p _ _
+    (λ h. let z : past (suc (length w.tasks)) (0 + length w.tasks) ≡ 0 = grind (arith, past_is) in omega (arith, z))
 begins w p ss o here (Call.Wake n) k has = begins-kept w p (Call.Wake n) n _ _ refl
     (λ f e. grows-used w p n f (Call.Wake n) _ e (λ z. omega (arith, z)))
 begins w p ss o here (Call.WakeByRef n) k has = begins-kept w p (Call.WakeByRef n) n _ _ refl

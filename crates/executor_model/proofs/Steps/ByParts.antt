@@ -1,6 +1,6 @@
 -- For all laws.
 -- Each thing that is done is made of such parts.
-use Rattle.std.proofs.Common.{◌≡◌, ℕ, List, [], ◌∷◌, ◌++◌, length, set, Bool, true, false, refl}
+use Rattle.std.proofs.Common.{◌≡◌, ℕ, List, [], ◌∷◌, ◌++◌, length, set, Bool, true, false, refl, zero, suc}
 use Rattle.std.specs.Prelude.{Option, Some, None}
 use Rattle.task_moves.specs.declared.moves.owed.Answer.{Answer}
 use Rattle.executor_parts.specs.Marks.{first_of, turn_after}
@@ -78,6 +78,14 @@ module _ (R : World → World → Type 0) (p : ℕ) (o : Op) (l : PartsOf R p o)
   by-leave : (b : Bool) (w : World) (f : ℕ) → lists o ≡ true → R w (acts.leave_by b w f).world
   by-leave true w f z = l.listed w _ _ _ _ z
   by-leave false w f z = still w
+
+  by-roused : (b : Bool) (w : World) (f left : ℕ) → R w (acts.rouse_by b w f left).world
+  by-roused true w f left = still w
+  by-roused false w f left = l.moved w f _
+
+  by-rouse : (w : World) (f left : ℕ) → R w (acts.rouse w f left).world
+  by-rouse w f zero = still w
+  by-rouse w f (suc left) = by-roused _ w f left
 
   by-turn : (w : World) → turns o ≡ true → R w (acts.turned p w)
   by-turn w y =
@@ -237,6 +245,7 @@ by-act R p h (Op.Table (TableOp.TakeToPoll f)) w l = l.placed w f false refl
 by-act R p h (Op.Table (TableOp.PutBack f)) w l = l.placed w f true refl
 by-act R p h (Op.Table (TableOp.TakeToDrop f)) w l = l.placed w f false refl
 by-act R p h (Op.Table (TableOp.LeaveTable f)) w l = by-leave R p _ l _ w f refl
+by-act R p h (Op.Table (TableOp.Rouse f left)) w l = by-rouse R p _ l w f left
 by-act R p h (Op.Queue QueueOp.TakeTurn) w l = by-turn R p _ l w refl
 by-act R p h (Op.Queue (QueueOp.Take look)) w l = by-take R p _ l look _ w
 by-act R p h (Op.Queue (QueueOp.Append f)) w l = by-append R p _ l _ w _ f

@@ -1,6 +1,6 @@
 -- For all laws.
 -- What is still to do, but for what one party does, and that numbers go on to fit where more futures are there.
-use Rattle.std.proofs.Common.{◌≡◌, ℕ, ◌+◌, ◌<◌, ◌≤◌, List, [], ◌∷◌, ◌++◌, length, set, get_or, refl, ap, arith}
+use Rattle.std.proofs.Common.{◌≡◌, ℕ, ◌+◌, ◌<◌, ◌≤◌, List, [], ◌∷◌, ◌++◌, length, set, get_or, refl, ap, arith, suc}
 use Rattle.std.specs.Prelude.{reverse}
 use Rattle.executor_model.proofs.Types.{Waker, Op, ClosingOp, HandleOp, ListOp, QueueOp, RunOp, Section, SleeperOp, Steal}
 use Rattle.executor_model.proofs.Types.{StealOp, TableOp, Then, TickOp, UserOp, WakerOp}
@@ -115,6 +115,7 @@ module _ (n m : ℕ) (h : n ≤ m) where
   more (Op.Table (TableOp.TakeToDrop f)) z = more-one f z
   more (Op.User (UserOp.BeginDrop f)) z = more-one f z
   more (Op.Table (TableOp.LeaveTable f)) z = more-one f z
+  more (Op.Table (TableOp.Rouse f left)) z = past-more (suc n) (suc m) (f + left) (omega (arith, h)) z
   more (Op.Waker (WakerOp.CopyWaker f held)) z = more-one f z
   more (Op.Handle (HandleOp.Look f a)) z = more-two f a z
   more (Op.Handle (HandleOp.CopyAwaiter f a)) z = more-two f a z

@@ -82,6 +82,8 @@ needs s p (Op.Table (TableOp.PutBack f)) h e good =
     has_place s f good (speaks s p (Op.Table (TableOp.PutBack f)) h e good)
 needs s p (Op.Table (TableOp.TakeToDrop f)) h e good =
     has_place s f good (speaks s p (Op.Table (TableOp.TakeToDrop f)) h e good)
+needs s p (Op.Table (TableOp.Rouse f left)) h e good = λ l.
+    omega (arith, l, below _ (f + left) (speaks s p (Op.Table (TableOp.Rouse f left)) h e good))
 needs s p (Op.Waker (WakerOp.CopyWaker f x)) h e good =
     below _ f (speaks s p (Op.Waker (WakerOp.CopyWaker f x)) h e good)
 needs s p (Op.Handle (HandleOp.Look f a)) h e good =

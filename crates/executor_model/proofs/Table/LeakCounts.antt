@@ -18,6 +18,7 @@ use Rattle.executor_model.proofs.Steps.SleepersNext.{Blind, Unseen, sleeper-unse
 use Rattle.executor_model.proofs.{Types.WakerOp, Types.Hint, Types.UserEnd, Steps.Asides.aside-told, Steps.Lists.weigh-append}
 use Rattle.task_moves.specs.Moves as moves
 use Rattle.executor_model.specs.declared.event.Answer.TheVariants as answer
+use Rattle.executor_model.proofs.Steps.Asides.{aside-rouse}
 
 -- user code of a future, the beginning of its drop, and its way back; and what of a leak is to be done yet: the wakers are
 -- to be taken out of the table, or the next one is to be called
@@ -227,6 +228,7 @@ module _ (near first more : ℕ) where
   leads-act p h (Op.Table (TableOp.PutBack f)) w n z = refl
   leads-act p h (Op.Table (TableOp.TakeToDrop f)) w n z = omega (arith, z refl)
   leads-act p h (Op.Table (TableOp.LeaveTable f)) w n z = goes-leave _ w f
+  leads-act p h (Op.Table (TableOp.Rouse f left)) w n z = aside-rouse (leads_of near first more) (λ g l. refl) (λ g. refl) w f left
   leads-act p h (Op.Queue QueueOp.TakeTurn) w n z = refl
   leads-act p h (Op.Queue (QueueOp.Take look)) w n z = goes-take look _ w
   leads-act p h (Op.Queue (QueueOp.Append f)) w n z = goes-append _ w _ f

@@ -15,7 +15,7 @@ use Rattle.executor_model.proofs.Table.Borrowing.{uses_of, Tidy, tidy-light}
 use Rattle.executor_model.proofs.Table.Tidying.{no-give_up, no-release, no-wake, tidy-take, tidy-using}
 use Rattle.executor_model.proofs.Table.RunsTidying.{light-drop_run, light-poll_run, tidy-list, tidy-run, tidy-steal}
 use Rattle.executor_model.proofs.{Types.UserOp, Types.WakerOp, Types.Hint, Types.UserEnd, Table.SleepersTidying.tidy-sleeper}
-use Rattle.executor_model.proofs.{Table.SleepersTidying.tidy-tick, Steps.Asides.aside-leak_next, Steps.Asides.aside-leak_out}
+use Rattle.executor_model.proofs.{Table.SleepersTidying.tidy-tick, Steps.Asides.aside-leak_next, Steps.Asides.aside-leak_out, Steps.Asides.aside-rouse}
 use Rattle.task_moves.specs.Moves as moves
 
 -- what it needs beside: a Runnable that is dropped is one of a future that has no entry any more
@@ -56,6 +56,7 @@ tidy-act p h (Op.Table (TableOp.PutBack f)) w n = tidy-using (Op.Table (TableOp.
 tidy-act p h (Op.Table (TableOp.TakeToDrop f)) w n = tidy-using (Op.Table (TableOp.TakeToDrop f)) _ refl
 tidy-act p h (Op.User (UserOp.BeginDrop f)) w n = tidy-using (Op.User (UserOp.BeginDrop f)) _ refl
 tidy-act p h (Op.Table (TableOp.LeaveTable f)) w n = tidy-using (Op.Table (TableOp.LeaveTable f)) _ refl
+tidy-act p h (Op.Table (TableOp.Rouse f left)) w n = tidy-light _ _ (aside-rouse uses_of (λ g l. refl) (λ g. refl) w f left)
 tidy-act p h (Op.Waker (WakerOp.CopyWaker f held)) w n = tidy-light _ _ (light-copy _ w f held)
 tidy-act p h (Op.Handle (HandleOp.Look f a)) w n =
     tidy-light _ _ (light-look (moves.poll (task w f)).owed.answer p w f a (moves.poll (task w f)))

@@ -1,6 +1,6 @@
 -- For polls_keep_their_wakers.
 -- What is done with tasks, the table, the queue, handles and sleepers names a poll by its own waker, where what was to do does.
-use Rattle.std.proofs.Common.{◌≡◌, ℕ, List, [], ◌∷◌, ◌++◌, length, Bool, true, false, refl, ◌&&◌}
+use Rattle.std.proofs.Common.{◌≡◌, ℕ, List, [], ◌∷◌, ◌++◌, length, Bool, true, false, refl, ◌&&◌, zero, suc}
 use Rattle.std.specs.Prelude.{Option, Some, None}
 use Rattle.task_moves.specs.declared.moves.owed.Answer.{Answer}
 use Rattle.executor_parts.specs.Marks.{first_of, turn_after}
@@ -16,6 +16,7 @@ use Rattle.executor_model.specs.World.{World, Done, among, awaiter_of, log, log_
 use Rattle.executor_model.proofs.Wakers.Names.{Ends, Every, Names, Right, RightEvent, RightSlot, Stored, every-append}
 use Rattle.executor_model.proofs.Wakers.Names.{every-get, every-push, every-set, owes, owes-awaiter, stored-log, stored-log_if}
 use Rattle.task_moves.specs.Moves as moves
+use Rattle.executor_model.specs.Acts.{rouse, rouse_by}
 
 module _ (k : ℕ) (a : Waker) where
   -- tasks change, and nothing that is named
@@ -70,6 +71,14 @@ module _ (k : ℕ) (a : Waker) where
   pub leaves : (b : Bool) (w : World) (f : ℕ) → Stored k a w → Ends k a (leave_by b w f)
   leaves true w f h = (record { awaiters = h.awaiters; sleepers = h.sleepers; told = h.told }, goes w.is_static f)
   leaves false w f h = (h, tt)
+
+  roused : (b : Bool) (w : World) (f left : ℕ) → Stored k a w → Ends k a (rouse_by b w f left)
+  roused true w f left h = (h, (tt, tt))
+  roused false w f left h = (record { awaiters = h.awaiters; sleepers = h.sleepers; told = h.told }, (tt, (tt, tt)))
+
+  pub rouses : (w : World) (f left : ℕ) → Stored k a w → Ends k a (rouse w f left)
+  rouses w f zero h = (h, tt)
+  rouses w f (suc left) h = roused _ w f left h
 
   pub takes : (look : Look) (q : List ℕ) (w : World) → Stored k a w → Ends k a (take_by w look q)
   takes (First mark) [] w h = (h, (tt, tt))

@@ -19,7 +19,7 @@ use Rattle.executor_model.specs.{Acts.is_copy_refused, Acts.stands_alone, World.
 use Rattle.executor_model.proofs.Wakers.Names.{Ends, Every, Names, Right, RightEntry, RightEvent, RightSection, RightSleep}
 use Rattle.executor_model.proofs.Wakers.Names.{RightSlot, Stored, entry-at, every-append, every-push, every-remove, every-set}
 use Rattle.executor_model.proofs.Wakers.NamesActs.{appends, calls-waker, closes, copies, copies-awaiter, drains, drops-next}
-use Rattle.executor_model.proofs.Wakers.NamesActs.{ends-notify, ends-register, enters, leaks-next, leaks-out, leaves}
+use Rattle.executor_model.proofs.Wakers.NamesActs.{ends-notify, ends-register, enters, leaks-next, leaks-out, leaves, rouses}
 use Rattle.executor_model.proofs.Wakers.NamesActs.{lets-go-emptied, looks, looks-again, moves-task, notifies, registers}
 use Rattle.executor_model.proofs.Steps.SleepersLists.{freed-same, given_back-same}
 use Rattle.executor_model.proofs.Wakers.Names.{every-take, stored-log}
@@ -306,6 +306,7 @@ module _ (k : ℕ) (a : Waker) where
   names-act p c (Op.Table (TableOp.PutBack f)) w n h r = (same-store w _ refl refl refl h, (tt, tt))
   names-act p c (Op.Table (TableOp.TakeToDrop f)) w n h r = (same-store w _ refl refl refl h, (tt, tt))
   names-act p c (Op.Table (TableOp.LeaveTable f)) w n h r = leaves k a _ w f h
+  names-act p c (Op.Table (TableOp.Rouse f left)) w n h r = rouses k a w f left h
   names-act p c (Op.Queue QueueOp.TakeTurn) w n h r = (turns k a p w h, (tt, tt))
   names-act p c (Op.Queue (QueueOp.Take look)) w n h r = takes k a look _ w h
   names-act p c (Op.Queue (QueueOp.Append f)) w n h r = appends k a _ w _ f h

@@ -83,6 +83,7 @@ module _ (k : ℕ) (a : Waker) where
   names-begun p w here (Call.Cancel f) n h = (h, (tt, (tt, tt)))
   names-begun p w here (Call.Detach f) n h = (h, (tt, (tt, tt)))
   names-begun p w here (Call.DropHandle f) n h = (h, (tt, (tt, (tt, tt))))
+  names-begun p w here Call.Rouse n h = (h, (tt, (tt, tt)))
   names-begun p w here Call.NewTick n h = (h, (tt, tt))
   names-begun p w here (Call.PollTick t b) n h = (stored-log k a w (Event.TickPolled p t) h tt, (n, tt))
   names-begun p w here (Call.DropTick t) n h = (stored-log k a w (Event.TickDropped p t) h tt, (tt, (tt, tt)))

@@ -2,13 +2,10 @@
 -- What the steps of the executor's drop look at, and how most of what is done leaves it as it was.
 use Rattle.std.proofs.Common.{◌≡◌, ◌⊎◌, ℕ, ◌+◌, ◌<◌, ◌≤◌, List, [], ◌∷◌, ◌++◌, length, Bool, true, false, not, refl, sym, ap}
 use Rattle.std.proofs.Common.{◌∙◌, subst, arith}
-use Rattle.std.specs.Prelude.{Option, Some, None}
-use Rattle.task_moves.specs.declared.moves.owed.Answer.{Answer}
-use Rattle.executor_model.proofs.Types.{Plain, Urgent, Mark, Moved, Move, Reply, Event, Waker, Task, Outside, Hold, Polled, Op}
+use Rattle.executor_model.proofs.Types.{Plain, Urgent, Mark, Move, Reply, Event, Waker, Task, Outside, Hold, Polled, Op}
 use Rattle.executor_model.proofs.Types.{ListOp, RunPoll, Steal, StealOp, SleeperOp, TickOp, ClosingOp, HandleOp, QueueOp}
-use Rattle.executor_model.specs.Acts.{is_last_waker, is_told, let_go_by, move_by, told_as, enter_by, leave_by, copy_by, look_by}
+use Rattle.executor_model.specs.Acts.{enter_by, leave_by, look_by, look_again_by, notify_by}
 use Rattle.executor_model.specs.World.{World, Done, done, log, log_if, task}
-use Rattle.executor_model.specs.Acts.{look_again_by, copy_awaiter_by, register_by, end_register_by, notify_by, call_awaiter}
 use Rattle.executor_model.specs.ActsOfRuns.{call_by_reference, kept_by, wake_own}
 use Rattle.executor_model.specs.{Queues.Queues, Carried.awaiter_ops, Doing.act, Doing.list_act, Weights.weigh}
 use Rattle.executor_model.specs.{Weights.weigh_all, Rows.Row, Rows.ousting_of, Steps.mine}
@@ -17,6 +14,8 @@ use Rattle.executor_model.proofs.Awaiters.SleepersWorlds.{Rest, sleeper-rest, ti
 use Rattle.executor_model.proofs.Awaiters.AwaitedLists.{rough_of, plain-act, is_special}
 use Rattle.executor_model.proofs.{Types.TableOp, Types.UserOp, Types.WakerOp, Types.Hint, Steps.RunsMoves.Moves}
 use Rattle.executor_model.proofs.{Awaiters.RunsQueue.queue-list, Steps.RunsWays.AllOfRuns, Steps.RunsWays.by-list}
+use Rattle.executor_model.proofs.OwnQueues.RunsAside.{Frame, Rest as Around, frame-act}
+use Rattle.executor_model.proofs.Steps.Listing.{Entries, entries, same-entries}
 use Rattle.task_moves.specs.Moves as moves
 
 -- what the drop of the executor looks at
@@ -182,16 +181,6 @@ pub same-log_if : (b : Bool) (w : World) (e : Event) → lists w ≡ lists (log_
 same-log_if true w e = refl
 same-log_if false w e = refl
 
-same-move : (b : Bool) (m : Move) (p : ℕ) (w : World) (f : ℕ) → lists w ≡ lists (move_by b m p w f).world
-same-move true m p w f = let v = log_if (is_told m (task w f)) w (told_as m p f) in
-    same-log_if (is_told m (task w f)) w (told_as m p f)
-    ∙ same-log_if (is_last_waker m (task w f)) v (Event.LastWaker p f)
-same-move false m p w f = refl
-
-same-let_go : (b : Bool) (w : World) (f : ℕ) → lists w ≡ lists (let_go_by b w f).world
-same-let_go true w f = refl
-same-let_go false w f = refl
-
 same-enter : (b c : Bool) (mark : Mark) (p : ℕ) (w : World) → lists w ≡ lists (enter_by b c mark p w).world
 same-enter true c mark p w = refl
 same-enter false true mark p w = refl
@@ -201,42 +190,17 @@ same-leave : (b : Bool) (w : World) (f : ℕ) → lists w ≡ lists (leave_by b 
 same-leave true w f = refl
 same-leave false w f = refl
 
-same-copy : (b : Bool) (w : World) (f : ℕ) (held : Hold) → lists w ≡ lists (copy_by b w f held).world
-same-copy true w f held = refl
-same-copy false w f held = refl
-
-same-look : (o : Option Answer) (p : ℕ) (w : World) (f : ℕ) (a : Waker) (m : Moved) →
-    lists w ≡ lists (look_by o p w f a m).world
-same-look None p w f a m = refl
-same-look (Some x) p w f a m = same-log_if _ _ (Event.OutputGiven p f)
-
-same-again : (o : Option Answer) (p : ℕ) (w : World) (f : ℕ) (m : Moved) →
-    lists w ≡ lists (look_again_by o p w f m).world
-same-again None p w f m = refl
-same-again (Some x) p w f m = same-log_if _ _ (Event.OutputGiven p f)
-
-same-copy_awaiter : (b : Bool) (p : ℕ) (w : World) (f : ℕ) (a : Waker) →
-    lists w ≡ lists (copy_awaiter_by b p w f a).world
-same-copy_awaiter true p w f a = refl
-same-copy_awaiter false p w f (Task k) = refl
-same-copy_awaiter false p w f (Outside x) = refl
-
-same-register : (b : Bool) (w : World) (f : ℕ) (a : Waker) (k : ℕ) → lists w ≡ lists (register_by b w f a k).world
-same-register true w f a k = refl
-same-register false w f a k = refl
-
-same-end_register : (b : Bool) (w : World) (f : ℕ) (a : Waker) (k : ℕ) →
-    lists w ≡ lists (end_register_by b w f a k).world
-same-end_register true w f a k = refl
-same-end_register false w f a k = refl
-
-same-notify : (b : Bool) (w : World) (f : ℕ) (mine : Bool) → lists w ≡ lists (notify_by b w f mine).world
-same-notify true w f mine = refl
-same-notify false w f mine = refl
-
-same-call : (p : ℕ) (w : World) (f : ℕ) (a : Waker) (k : ℕ) → lists w ≡ lists (call_awaiter p w f a k).world
-same-call p w f (Task g) k = same-log_if _ (log w (Event.WakerCalled p (Polled.Handle f) k (Task g))) (Event.Woken p g)
-same-call p w f (Outside x) k = refl
+-- what is done with one future, and changes neither the table nor the two lists
+same-lone : (w : World) (d : Done) → Frame w d → entries w ≡ entries d.world → lists w ≡ lists d.world
+same-lone w d f e = λ i. record {
+  gone = ap (λ (x : Around). x.gone) f.rest i;
+  leaving = ap (λ (x : Entries). length x.leaving) e i;
+  waking = ap (λ (x : Entries). length x.waking) e i;
+  urgent_closed = ap (λ (x : Around). x.queue.urgent.closed) f.rest i;
+  plain_closed = ap (λ (x : Around). x.queue.plain.closed) f.rest i;
+  urgent_items = ap (λ (x : Around). length x.queue.urgent.items) f.rest i;
+  plain_items = ap (λ (x : Around). length x.queue.plain.items) f.rest i;
+}
 
 abbrev lists_in : Rest → Lists
 lists_in r = record {
@@ -316,19 +280,7 @@ is_sweeping _ = false
 
 pub same-act : (p : ℕ) (h : Hint) (o : Op) (w : World) → is_sweeping o ≡ false → lists w ≡ lists (act p h o w).world
 same-act p h (Op.Table (TableOp.Enter mark)) w n = same-enter _ _ _ p w
-same-act p h (Op.Move m f) w n = same-move _ m p w f
 same-act p h (Op.Table (TableOp.LeaveTable f)) w n = same-leave _ w f
-same-act p h (Op.Waker (WakerOp.CopyWaker f held)) w n = same-copy _ w f held
-same-act p h (Op.Handle (HandleOp.Look f a)) w n =
-    same-look (moves.poll (task w f)).owed.answer p w f a (moves.poll (task w f))
-same-act p h (Op.Handle (HandleOp.CopyAwaiter f a)) w n = same-copy_awaiter _ p w f a
-same-act p h (Op.Handle (HandleOp.Register f a k)) w n = same-register _ w f a k
-same-act p h (Op.Handle (HandleOp.EndRegister f a k)) w n = same-end_register _ w f a k
-same-act p h (Op.Handle (HandleOp.LookAgain f)) w n =
-    same-again (moves.look_again (task w f)).owed.answer p w f (moves.look_again (task w f))
-same-act p h (Op.Handle (HandleOp.Notify f mine)) w n = same-notify _ w f mine
-same-act p h (Op.Handle (HandleOp.LetGo f)) w n = same-let_go _ w f
-same-act p h (Op.Waker (WakerOp.CallAwaiter f a k)) w n = same-call p w f a k
 same-act p h (Op.Sleeper o) w n = ap lists_in (sleeper-rest p o w)
 same-act p h (Op.Tick TickOp.MakeTick) w n = ap lists_in (tick-rest p h TickOp.MakeTick w refl)
 same-act p h (Op.Tick (TickOp.Search s)) w n = absurd (cc)
@@ -344,8 +296,8 @@ same-act p h (Op.Queue QueueOp.TakeTurn) w n = absurd (cc)
 same-act p h (Op.Queue _) w n = absurd (cc)
 same-act p h (Op.Closing ClosingOp.TakeOut) w n = absurd (cc)
 same-act p h (Op.Closing _) w n = absurd (cc)
-same-act p h (Op.User (UserOp.BeginDrop f)) w n = refl
-same-act p h _ w n = refl
+same-act p h (Op.User (UserOp.PollOwn x)) w n = refl
+same-act p h o w n = same-lone w (act p h o w) (frame-act p h o w refl) (same-entries p h o w refl)
 
 -- what a poll of the handle leads to
 

@@ -1,25 +1,21 @@
 -- For refused_calls_change_nothing, wakes_and_drops_take_no_memory and want_of_memory_is_told_of.
 -- Calls that take no memory, by groups of what is done.
-use Rattle.std.proofs.Common.{◌≡◌, ℕ, List, [], ◌∷◌, Bool, true, false, ◌&&◌, ◌||◌, not, refl, ap}
+use Rattle.std.proofs.Common.{◌≡◌, ℕ, List, [], ◌∷◌, Bool, true, false, ◌||◌, refl, ap}
 use Rattle.std.{specs.Prelude.Option, specs.Prelude.Some, specs.Prelude.None, specs.List.list_any}
-use Rattle.task_moves.specs.Moves.{is_over}
-use Rattle.executor_model.proofs.Types.{Move, Waker, Task, Outside, Call, Reply, Hold, Answer, Event, Op, ClosingOp, HandleOp}
+use Rattle.executor_model.proofs.Types.{Move, Waker, Task, Outside, Call, Reply, Hold, Answer, Event, Op, HandleOp}
 use Rattle.executor_model.proofs.Types.{ListOp, Polled, QueueOp, RunOp, RunPoll, Section, TableOp, TickOp, UserOp, WakerOp}
 use Rattle.executor_model.specs.Memory.{asks, list_may_refuse, may_refuse, refuses, run_may_refuse, takes_no_memory}
-use Rattle.executor_model.specs.Acts.{is_last_waker, is_told, mark_in, move_by, told_of}
-use Rattle.executor_model.specs.World.{World, Done, Stage, New, Listed, Ended, log, task, log_if, awaiter_of, queue_of, run_of}
+use Rattle.executor_model.specs.Acts.{mark_in}
+use Rattle.executor_model.specs.World.{World, Done, Stage, New, Listed, Ended, log, task, queue_of, run_of}
 use Rattle.executor_model.specs.ActsOfRuns.{call_by_reference, look_own_by, reschedule_by, wake_own}
 use Rattle.executor_model.specs.Doing.{act, list_act, run_act}
 use Rattle.executor_model.specs.Memory.{AsksForNone, NeedsNoMemory, RunsWithoutMemory}
 use Rattle.executor_model.specs.Steps.{begun, drop_run, future_of, kept, poll_run, react, with_future}
-use Rattle.executor_model.proofs.Memory.Unasking.{none-let_go_by, both, none-again, none-append, none-call, none-carried}
-use Rattle.executor_model.proofs.Memory.Unasking.{none-close, none-closing, none-drain, none-drop_next, none-end_register}
-use Rattle.executor_model.proofs.Memory.Unasking.{none-leave, none-look_at_table, none-notify, none-register, none-take}
+use Rattle.executor_model.proofs.Memory.Unasking.{both, none-again, none-beside, none-end_register, none-look_at_table}
+use Rattle.executor_model.proofs.Memory.Unasking.{none-register, none-take}
 use Rattle.executor_model.proofs.Memory.RunsUntold.{Untold, untold-common, untold-finds, untold-search, untold-steal}
-use Rattle.executor_model.proofs.Memory.Unasking.{none-told, none-leak_next, none-leak_out, none-wake_next}
-use Rattle.executor_model.proofs.Memory.SleepersMemory.{none-sleeper, none-up, none-leave_sleepers, finds-without}
+use Rattle.executor_model.proofs.Memory.SleepersMemory.{finds-without}
 use Rattle.executor_model.proofs.{Types.Hint, Types.UserEnd, Memory.RunsUntold.untold-turn}
-use Rattle.task_moves.specs.Moves as moves
 
 -- what a run does
 
@@ -34,16 +30,15 @@ none-list h ListOp.UnlockWrite w e = refl
 none-list h ListOp.UnlockRead w e = refl
 none-list h _ w e = absurd (cc)
 
-none-by_reference : (p : ℕ) (w : World) (a : Waker) → AsksForNone (call_by_reference p w a).next
-none-by_reference p w (Task f) = none-carried (log_if (not (is_over (task w f))) w (Event.Woken p f)) f
-    (moves.wake_by_reference (task w f))
-none-by_reference p w (Outside y) = refl
+none-by_reference : (p : ℕ) (h : Hint) (w : World) (a : Waker) → AsksForNone (call_by_reference p w a).next
+none-by_reference p h w (Task f) = none-beside p w h (Op.Move Move.WakeByReference f) refl refl
+none-by_reference p h w (Outside y) = refl
 
-none-wake_own : (p : ℕ) (w : World) (x : RunPoll) → AsksForNone (wake_own p w x).next
-none-wake_own p w x =
+none-wake_own : (p : ℕ) (h : Hint) (w : World) (x : RunPoll) → AsksForNone (wake_own p w x).next
+none-wake_own p h w x =
     let v : World = log w (Event.WakerCalled p (Polled.Run x.run) x.poll x.waker) in
     both (call_by_reference p v x.waker).next (Op.End Reply.Pending (Hold.Run x.run) ∷ [])
-    (none-by_reference p v x.waker) refl
+    (none-by_reference p h v x.waker) refl
 
 none-reschedule : (q : List ℕ) (w : World) (r : ℕ) (a : Reply) → refuses a ≡ false →
     AsksForNone (reschedule_by q w r a).next
@@ -52,56 +47,34 @@ none-reschedule (f ∷ rest) w r a e = unrefused a e
 
 none-run : (p : ℕ) (h : Hint) (o : RunOp) (w : World) → run_may_refuse o ≡ false → AsksForNone (run_act p h o w).next
 none-run p h RunOp.ReturnRoom w e = refl
-none-run p h (RunOp.WakeOwn x) w e = none-wake_own p w x
+none-run p h (RunOp.WakeOwn x) w e = none-wake_own p h w x
 none-run p h (RunOp.Reschedule r a) w e = none-reschedule _ w r a e
 none-run p h _ w e = absurd (cc)
 
 -- one thing done
 
-none-move : (b : Bool) (m : Move) (p : ℕ) (w : World) (f : ℕ) → AsksForNone (move_by b m p w f).next
-none-move true m p w f =
-    none-carried (told_of (is_last_waker m (task w f)) (is_told m (task w f)) m p w f) f (moves.after m (task w f))
-none-move false m p w f = refl
-
 none-act : (p : ℕ) (w : World) (h : Hint) (o : Op) → may_refuse o ≡ false → AsksForNone (act p h o w).next
 none-act p w h (Op.Table (TableOp.Enter mark)) e = absurd (cc)
+none-act p w h (Op.Table TableOp.LookAtTable) e = none-look_at_table w w.table
 none-act p w h (Op.Queue QueueOp.TakeTurn) e = refl
 none-act p w h (Op.Queue (QueueOp.Take l)) e = none-take w l (queue_of w (mark_in l)).items
-none-act p w h (Op.Table TableOp.LookAtTable) e = none-look_at_table w w.table
-none-act p w h (Op.Queue (QueueOp.Append f)) e = none-append _ w _ f
-none-act p w h (Op.Move m f) e = none-move _ m p w f
-none-act p w h (Op.Table (TableOp.LeaveTable f)) e = none-leave _ w f
 none-act p w h (Op.Waker (WakerOp.CopyWaker f held)) e = absurd (cc)
 none-act p w h (Op.Handle (HandleOp.Look f a)) e = absurd (cc)
 none-act p w h (Op.Handle (HandleOp.CopyAwaiter f a)) e = absurd (cc)
 none-act p w h (Op.Handle (HandleOp.Register f a k)) e = none-register _ w f a k
 none-act p w h (Op.Handle (HandleOp.EndRegister f a k)) e = none-end_register _ w f a k
 none-act p w h (Op.Handle (HandleOp.LookAgain f)) e = none-again (task w f).closed _ (task w f).completed p w f
-none-act p w h (Op.Handle (HandleOp.Notify f mine)) e = none-notify _ w f mine
-none-act p w h (Op.Handle (HandleOp.EndNotify f mine)) e = none-told (mine && h.same) f (awaiter_of w f)
-none-act p w h (Op.Handle (HandleOp.LetGo f)) e = none-let_go_by _ w f
-none-act p w h (Op.Waker (WakerOp.CallAwaiter f a k)) e = none-call p w f a k
-none-act p w h (Op.Sleeper o) e = none-sleeper p o w
 none-act p w h (Op.Tick TickOp.MakeTick) e = absurd (cc)
 none-act p w h (Op.Tick (TickOp.Search s)) e = absurd (cc)
 none-act p w h (Op.Tick (TickOp.Look s l)) e = absurd (cc)
 none-act p w h (Op.Tick (TickOp.CopyWaker s)) e = absurd (cc)
 none-act p w h (Op.Tick (TickOp.FallAsleep s)) e = absurd (cc)
-none-act p w h (Op.Tick (TickOp.WakeUp t)) e = none-up _ w t
-none-act p w h (Op.Tick (TickOp.Leave t)) e = none-leave_sleepers _ w t
 none-act p w h (Op.List o) e = none-list h o w e
 none-act p w h (Op.Steal o) e = absurd (cc)
 none-act p w h (Op.Run o) e = none-run p h o w e
-none-act p w h (Op.Closing ClosingOp.TakeOut) e = none-closing w.table w.waking
-none-act p w h (Op.Closing ClosingOp.DropNext) e = none-drop_next p w w.leaving
-none-act p w h (Op.Closing ClosingOp.WakeNext) e = none-wake_next p w w.waking
-none-act p w h (Op.Closing (ClosingOp.Close m)) e = none-close w m
-none-act p w h (Op.Closing (ClosingOp.Drain m)) e = none-drain p w m (queue_of w m).items
-none-act p w h (Op.Closing ClosingOp.LeakOut) e = none-leak_out _ w
-none-act p w h (Op.Closing ClosingOp.LeakNext) e = none-leak_next _ p w w.waking
-none-act p w h (Op.User (UserOp.BeginDrop f)) e = refl
 none-act p w h (Op.User (UserOp.PollOwn x)) e = absurd (cc)
-none-act p w h _ e = refl
+none-act p w h (Op.End r held) e = refl
+none-act p w h o e = none-beside p w h o refl refl
 
 same-act : (p : ℕ) (w : World) (h : Hint) (refused : Bool) (o : Op) → asks o ≡ false →
     act p (record h { refused = refused }) o w ≡ act p h o w

@@ -1,28 +1,24 @@
 -- For runs_are_finished_at_once and no_comes_at_once.
 -- Which answers a thing that is done leads to: none that stands for itself, but at once.
-use Rattle.std.proofs.Common.{◌≡◌, ℕ, ◌+◌, List, [], ◌∷◌, ◌++◌, length, Bool, true, false, ◌&&◌, ◌||◌, refl, arith}
-use Rattle.std.specs.Prelude.{◌%◌, Option, Some, None, is_none}
-use Rattle.task_moves.{specs.declared.moves.owed.Answer.Answer, specs.Moves.after}
-use Rattle.executor_parts.specs.Sleepers.{waker_at, waker_of}
-use Rattle.executor_model.proofs.Types.{Plain, Urgent, Look, First, Second, Mark, Move, Moved, Reply, Event, ClosingOp}
+use Rattle.std.proofs.Common.{◌≡◌, ℕ, ◌+◌, List, [], ◌∷◌, ◌++◌, length, Bool, true, false, refl, arith}
+use Rattle.std.specs.Prelude.{◌%◌, Option, Some, None}
+use Rattle.task_moves.specs.declared.moves.owed.Answer.{Answer}
+use Rattle.executor_parts.specs.Sleepers.{waker_at}
+use Rattle.executor_model.proofs.Types.{Look, First, Second, Mark, Move, Moved, Reply, Event}
 use Rattle.executor_model.proofs.Types.{HandleOp, Hold, ListOp, Op, Polled, QueueOp, RunOp, RunPoll, Section, Sleeping, TableOp}
 use Rattle.executor_model.proofs.Types.{TickOp, TickOrRun, UserOp, Waker, Task, Outside, WakerOp, Hint}
-use Rattle.executor_model.specs.Acts.{answered, append_by, copy_awaiter_by, copy_by, drain_by, drop_next_by, emptiness}
-use Rattle.executor_model.specs.Acts.{end_register_by, enter_by, is_last_waker, is_told, leave_by, let_go, look_again_by}
-use Rattle.executor_model.specs.Acts.{look_by, move_by, notify_by, polled, register_by, reply_of, stands_alone, take_by}
-use Rattle.executor_model.specs.ActsOfSleepers.{copy_sleeper_by, fall_asleep_by, leave_sleepers_by, make_tick_by, pend_as}
+use Rattle.executor_model.specs.Acts.{answered, copy_awaiter_by, copy_by, emptiness, end_register_by, enter_by, let_go}
+use Rattle.executor_model.specs.Acts.{look_again_by, look_by, polled, register_by, reply_of, take_by}
+use Rattle.executor_model.specs.ActsOfSleepers.{copy_sleeper_by, fall_asleep_by, make_tick_by, pend_as}
 use Rattle.executor_model.specs.ActsOfSleepers.{look_tick_by, sleep_again_by, sleep_anew_by, sleep_listed_by, sleeper_goes}
-use Rattle.executor_model.specs.Acts.{told_of, wake, wake_next_by, close, closing_ops}
-use Rattle.executor_model.specs.ActsOfSleepers.{tell_and_return, wake_up_by}
-use Rattle.executor_model.specs.World.{World, Ticker, Awake, Asleep, Left, among, awaiter_of, log, task}
+use Rattle.executor_model.specs.World.{World, Ticker, Awake, Asleep, Left, awaiter_of, log, task}
 use Rattle.executor_model.specs.ActsOfRuns.{call_by_reference, make_room_by, make_run_by, reschedule_by, wake_own}
-use Rattle.executor_model.specs.Doing.{act, handle_act, list_act, run_act, search_by_who, table_act, tick_act, user_act}
-use Rattle.executor_model.specs.{Steps.mine, Carried.awaiter_ops, Weights.weigh}
-use Rattle.executor_model.proofs.Steps.Asides.{Aside, aside-awaiter, aside-closing, aside-entry, aside-leak_next}
+use Rattle.executor_model.specs.Doing.{act, list_act, run_act, search_by_who}
+use Rattle.executor_model.specs.{Carried.awaiter_ops, Weights.weigh}
+use Rattle.executor_model.proofs.Steps.Asides.{Aside, aside-awaiter, aside-let_go}
 use Rattle.executor_model.proofs.Steps.RunsNext.{BlindToSearches, common-unseen, look-unseen, own-unseen, steal-unseen}
-use Rattle.executor_model.proofs.Steps.Asides.{aside-leak_out, aside-let_go, aside-let_go_by, aside-owed, aside-told}
-use Rattle.executor_model.proofs.Steps.SleepersNext.{Unseen, call-unseen, goes-unseen, sleeper-unseen, tell-unseen}
-use Rattle.executor_model.proofs.{Steps.RunsNext.walk-unseen, Steps.Lists.weigh-append}
+use Rattle.executor_model.proofs.Steps.{SleepersNext.goes-unseen, RunsNext.walk-unseen, Lists.weigh-append}
+use Rattle.executor_model.proofs.Quiet.{Calls.calling_of, Calls.is_end, CallsGroups.calls-act}
 use Rattle.task_moves.specs.Moves as moves
 
 abbrev ends_section : (Reply → ℕ) → Section → ℕ
@@ -50,6 +46,26 @@ pub record Rare (t : Reply → ℕ) (q : ℕ) : Type 0 where
   pub cancelled : t Reply.Cancelled ≡ 0
   pub yes : t Reply.Yes ≡ 0
   pub no : q ≡ 0 → t Reply.No ≡ 0
+
+-- what counts so answers a call
+few : (t : Reply → ℕ) (q : ℕ) (o : Op) → calling_of o ≡ 0 → ends_of t q o ≡ 0
+few t q (Op.End a held) z = absurd (omega (arith, z))
+few t q (Op.List (ListOp.LockWrite s)) z = absurd (omega (arith, z))
+few t q (Op.List (ListOp.Write s)) z = absurd (omega (arith, z))
+few t q (Op.Run (RunOp.Reschedule r a)) z = absurd (omega (arith, z))
+few t q (Op.Queue QueueOp.TakeTurn) z = absurd (omega (arith, z))
+few t q (Op.Queue (QueueOp.Take look)) z = absurd (omega (arith, z))
+few t q (Op.Table TableOp.LookAtTable) z = absurd (omega (arith, z))
+few t q _ z = refl
+
+none-few : (t : Reply → ℕ) (q : ℕ) (os : List Op) → weigh calling_of os ≡ 0 → weigh (ends_of t q) os ≡ 0
+none-few t q [] z = refl
+none-few t q (o ∷ os) z = omega (arith, few t q o (omega (arith, z)), none-few t q os (omega (arith, z)))
+
+-- so what answers no call leads to none
+ends-beside : (t : Reply → ℕ) (q p : ℕ) (h : Hint) (o : Op) (w : World) → is_end o ≡ false → calling_of o ≡ 0 →
+    weigh (ends_of t q) (act p h o w).next ≡ 0
+ends-beside t q p h o w n z = none-few t q (act p h o w).next ((calls-act p h o w n).passes.none z)
 
 module _ (t : Reply → ℕ) (q : ℕ) (rare : Rare t q) where
   aside : Aside (ends_of t q)
@@ -80,14 +96,6 @@ module _ (t : Reply → ℕ) (q : ℕ) (rare : Rare t q) where
     wake = λ x. refl;
   }
 
-  ends-move : (b : Bool) (m : Move) (p : ℕ) (w : World) (f : ℕ) → weigh (ends_of t q) (move_by b m p w f).next ≡ 0
-  ends-move true m p w f = aside-owed (ends_of t q) aside f
-      (among f (told_of (is_last_waker m (task w f)) (is_told m (task w f)) m p w f).table) (after m (task w f)).owed
-  ends-move false m p w f = refl
-
-  unseen : Unseen (ends_of t q)
-  unseen = record { hand = refl; call = λ s. refl; outside = λ x. refl; wake = λ p w f. ends-move true Move.Wake p w f }
-
   -- by groups
 
   ends-enter : (a b : Bool) (mark : Mark) (p : ℕ) (w : World) → weigh (ends_of t q) (enter_by a b mark p w).next ≡ 0
@@ -99,31 +107,10 @@ module _ (t : Reply → ℕ) (q : ℕ) (rare : Rare t q) where
   ends-emptiness [] z = omega (arith, rare.yes)
   ends-emptiness (f ∷ rest) z = omega (arith, rare.no z)
 
-  ends-leave : (b : Bool) (w : World) (f : ℕ) → weigh (ends_of t q) (leave_by b w f).next ≡ 0
-  ends-leave true w f = aside-entry (ends_of t q) aside w.is_static f
-  ends-leave false w f = refl
-
-  ends-table : (p : ℕ) (h : Hint) (o : TableOp) (w : World) → ends_of t q (Op.Table o) ≡ 0 → weigh (ends_of t q) (table_act p h o w).next ≡ 0
-  ends-table p h (TableOp.Enter mark) w z = ends-enter _ _ _ p w
-  ends-table p h TableOp.LookAtTable w z = ends-emptiness w.table z
-  ends-table p h (TableOp.TakeToPoll f) w z = refl
-  ends-table p h (TableOp.PutBack f) w z = refl
-  ends-table p h (TableOp.TakeToDrop f) w z = refl
-  ends-table p h (TableOp.LeaveTable f) w z = ends-leave _ w f
-
   ends-take : (look : Look) (qs : List ℕ) (w : World) → q ≡ 0 → weigh (ends_of t q) (take_by w look qs).next ≡ 0
   ends-take (First mark) [] w z = omega (arith, z)
   ends-take (Second mark) [] w z = omega (arith, rare.no z)
   ends-take look (f ∷ rest) w z = omega (arith, rare.yes)
-
-  ends-append : (b : Bool) (w : World) (mark : Mark) (f : ℕ) → weigh (ends_of t q) (append_by b w mark f).next ≡ 0
-  ends-append true w mark f = refl
-  ends-append false w mark f = refl
-
-  ends-user : (p : ℕ) (o : UserOp) (w : World) → weigh (ends_of t q) (user_act p o w).next ≡ 0
-  ends-user p (UserOp.BeginDrop f) w = refl
-  ends-user p (UserOp.BeginDropOutput f) w = refl
-  ends-user p _ w = refl
 
   ends-copy : (b : Bool) (w : World) (f : ℕ) (held : Hold) → weigh (ends_of t q) (copy_by b w f held).next ≡ 0
   ends-copy true w f held = omega (arith, rare.no_memory)
@@ -170,22 +157,6 @@ module _ (t : Reply → ℕ) (q : ℕ) (rare : Rare t q) where
   ends-end_register true w f a k = omega (arith, ends-lets_go w f)
   ends-end_register false w f a k = ends-lets_go w f
 
-  ends-notify : (b : Bool) (w : World) (f : ℕ) (mine : Bool) → weigh (ends_of t q) (notify_by b w f mine).next ≡ 0
-  ends-notify true w f mine = refl
-  ends-notify false w f mine = refl
-
-  ends-handle : (p : ℕ) (h : Hint) (o : HandleOp) (w : World) → weigh (ends_of t q) (handle_act p h o w).next ≡ 0
-  ends-handle p h (HandleOp.Look f a) w =
-      ends-look (moves.poll (task w f)).owed.answer p w f a (moves.poll (task w f))
-  ends-handle p h (HandleOp.CopyAwaiter f a) w = ends-copy_awaiter _ p w f a
-  ends-handle p h (HandleOp.Register f a k) w = ends-register _ w f a k
-  ends-handle p h (HandleOp.EndRegister f a k) w = ends-end_register _ w f a k
-  ends-handle p h (HandleOp.LookAgain f) w =
-      ends-again (moves.look_again (task w f)).owed.answer p w f (moves.look_again (task w f))
-  ends-handle p h (HandleOp.Notify f mine) w = ends-notify _ w f mine
-  ends-handle p h (HandleOp.EndNotify f mine) w = aside-told (ends_of t q) aside (mine && h.same) f (awaiter_of w f)
-  ends-handle p h (HandleOp.LetGo f) w = aside-let_go_by (ends_of t q) aside _ w f
-
   ends-make : (b : Bool) (w : World) → weigh (ends_of t q) (make_tick_by b w).next ≡ 0
   ends-make true w = omega (arith, rare.no_memory)
   ends-make false w = omega (arith, rare.made)
@@ -223,31 +194,6 @@ module _ (t : Reply → ℕ) (q : ℕ) (rare : Rare t q) where
   ends-sleep (Asleep n) w s = ends-again_asleep _ w n s
   ends-sleep Left w s = omega (arith, rare.pending)
 
-  ends-up : (x : Ticker) (w : World) (who : TickOrRun) → weigh (ends_of t q) (wake_up_by x w who).next ≡ 0
-  ends-up Awake w who = refl
-  ends-up (Asleep n) w who = goes-unseen (ends_of t q) (λ f. refl) (waker_of n w.sleepers.wakers)
-  ends-up Left w who = refl
-
-  ends-leave_sleepers : (x : Ticker) (w : World) (who : TickOrRun) → weigh (ends_of t q) (leave_sleepers_by x w who).next ≡ 0
-  ends-leave_sleepers Awake w who = refl
-  ends-leave_sleepers (Asleep n) w who = omega (
-    arith,
-    weigh-append (ends_of t q) (sleeper_goes (waker_of n w.sleepers.wakers))
-        (tell_and_return (is_none (waker_of n w.sleepers.wakers))),
-    goes-unseen (ends_of t q) (λ f. refl) (waker_of n w.sleepers.wakers),
-    tell-unseen (ends_of t q) refl refl (is_none (waker_of n w.sleepers.wakers)),
-  )
-  ends-leave_sleepers Left w who = refl
-
-  ends-tick : (p : ℕ) (h : Hint) (o : TickOp) (w : World) → weigh (ends_of t q) (tick_act p h o w).next ≡ 0
-  ends-tick p h TickOp.MakeTick w = ends-make h.refused w
-  ends-tick p h (TickOp.Search s) w = ends-search_who s.who p w s
-  ends-tick p h (TickOp.Look s look) w = ends-search look _ w _ s
-  ends-tick p h (TickOp.CopyWaker s) w = ends-copy_sleeper _ w s
-  ends-tick p h (TickOp.FallAsleep s) w = ends-sleep _ w s
-  ends-tick p h (TickOp.WakeUp who) w = ends-up _ w who
-  ends-tick p h (TickOp.Leave who) w = ends-leave_sleepers _ w who
-
   ends-make_run : (b : Bool) (w : World) → weigh (ends_of t q) (make_run_by b w).next ≡ 0
   ends-make_run true w = omega (arith, rare.no_memory)
   ends-make_run false w = omega (arith, rare.made)
@@ -265,17 +211,17 @@ module _ (t : Reply → ℕ) (q : ℕ) (rare : Rare t q) where
   ends-room true w = omega (arith, rare.no_memory)
   ends-room false w = refl
 
-  ends-reference : (p : ℕ) (w : World) (a : Waker) → weigh (ends_of t q) (call_by_reference p w a).next ≡ 0
-  ends-reference p w (Task g) = ends-move true Move.WakeByReference p w g
-  ends-reference p w (Outside y) = refl
+  ends-reference : (p : ℕ) (h : Hint) (w : World) (a : Waker) → weigh (ends_of t q) (call_by_reference p w a).next ≡ 0
+  ends-reference p h w (Task g) = ends-beside t q p h (Op.Move Move.WakeByReference g) w refl refl
+  ends-reference p h w (Outside y) = refl
 
-  ends-wake_own : (p : ℕ) (w : World) (x : RunPoll) → weigh (ends_of t q) (wake_own p w x).next ≡ 0
-  ends-wake_own p w x =
+  ends-wake_own : (p : ℕ) (h : Hint) (w : World) (x : RunPoll) → weigh (ends_of t q) (wake_own p w x).next ≡ 0
+  ends-wake_own p h w x =
       let v : World = log w (Event.WakerCalled p (Polled.Run x.run) x.poll x.waker) in
       omega (
         arith,
         weigh-append (ends_of t q) (call_by_reference p v x.waker).next (Op.End Reply.Pending (Hold.Run x.run) ∷ []),
-        ends-reference p v x.waker,
+        ends-reference p h v x.waker,
         rare.pending,
       )
 
@@ -289,58 +235,31 @@ module _ (t : Reply → ℕ) (q : ℕ) (rare : Rare t q) where
   ends-run p h (RunOp.TakeTurn x) w z = refl
   ends-run p h (RunOp.SearchCommon x look) w z = common-unseen (ends_of t q) searching look _ w x
   ends-run p h (RunOp.LookOwn x at left) w z = look-unseen (ends_of t q) searching _ w x at left
-  ends-run p h (RunOp.WakeOwn x) w z = ends-wake_own p w x
+  ends-run p h (RunOp.WakeOwn x) w z = ends-wake_own p h w x
   ends-run p h (RunOp.Reschedule r a) w z = ends-reschedule _ w r a z
-
-  closing-none : (ls ws : List ℕ) → weigh (ends_of t q) (closing_ops ls ws) ≡ 0
-  closing-none ls ws = aside-closing (ends_of t q) (λ o. refl) ls ws
-
-  ends-drop_next : (qs : List ℕ) (p : ℕ) (w : World) → weigh (ends_of t q) (drop_next_by p w qs).next ≡ 0
-  ends-drop_next [] p w = refl
-  ends-drop_next (f ∷ rest) p w = omega (arith, closing-none rest (w.waking ++ f ∷ []))
-
-  ends-wake_next : (qs : List ℕ) (p : ℕ) (w : World) → weigh (ends_of t q) (wake_next_by p w qs).next ≡ 0
-  ends-wake_next [] p w = refl
-  ends-wake_next (f ∷ rest) p w =
-      let v : World = record w { waking = rest } in
-      omega (
-        arith,
-        weigh-append (ends_of t q) (wake p v f).next (closing_ops [] rest),
-        ends-move true Move.Wake p v f,
-        closing-none [] rest,
-      )
-
-  ends-close : (mark : Mark) (w : World) → weigh (ends_of t q) (close w mark).next ≡ 0
-  ends-close Urgent w = refl
-  ends-close Plain w = refl
-
-  ends-drain : (mark : Mark) (qs : List ℕ) (p : ℕ) (w : World) → weigh (ends_of t q) (drain_by p w mark qs).next ≡ 0
-  ends-drain Urgent [] p w = refl
-  ends-drain Plain [] p w = refl
-  ends-drain mark (f ∷ rest) p w = refl
 
   -- each thing that is done
   pub ends-act : (p : ℕ) (h : Hint) (o : Op) (w : World) → ends_of t q o ≡ 0 → weigh (ends_of t q) (act p h o w).next ≡ 0
-  ends-act p h (Op.Move m f) w z = ends-move (stands_alone m) m p w f
-  ends-act p h (Op.Table o) w z = ends-table p h o w z
+  ends-act p h (Op.Table (TableOp.Enter mark)) w z = ends-enter _ _ _ p w
+  ends-act p h (Op.Table TableOp.LookAtTable) w z = ends-emptiness w.table z
   ends-act p h (Op.Queue QueueOp.TakeTurn) w z = omega (arith, z)
   ends-act p h (Op.Queue (QueueOp.Take look)) w z = ends-take look _ w z
-  ends-act p h (Op.Queue (QueueOp.Append f)) w z = ends-append _ w _ f
-  ends-act p h (Op.User o) w z = ends-user p o w
+  ends-act p h (Op.User (UserOp.PollOwn x)) w z = refl
   ends-act p h (Op.Waker (WakerOp.CopyWaker f held)) w z = ends-copy _ w f held
-  ends-act p h (Op.Waker (WakerOp.CallAwaiter f a k)) w z = call-unseen (ends_of t q) unseen p w (Polled.Handle f) a k
-  ends-act p h (Op.Handle o) w z = ends-handle p h o w
-  ends-act p h (Op.Sleeper o) w z = sleeper-unseen (ends_of t q) unseen p o w
-  ends-act p h (Op.Tick o) w z = ends-tick p h o w
+  ends-act p h (Op.Handle (HandleOp.Look f a)) w z =
+      ends-look (moves.poll (task w f)).owed.answer p w f a (moves.poll (task w f))
+  ends-act p h (Op.Handle (HandleOp.CopyAwaiter f a)) w z = ends-copy_awaiter _ p w f a
+  ends-act p h (Op.Handle (HandleOp.Register f a k)) w z = ends-register _ w f a k
+  ends-act p h (Op.Handle (HandleOp.EndRegister f a k)) w z = ends-end_register _ w f a k
+  ends-act p h (Op.Handle (HandleOp.LookAgain f)) w z =
+      ends-again (moves.look_again (task w f)).owed.answer p w f (moves.look_again (task w f))
+  ends-act p h (Op.Tick TickOp.MakeTick) w z = ends-make h.refused w
+  ends-act p h (Op.Tick (TickOp.Search s)) w z = ends-search_who s.who p w s
+  ends-act p h (Op.Tick (TickOp.Look s look)) w z = ends-search look _ w _ s
+  ends-act p h (Op.Tick (TickOp.CopyWaker s)) w z = ends-copy_sleeper _ w s
+  ends-act p h (Op.Tick (TickOp.FallAsleep s)) w z = ends-sleep _ w s
   ends-act p h (Op.List o) w z = ends-list h o w z
   ends-act p h (Op.Steal o) w z = steal-unseen (ends_of t q) searching (λ f. refl) p o w
   ends-act p h (Op.Run o) w z = ends-run p h o w z
-  ends-act p h (Op.Closing ClosingOp.TakeOut) w z = closing-none w.table w.waking
-  ends-act p h (Op.Closing ClosingOp.DropNext) w z = ends-drop_next _ p w
-  ends-act p h (Op.Closing ClosingOp.WakeNext) w z = ends-wake_next _ p w
-  ends-act p h (Op.Closing (ClosingOp.Close mark)) w z = ends-close mark w
-  ends-act p h (Op.Closing (ClosingOp.Drain mark)) w z = ends-drain mark _ p w
-  ends-act p h (Op.Closing ClosingOp.LeakOut) w z = aside-leak_out (ends_of t q) refl (w.is_static || w.gone) w
-  ends-act p h (Op.Closing ClosingOp.LeakNext) w z =
-      aside-leak_next (ends_of t q) refl (λ u v f. ends-move true Move.Wake u v f) w.gone p w w.waking
   ends-act p h (Op.End a held) w z = refl
+  ends-act p h o w z = ends-beside t q p h o w refl refl

@@ -124,7 +124,7 @@ pub fn resume<F, T, W, R: Wait>(rt: &R, board: &Board<F, T, W>, pass: &mut Pass<
         let old = look(board, pass);
         let word = decode(old);
         if word.rests {
-            let new = encode(word.state, false);
+            let new = old - 256;
             if board.compare_exchange::<rule::Resume>(pass, 0, old, new) == old {
                 return true;
             }

@@ -29,7 +29,7 @@ pub fn take_up<F, T, W, R: Wait>(rt: &R, board: &Board<F, T, W>, pass: &mut Pass
         if word.state.closed {
             return moved.owed;
         }
-        let new = encode(moved.state, word.rests);
+        let new = old + 1;
         if board.compare_exchange::<rule::TakeUp>(pass, 0, old, new) == old {
             return moved.owed;
         }
@@ -158,7 +158,13 @@ pub fn end_pending<F, T, W, R: Wait>(
                 leaves_awaiter: false,
             };
         }
-        let new = encode(moved.state, word.rests);
+        let new = if word.state.scheduled {
+            old - 2
+        } else if word.state.references == 1 && !word.state.handle {
+            encode(moved.state, word.rests)
+        } else {
+            old - 514
+        };
         if moved.owed.empty_cell {
             let future = take_future(board, pass);
             if board.compare_exchange::<rule::EndPending>(pass, 0, old, new) == old {

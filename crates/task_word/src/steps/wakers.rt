@@ -25,10 +25,10 @@ pub fn wake<F, T, W, R: Wait>(rt: &R, board: &Board<F, T, W>, pass: &mut Pass<F,
         let old = look(board, pass);
         let word = decode(old);
         let moved = moves::wake_by_reference(word.state);
-        let new = encode(moved.state, word.rests);
-        if new == old {
+        if word.state.completed || word.state.closed || word.state.scheduled {
             return moved.owed;
         }
+        let new = if word.state.running { old + 1 } else { old + 513 };
         if board.compare_exchange::<rule::WakeByReference>(pass, 0, old, new) == old {
             return moved.owed;
         }
@@ -82,7 +82,7 @@ pub fn copy<F, T, W, R: Wait>(rt: &R, board: &Board<F, T, W>, pass: &mut Pass<F,
         if moved.owed.answer.is_some() {
             return moved.owed;
         }
-        let new = encode(moved.state, word.rests);
+        let new = old + 512;
         if board.compare_exchange::<rule::Copy>(pass, 0, old, new) == old {
             return moved.owed;
         }
@@ -108,7 +108,7 @@ pub fn release<F, T, W, R: Wait>(
         let old = look(board, pass);
         let word = decode(old);
         let moved = moves::release(word.state);
-        let new = encode(moved.state, word.rests);
+        let new = if word.state.references != 1 || word.state.handle { old - 512 } else { encode(moved.state, word.rests) };
         if board.compare_exchange::<rule::Release>(pass, 0, old, new) == old {
             return (moved.owed, leaves_awaiter(moved));
         }
@@ -133,7 +133,7 @@ pub fn give_up<F, T, W, R: Wait>(
         let old = look(board, pass);
         let word = decode(old);
         let moved = moves::give_up(word.state);
-        let new = encode(moved.state, word.rests);
+        let new = old - 512;
         if board.compare_exchange::<rule::GiveUp>(pass, 0, old, new) == old {
             return (moved.owed, leaves_awaiter(moved));
         }

@@ -10,9 +10,8 @@ use crate::entry::Unlocked;
 use crate::names::{ExStoredRunnable, ExWaker};
 use crate::sections;
 use crate::sections::Taken;
-use crate::state::redeem;
 use crate::task_run::{Begun, Dropping, Polling, Settled, begin};
-use async_task::{Back, Future, Poll, Wake};
+use async_task::{Back, Future, GoesBack, Poll, Wake};
 use executor_parts::EntryPlace;
 use std::sync::Wait;
 
@@ -35,15 +34,23 @@ where
         ensures { result ≡ Ending.Ran }
     {
         let mut call = call;
-        let Some(scheduled) = redeem(self.rt, self.realm, &mut call, stored) else {
-            return call.end_missed();
-        };
-        let last = call.start();
-        match begin(scheduled) {
-            Begun::Poll(place, polling) => self.poll(place, polling, unlocked),
-            Begun::Drop(place, dropping) => self.drop_future(place, dropping, unlocked),
+        match begin(self.rt, self.realm, stored) {
+            Ok(Begun::Poll(place, polling)) => {
+                let last = call.start();
+                self.poll(place, polling, unlocked);
+                last
+            }
+            Ok(Begun::Drop(place, dropping)) => {
+                let last = call.start();
+                self.drop_future(place, dropping, unlocked);
+                last
+            }
+            Err(back) => {
+                back.go_back();
+                call.miss();
+                call.end_missed()
+            }
         }
-        last
     }
 
     #[inline(always)]
@@ -60,7 +67,7 @@ where
             Settled::Over => {}
             Settled::Woken(runnable) => {
                 self.state
-                    .push_and_pay(self.rt, Call::given(), runnable, unlocked);
+                    .push_resting(self.rt, self.realm, Call::given(), runnable, unlocked);
             }
             Settled::Drop(place, dropping) => self.drop_future(place, dropping, unlocked),
         }

@@ -1,7 +1,7 @@
 //! A task while it is run. Its end calls who awaits it, so it is lent an `Unlocked`.
 use crate::entry::Unlocked;
-use crate::names::{ExClosing, ExRunning, ExScheduled, ExWaker};
-use async_task::{Back, Due, RunEnd, Started, Wake};
+use crate::names::{ExClosing, ExRealm, ExRunning, ExStoredRunnable, ExWaker};
+use async_task::{Back, RestEnd, Started, Wake};
 use executor_parts::EntryPlace;
 use std::sync::Wait;
 
@@ -52,22 +52,23 @@ where
     /// Nothing is left to be done.
     Over,
     /// The task was woken meanwhile: it is to be queued.
-    Woken(ExScheduled<T, W, R>),
+    Woken(ExStoredRunnable),
     /// The task was closed meanwhile: the future at this place is dropped, and the run is then finished.
     Drop(EntryPlace, Dropping<T, W, R>),
 }
 
 /// Begins the run of a task.
 #[inline(always)]
-pub fn begin<T, W, R>(scheduled: ExScheduled<T, W, R>) -> Begun<T, W, R>
+pub fn begin<T, W, R>(rt: R, realm: &'static ExRealm<T, W, R>, stored: ExStoredRunnable) -> Result<Begun<T, W, R>, ExStoredRunnable>
 where
     T: Drop + 'static,
     W: Wake + Drop + 'static,
     R: Wait + Copy + Drop + 'static,
 {
-    match scheduled.into_runnable().start() {
-        Started::Poll(place, running) => Begun::Poll(place, Polling { running }),
-        Started::Drop(place, closing) => Begun::Drop(place, Dropping { closing }),
+    match stored.start(rt, realm) {
+        Ok(Started::Poll(place, running)) => Ok(Begun::Poll(place, Polling { running })),
+        Ok(Started::Drop(place, closing)) => Ok(Begun::Drop(place, Dropping { closing })),
+        Err(back) => Err(back),
     }
 }
 
@@ -89,13 +90,10 @@ where
     pub fn settle(self, back: Back<EntryPlace, T>, unlocked: &Unlocked) -> Settled<T, W, R> {
         let _ = unlocked;
         let Polling { running } = self;
-        match running.settle(back) {
-            RunEnd::Over => Settled::Over,
-            RunEnd::Pause(pause) => match pause.into_due() {
-                Some(Due { runnable, info: _ }) => Settled::Woken(runnable),
-                None => Settled::Over,
-            },
-            RunEnd::Drop(place, closing) => Settled::Drop(place, Dropping { closing }),
+        match running.settle_resting(back) {
+            RestEnd::Over => Settled::Over,
+            RestEnd::Queued(stored) => Settled::Woken(stored),
+            RestEnd::Drop(place, closing) => Settled::Drop(place, Dropping { closing }),
         }
     }
 }

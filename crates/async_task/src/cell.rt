@@ -14,7 +14,7 @@ use crate::cell::fixed::{Fixed, Slot, no_task_s};
 pub(crate) use crate::cell::paying::pay_due;
 pub use crate::cell::resting::Detached;
 pub(crate) use crate::cell::resting::{
-    Duty, KeptWaker, Lost, Lot, Parked, Thing, begin, kept, park,
+    Duty, KeptWaker, Lost, Lot, Parked, Thing, begin, kept, park, rested_now,
 };
 pub use crate::cell::returning::{GoesBack, Returning, close_returned};
 pub(crate) use crate::cell::scheduled::find_with;

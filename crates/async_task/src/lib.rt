@@ -33,7 +33,7 @@ pub use look::{Look, TooManyReferences};
 pub use poll::{Future, Poll};
 pub use realm::{Cells, Returns};
 pub use runnable::{Closing, Pause, RunEnd, Runnable, Started};
-pub use running::Running;
+pub use running::{RestEnd, Running};
 pub use schedule::{Schedule, ScheduleInfo, Shared, WithInfo};
 pub use stored_task::StoredTask;
 pub use task::{Task, TaskError};

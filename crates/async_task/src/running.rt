@@ -1,7 +1,7 @@
 ghost use Rattle.std.specs.Prelude.{◌≡◌, true};
 ghost use Rattle.async_task.specs.Awaiters.{is_lent};
 
-use crate::cell::{Kept, Remains, Scheduled, paid};
+use crate::cell::{Kept, Remains, Rest, Scheduled, Site, StoredRunnable, paid, pay_due};
 use crate::poll::{Future, Poll};
 use crate::runnable::{Closed, Closing, Pause, RunEnd};
 use crate::schedule::Schedule;
@@ -119,4 +119,76 @@ where
             }
         }
     }
+
+    #[inline(always)]
+    pub fn settle_resting(self, back: Back<F, T>) -> RestEnd<F, T, S, M, W, R> {
+        let Self { waker, run } = self;
+        let held = match waker {
+            Awaiter::Lent(waker) => waker.into_held(),
+            Awaiter::Task(_) => unreachable!(),
+            Awaiter::Outside(_) => unreachable!(),
+        };
+        match back {
+            Back::Ready(output) => {
+                let (_, run, output) = run.store(&held.rt(), output);
+                drop(paid(output));
+                held.leave(run);
+                RestEnd::Over
+            }
+            Back::Pending(future) => {
+                let (owed, left, future) = run.give_back(future).pend_resting(&held.rt());
+                match left {
+                    Ok(left) => match future {
+                        Some(future) => {
+                            let closed = Closed::Left(Remains { owed, left });
+                            RestEnd::Drop(future.pay(), Closing { held, closed })
+                        }
+                        None => {
+                            let queued = owed.schedule.is_some();
+                            match held.site().left(owed, left) {
+                                Rest::Queue(woken) => {
+                                    held.site().give_back(woken);
+                                    RestEnd::Over
+                                }
+                                Rest::Drop(kept) => {
+                                    pay_due(Site::let_go(held.rt(), held.realm(), kept));
+                                    RestEnd::Over
+                                }
+                                Rest::Nothing => {
+                                    if queued {
+                                        RestEnd::Queued(held.rested_runnable())
+                                    } else {
+                                        RestEnd::Over
+                                    }
+                                }
+                            }
+                        }
+                    },
+                    Err(closed) => match future {
+                        Some(future) => {
+                            let closed = Closed::Run(closed);
+                            RestEnd::Drop(future.pay(), Closing { held, closed })
+                        }
+                        None => unreachable!(),
+                    },
+                }
+            }
+        }
+    }
+}
+
+/// How a run ends where a Runnable rests.
+#[must_use]
+pub enum RestEnd<F, T, S, M, W, R>
+where
+    F: Drop + 'static,
+    T: Drop + 'static,
+    S: Schedule<Scheduled<F, T, S, M, W, R>> + Drop + 'static,
+    M: Copy + Drop + 'static,
+    W: Wake + Drop + 'static,
+    R: Wait + Copy + Drop,
+{
+    Over,
+    Queued(StoredRunnable<M>),
+    Drop(F, Closing<F, T, S, M, W, R>),
 }

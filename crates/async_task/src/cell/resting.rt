@@ -80,6 +80,11 @@ pub(crate) fn rest<F: 'static, T: 'static, W: 'static>(token: RunnableToken<F, T
     Rested(())
 }
 
+#[inline(always)]
+pub(crate) fn rested_now() -> Rested {
+    Rested(())
+}
+
 /// The waker's reference rests in its cell.
 #[inline(always)]
 pub(crate) fn store<F: 'static, T: 'static, W: 'static>(token: WakerToken<F, T, W>) -> Stored {
@@ -146,6 +151,23 @@ where
             Ok(token) => {
                 let Rested(()) = rested;
                 Ok(token)
+            }
+            Err(_) => Err(rested),
+        }
+    }
+
+    #[inline(always)]
+    pub(crate) fn resume_up(
+        &self,
+        rested: Rested,
+    ) -> Result<
+        Result<task_word::tokens::Run<F, T, Kept<W>>, (task_word::tokens::ClosedRunnable<F, T, Kept<W>>, task_word::tokens::Debt<F>)>,
+        Rested,
+    > {
+        match self.cell.word.resume_up(&self.rt) {
+            Ok(run) => {
+                let Rested(()) = rested;
+                Ok(run)
             }
             Err(_) => Err(rested),
         }

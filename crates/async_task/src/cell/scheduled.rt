@@ -6,10 +6,12 @@ use crate::cell::resting::{Rested, Stored, Thing, rest, store};
 use crate::cell::returning::GoesBack;
 use crate::cell::{Held, Identity, Realm, RunnableToken, Site, WakerToken};
 use crate::realm::Returns;
-use crate::runnable::Runnable;
+use crate::lent::LentWaker;
+use crate::runnable::{Closed, Closing, Runnable, Started};
+use crate::running::Running;
 use crate::schedule::{Schedule, ScheduleInfo, Shared};
 use crate::wake::Wake;
-use crate::waker::TaskWaker;
+use crate::waker::{Awaiter, TaskWaker};
 use std::marker::Model;
 use std::sync::Wait;
 
@@ -198,6 +200,53 @@ impl<M> StoredRunnable<M> {
         let rested = match find_with(rt, realm, returns, place, metadata) {
             Some(held) => match held.site().resume(rested) {
                 Ok(token) => return Ok(Scheduled { held, token }),
+                Err(rested) => rested,
+            },
+            None => rested,
+        };
+        Err(StoredRunnable {
+            returns,
+            place,
+            metadata,
+            rested,
+        })
+    }
+
+    pub fn metadata(&self) -> &M {
+        &self.metadata
+    }
+
+    #[inline(always)]
+    pub fn start<F, T, S, W, R>(
+        self,
+        rt: R,
+        realm: &'static Realm<F, T, S, M, W>,
+    ) -> Result<Started<F, T, S, M, W, R>, Self>
+    where
+        F: Drop + 'static,
+        T: Drop + 'static,
+        S: Schedule<Scheduled<F, T, S, M, W, R>> + Drop + 'static,
+        M: Copy + Drop + 'static,
+        W: Wake + Drop + 'static,
+        R: Wait + Copy + Drop,
+    {
+        let StoredRunnable {
+            returns,
+            place,
+            metadata,
+            rested,
+        } = self;
+        let rested = match find_with(rt, realm, returns, place, metadata) {
+            Some(held) => match held.site().resume_up(rested) {
+                Ok(Ok(run)) => {
+                    let (run, future) = run.ready();
+                    let waker = Awaiter::Lent(LentWaker::of(held));
+                    return Ok(Started::Poll(future.pay(), Running { waker, run }));
+                }
+                Ok(Err((closed, future))) => {
+                    let closed = Closed::Runnable(closed);
+                    return Ok(Started::Drop(future.pay(), Closing { held, closed }));
+                }
                 Err(rested) => rested,
             },
             None => rested,
@@ -477,5 +526,21 @@ where
         Held::at(rt, realm, place, metadata)
     } else {
         None
+    }
+}
+
+impl<F, T, S, M, W, R> Held<F, T, S, M, W, R>
+where
+    F: Drop + 'static,
+    T: Drop + 'static,
+    S: Drop + 'static,
+    M: Copy + Drop + 'static,
+    W: Drop + 'static,
+    R: Wait + Copy + Drop,
+{
+    #[inline(always)]
+    pub(crate) fn rested_runnable(&self) -> StoredRunnable<M> {
+        let realm = self.realm;
+        StoredRunnable::at(&realm.returns, self.place, self.metadata, crate::cell::rested_now())
     }
 }

@@ -185,3 +185,68 @@ pub fn end_pending<F, T, W, R: Wait>(
     }
     unreachable!()
 }
+
+/// The poll gave no output. Where the task is closed, its future is dropped, and `end_closed` follows.
+#[inline(always)]
+pub fn end_pending_resting<F, T, W, R: Wait>(
+    rt: &R,
+    board: &Board<F, T, W>,
+    pass: &mut Pass<F, T, W>,
+) -> Pause<F>
+{
+    for _ in rt.forever() {
+        let old = board.load::<rule::LookBack>(pass, 0);
+        let word = decode(old);
+        let moved = moves::end_pending(word.state);
+        if word.state.closed {
+            return Pause {
+                owed: moved.owed,
+                future: None,
+                leaves_awaiter: false,
+            };
+        }
+        let new = if word.state.scheduled {
+            old - 2
+        } else if word.state.references == 1 && !word.state.handle {
+            encode(moved.state, word.rests)
+        } else {
+            old - 514
+        };
+        if moved.owed.empty_cell {
+            let future = take_future(board, pass);
+            if board.compare_exchange::<rule::EndPending>(pass, 0, old, new) == old {
+                return Pause {
+                    owed: moved.owed,
+                    future: Some(future),
+                    leaves_awaiter: moved.state.awaiter,
+                };
+            }
+            put_future(board, pass, future);
+        } else if board.compare_exchange::<rule::EndPending>(pass, 0, old, new) == old {
+            return Pause {
+                owed: moved.owed,
+                future: None,
+                leaves_awaiter: false,
+            };
+        }
+    }
+    unreachable!()
+}
+
+/// Takes the Runnable that rests, and takes it up, in one step.
+#[inline(always)]
+pub fn resume_and_take_up<F, T, W, R: Wait>(rt: &R, board: &Board<F, T, W>, pass: &mut Pass<F, T, W>) -> Option<Owed> {
+    for _ in rt.forever() {
+        let old = board.load::<rule::LookUp>(pass, 0);
+        let word = decode(old);
+        if !word.rests {
+            return None;
+        }
+        let moved = moves::take_up(word.state);
+        let new = encode(moved.state, false);
+        if board.compare_exchange::<rule::TakeUp>(pass, 0, old, new) == old {
+            return Some(moved.owed);
+        }
+    }
+    unreachable!()
+}

@@ -9,7 +9,7 @@ use crate::cell::Cell;
 use crate::slot::{put_future, take_future};
 use crate::steps::runs::Pause;
 use crate::steps::{Pass, closing, runs};
-use crate::tokens::{Debt, Left, OwingRun, PastRun, Runnable, take_left};
+use crate::tokens::{Debt, Left, OwingRun, PastRun, Runnable, Trace, take_left};
 use std::sync::Wait;
 use task_moves::moves::Owed;
 
@@ -172,6 +172,47 @@ impl<F: 'static, T: 'static, W: 'static> Run<F, T, W> {
         }
     }
 
+    /// The poll gave no output. The future goes back into the cell; or it is to be dropped, where the task was closed meanwhile,
+    /// and where nobody can reach it any more.
+    #[inline(always)]
+    pub fn pend_resting<R: Wait>(
+        self,
+        rt: &R,
+    ) -> (
+        Owed,
+        Result<Left<F, T, W>, ClosedRun<F, T, W>>,
+        Option<Debt<F>>,
+    )
+    {
+        let Run {
+            cell,
+            mut pass,
+            future,
+        } = self;
+        put_future(cell.board(), &mut pass, future);
+        let Pause {
+            owed,
+            future,
+            leaves_awaiter,
+        } = runs::end_pending_resting(rt, cell.board(), &mut pass);
+        match future {
+            Some(future) => {
+                let left = take_left(cell, pass, None, leaves_awaiter);
+                (owed, Ok(left), Some(Debt::of(future)))
+            }
+            None => match owed.next {
+                Some(_) => {
+                    let future = take_future(cell.board(), &mut pass);
+                    (owed, Err(ClosedRun { cell, pass }), Some(Debt::of(future)))
+                }
+                None => {
+                    let left = take_left(cell, pass, None, leaves_awaiter);
+                    (owed, Ok(left), None)
+                }
+            },
+        }
+    }
+
     /// The poll gave an output. The future comes out, to be dropped; `store` follows.
     #[inline(always)]
     pub fn ready(self) -> (ReadyRun<F, T, W>, Debt<F>)
@@ -216,5 +257,22 @@ impl<F: 'static, T: 'static, W: 'static> ReadyRun<F, T, W> {
             PastRun::of(cell, pass).owing(owed),
             Debt::of_some(back),
         )
+    }
+}
+
+impl<F: 'static, T: 'static, W: 'static> Cell<F, T, W> {
+    #[inline(always)]
+    pub fn resume_up<R: Wait>(&'static self, rt: &R) -> Result<Result<Run<F, T, W>, (ClosedRunnable<F, T, W>, Debt<F>)>, Trace> {
+        let mut pass = self.pass();
+        match runs::resume_and_take_up(rt, self.board(), &mut pass) {
+            None => Err(Trace::of(pass)),
+            Some(owed) => {
+                let future = take_future(self.board(), &mut pass);
+                match owed.next {
+                    None => Ok(Ok(Run { cell: self, pass, future })),
+                    Some(_) => Ok(Err((ClosedRunnable { cell: self, pass }, Debt::of(future)))),
+                }
+            }
+        }
     }
 }

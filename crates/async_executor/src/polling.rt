@@ -9,11 +9,12 @@ use crate::due::pay;
 use crate::entry::Unlocked;
 use crate::names::{ExStoredRunnable, ExWaker};
 use crate::sections;
-use crate::sections::Taken;
+use crate::sections::taken_at;
+use crate::foreign::Foreign;
 use crate::task_run::{Begun, Dropping, Polling, Settled, begin};
 use async_task::{Back, Future, GoesBack, Poll, Wake};
 use executor_parts::EntryPlace;
-use std::sync::Wait;
+use std::sync::{Mutex, MutexGuard, Wait};
 
 impl<F, T, W, R> Body<F, T, W, R>
 where
@@ -55,13 +56,9 @@ where
 
     #[inline(always)]
     fn poll(&self, place: EntryPlace, polling: Polling<T, W, R>, unlocked: &mut Unlocked) {
-        let taken = sections::take(self.table.lock(&self.rt, unlocked).get(), place);
-        let back = match taken {
-            Some(taken) => match self.poll_future(place, taken, &polling, unlocked) {
-                Poll::Ready(output) => Back::Ready(output),
-                Poll::Pending => Back::Pending(place),
-            },
-            None => Back::Pending(place),
+        let back = match self.poll_future(place, &polling, unlocked) {
+            Poll::Ready(output) => Back::Ready(output),
+            Poll::Pending => Back::Pending(place),
         };
         match polling.settle(back, unlocked) {
             Settled::Over => {}
@@ -78,36 +75,41 @@ where
     fn poll_future(
         &self,
         place: EntryPlace,
-        taken: Taken<F>,
         polling: &Polling<T, W, R>,
         unlocked: &mut Unlocked,
     ) -> Poll<T>
-        requires { taken.place ≡ place }
     {
-        let mut taken = taken;
-        match taken.poll(polling.waker(), unlocked) {
+        let mut entry = self.entry(place);
+        let polled = match &mut *entry {
+            Some(future) => future.poll(polling.waker()),
+            None => Poll::Pending,
+        };
+        match polled {
             Poll::Ready(output) => {
-                taken.let_go(unlocked);
+                let future = entry.take();
+                drop(entry);
+                if let Some(future) = future {
+                    Foreign::of(future).let_go(unlocked);
+                }
                 self.leave(place, unlocked);
                 Poll::Ready(output)
             }
-            Poll::Pending => {
-                let displaced = sections::put_back(
-                    self.table.lock(&self.rt, unlocked).get(),
-                    taken,
-                );
-                if let Some(future) = displaced {
-                    future.let_go(unlocked);
-                }
-                Poll::Pending
-            }
+            Poll::Pending => Poll::Pending,
+        }
+    }
+
+    #[inline(always)]
+    fn entry(&self, place: EntryPlace) -> MutexGuard<'_, Option<F>> {
+        match self.futures[place.key()].try_lock() {
+            Some(guard) => guard,
+            None => self.futures[place.key()].lock(&self.rt),
         }
     }
 
     #[cold]
     #[inline(never)]
     fn drop_future(&self, place: EntryPlace, dropping: Dropping<T, W, R>, unlocked: &mut Unlocked) {
-        let taken = sections::take(self.table.lock(&self.rt, unlocked).get(), place);
+        let taken = match self.entry(place).take() { Some(future) => Some(taken_at(place, future)), None => None };
         if let Some(taken) = taken {
             taken.let_go(unlocked);
         }

@@ -19,7 +19,8 @@ use async_task::{Future, NoMemory, Wake};
 use executor_parts::{Mark, Places};
 use std::alloc::Global;
 use std::mem;
-use std::sync::{Arc, Wait};
+use std::sync::{Arc, Mutex, Wait};
+use crossbeam_utils::CachePadded;
 
 /// What an executor has, of either kind. It has no drop: an executor ends by it, or forgets it.
 pub struct Body<F, T, W, R>
@@ -32,6 +33,7 @@ where
     pub(crate) realm: &'static ExRealm<T, W, R>,
     pub(crate) state: Arc<State<W>, Global>,
     pub(crate) table: Guarded<Places<F, TableWaker>>,
+    pub(crate) futures: Vec<CachePadded<Mutex<Option<F>>>>,
     /// Its table keeps no wakers.
     pub(crate) is_static: bool,
     /// What was let go of tasks in its realm is to be closed.
@@ -61,8 +63,14 @@ where
         ensures here { IfOk result (λ body. body.realm.now.number ≡ realm.now.number) }
         ensures kind { IfOk result (λ body. body.is_static ≡ is_static) }
     {
+        let mut futures = Vec::new(alloc);
+        for _ in 0..limit {
+            if futures.push(CachePadded::new(Mutex::new(None))).is_err() {
+                return Err(NoMemory);
+            }
+        }
         match (State::new(alloc, limit), Places::with_room(alloc, limit)) {
-            (Ok(state), Ok(table)) => Body::of(rt, alloc, realm, is_static, state, table),
+            (Ok(state), Ok(table)) => Body::of(rt, alloc, realm, is_static, state, table, futures),
             _ => Err(NoMemory),
         }
     }
@@ -75,6 +83,7 @@ where
         is_static: bool,
         state: State<W>,
         table: Places<F, TableWaker>,
+        futures: Vec<CachePadded<Mutex<Option<F>>>>,
     ) -> Result<Self, NoMemory>
         requires table { (table.entries ≡ []) × (table.has_all_room ≡ true) }
         requires urgent { state.queues.urgent.capacity ≡ Some table.limit }
@@ -88,6 +97,7 @@ where
                 realm,
                 state,
                 table: Guarded::new(table),
+                futures,
                 is_static,
                 returned: ClosesReturned::new(),
                 rt,
@@ -103,11 +113,13 @@ where
             realm: _,
             state,
             table,
+            futures,
             is_static: _,
             returned,
             rt: _,
             alloc: _,
         } = self;
+        mem::forget(futures);
         mem::forget(state);
         mem::forget(table);
         returned.forget();
@@ -155,6 +167,7 @@ where
             mark,
             future,
             closed,
+            &self.futures,
         );
         match accepted {
             Ok((runnable, task)) => {

@@ -84,11 +84,13 @@ where
         realm,
         state,
         table,
+        futures,
         is_static: _,
         returned,
         rt,
         alloc: _,
     } = body;
+    drop(futures);
     let mut leaving = leaving;
     drop_futures(rt, realm, table.into_inner(), &mut leaving, unlocked);
     leaving.wake_all(rt, realm, unlocked);
@@ -115,6 +117,7 @@ where
         realm,
         state,
         table,
+        futures,
         is_static: _,
         returned,
         rt,
@@ -126,6 +129,7 @@ where
         realm,
         state,
         table: Guarded::new(table),
+        futures,
         is_static: true,
         returned,
         rt,

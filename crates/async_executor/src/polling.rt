@@ -9,12 +9,13 @@ use crate::due::pay;
 use crate::entry::Unlocked;
 use crate::names::{ExStoredRunnable, ExWaker};
 use crate::sections;
-use crate::sections::Taken;
+use crate::sections::{Taken, taken_at};
+use crate::foreign::Foreign;
 use crate::state::redeem;
 use crate::task_run::{Begun, Dropping, Polling, Settled, begin};
 use async_task::{Back, Future, Poll, Wake};
 use executor_parts::EntryPlace;
-use std::sync::Wait;
+use std::sync::{Mutex, MutexGuard, Wait};
 
 impl<F, T, W, R> Body<F, T, W, R>
 where
@@ -48,7 +49,7 @@ where
 
     #[inline(always)]
     fn poll(&self, place: EntryPlace, polling: Polling<T, W, R>, unlocked: &mut Unlocked) {
-        let taken = sections::take(self.table.lock(&self.rt, unlocked).get(), place);
+        let taken = match self.entry(place).take() { Some(future) => Some(taken_at(place, future)), None => None };
         let back = match taken {
             Some(taken) => match self.poll_future(place, taken, &polling, unlocked) {
                 Poll::Ready(output) => Back::Ready(output),
@@ -85,22 +86,28 @@ where
                 Poll::Ready(output)
             }
             Poll::Pending => {
-                let displaced = sections::put_back(
-                    self.table.lock(&self.rt, unlocked).get(),
-                    taken,
-                );
+                let future = taken.into_future();
+                let displaced = self.entry(place).replace(future);
                 if let Some(future) = displaced {
-                    future.let_go(unlocked);
+                    Foreign::of(future).let_go(unlocked);
                 }
                 Poll::Pending
             }
         }
     }
 
+    #[inline(always)]
+    fn entry(&self, place: EntryPlace) -> MutexGuard<'_, Option<F>> {
+        match self.futures[place.key()].try_lock() {
+            Some(guard) => guard,
+            None => self.futures[place.key()].lock(&self.rt),
+        }
+    }
+
     #[cold]
     #[inline(never)]
     fn drop_future(&self, place: EntryPlace, dropping: Dropping<T, W, R>, unlocked: &mut Unlocked) {
-        let taken = sections::take(self.table.lock(&self.rt, unlocked).get(), place);
+        let taken = match self.entry(place).take() { Some(future) => Some(taken_at(place, future)), None => None };
         if let Some(taken) = taken {
             taken.let_go(unlocked);
         }

@@ -11,7 +11,8 @@ use crate::names::{ExRealm, ExRunnable, ExTask, TableWaker};
 use crate::queue::ExQueue;
 use async_task::{Builder, Returning, Wake};
 use executor_parts::{EntryPlace, Mark, Places, SpawnRefused};
-use std::sync::Wait;
+use std::sync::{Mutex, Wait};
+use crossbeam_utils::CachePadded;
 
 /// Accepts a future: what a spawn does under the table's lock, once it has closed what was let go.
 ///
@@ -29,6 +30,7 @@ pub fn accept<F, T, W, R>(
     mark: Mark,
     future: F,
     closed: HasClosed,
+    futures: &Vec<CachePadded<Mutex<Option<F>>>>,
 ) -> Result<(ExRunnable<T, W, R>, ExTask<T, W, R>), SpawnError<F>>
 where
     F: Drop,
@@ -55,7 +57,11 @@ where
     };
     match made(rt, realm, schedule, is_static, mark, vacancy.place()) {
         Some((runnable, task, waker)) => {
+            let place = vacancy.place();
             table.enter(vacancy, future, waker);
+            let future = table.take(place);
+            let mut entry = match futures[place.key()].try_lock() { Some(guard) => guard, None => futures[place.key()].lock(&rt) };
+            *entry = future;
             call.accept(true);
             Ok((runnable, task))
         }

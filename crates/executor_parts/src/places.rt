@@ -71,6 +71,13 @@ impl<F, W> Model for Places<F, W> {
     ghost invariant = { λ p. IsPlaced p.slab p.order.keys × (slab_len p.slab ≤ p.limit) };
 }
 
+impl EntryPlace {
+    #[inline(always)]
+    pub fn key(&self) -> usize {
+        self.key
+    }
+}
+
 impl Vacancy {
     /// Where the future will be.
     pub fn place(&self) -> EntryPlace

@@ -26,5 +26,11 @@ pub mod Both
 pub mod Adding
 pub mod Spawning
 pub mod Refusing
+pub mod Within
+pub mod Leaving
+pub mod Losing
+pub mod Finishing
+pub mod Dropping
+pub mod Ended
 pub mod Ending
 pub mod Beginning

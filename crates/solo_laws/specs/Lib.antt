@@ -10,3 +10,4 @@ pub mod Road
 pub mod Tabled
 pub mod Alike
 pub mod Spawning
+pub mod Dropping

@@ -11,6 +11,7 @@ ghost use Rattle.plain_scheduler.specs.Calls.{new};
 ghost use Rattle.plain_scheduler.specs.State.{Due, Plain};
 ghost use Rattle.solo_laws.specs.Alike.{TakesAlike, WakesAlike, ReleasesAlike, UsesAlike, CancelsAlike, CopiesAlike};
 ghost use Rattle.solo_laws.specs.Alike.{HandlesAlike, HandleDropsAlike, PendsAlike, GivesAlike, DetachesAlike};
+ghost use Rattle.solo_laws.specs.Dropping.{GivenDropsAlike, ClosedDropsAlike, LosesAlike};
 ghost use Rattle.solo_laws.specs.Road.{Lined, SearchesAlike};
 ghost use Rattle.solo_laws.specs.Spawning.{SpawnsAlike, RefusesAlike, EmptyAlike};
 ghost use Rattle.solo_laws.specs.Tabled.{Stands, named};
@@ -93,4 +94,16 @@ pub fn a_refused_spawn_is_refused<F, T, X>()
 /// And both say alike whether they are empty.
 pub fn both_say_whether_empty<F, T, X>()
     ensures { (its : ℕ → Lent) (s : Solo F T X) (p : Plain T (SoloWaker X)) → Stands its s p → EmptyAlike its s p }
+{}
+
+/// The end of a future's drop leaves both alike, with the call or the drop of who awaits its task, where no output is to be dropped
+/// first.
+pub fn a_drop_ends_alike<F, T, X>()
+    ensures { (its : ℕ → Lent) (s : Solo F T X) (p : Plain T (SoloWaker X)) → Stands its s p
+        → GivenDropsAlike its s p × ClosedDropsAlike its s p }
+{}
+
+/// And so does the end of an output's drop, with the call of who awaits its task.
+pub fn an_output_goes_alike<F, T, X>()
+    ensures { (its : ℕ → Lent) (s : Solo F T X) (p : Plain T (SoloWaker X)) → Stands its s p → LosesAlike its s p }
 {}

@@ -1,0 +1,4 @@
+//! Stand-in.
+#![tactic(auto)]
+
+pub use queue_steps::{ForcePushError, NoMemory, PopError, PushError};

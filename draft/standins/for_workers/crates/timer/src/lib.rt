@@ -1,0 +1,6 @@
+//! Stand-in.
+#![tactic(auto)]
+
+mod errors;
+
+pub use errors::{Elapsed, SleepError, TimerError};

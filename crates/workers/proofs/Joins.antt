@@ -6,7 +6,7 @@ use Rattle.std.specs.Prelude.{slice_get}
 use Rattle.async_task.specs.declared.cell.Identity.{Identity}
 use Rattle.async_task.specs.declared.poll.Poll.TheVariants.{Ready}
 use Rattle.async_task.specs.declared.task.TaskError.{TaskError}
-use Rattle.workers.specs.Joining.{AllHaveCome, HasStepped, HaveCome}
+use Rattle.workers.specs.Joining.{AllHaveCome, HasStepped, HaveCome, OneHasNone}
 
 -- one more went from the front
 left_then :
@@ -50,3 +50,12 @@ pub all_came :
 all_came old new given tasks left then answer came step is same =
     let empty = subst (λ a. HasStepped left then (Ready a)) is step in
     (came.0, same ∙ came.1, omega (arith, came.2, length-drop (length came.0) tasks, ap length (sym came.3 ∙ empty)))
+
+-- the first of those that are left has no output to give, or there is no room for it
+pub one_has_none :
+    {T : Type 0} (old new kept : List T) (tasks left then : List Identity) (answer : Option (Result T TaskError)) (end : Result T TaskError)
+    → HaveCome old tasks new left → HasStepped left then (Ready answer) → answer ≡ Some end → kept ≡ new → OneHasNone old tasks kept then
+one_has_none old new kept tasks left then answer end came step is same =
+    let stepped = subst (λ a. HasStepped left then (Ready a)) is step in
+    let both = left_then (length came.0) tasks left then came.3 stepped.0 stepped.1 in
+    (came.0, same ∙ came.1, both.0, both.1)

@@ -1,5 +1,6 @@
 -- What a future over handles has to await, and what a poll of it does.
-use Rattle.std.specs.Prelude.{◌≡◌, ◌<◌, ◌≤◌, ◌+◌, IsTrue, is_some, Option, Some, None, Result, Ok, Err, List, [], ◌∷◌, ◌++◌, drop, length, Vec}
+use Rattle.std.specs.Prelude.{◌≡◌, ◌<◌, ◌≤◌, ◌+◌, IsTrue, is_some, Option, Some, None, Result, Ok, Err}
+use Rattle.std.specs.Prelude.{List, [], ◌∷◌, ◌++◌, drop, length, Vec}
 use Rattle.std.specs.Global.{Global}
 use Rattle.async_executor.specs.Handing.{Handles}
 use Rattle.async_task.specs.Handles.{Handle}

@@ -2,6 +2,8 @@
 use Rattle.std.specs.Prelude.{◌≡◌, Bool, true, false, Option, Some, None}
 use Rattle.async_executor.specs.declared.call.Ending.{Ending}
 use Rattle.async_executor.specs.declared.call.Ending.TheVariants.{Ran, Asleep, Called, Refused, GaveWay}
+use Rattle.async_executor.specs.declared.foreign.Foreign.{Foreign}
+use Rattle.async_executor.specs.declared.sleeping.SleeperWaker.{SleeperWaker}
 use Rattle.async_executor.specs.declared.ticker.Found.{Found}
 use Rattle.async_executor.specs.declared.ticker.Found.TheVariants.{Runnable, SearchAgain, Nothing, NoMemory}
 use Rattle.async_executor.specs.declared.ticker.FellAsleep.{FellAsleep}
@@ -26,6 +28,11 @@ module _ {W : Type 0} where
   abbrev pub flag_woken_up : Option (WokenUp W) → Option Bool
   flag_woken_up None = None
   flag_woken_up (Some r) = Some r.notified
+
+  -- its waker, which it has no more
+  abbrev pub waker_woken_up : Option (WokenUp W) → Option (Foreign (SleeperWaker W))
+  waker_woken_up None = None
+  waker_woken_up (Some r) = r.waker
 
 -- nothing was found: its waker is among the sleepers, or was called
 abbrev pub IsPending : Ending → Type 0

@@ -1,5 +1,5 @@
 -- How a tick or run falls asleep among the sleepers, wakes up and leaves them, each in one section of their lock.
-use Rattle.std.specs.Prelude.{◌≡◌, ℕ, ◌+◌, ◌<◌, ◌≤◌, Bool, Option, Some, None, is_none}
+use Rattle.std.specs.Prelude.{◌≡◌, ℕ, ◌+◌, ◌<◌, ◌≤◌, Option, Some, None}
 use Rattle.async_executor.specs.declared.sleeping.SleeperWaker.{SleeperWaker}
 use Rattle.async_executor.specs.declared.ticker.FellAsleep.{FellAsleep}
 use Rattle.async_executor.specs.declared.ticker.FellAsleep.TheVariants.{Anew, Already, Nowhere}
@@ -46,8 +46,7 @@ module _ {W : Type 0} where
   GivesBack old new = (new ≡ record old { rooms = new.rooms })
       × (old.count < old.rooms → new.rooms + 1 ≡ old.rooms) × (old.rooms ≤ old.count → new.rooms ≡ old.rooms)
 
-  -- one that slept wakes up, and was told where it had no waker left; the room stays, until it is given back
-  abbrev pub Leaves : ℕ → Sleepers (SleeperWaker W) → Sleepers (SleeperWaker W) → WokenUp W → Bool → Type 0
-  Leaves number old new r told =
-      (value_of r.waker ≡ waker_of number old.wakers) × (new ≡ woken_up number old)
-      × (r.notified ≡ flag_of new) × (told ≡ is_none (waker_of number old.wakers))
+  -- one that slept wakes up, and had been told where it has no waker left; the room stays, until it is given back
+  abbrev pub Leaves : ℕ → Sleepers (SleeperWaker W) → Sleepers (SleeperWaker W) → WokenUp W → Type 0
+  Leaves number old new r =
+      (value_of r.waker ≡ waker_of number old.wakers) × (new ≡ woken_up number old) × (r.notified ≡ flag_of new)

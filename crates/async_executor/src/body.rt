@@ -127,7 +127,14 @@ where
 {
     /// Whether each future that was accepted is dropped.
     pub(crate) fn has_none(&self, unlocked: &mut Unlocked) -> bool {
-        sections::is_empty(self.table.lock(&self.rt, unlocked).get())
+        let mut steps = Steps::begin(Asked::IsEmpty);
+        let is_empty = sections::is_empty(self.table.lock(&self.rt, unlocked).get(), &mut steps);
+        if is_empty {
+            let _ = steps.end(Reply::Yes);
+        } else {
+            let _ = steps.end(Reply::No);
+        }
+        is_empty
     }
 
     /// Accepts a future with this mark and queues its task, or refuses it.

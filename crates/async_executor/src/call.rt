@@ -342,13 +342,11 @@ impl Call {
         Steps::part(Part::Tell)
     }
 
-    /// One left the sleepers, and had been told or not: then it tells another.
-    pub fn leave(&mut self, was_told: bool)
-        requires { self.old.owes ≡ false }
-        ensures { self.new ≡ record self.old { is_new = false; owes = was_told } }
+    /// One left the sleepers.
+    pub fn leave(&mut self)
+        ensures { self.new ≡ record self.old { is_new = false } }
     {
         self.is_new = Snapshot::of(&false);
-        self.owes = Snapshot::of(&was_told);
     }
 
     /// One that was among the sleepers sleeps there with another waker.

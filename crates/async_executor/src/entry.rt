@@ -20,7 +20,7 @@ use crate::names::{ExScheduled, ExTask, ExWaker};
 use crate::queue::ExQueue;
 use crate::runner::Runner;
 use crate::ticker::Ticker;
-use crate::{executor, run};
+use crate::{executor, run, tick};
 use async_task::{Future, NoMemory, Poll, Returning, Schedule, ScheduleInfo, StoredWaker, Wake};
 use executor_parts::Mark;
 use std::collections::VecDeque;
@@ -253,12 +253,7 @@ where
             ticker,
             polled: _,
         } = self;
-        ticker.leave(
-            executor.rt,
-            &executor.state,
-            executor.realm,
-            &mut Unlocked::at_entry(),
-        );
+        tick::end(executor, ticker, &mut Unlocked::at_entry());
     }
 }
 

@@ -1,9 +1,11 @@
 //! Values of a user's, which came out from under a lock.
-ghost use Rattle.std.specs.Prelude.{◌≡◌, Some};
+ghost use Rattle.std.specs.Prelude.{◌≡◌, ◌∷◌, Some};
 ghost use Rattle.call_steps.specs.Seeing.{due};
 ghost use Rattle.call_steps.specs.Todo.{below, top};
 ghost use Rattle.call_steps.specs.declared.step.CallStep.TheVariants as step;
+ghost use Rattle.call_steps.specs.declared.step.run.RunStep.TheVariants as run_step;
 ghost use Rattle.call_steps.specs.declared.step.tick.SleeperStep.TheVariants as sleeper_step;
+ghost use Rattle.call_steps.specs.declared.step.tick.TickStep.TheVariants as tick_step;
 ghost use Rattle.async_executor.specs.Foreign.{value_of};
 ghost use Rattle.async_executor.specs.Steps.{of_handed, sleeper};
 
@@ -13,7 +15,7 @@ use crate::names::{ExDue, ExRealm, ExWaker};
 use crate::sleeping::SleeperWaker;
 use crate::steps::Steps;
 use async_task::{Future, Identity, Poll, Wake};
-use call_steps::Sleeping;
+use call_steps::{Sleeping, TickOrRun};
 use std::sync::Wait;
 
 /// A value of a user's, whose code runs only while no lock is held. It has no drop: it is let go, or called, by who is lent an
@@ -102,6 +104,25 @@ impl<W: Wake + Drop + 'static> Foreign<SleeperWaker<W>> {
     {
         let Foreign { value } = self;
         value.wake(rt, realm, steps, unlocked)
+    }
+
+    /// One leaves the sleepers with this waker, which goes, with all that this leads to.
+    pub fn leave_with<T, R>(
+        self,
+        rt: R,
+        realm: &'static ExRealm<T, W, R>,
+        who: TickOrRun<()>,
+        steps: &mut Steps,
+        unlocked: &mut Unlocked,
+    )
+    where
+        T: Drop + 'static,
+        R: Wait + Copy + Drop + 'static,
+        requires { top steps.old ≡ Some (step.Tick (tick_step.Leave who)) }
+        ensures { steps.new ≡ step.Run run_step.ReturnRoom ∷ below steps.old }
+    {
+        let Foreign { value } = self;
+        value.leave_with(rt, realm, who, steps, unlocked);
     }
 
     /// Drops the waker. Where a task has to be queued then, it is the answer.

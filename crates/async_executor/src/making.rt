@@ -11,8 +11,10 @@ use crate::foreign::Foreign;
 use crate::names::ExWaker;
 use crate::runner::Runner;
 use crate::sections::{give_back, make_room};
+use crate::steps::Steps;
 use crate::ticker::Ticker;
 use async_task::{Future, NoMemory, Wake};
+use call_steps::{Asked, Reply, Saw};
 use std::sync::Wait;
 
 impl<F, T, W, R> Body<F, T, W, R>
@@ -29,14 +31,23 @@ where
     ) -> Result<Tick<'_, F, T, W, R>, NoMemory>
         ensures { IfOk result (λ tick. has_left tick.ticker ≡ false) }
     {
+        let mut steps = Steps::begin(Asked::NewTick);
         let made = make_room(self.state.sleepers.lock(&self.rt, unlocked).get());
         match made {
-            Ok(new_room) => Ok(Tick {
-                executor: self,
-                ticker: Ticker::Awake(new_room),
-                polled: Polled::never(),
-            }),
-            Err(_) => Err(NoMemory),
+            Ok(new_room) => {
+                steps.follow(Saw::Something);
+                let _ = steps.end(Reply::Made);
+                Ok(Tick {
+                    executor: self,
+                    ticker: Ticker::Awake(new_room),
+                    polled: Polled::never(),
+                })
+            }
+            Err(_) => {
+                steps.follow(Saw::NoMemory);
+                let _ = steps.end(Reply::NoMemory);
+                Err(NoMemory)
+            }
         }
     }
 

@@ -1,13 +1,15 @@
-ghost use Rattle.std.specs.Prelude.{◌≡◌, IfSome, Some, is_none};
+ghost use Rattle.std.specs.Prelude.{◌≡◌, ◌∷◌, IfSome, Some, is_none};
 ghost use Rattle.call_steps.specs.Seeing.{due};
 ghost use Rattle.call_steps.specs.Todo.{below, top};
 ghost use Rattle.call_steps.specs.declared.step.CallStep.TheVariants as step;
+ghost use Rattle.call_steps.specs.declared.step.run.RunStep.TheVariants as run_step;
 ghost use Rattle.call_steps.specs.declared.step.tick.SleeperStep.TheVariants as sleeper_step;
+ghost use Rattle.call_steps.specs.declared.step.tick.TickStep.TheVariants as tick_step;
 ghost use Rattle.async_executor.specs.Copies.{IsCopyOf};
 ghost use Rattle.async_executor.specs.Steps.{of_handed, sleeper};
 
 use crate::call::Call;
-use crate::due::Handed;
+use crate::due::{Handed, pay};
 use crate::entry::Unlocked;
 use crate::foreign::Foreign;
 use crate::names::{ExDue, ExRealm, ExWaker};
@@ -131,6 +133,37 @@ impl<W: Wake + Drop + 'static> SleeperWaker<W> {
                 steps.follow(Saw::Outside);
                 steps.follow(Saw::Nothing);
                 None
+            }
+        }
+    }
+
+    /// One leaves the sleepers with this waker, which goes, with all that this leads to.
+    pub fn leave_with<T, R>(
+        self,
+        rt: R,
+        realm: &'static ExRealm<T, W, R>,
+        who: TickOrRun<()>,
+        steps: &mut Steps,
+        unlocked: &mut Unlocked,
+    )
+    where
+        T: Drop + 'static,
+        R: Wait + Copy + Drop + 'static,
+        requires { top steps.old ≡ Some (step.Tick (tick_step.Leave who)) }
+        ensures { steps.new ≡ step.Run run_step.ReturnRoom ∷ below steps.old }
+    {
+        let _ = who;
+        match self {
+            SleeperWaker::Task(waker) => {
+                let stored = waker.into_inner();
+                steps.follow(Saw::Left(Some(Waker::Task(stored.identity()))));
+                steps.see_moved(false);
+                let due = Returning::new(stored).release(rt, realm);
+                pay(rt, due, unlocked);
+            }
+            SleeperWaker::Outside(waker) => {
+                steps.follow(Saw::Left(Some(Waker::Outside)));
+                drop(waker);
             }
         }
     }

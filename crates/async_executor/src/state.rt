@@ -8,7 +8,7 @@ ghost use Rattle.call_steps.specs.declared.step.CallStep.TheVariants as step;
 ghost use Rattle.call_steps.specs.declared.step.table.QueueStep.TheVariants as queue_step;
 ghost use Rattle.call_steps.specs.declared.step.tick.SleeperStep.TheVariants as sleeper_step;
 ghost use Rattle.executor_parts.specs.Sleepers.{flag_of, last_waker, without_last};
-ghost use Rattle.async_executor.specs.Calls.{flag_woken_up};
+ghost use Rattle.async_executor.specs.Calls.{flag_woken_up, waker_woken_up};
 ghost use Rattle.async_executor.specs.Foreign.{value_of};
 ghost use Rattle.async_executor.specs.Stages.{begun, took, looked, looked_in};
 ghost use Rattle.async_executor.specs.Steps.{of_handed, of_stored, sleeper_of, tried};
@@ -284,7 +284,8 @@ impl<W: Drop> State<W> {
     ) -> Option<Foreign<SleeperWaker<W>>>
         requires said { IfSome woken_up (λ woken_up. woken_up.notified ≡ flag_of sleepers.now) }
         requires flag { call.old.flag ≡ flag_woken_up woken_up }
-        ensures { call.new ≡ record call.old { flag = None } }
+        ensures call { call.new ≡ record call.old { flag = None } }
+        ensures waker { result ≡ waker_woken_up woken_up }
     {
         match woken_up {
             Some(WokenUp { notified, waker }) => {

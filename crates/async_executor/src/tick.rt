@@ -1,11 +1,14 @@
 ghost use Rattle.std.specs.Prelude.{◌≡◌};
 ghost use Rattle.async_executor.specs.Polls.{has_left, IsTickAnswer};
 
+use crate::body::Body;
 use crate::call::{Call, Polled};
 use crate::entry::{Tick, Unlocked};
 use crate::names::ExWaker;
+use crate::steps::Steps;
 use crate::ticker::{Found, Ticker};
 use async_task::{Future, NoMemory, Poll, Wake};
+use call_steps::{Asked, Reply, TickOrRun};
 use std::sync::Wait;
 
 impl<F, T, W, R> Tick<'_, F, T, W, R>
@@ -58,4 +61,24 @@ where
         }
         unreachable!()
     }
+}
+
+/// A tick ends: it leaves the sleepers, and gives its room there back.
+pub fn end<F, T, W, R>(executor: &Body<F, T, W, R>, ticker: Ticker, unlocked: &mut Unlocked)
+where
+    F: Drop,
+    T: Drop + 'static,
+    W: Wake + Drop + 'static,
+    R: Wait + Copy + Drop + 'static,
+{
+    let mut steps = Steps::begin(Asked::DropTick(()));
+    ticker.leave(
+        executor.rt,
+        &executor.state,
+        executor.realm,
+        TickOrRun::Tick(()),
+        &mut steps,
+        unlocked,
+    );
+    let _ = steps.end(Reply::Done);
 }

@@ -1,9 +1,13 @@
 //! How ticks and runs fall asleep among the sleepers, wake up, and leave them.
-ghost use Rattle.std.specs.Prelude.{◌≡◌, true, false, Some, None, IfSome, is_some};
+ghost use Rattle.std.specs.Prelude.{◌≡◌, ◌∷◌, true, false, Some, None, IfSome, is_some};
 ghost use Rattle.async_executor.specs.Calls.{flag_fell_asleep, sleeps_since, flag_woken_up, IsFound};
 ghost use Rattle.async_executor.specs.Polls.{has_left};
 ghost use Rattle.async_executor.specs.Foreign.{value_of};
 ghost use Rattle.async_executor.specs.Sleeping.{FallsAsleep, WakesUp, Leaves, SaysFellAsleep};
+ghost use Rattle.call_steps.specs.Todo.{below, top};
+ghost use Rattle.call_steps.specs.declared.step.CallStep.TheVariants as step;
+ghost use Rattle.call_steps.specs.declared.step.run.RunStep.TheVariants as run_step;
+ghost use Rattle.call_steps.specs.declared.step.tick.TickStep.TheVariants as tick_step;
 ghost use Rattle.executor_parts.specs.Sleepers.{flag_of};
 ghost use Rattle.async_executor.specs.Stages.{idle, begun, looked};
 
@@ -15,7 +19,9 @@ use crate::names::{ExRealm, ExStoredRunnable, ExWaker};
 use crate::sections::give_back;
 use crate::sleeping::{SleeperWaker, call_waker};
 use crate::state::State;
+use crate::steps::Steps;
 use async_task::Wake;
+use call_steps::{Saw, TickOrRun};
 use executor_parts::{Again, Room, Sleeper, Sleepers, Slept, Unreserved, WokenUp as Stood};
 use std::mem;
 use std::sync::Wait;
@@ -217,19 +223,29 @@ impl Ticker {
         rt: R,
         state: &State<W>,
         realm: &'static ExRealm<T, W, R>,
+        who: TickOrRun<()>,
+        steps: &mut Steps,
         unlocked: &mut Unlocked,
     )
     where
         T: Drop + 'static,
         W: Wake + Drop + 'static,
         R: Wait + Copy + Drop + 'static,
+        requires { top steps.old ≡ Some (step.Tick (tick_step.Leave who)) }
+        ensures { steps.new ≡ below steps.old }
     {
-        let room = match self {
-            Ticker::Asleep(sleeper) => leave_sleepers(rt, state, realm, sleeper, unlocked),
-            Ticker::Awake(room) => room,
-            Ticker::Left => return,
-        };
-        give_back(state.sleepers.lock(&rt, unlocked).get(), room);
+        match self {
+            Ticker::Asleep(sleeper) => {
+                let room = leave_sleepers(rt, state, realm, sleeper, who, steps, unlocked);
+                return_room(&rt, state, room, unlocked);
+                steps.see(true);
+            }
+            Ticker::Awake(room) => {
+                return_room(&rt, state, room, unlocked);
+                steps.see(false);
+            }
+            Ticker::Left => steps.see(false),
+        }
     }
 
     fn sleeps(&self) -> bool {
@@ -322,58 +338,67 @@ impl Ticker {
     }
 }
 
+/// The room of one that left the sleepers, or never slept, goes back.
+fn return_room<W, R: Wait>(rt: &R, state: &State<W>, room: Room, unlocked: &mut Unlocked) {
+    give_back(state.sleepers.lock(rt, unlocked).get(), room);
+}
+
 /// One that sleeps leaves the sleepers. If it had been told, it tells another in its place. Its room is the answer.
 fn leave_sleepers<T, W, R>(
     rt: R,
     state: &State<W>,
     realm: &'static ExRealm<T, W, R>,
     sleeper: Sleeper,
+    who: TickOrRun<()>,
+    steps: &mut Steps,
     unlocked: &mut Unlocked,
 ) -> Room
 where
     T: Drop + 'static,
     W: Wake + Drop + 'static,
     R: Wait + Copy + Drop + 'static,
+    requires { top steps.old ≡ Some (step.Tick (tick_step.Leave who)) }
+    ensures { steps.new ≡ step.Run run_step.ReturnRoom ∷ below steps.old }
 {
     let mut call = Call::begin();
-    let (room, waker, was_told) = {
+    let (room, waker) = {
         let mut locked = state.sleepers.lock(&rt, unlocked);
         let sleepers = locked.get();
-        let (room, woken_up, was_told) = leave_in(sleepers, &mut call, sleeper);
+        let (room, woken_up) = leave_in(sleepers, &mut call, sleeper);
         let waker = state.store_woken_up(sleepers, &mut call, Some(woken_up));
-        (room, waker, was_told)
+        (room, waker)
     };
-    if let Some(waker) = waker {
-        let due = waker.release(rt, realm, unlocked);
-        pay(rt, due, unlocked);
-    }
-    if was_told {
-        state.notify_apart(rt, realm, &mut call, unlocked);
-    }
     call.end();
+    match waker {
+        Some(waker) => waker.leave_with(rt, realm, who, steps, unlocked),
+        None => {
+            steps.follow(Saw::Left(None));
+            state.notify_and_pay(rt, realm, steps, unlocked);
+        }
+    }
     room
 }
 
-/// The section of the sleepers' lock in which one leaves. Its room is the first answer, and the last whether it had been told.
+/// The section of the sleepers' lock in which one leaves. Its room is the first answer. It has no waker there where it had been told.
 fn leave_in<W>(
     sleepers: &mut Sleepers<SleeperWaker<W>>,
     call: &mut Call,
     sleeper: Sleeper,
-) -> (Room, WokenUp<W>, bool)
+) -> (Room, WokenUp<W>)
     requires { call.old ≡ begun }
-    ensures left { Leaves sleeper.number sleepers.old sleepers.new result.1 result.2 }
+    ensures left { Leaves sleeper.number sleepers.old sleepers.new result.1 }
     ensures said { result.1.notified ≡ flag_of sleepers.new }
-    ensures call { call.new ≡ record idle { owes = result.2; flag = Some result.1.notified } }
+    ensures call { call.new ≡ record idle { flag = Some result.1.notified } }
 {
-    let (stood, was_told) = sleepers.leave(sleeper);
+    let (stood, _) = sleepers.leave(sleeper);
     let Stood {
         room,
         waker,
         notified,
     } = stood;
-    call.leave(was_told);
+    call.leave();
     call.turn_flag(notified);
-    (room, woken_up_with(notified, waker), was_told)
+    (room, woken_up_with(notified, waker))
 }
 
 /// One that woke up, with the waker that it had.

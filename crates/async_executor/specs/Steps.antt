@@ -18,6 +18,7 @@ use Rattle.async_executor.specs.declared.due.Handed.{Handed}
 use Rattle.async_executor.specs.declared.errors.SpawnError.{SpawnError}
 use Rattle.async_executor.specs.declared.errors.SpawnError.TheVariants.{Full, NoMemory}
 use Rattle.async_executor.specs.declared.foreign.Foreign.{Foreign}
+use Rattle.async_executor.specs.declared.marked.Marked.{Marked}
 use Rattle.async_executor.specs.declared.sleeping.SleeperWaker.{SleeperWaker}
 use Rattle.async_executor.specs.declared.sleeping.SleeperWaker.TheVariants.{Task, Outside}
 
@@ -55,7 +56,7 @@ tried (Some f) rest =
     step.Sleeper sleeper_step.ExchangeFlag ∷ step.Move move.TakeUp f ∷ step.End reply.Yes ∷ rest
 
 -- what a spawn sees in the table
-abbrev pub accepted_as : {F M H : Type 0} → Result (Handle M × H) (SpawnError F) → Saw Identity (Unit {0})
-accepted_as (Ok both) = saw.Entered both.0.identity
+abbrev pub accepted_as : {F H : Type 0} → Result (Marked × H) (SpawnError F) → Saw Identity (Unit {0})
+accepted_as (Ok both) = saw.Entered both.0.stored.identity
 accepted_as (Err (Full future)) = saw.Full
 accepted_as (Err (NoMemory future)) = saw.NoMemory

@@ -139,7 +139,7 @@ where
         let mut taken = taken;
         match taken.poll(polling.waker(), steps, unlocked) {
             Poll::Ready(output) => {
-                taken.let_go(steps, unlocked);
+                taken.let_go(name, steps, unlocked);
                 self.leave(place, name, steps, unlocked);
                 Poll::Ready(output)
             }
@@ -171,7 +171,7 @@ where
         ensures { steps.new ≡ below steps.old }
     {
         let taken = sections::take(self.table.lock(&self.rt, unlocked).get(), place, steps);
-        sections::let_go(taken, steps, unlocked);
+        sections::let_go(taken, name, steps, unlocked);
         self.leave(place, name, steps, unlocked);
         dropping.finish(unlocked);
     }

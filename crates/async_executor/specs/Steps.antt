@@ -1,9 +1,12 @@
 -- How a call on the executor goes, step by step: futures have the names of their tasks.
-use Rattle.std.specs.Prelude.{Option, Some, None, Result, Ok, Err, List, ◌∷◌}
+use Rattle.std.specs.Prelude.{Option, Some, None, Result, Ok, Err, List, [], ◌∷◌}
 use Rattle.task_moves.specs.declared.moves.owed.Move.TheVariants as move
 use Rattle.async_task.specs.Handles.{Handle}
 use Rattle.async_task.specs.declared.cell.Identity.{Identity}
 use Rattle.async_task.specs.declared.cell.scheduled.Due.{Due}
+use Rattle.executor_parts.specs.declared.mark.Mark.{Mark}
+use Rattle.executor_parts.specs.Marks.{other}
+use Rattle.call_steps.specs.declared.names.Look.TheVariants.{Second}
 use Rattle.call_steps.specs.declared.names.Sleeping.{Sleeping}
 use Rattle.call_steps.specs.declared.names.TickOrRun.TheVariants as tick_or_run
 use Rattle.call_steps.specs.declared.names.Waker.{Waker}
@@ -13,6 +16,7 @@ use Rattle.call_steps.specs.declared.saw.Saw.{Saw}
 use Rattle.call_steps.specs.declared.saw.Saw.TheVariants as saw
 use Rattle.call_steps.specs.declared.step.CallStep.{CallStep}
 use Rattle.call_steps.specs.declared.step.CallStep.TheVariants as step
+use Rattle.call_steps.specs.declared.step.table.QueueStep.TheVariants as queue_step
 use Rattle.call_steps.specs.declared.step.tick.SleeperStep.TheVariants as sleeper_step
 use Rattle.async_executor.specs.declared.due.Handed.{Handed}
 use Rattle.async_executor.specs.declared.errors.SpawnError.{SpawnError}
@@ -49,11 +53,15 @@ module _ {W : Type 0} where
   sleeper_of None = None
   sleeper_of (Some it) = Some (sleeper it.value)
 
--- what a try has still to do once it has looked into both queues, or has found the Runnable of this future
-abbrev pub tried : Option Identity → List (CallStep Identity (Unit {0})) → List (CallStep Identity (Unit {0}))
-tried None rest = step.End reply.No ∷ rest
-tried (Some f) rest =
-    step.Sleeper sleeper_step.ExchangeFlag ∷ step.Move move.TakeUp f ∷ step.End reply.Yes ∷ rest
+-- what a try has still to do once it has found nothing in both queues, or the Runnable of this future
+abbrev pub tried : Option Identity → List (CallStep Identity (Unit {0}))
+tried None = step.End reply.No ∷ []
+tried (Some f) = step.Sleeper sleeper_step.ExchangeFlag ∷ step.Move move.TakeUp f ∷ step.End reply.Yes ∷ []
+
+-- the same after its first look, at the queue of this mark
+abbrev pub tried_first : Mark → Option Identity → List (CallStep Identity (Unit {0}))
+tried_first mark None = step.Queue (queue_step.Take (Second (other mark))) ∷ []
+tried_first mark (Some f) = tried (Some f)
 
 -- what a spawn sees in the table
 abbrev pub accepted_as : {F H : Type 0} → Result (Marked × H) (SpawnError F) → Saw Identity (Unit {0})

@@ -23,7 +23,8 @@ impl Marked {
         T: Drop + 'static,
         W: Wake + Drop + 'static,
         R: Wait + Copy + Drop + 'static,
-        ensures { result.stored.identity ≡ runnable.identity }
+        ensures task { result.stored.identity ≡ runnable.identity }
+        ensures metadata { result.stored.metadata ≡ runnable.metadata }
     {
         let mark = *runnable.metadata();
         Marked {

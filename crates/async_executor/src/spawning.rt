@@ -44,8 +44,9 @@ where
     ensures steps { steps.new ≡ following (accepted_as result) steps.old }
     ensures here { IfOk result (λ both. both.1.identity.realm ≡ realm.now.number) }
     ensures accepted { IfOk result (λ both. Accepts is_static table.old table.new future (task_of both.1)) }
-    ensures one_task { IfOk result (λ both. both.0.stored ≡ task_of both.1) }
-    ensures marked { IfOk result (λ both. both.0.stored.metadata ≡ mark) }
+    ensures one_task { IfOk result (λ both. both.0.stored.identity ≡ both.1.identity) }
+    ensures queue { IfOk result (λ both. both.0.stored.metadata ≡ mark) }
+    ensures marked { IfOk result (λ both. both.1.metadata ≡ mark) }
     ensures future { IfErr result (λ error. refused error ≡ future) }
     ensures cause { IfErr result (IsRefusedAt table.old) }
     ensures same { IfErr result (λ _. (table.new.entries ≡ table.old.entries) × (table.new.limit ≡ table.old.limit)) }

@@ -1,7 +1,7 @@
 //! What the threads of an executor share, but for its futures.
-ghost use Rattle.std.specs.Prelude.{◌≡◌, ◌≢◌, ◌<◌, true, false, Some, None, IfOk, IfErr, IfNone, IfSome, OnSome, is_ok, is_some, length};
+ghost use Rattle.std.specs.Prelude.{◌≡◌, ◌∷◌, [], ◌≢◌, ◌<◌, true, false, Some, None, IfOk, IfErr, IfNone, IfSome, OnSome, is_ok, is_some, length};
 ghost use Rattle.task_moves.specs.declared.moves.owed.Move.TheVariants as move;
-ghost use Rattle.call_steps.specs.Seeing.{called, due, first, seen};
+ghost use Rattle.call_steps.specs.Seeing.{called, due, seen};
 ghost use Rattle.call_steps.specs.Todo.{below, following, top};
 ghost use Rattle.call_steps.specs.declared.names.Look.TheVariants as look;
 ghost use Rattle.call_steps.specs.declared.step.CallStep.TheVariants as step;
@@ -11,7 +11,7 @@ ghost use Rattle.executor_parts.specs.Sleepers.{flag_of, last_waker, without_las
 ghost use Rattle.async_executor.specs.Calls.{flag_woken_up, waker_woken_up};
 ghost use Rattle.async_executor.specs.Foreign.{value_of};
 ghost use Rattle.async_executor.specs.Stages.{begun, took, looked, looked_in};
-ghost use Rattle.async_executor.specs.Steps.{of_handed, of_stored, sleeper_of, tried};
+ghost use Rattle.async_executor.specs.Steps.{of_handed, of_stored, sleeper_of, tried, tried_first};
 
 use crate::call::Call;
 use crate::due::Handed;
@@ -95,8 +95,8 @@ impl<W: Drop> State<W> {
     /// Takes a turn, and then the first Runnable of the queue that this names, or else of the other one, as a try does.
     #[inline(always)]
     pub fn take<R: Wait>(&self, rt: &R, steps: &mut Steps) -> Option<ExStoredRunnable>
-        requires { top steps.old ≡ Some (step.Queue queue_step.TakeTurn) }
-        ensures { steps.new ≡ tried (of_stored result) (below steps.old) }
+        requires { steps.old ≡ step.Queue queue_step.TakeTurn ∷ [] }
+        ensures { steps.new ≡ tried (of_stored result) }
     {
         let mark = self.turns.take();
         steps.follow(Saw::Turn(mark));
@@ -108,15 +108,29 @@ impl<W: Drop> State<W> {
 
     /// The first look of a try. A queue that is empty is left after loads alone, with no pop.
     #[inline(always)]
-    fn take_first<R: Wait>(&self, mark: Mark, rt: &R, steps: &mut Steps) -> Option<ExStoredRunnable>
-        requires { top steps.old ≡ Some (step.Queue (queue_step.Take (look.First mark))) }
-        ensures { steps.new ≡ following (first (of_stored result)) steps.old }
+    fn take_first<R: Wait>(
+        &self,
+        mark: Mark,
+        rt: &R,
+        steps: &mut Steps,
+    ) -> Option<ExStoredRunnable>
+        requires { steps.old ≡ step.Queue (queue_step.Take (look.First mark)) ∷ [] }
+        ensures { steps.new ≡ tried_first mark (of_stored result) }
     {
         if self.queues.of(mark).is_empty(rt) {
             steps.follow(Saw::Nothing);
             return None;
         }
-        take_seen(self.queues.of(mark), rt, steps)
+        match pop(self.queues.of(mark), rt) {
+            Some(runnable) => {
+                steps.follow(Saw::Found(runnable.identity()));
+                Some(runnable)
+            }
+            None => {
+                steps.follow(Saw::Nothing);
+                None
+            }
+        }
     }
 
     /// The second one.
@@ -127,10 +141,19 @@ impl<W: Drop> State<W> {
         rt: &R,
         steps: &mut Steps,
     ) -> Option<ExStoredRunnable>
-        requires { top steps.old ≡ Some (step.Queue (queue_step.Take (look.Second mark))) }
-        ensures { steps.new ≡ following (first (of_stored result)) steps.old }
+        requires { steps.old ≡ step.Queue (queue_step.Take (look.Second mark)) ∷ [] }
+        ensures { steps.new ≡ tried (of_stored result) }
     {
-        take_seen(self.queues.of(mark), rt, steps)
+        match pop(self.queues.of(mark), rt) {
+            Some(runnable) => {
+                steps.follow(Saw::Found(runnable.identity()));
+                Some(runnable)
+            }
+            None => {
+                steps.follow(Saw::Nothing);
+                None
+            }
+        }
     }
 
     /// Takes the first Runnable of the queue of this mark in hand, in a search or a drop, where there is one.
@@ -303,23 +326,6 @@ fn pop<R: Wait>(queue: &Queue, rt: &R) -> Option<ExStoredRunnable> {
     match queue.pop(rt) {
         Ok(runnable) => Some(runnable.into_inner()),
         Err(_) => None,
-    }
-}
-
-/// Takes the first Runnable of a queue, as a try sees it.
-#[inline(always)]
-fn take_seen<R: Wait>(queue: &Queue, rt: &R, steps: &mut Steps) -> Option<ExStoredRunnable>
-    ensures { steps.new ≡ following (first (of_stored result)) steps.old }
-{
-    match pop(queue, rt) {
-        Some(runnable) => {
-            steps.follow(Saw::Found(runnable.identity()));
-            Some(runnable)
-        }
-        None => {
-            steps.follow(Saw::Nothing);
-            None
-        }
     }
 }
 

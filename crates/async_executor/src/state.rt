@@ -108,12 +108,7 @@ impl<W: Drop> State<W> {
 
     /// The first look of a try. A queue that is empty is left after loads alone, with no pop.
     #[inline(always)]
-    fn take_first<R: Wait>(
-        &self,
-        mark: Mark,
-        rt: &R,
-        steps: &mut Steps,
-    ) -> Option<ExStoredRunnable>
+    fn take_first<R: Wait>(&self, mark: Mark, rt: &R, steps: &mut Steps) -> Option<ExStoredRunnable>
         requires { steps.old ≡ step.Queue (queue_step.Take (look.First mark)) ∷ [] }
         ensures { steps.new ≡ tried_first mark (of_stored result) }
     {

@@ -26,10 +26,10 @@ future_taken (Some taken) = Some taken.future
 abbrev pub Todo : Type 0
 Todo = List (CallStep Identity (Unit {0}))
 
--- what a run begins with: its future is taken out, to be polled or dropped
+-- what a run begins with: its future is taken out, to be polled or dropped; where it is dropped, the run ends by a move of its own
 abbrev pub begun_as : {T W R : Type 0} {wakes : Ghosts W} → Begun T W R wakes → Identity → Todo → Todo
 begun_as (begun.Poll place polling) f rest = step.Table (table_step.TakeToPoll f) ∷ rest
-begun_as (begun.Drop place dropping) f rest = step.Table (table_step.TakeToDrop f) ∷ rest
+begun_as (begun.Drop place dropping) f rest = step.Table (table_step.TakeToDrop f) ∷ step.Move dropping.ends.value f ∷ rest
 
 -- what a poll sees
 abbrev pub poll_seen : {O : Type 0} → Poll O → Saw Identity (Unit {0})
@@ -49,4 +49,4 @@ end_by (back.Pending place) = move.EndPending
 abbrev pub settled_as : {T W R : Type 0} → Settled T W R → Identity → Todo → Todo
 settled_as settled.Over f rest = rest
 settled_as (settled.Woken runnable) f rest = rest
-settled_as (settled.Drop place dropping) f rest = step.Table (table_step.TakeToDrop f) ∷ rest
+settled_as (settled.Drop place dropping) f rest = step.Table (table_step.TakeToDrop f) ∷ step.Move dropping.ends.value f ∷ rest

@@ -1,9 +1,8 @@
 -- How a call on the executor goes, step by step: futures have the names of their tasks.
-use Rattle.std.specs.Prelude.{Option, Some, None, Result, Ok, Err, List, [], ◌∷◌}
+use Rattle.std.specs.Prelude.{Bool, true, false, Option, Some, None, Result, Ok, Err, List, [], ◌∷◌}
 use Rattle.task_moves.specs.declared.moves.owed.Move.TheVariants as move
 use Rattle.async_task.specs.Handles.{Handle}
 use Rattle.async_task.specs.declared.cell.Identity.{Identity}
-use Rattle.async_task.specs.declared.cell.scheduled.Due.{Due}
 use Rattle.executor_parts.specs.declared.mark.Mark.{Mark}
 use Rattle.executor_parts.specs.Marks.{other}
 use Rattle.call_steps.specs.declared.names.Look.TheVariants.{Second}
@@ -11,6 +10,7 @@ use Rattle.call_steps.specs.declared.names.Sleeping.{Sleeping}
 use Rattle.call_steps.specs.declared.names.TickOrRun.TheVariants as tick_or_run
 use Rattle.call_steps.specs.declared.names.Waker.{Waker}
 use Rattle.call_steps.specs.declared.names.Waker.TheVariants as waker
+use Rattle.call_steps.specs.declared.reply.Reply.{Reply}
 use Rattle.call_steps.specs.declared.reply.Reply.TheVariants as reply
 use Rattle.call_steps.specs.declared.saw.Saw.{Saw}
 use Rattle.call_steps.specs.declared.saw.Saw.TheVariants as saw
@@ -30,10 +30,6 @@ use Rattle.async_executor.specs.declared.sleeping.SleeperWaker.TheVariants.{Task
 abbrev pub of_stored : {M : Type 0} → Option (Handle M) → Option Identity
 of_stored None = None
 of_stored (Some stored) = Some stored.identity
-
-abbrev pub of_due : {F T S M W R : Type 0} → Option (Due F T S M W R) → Option Identity
-of_due None = None
-of_due (Some due) = Some due.runnable.identity
 
 abbrev pub of_handed : {T W R : Type 0} → Option (Handed T W R) → Option Identity
 of_handed None = None
@@ -68,3 +64,14 @@ abbrev pub accepted_as : {F H : Type 0} → Result (Marked × H) (SpawnError F) 
 accepted_as (Ok both) = saw.Entered both.0.stored.identity
 accepted_as (Err (Full future)) = saw.Full
 accepted_as (Err (NoMemory future)) = saw.NoMemory
+
+-- what a spawn is answered
+abbrev pub spawned : {F H : Type 0} → Result H (SpawnError F) → Reply
+spawned (Ok task) = reply.Made
+spawned (Err (Full future)) = reply.Full
+spawned (Err (NoMemory future)) = reply.NoMemory
+
+-- what a question is answered
+abbrev pub yes_or_no : Bool → Reply
+yes_or_no true = reply.Yes
+yes_or_no false = reply.No

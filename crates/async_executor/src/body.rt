@@ -2,6 +2,7 @@
 ghost use Rattle.std.specs.Prelude.{◌≡◌, ◌<◌, [], true, Some, IfOk, IfErr};
 ghost use Rattle.std.specs.Arc.{arc_value};
 ghost use Rattle.async_executor.specs.Errors.{refused};
+ghost use Rattle.async_executor.specs.Steps.{yes_or_no, spawned};
 ghost use Rattle.call_steps.specs.Todo.{below, top};
 ghost use Rattle.call_steps.specs.declared.step.CallStep.TheVariants as step;
 ghost use Rattle.call_steps.specs.declared.step.table.QueueStep.TheVariants as queue_step;
@@ -19,7 +20,7 @@ use crate::spawning::accept;
 use crate::state::State;
 use crate::steps::Steps;
 use async_task::{Future, NoMemory, Wake};
-use call_steps::{Asked, Reply};
+use call_steps::{Asked, Last, Reply};
 use executor_parts::{Mark, Places};
 use std::alloc::Global;
 use std::mem;
@@ -136,15 +137,18 @@ where
     /// 2. Under the table's lock: accepts the future, or refuses it. `Full` where as many accepted futures as the
     ///    limit are not dropped yet, and only then want of memory for the task. The future comes back.
     /// 3. Once the lock is given back: hands the Runnable to the queue of its mark, and tells a sleeper.
+    ///
+    /// The call's end is the second answer.
     pub(crate) fn hand_in(
         &self,
         future: F,
         mark: Mark,
         unlocked: &mut Unlocked,
-    ) -> Result<ExTask<T, W, R>, SpawnError<F>>
-        ensures marked { IfOk result (λ task. task.metadata ≡ mark) }
-        ensures future { IfErr result (λ error. refused error ≡ future) }
-        ensures here { IfOk result (λ task. task.identity.realm ≡ self.now.realm.now.number) }
+    ) -> (Result<ExTask<T, W, R>, SpawnError<F>>, Last)
+        ensures marked { IfOk result.0 (λ task. task.metadata ≡ mark) }
+        ensures future { IfErr result.0 (λ error. refused error ≡ future) }
+        ensures here { IfOk result.0 (λ task. task.identity.realm ≡ self.now.realm.now.number) }
+        ensures answer { result.1 ≡ spawned result.0 }
     {
         let closed = self.returned.close(self.rt, self.realm, unlocked);
         let schedule = ExQueue::new(self.rt, share(self.rt, &self.state));
@@ -163,16 +167,15 @@ where
         match accepted {
             Ok((runnable, task)) => {
                 self.queue(&mut steps, runnable, unlocked);
-                let _ = steps.end(Reply::Made);
-                Ok(task)
+                (Ok(task), steps.end(Reply::Made))
             }
             Err(SpawnError::Full(future)) => {
-                let _ = steps.end(Reply::Full);
-                Err(SpawnError::Full(future))
+                let last = steps.end(Reply::Full);
+                (Err(SpawnError::Full(future)), last)
             }
             Err(SpawnError::NoMemory(future)) => {
-                let _ = steps.end(Reply::NoMemory);
-                Err(SpawnError::NoMemory(future))
+                let last = steps.end(Reply::NoMemory);
+                (Err(SpawnError::NoMemory(future)), last)
             }
         }
     }
@@ -182,21 +185,21 @@ where
     /// 1. Takes a turn, and a Runnable from the queue that this names, or else from the other one. Where there is none: false.
     /// 2. Tells a sleeper, since there may be more.
     /// 3. Runs it: true.
+    ///
+    /// The call's end is the second answer.
     #[inline(always)]
-    pub(crate) fn run_one(&self, unlocked: &mut Unlocked) -> bool {
+    pub(crate) fn run_one(&self, unlocked: &mut Unlocked) -> (bool, Last)
+        ensures { result.1 ≡ yes_or_no result.0 }
+    {
         let mut steps = Steps::begin(Asked::TryTick);
-        match self.state.take(&self.rt, &mut steps) {
+        match self.state.take_in_turn(&self.rt, &mut steps) {
             Some(stored) => {
                 self.state
                     .notify_and_pay(self.rt, self.realm, &mut steps, unlocked);
                 self.poll_or_drop(stored, &mut steps, unlocked);
-                let _ = steps.end(Reply::Yes);
-                true
+                (true, steps.end(Reply::Yes))
             }
-            None => {
-                let _ = steps.end(Reply::No);
-                false
-            }
+            None => (false, steps.end(Reply::No)),
         }
     }
 

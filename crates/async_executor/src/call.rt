@@ -8,6 +8,7 @@ ghost use Rattle.async_executor.specs.Stages.{begun, in_hand, took, looked_in, e
 
 use crate::names::ExStoredRunnable;
 use crate::steps::Steps;
+use crate::task_name::TaskName;
 use call_steps::Part;
 use executor_parts::Mark;
 use std::marker::Model;
@@ -17,8 +18,8 @@ mod counts;
 
 pub use counts::{Counts, OwesSteal};
 
-/// What a search of a tick or run, its leaving, or a drop has done, has in hand and owes. Only contracts read it, so it has no bytes. It has no drop: it
-/// ends with nothing in hand and nothing owed.
+/// What a search of a tick or run, its leaving, or a drop has done, has in hand and owes. Only contracts read it, so it has no
+/// bytes. It has no drop: it ends with nothing in hand and nothing owed.
 #[must_use]
 pub struct Call {
     // Whether it has still to make its section.
@@ -183,7 +184,7 @@ impl Call {
         let mut call = self;
         call.holds = Snapshot::of(&false);
         call.end();
-        let steps = Steps::part(Part::TakeUp(runnable.identity()));
+        let steps = Steps::part(Part::TakeUp(TaskName::of_runnable(runnable)));
         (Last::of(Ending::Ran), steps)
     }
 
@@ -300,7 +301,7 @@ impl Call {
     {
         self.holds = Snapshot::of(&false);
         self.owes = Snapshot::of(&false);
-        Steps::part(Part::Append(runnable.identity()))
+        Steps::part(Part::Append(TaskName::of_runnable(runnable)))
     }
 
     /// This call closed the executor's urgent queue.
@@ -329,7 +330,7 @@ impl Call {
         self.holds = Snapshot::of(&false);
         self.found = Snapshot::of(&false);
         self.owes = Snapshot::of(&false);
-        Steps::part(Part::Close(runnable.identity()))
+        Steps::part(Part::Close(TaskName::of_runnable(runnable)))
     }
 
     /// A sleeper is to be told, as is owed.

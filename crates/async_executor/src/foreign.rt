@@ -12,7 +12,8 @@ use crate::entry::Unlocked;
 use crate::names::{ExDue, ExRealm, ExWaker};
 use crate::sleeping::SleeperWaker;
 use crate::steps::Steps;
-use async_task::{Future, Identity, Poll, Wake};
+use crate::task_name::TaskName;
+use async_task::{Future, Poll, Wake};
 use call_steps::Sleeping;
 use std::sync::Wait;
 
@@ -76,14 +77,12 @@ pub fn came_out<X>(value: Option<X>) -> Option<Foreign<X>>
 }
 
 impl<W: Wake + Drop + 'static> Foreign<SleeperWaker<W>> {
-    /// The waker, and who sleeps with it.
-    pub fn named(self) -> (Sleeping<Identity, ()>, Self)
-        ensures name { result.0 ≡ sleeper self.value }
-        ensures same { result.1.value ≡ self.value }
+    /// Who sleeps with the waker.
+    #[inline(always)]
+    pub fn sleeper(&self) -> Sleeping<TaskName, ()>
+        ensures { result ≡ sleeper self.now.value }
     {
-        let Foreign { value } = self;
-        let (name, value) = value.named();
-        (name, Foreign { value })
+        self.value.sleeper()
     }
 
     /// Calls the waker. Where a task has to be queued then, it is the answer.

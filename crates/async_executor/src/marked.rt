@@ -2,7 +2,8 @@
 ghost use Rattle.std.specs.Prelude.{◌≡◌};
 
 use crate::names::{ExScheduled, ExStoredRunnable};
-use async_task::{Identity, Wake};
+use crate::task_name::TaskName;
+use async_task::Wake;
 use executor_parts::Mark;
 use std::sync::Wait;
 
@@ -35,9 +36,9 @@ impl Marked {
 
     /// Whose it is.
     #[inline(always)]
-    pub fn identity(&self) -> Identity
+    pub fn name(&self) -> TaskName
         ensures { result ≡ self.now.stored.identity }
     {
-        self.stored.identity()
+        TaskName::of_runnable(&self.stored)
     }
 }

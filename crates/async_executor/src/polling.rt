@@ -18,8 +18,9 @@ use crate::sections;
 use crate::sections::Taken;
 use crate::state::redeem;
 use crate::steps::Steps;
+use crate::task_name::TaskName;
 use crate::task_run::{Begun, Dropping, Polling, Settled, begin};
-use async_task::{Back, Future, Identity, Poll, Returning, StoredWaker, Wake};
+use async_task::{Back, Future, Poll, Returning, StoredWaker, Wake};
 use call_steps::Saw;
 use executor_parts::EntryPlace;
 use std::sync::Wait;
@@ -59,32 +60,38 @@ where
         requires { top steps.old ≡ Some (step.Move move.TakeUp stored.identity) }
         ensures { steps.new ≡ below steps.old }
     {
-        let name = stored.identity();
+        let name = TaskName::of_runnable(&stored);
         let Some(scheduled) = redeem(self.rt, self.realm, stored) else {
             steps.see_moved(false);
             return;
         };
-        match begin(scheduled, name, steps) {
-            Begun::Poll(place, polling) => self.poll(place, polling, name, steps, unlocked),
+        match begin(scheduled, &name, steps) {
+            Begun::Poll(place, polling) => self.poll(place, polling, &name, steps, unlocked),
             Begun::Drop(place, dropping) => {
-                self.drop_future(place, dropping, name, steps, unlocked);
+                self.drop_future(place, dropping, &name, steps, unlocked);
             }
         }
     }
 
+    /// Polls the future at this place, and ends the run.
     #[inline(always)]
     fn poll(
         &self,
         place: EntryPlace,
         polling: Polling<T, W, R>,
-        name: Identity,
+        name: &TaskName,
         steps: &mut Steps,
         unlocked: &mut Unlocked,
     )
-        requires { top steps.old ≡ Some (step.Table (table_step.TakeToPoll name)) }
+        requires { top steps.old ≡ Some (step.Table (table_step.TakeToPoll name.now)) }
         ensures { steps.new ≡ below steps.old }
     {
-        let taken = sections::take(self.table.lock(&self.rt, unlocked).get(), place, steps);
+        let taken = sections::take_to_poll(
+            self.table.lock(&self.rt, unlocked).get(),
+            place,
+            name,
+            steps,
+        );
         let polled = self.poll_taken(place, taken, &polling, name, steps, unlocked);
         let back = back_of(polled, place);
         match polling.settle(back, name, steps, unlocked) {
@@ -103,19 +110,19 @@ where
         place: EntryPlace,
         taken: Option<Taken<F>>,
         polling: &Polling<T, W, R>,
-        name: Identity,
+        name: &TaskName,
         steps: &mut Steps,
         unlocked: &mut Unlocked,
     ) -> Poll<T>
         requires place { IfSome taken (λ taken. taken.place ≡ place) }
-        requires polls { top steps.old ≡ Some (step.User (user_step.Poll name)) }
-        ensures { steps.new ≡ step.Move (end_of result) name ∷ below steps.old }
+        requires polls { top steps.old ≡ Some (step.User (user_step.Poll name.now)) }
+        ensures { steps.new ≡ step.Move (end_of result) name.now ∷ below steps.old }
     {
         match taken {
             Some(taken) => self.poll_future(place, taken, polling, name, steps, unlocked),
             None => {
                 steps.follow(Saw::Pending);
-                steps.see(true);
+                steps.follow(Saw::Something);
                 Poll::Pending
             }
         }
@@ -128,16 +135,16 @@ where
         place: EntryPlace,
         taken: Taken<F>,
         polling: &Polling<T, W, R>,
-        name: Identity,
+        name: &TaskName,
         steps: &mut Steps,
         unlocked: &mut Unlocked,
     ) -> Poll<T>
         requires place { taken.place ≡ place }
-        requires polls { top steps.old ≡ Some (step.User (user_step.Poll name)) }
-        ensures { steps.new ≡ step.Move (end_of result) name ∷ below steps.old }
+        requires polls { top steps.old ≡ Some (step.User (user_step.Poll name.now)) }
+        ensures { steps.new ≡ step.Move (end_of result) name.now ∷ below steps.old }
     {
         let mut taken = taken;
-        match taken.poll(polling.waker(), steps, unlocked) {
+        match taken.poll(polling.waker(), name, steps, unlocked) {
             Poll::Ready(output) => {
                 taken.let_go(name, steps, unlocked);
                 self.leave(place, name, steps, unlocked);
@@ -147,6 +154,7 @@ where
                 let displaced = sections::put_back(
                     self.table.lock(&self.rt, unlocked).get(),
                     taken,
+                    name,
                     steps,
                 );
                 if let Some(future) = displaced {
@@ -157,31 +165,58 @@ where
         }
     }
 
+    /// Drops the future at this place, as its task is closed, and ends the run.
     #[cold]
     #[inline(never)]
     fn drop_future(
         &self,
         place: EntryPlace,
         dropping: Dropping<T, W, R>,
-        name: Identity,
+        name: &TaskName,
         steps: &mut Steps,
         unlocked: &mut Unlocked,
     )
-        requires { top steps.old ≡ Some (step.Table (table_step.TakeToDrop name)) }
-        ensures { steps.new ≡ below steps.old }
+        requires taken { top steps.old ≡ Some (step.Table (table_step.TakeToDrop name.now)) }
+        requires ends { top (below steps.old) ≡ Some (step.Move dropping.ends.value name.now) }
+        ensures { steps.new ≡ below (below steps.old) }
     {
-        let taken = sections::take(self.table.lock(&self.rt, unlocked).get(), place, steps);
-        sections::let_go(taken, name, steps, unlocked);
-        self.leave(place, name, steps, unlocked);
-        dropping.finish(unlocked);
+        self.drop_and_leave(place, name, steps, unlocked);
+        dropping.finish(name, steps, unlocked);
     }
 
-    #[inline(always)]
-    fn leave(&self, place: EntryPlace, name: Identity, steps: &mut Steps, unlocked: &mut Unlocked)
-        requires { top steps.old ≡ Some (step.Table (table_step.LeaveTable name)) }
+    /// Drops the future at this place, and its entry leaves the table.
+    fn drop_and_leave(
+        &self,
+        place: EntryPlace,
+        name: &TaskName,
+        steps: &mut Steps,
+        unlocked: &mut Unlocked,
+    )
+        requires { top steps.old ≡ Some (step.Table (table_step.TakeToDrop name.now)) }
         ensures { steps.new ≡ below steps.old }
     {
-        let left = sections::leave(self.table.lock(&self.rt, unlocked).get(), place, steps);
+        let taken = sections::take_to_drop(
+            self.table.lock(&self.rt, unlocked).get(),
+            place,
+            name,
+            steps,
+        );
+        sections::let_go(taken, name, steps, unlocked);
+        self.leave(place, name, steps, unlocked);
+    }
+
+    /// The entry at this place leaves the table.
+    #[inline(always)]
+    fn leave(&self, place: EntryPlace, name: &TaskName, steps: &mut Steps, unlocked: &mut Unlocked)
+        requires { top steps.old ≡ Some (step.Table (table_step.LeaveTable name.now)) }
+        ensures { steps.new ≡ below steps.old }
+    {
+        let left = sections::leave(
+            self.table.lock(&self.rt, unlocked).get(),
+            place,
+            name,
+            steps,
+        );
         let Some((future, waker)) = left else {
             return;
         };
@@ -198,11 +233,11 @@ where
     fn release(
         &self,
         waker: Returning<StoredWaker>,
-        name: Identity,
+        name: &TaskName,
         steps: &mut Steps,
         unlocked: &mut Unlocked,
     )
-        requires { top steps.old ≡ Some (step.Move move.Release name) }
+        requires { top steps.old ≡ Some (step.Move move.Release name.now) }
         ensures { steps.new ≡ below steps.old }
     {
         let _ = name;

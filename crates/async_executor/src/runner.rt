@@ -8,10 +8,11 @@ ghost use Rattle.async_executor.specs.Stages.{idle, begun, took, looked};
 use crate::call::{Call, Ending, Last, OwesSteal};
 use crate::due::{pay, share};
 use crate::entry::Unlocked;
+use crate::looking::take_from_own;
 use crate::names::{ExRealm, ExStoredRunnable};
 use crate::own_queues::{Numbered, OwnQueues, RunRoom};
 use crate::queues::{FromQueues, Queue};
-use crate::state::{OWN_PLACES, State, take};
+use crate::state::{OWN_PLACES, State};
 use crate::steal::steal;
 use crate::walks::Walk;
 use async_task::{GoesBack, NoMemory, Wake};
@@ -181,7 +182,7 @@ impl Runner {
         ensures drained { result ≡ None → self.new.is_drained ≡ true }
         ensures room { self.new.room ≡ self.old.room }
     {
-        let found = take(&self.own, rt, call);
+        let found = take_from_own(&self.own, rt, call);
         self.is_drained = found.is_none();
         found
     }
@@ -244,7 +245,7 @@ impl Runner {
         requires { call.old ≡ begun }
         ensures { call.new ≡ looked (is_some result) begun }
     {
-        if let Some(runnable) = take(&self.own, &rt, call) {
+        if let Some(runnable) = take_from_own(&self.own, &rt, call) {
             return Some(runnable);
         }
         if let Some(FromQueues { runnable, mark }) = state.search(&rt, call) {
@@ -295,7 +296,7 @@ impl Runner {
             if let Some(refused) = steal(rt, &listed.queue, &self.own) {
                 return (None, Some(refused));
             }
-            if let Some(runnable) = take(&self.own, rt, call) {
+            if let Some(runnable) = take_from_own(&self.own, rt, call) {
                 return (Some(runnable), None);
             }
         }

@@ -12,7 +12,8 @@ use crate::entry::Unlocked;
 use crate::foreign::Foreign;
 use crate::names::{ExDue, ExRealm, ExWaker};
 use crate::steps::Steps;
-use async_task::{Awaiter, Identity, Returning, StoredWaker, Wake};
+use crate::task_name::TaskName;
+use async_task::{Awaiter, Returning, StoredWaker, Wake};
 use call_steps::{Saw, Sleeping, TickOrRun, Waker};
 use std::sync::Wait;
 
@@ -26,28 +27,18 @@ pub enum SleeperWaker<W> {
 }
 
 impl<W> SleeperWaker<W> {
-    /// The waker, and who sleeps with it.
-    pub fn named(self) -> (Sleeping<Identity, ()>, Self)
-        ensures name { result.0 ≡ sleeper self }
-        ensures same { result.1 ≡ self }
+    /// Who sleeps with the waker.
+    #[inline(always)]
+    pub fn sleeper(&self) -> Sleeping<TaskName, ()>
+        ensures { result ≡ sleeper self.now }
     {
-        let who = TickOrRun::Tick(());
-        match self {
-            SleeperWaker::Task(waker) => {
-                let stored = waker.into_inner();
-                let waker = Waker::Task(stored.identity());
-                (
-                    Sleeping { waker, who },
-                    SleeperWaker::Task(Returning::new(stored)),
-                )
-            }
-            SleeperWaker::Outside(waker) => (
-                Sleeping {
-                    waker: Waker::Outside,
-                    who,
-                },
-                SleeperWaker::Outside(waker),
-            ),
+        let waker = match self {
+            SleeperWaker::Task(waker) => Waker::Task(TaskName::of_waker(waker)),
+            SleeperWaker::Outside(_) => Waker::Outside,
+        };
+        Sleeping {
+            waker,
+            who: TickOrRun::Tick(()),
         }
     }
 }

@@ -67,7 +67,7 @@ where
         Some((runnable, task, waker)) => {
             table.enter(vacancy, future, waker);
             let marked = Marked::of(runnable.into_scheduled());
-            steps.follow(Saw::Entered(marked.identity()));
+            steps.follow(Saw::Entered(marked.name()));
             Ok((marked, task))
         }
         None => {

@@ -1,17 +1,16 @@
 //! What the threads of an executor share, but for its futures.
-ghost use Rattle.std.specs.Prelude.{◌≡◌, ◌∷◌, [], ◌≢◌, ◌<◌, true, false, Some, None, IfOk, IfErr, IfNone, IfSome, OnSome, is_ok, is_some, length};
+ghost use Rattle.std.specs.Prelude.{◌≡◌, ◌≢◌, ◌<◌, true, false, Some, None, IfOk, IfErr, IfNone, IfSome, OnSome, is_ok, length};
 ghost use Rattle.task_moves.specs.declared.moves.owed.Move.TheVariants as move;
 ghost use Rattle.call_steps.specs.Seeing.{called, due, seen};
 ghost use Rattle.call_steps.specs.Todo.{below, following, top};
-ghost use Rattle.call_steps.specs.declared.names.Look.TheVariants as look;
 ghost use Rattle.call_steps.specs.declared.step.CallStep.TheVariants as step;
 ghost use Rattle.call_steps.specs.declared.step.table.QueueStep.TheVariants as queue_step;
 ghost use Rattle.call_steps.specs.declared.step.tick.SleeperStep.TheVariants as sleeper_step;
 ghost use Rattle.executor_parts.specs.Sleepers.{flag_of, last_waker, without_last};
 ghost use Rattle.async_executor.specs.Calls.{flag_woken_up};
 ghost use Rattle.async_executor.specs.Foreign.{value_of};
-ghost use Rattle.async_executor.specs.Stages.{begun, took, looked, looked_in};
-ghost use Rattle.async_executor.specs.Steps.{of_handed, of_stored, sleeper_of, tried, tried_first};
+ghost use Rattle.async_executor.specs.Stages.{begun, took};
+ghost use Rattle.async_executor.specs.Steps.{of_handed, sleeper_of};
 
 use crate::call::Call;
 use crate::due::Handed;
@@ -22,14 +21,15 @@ use crate::locks::{Guarded, ReadWrite};
 use crate::marked::Marked;
 use crate::names::{ExRealm, ExScheduled, ExStoredRunnable};
 use crate::own_queues::OwnQueues;
-use crate::queues::{FromQueues, Queue, Queues};
+use crate::queues::{Queue, Queues};
 use crate::sleeping::SleeperWaker;
 use crate::steps::Steps;
+use crate::task_name::TaskName;
 use crate::ticker::WokenUp;
 use crate::turns::Turns;
 use async_task::{GoesBack, NoMemory, Returning, Wake};
 use call_steps::Saw;
-use executor_parts::{Mark, Sleepers};
+use executor_parts::Sleepers;
 use std::alloc::Global;
 use std::sync::{Arc, Wait};
 
@@ -90,148 +90,6 @@ impl<W: Drop> State<W> {
         call.close_urgent();
         self.queues.plain.close(rt);
         call.close_plain();
-    }
-
-    /// Takes a turn, and then the first Runnable of the queue that this names, or else of the other one, as a try does.
-    #[inline(always)]
-    pub fn take<R: Wait>(&self, rt: &R, steps: &mut Steps) -> Option<ExStoredRunnable>
-        requires { steps.old ≡ step.Queue queue_step.TakeTurn ∷ [] }
-        ensures { steps.new ≡ tried (of_stored result) }
-    {
-        let mark = self.turns.take();
-        steps.follow(Saw::Turn(mark));
-        if let Some(runnable) = self.take_first(mark, rt, steps) {
-            return Some(runnable);
-        }
-        self.take_second(mark.other(), rt, steps)
-    }
-
-    /// The first look of a try. A queue that is empty is left after loads alone, with no pop.
-    #[inline(always)]
-    fn take_first<R: Wait>(&self, mark: Mark, rt: &R, steps: &mut Steps) -> Option<ExStoredRunnable>
-        requires { steps.old ≡ step.Queue (queue_step.Take (look.First mark)) ∷ [] }
-        ensures { steps.new ≡ tried_first mark (of_stored result) }
-    {
-        if self.queues.of(mark).is_empty(rt) {
-            steps.follow(Saw::Nothing);
-            return None;
-        }
-        match pop(self.queues.of(mark), rt) {
-            Some(runnable) => {
-                steps.follow(Saw::Found(runnable.identity()));
-                Some(runnable)
-            }
-            None => {
-                steps.follow(Saw::Nothing);
-                None
-            }
-        }
-    }
-
-    /// The second one.
-    #[inline(always)]
-    fn take_second<R: Wait>(
-        &self,
-        mark: Mark,
-        rt: &R,
-        steps: &mut Steps,
-    ) -> Option<ExStoredRunnable>
-        requires { steps.old ≡ step.Queue (queue_step.Take (look.Second mark)) ∷ [] }
-        ensures { steps.new ≡ tried (of_stored result) }
-    {
-        match pop(self.queues.of(mark), rt) {
-            Some(runnable) => {
-                steps.follow(Saw::Found(runnable.identity()));
-                Some(runnable)
-            }
-            None => {
-                steps.follow(Saw::Nothing);
-                None
-            }
-        }
-    }
-
-    /// Takes the first Runnable of the queue of this mark in hand, in a search or a drop, where there is one.
-    #[inline(always)]
-    fn look_in<R: Wait>(&self, mark: Mark, rt: &R, call: &mut Call) -> Option<ExStoredRunnable>
-        requires free { call.old.holds ≡ false }
-        requires told { call.old.owes ≡ false }
-        ensures { call.new ≡ looked_in mark (is_some result) call.old }
-    {
-        match pop(self.queues.of(mark), rt) {
-            Some(runnable) => {
-                call.look(mark, true);
-                Some(runnable)
-            }
-            None => {
-                call.look(mark, false);
-                None
-            }
-        }
-    }
-
-    /// The same. A queue that is empty is left after loads alone, with no pop.
-    #[inline(always)]
-    fn look_in_if_any<R: Wait>(
-        &self,
-        mark: Mark,
-        rt: &R,
-        call: &mut Call,
-    ) -> Option<ExStoredRunnable>
-        requires free { call.old.holds ≡ false }
-        requires told { call.old.owes ≡ false }
-        ensures { call.new ≡ looked_in mark (is_some result) call.old }
-    {
-        if self.queues.of(mark).is_empty(rt) {
-            call.look(mark, false);
-            return None;
-        }
-        self.look_in(mark, rt, call)
-    }
-
-    /// Takes the first Runnable of the queue of this mark in hand; where there is none, the first of the other one.
-    #[inline(always)]
-    pub fn look_from<R: Wait>(&self, mark: Mark, rt: &R, call: &mut Call) -> Option<FromQueues>
-        requires free { call.old.holds ≡ false }
-        requires told { call.old.owes ≡ false }
-        ensures { call.new ≡ looked (is_some result) call.old }
-    {
-        if let Some(runnable) = self.look_in_if_any(mark, rt, call) {
-            return Some(FromQueues { runnable, mark });
-        }
-        let mark = mark.other();
-        match self.look_in(mark, rt, call) {
-            Some(runnable) => Some(FromQueues { runnable, mark }),
-            None => {
-                call.find_none();
-                None
-            }
-        }
-    }
-
-    /// A search of the executor's queues: takes a turn, and then the first Runnable of the queue that this names, or else of the
-    /// other one.
-    #[inline(always)]
-    pub fn search<R: Wait>(&self, rt: &R, call: &mut Call) -> Option<FromQueues>
-        requires free { call.old.holds ≡ false }
-        requires told { call.old.owes ≡ false }
-        ensures { call.new ≡ looked (is_some result) call.old }
-    {
-        let mark = self.turns.take();
-        self.look_from(mark, rt, call)
-    }
-
-    /// The same for one who steals nothing then.
-    #[inline(always)]
-    pub fn look<R: Wait>(&self, rt: &R, call: &mut Call) -> Option<ExStoredRunnable>
-        requires free { call.old.holds ≡ false }
-        requires told { call.old.owes ≡ false }
-        ensures { call.new ≡ looked (is_some result) call.old }
-    {
-        match self.search(rt, call) {
-            Some(FromQueues { runnable, mark: _ }) => Some(runnable),
-            None => None,
-        }
     }
 
     /// Puts a Runnable into the executor's queue of its mark, or answers it where that is closed.
@@ -314,33 +172,6 @@ impl<W: Drop> State<W> {
     }
 }
 
-/// Takes the first Runnable of a queue, where there is one.
-#[inline(always)]
-fn pop<R: Wait>(queue: &Queue, rt: &R) -> Option<ExStoredRunnable> {
-    match queue.pop(rt) {
-        Ok(runnable) => Some(runnable.into_inner()),
-        Err(_) => None,
-    }
-}
-
-/// Takes the first Runnable of a run's own queue in hand, where there is one.
-pub fn take<R: Wait>(queue: &Queue, rt: &R, call: &mut Call) -> Option<ExStoredRunnable>
-    requires free { call.old.holds ≡ false }
-    requires told { call.old.owes ≡ false }
-    ensures { call.new ≡ took (is_some result) call.old }
-{
-    match pop(queue, rt) {
-        Some(runnable) => {
-            call.take(true);
-            Some(runnable)
-        }
-        None => {
-            call.take(false);
-            None
-        }
-    }
-}
-
 /// The section of the sleepers' lock in which the winner of the flag's exchange takes a waker out.
 pub fn hand_out<W>(
     sleepers: &mut Sleepers<SleeperWaker<W>>,
@@ -354,8 +185,7 @@ pub fn hand_out<W>(
 {
     match sleepers.hand_out() {
         Some(waker) => {
-            let (sleeper, waker) = waker.named();
-            steps.follow(Saw::HandedOut(sleeper));
+            steps.follow(Saw::HandedOut(waker.sleeper()));
             Some(Foreign::of(waker))
         }
         None => {
@@ -381,11 +211,11 @@ where
     ensures { steps.new ≡ due (of_handed result) (below steps.old) }
 {
     let _ = unlocked;
-    let closed = runnable.identity();
+    let closed = TaskName::of_runnable(&runnable);
     match runnable.close(rt, realm) {
         Ok(Some(due)) => {
             let handed = Handed::of(due);
-            steps.see_awaiter_woken(closed, handed.identity());
+            steps.see_awaiter_woken(&closed, handed.name());
             Some(handed)
         }
         Ok(None) => {
@@ -448,8 +278,8 @@ where
 }
 
 impl<W: Wake + Drop + 'static> State<W> {
-    /// Puts a Runnable into the executor's queue of its mark, and tells a sleeper. Where that leads to a task that has to be queued,
-    /// it is the answer. From a queue that is closed the Runnable comes back, and is dropped.
+    /// Puts a Runnable into the executor's queue of its mark, and tells a sleeper. Where that leads to a task that has to be
+    /// queued, it is the answer. From a queue that is closed the Runnable comes back, and is dropped.
     pub fn push<T, R>(
         &self,
         rt: R,

@@ -8,9 +8,11 @@ ghost use Rattle.async_executor.specs.Polling.{begun_as, end_by, settled_as};
 use crate::entry::Unlocked;
 use crate::names::{ExClosing, ExRunning, ExScheduled, ExWaker};
 use crate::steps::Steps;
-use async_task::moves::FutureDebt;
-use async_task::{Back, Due, Identity, RunEnd, Started, Wake};
+use crate::task_name::TaskName;
+use async_task::moves::{FutureDebt, Move};
+use async_task::{Back, Due, RunEnd, Started, Wake};
 use executor_parts::EntryPlace;
+use std::snapshot::Snapshot;
 use std::sync::Wait;
 
 /// What a task begins that is to be run.
@@ -47,6 +49,8 @@ where
     R: Wait + Copy + Drop + 'static,
 {
     closing: ExClosing<T, W, R>,
+    // By which move it ends.
+    ends: Snapshot<Move>,
 }
 
 /// How the poll of a task ends.
@@ -69,26 +73,26 @@ where
 #[inline(always)]
 pub fn begin<T, W, R>(
     scheduled: ExScheduled<T, W, R>,
-    name: Identity,
+    name: &TaskName,
     steps: &mut Steps,
 ) -> Begun<T, W, R>
 where
     T: Drop + 'static,
     W: Wake + Drop + 'static,
     R: Wait + Copy + Drop + 'static,
-    requires named { name ≡ scheduled.identity }
-    requires taken_up { top steps.old ≡ Some (step.Move move.TakeUp name) }
-    ensures { steps.new ≡ begun_as result name (below steps.old) }
+    requires named { name.now ≡ scheduled.identity }
+    requires taken_up { top steps.old ≡ Some (step.Move move.TakeUp name.now) }
+    ensures { steps.new ≡ begun_as result name.now (below steps.old) }
 {
     let _ = name;
     match scheduled.into_runnable().start() {
         Started::Poll(place, running) => {
-            steps.see_future(FutureDebt::PollFuture);
+            steps.see_future(FutureDebt::PollFuture, None);
             Begun::Poll(place, Polling { running })
         }
         Started::Drop(place, closing) => {
-            steps.see_future(FutureDebt::DropFuture);
-            Begun::Drop(place, Dropping { closing })
+            steps.see_future(FutureDebt::DropFuture, Some(Move::SettleClosed));
+            Begun::Drop(place, Dropping::by(closing, Move::SettleClosed))
         }
     }
 }
@@ -111,12 +115,12 @@ where
     pub fn settle(
         self,
         back: Back<EntryPlace, T>,
-        name: Identity,
+        name: &TaskName,
         steps: &mut Steps,
         unlocked: &Unlocked,
     ) -> Settled<T, W, R>
-        requires { top steps.old ≡ Some (step.Move (end_by back) name) }
-        ensures { steps.new ≡ settled_as result name (below steps.old) }
+        requires { top steps.old ≡ Some (step.Move (end_by back) name.now) }
+        ensures { steps.new ≡ settled_as result name.now (below steps.old) }
     {
         let (_, _) = (unlocked, name);
         let Polling { running } = self;
@@ -133,8 +137,8 @@ where
                 }
             }
             RunEnd::Drop(place, closing) => {
-                steps.see_future(FutureDebt::DropFuture);
-                Settled::Drop(place, Dropping { closing })
+                steps.see_future(FutureDebt::DropFuture, Some(Move::EndClosed));
+                Settled::Drop(place, Dropping::by(closing, Move::EndClosed))
             }
         }
     }
@@ -146,10 +150,24 @@ where
     W: Wake + Drop + 'static,
     R: Wait + Copy + Drop + 'static,
 {
+    /// One that ends by this move.
+    fn by(closing: ExClosing<T, W, R>, ends: Move) -> Self
+        ensures { result.ends.value ≡ ends }
+    {
+        Dropping {
+            closing,
+            ends: Snapshot::of(&ends),
+        }
+    }
+
     /// Ends the run, with no lock held, once the future is dropped.
-    pub fn finish(self, unlocked: &Unlocked) {
-        let _ = unlocked;
-        let Dropping { closing } = self;
+    pub fn finish(self, name: &TaskName, steps: &mut Steps, unlocked: &Unlocked)
+        requires { top steps.old ≡ Some (step.Move self.ends.value name.now) }
+        ensures { steps.new ≡ below steps.old }
+    {
+        let (_, _) = (unlocked, name);
+        let Dropping { closing, ends: _ } = self;
         closing.finish();
+        steps.see_moved(false);
     }
 }

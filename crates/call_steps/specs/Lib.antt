@@ -4,6 +4,7 @@ pub mod Sleeping
 pub mod Stealing
 pub mod Closing
 pub mod Next
+pub mod Fitting
 pub mod Begins
 pub mod Todo
 pub mod Seeing

@@ -1,6 +1,7 @@
 -- What a running call sees, and how that leaves what it has still to do.
 use Rattle.std.specs.Prelude.{◌≡◌, Bool, true, false, Option, Some, None, List, ◌∷◌}
 use Rattle.task_moves.specs.declared.moves.owed.FutureDebt.{FutureDebt}
+use Rattle.task_moves.specs.declared.moves.owed.Move.{Move}
 use Rattle.task_moves.specs.declared.moves.owed.Owed.{Owed}
 use Rattle.task_moves.specs.declared.schedule_info.ScheduleInfo.{ScheduleInfo}
 use Rattle.call_steps.specs.declared.names.Sleeping.{Sleeping}
@@ -29,14 +30,14 @@ owes is_due = record {
   empty_cell = false;
 }
 
--- this is owed to the future
-abbrev pub owes_future : FutureDebt → Owed
-owes_future debt = record {
+-- this is owed to the future, and this move follows
+abbrev pub owes_future : FutureDebt → Option Move → Owed
+owes_future debt next = record {
   schedule = None;
   future = Some debt;
   drop_output = false;
   awaiter = None;
-  next = None;
+  next = next;
   answer = None;
   empty_cell = false;
 }
@@ -47,18 +48,13 @@ module _ {F T : Type 0} where
   seen true = saw.Something
   seen false = saw.Nothing
 
-  -- the first Runnable of a queue
-  abbrev pub first : Option F → Saw F T
-  first None = saw.Nothing
-  first (Some f) = saw.Found f
-
   -- a task has moved, and all was paid but a Runnable, where that is due
   abbrev pub moved : Bool → Saw F T
   moved is_due = saw.Moved false (owes is_due)
 
-  -- a task has moved, and this is owed to its future
-  abbrev pub futured : FutureDebt → Saw F T
-  futured debt = saw.Moved true (owes_future debt)
+  -- a task has moved, and this is owed to its future, and then this move follows
+  abbrev pub futured : FutureDebt → Option Move → Saw F T
+  futured debt next = saw.Moved true (owes_future debt next)
 
   -- the waker that was handed out is called first
   abbrev pub called : Option (Sleeping F T) → List (CallStep F T) → List (CallStep F T)

@@ -2,7 +2,7 @@ use crate::names::{RunPoll, Sleeping, Stage, Waker};
 use executor_parts::Mark;
 
 /// What a call is asked to do, as it begins.
-#[derive(Clone, Copy)]
+#[derive(Drop)]
 pub enum Asked<F, T> {
     /// A future of this mark is handed to the executor.
     Spawn(Mark),

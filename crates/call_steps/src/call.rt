@@ -38,10 +38,10 @@ impl<F, T> Model for Call<F, T> {
     ghost view = { λ c. todo_of c.past.value };
 }
 
-/// How a call ended, which that call alone can say. Only contracts read it.
+/// How a call ended, which that call alone can say. Only contracts read it, so it has no bytes.
 #[derive(Drop)]
 pub struct Last {
-    reply: Reply,
+    reply: Snapshot<Reply>,
 }
 
 impl Model for Last {
@@ -49,26 +49,15 @@ impl Model for Last {
 
     ghost Value = { Reply };
 
-    ghost view = { λ l. l.reply };
+    ghost view = { λ l. l.reply.value };
 }
 
-impl Last {
-    ghost use Rattle.std.specs.Prelude.{◌≡◌};
-
-    /// What was answered.
-    pub fn reply(self) -> Reply
-        ensures { result ≡ self }
-    {
-        let Last { reply } = self;
-        reply
-    }
-}
-
-impl<F: Copy, T: Copy> Call<F, T> {
+impl<F: Drop, T: Drop> Call<F, T> {
     ghost use Rattle.std.specs.Prelude.{◌≡◌, [], ◌∷◌};
     ghost use Rattle.call_steps.specs.declared.step.CallStep.TheVariants as step;
     ghost use Rattle.call_steps.specs.Begins.{begins, part_begins};
-    ghost use Rattle.call_steps.specs.Todo.{following};
+    ghost use Rattle.call_steps.specs.Fitting.{Fits};
+    ghost use Rattle.call_steps.specs.Todo.{following, top};
 
     /// A call that is asked for this.
     #[inline(always)]
@@ -90,9 +79,10 @@ impl<F: Copy, T: Copy> Call<F, T> {
         }
     }
 
-    /// What was to be done next is done, and this was seen.
+    /// What was to be done next is done, and this was seen, which is of the kind that it sees.
     #[inline(always)]
     pub fn follow(&mut self, saw: Saw<F, T>)
+        requires { Fits (top self.old) saw }
         ensures { self.new ≡ following saw self.old }
     {
         let past = mem::replace(&mut self.past, begun(&Asked::TryTick));
@@ -106,7 +96,9 @@ impl<F: Copy, T: Copy> Call<F, T> {
         ensures { result ≡ reply }
     {
         let Call { past: _ } = self;
-        Last { reply }
+        Last {
+            reply: Snapshot::of(&reply),
+        }
     }
 
     /// A part of a call ends that answers nothing, with nothing left to do.
@@ -119,7 +111,7 @@ impl<F: Copy, T: Copy> Call<F, T> {
 }
 
 #[inline(always)]
-fn begun<F: Copy, T: Copy>(asked: &Asked<F, T>) -> Snapshot<Past<F, T>>
+fn begun<F: Drop, T: Drop>(asked: &Asked<F, T>) -> Snapshot<Past<F, T>>
     ensures { todo_of result.value ≡ begins asked.now }
 {
     Snapshot::of(&Past::Begun(Snapshot::of(asked)))

@@ -2,28 +2,28 @@ use crate::reply::Reply;
 use executor_parts::Mark;
 
 /// A waker: of the task of this future, or from outside of the executor.
-#[derive(Clone, Copy)]
+#[derive(Drop)]
 pub enum Waker<F> {
     Task(F),
     Outside,
 }
 
 /// Who falls asleep among the sleepers.
-#[derive(Clone, Copy)]
+#[derive(Drop)]
 pub enum TickOrRun<T> {
     Tick(T),
     Run(T),
 }
 
 /// Who falls asleep, and the waker that it falls asleep with.
-#[derive(Clone, Copy)]
+#[derive(Drop)]
 pub struct Sleeping<F, T> {
     pub waker: Waker<F>,
     pub who: TickOrRun<T>,
 }
 
 /// A poll of a run: the run, and the waker that it was given.
-#[derive(Clone, Copy)]
+#[derive(Drop)]
 pub struct RunPoll<F, T> {
     pub run: T,
     pub waker: Waker<F>,
@@ -38,7 +38,7 @@ pub enum Stage {
 }
 
 /// What is done with the list of the runs' own queues under its write lock.
-#[derive(Clone, Copy)]
+#[derive(Drop)]
 pub enum Section<F, T> {
     /// A run is made: room in the list, and an own queue.
     MakeRun,
@@ -58,7 +58,7 @@ pub enum Look {
 }
 
 /// A queue that a run steals from.
-#[derive(Clone, Copy)]
+#[derive(Drop)]
 pub enum Source<T> {
     /// The executor's queue of this mark.
     Common(Mark),
@@ -67,7 +67,7 @@ pub enum Source<T> {
 }
 
 /// What a run goes on with once a steal has ended.
-#[derive(Clone, Copy)]
+#[derive(Drop)]
 pub enum Then<F> {
     /// With this future, which it has found.
     Found(F),
@@ -80,7 +80,7 @@ pub enum Then<F> {
 }
 
 /// A steal: the poll of the run that steals, where it steals from, and what it goes on with.
-#[derive(Clone, Copy)]
+#[derive(Drop)]
 pub struct Steal<F, T> {
     pub poll: RunPoll<F, T>,
     pub from: Source<T>,

@@ -1,7 +1,7 @@
 use crate::names::Sleeping;
 
 /// What a part of a call is to do, which stands for itself: whatever led to it, no call waits for its answer.
-#[derive(Clone, Copy)]
+#[derive(Drop)]
 pub enum Part<F, T> {
     /// A Runnable of this future is handed to the executor's queue.
     Append(F),

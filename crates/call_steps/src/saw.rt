@@ -12,7 +12,7 @@ pub struct Searcher {
 }
 
 /// What a step of a call finds.
-#[derive(Clone, Copy)]
+#[derive(Drop)]
 pub enum Saw<F, T> {
     /// Nothing was there, or the exchange was lost, or it was kept out; or user code has ended that answers nothing.
     Nothing,

@@ -1,7 +1,12 @@
 //! What running calls see most often.
-ghost use Rattle.std.specs.Prelude.{◌≡◌, Some, None, false};
+ghost use Rattle.std.specs.Prelude.{◌≡◌, ◌∷◌, Some, None, false};
 ghost use Rattle.task_moves.specs.declared.moves.owed.Move.TheVariants as move;
+ghost use Rattle.call_steps.specs.declared.saw.Saw.TheVariants as saw;
+ghost use Rattle.call_steps.specs.declared.names.Waker.TheVariants as waker;
 ghost use Rattle.call_steps.specs.declared.step.CallStep.TheVariants as step;
+ghost use Rattle.call_steps.specs.declared.step.handle.HandleStep.TheVariants as handle_step;
+ghost use Rattle.call_steps.specs.declared.step.handle.WakerStep.TheVariants as waker_step;
+ghost use Rattle.call_steps.specs.Fitting.{Fits};
 ghost use Rattle.call_steps.specs.Seeing.{due, futured, moved, seen};
 ghost use Rattle.call_steps.specs.Todo.{below, following, top};
 
@@ -9,12 +14,14 @@ use crate::call::Call;
 use crate::names::Waker;
 use crate::saw::Saw;
 use task_moves::ScheduleInfo;
-use task_moves::moves::{AwaiterDebt, FutureDebt, Owed};
+use task_moves::moves::{AwaiterDebt, FutureDebt, Move, Owed};
 
-impl<F: Copy, T: Copy> Call<F, T> {
+impl<F: Drop, T: Drop> Call<F, T> {
     /// It was there, or was made; or not.
     #[inline(always)]
     pub fn see(&mut self, there: bool)
+        requires something { Fits (top self.old) saw.Something }
+        requires nothing { Fits (top self.old) saw.Nothing }
         ensures { self.new ≡ following (seen there) self.old }
     {
         if there {
@@ -27,37 +34,56 @@ impl<F: Copy, T: Copy> Call<F, T> {
     /// A task has moved, and all that it owed was paid in that, but for its Runnable, where that is due.
     #[inline(always)]
     pub fn see_moved(&mut self, is_due: bool)
+        requires { Fits (top self.old) (moved is_due) }
         ensures { self.new ≡ following (moved is_due) self.old }
     {
         if is_due {
             let info = ScheduleInfo {
                 woken_while_running: false,
             };
-            self.follow(Saw::Moved(false, owing(Some(info), None, None)));
+            self.follow(Saw::Moved(false, owing(Some(info), None, None, None)));
         } else {
-            self.follow(Saw::Moved(false, owing(None, None, None)));
+            self.follow(Saw::Moved(false, owing(None, None, None, None)));
         }
     }
 
-    /// A task has moved: this is owed to its future, and all else was paid in that.
+    /// A task has moved: this is owed to its future, and this move follows, where one does. All else was paid in that.
     #[inline(always)]
-    pub fn see_future(&mut self, debt: FutureDebt)
-        ensures { self.new ≡ following (futured debt) self.old }
+    pub fn see_future(&mut self, debt: FutureDebt, next: Option<Move>)
+        requires { Fits (top self.old) (futured debt next) }
+        ensures { self.new ≡ following (futured debt next) self.old }
     {
-        self.follow(Saw::Moved(true, owing(None, Some(debt), None)));
+        self.follow(Saw::Moved(true, owing(None, Some(debt), None, next)));
     }
 
     /// A Runnable of the first future was closed. The second awaited that one, and was woken: its Runnable is due.
-    pub fn see_awaiter_woken(&mut self, closed: F, awaiter: F)
-        requires { top self.old ≡ Some (step.Move move.DropRunnable closed) }
+    pub fn see_awaiter_woken(&mut self, closed: &F, awaiter: F)
+        requires { top self.old ≡ Some (step.Move move.DropRunnable closed.now) }
         ensures { self.new ≡ due (Some awaiter) (below self.old) }
+    {
+        self.see_awaiter_owed(closed);
+        self.see_awaiter_taken(closed, awaiter);
+        self.see_moved(true);
+    }
+
+    /// A Runnable was closed, and who awaits its task is to be notified.
+    fn see_awaiter_owed(&mut self, closed: &F)
+        requires { top self.old ≡ Some (step.Move move.DropRunnable closed.now) }
+        ensures { self.new ≡ step.Handle (handle_step.Notify closed.now false) ∷ below self.old }
     {
         let _ = closed;
         let told = Some(AwaiterDebt::NotifyAwaiter);
-        self.follow(Saw::Moved(false, owing(None, None, told)));
+        self.follow(Saw::Moved(false, owing(None, None, told, None)));
+    }
+
+    /// The awaiter was taken out: a waker of the second task, which is to be called.
+    fn see_awaiter_taken(&mut self, closed: &F, awaiter: F)
+        requires { top self.old ≡ Some (step.Handle (handle_step.Notify closed.now false)) }
+        ensures { self.new ≡ step.Waker (waker_step.CallAwaiter closed.now (waker.Task awaiter)) ∷ below self.old }
+    {
+        let _ = closed;
         self.follow(Saw::Awaiter(false, None));
         self.follow(Saw::Awaiter(false, Some(Waker::Task(awaiter))));
-        self.see_moved(true);
     }
 }
 
@@ -67,13 +93,14 @@ fn owing(
     schedule: Option<ScheduleInfo>,
     future: Option<FutureDebt>,
     awaiter: Option<AwaiterDebt>,
+    next: Option<Move>,
 ) -> Owed
     ensures { result ≡ record {
       schedule = schedule;
       future = future;
       drop_output = false;
       awaiter = awaiter;
-      next = None;
+      next = next;
       answer = None;
       empty_cell = false;
     } }
@@ -83,7 +110,7 @@ fn owing(
         future,
         drop_output: false,
         awaiter,
-        next: None,
+        next,
         answer: None,
         empty_cell: false,
     }

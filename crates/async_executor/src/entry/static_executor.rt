@@ -73,12 +73,14 @@ where
         ensures here { IfOk result (λ task. task.identity.realm ≡ self.now.body.realm.now.number) }
         ensures marked { IfOk result (λ task. task.metadata ≡ mark) }
     {
-        self.body.hand_in(future, mark, &mut Unlocked::at_entry())
+        let (spawned, _last) = self.body.hand_in(future, mark, &mut Unlocked::at_entry());
+        spawned
     }
 
     /// Runs one task, where one is queued, and says whether it did. It doesn't wait for one, and takes no memory.
     pub fn try_tick(&self) -> bool {
-        self.body.run_one(&mut Unlocked::at_entry())
+        let (is_run, _last) = self.body.run_one(&mut Unlocked::at_entry());
+        is_run
     }
 
     /// A future that waits for a future of the executor which is to be polled, and polls it once.

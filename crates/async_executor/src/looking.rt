@@ -1,0 +1,188 @@
+//! How a try, a search and a drop look into queues.
+ghost use Rattle.std.specs.Prelude.{◌≡◌, ◌∷◌, [], false, is_some};
+ghost use Rattle.call_steps.specs.declared.names.Look.TheVariants as look;
+ghost use Rattle.call_steps.specs.declared.step.CallStep.TheVariants as step;
+ghost use Rattle.call_steps.specs.declared.step.table.QueueStep.TheVariants as queue_step;
+ghost use Rattle.async_executor.specs.Stages.{took, looked, looked_in};
+ghost use Rattle.async_executor.specs.Steps.{of_stored, tried, tried_first};
+
+use crate::call::Call;
+use crate::names::ExStoredRunnable;
+use crate::queues::{FromQueues, Queue};
+use crate::state::State;
+use crate::steps::Steps;
+use crate::task_name::TaskName;
+use call_steps::Saw;
+use executor_parts::Mark;
+use std::sync::Wait;
+
+impl<W: Drop> State<W> {
+    /// Takes a turn, and then the first Runnable of the queue that this names, or else of the other one, as a try does.
+    #[inline(always)]
+    pub fn take_in_turn<R: Wait>(&self, rt: &R, steps: &mut Steps) -> Option<ExStoredRunnable>
+        requires { steps.old ≡ step.Queue queue_step.TakeTurn ∷ [] }
+        ensures { steps.new ≡ tried (of_stored result) }
+    {
+        let mark = self.turns.take();
+        steps.follow(Saw::Turn(mark));
+        if let Some(runnable) = self.take_first(mark, rt, steps) {
+            return Some(runnable);
+        }
+        self.take_second(mark.other(), rt, steps)
+    }
+
+    /// The first look of a try. A queue that is empty is left after loads alone, with no pop.
+    #[inline(always)]
+    fn take_first<R: Wait>(&self, mark: Mark, rt: &R, steps: &mut Steps) -> Option<ExStoredRunnable>
+        requires { steps.old ≡ step.Queue (queue_step.Take (look.First mark)) ∷ [] }
+        ensures { steps.new ≡ tried_first mark (of_stored result) }
+    {
+        if self.queues.of(mark).is_empty(rt) {
+            steps.follow(Saw::Nothing);
+            return None;
+        }
+        match pop(self.queues.of(mark), rt) {
+            Some(runnable) => {
+                steps.follow(Saw::Found(TaskName::of_runnable(&runnable)));
+                Some(runnable)
+            }
+            None => {
+                steps.follow(Saw::Nothing);
+                None
+            }
+        }
+    }
+
+    /// The second one.
+    #[inline(always)]
+    fn take_second<R: Wait>(
+        &self,
+        mark: Mark,
+        rt: &R,
+        steps: &mut Steps,
+    ) -> Option<ExStoredRunnable>
+        requires { steps.old ≡ step.Queue (queue_step.Take (look.Second mark)) ∷ [] }
+        ensures { steps.new ≡ tried (of_stored result) }
+    {
+        match pop(self.queues.of(mark), rt) {
+            Some(runnable) => {
+                steps.follow(Saw::Found(TaskName::of_runnable(&runnable)));
+                Some(runnable)
+            }
+            None => {
+                steps.follow(Saw::Nothing);
+                None
+            }
+        }
+    }
+
+    /// Takes the first Runnable of the queue of this mark in hand, in a search or a drop, where there is one.
+    #[inline(always)]
+    fn look_in<R: Wait>(&self, mark: Mark, rt: &R, call: &mut Call) -> Option<ExStoredRunnable>
+        requires free { call.old.holds ≡ false }
+        requires told { call.old.owes ≡ false }
+        ensures { call.new ≡ looked_in mark (is_some result) call.old }
+    {
+        match pop(self.queues.of(mark), rt) {
+            Some(runnable) => {
+                call.look(mark, true);
+                Some(runnable)
+            }
+            None => {
+                call.look(mark, false);
+                None
+            }
+        }
+    }
+
+    /// The same. A queue that is empty is left after loads alone, with no pop.
+    #[inline(always)]
+    fn look_in_if_any<R: Wait>(
+        &self,
+        mark: Mark,
+        rt: &R,
+        call: &mut Call,
+    ) -> Option<ExStoredRunnable>
+        requires free { call.old.holds ≡ false }
+        requires told { call.old.owes ≡ false }
+        ensures { call.new ≡ looked_in mark (is_some result) call.old }
+    {
+        if self.queues.of(mark).is_empty(rt) {
+            call.look(mark, false);
+            return None;
+        }
+        self.look_in(mark, rt, call)
+    }
+
+    /// Takes the first Runnable of the queue of this mark in hand; where there is none, the first of the other one.
+    #[inline(always)]
+    pub fn look_from<R: Wait>(&self, mark: Mark, rt: &R, call: &mut Call) -> Option<FromQueues>
+        requires free { call.old.holds ≡ false }
+        requires told { call.old.owes ≡ false }
+        ensures { call.new ≡ looked (is_some result) call.old }
+    {
+        if let Some(runnable) = self.look_in_if_any(mark, rt, call) {
+            return Some(FromQueues { runnable, mark });
+        }
+        let mark = mark.other();
+        match self.look_in(mark, rt, call) {
+            Some(runnable) => Some(FromQueues { runnable, mark }),
+            None => {
+                call.find_none();
+                None
+            }
+        }
+    }
+
+    /// A search of the executor's queues: takes a turn, and then the first Runnable of the queue that this names, or else of the
+    /// other one.
+    #[inline(always)]
+    pub fn search<R: Wait>(&self, rt: &R, call: &mut Call) -> Option<FromQueues>
+        requires free { call.old.holds ≡ false }
+        requires told { call.old.owes ≡ false }
+        ensures { call.new ≡ looked (is_some result) call.old }
+    {
+        let mark = self.turns.take();
+        self.look_from(mark, rt, call)
+    }
+
+    /// The same for one who steals nothing then.
+    #[inline(always)]
+    pub fn look<R: Wait>(&self, rt: &R, call: &mut Call) -> Option<ExStoredRunnable>
+        requires free { call.old.holds ≡ false }
+        requires told { call.old.owes ≡ false }
+        ensures { call.new ≡ looked (is_some result) call.old }
+    {
+        match self.search(rt, call) {
+            Some(FromQueues { runnable, mark: _ }) => Some(runnable),
+            None => None,
+        }
+    }
+}
+
+/// Takes the first Runnable of a queue, where there is one.
+#[inline(always)]
+fn pop<R: Wait>(queue: &Queue, rt: &R) -> Option<ExStoredRunnable> {
+    match queue.pop(rt) {
+        Ok(runnable) => Some(runnable.into_inner()),
+        Err(_) => None,
+    }
+}
+
+/// Takes the first Runnable of a run's own queue in hand, where there is one.
+pub fn take_from_own<R: Wait>(queue: &Queue, rt: &R, call: &mut Call) -> Option<ExStoredRunnable>
+    requires free { call.old.holds ≡ false }
+    requires told { call.old.owes ≡ false }
+    ensures { call.new ≡ took (is_some result) call.old }
+{
+    match pop(queue, rt) {
+        Some(runnable) => {
+            call.take(true);
+            Some(runnable)
+        }
+        None => {
+            call.take(false);
+            None
+        }
+    }
+}

@@ -4,8 +4,6 @@
 mod door;
 #[cfg(test)]
 mod many;
-#[cfg(test)]
-mod marks;
 mod moving;
 #[cfg(test)]
 mod runs;

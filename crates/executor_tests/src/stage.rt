@@ -3,10 +3,9 @@
 ghost use Rattle.std.specs.Prelude.{◌<◌};
 
 use crate::parts::{
-    Bell, Gift, Job, Notes, TestExecutor, TestRealm, TestStatic, TestTask, TestWaker, Work,
-    drop_stored,
+    Bell, Gift, Job, Notes, TestExecutor, TestRealm, TestStatic, TestWaker, Work, drop_stored,
 };
-use async_executor::{ExStoredTask, Mark, Run, RunError, SpawnError, Tick};
+use async_executor::{ExStoredTask, Mark, Run, RunError, Tick};
 use async_task::{Awaiter, Future, NoMemory, Poll, RealmError, Returning};
 use std::alloc::Global;
 use std::process::Abort;
@@ -171,23 +170,13 @@ impl<F: Planned<R>, R: Abort + Wait + Copy + Drop + 'static> Stage<F, R> {
         })
     }
 
-    fn accept(&self, future: F) -> Result<TestTask<R>, SpawnError<F>> {
-        match &self.executor {
-            TestKind::Owned(executor) => executor.spawn(future),
-            TestKind::Static(executor) => executor.spawn(future),
-        }
-    }
-
-    fn accept_marked(&self, future: F, mark: Mark) -> Result<TestTask<R>, SpawnError<F>> {
-        match &self.executor {
-            TestKind::Owned(executor) => executor.spawn_marked(future, mark),
-            TestKind::Static(executor) => executor.spawn_marked(future, mark),
-        }
-    }
-
     /// Spawns a future. Its handle is the answer, where it is accepted.
     pub fn spawn(&self, future: F) -> Option<Returning<ExStoredTask>> {
-        match self.accept(future) {
+        let accepted = match &self.executor {
+            TestKind::Owned(executor) => executor.spawn(future),
+            TestKind::Static(executor) => executor.spawn(future),
+        };
+        match accepted {
             Ok(task) => {
                 self.accepted.fetch_add(1, SeqCst);
                 Some(Returning::new(task.store()))
@@ -203,7 +192,11 @@ impl<F: Planned<R>, R: Abort + Wait + Copy + Drop + 'static> Stage<F, R> {
 
     /// The same, of either mark.
     pub fn spawn_to_run(&self, future: F, mark: Mark) -> bool {
-        match self.accept_marked(future, mark) {
+        let accepted = match &self.executor {
+            TestKind::Owned(executor) => executor.spawn_marked(future, mark),
+            TestKind::Static(executor) => executor.spawn_marked(future, mark),
+        };
+        match accepted {
             Ok(task) => {
                 self.accepted.fetch_add(1, SeqCst);
                 task.detach();

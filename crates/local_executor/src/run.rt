@@ -3,7 +3,6 @@ ghost use Rattle.std.specs.Prelude.{◌≡◌, Some};
 ghost use Rattle.local_executor.specs.Runs.{IsRunAnswer};
 
 use crate::body::Body;
-use crate::copying::{Copied, copy_for};
 use crate::entry::{LocalExWaker, LocalRun, Unlocked};
 use crate::errors::RunError;
 use crate::foreign::{Foreign, let_go};
@@ -160,8 +159,7 @@ where
     W: Wake + Drop,
     R: Wait + Copy + Drop,
 {
-    /// A run looks for a task, and walks from this starting word on. Where there is none it falls asleep with a copy of its
-    /// waker. One of a task of another executor can't be kept: it is called at once.
+    /// A run looks for a task, and walks from this starting word on. Where there is none it falls asleep.
     fn seek(
         &self,
         running: Running,
@@ -178,39 +176,15 @@ where
             start,
         );
         match searched {
-            Ok(ran) => self.ran(runner, ran, false, unlocked),
-            Err(missed) => self.fall_asleep(runner, missed, start, waker, unlocked),
-        }
-    }
-
-    fn fall_asleep(
-        &self,
-        runner: Runner,
-        missed: Missed,
-        start: u64,
-        waker: &LocalExWaker<W, R>,
-        unlocked: &mut Unlocked,
-    ) -> Sought {
-        let Missed { ticker, has_walked } = missed;
-        let mut runner = runner;
-        let step = match copy_for(&self.link, waker, unlocked) {
-            Copied::Kept(copy) => {
-                let ran = sections::run_take(
-                    self.link.lock(unlocked).get(),
-                    &mut runner,
-                    ticker,
-                    copy,
-                    start,
-                );
-                return self.ran(runner, ran, has_walked, unlocked);
+            Ok(ran) => self.ran(runner, ran, unlocked),
+            Err(Missed { ticker, has_walked }) => {
+                let Looked { ticker, step } = self.fall_asleep(ticker, waker, unlocked);
+                Sought {
+                    running: Running { runner, ticker },
+                    step: step_of(step, false),
+                    has_walked,
+                }
             }
-            Copied::Called => RunStep::Pending,
-            Copied::Refused => RunStep::NoMemory,
-        };
-        Sought {
-            running: Running { runner, ticker },
-            step,
-            has_walked,
         }
     }
 
@@ -219,7 +193,6 @@ where
         &self,
         runner: Runner,
         ran: Ran<EntryPlace, Foreign<W>>,
-        had_walked: bool,
         unlocked: &mut Unlocked,
     ) -> Sought {
         let Ran {
@@ -231,7 +204,7 @@ where
         Sought {
             running: Running { runner, ticker },
             step: step_of(step, gives_way),
-            has_walked: had_walked || has_walked,
+            has_walked,
         }
     }
 }

@@ -203,16 +203,16 @@ pub fn tick_search<W>(
     }
 }
 
-/// A tick looks for a task, or falls asleep with a waker.
-pub fn tick_take<W>(
+/// A tick or run that has found no task falls asleep with a waker, unless one is queued by now.
+pub fn tick_sleep<W>(
     tasks: &mut Tasks<W>,
     ticker: Ticker,
     waker: SoloWaker<Foreign<W>>,
 ) -> Ticked<EntryPlace, Foreign<W>>
-    ensures tasks { tasks.new ≡ ticks.taken ticker waker tasks.old }
-    ensures ticked { result ≡ ticks.take_answer ticker waker tasks.old }
+    ensures tasks { tasks.new ≡ ticks.slept ticker waker tasks.old }
+    ensures ticked { result ≡ ticks.slept_answer ticker waker tasks.old }
 {
-    ticked_out(tasks.tick_take(ticker, waker_in(waker)))
+    ticked_out(tasks.tick_sleep(ticker, waker_in(waker)))
 }
 
 /// A tick goes.
@@ -272,21 +272,6 @@ pub fn run_search<W>(
         Ok(ran) => Ok(ran_out(ran)),
         Err(missed) => Err(missed),
     }
-}
-
-/// A run looks for a task, or falls asleep with a waker.
-pub fn run_take<W>(
-    tasks: &mut Tasks<W>,
-    runner: &mut Runner,
-    ticker: Ticker,
-    waker: SoloWaker<Foreign<W>>,
-    start: u64,
-) -> Ran<EntryPlace, Foreign<W>>
-    ensures tasks { tasks.new ≡ runs.took runner.old ticker waker start tasks.old }
-    ensures runner { runner.new ≡ runs.runner_after runner.old start tasks.old }
-    ensures ran { result ≡ runs.take_answer runner.old ticker waker start tasks.old }
-{
-    ran_out(tasks.run_take(runner, ticker, waker_in(waker), start))
 }
 
 /// A run begins to leave.

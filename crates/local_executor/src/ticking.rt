@@ -95,8 +95,7 @@ where
     W: Wake + Drop,
     R: Wait + Copy + Drop,
 {
-    /// A tick looks for a task. Where there is none it falls asleep with a copy of its waker. One of a task of another executor
-    /// can't be kept: it is called at once.
+    /// A tick looks for a task. Where there is none it falls asleep.
     fn search(
         &self,
         ticker: Ticker,
@@ -104,13 +103,23 @@ where
         unlocked: &mut Unlocked,
     ) -> Looked {
         let searched = sections::tick_search(self.link.lock(unlocked).get(), ticker);
-        let ticker = match searched {
-            Ok(ticked) => return self.looked(ticked, unlocked),
-            Err(ticker) => ticker,
-        };
+        match searched {
+            Ok(ticked) => self.looked(ticked, unlocked),
+            Err(ticker) => self.fall_asleep(ticker, waker, unlocked),
+        }
+    }
+
+    /// A tick or run that has found no task falls asleep with a copy of its waker. One of a task of another executor can't be kept:
+    /// it is called at once.
+    pub(crate) fn fall_asleep(
+        &self,
+        ticker: Ticker,
+        waker: &LocalExWaker<W, R>,
+        unlocked: &mut Unlocked,
+    ) -> Looked {
         match copy_for(&self.link, waker, unlocked) {
             Copied::Kept(copy) => {
-                let ticked = sections::tick_take(self.link.lock(unlocked).get(), ticker, copy);
+                let ticked = sections::tick_sleep(self.link.lock(unlocked).get(), ticker, copy);
                 self.looked(ticked, unlocked)
             }
             Copied::Called => Looked {

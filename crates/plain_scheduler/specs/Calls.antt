@@ -112,9 +112,12 @@ module _ {T A : Type 0} (wakes : A → Option ℕ) (c : Choice) where
       let q = runs (λ run. record run { is_over = true }) r p in
       moves.leaves wakes c (ARun r) (repeat (count_by (is_kept r) p.due) (λ p. tell (moved None (is_kept r) p)) q)
 
-  -- each future that isn't dropped is appended, if it is idle, and the scheduler's waker given up
+  -- each future that isn't dropped is appended, if it is idle, and the scheduler's waker given up, which queues nothing
+  abbrev pub freed : ℕ → Plain T A → Plain T A
+  freed f p = moves.release wakes tell f (moves.wake wakes tell f p)
+
   abbrev pub leak : Plain T A → Plain T A
-  leak p = each (living p) (moves.used wakes tell) (record p { is_static = true })
+  leak p = each (living p) freed (record p { is_static = true })
 
   -- the executor's drop: each future is dropped, in the order of spawning; then those that await them are called
   abbrev pub closed : ℕ → Plain T A → Plain T A
@@ -127,7 +130,7 @@ module _ {T A : Type 0} (wakes : A → Option ℕ) (c : Choice) where
       each (filter (is_common Urgent) p.due ++ filter (is_common PlainMark) p.due) (λ d. closed d.future) (record p { due = [] })
 
   abbrev pub close : List ℕ → List ℕ → Plain T A → Plain T A
-  close [] all p = answers Done (swept (each all (moves.used wakes tell) p))
+  close [] all p = answers Done (swept (each all freed p))
   close (f ∷ fs) all p =
       enters (Close fs all) (see (Drops f) (changed (λ future. record future { is_dropped = true }) f p))
 

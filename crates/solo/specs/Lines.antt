@@ -1,5 +1,5 @@
 -- The executor's two queues, by the marks of the tasks in them, and the turns that say at which one a search looks first.
-use Rattle.std.specs.Prelude.{ℕ, ◌+◌, ◌^◌, ◌%◌, ◌==◌, Option, Some, None, slice_get}
+use Rattle.std.specs.Prelude.{ℕ, ◌+◌, ◌^◌, ◌%◌, ◌==◌, ◌&&◌, Bool, Option, Some, None, length, slice_get}
 use Rattle.queue_steps.specs.ClosableQueue.{ClosableQueue, new_queue, count_of_new, taken as without_first, shut}
 use Rattle.executor_parts.specs.declared.mark.Mark.{Mark}
 use Rattle.executor_parts.specs.declared.mark.Mark.TheVariants.{Plain, Urgent}
@@ -69,6 +69,10 @@ searched l = taken_from (mark_of_turn l.turn) (turned l)
 
 abbrev pub search_answer : LinesValue → FromLines
 search_answer l = found_from (mark_of_turn l.turn) (turned l)
+
+-- no task waits in either queue
+abbrev pub is_empty : LinesValue → Bool
+is_empty l = (length l.urgent.items == 0) && (length l.plain.items == 0)
 
 abbrev pub shut_both : LinesValue → LinesValue
 shut_both l = record l { urgent = shut l.urgent; plain = shut l.plain }

@@ -106,18 +106,18 @@ module _ {F T X : Type 0} where
       let found = seek_answer runner.number start s in
       take_answer_by found.task found.has_walked runner ticker waker (sought runner.number start s)
 
-  abbrev pub searched_by : Option Task → ℕ → Runner → Ticker → Solo F T X → Solo F T X
-  searched_by (Some task) turn runner ticker s = found runner ticker task s
-  searched_by None turn runner ticker s = ticks.unturned turn s
+  abbrev pub searched_by : Option Task → Runner → Ticker → Solo F T X → Solo F T X
+  searched_by (Some task) runner ticker s = found runner ticker task s
+  searched_by None runner ticker s = s
 
   abbrev pub search_answer_by : Option Task → Bool → Runner → Ticker → Solo F T X → Result (Ran F X) Missed
   search_answer_by (Some task) walked runner ticker s = Ok (found_answer runner ticker None task walked s)
   search_answer_by None walked runner ticker s = Err (record { ticker = ticker; has_walked = walked })
 
-  -- what it finds is taken; where there is nothing its ticker comes back, and its turn
+  -- what it finds is taken; where there is nothing its ticker comes back
   abbrev pub searched : Runner → Ticker → ℕ → Solo F T X → Solo F T X
   searched runner ticker start s =
-      searched_by (seek_answer runner.number start s).task s.lines.turn runner ticker (sought runner.number start s)
+      searched_by (seek_answer runner.number start s).task runner ticker (sought runner.number start s)
 
   abbrev pub search_answer : Runner → Ticker → ℕ → Solo F T X → Result (Ran F X) Missed
   search_answer runner ticker start s =

@@ -14,6 +14,7 @@ use Rattle.solo.specs.declared.ticks.Ticked.{Ticked}
 use Rattle.solo.specs.declared.ticks.Dropped.{Dropped}
 use Rattle.solo.specs.declared.solo.Solo.{Solo}
 use Rattle.solo.specs.Cells.{choose}
+use Rattle.solo.specs.Lines.{is_empty}
 use Rattle.solo.specs.Solo.{popped, sought}
 use Rattle.solo.specs.Turns as turns
 
@@ -148,24 +149,28 @@ module _ {F T X : Type 0} where
   abbrev pub take_answer : Ticker → SoloWaker X → Solo F T X → Ticked F X
   take_answer ticker waker s = take_answer_by (sought s) ticker waker (popped s)
 
-  -- a turn is given back
-  abbrev pub unturned : ℕ → Solo F T X → Solo F T X
-  unturned turn s = record s { lines = record s.lines { turn = turn } }
-
-  abbrev pub searched_by : Option Task → ℕ → Ticker → Solo F T X → Solo F T X
-  searched_by (Some task) turn ticker s = found ticker task s
-  searched_by None turn ticker s = unturned turn s
+  abbrev pub searched_by : Option Task → Ticker → Solo F T X → Solo F T X
+  searched_by (Some task) ticker s = found ticker task s
+  searched_by None ticker s = s
 
   abbrev pub search_answer_by : Option Task → Ticker → Solo F T X → Result (Ticked F X) Ticker
   search_answer_by (Some task) ticker s = Ok (found_answer ticker None task s)
   search_answer_by None ticker s = Err ticker
 
-  -- the task that a search finds is taken; where there is none the tick comes back, and its turn
+  -- the task that a search finds is taken; where there is none the tick comes back
   abbrev pub searched : Ticker → Solo F T X → Solo F T X
-  searched ticker s = searched_by (sought s) s.lines.turn ticker (popped s)
+  searched ticker s = searched_by (sought s) ticker (popped s)
 
   abbrev pub search_answer : Ticker → Solo F T X → Result (Ticked F X) Ticker
   search_answer ticker s = search_answer_by (sought s) ticker (popped s)
+
+  -- whose search has found nothing falls asleep, unless a task is queued by now: then it searches again
+  abbrev pub slept : Ticker → SoloWaker X → Solo F T X → Solo F T X
+  slept ticker waker s = choose (is_empty s.lines) (fallen_asleep ticker waker s) s
+
+  abbrev pub slept_answer : Ticker → SoloWaker X → Solo F T X → Ticked F X
+  slept_answer ticker waker s =
+      choose (is_empty s.lines) (sleep_answer ticker waker s) (look_answer ticker Again None (Some waker) s)
 
   -- who slept under this number goes, with its room
   abbrev pub gone : ℕ → Solo F T X → Solo F T X

@@ -114,26 +114,20 @@ impl Lines {
         self.take_from(mark)
     }
 
-    /// The number of the next turn.
-    pub fn turn(&self) -> u64
-        ensures { result ≡ self.now.turn }
-    {
-        self.turn
-    }
-
-    /// A turn is given back.
-    pub fn turn_back(&mut self, turn: u64)
-        ensures { self.new ≡ record self.old { turn = turn } }
-    {
-        self.turn = turn;
-    }
-
     /// No task comes any more, to the urgent queue and to the plain one.
     pub fn close(&mut self)
         ensures { self.new ≡ lines.shut_both self.old }
     {
         self.urgent.close();
         self.plain.close();
+    }
+
+    /// Whether no task waits in either queue.
+    #[inline(always)]
+    pub fn is_empty(&self) -> bool
+        ensures { result ≡ lines.is_empty self.now }
+    {
+        self.urgent.len() == 0 && self.plain.len() == 0
     }
 
     /// How many wait in one queue.

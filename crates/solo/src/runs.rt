@@ -158,7 +158,7 @@ impl<F, T, X> Solo<F, T, X> {
         }
     }
 
-    /// A run looks for a task without a waker. Where there is none its ticker comes back, and its turn.
+    /// A run looks for a task without a waker. Where there is none its ticker comes back, and may fall asleep by `tick_sleep`.
     pub fn run_search(
         &mut self,
         runner: &mut Runner,
@@ -169,14 +169,10 @@ impl<F, T, X> Solo<F, T, X> {
         ensures runner { runner.new ≡ runs.runner_after runner.old start self.old }
         ensures ran { result ≡ runs.search_answer runner.old ticker start self.old }
     {
-        let turn = self.lines.turn();
         let Sought { task, has_walked } = self.seek(runner.number, start);
         match task {
             Some(task) => Ok(self.run_found(runner, ticker, None, task, has_walked)),
-            None => {
-                self.lines.turn_back(turn);
-                Err(Missed { ticker, has_walked })
-            }
+            None => Err(Missed { ticker, has_walked }),
         }
     }
 

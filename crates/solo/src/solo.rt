@@ -20,7 +20,6 @@ use task_moves::local_task::{Back, Cancel, Detach, Polled};
 /// An executor of one owner. It polls, drops and calls nothing itself: each call hands out what its owner has to.
 ///
 /// Its tasks are numbered from 0 in the order in which their futures were accepted. `spawn`, `tick` and `run` alone take memory.
-#[derive(Drop)]
 pub struct Solo<F, T, X> {
     pub(crate) cells: Cells<T, X>,
     // The futures that aren't dropped.
@@ -39,6 +38,24 @@ pub struct Solo<F, T, X> {
     pub(crate) kind: Kind,
     // How many futures were accepted.
     pub(crate) accepted: u64,
+}
+
+// Written out: a crate that hands an executor on then proves no drop of its parts.
+impl<F: Drop, T: Drop, X: Drop> Drop for Solo<F, T, X> {
+    fn drop(self) {
+        let Solo {
+            cells: _cells,
+            table: _table,
+            going: _going,
+            lines: _lines,
+            leaving: _leaving,
+            sleepers: _sleepers,
+            notified: _,
+            runs: _runs,
+            kind: _,
+            accepted: _,
+        } = self;
+    }
 }
 
 impl<F, T, X> Solo<F, T, X> {

@@ -23,7 +23,7 @@ pub enum Ticker {
 pub enum Look<F> {
     /// A task was taken: once it is run, the tick is ready.
     Took(Found<F>),
-    /// There was none, and it fell asleep: it looks again, with a further copy of its waker.
+    /// There was none, and it fell asleep, or one was queued before it did: it looks again, with a further copy of its waker.
     Again,
     /// There was none, and it sleeps: it is pending.
     Nothing,
@@ -87,18 +87,27 @@ impl<F, T, X> Solo<F, T, X> {
         }
     }
 
-    /// A tick looks for a task without a waker. Where there is none it comes back, and so does its turn, for the look with a waker.
+    /// A tick looks for a task without a waker. Where there is none it comes back.
     pub fn tick_search(&mut self, ticker: Ticker) -> Result<Ticked<F, X>, Ticker>
         ensures solo { self.new ≡ ticks.searched ticker self.old }
         ensures ticked { result ≡ ticks.search_answer ticker self.old }
     {
-        let turn = self.lines.turn();
         match self.lines.search().task {
             Some(task) => Ok(self.found(ticker, None, task)),
-            None => {
-                self.lines.turn_back(turn);
-                Err(ticker)
-            }
+            None => Err(ticker),
+        }
+    }
+
+    /// A tick or run whose search has found nothing falls asleep with this copy of its waker. Where a task is queued by now it
+    /// searches again first.
+    pub fn tick_sleep(&mut self, ticker: Ticker, waker: SoloWaker<X>) -> Ticked<F, X>
+        ensures solo { self.new ≡ ticks.slept ticker waker self.old }
+        ensures ticked { result ≡ ticks.slept_answer ticker waker self.old }
+    {
+        if self.lines.is_empty() {
+            self.fall_asleep(ticker, waker)
+        } else {
+            self.looked(ticker, Look::Again, None, Some(waker))
         }
     }
 

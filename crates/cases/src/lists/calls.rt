@@ -44,7 +44,7 @@ impl Writer {
             self.write_refusal()?;
             self.write_tick()
         } else if kind < 72 {
-            self.write_refusal_of_poll()?;
+            self.write_refusal()?;
             self.write_poll_tick()
         } else {
             match self.ticks.taken(&mut self.draws) {
@@ -59,7 +59,7 @@ impl Writer {
             self.write_refusal()?;
             self.write_run()
         } else if kind < 95 {
-            self.write_refusal_of_poll()?;
+            self.write_refusal()?;
             self.write_poll_run()
         } else {
             match self.runs.taken(&mut self.draws) {

@@ -11,9 +11,6 @@ pub enum Holds {
     All,
     /// What running executors answer: a future that runs another in its poll isn't ready here.
     Running,
-    /// What executors of one thread answer as the step machine does. There a poll of a tick or run that is refused takes no turn, so
-    /// that later ones may look at the other queue first. Here no such poll is refused.
-    OneThread,
 }
 
 /// A list of whole calls, written as a script.
@@ -122,19 +119,9 @@ impl Writer {
 
     /// In front of one call of ten: its requests for memory are refused, each or one of the first three.
     pub fn write_refusal(&mut self) -> Result<(), AllocError> {
-        self.write_refusal_if(true)
-    }
-
-    /// The same in front of a poll of a tick or run.
-    pub fn write_refusal_of_poll(&mut self) -> Result<(), AllocError> {
-        let is_spared = self.holds == Holds::OneThread;
-        self.write_refusal_if(!is_spared)
-    }
-
-    fn write_refusal_if(&mut self, may_refuse: bool) -> Result<(), AllocError> {
         let comes = self.draws.comes(10);
         let number = self.draws.below(4);
-        if !comes || !may_refuse {
+        if !comes {
             return Ok(());
         }
         match number {

@@ -44,13 +44,13 @@ const ROADS: [Road; 5] = [
     },
     Road {
         family: Family::Local,
-        holds: Holds::OneThread,
+        holds: Holds::Running,
         is_static: Some(false),
         below: 250,
     },
     Road {
         family: Family::StaticLocal,
-        holds: Holds::OneThread,
+        holds: Holds::Running,
         is_static: Some(true),
         below: 250,
     },

@@ -1,10 +1,13 @@
 //! A future that leaves its waker, and what its test sees of it.
 use async_task::{Future, Nobody, Poll, Wake};
-use local_executor::LocalExWaker;
+use local_executor::{LocalExWaker, LocalExecutor};
 use std::alloc::{AllocError, Global};
 use std::cell::{Cell, RefCell};
 use std::rc::Rc;
 use std::sync::Wait;
+
+/// An executor of visitors.
+pub type House<R> = LocalExecutor<Visitor<R>, u64, Nobody, R>;
 
 /// What a future and its test share.
 #[derive(Drop)]
@@ -34,10 +37,7 @@ impl<R: Wait + Copy + Drop> Future<LocalExWaker<Nobody, R>> for Visitor<R> {
 impl<R: Wait + Copy + Drop> Door<R> {
     /// Takes the waker.
     pub fn take(&self) -> Option<LocalExWaker<Nobody, R>> {
-        match self.waker.try_replace(None) {
-            Ok(waker) => waker,
-            Err(_) => None,
-        }
+        self.waker.try_replace(None).unwrap_or(None)
     }
 }
 

@@ -1,15 +1,12 @@
 //! Wakers of an executor of one thread are called on other threads.
-use crate::local::door::{Visitor, new_door};
+use crate::local::door::{House, Visitor, new_door};
 use async_task::{Future, Nobody, Poll, Wake};
-use local_executor::{LocalExWaker, LocalExecutor, TaskError};
+use local_executor::{LocalExWaker, TaskError};
 use std::rc::Rc;
 use std::sync::Arc;
 use std::sync::atomic::{AtomicBool, Ordering};
 use std::test::Fail;
 use std::thread;
-
-/// An executor of visitors.
-type House = LocalExecutor<Visitor<HostRuntime>, u64, Nobody, HostRuntime>;
 
 #[test]
 fn a_waker_is_called_10_000_times_while_its_executor_ticks(rt: HostRuntime) -> Result<(), Fail> {

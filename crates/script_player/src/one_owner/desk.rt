@@ -83,12 +83,6 @@ impl<R: Wait + Copy + Drop> OnSolo<'_, R> {
         self.run_within(found, MOST_NESTED)
     }
 
-    /// A search without a waker gives its turn back, for the one with a waker. Where no waker can be had none follows: a take that
-    /// finds nothing has that turn, as the search of the step machine has.
-    pub fn spend_turn(&self) {
-        self.run_next(MOST_NESTED);
-    }
-
     /// Takes what a search finds and runs it, and says whether that was a task. So many polls may run others in them.
     #[cycle(nesting)]
     fn run_next(&self, nested: u64) -> bool {

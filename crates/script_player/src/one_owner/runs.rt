@@ -3,7 +3,7 @@ use crate::one_owner::desk::OnSolo;
 use crate::one_owner::handle::Handle;
 use crate::one_owner::link::Link;
 use crate::one_owner::ticks::{Looked, Step};
-use crate::one_owner::waker::{ScriptWaker, copy_for};
+use crate::one_owner::waker::ScriptWaker;
 use crate::{Answer, Bell, Own};
 use async_task::{Future, Poll, Wake};
 use script::Name;
@@ -132,28 +132,27 @@ impl<R: Wait + Copy + Drop> OnSolo<'_, R> {
         unreachable!()
     }
 
-    /// A copy of the waker is taken only where there is no task.
+    /// A copy of the waker is asked for only where there is no task; one that is given is taken before.
     fn seek(&self, running: Running, waker: &ScriptWaker<R>) -> Sought {
         let Running { runner, ticker } = running;
         let mut runner = runner;
+        if let Some(copy) = self.given_copy(waker) {
+            let ran = self.link.tasks().run_take(&mut runner, ticker, copy, START);
+            return self.ran(runner, ran);
+        }
         let searched = self.link.tasks().run_search(&mut runner, ticker, START);
-        let Missed {
-            ticker,
-            has_walked: _,
-        } = match searched {
-            Ok(ran) => return self.ran(runner, ran),
-            Err(missed) => missed,
-        };
-        match copy_for(self.link, waker) {
-            Some(copy) => {
-                let ran = self.link.tasks().run_take(&mut runner, ticker, copy, START);
-                self.ran(runner, ran)
-            }
-            None => {
-                self.spend_turn();
+        match searched {
+            Ok(ran) => self.ran(runner, ran),
+            Err(
+                Missed {
+                    ticker,
+                    has_walked: _,
+                },
+            ) => {
+                let Looked { ticker, step } = self.fall_asleep(ticker, waker);
                 Sought {
                     running: Running { runner, ticker },
-                    step: Step::NoMemory,
+                    step,
                     gives_way: false,
                 }
             }

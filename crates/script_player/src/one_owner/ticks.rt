@@ -4,7 +4,7 @@ use crate::one_owner::link::Link;
 use crate::one_owner::waker::{ScriptWaker, copy_for};
 use crate::{Answer, Bell};
 use script::Name;
-use solo::{Found, Look, Ticked, Ticker, Told};
+use solo::{Found, Look, SoloWaker, Ticked, Ticker, Told};
 use std::mem;
 use std::sync::Wait;
 
@@ -89,25 +89,39 @@ impl<R: Wait + Copy + Drop> OnSolo<'_, R> {
         unreachable!()
     }
 
-    /// A copy of the waker is taken only where there is no task.
+    /// A copy of the waker is asked for only where there is no task; one that is given is taken before.
     fn search(&self, ticker: Ticker, waker: &ScriptWaker<R>) -> Looked {
+        if let Some(copy) = self.given_copy(waker) {
+            let ticked = self.link.tasks().tick_take(ticker, copy);
+            return self.looked(ticked);
+        }
         let searched = self.link.tasks().tick_search(ticker);
-        let ticker = match searched {
-            Ok(ticked) => return self.looked(ticked),
-            Err(ticker) => ticker,
-        };
+        match searched {
+            Ok(ticked) => self.looked(ticked),
+            Err(ticker) => self.fall_asleep(ticker, waker),
+        }
+    }
+
+    /// A copy of a waker, where the command's requests aren't refused.
+    pub fn given_copy(&self, waker: &ScriptWaker<R>) -> Option<SoloWaker<Bell>> {
+        if self.shelf.stage.asking.may_refuse() {
+            None
+        } else {
+            copy_for(self.link, waker)
+        }
+    }
+
+    /// What has found no task falls asleep with a copy of the waker.
+    pub fn fall_asleep(&self, ticker: Ticker, waker: &ScriptWaker<R>) -> Looked {
         match copy_for(self.link, waker) {
             Some(copy) => {
-                let ticked = self.link.tasks().tick_take(ticker, copy);
+                let ticked = self.link.tasks().tick_sleep(ticker, copy);
                 self.looked(ticked)
             }
-            None => {
-                self.spend_turn();
-                Looked {
-                    ticker,
-                    step: Step::NoMemory,
-                }
-            }
+            None => Looked {
+                ticker,
+                step: Step::NoMemory,
+            },
         }
     }
 

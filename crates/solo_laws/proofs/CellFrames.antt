@@ -18,7 +18,7 @@ use Rattle.solo.specs.declared.steals.Source.TheVariants.{Common, Own}
 use Rattle.solo.specs.declared.cells.Cells.{Cells}
 use Rattle.solo.specs.declared.solo.Solo.{Solo}
 use Rattle.solo.specs.OwnQueues as own
-use Rattle.solo.specs.Lines.{search_answer}
+use Rattle.solo.specs.Lines.{is_empty, search_answer}
 use Rattle.solo.specs.Cells.{asked, changed, tidied}
 use Rattle.solo.specs.Cells as cells
 use Rattle.solo.specs.Turns.{lined, takes, turned, marked, loosed, handed_by, is_full, handed, told, scheduled, scheduled_if}
@@ -172,6 +172,10 @@ module _ {F T X : Type 0} (P : Cells T X → Type 0) (wakes : (u : Task) (s : Ce
   pub sought_at : (number start : ℕ) (s : Solo F T X) → At s → At (sought number start s)
   sought_at number start s p = sought_by_at (own.first_of number s.runs) number start (own_popped number s) p
 
+  pub slept_at : (ticker : Ticker) (waker : SoloWaker X) (s : Solo F T X) → At s → At (ticks.slept ticker waker s)
+  slept_at ticker waker s p =
+      chosen At (is_empty s.lines) (ticks.fallen_asleep ticker waker s) s (asleep_at ticker waker s p) p
+
   pub run_drained_at : (first : Option Task) (ticker : Ticker) (s : Solo F T X) → At s → At (runs.drained_by first ticker s)
   run_drained_at (Some u) ticker s p = scheduled_at u s p
   run_drained_at None ticker s p = tick_left_at ticker s p
@@ -189,10 +193,10 @@ module _ {F T X : Type 0} (P : Cells T X → Type 0) (wakes : (u : Task) (s : Ce
     tick_taken_at (Some u) ticker waker s p = begun_at u (runs.told ticker s) (woke_at ticker s p)
     tick_taken_at None ticker waker s p = asleep_at ticker waker s p
 
-    pub tick_searched_at : (first : Option Task) (turn : ℕ) (ticker : Ticker) (s : Solo F T X) → At s
-        → At (ticks.searched_by first turn ticker s)
-    tick_searched_at (Some u) turn ticker s p = begun_at u (runs.told ticker s) (woke_at ticker s p)
-    tick_searched_at None turn ticker s p = p
+    pub tick_searched_at : (first : Option Task) (ticker : Ticker) (s : Solo F T X) → At s
+        → At (ticks.searched_by first ticker s)
+    tick_searched_at (Some u) ticker s p = begun_at u (runs.told ticker s) (woke_at ticker s p)
+    tick_searched_at None ticker s p = p
 
     run_found_at : (runner : Runner) (ticker : Ticker) (u : Task) (s : Solo F T X) → At s → At (runs.found runner ticker u s)
     run_found_at runner ticker u s p =
@@ -208,7 +212,7 @@ module _ {F T X : Type 0} (P : Cells T X → Type 0) (wakes : (u : Task) (s : Ce
     run_taken_at (Some u) runner ticker waker s p = run_found_at runner ticker u s p
     run_taken_at None runner ticker waker s p = asleep_at ticker waker s p
 
-    pub run_searched_at : (first : Option Task) (turn : ℕ) (runner : Runner) (ticker : Ticker) (s : Solo F T X) → At s
-        → At (runs.searched_by first turn runner ticker s)
-    run_searched_at (Some u) turn runner ticker s p = run_found_at runner ticker u s p
-    run_searched_at None turn runner ticker s p = p
+    pub run_searched_at : (first : Option Task) (runner : Runner) (ticker : Ticker) (s : Solo F T X) → At s
+        → At (runs.searched_by first runner ticker s)
+    run_searched_at (Some u) runner ticker s p = run_found_at runner ticker u s p
+    run_searched_at None runner ticker s p = p

@@ -28,13 +28,14 @@ use Rattle.solo.specs.Closing as closing
 use Rattle.solo.specs.Runs as runs
 use Rattle.solo.specs.Ticks as ticks
 use Rattle.solo_laws.specs.Calls.{Call, Does, Course, Spawn, SpawnRefused, Take, Settle, Finish, Wake, WakeAndRelease, Hold, Release}
-use Rattle.solo_laws.specs.Calls.{Cancel, Detach, Poll, Retract, MakeTick, TickTake, TickSearch, TickLeave, MakeRun, RunBegin, RunTake}
+use Rattle.solo_laws.specs.Calls.{Cancel, Detach, Poll, Retract, MakeTick, TickTake}
+use Rattle.solo_laws.specs.Calls.{TickSearch, TickSleep, TickLeave, MakeRun, RunBegin, RunTake}
 use Rattle.solo_laws.specs.Calls.{RunSearch, RunLeave, RunDrain, Leak, LeakNext, Close, Drain}
 use Rattle.solo_laws.specs.Futures.{futures, accepted_by, ended_by, ended_by_settle, sum_of, NoneIsLost, IsNumbered, ComesBack}
 use Rattle.solo_laws.proofs.Prompt.{chosen}
 use Rattle.solo_laws.proofs.Frames.{Of, counting, told_of, scheduled_of, scheduled_if_of, let_go_of, left_by_of, put_of, begun_of}
 use Rattle.solo_laws.proofs.Frames.{tick_taken_of}
-use Rattle.solo_laws.proofs.Frames.{tick_searched_of, tick_left_of, run_taken_of, run_searched_of, run_drained_of}
+use Rattle.solo_laws.proofs.Frames.{tick_searched_of, slept_of, tick_left_of, run_taken_of, run_searched_of, run_drained_of}
 
 plus_zero : (n : ℕ) → n + 0 ≡ n
 plus_zero n = omega arith
@@ -273,6 +274,8 @@ module _ {F T X : Type 0} where
         kept_at a e 0 old new (ticks.taken ticker waker old) is (tick_taken_of (By 0 old) ticker waker old (itself old)) c
     counted_after a e (TickSearch ticker) old new is c =
         kept_at a e 0 old new (ticks.searched ticker old) is (tick_searched_of (By 0 old) ticker old (itself old)) c
+    counted_after a e (TickSleep ticker waker) old new is c =
+        kept_at a e 0 old new (ticks.slept ticker waker old) is (slept_of (By 0 old) ticker waker old (itself old)) c
     counted_after a e (TickLeave ticker) old new is c =
         kept_at a e 0 old new (ticks.left ticker old) is (tick_left_of (counting (By 0 old)) ticker old (itself old)) c
     counted_after a e MakeRun old new (inl is) c = kept_at a e 0 old new (runs.made old) is (itself old) c

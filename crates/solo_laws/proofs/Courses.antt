@@ -17,7 +17,8 @@ use Rattle.solo.specs.Turns.{turned}
 use Rattle.solo.specs.Solo as solo
 use Rattle.solo_laws.specs.Calls.{Call, Does, Course, Spawn, SpawnRefused, Take, Settle}
 use Rattle.solo_laws.specs.Calls.{Finish, Wake, WakeAndRelease, Hold, Release, Cancel, Detach}
-use Rattle.solo_laws.specs.Calls.{Poll, Retract, MakeTick, TickTake, TickSearch, TickLeave, MakeRun, RunBegin, RunTake, RunSearch}
+use Rattle.solo_laws.specs.Calls.{Poll, Retract, MakeTick, TickTake, TickSearch}
+use Rattle.solo_laws.specs.Calls.{TickSleep, TickLeave, MakeRun, RunBegin, RunTake, RunSearch}
 use Rattle.solo_laws.specs.Calls.{RunLeave, RunDrain, Leak, LeakNext, Close, Drain}
 use Rattle.solo_laws.specs.Sleeping.{SomeoneIsTold}
 use Rattle.solo_laws.proofs.Sleepers.{flag_says}
@@ -70,6 +71,7 @@ module _ {F T X : Type 0} where
   kept MakeTick old new (inr is) p = subst Prompt (sym is) p
   kept (TickTake ticker waker) old new is p = subst Prompt (sym is) (ticks.taken_prompt ticker waker old p)
   kept (TickSearch ticker) old new is p = subst Prompt (sym is) (ticks.searched_prompt ticker old p)
+  kept (TickSleep ticker waker) old new is p = subst Prompt (sym is) (ticks.slept_prompt ticker waker old p)
   kept (TickLeave ticker) old new is p = subst Prompt (sym is) (ticks.left_prompt ticker old p)
   kept MakeRun old new (inl is) p = subst Prompt (sym is) p
   kept MakeRun old new (inr is) p = subst Prompt (sym is) p

@@ -18,7 +18,7 @@ use Rattle.solo.specs.declared.steals.Source.{Source}
 use Rattle.solo.specs.declared.steals.Source.TheVariants.{Common, Own}
 use Rattle.solo.specs.declared.solo.Solo.{Solo}
 use Rattle.solo.specs.OwnQueues as own
-use Rattle.solo.specs.Lines.{search_answer}
+use Rattle.solo.specs.Lines.{is_empty, search_answer}
 use Rattle.solo.specs.Table.{TableValue}
 use Rattle.solo.specs.Cells.{asked}
 use Rattle.solo.specs.Cells as cells
@@ -215,13 +215,18 @@ module _ {F T X : Type 0} where
         → Of (counting Q) (ticks.taken ticker waker s)
     tick_taken_of ticker waker s p = tick_by_of (solo.sought s) ticker waker (popped s) p
 
-    search_by_of : (first : Option Task) (turn : ℕ) (ticker : Ticker) (s : Solo F T X) → Of (counting Q) s
-        → Of (counting Q) (ticks.searched_by first turn ticker s)
-    search_by_of (Some task) turn ticker s p = found_of ticker task s p
-    search_by_of None turn ticker s p = p
+    search_by_of : (first : Option Task) (ticker : Ticker) (s : Solo F T X) → Of (counting Q) s
+        → Of (counting Q) (ticks.searched_by first ticker s)
+    search_by_of (Some task) ticker s p = found_of ticker task s p
+    search_by_of None ticker s p = p
 
     pub tick_searched_of : (ticker : Ticker) (s : Solo F T X) → Of (counting Q) s → Of (counting Q) (ticks.searched ticker s)
-    tick_searched_of ticker s p = search_by_of (solo.sought s) s.lines.turn ticker (popped s) p
+    tick_searched_of ticker s p = search_by_of (solo.sought s) ticker (popped s) p
+
+    pub slept_of : (ticker : Ticker) (waker : SoloWaker X) (s : Solo F T X) → Of (counting Q) s
+        → Of (counting Q) (ticks.slept ticker waker s)
+    slept_of ticker waker s p =
+        chosen (Of (counting Q)) (is_empty s.lines) (ticks.fallen_asleep ticker waker s) s (asleep_of (counting Q) ticker waker s p) p
 
     run_found_of : (runner : Runner) (ticker : Ticker) (task : Task) (s : Solo F T X) → Of (counting Q) s
         → Of (counting Q) (runs.found runner ticker task s)
@@ -245,13 +250,13 @@ module _ {F T X : Type 0} where
         run_by_of (seek_answer runner.number start s).task runner ticker waker (sought runner.number start s)
         (sought_of (counting Q) runner.number start s p)
 
-    run_search_by_of : (first : Option Task) (turn : ℕ) (runner : Runner) (ticker : Ticker) (s : Solo F T X) → Of (counting Q) s
-        → Of (counting Q) (runs.searched_by first turn runner ticker s)
-    run_search_by_of (Some task) turn runner ticker s p = run_found_of runner ticker task s p
-    run_search_by_of None turn runner ticker s p = p
+    run_search_by_of : (first : Option Task) (runner : Runner) (ticker : Ticker) (s : Solo F T X) → Of (counting Q) s
+        → Of (counting Q) (runs.searched_by first runner ticker s)
+    run_search_by_of (Some task) runner ticker s p = run_found_of runner ticker task s p
+    run_search_by_of None runner ticker s p = p
 
     pub run_searched_of : (runner : Runner) (ticker : Ticker) (start : ℕ) (s : Solo F T X) → Of (counting Q) s
         → Of (counting Q) (runs.searched runner ticker start s)
     run_searched_of runner ticker start s p =
-        run_search_by_of (seek_answer runner.number start s).task s.lines.turn runner ticker (sought runner.number start s)
+        run_search_by_of (seek_answer runner.number start s).task runner ticker (sought runner.number start s)
         (sought_of (counting Q) runner.number start s p)

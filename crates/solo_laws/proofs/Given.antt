@@ -32,7 +32,8 @@ use Rattle.solo.specs.Closing as closing
 use Rattle.solo.specs.Runs as runs
 use Rattle.solo.specs.Ticks as ticks
 use Rattle.solo_laws.specs.Calls.{Call, Does, Course, Spawn, SpawnRefused, Take, Settle, Finish, Wake, WakeAndRelease, Hold, Release}
-use Rattle.solo_laws.specs.Calls.{Cancel, Detach, Poll, Retract, MakeTick, TickTake, TickSearch, TickLeave, MakeRun, RunBegin, RunTake}
+use Rattle.solo_laws.specs.Calls.{Cancel, Detach, Poll, Retract, MakeTick, TickTake}
+use Rattle.solo_laws.specs.Calls.{TickSearch, TickSleep, TickLeave, MakeRun, RunBegin, RunTake}
 use Rattle.solo_laws.specs.Calls.{RunSearch, RunLeave, RunDrain, Leak, LeakNext, Close, Drain}
 use Rattle.solo_laws.specs.Futures.{sum_of}
 use Rattle.solo_laws.specs.Outputs.{weight_out, weight_given, weight_polled, weight_kept, outputs_inside, given_in, given_out}
@@ -43,7 +44,7 @@ use Rattle.solo_laws.proofs.Giving.{woken_gives, cancelled_gives, released_gives
 use Rattle.solo_laws.proofs.Giving.{retracted_gives, finished_gives, ended_pending_gives, ended_ready_gives}
 use Rattle.solo_laws.proofs.CellFrames.{scheduled_at, scheduled_if_at, loosed_at, let_go_at, left_at, tick_left_at, sought_at}
 use Rattle.solo_laws.proofs.CellFrames.{run_drained_at}
-use Rattle.solo_laws.proofs.CellFrames.{taken_by_at, tick_taken_at, tick_searched_at, run_taken_at, run_searched_at}
+use Rattle.solo_laws.proofs.CellFrames.{taken_by_at, tick_taken_at, tick_searched_at, slept_at, run_taken_at, run_searched_at}
 
 module _ {T X : Type 0} {B : Type 0} (h : B → ℕ) (q : Kept T X → B) (b : B) where
   weight_by : (his : Bool) (a : B) → h (choose his a b) ≡ choose his (h a) (h b)
@@ -269,7 +270,9 @@ module _ {T X : Type 0} (weigh : T → ℕ) where
         (tick_taken_at (H n) (woke n) (loose n) (tidy n) (start n) (solo.sought old) ticker waker (solo.popped old) h)
     step (TickSearch ticker) old new is n h =
         quiet n new (ticks.searched ticker old) is
-        (tick_searched_at (H n) (woke n) (loose n) (tidy n) (start n) (solo.sought old) old.lines.turn ticker (solo.popped old) h)
+        (tick_searched_at (H n) (woke n) (loose n) (tidy n) (start n) (solo.sought old) ticker (solo.popped old) h)
+    step (TickSleep ticker waker) old new is n h =
+        quiet n new (ticks.slept ticker waker old) is (slept_at (H n) (woke n) (loose n) (tidy n) ticker waker old h)
     step (TickLeave ticker) old new is n h =
         quiet n new (ticks.left ticker old) is (tick_left_at (H n) (woke n) (loose n) (tidy n) ticker old h)
     step MakeRun old new (inl is) n h = quiet n new (runs.made old) is h
@@ -281,7 +284,7 @@ module _ {T X : Type 0} (weigh : T → ℕ) where
         (sought runner.number start_at old) (sought_at (H n) (woke n) (loose n) (tidy n) runner.number start_at old h))
     step (RunSearch runner ticker start_at) old new is n h =
         quiet n new (runs.searched runner ticker start_at old) is
-        (run_searched_at (H n) (woke n) (loose n) (tidy n) (start n) (seek_answer runner.number start_at old).task old.lines.turn
+        (run_searched_at (H n) (woke n) (loose n) (tidy n) (start n) (seek_answer runner.number start_at old).task
         runner ticker (sought runner.number start_at old)
         (sought_at (H n) (woke n) (loose n) (tidy n) runner.number start_at old h))
     step (RunLeave runner) old new is n h = quiet n new (runs.left runner old) is h

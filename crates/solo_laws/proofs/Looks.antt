@@ -1,5 +1,5 @@
 -- Turns follow each other, whatever is called; so of eight looks in a row one is at the plain queue first.
-use Rattle.std.proofs.Common.{◌≡◌, inl, inr, ℕ, zero, suc, ◌+◌, ◌^◌, ◌%◌, ◌<◌, ◌==◌, ◌&&◌, not, Bool, true, false, List, [], ◌∷◌, ◌++◌}
+use Rattle.std.proofs.Common.{◌≡◌, inl, inr, ℕ, zero, suc, ◌+◌, ◌^◌, ◌%◌, ◌<◌, ◌==◌, not, Bool, true, false, List, [], ◌∷◌, ◌++◌}
 use Rattle.std.proofs.Common.{length, Option, Some, None, is_some, slice_get, refl, sym, ap, subst, ◌∙◌, arith}
 use Rattle.executor_parts.specs.declared.mark.Mark.{Mark}
 use Rattle.executor_parts.specs.declared.mark.Mark.TheVariants.{Plain, Urgent}
@@ -15,7 +15,8 @@ use Rattle.solo.specs.declared.owed.Lent.{Lent}
 use Rattle.solo.specs.declared.runs.Runner.{Runner}
 use Rattle.solo.specs.declared.ticks.Ticker.{Ticker}
 use Rattle.solo.specs.declared.solo.Solo.{Solo}
-use Rattle.solo.specs.Lines.{LinesValue, first_of, popped_from, found_by, found_from, mark_of_turn, turned as next_turn, search_answer}
+use Rattle.solo.specs.Lines.{LinesValue, is_empty, first_of, popped_from}
+use Rattle.solo.specs.Lines.{found_by, found_from, mark_of_turn, turned as next_turn, search_answer}
 use Rattle.solo.specs.Cells.{choose, asked}
 use Rattle.solo.specs.Cells as cells
 use Rattle.solo.specs.OwnQueues as own
@@ -25,14 +26,16 @@ use Rattle.solo.specs.Solo as solo
 use Rattle.solo.specs.Solo.{popped, sought}
 use Rattle.solo.specs.Ticks as ticks
 use Rattle.solo.specs.Runs as runs
-use Rattle.solo.specs.Steals.{seek_answer, seek_answer_by, sought_by, own_popped}
+use Rattle.solo.specs.Steals.{seek_answer, sought_by, own_popped}
 use Rattle.solo.specs.Steals as steals
 use Rattle.solo.specs.Table.{first_parts}
 use Rattle.solo.specs.Closing as closing
 use Rattle.solo_laws.specs.Calls.{Call, Does, Course, Spawn, SpawnRefused, Take, Settle, Finish, Wake, WakeAndRelease, Hold, Release, Cancel, Detach}
-use Rattle.solo_laws.specs.Calls.{Poll, Retract, MakeTick, TickTake, TickSearch, TickLeave, MakeRun, RunBegin, RunTake, RunSearch}
+use Rattle.solo_laws.specs.Calls.{Poll, Retract, MakeTick, TickTake, TickSearch}
+use Rattle.solo_laws.specs.Calls.{TickSleep, TickLeave, MakeRun, RunBegin, RunTake, RunSearch}
 use Rattle.solo_laws.specs.Calls.{RunLeave, RunDrain, Leak, LeakNext, Close, Drain}
 use Rattle.solo_laws.specs.Looks.{plain_in, OneOfEightIsPlain, next_mark, look_if, comes, look_of, looks_of, TakesByTurn}
+use Rattle.solo_laws.proofs.Prompt.{chosen}
 use Rattle.solo_laws.proofs.Turning.{At, taken_turn, searched_turn, lined_if_at, told_at, scheduled_at, scheduled_if_at, let_go_at}
 use Rattle.solo_laws.proofs.Turning.{left_at as entry_left, begun_at, found_at, asleep_at, tick_left_at, further_at, run_found_at, run_drained_at}
 
@@ -119,13 +122,13 @@ module _ {F T X : Type 0} where
   call_follows (Retract task) s = tt
   call_follows MakeTick s = tt
   call_follows (TickTake ticker waker) s = look_follows true s
-  call_follows (TickSearch ticker) s = look_follows (is_some (sought s)) s
+  call_follows (TickSearch ticker) s = look_follows true s
+  call_follows (TickSleep ticker waker) s = tt
   call_follows (TickLeave ticker) s = tt
   call_follows MakeRun s = tt
   call_follows (RunBegin runner) s = tt
   call_follows (RunTake runner ticker waker start) s = look_follows (comes runner s) s
-  call_follows (RunSearch runner ticker start) s =
-      look_follows (comes runner s && is_some (seek_answer runner.number start s).task) s
+  call_follows (RunSearch runner ticker start) s = look_follows (comes runner s) s
   call_follows (RunLeave runner) s = tt
   call_follows (RunDrain leaving) s = tt
   call_follows Leak s = tt
@@ -160,10 +163,14 @@ module _ {F T X : Type 0} where
   tick_take_at t (Some task) ticker waker s p = found_at t ticker task s p
   tick_take_at t None ticker waker s p = asleep_at t ticker waker s p
 
-  tick_search_at : (first : Option Task) (ticker : Ticker) (old s : Solo F T X) → At (next old.lines.turn) s
-      → Turned (look_if (is_some first) old) old (ticks.searched_by first old.lines.turn ticker s)
-  tick_search_at (Some task) ticker old s p = found_at (next old.lines.turn) ticker task s p
-  tick_search_at None ticker old s p = refl
+  tick_search_at : (t : ℕ) (first : Option Task) (ticker : Ticker) (s : Solo F T X) → At t s
+      → At t (ticks.searched_by first ticker s)
+  tick_search_at t (Some task) ticker s p = found_at t ticker task s p
+  tick_search_at t None ticker s p = p
+
+  slept_at : (t : ℕ) (ticker : Ticker) (waker : SoloWaker X) (s : Solo F T X) → At t s → At t (ticks.slept ticker waker s)
+  slept_at t ticker waker s p =
+      chosen (At t) (is_empty s.lines) (ticks.fallen_asleep ticker waker s) s (asleep_at t ticker waker s p) p
 
   run_by_at : (t : ℕ) (first : Option Task) (runner : Runner) (ticker : Ticker) (waker : SoloWaker X) (s : Solo F T X) → At t s
       → At t (runs.took_by first runner ticker waker s)
@@ -180,19 +187,10 @@ module _ {F T X : Type 0} where
   sought_at (Some task) number start old s p = p
   sought_at None number start old s p = further_turn number start s ∙ ap next p
 
-  run_missed_at : (answer : Option Task) (runner : Runner) (ticker : Ticker) (old s : Solo F T X) → At (next old.lines.turn) s
-      → Turned (look_if (is_some answer) old) old (runs.searched_by answer old.lines.turn runner ticker s)
-  run_missed_at (Some task) runner ticker old s p = run_found_at (next old.lines.turn) runner ticker task s p
-  run_missed_at None runner ticker old s p = refl
-
-  run_search_at : (first : Option Task) (runner : Runner) (ticker : Ticker) (start : ℕ) (old s : Solo F T X) → At old.lines.turn s
-      → Turned (look_if (not (is_some first) && is_some (seek_answer_by first runner.number start s).task) old) old
-      (runs.searched_by (seek_answer_by first runner.number start s).task old.lines.turn runner ticker
-      (sought_by first runner.number start s))
-  run_search_at (Some task) runner ticker start old s p = run_found_at old.lines.turn runner ticker task s p
-  run_search_at None runner ticker start old s p =
-      run_missed_at (seek_answer_by None runner.number start s).task runner ticker old
-      (sought_by None runner.number start s) (further_turn runner.number start s ∙ ap next p)
+  run_search_at : (t : ℕ) (first : Option Task) (runner : Runner) (ticker : Ticker) (s : Solo F T X) → At t s
+      → At t (runs.searched_by first runner ticker s)
+  run_search_at t (Some task) runner ticker s p = run_found_at t runner ticker task s p
+  run_search_at t None runner ticker s p = p
 
   future_at : (t : ℕ) (future : Option F) (task : Task) (s : Solo F T X) → At t s → At t (closing.retracted_future future task s)
   future_at t (Some future) task s p = p
@@ -265,7 +263,10 @@ module _ {F T X : Type 0} where
       subst (At (next old.lines.turn)) (sym is)
       (tick_take_at (next old.lines.turn) (sought old) ticker waker (popped old) (popped_at old))
   call_turns (TickSearch ticker) old new is =
-      subst (Turned (look_of (TickSearch ticker) old) old) (sym is) (tick_search_at (sought old) ticker old (popped old) (popped_at old))
+      subst (At (next old.lines.turn)) (sym is)
+      (tick_search_at (next old.lines.turn) (sought old) ticker (popped old) (popped_at old))
+  call_turns (TickSleep ticker waker) old new is =
+      subst (At old.lines.turn) (sym is) (slept_at old.lines.turn ticker waker old refl)
   call_turns (TickLeave ticker) old new is = subst (At old.lines.turn) (sym is) (tick_left_at old.lines.turn ticker old refl)
   call_turns MakeRun old new (inl is) = subst (At old.lines.turn) (sym is) refl
   call_turns MakeRun old new (inr is) = subst (At old.lines.turn) (sym is) refl
@@ -277,7 +278,9 @@ module _ {F T X : Type 0} where
       (sought_at (own.first_of runner.number old.runs) runner.number start old (own_popped runner.number old) refl))
   call_turns (RunSearch runner ticker start) old new is =
       subst (Turned (look_of (RunSearch runner ticker start) old) old) (sym is)
-      (run_search_at (own.first_of runner.number old.runs) runner ticker start old (own_popped runner.number old) refl)
+      (run_search_at (after (look_if (comes runner old) old) old.lines.turn) (seek_answer runner.number start old).task runner ticker
+      (steals.sought runner.number start old)
+      (sought_at (own.first_of runner.number old.runs) runner.number start old (own_popped runner.number old) refl))
   call_turns (RunLeave runner) old new is = subst (At old.lines.turn) (sym is) refl
   call_turns (RunDrain leaving) old new is =
       subst (At old.lines.turn) (sym is) (run_drained_at old.lines.turn (runs.first_left leaving.own) leaving.ticker old refl)

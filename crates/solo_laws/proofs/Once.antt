@@ -23,7 +23,7 @@ use Rattle.solo.specs.declared.cells.Cell.{Cell}
 use Rattle.solo.specs.declared.cells.Cells.{Cells}
 use Rattle.solo.specs.declared.cells.After.{After}
 use Rattle.solo.specs.declared.cells.After.TheVariants.{Queue, Rest, Drop as DropFuture, Unknown}
-use Rattle.solo.specs.Lines.{taken_from}
+use Rattle.solo.specs.Lines.{is_empty, taken_from}
 use Rattle.solo.specs.Cells.{choose, asked, asked_by}
 use Rattle.solo.specs.Cells as cells
 use Rattle.solo.specs.Turns as turns
@@ -155,11 +155,24 @@ module _ (t : Task) {F T X : Type 0} where
   tick_taken_stands (Some u) ticker waker m n s st = found_stands ticker m n u s st
   tick_taken_stands None ticker waker m n s st = asleep_stands ticker waker m n s (none_more m n s st)
 
-  pub tick_searched_stands : (first : Option Task) (turn : ℕ) (ticker : Ticker) (m n : ℕ) (s : Solo F T X)
+  pub tick_searched_stands : (first : Option Task) (ticker : Ticker) (m n : ℕ) (s : Solo F T X)
       → Stands t (m + times_of t first) n s
-      → Stands t (m + times_searched t (ticks.search_answer_by first ticker s)) n (ticks.searched_by first turn ticker s)
-  tick_searched_stands (Some u) turn ticker m n s st = found_stands ticker m n u s st
-  tick_searched_stands None turn ticker m n s st = st
+      → Stands t (m + times_searched t (ticks.search_answer_by first ticker s)) n (ticks.searched_by first ticker s)
+  tick_searched_stands (Some u) ticker m n s st = found_stands ticker m n u s st
+  tick_searched_stands None ticker m n s st = st
+
+  pub slept_stands : (ticker : Ticker) (waker : SoloWaker X) (m n : ℕ) (s : Solo F T X) → Stands t m n s
+      → Stands t (m + times_of t (ticks.slept_answer ticker waker s).returned) n (ticks.slept ticker waker s)
+  slept_stands ticker waker m n s st = by (is_empty s.lines)
+    where
+      by : (b : Bool)
+          → Stands t
+          (m
+          + times_of t
+          (choose b (ticks.sleep_answer ticker waker s) (ticks.look_answer ticker Again None (Some waker) s)).returned)
+          n (choose b (ticks.fallen_asleep ticker waker s) s)
+      by true = asleep_stands ticker waker m n s st
+      by false = none_out m n s st
 
   pub run_taken_stands : (first : Option Task) (walked : Bool) (runner : Runner) (ticker : Ticker) (waker : SoloWaker X) (m n : ℕ)
       (s : Solo F T X)
@@ -169,13 +182,13 @@ module _ (t : Task) {F T X : Type 0} where
   run_taken_stands (Some u) walked runner ticker waker m n s st = run_found_stands runner ticker m n u s st
   run_taken_stands None walked runner ticker waker m n s st = asleep_stands ticker waker m n s (none_more m n s st)
 
-  pub run_searched_stands : (first : Option Task) (walked : Bool) (turn : ℕ) (runner : Runner) (ticker : Ticker) (m n : ℕ)
+  pub run_searched_stands : (first : Option Task) (walked : Bool) (runner : Runner) (ticker : Ticker) (m n : ℕ)
       (s : Solo F T X)
       → Stands t (m + times_of t first) n s
       → Stands t (m + times_sought t (runs.search_answer_by first walked runner ticker s)) n
-      (runs.searched_by first turn runner ticker s)
-  run_searched_stands (Some u) walked turn runner ticker m n s st = run_found_stands runner ticker m n u s st
-  run_searched_stands None walked turn runner ticker m n s st = st
+      (runs.searched_by first runner ticker s)
+  run_searched_stands (Some u) walked runner ticker m n s st = run_found_stands runner ticker m n u s st
+  run_searched_stands None walked runner ticker m n s st = st
 
   leave_by_stands : (w : Option (SoloWaker X)) (m n : ℕ) (s : Solo F T X) → Stands t m n s
       → Stands t (m + times_of t (ticks.leave_answer_by w s).told.returned) n (ticks.left_by w s)

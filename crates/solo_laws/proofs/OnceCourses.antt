@@ -24,7 +24,8 @@ use Rattle.solo.specs.Closing as closing
 use Rattle.solo.specs.Runs as runs
 use Rattle.solo.specs.Ticks as ticks
 use Rattle.solo_laws.specs.Calls.{Call, Does, Course, Spawn, SpawnRefused, Take, Settle, Finish, Wake, WakeAndRelease, Hold, Release}
-use Rattle.solo_laws.specs.Calls.{Cancel, Detach, Poll, Retract, MakeTick, TickTake, TickSearch, TickLeave, MakeRun, RunBegin, RunTake}
+use Rattle.solo_laws.specs.Calls.{Cancel, Detach, Poll, Retract, MakeTick, TickTake}
+use Rattle.solo_laws.specs.Calls.{TickSearch, TickSleep, TickLeave, MakeRun, RunBegin, RunTake}
 use Rattle.solo_laws.specs.Calls.{RunSearch, RunLeave, RunDrain, Leak, LeakNext, Close, Drain}
 use Rattle.solo_laws.specs.Futures.{sum_of}
 use Rattle.solo_laws.specs.Queueing.{one_if, one, times_lined, times_own, times_of, times_left, times_queued, brought_back}
@@ -33,7 +34,8 @@ use Rattle.solo_laws.proofs.Named.{unfit}
 use Rattle.solo_laws.proofs.Fitness.{held_asks, polled_asks, at_most_one}
 use Rattle.solo_laws.proofs.OwnPlaces.{opened_times, listed_times}
 use Rattle.solo_laws.proofs.Standing.{Stands, weaker, quiet_stands, let_go_stands, scheduled_stands, popped_stands, sought_stands}
-use Rattle.solo_laws.proofs.Once.{none_out, taken_stands, tick_taken_stands, tick_searched_stands, run_taken_stands, run_searched_stands}
+use Rattle.solo_laws.proofs.Once.{none_out, taken_stands, tick_taken_stands}
+use Rattle.solo_laws.proofs.Once.{tick_searched_stands, slept_stands, run_taken_stands, run_searched_stands}
 use Rattle.solo_laws.proofs.Once.{tick_left_stands, run_left_stands, run_drained_stands, settled_stands, finished_stands, woken_stands}
 use Rattle.solo_laws.proofs.Once.{woken_released_stands, cancelled_stands, detached_stands, retracted_stands, leak_stands, drained_stands}
 
@@ -171,7 +173,10 @@ module _ (t : Task) {F T X : Type 0} where
       subst (λ s. Stands t (m + handed_away t (TickSearch ticker) old new is) (n + 0) s) (sym is)
       (weaker t (m + handed_away t (TickSearch ticker) old new is) n (m + handed_away t (TickSearch ticker) old new is) (n + 0)
       (ticks.searched ticker old) (omega arith) (omega arith)
-      (tick_searched_stands t (solo.sought old) old.lines.turn ticker m n (solo.popped old) (popped_stands t m n old st)))
+      (tick_searched_stands t (solo.sought old) ticker m n (solo.popped old) (popped_stands t m n old st)))
+  step (TickSleep ticker waker) old new is m n st =
+      at m n (times_of t (ticks.slept_answer ticker waker old).returned) old new (ticks.slept ticker waker old) is
+      (slept_stands t ticker waker m n old st)
   step (TickLeave ticker) old new is m n st =
       at m n (times_of t (ticks.leave_answer ticker old).told.returned) old new (ticks.left ticker old) is
       (tick_left_stands t ticker m n old st)
@@ -189,7 +194,7 @@ module _ (t : Task) {F T X : Type 0} where
       let found = seek_answer runner.number start old in
       let s : Solo F T X = sought runner.number start old in
       at m n (handed_away t (RunSearch runner ticker start) old new is) old new (runs.searched runner ticker start old) is
-      (run_searched_stands t found.task found.has_walked old.lines.turn runner ticker m n s
+      (run_searched_stands t found.task found.has_walked runner ticker m n s
       (sought_stands t m n runner.number start old st))
   step (RunLeave runner) old new is m n st =
       at m n (handed_away t (RunLeave runner) old new is) old new (runs.left runner old) is (run_left_stands t runner m n old st)

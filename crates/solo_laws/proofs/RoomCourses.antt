@@ -30,13 +30,15 @@ use Rattle.solo.specs.Closing as closing
 use Rattle.solo.specs.Runs as runs
 use Rattle.solo.specs.Ticks as ticks
 use Rattle.solo_laws.specs.Calls.{Call, Does, Course, Spawn, SpawnRefused, Take, Settle, Finish, Wake, WakeAndRelease, Hold, Release}
-use Rattle.solo_laws.specs.Calls.{Cancel, Detach, Poll, Retract, MakeTick, TickTake, TickSearch, TickLeave, MakeRun, RunBegin, RunTake}
+use Rattle.solo_laws.specs.Calls.{Cancel, Detach, Poll, Retract, MakeTick, TickTake}
+use Rattle.solo_laws.specs.Calls.{TickSearch, TickSleep, TickLeave, MakeRun, RunBegin, RunTake}
 use Rattle.solo_laws.specs.Calls.{RunSearch, RunLeave, RunDrain, Leak, LeakNext, Close, Drain}
 use Rattle.solo_laws.specs.Futures.{futures}
 use Rattle.solo_laws.specs.Rooms.{places_in, numbers_of, HasPlaces, may_take_memory, MakesNoRoom, HasPlacesForAll}
 use Rattle.solo_laws.proofs.RoomParts.{LineFits, LinesFit, pushed_fits, rest_fits, taken_fits, closed_fits, listed_fits}
 use Rattle.solo_laws.proofs.RoomFrames.{Most, Within, unwoken_fits, rest_places, turned_in, swept_in, loosed_in, told_in, scheduled_in}
-use Rattle.solo_laws.proofs.RoomFrames.{scheduled_if_in, let_go_in, left_in, put_in, begun_in, popped_in, tick_taken_in, tick_searched_in}
+use Rattle.solo_laws.proofs.RoomFrames.{scheduled_if_in, let_go_in, left_in, put_in}
+use Rattle.solo_laws.proofs.RoomFrames.{begun_in, popped_in, tick_taken_in, tick_searched_in, slept_in}
 use Rattle.solo_laws.proofs.RoomFrames.{tick_left_in, run_taken_in, run_searched_in, run_drained_in}
 
 all_pushed_fits : {F : Type 0} (limit : ℕ) (es : List (Entry F (Option Task))) (q : ClosableQueue Task) → LineFits limit q
@@ -183,6 +185,7 @@ module _ {F T X : Type 0} (m : Most) where
   within MakeTick old new does is_other p = absurd cc
   within (TickTake ticker waker) old new is is_other p = moved_to new (ticks.taken ticker waker old) is (tick_taken_in m ticker waker old p)
   within (TickSearch ticker) old new is is_other p = moved_to new (ticks.searched ticker old) is (tick_searched_in m ticker old p)
+  within (TickSleep ticker waker) old new is is_other p = moved_to new (ticks.slept ticker waker old) is (slept_in m ticker waker old p)
   within (TickLeave ticker) old new is is_other p = moved_to new (ticks.left ticker old) is (tick_left_in m ticker old p)
   within MakeRun old new does is_other p = absurd cc
   within (RunBegin runner) old new is is_other p =

@@ -20,7 +20,7 @@ use Rattle.solo.specs.declared.steals.Source.{Source}
 use Rattle.solo.specs.declared.steals.Source.TheVariants.{Common, Own}
 use Rattle.solo.specs.declared.solo.Solo.{Solo}
 use Rattle.solo.specs.OwnQueues as own
-use Rattle.solo.specs.Lines.{search_answer}
+use Rattle.solo.specs.Lines.{is_empty, search_answer}
 use Rattle.solo.specs.Cells.{Kept, choose, asked}
 use Rattle.solo.specs.Cells as cells
 use Rattle.solo.specs.Table.{TableValue, rest_of, rest_table, room_after, first_parts}
@@ -240,13 +240,16 @@ module _ {F T X : Type 0} (m : Most) where
   pub tick_taken_in : (ticker : Ticker) (waker : SoloWaker X) (s : Solo F T X) → Within s → Within (ticks.taken ticker waker s)
   tick_taken_in ticker waker s p = tick_by_in (solo.sought s) ticker waker (popped s) (popped_in s p)
 
-  search_by_in : (first : Option Task) (turn : ℕ) (ticker : Ticker) (s : Solo F T X) → Within s
-      → Within (ticks.searched_by first turn ticker s)
-  search_by_in (Some task) turn ticker s p = found_in ticker task s p
-  search_by_in None turn ticker s p = p
+  search_by_in : (first : Option Task) (ticker : Ticker) (s : Solo F T X) → Within s → Within (ticks.searched_by first ticker s)
+  search_by_in (Some task) ticker s p = found_in ticker task s p
+  search_by_in None ticker s p = p
 
   pub tick_searched_in : (ticker : Ticker) (s : Solo F T X) → Within s → Within (ticks.searched ticker s)
-  tick_searched_in ticker s p = search_by_in (solo.sought s) s.lines.turn ticker (popped s) (popped_in s p)
+  tick_searched_in ticker s p = search_by_in (solo.sought s) ticker (popped s) (popped_in s p)
+
+  pub slept_in : (ticker : Ticker) (waker : SoloWaker X) (s : Solo F T X) → Within s → Within (ticks.slept ticker waker s)
+  slept_in ticker waker s p =
+      chosen Within (is_empty s.lines) (ticks.fallen_asleep ticker waker s) s (asleep_in ticker waker s p) p
 
   leave_by_in : (w : Option (SoloWaker X)) (s : Solo F T X) → Within s → Within (ticks.left_by w s)
   leave_by_in None s p = told_in s p
@@ -327,15 +330,15 @@ module _ {F T X : Type 0} (m : Most) where
       run_by_in (seek_answer runner.number start s).task runner ticker waker (sought runner.number start s)
       (sought_in runner.number start s p)
 
-  run_search_by_in : (first : Option Task) (turn : ℕ) (runner : Runner) (ticker : Ticker) (s : Solo F T X) → Within s
-      → Within (runs.searched_by first turn runner ticker s)
-  run_search_by_in (Some task) turn runner ticker s p = run_found_in runner ticker task s p
-  run_search_by_in None turn runner ticker s p = p
+  run_search_by_in : (first : Option Task) (runner : Runner) (ticker : Ticker) (s : Solo F T X) → Within s
+      → Within (runs.searched_by first runner ticker s)
+  run_search_by_in (Some task) runner ticker s p = run_found_in runner ticker task s p
+  run_search_by_in None runner ticker s p = p
 
   pub run_searched_in : (runner : Runner) (ticker : Ticker) (start : ℕ) (s : Solo F T X) → Within s
       → Within (runs.searched runner ticker start s)
   run_searched_in runner ticker start s p =
-      run_search_by_in (seek_answer runner.number start s).task s.lines.turn runner ticker (sought runner.number start s)
+      run_search_by_in (seek_answer runner.number start s).task runner ticker (sought runner.number start s)
       (sought_in runner.number start s p)
 
   pub run_drained_in : (first : Option Task) (ticker : Ticker) (s : Solo F T X) → Within s → Within (runs.drained_by first ticker s)

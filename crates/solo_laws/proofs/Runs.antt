@@ -139,15 +139,15 @@ module _ {F T X : Type 0} where
   took_prompt runner ticker waker start s p =
       took_by_prompt (seek_answer runner.number start s).task runner ticker waker start s refl p
 
-  searched_by_prompt : (first : Option Task) (turn : ℕ) (runner : Runner) (ticker : Ticker) (s : Solo F T X) → Prompt s
-      → Prompt (searched_by first turn runner ticker s)
-  searched_by_prompt (Some task) turn runner ticker s p = found_prompt runner ticker task s p.0
-  searched_by_prompt None turn runner ticker s p = p
+  searched_by_prompt : (first : Option Task) (runner : Runner) (ticker : Ticker) (s : Solo F T X) → Prompt s
+      → Prompt (searched_by first runner ticker s)
+  searched_by_prompt (Some task) runner ticker s p = found_prompt runner ticker task s p.0
+  searched_by_prompt None runner ticker s p = p
 
   pub searched_prompt : (runner : Runner) (ticker : Ticker) (start : ℕ) (s : Solo F T X) → Prompt s →
       Prompt (searched runner ticker start s)
   searched_prompt runner ticker start s p =
-      searched_by_prompt (seek_answer runner.number start s).task s.lines.turn runner ticker (sought runner.number start s)
+      searched_by_prompt (seek_answer runner.number start s).task runner ticker (sought runner.number start s)
       (sought_prompt runner.number start s p)
 
   drained_by_prompt : (first : Option Task) (ticker : Ticker) (s : Solo F T X) → Prompt s → Prompt (drained_by first ticker s)

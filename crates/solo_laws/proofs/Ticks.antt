@@ -1,5 +1,5 @@
 -- The same of what ticks do.
-use Rattle.std.proofs.Common.{◌≡◌, ℕ, ◌+◌, ◌-◌, ◌≤◌, ◌==◌, ◌||◌, nat_lt, Bool, true, false, [], ◌∷◌, length, Option, Some, None}
+use Rattle.std.proofs.Common.{◌≡◌, ℕ, ◌+◌, ◌-◌, ◌≤◌, ◌==◌, ◌&&◌, ◌||◌, nat_lt, Bool, true, false, [], ◌∷◌, length, Option, Some, None}
 use Rattle.std.proofs.Common.{refl, sym, subst, ◌∙◌, arith, length-append}
 use Rattle.std.proofs.lemmas.Bool.Decides.{nat_tests}
 use Rattle.std.proofs.lemmas.List.{length-set}
@@ -13,12 +13,13 @@ use Rattle.solo.specs.declared.ticks.Ticker.TheVariants.{Awake as AwakeTicker, A
 use Rattle.solo.specs.declared.solo.Solo.{Solo}
 use Rattle.solo.specs.Cells.{choose, asked}
 use Rattle.solo.specs.Cells as cells
+use Rattle.solo.specs.Lines.{is_empty}
 use Rattle.solo.specs.Turns.{lined, takes, turned, swept, told, told_waker, scheduled_if}
 use Rattle.solo.specs.Turns.{schedule_if_answer}
 use Rattle.solo.specs.Solo.{popped, sought}
 use Rattle.solo.specs.Ticks.{stored, told_unless, waker_dropped, drop_waker_answer, kept_by, up, woke_up}
 use Rattle.solo.specs.Ticks.{wake_up_answer, found, lain_anew, is_short, replaced, lain_again, fallen_asleep, taken_by, taken}
-use Rattle.solo.specs.Ticks.{searched_by, searched, gone, left_by, left}
+use Rattle.solo.specs.Ticks.{searched_by, searched, slept, gone, left_by, left}
 use Rattle.solo_laws.specs.Sleeping.{queued_in}
 use Rattle.solo_laws.proofs.Lines.{searched_empty}
 use Rattle.solo_laws.proofs.Sleepers.{Fits, woken_fits, woken_flag}
@@ -26,6 +27,18 @@ use Rattle.solo_laws.proofs.Prompt.{Sound, Awake, Prompt, awake_prompt, told_awa
 
 short_fits : (n count : ℕ) → nat_lt n count ≡ true → n + 1 ≤ count
 short_fits n count is = grind (arith, nat_tests)
+
+none_by : (urgent plain : ℕ) → (urgent == 0) ≡ true → (plain == 0) ≡ true → urgent + plain ≡ 0
+none_by urgent plain one other = grind (arith, nat_tests)
+
+both_true : (a b : Bool) → (a && b) ≡ true → (a ≡ true) × (b ≡ true)
+both_true true true is = (refl, refl)
+both_true true false is = absurd cc
+both_true false b is = absurd cc
+
+none_queued : (urgent plain : ℕ) → ((urgent == 0) && (plain == 0)) ≡ true → urgent + plain ≡ 0
+none_queued urgent plain is =
+    let both = both_true (urgent == 0) (plain == 0) is in none_by urgent plain both.0 both.1
 
 module _ {X : Type 0} where
   back_fits : (b : Bool) (s : Sleepers (SoloWaker X)) → Fits s → Fits (choose b (record s { rooms = s.rooms - 1 }) s)
@@ -125,13 +138,21 @@ module _ {F T X : Type 0} where
   pub taken_prompt : (ticker : Ticker) (waker : SoloWaker X) (s : Solo F T X) → Prompt s → Prompt (taken ticker waker s)
   taken_prompt ticker waker s p = taken_by_prompt (sought s) ticker waker s refl p
 
-  searched_by_prompt : (first : Option Task) (turn : ℕ) (ticker : Ticker) (s : Solo F T X) → Prompt s
-      → Prompt (searched_by first turn ticker s)
-  searched_by_prompt (Some task) turn ticker s p = found_prompt ticker task s p.0
-  searched_by_prompt None turn ticker s p = p
+  searched_by_prompt : (first : Option Task) (ticker : Ticker) (s : Solo F T X) → Prompt s → Prompt (searched_by first ticker s)
+  searched_by_prompt (Some task) ticker s p = found_prompt ticker task s p.0
+  searched_by_prompt None ticker s p = p
 
   pub searched_prompt : (ticker : Ticker) (s : Solo F T X) → Prompt s → Prompt (searched ticker s)
-  searched_prompt ticker s p = searched_by_prompt (sought s) s.lines.turn ticker (popped s) (popped_prompt s p)
+  searched_prompt ticker s p = searched_by_prompt (sought s) ticker (popped s) (popped_prompt s p)
+
+  slept_by_prompt : (b : Bool) (ticker : Ticker) (waker : SoloWaker X) (s : Solo F T X) → is_empty s.lines ≡ b → Prompt s
+      → Prompt (choose b (fallen_asleep ticker waker s) s)
+  slept_by_prompt true ticker waker s is p =
+      asleep_prompt ticker waker s (none_queued (length s.lines.urgent.items) (length s.lines.plain.items) is) p.0
+  slept_by_prompt false ticker waker s is p = p
+
+  pub slept_prompt : (ticker : Ticker) (waker : SoloWaker X) (s : Solo F T X) → Prompt s → Prompt (slept ticker waker s)
+  slept_prompt ticker waker s p = slept_by_prompt (is_empty s.lines) ticker waker s refl p
 
   gone_sound : (number : ℕ) (s : Solo F T X) → Sound s → Sound (gone number s)
   gone_sound number s sound =

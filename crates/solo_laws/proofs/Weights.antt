@@ -27,6 +27,7 @@ use Rattle.solo.specs.declared.solo.Solo.{Solo}
 use Rattle.solo.specs.declared.cells.After.{After}
 use Rattle.solo.specs.declared.cells.After.TheVariants.{Queue, Rest, Drop as DropFuture, Unknown}
 use Rattle.solo.specs.Table.{TableValue, new_entry, counted_waker, first_parts}
+use Rattle.solo.specs.Lines.{is_empty}
 use Rattle.solo.specs.Cells.{choose, asked}
 use Rattle.solo.specs.Cells as cells
 use Rattle.solo.specs.Turns as turns
@@ -37,7 +38,8 @@ use Rattle.solo.specs.Closing as closing
 use Rattle.solo.specs.Runs as runs
 use Rattle.solo.specs.Ticks as ticks
 use Rattle.solo_laws.specs.Calls.{Call, Does, Course, Spawn, SpawnRefused, Take, Settle, Finish, Wake, WakeAndRelease, Hold, Release}
-use Rattle.solo_laws.specs.Calls.{Cancel, Detach, Poll, Retract, MakeTick, TickTake, TickSearch, TickLeave, MakeRun, RunBegin, RunTake}
+use Rattle.solo_laws.specs.Calls.{Cancel, Detach, Poll, Retract, MakeTick, TickTake}
+use Rattle.solo_laws.specs.Calls.{TickSearch, TickSleep, TickLeave, MakeRun, RunBegin, RunTake}
 use Rattle.solo_laws.specs.Calls.{RunSearch, RunLeave, RunDrain, Leak, LeakNext, Close, Drain}
 use Rattle.solo_laws.specs.Futures.{sum_of}
 use Rattle.solo_laws.specs.Weights.{weight_of, weight_in, weight_found, weight_seen, weight_back, weight_searched, weight_sought}
@@ -134,10 +136,22 @@ module _ {F : Type 0} (weigh : F → ℕ) where
     tick_take_weight (Some task) ticker waker s = tick_found_weight ticker (Some waker) task s
     tick_take_weight None ticker waker s = asleep_weight ticker waker s
 
-    tick_search_weight : (first : Option Task) (turn : ℕ) (ticker : Ticker) (s : Solo F T X)
-        → inside (ticks.searched_by first turn ticker s) + weight_searched weigh (ticks.search_answer_by first ticker s) ≡ inside s
-    tick_search_weight (Some task) turn ticker s = tick_found_weight ticker None task s
-    tick_search_weight None turn ticker s = omega arith
+    tick_search_weight : (first : Option Task) (ticker : Ticker) (s : Solo F T X)
+        → inside (ticks.searched_by first ticker s) + weight_searched weigh (ticks.search_answer_by first ticker s) ≡ inside s
+    tick_search_weight (Some task) ticker s = tick_found_weight ticker None task s
+    tick_search_weight None ticker s = omega arith
+
+    slept_weight : (ticker : Ticker) (waker : SoloWaker X) (s : Solo F T X)
+        → inside (ticks.slept ticker waker s) + weight_seen weigh (ticks.slept_answer ticker waker s).look ≡ inside s
+    slept_weight ticker waker s = by (is_empty s.lines)
+      where
+        by : (b : Bool)
+            → inside (choose b (ticks.fallen_asleep ticker waker s) s)
+            + weight_seen weigh
+            (choose b (ticks.sleep_answer ticker waker s) (ticks.look_answer ticker Again None (Some waker) s)).look
+            ≡ inside s
+        by true = asleep_weight ticker waker s
+        by false = omega arith
 
     run_found_weight : (runner : Runner) (ticker : Ticker) (spare : Option (SoloWaker X)) (task : Task) (walked : Bool) (s : Solo F T X)
         → inside (runs.found runner ticker task s)
@@ -159,12 +173,12 @@ module _ {F : Type 0} (weigh : F → ℕ) where
     run_take_weight (Some task) walked runner ticker waker s = run_found_weight runner ticker (Some waker) task walked s
     run_take_weight None walked runner ticker waker s = asleep_weight ticker waker s
 
-    run_search_weight : (first : Option Task) (walked : Bool) (turn : ℕ) (runner : Runner) (ticker : Ticker) (s : Solo F T X)
-        → inside (runs.searched_by first turn runner ticker s)
+    run_search_weight : (first : Option Task) (walked : Bool) (runner : Runner) (ticker : Ticker) (s : Solo F T X)
+        → inside (runs.searched_by first runner ticker s)
         + weight_sought weigh (runs.search_answer_by first walked runner ticker s)
         ≡ inside s
-    run_search_weight (Some task) walked turn runner ticker s = run_found_weight runner ticker None task walked s
-    run_search_weight None walked turn runner ticker s = omega arith
+    run_search_weight (Some task) walked runner ticker s = run_found_weight runner ticker None task walked s
+    run_search_weight None walked runner ticker s = omega arith
 
     left_answer_weight : (found : Option (Entry F (Option Task))) (s : Solo F T X)
         → weight_of weigh (turns.left_answer_by (parts_of found) s).future ≡ held weigh found
@@ -344,7 +358,9 @@ module _ {F : Type 0} (weigh : F → ℕ) where
         (none_in (tick_take_weight (solo.sought old) ticker waker (solo.popped old)))
     balance (TickSearch ticker) old new is =
         at (TickSearch ticker) old new (ticks.searched ticker old) is
-        (none_in (tick_search_weight (solo.sought old) old.lines.turn ticker (solo.popped old)))
+        (none_in (tick_search_weight (solo.sought old) ticker (solo.popped old)))
+    balance (TickSleep ticker waker) old new is =
+        at (TickSleep ticker waker) old new (ticks.slept ticker waker old) is (none_in (slept_weight ticker waker old))
     balance (TickLeave ticker) old new is =
         at (TickLeave ticker) old new (ticks.left ticker old) is
         (kept old (ticks.left ticker old) (tick_left_of (Weighing (inside old)) ticker old refl))
@@ -363,7 +379,7 @@ module _ {F : Type 0} (weigh : F → ℕ) where
         let s : Solo F T X = sought runner.number start old in
         let same : inside s ≡ inside old = sought_of (Weighing (inside old)) runner.number start old refl in
         at (RunSearch runner ticker start) old new (runs.searched runner ticker start old) is
-        (none_in (run_search_weight found.task found.has_walked old.lines.turn runner ticker s ∙ same))
+        (none_in (run_search_weight found.task found.has_walked runner ticker s ∙ same))
     balance (RunLeave runner) old new is = at (RunLeave runner) old new (runs.left runner old) is (kept old (runs.left runner old) refl)
     balance (RunDrain leaving) old new is =
         at (RunDrain leaving) old new (runs.drained leaving old) is

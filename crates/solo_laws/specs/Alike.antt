@@ -1,7 +1,7 @@
 -- What calls of an executor of one owner and of the plain scheduler have in common: where both stand alike they leave both alike.
 -- The plain scheduler is told by its choices what the executor does: who lay down last is told, the turn names the mark, and a copy is
 -- refused where a task has as many references as it may.
-use Rattle.std.specs.Prelude.{◌≡◌, ℕ, ◌<◌, ◌≤◌, Bool, true, if◌then◌else◌, List, ◌∷◌, length, Option, Some, None}
+use Rattle.std.specs.Prelude.{◌≡◌, ℕ, ◌<◌, ◌≤◌, Bool, true, false, if◌then◌else◌, List, ◌∷◌, length, Option, Some, None}
 use Rattle.task_moves.specs.declared.local_task.answers.Polled.{Polled}
 use Rattle.task_moves.specs.declared.local_task.answers.Polled.TheVariants.{Pending as PendingPoll}
 use Rattle.solo.specs.declared.names.Task.{Task}
@@ -12,7 +12,7 @@ use Rattle.solo.specs.declared.solo.Solo.{Solo}
 use Rattle.solo.specs.Cells.{choose}
 use Rattle.solo.specs.Lines.{mark_of_turn}
 use Rattle.solo.specs.Solo as solo
-use Rattle.plain_scheduler.specs.State.{Choice, Granted, AtOnce, Code, Poll, Taker, Try, Plain}
+use Rattle.plain_scheduler.specs.State.{Choice, Granted, AtOnce, Code, Poll, Taker, Run, Plain}
 use Rattle.plain_scheduler.specs.Moves.{task}
 use Rattle.plain_scheduler.specs.Calls.{Call, TryTick, Wake, Use, Copy, Release, PollHandle, Cancel, Detach, DropHandle, Pends}
 use Rattle.plain_scheduler.specs.Calls.{EndsWith, is_granted, does}
@@ -48,6 +48,11 @@ module _ {F T X : Type 0} where
   abbrev pub handle_polled : Bool → Task → SoloWaker X → Solo F T X → Solo F T X
   handle_polled copied task w s =
       choose (solo.must_wait task s) (choose copied (registered task w (copies w s)) s) (solo.polled task w s)
+
+-- one future is taken in a try and in a poll of a tick
+abbrev pub takes_one : {A : Type 0} → Taker A → Bool
+takes_one (Run r w) = false
+takes_one by = true
 
 -- where both stand alike, by names of futures, they do after a call
 module _ {F T X : Type 0} (name : ℕ → Task) (Alike : Solo F T X → Plain T (SoloWaker X) → Type 0) (s : Solo F T X)
@@ -88,12 +93,12 @@ module _ {F T X : Type 0} (name : ℕ → Task) (Alike : Solo F T X → Plain T 
       (c : Choice) (f : ℕ) → f < length p.futures → c.refusal ≡ (if solo.may_hold (name f) s then Granted else AtOnce)
       → Alike (solo.held (name f) s) (does wakes c (Copy f) p)
 
-  -- the end of a poll in a try that gave no output, with what was lent for it
-  abbrev pub PendsAlike : Type 0
-  PendsAlike =
-      (c : Choice) (f : ℕ) (rest : List (Code T (SoloWaker X))) (lent : Lent) (future : F) → p.inside ≡ Poll f Try ∷ rest
-      → lent.task ≡ name f → length p.lying ≤ c.tells → HasLife 2 s.lines
-      → Alike (solo.settled_pending lent future s) (does wakes c Pends p)
+  -- the end of a poll in a try or a tick that gave no output, with what was lent for it
+  abbrev pub PendsAlike : (ℕ → Lent) → Type 0
+  PendsAlike its =
+      (c : Choice) (f : ℕ) (by : Taker (SoloWaker X)) → takes_one by ≡ true → (rest : List (Code T (SoloWaker X))) (future : F)
+      → p.inside ≡ Poll f by ∷ rest → length p.lying ≤ c.tells → HasLife 2 s.lines
+      → Alike (solo.settled_pending (its f) future s) (does wakes c Pends p)
 
   -- and the end of one that gave an output: until its future is dropped it is nothing to the executor
   abbrev pub GivesAlike : Type 0

@@ -34,6 +34,7 @@ pub data Call (F T X : Type 0) : Type 0 where
   MakeTick : Call F T X
   TickTake : Ticker → SoloWaker X → Call F T X
   TickSearch : Ticker → Call F T X
+  TickSleep : Ticker → SoloWaker X → Call F T X
   TickLeave : Ticker → Call F T X
   MakeRun : Call F T X
   RunBegin : Runner → Call F T X
@@ -65,6 +66,7 @@ module _ {F T X : Type 0} where
   Does MakeTick old new = (new ≡ ticks.roomy old) ⊎ (new ≡ old)
   Does (TickTake ticker waker) old new = new ≡ ticks.taken ticker waker old
   Does (TickSearch ticker) old new = new ≡ ticks.searched ticker old
+  Does (TickSleep ticker waker) old new = new ≡ ticks.slept ticker waker old
   Does (TickLeave ticker) old new = new ≡ ticks.left ticker old
   Does MakeRun old new = (new ≡ runs.made old) ⊎ (new ≡ old)
   Does (RunBegin runner) old new = new ≡ runs.begun runner old

@@ -10,6 +10,8 @@ pub mod Road
 pub mod Tabled
 pub mod Alike
 pub mod Spawning
+pub mod Dropping
+pub mod Leaking
 pub mod Going
 pub mod Seen
 pub mod Done

@@ -1,5 +1,5 @@
 -- At which of its queues an executor of one owner looks first, search after search.
-use Rattle.std.specs.Prelude.{◌≡◌, ℕ, ◌+◌, Bool, true, false, ◌&&◌, not, List, [], ◌∷◌, ◌++◌, length, Some, is_some}
+use Rattle.std.specs.Prelude.{◌≡◌, ℕ, ◌+◌, Bool, true, false, not, List, [], ◌∷◌, ◌++◌, length, Some, is_some}
 use Rattle.executor_parts.specs.declared.mark.Mark.{Mark}
 use Rattle.executor_parts.specs.declared.mark.Mark.TheVariants.{Plain, Urgent}
 use Rattle.solo.specs.declared.names.Task.{Task}
@@ -7,7 +7,6 @@ use Rattle.solo.specs.declared.runs.Runner.{Runner}
 use Rattle.solo.specs.declared.solo.Solo.{Solo}
 use Rattle.solo.specs.Lines.{mark_of_turn, first_of}
 use Rattle.solo.specs.OwnQueues as own
-use Rattle.solo.specs.Steals.{seek_answer}
 use Rattle.solo.specs.Solo.{sought}
 use Rattle.solo_laws.specs.Calls.{Call, Course, Take, TickTake, TickSearch, RunTake, RunSearch}
 
@@ -35,14 +34,13 @@ module _ {F T X : Type 0} where
   abbrev pub comes : Runner → Solo F T X → Bool
   comes runner s = not (is_some (own.first_of runner.number s.runs))
 
-  -- at which queue a call looks first. A search without a waker that finds nothing gives its turn back: the search with a waker
-  -- that follows it looks first where it did, and stands for both
+  -- at which queue a call looks first
   abbrev pub look_of : Call F T X → Solo F T X → List Mark
   look_of Take s = look_if true s
   look_of (TickTake ticker waker) s = look_if true s
-  look_of (TickSearch ticker) s = look_if (is_some (sought s)) s
+  look_of (TickSearch ticker) s = look_if true s
   look_of (RunTake runner ticker waker start) s = look_if (comes runner s) s
-  look_of (RunSearch runner ticker start) s = look_if (comes runner s && is_some (seek_answer runner.number start s).task) s
+  look_of (RunSearch runner ticker start) s = look_if (comes runner s) s
   look_of _ s = []
 
   -- at which queues the searches of a list of calls look first

@@ -19,7 +19,7 @@ use Rattle.solo.specs.Ticks as ticks
 use Rattle.solo.specs.Runs as runs
 use Rattle.solo.specs.Closing as closing
 use Rattle.solo_laws.specs.Calls.{Call, Does, Course, Spawn, Settle, Finish, Wake, WakeAndRelease, Release, Cancel, Detach, Retract}
-use Rattle.solo_laws.specs.Calls.{TickTake, TickSearch, TickLeave, RunTake, RunSearch, RunLeave, RunDrain, LeakNext, Drain}
+use Rattle.solo_laws.specs.Calls.{TickTake, TickSearch, TickSleep, TickLeave, RunTake, RunSearch, RunLeave, RunDrain, LeakNext, Drain}
 use Rattle.solo_laws.specs.Futures.{sum_of}
 
 abbrev pub one_if : Bool → ℕ
@@ -98,6 +98,7 @@ module _ (t : Task) where
     handed_away (Detach task) old new does = times_of (solo.detach_answer task old).returned
     handed_away (TickTake ticker waker) old new does = times_of (ticks.take_answer ticker waker old).returned
     handed_away (TickSearch ticker) old new does = times_searched (ticks.search_answer ticker old)
+    handed_away (TickSleep ticker waker) old new does = times_of (ticks.slept_answer ticker waker old).returned
     handed_away (TickLeave ticker) old new does = times_of (ticks.leave_answer ticker old).told.returned
     handed_away (RunTake runner ticker waker start) old new does =
         times_of (runs.take_answer runner ticker waker start old).ticked.returned

@@ -1,6 +1,6 @@
 -- When an executor of one owner stands where the plain scheduler does: tasks, queues and sleepers are those of its lists.
-use Rattle.std.specs.Prelude.{◌≡◌, ℕ, ◌+◌, ◌<◌, ◌≤◌, ◌==◌, Bool, true, false, ◌&&◌, ◌||◌, not, List, [], ◌∷◌, length, map, filter}
-use Rattle.std.specs.Prelude.{find, slice_get, Option, Some, None, is_some}
+use Rattle.std.specs.Prelude.{◌≡◌, ℕ, ◌+◌, ◌<◌, ◌≤◌, ◌==◌, Bool, true, false, ◌&&◌, ◌||◌, not, if◌then◌else◌, List, [], ◌∷◌, length, map}
+use Rattle.std.specs.Prelude.{filter, find, slice_get, Option, Some, None, is_some}
 use Rattle.queue_steps.specs.ClosableQueue.{most_accepted}
 use Rattle.executor_parts.specs.Sleepers.{Sleepers}
 use Rattle.executor_parts.specs.declared.mark.Mark.{Mark}
@@ -16,7 +16,7 @@ use Rattle.task_moves.specs.LocalTask.{is_home, is_gone, is_dropping as is_being
 use Rattle.plain_scheduler.specs.Calls.{living_from}
 use Rattle.executor_parts.specs.Marks.{other}
 use Rattle.solo.specs.Lines.{LinesValue, line_of, mark_of_turn, searched, search_answer}
-use Rattle.plain_scheduler.specs.State.{Due, Future, Lying, Code, Poll, Drop, Lose, Closed, Gave, Plain}
+use Rattle.plain_scheduler.specs.State.{Due, Future, Who, Lying, Code, Poll, Drop, Lose, Closed, Gave, Plain}
 use Rattle.plain_scheduler.specs.Lists.{any, without}
 use Rattle.plain_scheduler.specs.Moves.{is_common, is_called, chosen, task}
 
@@ -40,6 +40,11 @@ module _ {A : Type 0} where
   abbrev pub wakers_in : List (Lying A) → List A
   wakers_in [] = []
   wakers_in (l ∷ ls) = first_if l.waker (wakers_in ls)
+
+  -- and these
+  abbrev pub waiting : List (Lying A) → List Who
+  waiting [] = []
+  waiting (l ∷ ls) = if is_called l then waiting ls else l.who ∷ waiting ls
 
 -- a task that is over, and that nobody can reach
 pub record IsOver {T A : Type 0} (t : AbstractTask T A) : Type 0 where

@@ -26,7 +26,7 @@ use Rattle.solo_laws.specs.Seen.{name_of}
 use Rattle.solo_laws.specs.Going.{Going, Step, calm, quiet}
 use Rattle.solo_laws.specs.Goes.{goes}
 use Rattle.solo_laws.specs.HandedOut.{start_of, to_drop}
-use Rattle.solo_laws.specs.TicksGo.{AnswersAs, has_place, lies, turn_back, waking}
+use Rattle.solo_laws.specs.TicksGo.{AnswersAs, has_place, lies, waking}
 
 abbrev pub of_run : {X : Type 0} → SoloWaker X → Runner → RunPoll Task ℕ
 of_run waker runner = record { run = runner.number; waker = name_of waker }
@@ -101,15 +101,14 @@ module _ {F T X : Type 0} where
   RunSearchesAs (Ok answer) g = RunsAs answer g
   RunSearchesAs (Err missed) g = (g.ticker ≡ missed.ticker) × (g.out ≡ quiet)
 
-  -- without one it has to copy one where it finds nothing, and then its turn comes back
+  -- without one it has to copy one where it finds nothing
   abbrev pub RunSearchesGo : Solo F T X → Type 0
   RunSearchesGo s = (runner : Runner) (ticker : Ticker) (waker : SoloWaker X) (start : ℕ)
       → runner.counted < 64 → runner.taken < 200
       → Ends (following saw.Pending (step.User (user_step.PollOwn (of_run waker runner)) ∷ []))
       (record (run_at runner start ticker None s) { rests = false })
       (run_searched (seek_answer runner.number start s).task runner start ticker waker (sought runner.number start s))
-      × (runs.searched runner ticker start s
-      ≡ turn_back (seek_answer runner.number start s).task s.lines.turn
-      (run_searched (seek_answer runner.number start s).task runner start ticker waker (sought runner.number start s)).solo)
+      × ((run_searched (seek_answer runner.number start s).task runner start ticker waker (sought runner.number start s)).solo
+      ≡ runs.searched runner ticker start s)
       × RunSearchesAs (runs.search_answer runner ticker start s)
       (run_searched (seek_answer runner.number start s).task runner start ticker waker (sought runner.number start s))

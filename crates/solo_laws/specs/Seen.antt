@@ -45,7 +45,7 @@ use Rattle.call_steps.specs.declared.step.tick.SleeperStep.TheVariants as sleepe
 use Rattle.call_steps.specs.declared.step.tick.TickStep.{TickStep}
 use Rattle.call_steps.specs.declared.step.tick.TickStep.TheVariants as tick_step
 use Rattle.call_steps.specs.Looking.{mark_in}
-use Rattle.call_steps.specs.Seeing.{first, owes, seen}
+use Rattle.call_steps.specs.Seeing.{owes, seen}
 use Rattle.solo.specs.declared.names.Task.{Task}
 use Rattle.solo.specs.declared.names.SoloWaker.{SoloWaker}
 use Rattle.solo.specs.declared.names.SoloWaker.TheVariants.{Task as OfTask, Outside}
@@ -101,6 +101,11 @@ module _ {X : Type 0} where
 module _ {T X : Type 0} where
   abbrev pub poll_end : Kept T X → Option abstract.PendingEnd
   poll_end v = choose (cells.is_lent v) (Some (abstract.pending_end v.task)) None
+
+-- the first of a queue
+abbrev pub first : Option Task → Seen
+first (Some task) = saw.Found task
+first None = saw.Nothing
 
 abbrev pub first_by : Bool → Option Task → Seen
 first_by sleeps (Some task) = saw.FoundBy task (record { sleeps = sleeps; counted = 0; taken = 0 })

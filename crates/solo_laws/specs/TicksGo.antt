@@ -19,6 +19,7 @@ use Rattle.solo.specs.declared.ticks.Ticked.{Ticked}
 use Rattle.solo.specs.declared.ticks.Ticker.{Ticker}
 use Rattle.solo.specs.declared.ticks.Ticker.TheVariants.{Awake, Asleep}
 use Rattle.solo.specs.declared.solo.Solo.{Solo}
+use Rattle.solo.specs.Lines.{is_empty}
 use Rattle.solo.specs.Solo.{sought, popped}
 use Rattle.solo.specs.Runs.{told}
 use Rattle.solo.specs.Ticks as ticks
@@ -120,11 +121,6 @@ module _ {F T X : Type 0} where
   searched None sleeping ticker s =
       record (calm s) { ticker = ticker; left = step.Tick (tick_step.CopyWaker sleeping) ∷ [] }
 
-  -- a look that finds nothing gives its turn back
-  abbrev pub turn_back : Option Task → ℕ → Solo F T X → Solo F T X
-  turn_back (Some task) turn s = s
-  turn_back None turn s = ticks.unturned turn s
-
   -- and of one without a waker: where it finds nothing the tick comes back
   abbrev pub SearchesAs : Result (Ticked F X) Ticker → Going F T X → Type 0
   SearchesAs (Ok answer) g = AnswersAs answer g
@@ -135,9 +131,17 @@ module _ {F T X : Type 0} where
   TickSearchesGo s = (tick : ℕ) (ticker : Ticker) (waker : SoloWaker X) →
       (goes deep (begins (asks.PollTick (of_tick waker tick))) (record (calm s) { ticker = ticker })
       ≡ searched (sought s) (of_tick waker tick) ticker (popped s))
-      × (ticks.searched ticker s
-      ≡ turn_back (sought s) s.lines.turn (searched (sought s) (of_tick waker tick) ticker (popped s)).solo)
+      × ((searched (sought s) (of_tick waker tick) ticker (popped s)).solo ≡ ticks.searched ticker s)
       × SearchesAs (ticks.search_answer ticker s) (searched (sought s) (of_tick waker tick) ticker (popped s))
+
+  -- behind a search that has found nothing a tick or run falls asleep with a copy of its waker; where a task is queued by then it
+  -- only searches again
+  abbrev pub TickSleepsGo : Solo F T X → Type 0
+  TickSleepsGo s = (sleeping : Sleeping Task ℕ) (ticker : Ticker) (waker : SoloWaker X)
+      → is_empty s.lines ≡ true → has_place ticker s ≡ true
+      → (goes deep (step.Tick (tick_step.CopyWaker sleeping) ∷ []) (record (calm s) { ticker = ticker; waker = Some waker })
+      ≡ lies sleeping ticker waker (calm s))
+      × TicksAs (ticks.slept_answer ticker waker s) (ticks.slept ticker waker s) (lies sleeping ticker waker (calm s))
 
   abbrev pub TickLeavesGo : Solo F T X → Type 0
   TickLeavesGo s = (tick : ℕ) (ticker : Ticker) →

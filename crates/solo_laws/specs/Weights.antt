@@ -17,7 +17,8 @@ use Rattle.solo.specs.Solo as solo
 use Rattle.solo.specs.Ticks as ticks
 use Rattle.solo.specs.Runs as runs
 use Rattle.solo.specs.Closing as closing
-use Rattle.solo_laws.specs.Calls.{Call, Course, Spawn, Take, Settle, Finish, Cancel, Detach, Retract, TickTake, TickSearch, RunTake}
+use Rattle.solo_laws.specs.Calls.{Call, Course, Spawn, Take, Settle, Finish}
+use Rattle.solo_laws.specs.Calls.{Cancel, Detach, Retract, TickTake, TickSearch, TickSleep, RunTake}
 use Rattle.solo_laws.specs.Calls.{RunSearch, Drain}
 use Rattle.solo_laws.specs.Futures.{sum_of}
 
@@ -82,6 +83,7 @@ module _ {F : Type 0} (weigh : F → ℕ) where
     handed_out (Retract task) s = weight_of (closing.retract_answer task s).future
     handed_out (TickTake ticker waker) s = weight_seen (ticks.take_answer ticker waker s).look
     handed_out (TickSearch ticker) s = weight_searched (ticks.search_answer ticker s)
+    handed_out (TickSleep ticker waker) s = weight_seen (ticks.slept_answer ticker waker s).look
     handed_out (RunTake runner ticker waker start) s = weight_seen (runs.take_answer runner ticker waker start s).ticked.look
     handed_out (RunSearch runner ticker start) s = weight_sought (runs.search_answer runner ticker start s)
     handed_out Drain s = weight_owed (closing.drain_answer s)

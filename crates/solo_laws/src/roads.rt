@@ -11,6 +11,8 @@ ghost use Rattle.plain_scheduler.specs.Calls.{new};
 ghost use Rattle.plain_scheduler.specs.State.{Due, Plain};
 ghost use Rattle.solo_laws.specs.Alike.{TakesAlike, WakesAlike, ReleasesAlike, UsesAlike, CancelsAlike, CopiesAlike};
 ghost use Rattle.solo_laws.specs.Alike.{HandlesAlike, HandleDropsAlike, PendsAlike, GivesAlike, DetachesAlike};
+ghost use Rattle.solo_laws.specs.Dropping.{GivenDropsAlike, ClosedDropsAlike, LosesAlike};
+ghost use Rattle.solo_laws.specs.Leaking.{LeaksAlike};
 ghost use Rattle.solo_laws.specs.Road.{Lined, SearchesAlike};
 ghost use Rattle.solo_laws.specs.Spawning.{SpawnsAlike, RefusesAlike, EmptyAlike};
 ghost use Rattle.solo_laws.specs.Tabled.{Stands, named};
@@ -73,7 +75,7 @@ pub fn a_handle_goes_alike<F, T, X>()
 
 /// So does the end of a poll that gave no output: the future waits, or is queued again, or is to be dropped.
 pub fn a_poll_ends_alike<F, T, X>()
-    ensures { (its : ℕ → Lent) (s : Solo F T X) (p : Plain T (SoloWaker X)) → Stands its s p → PendsAlike (named its) (Stands its) s p }
+    ensures { (its : ℕ → Lent) (s : Solo F T X) (p : Plain T (SoloWaker X)) → Stands its s p → PendsAlike (named its) (Stands its) s p its }
 {}
 
 /// And one that gave an output is nothing to the executor until its future is dropped.
@@ -94,4 +96,21 @@ pub fn a_refused_spawn_is_refused<F, T, X>()
 /// And both say alike whether they are empty.
 pub fn both_say_whether_empty<F, T, X>()
     ensures { (its : ℕ → Lent) (s : Solo F T X) (p : Plain T (SoloWaker X)) → Stands its s p → EmptyAlike its s p }
+{}
+
+/// The end of a future's drop leaves both alike, with the call or the drop of who awaits its task, where no output is to be dropped
+/// first.
+pub fn a_drop_ends_alike<F, T, X>()
+    ensures { (its : ℕ → Lent) (s : Solo F T X) (p : Plain T (SoloWaker X)) → Stands its s p
+        → GivenDropsAlike its s p × ClosedDropsAlike its s p }
+{}
+
+/// And so does the end of an output's drop, with the call of who awaits its task.
+pub fn an_output_goes_alike<F, T, X>()
+    ensures { (its : ℕ → Lent) (s : Solo F T X) (p : Plain T (SoloWaker X)) → Stands its s p → LosesAlike its s p }
+{}
+
+/// A leak, with the call of each waker that it has taken out, is one of the plain scheduler.
+pub fn a_leak_is_a_leak<F, T, X>()
+    ensures { (its : ℕ → Lent) (s : Solo F T X) (p : Plain T (SoloWaker X)) → Stands its s p → LeaksAlike its s p }
 {}

@@ -6,7 +6,7 @@ ghost use Rattle.solo_laws.specs.EndsGo.{LeaksGo, LeakNextsGo, ClosesGo, DrainsG
 ghost use Rattle.solo_laws.specs.RunsGo.{RunsBegin, RunsRegister, RunLeavesGo, RunDrainsGo};
 ghost use Rattle.solo_laws.specs.PollsGo.{ReadySettlesGo, PendingSettlesGo, FinishesGo, RetractsGo};
 ghost use Rattle.solo_laws.specs.SearchesGo.{RunTakesGo, RunSearchesGo};
-ghost use Rattle.solo_laws.specs.TicksGo.{TicksBegin, TickTakesGo, TickSearchesGo, TickLeavesGo};
+ghost use Rattle.solo_laws.specs.TicksGo.{TicksBegin, TickTakesGo, TickSearchesGo, TickSleepsGo, TickLeavesGo};
 
 /// A wake, a wake by a waker that goes, and the drop of a waker: the task is queued where it has to be, and then a sleeper told, whose
 /// task is woken in its turn.
@@ -30,12 +30,13 @@ pub fn takes_go_by_next<F, T, X>()
     ensures takes { (s : Solo F T X) → TakesGo s }
 {}
 
-/// A tick: its making, its look with a copy of its waker and without one, and its leave. One with a waker that finds nothing has room
-/// to fall asleep in, or sleeps.
+/// A tick: its making, its look with a copy of its waker and without one, its sleep behind the latter, which is a run's too, and its
+/// leave. One with a waker that finds nothing has room to fall asleep in, or sleeps.
 pub fn ticks_go_by_next<F, T, X>()
     ensures begin { (s : Solo F T X) → TicksBegin s }
     ensures takes { (s : Solo F T X) → TickTakesGo s }
     ensures searches { (s : Solo F T X) → TickSearchesGo s }
+    ensures sleeps { (s : Solo F T X) → TickSleepsGo s }
     ensures leave { (s : Solo F T X) → TickLeavesGo s }
 {}
 

@@ -1,5 +1,6 @@
 -- A new executor stands where the new plain scheduler does.
 use Rattle.std.proofs.Common.{◌≡◌, ℕ, Bool, false, not, Some, [], map, refl, ap, ◌∙◌, arith}
+use Rattle.queue_steps.specs.ClosableQueue.{ClosableQueue}
 use Rattle.executor_parts.specs.Sleepers.{Sleepers}
 use Rattle.executor_parts.specs.declared.mark.Mark.{Mark}
 use Rattle.executor_parts.specs.declared.mark.Mark.TheVariants.{Plain as PlainMark, Urgent}
@@ -8,6 +9,7 @@ use Rattle.solo.specs.declared.names.Task.{Task}
 use Rattle.solo.specs.declared.names.SoloWaker.{SoloWaker}
 use Rattle.solo.specs.declared.owed.Lent.{Lent}
 use Rattle.solo.specs.declared.solo.Solo.{Solo}
+use Rattle.solo.specs.OwnQueues.{OwnQueuesValue, queue_of}
 use Rattle.solo.specs.Table.{TableValue}
 use Rattle.solo.specs.Lines.{line_of, new_lines}
 use Rattle.solo.specs.Solo as solo
@@ -70,5 +72,13 @@ module _ {F T X : Type 0} (its : ℕ → Lent) where
       kind = ap solo.counts fresh.kind_of ∙ counted;
       lent = λ f has. absurd cc;
       dropping = λ f has. absurd cc;
+      homes = λ f place below home. absurd (omega (arith, below));
+      made = ap (λ (o : OwnQueuesValue). o.made) fresh.runs;
+      queues = λ r. ap (λ (o : OwnQueuesValue). queue_of r o.queues) fresh.runs;
+      kept = λ r over. refl;
+      going = ap (λ (t : TableValue F). t.entries) fresh.going;
+      leaving = ap (λ (q : ClosableQueue Task). q.items) fresh.leaving;
+      leaving_open = ap (λ (q : ClosableQueue Task). q.closed) fresh.leaving;
+      leaving_limit = ap (λ (q : ClosableQueue Task). q.capacity) fresh.leaving;
     },
   )

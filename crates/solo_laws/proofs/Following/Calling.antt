@@ -19,7 +19,7 @@ use Rattle.plain_scheduler.specs.Moves.{task, put, tell, becomes, called, let_go
 use Rattle.plain_scheduler.specs.Calls as calls
 use Rattle.solo_laws.specs.Alike.{CancelsAlike, HandlesAlike, HandleDropsAlike, calls as calls_it, lets_go, copies, cancelled}
 use Rattle.solo_laws.specs.Alike.{handle_polled, registered, replaced_by}
-use Rattle.solo_laws.specs.Road.{IsTaskOf, TaskIs, IsNamed, Follows, HasLife, wakes as wakes_of}
+use Rattle.solo_laws.specs.Road.{TaskIs, IsNamed, Follows, HasLife, wakes as wakes_of}
 use Rattle.solo_laws.proofs.Following.Lists.{get_below, set_same, set_other}
 use Rattle.solo_laws.proofs.Following.Seeing.{seen}
 use Rattle.solo_laws.proofs.Following.Due.{clash}
@@ -78,15 +78,15 @@ module _ {T X : Type 0} where
     copied_asks (OfTask t) f p = put_asks ask (abstract.copy (task t.number p)) t.number f p (same (task t.number p))
 
   -- a cancel, and the call of who awaits the task
-  pub cancel_still : (c : Choice) (f : ℕ) (p : Plain T (SoloWaker X)) → Still p (calls.cancel wakes_of c f p)
+  pub cancel_still : (c : Choice) (f : ℕ) (p : Plain T (SoloWaker X)) → Still c p (calls.cancel wakes_of c f p)
   cancel_still c f p =
       let left = abstract.cancel (task f p) in
       let q = becomes wakes_of (tell wakes_of c) f left.task p in
-      chain (becomes_still (tell wakes_of c) (tell_still c) f left.task p) (by left.called q)
+      chain c (becomes_still c (tell wakes_of c) (tell_still c) f left.task p) (by left.called q)
     where
-      by : (o : Option (SoloWaker X)) (q : Plain T (SoloWaker X)) → Still q (on o (called wakes_of (tell wakes_of c)) q)
-      by None q = still q
-      by (Some w) q = called_still (tell wakes_of c) (tell_still c) w q
+      by : (o : Option (SoloWaker X)) (q : Plain T (SoloWaker X)) → Still c q (on o (called wakes_of (tell wakes_of c)) q)
+      by None q = still c q
+      by (Some w) q = called_still c (tell wakes_of c) (tell_still c) w q
 
 abbrev pub loud : {T X : Type 0} → Choice → Plain T (SoloWaker X) → Plain T (SoloWaker X)
 loud c p = tell wakes_of c p
@@ -163,7 +163,7 @@ module _ {F T X : Type 0} (name : ℕ → Task) (s : Solo F T X) (p : Plain T (S
       → Follows name (cancelled (name f) s) (calls.cancel wakes_of c f p)
   cancels c f at many life =
       let q = becomes wakes_of (tell wakes_of c) f (abstract.cancel (task f p)).task p in
-      let still = becomes_still (tell wakes_of c) (tell_still c) f (abstract.cancel (task f p)).task p in
+      let still = becomes_still c (tell wakes_of c) (tell_still c) f (abstract.cancel (task f p)).task p in
       let z = solo.cancelled (name f) s in
       subst (λ o. Follows name (calls_it o z) (on (abstract.cancel (task f p)).called (called wakes_of (tell wakes_of c)) q))
       (sym (cancel_awaiter f at))
@@ -189,7 +189,7 @@ module _ {F T X : Type 0} (name : ℕ → Task) (s : Solo F T X) (p : Plain T (S
   registers c f w at handle waits named many life =
       let v = has f at handle in
       let q = put f (abstract.poll w (task f p)).task p in
-      let still = put_still f (abstract.poll w (task f p)).task p in
+      let still = put_still c f (abstract.poll w (task f p)).task p in
       let left = (abstract.poll w (task f p)).let_go in
       let old : left ≡ (task f p).awaiter = ap (λ e. (abstract.poll_by e w (task f p)).let_go) waits in
       let answer : replaced_by (solo.poll_answer (name f) w s) ≡ left =
@@ -242,7 +242,7 @@ module _ {F T X : Type 0} (name : ℕ → Task) (s : Solo F T X) (p : Plain T (S
       copied_and_polled is false named = seen name s p (p.events ++ Answers NoMemory ∷ []) p.inside r.inside r
       copied_and_polled is true named =
           let q = copied wakes_of w p in
-          let still = copied_still w p in
+          let still = copied_still c w p in
           registers name (copies w s) q (copies_it name c s p r w named) c f w
           (subst (λ n. f < n) (sym still.futures) at)
           (copied_asks (λ t. t.handle) (λ t. refl) w f p ∙ handle)

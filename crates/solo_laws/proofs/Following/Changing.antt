@@ -1,6 +1,5 @@
 -- The executor goes on standing where the plain scheduler does, as a task is changed and as one is queued.
-use Rattle.std.proofs.Common.{◌≡◌, ℕ, ◌<◌, ◌≤◌, ◌==◌, Bool, true, false, List, [], ◌∷◌, ◌++◌, length, Option, Some, None}
-use Rattle.std.proofs.Common.{slice_get}
+use Rattle.std.proofs.Common.{◌≡◌, ℕ, ◌<◌, ◌≤◌, ◌==◌, Bool, true, false, List, [], ◌∷◌, ◌++◌, length, Option, Some, None, slice_get}
 use Rattle.std.proofs.Common.{slice_set, refl, sym, ap, subst, ◌∙◌}
 use Rattle.executor_parts.specs.declared.mark.Mark.TheVariants.{Plain as PlainMark}
 use Rattle.task_moves.specs.AbstractTask.{AbstractTask}
@@ -9,14 +8,13 @@ use Rattle.solo.specs.declared.names.Task.{Task}
 use Rattle.solo.specs.declared.names.SoloWaker.{SoloWaker}
 use Rattle.solo.specs.declared.names.SoloWaker.TheVariants.{Task as OfTask}
 use Rattle.solo.specs.declared.solo.Solo.{Solo}
-use Rattle.solo.specs.Cells.{Kept, choose, asked}
+use Rattle.solo.specs.Cells.{Kept, asked}
 use Rattle.solo.specs.Cells as cells
 use Rattle.solo.specs.Turns as turns
 use Rattle.plain_scheduler.specs.State.{Due, Future, Plain}
 use Rattle.plain_scheduler.specs.Lists.{on, or}
 use Rattle.plain_scheduler.specs.Moves.{put, task, mark, appended, no_task}
-use Rattle.solo_laws.specs.Road.{IsTaskOf, TaskIs, IsOver, IsAsleep, IsNamed, FollowsBut, beside, stands, once, is_in, lents}
-use Rattle.solo_laws.specs.Road.{drops}
+use Rattle.solo_laws.specs.Road.{IsTaskOf, TaskIs, IsOver, IsAsleep, IsNamed, FollowsBut, beside, stands, once, is_in, lents, drops}
 use Rattle.solo_laws.proofs.Following.Due.{living_set, once_last, stands_last, beside_last}
 use Rattle.solo_laws.proofs.Following.Lists.{set_same, set_other, get_below, length_set}
 use Rattle.solo_laws.proofs.Following.Cells.{found, of_found, asks_found, there, changed_found, found_here, found_there, same_number}

@@ -1,14 +1,12 @@
 -- The end of a poll is that of the plain scheduler.
-use Rattle.std.proofs.Common.{◌≡◌, ℕ, ◌<◌, ◌≤◌, ◌==◌, cond, ◌&&◌, not, if◌then◌else◌, Bool, true, false, List, [], ◌∷◌, ◌++◌}
-use Rattle.std.proofs.Common.{length, Option, Some, None}
-use Rattle.std.proofs.Common.{slice_get, is_some, refl, sym, ap, subst, ◌∙◌}
+use Rattle.std.proofs.Common.{◌≡◌, ℕ, ◌<◌, ◌≤◌, ◌==◌, cond, ◌&&◌, not, if◌then◌else◌, Bool, true, false, List, [], ◌∷◌, ◌++◌, length}
+use Rattle.std.proofs.Common.{Option, Some, None, slice_get, is_some, refl, sym, ap, subst, ◌∙◌}
 use Rattle.executor_parts.specs.declared.places.EntryPlace.{EntryPlace}
 use Rattle.task_moves.specs.AbstractTask as abstract
 use Rattle.task_moves.specs.AbstractTask.{AbstractTask, Phase, Idle, Queued, Polling, PollingWoken, Finished}
-use Rattle.task_moves.specs.AbstractTask.PendingEnd.{Drops as EndDrops, Queues as EndQueues, Forgets as EndForgets}
-use Rattle.task_moves.specs.AbstractTask.PendingEnd.{Rests as EndRests}
+use Rattle.task_moves.specs.AbstractTask.PendingEnd.{Drops as EndDrops, Queues as EndQueues, Forgets as EndForgets, Rests as EndRests}
 use Rattle.task_moves.specs.LocalTask as local
-use Rattle.task_moves.specs.LocalTask.{told as told_of, info_of, info_from, is_home, is_queued, is_gone}
+use Rattle.task_moves.specs.LocalTask.{told as told_of, info_of, info_from, is_home, is_queued}
 use Rattle.solo.specs.declared.names.Task.{Task}
 use Rattle.solo.specs.declared.names.SoloWaker.{SoloWaker}
 use Rattle.solo.specs.declared.names.SoloWaker.TheVariants.{Task as OfTask}
@@ -19,15 +17,12 @@ use Rattle.solo.specs.Cells.{Kept, choose, asked}
 use Rattle.solo.specs.Cells as cells
 use Rattle.solo.specs.Solo as solo
 use Rattle.solo.specs.Turns as turns
-use Rattle.plain_scheduler.specs.State.{Future, Lying, Choice, Plain, Code, Try, Drop as DropCode, Closed, Gave, Drops}
-use Rattle.plain_scheduler.specs.State.{Answers, Yes}
+use Rattle.plain_scheduler.specs.State.{Future, Lying, Choice, Plain, Code, Taker, Poll, Drop as DropCode, Closed, Gave, Drops}
 use Rattle.plain_scheduler.specs.Lists.{or}
-use Rattle.plain_scheduler.specs.Moves.{task, put, appended, tell}
+use Rattle.plain_scheduler.specs.Moves.{task, put, appended, becomes, tell}
 use Rattle.plain_scheduler.specs.Calls as calls
-use Rattle.solo_laws.specs.Alike.{PendsAlike, GivesAlike}
 use Rattle.solo_laws.specs.Tabled.{is_dropped}
-use Rattle.solo_laws.specs.Road.{IsTaskOf, Follows, HasLife, IsInside, apart, is_forgotten, stands, is_in, lents, drops, awaiters}
-use Rattle.solo_laws.specs.Road.{wakes as wakes_of}
+use Rattle.solo_laws.specs.Road.{IsTaskOf, Follows, HasLife, apart, is_forgotten, stands, is_in, lents, drops, awaiters, wakes as wakes_of}
 use Rattle.solo_laws.proofs.Following.Seeing.{seen}
 use Rattle.solo_laws.proofs.Following.Due.{clash, both_true, not_true, equal}
 use Rattle.solo_laws.proofs.Following.Inside.{home_lent, lent_dropping, same_inside, one_dropped, less_lent}
@@ -82,6 +77,13 @@ module _ {T A : Type 0} where
       by false false Polling n is = none (n == 0) is
       by false false Finished n is = none (n == 0) is
 
+-- whether its future is put back
+abbrev pub is_back : abstract.PendingEnd → Bool
+is_back EndDrops = false
+is_back EndForgets = false
+is_back EndQueues = true
+is_back EndRests = true
+
 module _ {T X : Type 0} (place : EntryPlace) where
   -- how the end leaves a task's state, and the task that is kept
   abbrev pub left_so : abstract.PendingEnd → AbstractTask T (SoloWaker X) → AbstractTask T (SoloWaker X)
@@ -90,7 +92,7 @@ module _ {T X : Type 0} (place : EntryPlace) where
   abbrev pub kept_so : abstract.PendingEnd → Kept T X → Kept T X
   kept_so e v = cells.settled (local.settle_pending_by e place v.task) v
 
-  ended_is : (e : abstract.PendingEnd) (v : Kept T X) → cells.is_lent v ≡ true → abstract.pending_end v.task ≡ e
+  pub ended_is : (e : abstract.PendingEnd) (v : Kept T X) → cells.is_lent v ≡ true → abstract.pending_end v.task ≡ e
       → cells.ended_pending place v ≡ kept_so e v
   ended_is e v lent is =
       ap (λ b. choose b (cells.settled (local.settle_pending_by (abstract.pending_end v.task) place v.task) v) v) lent
@@ -285,50 +287,52 @@ module _ {F T X : Type 0} (name : ℕ → Task) (s : Solo F T X) (p : Plain T (S
       told_so : {v : Kept T X} {x : Future T (SoloWaker X)} → IsTaskOf v x → x.task.infos ≡ []
       told_so of = of.told
 
-  pub ends : length p.lying ≤ c.tells → HasLife 2 s.lines → (e : abstract.PendingEnd) → abstract.pending_end (task f p) ≡ e
-      → Follows name (solo.pending_by (cells.pending_by e) its future now) (calls.pending_by wakes_of c e f Try p)
-  ends many life EndDrops is =
+  -- the future is to be dropped
+  pub goes : (by : Taker (SoloWaker X)) (e : abstract.PendingEnd) → abstract.pending_end (task f p) ≡ e → is_back e ≡ false
+      → Follows name (solo.pending_by (cells.pending_by e) its future now) (calls.pending_by wakes_of c e f by p)
+  goes by EndDrops is left =
       subst
-      (λ q. Follows name now (record q { events = q.events ++ Drops f ∷ []; inside = DropCode f Closed Try ∷ q.inside }))
+      (λ q. Follows name now (record q { events = q.events ++ Drops f ∷ []; inside = DropCode f Closed by ∷ q.inside }))
       (put_same f p at infos)
-      (drops_it EndDrops is (DropCode f Closed Try) refl refl refl refl)
-  ends many life EndForgets is = drops_it EndForgets is (DropCode f Closed Try) refl refl refl refl
-  ends many life EndRests is =
-      let q = after EndRests is in
-      let all = back EndRests is in
+      (drops_it EndDrops is (DropCode f Closed by) refl refl refl refl)
+  goes by EndForgets is left = drops_it EndForgets is (DropCode f Closed by) refl refl refl refl
+  goes by EndRests is left = absurd cc
+  goes by EndQueues is left = absurd cc
+
+  -- or it is back, and its task queued, if it was woken
+  pub rests : length p.lying ≤ c.tells → HasLife 2 s.lines → (e : abstract.PendingEnd) → abstract.pending_end (task f p) ≡ e
+      → is_back e ≡ true
+      → Follows name (solo.pending_by (cells.pending_by e) its future now)
+      (becomes wakes_of (tell wakes_of c) f (abstract.end_pending (task f p)).task p)
+  rests many life EndDrops is left = absurd cc
+  rests many life EndForgets is left = absurd cc
+  rests many life EndRests is left =
       subst
       (λ e. Follows name (solo.put_back its future now)
       (let new = (abstract.end_pending_by e (task f p)).task in
-      let q = if is_some (info_of (task f p) new) then tell wakes_of c (appended f (put f new p)) else put f new p in
-      record q { events = q.events ++ Answers Yes ∷ [] }))
+      if is_some (info_of (task f p) new) then tell wakes_of c (appended f (put f new p)) else put f new p))
       (sym is)
       (subst
       (λ b. Follows name (solo.put_back its future now)
-      (let q = if b then tell wakes_of c
-      (appended f (after EndRests is)) else after EndRests is in record q { events = q.events ++ Answers Yes ∷ [] }))
-      (sym (none_told (task f p)))
-      (seen name (solo.put_back its future now) q (q.events ++ Answers Yes ∷ []) q.inside all.inside all))
-  ends many life EndQueues is =
-      let q = tell wakes_of c (appended f (after EndQueues is)) in
-      let all = queues_it EndQueues is many life refl in
+      (if b then tell wakes_of c (appended f (after EndRests is)) else after EndRests is))
+      (sym (none_told (task f p))) (back EndRests is))
+  rests many life EndQueues is left =
       subst
       (λ e. Follows name (turns.scheduled (name f) (solo.put_back its future now))
       (let new = (abstract.end_pending_by e (task f p)).task in
-      let q = if is_some (info_of (task f p) new) then tell wakes_of c (appended f (put f new p)) else put f new p in
-      record q { events = q.events ++ Answers Yes ∷ [] }))
+      if is_some (info_of (task f p) new) then tell wakes_of c (appended f (put f new p)) else put f new p))
       (sym is)
       (subst
       (λ b. Follows name (turns.scheduled (name f) (solo.put_back its future now))
-      (let q = if b then tell wakes_of c
-      (appended f (after EndQueues is)) else after EndQueues is in record q { events = q.events ++ Answers Yes ∷ [] }))
+      (if b then tell wakes_of c (appended f (after EndQueues is)) else after EndQueues is))
       (sym (ap (λ (infos : List Bool). is_some (info_from (slice_get (infos ++ true ∷ []) (length infos)))) infos))
-      (seen name (turns.scheduled (name f) (solo.put_back its future now)) q
-      (q.events ++ Answers Yes ∷ []) q.inside all.inside all))
+      (queues_it EndQueues is many life refl))
 
-module _ {F T X : Type 0} (name : ℕ → Task) (s : Solo F T X) (p : Plain T (SoloWaker X)) (r : Follows name s p) where
+module _ {F T X : Type 0} (name : ℕ → Task) (s : Solo F T X) (p : Plain T (SoloWaker X)) (r : Follows name s p) (c : Choice)
+    (f : ℕ) (by : Taker (SoloWaker X)) (rest : List (Code T (SoloWaker X))) (stands_in : p.inside ≡ Poll f by ∷ rest) where
   -- one that gave an output stays out until its future is dropped
-  pub gives_alike : GivesAlike name (Follows name) s p
-  gives_alike c f by rest v stands_in =
+  pub gives : (v : T) → Follows name s (calls.does wakes_of c (calls.Call.EndsWith v) p)
+  gives v =
       let now : List (Code T (SoloWaker X)) = DropCode f (Gave v) by ∷ rest in
       subst
       (λ cs. Follows name s (calls.innermost wakes_of c cs (calls.gives wakes_of c v) p))
@@ -337,34 +341,37 @@ module _ {F T X : Type 0} (name : ℕ → Task) (s : Solo F T X) (p : Plain T (S
       (same_inside name (length p.futures) s.cells p.inside now r.inside
       (sym (ap (λ cs. lents cs) stands_in)) (sym (ap (λ cs. drops cs) stands_in)) (sym (ap (λ cs. awaiters cs) stands_in))) r)
 
-  pub pends_alike : ((f : ℕ) → is_in f (lents p.inside) ≡ true → is_dropped f p ≡ false) → PendsAlike name (Follows name) s p
-  pends_alike live c f rest lent future stands_in names many life =
-      let out : lents p.inside ≡ f ∷ lents rest = ap (λ cs. lents cs) stands_in in
-      let mine : is_in f (lents p.inside) ≡ true =
-      ap (is_in f) out ∙ ap (λ b. cond b true (is_in f (lents rest))) (equal f f refl) in
-      let here = r.inside.lent f mine in
-      let left : IsInside name (length p.futures) s.cells rest =
-      less_lent name (length p.futures) s.cells p.inside rest r.inside f out (ap (λ cs. drops cs) stands_in)
-      (ap (λ cs. awaiters cs) stands_in) in
-      let once = both_true (not (is_in f (lents rest))) (apart (lents rest))
-      (sym (ap (λ ns. apart ns) out) ∙ r.inside.lent_once) in
-      let q : Plain T (SoloWaker X) = record p { inside = rest } in
-      let all : Follows name s q = seen name s p p.events rest left r in
-      let its : Lent = record { task = name f; place = lent.place } in
-      let k = kept None name cells.is_lent f s q all here.0 here.1 in
-      let answer : solo.after_poll its s ≡ cells.pending_by (abstract.pending_end (task f q)) =
-      asks_found cells.pending_answer Unknown (name f) s.cells
+  -- and one that gave none is in hand no more
+  abbrev pub left : Plain T (SoloWaker X)
+  left = record p { inside = rest }
+
+  out : lents p.inside ≡ f ∷ lents rest
+  out = ap (λ cs. lents cs) stands_in
+
+  pub mine : is_in f (lents p.inside) ≡ true
+  mine = ap (is_in f) out ∙ ap (λ b. cond b true (is_in f (lents rest))) (equal f f refl)
+
+  pub lent_here : (f < length p.futures) × (asked cells.is_lent false (name f) s.cells ≡ true)
+  lent_here = r.inside.lent f mine
+
+  pub all : Follows name s left
+  all =
+      seen name s p p.events rest
+      (less_lent name (length p.futures) s.cells p.inside rest r.inside f out (ap (λ cs. drops cs) stands_in)
+      (ap (λ cs. awaiters cs) stands_in)) r
+
+  pub not_lent : is_in f (lents rest) ≡ false
+  not_lent =
+      not_true (is_in f (lents rest))
+      (both_true (not (is_in f (lents rest))) (apart (lents rest)) (sym (ap (λ ns. apart ns) out) ∙ r.inside.lent_once)).0
+
+  -- what is said of it
+  pub answer : (lent : Lent) → lent.task ≡ name f
+      → solo.after_poll lent s ≡ cells.pending_by (abstract.pending_end (task f left))
+  answer lent names =
+      let k = kept None name cells.is_lent f s left all lent_here.0 lent_here.1 in
+      ap (λ t. asked cells.pending_answer Unknown t s.cells) names
+      ∙ (asks_found cells.pending_answer Unknown (name f) s.cells
       ∙ (ap (of_found cells.pending_answer Unknown) k.2
       ∙ (ap (λ b. choose b (cells.pending_by (abstract.pending_end k.0.task)) Unknown) k.4
-      ∙ ap (λ t. cells.pending_by (abstract.pending_end t)) (k.5.task ∙ sym (task_is f q k.1 k.3)))) in
-      subst
-      (λ cs. Follows name (solo.settled_pending lent future s) (calls.innermost wakes_of c cs (calls.pends wakes_of c) p))
-      (sym stands_in)
-      (subst (λ l. Follows name (solo.settled_pending l future s)
-      (calls.pending_by wakes_of c (abstract.pending_end (task f q)) f Try q))
-      (sym (ap (λ t. record { task = t; place = lent.place }) names))
-      (subst (λ a. Follows name (solo.pending_by a its future (turns.turned (cells.ended_pending lent.place) (name f) s))
-      (calls.pending_by wakes_of c (abstract.pending_end (task f q)) f Try q))
-      (sym answer)
-      (ends name s q all c f lent.place future here.0 here.1 (not_true (is_in f (lents rest)) once.0) (live f mine) many life
-      (abstract.pending_end (task f q)) refl)))
+      ∙ ap (λ t. cells.pending_by (abstract.pending_end t)) (k.5.task ∙ sym (task_is f left k.1 k.3)))))

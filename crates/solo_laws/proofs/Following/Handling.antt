@@ -1,10 +1,9 @@
 -- A handle's poll, a copy of a task's waker and a detach are those of the plain scheduler.
-use Rattle.std.proofs.Common.{◌≡◌, ℕ, ◌+◌, ◌<◌, ◌==◌, ◌&&◌, ◌||◌, not, Bool, true, false, [], ◌∷◌, ◌++◌, length}
-use Rattle.std.proofs.Common.{Option, Some, None}
+use Rattle.std.proofs.Common.{◌≡◌, ℕ, ◌+◌, ◌<◌, ◌==◌, ◌&&◌, ◌||◌, not, Bool, true, false, [], ◌∷◌, ◌++◌, length, Option, Some, None}
 use Rattle.std.proofs.Common.{if◌then◌else◌, is_some, refl, sym, ap, subst, ◌∙◌, arith}
 use Rattle.std.proofs.lemmas.Bool.Decides.{nat_tests}
 use Rattle.task_moves.specs.AbstractTask as abstract
-use Rattle.task_moves.specs.AbstractTask.{AbstractTask, Left}
+use Rattle.task_moves.specs.AbstractTask.{AbstractTask}
 use Rattle.task_moves.specs.LocalTask.{told as told_of, with_task, is_home, is_queued}
 use Rattle.solo.specs.declared.names.Task.{Task}
 use Rattle.solo.specs.declared.names.SoloWaker.{SoloWaker}
@@ -14,14 +13,12 @@ use Rattle.solo.specs.Cells.{Kept, choose, asked}
 use Rattle.solo.specs.Cells as cells
 use Rattle.solo.specs.Solo as solo
 use Rattle.solo.specs.Turns as turns
-use Rattle.plain_scheduler.specs.State.{Future, Choice, Plain, Lose, Loses, Answers, Done, Made, NoMemory, Granted}
-use Rattle.plain_scheduler.specs.State.{AtOnce}
+use Rattle.plain_scheduler.specs.State.{Future, Choice, Plain, Lose, Loses, Answers, Done, Made, NoMemory, Granted, AtOnce}
 use Rattle.plain_scheduler.specs.Moves.{task, put, tell, becomes}
 use Rattle.plain_scheduler.specs.Takes as takes
 use Rattle.plain_scheduler.specs.Calls as calls
 use Rattle.solo_laws.specs.Alike.{CopiesAlike, DetachesAlike}
-use Rattle.solo_laws.specs.Road.{IsNamed, IsTaskOf, TaskIs, Follows, is_forgotten, is_done}
-use Rattle.solo_laws.specs.Road.{wakes as wakes_of}
+use Rattle.solo_laws.specs.Road.{IsNamed, IsTaskOf, TaskIs, Follows, is_forgotten, is_done, wakes as wakes_of}
 use Rattle.solo_laws.proofs.Following.Lists.{get_below}
 use Rattle.solo_laws.proofs.Following.Seeing.{seen}
 use Rattle.solo_laws.proofs.Following.Due.{clash, both_true, and_true}

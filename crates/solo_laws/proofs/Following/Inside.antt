@@ -1,6 +1,5 @@
 -- What users' codes have in hand is out of the executor.
-use Rattle.std.proofs.Common.{◌≡◌, ℕ, ◌<◌, ◌==◌, cond, not, Bool, true, false, List, ◌∷◌, refl, sym, ap, subst}
-use Rattle.std.proofs.Common.{◌∙◌, slice_get}
+use Rattle.std.proofs.Common.{◌≡◌, ℕ, ◌<◌, ◌==◌, cond, not, Bool, true, false, List, ◌∷◌, refl, sym, ap, subst, ◌∙◌, slice_get}
 use Rattle.task_moves.specs.LocalTask.{is_home, is_gone, is_lent, is_dropping}
 use Rattle.task_moves.specs.declared.local_task.answers.FuturePlace.{FuturePlace}
 use Rattle.task_moves.specs.declared.local_task.answers.FuturePlace.TheVariants.{Home, Lent, Dropping, Gone}

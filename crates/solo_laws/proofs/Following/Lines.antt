@@ -1,7 +1,6 @@
 -- What is queued is what is due without a keeper: as one comes last, and as the first is taken.
-use Rattle.std.proofs.Common.{◌≡◌, ℕ, suc, ◌+◌, ◌<◌, ◌≤◌, ◌==◌, nat_lt, cond, ◌&&◌, not, Bool, true, false, List, [], ◌∷◌, ◌++◌}
-use Rattle.std.proofs.Common.{map, filter, find, drop, Some, None}
-use Rattle.std.proofs.Common.{Option, length, slice_get, append-nil, refl, sym, ap, ◌∙◌, arith}
+use Rattle.std.proofs.Common.{◌≡◌, ℕ, suc, ◌+◌, ◌<◌, ◌≤◌, ◌==◌, nat_lt, cond, ◌&&◌, not, Bool, true, false, List, [], ◌∷◌, ◌++◌, map}
+use Rattle.std.proofs.Common.{filter, find, drop, Some, None, Option, length, slice_get, append-nil, refl, sym, ap, ◌∙◌, arith}
 use Rattle.std.specs.Option.{option_map}
 use Rattle.std.proofs.lemmas.Bool.Decides.{nat_tests}
 use Rattle.queue_steps.specs.ClosableQueue.{ClosableQueue, most_accepted, taken as shortened}
@@ -76,7 +75,7 @@ module _ {A : Type 0} (test : A → Bool) where
       by true here is = sym (ap (λ c. cond c (x ∷ filter other xs) (filter other xs)) (apart x here))
       by false here is = ap (λ rest. cond (other x) (x ∷ rest) rest) is
 
-pushed_last : (task : Task) (q : ClosableQueue Task) → accepts q ≡ true → (pushed task q).items ≡ q.items ++ task ∷ []
+pub pushed_last : (task : Task) (q : ClosableQueue Task) → accepts q ≡ true → (pushed task q).items ≡ q.items ++ task ∷ []
 pushed_last task q is = by (has_place q) (is_spent q.accepted) is
   where
     by : (place spent : Bool) → (place && not spent) ≡ true → (pushed_by place spent task q).items ≡ q.items ++ task ∷ []
@@ -149,7 +148,7 @@ pub younger : (more : ℕ) (l : LinesValue) → HasLife (suc more) l → HasLife
 younger more l life mark = fewer (line_of mark l).accepted more (life mark)
 
 module _ (task : Task) (more : ℕ) where
-  pushed_life : (q : ClosableQueue Task) → count_of q.accepted + suc more ≤ most_accepted
+  pub pushed_life : (q : ClosableQueue Task) → count_of q.accepted + suc more ≤ most_accepted
       → count_of (pushed task q).accepted + more ≤ most_accepted
   pushed_life q is = by (has_place q) (is_spent q.accepted)
     where

@@ -1,6 +1,6 @@
 -- Lists in which one is put in the place of another.
-use Rattle.std.proofs.Common.{◌≡◌, ℕ, zero, suc, ◌<◌, ◌==◌, false, List, [], ◌∷◌, ◌++◌, length, map, take}
-use Rattle.std.proofs.Common.{Some, slice_get, slice_set, refl, ap, arith}
+use Rattle.std.proofs.Common.{◌≡◌, ℕ, zero, suc, ◌<◌, ◌==◌, false, List, [], ◌∷◌, ◌++◌, length, map, take, Some, slice_get, slice_set, refl}
+use Rattle.std.proofs.Common.{ap, arith}
 use Rattle.std.proofs.lemmas.Bool.Decides.{nat_tests}
 
 module _ {A : Type 0} where
@@ -28,6 +28,31 @@ module _ {A : Type 0} where
   length_set [] i x = refl
   length_set (z ∷ zs) zero x = refl
   length_set (z ∷ zs) (suc i) x = ap suc (length_set zs i x)
+
+  pub got_below : (xs : List A) (i : ℕ) (x : A) → slice_get xs i ≡ Some x → i < length xs
+  got_below [] i x is = absurd cc
+  got_below (y ∷ ys) zero x is = omega arith
+  got_below (y ∷ ys) (suc i) x is = let below = got_below ys i x is in omega (arith, below)
+
+  pub take_all : (xs : List A) → take (length xs) xs ≡ xs
+  take_all [] = refl
+  take_all (x ∷ xs) = ap (λ ys. x ∷ ys) (take_all xs)
+
+  pub take_twice : (n m : ℕ) (xs : List A) → (k : ℕ) × (take n (take m xs) ≡ take k xs)
+  take_twice zero m xs = (0, refl)
+  take_twice (suc n) zero xs = (0, refl)
+  take_twice (suc n) (suc m) [] = (0, refl)
+  take_twice (suc n) (suc m) (x ∷ xs) = let k = take_twice n m xs in (suc k.0, ap (λ ys. x ∷ ys) k.1)
+
+  -- as many of the same list
+  pub take_same : (n m : ℕ) (xs : List A) → length (take n xs) ≡ length (take m xs) → take n xs ≡ take m xs
+  take_same zero zero xs is = refl
+  take_same zero (suc m) [] is = refl
+  take_same zero (suc m) (x ∷ xs) is = absurd (omega (arith, is))
+  take_same (suc n) zero [] is = refl
+  take_same (suc n) zero (x ∷ xs) is = absurd (omega (arith, is))
+  take_same (suc n) (suc m) [] is = refl
+  take_same (suc n) (suc m) (x ∷ xs) is = ap (λ ys. x ∷ ys) (take_same n m xs (omega (arith, is)))
 
   pub get_take : (n : ℕ) (xs : List A) (i : ℕ) (x : A) → slice_get (take n xs) i ≡ Some x → slice_get xs i ≡ Some x
   get_take zero xs i x is = absurd cc

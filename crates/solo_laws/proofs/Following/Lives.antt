@@ -58,6 +58,10 @@ module _ {F T X : Type 0} where
   scheduled_if_lives n due t s life =
       chosen (Lives n) due (turns.scheduled t s) s (scheduled_lives n t s life) (three_fewer n s.lines life)
 
+  pub woken_lives : (n : ℕ) (t : Task) (s : Solo F T X) → Lives (suc (suc (suc n))) s → Lives n (solo.woken t s)
+  woken_lives n t s life =
+      scheduled_if_lives n (asked cells.wake_queues false t s.cells) t (turns.turned cells.woken t s) life
+
   pub cancelled_lives : (n : ℕ) (t : Task) (s : Solo F T X) → Lives (suc (suc (suc n))) s → Lives n (solo.cancelled t s)
   cancelled_lives n t s life =
       scheduled_if_lives n (is_some (asked cells.cancel_queues None t s.cells)) t (turns.turned cells.cancelled t s) life

@@ -1,10 +1,10 @@
 -- Who sleeps is who lies: whose waker came last is told.
-use Rattle.std.proofs.Common.{◌≡◌, ℕ, zero, suc, ◌<◌, cond, not, Bool, true, false, List, [], ◌∷◌, length, take}
-use Rattle.std.proofs.Common.{Option, Some, None, slice_get, slice_set, is_some, refl, sym, ap, ◌∙◌, arith}
+use Rattle.std.proofs.Common.{◌≡◌, ℕ, zero, suc, ◌<◌, cond, not, Bool, true, false, List, [], ◌∷◌, length, take, Option, Some, None}
+use Rattle.std.proofs.Common.{slice_get, slice_set, is_some, refl, sym, ap, ◌∙◌, arith}
 use Rattle.plain_scheduler.specs.State.{Lying}
 use Rattle.plain_scheduler.specs.Lists.{any}
 use Rattle.plain_scheduler.specs.Moves.{is_called}
-use Rattle.solo_laws.specs.Road.{is_told, first_if, wakers_in}
+use Rattle.solo_laws.specs.Road.{is_told, first_if, wakers_in, waiting}
 
 neither : (a b : Bool) → cond a true b ≡ false → (a ≡ false) × (b ≡ false)
 neither true b is = absurd cc
@@ -85,3 +85,18 @@ module _ {A : Type 0} where
       let w = its_waker m (neither (is_called m) (any is_called ls) none).0 in
       (w.0, sym (ap waker_at is) ∙ w.1)
   its_waker_of (m ∷ ls) (suc i) l none is = its_waker_of ls i l (neither (is_called m) (any is_called ls) none).1 is
+
+  -- the others wait still
+  pub last_waiting : (ls : List (Lying A)) (i : ℕ) (l : Lying A) → any is_called ls ≡ false → suc i ≡ length ls
+      → (n : ℕ) × (waiting (slice_set ls i (called_one l)) ≡ take n (waiting ls))
+  last_waiting [] i l none is = absurd (omega (arith, is))
+  last_waiting (m ∷ []) zero l none is = (0, refl)
+  last_waiting (m ∷ n ∷ ls) zero l none is = absurd (omega (arith, is))
+  last_waiting (m ∷ ls) (suc i) l none is =
+      let both = neither (is_called m) (any is_called ls) none in
+      let rest = last_waiting ls i l both.1 (omega (arith, is)) in (
+        suc rest.0,
+        ap (λ b. cond b (waiting (slice_set ls i (called_one l))) (m.who ∷ waiting (slice_set ls i (called_one l)))) both.0
+            ∙ (ap (λ ws. m.who ∷ ws) rest.1
+            ∙ sym (ap (λ b. take (suc rest.0) (cond b (waiting ls) (m.who ∷ waiting ls))) both.0)),
+      )

@@ -1,7 +1,6 @@
 -- A future that comes finds a place in its queue: fewer are due than the limit.
-use Rattle.std.proofs.Common.{◌≡◌, ℕ, suc, ◌<◌, ◌≤◌, ◌==◌, cond, not, Bool, true, false, ◌∷◌, length, filter, Option, None, refl}
-use Rattle.std.proofs.Common.{sym, ap, ◌∙◌}
-use Rattle.std.proofs.Common.{subst, arith}
+use Rattle.std.proofs.Common.{◌≡◌, ℕ, suc, ◌<◌, ◌≤◌, ◌==◌, cond, not, Bool, true, false, ◌∷◌, length, filter, Option, None, refl, sym, ap}
+use Rattle.std.proofs.Common.{◌∙◌, subst, arith}
 use Rattle.executor_parts.specs.declared.mark.Mark.{Mark}
 use Rattle.task_moves.specs.LocalTask.{is_home, is_queued}
 use Rattle.solo.specs.declared.names.Task.{Task}

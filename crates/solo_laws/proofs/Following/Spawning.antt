@@ -1,14 +1,13 @@
 -- A spawn is one of the plain scheduler: its future comes last in the table, and its task in its queue.
-use Rattle.std.proofs.Common.{◌≡◌, ◌≢◌, ℕ, zero, suc, ◌+◌, ◌-◌, ◌^◌, ◌<◌, ◌≤◌, ◌==◌, min, nat_lt, not, cond, if◌then◌else◌}
-use Rattle.std.proofs.Common.{Bool, true, false, List, [], ◌∷◌, ◌++◌, length, map, Option, Some, None, Ok, Err, slice_get}
-use Rattle.std.proofs.Common.{refl, sym, ap, subst, ◌∙◌, arith}
+use Rattle.std.proofs.Common.{◌≡◌, ◌≢◌, ℕ, ◌+◌, ◌<◌, ◌≤◌, ◌==◌, nat_lt, not, cond, if◌then◌else◌, Bool, true, false, List, [], ◌∷◌, ◌++◌}
+use Rattle.std.proofs.Common.{length, map, Option, Some, None, is_some, slice_get, refl, sym, ap, subst, ◌∙◌, arith}
 use Rattle.std.proofs.lemmas.Bool.Decides.{nat_tests}
 use Rattle.queue_steps.specs.ClosableQueue.{most_accepted}
 use Rattle.slab.specs.Slab.{get}
 use Rattle.executor_parts.specs.declared.mark.Mark.{Mark}
-use Rattle.executor_parts.specs.Places.{Entry, entry_at, place_of}
+use Rattle.executor_parts.specs.declared.places.EntryPlace.{EntryPlace}
+use Rattle.executor_parts.specs.Places.{Entry, entry_at}
 use Rattle.task_moves.specs.AbstractTask as abstract
-use Rattle.task_moves.specs.AbstractTask.{AbstractTask}
 use Rattle.solo.specs.declared.names.Task.{Task}
 use Rattle.solo.specs.declared.names.SoloWaker.{SoloWaker}
 use Rattle.solo.specs.declared.names.SoloWaker.TheVariants.{Task as OfTask}
@@ -21,18 +20,18 @@ use Rattle.solo.specs.OwnQueues as own
 use Rattle.solo.specs.Table.{TableValue, Accepts, new_entry, counted_waker}
 use Rattle.solo.specs.Solo as solo
 use Rattle.solo.specs.Turns as turns
-use Rattle.plain_scheduler.specs.State.{Future, Choice, Granted, Plain, Answers, Made, NoMemory, Full}
+use Rattle.plain_scheduler.specs.State.{Future, Choice, Plain, Answers, Made, NoMemory, Full}
 use Rattle.plain_scheduler.specs.Lists.{or}
 use Rattle.plain_scheduler.specs.Moves.{task, appended, tell, no_task, answers}
 use Rattle.plain_scheduler.specs.Calls.{living_from, is_granted}
-use Rattle.plain_scheduler.specs.Calls as calls
-use Rattle.solo_laws.specs.Road.{IsTaskOf, TaskIs, IsNamed, Follows, HasLife, stands, is_in, apart, lents, drops, wakes}
-use Rattle.solo_laws.specs.Tabled.{IsTable, Stands, named, row, row_of, key_of, is_dropped}
+use Rattle.solo_laws.specs.Road.{IsTaskOf, TaskIs, IsNamed, Follows, HasLife, stands, is_in, apart, wakes}
+use Rattle.solo_laws.specs.Tabled.{IsTable, Stands, named, row, row_of, key_of, is_dropped, at_home, home_of}
 use Rattle.solo_laws.specs.Spawning.{SpawnsAlike}
 use Rattle.solo_laws.proofs.Following.Lists.{length_map, map_append}
 use Rattle.solo_laws.proofs.Following.Adding.{long_last, get_last, map_twice, living_last, apart_last}
-use Rattle.solo_laws.proofs.Following.Due.{clash, neither}
 use Rattle.solo_laws.proofs.Following.Cells.{found, of_found, asks_found, same_number}
+use Rattle.solo_laws.proofs.Following.Homes.{home_in}
+use Rattle.solo_laws.proofs.Following.Rows.{map_same_in, living_below}
 use Rattle.solo_laws.proofs.Following.Changing.{lined}
 use Rattle.solo_laws.proofs.Following.Placing.{places}
 use Rattle.solo_laws.proofs.Following.Using.{marks}
@@ -40,9 +39,9 @@ use Rattle.solo_laws.proofs.Following.Lines.{younger, life_pushed}
 use Rattle.solo_laws.proofs.Following.Telling.{told}
 use Rattle.solo_laws.proofs.Following.Seeing.{seen}
 use Rattle.solo_laws.proofs.Following.Lives.{two_fewer}
-use Rattle.solo_laws.proofs.Following.Frames.{Still, chain, tell_still}
+use Rattle.solo_laws.proofs.Following.Frames.{chain, tell_still, seen_still, appended_still}
 use Rattle.solo_laws.proofs.Following.Bases as bases
-use Rattle.solo_laws.proofs.Following.Tabling.{seen_still, tabled}
+use Rattle.solo_laws.proofs.Following.Tabling.{tabled}
 
 below_last : (f n : ℕ) → f < n + 1 → (f == n) ≡ false → f < n
 below_last f n below apart = omega (arith, below, unequal f n apart)
@@ -183,7 +182,7 @@ module _ {F T X : Type 0} (its : ℕ → Lent) (s : Solo F T X) (p : Plain T (So
   entries_long : length s.table.entries ≡ length (living_from 0 p.futures)
   entries_long =
       sym (length_map row s.table.entries)
-      ∙ (ap length t.rows ∙ length_map (row_of its (not p.is_static)) (living_from 0 p.futures))
+      ∙ (ap length t.rows ∙ length_map (row_of its (not p.is_static) (at_home its s.cells)) (living_from 0 p.futures))
 
   pub room : length (living_from 0 p.futures) < p.limit
   room =
@@ -237,17 +236,29 @@ module _ {F T X : Type 0} (its : ℕ → Lent) (s : Solo F T X) (p : Plain T (So
   keys : map (λ (e : Entry F (Option Task)). e.key) s.table.entries ≡ map (key_of its) (living_from 0 p.futures)
   keys =
       sym (map_twice row (λ r. r.0.key) s.table.entries)
-      ∙ (ap (map (λ r. r.0.key)) t.rows ∙ map_twice (row_of its (not p.is_static)) (λ r. r.0.key) (living_from 0 p.futures))
+      ∙ (ap (map (λ r. r.0.key)) t.rows
+      ∙ map_twice (row_of its (not p.is_static) (at_home its s.cells)) (λ r. r.0.key) (living_from 0 p.futures))
 
   pub tabled_so : IsTable its accepting entered
   tabled_so = record {
     rows =
         ap (λ (t : TableValue F). map row t.entries) a.entered
         ∙ (map_append row s.table.entries (new_entry a.place future (counted_waker (solo.counts s.kind) new) ∷ [])
-        ∙ (ap (λ rows. rows ++ (a.place, counted_waker (solo.counts s.kind) new) ∷ []) t.rows
-        ∙ (ap (λ r. map (row_of its (not p.is_static)) (living_from 0 p.futures) ++ r ∷ []) row_new
-        ∙ (sym (map_append (row_of its (not p.is_static)) (living_from 0 p.futures) (n ∷ []))
-        ∙ ap (map (row_of its (not p.is_static))) (sym lives)))));
+        ∙ (ap (λ rows. rows ++ (a.place, counted_waker (solo.counts s.kind) new, true) ∷ []) t.rows
+        ∙ (ap (λ rows. rows ++ (a.place, counted_waker (solo.counts s.kind) new, true) ∷ [])
+        (map_same_in (row_of its (not p.is_static) (at_home its s.cells)) (row_of its (not p.is_static) (at_home its cells_after))
+        (living_from 0 p.futures) others)
+        ∙ (ap (λ r. map (row_of its (not p.is_static) (at_home its cells_after)) (living_from 0 p.futures) ++ r ∷ []) row_new
+        ∙ (sym (map_append (row_of its (not p.is_static) (at_home its cells_after)) (living_from 0 p.futures) (n ∷ []))
+        ∙ ap (map (row_of its (not p.is_static) (at_home its cells_after))) (sym lives))))));
+    homes = λ f place below home. at (f == n) f place (subst (λ m. f < m) long below) refl home;
+    made = t.made;
+    queues = t.queues;
+    kept = t.kept;
+    going = t.going;
+    leaving = t.leaving;
+    leaving_open = t.leaving_open;
+    leaving_limit = t.leaving_limit;
     keys_apart =
         ap (λ fs. apart (map (key_of its) fs)) lives
         ∙ (ap apart (map_append (key_of its) (living_from 0 p.futures) (n ∷ []))
@@ -261,10 +272,38 @@ module _ {F T X : Type 0} (its : ℕ → Lent) (s : Solo F T X) (p : Plain T (So
     dropping = λ f has. dropped_same f (t.dropping f has);
   }
     where
-      row_new : (a.place, counted_waker (solo.counts s.kind) new) ≡ row_of its (not p.is_static) n
+      home_new : home_of (name n) cells_after ≡ Some a.place
+      home_new = asks_found home_in None (name n) cells_after ∙ ap (of_found home_in None) cell_new
+
+      home_same : (j : ℕ) → j < n → home_of (name j) cells_after ≡ home_of (name j) s.cells
+      home_same j below =
+          asks_found home_in None (name j) cells_after
+          ∙ (ap (of_found home_in None) (cell_same j below) ∙ sym (asks_found home_in None (name j) s.cells))
+
+      others : (j : ℕ) → is_in j (living_from 0 p.futures) ≡ true
+          → row_of its (not p.is_static) (at_home its s.cells) j ≡ row_of its (not p.is_static) (at_home its cells_after) j
+      others j has =
+          let below = living_below p.futures 0 j has in
+          ap (λ (o : Option EntryPlace). ((its j).place, counted_waker (not p.is_static) (its j).task, is_some o))
+          (sym (home_same j (omega (arith, below))))
+
+      row_new : (a.place, counted_waker (solo.counts s.kind) new, true) ≡ row_of its (not p.is_static) (at_home its cells_after) n
       row_new =
-          ap (λ b. (a.place, counted_waker b new)) t.kind
-          ∙ sym (ap (λ (l : Lent). (l.place, counted_waker (not p.is_static) l.task)) is)
+          ap (λ b. (a.place, counted_waker b new, true)) t.kind
+          ∙ (sym (ap (λ (l : Lent). (l.place, counted_waker (not p.is_static) l.task, true)) is)
+          ∙ sym (ap (λ (o : Option EntryPlace). ((its n).place, counted_waker (not p.is_static) (its n).task, is_some o)) home_new))
+
+      at : (b : Bool) (f : ℕ) (place : EntryPlace) → f < n + 1 → (f == n) ≡ b → home_of (name f) cells_after ≡ Some place
+          → place ≡ (its f).place
+      at true f place below same home =
+          let one : f ≡ n = same_number f n same in
+          some (sym home ∙ (ap (λ m. home_of (name m) cells_after) one ∙ home_new))
+          ∙ (sym (ap (λ (l : Lent). l.place) is) ∙ sym (ap (λ m. (its m).place) one))
+        where
+          some : {q : EntryPlace} → ◌≡◌ {A = Option EntryPlace} (Some place) (Some q) → place ≡ q
+          some is = ap (λ o. or o (λ q. q) place) is
+      at false f place below same home =
+          let here : f < n = below_last f n below same in t.homes f place here (sym (home_same f here) ∙ home)
 
       counts_on : (m : ℕ) → m < most_accepted → own.one_more m ≡ m + 1
       counts_on m few = omega (arith, few)
@@ -290,17 +329,9 @@ module _ {F T X : Type 0} (its : ℕ → Lent) (s : Solo F T X) (p : Plain T (So
       subst (λ b. Follows name (choose b (turns.told (turns.lined (name n) accepting)) (turns.lined (name n) accepting))
       (tell wakes c (appended n entered))) (sym room) both in (
         subst (λ u. Follows name (turns.scheduled u accepting) (tell wakes c (appended n entered))) named_new ends,
-        tabled its accepting (turns.scheduled new accepting) entered (tell wakes c (appended n entered))
+        tabled its c accepting (turns.scheduled new accepting) entered (tell wakes c (appended n entered))
             (bases.scheduled_base accepting new accepting (bases.same accepting))
-            (chain (record {
-              futures = refl;
-              living = refl;
-              lying = refl;
-              limit = refl;
-              static = refl;
-              inside = refl;
-              dropped = λ f. refl;
-            }) (tell_still c (appended n entered))) tabled_so,
+            (chain c (appended_still c n entered) (tell_still c (appended n entered))) tabled_so,
       )
     where
       not_due : (b : Bool) → stands n p.due ≡ b → b ≡ false
@@ -323,5 +354,5 @@ module _ {F T X : Type 0} (its : ℕ → Lent) (s : Solo F T X) (p : Plain T (So
       (room its s p both.0 both.1 mark future it.task first.table first.cells a is few)))
       (subst (λ g. Stands its z (if is_granted g then answers Made q else answers NoMemory p)) (sym granted) (
         seen (named its) z q (q.events ++ Answers Made ∷ []) q.inside all.0.inside all.0,
-        tabled its z z q (answers Made q) (bases.same z) (seen_still q (q.events ++ Answers Made ∷ [])) all.1,
+        tabled its c z z q (answers Made q) (bases.same z) (seen_still c q (q.events ++ Answers Made ∷ [])) all.1,
       ))

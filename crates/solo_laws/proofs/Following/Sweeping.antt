@@ -1,7 +1,6 @@
 -- A task that is over, and that nobody can reach, goes.
-use Rattle.std.proofs.Common.{◌≡◌, ◌≢◌, ℕ, ◌+◌, ◌<◌, ◌==◌, ◌&&◌, ◌||◌, not, Bool, true, false, Option, Some, None, [], is_some}
-use Rattle.std.proofs.Common.{length, slice_get, slice_set}
-use Rattle.std.proofs.Common.{IsSome, refl, sym, ap, subst, ◌∙◌, arith}
+use Rattle.std.proofs.Common.{◌≡◌, ◌≢◌, ℕ, ◌+◌, ◌<◌, ◌==◌, ◌&&◌, ◌||◌, not, Bool, true, false, Option, Some, None, [], is_some, length}
+use Rattle.std.proofs.Common.{slice_get, slice_set, IsSome, refl, sym, ap, subst, ◌∙◌, arith}
 use Rattle.std.proofs.lemmas.Bool.Decides.{nat_tests}
 use Rattle.slab.specs.Slab.{get, Updates}
 use Rattle.slab.proofs.SlabLemmas.{Updates-set, ContainsKey-within}
@@ -13,7 +12,7 @@ use Rattle.solo.specs.declared.names.SoloWaker.{SoloWaker}
 use Rattle.solo.specs.declared.cells.Cell.{Cell}
 use Rattle.solo.specs.declared.cells.Cells.{Cells}
 use Rattle.solo.specs.declared.solo.Solo.{Solo}
-use Rattle.solo.specs.Cells.{Kept, choose, asked_by, asked, tidied}
+use Rattle.solo.specs.Cells.{Kept, choose, asked_by, asked}
 use Rattle.solo.specs.Cells as cells
 use Rattle.solo.specs.Turns as turns
 use Rattle.plain_scheduler.specs.State.{Due, Future, Plain}
@@ -68,7 +67,7 @@ module _ {T X : Type 0} (t : Task) where
   full_by q None is = absurd cc
   full_by q (Some c) is = refl
 
-  updates : (q : Kept T X → Bool) (s : Cells T X) → asked q false t s ≡ true → Updates s.slab (cleared s).slab t.key None
+  pub updates : (q : Kept T X → Bool) (s : Cells T X) → asked q false t s ≡ true → Updates s.slab (cleared s).slab t.key None
   updates q s is =
       Updates-set s.slab (cleared s).slab t.key None (ContainsKey-within s.slab t.key (full_by q (get s.slab t.key) is)) refl
 

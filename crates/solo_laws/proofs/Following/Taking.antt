@@ -1,15 +1,13 @@
 -- A search of the executor's queues finds what the plain scheduler takes: the first without a keeper of the mark that is looked
 -- at
 -- first, or else of the other.
-use Rattle.std.proofs.Common.{◌≡◌, ℕ, cond, ◌&&◌, not, Bool, true, false, List, [], ◌∷◌, map, filter, find, drop, Option, Some}
-use Rattle.std.proofs.Common.{None}
+use Rattle.std.proofs.Common.{◌≡◌, ℕ, cond, ◌&&◌, not, Bool, true, false, List, [], ◌∷◌, map, filter, find, drop, Option, Some, None}
 use Rattle.std.proofs.Common.{slice_get, is_some, refl, sym, ap, subst, ◌∙◌}
 use Rattle.executor_parts.specs.declared.mark.Mark.{Mark}
 use Rattle.executor_parts.specs.declared.mark.Mark.TheVariants.{Plain, Urgent}
 use Rattle.executor_parts.specs.Marks.{same_mark, other}
 use Rattle.solo.specs.declared.names.Task.{Task}
-use Rattle.solo.specs.Lines.{LinesValue, line_of, first_of, popped_from, taken_from, found_from, taken_by, found_by, turned}
-use Rattle.solo.specs.Lines.{mark_of_turn}
+use Rattle.solo.specs.Lines.{LinesValue, line_of, first_of, popped_from, taken_from, found_from, taken_by, found_by, turned, mark_of_turn}
 use Rattle.plain_scheduler.specs.State.{Due}
 use Rattle.plain_scheduler.specs.Lists.{any, without}
 use Rattle.plain_scheduler.specs.Moves.{is_common, chosen}

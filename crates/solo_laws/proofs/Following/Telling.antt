@@ -1,6 +1,5 @@
 -- A sleeper that is told is the one that lay down last, and the plain scheduler tells it too.
-use Rattle.std.proofs.Common.{◌≡◌, ℕ, zero, suc, ◌-◌, ◌<◌, ◌≤◌, ◌==◌, min, cond, Bool, true, false, List, [], ◌∷◌, length, map}
-use Rattle.std.proofs.Common.{take}
+use Rattle.std.proofs.Common.{◌≡◌, ℕ, zero, suc, ◌-◌, ◌<◌, ◌≤◌, ◌==◌, min, cond, Bool, true, false, List, [], ◌∷◌, length, map, take}
 use Rattle.std.proofs.Common.{Option, Some, None, slice_get, slice_set, refl, sym, ap, subst, ◌∙◌, arith}
 use Rattle.std.proofs.lemmas.Bool.Decides.{nat_tests}
 use Rattle.executor_parts.specs.Sleepers.{last_waker, without_last, waker_in as waker_of}
@@ -39,7 +38,7 @@ module _ {T X : Type 0} (c : Choice) where
       is
 
   -- where one is told already, or nobody lies, nothing is done
-  tells_none : (ls : List (Lying (SoloWaker X))) (p : Plain T (SoloWaker X)) → p.lying ≡ ls → is_told ls ≡ true
+  pub tells_none : (ls : List (Lying (SoloWaker X))) (p : Plain T (SoloWaker X)) → p.lying ≡ ls → is_told ls ≡ true
       → tell wakes c p ≡ p
   tells_none [] p is told =
       let at : ℕ = min c.tells (length p.lying - 1) in
@@ -49,7 +48,7 @@ module _ {T X : Type 0} (c : Choice) where
       ap (λ b. cond b p (told_at wakes (min c.tells (length p.lying - 1)) p)) (ap (any is_called) is ∙ told)
 
   -- else the last is called
-  tells_last : (p : Plain T (SoloWaker X)) (i : ℕ) (l : Lying (SoloWaker X)) (w : SoloWaker X) → any is_called p.lying ≡ false
+  pub tells_last : (p : Plain T (SoloWaker X)) (i : ℕ) (l : Lying (SoloWaker X)) (w : SoloWaker X) → any is_called p.lying ≡ false
       → suc i ≡ length p.lying
       → length p.lying ≤ c.tells → slice_get p.lying i ≡ Some l → l.waker ≡ Some w
       → tell wakes c p ≡ called wakes (λ s. s) w (record p { lying = slice_set p.lying i (called_one l) })
@@ -97,6 +96,22 @@ module _ {T X : Type 0} (c : Choice) where
       by false = told_at_long (min c.tells (length p.lying - 1)) p
 
 module _ {F T X : Type 0} (aside : Option Due) (name : ℕ → Task) (c : Choice) where
+  -- the one that lay down last has the last waker, where all have theirs
+  pub last_facts : (s : Solo F T X) (p : Plain T (SoloWaker X)) (i : ℕ) (l : Lying (SoloWaker X)) (w : SoloWaker X)
+      → FollowsBut aside name s p → any is_called p.lying ≡ false → suc i ≡ length p.lying → slice_get p.lying i ≡ Some l
+      → l.waker ≡ Some w
+      → (turns.is_full s ≡ true) × (last_waker s.sleepers.wakers ≡ Some w)
+  last_facts s p i l w r none long here waker =
+      let wakers = s.sleepers.wakers in
+      let many : length wakers ≡ length p.lying =
+      sym (length_map (λ e. e.1) wakers) ∙ (ap length r.asleep.wakers ∙ all_waking p.lying none) in
+      let at : length wakers - 1 ≡ i = omega (arith, many, long) in
+      let at_last : slice_get (wakers_in p.lying) i ≡ Some w = waking_at p.lying i none ∙ (ap waker_at here ∙ waker) in (
+        equal_test (length wakers) s.sleepers.count (many ∙ sym r.asleep.count),
+        got wakers (length wakers - 1)
+            ∙ (ap (λ ws. slice_get ws (length wakers - 1)) r.asleep.wakers ∙ (ap (slice_get (wakers_in p.lying)) at ∙ at_last)),
+      )
+
   calls_last : (s : Solo F T X) (p : Plain T (SoloWaker X)) (i : ℕ) (l : Lying (SoloWaker X)) (w : SoloWaker X)
       → FollowsBut aside name s p → HasLife 1 s.lines
       → any is_called p.lying ≡ false → suc i ≡ length p.lying → slice_get p.lying i ≡ Some l → l.waker ≡ Some w
@@ -106,23 +121,19 @@ module _ {F T X : Type 0} (aside : Option Due) (name : ℕ → Task) (c : Choice
       let wakers = s.sleepers.wakers in
       let many : length wakers ≡ length p.lying =
       sym (length_map (λ e. e.1) wakers) ∙ (ap length r.asleep.wakers ∙ all_waking p.lying none) in
-      let full : turns.is_full (record s { notified = true }) ≡ true =
-      equal_test (length wakers) s.sleepers.count (many ∙ sym r.asleep.count) in
+      let facts = last_facts s p i l w r none long here waker in
       let at : length wakers - 1 ≡ i = omega (arith, many, long) in
       let at_last : slice_get (wakers_in p.lying) i ≡ Some w = waking_at p.lying i none ∙ (ap waker_at here ∙ waker) in
-      let last : last_waker wakers ≡ Some w =
-      got wakers (length wakers - 1)
-      ∙ (ap (λ ws. slice_get ws (length wakers - 1)) r.asleep.wakers ∙ (ap (slice_get (wakers_in p.lying)) at ∙ at_last)) in
       subst (λ b. FollowsBut aside name
       (choose b
       (turns.handed_by (last_waker wakers) (record s { notified = true; sleepers = without_last s.sleepers }))
       (record s { notified = true }))
       (called wakes (λ s. s) w (record p { lying = slice_set p.lying i (called_one l) })))
-      (sym full)
+      (sym facts.0)
       (subst (λ o. FollowsBut aside name
       (turns.handed_by o (record s { notified = true; sleepers = without_last s.sleepers }))
       (called wakes (λ s. s) w (record p { lying = slice_set p.lying i (called_one l) })))
-      (sym last)
+      (sym facts.1)
       (by w at_last
       (record {
         numbered = r.numbered;
@@ -186,7 +197,7 @@ module _ {F T X : Type 0} (aside : Option Due) (name : ℕ → Task) (c : Choice
       (sym (tells_last c p i l.0 w.0 none long many l.1 w.1))
       (calls_last s p i l.0 w.0 r life none long l.1 w.1)
 
-  told_by : (b : Bool) (s : Solo F T X) (p : Plain T (SoloWaker X)) → s.notified ≡ b → length p.lying ≤ c.tells
+  pub told_by : (b : Bool) (s : Solo F T X) (p : Plain T (SoloWaker X)) → s.notified ≡ b → length p.lying ≤ c.tells
       → FollowsBut aside name s p → HasLife 1 s.lines
       → FollowsBut aside name (choose b s (turns.handed (record s { notified = true }))) (tell wakes c p)
   told_by true s p is many r life =

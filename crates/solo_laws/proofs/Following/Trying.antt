@@ -1,8 +1,7 @@
 -- A take of the executor is a try of the plain scheduler: what a search finds leaves its queue, a sleeper is told, and its run
 -- begins.
-use Rattle.std.proofs.Common.{◌≡◌, ℕ, zero, suc, ◌<◌, ◌≤◌, ◌+◌, ◌==◌, not, cond, if◌then◌else◌, Bool, true, false, List, [], ◌∷◌}
-use Rattle.std.proofs.Common.{◌++◌, length, find}
-use Rattle.std.proofs.Common.{Option, Some, None, slice_get, slice_set, is_some, refl, sym, ap, subst, ◌∙◌}
+use Rattle.std.proofs.Common.{◌≡◌, ℕ, zero, suc, ◌<◌, ◌≤◌, ◌+◌, ◌==◌, not, cond, if◌then◌else◌, Bool, true, false, List, [], ◌∷◌, ◌++◌}
+use Rattle.std.proofs.Common.{length, find, Option, Some, None, slice_get, slice_set, is_some, refl, sym, ap, subst, ◌∙◌}
 use Rattle.executor_parts.specs.declared.places.EntryPlace.{EntryPlace}
 use Rattle.task_moves.specs.AbstractTask as abstract
 use Rattle.task_moves.specs.AbstractTask.{AbstractTask}
@@ -20,26 +19,22 @@ use Rattle.solo.specs.Cells as cells
 use Rattle.solo.specs.Lines.{mark_of_turn, searched}
 use Rattle.solo.specs.Solo as solo
 use Rattle.solo.specs.Turns as turns
-use Rattle.plain_scheduler.specs.State.{Due, Future, Choice, Plain, Try, Closed, Poll, Drop as DropCode, Polls}
-use Rattle.plain_scheduler.specs.State.{Drops}
+use Rattle.plain_scheduler.specs.State.{Due, Future, Choice, Plain, Taker, Closed, Poll, Drop as DropCode, Polls, Drops}
 use Rattle.plain_scheduler.specs.Lists.{without, or}
-use Rattle.plain_scheduler.specs.Moves.{put, task, tell, chosen, enters, see}
+use Rattle.plain_scheduler.specs.Moves.{put, task, chosen, enters, see}
 use Rattle.plain_scheduler.specs.Takes as takes
-use Rattle.solo_laws.specs.Road.{IsTaskOf, IsOver, is_in, lents, drops, FollowsBut, Follows, IsQueued, Lined, HasLife, stands}
-use Rattle.solo_laws.specs.Road.{once, is_forgotten}
-use Rattle.solo_laws.specs.Road.{count_of, tests, due_task_if, wakes}
-use Rattle.solo_laws.specs.Alike.{TakesAlike}
+use Rattle.solo_laws.specs.Road.{IsTaskOf, IsOver, is_in, lents, drops, FollowsBut, Follows, IsQueued, Lined, HasLife, stands, once}
+use Rattle.solo_laws.specs.Road.{is_forgotten, count_of, tests, due_task_if, wakes}
 use Rattle.solo_laws.proofs.Following.Lists.{get_below}
 use Rattle.solo_laws.proofs.Following.Seeing.{seen}
 use Rattle.solo_laws.proofs.Following.Cells.{found, of_found, asks_found, changed_found, found_here, same_number}
 use Rattle.solo_laws.proofs.Following.Inside.{home_lent, home_dropping, one_lent, one_dropped}
-use Rattle.solo_laws.proofs.Following.Due.{clash, both_true, and_true, not_true, not_false, later, equal, stood, once_without}
-use Rattle.solo_laws.proofs.Following.Due.{found_stands, found_gone}
+use Rattle.solo_laws.proofs.Following.Due.{clash, both_true, and_true, not_true, not_false, later, equal, stood, once_without, found_stands}
+use Rattle.solo_laws.proofs.Following.Due.{found_gone}
 use Rattle.solo_laws.proofs.Following.Tasks.{queued_idle}
 use Rattle.solo_laws.proofs.Following.Lines.{searched_same}
 use Rattle.solo_laws.proofs.Following.Changing.{task_is, put_is, kept, turned}
 use Rattle.solo_laws.proofs.Following.Taking.{searched_alike, found_any, without_none}
-use Rattle.solo_laws.proofs.Following.Telling.{told}
 use Rattle.solo_laws.proofs.Following.Using.{stays, put_long, put_inside}
 
 set_same_one : {B : Type 0} (xs : List B) (i : ℕ) (x : B) → slice_get xs i ≡ Some x → slice_set xs i x ≡ xs
@@ -166,11 +161,11 @@ module _ {F T X : Type 0} (name : ℕ → Task) where
   }
 
   -- the run of a task that is ready begins in both
-  begun : (c : Choice) (f : ℕ) (s : Solo F T X) (p : Plain T (SoloWaker X)) → f < length p.futures → stands f p.due ≡ false
-      → asked cells.may_start false (name f) s.cells ≡ true → Follows name s p
-      → Follows name (turns.begun (name f) s) (takes.run wakes c f Try p)
-  begun c f s p at gone ready r =
-      out (asked cells.start_answer None (name f) s.cells) (turns.turned cells.started (name f) s) (takes.run wakes c f Try p)
+  pub begun : (c : Choice) (f : ℕ) (taker : Taker (SoloWaker X)) (s : Solo F T X) (p : Plain T (SoloWaker X)) → f < length p.futures
+      → stands f p.due ≡ false → asked cells.may_start false (name f) s.cells ≡ true → Follows name s p
+      → Follows name (turns.begun (name f) s) (takes.run wakes c f taker p)
+  begun c f taker s p at gone ready r =
+      out (asked cells.start_answer None (name f) s.cells) (turns.turned cells.started (name f) s) (takes.run wakes c f taker p)
       (by (task f p).closed refl)
     where
       there : (v : Kept T X) → found (name f) s.cells ≡ Some v → cells.may_start v ≡ true
@@ -234,30 +229,30 @@ module _ {F T X : Type 0} (name : ℕ → Task) where
           ap (λ (t : AbstractTask T (SoloWaker X)). t.infos) (task_is f p k.1 k.3) ∙ of.told
 
       by : (b : Bool) → (task f p).closed ≡ b
-          → Follows name (turns.turned cells.started (name f) s) (takes.run wakes c f Try p)
+          → Follows name (turns.turned cells.started (name f) s) (takes.run wakes c f taker p)
       by true is =
           let still : put f (abstract.begin_run (task f p)) p ≡ p =
           ap (λ b. put f (if b then task f p else record (task f p) { phase = abstract.Phase.Polling }) p) is
           ∙ put_same f p at infos in
           subst (λ b. Follows name (turns.turned cells.started (name f) s)
-          (if b then takes.dropping wakes c f Closed Try p
-          else enters (Poll f Try) (see (Polls f) (put f (abstract.begin_run (task f p)) p)))) (sym is)
+          (if b then takes.dropping wakes c f Closed taker p
+          else enters (Poll f taker) (see (Polls f) (put f (abstract.begin_run (task f p)) p)))) (sym is)
           (let it : Follows name (turns.turned cells.started (name f) s) p = subst
           (Follows name (turns.turned cells.started (name f) s)) still next in
-          seen name (turns.turned cells.started (name f) s) p (p.events ++ Drops f ∷ []) (DropCode f Closed Try ∷ p.inside)
+          seen name (turns.turned cells.started (name f) s) p (p.events ++ Drops f ∷ []) (DropCode f Closed taker ∷ p.inside)
           (one_dropped name (length p.futures) (cells.changed cells.started (name f) s.cells) p.inside
-          (DropCode f Closed Try ∷ p.inside)
+          (DropCode f Closed taker ∷ p.inside)
           it.inside f at refl refl refl (placed (λ place. is_dropping place)
           (ap (λ b. is_dropping (local.started {F = EntryPlace} b)) is))
           (not_dropped spare.0 spare.1)) it)
       by false is =
           let q : Plain T (SoloWaker X) = put f (abstract.begin_run (task f p)) p in
           subst (λ b. Follows name (turns.turned cells.started (name f) s)
-          (if b then takes.dropping wakes c f Closed Try p
-          else enters (Poll f Try) (see (Polls f) (put f (abstract.begin_run (task f p)) p)))) (sym is)
-          (seen name (turns.turned cells.started (name f) s) q (q.events ++ Polls f ∷ []) (Poll f Try ∷ q.inside)
+          (if b then takes.dropping wakes c f Closed taker p
+          else enters (Poll f taker) (see (Polls f) (put f (abstract.begin_run (task f p)) p)))) (sym is)
+          (seen name (turns.turned cells.started (name f) s) q (q.events ++ Polls f ∷ []) (Poll f taker ∷ q.inside)
           (one_lent name (length q.futures) (cells.changed cells.started (name f) s.cells) q.inside
-          (Poll f Try ∷ q.inside) next.inside f
+          (Poll f taker ∷ q.inside) next.inside f
           (subst (λ n. f < n) (sym (put_long f (abstract.begin_run (task f p)) p)) at) refl refl refl
           (placed (λ place. is_lent place) (ap (λ b. is_lent (local.started {F = EntryPlace} b)) is))
           (subst (λ cs. is_in f (lents cs) ≡ false) (sym (put_inside f (abstract.begin_run (task f p)) p))
@@ -265,7 +260,7 @@ module _ {F T X : Type 0} (name : ℕ → Task) where
           next)
 
   -- one that was taken is put aside no more
-  forget : (d : Due) (s : Solo F T X) (p : Plain T (SoloWaker X)) → FollowsBut (Some d) name s p → Follows name s p
+  pub forget : (d : Due) (s : Solo F T X) (p : Plain T (SoloWaker X)) → FollowsBut (Some d) name s p → Follows name s p
   forget d s p r = record {
     numbered = r.numbered;
     tasks = r.tasks;
@@ -278,96 +273,84 @@ module _ {F T X : Type 0} (name : ℕ → Task) where
     inside = r.inside;
   }
 
-  -- a take
-  pub taken : (c : Choice) (s : Solo F T X) (p : Plain T (SoloWaker X)) → c.first ≡ mark_of_turn s.lines.turn
-      → length p.lying ≤ c.tells → HasLife 1 s.lines → Follows name s p → Follows name (solo.taken s) (takes.take wakes c Try p)
-  taken c s p turn many life r =
-      let alike = subst (λ m. ((solo.sought s) ≡ due_task_if name (find (chosen (tests m) p.due) p.due))
-      × Lined name (searched s.lines) (without (chosen (tests m) p.due) p.due)) (sym turn)
-      (searched_alike name s.lines p.due r.queued.lines) in
-      by (find (chosen (tests c.first) p.due) p.due) refl alike.0 alike.1
-    where
-      queued : (due : List Due) → Lined name (searched s.lines) due → IsQueued name p.limit (searched s.lines) due
-      queued due lines = record {
-        lines = lines;
-        unclosed = λ mark. searched_same (λ q. q.closed) (λ q. refl) mark s.lines ∙ r.queued.unclosed mark;
-        limit = λ mark. searched_same (λ q. q.capacity) (λ q. refl) mark s.lines ∙ r.queued.limit mark;
-      }
+  -- what a search finds, and what it leaves
+  module _ (c : Choice) (s : Solo F T X) (p : Plain T (SoloWaker X)) (turn : c.first ≡ mark_of_turn s.lines.turn)
+      (r : Follows name s p) where
+    abbrev pub test : Due → Bool
+    test = chosen (tests c.first) p.due
 
-      lives : HasLife 1 (searched s.lines)
-      lives mark =
-          subst (λ n. n + 1 ≤ most_accepted) (sym (searched_same (λ q. count_of q.accepted) (λ q. refl) mark s.lines)) (life mark)
+    abbrev pub left : Plain T (SoloWaker X)
+    left = record p { due = without test p.due }
 
-      was : (d : Due) → find (chosen (tests c.first) p.due) p.due ≡ Some d → (b : Bool) (j : ℕ)
-          → cond (j == d.future) true (stands j (without (chosen (tests c.first) p.due) p.due)) ≡ true → (j == d.future) ≡ b
-          → stands j p.due ≡ true
-      was d is true j due same =
-          let one : j ≡ d.future = same_number j d.future same in
-          subst (λ n. stands n p.due ≡ true) (sym one) (found_stands (chosen (tests c.first) p.due) p.due d is)
-      was d is false j due same =
-          stood (chosen (tests c.first) p.due) j p.due
-          (sym (ap (λ b. cond b true (stands j (without (chosen (tests c.first) p.due) p.due))) same) ∙ due)
+    alike : (solo.sought s ≡ due_task_if name (find test p.due)) × Lined name (searched s.lines) (without test p.due)
+    alike =
+        subst (λ m. (solo.sought s ≡ due_task_if name (find (chosen (tests m) p.due) p.due))
+        × Lined name (searched s.lines) (without (chosen (tests m) p.due) p.due)) (sym turn)
+        (searched_alike name s.lines p.due r.queued.lines)
 
-      popped : (d : Due) → find (chosen (tests c.first) p.due) p.due ≡ Some d
-          → Lined name (searched s.lines) (without (chosen (tests c.first) p.due) p.due)
-          → FollowsBut (Some d) name (solo.popped s) (record p { due = without (chosen (tests c.first) p.due) p.due })
-      popped d is lines = record {
-        numbered = r.numbered;
-        tasks = r.tasks;
-        within = r.within;
-        queued = queued (without (chosen (tests c.first) p.due) p.due) lines;
-        once =
-            and_true (not (stands d.future (without (chosen (tests c.first) p.due) p.due)))
-            (once (without (chosen (tests c.first) p.due) p.due))
-            (not_false (stands d.future (without (chosen (tests c.first) p.due) p.due))
-            (found_gone (chosen (tests c.first) p.due) p.due d is r.once))
-            (once_without (chosen (tests c.first) p.due) p.due r.once);
-        ready = λ j due. r.ready j (was d is (j == d.future) j due refl);
-        asleep = r.asleep;
-        awaiters = r.awaiters;
-        inside = r.inside;
-      }
+    queued : (due : List Due) → Lined name (searched s.lines) due → IsQueued name p.limit (searched s.lines) due
+    queued due lines = record {
+      lines = lines;
+      unclosed = λ mark. searched_same (λ q. q.closed) (λ q. refl) mark s.lines ∙ r.queued.unclosed mark;
+      limit = λ mark. searched_same (λ q. q.capacity) (λ q. refl) mark s.lines ∙ r.queued.limit mark;
+    }
 
-      by : (o : Option Due) → find (chosen (tests c.first) p.due) p.due ≡ o
-          → solo.sought s ≡ due_task_if name (find (chosen (tests c.first) p.due) p.due)
-          → Lined name (searched s.lines) (without (chosen (tests c.first) p.due) p.due)
-          → Follows name (solo.taken s) (takes.take wakes c Try p)
-      by None is sought lines =
-          let none : without (chosen (tests c.first) p.due) p.due ≡ p.due =
-          without_none (chosen (tests c.first) p.due) p.due (found_any (chosen (tests c.first) p.due) p.due ∙ ap is_some is) in
-          subst (λ o. Follows name (solo.taken_by o (solo.popped s)) (takes.take wakes c Try p))
-          (sym (sought ∙ ap (due_task_if name) is))
-          (subst (λ o. Follows name (solo.popped s)
-          (or o (λ d. takes.takes wakes c Try d (record p { due = without (chosen (tests c.first) p.due) p.due }))
-          (takes.nothing wakes c Try p)))
-          (sym is)
-          (record {
+    pub lives : (n : ℕ) → HasLife n s.lines → HasLife n (searched s.lines)
+    lives n life mark =
+        subst (λ m. m + n ≤ most_accepted) (sym (searched_same (λ q. count_of q.accepted) (λ q. refl) mark s.lines)) (life mark)
+
+    pub nothing : find test p.due ≡ None → (solo.sought s ≡ None) × Follows name (solo.popped s) p
+    nothing is =
+        let none : without test p.due ≡ p.due = without_none test p.due (found_any test p.due ∙ ap is_some is) in (
+          alike.0 ∙ ap (due_task_if name) is,
+          record {
             numbered = r.numbered;
             tasks = r.tasks;
             within = r.within;
-            queued = queued p.due (subst (Lined name (searched s.lines)) none lines);
+            queued = queued p.due (subst (Lined name (searched s.lines)) none alike.1);
             once = r.once;
             ready = r.ready;
             asleep = r.asleep;
             awaiters = r.awaiters;
             inside = r.inside;
-          }))
-      by (Some d) is sought lines =
-          let q : Plain T (SoloWaker X) = tell wakes c (record p { due = without (chosen (tests c.first) p.due) p.due }) in
-          let told_both : FollowsBut (Some d) name (turns.told (solo.popped s)) q =
-          told (Some d) name c (solo.popped s) (record p { due = without (chosen (tests c.first) p.due) p.due }) many
-          (popped d is lines) lives in
-          let can = told_both.ready d.future (ap (λ b. cond b true (stands d.future q.due)) (equal d.future d.future refl)) in
-          let gone : stands d.future q.due ≡ false =
-          not_true (stands d.future q.due) (both_true (not (stands d.future q.due)) (once q.due) told_both.once).0 in
-          subst (λ o. Follows name (solo.taken_by o (solo.popped s)) (takes.take wakes c Try p))
-          (sym (sought ∙ ap (due_task_if name) is))
-          (subst (λ o. Follows name (turns.begun (name d.future) (turns.told (solo.popped s)))
-          (or o (λ d. takes.takes wakes c Try d (record p { due = without (chosen (tests c.first) p.due) p.due }))
-          (takes.nothing wakes c Try p)))
-          (sym is)
-          (begun c d.future (turns.told (solo.popped s)) q can.0 gone can.1 (forget d (turns.told (solo.popped s)) q told_both)))
+          },
+        )
 
-pub takes_alike : {F T X : Type 0} (name : ℕ → Task) (s : Solo F T X) (p : Plain T (SoloWaker X)) → Follows name s p
-    → TakesAlike name (Follows name) s p
-takes_alike name s p r c turn many life = taken name c s p turn many life r
+    pub something : (d : Due) → find test p.due ≡ Some d
+        → (solo.sought s ≡ Some (name d.future)) × FollowsBut (Some d) name (solo.popped s) left
+    something d is = (
+      alike.0 ∙ ap (due_task_if name) is,
+      record {
+        numbered = r.numbered;
+        tasks = r.tasks;
+        within = r.within;
+        queued = queued (without test p.due) alike.1;
+        once =
+            and_true (not (stands d.future (without test p.due))) (once (without test p.due))
+            (not_false (stands d.future (without test p.due)) (found_gone test p.due d is r.once))
+            (once_without test p.due r.once);
+        ready = λ j due. r.ready j (was (j == d.future) j due refl);
+        asleep = r.asleep;
+        awaiters = r.awaiters;
+        inside = r.inside;
+      },
+    )
+      where
+        was : (b : Bool) (j : ℕ) → cond (j == d.future) true (stands j (without test p.due)) ≡ true → (j == d.future) ≡ b
+            → stands j p.due ≡ true
+        was true j due same =
+            let one : j ≡ d.future = same_number j d.future same in
+            subst (λ n. stands n p.due ≡ true) (sym one) (found_stands test p.due d is)
+        was false j due same =
+            stood test j p.due (sym (ap (λ b. cond b true (stands j (without test p.due))) same) ∙ due)
+
+  -- one that was put aside is ready, and due no more
+  pub aside_ready : (d : Due) (s : Solo F T X) (q : Plain T (SoloWaker X)) → FollowsBut (Some d) name s q
+      → (d.future < length q.futures) × (asked cells.may_start false (name d.future) s.cells ≡ true)
+      × (stands d.future q.due ≡ false)
+  aside_ready d s q r =
+      let can = r.ready d.future (ap (λ b. cond b true (stands d.future q.due)) (equal d.future d.future refl)) in (
+        can.0,
+        can.1,
+        not_true (stands d.future q.due) (both_true (not (stands d.future q.due)) (once q.due) r.once).0,
+      )

@@ -1,9 +1,8 @@
 -- A change of a task that may queue it: a wake, a release of a waker, both, a cancel, a detach. Where it queues the task, that
 -- comes
 -- last in its queue, which has a place.
-use Rattle.std.proofs.Common.{◌≡◌, ℕ, zero, suc, ◌-◌, ◌<◌, ◌==◌, nat_lt, ◌∷◌, ◌&&◌, ◌||◌, Bool, true, false, List, [], length}
-use Rattle.std.proofs.Common.{Option, Some, None, slice_get}
-use Rattle.std.proofs.Common.{slice_set, is_some, if◌then◌else◌, refl, sym, ap, subst, ◌∙◌, arith}
+use Rattle.std.proofs.Common.{◌≡◌, ℕ, zero, suc, ◌-◌, ◌<◌, ◌==◌, nat_lt, ◌∷◌, ◌&&◌, ◌||◌, Bool, true, false, List, [], length, Option, Some}
+use Rattle.std.proofs.Common.{None, slice_get, slice_set, is_some, if◌then◌else◌, refl, sym, ap, subst, ◌∙◌, arith}
 use Rattle.std.proofs.lemmas.Bool.Decides.{nat_tests}
 use Rattle.slab.specs.Slab.{get, with_value}
 use Rattle.executor_parts.specs.declared.mark.Mark.TheVariants.{Plain as PlainMark}
@@ -16,7 +15,7 @@ use Rattle.solo.specs.declared.names.SoloWaker.TheVariants.{Task as OfTask}
 use Rattle.solo.specs.declared.cells.Cell.{Cell}
 use Rattle.solo.specs.declared.cells.Cells.{Cells}
 use Rattle.solo.specs.declared.solo.Solo.{Solo}
-use Rattle.solo.specs.Cells.{Kept, choose, asked, asked_by, changed_by}
+use Rattle.solo.specs.Cells.{Kept, choose, asked, changed_by}
 use Rattle.solo.specs.Cells as cells
 use Rattle.solo.specs.Turns as turns
 use Rattle.plain_scheduler.specs.State.{Due, Future, Plain}

@@ -13,7 +13,7 @@ use Rattle.call_steps.specs.declared.step.user.UserStep.TheVariants as user_step
 use Rattle.call_steps.specs.Closing.{closing as closes_by, leaking}
 use Rattle.call_steps.specs.Next.{next_closing}
 use Rattle.call_steps.specs.Owing.{owed}
-use Rattle.call_steps.specs.Seeing.{first, owes}
+use Rattle.call_steps.specs.Seeing.{owes}
 use Rattle.solo.specs.declared.names.Task.{Task}
 use Rattle.solo.specs.declared.owed.Told.{Told}
 use Rattle.solo.specs.declared.solo.Solo.{Solo}
@@ -26,7 +26,7 @@ use Rattle.solo.specs.Turns as turns
 use Rattle.solo.specs.Turns.{turned, swept, lined, loosed, let_go, let_go_answer, scheduled, schedule_answer, scheduled_if}
 use Rattle.solo.specs.Turns.{schedule_if_answer}
 use Rattle.solo_laws.specs.Going.{Going, Out, Step, calm, quiet}
-use Rattle.solo_laws.specs.Seen.{named_by, seen_next}
+use Rattle.solo_laws.specs.Seen.{first, named_by, seen_next}
 use Rattle.solo_laws.specs.Done as done
 use Rattle.solo_laws.specs.Goes.{goes}
 use Rattle.solo_laws.specs.HandedOut.{ends, telling, owing, handing}

@@ -4,7 +4,7 @@ use Rattle.call_steps.specs.declared.names.TickOrRun.TheVariants as tick_or_run
 use Rattle.call_steps.specs.declared.reply.Reply.TheVariants as reply
 use Rattle.call_steps.specs.declared.step.run.RunStep.TheVariants as run_step
 use Rattle.call_steps.specs.Next.{next_run}
-use Rattle.call_steps.specs.Seeing.{first}
+use Rattle.solo_laws.specs.Seen.{first}
 use Rattle.solo.specs.declared.names.Task.{Task}
 use Rattle.solo.specs.declared.runs.Leaving.{Leaving}
 use Rattle.solo.specs.declared.runs.Runner.{Runner}

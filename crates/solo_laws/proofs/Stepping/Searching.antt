@@ -23,7 +23,6 @@ use Rattle.call_steps.specs.declared.step.run.RunStep.TheVariants as run_step
 use Rattle.call_steps.specs.declared.step.tick.TickStep.TheVariants as tick_step
 use Rattle.call_steps.specs.Next.{next_list, next_run, next_tick}
 use Rattle.call_steps.specs.Sleeping.{asleep, found_by_run}
-use Rattle.call_steps.specs.Seeing.{first}
 use Rattle.solo.specs.declared.names.Task.{Task}
 use Rattle.solo.specs.declared.names.SoloWaker.{SoloWaker}
 use Rattle.solo.specs.declared.runs.Runner.{Runner}
@@ -38,11 +37,11 @@ use Rattle.solo.specs.Steals.{is_own, next_place, own_popped, round, round_on, s
 use Rattle.solo.specs.Steals.{stolen, stolen_if}
 use Rattle.solo.specs.Ticks as ticks
 use Rattle.solo_laws.specs.Going.{Going, Step}
-use Rattle.solo_laws.specs.Seen.{name_of, found_or, sleeps, source_of, walk_at, walk_from}
+use Rattle.solo_laws.specs.Seen.{first, name_of, found_or, sleeps, source_of, walk_at, walk_from}
 use Rattle.solo_laws.specs.Done.{walks_to}
 use Rattle.solo_laws.specs.Goes.{goes}
 use Rattle.solo_laws.specs.HandedOut.{start_of}
-use Rattle.solo_laws.specs.TicksGo.{has_place, is_again, lies, looks_again, turn_back}
+use Rattle.solo_laws.specs.TicksGo.{has_place, is_again, lies, looks_again}
 use Rattle.solo_laws.specs.SearchesGo.{Ends, behind_run, calls_own, of_run, run_at, run_searched, run_ticked, to_run_on}
 use Rattle.solo_laws.specs.SearchesGo.{RunsAs, RunSearchesAs, RunSearchesGo, RunTakesGo}
 use Rattle.solo_laws.proofs.Stepping.Telling.{two, nine}
@@ -269,10 +268,10 @@ module _ {F T X : Type 0} where
   searched_so None runner start ticker waker s few fewer =
       fixed (λ n. two n) 2 _ _ _ (λ m le. omega (arith, le)) (λ n. refl)
 
-  turns_so : (a : Option Task) (runner : Runner) (start turn : ℕ) (ticker : Ticker) (waker : SoloWaker X) (s : Solo F T X)
-      → runs.searched_by a turn runner ticker s ≡ turn_back a turn (run_searched a runner start ticker waker s).solo
-  turns_so (Some task) runner start turn ticker waker s = refl
-  turns_so None runner start turn ticker waker s = refl
+  searched_as : (a : Option Task) (runner : Runner) (start : ℕ) (ticker : Ticker) (waker : SoloWaker X) (s : Solo F T X)
+      → (run_searched a runner start ticker waker s).solo ≡ runs.searched_by a runner ticker s
+  searched_as (Some task) runner start ticker waker s = refl
+  searched_as None runner start ticker waker s = refl
 
   misses_as : (a : Option Task) (walked : Bool) (runner : Runner) (start : ℕ) (ticker : Ticker) (waker : SoloWaker X) (s : Solo F T X)
       → RunSearchesAs (runs.search_answer_by a walked runner ticker s) (run_searched a runner start ticker waker s)
@@ -286,6 +285,6 @@ module _ {F T X : Type 0} where
       let left : Solo F T X = sought runner.number start s in (
         searches_so runner start ticker None (name_of waker) s (run_searched task runner start ticker waker left)
             (searched_so task runner start ticker waker left few fewer),
-        turns_so task runner start s.lines.turn ticker waker left,
+        searched_as task runner start ticker waker left,
         misses_as task (seek_answer runner.number start s).has_walked runner start ticker waker left,
       )

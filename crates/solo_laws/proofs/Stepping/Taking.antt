@@ -15,7 +15,7 @@ use Rattle.call_steps.specs.declared.step.table.TableStep.TheVariants as table_s
 use Rattle.call_steps.specs.declared.step.tick.SleeperStep.TheVariants as sleeper_step
 use Rattle.call_steps.specs.Next.{next_queue, next_table}
 use Rattle.call_steps.specs.Owing.{owed}
-use Rattle.call_steps.specs.Seeing.{first, seen}
+use Rattle.call_steps.specs.Seeing.{seen}
 use Rattle.solo.specs.declared.names.Task.{Task}
 use Rattle.solo.specs.declared.owed.SpawnError.{SpawnError}
 use Rattle.solo.specs.declared.owed.SpawnError.TheVariants.{Full, NoMemory}
@@ -30,7 +30,7 @@ use Rattle.solo.specs.Solo.{sought, popped}
 use Rattle.solo.specs.Table.{Same, TableValue}
 use Rattle.solo.specs.Turns as turns
 use Rattle.solo_laws.specs.Going.{Going, Out, Step, calm, quiet}
-use Rattle.solo_laws.specs.Seen.{begins_by}
+use Rattle.solo_laws.specs.Seen.{begins_by, first}
 use Rattle.solo_laws.specs.Done.{either, gone_if}
 use Rattle.solo_laws.specs.Goes.{goes}
 use Rattle.solo_laws.specs.HandedOut.{ends, telling, runs, to_run, reply_if}

@@ -33,7 +33,7 @@ use Rattle.solo.specs.declared.ticks.Ticker.TheVariants.{Awake, Asleep}
 use Rattle.solo.specs.declared.solo.Solo.{Solo}
 use Rattle.solo.specs.Cells.{choose, asked}
 use Rattle.solo.specs.Cells as cells
-use Rattle.solo.specs.Lines.{LinesValue, first_of, popped_from, mark_of_turn, turned, taken_by, found_by}
+use Rattle.solo.specs.Lines.{LinesValue, is_empty, first_of, popped_from, mark_of_turn, turned, taken_by, found_by}
 use Rattle.solo.specs.Solo.{sought, popped}
 use Rattle.solo.specs.Turns as turns
 use Rattle.solo.specs.Turns.{told, told_waker, is_full, outside, handed, handed_by, lined, takes, let_go, let_go_answer}
@@ -47,7 +47,7 @@ use Rattle.solo_laws.specs.Goes.{goes}
 use Rattle.solo_laws.specs.TicksGo as calls
 use Rattle.solo_laws.specs.HandedOut.{ends, runs, dropping, reply_if, start_of}
 use Rattle.solo_laws.specs.TicksGo.{TickTakesGo, TickSearchesGo, TickLeavesGo, TicksBegin, of_tick, has_place, has_place_at, lies, ticked}
-use Rattle.solo_laws.specs.TicksGo.{searched, turn_back, is_nothing, is_pending, SearchesAs, TicksAs}
+use Rattle.solo_laws.specs.TicksGo.{TickSleepsGo, searched, is_nothing, is_pending, SearchesAs, TicksAs}
 use Rattle.solo_laws.proofs.Stepping.Telling.{two, nine, free, tells, lets_go, alone, telling_in}
 use Rattle.solo_laws.proofs.Stepping.Taking.{tells_and_runs, either_none}
 
@@ -343,10 +343,10 @@ module _ {F T X : Type 0} where
       second_searched (first_of (other mark) (popped_from mark s.lines)) (other mark) t ticker waker
       (record s { lines = popped_from (other mark) (popped_from mark s.lines) })
 
-  turns_back : (a : Option Task) (t : ℕ) (ticker : Ticker) (waker : SoloWaker X) (turn : ℕ) (s : Solo F T X)
-      → ticks.searched_by a turn ticker s ≡ turn_back a turn (searched a (of_tick waker t) ticker s).solo
-  turns_back (Some task) t ticker waker turn s = refl
-  turns_back None t ticker waker turn s = refl
+  searched_as : (a : Option Task) (t : ℕ) (ticker : Ticker) (waker : SoloWaker X) (s : Solo F T X)
+      → (searched a (of_tick waker t) ticker s).solo ≡ ticks.searched_by a ticker s
+  searched_as (Some task) t ticker waker s = refl
+  searched_as None t ticker waker s = refl
 
   searches_by : (a : Option Task) (t : ℕ) (ticker : Ticker) (waker : SoloWaker X) (s : Solo F T X)
       → SearchesAs (ticks.search_answer_by a ticker s) (searched a (of_tick waker t) ticker s)
@@ -358,9 +358,22 @@ module _ {F T X : Type 0} where
   tick_searches_go s t ticker waker = (
     first_searched (first_of (mark_of_turn s.lines.turn) (turned s.lines)) (mark_of_turn s.lines.turn) t ticker waker
         (record s { lines = turned s.lines }),
-    turns_back (sought s) t ticker waker s.lines.turn (popped s),
+    searched_as (sought s) t ticker waker (popped s),
     searches_by (sought s) t ticker waker (popped s),
   )
+
+  -- behind that
+
+  sleeps_by : (b : Bool) (sleeping : Sleeping Task ℕ) (ticker : Ticker) (waker : SoloWaker X) (s : Solo F T X) → b ≡ true
+      → TicksAs (choose b (ticks.sleep_answer ticker waker s) (ticks.look_answer ticker Again None (Some waker) s))
+      (choose b (ticks.fallen_asleep ticker waker s) s) (lies sleeping ticker waker (calm s))
+  sleeps_by true sleeping ticker waker s is =
+      (refl, (refl, found_nothing ticker waker s, refl, refl, refl, refl, pending_as ticker waker s))
+  sleeps_by false sleeping ticker waker s is = absurd cc
+
+  pub tick_sleeps_go : (s : Solo F T X) → TickSleepsGo s
+  tick_sleeps_go s sleeping ticker waker none has =
+      (lies_down ticker 3 sleeping waker (calm s) has, sleeps_by (is_empty s.lines) sleeping ticker waker s none)
 
   -- a tick goes
 

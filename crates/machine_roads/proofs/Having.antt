@@ -1,0 +1,175 @@
+-- In each machine of which the executor's drop hasn't begun, what the next thing to do speaks of is there.
+use Rattle.std.proofs.Common.{◌≡◌, ℕ, ◌<◌, ◌≤◌, ◌&&◌, ◌||◌, not, nat_lt, Bool, true, false, [], ◌∷◌, length}
+use Rattle.std.proofs.Common.{Some, if◌then◌else◌, refl, sym, ap, subst, ◌∙◌, arith}
+use Rattle.std.proofs.Common.{inl, ⊎_elim}
+use Rattle.std.proofs.lemmas.Bool.Decides.{nat_tests}
+use Rattle.task_moves.specs.declared.moves.owed.Move.TheVariants as move
+use Rattle.task_moves.specs.LocalTask.{token}
+use Rattle.task_moves.specs.Moves.{is_going}
+use Rattle.executor_model.specs.declared.op.HandleOp.TheVariants as handle_op
+use Rattle.executor_model.specs.declared.op.Op.{Op}
+use Rattle.executor_model.specs.declared.op.Op.TheVariants as op
+use Rattle.executor_model.specs.declared.op.QueueOp.TheVariants as queue_op
+use Rattle.executor_model.specs.declared.op.SleeperOp.TheVariants as sleeper_op
+use Rattle.executor_model.specs.declared.op.Waker.{Waker}
+use Rattle.executor_model.specs.declared.op.Waker.TheVariants.{Task, Outside}
+use Rattle.executor_model.specs.declared.op.WakerOp.TheVariants as waker_op
+use Rattle.executor_model.specs.Acts.{takes_more}
+use Rattle.executor_model.specs.Good.{CanWake, Good, IsKnown, IsKnownWaker}
+use Rattle.executor_model.specs.Rows.{past_of, releases_of, waiting_of}
+use Rattle.executor_model.specs.Sound.{Sound, pend, times, tokens}
+use Rattle.executor_model.specs.Steps.{Machine, below_top, stack, top}
+use Rattle.executor_model.specs.Weights.{past, same}
+use Rattle.executor_model.specs.World.{World, among, mark_of, queue_of, task}
+use Rattle.executor_model.proofs.OneFuture.Stories.{among_is}
+use Rattle.executor_model.proofs.Polls.AskingExecutions.{Heard, heard}
+use Rattle.executor_model.proofs.Steps.Lift.{split, topped}
+use Rattle.executor_model.proofs.Steps.Lists.{past_is, same_is}
+use Rattle.executor_model.proofs.Steps.Needing.{needs}
+use Rattle.executor_model.proofs.Steps.QueuesByMark.{any-shut}
+use Rattle.executor_model.proofs.Steps.Reached.{Reached, good-here}
+use Rattle.executor_model.proofs.Table.LeavingExecutions.{has-place}
+use Rattle.machine_roads.specs.Alone.{CanCopy, Has}
+use Rattle.machine_roads.specs.Moving.{IsQueued}
+use Rattle.machine_roads.proofs.Lists.{clash}
+
+pub heard_here : (s : Machine) → Reached s → Heard s
+heard_here s r = subst Heard (sym r.is) (heard r.limit r.kind r.parties r.steps)
+
+below_of : (n f : ℕ) → past n f ≡ 0 → f < n
+below_of n f is = grind (arith, past_is)
+
+same_self : (g : ℕ) → same g g ≡ 1
+same_self g = grind (arith, same_is)
+
+below_test : (n m : ℕ) → n < m → nat_lt n m ≡ true
+below_test n m is = grind (arith, nat_tests)
+
+known_by : (w : World) (a : Waker) → CanWake w a → IsKnownWaker w a
+known_by w (Task g) can = can.0
+known_by w (Outside x) can = tt
+
+module _ (s : Machine) (p : ℕ) (reached : Reached s) (there : p < length s.parties) where
+  abbrev good : Good s
+  good = good-here s reached
+
+  -- as many as there are Runnables, runs and closing calls
+  token_few : (f : ℕ) → token (task s.world f) ≤ tokens s.world f (pend f s.parties)
+  token_few f = by (task s.world f).scheduled (task s.world f).running refl refl
+    where
+      k : Sound s.world f (pend f s.parties)
+      k = good.sound f
+
+      by : (a b : Bool) → (task s.world f).scheduled ≡ a → (task s.world f).running ≡ b
+          → token (task s.world f) ≤ tokens s.world f (pend f s.parties)
+      by true b on running = omega (arith, ap {B = ℕ} (λ x. if x || (task s.world f).running then 1 else 0) on, (good.sound f).owed on)
+      by false true off on =
+          omega (
+            arith,
+            ap {B = ℕ} (λ x. if x || (task s.world f).running then 1 else 0) off,
+            ap {B = ℕ} (λ x. if x then 1 else 0) on,
+            (good.sound f).going on,
+          )
+      by false false off down =
+          omega (
+            arith,
+            ap {B = ℕ} (λ x. if x || (task s.world f).running then 1 else 0) off,
+            ap {B = ℕ} (λ x. if x then 1 else 0) down,
+          )
+
+  released : (f : ℕ) → top (stack s p) ≡ Some (op.Move move.Release f) → token (task s.world f) < (task s.world f).references
+  released f is =
+      omega (
+        arith,
+        token_few f,
+        (good.sound f).counted,
+        split (releases_of f) s.parties p (op.Move move.Release f ∷ []) (below_top (stack s p)) there
+            (topped (stack s p) (op.Move move.Release f) is),
+        same_self f,
+      )
+
+  queued : (f : ℕ) → s.world.gone ≡ false → top (stack s p) ≡ Some (op.Queue (queue_op.Append f))
+      → IsKnown s.world f × (takes_more (queue_of s.world (mark_of s.world f)) s.world.limit ≡ true)
+  queued f open_still is =
+      let o = op.Queue (queue_op.Append f) in
+      let q = queue_of s.world (mark_of s.world f) in
+      let few = has-place s p f (below_top (stack s p)) there (topped (stack s p) o is) good (heard_here s reached).placed
+      (mark_of s.world f) in (
+        below_of (length s.world.tasks) f (omega (
+          arith,
+          good.ops,
+          split (past_of (length s.world.tasks)) s.parties p (o ∷ []) (below_top (stack s p)) there (topped (stack s p) o is),
+        )),
+        by q.closed refl (below_test (length q.items) s.world.limit few),
+      )
+    where
+      by : (b : Bool) → (queue_of s.world (mark_of s.world f)).closed ≡ b
+          → nat_lt (length (queue_of s.world (mark_of s.world f)).items) s.world.limit ≡ true
+          → takes_more (queue_of s.world (mark_of s.world f)) s.world.limit ≡ true
+      by true shut few =
+          absurd (clash open_still (((heard_here s reached).placed.leaves 0).shut (any-shut (mark_of s.world f) s.world.queues shut)).0)
+      by false off few =
+          ap (λ b. not b && nat_lt (length (queue_of s.world (mark_of s.world f)).items) s.world.limit) off ∙ few
+
+  taken_up : (f : ℕ) → s.world.gone ≡ false → top (stack s p) ≡ Some (op.Move move.TakeUp f)
+      → IsQueued (task s.world f) × (among f s.world.table ≡ true)
+  taken_up f open_still is =
+      let k : Sound s.world f (pend f s.parties) = good.sound f in
+      let x = (heard_here s reached).placed.leaves f in
+      let waits : 1 ≤ (pend f s.parties).waiting =
+      omega (
+        arith,
+        split (waiting_of f) s.parties p (op.Move move.TakeUp f ∷ []) (below_top (stack s p)) there
+            (topped (stack s p) (op.Move move.TakeUp f) is),
+        same_self f,
+      ) in (
+        record {
+          scheduled = k.carries (omega (arith, waits));
+          running = resting waits (task s.world f).running refl;
+          completed = k.live (omega (arith, waits));
+          counted = omega (arith, waits, k.counted);
+        },
+        entry (among f s.world.table) refl (omega (arith, waits, x.runs (omega (arith, waits)), x.stay open_still, x.table (inl open_still))),
+      )
+    where
+      resting : 1 ≤ (pend f s.parties).waiting → (b : Bool) → (task s.world f).running ≡ b → (task s.world f).running ≡ false
+      resting waits false off = off
+      resting waits true on = absurd (omega (arith, waits, (good.sound f).one, (good.sound f).going on))
+
+      entry : (b : Bool) → among f s.world.table ≡ b → 1 ≤ times f s.world.table → among f s.world.table ≡ true
+      entry true here some = here
+      entry false none some =
+          ⊎_elim (λ (x : (among f s.world.table ≡ true) × (1 ≤ times f s.world.table)). x.0)
+          (λ (x : (among f s.world.table ≡ false) × (times f s.world.table ≡ 0)). absurd (omega (arith, some, x.1)))
+          (among_is f s.world.table)
+
+  can_copy : (a : Waker) → IsKnownWaker s.world a → CanCopy s.world a
+  can_copy (Task g) at = (at, omega (arith, token_few g, (good.sound g).counted))
+  can_copy (Outside x) at = tt
+
+  at_rest : (f : ℕ) → (task s.world f).completed ≡ true → is_going (task s.world f) ≡ false
+  at_rest f done =
+      let both = (good.sound f).rests done in
+      ap (λ b. b || (task s.world f).running) both.0 ∙ both.1
+
+  pub has_here : (o : Op) → s.world.gone ≡ false → top (stack s p) ≡ Some o → Has s.world o
+  has_here (op.Move move.Release f) open_still is =
+      ((needs s p (op.Move move.Release f) there is good).0.0, released f is)
+  has_here (op.Move move.TakeUp f) open_still is =
+      ((needs s p (op.Move move.TakeUp f) there is good).0.0, taken_up f open_still is)
+  has_here (op.Move move.Detach f) open_still is =
+      ((needs s p (op.Move move.Detach f) there is good).0.0, omega (arith, token_few f, (good.sound f).counted))
+  has_here (op.Move m f) open_still is = ((needs s p (op.Move m f) there is good).0.0, tt)
+  has_here (op.Queue (queue_op.Append f)) open_still is = queued f open_still is
+  has_here (op.Waker (waker_op.CopyWaker f held)) open_still is =
+      (needs s p (op.Waker (waker_op.CopyWaker f held)) there is good, omega (arith, token_few f, (good.sound f).counted))
+  has_here (op.Waker (waker_op.CallAwaiter f a k)) open_still is =
+      known_by s.world a (needs s p (op.Waker (waker_op.CallAwaiter f a k)) there is good)
+  has_here (op.Sleeper (sleeper_op.CallSleeper x)) open_still is =
+      known_by s.world x.waker (needs s p (op.Sleeper (sleeper_op.CallSleeper x)) there is good)
+  has_here (op.Handle (handle_op.Look f a)) open_still is =
+      (needs s p (op.Handle (handle_op.Look f a)) there is good, at_rest f)
+  has_here (op.Handle (handle_op.CopyAwaiter f a)) open_still is =
+      can_copy a (needs s p (op.Handle (handle_op.CopyAwaiter f a)) there is good)
+  has_here (op.Handle o) open_still is = needs s p (op.Handle o) there is good
+  has_here o open_still is = tt

@@ -1,0 +1,374 @@
+-- A lone call of a machine leaves it where its party, alone, leaves its world.
+use Rattle.std.proofs.Common.{◌≡◌, ℕ, ◌<◌, ◌==◌, ◌++◌, ◌&&◌, ◌||◌, not, nat_lt, Bool, true, false, List, [], ◌∷◌, length}
+use Rattle.std.proofs.Common.{Option, Some, None, Result, Ok, Err, refl, sym, ap, subst, ◌∙◌, arith, append-nil, get_or-set_same}
+use Rattle.std.specs.Prelude.{reverse}
+use Rattle.std.{proofs.Math.ListN.length-set}
+use Rattle.std.proofs.lemmas.Bool.Decides.{nat_tests}
+use Rattle.executor_model.specs.declared.call.Call.{Call}
+use Rattle.executor_model.specs.declared.event.Event.{Event}
+use Rattle.executor_model.specs.declared.event.Event.TheVariants as event
+use Rattle.executor_model.specs.declared.op.Op.{Op}
+use Rattle.executor_model.specs.declared.op.Op.TheVariants as op
+use Rattle.executor_model.specs.declared.op.UserOp.TheVariants as user_op
+use Rattle.executor_model.specs.declared.step.Hint.{Hint}
+use Rattle.executor_model.specs.declared.step.Step.{Step}
+use Rattle.executor_model.specs.declared.step.Step.TheVariants.{Begin, Go, Answer}
+use Rattle.executor_model.specs.declared.step.StepError.{StepError}
+use Rattle.executor_model.specs.declared.step.StepError.TheVariants.{Idle, NoSuch, WrongAnswer, Waits}
+use Rattle.executor_model.specs.declared.step.UserEnd.{UserEnd}
+use Rattle.executor_model.specs.Doing.{act}
+use Rattle.executor_model.specs.Executions.{run_all}
+use Rattle.executor_model.specs.Quiet.{IsQuiet}
+use Rattle.executor_model.specs.Steps.{Machine, Part, accepts, after, answer_refusal, begun, go_refusal, is_locked_out, mine, onto}
+use Rattle.executor_model.specs.Steps.{end_of, part_refusal, react, refusal, run, settled, settled_by, stack, stepped, top}
+use Rattle.executor_model.specs.Steps.{unless, waits}
+use Rattle.executor_model.specs.Trace.{Trace, has, is_drop_begun}
+use Rattle.executor_model.specs.World.{World, Done, done, log}
+use Rattle.executor_model.proofs.OneFuture.Telling.{begun-has}
+use Rattle.executor_model.proofs.Quiet.Resting.{rests}
+use Rattle.executor_model.proofs.Steps.Reached.{Reached, deep-here, reached-more, reached-step, run-first}
+use Rattle.executor_model.proofs.Steps.Stepping.{refusal-there, step-made}
+use Rattle.executor_model.proofs.Steps.TraceSteps.{run-continues}
+use Rattle.executor_model.proofs.SpawnWants.Tops.{flipped}
+use Rattle.executor_laws.specs.LoneEnds.{IsLoneCall, are_onward_of, is_onward_of}
+use Rattle.machine_roads.specs.Alone.{alone, is_resting, one_by, Has, HasAll}
+use Rattle.machine_roads.specs.Alike.{begins, upon}
+use Rattle.machine_roads.specs.Road.{Follows}
+use Rattle.machine_roads.specs.Lone.{LoneCallIsAlone}
+use Rattle.machine_roads.proofs.Lists.{clash, same_of}
+use Rattle.machine_roads.proofs.Having.{has_here, heard_here}
+use Rattle.machine_roads.proofs.Tying.{Goes, Leads, answers, ended, goes, leads_ended, leads_on, leads_outside, leads_rest}
+use Rattle.machine_roads.proofs.Tying.{none_of, settles, top_of}
+
+made_is : (s new : Machine) → ◌≡◌ {A = Result Machine StepError} (Ok s) (Ok new) → s ≡ new
+made_is s new is = ap (λ (r : Result Machine StepError). by r) is
+  where
+    by : Result Machine StepError → Machine
+    by (Ok m) = m
+    by (Err e) = s
+
+-- what ran leads where all that is possible does
+run_is : (ts : List Step) (s new : Machine) → run_all ts s ≡ Ok new → run ts s ≡ new
+run_is [] s new made = made_is s new made
+run_is (t ∷ ts) s new made =
+    let k = run-first t ts s new made in
+    ap (λ (r : Result Machine StepError). run ts (stepped s r)) (step-made s t k.0) ∙ run_is ts (after s t) new k.1
+
+or_true : (a b : Bool) → b ≡ true → (a || b) ≡ true
+or_true true b is = refl
+or_true false b is = is
+
+has_before : (test : Event → Bool) (xs ys : Trace) → has test xs ≡ true → has test (xs ++ ys) ≡ true
+has_before test [] ys is = absurd cc
+has_before test (x ∷ xs) ys is = by (test x) (has_before test xs ys) is
+  where
+    by : (b : Bool) → (has test xs ≡ true → has test (xs ++ ys) ≡ true) → (b || has test xs) ≡ true
+        → (b || has test (xs ++ ys)) ≡ true
+    by true rest is = refl
+    by false rest is = rest is
+
+-- the executor's drop that hasn't begun later hasn't begun before
+gone_before : (ts : List Step) (s new : Machine) → Reached s → run_all ts s ≡ Ok new → new.world.gone ≡ false
+    → s.world.gone ≡ false
+gone_before ts s new reached made later = by (has is_drop_begun s.world.trace) refl
+  where
+    tells : (m : Machine) → Reached m → has is_drop_begun m.world.trace ≡ m.world.gone
+    tells m reached = sym (begun-has 0 m.world.trace) ∙ ((heard_here m reached).placed.leaves 0).begun
+
+    more : (more : Trace) × (new.world.trace ≡ s.world.trace ++ more)
+    more =
+        let k = run-continues ts s in
+        (k.0, ap (λ (m : Machine). m.world.trace) (sym (run_is ts s new made)) ∙ k.1)
+
+    by : (b : Bool) → has is_drop_begun s.world.trace ≡ b → s.world.gone ≡ false
+    by false is = sym (tells s reached) ∙ is
+    by true is =
+        absurd (clash later (sym (tells new (reached-more ts s new reached made))
+        ∙ (ap (has is_drop_begun) more.1 ∙ has_before is_drop_begun s.world.trace more.0 is)))
+
+passed : (b : Bool) (e : StepError) (later : Option StepError) → unless b e later ≡ None → b ≡ true
+passed true e later is = refl
+passed false e later is = absurd cc
+
+not_true : (b : Bool) → not b ≡ true → b ≡ false
+not_true true is = absurd cc
+not_true false is = refl
+
+both_true : (a b : Bool) → (a && b) ≡ true → (a ≡ true) × (b ≡ true)
+both_true true b is = (refl, is)
+both_true false b is = absurd cc
+
+module _ (p : ℕ) (P : World → Type 0) where
+  -- one step, and what is then left of it
+  record Onward (new : Machine) (ts : List Step) : Type 0 where
+    machine : Machine
+    todo : List Op
+    reached : Reached machine
+    there : p < length machine.parties
+    is : reverse (stack machine p) ≡ todo
+    leads : Leads p (done machine.world todo) P
+    made : run_all ts machine ≡ Ok new
+
+  module _ (s new : Machine) (reached : Reached s) (there : p < length s.parties) (later : new.world.gone ≡ false) where
+    still_there : (t : Step) → p < length (after s t).parties
+    still_there t = subst (λ n. p < n) (sym (length-set s.parties _ _)) there
+
+    onward : (t : Step) (ts : List Step) (d : Done) → Goes p s (after s t) d → Leads p (done d.world d.next) P
+        → refusal s t ≡ None → run_all ts (after s t) ≡ Ok new → Onward new ts
+    onward t ts d goes leads may made = record {
+      machine = after s t;
+      todo = (ended p d.world d.next).next;
+      reached = reached-step s t may reached;
+      there = still_there t;
+      is = goes.todo;
+      leads = subst (λ w. Leads p (done w (ended p d.world d.next).next) P) (sym goes.world) (leads_ended p P d.world d.next leads);
+      made = made;
+    }
+
+    idle : (t : Step) → is_onward_of p t ≡ true → reverse (stack s p) ≡ [] → refusal s t ≡ None → ⊥
+    idle (Begin q c) on none may = absurd cc
+    idle (Go q h) on none may =
+        let no : ◌≡◌ {A = Option StepError} (Some Idle) None =
+        sym (ap (λ xs. go_refusal s.world (top xs)) (none_of (stack s p) none))
+        ∙ (sym (refusal-there s (Go p h) there) ∙ (ap (λ n. refusal s (Go n h)) (same_of p q on) ∙ may)) in
+        cc
+    idle (Answer q e) on none may =
+        let no : ◌≡◌ {A = Option StepError} (Some Idle) None =
+        sym (ap (λ xs. answer_refusal (top xs) e) (none_of (stack s p) none))
+        ∙ (sym (refusal-there s (Answer p e) there) ∙ (ap (λ n. refusal s (Answer n e)) (same_of p q on) ∙ may)) in
+        cc
+
+    module _ (o : Op) (os : List Op) (is : reverse (stack s p) ≡ o ∷ os) (leads : Leads p (done s.world (o ∷ os)) P)
+        (ts : List Step) where
+      by_go : (h : Hint) → refusal s (Go p h) ≡ None → run_all ts (after s (Go p h)) ≡ Ok new → s.world.gone ≡ false
+          → Onward new ts
+      by_go h may made open_still =
+          let its_top = (top_of (stack s p) o os is).0 in
+          let goes_on : unless (not (waits o)) WrongAnswer (unless (not (is_locked_out s.world.lock o)) Waits None) ≡ None =
+          sym (ap (go_refusal s.world) its_top) ∙ (sym (refusal-there s (Go p h) there) ∙ may) in
+          let free =
+          not_true (waits o)
+          (passed (not (waits o)) WrongAnswer (unless (not (is_locked_out s.world.lock o)) Waits None) goes_on) in
+          onward (Go p h) ts (done (act p h o s.world).world ((act p h o s.world).next ++ os)) (goes p s there o os is h)
+          (leads_on p P h o s.world os free (has_here s p reached there o open_still its_top) leads) may made
+
+      by_answer : (e : UserEnd) → refusal s (Answer p e) ≡ None → run_all ts (after s (Answer p e)) ≡ Ok new → Onward new ts
+      by_answer e may made =
+          let its_top = (top_of (stack s p) o os is).0 in
+          let accepted = passed (accepts o e) WrongAnswer None
+          (sym (ap (λ t. answer_refusal t e) its_top) ∙ (sym (refusal-there s (Answer p e) there) ∙ may)) in
+          by o refl accepted
+        where
+          stops : (o_is : Op) → o ≡ o_is → is_resting (o_is ∷ os) ≡ true → Onward new ts
+          stops o_is same resting =
+              let none : o ∷ os ≡ [] = (leads_rest p P s.world (o ∷ os) (ap (λ x. is_resting (x ∷ os)) same ∙ resting) leads).0 in
+              absurd cc
+
+          by : (o_is : Op) → o ≡ o_is → accepts o_is e ≡ true → Onward new ts
+          by (op.User (user_op.CallOutside x)) same ok =
+              onward (Answer p e) ts (done s.world os)
+              (subst (λ (d : Done). Goes p s (after s (Answer p e)) (done d.world (d.next ++ os)))
+              (ap (λ x. react p x e s.world) same) (answers p s there o os is e))
+              (leads_outside p P x s.world os (subst (λ x. Leads p (done s.world (x ∷ os)) P) same leads)) may made
+          by (op.User (user_op.Poll f)) same ok = stops (op.User (user_op.Poll f)) same refl
+          by (op.User (user_op.Drop f)) same ok = stops (op.User (user_op.Drop f)) same refl
+          by (op.User (user_op.DropOutput f)) same ok = stops (op.User (user_op.DropOutput f)) same refl
+          by (op.User (user_op.PollOwn x)) same ok = stops (op.User (user_op.PollOwn x)) same refl
+          by (op.User (user_op.DropOwn r)) same ok = stops (op.User (user_op.DropOwn r)) same refl
+          by o_is same ok = absurd cc
+
+  step_by : (t : Step) (ts : List Step) (s new : Machine) (os : List Op) → Reached s → p < length s.parties
+      → new.world.gone ≡ false → reverse (stack s p) ≡ os → Leads p (done s.world os) P → is_onward_of p t ≡ true
+      → run_all (t ∷ ts) s ≡ Ok new → Onward new ts
+  step_by t ts s new [] reached there later is leads on made =
+      absurd (idle s new reached there later t on is (run-first t ts s new made).0)
+  step_by (Begin q c) ts s new (o ∷ os) reached there later is leads on made = absurd cc
+  step_by (Go q h) ts s new (o ∷ os) reached there later is leads on made =
+      let k = run-first (Go p h) ts s new (subst (λ n. run_all (Go n h ∷ ts) s ≡ Ok new) (sym (same_of p q on)) made) in
+      by_go s new reached there later o os is leads ts h k.0 k.1 (gone_before (Go q h ∷ ts) s new reached made later)
+  step_by (Answer q e) ts s new (o ∷ os) reached there later is leads on made =
+      let k = run-first (Answer p e) ts s new (subst (λ n. run_all (Answer n e ∷ ts) s ≡ Ok new) (sym (same_of p q on)) made) in
+      by_answer s new reached there later o os is leads ts e k.0 k.1
+
+  all_steps : (ts : List Step) (s new : Machine) (os : List Op) → Reached s → p < length s.parties → new.world.gone ≡ false
+      → reverse (stack s p) ≡ os → Leads p (done s.world os) P → are_onward_of p ts ≡ true → run_all ts s ≡ Ok new
+      → stack new p ≡ [] → P new.world
+  all_steps [] s new os reached there later is leads on made empty =
+      let same = made_is s new made in
+      let none : os ≡ [] = sym is ∙ ap (λ (m : Machine). reverse (stack m p)) same ∙ ap (λ (ys : List Op). reverse ys) empty in
+      subst (λ (m : Machine). P m.world) same (leads_rest p P s.world os (ap is_resting none) leads).1
+  all_steps (t ∷ ts) s new os reached there later is leads on made empty =
+      let two = both_true (is_onward_of p t) (are_onward_of p ts) on in
+      let m = step_by t ts s new os reached there later is leads two.0 made in
+      all_steps ts m.machine new m.todo m.reached m.there later m.is m.leads two.1 m.made empty
+
+within : (n m : ℕ) → nat_lt n m ≡ true → n < m
+within n m is = grind (arith, nat_tests)
+
+upon_nothing : (d : Done) → upon [] d ≡ d
+upon_nothing d = ap (λ os. done d.world os) (append-nil d.next)
+
+pub lone_calls_so : (s : Machine) → Reached s → (p : ℕ) (c : Call) (steps : List Step) (new : Machine) (P : World → Type 0)
+    → IsQuiet s.world.trace → new.world.gone ≡ false → Leads p (upon [] (begins p None c s.world)) P
+    → IsLoneCall p c steps s new → P new.world
+lone_calls_so s reached p c steps new P quiet later leaves lone =
+    let k = run-first (Begin p c) steps s new lone.made in
+    let there : p < length s.parties =
+    within p (length s.parties)
+    (passed (nat_lt p (length s.parties)) NoSuch (part_refusal s.world s.parties (stack s p) (Begin p c)) k.0) in
+    let none : stack s p ≡ [] = rests s (deep-here s reached) quiet p in
+    let d : Done = begins p None c s.world in
+    let part : onto p (begun p (log s.world (event.CallBegun p c)) (mine (top (stack s p))) c) (stack s p) ≡ onto p d (stack s p) =
+    ap (λ xs. onto p (begun p (log s.world (event.CallBegun p c)) (mine (top xs)) c) (stack s p)) none in
+    let turned : reverse (stack s p ++ reverse d.next) ≡ d.next =
+    flipped (stack s p) d.next ∙ (ap (λ xs. d.next ++ reverse xs) none ∙ append-nil d.next) in
+    let e = settles p d.world (stack s p ++ reverse d.next) d.next turned in
+    let first = after s (Begin p c) in
+    let world : first.world ≡ (ended p d.world d.next).world = ap (λ (l : Part). l.world) part ∙ e.world in
+    let todo : reverse (stack first p) ≡ (ended p d.world d.next).next =
+    ap (λ (ys : List Op). reverse ys)
+    (get_or-set_same s.parties p
+    (onto p (begun p (log s.world (event.CallBegun p c)) (mine (top (stack s p))) c) (stack s p)).todo [] there
+    ∙ ap (λ (l : Part). l.todo) part)
+    ∙ e.todo in
+    all_steps p P steps first new (ended p d.world d.next).next (reached-step s (Begin p c) k.0 reached)
+    (subst (λ n. p < n) (sym (length-set s.parties p _)) there) later todo
+    (subst (λ w. Leads p (done w (ended p d.world d.next).next) P) (sym world)
+    (leads_ended p P d.world d.next (subst (λ d. Leads p d P) (upon_nothing d) leaves)))
+    lone.alone k.1 (rests new (deep-here new (reached-more (Begin p c ∷ steps) s new reached lone.made)) lone.ended p)
+
+pub lone_calls : (s : Machine) → Reached s → LoneCallIsAlone s
+lone_calls s reached p c steps new q quiet later leaves lone =
+    lone_calls_so s reached p c steps new (λ w. Follows w q) quiet later (λ hints all rests. leaves hints tt all rests) lone
+
+-- where a call begins with one thing to do, which is told this hint
+abbrev pub FirstLeads : ℕ → Hint → Done → (World → Type 0) → Type 0
+FirstLeads p h d P =
+    (hints : List Hint) → HasAll p (h ∷ hints) d → is_resting (alone p (h ∷ hints) d).next ≡ true
+    → ((alone p (h ∷ hints) d).next ≡ []) × P (alone p (h ∷ hints) d).world
+
+first_on : (p : ℕ) (P : World → Type 0) (h : Hint) (o : Op) (w : World) (os : List Op) → waits o ≡ false → Has w o
+    → FirstLeads p h (done w (o ∷ os)) P → Leads p (done (act p h o w).world ((act p h o w).next ++ os)) P
+first_on p P h o w os free has leads hints all rests =
+    subst
+    (λ b. HasAll p hints (one_by b p h o w os) → is_resting (alone p hints (one_by b p h o w os)).next ≡ true
+    → ((alone p hints (one_by b p h o w os)).next ≡ []) × P (alone p hints (one_by b p h o w os)).world)
+    free
+    (λ all rests. leads hints (has, all) rests)
+    all rests
+
+-- from a moment at which there is one thing to do
+told_from : (now new : Machine) → Reached now → (p : ℕ) → p < length now.parties → (h : Hint) (o : Op) (steps : List Step)
+    (P : World → Type 0) → new.world.gone ≡ false → reverse (stack now p) ≡ o ∷ [] → waits o ≡ false
+    → FirstLeads p h (done now.world (o ∷ [])) P → are_onward_of p (Go p h ∷ steps) ≡ true → run_all (Go p h ∷ steps) now ≡ Ok new
+    → stack new p ≡ [] → P new.world
+told_from now new reached p there h o steps P later todo free leads on made empty =
+    let k = run-first (Go p h) steps now new made in
+    let its_top = (top_of (stack now p) o [] todo).0 in
+    let has = has_here now p reached there o (gone_before (Go p h ∷ steps) now new reached made later) its_top in
+    let m =
+    onward p P now new reached there later (Go p h) steps
+    (done (act p h o now.world).world ((act p h o now.world).next ++ [])) (goes p now there o [] todo h)
+    (first_on p P h o now.world [] free has leads) k.0 k.1 in
+    all_steps p P steps m.machine new m.todo m.reached m.there later m.is m.leads (both_true (p == p) (are_onward_of p steps) on).1
+    m.made empty
+
+-- a call has begun, where there is one thing to do
+record Begun (s : Machine) (p : ℕ) (c : Call) (o : Op) : Type 0 where
+  reached : Reached (after s (Begin p c))
+  there : p < length (after s (Begin p c)).parties
+  world : (after s (Begin p c)).world ≡ (begins p None c s.world).world
+  todo : reverse (stack (after s (Begin p c)) p) ≡ o ∷ []
+
+begun_so : (s : Machine) → Reached s → (p : ℕ) (c : Call) (o : Op) → IsQuiet s.world.trace → refusal s (Begin p c) ≡ None
+    → (begins p None c s.world).next ≡ o ∷ [] → end_of (Some o) ≡ None → Begun s p c o
+begun_so s reached p c o quiet may first unended =
+    let there : p < length s.parties =
+    within p (length s.parties)
+    (passed (nat_lt p (length s.parties)) NoSuch (part_refusal s.world s.parties (stack s p) (Begin p c)) may) in
+    let none : stack s p ≡ [] = rests s (deep-here s reached) quiet p in
+    let d : Done = begins p None c s.world in
+    let part : onto p (begun p (log s.world (event.CallBegun p c)) (mine (top (stack s p))) c) (stack s p) ≡ onto p d (stack s p) =
+    ap (λ xs. onto p (begun p (log s.world (event.CallBegun p c)) (mine (top xs)) c) (stack s p)) none in
+    let turned : reverse (stack s p ++ reverse d.next) ≡ o ∷ [] =
+    flipped (stack s p) d.next ∙ (ap (λ xs. d.next ++ reverse xs) none ∙ (append-nil d.next ∙ first)) in
+    let t = top_of (stack s p ++ reverse d.next) o [] turned in
+    let whole : settled p d.world (stack s p ++ reverse d.next) ≡ part_of d.world (stack s p ++ reverse d.next) =
+    ap (λ x. settled_by (end_of x) p d.world (stack s p ++ reverse d.next)) t.0
+    ∙ ap (λ r. settled_by r p d.world (stack s p ++ reverse d.next)) unended in
+    record {
+      reached = reached-step s (Begin p c) may reached;
+      there = subst (λ n. p < n) (sym (length-set s.parties p _)) there;
+      world = ap (λ (l : Part). l.world) part ∙ ap (λ (l : Part). l.world) whole;
+      todo =
+          ap (λ (ys : List Op). reverse ys)
+          (get_or-set_same s.parties p
+          (onto p (begun p (log s.world (event.CallBegun p c)) (mine (top (stack s p))) c) (stack s p)).todo [] there
+          ∙ (ap (λ (l : Part). l.todo) part ∙ ap (λ (l : Part). l.todo) whole))
+          ∙ turned;
+    }
+  where
+    part_of : World → List Op → Part
+    part_of w os = record { world = w; todo = os }
+
+pub lone_calls_told : (s : Machine) → Reached s → (p : ℕ) (c : Call) (h : Hint) (o : Op) (steps : List Step) (new : Machine)
+    (P : World → Type 0) → IsQuiet s.world.trace → new.world.gone ≡ false
+    → (begins p None c s.world).next ≡ o ∷ [] → end_of (Some o) ≡ None → waits o ≡ false
+    → FirstLeads p h (upon [] (begins p None c s.world)) P → IsLoneCall p c (Go p h ∷ steps) s new → P new.world
+lone_calls_told s reached p c h o steps new P quiet later first unended free leads lone =
+    let k = run-first (Begin p c) (Go p h ∷ steps) s new lone.made in
+    let b = begun_so s reached p c o quiet k.0 first unended in
+    let d : Done = begins p None c s.world in
+    told_from (after s (Begin p c)) new b.reached p b.there h o steps P later b.todo free
+    (subst (λ w. FirstLeads p h (done w (o ∷ [])) P) (sym b.world)
+    (subst (λ os. FirstLeads p h (done d.world os) P) (append-nil d.next ∙ first) leads))
+    lone.alone k.1
+    (rests new (deep-here new (reached-more (Begin p c ∷ Go p h ∷ steps) s new reached lone.made)) lone.ended p)
+
+-- and where that leads to one thing more, which is told another hint
+abbrev pub SecondLeads : ℕ → Hint → Hint → Done → (World → Type 0) → Type 0
+SecondLeads p g h d P =
+    (hints : List Hint) → HasAll p (g ∷ h ∷ hints) d → is_resting (alone p (g ∷ h ∷ hints) d).next ≡ true
+    → ((alone p (g ∷ h ∷ hints) d).next ≡ []) × P (alone p (g ∷ h ∷ hints) d).world
+
+second_on : (p : ℕ) (P : World → Type 0) (g h : Hint) (o : Op) (w : World) (os : List Op) → waits o ≡ false → Has w o
+    → SecondLeads p g h (done w (o ∷ os)) P → FirstLeads p h (done (act p g o w).world ((act p g o w).next ++ os)) P
+second_on p P g h o w os free has leads hints all rests =
+    subst
+    (λ b. HasAll p (h ∷ hints) (one_by b p g o w os) → is_resting (alone p (h ∷ hints) (one_by b p g o w os)).next ≡ true
+    → ((alone p (h ∷ hints) (one_by b p g o w os)).next ≡ []) × P (alone p (h ∷ hints) (one_by b p g o w os)).world)
+    free
+    (λ all rests. leads hints (has, all) rests)
+    all rests
+
+pub lone_calls_told_twice : (s : Machine) → Reached s → (p : ℕ) (c : Call) (g h : Hint) (o x : Op) (steps : List Step)
+    (new : Machine) (P : World → Type 0) → IsQuiet s.world.trace → new.world.gone ≡ false
+    → (begins p None c s.world).next ≡ o ∷ [] → end_of (Some o) ≡ None → waits o ≡ false
+    → (act p g o (begins p None c s.world).world).next ++ [] ≡ x ∷ []
+    → ((w : World) → ended p w (x ∷ []) ≡ done w (x ∷ [])) → waits x ≡ false
+    → SecondLeads p g h (upon [] (begins p None c s.world)) P → IsLoneCall p c (Go p g ∷ Go p h ∷ steps) s new → P new.world
+lone_calls_told_twice s reached p c g h o x steps new P quiet later first unended free then_x unended_x free_x leads lone =
+    let k = run-first (Begin p c) (Go p g ∷ Go p h ∷ steps) s new lone.made in
+    let b = begun_so s reached p c o quiet k.0 first unended in
+    let d : Done = begins p None c s.world in
+    let now = after s (Begin p c) in
+    let k2 = run-first (Go p g) (Go p h ∷ steps) now new k.1 in
+    let its_top = (top_of (stack now p) o [] b.todo).0 in
+    let has = has_here now p b.reached b.there o (gone_before (Go p g ∷ Go p h ∷ steps) now new b.reached k.1 later) its_top in
+    let m = goes p now b.there o [] b.todo g in
+    let e : Done = done (act p g o now.world).world ((act p g o now.world).next ++ []) in
+    let to_x : e.next ≡ x ∷ [] = ap (λ w. (act p g o w).next ++ []) b.world ∙ then_x in
+    let same : ended p e.world e.next ≡ e =
+    ap (ended p e.world) to_x ∙ (unended_x e.world ∙ ap (λ os. done e.world os) (sym to_x)) in
+    let leads_now : SecondLeads p g h (done now.world (o ∷ [])) P =
+    subst (λ w. SecondLeads p g h (done w (o ∷ [])) P) (sym b.world)
+    (subst (λ os. SecondLeads p g h (done d.world os) P) (append-nil d.next ∙ first) leads) in
+    let next = after now (Go p g) in
+    let world : next.world ≡ e.world = m.world ∙ ap (λ (y : Done). y.world) same in
+    let todo : reverse (stack next p) ≡ x ∷ [] = m.todo ∙ (ap (λ (y : Done). y.next) same ∙ to_x) in
+    told_from next new (reached-step now (Go p g) k2.0 b.reached) p
+    (subst (λ n. p < n) (sym (length-set now.parties p _)) b.there) h x steps P later todo free_x
+    (subst (λ w. FirstLeads p h (done w (x ∷ [])) P) (sym world)
+    (subst (λ os. FirstLeads p h (done e.world os) P) to_x (second_on p P g h o now.world [] free has leads_now)))
+    (both_true (p == p) (are_onward_of p (Go p h ∷ steps)) lone.alone).1 k2.1
+    (rests new (deep-here new (reached-more (Begin p c ∷ Go p g ∷ Go p h ∷ steps) s new reached lone.made)) lone.ended p)

@@ -1,0 +1,110 @@
+-- What one party does alone, while user code begins no call: what it has to do, the first thing first, until nothing is left or
+-- user code has to answer, and the calls of outside wakers end at once.
+use Rattle.std.specs.Prelude.{◌≡◌, ℕ, ◌<◌, ◌≤◌, Bool, true, false, ◌&&◌, not, List, [], ◌∷◌, ◌++◌}
+use Rattle.task_moves.specs.declared.moves.owed.Move.{Move}
+use Rattle.task_moves.specs.declared.moves.owed.Move.TheVariants as move
+use Rattle.task_moves.specs.declared.moves.state.State.{State}
+use Rattle.task_moves.specs.LocalTask.{token}
+use Rattle.task_moves.specs.Moves.{is_going}
+use Rattle.executor_model.specs.declared.op.HandleOp.{HandleOp}
+use Rattle.executor_model.specs.declared.op.HandleOp.TheVariants as handle_op
+use Rattle.executor_model.specs.declared.op.Op.{Op}
+use Rattle.executor_model.specs.declared.op.Op.TheVariants as op
+use Rattle.executor_model.specs.declared.op.QueueOp.{QueueOp}
+use Rattle.executor_model.specs.declared.op.QueueOp.TheVariants as queue_op
+use Rattle.executor_model.specs.declared.op.SleeperOp.{SleeperOp}
+use Rattle.executor_model.specs.declared.op.SleeperOp.TheVariants as sleeper_op
+use Rattle.executor_model.specs.declared.op.UserOp.TheVariants as user_op
+use Rattle.executor_model.specs.declared.op.Waker.{Waker}
+use Rattle.executor_model.specs.declared.op.Waker.TheVariants.{Task, Outside}
+use Rattle.executor_model.specs.declared.op.WakerOp.{WakerOp}
+use Rattle.executor_model.specs.declared.op.WakerOp.TheVariants as waker_op
+use Rattle.executor_model.specs.declared.step.Hint.{Hint}
+use Rattle.executor_model.specs.Acts.{takes_more}
+use Rattle.executor_model.specs.Doing.{act}
+use Rattle.executor_model.specs.Good.{HandleNeeds, IsKnown, IsKnownWaker}
+use Rattle.executor_model.specs.Steps.{waits}
+use Rattle.executor_model.specs.World.{World, Done, among, done, task, queue_of, mark_of}
+use Rattle.machine_roads.specs.Moving.{IsQueued}
+
+abbrev pub is_outside : Op → Bool
+is_outside (op.User (user_op.CallOutside x)) = true
+is_outside _ = false
+
+-- nothing is left to do, or user code has to answer
+abbrev pub is_resting : List Op → Bool
+is_resting [] = true
+is_resting (o ∷ os) = waits o && not (is_outside o)
+
+abbrev pub answered_by : Bool → Op → List Op → List Op
+answered_by true o os = os
+answered_by false o os = o ∷ os
+
+-- one thing is done, or the call of an outside waker ends; other user code stays
+abbrev pub one_by : Bool → ℕ → Hint → Op → World → List Op → Done
+one_by false p h o w os = done (act p h o w).world ((act p h o w).next ++ os)
+one_by true p h o w os = done w (answered_by (is_outside o) o os)
+
+abbrev pub one_of : ℕ → Hint → World → List Op → Done
+one_of p h w [] = done w []
+one_of p h w (o ∷ os) = one_by (waits o) p h o w os
+
+abbrev pub one : ℕ → Hint → Done → Done
+one p h d = one_of p h d.world d.next
+
+-- as many as there are hints
+abbrev pub alone : ℕ → List Hint → Done → Done
+alone p [] d = d
+alone p (h ∷ hs) d = alone p hs (one p h d)
+
+-- a waker that goes has a reference beside that of a Runnable, a run or a closing call; and as a handle goes, each of those has one
+abbrev pub IsHeld : Move → State → Type 0
+IsHeld move.Release s = token s < s.references
+IsHeld move.Detach s = token s ≤ s.references
+IsHeld _ s = Unit {0}
+
+-- a Runnable that is taken up is the one of a queued task, which has its entry in the table
+abbrev pub MoveHas : Move → World → ℕ → Type 0
+MoveHas move.TakeUp w f = IsQueued (task w f) × (among f w.table ≡ true)
+MoveHas m w f = IsHeld m (task w f)
+
+abbrev pub QueueHas : World → QueueOp → Type 0
+QueueHas w (queue_op.Append f) = IsKnown w f × (takes_more (queue_of w (mark_of w f)) w.limit ≡ true)
+QueueHas w _ = Unit {0}
+
+abbrev pub WakerHas : World → WakerOp → Type 0
+WakerHas w (waker_op.CopyWaker f held) = IsKnown w f × (token (task w f) ≤ (task w f).references)
+WakerHas w (waker_op.CallAwaiter f a k) = IsKnownWaker w a
+
+abbrev pub SleeperHas : World → SleeperOp → Type 0
+SleeperHas w (sleeper_op.CallSleeper s) = IsKnownWaker w s.waker
+SleeperHas w _ = Unit {0}
+
+-- a waker whose task is there, with a reference for each Runnable, run or closing call
+abbrev pub CanCopy : World → Waker → Type 0
+CanCopy w (Task g) = IsKnown w g × (token (task w g) ≤ (task w g).references)
+CanCopy w (Outside x) = Unit {0}
+
+-- a task whose output is there has no Runnable, run or closing call
+abbrev pub HandleHas : World → HandleOp → Type 0
+HandleHas w (handle_op.Look f a) = IsKnown w f × ((task w f).completed ≡ true → is_going (task w f) ≡ false)
+HandleHas w (handle_op.CopyAwaiter f a) = CanCopy w a
+HandleHas w o = HandleNeeds w o
+
+-- what a thing to do speaks of is there
+abbrev pub Has : World → Op → Type 0
+Has w (op.Move m f) = IsKnown w f × MoveHas m w f
+Has w (op.Queue o) = QueueHas w o
+Has w (op.Waker o) = WakerHas w o
+Has w (op.Sleeper o) = SleeperHas w o
+Has w (op.Handle o) = HandleHas w o
+Has w _ = Unit {0}
+
+abbrev pub HasFirst : World → List Op → Type 0
+HasFirst w [] = Unit {0}
+HasFirst w (o ∷ os) = Has w o
+
+-- at each moment
+abbrev pub HasAll : ℕ → List Hint → Done → Type 0
+HasAll p [] d = Unit {0}
+HasAll p (h ∷ hs) d = HasFirst d.world d.next × HasAll p hs (one p h d)

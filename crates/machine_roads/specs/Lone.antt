@@ -1,0 +1,101 @@
+-- When a lone call of a machine at rest leaves it where the plain scheduler's call leaves that, as long as the executor's drop
+-- hasn't begun.
+use Rattle.std.specs.Prelude.{◌≡◌, ℕ, ◌≤◌, false, not, List, [], ◌∷◌, length, Some, None}
+use Rattle.executor_parts.specs.declared.mark.Mark.{Mark}
+use Rattle.task_moves.specs.AbstractTask as abstract
+use Rattle.task_moves.specs.AbstractTask.Polled.{Waits}
+use Rattle.executor_model.specs.declared.call.By.{By}
+use Rattle.executor_model.specs.declared.call.Call.{Call}
+use Rattle.executor_model.specs.declared.call.Call.TheVariants as call
+use Rattle.executor_model.specs.declared.op.Waker.{Waker}
+use Rattle.executor_model.specs.declared.step.Hint.{Hint}
+use Rattle.executor_model.specs.declared.step.Step.{Step}
+use Rattle.executor_model.specs.declared.step.Step.TheVariants.{Go}
+use Rattle.executor_model.specs.Acts.{is_copy_refused, is_refused}
+use Rattle.executor_model.specs.Executions.{EveryMachine}
+use Rattle.executor_model.specs.Quiet.{IsQuiet}
+use Rattle.executor_model.specs.Steps.{Machine, kept, waker_of}
+use Rattle.executor_model.specs.World.{task}
+use Rattle.executor_laws.specs.LoneEnds.{IsLoneCall}
+use Rattle.plain_scheduler.specs.State.{Choice, Plain}
+use Rattle.plain_scheduler.specs.Moves as plain
+use Rattle.plain_scheduler.specs.Calls.{does, is_granted, Spawn, Wake, Use, Copy, Release, Cancel, Detach, DropHandle, PollHandle, IsEmpty}
+use Rattle.machine_roads.specs.View.{Output, wakes}
+use Rattle.machine_roads.specs.Alike.{begins, LeavesAlike}
+use Rattle.machine_roads.specs.Road.{Follows}
+
+-- a call that leaves the world so leaves the machine so
+abbrev pub LoneCallIsAlone : Machine → Type 0
+LoneCallIsAlone s =
+    (p : ℕ) (c : Call) (steps : List Step) (new : Machine) (q : Plain Output Waker) → IsQuiet s.world.trace
+    → new.world.gone ≡ false → LeavesAlike p [] (begins p None c s.world) q → IsLoneCall p c steps s new
+    → Follows new.world q
+
+-- these steps of a lone call lead there
+abbrev pub LeadsTo : Machine → ℕ → Call → List Step → Plain Output Waker → Type 0
+LeadsTo s p c steps q = (new : Machine) → new.world.gone ≡ false → IsLoneCall p c steps s new → Follows new.world q
+
+-- of each machine at rest and each plain scheduler where both stand alike
+abbrev pub EachLoneAlike : (Machine → Plain Output Waker → Type 0) → Type 0
+EachLoneAlike So = EveryMachine (λ s. (q : Plain Output Waker) → IsQuiet s.world.trace → Follows s.world q → So s q)
+
+module _ (s : Machine) (q : Plain Output Waker) where
+  abbrev pub LoneUses : Type 0
+  LoneUses =
+      (p k f : ℕ) (c : Choice) (steps : List Step) → kept s.world k ≡ Some f → length q.lying ≤ c.tells
+      → LeadsTo s p (call.Wake k) steps (does wakes c (Use f) q)
+
+  abbrev pub LoneWakes : Type 0
+  LoneWakes =
+      (p k f : ℕ) (c : Choice) (steps : List Step) → kept s.world k ≡ Some f → length q.lying ≤ c.tells
+      → LeadsTo s p (call.WakeByRef k) steps (does wakes c (Wake f) q)
+
+  abbrev pub LoneWakerGoes : Type 0
+  LoneWakerGoes =
+      (p k f : ℕ) (c : Choice) (steps : List Step) → kept s.world k ≡ Some f → length q.lying ≤ c.tells
+      → LeadsTo s p (call.DropWaker k) steps (does wakes c (Release f) q)
+
+  -- also one that is refused
+  abbrev pub LoneCopies : Type 0
+  LoneCopies =
+      (p k f : ℕ) (c : Choice) (h : Hint) (steps : List Step) → kept s.world k ≡ Some f
+      → is_granted c.refusal ≡ not (is_refused h (task s.world f))
+      → LeadsTo s p (call.Copy k) (Go p h ∷ steps) (does wakes c (Copy f) q)
+
+  abbrev pub LoneSpawns : Type 0
+  LoneSpawns =
+      (p : ℕ) (m : Mark) (c : Choice) (h : Hint) (steps : List Step) → length q.lying ≤ c.tells
+      → is_granted c.refusal ≡ not h.refused
+      → LeadsTo s p (call.Spawn m) (Go p h ∷ steps) (does wakes c (Spawn m) q)
+
+  abbrev pub LoneCancels : Type 0
+  LoneCancels =
+      (p f : ℕ) (c : Choice) (steps : List Step) → length q.lying ≤ c.tells
+      → LeadsTo s p (call.Cancel f) steps (does wakes c (Cancel f) q)
+
+  -- of a future whose output isn't there
+  abbrev pub LoneDetaches : Type 0
+  LoneDetaches =
+      (p f : ℕ) (c : Choice) (steps : List Step) → (plain.task f q).output ≡ None → length q.lying ≤ c.tells
+      → LeadsTo s p (call.Detach f) steps (does wakes c (Detach f) q)
+
+  abbrev pub LoneHandleGoes : Type 0
+  LoneHandleGoes =
+      (p f : ℕ) (c : Choice) (steps : List Step) → (plain.task f q).output ≡ None → length q.lying ≤ c.tells
+      → LeadsTo s p (call.DropHandle f) steps (does wakes c (DropHandle f) q)
+
+  -- where it finds an answer, or where it has to wait
+  abbrev pub LoneHandlePolls : Type 0
+  LoneHandlePolls =
+      (p f : ℕ) (c : Choice) (b : By) (steps : List Step) → ¬ (abstract.polled (plain.task f q) ≡ Waits) → length q.lying ≤ c.tells
+      → LeadsTo s p (call.PollHandle f b) steps (does wakes c (PollHandle f (waker_of None b)) q)
+
+  abbrev pub LoneHandleWaits : Type 0
+  LoneHandleWaits =
+      (p f : ℕ) (c : Choice) (b : By) (g h : Hint) (steps : List Step)
+      → abstract.polled (plain.task f q) ≡ Waits → length q.lying ≤ c.tells
+      → is_granted c.refusal ≡ not (is_copy_refused h s.world (waker_of None b))
+      → LeadsTo s p (call.PollHandle f b) (Go p g ∷ Go p h ∷ steps) (does wakes c (PollHandle f (waker_of None b)) q)
+
+  abbrev pub LoneEmpty : Type 0
+  LoneEmpty = (p : ℕ) (c : Choice) (steps : List Step) → LeadsTo s p call.IsEmpty steps (does wakes c IsEmpty q)

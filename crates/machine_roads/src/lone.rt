@@ -1,0 +1,57 @@
+//! Lone calls of the machine, made where no call is in progress, are calls of the plain scheduler.
+ghost use Rattle.executor_model.specs.Executions.{EveryMachine};
+ghost use Rattle.machine_roads.specs.Lone.{EachLoneAlike, LoneCallIsAlone, LoneCancels, LoneCopies};
+ghost use Rattle.machine_roads.specs.Lone.{LoneEmpty, LoneSpawns, LoneUses, LoneWakerGoes};
+ghost use Rattle.machine_roads.specs.Lone.{LoneDetaches, LoneHandleGoes, LoneHandlePolls};
+ghost use Rattle.machine_roads.specs.Lone.{LoneHandleWaits, LoneWakes};
+
+/// What a call leaves of the world, however it is told, a lone call leaves of each machine at rest,
+/// as long as the executor's drop hasn't begun: so it is here and below.
+pub fn lone_calls_are_alone()
+    ensures { EveryMachine LoneCallIsAlone }
+{}
+
+/// Where a machine stands where the plain scheduler does, a lone wake leaves both alike, by a kept
+/// waker that goes or stays. Here and below the plain scheduler tells who lay down last.
+pub fn lone_wakes_are_wakes()
+    ensures uses { EachLoneAlike LoneUses }
+    ensures wakes { EachLoneAlike LoneWakes }
+{}
+
+/// So does the lone drop of a kept waker.
+pub fn lone_wakers_go_alike()
+    ensures { EachLoneAlike LoneWakerGoes }
+{}
+
+/// So does a lone copy of a kept waker, also one that is refused.
+pub fn lone_copies_are_copies()
+    ensures { EachLoneAlike LoneCopies }
+{}
+
+/// So does a lone cancel, with the call of who awaited the future.
+pub fn lone_cancels_are_cancels()
+    ensures { EachLoneAlike LoneCancels }
+{}
+
+/// So does a lone detach of a future whose output isn't there, and the lone drop of its handle.
+pub fn lone_handles_go_alike()
+    ensures detaches { EachLoneAlike LoneDetaches }
+    ensures drops { EachLoneAlike LoneHandleGoes }
+{}
+
+/// So does a lone poll of a handle, whether it finds an answer or has to wait, also where the copy of
+/// its waker is refused.
+pub fn lone_polls_of_handles_are_polls()
+    ensures finds { EachLoneAlike LoneHandlePolls }
+    ensures waits { EachLoneAlike LoneHandleWaits }
+{}
+
+/// So does a lone spawn, also one that is refused.
+pub fn lone_spawns_are_spawns()
+    ensures { EachLoneAlike LoneSpawns }
+{}
+
+/// And so it is asked alone whether the executor is empty.
+pub fn lone_questions_are_answered()
+    ensures { EachLoneAlike LoneEmpty }
+{}

@@ -1,0 +1,86 @@
+//! Whole calls that a party of the machine makes alone, where it does nothing or stands in user
+//! code, are calls of the plain scheduler. Where an operation speaks of a waker, an awaiter or a place
+//! in a queue, that is there (`HasAll`).
+ghost use Rattle.std.specs.Prelude.{ℕ};
+ghost use Rattle.executor_model.specs.Steps.{is_static_kind, start};
+ghost use Rattle.executor_model.specs.declared.kind.Kind.{Kind};
+ghost use Rattle.plain_scheduler.specs.Calls.{new};
+ghost use Rattle.machine_roads.specs.Alike.{CancelsAlike, CopiesAlike, DetachesAlike, EachAlike};
+ghost use Rattle.machine_roads.specs.Alike.{EmptyAlike, HandleGoesAlike, HandlePollsAlike, KeepsAlike};
+ghost use Rattle.machine_roads.specs.Alike.{SpawnsAlike, UsesAlike, WakesAlike, WakesItselfAlike};
+ghost use Rattle.machine_roads.specs.Alike.{WakerGoesAlike};
+ghost use Rattle.machine_roads.specs.Road.{Follows};
+ghost use Rattle.machine_roads.specs.Stopped.{GivesAlikeInTry, PendsAlikeInTry, TriesAlike};
+
+/// A new machine stands where the new plain scheduler does.
+pub fn both_begin_alike()
+    ensures { (limit : ℕ) (kind : Kind) (parties : ℕ) →
+        Follows (start limit kind parties).world (new limit (is_static_kind kind)) }
+{}
+
+/// Where both stand alike, a wake leaves them alike: by a kept waker that goes, by one that stays,
+/// and by that of the own poll. Here and below the plain scheduler tells who lay down last.
+pub fn a_wake_is_a_wake()
+    ensures uses { EachAlike UsesAlike }
+    ensures wakes { EachAlike WakesAlike }
+    ensures itself { EachAlike WakesItselfAlike }
+{}
+
+/// So does the drop of a kept waker.
+pub fn a_waker_goes_alike()
+    ensures { EachAlike WakerGoesAlike }
+{}
+
+/// So does a copy of a kept waker, and of that of the own poll, also one that is refused.
+pub fn a_copy_is_a_copy()
+    ensures copies { EachAlike CopiesAlike }
+    ensures keeps { EachAlike KeepsAlike }
+{}
+
+/// So does a cancel, with the call of who awaited the future.
+pub fn a_cancel_is_a_cancel()
+    ensures { EachAlike CancelsAlike }
+{}
+
+/// So does a detach of a future whose output isn't there.
+pub fn a_detach_is_a_detach()
+    ensures { EachAlike DetachesAlike }
+{}
+
+/// So does the drop of such a handle, which cancels and detaches.
+pub fn a_handle_goes_alike()
+    ensures { EachAlike HandleGoesAlike }
+{}
+
+/// So does a poll of a handle, with a copy of its waker where it has to wait, also one that is
+/// refused.
+pub fn a_handle_is_polled_alike()
+    ensures { EachAlike HandlePollsAlike }
+{}
+
+/// So does a spawn, also one that is refused.
+pub fn a_spawn_is_a_spawn()
+    ensures { EachAlike SpawnsAlike }
+{}
+
+/// A try of a tick leaves both alike where it is answered, and where it has come to the poll or the
+/// drop of a future that it took.
+pub fn a_try_is_a_try()
+    ensures { EachAlike TriesAlike }
+{}
+
+/// And so does the end of the poll that it came to, where that gives no output and the future can
+/// still be reached.
+pub fn an_end_without_output_ends_alike()
+    ensures { EachAlike PendsAlikeInTry }
+{}
+
+/// And so does its end with an output.
+pub fn an_end_with_output_ends_alike()
+    ensures { EachAlike GivesAlikeInTry }
+{}
+
+/// And both say alike whether they are empty.
+pub fn both_say_whether_empty()
+    ensures { EachAlike EmptyAlike }
+{}

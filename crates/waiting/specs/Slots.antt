@@ -1,11 +1,18 @@
 -- What each call does with the place of one value.
-use Rattle.std.specs.Prelude.{◌≡◌, Option, Some, None}
+use Rattle.std.specs.Prelude.{◌≡◌, Bool, true, false, Option, Some, None}
 use Rattle.waiting.specs.declared.slot.Slot.{Slot}
 use Rattle.waiting.specs.declared.slot.Slot.TheVariants.{Empty, Waited, Full, Closed}
 use Rattle.waiting.specs.declared.slot.Received.{Received}
 use Rattle.waiting.specs.declared.slot.Received.TheVariants.{Value, Waits, Ended}
 
 module _ {T : Type 0} {K : Type 0} where
+  -- no value came yet, and one may
+  abbrev pub is_open : Slot T K → Bool
+  is_open Empty = true
+  is_open (Waited _) = true
+  is_open (Full _) = false
+  is_open Closed = false
+
   -- the waker of who waits
   abbrev pub waker_left : Slot T K → Option K
   waker_left (Waited waker) = Some waker

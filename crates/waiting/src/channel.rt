@@ -1,6 +1,6 @@
 //! Bounded channels, for any number of senders and receivers. After `async-channel`.
 ghost use Rattle.std.specs.Arc.{arc_value};
-ghost use Rattle.std.specs.Prelude.{◌≡◌, ◌<◌, IfOk};
+ghost use Rattle.std.specs.Prelude.{◌≡◌, ◌<◌, IfOk, Some};
 
 mod errors;
 mod line;
@@ -41,7 +41,8 @@ where
     K: Wake + Drop,
     R: Wait + Copy + Drop,
     requires { 0 < places }
-    ensures { IfOk result (λ ends. arc_value ends.0.shared ≡ arc_value ends.1.shared) }
+    ensures same { IfOk result (λ ends. arc_value ends.0.shared ≡ arc_value ends.1.shared) }
+    ensures places { IfOk result (λ ends. (arc_value ends.0.shared).line.queue.capacity ≡ Some places) }
 {
     let shared = match Shared::new(rt, alloc, places) {
         Ok(shared) => shared,

@@ -3,6 +3,7 @@
 #![tactic(auto)]
 
 mod both;
+mod called;
 pub mod channel;
 mod event;
 mod first;

@@ -62,6 +62,7 @@ where
     /// 2. Looks whether it was told, and else leaves the copy, under the lock.
     /// 3. Drops the waker that it had left before, with no lock held.
     fn poll(&mut self, waker: &K) -> Poll<()>
+        ensures event { self.new.event ≡ self.old.event }
         ensures again { self.old.listening ≡ None → result ≡ poll.Ready tt }
         ensures told { result ≡ poll.Ready tt → self.new.listening ≡ None }
         ensures waits { result ≡ poll.Pending → IsSome self.new.listening }

@@ -1,5 +1,5 @@
 //! The futures by the names of their functions.
-ghost use Rattle.std.specs.Prelude.{◌≡◌, false, Some};
+ghost use Rattle.std.specs.Prelude.{◌≡◌, None, Some};
 ghost use Rattle.waiting.specs.declared.both.Awaited.TheVariants as awaited;
 
 use crate::both::{Awaited, Join};
@@ -8,6 +8,10 @@ use crate::now::{Never, Ready, YieldNow};
 use std::marker::PhantomData;
 
 /// A future that is ready with this value. Takes no memory.
+///
+/// ```
+/// assert!(rt; matches!(ready(1u64).poll(&Nobody), Poll::Ready(1)));
+/// ```
 pub fn ready<T>(value: T) -> Ready<T>
     ensures { result.value ≡ Some value }
 {
@@ -15,6 +19,10 @@ pub fn ready<T>(value: T) -> Ready<T>
 }
 
 /// A future that is never ready. Takes no memory.
+///
+/// ```
+/// assert!(rt; matches!(pending::<u64>().poll(&Nobody), Poll::Pending));
+/// ```
 pub fn pending<T>() -> Never<T> {
     Never {
         output: PhantomData,
@@ -22,10 +30,16 @@ pub fn pending<T>() -> Never<T> {
 }
 
 /// A future that lets others go first, once. Takes no memory.
+///
+/// ```
+/// let mut yields = yield_now();
+/// assert!(rt; matches!(yields.poll(&Nobody), Poll::Pending));
+/// assert!(rt; matches!(yields.poll(&Nobody), Poll::Ready(())));
+/// ```
 pub fn yield_now() -> YieldNow
-    ensures { result.has_yielded ≡ false }
+    ensures { result.called ≡ None }
 {
-    YieldNow { has_yielded: false }
+    YieldNow { called: None }
 }
 
 /// Awaits two futures at once. Takes no memory.

@@ -1,7 +1,8 @@
 //! Futures that wait for nothing, for ever, or for others to go first.
-ghost use Rattle.std.specs.Prelude.{◌≡◌, true, false, None, IfSome};
+ghost use Rattle.std.specs.Prelude.{◌≡◌, None, IfSome, IsSome};
 ghost use Rattle.async_task.specs.declared.poll.Poll.TheVariants as poll;
 
+use crate::called::Called;
 use async_task::{Future, Poll, Wake};
 use std::marker::PhantomData;
 
@@ -20,7 +21,8 @@ pub struct Never<T> {
 /// Is pending once, having called its waker, so that others go first; and then ready.
 #[derive(Drop)]
 pub struct YieldNow {
-    pub(crate) has_yielded: bool,
+    /// From its first poll on.
+    pub(crate) called: Option<Called>,
 }
 
 impl<K, T> Future<K> for Ready<T> {
@@ -52,15 +54,16 @@ impl<K: Wake> Future<K> for YieldNow {
     type Output = ();
 
     fn poll(&mut self, waker: &K) -> Poll<()>
-        ensures first { self.old.has_yielded ≡ false → result ≡ poll.Pending }
-        ensures then { self.old.has_yielded ≡ true → result ≡ poll.Ready tt }
-        ensures yielded { self.new.has_yielded ≡ true }
+        ensures first { self.old.called ≡ None → result ≡ poll.Pending }
+        ensures then { IsSome self.old.called → result ≡ poll.Ready tt }
+        ensures called { IsSome self.new.called }
     {
-        if self.has_yielded {
-            return Poll::Ready(());
+        match self.called {
+            Some(_) => Poll::Ready(()),
+            None => {
+                self.called = Some(Called::by(waker));
+                Poll::Pending
+            }
         }
-        self.has_yielded = true;
-        waker.wake_by_ref();
-        Poll::Pending
     }
 }

@@ -108,7 +108,9 @@ where
 {
     type Output = Result<T, Canceled>;
 
-    fn poll(&mut self, waker: &K) -> Poll<Result<T, Canceled>> {
+    fn poll(&mut self, waker: &K) -> Poll<Result<T, Canceled>>
+        ensures slot { self.new.slot ≡ self.old.slot }
+    {
         let copy = waker.clone();
         let is_left = copy.is_some();
         let received = self.slot.lock(&self.rt).receive(copy);

@@ -1,7 +1,7 @@
 //! The place where one value is handed on.
-ghost use Rattle.std.specs.Prelude.{◌≡◌, Some, None, IfOk, IfErr, OnOk};
+ghost use Rattle.std.specs.Prelude.{◌≡◌, Some, None, IfOk, IfErr, OnOk, is_ok};
 ghost use Rattle.waiting.specs.declared.slot.Slot.TheVariants as slot;
-ghost use Rattle.waiting.specs.Slots.{HasReceived, HasEnded, waited_with, waker_left};
+ghost use Rattle.waiting.specs.Slots.{HasReceived, HasEnded, is_open, waited_with, waker_left};
 
 use std::mem;
 
@@ -32,6 +32,7 @@ pub enum Received<T, K> {
 impl<T: Drop, K: Drop> Slot<T, K> {
     /// Puts the value there, and answers the waker that was left. It is refused where nobody is to take it, or one is there.
     pub fn put(&mut self, value: T) -> Result<Option<K>, T>
+        ensures open { is_ok result ≡ is_open self.old }
         ensures put { OnOk result (self.new ≡ slot.Full value) }
         ensures waker { IfOk result (λ waker. waker ≡ waker_left self.old) }
         ensures refused { IfErr result (λ back. (back ≡ value) × (self.new ≡ self.old)) }

@@ -1,8 +1,21 @@
 //! The examples of the doc comments, line by line, and what follows them.
+mod bell;
+mod calls;
+mod threads;
+
 use crate::channel::{self, RecvError, TryRecvError, TrySendError};
 use crate::{Either, Event, join, oneshot, pending, ready, select, yield_now};
 use async_task::{Future, Nobody, Poll};
 use std::io;
+
+#[test]
+fn at_once_never_and_second(rt: HostRuntime) {
+    assert!(rt; matches!(ready(1u64).poll(&Nobody), Poll::Ready(1)));
+    assert!(rt; matches!(pending::<u64>().poll(&Nobody), Poll::Pending));
+    let mut yields = yield_now();
+    assert!(rt; matches!(yields.poll(&Nobody), Poll::Pending));
+    assert!(rt; matches!(yields.poll(&Nobody), Poll::Ready(())));
+}
 
 #[test]
 fn both_and_the_first_of_two(rt: HostRuntime) {

@@ -1,5 +1,6 @@
 -- What a future over handles has to await, and what a poll of it does.
-use Rattle.std.specs.Prelude.{◌≡◌, ◌<◌, ◌≤◌, IsTrue, is_some, Option, Some, None, Result, Ok, Err, List, [], ◌∷◌, ◌++◌, drop, length, Vec}
+use Rattle.std.specs.Prelude.{◌≡◌, ◌<◌, ◌≤◌, ◌+◌, IsTrue, is_some, Option, Some, None, Result, Ok, Err}
+use Rattle.std.specs.Prelude.{List, [], ◌∷◌, ◌++◌, drop, length, Vec}
 use Rattle.std.specs.Global.{Global}
 use Rattle.async_executor.specs.Handing.{Handles}
 use Rattle.async_task.specs.Handles.{Handle}
@@ -7,6 +8,7 @@ use Rattle.async_task.specs.declared.cell.Identity.{Identity}
 use Rattle.async_task.specs.declared.poll.Poll.{Poll}
 use Rattle.async_task.specs.declared.poll.Poll.TheVariants.{Ready, Pending}
 use Rattle.async_task.specs.declared.task.TaskError.{TaskError}
+use Rattle.async_task.specs.declared.task.TaskError.TheVariants.{TaskClosed, NoMemory}
 
 -- the tasks that are to be awaited, in order: the one whose handle was polled last, and those of the handles that are left
 abbrev pub to_come : {M : Type 0} → Option (Handle M) → Handles → List Identity
@@ -19,24 +21,31 @@ Awaits awaited Pending = IsTrue (is_some awaited)
 Awaits awaited (Ready _) = Unit {0}
 
 module _ {T : Type 0} where
-  -- the first task that is to be awaited gave its output, and is to be awaited no more; or it stays the first; or there is none
-  abbrev pub HasStepped : List Identity → List Identity → Poll (Option (Result T TaskError)) → Type 0
+  -- the first task that is to be awaited gave its output, or has none to give, and is to be awaited no more; or it stays the first
+  abbrev pub HasStepped : List Identity → List Identity → Poll (Result T TaskError) → Type 0
   HasStepped old new Pending = new ≡ old
-  HasStepped old new (Ready None) = old ≡ []
-  HasStepped old new (Ready (Some (Ok _))) = (0 < length old) × (new ≡ drop 1 old)
-  HasStepped old new (Ready (Some (Err _))) = Unit {0}
+  HasStepped old new (Ready (Ok _)) = new ≡ drop 1 old
+  HasStepped old new (Ready (Err TaskClosed)) = new ≡ drop 1 old
+  HasStepped old new (Ready (Err NoMemory)) = new ≡ old
 
   -- more outputs came, behind those that were there: one for each of the first tasks, and the tasks behind these are to be awaited
   abbrev pub HaveCome : List T → List Identity → List T → List Identity → Type 0
   HaveCome old tasks new left =
       (more : List T) × (new ≡ old ++ more) × (length more ≤ length tasks) × (left ≡ drop (length more) tasks)
 
+  -- so, and the task behind the first ones has no output to give: those behind it are to be awaited
+  abbrev pub HaveComeUntil : List T → List Identity → List T → List Identity → Type 0
+  HaveComeUntil old tasks new left =
+      (more : List T) × (new ≡ old ++ more) × (length more < length tasks) × (left ≡ drop (length more + 1) tasks)
+
   -- behind the outputs that were there came one for each task
   abbrev pub AllHaveCome : List T → List Identity → List T → Type 0
   AllHaveCome old tasks new = (more : List T) × (new ≡ old ++ more) × (length more ≡ length tasks)
 
-  -- what a poll answers: the outputs, of which one more came for each task; or it is pending, and some came
+  -- what a poll answers: the outputs, of which one more came for each task, and nothing is left; or some came, and it is pending,
+  -- or met a task that has none to give, or had no memory to go on
   abbrev pub HasJoined : List T → List Identity → List T → List Identity → Poll (Result (Vec T Global) TaskError) → Type 0
   HasJoined old tasks new left Pending = HaveCome old tasks new left
-  HasJoined old tasks new left (Ready (Ok outputs)) = AllHaveCome old tasks outputs.items
-  HasJoined old tasks new left (Ready (Err _)) = Unit {0}
+  HasJoined old tasks new left (Ready (Ok outputs)) = AllHaveCome old tasks outputs.items × (new ≡ []) × (left ≡ [])
+  HasJoined old tasks new left (Ready (Err TaskClosed)) = HaveComeUntil old tasks new left
+  HasJoined old tasks new left (Ready (Err NoMemory)) = HaveCome old tasks new left

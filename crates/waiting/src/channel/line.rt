@@ -1,5 +1,5 @@
 //! A channel's queue, and what has to be told of each of its changes.
-ghost use Rattle.std.specs.Prelude.{◌≡◌, ◌<◌, IfErr};
+ghost use Rattle.std.specs.Prelude.{◌≡◌, ◌<◌, ◌≤◌, IfErr, IfOk, IfSome, Some};
 ghost use Rattle.waiting.specs.Sending.{try_sent};
 
 use crate::channel::errors::{TryRecvError, TrySendError};
@@ -37,6 +37,7 @@ pub struct Shut {
 impl<T: Drop> Line<T> {
     pub fn new(alloc: Global, places: usize) -> Result<Self, NoMemory>
         requires { 0 < places }
+        ensures { IfOk result (λ line. line.queue.capacity ≡ Some places) }
     {
         match ConcurrentQueue::bounded(alloc, places) {
             Ok(queue) => Ok(Line { queue }),
@@ -74,7 +75,9 @@ impl<T: Drop> Line<T> {
     }
 
     /// How many messages there are.
-    pub fn len<R: Wait>(&self, rt: &R) -> usize {
+    pub fn len<R: Wait>(&self, rt: &R) -> usize
+        ensures { IfSome self.now.queue.capacity (λ places. result ≤ places) }
+    {
         self.queue.len(rt)
     }
 }

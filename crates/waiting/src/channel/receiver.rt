@@ -1,5 +1,6 @@
 ghost use Rattle.std.specs.Arc.{arc_value};
-ghost use Rattle.std.specs.Prelude.{◌≡◌, None, IfOk};
+ghost use Rattle.std.specs.Prelude.{◌≡◌, ◌≤◌, None, IfOk, IfSome, IsSome};
+ghost use Rattle.async_task.specs.declared.poll.Poll.TheVariants as poll;
 
 use crate::channel::errors::{RecvError, TryRecvError};
 use crate::channel::shared::{Shared, Turn, go_on};
@@ -70,7 +71,9 @@ where
     }
 
     /// As the poll of `recv`, for a future that has the receiver in a field. It takes memory where it has to wait.
-    pub fn poll_recv(&mut self, waker: &K) -> Poll<Result<T, RecvError>> {
+    pub fn poll_recv(&mut self, waker: &K) -> Poll<Result<T, RecvError>>
+        ensures waits { result ≡ poll.Pending → IsSome self.new.waiting }
+    {
         for _ in self.shared.rt().forever() {
             match self.shared.try_recv() {
                 Ok(message) => {
@@ -99,7 +102,9 @@ where
     }
 
     /// How many messages there are, which others may change at once.
-    pub fn len(&self) -> usize {
+    pub fn len(&self) -> usize
+        ensures { IfSome (arc_value self.now.shared).line.queue.capacity (λ places. result ≤ places) }
+    {
         self.shared.len()
     }
 }

@@ -1,5 +1,6 @@
 ghost use Rattle.std.specs.Arc.{arc_value};
-ghost use Rattle.std.specs.Prelude.{◌≡◌, None, Some, IfErr, IfOk};
+ghost use Rattle.std.specs.Prelude.{◌≡◌, None, Some, IfErr, IfOk, Ok};
+ghost use Rattle.async_task.specs.declared.poll.Poll.TheVariants as poll;
 ghost use Rattle.waiting.specs.Sending.{try_sent, HasTried, IsBack, IsSentOrBack};
 
 use crate::channel::errors::{SendError, TrySendError};
@@ -96,7 +97,8 @@ where
         waker: &K,
         message: &mut Option<T>,
     ) -> Poll<Result<(), SendError<()>>>
-        ensures { IsSentOrBack message.old message.new result }
+        ensures sent { IsSentOrBack message.old message.new result }
+        ensures nothing { message.old ≡ None → result ≡ poll.Ready (Ok tt) }
     {
         let Some(item) = message.take() else {
             return Poll::Ready(Ok(()));
@@ -186,7 +188,8 @@ where
     type Output = Result<(), SendError<T>>;
 
     fn poll(&mut self, waker: &K) -> Poll<Result<(), SendError<T>>>
-        ensures { IsBack self.old.message self.new.message result }
+        ensures sent { IsBack self.old.message self.new.message result }
+        ensures nothing { self.old.message ≡ None → result ≡ poll.Ready (Ok tt) }
     {
         let Some(item) = self.message.take() else {
             return Poll::Ready(Ok(()));

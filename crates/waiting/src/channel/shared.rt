@@ -1,5 +1,6 @@
-ghost use Rattle.std.specs.Prelude.{◌≡◌, ◌<◌, IfErr};
+ghost use Rattle.std.specs.Prelude.{◌≡◌, ◌<◌, ◌≤◌, IfErr, IfOk, IfSome, IsSome, Ok, Some};
 ghost use Rattle.waiting.specs.Sending.{try_sent};
+ghost use Rattle.waiting.specs.declared.channel.shared.Turn.TheVariants as turn;
 
 use crate::channel::errors::{TryRecvError, TrySendError};
 use crate::channel::line::Line;
@@ -38,6 +39,7 @@ where
 {
     pub fn new(rt: R, alloc: Global, places: usize) -> Result<Self, NoMemory>
         requires { 0 < places }
+        ensures { IfOk result (λ shared. shared.line.queue.capacity ≡ Some places) }
     {
         let Ok(line) = Line::new(alloc, places) else {
             return Err(NoMemory);
@@ -86,20 +88,28 @@ where
         shut.tell(&self.places, &self.messages)
     }
 
-    pub fn rt(&self) -> R {
+    pub fn rt(&self) -> R
+        ensures { result ≡ self.now.rt }
+    {
         self.rt
     }
 
-    pub fn places(&self) -> &Event<K, R> {
+    pub fn places(&self) -> &Event<K, R>
+        ensures { result.now ≡ self.now.places }
+    {
         &self.places
     }
 
-    pub fn messages(&self) -> &Event<K, R> {
+    pub fn messages(&self) -> &Event<K, R>
+        ensures { result.now ≡ self.now.messages }
+    {
         &self.messages
     }
 
     /// How many messages there are.
-    pub fn len(&self) -> usize {
+    pub fn len(&self) -> usize
+        ensures { IfSome self.now.line.queue.capacity (λ places. result ≤ places) }
+    {
         self.line.len(&self.rt)
     }
 }
@@ -121,6 +131,7 @@ pub fn go_on<K, R>(
 where
     K: Wake + Drop,
     R: Wait + Copy + Drop,
+    ensures waits { result ≡ Ok turn.Waits → IsSome waiting.new }
 {
     match waiting.take() {
         None => match event.listen() {

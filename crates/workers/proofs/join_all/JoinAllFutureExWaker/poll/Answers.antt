@@ -1,16 +1,20 @@
-use Rattle.std.proofs.Common.{rules, ◌≡◌, ◌∷◌, ◌++◌, [], Some, ap, ◌∙◌}
+use Rattle.std.proofs.Common.{rules, ◌≡◌, ◌<◌, ◌∷◌, ◌++◌, [], length, refl, sym, ◌∙◌}
 use Rattle.std.specs.Prelude.{vec_items}
-use Rattle.workers.proofs.Joins.{all_came, one_came}
+use Rattle.workers.proofs.Joins.{error_came, one_came, some_left, stays}
+use Rattle.workers.specs.Joining.{to_come}
 use Rattle.workers.proofs.join_all.JoinAllFutureExWaker.poll.Goals as goal
 
-pub returns-in-Ready-None-clause-joined : goal.returns-in-Ready-None-clause-joined
-returns-in-Ready-None-clause-joined g c =
-    let n = c.in-Ready-None in
-    let given = ap vec_items (c.replace-outputs.ensures.value ∙ n.ensures.outputs) in
-    all_came _ _ _ _ _ _ _ c.loop.invariant.2 n.ensures.stepped n.field-0-is given
+pub returns-in-Ready-Err-clause-joined : goal.returns-in-Ready-Err-clause-joined
+returns-in-Ready-Err-clause-joined g c =
+    let s = c.in-Ready-Err in
+    let some : 0 < length (to_come c.loop.self.awaited c.loop.self.handles) = some_left _ (sym c.is_over.ensures ∙ c.if-is_over.false) in
+    let stay : vec_items c.step.new.self.outputs ≡ vec_items c.loop.self.outputs = search rules in
+    let came = stays _ _ _ _ _ _ c.loop.invariant.2 stay refl in
+    error_came _ _ _ _ _ _ s.error came some s.ensures.stepped s.field-0-is
 
 pub loop-preserved : goal.loop-preserved
 loop-preserved g c =
-    let s = c.in-Ready-Some-Ok in
-    let pushed : vec_items c.push.new.self ≡ vec_items c.loop.self.outputs ++ s.output ∷ [] = search rules in
-    (tt, tt, one_came _ _ _ _ _ _ _ s.output c.loop.invariant.2 s.ensures.stepped (s.field-0-is ∙ ap Some s.field-0-0-is) pushed)
+    let s = c.in-Ready-Ok in
+    let some : 0 < length (to_come c.loop.self.awaited c.loop.self.handles) = some_left _ (sym c.is_over.ensures ∙ c.if-is_over.false) in
+    let pushed : vec_items c.push_reserved.new.self ≡ vec_items c.loop.self.outputs ++ s.output ∷ [] = search rules in
+    (tt, tt, one_came _ _ _ _ _ _ _ s.output c.loop.invariant.2 some s.ensures.stepped s.field-0-is pushed)

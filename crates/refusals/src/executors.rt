@@ -1,4 +1,5 @@
 //! Executors that threads share.
+use crate::joins::join;
 use crate::kinds::{LONG, Many, Polled, ROWS, Row, Runs, Turn, Turns, play};
 use crate::parts::{Bell, Drops, Job, shown};
 use crate::report::{Call, Place, Report};
@@ -12,13 +13,13 @@ use std::sync::Wait;
 use std::sync::atomic::Ordering::SeqCst;
 
 /// How many places an executor has.
-const LIMIT: usize = 4;
+pub const LIMIT: usize = 12;
 
 pub type TestRealm<R> = ExRealm<u64, Bell, R>;
 
 pub type TestWaker<R> = ExWaker<u64, Bell, R>;
 
-type TestExecutor<R> = Executor<Job, u64, Bell, R>;
+pub type TestExecutor<R> = Executor<Job, u64, Bell, R>;
 
 type TestStatic<R> = StaticExecutor<Job, u64, Bell, R>;
 
@@ -320,8 +321,8 @@ fn lasting<R: Wait + Copy + Drop + 'static>(
     None
 }
 
-/// Makes all calls on a static executor, and on one that is not: that is leaked with a future in it, which goes on; another is
-/// dropped with a future in it, whose task is closed.
+/// Makes all calls on a static executor, and on one that is not, where handles are joined too: that is leaked with a future in it,
+/// which goes on; another is dropped with a future in it, whose task is closed.
 pub fn try_executors<R: Wait + Copy + Drop + 'static>(
     ground: &Ground<'_, R>,
     report: &mut Report,
@@ -337,6 +338,8 @@ pub fn try_executors<R: Wait + Copy + Drop + 'static>(
     };
     play(on(ground, OneOf::Owned(&executor)), ROWS, report);
     play(on(ground, OneOf::Owned(&executor)), LONG, report);
+    let is_joined = join(ground, &executor, report);
+    report.come_to(Place::Executor);
     let left = leave(ground, &executor, report);
     let executor = executor.leak();
     play(
@@ -344,7 +347,7 @@ pub fn try_executors<R: Wait + Copy + Drop + 'static>(
         &[Row::TryTick(true), Row::Drain],
         report,
     );
-    is_left_with(left, ground.waker, Polled::Gave(18)) & ends(ground, report)
+    is_joined & is_left_with(left, ground.waker, Polled::Gave(18)) & ends(ground, report)
 }
 
 /// An executor is dropped with a future in it.

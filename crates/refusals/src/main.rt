@@ -6,6 +6,7 @@
 #![tactic(auto)]
 
 mod executors;
+mod joins;
 mod kinds;
 mod locals;
 mod machines;
@@ -16,6 +17,7 @@ mod report;
 mod rows;
 mod solos;
 mod tasks;
+mod timers;
 mod waits;
 
 use async_task::Awaiter;
@@ -36,7 +38,9 @@ use std::process::ExitCode;
 use std::random::RandomSource;
 use std::sync::Wait;
 use std::thread::Threads;
+use std::time::Clock;
 use tasks::{TASK_ROWS, TaskRealm, Tasks};
+use timers::sleep;
 use waits::wait;
 
 /// Where tasks lie.
@@ -98,7 +102,7 @@ fn note(is_refused: bool, call: Call, report: &mut Report) {
 fn try_all<P, R>(rt: R, alloc: Global, realms: &Realms<R>, report: &mut Report) -> bool
 where
     P: JobSite<R, Gate = Open> + Sync + Drop,
-    R: Threads + RandomSource + Sync + Wait + Copy + Drop + 'static,
+    R: Threads + RandomSource + Clock + Sync + Wait + Copy + Drop + 'static,
 {
     let Some(drops) = own::<Drops>(alloc, report) else {
         return false;
@@ -109,6 +113,7 @@ where
         & try_shared(rt, alloc, realms.executors, drops, report)
         & try_local(rt, alloc, drops, report)
         & wait(rt, alloc, report)
+        & sleep(rt, alloc, report)
         & do_case::<P, R>(rt, alloc, realms.jobs, SIM, report)
         & own::<u64>(alloc, report).is_some()
         & do_case::<P, R>(rt, alloc, realms.jobs, TWO_JOBS, report)

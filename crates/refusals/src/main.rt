@@ -13,6 +13,7 @@ mod machines;
 mod parts;
 mod program_runs;
 mod queues;
+mod realms;
 mod report;
 mod rows;
 mod solos;
@@ -29,6 +30,7 @@ use machines::{MACHINE_ROWS, Machines};
 use parts::{Bell, Drops};
 use program_runs::{SIM, TWO_JOBS, do_case};
 use queues::{QUEUE_ROWS, Queues};
+use realms::realm;
 use report::{Call, Place, Refused, Report, Wrong};
 use rows::try_each;
 use solos::{SOLO_ROWS, Solos};
@@ -57,22 +59,11 @@ fn main(rt: HostRuntime) -> ExitCode {
     let mut report = Report::new();
     report.come_to(Place::Realm);
     // Code that makes a realm and works on it gets no proof where it is generic, so all are made here.
-    let (mut tasks, mut executors, mut jobs) = (None, None, None);
-    for _ in 0..2 {
-        if tasks.is_none() {
-            tasks = TaskRealm::leak(rt, alloc).ok();
-            note(tasks.is_none(), Call::TaskRealm, &mut report);
-        }
-        if executors.is_none() {
-            executors = TestRealm::<HostRuntime>::leak(rt, alloc).ok();
-            note(executors.is_none(), Call::ExecutorRealm, &mut report);
-        }
-        if jobs.is_none() {
-            jobs = JobRealm::<HostRuntime>::leak(rt, alloc).ok();
-            note(jobs.is_none(), Call::JobRealm, &mut report);
-        }
-    }
-    let (Some(tasks), Some(executors), Some(jobs)) = (tasks, executors, jobs) else {
+    let (Some(tasks), Some(executors), Some(jobs)) = (
+        realm(rt, alloc, Call::TaskRealm, &mut report),
+        realm(rt, alloc, Call::ExecutorRealm, &mut report),
+        realm(rt, alloc, Call::JobRealm, &mut report),
+    ) else {
         return ExitCode::FAILURE;
     };
     let realms = Realms {
@@ -88,13 +79,6 @@ fn main(rt: HostRuntime) -> ExitCode {
     );
     report.expect(is_so);
     tell(&rt, &report)
-}
-
-/// Notes a call that was refused, where it was.
-fn note(is_refused: bool, call: Call, report: &mut Report) {
-    if is_refused {
-        report.is_refused(call);
-    }
 }
 
 /// Makes all calls, and says whether all was as it has to be. The last request for memory before the jobs is the program's own: so

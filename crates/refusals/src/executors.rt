@@ -1,6 +1,5 @@
 //! Executors that threads share.
-use crate::joins::join;
-use crate::kinds::{AFTER_A_LEAK, LONG, Many, Polled, ROWS, Row, Runs, Turn, Turns, play};
+use crate::kinds::{LONG, Many, Polled, ROWS, Row, Runs, Turn, Turns, play};
 use crate::parts::{Bell, Drops, Job, shown};
 use crate::report::{Call, Place, Report};
 use async_executor::{
@@ -253,19 +252,16 @@ fn many<R: Wait + Copy + Drop + 'static>(
     }
 }
 
-/// Makes these calls on an executor. It is the one that hands an executor to code for all kinds.
-fn make<R: Wait + Copy + Drop + 'static>(
-    ground: &Ground<'_, R>,
-    executor: OneOf<'_, R>,
-    rows: &[Row],
-    report: &mut Report,
-) {
-    let calls = OnExecutor {
+/// An executor to make calls on.
+fn on<'a, 'w, R: Wait + Copy + Drop + 'static>(
+    ground: &Ground<'w, R>,
+    executor: OneOf<'a, R>,
+) -> OnExecutor<'a, 'w, R> {
+    OnExecutor {
         executor,
         waker: ground.waker,
         drops: ground.drops,
-    };
-    play(calls, rows, report);
+    }
 }
 
 /// The handle of a future that is left in an executor, polled once.
@@ -297,7 +293,7 @@ fn leave<R: Wait + Copy + Drop + 'static>(
 }
 
 /// An executor, which is made once more where that is refused.
-fn owned<R: Wait + Copy + Drop + 'static>(
+pub fn owned<R: Wait + Copy + Drop + 'static>(
     ground: &Ground<'_, R>,
     report: &mut Report,
 ) -> Option<TestExecutor<R>> {
@@ -324,15 +320,9 @@ fn lasting<R: Wait + Copy + Drop + 'static>(
     None
 }
 
-/// Makes all calls on a static executor, on one that is not, and on one that goes with a future in it.
+/// Makes all calls on a static executor, and on one that is not: that is leaked with a future in it, which goes on; another is
+/// dropped with a future in it, whose task is closed.
 pub fn try_executors<R: Wait + Copy + Drop + 'static>(
-    ground: &Ground<'_, R>,
-    report: &mut Report,
-) -> bool {
-    try_static(ground, report) & try_owned(ground, report) & ends(ground, report)
-}
-
-fn try_static<R: Wait + Copy + Drop + 'static>(
     ground: &Ground<'_, R>,
     report: &mut Report,
 ) -> bool {
@@ -340,35 +330,24 @@ fn try_static<R: Wait + Copy + Drop + 'static>(
     let Some(executor) = lasting(ground, report) else {
         return false;
     };
-    make(ground, OneOf::Static(&executor), ROWS, report);
-    true
-}
-
-fn try_owned<R: Wait + Copy + Drop + 'static>(ground: &Ground<'_, R>, report: &mut Report) -> bool {
+    play(on(ground, OneOf::Static(&executor)), ROWS, report);
     report.come_to(Place::Executor);
     let Some(executor) = owned(ground, report) else {
         return false;
     };
-    make(ground, OneOf::Owned(&executor), ROWS, report);
-    make(ground, OneOf::Owned(&executor), LONG, report);
-    let is_joined = join(ground, &executor, report);
-    report.come_to(Place::Executor);
-    is_joined & goes_on(ground, executor, report)
-}
-
-/// An executor is leaked with a future in it, which goes on.
-fn goes_on<R: Wait + Copy + Drop + 'static>(
-    ground: &Ground<'_, R>,
-    executor: TestExecutor<R>,
-    report: &mut Report,
-) -> bool {
+    play(on(ground, OneOf::Owned(&executor)), ROWS, report);
+    play(on(ground, OneOf::Owned(&executor)), LONG, report);
     let left = leave(ground, &executor, report);
     let executor = executor.leak();
-    make(ground, OneOf::Static(&executor), AFTER_A_LEAK, report);
-    is_left_with(left, ground.waker, Polled::Gave(18))
+    play(
+        on(ground, OneOf::Static(&executor)),
+        &[Row::TryTick(true), Row::Drain],
+        report,
+    );
+    is_left_with(left, ground.waker, Polled::Gave(18)) & ends(ground, report)
 }
 
-/// An executor is dropped with a future in it, whose task is closed.
+/// An executor is dropped with a future in it.
 fn ends<R: Wait + Copy + Drop + 'static>(ground: &Ground<'_, R>, report: &mut Report) -> bool {
     let Some(executor) = owned(ground, report) else {
         return false;

@@ -1,5 +1,5 @@
 //! A join of handles: what a poll of it answers that is refused. It is polled once more then, and goes on with the same.
-use crate::executors::{Ground, LIMIT, TestExecutor, TestWaker};
+use crate::executors::{Ground, LIMIT, TestExecutor, TestWaker, owned};
 use crate::parts::{Bell, Job};
 use crate::report::{Call, Place, Report};
 use async_task::{Future, Poll, TaskError};
@@ -11,14 +11,14 @@ const HANDLES: u64 = 6;
 
 type TestJoin<R> = JoinAll<u64, Bell, R>;
 
-/// Joins handles of an executor with nothing in it, and says whether all was as it has to be. The first poll wants room for an
+/// Joins handles of an executor of its own, and says whether all was as it has to be. The first poll wants room for an
 /// output and a copy of the waker; then the futures are ready, and the other wants room behind the outputs that came.
-pub fn join<R: Wait + Copy + Drop + 'static>(
-    ground: &Ground<'_, R>,
-    executor: &TestExecutor<R>,
-    report: &mut Report,
-) -> bool {
-    let Some(mut all) = spawned(ground, executor, report) else {
+pub fn join<R: Wait + Copy + Drop + 'static>(ground: &Ground<'_, R>, report: &mut Report) -> bool {
+    report.come_to(Place::Executor);
+    let Some(executor) = owned(ground, report) else {
+        return false;
+    };
+    let Some(mut all) = spawned(ground, &executor, report) else {
         return false;
     };
     report.come_to(Place::Workers);

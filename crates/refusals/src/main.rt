@@ -10,7 +10,6 @@ mod joins;
 mod kinds;
 mod locals;
 mod machines;
-mod making;
 mod parts;
 mod program_runs;
 mod queues;
@@ -24,10 +23,10 @@ mod waits;
 use async_task::Awaiter;
 use executors::{Ground, TestRealm, try_executors};
 use jobs::{JobPlace, JobRealm, JobSite, Open};
+use joins::join;
 use local_executor::LocalExWaker;
 use locals::{LocalGround, try_locals};
 use machines::{MACHINE_ROWS, Machines};
-use making::realm;
 use parts::{Bell, Drops};
 use program_runs::{SIM, TWO_JOBS, do_case};
 use queues::{QUEUE_ROWS, Queues};
@@ -59,11 +58,22 @@ fn main(rt: HostRuntime) -> ExitCode {
     let mut report = Report::new();
     report.come_to(Place::Realm);
     // Code that makes a realm and works on it gets no proof where it is generic, so all are made here.
-    let (Some(tasks), Some(executors), Some(jobs)) = (
-        realm(rt, alloc, Call::TaskRealm, &mut report),
-        realm(rt, alloc, Call::ExecutorRealm, &mut report),
-        realm(rt, alloc, Call::JobRealm, &mut report),
-    ) else {
+    let (mut tasks, mut executors, mut jobs) = (None, None, None);
+    for _ in 0..2 {
+        if tasks.is_none() {
+            tasks = TaskRealm::leak(rt, alloc).ok();
+            note(tasks.is_none(), Call::TaskRealm, &mut report);
+        }
+        if executors.is_none() {
+            executors = TestRealm::<HostRuntime>::leak(rt, alloc).ok();
+            note(executors.is_none(), Call::ExecutorRealm, &mut report);
+        }
+        if jobs.is_none() {
+            jobs = JobRealm::<HostRuntime>::leak(rt, alloc).ok();
+            note(jobs.is_none(), Call::JobRealm, &mut report);
+        }
+    }
+    let (Some(tasks), Some(executors), Some(jobs)) = (tasks, executors, jobs) else {
         return ExitCode::FAILURE;
     };
     let realms = Realms {
@@ -79,6 +89,13 @@ fn main(rt: HostRuntime) -> ExitCode {
     );
     report.expect(is_so);
     tell(&rt, &report)
+}
+
+/// Notes a call that was refused, where it was.
+fn note(is_refused: bool, call: Call, report: &mut Report) {
+    if is_refused {
+        report.is_refused(call);
+    }
 }
 
 /// Makes all calls, and says whether all was as it has to be. The last request for memory before the jobs is the program's own: so
@@ -152,7 +169,7 @@ fn try_shared<R: Wait + Copy + Drop + 'static>(
         waker: &waker,
         drops,
     };
-    try_executors(&ground, report)
+    try_executors(&ground, report) & join(&ground, report)
 }
 
 fn try_local<R: RandomSource + Wait + Copy + Drop + 'static>(

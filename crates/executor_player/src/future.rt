@@ -2,7 +2,7 @@
 use crate::handle::HoldIn;
 use crate::outside::ScriptWaker;
 use crate::shelf::Kept;
-use async_task::Future;
+use async_task::{Future, Poll};
 use player_parts::{Gift, Held, Scripted};
 use std::sync::Wait;
 
@@ -18,16 +18,35 @@ where
     fn held_back(self) -> Vec<Held<H>>;
 }
 
-impl<H, R> Planned<H, R> for Scripted<H, Kept>
+/// A scripted future, whose handles are `H`.
+#[derive(Drop)]
+pub struct ScriptFuture<H: Drop> {
+    scripted: Scripted<H, Kept>,
+}
+
+impl<H, R> Future<ScriptWaker<R>> for ScriptFuture<H>
+where
+    H: HoldIn<R>,
+    R: Wait + Copy + Drop + 'static,
+{
+    type Output = Gift;
+
+    fn poll(&mut self, waker: &ScriptWaker<R>) -> Poll<Gift> {
+        self.scripted.poll(waker)
+    }
+}
+
+impl<H, R> Planned<H, R> for ScriptFuture<H>
 where
     H: HoldIn<R>,
     R: Wait + Copy + Drop + 'static,
 {
     fn planned(future: Scripted<H, Kept>) -> Self {
-        future
+        ScriptFuture { scripted: future }
     }
 
     fn held_back(self) -> Vec<Held<H>> {
-        self.into_held()
+        let ScriptFuture { scripted } = self;
+        scripted.into_held()
     }
 }

@@ -89,7 +89,8 @@ where
         mark: Mark,
         unlocked: &mut Unlocked,
     ) -> Result<LocalHandle<T, W, R>, SpawnError<F>>
-        ensures { IfErr result (λ error. refused error ≡ future) }
+        ensures back { IfErr result (λ error. refused error ≡ future) }
+        ensures here { IfOk result (λ handle. handle.held.link.id ≡ self.now.link.id) }
     {
         let link = self.link.share();
         let accepted = self

@@ -2,10 +2,11 @@
 ghost use Rattle.std.specs.Arc.{arc_value};
 ghost use Rattle.std.specs.Prelude.{◌≡◌, IfErr, IfOk};
 
+use crate::guarded::Guarded;
 use crate::slot::{Received, Slot};
 use async_task::{Future, NoMemory, Poll, Wake};
 use std::alloc::Global;
-use std::sync::{Arc, Mutex, Wait};
+use std::sync::{Arc, Wait};
 
 /// No value comes: the sender went without sending, or the value was taken by an earlier poll.
 #[derive(Clone, Copy, Debug, PartialEq, Eq, Drop)]
@@ -18,7 +19,7 @@ where
     K: Wake + Drop,
     R: Wait + Copy + Drop,
 {
-    slot: Arc<Mutex<Slot<T, K>>>,
+    slot: Arc<Guarded<Slot<T, K>>>,
     rt: R,
 }
 
@@ -31,7 +32,7 @@ where
     K: Wake + Drop,
     R: Wait + Copy + Drop,
 {
-    slot: Arc<Mutex<Slot<T, K>>>,
+    slot: Arc<Guarded<Slot<T, K>>>,
     rt: R,
 }
 
@@ -53,7 +54,7 @@ where
     R: Wait + Copy + Drop,
     ensures { IfOk result (λ ends. arc_value ends.0.slot ≡ arc_value ends.1.slot) }
 {
-    let Ok(slot) = Arc::new(alloc, Mutex::new(Slot::Empty)) else {
+    let Ok(slot) = Arc::new(alloc, Guarded::new(Slot::Empty)) else {
         return Err(NoMemory);
     };
     match Arc::try_clone(&slot) {

@@ -1,0 +1,30 @@
+-- When two wakers wake the same, and what is kept of one.
+use Rattle.std.specs.Prelude.{◌≡◌, ℕ}
+use Rattle.local_executor.specs.declared.copying.Copied.{Copied}
+use Rattle.local_executor.specs.declared.copying.Copied.TheVariants.{Kept, Called, Refused}
+use Rattle.local_executor.specs.declared.entry.wakers.LocalExWaker.{LocalExWaker}
+use Rattle.local_executor.specs.declared.entry.wakers.LocalExWaker.TheVariants.{Task, Outside}
+use Rattle.local_executor.specs.declared.entry.wakers.LocalWaker.{LocalWaker}
+use Rattle.solo.specs.declared.names.SoloWaker.TheVariants.{Task as OfTask, Outside as FromOutside}
+
+module _ {W R : Type 0} where
+  -- they are of one task of one executor
+  abbrev pub IsOfOneTask : LocalWaker W R → LocalWaker W R → Type 0
+  IsOfOneTask a b = (a.task ≡ b.task) × (a.link.id ≡ b.link.id)
+
+  -- two of tasks are of one task; two from outside are as those say; one of each aren't known to
+  abbrev pub WakeTheSame : (W → W → Type 0) → LocalExWaker W R → LocalExWaker W R → Type 0
+  WakeTheSame is_same (Task a) (Task b) = IsOfOneTask a b
+  WakeTheSame is_same (Outside a) (Outside b) = is_same a b
+  WakeTheSame is_same (Task a) (Outside b) = ⊥
+  WakeTheSame is_same (Outside a) (Task b) = ⊥
+
+  -- what the executor of this number keeps of a waker: of a task of its own the name, of one from outside a copy; one of another
+  -- executor's task is called
+  abbrev pub IsCopyFor : (W → W → Type 0) → ℕ → LocalExWaker W R → Copied W → Type 0
+  IsCopyFor is_same id (Task waker) (Kept kept) = (kept ≡ OfTask waker.task) × (waker.link.id ≡ id)
+  IsCopyFor is_same id (Task waker) Called = waker.link.id ≡ id → ⊥
+  IsCopyFor is_same id (Outside waker) (Kept (FromOutside copy)) = is_same copy waker
+  IsCopyFor is_same id (Outside waker) (Kept (OfTask task)) = ⊥
+  IsCopyFor is_same id (Outside waker) Called = ⊥
+  IsCopyFor is_same id waker Refused = Unit {0}

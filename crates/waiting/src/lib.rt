@@ -24,5 +24,5 @@ pub use first::{Either, Select};
 pub use listener::Listener;
 pub use making::{join, pending, ready, select, yield_now};
 pub use now::{Never, Ready, YieldNow};
-pub use slot::{Received, Slot};
+pub use slot::{Over, Received, Slot};
 pub use waiters::{Call, Left, Listening, Looked, Waiters, WasTold};

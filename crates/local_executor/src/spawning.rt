@@ -32,7 +32,7 @@ fn accept<F, T, W>(
 where
     F: Drop,
     T: Drop,
-    ensures accepted { IfOk result (λ both. Accepts mark future futures.old futures.new both.0 tasks.old tasks.new) }
+    ensures accepted { IfOk result (λ both. Accepts mark future futures.old futures.new both.0 both.1 tasks.old tasks.new) }
     ensures future { IfErr result (λ error. refused error ≡ future) }
     ensures cause { IfErr result (IsRefusedAt futures.old tasks.old) }
     ensures same { IfErr result (λ _. futures.new.entries ≡ futures.old.entries) }

@@ -1,5 +1,6 @@
 //! Executors that threads share.
-use crate::kinds::{LONG, Many, Polled, ROWS, Row, Runs, Turn, Turns, play};
+use crate::joins::join;
+use crate::kinds::{AFTER_A_LEAK, LONG, Many, Polled, ROWS, Row, Runs, Turn, Turns, play};
 use crate::parts::{Bell, Drops, Job, shown};
 use crate::report::{Call, Place, Report};
 use async_executor::{
@@ -12,13 +13,13 @@ use std::sync::Wait;
 use std::sync::atomic::Ordering::SeqCst;
 
 /// How many places an executor has.
-const LIMIT: usize = 4;
+pub const LIMIT: usize = 12;
 
 pub type TestRealm<R> = ExRealm<u64, Bell, R>;
 
 pub type TestWaker<R> = ExWaker<u64, Bell, R>;
 
-type TestExecutor<R> = Executor<Job, u64, Bell, R>;
+pub type TestExecutor<R> = Executor<Job, u64, Bell, R>;
 
 type TestStatic<R> = StaticExecutor<Job, u64, Bell, R>;
 
@@ -252,16 +253,19 @@ fn many<R: Wait + Copy + Drop + 'static>(
     }
 }
 
-/// An executor to make calls on.
-fn on<'a, 'w, R: Wait + Copy + Drop + 'static>(
-    ground: &Ground<'w, R>,
-    executor: OneOf<'a, R>,
-) -> OnExecutor<'a, 'w, R> {
-    OnExecutor {
+/// Makes these calls on an executor. It is the one that hands an executor to code for all kinds.
+fn make<R: Wait + Copy + Drop + 'static>(
+    ground: &Ground<'_, R>,
+    executor: OneOf<'_, R>,
+    rows: &[Row],
+    report: &mut Report,
+) {
+    let calls = OnExecutor {
         executor,
         waker: ground.waker,
         drops: ground.drops,
-    }
+    };
+    play(calls, rows, report);
 }
 
 /// The handle of a future that is left in an executor, polled once.
@@ -320,9 +324,15 @@ fn lasting<R: Wait + Copy + Drop + 'static>(
     None
 }
 
-/// Makes all calls on a static executor, and on one that is not: that is leaked with a future in it, which goes on; another is
-/// dropped with a future in it, whose task is closed.
+/// Makes all calls on a static executor, on one that is not, and on one that goes with a future in it.
 pub fn try_executors<R: Wait + Copy + Drop + 'static>(
+    ground: &Ground<'_, R>,
+    report: &mut Report,
+) -> bool {
+    try_static(ground, report) & try_owned(ground, report) & ends(ground, report)
+}
+
+fn try_static<R: Wait + Copy + Drop + 'static>(
     ground: &Ground<'_, R>,
     report: &mut Report,
 ) -> bool {
@@ -330,24 +340,35 @@ pub fn try_executors<R: Wait + Copy + Drop + 'static>(
     let Some(executor) = lasting(ground, report) else {
         return false;
     };
-    play(on(ground, OneOf::Static(&executor)), ROWS, report);
+    make(ground, OneOf::Static(&executor), ROWS, report);
+    true
+}
+
+fn try_owned<R: Wait + Copy + Drop + 'static>(ground: &Ground<'_, R>, report: &mut Report) -> bool {
     report.come_to(Place::Executor);
     let Some(executor) = owned(ground, report) else {
         return false;
     };
-    play(on(ground, OneOf::Owned(&executor)), ROWS, report);
-    play(on(ground, OneOf::Owned(&executor)), LONG, report);
-    let left = leave(ground, &executor, report);
-    let executor = executor.leak();
-    play(
-        on(ground, OneOf::Static(&executor)),
-        &[Row::TryTick(true), Row::Drain],
-        report,
-    );
-    is_left_with(left, ground.waker, Polled::Gave(18)) & ends(ground, report)
+    make(ground, OneOf::Owned(&executor), ROWS, report);
+    make(ground, OneOf::Owned(&executor), LONG, report);
+    let is_joined = join(ground, &executor, report);
+    report.come_to(Place::Executor);
+    is_joined & goes_on(ground, executor, report)
 }
 
-/// An executor is dropped with a future in it.
+/// An executor is leaked with a future in it, which goes on.
+fn goes_on<R: Wait + Copy + Drop + 'static>(
+    ground: &Ground<'_, R>,
+    executor: TestExecutor<R>,
+    report: &mut Report,
+) -> bool {
+    let left = leave(ground, &executor, report);
+    let executor = executor.leak();
+    make(ground, OneOf::Static(&executor), AFTER_A_LEAK, report);
+    is_left_with(left, ground.waker, Polled::Gave(18))
+}
+
+/// An executor is dropped with a future in it, whose task is closed.
 fn ends<R: Wait + Copy + Drop + 'static>(ground: &Ground<'_, R>, report: &mut Report) -> bool {
     let Some(executor) = owned(ground, report) else {
         return false;

@@ -171,6 +171,9 @@ pub const LONG: &[Row] = &[
     Row::Drain,
 ];
 
+/// What is made on an executor that was leaked with one future in it.
+pub const AFTER_A_LEAK: &[Row] = &[Row::TryTick(true), Row::Drain];
+
 /// An executor, and what was made of it.
 #[derive(Drop)]
 struct Stage<E, H, T, N> {

@@ -1,6 +1,6 @@
 //! Executors of one thread.
 use crate::executors::{of_fallible, of_task, of_tick};
-use crate::kinds::{LONG, Many, Polled, ROWS, Row, Runs, Turn, Turns, play};
+use crate::kinds::{AFTER_A_LEAK, LONG, Many, Polled, ROWS, Row, Runs, Turn, Turns, play};
 use crate::parts::{Bell, Drops, Job, shown};
 use crate::report::{Call, Place, Report};
 use async_task::{Future, Poll};
@@ -225,17 +225,20 @@ fn many<R: Wait + Copy + Drop + 'static>(
     }
 }
 
-/// An executor to make calls on.
-fn on<'a, 'w, R: Wait + Copy + Drop + 'static>(
-    ground: &LocalGround<'w, R>,
-    executor: OneOf<'a, R>,
-) -> OnExecutor<'a, 'w, R> {
-    OnExecutor {
+/// Makes these calls on an executor. It is the one that hands an executor to code for all kinds.
+fn make<R: Wait + Copy + Drop + 'static>(
+    ground: &LocalGround<'_, R>,
+    executor: OneOf<'_, R>,
+    rows: &[Row],
+    report: &mut Report,
+) {
+    let calls = OnExecutor {
         executor,
         alloc: ground.alloc,
         waker: ground.waker,
         drops: ground.drops,
-    }
+    };
+    play(calls, rows, report);
 }
 
 /// The handle of a future that is left in an executor, polled once.
@@ -294,9 +297,15 @@ fn lasting<R: RandomSource + Wait + Copy + Drop + 'static>(
     None
 }
 
-/// Makes all calls on a static executor, and on one that is not: that is leaked with a future in it, which goes on; another is
-/// dropped with a future in it, whose task is closed.
+/// Makes all calls on a static executor, on one that is not, and on one that goes with a future in it.
 pub fn try_locals<R: RandomSource + Wait + Copy + Drop + 'static>(
+    ground: &LocalGround<'_, R>,
+    report: &mut Report,
+) -> bool {
+    try_static(ground, report) & try_owned(ground, report) & ends(ground, report)
+}
+
+fn try_static<R: RandomSource + Wait + Copy + Drop + 'static>(
     ground: &LocalGround<'_, R>,
     report: &mut Report,
 ) -> bool {
@@ -304,24 +313,36 @@ pub fn try_locals<R: RandomSource + Wait + Copy + Drop + 'static>(
     let Some(executor) = lasting(ground, report) else {
         return false;
     };
-    play(on(ground, OneOf::Static(&executor)), ROWS, report);
+    make(ground, OneOf::Static(&executor), ROWS, report);
+    true
+}
+
+fn try_owned<R: RandomSource + Wait + Copy + Drop + 'static>(
+    ground: &LocalGround<'_, R>,
+    report: &mut Report,
+) -> bool {
     report.come_to(Place::LocalExecutor);
     let Some(executor) = owned(ground, report) else {
         return false;
     };
-    play(on(ground, OneOf::Owned(&executor)), ROWS, report);
-    play(on(ground, OneOf::Owned(&executor)), LONG, report);
-    let left = leave(ground, &executor, report);
-    let executor = executor.leak();
-    play(
-        on(ground, OneOf::Static(&executor)),
-        &[Row::TryTick(true), Row::Drain],
-        report,
-    );
-    is_left_with(left, ground.waker, Polled::Gave(18)) & ends(ground, report)
+    make(ground, OneOf::Owned(&executor), ROWS, report);
+    make(ground, OneOf::Owned(&executor), LONG, report);
+    goes_on(ground, executor, report)
 }
 
-/// An executor is dropped with a future in it.
+/// An executor is leaked with a future in it, which goes on.
+fn goes_on<R: Wait + Copy + Drop + 'static>(
+    ground: &LocalGround<'_, R>,
+    executor: TestExecutor<R>,
+    report: &mut Report,
+) -> bool {
+    let left = leave(ground, &executor, report);
+    let executor = executor.leak();
+    make(ground, OneOf::Static(&executor), AFTER_A_LEAK, report);
+    is_left_with(left, ground.waker, Polled::Gave(18))
+}
+
+/// An executor is dropped with a future in it, whose task is closed.
 fn ends<R: RandomSource + Wait + Copy + Drop + 'static>(
     ground: &LocalGround<'_, R>,
     report: &mut Report,

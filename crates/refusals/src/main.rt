@@ -6,16 +6,19 @@
 #![tactic(auto)]
 
 mod executors;
+mod joins;
 mod kinds;
 mod locals;
 mod machines;
 mod parts;
 mod program_runs;
 mod queues;
+mod realms;
 mod report;
 mod rows;
 mod solos;
 mod tasks;
+mod timers;
 mod waits;
 
 use async_task::Awaiter;
@@ -27,6 +30,7 @@ use machines::{MACHINE_ROWS, Machines};
 use parts::{Bell, Drops};
 use program_runs::{SIM, TWO_JOBS, do_case};
 use queues::{QUEUE_ROWS, Queues};
+use realms::realm;
 use report::{Call, Place, Refused, Report, Wrong};
 use rows::try_each;
 use solos::{SOLO_ROWS, Solos};
@@ -36,7 +40,9 @@ use std::process::ExitCode;
 use std::random::RandomSource;
 use std::sync::Wait;
 use std::thread::Threads;
+use std::time::Clock;
 use tasks::{TASK_ROWS, TaskRealm, Tasks};
+use timers::sleep;
 use waits::wait;
 
 /// Where tasks lie.
@@ -53,22 +59,11 @@ fn main(rt: HostRuntime) -> ExitCode {
     let mut report = Report::new();
     report.come_to(Place::Realm);
     // Code that makes a realm and works on it gets no proof where it is generic, so all are made here.
-    let (mut tasks, mut executors, mut jobs) = (None, None, None);
-    for _ in 0..2 {
-        if tasks.is_none() {
-            tasks = TaskRealm::leak(rt, alloc).ok();
-            note(tasks.is_none(), Call::TaskRealm, &mut report);
-        }
-        if executors.is_none() {
-            executors = TestRealm::<HostRuntime>::leak(rt, alloc).ok();
-            note(executors.is_none(), Call::ExecutorRealm, &mut report);
-        }
-        if jobs.is_none() {
-            jobs = JobRealm::<HostRuntime>::leak(rt, alloc).ok();
-            note(jobs.is_none(), Call::JobRealm, &mut report);
-        }
-    }
-    let (Some(tasks), Some(executors), Some(jobs)) = (tasks, executors, jobs) else {
+    let (Some(tasks), Some(executors), Some(jobs)) = (
+        realm(rt, alloc, Call::TaskRealm, &mut report),
+        realm(rt, alloc, Call::ExecutorRealm, &mut report),
+        realm(rt, alloc, Call::JobRealm, &mut report),
+    ) else {
         return ExitCode::FAILURE;
     };
     let realms = Realms {
@@ -86,19 +81,12 @@ fn main(rt: HostRuntime) -> ExitCode {
     tell(&rt, &report)
 }
 
-/// Notes a call that was refused, where it was.
-fn note(is_refused: bool, call: Call, report: &mut Report) {
-    if is_refused {
-        report.is_refused(call);
-    }
-}
-
 /// Makes all calls, and says whether all was as it has to be. The last request for memory before the jobs is the program's own: so
 /// one that a call made which can't be refused would stand between those that were.
 fn try_all<P, R>(rt: R, alloc: Global, realms: &Realms<R>, report: &mut Report) -> bool
 where
     P: JobSite<R, Gate = Open> + Sync + Drop,
-    R: Threads + RandomSource + Sync + Wait + Copy + Drop + 'static,
+    R: Threads + RandomSource + Clock + Sync + Wait + Copy + Drop + 'static,
 {
     let Some(drops) = own::<Drops>(alloc, report) else {
         return false;
@@ -109,6 +97,7 @@ where
         & try_shared(rt, alloc, realms.executors, drops, report)
         & try_local(rt, alloc, drops, report)
         & wait(rt, alloc, report)
+        & sleep(rt, alloc, report)
         & do_case::<P, R>(rt, alloc, realms.jobs, SIM, report)
         & own::<u64>(alloc, report).is_some()
         & do_case::<P, R>(rt, alloc, realms.jobs, TWO_JOBS, report)

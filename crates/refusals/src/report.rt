@@ -16,6 +16,8 @@ pub enum Place {
     StaticLocalExecutor,
     LocalExecutor,
     Waiting,
+    Workers,
+    Timer,
     Taskrun,
 }
 
@@ -33,6 +35,8 @@ impl fmt::Display for Place {
             Place::StaticLocalExecutor => "StaticLocalExecutor",
             Place::LocalExecutor => "LocalExecutor",
             Place::Waiting => "waiting",
+            Place::Workers => "workers",
+            Place::Timer => "timer",
             Place::Taskrun => "taskrun",
         })
     }
@@ -67,6 +71,8 @@ pub enum Call {
     Channel,
     Recv,
     Send,
+    Join,
+    JoinRoom,
     Sim,
     TwoJobs,
     Other,
@@ -100,6 +106,8 @@ impl fmt::Display for Call {
             Call::Channel => "channel",
             Call::Recv => "recv",
             Call::Send => "send",
+            Call::Join => "poll of a join",
+            Call::JoinRoom => "room of a join",
             Call::Sim => "sim",
             Call::TwoJobs => "jobs 2",
             Call::Other => "a call that takes no memory",

@@ -1,12 +1,12 @@
 //! The executors of a script.
 use crate::one_thread::handle::{Handle, Kept};
-use crate::{
-    Answer, Bell, Desk, Gift, Own, Plan, Refused, Scripted, SharedShelf, answer_of_tick, scripted,
-};
 use async_task::{Future, Poll};
 use local_executor::{
     LocalExWaker, LocalExecutor, LocalHandle, LocalRun, LocalTick, RunError, SpawnError,
     StaticLocalExecutor,
+};
+use player_parts::{
+    Answer, Bell, Desk, Gift, Own, Plan, Refused, Scripted, SharedShelf, answer_of_tick, scripted,
 };
 use std::sync::Wait;
 

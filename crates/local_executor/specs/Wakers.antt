@@ -19,12 +19,16 @@ module _ {W R : Type 0} where
   WakeTheSame is_same (Task a) (Outside b) = ⊥
   WakeTheSame is_same (Outside a) (Task b) = ⊥
 
-  -- what the executor of this number keeps of a waker: of a task of its own the name, of one from outside a copy; one of another
-  -- executor's task is called
+  -- of a waker from outside a copy is kept, which wakes the same, if one can be had
+  abbrev pub IsCopyOf : (W → W → Type 0) → W → Copied W → Type 0
+  IsCopyOf is_same waker (Kept (FromOutside copy)) = is_same copy waker
+  IsCopyOf is_same waker (Kept (OfTask task)) = ⊥
+  IsCopyOf is_same waker Called = ⊥
+  IsCopyOf is_same waker Refused = Unit {0}
+
+  -- of a task's, the executor of this number keeps the name where the task is its own; where it is another executor's it is called
   abbrev pub IsCopyFor : (W → W → Type 0) → ℕ → LocalExWaker W R → Copied W → Type 0
+  IsCopyFor is_same id (Outside waker) copied = IsCopyOf is_same waker copied
   IsCopyFor is_same id (Task waker) (Kept kept) = (kept ≡ OfTask waker.task) × (waker.link.id ≡ id)
   IsCopyFor is_same id (Task waker) Called = waker.link.id ≡ id → ⊥
-  IsCopyFor is_same id (Outside waker) (Kept (FromOutside copy)) = is_same copy waker
-  IsCopyFor is_same id (Outside waker) (Kept (OfTask task)) = ⊥
-  IsCopyFor is_same id (Outside waker) Called = ⊥
-  IsCopyFor is_same id waker Refused = Unit {0}
+  IsCopyFor is_same id (Task waker) Refused = Unit {0}

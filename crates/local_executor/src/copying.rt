@@ -1,5 +1,5 @@
 //! Copies of wakers, which are kept under the lock.
-ghost use Rattle.local_executor.specs.Wakers.{IsCopyFor};
+ghost use Rattle.local_executor.specs.Wakers.{IsCopyFor, IsCopyOf};
 
 use crate::entry::{LocalExWaker, Unlocked};
 use crate::foreign::Foreign;
@@ -46,7 +46,9 @@ where
     }
 }
 
-fn outside_copy<W: Wake>(waker: &W, unlocked: &Unlocked) -> Copied<W> {
+fn outside_copy<W: Wake>(waker: &W, unlocked: &Unlocked) -> Copied<W>
+    ensures { IsCopyOf W.is_same waker.now result }
+{
     let _ = unlocked;
     match waker.clone() {
         Some(copy) => Copied::Kept(SoloWaker::Outside(Foreign::of(copy))),

@@ -7,6 +7,14 @@ use Rattle.local_executor.specs.declared.entry.wakers.LocalExWaker.TheVariants.{
 use Rattle.local_executor.specs.declared.entry.wakers.LocalWaker.{LocalWaker}
 use Rattle.solo.specs.declared.names.SoloWaker.TheVariants.{Task as OfTask, Outside as FromOutside}
 
+module _ {W : Type 0} where
+  -- of a waker from outside a copy is kept, which wakes the same, if one can be had
+  abbrev pub IsCopyOf : (W → W → Type 0) → W → Copied W → Type 0
+  IsCopyOf is_same waker (Kept (FromOutside copy)) = is_same copy waker
+  IsCopyOf is_same waker (Kept (OfTask task)) = ⊥
+  IsCopyOf is_same waker Called = ⊥
+  IsCopyOf is_same waker Refused = Unit {0}
+
 module _ {W R : Type 0} where
   -- they are of one task of one executor
   abbrev pub IsOfOneTask : LocalWaker W R → LocalWaker W R → Type 0
@@ -18,13 +26,6 @@ module _ {W R : Type 0} where
   WakeTheSame is_same (Outside a) (Outside b) = is_same a b
   WakeTheSame is_same (Task a) (Outside b) = ⊥
   WakeTheSame is_same (Outside a) (Task b) = ⊥
-
-  -- of a waker from outside a copy is kept, which wakes the same, if one can be had
-  abbrev pub IsCopyOf : (W → W → Type 0) → W → Copied W → Type 0
-  IsCopyOf is_same waker (Kept (FromOutside copy)) = is_same copy waker
-  IsCopyOf is_same waker (Kept (OfTask task)) = ⊥
-  IsCopyOf is_same waker Called = ⊥
-  IsCopyOf is_same waker Refused = Unit {0}
 
   -- of a task's, the executor of this number keeps the name where the task is its own; where it is another executor's it is called
   abbrev pub IsCopyFor : (W → W → Type 0) → ℕ → LocalExWaker W R → Copied W → Type 0

@@ -7,7 +7,7 @@ use crate::shelf::Kept;
 use async_executor::{Executor, SpawnError, StaticExecutor};
 use async_task::{Awaiter, Future};
 use player_parts::{
-    Answer, Bell, Desk, Gift, Own, Plan, Refused, SharedShelf, answer_of_tick, scripted,
+    Answer, Bell, Desk, Gift, Own, Plan, Refused, SharedShelf, answer_of_tick, future_of,
 };
 use std::sync::Wait;
 
@@ -47,7 +47,7 @@ where
 {
     fn spawn(&self, plan: Plan<H>) -> Result<H, Refused<H>> {
         let mark = plan.mark;
-        match scripted(self.shelf, plan) {
+        match future_of(self.shelf, plan) {
             Ok(future) => {
                 let spawned = self.executor.spawn_marked(F::planned(future), mark);
                 answered(spawned)
@@ -101,7 +101,7 @@ where
 {
     fn spawn(&self, plan: Plan<H>) -> Result<H, Refused<H>> {
         let mark = plan.mark;
-        match scripted(self.shelf, plan) {
+        match future_of(self.shelf, plan) {
             Ok(future) => {
                 let spawned = self.executor.spawn_marked(F::planned(future), mark);
                 answered(spawned)

@@ -185,7 +185,7 @@ impl<H: Drop, S: Drop> Scripted<H, S> {
 }
 
 /// A future, as it is planned. Its wakers are kept on this shelf.
-pub fn scripted<H: Drop, S: Drop>(
+pub fn future_of<H: Drop, S: Drop>(
     shelf: &SharedShelf<S>,
     plan: Plan<H>,
 ) -> Result<Scripted<H, S>, Refused<H>> {

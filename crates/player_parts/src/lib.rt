@@ -21,7 +21,7 @@ pub use answer::{Answer, answer_of_cancel, answer_of_task, answer_of_tick, show_
 pub use commands::{Stop, play_closed, play_on, read_whole};
 pub use desk::{Desk, Plan, Refused};
 pub use errors::PlayError;
-pub use future::{KeptOf, Scripted, scripted};
+pub use future::{KeptOf, Scripted, future_of};
 pub use handle::{Await, Held, Hold};
 pub use handles::{Handles, SharedHandles};
 pub use outside::{Bell, Gift};

@@ -1,9 +1,7 @@
 //! The families of scripts: what plays them, and where they lie.
 
 use crate::players::Players;
-use crate::shown::{
-    Shown, machine, shown_by_executor, shown_by_queue, shown_by_tasks, shown_on_one_thread,
-};
+use crate::shown::{Shown, machine, shown_by_executor, shown_by_queue, shown_by_tasks};
 use call_player::{PlaysTasks, play_exclusive, play_shared};
 use executor_player::Plays;
 use script_player::{play_local, play_solo};
@@ -147,9 +145,9 @@ impl Family {
             Family::Executor => shown_by_executor(players.executors.play(script)),
             Family::Static => shown_by_executor(players.executors.play(script)),
             Family::Local | Family::StaticLocal => {
-                shown_on_one_thread(play_local(rt, rt.alloc(), script))
+                shown_by_executor(play_local(rt, rt.alloc(), script))
             }
-            Family::Solo => shown_on_one_thread(play_solo(rt, rt.alloc(), script)),
+            Family::Solo => shown_by_executor(play_solo(rt, rt.alloc(), script)),
             Family::Queue => shown_by_queue(play_shared(rt, rt.alloc(), script)),
             Family::Exclusive => shown_by_queue(play_exclusive(rt.alloc(), script)),
             Family::Task => shown_by_tasks(players.tasks.play(script)),

@@ -3,7 +3,7 @@
 ghost use Rattle.std.specs.Prelude.{IfOk};
 ghost use Rattle.cases.specs.Owed.{IsShown};
 
-use executor_player::PlayError;
+use player_parts::PlayError;
 use std::alloc::{AllocError, Global};
 use std::io::{self, Write};
 
@@ -59,18 +59,6 @@ pub fn shown_by_executor(shown: Result<Vec<u8>, PlayError>) -> Result<Shown, All
         Ok(text) => Ok(Shown::Text(text)),
         Err(PlayError::BadLine(number) | PlayError::NotWhole(number)) => Ok(Shown::BadLine(number)),
         Err(PlayError::NoMemory) => Err(AllocError),
-    }
-}
-
-/// What the player of executors of one thread, or of one owner, shows of a script, in the same way.
-pub fn shown_on_one_thread(
-    shown: Result<Vec<u8>, script_player::PlayError>,
-) -> Result<Shown, AllocError> {
-    match shown {
-        Ok(text) => Ok(Shown::Text(text)),
-        Err(script_player::PlayError::BadLine(number)) => Ok(Shown::BadLine(number)),
-        Err(script_player::PlayError::NotWhole(number)) => Ok(Shown::BadLine(number)),
-        Err(script_player::PlayError::NoMemory) => Err(AllocError),
     }
 }
 

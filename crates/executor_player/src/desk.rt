@@ -1,13 +1,14 @@
 //! The executors of a script.
-use crate::answer::Answer;
-use crate::future::{Planned, Scripted};
-use crate::handle::{Held, HoldIn};
-use crate::handles::SharedHandles;
-use crate::outside::{Bell, Gift, ScriptTask};
-use crate::shelf::SharedShelf;
-use async_executor::{Executor, Mark, SpawnError, StaticExecutor};
-use script::{Item, Name};
-use std::rc::Rc;
+use crate::future::Planned;
+use crate::handle::HoldIn;
+use crate::outside::ScriptTask;
+use crate::seat::{ScriptRun, ScriptTick, answer_of_run};
+use crate::shelf::Kept;
+use async_executor::{Executor, SpawnError, StaticExecutor};
+use async_task::{Awaiter, Future};
+use player_parts::{
+    Answer, Bell, Desk, Gift, Own, Plan, Refused, SharedShelf, answer_of_tick, future_of,
+};
 use std::sync::Wait;
 
 /// The executor of a script.
@@ -15,37 +16,6 @@ pub type ScriptExecutor<F, R> = Executor<F, Gift, Bell, R>;
 
 /// The executor of a script that is static.
 pub type ScriptStatic<F, R> = StaticExecutor<F, Gift, Bell, R>;
-
-/// What a future is made of.
-#[derive(Drop)]
-pub struct Plan<H: Drop> {
-    pub name: Name,
-    pub mark: Mark,
-    pub items: Vec<Item>,
-    /// The handles that its items hold.
-    pub held: Vec<Held<H>>,
-    /// Those that it may drop.
-    pub handles: SharedHandles<H>,
-}
-
-/// A future wasn't accepted: why, and the handles that it was to hold.
-#[derive(Drop)]
-pub struct Refused<H: Drop> {
-    pub answer: Answer,
-    pub held: Vec<Held<H>>,
-}
-
-/// An executor whose handles are `H`, as a player sees it.
-pub trait Desk<H: Drop> {
-    fn spawn(&self, plan: Plan<H>) -> Result<H, Refused<H>>;
-
-    fn try_tick(&self) -> bool;
-
-    fn is_empty(&self) -> bool;
-
-    /// Whether it can be dropped or leaked.
-    fn may_end(&self) -> bool;
-}
 
 /// An executor of a script, and where the wakers of its futures are kept.
 #[derive(Drop)]
@@ -55,7 +25,7 @@ where
     R: Wait + Copy + Drop + 'static,
 {
     pub executor: &'a ScriptExecutor<F, R>,
-    pub shelf: &'a SharedShelf,
+    pub shelf: &'a SharedShelf<Kept>,
 }
 
 /// The same, of one that is static.
@@ -66,10 +36,10 @@ where
     R: Wait + Copy + Drop + 'static,
 {
     pub executor: &'a ScriptStatic<F, R>,
-    pub shelf: &'a SharedShelf,
+    pub shelf: &'a SharedShelf<Kept>,
 }
 
-impl<F, H, R> Desk<H> for OnExecutor<'_, F, R>
+impl<'a, F, H, R> Desk<H, ScriptTick<'a, F, R>, ScriptRun<'a, F, H, R>> for OnExecutor<'a, F, R>
 where
     F: Planned<H, R>,
     H: HoldIn<R>,
@@ -77,7 +47,7 @@ where
 {
     fn spawn(&self, plan: Plan<H>) -> Result<H, Refused<H>> {
         let mark = plan.mark;
-        match scripted(self.shelf, plan) {
+        match future_of(self.shelf, plan) {
             Ok(future) => {
                 let spawned = self.executor.spawn_marked(F::planned(future), mark);
                 answered(spawned)
@@ -97,9 +67,33 @@ where
     fn may_end(&self) -> bool {
         true
     }
+
+    fn tick(&self) -> Option<ScriptTick<'a, F, R>> {
+        let executor = self.executor;
+        match executor.tick() {
+            Ok(tick) => Some(tick),
+            Err(_) => None,
+        }
+    }
+
+    fn run(&self, own: Own<H>) -> Result<ScriptRun<'a, F, H, R>, Own<H>> {
+        let executor = self.executor;
+        match executor.run(own) {
+            Ok(run) => Ok(run),
+            Err(own) => Err(own),
+        }
+    }
+
+    fn poll_tick(&self, tick: &mut ScriptTick<'a, F, R>, bell: Bell) -> Answer {
+        answer_of_tick(tick.poll(&Awaiter::Outside(bell)))
+    }
+
+    fn poll_run(&self, run: &mut ScriptRun<'a, F, H, R>, bell: Bell) -> Answer {
+        answer_of_run(run.poll(&Awaiter::Outside(bell)))
+    }
 }
 
-impl<F, H, R> Desk<H> for OnStatic<'_, F, R>
+impl<'a, F, H, R> Desk<H, ScriptTick<'a, F, R>, ScriptRun<'a, F, H, R>> for OnStatic<'a, F, R>
 where
     F: Planned<H, R>,
     H: HoldIn<R>,
@@ -107,7 +101,7 @@ where
 {
     fn spawn(&self, plan: Plan<H>) -> Result<H, Refused<H>> {
         let mark = plan.mark;
-        match scripted(self.shelf, plan) {
+        match future_of(self.shelf, plan) {
             Ok(future) => {
                 let spawned = self.executor.spawn_marked(F::planned(future), mark);
                 answered(spawned)
@@ -128,30 +122,29 @@ where
     fn may_end(&self) -> bool {
         false
     }
-}
 
-/// A future, as it is planned.
-fn scripted<H: Drop>(shelf: &SharedShelf, plan: Plan<H>) -> Result<Scripted<H>, Refused<H>> {
-    let Plan {
-        name,
-        mark: _,
-        items,
-        held,
-        handles,
-    } = plan;
-    match Rc::clone(shelf) {
-        Ok(shelf) => Ok(Scripted {
-            name,
-            items,
-            next: 0,
-            held,
-            handles,
-            shelf,
-        }),
-        Err(_) => Err(Refused {
-            answer: Answer::NoMemory,
-            held,
-        }),
+    fn tick(&self) -> Option<ScriptTick<'a, F, R>> {
+        let executor = self.executor;
+        match executor.tick() {
+            Ok(tick) => Some(tick),
+            Err(_) => None,
+        }
+    }
+
+    fn run(&self, own: Own<H>) -> Result<ScriptRun<'a, F, H, R>, Own<H>> {
+        let executor = self.executor;
+        match executor.run(own) {
+            Ok(run) => Ok(run),
+            Err(own) => Err(own),
+        }
+    }
+
+    fn poll_tick(&self, tick: &mut ScriptTick<'a, F, R>, bell: Bell) -> Answer {
+        answer_of_tick(tick.poll(&Awaiter::Outside(bell)))
+    }
+
+    fn poll_run(&self, run: &mut ScriptRun<'a, F, H, R>, bell: Bell) -> Answer {
+        answer_of_run(run.poll(&Awaiter::Outside(bell)))
     }
 }
 
@@ -166,11 +159,11 @@ where
         Ok(task) => Ok(H::of(task)),
         Err(SpawnError::Full(future)) => Err(Refused {
             answer: Answer::Full,
-            held: future.into_held(),
+            held: future.held_back(),
         }),
         Err(SpawnError::NoMemory(future)) => Err(Refused {
             answer: Answer::NoMemory,
-            held: future.into_held(),
+            held: future.held_back(),
         }),
     }
 }

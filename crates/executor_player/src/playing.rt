@@ -1,19 +1,18 @@
 //! From the text of a script to the text of what it does.
 ghost use Rattle.std.specs.Prelude.{◌<◌};
 
-use crate::answer::{Answer, show_end};
-use crate::commands::{Stop, first_not_whole, play_closed, play_leaked, play_open};
+use crate::commands::{play_leaked, play_open};
 use crate::desk::{ScriptExecutor, ScriptStatic};
-use crate::errors::PlayError;
 use crate::future::Planned;
-use crate::handle::{Hold, HoldIn};
-use crate::handles::Handles;
+use crate::handle::HoldIn;
 use crate::outside::ScriptRealm;
-use crate::player::Player;
-use crate::shelf::{Keep, KeepIn, SharedShelf, Shelf};
-use crate::stage::{Shared, Stage};
+use crate::shelf::{KeepIn, Kept};
 use async_executor::{Executor, StaticExecutor};
-use script::{Command, Word, parse};
+use player_parts::{
+    Answer, Handles, Hold, Keep, PlayError, Player, Shared, SharedShelf, Shelf, Stage, Stop,
+    play_closed, read_whole, show_end,
+};
+use script::{Command, Word};
 use std::alloc::Global;
 use std::rc::Rc;
 use std::sync::Wait;
@@ -31,12 +30,9 @@ where
     K: KeepIn<R>,
     R: Wait + Copy + Drop + 'static,
 {
-    let Some(script) = parse(alloc, script)? else {
+    let Some(script) = read_whole(alloc, script, false)? else {
         return Ok(Vec::new(alloc));
     };
-    if let Some(line) = first_not_whole(script.commands.as_slice()) {
-        return Err(PlayError::NotWhole(line));
-    }
     if script.limit == 0 {
         return Err(PlayError::NoMemory);
     }
@@ -96,7 +92,7 @@ fn new_player<H, K, R>(
     alloc: Global,
     realm: &'static ScriptRealm<R>,
     stage: &Shared,
-    shelf: &SharedShelf,
+    shelf: &SharedShelf<Kept>,
 ) -> Option<Player<H, K>>
 where
     H: Hold,
@@ -118,7 +114,7 @@ where
 /// Plays the commands on a static executor.
 fn play_static<F, H, K, R>(
     player: Player<H, K>,
-    shelf: &SharedShelf,
+    shelf: &SharedShelf<Kept>,
     executor: ScriptStatic<F, R>,
     commands: &[Command],
 )
@@ -136,7 +132,7 @@ where
 /// Plays the commands on an executor, drops it or leaks it, and plays what follows.
 fn play_owned<F, H, K, R>(
     player: Player<H, K>,
-    shelf: &SharedShelf,
+    shelf: &SharedShelf<Kept>,
     executor: ScriptExecutor<F, R>,
     commands: &[Command],
 )

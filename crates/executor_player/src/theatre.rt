@@ -1,11 +1,11 @@
 //! Where scripts are played, as code over any runtime type may know it. Such code gets no proof of calls on an executor whose
 //! futures hold handles: so it is generic over what `Plays`, and a program that has its runtime value says which that is.
-use crate::errors::PlayError;
-use crate::future::{Planned, Scripted};
+use crate::future::{Planned, ScriptFuture};
 use crate::handle::{Handle, HoldIn};
 use crate::outside::ScriptRealm;
 use crate::playing::play_script;
 use crate::shelf::{KeepIn, Keeper};
+use player_parts::PlayError;
 use std::alloc::Global;
 use std::marker::PhantomData;
 use std::sync::Wait;
@@ -32,7 +32,7 @@ pub struct Theatre<F, H, K, R: Wait + Copy + Drop + 'static> {
 }
 
 /// The one that a program names.
-pub type ExecutorPlayer<R> = Theatre<Scripted<Handle<R>>, Handle<R>, Keeper<R>, R>;
+pub type ExecutorPlayer<R> = Theatre<ScriptFuture<Handle<R>>, Handle<R>, Keeper<R>, R>;
 
 impl<F, H, K, R> Plays for Theatre<F, H, K, R>
 where

@@ -3,3 +3,4 @@ pub mod Spawning
 pub mod Starts
 pub mod Runs
 pub mod Kinds
+pub mod Wakers

@@ -1,4 +1,6 @@
 //! Copies of wakers, which are kept under the lock.
+ghost use Rattle.local_executor.specs.Wakers.{IsCopyFor, IsCopyOf};
+
 use crate::entry::{LocalExWaker, Unlocked};
 use crate::foreign::Foreign;
 use crate::link::Link;
@@ -26,6 +28,7 @@ pub fn copy_for<W, R>(
 where
     W: Wake + Drop,
     R: Wait + Copy + Drop,
+    ensures { IsCopyFor W.is_same link.now.id waker.now result }
 {
     match waker {
         LocalExWaker::Task(waker) => {
@@ -43,7 +46,9 @@ where
     }
 }
 
-fn outside_copy<W: Wake>(waker: &W, unlocked: &Unlocked) -> Copied<W> {
+fn outside_copy<W: Wake>(waker: &W, unlocked: &Unlocked) -> Copied<W>
+    ensures { IsCopyOf W.is_same waker.now result }
+{
     let _ = unlocked;
     match waker.clone() {
         Some(copy) => Copied::Kept(SoloWaker::Outside(Foreign::of(copy))),

@@ -1,4 +1,6 @@
 //! What each kind of handle has and does.
+ghost use Rattle.std.specs.Prelude.{◌≡◌, is_some};
+
 use crate::copying::{Copied, copy_for};
 use crate::entry::{LocalExWaker, Unlocked};
 use crate::foreign::{Foreign, let_go};
@@ -31,7 +33,11 @@ pub enum Found<T> {
 }
 
 impl<T: Drop, W: Wake + Drop, R: Wait + Copy + Drop> Held<T, W, R> {
-    pub fn new(link: Link<W, R>, task: Task, output: Output<T>) -> Self {
+    pub fn new(link: Link<W, R>, task: Task, output: Output<T>) -> Self
+        ensures link { result.link ≡ link }
+        ensures task { result.task ≡ task }
+        ensures output { result.output ≡ output }
+    {
         Held { link, task, output }
     }
 
@@ -123,6 +129,8 @@ impl<T: Drop, W: Wake + Drop, R: Wait + Copy + Drop> Held<T, W, R> {
 }
 
 /// Whether an output is to be dropped.
-pub fn drops_output<F, W>(owed: &Owed<F, (), W>) -> bool {
+pub fn drops_output<F, W>(owed: &Owed<F, (), W>) -> bool
+    ensures { result ≡ is_some owed.now.output }
+{
     owed.output.is_some()
 }

@@ -18,9 +18,14 @@ where
 }
 
 impl<W: Wake + Drop, R: Wait + Copy + Drop> LentWaker<W, R> {
+    ghost use Rattle.std.specs.Prelude.{◌≡◌};
+    ghost use Rattle.local_executor.specs.declared.entry.wakers.LocalExWaker.TheVariants as waker;
+
     /// Of the task that is about to be polled.
     #[inline(always)]
-    pub fn of(link: Link<W, R>, task: Task) -> Self {
+    pub fn of(link: Link<W, R>, task: Task) -> Self
+        ensures { result.waker ≡ waker.Task (record { link = link; task = task }) }
+    {
         LentWaker {
             waker: LocalExWaker::Task(LocalWaker { link, task }),
         }
@@ -28,7 +33,9 @@ impl<W: Wake + Drop, R: Wait + Copy + Drop> LentWaker<W, R> {
 
     /// What the poll is lent.
     #[inline(always)]
-    pub fn waker(&self) -> &LocalExWaker<W, R> {
+    pub fn waker(&self) -> &LocalExWaker<W, R>
+        ensures { result.now ≡ self.now.waker }
+    {
         &self.waker
     }
 

@@ -1,5 +1,5 @@
 //! The way to the lock, and what follows a section once the lock is given back.
-ghost use Rattle.std.specs.Prelude.{◌≡◌, None};
+ghost use Rattle.std.specs.Prelude.{◌≡◌, ◌==◌, None};
 
 use crate::entry::Unlocked;
 use crate::foreign::{Foreign, let_go};
@@ -29,13 +29,20 @@ struct Paid {
 }
 
 impl<W: Drop, R: Wait + Copy + Drop> Link<W, R> {
-    pub fn new(shared: Shared<W>, id: u64, rt: R) -> Self {
+    pub fn new(shared: Shared<W>, id: u64, rt: R) -> Self
+        ensures shared { result.shared ≡ shared }
+        ensures id { result.id ≡ id }
+        ensures rt { result.rt ≡ rt }
+    {
         Link { shared, id, rt }
     }
 
     /// One more. A count of 2^63 of them is out of reach: this waits there.
     #[inline(always)]
-    pub fn share(&self) -> Self {
+    pub fn share(&self) -> Self
+        ensures id { result.id ≡ self.now.id }
+        ensures rt { result.rt ≡ self.now.rt }
+    {
         for _ in self.rt.forever() {
             if let Ok(shared) = Arc::try_clone(&self.shared) {
                 return Link {
@@ -49,12 +56,16 @@ impl<W: Drop, R: Wait + Copy + Drop> Link<W, R> {
     }
 
     /// The runtime value.
-    pub fn rt(&self) -> R {
+    pub fn rt(&self) -> R
+        ensures { result ≡ self.now.rt }
+    {
         self.rt
     }
 
     /// Whether both lead to one executor.
-    pub fn is_to_the_same(&self, other: &Self) -> bool {
+    pub fn is_to_the_same(&self, other: &Self) -> bool
+        ensures { result ≡ (self.now.id == other.now.id) }
+    {
         self.id == other.id
     }
 

@@ -31,6 +31,7 @@ where
     W: Wake + Drop,
     R: RandomSource + Wait + Copy + Drop,
     requires { 0 < limit }
+    ensures { IfOk result (λ body. body.link.rt ≡ rt) }
 {
     let id = match drawn_by(&rt) {
         Some(id) => id,
@@ -75,7 +76,8 @@ where
         &self,
         unlocked: &mut Unlocked,
     ) -> Result<LocalTick<'_, F, T, W, R>, NoMemory>
-        ensures { IfOk result (λ tick. IsSome tick.ticker) }
+        ensures here { IfOk result (λ tick. tick.executor.now ≡ self.now) }
+        ensures ticker { IfOk result (λ tick. IsSome tick.ticker) }
     {
         let made = sections::tick(self.link.lock(unlocked).get());
         match made {
@@ -96,6 +98,7 @@ where
     ) -> Result<LocalRun<'_, F, T, W, R, G>, G>
     where
         G: Future<LocalExWaker<W, R>> + Drop,
+        ensures here { IfOk result (λ run. run.executor.now ≡ self.now) }
         ensures back { IfErr result (λ back. back ≡ future) }
         ensures future { IfOk result (λ run. run.future ≡ Some future) }
         ensures starts { IfOk result (λ run. run.starts ≡ drawn (seeded seed)) }

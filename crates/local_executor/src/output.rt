@@ -1,13 +1,36 @@
 //! Where a task puts its output, and its handle takes it.
+ghost use Rattle.std.specs.Prelude.{◌≡◌, IfSome};
+ghost use Rattle.std.specs.Rc.{rc_value};
+
 use crate::foreign::{Foreign, came_out};
 use std::alloc::Global;
 use std::cell::Cell;
 use std::rc::Rc;
+use std::snapshot::Snapshot;
 
 /// The place of a task's output, which the task and its handle share.
 #[derive(Drop)]
 pub struct Output<T> {
-    place: Rc<Cell<Option<T>>, Global>,
+    place: Rc<Place<T>, Global>,
+}
+
+/// The place. Of what it holds contracts see nothing, so it has a name, by which they tell one from another.
+#[derive(Drop)]
+struct Place<T> {
+    name: Snapshot<u64>,
+    output: Cell<Option<T>>,
+}
+
+impl<T> Place<T> {
+    /// One of its own, and empty. The clause says nothing of its name, so that no two can be shown to be one.
+    fn new() -> Self
+        ensures { result ≡ result }
+    {
+        Place {
+            name: Snapshot::of(&0),
+            output: Cell::new(None),
+        }
+    }
 }
 
 impl<T> Output<T> {
@@ -15,8 +38,9 @@ impl<T> Output<T> {
     pub fn pair(alloc: Global) -> Option<(Output<T>, Output<T>)>
     where
         T: Drop,
+        ensures { IfSome result (λ both. rc_value both.0.place ≡ rc_value both.1.place) }
     {
-        let Ok(place) = Rc::new(alloc, Cell::new(None)) else {
+        let Ok(place) = Rc::new(alloc, Place::new()) else {
             return None;
         };
         let other: Result<_, _> = place.clone();
@@ -28,11 +52,11 @@ impl<T> Output<T> {
 
     /// Puts an output there. What was there comes out.
     pub fn put(&self, output: Foreign<T>) -> Option<Foreign<T>> {
-        came_out(self.place.replace(Some(output.into_stored())))
+        came_out(self.place.output.replace(Some(output.into_stored())))
     }
 
     /// Takes the output out.
     pub fn take(&self) -> Option<Foreign<T>> {
-        came_out(self.place.replace(None))
+        came_out(self.place.output.replace(None))
     }
 }

@@ -32,7 +32,7 @@ fn accept<F, T, W>(
 where
     F: Drop,
     T: Drop,
-    ensures accepted { IfOk result (λ both. Accepts mark future futures.old futures.new both.0 tasks.old tasks.new) }
+    ensures accepted { IfOk result (λ both. Accepts mark future futures.old futures.new both.0 both.1 tasks.old tasks.new) }
     ensures future { IfErr result (λ error. refused error ≡ future) }
     ensures cause { IfErr result (IsRefusedAt futures.old tasks.old) }
     ensures same { IfErr result (λ _. futures.new.entries ≡ futures.old.entries) }
@@ -89,7 +89,8 @@ where
         mark: Mark,
         unlocked: &mut Unlocked,
     ) -> Result<LocalHandle<T, W, R>, SpawnError<F>>
-        ensures { IfErr result (λ error. refused error ≡ future) }
+        ensures back { IfErr result (λ error. refused error ≡ future) }
+        ensures here { IfOk result (λ handle. handle.held.link.id ≡ self.now.link.id) }
     {
         let link = self.link.share();
         let accepted = self

@@ -20,7 +20,7 @@ module _ {T : Type 0} where
 
   -- a try with this message: it was sent, or comes back
   abbrev pub HasTried : T → Tried T → Type 0
-  HasTried message Sent = Unit {0}
+  HasTried message (Sent _) = Unit {0}
   HasTried message (Refused error) = refused error ≡ message
   HasTried message (Waits back) = back ≡ message
   HasTried message (Again back) = back ≡ message

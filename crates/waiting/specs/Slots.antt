@@ -27,7 +27,7 @@ module _ {T : Type 0} {K : Type 0} where
   abbrev pub HasReceived : Option K → Slot T K → Slot T K → Received T K → Type 0
   HasReceived waker old new (Value value back) = (old ≡ Full value) × (new ≡ Closed) × (back ≡ waker)
   HasReceived waker old new (Waits before) = (old ≡ waited_with before) × (new ≡ waited_with waker)
-  HasReceived waker old new (Ended back) = (old ≡ Closed) × (new ≡ Closed) × (back ≡ waker)
+  HasReceived waker old new (Ended _ back) = (old ≡ Closed) × (new ≡ Closed) × (back ≡ waker)
 
   -- no value is to come
   abbrev pub HasEnded : Slot T K → Slot T K → Type 0

@@ -1,11 +1,12 @@
 ghost use Rattle.std.specs.Arc.{arc_value};
 ghost use Rattle.std.specs.Prelude.{◌≡◌, IfOk};
 
+use crate::guarded::Guarded;
 use crate::listener::Listener;
 use crate::waiters::{Call, Waiters};
 use async_task::{NoMemory, Wake};
 use std::alloc::Global;
-use std::sync::{Arc, Mutex, Wait};
+use std::sync::{Arc, Wait};
 
 /// An event that futures wait for, as many as memory holds. After `Event` of `event-listener`. A call tells one who listens, the
 /// one who came first, or all; it stays that one's until it is used or passed on, and one with nobody to hear it is gone. So
@@ -27,7 +28,7 @@ where
     K: Wake + Drop,
     R: Wait + Copy + Drop,
 {
-    waiters: Arc<Mutex<Waiters<K>>>,
+    waiters: Arc<Guarded<Waiters<K>>>,
     rt: R,
 }
 
@@ -37,8 +38,10 @@ where
     R: Wait + Copy + Drop,
 {
     /// An event for which nobody waits.
-    pub fn new(rt: R, alloc: Global) -> Result<Self, NoMemory> {
-        match Arc::new(alloc, Mutex::new(Waiters::new(alloc))) {
+    pub fn new(rt: R, alloc: Global) -> Result<Self, NoMemory>
+        ensures { IfOk result (λ event. event.rt ≡ rt) }
+    {
+        match Arc::new(alloc, Guarded::new(Waiters::new(alloc))) {
             Ok(waiters) => Ok(Event { waiters, rt }),
             Err(_) => Err(NoMemory),
         }
@@ -97,7 +100,7 @@ where
         let _ = reach(told);
     }
 
-    pub(crate) fn waiters(&self) -> &Mutex<Waiters<K>> {
+    pub(crate) fn waiters(&self) -> &Guarded<Waiters<K>> {
         &*self.waiters
     }
 }

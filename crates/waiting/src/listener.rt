@@ -2,7 +2,7 @@ ghost use Rattle.async_task.specs.declared.poll.Poll.TheVariants as poll;
 ghost use Rattle.std.specs.Prelude.{◌≡◌, None, Some, IsSome};
 
 use crate::event::Event;
-use crate::waiters::{Left, Listening, Looked};
+use crate::waiters::{Left, Listening, Looked, WasTold};
 use async_task::{Future, Poll, Wake};
 use std::mem;
 use std::sync::Wait;
@@ -19,6 +19,8 @@ where
     event: Event<K, R>,
     rt: R,
     listening: Option<Listening>,
+    // From its first answer on.
+    told: Option<WasTold>,
 }
 
 impl<K, R> Listener<K, R>
@@ -34,6 +36,7 @@ where
             event,
             rt,
             listening: Some(listening),
+            told: None,
         }
     }
 }
@@ -64,7 +67,8 @@ where
     fn poll(&mut self, waker: &K) -> Poll<()>
         ensures event { self.new.event ≡ self.old.event }
         ensures again { self.old.listening ≡ None → result ≡ poll.Ready tt }
-        ensures told { result ≡ poll.Ready tt → self.new.listening ≡ None }
+        ensures over { result ≡ poll.Ready tt → self.new.listening ≡ None }
+        ensures told { IsSome self.old.listening → result ≡ poll.Ready tt → IsSome self.new.told }
         ensures waits { result ≡ poll.Pending → IsSome self.new.listening }
     {
         let Some(listening) = self.listening.take() else {
@@ -75,7 +79,7 @@ where
         let looked = self.event.waiters().lock(&self.rt).look(listening, copy);
         match looked {
             Looked::Told(call, _waker) => {
-                call.take();
+                self.told = Some(call.take());
                 Poll::Ready(())
             }
             Looked::Waits(listening, _before) => {
@@ -101,6 +105,7 @@ where
             event,
             rt,
             listening,
+            told: _told,
         } = self;
         if let Some(listening) = listening {
             leave(&rt, &event, listening);

@@ -1,11 +1,13 @@
 //! One value, from one sender to one receiver. After `oneshot` of `futures`.
 ghost use Rattle.std.specs.Arc.{arc_value};
-ghost use Rattle.std.specs.Prelude.{◌≡◌, IfErr, IfOk};
+ghost use Rattle.async_task.specs.declared.poll.Poll.TheVariants as poll;
+ghost use Rattle.std.specs.Prelude.{◌≡◌, Err, None, IfErr, IfOk, IsSome};
 
-use crate::slot::{Received, Slot};
+use crate::guarded::Guarded;
+use crate::slot::{Over, Received, Slot};
 use async_task::{Future, NoMemory, Poll, Wake};
 use std::alloc::Global;
-use std::sync::{Arc, Mutex, Wait};
+use std::sync::{Arc, Wait};
 
 /// No value comes: the sender went without sending, or the value was taken by an earlier poll.
 #[derive(Clone, Copy, Debug, PartialEq, Eq, Drop)]
@@ -18,7 +20,7 @@ where
     K: Wake + Drop,
     R: Wait + Copy + Drop,
 {
-    slot: Arc<Mutex<Slot<T, K>>>,
+    slot: Arc<Guarded<Slot<T, K>>>,
     rt: R,
 }
 
@@ -31,8 +33,10 @@ where
     K: Wake + Drop,
     R: Wait + Copy + Drop,
 {
-    slot: Arc<Mutex<Slot<T, K>>>,
+    slot: Arc<Guarded<Slot<T, K>>>,
     rt: R,
+    // Once it has answered that no value comes.
+    over: Option<Over>,
 }
 
 /// A sender and its receiver. It takes memory for the place of the value, and no call after that does.
@@ -53,11 +57,11 @@ where
     R: Wait + Copy + Drop,
     ensures { IfOk result (λ ends. arc_value ends.0.slot ≡ arc_value ends.1.slot) }
 {
-    let Ok(slot) = Arc::new(alloc, Mutex::new(Slot::Empty)) else {
+    let Ok(slot) = Arc::new(alloc, Guarded::new(Slot::Empty)) else {
         return Err(NoMemory);
     };
     match Arc::try_clone(&slot) {
-        Ok(same) => Ok((Sender { slot, rt }, Receiver { slot: same, rt })),
+        Ok(same) => Ok((Sender { slot, rt }, Receiver::of(same, rt))),
         Err(_) => Err(NoMemory),
     }
 }
@@ -100,6 +104,24 @@ where
     }
 }
 
+impl<T, K, R> Receiver<T, K, R>
+where
+    T: Drop,
+    K: Wake + Drop,
+    R: Wait + Copy + Drop,
+{
+    fn of(slot: Arc<Guarded<Slot<T, K>>>, rt: R) -> Self
+        ensures slot { result.slot ≡ slot }
+        ensures over { result.over ≡ None }
+    {
+        Receiver {
+            slot,
+            rt,
+            over: None,
+        }
+    }
+}
+
 impl<T, K, R> Future<K> for Receiver<T, K, R>
 where
     T: Drop,
@@ -110,13 +132,17 @@ where
 
     fn poll(&mut self, waker: &K) -> Poll<Result<T, Canceled>>
         ensures slot { self.new.slot ≡ self.old.slot }
+        ensures over { result ≡ poll.Ready (Err (record {})) → IsSome self.new.over }
     {
         let copy = waker.clone();
         let is_left = copy.is_some();
         let received = self.slot.lock(&self.rt).receive(copy);
         match received {
             Received::Value(value, _copy) => Poll::Ready(Ok(value)),
-            Received::Ended(_copy) => Poll::Ready(Err(Canceled)),
+            Received::Ended(over, _copy) => {
+                self.over = Some(over);
+                Poll::Ready(Err(Canceled))
+            }
             Received::Waits(_before) => {
                 if !is_left {
                     waker.wake_by_ref();
@@ -134,7 +160,11 @@ where
     R: Wait + Copy + Drop,
 {
     fn drop(self) {
-        let Receiver { slot, rt } = self;
+        let Receiver {
+            slot,
+            rt,
+            over: _over,
+        } = self;
         let left = slot.lock(&rt).close();
         drop(left);
     }

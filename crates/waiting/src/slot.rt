@@ -26,7 +26,14 @@ pub enum Received<T, K> {
     /// None came. The waker that was left before.
     Waits(Option<K>),
     /// None is to come. The waker that wasn't left.
-    Ended(Option<K>),
+    Ended(Over, Option<K>),
+}
+
+/// That the place was found closed: so it stays.
+#[derive(Drop)]
+pub struct Over {
+    // None is made elsewhere.
+    own: (),
 }
 
 impl<T: Drop, K: Drop> Slot<T, K> {
@@ -60,7 +67,7 @@ impl<T: Drop, K: Drop> Slot<T, K> {
     {
         match mem::replace(self, Slot::Closed) {
             Slot::Full(value) => Received::Value(value, waker),
-            Slot::Closed => Received::Ended(waker),
+            Slot::Closed => Received::Ended(Over { own: () }, waker),
             Slot::Empty => {
                 *self = Slot::of(waker);
                 Received::Waits(None)

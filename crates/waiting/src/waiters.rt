@@ -46,10 +46,18 @@ pub enum Left<K> {
     Told(Call),
 }
 
+/// That one was told: it has taken a call.
+#[derive(Drop)]
+pub struct WasTold {
+    // None is made elsewhere.
+    own: (),
+}
+
 impl Call {
     /// Takes the call: who was told goes on.
-    pub fn take(self) {
-        let Call { own: () } = self;
+    pub fn take(self) -> WasTold {
+        let Call { own } = self;
+        WasTold { own }
     }
 }
 
@@ -128,7 +136,7 @@ impl<K> Waiters<K> {
         ensures first { result ≡ first_waker self.old.waiting }
         ensures told { self.new ≡ told self.old }
     {
-        call.take();
+        let _taken = call.take();
         self.tell()
     }
 

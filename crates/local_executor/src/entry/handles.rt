@@ -44,7 +44,9 @@ where
 }
 
 impl<T: Drop, W: Wake + Drop, R: Wait + Copy + Drop> LocalHandle<T, W, R> {
-    pub(crate) fn of(held: Held<T, W, R>) -> Self {
+    pub(crate) fn of(held: Held<T, W, R>) -> Self
+        ensures { result.held ≡ held }
+    {
         LocalHandle { held }
     }
 
@@ -61,7 +63,8 @@ impl<T: Drop, W: Wake + Drop, R: Wait + Copy + Drop> LocalHandle<T, W, R> {
 
     /// What closes the task when it is first polled, and then has the output where there was one.
     pub fn cancel(self) -> LocalCancel<T, W, R>
-        ensures { result.is_cancelled ≡ false }
+        ensures held { result.held ≡ self.held }
+        ensures open { result.is_cancelled ≡ false }
     {
         let LocalHandle { held } = self;
         LocalCancel {
@@ -71,7 +74,9 @@ impl<T: Drop, W: Wake + Drop, R: Wait + Copy + Drop> LocalHandle<T, W, R> {
     }
 
     /// The same handle, which has None for an output where the task is closed.
-    pub fn fallible(self) -> LocalFallible<T, W, R> {
+    pub fn fallible(self) -> LocalFallible<T, W, R>
+        ensures { result.held ≡ self.held }
+    {
         let LocalHandle { held } = self;
         LocalFallible { held }
     }
@@ -91,7 +96,8 @@ impl<T: Drop, W: Wake + Drop, R: Wait + Copy + Drop> LocalFallible<T, W, R> {
 
     /// What closes the task when it is first polled, and then has the output where there was one.
     pub fn cancel(self) -> LocalCancel<T, W, R>
-        ensures { result.is_cancelled ≡ false }
+        ensures held { result.held ≡ self.held }
+        ensures open { result.is_cancelled ≡ false }
     {
         let LocalFallible { held } = self;
         LocalCancel {
@@ -109,7 +115,9 @@ where
 {
     type Output = Result<T, TaskError>;
 
-    fn poll(&mut self, waker: &LocalExWaker<W, R>) -> Poll<Result<T, TaskError>> {
+    fn poll(&mut self, waker: &LocalExWaker<W, R>) -> Poll<Result<T, TaskError>>
+        ensures { self.new.held ≡ self.old.held }
+    {
         match self.held.poll(waker, &mut Unlocked::at_entry()) {
             Found::Output(output) => Poll::Ready(Ok(output.into_given())),
             Found::Closed => Poll::Ready(Err(TaskError::TaskClosed)),
@@ -127,7 +135,9 @@ where
 {
     type Output = Result<Option<T>, NoMemory>;
 
-    fn poll(&mut self, waker: &LocalExWaker<W, R>) -> Poll<Result<Option<T>, NoMemory>> {
+    fn poll(&mut self, waker: &LocalExWaker<W, R>) -> Poll<Result<Option<T>, NoMemory>>
+        ensures { self.new.held ≡ self.old.held }
+    {
         found(self.held.poll(waker, &mut Unlocked::at_entry()))
     }
 }
@@ -142,7 +152,8 @@ where
 
     /// Refused too, it has cancelled.
     fn poll(&mut self, waker: &LocalExWaker<W, R>) -> Poll<Result<Option<T>, NoMemory>>
-        ensures { self.new.is_cancelled ≡ true }
+        ensures held { self.new.held ≡ self.old.held }
+        ensures cancelled { self.new.is_cancelled ≡ true }
     {
         let mut unlocked = Unlocked::at_entry();
         if !self.is_cancelled {

@@ -40,6 +40,7 @@ where
     where
         R: RandomSource,
         requires { 0 < limit }
+        ensures { IfOk result (λ executor. executor.body.link.rt ≡ rt) }
     {
         match making::body(rt, alloc, limit, Kind::Static) {
             Ok(body) => Ok(StaticLocalExecutor { body }),
@@ -51,7 +52,8 @@ where
     /// cancels the task. `Full` where as many accepted futures as the limit are not dropped yet, and only then want of memory
     /// for the task. The future comes back.
     pub fn spawn(&self, future: F) -> Result<LocalHandle<T, W, R>, SpawnError<F>>
-        ensures { IfErr result (λ error. refused error ≡ future) }
+        ensures back { IfErr result (λ error. refused error ≡ future) }
+        ensures here { IfOk result (λ handle. handle.held.link.id ≡ self.now.body.link.id) }
     {
         self.spawn_marked(future, Mark::Plain)
     }
@@ -59,7 +61,8 @@ where
     /// As `spawn`, with this mark. An urgent future's task goes into the urgent queue, which seven of eight searches look at
     /// before the other.
     pub fn spawn_marked(&self, future: F, mark: Mark) -> Result<LocalHandle<T, W, R>, SpawnError<F>>
-        ensures { IfErr result (λ error. refused error ≡ future) }
+        ensures back { IfErr result (λ error. refused error ≡ future) }
+        ensures here { IfOk result (λ handle. handle.held.link.id ≡ self.now.body.link.id) }
     {
         self.body.hand_in(future, mark, &mut Unlocked::at_entry())
     }
@@ -71,7 +74,8 @@ where
 
     /// A future that waits for a future of the executor which is to be polled, and polls it once.
     pub fn tick(&self) -> Result<LocalTick<'_, F, T, W, R>, NoMemory>
-        ensures { IfOk result (λ tick. IsSome tick.ticker) }
+        ensures here { IfOk result (λ tick. tick.executor.now ≡ self.now.body) }
+        ensures ticker { IfOk result (λ tick. IsSome tick.ticker) }
     {
         self.body.make_tick(&mut Unlocked::at_entry())
     }
@@ -81,6 +85,7 @@ where
     pub fn run<G>(&self, future: G) -> Result<LocalRun<'_, F, T, W, R, G>, G>
     where
         G: Future<LocalExWaker<W, R>> + Drop,
+        ensures here { IfOk result (λ run. run.executor.now ≡ self.now.body) }
         ensures back { IfErr result (λ back. back ≡ future) }
         ensures future { IfOk result (λ run. run.future ≡ Some future) }
         ensures starts { IfOk result (λ run. run.starts ≡ drawn (seeded 0)) }
@@ -92,6 +97,7 @@ where
     pub fn run_from<G>(&self, future: G, seed: u64) -> Result<LocalRun<'_, F, T, W, R, G>, G>
     where
         G: Future<LocalExWaker<W, R>> + Drop,
+        ensures here { IfOk result (λ run. run.executor.now ≡ self.now.body) }
         ensures back { IfErr result (λ back. back ≡ future) }
         ensures future { IfOk result (λ run. run.future ≡ Some future) }
         ensures starts { IfOk result (λ run. run.starts ≡ drawn (seeded seed)) }

@@ -44,7 +44,10 @@ impl<W: Wake + Drop, R: Wait + Copy + Drop> Drop for LocalWaker<W, R> {
 }
 
 impl<W: Wake + Drop, R: Wait + Copy + Drop> Wake for LocalWaker<W, R> {
-    ghost is_same = { λ a b. Unit {0} };
+    ghost use Rattle.std.specs.Prelude.{◌↔◌, IsTrue, IfSome};
+    ghost use Rattle.local_executor.specs.Wakers.{IsOfOneTask};
+
+    ghost is_same = { λ a b. IsOfOneTask a b };
 
     /// Queues the task, where it is open and idle. It takes no memory.
     fn wake(self) {
@@ -57,7 +60,9 @@ impl<W: Wake + Drop, R: Wait + Copy + Drop> Wake for LocalWaker<W, R> {
     }
 
     /// One more, or None where the task has 2^40 references already.
-    fn clone(&self) -> Option<Self> {
+    fn clone(&self) -> Option<Self>
+        ensures { IfSome result (λ copy. IsOfOneTask copy self.now) }
+    {
         if self.link.hold(self.task, &mut Unlocked::at_entry()) {
             Some(LocalWaker {
                 link: self.link.share(),
@@ -69,20 +74,30 @@ impl<W: Wake + Drop, R: Wait + Copy + Drop> Wake for LocalWaker<W, R> {
     }
 
     /// Whether both are of one task.
-    fn will_wake(&self, other: &Self) -> bool {
+    fn will_wake(&self, other: &Self) -> bool
+        ensures { IsTrue result ↔ IsOfOneTask self.now other.now }
+    {
         self.task == other.task && self.link.is_to_the_same(&other.link)
     }
 }
 
 /// So that `block_on` of `blocking` polls handles and ticks.
 impl<W: Wake + Drop, R: Wait + Copy + Drop> From<W> for LocalExWaker<W, R> {
+    ghost use Rattle.std.specs.Prelude.{◌≡◌};
+    ghost use Rattle.local_executor.specs.declared.entry.wakers.LocalExWaker.TheVariants.{Outside};
+
+    ghost from_gives = { λ waker given. given ≡ Outside waker };
+
     fn from(waker: W) -> Self {
         LocalExWaker::Outside(waker)
     }
 }
 
 impl<W: Wake + Drop, R: Wait + Copy + Drop> Wake for LocalExWaker<W, R> {
-    ghost is_same = { λ a b. Unit {0} };
+    ghost use Rattle.std.specs.Prelude.{IsTrue, IfSome};
+    ghost use Rattle.local_executor.specs.Wakers.{WakeTheSame};
+
+    ghost is_same = { λ a b. WakeTheSame W.is_same a b };
 
     fn wake(self) {
         match self {
@@ -98,7 +113,9 @@ impl<W: Wake + Drop, R: Wait + Copy + Drop> Wake for LocalExWaker<W, R> {
         }
     }
 
-    fn clone(&self) -> Option<Self> {
+    fn clone(&self) -> Option<Self>
+        ensures { IfSome result (λ copy. WakeTheSame W.is_same copy self.now) }
+    {
         match self {
             LocalExWaker::Task(waker) => match waker.clone() {
                 Some(copy) => Some(LocalExWaker::Task(copy)),
@@ -112,7 +129,9 @@ impl<W: Wake + Drop, R: Wait + Copy + Drop> Wake for LocalExWaker<W, R> {
     }
 
     /// Whether both wake the same, as far as it can tell: a no says nothing.
-    fn will_wake(&self, other: &Self) -> bool {
+    fn will_wake(&self, other: &Self) -> bool
+        ensures { IsTrue result → WakeTheSame W.is_same self.now other.now }
+    {
         match (self, other) {
             (LocalExWaker::Task(one), LocalExWaker::Task(two)) => one.will_wake(two),
             (LocalExWaker::Outside(one), LocalExWaker::Outside(two)) => one.will_wake(two),

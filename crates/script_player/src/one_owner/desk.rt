@@ -5,8 +5,8 @@ use crate::one_owner::runs::ScriptRun;
 use crate::one_owner::store::{ScriptFuture, Store};
 use crate::one_owner::ticks::ScriptTick;
 use crate::one_owner::waker::{LentWaker, ScriptWaker, TaskWaker};
-use crate::{Answer, Bell, Desk, Own, Plan, Refused, SharedShelf, scripted};
 use async_task::{Future, Poll};
+use player_parts::{Answer, Bell, Desk, Own, Plan, Refused, SharedShelf, future_of};
 use script::Name;
 use solo::{Back, Found, Lent, SpawnError, Spawned, Taken};
 use std::sync::Wait;
@@ -28,7 +28,7 @@ pub struct OnSolo<'a, R: Wait + Copy + Drop> {
 impl<R: Wait + Copy + Drop> Desk<Handle<R>, ScriptTick<R>, ScriptRun<R>> for OnSolo<'_, R> {
     fn spawn(&self, plan: Plan<Handle<R>>) -> Result<Handle<R>, Refused<Handle<R>>> {
         let mark = plan.mark;
-        let future = scripted(self.shelf, plan)?;
+        let future = future_of(self.shelf, plan)?;
         let name = future.name;
         let spawned = self.link.tasks().spawn(name, mark);
         match spawned {

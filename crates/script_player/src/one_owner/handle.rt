@@ -1,7 +1,7 @@
 //! The handles of a script's futures.
 use crate::one_owner::link::Link;
 use crate::one_owner::waker::{ScriptWaker, copy_for};
-use crate::{Answer, Await, Bell, Gift, Hold};
+use player_parts::{Answer, Await, Bell, Gift, Hold};
 use solo::{Polled, SoloWaker, Task};
 use std::sync::Wait;
 

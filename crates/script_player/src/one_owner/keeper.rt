@@ -1,6 +1,6 @@
 //! Who calls the kept wakers of a script's futures, and lets them go.
 use crate::one_owner::waker::TaskWaker;
-use crate::{Keep, SharedShelf};
+use player_parts::{Keep, SharedShelf};
 use script::Name;
 use std::sync::Wait;
 

@@ -1,8 +1,8 @@
 //! The executor of a script, as its desk, its handles and its wakers share it, and what follows its calls.
 ghost use Rattle.std.specs.Prelude.{◌≡◌, ◌<◌, None};
 
-use crate::{Bell, Gift};
 use async_task::Wake;
+use player_parts::{Bell, Gift};
 use script::Name;
 use solo::{Dropped, Kind, Lent, Owed, Solo, SoloWaker, Task, Told};
 use std::alloc::Global;

@@ -9,7 +9,7 @@ use crate::one_owner::runs::ScriptRun;
 use crate::one_owner::store::Store;
 use crate::one_owner::ticks::ScriptTick;
 use crate::one_owner::waker::TaskWaker;
-use crate::{
+use player_parts::{
     Answer, Handles, PlayError, Player, Shared, SharedShelf, Shelf, Stage, Stop, play_closed,
     play_on, read_whole, show_end,
 };

@@ -1,7 +1,7 @@
 //! The futures of a script that aren't dropped.
 use crate::one_owner::handle::Handle;
 use crate::one_owner::waker::TaskWaker;
-use crate::{Scripted, Shared};
+use player_parts::{Scripted, Shared};
 use script::Name;
 use std::alloc::Global;
 use std::cell::RefCell;

@@ -2,7 +2,7 @@
 use crate::one_owner::desk::OnSolo;
 use crate::one_owner::link::Link;
 use crate::one_owner::waker::{ScriptWaker, copy_for};
-use crate::{Answer, Bell};
+use player_parts::{Answer, Bell};
 use script::Name;
 use solo::{Found, Look, SoloWaker, Ticked, Ticker, Told};
 use std::mem;

@@ -1,7 +1,8 @@
 //! The wakers that a script's futures, handles, ticks and runs are polled with.
 use crate::one_owner::link::Link;
-use crate::{Bell, KeptOf};
 use async_task::Wake;
+use player_parts::{Bell, KeptOf, Shelf};
+use script::Name;
 use solo::{SoloWaker, Task};
 use std::sync::Wait;
 
@@ -52,6 +53,10 @@ impl<R: Wait + Copy + Drop> KeptOf<ScriptWaker<R>> for TaskWaker<R> {
             ScriptWaker::Task(waker) => copy_of_task(waker),
             ScriptWaker::Outside(_) => None,
         }
+    }
+
+    fn keep_none(shelf: &Shelf<TaskWaker<R>>, name: Name) {
+        drop(shelf.take_kept(name));
     }
 }
 

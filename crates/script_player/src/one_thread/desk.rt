@@ -1,12 +1,12 @@
 //! The executors of a script.
 use crate::one_thread::handle::{Handle, Kept};
-use crate::{
-    Answer, Bell, Desk, Gift, Own, Plan, Refused, Scripted, SharedShelf, answer_of_tick, scripted,
-};
 use async_task::{Future, Poll};
 use local_executor::{
     LocalExWaker, LocalExecutor, LocalHandle, LocalRun, LocalTick, RunError, SpawnError,
     StaticLocalExecutor,
+};
+use player_parts::{
+    Answer, Bell, Desk, Gift, Own, Plan, Refused, Scripted, SharedShelf, answer_of_tick, future_of,
 };
 use std::sync::Wait;
 
@@ -45,7 +45,7 @@ where
 {
     fn spawn(&self, plan: Plan<Handle<R>>) -> Result<Handle<R>, Refused<Handle<R>>> {
         let mark = plan.mark;
-        let future = scripted(self.shelf, plan)?;
+        let future = future_of(self.shelf, plan)?;
         let spawned = match &self.executor {
             OneOf::Owned(executor) => executor.spawn_marked(future, mark),
             OneOf::Static(executor) => executor.spawn_marked(future, mark),

@@ -1,7 +1,10 @@
 //! The handles of a script's futures, and what is kept of their wakers.
-use crate::{Answer, Await, Bell, Gift, Hold, KeptOf, answer_of_cancel, answer_of_task};
 use async_task::{Future, Wake};
 use local_executor::{LocalCancel, LocalExWaker, LocalHandle, LocalWaker};
+use player_parts::{
+    Answer, Await, Bell, Gift, Hold, KeptOf, Shelf, answer_of_cancel, answer_of_task,
+};
+use script::Name;
 use std::sync::Wait;
 
 /// The waker that a script's futures, handles, ticks and runs are polled with.
@@ -60,5 +63,9 @@ impl<R: Wait + Copy + Drop> KeptOf<ScriptWaker<R>> for Kept<R> {
             Some(LocalExWaker::Task(waker)) => Some(Kept { waker }),
             _ => None,
         }
+    }
+
+    fn keep_none(shelf: &Shelf<Kept<R>>, name: Name) {
+        drop(shelf.take_kept(name));
     }
 }

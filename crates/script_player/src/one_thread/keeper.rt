@@ -1,7 +1,7 @@
 //! Who calls the kept wakers of a script's futures, and lets them go.
 use crate::one_thread::handle::Kept;
-use crate::{Keep, SharedShelf};
 use async_task::Wake;
+use player_parts::{Keep, SharedShelf};
 use script::Name;
 use std::sync::Wait;
 

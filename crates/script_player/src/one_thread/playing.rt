@@ -6,11 +6,11 @@ use crate::one_thread::desk::{
 };
 use crate::one_thread::handle::{Handle, Kept};
 use crate::one_thread::keeper::Keeper;
-use crate::{
+use local_executor::{LocalExecutor, StaticLocalExecutor};
+use player_parts::{
     Answer, Handles, PlayError, Player, Shared, SharedShelf, Shelf, Stage, Stop, play_closed,
     play_on, read_whole, show_end,
 };
-use local_executor::{LocalExecutor, StaticLocalExecutor};
 use script::{Command, Word};
 use std::alloc::Global;
 use std::random::RandomSource;

@@ -2,7 +2,7 @@
 ghost use Rattle.std.specs.Prelude.{◌≡◌, ◌<◌, ◌≤◌, IfErr, IfOk, IfSome, Some};
 ghost use Rattle.waiting.specs.Sending.{try_sent};
 
-use crate::channel::errors::{TryRecvError, TrySendError};
+use crate::channel::errors::TrySendError;
 use crate::event::Event;
 use async_task::{NoMemory, Wake};
 use concurrent_queue::{ConcurrentQueue, PopError, PushError};
@@ -22,9 +22,29 @@ pub struct Came {
     own: (),
 }
 
+/// That a message was sent: it came, and one who waits for it was told.
+#[derive(Drop)]
+pub struct Sent {
+    own: (),
+}
+
 /// That a place came free: one who waits for it is told.
 #[must_use]
 pub struct Freed {
+    own: (),
+}
+
+/// Why there is no message.
+pub enum Nothing {
+    /// None is there yet.
+    Empty,
+    /// None is left, and none comes any more.
+    Over(Ended),
+}
+
+/// That the channel was found closed, with no message left: so it stays.
+#[derive(Drop)]
+pub struct Ended {
     own: (),
 }
 
@@ -59,11 +79,11 @@ impl<T: Drop> Line<T> {
     }
 
     /// Takes the oldest message.
-    pub fn pop<R: Wait>(&self, rt: &R) -> Result<(T, Freed), TryRecvError> {
+    pub fn pop<R: Wait>(&self, rt: &R) -> Result<(T, Freed), Nothing> {
         match self.queue.pop(rt) {
             Ok(message) => Ok((message, Freed { own: () })),
-            Err(PopError::Empty) => Err(TryRecvError::Empty),
-            Err(PopError::Closed) => Err(TryRecvError::Closed),
+            Err(PopError::Empty) => Err(Nothing::Empty),
+            Err(PopError::Closed) => Err(Nothing::Over(Ended { own: () })),
         }
     }
 
@@ -84,13 +104,14 @@ impl<T: Drop> Line<T> {
 
 impl Came {
     /// Tells one who waits for a message.
-    pub fn tell<K, R>(self, messages: &Event<K, R>)
+    pub fn tell<K, R>(self, messages: &Event<K, R>) -> Sent
     where
         K: Wake + Drop,
         R: Wait + Copy + Drop,
     {
-        let Came { own: () } = self;
+        let Came { own } = self;
         messages.notify();
+        Sent { own }
     }
 }
 

@@ -1,8 +1,10 @@
 ghost use Rattle.std.specs.Arc.{arc_value};
-ghost use Rattle.std.specs.Prelude.{◌≡◌, ◌≤◌, None, IfOk, IfSome, IsSome};
+ghost use Rattle.std.specs.Prelude.{◌≡◌, ◌≤◌, Err, None, IfOk, IfSome, IsSome};
 ghost use Rattle.async_task.specs.declared.poll.Poll.TheVariants as poll;
+ghost use Rattle.waiting.specs.declared.channel.errors.RecvError.TheVariants as recv;
 
 use crate::channel::errors::{RecvError, TryRecvError};
+use crate::channel::line::{Ended, Nothing};
 use crate::channel::shared::{Shared, Turn, go_on};
 use crate::listener::Listener;
 use async_task::{Future, NoMemory, Poll, Wake};
@@ -18,6 +20,8 @@ where
 {
     shared: Arc<Shared<T, K, R>>,
     waiting: Option<Listener<K, R>>,
+    // Once it has answered that nothing comes any more.
+    ended: Option<Ended>,
 }
 
 /// Receives a message: a future that is ready once one came, or the channel is closed and empty. Dropped before, it takes none.
@@ -44,6 +48,7 @@ where
         Receiver {
             shared,
             waiting: None,
+            ended: None,
         }
     }
 
@@ -62,17 +67,24 @@ where
 
     /// Takes the oldest message, where one is there, and tells one who waits for its place. It takes no memory.
     pub fn try_recv(&self) -> Result<T, TryRecvError> {
-        self.shared.try_recv()
+        match self.shared.try_recv() {
+            Ok(message) => Ok(message),
+            Err(Nothing::Empty) => Err(TryRecvError::Empty),
+            Err(Nothing::Over(_ended)) => Err(TryRecvError::Closed),
+        }
     }
 
     /// Receives a message, and waits for one.
-    pub fn recv(&mut self) -> Recv<'_, T, K, R> {
+    pub fn recv(&mut self) -> Recv<'_, T, K, R>
+        ensures { result.receiver.ghost_name ≡ self.entry.ghost_name }
+    {
         Recv { receiver: self }
     }
 
     /// As the poll of `recv`, for a future that has the receiver in a field. It takes memory where it has to wait.
     pub fn poll_recv(&mut self, waker: &K) -> Poll<Result<T, RecvError>>
         ensures waits { result ≡ poll.Pending → IsSome self.new.waiting }
+        ensures over { result ≡ poll.Ready (Err recv.Closed) → IsSome self.new.ended }
     {
         for _ in self.shared.rt().forever() {
             match self.shared.try_recv() {
@@ -80,11 +92,12 @@ where
                     self.waiting = None;
                     return Poll::Ready(Ok(message));
                 }
-                Err(TryRecvError::Closed) => {
+                Err(Nothing::Over(ended)) => {
                     self.waiting = None;
+                    self.ended = Some(ended);
                     return Poll::Ready(Err(RecvError::Closed));
                 }
-                Err(TryRecvError::Empty) => {}
+                Err(Nothing::Empty) => {}
             }
             match go_on(self.shared.messages(), &mut self.waiting, waker) {
                 Ok(Turn::Looks) => {}
@@ -117,7 +130,11 @@ where
 {
     /// Leaves those who wait, and closes the channel where it is the last receiver.
     fn drop(self) {
-        let Receiver { shared, waiting } = self;
+        let Receiver {
+            shared,
+            waiting,
+            ended: _ended,
+        } = self;
         drop(waiting);
         if shared.receivers.fetch_sub(1, SeqCst) == 1 {
             shared.close();
@@ -133,7 +150,11 @@ where
 {
     type Output = Result<T, RecvError>;
 
-    fn poll(&mut self, waker: &K) -> Poll<Result<T, RecvError>> {
+    fn poll(&mut self, waker: &K) -> Poll<Result<T, RecvError>>
+        ensures receiver { self.new.receiver.ghost_name ≡ self.old.receiver.ghost_name }
+        ensures waits { result ≡ poll.Pending → IsSome self.new.receiver.now.waiting }
+        ensures over { result ≡ poll.Ready (Err recv.Closed) → IsSome self.new.receiver.now.ended }
+    {
         self.receiver.poll_recv(waker)
     }
 }

@@ -1,9 +1,10 @@
 ghost use Rattle.std.specs.Arc.{arc_value};
-ghost use Rattle.std.specs.Prelude.{◌≡◌, None, Some, IfErr, IfOk, Ok};
+ghost use Rattle.std.specs.Prelude.{◌≡◌, None, Some, IfErr, IfOk, IsSome, Ok};
 ghost use Rattle.async_task.specs.declared.poll.Poll.TheVariants as poll;
 ghost use Rattle.waiting.specs.Sending.{try_sent, HasTried, IsBack, IsSentOrBack};
 
 use crate::channel::errors::{SendError, TrySendError};
+use crate::channel::line::Sent;
 use crate::channel::shared::{Shared, Turn, go_on};
 use crate::listener::Listener;
 use async_task::{Future, NoMemory, Poll, Wake};
@@ -32,11 +33,13 @@ where
 {
     sender: &'a mut Sender<T, K, R>,
     message: Option<T>,
+    // Once it was sent.
+    sent: Option<Sent>,
 }
 
 /// What a try to send came to.
 pub(crate) enum Tried<T> {
-    Sent,
+    Sent(Sent),
     Refused(SendError<T>),
     /// No place is free, and the waker is called when one is.
     Waits(T),
@@ -77,16 +80,21 @@ where
     pub fn try_send(&self, message: T) -> Result<(), TrySendError<T>>
         ensures { IfErr result (λ error. try_sent error ≡ message) }
     {
-        self.shared.try_send(message)
+        match self.shared.try_send(message) {
+            Ok(_sent) => Ok(()),
+            Err(error) => Err(error),
+        }
     }
 
     /// Sends a message, and waits for a place.
     pub fn send(&mut self, message: T) -> Send<'_, T, K, R>
-        ensures { result.message ≡ Some message }
+        ensures message { result.message ≡ Some message }
+        ensures sender { result.sender.ghost_name ≡ self.entry.ghost_name }
     {
         Send {
             sender: self,
             message: Some(message),
+            sent: None,
         }
     }
 
@@ -104,7 +112,7 @@ where
             return Poll::Ready(Ok(()));
         };
         match self.try_until_it_waits(waker, item) {
-            Tried::Sent => Poll::Ready(Ok(())),
+            Tried::Sent(_sent) => Poll::Ready(Ok(())),
             Tried::Waits(item) | Tried::Again(item) => {
                 *message = Some(item);
                 Poll::Pending
@@ -139,9 +147,9 @@ where
         ensures { HasTried item result }
     {
         let item = match self.shared.try_send(item) {
-            Ok(()) => {
+            Ok(sent) => {
                 self.waiting = None;
-                return Tried::Sent;
+                return Tried::Sent(sent);
             }
             Err(TrySendError::Closed(item)) => {
                 self.waiting = None;
@@ -190,12 +198,16 @@ where
     fn poll(&mut self, waker: &K) -> Poll<Result<(), SendError<T>>>
         ensures sent { IsBack self.old.message self.new.message result }
         ensures nothing { self.old.message ≡ None → result ≡ poll.Ready (Ok tt) }
+        ensures done { IsSome self.old.message → result ≡ poll.Ready (Ok tt) → IsSome self.new.sent }
     {
         let Some(item) = self.message.take() else {
             return Poll::Ready(Ok(()));
         };
         match self.sender.try_until_it_waits(waker, item) {
-            Tried::Sent => Poll::Ready(Ok(())),
+            Tried::Sent(sent) => {
+                self.sent = Some(sent);
+                Poll::Ready(Ok(()))
+            }
             Tried::Refused(error) => Poll::Ready(Err(error)),
             Tried::Waits(item) | Tried::Again(item) => {
                 self.message = Some(item);

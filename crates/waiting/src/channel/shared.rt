@@ -2,8 +2,8 @@ ghost use Rattle.std.specs.Prelude.{◌≡◌, ◌<◌, ◌≤◌, IfErr, IfOk, 
 ghost use Rattle.waiting.specs.Sending.{try_sent};
 ghost use Rattle.waiting.specs.declared.channel.shared.Turn.TheVariants as turn;
 
-use crate::channel::errors::{TryRecvError, TrySendError};
-use crate::channel::line::Line;
+use crate::channel::errors::TrySendError;
+use crate::channel::line::{Line, Nothing, Sent};
 use crate::event::Event;
 use crate::listener::Listener;
 use async_task::{Future, NoMemory, Poll, Wake};
@@ -59,26 +59,23 @@ where
     }
 
     /// Appends the message, and then tells one who waits for it.
-    pub fn try_send(&self, message: T) -> Result<(), TrySendError<T>>
+    pub fn try_send(&self, message: T) -> Result<Sent, TrySendError<T>>
         ensures { IfErr result (λ error. try_sent error ≡ message) }
     {
         match self.line.push(&self.rt, message) {
-            Ok(came) => {
-                came.tell(&self.messages);
-                Ok(())
-            }
+            Ok(came) => Ok(came.tell(&self.messages)),
             Err(error) => Err(error),
         }
     }
 
     /// Takes the oldest message, and then tells one who waits for its place.
-    pub fn try_recv(&self) -> Result<T, TryRecvError> {
+    pub fn try_recv(&self) -> Result<T, Nothing> {
         match self.line.pop(&self.rt) {
             Ok((message, freed)) => {
                 freed.tell(&self.places);
                 Ok(message)
             }
-            Err(error) => Err(error),
+            Err(nothing) => Err(nothing),
         }
     }
 

@@ -1,14 +1,11 @@
 //! What a script is played on.
 use crate::answer::Answer;
-use crate::future::Scripted;
 use crate::handle::Held;
 use crate::handles::SharedHandles;
 use crate::outside::Bell;
 use crate::own::Own;
-use crate::shelf::SharedShelf;
 use executor_parts::Mark;
 use script::{Item, Name};
-use std::rc::Rc;
 
 /// What a future is made of.
 #[derive(Drop)]
@@ -52,32 +49,4 @@ pub trait Desk<H: Drop, T: Drop, N: Drop> {
 
     /// Polls a run by an outside waker.
     fn poll_run(&self, run: &mut N, bell: Bell) -> Answer;
-}
-
-/// A future, as it is planned. Its wakers are kept on this shelf.
-pub fn scripted<H: Drop, S: Drop>(
-    shelf: &SharedShelf<S>,
-    plan: Plan<H>,
-) -> Result<Scripted<H, S>, Refused<H>> {
-    let Plan {
-        name,
-        mark: _,
-        items,
-        held,
-        handles,
-    } = plan;
-    match Rc::clone(shelf) {
-        Ok(shelf) => Ok(Scripted {
-            name,
-            items,
-            next: 0,
-            held,
-            handles,
-            shelf,
-        }),
-        Err(_) => Err(Refused {
-            answer: Answer::NoMemory,
-            held,
-        }),
-    }
 }

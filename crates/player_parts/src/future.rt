@@ -1,16 +1,21 @@
 //! The futures that a script spawns.
 use crate::answer::Answer;
+use crate::desk::{Plan, Refused};
 use crate::handle::{Await, Held, Hold, doubled};
 use crate::handles::SharedHandles;
 use crate::outside::{Bell, Gift};
-use crate::shelf::SharedShelf;
+use crate::shelf::{SharedShelf, Shelf};
 use async_task::{Future, Poll, Wake};
 use script::{Item, Name};
+use std::rc::Rc;
 
 /// What is kept of the wakers `W`.
 pub trait KeptOf<W>: Drop {
     /// A copy of this waker, where one can be had and is a task's.
     fn kept_of(waker: &W) -> Option<Self>;
+
+    /// Keeps none of the future of this name, in place of the one that was kept before, which goes.
+    fn keep_none(shelf: &Shelf<Self>, name: Name);
 }
 
 /// A future that does one item at each poll, the last at all later ones. Its polls and its drop are shown.
@@ -150,7 +155,7 @@ impl<H: Drop, S: Drop> Scripted<H, S> {
         S: KeptOf<W>,
     {
         if self.shelf.stage.asking.is_refused() {
-            drop(self.shelf.take_kept(self.name));
+            S::keep_none(&self.shelf, self.name);
         } else if let Some(kept) = S::kept_of(waker) {
             self.shelf.keep(self.name, kept);
         }
@@ -176,5 +181,33 @@ impl<H: Drop, S: Drop> Scripted<H, S> {
             }
         }
         None
+    }
+}
+
+/// A future, as it is planned. Its wakers are kept on this shelf.
+pub fn future_of<H: Drop, S: Drop>(
+    shelf: &SharedShelf<S>,
+    plan: Plan<H>,
+) -> Result<Scripted<H, S>, Refused<H>> {
+    let Plan {
+        name,
+        mark: _,
+        items,
+        held,
+        handles,
+    } = plan;
+    match Rc::clone(shelf) {
+        Ok(shelf) => Ok(Scripted {
+            name,
+            items,
+            next: 0,
+            held,
+            handles,
+            shelf,
+        }),
+        Err(_) => Err(Refused {
+            answer: Answer::NoMemory,
+            held,
+        }),
     }
 }

@@ -47,6 +47,15 @@ impl<S: Drop> Shelf<S> {
         }
     }
 
+    /// Keeps none of the future of this name. One that was kept goes to those in whose place others came.
+    pub fn keep_none(&self, name: Name) {
+        if let Some(old) = self.take_kept(name) {
+            if !self.put_replaced(old) {
+                self.stage.lack_memory();
+            }
+        }
+    }
+
     fn put_kept(&self, name: Name, waker: S) -> Result<Option<S>, AllocError> {
         match self.kept.try_borrow_mut() {
             Ok(mut kept) => match kept.insert(name, waker) {

@@ -264,7 +264,8 @@ module _ (p : ℕ) (end : Done) (rests : is_resting end.next ≡ true) (more : P
     -- no output comes by it
     pub cancel_outputs : t.output ≡ None → (task f whole).output ≡ None
     cancel_outputs none =
-        called_asks (λ t. t.output) (used_asks (λ t. t.output) outputs) f more (teller.outputs f) left.called (becomes wakes more f left.task r)
+        called_asks (λ t. t.output) (used_asks (λ t. t.output) outputs) f more (teller.outputs f) left.called
+        (becomes wakes more f left.task r)
         ∙ (by (is_some (info_of t left.task)) ∙ none)
       where
         put_so : (task f (put f left.task r)).output ≡ t.output

@@ -129,7 +129,8 @@ module _ (s : Machine) (p : ℕ) (reached : Reached s) (there : p < length s.par
           completed = k.live (omega (arith, waits));
           counted = omega (arith, waits, k.counted);
         },
-        entry (among f s.world.table) refl (omega (arith, waits, x.runs (omega (arith, waits)), x.stay open_still, x.table (inl open_still))),
+        entry (among f s.world.table) refl
+            (omega (arith, waits, x.runs (omega (arith, waits)), x.stay open_still, x.table (inl open_still))),
       )
     where
       resting : 1 ≤ (pend f s.parties).waiting → (b : Bool) → (task s.world f).running ≡ b → (task s.world f).running ≡ false

@@ -145,7 +145,8 @@ module _ (p : ℕ) (below : List Op) (under : is_resting below ≡ true) (end : 
           let tk : t ≡ view s aw = follows.tasks f is.known in
           let m = moves.end_pending_by false false false s in
           let new : AbstractTask Output Waker = record t { phase = abstract.Phase.Idle } in
-          let al : IsMove m s aw (record (view s aw) { phase = abstract.Phase.Idle }) = pends_as s aw is.polled false false false open_still woken last_one in
+          let al : IsMove m s aw (record (view s aw) { phase = abstract.Phase.Idle }) =
+          pends_as s aw is.polled false false false open_still woken last_one in
           let stored = follows.stored f is.known in
           let follows2 : Follows (world.put w f m.state) (put f new q) =
           puts w q follows f is.known m.state new

@@ -77,7 +77,8 @@ copied_lying : (a : Waker) (q : Plain Output Waker) → (plain.copied wakes a q)
 copied_lying (Outside x) q = refl
 copied_lying (Task g) q = put_lying g (abstract.copy (task g q)) q
 
-module _ (p : ℕ) (here : Option Waker) (below : List Op) (under : is_resting below ≡ true) (w : World) (q : Plain Output Waker) (follows : Follows w q) (c : Choice) (f : ℕ) (b : By)
+module _ (p : ℕ) (here : Option Waker) (below : List Op) (under : is_resting below ≡ true) (w : World) (q : Plain Output Waker)
+    (follows : Follows w q) (c : Choice) (f : ℕ) (b : By)
     (many : length q.lying ≤ c.tells) where
   abbrev a : Waker
   a = waker_of here b
@@ -181,7 +182,8 @@ module _ (p : ℕ) (here : Option Waker) (below : List Op) (under : is_resting b
       let none : (task f q).awaiter ≡ None =
       follows.calm f at
       (ap (λ (t : AbstractTask Output Waker). abstract.is_over t.phase) tk
-      ∙ finished_by s.completed s.closed s.scheduled s.running s.handle s.awaiter s.registering s.notifying s.references (waker_in aw) over) in
+      ∙ finished_by s.completed s.closed s.scheduled s.running s.handle s.awaiter s.registering s.notifying s.references
+      (waker_in aw) over) in
       let there : aw ≡ None = nobody_is aw (sym (ap (λ (t : AbstractTask Output Waker). t.awaiter) tk) ∙ none) in
       let stored = follows.stored f at in
       let free : s.awaiter ≡ false = stored.awaiter ∙ ap (λ (o : Option Awaiter). is_some o) there in
@@ -197,13 +199,16 @@ module _ (p : ℕ) (here : Option Waker) (below : List Op) (under : is_resting b
       let same : (abstract.poll a (task f q)).task ≡ new = ap (λ e. (abstract.poll_by e a (task f q)).task) is in
       subst (λ t. Leaves end (answers (Gives tt) (put f t q))) (sym same)
       (ends p below under end rests last q1 reply.Ready (hold.Handle f) (Gives tt) refl (logs w2 q1 follows2 (event.OutputGiven p f) refl)
-      (subst (λ x. Way p end last ((awaiter_ops f (moves.notify_other_if x) ++ op.End reply.Ready (hold.Handle f) ∷ []) ++ below)) free way))
+      (subst
+      (λ x. Way p end last ((awaiter_ops f (moves.notify_other_if x) ++ op.End reply.Ready (hold.Handle f) ∷ []) ++ below))
+      free way))
 
   abbrev looked : Bool → Bool → Bool → Done
   looked x g d = look_by (moves.poll_by x g d s).owed.answer p w' f a (moves.poll_by x g d s)
 
   by_bits : (h : Hint) (hs : List Hint) → f < length w.tasks
-      → (abstract.polled (task f q) ≡ Waits → is_granted c.refusal ≡ not (refuses_second (h ∷ hs) w a)) → (x g d : Bool) → s.closed ≡ x → s.completed ≡ d → abstract.polled (task f q) ≡ found x g d
+      → (abstract.polled (task f q) ≡ Waits → is_granted c.refusal ≡ not (refuses_second (h ∷ hs) w a)) → (x g d : Bool) → s.closed ≡ x
+      → s.completed ≡ d → abstract.polled (task f q) ≡ found x g d
       → HasAll p hs (done (looked x g d).world ((looked x g d).next ++ below))
       → is_resting (alone p hs (done (looked x g d).world ((looked x g d).next ++ below))).next ≡ true
       → Leaves (alone p hs (done (looked x g d).world ((looked x g d).next ++ below))) (handle_by wakes c f a (found x g d) q)

@@ -172,7 +172,8 @@ module _ (p : ℕ) (end : Done) (rests : is_resting end.next ≡ true) where
       let at : f < length w.tasks = one.has in
       let s = world.task w f in
       let still =
-      again_is s (waker_in (awaiter_of w f)) (sym (ap (λ (t : AbstractTask Output Waker). abstract.polled t) (follows.tasks f at)) ∙ waits) in
+      again_is s (waker_in (awaiter_of w f)) (sym (ap (λ (t : AbstractTask Output Waker). abstract.polled t) (follows.tasks f at))
+      ∙ waits) in
       subst (λ ts. Way p end (record w { tasks = ts }) (op.End reply.Pending (hold.Handle f) ∷ os)) (set-get_or w.tasks f blank)
       (subst
       (λ (m : Moved). Way p end (look_again_by m.owed.answer p w f m).world ((look_again_by m.owed.answer p w f m).next ++ os))

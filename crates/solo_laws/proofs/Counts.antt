@@ -191,7 +191,8 @@ module _ {F T X : Type 0} where
     abbrev OneMore : Solo F T X → ℕ → ℕ → ℕ → ℕ → Type 0
     OneMore old b n l m = (((b ≡ one_more old.accepted) × (n ≡ futures old + 1)) × (l ≡ limit)) × (m ≡ limit)
 
-    spawned_counts : (a e : ℕ) (mark : Mark) (future : F) (spawned : Spawned X) (old new : Solo F T X) → solo.Spawns mark future old (Ok spawned) new
+    spawned_counts : (a e : ℕ) (mark : Mark) (future : F) (spawned : Spawned X) (old new : Solo F T X)
+        → solo.Spawns mark future old (Ok spawned) new
         → Counted a e old → Counted (a + 1) (e + 0) new
     spawned_counts a e mark future spawned old new does counted =
         let accepts = does.1.0 in
@@ -218,7 +219,8 @@ module _ {F T X : Type 0} where
           new_after.1,
         )
 
-    refused_keeps : (mark : Mark) (future : F) (refused : SpawnError F) (old new : Solo F T X) → solo.Spawns mark future old (Err refused) new
+    refused_keeps : (mark : Mark) (future : F) (refused : SpawnError F) (old new : Solo F T X)
+        → solo.Spawns mark future old (Err refused) new
         → Keeps 0 old new
     refused_keeps mark future (Full back) old new does =
         let table : length new.table.entries ≡ length old.table.entries = ap (λ t. length t.entries) does.0.2.table in

@@ -14,7 +14,8 @@ use Rattle.solo.specs.Cells.{asked}
 use Rattle.solo.specs.Cells as cells
 use Rattle.solo.specs.Turns.{lined, takes, turned, lined_if, marked, loosed, handed_by, is_full, handed, told, scheduled}
 use Rattle.solo.specs.Solo.{woken}
-use Rattle.solo.specs.Closing.{retracted_future, retracted_by, retracted, out, leaving_woken, line_drained_by, shut_line, first_lined, first_out}
+use Rattle.solo.specs.Closing.{retracted_future, retracted_by, retracted, out, leaving_woken, line_drained_by, shut_line, first_lined}
+use Rattle.solo.specs.Closing.{first_out}
 use Rattle.solo.specs.Closing.{drained_waking, drained_by, drained, leak_woken_by, leak_woken, first_left, first_going}
 use Rattle.solo_laws.proofs.Prompt.{Prompt, chosen, scheduled_if_prompt, fewer_prompt}
 use Rattle.solo_laws.proofs.Lines.{taken_fewer}

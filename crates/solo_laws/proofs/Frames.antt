@@ -39,7 +39,8 @@ module _ {F W : Type 0} where
   with_future_length key future (e ∷ es) = by (key == e.key) (with_future_length key future es)
     where
       by : (b : Bool) → length (with_future key future es) ≡ length es
-          → length {A = Entry F W} (elim b [ true ↦ record e { future = future } ∷ es | false ↦ e ∷ with_future key future es ]) ≡ length (e ∷ es)
+          → length {A = Entry F W} (elim b [ true ↦ record e { future = future } ∷ es | false ↦ e ∷ with_future key future es ])
+          ≡ length (e ∷ es)
       by true rest = refl
       by false rest = ap suc rest
 

@@ -30,14 +30,16 @@ use Rattle.solo.specs.Steals.{seek_answer, sought_by, own_popped}
 use Rattle.solo.specs.Steals as steals
 use Rattle.solo.specs.Table.{first_parts}
 use Rattle.solo.specs.Closing as closing
-use Rattle.solo_laws.specs.Calls.{Call, Does, Course, Spawn, SpawnRefused, Take, Settle, Finish, Wake, WakeAndRelease, Hold, Release, Cancel, Detach}
+use Rattle.solo_laws.specs.Calls.{Call, Does, Course, Spawn, SpawnRefused, Take, Settle, Finish, Wake, WakeAndRelease, Hold, Release}
+use Rattle.solo_laws.specs.Calls.{Cancel, Detach}
 use Rattle.solo_laws.specs.Calls.{Poll, Retract, MakeTick, TickTake, TickSearch}
 use Rattle.solo_laws.specs.Calls.{TickSleep, TickLeave, MakeRun, RunBegin, RunTake, RunSearch}
 use Rattle.solo_laws.specs.Calls.{RunLeave, RunDrain, Leak, LeakNext, Close, Drain}
 use Rattle.solo_laws.specs.Looks.{plain_in, OneOfEightIsPlain, next_mark, look_if, comes, look_of, looks_of, TakesByTurn}
 use Rattle.solo_laws.proofs.Prompt.{chosen}
 use Rattle.solo_laws.proofs.Turning.{At, taken_turn, searched_turn, lined_if_at, told_at, scheduled_at, scheduled_if_at, let_go_at}
-use Rattle.solo_laws.proofs.Turning.{left_at as entry_left, begun_at, found_at, asleep_at, tick_left_at, further_at, run_found_at, run_drained_at}
+use Rattle.solo_laws.proofs.Turning.{left_at as entry_left, begun_at, found_at, asleep_at, tick_left_at, further_at, run_found_at}
+use Rattle.solo_laws.proofs.Turning.{run_drained_at}
 
 -- the number of the turn after this one
 abbrev next : ℕ → ℕ

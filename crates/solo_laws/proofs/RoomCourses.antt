@@ -110,7 +110,8 @@ module _ {F T X : Type 0} (m : Most) where
 
   retracted : (task : Task) (s : Solo F T X) → Within m s → Within m (closing.retracted task s)
   retracted task s p =
-      retracted_by (asked cells.retract_answer None task s.cells) task (turned cells.retracted task s) (turned_in m cells.retracted task s p)
+      retracted_by (asked cells.retract_answer None task s.cells) task (turned cells.retracted task s)
+      (turned_in m cells.retracted task s p)
 
   leaving_woken : (task : Task) (s : Solo F T X) → Within m s → Within m (closing.leaving_woken task s)
   leaving_woken task s p =
@@ -180,7 +181,8 @@ module _ {F T X : Type 0} (m : Most) where
   within (Release task) old new is is_other p = moved_to new (solo.released task old) is (let_go_in m task old p)
   within (Cancel task) old new is is_other p = moved_to new (solo.cancelled task old) is (cancelled task old p)
   within (Detach task) old new is is_other p = moved_to new (solo.detached task old) is (detached task old p)
-  within (Poll task waker) old new is is_other p = moved_to new (solo.polled task waker old) is (turned_in m (cells.polled waker) task old p)
+  within (Poll task waker) old new is is_other p = moved_to new (solo.polled task waker old) is
+      (turned_in m (cells.polled waker) task old p)
   within (Retract task) old new is is_other p = moved_to new (closing.retracted task old) is (retracted task old p)
   within MakeTick old new does is_other p = absurd cc
   within (TickTake ticker waker) old new is is_other p = moved_to new (ticks.taken ticker waker old) is (tick_taken_in m ticker waker old p)
@@ -246,7 +248,14 @@ module _ {F T X : Type 0} where
       let entered : Solo F T X = record old { table = s.table; cells = s.cells; accepted = s.accepted } in
       let q : Fit limit entered = (
         (omega arith, refl),
-        (omega arith, ap (λ t. t.limit) accepts.entered ∙ p.1.1, p.1.2, omega (arith, longer, below, limit_is, entries), p.1.4, omega arith),
+        (
+          omega arith,
+          ap (λ t. t.limit) accepts.entered ∙ p.1.1,
+          p.1.2,
+          omega (arith, longer, below, limit_is, entries),
+          p.1.4,
+          omega arith,
+        ),
         p.2,
         p.3,
         p.4,

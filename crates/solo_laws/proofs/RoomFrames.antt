@@ -1,6 +1,7 @@
 -- That other calls than spawns and the makings of ticks and runs make no room: telling, queueing, sleeping, searching, stealing and
 -- the end of an executor leave all parts within what they had.
-use Rattle.std.proofs.Common.{◌≡◌, ℕ, zero, suc, ◌+◌, ◌≤◌, ◌%◌, nat_lt, Bool, true, false, List, [], ◌∷◌, length, drop, map, Option, Some, None}
+use Rattle.std.proofs.Common.{◌≡◌, ℕ, zero, suc, ◌+◌, ◌≤◌, ◌%◌, nat_lt, Bool, true, false, List, [], ◌∷◌, length, drop, map, Option, Some}
+use Rattle.std.proofs.Common.{None}
 use Rattle.std.proofs.Common.{refl, ap, arith}
 use Rattle.std.proofs.lemmas.List.{length-map}
 use Rattle.executor_parts.specs.declared.mark.Mark.{Mark}

@@ -18,10 +18,12 @@ use Rattle.solo.specs.declared.steals.Source.{Source}
 use Rattle.solo.specs.declared.steals.Source.TheVariants.{Common, Own}
 use Rattle.solo.specs.declared.solo.Solo.{Solo}
 use Rattle.solo.specs.OwnQueues as own
-use Rattle.solo.specs.Lines.{LinesValue, first_of as first_in, pushed_in, popped_from, taken_by, taken_from, searched, turned as next_turn, mark_of_turn}
+use Rattle.solo.specs.Lines.{LinesValue, first_of as first_in, pushed_in, popped_from, taken_by, taken_from, searched, turned as next_turn}
+use Rattle.solo.specs.Lines.{mark_of_turn}
 use Rattle.solo.specs.Cells.{asked}
 use Rattle.solo.specs.Cells as cells
-use Rattle.solo.specs.Turns.{mark_of, lined, lined_if, takes, turned, marked, handed_by, is_full, handed, told, scheduled, scheduled_if, let_go}
+use Rattle.solo.specs.Turns.{mark_of, lined, lined_if, takes, turned, marked, handed_by, is_full, handed, told, scheduled, scheduled_if}
+use Rattle.solo.specs.Turns.{let_go}
 use Rattle.solo.specs.Turns.{let_go_if, left_by_parts, without, left, out_of, begun}
 use Rattle.solo.specs.Ticks as ticks
 use Rattle.solo.specs.Steals.{moved, first_of, without_first, kept, stolen, share, length_of, stolen_if, is_own, stolen_at, looked}

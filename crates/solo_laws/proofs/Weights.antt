@@ -293,7 +293,8 @@ module _ {F : Type 0} (weigh : F → ℕ) where
         let after : inside new ≡ inside (turns.scheduled spawned.task s) = ap (λ (t : Solo F T X). inside t) does.2 in
         omega (arith, longer, table, rest, queued, after)
 
-    refused_same : (mark : Mark) (future : F) (refused : SpawnError F) (old new : Solo F T X) → solo.Spawns mark future old (Err refused) new
+    refused_same : (mark : Mark) (future : F) (refused : SpawnError F) (old new : Solo F T X)
+        → solo.Spawns mark future old (Err refused) new
         → inside new ≡ inside old
     refused_same mark future (Full back) old new does =
         let table : weight_in weigh new.table.entries ≡ weight_in weigh old.table.entries =

@@ -40,7 +40,9 @@ module _ {F T X : Type 0} (old : Solo F T X) where
 
   pub same : Base old
   same =
-      (refl, refl, refl, refl, λ u. refl, ((length old.sleepers.wakers, sym (take_all old.sleepers.wakers)), refl, refl, refl), refl, refl, refl)
+      let slept : Slept old.sleepers =
+      ((length old.sleepers.wakers, sym (take_all old.sleepers.wakers)), refl, refl, refl) in
+      (refl, refl, refl, refl, λ u. refl, slept, refl, refl, refl)
 
   -- other cells, with each future where it was
   pub celled : (s : Solo F T X) (cells : Cells T X) → ((u : Task) → home_of u cells ≡ home_of u s.cells) → Base s

@@ -90,11 +90,15 @@ module _ {F T X : Type 0} (its : ℕ → Lent) (c : Choice) where
             let q = tell wakes c left in
             let told_both : FollowsBut (Some d) (named its) z q =
             told (Some d) (named its) c (solo.popped s) left many some.1 lives in
-            let stays = chain c (taken_still its c s p both.0 both.1 test (λ r d is. chosen_free c.first p.due r d is)) (tell_still c left) in
+            let stays = chain c (taken_still its c s p both.0 both.1 test (λ r d is. chosen_free c.first p.due r d is))
+            (tell_still c left) in
             let can = trying.aside_ready (named its) d z q told_both in
+            let both_now : Stands its z q = (
+              trying.forget (named its) d z q told_both,
+              tabled its c s z p q (bases.told_base s (solo.popped s) (bases.same s)) stays both.1,
+            ) in
             subst (λ o. Stands its (solo.taken_by o (solo.popped s)) (takes.takes wakes c Try d left)) (sym some.0)
-            (begun_both d.future Try z q
-            (trying.forget (named its) d z q told_both, tabled its c s z p q (bases.told_base s (solo.popped s) (bases.same s)) stays both.1)
+            (begun_both d.future Try z q both_now
             can.0 can.2 can.1 (stays.dropped d.future ∙ due_lives its c s p both.0 both.1 d.future (found_stands test p.due d is)))
 
   -- the end of a poll
@@ -226,7 +230,8 @@ module _ {F T X : Type 0} (its : ℕ → Lent) (c : Choice) where
 
           back : IsTable its (solo.put_back (its f) future turned) out
           back =
-              tabling.set_tabled its c s out out_both.0 out_both.1 f lives_on below (cells.ended_pending (its f).place) (Some future) its_own
+              tabling.set_tabled its c s out out_both.0 out_both.1 f lives_on below (cells.ended_pending (its f).place)
+              (Some future) its_own
               (ap (λ (o : Option EntryPlace). is_some o) there)
 
           base : (e : abstract.PendingEnd) → is_back e ≡ true

@@ -104,5 +104,6 @@ module _ {F : Type 0} (its : ℕ → Lent) (held : Bool) (home : ℕ → Bool) (
       → apart (map (key_of its) ns) ≡ true → is_in f ns ≡ true
       → map row (set_future (its f).place o es) ≡ map (row_of its held but_one) ns
   rows_set es ns rows once has =
-      ap (λ found. map (row {F = F}) (where_there found (with_future (its f).place.key o es) es)) (leaves its held home f es ns rows once has).1
+      ap (λ found. map (row {F = F}) (where_there found (with_future (its f).place.key o es) es))
+      (leaves its held home f es ns rows once has).1
       ∙ rows_with es ns rows once has

@@ -94,7 +94,8 @@ module _ {F T X : Type 0} (its : ℕ → Lent) (c : Choice) where
 
       same_row : (f : ℕ) → row_of its (not q.is_static) (at_home its s.cells) f ≡ row_of its (not q.is_static) (at_home its z.cells) f
       same_row f =
-          ap (λ (o : Option EntryPlace). ((its f).place, counted_waker (not q.is_static) (its f).task, is_some o)) (sym (base.4 (named its f)))
+          ap (λ (o : Option EntryPlace). ((its f).place, counted_waker (not q.is_static) (its f).task, is_some o))
+          (sym (base.4 (named its f)))
 
   -- other users' codes have other futures in hand
   pub handed : (s : Solo F T X) (p : Plain T (SoloWaker X)) (events : List (Event T (SoloWaker X)))
@@ -164,7 +165,8 @@ module _ {F T X : Type 0} (its : ℕ → Lent) (c : Choice) where
 
     -- the future of one is taken out of its entry, or put back
     module _ (f : ℕ) (live : is_dropped f p ≡ false) (below : f < length p.futures) (g : cells.Kept T X → cells.Kept T X) (o : Option F)
-        (its_place : (place : EntryPlace) → home_of (named its f) (cells.changed g (named its f) s.cells) ≡ Some place → place ≡ (its f).place)
+        (its_place : (place : EntryPlace) → home_of (named its f) (cells.changed g (named its f) s.cells) ≡ Some place → place
+        ≡ (its f).place)
         (held : is_some (home_of (named its f) (cells.changed g (named its f) s.cells)) ≡ is_some o) where
       abbrev now : Cells T X
       now = cells.changed g (named its f) s.cells
@@ -189,7 +191,8 @@ module _ {F T X : Type 0} (its : ℕ → Lent) (c : Choice) where
       pub set_tabled : IsTable its set p
       set_tabled = record {
         rows =
-            rows_set its (not p.is_static) (at_home its s.cells) f o s.table.entries (calls.living_from 0 p.futures) t.rows t.keys_apart (lives_at p f live below)
+            rows_set its (not p.is_static) (at_home its s.cells) f o s.table.entries (calls.living_from 0 p.futures) t.rows t.keys_apart
+            (lives_at p f live below)
             ∙ map_same_in (row_of its (not p.is_static) (but_one its (not p.is_static) (at_home its s.cells) f o))
             (row_of its (not p.is_static) (at_home its now)) (calls.living_from 0 p.futures)
             (λ j has. ap (λ b. ((its j).place, counted_waker (not p.is_static) (its j).task, b))

@@ -226,7 +226,8 @@ module _ {F T X : Type 0} where
 
   abbrev DrainsAt : List (Entry F (Option Task)) → List Task → Solo F T X → Type 0
   DrainsAt es wakers s =
-      (goes 20 (closes_by (length es) (length wakers) ++ step.End reply.Done ∷ []) (record (calm s) { pauses = false }) ≡ drains es wakers s)
+      (goes 20 (closes_by (length es) (length wakers) ++ step.End reply.Done ∷ []) (record (calm s) { pauses = false })
+      ≡ drains es wakers s)
       × ((drains es wakers s).solo ≡ closing.drained s)
       × (record (drains es wakers s).out { reply = None } ≡ handing (closing.drain_answer s))
 
@@ -252,7 +253,8 @@ module _ {F T X : Type 0} where
       let after : Solo F T X = closing.leaving_woken task left in
       let n : ℕ = length wakers in (
         ap (goes 19 (step.End reply.Done ∷ []))
-            (wakes_then (asked cells.wake_queues false task s.cells) (closes_by 0 n) (record (calm after) { out = out; left = closes_by 0 n })
+            (wakes_then (asked cells.wake_queues false task s.cells) (closes_by 0 n)
+            (record (calm after) { out = out; left = closes_by 0 n })
             task left (rests task left) (λ m. wake_tail n m after out))
             ∙ wake_ends n after out,
         refl,

@@ -121,7 +121,8 @@ module _ {F T X : Type 0} where
       let out : Out F T X = record (telling left.told) { future = left.future } in (
         refl,
         ap (goes 19 (step.Move move.EndReady lent.task ∷ []))
-            (parts_leave (parts_of (entry_in lent.place s.table.entries)) lent.task (Some lent.place) (Some output) (without lent.place s) own)
+            (parts_leave (parts_of (entry_in lent.place s.table.entries)) lent.task (Some lent.place) (Some output)
+            (without lent.place s) own)
             ∙ ap (swept_by lent.task) (pays_by drops calls (nine 0) lent.task (record (at lent ended) { out = out }))
             ∙ ap
             (λ (o : Option T). record (at lent (solo.settled_ready lent output s)) {
@@ -169,7 +170,8 @@ module _ {F T X : Type 0} where
       let end : Option abstract.PendingEnd = asked poll_end None lent.task s.cells in
       let same = after_in lent.task (get s.cells.slab lent.task.key) in
       let ended : Solo F T X = turned (cells.ended_pending lent.place) lent.task s in (
-        ap (λ (a : After). goes 18 (owed true lent.task (ends_by end)) (done.pending_by a lent.place (record (at lent ended) { future = Some future })))
+        ap (λ (a : After). goes 18 (owed true lent.task (ends_by end))
+            (done.pending_by a lent.place (record (at lent ended) { future = Some future })))
             same
             ∙ pends_by end lent future ended
             ∙ ap
@@ -208,14 +210,16 @@ module _ {F T X : Type 0} where
         old = solo.dropped end;
       } in
       ap (swept_by lent.task)
-      (pays_by None (solo.called end) (nine 0) lent.task (record (at lent (turned cells.finished lent.task (turns.left lent.place s))) { out = out }))
+      (pays_by None (solo.called end) (nine 0) lent.task
+      (record (at lent (turned cells.finished lent.task (turns.left lent.place s))) { out = out }))
       ∙ ap (λ (w : Option (SoloWaker X)). record (at lent (solo.finished lent s)) { out = record out { awaiter = w } })
       (either_none (solo.called end))
 
   pub finishes_go : (s : Solo F T X) → FinishesGo s
   finishes_go s lent own =
       let end : Finish (SoloWaker X) = asked cells.finish_answer NoAwaiter lent.task (turns.left lent.place s).cells in
-      let gone = parts_leave (parts_of (entry_in lent.place s.table.entries)) lent.task (Some lent.place) None (without lent.place s) own in (
+      let gone = parts_leave (parts_of (entry_in lent.place s.table.entries)) lent.task (Some lent.place) None
+      (without lent.place s) own in (
         ap (goes 19 (step.Move move.SettleClosed lent.task ∷ [])) gone ∙ ends_as lent s end refl,
         ap (goes 19 (step.Move move.EndClosed lent.task ∷ [])) gone ∙ ends_as lent s end refl,
         λ nobody. ap (goes 19 (step.Handle (handle_step.LetGo lent.task) ∷ [])) gone

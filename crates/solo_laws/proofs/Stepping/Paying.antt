@@ -24,14 +24,16 @@ module _ {F T X : Type 0} where
 
   -- a task is queued where it has to be, and who awaits it called
   pub calls : (q : Bool) (w : Option (SoloWaker X)) (n : ℕ) (task : Task) (g : Going F T X)
-      → goes (two (two (two (nine n)))) (owed true task (record (owes q) { awaiter = notify (is_some w) })) (record (free g) { awaiter = w })
+      → goes (two (two (two (nine n)))) (owed true task (record (owes q) { awaiter = notify (is_some w) }))
+      (record (free g) { awaiter = w })
       ≡ record (free g) {
         solo = scheduled_if q task g.solo;
         awaiter = None;
         out = record (telling_in (schedule_if_answer q task g.solo) g.out) { awaiter = either w g.out.awaiter };
       }
   calls true (Some w) n task g =
-      ap (goes (suc (two (two (nine n)))) (step.Handle (handle_step.Notify task false) ∷ [])) (appends (two n) task (record g { awaiter = Some w }))
+      ap (goes (suc (two (two (nine n)))) (step.Handle (handle_step.Notify task false) ∷ []))
+      (appends (two n) task (record g { awaiter = Some w }))
       ∙ notified (suc (two (two n))) task w
       (record g { solo = scheduled_if true task g.solo; out = telling_in (schedule_if_answer true task g.solo) g.out })
   calls true None n task g = appends (two n) task (record g { awaiter = None })

@@ -103,7 +103,8 @@ module _ {F T X : Type 0} where
 
     -- behind a look that found nothing a walk goes on as it begins
     rows_by : (b : Bool) (more count at n : ℕ) (s : Solo F T X) (g end : Going F T X)
-        → (Ends (next_list (list_step.LockRead (poll_of runner.number w)) (walk_from count runner.number more (next_place at count) s)) g end
+        → (Ends (next_list (list_step.LockRead (poll_of runner.number w))
+        (walk_from count runner.number more (next_place at count) s)) g end
         → Ends (next_run (run_step.LookOwn (poll_of runner.number w) n) (walk_from count runner.number more (next_place at count) s)) g end)
         → Ends (next_list (list_step.LockRead (poll_of runner.number w))
         (choose b (walk_from count runner.number more (next_place at count) s) (saw.Queue (own.number_at at s.runs.queues) more))) g end
@@ -123,10 +124,12 @@ module _ {F T X : Type 0} where
         → ((u : Solo F T X) → Behind (round count runner.number left at u) end → walks_so count left at u end)
         → Behind (round_on a (own_popped runner.number t) (round count runner.number left at (own_popped runner.number t))) end
         → Ends
-        (next_run (run_step.LookOwn (poll_of runner.number w) left) (found_or a (searcher_of runner ticker) (walk_from count runner.number left at (own_popped runner.number t))))
+        (next_run (run_step.LookOwn (poll_of runner.number w) left)
+        (found_or a (searcher_of runner ticker) (walk_from count runner.number left at (own_popped runner.number t))))
         (within count (walks_to a at (walk_at count runner.number left at (own_popped runner.number t))) (own_popped runner.number t)) end
     looked_by (Some task) count left at t end more tail = unlocked (Some task) count at (own_popped runner.number t) end tail
-    looked_by None count left at t end more tail = rows_same left count at left (own_popped runner.number t) _ end (more (own_popped runner.number t) tail)
+    looked_by None count left at t end more tail = rows_same left count at left (own_popped runner.number t) _ end
+        (more (own_popped runner.number t) tail)
 
     walk_by : (b : Bool) (count more at : ℕ) (s : Solo F T X) (end : Going F T X)
         → ((a : ℕ) (u : Solo F T X) → Behind (round count runner.number more a u) end → walks_so count more a u end)
@@ -134,14 +137,19 @@ module _ {F T X : Type 0} where
         (round_on
         (choose b None (own.first_of runner.number (steals.stolen_at runner.number at s).runs))
         (choose b s (own_popped runner.number (steals.stolen_at runner.number at s)))
-        (round count runner.number more (next_place at count) (choose b s (own_popped runner.number (steals.stolen_at runner.number at s))))) end
+        (round count runner.number more (next_place at count)
+        (choose b s (own_popped runner.number (steals.stolen_at runner.number at s))))) end
         → Ends
         (next_list (list_step.LockRead (poll_of runner.number w))
         (choose b (walk_from count runner.number more (next_place at count) s) (saw.Queue (own.number_at at s.runs.queues) more)))
         (within count (choose b (walk_at count runner.number more (next_place at count) s) (next_place at count)) s) end
     walk_by true count more at s end on tail = on (next_place at count) s tail
     walk_by false count more at s end on tail =
-        let st : Steal Task ℕ = record { poll = (poll_of runner.number w); from = source.Own (own.number_at at s.runs.queues); then = then.Walk more } in
+        let st : Steal Task ℕ = record {
+          poll = (poll_of runner.number w);
+          from = source.Own (own.number_at at s.runs.queues);
+          then = then.Walk more;
+        } in
         let t : Solo F T X = steals.stolen_at runner.number at s in
         steals_so st (within count (next_place at count) s) end
         (one (step.Run (run_step.LookOwn (poll_of runner.number w) more)) (within count (next_place at count) t) end refl
@@ -163,7 +171,8 @@ module _ {F T X : Type 0} where
         → Behind (Some task, stolen (source_of (source.Common (mark_in look))) runner.number s) end
         → Ends (next_run (run_step.SearchCommon (poll_of runner.number w) look) (saw.Found task)) (here s) end
     found_common look task s end tail =
-        steals_so (record { poll = (poll_of runner.number w); from = source.Common (mark_in look); then = then.Found task }) (here s) end tail
+        steals_so (record { poll = (poll_of runner.number w); from = source.Common (mark_in look); then = then.Found task })
+        (here s) end tail
 
     missed_common : (s : Solo F T X) (end : Going F T X) → Behind (steals.whole_round runner.number start s) end
         → Ends (step.List (list_step.LockRead (poll_of runner.number w)) ∷ []) (here s) end
@@ -180,7 +189,8 @@ module _ {F T X : Type 0} where
         → Behind
         (common_end (found_by a mark (popped_from mark s.lines)).task (found_by a mark (popped_from mark s.lines)).mark
         (record s { lines = taken_by a mark (popped_from mark s.lines) })) end
-        → Ends (next_run (run_step.SearchCommon (poll_of runner.number w) (First mark)) (first a)) (here (record s { lines = popped_from mark s.lines })) end
+        → Ends (next_run (run_step.SearchCommon (poll_of runner.number w) (First mark)) (first a))
+        (here (record s { lines = popped_from mark s.lines })) end
     first_by (Some task) mark s end tail = found_common (First mark) task (record s { lines = popped_from mark s.lines }) end tail
     first_by None mark s end tail =
         let l : LinesValue = popped_from mark s.lines in
@@ -199,7 +209,8 @@ module _ {F T X : Type 0} where
 
     own_by : (a : Option Task) (s : Solo F T X) (end : Going F T X)
         → Behind ((steals.seek_answer_by a runner.number start s).task, steals.sought_by a runner.number start s) end
-        → Ends (next_tick (tick_step.Search (asleep (poll_of runner.number w))) (found_or a (searcher_of runner ticker) saw.Nothing)) (here s) end
+        → Ends (next_tick (tick_step.Search (asleep (poll_of runner.number w))) (found_or a (searcher_of runner ticker) saw.Nothing))
+        (here s) end
     own_by (Some task) s end tail = tail
     own_by None s end tail = further s end tail
 

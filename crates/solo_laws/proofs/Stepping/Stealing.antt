@@ -105,11 +105,13 @@ module _ {F T X : Type 0} where
   Thens st g s end = Ends (then_on (searcher g) st) (leaves s (emptied g)) end
 
   take_one : (a : Option Task) (n : ℕ) (st : Steal Task ℕ) (g end : Going F T X)
-      → ((h : Going F T X) → Thens st h (moved n (source_of st.from) st.poll.run h.solo) end → Ends (steal_on n (searcher h) st) (emptied h) end)
+      → ((h : Going F T X) → Thens st h (moved n (source_of st.from) st.poll.run h.solo) end
+      → Ends (steal_on n (searcher h) st) (emptied h) end)
       → Thens st g
       (moved_on a (without_first (source_of st.from) g.solo)
       (λ task. moved n (source_of st.from) st.poll.run (kept st.poll.run task (without_first (source_of st.from) g.solo)))) end
-      → Ends (next_steal (steal_step.Take st n) (taken_or_ends a (searcher g))) (leaves (without_first (source_of st.from) g.solo) (emptied g)) end
+      → Ends (next_steal (steal_step.Take st n) (taken_or_ends a (searcher g)))
+      (leaves (without_first (source_of st.from) g.solo) (emptied g)) end
   take_one None n st g end more tail = tail
   take_one (Some task) n st g end more tail =
       one (step.Steal (steal_step.Put st n task)) (leaves (without_first (source_of st.from) g.solo) g) end refl
@@ -192,8 +194,10 @@ module _ {F T X : Type 0} where
             (ends_as tell mid _ _ (tells_so mid)
             (ap (λ (w : Option X). told_with runner start spare None w (either a.returned None) (told gone))
             (unless_answer a.sleeper gone (let_go_flag t s))
-            ∙ ap (λ (r : Option Task). told_with runner start spare None (tell_unless_answer a.sleeper gone) r (told gone)) (either_none a.returned)
-            ∙ ap (told_with runner start spare None (tell_unless_answer a.sleeper gone) a.returned) (unless_state a.sleeper gone (let_go_flag t s))))
+            ∙ ap (λ (r : Option Task). told_with runner start spare None (tell_unless_answer a.sleeper gone) r (told gone))
+            (either_none a.returned)
+            ∙ ap (told_with runner start spare None (tell_unless_answer a.sleeper gone) a.returned)
+            (unless_state a.sleeper gone (let_go_flag t s))))
             tail,
       )
 
@@ -245,9 +249,11 @@ module _ {F T X : Type 0} where
         left = to_run_on task (start_of task g.solo) (behind_run b x);
       })
   turn_so true task x g =
-      fixed (λ n. suc (five n)) 6 (run_by true x task) _ _ (λ m le. omega (arith, le)) (λ n. turn_by true (start_of task g.solo) n task x g.solo g)
+      fixed (λ n. suc (five n)) 6 (run_by true x task) _ _ (λ m le. omega (arith, le))
+      (λ n. turn_by true (start_of task g.solo) n task x g.solo g)
   turn_so false task x g =
-      fixed (λ n. suc (five n)) 6 (run_by false x task) _ _ (λ m le. omega (arith, le)) (λ n. turn_by false (start_of task g.solo) n task x g.solo g)
+      fixed (λ n. suc (five n)) 6 (run_by false x task) _ _ (λ m le. omega (arith, le))
+      (λ n. turn_by false (start_of task g.solo) n task x g.solo g)
 
   -- what it has found
 

@@ -62,7 +62,8 @@ module _ {F T X : Type 0} where
 
   marked_by : (b : Bool) (n : ℕ) (task : Task) (s : Solo F T X) (g : Going F T X) (r : Option Task)
       → handed_back r
-      (goes (five n) (owed true task (record (owes b) { next = Some move.Release })) (leaves (turned cells.woken task (stirred s)) (free g)))
+      (goes (five n) (owed true task (record (owes b) { next = Some move.Release }))
+      (leaves (turned cells.woken task (stirred s)) (free g)))
       ≡ handed_back r
       (leaves
       (let m = lined_if b task (turned cells.woken task (stirred s)) in

@@ -83,7 +83,8 @@ module _ {F T X : Type 0} where
   told_by false s x is = handed_by_full (is_full s) (record s { notified = true }) x refl is
 
   queued_by : (a : Bool) (task : Task) (s : Solo F T X) (x : X)
-      → (choose {B = Told X} a (record { sleeper = told_waker s; returned = None }) (record { sleeper = None; returned = Some task })).sleeper
+      → (choose {B = Told X} a (record { sleeper = told_waker s; returned = None })
+      (record { sleeper = None; returned = Some task })).sleeper
       ≡ Some x
       → (choose a (told s) s).notified ≡ true
   queued_by true task s x is = told_by s.notified s x is
@@ -229,7 +230,8 @@ module _ {F T X : Type 0} where
   at_kept (Some at) s l is = is
   at_kept None s l is = is
 
-  place_kept : (ticker : Ticker) (s : Solo F T X) (l : LinesValue) → has_place ticker s ≡ true → has_place ticker (record s { lines = l }) ≡ true
+  place_kept : (ticker : Ticker) (s : Solo F T X) (l : LinesValue) → has_place ticker s ≡ true → has_place ticker (record s { lines = l })
+      ≡ true
   place_kept (Awake room) s l is = is
   place_kept (Asleep sleeper) s l is = at_kept (position_of sleeper.number s.sleepers.wakers) s l is
 
@@ -285,7 +287,8 @@ module _ {F T X : Type 0} where
   anew_found true waker s = refl
   anew_found false waker s = refl
 
-  pub found_nothing : (ticker : Ticker) (waker : SoloWaker X) (s : Solo F T X) → Nothing ≡ calls.found_in (ticks.sleep_answer ticker waker s).look
+  pub found_nothing : (ticker : Ticker) (waker : SoloWaker X) (s : Solo F T X) → Nothing
+      ≡ calls.found_in (ticks.sleep_answer ticker waker s).look
   found_nothing (Awake room) waker s = anew_found (nat_lt s.sleepers.count s.sleepers.rooms) waker s
   found_nothing (Asleep sleeper) waker s =
       again_found (position_of sleeper.number s.sleepers.wakers) (ticks.is_short s) sleeper waker s refl
@@ -328,7 +331,8 @@ module _ {F T X : Type 0} where
   -- without one
 
   second_searched : (b : Option Task) (mark : Mark) (t : ℕ) (ticker : Ticker) (waker : SoloWaker X) (s : Solo F T X)
-      → goes 17 (next_tick (tick_step.Look (of_tick waker t) (Second mark)) (first_by (sleeps ticker) b)) (record (calm s) { ticker = ticker })
+      → goes 17 (next_tick (tick_step.Look (of_tick waker t) (Second mark)) (first_by (sleeps ticker) b))
+      (record (calm s) { ticker = ticker })
       ≡ searched b (of_tick waker t) ticker s
   second_searched (Some task) mark t ticker waker s = finds ticker 1 t task None s
   second_searched None mark t ticker waker s = refl

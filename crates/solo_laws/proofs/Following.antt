@@ -36,5 +36,17 @@ pub mod Losing
 pub mod Finishing
 pub mod Dropping
 pub mod Ended
+pub mod Drops
 pub mod Ending
 pub mod Beginning
+pub mod Numbers
+pub mod GettingUp
+pub mod Rising
+pub mod TickTaking
+pub mod LyingDown
+pub mod Again
+pub mod Resting
+pub mod TickResting
+pub mod TickLeaving
+pub mod Resleeping
+pub mod Keeping

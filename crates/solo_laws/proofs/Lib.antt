@@ -27,4 +27,5 @@ pub mod RoomParts
 pub mod RoomFrames
 pub mod RoomCourses
 pub mod Following
+pub mod Showing
 pub mod Stepping

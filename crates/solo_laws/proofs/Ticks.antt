@@ -70,7 +70,7 @@ module _ {F T X : Type 0} where
   let_go_unless_by true task task' s sound = scheduled_unless_by (takes task s) task task' s sound
   let_go_unless_by false task task' s sound = told_awake (swept task' s) sound
 
-  dropped_unless : (w : Option (SoloWaker X)) (s : Solo F T X) → Sound s
+  pub dropped_unless : (w : Option (SoloWaker X)) (s : Solo F T X) → Sound s
       → Awake (told_unless (drop_waker_answer w s).told.sleeper (waker_dropped w s))
   dropped_unless (Some (OfTask task)) s sound =
       let_go_unless_by (asked cells.release_queues false task s.cells) task task (turned cells.released task s) sound

@@ -12,6 +12,10 @@ pub mod Alike
 pub mod Spawning
 pub mod Dropping
 pub mod Leaking
+pub mod Shown
+pub mod Courses
+pub mod Numbered
+pub mod Ticking
 pub mod Going
 pub mod Seen
 pub mod Done

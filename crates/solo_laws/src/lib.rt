@@ -3,6 +3,8 @@
 //! take the steps that `call_steps` says.
 #![tactic(auto)]
 
+pub mod answers;
 pub mod laws;
+pub mod lying;
 pub mod roads;
 pub mod turns;

@@ -9,7 +9,6 @@ use Rattle.plain_scheduler.specs.State.{Choice, Plain, Answers, Done, Made, NoMe
 use Rattle.plain_scheduler.specs.Lists.{on}
 use Rattle.plain_scheduler.specs.Moves.{task, put, tell, becomes, copied, let_go}
 use Rattle.plain_scheduler.specs.Calls as calls
-use Rattle.solo_laws.specs.Alike
 use Rattle.solo_laws.specs.Alike.{WakesAlike, ReleasesAlike, UsesAlike, CancelsAlike, CopiesAlike, HandlesAlike, HandleDropsAlike}
 use Rattle.solo_laws.specs.Alike.{DetachesAlike, cancelled, handle_polled}
 use Rattle.solo_laws.specs.Road.{wakes}
@@ -60,7 +59,7 @@ module _ {T X : Type 0} (c : Choice) (p : Plain T (SoloWaker X)) where
       by None q = still c q
       by (Some u) q = let_go_still c loud (tell_still c) u q
 
-  handled_still : (f : ℕ) (w : SoloWaker X) (e : abstract.Polled T) → Still c p (calls.handle_by wakes c f w e p)
+  pub handled_still : (f : ℕ) (w : SoloWaker X) (e : abstract.Polled T) → Still c p (calls.handle_by wakes c f w e p)
   handled_still f w (abstract.Polled.Output v) =
       let q = put f (abstract.poll w (task f p)).task p in
       chain c (put_still c f (abstract.poll w (task f p)).task p) (seen_still c q (q.events ++ Answers (Gives v) ∷ []))
@@ -97,7 +96,8 @@ module _ {F T X : Type 0} (its : ℕ → Lent) (s : Solo F T X) (p : Plain T (So
   pub copies_alike : CopiesAlike (named its) (Stands its) s p
   copies_alike c f at says = (
     handling.copies_alike (named its) s p both.0 c f at says,
-    tabled its c s (solo.held (named its f) s) p (calls.does wakes c (calls.Call.Copy f) p) (bases.held_base s (named its f) s (bases.same s)) (copy_still c p f) both.1,
+    tabled its c s (solo.held (named its f) s) p (calls.does wakes c (calls.Call.Copy f) p)
+        (bases.held_base s (named its f) s (bases.same s)) (copy_still c p f) both.1,
   )
 
   pub cancels_alike : CancelsAlike (named its) (Stands its) s p

@@ -1,6 +1,6 @@
 -- A waker that was handed out is called, or let go, or copied: so a cancel, a handle's poll and its drop are those of the plain
 -- scheduler, with what their callers owe.
-use Rattle.std.proofs.Common.{◌≡◌, ℕ, ◌+◌, ◌<◌, ◌≤◌, ◌==◌, ◌&&◌, ◌||◌, Bool, true, false, [], ◌∷◌, ◌++◌, length, Option, Some, None}
+use Rattle.std.proofs.Common.{◌≡◌, ℕ, ◌<◌, ◌≤◌, ◌==◌, ◌&&◌, ◌||◌, Bool, true, false, [], ◌∷◌, ◌++◌, length, Option, Some, None}
 use Rattle.std.proofs.Common.{slice_get, slice_set, if◌then◌else◌, refl, sym, ap, subst, ◌∙◌}
 use Rattle.task_moves.specs.AbstractTask as abstract
 use Rattle.task_moves.specs.AbstractTask.{AbstractTask}
@@ -95,6 +95,12 @@ loud c p = tell wakes_of c p
 abbrev pub Named : {X : Type 0} → (ℕ → Task) → ℕ → Option (SoloWaker X) → Type 0
 Named name many o = (t : Task) → o ≡ Some (OfTask t) → IsNamed name many t
 
+module _ {F T X : Type 0} where
+  pub calls_lives : (o : Option (SoloWaker X)) (z : Solo F T X) → HasLife 5 z.lines → HasLife 2 (calls_it o z).lines
+  calls_lives None z life = three_fewer 2 z.lines life
+  calls_lives (Some (Outside x)) z life = three_fewer 2 z.lines life
+  calls_lives (Some (OfTask t)) z life = used_lives 2 t z life
+
 module _ {F T X : Type 0} (name : ℕ → Task) (c : Choice) where
   module _ (s : Solo F T X) (p : Plain T (SoloWaker X)) (r : Follows name s p) (many : length p.lying ≤ c.tells)
       (life : HasLife 2 s.lines) where
@@ -135,7 +141,7 @@ module _ {F T X : Type 0} (name : ℕ → Task) (s : Solo F T X) (p : Plain T (S
   asks q b f v is = asks_found q b (name f) s.cells ∙ ap (of_found q b) is
 
   -- who awaits a task is called by its cancel
-  cancel_awaiter : (f : ℕ) → f < length p.futures
+  pub cancel_awaiter : (f : ℕ) → f < length p.futures
       → asked cells.cancel_calls None (name f) s.cells ≡ (abstract.cancel (task f p)).called
   cancel_awaiter f at =
       let x = get_below p.futures f at in
@@ -150,7 +156,7 @@ module _ {F T X : Type 0} (name : ℕ → Task) (s : Solo F T X) (p : Plain T (S
       by (Some v) x of = ap (λ t. (abstract.cancel t).called) of.task
 
   -- and is one of theirs
-  cancel_named : (f : ℕ) → Named name (length p.futures) (abstract.cancel (task f p)).called
+  pub cancel_named : (f : ℕ) → Named name (length p.futures) (abstract.cancel (task f p)).called
   cancel_named f t is =
       r.awaiters f t (by ((task f p).closed || abstract.is_over (task f p).phase) (sym (cancel_calls (task f p)) ∙ is))
     where
@@ -287,8 +293,3 @@ module _ {F T X : Type 0} (name : ℕ → Task) (s : Solo F T X) (p : Plain T (S
       (subst (λ n. f < n) (sym still.futures) at)
       (subst (λ n. n ≤ c.tells) (sym still.lying) many)
       (calls_lives (solo.cancel_answer (name f) s).awaiter (solo.cancelled (name f) s) (cancelled_lives 5 (name f) s life))
-    where
-      calls_lives : (o : Option (SoloWaker X)) (z : Solo F T X) → HasLife 5 z.lines → HasLife 2 (calls_it o z).lines
-      calls_lives None z life = three_fewer 2 z.lines life
-      calls_lives (Some (Outside x)) z life = three_fewer 2 z.lines life
-      calls_lives (Some (OfTask t)) z life = used_lives 2 t z life

@@ -1,16 +1,21 @@
 -- The end of a drop is one of the plain scheduler: the future's entry leaves the table, with its waker, and then its task ends.
-use Rattle.std.proofs.Common.{◌≡◌, ℕ, ◌<◌, ◌≤◌, ◌==◌, not, if◌then◌else◌, Bool, true, false, List, length, map, Option, Some, None, is_some}
-use Rattle.std.proofs.Common.{slice_get, slice_set, refl, sym, ap, subst, ◌∙◌, arith}
+use Rattle.std.proofs.Common.{◌≡◌, ℕ, ◌<◌, ◌≤◌, ◌==◌, not, if◌then◌else◌, Bool, true, false, List, ◌++◌, length, map, Option, Some, None}
+use Rattle.std.proofs.Common.{is_some, slice_get, slice_set, append-nil, refl, sym, ap, subst, ◌∙◌, arith}
 use Rattle.executor_parts.specs.Places.{Entry, entry_in, left_by, parts_of}
 use Rattle.task_moves.specs.AbstractTask as abstract
 use Rattle.task_moves.specs.AbstractTask.{AbstractTask}
 use Rattle.task_moves.specs.LocalTask.{is_home}
+use Rattle.task_moves.specs.declared.local_task.answers.FuturePlace.{FuturePlace}
+use Rattle.task_moves.specs.declared.local_task.answers.FuturePlace.TheVariants.{Home, Lent as IsLent, Dropping, Gone}
+use Rattle.executor_parts.specs.declared.places.EntryPlace.{EntryPlace}
 use Rattle.solo.specs.declared.names.Task.{Task}
 use Rattle.solo.specs.declared.names.SoloWaker.{SoloWaker}
 use Rattle.solo.specs.declared.owed.Lent.{Lent}
+use Rattle.solo.specs.declared.owed.Told.{Told}
 use Rattle.solo.specs.declared.solo.Solo.{Solo}
 use Rattle.solo.specs.Cells.{Kept}
 use Rattle.solo.specs.Table.{counted_waker}
+use Rattle.solo.specs.Solo as solo
 use Rattle.solo.specs.Turns as turns
 use Rattle.plain_scheduler.specs.State.{Future, Choice, Plain, Code}
 use Rattle.plain_scheduler.specs.Lists.{on, or}
@@ -18,12 +23,15 @@ use Rattle.plain_scheduler.specs.Calls.{living_from}
 use Rattle.plain_scheduler.specs.Moves.{task, changed, tell, release, no_task}
 use Rattle.plain_scheduler.specs.Takes as takes
 use Rattle.solo_laws.specs.Road.{TaskIs, IsAsleep, IsInside, IsNamed, Follows, HasLife, is_in, apart, lents, drops, wakes}
-use Rattle.solo_laws.specs.Tabled.{IsTable, named, row, row_of, key_of, is_dropped, at_home}
+use Rattle.solo_laws.specs.Tabled.{IsTable, named, row, row_of, key_of, is_dropped, at_home, home_by}
+use Rattle.solo_laws.specs.Shown.{rings}
 use Rattle.solo_laws.proofs.Following.Lists.{get_below, set_same, set_other, length_set}
 use Rattle.solo_laws.proofs.Following.Due.{lives}
-use Rattle.solo_laws.proofs.Following.Cells.{found, same_number}
+use Rattle.solo_laws.proofs.Following.Cells.{found, of_found, asks_found, same_number}
+use Rattle.solo_laws.proofs.Following.Homes.{home_in}
 use Rattle.solo_laws.proofs.Following.Changing.{task_is}
 use Rattle.solo_laws.proofs.Following.Waking.{released}
+use Rattle.solo_laws.proofs.Showing.Telling.{released_shows}
 use Rattle.solo_laws.proofs.Following.Lives.{three_fewer, released_lives}
 use Rattle.solo_laws.proofs.Following.Frames.{Still, still, becomes_still, tell_still}
 use Rattle.solo_laws.proofs.Following.Bases as bases
@@ -175,6 +183,52 @@ module _ {F T X : Type 0} (its : ℕ → Lent) (s : Solo F T X) (p : Plain T (So
         by : (b : Bool) → HasLife 5 (let_off (not b)).lines
         by true = three_fewer 5 s.lines life
         by false = released_lives 5 (name f) gone life
+
+  -- what the release of its waker hands out is seen
+  told_is : (turns.left_answer (its f).place s).told ≡ turns.let_go_if_answer (counted_waker (not p.is_static) (name f)) gone
+  told_is =
+      ap (λ o. (turns.left_answer_by (parts_of o) gone).told) entry.1
+      ∙ ap (λ w. turns.let_go_if_answer w gone) entry.2
+
+  pub given_events : length p.lying ≤ c.tells → HasLife 8 s.lines
+      → given.events ≡ p.events ++ rings (turns.left_answer (its f).place s).told.sleeper
+  given_events many life =
+      subst
+      (λ b. (if b then dropped else release wakes (tell wakes c) f dropped).events
+      ≡ p.events ++ rings (turns.left_answer (its f).place s).told.sleeper)
+      (sym static_same)
+      (by p.is_static ∙ ap (λ (t : Told X). p.events ++ rings t.sleeper) (sym told_is))
+    where
+      by : (b : Bool) → (if b then dropped else release wakes (tell wakes c) f dropped).events
+          ≡ p.events ++ rings (turns.let_go_if_answer (counted_waker (not b) (name f)) gone).sleeper
+      by true = ap (λ (q : Plain T (SoloWaker X)). q.events) dropped_is ∙ sym (append-nil p.events)
+      by false =
+          released_shows None name c f gone dropped
+          (subst (λ n. f < n) (sym (ap (λ (q : Plain T (SoloWaker X)). length q.futures) dropped_is ∙ long)) at) followed
+          (subst (λ ls. length ls ≤ c.tells) (sym (ap (λ (q : Plain T (SoloWaker X)). q.lying) dropped_is)) many)
+          (three_fewer 2 s.lines (three_fewer 5 s.lines life))
+          ∙ ap (λ (q : Plain T (SoloWaker X)). q.events ++ rings (solo.release_answer (name f) gone).sleeper) dropped_is
+
+  -- and no other future
+  pub gone_future : (turns.left_answer (its f).place s).future ≡ None
+  gone_future =
+      ap (λ o. (turns.left_answer_by (parts_of o) gone).future) entry.1
+      ∙ none entry.0.future (entry.4 ∙ (ap (λ (o : Option EntryPlace). is_some o) (asks_found home_in None (name f) s.cells)
+      ∙ by (found (name f) s.cells) refl))
+    where
+      none : (o : Option F) → is_some o ≡ false → o ≡ None
+      none None is = refl
+      none (Some y) is = absurd cc
+
+      at_none : (place : FuturePlace EntryPlace) → (is_home place ≡ true → ⊥) → is_some (home_by place) ≡ false
+      at_none (Home place) never = absurd (never refl)
+      at_none IsLent never = refl
+      at_none Dropping never = refl
+      at_none Gone never = refl
+
+      by : (o : Option (Kept T X)) → found (name f) s.cells ≡ o → is_some (of_found home_in None o) ≡ false
+      by None is = refl
+      by (Some v) is = at_none v.future (away v is)
 
   pub given_still : Still c dropped given
   given_still = by dropped.is_static

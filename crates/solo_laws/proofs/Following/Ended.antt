@@ -1,5 +1,5 @@
 -- The end of a drop: the task ends in both, and its owner is owed the same.
-use Rattle.std.proofs.Common.{◌≡◌, ℕ, ◌<◌, ◌≤◌, ◌==◌, cond, not, ◌&&◌, Bool, true, false, List, [], ◌∷◌, ◌++◌, length, Option, Some, None}
+use Rattle.std.proofs.Common.{◌≡◌, ℕ, ◌<◌, ◌≤◌, ◌==◌, Bool, true, false, List, [], ◌∷◌, ◌++◌, length, Option, Some, None}
 use Rattle.std.proofs.Common.{is_some, slice_get, refl, sym, ap, subst, ◌∙◌}
 use Rattle.task_moves.specs.AbstractTask as abstract
 use Rattle.task_moves.specs.AbstractTask.{AbstractTask}
@@ -16,17 +16,17 @@ use Rattle.solo.specs.Cells as cells
 use Rattle.solo.specs.Solo as solo
 use Rattle.solo.specs.Turns as turns
 use Rattle.plain_scheduler.specs.State.{Future, Choice, Plain, Code, Lose, Taker, Closed, Gave, Loses}
+use Rattle.plain_scheduler.specs.State.{Answers}
 use Rattle.plain_scheduler.specs.Lists.{on, or}
 use Rattle.plain_scheduler.specs.Moves.{task, put, tell, called, let_go}
 use Rattle.plain_scheduler.specs.Takes as takes
-use Rattle.plain_scheduler.specs.Calls as calls
 use Rattle.solo_laws.specs.Alike.{calls as calls_it, lets_go, takes_one}
-use Rattle.solo_laws.specs.Dropping.{GivenDropsAlike, ClosedDropsAlike, after_drop}
+use Rattle.solo_laws.specs.Dropping.{after_drop}
+use Rattle.solo_laws.specs.Shown.{rings, answer_in, loses_or, rings_of, rings_without, call_shows, drop_shows}
 use Rattle.solo_laws.specs.Road.{IsTaskOf, IsNamed, Follows, HasLife, is_in, apart, lents, drops, awaiters, stands, wakes}
 use Rattle.solo_laws.specs.Tabled.{IsTable, Stands, named, is_dropped}
-use Rattle.solo_laws.proofs.Following.Due.{clash, both_true, not_true, equal, later}
-use Rattle.solo_laws.proofs.Following.Inside.{lent_dropping}
-use Rattle.solo_laws.proofs.Following.Cells.{found, of_found, asks_found, same_number}
+use Rattle.solo_laws.proofs.Following.Due.{clash, both_true, equal}
+use Rattle.solo_laws.proofs.Following.Cells.{found, of_found, asks_found}
 use Rattle.solo_laws.proofs.Following.Changing.{kept, turned, task_is}
 use Rattle.solo_laws.proofs.Following.Using.{put_long}
 use Rattle.solo_laws.proofs.Following.Sweeping.{swept}
@@ -41,7 +41,10 @@ use Rattle.solo_laws.proofs.Following.Bases as bases
 use Rattle.solo_laws.proofs.Following.Dropping as dropping
 use Rattle.solo_laws.proofs.Following.Losing.{lets_go_both, calls_both, goes_on, now_losing}
 use Rattle.solo_laws.proofs.Following.Finishing.{finish_awaits, finish_drops, finish_calls, finish_lets_go, finish_waker, finished_is}
-use Rattle.solo_laws.proofs.Following.Finishing.{given_is, lent_away, dropping_away, dropping_not_lent}
+use Rattle.solo_laws.proofs.Following.Finishing.{given_is, lent_away, dropping_away}
+use Rattle.solo_laws.proofs.Showing.Telling.{step, put_events}
+use Rattle.solo_laws.proofs.Showing.Calling.{calls_show, lets_go_show}
+use Rattle.solo_laws.proofs.Showing.Ending.{next_events}
 
 -- the end of a task in whose future's stead nothing is left
 module _ {F T X : Type 0} (its : ℕ → Lent) (s : Solo F T X) (p : Plain T (SoloWaker X)) (r : Follows (named its) s p)
@@ -198,6 +201,13 @@ module _ {F T X : Type 0} (its : ℕ → Lent) (s : Solo F T X) (p : Plain T (So
   named_in q stays o is u has =
       subst (λ n. IsNamed (named its) n u) (sym stays.futures) (out_follows.awaiters f u (is (OfTask u) has))
 
+  went_still : (l : Option (SoloWaker X)) (o : Plain T (SoloWaker X)) → Still c o (on l (let_go wakes (tell wakes c)) o)
+  went_still None o = still c o
+  went_still (Some w) o = let_go_still c (tell wakes c) (tell_still c) w o
+
+  out_events : out.events ≡ p.events ++ rings (turns.left_answer (its f).place s).told.sleeper
+  out_events = dropping.given_events its s p r t c f live at away many life
+
   pub closed_so : asked cells.is_dropping false (named its f) left.cells ≡ true
       → Stands its (after_drop (solo.finish_answer (its f) s) (solo.finished (its f) s))
       (takes.dropped wakes c f Closed taker (record p { inside = rest }))
@@ -231,7 +241,8 @@ module _ {F T X : Type 0} (its : ℕ → Lent) (s : Solo F T X) (p : Plain T (So
       (or d (λ v. record o { events = o.events ++ Loses v ∷ []; inside = Lose end.called (Some taker) ∷ o.inside })
       (takes.lost wakes c end.called (Some taker) q)))
       (sym (finish_drops u))
-      (goes_on its c (calls_it end.called (lets_go end.let_go z)) (on end.called (called wakes (tell wakes c)) q) (Some taker) one calls_so) in
+      (goes_on its c (calls_it end.called (lets_go end.let_go z)) (on end.called (called wakes (tell wakes c)) q)
+      (Some taker) one calls_so) in
       subst
       (λ q. Stands its (after_drop (solo.finish_answer (its f) s) z) (takes.ended wakes c f (local.finish (task f q)) (Some taker) q))
       (sym (drops_within rest c f p))
@@ -241,10 +252,66 @@ module _ {F T X : Type 0} (its : ℕ → Lent) (s : Solo F T X) (p : Plain T (So
       (sym (finish_calls u))
       (subst (λ l. Stands its (calls_it end.called (lets_go l z)) (takes.ended wakes c f end (Some taker) out))
       (sym (finish_lets_go u)) all)))
-    where
-      went_still : (l : Option (SoloWaker X)) (o : Plain T (SoloWaker X)) → Still c o (on l (let_go wakes (tell wakes c)) o)
-      went_still None o = still c o
-      went_still (Some w) o = let_go_still c (tell wakes c) (tell_still c) w o
+
+  -- which is seen
+  pub closed_shows : asked cells.is_dropping false (named its f) left.cells ≡ true
+      → (takes.dropped wakes c f Closed taker (record p { inside = rest })).events
+      ≡ p.events ++ drop_shows taker (solo.finish_answer (its f) s) (solo.finished (its f) s)
+  closed_shows hand =
+      let u = task f out in
+      let end = local.finish u in
+      let z = solo.finished (its f) s in
+      let o = put f end.task out in
+      let base : Stands its z o =
+      ended_both cells.is_dropping hand dropping_away cells.finished (λ u. (local.finish u).task) finished_is finish_awaits
+      finished_stays in
+      let k = state cells.is_dropping hand dropping_away cells.finished (λ u. (local.finish u).task) finished_is finish_awaits
+      finished_stays in
+      let answer : asked cells.finish_answer Nothing (named its f) left.cells ≡ local.finish_answer u =
+      asks_found cells.finish_answer Nothing (named its f) left.cells
+      ∙ (ap (of_found cells.finish_answer Nothing) k.1
+      ∙ (ap (λ b. choose b (local.finish_answer k.0.task) Nothing) k.2 ∙ ap (λ t. local.finish_answer t) k.3)) in
+      let first = put_still c f end.task out in
+      let few : length o.lying ≤ c.tells = subst (λ n. n ≤ c.tells) (sym first.lying) given_lying in
+      let names = named_in o first end.let_go (λ w. (finish_waker u w).1) in
+      let fewer = three_fewer 2 left.lines lives_on in
+      let went = lets_go_both its c z o base few end.let_go names fewer in
+      let q = on end.let_go (let_go wakes (tell wakes c)) o in
+      let second = chain c first (went_still end.let_go o) in
+      let y = lets_go end.let_go z in
+      let rang = rings (turns.left_answer (its f).place s).told.sleeper in
+      let all : (takes.ended wakes c f end (Some taker) out).events
+      ≡ p.events ++ (rang ++ (rings_without end.let_go z ++ call_shows end.called (Some taker) y)) =
+      subst
+      (λ d. (or d (λ v. record o { events = o.events ++ Loses v ∷ []; inside = Lose end.called (Some taker) ∷ o.inside })
+      (takes.lost wakes c end.called (Some taker) q)).events
+      ≡ p.events ++ (rang ++ (rings_without end.let_go z ++ call_shows end.called (Some taker) y)))
+      (sym (finish_drops u))
+      (step p.events rang (rings_without end.let_go z ++ call_shows end.called (Some taker) y)
+      (put_events f end.task out ∙ out_events)
+      (step o.events (rings_without end.let_go z) (call_shows end.called (Some taker) y)
+      (lets_go_show (named its) c z o base.0 few fewer end.let_go names)
+      (step q.events (rings_of end.called y) (Answers (answer_in taker) ∷ [])
+      (calls_show (named its) c y q went.0 (subst (λ n. n ≤ c.tells) (sym second.lying) given_lying) (lets_go_lives end.let_go z lives_on)
+      end.called (named_in q second end.called (λ w. (finish_waker u w).0)))
+      (next_events c taker one (on end.called (called wakes (tell wakes c)) q))))) in
+      subst
+      (λ q. (takes.ended wakes c f (local.finish (task f q)) (Some taker) q).events
+      ≡ p.events ++ drop_shows taker (solo.finish_answer (its f) s) z)
+      (sym (drops_within rest c f p))
+      (subst
+      (λ e. (takes.ended wakes c f end (Some taker) out).events
+      ≡ p.events ++ (rang ++ (rings_without (solo.dropped e) z ++ call_shows (solo.called e) (Some taker) (lets_go (solo.dropped e) z))))
+      (sym answer)
+      (subst
+      (λ a. (takes.ended wakes c f end (Some taker) out).events
+      ≡ p.events ++ (rang ++ (rings_without (solo.dropped (local.finish_answer u)) z
+      ++ call_shows a (Some taker) (lets_go (solo.dropped (local.finish_answer u)) z))))
+      (sym (finish_calls u))
+      (subst
+      (λ l. (takes.ended wakes c f end (Some taker) out).events
+      ≡ p.events ++ (rang ++ (rings_without l z ++ call_shows end.called (Some taker) (lets_go l z))))
+      (sym (finish_lets_go u)) all)))
 
   pub given_so : (v : T) → asked cells.is_lent false (named its f) left.cells ≡ true
       → Stands its (after_drop (solo.settle_ready_answer (its f) v s) (solo.settled_ready (its f) v s))
@@ -294,93 +361,50 @@ module _ {F T X : Type 0} (its : ℕ → Lent) (s : Solo F T X) (p : Plain T (So
         handed its c z o (o.events ++ Loses w ∷ []) (Lose a (Some taker) ∷ o.inside) both.1.lent both.1.dropping both.1,
       )
 
-module _ {F T X : Type 0} (its : ℕ → Lent) (s : Solo F T X) (p : Plain T (SoloWaker X)) (both : Stands its s p) where
-  abbrev name : ℕ → Task
-  name = named its
-
-  -- what is in hand isn't at home
-  hand_away : (q : Kept T X → Bool) (f : ℕ) → asked q false (name f) s.cells ≡ true
-      → ((v : Kept T X) → q v ≡ true → is_home v.future ≡ false)
-      → (v : Kept T X) → found (name f) s.cells ≡ Some v → is_home v.future ≡ true → ⊥
-  hand_away q f is away v here home =
-      clash (away v (sym (ap (of_found q false) here) ∙ (sym (asks_found q false (name f) s.cells) ∙ is))) home
-
-  first_in : (f : ℕ) (ns : List ℕ) → cond (f == f) true (is_in f ns) ≡ true
-  first_in f ns = ap (λ b. cond b true (is_in f ns)) (equal f f refl)
-
-  -- of numbers that are apart the others aren't the first
-  others : (f : ℕ) (ns : List ℕ) → (not (is_in f ns) && apart ns) ≡ true → (j : ℕ) → is_in j ns ≡ true → (f == j) ≡ false
-  others f ns once j has = by (f == j) refl
-    where
-      by : (b : Bool) → (f == j) ≡ b → b ≡ false
-      by false same = refl
-      by true same =
-          absurd (clash (not_true (is_in f ns) (both_true (not (is_in f ns)) (apart ns) once).0)
-          (subst (λ n. is_in n ns ≡ true) (sym (same_number f j same)) has))
-
-  apart_ones : (q : Kept T X → Bool) (f : ℕ) → asked q false (name f) s.cells ≡ true
-      → (k : Kept T X → Bool) → ((v : Kept T X) → q v ≡ true → k v ≡ false) → (j : ℕ)
-      → asked k false (name j) s.cells ≡ true → (f == j) ≡ false
-  apart_ones q f is k never j has = by (f == j) refl
-    where
-      none : (o : Option (Kept T X)) → of_found q false o ≡ true → of_found k false o ≡ true → ⊥
-      none None is has = absurd cc
-      none (Some v) is has = clash (never v is) has
-
-      by : (b : Bool) → (f == j) ≡ b → b ≡ false
-      by false same = refl
-      by true same =
-          absurd (none (found (name f) s.cells) (sym (asks_found q false (name f) s.cells) ∙ is)
-          (sym (asks_found k false (name f) s.cells)
-          ∙ subst (λ n. asked k false (name n) s.cells ≡ true) (sym (same_number f j same)) has))
-
-  pub closed_drops_alike : ClosedDropsAlike its s p
-  closed_drops_alike c f taker one rest stands_in many life =
-      let mine : is_in f (drops p.inside) ≡ true = ap (λ cs. is_in f (drops cs)) stands_in ∙ first_in f (drops rest) in
-      let has = both.0.inside.dropping f mine in
-      let once : (not (is_in f (drops rest)) && apart (drops rest)) ≡ true =
-      sym (ap (λ cs. apart (drops cs)) stands_in) ∙ both.0.inside.dropping_once in
-      let away = hand_away cells.is_dropping f has.1 dropping_away in
-      let lent : (j : ℕ) → is_in j (lents rest) ≡ true → (is_in j (lents p.inside) ≡ true) × ((f == j) ≡ false) =
-      λ j is.
-      let it : is_in j (lents p.inside) ≡ true = ap (λ cs. is_in j (lents cs)) stands_in ∙ is in
-      (it, apart_ones cells.is_dropping f has.1 cells.is_lent dropping_not_lent j (both.0.inside.lent j it).1) in
-      let drop : (j : ℕ) → is_in j (drops rest) ≡ true → (is_in j (drops p.inside) ≡ true) × ((f == j) ≡ false) =
-      λ j is.
-      (ap (λ cs. is_in j (drops cs)) stands_in ∙ later (j == f) (is_in j (drops rest)) is, others f (drops rest) once j is) in
-      let lent_once : apart (lents rest) ≡ true = sym (ap (λ cs. apart (lents cs)) stands_in) ∙ both.0.inside.lent_once in
-      let dropping_once : apart (drops rest) ≡ true = (both_true (not (is_in f (drops rest))) (apart (drops rest)) once).1 in
-      let callers : awaiters rest ≡ awaiters p.inside = sym (ap (λ cs. awaiters cs) stands_in) in
+  pub given_shows : (v : T) → asked cells.is_lent false (named its f) left.cells ≡ true
+      → (takes.dropped wakes c f (Gave v) taker (record p { inside = rest })).events
+      ≡ p.events ++ drop_shows taker (solo.settle_ready_answer (its f) v s) (solo.settled_ready (its f) v s)
+  given_shows v hand =
+      let u = task f out in
+      let end = abstract.end_ready v u in
+      let z = solo.settled_ready (its f) v s in
+      let o = put f end.task out in
+      let base : Stands its z o =
+      ended_both cells.is_lent hand lent_away (cells.ended_ready v) (λ u. (abstract.end_ready v u).task) (given_is v) (λ u. refl)
+      (ended_stays v) in
+      let k = state cells.is_lent hand lent_away (cells.ended_ready v) (λ u. (abstract.end_ready v u).task) (given_is v) (λ u. refl)
+      (ended_stays v) in
+      let output : asked (cells.ready_drops v) (Some v) (named its f) left.cells ≡ end.dropped =
+      asks_found (cells.ready_drops v) (Some v) (named its f) left.cells
+      ∙ (ap (of_found (cells.ready_drops v) (Some v)) k.1
+      ∙ (ap (λ b. choose b (abstract.end_ready v k.0.task).dropped (Some v)) k.2
+      ∙ ap (λ t. (abstract.end_ready v t).dropped) k.3)) in
+      let awaiter : asked (cells.ready_calls v) None (named its f) left.cells ≡ u.awaiter =
+      asks_found (cells.ready_calls v) None (named its f) left.cells
+      ∙ (ap (of_found (cells.ready_calls v) None) k.1
+      ∙ (ap (λ b. choose b (abstract.end_ready v k.0.task).called None) k.2 ∙ ap (λ t. (abstract.end_ready v t).called) k.3)) in
+      let first = put_still c f end.task out in
+      let rang = rings (turns.left_answer (its f).place s).told.sleeper in
       subst
-      (λ cs. Stands its (after_drop (solo.finish_answer (its f) s) (solo.finished (its f) s))
-      (calls.innermost wakes c cs (calls.ends wakes c) p))
-      (sym stands_in)
-      (closed_so its s p both.0 both.1 c f (both.1.dropping f mine) has.0 away many life rest lent drop lent_once dropping_once callers taker one
-      (hand_dropping its s p both.0 both.1 c f (both.1.dropping f mine) has.0 away many life rest lent drop lent_once dropping_once
-      callers taker one mine))
-
-  pub given_drops_alike : GivenDropsAlike its s p
-  given_drops_alike c f v taker one rest stands_in many life =
-      let mine : is_in f (lents p.inside) ≡ true = ap (λ cs. is_in f (lents cs)) stands_in ∙ first_in f (lents rest) in
-      let has = both.0.inside.lent f mine in
-      let once : (not (is_in f (lents rest)) && apart (lents rest)) ≡ true =
-      sym (ap (λ cs. apart (lents cs)) stands_in) ∙ both.0.inside.lent_once in
-      let away = hand_away cells.is_lent f has.1 lent_away in
-      let lent : (j : ℕ) → is_in j (lents rest) ≡ true → (is_in j (lents p.inside) ≡ true) × ((f == j) ≡ false) =
-      λ j is.
-      (ap (λ cs. is_in j (lents cs)) stands_in ∙ later (j == f) (is_in j (lents rest)) is, others f (lents rest) once j is) in
-      let drop : (j : ℕ) → is_in j (drops rest) ≡ true → (is_in j (drops p.inside) ≡ true) × ((f == j) ≡ false) =
-      λ j is.
-      let it : is_in j (drops p.inside) ≡ true = ap (λ cs. is_in j (drops cs)) stands_in ∙ is in
-      (it, apart_ones cells.is_lent f has.1 cells.is_dropping (λ v is. lent_dropping v.future is) j (both.0.inside.dropping j it).1) in
-      let lent_once : apart (lents rest) ≡ true = (both_true (not (is_in f (lents rest))) (apart (lents rest)) once).1 in
-      let dropping_once : apart (drops rest) ≡ true =
-      sym (ap (λ cs. apart (drops cs)) stands_in) ∙ both.0.inside.dropping_once in
-      let callers : awaiters rest ≡ awaiters p.inside = sym (ap (λ cs. awaiters cs) stands_in) in
-      subst
-      (λ cs. Stands its (after_drop (solo.settle_ready_answer (its f) v s) (solo.settled_ready (its f) v s))
-      (calls.innermost wakes c cs (calls.ends wakes c) p))
-      (sym stands_in)
-      (given_so its s p both.0 both.1 c f (both.1.lent f mine) has.0 away many life rest lent drop lent_once dropping_once callers taker one v
-      (hand_lent its s p both.0 both.1 c f (both.1.lent f mine) has.0 away many life rest lent drop lent_once dropping_once
-      callers taker one mine))
+      (λ q. (takes.ended wakes c f (abstract.end_ready v (task f q)) (Some taker) q).events
+      ≡ p.events ++ drop_shows taker (solo.settle_ready_answer (its f) v s) z)
+      (sym (drops_within rest c f p))
+      (step p.events rang
+      (loses_or (asked (cells.ready_drops v) (Some v) (named its f) left.cells)
+      (call_shows (asked (cells.ready_calls v) None (named its f) left.cells) (Some taker) z))
+      (put_events f end.task out ∙ out_events)
+      (by z o base.0 (subst (λ n. n ≤ c.tells) (sym first.lying) given_lying) u.awaiter
+      (named_in o first u.awaiter (λ w is. is)) (three_fewer 2 left.lines lives_on) end.dropped
+      ∙ (ap (λ a. o.events ++ loses_or end.dropped (call_shows a (Some taker) z)) (sym awaiter)
+      ∙ ap (λ d. o.events ++ loses_or d (call_shows (asked (cells.ready_calls v) None (named its f) left.cells) (Some taker) z))
+      (sym output))))
+    where
+      by : (z : Solo F T X) (o : Plain T (SoloWaker X)) → Follows (named its) z o → length o.lying ≤ c.tells → (a : Option (SoloWaker X))
+          → Named (named its) (length o.futures) a → HasLife 2 z.lines → (d : Option T)
+          → (or d (λ v. record o { events = o.events ++ Loses v ∷ []; inside = Lose a (Some taker) ∷ o.inside })
+          (takes.lost wakes c a (Some taker) o)).events
+          ≡ o.events ++ loses_or d (call_shows a (Some taker) z)
+      by z o follows few a names life None =
+          step o.events (rings_of a z) (Answers (answer_in taker) ∷ []) (calls_show (named its) c z o follows few life a names)
+          (next_events c taker one (on a (called wakes (tell wakes c)) o))
+      by z o follows few a names life (Some w) = refl

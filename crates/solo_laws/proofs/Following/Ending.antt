@@ -154,7 +154,7 @@ module _ {F T X : Type 0} (name : ℕ → Task) (s : Solo F T X) (p : Plain T (S
     (f : ℕ)
     (place : EntryPlace) (future : F) (at : f < length p.futures) (has : asked cells.is_lent false (name f) s.cells ≡ true)
     (not_lent : is_in f (lents p.inside) ≡ false) (live : is_dropped f p ≡ false) where
-  abbrev now : Solo F T X
+  abbrev pub now : Solo F T X
   now = turns.turned (cells.ended_pending place) (name f) s
 
   abbrev its : Lent
@@ -164,7 +164,7 @@ module _ {F T X : Type 0} (name : ℕ → Task) (s : Solo F T X) (p : Plain T (S
   Its = (v : Kept T X) × (x : Future T (SoloWaker X)) × (found (name f) s.cells ≡ Some v) × (slice_get p.futures f ≡ Some x)
       × (cells.is_lent v ≡ true) × IsTaskOf v x
 
-  it : Its
+  pub it : Its
   it = kept None name cells.is_lent f s p r at has
 
   lent_of : (v : Kept T X) → found (name f) s.cells ≡ Some v → cells.is_lent v ≡ true
@@ -192,7 +192,7 @@ module _ {F T X : Type 0} (name : ℕ → Task) (s : Solo F T X) (p : Plain T (S
       (λ has. (r.inside.dropping f has).1)
 
   module _ (e : abstract.PendingEnd) (is : abstract.pending_end (task f p) ≡ e) where
-    abbrev after : Plain T (SoloWaker X)
+    abbrev pub after : Plain T (SoloWaker X)
     after = put f (left_so place e (task f p)) p
 
     end_of : (v : Kept T X) (x : Future T (SoloWaker X)) → slice_get p.futures f ≡ Some x → IsTaskOf v x
@@ -210,7 +210,8 @@ module _ {F T X : Type 0} (name : ℕ → Task) (s : Solo F T X) (p : Plain T (S
           is =
               subst (λ w. IsTaskOf w (record x { task = told_of (left_so place e x.task) }))
               (sym (ended_is place e v (lent_of v here) (ap (λ t. abstract.pending_end t) of.task ∙ end)))
-              (left_is place e v x (lent_of v here) end (sym (ap (λ (o : Option (Future T (SoloWaker X))). or o (λ future. future.is_dropped) true) is) ∙ live) of);
+              (left_is place e v x (lent_of v here) end
+              (sym (ap (λ (o : Option (Future T (SoloWaker X))). or o (λ future. future.is_dropped) true) is) ∙ live) of);
           ready = λ due start. absurd (clash not_due due);
           lent = λ has so. absurd (clash not_lent has);
           dropping = λ has so. absurd (clash not_dropped has);
@@ -255,10 +256,11 @@ module _ {F T X : Type 0} (name : ℕ → Task) (s : Solo F T X) (p : Plain T (S
       inside = next.inside;
     }
 
-    -- and is queued
-    queues_it : length p.lying ≤ c.tells → HasLife 2 s.lines → cells.may_start (kept_so place e it.0) ≡ true
-        → Follows name (turns.scheduled (name f) (solo.put_back its future now)) (tell wakes_of c (appended f after))
-    queues_it many life so =
+    -- and comes last in its queue
+    pub lines_it : HasLife 2 s.lines → cells.may_start (kept_so place e it.0) ≡ true
+        → (turns.takes (name f) (solo.put_back its future now) ≡ true)
+        × Follows name (turns.lined (name f) (solo.put_back its future now)) (appended f after)
+    lines_it life so =
         let none : stands f after.due ≡ false =
         subst (λ due. stands f due ≡ false) (sym (put_due f (left_so place e (task f p)) p)) not_due in
         let ready : asked cells.may_start false (name f) (cells.changed (cells.ended_pending place) (name f) s.cells) ≡ true =
@@ -268,19 +270,29 @@ module _ {F T X : Type 0} (name : ℕ → Task) (s : Solo F T X) (p : Plain T (S
         found_here (cells.ended_pending place) (name f) s.cells ∙ ap (changed_found (cells.ended_pending place)) it.2 in
         let there = solo.put_back its future now in
         let room : turns.takes (name f) there ≡ true =
-        places None name there after back f here none ready (younger 1 s.lines life) (turns.mark_of (name f) there) in
-        let few : length (appended f after).lying ≤ c.tells =
+        places None name there after back f here none ready (younger 1 s.lines life) (turns.mark_of (name f) there) in (
+          room,
+          lined None name f there after room (marks None name f there after
+              (cells.ended_pending place it.0) here back found_now) here none ready back,
+        )
+
+    pub few : length p.lying ≤ c.tells → length (appended f after).lying ≤ c.tells
+    few many =
         subst (λ (ls : List (Lying (SoloWaker X))). length ls ≤ c.tells)
-        (sym (put_lying f (left_so place e (task f p)) p)) many in
+        (sym (put_lying f (left_so place e (task f p)) p)) many
+
+    queues_it : length p.lying ≤ c.tells → HasLife 2 s.lines → cells.may_start (kept_so place e it.0) ≡ true
+        → Follows name (turns.scheduled (name f) (solo.put_back its future now)) (tell wakes_of c (appended f after))
+    queues_it many life so =
+        let there = solo.put_back its future now in
+        let both = lines_it life so in
         subst (λ b. Follows name (choose b (turns.told (turns.lined (name f) there)) (turns.lined (name f) there))
         (tell wakes_of c (appended f after)))
-        (sym room)
-        (told None name c (turns.lined (name f) there) (appended f after) few
-        (lined None name f there after room (marks None name f there after
-        (cells.ended_pending place it.0) here back found_now) here none ready back)
+        (sym both.0)
+        (told None name c (turns.lined (name f) there) (appended f after) (few many) both.1
         (life_pushed (name f) 1 (turns.mark_of (name f) there) s.lines life))
 
-  infos : (task f p).infos ≡ []
+  pub infos : (task f p).infos ≡ []
   infos =
       ap (λ (t : AbstractTask T (SoloWaker X)). t.infos) (task_is f p it.1 it.3) ∙ told_so it.5
     where

@@ -1,6 +1,6 @@
 -- A leak wakes whom the plain scheduler's leak wakes: the wakers of the table's entries, in the order of spawning.
 use Rattle.std.proofs.Common.{◌≡◌, ℕ, suc, ◌+◌, ◌*◌, ◌<◌, ◌≤◌, ◌==◌, cond, not, ◌&&◌, Bool, true, false, List, [], ◌∷◌, ◌++◌, length, map}
-use Rattle.std.proofs.Common.{drop, Option, Some, None, slice_get, refl, sym, ap, subst, ◌∙◌, append_assoc, arith}
+use Rattle.std.proofs.Common.{drop, Option, Some, None, slice_get, refl, sym, ap, subst, ◌∙◌, append-nil, append_assoc, arith}
 use Rattle.queue_steps.specs.ClosableQueue.{ClosableQueue, appended, most_accepted}
 use Rattle.task_moves.specs.AbstractTask as abstract
 use Rattle.executor_parts.specs.Places.{Entry, unwoken}
@@ -16,12 +16,13 @@ use Rattle.solo.specs.Turns as turns
 use Rattle.solo.specs.Table.{counted_waker}
 use Rattle.solo.specs.Closing as closing
 use Rattle.solo.specs.Closing.{pushed_all, pushed_if}
-use Rattle.plain_scheduler.specs.State.{Choice, Plain, Answers, Done}
-use Rattle.plain_scheduler.specs.Lists.{repeat, each}
+use Rattle.plain_scheduler.specs.State.{Event, Choice, Plain, Answers, Done}
+use Rattle.plain_scheduler.specs.Lists.{repeat, each, or}
 use Rattle.plain_scheduler.specs.Moves.{task, tell, wake}
 use Rattle.plain_scheduler.specs.Calls as calls
 use Rattle.plain_scheduler.specs.Calls.{living_from}
 use Rattle.solo_laws.specs.Leaking.{leaked}
+use Rattle.solo_laws.specs.Shown.{rings, leak_shows}
 use Rattle.solo_laws.specs.Road.{Follows, HasLife, count_of, is_in, wakes}
 use Rattle.solo_laws.specs.Tabled.{IsTableBut, Stands, Row, named, row, row_of, at_home}
 use Rattle.solo_laws.proofs.CellFrames.{scheduled_if_at}
@@ -37,6 +38,7 @@ use Rattle.solo_laws.proofs.Following.Frames.{chain, becomes_still, tell_still}
 use Rattle.solo_laws.proofs.Following.Bases as bases
 use Rattle.solo_laws.proofs.Following.Tabling.{tabled}
 use Rattle.solo_laws.proofs.Following.Losing.{sees}
+use Rattle.solo_laws.proofs.Showing.Telling.{step, woken_shows, released_shows}
 
 -- a row without its waker
 abbrev bare : Row → Row
@@ -96,25 +98,27 @@ module _ {F : Type 0} where
 
 module _ {F T X : Type 0} where
   -- what was woken is queued by no release
+  pub leaves_none : (t : Task) (s : Solo F T X) → asked cells.release_queues false t (solo.woken t s).cells ≡ false
+  leaves_none t s =
+      queues_not t (solo.woken t s).cells
+      (scheduled_if_at (λ s. Rests t s) (λ u s is. others_woken t u s is) (λ u s is. others_released t u s is)
+      (λ u s is. others_tidied t u s is) (asked cells.wake_queues false t s.cells) t (turns.turned cells.woken t s)
+      (itself_woken t s.cells))
+
   pub leaving_is : (t : Task) (s : Solo F T X) → closing.leaving_woken t s ≡ solo.released t (solo.woken t s)
   leaving_is t s =
-      ap (λ b. turns.swept t (choose b (turns.lined t (turns.turned cells.released t (solo.woken t s))) (turns.turned cells.released t (solo.woken t s)))) none
-      ∙ sym (ap (λ b. turns.swept t (turns.scheduled_if b t (turns.turned cells.released t (solo.woken t s)))) none)
-    where
-      rests : Rests t (solo.woken t s).cells
-      rests =
-          scheduled_if_at (λ s. Rests t s) (λ u s is. others_woken t u s is) (λ u s is. others_released t u s is)
-          (λ u s is. others_tidied t u s is) (asked cells.wake_queues false t s.cells) t (turns.turned cells.woken t s)
-          (itself_woken t s.cells)
-
-      none : asked cells.release_queues false t (solo.woken t s).cells ≡ false
-      none = queues_not t (solo.woken t s).cells rests
+      ap (λ b. turns.swept t (choose b (turns.lined t (turns.turned cells.released t (solo.woken t s)))
+      (turns.turned cells.released t (solo.woken t s)))) (leaves_none t s)
+      ∙ sym (ap (λ b. turns.swept t (turns.scheduled_if b t (turns.turned cells.released t (solo.woken t s)))) (leaves_none t s))
 
 module _ {T X : Type 0} (c : Choice) where
   abbrev freed : ℕ → Plain T (SoloWaker X) → Plain T (SoloWaker X)
   freed f p = calls.freed wakes c f p
 
 module _ {F T X : Type 0} (its : ℕ → Lent) (c : Choice) where
+  abbrev rung : Solo F T X → List (Event T (SoloWaker X))
+  rung s = rings (or (closing.leak_answer s) (λ told. told.sleeper) None)
+
   abbrev Stand : List Task → Solo F T X → Plain T (SoloWaker X) → Type 0
   Stand waits s p = Follows (named its) s p × IsTableBut waits its s p
 
@@ -123,6 +127,7 @@ module _ {F T X : Type 0} (its : ℕ → Lent) (c : Choice) where
       → f < length p.futures → length p.lying ≤ c.tells → HasLife (n + 6) s.lines
       → Stand rest (closing.leak_woken s) (freed c f p) × HasLife n (closing.leak_woken s).lines
       × (length (freed c f p).futures ≡ length p.futures) × (length (freed c f p).lying ≡ length p.lying)
+      × ((freed c f p).events ≡ p.events ++ rung s)
   wakes_one f rest n s p both below many life =
       let out : Solo F T X = closing.first_left s in
       let is : closing.leak_woken s ≡ solo.released (named its f) (solo.woken (named its f) out) =
@@ -138,7 +143,7 @@ module _ {F T X : Type 0} (its : ℕ → Lent) (c : Choice) where
       waking.woken None (named its) c f out p below (unlike out both.0) many (λ mark. let it = life mark in omega (arith, it)) in
       subst
       (λ y. Stand rest y (freed c f p) × HasLife n y.lines × (length (freed c f p).futures ≡ length p.futures)
-      × (length (freed c f p).lying ≡ length p.lying))
+      × (length (freed c f p).lying ≡ length p.lying) × ((freed c f p).events ≡ p.events ++ rung s))
       (sym is) (
         (
           waking.released None (named its) c f z q (subst (λ n. f < n) (sym first.futures) below) woke
@@ -149,6 +154,14 @@ module _ {F T X : Type 0} (its : ℕ → Lent) (c : Choice) where
         released_lives n (named its f) z alive,
         all.futures,
         all.lying,
+        released_shows None (named its) c f z q (subst (λ n. f < n) (sym first.futures) below) woke
+            (subst (λ n. n ≤ c.tells) (sym first.lying) many) (λ mark. let it = alive mark in omega (arith, it))
+            ∙ (ap (λ b. q.events ++ rings (turns.schedule_if_answer b (named its f) (turns.turned cells.released (named its f) z)).sleeper)
+            (leaves_none (named its f) out)
+            ∙ (append-nil q.events
+            ∙ (woken_shows None (named its) c f out p below (unlike out both.0) many (λ mark. let it = life mark in omega (arith, it))
+            ∙ sym (ap (λ o. p.events ++ rings (or (closing.leak_answer_by o out) (λ told. told.sleeper) None))
+            (ap (λ (ts : List Task). slice_get ts 0) both.1.leaving))))),
       )
     where
       unlike : (z : Solo F T X) → Follows (named its) s p → Follows (named its) (record s { leaving = z.leaving }) p
@@ -187,14 +200,17 @@ module _ {F T X : Type 0} (its : ℕ → Lent) (c : Choice) where
   wakes_all : (fs : List ℕ) (s : Solo F T X) (p : Plain T (SoloWaker X)) → Stand (map (named its) fs) s p
       → ((f : ℕ) → is_in f fs ≡ true → f < length p.futures) → length p.lying ≤ c.tells → HasLife (6 * length fs) s.lines
       → Stand [] (repeat (length fs) closing.leak_woken s) (each fs (freed c) p)
-  wakes_all [] s p both below many life = both
+      × ((each fs (freed c) p).events ≡ p.events ++ leak_shows (length fs) s)
+  wakes_all [] s p both below many life = (both, sym (append-nil p.events))
   wakes_all (f ∷ fs) s p both below many life =
       let next = wakes_one f (map (named its) fs) (6 * length fs) s p both
       (below f (ap (λ b. cond b true (is_in f fs)) (equal f f refl))) many
       (λ mark. let it = life mark in omega (arith, it)) in
+      let rest =
       wakes_all fs (closing.leak_woken s) (freed c f p) next.0
       (λ g has. subst (λ n. g < n) (sym next.2) (below g (later (g == f) (is_in g fs) has)))
-      (subst (λ n. n ≤ c.tells) (sym next.3) many) next.1
+      (subst (λ n. n ≤ c.tells) (sym next.3) many) next.1 in
+      (rest.0, step p.events (rung s) (leak_shows (length fs) (closing.leak_woken s)) next.4 rest.1)
 
   module _ (s : Solo F T X) (p : Plain T (SoloWaker X)) (both : Stands its s p) (owned : p.is_static ≡ false) where
     abbrev fs : List ℕ
@@ -263,14 +279,26 @@ module _ {F T X : Type 0} (its : ℕ → Lent) (c : Choice) where
         out : Pushed (pushed_all s.table.entries s.leaving) s.leaving (map (named its) fs) p.limit
         out = pushes s.table.entries (map (named its) fs) s.leaving p.limit its_wakers both.1.leaving_open both.1.leaving_limit room life
 
-  pub leaks_alike : (s : Solo F T X) (p : Plain T (SoloWaker X)) → Stands its s p → p.is_static ≡ false → length p.lying ≤ c.tells
-      → HasLife (6 * length s.table.entries) s.lines → count_of s.leaving.accepted + length s.table.entries ≤ most_accepted
-      → Stands its (leaked (length s.table.entries) s) (calls.does wakes c calls.Call.Leak p)
-  leaks_alike s p both owned many life leaving =
-      let long = entries_long s p both owned in
-      let q = each (living_from 0 p.futures) (freed c) (record p { is_static = true }) in
-      subst (λ n. Stands its (leaked n s) (record q { events = q.events ++ Answers Done ∷ [] })) (sym long)
-      (sees its c (leaked (length (living_from 0 p.futures)) s) q Done
-      (wakes_all (living_from 0 p.futures) (closing.leaked s) (record p { is_static = true }) (begins s p both owned leaving)
-      (λ f has. let below = living_below p.futures 0 f has in omega (arith, below)) many
-      (subst (λ n. HasLife (6 * n) s.lines) long life)))
+  module _ (s : Solo F T X) (p : Plain T (SoloWaker X)) (both : Stands its s p) (owned : p.is_static ≡ false)
+      (many : length p.lying ≤ c.tells) (life : HasLife (6 * length s.table.entries) s.lines)
+      (leaving : count_of s.leaving.accepted + length s.table.entries ≤ most_accepted) where
+    abbrev after : Plain T (SoloWaker X)
+    after = each (living_from 0 p.futures) (freed c) (record p { is_static = true })
+
+    leaks : Stand [] (leaked (length (living_from 0 p.futures)) s) after
+        × (after.events ≡ p.events ++ leak_shows (length (living_from 0 p.futures)) (closing.leaked s))
+    leaks =
+        wakes_all (living_from 0 p.futures) (closing.leaked s) (record p { is_static = true }) (begins s p both owned leaving)
+        (λ f has. let below = living_below p.futures 0 f has in omega (arith, below)) many
+        (subst (λ n. HasLife (6 * n) s.lines) (entries_long s p both owned) life)
+
+    pub leaks_alike : Stands its (leaked (length s.table.entries) s) (calls.does wakes c calls.Call.Leak p)
+    leaks_alike =
+        subst (λ n. Stands its (leaked n s) (record after { events = after.events ++ Answers Done ∷ [] }))
+        (sym (entries_long s p both owned)) (sees its c (leaked (length (living_from 0 p.futures)) s) after Done leaks.0)
+
+    pub leaks_shown : (calls.does wakes c calls.Call.Leak p).events
+        ≡ p.events ++ (leak_shows (length s.table.entries) (closing.leaked s) ++ Answers Done ∷ [])
+    leaks_shown =
+        step p.events (leak_shows (length s.table.entries) (closing.leaked s)) (Answers Done ∷ [])
+        (leaks.1 ∙ ap (λ n. p.events ++ leak_shows n (closing.leaked s)) (sym (entries_long s p both owned))) refl

@@ -22,7 +22,7 @@ use Rattle.solo.specs.Solo as solo
 use Rattle.solo.specs.Turns as turns
 use Rattle.plain_scheduler.specs.State.{Future, Choice, Plain, Answers, Made, NoMemory, Full}
 use Rattle.plain_scheduler.specs.Lists.{or}
-use Rattle.plain_scheduler.specs.Moves.{task, appended, tell, no_task, answers}
+use Rattle.plain_scheduler.specs.Moves.{appended, tell, no_task, answers}
 use Rattle.plain_scheduler.specs.Calls.{living_from, is_granted}
 use Rattle.solo_laws.specs.Road.{IsTaskOf, TaskIs, IsNamed, Follows, HasLife, stands, is_in, apart, wakes}
 use Rattle.solo_laws.specs.Tabled.{IsTable, Stands, named, row, row_of, key_of, is_dropped, at_home, home_of}
@@ -38,7 +38,6 @@ use Rattle.solo_laws.proofs.Following.Using.{marks}
 use Rattle.solo_laws.proofs.Following.Lines.{younger, life_pushed}
 use Rattle.solo_laws.proofs.Following.Telling.{told}
 use Rattle.solo_laws.proofs.Following.Seeing.{seen}
-use Rattle.solo_laws.proofs.Following.Lives.{two_fewer}
 use Rattle.solo_laws.proofs.Following.Frames.{chain, tell_still, seen_still, appended_still}
 use Rattle.solo_laws.proofs.Following.Bases as bases
 use Rattle.solo_laws.proofs.Following.Tabling.{tabled}
@@ -80,16 +79,16 @@ module _ {F T X : Type 0} (its : ℕ → Lent) (s : Solo F T X) (p : Plain T (So
   abbrev n : ℕ
   n = length p.futures
 
-  abbrev accepting : Solo F T X
+  abbrev pub accepting : Solo F T X
   accepting = record s { table = table; cells = cells_after; accepted = own.one_more s.accepted }
 
   abbrev coming : Future T (SoloWaker X)
   coming = record { task = abstract.spawned (if p.is_static then 0 else 1); mark = mark; is_dropped = false }
 
-  abbrev entered : Plain T (SoloWaker X)
+  abbrev pub entered : Plain T (SoloWaker X)
   entered = record p { futures = p.futures ++ coming ∷ [] }
 
-  named_new : name n ≡ new
+  pub named_new : name n ≡ new
   named_new = ap (λ (l : Lent). l.task) is
 
   long : length entered.futures ≡ n + 1
@@ -308,35 +307,42 @@ module _ {F T X : Type 0} (its : ℕ → Lent) (s : Solo F T X) (p : Plain T (So
       counts_on : (m : ℕ) → m < most_accepted → own.one_more m ≡ m + 1
       counts_on m few = omega (arith, few)
 
-  -- then its task comes last in its queue, and a sleeper is told
-  pub spawned : (c : Choice) → length p.lying ≤ c.tells → HasLife 3 s.lines
-      → Stands its (turns.scheduled new accepting) (tell wakes c (appended n entered))
-  spawned c many life =
+  -- then its task comes last in its queue
+  pub lined_so : HasLife 2 s.lines → (turns.takes (name n) accepting ≡ true)
+      × Follows name (turns.lined (name n) accepting) (appended n entered)
+  lined_so life =
       let none : stands n p.due ≡ false = not_due (stands n p.due) refl in
       let below : n < length entered.futures = subst (λ m. n < m) (sym long) (omega arith) in
       let ready : asked cells.may_start false (name n) cells_after ≡ true =
       asks_found cells.may_start false (name n) cells_after ∙ ap (of_found cells.may_start false) cell_new in
       let room : turns.takes (name n) accepting ≡ true =
-      places None name accepting entered followed n below none ready (two_fewer 1 s.lines life) (turns.mark_of (name n) accepting) in
-      let queued : Follows name (turns.lined (name n) accepting) (appended n entered) =
-      lined None name n accepting entered room (marks None name n accepting entered kept_new below followed cell_new)
-      below none ready followed in
-      let both : Follows name (turns.told (turns.lined (name n) accepting)) (tell wakes c (appended n entered)) =
-      told None name c (turns.lined (name n) accepting) (appended n entered) many queued
-      (younger 1 (turns.lined (name n) accepting).lines
-      (life_pushed (name n) 2 (turns.mark_of (name n) accepting) s.lines life)) in
-      let ends : Follows name (turns.scheduled (name n) accepting) (tell wakes c (appended n entered)) =
-      subst (λ b. Follows name (choose b (turns.told (turns.lined (name n) accepting)) (turns.lined (name n) accepting))
-      (tell wakes c (appended n entered))) (sym room) both in (
-        subst (λ u. Follows name (turns.scheduled u accepting) (tell wakes c (appended n entered))) named_new ends,
-        tabled its c accepting (turns.scheduled new accepting) entered (tell wakes c (appended n entered))
-            (bases.scheduled_base accepting new accepting (bases.same accepting))
-            (chain c (appended_still c n entered) (tell_still c (appended n entered))) tabled_so,
+      places None name accepting entered followed n below none ready (younger 1 s.lines life) (turns.mark_of (name n) accepting) in (
+        room,
+        lined None name n accepting entered room (marks None name n accepting entered kept_new below followed cell_new)
+            below none ready followed,
       )
     where
       not_due : (b : Bool) → stands n p.due ≡ b → b ≡ false
       not_due false due = refl
       not_due true due = let it : n < n = stood n due in absurd (omega (arith, it))
+
+  -- and a sleeper is told
+  pub spawned : (c : Choice) → length p.lying ≤ c.tells → HasLife 3 s.lines
+      → Stands its (turns.scheduled new accepting) (tell wakes c (appended n entered))
+  spawned c many life =
+      let queued = lined_so (younger 2 s.lines life) in
+      let both : Follows name (turns.told (turns.lined (name n) accepting)) (tell wakes c (appended n entered)) =
+      told None name c (turns.lined (name n) accepting) (appended n entered) many queued.1
+      (younger 1 (turns.lined (name n) accepting).lines
+      (life_pushed (name n) 2 (turns.mark_of (name n) accepting) s.lines life)) in
+      let ends : Follows name (turns.scheduled (name n) accepting) (tell wakes c (appended n entered)) =
+      subst (λ b. Follows name (choose b (turns.told (turns.lined (name n) accepting)) (turns.lined (name n) accepting))
+      (tell wakes c (appended n entered))) (sym queued.0) both in (
+        subst (λ u. Follows name (turns.scheduled u accepting) (tell wakes c (appended n entered))) named_new ends,
+        tabled its c accepting (turns.scheduled new accepting) entered (tell wakes c (appended n entered))
+            (bases.scheduled_base accepting new accepting (bases.same accepting))
+            (chain c (appended_still c n entered) (tell_still c (appended n entered))) tabled_so,
+      )
 
 module _ {F T X : Type 0} (its : ℕ → Lent) (s : Solo F T X) (p : Plain T (SoloWaker X)) (both : Stands its s p) where
   pub spawns_alike : SpawnsAlike its s p
@@ -344,7 +350,8 @@ module _ {F T X : Type 0} (its : ℕ → Lent) (s : Solo F T X) (p : Plain T (So
       let first = spawns.0 in
       let a = spawns.1.0 in
       let after = accepting its s p both.0 both.1 mark future it.task first.table first.cells a is few in
-      let q = tell wakes c (appended (length p.futures) (entered its s p both.0 both.1 mark future it.task first.table first.cells a is few)) in
+      let q = tell wakes c (appended (length p.futures)
+      (entered its s p both.0 both.1 mark future it.task first.table first.cells a is few)) in
       let all : Stands its z q =
       subst (λ z. Stands its z q) (sym (spawns.2 ∙ ap (turns.scheduled it.task) spawns.1.1))
       (spawned its s p both.0 both.1 mark future it.task first.table first.cells a is few c many life) in

@@ -1,4 +1,4 @@
-use Rattle.solo_laws.proofs.Following.Ended.{given_drops_alike, closed_drops_alike}
+use Rattle.solo_laws.proofs.Following.Drops.{given_drops_alike, closed_drops_alike}
 use Rattle.solo_laws.proofs.roads.a_drop_ends_alike.Goals as goal
 
 pub returns : goal.returns

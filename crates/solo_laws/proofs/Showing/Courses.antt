@@ -1,0 +1,125 @@
+-- Both stand alike after each list of calls, and what is seen is what was shown.
+use Rattle.std.proofs.Common.{◌≡◌, ℕ, ◌≤◌, List, [], ◌++◌, length, append-nil, refl, sym, ap, subst}
+use Rattle.solo.specs.declared.names.SoloWaker.{SoloWaker}
+use Rattle.solo.specs.declared.owed.Lent.{Lent}
+use Rattle.solo.specs.declared.names.Kind.{Kind}
+use Rattle.solo.specs.declared.solo.Solo.{Solo}
+use Rattle.solo.specs.Solo.{IsNew}
+use Rattle.plain_scheduler.specs.State.{Event, Who, Choice, Plain}
+use Rattle.plain_scheduler.specs.Calls.{Call, does, course}
+use Rattle.solo_laws.specs.Courses.{Makes, spawns, refuses, takes, looks, wakes, uses, releases, copies, polls, cancels, detaches}
+use Rattle.solo_laws.specs.Courses.{drops_handle, leaks, pends, gives, ends_given, ends_closed, loses, Acts, makes, makes_tick, tick_takes}
+use Rattle.solo_laws.specs.Courses.{tick_rests, tick_leaves, Leads, stays, leads}
+use Rattle.solo_laws.specs.Numbered.{IsNumbered}
+use Rattle.solo_laws.specs.Road.{wakes as wakes_of}
+use Rattle.solo_laws.specs.Tabled.{Stands}
+use Rattle.solo_laws.proofs.Following.Both as both
+use Rattle.solo_laws.proofs.Following.Begun.{takes_alike, pends_both, gives_both}
+use Rattle.solo_laws.proofs.Following.Drops.{given_drops_alike, closed_drops_alike, given_drops_shown, closed_drops_shown}
+use Rattle.solo_laws.proofs.Following.Leaking.{leaks_alike, leaks_shown}
+use Rattle.solo_laws.proofs.Following.Losing.{loses_alike}
+use Rattle.solo_laws.proofs.Following.Refusing.{refuses_alike, empty_alike}
+use Rattle.solo_laws.proofs.Following.Spawning.{spawns_alike}
+use Rattle.solo_laws.proofs.Following.Keeping.{makes_numbered}
+use Rattle.solo_laws.proofs.Following.TickTaking.{ticks_take}
+use Rattle.solo_laws.proofs.Following.TickResting.{ticks_rest}
+use Rattle.solo_laws.proofs.Following.TickLeaving.{ticks_begin, ticks_leave}
+use Rattle.solo_laws.proofs.Showing.Telling.{step}
+use Rattle.solo_laws.proofs.Showing.Calling as calling
+use Rattle.solo_laws.proofs.Showing.Polling.{handles_shown}
+use Rattle.solo_laws.proofs.Showing.Spawning.{spawns_shown}
+use Rattle.solo_laws.proofs.Showing.Taking.{takes_shown}
+use Rattle.solo_laws.proofs.Showing.Ending.{pends_shown, gives_shown}
+use Rattle.solo_laws.proofs.Showing.Losing.{loses_shown}
+
+-- of a new one nobody sleeps
+pub new_numbered : {F T X : Type 0} (number : Who → ℕ) (limit : ℕ) (kind : Kind) (s : Solo F T X) → IsNew limit kind s
+    → IsNumbered number s.sleepers []
+new_numbered number limit kind s is =
+    subst (λ sleepers. IsNumbered number sleepers []) (sym is.sleepers)
+    (record { wakers = refl; once = refl; few = λ n has. absurd cc })
+
+module _ {F T X : Type 0} (its : ℕ → Lent) where
+  -- where both stand alike, they do after a call, and what is seen is what was shown
+  abbrev pub Alike : Choice → Call T (SoloWaker X) → Plain T (SoloWaker X) → List (Event T (SoloWaker X)) → Solo F T X → Type 0
+  Alike c call p shown z = Stands its z (does wakes_of c call p) × ((does wakes_of c call p).events ≡ p.events ++ shown)
+
+  pub makes_alike : (c : Choice) (s z : Solo F T X) (p : Plain T (SoloWaker X)) (call : Call T (SoloWaker X))
+      (shown : List (Event T (SoloWaker X))) → Stands its s p → length p.lying ≤ c.tells → Makes its c s p call shown z
+      → Alike c call p shown z
+  makes_alike c s z p call shown so many (spawns mark future spawned z' how is granted life few) = (
+    spawns_alike its s p so c mark future spawned z' how is granted many life few,
+    spawns_shown its s p so c mark future spawned z' how is granted many life few,
+  )
+  makes_alike c s z p call shown so many (refuses mark future refused z' how fits) =
+      let it = refuses_alike its s p so c mark future refused z' how fits in
+      (it.1, ap (λ (q : Plain T (SoloWaker X)). q.events) it.0)
+  makes_alike c s z p call shown so many (takes first life) =
+      (takes_alike its c s p so first many life, (takes_shown its s p so c first many life).seen)
+  makes_alike c s z p call shown so many looks =
+      let it = empty_alike its s p so c in (it.1, ap (λ (q : Plain T (SoloWaker X)). q.events) it.0)
+  makes_alike c s z p call shown so many (wakes f at life) =
+      (both.wakes_alike its s p so c f at many life, calling.wakes_shown its s p so c f at many life)
+  makes_alike c s z p call shown so many (uses f at life) =
+      (both.uses_alike its s p so c f at many life, calling.uses_shown its s p so c f at many life)
+  makes_alike c s z p call shown so many (releases f at life) =
+      (both.releases_alike its s p so c f at many life, calling.releases_shown its s p so c f at many life)
+  makes_alike c s z p call shown so many (copies f at says) =
+      (both.copies_alike its s p so c f at says, calling.copies_shown its s p so c f says)
+  makes_alike c s z p call shown so many (polls f w at handle named life) =
+      (both.handles_alike its s p so c f w at handle named many life, handles_shown its s p so c f w at handle named many life)
+  makes_alike c s z p call shown so many (cancels f at life) =
+      (both.cancels_alike its s p so c f at many life, calling.cancels_shown its s p so c f at many life)
+  makes_alike c s z p call shown so many (detaches f at life) =
+      (both.detaches_alike its s p so c f at many life, calling.detaches_shown its s p so c f at many life)
+  makes_alike c s z p call shown so many (drops_handle f at life) =
+      (both.handle_drops_alike its s p so c f at many life, calling.handle_drops_shown its s p so c f at many life)
+  makes_alike c s z p call shown so many (leaks owned life leaving) =
+      (leaks_alike its c s p so owned many life leaving, leaks_shown its c s p so owned many life leaving)
+  makes_alike c s z p call shown so many (pends f by rest future one stands_in life) = (
+    pends_both its c s p so f by rest stands_in future one many life,
+    (pends_shown its s p so c f by one rest future stands_in many life).seen,
+  )
+  makes_alike c s z p call shown so many (gives f by rest v stands_in) =
+      (gives_both its c s p so f by rest stands_in v, gives_shown its s p so c f by rest v stands_in)
+  makes_alike c s z p call shown so many (ends_given f v by rest one stands_in life) = (
+    given_drops_alike its s p so c f v by one rest stands_in many life,
+    (given_drops_shown its s p so c f v by one rest stands_in many life).seen,
+  )
+  makes_alike c s z p call shown so many (ends_closed f by rest one stands_in life) = (
+    closed_drops_alike its s p so c f by one rest stands_in many life,
+    (closed_drops_shown its s p so c f by one rest stands_in many life).seen,
+  )
+  makes_alike c s z p call shown so many (loses awaiter by rest one stands_in life) = (
+    loses_alike its s p so c awaiter by one rest stands_in many life,
+    loses_shown its s p so c awaiter by one rest stands_in many life,
+  )
+
+  -- so with ticks, and each that lies has its number
+  abbrev pub Both : Choice → Call T (SoloWaker X) → Plain T (SoloWaker X) → List (Event T (SoloWaker X)) → (Who → ℕ) → Solo F T X → Type 0
+  Both c call p shown now z = Alike c call p shown z × IsNumbered now z.sleepers (does wakes_of c call p).lying
+
+  pub acts_alike : (number : Who → ℕ) (c : Choice) (s : Solo F T X) (p : Plain T (SoloWaker X)) (now : Who → ℕ) (z : Solo F T X)
+      (call : Call T (SoloWaker X)) (shown : List (Event T (SoloWaker X))) → Stands its s p → IsNumbered number s.sleepers p.lying
+      → length p.lying ≤ c.tells → Acts its number c s p call shown now z → Both c call p shown now z
+  acts_alike number c s p now z call shown so n many (makes call' shown' z' how) =
+      let it = makes_alike c s z' p call' shown' so many how in
+      (it, makes_numbered its c s p number call' shown' z' how n many it.0)
+  acts_alike number c s p now z call shown so n many (makes_tick granted) =
+      let it = ticks_begin its number s p so n c granted in ((it.stands, it.seen), it.numbered)
+  acts_alike number c s p now z call shown so n many (tick_takes t w task found first life) =
+      let it = ticks_take its number s p so n c t w task found first many life in ((it.stands, it.seen), it.numbered)
+  acts_alike number c s p now z call shown so n many (tick_rests t w none first granted room names more life) =
+      let it = ticks_rest its number s p so n c t w none first granted room names more life in ((it.stands, it.seen), it.numbered)
+  acts_alike number c s p now z call shown so n many (tick_leaves t life) =
+      let it = ticks_leave its number s p so n c t many life in ((it.stands, it.seen), it.numbered)
+
+  pub leads_alike : (list : List (Choice × Call T (SoloWaker X))) (number last : Who → ℕ) (s z : Solo F T X) (p : Plain T (SoloWaker X))
+      (shown : List (Event T (SoloWaker X))) → Stands its s p → IsNumbered number s.sleepers p.lying
+      → Leads its list number s p shown last z
+      → Stands its z (course wakes_of list p) × ((course wakes_of list p).events ≡ p.events ++ shown)
+  leads_alike list number last s z p shown so n (stays number' s' p') = (so, sym (append-nil p.events))
+  leads_alike list number last s z p shown so n (leads c call rest before now later s' y z' p' first others many acts how) =
+      let one = acts_alike before c s' p' now y call first so n many acts in
+      let all = leads_alike rest now later y z' (does wakes_of c call p') others one.0.0 one.1 how in
+      (all.0, step p'.events first others one.0.1 all.1)

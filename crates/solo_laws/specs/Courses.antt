@@ -1,0 +1,122 @@
+-- Lists of whole calls, of those that both are known to make alike: what the owner of an executor does for each call of the plain
+-- scheduler, and what is shown by it.
+use Rattle.std.specs.Prelude.{◌≡◌, ℕ, suc, ◌+◌, ◌*◌, ◌<◌, ◌≤◌, nat_lt, true, false, if◌then◌else◌, List, [], ◌∷◌, ◌++◌, length, find}
+use Rattle.std.specs.Prelude.{Option, Some, None, Ok, Err}
+use Rattle.queue_steps.specs.ClosableQueue.{most_accepted}
+use Rattle.executor_parts.specs.declared.mark.Mark.{Mark}
+use Rattle.solo.specs.declared.names.Task.{Task}
+use Rattle.solo.specs.declared.names.SoloWaker.{SoloWaker}
+use Rattle.solo.specs.declared.names.SoloWaker.TheVariants.{Task as OfTask}
+use Rattle.solo.specs.declared.owed.Lent.{Lent}
+use Rattle.solo.specs.declared.owed.Spawned.{Spawned}
+use Rattle.solo.specs.declared.owed.SpawnError.{SpawnError}
+use Rattle.solo.specs.declared.solo.Solo.{Solo}
+use Rattle.solo.specs.Lines.{mark_of_turn}
+use Rattle.solo.specs.Solo as solo
+use Rattle.solo.specs.Closing as closing
+use Rattle.solo.specs.Ticks as ticks
+use Rattle.plain_scheduler.specs.State.{Event, Who, ATick, Answers, Pending, Choice, Code, Poll, Drop, Lose, Closed, Gave, Taker, Plain}
+use Rattle.plain_scheduler.specs.State.{Made, NoMemory, Yes, No, Done, Drops, Granted, AtOnce}
+use Rattle.plain_scheduler.specs.Moves.{lies, task}
+use Rattle.plain_scheduler.specs.Calls.{Call, Spawn, TryTick, IsEmpty, Wake, Use, Copy, Release, PollHandle, Cancel, Detach, DropHandle}
+use Rattle.plain_scheduler.specs.Calls.{Leak, Pends, EndsWith, Ends, NewTick, PollTick, DropTick, is_granted, does}
+use Rattle.solo_laws.specs.Alike.{calls, cancelled, handle_polled, takes_one}
+use Rattle.solo_laws.specs.Dropping.{after_drop, ends_one}
+use Rattle.solo_laws.specs.Leaking.{leaked}
+use Rattle.solo_laws.specs.Road.{HasLife, IsNamed, count_of, wakes as wakes_of}
+use Rattle.solo_laws.specs.Shown.{rings, found_as, cancel_shows, detach_shows, poll_shows, end_shows, drop_shows, call_shows, leak_shows}
+use Rattle.solo_laws.specs.Numbered.{ticker_of}
+use Rattle.solo_laws.specs.Ticking.{CanCopy, number_after, rest_answer, rested, tick_shows}
+use Rattle.solo_laws.specs.Spawning.{said, is_memory}
+use Rattle.solo_laws.specs.Tabled.{named}
+
+-- an executor becomes another by what its owner does for a call, and shows this; that of a future that isn't known isn't made, nor
+-- where a queue has accepted as many tasks as it may
+pub data Makes {F T X : Type 0} (its : ℕ → Lent) (c : Choice) (s : Solo F T X) (p : Plain T (SoloWaker X))
+    : Call T (SoloWaker X) → List (Event T (SoloWaker X)) → Solo F T X → Type 0 where
+  spawns : (mark : Mark) (future : F) (spawned : Spawned X) (z : Solo F T X) (so : solo.Spawns mark future s (Ok spawned) z)
+      → its (length p.futures) ≡ record { task = spawned.task; place = so.1.0.place } → c.refusal ≡ Granted → HasLife 3 s.lines
+      → length p.futures < most_accepted → Makes its c s p (Spawn mark) (rings spawned.told.sleeper ++ Answers Made ∷ []) z
+  refuses : (mark : Mark) (future : F) (refused : SpawnError F) (z : Solo F T X) → solo.Spawns mark future s (Err refused) z
+      → (is_memory refused ≡ true → is_granted c.refusal ≡ false) → Makes its c s p (Spawn mark) (Answers (said refused) ∷ []) z
+  takes : c.first ≡ mark_of_turn s.lines.turn → HasLife 1 s.lines
+      → Makes its c s p TryTick (rings (solo.take_answer s).sleeper ++ found_as (solo.take_answer s).found) (solo.taken s)
+  looks : Makes its c s p IsEmpty (Answers (if solo.is_empty s then Yes else No) ∷ []) s
+  wakes : (f : ℕ) → f < length p.futures → HasLife 2 s.lines
+      → Makes its c s p (Wake f) (rings (solo.wake_answer (named its f) s).sleeper ++ Answers Done ∷ []) (solo.woken (named its f) s)
+  uses : (f : ℕ) → f < length p.futures → HasLife 2 s.lines
+      → Makes its c s p (Use f) (rings (solo.wake_and_release_answer (named its f) s).sleeper ++ Answers Done ∷ [])
+      (solo.woken_and_released (named its f) s)
+  releases : (f : ℕ) → f < length p.futures → HasLife 2 s.lines
+      → Makes its c s p (Release f) (rings (solo.release_answer (named its f) s).sleeper ++ Answers Done ∷ [])
+      (solo.released (named its f) s)
+  copies : (f : ℕ) → f < length p.futures → c.refusal ≡ (if solo.may_hold (named its f) s then Granted else AtOnce)
+      → Makes its c s p (Copy f) (Answers (if solo.may_hold (named its f) s then Made else NoMemory) ∷ []) (solo.held (named its f) s)
+  polls : (f : ℕ) (w : SoloWaker X) → f < length p.futures → (task f p).handle ≡ true
+      → ((t : Task) → w ≡ OfTask t → IsNamed (named its) (length p.futures) t × (is_granted c.refusal ≡ solo.may_hold t s))
+      → HasLife 2 s.lines
+      → Makes its c s p (PollHandle f w) (poll_shows (is_granted c.refusal) (named its f) w s)
+      (handle_polled (is_granted c.refusal) (named its f) w s)
+  cancels : (f : ℕ) → f < length p.futures → HasLife 5 s.lines
+      → Makes its c s p (Cancel f) (cancel_shows (named its f) s (Answers Done ∷ [])) (cancelled (named its f) s)
+  detaches : (f : ℕ) → f < length p.futures → HasLife 2 s.lines
+      → Makes its c s p (Detach f) (detach_shows (named its f) s) (solo.detached (named its f) s)
+  drops_handle : (f : ℕ) → f < length p.futures → HasLife 8 s.lines
+      → Makes its c s p (DropHandle f) (cancel_shows (named its f) s (detach_shows (named its f) (cancelled (named its f) s)))
+      (solo.detached (named its f) (cancelled (named its f) s))
+  leaks : p.is_static ≡ false → HasLife (6 * length s.table.entries) s.lines
+      → count_of s.leaving.accepted + length s.table.entries ≤ most_accepted
+      → Makes its c s p Leak (leak_shows (length s.table.entries) (closing.leaked s) ++ Answers Done ∷ [])
+      (leaked (length s.table.entries) s)
+  -- the ends of users' codes
+  pends : (f : ℕ) (by : Taker (SoloWaker X)) (rest : List (Code T (SoloWaker X))) (future : F) → takes_one by ≡ true
+      → p.inside ≡ Poll f by ∷ rest → HasLife 2 s.lines
+      → Makes its c s p Pends (end_shows by (solo.settle_pending_answer (its f) future s)) (solo.settled_pending (its f) future s)
+  gives : (f : ℕ) (by : Taker (SoloWaker X)) (rest : List (Code T (SoloWaker X))) (v : T) → p.inside ≡ Poll f by ∷ rest
+      → Makes its c s p (EndsWith v) (Drops f ∷ []) s
+  ends_given : (f : ℕ) (v : T) (by : Taker (SoloWaker X)) (rest : List (Code T (SoloWaker X))) → takes_one by ≡ true
+      → p.inside ≡ Drop f (Gave v) by ∷ rest → HasLife 8 s.lines
+      → Makes its c s p Ends (drop_shows by (solo.settle_ready_answer (its f) v s) (solo.settled_ready (its f) v s))
+      (after_drop (solo.settle_ready_answer (its f) v s) (solo.settled_ready (its f) v s))
+  ends_closed : (f : ℕ) (by : Taker (SoloWaker X)) (rest : List (Code T (SoloWaker X))) → takes_one by ≡ true
+      → p.inside ≡ Drop f Closed by ∷ rest → HasLife 8 s.lines
+      → Makes its c s p Ends (drop_shows by (solo.finish_answer (its f) s) (solo.finished (its f) s))
+      (after_drop (solo.finish_answer (its f) s) (solo.finished (its f) s))
+  loses : (awaiter : Option (SoloWaker X)) (by : Option (Taker (SoloWaker X))) (rest : List (Code T (SoloWaker X))) → ends_one by ≡ true
+      → p.inside ≡ Lose awaiter by ∷ rest → HasLife 2 s.lines
+      → Makes its c s p Ends (call_shows awaiter by s) (calls awaiter s)
+
+-- and so with ticks: each that lies has a number
+pub data Acts {F T X : Type 0} (its : ℕ → Lent) (number : Who → ℕ) (c : Choice) (s : Solo F T X) (p : Plain T (SoloWaker X))
+    : Call T (SoloWaker X) → List (Event T (SoloWaker X)) → (Who → ℕ) → Solo F T X → Type 0 where
+  makes : (call : Call T (SoloWaker X)) (shown : List (Event T (SoloWaker X))) (z : Solo F T X) → Makes its c s p call shown z
+      → Acts its number c s p call shown number z
+  makes_tick : c.refusal ≡ Granted → Acts its number c s p NewTick (Answers Made ∷ []) number (ticks.roomy s)
+  tick_takes : (t : ℕ) (w : SoloWaker X) (task : Task) → solo.sought s ≡ Some task → c.first ≡ mark_of_turn s.lines.turn
+      → HasLife 5 s.lines
+      → Acts its number c s p (PollTick t w) (tick_shows
+      (ticks.found_answer (ticker_of number (ATick t) p.lying) None task (solo.popped s)))
+      number (ticks.found (ticker_of number (ATick t) p.lying) task (solo.popped s))
+  -- one that doesn't lie has its room, and no copy of its waker is refused
+  tick_rests : (t : ℕ) (w : SoloWaker X) → solo.sought s ≡ None → c.first ≡ mark_of_turn s.lines.turn → c.refusal ≡ Granted
+      → (find (lies (ATick t)) p.lying ≡ None → nat_lt s.sleepers.count s.sleepers.rooms ≡ true)
+      → ((u : Task) → w ≡ OfTask u
+      → IsNamed (named its) (length p.futures) u × CanCopy (ticker_of number (ATick t) p.lying) w u s)
+      → suc (length p.lying) ≤ c.tells → HasLife 2 s.lines
+      → Acts its number c s p (PollTick t w)
+      (rings (rest_answer (ticker_of number (ATick t) p.lying) w s).sleeper ++ Answers Pending ∷ []) (number_after (ATick t) number s p)
+      (rested (ticker_of number (ATick t) p.lying) w s)
+  tick_leaves : (t : ℕ) → HasLife 5 s.lines
+      → Acts its number c s p (DropTick t)
+      (rings (ticks.leave_answer (ticker_of number (ATick t) p.lying) s).told.sleeper ++ Answers Done ∷ []) number
+      (ticks.left (ticker_of number (ATick t) p.lying) s)
+
+-- call by call; whoever lay down last is told
+pub data Leads {F T X : Type 0} (its : ℕ → Lent)
+    : List (Choice × Call T (SoloWaker X)) → (Who → ℕ) → Solo F T X → Plain T (SoloWaker X) → List (Event T (SoloWaker X)) → (Who → ℕ)
+    → Solo F T X → Type 0 where
+  stays : (number : Who → ℕ) (s : Solo F T X) (p : Plain T (SoloWaker X)) → Leads its [] number s p [] number s
+  leads : (c : Choice) (call : Call T (SoloWaker X)) (rest : List (Choice × Call T (SoloWaker X))) (before now after : Who → ℕ)
+      (s y z : Solo F T X) (p : Plain T (SoloWaker X)) (shown others : List (Event T (SoloWaker X))) → length p.lying ≤ c.tells
+      → Acts its before c s p call shown now y → Leads its rest now y (does wakes_of c call p) others after z
+      → Leads its ((c, call) ∷ rest) before s p (shown ++ others) after z

@@ -1,0 +1,35 @@
+//! Polls of ticks, and their drops, are those of the plain scheduler.
+ghost use Rattle.std.specs.Prelude.{ℕ};
+ghost use Rattle.solo.specs.declared.names.SoloWaker.{SoloWaker};
+ghost use Rattle.solo.specs.declared.owed.Lent.{Lent};
+ghost use Rattle.solo.specs.declared.solo.Solo.{Solo};
+ghost use Rattle.plain_scheduler.specs.State.{Plain, Who};
+ghost use Rattle.solo_laws.specs.Numbered.{IsNumbered};
+ghost use Rattle.solo_laws.specs.Tabled.{Stands};
+ghost use Rattle.solo_laws.specs.Ticking.{TicksBegin, TicksLeave, TicksRest, TicksTake};
+
+/// Where both stand alike, and who lies has a number of its own, they do so once a tick is made.
+pub fn ticks_begin_alike<F, T, X>()
+    ensures { (its : ℕ → Lent) (number : Who → ℕ) (s : Solo F T X) (p : Plain T (SoloWaker X)) → Stands its s p
+        → IsNumbered number s.sleepers p.lying → TicksBegin its number s p }
+{}
+
+/// A tick that finds a task takes what the plain scheduler takes: it
+/// gets up if it lay, a sleeper is called, and then the future is polled or dropped.
+pub fn ticks_take_alike<F, T, X>()
+    ensures { (its : ℕ → Lent) (number : Who → ℕ) (s : Solo F T X) (p : Plain T (SoloWaker X)) → Stands its s p
+        → IsNumbered number s.sleepers p.lying → TicksTake its number s p }
+{}
+
+/// One that finds nothing lies down where the plain scheduler's does: it falls asleep with a copy of its waker, in the place of the one
+/// with which it lay, which goes, and looks again once it has fallen asleep anew.
+pub fn ticks_rest_alike<F, T, X>()
+    ensures { (its : ℕ → Lent) (number : Who → ℕ) (s : Solo F T X) (p : Plain T (SoloWaker X)) → Stands its s p
+        → IsNumbered number s.sleepers p.lying → TicksRest its number s p }
+{}
+
+/// One that goes leaves the sleepers; where it was told of a task it tells another.
+pub fn ticks_leave_alike<F, T, X>()
+    ensures { (its : ℕ → Lent) (number : Who → ℕ) (s : Solo F T X) (p : Plain T (SoloWaker X)) → Stands its s p
+        → IsNumbered number s.sleepers p.lying → TicksLeave its number s p }
+{}

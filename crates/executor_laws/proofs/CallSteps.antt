@@ -6,3 +6,4 @@ pub mod Stealing
 pub mod Closing
 pub mod Acts
 pub mod Begins
+pub mod Seeing

@@ -1,6 +1,7 @@
 pub mod StepsOfCalls
 pub mod SeenByCalls
 pub mod CallsFollow
+pub mod CallsFit
 pub mod Costs
 pub mod Remaining
 pub mod GoingOn

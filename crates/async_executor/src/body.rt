@@ -126,9 +126,17 @@ where
     W: Wake + Drop + 'static,
     R: Wait + Copy + Drop + 'static,
 {
-    /// Whether each future that was accepted is dropped.
-    pub(crate) fn has_none(&self, unlocked: &mut Unlocked) -> bool {
-        sections::is_empty(self.table.lock(&self.rt, unlocked).get())
+    /// Whether each future that was accepted is dropped. The call's end is the second answer.
+    pub(crate) fn has_none(&self, unlocked: &mut Unlocked) -> (bool, Last)
+        ensures { result.1 ≡ yes_or_no result.0 }
+    {
+        let mut steps = Steps::begin(Asked::IsEmpty);
+        let is_empty = sections::is_empty(self.table.lock(&self.rt, unlocked).get(), &mut steps);
+        if is_empty {
+            (true, steps.end(Reply::Yes))
+        } else {
+            (false, steps.end(Reply::No))
+        }
     }
 
     /// Accepts a future with this mark and queues its task, or refuses it.

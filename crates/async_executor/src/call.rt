@@ -1,4 +1,4 @@
-//! A search, a leave or a drop, as contracts follow it from section to section.
+//! A search of a run, or a drop, as contracts follow it from section to section.
 ghost use Rattle.std.specs.Prelude.{◌≡◌, ◌∷◌, [], true, false, not, Some, None};
 ghost use Rattle.task_moves.specs.declared.moves.owed.Move.TheVariants as move;
 ghost use Rattle.call_steps.specs.declared.step.CallStep.TheVariants as step;
@@ -18,7 +18,7 @@ mod counts;
 
 pub use counts::{Counts, OwesSteal};
 
-/// What a search of a tick or run, its leaving, or a drop has done, has in hand and owes. Only contracts read it, so it has no
+/// What a search of a run or a drop has done, has in hand and owes. Only contracts read it, so it has no
 /// bytes. It has no drop: it ends with nothing in hand and nothing owed.
 #[must_use]
 pub struct Call {
@@ -32,8 +32,6 @@ pub struct Call {
     owes: Snapshot<bool>,
     // Whether the executor's queue is closed, so that a Runnable in hand is closed too.
     closed: Snapshot<bool>,
-    // What the flag is stored as, before the sleepers' lock is given back.
-    flag: Snapshot<Option<bool>>,
     // Whether the executor's urgent queue was found empty.
     urgent_empty: Snapshot<bool>,
     // Whether its plain one was.
@@ -46,7 +44,7 @@ pub struct Call {
     wanted: Snapshot<bool>,
 }
 
-/// How a call of a tick or run ended.
+/// How a call of a run ended.
 #[derive(Clone, Copy, Drop)]
 pub enum Ending {
     /// A Runnable was taken from a queue, and run.
@@ -61,7 +59,7 @@ pub enum Ending {
     GaveWay,
 }
 
-/// How a call of a tick or run ended, which that call alone can say. Only contracts read it. It has no drop: a poll ends by it,
+/// How a call of a run ended, which that call alone can say. Only contracts read it. It has no drop: a poll ends by it,
 /// or it is counted.
 #[must_use]
 pub struct Last {
@@ -84,7 +82,7 @@ impl Last {
     }
 }
 
-/// How the last poll of a tick or run ended. Only contracts read it, and what a call of that poll left is all that it is
+/// How the last poll of a run ended. Only contracts read it, and what a call of that poll left is all that it is
 /// written by; it is no `Snapshot`, as what has one could not be sent to another thread.
 #[derive(Drop)]
 pub struct Polled {
@@ -127,7 +125,6 @@ impl Model for Call {
       found = c.found.value;
       owes = c.owes.value;
       closed = c.closed.value;
-      flag = c.flag.value;
       urgent_empty = c.urgent_empty.value;
       plain_empty = c.plain_empty.value;
       undrained = c.undrained.value;
@@ -147,7 +144,6 @@ impl Call {
             found: Snapshot::of(&false),
             owes: Snapshot::of(&false),
             closed: Snapshot::of(&false),
-            flag: Snapshot::of(&None),
             urgent_empty: Snapshot::of(&false),
             plain_empty: Snapshot::of(&false),
             undrained: Snapshot::of(&false),
@@ -166,7 +162,6 @@ impl Call {
             found: _,
             owes: _,
             closed: _,
-            flag: _,
             urgent_empty: _,
             plain_empty: _,
             undrained: _,
@@ -343,36 +338,10 @@ impl Call {
         Steps::part(Part::Tell)
     }
 
-    /// One left the sleepers, and had been told or not: then it tells another.
-    pub fn leave(&mut self, was_told: bool)
-        requires { self.old.owes ≡ false }
-        ensures { self.new ≡ record self.old { is_new = false; owes = was_told } }
-    {
-        self.is_new = Snapshot::of(&false);
-        self.owes = Snapshot::of(&was_told);
-    }
-
     /// One that was among the sleepers sleeps there with another waker.
     pub fn sleep_on(&mut self)
         ensures { self.new ≡ record self.old { sleeps = true } }
     {
         self.sleeps = Snapshot::of(&true);
-    }
-
-    /// What the flag becomes.
-    pub fn turn_flag(&mut self, notified: bool)
-        requires { self.old.flag ≡ None }
-        ensures { self.new ≡ record self.old { flag = Some notified } }
-    {
-        self.flag = Snapshot::of(&Some(notified));
-    }
-
-    /// The flag was stored.
-    pub fn store_flag(&mut self, notified: bool)
-        requires { self.old.flag ≡ Some notified }
-        ensures { self.new ≡ record self.old { flag = None } }
-    {
-        let _ = notified;
-        self.flag = Snapshot::of(&None);
     }
 }

@@ -19,8 +19,9 @@ use crate::leaving::Leaving;
 use crate::names::{ExScheduled, ExTask, ExWaker};
 use crate::queue::ExQueue;
 use crate::runner::Runner;
+use crate::steps::Answered;
 use crate::ticker::Ticker;
-use crate::{executor, run};
+use crate::{executor, run, tick};
 use async_task::{Future, NoMemory, Poll, Returning, Schedule, ScheduleInfo, StoredWaker, Wake};
 use executor_parts::Mark;
 use std::collections::VecDeque;
@@ -67,7 +68,8 @@ where
 {
     /// Whether each future that was accepted is dropped. It takes no memory.
     pub fn is_empty(&self) -> bool {
-        self.body.has_none(&mut Unlocked::at_entry())
+        let (has_none, _last) = self.body.has_none(&mut Unlocked::at_entry());
+        has_none
     }
 
     /// Hands the executor a plain future. Its task is queued, and the handle is answered: a future with the output, whose drop
@@ -129,7 +131,8 @@ where
     pub fn tick(&self) -> Result<Tick<'_, F, T, W, R>, NoMemory>
         ensures { IfOk result (λ tick. has_left tick.ticker ≡ false) }
     {
-        self.body.make_tick(&mut Unlocked::at_entry())
+        let (made, _last) = self.body.make_tick(&mut Unlocked::at_entry());
+        made
     }
 
     /// A future that runs the executor's futures until this one is ready, and has its output then. For want of memory the
@@ -219,8 +222,8 @@ where
 {
     pub(crate) executor: &'a Body<F, T, W, R>,
     pub(crate) ticker: Ticker,
-    /// How its last poll ended.
-    pub(crate) polled: Polled,
+    /// What its last poll was answered.
+    pub(crate) answered: Answered,
 }
 
 impl<F, T, W, R> Future<ExWaker<T, W, R>> for Tick<'_, F, T, W, R>
@@ -234,7 +237,7 @@ where
 
     /// Runs a task, and is ready, or falls asleep and is pending.
     fn poll(&mut self, waker: &ExWaker<T, W, R>) -> Poll<Result<(), NoMemory>>
-        ensures answer { IsTickAnswer self.old.polled self.new.polled result }
+        ensures answer { IsTickAnswer self.old.answered self.new.answered result }
         ensures stays { has_left self.new.ticker ≡ has_left self.old.ticker }
     {
         self.look(waker, &mut Unlocked::at_entry())
@@ -253,14 +256,9 @@ where
         let Tick {
             executor,
             ticker,
-            polled: _,
+            answered: _,
         } = self;
-        ticker.leave(
-            executor.rt,
-            &executor.state,
-            executor.realm,
-            &mut Unlocked::at_entry(),
-        );
+        let _last = tick::end(executor, ticker, &mut Unlocked::at_entry());
     }
 }
 

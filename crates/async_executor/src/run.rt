@@ -13,8 +13,10 @@ use crate::foreign::Foreign;
 use crate::names::{ExStoredRunnable, ExWaker};
 use crate::runner::Runner;
 use crate::sleeping::call_waker;
+use crate::steps::Steps;
 use crate::ticker::{Found, Ticker};
 use async_task::{Future, Poll, Wake};
+use call_steps::{Part, TickOrRun};
 use std::mem;
 use std::sync::Wait;
 
@@ -56,12 +58,8 @@ where
                 }
                 self.runner
                     .end(executor.rt, &executor.state, executor.realm, unlocked);
-                mem::replace(&mut self.ticker, Ticker::Left).leave(
-                    executor.rt,
-                    &executor.state,
-                    executor.realm,
-                    unlocked,
-                );
+                let ticker = mem::replace(&mut self.ticker, Ticker::Left);
+                leave(executor, ticker, unlocked);
                 Poll::Ready(Ok(output))
             }
             Poll::Pending => self.take_tasks(waker, unlocked),
@@ -193,5 +191,25 @@ where
     }
     runner.end(executor.rt, &executor.state, executor.realm, unlocked);
     runner.finish();
-    ticker.leave(executor.rt, &executor.state, executor.realm, unlocked);
+    leave(executor, ticker, unlocked);
+}
+
+/// A run leaves the sleepers: a part of its own.
+fn leave<F, T, W, R>(executor: &Body<F, T, W, R>, ticker: Ticker, unlocked: &mut Unlocked)
+where
+    F: Drop,
+    T: Drop + 'static,
+    W: Wake + Drop + 'static,
+    R: Wait + Copy + Drop + 'static,
+{
+    let mut steps = Steps::part(Part::Leave(TickOrRun::Run(())));
+    ticker.leave(
+        executor.rt,
+        &executor.state,
+        executor.realm,
+        &TickOrRun::Run(()),
+        &mut steps,
+        unlocked,
+    );
+    steps.close();
 }

@@ -7,8 +7,8 @@ ghost use Rattle.call_steps.specs.declared.step.CallStep.TheVariants as step;
 ghost use Rattle.call_steps.specs.declared.step.table.QueueStep.TheVariants as queue_step;
 ghost use Rattle.call_steps.specs.declared.step.tick.SleeperStep.TheVariants as sleeper_step;
 ghost use Rattle.executor_parts.specs.Sleepers.{flag_of, last_waker, without_last};
-ghost use Rattle.async_executor.specs.Calls.{flag_woken_up};
 ghost use Rattle.async_executor.specs.Foreign.{value_of};
+ghost use Rattle.async_executor.specs.Sleeping.{laid_as, SaysFellAsleep};
 ghost use Rattle.async_executor.specs.Stages.{begun, took};
 ghost use Rattle.async_executor.specs.Steps.{of_handed, sleeper_of};
 
@@ -25,7 +25,7 @@ use crate::queues::{Queue, Queues};
 use crate::sleeping::SleeperWaker;
 use crate::steps::Steps;
 use crate::task_name::TaskName;
-use crate::ticker::WokenUp;
+use crate::ticker::{FellAsleep, Laid, WokenUp};
 use crate::turns::Turns;
 use async_task::{GoesBack, NoMemory, Returning, Wake};
 use call_steps::Saw;
@@ -141,34 +141,37 @@ impl<W: Drop> State<W> {
         hand_out(self.sleepers.lock(rt, unlocked).get(), steps)
     }
 
-    /// Stores the flag, as the list of sleepers says, which is lent while their lock is held.
-    pub fn store_flag(&self, sleepers: &Sleepers<SleeperWaker<W>>, call: &mut Call, notified: bool)
-        requires said { notified ≡ flag_of sleepers.now }
-        requires flag { call.old.flag ≡ Some notified }
-        ensures { call.new ≡ record call.old { flag = None } }
+    /// Stores what the flag becomes where one fell asleep, as the list of sleepers says, which is lent while their lock is held.
+    pub fn store_fell_asleep(
+        &self,
+        sleepers: &Sleepers<SleeperWaker<W>>,
+        fell_asleep: FellAsleep<W>,
+    ) -> Laid<W>
+        requires { SaysFellAsleep sleepers.now fell_asleep }
+        ensures { result ≡ laid_as fell_asleep }
     {
-        self.notified.store(sleepers, notified);
-        call.store_flag(notified);
+        match fell_asleep {
+            FellAsleep::Anew(flag) => {
+                self.notified.store(sleepers, flag);
+                Laid::Anew
+            }
+            FellAsleep::Already(old) => Laid::Already(old),
+            FellAsleep::Nowhere(waker) => Laid::Nowhere(waker),
+        }
     }
 
     /// Stores what the flag becomes where one woke up or left. The waker that it had is the answer.
     pub fn store_woken_up(
         &self,
         sleepers: &Sleepers<SleeperWaker<W>>,
-        call: &mut Call,
-        woken_up: Option<WokenUp<W>>,
+        woken_up: WokenUp<W>,
     ) -> Option<Foreign<SleeperWaker<W>>>
-        requires said { IfSome woken_up (λ woken_up. woken_up.notified ≡ flag_of sleepers.now) }
-        requires flag { call.old.flag ≡ flag_woken_up woken_up }
-        ensures { call.new ≡ record call.old { flag = None } }
+        requires { woken_up.notified ≡ flag_of sleepers.now }
+        ensures { result ≡ woken_up.waker }
     {
-        match woken_up {
-            Some(WokenUp { notified, waker }) => {
-                self.store_flag(sleepers, call, notified);
-                waker
-            }
-            None => None,
-        }
+        let WokenUp { notified, waker } = woken_up;
+        self.notified.store(sleepers, notified);
+        waker
     }
 }
 

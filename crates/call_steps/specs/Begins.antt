@@ -67,3 +67,4 @@ module _ {F T : Type 0} where
   part_begins (part.CallSleeper s) = step.Sleeper (sleeper_step.CallSleeper s) ∷ []
   part_begins (part.TakeUp f) = step.Move move.TakeUp f ∷ []
   part_begins (part.Close f) = step.Move move.DropRunnable f ∷ []
+  part_begins (part.Leave who) = step.Tick (tick_step.Leave who) ∷ []

@@ -1,4 +1,4 @@
-use crate::names::Sleeping;
+use crate::names::{Sleeping, TickOrRun};
 
 /// What a part of a call is to do, which stands for itself: whatever led to it, no call waits for its answer.
 #[derive(Drop)]
@@ -13,4 +13,6 @@ pub enum Part<F, T> {
     TakeUp(F),
     /// A Runnable of this future is closed.
     Close(F),
+    /// This one leaves the sleepers.
+    Leave(TickOrRun<T>),
 }

@@ -87,7 +87,8 @@ where
     pub fn tick(&self) -> Result<Tick<'_, F, T, W, R>, NoMemory>
         ensures { IfOk result (λ tick. has_left tick.ticker ≡ false) }
     {
-        self.body.make_tick(&mut Unlocked::at_entry())
+        let (made, _last) = self.body.make_tick(&mut Unlocked::at_entry());
+        made
     }
 
     /// A future that runs the executor's futures until this one is ready, and has its output then. For want of memory the

@@ -1,8 +1,12 @@
 //! How a tick is polled, and ends.
-ghost use Rattle.std.specs.Prelude.{◌≡◌};
+ghost use Rattle.std.specs.Prelude.{◌≡◌, ◌∷◌, []};
 ghost use Rattle.async_executor.specs.Polls.{has_left, IsTickAnswer};
 ghost use Rattle.async_executor.specs.Sleeping.{is_asleep};
-ghost use Rattle.async_executor.specs.Ticks.{found_asleep};
+ghost use Rattle.async_executor.specs.Steps.{name_given};
+ghost use Rattle.async_executor.specs.Ticks.{found_asleep, sleeping};
+ghost use Rattle.call_steps.specs.declared.names.TickOrRun.TheVariants as tick_or_run;
+ghost use Rattle.call_steps.specs.declared.step.CallStep.TheVariants as step;
+ghost use Rattle.call_steps.specs.declared.step.tick.TickStep.TheVariants as tick_step;
 ghost use Rattle.call_steps.specs.declared.reply.Reply.TheVariants as reply;
 
 use crate::body::Body;
@@ -12,7 +16,7 @@ use crate::steps::Steps;
 use crate::task_name::{TaskName, name_given_to};
 use crate::ticker::{Slept, Ticker};
 use async_task::{Future, NoMemory, Poll, Wake};
-use call_steps::{Asked, Last, Reply, Sleeping, TickOrRun};
+use call_steps::{Last, Reply, TickOrRun};
 use std::sync::Wait;
 
 impl<F, T, W, R> Tick<'_, F, T, W, R>
@@ -31,17 +35,16 @@ where
     pub(crate) fn look(
         &mut self,
         waker: &ExWaker<T, W, R>,
+        steps: Steps,
         unlocked: &mut Unlocked,
     ) -> Poll<Result<(), NoMemory>>
+        requires { steps ≡ step.Tick (tick_step.Search (sleeping (name_given waker.now))) ∷ [] }
         ensures answer { IsTickAnswer self.old.answered self.new.answered result }
         ensures stays { has_left self.new.ticker ≡ has_left self.old.ticker }
     {
         let executor = self.executor;
         let name = name_given_to(waker);
-        let mut steps = Steps::begin(Asked::PollTick(Sleeping {
-            waker: name_given_to(waker),
-            who: TickOrRun::Tick(()),
-        }));
+        let mut steps = steps;
         for _ in executor.rt.forever() {
             let sleeps = self.ticker.sleeps();
             let found = executor
@@ -102,15 +105,21 @@ where
 }
 
 /// A tick ends: it leaves the sleepers, and gives its room there back.
-pub fn end<F, T, W, R>(executor: &Body<F, T, W, R>, ticker: Ticker, unlocked: &mut Unlocked) -> Last
+pub fn end<F, T, W, R>(
+    executor: &Body<F, T, W, R>,
+    ticker: Ticker,
+    steps: Steps,
+    unlocked: &mut Unlocked,
+) -> Last
 where
     F: Drop,
     T: Drop + 'static,
     W: Wake + Drop + 'static,
     R: Wait + Copy + Drop + 'static,
+    requires { steps ≡ step.Tick (tick_step.Leave (tick_or_run.Tick tt)) ∷ step.End reply.Done ∷ [] }
     ensures { result ≡ reply.Done }
 {
-    let mut steps = Steps::begin(Asked::DropTick(()));
+    let mut steps = steps;
     ticker.leave(
         executor.rt,
         &executor.state,

@@ -2,7 +2,6 @@
 ghost use Rattle.std.specs.Prelude.{◌≡◌, ◌∷◌, [], true, false, not, Some, None};
 ghost use Rattle.task_moves.specs.declared.moves.owed.Move.TheVariants as move;
 ghost use Rattle.call_steps.specs.declared.step.CallStep.TheVariants as step;
-ghost use Rattle.call_steps.specs.declared.step.table.QueueStep.TheVariants as queue_step;
 ghost use Rattle.call_steps.specs.declared.step.tick.SleeperStep.TheVariants as sleeper_step;
 ghost use Rattle.async_executor.specs.Stages.{begun, in_hand, took, looked_in, emptied, IsDone};
 
@@ -277,26 +276,6 @@ impl Call {
         ensures { self.new ≡ record self.old { undrained = false } }
     {
         self.undrained = Snapshot::of(&false);
-    }
-
-    /// There is no Runnable of what was in hand: the number is of another realm.
-    pub fn miss(&mut self)
-        requires { self.old.holds ≡ true }
-        ensures { self.new ≡ record self.old { holds = false; owes = false } }
-    {
-        self.holds = Snapshot::of(&false);
-        self.owes = Snapshot::of(&false);
-    }
-
-    /// The Runnable in hand is to be appended to the executor's queue.
-    pub fn hand_over(&mut self, runnable: &ExStoredRunnable) -> Steps
-        requires { self.old.holds ≡ true }
-        ensures call { self.new ≡ record self.old { holds = false; owes = false } }
-        ensures steps { result ≡ step.Queue (queue_step.Append runnable.now.identity) ∷ [] }
-    {
-        self.holds = Snapshot::of(&false);
-        self.owes = Snapshot::of(&false);
-        Steps::part(Part::Append(TaskName::of_runnable(runnable)))
     }
 
     /// This call closed the executor's urgent queue.

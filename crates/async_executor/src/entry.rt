@@ -354,7 +354,9 @@ where
             polled: _,
             counts: _,
         } = self;
-        run::end(executor, future, runner, ticker, &mut Unlocked::at_entry());
+        let steps = begun(Asked::DropRun((), runner.stage()));
+        let unlocked = &mut Unlocked::at_entry();
+        let _last = run::end(executor, future, runner, ticker, steps, unlocked);
     }
 }
 

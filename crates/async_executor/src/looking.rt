@@ -242,7 +242,7 @@ fn found_by_tick(runnable: &ExStoredRunnable, sleeps: bool) -> Saw<TaskName, ()>
 
 /// Takes the first Runnable of a queue, where there is one.
 #[inline(always)]
-fn pop<R: Wait>(queue: &Queue, rt: &R) -> Option<ExStoredRunnable> {
+pub fn pop<R: Wait>(queue: &Queue, rt: &R) -> Option<ExStoredRunnable> {
     match queue.pop(rt) {
         Ok(runnable) => Some(runnable.into_inner()),
         Err(_) => None,

@@ -8,7 +8,7 @@ ghost use Rattle.call_steps.specs.declared.step.CallStep.TheVariants as step;
 ghost use Rattle.call_steps.specs.declared.step.tick.TickStep.TheVariants as tick_step;
 
 use crate::body::Body;
-use crate::call::{Counts, Polled};
+use crate::call::Counts;
 use crate::entry::{Run, Tick, Unlocked};
 use crate::foreign::Foreign;
 use crate::names::ExWaker;
@@ -79,7 +79,7 @@ where
                 future: Some(Foreign::of(future)),
                 runner,
                 ticker: Ticker::Awake(room),
-                polled: Polled::never(),
+                answered: Answered::never(),
                 counts: Counts::new(),
             }),
             Err(NoMemory) => {

@@ -42,6 +42,7 @@ use std::sync::{Arc, Wait};
 mod ending;
 
 /// What a search of a run is, as contracts see it: the name of the waker that the run was polled with, and how far it has counted.
+#[derive(Drop)]
 pub struct Search<'a> {
     pub name: &'a Waker<TaskName>,
     pub at: Searcher,
@@ -124,6 +125,7 @@ impl Runner {
         unlocked: &mut Unlocked,
     ) -> bool
         requires { steps.old ≡ poll_run (stage_by false self.old.is_listed) (poll_with name.now) }
+        ensures listed { result ≡ true → self.new ≡ record self.old { is_listed = true } }
         ensures polls { result ≡ true → steps.new ≡ step.User (user_step.PollOwn (poll_with name.now)) ∷ [] }
         ensures refused { result ≡ false → steps.new ≡ step.End reply.NoMemory ∷ [] }
         ensures same { result ≡ false → self.new ≡ self.old }

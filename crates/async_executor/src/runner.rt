@@ -331,13 +331,13 @@ impl Runner {
             let left = (queues.len() - place - 1) as u64;
             let refused = self.steal_in_walk(rt, &listed.queue, left, &behind, search, steps);
             behind = Some(left);
-            let found = self.look_own_in_walk(rt, left, search, steps);
-            if found.is_some() {
-                return (found, refused);
-            }
-            if refused.is_some() {
-                search.end_walk(&behind, steps);
-                return (None, refused);
+            match (self.look_own_in_walk(rt, left, search, steps), refused) {
+                (None, None) => {}
+                (Some(found), refused) => return (Some(found), refused),
+                (None, Some(refused)) => {
+                    search.end_walk(&behind, steps);
+                    return (None, Some(refused));
+                }
             }
         }
         search.end_walk(&behind, steps);

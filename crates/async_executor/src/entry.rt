@@ -167,7 +167,11 @@ where
         ensures future { IfOk result (λ run. value_of run.future ≡ Some future) }
         ensures words { IfOk result (λ run. run.runner.words ≡ seeded 0) }
     {
-        self.body.make_run(future, 0, &mut Unlocked::at_entry())
+        let steps = begun(Asked::NewRun);
+        let (made, _last) = self
+            .body
+            .make_run(future, 0, steps, &mut Unlocked::at_entry());
+        made
     }
 
     /// As `run`, with another seed for the places at which it begins to look for tasks of other runs.
@@ -178,7 +182,11 @@ where
         ensures future { IfOk result (λ run. value_of run.future ≡ Some future) }
         ensures words { IfOk result (λ run. run.runner.words ≡ seeded seed) }
     {
-        self.body.make_run(future, seed, &mut Unlocked::at_entry())
+        let steps = begun(Asked::NewRun);
+        let (made, _last) = self
+            .body
+            .make_run(future, seed, steps, &mut Unlocked::at_entry());
+        made
     }
 
     /// Makes it a static executor, whose futures nobody has to drop. Each future that was accepted is queued to be polled once

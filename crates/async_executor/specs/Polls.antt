@@ -2,14 +2,17 @@
 use Rattle.std.specs.Prelude.{◌≡◌, ◌⊎◌, Bool, true, false, not, Option, Some, None, IsSome, Result, Ok, Err}
 use Rattle.async_executor.specs.Calls.{IsPending}
 use Rattle.async_executor.specs.declared.call.Ending.{Ending}
-use Rattle.async_executor.specs.declared.call.Ending.TheVariants.{Ran, Refused, GaveWay}
+use Rattle.async_executor.specs.declared.call.Ending.TheVariants.{Refused, GaveWay}
 use Rattle.async_executor.specs.declared.call.Polled.{Polled}
+use Rattle.async_executor.specs.declared.steps.Answered.{Answered}
 use Rattle.async_executor.specs.declared.errors.RunError.{RunError}
 use Rattle.async_executor.specs.declared.errors.RunError.TheVariants.{NoMemory, Finished}
 use Rattle.async_executor.specs.declared.ticker.Ticker.{Ticker}
 use Rattle.async_executor.specs.declared.ticker.Ticker.TheVariants.{Awake, Asleep, Left}
 use Rattle.async_task.specs.declared.poll.Poll.{Poll}
 use Rattle.async_task.specs.declared.poll.Poll.TheVariants.{Ready, Pending}
+use Rattle.call_steps.specs.declared.reply.Reply.{Reply}
+use Rattle.call_steps.specs.declared.reply.Reply.TheVariants as reply
 
 -- it has left the sleepers for good
 abbrev pub has_left : Ticker → Bool
@@ -30,11 +33,15 @@ HasWaited None = ⊥
 abbrev pub HasWorked : Option Ending → Type 0
 HasWorked ending = HasWaited ending ⊎ (ending ≡ Some GaveWay)
 
--- what a tick's poll answers
-abbrev pub IsTickAnswer : {O E : Type 0} → Polled → Polled → Poll (Result O E) → Type 0
-IsTickAnswer old new Pending = HasWaited new.ending × (new.turned ≡ not old.turned)
-IsTickAnswer old new (Ready (Ok _)) = EndsBy Ran old new
-IsTickAnswer old new (Ready (Err _)) = EndsBy Refused old new
+-- the reply that the answer of a tick's poll is
+abbrev pub replied : {O E : Type 0} → Poll (Result O E) → Reply
+replied Pending = reply.Pending
+replied (Ready (Ok _)) = reply.Ready
+replied (Ready (Err _)) = reply.NoMemory
+
+-- what a tick's poll answers is the reply that its call ended with
+abbrev pub IsTickAnswer : {O E : Type 0} → Answered → Answered → Poll (Result O E) → Type 0
+IsTickAnswer old new answer = (new.reply ≡ Some (replied answer)) × (new.turned ≡ not old.turned)
 
 -- what a run's poll answers where its own future is pending
 abbrev pub IsTasksAnswer : {O : Type 0} → Polled → Polled → Poll (Result O RunError) → Type 0

@@ -1,14 +1,22 @@
 -- How a tick or run falls asleep among the sleepers, wakes up and leaves them, each in one section of their lock.
-use Rattle.std.specs.Prelude.{◌≡◌, ℕ, ◌+◌, ◌<◌, ◌≤◌, Bool, Option, Some, None, is_none}
+use Rattle.std.specs.Prelude.{◌≡◌, ℕ, ◌+◌, ◌<◌, ◌≤◌, Bool, true, false, Option, Some, None}
 use Rattle.async_executor.specs.declared.sleeping.SleeperWaker.{SleeperWaker}
 use Rattle.async_executor.specs.declared.ticker.FellAsleep.{FellAsleep}
 use Rattle.async_executor.specs.declared.ticker.FellAsleep.TheVariants.{Anew, Already, Nowhere}
+use Rattle.async_executor.specs.declared.ticker.Laid.{Laid}
+use Rattle.async_executor.specs.declared.ticker.Laid.TheVariants as laid
 use Rattle.async_executor.specs.declared.ticker.WokenUp.{WokenUp}
 use Rattle.async_executor.specs.Foreign.{value_of}
 use Rattle.async_executor.specs.declared.ticker.Ticker.{Ticker}
 use Rattle.async_executor.specs.declared.ticker.Ticker.TheVariants.{Awake, Asleep, Left}
 use Rattle.executor_parts.specs.Sleepers.{Sleepers, flag_of, next_number, put_to_sleep, IsAgain, waker_of, woken_up}
 use Rattle.executor_parts.specs.declared.sleepers.Again.TheVariants.{Replaced, Notified, Unknown}
+
+-- whether it is among the sleepers
+abbrev pub is_asleep : Ticker → Bool
+is_asleep (Awake room) = false
+is_asleep (Asleep s) = true
+is_asleep Left = false
 
 module _ {W : Type 0} where
   -- how one that slept sleeps now
@@ -46,8 +54,24 @@ module _ {W : Type 0} where
   GivesBack old new = (new ≡ record old { rooms = new.rooms })
       × (old.count < old.rooms → new.rooms + 1 ≡ old.rooms) × (old.rooms ≤ old.count → new.rooms ≡ old.rooms)
 
-  -- one that slept wakes up, and was told where it had no waker left; the room stays, until it is given back
-  abbrev pub Leaves : ℕ → Sleepers (SleeperWaker W) → Sleepers (SleeperWaker W) → WokenUp W → Bool → Type 0
-  Leaves number old new r told =
-      (value_of r.waker ≡ waker_of number old.wakers) × (new ≡ woken_up number old)
-      × (r.notified ≡ flag_of new) × (told ≡ is_none (waker_of number old.wakers))
+  -- one that slept wakes up, and had been told where it has no waker left; the room stays, until it is given back
+  abbrev pub Leaves : ℕ → Sleepers (SleeperWaker W) → Sleepers (SleeperWaker W) → WokenUp W → Type 0
+  Leaves number old new r =
+      (value_of r.waker ≡ waker_of number old.wakers) × (new ≡ woken_up number old) × (r.notified ≡ flag_of new)
+
+  -- where it can't sleep, its waker comes back
+  abbrev pub ComesBack : SleeperWaker W → FellAsleep W → Type 0
+  ComesBack waker (Anew flag) = Unit {0}
+  ComesBack waker (Already was) = Unit {0}
+  ComesBack waker (Nowhere back) = back.value ≡ waker
+
+  -- the same once the flag is stored
+  abbrev pub laid_as : FellAsleep W → Laid W
+  laid_as (Anew flag) = laid.Anew
+  laid_as (Already was) = laid.Already was
+  laid_as (Nowhere back) = laid.Nowhere back
+
+  abbrev pub LaidBack : SleeperWaker W → Laid W → Type 0
+  LaidBack waker laid.Anew = Unit {0}
+  LaidBack waker (laid.Already was) = Unit {0}
+  LaidBack waker (laid.Nowhere back) = back.value ≡ waker

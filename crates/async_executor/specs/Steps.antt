@@ -1,8 +1,10 @@
 -- How a call on the executor goes, step by step: futures have the names of their tasks.
 use Rattle.std.specs.Prelude.{Bool, true, false, Option, Some, None, Result, Ok, Err, List, [], ◌∷◌}
 use Rattle.task_moves.specs.declared.moves.owed.Move.TheVariants as move
+use Rattle.async_task.specs.Awaiters.{identity_of}
 use Rattle.async_task.specs.Handles.{Handle}
 use Rattle.async_task.specs.declared.cell.Identity.{Identity}
+use Rattle.async_task.specs.declared.waker.Awaiter.{Awaiter}
 use Rattle.executor_parts.specs.declared.mark.Mark.{Mark}
 use Rattle.executor_parts.specs.Marks.{other}
 use Rattle.call_steps.specs.declared.names.Look.TheVariants.{Second}
@@ -49,6 +51,15 @@ module _ {W : Type 0} where
   sleeper_of None = None
   sleeper_of (Some it) = Some (sleeper it.value)
 
+-- the name of a waker of this task, or of one from outside
+abbrev pub named : Option Identity → Waker Identity
+named None = waker.Outside
+named (Some f) = waker.Task f
+
+-- the name of the waker that a poll was given
+abbrev pub name_given : {F T S M W R : Type 0} → Awaiter F T S M W R → Waker Identity
+name_given w = named (identity_of w)
+
 -- what a try has still to do once it has found nothing in both queues, or the Runnable of this future
 abbrev pub tried : Option Identity → List (CallStep Identity (Unit {0}))
 tried None = step.End reply.No ∷ []
@@ -70,6 +81,11 @@ abbrev pub spawned : {F H : Type 0} → Result H (SpawnError F) → Reply
 spawned (Ok task) = reply.Made
 spawned (Err (Full future)) = reply.Full
 spawned (Err (NoMemory future)) = reply.NoMemory
+
+-- what a question for something new is answered
+abbrev pub made : {A E : Type 0} → Result A E → Reply
+made (Ok new) = reply.Made
+made (Err error) = reply.NoMemory
 
 -- what a question is answered
 abbrev pub yes_or_no : Bool → Reply

@@ -1,11 +1,12 @@
 //! What executors of both kinds have and do.
-ghost use Rattle.std.specs.Prelude.{◌≡◌, ◌<◌, [], true, Some, IfOk, IfErr};
+ghost use Rattle.std.specs.Prelude.{◌≡◌, ◌<◌, [], ◌∷◌, true, Some, IfOk, IfErr};
 ghost use Rattle.std.specs.Arc.{arc_value};
 ghost use Rattle.async_executor.specs.Errors.{refused};
 ghost use Rattle.async_executor.specs.Steps.{yes_or_no, spawned};
 ghost use Rattle.call_steps.specs.Todo.{below, top};
 ghost use Rattle.call_steps.specs.declared.step.CallStep.TheVariants as step;
 ghost use Rattle.call_steps.specs.declared.step.table.QueueStep.TheVariants as queue_step;
+ghost use Rattle.call_steps.specs.declared.step.table.TableStep.TheVariants as table_step;
 
 use crate::closing::ClosesReturned;
 use crate::due::share;
@@ -20,7 +21,7 @@ use crate::spawning::accept;
 use crate::state::State;
 use crate::steps::Steps;
 use async_task::{Future, NoMemory, Wake};
-use call_steps::{Asked, Last, Reply};
+use call_steps::{Last, Reply};
 use executor_parts::{Mark, Places};
 use std::alloc::Global;
 use std::mem;
@@ -126,9 +127,18 @@ where
     W: Wake + Drop + 'static,
     R: Wait + Copy + Drop + 'static,
 {
-    /// Whether each future that was accepted is dropped.
-    pub(crate) fn has_none(&self, unlocked: &mut Unlocked) -> bool {
-        sections::is_empty(self.table.lock(&self.rt, unlocked).get())
+    /// Whether each future that was accepted is dropped. The call's end is the second answer.
+    pub(crate) fn has_none(&self, steps: Steps, unlocked: &mut Unlocked) -> (bool, Last)
+        requires { steps ≡ step.Table table_step.LookAtTable ∷ [] }
+        ensures { result.1 ≡ yes_or_no result.0 }
+    {
+        let mut steps = steps;
+        let is_empty = sections::is_empty(self.table.lock(&self.rt, unlocked).get(), &mut steps);
+        if is_empty {
+            (true, steps.end(Reply::Yes))
+        } else {
+            (false, steps.end(Reply::No))
+        }
     }
 
     /// Accepts a future with this mark and queues its task, or refuses it.
@@ -143,8 +153,10 @@ where
         &self,
         future: F,
         mark: Mark,
+        steps: Steps,
         unlocked: &mut Unlocked,
     ) -> (Result<ExTask<T, W, R>, SpawnError<F>>, Last)
+        requires { steps ≡ step.Table (table_step.Enter mark) ∷ [] }
         ensures marked { IfOk result.0 (λ task. task.metadata ≡ mark) }
         ensures future { IfErr result.0 (λ error. refused error ≡ future) }
         ensures here { IfOk result.0 (λ task. task.identity.realm ≡ self.now.realm.now.number) }
@@ -152,7 +164,7 @@ where
     {
         let closed = self.returned.close(self.rt, self.realm, unlocked);
         let schedule = ExQueue::new(self.rt, share(self.rt, &self.state));
-        let mut steps = Steps::begin(Asked::Spawn(mark));
+        let mut steps = steps;
         let accepted = accept(
             self.table.lock(&self.rt, unlocked).get(),
             self.rt,
@@ -188,10 +200,11 @@ where
     ///
     /// The call's end is the second answer.
     #[inline(always)]
-    pub(crate) fn run_one(&self, unlocked: &mut Unlocked) -> (bool, Last)
+    pub(crate) fn run_one(&self, steps: Steps, unlocked: &mut Unlocked) -> (bool, Last)
+        requires { steps ≡ step.Queue queue_step.TakeTurn ∷ [] }
         ensures { result.1 ≡ yes_or_no result.0 }
     {
-        let mut steps = Steps::begin(Asked::TryTick);
+        let mut steps = steps;
         match self.state.take_in_turn(&self.rt, &mut steps) {
             Some(stored) => {
                 self.state

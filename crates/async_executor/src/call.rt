@@ -1,8 +1,7 @@
-//! A search, a leave or a drop, as contracts follow it from section to section.
+//! A search of a run, or a drop, as contracts follow it from section to section.
 ghost use Rattle.std.specs.Prelude.{◌≡◌, ◌∷◌, [], true, false, not, Some, None};
 ghost use Rattle.task_moves.specs.declared.moves.owed.Move.TheVariants as move;
 ghost use Rattle.call_steps.specs.declared.step.CallStep.TheVariants as step;
-ghost use Rattle.call_steps.specs.declared.step.table.QueueStep.TheVariants as queue_step;
 ghost use Rattle.call_steps.specs.declared.step.tick.SleeperStep.TheVariants as sleeper_step;
 ghost use Rattle.async_executor.specs.Stages.{begun, in_hand, took, looked_in, emptied, IsDone};
 
@@ -18,7 +17,7 @@ mod counts;
 
 pub use counts::{Counts, OwesSteal};
 
-/// What a search of a tick or run, its leaving, or a drop has done, has in hand and owes. Only contracts read it, so it has no
+/// What a search of a run or a drop has done, has in hand and owes. Only contracts read it, so it has no
 /// bytes. It has no drop: it ends with nothing in hand and nothing owed.
 #[must_use]
 pub struct Call {
@@ -32,8 +31,6 @@ pub struct Call {
     owes: Snapshot<bool>,
     // Whether the executor's queue is closed, so that a Runnable in hand is closed too.
     closed: Snapshot<bool>,
-    // What the flag is stored as, before the sleepers' lock is given back.
-    flag: Snapshot<Option<bool>>,
     // Whether the executor's urgent queue was found empty.
     urgent_empty: Snapshot<bool>,
     // Whether its plain one was.
@@ -46,7 +43,7 @@ pub struct Call {
     wanted: Snapshot<bool>,
 }
 
-/// How a call of a tick or run ended.
+/// How a call of a run ended.
 #[derive(Clone, Copy, Drop)]
 pub enum Ending {
     /// A Runnable was taken from a queue, and run.
@@ -61,7 +58,7 @@ pub enum Ending {
     GaveWay,
 }
 
-/// How a call of a tick or run ended, which that call alone can say. Only contracts read it. It has no drop: a poll ends by it,
+/// How a call of a run ended, which that call alone can say. Only contracts read it. It has no drop: a poll ends by it,
 /// or it is counted.
 #[must_use]
 pub struct Last {
@@ -84,7 +81,7 @@ impl Last {
     }
 }
 
-/// How the last poll of a tick or run ended. Only contracts read it, and what a call of that poll left is all that it is
+/// How the last poll of a run ended. Only contracts read it, and what a call of that poll left is all that it is
 /// written by; it is no `Snapshot`, as what has one could not be sent to another thread.
 #[derive(Drop)]
 pub struct Polled {
@@ -127,7 +124,6 @@ impl Model for Call {
       found = c.found.value;
       owes = c.owes.value;
       closed = c.closed.value;
-      flag = c.flag.value;
       urgent_empty = c.urgent_empty.value;
       plain_empty = c.plain_empty.value;
       undrained = c.undrained.value;
@@ -147,7 +143,6 @@ impl Call {
             found: Snapshot::of(&false),
             owes: Snapshot::of(&false),
             closed: Snapshot::of(&false),
-            flag: Snapshot::of(&None),
             urgent_empty: Snapshot::of(&false),
             plain_empty: Snapshot::of(&false),
             undrained: Snapshot::of(&false),
@@ -166,7 +161,6 @@ impl Call {
             found: _,
             owes: _,
             closed: _,
-            flag: _,
             urgent_empty: _,
             plain_empty: _,
             undrained: _,
@@ -284,26 +278,6 @@ impl Call {
         self.undrained = Snapshot::of(&false);
     }
 
-    /// There is no Runnable of what was in hand: the number is of another realm.
-    pub fn miss(&mut self)
-        requires { self.old.holds ≡ true }
-        ensures { self.new ≡ record self.old { holds = false; owes = false } }
-    {
-        self.holds = Snapshot::of(&false);
-        self.owes = Snapshot::of(&false);
-    }
-
-    /// The Runnable in hand is to be appended to the executor's queue.
-    pub fn hand_over(&mut self, runnable: &ExStoredRunnable) -> Steps
-        requires { self.old.holds ≡ true }
-        ensures call { self.new ≡ record self.old { holds = false; owes = false } }
-        ensures steps { result ≡ step.Queue (queue_step.Append runnable.now.identity) ∷ [] }
-    {
-        self.holds = Snapshot::of(&false);
-        self.owes = Snapshot::of(&false);
-        Steps::part(Part::Append(TaskName::of_runnable(runnable)))
-    }
-
     /// This call closed the executor's urgent queue.
     pub fn close_urgent(&mut self)
         ensures { self.new ≡ record self.old { is_new = false; closed = true } }
@@ -343,36 +317,10 @@ impl Call {
         Steps::part(Part::Tell)
     }
 
-    /// One left the sleepers, and had been told or not: then it tells another.
-    pub fn leave(&mut self, was_told: bool)
-        requires { self.old.owes ≡ false }
-        ensures { self.new ≡ record self.old { is_new = false; owes = was_told } }
-    {
-        self.is_new = Snapshot::of(&false);
-        self.owes = Snapshot::of(&was_told);
-    }
-
     /// One that was among the sleepers sleeps there with another waker.
     pub fn sleep_on(&mut self)
         ensures { self.new ≡ record self.old { sleeps = true } }
     {
         self.sleeps = Snapshot::of(&true);
-    }
-
-    /// What the flag becomes.
-    pub fn turn_flag(&mut self, notified: bool)
-        requires { self.old.flag ≡ None }
-        ensures { self.new ≡ record self.old { flag = Some notified } }
-    {
-        self.flag = Snapshot::of(&Some(notified));
-    }
-
-    /// The flag was stored.
-    pub fn store_flag(&mut self, notified: bool)
-        requires { self.old.flag ≡ Some notified }
-        ensures { self.new ≡ record self.old { flag = None } }
-    {
-        let _ = notified;
-        self.flag = Snapshot::of(&None);
     }
 }

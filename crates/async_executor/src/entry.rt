@@ -8,6 +8,7 @@ ghost use Rattle.async_executor.specs.Foreign.{value_of};
 ghost use Rattle.async_executor.specs.Polls.{has_left, HasLeft, IsRunAnswer, IsTickAnswer};
 ghost use Rattle.async_executor.specs.Seeds.{seeded};
 ghost use Rattle.async_executor.specs.Spawning.{SpawnsMany};
+ghost use Rattle.call_steps.specs.Begins.{begins};
 
 use crate::body::Body;
 use crate::call::{Counts, Polled};
@@ -19,9 +20,12 @@ use crate::leaving::Leaving;
 use crate::names::{ExScheduled, ExTask, ExWaker};
 use crate::queue::ExQueue;
 use crate::runner::Runner;
+use crate::steps::{Answered, Steps};
+use crate::task_name::{TaskName, name_given_to};
 use crate::ticker::Ticker;
-use crate::{executor, run};
+use crate::{executor, run, tick};
 use async_task::{Future, NoMemory, Poll, Returning, Schedule, ScheduleInfo, StoredWaker, Wake};
+use call_steps::{Asked, Sleeping, TickOrRun};
 use executor_parts::Mark;
 use std::collections::VecDeque;
 use std::fmt;
@@ -43,6 +47,20 @@ impl Unlocked {
     fn at_entry() -> Unlocked {
         Unlocked { own: () }
     }
+}
+
+/// Says that a call of a user's begins. None but those here can make one, so no other function begins a call.
+#[derive(Drop)]
+pub struct Entered {
+    own: (),
+}
+
+/// The steps of a call of a user's that is asked for this.
+#[inline(always)]
+fn begun(asked: Asked<TaskName, ()>) -> Steps
+    ensures { result ≡ begins asked }
+{
+    Steps::begin(asked, Entered { own: () })
 }
 
 /// An executor of futures `F`, whose outputs are `T`.
@@ -67,7 +85,9 @@ where
 {
     /// Whether each future that was accepted is dropped. It takes no memory.
     pub fn is_empty(&self) -> bool {
-        self.body.has_none(&mut Unlocked::at_entry())
+        let steps = begun(Asked::IsEmpty);
+        let (has_none, _last) = self.body.has_none(steps, &mut Unlocked::at_entry());
+        has_none
     }
 
     /// Hands the executor a plain future. Its task is queued, and the handle is answered: a future with the output, whose drop
@@ -88,7 +108,10 @@ where
         ensures here { IfOk result (λ task. task.identity.realm ≡ self.now.body.realm.now.number) }
         ensures marked { IfOk result (λ task. task.metadata ≡ mark) }
     {
-        let (spawned, _last) = self.body.hand_in(future, mark, &mut Unlocked::at_entry());
+        let steps = begun(Asked::Spawn(mark));
+        let (spawned, _last) = self
+            .body
+            .hand_in(future, mark, steps, &mut Unlocked::at_entry());
         spawned
     }
 
@@ -121,7 +144,8 @@ where
 
     /// Runs one task, where one is queued, and says whether it did. It doesn't wait for one, and takes no memory.
     pub fn try_tick(&self) -> bool {
-        let (is_run, _last) = self.body.run_one(&mut Unlocked::at_entry());
+        let steps = begun(Asked::TryTick);
+        let (is_run, _last) = self.body.run_one(steps, &mut Unlocked::at_entry());
         is_run
     }
 
@@ -129,7 +153,9 @@ where
     pub fn tick(&self) -> Result<Tick<'_, F, T, W, R>, NoMemory>
         ensures { IfOk result (λ tick. has_left tick.ticker ≡ false) }
     {
-        self.body.make_tick(&mut Unlocked::at_entry())
+        let steps = begun(Asked::NewTick);
+        let (made, _last) = self.body.make_tick(steps, &mut Unlocked::at_entry());
+        made
     }
 
     /// A future that runs the executor's futures until this one is ready, and has its output then. For want of memory the
@@ -219,8 +245,8 @@ where
 {
     pub(crate) executor: &'a Body<F, T, W, R>,
     pub(crate) ticker: Ticker,
-    /// How its last poll ended.
-    pub(crate) polled: Polled,
+    /// What its last poll was answered.
+    pub(crate) answered: Answered,
 }
 
 impl<F, T, W, R> Future<ExWaker<T, W, R>> for Tick<'_, F, T, W, R>
@@ -234,10 +260,14 @@ where
 
     /// Runs a task, and is ready, or falls asleep and is pending.
     fn poll(&mut self, waker: &ExWaker<T, W, R>) -> Poll<Result<(), NoMemory>>
-        ensures answer { IsTickAnswer self.old.polled self.new.polled result }
+        ensures answer { IsTickAnswer self.old.answered self.new.answered result }
         ensures stays { has_left self.new.ticker ≡ has_left self.old.ticker }
     {
-        self.look(waker, &mut Unlocked::at_entry())
+        let steps = begun(Asked::PollTick(Sleeping {
+            waker: name_given_to(waker),
+            who: TickOrRun::Tick(()),
+        }));
+        self.look(waker, steps, &mut Unlocked::at_entry())
     }
 }
 
@@ -253,14 +283,10 @@ where
         let Tick {
             executor,
             ticker,
-            polled: _,
+            answered: _,
         } = self;
-        ticker.leave(
-            executor.rt,
-            &executor.state,
-            executor.realm,
-            &mut Unlocked::at_entry(),
-        );
+        let steps = begun(Asked::DropTick(()));
+        let _last = tick::end(executor, ticker, steps, &mut Unlocked::at_entry());
     }
 }
 
@@ -328,7 +354,9 @@ where
             polled: _,
             counts: _,
         } = self;
-        run::end(executor, future, runner, ticker, &mut Unlocked::at_entry());
+        let steps = begun(Asked::DropRun((), runner.stage()));
+        let unlocked = &mut Unlocked::at_entry();
+        let _last = run::end(executor, future, runner, ticker, steps, unlocked);
     }
 }
 

@@ -1,20 +1,24 @@
 //! Values of a user's, which came out from under a lock.
-ghost use Rattle.std.specs.Prelude.{◌≡◌, Some};
+ghost use Rattle.std.specs.Prelude.{◌≡◌, ◌∷◌, [], Some, true, false};
 ghost use Rattle.call_steps.specs.Seeing.{due};
 ghost use Rattle.call_steps.specs.Todo.{below, top};
+ghost use Rattle.call_steps.specs.declared.reply.Reply.TheVariants as reply;
 ghost use Rattle.call_steps.specs.declared.step.CallStep.TheVariants as step;
+ghost use Rattle.call_steps.specs.declared.step.run.RunStep.TheVariants as run_step;
 ghost use Rattle.call_steps.specs.declared.step.tick.SleeperStep.TheVariants as sleeper_step;
+ghost use Rattle.call_steps.specs.declared.step.tick.TickStep.TheVariants as tick_step;
 ghost use Rattle.async_executor.specs.Foreign.{value_of};
 ghost use Rattle.async_executor.specs.Steps.{of_handed, sleeper};
+ghost use Rattle.async_executor.specs.Ticks.{found_asleep, sleeping};
 
-use crate::due::Handed;
+use crate::due::{Handed, pay_next};
 use crate::entry::Unlocked;
 use crate::names::{ExDue, ExRealm, ExWaker};
 use crate::sleeping::SleeperWaker;
 use crate::steps::Steps;
 use crate::task_name::TaskName;
 use async_task::{Future, Poll, Wake};
-use call_steps::Sleeping;
+use call_steps::{Sleeping, TickOrRun, Waker};
 use std::sync::Wait;
 
 /// A value of a user's, whose code runs only while no lock is held. It has no drop: it is let go, or called, by who is lent an
@@ -101,6 +105,81 @@ impl<W: Wake + Drop + 'static> Foreign<SleeperWaker<W>> {
     {
         let Foreign { value } = self;
         value.wake(rt, realm, steps, unlocked)
+    }
+
+    /// Calls the waker, with all that this leads to.
+    pub fn wake_and_pay<T, R>(
+        self,
+        rt: R,
+        realm: &'static ExRealm<T, W, R>,
+        steps: &mut Steps,
+        unlocked: &mut Unlocked,
+    )
+    where
+        T: Drop + 'static,
+        R: Wait + Copy + Drop + 'static,
+        requires { top steps.old ≡ Some (step.Sleeper (sleeper_step.CallSleeper (sleeper self.value))) }
+        ensures { steps.new ≡ below steps.old }
+    {
+        let handed = self.wake(rt, realm, steps, unlocked);
+        pay_next(rt, handed, steps, unlocked);
+    }
+
+    /// One leaves the sleepers with this waker, which goes, with all that this leads to.
+    pub fn leave_with<T, R>(
+        self,
+        rt: R,
+        realm: &'static ExRealm<T, W, R>,
+        who: &TickOrRun<()>,
+        steps: &mut Steps,
+        unlocked: &mut Unlocked,
+    )
+    where
+        T: Drop + 'static,
+        R: Wait + Copy + Drop + 'static,
+        requires { top steps.old ≡ Some (step.Tick (tick_step.Leave who.now)) }
+        ensures { steps.new ≡ step.Run run_step.ReturnRoom ∷ below steps.old }
+    {
+        let Foreign { value } = self;
+        value.leave_with(rt, realm, who, steps, unlocked);
+    }
+
+    /// A tick that found a Runnable of this task wakes up with this waker, which goes, with all that this leads to.
+    pub fn wake_up_with<T, R>(
+        self,
+        rt: R,
+        realm: &'static ExRealm<T, W, R>,
+        found: &TaskName,
+        steps: &mut Steps,
+        unlocked: &mut Unlocked,
+    )
+    where
+        T: Drop + 'static,
+        R: Wait + Copy + Drop + 'static,
+        requires { steps.old ≡ found_asleep true found.now }
+        ensures { steps.new ≡ found_asleep false found.now }
+    {
+        let Foreign { value } = self;
+        value.wake_up_with(rt, realm, found, steps, unlocked);
+    }
+
+    /// A tick sleeps on with another waker, of this name, and without this one, which goes, with all that this leads to.
+    pub fn sleep_on_without<T, R>(
+        self,
+        rt: R,
+        realm: &'static ExRealm<T, W, R>,
+        name: &Waker<TaskName>,
+        steps: &mut Steps,
+        unlocked: &mut Unlocked,
+    )
+    where
+        T: Drop + 'static,
+        R: Wait + Copy + Drop + 'static,
+        requires { steps.old ≡ step.Tick (tick_step.FallAsleep (sleeping name.now)) ∷ [] }
+        ensures { steps.new ≡ step.End reply.Pending ∷ [] }
+    {
+        let Foreign { value } = self;
+        value.sleep_on_without(rt, realm, name, steps, unlocked);
     }
 
     /// Drops the waker. Where a task has to be queued then, it is the answer.

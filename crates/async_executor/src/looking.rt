@@ -2,9 +2,12 @@
 ghost use Rattle.std.specs.Prelude.{◌≡◌, ◌∷◌, [], false, is_some};
 ghost use Rattle.call_steps.specs.declared.names.Look.TheVariants as look;
 ghost use Rattle.call_steps.specs.declared.step.CallStep.TheVariants as step;
+ghost use Rattle.call_steps.specs.declared.saw.Saw.TheVariants as saw;
 ghost use Rattle.call_steps.specs.declared.step.table.QueueStep.TheVariants as queue_step;
+ghost use Rattle.call_steps.specs.declared.step.tick.TickStep.TheVariants as tick_step;
 ghost use Rattle.async_executor.specs.Stages.{took, looked, looked_in};
 ghost use Rattle.async_executor.specs.Steps.{of_stored, tried, tried_first};
+ghost use Rattle.async_executor.specs.Ticks.{searched, searched_first, sleeping};
 
 use crate::call::Call;
 use crate::names::ExStoredRunnable;
@@ -12,7 +15,7 @@ use crate::queues::{FromQueues, Queue};
 use crate::state::State;
 use crate::steps::Steps;
 use crate::task_name::TaskName;
-use call_steps::Saw;
+use call_steps::{Saw, Searcher, Waker};
 use executor_parts::Mark;
 use std::sync::Wait;
 
@@ -146,23 +149,100 @@ impl<W: Drop> State<W> {
         self.look_from(mark, rt, call)
     }
 
-    /// The same for one who steals nothing then.
+    /// A search of a tick that sleeps or not, and was polled with a waker of this name: takes a turn, and then the first Runnable
+    /// of the queue that this names, or else of the other one.
     #[inline(always)]
-    pub fn look<R: Wait>(&self, rt: &R, call: &mut Call) -> Option<ExStoredRunnable>
-        requires free { call.old.holds ≡ false }
-        requires told { call.old.owes ≡ false }
-        ensures { call.new ≡ looked (is_some result) call.old }
+    pub fn search_as_tick<R: Wait>(
+        &self,
+        rt: &R,
+        name: &Waker<TaskName>,
+        sleeps: bool,
+        steps: &mut Steps,
+    ) -> Option<ExStoredRunnable>
+        requires { steps.old ≡ step.Tick (tick_step.Search (sleeping name.now)) ∷ [] }
+        ensures { steps.new ≡ searched name.now sleeps (of_stored result) }
     {
-        match self.search(rt, call) {
-            Some(FromQueues { runnable, mark: _ }) => Some(runnable),
-            None => None,
+        let mark = self.turns.take();
+        steps.follow(Saw::Turn(mark));
+        if let Some(runnable) = self.look_first(mark, rt, name, sleeps, steps) {
+            return Some(runnable);
+        }
+        self.look_second(mark.other(), rt, name, sleeps, steps)
+    }
+
+    /// The first look of a tick. A queue that is empty is left after loads alone, with no pop.
+    #[inline(always)]
+    fn look_first<R: Wait>(
+        &self,
+        mark: Mark,
+        rt: &R,
+        name: &Waker<TaskName>,
+        sleeps: bool,
+        steps: &mut Steps,
+    ) -> Option<ExStoredRunnable>
+        requires { steps.old ≡ step.Tick (tick_step.Look (sleeping name.now) (look.First mark)) ∷ [] }
+        ensures { steps.new ≡ searched_first mark name.now sleeps (of_stored result) }
+    {
+        let _ = name;
+        if self.queues.of(mark).is_empty(rt) {
+            steps.follow(Saw::Nothing);
+            return None;
+        }
+        match pop(self.queues.of(mark), rt) {
+            Some(runnable) => {
+                steps.follow(found_by_tick(&runnable, sleeps));
+                Some(runnable)
+            }
+            None => {
+                steps.follow(Saw::Nothing);
+                None
+            }
+        }
+    }
+
+    /// The second one.
+    #[inline(always)]
+    fn look_second<R: Wait>(
+        &self,
+        mark: Mark,
+        rt: &R,
+        name: &Waker<TaskName>,
+        sleeps: bool,
+        steps: &mut Steps,
+    ) -> Option<ExStoredRunnable>
+        requires { steps.old ≡ step.Tick (tick_step.Look (sleeping name.now) (look.Second mark)) ∷ [] }
+        ensures { steps.new ≡ searched name.now sleeps (of_stored result) }
+    {
+        let _ = name;
+        match pop(self.queues.of(mark), rt) {
+            Some(runnable) => {
+                steps.follow(found_by_tick(&runnable, sleeps));
+                Some(runnable)
+            }
+            None => {
+                steps.follow(Saw::Nothing);
+                None
+            }
         }
     }
 }
 
+/// A tick that sleeps or not sees this Runnable. It counts nothing.
+#[inline(always)]
+fn found_by_tick(runnable: &ExStoredRunnable, sleeps: bool) -> Saw<TaskName, ()>
+    ensures { result ≡ saw.FoundBy runnable.now.identity (record { sleeps = sleeps; counted = 0; taken = 0 }) }
+{
+    let at = Searcher {
+        sleeps,
+        counted: 0,
+        taken: 0,
+    };
+    Saw::FoundBy(TaskName::of_runnable(runnable), at)
+}
+
 /// Takes the first Runnable of a queue, where there is one.
 #[inline(always)]
-fn pop<R: Wait>(queue: &Queue, rt: &R) -> Option<ExStoredRunnable> {
+pub fn pop<R: Wait>(queue: &Queue, rt: &R) -> Option<ExStoredRunnable> {
     match queue.pop(rt) {
         Ok(runnable) => Some(runnable.into_inner()),
         Err(_) => None,

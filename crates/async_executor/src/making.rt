@@ -1,8 +1,11 @@
 //! How ticks and runs are made: all memory that they need later is taken here.
-ghost use Rattle.std.specs.Prelude.{◌≡◌, false, Some, IfOk, IfErr};
+ghost use Rattle.std.specs.Prelude.{◌≡◌, ◌∷◌, [], false, Some, IfOk, IfErr};
 ghost use Rattle.async_executor.specs.Foreign.{value_of};
 ghost use Rattle.async_executor.specs.Polls.{has_left};
 ghost use Rattle.async_executor.specs.Seeds.{seeded};
+ghost use Rattle.async_executor.specs.Steps.{made};
+ghost use Rattle.call_steps.specs.declared.step.CallStep.TheVariants as step;
+ghost use Rattle.call_steps.specs.declared.step.tick.TickStep.TheVariants as tick_step;
 
 use crate::body::Body;
 use crate::call::{Counts, Polled};
@@ -11,8 +14,10 @@ use crate::foreign::Foreign;
 use crate::names::ExWaker;
 use crate::runner::Runner;
 use crate::sections::{give_back, make_room};
+use crate::steps::{Answered, Steps};
 use crate::ticker::Ticker;
 use async_task::{Future, NoMemory, Wake};
+use call_steps::{Last, Reply, Saw};
 use std::sync::Wait;
 
 impl<F, T, W, R> Body<F, T, W, R>
@@ -22,21 +27,32 @@ where
     W: Wake + Drop + 'static,
     R: Wait + Copy + Drop + 'static,
 {
-    /// A tick, which is awake.
+    /// A tick, which is awake. The call's end is the second answer.
     pub(crate) fn make_tick(
         &self,
+        steps: Steps,
         unlocked: &mut Unlocked,
-    ) -> Result<Tick<'_, F, T, W, R>, NoMemory>
-        ensures { IfOk result (λ tick. has_left tick.ticker ≡ false) }
+    ) -> (Result<Tick<'_, F, T, W, R>, NoMemory>, Last)
+        requires { steps ≡ step.Tick tick_step.MakeTick ∷ [] }
+        ensures stays { IfOk result.0 (λ tick. has_left tick.ticker ≡ false) }
+        ensures answer { result.1 ≡ made result.0 }
     {
+        let mut steps = steps;
         let made = make_room(self.state.sleepers.lock(&self.rt, unlocked).get());
         match made {
-            Ok(new_room) => Ok(Tick {
-                executor: self,
-                ticker: Ticker::Awake(new_room),
-                polled: Polled::never(),
-            }),
-            Err(_) => Err(NoMemory),
+            Ok(new_room) => {
+                steps.follow(Saw::Something);
+                let tick = Tick {
+                    executor: self,
+                    ticker: Ticker::Awake(new_room),
+                    answered: Answered::never(),
+                };
+                (Ok(tick), steps.end(Reply::Made))
+            }
+            Err(_) => {
+                steps.follow(Saw::NoMemory);
+                (Err(NoMemory), steps.end(Reply::NoMemory))
+            }
         }
     }
 

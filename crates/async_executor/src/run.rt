@@ -1,20 +1,25 @@
-ghost use Rattle.std.specs.Prelude.{◌≡◌, ◌+◌, ◌==◌, is_some, IfSome};
+ghost use Rattle.std.specs.Prelude.{◌≡◌, ◌+◌, ◌==◌, true, is_some, IfSome};
 ghost use Rattle.async_executor.specs.Calls.{IsFoundAtLast};
 ghost use Rattle.async_executor.specs.Counted.{one_more};
 ghost use Rattle.async_executor.specs.Counting.{GoesOn};
 ghost use Rattle.async_executor.specs.Polls.{has_left, HasLeft, IsRunAnswer, IsTasksAnswer};
+ghost use Rattle.async_executor.specs.Runs.{has_ended, stage_by};
 ghost use Rattle.async_executor.specs.Stages.{in_hand};
+ghost use Rattle.call_steps.specs.Begins.{drop_run};
+ghost use Rattle.call_steps.specs.declared.reply.Reply.TheVariants as reply;
 
 use crate::body::Body;
-use crate::call::{Call, Counts, Ending, Last, Polled};
+use crate::call::{Call, Counts, Ending, Last as Ended, Polled};
 use crate::entry::{Run, Unlocked};
 use crate::errors::RunError;
 use crate::foreign::Foreign;
 use crate::names::{ExStoredRunnable, ExWaker};
 use crate::runner::Runner;
 use crate::sleeping::call_waker;
+use crate::steps::Steps;
 use crate::ticker::{Found, Ticker};
 use async_task::{Future, Poll, Wake};
+use call_steps::{Last, Part, Reply, TickOrRun};
 use std::mem;
 use std::sync::Wait;
 
@@ -54,14 +59,7 @@ where
                 if let Some(future) = mem::replace(&mut self.future, None) {
                     future.let_go(unlocked);
                 }
-                self.runner
-                    .end(executor.rt, &executor.state, executor.realm, unlocked);
-                mem::replace(&mut self.ticker, Ticker::Left).leave(
-                    executor.rt,
-                    &executor.state,
-                    executor.realm,
-                    unlocked,
-                );
+                self.leave(unlocked);
                 Poll::Ready(Ok(output))
             }
             Poll::Pending => self.take_tasks(waker, unlocked),
@@ -110,6 +108,42 @@ where
         unreachable!()
     }
 
+    /// Its own future was ready: the run leaves the executor, in a part of its poll that stands for itself.
+    fn leave(&mut self, unlocked: &mut Unlocked)
+        ensures drained { self.new.runner.is_drained ≡ true }
+        ensures left { has_left self.new.ticker ≡ true }
+        ensures future { self.new.future ≡ self.old.future }
+        ensures polled { self.new.polled ≡ self.old.polled }
+        ensures counts { self.new.counts ≡ self.old.counts }
+    {
+        let executor = self.executor;
+        let mut steps = Steps::part(Part::EndRun((), Reply::Ready));
+        self.runner.unregister(
+            &executor.rt,
+            &executor.state,
+            Reply::Ready,
+            &mut steps,
+            unlocked,
+        );
+        self.runner.reschedule(
+            executor.rt,
+            &executor.state,
+            executor.realm,
+            Reply::Ready,
+            &mut steps,
+            unlocked,
+        );
+        mem::replace(&mut self.ticker, Ticker::Left).leave(
+            executor.rt,
+            &executor.state,
+            executor.realm,
+            &TickOrRun::Run(()),
+            &mut steps,
+            unlocked,
+        );
+        let _last = steps.end(Reply::Ready);
+    }
+
     /// Counts the task in hand, and runs it. At each 64th it steals from the executor's queue before; after the 200th it lets
     /// others go first, and the poll ends by the answer.
     fn run_task(
@@ -117,7 +151,7 @@ where
         runnable: ExStoredRunnable,
         call: Call,
         unlocked: &mut Unlocked,
-    ) -> Option<Last>
+    ) -> Option<Ended>
         requires { call ≡ in_hand }
         ensures counts { self.new.counts ≡ one_more self.old.counts }
         ensures full { is_some result ≡ (self.old.counts.taken + 1 == 200) }
@@ -178,20 +212,38 @@ pub fn end<F, T, W, R, G>(
     future: Option<Foreign<G>>,
     runner: Runner,
     ticker: Ticker,
+    steps: Steps,
     unlocked: &mut Unlocked,
-)
+) -> Last
 where
     F: Drop,
     T: Drop + 'static,
     W: Wake + Drop + 'static,
     R: Wait + Copy + Drop + 'static,
     G: Drop,
+    requires { steps ≡ drop_run (stage_by (has_ended runner.room runner.is_drained) runner.is_listed) tt }
+    ensures { result ≡ reply.Done }
 {
     let mut runner = runner;
+    let mut steps = steps;
     if let Some(future) = future {
         future.let_go(unlocked);
     }
-    runner.end(executor.rt, &executor.state, executor.realm, unlocked);
+    runner.end(
+        executor.rt,
+        &executor.state,
+        executor.realm,
+        &mut steps,
+        unlocked,
+    );
     runner.finish();
-    ticker.leave(executor.rt, &executor.state, executor.realm, unlocked);
+    ticker.leave(
+        executor.rt,
+        &executor.state,
+        executor.realm,
+        &TickOrRun::Run(()),
+        &mut steps,
+        unlocked,
+    );
+    steps.end(Reply::Done)
 }

@@ -3,7 +3,7 @@ ghost use Rattle.std.specs.Prelude.{◌≡◌, true, false, None, Some, IsSome, 
 ghost use Rattle.std.specs.Arc.{arc_value};
 ghost use Rattle.async_executor.specs.Seeds.{seeded, words_after};
 ghost use Rattle.async_executor.specs.OwnQueues.{listed};
-ghost use Rattle.async_executor.specs.Stages.{idle, begun, took, looked};
+ghost use Rattle.async_executor.specs.Stages.{idle, begun, looked};
 
 use crate::call::{Call, Ending, Last, OwesSteal};
 use crate::due::{pay, share};
@@ -21,8 +21,9 @@ use executor_parts::Mark;
 use rand_core::SeedableRng;
 use rand_xoshiro::Xoshiro256PlusPlus;
 use std::alloc::{AllocError, Global};
-use std::mem;
 use std::sync::{Arc, Wait};
+
+mod ending;
 
 /// What a run has of its own among the queues.
 pub struct Runner {
@@ -33,8 +34,7 @@ pub struct Runner {
     number: u64,
     // Whether it was put there, at the first poll.
     is_listed: bool,
-    // Whether the own queue was found empty once it stood in no list. Only contracts read it; it is no `Snapshot`, as a run
-    // with one could not be sent to another thread.
+    // Whether the own queue was found empty once it stood in no list.
     is_drained: bool,
     // Says at which queue each walk starts.
     words: Xoshiro256PlusPlus,
@@ -124,67 +124,6 @@ impl Runner {
             }
             Err(_) => Err(call.refuse()),
         }
-    }
-
-    /// Takes the own queue out of the executor's list, where it is there, gives its room there back, and then schedules what
-    /// is left in it, in order.
-    pub fn end<T, W, R>(
-        &mut self,
-        rt: R,
-        state: &State<W>,
-        realm: &'static ExRealm<T, W, R>,
-        unlocked: &mut Unlocked,
-    )
-    where
-        T: Drop + 'static,
-        W: Wake + Drop + 'static,
-        R: Wait + Copy + Drop + 'static,
-        ensures drained { self.new.is_drained ≡ true }
-        ensures left { self.new.room ≡ None }
-    {
-        if let Some(room) = mem::replace(&mut self.room, None) {
-            let listed = state.own_queues.write(&rt, unlocked).get().leave(room);
-            drop(listed);
-        }
-        self.drain(rt, state, realm, unlocked);
-    }
-
-    /// Schedules what is left in the own queue, in order.
-    fn drain<T, W, R>(
-        &mut self,
-        rt: R,
-        state: &State<W>,
-        realm: &'static ExRealm<T, W, R>,
-        unlocked: &mut Unlocked,
-    )
-    where
-        T: Drop + 'static,
-        W: Wake + Drop + 'static,
-        R: Wait + Copy + Drop + 'static,
-        ensures drained { self.new.is_drained ≡ true }
-        ensures room { self.new.room ≡ self.old.room }
-    {
-        for _ in rt.forever() {
-            let mut call = Call::begin();
-            let Some(stored) = self.take_last(&rt, &mut call) else {
-                call.end();
-                return;
-            };
-            state.push_stored(rt, realm, call, stored, unlocked);
-        }
-        unreachable!()
-    }
-
-    /// Takes the first of the own queue, which stands in no list any more.
-    fn take_last<R: Wait>(&mut self, rt: &R, call: &mut Call) -> Option<ExStoredRunnable>
-        requires { call.old ≡ begun }
-        ensures call { call.new ≡ took (is_some result) begun }
-        ensures drained { result ≡ None → self.new.is_drained ≡ true }
-        ensures room { self.new.room ≡ self.old.room }
-    {
-        let found = take_from_own(&self.own, rt, call);
-        self.is_drained = found.is_none();
-        found
     }
 
     /// Pays the look at the executor's queues that is owed: it steals from the urgent one, and then from the plain one.

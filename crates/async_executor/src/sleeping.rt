@@ -1,12 +1,11 @@
-ghost use Rattle.std.specs.Prelude.{◌≡◌, IfSome, Some, is_none};
+ghost use Rattle.std.specs.Prelude.{◌≡◌, IfSome, Some};
 ghost use Rattle.call_steps.specs.Seeing.{due};
 ghost use Rattle.call_steps.specs.Todo.{below, top};
 ghost use Rattle.call_steps.specs.declared.step.CallStep.TheVariants as step;
 ghost use Rattle.call_steps.specs.declared.step.tick.SleeperStep.TheVariants as sleeper_step;
 ghost use Rattle.async_executor.specs.Copies.{IsCopyOf};
-ghost use Rattle.async_executor.specs.Steps.{of_handed, sleeper};
+ghost use Rattle.async_executor.specs.Steps.{name_given, name_of, of_handed, sleeper};
 
-use crate::call::Call;
 use crate::due::Handed;
 use crate::entry::Unlocked;
 use crate::foreign::Foreign;
@@ -16,6 +15,8 @@ use crate::task_name::TaskName;
 use async_task::{Awaiter, Returning, StoredWaker, Wake};
 use call_steps::{Saw, Sleeping, TickOrRun, Waker};
 use std::sync::Wait;
+
+mod going;
 
 /// The waker of a tick or run that sleeps.
 #[derive(Drop)]
@@ -45,27 +46,17 @@ impl<W> SleeperWaker<W> {
 
 impl<W: Wake + Drop + 'static> SleeperWaker<W> {
     /// A copy of a waker for the list of sleepers, or None where none can be had: then memory was wanted.
-    pub fn of<T, R>(
-        waker: &ExWaker<T, W, R>,
-        call: &mut Call,
-        unlocked: &Unlocked,
-    ) -> Option<Foreign<Self>>
+    pub fn of<T, R>(waker: &ExWaker<T, W, R>, unlocked: &Unlocked) -> Option<Foreign<Self>>
     where
         T: Drop + 'static,
         R: Wait + Copy + Drop + 'static,
         ensures copy { IfSome result (λ copy. IsCopyOf W.is_same copy.value waker.now) }
-        ensures call { call.new ≡ record call.old { wanted = is_none result } }
+        ensures name { IfSome result (λ copy. name_of copy.value ≡ name_given waker.now) }
     {
         let _ = unlocked;
         match SleeperWaker::copy_of(waker) {
-            Some(copy) => {
-                call.ask(false);
-                Some(Foreign::of(copy))
-            }
-            None => {
-                call.ask(true);
-                None
-            }
+            Some(copy) => Some(Foreign::of(copy)),
+            None => None,
         }
     }
 
@@ -73,7 +64,8 @@ impl<W: Wake + Drop + 'static> SleeperWaker<W> {
     where
         T: Drop + 'static,
         R: Wait + Copy + Drop + 'static,
-        ensures { IfSome result (λ copy. IsCopyOf W.is_same copy waker.now) }
+        ensures copy { IfSome result (λ copy. IsCopyOf W.is_same copy waker.now) }
+        ensures name { IfSome result (λ copy. name_of copy ≡ name_given waker.now) }
     {
         match waker {
             Awaiter::Task(waker) => match waker.clone() {

@@ -1,5 +1,5 @@
 //! What the threads of an executor share, but for its futures.
-ghost use Rattle.std.specs.Prelude.{◌≡◌, ◌≢◌, ◌<◌, true, false, Some, None, IfOk, IfErr, IfNone, IfSome, OnSome, is_ok, length};
+ghost use Rattle.std.specs.Prelude.{◌≡◌, ◌≢◌, ◌<◌, true, false, Some, None, IfOk, IfErr, IfSome, is_ok, length};
 ghost use Rattle.task_moves.specs.declared.moves.owed.Move.TheVariants as move;
 ghost use Rattle.call_steps.specs.Seeing.{called, due, seen};
 ghost use Rattle.call_steps.specs.Todo.{below, following, top};
@@ -7,9 +7,8 @@ ghost use Rattle.call_steps.specs.declared.step.CallStep.TheVariants as step;
 ghost use Rattle.call_steps.specs.declared.step.table.QueueStep.TheVariants as queue_step;
 ghost use Rattle.call_steps.specs.declared.step.tick.SleeperStep.TheVariants as sleeper_step;
 ghost use Rattle.executor_parts.specs.Sleepers.{flag_of, last_waker, without_last};
-ghost use Rattle.async_executor.specs.Calls.{flag_woken_up};
 ghost use Rattle.async_executor.specs.Foreign.{value_of};
-ghost use Rattle.async_executor.specs.Stages.{begun, took};
+ghost use Rattle.async_executor.specs.Sleeping.{laid_as, SaysFellAsleep};
 ghost use Rattle.async_executor.specs.Steps.{of_handed, sleeper_of};
 
 use crate::call::Call;
@@ -25,7 +24,7 @@ use crate::queues::{Queue, Queues};
 use crate::sleeping::SleeperWaker;
 use crate::steps::Steps;
 use crate::task_name::TaskName;
-use crate::ticker::WokenUp;
+use crate::ticker::{FellAsleep, Laid, WokenUp};
 use crate::turns::Turns;
 use async_task::{GoesBack, NoMemory, Returning, Wake};
 use call_steps::Saw;
@@ -141,34 +140,37 @@ impl<W: Drop> State<W> {
         hand_out(self.sleepers.lock(rt, unlocked).get(), steps)
     }
 
-    /// Stores the flag, as the list of sleepers says, which is lent while their lock is held.
-    pub fn store_flag(&self, sleepers: &Sleepers<SleeperWaker<W>>, call: &mut Call, notified: bool)
-        requires said { notified ≡ flag_of sleepers.now }
-        requires flag { call.old.flag ≡ Some notified }
-        ensures { call.new ≡ record call.old { flag = None } }
+    /// Stores what the flag becomes where one fell asleep, as the list of sleepers says, which is lent while their lock is held.
+    pub fn store_fell_asleep(
+        &self,
+        sleepers: &Sleepers<SleeperWaker<W>>,
+        fell_asleep: FellAsleep<W>,
+    ) -> Laid<W>
+        requires { SaysFellAsleep sleepers.now fell_asleep }
+        ensures { result ≡ laid_as fell_asleep }
     {
-        self.notified.store(sleepers, notified);
-        call.store_flag(notified);
+        match fell_asleep {
+            FellAsleep::Anew(flag) => {
+                self.notified.store(sleepers, flag);
+                Laid::Anew
+            }
+            FellAsleep::Already(old) => Laid::Already(old),
+            FellAsleep::Nowhere(waker) => Laid::Nowhere(waker),
+        }
     }
 
     /// Stores what the flag becomes where one woke up or left. The waker that it had is the answer.
     pub fn store_woken_up(
         &self,
         sleepers: &Sleepers<SleeperWaker<W>>,
-        call: &mut Call,
-        woken_up: Option<WokenUp<W>>,
+        woken_up: WokenUp<W>,
     ) -> Option<Foreign<SleeperWaker<W>>>
-        requires said { IfSome woken_up (λ woken_up. woken_up.notified ≡ flag_of sleepers.now) }
-        requires flag { call.old.flag ≡ flag_woken_up woken_up }
-        ensures { call.new ≡ record call.old { flag = None } }
+        requires { woken_up.notified ≡ flag_of sleepers.now }
+        ensures { result ≡ woken_up.waker }
     {
-        match woken_up {
-            Some(WokenUp { notified, waker }) => {
-                self.store_flag(sleepers, call, notified);
-                waker
-            }
-            None => None,
-        }
+        let WokenUp { notified, waker } = woken_up;
+        self.notified.store(sleepers, notified);
+        waker
     }
 }
 
@@ -252,31 +254,6 @@ where
     }
 }
 
-/// The same for the Runnable in hand. Where that is of another realm nothing is in hand any more.
-fn redeem_in_hand<T, W, R>(
-    rt: R,
-    realm: &'static ExRealm<T, W, R>,
-    call: &mut Call,
-    runnable: ExStoredRunnable,
-) -> Option<ExScheduled<T, W, R>>
-where
-    T: Drop + 'static,
-    W: Wake + Drop + 'static,
-    R: Wait + Copy + Drop + 'static,
-    requires { call.old.holds ≡ true }
-    ensures found { OnSome result (call.new ≡ call.old) }
-    ensures missed { IfNone result (call.new ≡ record call.old { holds = false; owes = false }) }
-    ensures task { IfSome result (λ found. found.identity ≡ runnable.identity) }
-{
-    match redeem(rt, realm, runnable) {
-        Some(found) => Some(found),
-        None => {
-            call.miss();
-            None
-        }
-    }
-}
-
 impl<W: Wake + Drop + 'static> State<W> {
     /// Puts a Runnable into the executor's queue of its mark, and tells a sleeper. Where that leads to a task that has to be
     /// queued, it is the answer. From a queue that is closed the Runnable comes back, and is dropped.
@@ -300,29 +277,32 @@ impl<W: Wake + Drop + 'static> State<W> {
         }
     }
 
-    /// Puts the Runnable in hand, which rested in a run's own queue, into the executor's queue, tells a sleeper, and ends the
-    /// call, with all that this leads to. One of another realm goes back there.
+    /// Puts a Runnable that rested in a run's own queue into the executor's queue, and tells a sleeper, with all that this leads
+    /// to. One of another realm goes back there.
     pub fn push_stored<T, R>(
         &self,
         rt: R,
         realm: &'static ExRealm<T, W, R>,
-        call: Call,
         stored: ExStoredRunnable,
+        steps: &mut Steps,
         unlocked: &mut Unlocked,
     )
     where
         T: Drop + 'static,
         R: Wait + Copy + Drop + 'static,
-        requires { call ≡ took true begun }
+        requires { top steps.old ≡ Some (step.Queue (queue_step.Append stored.identity)) }
+        ensures { steps.new ≡ below steps.old }
     {
-        let mut call = call;
-        if let Some(runnable) = redeem_in_hand(rt, realm, &mut call, stored) {
-            let marked = Marked::of(runnable);
-            let mut steps = call.hand_over(&marked.stored);
-            self.push_and_pay(rt, realm, &mut steps, marked, unlocked);
-            steps.close();
+        match redeem(rt, realm, stored) {
+            Some(runnable) => {
+                let marked = Marked::of(runnable);
+                self.push_and_pay(rt, realm, steps, marked, unlocked);
+            }
+            None => {
+                steps.follow(Saw::Nothing);
+                steps.see_moved(false);
+            }
         }
-        call.end();
     }
 
     /// Tells a sleeper that there is something to do, unless one has been told already, and calls its waker once the lock is

@@ -1,7 +1,42 @@
 //! How calls on the executor go, step by step.
+ghost use Rattle.std.specs.Prelude.{◌≡◌, not, None, Some};
+
+use crate::entry::Entered;
 use crate::task_name::TaskName;
-use call_steps::Call;
+use call_steps::{Call, Last, Reply};
 
 /// A call, or a part of one, that goes as the machine of `call_steps` does. Futures have the names of their tasks. The list of
-/// sleepers knows no names of ticks and runs, so they have none here.
-pub type Steps = Call<TaskName, ()>;
+/// sleepers knows no names of ticks and runs, so they have none here. A call is begun in `entry`, as the user's call begins.
+pub type Steps = Call<TaskName, (), Entered>;
+
+/// What the last poll of a tick was answered. Only contracts read it, and it is written by the end of that poll's call alone.
+#[derive(Drop)]
+pub struct Answered {
+    // None before the first poll.
+    reply: Option<Reply>,
+    // It turns with each poll, so that no poll can answer by what an earlier one left.
+    turned: bool,
+}
+
+impl Answered {
+    /// Not polled yet.
+    pub fn never() -> Answered
+        ensures { result.reply ≡ None }
+    {
+        Answered {
+            reply: None,
+            turned: false,
+        }
+    }
+
+    /// A poll ends with this reply, as its call did.
+    pub fn end(&mut self, reply: Reply, last: Last)
+        requires { last ≡ reply }
+        ensures reply { self.new.reply ≡ Some reply }
+        ensures turned { self.new.turned ≡ not self.old.turned }
+    {
+        let _ = last;
+        self.reply = Some(reply);
+        self.turned = !self.turned;
+    }
+}

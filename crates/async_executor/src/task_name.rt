@@ -1,16 +1,20 @@
 //! The names of tasks, as contracts see them.
 ghost use Rattle.std.specs.Prelude.{◌≡◌};
+ghost use Rattle.async_executor.specs.Steps.{name_given};
 
-use crate::names::ExStoredRunnable;
-use async_task::{Returning, StoredWaker};
+use crate::names::{ExStoredRunnable, ExWaker};
+use async_task::{Identity, Returning, StoredWaker, Wake};
+use call_steps::Waker;
 use std::marker::Model;
 use std::snapshot::Snapshot;
+use std::sync::Wait;
 
-/// What a task is known by: a Runnable or a waker of it.
+/// What a task is known by: a Runnable or a waker of it, or what that says of itself.
 #[derive(Drop)]
 pub enum KnownBy {
     Runnable(Snapshot<ExStoredRunnable>),
     Waker(Snapshot<Returning<StoredWaker>>),
+    Identified(Snapshot<Identity>),
 }
 
 /// Which task it is. Only contracts read it: nothing is looked up for it.
@@ -47,5 +51,22 @@ impl TaskName {
         TaskName {
             known_by: KnownBy::Waker(Snapshot::of(waker)),
         }
+    }
+}
+
+/// The name of the waker that a poll was given.
+#[inline(always)]
+pub fn name_given_to<T, W, R>(waker: &ExWaker<T, W, R>) -> Waker<TaskName>
+where
+    T: Drop + 'static,
+    W: Wake + Drop + 'static,
+    R: Wait + Copy + Drop + 'static,
+    ensures { result ≡ name_given waker.now }
+{
+    match waker.identity() {
+        Some(identity) => Waker::Task(TaskName {
+            known_by: KnownBy::Identified(Snapshot::of(&identity)),
+        }),
+        None => Waker::Outside,
     }
 }

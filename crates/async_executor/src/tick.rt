@@ -1,11 +1,22 @@
-ghost use Rattle.std.specs.Prelude.{◌≡◌};
+//! How a tick is polled, and ends.
+ghost use Rattle.std.specs.Prelude.{◌≡◌, ◌∷◌, []};
 ghost use Rattle.async_executor.specs.Polls.{has_left, IsTickAnswer};
+ghost use Rattle.async_executor.specs.Sleeping.{is_asleep};
+ghost use Rattle.async_executor.specs.Steps.{name_given};
+ghost use Rattle.async_executor.specs.Ticks.{found_asleep, sleeping};
+ghost use Rattle.call_steps.specs.declared.names.TickOrRun.TheVariants as tick_or_run;
+ghost use Rattle.call_steps.specs.declared.step.CallStep.TheVariants as step;
+ghost use Rattle.call_steps.specs.declared.step.tick.TickStep.TheVariants as tick_step;
+ghost use Rattle.call_steps.specs.declared.reply.Reply.TheVariants as reply;
 
-use crate::call::{Call, Polled};
+use crate::body::Body;
 use crate::entry::{Tick, Unlocked};
-use crate::names::ExWaker;
-use crate::ticker::{Found, Ticker};
+use crate::names::{ExStoredRunnable, ExWaker};
+use crate::steps::Steps;
+use crate::task_name::{TaskName, name_given_to};
+use crate::ticker::{Slept, Ticker};
 use async_task::{Future, NoMemory, Poll, Wake};
+use call_steps::{Last, Reply, TickOrRun};
 use std::sync::Wait;
 
 impl<F, T, W, R> Tick<'_, F, T, W, R>
@@ -17,45 +28,105 @@ where
 {
     /// Looks for a future that is to be polled.
     ///
-    /// 1. Takes a Runnable from the executor's queue, or falls asleep and is pending.
-    /// 2. Where it found one: runs it, and is ready.
+    /// 1. Takes a Runnable from the executor's queues, where one stands there: wakes up, tells another sleeper that there may be
+    ///    more, runs it, and is ready.
+    /// 2. Else copies the waker, and falls asleep with the copy. Where it fell asleep anew, or had been told meanwhile, it searches
+    ///    again, since what was queued before may have told nobody. Where it slept there already, it is pending.
     pub(crate) fn look(
         &mut self,
         waker: &ExWaker<T, W, R>,
+        steps: Steps,
         unlocked: &mut Unlocked,
     ) -> Poll<Result<(), NoMemory>>
-        ensures answer { IsTickAnswer self.old.polled self.new.polled result }
+        requires { steps ≡ step.Tick (tick_step.Search (sleeping (name_given waker.now))) ∷ [] }
+        ensures answer { IsTickAnswer self.old.answered self.new.answered result }
         ensures stays { has_left self.new.ticker ≡ has_left self.old.ticker }
     {
         let executor = self.executor;
+        let name = name_given_to(waker);
+        let mut steps = steps;
         for _ in executor.rt.forever() {
-            let mut call = Call::begin();
-            let found = executor.state.look(&executor.rt, &mut call);
-            match self.ticker.after_search(
+            let sleeps = self.ticker.sleeps();
+            let found = executor
+                .state
+                .search_as_tick(&executor.rt, &name, sleeps, &mut steps);
+            if let Some(stored) = found {
+                let last = self.run_found(stored, steps, unlocked);
+                self.answered.end(Reply::Ready, last);
+                return Poll::Ready(Ok(()));
+            }
+            match self.ticker.sleep(
                 executor.rt,
                 &executor.state,
                 executor.realm,
-                call,
-                found,
                 waker,
+                &name,
+                &mut steps,
                 unlocked,
             ) {
-                Found::Runnable(runnable, call) => {
-                    self.polled
-                        .end(executor.run_found(runnable, call, unlocked));
-                    return Poll::Ready(Ok(()));
-                }
-                Found::SearchAgain => {}
-                Found::Nothing(last) => {
-                    self.polled.end(last);
+                Slept::Anew => {}
+                Slept::Still => {
+                    self.answered.end(Reply::Pending, steps.end(Reply::Pending));
                     return Poll::Pending;
                 }
-                Found::NoMemory(last) => {
-                    self.polled.end(last);
+                Slept::NoMemory => {
+                    self.answered
+                        .end(Reply::NoMemory, steps.end(Reply::NoMemory));
                     return Poll::Ready(Err(NoMemory));
                 }
             }
         }
         unreachable!()
     }
+
+    /// Wakes up, where it sleeps, tells another sleeper, and runs the task that was found.
+    fn run_found(&mut self, stored: ExStoredRunnable, steps: Steps, unlocked: &mut Unlocked) -> Last
+        requires { steps ≡ found_asleep (is_asleep self.old.ticker) stored.identity }
+        ensures last { result ≡ reply.Ready }
+        ensures stays { has_left self.new.ticker ≡ has_left self.old.ticker }
+        ensures answered { self.new.answered ≡ self.old.answered }
+    {
+        let executor = self.executor;
+        let mut steps = steps;
+        self.ticker.wake_up(
+            executor.rt,
+            &executor.state,
+            executor.realm,
+            &TaskName::of_runnable(&stored),
+            &mut steps,
+            unlocked,
+        );
+        executor
+            .state
+            .notify_and_pay(executor.rt, executor.realm, &mut steps, unlocked);
+        executor.poll_or_drop(stored, &mut steps, unlocked);
+        steps.end(Reply::Ready)
+    }
+}
+
+/// A tick ends: it leaves the sleepers, and gives its room there back.
+pub fn end<F, T, W, R>(
+    executor: &Body<F, T, W, R>,
+    ticker: Ticker,
+    steps: Steps,
+    unlocked: &mut Unlocked,
+) -> Last
+where
+    F: Drop,
+    T: Drop + 'static,
+    W: Wake + Drop + 'static,
+    R: Wait + Copy + Drop + 'static,
+    requires { steps ≡ step.Tick (tick_step.Leave (tick_or_run.Tick tt)) ∷ step.End reply.Done ∷ [] }
+    ensures { result ≡ reply.Done }
+{
+    let mut steps = steps;
+    ticker.leave(
+        executor.rt,
+        &executor.state,
+        executor.realm,
+        &TickOrRun::Tick(()),
+        &mut steps,
+        unlocked,
+    );
+    steps.end(Reply::Done)
 }

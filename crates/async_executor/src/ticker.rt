@@ -1,24 +1,36 @@
-//! How ticks and runs fall asleep among the sleepers, wake up, and leave them.
-ghost use Rattle.std.specs.Prelude.{◌≡◌, true, false, Some, None, IfSome, is_some};
-ghost use Rattle.async_executor.specs.Calls.{flag_fell_asleep, sleeps_since, flag_woken_up, IsFound};
+//! How ticks and runs fall asleep among the sleepers, and wake up.
+ghost use Rattle.std.specs.Prelude.{◌≡◌, ◌∷◌, [], true, false, Some, None, IfSome, is_some};
+ghost use Rattle.call_steps.specs.declared.step.CallStep.TheVariants as step;
+ghost use Rattle.call_steps.specs.declared.step.tick.TickStep.TheVariants as tick_step;
+ghost use Rattle.call_steps.specs.declared.reply.Reply.TheVariants as reply;
+ghost use Rattle.async_executor.specs.Calls.{IsFound};
 ghost use Rattle.async_executor.specs.Polls.{has_left};
 ghost use Rattle.async_executor.specs.Foreign.{value_of};
-ghost use Rattle.async_executor.specs.Sleeping.{FallsAsleep, WakesUp, Leaves, SaysFellAsleep};
+ghost use Rattle.async_executor.specs.Sleeping.{is_asleep, ComesBack, FallsAsleep, LaidBack, WakesUp, SaysFellAsleep};
+ghost use Rattle.async_executor.specs.Stages.{begun, looked};
+ghost use Rattle.async_executor.specs.Steps.{name_of, name_given};
+ghost use Rattle.async_executor.specs.Ticks.{found_asleep, sleeping, slept};
 ghost use Rattle.executor_parts.specs.Sleepers.{flag_of};
-ghost use Rattle.async_executor.specs.Stages.{idle, begun, looked};
 
 use crate::call::{Call, Last};
 use crate::due::{call_apart, pay};
 use crate::entry::Unlocked;
+use crate::flag::NewFlag;
 use crate::foreign::{Foreign, came_out};
 use crate::names::{ExRealm, ExStoredRunnable, ExWaker};
-use crate::sections::give_back;
 use crate::sleeping::{SleeperWaker, call_waker};
 use crate::state::State;
+use crate::steps::Steps;
+use crate::task_name::TaskName;
 use async_task::Wake;
-use executor_parts::{Again, Room, Sleeper, Sleepers, Slept, Unreserved, WokenUp as Stood};
+use call_steps::{Saw, TickOrRun, Waker};
+use executor_parts::{
+    Again, Room, Sleeper, Sleepers, Slept as Started, Unreserved, WokenUp as Stood,
+};
 use std::mem;
 use std::sync::Wait;
+
+mod leave;
 
 /// Whether a tick or run is among the sleepers. It has no drop: it leaves them.
 pub enum Ticker {
@@ -30,7 +42,7 @@ pub enum Ticker {
     Left,
 }
 
-/// What a tick or run finds.
+/// What a run finds.
 pub enum Found {
     /// A Runnable, which is in hand: it is awake, and another sleeper was told.
     Runnable(ExStoredRunnable, Call),
@@ -45,23 +57,40 @@ pub enum Found {
 /// How one fell asleep.
 pub enum FellAsleep<W> {
     /// Anew, or it had been told meanwhile: what the flag becomes.
-    Anew(bool),
+    Anew(NewFlag),
     /// It slept there already. This waker is dropped, once the lock is given back.
     Already(Foreign<SleeperWaker<W>>),
     /// It can't sleep there. This waker is called, once the lock is given back, so that it looks again.
     Nowhere(Foreign<SleeperWaker<W>>),
 }
 
+/// The same, once the flag is stored.
+pub enum Laid<W> {
+    Anew,
+    Already(Foreign<SleeperWaker<W>>),
+    Nowhere(Foreign<SleeperWaker<W>>),
+}
+
+/// What comes of it that a tick found nothing.
+pub enum Slept {
+    /// It fell asleep, and has to search once more.
+    Anew,
+    /// It sleeps, and its waker will be called, or was called at once where it can't be kept.
+    Still,
+    /// No copy of the waker could be had.
+    NoMemory,
+}
+
 /// How one woke up or left.
 pub struct WokenUp<W> {
     /// What the flag becomes.
-    pub notified: bool,
+    pub notified: NewFlag,
     /// Its waker, which is dropped once the lock is given back; none where it had been told.
     pub waker: Option<Foreign<SleeperWaker<W>>>,
 }
 
 impl Ticker {
-    /// What a search leads to, which the call has made.
+    /// What a run's search leads to, which the call has made.
     ///
     /// 1. Where it found a Runnable: wakes up, tells another sleeper that there may be more, and answers it.
     /// 2. Else copies the waker, and falls asleep with the copy.
@@ -90,7 +119,7 @@ impl Ticker {
         match found {
             Some(runnable) => {
                 let mut call = call;
-                self.wake_up(rt, state, realm, &mut call, unlocked);
+                self.wake_up_apart(rt, state, realm, unlocked);
                 state.notify_apart(rt, realm, &mut call, unlocked);
                 Found::Runnable(runnable, call)
             }
@@ -121,7 +150,8 @@ impl Ticker {
             return Found::Nothing(call.end_called());
         }
         let mut call = call;
-        let Some(copy) = SleeperWaker::of(waker, &mut call, unlocked) else {
+        let Some(copy) = SleeperWaker::of(waker, unlocked) else {
+            call.ask(true);
             return Found::NoMemory(call.refuse());
         };
         self.fall_asleep(rt, state, realm, call, copy, unlocked)
@@ -146,30 +176,19 @@ impl Ticker {
         ensures stays { has_left self.new ≡ has_left self.old }
     {
         let mut call = call;
-        let fell_asleep = {
-            let mut locked = state.sleepers.lock(&rt, unlocked);
-            let sleepers = locked.get();
-            let (ticker, fell_asleep) = mem::replace(self, Ticker::Left).fall_asleep_in(
-                sleepers, &mut call, waker,
-            );
-            self.turn_into(ticker);
-            if let FellAsleep::Anew(notified) = &fell_asleep {
-                state.store_flag(sleepers, &mut call, *notified);
-            }
-            fell_asleep
-        };
-        match fell_asleep {
-            FellAsleep::Anew(_) => {
+        match self.lie_down(&rt, state, waker, unlocked) {
+            Laid::Anew => {
                 call.end();
                 Found::SearchAgain
             }
-            FellAsleep::Already(old) => {
+            Laid::Already(old) => {
+                call.sleep_on();
                 let last = call.rest();
                 let due = old.release(rt, realm, unlocked);
                 pay(rt, due, unlocked);
                 Found::Nothing(last)
             }
-            FellAsleep::Nowhere(waker) => {
+            Laid::Nowhere(waker) => {
                 let last = call.end_called();
                 call_apart(rt, realm, waker, unlocked);
                 Found::Nothing(last)
@@ -177,62 +196,169 @@ impl Ticker {
         }
     }
 
-    /// Wakes up, where it sleeps. That it had been told is of no account, as the call tells another.
-    fn wake_up<T, W, R>(
+    /// Wakes up, where it sleeps, as a run does. That it had been told is of no account, as the call tells another.
+    fn wake_up_apart<T, W, R>(
         &mut self,
         rt: R,
         state: &State<W>,
         realm: &'static ExRealm<T, W, R>,
-        call: &mut Call,
         unlocked: &mut Unlocked,
     )
     where
         T: Drop + 'static,
         W: Wake + Drop + 'static,
         R: Wait + Copy + Drop + 'static,
-        requires owes { call.old.owes ≡ true }
-        requires stored { call.old.flag ≡ None }
-        ensures call { call.new ≡ call.old }
-        ensures stays { has_left self.new ≡ has_left self.old }
+        ensures { has_left self.new ≡ has_left self.old }
     {
         if !self.sleeps() {
             return;
         }
-        let waker = {
-            let mut locked = state.sleepers.lock(&rt, unlocked);
-            let sleepers = locked.get();
-            let (ticker, woken_up) = mem::replace(self, Ticker::Left).wake_up_in(sleepers, call);
-            self.turn_into(ticker);
-            state.store_woken_up(sleepers, call, woken_up)
-        };
-        if let Some(waker) = waker {
+        if let Some(waker) = self.stand_up(&rt, state, unlocked) {
             let due = waker.release(rt, realm, unlocked);
             pay(rt, due, unlocked);
         }
     }
 
-    /// Leaves the sleepers, where it sleeps there, and then gives its room back, in a section of its own.
-    pub fn leave<T, W, R>(
-        self,
+    /// Wakes up, where it sleeps, as a tick does that found a Runnable of this task. That it had been told is of no account, as
+    /// the call tells another.
+    pub fn wake_up<T, W, R>(
+        &mut self,
         rt: R,
         state: &State<W>,
         realm: &'static ExRealm<T, W, R>,
+        found: &TaskName,
+        steps: &mut Steps,
         unlocked: &mut Unlocked,
     )
     where
         T: Drop + 'static,
         W: Wake + Drop + 'static,
         R: Wait + Copy + Drop + 'static,
+        requires { steps.old ≡ found_asleep (is_asleep self.old) found.now }
+        ensures steps { steps.new ≡ found_asleep false found.now }
+        ensures stays { has_left self.new ≡ has_left self.old }
     {
-        let room = match self {
-            Ticker::Asleep(sleeper) => leave_sleepers(rt, state, realm, sleeper, unlocked),
-            Ticker::Awake(room) => room,
-            Ticker::Left => return,
-        };
-        give_back(state.sleepers.lock(&rt, unlocked).get(), room);
+        if !self.sleeps() {
+            return;
+        }
+        match self.stand_up(&rt, state, unlocked) {
+            Some(waker) => waker.wake_up_with(rt, realm, found, steps, unlocked),
+            None => steps.follow(Saw::Awake(None)),
+        }
     }
 
-    fn sleeps(&self) -> bool {
+    /// What a tick does that found nothing: it copies the waker that its poll was given, of this name, and falls asleep with the
+    /// copy. A waker of a task of another realm can't be found from here: it is called at once.
+    pub fn sleep<T, W, R>(
+        &mut self,
+        rt: R,
+        state: &State<W>,
+        realm: &'static ExRealm<T, W, R>,
+        waker: &ExWaker<T, W, R>,
+        name: &Waker<TaskName>,
+        steps: &mut Steps,
+        unlocked: &mut Unlocked,
+    ) -> Slept
+    where
+        T: Drop + 'static,
+        W: Wake + Drop + 'static,
+        R: Wait + Copy + Drop + 'static,
+        requires named { name.now ≡ name_given waker.now }
+        requires copies { steps.old ≡ step.Tick (tick_step.CopyWaker (sleeping name.now)) ∷ [] }
+        ensures steps { steps.new ≡ slept name.now result }
+        ensures stays { has_left self.new ≡ has_left self.old }
+    {
+        if sleeps_elsewhere(waker, realm) {
+            call_at_once(waker, name, steps, unlocked);
+            return Slept::Still;
+        }
+        let Some(copy) = SleeperWaker::of(waker, unlocked) else {
+            steps.follow(Saw::NoMemory);
+            return Slept::NoMemory;
+        };
+        steps.follow(Saw::Something);
+        self.sleep_with(rt, state, realm, copy, name, steps, unlocked)
+    }
+
+    /// Falls asleep with a copy of the waker of this name. It has to search again where it wasn't asleep, or had been told.
+    fn sleep_with<T, W, R>(
+        &mut self,
+        rt: R,
+        state: &State<W>,
+        realm: &'static ExRealm<T, W, R>,
+        copy: Foreign<SleeperWaker<W>>,
+        name: &Waker<TaskName>,
+        steps: &mut Steps,
+        unlocked: &mut Unlocked,
+    ) -> Slept
+    where
+        T: Drop + 'static,
+        W: Wake + Drop + 'static,
+        R: Wait + Copy + Drop + 'static,
+        requires named { name_of copy.value ≡ name.now }
+        requires falls { steps.old ≡ step.Tick (tick_step.FallAsleep (sleeping name.now)) ∷ [] }
+        ensures steps { steps.new ≡ slept name.now result }
+        ensures stays { has_left self.new ≡ has_left self.old }
+    {
+        match self.lie_down(&rt, state, copy, unlocked) {
+            Laid::Anew => {
+                steps.follow(Saw::Anew);
+                Slept::Anew
+            }
+            Laid::Already(old) => {
+                old.sleep_on_without(rt, realm, name, steps, unlocked);
+                Slept::Still
+            }
+            Laid::Nowhere(waker) => {
+                steps.follow(Saw::Nowhere);
+                waker.wake_and_pay(rt, realm, steps, unlocked);
+                Slept::Still
+            }
+        }
+    }
+
+    /// Falls asleep with this waker, in one section of the sleepers' lock.
+    fn lie_down<W: Drop, R: Wait>(
+        &mut self,
+        rt: &R,
+        state: &State<W>,
+        waker: Foreign<SleeperWaker<W>>,
+        unlocked: &mut Unlocked,
+    ) -> Laid<W>
+        ensures back { LaidBack waker.value result }
+        ensures stays { has_left self.new ≡ has_left self.old }
+    {
+        let mut locked = state.sleepers.lock(rt, unlocked);
+        let sleepers = locked.get();
+        let (ticker, fell_asleep) = mem::replace(self, Ticker::Left).fall_asleep_in(
+            sleepers, waker,
+        );
+        self.turn_into(ticker);
+        state.store_fell_asleep(sleepers, fell_asleep)
+    }
+
+    /// Wakes up, where it sleeps, in one section of the sleepers' lock. The waker that it had there is the answer.
+    fn stand_up<W: Drop, R: Wait>(
+        &mut self,
+        rt: &R,
+        state: &State<W>,
+        unlocked: &mut Unlocked,
+    ) -> Option<Foreign<SleeperWaker<W>>>
+        ensures { has_left self.new ≡ has_left self.old }
+    {
+        let mut locked = state.sleepers.lock(rt, unlocked);
+        let sleepers = locked.get();
+        let (ticker, woken_up) = mem::replace(self, Ticker::Left).wake_up_in(sleepers);
+        self.turn_into(ticker);
+        match woken_up {
+            Some(woken_up) => state.store_woken_up(sleepers, woken_up),
+            None => None,
+        }
+    }
+
+    pub fn sleeps(&self) -> bool
+        ensures { result ≡ is_asleep self.now }
+    {
         match self {
             Ticker::Asleep(_) => true,
             Ticker::Awake(_) | Ticker::Left => false,
@@ -255,36 +381,27 @@ impl Ticker {
     pub fn fall_asleep_in<W>(
         self,
         sleepers: &mut Sleepers<SleeperWaker<W>>,
-        call: &mut Call,
         waker: Foreign<SleeperWaker<W>>,
     ) -> (Ticker, FellAsleep<W>)
-        requires stored { call.old.flag ≡ None }
-        requires up { call.old.sleeps ≡ false }
         ensures sleeps { FallsAsleep self waker.value sleepers.old sleepers.new result.0 result.1 }
         ensures stays { has_left result.0 ≡ has_left self }
         ensures said { SaysFellAsleep sleepers.new result.1 }
-        ensures call { call.new ≡ record call.old { flag = flag_fell_asleep result.1; sleeps = sleeps_since result.1 } }
+        ensures back { ComesBack waker.value result.1 }
     {
         match self {
             Ticker::Awake(room) => match sleepers.fall_asleep(room, waker.into_stored()) {
-                Ok(Slept { sleeper, notified }) => {
-                    call.turn_flag(notified);
-                    (Ticker::Asleep(sleeper), FellAsleep::Anew(notified))
-                }
+                Ok(Started { sleeper, notified }) => (
+                    Ticker::Asleep(sleeper),
+                    FellAsleep::Anew(NewFlag::of(notified)),
+                ),
                 Err(Unreserved { room, waker }) => {
                     (Ticker::Awake(room), FellAsleep::Nowhere(Foreign::of(waker)))
                 }
             },
             Ticker::Asleep(sleeper) => {
                 let fell_asleep = match sleepers.fall_asleep_again(&sleeper, waker.into_stored()) {
-                    Again::Replaced(old) => {
-                        call.sleep_on();
-                        FellAsleep::Already(Foreign::of(old))
-                    }
-                    Again::Notified(notified) => {
-                        call.turn_flag(notified);
-                        FellAsleep::Anew(notified)
-                    }
+                    Again::Replaced(old) => FellAsleep::Already(Foreign::of(old)),
+                    Again::Notified(notified) => FellAsleep::Anew(NewFlag::of(notified)),
                     Again::Unknown(waker) => FellAsleep::Nowhere(Foreign::of(waker)),
                 };
                 (Ticker::Asleep(sleeper), fell_asleep)
@@ -297,14 +414,10 @@ impl Ticker {
     pub fn wake_up_in<W>(
         self,
         sleepers: &mut Sleepers<SleeperWaker<W>>,
-        call: &mut Call,
     ) -> (Ticker, Option<WokenUp<W>>)
-        requires owes { call.old.owes ≡ true }
-        requires stored { call.old.flag ≡ None }
         ensures up { WakesUp self sleepers.old sleepers.new result.0 result.1 }
         ensures stays { has_left result.0 ≡ has_left self }
         ensures said { IfSome result.1 (λ woken_up. woken_up.notified ≡ flag_of sleepers.new) }
-        ensures flag { call.new ≡ record call.old { flag = flag_woken_up result.1 } }
     {
         match self {
             Ticker::Asleep(sleeper) => {
@@ -313,7 +426,6 @@ impl Ticker {
                     waker,
                     notified,
                 } = sleepers.wake_up(sleeper);
-                call.turn_flag(notified);
                 (Ticker::Awake(room), Some(woken_up_with(notified, waker)))
             }
             Ticker::Awake(room) => (Ticker::Awake(room), None),
@@ -322,67 +434,13 @@ impl Ticker {
     }
 }
 
-/// One that sleeps leaves the sleepers. If it had been told, it tells another in its place. Its room is the answer.
-fn leave_sleepers<T, W, R>(
-    rt: R,
-    state: &State<W>,
-    realm: &'static ExRealm<T, W, R>,
-    sleeper: Sleeper,
-    unlocked: &mut Unlocked,
-) -> Room
-where
-    T: Drop + 'static,
-    W: Wake + Drop + 'static,
-    R: Wait + Copy + Drop + 'static,
-{
-    let mut call = Call::begin();
-    let (room, waker, was_told) = {
-        let mut locked = state.sleepers.lock(&rt, unlocked);
-        let sleepers = locked.get();
-        let (room, woken_up, was_told) = leave_in(sleepers, &mut call, sleeper);
-        let waker = state.store_woken_up(sleepers, &mut call, Some(woken_up));
-        (room, waker, was_told)
-    };
-    if let Some(waker) = waker {
-        let due = waker.release(rt, realm, unlocked);
-        pay(rt, due, unlocked);
-    }
-    if was_told {
-        state.notify_apart(rt, realm, &mut call, unlocked);
-    }
-    call.end();
-    room
-}
-
-/// The section of the sleepers' lock in which one leaves. Its room is the first answer, and the last whether it had been told.
-fn leave_in<W>(
-    sleepers: &mut Sleepers<SleeperWaker<W>>,
-    call: &mut Call,
-    sleeper: Sleeper,
-) -> (Room, WokenUp<W>, bool)
-    requires { call.old ≡ begun }
-    ensures left { Leaves sleeper.number sleepers.old sleepers.new result.1 result.2 }
-    ensures said { result.1.notified ≡ flag_of sleepers.new }
-    ensures call { call.new ≡ record idle { owes = result.2; flag = Some result.1.notified } }
-{
-    let (stood, was_told) = sleepers.leave(sleeper);
-    let Stood {
-        room,
-        waker,
-        notified,
-    } = stood;
-    call.leave(was_told);
-    call.turn_flag(notified);
-    (room, woken_up_with(notified, waker), was_told)
-}
-
 /// One that woke up, with the waker that it had.
 fn woken_up_with<W>(notified: bool, waker: Option<SleeperWaker<W>>) -> WokenUp<W>
     ensures flag { result.notified ≡ notified }
     ensures waker { value_of result.waker ≡ waker }
 {
     WokenUp {
-        notified,
+        notified: NewFlag::of(notified),
         waker: came_out(waker),
     }
 }
@@ -397,5 +455,31 @@ where
     match waker.identity() {
         Some(identity) => identity.realm != realm.number(),
         None => false,
+    }
+}
+
+/// Calls the waker of this name that a tick was polled with, which can't be kept, at once.
+fn call_at_once<T, W, R>(
+    waker: &ExWaker<T, W, R>,
+    name: &Waker<TaskName>,
+    steps: &mut Steps,
+    unlocked: &Unlocked,
+)
+where
+    T: Drop + 'static,
+    W: Wake + Drop + 'static,
+    R: Wait + Copy + Drop + 'static,
+    requires { steps.old ≡ step.Tick (tick_step.CopyWaker (sleeping name.now)) ∷ [] }
+    ensures { steps.new ≡ step.End reply.Pending ∷ [] }
+{
+    steps.follow(Saw::Something);
+    steps.follow(Saw::Nowhere);
+    call_waker(waker, unlocked);
+    match name {
+        Waker::Task(_) => steps.see_moved(false),
+        Waker::Outside => {
+            steps.follow(Saw::Outside);
+            steps.follow(Saw::Nothing);
+        }
     }
 }

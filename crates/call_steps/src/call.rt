@@ -7,7 +7,7 @@ use crate::asked::Asked;
 use crate::part::Part;
 use crate::reply::Reply;
 use crate::saw::Saw;
-use std::marker::Model;
+use std::marker::{Model, PhantomData};
 use std::mem;
 use std::snapshot::Snapshot;
 
@@ -22,13 +22,15 @@ pub enum Past<F, T> {
     Did(Snapshot<Saw<F, T>>, Snapshot<Past<F, T>>),
 }
 
-/// A call in progress. Contracts see what it has still to do, the next thing first.
+/// A call in progress. Contracts see what it has still to do, the next thing first. Who begins one has a `B`: by who can make
+/// such a value a crate says where its calls begin.
 #[must_use]
-pub struct Call<F, T> {
+pub struct Call<F, T, B> {
     past: Snapshot<Past<F, T>>,
+    begun_by: PhantomData<B>,
 }
 
-impl<F, T> Model for Call<F, T> {
+impl<F, T, B> Model for Call<F, T, B> {
     ghost use Rattle.std.specs.Prelude.{List};
     ghost use Rattle.call_steps.specs.declared.step.CallStep.{CallStep};
     ghost use Rattle.call_steps.specs.Todo.{todo_of};
@@ -52,7 +54,7 @@ impl Model for Last {
     ghost view = { λ l. l.reply.value };
 }
 
-impl<F: Drop, T: Drop> Call<F, T> {
+impl<F: Drop, T: Drop, B: Drop> Call<F, T, B> {
     ghost use Rattle.std.specs.Prelude.{◌≡◌, [], ◌∷◌};
     ghost use Rattle.call_steps.specs.declared.step.CallStep.TheVariants as step;
     ghost use Rattle.call_steps.specs.Begins.{begins, part_begins};
@@ -61,11 +63,13 @@ impl<F: Drop, T: Drop> Call<F, T> {
 
     /// A call that is asked for this.
     #[inline(always)]
-    pub fn begin(asked: Asked<F, T>) -> Self
+    pub fn begin(asked: Asked<F, T>, by: B) -> Self
         ensures { result ≡ begins asked }
     {
+        let _ = by;
         Call {
             past: begun(&asked),
+            begun_by: PhantomData,
         }
     }
 
@@ -76,6 +80,7 @@ impl<F: Drop, T: Drop> Call<F, T> {
     {
         Call {
             past: Snapshot::of(&Past::Apart(Snapshot::of(&part))),
+            begun_by: PhantomData,
         }
     }
 
@@ -95,7 +100,10 @@ impl<F: Drop, T: Drop> Call<F, T> {
         requires { self ≡ step.End reply ∷ [] }
         ensures { result ≡ reply }
     {
-        let Call { past: _ } = self;
+        let Call {
+            past: _,
+            begun_by: _,
+        } = self;
         Last {
             reply: Snapshot::of(&reply),
         }
@@ -106,7 +114,10 @@ impl<F: Drop, T: Drop> Call<F, T> {
     pub fn close(self)
         requires { self ≡ [] }
     {
-        let Call { past: _ } = self;
+        let Call {
+            past: _,
+            begun_by: _,
+        } = self;
     }
 }
 

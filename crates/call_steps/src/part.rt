@@ -1,6 +1,7 @@
 use crate::names::Sleeping;
+use crate::reply::Reply;
 
-/// What a part of a call is to do, which stands for itself: whatever led to it, no call waits for its answer.
+/// What a part of a call is to do, which stands for itself.
 #[derive(Drop)]
 pub enum Part<F, T> {
     /// A Runnable of this future is handed to the executor's queue.
@@ -13,4 +14,6 @@ pub enum Part<F, T> {
     TakeUp(F),
     /// A Runnable of this future is closed.
     Close(F),
+    /// This run leaves the list of the runs' own queues, and the sleepers, in a call that is answered so.
+    EndRun(T, Reply),
 }

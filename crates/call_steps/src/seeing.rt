@@ -16,7 +16,7 @@ use crate::saw::Saw;
 use task_moves::ScheduleInfo;
 use task_moves::moves::{AwaiterDebt, FutureDebt, Move, Owed};
 
-impl<F: Drop, T: Drop> Call<F, T> {
+impl<F: Drop, T: Drop, B: Drop> Call<F, T, B> {
     /// It was there, or was made; or not.
     #[inline(always)]
     pub fn see(&mut self, there: bool)

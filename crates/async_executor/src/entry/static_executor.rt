@@ -6,11 +6,12 @@ ghost use Rattle.async_executor.specs.Foreign.{value_of};
 ghost use Rattle.async_executor.specs.Polls.{has_left};
 ghost use Rattle.async_executor.specs.Seeds.{seeded};
 
-use super::{Run, Tick, Unlocked};
+use super::{Run, Tick, Unlocked, begun};
 use crate::body::Body;
 use crate::errors::SpawnError;
 use crate::names::{ExRealm, ExTask, ExWaker};
 use async_task::{Future, NoMemory, Wake};
+use call_steps::Asked;
 use executor_parts::Mark;
 use std::alloc::Global;
 use std::fmt;
@@ -73,13 +74,17 @@ where
         ensures here { IfOk result (λ task. task.identity.realm ≡ self.now.body.realm.now.number) }
         ensures marked { IfOk result (λ task. task.metadata ≡ mark) }
     {
-        let (spawned, _last) = self.body.hand_in(future, mark, &mut Unlocked::at_entry());
+        let steps = begun(Asked::Spawn(mark));
+        let (spawned, _last) = self
+            .body
+            .hand_in(future, mark, steps, &mut Unlocked::at_entry());
         spawned
     }
 
     /// Runs one task, where one is queued, and says whether it did. It doesn't wait for one, and takes no memory.
     pub fn try_tick(&self) -> bool {
-        let (is_run, _last) = self.body.run_one(&mut Unlocked::at_entry());
+        let steps = begun(Asked::TryTick);
+        let (is_run, _last) = self.body.run_one(steps, &mut Unlocked::at_entry());
         is_run
     }
 
@@ -87,7 +92,9 @@ where
     pub fn tick(&self) -> Result<Tick<'_, F, T, W, R>, NoMemory>
         ensures { IfOk result (λ tick. has_left tick.ticker ≡ false) }
     {
-        self.body.make_tick(&mut Unlocked::at_entry())
+        let steps = begun(Asked::NewTick);
+        let (made, _last) = self.body.make_tick(steps, &mut Unlocked::at_entry());
+        made
     }
 
     /// A future that runs the executor's futures until this one is ready, and has its output then. For want of memory the

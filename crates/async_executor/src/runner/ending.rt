@@ -1,0 +1,164 @@
+//! How the own queue of a run goes, with what is left in it, as its call has to do next.
+ghost use Rattle.std.specs.Prelude.{◌≡◌, ◌∷◌, [], true, None, IsTrue};
+ghost use Rattle.call_steps.specs.Begins.{drop_run};
+ghost use Rattle.call_steps.specs.declared.names.Section.TheVariants as section;
+ghost use Rattle.call_steps.specs.declared.reply.Reply.TheVariants as reply;
+ghost use Rattle.call_steps.specs.declared.step.CallStep.TheVariants as step;
+ghost use Rattle.call_steps.specs.declared.step.run.ListStep.TheVariants as list_step;
+ghost use Rattle.call_steps.specs.declared.step.run.RunStep.TheVariants as run_step;
+ghost use Rattle.async_executor.specs.Runs.{has_ended, leaves_with, rescheduled, stage_by};
+ghost use Rattle.async_executor.specs.Steps.{of_stored};
+
+use super::Runner;
+use crate::entry::Unlocked;
+use crate::looking::pop;
+use crate::names::{ExRealm, ExStoredRunnable};
+use crate::state::State;
+use crate::steps::Steps;
+use crate::task_name::TaskName;
+use async_task::Wake;
+use call_steps::{Reply, Saw, Stage};
+use std::mem;
+use std::sync::Wait;
+
+impl Runner {
+    /// At which stage the run is.
+    pub fn stage(&self) -> Stage
+        ensures { result ≡ stage_by (has_ended self.now.room self.now.is_drained) self.now.is_listed }
+    {
+        if self.has_ended() {
+            return Stage::Ended;
+        }
+        if self.is_listed {
+            return Stage::Listed;
+        }
+        Stage::New
+    }
+
+    /// Whether it has left the list, and its own queue was found empty then.
+    fn has_ended(&self) -> bool
+        ensures ended { result ≡ has_ended self.now.room self.now.is_drained }
+        ensures left { IsTrue result → self.now.room ≡ None }
+        ensures drained { IsTrue result → self.now.is_drained ≡ true }
+    {
+        match &self.room {
+            None => self.is_drained,
+            Some(_) => false,
+        }
+    }
+
+    /// The run is dropped, and its own future went before. Its own queue goes from the executor's list, where it is there, its
+    /// room there is given back, and what is left in the queue is scheduled, in order.
+    pub fn end<T, W, R>(
+        &mut self,
+        rt: R,
+        state: &State<W>,
+        realm: &'static ExRealm<T, W, R>,
+        steps: &mut Steps,
+        unlocked: &mut Unlocked,
+    )
+    where
+        T: Drop + 'static,
+        W: Wake + Drop + 'static,
+        R: Wait + Copy + Drop + 'static,
+        requires { steps.old ≡ drop_run (stage_by (has_ended self.old.room self.old.is_drained) self.old.is_listed) tt }
+        ensures steps { steps.new ≡ leaves_with reply.Done }
+        ensures drained { self.new.is_drained ≡ true }
+        ensures left { self.new.room ≡ None }
+    {
+        if self.has_ended() {
+            return;
+        }
+        steps.follow(Saw::Nothing);
+        if self.is_listed {
+            self.unregister(&rt, state, Reply::Done, steps, unlocked);
+        } else {
+            self.leave_list(&rt, state, unlocked);
+        }
+        self.reschedule(rt, state, realm, Reply::Done, steps, unlocked);
+    }
+
+    /// Takes its own queue out of the executor's list, in a call that is answered so.
+    pub fn unregister<W: Drop, R: Wait>(
+        &mut self,
+        rt: &R,
+        state: &State<W>,
+        reply: Reply,
+        steps: &mut Steps,
+        unlocked: &mut Unlocked,
+    )
+        requires { steps.old ≡ step.List (list_step.LockWrite (section.Unregister tt reply)) ∷ [] }
+        ensures steps { steps.new ≡ step.Run (run_step.Reschedule tt reply) ∷ [] }
+        ensures left { self.new.room ≡ None }
+    {
+        let _ = reply;
+        steps.follow(Saw::Nothing);
+        steps.follow(Saw::Nothing);
+        self.leave_list(rt, state, unlocked);
+        steps.follow(Saw::Nothing);
+    }
+
+    /// Leaves the executor's list: its room there is given back, and its own queue goes from there, where it is there.
+    fn leave_list<W: Drop, R: Wait>(&mut self, rt: &R, state: &State<W>, unlocked: &mut Unlocked)
+        ensures { self.new.room ≡ None }
+    {
+        if let Some(room) = mem::replace(&mut self.room, None) {
+            let listed = state.own_queues.write(rt, unlocked).get().leave(room);
+            drop(listed);
+        }
+    }
+
+    /// Schedules what is left in the own queue, in order, in a call that is answered so.
+    pub fn reschedule<T, W, R>(
+        &mut self,
+        rt: R,
+        state: &State<W>,
+        realm: &'static ExRealm<T, W, R>,
+        reply: Reply,
+        steps: &mut Steps,
+        unlocked: &mut Unlocked,
+    )
+    where
+        T: Drop + 'static,
+        W: Wake + Drop + 'static,
+        R: Wait + Copy + Drop + 'static,
+        requires { steps.old ≡ step.Run (run_step.Reschedule tt reply) ∷ [] }
+        ensures steps { steps.new ≡ leaves_with reply }
+        ensures drained { self.new.is_drained ≡ true }
+        ensures room { self.new.room ≡ self.old.room }
+    {
+        for _ in rt.forever() {
+            let Some(stored) = self.take_last(&rt, reply, steps) else {
+                return;
+            };
+            state.push_stored(rt, realm, stored, steps, unlocked);
+        }
+        unreachable!()
+    }
+
+    /// Takes the first of the own queue, which stands in no list any more.
+    fn take_last<R: Wait>(
+        &mut self,
+        rt: &R,
+        reply: Reply,
+        steps: &mut Steps,
+    ) -> Option<ExStoredRunnable>
+        requires { steps.old ≡ step.Run (run_step.Reschedule tt reply) ∷ [] }
+        ensures steps { steps.new ≡ rescheduled reply (of_stored result) }
+        ensures drained { result ≡ None → self.new.is_drained ≡ true }
+        ensures room { self.new.room ≡ self.old.room }
+    {
+        let _ = reply;
+        match pop(&self.own, rt) {
+            Some(runnable) => {
+                steps.follow(Saw::Found(TaskName::of_runnable(&runnable)));
+                Some(runnable)
+            }
+            None => {
+                self.is_drained = true;
+                steps.follow(Saw::Nothing);
+                None
+            }
+        }
+    }
+}

@@ -12,6 +12,7 @@ pub mod Alike
 pub mod Spawning
 pub mod Dropping
 pub mod Leaking
+pub mod Closing
 pub mod Shown
 pub mod Courses
 pub mod Numbered

@@ -56,5 +56,6 @@ pub mod Resting
 pub mod TickResting
 pub mod TickLeaving
 pub mod TickRefusing
+pub mod Running
 pub mod Resleeping
 pub mod Keeping

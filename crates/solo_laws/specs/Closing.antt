@@ -12,7 +12,7 @@ use Rattle.solo.specs.declared.solo.Solo.{Solo}
 use Rattle.solo.specs.Turns.{silent}
 use Rattle.solo.specs.Solo.{hands}
 use Rattle.solo.specs.Closing as closing
-use Rattle.plain_scheduler.specs.State.{Future, Event, Drops, Answers, Done, Code, Close, Choice, Plain}
+use Rattle.plain_scheduler.specs.State.{Future, Event, Drops, Answers, Done, Code, Close, Lose, Choice, Plain}
 use Rattle.plain_scheduler.specs.Moves.{task}
 use Rattle.plain_scheduler.specs.Calls.{DropExecutor, Ends, living_from, does}
 use Rattle.solo_laws.specs.Alike.{calls, lets_go, WakesAlike, ReleasesAlike, UsesAlike, CopiesAlike, CancelsAlike}
@@ -126,10 +126,16 @@ module _ {F T X : Type 0} (its : ℕ → Lent) (s : Solo F T X) (p : Plain T (So
       → p.inside ≡ Close left all ∷ rest → length p.lying ≤ c.tells → HasLife (6 * length all + 2) s.lines
       → GoesOn its s (record p { inside = rest }) (does wakes c Ends p) all gone left
 
-  -- and what is called on tasks while one of its futures is dropped
+  -- the end of an output's drop, which a detach has dropped
+  abbrev pub LosesIn : (Solo F T X → Plain T (SoloWaker X) → Type 0) → Type 0
+  LosesIn Alike =
+      (c : Choice) (awaiter : Option (SoloWaker X)) (rest : List (Code T (SoloWaker X))) → p.inside ≡ Lose awaiter None ∷ rest
+      → length p.lying ≤ c.tells → HasLife 2 s.lines → Alike (calls awaiter s) (does wakes c Ends p)
+
+  -- what is called on tasks while one of its futures is dropped
   abbrev pub CallsInClose : List ℕ → List ℕ → List ℕ → Type 0
   CallsInClose all gone left =
       let Alike = IsClosing its all gone left in
       WakesAlike (named its) Alike s p × ReleasesAlike (named its) Alike s p × UsesAlike (named its) Alike s p
       × CopiesAlike (named its) Alike s p × CancelsAlike (named its) Alike s p × DetachesAlike (named its) Alike s p
-      × HandlesAlike (named its) Alike s p × HandleDropsAlike (named its) Alike s p
+      × HandlesAlike (named its) Alike s p × HandleDropsAlike (named its) Alike s p × LosesIn Alike

@@ -17,6 +17,7 @@ pub mod Shown
 pub mod Courses
 pub mod Numbered
 pub mod Ticking
+pub mod Running
 pub mod Going
 pub mod Seen
 pub mod Done

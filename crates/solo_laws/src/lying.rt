@@ -5,6 +5,7 @@ ghost use Rattle.solo.specs.declared.owed.Lent.{Lent};
 ghost use Rattle.solo.specs.declared.solo.Solo.{Solo};
 ghost use Rattle.plain_scheduler.specs.State.{Plain, Who};
 ghost use Rattle.solo_laws.specs.Numbered.{IsNumbered};
+ghost use Rattle.solo_laws.specs.Running.{RunsBegin, RunsAreUnmade};
 ghost use Rattle.solo_laws.specs.Tabled.{Stands};
 ghost use Rattle.solo_laws.specs.Ticking.{TicksBegin, TicksLeave, TicksRest, TicksTake, TicksAreUnmade, TicksAreRefused, TicksLieRefused};
 
@@ -46,4 +47,12 @@ pub fn ticks_are_refused_alike<F, T, X>()
         → IsNumbered number s.sleepers p.lying → TicksAreRefused its number s p }
     ensures later { (its : ℕ → Lent) (number : Who → ℕ) (s : Solo F T X) (p : Plain T (SoloWaker X)) → Stands its s p
         → IsNumbered number s.sleepers p.lying → TicksLieRefused its number s p }
+{}
+
+/// A run that is made is one of the plain scheduler, also one that is refused.
+pub fn runs_begin_alike<F, T, X>()
+    ensures made { (its : ℕ → Lent) (number : Who → ℕ) (s : Solo F T X) (p : Plain T (SoloWaker X)) → Stands its s p
+        → IsNumbered number s.sleepers p.lying → RunsBegin its number s p }
+    ensures refused { (its : ℕ → Lent) (number : Who → ℕ) (s : Solo F T X) (p : Plain T (SoloWaker X)) → Stands its s p
+        → IsNumbered number s.sleepers p.lying → RunsAreUnmade its number s p }
 {}

@@ -28,13 +28,6 @@ module _ {T A : Type 0} where
   woken_infos PollingWoken false t is = refl
   woken_infos Finished false t is = refl
 
-  -- it isn't queued by a waker that is called and goes
-  pub use_tells : (t : AbstractTask T A) → waits t ≡ false → is_some (info_of t (wake_and_release t)) ≡ false
-  use_tells t is =
-      ap (λ (infos : List Bool). is_some (info_from (slice_get (wake_and_release t).infos (length infos))))
-      (sym (woken_infos t.phase t.closed t is))
-      ∙ release_tells (abstract.wake t) (woken_waits t)
-
   abbrev pub Calm : Plain T A → Plain T A → Type 0
   Calm p q = (f : ℕ) → waits (task f p) ≡ false → waits (task f q) ≡ false
 
@@ -67,6 +60,13 @@ module _ {T A : Type 0} where
           ∙ is
 
 module _ {T X : Type 0} where
+  -- it isn't queued by a waker that is called and goes
+  pub use_tells : (t : AbstractTask T (SoloWaker X)) → waits t ≡ false → is_some (info_of t (wake_and_release t)) ≡ false
+  use_tells t is =
+      ap (λ (infos : List Bool). is_some (info_from (slice_get (wake_and_release t).infos (length infos))))
+      (sym (woken_infos t.phase t.closed t is))
+      ∙ release_tells (abstract.wake t) (woken_waits t)
+
   abbrev pub Calms : (Plain T (SoloWaker X) → Plain T (SoloWaker X)) → Type 0
   Calms op = (p : Plain T (SoloWaker X)) → Calm p (op p)
 
@@ -80,9 +80,9 @@ module _ {T X : Type 0} where
         by false = put_calm f new p settles g is
 
     called_calm : (w : SoloWaker X) → Calms (called wakes more w)
-    called_calm (OfTask t) p =
+    called_calm (OfTask t) p g is =
         becomes_calm t.number (wake_and_release (task t.number p)) p
-        (λ is. released_waits (abstract.wake (task t.number p)) (woken_waits (task t.number p)))
+        (λ so. released_waits (abstract.wake (task t.number p)) (woken_waits (task t.number p))) g is
     called_calm (Outside w) p g is = is
 
     pub calls_calm : (o : Option (SoloWaker X)) → Calms (on o (called wakes more))

@@ -141,7 +141,7 @@ module _ {F T X : Type 0} (its : ℕ → Lent) where
         (subst (λ ns. length ns ≤ r.whole.limit) (r.living ∙ r.parts) r.follows.within)
       where
         long_by : (ns : List ℕ) → length (ns ++ f ∷ left) ≡ length ns + suc (length left)
-        long_by [] = refl
+        long_by [] = omega arith
         long_by (n ∷ ns) = let it = long_by ns in omega (arith, it)
 
     fits : accepts s.leaving ≡ true

@@ -7,7 +7,7 @@ use Rattle.executor_parts.specs.declared.mark.Mark.{Mark}
 use Rattle.executor_parts.specs.declared.mark.Mark.TheVariants.{Plain as PlainMark, Urgent}
 use Rattle.solo.specs.declared.names.Task.{Task}
 use Rattle.solo.specs.declared.names.SoloWaker.{SoloWaker}
-use Rattle.solo.specs.declared.names.SoloWaker.TheVariants.{Task as OfTask}
+use Rattle.solo.specs.declared.names.SoloWaker.TheVariants.{Task as OfTask, Outside}
 use Rattle.solo.specs.declared.owed.Lent.{Lent}
 use Rattle.solo.specs.declared.solo.Solo.{Solo}
 use Rattle.solo.specs.Cells.{asked}
@@ -30,7 +30,7 @@ use Rattle.solo_laws.proofs.Following.Taking.{found_any}
 use Rattle.solo_laws.proofs.Following.Taking as taking
 use Rattle.solo_laws.proofs.Following.Using.{wake_and_release, put_due, put_long}
 use Rattle.solo_laws.proofs.Following.Frames.{Still, still, chain, put_still, called_still, tell_still}
-use Rattle.solo_laws.proofs.Following.Calling.{calls_alike}
+use Rattle.solo_laws.proofs.Following.Calling.{calls_alike, loud}
 use Rattle.solo_laws.proofs.Following.Calming.{IsCalm, quietly, calls_quietly, calls_calm, tell_calm, put_calm, quietly_due_apart}
 use Rattle.solo_laws.proofs.Following.Retracting as retracting
 use Rattle.solo_laws.proofs.Following.Retracting.{owes}
@@ -113,9 +113,6 @@ module _ (ds : List Due) where
           (last (any (is_common PlainMark) ds) refl is)
 
 module _ {F T X : Type 0} (its : ℕ → Lent) (c : Choice) where
-  abbrev loud : Plain T (SoloWaker X) → Plain T (SoloWaker X)
-  loud p = tell wakes c p
-
   -- these are still to be closed, and no task is queued any more
   pub record IsEmptying (ds : List Due) (s : Solo F T X) (w : Plain T (SoloWaker X)) : Type 0 where
     pub follows : Follows (named its) (opened s) (record w { due = ds })
@@ -242,7 +239,7 @@ module _ {F T X : Type 0} (its : ℕ → Lent) (c : Choice) where
       open_lives PlainMark = lives PlainMark
       open_lives Urgent = lives Urgent
 
-      taken : Follows (named its) (opened short) (record w { due = others })
+      pub taken : Follows (named its) (opened short) (record w { due = others })
       taken = record {
         numbered = r.follows.numbered;
         tasks = r.follows.tasks;
@@ -255,10 +252,10 @@ module _ {F T X : Type 0} (its : ℕ → Lent) (c : Choice) where
         inside = r.follows.inside;
       }
 
-      can : (f < length w.futures) × (asked cells.may_start false (named its f) s.cells ≡ true)
+      pub can : (f < length w.futures) × (asked cells.may_start false (named its f) s.cells ≡ true)
       can = r.follows.ready f (found_stands (test ds) ds d first)
 
-      gone : stands f others ≡ false
+      pub gone : stands f others ≡ false
       gone = found_gone (test ds) ds d first r.follows.once
 
       -- it is closed
@@ -276,7 +273,7 @@ module _ {F T X : Type 0} (its : ℕ → Lent) (c : Choice) where
       now = calls_it awaiter over
 
       abbrev pub now_plain : Plain T (SoloWaker X)
-      now_plain = on awaiter (called wakes loud) after
+      now_plain = on awaiter (called wakes (loud c)) after
 
       over_is : (closing.drained s ≡ over) × (closing.drain_answer s ≡ Some (owes awaiter))
       over_is =
@@ -288,9 +285,9 @@ module _ {F T X : Type 0} (its : ℕ → Lent) (c : Choice) where
       over_follows : Follows (named its) (opened over) (record after { due = others })
       over_follows = retracting.over_follows (named its) f short w others taken can.0 can.1 gone r.table
 
-      still_on : (o : Option (SoloWaker X)) (q : Plain T (SoloWaker X)) → Still c q (on o (called wakes loud) q)
+      still_on : (o : Option (SoloWaker X)) (q : Plain T (SoloWaker X)) → Still c q (on o (called wakes (loud c)) q)
       still_on None q = still c q
-      still_on (Some x) q = called_still c loud (tell_still c) x q
+      still_on (Some x) q = called_still c (loud c) (tell_still c) x q
 
       stays : Still c w now_plain
       stays = chain c (put_still c f (retracting.drops (task f w)) w) (still_on awaiter after)
@@ -310,11 +307,11 @@ module _ {F T X : Type 0} (its : ℕ → Lent) (c : Choice) where
       few_after : length after.lying ≤ c.tells
       few_after = subst (λ n. n ≤ c.tells) (sym (put_still c f (retracting.drops (task f w)) w).lying) r.few
 
-      apart : on awaiter (called wakes loud) (record after { due = others }) ≡ record now_plain { due = others }
+      apart : on awaiter (called wakes (loud c)) (record after { due = others }) ≡ record now_plain { due = others }
       apart =
-          calls_quietly loud awaiter (record after { due = others }) calm_one
+          calls_quietly (loud c) awaiter (record after { due = others }) calm_one
           ∙ (quietly_due_apart awaiter others after
-          ∙ sym (ap (λ (p : Plain T (SoloWaker X)). record p { due = others }) (calls_quietly loud awaiter after calm_one)))
+          ∙ sym (ap (λ (p : Plain T (SoloWaker X)). record p { due = others }) (calls_quietly (loud c) awaiter after calm_one)))
 
       quiet : now ≡ retracting.still awaiter over
       quiet = retracting.calls_still (named its) over (record after { due = others }) over_follows awaiter named_one calm_one
@@ -332,14 +329,14 @@ module _ {F T X : Type 0} (its : ℕ → Lent) (c : Choice) where
       goes_on = record {
         follows =
             subst (λ (p : Plain T (SoloWaker X)). Follows (named its) (opened now) p) apart
-            (subst (λ (z : Solo F T X). Follows (named its) z (on awaiter (called wakes loud) (record after { due = others })))
+            (subst (λ (z : Solo F T X). Follows (named its) z (on awaiter (called wakes (loud c)) (record after { due = others })))
             (retracting.calls_opened (named its) over (record after { due = others }) over_follows awaiter named_one calm_one)
             (calls_alike (named its) c (opened over) (record after { due = others }) over_follows few_after open_lives awaiter named_one));
         calm = λ g below.
-            calls_calm loud (tell_calm c) awaiter after g
+            calls_calm (loud c) (tell_calm c) awaiter after g
             (calm_after g (subst (λ n. g < n) stays.futures below));
         due =
-            ap (λ (p : Plain T (SoloWaker X)). p.due) (calls_quietly loud awaiter after calm_one)
+            ap (λ (p : Plain T (SoloWaker X)). p.due) (calls_quietly (loud c) awaiter after calm_one)
             ∙ (due_by awaiter after ∙ (put_due f (retracting.drops (task f w)) w ∙ r.due));
         table = of_over (λ z. z.table.entries) (λ z. refl)
             ∙ retracting.over_table (named its) f short w others taken can.0 can.1 gone r.table;

@@ -48,7 +48,7 @@ use Rattle.solo_laws.proofs.Following.Closing.{elsewhere, begins, entries_long, 
 use Rattle.solo_laws.proofs.Following.Emptying.{Empties, IsEmptying, empties}
 use Rattle.solo_laws.proofs.Showing.Telling.{step, woken_shows, released_shows}
 
-no_rows : {B C : Type 0} (g : B → C) (xs : List B) → map g xs ≡ [] → xs ≡ []
+pub no_rows : {B C : Type 0} (g : B → C) (xs : List B) → map g xs ≡ [] → xs ≡ []
 no_rows g [] is = refl
 no_rows g (x ∷ xs) is = absurd cc
 
@@ -56,10 +56,11 @@ no_rows g (x ∷ xs) is = absurd cc
 abbrev rings_one : {F T X : Type 0} → Told X → Owed F T X
 rings_one told = solo.hands None None told
 
-module _ {F T X : Type 0} (its : ℕ → Lent) (c : Choice) where
-  abbrev freed : ℕ → Plain T (SoloWaker X) → Plain T (SoloWaker X)
+module _ {T X : Type 0} (c : Choice) where
+  abbrev pub freed : ℕ → Plain T (SoloWaker X) → Plain T (SoloWaker X)
   freed f p = calls.freed wakes c f p
 
+module _ {F T X : Type 0} (its : ℕ → Lent) (c : Choice) where
   -- the wakers of these are still to be called; the tasks of others wait for no wake
   pub record IsFreeing (fs : List ℕ) (s : Solo F T X) (w : Plain T (SoloWaker X)) : Type 0 where
     pub follows : Follows (named its) s w
@@ -86,7 +87,7 @@ module _ {F T X : Type 0} (its : ℕ → Lent) (c : Choice) where
     first : Still c w woken_plain
     first = becomes_still c (tell wakes c) (tell_still c) f (abstract.wake (task f w)) w
 
-    all : Still c w (freed f w)
+    all : Still c w (freed c f w)
     all = chain c first (becomes_still c (tell wakes c) (tell_still c) f (abstract.release (task f woken_plain)) woken_plain)
 
     follows_out : Follows (named its) out w
@@ -123,7 +124,7 @@ module _ {F T X : Type 0} (its : ℕ → Lent) (c : Choice) where
     base : bases.Base out now
     base = bases.released_base out (named its f) woken (bases.woken_base out (named its f) out (bases.same out))
 
-    pub goes_on : IsFreeing rest now (freed f w)
+    pub goes_on : IsFreeing rest now (freed c f w)
     goes_on = record {
       follows = waking.released None (named its) c f woken woken_plain then_below woke then_few then_life;
       calm = λ g there. by g (g == f) refl (subst (λ n. g < n) all.futures there);
@@ -133,16 +134,16 @@ module _ {F T X : Type 0} (its : ℕ → Lent) (c : Choice) where
       few = subst (λ n. n ≤ c.tells) (sym all.lying) r.few;
     }
       where
-        by : (g : ℕ) (b : Bool) → (g == f) ≡ b → g < length w.futures → is_in g rest ≡ false → waits (task g (freed f w)) ≡ false
+        by : (g : ℕ) (b : Bool) → (g == f) ≡ b → g < length w.futures → is_in g rest ≡ false → waits (task g (freed c f w)) ≡ false
         by g true same there none =
-            subst (λ n. waits (task n (freed f w)) ≡ false) (sym (same_number g f same)) (freed_settled c f w)
+            subst (λ n. waits (task n (freed c f w)) ≡ false) (sym (same_number g f same)) (freed_settled c f w)
         by g false same there none =
             freed_calm c f w g (r.calm g there (ap (λ b. cond b true (is_in g rest)) same ∙ none))
 
     pub lives_on : HasLife n now.lines
     lives_on = released_lives n (named its f) woken alive
 
-    shows : (freed f w).events ≡ w.events ++ rings (closing.leaving_answer (named its f) out).sleeper
+    shows : (freed c f w).events ≡ w.events ++ rings (closing.leaving_answer (named its f) out).sleeper
     shows =
         released_shows None (named its) c f woken woken_plain then_below woke then_few then_life
         ∙ (ap (λ b. woken_plain.events
@@ -151,7 +152,7 @@ module _ {F T X : Type 0} (its : ℕ → Lent) (c : Choice) where
         ∙ (append-nil woken_plain.events
         ∙ woken_shows None (named its) c f out w below follows_out r.few long_life))
 
-    pub one : (u : Plain T (SoloWaker X)) → Empties its c now (freed f w) u → Empties its c s w u
+    pub one : (u : Plain T (SoloWaker X)) → Empties its c now (freed c f w) u → Empties its c s w u
     one u e =
         let told : Told X = closing.leaving_answer (named its f) out in
         record {
@@ -195,7 +196,7 @@ module _ {F T X : Type 0} (its : ℕ → Lent) (c : Choice) where
   -- all are woken, and then those that are queued closed
   frees : (fs : List ℕ) (s : Solo F T X) (w : Plain T (SoloWaker X)) → IsFreeing fs s w
       → ((f : ℕ) → is_in f fs ≡ true → f < length w.futures) → HasLife (6 * length fs + 2) s.lines
-      → Empties its c s w (calls.swept wakes c (each fs freed w))
+      → Empties its c s w (calls.swept wakes c (each fs (freed c) w))
   frees [] s w r below life =
       let e : Empties its c s (record w { due = [] }) (calls.swept wakes c w) =
       empties its c s w (record {
@@ -212,8 +213,8 @@ module _ {F T X : Type 0} (its : ℕ → Lent) (c : Choice) where
   frees (f ∷ fs) s w r below life =
       let here : f < length w.futures = below f (ap (λ b. cond b true (is_in f fs)) (equal f f refl)) in
       let more : HasLife (6 * length fs + 2 + 6) s.lines = λ mark. let it = life mark in omega (arith, it) in
-      one f fs (6 * length fs + 2) s w r here more (calls.swept wakes c (each (f ∷ fs) freed w))
-      (frees fs (now f fs (6 * length fs + 2) s w r here more) (freed f w) (goes_on f fs (6 * length fs + 2) s w r here more)
+      one f fs (6 * length fs + 2) s w r here more (calls.swept wakes c (each (f ∷ fs) (freed c) w))
+      (frees fs (now f fs (6 * length fs + 2) s w r here more) (freed c f w) (goes_on f fs (6 * length fs + 2) s w r here more)
       (λ g has. subst (λ n. g < n) (sym (all f fs (6 * length fs + 2) s w r here more).futures)
       (below g (later (g == f) (is_in g fs) has)))
       (lives_on f fs (6 * length fs + 2) s w r here more))
@@ -246,19 +247,19 @@ module _ {F T X : Type 0} (its : ℕ → Lent) (c : Choice) where
     whole = r.whole
 
     abbrev ended : Plain T (SoloWaker X)
-    ended = calls.swept wakes c (each all freed whole)
+    ended = calls.swept wakes c (each all (freed c) whole)
 
     abbrev end : Plain T (SoloWaker X)
-    end = calls.swept wakes c (each all freed p)
+    end = calls.swept wakes c (each all (freed c) p)
 
     same : spared end ≡ spared ended
-    same = sym (spares p) ∙ (ap (λ z. calls.swept wakes c (each all freed z)) r.same ∙ spares whole)
+    same = sym (spares p) ∙ (ap (λ z. calls.swept wakes c (each all (freed c) z)) r.same ∙ spares whole)
       where
         spares : (z : Plain T (SoloWaker X))
-            → calls.swept wakes c (each all freed (spared z)) ≡ spared (calls.swept wakes c (each all freed z))
+            → calls.swept wakes c (each all (freed c) (spared z)) ≡ spared (calls.swept wakes c (each all (freed c) z))
         spares z =
-            ap (calls.swept wakes c) (each_spared freed (λ f. freed_spared c f) all z)
-            ∙ swept_spared c (each all freed z)
+            ap (calls.swept wakes c) (each_spared (freed c) (λ f. freed_spared c f) all z)
+            ∙ swept_spared c (each all (freed c) z)
 
     result : Empties its c s whole ended
     result =

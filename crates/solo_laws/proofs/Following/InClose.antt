@@ -1,5 +1,5 @@
 -- What is called on tasks while a close drops a future leaves both alike.
-use Rattle.std.proofs.Common.{◌≡◌, ℕ, ◌<◌, ◌≤◌, if◌then◌else◌, Bool, true, false, List, [], ◌∷◌, ◌++◌, length, map, Option, Some, None}
+use Rattle.std.proofs.Common.{◌≡◌, ℕ, ◌+◌, ◌<◌, ◌≤◌, if◌then◌else◌, Bool, true, false, List, [], ◌∷◌, ◌++◌, length, map, Option, Some, None}
 use Rattle.std.proofs.Common.{refl, sym, ap, subst, ◌∙◌}
 use Rattle.queue_steps.specs.ClosableQueue.{ClosableQueue, most_accepted}
 use Rattle.task_moves.specs.AbstractTask as abstract
@@ -12,20 +12,22 @@ use Rattle.solo.specs.declared.solo.Solo.{Solo}
 use Rattle.solo.specs.Solo as solo
 use Rattle.plain_scheduler.specs.State.{Choice, Plain, Lose, Loses, Answers, Made, NoMemory, Pending, Gives, Cancelled, Done}
 use Rattle.plain_scheduler.specs.Lists.{on, or}
-use Rattle.plain_scheduler.specs.Moves.{task, put, tell, becomes, called, let_go, copied}
+use Rattle.plain_scheduler.specs.Moves.{answers, task, put, tell, becomes, called, let_go, copied}
 use Rattle.plain_scheduler.specs.Calls as calls
 use Rattle.plain_scheduler.specs.Calls.{living_from}
 use Rattle.solo_laws.specs.Alike.{WakesAlike, ReleasesAlike, UsesAlike, CopiesAlike, CancelsAlike, DetachesAlike, HandlesAlike}
-use Rattle.solo_laws.specs.Alike.{HandleDropsAlike, cancelled, handle_polled}
-use Rattle.solo_laws.specs.Closing.{IsClosing, CallsInClose, spared, undropped}
+use Rattle.solo_laws.specs.Alike.{HandleDropsAlike, calls as calls_it, cancelled, handle_polled}
+use Rattle.solo_laws.specs.Closing.{IsClosing, CallsInClose, LosesIn, spared, undropped}
 use Rattle.solo_laws.specs.Road.{Follows, IsNamed, count_of, wakes}
 use Rattle.solo_laws.specs.Tabled.{named, row}
 use Rattle.solo_laws.proofs.Following.Lists.{length_map}
-use Rattle.solo_laws.proofs.Following.Frames.{Still, chain, becomes_still, tell_still, put_still}
+use Rattle.solo_laws.proofs.Following.Frames.{Still, still, chain, becomes_still, called_still, tell_still, put_still}
 use Rattle.solo_laws.proofs.Following.Bases as bases
 use Rattle.solo_laws.proofs.Following.Waking as waking
 use Rattle.solo_laws.proofs.Following.Handling as handling
 use Rattle.solo_laws.proofs.Following.Calling as calling
+use Rattle.solo_laws.proofs.Following.Losing as losing
+use Rattle.solo_laws.proofs.Following.Seeing.{seen}
 use Rattle.solo_laws.proofs.Following.Both.{done_still, copy_still, cancelled_still, handled_still}
 use Rattle.solo_laws.proofs.Following.Sparing.{Spares, task_spared, put_spared, becomes_spared, calls_spared, tell_spared}
 use Rattle.solo_laws.proofs.Following.Freeing.{no_rows}
@@ -36,15 +38,15 @@ module _ {T X : Type 0} (c : Choice) where
 
   -- who is dropped is nothing to these
   done_spared : (h : AbstractTask T (SoloWaker X) → AbstractTask T (SoloWaker X)) (f : ℕ)
-      → Spares (λ p. let q = becomes wakes loud f (h (task f p)) p in record q { events = q.events ++ Answers Done ∷ [] })
+      → Spares {T = T} {X = X} (λ p. let q = becomes wakes loud f (h (task f p)) p in record q { events = q.events ++ Answers Done ∷ [] })
   done_spared h f p =
       ap (λ (q : Plain T (SoloWaker X)). record q { events = q.events ++ Answers Done ∷ [] })
       (becomes_spared loud (tell_spared c) h f p)
 
-  put_task_spared : (h : AbstractTask T (SoloWaker X) → AbstractTask T (SoloWaker X)) (f : ℕ) → Spares (λ p. put f (h (task f p)) p)
+  put_task_spared : (h : AbstractTask T (SoloWaker X) → AbstractTask T (SoloWaker X)) (f : ℕ) → Spares {T = T} {X = X} (λ p. put f (h (task f p)) p)
   put_task_spared h f p = ap (λ t. put f (h t) (spared p)) (task_spared f p) ∙ put_spared f (h (task f p)) p
 
-  copy_spared : (f : ℕ) → Spares (calls.does wakes c (calls.Call.Copy f))
+  copy_spared : (f : ℕ) → Spares {T = T} {X = X} (calls.does wakes c (calls.Call.Copy f))
   copy_spared f p = by (calls.is_granted c.refusal)
     where
       by : (b : Bool)
@@ -58,7 +60,7 @@ module _ {T X : Type 0} (c : Choice) where
           (put_task_spared (λ t. abstract.copy t) f p)
       by false = refl
 
-  cancel_spared : (f : ℕ) → Spares (calls.cancel wakes c f)
+  cancel_spared : (f : ℕ) → Spares {T = T} {X = X} (calls.cancel wakes c f)
   cancel_spared f p =
       ap (λ t. on (abstract.cancel t).called (called wakes loud) (becomes wakes loud f (abstract.cancel t).task (spared p)))
       (task_spared f p)
@@ -67,16 +69,16 @@ module _ {T X : Type 0} (c : Choice) where
       ∙ calls_spared loud (tell_spared c) (abstract.cancel (task f p)).called
       (becomes wakes loud f (abstract.cancel (task f p)).task p))
 
-  lets_go_spared : (o : Option (SoloWaker X)) → Spares (on o (let_go wakes loud))
+  lets_go_spared : (o : Option (SoloWaker X)) → Spares {T = T} {X = X} (on o (let_go wakes loud))
   lets_go_spared None p = refl
   lets_go_spared (Some (OfTask t)) p = becomes_spared loud (tell_spared c) abstract.release t.number p
   lets_go_spared (Some (Outside w)) p = refl
 
-  copied_spared : (w : SoloWaker X) → Spares (copied wakes w)
+  copied_spared : (w : SoloWaker X) → Spares {T = T} {X = X} (copied wakes w)
   copied_spared (OfTask t) p = put_task_spared (λ t. abstract.copy t) t.number p
   copied_spared (Outside w) p = refl
 
-  registered_spared : (f : ℕ) (w : SoloWaker X) → Spares (calls.registered wakes c f w)
+  registered_spared : (f : ℕ) (w : SoloWaker X) → Spares {T = T} {X = X} (calls.registered wakes c f w)
   registered_spared f w p =
       let left = abstract.poll w (task f p) in
       ap (λ t. answered (on (abstract.poll w t).let_go (let_go wakes loud) (put f (abstract.poll w t).task (spared p))))
@@ -87,7 +89,7 @@ module _ {T X : Type 0} (c : Choice) where
       answered : Plain T (SoloWaker X) → Plain T (SoloWaker X)
       answered q = record q { events = q.events ++ Answers Pending ∷ [] }
 
-  handled_spared : (f : ℕ) (w : SoloWaker X) → Spares (calls.does wakes c (calls.Call.PollHandle f w))
+  handled_spared : (f : ℕ) (w : SoloWaker X) → Spares {T = T} {X = X} (calls.does wakes c (calls.Call.PollHandle f w))
   handled_spared f w p =
       ap (λ t. calls.handle_by wakes c f w (abstract.polled t) (spared p)) (task_spared f p) ∙ by (abstract.polled (task f p))
     where
@@ -113,11 +115,11 @@ module _ {T X : Type 0} (c : Choice) where
       or o (λ v. record z { events = z.events ++ Loses v ∷ []; inside = Lose None None ∷ z.inside })
       (record z { events = z.events ++ Answers Done ∷ [] })
 
-  detached_spared : (o : Option T) → Spares (detached_by o)
+  detached_spared : (o : Option T) → Spares {T = T} {X = X} (detached_by o)
   detached_spared None p = refl
   detached_spared (Some v) p = refl
 
-  detach_spared : (f : ℕ) → Spares (calls.detach wakes c f)
+  detach_spared : (f : ℕ) → Spares {T = T} {X = X} (calls.detach wakes c f)
   detach_spared f p =
       let left = abstract.detach (task f p) in
       let q = becomes wakes loud f left.task p in
@@ -242,5 +244,24 @@ module _ {F T X : Type 0} (its : ℕ → Lent) (all gone left : List ℕ) (s : S
       let b = detach_frame c f (calls.cancel wakes c f w) in
       (b.0 ∙ a.0, b.1 ∙ a.1, b.2 ∙ a.2))
 
+  loses_in : LosesIn its s p (IsClosing its all gone left)
+  loses_in c awaiter rest is many life =
+      let inside_is : w.inside ≡ Lose awaiter None ∷ rest = sym (ap (λ (z : Plain T (SoloWaker X)). z.inside) r.same) ∙ is in
+      let out = losing.lost (named its) (length w.futures) s.cells w.inside rest r.follows.inside awaiter None inside_is in
+      let follows = seen (named its) s w w.events rest out.0 r.follows in
+      let q : Plain T (SoloWaker X) = on awaiter (called wakes (loud c)) (record w { inside = rest }) in
+      let z = calls_it awaiter s in
+      let called_so = calling.calls_alike (named its) c s (record w { inside = rest }) follows (few c many) life awaiter out.1 in
+      subst (λ q. IsClosing its all gone left z q) (sym (ap (λ cs. calls.innermost wakes c cs (calls.ends wakes c) p) is))
+      (goes_in c (λ p. answers Done (on awaiter (called wakes (loud c)) (record p { inside = rest })))
+      (λ p. ap (λ (q : Plain T (SoloWaker X)). answers Done q) (calls_spared (loud c) (tell_spared c) awaiter (record p { inside = rest }))) z
+      (seen (named its) z q (q.events ++ Answers Done ∷ []) q.inside called_so.inside called_so)
+      (bases.calls_base s awaiter s (bases.same s))
+      (still_frame c (still_on awaiter)))
+    where
+      still_on : (o : Option (SoloWaker X)) → Still c (record w { inside = rest }) (on o (called wakes (loud c)) (record w { inside = rest }))
+      still_on None = still c (record w { inside = rest })
+      still_on (Some x) = called_still c (loud c) (tell_still c) x (record w { inside = rest })
+
   pub calls_in_close : CallsInClose its s p all gone left
-  calls_in_close = (wakes_in, releases_in, uses_in, copies_in, cancels_in, detaches_in, handles_in, handle_drops_in)
+  calls_in_close = (wakes_in, releases_in, uses_in, copies_in, cancels_in, detaches_in, handles_in, handle_drops_in, loses_in)

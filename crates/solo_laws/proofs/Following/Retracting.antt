@@ -115,7 +115,7 @@ queued Polling is = absurd cc
 queued PollingWoken is = absurd cc
 queued Finished is = absurd cc
 
-its_place : (at : FuturePlace EntryPlace) → is_home at ≡ true → (place : EntryPlace) × (cells.retract_by at ≡ Some place)
+pub its_place : (at : FuturePlace EntryPlace) → is_home at ≡ true → (place : EntryPlace) × (cells.retract_by at ≡ Some place)
 its_place (Home place) is = (place, refl)
 its_place IsLent is = absurd cc
 its_place Dropping is = absurd cc
@@ -183,7 +183,7 @@ module _ {F T X : Type 0} (name : ℕ → Task) (f : ℕ) (s : Solo F T X) (w : 
     (r : Follows name (opened s) (record w { due = due })) (below : f < length w.futures)
     (ready : asked cells.may_start false (name f) s.cells ≡ true) (gone : stands f due ≡ false)
     (table : s.table.entries ≡ []) where
-  its_task : (v : Kept T X) × (found (name f) s.cells ≡ Some v) × (cells.may_start v ≡ true) × (v.task ≡ task f w)
+  pub its_task : (v : Kept T X) × (found (name f) s.cells ≡ Some v) × (cells.may_start v ≡ true) × (v.task ≡ task f w)
   its_task =
       let k = kept None name cells.may_start f (opened s) (record w { due = due }) r below ready in
       (k.0, k.2, k.4, k.5.task ∙ sym (task_is f w k.1 k.3))
@@ -194,7 +194,7 @@ module _ {F T X : Type 0} (name : ℕ → Task) (f : ℕ) (s : Solo F T X) (w : 
   abbrev v : Kept T X
   v = its_task.0
 
-  place : (at : EntryPlace) × (cells.retract_by v.future ≡ Some at)
+  pub place : (at : EntryPlace) × (cells.retract_by v.future ≡ Some at)
   place = its_place v.future (home v its_task.2)
 
   retract_at : asked cells.retract_answer None t s.cells ≡ Some place.0

@@ -38,7 +38,7 @@ use Rattle.solo_laws.proofs.Following.Trying as trying
 use Rattle.solo_laws.proofs.Showing.Polling.{copied_events}
 
 module _ {F T X : Type 0} (its : ℕ → Lent) (number : Who → ℕ) (s : Solo F T X) (p : Plain T (SoloWaker X)) (c : Choice) where
-  refuses : (new : Who → ℕ) (z : Solo F T X) (q : Plain T (SoloWaker X)) → Stands its z q → IsNumbered new z.sleepers q.lying
+  pub refuses : (new : Who → ℕ) (z : Solo F T X) (q : Plain T (SoloWaker X)) → Stands its z q → IsNumbered new z.sleepers q.lying
       → q.events ≡ p.events → IsRefused its number s p new z (answers NoMemory q)
   refuses new z q both numbered seen = record {
     stands = sees its c z q NoMemory both;

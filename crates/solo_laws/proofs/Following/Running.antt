@@ -36,6 +36,9 @@ lt_next n m = by (nat_lt n m) refl
     by true is = grind (arith, nat_tests)
     by false is = grind (arith, nat_tests)
 
+next : (n : ℕ) → 1 + n ≡ suc n
+next n = omega arith
+
 -- the queue of a run is the first with its number
 first_queue : (r : ℕ) (q : Own) (qs : List Own) → own.queue_of r (q ∷ qs) ≡ cond (q.number == r) (Some q.queue) (own.queue_of r qs)
 first_queue r q qs = by (q.number == r)
@@ -44,7 +47,7 @@ first_queue r q qs = by (q.number == r)
     k = position_or_len (λ (own : Own). own.number == r) qs
 
     there : (b : Bool) → own.queue_at (cond b (Some (1 + k)) None) (q ∷ qs) ≡ own.queue_at (cond b (Some k) None) qs
-    there true = refl
+    there true = ap (λ n. own.queue_in (slice_get (q ∷ qs) n)) (next k)
     there false = refl
 
     by : (b : Bool) → own.queue_at (cond (nat_lt (cond (not b) (1 + k) 0) (suc (length qs))) (Some (cond (not b) (1 + k) 0)) None) (q ∷ qs)

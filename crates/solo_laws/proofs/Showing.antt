@@ -7,3 +7,4 @@ pub mod Taking
 pub mod Ending
 pub mod Losing
 pub mod Courses
+pub mod LastCalls

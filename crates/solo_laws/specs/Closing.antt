@@ -12,11 +12,12 @@ use Rattle.solo.specs.declared.solo.Solo.{Solo}
 use Rattle.solo.specs.Turns.{silent}
 use Rattle.solo.specs.Solo.{hands}
 use Rattle.solo.specs.Closing as closing
-use Rattle.plain_scheduler.specs.State.{Future, Event, Drops, Answers, Done, Code, Close, Lose, Choice, Plain}
+use Rattle.plain_scheduler.specs.State.{Future, Event, Drops, Answers, Done, Code, Close, Lose, Taker, Choice, Plain}
 use Rattle.plain_scheduler.specs.Moves.{task}
 use Rattle.plain_scheduler.specs.Calls.{DropExecutor, Ends, living_from, does}
 use Rattle.solo_laws.specs.Alike.{calls, lets_go, WakesAlike, ReleasesAlike, UsesAlike, CopiesAlike, CancelsAlike}
 use Rattle.solo_laws.specs.Alike.{DetachesAlike, HandlesAlike, HandleDropsAlike}
+use Rattle.solo_laws.specs.Dropping.{ends_one}
 use Rattle.solo_laws.specs.Road.{Follows, HasLife, count_of, wakes}
 use Rattle.solo_laws.specs.Shown.{rings, rings_of, rings_without}
 use Rattle.solo_laws.specs.Tabled.{named, row, row_of}
@@ -129,8 +130,9 @@ module _ {F T X : Type 0} (its : ℕ → Lent) (s : Solo F T X) (p : Plain T (So
   -- the end of an output's drop, which a detach has dropped
   abbrev pub LosesIn : (Solo F T X → Plain T (SoloWaker X) → Type 0) → Type 0
   LosesIn Alike =
-      (c : Choice) (awaiter : Option (SoloWaker X)) (rest : List (Code T (SoloWaker X))) → p.inside ≡ Lose awaiter None ∷ rest
-      → length p.lying ≤ c.tells → HasLife 2 s.lines → Alike (calls awaiter s) (does wakes c Ends p)
+      (c : Choice) (awaiter : Option (SoloWaker X)) (by : Option (Taker (SoloWaker X))) (rest : List (Code T (SoloWaker X)))
+      → ends_one by ≡ true → p.inside ≡ Lose awaiter by ∷ rest → length p.lying ≤ c.tells → HasLife 2 s.lines
+      → Alike (calls awaiter s) (does wakes c Ends p)
 
   -- what is called on tasks while one of its futures is dropped
   abbrev pub CallsInClose : List ℕ → List ℕ → List ℕ → Type 0

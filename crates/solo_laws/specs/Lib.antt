@@ -15,6 +15,7 @@ pub mod Leaking
 pub mod Closing
 pub mod Shown
 pub mod Courses
+pub mod LastCalls
 pub mod Numbered
 pub mod Ticking
 pub mod Running

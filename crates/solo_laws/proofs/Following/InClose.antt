@@ -10,15 +10,18 @@ use Rattle.solo.specs.declared.names.SoloWaker.TheVariants.{Task as OfTask, Outs
 use Rattle.solo.specs.declared.owed.Lent.{Lent}
 use Rattle.solo.specs.declared.solo.Solo.{Solo}
 use Rattle.solo.specs.Solo as solo
-use Rattle.plain_scheduler.specs.State.{Choice, Plain, Lose, Loses, Answers, Made, NoMemory, Pending, Gives, Cancelled, Done}
+use Rattle.plain_scheduler.specs.State.{Choice, Code, Plain, Taker, Try, Tick, Run, Lose, Loses, Answers, Made, NoMemory, Pending, Gives, Cancelled, Done}
 use Rattle.plain_scheduler.specs.Lists.{on, or}
 use Rattle.plain_scheduler.specs.Moves.{answers, task, put, tell, becomes, called, let_go, copied}
+use Rattle.plain_scheduler.specs.Takes as takes
 use Rattle.plain_scheduler.specs.Calls as calls
 use Rattle.plain_scheduler.specs.Calls.{living_from}
 use Rattle.solo_laws.specs.Alike.{WakesAlike, ReleasesAlike, UsesAlike, CopiesAlike, CancelsAlike, DetachesAlike, HandlesAlike}
 use Rattle.solo_laws.specs.Alike.{HandleDropsAlike, calls as calls_it, cancelled, handle_polled}
 use Rattle.solo_laws.specs.Closing.{IsClosing, CallsInClose, LosesIn, spared, undropped}
-use Rattle.solo_laws.specs.Road.{Follows, IsNamed, count_of, wakes}
+use Rattle.solo_laws.specs.Dropping.{ends_one}
+use Rattle.solo_laws.specs.Road.{Follows, HasLife, IsInside, IsNamed, count_of, wakes}
+use Rattle.solo_laws.specs.Shown.{ended_in, rings_of, call_shows}
 use Rattle.solo_laws.specs.Tabled.{named, row}
 use Rattle.solo_laws.proofs.Following.Lists.{length_map}
 use Rattle.solo_laws.proofs.Following.Frames.{Still, still, chain, becomes_still, called_still, tell_still, put_still}
@@ -26,11 +29,14 @@ use Rattle.solo_laws.proofs.Following.Bases as bases
 use Rattle.solo_laws.proofs.Following.Waking as waking
 use Rattle.solo_laws.proofs.Following.Handling as handling
 use Rattle.solo_laws.proofs.Following.Calling as calling
+use Rattle.solo_laws.proofs.Following.Calling.{Named}
 use Rattle.solo_laws.proofs.Following.Losing as losing
 use Rattle.solo_laws.proofs.Following.Seeing.{seen}
 use Rattle.solo_laws.proofs.Following.Both.{done_still, copy_still, cancelled_still, handled_still}
 use Rattle.solo_laws.proofs.Following.Sparing.{Spares, task_spared, put_spared, becomes_spared, calls_spared, tell_spared}
 use Rattle.solo_laws.proofs.Following.Freeing.{no_rows}
+use Rattle.solo_laws.proofs.Showing.Telling.{step}
+use Rattle.solo_laws.proofs.Showing.Calling.{calls_show}
 
 module _ {T X : Type 0} (c : Choice) where
   abbrev loud : Plain T (SoloWaker X) → Plain T (SoloWaker X)
@@ -43,10 +49,19 @@ module _ {T X : Type 0} (c : Choice) where
       ap (λ (q : Plain T (SoloWaker X)). record q { events = q.events ++ Answers Done ∷ [] })
       (becomes_spared loud (tell_spared c) h f p)
 
+  pub wake_spared : (f : ℕ) → Spares {T = T} {X = X} (calls.does wakes c (calls.Call.Wake f))
+  wake_spared f = done_spared (λ t. abstract.wake t) f
+
+  pub release_spared : (f : ℕ) → Spares {T = T} {X = X} (calls.does wakes c (calls.Call.Release f))
+  release_spared f = done_spared (λ t. abstract.release t) f
+
+  pub use_spared : (f : ℕ) → Spares {T = T} {X = X} (calls.does wakes c (calls.Call.Use f))
+  use_spared f = done_spared (λ t. abstract.release (abstract.wake t)) f
+
   put_task_spared : (h : AbstractTask T (SoloWaker X) → AbstractTask T (SoloWaker X)) (f : ℕ) → Spares {T = T} {X = X} (λ p. put f (h (task f p)) p)
   put_task_spared h f p = ap (λ t. put f (h t) (spared p)) (task_spared f p) ∙ put_spared f (h (task f p)) p
 
-  copy_spared : (f : ℕ) → Spares {T = T} {X = X} (calls.does wakes c (calls.Call.Copy f))
+  pub copy_spared : (f : ℕ) → Spares {T = T} {X = X} (calls.does wakes c (calls.Call.Copy f))
   copy_spared f p = by (calls.is_granted c.refusal)
     where
       by : (b : Bool)
@@ -89,7 +104,7 @@ module _ {T X : Type 0} (c : Choice) where
       answered : Plain T (SoloWaker X) → Plain T (SoloWaker X)
       answered q = record q { events = q.events ++ Answers Pending ∷ [] }
 
-  handled_spared : (f : ℕ) (w : SoloWaker X) → Spares {T = T} {X = X} (calls.does wakes c (calls.Call.PollHandle f w))
+  pub handled_spared : (f : ℕ) (w : SoloWaker X) → Spares {T = T} {X = X} (calls.does wakes c (calls.Call.PollHandle f w))
   handled_spared f w p =
       ap (λ t. calls.handle_by wakes c f w (abstract.polled t) (spared p)) (task_spared f p) ∙ by (abstract.polled (task f p))
     where
@@ -119,7 +134,7 @@ module _ {T X : Type 0} (c : Choice) where
   detached_spared None p = refl
   detached_spared (Some v) p = refl
 
-  detach_spared : (f : ℕ) → Spares {T = T} {X = X} (calls.detach wakes c f)
+  pub detach_spared : (f : ℕ) → Spares {T = T} {X = X} (calls.detach wakes c f)
   detach_spared f p =
       let left = abstract.detach (task f p) in
       let q = becomes wakes loud f left.task p in
@@ -128,6 +143,12 @@ module _ {T X : Type 0} (c : Choice) where
       ∙ (ap (λ (z : Plain T (SoloWaker X)). detached_by left.dropped (put f (task f z) z))
       (becomes_spared loud (tell_spared c) (λ t. left.task) f p)
       ∙ (ap (detached_by left.dropped) (put_task_spared (λ t. t) f q) ∙ detached_spared left.dropped (put f (task f q) q)))
+
+  pub cancelled_spared : (f : ℕ) → Spares {T = T} {X = X} (calls.does wakes c (calls.Call.Cancel f))
+  cancelled_spared f p = ap (λ (q : Plain T (SoloWaker X)). record q { events = q.events ++ Answers Done ∷ [] }) (cancel_spared f p)
+
+  pub handle_drop_spared : (f : ℕ) → Spares {T = T} {X = X} (calls.does wakes c (calls.Call.DropHandle f))
+  handle_drop_spared f p = ap (calls.detach wakes c f) (cancel_spared f p) ∙ detach_spared f (calls.cancel wakes c f p)
 
   -- what a detach leaves as it is
   abbrev IsFrame : Plain T (SoloWaker X) → Plain T (SoloWaker X) → Type 0
@@ -158,14 +179,22 @@ module _ {F T X : Type 0} (its : ℕ → Lent) (all gone left : List ℕ) (s : S
       sym (length_map undropped p.futures)
       ∙ (ap (λ (z : Plain T (SoloWaker X)). length z.futures) r.same ∙ length_map undropped w.futures)
 
-  below : (f : ℕ) → f < length p.futures → f < length w.futures
+  pub below : (f : ℕ) → f < length p.futures → f < length w.futures
   below f at = subst (λ n. f < n) long at
 
-  few : (c : Choice) → length p.lying ≤ c.tells → length w.lying ≤ c.tells
+  pub few : (c : Choice) → length p.lying ≤ c.tells → length w.lying ≤ c.tells
   few c many = subst (λ n. n ≤ c.tells) (ap (λ (z : Plain T (SoloWaker X)). length z.lying) r.same) many
 
   same_task : (f : ℕ) → task f p ≡ task f w
   same_task f = sym (task_spared f p) ∙ (ap (λ (z : Plain T (SoloWaker X)). task f z) r.same ∙ task_spared f w)
+
+  pub handle_in : (f : ℕ) → (task f p).handle ≡ true → (task f w).handle ≡ true
+  handle_in f handle = ap (λ (t : AbstractTask T (SoloWaker X)). t.handle) (sym (same_task f)) ∙ handle
+
+  pub names_in : (v : SoloWaker X) (c : Choice)
+      → ((t : Task) → v ≡ OfTask t → IsNamed (named its) (length p.futures) t × (calls.is_granted c.refusal ≡ solo.may_hold t s))
+      → (t : Task) → v ≡ OfTask t → IsNamed (named its) (length w.futures) t × (calls.is_granted c.refusal ≡ solo.may_hold t s)
+  names_in v c names t is = (subst (λ n. IsNamed (named its) n t) long (names t is).0, (names t is).1)
 
   goes_in : (c : Choice) (op : Plain T (SoloWaker X) → Plain T (SoloWaker X)) → Spares op → (z : Solo F T X)
       → Follows (named its) z (op w) → bases.Base s z → IsFrame c w (op w) → IsClosing its all gone left z (op p)
@@ -186,19 +215,19 @@ module _ {F T X : Type 0} (its : ℕ → Lent) (all gone left : List ℕ) (s : S
 
   wakes_in : WakesAlike (named its) (IsClosing its all gone left) s p
   wakes_in c f at many life =
-      goes_in c (calls.does wakes c (calls.Call.Wake f)) (done_spared c (λ t. abstract.wake t) f) (solo.woken (named its f) s)
+      goes_in c (calls.does wakes c (calls.Call.Wake f)) (wake_spared c f) (solo.woken (named its f) s)
       (waking.wakes_alike (named its) s w r.follows c f (below f at) (few c many) life)
       (bases.woken_base s (named its f) s (bases.same s)) (still_frame c (done_still c w f (λ t. abstract.wake t)))
 
   releases_in : ReleasesAlike (named its) (IsClosing its all gone left) s p
   releases_in c f at many life =
-      goes_in c (calls.does wakes c (calls.Call.Release f)) (done_spared c (λ t. abstract.release t) f) (solo.released (named its f) s)
+      goes_in c (calls.does wakes c (calls.Call.Release f)) (release_spared c f) (solo.released (named its f) s)
       (waking.releases_alike (named its) s w r.follows c f (below f at) (few c many) life)
       (bases.released_base s (named its f) s (bases.same s)) (still_frame c (done_still c w f (λ t. abstract.release t)))
 
   uses_in : UsesAlike (named its) (IsClosing its all gone left) s p
   uses_in c f at many life =
-      goes_in c (calls.does wakes c (calls.Call.Use f)) (done_spared c (λ t. abstract.release (abstract.wake t)) f)
+      goes_in c (calls.does wakes c (calls.Call.Use f)) (use_spared c f)
       (solo.woken_and_released (named its f) s)
       (waking.uses_alike (named its) s w r.follows c f (below f at) (few c many) life)
       (bases.used_base s (named its f) s (bases.same s)) (still_frame c (done_still c w f (λ t. abstract.release (abstract.wake t))))
@@ -212,7 +241,7 @@ module _ {F T X : Type 0} (its : ℕ → Lent) (all gone left : List ℕ) (s : S
   cancels_in : CancelsAlike (named its) (IsClosing its all gone left) s p
   cancels_in c f at many life =
       goes_in c (calls.does wakes c (calls.Call.Cancel f))
-      (λ p. ap (λ (q : Plain T (SoloWaker X)). record q { events = q.events ++ Answers Done ∷ [] }) (cancel_spared c f p))
+      (cancelled_spared c f)
       (cancelled (named its f) s)
       (calling.cancels_alike (named its) s w r.follows c f (below f at) (few c many) life)
       (bases.cancelled_base s (named its f) s (bases.same s)) (still_frame c (cancelled_still c w f))
@@ -228,15 +257,14 @@ module _ {F T X : Type 0} (its : ℕ → Lent) (all gone left : List ℕ) (s : S
       goes_in c (calls.does wakes c (calls.Call.PollHandle f v)) (handled_spared c f v)
       (handle_polled (calls.is_granted c.refusal) (named its f) v s)
       (calling.handles_alike (named its) s w r.follows c f v (below f at)
-      (ap (λ (t : AbstractTask T (SoloWaker X)). t.handle) (sym (same_task f)) ∙ handle)
-      (λ t is. (subst (λ n. IsNamed (named its) n t) long (named_so t is).0, (named_so t is).1)) (few c many) life)
+      (handle_in f handle) (names_in v c named_so) (few c many) life)
       (bases.handle_polled_base s (calls.is_granted c.refusal) (named its f) v s (bases.same s))
       (still_frame c (handled_still c w f v (abstract.polled (task f w))))
 
   handle_drops_in : HandleDropsAlike (named its) (IsClosing its all gone left) s p
   handle_drops_in c f at many life =
       goes_in c (calls.does wakes c (calls.Call.DropHandle f))
-      (λ p. ap (calls.detach wakes c f) (cancel_spared c f p) ∙ detach_spared c f (calls.cancel wakes c f p))
+      (handle_drop_spared c f)
       (solo.detached (named its f) (cancelled (named its f) s))
       (calling.handle_drops_alike (named its) s w r.follows c f (below f at) (few c many) life)
       (bases.detached_base s (named its f) (cancelled (named its f) s) (bases.cancelled_base s (named its f) s (bases.same s)))
@@ -244,24 +272,63 @@ module _ {F T X : Type 0} (its : ℕ → Lent) (all gone left : List ℕ) (s : S
       let b = detach_frame c f (calls.cancel wakes c f w) in
       (b.0 ∙ a.0, b.1 ∙ a.1, b.2 ∙ a.2))
 
+  module _ (c : Choice) (awaiter : Option (SoloWaker X)) (by : Option (Taker (SoloWaker X))) (rest : List (Code T (SoloWaker X)))
+      (one : ends_one by ≡ true) (is : p.inside ≡ Lose awaiter by ∷ rest) (many : length p.lying ≤ c.tells) (life : HasLife 2 s.lines) where
+    -- the code of the drop is over, who awaits the task is called, and the call ends
+    abbrev lost : Plain T (SoloWaker X) → Plain T (SoloWaker X)
+    lost p = answers (ended_in by) (on awaiter (called wakes (loud c)) (record p { inside = rest }))
+
+    inside_is : w.inside ≡ Lose awaiter by ∷ rest
+    inside_is = sym (ap (λ (z : Plain T (SoloWaker X)). z.inside) r.same) ∙ is
+
+    out : IsInside (named its) (length w.futures) s.cells rest × Named (named its) (length w.futures) awaiter
+    out = losing.lost (named its) (length w.futures) s.cells w.inside rest r.follows.inside awaiter by inside_is
+
+    follows : Follows (named its) s (record w { inside = rest })
+    follows = seen (named its) s w w.events rest out.0 r.follows
+
+    lost_spared : Spares lost
+    lost_spared p =
+        ap (λ (q : Plain T (SoloWaker X)). answers (ended_in by) q)
+        (calls_spared (loud c) (tell_spared c) awaiter (record p { inside = rest }))
+
+    lost_is : calls.does wakes c calls.Call.Ends p ≡ lost p
+    lost_is =
+        ap (λ cs. calls.innermost wakes c cs (calls.ends wakes c) p) is
+        ∙ next_is by one (on awaiter (called wakes (loud c)) (record p { inside = rest }))
+      where
+        next_is : (by : Option (Taker (SoloWaker X))) → ends_one by ≡ true → (q : Plain T (SoloWaker X))
+            → or by (λ taker. takes.next wakes c taker q) (answers Done q) ≡ answers (ended_in by) q
+        next_is None one q = refl
+        next_is (Some Try) one q = refl
+        next_is (Some (Tick t v)) one q = refl
+        next_is (Some (Run t v)) one q = absurd cc
+
+    still_on : (o : Option (SoloWaker X)) → Still c (record w { inside = rest }) (on o (called wakes (loud c)) (record w { inside = rest }))
+    still_on None = still c (record w { inside = rest })
+    still_on (Some x) = called_still c (loud c) (tell_still c) x (record w { inside = rest })
+
+    loses_so : IsClosing its all gone left (calls_it awaiter s) (calls.does wakes c calls.Call.Ends p)
+    loses_so =
+        let q : Plain T (SoloWaker X) = on awaiter (called wakes (loud c)) (record w { inside = rest }) in
+        let z = calls_it awaiter s in
+        let called_so = calling.calls_alike (named its) c s (record w { inside = rest }) follows (few c many) life awaiter out.1 in
+        subst (λ q. IsClosing its all gone left z q) (sym lost_is)
+        (goes_in c lost lost_spared z
+        (seen (named its) z q (q.events ++ Answers (ended_in by) ∷ []) q.inside called_so.inside called_so)
+        (bases.calls_base s awaiter s (bases.same s))
+        (still_frame c (still_on awaiter)))
+
+    pub loses_seen : (calls.does wakes c calls.Call.Ends p).events ≡ p.events ++ call_shows awaiter by s
+    loses_seen =
+        ap (λ (q : Plain T (SoloWaker X)). q.events) lost_is
+        ∙ (ap (λ (z : Plain T (SoloWaker X)). z.events) (sym (lost_spared p) ∙ (ap lost r.same ∙ lost_spared w))
+        ∙ (step w.events (rings_of awaiter s) (Answers (ended_in by) ∷ [])
+        (calls_show (named its) c s (record w { inside = rest }) follows (few c many) life awaiter out.1) refl
+        ∙ ap (λ (z : Plain T (SoloWaker X)). z.events ++ call_shows awaiter by s) (sym r.same)))
+
   loses_in : LosesIn its s p (IsClosing its all gone left)
-  loses_in c awaiter rest is many life =
-      let inside_is : w.inside ≡ Lose awaiter None ∷ rest = sym (ap (λ (z : Plain T (SoloWaker X)). z.inside) r.same) ∙ is in
-      let out = losing.lost (named its) (length w.futures) s.cells w.inside rest r.follows.inside awaiter None inside_is in
-      let follows = seen (named its) s w w.events rest out.0 r.follows in
-      let q : Plain T (SoloWaker X) = on awaiter (called wakes (loud c)) (record w { inside = rest }) in
-      let z = calls_it awaiter s in
-      let called_so = calling.calls_alike (named its) c s (record w { inside = rest }) follows (few c many) life awaiter out.1 in
-      subst (λ q. IsClosing its all gone left z q) (sym (ap (λ cs. calls.innermost wakes c cs (calls.ends wakes c) p) is))
-      (goes_in c (λ p. answers Done (on awaiter (called wakes (loud c)) (record p { inside = rest })))
-      (λ p. ap (λ (q : Plain T (SoloWaker X)). answers Done q) (calls_spared (loud c) (tell_spared c) awaiter (record p { inside = rest }))) z
-      (seen (named its) z q (q.events ++ Answers Done ∷ []) q.inside called_so.inside called_so)
-      (bases.calls_base s awaiter s (bases.same s))
-      (still_frame c (still_on awaiter)))
-    where
-      still_on : (o : Option (SoloWaker X)) → Still c (record w { inside = rest }) (on o (called wakes (loud c)) (record w { inside = rest }))
-      still_on None = still c (record w { inside = rest })
-      still_on (Some x) = called_still c (loud c) (tell_still c) x (record w { inside = rest })
+  loses_in c awaiter by rest one is many life = loses_so c awaiter by rest one is many life
 
   pub calls_in_close : CallsInClose its s p all gone left
   calls_in_close = (wakes_in, releases_in, uses_in, copies_in, cancels_in, detaches_in, handles_in, handle_drops_in, loses_in)

@@ -60,21 +60,21 @@ module _ {F T X : Type 0} (its : ℕ → Lent) where
   makes_alike c s z p call shown so many looks =
       let it = empty_alike its s p so c in (it.1, ap (λ (q : Plain T (SoloWaker X)). q.events) it.0)
   makes_alike c s z p call shown so many (wakes f at life) =
-      (both.wakes_alike its s p so c f at many life, calling.wakes_shown its s p so c f at many life)
+      (both.wakes_alike its s p so c f at many life, calling.wakes_shown its s p so.0 c f at many life)
   makes_alike c s z p call shown so many (uses f at life) =
-      (both.uses_alike its s p so c f at many life, calling.uses_shown its s p so c f at many life)
+      (both.uses_alike its s p so c f at many life, calling.uses_shown its s p so.0 c f at many life)
   makes_alike c s z p call shown so many (releases f at life) =
-      (both.releases_alike its s p so c f at many life, calling.releases_shown its s p so c f at many life)
+      (both.releases_alike its s p so c f at many life, calling.releases_shown its s p so.0 c f at many life)
   makes_alike c s z p call shown so many (copies f at says) =
-      (both.copies_alike its s p so c f at says, calling.copies_shown its s p so c f says)
+      (both.copies_alike its s p so c f at says, calling.copies_shown its s p so.0 c f says)
   makes_alike c s z p call shown so many (polls f w at handle named life) =
-      (both.handles_alike its s p so c f w at handle named many life, handles_shown its s p so c f w at handle named many life)
+      (both.handles_alike its s p so c f w at handle named many life, handles_shown its s p so.0 c f w at handle named many life)
   makes_alike c s z p call shown so many (cancels f at life) =
-      (both.cancels_alike its s p so c f at many life, calling.cancels_shown its s p so c f at many life)
+      (both.cancels_alike its s p so c f at many life, calling.cancels_shown its s p so.0 c f at many life)
   makes_alike c s z p call shown so many (detaches f at life) =
-      (both.detaches_alike its s p so c f at many life, calling.detaches_shown its s p so c f at many life)
+      (both.detaches_alike its s p so c f at many life, calling.detaches_shown its s p so.0 c f at many life)
   makes_alike c s z p call shown so many (drops_handle f at life) =
-      (both.handle_drops_alike its s p so c f at many life, calling.handle_drops_shown its s p so c f at many life)
+      (both.handle_drops_alike its s p so c f at many life, calling.handle_drops_shown its s p so.0 c f at many life)
   makes_alike c s z p call shown so many (leaks owned life leaving) =
       (leaks_alike its c s p so owned many life leaving, leaks_shown its c s p so owned many life leaving)
   makes_alike c s z p call shown so many (pends f by rest future one stands_in life) = (
@@ -93,7 +93,7 @@ module _ {F T X : Type 0} (its : ℕ → Lent) where
   )
   makes_alike c s z p call shown so many (loses awaiter by rest one stands_in life) = (
     loses_alike its s p so c awaiter by one rest stands_in many life,
-    loses_shown its s p so c awaiter by one rest stands_in many life,
+    loses_shown its s p so.0 c awaiter by one rest stands_in many life,
   )
 
   -- so with ticks, and each that lies has its number

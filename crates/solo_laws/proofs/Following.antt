@@ -32,6 +32,8 @@ pub mod Calming
 pub mod Closing
 pub mod Freeing
 pub mod InClose
+pub mod AfterClose
+pub mod AfterPolls
 pub mod Retracting
 pub mod Emptying
 pub mod Adding

@@ -134,10 +134,16 @@ module _ {F T X : Type 0} (its : ℕ → Lent) (s : Solo F T X) (p : Plain T (So
       → ends_one by ≡ true → p.inside ≡ Lose awaiter by ∷ rest → length p.lying ≤ c.tells → HasLife 2 s.lines
       → Alike (calls awaiter s) (does wakes c Ends p)
 
-  -- what is called on tasks while one of its futures is dropped
-  abbrev pub CallsInClose : List ℕ → List ℕ → List ℕ → Type 0
-  CallsInClose all gone left =
-      let Alike = IsClosing its all gone left in
+  -- what is called on tasks
+  abbrev pub CallsOnTasks : (Solo F T X → Plain T (SoloWaker X) → Type 0) → Type 0
+  CallsOnTasks Alike =
       WakesAlike (named its) Alike s p × ReleasesAlike (named its) Alike s p × UsesAlike (named its) Alike s p
       × CopiesAlike (named its) Alike s p × CancelsAlike (named its) Alike s p × DetachesAlike (named its) Alike s p
       × HandlesAlike (named its) Alike s p × HandleDropsAlike (named its) Alike s p × LosesIn Alike
+
+  -- while one of its futures is dropped, and once all is done
+  abbrev pub CallsInClose : List ℕ → List ℕ → List ℕ → Type 0
+  CallsInClose all gone left = CallsOnTasks (IsClosing its all gone left)
+
+  abbrev pub CallsAfterClose : Type 0
+  CallsAfterClose = CallsOnTasks (IsClosed its)

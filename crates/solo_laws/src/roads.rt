@@ -13,7 +13,7 @@ ghost use Rattle.solo_laws.specs.Alike.{TakesAlike, WakesAlike, ReleasesAlike, U
 ghost use Rattle.solo_laws.specs.Alike.{HandlesAlike, HandleDropsAlike, PendsAlike, GivesAlike, DetachesAlike};
 ghost use Rattle.solo_laws.specs.Dropping.{GivenDropsAlike, ClosedDropsAlike, LosesAlike};
 ghost use Rattle.solo_laws.specs.Leaking.{LeaksAlike};
-ghost use Rattle.solo_laws.specs.Closing.{ClosesAlike, CloseGoesOn, IsClosing, CallsInClose};
+ghost use Rattle.solo_laws.specs.Closing.{ClosesAlike, CloseGoesOn, IsClosing, CallsInClose, IsClosed, CallsAfterClose};
 ghost use Rattle.solo_laws.specs.Road.{Lined, SearchesAlike};
 ghost use Rattle.solo_laws.specs.Spawning.{SpawnsAlike, RefusesAlike, EmptyAlike};
 ghost use Rattle.solo_laws.specs.Tabled.{Stands, named};
@@ -132,4 +132,9 @@ pub fn a_close_goes_on<F, T, X>()
 pub fn calls_in_a_close_are_alike<F, T, X>()
     ensures { (its : ℕ → Lent) (all gone left : List ℕ) (s : Solo F T X) (p : Plain T (SoloWaker X)) → IsClosing its all gone left s p
         → CallsInClose its s p all gone left }
+{}
+
+/// And so does what is called on tasks once the drop has come to its end.
+pub fn calls_after_a_close_are_alike<F, T, X>()
+    ensures { (its : ℕ → Lent) (s : Solo F T X) (p : Plain T (SoloWaker X)) → IsClosed its s p → CallsAfterClose its s p }
 {}

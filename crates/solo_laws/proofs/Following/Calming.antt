@@ -19,7 +19,7 @@ use Rattle.solo_laws.proofs.Following.Cells.{same_number}
 use Rattle.solo_laws.proofs.Following.Using.{wake_and_release}
 
 module _ {T A : Type 0} where
-  woken_infos : (phase : Phase) (closed : Bool) (t : AbstractTask T A) → (abstract.is_idle phase && not closed) ≡ false
+  pub woken_infos : (phase : Phase) (closed : Bool) (t : AbstractTask T A) → (abstract.is_idle phase && not closed) ≡ false
       → (if closed then t else abstract.wake_open phase t).infos ≡ t.infos
   woken_infos phase true t is = refl
   woken_infos Idle false t is = absurd cc

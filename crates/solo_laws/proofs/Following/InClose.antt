@@ -75,7 +75,7 @@ module _ {T X : Type 0} (c : Choice) where
           (put_task_spared (λ t. abstract.copy t) f p)
       by false = refl
 
-  cancel_spared : (f : ℕ) → Spares {T = T} {X = X} (calls.cancel wakes c f)
+  pub cancel_spared : (f : ℕ) → Spares {T = T} {X = X} (calls.cancel wakes c f)
   cancel_spared f p =
       ap (λ t. on (abstract.cancel t).called (called wakes loud) (becomes wakes loud f (abstract.cancel t).task (spared p)))
       (task_spared f p)
@@ -149,6 +149,29 @@ module _ {T X : Type 0} (c : Choice) where
 
   pub handle_drop_spared : (f : ℕ) → Spares {T = T} {X = X} (calls.does wakes c (calls.Call.DropHandle f))
   handle_drop_spared f p = ap (calls.detach wakes c f) (cancel_spared f p) ∙ detach_spared f (calls.cancel wakes c f p)
+
+  -- the end of an output's drop: who awaits the task is called, and the call ends
+  module _ (awaiter : Option (SoloWaker X)) (by : Option (Taker (SoloWaker X))) (rest : List (Code T (SoloWaker X))) where
+    abbrev pub lost : Plain T (SoloWaker X) → Plain T (SoloWaker X)
+    lost p = answers (ended_in by) (on awaiter (called wakes loud) (record p { inside = rest }))
+
+    pub lost_spared : Spares {T = T} {X = X} lost
+    lost_spared p =
+        ap (λ (q : Plain T (SoloWaker X)). answers (ended_in by) q)
+        (calls_spared loud (tell_spared c) awaiter (record p { inside = rest }))
+
+    pub lost_is : ends_one by ≡ true → (p : Plain T (SoloWaker X)) → p.inside ≡ Lose awaiter by ∷ rest
+        → calls.does wakes c calls.Call.Ends p ≡ lost p
+    lost_is one p is =
+        ap (λ cs. calls.innermost wakes c cs (calls.ends wakes c) p) is
+        ∙ next_is by one (on awaiter (called wakes loud) (record p { inside = rest }))
+      where
+        next_is : (by : Option (Taker (SoloWaker X))) → ends_one by ≡ true → (q : Plain T (SoloWaker X))
+            → or by (λ taker. takes.next wakes c taker q) (answers Done q) ≡ answers (ended_in by) q
+        next_is None one q = refl
+        next_is (Some Try) one q = refl
+        next_is (Some (Tick t v)) one q = refl
+        next_is (Some (Run t v)) one q = absurd cc
 
   -- what a detach leaves as it is
   abbrev IsFrame : Plain T (SoloWaker X) → Plain T (SoloWaker X) → Type 0
@@ -274,10 +297,6 @@ module _ {F T X : Type 0} (its : ℕ → Lent) (all gone left : List ℕ) (s : S
 
   module _ (c : Choice) (awaiter : Option (SoloWaker X)) (by : Option (Taker (SoloWaker X))) (rest : List (Code T (SoloWaker X)))
       (one : ends_one by ≡ true) (is : p.inside ≡ Lose awaiter by ∷ rest) (many : length p.lying ≤ c.tells) (life : HasLife 2 s.lines) where
-    -- the code of the drop is over, who awaits the task is called, and the call ends
-    abbrev lost : Plain T (SoloWaker X) → Plain T (SoloWaker X)
-    lost p = answers (ended_in by) (on awaiter (called wakes (loud c)) (record p { inside = rest }))
-
     inside_is : w.inside ≡ Lose awaiter by ∷ rest
     inside_is = sym (ap (λ (z : Plain T (SoloWaker X)). z.inside) r.same) ∙ is
 
@@ -286,23 +305,6 @@ module _ {F T X : Type 0} (its : ℕ → Lent) (all gone left : List ℕ) (s : S
 
     follows : Follows (named its) s (record w { inside = rest })
     follows = seen (named its) s w w.events rest out.0 r.follows
-
-    lost_spared : Spares lost
-    lost_spared p =
-        ap (λ (q : Plain T (SoloWaker X)). answers (ended_in by) q)
-        (calls_spared (loud c) (tell_spared c) awaiter (record p { inside = rest }))
-
-    lost_is : calls.does wakes c calls.Call.Ends p ≡ lost p
-    lost_is =
-        ap (λ cs. calls.innermost wakes c cs (calls.ends wakes c) p) is
-        ∙ next_is by one (on awaiter (called wakes (loud c)) (record p { inside = rest }))
-      where
-        next_is : (by : Option (Taker (SoloWaker X))) → ends_one by ≡ true → (q : Plain T (SoloWaker X))
-            → or by (λ taker. takes.next wakes c taker q) (answers Done q) ≡ answers (ended_in by) q
-        next_is None one q = refl
-        next_is (Some Try) one q = refl
-        next_is (Some (Tick t v)) one q = refl
-        next_is (Some (Run t v)) one q = absurd cc
 
     still_on : (o : Option (SoloWaker X)) → Still c (record w { inside = rest }) (on o (called wakes (loud c)) (record w { inside = rest }))
     still_on None = still c (record w { inside = rest })
@@ -313,16 +315,17 @@ module _ {F T X : Type 0} (its : ℕ → Lent) (all gone left : List ℕ) (s : S
         let q : Plain T (SoloWaker X) = on awaiter (called wakes (loud c)) (record w { inside = rest }) in
         let z = calls_it awaiter s in
         let called_so = calling.calls_alike (named its) c s (record w { inside = rest }) follows (few c many) life awaiter out.1 in
-        subst (λ q. IsClosing its all gone left z q) (sym lost_is)
-        (goes_in c lost lost_spared z
+        subst (λ q. IsClosing its all gone left z q) (sym (lost_is c awaiter by rest one p is))
+        (goes_in c (lost c awaiter by rest) (lost_spared c awaiter by rest) z
         (seen (named its) z q (q.events ++ Answers (ended_in by) ∷ []) q.inside called_so.inside called_so)
         (bases.calls_base s awaiter s (bases.same s))
         (still_frame c (still_on awaiter)))
 
     pub loses_seen : (calls.does wakes c calls.Call.Ends p).events ≡ p.events ++ call_shows awaiter by s
     loses_seen =
-        ap (λ (q : Plain T (SoloWaker X)). q.events) lost_is
-        ∙ (ap (λ (z : Plain T (SoloWaker X)). z.events) (sym (lost_spared p) ∙ (ap lost r.same ∙ lost_spared w))
+        ap (λ (q : Plain T (SoloWaker X)). q.events) (lost_is c awaiter by rest one p is)
+        ∙ (ap (λ (z : Plain T (SoloWaker X)). z.events)
+        (sym (lost_spared c awaiter by rest p) ∙ (ap (lost c awaiter by rest) r.same ∙ lost_spared c awaiter by rest w))
         ∙ (step w.events (rings_of awaiter s) (Answers (ended_in by) ∷ [])
         (calls_show (named its) c s (record w { inside = rest }) follows (few c many) life awaiter out.1) refl
         ∙ ap (λ (z : Plain T (SoloWaker X)). z.events ++ call_shows awaiter by s) (sym r.same)))

@@ -1,4 +1,4 @@
--- Lists of calls that end with the drop of an executor, with what is called while each of its futures is dropped.
+-- The last calls of an executor: its drop, what is called while each of its futures is dropped, and what is called once all is done.
 use Rattle.std.specs.Prelude.{◌≡◌, ℕ, ◌+◌, ◌*◌, ◌≤◌, Bool, true, false, List, [], ◌∷◌, ◌++◌, length, Option}
 use Rattle.queue_steps.specs.ClosableQueue.{most_accepted}
 use Rattle.solo.specs.declared.names.SoloWaker.{SoloWaker}
@@ -36,6 +36,16 @@ pub data Meanwhile {F T X : Type 0} (its : ℕ → Lent) (c : Choice) (s : Solo 
       → ends_one by ≡ true → p.inside ≡ Lose awaiter by ∷ rest → HasLife 2 s.lines
       → Meanwhile its c s p Ends (call_shows awaiter by s) (calls awaiter s)
 
+-- once the drop has come to its end
+pub data After {F T X : Type 0} (its : ℕ → Lent)
+    : List (Choice × Call T (SoloWaker X)) → Solo F T X → Plain T (SoloWaker X) → List (Event T (SoloWaker X)) → Solo F T X
+    → Type 0 where
+  over : (s : Solo F T X) (p : Plain T (SoloWaker X)) → After its [] s p [] s
+  and_then : (c : Choice) (call : Call T (SoloWaker X)) (rest : List (Choice × Call T (SoloWaker X))) (s y z : Solo F T X)
+      (p : Plain T (SoloWaker X)) (shown others : List (Event T (SoloWaker X))) → length p.lying ≤ c.tells
+      → Meanwhile its c s p call shown y → After its rest y (does wakes_of c call p) others z
+      → After its ((c, call) ∷ rest) s p (shown ++ others) z
+
 -- the rest of a close of all these futures, of which those of `gone` were handed out to be dropped: at last it is drained
 pub data Closes {F T X : Type 0} (its : ℕ → Lent) (all : List ℕ)
     : List ℕ → List ℕ → List (Choice × Call T (SoloWaker X)) → Solo F T X → Plain T (SoloWaker X) → List (Event T (SoloWaker X))
@@ -49,10 +59,11 @@ pub data Closes {F T X : Type 0} (its : ℕ → Lent) (all : List ℕ)
       → p.inside ≡ Close (f ∷ left) all ∷ inside → length p.lying ≤ c.tells → HasLife (6 * length all + 2) s.lines
       → Closes its all (gone ++ f ∷ []) left rest (closing.drained s) (does wakes_of c Ends p) others z
       → Closes its all gone (f ∷ left) ((c, Ends) ∷ rest) s p (Drops f ∷ others) z
-  last_drop : (gone : List ℕ) (c : Choice) (inside : List (Code T (SoloWaker X))) (s z : Solo F T X) (p : Plain T (SoloWaker X))
-      (shown : List (Event T (SoloWaker X))) → p.inside ≡ Close [] all ∷ inside → length p.lying ≤ c.tells
-      → HasLife (6 * length all + 2) s.lines → Drains s shown z
-      → Closes its all gone [] ((c, Ends) ∷ []) s p (shown ++ Answers Done ∷ []) z
+  last_drop : (gone : List ℕ) (c : Choice) (rest : List (Choice × Call T (SoloWaker X))) (inside : List (Code T (SoloWaker X)))
+      (s y z : Solo F T X) (p : Plain T (SoloWaker X)) (shown others : List (Event T (SoloWaker X)))
+      → p.inside ≡ Close [] all ∷ inside → length p.lying ≤ c.tells → HasLife (6 * length all + 2) s.lines → Drains s shown y
+      → After its rest y (does wakes_of c Ends p) others z
+      → Closes its all gone [] ((c, Ends) ∷ rest) s p ((shown ++ Answers Done ∷ []) ++ others) z
 
 module _ {F T X : Type 0} (its : ℕ → Lent) (s : Solo F T X) (p : Plain T (SoloWaker X)) where
   -- an executor that isn't static is dropped: none of its futures is out of it
@@ -69,5 +80,7 @@ module _ {F T X : Type 0} (its : ℕ → Lent) (s : Solo F T X) (p : Plain T (So
         (others : List (Event T (SoloWaker X))) → living_from 0 p.futures ≡ f ∷ left → IsDropped c
         → Closes its (f ∷ left) (f ∷ []) left rest (closing.drained (closing.closed s)) (does wakes_of c DropExecutor p) others z
         → LastCalls ((c, DropExecutor) ∷ rest) (Drops f ∷ others) z
-    no_drop : (c : Choice) (z : Solo F T X) (shown : List (Event T (SoloWaker X))) → living_from 0 p.futures ≡ [] → IsDropped c
-        → Drains (closing.closed s) shown z → LastCalls ((c, DropExecutor) ∷ []) (shown ++ Answers Done ∷ []) z
+    no_drop : (c : Choice) (rest : List (Choice × Call T (SoloWaker X))) (y z : Solo F T X)
+        (shown others : List (Event T (SoloWaker X))) → living_from 0 p.futures ≡ [] → IsDropped c
+        → Drains (closing.closed s) shown y → After its rest y (does wakes_of c DropExecutor p) others z
+        → LastCalls ((c, DropExecutor) ∷ rest) ((shown ++ Answers Done ∷ []) ++ others) z

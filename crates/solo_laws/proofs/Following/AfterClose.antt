@@ -22,6 +22,7 @@ use Rattle.solo_laws.specs.Alike.{WakesAlike, ReleasesAlike, UsesAlike, CopiesAl
 use Rattle.solo_laws.specs.Alike.{cancelled}
 use Rattle.solo_laws.specs.Closing.{IsClosed, opened, waits, spared, undropped}
 use Rattle.solo_laws.specs.Road.{Follows, HasLife, IsNamed, wakes}
+use Rattle.solo_laws.specs.Shown.{rings, rings_of, rings_without}
 use Rattle.solo_laws.specs.Tabled.{named}
 use Rattle.solo_laws.proofs.Loosening.{woken_waits, released_waits, release_tells, none_told}
 use Rattle.solo_laws.proofs.Following.Tasks.{IsChange, queues, wakes as wake_changes, releases, uses, cancels, detaches}
@@ -140,20 +141,30 @@ module _ {T X : Type 0} where
 
 -- or is let go
 module _ {F T X : Type 0} (name : ℕ → Task) (s : Solo F T X) (q : Plain T (SoloWaker X)) (r : Follows name (opened s) q) where
+  no_release : (t : Task) → IsNamed name (length q.futures) t → waits (task t.number q) ≡ false
+      → asked cells.release_queues false t s.cells ≡ false
+  no_release t it calm =
+      subst (λ u. asked cells.release_queues false u s.cells ≡ false) it.1
+      (asks None name cells.released cells.release_queues abstract.release releases released_fits t.number (opened s) q it.0 r
+      ∙ release_tells (task t.number q) calm)
+
   pub lets_go_opened : (o : Option (SoloWaker X)) → Named name (length q.futures) o → IsCalm q o
       → lets_go o (opened s) ≡ opened (lets_go o s)
   lets_go_opened None named calm = refl
   lets_go_opened (Some (Outside w)) named calm = refl
   lets_go_opened (Some (OfTask t)) named calm =
+      let none = no_release t (named t refl) (calm t refl) in
       ap (λ b. turns.swept t (turns.scheduled_if b t (turns.turned cells.released t (opened s)))) none
       ∙ sym (ap (λ b. opened (turns.swept t (turns.scheduled_if b t (turns.turned cells.released t s)))) none)
-    where
-      none : asked cells.release_queues false t s.cells ≡ false
-      none =
-          let it = named t refl in
-          subst (λ u. asked cells.release_queues false u s.cells ≡ false) it.1
-          (asks None name cells.released cells.release_queues abstract.release releases released_fits t.number (opened s) q it.0 r
-          ∙ release_tells (task t.number q) (calm t refl))
+
+  pub rings_without_opened : (o : Option (SoloWaker X)) → Named name (length q.futures) o → IsCalm q o
+      → rings_without o (opened s) ≡ rings_without o s
+  rings_without_opened None named calm = refl
+  rings_without_opened (Some (Outside w)) named calm = refl
+  rings_without_opened (Some (OfTask t)) named calm =
+      let none = no_release t (named t refl) (calm t refl) in
+      ap (λ b. rings (turns.schedule_if_answer b t (turns.turned cells.released t (opened s))).sleeper) none
+      ∙ sym (ap (λ b. rings (turns.schedule_if_answer b t (turns.turned cells.released t s)).sleeper) none)
 
 module _ {F T X : Type 0} (its : ℕ → Lent) (s : Solo F T X) (p : Plain T (SoloWaker X)) (r : IsClosed its s p) where
   abbrev w : Plain T (SoloWaker X)
@@ -199,11 +210,25 @@ module _ {F T X : Type 0} (its : ℕ → Lent) (s : Solo F T X) (p : Plain T (So
       → (f : ℕ) → f < length w.futures → asked q false (name f) s.cells ≡ false
   none g q h is fits tells f at = asks None name g q h is fits f (opened s) w at r.follows ∙ tells (task f w) (r.calm f at)
 
+  pub wake_none : (f : ℕ) → f < length w.futures → asked cells.wake_queues false (name f) s.cells ≡ false
+  wake_none f at = none cells.woken cells.wake_queues abstract.wake wake_changes woken_fits wake_tells f at
+
+  pub release_none : (f : ℕ) → f < length w.futures → asked cells.release_queues false (name f) s.cells ≡ false
+  release_none f at = none cells.released cells.release_queues abstract.release releases released_fits release_tells f at
+
+  pub use_none : (f : ℕ) → f < length w.futures → solo.wakes_or_closes (name f) s ≡ false
+  use_none f at = both_ask (name f) s ∙ none used_kept use_queues wake_and_release uses used_fits use_tells f at
+
+  pub detach_none : (f : ℕ) → f < length w.futures → is_some (asked cells.detach_queues None (name f) s.cells) ≡ false
+  detach_none f at =
+      sym (is_there cells.detach_queues (name f) s.cells)
+      ∙ none cells.detached (λ v. is_some (cells.detach_queues v)) (λ t. (abstract.detach t).task) detaches detached_fits detach_tells f at
+
   pub wakes_after : WakesAlike name (IsClosed its) s p
   wakes_after c f at many life =
       let here = below f at in
       let t = name f in
-      let no = none cells.woken cells.wake_queues abstract.wake wake_changes woken_fits wake_tells f here in
+      let no = wake_none f here in
       goes_after (calls.does wakes c (calls.Call.Wake f)) (within.wake_spared c f) (solo.woken t s)
       (subst (λ z. Follows name z (calls.does wakes c (calls.Call.Wake f) w))
       (ap (λ b. turns.scheduled_if b t (turns.turned cells.woken t (opened s))) no
@@ -215,7 +240,7 @@ module _ {F T X : Type 0} (its : ℕ → Lent) (s : Solo F T X) (p : Plain T (So
   releases_after c f at many life =
       let here = below f at in
       let t = name f in
-      let no = none cells.released cells.release_queues abstract.release releases released_fits release_tells f here in
+      let no = release_none f here in
       goes_after (calls.does wakes c (calls.Call.Release f)) (within.release_spared c f) (solo.released t s)
       (subst (λ z. Follows name z (calls.does wakes c (calls.Call.Release f) w))
       (ap (λ b. turns.swept t (turns.scheduled_if b t (turns.turned cells.released t (opened s)))) no
@@ -227,7 +252,7 @@ module _ {F T X : Type 0} (its : ℕ → Lent) (s : Solo F T X) (p : Plain T (So
   uses_after c f at many life =
       let here = below f at in
       let t = name f in
-      let no = both_ask t s ∙ none used_kept use_queues wake_and_release uses used_fits use_tells f here in
+      let no = use_none f here in
       goes_after (calls.does wakes c (calls.Call.Use f)) (within.use_spared c f) (solo.woken_and_released t s)
       (subst (λ z. Follows name z (calls.does wakes c (calls.Call.Use f) w))
       (ap (λ b. turns.swept t (turns.scheduled_if b t (turns.turned cells.released t (turns.turned cells.woken t (opened s))))) no
@@ -261,12 +286,12 @@ module _ {F T X : Type 0} (its : ℕ → Lent) (s : Solo F T X) (p : Plain T (So
     abbrev who : Option (SoloWaker X)
     who = (abstract.cancel (task f w)).called
 
-    no_queue : is_some (asked cells.cancel_queues None t s.cells) ≡ false
+    pub no_queue : is_some (asked cells.cancel_queues None t s.cells) ≡ false
     no_queue =
         sym (is_there cells.cancel_queues t s.cells)
         ∙ none cells.cancelled (λ v. is_some (cells.cancel_queues v)) (λ t. (abstract.cancel t).task) cancels cancelled_fits cancel_tells f here
 
-    first_opens : solo.cancelled t (opened s) ≡ opened (solo.cancelled t s)
+    pub first_opens : solo.cancelled t (opened s) ≡ opened (solo.cancelled t s)
     first_opens =
         ap (λ b. turns.scheduled_if b t (turns.turned cells.cancelled t (opened s))) no_queue
         ∙ sym (ap (λ b. opened (turns.scheduled_if b t (turns.turned cells.cancelled t s))) no_queue)
@@ -290,10 +315,17 @@ module _ {F T X : Type 0} (its : ℕ → Lent) (s : Solo F T X) (p : Plain T (So
     who_is : asked cells.cancel_calls None t s.cells ≡ who
     who_is = calling.cancel_awaiter name (opened s) w r.follows f here
 
-    opens : cancelled t (opened s) ≡ opened (cancelled t s)
+    pub opens : cancelled t (opened s) ≡ opened (cancelled t s)
     opens =
         ap (calls_it (asked cells.cancel_calls None t s.cells)) first_opens
         ∙ retracting.calls_opened name (solo.cancelled t s) q follows_q (asked cells.cancel_calls None t s.cells)
+        (λ u is. subst (λ n. IsNamed name n u) (sym rests_q.0) (theirs u (sym who_is ∙ is)))
+        (λ u is. calm_who u (sym who_is ∙ is))
+
+    pub who_rings : rings_of (asked cells.cancel_calls None t s.cells) (opened (solo.cancelled t s))
+        ≡ rings_of (asked cells.cancel_calls None t s.cells) (solo.cancelled t s)
+    who_rings =
+        retracting.rings_opened name (solo.cancelled t s) q follows_q (asked cells.cancel_calls None t s.cells)
         (λ u is. subst (λ n. IsNamed name n u) (sym rests_q.0) (theirs u (sym who_is ∙ is)))
         (λ u is. calm_who u (sym who_is ∙ is))
 
@@ -321,8 +353,7 @@ module _ {F T X : Type 0} (its : ℕ → Lent) (s : Solo F T X) (p : Plain T (So
   detaches_after c f at many life =
       let here = below f at in
       let t = name f in
-      let no = sym (is_there cells.detach_queues t s.cells)
-      ∙ none cells.detached (λ v. is_some (cells.detach_queues v)) (λ t. (abstract.detach t).task) detaches detached_fits detach_tells f here in
+      let no = detach_none f here in
       let q = becomes wakes (tell wakes c) f (abstract.detach (task f w)).task w in
       goes_after (calls.does wakes c (calls.Call.Detach f)) (within.detach_spared c f) (solo.detached t s)
       (subst (λ z. Follows name z (calls.does wakes c (calls.Call.Detach f) w))

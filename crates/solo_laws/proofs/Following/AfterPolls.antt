@@ -13,7 +13,7 @@ use Rattle.solo.specs.declared.solo.Solo.{Solo}
 use Rattle.solo.specs.Cells.{choose}
 use Rattle.solo.specs.Cells as cells
 use Rattle.solo.specs.Solo as solo
-use Rattle.plain_scheduler.specs.State.{Choice, Code, Plain, Taker, Lose, Answers, Pending, Gives, Cancelled, NoMemory}
+use Rattle.plain_scheduler.specs.State.{Event, Choice, Code, Plain, Taker, Lose, Answers, Pending, Gives, Cancelled, NoMemory}
 use Rattle.plain_scheduler.specs.Lists.{on}
 use Rattle.plain_scheduler.specs.Moves.{task, put, tell, called, let_go, copied}
 use Rattle.plain_scheduler.specs.Calls as calls
@@ -22,7 +22,7 @@ use Rattle.solo_laws.specs.Alike.{replaced_by}
 use Rattle.solo_laws.specs.Closing.{IsClosed, CallsAfterClose, LosesIn, opened, waits}
 use Rattle.solo_laws.specs.Dropping.{ends_one}
 use Rattle.solo_laws.specs.Road.{Follows, HasLife, IsInside, IsNamed, wakes}
-use Rattle.solo_laws.specs.Shown.{ended_in}
+use Rattle.solo_laws.specs.Shown.{ended_in, polled_as, poll_shows, rings_without}
 use Rattle.solo_laws.specs.Tabled.{named}
 use Rattle.solo_laws.proofs.Following.Cells.{of_found, asks_found}
 use Rattle.solo_laws.proofs.Following.Frames.{copied_still, put_still}
@@ -36,7 +36,7 @@ use Rattle.solo_laws.proofs.Following.Calming.{IsCalm}
 use Rattle.solo_laws.proofs.Following.Retracting as retracting
 use Rattle.solo_laws.proofs.Following.InClose as within
 use Rattle.solo_laws.proofs.Following.AfterClose as after
-use Rattle.solo_laws.proofs.Following.AfterClose.{Rests, rests_then, rests_put, rests_calls, rests_lets_go, poll_waits, lets_go_opened}
+use Rattle.solo_laws.proofs.Following.AfterClose.{Rests, rests_then, rests_put, rests_calls, rests_lets_go, poll_waits, lets_go_opened, rings_without_opened}
 
 must : {T : Type 0} (e : abstract.Polled T) → local.waits_by e ≡ true → e ≡ abstract.Polled.Waits
 must (abstract.Polled.Output v) is = absurd cc
@@ -132,6 +132,15 @@ module _ {F T X : Type 0} (its : ℕ → Lent) (s : Solo F T X) (p : Plain T (So
           (theirs u (sym old_is ∙ is)))
           (λ u is. calm_at u (theirs u (sym old_is ∙ is)))
 
+      old_rings : rings_without (replaced_by (solo.poll_answer t v (copies v (opened s)))) (solo.polled t v (copies v (opened s)))
+          ≡ rings_without old (solo.polled t v z)
+      old_rings =
+          ap (λ y. rings_without (replaced_by (solo.poll_answer t v y)) (solo.polled t v y)) copies_open
+          ∙ rings_without_opened name (solo.polled t v z) now follows_now old
+          (λ u is. subst (λ n. IsNamed name n u) (sym ((put_still c f (abstract.poll v (task f q)).task q).futures))
+          (theirs u (sym old_is ∙ is)))
+          (λ u is. calm_at u (theirs u (sym old_is ∙ is)))
+
       rests_registered : Rests w (calls.registered wakes c f v q)
       rests_registered =
           rests_then w now (on (abstract.poll v (task f q)).let_go (let_go wakes (tell wakes c)) now) rests_now
@@ -152,6 +161,30 @@ module _ {F T X : Type 0} (its : ℕ → Lent) (s : Solo F T X) (p : Plain T (So
         by true is true names =
             registers_open
             (must (abstract.polled (task f w)) (sym (calling.waits_is name (opened s) w r.follows f at handle) ∙ is)) names
+
+    -- which shows the same
+    pub poll_same : (granted : Bool)
+        → ((u : Task) → v ≡ OfTask u → IsNamed name (length w.futures) u × (granted ≡ solo.may_hold u s))
+        → poll_shows granted t v (opened s) ≡ poll_shows granted t v s
+    poll_same granted names = by (solo.must_wait t s) refl granted names
+      where
+        answers : List (Event T (SoloWaker X))
+        answers = Answers (polled_as (solo.poll_answer t v s)) ∷ []
+
+        waiting : Bool → Solo F T X → List (Event T (SoloWaker X))
+        waiting granted s =
+            let z = copies v s in
+            choose granted (rings_without (replaced_by (solo.poll_answer t v z)) (solo.polled t v z) ++ Answers Pending ∷ [])
+            (Answers NoMemory ∷ [])
+
+        by : (b : Bool) → solo.must_wait t s ≡ b → (granted : Bool)
+            → ((u : Task) → v ≡ OfTask u → IsNamed name (length w.futures) u × (granted ≡ solo.may_hold u s))
+            → choose b (waiting granted (opened s)) answers ≡ choose b (waiting granted s) answers
+        by false is granted names = refl
+        by true is false names = refl
+        by true is true names =
+            ap (λ es. es ++ Answers Pending ∷ [])
+            (old_rings (must (abstract.polled (task f w)) (sym (calling.waits_is name (opened s) w r.follows f at handle) ∙ is)) names)
 
     rests_handled : ((u : Task) → v ≡ OfTask u → IsNamed name (length w.futures) u × (calls.is_granted c.refusal ≡ solo.may_hold u s))
         → Rests w (calls.does wakes c (calls.Call.PollHandle f v) w)

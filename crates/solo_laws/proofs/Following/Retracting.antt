@@ -93,6 +93,19 @@ module _ {F T X : Type 0} where
             ap (λ b. turns.swept t (turns.scheduled_if b t (turns.turned cells.released t (turns.turned cells.woken t (opened s)))))
             (none t refl)
 
+    pub rings_opened : rings_of o (opened s) ≡ rings_of o s
+    rings_opened = by o queues_none
+      where
+        by : (o : Option (SoloWaker X)) → ((t : Task) → o ≡ Some (OfTask t) → solo.wakes_or_closes t s ≡ false)
+            → rings_of o (opened s) ≡ rings_of o s
+        by None none = refl
+        by (Some (Outside w)) none = refl
+        by (Some (OfTask t)) none =
+            ap (λ b. rings (turns.schedule_if_answer b t
+            (turns.turned cells.released t (turns.turned cells.woken t (opened s)))).sleeper) (none t refl)
+            ∙ sym (ap (λ b. rings (turns.schedule_if_answer b t
+            (turns.turned cells.released t (turns.turned cells.woken t s))).sleeper) (none t refl))
+
     -- and who is called is shown
     pub calls_show : (c : Choice) (p : Plain T (SoloWaker X)) → IsCalm p o
         → (on o (called wakes (tell wakes c)) p).events ≡ p.events ++ rings_of o s

@@ -20,13 +20,12 @@ use Rattle.plain_scheduler.specs.Moves.{task, put, tell, appended, becomes, call
 use Rattle.plain_scheduler.specs.Calls as calls
 use Rattle.solo_laws.specs.Alike.{WakesAlike, ReleasesAlike, UsesAlike, CopiesAlike, CancelsAlike, DetachesAlike, calls as calls_it, lets_go}
 use Rattle.solo_laws.specs.Alike.{cancelled}
-use Rattle.solo_laws.specs.Closing.{IsClosed, opened, waits, spared, undropped}
+use Rattle.solo_laws.specs.Closing.{IsClosed, opened, waits}
 use Rattle.solo_laws.specs.Road.{Follows, HasLife, IsNamed, wakes}
 use Rattle.solo_laws.specs.Shown.{rings, rings_of, rings_without}
 use Rattle.solo_laws.specs.Tabled.{named}
 use Rattle.solo_laws.proofs.Loosening.{woken_waits, released_waits, release_tells, none_told}
 use Rattle.solo_laws.proofs.Following.Tasks.{IsChange, queues, wakes as wake_changes, releases, uses, cancels, detaches}
-use Rattle.solo_laws.proofs.Following.Lists.{length_map}
 use Rattle.solo_laws.proofs.Following.Lives.{three_fewer}
 use Rattle.solo_laws.proofs.Following.Using.{Fits, asks, put_due, put_long, wake_and_release, woken_fits, released_fits, used_fits, used_kept}
 use Rattle.solo_laws.proofs.Following.Using.{use_queues, cancelled_fits, detached_fits}
@@ -38,7 +37,8 @@ use Rattle.solo_laws.proofs.Following.Calling as calling
 use Rattle.solo_laws.proofs.Following.Calling.{Named}
 use Rattle.solo_laws.proofs.Following.Calming.{Calm, IsCalm, put_calm, quietly, calls_quietly, woken_infos, use_tells}
 use Rattle.solo_laws.proofs.Following.Retracting as retracting
-use Rattle.solo_laws.proofs.Following.Sparing.{Spares, task_spared}
+use Rattle.solo_laws.proofs.Following.Sparing as sparing
+use Rattle.solo_laws.proofs.Following.Sparing.{Spares}
 use Rattle.solo_laws.proofs.Following.InClose as within
 
 module _ {T A : Type 0} where
@@ -174,21 +174,16 @@ module _ {F T X : Type 0} (its : ℕ → Lent) (s : Solo F T X) (p : Plain T (So
   name = named its
 
   pub long : length p.futures ≡ length w.futures
-  long =
-      sym (length_map undropped p.futures)
-      ∙ (ap (λ (z : Plain T (SoloWaker X)). length z.futures) r.same ∙ length_map undropped w.futures)
+  long = sparing.long p w r.same
 
   pub below : (f : ℕ) → f < length p.futures → f < length w.futures
   below f at = subst (λ n. f < n) long at
 
   pub few : (c : Choice) → length p.lying ≤ c.tells → length w.lying ≤ c.tells
-  few c many = subst (λ n. n ≤ c.tells) (ap (λ (z : Plain T (SoloWaker X)). length z.lying) r.same) many
+  few c many = sparing.few p w r.same c.tells many
 
   pub handle_in : (f : ℕ) → (task f p).handle ≡ true → (task f w).handle ≡ true
-  handle_in f handle =
-      ap (λ (t : AbstractTask T (SoloWaker X)). t.handle)
-      (sym (sym (task_spared f p) ∙ (ap (λ (z : Plain T (SoloWaker X)). task f z) r.same ∙ task_spared f w)))
-      ∙ handle
+  handle_in f handle = sparing.handle_in p w r.same f handle
 
   pub open_lives : (n : ℕ) → HasLife n s.lines → HasLife n (opened s).lines
   open_lives n life PlainMark = life PlainMark

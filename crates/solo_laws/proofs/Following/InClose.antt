@@ -18,12 +18,11 @@ use Rattle.plain_scheduler.specs.Calls as calls
 use Rattle.plain_scheduler.specs.Calls.{living_from}
 use Rattle.solo_laws.specs.Alike.{WakesAlike, ReleasesAlike, UsesAlike, CopiesAlike, CancelsAlike, DetachesAlike, HandlesAlike}
 use Rattle.solo_laws.specs.Alike.{HandleDropsAlike, calls as calls_it, cancelled, handle_polled}
-use Rattle.solo_laws.specs.Closing.{IsClosing, CallsInClose, LosesIn, spared, undropped}
+use Rattle.solo_laws.specs.Closing.{IsClosing, CallsInClose, LosesIn, spared}
 use Rattle.solo_laws.specs.Dropping.{ends_one}
 use Rattle.solo_laws.specs.Road.{Follows, HasLife, IsInside, IsNamed, count_of, wakes}
 use Rattle.solo_laws.specs.Shown.{ended_in, rings_of, call_shows}
 use Rattle.solo_laws.specs.Tabled.{named, row}
-use Rattle.solo_laws.proofs.Following.Lists.{length_map}
 use Rattle.solo_laws.proofs.Following.Frames.{Still, still, chain, becomes_still, called_still, tell_still, put_still}
 use Rattle.solo_laws.proofs.Following.Bases as bases
 use Rattle.solo_laws.proofs.Following.Waking as waking
@@ -33,6 +32,7 @@ use Rattle.solo_laws.proofs.Following.Calling.{Named}
 use Rattle.solo_laws.proofs.Following.Losing as losing
 use Rattle.solo_laws.proofs.Following.Seeing.{seen}
 use Rattle.solo_laws.proofs.Following.Both.{done_still, copy_still, cancelled_still, handled_still}
+use Rattle.solo_laws.proofs.Following.Sparing as sparing
 use Rattle.solo_laws.proofs.Following.Sparing.{Spares, task_spared, put_spared, becomes_spared, calls_spared, tell_spared}
 use Rattle.solo_laws.proofs.Following.Freeing.{no_rows}
 use Rattle.solo_laws.proofs.Showing.Telling.{step}
@@ -198,21 +198,16 @@ module _ {F T X : Type 0} (its : ℕ → Lent) (all gone left : List ℕ) (s : S
   w = r.whole
 
   long : length p.futures ≡ length w.futures
-  long =
-      sym (length_map undropped p.futures)
-      ∙ (ap (λ (z : Plain T (SoloWaker X)). length z.futures) r.same ∙ length_map undropped w.futures)
+  long = sparing.long p w r.same
 
   pub below : (f : ℕ) → f < length p.futures → f < length w.futures
   below f at = subst (λ n. f < n) long at
 
   pub few : (c : Choice) → length p.lying ≤ c.tells → length w.lying ≤ c.tells
-  few c many = subst (λ n. n ≤ c.tells) (ap (λ (z : Plain T (SoloWaker X)). length z.lying) r.same) many
-
-  same_task : (f : ℕ) → task f p ≡ task f w
-  same_task f = sym (task_spared f p) ∙ (ap (λ (z : Plain T (SoloWaker X)). task f z) r.same ∙ task_spared f w)
+  few c many = sparing.few p w r.same c.tells many
 
   pub handle_in : (f : ℕ) → (task f p).handle ≡ true → (task f w).handle ≡ true
-  handle_in f handle = ap (λ (t : AbstractTask T (SoloWaker X)). t.handle) (sym (same_task f)) ∙ handle
+  handle_in f handle = sparing.handle_in p w r.same f handle
 
   pub names_in : (v : SoloWaker X) (c : Choice)
       → ((t : Task) → v ≡ OfTask t → IsNamed (named its) (length p.futures) t × (calls.is_granted c.refusal ≡ solo.may_hold t s))

@@ -1,6 +1,6 @@
 -- Who is dropped is nothing to the calls on tasks: they do the same to a plain scheduler in which nobody is.
-use Rattle.std.proofs.Common.{◌≡◌, ℕ, zero, suc, ◌-◌, min, cond, if◌then◌else◌, Bool, true, false, List, [], ◌∷◌, ◌++◌, length, map, filter}
-use Rattle.std.proofs.Common.{Option, Some, None, is_some, slice_get, slice_set, refl, sym, ap, ◌∙◌}
+use Rattle.std.proofs.Common.{◌≡◌, ℕ, zero, suc, ◌-◌, ◌≤◌, min, cond, if◌then◌else◌, Bool, true, false, List, [], ◌∷◌, ◌++◌, length, map, filter}
+use Rattle.std.proofs.Common.{Option, Some, None, is_some, slice_get, slice_set, refl, sym, ap, subst, ◌∙◌}
 use Rattle.std.specs.Option.{option_map}
 use Rattle.std.proofs.lemmas.Option.{slice_get-map}
 use Rattle.executor_parts.specs.declared.mark.Mark.{Mark}
@@ -10,12 +10,13 @@ use Rattle.task_moves.specs.AbstractTask.{AbstractTask}
 use Rattle.task_moves.specs.LocalTask.{told as told_of, info_of}
 use Rattle.solo.specs.declared.names.SoloWaker.{SoloWaker}
 use Rattle.solo.specs.declared.names.SoloWaker.TheVariants.{Task as OfTask, Outside}
-use Rattle.plain_scheduler.specs.State.{Future, Lying, Choice, Plain}
+use Rattle.plain_scheduler.specs.State.{Event, Future, Lying, Choice, Plain}
 use Rattle.plain_scheduler.specs.Lists.{any, each, on, or}
 use Rattle.plain_scheduler.specs.Moves.{task, mark, put, changed, appended, becomes, called, tell, told_at, is_called, is_common, no_task}
 use Rattle.plain_scheduler.specs.Calls as calls
 use Rattle.solo_laws.specs.Closing.{undropped, spared}
 use Rattle.solo_laws.specs.Road.{wakes}
+use Rattle.solo_laws.proofs.Following.Lists.{length_map}
 
 module _ {T A : Type 0} where
   set_undropped : (fs : List (Future T A)) (f : ℕ) (x : Future T A)
@@ -152,3 +153,26 @@ module _ {T X : Type 0} where
   swept_spared c p =
       each_spared (λ d. calls.closed wakes c d.future) (λ d. closed_spared c d.future)
       (filter (is_common Urgent) p.due ++ filter (is_common PlainMark) p.due) (record p { due = [] })
+
+-- of two that differ only in who is dropped
+module _ {T X : Type 0} (p w : Plain T (SoloWaker X)) (same : spared p ≡ spared w) where
+  pub long : length p.futures ≡ length w.futures
+  long =
+      sym (length_map undropped p.futures)
+      ∙ (ap (λ (z : Plain T (SoloWaker X)). length z.futures) same ∙ length_map undropped w.futures)
+
+  pub few : (n : ℕ) → length p.lying ≤ n → length w.lying ≤ n
+  few n many = subst (λ k. k ≤ n) (ap (λ (z : Plain T (SoloWaker X)). length z.lying) same) many
+
+  pub handle_in : (f : ℕ) → (task f p).handle ≡ true → (task f w).handle ≡ true
+  handle_in f handle =
+      ap (λ (t : AbstractTask T (SoloWaker X)). t.handle)
+      (sym (sym (task_spared f p) ∙ (ap (λ (z : Plain T (SoloWaker X)). task f z) same ∙ task_spared f w)))
+      ∙ handle
+
+  -- both see the same
+  pub seen_same : (op : Plain T (SoloWaker X) → Plain T (SoloWaker X)) → Spares op → (shown others : List (Event T (SoloWaker X)))
+      → (op w).events ≡ w.events ++ others → others ≡ shown → (op p).events ≡ p.events ++ shown
+  seen_same op spares shown others seen is =
+      ap (λ (z : Plain T (SoloWaker X)). z.events) (sym (spares p) ∙ (ap op same ∙ spares w))
+      ∙ (seen ∙ (ap (λ es. w.events ++ es) is ∙ ap (λ (z : Plain T (SoloWaker X)). z.events ++ shown) (sym same)))

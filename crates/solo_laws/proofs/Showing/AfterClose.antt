@@ -17,7 +17,7 @@ use Rattle.plain_scheduler.specs.State.{Event, Answers, Done, Made, NoMemory, Gr
 use Rattle.plain_scheduler.specs.Moves.{task}
 use Rattle.plain_scheduler.specs.Calls as calls
 use Rattle.solo_laws.specs.Alike.{calls as calls_it, copies, cancelled, replaced_by}
-use Rattle.solo_laws.specs.Closing.{IsClosed, opened, spared}
+use Rattle.solo_laws.specs.Closing.{IsClosed, opened}
 use Rattle.solo_laws.specs.Dropping.{ends_one}
 use Rattle.solo_laws.specs.Road.{HasLife, IsNamed, wakes}
 use Rattle.solo_laws.specs.Shown.{rings, rings_of, rings_without, loses_or, polled_as, cancel_shows, detach_shows, poll_shows, call_shows}
@@ -28,6 +28,7 @@ use Rattle.solo_laws.proofs.Following.Losing as losing
 use Rattle.solo_laws.proofs.Following.Seeing.{seen}
 use Rattle.solo_laws.proofs.Following.Calling as calling
 use Rattle.solo_laws.proofs.Following.Retracting as retracting
+use Rattle.solo_laws.proofs.Following.Sparing as sparing
 use Rattle.solo_laws.proofs.Following.Sparing.{Spares}
 use Rattle.solo_laws.proofs.Following.InClose as within
 use Rattle.solo_laws.proofs.Following.AfterClose as after
@@ -46,9 +47,7 @@ module _ {F T X : Type 0} (its : ℕ → Lent) (s : Solo F T X) (p : Plain T (So
   -- what both see of what the executor with open queues shows
   seen_after : (op : Plain T (SoloWaker X) → Plain T (SoloWaker X)) → Spares op → (shown others : List (Event T (SoloWaker X)))
       → (op w).events ≡ w.events ++ others → others ≡ shown → (op p).events ≡ p.events ++ shown
-  seen_after op spares shown others seen same =
-      ap (λ (z : Plain T (SoloWaker X)). z.events) (sym (spares p) ∙ (ap op r.same ∙ spares w))
-      ∙ (seen ∙ (ap (λ es. w.events ++ es) same ∙ ap (λ (z : Plain T (SoloWaker X)). z.events ++ shown) (sym r.same)))
+  seen_after op spares shown others seen is = sparing.seen_same p w r.same op spares shown others seen is
 
   -- nobody is told where nothing is queued
   silent : (b : Bool) → b ≡ false → (t : Task) (y z : Solo F T X) (others : List (Event T (SoloWaker X)))

@@ -9,7 +9,7 @@ use Rattle.plain_scheduler.specs.State.{Event, Who, Choice, Plain}
 use Rattle.plain_scheduler.specs.Calls.{Call, does, course}
 use Rattle.solo_laws.specs.Courses.{Makes, spawns, refuses, takes, looks, wakes, uses, releases, copies, polls, cancels, detaches}
 use Rattle.solo_laws.specs.Courses.{drops_handle, leaks, pends, gives, ends_given, ends_closed, loses, Acts, makes, makes_tick, tick_takes}
-use Rattle.solo_laws.specs.Courses.{tick_rests, makes_no_tick, tick_refused, tick_lies_refused, tick_leaves, Leads, stays, leads}
+use Rattle.solo_laws.specs.Courses.{makes_run, makes_no_run, tick_rests, makes_no_tick, tick_refused, tick_lies_refused, tick_leaves, Leads, stays, leads}
 use Rattle.solo_laws.specs.Numbered.{IsNumbered}
 use Rattle.solo_laws.specs.Road.{wakes as wakes_of}
 use Rattle.solo_laws.specs.Tabled.{Stands}
@@ -25,6 +25,7 @@ use Rattle.solo_laws.proofs.Following.TickTaking.{ticks_take}
 use Rattle.solo_laws.proofs.Following.TickResting.{ticks_rest}
 use Rattle.solo_laws.proofs.Following.TickLeaving.{ticks_begin, ticks_leave}
 use Rattle.solo_laws.proofs.Following.TickRefusing.{ticks_unmade, ticks_refused, ticks_lie_refused}
+use Rattle.solo_laws.proofs.Following.Running.{runs_begin, runs_unmade}
 use Rattle.solo_laws.proofs.Showing.Telling.{step}
 use Rattle.solo_laws.proofs.Showing.Calling as calling
 use Rattle.solo_laws.proofs.Showing.Polling.{handles_shown}
@@ -112,6 +113,10 @@ module _ {F T X : Type 0} (its : ℕ → Lent) where
       let it = ticks_take its number s p so n c t w task found first many life in ((it.stands, it.seen), it.numbered)
   acts_alike number c s p now z call shown so n many (tick_rests t w none first granted room names more life) =
       let it = ticks_rest its number s p so n c t w none first granted room names more life in ((it.stands, it.seen), it.numbered)
+  acts_alike number c s p now z call shown so n many (makes_run granted few) =
+      let it = (runs_begin its number s p so n c granted few).0 in ((it.stands, it.seen), it.numbered)
+  acts_alike number c s p now z call shown so n many (makes_no_run refused) =
+      let it = runs_unmade its number s p so n c refused in ((it.stands, it.seen), it.numbered)
   acts_alike number c s p now z call shown so n many (makes_no_tick refused) =
       let it = ticks_unmade its number s p so n c refused in ((it.stands, it.seen), it.numbered)
   acts_alike number c s p now z call shown so n many (tick_refused t w none first refused) =

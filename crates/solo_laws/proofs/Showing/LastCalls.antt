@@ -21,6 +21,7 @@ use Rattle.solo_laws.specs.LastCalls.{last_drop, LastCalls, first_drop, no_drop}
 use Rattle.solo_laws.specs.Road.{HasLife, wakes as wakes_of}
 use Rattle.solo_laws.specs.Tabled.{Stands, named}
 use Rattle.solo_laws.proofs.Following.Freeing.{closes_alike, goes_on_alike}
+use Rattle.solo_laws.proofs.Following.Sparing as sparing
 use Rattle.solo_laws.proofs.Following.Sparing.{Spares}
 use Rattle.solo_laws.proofs.Following.InClose as within
 use Rattle.solo_laws.proofs.Following.AfterPolls.{calls_after_close}
@@ -58,9 +59,7 @@ module _ {F T X : Type 0} (its : ℕ → Lent) where
     module _ (s : Solo F T X) (p : Plain T (SoloWaker X)) (r : IsClosing its all gone left s p) where
       seen_in : (op : Plain T (SoloWaker X) → Plain T (SoloWaker X)) → Spares op → (shown : List (Event T (SoloWaker X)))
           → (op r.whole).events ≡ r.whole.events ++ shown → (op p).events ≡ p.events ++ shown
-      seen_in op spares shown seen =
-          ap (λ (z : Plain T (SoloWaker X)). z.events) (sym (spares p) ∙ (ap op r.same ∙ spares r.whole))
-          ∙ (seen ∙ ap (λ (z : Plain T (SoloWaker X)). z.events ++ shown) (sym r.same))
+      seen_in op spares shown seen = sparing.seen_same p r.whole r.same op spares shown shown seen refl
 
     on_task_alike : (c : Choice) (s z : Solo F T X) (p : Plain T (SoloWaker X)) (call : Call T (SoloWaker X))
         (shown : List (Event T (SoloWaker X))) → IsClosing its all gone left s p → length p.lying ≤ c.tells → is_on_task call ≡ true

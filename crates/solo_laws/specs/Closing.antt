@@ -1,6 +1,7 @@
 -- The executor's drop is one of the plain scheduler. First the table's futures are dropped, in the order of spawning; then the task of
 -- each is woken, and the scheduler's waker given up; then those that are queued are closed, the urgent ones first.
-use Rattle.std.specs.Prelude.{◌≡◌, ℕ, ◌+◌, ◌*◌, ◌<◌, ◌≤◌, Bool, true, false, ◌&&◌, not, List, [], ◌∷◌, ◌++◌, length, map, Option, Some, None, is_some}
+use Rattle.std.specs.Prelude.{◌≡◌, ℕ, ◌+◌, ◌*◌, ◌<◌, ◌≤◌, Bool, true, false, ◌&&◌, not, List, [], ◌∷◌, ◌++◌, length, map, Option, Some}
+use Rattle.std.specs.Prelude.{None, is_some}
 use Rattle.queue_steps.specs.ClosableQueue.{most_accepted}
 use Rattle.task_moves.specs.AbstractTask.{AbstractTask, is_idle}
 use Rattle.executor_parts.specs.Places.{Entry}

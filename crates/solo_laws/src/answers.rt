@@ -80,5 +80,6 @@ pub fn lists_end_alike<F, T, X>()
         (first middle last : Solo F T X) (shown others : List (Event T (SoloWaker X))) (before after : Who → ℕ) → IsNew limit kind first
         → counts kind ≡ not is_static → Leads its calls before first (new limit is_static) shown after middle
         → let p = course wakes calls (new limit is_static) in
-        LastCalls its middle p ends others last → IsClosed its last (course wakes ends p) × ((course wakes ends p).events ≡ shown ++ others) }
+        LastCalls its middle p ends others last
+        → IsClosed its last (course wakes ends p) × ((course wakes ends p).events ≡ shown ++ others) }
 {}

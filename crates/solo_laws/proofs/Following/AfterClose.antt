@@ -18,7 +18,8 @@ use Rattle.plain_scheduler.specs.State.{Choice, Plain, Lose, Loses, Answers, Mad
 use Rattle.plain_scheduler.specs.Lists.{on, or}
 use Rattle.plain_scheduler.specs.Moves.{task, put, tell, appended, becomes, called, let_go, copied}
 use Rattle.plain_scheduler.specs.Calls as calls
-use Rattle.solo_laws.specs.Alike.{WakesAlike, ReleasesAlike, UsesAlike, CopiesAlike, CancelsAlike, DetachesAlike, calls as calls_it, lets_go}
+use Rattle.solo_laws.specs.Alike.{WakesAlike, ReleasesAlike, UsesAlike, CopiesAlike, CancelsAlike, DetachesAlike, calls as calls_it}
+use Rattle.solo_laws.specs.Alike.{lets_go}
 use Rattle.solo_laws.specs.Alike.{cancelled}
 use Rattle.solo_laws.specs.Closing.{IsClosed, opened, waits}
 use Rattle.solo_laws.specs.Road.{Follows, HasLife, IsNamed, wakes}
@@ -27,7 +28,8 @@ use Rattle.solo_laws.specs.Tabled.{named}
 use Rattle.solo_laws.proofs.Loosening.{woken_waits, released_waits, release_tells, none_told}
 use Rattle.solo_laws.proofs.Following.Tasks.{IsChange, queues, wakes as wake_changes, releases, uses, cancels, detaches}
 use Rattle.solo_laws.proofs.Following.Lives.{three_fewer}
-use Rattle.solo_laws.proofs.Following.Using.{Fits, asks, put_due, put_long, wake_and_release, woken_fits, released_fits, used_fits, used_kept}
+use Rattle.solo_laws.proofs.Following.Using.{Fits, asks, put_due, put_long, wake_and_release, woken_fits, released_fits, used_fits}
+use Rattle.solo_laws.proofs.Following.Using.{used_kept}
 use Rattle.solo_laws.proofs.Following.Using.{use_queues, cancelled_fits, detached_fits}
 use Rattle.solo_laws.proofs.Following.Quiet.{both_ask}
 use Rattle.solo_laws.proofs.Following.Waking as waking
@@ -114,8 +116,8 @@ module _ {T X : Type 0} where
       (λ is. released_waits (abstract.wake (task t.number p)) (woken_waits (task t.number p)))
   rests_quietly (Some (Outside w)) p = (refl, λ f is. is, refl)
 
-  pub rests_calls : (more : Plain T (SoloWaker X) → Plain T (SoloWaker X)) (o : Option (SoloWaker X)) (p : Plain T (SoloWaker X)) → IsCalm p o
-      → Rests p (on o (called wakes more) p)
+  pub rests_calls : (more : Plain T (SoloWaker X) → Plain T (SoloWaker X)) (o : Option (SoloWaker X)) (p : Plain T (SoloWaker X))
+      → IsCalm p o → Rests p (on o (called wakes more) p)
   rests_calls more o p calm = subst (Rests p) (sym (calls_quietly more o p calm)) (rests_quietly o p)
 
   module _ (more : Plain T (SoloWaker X) → Plain T (SoloWaker X)) (h : AbstractTask T (SoloWaker X) → AbstractTask T (SoloWaker X))
@@ -131,8 +133,8 @@ module _ {T X : Type 0} where
   rests_copied (Outside w) p = (refl, λ f is. is, refl)
 
   -- a waker that goes
-  pub rests_lets_go : (more : Plain T (SoloWaker X) → Plain T (SoloWaker X)) (o : Option (SoloWaker X)) (p : Plain T (SoloWaker X)) → IsCalm p o
-      → Rests p (on o (let_go wakes more) p)
+  pub rests_lets_go : (more : Plain T (SoloWaker X) → Plain T (SoloWaker X)) (o : Option (SoloWaker X)) (p : Plain T (SoloWaker X))
+      → IsCalm p o → Rests p (on o (let_go wakes more) p)
   rests_lets_go more None p calm = (refl, λ f is. is, refl)
   rests_lets_go more (Some (OfTask t)) p calm =
       rests_becomes more abstract.release t.number p (release_tells (task t.number p) (calm t refl))
@@ -284,7 +286,8 @@ module _ {F T X : Type 0} (its : ℕ → Lent) (s : Solo F T X) (p : Plain T (So
     pub no_queue : is_some (asked cells.cancel_queues None t s.cells) ≡ false
     no_queue =
         sym (is_there cells.cancel_queues t s.cells)
-        ∙ none cells.cancelled (λ v. is_some (cells.cancel_queues v)) (λ t. (abstract.cancel t).task) cancels cancelled_fits cancel_tells f here
+        ∙ none cells.cancelled (λ v. is_some (cells.cancel_queues v)) (λ t. (abstract.cancel t).task) cancels cancelled_fits
+        cancel_tells f here
 
     pub first_opens : solo.cancelled t (opened s) ≡ opened (solo.cancelled t s)
     first_opens =

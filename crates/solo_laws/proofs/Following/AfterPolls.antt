@@ -36,7 +36,8 @@ use Rattle.solo_laws.proofs.Following.Calming.{IsCalm}
 use Rattle.solo_laws.proofs.Following.Retracting as retracting
 use Rattle.solo_laws.proofs.Following.InClose as within
 use Rattle.solo_laws.proofs.Following.AfterClose as after
-use Rattle.solo_laws.proofs.Following.AfterClose.{Rests, rests_then, rests_put, rests_calls, rests_lets_go, poll_waits, lets_go_opened, rings_without_opened}
+use Rattle.solo_laws.proofs.Following.AfterClose.{Rests, rests_then, rests_put, rests_calls, rests_lets_go, poll_waits, lets_go_opened}
+use Rattle.solo_laws.proofs.Following.AfterClose.{rings_without_opened}
 
 must : {T : Type 0} (e : abstract.Polled T) → local.waits_by e ≡ true → e ≡ abstract.Polled.Waits
 must (abstract.Polled.Output v) is = absurd cc
@@ -192,7 +193,8 @@ module _ {F T X : Type 0} (its : ℕ → Lent) (s : Solo F T X) (p : Plain T (So
       where
         granted_by : abstract.polled (task f w) ≡ abstract.Polled.Waits → (b : Bool)
             → ((u : Task) → v ≡ OfTask u → IsNamed name (length w.futures) u × (b ≡ solo.may_hold u s))
-            → Rests w (if b then calls.registered wakes c f v (copied wakes v w) else record w { events = w.events ++ Answers NoMemory ∷ [] })
+            → Rests w (if b then calls.registered wakes c f v (copied wakes v w)
+            else record w { events = w.events ++ Answers NoMemory ∷ [] })
         granted_by is false names = (refl, λ g so. so, refl)
         granted_by is true names = rests_registered is names
 
@@ -210,7 +212,8 @@ module _ {F T X : Type 0} (its : ℕ → Lent) (s : Solo F T X) (p : Plain T (So
       λ u is. (subst (λ n. IsNamed name n u) (after.long its s p r) (names u is).0, (names u is).1) in
       after.goes_after its s p r (calls.does wakes c (calls.Call.PollHandle f v)) (within.handled_spared c f v)
       (handle_polled (calls.is_granted c.refusal) (name f) v s)
-      (subst (λ z. Follows name z (calls.does wakes c (calls.Call.PollHandle f v) w)) (opens c f v here handled fewer (calls.is_granted c.refusal) theirs)
+      (subst (λ z. Follows name z (calls.does wakes c (calls.Call.PollHandle f v) w))
+      (opens c f v here handled fewer (calls.is_granted c.refusal) theirs)
       (calling.handles_alike name (opened s) w r.follows c f v here handled theirs fewer (after.open_lives its s p r 2 life)))
       (rests_handled c f v here handled fewer theirs)
 

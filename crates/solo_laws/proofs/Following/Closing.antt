@@ -177,7 +177,8 @@ module _ {F T X : Type 0} (its : ℕ → Lent) where
     abbrev whole : Plain T (SoloWaker X)
     whole = record r.whole { inside = Close left all ∷ r.whole.inside; events = r.whole.events ++ Drops f ∷ [] }
 
-    stands : (map row (rest_of s.going.entries) ≡ map (row_of its true (λ f. true)) left) → IsClosing its all (gone ++ f ∷ []) left now after
+    stands : map row (rest_of s.going.entries) ≡ map (row_of its true (λ f. true)) left
+        → IsClosing its all (gone ++ f ∷ []) left now after
     stands rows = record {
       whole = whole;
       same =

@@ -10,7 +10,8 @@ use Rattle.solo.specs.declared.names.SoloWaker.TheVariants.{Task as OfTask, Outs
 use Rattle.solo.specs.declared.owed.Lent.{Lent}
 use Rattle.solo.specs.declared.solo.Solo.{Solo}
 use Rattle.solo.specs.Solo as solo
-use Rattle.plain_scheduler.specs.State.{Choice, Code, Plain, Taker, Try, Tick, Run, Lose, Loses, Answers, Made, NoMemory, Pending, Gives, Cancelled, Done}
+use Rattle.plain_scheduler.specs.State.{Choice, Code, Plain, Taker, Try, Tick, Run, Lose, Loses, Answers, Made, NoMemory, Pending, Gives}
+use Rattle.plain_scheduler.specs.State.{Cancelled, Done}
 use Rattle.plain_scheduler.specs.Lists.{on, or}
 use Rattle.plain_scheduler.specs.Moves.{answers, task, put, tell, becomes, called, let_go, copied}
 use Rattle.plain_scheduler.specs.Takes as takes
@@ -58,7 +59,8 @@ module _ {T X : Type 0} (c : Choice) where
   pub use_spared : (f : ℕ) → Spares {T = T} {X = X} (calls.does wakes c (calls.Call.Use f))
   use_spared f = done_spared (λ t. abstract.release (abstract.wake t)) f
 
-  put_task_spared : (h : AbstractTask T (SoloWaker X) → AbstractTask T (SoloWaker X)) (f : ℕ) → Spares {T = T} {X = X} (λ p. put f (h (task f p)) p)
+  put_task_spared : (h : AbstractTask T (SoloWaker X) → AbstractTask T (SoloWaker X)) (f : ℕ)
+      → Spares {T = T} {X = X} (λ p. put f (h (task f p)) p)
   put_task_spared h f p = ap (λ t. put f (h t) (spared p)) (task_spared f p) ∙ put_spared f (h (task f p)) p
 
   pub copy_spared : (f : ℕ) → Spares {T = T} {X = X} (calls.does wakes c (calls.Call.Copy f))

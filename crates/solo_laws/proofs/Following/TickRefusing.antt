@@ -110,7 +110,8 @@ module _ {F T X : Type 0} (its : ℕ → Lent) (number : Who → ℕ) (s : Solo 
           (resting.later_so its c who w number (solo.popped s) p so names fewer life l is_q none)
           (resting.others_gone its c who w number (solo.popped s) p so names fewer life l is_q none)
           (resting.later_is its c who w number (solo.popped s) p so names fewer life l is_q none)
-          (ap (λ (out : Ticked F X). out.ticker) (resting.later_answer its c who w number (solo.popped s) p so names fewer life l is_q none))
+          (ap (λ (out : Ticked F X). out.ticker)
+          (resting.later_answer its c who w number (solo.popped s) p so names fewer life l is_q none))
           (λ v apart. refl)
 
       -- one that wasn't called doesn't look again

@@ -1,5 +1,6 @@
 -- What is called on tasks once a close has come to its end shows what the plain scheduler sees.
-use Rattle.std.proofs.Common.{◌≡◌, ℕ, ◌+◌, ◌<◌, ◌≤◌, if◌then◌else◌, Bool, true, false, List, [], ◌∷◌, ◌++◌, length, Option, Some, None, is_some, refl}
+use Rattle.std.proofs.Common.{◌≡◌, ℕ, ◌+◌, ◌<◌, ◌≤◌, if◌then◌else◌, Bool, true, false, List, [], ◌∷◌, ◌++◌, length, Option, Some, None}
+use Rattle.std.proofs.Common.{is_some, refl}
 use Rattle.std.proofs.Common.{sym, ap, subst, ◌∙◌}
 use Rattle.task_moves.specs.AbstractTask as abstract
 use Rattle.task_moves.specs.AbstractTask.{AbstractTask}
@@ -125,7 +126,8 @@ module _ {F T X : Type 0} (its : ℕ → Lent) (s : Solo F T X) (p : Plain T (So
       → (calls.does wakes c (calls.Call.Copy f) p).events
       ≡ p.events ++ Answers (if solo.may_hold (name f) s then Made else NoMemory) ∷ []
   copies_seen c f says =
-      seen_after (calls.does wakes c (calls.Call.Copy f)) (within.copy_spared c f) _ _ (showing.copies_shown its (opened s) w r.follows c f says) refl
+      seen_after (calls.does wakes c (calls.Call.Copy f)) (within.copy_spared c f) _ _
+      (showing.copies_shown its (opened s) w r.follows c f says) refl
 
   pub polls_seen : (c : Choice) (f : ℕ) (v : SoloWaker X) → f < length p.futures → (task f p).handle ≡ true
       → ((u : Task) → v ≡ OfTask u → IsNamed name (length p.futures) u × (calls.is_granted c.refusal ≡ solo.may_hold u s))

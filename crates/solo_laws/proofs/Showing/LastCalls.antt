@@ -42,7 +42,7 @@ module _ {F T X : Type 0} where
       let never : ◌≡◌ {A = Option (Owed F T X)} None (Some owed) = sym none ∙ is in absurd cc
   drains_same s y z shown others (one_more s' y' owed rest is no_future no_output on) (nothing_more s'' none) =
       let never : ◌≡◌ {A = Option (Owed F T X)} None (Some owed) = sym none ∙ is in absurd cc
-  drains_same s y z shown others (one_more s' y' owed rest is no_future no_output on) (one_more s'' z' his more so his_none his_no_output there) =
+  drains_same s y z shown others (one_more s' y' owed rest is no_future no_output on) (one_more s'' z' his more so none nor there) =
       let one : owed ≡ his = one_owed (closing.drain_answer s') owed his is so in
       let it =
       drains_same (used owed (closing.drained s')) y' z' rest more on
@@ -218,7 +218,8 @@ module _ {F T X : Type 0} (its : ℕ → Lent) where
       subst (λ fs. GoesOn its (closing.closed s) p (does wakes_of c DropExecutor p) fs [] fs) living
       (closes_alike its c s p so ready.owned ready.there ready.few ready.life ready.leaving) in
       let then_so =
-      close_alike (f ∷ left) rest (f ∷ []) left (closing.drained (closing.closed s)) z' (does wakes_of c DropExecutor p) others it.stands on in
+      close_alike (f ∷ left) rest (f ∷ []) left (closing.drained (closing.closed s)) z' (does wakes_of c DropExecutor p) others
+      it.stands on in
       (then_so.0, step p.events (Drops f ∷ []) others it.seen then_so.1)
   last_calls_alike list s z p shown so (no_drop c rest y z' more others living ready how on) =
       let it : Finishes its (closing.closed s) p (does wakes_of c DropExecutor p) =

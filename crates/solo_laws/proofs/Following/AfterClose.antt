@@ -1,5 +1,5 @@
 -- What is called on tasks once a close has come to its end leaves both alike: no task is queued by that.
-use Rattle.std.proofs.Common.{◌≡◌, ℕ, ◌+◌, ◌<◌, ◌≤◌, ◌&&◌, ◌||◌, not, if◌then◌else◌, Bool, true, false, List, [], ◌∷◌, ◌++◌, length, Option}
+use Rattle.std.proofs.Common.{◌≡◌, ℕ, ◌<◌, ◌≤◌, ◌&&◌, not, if◌then◌else◌, Bool, true, false, [], ◌∷◌, ◌++◌, length, Option}
 use Rattle.std.proofs.Common.{Some, None, is_some, refl, sym, ap, subst, ◌∙◌}
 use Rattle.executor_parts.specs.declared.mark.Mark.TheVariants.{Plain as PlainMark, Urgent}
 use Rattle.task_moves.specs.AbstractTask as abstract
@@ -26,7 +26,7 @@ use Rattle.solo_laws.specs.Road.{Follows, HasLife, IsNamed, wakes}
 use Rattle.solo_laws.specs.Shown.{rings, rings_of, rings_without}
 use Rattle.solo_laws.specs.Tabled.{named}
 use Rattle.solo_laws.proofs.Loosening.{woken_waits, released_waits, release_tells, none_told}
-use Rattle.solo_laws.proofs.Following.Tasks.{IsChange, queues, wakes as wake_changes, releases, uses, cancels, detaches}
+use Rattle.solo_laws.proofs.Following.Tasks.{IsChange, wakes as wake_changes, releases, uses, cancels, detaches}
 use Rattle.solo_laws.proofs.Following.Lives.{three_fewer}
 use Rattle.solo_laws.proofs.Following.Using.{Fits, asks, put_due, put_long, wake_and_release, woken_fits, released_fits, used_fits}
 use Rattle.solo_laws.proofs.Following.Using.{used_kept}

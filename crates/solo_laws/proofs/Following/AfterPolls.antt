@@ -1,5 +1,5 @@
 -- A poll of a handle, its drop, and the end of an output's drop, once a close has come to its end.
-use Rattle.std.proofs.Common.{◌≡◌, ℕ, ◌<◌, ◌≤◌, if◌then◌else◌, Bool, true, false, List, [], ◌∷◌, ◌++◌, length, Option, Some, None, refl}
+use Rattle.std.proofs.Common.{◌≡◌, ℕ, ◌<◌, ◌≤◌, if◌then◌else◌, Bool, true, false, List, [], ◌∷◌, ◌++◌, length, Option, Some, refl}
 use Rattle.std.proofs.Common.{sym, ap, subst, ◌∙◌}
 use Rattle.task_moves.specs.AbstractTask as abstract
 use Rattle.task_moves.specs.AbstractTask.{AbstractTask}
@@ -13,15 +13,14 @@ use Rattle.solo.specs.declared.solo.Solo.{Solo}
 use Rattle.solo.specs.Cells.{choose}
 use Rattle.solo.specs.Cells as cells
 use Rattle.solo.specs.Solo as solo
-use Rattle.plain_scheduler.specs.State.{Event, Choice, Code, Plain, Taker, Lose, Answers, Pending, Gives, Cancelled, NoMemory}
+use Rattle.plain_scheduler.specs.State.{Event, Choice, Plain, Lose, Answers, Pending, NoMemory}
 use Rattle.plain_scheduler.specs.Lists.{on}
 use Rattle.plain_scheduler.specs.Moves.{task, put, tell, called, let_go, copied}
 use Rattle.plain_scheduler.specs.Calls as calls
-use Rattle.solo_laws.specs.Alike.{HandlesAlike, HandleDropsAlike, calls as calls_it, lets_go, copies, cancelled, handle_polled, registered}
+use Rattle.solo_laws.specs.Alike.{HandlesAlike, HandleDropsAlike, calls as calls_it, copies, cancelled, handle_polled, registered}
 use Rattle.solo_laws.specs.Alike.{replaced_by}
 use Rattle.solo_laws.specs.Closing.{IsClosed, CallsAfterClose, LosesIn, opened, waits}
-use Rattle.solo_laws.specs.Dropping.{ends_one}
-use Rattle.solo_laws.specs.Road.{Follows, HasLife, IsInside, IsNamed, wakes}
+use Rattle.solo_laws.specs.Road.{Follows, IsNamed, wakes}
 use Rattle.solo_laws.specs.Shown.{ended_in, polled_as, poll_shows, rings_without}
 use Rattle.solo_laws.specs.Tabled.{named}
 use Rattle.solo_laws.proofs.Following.Cells.{of_found, asks_found}

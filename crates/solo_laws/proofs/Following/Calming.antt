@@ -1,6 +1,6 @@
 -- A task that no wake would queue stays so, whatever is done to it or to others; and no call of its waker queues it.
 use Rattle.std.proofs.Common.{◌≡◌, ℕ, ◌-◌, ◌==◌, ◌&&◌, not, min, if◌then◌else◌, Bool, true, false, List, length, Option, Some, None}
-use Rattle.std.proofs.Common.{is_some, slice_get, slice_set, refl, sym, ap, subst, ◌∙◌}
+use Rattle.std.proofs.Common.{is_some, slice_get, slice_set, refl, sym, ap, ◌∙◌}
 use Rattle.task_moves.specs.AbstractTask as abstract
 use Rattle.task_moves.specs.AbstractTask.{AbstractTask, Phase, Idle, Queued, Polling, PollingWoken, Finished}
 use Rattle.task_moves.specs.LocalTask.{told as told_of, info_of, info_from}

@@ -1,5 +1,5 @@
 -- A close takes the table's futures out, and hands them out one after the other, in the order of spawning.
-use Rattle.std.proofs.Common.{◌≡◌, ℕ, suc, ◌+◌, ◌<◌, ◌≤◌, not, Bool, true, false, List, [], ◌∷◌, ◌++◌, length, map, Option, Some, None}
+use Rattle.std.proofs.Common.{◌≡◌, ℕ, suc, ◌+◌, ◌≤◌, not, true, false, List, [], ◌∷◌, ◌++◌, length, map, Option, Some, None}
 use Rattle.std.proofs.Common.{is_some, refl, sym, ap, subst, ◌∙◌, append_assoc, arith}
 use Rattle.queue_steps.specs.ClosableQueue.{ClosableQueue, appended, most_accepted}
 use Rattle.executor_parts.specs.Places.{Entry, place_of}
@@ -12,12 +12,12 @@ use Rattle.solo.specs.Solo.{hands}
 use Rattle.solo.specs.Table.{TableValue, first_parts, rest_of, rest_table}
 use Rattle.solo.specs.Turns.{silent}
 use Rattle.solo.specs.Closing as closing
-use Rattle.plain_scheduler.specs.State.{Event, Drops, Code, Close, Choice, Plain}
+use Rattle.plain_scheduler.specs.State.{Drops, Code, Close, Choice, Plain}
 use Rattle.plain_scheduler.specs.Moves.{changed}
 use Rattle.plain_scheduler.specs.Calls as calls
 use Rattle.plain_scheduler.specs.Calls.{living_from}
-use Rattle.solo_laws.specs.Closing.{IsClosing, HandsOut, AllThere, spared}
-use Rattle.solo_laws.specs.Road.{Follows, IsInside, count_of, lents, drops, awaiters, wakes}
+use Rattle.solo_laws.specs.Closing.{IsClosing, HandsOut, AllThere}
+use Rattle.solo_laws.specs.Road.{Follows, count_of, lents, drops, awaiters, wakes}
 use Rattle.solo_laws.specs.Tabled.{Stands, Row, named, row, row_of, at_home}
 use Rattle.solo_laws.proofs.Following.Lists.{map_append, length_map}
 use Rattle.solo_laws.proofs.Following.Seeing.{seen}

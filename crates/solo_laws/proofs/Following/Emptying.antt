@@ -12,16 +12,16 @@ use Rattle.solo.specs.declared.owed.Lent.{Lent}
 use Rattle.solo.specs.declared.solo.Solo.{Solo}
 use Rattle.solo.specs.Cells.{asked}
 use Rattle.solo.specs.Cells as cells
-use Rattle.solo.specs.Lines.{LinesValue, line_of, first_of, popped_from, taken_from, found_from, shut_both}
+use Rattle.solo.specs.Lines.{LinesValue, line_of, first_of, popped_from, taken_from, shut_both}
 use Rattle.solo.specs.Table.{first_parts, rest_of}
 use Rattle.solo.specs.Closing as closing
 use Rattle.plain_scheduler.specs.State.{Due, Event, Choice, Plain}
 use Rattle.plain_scheduler.specs.Lists.{any, without, each, on}
-use Rattle.plain_scheduler.specs.Moves.{task, put, called, tell, chosen, is_common}
+use Rattle.plain_scheduler.specs.Moves.{task, put, called, chosen, is_common}
 use Rattle.plain_scheduler.specs.Calls as calls
 use Rattle.solo_laws.specs.Alike.{calls as calls_it}
-use Rattle.solo_laws.specs.Closing.{Drains, nothing_more, one_more, IsClosed, used, opened, waits, spared}
-use Rattle.solo_laws.specs.Road.{Follows, Lined, HasLife, IsNamed, due_task, due_task_if, count_of, stands, once, tests, wakes}
+use Rattle.solo_laws.specs.Closing.{Drains, nothing_more, one_more, IsClosed, opened, waits}
+use Rattle.solo_laws.specs.Road.{Follows, Lined, HasLife, IsNamed, due_task, due_task_if, count_of, stands, tests, wakes}
 use Rattle.solo_laws.specs.Shown.{rings_of}
 use Rattle.solo_laws.specs.Tabled.{named}
 use Rattle.solo_laws.proofs.Following.Due.{found_stands, found_gone, stood, once_without}

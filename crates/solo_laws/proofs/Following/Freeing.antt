@@ -1,13 +1,12 @@
 -- Once all futures are dropped the task of each is woken, and the scheduler's waker given up; then what is queued is closed. So a close
 -- comes to its end.
-use Rattle.std.proofs.Common.{◌≡◌, ℕ, suc, ◌+◌, ◌*◌, ◌<◌, ◌≤◌, ◌==◌, cond, ◌&&◌, not, Bool, true, false, List, [], ◌∷◌, ◌++◌, length, map}
+use Rattle.std.proofs.Common.{◌≡◌, ℕ, suc, ◌+◌, ◌*◌, ◌<◌, ◌≤◌, ◌==◌, cond, not, Bool, true, false, List, [], ◌∷◌, ◌++◌, length, map}
 use Rattle.std.proofs.Common.{drop}
-use Rattle.std.proofs.Common.{Option, Some, None, slice_get, refl, sym, ap, subst, ◌∙◌, append-nil, append_assoc, arith}
+use Rattle.std.proofs.Common.{Option, Some, None, slice_get, refl, sym, ap, subst, ◌∙◌, append-nil, arith}
 use Rattle.executor_parts.specs.declared.mark.Mark.{Mark}
 use Rattle.executor_parts.specs.declared.mark.Mark.TheVariants.{Plain as PlainMark, Urgent}
 use Rattle.task_moves.specs.AbstractTask as abstract
 use Rattle.task_moves.specs.AbstractTask.{AbstractTask}
-use Rattle.task_moves.specs.LocalTask.{is_home}
 use Rattle.solo.specs.declared.names.Task.{Task}
 use Rattle.solo.specs.declared.names.SoloWaker.{SoloWaker}
 use Rattle.solo.specs.declared.owed.Lent.{Lent}
@@ -22,13 +21,13 @@ use Rattle.solo.specs.Lines.{line_of}
 use Rattle.solo.specs.Table.{first_parts, rest_of}
 use Rattle.solo.specs.Closing as closing
 use Rattle.queue_steps.specs.ClosableQueue.{ClosableQueue, most_accepted}
-use Rattle.plain_scheduler.specs.State.{Future, Event, Answers, Done, Code, Close, Choice, Plain}
+use Rattle.plain_scheduler.specs.State.{Future, Answers, Done, Code, Close, Choice, Plain}
 use Rattle.plain_scheduler.specs.Lists.{each}
 use Rattle.plain_scheduler.specs.Moves.{task, tell, wake}
 use Rattle.plain_scheduler.specs.Calls as calls
 use Rattle.plain_scheduler.specs.Calls.{DropExecutor, Ends, living_from}
 use Rattle.solo_laws.specs.Closing.{IsClosing, Finishes, GoesOn, AllThere, Drains, one_more, opened, spared, waits}
-use Rattle.solo_laws.specs.Road.{Follows, Lined, TaskIs, IsTaskOf, HasLife, count_of, is_in, wakes}
+use Rattle.solo_laws.specs.Road.{Follows, Lined, TaskIs, HasLife, count_of, is_in, wakes}
 use Rattle.solo_laws.specs.Shown.{rings}
 use Rattle.solo_laws.specs.Tabled.{Stands, named, row}
 use Rattle.solo_laws.proofs.Following.Lists.{get_below}
@@ -38,7 +37,6 @@ use Rattle.solo_laws.proofs.Following.Cells.{same_number, found}
 use Rattle.solo_laws.proofs.Following.Changing.{task_is}
 use Rattle.solo_laws.proofs.Following.Lives.{woken_lives, released_lives}
 use Rattle.solo_laws.proofs.Following.Rows.{living_below}
-use Rattle.solo_laws.proofs.Following.Tasks.{queued_idle}
 use Rattle.solo_laws.proofs.Following.Waking as waking
 use Rattle.solo_laws.proofs.Following.Frames.{Still, chain, becomes_still, tell_still}
 use Rattle.solo_laws.proofs.Following.Bases as bases
@@ -46,7 +44,7 @@ use Rattle.solo_laws.proofs.Following.Leaking.{leaves_none, leaving_is}
 use Rattle.solo_laws.proofs.Following.Calming.{freed_calm, freed_settled}
 use Rattle.solo_laws.proofs.Following.Sparing.{each_spared, freed_spared, swept_spared}
 use Rattle.solo_laws.proofs.Following.Closing.{elsewhere, begins, entries_long, inside_out, hands_out}
-use Rattle.solo_laws.proofs.Following.Emptying.{Empties, IsEmptying, empties}
+use Rattle.solo_laws.proofs.Following.Emptying.{Empties, empties}
 use Rattle.solo_laws.proofs.Showing.Telling.{step, woken_shows, released_shows}
 
 pub no_rows : {B C : Type 0} (g : B → C) (xs : List B) → map g xs ≡ [] → xs ≡ []

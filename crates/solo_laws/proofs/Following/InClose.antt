@@ -11,7 +11,7 @@ use Rattle.solo.specs.declared.owed.Lent.{Lent}
 use Rattle.solo.specs.declared.solo.Solo.{Solo}
 use Rattle.solo.specs.Solo as solo
 use Rattle.plain_scheduler.specs.State.{Choice, Code, Plain, Taker, Try, Tick, Run, Lose, Loses, Answers, Made, NoMemory, Pending, Gives}
-use Rattle.plain_scheduler.specs.State.{Cancelled, Done}
+use Rattle.plain_scheduler.specs.State.{Done}
 use Rattle.plain_scheduler.specs.Lists.{on, or}
 use Rattle.plain_scheduler.specs.Moves.{answers, task, put, tell, becomes, called, let_go, copied}
 use Rattle.plain_scheduler.specs.Takes as takes

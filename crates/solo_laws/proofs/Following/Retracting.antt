@@ -1,5 +1,5 @@
 -- A task that is queued as the executor ends is closed, and its future is gone: who awaits it is called, and nothing is queued by that.
-use Rattle.std.proofs.Common.{◌≡◌, ℕ, ◌<◌, ◌≤◌, ◌==◌, ◌||◌, Bool, true, false, List, [], ◌∷◌, ◌++◌, length, Option, Some, None, is_some}
+use Rattle.std.proofs.Common.{◌≡◌, ℕ, ◌<◌, Bool, true, false, List, [], ◌++◌, length, Option, Some, None}
 use Rattle.std.proofs.Common.{refl, sym, ap, subst, ◌∙◌, append-nil}
 use Rattle.executor_parts.specs.declared.places.EntryPlace.{EntryPlace}
 use Rattle.executor_parts.specs.Places.{entry_in, set_future, future_of}
@@ -22,12 +22,12 @@ use Rattle.solo.specs.Cells as cells
 use Rattle.solo.specs.Solo as solo
 use Rattle.solo.specs.Turns as turns
 use Rattle.solo.specs.Closing as closing
-use Rattle.plain_scheduler.specs.State.{Due, Future, Choice, Plain, Calls}
+use Rattle.plain_scheduler.specs.State.{Due, Future, Choice, Plain}
 use Rattle.plain_scheduler.specs.Lists.{on}
 use Rattle.plain_scheduler.specs.Moves.{task, put, called, tell}
 use Rattle.solo_laws.specs.Alike.{calls}
-use Rattle.solo_laws.specs.Closing.{opened, waits}
-use Rattle.solo_laws.specs.Road.{Follows, IsTaskOf, IsNamed, IsOver, HasLife, stands, wakes}
+use Rattle.solo_laws.specs.Closing.{opened}
+use Rattle.solo_laws.specs.Road.{Follows, IsTaskOf, IsOver, stands, wakes}
 use Rattle.solo_laws.specs.Shown.{rings, rings_of}
 use Rattle.solo_laws.proofs.Following.Due.{clash, both_true}
 use Rattle.solo_laws.proofs.Following.Tasks.{uses}

@@ -1,5 +1,5 @@
 -- A run that is made has an own queue, in which there is none: so both have one run more.
-use Rattle.std.proofs.Common.{◌≡◌, ℕ, zero, suc, ◌+◌, ◌<◌, ◌==◌, nat_lt, cond, not, if◌then◌else◌, Bool, true, false, List, [], ◌∷◌, ◌++◌}
+use Rattle.std.proofs.Common.{◌≡◌, ℕ, suc, ◌+◌, ◌<◌, ◌==◌, nat_lt, cond, not, if◌then◌else◌, Bool, true, false, List, [], ◌∷◌, ◌++◌}
 use Rattle.std.proofs.Common.{length, filter, Option, Some, None, slice_get, refl, sym, ap, subst, ◌∙◌, arith}
 use Rattle.std.specs.List.{position_or_len}
 use Rattle.std.proofs.lemmas.Bool.Decides.{nat_tests}
@@ -11,7 +11,7 @@ use Rattle.solo.specs.declared.own_queues.Own.{Own}
 use Rattle.solo.specs.declared.solo.Solo.{Solo}
 use Rattle.solo.specs.OwnQueues as own
 use Rattle.solo.specs.Runs as runs
-use Rattle.plain_scheduler.specs.State.{Who, Answers, Made, NoMemory, Granted, Choice, Running, Plain}
+use Rattle.plain_scheduler.specs.State.{Who, Made, NoMemory, Choice, Running, Plain}
 use Rattle.plain_scheduler.specs.Lists.{or}
 use Rattle.plain_scheduler.specs.Moves.{answers, is_kept}
 use Rattle.plain_scheduler.specs.Calls.{is_granted}

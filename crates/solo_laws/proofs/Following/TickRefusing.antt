@@ -1,5 +1,5 @@
 -- A tick that is refused a copy of its waker is as it was, or lies, where the plain scheduler's is; one that isn't made changes nothing.
-use Rattle.std.proofs.Common.{◌≡◌, ℕ, suc, ◌≤◌, nat_lt, if◌then◌else◌, Bool, true, false, List, [], ◌∷◌, ◌++◌, length, map, find}
+use Rattle.std.proofs.Common.{◌≡◌, ℕ, suc, ◌≤◌, nat_lt, if◌then◌else◌, true, false, List, [], ◌∷◌, ◌++◌, length, map, find}
 use Rattle.std.proofs.Common.{Option, Some, None, refl, sym, ap, subst, ◌∙◌, arith}
 use Rattle.executor_parts.specs.Sleepers.{next_number}
 use Rattle.solo.specs.declared.names.Task.{Task}
@@ -13,7 +13,7 @@ use Rattle.solo.specs.declared.ticks.Ticker.TheVariants.{Awake, Asleep}
 use Rattle.solo.specs.Lines.{mark_of_turn}
 use Rattle.solo.specs.Solo as solo
 use Rattle.solo.specs.Ticks as ticks
-use Rattle.plain_scheduler.specs.State.{Due, Who, ATick, Answers, Made, NoMemory, AtOnce, Later, Lying, Choice, Plain, Tick}
+use Rattle.plain_scheduler.specs.State.{Due, Who, ATick, Answers, Made, NoMemory, Lying, Choice, Plain, Tick}
 use Rattle.plain_scheduler.specs.Lists.{any, or, without}
 use Rattle.plain_scheduler.specs.Moves.{answers, copied, is_who, lies}
 use Rattle.plain_scheduler.specs.Takes as takes

@@ -1,10 +1,7 @@
 -- What is called on tasks once a close has come to its end shows what the plain scheduler sees.
-use Rattle.std.proofs.Common.{◌≡◌, ℕ, ◌+◌, ◌<◌, ◌≤◌, if◌then◌else◌, Bool, true, false, List, [], ◌∷◌, ◌++◌, length, Option, Some, None}
+use Rattle.std.proofs.Common.{◌≡◌, ℕ, ◌<◌, ◌≤◌, if◌then◌else◌, Bool, true, false, List, [], ◌∷◌, ◌++◌, length, Option, None}
 use Rattle.std.proofs.Common.{is_some, refl}
 use Rattle.std.proofs.Common.{sym, ap, subst, ◌∙◌}
-use Rattle.task_moves.specs.AbstractTask as abstract
-use Rattle.task_moves.specs.AbstractTask.{AbstractTask}
-use Rattle.task_moves.specs.LocalTask as local
 use Rattle.solo.specs.declared.names.Task.{Task}
 use Rattle.solo.specs.declared.names.SoloWaker.{SoloWaker}
 use Rattle.solo.specs.declared.names.SoloWaker.TheVariants.{Task as OfTask}
@@ -17,11 +14,11 @@ use Rattle.solo.specs.Turns as turns
 use Rattle.plain_scheduler.specs.State.{Event, Answers, Done, Made, NoMemory, Granted, AtOnce, Choice, Code, Lose, Taker, Plain}
 use Rattle.plain_scheduler.specs.Moves.{task}
 use Rattle.plain_scheduler.specs.Calls as calls
-use Rattle.solo_laws.specs.Alike.{calls as calls_it, copies, cancelled, replaced_by}
+use Rattle.solo_laws.specs.Alike.{cancelled}
 use Rattle.solo_laws.specs.Closing.{IsClosed, opened}
 use Rattle.solo_laws.specs.Dropping.{ends_one}
 use Rattle.solo_laws.specs.Road.{HasLife, IsNamed, wakes}
-use Rattle.solo_laws.specs.Shown.{rings, rings_of, rings_without, loses_or, polled_as, cancel_shows, detach_shows, poll_shows, call_shows}
+use Rattle.solo_laws.specs.Shown.{rings, rings_of, loses_or, cancel_shows, detach_shows, poll_shows, call_shows}
 use Rattle.solo_laws.specs.Shown.{ended_in}
 use Rattle.solo_laws.specs.Tabled.{named}
 use Rattle.solo_laws.proofs.Following.Lives.{three_fewer}

@@ -1,25 +1,22 @@
 -- A list of calls that ends with the drop of an executor leads to states alike, and what is seen is what was shown.
-use Rattle.std.proofs.Common.{◌≡◌, ℕ, ◌+◌, ◌*◌, ◌<◌, ◌≤◌, Bool, true, false, List, [], ◌∷◌, ◌++◌, length, Option, Some, None}
+use Rattle.std.proofs.Common.{◌≡◌, ℕ, ◌≤◌, true, List, [], ◌∷◌, ◌++◌, length, Option, Some, None}
 use Rattle.std.proofs.Common.{append-nil, refl, sym, ap, subst, ◌∙◌}
-use Rattle.task_moves.specs.AbstractTask.{AbstractTask}
-use Rattle.solo.specs.declared.names.Task.{Task}
 use Rattle.solo.specs.declared.names.SoloWaker.{SoloWaker}
-use Rattle.solo.specs.declared.names.SoloWaker.TheVariants.{Task as OfTask}
 use Rattle.solo.specs.declared.owed.Lent.{Lent}
 use Rattle.solo.specs.declared.owed.Owed.{Owed}
 use Rattle.solo.specs.declared.solo.Solo.{Solo}
 use Rattle.solo.specs.Closing as closing
-use Rattle.plain_scheduler.specs.State.{Event, Drops, Answers, Done, Choice, Code, Close, Taker, Plain}
+use Rattle.plain_scheduler.specs.State.{Event, Drops, Answers, Done, Choice, Plain}
 use Rattle.plain_scheduler.specs.Lists.{or}
 use Rattle.plain_scheduler.specs.Calls.{Call, DropExecutor, Ends, living_from, does, course}
 use Rattle.plain_scheduler.specs.Calls as calls
-use Rattle.solo_laws.specs.Closing.{IsClosing, IsClosed, Finishes, GoesOn, Drains, nothing_more, one_more, used, use_shows, spared}
+use Rattle.solo_laws.specs.Closing.{IsClosing, IsClosed, Finishes, GoesOn, Drains, nothing_more, one_more, used, use_shows}
 use Rattle.solo_laws.specs.Courses.{Makes, spawns, refuses, takes, looks, wakes, uses, releases, copies, polls, cancels, detaches}
 use Rattle.solo_laws.specs.Courses.{drops_handle, leaks, pends, gives, ends_given, ends_closed, loses}
 use Rattle.solo_laws.specs.LastCalls.{is_on_task, Meanwhile, on_task, drops_output, After, over, and_then, Closes, meanwhile, next_drop}
 use Rattle.solo_laws.specs.LastCalls.{last_drop, LastCalls, first_drop, no_drop}
-use Rattle.solo_laws.specs.Road.{HasLife, wakes as wakes_of}
-use Rattle.solo_laws.specs.Tabled.{Stands, named}
+use Rattle.solo_laws.specs.Road.{wakes as wakes_of}
+use Rattle.solo_laws.specs.Tabled.{Stands}
 use Rattle.solo_laws.proofs.Following.Freeing.{closes_alike, goes_on_alike}
 use Rattle.solo_laws.proofs.Following.Sparing as sparing
 use Rattle.solo_laws.proofs.Following.Sparing.{Spares}

@@ -27,6 +27,15 @@ pub mod Homes
 pub mod Rows
 pub mod Begun
 pub mod Leaking
+pub mod Sparing
+pub mod Calming
+pub mod Closing
+pub mod Freeing
+pub mod InClose
+pub mod AfterClose
+pub mod AfterPolls
+pub mod Retracting
+pub mod Emptying
 pub mod Adding
 pub mod Spawning
 pub mod Refusing
@@ -48,5 +57,7 @@ pub mod Again
 pub mod Resting
 pub mod TickResting
 pub mod TickLeaving
+pub mod TickRefusing
+pub mod Running
 pub mod Resleeping
 pub mod Keeping

@@ -7,3 +7,5 @@ pub mod Taking
 pub mod Ending
 pub mod Losing
 pub mod Courses
+pub mod AfterClose
+pub mod LastCalls

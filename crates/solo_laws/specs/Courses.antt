@@ -15,18 +15,19 @@ use Rattle.solo.specs.Lines.{mark_of_turn}
 use Rattle.solo.specs.Solo as solo
 use Rattle.solo.specs.Closing as closing
 use Rattle.solo.specs.Ticks as ticks
+use Rattle.solo.specs.Runs as runs
 use Rattle.plain_scheduler.specs.State.{Event, Who, ATick, Answers, Pending, Choice, Code, Poll, Drop, Lose, Closed, Gave, Taker, Plain}
-use Rattle.plain_scheduler.specs.State.{Made, NoMemory, Yes, No, Done, Drops, Granted, AtOnce}
+use Rattle.plain_scheduler.specs.State.{Made, NoMemory, Yes, No, Done, Drops, Granted, AtOnce, Later}
 use Rattle.plain_scheduler.specs.Moves.{lies, task}
 use Rattle.plain_scheduler.specs.Calls.{Call, Spawn, TryTick, IsEmpty, Wake, Use, Copy, Release, PollHandle, Cancel, Detach, DropHandle}
-use Rattle.plain_scheduler.specs.Calls.{Leak, Pends, EndsWith, Ends, NewTick, PollTick, DropTick, is_granted, does}
+use Rattle.plain_scheduler.specs.Calls.{Leak, Pends, EndsWith, Ends, NewTick, PollTick, DropTick, NewRun, is_granted, does}
 use Rattle.solo_laws.specs.Alike.{calls, cancelled, handle_polled, takes_one}
 use Rattle.solo_laws.specs.Dropping.{after_drop, ends_one}
 use Rattle.solo_laws.specs.Leaking.{leaked}
 use Rattle.solo_laws.specs.Road.{HasLife, IsNamed, count_of, wakes as wakes_of}
 use Rattle.solo_laws.specs.Shown.{rings, found_as, cancel_shows, detach_shows, poll_shows, end_shows, drop_shows, call_shows, leak_shows}
 use Rattle.solo_laws.specs.Numbered.{ticker_of}
-use Rattle.solo_laws.specs.Ticking.{CanCopy, number_after, rest_answer, rested, tick_shows}
+use Rattle.solo_laws.specs.Ticking.{CanCopy, number_after, rest_answer, rested, tick_shows, looks_again, slept_answer, slept_once}
 use Rattle.solo_laws.specs.Spawning.{said, is_memory}
 use Rattle.solo_laws.specs.Tabled.{named}
 
@@ -86,7 +87,7 @@ pub data Makes {F T X : Type 0} (its : ℕ → Lent) (c : Choice) (s : Solo F T 
       → p.inside ≡ Lose awaiter by ∷ rest → HasLife 2 s.lines
       → Makes its c s p Ends (call_shows awaiter by s) (calls awaiter s)
 
--- and so with ticks: each that lies has a number
+-- and so with ticks, and with runs that are made: each that lies has a number
 pub data Acts {F T X : Type 0} (its : ℕ → Lent) (number : Who → ℕ) (c : Choice) (s : Solo F T X) (p : Plain T (SoloWaker X))
     : Call T (SoloWaker X) → List (Event T (SoloWaker X)) → (Who → ℕ) → Solo F T X → Type 0 where
   makes : (call : Call T (SoloWaker X)) (shown : List (Event T (SoloWaker X))) (z : Solo F T X) → Makes its c s p call shown z
@@ -106,6 +107,20 @@ pub data Acts {F T X : Type 0} (its : ℕ → Lent) (number : Who → ℕ) (c : 
       → Acts its number c s p (PollTick t w)
       (rings (rest_answer (ticker_of number (ATick t) p.lying) w s).sleeper ++ Answers Pending ∷ []) (number_after (ATick t) number s p)
       (rested (ticker_of number (ATick t) p.lying) w s)
+  makes_run : c.refusal ≡ Granted → length p.runs < most_accepted
+      → Acts its number c s p NewRun (Answers Made ∷ []) number (runs.made s)
+  makes_no_run : is_granted c.refusal ≡ false → Acts its number c s p NewRun (Answers NoMemory ∷ []) number s
+  -- of one that is refused
+  makes_no_tick : is_granted c.refusal ≡ false → Acts its number c s p NewTick (Answers NoMemory ∷ []) number s
+  tick_refused : (t : ℕ) (w : SoloWaker X) → solo.sought s ≡ None → c.first ≡ mark_of_turn s.lines.turn → c.refusal ≡ AtOnce
+      → Acts its number c s p (PollTick t w) (Answers NoMemory ∷ []) number (solo.popped s)
+  tick_lies_refused : (t : ℕ) (w : SoloWaker X) → solo.sought s ≡ None → c.first ≡ mark_of_turn s.lines.turn → c.refusal ≡ Later
+      → (find (lies (ATick t)) p.lying ≡ None → nat_lt s.sleepers.count s.sleepers.rooms ≡ true)
+      → ((u : Task) → w ≡ OfTask u → IsNamed (named its) (length p.futures) u × (solo.may_hold u s ≡ true))
+      → looks_again (slept_answer (ticker_of number (ATick t) p.lying) w s).look ≡ true → suc (length p.lying) ≤ c.tells
+      → HasLife 2 s.lines
+      → Acts its number c s p (PollTick t w) (Answers NoMemory ∷ []) (number_after (ATick t) number s p)
+      (solo.popped (slept_once (ticker_of number (ATick t) p.lying) w s))
   tick_leaves : (t : ℕ) → HasLife 5 s.lines
       → Acts its number c s p (DropTick t)
       (rings (ticks.leave_answer (ticker_of number (ATick t) p.lying) s).told.sleeper ++ Answers Done ∷ []) number

@@ -62,7 +62,7 @@ use Rattle.solo.specs.Solo as solo
 use Rattle.solo.specs.Turns.{turned, swept, lined, is_full, outside, poll_found, drop_found, without}
 use Rattle.solo.specs.Ticks as ticks
 use Rattle.solo.specs.Ticks.{its_room}
-use Rattle.solo_laws.specs.Going.{Going, Out, Step}
+use Rattle.solo_laws.specs.Going.{Going, Step}
 use Rattle.solo_laws.specs.Seen.{source_of, walk_at}
 
 -- the first, where it is there

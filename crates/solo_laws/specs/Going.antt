@@ -1,5 +1,5 @@
 -- How far a call on an executor of one owner has come: what it has in hand, what it hands out, and what it leaves to its owner.
-use Rattle.std.specs.Prelude.{ℕ, Bool, true, false, List, [], Option, Some, None}
+use Rattle.std.specs.Prelude.{ℕ, Bool, true, false, List, [], Option, None}
 use Rattle.executor_parts.specs.declared.places.EntryPlace.{EntryPlace}
 use Rattle.task_moves.specs.declared.local_task.answers.Start.{Start}
 use Rattle.call_steps.specs.declared.reply.Reply.{Reply}

@@ -10,7 +10,6 @@ use Rattle.call_steps.specs.declared.step.table.TableStep.TheVariants as table_s
 use Rattle.call_steps.specs.declared.step.user.UserStep.TheVariants as user_step
 use Rattle.call_steps.specs.Todo.{following}
 use Rattle.call_steps.specs.declared.reply.Reply.{Reply}
-use Rattle.call_steps.specs.Begins.{begins}
 use Rattle.solo.specs.declared.names.Task.{Task}
 use Rattle.solo.specs.declared.owed.Found.{Found}
 use Rattle.solo.specs.declared.owed.Found.TheVariants.{Poll as Polls, Drop as Drops, Nothing}

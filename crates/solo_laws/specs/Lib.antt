@@ -12,10 +12,13 @@ pub mod Alike
 pub mod Spawning
 pub mod Dropping
 pub mod Leaking
+pub mod Closing
 pub mod Shown
 pub mod Courses
+pub mod LastCalls
 pub mod Numbered
 pub mod Ticking
+pub mod Running
 pub mod Going
 pub mod Seen
 pub mod Done

@@ -1,7 +1,6 @@
 -- That the making of a run, its first poll and its leave go as `next` says.
-use Rattle.std.specs.Prelude.{◌≡◌, ℕ, false, List, [], ◌∷◌, Option, Some, None}
+use Rattle.std.specs.Prelude.{◌≡◌, false, List, [], ◌∷◌, Option, Some, None}
 use Rattle.call_steps.specs.declared.asked.Asked.TheVariants as asks
-use Rattle.call_steps.specs.declared.names.RunPoll.{RunPoll}
 use Rattle.call_steps.specs.declared.names.Stage.TheVariants as stage
 use Rattle.call_steps.specs.declared.names.Waker.{Waker}
 use Rattle.call_steps.specs.declared.reply.Reply.TheVariants as reply

@@ -1,5 +1,5 @@
 -- What a step of a call sees in an executor of one owner.
-use Rattle.std.specs.Prelude.{ℕ, zero, suc, ◌%◌, ◌==◌, nat_lt, Bool, true, false, not, Option, Some, None, is_some, length, slice_get}
+use Rattle.std.specs.Prelude.{ℕ, zero, suc, ◌%◌, nat_lt, Bool, true, false, not, Option, Some, None, is_some, length, slice_get}
 use Rattle.executor_parts.specs.declared.places.EntryPlace.{EntryPlace}
 use Rattle.executor_parts.specs.Places.{entry_in, future_of, parts_of}
 use Rattle.executor_parts.specs.Sleepers.{last_waker, position_of, waker_of}

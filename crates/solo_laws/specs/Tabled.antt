@@ -1,6 +1,6 @@
 -- The table of an executor of one owner keeps the futures that the plain scheduler hasn't dropped, and its runs' own queues what
 -- these keep; so both stand alike.
-use Rattle.std.specs.Prelude.{◌≡◌, ℕ, ◌<◌, Bool, true, false, not, if◌then◌else◌, List, [], length, map, filter, slice_get}
+use Rattle.std.specs.Prelude.{◌≡◌, ℕ, ◌<◌, Bool, true, false, not, List, [], length, map, filter, slice_get}
 use Rattle.std.specs.Prelude.{Option, Some, None, is_some}
 use Rattle.executor_parts.specs.Places.{Entry, place_of}
 use Rattle.executor_parts.specs.declared.places.EntryPlace.{EntryPlace}

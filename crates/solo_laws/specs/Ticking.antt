@@ -18,10 +18,11 @@ use Rattle.solo.specs.Cells.{choose}
 use Rattle.solo.specs.Lines.{mark_of_turn}
 use Rattle.solo.specs.Solo.{may_hold, popped, sought}
 use Rattle.solo.specs.Ticks as ticks
-use Rattle.plain_scheduler.specs.State.{Event, Who, ATick, Answers, Made, Done, Pending, Granted, Choice, Plain, Taker, Tick}
+use Rattle.plain_scheduler.specs.State.{Event, Who, ATick, Answers, Made, Done, Pending, NoMemory, Granted, AtOnce, Later, Choice}
+use Rattle.plain_scheduler.specs.State.{Plain, Taker, Tick}
 use Rattle.plain_scheduler.specs.Lists.{or}
 use Rattle.plain_scheduler.specs.Moves.{is_who, lies}
-use Rattle.plain_scheduler.specs.Calls.{NewTick, DropTick, PollTick, does}
+use Rattle.plain_scheduler.specs.Calls.{NewTick, DropTick, PollTick, is_granted, does}
 use Rattle.solo_laws.specs.Alike.{copies}
 use Rattle.solo_laws.specs.Numbered.{IsNumbered, ticker_of}
 use Rattle.solo_laws.specs.Road.{HasLife, IsNamed, wakes}
@@ -131,3 +132,35 @@ module _ {F T X : Type 0} (its : ℕ → Lent) (number : Who → ℕ) (s : Solo 
       (c : Choice) (t : ℕ) → length p.lying ≤ c.tells → HasLife 5 s.lines
       → let ticker = ticker_of number (ATick t) p.lying in
       HasLeft (ATick t) (ticks.leave_answer ticker s) (ticks.left ticker s) (does wakes c (DropTick t) p)
+
+  -- a call is refused memory, and both stand so
+  pub record IsRefused (new : Who → ℕ) (z : Solo F T X) (q : Plain T (SoloWaker X)) : Type 0 where
+    pub stands : Stands its z q
+    pub numbered : IsNumbered new z.sleepers q.lying
+    pub seen : q.events ≡ p.events ++ Answers NoMemory ∷ []
+
+  -- the making of a tick; nothing changes
+  abbrev pub TicksAreUnmade : Type 0
+  TicksAreUnmade = (c : Choice) → is_granted c.refusal ≡ false → IsRefused number s (does wakes c NewTick p)
+
+  -- a poll that finds nothing, as its waker is copied: the tick is as it was
+  abbrev pub TicksAreRefused : Type 0
+  TicksAreRefused =
+      (c : Choice) (t : ℕ) (w : SoloWaker X) → sought s ≡ None → c.first ≡ mark_of_turn s.lines.turn → c.refusal ≡ AtOnce
+      → IsRefused number (popped s) (does wakes c (PollTick t w) p)
+
+  -- or as it is copied again, for the look once it lies: it lies on
+  pub record LiesRefused (who : Who) (new : Who → ℕ) (out : Ticked F X) (z : Solo F T X) (q : Plain T (SoloWaker X)) : Type 0 where
+    pub refused : IsRefused new z q
+    pub ticker : out.ticker ≡ ticker_of new who q.lying
+    pub others : (v : Who) → is_who who v ≡ false → new v ≡ number v
+
+  abbrev pub TicksLieRefused : Type 0
+  TicksLieRefused =
+      (c : Choice) (t : ℕ) (w : SoloWaker X) → sought s ≡ None → c.first ≡ mark_of_turn s.lines.turn → c.refusal ≡ Later
+      → let ticker = ticker_of number (ATick t) p.lying in
+      (find (lies (ATick t)) p.lying ≡ None → nat_lt s.sleepers.count s.sleepers.rooms ≡ true)
+      → ((u : Task) → w ≡ OfTask u → IsNamed (named its) (length p.futures) u × (may_hold u s ≡ true))
+      → looks_again (slept_answer ticker w s).look ≡ true → suc (length p.lying) ≤ c.tells → HasLife 2 s.lines
+      → LiesRefused (ATick t) (number_after (ATick t) number s p) (slept_answer ticker w s) (popped (slept_once ticker w s))
+      (does wakes c (PollTick t w) p)

@@ -1,5 +1,5 @@
 //! What the plain scheduler sees of a call is what an executor of one owner hands out and answers.
-ghost use Rattle.std.specs.Prelude.{◌≡◌, ℕ, List, Bool, not};
+ghost use Rattle.std.specs.Prelude.{◌≡◌, ℕ, List, ◌++◌, Bool, not};
 ghost use Rattle.solo.specs.Solo.{IsNew, counts};
 ghost use Rattle.solo.specs.declared.names.Kind.{Kind};
 ghost use Rattle.solo.specs.declared.names.SoloWaker.{SoloWaker};
@@ -7,7 +7,9 @@ ghost use Rattle.solo.specs.declared.owed.Lent.{Lent};
 ghost use Rattle.solo.specs.declared.solo.Solo.{Solo};
 ghost use Rattle.plain_scheduler.specs.Calls.{Call, course, new};
 ghost use Rattle.plain_scheduler.specs.State.{Choice, Event, Plain, Who};
+ghost use Rattle.solo_laws.specs.Closing.{IsClosed};
 ghost use Rattle.solo_laws.specs.Courses.{Leads};
+ghost use Rattle.solo_laws.specs.LastCalls.{LastCalls};
 ghost use Rattle.solo_laws.specs.Road.{wakes};
 ghost use Rattle.solo_laws.specs.Shown.{CancelsShown, ClosedDropsShown, CopiesShown, DetachesShown, GivenDropsShown};
 ghost use Rattle.solo_laws.specs.Shown.{GivesShown, HandleDropsShown, HandlesShown, LeaksShown, LosesShown, PendsShown, ReleasesShown};
@@ -70,4 +72,14 @@ pub fn lists_of_calls_lead_alike<F, T, X>()
         (first last : Solo F T X) (shown : List (Event T (SoloWaker X))) (before after : Who → ℕ) → IsNew limit kind first
         → counts kind ≡ not is_static → Leads its calls before first (new limit is_static) shown after last
         → Stands its last (course wakes calls (new limit is_static)) × ((course wakes calls (new limit is_static)).events ≡ shown) }
+{}
+
+/// And so after each such list that ends with the drop of the executor, with what is called while its futures are dropped.
+pub fn lists_end_alike<F, T, X>()
+    ensures { (its : ℕ → Lent) (limit : ℕ) (kind : Kind) (is_static : Bool) (calls ends : List (Choice × Call T (SoloWaker X)))
+        (first middle last : Solo F T X) (shown others : List (Event T (SoloWaker X))) (before after : Who → ℕ) → IsNew limit kind first
+        → counts kind ≡ not is_static → Leads its calls before first (new limit is_static) shown after middle
+        → let p = course wakes calls (new limit is_static) in
+        LastCalls its middle p ends others last
+        → IsClosed its last (course wakes ends p) × ((course wakes ends p).events ≡ shown ++ others) }
 {}

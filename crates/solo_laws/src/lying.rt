@@ -5,8 +5,9 @@ ghost use Rattle.solo.specs.declared.owed.Lent.{Lent};
 ghost use Rattle.solo.specs.declared.solo.Solo.{Solo};
 ghost use Rattle.plain_scheduler.specs.State.{Plain, Who};
 ghost use Rattle.solo_laws.specs.Numbered.{IsNumbered};
+ghost use Rattle.solo_laws.specs.Running.{RunsBegin, RunsAreUnmade};
 ghost use Rattle.solo_laws.specs.Tabled.{Stands};
-ghost use Rattle.solo_laws.specs.Ticking.{TicksBegin, TicksLeave, TicksRest, TicksTake};
+ghost use Rattle.solo_laws.specs.Ticking.{TicksBegin, TicksLeave, TicksRest, TicksTake, TicksAreUnmade, TicksAreRefused, TicksLieRefused};
 
 /// Where both stand alike, and who lies has a number of its own, they do so once a tick is made.
 pub fn ticks_begin_alike<F, T, X>()
@@ -32,4 +33,26 @@ pub fn ticks_rest_alike<F, T, X>()
 pub fn ticks_leave_alike<F, T, X>()
     ensures { (its : ℕ → Lent) (number : Who → ℕ) (s : Solo F T X) (p : Plain T (SoloWaker X)) → Stands its s p
         → IsNumbered number s.sleepers p.lying → TicksLeave its number s p }
+{}
+
+/// A tick whose making is refused leaves both as they were.
+pub fn ticks_are_unmade_alike<F, T, X>()
+    ensures { (its : ℕ → Lent) (number : Who → ℕ) (s : Solo F T X) (p : Plain T (SoloWaker X)) → Stands its s p
+        → IsNumbered number s.sleepers p.lying → TicksAreUnmade its number s p }
+{}
+
+/// One that finds nothing, and is refused a copy of its waker, is as it was; where the copy for its second look is refused it lies.
+pub fn ticks_are_refused_alike<F, T, X>()
+    ensures once { (its : ℕ → Lent) (number : Who → ℕ) (s : Solo F T X) (p : Plain T (SoloWaker X)) → Stands its s p
+        → IsNumbered number s.sleepers p.lying → TicksAreRefused its number s p }
+    ensures later { (its : ℕ → Lent) (number : Who → ℕ) (s : Solo F T X) (p : Plain T (SoloWaker X)) → Stands its s p
+        → IsNumbered number s.sleepers p.lying → TicksLieRefused its number s p }
+{}
+
+/// A run that is made is one of the plain scheduler, also one that is refused.
+pub fn runs_begin_alike<F, T, X>()
+    ensures made { (its : ℕ → Lent) (number : Who → ℕ) (s : Solo F T X) (p : Plain T (SoloWaker X)) → Stands its s p
+        → IsNumbered number s.sleepers p.lying → RunsBegin its number s p }
+    ensures refused { (its : ℕ → Lent) (number : Who → ℕ) (s : Solo F T X) (p : Plain T (SoloWaker X)) → Stands its s p
+        → IsNumbered number s.sleepers p.lying → RunsAreUnmade its number s p }
 {}

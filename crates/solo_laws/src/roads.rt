@@ -13,6 +13,7 @@ ghost use Rattle.solo_laws.specs.Alike.{TakesAlike, WakesAlike, ReleasesAlike, U
 ghost use Rattle.solo_laws.specs.Alike.{HandlesAlike, HandleDropsAlike, PendsAlike, GivesAlike, DetachesAlike};
 ghost use Rattle.solo_laws.specs.Dropping.{GivenDropsAlike, ClosedDropsAlike, LosesAlike};
 ghost use Rattle.solo_laws.specs.Leaking.{LeaksAlike};
+ghost use Rattle.solo_laws.specs.Closing.{ClosesAlike, CloseGoesOn, IsClosing, CallsInClose, IsClosed, CallsAfterClose};
 ghost use Rattle.solo_laws.specs.Road.{Lined, SearchesAlike};
 ghost use Rattle.solo_laws.specs.Spawning.{SpawnsAlike, RefusesAlike, EmptyAlike};
 ghost use Rattle.solo_laws.specs.Tabled.{Stands, named};
@@ -113,4 +114,27 @@ pub fn an_output_goes_alike<F, T, X>()
 /// A leak, with the call of each waker that it has taken out, is one of the plain scheduler.
 pub fn a_leak_is_a_leak<F, T, X>()
     ensures { (its : ℕ → Lent) (s : Solo F T X) (p : Plain T (SoloWaker X)) → Stands its s p → LeaksAlike its s p }
+{}
+
+/// The drop of an executor that isn't static is that of the plain scheduler: its futures are dropped in the order of spawning, and the
+/// first is handed out for that.
+pub fn a_close_is_a_close<F, T, X>()
+    ensures { (its : ℕ → Lent) (s : Solo F T X) (p : Plain T (SoloWaker X)) → Stands its s p → ClosesAlike its s p }
+{}
+
+/// Once one of them is dropped the next is handed out; after the last the owner is handed the sleepers and those who await a task, to be
+/// called as the plain scheduler does, and no future.
+pub fn a_close_goes_on<F, T, X>()
+    ensures { (its : ℕ → Lent) (s : Solo F T X) (p : Plain T (SoloWaker X)) → CloseGoesOn its s p }
+{}
+
+/// What the drop of one of them calls on tasks leaves both alike, too.
+pub fn calls_in_a_close_are_alike<F, T, X>()
+    ensures { (its : ℕ → Lent) (all gone left : List ℕ) (s : Solo F T X) (p : Plain T (SoloWaker X)) → IsClosing its all gone left s p
+        → CallsInClose its s p all gone left }
+{}
+
+/// And so does what is called on tasks once the drop has come to its end.
+pub fn calls_after_a_close_are_alike<F, T, X>()
+    ensures { (its : ℕ → Lent) (s : Solo F T X) (p : Plain T (SoloWaker X)) → IsClosed its s p → CallsAfterClose its s p }
 {}

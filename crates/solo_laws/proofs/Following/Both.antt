@@ -26,13 +26,13 @@ module _ {T X : Type 0} (c : Choice) (p : Plain T (SoloWaker X)) where
   loud p = tell wakes c p
 
   -- a task becomes another, and the answer is seen
-  done_still : (f : ℕ) (h : abstract.AbstractTask T (SoloWaker X) → abstract.AbstractTask T (SoloWaker X))
+  pub done_still : (f : ℕ) (h : abstract.AbstractTask T (SoloWaker X) → abstract.AbstractTask T (SoloWaker X))
       → Still c p (let q = becomes wakes loud f (h (task f p)) p in record q { events = q.events ++ Answers Done ∷ [] })
   done_still f h =
       let q = becomes wakes loud f (h (task f p)) p in
       chain c (becomes_still c loud (tell_still c) f (h (task f p)) p) (seen_still c q (q.events ++ Answers Done ∷ []))
 
-  copy_still : (f : ℕ) → Still c p (calls.does wakes c (calls.Call.Copy f) p)
+  pub copy_still : (f : ℕ) → Still c p (calls.does wakes c (calls.Call.Copy f) p)
   copy_still f = by (calls.is_granted c.refusal)
     where
       q : Plain T (SoloWaker X)
@@ -43,7 +43,7 @@ module _ {T X : Type 0} (c : Choice) (p : Plain T (SoloWaker X)) where
       by true = chain c (put_still c f (abstract.copy (task f p)) p) (seen_still c q (q.events ++ Answers Made ∷ []))
       by false = seen_still c p (p.events ++ Answers NoMemory ∷ [])
 
-  cancelled_still : (f : ℕ) → Still c p (calls.does wakes c (calls.Call.Cancel f) p)
+  pub cancelled_still : (f : ℕ) → Still c p (calls.does wakes c (calls.Call.Cancel f) p)
   cancelled_still f =
       let q = calls.cancel wakes c f p in
       chain c (calling.cancel_still c f p) (seen_still c q (q.events ++ Answers Done ∷ []))

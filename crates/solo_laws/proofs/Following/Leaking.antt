@@ -44,7 +44,7 @@ use Rattle.solo_laws.proofs.Showing.Telling.{step, woken_shows, released_shows}
 abbrev bare : Row → Row
 bare r = (r.0, None, r.2)
 
-pushed_is : (t : Task) (q : ClosableQueue Task) → accepts q ≡ true → pushed t q ≡ appended q t
+pub pushed_is : (t : Task) (q : ClosableQueue Task) → accepts q ≡ true → pushed t q ≡ appended q t
 pushed_is t q is = by (has_place q) (is_spent q.accepted) is
   where
     by : (place spent : Bool) → (place && not spent) ≡ true → pushed_by place spent t q ≡ appended q t

@@ -184,13 +184,13 @@ accepts_more q limit is_open long short life =
 
 -- what a search leaves of a queue but its items
 module _ {B : Type 0} (ask : ClosableQueue Task → B) (same : (q : ClosableQueue Task) → ask (shortened q) ≡ ask q) where
-  popped_same : (mark other : Mark) (l : LinesValue) → ask (line_of other (popped_from mark l)) ≡ ask (line_of other l)
+  pub popped_same : (mark other : Mark) (l : LinesValue) → ask (line_of other (popped_from mark l)) ≡ ask (line_of other l)
   popped_same Plain Plain l = same l.plain
   popped_same Plain Urgent l = refl
   popped_same Urgent Plain l = refl
   popped_same Urgent Urgent l = same l.urgent
 
-  taken_same : (o : Option Task) (mark asked : Mark) (l : LinesValue) → ask (line_of asked (taken_by o mark l))
+  pub taken_same : (o : Option Task) (mark asked : Mark) (l : LinesValue) → ask (line_of asked (taken_by o mark l))
       ≡ ask (line_of asked l)
   taken_same None mark asked l = popped_same (other_mark mark) asked l
   taken_same (Some t) mark asked l = refl

@@ -48,7 +48,7 @@ only true b is = is
 only false b is = refl
 
 -- one of this mark is none of the other
-apart : (m : Mark) (d : Due) → is_common m d ≡ true → is_common (other m) d ≡ false
+pub apart : (m : Mark) (d : Due) → is_common m d ≡ true → is_common (other m) d ≡ false
 apart m d is = only (not (is_some d.keeper)) (same_mark (other m) d.mark)
     (other_mark m d.mark (both (not (is_some d.keeper)) (same_mark m d.mark) is))
 

@@ -37,7 +37,7 @@ module _ {F T X : Type 0} (its : ℕ → Lent) (number : Who → ℕ) (s : Solo 
   abbrev roomed : ℕ → Solo F T X
   roomed k = record s { sleepers = record s.sleepers { rooms = k } }
 
-  roomed_stands : (k : ℕ) → Stands its (roomed k) p
+  pub roomed_stands : (k : ℕ) → Stands its (roomed k) p
   roomed_stands k =
       let a = both.0.asleep in (
         sleeps None (named its) s p both.0 (record s.sleepers { rooms = k }) s.notified p.lying
@@ -45,7 +45,7 @@ module _ {F T X : Type 0} (its : ℕ → Lent) (number : Who → ℕ) (s : Solo 
         sleeps_tabled its s p (record s.sleepers { rooms = k }) s.notified p.lying both.1,
       )
 
-  roomed_numbered : (k : ℕ) → IsNumbered number (roomed k).sleepers p.lying
+  pub roomed_numbered : (k : ℕ) → IsNumbered number (roomed k).sleepers p.lying
   roomed_numbered k = record { wakers = n.wakers; once = n.once; few = n.few }
 
 module _ {F T X : Type 0} (its : ℕ → Lent) (number : Who → ℕ) (s : Solo F T X) (p : Plain T (SoloWaker X)) (both : Stands its s p)

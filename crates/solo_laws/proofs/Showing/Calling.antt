@@ -19,7 +19,7 @@ use Rattle.solo_laws.specs.Road.{TaskIs, IsNamed, Follows, HasLife, wakes as wak
 use Rattle.solo_laws.specs.Shown.{rings, loses_or, rings_of, rings_without, detach_shows, WakesShown, ReleasesShown}
 use Rattle.solo_laws.specs.Shown.{UsesShown}
 use Rattle.solo_laws.specs.Shown.{CancelsShown, DetachesShown, HandleDropsShown, CopiesShown}
-use Rattle.solo_laws.specs.Tabled.{Stands, named}
+use Rattle.solo_laws.specs.Tabled.{named}
 use Rattle.solo_laws.proofs.Following.Lists.{get_below}
 use Rattle.solo_laws.proofs.Following.Cells.{found, of_found, asks_found}
 use Rattle.solo_laws.proofs.Following.Changing.{task_is}
@@ -110,21 +110,21 @@ module _ {F T X : Type 0} (name : ℕ → Task) (s : Solo F T X) (p : Plain T (S
       by z None = refl
       by z (Some v) = refl
 
-module _ {F T X : Type 0} (its : ℕ → Lent) (s : Solo F T X) (p : Plain T (SoloWaker X)) (both : Stands its s p) where
+module _ {F T X : Type 0} (its : ℕ → Lent) (s : Solo F T X) (p : Plain T (SoloWaker X)) (r : Follows (named its) s p) where
   pub wakes_shown : WakesShown its s p
   wakes_shown c f at many life =
       step p.events (rings (solo.wake_answer (named its f) s).sleeper) (Answers Done ∷ [])
-      (woken_shows None (named its) c f s p at both.0 many life) refl
+      (woken_shows None (named its) c f s p at r many life) refl
 
   pub releases_shown : ReleasesShown its s p
   releases_shown c f at many life =
       step p.events (rings (solo.release_answer (named its f) s).sleeper) (Answers Done ∷ [])
-      (released_shows None (named its) c f s p at both.0 many life) refl
+      (released_shows None (named its) c f s p at r many life) refl
 
   pub uses_shown : UsesShown its s p
   uses_shown c f at many life =
       step p.events (rings (solo.wake_and_release_answer (named its f) s).sleeper) (Answers Done ∷ [])
-      (used_shows None (named its) c f s p at both.0 many life) refl
+      (used_shows None (named its) c f s p at r many life) refl
 
   pub copies_shown : CopiesShown its s p
   copies_shown c f says = by (solo.may_hold (named its f) s) says
@@ -154,10 +154,10 @@ module _ {F T X : Type 0} (its : ℕ → Lent) (s : Solo F T X) (p : Plain T (So
       let out = solo.cancel_answer (named its f) s in
       let z = solo.cancelled (named its f) s in
       three p.events (rings out.sleeper) (rings_of out.awaiter z) (Answers Done ∷ [])
-      (cancel_events (named its) s p both.0 c f at many life) refl
+      (cancel_events (named its) s p r c f at many life) refl
 
   pub detaches_shown : DetachesShown its s p
-  detaches_shown c f at many life = detach_events (named its) s p both.0 c f at many life
+  detaches_shown c f at many life = detach_events (named its) s p r c f at many life
 
   pub handle_drops_shown : HandleDropsShown its s p
   handle_drops_shown c f at many life =
@@ -167,9 +167,9 @@ module _ {F T X : Type 0} (its : ℕ → Lent) (s : Solo F T X) (p : Plain T (So
       let q = calls.cancel wakes_of c f p in
       let still = cancel_still c f p in
       three p.events (rings out.sleeper) (rings_of out.awaiter z) (detach_shows (named its f) y)
-      (cancel_events (named its) s p both.0 c f at many (three_fewer 5 s.lines life))
+      (cancel_events (named its) s p r c f at many (three_fewer 5 s.lines life))
       (detach_events (named its) y q
-      (cancels (named its) s p both.0 c f at many (three_fewer 5 s.lines life)) c f
+      (cancels (named its) s p r c f at many (three_fewer 5 s.lines life)) c f
       (subst (λ n. f < n) (sym still.futures) at)
       (subst (λ n. n ≤ c.tells) (sym still.lying) many)
       (calls_lives out.awaiter z (cancelled_lives 5 (named its f) s life)))

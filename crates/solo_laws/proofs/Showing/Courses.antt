@@ -9,7 +9,8 @@ use Rattle.plain_scheduler.specs.State.{Event, Who, Choice, Plain}
 use Rattle.plain_scheduler.specs.Calls.{Call, does, course}
 use Rattle.solo_laws.specs.Courses.{Makes, spawns, refuses, takes, looks, wakes, uses, releases, copies, polls, cancels, detaches}
 use Rattle.solo_laws.specs.Courses.{drops_handle, leaks, pends, gives, ends_given, ends_closed, loses, Acts, makes, makes_tick, tick_takes}
-use Rattle.solo_laws.specs.Courses.{tick_rests, tick_leaves, Leads, stays, leads}
+use Rattle.solo_laws.specs.Courses.{makes_run, makes_no_run, tick_rests, makes_no_tick, tick_refused, tick_lies_refused, tick_leaves, Leads}
+use Rattle.solo_laws.specs.Courses.{stays, leads}
 use Rattle.solo_laws.specs.Numbered.{IsNumbered}
 use Rattle.solo_laws.specs.Road.{wakes as wakes_of}
 use Rattle.solo_laws.specs.Tabled.{Stands}
@@ -24,6 +25,8 @@ use Rattle.solo_laws.proofs.Following.Keeping.{makes_numbered}
 use Rattle.solo_laws.proofs.Following.TickTaking.{ticks_take}
 use Rattle.solo_laws.proofs.Following.TickResting.{ticks_rest}
 use Rattle.solo_laws.proofs.Following.TickLeaving.{ticks_begin, ticks_leave}
+use Rattle.solo_laws.proofs.Following.TickRefusing.{ticks_unmade, ticks_refused, ticks_lie_refused}
+use Rattle.solo_laws.proofs.Following.Running.{runs_begin, runs_unmade}
 use Rattle.solo_laws.proofs.Showing.Telling.{step}
 use Rattle.solo_laws.proofs.Showing.Calling as calling
 use Rattle.solo_laws.proofs.Showing.Polling.{handles_shown}
@@ -59,21 +62,21 @@ module _ {F T X : Type 0} (its : ℕ → Lent) where
   makes_alike c s z p call shown so many looks =
       let it = empty_alike its s p so c in (it.1, ap (λ (q : Plain T (SoloWaker X)). q.events) it.0)
   makes_alike c s z p call shown so many (wakes f at life) =
-      (both.wakes_alike its s p so c f at many life, calling.wakes_shown its s p so c f at many life)
+      (both.wakes_alike its s p so c f at many life, calling.wakes_shown its s p so.0 c f at many life)
   makes_alike c s z p call shown so many (uses f at life) =
-      (both.uses_alike its s p so c f at many life, calling.uses_shown its s p so c f at many life)
+      (both.uses_alike its s p so c f at many life, calling.uses_shown its s p so.0 c f at many life)
   makes_alike c s z p call shown so many (releases f at life) =
-      (both.releases_alike its s p so c f at many life, calling.releases_shown its s p so c f at many life)
+      (both.releases_alike its s p so c f at many life, calling.releases_shown its s p so.0 c f at many life)
   makes_alike c s z p call shown so many (copies f at says) =
-      (both.copies_alike its s p so c f at says, calling.copies_shown its s p so c f says)
+      (both.copies_alike its s p so c f at says, calling.copies_shown its s p so.0 c f says)
   makes_alike c s z p call shown so many (polls f w at handle named life) =
-      (both.handles_alike its s p so c f w at handle named many life, handles_shown its s p so c f w at handle named many life)
+      (both.handles_alike its s p so c f w at handle named many life, handles_shown its s p so.0 c f w at handle named many life)
   makes_alike c s z p call shown so many (cancels f at life) =
-      (both.cancels_alike its s p so c f at many life, calling.cancels_shown its s p so c f at many life)
+      (both.cancels_alike its s p so c f at many life, calling.cancels_shown its s p so.0 c f at many life)
   makes_alike c s z p call shown so many (detaches f at life) =
-      (both.detaches_alike its s p so c f at many life, calling.detaches_shown its s p so c f at many life)
+      (both.detaches_alike its s p so c f at many life, calling.detaches_shown its s p so.0 c f at many life)
   makes_alike c s z p call shown so many (drops_handle f at life) =
-      (both.handle_drops_alike its s p so c f at many life, calling.handle_drops_shown its s p so c f at many life)
+      (both.handle_drops_alike its s p so c f at many life, calling.handle_drops_shown its s p so.0 c f at many life)
   makes_alike c s z p call shown so many (leaks owned life leaving) =
       (leaks_alike its c s p so owned many life leaving, leaks_shown its c s p so owned many life leaving)
   makes_alike c s z p call shown so many (pends f by rest future one stands_in life) = (
@@ -92,7 +95,7 @@ module _ {F T X : Type 0} (its : ℕ → Lent) where
   )
   makes_alike c s z p call shown so many (loses awaiter by rest one stands_in life) = (
     loses_alike its s p so c awaiter by one rest stands_in many life,
-    loses_shown its s p so c awaiter by one rest stands_in many life,
+    loses_shown its s p so.0 c awaiter by one rest stands_in many life,
   )
 
   -- so with ticks, and each that lies has its number
@@ -111,6 +114,17 @@ module _ {F T X : Type 0} (its : ℕ → Lent) where
       let it = ticks_take its number s p so n c t w task found first many life in ((it.stands, it.seen), it.numbered)
   acts_alike number c s p now z call shown so n many (tick_rests t w none first granted room names more life) =
       let it = ticks_rest its number s p so n c t w none first granted room names more life in ((it.stands, it.seen), it.numbered)
+  acts_alike number c s p now z call shown so n many (makes_run granted few) =
+      let it = (runs_begin its number s p so n c granted few).0 in ((it.stands, it.seen), it.numbered)
+  acts_alike number c s p now z call shown so n many (makes_no_run refused) =
+      let it = runs_unmade its number s p so n c refused in ((it.stands, it.seen), it.numbered)
+  acts_alike number c s p now z call shown so n many (makes_no_tick refused) =
+      let it = ticks_unmade its number s p so n c refused in ((it.stands, it.seen), it.numbered)
+  acts_alike number c s p now z call shown so n many (tick_refused t w none first refused) =
+      let it = ticks_refused its number s p so n c t w none first refused in ((it.stands, it.seen), it.numbered)
+  acts_alike number c s p now z call shown so n many (tick_lies_refused t w none first refused room names again more life) =
+      let it = (ticks_lie_refused its number s p so n c t w none first refused room names again more life).refused in
+      ((it.stands, it.seen), it.numbered)
   acts_alike number c s p now z call shown so n many (tick_leaves t life) =
       let it = ticks_leave its number s p so n c t many life in ((it.stands, it.seen), it.numbered)
 

@@ -9,26 +9,26 @@ use Rattle.plain_scheduler.specs.Moves.{tell, called, answers}
 use Rattle.plain_scheduler.specs.Takes as takes
 use Rattle.plain_scheduler.specs.Calls as calls
 use Rattle.solo_laws.specs.Dropping.{ends_one}
-use Rattle.solo_laws.specs.Road.{wakes}
+use Rattle.solo_laws.specs.Road.{Follows, wakes}
 use Rattle.solo_laws.specs.Shown.{ended_in, rings_of, call_shows, LosesShown}
-use Rattle.solo_laws.specs.Tabled.{Stands, named}
+use Rattle.solo_laws.specs.Tabled.{named}
 use Rattle.solo_laws.proofs.Following.Seeing.{seen}
 use Rattle.solo_laws.proofs.Following.Losing.{lost}
 use Rattle.solo_laws.proofs.Showing.Telling.{step}
 use Rattle.solo_laws.proofs.Showing.Calling.{calls_show}
 use Rattle.solo_laws.proofs.Showing.Ending.{next_events}
 
-module _ {F T X : Type 0} (its : ℕ → Lent) (s : Solo F T X) (p : Plain T (SoloWaker X)) (both : Stands its s p) where
+module _ {F T X : Type 0} (its : ℕ → Lent) (s : Solo F T X) (p : Plain T (SoloWaker X)) (r : Follows (named its) s p) where
   pub loses_shown : LosesShown its s p
   loses_shown c awaiter by one rest stands_in many life =
-      let two = lost (named its) (length p.futures) s.cells p.inside rest both.0.inside awaiter by stands_in in
+      let two = lost (named its) (length p.futures) s.cells p.inside rest r.inside awaiter by stands_in in
       let q : Plain T (SoloWaker X) = record p { inside = rest } in
       let called_so = on awaiter (called wakes (tell wakes c)) q in
       subst
       (λ cs. (calls.innermost wakes c cs (calls.ends wakes c) p).events ≡ p.events ++ call_shows awaiter by s)
       (sym stands_in)
       (step p.events (rings_of awaiter s) (Answers (ended_in by) ∷ [])
-      (calls_show (named its) c s q (seen (named its) s p p.events rest two.0 both.0) many life awaiter two.1)
+      (calls_show (named its) c s q (seen (named its) s p p.events rest two.0 r) many life awaiter two.1)
       (goes by one called_so))
     where
       goes : (by : Option (Taker (SoloWaker X))) → ends_one by ≡ true → (q : Plain T (SoloWaker X))

@@ -19,7 +19,7 @@ use Rattle.plain_scheduler.specs.Calls as calls
 use Rattle.solo_laws.specs.Alike.{copies, replaced_by}
 use Rattle.solo_laws.specs.Road.{IsNamed, Follows, HasLife, wakes as wakes_of}
 use Rattle.solo_laws.specs.Shown.{polled_as, rings_without, poll_shows, HandlesShown}
-use Rattle.solo_laws.specs.Tabled.{Stands, named}
+use Rattle.solo_laws.specs.Tabled.{named}
 use Rattle.solo_laws.proofs.Following.Cells.{of_found, asks_found}
 use Rattle.solo_laws.proofs.Following.Frames.{put_still, copied_still}
 use Rattle.solo_laws.proofs.Following.Handling as handling
@@ -69,7 +69,7 @@ module _ {F T X : Type 0} (name : ℕ → Task) (s : Solo F T X) (p : Plain T (S
       ∙ ap (λ o. p.events ++ rings_without o z) (sym answer)))
       refl
 
-module _ {F T X : Type 0} (its : ℕ → Lent) (s : Solo F T X) (p : Plain T (SoloWaker X)) (both : Stands its s p) where
+module _ {F T X : Type 0} (its : ℕ → Lent) (s : Solo F T X) (p : Plain T (SoloWaker X)) (r : Follows (named its) s p) where
   abbrev name : ℕ → Task
   name = named its
 
@@ -83,14 +83,14 @@ module _ {F T X : Type 0} (its : ℕ → Lent) (s : Solo F T X) (p : Plain T (So
   handles_shown c f w at handle names many life = by (abstract.polled (task f p)) refl
     where
       must : (e : abstract.Polled T) → abstract.polled (task f p) ≡ e → solo.must_wait (name f) s ≡ local.waits_by e
-      must e is = waits_is name s p both.0 f at handle ∙ ap local.waits_by is
+      must e is = waits_is name s p r f at handle ∙ ap local.waits_by is
 
       answers : (e : abstract.Polled T) → abstract.polled (task f p) ≡ e → local.waits_by e ≡ false
           → poll_shows (calls.is_granted c.refusal) (name f) w s ≡ Answers (polled_as (local.poll_answer_by e w (task f p))) ∷ []
       answers e is none =
           ap (λ b. choose b (waiting f w (calls.is_granted c.refusal)) (Answers (polled_as (solo.poll_answer (name f) w s)) ∷ []))
           (must e is ∙ none)
-          ∙ ap (λ a. Answers (polled_as a) ∷ []) (answer_is name s p both.0 f w at handle e is)
+          ∙ ap (λ a. Answers (polled_as a) ∷ []) (answer_is name s p r f w at handle e is)
 
       waits : abstract.polled (task f p) ≡ abstract.Polled.Waits → (b : Bool)
           → ((t : Task) → w ≡ OfTask t → IsNamed name (length p.futures) t × (b ≡ solo.may_hold t s))
@@ -101,7 +101,7 @@ module _ {F T X : Type 0} (its : ℕ → Lent) (s : Solo F T X) (p : Plain T (So
       waits is true names =
           let q = copied wakes_of w p in
           let still = copied_still c w p in
-          registers_show name (copies w s) q (copies_it name c s p both.0 w names) c f w
+          registers_show name (copies w s) q (copies_it name c s p r w names) c f w
           (subst (λ n. f < n) (sym still.futures) at)
           (copied_asks (λ t. t.handle) (λ t. refl) w f p ∙ handle)
           (copied_asks (λ t. abstract.polled t) (λ t. refl) w f p ∙ is)

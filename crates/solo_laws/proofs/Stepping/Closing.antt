@@ -29,10 +29,10 @@ use Rattle.solo_laws.specs.Going.{Going, Out, Step, calm, quiet}
 use Rattle.solo_laws.specs.Seen.{first, named_by, seen_next}
 use Rattle.solo_laws.specs.Done as done
 use Rattle.solo_laws.specs.Goes.{goes}
-use Rattle.solo_laws.specs.HandedOut.{ends, telling, owing, handing}
+use Rattle.solo_laws.specs.HandedOut.{telling, owing, handing}
 use Rattle.solo_laws.specs.EndsGo.{LeaksGo, LeakNextsGo, ClosesGo, DrainsGo, leaks_on, leaks_next, telling_if, drains, drains_line}
-use Rattle.solo_laws.specs.PollsGo.{taken_back, left_by_place}
-use Rattle.solo_laws.proofs.Stepping.Telling.{two, nine, free, appends, lets_go, alone, telling_in}
+use Rattle.solo_laws.specs.PollsGo.{left_by_place}
+use Rattle.solo_laws.proofs.Stepping.Telling.{two, nine, appends, lets_go, alone, telling_in}
 use Rattle.solo_laws.proofs.Stepping.Ending.{takes_back}
 use Rattle.solo_laws.proofs.Ending.{woken_rests}
 use Rattle.solo_laws.proofs.Loosening.{queues_not}

@@ -1,5 +1,5 @@
 -- Steps that end at any depth from some on, put together.
-use Rattle.std.proofs.Common.{◌≡◌, ℕ, zero, suc, ◌+◌, ◌-◌, ◌≤◌, Bool, true, false, List, [], ◌∷◌, refl, ap, subst, ◌∙◌, arith}
+use Rattle.std.proofs.Common.{◌≡◌, ℕ, zero, suc, ◌+◌, ◌-◌, ◌≤◌, Bool, false, List, [], ◌∷◌, refl, ap, subst, ◌∙◌, arith}
 use Rattle.solo_laws.specs.Going.{Going, Step}
 use Rattle.solo_laws.specs.Seen.{sees}
 use Rattle.solo_laws.specs.Done.{does, behind}

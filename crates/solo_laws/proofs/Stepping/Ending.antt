@@ -1,5 +1,5 @@
 -- The end of a poll and of a future's drop go as `next` says, and a task that is taken back.
-use Rattle.std.proofs.Common.{◌≡◌, ℕ, suc, ◌==◌, Bool, true, false, [], ◌∷◌, Option, Some, None, is_some, refl, ap, sym, subst, ◌∙◌}
+use Rattle.std.proofs.Common.{◌≡◌, ℕ, suc, ◌==◌, Bool, true, false, [], ◌∷◌, Option, Some, None, is_some, refl, ap, sym, ◌∙◌}
 use Rattle.slab.specs.Slab.{get}
 use Rattle.executor_parts.specs.declared.places.EntryPlace.{EntryPlace}
 use Rattle.executor_parts.specs.Places.{entry_in, future_of, parts_of}
@@ -25,7 +25,6 @@ use Rattle.solo.specs.declared.cells.Cells.{Cells}
 use Rattle.solo.specs.declared.cells.After.{After}
 use Rattle.solo.specs.declared.cells.After.TheVariants.{Unknown}
 use Rattle.solo.specs.declared.owed.Lent.{Lent}
-use Rattle.solo.specs.declared.owed.Told.{Told}
 use Rattle.solo.specs.declared.solo.Solo.{Solo}
 use Rattle.solo.specs.declared.turns.Left.{Left}
 use Rattle.solo.specs.Cells.{Kept, choose, asked, asked_by}
@@ -34,16 +33,15 @@ use Rattle.solo.specs.Closing as closing
 use Rattle.solo.specs.Solo as solo
 use Rattle.solo.specs.Turns as turns
 use Rattle.solo.specs.Turns.{turned, left_by_parts, left_answer_by, let_go, let_go_answer, without}
-use Rattle.solo_laws.specs.Going.{Going, Out, Step, calm, quiet}
+use Rattle.solo_laws.specs.Going.{Going, Out, calm, quiet}
 use Rattle.solo_laws.specs.Seen.{seen_back, has_waker, notify, ends_by, poll_end}
 use Rattle.solo_laws.specs.Done.{either, future_in, swept_by, leaves}
 use Rattle.solo_laws.specs.Done as done
 use Rattle.solo_laws.specs.Goes.{goes}
 use Rattle.solo_laws.specs.HandedOut.{first_use, telling, owing, use_of}
-use Rattle.solo_laws.specs.PollsGo.{ReadySettlesGo, PendingSettlesGo, FinishesGo, FinishesBy, RetractsGo, waker_in, at, left_by_end}
-use Rattle.solo_laws.specs.PollsGo.{left_by_future, left_by_place, taken_back, IsOwn}
-use Rattle.solo_laws.proofs.Stepping.Telling.{two, five, nine, free, lets_go, alone, telling_in, appends}
-use Rattle.solo_laws.proofs.Stepping.Paying.{calls}
+use Rattle.solo_laws.specs.PollsGo.{ReadySettlesGo, PendingSettlesGo, FinishesGo, RetractsGo, waker_in, at, left_by_end}
+use Rattle.solo_laws.specs.PollsGo.{left_by_future, left_by_place, taken_back}
+use Rattle.solo_laws.proofs.Stepping.Telling.{two, nine, free, lets_go, alone, appends}
 use Rattle.solo_laws.proofs.Stepping.Taking.{either_none}
 
 abbrev after_of : Option abstract.PendingEnd → After

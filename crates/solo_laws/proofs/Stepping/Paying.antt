@@ -9,7 +9,7 @@ use Rattle.solo.specs.declared.names.Task.{Task}
 use Rattle.solo.specs.declared.names.SoloWaker.{SoloWaker}
 use Rattle.solo.specs.declared.names.SoloWaker.TheVariants.{Task as OfTask, Outside}
 use Rattle.solo.specs.Turns.{scheduled_if, schedule_if_answer}
-use Rattle.solo_laws.specs.Going.{Going, Out, Step}
+use Rattle.solo_laws.specs.Going.{Going}
 use Rattle.solo_laws.specs.Seen.{notify}
 use Rattle.solo_laws.specs.Done.{either}
 use Rattle.solo_laws.specs.Goes.{goes}

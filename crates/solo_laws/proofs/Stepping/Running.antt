@@ -1,5 +1,5 @@
 -- The making of a run, its first poll and its leave go as `next` says.
-use Rattle.std.proofs.Common.{◌≡◌, ℕ, false, List, [], ◌∷◌, Option, Some, None, refl, ap, ◌∙◌}
+use Rattle.std.proofs.Common.{◌≡◌, Option, Some, None, refl, ap, ◌∙◌}
 use Rattle.call_steps.specs.declared.names.TickOrRun.TheVariants as tick_or_run
 use Rattle.call_steps.specs.declared.reply.Reply.TheVariants as reply
 use Rattle.call_steps.specs.declared.step.run.RunStep.TheVariants as run_step
@@ -11,7 +11,7 @@ use Rattle.solo.specs.declared.runs.Runner.{Runner}
 use Rattle.solo.specs.declared.solo.Solo.{Solo}
 use Rattle.solo.specs.Runs as runs
 use Rattle.solo.specs.Turns.{scheduled, schedule_answer}
-use Rattle.solo_laws.specs.Going.{Going, Out, calm, quiet}
+use Rattle.solo_laws.specs.Going.{Out, calm, quiet}
 use Rattle.solo_laws.specs.Goes.{goes}
 use Rattle.solo_laws.specs.RunsGo.{RunsBegin, RunsRegister, RunLeavesGo, RunDrainsGo, DrainsAs, again, run_drained}
 use Rattle.solo_laws.proofs.Stepping.Telling.{appends, alone}

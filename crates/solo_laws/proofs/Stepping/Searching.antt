@@ -39,7 +39,6 @@ use Rattle.solo.specs.Ticks as ticks
 use Rattle.solo_laws.specs.Going.{Going, Step}
 use Rattle.solo_laws.specs.Seen.{first, name_of, found_or, sleeps, source_of, walk_at, walk_from}
 use Rattle.solo_laws.specs.Done.{walks_to}
-use Rattle.solo_laws.specs.Goes.{goes}
 use Rattle.solo_laws.specs.HandedOut.{start_of}
 use Rattle.solo_laws.specs.TicksGo.{has_place, is_again, lies, looks_again}
 use Rattle.solo_laws.specs.SearchesGo.{Ends, behind_run, calls_own, of_run, run_at, run_searched, run_ticked, to_run_on}

@@ -1,5 +1,5 @@
 -- Spawns and takes go as `next` says.
-use Rattle.std.proofs.Common.{◌≡◌, ℕ, suc, Bool, true, false, not, [], ◌∷◌, Option, Some, None, Ok, refl, ap, sym, subst, ◌∙◌}
+use Rattle.std.proofs.Common.{◌≡◌, ℕ, suc, Bool, true, false, not, [], ◌∷◌, Option, Some, None, refl, ap, sym, ◌∙◌}
 use Rattle.executor_parts.specs.declared.mark.Mark.{Mark}
 use Rattle.executor_parts.specs.declared.places.EntryPlace.{EntryPlace}
 use Rattle.executor_parts.specs.Marks.{other}
@@ -17,24 +17,22 @@ use Rattle.call_steps.specs.Next.{next_queue, next_table}
 use Rattle.call_steps.specs.Owing.{owed}
 use Rattle.call_steps.specs.Seeing.{seen}
 use Rattle.solo.specs.declared.names.Task.{Task}
-use Rattle.solo.specs.declared.owed.SpawnError.{SpawnError}
 use Rattle.solo.specs.declared.owed.SpawnError.TheVariants.{Full, NoMemory}
-use Rattle.solo.specs.declared.owed.Spawned.{Spawned}
 use Rattle.solo.specs.declared.owed.Told.{Told}
 use Rattle.solo.specs.declared.solo.Solo.{Solo}
 use Rattle.solo.specs.Cells.{choose, asked}
 use Rattle.solo.specs.Cells as cells
-use Rattle.solo.specs.Lines.{LinesValue, first_of, popped_from, mark_of_turn, turned, taken_by, found_by}
+use Rattle.solo.specs.Lines.{first_of, popped_from, mark_of_turn, turned, taken_by, found_by}
 use Rattle.solo.specs.Solo as solo
 use Rattle.solo.specs.Solo.{sought, popped}
 use Rattle.solo.specs.Table.{Same, TableValue}
 use Rattle.solo.specs.Turns as turns
-use Rattle.solo_laws.specs.Going.{Going, Out, Step, calm, quiet}
+use Rattle.solo_laws.specs.Going.{Going, calm, quiet}
 use Rattle.solo_laws.specs.Seen.{begins_by, first}
 use Rattle.solo_laws.specs.Done.{either, gone_if}
 use Rattle.solo_laws.specs.Goes.{goes}
 use Rattle.solo_laws.specs.HandedOut.{ends, telling, runs, to_run, reply_if}
-use Rattle.solo_laws.specs.CallsGo.{SpawnsGo, RefusalsGo, LooksGo, TakesGo, tried, TriesAs}
+use Rattle.solo_laws.specs.CallsGo.{SpawnsGo, RefusalsGo, LooksGo, TakesGo, tried}
 use Rattle.solo_laws.proofs.Stepping.Telling.{two, five, nine, free, tells, appends, alone}
 
 pub either_none : {B : Type 0} → (w : Option B) → either w None ≡ w

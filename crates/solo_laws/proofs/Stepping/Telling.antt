@@ -1,5 +1,5 @@
 -- A sleeper is told, a task queued and a waker let go, as `next` says.
-use Rattle.std.proofs.Common.{◌≡◌, ℕ, suc, Bool, true, false, not, ◌++◌, List, [], ◌∷◌, Option, Some, None, refl, sym, ap, ◌∙◌}
+use Rattle.std.proofs.Common.{◌≡◌, ℕ, suc, Bool, true, false, not, [], ◌∷◌, Option, Some, None, refl, sym, ap, ◌∙◌}
 use Rattle.executor_parts.specs.Sleepers.{last_waker, without_last}
 use Rattle.call_steps.specs.declared.saw.Saw.TheVariants as saw
 use Rattle.call_steps.specs.declared.step.CallStep.TheVariants as step
@@ -17,9 +17,9 @@ use Rattle.solo.specs.declared.owed.Told.{Told}
 use Rattle.solo.specs.declared.solo.Solo.{Solo}
 use Rattle.solo.specs.Cells.{choose, asked}
 use Rattle.solo.specs.Cells as cells
-use Rattle.solo.specs.Turns.{turned, swept, lined, lined_if, takes, is_full, outside, told, told_waker, handed, handed_by, sleeper_woken}
+use Rattle.solo.specs.Turns.{turned, swept, lined, lined_if, takes, is_full, outside, told, told_waker, handed, handed_by}
 use Rattle.solo.specs.Turns.{schedule_answer, scheduled, scheduled_if, schedule_if_answer, let_go, let_go_answer}
-use Rattle.solo_laws.specs.Going.{Going, Out, Step, quiet}
+use Rattle.solo_laws.specs.Going.{Going, Out}
 use Rattle.solo_laws.specs.Seen.{handed_out}
 use Rattle.solo_laws.specs.Done.{either, leaves, handed_back, swept_by}
 use Rattle.solo_laws.specs.Goes.{goes}

@@ -1,5 +1,5 @@
 -- Ticks go as `next` says.
-use Rattle.std.proofs.Common.{◌≡◌, ℕ, suc, ◌||◌, nat_lt, Bool, true, false, List, [], ◌∷◌, Option, Some, None, refl, ap, sym, ◌∙◌}
+use Rattle.std.proofs.Common.{◌≡◌, ℕ, suc, ◌||◌, nat_lt, Bool, true, false, List, [], ◌∷◌, Option, Some, None, refl, ap, ◌∙◌}
 use Rattle.executor_parts.specs.declared.mark.Mark.{Mark}
 use Rattle.executor_parts.specs.declared.places.EntryPlace.{EntryPlace}
 use Rattle.executor_parts.specs.Marks.{other}
@@ -40,7 +40,7 @@ use Rattle.solo.specs.Turns.{told, told_waker, is_full, outside, handed, handed_
 use Rattle.solo.specs.Runs as running
 use Rattle.solo.specs.Ticks as ticks
 use Rattle.solo.specs.Ticks.{told_unless, tell_unless_answer, waker_dropped, drop_waker_answer, its_room}
-use Rattle.solo_laws.specs.Going.{Going, Out, Step, calm, quiet}
+use Rattle.solo_laws.specs.Going.{Going, Out, calm, quiet}
 use Rattle.solo_laws.specs.Seen.{first_by, sleeps, name_if, fell_again}
 use Rattle.solo_laws.specs.Done.{either, slept_anew, slept_again}
 use Rattle.solo_laws.specs.Goes.{goes}

@@ -1,8 +1,7 @@
 -- Wakes, and the calls of a handle that queue a task, go as `next` says.
-use Rattle.std.proofs.Common.{◌≡◌, ℕ, Bool, false, [], ◌∷◌, Option, Some, None, is_some, refl, ap, ◌∙◌}
+use Rattle.std.proofs.Common.{◌≡◌, Bool, false, [], ◌∷◌, Option, Some, None, is_some, refl, ap, ◌∙◌}
 use Rattle.call_steps.specs.declared.reply.Reply.TheVariants as reply
 use Rattle.call_steps.specs.declared.step.CallStep.TheVariants as step
-use Rattle.solo.specs.declared.names.Task.{Task}
 use Rattle.solo.specs.declared.names.SoloWaker.{SoloWaker}
 use Rattle.solo.specs.declared.owed.Told.{Told}
 use Rattle.solo.specs.declared.solo.Solo.{Solo}
@@ -10,7 +9,7 @@ use Rattle.solo.specs.Cells.{asked}
 use Rattle.solo.specs.Cells as cells
 use Rattle.solo.specs.Solo as solo
 use Rattle.solo.specs.Turns.{turned, schedule_if_answer, let_go_answer}
-use Rattle.solo_laws.specs.Going.{Going, Out, Step, calm, quiet}
+use Rattle.solo_laws.specs.Going.{Going, Out, calm, quiet}
 use Rattle.solo_laws.specs.Done.{either, swept_by}
 use Rattle.solo_laws.specs.Goes.{goes}
 use Rattle.solo_laws.specs.HandedOut.{ends}

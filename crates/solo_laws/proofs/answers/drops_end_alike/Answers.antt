@@ -9,4 +9,4 @@ pub returns-clause-closed : goal.returns-clause-closed
 returns-clause-closed g c its s p both = closed_drops_shown its s p both
 
 pub returns-clause-loses : goal.returns-clause-loses
-returns-clause-loses g c its s p both = loses_shown its s p both
+returns-clause-loses g c its s p both = loses_shown its s p both.0

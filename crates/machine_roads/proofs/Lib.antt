@@ -23,7 +23,9 @@ pub mod Calling
 pub mod PollCalls
 pub mod Trying
 pub mod Pending
+pub mod Losing
 pub mod Tying
 pub mod Having
 pub mod LoneRuns
 pub mod LoneCalls
+pub mod LoneLosing

@@ -35,7 +35,7 @@ use Rattle.machine_roads.proofs.LoneRuns.{lone_calls, lone_calls_so, lone_calls_
 use Rattle.machine_roads.proofs.PollCalls.{polls}
 use Rattle.machine_roads.proofs.Polling.{waits_poll}
 
-each : (So : Machine → Plain Output Waker → Type 0)
+pub each : (So : Machine → Plain Output Waker → Type 0)
     → ((s : Machine) → Reached s → (q : Plain Output Waker) → IsQuiet s.world.trace → Follows s.world q → So s q)
     → EachLoneAlike So
 each So so limit kind parties steps q quiet follows =

@@ -5,4 +5,5 @@ pub mod Road
 pub mod Alone
 pub mod Alike
 pub mod Stopped
+pub mod Losing
 pub mod Lone

@@ -1,6 +1,6 @@
 -- When a lone call of a machine at rest leaves it where the plain scheduler's call leaves that, as long as the executor's drop
 -- hasn't begun.
-use Rattle.std.specs.Prelude.{◌≡◌, ℕ, ◌≤◌, false, not, List, [], ◌∷◌, length, Some, None}
+use Rattle.std.specs.Prelude.{◌≡◌, ℕ, ◌≤◌, true, false, not, List, [], ◌∷◌, length, Some, None, is_some}
 use Rattle.executor_parts.specs.declared.mark.Mark.{Mark}
 use Rattle.task_moves.specs.AbstractTask as abstract
 use Rattle.task_moves.specs.AbstractTask.Polled.{Waits}
@@ -19,7 +19,8 @@ use Rattle.executor_model.specs.World.{task}
 use Rattle.executor_laws.specs.LoneEnds.{IsLoneCall}
 use Rattle.plain_scheduler.specs.State.{Choice, Plain}
 use Rattle.plain_scheduler.specs.Moves as plain
-use Rattle.plain_scheduler.specs.Calls.{does, is_granted, Spawn, Wake, Use, Copy, Release, Cancel, Detach, DropHandle, PollHandle, IsEmpty}
+use Rattle.plain_scheduler.specs.Calls.{does, is_granted, Spawn, Wake, Use, Copy, Release, Cancel, Detach, DropHandle, PollHandle}
+use Rattle.plain_scheduler.specs.Calls.{Ends, IsEmpty}
 use Rattle.machine_roads.specs.View.{Output, wakes}
 use Rattle.machine_roads.specs.Alike.{begins, LeavesAlike}
 use Rattle.machine_roads.specs.Road.{Follows}
@@ -83,6 +84,17 @@ module _ (s : Machine) (q : Plain Output Waker) where
   LoneHandleGoes =
       (p f : ℕ) (c : Choice) (steps : List Step) → (plain.task f q).output ≡ None → length q.lying ≤ c.tells
       → LeadsTo s p (call.DropHandle f) steps (does wakes c (DropHandle f) q)
+
+  -- and of one whose output is there, with the end of the output's drop
+  abbrev pub LoneDetachLoses : Type 0
+  LoneDetachLoses =
+      (p f : ℕ) (c d : Choice) (steps : List Step) → is_some (plain.task f q).output ≡ true
+      → LeadsTo s p (call.Detach f) steps (does wakes d Ends (does wakes c (Detach f) q))
+
+  abbrev pub LoneGoesWithOutput : Type 0
+  LoneGoesWithOutput =
+      (p f : ℕ) (c d : Choice) (steps : List Step) → is_some (plain.task f q).output ≡ true
+      → LeadsTo s p (call.DropHandle f) steps (does wakes d Ends (does wakes c (DropHandle f) q))
 
   -- where it finds an answer, or where it has to wait
   abbrev pub LoneHandlePolls : Type 0

@@ -2,6 +2,7 @@
 ghost use Rattle.executor_model.specs.Executions.{EveryMachine};
 ghost use Rattle.machine_roads.specs.Lone.{EachLoneAlike, LoneCallIsAlone, LoneCancels, LoneCopies};
 ghost use Rattle.machine_roads.specs.Lone.{LoneEmpty, LoneSpawns, LoneUses, LoneWakerGoes};
+ghost use Rattle.machine_roads.specs.Lone.{LoneDetachLoses, LoneGoesWithOutput};
 ghost use Rattle.machine_roads.specs.Lone.{LoneDetaches, LoneHandleGoes, LoneHandlePolls};
 ghost use Rattle.machine_roads.specs.Lone.{LoneHandleWaits, LoneWakes};
 
@@ -37,6 +38,12 @@ pub fn lone_cancels_are_cancels()
 pub fn lone_handles_go_alike()
     ensures detaches { EachLoneAlike LoneDetaches }
     ensures drops { EachLoneAlike LoneHandleGoes }
+{}
+
+/// And of one whose output is there, with the end of the output's drop.
+pub fn lone_handles_go_with_outputs()
+    ensures detaches { EachLoneAlike LoneDetachLoses }
+    ensures drops { EachLoneAlike LoneGoesWithOutput }
 {}
 
 /// So does a lone poll of a handle, whether it finds an answer or has to wait, also where the copy of

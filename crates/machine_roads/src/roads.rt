@@ -9,6 +9,7 @@ ghost use Rattle.machine_roads.specs.Alike.{CancelsAlike, CopiesAlike, DetachesA
 ghost use Rattle.machine_roads.specs.Alike.{EmptyAlike, HandleGoesAlike, HandlePollsAlike, KeepsAlike};
 ghost use Rattle.machine_roads.specs.Alike.{SpawnsAlike, UsesAlike, WakesAlike, WakesItselfAlike};
 ghost use Rattle.machine_roads.specs.Alike.{WakerGoesAlike};
+ghost use Rattle.machine_roads.specs.Losing.{DetachesToLose, GoesToLose, LosesAlike};
 ghost use Rattle.machine_roads.specs.Road.{Follows};
 ghost use Rattle.machine_roads.specs.Stopped.{GivesAlikeInTry, PendsAlikeInTry, TriesAlike};
 
@@ -50,6 +51,18 @@ pub fn a_detach_is_a_detach()
 /// So does the drop of such a handle, which cancels and detaches.
 pub fn a_handle_goes_alike()
     ensures { EachAlike HandleGoesAlike }
+{}
+
+/// Of a future whose output is there a detach, and the drop of its handle, come to the drop of the
+/// output, where both stand alike but for the handle.
+pub fn a_handle_comes_to_lose()
+    ensures detaches { EachAlike DetachesToLose }
+    ensures drops { EachAlike GoesToLose }
+{}
+
+/// From the end of that drop on both are alike.
+pub fn a_loss_ends_alike()
+    ensures { LosesAlike }
 {}
 
 /// So does a poll of a handle, with a copy of its waker where it has to wait, also one that is

@@ -24,6 +24,11 @@ pub mod PollCalls
 pub mod Trying
 pub mod Pending
 pub mod Losing
+pub mod Ending
+pub mod Dropped
+pub mod RunEnding
+pub mod Lain
+pub mod Ticking
 pub mod Tying
 pub mod Having
 pub mod LoneRuns

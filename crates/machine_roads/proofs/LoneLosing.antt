@@ -6,8 +6,9 @@ use Rattle.executor_model.specs.declared.call.Call.TheVariants as call
 use Rattle.executor_model.specs.declared.op.Op.{Op}
 use Rattle.executor_model.specs.declared.op.Op.TheVariants as op
 use Rattle.executor_model.specs.declared.op.UserOp.TheVariants as user_op
+use Rattle.executor_model.specs.declared.op.Waker.{Waker}
 use Rattle.executor_model.specs.declared.step.Step.{Step}
-use Rattle.executor_model.specs.declared.step.Step.TheVariants.{Answer}
+use Rattle.executor_model.specs.declared.step.Step.TheVariants.{Answer, Begin}
 use Rattle.executor_model.specs.Executions.{run_all}
 use Rattle.executor_model.specs.Quiet.{IsQuiet}
 use Rattle.executor_model.specs.Steps.{Machine, after, react, stack}
@@ -77,7 +78,7 @@ from_loss s new reached p f c steps q r d later lone last (Inside x) =
 loses_so : (s : Machine) → Reached s → (p f : ℕ) (c : Call) (steps : List Step) (q r : Plain Output Waker) (d : Choice)
     → IsQuiet s.world.trace → ComesToLose p f [] (begins p None c s.world) q r → LeadsTo s p c steps (does wakes d Ends r)
 loses_so s reached p f c steps q r d quiet comes new later lone =
-    from_loss s new reached p f c steps q r d later lone (reached-more _ s new reached lone.made)
+    from_loss s new reached p f c steps q r d later lone (reached-more (Begin p c ∷ steps) s new reached lone.made)
     (lone_calls_rest s reached p c steps new (λ e. StopsLosing f [] q e r) quiet later comes lone)
 
 pub lone_detach_loses : EachLoneAlike LoneDetachLoses

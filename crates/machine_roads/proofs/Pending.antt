@@ -42,7 +42,7 @@ use Rattle.machine_roads.proofs.Stepping.{Way, next}
 use Rattle.machine_roads.proofs.Trying.{places_so, stands_in, stops_at, tell_inside}
 
 -- a task becomes another in the code in which calls stand
-becomes_inside : (c : Choice) (f : ℕ) (new : AbstractTask Output Waker) (q : Plain Output Waker)
+pub becomes_inside : (c : Choice) (f : ℕ) (new : AbstractTask Output Waker) (q : Plain Output Waker)
     → (becomes wakes (tell wakes c) f new q).inside ≡ q.inside
 becomes_inside c f new q = by (is_some (info_of (task f q) new))
   where

@@ -6,4 +6,6 @@ pub mod Alone
 pub mod Alike
 pub mod Stopped
 pub mod Losing
+pub mod Dropped
+pub mod Ticking
 pub mod Lone

@@ -20,10 +20,11 @@ use Rattle.executor_laws.specs.LoneEnds.{IsLoneCall}
 use Rattle.plain_scheduler.specs.State.{Choice, Plain}
 use Rattle.plain_scheduler.specs.Moves as plain
 use Rattle.plain_scheduler.specs.Calls.{does, is_granted, Spawn, Wake, Use, Copy, Release, Cancel, Detach, DropHandle, PollHandle}
-use Rattle.plain_scheduler.specs.Calls.{Ends, IsEmpty}
+use Rattle.plain_scheduler.specs.Calls.{DropTick, Ends, IsEmpty, NewTick}
 use Rattle.machine_roads.specs.View.{Output, wakes}
 use Rattle.machine_roads.specs.Alike.{begins, LeavesAlike}
 use Rattle.machine_roads.specs.Road.{Follows}
+use Rattle.machine_roads.specs.Ticking.{Rests}
 
 -- a call that leaves the world so leaves the machine so
 abbrev pub LoneCallIsAlone : Machine → Type 0
@@ -108,6 +109,17 @@ module _ (s : Machine) (q : Plain Output Waker) where
       → abstract.polled (plain.task f q) ≡ Waits → length q.lying ≤ c.tells
       → is_granted c.refusal ≡ not (is_copy_refused h s.world (waker_of None b))
       → LeadsTo s p (call.PollHandle f b) (Go p g ∷ Go p h ∷ steps) (does wakes c (PollHandle f (waker_of None b)) q)
+
+  -- a tick is made, or that is refused, and goes
+  abbrev pub LoneTickIsMade : Type 0
+  LoneTickIsMade =
+      (p : ℕ) (c : Choice) (h : Hint) (steps : List Step) → is_granted c.refusal ≡ not h.refused
+      → LeadsTo s p call.NewTick (Go p h ∷ steps) (does wakes c NewTick q)
+
+  abbrev pub LoneTickGoes : Type 0
+  LoneTickGoes =
+      (p t : ℕ) (c : Choice) (steps : List Step) → Rests s.world q t → length q.lying ≤ c.tells
+      → LeadsTo s p (call.DropTick t) steps (does wakes c (DropTick t) q)
 
   abbrev pub LoneEmpty : Type 0
   LoneEmpty = (p : ℕ) (c : Choice) (steps : List Step) → LeadsTo s p call.IsEmpty steps (does wakes c IsEmpty q)

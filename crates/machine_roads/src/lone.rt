@@ -4,7 +4,7 @@ ghost use Rattle.machine_roads.specs.Lone.{EachLoneAlike, LoneCallIsAlone, LoneC
 ghost use Rattle.machine_roads.specs.Lone.{LoneEmpty, LoneSpawns, LoneUses, LoneWakerGoes};
 ghost use Rattle.machine_roads.specs.Lone.{LoneDetachLoses, LoneGoesWithOutput};
 ghost use Rattle.machine_roads.specs.Lone.{LoneDetaches, LoneHandleGoes, LoneHandlePolls};
-ghost use Rattle.machine_roads.specs.Lone.{LoneHandleWaits, LoneWakes};
+ghost use Rattle.machine_roads.specs.Lone.{LoneHandleWaits, LoneTickGoes, LoneTickIsMade, LoneWakes};
 
 /// What a call leaves of the world, however it is told, a lone call leaves of each machine at rest,
 /// as long as the executor's drop hasn't begun: so it is here and below.
@@ -56,6 +56,13 @@ pub fn lone_polls_of_handles_are_polls()
 /// So does a lone spawn, also one that is refused.
 pub fn lone_spawns_are_spawns()
     ensures { EachLoneAlike LoneSpawns }
+{}
+
+/// So does the lone making of a tick, also one that is refused, and its drop, where it lies in both
+/// under its own number (`Rests`).
+pub fn lone_ticks_are_made_and_go()
+    ensures makes { EachLoneAlike LoneTickIsMade }
+    ensures drops { EachLoneAlike LoneTickGoes }
 {}
 
 /// And so it is asked alone whether the executor is empty.

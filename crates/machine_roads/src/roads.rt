@@ -9,8 +9,10 @@ ghost use Rattle.machine_roads.specs.Alike.{CancelsAlike, CopiesAlike, DetachesA
 ghost use Rattle.machine_roads.specs.Alike.{EmptyAlike, HandleGoesAlike, HandlePollsAlike, KeepsAlike};
 ghost use Rattle.machine_roads.specs.Alike.{SpawnsAlike, UsesAlike, WakesAlike, WakesItselfAlike};
 ghost use Rattle.machine_roads.specs.Alike.{WakerGoesAlike};
+ghost use Rattle.machine_roads.specs.Dropped.{DropsAlikeInTry, LosesAlikeInTry};
 ghost use Rattle.machine_roads.specs.Losing.{DetachesToLose, GoesToLose, LosesAlike};
 ghost use Rattle.machine_roads.specs.Road.{Follows};
+ghost use Rattle.machine_roads.specs.Ticking.{TickGoesAlike, TickIsMadeAlike};
 ghost use Rattle.machine_roads.specs.Stopped.{GivesAlikeInTry, PendsAlikeInTry, TriesAlike};
 
 /// A new machine stands where the new plain scheduler does.
@@ -91,6 +93,28 @@ pub fn an_end_without_output_ends_alike()
 /// And so does its end with an output.
 pub fn an_end_with_output_ends_alike()
     ensures { EachAlike GivesAlikeInTry }
+{}
+
+/// And so does the end of the future's drop: the try is answered, or has come to the drop of an output
+/// that nobody can take, where both stand alike but for the run's reference and who awaits the task.
+pub fn an_end_of_a_drop_ends_alike()
+    ensures { EachAlike DropsAlikeInTry }
+{}
+
+/// From the end of that drop on both are alike.
+pub fn a_loss_in_a_try_ends_alike()
+    ensures { LosesAlikeInTry }
+{}
+
+/// A tick is made alike, also where that is refused.
+pub fn a_tick_is_made_alike()
+    ensures { EachAlike TickIsMadeAlike }
+{}
+
+/// A tick that is dropped leaves both alike, whether it lay, was called or neither, where it lies in
+/// both under its own number (`Rests`).
+pub fn a_tick_goes_alike()
+    ensures { EachAlike TickGoesAlike }
 {}
 
 /// And both say alike whether they are empty.

@@ -10,24 +10,23 @@ use Rattle.task_moves.specs.AbstractTask as abstract
 use Rattle.task_moves.specs.AbstractTask.{AbstractTask, Finished}
 use Rattle.task_moves.specs.LocalTask.{phase_of, told, token}
 use Rattle.task_moves.specs.Moves as moves
-use Rattle.executor_model.specs.declared.call.Reply.TheVariants as reply
 use Rattle.executor_model.specs.declared.op.Awaiter.{Awaiter}
 use Rattle.executor_model.specs.declared.op.HandleOp.TheVariants as handle_op
-use Rattle.executor_model.specs.declared.op.Hold.TheVariants as hold
 use Rattle.executor_model.specs.declared.op.Op.{Op}
 use Rattle.executor_model.specs.declared.op.Op.TheVariants as op
 use Rattle.executor_model.specs.declared.op.Waker.{Waker}
 use Rattle.executor_model.specs.Carried.{owed_ops}
 use Rattle.executor_model.specs.World.{World, Done, among, awaiter_of, blank}
 use Rattle.executor_model.specs.World as world
-use Rattle.plain_scheduler.specs.State.{Choice, Future, Plain, Yes}
+use Rattle.plain_scheduler.specs.State.{Choice, Future, Plain, Taker}
 use Rattle.plain_scheduler.specs.Lists.{on}
-use Rattle.plain_scheduler.specs.Moves.{answers, called, put, task, tell}
+use Rattle.plain_scheduler.specs.Moves.{called, put, task, tell}
+use Rattle.plain_scheduler.specs.Takes as plain_takes
 use Rattle.machine_roads.specs.View.{Output, view, wakes, waker_in}
 use Rattle.machine_roads.specs.Road.{Follows, IsStored}
 use Rattle.machine_roads.specs.Alone.{is_resting}
 use Rattle.machine_roads.specs.Dropped.{IsEnding, rest_of, without_run}
-use Rattle.machine_roads.proofs.Calling.{ends}
+use Rattle.machine_roads.specs.Stopped.{Finally}
 use Rattle.machine_roads.proofs.Cancelling.{calls_taken, emptied, took}
 use Rattle.machine_roads.proofs.Changing.{put_again, puts}
 use Rattle.machine_roads.proofs.Exchanging.{loudly}
@@ -36,6 +35,7 @@ use Rattle.machine_roads.proofs.Moved.{Then, moved}
 use Rattle.machine_roads.proofs.Moving.{state}
 use Rattle.machine_roads.proofs.Puts.{put_is, put_lying, task_is, task_put}
 use Rattle.machine_roads.proofs.Stepping.{Way, next}
+use Rattle.machine_roads.proofs.Trying.{finally_so}
 use Rattle.machine_roads.proofs.Used.{called_past, is_still, lower, lowered_is, lowers, put_twice}
 
 -- one reference more
@@ -110,7 +110,8 @@ module _ (p : ℕ) (end : Done) (rests : is_resting end.next ≡ true) where
       }
 
 module _ (p : ℕ) (below : List Op) (under : is_resting below ≡ true) (end : Done) (rests : is_resting end.next ≡ true) (c : Choice)
-    (f : ℕ) (w : World) (q : Plain Output Waker) (awaiter : Option Waker) (many : length q.lying ≤ c.tells)
+    (taker : Taker Waker) (final : Op) (it : Finally taker final) (f : ℕ) (w : World) (q : Plain Output Waker) (awaiter : Option Waker)
+    (many : length q.lying ≤ c.tells)
     (is : IsEnding w f awaiter q) where
   abbrev s : State
   s = world.task w f
@@ -199,16 +200,16 @@ module _ (p : ℕ) (below : List Op) (under : is_resting below ≡ true) (end : 
       ∙ (k.same ∙ ap (λ r. on o (called wakes more) r) (sym (lowered_is f r1 x1.0 x1.1) ∙ lowered_one)))
 
   abbrev os : List Op
-  os = op.Move move.GiveUp f ∷ (op.End reply.Yes hold.Executor ∷ below)
+  os = op.Move move.GiveUp f ∷ (final ∷ below)
 
-  called_so : Way p end w (rest_of s.awaiter f ++ below) → Then p end os (on awaiter (called wakes more) r1)
+  called_so : Way p end w (rest_of s.awaiter f final ++ below) → Then p end os (on awaiter (called wakes more) r1)
   called_so way = by s.awaiter refl way
     where
       nobody : (a : Option Awaiter) → is_some a ≡ false → a ≡ None
       nobody None none = refl
       nobody (Some a) none = absurd cc
 
-      by : (b : Bool) → s.awaiter ≡ b → Way p end w (rest_of b f ++ below) → Then p end os (on awaiter (called wakes more) r1)
+      by : (b : Bool) → s.awaiter ≡ b → Way p end w (rest_of b f final ++ below) → Then p end os (on awaiter (called wakes more) r1)
       by true there way =
           let t = took p end rests f false w os (λ at. is.stored) way in
           let last : State = record s { awaiter = false; notifying = false } in
@@ -231,11 +232,11 @@ module _ (p : ℕ) (below : List Op) (under : is_resting below ≡ true) (end : 
           subst (λ o. Then p end os (on o (called wakes more) r1)) (ap waker_in (sym none) ∙ is.awaited)
           (record { world = w; follows = follows2; way = way })
 
-  pub ending_so : Way p end w (rest_of s.awaiter f ++ below)
-      → (end.next ≡ below) × Follows end.world (answers Yes (on awaiter (called wakes more) q))
+  pub ending_so : Way p end w (rest_of s.awaiter f final ++ below)
+      → (end.next ≡ below) × Follows end.world (plain_takes.next wakes c taker (on awaiter (called wakes more) q))
   ending_so way =
       let t = called_so way in
       let r = on awaiter (called wakes more) r1 in
-      let u = gives_up_so p end rests f t.world (op.End reply.Yes hold.Executor ∷ below) r t.follows t.way in
-      subst (λ z. (end.next ≡ below) × Follows end.world (answers Yes z)) (given_up awaiter)
-      (ends p below under end rests u.world (put f (lower (task f r)) r) reply.Yes hold.Executor Yes refl u.follows u.way)
+      let u = gives_up_so p end rests f t.world (final ∷ below) r t.follows t.way in
+      subst (λ z. (end.next ≡ below) × Follows end.world (plain_takes.next wakes c taker z)) (given_up awaiter)
+      (finally_so p below under end rests taker final it c u.world (put f (lower (task f r)) r) u.follows u.way)

@@ -76,7 +76,7 @@ lies_anew w q s ls ticks r same many = record {
   seen = r.seen;
 }
 
-uncalled_append : (xs ys : List (Lying Waker)) → uncalled (xs ++ ys) ≡ uncalled xs ++ uncalled ys
+pub uncalled_append : (xs ys : List (Lying Waker)) → uncalled (xs ++ ys) ≡ uncalled xs ++ uncalled ys
 uncalled_append [] ys = refl
 uncalled_append (l ∷ xs) ys = by l.waker (uncalled_append xs ys)
   where
@@ -105,7 +105,7 @@ later_none None none false is = refl
 later_none None none true is = absurd cc
 later_none (Some k) none b is = absurd cc
 
-neither : (a b : Bool) → cond a true b ≡ false → (a ≡ false) × (b ≡ false)
+pub neither : (a b : Bool) → cond a true b ≡ false → (a ≡ false) × (b ≡ false)
 neither true b is = absurd cc
 neither false b is = (refl, is)
 
@@ -202,14 +202,14 @@ without_at test (x ∷ xs) ys y none it =
     ap (λ b. cond b (xs ++ y ∷ ys) (x ∷ without test (xs ++ y ∷ ys))) both.0 ∙ ap (λ zs. x ∷ zs) (without_at test xs ys y both.1 it)
 
 -- a list of sleepers, split as their wakers are
-record Split (ws : List (ℕ × Sleeping)) (before : List (Who × Waker)) (it : Who × Waker) (after : List (Who × Waker)) : Type 0 where
-  first : List (ℕ × Sleeping)
-  one : ℕ × Sleeping
-  rest : List (ℕ × Sleeping)
-  is : ws ≡ first ++ one ∷ rest
-  firsts : map sleeper first ≡ before
-  here : sleeper one ≡ it
-  rests : map sleeper rest ≡ after
+pub record Split (ws : List (ℕ × Sleeping)) (before : List (Who × Waker)) (it : Who × Waker) (after : List (Who × Waker)) : Type 0 where
+  pub first : List (ℕ × Sleeping)
+  pub one : ℕ × Sleeping
+  pub rest : List (ℕ × Sleeping)
+  pub is : ws ≡ first ++ one ∷ rest
+  pub firsts : map sleeper first ≡ before
+  pub here : sleeper one ≡ it
+  pub rests : map sleeper rest ≡ after
 
 module _ {B : Type 0} where
   cons_is : (x y : B) (xs ys : List B) → x ∷ xs ≡ y ∷ ys → (x ≡ y) × (xs ≡ ys)
@@ -223,7 +223,7 @@ module _ {B : Type 0} where
       tail [] = []
       tail (z ∷ zs) = zs
 
-  get_at : (xs ys : List B) (y : B) → slice_get (xs ++ y ∷ ys) (length xs) ≡ Some y
+  pub get_at : (xs ys : List B) (y : B) → slice_get (xs ++ y ∷ ys) (length xs) ≡ Some y
   get_at [] ys y = refl
   get_at (x ∷ xs) ys y = get_at xs ys y
 
@@ -292,13 +292,13 @@ module _ (n : ℕ) (who : Who) (w : World) (q : Plain Output Waker) (r : Follows
   position : position_of n s.wakers ≡ last_place who (uncalled q.lying)
   position = place_same n who s.wakers named ∙ ap (last_place who) r.wakers
 
-  long : length q.lying ≡ suc (length (k.before ++ k.after))
+  pub long : length q.lying ≡ suc (length (k.before ++ k.after))
   long = ap length k.is ∙ length_at k.before k.after k.one
 
-  left : without (lies who) q.lying ≡ k.before ++ k.after
+  pub left : without (lies who) q.lying ≡ k.before ++ k.after
   left = ap (without (lies who)) k.is ∙ without_at (lies who) k.before k.after k.one k.none_before k.it
 
-  found : find (lies who) q.lying ≡ Some k.one
+  pub found : find (lies who) q.lying ≡ Some k.one
   found = ap (find (lies who)) k.is ∙ found_at (lies who) k.before k.after k.one k.none_before k.it
 
   apart : uncalled q.lying
@@ -309,16 +309,21 @@ module _ (n : ℕ) (who : Who) (w : World) (q : Plain Output Waker) (r : Follows
   fewer = omega (arith, ap length left, long)
 
   -- one that was called has no waker there
+  pub all_called : k.one.waker ≡ None → uncalled q.lying ≡ uncalled k.before ++ uncalled k.after
+  all_called called =
+      apart ∙ ap (λ o. uncalled k.before ++ or o (λ waker. (k.one.who, waker) ∷ uncalled k.after) (uncalled k.after)) called
+
+  pub place_called : k.one.waker ≡ None → position_of n s.wakers ≡ None
+  place_called called =
+      position
+      ∙ (ap (last_place who) (all_called called)
+      ∙ (place_before who (uncalled k.before) (uncalled k.after) (no_place who k.after k.none_after)
+      ∙ no_place who k.before k.none_before))
+
   up_called : k.one.waker ≡ None → Up n who w q
   up_called called =
-      let all : uncalled q.lying ≡ uncalled k.before ++ uncalled k.after =
-      apart
-      ∙ ap (λ o. uncalled k.before ++ or o (λ waker. (k.one.who, waker) ∷ uncalled k.after) (uncalled k.after)) called in
-      let place : position_of n s.wakers ≡ None =
-      position
-      ∙ (ap (last_place who) all
-      ∙ (place_before who (uncalled k.before) (uncalled k.after) (no_place who k.after k.none_after)
-      ∙ no_place who k.before k.none_before)) in
+      let all = all_called called in
+      let place = place_called called in
       let many : length s.wakers ≡ length (uncalled (k.before ++ k.after)) =
       sym (length_map sleeper s.wakers)
       ∙ (ap length r.wakers ∙ (ap length all ∙ ap length (sym (uncalled_append k.before k.after)))) in
@@ -342,20 +347,25 @@ module _ (n : ℕ) (who : Who) (w : World) (q : Plain Output Waker) (r : Follows
       }
 
   -- of any other the entry goes
+  pub all_uncalled : (x : Waker) → k.one.waker ≡ Some x → uncalled q.lying ≡ uncalled k.before ++ (k.one.who, x) ∷ uncalled k.after
+  all_uncalled x waker =
+      apart ∙ ap (λ o. uncalled k.before ++ or o (λ waker. (k.one.who, waker) ∷ uncalled k.after) (uncalled k.after)) waker
+
+  pub split_uncalled : (x : Waker) → k.one.waker ≡ Some x → Split s.wakers (uncalled k.before) (k.one.who, x) (uncalled k.after)
+  split_uncalled x waker = split s.wakers (uncalled k.before) (k.one.who, x) (uncalled k.after) (r.wakers ∙ all_uncalled x waker)
+
+  pub place_uncalled : (x : Waker) (waker : k.one.waker ≡ Some x) → position_of n s.wakers ≡ Some (length (split_uncalled x waker).first)
+  place_uncalled x waker =
+      let sp = split_uncalled x waker in
+      position
+      ∙ (ap (last_place who) (all_uncalled x waker)
+      ∙ (place_at who (uncalled k.before) (uncalled k.after) (k.one.who, x) (no_place who k.after k.none_after) k.it
+      ∙ ap (λ n. Some n) (ap length (sym sp.firsts) ∙ length_map sleeper sp.first)))
+
   up_uncalled : (x : Waker) → k.one.waker ≡ Some x → Up n who w q
   up_uncalled x waker =
-      let it : Who × Waker = (k.one.who, x) in
-      let all : uncalled q.lying ≡ uncalled k.before ++ it ∷ uncalled k.after =
-      apart
-      ∙ ap (λ o. uncalled k.before ++ or o (λ waker. (k.one.who, waker) ∷ uncalled k.after) (uncalled k.after)) waker in
-      let sp = split s.wakers (uncalled k.before) it (uncalled k.after) (r.wakers ∙ all) in
-      let at : length (uncalled k.before) ≡ length sp.first =
-      ap length (sym sp.firsts) ∙ length_map sleeper sp.first in
-      let place : position_of n s.wakers ≡ Some (length sp.first) =
-      position
-      ∙ (ap (last_place who) all
-      ∙ (place_at who (uncalled k.before) (uncalled k.after) it (no_place who k.after k.none_after) k.it
-      ∙ ap (λ n. Some n) at)) in
+      let sp = split_uncalled x waker in
+      let place = place_uncalled x waker in
       let got : slice_get s.wakers (length sp.first) ≡ Some sp.one =
       ap (λ xs. slice_get xs (length sp.first)) sp.is ∙ get_at sp.first sp.rest sp.one in
       let rest : remove s.wakers (length sp.first) ≡ sp.first ++ sp.rest =

@@ -1,4 +1,4 @@
--- A try goes on behind the drop of the future that it took.
+-- A try or a tick goes on behind the drop of the future that it took.
 use Rattle.std.proofs.Common.{◌≡◌, ℕ, ◌-◌, ◌≤◌, ◌<◌, ◌++◌, ◌&&◌, ◌||◌, not, Bool, true, false, List, [], ◌∷◌, length, Option, Some, None}
 use Rattle.std.proofs.Common.{slice_set, if◌then◌else◌, refl, sym, ap, subst, ◌∙◌, arith}
 use Rattle.std.proofs.lemmas.List.{get_or-set_same}
@@ -9,9 +9,7 @@ use Rattle.task_moves.specs.AbstractTask as abstract
 use Rattle.task_moves.specs.AbstractTask.{AbstractTask}
 use Rattle.task_moves.specs.LocalTask.{told}
 use Rattle.task_moves.specs.Moves as moves
-use Rattle.executor_model.specs.declared.call.Reply.TheVariants as reply
 use Rattle.executor_model.specs.declared.event.Event.TheVariants as event
-use Rattle.executor_model.specs.declared.op.Hold.TheVariants as hold
 use Rattle.executor_model.specs.declared.op.Op.{Op}
 use Rattle.executor_model.specs.declared.op.Op.TheVariants as op
 use Rattle.executor_model.specs.declared.op.TableOp.TheVariants as table_op
@@ -22,16 +20,17 @@ use Rattle.executor_model.specs.Acts.{is_last_waker, is_told, move_by, stands_al
 use Rattle.executor_model.specs.Carried.{awaiter_ops, output_ops, owed_ops}
 use Rattle.executor_model.specs.World.{World, Done, done, among, awaiter_of, blank, log, put_awaiter}
 use Rattle.executor_model.specs.World as world
-use Rattle.plain_scheduler.specs.State.{Choice, Closed, End, Gave, Lose, Loses, Plain, Try, Yes}
+use Rattle.plain_scheduler.specs.State.{Choice, Closed, End, Gave, Lose, Loses, Plain, Taker}
 use Rattle.plain_scheduler.specs.Lists.{on, or}
-use Rattle.plain_scheduler.specs.Moves.{answers, called, enters, let_go, put, see, task, tell}
+use Rattle.plain_scheduler.specs.Moves.{called, enters, let_go, put, see, task, tell}
 use Rattle.plain_scheduler.specs.Takes as plain_takes
 use Rattle.machine_roads.specs.View.{Output, view, wakes, waker_in}
 use Rattle.machine_roads.specs.Moving.{IsPolled, IsQueued}
 use Rattle.machine_roads.specs.Road.{Follows}
 use Rattle.machine_roads.specs.Alone.{alone, is_resting}
-use Rattle.machine_roads.specs.Dropped.{Drops, DropsAlikeInTry, EndsBy, IsEnding, LosesAlikeInTry, answered, given, loses, polled, queued}
+use Rattle.machine_roads.specs.Dropped.{Drops, DropsAlikeInTake, EndsBy, IsEnding, LosesAlikeInTake, answered, given, loses, polled, queued}
 use Rattle.machine_roads.specs.Dropped.{rest_of, without_run}
+use Rattle.machine_roads.specs.Stopped.{Finally}
 use Rattle.machine_roads.proofs.Changing.{sees, settles}
 use Rattle.machine_roads.proofs.Dropped.{leaves, marked}
 use Rattle.machine_roads.proofs.Ending.{ending_so}
@@ -40,7 +39,7 @@ use Rattle.machine_roads.proofs.Moving.{state}
 use Rattle.machine_roads.proofs.Pending.{becomes_inside}
 use Rattle.machine_roads.proofs.Puts.{put_by, put_lying}
 use Rattle.machine_roads.proofs.Stepping.{Way, next}
-use Rattle.machine_roads.proofs.Trying.{stands_in, stops_at}
+use Rattle.machine_roads.proofs.Trying.{final_inside, stands_in, stops_at}
 
 -- what the end of a run leaves and owes
 record RunEnds (c : Choice) (s : State) (m : Move) (why : End Output) (aw : Option Waker) : Type 0 where
@@ -216,21 +215,21 @@ called_inside c None q = refl
 called_inside c (Some (Outside x)) q = refl
 called_inside c (Some (Task g)) q = becomes_inside c g (abstract.release (abstract.wake (task g q))) q
 
--- what goes out of a task whose run ends, in a try
-goes_out : (c : Choice) (l : abstract.Left Output Waker) (z : Plain Output Waker) (a : Option Waker) (d : Option Output)
+-- what goes out of a task whose run ends
+goes_out : (taker : Taker Waker) (c : Choice) (l : abstract.Left Output Waker) (z : Plain Output Waker) (a : Option Waker) (d : Option Output)
     → l.called ≡ a → l.let_go ≡ None → l.dropped ≡ d
-    → plain_takes.out wakes c l (Some Try) z
-    ≡ or d (λ v. enters (Lose a (Some Try)) (see (Loses v) z)) (answers Yes (on a (called wakes (tell wakes c)) z))
-goes_out c l z a d called_is let_go_is dropped_is =
-    ap (λ (d : Option Output). or d (λ v. enters (Lose l.called (Some Try)) (see (Loses v) z))
-    (plain_takes.lost wakes c l.called (Some Try) (on l.let_go (let_go wakes (tell wakes c)) z))) dropped_is
-    ∙ (ap (λ (o : Option Waker). or d (λ v. enters (Lose l.called (Some Try)) (see (Loses v) z))
-    (plain_takes.lost wakes c l.called (Some Try) (on o (let_go wakes (tell wakes c)) z))) let_go_is
-    ∙ ap (λ (a : Option Waker). or d (λ v. enters (Lose a (Some Try)) (see (Loses v) z)) (plain_takes.lost wakes c a (Some Try) z))
+    → plain_takes.out wakes c l (Some taker) z
+    ≡ or d (λ v. enters (Lose a (Some taker)) (see (Loses v) z)) (plain_takes.next wakes c taker (on a (called wakes (tell wakes c)) z))
+goes_out taker c l z a d called_is let_go_is dropped_is =
+    ap (λ (d : Option Output). or d (λ v. enters (Lose l.called (Some taker)) (see (Loses v) z))
+    (plain_takes.lost wakes c l.called (Some taker) (on l.let_go (let_go wakes (tell wakes c)) z))) dropped_is
+    ∙ (ap (λ (o : Option Waker). or d (λ v. enters (Lose l.called (Some taker)) (see (Loses v) z))
+    (plain_takes.lost wakes c l.called (Some taker) (on o (let_go wakes (tell wakes c)) z))) let_go_is
+    ∙ ap (λ (a : Option Waker). or d (λ v. enters (Lose a (Some taker)) (see (Loses v) z)) (plain_takes.lost wakes c a (Some taker) z))
     called_is)
 
 module _ (p : ℕ) (below : List Op) (under : is_resting below ≡ true) (end : Done) (rests : is_resting end.next ≡ true) (c : Choice)
-    (f : ℕ) (w : World) (q : Plain Output Waker) (many : length q.lying ≤ c.tells) (follows : Follows w q) (at : f < length w.tasks)
+    (taker : Taker Waker) (final : Op) (it : Finally taker final) (f : ℕ) (w : World) (q : Plain Output Waker) (many : length q.lying ≤ c.tells) (follows : Follows w q) (at : f < length w.tasks)
     (m : Move) (why : End Output) (ends : EndsBy (world.task w f) m why) where
   abbrev s : State
   s = world.task w f
@@ -287,15 +286,15 @@ module _ (p : ℕ) (below : List Op) (under : is_resting below ≡ true) (end : 
   awaited_is = ap (λ (s : State). s.awaiter) (get_or-set_same w.tasks f s3 blank at) ∙ e.awaiter
 
   abbrev os : List Op
-  os = op.End reply.Yes hold.Executor ∷ below
+  os = final ∷ below
 
   abbrev to_do : List Op
   to_do = (awaiter_ops f (moves.notify_if s.awaiter) ++ op.Move move.GiveUp f ∷ []) ++ os
 
-  to_do_is : to_do ≡ rest_of (world.task w3 f).awaiter f ++ below
-  to_do_is = by s.awaiter ∙ ap (λ b. rest_of b f ++ below) (sym awaited_is)
+  to_do_is : to_do ≡ rest_of (world.task w3 f).awaiter f final ++ below
+  to_do_is = by s.awaiter ∙ ap (λ b. rest_of b f final ++ below) (sym awaited_is)
     where
-      by : (b : Bool) → (awaiter_ops f (moves.notify_if b) ++ op.Move move.GiveUp f ∷ []) ++ os ≡ rest_of b f ++ below
+      by : (b : Bool) → (awaiter_ops f (moves.notify_if b) ++ op.Move move.GiveUp f ∷ []) ++ os ≡ rest_of b f final ++ below
       by true = refl
       by false = refl
 
@@ -319,13 +318,13 @@ module _ (p : ℕ) (below : List Op) (under : is_resting below ≡ true) (end : 
 
   abbrev leads : Bool → Plain Output Waker
   leads b =
-      or (if b then Some tt else None) (λ v. enters (Lose aw (Some Try)) (see (Loses v) z))
-      (answers Yes (on aw (called wakes (tell wakes c)) z))
+      or (if b then Some tt else None) (λ v. enters (Lose aw (Some taker)) (see (Loses v) z))
+      (plain_takes.next wakes c taker (on aw (called wakes (tell wakes c)) z))
 
-  pub runs_out : Way p end w (op.Move m f ∷ os) → Drops below f q end (plain_takes.ended wakes c f l (Some Try) q)
+  pub runs_out : Way p end w (op.Move m f ∷ os) → Drops taker final below f q end (plain_takes.ended wakes c f l (Some taker) q)
   runs_out way =
-      subst (Drops below f q end)
-      (sym (goes_out c l z aw (if (moves.after m s).owed.drop_output then Some tt else None)
+      subst (Drops taker final below f q end)
+      (sym (goes_out taker c l z aw (if (moves.after m s).owed.drop_output then Some tt else None)
       (ap (λ (l : abstract.Left Output Waker). l.called) left_is ∙ e.called_is)
       (ap (λ (l : abstract.Left Output Waker). l.let_go) left_is ∙ e.let_go_is)
       (ap (λ (l : abstract.Left Output Waker). l.dropped) left_is ∙ e.dropped_is)))
@@ -336,12 +335,12 @@ module _ (p : ℕ) (below : List Op) (under : is_resting below ≡ true) (end : 
 
       by : (b : Bool)
           → Way p end w3 ((output_ops b f ++ (awaiter_ops f (moves.notify_if s.awaiter) ++ op.Move move.GiveUp f ∷ [])) ++ os)
-          → Drops below f q end (leads b)
+          → Drops taker final below f q end (leads b)
       by false way =
           let r =
-          ending_so p below under end rests c f w3 z aw (subst (λ ls. length ls ≤ c.tells) (sym (put_lying f l.task q)) many) ending
+          ending_so p below under end rests c taker final it f w3 z aw (subst (λ ls. length ls ≤ c.tells) (sym (put_lying f l.task q)) many) ending
           (subst (Way p end w3) to_do_is way) in
-          answered r.0 (called_inside c aw z ∙ z_inside) r.1
+          answered r.0 (final_inside taker final it c (on aw (called wakes (tell wakes c)) z) ∙ (called_inside c aw z ∙ z_inside)) r.1
       by true way =
           let v = event.OutputDropped p f in
           let step = next p end rests (op.User (user_op.BeginDropOutput f)) w3 to_do refl way in
@@ -349,9 +348,9 @@ module _ (p : ℕ) (below : List Op) (under : is_resting below ≡ true) (end : 
           let stop : done w4 (op.User (user_op.DropOutput f) ∷ to_do) ≡ end =
           stops_at p below under end rests (op.User (user_op.DropOutput f) ∷ to_do) w4 refl step.way in
           let q4 : Plain Output Waker = see (Loses tt) z in
-          subst (λ (d : Done). Drops below f q d (leads true)) stop
+          subst (λ (d : Done). Drops taker final below f q d (leads true)) stop
           (loses aw (ap (λ ops. op.User (user_op.DropOutput f) ∷ ops) to_do_is)
-          (ap (λ codes. Lose aw (Some Try) ∷ codes) z_inside)
+          (ap (λ codes. Lose aw (Some taker) ∷ codes) z_inside)
           (record {
             known = ending.known;
             over = ending.over;
@@ -360,29 +359,29 @@ module _ (p : ℕ) (below : List Op) (under : is_resting below ≡ true) (end : 
             stored = ending.stored;
             awaited = ending.awaited;
             follows =
-                stands_in (Lose aw (Some Try) ∷ q4.inside) (log (without_run f w3) v) q4
+                stands_in (Lose aw (Some taker) ∷ q4.inside) (log (without_run f w3) v) q4
                 (sees (without_run f w3) z ending.follows v (Loses tt) refl);
           }))
 
 pub drops : (p : ℕ) (here : Option Waker) (below : List Op) (w : World) (q : Plain Output Waker) → is_resting below ≡ true
-    → Follows w q → DropsAlikeInTry p here below w q
-drops p here below w q under follows f m why at there ends c many hints has rests =
-    let os = op.Move m f ∷ (op.End reply.Yes hold.Executor ∷ below) in
+    → Follows w q → DropsAlikeInTake p here below w q
+drops p here below w q under follows taker final it f m why at there ends c many hints has rests =
+    let os = op.Move m f ∷ (final ∷ below) in
     let end = alone p hints (done w (op.Table (table_op.LeaveTable f) ∷ os)) in
     let start : Way p end w (op.Table (table_op.LeaveTable f) ∷ os) = record { hints = hints; has = has; is = refl } in
     let left = leaves p end rests c f w q follows at m why ends os there start in
     let after = plain_takes.given_up wakes c f (marked f q) in
     let r =
-    runs_out p below under end rests c f left.now after (subst (λ ls. length ls ≤ c.tells) (sym left.lying) many) left.stands left.known
+    runs_out p below under end rests c taker final it f left.now after (subst (λ ls. length ls ≤ c.tells) (sym left.lying) many) left.stands left.known
     m why left.run left.way in
-    moved_on end (plain_takes.ended wakes c f (plain_takes.left_by wakes c why (task f after)) (Some Try) after) after left.inside r
+    moved_on taker final end (plain_takes.ended wakes c f (plain_takes.left_by wakes c why (task f after)) (Some taker) after) after left.inside r
   where
-    moved_on : (end : Done) (new after : Plain Output Waker) → after.inside ≡ q.inside → Drops below f after end new → Drops below f q end new
-    moved_on end new after same (answered next inside follows) = answered next (inside ∙ same) follows
-    moved_on end new after same (loses awaiter next inside ending) =
-        loses awaiter next (inside ∙ ap (λ codes. Lose awaiter (Some Try) ∷ codes) same) ending
+    moved_on : (taker : Taker Waker) (final : Op) (end : Done) (new after : Plain Output Waker) → after.inside ≡ q.inside → Drops taker final below f after end new → Drops taker final below f q end new
+    moved_on taker final end new after same (answered next inside follows) = answered next (inside ∙ same) follows
+    moved_on taker final end new after same (loses awaiter next inside ending) =
+        loses awaiter next (inside ∙ ap (λ codes. Lose awaiter (Some taker) ∷ codes) same) ending
 
-pub loses_in_try : LosesAlikeInTry
-loses_in_try p f below w q awaiter c under ending many hints unit has rests =
-    ending_so p below under (alone p hints (done w (rest_of (world.task w f).awaiter f ++ below))) rests c f w q awaiter many ending
+pub loses_in_take : LosesAlikeInTake
+loses_in_take taker final p f below w q awaiter c it under ending many hints unit has rests =
+    ending_so p below under (alone p hints (done w (rest_of (world.task w f).awaiter f final ++ below))) rests c taker final it f w q awaiter many ending
     (record { hints = hints; has = has; is = refl })

@@ -71,6 +71,15 @@ returned ticks w q r = by (nat_lt w.sleepers.count w.sleepers.rooms)
     by true = roomed ticks (w.sleepers.rooms - 1) w q r
     by false = roomed ticks w.sleepers.rooms w q r
 
+-- a waker of one that slept is let go
+pub sleeper_goes_so : (p : ℕ) (end : Done) (rests : is_resting end.next ≡ true) (c : Choice) (o : Option Sleeping) (w : World)
+    (os : List Op) (q : Plain Output Waker) → Follows w q → length q.lying ≤ c.tells → Way p end w (sleeper_goes o ++ os)
+    → Then p end os (on (waker_by o) (let_go wakes (tell wakes c)) q)
+sleeper_goes_so p end rests c None w os q follows fit way = record { world = w; follows = follows; way = way }
+sleeper_goes_so p end rests c (Some s) w os q follows fit way =
+    lets_go_so p end rests (tell wakes c) (λ q. length q.lying ≤ c.tells) (loudly p end rests c)
+    (Some (record { waker = s.waker; poll = s.poll })) w os q follows fit way
+
 module _ (p : ℕ) (here : Option Waker) (below : List Op) (w : World) (q : Plain Output Waker) (under : is_resting below ≡ true)
     (follows : Follows w q) where
   -- a tick is made, as the first hint says
@@ -165,12 +174,8 @@ module _ (p : ℕ) (here : Option Waker) (below : List Op) (w : World) (q : Plai
         where
           by : (x : Waker) → Way p end w1 ((sleeper_goes (Some (record s { waker = x })) ++ tell_and_return false) ++ os)
               → Then p end rest (let_go wakes more x q1)
-          by (Task g) way =
-              lets_go_so p end rests more fits (loudly p end rests c) (Some (record { waker = Task g; poll = s.poll })) w1 rest q1
-              follows1 fit1 way
-          by (Outside x) way =
-              lets_go_so p end rests more fits (loudly p end rests c) (Some (record { waker = Outside x; poll = s.poll })) w1 rest
-              q1 follows1 fit1 way
+          by (Task g) way = sleeper_goes_so p end rests c (Some (record s { waker = Task g })) w1 rest q1 follows1 fit1 way
+          by (Outside x) way = sleeper_goes_so p end rests c (Some (record s { waker = Outside x })) w1 rest q1 follows1 fit1 way
 
       leaves_is : leaves wakes c who q ≡ left_by u.one.waker
       leaves_is =

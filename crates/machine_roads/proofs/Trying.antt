@@ -28,7 +28,8 @@ use Rattle.executor_model.specs.Acts.{take_by, told_of}
 use Rattle.executor_model.specs.Carried.{owed_ops}
 use Rattle.executor_model.specs.World.{World, Done, done, among, awaiter_of, blank, log, put_queue, queue_of}
 use Rattle.executor_model.specs.World as world
-use Rattle.plain_scheduler.specs.State.{Calls, Choice, Closed, Code, Drop, Drops, Due, Future, Lying, No, Plain, Poll, Polls, Try}
+use Rattle.plain_scheduler.specs.State.{Calls, Choice, Closed, Code, Drop, Drops, Due, Future, Lying, No, Plain, Poll, Polls, Ready}
+use Rattle.plain_scheduler.specs.State.{Taker, Try, Yes}
 use Rattle.plain_scheduler.specs.Lists.{any, on, or, without}
 use Rattle.plain_scheduler.specs.Moves.{appended, called, chosen, commons, enters, is_called, is_common, is_kept, put, see}
 use Rattle.plain_scheduler.specs.Moves.{task, tell, told_at, used}
@@ -38,7 +39,7 @@ use Rattle.machine_roads.specs.View.{Output, view, waker_in, wakes}
 use Rattle.machine_roads.specs.Moving.{IsQueued}
 use Rattle.machine_roads.specs.Road.{Follows, futures_in}
 use Rattle.machine_roads.specs.Alone.{alone, is_resting}
-use Rattle.machine_roads.specs.Stopped.{Stopped, Stops, TriesAlike, answered, polls, drops}
+use Rattle.machine_roads.specs.Stopped.{Finally, Stopped, Stops, TriesAlike, answered, drops, of_tick, of_try, polls}
 use Rattle.machine_roads.proofs.Calling.{ends, idles}
 use Rattle.machine_roads.proofs.Changing.{logs, puts, sees}
 use Rattle.machine_roads.proofs.Due.{First, find_never, find_same, first, keepers_apart, marks_apart, nothing, others, without_same}
@@ -71,7 +72,7 @@ stands_in codes w q r = record {
 }
 
 -- nor are turns, and which futures are out to be polled, to the plain scheduler
-turns : (n : ℕ) (w : World) (q : Plain Output Waker) → Follows w q → Follows (record w { urgent_turns = n }) q
+pub turns : (n : ℕ) (w : World) (q : Plain Output Waker) → Follows w q → Follows (record w { urgent_turns = n }) q
 turns n w q r = record {
   limit = r.limit;
   kind = r.kind;
@@ -112,7 +113,7 @@ places_so inside w q r = record {
 }
 
 -- the first of a queue is taken
-takes_first : (m : Mark) (w : World) (q : Plain Output Waker) (f : ℕ) (rest : List ℕ) → Follows w q
+pub takes_first : (m : Mark) (w : World) (q : Plain Output Waker) (f : ℕ) (rest : List ℕ) → Follows w q
     → (queue_of w m).items ≡ f ∷ rest
     → First (is_common m) q.due f rest × Follows (put_queue w m (taken (queue_of w m))) (record q { due = without (is_common m) q.due })
 takes_first m w q f rest r is =
@@ -177,23 +178,39 @@ tell_inside c q = by (any is_called q.lying)
     by true = refl
     by false = one (min c.tells (length q.lying - 1)) (slice_get q.lying (min c.tells (length q.lying - 1)))
 
+pub final_inside : (taker : Taker Waker) (final : Op) → Finally taker final → (c : Choice) (q : Plain Output Waker)
+    → (plain_takes.next wakes c taker q).inside ≡ q.inside
+final_inside taker final of_try c q = refl
+final_inside taker final (of_tick t a) c q = refl
+
+abbrev yes : Op
+yes = op.End reply.Yes hold.Executor
+
 module _ (p : ℕ) (below : List Op) (under : is_resting below ≡ true) (end : Done) (rests : is_resting end.next ≡ true) where
   -- where user code has to answer
   pub stops_at : (os : List Op) (w : World) → is_resting os ≡ true → Way p end w os → done w os ≡ end
   stops_at os w resting way = sym (idles p way.hints os w resting) ∙ way.is
 
+  -- what is taken was all that there was to do
+  pub finally_so : (taker : Taker Waker) (final : Op) → Finally taker final → (c : Choice) (w : World) (q : Plain Output Waker)
+      → Follows w q → Way p end w (final ∷ below) → (end.next ≡ below) × Follows end.world (plain_takes.next wakes c taker q)
+  finally_so taker final of_try c w q follows way =
+      ends p below under end rests w q reply.Yes hold.Executor Yes refl follows way
+  finally_so taker final (of_tick t a) c w q follows way =
+      ends p below under end rests w q reply.Ready (hold.Tick t) Ready refl follows way
+
   -- a future that was taken is polled, or dropped where it is closed
-  runs : (c : Choice) (f : ℕ) (w : World) (q : Plain Output Waker) → Follows w q
-      → Way p end w (op.Move move.TakeUp f ∷ op.End reply.Yes hold.Executor ∷ below)
-      → Stops below q end (plain_takes.run wakes c f Try q)
-  runs c f w q follows way =
-      let s1 = next p end rests (op.Move move.TakeUp f) w (op.End reply.Yes hold.Executor ∷ below) refl way in
+  pub runs : (taker : Taker Waker) (final : Op) (c : Choice) (f : ℕ) (w : World) (q : Plain Output Waker) → Follows w q
+      → Way p end w (op.Move move.TakeUp f ∷ final ∷ below)
+      → Stops taker final below q end (plain_takes.run wakes c f taker q)
+  runs taker final c f w q follows way =
+      let s1 = next p end rests (op.Move move.TakeUp f) w (final ∷ below) refl way in
       by (world.task w f).closed refl s1.has.0 s1.has.1.0 s1.has.1.1 s1.way
     where
       code : Bool → Plain Output Waker
       code b =
-          if b then plain_takes.dropping wakes c f Closed Try q
-          else enters (Poll f Try) (see (Polls f) (put f (abstract.begin_run (task f q)) q))
+          if b then plain_takes.dropping wakes c f Closed taker q
+          else enters (Poll f taker) (see (Polls f) (put f (abstract.begin_run (task f q)) q))
 
       put_see : (new : AbstractTask Output Waker) → put f new (see (Polls f) q) ≡ see (Polls f) (put f new q)
       put_see new = cases (slice_get q.futures f)
@@ -206,10 +223,10 @@ module _ (p : ℕ) (below : List Op) (under : is_resting below ≡ true) (end : 
       by : (b : Bool) → (world.task w f).closed ≡ b → f < length w.tasks → IsQueued (world.task w f) → among f w.table ≡ true
           → Way p end (world.put (told_of false (not b) move.TakeUp p w f) f (moves.take_up_by b (world.task w f)).state)
           (owed_ops (among f (told_of false (not b) move.TakeUp p w f).table) f (moves.take_up_by b (world.task w f)).owed
-          ++ (op.End reply.Yes hold.Executor ∷ below))
-          → Stops below q end (plain_takes.run wakes c f Try q)
+          ++ (final ∷ below))
+          → Stops taker final below q end (plain_takes.run wakes c f taker q)
       by true closed at queued there way =
-          let os = op.End reply.Yes hold.Executor ∷ below in
+          let os = final ∷ below in
           let s = world.task w f in
           let now : Way p end w (op.Table (table_op.TakeToDrop f) ∷ op.Move move.SettleClosed f ∷ os) =
           subst (λ ts. Way p end (record w { tasks = ts }) (op.Table (table_op.TakeToDrop f) ∷ op.Move move.SettleClosed f ∷ os))
@@ -221,17 +238,17 @@ module _ (p : ℕ) (below : List Op) (under : is_resting below ≡ true) (end : 
           let w3 = log w2 (event.Dropped p f) in
           let last =
           stops_at (op.User (user_op.Drop f) ∷ op.Table (table_op.LeaveTable f) ∷ op.Move move.SettleClosed f ∷ os) w3 refl s3.way in
-          subst (λ b. Stops below q end (code b))
+          subst (λ b. Stops taker final below q end (code b))
           (sym (ap (λ (t : AbstractTask Output Waker). t.closed) (follows.tasks f at) ∙ closed))
-          (subst (λ (e : Done). Stops below q e (code true)) last
+          (subst (λ (e : Done). Stops taker final below q e (code true)) last
           (record {
             stopped = drops f;
             follows =
-                stands_in (Drop f Closed Try ∷ q.inside) w3 (see (Drops f) q)
+                stands_in (Drop f Closed taker ∷ q.inside) w3 (see (Drops f) q)
                 (sees w2 q (places_so (slice_set w.inside f false) w q follows) (event.Dropped p f) (Drops f) refl);
           }))
       by false open_still at queued there way =
-          let os = op.End reply.Yes hold.Executor ∷ below in
+          let os = final ∷ below in
           let s = world.task w f in
           let aw = waker_in (awaiter_of w f) in
           let after : State = record s { scheduled = false; running = true } in
@@ -257,15 +274,15 @@ module _ (p : ℕ) (below : List Op) (under : is_resting below ≡ true) (end : 
           let polled : Plain Output Waker = see (Polls f) (put f new q) in
           let same : abstract.begin_run t ≡ new =
           ap (λ b. if b then t else record t { phase = abstract.Phase.Polling }) closed in
-          subst (λ b. Stops below q end (code b)) (sym closed)
-          (subst (λ n. Stops below q end (enters (Poll f Try) (see (Polls f) (put f n q)))) (sym same)
-          (subst (λ (e : Done). Stops below q e (enters (Poll f Try) polled)) last
+          subst (λ b. Stops taker final below q end (code b)) (sym closed)
+          (subst (λ n. Stops taker final below q end (enters (Poll f taker) (see (Polls f) (put f n q)))) (sym same)
+          (subst (λ (e : Done). Stops taker final below q e (enters (Poll f taker) polled)) last
           (record {
             stopped =
-                subst (λ codes. Stopped below q.inside (op.User (user_op.Poll f) ∷ os) (Poll f Try ∷ codes))
+                subst (λ codes. Stopped taker final below q.inside (op.User (user_op.Poll f) ∷ os) (Poll f taker ∷ codes))
                 (sym (put_by (λ p. p.inside) f new q (λ fs. refl))) (polls f);
             follows =
-                stands_in (Poll f Try ∷ polled.inside) w3 polled
+                stands_in (Poll f taker ∷ polled.inside) w3 polled
                 (places_so (slice_set w.inside f false) w2 polled (subst (Follows w2) (put_see new) follows2));
           })))
 
@@ -274,56 +291,56 @@ module _ (p : ℕ) (below : List Op) (under : is_resting below ≡ true) (end : 
       → Follows w q → (queue_of w m).items ≡ f ∷ rest
       → ((d : Due) → any (is_common m) q.due ≡ true → chosen (commons c) q.due d ≡ is_common m d)
       → Way p end (put_queue w m (taken (queue_of w m)))
-      (op.Sleeper sleeper_op.ExchangeFlag ∷ op.Move move.TakeUp f ∷ op.End reply.Yes hold.Executor ∷ below)
-      → Stops below q end (does wakes c TryTick q)
+      (op.Sleeper sleeper_op.ExchangeFlag ∷ op.Move move.TakeUp f ∷ yes ∷ below)
+      → Stops Try yes below q end (does wakes c TryTick q)
   finds c m f rest w q many follows is tests way =
       let both = takes_first m w q f rest follows is in
       let one : First (is_common m) q.due f rest = both.0 in
       let q1 : Plain Output Waker = record q { due = without (is_common m) q.due } in
       let told =
-      (loudly p end rests c).tells (put_queue w m (taken (queue_of w m))) (op.Move move.TakeUp f ∷ op.End reply.Yes hold.Executor ∷ below)
+      (loudly p end rests c).tells (put_queue w m (taken (queue_of w m))) (op.Move move.TakeUp f ∷ yes ∷ below)
       q1 many both.1 way in
-      let run = runs c f told.world (tell wakes c q1) told.follows told.way in
+      let run = runs Try yes c f told.world (tell wakes c q1) told.follows told.way in
       let new : Plain Output Waker = plain_takes.run wakes c f Try (tell wakes c q1) in
       let same : (d : Due) → chosen (commons c) q.due d ≡ is_common m d = λ d. tests d one.some in
       let take : Option Due → List Due → Plain Output Waker = λ o ds.
       or o (λ d. plain_takes.takes wakes c Try d (record q { due = ds })) (plain_takes.nothing wakes c Try q) in
-      subst (Stops below q end)
+      subst (Stops Try yes below q end)
       (sym (ap (λ o. take o (without (λ d. chosen (commons c) q.due d) q.due))
       (find_same (λ d. chosen (commons c) q.due d) (is_common m) q.due same ∙ one.found)
       ∙ (ap (take (Some one.due_one)) (without_same (λ d. chosen (commons c) q.due d) (is_common m) q.due same)
       ∙ ap (λ f. plain_takes.run wakes c f Try (tell wakes c q1)) one.is)))
       (record {
-        stopped = subst (λ codes. Stopped below codes end.next new.inside) (tell_inside c q1) run.stopped;
+        stopped = subst (λ codes. Stopped Try yes below codes end.next new.inside) (tell_inside c q1) run.stopped;
         follows = run.follows;
       })
 
   -- nothing was found
   finds_none : (c : Choice) (w : World) (q : Plain Output Waker) → Follows w q → any (is_common c.first) q.due ≡ false
       → any (is_common (other c.first)) q.due ≡ false → Way p end w (op.End reply.No hold.Executor ∷ below)
-      → Stops below q end (does wakes c TryTick q)
+      → Stops Try yes below q end (does wakes c TryTick q)
   finds_none c w q follows none nor way =
       let e = ends p below under end rests w q reply.No hold.Executor No refl follows way in
       let never : (d : Due) → chosen (commons c) q.due d ≡ false = λ d.
       ap (λ b. if b then is_common c.first d else (if any (is_common (other c.first)) q.due then is_common (other c.first) d
       else false)) none
       ∙ ap (λ b. if b then is_common (other c.first) d else false) nor in
-      subst (Stops below q end)
+      subst (Stops Try yes below q end)
       (sym (ap
       (λ o. or o (λ d. plain_takes.takes wakes c Try d (record q { due = without (λ d. chosen (commons c) q.due d) q.due }))
       (plain_takes.nothing wakes c Try q))
       (find_same (λ d. chosen (commons c) q.due d) (λ d. false) q.due never ∙ find_never q.due)))
-      (record { stopped = subst (λ os. Stopped below q.inside os q.inside) (sym e.0) answered; follows = e.1 })
+      (record { stopped = subst (λ os. Stopped Try yes below q.inside os q.inside) (sym e.0) answered; follows = e.1 })
 
   searches : (c : Choice) (w : World) (q : Plain Output Waker) → length q.lying ≤ c.tells → Follows w q
-      → Way p end w (op.Queue (queue_op.Take (look.First c.first)) ∷ below) → Stops below q end (does wakes c TryTick q)
+      → Way p end w (op.Queue (queue_op.Take (look.First c.first)) ∷ below) → Stops Try yes below q end (does wakes c TryTick q)
   searches c w q many follows way =
       let s = next p end rests (op.Queue (queue_op.Take (look.First c.first))) w below refl way in
       by (queue_of w c.first).items refl s.way
     where
       second : any (is_common c.first) q.due ≡ false → (xs : List ℕ) → (queue_of w (other c.first)).items ≡ xs
           → Way p end (take_by w (look.Second (other c.first)) xs).world ((take_by w (look.Second (other c.first)) xs).next ++ below)
-          → Stops below q end (does wakes c TryTick q)
+          → Stops Try yes below q end (does wakes c TryTick q)
       second none [] is way =
           finds_none c w q follows none
           (nothing (is_common (other c.first)) q.due (sym (follows.common (other c.first)) ∙ is)).none way
@@ -336,7 +353,7 @@ module _ (p : ℕ) (below : List Op) (under : is_resting below ≡ true) (end : 
 
       by : (xs : List ℕ) → (queue_of w c.first).items ≡ xs
           → Way p end (take_by w (look.First c.first) xs).world ((take_by w (look.First c.first) xs).next ++ below)
-          → Stops below q end (does wakes c TryTick q)
+          → Stops Try yes below q end (does wakes c TryTick q)
       by [] is way =
           let none = (nothing (is_common c.first) q.due (sym (follows.common c.first) ∙ is)).none in
           let s = next p end rests (op.Queue (queue_op.Take (look.Second (other c.first)))) w below refl way in

@@ -9,11 +9,11 @@ ghost use Rattle.machine_roads.specs.Alike.{CancelsAlike, CopiesAlike, DetachesA
 ghost use Rattle.machine_roads.specs.Alike.{EmptyAlike, HandleGoesAlike, HandlePollsAlike, KeepsAlike};
 ghost use Rattle.machine_roads.specs.Alike.{SpawnsAlike, UsesAlike, WakesAlike, WakesItselfAlike};
 ghost use Rattle.machine_roads.specs.Alike.{WakerGoesAlike};
-ghost use Rattle.machine_roads.specs.Dropped.{DropsAlikeInTry, LosesAlikeInTry};
+ghost use Rattle.machine_roads.specs.Dropped.{DropsAlikeInTake, LosesAlikeInTake};
 ghost use Rattle.machine_roads.specs.Losing.{DetachesToLose, GoesToLose, LosesAlike};
 ghost use Rattle.machine_roads.specs.Road.{Follows};
 ghost use Rattle.machine_roads.specs.Ticking.{TickGoesAlike, TickIsMadeAlike};
-ghost use Rattle.machine_roads.specs.Stopped.{GivesAlikeInTry, PendsAlikeInTry, TriesAlike};
+ghost use Rattle.machine_roads.specs.Stopped.{GivesAlikeInTake, PendsAlikeInTake, TriesAlike};
 
 /// A new machine stands where the new plain scheduler does.
 pub fn both_begin_alike()
@@ -87,23 +87,23 @@ pub fn a_try_is_a_try()
 /// And so does the end of the poll that it came to, where that gives no output and the future can
 /// still be reached.
 pub fn an_end_without_output_ends_alike()
-    ensures { EachAlike PendsAlikeInTry }
+    ensures { EachAlike PendsAlikeInTake }
 {}
 
 /// And so does its end with an output.
 pub fn an_end_with_output_ends_alike()
-    ensures { EachAlike GivesAlikeInTry }
+    ensures { EachAlike GivesAlikeInTake }
 {}
 
 /// And so does the end of the future's drop: the try is answered, or has come to the drop of an output
 /// that nobody can take, where both stand alike but for the run's reference and who awaits the task.
 pub fn an_end_of_a_drop_ends_alike()
-    ensures { EachAlike DropsAlikeInTry }
+    ensures { EachAlike DropsAlikeInTake }
 {}
 
 /// From the end of that drop on both are alike.
 pub fn a_loss_in_a_try_ends_alike()
-    ensures { LosesAlikeInTry }
+    ensures { LosesAlikeInTake }
 {}
 
 /// A tick is made alike, also where that is refused.

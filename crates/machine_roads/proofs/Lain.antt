@@ -46,7 +46,7 @@ called_test (l ∷ ls) = by l.waker (called_test ls)
 none_test : (n : ℕ) → (suc n == 0) ≡ false
 none_test n = grind (arith, nat_tests)
 
-told_test : (ls : List (Lying Waker)) → is_told ls ≡ ((length ls == 0) || nat_lt (length (uncalled ls)) (length ls))
+pub told_test : (ls : List (Lying Waker)) → is_told ls ≡ ((length ls == 0) || nat_lt (length (uncalled ls)) (length ls))
 told_test [] = refl
 told_test (l ∷ ls) =
     called_test (l ∷ ls) ∙ sym (ap (λ b. b || nat_lt (length (uncalled (l ∷ ls))) (suc (length ls))) (none_test (length ls)))
@@ -86,7 +86,7 @@ uncalled_append (l ∷ xs) ys = by l.waker (uncalled_append xs ys)
     by None rest = rest
     by (Some w) rest = ap (λ ps. (l.who, w) ∷ ps) rest
 
-abbrev here_if : Bool → Option ℕ
+abbrev pub here_if : Bool → Option ℕ
 here_if b = elim b [ true ↦ Some 0 | false ↦ None ]
 
 -- the last place of who lies here
@@ -281,7 +281,7 @@ freed_is n s room = (
   ap (λ b. (freed_if b n s).count) room,
 )
 
-below_test : (n m : ℕ) → n < m → nat_lt n m ≡ true
+pub below_test : (n m : ℕ) → n < m → nat_lt n m ≡ true
 below_test n m is = grind (arith, nat_tests)
 
 module _ (n : ℕ) (who : Who) (w : World) (q : Plain Output Waker) (r : Follows w q) (named : IsNamed n who w.sleepers.wakers)
@@ -320,16 +320,18 @@ module _ (n : ℕ) (who : Who) (w : World) (q : Plain Output Waker) (r : Follows
       ∙ (place_before who (uncalled k.before) (uncalled k.after) (no_place who k.after k.none_after)
       ∙ no_place who k.before k.none_before))
 
+  pub room_called : k.one.waker ≡ None → nat_lt (length s.wakers) s.count ≡ true
+  room_called called =
+      let many : length s.wakers ≡ length (uncalled (k.before ++ k.after)) =
+      sym (length_map sleeper s.wakers)
+      ∙ (ap length r.wakers ∙ (ap length (all_called called) ∙ ap length (sym (uncalled_append k.before k.after)))) in
+      below_test (length s.wakers) s.count (omega (arith, many, few_called (k.before ++ k.after), long, r.count))
+
   up_called : k.one.waker ≡ None → Up n who w q
   up_called called =
       let all = all_called called in
       let place = place_called called in
-      let many : length s.wakers ≡ length (uncalled (k.before ++ k.after)) =
-      sym (length_map sleeper s.wakers)
-      ∙ (ap length r.wakers ∙ (ap length all ∙ ap length (sym (uncalled_append k.before k.after)))) in
-      let room =
-      below_test (length s.wakers) s.count
-      (omega (arith, many, few_called (k.before ++ k.after), long, r.count)) in
+      let room = room_called called in
       let gone : woken_up n s ≡ freed n s = ap (λ o. freed n (without_entry o s)) place in
       let both = freed_is n s room in
       record {

@@ -29,8 +29,12 @@ pub mod Dropped
 pub mod RunEnding
 pub mod Lain
 pub mod Ticking
+pub mod TickPolls
+pub mod Copying
+pub mod LyingDown
 pub mod Tying
 pub mod Having
 pub mod LoneRuns
 pub mod LoneCalls
 pub mod LoneLosing
+pub mod LoneTicks

@@ -86,7 +86,7 @@ gone_before ts s new reached made later = by (has is_drop_begun s.world.trace) r
         absurd (clash later (sym (tells new (reached-more ts s new reached made))
         ∙ (ap (has is_drop_begun) more.1 ∙ has_before is_drop_begun s.world.trace more.0 is)))
 
-passed : (b : Bool) (e : StepError) (later : Option StepError) → unless b e later ≡ None → b ≡ true
+pub passed : (b : Bool) (e : StepError) (later : Option StepError) → unless b e later ≡ None → b ≡ true
 passed true e later is = refl
 passed false e later is = absurd cc
 
@@ -94,7 +94,7 @@ not_true : (b : Bool) → not b ≡ true → b ≡ false
 not_true true is = absurd cc
 not_true false is = refl
 
-both_true : (a b : Bool) → (a && b) ≡ true → (a ≡ true) × (b ≡ true)
+pub both_true : (a b : Bool) → (a && b) ≡ true → (a ≡ true) × (b ≡ true)
 both_true true b is = (refl, is)
 both_true false b is = absurd cc
 

@@ -1,6 +1,7 @@
 -- A poll of a tick: it takes the first that is due without a keeper, where one is, once it has got up.
 use Rattle.std.proofs.Common.{◌≡◌, ℕ, ◌≤◌, ◌++◌, Bool, true, false, List, [], ◌∷◌, length, Option, Some, None}
-use Rattle.std.proofs.Common.{is_some, slice_set, if◌then◌else◌, refl, sym, ap, subst, ◌∙◌, arith}
+use Rattle.std.proofs.Common.{cond, map, slice_set, if◌then◌else◌, refl, sym, ap, subst, ◌∙◌, arith}
+use Rattle.std.specs.Prelude.{filter}
 use Rattle.executor_parts.specs.declared.mark.Mark.{Mark}
 use Rattle.executor_parts.specs.declared.mark.Mark.TheVariants.{Plain as PlainMark, Urgent}
 use Rattle.executor_parts.specs.Marks.{first_of, other}
@@ -21,29 +22,63 @@ use Rattle.executor_model.specs.declared.op.TickOp.TheVariants as tick_op
 use Rattle.executor_model.specs.declared.op.TickOrRun.TheVariants as tick_or_run
 use Rattle.executor_model.specs.declared.op.Waker.{Waker}
 use Rattle.executor_model.specs.declared.op.Waker.TheVariants.{Task, Outside}
+use Rattle.executor_model.specs.Acts.{turned}
 use Rattle.executor_model.specs.ActsOfSleepers.{found_by, look_tick_by, wake_up_by}
 use Rattle.executor_model.specs.SleepersAgree.{sleeps}
 use Rattle.executor_model.specs.World.{Asleep, Awake, Done, Left, Ticker, World, put_queue, queue_of, tick_of}
-use Rattle.plain_scheduler.specs.State.{Answer, Answers, ATick, Choice, Due, Lying, Plain, Refusal, Tick, Who}
+use Rattle.plain_scheduler.specs.State.{Answer, Answers, ATick, Choice, Due, Lying, Plain, Refusal, Granted, Tick, Who}
 use Rattle.plain_scheduler.specs.Lists.{any, on, or, without}
 use Rattle.plain_scheduler.specs.Moves.{answers, chosen, commons, is_common, let_go, lies, task, tell, up}
 use Rattle.plain_scheduler.specs.Takes as plain_takes
 use Rattle.plain_scheduler.specs.Calls.{does, PollTick}
 use Rattle.machine_roads.specs.View.{Output, wakes}
 use Rattle.machine_roads.specs.Seeing.{answer_of, shown}
-use Rattle.machine_roads.specs.Road.{Follows}
+use Rattle.machine_roads.specs.Road.{Follows, futures_in}
 use Rattle.machine_roads.specs.Alone.{is_resting}
 use Rattle.machine_roads.specs.Stopped.{Stopped, Stops, answered}
 use Rattle.machine_roads.specs.Ticking.{Rests, down, up as is_up}
 use Rattle.machine_roads.proofs.Calling.{ends}
 use Rattle.machine_roads.proofs.Due.{First, find_never, find_same, nothing, without_same}
 use Rattle.machine_roads.proofs.Exchanging.{loudly}
-use Rattle.machine_roads.proofs.Lain.{lies_anew, none_found, ups, waker_by}
+use Rattle.machine_roads.proofs.Lain.{lies_anew, neither, none_found, ups, waker_by}
 use Rattle.machine_roads.proofs.Moved.{Then, fits as stays_fit}
 use Rattle.machine_roads.proofs.Pending.{becomes_inside}
 use Rattle.machine_roads.proofs.Stepping.{Way, next}
 use Rattle.machine_roads.proofs.Ticking.{sleeper_goes_so}
 use Rattle.machine_roads.proofs.Trying.{runs, takes_first, tell_inside}
+
+-- of each mark, where of one and of the other
+both_marks : (m n : Mark) (due : List Due) → any (is_common m) due ≡ false → any (is_common (other m)) due ≡ false
+    → any (is_common n) due ≡ false
+both_marks PlainMark PlainMark due none nor = none
+both_marks PlainMark Urgent due none nor = nor
+both_marks Urgent PlainMark due none nor = nor
+both_marks Urgent Urgent due none nor = none
+
+none_in : (test : Due → Bool) (due : List Due) → any test due ≡ false → futures_in test due ≡ []
+none_in test [] none = refl
+none_in test (d ∷ ds) none =
+    let both = neither (test d) (any test ds) none in
+    ap (λ b. map (λ (d : Due). d.future) (cond b (d ∷ filter test ds) (filter test ds))) both.0 ∙ none_in test ds both.1
+
+-- nothing was found
+finds_nothing : (c : Choice) (t : ℕ) (a : Waker) (r : Refusal) (q : Plain Output Waker) → any (is_common c.first) q.due ≡ false
+    → any (is_common (other c.first)) q.due ≡ false
+    → does wakes (record c { refusal = r }) (PollTick t a) q ≡ plain_takes.rests wakes c r (ATick t) a q
+finds_nothing c t a r q none nor =
+    let never : (d : Due) → chosen (commons c) q.due d ≡ false = λ d.
+    ap (λ b. if b then is_common c.first d else (if any (is_common (other c.first)) q.due then is_common (other c.first) d
+    else false)) none
+    ∙ ap (λ b. if b then is_common (other c.first) d else false) nor in
+    ap
+    (λ o. or o
+    (λ d. plain_takes.takes wakes c (Tick t a) d (record q { due = without (λ d. chosen (commons c) q.due d) q.due }))
+    (plain_takes.rests wakes c r (ATick t) a q))
+    (find_same (λ d. chosen (commons c) q.due d) (λ d. false) q.due never ∙ find_never q.due)
+
+pub nothing_is : (c : Choice) (t : ℕ) (a : Waker) (r : Refusal) (q : Plain Output Waker) → ((m : Mark) → any (is_common m) q.due ≡ false)
+    → does wakes (record c { refusal = r }) (PollTick t a) q ≡ plain_takes.rests wakes c r (ATick t) a q
+nothing_is c t a r q none = finds_nothing c t a r q (none c.first) (none (other c.first))
 
 module _ (p : ℕ) (below : List Op) (under : is_resting below ≡ true) (end : Done) (rests : is_resting end.next ≡ true) (c : Choice)
     (t : ℕ) (a : Waker) where
@@ -92,7 +127,7 @@ module _ (p : ℕ) (below : List Op) (under : is_resting below ≡ true) (end : 
   let_go_fits (Some (Outside x)) q fit = fit
   let_go_fits (Some (Task g)) q fit = stays_fit p end rests more fits (loudly p end rests c) g (abstract.release (task g q)) q fit
 
-  let_go_inside : (o : Option Waker) (q : Plain Output Waker) → (on o (let_go wakes more) q).inside ≡ q.inside
+  pub let_go_inside : (o : Option Waker) (q : Plain Output Waker) → (on o (let_go wakes more) q).inside ≡ q.inside
   let_go_inside None q = refl
   let_go_inside (Some (Outside x)) q = refl
   let_go_inside (Some (Task g)) q = becomes_inside c g (abstract.release (task g q)) q
@@ -177,25 +212,68 @@ module _ (p : ℕ) (below : List Op) (under : is_resting below ≡ true) (end : 
         follows = run.follows;
       })
 
-  -- nothing was found
-  pub finds_nothing : (r : Refusal) (q : Plain Output Waker) → any (is_common c.first) q.due ≡ false
-      → any (is_common (other c.first)) q.due ≡ false
-      → does wakes (refusing r) (PollTick t a) q ≡ plain_takes.rests wakes c r who a q
-  finds_nothing r q none nor =
-      let never : (d : Due) → chosen (commons c) q.due d ≡ false = λ d.
-      ap (λ b. if b then is_common c.first d else (if any (is_common (other c.first)) q.due then is_common (other c.first) d
-      else false)) none
-      ∙ ap (λ b. if b then is_common (other c.first) d else false) nor in
-      ap
-      (λ o. or o
-      (λ d. plain_takes.takes wakes c (Tick t a) d (record q { due = without (λ d. chosen (commons c) q.due d) q.due }))
-      (plain_takes.rests wakes c r who a q))
-      (find_same (λ d. chosen (commons c) q.due d) (λ d. false) q.due never ∙ find_never q.due)
+  abbrev pub sleepy : ℕ → Sleeping
+  sleepy k = record { waker = a; who = tick_or_run.Tick t; poll = k }
 
   -- a search: it finds one, or nothing without a keeper is due
-  pub searches : (s : Sleeping) → s.who ≡ tick_or_run.Tick t → (w : World) (q : Plain Output Waker) → fits q → Follows w q → Rests w q t
-      → ((m : Mark) → any (is_common m) q.due ≡ false → Way p end w (op.Tick (tick_op.CopyWaker s) ∷ below)
+  pub searches : (k : ℕ) (w : World) (q : Plain Output Waker) → fits q → Follows w q → Rests w q t
+      → (((m : Mark) → any (is_common m) q.due ≡ false) → Way p end w (op.Tick (tick_op.CopyWaker (sleepy k)) ∷ below)
       → (r : Refusal) × Comes q (plain_takes.rests wakes c r who a q))
-      → Way p end w (op.Tick (tick_op.Look s (look.First c.first)) ∷ below)
+      → Way p end w (op.Tick (tick_op.Look (sleepy k) (look.First c.first)) ∷ below)
       → (r : Refusal) × Comes q (does wakes (refusing r) (PollTick t a) q)
-  searches s it w q fit follows where_it rests_so way = ?
+  searches k w q fit follows where_it rests_so way =
+      by (queue_of w c.first).items refl
+      (next p end rests (op.Tick (tick_op.Look (sleepy k) (look.First c.first))) w below refl way).way
+    where
+      second : any (is_common c.first) q.due ≡ false → (xs : List ℕ) → (queue_of w (other c.first)).items ≡ xs
+          → Way p end (look_tick_by (tick_of w t) w (look.Second (other c.first)) xs (sleepy k)).world
+          ((look_tick_by (tick_of w t) w (look.Second (other c.first)) xs (sleepy k)).next ++ below)
+          → (r : Refusal) × Comes q (does wakes (refusing r) (PollTick t a) q)
+      second none [] is way =
+          let nor = (nothing (is_common (other c.first)) q.due (sym (follows.common (other c.first)) ∙ is)).none in
+          let so = rests_so (λ m. both_marks c.first m q.due none nor) way in
+          (so.0, subst (Comes q) (sym (finds_nothing c t a so.0 q none nor)) so.1)
+      second none (f ∷ rest) is way = (
+        Granted,
+        finds Granted (other c.first) f rest w q fit follows where_it is
+            (λ d some.
+            ap (λ b. if b then is_common c.first d else (if any (is_common (other c.first)) q.due then is_common (other c.first) d
+            else false)) none
+            ∙ ap (λ b. if b then is_common (other c.first) d else false) some) way,
+      )
+
+      by : (xs : List ℕ) → (queue_of w c.first).items ≡ xs
+          → Way p end (look_tick_by (tick_of w t) w (look.First c.first) xs (sleepy k)).world
+          ((look_tick_by (tick_of w t) w (look.First c.first) xs (sleepy k)).next ++ below)
+          → (r : Refusal) × Comes q (does wakes (refusing r) (PollTick t a) q)
+      by [] is way =
+          let none = (nothing (is_common c.first) q.due (sym (follows.common c.first) ∙ is)).none in
+          let s = next p end rests (op.Tick (tick_op.Look (sleepy k) (look.Second (other c.first)))) w below refl way in
+          second none (queue_of w (other c.first)).items refl s.way
+      by (f ∷ rest) is way = (
+        Granted,
+        finds Granted c.first f rest w q fit follows where_it is
+            (λ d some. ap
+            (λ b. if b then is_common c.first d else (if any (is_common (other c.first)) q.due then is_common (other c.first) d
+            else false)) some) way,
+      )
+
+  -- and a search where nothing is due
+  pub searches_none : (k : ℕ) (w : World) (q : Plain Output Waker) → Follows w q
+      → ((m : Mark) → any (is_common m) q.due ≡ false) → Way p end w (op.Tick (tick_op.Search (sleepy k)) ∷ below)
+      → Way p end (turned p w) (op.Tick (tick_op.CopyWaker (sleepy k)) ∷ below)
+  searches_none k w q follows quiet way =
+      let m = first_of w.urgent_turns in
+      let w1 = turned p w in
+      let one = next p end rests (op.Tick (tick_op.Search (sleepy k))) w below refl way in
+      let two = next p end rests (op.Tick (tick_op.Look (sleepy k) (look.First m))) w1 below refl one.way in
+      let three =
+      next p end rests (op.Tick (tick_op.Look (sleepy k) (look.Second (other m)))) w1 below refl
+      (subst
+      (λ xs. Way p end (look_tick_by (tick_of w t) w1 (look.First m) xs (sleepy k)).world
+      ((look_tick_by (tick_of w t) w1 (look.First m) xs (sleepy k)).next ++ below))
+      (follows.common m ∙ none_in (is_common m) q.due (quiet m)) two.way) in
+      subst
+      (λ xs. Way p end (look_tick_by (tick_of w t) w1 (look.Second (other m)) xs (sleepy k)).world
+      ((look_tick_by (tick_of w t) w1 (look.Second (other m)) xs (sleepy k)).next ++ below))
+      (follows.common (other m) ∙ none_in (is_common (other m)) q.due (quiet (other m))) three.way

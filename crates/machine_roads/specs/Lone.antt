@@ -1,7 +1,8 @@
 -- When a lone call of a machine at rest leaves it where the plain scheduler's call leaves that, as long as the executor's drop
 -- hasn't begun.
-use Rattle.std.specs.Prelude.{◌≡◌, ℕ, ◌≤◌, true, false, not, List, [], ◌∷◌, length, Some, None, is_some}
+use Rattle.std.specs.Prelude.{◌≡◌, ℕ, ◌≤◌, ◌<◌, true, false, not, List, [], ◌∷◌, length, Some, None, is_some}
 use Rattle.executor_parts.specs.declared.mark.Mark.{Mark}
+use Rattle.executor_parts.specs.Marks.{first_of}
 use Rattle.task_moves.specs.AbstractTask as abstract
 use Rattle.task_moves.specs.AbstractTask.Polled.{Waits}
 use Rattle.executor_model.specs.declared.call.By.{By}
@@ -17,10 +18,12 @@ use Rattle.executor_model.specs.Quiet.{IsQuiet}
 use Rattle.executor_model.specs.Steps.{Machine, kept, waker_of}
 use Rattle.executor_model.specs.World.{task}
 use Rattle.executor_laws.specs.LoneEnds.{IsLoneCall}
-use Rattle.plain_scheduler.specs.State.{Choice, Plain}
+use Rattle.plain_scheduler.specs.State.{Choice, Plain, Refusal}
+use Rattle.plain_scheduler.specs.Lists.{any}
+use Rattle.plain_scheduler.specs.Moves.{is_common}
 use Rattle.plain_scheduler.specs.Moves as plain
 use Rattle.plain_scheduler.specs.Calls.{does, is_granted, Spawn, Wake, Use, Copy, Release, Cancel, Detach, DropHandle, PollHandle}
-use Rattle.plain_scheduler.specs.Calls.{DropTick, Ends, IsEmpty, NewTick}
+use Rattle.plain_scheduler.specs.Calls.{DropTick, Ends, IsEmpty, NewTick, PollTick}
 use Rattle.machine_roads.specs.View.{Output, wakes}
 use Rattle.machine_roads.specs.Alike.{begins, LeavesAlike}
 use Rattle.machine_roads.specs.Road.{Follows}
@@ -115,6 +118,14 @@ module _ (s : Machine) (q : Plain Output Waker) where
   LoneTickIsMade =
       (p : ℕ) (c : Choice) (h : Hint) (steps : List Step) → is_granted c.refusal ≡ not h.refused
       → LeadsTo s p call.NewTick (Go p h ∷ steps) (does wakes c NewTick q)
+
+  -- a tick is polled where nothing without a keeper is due: it lies, or that is refused in one way or the other
+  abbrev pub LoneTickLies : Type 0
+  LoneTickLies =
+      (p t : ℕ) (c : Choice) (b : By) (steps : List Step) → c.first ≡ first_of s.world.urgent_turns → length q.lying < c.tells
+      → Rests s.world q t → ((m : Mark) → any (is_common m) q.due ≡ false) → (new : Machine) → new.world.gone ≡ false
+      → IsLoneCall p (call.PollTick t b) steps s new
+      → (r : Refusal) × Follows new.world (does wakes (record c { refusal = r }) (PollTick t (waker_of None b)) q)
 
   abbrev pub LoneTickGoes : Type 0
   LoneTickGoes =

@@ -54,7 +54,7 @@ module _ (p : ℕ) (here : Option Waker) (below : List Op) (w : World) (q : Plai
 
   abbrev pub TickIsPolledAlike : Type 0
   TickIsPolledAlike =
-      (c : Choice) (t : ℕ) (b : By) → c.first ≡ first_of w.urgent_turns → length q.lying ≤ c.tells → Rests w q t → CanPoll w t
+      (c : Choice) (t : ℕ) (b : By) → c.first ≡ first_of w.urgent_turns → length q.lying < c.tells → Rests w q t → CanPoll w t
       → (hints : List Hint) → HasAll p hints (polling t b) → is_resting (alone p hints (polling t b)).next ≡ true
       → (r : Refusal) × Stops (Tick t (waker_of here b)) (op.End reply.Ready (hold.Tick t)) below q (alone p hints (polling t b))
       (does wakes (record c { refusal = r }) (PollTick t (waker_of here b)) q)

@@ -4,7 +4,8 @@ ghost use Rattle.machine_roads.specs.Lone.{EachLoneAlike, LoneCallIsAlone, LoneC
 ghost use Rattle.machine_roads.specs.Lone.{LoneEmpty, LoneSpawns, LoneUses, LoneWakerGoes};
 ghost use Rattle.machine_roads.specs.Lone.{LoneDetachLoses, LoneGoesWithOutput};
 ghost use Rattle.machine_roads.specs.Lone.{LoneDetaches, LoneHandleGoes, LoneHandlePolls};
-ghost use Rattle.machine_roads.specs.Lone.{LoneHandleWaits, LoneTickGoes, LoneTickIsMade, LoneWakes};
+ghost use Rattle.machine_roads.specs.Lone.{LoneHandleWaits, LoneTickGoes, LoneTickIsMade};
+ghost use Rattle.machine_roads.specs.Lone.{LoneTickLies, LoneWakes};
 
 /// What a call leaves of the world, however it is told, a lone call leaves of each machine at rest,
 /// as long as the executor's drop hasn't begun: so it is here and below.
@@ -63,6 +64,12 @@ pub fn lone_spawns_are_spawns()
 pub fn lone_ticks_are_made_and_go()
     ensures makes { EachLoneAlike LoneTickIsMade }
     ensures drops { EachLoneAlike LoneTickGoes }
+{}
+
+/// So does a lone poll of a tick where nothing is due that no run keeps: it lies, or lies again, or is
+/// refused memory in one way or the other.
+pub fn lone_ticks_lie_down()
+    ensures { EachLoneAlike LoneTickLies }
 {}
 
 /// And so it is asked alone whether the executor is empty.

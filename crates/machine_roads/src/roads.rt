@@ -12,7 +12,7 @@ ghost use Rattle.machine_roads.specs.Alike.{WakerGoesAlike};
 ghost use Rattle.machine_roads.specs.Dropped.{DropsAlikeInTake, LosesAlikeInTake};
 ghost use Rattle.machine_roads.specs.Losing.{DetachesToLose, GoesToLose, LosesAlike};
 ghost use Rattle.machine_roads.specs.Road.{Follows};
-ghost use Rattle.machine_roads.specs.Ticking.{TickGoesAlike, TickIsMadeAlike};
+ghost use Rattle.machine_roads.specs.Ticking.{TickGoesAlike, TickIsMadeAlike, TickIsPolledAlike};
 ghost use Rattle.machine_roads.specs.Stopped.{GivesAlikeInTake, PendsAlikeInTake, TriesAlike};
 
 /// A new machine stands where the new plain scheduler does.
@@ -62,7 +62,7 @@ pub fn a_handle_comes_to_lose()
     ensures drops { EachAlike GoesToLose }
 {}
 
-/// From the end of that drop on both are alike.
+/// From the end of that drop on the call leaves both alike.
 pub fn a_loss_ends_alike()
     ensures { LosesAlike }
 {}
@@ -84,8 +84,8 @@ pub fn a_try_is_a_try()
     ensures { EachAlike TriesAlike }
 {}
 
-/// And so does the end of the poll that it came to, where that gives no output and the future can
-/// still be reached.
+/// And so does the end of such a poll, in a try or a tick's poll, where it gives no output and the
+/// future can still be reached.
 pub fn an_end_without_output_ends_alike()
     ensures { EachAlike PendsAlikeInTake }
 {}
@@ -95,20 +95,27 @@ pub fn an_end_with_output_ends_alike()
     ensures { EachAlike GivesAlikeInTake }
 {}
 
-/// And so does the end of the future's drop: the try is answered, or has come to the drop of an output
-/// that nobody can take, where both stand alike but for the run's reference and who awaits the task.
+/// And so does the end of the future's drop: the call is answered, or has come to the drop of an
+/// output that nobody can take, where both stand alike but for the run's reference and who awaits the
+/// task.
 pub fn an_end_of_a_drop_ends_alike()
     ensures { EachAlike DropsAlikeInTake }
 {}
 
-/// From the end of that drop on both are alike.
-pub fn a_loss_in_a_try_ends_alike()
+/// From the end of that drop on the call leaves both alike.
+pub fn a_loss_in_a_take_ends_alike()
     ensures { LosesAlikeInTake }
 {}
 
 /// A tick is made alike, also where that is refused.
 pub fn a_tick_is_made_alike()
     ensures { EachAlike TickIsMadeAlike }
+{}
+
+/// A tick that is polled has come to the poll or the drop of a future that it took, or is answered:
+/// it lies down, or lies again by another waker, or is refused memory for one.
+pub fn a_tick_is_polled_alike()
+    ensures { EachAlike TickIsPolledAlike }
 {}
 
 /// A tick that is dropped leaves both alike, whether it lay, was called or neither, where it lies in

@@ -1,7 +1,7 @@
 -- Who lies, and what is left of the sleepers where it gets up or goes.
-use Rattle.std.proofs.Common.{◌≡◌, ℕ, zero, suc, ◌+◌, ◌-◌, ◌≤◌, ◌<◌, ◌==◌, ◌++◌, ◌&&◌, ◌||◌, not, cond, nat_lt, Bool, true, false}
-use Rattle.std.proofs.Common.{List, [], ◌∷◌, length, map, take, drop, Option, Some, None, is_some, slice_get, slice_set}
-use Rattle.std.proofs.Common.{refl, sym, ap, subst, ◌∙◌, arith}
+use Rattle.std.proofs.Common.{◌≡◌, ℕ, suc, ◌+◌, ◌-◌, ◌≤◌, ◌<◌, ◌==◌, ◌++◌, ◌||◌, not, cond, nat_lt, Bool, true, false}
+use Rattle.std.proofs.Common.{List, [], ◌∷◌, length, map, Option, Some, None, is_some, slice_get}
+use Rattle.std.proofs.Common.{refl, sym, ap, ◌∙◌, arith}
 use Rattle.std.specs.Prelude.{filter, find, remove}
 use Rattle.std.proofs.lemmas.Bool.Decides.{nat_tests}
 use Rattle.executor_parts.specs.Sleepers.{Sleepers, flag_of, freed, later, position_of, waker_at, waker_in, waker_of, without_entry}

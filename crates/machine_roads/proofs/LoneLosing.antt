@@ -1,6 +1,5 @@
 -- Lone calls by which a handle goes with its output: they come to the output's drop, and go on from its end.
-use Rattle.std.proofs.Common.{◌≡◌, ℕ, ◌++◌, false, List, [], ◌∷◌, Option, Some, None, Ok, refl, sym, ap, subst, ◌∙◌}
-use Rattle.std.specs.Prelude.{reverse}
+use Rattle.std.proofs.Common.{◌≡◌, ℕ, ◌++◌, false, List, [], ◌∷◌, None, refl, sym, ap, subst}
 use Rattle.executor_model.specs.declared.call.Call.{Call}
 use Rattle.executor_model.specs.declared.call.Call.TheVariants as call
 use Rattle.executor_model.specs.declared.op.Op.{Op}
@@ -9,10 +8,9 @@ use Rattle.executor_model.specs.declared.op.UserOp.TheVariants as user_op
 use Rattle.executor_model.specs.declared.op.Waker.{Waker}
 use Rattle.executor_model.specs.declared.step.Step.{Step}
 use Rattle.executor_model.specs.declared.step.Step.TheVariants.{Answer, Begin}
-use Rattle.executor_model.specs.Executions.{run_all}
 use Rattle.executor_model.specs.Quiet.{IsQuiet}
-use Rattle.executor_model.specs.Steps.{Machine, after, react, stack}
-use Rattle.executor_model.specs.World.{World, Done, done}
+use Rattle.executor_model.specs.Steps.{Machine, after, react}
+use Rattle.executor_model.specs.World.{Done, done}
 use Rattle.executor_model.proofs.Quiet.Resting.{rests}
 use Rattle.executor_model.proofs.Steps.Reached.{Reached, deep-here, reached-more, run-first}
 use Rattle.executor_laws.specs.LoneEnds.{IsLoneCall}
@@ -24,7 +22,7 @@ use Rattle.machine_roads.specs.Alike.{begins}
 use Rattle.machine_roads.specs.Losing.{ComesToLose, IsLosing, StopsLosing, left_of, without_handle}
 use Rattle.machine_roads.specs.Lone.{EachLoneAlike, LeadsTo, LoneDetachLoses, LoneGoesWithOutput}
 use Rattle.machine_roads.proofs.LoneCalls.{each}
-use Rattle.machine_roads.proofs.LoneRuns.{InCode, Inside, Rests, Whole, all_steps, lone_calls_rest, onward}
+use Rattle.machine_roads.proofs.LoneRuns.{Inside, Rests, Whole, all_steps, lone_calls_rest, onward}
 use Rattle.machine_roads.proofs.Losing.{detaches_to_lose, goes_to_lose, loses_alike}
 use Rattle.machine_roads.proofs.Trying.{stands_in}
 use Rattle.machine_roads.proofs.Tying.{AtEnd, Goes, Leads, answers}

@@ -1,5 +1,5 @@
 -- A lone poll of a tick, where nothing is due: it lies down, or that is refused.
-use Rattle.std.proofs.Common.{◌≡◌, ◌⊎◌, ℕ, suc, ◌<◌, ◌&&◌, ◌||◌, not, Bool, true, false, List, [], ◌∷◌, length, map, Option, Some, None}
+use Rattle.std.proofs.Common.{◌≡◌, ◌⊎◌, ℕ, suc, ◌&&◌, ◌||◌, not, Bool, true, false, List, [], ◌∷◌, length, map, Option, Some, None}
 use Rattle.std.proofs.Common.{if◌then◌else◌, inl, inr, ⊎_elim, nat_lt, refl, sym, ap, subst, ◌∙◌, arith}
 use Rattle.std.specs.Prelude.{find}
 use Rattle.executor_parts.specs.declared.mark.Mark.{Mark}
@@ -12,19 +12,16 @@ use Rattle.executor_model.specs.declared.op.Op.{Op}
 use Rattle.executor_model.specs.declared.op.Op.TheVariants as op
 use Rattle.executor_model.specs.declared.op.TickOrRun.TheVariants as tick_or_run
 use Rattle.executor_model.specs.declared.op.Waker.{Waker}
-use Rattle.executor_model.specs.declared.step.Step.{Step}
 use Rattle.executor_model.specs.declared.step.Step.TheVariants.{Begin}
 use Rattle.executor_model.specs.declared.step.StepError.{StepError}
 use Rattle.executor_model.specs.declared.step.StepError.TheVariants.{Borrowed, Busy, Gone, NoSuch}
-use Rattle.executor_model.specs.Quiet.{IsQuiet}
 use Rattle.executor_model.specs.SleepersAgree.{SleepersAgree}
 use Rattle.executor_model.specs.Steps.{Machine, begin_refusal, has_all, is_free, is_known, is_on_executor, is_owners, is_unborrowed, is_unused, lives}
 use Rattle.executor_model.specs.Steps.{part_refusal, stack, top, unless, waker_of}
 use Rattle.executor_model.specs.Rows.{leaking_of, ticking_of}
-use Rattle.executor_model.specs.World.{Done, World, tick_of}
+use Rattle.executor_model.specs.World.{World, tick_of}
 use Rattle.executor_model.proofs.Sleepers.SleepersFollowingExecutions.{agree}
 use Rattle.executor_model.proofs.Steps.Reached.{Reached, run-first}
-use Rattle.executor_laws.specs.LoneEnds.{IsLoneCall}
 use Rattle.plain_scheduler.specs.State.{AtOnce, ATick, Choice, Code, Granted, Later, Lying, Plain, Refusal, Taker, Tick, Who}
 use Rattle.plain_scheduler.specs.Lists.{any, on, or}
 use Rattle.plain_scheduler.specs.Moves.{is_common, let_go, lies, task, tell}
@@ -34,7 +31,7 @@ use Rattle.plain_scheduler.specs.Calls.{does, PollTick}
 use Rattle.machine_roads.specs.View.{Output, wakes}
 use Rattle.machine_roads.specs.Road.{Follows}
 use Rattle.machine_roads.specs.Stopped.{Stopped, Stops, answered, drops, drops_given, drops_polled, polls}
-use Rattle.machine_roads.specs.Ticking.{CanPoll, Rests}
+use Rattle.machine_roads.specs.Ticking.{CanPoll}
 use Rattle.machine_roads.specs.Lone.{EachLoneAlike, LoneTickLies}
 use Rattle.machine_roads.proofs.Copying.{copied_inside}
 use Rattle.machine_roads.proofs.LoneCalls.{each}

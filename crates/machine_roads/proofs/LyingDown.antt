@@ -1,9 +1,8 @@
 -- A tick that finds nothing lies down: it sleeps with a copy of its waker, searches again, and replaces the copy by another.
-use Rattle.std.proofs.Common.{◌≡◌, ℕ, zero, suc, ◌+◌, ◌-◌, ◌≤◌, ◌<◌, ◌==◌, ◌++◌, ◌&&◌, ◌||◌, not, cond, nat_lt, Bool, true, false}
-use Rattle.std.proofs.Common.{List, [], ◌∷◌, length, map, get_or, Option, Some, None, is_some, slice_get, slice_set, if◌then◌else◌}
+use Rattle.std.proofs.Common.{◌≡◌, ℕ, zero, suc, ◌+◌, ◌≤◌, ◌<◌, ◌==◌, ◌++◌, ◌||◌, cond, nat_lt, Bool, true, false}
+use Rattle.std.proofs.Common.{List, [], ◌∷◌, length, map, get_or, Option, Some, None, slice_get, slice_set, if◌then◌else◌}
 use Rattle.std.proofs.Common.{refl, sym, ap, subst, ◌∙◌, arith, append_assoc}
-use Rattle.std.specs.Prelude.{filter, find}
-use Rattle.std.proofs.lemmas.Bool.Decides.{nat_tests}
+use Rattle.std.specs.Prelude.{find}
 use Rattle.std.proofs.lemmas.List.{get_or-set_same}
 use Rattle.executor_parts.specs.declared.mark.Mark.{Mark}
 use Rattle.executor_parts.specs.Marks.{first_of}
@@ -27,12 +26,12 @@ use Rattle.executor_model.specs.SleepersAgree.{sleeps}
 use Rattle.executor_model.specs.Steps.{lives, waker_of}
 use Rattle.executor_model.specs.World.{Asleep, Awake, Done, Left, Ticker, World, done, log, tick_of}
 use Rattle.plain_scheduler.specs.State.{ARun, AtOnce, ATick, Choice, Granted, Later, Lying, NoMemory, Pending, Plain, Refusal, Who}
-use Rattle.plain_scheduler.specs.Lists.{any, on, or, without}
+use Rattle.plain_scheduler.specs.Lists.{any, or, without}
 use Rattle.plain_scheduler.specs.Moves.{answers, appended, is_common, is_who, let_go, lies, put, release, task, tell}
 use Rattle.plain_scheduler.specs.Moves as plain
 use Rattle.plain_scheduler.specs.Takes as plain_takes
 use Rattle.machine_roads.specs.View.{Output, wakes}
-use Rattle.machine_roads.specs.Road.{Follows, is_told, sleeper, uncalled}
+use Rattle.machine_roads.specs.Road.{Follows, sleeper, uncalled}
 use Rattle.machine_roads.specs.Alone.{alone, is_resting, CanCopy}
 use Rattle.machine_roads.specs.Ticking.{CanPoll, IsNamed, Rests, TickIsPolledAlike, down, up as is_up}
 use Rattle.machine_roads.proofs.Changing.{logs}
@@ -41,7 +40,7 @@ use Rattle.machine_roads.proofs.Copying.{copied_wakers, goes_back, lain_has}
 use Rattle.machine_roads.proofs.Lain.{Lies, all_called, all_uncalled, below_test, get_at, here_if, left, lies_anew, long, neither}
 use Rattle.machine_roads.proofs.Lain.{none_found, found, one_lies, place_called, place_uncalled, room_called, split_uncalled, told_test}
 use Rattle.machine_roads.proofs.Lain.{uncalled_append}
-use Rattle.machine_roads.proofs.Lists.{equal, get_below, get_last, length_last, length_map, map_append, same_of}
+use Rattle.machine_roads.proofs.Lists.{equal, get_last, length_last, map_append, same_of}
 use Rattle.machine_roads.proofs.PollCalls.{copied_lying}
 use Rattle.machine_roads.proofs.Polling.{copies_so}
 use Rattle.machine_roads.proofs.Stepping.{Way, next}

@@ -1,12 +1,11 @@
 -- A tick is made, and goes.
-use Rattle.std.proofs.Common.{◌≡◌, ℕ, ◌-◌, ◌≤◌, ◌++◌, not, nat_lt, Bool, true, false, List, [], ◌∷◌, length, map, Option, Some, None}
+use Rattle.std.proofs.Common.{◌≡◌, ℕ, ◌-◌, ◌≤◌, ◌++◌, not, nat_lt, Bool, true, false, List, [], ◌∷◌, length, Option, Some, None}
 use Rattle.std.proofs.Common.{is_some, slice_set, if◌then◌else◌, refl, sym, ap, subst, ◌∙◌, arith}
 use Rattle.std.specs.Prelude.{is_none}
 use Rattle.executor_parts.specs.Sleepers.{Sleepers, waker_of, woken_up}
 use Rattle.executor_model.specs.declared.call.Call.TheVariants as call
 use Rattle.executor_model.specs.declared.call.Reply.TheVariants as reply
 use Rattle.executor_model.specs.declared.event.Event.TheVariants as event
-use Rattle.executor_model.specs.declared.op.Awaiter.{Awaiter}
 use Rattle.executor_model.specs.declared.op.Hold.TheVariants as hold
 use Rattle.executor_model.specs.declared.op.Op.{Op}
 use Rattle.executor_model.specs.declared.op.Op.TheVariants as op
@@ -16,18 +15,16 @@ use Rattle.executor_model.specs.declared.op.TickOp.TheVariants as tick_op
 use Rattle.executor_model.specs.declared.op.TickOrRun.TheVariants as tick_or_run
 use Rattle.executor_model.specs.declared.op.Waker.{Waker}
 use Rattle.executor_model.specs.declared.op.Waker.TheVariants.{Task, Outside}
-use Rattle.executor_model.specs.declared.step.Hint.{Hint}
 use Rattle.executor_model.specs.ActsOfSleepers.{given_back, leave_sleepers_by, make_tick_by, sleeper_goes, tell_and_return}
 use Rattle.executor_model.specs.SleepersAgree.{sleeps}
 use Rattle.executor_model.specs.World.{Asleep, Awake, Done, Left, Ticker, World, done, log, tick_of}
-use Rattle.plain_scheduler.specs.State.{Answers, ATick, Choice, Lying, NoMemory, Plain, Who, Done as DoneAnswer, Made as MadeAnswer}
+use Rattle.plain_scheduler.specs.State.{ATick, Choice, Lying, NoMemory, Plain, Who, Done as DoneAnswer, Made as MadeAnswer}
 use Rattle.plain_scheduler.specs.Lists.{any, on, without}
 use Rattle.plain_scheduler.specs.Moves.{answers, is_called, leaves, let_go, lies, tell, up}
 use Rattle.plain_scheduler.specs.Calls.{does, is_granted, DropTick, NewTick}
 use Rattle.machine_roads.specs.View.{Output, wakes}
-use Rattle.machine_roads.specs.Road.{Follows, sleeper}
+use Rattle.machine_roads.specs.Road.{Follows}
 use Rattle.machine_roads.specs.Alone.{alone, is_resting}
-use Rattle.machine_roads.specs.Alike.{begins}
 use Rattle.machine_roads.specs.Ticking.{Rests, TickGoesAlike, TickIsMadeAlike, down, up as is_up}
 use Rattle.machine_roads.proofs.Calling.{ends}
 use Rattle.machine_roads.proofs.Changing.{logs}

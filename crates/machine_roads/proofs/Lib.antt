@@ -38,3 +38,4 @@ pub mod LoneRuns
 pub mod LoneCalls
 pub mod LoneLosing
 pub mod LoneTicks
+pub mod LoneTakes

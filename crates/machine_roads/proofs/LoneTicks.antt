@@ -5,6 +5,7 @@ use Rattle.std.specs.Prelude.{find}
 use Rattle.executor_parts.specs.declared.mark.Mark.{Mark}
 use Rattle.task_moves.specs.AbstractTask as abstract
 use Rattle.executor_model.specs.declared.call.By.{By}
+use Rattle.executor_model.specs.declared.call.Call.{Call}
 use Rattle.executor_model.specs.declared.call.Call.TheVariants as call
 use Rattle.executor_model.specs.declared.call.Reply.TheVariants as reply
 use Rattle.executor_model.specs.declared.op.Hold.TheVariants as hold
@@ -17,7 +18,7 @@ use Rattle.executor_model.specs.declared.step.StepError.{StepError}
 use Rattle.executor_model.specs.declared.step.StepError.TheVariants.{Borrowed, Busy, Gone, NoSuch}
 use Rattle.executor_model.specs.SleepersAgree.{SleepersAgree}
 use Rattle.executor_model.specs.Steps.{Machine, begin_refusal, has_all, is_free, is_known, is_on_executor, is_owners, is_unborrowed, is_unused, lives}
-use Rattle.executor_model.specs.Steps.{part_refusal, stack, top, unless, waker_of}
+use Rattle.executor_model.specs.Steps.{part_refusal, refusal, stack, top, unless, waker_of}
 use Rattle.executor_model.specs.Rows.{leaking_of, ticking_of}
 use Rattle.executor_model.specs.World.{World, tick_of}
 use Rattle.executor_model.proofs.Sleepers.SleepersFollowingExecutions.{agree}
@@ -85,6 +86,15 @@ rests_inside c Later who a q = lies_inside c who a q
 no_longer : (n m : ℕ) → n ≡ suc m → n ≡ m → ⊥
 no_longer n m longer same = omega (arith, longer, same)
 
+unrefused : (x : Bool) (e : StepError) (more : Option StepError) → unless x e more ≡ None → more ≡ None
+unrefused true e more is = is
+unrefused false e more is = absurd cc
+
+pub may_begin : (s : Machine) (p : ℕ) (c : Call) → refusal s (Begin p c) ≡ None
+    → begin_refusal s.world s.parties (top (stack s p)) c ≡ None
+may_begin s p c may =
+    unrefused (nat_lt p (length s.parties)) NoSuch (part_refusal s.world s.parties (stack s p) (Begin p c)) may
+
 abbrev others : World → List (List Op) → ℕ → By → Option StepError
 others w ss t b =
     let c = call.PollTick t b in
@@ -93,7 +103,7 @@ others w ss t b =
     (unless (not (is_owners c && w.is_static)) Gone (unless (not (is_owners c) || is_unborrowed w ss) Borrowed None)))
 
 -- a tick that is polled lives, and finds room
-can_poll : (s : Machine) → Reached s → (p t : ℕ) (b : By) → begin_refusal s.world s.parties (top (stack s p)) (call.PollTick t b) ≡ None
+pub can_poll : (s : Machine) → Reached s → (p t : ℕ) (b : By) → begin_refusal s.world s.parties (top (stack s p)) (call.PollTick t b) ≡ None
     → CanPoll s.world t
 can_poll s reached p t b may =
     let o = top (stack s p) in
@@ -101,20 +111,15 @@ can_poll s reached p t b may =
     subst SleepersAgree (sym reached.is) (agree reached.limit reached.kind reached.parties reached.steps) in
     let there =
     passed (has_all s.world s.parties o (call.PollTick t b)) NoSuch (others s.world s.parties t b)
-    (later (is_free o) Busy (unless (has_all s.world s.parties o (call.PollTick t b)) NoSuch (others s.world s.parties t b)) may) in
+    (unrefused (is_free o) Busy (unless (has_all s.world s.parties o (call.PollTick t b)) NoSuch (others s.world s.parties t b)) may) in
     let known = both_true (lives (tick_of s.world t) && is_unused (ticking_of t) s.parties) (is_known o b) there in
     let alive = both_true (lives (tick_of s.world t)) (is_unused (ticking_of t) s.parties) known.0 in
     record { living = alive.0; roomed = λ awake. agrees.finds_room (tick_or_run.Tick t) awake }
-  where
-    later : (x : Bool) (e : StepError) (more : Option StepError) → unless x e more ≡ None → more ≡ None
-    later true e more is = is
-    later false e more is = absurd cc
 
 pub lone_tick_lies : EachLoneAlike LoneTickLies
 lone_tick_lies = each LoneTickLies (λ s reached q quiet follows p t c b steps first room where_it none new later lone.
     let k = run-first (Begin p (call.PollTick t b)) steps s new lone.made in
-    let may : part_refusal s.world s.parties (stack s p) (Begin p (call.PollTick t b)) ≡ None =
-    refused_late (nat_lt p (length s.parties)) NoSuch (part_refusal s.world s.parties (stack s p) (Begin p (call.PollTick t b))) k.0 in
+    let may = may_begin s p (call.PollTick t b) k.0 in
     let a = waker_of None b in
     by s q p c t a none new
     (lone_calls_rest s reached p (call.PollTick t b) steps new
@@ -123,10 +128,6 @@ lone_tick_lies = each LoneTickLies (λ s reached q quiet follows p t c b steps f
     (λ hints all rests. polls_tick p None [] s.world q refl follows c t b first room where_it (can_poll s reached p t b may) hints all rests)
     lone))
   where
-    refused_late : (x : Bool) (e : StepError) (more : Option StepError) → unless x e more ≡ None → more ≡ None
-    refused_late true e more is = is
-    refused_late false e more is = absurd cc
-
     impossible : (o : Op) (os : List Op) → o ∷ os ≡ [] → ⊥
     impossible o os is = cc
 

@@ -1,6 +1,6 @@
 -- When a lone call of a machine at rest leaves it where the plain scheduler's call leaves that, as long as the executor's drop
 -- hasn't begun.
-use Rattle.std.specs.Prelude.{◌≡◌, ℕ, ◌≤◌, ◌<◌, true, false, not, List, [], ◌∷◌, length, Some, None, is_some}
+use Rattle.std.specs.Prelude.{◌≡◌, ℕ, ◌≤◌, ◌<◌, true, false, not, List, [], ◌∷◌, length, reverse, Some, None, Ok, is_some}
 use Rattle.executor_parts.specs.declared.mark.Mark.{Mark}
 use Rattle.executor_parts.specs.Marks.{first_of}
 use Rattle.task_moves.specs.AbstractTask as abstract
@@ -8,25 +8,29 @@ use Rattle.task_moves.specs.AbstractTask.Polled.{Waits}
 use Rattle.executor_model.specs.declared.call.By.{By}
 use Rattle.executor_model.specs.declared.call.Call.{Call}
 use Rattle.executor_model.specs.declared.call.Call.TheVariants as call
+use Rattle.executor_model.specs.declared.call.Reply.TheVariants as reply
+use Rattle.executor_model.specs.declared.op.Hold.TheVariants as hold
+use Rattle.executor_model.specs.declared.op.Op.TheVariants as op
 use Rattle.executor_model.specs.declared.op.Waker.{Waker}
 use Rattle.executor_model.specs.declared.step.Hint.{Hint}
 use Rattle.executor_model.specs.declared.step.Step.{Step}
 use Rattle.executor_model.specs.declared.step.Step.TheVariants.{Go}
 use Rattle.executor_model.specs.Acts.{is_copy_refused, is_refused}
-use Rattle.executor_model.specs.Executions.{EveryMachine}
+use Rattle.executor_model.specs.Executions.{EveryMachine, run_all}
 use Rattle.executor_model.specs.Quiet.{IsQuiet}
-use Rattle.executor_model.specs.Steps.{Machine, kept, waker_of}
-use Rattle.executor_model.specs.World.{task}
+use Rattle.executor_model.specs.Steps.{Machine, kept, stack, waker_of}
+use Rattle.executor_model.specs.World.{Done, done, task}
 use Rattle.executor_laws.specs.LoneEnds.{IsLoneCall}
-use Rattle.plain_scheduler.specs.State.{Choice, Plain, Refusal}
+use Rattle.plain_scheduler.specs.State.{Choice, Plain, Refusal, Tick, Try}
 use Rattle.plain_scheduler.specs.Lists.{any}
 use Rattle.plain_scheduler.specs.Moves.{is_common}
 use Rattle.plain_scheduler.specs.Moves as plain
 use Rattle.plain_scheduler.specs.Calls.{does, is_granted, Spawn, Wake, Use, Copy, Release, Cancel, Detach, DropHandle, PollHandle}
-use Rattle.plain_scheduler.specs.Calls.{DropTick, Ends, IsEmpty, NewTick, PollTick}
+use Rattle.plain_scheduler.specs.Calls.{DropTick, Ends, IsEmpty, NewTick, PollTick, TryTick}
 use Rattle.machine_roads.specs.View.{Output, wakes}
 use Rattle.machine_roads.specs.Alike.{begins, LeavesAlike}
 use Rattle.machine_roads.specs.Road.{Follows}
+use Rattle.machine_roads.specs.Stopped.{Stops}
 use Rattle.machine_roads.specs.Ticking.{Rests}
 
 -- a call that leaves the world so leaves the machine so
@@ -39,6 +43,13 @@ LoneCallIsAlone s =
 -- these steps of a lone call lead there
 abbrev pub LeadsTo : Machine → ℕ → Call → List Step → Plain Output Waker → Type 0
 LeadsTo s p c steps q = (new : Machine) → new.world.gone ≡ false → IsLoneCall p c steps s new → Follows new.world q
+
+-- on the way to this machine its party rests first, with nothing left to do or in user code, so
+pub record RestsFirst (p : ℕ) (So : Done → Type 0) (new : Machine) : Type 0 where
+  pub machine : Machine
+  pub rest : List Step
+  pub made : run_all rest machine ≡ Ok new
+  pub so : So (done machine.world (reverse (stack machine p)))
 
 -- of each machine at rest and each plain scheduler where both stand alike
 abbrev pub EachLoneAlike : (Machine → Plain Output Waker → Type 0) → Type 0
@@ -118,6 +129,23 @@ module _ (s : Machine) (q : Plain Output Waker) where
   LoneTickIsMade =
       (p : ℕ) (c : Choice) (h : Hint) (steps : List Step) → is_granted c.refusal ≡ not h.refused
       → LeadsTo s p call.NewTick (Go p h ∷ steps) (does wakes c NewTick q)
+
+  -- a try rests first where the plain scheduler's does: it is answered, or in the poll or the drop of a future that it took
+  abbrev pub LoneTries : Type 0
+  LoneTries =
+      (p : ℕ) (c : Choice) (steps : List Step) → c.first ≡ first_of s.world.urgent_turns → length q.lying ≤ c.tells
+      → (new : Machine) → new.world.gone ≡ false → IsLoneCall p call.TryTick steps s new
+      → RestsFirst p (λ e. Stops Try (op.End reply.Yes hold.Executor) [] q e (does wakes c TryTick q)) new
+
+  -- and so does a poll of a tick
+  abbrev pub LoneTickIsPolled : Type 0
+  LoneTickIsPolled =
+      (p t : ℕ) (c : Choice) (b : By) (steps : List Step) → c.first ≡ first_of s.world.urgent_turns → length q.lying < c.tells
+      → Rests s.world q t → (new : Machine) → new.world.gone ≡ false → IsLoneCall p (call.PollTick t b) steps s new
+      → RestsFirst p
+      (λ e. (r : Refusal) × Stops (Tick t (waker_of None b)) (op.End reply.Ready (hold.Tick t)) [] q e
+      (does wakes (record c { refusal = r }) (PollTick t (waker_of None b)) q))
+      new
 
   -- a tick is polled where nothing without a keeper is due: it lies, or that is refused in one way or the other
   abbrev pub LoneTickLies : Type 0

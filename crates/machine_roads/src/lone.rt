@@ -5,7 +5,7 @@ ghost use Rattle.machine_roads.specs.Lone.{LoneEmpty, LoneSpawns, LoneUses, Lone
 ghost use Rattle.machine_roads.specs.Lone.{LoneDetachLoses, LoneGoesWithOutput};
 ghost use Rattle.machine_roads.specs.Lone.{LoneDetaches, LoneHandleGoes, LoneHandlePolls};
 ghost use Rattle.machine_roads.specs.Lone.{LoneHandleWaits, LoneTickGoes, LoneTickIsMade};
-ghost use Rattle.machine_roads.specs.Lone.{LoneTickLies, LoneWakes};
+ghost use Rattle.machine_roads.specs.Lone.{LoneTickIsPolled, LoneTickLies, LoneTries, LoneWakes};
 
 /// What a call leaves of the world, however it is told, a lone call leaves of each machine at rest,
 /// as long as the executor's drop hasn't begun: so it is here and below.
@@ -57,6 +57,13 @@ pub fn lone_polls_of_handles_are_polls()
 /// So does a lone spawn, also one that is refused.
 pub fn lone_spawns_are_spawns()
     ensures { EachLoneAlike LoneSpawns }
+{}
+
+/// A lone try, and a lone poll of a tick, rest first where those of the plain scheduler do: answered,
+/// or in the poll or the drop of a future that they took, in whatever world `roads` goes on from.
+pub fn lone_takes_rest_alike()
+    ensures tries { EachLoneAlike LoneTries }
+    ensures ticks { EachLoneAlike LoneTickIsPolled }
 {}
 
 /// So does the lone making of a tick, also one that is refused, and its drop, where it lies in both

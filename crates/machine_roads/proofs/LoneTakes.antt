@@ -1,5 +1,5 @@
 -- Lone calls that take futures, up to where they come to rest first.
-use Rattle.std.proofs.Common.{◌≡◌, ℕ, List, [], Option, None, Ok, refl, sym, ap, subst, ◌∙◌}
+use Rattle.std.proofs.Common.{◌≡◌, ℕ, List, [], ◌∷◌, None, Ok, refl, sym, subst}
 use Rattle.std.specs.Prelude.{reverse}
 use Rattle.executor_model.specs.declared.call.Call.{Call}
 use Rattle.executor_model.specs.declared.call.Call.TheVariants as call

@@ -40,7 +40,7 @@ heard_here s r = subst Heard (sym r.is) (heard r.limit r.kind r.parties r.steps)
 below_of : (n f : ℕ) → past n f ≡ 0 → f < n
 below_of n f is = grind (arith, past_is)
 
-same_self : (g : ℕ) → same g g ≡ 1
+pub same_self : (g : ℕ) → same g g ≡ 1
 same_self g = grind (arith, same_is)
 
 below_test : (n m : ℕ) → n < m → nat_lt n m ≡ true

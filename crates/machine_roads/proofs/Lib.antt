@@ -21,6 +21,7 @@ pub mod Polling
 pub mod Spawning
 pub mod Calling
 pub mod PollCalls
+pub mod Standing
 pub mod Trying
 pub mod Pending
 pub mod Losing
@@ -39,3 +40,4 @@ pub mod LoneCalls
 pub mod LoneLosing
 pub mod LoneTicks
 pub mod LoneTakes
+pub mod LoneTries

@@ -29,7 +29,8 @@ use Rattle.plain_scheduler.specs.Calls.{does, Copy, NewTick, PollHandle, Spawn}
 use Rattle.machine_roads.specs.View.{Output, waker_in, wakes}
 use Rattle.machine_roads.specs.Road.{Follows}
 use Rattle.machine_roads.specs.Lone.{EachLoneAlike, LoneCancels, LoneCopies, LoneEmpty, LoneSpawns, LoneUses, LoneWakerGoes}
-use Rattle.machine_roads.specs.Lone.{LoneDetaches, LoneHandleGoes, LoneHandlePolls, LoneHandleWaits, LoneTickGoes, LoneTickIsMade, LoneWakes}
+use Rattle.machine_roads.specs.Lone.{LoneDetaches, LoneHandleGoes, LoneHandlePolls, LoneHandleWaits, LoneTickGoes}
+use Rattle.machine_roads.specs.Lone.{LoneTickIsMade, LoneWakes}
 use Rattle.machine_roads.proofs.Calling.{cancels, copies_kept, detaches, empty_alike, handle_goes, spawns, uses_alike}
 use Rattle.machine_roads.proofs.Calling.{waker_goes, wakes_kept}
 use Rattle.machine_roads.proofs.LoneRuns.{lone_calls, lone_calls_so, lone_calls_told, lone_calls_told_twice}

@@ -57,7 +57,8 @@ pub lone_tick_is_polled : EachLoneAlike LoneTickIsPolled
 lone_tick_is_polled = each LoneTickIsPolled (λ s reached q quiet follows p t c b steps first room where_it new later lone.
     let a = waker_of None b in
     let so : Done → Type 0 =
-    λ e. (r : Refusal) × Stops (Tick t a) (op.End reply.Ready (hold.Tick t)) [] q e (does wakes (record c { refusal = r }) (PollTick t a) q) in
+    λ e. (r : Refusal) × Stops (Tick t a) (op.End reply.Ready (hold.Tick t)) [] q e
+    (does wakes (record c { refusal = r }) (PollTick t a) q) in
     first_rest s new reached p (call.PollTick t b) steps so lone
     (lone_calls_rest s reached p (call.PollTick t b) steps new so quiet later
     (λ hints all rests. polls_tick p None [] s.world q refl follows c t b first room where_it

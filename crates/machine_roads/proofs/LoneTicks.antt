@@ -17,7 +17,8 @@ use Rattle.executor_model.specs.declared.step.Step.TheVariants.{Begin}
 use Rattle.executor_model.specs.declared.step.StepError.{StepError}
 use Rattle.executor_model.specs.declared.step.StepError.TheVariants.{Borrowed, Busy, Gone, NoSuch}
 use Rattle.executor_model.specs.SleepersAgree.{SleepersAgree}
-use Rattle.executor_model.specs.Steps.{Machine, begin_refusal, has_all, is_free, is_known, is_on_executor, is_owners, is_unborrowed, is_unused, lives}
+use Rattle.executor_model.specs.Steps.{Machine, begin_refusal, has_all, is_free, is_known, is_on_executor, is_owners}
+use Rattle.executor_model.specs.Steps.{is_unborrowed, is_unused, lives}
 use Rattle.executor_model.specs.Steps.{part_refusal, refusal, stack, top, unless, waker_of}
 use Rattle.executor_model.specs.Rows.{leaking_of, ticking_of}
 use Rattle.executor_model.specs.World.{World, tick_of}
@@ -123,9 +124,11 @@ lone_tick_lies = each LoneTickLies (λ s reached q quiet follows p t c b steps f
     let a = waker_of None b in
     by s q p c t a none new
     (lone_calls_rest s reached p (call.PollTick t b) steps new
-    (λ e. (r : Refusal) × Stops (Tick t a) (op.End reply.Ready (hold.Tick t)) [] q e (does wakes (record c { refusal = r }) (PollTick t a) q))
+    (λ e. (r : Refusal) × Stops (Tick t a) (op.End reply.Ready (hold.Tick t)) [] q e
+    (does wakes (record c { refusal = r }) (PollTick t a) q))
     quiet later
-    (λ hints all rests. polls_tick p None [] s.world q refl follows c t b first room where_it (can_poll s reached p t b may) hints all rests)
+    (λ hints all rests. polls_tick p None [] s.world q refl follows c t b first room where_it (can_poll s reached p t b may) hints all
+    rests)
     lone))
   where
     impossible : (o : Op) (os : List Op) → o ∷ os ≡ [] → ⊥

@@ -16,6 +16,7 @@ use Rattle.executor_model.specs.declared.op.Op.TheVariants as op
 use Rattle.executor_model.specs.declared.op.TableOp.TheVariants as table_op
 use Rattle.executor_model.specs.declared.op.UserOp.TheVariants as user_op
 use Rattle.executor_model.specs.declared.op.Waker.{Waker}
+use Rattle.executor_model.specs.declared.step.Hint.{Hint}
 use Rattle.executor_model.specs.Acts.{told_of}
 use Rattle.executor_model.specs.Carried.{owed_ops}
 use Rattle.executor_model.specs.World.{World, Done, done, among, awaiter_of, blank, log}
@@ -24,17 +25,19 @@ use Rattle.plain_scheduler.specs.State.{Choice, Closed, Drop, Gave, Drops as Dro
 use Rattle.plain_scheduler.specs.Moves.{appended, becomes, put, see, task, tell}
 use Rattle.plain_scheduler.specs.Takes as plain_takes
 use Rattle.plain_scheduler.specs.Calls as plain_calls
-use Rattle.plain_scheduler.specs.Calls.{does, Pends}
+use Rattle.plain_scheduler.specs.Calls.{does, EndsWith, Pends}
 use Rattle.machine_roads.specs.View.{Output, view, waker_in, wakes}
 use Rattle.machine_roads.specs.Moving.{IsMove, IsPolled, pended_by}
 use Rattle.machine_roads.specs.Road.{Follows}
-use Rattle.machine_roads.specs.Alone.{alone, is_resting}
-use Rattle.machine_roads.specs.Stopped.{Finally, GivesAlikeInTake, IsInPoll, PendsAlikeInTake, Stopped, Stops, answered, drops_given, drops_polled}
+use Rattle.machine_roads.specs.Alone.{alone, is_resting, HasAll}
+use Rattle.machine_roads.specs.Dropped.{given as given_by, polled as polled_by}
+use Rattle.machine_roads.specs.Stopped.{Finally, GivesAlikeInTake, IsInPoll, PendsAlikeInTake, Stops, drops_given, given, pended}
 use Rattle.machine_roads.proofs.Changing.{logs, puts, sees}
 use Rattle.machine_roads.proofs.Exchanging.{loudly}
 use Rattle.machine_roads.proofs.Moved.{becoming}
 use Rattle.machine_roads.proofs.Puts.{put_by}
 use Rattle.machine_roads.proofs.Running.{end_of, pending_is, run_alike}
+use Rattle.machine_roads.proofs.Standing.{Answered, InDrop, IsTaken, Stays, StaysSo, stopped_so}
 use Rattle.machine_roads.proofs.Stepping.{Way, next}
 use Rattle.machine_roads.proofs.Trying.{final_inside, finally_so, places_so, stands_in, stops_at, tell_inside}
 
@@ -62,19 +65,20 @@ module _ (p : ℕ) (below : List Op) (under : is_resting below ≡ true) (end : 
   -- a task that stays becomes another, and the try is answered
   stays : (c : Choice) (f : ℕ) (w : World) (q : Plain Output Waker) (new : AbstractTask Output Waker) → length q.lying ≤ c.tells
       → Follows w (becomes wakes (tell wakes c) f new q) → Way p end w (final ∷ below)
-      → Stops taker final below q end (plain_takes.next wakes c taker (becomes wakes (tell wakes c) f new q))
+      → StaysSo taker final below q end (plain_takes.next wakes c taker (becomes wakes (tell wakes c) f new q))
   stays c f w q new many follows way =
       let e = finally_so p below under end rests taker final it c w (becomes wakes (tell wakes c) f new q) follows way in
       record {
-        stopped =
-            subst (λ codes. Stopped taker final below q.inside end.next codes) (sym (final_inside taker final it c (becomes wakes (tell wakes c) f new q) ∙ becomes_inside c f new q))
-            (subst (λ os. Stopped taker final below q.inside os q.inside) (sym e.0) answered);
+        stays =
+            subst (λ codes. Stays taker final below q.inside end.world end.next codes)
+            (sym (final_inside taker final it c (becomes wakes (tell wakes c) f new q) ∙ becomes_inside c f new q))
+            (subst (λ os. Stays taker final below q.inside end.world os q.inside) (sym e.0) Answered);
         follows = e.1;
       }
 
   pended_ends : (c : Choice) (f : ℕ) (w : World) (q : Plain Output Waker) → length q.lying ≤ c.tells → Follows w q → IsInPoll w f
       → Way p end w (op.Move move.EndPending f ∷ final ∷ below)
-      → Stops taker final below q end (does wakes c Pends (record q { inside = Poll f taker ∷ q.inside }))
+      → StaysSo taker final below q end (does wakes c Pends (record q { inside = Poll f taker ∷ q.inside }))
   pended_ends c f w q many follows is way =
       let s1 = next p end rests (op.Move move.EndPending f) w (final ∷ below) refl way in
       by (world.task w f).closed (world.task w f).scheduled (moves.is_last (world.task w f)) refl refl refl is.reached
@@ -87,7 +91,7 @@ module _ (p : ℕ) (below : List Op) (under : is_resting below ≡ true) (end : 
           (moves.end_pending_by x y z (world.task w f)).state)
           (owed_ops (among f (told_of (not x && (not y && z)) false move.EndPending p w f).table) f
           (moves.end_pending_by x y z (world.task w f)).owed ++ (final ∷ below))
-          → Stops taker final below q end (does wakes c Pends (record q { inside = Poll f taker ∷ q.inside }))
+          → StaysSo taker final below q end (does wakes c Pends (record q { inside = Poll f taker ∷ q.inside }))
       by true y z closed woken last_one reached ending way =
           let os = final ∷ below in
           let s = world.task w f in
@@ -102,11 +106,13 @@ module _ (p : ℕ) (below : List Op) (under : is_resting below ≡ true) (end : 
           let last =
           stops_at p below under end rests
           (op.User (user_op.Drop f) ∷ op.Table (table_op.LeaveTable f) ∷ op.Move move.EndClosed f ∷ os) w3 refl s3.way in
-          subst (λ e. Stops taker final below q end (plain_calls.pending_by wakes c e f taker q))
+          subst (λ e. StaysSo taker final below q end (plain_calls.pending_by wakes c e f taker q))
           (sym (ap abstract.pending_end (follows.tasks f is.known) ∙ ending))
-          (subst (λ (e : Done). Stops taker final below q e (plain_takes.dropping wakes c f Closed taker q)) last
+          (subst (λ (e : Done). StaysSo taker final below q e (plain_takes.dropping wakes c f Closed taker q)) last
           (record {
-            stopped = drops_polled f;
+            stays =
+                InDrop f move.EndClosed Closed
+                (record { known = is.known; entered = is.entered; ends = polled_by is.polled closed });
             follows =
                 stands_in (Drop f Closed taker ∷ q.inside) w3 (see (DropsFuture f) q)
                 (sees w2 q (places_so (slice_set w.inside f false) w q follows) (event.Dropped p f) (DropsFuture f) refl);
@@ -130,7 +136,7 @@ module _ (p : ℕ) (below : List Op) (under : is_resting below ≡ true) (end : 
           becoming p end rests (tell wakes c) (λ q. length q.lying ≤ c.tells) (loudly p end rests c) f (world.put w f after) os q new
           true follows2 many (ap (λ t. is_some (info_of t (abstract.queue true t))) tk ∙ sym al.queues) way in
           let ending_is : abstract.pending_end t ≡ Queues = ap abstract.pending_end tk ∙ ending in
-          subst (Stops taker final below q end)
+          subst (StaysSo taker final below q end)
           (sym (ap (λ e. plain_calls.pending_by wakes c e f taker q) ending_is
           ∙ ap (λ e. plain_takes.next wakes c taker (becomes wakes (tell wakes c) f (abstract.end_pending_by e t).task q)) ending_is))
           (stays c f put_in.world q new many put_in.follows put_in.way)
@@ -157,14 +163,17 @@ module _ (p : ℕ) (below : List Op) (under : is_resting below ≡ true) (end : 
           (ap (λ (t : AbstractTask Output Waker). is_some (info_of t (record t { phase = abstract.Phase.Idle }))) tk ∙ sym al.queues)
           way in
           let ending_is : abstract.pending_end t ≡ Rests = ap abstract.pending_end tk ∙ ending in
-          subst (Stops taker final below q end)
+          subst (StaysSo taker final below q end)
           (sym (ap (λ e. plain_calls.pending_by wakes c e f taker q) ending_is
           ∙ ap (λ e. plain_takes.next wakes c taker (becomes wakes (tell wakes c) f (abstract.end_pending_by e t).task q)) ending_is))
           (stays c f put_in.world q new many put_in.follows put_in.way)
 
-pub pends : (p : ℕ) (here : Option Waker) (below : List Op) (w : World) (q : Plain Output Waker) → is_resting below ≡ true
-    → Follows w q → PendsAlikeInTake p here below w q
-pends p here below w q under follows taker final it f is c many hints has rests =
+pub pends_so : (p : ℕ) (below : List Op) (w : World) (q : Plain Output Waker) → is_resting below ≡ true → Follows w q
+    → (taker : Taker Waker) (final : Op) → Finally taker final → (f : ℕ) → IsInPoll w f → (c : Choice) → length q.lying ≤ c.tells
+    → (hints : List Hint) → HasAll p hints (pended p f final below w) → is_resting (alone p hints (pended p f final below w)).next ≡ true
+    → StaysSo taker final below q (alone p hints (pended p f final below w))
+    (does wakes c Pends (record q { inside = Poll f taker ∷ q.inside }))
+pends_so p below w q under follows taker final it f is c many hints has rests =
     let w0 = log w (event.Answered p f answer.Pending) in
     let os = final ∷ below in
     let end = alone p hints (done w0 (op.Table (table_op.PutBack f) ∷ os)) in
@@ -176,9 +185,21 @@ pends p here below w q under follows taker final it f is c many hints has rests 
     pended_ends p below under end rests taker final it c f w1 q many follows1
     (record { known = is.known; polled = is.polled; entered = is.entered; reached = is.reached }) s.way
 
-pub gives : (p : ℕ) (here : Option Waker) (below : List Op) (w : World) (q : Plain Output Waker) → is_resting below ≡ true
-    → Follows w q → GivesAlikeInTake p here below w q
-gives p here below w q under follows taker final f c hints has rests =
+pub pends : (p : ℕ) (here : Option Waker) (below : List Op) (w : World) (q : Plain Output Waker) → is_resting below ≡ true
+    → Follows w q → PendsAlikeInTake p here below w q
+pends p here below w q under follows taker final it f is c many hints has rests =
+    stopped_so taker final below q (alone p hints (pended p f final below w))
+    (does wakes c Pends (record q { inside = Poll f taker ∷ q.inside }))
+    (pends_so p below w q under follows taker final it f is c many hints has rests)
+
+pub gives_so : (p : ℕ) (below : List Op) (w : World) (q : Plain Output Waker) → is_resting below ≡ true → Follows w q
+    → (taker : Taker Waker) (final : Op) (f : ℕ) (c : Choice) (hints : List Hint) → HasAll p hints (given p f final below w)
+    → is_resting (alone p hints (given p f final below w)).next ≡ true
+    → (IsTaken w f → StaysSo taker final below q (alone p hints (given p f final below w))
+    (does wakes c (EndsWith tt) (record q { inside = Poll f taker ∷ q.inside })))
+    × Stops taker final below q (alone p hints (given p f final below w))
+    (does wakes c (EndsWith tt) (record q { inside = Poll f taker ∷ q.inside }))
+gives_so p below w q under follows taker final f c hints has rests =
     let w0 = log w (event.Answered p f answer.Ready) in
     let os = op.Move move.EndReady f ∷ final ∷ below in
     let end = alone p hints (done w0 (op.User (user_op.BeginDrop f) ∷ os)) in
@@ -187,10 +208,21 @@ gives p here below w q under follows taker final f c hints has rests =
     let w1 = log w0 (event.Dropped p f) in
     let last =
     stops_at p below under end rests (op.User (user_op.Drop f) ∷ op.Table (table_op.LeaveTable f) ∷ os) w1 refl s.way in
-    subst (λ (e : Done). Stops taker final below q e (plain_takes.dropping wakes c f (Gave tt) taker q)) last
-    (record {
-      stopped = drops_given f;
-      follows =
-          stands_in (Drop f (Gave tt) taker ∷ q.inside) w1 (see (DropsFuture f) q)
-          (sees w0 q (logs w q follows (event.Answered p f answer.Ready) refl) (event.Dropped p f) (DropsFuture f) refl);
-    })
+    let new : Plain Output Waker = plain_takes.dropping wakes c f (Gave tt) taker q in
+    let follows1 : Follows w1 new =
+    stands_in (Drop f (Gave tt) taker ∷ q.inside) w1 (see (DropsFuture f) q)
+    (sees w0 q (logs w q follows (event.Answered p f answer.Ready) refl) (event.Dropped p f) (DropsFuture f) refl) in
+    subst (λ (e : Done). (IsTaken w f → StaysSo taker final below q e new) × Stops taker final below q e new) last (
+      λ taken. record {
+        stays =
+            InDrop f move.EndReady (Gave tt)
+            (record { known = taken.known; entered = taken.entered; ends = given_by taken.polled });
+        follows = follows1;
+      },
+      record { stopped = drops_given f; follows = follows1 },
+    )
+
+pub gives : (p : ℕ) (here : Option Waker) (below : List Op) (w : World) (q : Plain Output Waker) → is_resting below ≡ true
+    → Follows w q → GivesAlikeInTake p here below w q
+gives p here below w q under follows taker final f c hints has rests =
+    (gives_so p below w q under follows taker final f c hints has rests).1

@@ -210,13 +210,14 @@ module _ (c : Choice) (w : Option Waker) where
       given_run s.scheduled s.running s.completed s.closed s.handle s.awaiter s.registering s.notifying s.references is
 
 -- who is called leaves the code in which calls stand
-called_inside : (c : Choice) (o : Option Waker) (q : Plain Output Waker) → (on o (called wakes (tell wakes c)) q).inside ≡ q.inside
+pub called_inside : (c : Choice) (o : Option Waker) (q : Plain Output Waker) → (on o (called wakes (tell wakes c)) q).inside ≡ q.inside
 called_inside c None q = refl
 called_inside c (Some (Outside x)) q = refl
 called_inside c (Some (Task g)) q = becomes_inside c g (abstract.release (abstract.wake (task g q))) q
 
 -- what goes out of a task whose run ends
-goes_out : (taker : Taker Waker) (c : Choice) (l : abstract.Left Output Waker) (z : Plain Output Waker) (a : Option Waker) (d : Option Output)
+goes_out : (taker : Taker Waker) (c : Choice) (l : abstract.Left Output Waker) (z : Plain Output Waker) (a : Option Waker)
+    (d : Option Output)
     → l.called ≡ a → l.let_go ≡ None → l.dropped ≡ d
     → plain_takes.out wakes c l (Some taker) z
     ≡ or d (λ v. enters (Lose a (Some taker)) (see (Loses v) z)) (plain_takes.next wakes c taker (on a (called wakes (tell wakes c)) z))
@@ -229,7 +230,8 @@ goes_out taker c l z a d called_is let_go_is dropped_is =
     called_is)
 
 module _ (p : ℕ) (below : List Op) (under : is_resting below ≡ true) (end : Done) (rests : is_resting end.next ≡ true) (c : Choice)
-    (taker : Taker Waker) (final : Op) (it : Finally taker final) (f : ℕ) (w : World) (q : Plain Output Waker) (many : length q.lying ≤ c.tells) (follows : Follows w q) (at : f < length w.tasks)
+    (taker : Taker Waker) (final : Op) (it : Finally taker final) (f : ℕ) (w : World) (q : Plain Output Waker)
+    (many : length q.lying ≤ c.tells) (follows : Follows w q) (at : f < length w.tasks)
     (m : Move) (why : End Output) (ends : EndsBy (world.task w f) m why) where
   abbrev s : State
   s = world.task w f
@@ -338,7 +340,8 @@ module _ (p : ℕ) (below : List Op) (under : is_resting below ≡ true) (end : 
           → Drops taker final below f q end (leads b)
       by false way =
           let r =
-          ending_so p below under end rests c taker final it f w3 z aw (subst (λ ls. length ls ≤ c.tells) (sym (put_lying f l.task q)) many) ending
+          ending_so p below under end rests c taker final it f w3 z aw
+          (subst (λ ls. length ls ≤ c.tells) (sym (put_lying f l.task q)) many) ending
           (subst (Way p end w3) to_do_is way) in
           answered r.0 (final_inside taker final it c (on aw (called wakes (tell wakes c)) z) ∙ (called_inside c aw z ∙ z_inside)) r.1
       by true way =
@@ -372,16 +375,20 @@ drops p here below w q under follows taker final it f m why at there ends c many
     let left = leaves p end rests c f w q follows at m why ends os there start in
     let after = plain_takes.given_up wakes c f (marked f q) in
     let r =
-    runs_out p below under end rests c taker final it f left.now after (subst (λ ls. length ls ≤ c.tells) (sym left.lying) many) left.stands left.known
+    runs_out p below under end rests c taker final it f left.now after
+    (subst (λ ls. length ls ≤ c.tells) (sym left.lying) many) left.stands left.known
     m why left.run left.way in
-    moved_on taker final end (plain_takes.ended wakes c f (plain_takes.left_by wakes c why (task f after)) (Some taker) after) after left.inside r
+    moved_on taker final end (plain_takes.ended wakes c f (plain_takes.left_by wakes c why (task f after)) (Some taker) after) after
+    left.inside r
   where
-    moved_on : (taker : Taker Waker) (final : Op) (end : Done) (new after : Plain Output Waker) → after.inside ≡ q.inside → Drops taker final below f after end new → Drops taker final below f q end new
+    moved_on : (taker : Taker Waker) (final : Op) (end : Done) (new after : Plain Output Waker)
+        → after.inside ≡ q.inside → Drops taker final below f after end new → Drops taker final below f q end new
     moved_on taker final end new after same (answered next inside follows) = answered next (inside ∙ same) follows
     moved_on taker final end new after same (loses awaiter next inside ending) =
         loses awaiter next (inside ∙ ap (λ codes. Lose awaiter (Some taker) ∷ codes) same) ending
 
 pub loses_in_take : LosesAlikeInTake
 loses_in_take taker final p f below w q awaiter c it under ending many hints unit has rests =
-    ending_so p below under (alone p hints (done w (rest_of (world.task w f).awaiter f final ++ below))) rests c taker final it f w q awaiter many ending
+    ending_so p below under (alone p hints (done w (rest_of (world.task w f).awaiter f final ++ below))) rests c taker final it f w q
+    awaiter many ending
     (record { hints = hints; has = has; is = refl })

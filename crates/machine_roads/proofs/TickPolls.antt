@@ -44,6 +44,7 @@ use Rattle.machine_roads.proofs.Lain.{lies_anew, neither, none_found, ups, waker
 use Rattle.machine_roads.proofs.Moved.{Then, fits as stays_fit}
 use Rattle.machine_roads.proofs.Pending.{becomes_inside}
 use Rattle.machine_roads.proofs.Stepping.{Way, next}
+use Rattle.machine_roads.proofs.Standing.{stops_so}
 use Rattle.machine_roads.proofs.Ticking.{sleeper_goes_so}
 use Rattle.machine_roads.proofs.Trying.{runs, takes_first, tell_inside}
 
@@ -196,8 +197,10 @@ module _ (p : ℕ) (below : List Op) (under : is_resting below ≡ true) (end : 
       let q2 = up wakes c who q1 in
       let told = (loudly p end rests c).tells got.so_up.world (op.Move move.TakeUp f ∷ final ∷ below) q2 got.fit_up got.so_up.follows
       got.so_up.way in
-      let run = runs p below under end rests (Tick t a) final c f told.world (tell wakes c q2) told.follows told.way in
       let new : Plain Output Waker = plain_takes.run wakes c f (Tick t a) (tell wakes c q2) in
+      let run =
+      stops_so (Tick t a) final below (tell wakes c q2) end new
+      (runs p below under end rests (Tick t a) final c f told.world (tell wakes c q2) told.follows told.way) in
       let same : (d : Due) → chosen (commons c) q.due d ≡ is_common m d = λ d. tests d one.some in
       let take : Option Due → List Due → Plain Output Waker = λ o ds.
       or o (λ d. plain_takes.takes wakes c (Tick t a) d (record q { due = ds })) (plain_takes.nothing wakes (refusing r) (Tick t a) q) in

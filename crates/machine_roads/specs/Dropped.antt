@@ -66,10 +66,12 @@ dropped m final p f w =
 
 abbrev pub DropsAlikeInTake : ℕ → Option Waker → List Op → World → Plain Output Waker → Type 0
 DropsAlikeInTake p here below w q =
-    (taker : Taker Waker) (final : Op) → Finally taker final → (f : ℕ) (m : Move) (why : End Output) → f < length w.tasks → among f w.table ≡ true → EndsBy (task w f) m why
+    (taker : Taker Waker) (final : Op) → Finally taker final → (f : ℕ) (m : Move) (why : End Output) → f < length w.tasks
+    → among f w.table ≡ true → EndsBy (task w f) m why
     → (c : Choice) → length q.lying ≤ c.tells → (hints : List Hint) → HasAll p hints (upon below (dropped m final p f w))
     → is_resting (alone p hints (upon below (dropped m final p f w))).next ≡ true
-    → Drops taker final below f q (alone p hints (upon below (dropped m final p f w))) (does wakes c Ends (record q { inside = Drop f why taker ∷ q.inside }))
+    → Drops taker final below f q (alone p hints (upon below (dropped m final p f w)))
+    (does wakes c Ends (record q { inside = Drop f why taker ∷ q.inside }))
 
 -- the drop of the output ends
 abbrev pub lost : Op → ℕ → ℕ → World → Done

@@ -1,6 +1,6 @@
 -- When a lone call of a machine at rest leaves it where the plain scheduler's call leaves that, as long as the executor's drop
 -- hasn't begun.
-use Rattle.std.specs.Prelude.{◌≡◌, ℕ, ◌≤◌, ◌<◌, true, false, not, List, [], ◌∷◌, length, reverse, Some, None, Ok, is_some}
+use Rattle.std.specs.Prelude.{◌≡◌, ℕ, ◌≤◌, ◌<◌, Bool, true, false, not, List, [], ◌∷◌, length, reverse, Some, None, Ok, is_some}
 use Rattle.executor_parts.specs.declared.mark.Mark.{Mark}
 use Rattle.executor_parts.specs.Marks.{first_of}
 use Rattle.task_moves.specs.AbstractTask as abstract
@@ -26,7 +26,8 @@ use Rattle.plain_scheduler.specs.Lists.{any}
 use Rattle.plain_scheduler.specs.Moves.{is_common}
 use Rattle.plain_scheduler.specs.Moves as plain
 use Rattle.plain_scheduler.specs.Calls.{does, is_granted, Spawn, Wake, Use, Copy, Release, Cancel, Detach, DropHandle, PollHandle}
-use Rattle.plain_scheduler.specs.Calls.{DropTick, Ends, IsEmpty, NewTick, PollTick, TryTick}
+use Rattle.plain_scheduler.specs.Calls.{DropTick, Ends, EndsWith, IsEmpty, NewTick, Pends, PollTick, TryTick}
+use Rattle.plain_scheduler.specs.Calls as plain_calls
 use Rattle.machine_roads.specs.View.{Output, wakes}
 use Rattle.machine_roads.specs.Alike.{begins, LeavesAlike}
 use Rattle.machine_roads.specs.Road.{Follows}
@@ -50,6 +51,19 @@ pub record RestsFirst (p : ℕ) (So : Done → Type 0) (new : Machine) : Type 0 
   pub rest : List Step
   pub made : run_all rest machine ≡ Ok new
   pub so : So (done machine.world (reverse (stack machine p)))
+
+-- a user's code ends
+abbrev pub is_end : plain_calls.Call Output Waker → Bool
+is_end Pends = true
+is_end (EndsWith v) = true
+is_end Ends = true
+is_end _ = false
+
+-- by such ends, each of which tells who lay down last
+pub data Ended : Plain Output Waker → Plain Output Waker → Type 0 where
+  over : (q : Plain Output Waker) → Ended q q
+  ends : (c : Choice) (e : plain_calls.Call Output Waker) (q r : Plain Output Waker) → is_end e ≡ true → length q.lying ≤ c.tells
+      → Ended (does wakes c e q) r → Ended q r
 
 -- of each machine at rest and each plain scheduler where both stand alike
 abbrev pub EachLoneAlike : (Machine → Plain Output Waker → Type 0) → Type 0
@@ -137,7 +151,14 @@ module _ (s : Machine) (q : Plain Output Waker) where
       → (new : Machine) → new.world.gone ≡ false → IsLoneCall p call.TryTick steps s new
       → RestsFirst p (λ e. Stops Try (op.End reply.Yes hold.Executor) [] q e (does wakes c TryTick q)) new
 
-  -- and so does a poll of a tick
+  -- with the ends of the code that it comes to a try of an executor that isn't static is a try
+  abbrev pub LoneTriesEnd : Type 0
+  LoneTriesEnd =
+      (p : ℕ) (c : Choice) (steps : List Step) → q.is_static ≡ false → c.first ≡ first_of s.world.urgent_turns
+      → length q.lying ≤ c.tells → (new : Machine) → new.world.gone ≡ false → IsLoneCall p call.TryTick steps s new
+      → (r : Plain Output Waker) × Ended (does wakes c TryTick q) r × (r.inside ≡ q.inside) × Follows new.world r
+
+  -- a poll of a tick rests so first too
   abbrev pub LoneTickIsPolled : Type 0
   LoneTickIsPolled =
       (p t : ℕ) (c : Choice) (b : By) (steps : List Step) → c.first ≡ first_of s.world.urgent_turns → length q.lying < c.tells

@@ -5,7 +5,8 @@ ghost use Rattle.machine_roads.specs.Lone.{LoneEmpty, LoneSpawns, LoneUses, Lone
 ghost use Rattle.machine_roads.specs.Lone.{LoneDetachLoses, LoneGoesWithOutput};
 ghost use Rattle.machine_roads.specs.Lone.{LoneDetaches, LoneHandleGoes, LoneHandlePolls};
 ghost use Rattle.machine_roads.specs.Lone.{LoneHandleWaits, LoneTickGoes, LoneTickIsMade};
-ghost use Rattle.machine_roads.specs.Lone.{LoneTickIsPolled, LoneTickLies, LoneTries, LoneWakes};
+ghost use Rattle.machine_roads.specs.Lone.{LoneTickIsPolled, LoneTickLies, LoneTries};
+ghost use Rattle.machine_roads.specs.Lone.{LoneTriesEnd, LoneWakes};
 
 /// What a call leaves of the world, however it is told, a lone call leaves of each machine at rest,
 /// as long as the executor's drop hasn't begun: so it is here and below.
@@ -64,6 +65,12 @@ pub fn lone_spawns_are_spawns()
 pub fn lone_takes_rest_alike()
     ensures tries { EachLoneAlike LoneTries }
     ensures ticks { EachLoneAlike LoneTickIsPolled }
+{}
+
+/// And with the ends of all the user code that it comes to a lone try is a try, of an executor that
+/// isn't static.
+pub fn lone_tries_are_tries()
+    ensures { EachLoneAlike LoneTriesEnd }
 {}
 
 /// So does the lone making of a tick, also one that is refused, and its drop, where it lies in both

@@ -1,13 +1,11 @@
 -- Lone calls that take futures, up to where they come to rest first.
-use Rattle.std.proofs.Common.{◌≡◌, ℕ, List, [], ◌∷◌, None, Ok, refl, sym, subst}
+use Rattle.std.proofs.Common.{◌≡◌, ℕ, List, [], ◌∷◌, None, refl, sym, subst}
 use Rattle.std.specs.Prelude.{reverse}
 use Rattle.executor_model.specs.declared.call.Call.{Call}
 use Rattle.executor_model.specs.declared.call.Call.TheVariants as call
 use Rattle.executor_model.specs.declared.call.Reply.TheVariants as reply
 use Rattle.executor_model.specs.declared.op.Hold.TheVariants as hold
-use Rattle.executor_model.specs.declared.op.Op.{Op}
 use Rattle.executor_model.specs.declared.op.Op.TheVariants as op
-use Rattle.executor_model.specs.declared.op.Waker.{Waker}
 use Rattle.executor_model.specs.declared.step.Step.{Step}
 use Rattle.executor_model.specs.declared.step.Step.TheVariants.{Answer, Begin}
 use Rattle.executor_model.specs.Steps.{Machine, stack, waker_of}
@@ -15,9 +13,9 @@ use Rattle.executor_model.specs.World.{Done, done}
 use Rattle.executor_model.proofs.Quiet.Resting.{rests}
 use Rattle.executor_model.proofs.Steps.Reached.{Reached, deep-here, reached-more, run-first}
 use Rattle.executor_laws.specs.LoneEnds.{IsLoneCall}
-use Rattle.plain_scheduler.specs.State.{Choice, Plain, Refusal, Tick, Try}
+use Rattle.plain_scheduler.specs.State.{Refusal, Tick, Try}
 use Rattle.plain_scheduler.specs.Calls.{does, PollTick, TryTick}
-use Rattle.machine_roads.specs.View.{Output, wakes}
+use Rattle.machine_roads.specs.View.{wakes}
 use Rattle.machine_roads.specs.Stopped.{Stops}
 use Rattle.machine_roads.specs.Lone.{EachLoneAlike, LoneTickIsPolled, LoneTries, RestsFirst}
 use Rattle.machine_roads.proofs.LoneCalls.{each}

@@ -1,22 +1,17 @@
 -- A lone try, with the ends of all the code that it comes to: a poll, the drop of a future, and that of an output.
-use Rattle.std.proofs.Common.{◌≡◌, ◌⊎◌, ℕ, ◌≤◌, ◌<◌, ◌==◌, ◌++◌, ◌&&◌, not, cond, Bool, true, false, List, [], ◌∷◌, length}
-use Rattle.std.proofs.Common.{Option, Some, None, Ok, ⊎_elim, refl, sym, ap, subst, ◌∙◌, arith}
+use Rattle.std.proofs.Common.{◌≡◌, ℕ, ◌≤◌, ◌<◌, ◌==◌, ◌++◌, ◌&&◌, not, cond, Bool, true, false, List, [], ◌∷◌, length}
+use Rattle.std.proofs.Common.{Some, None, ⊎_elim, refl, sym, ap, subst, ◌∙◌, arith}
 use Rattle.std.specs.Prelude.{reverse}
 use Rattle.std.proofs.lemmas.Bool.Decides.{nat_tests}
 use Rattle.task_moves.specs.declared.moves.owed.Move.{Move}
 use Rattle.task_moves.specs.declared.moves.owed.Move.TheVariants as move
-use Rattle.task_moves.specs.declared.moves.state.State.{State}
-use Rattle.task_moves.specs.Moves as moves
 use Rattle.executor_model.specs.declared.call.Call.TheVariants as call
-use Rattle.executor_model.specs.declared.call.Reply.TheVariants as reply
 use Rattle.executor_model.specs.declared.event.Answer.TheVariants as answer
-use Rattle.executor_model.specs.declared.op.Hold.TheVariants as hold
 use Rattle.executor_model.specs.declared.op.Op.{Op}
 use Rattle.executor_model.specs.declared.op.Op.TheVariants as op
 use Rattle.executor_model.specs.declared.op.TableOp.TheVariants as table_op
 use Rattle.executor_model.specs.declared.op.UserOp.TheVariants as user_op
 use Rattle.executor_model.specs.declared.op.Waker.{Waker}
-use Rattle.executor_model.specs.declared.step.Step.{Step}
 use Rattle.executor_model.specs.declared.step.Step.TheVariants.{Answer, Begin}
 use Rattle.executor_model.specs.declared.step.UserEnd.{UserEnd}
 use Rattle.executor_model.specs.declared.step.UserEnd.TheVariants as end
@@ -24,15 +19,14 @@ use Rattle.executor_model.specs.Acts.{is_last_waker}
 use Rattle.executor_model.specs.Good.{Good}
 use Rattle.executor_model.specs.Quiet.{IsQuiet}
 use Rattle.executor_model.specs.Rows.{polls_of}
-use Rattle.executor_model.specs.Sound.{pend, tabled, times}
-use Rattle.executor_model.specs.Steps.{Machine, accepts, after, below_top, react, stack}
+use Rattle.executor_model.specs.Sound.{tabled, times}
+use Rattle.executor_model.specs.Steps.{Machine, accepts, below_top, react, stack}
 use Rattle.executor_model.specs.Weights.{same}
 use Rattle.executor_model.specs.World.{World, Done, among, done, task}
 use Rattle.executor_model.proofs.OneFuture.Stories.{among_is}
 use Rattle.executor_model.proofs.Quiet.Resting.{rests}
 use Rattle.executor_model.proofs.Steps.Lift.{split, topped}
 use Rattle.executor_model.proofs.Steps.Reached.{Reached, deep-here, good-here, reached-more, run-first}
-use Rattle.executor_laws.specs.LoneEnds.{IsLoneCall}
 use Rattle.plain_scheduler.specs.State.{Choice, Code, Drop, End, Lose, Plain, Poll, Try}
 use Rattle.plain_scheduler.specs.Calls as plain_calls
 use Rattle.plain_scheduler.specs.Calls.{does, Ends, EndsWith, Pends, TryTick}

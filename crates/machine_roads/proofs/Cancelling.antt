@@ -23,7 +23,7 @@ use Rattle.plain_scheduler.specs.Lists.{on}
 use Rattle.plain_scheduler.specs.Moves.{appended, becomes, called, put, task}
 use Rattle.machine_roads.specs.View.{Output, view, wakes, waker_in}
 use Rattle.machine_roads.specs.Moving.{cancelled, CancelsAlike}
-use Rattle.machine_roads.specs.Road.{Follows}
+use Rattle.machine_roads.specs.Road.{Follows, IsStored}
 use Rattle.machine_roads.specs.Alone.{is_resting}
 use Rattle.machine_roads.proofs.Calm.{cancelled_calm}
 use Rattle.machine_roads.proofs.Lists.{get_below, set_twice}
@@ -52,13 +52,50 @@ cancel_keeps t = by (t.closed || abstract.is_over t.phase) (abstract.is_idle t.p
     by false true = refl
     by false false = refl
 
+-- without who awaits the task
+abbrev pub emptied : ℕ → World → World
+emptied f w = put_awaiter (world.put w f (record (world.task w f) { awaiter = false; notifying = false })) f None
+
+module _ (p : ℕ) (end : Done) (rests : is_resting end.next ≡ true) where
+  -- on the machine, it is left to be called or let go
+  pub record Took (f : ℕ) (mine : Bool) (w : World) (os : List Op) : Type 0 where
+    pub at : f < length w.tasks
+    pub same : Bool
+    pub way : Way p end (emptied f w) (told_ops (mine && same) f (awaiter_of w f) ++ os)
+
+  pub took : (f : ℕ) (mine : Bool) (w : World) (os : List Op) → (f < length w.tasks → IsStored (world.task w f) (awaiter_of w f))
+      → Way p end w (op.Handle (handle_op.Notify f mine) ∷ os) → Took f mine w os
+  took f mine w os is_stored way =
+      let one = next p end rests (op.Handle (handle_op.Notify f mine)) w os refl way in
+      let at : f < length w.tasks = one.has in
+      let s = world.task w f in
+      let stored = is_stored at in
+      let free : (s.notifying || s.registering) ≡ false =
+      ap (λ b. b || s.registering) stored.notifying ∙ stored.registering in
+      let first : World = world.put w f (moves.notify_by false s).state in
+      let two =
+      next p end rests (op.Handle (handle_op.EndNotify f mine)) first os refl
+      (subst (λ b. Way p end (notify_by b w f mine).world ((notify_by b w f mine).next ++ os)) free one.way) in
+      let here : world.task first f ≡ (moves.notify_by false s).state =
+      get_or-set_same w.tasks f (moves.notify_by false s).state blank at in
+      let last : State = record s { awaiter = false; notifying = false } in
+      let same : put_awaiter (world.put first f (moves.end_notify (world.task first f)).state) f None ≡ emptied f w =
+      ap (λ t. put_awaiter (world.put first f (moves.end_notify t).state) f None) here
+      ∙ ap (λ ts. record w { tasks = ts; awaiters = slice_set w.awaiters f None })
+      (set_twice w.tasks f (moves.notify_by false s).state last) in
+      record {
+        at = at;
+        same = two.hint.same;
+        way = subst (λ w. Way p end w (told_ops (mine && two.hint.same) f (awaiter_of first f) ++ os)) same two.way;
+      }
+
 module _ (p : ℕ) (end : Done) (rests : is_resting end.next ≡ true) (more : Plain Output Waker → Plain Output Waker)
     (P : Plain Output Waker → Type 0) (teller : Tells p end more P) where
   -- who awaits a task is taken out, and called
   abbrev pub notified : ℕ → Plain Output Waker → Plain Output Waker
   notified f q = on (task f q).awaiter (called wakes more) (put f (unawaited (task f q)) q)
 
-  -- it is taken out, and left to be called or let go
+  -- so it is taken out, as the plain scheduler does
   pub record Taken (f : ℕ) (mine : Bool) (w : World) (os : List Op) (q : Plain Output Waker) : Type 0 where
     pub at : f < length w.tasks
     pub world : World
@@ -69,35 +106,26 @@ module _ (p : ℕ) (end : Done) (rests : is_resting end.next ≡ true) (more : P
   taken : (f : ℕ) (mine : Bool) (w : World) (os : List Op) (q : Plain Output Waker) → Follows w q
       → Way p end w (op.Handle (handle_op.Notify f mine) ∷ os) → Taken f mine w os q
   taken f mine w os q follows way =
-      let one = next p end rests (op.Handle (handle_op.Notify f mine)) w os refl way in
-      let at : f < length w.tasks = one.has in
-      let s = world.task w f in
-      let stored = follows.stored f at in
-      let free : (s.notifying || s.registering) ≡ false =
-      ap (λ b. b || s.registering) stored.notifying ∙ stored.registering in
-      let first : World = world.put w f (moves.notify_by false s).state in
-      let two =
-      next p end rests (op.Handle (handle_op.EndNotify f mine)) first os refl
-      (subst (λ b. Way p end (notify_by b w f mine).world ((notify_by b w f mine).next ++ os)) free one.way) in
-      let here : world.task first f ≡ (moves.notify_by false s).state =
-      get_or-set_same w.tasks f (moves.notify_by false s).state blank at in
-      let last : State = record s { awaiter = false; notifying = false } in
-      let tk : task f q ≡ view s (waker_in (awaiter_of w f)) = follows.tasks f at in
-      let same : put_awaiter (world.put first f (moves.end_notify (world.task first f)).state) f None
-      ≡ put_awaiter (world.put w f last) f None =
-      ap (λ t. put_awaiter (world.put first f (moves.end_notify t).state) f None) here
-      ∙ ap (λ ts. record w { tasks = ts; awaiters = slice_set w.awaiters f None })
-      (set_twice w.tasks f (moves.notify_by false s).state last) in
+      let t = took p end rests f mine w os (follows.stored f) way in
+      let stored = follows.stored f t.at in
       record {
-        at = at;
-        world = put_awaiter (world.put w f last) f None;
+        at = t.at;
+        world = emptied f w;
         follows =
-            settles w q follows f at last None (unawaited (task f q))
-            (ap (λ (t : AbstractTask Output Waker). told (unawaited t)) (sym tk))
+            settles w q follows f t.at (record (world.task w f) { awaiter = false; notifying = false }) None (unawaited (task f q))
+            (ap (λ (t : AbstractTask Output Waker). told (unawaited t)) (sym (follows.tasks f t.at)))
             (record { awaiter = refl; registering = stored.registering; notifying = refl }) (λ over. refl);
-        same = two.hint.same;
-        way = subst (λ w. Way p end w (told_ops (mine && two.hint.same) f (awaiter_of first f) ++ os)) same two.way;
+        same = t.same;
+        way = t.way;
       }
+
+  -- and called
+  pub calls_taken : (f : ℕ) (a : Option Awaiter) (w : World) (os : List Op) (q : Plain Output Waker) → Follows w q → P q
+      → Way p end w (told_ops false f a ++ os) → Then p end os (on (waker_in a) (called wakes more) q)
+  calls_taken f None w os q follows fit way = record { world = w; follows = follows; way = way }
+  calls_taken f (Some a) w os q follows fit way =
+      let s = next p end rests (op.Waker (waker_op.CallAwaiter f a.waker a.poll)) w os refl way in
+      calls_so p end rests more P teller a.waker (of.Handle f) a.poll w os q follows fit s.has s.way
 
   notifies : (f : ℕ) (w : World) (os : List Op) (q : Plain Output Waker) → Follows w q → P q
       → Way p end w (op.Handle (handle_op.Notify f false) ∷ os) → Then p end os (notified f q)
@@ -105,15 +133,8 @@ module _ (p : ℕ) (end : Done) (rests : is_resting end.next ≡ true) (more : P
       let m = taken f false w os q follows way in
       subst (λ o. Then p end os (on o (called wakes more) (put f (unawaited (task f q)) q)))
       (sym (ap (λ (t : AbstractTask Output Waker). t.awaiter) (follows.tasks f m.at)))
-      (by (awaiter_of w f) m.world (put f (unawaited (task f q)) q) m.follows
+      (calls_taken f (awaiter_of w f) m.world os (put f (unawaited (task f q)) q) m.follows
       (teller.like q (put f (unawaited (task f q)) q) (sym (put_lying f (unawaited (task f q)) q)) fit) m.way)
-    where
-      by : (a : Option Awaiter) (w : World) (q : Plain Output Waker) → Follows w q → P q
-          → Way p end w (told_ops false f a ++ os) → Then p end os (on (waker_in a) (called wakes more) q)
-      by None w q follows fit way = record { world = w; follows = follows; way = way }
-      by (Some a) w q follows fit way =
-          let s = next p end rests (op.Waker (waker_op.CallAwaiter f a.waker a.poll)) w os refl way in
-          calls_so p end rests more P teller a.waker (of.Handle f) a.poll w os q follows fit s.has s.way
 
   -- where nobody is there nothing is done
   pub notifies_nobody : (f : ℕ) (mine : Bool) (w : World) (os : List Op) (q : Plain Output Waker)

@@ -4,7 +4,7 @@ use Rattle.std.proofs.Common.{take}
 use Rattle.std.proofs.Common.{Option, Some, None, is_some, slice_get, slice_set, if◌then◌else◌, refl, sym, ap, subst, ◌∙◌, arith}
 use Rattle.executor_parts.specs.Sleepers.{last_waker, waker_in, without_last}
 use Rattle.task_moves.specs.AbstractTask as abstract
-use Rattle.task_moves.specs.AbstractTask.{AbstractTask, Phase, Queued}
+use Rattle.task_moves.specs.AbstractTask.{AbstractTask}
 use Rattle.task_moves.specs.LocalTask.{info_of, told}
 use Rattle.executor_model.specs.declared.op.Op.{Op}
 use Rattle.executor_model.specs.declared.op.Op.TheVariants as op
@@ -121,7 +121,7 @@ module _ (p : ℕ) (end : Done) (rests : is_resting end.next ≡ true) where
       way = subst (λ b. Way p end (exchange_by b w).world ((exchange_by b w).next ++ os)) (follows.flag ∙ fit)
           (next p end rests (op.Sleeper sleeper_op.ExchangeFlag) w os refl way).way;
     };
-    past = λ h change f q x is queued. record { future = x; there = is; queued = queued; same = refl };
+    past = λ h change f q x is still. record { future = x; there = is; still = still; same = refl };
     awaits = λ f q. refl;
     outputs = λ f q. refl;
     polls = λ f q. refl;
@@ -204,7 +204,7 @@ module _ (p : ℕ) (end : Done) (rests : is_resting end.next ≡ true) where
     keeps = λ q fit. subst (λ n. n ≤ c.tells) (sym (tell_long c q)) fit;
     tells = λ w os q fit follows way.
         telling c w os q fit follows w.notified refl (next p end rests (op.Sleeper sleeper_op.ExchangeFlag) w os refl way).way;
-    past = λ h change f q x is queued. tell_past f wakes h change c q x is queued;
+    past = λ h change f q x is still. tell_past f wakes h change c q x is still;
     awaits = λ f q. tell_asks (λ t. t.awaiter) (used_asks (λ t. t.awaiter) awaiters) f c q;
     outputs = λ f q. tell_asks (λ t. t.output) (used_asks (λ t. t.output) outputs) f c q;
     polls = λ f q. tell_asks (λ t. abstract.polled t) used_polled f c q;

@@ -11,6 +11,7 @@ use Rattle.executor_model.specs.declared.op.Op.{Op}
 use Rattle.executor_model.specs.declared.op.Op.TheVariants as op
 use Rattle.executor_model.specs.declared.op.QueueOp.TheVariants as queue_op
 use Rattle.executor_model.specs.declared.op.SleeperOp.TheVariants as sleeper_op
+use Rattle.executor_model.specs.declared.op.TickOp.TheVariants as tick_op
 use Rattle.executor_model.specs.declared.op.Waker.{Waker}
 use Rattle.executor_model.specs.declared.op.Waker.TheVariants.{Task, Outside}
 use Rattle.executor_model.specs.declared.op.WakerOp.TheVariants as waker_op
@@ -39,7 +40,7 @@ heard_here s r = subst Heard (sym r.is) (heard r.limit r.kind r.parties r.steps)
 below_of : (n f : ℕ) → past n f ≡ 0 → f < n
 below_of n f is = grind (arith, past_is)
 
-same_self : (g : ℕ) → same g g ≡ 1
+pub same_self : (g : ℕ) → same g g ≡ 1
 same_self g = grind (arith, same_is)
 
 below_test : (n m : ℕ) → n < m → nat_lt n m ≡ true
@@ -172,5 +173,7 @@ module _ (s : Machine) (p : ℕ) (reached : Reached s) (there : p < length s.par
       (needs s p (op.Handle (handle_op.Look f a)) there is good, at_rest f)
   has_here (op.Handle (handle_op.CopyAwaiter f a)) open_still is =
       can_copy a (needs s p (op.Handle (handle_op.CopyAwaiter f a)) there is good)
+  has_here (op.Tick (tick_op.CopyWaker x)) open_still is =
+      can_copy x.waker (needs s p (op.Tick (tick_op.CopyWaker x)) there is good)
   has_here (op.Handle o) open_still is = needs s p (op.Handle o) there is good
   has_here o open_still is = tt

@@ -7,11 +7,11 @@ use Rattle.plain_scheduler.specs.State.{Future, Plain}
 use Rattle.plain_scheduler.specs.Moves.{appended, becomes, put, task}
 use Rattle.machine_roads.proofs.Lists.{set_same, set_twice}
 use Rattle.machine_roads.proofs.Puts.{with_task, put_at, put_is, task_is, task_put, mark_put}
-use Rattle.machine_roads.proofs.Used.{put_twice, Comes}
+use Rattle.machine_roads.proofs.Used.{is_still, put_twice, Comes}
 
 module _ {T A : Type 0} (wakes : A → Option ℕ) (f : ℕ) (h : AbstractTask T A → AbstractTask T A)
     (more : Plain T A → Plain T A)
-    (past : (p : Plain T A) (x : Future T A) → slice_get p.futures f ≡ Some x → x.task.phase ≡ Queued
+    (past : (p : Plain T A) (x : Future T A) → slice_get p.futures f ≡ Some x → is_still x.task.phase ≡ true
     → Comes f wakes h (more (put_at f (h x.task) x p)) (more p))
     (p : Plain T A) (x : Future T A) (is : slice_get p.futures f ≡ Some x) (v : AbstractTask T A)
     (again : told (h (told v)) ≡ told (h v)) where
@@ -55,7 +55,7 @@ module _ {T A : Type 0} (wakes : A → Option ℕ) (f : ℕ) (h : AbstractTask T
 
   moving : v.phase ≡ Queued → put f (h (task f (more z))) (more z) ≡ more (appended f (put f (h v) p))
   moving queued =
-      let c = past z y there queued in
+      let c = past z y there (ap is_still queued) in
       ap (λ t. put f (h t) (more z)) (task_is f (more z) c.future c.there)
       ∙ (put_is f (h c.future.task) (more z) c.future c.there ∙ (c.same ∙ ap more once))
 

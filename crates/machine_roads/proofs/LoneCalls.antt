@@ -13,6 +13,7 @@ use Rattle.executor_model.specs.declared.op.HandleOp.TheVariants as handle_op
 use Rattle.executor_model.specs.declared.op.Hold.TheVariants as hold
 use Rattle.executor_model.specs.declared.op.Op.TheVariants as op
 use Rattle.executor_model.specs.declared.op.TableOp.TheVariants as table_op
+use Rattle.executor_model.specs.declared.op.TickOp.TheVariants as tick_op
 use Rattle.executor_model.specs.declared.op.Waker.{Waker}
 use Rattle.executor_model.specs.declared.op.WakerOp.TheVariants as waker_op
 use Rattle.executor_model.specs.Quiet.{IsQuiet}
@@ -24,18 +25,20 @@ use Rattle.executor_model.proofs.Steps.Reached.{Reached}
 use Rattle.plain_scheduler.specs.State.{Future, Plain}
 use Rattle.plain_scheduler.specs.Lists.{or}
 use Rattle.plain_scheduler.specs.Moves.{no_task, task}
-use Rattle.plain_scheduler.specs.Calls.{does, Copy, PollHandle, Spawn}
+use Rattle.plain_scheduler.specs.Calls.{does, Copy, NewTick, PollHandle, Spawn}
 use Rattle.machine_roads.specs.View.{Output, waker_in, wakes}
 use Rattle.machine_roads.specs.Road.{Follows}
 use Rattle.machine_roads.specs.Lone.{EachLoneAlike, LoneCancels, LoneCopies, LoneEmpty, LoneSpawns, LoneUses, LoneWakerGoes}
-use Rattle.machine_roads.specs.Lone.{LoneDetaches, LoneHandleGoes, LoneHandlePolls, LoneHandleWaits, LoneWakes}
+use Rattle.machine_roads.specs.Lone.{LoneDetaches, LoneHandleGoes, LoneHandlePolls, LoneHandleWaits, LoneTickGoes}
+use Rattle.machine_roads.specs.Lone.{LoneTickIsMade, LoneWakes}
 use Rattle.machine_roads.proofs.Calling.{cancels, copies_kept, detaches, empty_alike, handle_goes, spawns, uses_alike}
 use Rattle.machine_roads.proofs.Calling.{waker_goes, wakes_kept}
 use Rattle.machine_roads.proofs.LoneRuns.{lone_calls, lone_calls_so, lone_calls_told, lone_calls_told_twice}
 use Rattle.machine_roads.proofs.PollCalls.{polls}
 use Rattle.machine_roads.proofs.Polling.{waits_poll}
+use Rattle.machine_roads.proofs.Ticking.{makes_tick, tick_goes}
 
-each : (So : Machine → Plain Output Waker → Type 0)
+pub each : (So : Machine → Plain Output Waker → Type 0)
     → ((s : Machine) → Reached s → (q : Plain Output Waker) → IsQuiet s.world.trace → Follows s.world q → So s q)
     → EachLoneAlike So
 each So so limit kind parties steps q quiet follows =
@@ -107,6 +110,16 @@ lone_waits = each LoneHandleWaits (λ s reached q quiet follows p f c b g h step
     (op.Handle (handle_op.CopyAwaiter f a)) steps new (λ w. Follows w (does wakes c (PollHandle f a) q)) quiet later refl refl refl
     (looks_on p f a s.world (log s.world (event.CallBegun p (call.PollHandle f b))) q follows waits refl) (λ w. refl) refl
     (λ hints all rests. polls p None [] s.world q refl follows c f b many (g ∷ h ∷ hints) (λ is. granted) all rests) lone)
+
+pub lone_tick_is_made : EachLoneAlike LoneTickIsMade
+lone_tick_is_made = each LoneTickIsMade (λ s reached q quiet follows p c h steps granted new later lone.
+    lone_calls_told s reached p call.NewTick h (op.Tick tick_op.MakeTick) steps new (λ w. Follows w (does wakes c NewTick q)) quiet later
+    refl refl refl
+    (λ hints all rests. makes_tick p None [] s.world q refl follows c (h ∷ hints) granted all rests) lone)
+
+pub lone_tick_goes : EachLoneAlike LoneTickGoes
+lone_tick_goes = each LoneTickGoes (λ s reached q quiet follows p t c steps where_it many new later lone.
+    lone_calls s reached p (call.DropTick t) steps new _ quiet later (tick_goes p None [] s.world q refl follows c t where_it many) lone)
 
 pub lone_empty : EachLoneAlike LoneEmpty
 lone_empty = each LoneEmpty (λ s reached q quiet follows p c steps new later lone.

@@ -37,8 +37,8 @@ use Rattle.machine_roads.specs.Road.{Follows}
 use Rattle.machine_roads.specs.Lone.{LoneCallIsAlone}
 use Rattle.machine_roads.proofs.Lists.{clash, same_of}
 use Rattle.machine_roads.proofs.Having.{has_here, heard_here}
-use Rattle.machine_roads.proofs.Tying.{Goes, Leads, answers, ended, goes, leads_ended, leads_on, leads_outside, leads_rest}
-use Rattle.machine_roads.proofs.Tying.{none_of, settles, top_of}
+use Rattle.machine_roads.proofs.Tying.{AtEnd, Goes, Leads, LeadsSo, answers, ended, goes, leads_ended, leads_on, leads_outside}
+use Rattle.machine_roads.proofs.Tying.{leads_rest, none_of, settles, top_of}
 
 made_is : (s new : Machine) → ◌≡◌ {A = Result Machine StepError} (Ok s) (Ok new) → s ≡ new
 made_is s new is = ap (λ (r : Result Machine StepError). by r) is
@@ -86,7 +86,7 @@ gone_before ts s new reached made later = by (has is_drop_begun s.world.trace) r
         absurd (clash later (sym (tells new (reached-more ts s new reached made))
         ∙ (ap (has is_drop_begun) more.1 ∙ has_before is_drop_begun s.world.trace more.0 is)))
 
-passed : (b : Bool) (e : StepError) (later : Option StepError) → unless b e later ≡ None → b ≡ true
+pub passed : (b : Bool) (e : StepError) (later : Option StepError) → unless b e later ≡ None → b ≡ true
 passed true e later is = refl
 passed false e later is = absurd cc
 
@@ -94,26 +94,50 @@ not_true : (b : Bool) → not b ≡ true → b ≡ false
 not_true true is = absurd cc
 not_true false is = refl
 
-both_true : (a b : Bool) → (a && b) ≡ true → (a ≡ true) × (b ≡ true)
+pub both_true : (a b : Bool) → (a && b) ≡ true → (a ≡ true) × (b ≡ true)
 both_true true b is = (refl, is)
 both_true false b is = absurd cc
 
-module _ (p : ℕ) (P : World → Type 0) where
+module _ (p : ℕ) (R : Done → Type 0) where
   -- one step, and what is then left of it
-  record Onward (new : Machine) (ts : List Step) : Type 0 where
-    machine : Machine
-    todo : List Op
-    reached : Reached machine
-    there : p < length machine.parties
-    is : reverse (stack machine p) ≡ todo
-    leads : Leads p (done machine.world todo) P
-    made : run_all ts machine ≡ Ok new
+  pub record Onward (new : Machine) (ts : List Step) : Type 0 where
+    pub machine : Machine
+    pub todo : List Op
+    pub reached : Reached machine
+    pub there : p < length machine.parties
+    pub is : reverse (stack machine p) ≡ todo
+    pub leads : LeadsSo p (done machine.world todo) R
+    pub made : run_all ts machine ≡ Ok new
+
+  -- it rests in user code, which ends so, and goes on
+  pub record InCode (new : Machine) : Type 0 where
+    pub machine : Machine
+    pub first : Op
+    pub rest : List Op
+    pub end : UserEnd
+    pub steps : List Step
+    pub reached : Reached machine
+    pub there : p < length machine.parties
+    pub is : reverse (stack machine p) ≡ first ∷ rest
+    pub so : R (done machine.world (first ∷ rest))
+    pub accepted : accepts first end ≡ true
+    pub made : run_all (Answer p end ∷ steps) machine ≡ Ok new
+    pub follow : are_onward_of p steps ≡ true
+
+  data Comes (new : Machine) (ts : List Step) : Type 0 where
+    Further : Onward new ts → Comes new ts
+    Stands : InCode new → Comes new ts
+
+  -- where it rests first: at its end, or in user code
+  pub data Rests (new : Machine) : Type 0 where
+    Whole : R (done new.world []) → Rests new
+    Inside : InCode new → Rests new
 
   module _ (s new : Machine) (reached : Reached s) (there : p < length s.parties) (later : new.world.gone ≡ false) where
     still_there : (t : Step) → p < length (after s t).parties
     still_there t = subst (λ n. p < n) (sym (length-set s.parties _ _)) there
 
-    onward : (t : Step) (ts : List Step) (d : Done) → Goes p s (after s t) d → Leads p (done d.world d.next) P
+    pub onward : (t : Step) (ts : List Step) (d : Done) → Goes p s (after s t) d → LeadsSo p (done d.world d.next) R
         → refusal s t ≡ None → run_all ts (after s t) ≡ Ok new → Onward new ts
     onward t ts d goes leads may made = record {
       machine = after s t;
@@ -121,7 +145,7 @@ module _ (p : ℕ) (P : World → Type 0) where
       reached = reached-step s t may reached;
       there = still_there t;
       is = goes.todo;
-      leads = subst (λ w. Leads p (done w (ended p d.world d.next).next) P) (sym goes.world) (leads_ended p P d.world d.next leads);
+      leads = subst (λ w. LeadsSo p (done w (ended p d.world d.next).next) R) (sym goes.world) (leads_ended p R d.world d.next leads);
       made = made;
     }
 
@@ -138,7 +162,7 @@ module _ (p : ℕ) (P : World → Type 0) where
         ∙ (sym (refusal-there s (Answer p e) there) ∙ (ap (λ n. refusal s (Answer n e)) (same_of p q on) ∙ may)) in
         cc
 
-    module _ (o : Op) (os : List Op) (is : reverse (stack s p) ≡ o ∷ os) (leads : Leads p (done s.world (o ∷ os)) P)
+    module _ (o : Op) (os : List Op) (is : reverse (stack s p) ≡ o ∷ os) (leads : LeadsSo p (done s.world (o ∷ os)) R)
         (ts : List Step) where
       by_go : (h : Hint) → refusal s (Go p h) ≡ None → run_all ts (after s (Go p h)) ≡ Ok new → s.world.gone ≡ false
           → Onward new ts
@@ -150,57 +174,88 @@ module _ (p : ℕ) (P : World → Type 0) where
           not_true (waits o)
           (passed (not (waits o)) WrongAnswer (unless (not (is_locked_out s.world.lock o)) Waits None) goes_on) in
           onward (Go p h) ts (done (act p h o s.world).world ((act p h o s.world).next ++ os)) (goes p s there o os is h)
-          (leads_on p P h o s.world os free (has_here s p reached there o open_still its_top) leads) may made
+          (leads_on p R h o s.world os free (has_here s p reached there o open_still its_top) leads) may made
 
-      by_answer : (e : UserEnd) → refusal s (Answer p e) ≡ None → run_all ts (after s (Answer p e)) ≡ Ok new → Onward new ts
-      by_answer e may made =
+      by_answer : (e : UserEnd) → are_onward_of p ts ≡ true → run_all (Answer p e ∷ ts) s ≡ Ok new → refusal s (Answer p e) ≡ None
+          → run_all ts (after s (Answer p e)) ≡ Ok new → Comes new ts
+      by_answer e follow whole may made =
           let its_top = (top_of (stack s p) o os is).0 in
           let accepted = passed (accepts o e) WrongAnswer None
           (sym (ap (λ t. answer_refusal t e) its_top) ∙ (sym (refusal-there s (Answer p e) there) ∙ may)) in
           by o refl accepted
         where
-          stops : (o_is : Op) → o ≡ o_is → is_resting (o_is ∷ os) ≡ true → Onward new ts
-          stops o_is same resting =
-              let none : o ∷ os ≡ [] = (leads_rest p P s.world (o ∷ os) (ap (λ x. is_resting (x ∷ os)) same ∙ resting) leads).0 in
-              absurd cc
+          in_here : (o_is : Op) → o ≡ o_is → accepts o_is e ≡ true → is_resting (o_is ∷ os) ≡ true → Comes new ts
+          in_here o_is same ok resting = Stands (record {
+            machine = s;
+            first = o;
+            rest = os;
+            end = e;
+            steps = ts;
+            reached = reached;
+            there = there;
+            is = is;
+            so = leads_rest p R s.world (o ∷ os) (ap (λ x. is_resting (x ∷ os)) same ∙ resting) leads;
+            accepted = ap (λ x. accepts x e) same ∙ ok;
+            made = whole;
+            follow = follow;
+          })
 
-          by : (o_is : Op) → o ≡ o_is → accepts o_is e ≡ true → Onward new ts
+          by : (o_is : Op) → o ≡ o_is → accepts o_is e ≡ true → Comes new ts
           by (op.User (user_op.CallOutside x)) same ok =
-              onward (Answer p e) ts (done s.world os)
+              Further (onward (Answer p e) ts (done s.world os)
               (subst (λ (d : Done). Goes p s (after s (Answer p e)) (done d.world (d.next ++ os)))
               (ap (λ x. react p x e s.world) same) (answers p s there o os is e))
-              (leads_outside p P x s.world os (subst (λ x. Leads p (done s.world (x ∷ os)) P) same leads)) may made
-          by (op.User (user_op.Poll f)) same ok = stops (op.User (user_op.Poll f)) same refl
-          by (op.User (user_op.Drop f)) same ok = stops (op.User (user_op.Drop f)) same refl
-          by (op.User (user_op.DropOutput f)) same ok = stops (op.User (user_op.DropOutput f)) same refl
-          by (op.User (user_op.PollOwn x)) same ok = stops (op.User (user_op.PollOwn x)) same refl
-          by (op.User (user_op.DropOwn r)) same ok = stops (op.User (user_op.DropOwn r)) same refl
+              (leads_outside p R x s.world os (subst (λ x. LeadsSo p (done s.world (x ∷ os)) R) same leads)) may made)
+          by (op.User (user_op.Poll f)) same ok = in_here (op.User (user_op.Poll f)) same ok refl
+          by (op.User (user_op.Drop f)) same ok = in_here (op.User (user_op.Drop f)) same ok refl
+          by (op.User (user_op.DropOutput f)) same ok = in_here (op.User (user_op.DropOutput f)) same ok refl
+          by (op.User (user_op.PollOwn x)) same ok = in_here (op.User (user_op.PollOwn x)) same ok refl
+          by (op.User (user_op.DropOwn r)) same ok = in_here (op.User (user_op.DropOwn r)) same ok refl
           by o_is same ok = absurd cc
 
   step_by : (t : Step) (ts : List Step) (s new : Machine) (os : List Op) → Reached s → p < length s.parties
-      → new.world.gone ≡ false → reverse (stack s p) ≡ os → Leads p (done s.world os) P → is_onward_of p t ≡ true
-      → run_all (t ∷ ts) s ≡ Ok new → Onward new ts
-  step_by t ts s new [] reached there later is leads on made =
-      absurd (idle s new reached there later t on is (run-first t ts s new made).0)
-  step_by (Begin q c) ts s new (o ∷ os) reached there later is leads on made = absurd cc
-  step_by (Go q h) ts s new (o ∷ os) reached there later is leads on made =
-      let k = run-first (Go p h) ts s new (subst (λ n. run_all (Go n h ∷ ts) s ≡ Ok new) (sym (same_of p q on)) made) in
-      by_go s new reached there later o os is leads ts h k.0 k.1 (gone_before (Go q h ∷ ts) s new reached made later)
-  step_by (Answer q e) ts s new (o ∷ os) reached there later is leads on made =
-      let k = run-first (Answer p e) ts s new (subst (λ n. run_all (Answer n e ∷ ts) s ≡ Ok new) (sym (same_of p q on)) made) in
-      by_answer s new reached there later o os is leads ts e k.0 k.1
+      → new.world.gone ≡ false → reverse (stack s p) ≡ os → LeadsSo p (done s.world os) R → is_onward_of p t ≡ true
+      → are_onward_of p ts ≡ true → run_all (t ∷ ts) s ≡ Ok new → Comes new ts
+  step_by t ts s new [] reached there later is leads on_it follow made =
+      absurd (idle s new reached there later t on_it is (run-first t ts s new made).0)
+  step_by (Begin q c) ts s new (o ∷ os) reached there later is leads on_it follow made = absurd cc
+  step_by (Go q h) ts s new (o ∷ os) reached there later is leads on_it follow made =
+      let k = run-first (Go p h) ts s new (subst (λ n. run_all (Go n h ∷ ts) s ≡ Ok new) (sym (same_of p q on_it)) made) in
+      Further (by_go s new reached there later o os is leads ts h k.0 k.1 (gone_before (Go q h ∷ ts) s new reached made later))
+  step_by (Answer q e) ts s new (o ∷ os) reached there later is leads on_it follow made =
+      let whole = subst (λ n. run_all (Answer n e ∷ ts) s ≡ Ok new) (sym (same_of p q on_it)) made in
+      let k = run-first (Answer p e) ts s new whole in
+      by_answer s new reached there later o os is leads ts e follow whole k.0 k.1
 
-  all_steps : (ts : List Step) (s new : Machine) (os : List Op) → Reached s → p < length s.parties → new.world.gone ≡ false
-      → reverse (stack s p) ≡ os → Leads p (done s.world os) P → are_onward_of p ts ≡ true → run_all ts s ≡ Ok new
-      → stack new p ≡ [] → P new.world
-  all_steps [] s new os reached there later is leads on made empty =
+  rest_by : (new : Machine) (ts : List Step) → (Onward new ts → Rests new) → Comes new ts → Rests new
+  rest_by new ts goes (Further m) = goes m
+  rest_by new ts goes (Stands x) = Inside x
+
+  pub all_rests : (ts : List Step) (s new : Machine) (os : List Op) → Reached s → p < length s.parties → new.world.gone ≡ false
+      → reverse (stack s p) ≡ os → LeadsSo p (done s.world os) R → are_onward_of p ts ≡ true → run_all ts s ≡ Ok new
+      → stack new p ≡ [] → Rests new
+  all_rests [] s new os reached there later is leads follow made empty =
       let same = made_is s new made in
       let none : os ≡ [] = sym is ∙ ap (λ (m : Machine). reverse (stack m p)) same ∙ ap (λ (ys : List Op). reverse ys) empty in
-      subst (λ (m : Machine). P m.world) same (leads_rest p P s.world os (ap is_resting none) leads).1
-  all_steps (t ∷ ts) s new os reached there later is leads on made empty =
-      let two = both_true (is_onward_of p t) (are_onward_of p ts) on in
-      let m = step_by t ts s new os reached there later is leads two.0 made in
-      all_steps ts m.machine new m.todo m.reached m.there later m.is m.leads two.1 m.made empty
+      Whole
+      (subst (λ (m : Machine). R (done m.world [])) same
+      (subst (λ xs. R (done s.world xs)) none (leads_rest p R s.world os (ap is_resting none) leads)))
+  all_rests (t ∷ ts) s new os reached there later is leads follow made empty =
+      let two = both_true (is_onward_of p t) (are_onward_of p ts) follow in
+      rest_by new ts
+      (λ m. all_rests ts m.machine new m.todo m.reached m.there later m.is m.leads two.1 m.made empty)
+      (step_by t ts s new os reached there later is leads two.0 two.1 made)
+
+-- a call that rests at its end alone has ended
+pub ends_so : (p : ℕ) (P : World → Type 0) (new : Machine) → Rests p (AtEnd P) new → P new.world
+ends_so p P new (Whole so) = so.1
+ends_so p P new (Inside x) = let none : x.first ∷ x.rest ≡ [] = x.so.0 in absurd cc
+
+pub all_steps : (p : ℕ) (P : World → Type 0) (ts : List Step) (s new : Machine) (os : List Op) → Reached s → p < length s.parties
+    → new.world.gone ≡ false → reverse (stack s p) ≡ os → Leads p (done s.world os) P → are_onward_of p ts ≡ true
+    → run_all ts s ≡ Ok new → stack new p ≡ [] → P new.world
+all_steps p P ts s new os reached there later is leads follow made empty =
+    ends_so p P new (all_rests p (AtEnd P) ts s new os reached there later is leads follow made empty)
 
 within : (n m : ℕ) → nat_lt n m ≡ true → n < m
 within n m is = grind (arith, nat_tests)
@@ -208,10 +263,10 @@ within n m is = grind (arith, nat_tests)
 upon_nothing : (d : Done) → upon [] d ≡ d
 upon_nothing d = ap (λ os. done d.world os) (append-nil d.next)
 
-pub lone_calls_so : (s : Machine) → Reached s → (p : ℕ) (c : Call) (steps : List Step) (new : Machine) (P : World → Type 0)
-    → IsQuiet s.world.trace → new.world.gone ≡ false → Leads p (upon [] (begins p None c s.world)) P
-    → IsLoneCall p c steps s new → P new.world
-lone_calls_so s reached p c steps new P quiet later leaves lone =
+pub lone_calls_rest : (s : Machine) → Reached s → (p : ℕ) (c : Call) (steps : List Step) (new : Machine) (R : Done → Type 0)
+    → IsQuiet s.world.trace → new.world.gone ≡ false → LeadsSo p (upon [] (begins p None c s.world)) R
+    → IsLoneCall p c steps s new → Rests p R new
+lone_calls_rest s reached p c steps new R quiet later leaves lone =
     let k = run-first (Begin p c) steps s new lone.made in
     let there : p < length s.parties =
     within p (length s.parties)
@@ -231,11 +286,17 @@ lone_calls_so s reached p c steps new P quiet later leaves lone =
     (onto p (begun p (log s.world (event.CallBegun p c)) (mine (top (stack s p))) c) (stack s p)).todo [] there
     ∙ ap (λ (l : Part). l.todo) part)
     ∙ e.todo in
-    all_steps p P steps first new (ended p d.world d.next).next (reached-step s (Begin p c) k.0 reached)
+    all_rests p R steps first new (ended p d.world d.next).next (reached-step s (Begin p c) k.0 reached)
     (subst (λ n. p < n) (sym (length-set s.parties p _)) there) later todo
-    (subst (λ w. Leads p (done w (ended p d.world d.next).next) P) (sym world)
-    (leads_ended p P d.world d.next (subst (λ d. Leads p d P) (upon_nothing d) leaves)))
+    (subst (λ w. LeadsSo p (done w (ended p d.world d.next).next) R) (sym world)
+    (leads_ended p R d.world d.next (subst (λ d. LeadsSo p d R) (upon_nothing d) leaves)))
     lone.alone k.1 (rests new (deep-here new (reached-more (Begin p c ∷ steps) s new reached lone.made)) lone.ended p)
+
+pub lone_calls_so : (s : Machine) → Reached s → (p : ℕ) (c : Call) (steps : List Step) (new : Machine) (P : World → Type 0)
+    → IsQuiet s.world.trace → new.world.gone ≡ false → Leads p (upon [] (begins p None c s.world)) P
+    → IsLoneCall p c steps s new → P new.world
+lone_calls_so s reached p c steps new P quiet later leaves lone =
+    ends_so p P new (lone_calls_rest s reached p c steps new (AtEnd P) quiet later leaves lone)
 
 pub lone_calls : (s : Machine) → Reached s → LoneCallIsAlone s
 lone_calls s reached p c steps new q quiet later leaves lone =
@@ -267,7 +328,7 @@ told_from now new reached p there h o steps P later todo free leads on made empt
     let its_top = (top_of (stack now p) o [] todo).0 in
     let has = has_here now p reached there o (gone_before (Go p h ∷ steps) now new reached made later) its_top in
     let m =
-    onward p P now new reached there later (Go p h) steps
+    onward p (AtEnd P) now new reached there later (Go p h) steps
     (done (act p h o now.world).world ((act p h o now.world).next ++ [])) (goes p now there o [] todo h)
     (first_on p P h o now.world [] free has leads) k.0 k.1 in
     all_steps p P steps m.machine new m.todo m.reached m.there later m.is m.leads (both_true (p == p) (are_onward_of p steps) on).1

@@ -99,7 +99,7 @@ module _ (there : Bool) (f : ℕ) where
       ≡ queue_if (is_some (moves.cancel s).owed.schedule) f ++ notify_if (not (moves.is_over s) && s.awaiter) f
   cancelled_owes s = cancelled_owes_by (moves.is_over s) (moves.is_going s) s
 
-  emptied_owes : (b : Bool) → owed_ops there f (record moves.nothing { empty_cell = b }) ≡ []
+  pub emptied_owes : (b : Bool) → owed_ops there f (record moves.nothing { empty_cell = b }) ≡ []
   emptied_owes true = refl
   emptied_owes false = refl
 

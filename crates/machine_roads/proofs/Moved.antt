@@ -4,7 +4,7 @@ use Rattle.std.proofs.Common.{slice_get, if◌then◌else◌, refl, sym, ap, sub
 use Rattle.task_moves.specs.declared.moves.owed.Move.{Move}
 use Rattle.task_moves.specs.declared.moves.owed.Move.TheVariants as move
 use Rattle.task_moves.specs.AbstractTask as abstract
-use Rattle.task_moves.specs.AbstractTask.{AbstractTask, Phase, Queued}
+use Rattle.task_moves.specs.AbstractTask.{AbstractTask}
 use Rattle.task_moves.specs.LocalTask.{info_of, told}
 use Rattle.task_moves.specs.Moves as moves
 use Rattle.executor_model.specs.declared.event.Event.TheVariants as event
@@ -36,7 +36,7 @@ use Rattle.machine_roads.proofs.Marks.{queue_if, woken_stored, released_stored, 
 use Rattle.machine_roads.proofs.Stepping.{Way, next, past_outside}
 use Rattle.machine_roads.proofs.Puts.{put_at, put_lying, task_is}
 use Rattle.machine_roads.proofs.Changing.{puts, logs, sees, appends}
-use Rattle.machine_roads.proofs.Used.{lower, lowers, Comes, IsLater}
+use Rattle.machine_roads.proofs.Used.{is_still, lower, lowers, Comes, IsLater}
 use Rattle.machine_roads.proofs.Slowly.{used_slowly}
 
 -- so much is done: the plain scheduler follows, and the rest is left to do
@@ -54,7 +54,7 @@ pub record Tells (p : ℕ) (end : Done) (more : Plain Output Waker → Plain Out
   pub tells : (w : World) (os : List Op) (q : Plain Output Waker) → P q → Follows w q
       → Way p end w (op.Sleeper sleeper_op.ExchangeFlag ∷ os) → Then p end os (more q)
   pub past : (h : AbstractTask Output Waker → AbstractTask Output Waker) → IsLater h → (f : ℕ) (q : Plain Output Waker)
-      (x : Future Output Waker) → slice_get q.futures f ≡ Some x → x.task.phase ≡ Queued
+      (x : Future Output Waker) → slice_get q.futures f ≡ Some x → is_still x.task.phase ≡ true
       → Comes f wakes h (more (put_at f (h x.task) x q)) (more q)
   pub awaits : (f : ℕ) (q : Plain Output Waker) → (task f (more q)).awaiter ≡ (task f q).awaiter
   pub outputs : (f : ℕ) (q : Plain Output Waker) → (task f (more q)).output ≡ (task f q).output

@@ -1,4 +1,4 @@
--- The end of a poll that a try took: the task rests, or comes into its queue, or its future is to be dropped.
+-- The end of a poll of a future that a try or a tick took: the task rests, or comes into its queue, or its future is to be dropped.
 use Rattle.std.proofs.Common.{◌≡◌, ℕ, ◌≤◌, ◌++◌, ◌&&◌, not, Bool, true, false, List, ◌∷◌, length, Option, is_some}
 use Rattle.std.proofs.Common.{slice_set, if◌then◌else◌, refl, sym, ap, subst, ◌∙◌}
 use Rattle.std.proofs.lemmas.List.{set-get_or}
@@ -9,40 +9,40 @@ use Rattle.task_moves.specs.AbstractTask.{AbstractTask}
 use Rattle.task_moves.specs.AbstractTask.PendingEnd.{Queues, Rests}
 use Rattle.task_moves.specs.LocalTask.{info_of, told}
 use Rattle.task_moves.specs.Moves as moves
-use Rattle.executor_model.specs.declared.call.Reply.TheVariants as reply
 use Rattle.executor_model.specs.declared.event.Answer.TheVariants as answer
 use Rattle.executor_model.specs.declared.event.Event.TheVariants as event
-use Rattle.executor_model.specs.declared.op.Hold.TheVariants as hold
 use Rattle.executor_model.specs.declared.op.Op.{Op}
 use Rattle.executor_model.specs.declared.op.Op.TheVariants as op
 use Rattle.executor_model.specs.declared.op.TableOp.TheVariants as table_op
 use Rattle.executor_model.specs.declared.op.UserOp.TheVariants as user_op
 use Rattle.executor_model.specs.declared.op.Waker.{Waker}
+use Rattle.executor_model.specs.declared.step.Hint.{Hint}
 use Rattle.executor_model.specs.Acts.{told_of}
 use Rattle.executor_model.specs.Carried.{owed_ops}
 use Rattle.executor_model.specs.World.{World, Done, done, among, awaiter_of, blank, log}
 use Rattle.executor_model.specs.World as world
-use Rattle.plain_scheduler.specs.State.{Choice, Closed, Drop, Gave, Drops as DropsFuture, Plain, Poll, Try, Yes}
+use Rattle.plain_scheduler.specs.State.{Choice, Closed, Drop, Gave, Drops as DropsFuture, Plain, Poll, Taker}
 use Rattle.plain_scheduler.specs.Moves.{appended, becomes, put, see, task, tell}
 use Rattle.plain_scheduler.specs.Takes as plain_takes
 use Rattle.plain_scheduler.specs.Calls as plain_calls
-use Rattle.plain_scheduler.specs.Calls.{does, Pends}
+use Rattle.plain_scheduler.specs.Calls.{does, EndsWith, Pends}
 use Rattle.machine_roads.specs.View.{Output, view, waker_in, wakes}
 use Rattle.machine_roads.specs.Moving.{IsMove, IsPolled, pended_by}
 use Rattle.machine_roads.specs.Road.{Follows}
-use Rattle.machine_roads.specs.Alone.{alone, is_resting}
-use Rattle.machine_roads.specs.Stopped.{GivesAlikeInTry, IsInPoll, PendsAlikeInTry, Stopped, Stops, answered, drops_given, drops_polled}
-use Rattle.machine_roads.proofs.Calling.{ends}
+use Rattle.machine_roads.specs.Alone.{alone, is_resting, HasAll}
+use Rattle.machine_roads.specs.Dropped.{given as given_by, polled as polled_by}
+use Rattle.machine_roads.specs.Stopped.{Finally, GivesAlikeInTake, IsInPoll, PendsAlikeInTake, Stops, drops_given, given, pended}
 use Rattle.machine_roads.proofs.Changing.{logs, puts, sees}
 use Rattle.machine_roads.proofs.Exchanging.{loudly}
 use Rattle.machine_roads.proofs.Moved.{becoming}
 use Rattle.machine_roads.proofs.Puts.{put_by}
 use Rattle.machine_roads.proofs.Running.{end_of, pending_is, run_alike}
+use Rattle.machine_roads.proofs.Standing.{Answered, InDrop, IsTaken, Stays, StaysSo, stopped_so}
 use Rattle.machine_roads.proofs.Stepping.{Way, next}
-use Rattle.machine_roads.proofs.Trying.{places_so, stands_in, stops_at, tell_inside}
+use Rattle.machine_roads.proofs.Trying.{final_inside, finally_so, places_so, stands_in, stops_at, tell_inside}
 
 -- a task becomes another in the code in which calls stand
-becomes_inside : (c : Choice) (f : ℕ) (new : AbstractTask Output Waker) (q : Plain Output Waker)
+pub becomes_inside : (c : Choice) (f : ℕ) (new : AbstractTask Output Waker) (q : Plain Output Waker)
     → (becomes wakes (tell wakes c) f new q).inside ≡ q.inside
 becomes_inside c f new q = by (is_some (info_of (task f q) new))
   where
@@ -60,25 +60,27 @@ pends_as s aw is x y z closed woken last =
     last
     (subst (λ e. IsMove (moves.end_pending s) s aw (pended_by e (view s aw))) (pending_is s aw is) ((run_alike s aw).pends is).is)))
 
-module _ (p : ℕ) (below : List Op) (under : is_resting below ≡ true) (end : Done) (rests : is_resting end.next ≡ true) where
+module _ (p : ℕ) (below : List Op) (under : is_resting below ≡ true) (end : Done) (rests : is_resting end.next ≡ true)
+    (taker : Taker Waker) (final : Op) (it : Finally taker final) where
   -- a task that stays becomes another, and the try is answered
   stays : (c : Choice) (f : ℕ) (w : World) (q : Plain Output Waker) (new : AbstractTask Output Waker) → length q.lying ≤ c.tells
-      → Follows w (becomes wakes (tell wakes c) f new q) → Way p end w (op.End reply.Yes hold.Executor ∷ below)
-      → Stops below q end (plain_takes.next wakes c Try (becomes wakes (tell wakes c) f new q))
+      → Follows w (becomes wakes (tell wakes c) f new q) → Way p end w (final ∷ below)
+      → StaysSo taker final below q end (plain_takes.next wakes c taker (becomes wakes (tell wakes c) f new q))
   stays c f w q new many follows way =
-      let e = ends p below under end rests w (becomes wakes (tell wakes c) f new q) reply.Yes hold.Executor Yes refl follows way in
+      let e = finally_so p below under end rests taker final it c w (becomes wakes (tell wakes c) f new q) follows way in
       record {
-        stopped =
-            subst (λ codes. Stopped below q.inside end.next codes) (sym (becomes_inside c f new q))
-            (subst (λ os. Stopped below q.inside os q.inside) (sym e.0) answered);
+        stays =
+            subst (λ codes. Stays taker final below q.inside end.world end.next codes)
+            (sym (final_inside taker final it c (becomes wakes (tell wakes c) f new q) ∙ becomes_inside c f new q))
+            (subst (λ os. Stays taker final below q.inside end.world os q.inside) (sym e.0) Answered);
         follows = e.1;
       }
 
   pended_ends : (c : Choice) (f : ℕ) (w : World) (q : Plain Output Waker) → length q.lying ≤ c.tells → Follows w q → IsInPoll w f
-      → Way p end w (op.Move move.EndPending f ∷ op.End reply.Yes hold.Executor ∷ below)
-      → Stops below q end (does wakes c Pends (record q { inside = Poll f Try ∷ q.inside }))
+      → Way p end w (op.Move move.EndPending f ∷ final ∷ below)
+      → StaysSo taker final below q end (does wakes c Pends (record q { inside = Poll f taker ∷ q.inside }))
   pended_ends c f w q many follows is way =
-      let s1 = next p end rests (op.Move move.EndPending f) w (op.End reply.Yes hold.Executor ∷ below) refl way in
+      let s1 = next p end rests (op.Move move.EndPending f) w (final ∷ below) refl way in
       by (world.task w f).closed (world.task w f).scheduled (moves.is_last (world.task w f)) refl refl refl is.reached
       (pending_is (world.task w f) (waker_in (awaiter_of w f)) is.polled) s1.way
     where
@@ -88,10 +90,10 @@ module _ (p : ℕ) (below : List Op) (under : is_resting below ≡ true) (end : 
           → Way p end (world.put (told_of (not x && (not y && z)) false move.EndPending p w f) f
           (moves.end_pending_by x y z (world.task w f)).state)
           (owed_ops (among f (told_of (not x && (not y && z)) false move.EndPending p w f).table) f
-          (moves.end_pending_by x y z (world.task w f)).owed ++ (op.End reply.Yes hold.Executor ∷ below))
-          → Stops below q end (does wakes c Pends (record q { inside = Poll f Try ∷ q.inside }))
+          (moves.end_pending_by x y z (world.task w f)).owed ++ (final ∷ below))
+          → StaysSo taker final below q end (does wakes c Pends (record q { inside = Poll f taker ∷ q.inside }))
       by true y z closed woken last_one reached ending way =
-          let os = op.End reply.Yes hold.Executor ∷ below in
+          let os = final ∷ below in
           let s = world.task w f in
           let now : Way p end w (op.Table (table_op.TakeToDrop f) ∷ op.Move move.EndClosed f ∷ os) =
           subst (λ ts. Way p end (record w { tasks = ts }) (op.Table (table_op.TakeToDrop f) ∷ op.Move move.EndClosed f ∷ os))
@@ -104,17 +106,19 @@ module _ (p : ℕ) (below : List Op) (under : is_resting below ≡ true) (end : 
           let last =
           stops_at p below under end rests
           (op.User (user_op.Drop f) ∷ op.Table (table_op.LeaveTable f) ∷ op.Move move.EndClosed f ∷ os) w3 refl s3.way in
-          subst (λ e. Stops below q end (plain_calls.pending_by wakes c e f Try q))
+          subst (λ e. StaysSo taker final below q end (plain_calls.pending_by wakes c e f taker q))
           (sym (ap abstract.pending_end (follows.tasks f is.known) ∙ ending))
-          (subst (λ (e : Done). Stops below q e (plain_takes.dropping wakes c f Closed Try q)) last
+          (subst (λ (e : Done). StaysSo taker final below q e (plain_takes.dropping wakes c f Closed taker q)) last
           (record {
-            stopped = drops_polled f;
+            stays =
+                InDrop f move.EndClosed Closed
+                (record { known = is.known; entered = is.entered; ends = polled_by is.polled closed });
             follows =
-                stands_in (Drop f Closed Try ∷ q.inside) w3 (see (DropsFuture f) q)
+                stands_in (Drop f Closed taker ∷ q.inside) w3 (see (DropsFuture f) q)
                 (sees w2 q (places_so (slice_set w.inside f false) w q follows) (event.Dropped p f) (DropsFuture f) refl);
           }))
       by false true z open_still woken last_one reached ending way =
-          let os = op.End reply.Yes hold.Executor ∷ below in
+          let os = final ∷ below in
           let s = world.task w f in
           let aw = waker_in (awaiter_of w f) in
           let t : AbstractTask Output Waker = task f q in
@@ -132,13 +136,13 @@ module _ (p : ℕ) (below : List Op) (under : is_resting below ≡ true) (end : 
           becoming p end rests (tell wakes c) (λ q. length q.lying ≤ c.tells) (loudly p end rests c) f (world.put w f after) os q new
           true follows2 many (ap (λ t. is_some (info_of t (abstract.queue true t))) tk ∙ sym al.queues) way in
           let ending_is : abstract.pending_end t ≡ Queues = ap abstract.pending_end tk ∙ ending in
-          subst (Stops below q end)
-          (sym (ap (λ e. plain_calls.pending_by wakes c e f Try q) ending_is
-          ∙ ap (λ e. plain_takes.next wakes c Try (becomes wakes (tell wakes c) f (abstract.end_pending_by e t).task q)) ending_is))
+          subst (StaysSo taker final below q end)
+          (sym (ap (λ e. plain_calls.pending_by wakes c e f taker q) ending_is
+          ∙ ap (λ e. plain_takes.next wakes c taker (becomes wakes (tell wakes c) f (abstract.end_pending_by e t).task q)) ending_is))
           (stays c f put_in.world q new many put_in.follows put_in.way)
       by false false true open_still woken last_one reached ending way = absurd cc
       by false false false open_still woken last_one reached ending way =
-          let os = op.End reply.Yes hold.Executor ∷ below in
+          let os = final ∷ below in
           let s = world.task w f in
           let aw = waker_in (awaiter_of w f) in
           let t : AbstractTask Output Waker = task f q in
@@ -159,40 +163,66 @@ module _ (p : ℕ) (below : List Op) (under : is_resting below ≡ true) (end : 
           (ap (λ (t : AbstractTask Output Waker). is_some (info_of t (record t { phase = abstract.Phase.Idle }))) tk ∙ sym al.queues)
           way in
           let ending_is : abstract.pending_end t ≡ Rests = ap abstract.pending_end tk ∙ ending in
-          subst (Stops below q end)
-          (sym (ap (λ e. plain_calls.pending_by wakes c e f Try q) ending_is
-          ∙ ap (λ e. plain_takes.next wakes c Try (becomes wakes (tell wakes c) f (abstract.end_pending_by e t).task q)) ending_is))
+          subst (StaysSo taker final below q end)
+          (sym (ap (λ e. plain_calls.pending_by wakes c e f taker q) ending_is
+          ∙ ap (λ e. plain_takes.next wakes c taker (becomes wakes (tell wakes c) f (abstract.end_pending_by e t).task q)) ending_is))
           (stays c f put_in.world q new many put_in.follows put_in.way)
 
-pub pends : (p : ℕ) (here : Option Waker) (below : List Op) (w : World) (q : Plain Output Waker) → is_resting below ≡ true
-    → Follows w q → PendsAlikeInTry p here below w q
-pends p here below w q under follows f is c many hints has rests =
+pub pends_so : (p : ℕ) (below : List Op) (w : World) (q : Plain Output Waker) → is_resting below ≡ true → Follows w q
+    → (taker : Taker Waker) (final : Op) → Finally taker final → (f : ℕ) → IsInPoll w f → (c : Choice) → length q.lying ≤ c.tells
+    → (hints : List Hint) → HasAll p hints (pended p f final below w) → is_resting (alone p hints (pended p f final below w)).next ≡ true
+    → StaysSo taker final below q (alone p hints (pended p f final below w))
+    (does wakes c Pends (record q { inside = Poll f taker ∷ q.inside }))
+pends_so p below w q under follows taker final it f is c many hints has rests =
     let w0 = log w (event.Answered p f answer.Pending) in
-    let os = op.End reply.Yes hold.Executor ∷ below in
+    let os = final ∷ below in
     let end = alone p hints (done w0 (op.Table (table_op.PutBack f) ∷ os)) in
     let start : Way p end w0 (op.Table (table_op.PutBack f) ∷ os) = record { hints = hints; has = has; is = refl } in
     let s = next p end rests (op.Table (table_op.PutBack f)) w0 os refl start in
     let w1 = record w0 { inside = slice_set w.inside f true } in
     let follows1 : Follows w1 q =
     places_so (slice_set w.inside f true) w0 q (logs w q follows (event.Answered p f answer.Pending) refl) in
-    pended_ends p below under end rests c f w1 q many follows1
+    pended_ends p below under end rests taker final it c f w1 q many follows1
     (record { known = is.known; polled = is.polled; entered = is.entered; reached = is.reached }) s.way
 
-pub gives : (p : ℕ) (here : Option Waker) (below : List Op) (w : World) (q : Plain Output Waker) → is_resting below ≡ true
-    → Follows w q → GivesAlikeInTry p here below w q
-gives p here below w q under follows f c hints has rests =
+pub pends : (p : ℕ) (here : Option Waker) (below : List Op) (w : World) (q : Plain Output Waker) → is_resting below ≡ true
+    → Follows w q → PendsAlikeInTake p here below w q
+pends p here below w q under follows taker final it f is c many hints has rests =
+    stopped_so taker final below q (alone p hints (pended p f final below w))
+    (does wakes c Pends (record q { inside = Poll f taker ∷ q.inside }))
+    (pends_so p below w q under follows taker final it f is c many hints has rests)
+
+pub gives_so : (p : ℕ) (below : List Op) (w : World) (q : Plain Output Waker) → is_resting below ≡ true → Follows w q
+    → (taker : Taker Waker) (final : Op) (f : ℕ) (c : Choice) (hints : List Hint) → HasAll p hints (given p f final below w)
+    → is_resting (alone p hints (given p f final below w)).next ≡ true
+    → (IsTaken w f → StaysSo taker final below q (alone p hints (given p f final below w))
+    (does wakes c (EndsWith tt) (record q { inside = Poll f taker ∷ q.inside })))
+    × Stops taker final below q (alone p hints (given p f final below w))
+    (does wakes c (EndsWith tt) (record q { inside = Poll f taker ∷ q.inside }))
+gives_so p below w q under follows taker final f c hints has rests =
     let w0 = log w (event.Answered p f answer.Ready) in
-    let os = op.Move move.EndReady f ∷ op.End reply.Yes hold.Executor ∷ below in
+    let os = op.Move move.EndReady f ∷ final ∷ below in
     let end = alone p hints (done w0 (op.User (user_op.BeginDrop f) ∷ os)) in
     let start : Way p end w0 (op.User (user_op.BeginDrop f) ∷ os) = record { hints = hints; has = has; is = refl } in
     let s = next p end rests (op.User (user_op.BeginDrop f)) w0 os refl start in
     let w1 = log w0 (event.Dropped p f) in
     let last =
     stops_at p below under end rests (op.User (user_op.Drop f) ∷ op.Table (table_op.LeaveTable f) ∷ os) w1 refl s.way in
-    subst (λ (e : Done). Stops below q e (plain_takes.dropping wakes c f (Gave tt) Try q)) last
-    (record {
-      stopped = drops_given f;
-      follows =
-          stands_in (Drop f (Gave tt) Try ∷ q.inside) w1 (see (DropsFuture f) q)
-          (sees w0 q (logs w q follows (event.Answered p f answer.Ready) refl) (event.Dropped p f) (DropsFuture f) refl);
-    })
+    let new : Plain Output Waker = plain_takes.dropping wakes c f (Gave tt) taker q in
+    let follows1 : Follows w1 new =
+    stands_in (Drop f (Gave tt) taker ∷ q.inside) w1 (see (DropsFuture f) q)
+    (sees w0 q (logs w q follows (event.Answered p f answer.Ready) refl) (event.Dropped p f) (DropsFuture f) refl) in
+    subst (λ (e : Done). (IsTaken w f → StaysSo taker final below q e new) × Stops taker final below q e new) last (
+      λ taken. record {
+        stays =
+            InDrop f move.EndReady (Gave tt)
+            (record { known = taken.known; entered = taken.entered; ends = given_by taken.polled });
+        follows = follows1;
+      },
+      record { stopped = drops_given f; follows = follows1 },
+    )
+
+pub gives : (p : ℕ) (here : Option Waker) (below : List Op) (w : World) (q : Plain Output Waker) → is_resting below ≡ true
+    → Follows w q → GivesAlikeInTake p here below w q
+gives p here below w q under follows taker final f c hints has rests =
+    (gives_so p below w q under follows taker final f c hints has rests).1

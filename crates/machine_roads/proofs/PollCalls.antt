@@ -73,7 +73,7 @@ nobody_is : (a : Option Awaiter) → waker_in a ≡ None → a ≡ None
 nobody_is None is = refl
 nobody_is (Some a) is = absurd cc
 
-copied_lying : (a : Waker) (q : Plain Output Waker) → (plain.copied wakes a q).lying ≡ q.lying
+pub copied_lying : (a : Waker) (q : Plain Output Waker) → (plain.copied wakes a q).lying ≡ q.lying
 copied_lying (Outside x) q = refl
 copied_lying (Task g) q = put_lying g (abstract.copy (task g q)) q
 

@@ -9,11 +9,11 @@ use Rattle.plain_scheduler.specs.Moves.{appended, put, release, task}
 use Rattle.plain_scheduler.specs.Moves.{used, wake}
 use Rattle.machine_roads.proofs.Lists.{set_same, set_twice}
 use Rattle.machine_roads.proofs.Puts.{with_task, put_at, put_is, task_is, task_put, mark_put}
-use Rattle.machine_roads.proofs.Used.{lower, none_told, put_twice, release_queued, Comes}
+use Rattle.machine_roads.proofs.Used.{is_still, lower, none_told, put_twice, release_still, Comes}
 
 -- so a wake and then a release are one use
 module _ {T A : Type 0} (wakes : A → Option ℕ) (f : ℕ) (more : Plain T A → Plain T A)
-    (past : (p : Plain T A) (x : Future T A) → slice_get p.futures f ≡ Some x → x.task.phase ≡ Queued
+    (past : (p : Plain T A) (x : Future T A) → slice_get p.futures f ≡ Some x → is_still x.task.phase ≡ true
     → Comes f wakes lower (more (put_at f (lower x.task) x p)) (more p))
     (p : Plain T A) (x : Future T A) (is : slice_get p.futures f ≡ Some x) (none : x.task.infos ≡ []) where
   abbrev u : AbstractTask T A
@@ -86,7 +86,7 @@ module _ {T A : Type 0} (wakes : A → Option ℕ) (f : ℕ) (more : Plain T A �
     last : used wakes more f p ≡ more (appended f (put_at f (lower v) x p))
     last =
         both v same
-        ∙ (ap (λ n. becoming u n p) (release_queued v refl)
+        ∙ (ap (λ n. becoming u n p) (release_still v refl)
         ∙ (ap (λ b. if b then more (appended f (put f (lower v) p)) else put f (lower v) p) (tells (lower v) refl)
         ∙ ap (λ q. more (appended f q)) (put_is f (lower v) p x is)))
 
@@ -104,7 +104,7 @@ module _ {T A : Type 0} (wakes : A → Option ℕ) (f : ℕ) (more : Plain T A �
     queued =
         ap (release wakes more f) first_is
         ∙ (ap (λ t. comes_by t (abstract.release t)) (task_is f (more z) c.future c.there)
-        ∙ (ap (comes_by c.future.task) (release_queued c.future.task c.queued)
+        ∙ (ap (comes_by c.future.task) (release_still c.future.task c.still)
         ∙ (ap (λ b. if b then more (appended f (put f (lower c.future.task) (more z))) else put f (lower c.future.task) (more z))
         (none_told c.future.task (lower c.future.task) refl)
         ∙ (put_is f (lower c.future.task) (more z) c.future c.there ∙ (c.same ∙ (ap more once ∙ sym last))))))

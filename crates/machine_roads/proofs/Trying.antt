@@ -1,7 +1,8 @@
 -- A try of a tick: it takes the first that is due without a keeper, where one is, and comes to its poll or drop.
 use Rattle.std.proofs.Common.{◌≡◌, ℕ, ◌≤◌, ◌-◌, ◌<◌, ◌++◌, not, min, cond, Bool, true, false, List, [], ◌∷◌, length, drop}
 use Rattle.std.proofs.Common.{Option, Some, None, is_some, slice_get, slice_set, if◌then◌else◌, refl, sym, ap, subst, ◌∙◌}
-use Rattle.std.proofs.lemmas.List.{set-get_or}
+use Rattle.std.specs.Prelude.{find}
+use Rattle.std.proofs.lemmas.List.{get_or-set_same, set-get_or}
 use Rattle.executor_parts.specs.declared.mark.Mark.{Mark}
 use Rattle.executor_parts.specs.declared.mark.Mark.TheVariants.{Plain as PlainMark, Urgent}
 use Rattle.executor_parts.specs.Marks.{first_of, other, turn_after}
@@ -24,29 +25,34 @@ use Rattle.executor_model.specs.declared.op.SleeperOp.TheVariants as sleeper_op
 use Rattle.executor_model.specs.declared.op.TableOp.TheVariants as table_op
 use Rattle.executor_model.specs.declared.op.UserOp.TheVariants as user_op
 use Rattle.executor_model.specs.declared.op.Waker.{Waker}
+use Rattle.executor_model.specs.declared.step.Hint.{Hint}
 use Rattle.executor_model.specs.Acts.{take_by, told_of}
 use Rattle.executor_model.specs.Carried.{owed_ops}
 use Rattle.executor_model.specs.World.{World, Done, done, among, awaiter_of, blank, log, put_queue, queue_of}
 use Rattle.executor_model.specs.World as world
-use Rattle.plain_scheduler.specs.State.{Calls, Choice, Closed, Code, Drop, Drops, Due, Future, Lying, No, Plain, Poll, Polls, Try}
+use Rattle.plain_scheduler.specs.State.{Calls, Choice, Closed, Code, Drop, Drops, Due, Future, Lying, No, Plain, Poll, Polls, Ready}
+use Rattle.plain_scheduler.specs.State.{Event as Sight, Taker, Try, Yes}
 use Rattle.plain_scheduler.specs.Lists.{any, on, or, without}
 use Rattle.plain_scheduler.specs.Moves.{appended, called, chosen, commons, enters, is_called, is_common, is_kept, put, see}
 use Rattle.plain_scheduler.specs.Moves.{task, tell, told_at, used}
 use Rattle.plain_scheduler.specs.Takes as plain_takes
 use Rattle.plain_scheduler.specs.Calls.{does, TryTick}
 use Rattle.machine_roads.specs.View.{Output, view, waker_in, wakes}
-use Rattle.machine_roads.specs.Moving.{IsQueued}
+use Rattle.machine_roads.specs.Moving.{IsPolled, IsQueued}
+use Rattle.machine_roads.specs.Dropped.{queued as queued_by}
 use Rattle.machine_roads.specs.Road.{Follows, futures_in}
-use Rattle.machine_roads.specs.Alone.{alone, is_resting}
-use Rattle.machine_roads.specs.Stopped.{Stopped, Stops, TriesAlike, answered, polls, drops}
+use Rattle.machine_roads.specs.Alone.{alone, is_resting, HasAll}
+use Rattle.machine_roads.specs.Stopped.{Finally, TriesAlike, of_tick, of_try}
 use Rattle.machine_roads.proofs.Calling.{ends, idles}
 use Rattle.machine_roads.proofs.Changing.{logs, puts, sees}
 use Rattle.machine_roads.proofs.Due.{First, find_never, find_same, first, keepers_apart, marks_apart, nothing, others, without_same}
 use Rattle.machine_roads.proofs.Exchanging.{loudly}
 use Rattle.machine_roads.proofs.Lying.{called_one}
+use Rattle.machine_roads.proofs.Lists.{length_set}
 use Rattle.machine_roads.proofs.Puts.{put_at, put_by}
 use Rattle.machine_roads.proofs.Running.{run_alike}
 use Rattle.machine_roads.proofs.Stepping.{Way, next}
+use Rattle.machine_roads.proofs.Standing.{Answered, Behind, InDrop, InPoll, Stands, StandsSo, stops_so}
 
 -- in which code calls stand is nothing to the machine's world
 pub stands_in : (codes : List (Code Output Waker)) (w : World) (q : Plain Output Waker) → Follows w q
@@ -71,7 +77,7 @@ stands_in codes w q r = record {
 }
 
 -- nor are turns, and which futures are out to be polled, to the plain scheduler
-turns : (n : ℕ) (w : World) (q : Plain Output Waker) → Follows w q → Follows (record w { urgent_turns = n }) q
+pub turns : (n : ℕ) (w : World) (q : Plain Output Waker) → Follows w q → Follows (record w { urgent_turns = n }) q
 turns n w q r = record {
   limit = r.limit;
   kind = r.kind;
@@ -112,7 +118,7 @@ places_so inside w q r = record {
 }
 
 -- the first of a queue is taken
-takes_first : (m : Mark) (w : World) (q : Plain Output Waker) (f : ℕ) (rest : List ℕ) → Follows w q
+pub takes_first : (m : Mark) (w : World) (q : Plain Output Waker) (f : ℕ) (rest : List ℕ) → Follows w q
     → (queue_of w m).items ≡ f ∷ rest
     → First (is_common m) q.due f rest × Follows (put_queue w m (taken (queue_of w m))) (record q { due = without (is_common m) q.due })
 takes_first m w q f rest r is =
@@ -145,55 +151,110 @@ takes_first m w q f rest r is =
     items PlainMark Urgent is left = r.common Urgent ∙ sym (others (is_common PlainMark) (is_common Urgent) q.due (marks_apart PlainMark))
     items Urgent PlainMark is left = r.common PlainMark ∙ sym (others (is_common Urgent) (is_common PlainMark) q.due (marks_apart Urgent))
 
--- to tell leaves the code in which calls stand
-pub tell_inside : (c : Choice) (q : Plain Output Waker) → (tell wakes c q).inside ≡ q.inside
-tell_inside c q = by (any is_called q.lying)
+-- what is asked of the plain scheduler that futures, who lies, what is due and what was seen say nothing of
+pub record IsAside {B : Type 0} (ask : Plain Output Waker → B) : Type 0 where
+  pub futures : (q : Plain Output Waker) (fs : List (Future Output Waker)) → ask (record q { futures = fs }) ≡ ask q
+  pub due : (q : Plain Output Waker) (ds : List Due) → ask (record q { due = ds }) ≡ ask q
+  pub lying : (q : Plain Output Waker) (ls : List (Lying Waker)) → ask (record q { lying = ls }) ≡ ask q
+  pub seen : (q : Plain Output Waker) (e : Sight Output Waker) → ask (see e q) ≡ ask q
+
+-- to tell leaves that
+tell_keeps : {B : Type 0} (ask : Plain Output Waker → B) → IsAside ask → (c : Choice) (q : Plain Output Waker)
+    → ask (tell wakes c q) ≡ ask q
+tell_keeps ask aside c q = by (any is_called q.lying)
   where
-    used_inside : (g : ℕ) (q : Plain Output Waker) → (used wakes (λ s. s) g q).inside ≡ q.inside
-    used_inside g q = cases (is_some (info_of (task g q) (abstract.release (abstract.wake (task g q)))))
+    used_keeps : (g : ℕ) (q : Plain Output Waker) → ask (used wakes (λ s. s) g q) ≡ ask q
+    used_keeps g q = cases (is_some (info_of (task g q) (abstract.release (abstract.wake (task g q)))))
       where
-        cases : (b : Bool)
-            → (if b then appended g (put g (abstract.release (abstract.wake (task g q))) q)
-            else put g (abstract.release (abstract.wake (task g q))) q).inside ≡ q.inside
-        cases true = put_by (λ p. p.inside) g (abstract.release (abstract.wake (task g q))) q (λ fs. refl)
-        cases false = put_by (λ p. p.inside) g (abstract.release (abstract.wake (task g q))) q (λ fs. refl)
+        new : AbstractTask Output Waker
+        new = abstract.release (abstract.wake (task g q))
+
+        cases : (b : Bool) → ask (if b then appended g (put g new q) else put g new q) ≡ ask q
+        cases true = aside.due (put g new q) (appended g (put g new q)).due ∙ put_by ask g new q (λ fs. aside.futures q fs)
+        cases false = put_by ask g new q (λ fs. aside.futures q fs)
 
     call : (q : Plain Output Waker) (w : Waker) (o : Option ℕ)
-        → (or o (λ g. used wakes (λ s. s) g q) (see (Calls w) q)).inside ≡ q.inside
-    call q w None = refl
-    call q w (Some g) = used_inside g q
+        → ask (or o (λ g. used wakes (λ s. s) g q) (see (Calls w) q)) ≡ ask q
+    call q w None = aside.seen q (Calls w)
+    call q w (Some g) = used_keeps g q
 
-    waker : (q : Plain Output Waker) (o : Option Waker) → (on o (called wakes (λ s. s)) q).inside ≡ q.inside
+    waker : (q : Plain Output Waker) (o : Option Waker) → ask (on o (called wakes (λ s. s)) q) ≡ ask q
     waker q None = refl
     waker q (Some w) = call q w (wakes w)
 
     one : (i : ℕ) (o : Option (Lying Waker))
-        → (on o (λ l q. on l.waker (called wakes (λ s. s)) (record q { lying = slice_set q.lying i (called_one l) })) q).inside
-        ≡ q.inside
+        → ask (on o (λ l q. on l.waker (called wakes (λ s. s)) (record q { lying = slice_set q.lying i (called_one l) })) q)
+        ≡ ask q
     one i None = refl
-    one i (Some l) = waker (record q { lying = slice_set q.lying i (called_one l) }) l.waker
+    one i (Some l) =
+        waker (record q { lying = slice_set q.lying i (called_one l) }) l.waker ∙ aside.lying q (slice_set q.lying i (called_one l))
 
-    by : (b : Bool) → (cond b q (told_at wakes (min c.tells (length q.lying - 1)) q)).inside ≡ q.inside
+    by : (b : Bool) → ask (cond b q (told_at wakes (min c.tells (length q.lying - 1)) q)) ≡ ask q
     by true = refl
     by false = one (min c.tells (length q.lying - 1)) (slice_get q.lying (min c.tells (length q.lying - 1)))
+
+-- the code in which calls stand, and whether it is static
+pub tell_inside : (c : Choice) (q : Plain Output Waker) → (tell wakes c q).inside ≡ q.inside
+tell_inside c q =
+    tell_keeps (λ p. p.inside)
+    (record { futures = λ q fs. refl; due = λ q ds. refl; lying = λ q ls. refl; seen = λ q e. refl }) c q
+
+tell_kind : (c : Choice) (q : Plain Output Waker) → (tell wakes c q).is_static ≡ q.is_static
+tell_kind c q =
+    tell_keeps (λ p. p.is_static)
+    (record { futures = λ q fs. refl; due = λ q ds. refl; lying = λ q ls. refl; seen = λ q e. refl }) c q
+
+-- and so does a try leave whether it is static
+pub try_kind : (c : Choice) (q : Plain Output Waker) → (does wakes c TryTick q).is_static ≡ q.is_static
+try_kind c q = by (find (λ d. chosen (commons c) q.due d) q.due)
+  where
+    run_kind : (f : ℕ) (q : Plain Output Waker) (b : Bool)
+        → (if b then plain_takes.dropping wakes c f Closed Try q
+        else enters (Poll f Try) (see (Polls f) (put f (abstract.begin_run (task f q)) q))).is_static ≡ q.is_static
+    run_kind f q true = refl
+    run_kind f q false = put_by (λ p. p.is_static) f (abstract.begin_run (task f q)) q (λ fs. refl)
+
+    by : (o : Option Due)
+        → (or o (λ d. plain_takes.takes wakes c Try d (record q { due = without (λ d. chosen (commons c) q.due d) q.due }))
+        (plain_takes.nothing wakes c Try q)).is_static ≡ q.is_static
+    by None = refl
+    by (Some d) =
+        let q1 : Plain Output Waker = record q { due = without (λ d. chosen (commons c) q.due d) q.due } in
+        run_kind d.future (tell wakes c q1) (task d.future (tell wakes c q1)).closed ∙ tell_kind c q1
+
+pub final_inside : (taker : Taker Waker) (final : Op) → Finally taker final → (c : Choice) (q : Plain Output Waker)
+    → (plain_takes.next wakes c taker q).inside ≡ q.inside
+final_inside taker final of_try c q = refl
+final_inside taker final (of_tick t a) c q = refl
+
+abbrev pub yes : Op
+yes = op.End reply.Yes hold.Executor
 
 module _ (p : ℕ) (below : List Op) (under : is_resting below ≡ true) (end : Done) (rests : is_resting end.next ≡ true) where
   -- where user code has to answer
   pub stops_at : (os : List Op) (w : World) → is_resting os ≡ true → Way p end w os → done w os ≡ end
   stops_at os w resting way = sym (idles p way.hints os w resting) ∙ way.is
 
+  -- what is taken was all that there was to do
+  pub finally_so : (taker : Taker Waker) (final : Op) → Finally taker final → (c : Choice) (w : World) (q : Plain Output Waker)
+      → Follows w q → Way p end w (final ∷ below) → (end.next ≡ below) × Follows end.world (plain_takes.next wakes c taker q)
+  finally_so taker final of_try c w q follows way =
+      ends p below under end rests w q reply.Yes hold.Executor Yes refl follows way
+  finally_so taker final (of_tick t a) c w q follows way =
+      ends p below under end rests w q reply.Ready (hold.Tick t) Ready refl follows way
+
   -- a future that was taken is polled, or dropped where it is closed
-  runs : (c : Choice) (f : ℕ) (w : World) (q : Plain Output Waker) → Follows w q
-      → Way p end w (op.Move move.TakeUp f ∷ op.End reply.Yes hold.Executor ∷ below)
-      → Stops below q end (plain_takes.run wakes c f Try q)
-  runs c f w q follows way =
-      let s1 = next p end rests (op.Move move.TakeUp f) w (op.End reply.Yes hold.Executor ∷ below) refl way in
+  pub runs : (taker : Taker Waker) (final : Op) (c : Choice) (f : ℕ) (w : World) (q : Plain Output Waker) → Follows w q
+      → Way p end w (op.Move move.TakeUp f ∷ final ∷ below)
+      → StandsSo taker final below q end (plain_takes.run wakes c f taker q)
+  runs taker final c f w q follows way =
+      let s1 = next p end rests (op.Move move.TakeUp f) w (final ∷ below) refl way in
       by (world.task w f).closed refl s1.has.0 s1.has.1.0 s1.has.1.1 s1.way
     where
       code : Bool → Plain Output Waker
       code b =
-          if b then plain_takes.dropping wakes c f Closed Try q
-          else enters (Poll f Try) (see (Polls f) (put f (abstract.begin_run (task f q)) q))
+          if b then plain_takes.dropping wakes c f Closed taker q
+          else enters (Poll f taker) (see (Polls f) (put f (abstract.begin_run (task f q)) q))
 
       put_see : (new : AbstractTask Output Waker) → put f new (see (Polls f) q) ≡ see (Polls f) (put f new q)
       put_see new = cases (slice_get q.futures f)
@@ -206,10 +267,10 @@ module _ (p : ℕ) (below : List Op) (under : is_resting below ≡ true) (end : 
       by : (b : Bool) → (world.task w f).closed ≡ b → f < length w.tasks → IsQueued (world.task w f) → among f w.table ≡ true
           → Way p end (world.put (told_of false (not b) move.TakeUp p w f) f (moves.take_up_by b (world.task w f)).state)
           (owed_ops (among f (told_of false (not b) move.TakeUp p w f).table) f (moves.take_up_by b (world.task w f)).owed
-          ++ (op.End reply.Yes hold.Executor ∷ below))
-          → Stops below q end (plain_takes.run wakes c f Try q)
+          ++ (final ∷ below))
+          → StandsSo taker final below q end (plain_takes.run wakes c f taker q)
       by true closed at queued there way =
-          let os = op.End reply.Yes hold.Executor ∷ below in
+          let os = final ∷ below in
           let s = world.task w f in
           let now : Way p end w (op.Table (table_op.TakeToDrop f) ∷ op.Move move.SettleClosed f ∷ os) =
           subst (λ ts. Way p end (record w { tasks = ts }) (op.Table (table_op.TakeToDrop f) ∷ op.Move move.SettleClosed f ∷ os))
@@ -221,17 +282,20 @@ module _ (p : ℕ) (below : List Op) (under : is_resting below ≡ true) (end : 
           let w3 = log w2 (event.Dropped p f) in
           let last =
           stops_at (op.User (user_op.Drop f) ∷ op.Table (table_op.LeaveTable f) ∷ op.Move move.SettleClosed f ∷ os) w3 refl s3.way in
-          subst (λ b. Stops below q end (code b))
+          subst (λ b. StandsSo taker final below q end (code b))
           (sym (ap (λ (t : AbstractTask Output Waker). t.closed) (follows.tasks f at) ∙ closed))
-          (subst (λ (e : Done). Stops below q e (code true)) last
+          (subst (λ (e : Done). StandsSo taker final below q e (code true)) last
           (record {
-            stopped = drops f;
+            stands =
+                Behind (op.User (user_op.Drop f) ∷ op.Table (table_op.LeaveTable f) ∷ op.Move move.SettleClosed f ∷ os)
+                (Drop f Closed taker ∷ q.inside)
+                (InDrop f move.SettleClosed Closed (record { known = at; entered = there; ends = queued_by queued closed }));
             follows =
-                stands_in (Drop f Closed Try ∷ q.inside) w3 (see (Drops f) q)
+                stands_in (Drop f Closed taker ∷ q.inside) w3 (see (Drops f) q)
                 (sees w2 q (places_so (slice_set w.inside f false) w q follows) (event.Dropped p f) (Drops f) refl);
           }))
       by false open_still at queued there way =
-          let os = op.End reply.Yes hold.Executor ∷ below in
+          let os = final ∷ below in
           let s = world.task w f in
           let aw = waker_in (awaiter_of w f) in
           let after : State = record s { scheduled = false; running = true } in
@@ -257,15 +321,23 @@ module _ (p : ℕ) (below : List Op) (under : is_resting below ≡ true) (end : 
           let polled : Plain Output Waker = see (Polls f) (put f new q) in
           let same : abstract.begin_run t ≡ new =
           ap (λ b. if b then t else record t { phase = abstract.Phase.Polling }) closed in
-          subst (λ b. Stops below q end (code b)) (sym closed)
-          (subst (λ n. Stops below q end (enters (Poll f Try) (see (Polls f) (put f n q)))) (sym same)
-          (subst (λ (e : Done). Stops below q e (enters (Poll f Try) polled)) last
+          subst (λ b. StandsSo taker final below q end (code b)) (sym closed)
+          (subst (λ n. StandsSo taker final below q end (enters (Poll f taker) (see (Polls f) (put f n q)))) (sym same)
+          (subst (λ (e : Done). StandsSo taker final below q e (enters (Poll f taker) polled)) last
           (record {
-            stopped =
-                subst (λ codes. Stopped below q.inside (op.User (user_op.Poll f) ∷ os) (Poll f Try ∷ codes))
-                (sym (put_by (λ p. p.inside) f new q (λ fs. refl))) (polls f);
+            stands =
+                subst (λ codes. Stands taker final below q.inside w3 (op.User (user_op.Poll f) ∷ os) (Poll f taker ∷ codes))
+                (sym (put_by (λ p. p.inside) f new q (λ fs. refl)))
+                (InPoll f
+                (record {
+                  known = subst (λ n. f < n) (sym (length_set w.tasks f after)) at;
+                  polled =
+                      subst IsPolled (sym (get_or-set_same w.tasks f after blank at))
+                      (record { running = refl; completed = queued.completed; counted = queued.counted });
+                  entered = there;
+                }));
             follows =
-                stands_in (Poll f Try ∷ polled.inside) w3 polled
+                stands_in (Poll f taker ∷ polled.inside) w3 polled
                 (places_so (slice_set w.inside f false) w2 polled (subst (Follows w2) (put_see new) follows2));
           })))
 
@@ -274,56 +346,59 @@ module _ (p : ℕ) (below : List Op) (under : is_resting below ≡ true) (end : 
       → Follows w q → (queue_of w m).items ≡ f ∷ rest
       → ((d : Due) → any (is_common m) q.due ≡ true → chosen (commons c) q.due d ≡ is_common m d)
       → Way p end (put_queue w m (taken (queue_of w m)))
-      (op.Sleeper sleeper_op.ExchangeFlag ∷ op.Move move.TakeUp f ∷ op.End reply.Yes hold.Executor ∷ below)
-      → Stops below q end (does wakes c TryTick q)
+      (op.Sleeper sleeper_op.ExchangeFlag ∷ op.Move move.TakeUp f ∷ yes ∷ below)
+      → StandsSo Try yes below q end (does wakes c TryTick q)
   finds c m f rest w q many follows is tests way =
       let both = takes_first m w q f rest follows is in
       let one : First (is_common m) q.due f rest = both.0 in
       let q1 : Plain Output Waker = record q { due = without (is_common m) q.due } in
       let told =
-      (loudly p end rests c).tells (put_queue w m (taken (queue_of w m))) (op.Move move.TakeUp f ∷ op.End reply.Yes hold.Executor ∷ below)
+      (loudly p end rests c).tells (put_queue w m (taken (queue_of w m))) (op.Move move.TakeUp f ∷ yes ∷ below)
       q1 many both.1 way in
-      let run = runs c f told.world (tell wakes c q1) told.follows told.way in
+      let run = runs Try yes c f told.world (tell wakes c q1) told.follows told.way in
       let new : Plain Output Waker = plain_takes.run wakes c f Try (tell wakes c q1) in
       let same : (d : Due) → chosen (commons c) q.due d ≡ is_common m d = λ d. tests d one.some in
       let take : Option Due → List Due → Plain Output Waker = λ o ds.
       or o (λ d. plain_takes.takes wakes c Try d (record q { due = ds })) (plain_takes.nothing wakes c Try q) in
-      subst (Stops below q end)
+      subst (StandsSo Try yes below q end)
       (sym (ap (λ o. take o (without (λ d. chosen (commons c) q.due d) q.due))
       (find_same (λ d. chosen (commons c) q.due d) (is_common m) q.due same ∙ one.found)
       ∙ (ap (take (Some one.due_one)) (without_same (λ d. chosen (commons c) q.due d) (is_common m) q.due same)
       ∙ ap (λ f. plain_takes.run wakes c f Try (tell wakes c q1)) one.is)))
       (record {
-        stopped = subst (λ codes. Stopped below codes end.next new.inside) (tell_inside c q1) run.stopped;
+        stands = subst (λ codes. Stands Try yes below codes end.world end.next new.inside) (tell_inside c q1) run.stands;
         follows = run.follows;
       })
 
   -- nothing was found
   finds_none : (c : Choice) (w : World) (q : Plain Output Waker) → Follows w q → any (is_common c.first) q.due ≡ false
       → any (is_common (other c.first)) q.due ≡ false → Way p end w (op.End reply.No hold.Executor ∷ below)
-      → Stops below q end (does wakes c TryTick q)
+      → StandsSo Try yes below q end (does wakes c TryTick q)
   finds_none c w q follows none nor way =
       let e = ends p below under end rests w q reply.No hold.Executor No refl follows way in
       let never : (d : Due) → chosen (commons c) q.due d ≡ false = λ d.
       ap (λ b. if b then is_common c.first d else (if any (is_common (other c.first)) q.due then is_common (other c.first) d
       else false)) none
       ∙ ap (λ b. if b then is_common (other c.first) d else false) nor in
-      subst (Stops below q end)
+      subst (StandsSo Try yes below q end)
       (sym (ap
       (λ o. or o (λ d. plain_takes.takes wakes c Try d (record q { due = without (λ d. chosen (commons c) q.due d) q.due }))
       (plain_takes.nothing wakes c Try q))
       (find_same (λ d. chosen (commons c) q.due d) (λ d. false) q.due never ∙ find_never q.due)))
-      (record { stopped = subst (λ os. Stopped below q.inside os q.inside) (sym e.0) answered; follows = e.1 })
+      (record {
+        stands = subst (λ os. Stands Try yes below q.inside end.world os q.inside) (sym e.0) (Behind below q.inside Answered);
+        follows = e.1;
+      })
 
   searches : (c : Choice) (w : World) (q : Plain Output Waker) → length q.lying ≤ c.tells → Follows w q
-      → Way p end w (op.Queue (queue_op.Take (look.First c.first)) ∷ below) → Stops below q end (does wakes c TryTick q)
+      → Way p end w (op.Queue (queue_op.Take (look.First c.first)) ∷ below) → StandsSo Try yes below q end (does wakes c TryTick q)
   searches c w q many follows way =
       let s = next p end rests (op.Queue (queue_op.Take (look.First c.first))) w below refl way in
       by (queue_of w c.first).items refl s.way
     where
       second : any (is_common c.first) q.due ≡ false → (xs : List ℕ) → (queue_of w (other c.first)).items ≡ xs
           → Way p end (take_by w (look.Second (other c.first)) xs).world ((take_by w (look.Second (other c.first)) xs).next ++ below)
-          → Stops below q end (does wakes c TryTick q)
+          → StandsSo Try yes below q end (does wakes c TryTick q)
       second none [] is way =
           finds_none c w q follows none
           (nothing (is_common (other c.first)) q.due (sym (follows.common (other c.first)) ∙ is)).none way
@@ -336,7 +411,7 @@ module _ (p : ℕ) (below : List Op) (under : is_resting below ≡ true) (end : 
 
       by : (xs : List ℕ) → (queue_of w c.first).items ≡ xs
           → Way p end (take_by w (look.First c.first) xs).world ((take_by w (look.First c.first) xs).next ++ below)
-          → Stops below q end (does wakes c TryTick q)
+          → StandsSo Try yes below q end (does wakes c TryTick q)
       by [] is way =
           let none = (nothing (is_common c.first) q.due (sym (follows.common c.first) ∙ is)).none in
           let s = next p end rests (op.Queue (queue_op.Take (look.Second (other c.first)))) w below refl way in
@@ -347,9 +422,13 @@ module _ (p : ℕ) (below : List Op) (under : is_resting below ≡ true) (end : 
           (λ b. if b then is_common c.first d else (if any (is_common (other c.first)) q.due then is_common (other c.first) d
           else false)) some) way
 
-pub tries : (p : ℕ) (here : Option Waker) (below : List Op) (w : World) (q : Plain Output Waker) → is_resting below ≡ true
-    → Follows w q → TriesAlike p here below w q
-tries p here below w q under follows c first many hints has rests =
+pub tries_so : (p : ℕ) (below : List Op) (w : World) (q : Plain Output Waker) → is_resting below ≡ true → Follows w q → (c : Choice)
+    → c.first ≡ first_of w.urgent_turns → length q.lying ≤ c.tells → (hints : List Hint)
+    → HasAll p hints (done (log w (event.CallBegun p call.TryTick)) (op.Queue queue_op.TakeTurn ∷ below))
+    → is_resting (alone p hints (done (log w (event.CallBegun p call.TryTick)) (op.Queue queue_op.TakeTurn ∷ below))).next ≡ true
+    → StandsSo Try yes below q (alone p hints (done (log w (event.CallBegun p call.TryTick)) (op.Queue queue_op.TakeTurn ∷ below)))
+    (does wakes c TryTick q)
+tries_so p below w q under follows c first many hints has rests =
     let w0 = log w (event.CallBegun p call.TryTick) in
     let end = alone p hints (done w0 (op.Queue queue_op.TakeTurn ∷ below)) in
     let start : Way p end w0 (op.Queue queue_op.TakeTurn ∷ below) = record { hints = hints; has = has; is = refl } in
@@ -361,3 +440,9 @@ tries p here below w q under follows c first many hints has rests =
     (event.Looked p (first_of w.urgent_turns)) refl in
     searches p below under end rests c w1 q many follows1
     (subst (λ m. Way p end w1 (op.Queue (queue_op.Take (look.First m)) ∷ below)) (sym first) s.way)
+
+pub tries : (p : ℕ) (here : Option Waker) (below : List Op) (w : World) (q : Plain Output Waker) → is_resting below ≡ true
+    → Follows w q → TriesAlike p here below w q
+tries p here below w q under follows c first many hints has rests =
+    stops_so Try yes below q (alone p hints (done (log w (event.CallBegun p call.TryTick)) (op.Queue queue_op.TakeTurn ∷ below)))
+    (does wakes c TryTick q) (tries_so p below w q under follows c first many hints has rests)

@@ -61,40 +61,46 @@ settles p w xs (o ∷ os) is =
       todo = ap (λ (o : Option Op). reverse (settled_by (end_of o) p w xs).todo) t.0 ∙ is;
     }
 
--- whatever it is told from here on, it comes to its end, and leaves the world so
+-- whatever it is told from here on, where it rests it is so
+abbrev pub LeadsSo : ℕ → Done → (Done → Type 0) → Type 0
+LeadsSo p d R =
+    (hints : List Hint) → HasAll p hints d → is_resting (alone p hints d).next ≡ true → R (alone p hints d)
+
+-- it has come to its end, and left the world so
+abbrev pub AtEnd : (World → Type 0) → Done → Type 0
+AtEnd P d = (d.next ≡ []) × P d.world
+
 abbrev pub Leads : ℕ → Done → (World → Type 0) → Type 0
-Leads p d P =
-    (hints : List Hint) → HasAll p hints d → is_resting (alone p hints d).next ≡ true
-    → ((alone p hints d).next ≡ []) × P (alone p hints d).world
+Leads p d P = LeadsSo p d (AtEnd P)
 
 abbrev pub no_hint : Hint
 no_hint = record { refused = false; same = false; start = 0 }
 
-module _ (p : ℕ) (P : World → Type 0) where
+module _ (p : ℕ) (R : Done → Type 0) where
   -- a thing is done
-  pub leads_on : (h : Hint) (o : Op) (w : World) (os : List Op) → waits o ≡ false → Has w o → Leads p (done w (o ∷ os)) P
-      → Leads p (done (act p h o w).world ((act p h o w).next ++ os)) P
+  pub leads_on : (h : Hint) (o : Op) (w : World) (os : List Op) → waits o ≡ false → Has w o → LeadsSo p (done w (o ∷ os)) R
+      → LeadsSo p (done (act p h o w).world ((act p h o w).next ++ os)) R
   leads_on h o w os goes has leads hints all rests =
       subst
       (λ b. HasAll p hints (one_by b p h o w os) → is_resting (alone p hints (one_by b p h o w os)).next ≡ true
-      → ((alone p hints (one_by b p h o w os)).next ≡ []) × P (alone p hints (one_by b p h o w os)).world)
+      → R (alone p hints (one_by b p h o w os)))
       goes
       (λ all rests. leads (h ∷ hints) (has, all) rests)
       all rests
 
   -- the call of an outside waker ends
-  pub leads_outside : (x : ℕ) (w : World) (os : List Op) → Leads p (done w (op.User (user_op.CallOutside x) ∷ os)) P
-      → Leads p (done w os) P
+  pub leads_outside : (x : ℕ) (w : World) (os : List Op) → LeadsSo p (done w (op.User (user_op.CallOutside x) ∷ os)) R
+      → LeadsSo p (done w os) R
   leads_outside x w os leads hints all rests = leads (no_hint ∷ hints) (tt, all) rests
 
   -- and a call, where its end is all that is left of it
-  pub leads_ended : (w : World) (os : List Op) → Leads p (done w os) P → Leads p (ended p w os) P
+  pub leads_ended : (w : World) (os : List Op) → LeadsSo p (done w os) R → LeadsSo p (ended p w os) R
   leads_ended w [] leads = leads
   leads_ended w (op.End r held ∷ os) leads = λ hints all rests. leads (no_hint ∷ hints) (tt, all) rests
   leads_ended w (o ∷ os) leads = leads
 
-  -- where user code has to answer, nothing is left
-  pub leads_rest : (w : World) (os : List Op) → is_resting os ≡ true → Leads p (done w os) P → (os ≡ []) × P w
+  -- where user code has to answer, it rests
+  pub leads_rest : (w : World) (os : List Op) → is_resting os ≡ true → LeadsSo p (done w os) R → R (done w os)
   leads_rest w os rests leads = leads [] tt rests
 
 -- by a step to this part of the machine

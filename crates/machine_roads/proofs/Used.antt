@@ -6,10 +6,9 @@ use Rattle.std.proofs.lemmas.Option.{slice_get_past}
 use Rattle.task_moves.specs.AbstractTask as abstract
 use Rattle.task_moves.specs.AbstractTask.{AbstractTask, Phase, Idle, Queued, Polling, PollingWoken, Finished}
 use Rattle.task_moves.specs.LocalTask.{info_of, info_from, told}
-use Rattle.plain_scheduler.specs.State.{Future, Plain}
-use Rattle.plain_scheduler.specs.Lists.{on}
-use Rattle.plain_scheduler.specs.Moves.{appended, put, task}
-use Rattle.plain_scheduler.specs.Moves.{used}
+use Rattle.plain_scheduler.specs.State.{Calls, Future, Plain}
+use Rattle.plain_scheduler.specs.Lists.{on, or}
+use Rattle.plain_scheduler.specs.Moves.{appended, called, put, see, task, used}
 use Rattle.machine_roads.proofs.Lists.{set_same, set_other, set_twice, set_apart, same_of, apart_of, turned}
 use Rattle.machine_roads.proofs.Puts.{with_task, put_at, put_is, task_is, task_past, mark_put}
 
@@ -22,6 +21,12 @@ polled_at None Queued is = refl
 polled_at None Polling is = refl
 polled_at None PollingWoken is = refl
 polled_at None Finished is = absurd cc
+
+-- a task that is queued, or whose future is dropped, is changed by no wake
+abbrev pub is_still : Phase → Bool
+is_still Queued = true
+is_still Finished = true
+is_still _ = false
 
 module _ {T A : Type 0} where
   -- without a waker that it had
@@ -36,20 +41,29 @@ module _ {T A : Type 0} where
       ap (λ (infos : List Bool). is_some (info_from (slice_get infos (length t.infos)))) is
       ∙ ap (λ (o : Option Bool). is_some (info_from o)) (slice_get_past t.infos (length t.infos) (omega arith))
 
-  -- a queued task is let go by one
-  pub release_queued : (t : AbstractTask T A) → t.phase ≡ Queued → abstract.release t ≡ lower t
-  release_queued t is =
-      ap
-      (λ phase. if abstract.is_idle phase && (not t.closed && (not t.handle && (t.wakers - 1 == 0)))
-      then abstract.close (lower t) else lower t)
-      is
-
-  pub wake_queued : (t : AbstractTask T A) → t.phase ≡ Queued → abstract.wake t ≡ t
-  wake_queued t is = by t.closed
+  -- a task that no wake changes is let go by one
+  pub release_still : (t : AbstractTask T A) → is_still t.phase ≡ true → abstract.release t ≡ lower t
+  release_still t still = by t.phase still
     where
-      by : (b : Bool) → (if b then t else abstract.wake_open t.phase t) ≡ t
-      by true = refl
-      by false = ap (λ phase. abstract.wake_open phase t) is
+      by : (phase : Phase) → is_still phase ≡ true
+          → (if abstract.is_idle phase && (not t.closed && (not t.handle && (t.wakers - 1 == 0)))
+          then abstract.close (lower t) else lower t) ≡ lower t
+      by Idle still = absurd cc
+      by Queued still = refl
+      by Polling still = refl
+      by PollingWoken still = refl
+      by Finished still = refl
+
+  wake_still : (t : AbstractTask T A) → is_still t.phase ≡ true → abstract.wake t ≡ t
+  wake_still t still = by t.closed t.phase still
+    where
+      by : (b : Bool) (phase : Phase) → is_still phase ≡ true → (if b then t else abstract.wake_open phase t) ≡ t
+      by true phase still = refl
+      by false Idle still = absurd cc
+      by false Queued still = refl
+      by false Polling still = absurd cc
+      by false PollingWoken still = refl
+      by false Finished still = refl
 
   -- what neither a wake nor a release changes: who awaits it, and its output
   pub record IsKept {B : Type 0} (ask : AbstractTask T A → B) : Type 0 where
@@ -154,16 +168,16 @@ module _ {T A : Type 0} where
         ap (λ t. put f (lower t) p) (task_is f p x is) ∙ put_is f (lower x.task) p x is
 
     module _ (wakes : A → Option ℕ) where
-      -- where the task is queued, to wake it by a waker that goes is to let that go
-      used_queued : (p : Plain T A) (x : Future T A) → slice_get p.futures f ≡ Some x → x.task.phase ≡ Queued
-          → used wakes (λ s. s) f p ≡ put_at f (lower x.task) x p
-      used_queued p x is queued =
+      -- where no wake changes the task, to wake it by a waker that goes is to let that go
+      used_still : (more : Plain T A → Plain T A) (p : Plain T A) (x : Future T A) → slice_get p.futures f ≡ Some x
+          → is_still x.task.phase ≡ true → used wakes more f p ≡ put_at f (lower x.task) x p
+      used_still more p x is still =
           ap (λ t. if is_some (info_of t (abstract.release (abstract.wake t)))
-          then appended f (put f (abstract.release (abstract.wake t)) p) else put f (abstract.release (abstract.wake t)) p)
+          then more (appended f (put f (abstract.release (abstract.wake t)) p)) else put f (abstract.release (abstract.wake t)) p)
           (task_is f p x is)
-          ∙ (ap (λ t. if is_some (info_of x.task t) then appended f (put f t p) else put f t p)
-          (ap abstract.release (wake_queued x.task queued) ∙ release_queued x.task queued)
-          ∙ (ap (λ b. if b then appended f (put f (lower x.task) p) else put f (lower x.task) p)
+          ∙ (ap (λ t. if is_some (info_of x.task t) then more (appended f (put f t p)) else put f t p)
+          (ap abstract.release (wake_still x.task still) ∙ release_still x.task still)
+          ∙ (ap (λ b. if b then more (appended f (put f (lower x.task) p)) else put f (lower x.task) p)
           (none_told x.task (lower x.task) refl)
           ∙ put_is f (lower x.task) p x is))
 
@@ -171,11 +185,13 @@ module _ {T A : Type 0} where
       pub record Comes (h : AbstractTask T A → AbstractTask T A) (p q : Plain T A) : Type 0 where
         pub future : Future T A
         pub there : slice_get q.futures f ≡ Some future
-        pub queued : future.task.phase ≡ Queued
+        pub still : is_still future.task.phase ≡ true
         pub same : put_at f (h future.task) future q ≡ p
 
-      module _ (h : AbstractTask T A → AbstractTask T A) (change : IsLater h) (g : ℕ) (p : Plain T A) (x : Future T A)
-          (is : slice_get p.futures f ≡ Some x) (queued : x.task.phase ≡ Queued) where
+      module _ (h : AbstractTask T A → AbstractTask T A) (change : IsLater h) (more : Plain T A → Plain T A)
+          (past : (p : Plain T A) (x : Future T A) → slice_get p.futures f ≡ Some x → is_still x.task.phase ≡ true
+          → Comes h (more (put_at f (h x.task) x p)) (more p)) (g : ℕ) (p : Plain T A) (x : Future T A)
+          (is : slice_get p.futures f ≡ Some x) (still : is_still x.task.phase ≡ true) where
         abbrev l : Plain T A
         l = put_at f (h x.task) x p
 
@@ -202,12 +218,12 @@ module _ {T A : Type 0} where
             cases true = record {
               future = x;
               there = is;
-              queued = queued;
+              still = still;
               same = ap
                   (λ m. record l { due = p.due ++ record { future = g; mark = m; keeper = None } ∷ [] })
                   (sym (mark_put f g (h x.task) p x is));
             }
-            cases false = record { future = x; there = is; queued = queued; same = refl }
+            cases false = record { future = x; there = is; still = still; same = refl }
         apart_by apart b (Some z) some =
             let v : Future T A = with_task new z in
             let there_l : slice_get l.futures g ≡ Some z = set_other p.futures f g y apart ∙ some in
@@ -230,7 +246,7 @@ module _ {T A : Type 0} where
             cases true = record {
               future = x;
               there = there_p;
-              queued = queued;
+              still = still;
               same =
                   ap
                   (λ m. record p {
@@ -246,16 +262,17 @@ module _ {T A : Type 0} where
             cases false = record {
               future = x;
               there = there_p;
-              queued = queued;
+              still = still;
               same = ap (λ fs. record p { futures = fs }) futures;
             }
 
-        past_by : (b : Bool) → (f == g) ≡ b → Comes h (used wakes (λ s. s) g l) (used wakes (λ s. s) g p)
+        past_by : (b : Bool) → (f == g) ≡ b → Comes h (used wakes more g l) (used wakes more g p)
         past_by true same =
-            subst (λ g. Comes h (used wakes (λ s. s) g l) (used wakes (λ s. s) g p)) (same_of f g same)
-            (subst (λ u. Comes h u (used wakes (λ s. s) f p)) (sym (used_queued l y there (change.phase x.task ∙ queued)))
-            (subst (λ u. Comes h (put_at f (lower y.task) y l) u) (sym (used_queued p x is queued))
-            (record { future = z; there = set_same p.futures f z x is; queued = queued; same = both })))
+            subst (λ g. Comes h (used wakes more g l) (used wakes more g p)) (same_of f g same)
+            (subst (λ u. Comes h u (used wakes more f p))
+            (sym (used_still more l y there (ap is_still (change.phase x.task) ∙ still)))
+            (subst (λ u. Comes h (put_at f (lower y.task) y l) u) (sym (used_still more p x is still))
+            (record { future = z; there = set_same p.futures f z x is; still = still; same = both })))
           where
             z : Future T A
             z = with_task (lower x.task) x
@@ -269,10 +286,34 @@ module _ {T A : Type 0} where
             subst
             (λ t. Comes h
             (if is_some (info_of t (abstract.release (abstract.wake t)))
-            then appended g (put g (abstract.release (abstract.wake t)) l) else put g (abstract.release (abstract.wake t)) l)
-            (used wakes (λ s. s) g p))
+            then more (appended g (put g (abstract.release (abstract.wake t)) l)) else put g (abstract.release (abstract.wake t)) l)
+            (used wakes more g p))
             (sym (task_past f g (h x.task) p x apart))
-            (apart_by apart (is_some (info_of (task g p) new)) (slice_get p.futures g) refl)
+            (told_by (is_some (info_of (task g p) new)))
+          where
+            told_by : (b : Bool)
+                → Comes h (if b then more (appended g (put g new l)) else put g new l)
+                (if b then more (appended g (put g new p)) else put g new p)
+            told_by true =
+                let c = apart_by apart true (slice_get p.futures g) refl in
+                subst (λ u. Comes h (more u) (more (appended g (put g new p)))) c.same
+                (past (appended g (put g new p)) c.future c.there c.still)
+            told_by false = apart_by apart false (slice_get p.futures g) refl
 
-        pub used_past : Comes h (used wakes (λ s. s) g (put_at f (h x.task) x p)) (used wakes (λ s. s) g p)
+        pub used_past : Comes h (used wakes more g (put_at f (h x.task) x p)) (used wakes more g p)
         used_past = past_by (f == g) refl
+
+      -- and so it is where a waker is called
+      module _ (h : AbstractTask T A → AbstractTask T A) (change : IsLater h) (more : Plain T A → Plain T A)
+          (past : (p : Plain T A) (x : Future T A) → slice_get p.futures f ≡ Some x → is_still x.task.phase ≡ true
+          → Comes h (more (put_at f (h x.task) x p)) (more p)) (p : Plain T A) (x : Future T A)
+          (is : slice_get p.futures f ≡ Some x) (still : is_still x.task.phase ≡ true) where
+        pub called_past : (o : Option A) → Comes h (on o (called wakes more) (put_at f (h x.task) x p)) (on o (called wakes more) p)
+        called_past None = record { future = x; there = is; still = still; same = refl }
+        called_past (Some w) = by (wakes w)
+          where
+            by : (o : Option ℕ)
+                → Comes h (or o (λ g. used wakes more g (put_at f (h x.task) x p)) (see (Calls w) (put_at f (h x.task) x p)))
+                (or o (λ g. used wakes more g p) (see (Calls w) p))
+            by None = record { future = x; there = is; still = still; same = refl }
+            by (Some g) = used_past h change more past g p x is still

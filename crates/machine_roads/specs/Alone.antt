@@ -14,6 +14,8 @@ use Rattle.executor_model.specs.declared.op.QueueOp.{QueueOp}
 use Rattle.executor_model.specs.declared.op.QueueOp.TheVariants as queue_op
 use Rattle.executor_model.specs.declared.op.SleeperOp.{SleeperOp}
 use Rattle.executor_model.specs.declared.op.SleeperOp.TheVariants as sleeper_op
+use Rattle.executor_model.specs.declared.op.TickOp.{TickOp}
+use Rattle.executor_model.specs.declared.op.TickOp.TheVariants as tick_op
 use Rattle.executor_model.specs.declared.op.UserOp.TheVariants as user_op
 use Rattle.executor_model.specs.declared.op.Waker.{Waker}
 use Rattle.executor_model.specs.declared.op.Waker.TheVariants.{Task, Outside}
@@ -91,6 +93,10 @@ HandleHas w (handle_op.Look f a) = IsKnown w f × ((task w f).completed ≡ true
 HandleHas w (handle_op.CopyAwaiter f a) = CanCopy w a
 HandleHas w o = HandleNeeds w o
 
+abbrev pub TickHas : World → TickOp → Type 0
+TickHas w (tick_op.CopyWaker s) = CanCopy w s.waker
+TickHas w _ = Unit {0}
+
 -- what a thing to do speaks of is there
 abbrev pub Has : World → Op → Type 0
 Has w (op.Move m f) = IsKnown w f × MoveHas m w f
@@ -98,6 +104,7 @@ Has w (op.Queue o) = QueueHas w o
 Has w (op.Waker o) = WakerHas w o
 Has w (op.Sleeper o) = SleeperHas w o
 Has w (op.Handle o) = HandleHas w o
+Has w (op.Tick o) = TickHas w o
 Has w _ = Unit {0}
 
 abbrev pub HasFirst : World → List Op → Type 0

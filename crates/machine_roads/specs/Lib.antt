@@ -5,4 +5,7 @@ pub mod Road
 pub mod Alone
 pub mod Alike
 pub mod Stopped
+pub mod Losing
+pub mod Dropped
+pub mod Ticking
 pub mod Lone

@@ -1,28 +1,38 @@
 -- When a lone call of a machine at rest leaves it where the plain scheduler's call leaves that, as long as the executor's drop
 -- hasn't begun.
-use Rattle.std.specs.Prelude.{◌≡◌, ℕ, ◌≤◌, false, not, List, [], ◌∷◌, length, Some, None}
+use Rattle.std.specs.Prelude.{◌≡◌, ℕ, ◌≤◌, ◌<◌, Bool, true, false, not, List, [], ◌∷◌, length, reverse, Some, None, Ok, is_some}
 use Rattle.executor_parts.specs.declared.mark.Mark.{Mark}
+use Rattle.executor_parts.specs.Marks.{first_of}
 use Rattle.task_moves.specs.AbstractTask as abstract
 use Rattle.task_moves.specs.AbstractTask.Polled.{Waits}
 use Rattle.executor_model.specs.declared.call.By.{By}
 use Rattle.executor_model.specs.declared.call.Call.{Call}
 use Rattle.executor_model.specs.declared.call.Call.TheVariants as call
+use Rattle.executor_model.specs.declared.call.Reply.TheVariants as reply
+use Rattle.executor_model.specs.declared.op.Hold.TheVariants as hold
+use Rattle.executor_model.specs.declared.op.Op.TheVariants as op
 use Rattle.executor_model.specs.declared.op.Waker.{Waker}
 use Rattle.executor_model.specs.declared.step.Hint.{Hint}
 use Rattle.executor_model.specs.declared.step.Step.{Step}
 use Rattle.executor_model.specs.declared.step.Step.TheVariants.{Go}
 use Rattle.executor_model.specs.Acts.{is_copy_refused, is_refused}
-use Rattle.executor_model.specs.Executions.{EveryMachine}
+use Rattle.executor_model.specs.Executions.{EveryMachine, run_all}
 use Rattle.executor_model.specs.Quiet.{IsQuiet}
-use Rattle.executor_model.specs.Steps.{Machine, kept, waker_of}
-use Rattle.executor_model.specs.World.{task}
+use Rattle.executor_model.specs.Steps.{Machine, kept, stack, waker_of}
+use Rattle.executor_model.specs.World.{Done, done, task}
 use Rattle.executor_laws.specs.LoneEnds.{IsLoneCall}
-use Rattle.plain_scheduler.specs.State.{Choice, Plain}
+use Rattle.plain_scheduler.specs.State.{Choice, Plain, Refusal, Tick, Try}
+use Rattle.plain_scheduler.specs.Lists.{any}
+use Rattle.plain_scheduler.specs.Moves.{is_common}
 use Rattle.plain_scheduler.specs.Moves as plain
-use Rattle.plain_scheduler.specs.Calls.{does, is_granted, Spawn, Wake, Use, Copy, Release, Cancel, Detach, DropHandle, PollHandle, IsEmpty}
+use Rattle.plain_scheduler.specs.Calls.{does, is_granted, Spawn, Wake, Use, Copy, Release, Cancel, Detach, DropHandle, PollHandle}
+use Rattle.plain_scheduler.specs.Calls.{DropTick, Ends, EndsWith, IsEmpty, NewTick, Pends, PollTick, TryTick}
+use Rattle.plain_scheduler.specs.Calls as plain_calls
 use Rattle.machine_roads.specs.View.{Output, wakes}
 use Rattle.machine_roads.specs.Alike.{begins, LeavesAlike}
 use Rattle.machine_roads.specs.Road.{Follows}
+use Rattle.machine_roads.specs.Stopped.{Stops}
+use Rattle.machine_roads.specs.Ticking.{Rests}
 
 -- a call that leaves the world so leaves the machine so
 abbrev pub LoneCallIsAlone : Machine → Type 0
@@ -34,6 +44,26 @@ LoneCallIsAlone s =
 -- these steps of a lone call lead there
 abbrev pub LeadsTo : Machine → ℕ → Call → List Step → Plain Output Waker → Type 0
 LeadsTo s p c steps q = (new : Machine) → new.world.gone ≡ false → IsLoneCall p c steps s new → Follows new.world q
+
+-- on the way to this machine its party rests first, with nothing left to do or in user code, so
+pub record RestsFirst (p : ℕ) (So : Done → Type 0) (new : Machine) : Type 0 where
+  pub machine : Machine
+  pub rest : List Step
+  pub made : run_all rest machine ≡ Ok new
+  pub so : So (done machine.world (reverse (stack machine p)))
+
+-- a user's code ends
+abbrev pub is_end : plain_calls.Call Output Waker → Bool
+is_end Pends = true
+is_end (EndsWith v) = true
+is_end Ends = true
+is_end _ = false
+
+-- by such ends, each of which tells who lay down last
+pub data Ended : Plain Output Waker → Plain Output Waker → Type 0 where
+  over : (q : Plain Output Waker) → Ended q q
+  ends : (c : Choice) (e : plain_calls.Call Output Waker) (q r : Plain Output Waker) → is_end e ≡ true → length q.lying ≤ c.tells
+      → Ended (does wakes c e q) r → Ended q r
 
 -- of each machine at rest and each plain scheduler where both stand alike
 abbrev pub EachLoneAlike : (Machine → Plain Output Waker → Type 0) → Type 0
@@ -84,6 +114,17 @@ module _ (s : Machine) (q : Plain Output Waker) where
       (p f : ℕ) (c : Choice) (steps : List Step) → (plain.task f q).output ≡ None → length q.lying ≤ c.tells
       → LeadsTo s p (call.DropHandle f) steps (does wakes c (DropHandle f) q)
 
+  -- and of one whose output is there, with the end of the output's drop
+  abbrev pub LoneDetachLoses : Type 0
+  LoneDetachLoses =
+      (p f : ℕ) (c d : Choice) (steps : List Step) → is_some (plain.task f q).output ≡ true
+      → LeadsTo s p (call.Detach f) steps (does wakes d Ends (does wakes c (Detach f) q))
+
+  abbrev pub LoneGoesWithOutput : Type 0
+  LoneGoesWithOutput =
+      (p f : ℕ) (c d : Choice) (steps : List Step) → is_some (plain.task f q).output ≡ true
+      → LeadsTo s p (call.DropHandle f) steps (does wakes d Ends (does wakes c (DropHandle f) q))
+
   -- where it finds an answer, or where it has to wait
   abbrev pub LoneHandlePolls : Type 0
   LoneHandlePolls =
@@ -96,6 +137,49 @@ module _ (s : Machine) (q : Plain Output Waker) where
       → abstract.polled (plain.task f q) ≡ Waits → length q.lying ≤ c.tells
       → is_granted c.refusal ≡ not (is_copy_refused h s.world (waker_of None b))
       → LeadsTo s p (call.PollHandle f b) (Go p g ∷ Go p h ∷ steps) (does wakes c (PollHandle f (waker_of None b)) q)
+
+  -- a tick is made, or that is refused, and goes
+  abbrev pub LoneTickIsMade : Type 0
+  LoneTickIsMade =
+      (p : ℕ) (c : Choice) (h : Hint) (steps : List Step) → is_granted c.refusal ≡ not h.refused
+      → LeadsTo s p call.NewTick (Go p h ∷ steps) (does wakes c NewTick q)
+
+  -- a try rests first where the plain scheduler's does: it is answered, or in the poll or the drop of a future that it took
+  abbrev pub LoneTries : Type 0
+  LoneTries =
+      (p : ℕ) (c : Choice) (steps : List Step) → c.first ≡ first_of s.world.urgent_turns → length q.lying ≤ c.tells
+      → (new : Machine) → new.world.gone ≡ false → IsLoneCall p call.TryTick steps s new
+      → RestsFirst p (λ e. Stops Try (op.End reply.Yes hold.Executor) [] q e (does wakes c TryTick q)) new
+
+  -- with the ends of the code that it comes to a try of an executor that isn't static is a try
+  abbrev pub LoneTriesEnd : Type 0
+  LoneTriesEnd =
+      (p : ℕ) (c : Choice) (steps : List Step) → q.is_static ≡ false → c.first ≡ first_of s.world.urgent_turns
+      → length q.lying ≤ c.tells → (new : Machine) → new.world.gone ≡ false → IsLoneCall p call.TryTick steps s new
+      → (r : Plain Output Waker) × Ended (does wakes c TryTick q) r × (r.inside ≡ q.inside) × Follows new.world r
+
+  -- a poll of a tick rests so first too
+  abbrev pub LoneTickIsPolled : Type 0
+  LoneTickIsPolled =
+      (p t : ℕ) (c : Choice) (b : By) (steps : List Step) → c.first ≡ first_of s.world.urgent_turns → length q.lying < c.tells
+      → Rests s.world q t → (new : Machine) → new.world.gone ≡ false → IsLoneCall p (call.PollTick t b) steps s new
+      → RestsFirst p
+      (λ e. (r : Refusal) × Stops (Tick t (waker_of None b)) (op.End reply.Ready (hold.Tick t)) [] q e
+      (does wakes (record c { refusal = r }) (PollTick t (waker_of None b)) q))
+      new
+
+  -- a tick is polled where nothing without a keeper is due: it lies, or that is refused in one way or the other
+  abbrev pub LoneTickLies : Type 0
+  LoneTickLies =
+      (p t : ℕ) (c : Choice) (b : By) (steps : List Step) → c.first ≡ first_of s.world.urgent_turns → length q.lying < c.tells
+      → Rests s.world q t → ((m : Mark) → any (is_common m) q.due ≡ false) → (new : Machine) → new.world.gone ≡ false
+      → IsLoneCall p (call.PollTick t b) steps s new
+      → (r : Refusal) × Follows new.world (does wakes (record c { refusal = r }) (PollTick t (waker_of None b)) q)
+
+  abbrev pub LoneTickGoes : Type 0
+  LoneTickGoes =
+      (p t : ℕ) (c : Choice) (steps : List Step) → Rests s.world q t → length q.lying ≤ c.tells
+      → LeadsTo s p (call.DropTick t) steps (does wakes c (DropTick t) q)
 
   abbrev pub LoneEmpty : Type 0
   LoneEmpty = (p : ℕ) (c : Choice) (steps : List Step) → LeadsTo s p call.IsEmpty steps (does wakes c IsEmpty q)

@@ -17,7 +17,7 @@ use Rattle.executor_model.specs.declared.step.UserEnd.TheVariants as end
 use Rattle.executor_model.specs.Acts.{is_last_waker}
 use Rattle.executor_model.specs.Steps.{react}
 use Rattle.executor_model.specs.World.{World, Done, among, task}
-use Rattle.plain_scheduler.specs.State.{Choice, Closed, Code, Drop, Gave, Plain, Poll, Try}
+use Rattle.plain_scheduler.specs.State.{Choice, Closed, Code, Drop, Gave, Plain, Poll, Taker, Tick, Try}
 use Rattle.plain_scheduler.specs.Calls.{does, EndsWith, Pends, TryTick}
 use Rattle.machine_roads.specs.View.{Output, wakes}
 use Rattle.machine_roads.specs.Moving.{IsPolled}
@@ -25,30 +25,35 @@ use Rattle.machine_roads.specs.Road.{Follows}
 use Rattle.machine_roads.specs.Alone.{alone, is_resting, HasAll}
 use Rattle.machine_roads.specs.Alike.{begins, upon}
 
-pub data Stopped (below : List Op) (inside : List (Code Output Waker)) : List Op → List (Code Output Waker) → Type 0 where
+-- a call that takes one future, a try or a tick's poll, and how it ends behind that
+pub data Finally : Taker Waker → Op → Type 0 where
+  of_try : Finally Try (op.End reply.Yes hold.Executor)
+  of_tick : (t : ℕ) (a : Waker) → Finally (Tick t a) (op.End reply.Ready (hold.Tick t))
+
+pub data Stopped (taker : Taker Waker) (final : Op) (below : List Op) (inside : List (Code Output Waker))
+    : List Op → List (Code Output Waker) → Type 0 where
   -- the call is answered
-  answered : Stopped below inside below inside
-  -- in a poll of a future that a try took, or in its drop, where it is closed
-  polls : (f : ℕ) → Stopped below inside (op.User (user_op.Poll f) ∷ op.End reply.Yes hold.Executor ∷ below) (Poll f Try ∷ inside)
+  answered : Stopped taker final below inside below inside
+  -- in a poll of a future that it took, or in its drop, where it is closed
+  polls : (f : ℕ) → Stopped taker final below inside (op.User (user_op.Poll f) ∷ final ∷ below) (Poll f taker ∷ inside)
   drops : (f : ℕ)
-      → Stopped below inside
-      (op.User (user_op.Drop f) ∷ op.Table (table_op.LeaveTable f) ∷ op.Move move.SettleClosed f
-      ∷ op.End reply.Yes hold.Executor ∷ below)
-      (Drop f Closed Try ∷ inside)
+      → Stopped taker final below inside
+      (op.User (user_op.Drop f) ∷ op.Table (table_op.LeaveTable f) ∷ op.Move move.SettleClosed f ∷ final ∷ below)
+      (Drop f Closed taker ∷ inside)
   -- in the drop of one that was closed while it was polled
   drops_polled : (f : ℕ)
-      → Stopped below inside
-      (op.User (user_op.Drop f) ∷ op.Table (table_op.LeaveTable f) ∷ op.Move move.EndClosed f
-      ∷ op.End reply.Yes hold.Executor ∷ below)
-      (Drop f Closed Try ∷ inside)
+      → Stopped taker final below inside
+      (op.User (user_op.Drop f) ∷ op.Table (table_op.LeaveTable f) ∷ op.Move move.EndClosed f ∷ final ∷ below)
+      (Drop f Closed taker ∷ inside)
   -- in the drop of one whose poll gave an output
   drops_given : (f : ℕ)
-      → Stopped below inside
-      (op.User (user_op.Drop f) ∷ op.Table (table_op.LeaveTable f) ∷ op.Move move.EndReady f ∷ op.End reply.Yes hold.Executor ∷ below)
-      (Drop f (Gave tt) Try ∷ inside)
+      → Stopped taker final below inside
+      (op.User (user_op.Drop f) ∷ op.Table (table_op.LeaveTable f) ∷ op.Move move.EndReady f ∷ final ∷ below)
+      (Drop f (Gave tt) taker ∷ inside)
 
-pub record Stops (below : List Op) (q : Plain Output Waker) (end : Done) (new : Plain Output Waker) : Type 0 where
-  pub stopped : Stopped below q.inside end.next new.inside
+pub record Stops (taker : Taker Waker) (final : Op) (below : List Op) (q : Plain Output Waker) (end : Done)
+    (new : Plain Output Waker) : Type 0 where
+  pub stopped : Stopped taker final below q.inside end.next new.inside
   pub follows : Follows end.world new
 
 -- a try of a tick: the plain scheduler looks first at the mark that the turn names, and tells who lay down last
@@ -57,7 +62,8 @@ TriesAlike p here below w q =
     (c : Choice) → c.first ≡ first_of w.urgent_turns → length q.lying ≤ c.tells → (hints : List Hint)
     → HasAll p hints (upon below (begins p here call.TryTick w))
     → is_resting (alone p hints (upon below (begins p here call.TryTick w))).next ≡ true
-    → Stops below q (alone p hints (upon below (begins p here call.TryTick w))) (does wakes c TryTick q)
+    → Stops Try (op.End reply.Yes hold.Executor) below q (alone p hints (upon below (begins p here call.TryTick w)))
+    (does wakes c TryTick q)
 
 -- a future that is polled and in the table, and after whose poll somebody could still wake it or ask for it
 pub record IsInPoll (w : World) (f : ℕ) : Type 0 where
@@ -66,22 +72,25 @@ pub record IsInPoll (w : World) (f : ℕ) : Type 0 where
   pub entered : among f w.table ≡ true
   pub reached : is_last_waker move.EndPending (task w f) ≡ false
 
--- the poll of a future that a try took ends without an output
-abbrev pub pended : ℕ → ℕ → List Op → World → Done
-pended p f below w = upon (op.End reply.Yes hold.Executor ∷ below) (react p (op.User (user_op.Poll f)) (end.Polled answer.Pending) w)
+-- the poll of a future that was taken ends without an output
+abbrev pub pended : ℕ → ℕ → Op → List Op → World → Done
+pended p f final below w = upon (final ∷ below) (react p (op.User (user_op.Poll f)) (end.Polled answer.Pending) w)
 
-abbrev pub PendsAlikeInTry : ℕ → Option Waker → List Op → World → Plain Output Waker → Type 0
-PendsAlikeInTry p here below w q =
-    (f : ℕ) → IsInPoll w f → (c : Choice) → length q.lying ≤ c.tells → (hints : List Hint) → HasAll p hints (pended p f below w)
-    → is_resting (alone p hints (pended p f below w)).next ≡ true
-    → Stops below q (alone p hints (pended p f below w)) (does wakes c Pends (record q { inside = Poll f Try ∷ q.inside }))
+abbrev pub PendsAlikeInTake : ℕ → Option Waker → List Op → World → Plain Output Waker → Type 0
+PendsAlikeInTake p here below w q =
+    (taker : Taker Waker) (final : Op) → Finally taker final → (f : ℕ) → IsInPoll w f → (c : Choice) → length q.lying ≤ c.tells
+    → (hints : List Hint) → HasAll p hints (pended p f final below w)
+    → is_resting (alone p hints (pended p f final below w)).next ≡ true
+    → Stops taker final below q (alone p hints (pended p f final below w))
+    (does wakes c Pends (record q { inside = Poll f taker ∷ q.inside }))
 
 -- and with one
-abbrev pub given : ℕ → ℕ → List Op → World → Done
-given p f below w = upon (op.End reply.Yes hold.Executor ∷ below) (react p (op.User (user_op.Poll f)) (end.Polled answer.Ready) w)
+abbrev pub given : ℕ → ℕ → Op → List Op → World → Done
+given p f final below w = upon (final ∷ below) (react p (op.User (user_op.Poll f)) (end.Polled answer.Ready) w)
 
-abbrev pub GivesAlikeInTry : ℕ → Option Waker → List Op → World → Plain Output Waker → Type 0
-GivesAlikeInTry p here below w q =
-    (f : ℕ) (c : Choice) (hints : List Hint) → HasAll p hints (given p f below w)
-    → is_resting (alone p hints (given p f below w)).next ≡ true
-    → Stops below q (alone p hints (given p f below w)) (does wakes c (EndsWith tt) (record q { inside = Poll f Try ∷ q.inside }))
+abbrev pub GivesAlikeInTake : ℕ → Option Waker → List Op → World → Plain Output Waker → Type 0
+GivesAlikeInTake p here below w q =
+    (taker : Taker Waker) (final : Op) (f : ℕ) (c : Choice) (hints : List Hint) → HasAll p hints (given p f final below w)
+    → is_resting (alone p hints (given p f final below w)).next ≡ true
+    → Stops taker final below q (alone p hints (given p f final below w))
+    (does wakes c (EndsWith tt) (record q { inside = Poll f taker ∷ q.inside }))

@@ -2,8 +2,11 @@
 ghost use Rattle.executor_model.specs.Executions.{EveryMachine};
 ghost use Rattle.machine_roads.specs.Lone.{EachLoneAlike, LoneCallIsAlone, LoneCancels, LoneCopies};
 ghost use Rattle.machine_roads.specs.Lone.{LoneEmpty, LoneSpawns, LoneUses, LoneWakerGoes};
+ghost use Rattle.machine_roads.specs.Lone.{LoneDetachLoses, LoneGoesWithOutput};
 ghost use Rattle.machine_roads.specs.Lone.{LoneDetaches, LoneHandleGoes, LoneHandlePolls};
-ghost use Rattle.machine_roads.specs.Lone.{LoneHandleWaits, LoneWakes};
+ghost use Rattle.machine_roads.specs.Lone.{LoneHandleWaits, LoneTickGoes, LoneTickIsMade};
+ghost use Rattle.machine_roads.specs.Lone.{LoneTickIsPolled, LoneTickLies, LoneTries};
+ghost use Rattle.machine_roads.specs.Lone.{LoneTriesEnd, LoneWakes};
 
 /// What a call leaves of the world, however it is told, a lone call leaves of each machine at rest,
 /// as long as the executor's drop hasn't begun: so it is here and below.
@@ -39,6 +42,12 @@ pub fn lone_handles_go_alike()
     ensures drops { EachLoneAlike LoneHandleGoes }
 {}
 
+/// And of one whose output is there, with the end of the output's drop.
+pub fn lone_handles_go_with_outputs()
+    ensures detaches { EachLoneAlike LoneDetachLoses }
+    ensures drops { EachLoneAlike LoneGoesWithOutput }
+{}
+
 /// So does a lone poll of a handle, whether it finds an answer or has to wait, also where the copy of
 /// its waker is refused.
 pub fn lone_polls_of_handles_are_polls()
@@ -49,6 +58,32 @@ pub fn lone_polls_of_handles_are_polls()
 /// So does a lone spawn, also one that is refused.
 pub fn lone_spawns_are_spawns()
     ensures { EachLoneAlike LoneSpawns }
+{}
+
+/// A lone try, and a lone poll of a tick, rest first where those of the plain scheduler do: answered,
+/// or in the poll or the drop of a future that they took, in whatever world `roads` goes on from.
+pub fn lone_takes_rest_alike()
+    ensures tries { EachLoneAlike LoneTries }
+    ensures ticks { EachLoneAlike LoneTickIsPolled }
+{}
+
+/// And with the ends of all the user code that it comes to a lone try is a try, of an executor that
+/// isn't static.
+pub fn lone_tries_are_tries()
+    ensures { EachLoneAlike LoneTriesEnd }
+{}
+
+/// So does the lone making of a tick, also one that is refused, and its drop, where it lies in both
+/// under its own number (`Rests`).
+pub fn lone_ticks_are_made_and_go()
+    ensures makes { EachLoneAlike LoneTickIsMade }
+    ensures drops { EachLoneAlike LoneTickGoes }
+{}
+
+/// So does a lone poll of a tick where nothing is due that no run keeps: it lies, or lies again, or is
+/// refused memory in one way or the other.
+pub fn lone_ticks_lie_down()
+    ensures { EachLoneAlike LoneTickLies }
 {}
 
 /// And so it is asked alone whether the executor is empty.

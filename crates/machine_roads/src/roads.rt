@@ -9,8 +9,11 @@ ghost use Rattle.machine_roads.specs.Alike.{CancelsAlike, CopiesAlike, DetachesA
 ghost use Rattle.machine_roads.specs.Alike.{EmptyAlike, HandleGoesAlike, HandlePollsAlike, KeepsAlike};
 ghost use Rattle.machine_roads.specs.Alike.{SpawnsAlike, UsesAlike, WakesAlike, WakesItselfAlike};
 ghost use Rattle.machine_roads.specs.Alike.{WakerGoesAlike};
+ghost use Rattle.machine_roads.specs.Dropped.{DropsAlikeInTake, LosesAlikeInTake};
+ghost use Rattle.machine_roads.specs.Losing.{DetachesToLose, GoesToLose, LosesAlike};
 ghost use Rattle.machine_roads.specs.Road.{Follows};
-ghost use Rattle.machine_roads.specs.Stopped.{GivesAlikeInTry, PendsAlikeInTry, TriesAlike};
+ghost use Rattle.machine_roads.specs.Ticking.{TickGoesAlike, TickIsMadeAlike, TickIsPolledAlike};
+ghost use Rattle.machine_roads.specs.Stopped.{GivesAlikeInTake, PendsAlikeInTake, TriesAlike};
 
 /// A new machine stands where the new plain scheduler does.
 pub fn both_begin_alike()
@@ -52,6 +55,18 @@ pub fn a_handle_goes_alike()
     ensures { EachAlike HandleGoesAlike }
 {}
 
+/// Of a future whose output is there a detach, and the drop of its handle, come to the drop of the
+/// output, where both stand alike but for the handle.
+pub fn a_handle_comes_to_lose()
+    ensures detaches { EachAlike DetachesToLose }
+    ensures drops { EachAlike GoesToLose }
+{}
+
+/// From the end of that drop on the call leaves both alike.
+pub fn a_loss_ends_alike()
+    ensures { LosesAlike }
+{}
+
 /// So does a poll of a handle, with a copy of its waker where it has to wait, also one that is
 /// refused.
 pub fn a_handle_is_polled_alike()
@@ -69,15 +84,44 @@ pub fn a_try_is_a_try()
     ensures { EachAlike TriesAlike }
 {}
 
-/// And so does the end of the poll that it came to, where that gives no output and the future can
-/// still be reached.
+/// And so does the end of such a poll, in a try or a tick's poll, where it gives no output and the
+/// future can still be reached.
 pub fn an_end_without_output_ends_alike()
-    ensures { EachAlike PendsAlikeInTry }
+    ensures { EachAlike PendsAlikeInTake }
 {}
 
 /// And so does its end with an output.
 pub fn an_end_with_output_ends_alike()
-    ensures { EachAlike GivesAlikeInTry }
+    ensures { EachAlike GivesAlikeInTake }
+{}
+
+/// And so does the end of the future's drop: the call is answered, or has come to the drop of an
+/// output that nobody can take, where both stand alike but for the run's reference and who awaits the
+/// task.
+pub fn an_end_of_a_drop_ends_alike()
+    ensures { EachAlike DropsAlikeInTake }
+{}
+
+/// From the end of that drop on the call leaves both alike.
+pub fn a_loss_in_a_take_ends_alike()
+    ensures { LosesAlikeInTake }
+{}
+
+/// A tick is made alike, also where that is refused.
+pub fn a_tick_is_made_alike()
+    ensures { EachAlike TickIsMadeAlike }
+{}
+
+/// A tick that is polled has come to the poll or the drop of a future that it took, or is answered:
+/// it lies down, or lies again by another waker, or is refused memory for one.
+pub fn a_tick_is_polled_alike()
+    ensures { EachAlike TickIsPolledAlike }
+{}
+
+/// A tick that is dropped leaves both alike, whether it lay, was called or neither, where it lies in
+/// both under its own number (`Rests`).
+pub fn a_tick_goes_alike()
+    ensures { EachAlike TickGoesAlike }
 {}
 
 /// And both say alike whether they are empty.

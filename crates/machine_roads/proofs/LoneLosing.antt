@@ -1,0 +1,90 @@
+-- Lone calls by which a handle goes with its output: they come to the output's drop, and go on from its end.
+use Rattle.std.proofs.Common.{◌≡◌, ℕ, ◌++◌, false, List, [], ◌∷◌, None, refl, sym, ap, subst}
+use Rattle.executor_model.specs.declared.call.Call.{Call}
+use Rattle.executor_model.specs.declared.call.Call.TheVariants as call
+use Rattle.executor_model.specs.declared.op.Op.{Op}
+use Rattle.executor_model.specs.declared.op.Op.TheVariants as op
+use Rattle.executor_model.specs.declared.op.UserOp.TheVariants as user_op
+use Rattle.executor_model.specs.declared.op.Waker.{Waker}
+use Rattle.executor_model.specs.declared.step.Step.{Step}
+use Rattle.executor_model.specs.declared.step.Step.TheVariants.{Answer, Begin}
+use Rattle.executor_model.specs.Quiet.{IsQuiet}
+use Rattle.executor_model.specs.Steps.{Machine, after, react}
+use Rattle.executor_model.specs.World.{Done, done}
+use Rattle.executor_model.proofs.Quiet.Resting.{rests}
+use Rattle.executor_model.proofs.Steps.Reached.{Reached, deep-here, reached-more, run-first}
+use Rattle.executor_laws.specs.LoneEnds.{IsLoneCall}
+use Rattle.plain_scheduler.specs.State.{Choice, Code, Lose, Plain}
+use Rattle.plain_scheduler.specs.Calls.{does, Detach, DropHandle, Ends}
+use Rattle.machine_roads.specs.View.{Output, wakes}
+use Rattle.machine_roads.specs.Road.{Follows}
+use Rattle.machine_roads.specs.Alike.{begins}
+use Rattle.machine_roads.specs.Losing.{ComesToLose, IsLosing, StopsLosing, left_of, without_handle}
+use Rattle.machine_roads.specs.Lone.{EachLoneAlike, LeadsTo, LoneDetachLoses, LoneGoesWithOutput}
+use Rattle.machine_roads.proofs.LoneCalls.{each}
+use Rattle.machine_roads.proofs.LoneRuns.{Inside, Rests, Whole, all_steps, lone_calls_rest, onward}
+use Rattle.machine_roads.proofs.Losing.{detaches_to_lose, goes_to_lose, loses_alike}
+use Rattle.machine_roads.proofs.Trying.{stands_in}
+use Rattle.machine_roads.proofs.Tying.{AtEnd, Goes, Leads, answers}
+
+first_of : (x y : Op) (xs ys : List Op) → x ∷ xs ≡ y ∷ ys → (x ≡ y) × (xs ≡ ys)
+first_of x y xs ys is = (ap (head_or x) is, ap tail is)
+  where
+    head_or : Op → List Op → Op
+    head_or o [] = o
+    head_or o (x ∷ xs) = x
+
+    tail : List Op → List Op
+    tail [] = []
+    tail (x ∷ xs) = xs
+
+-- from the output's drop on, to the end
+from_loss : (s new : Machine) → Reached s → (p f : ℕ) (c : Call) (steps : List Step) (q r : Plain Output Waker) (d : Choice)
+    → new.world.gone ≡ false → IsLoneCall p c steps s new → Reached new → Rests p (λ e. StopsLosing f [] q e r) new
+    → Follows new.world (does wakes d Ends r)
+from_loss s new reached p f c steps q r d later lone last (Whole so) =
+    let none : [] ≡ op.User (user_op.DropOutput f) ∷ (left_of f ++ []) = so.left in
+    absurd cc
+from_loss s new reached p f c steps q r d later lone last (Inside x) =
+    let m = x.machine in
+    let both = first_of x.first (op.User (user_op.DropOutput f)) x.rest (left_of f ++ []) x.so.left in
+    let first = both.0 in
+    let rest = both.1 in
+    let k = run-first (Answer p x.end) x.steps m new x.made in
+    let before : Plain Output Waker = record r { inside = q.inside } in
+    let losing : IsLosing m.world f before =
+    record {
+      known = x.so.losing.known;
+      closed = x.so.losing.closed;
+      follows = stands_in q.inside (without_handle f m.world) r x.so.losing.follows;
+    } in
+    let same : record before { inside = Lose None None ∷ q.inside } ≡ r =
+    ap (λ (codes : List (Code Output Waker)). record r { inside = codes }) (sym x.so.inside) in
+    let leads : Leads p (done m.world x.rest) (λ w. Follows w (does wakes d Ends r)) =
+    subst (λ os. Leads p (done m.world os) (λ w. Follows w (does wakes d Ends r))) (sym rest)
+    (subst (λ z. Leads p (done m.world (left_of f ++ [])) (λ w. Follows w (does wakes d Ends z))) same
+    (λ hints all rests. loses_alike p f [] m.world before d refl losing hints tt all rests)) in
+    let goes : Goes p m (after m (Answer p x.end)) (done m.world x.rest) =
+    subst (λ (e : Done). Goes p m (after m (Answer p x.end)) (done e.world (e.next ++ x.rest)))
+    (ap (λ o. react p o x.end m.world) first) (answers p m x.there x.first x.rest x.is x.end) in
+    let o =
+    onward p (AtEnd (λ w. Follows w (does wakes d Ends r))) m new x.reached x.there later (Answer p x.end) x.steps
+    (done m.world x.rest) goes leads k.0 k.1 in
+    all_steps p (λ w. Follows w (does wakes d Ends r)) x.steps o.machine new o.todo o.reached o.there later o.is o.leads x.follow
+    o.made (rests new (deep-here new last) lone.ended p)
+
+loses_so : (s : Machine) → Reached s → (p f : ℕ) (c : Call) (steps : List Step) (q r : Plain Output Waker) (d : Choice)
+    → IsQuiet s.world.trace → ComesToLose p f [] (begins p None c s.world) q r → LeadsTo s p c steps (does wakes d Ends r)
+loses_so s reached p f c steps q r d quiet comes new later lone =
+    from_loss s new reached p f c steps q r d later lone (reached-more (Begin p c ∷ steps) s new reached lone.made)
+    (lone_calls_rest s reached p c steps new (λ e. StopsLosing f [] q e r) quiet later comes lone)
+
+pub lone_detach_loses : EachLoneAlike LoneDetachLoses
+lone_detach_loses = each LoneDetachLoses (λ s reached q quiet follows p f c d steps some.
+    loses_so s reached p f (call.Detach f) steps q (does wakes c (Detach f) q) d quiet
+    (detaches_to_lose p None [] s.world q refl follows c f some))
+
+pub lone_goes_with_output : EachLoneAlike LoneGoesWithOutput
+lone_goes_with_output = each LoneGoesWithOutput (λ s reached q quiet follows p f c d steps some.
+    loses_so s reached p f (call.DropHandle f) steps q (does wakes c (DropHandle f) q) d quiet
+    (goes_to_lose p None [] s.world q refl follows c f some))

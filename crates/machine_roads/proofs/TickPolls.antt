@@ -1,0 +1,282 @@
+-- A poll of a tick: it takes the first that is due without a keeper, where one is, once it has got up.
+use Rattle.std.proofs.Common.{◌≡◌, ℕ, ◌≤◌, ◌++◌, Bool, true, false, List, [], ◌∷◌, length, Option, Some, None}
+use Rattle.std.proofs.Common.{cond, map, slice_set, if◌then◌else◌, refl, sym, ap, subst, ◌∙◌, arith}
+use Rattle.std.specs.Prelude.{filter}
+use Rattle.executor_parts.specs.declared.mark.Mark.{Mark}
+use Rattle.executor_parts.specs.declared.mark.Mark.TheVariants.{Plain as PlainMark, Urgent}
+use Rattle.executor_parts.specs.Marks.{first_of, other}
+use Rattle.executor_parts.specs.Sleepers.{waker_of, woken_up}
+use Rattle.queue_steps.specs.ClosableQueue.{taken}
+use Rattle.task_moves.specs.declared.moves.owed.Move.TheVariants as move
+use Rattle.task_moves.specs.AbstractTask as abstract
+use Rattle.executor_model.specs.declared.call.Reply.{Reply}
+use Rattle.executor_model.specs.declared.call.Reply.TheVariants as reply
+use Rattle.executor_model.specs.declared.op.Hold.{Hold}
+use Rattle.executor_model.specs.declared.op.Hold.TheVariants as hold
+use Rattle.executor_model.specs.declared.op.Look.TheVariants as look
+use Rattle.executor_model.specs.declared.op.Op.{Op}
+use Rattle.executor_model.specs.declared.op.Op.TheVariants as op
+use Rattle.executor_model.specs.declared.op.SleeperOp.TheVariants as sleeper_op
+use Rattle.executor_model.specs.declared.op.Sleeping.{Sleeping}
+use Rattle.executor_model.specs.declared.op.TickOp.TheVariants as tick_op
+use Rattle.executor_model.specs.declared.op.TickOrRun.TheVariants as tick_or_run
+use Rattle.executor_model.specs.declared.op.Waker.{Waker}
+use Rattle.executor_model.specs.declared.op.Waker.TheVariants.{Task, Outside}
+use Rattle.executor_model.specs.Acts.{turned}
+use Rattle.executor_model.specs.ActsOfSleepers.{found_by, look_tick_by, wake_up_by}
+use Rattle.executor_model.specs.SleepersAgree.{sleeps}
+use Rattle.executor_model.specs.World.{Asleep, Awake, Done, Left, Ticker, World, put_queue, queue_of, tick_of}
+use Rattle.plain_scheduler.specs.State.{Answer, Answers, ATick, Choice, Due, Lying, Plain, Refusal, Granted, Tick, Who}
+use Rattle.plain_scheduler.specs.Lists.{any, on, or, without}
+use Rattle.plain_scheduler.specs.Moves.{answers, chosen, commons, is_common, let_go, lies, task, tell, up}
+use Rattle.plain_scheduler.specs.Takes as plain_takes
+use Rattle.plain_scheduler.specs.Calls.{does, PollTick}
+use Rattle.machine_roads.specs.View.{Output, wakes}
+use Rattle.machine_roads.specs.Seeing.{answer_of, shown}
+use Rattle.machine_roads.specs.Road.{Follows, futures_in}
+use Rattle.machine_roads.specs.Alone.{is_resting}
+use Rattle.machine_roads.specs.Stopped.{Stopped, Stops, answered}
+use Rattle.machine_roads.specs.Ticking.{Rests, down, up as is_up}
+use Rattle.machine_roads.proofs.Calling.{ends}
+use Rattle.machine_roads.proofs.Due.{First, find_never, find_same, nothing, without_same}
+use Rattle.machine_roads.proofs.Exchanging.{loudly}
+use Rattle.machine_roads.proofs.Lain.{lies_anew, neither, none_found, ups, waker_by}
+use Rattle.machine_roads.proofs.Moved.{Then, fits as stays_fit}
+use Rattle.machine_roads.proofs.Pending.{becomes_inside}
+use Rattle.machine_roads.proofs.Stepping.{Way, next}
+use Rattle.machine_roads.proofs.Standing.{stops_so}
+use Rattle.machine_roads.proofs.Ticking.{sleeper_goes_so}
+use Rattle.machine_roads.proofs.Trying.{runs, takes_first, tell_inside}
+
+-- of each mark, where of one and of the other
+both_marks : (m n : Mark) (due : List Due) → any (is_common m) due ≡ false → any (is_common (other m)) due ≡ false
+    → any (is_common n) due ≡ false
+both_marks PlainMark PlainMark due none nor = none
+both_marks PlainMark Urgent due none nor = nor
+both_marks Urgent PlainMark due none nor = nor
+both_marks Urgent Urgent due none nor = none
+
+none_in : (test : Due → Bool) (due : List Due) → any test due ≡ false → futures_in test due ≡ []
+none_in test [] none = refl
+none_in test (d ∷ ds) none =
+    let both = neither (test d) (any test ds) none in
+    ap (λ b. map (λ (d : Due). d.future) (cond b (d ∷ filter test ds) (filter test ds))) both.0 ∙ none_in test ds both.1
+
+-- nothing was found
+finds_nothing : (c : Choice) (t : ℕ) (a : Waker) (r : Refusal) (q : Plain Output Waker) → any (is_common c.first) q.due ≡ false
+    → any (is_common (other c.first)) q.due ≡ false
+    → does wakes (record c { refusal = r }) (PollTick t a) q ≡ plain_takes.rests wakes c r (ATick t) a q
+finds_nothing c t a r q none nor =
+    let never : (d : Due) → chosen (commons c) q.due d ≡ false = λ d.
+    ap (λ b. if b then is_common c.first d else (if any (is_common (other c.first)) q.due then is_common (other c.first) d
+    else false)) none
+    ∙ ap (λ b. if b then is_common (other c.first) d else false) nor in
+    ap
+    (λ o. or o
+    (λ d. plain_takes.takes wakes c (Tick t a) d (record q { due = without (λ d. chosen (commons c) q.due d) q.due }))
+    (plain_takes.rests wakes c r (ATick t) a q))
+    (find_same (λ d. chosen (commons c) q.due d) (λ d. false) q.due never ∙ find_never q.due)
+
+pub nothing_is : (c : Choice) (t : ℕ) (a : Waker) (r : Refusal) (q : Plain Output Waker) → ((m : Mark) → any (is_common m) q.due ≡ false)
+    → does wakes (record c { refusal = r }) (PollTick t a) q ≡ plain_takes.rests wakes c r (ATick t) a q
+nothing_is c t a r q none = finds_nothing c t a r q (none c.first) (none (other c.first))
+
+module _ (p : ℕ) (below : List Op) (under : is_resting below ≡ true) (end : Done) (rests : is_resting end.next ≡ true) (c : Choice)
+    (t : ℕ) (a : Waker) where
+  abbrev who : Who
+  who = ATick t
+
+  abbrev final : Op
+  final = op.End reply.Ready (hold.Tick t)
+
+  abbrev more : Plain Output Waker → Plain Output Waker
+  more = tell wakes c
+
+  abbrev pub fits : Plain Output Waker → Type 0
+  fits q = length q.lying ≤ c.tells
+
+  abbrev pub refusing : Refusal → Choice
+  refusing r = record c { refusal = r }
+
+  abbrev pub Comes : Plain Output Waker → Plain Output Waker → Type 0
+  Comes q new = Stops (Tick t a) final below q end new
+
+  -- the call is answered
+  pub answers_so : (w : World) (q z : Plain Output Waker) (r : Reply) (held : Hold) (x : Answer Output)
+      → Answers (answer_of r) ≡ shown (Answers x) → z.inside ≡ q.inside → Follows w z → Way p end w (op.End r held ∷ below)
+      → Comes q (answers x z)
+  answers_so w q z r held x same inside follows way =
+      let e = ends p below under end rests w z r held x same follows way in
+      record {
+        stopped =
+            subst (λ codes. Stopped (Tick t a) final below q.inside end.next codes) (sym inside)
+            (subst (λ os. Stopped (Tick t a) final below q.inside os q.inside) (sym e.0) answered);
+        follows = e.1;
+      }
+
+  -- who got up
+  record GotUp (os : List Op) (q : Plain Output Waker) : Type 0 where
+    so_up : Then p end os (up wakes c who q)
+    fit_up : fits (up wakes c who q)
+    inside_up : (up wakes c who q).inside ≡ q.inside
+
+  abbrev rising : Option (Lying Waker) → Plain Output Waker → Plain Output Waker
+  rising o q = on o (λ l p. on l.waker (let_go wakes more) (record p { lying = without (lies who) p.lying })) q
+
+  let_go_fits : (o : Option Waker) (q : Plain Output Waker) → fits q → fits (on o (let_go wakes more) q)
+  let_go_fits None q fit = fit
+  let_go_fits (Some (Outside x)) q fit = fit
+  let_go_fits (Some (Task g)) q fit = stays_fit p end rests more fits (loudly p end rests c) g (abstract.release (task g q)) q fit
+
+  pub let_go_inside : (o : Option Waker) (q : Plain Output Waker) → (on o (let_go wakes more) q).inside ≡ q.inside
+  let_go_inside None q = refl
+  let_go_inside (Some (Outside x)) q = refl
+  let_go_inside (Some (Task g)) q = becomes_inside c g (abstract.release (task g q)) q
+
+  gets_up : (w : World) (os : List Op) (q : Plain Output Waker) → Follows w q → fits q → Rests w q t
+      → Way p end w (found_by (tick_of w t) (tick_or_run.Tick t) os ++ below) → GotUp (os ++ below) q
+  gets_up w os q follows fit (is_up awake none) way =
+      let same : up wakes c who q ≡ q = ap (λ o. rising o q) (none_found (lies who) q.lying none) in
+      record {
+        so_up =
+            subst (Then p end (os ++ below)) (sym same) (record { world = w; follows = follows; way = by (tick_of w t) awake way });
+        fit_up = subst fits (sym same) fit;
+        inside_up = ap (λ (q : Plain Output Waker). q.inside) same;
+      }
+    where
+      by : (x : Ticker) → sleeps x ≡ 0 → Way p end w (found_by x (tick_or_run.Tick t) os ++ below) → Way p end w (os ++ below)
+      by Awake awake way = way
+      by Left awake way = way
+      by (Asleep n) awake way = absurd (omega (arith, awake))
+  gets_up w os q follows fit (down n is named one) way =
+      let u = ups n who w q follows named one in
+      let wakes_up = op.Tick (tick_op.WakeUp (tick_or_run.Tick t)) in
+      let asleep : Way p end w (wakes_up ∷ (os ++ below)) =
+      subst (λ x. Way p end w (found_by x (tick_or_run.Tick t) os ++ below)) is way in
+      let step = next p end rests wakes_up w (os ++ below) refl asleep in
+      let w2 = (wake_up_by (Asleep n) w (tick_or_run.Tick t)).world in
+      let now : Way p end w2 ((wake_up_by (Asleep n) w (tick_or_run.Tick t)).next ++ (os ++ below)) =
+      subst
+      (λ x. Way p end (wake_up_by x w (tick_or_run.Tick t)).world ((wake_up_by x w (tick_or_run.Tick t)).next ++ (os ++ below))) is
+      step.way in
+      let q2 : Plain Output Waker = record q { lying = without (lies who) q.lying } in
+      let follows2 : Follows w2 q2 =
+      lies_anew w q (woken_up n w.sleepers) (without (lies who) q.lying) (slice_set w.ticks t Awake) follows u.wakers u.count in
+      let fit2 : fits q2 = omega (arith, u.fewer, fit) in
+      let g = sleeper_goes_so p end rests c (waker_of n w.sleepers.wakers) w2 (os ++ below) q2 follows2 fit2 now in
+      let o : Option Waker = waker_by (waker_of n w.sleepers.wakers) in
+      let same : up wakes c who q ≡ on o (let_go wakes more) q2 =
+      ap (λ o. rising o q) u.found ∙ ap (λ o. on o (let_go wakes more) q2) (sym u.goes) in
+      record {
+        so_up = subst (Then p end (os ++ below)) (sym same) g;
+        fit_up = subst fits (sym same) (let_go_fits o q2 fit2);
+        inside_up = ap (λ (q : Plain Output Waker). q.inside) same ∙ let_go_inside o q2;
+      }
+
+  -- where it sleeps is nothing to the queues
+  rests_on : (w : World) (m : Mark) (due : List Due) (q : Plain Output Waker) → Rests w q t
+      → Rests (put_queue w m (taken (queue_of w m))) (record q { due = due }) t
+  rests_on w m due q (is_up awake none) = is_up awake none
+  rests_on w m due q (down n is named one) = down n is named one
+
+  -- one that was found is taken
+  pub finds : (r : Refusal) (m : Mark) (f : ℕ) (rest : List ℕ) (w : World) (q : Plain Output Waker) → fits q → Follows w q → Rests w q t
+      → (queue_of w m).items ≡ f ∷ rest
+      → ((d : Due) → any (is_common m) q.due ≡ true → chosen (commons c) q.due d ≡ is_common m d)
+      → Way p end (put_queue w m (taken (queue_of w m)))
+      (found_by (tick_of w t) (tick_or_run.Tick t) (op.Sleeper sleeper_op.ExchangeFlag ∷ op.Move move.TakeUp f ∷ final ∷ []) ++ below)
+      → Comes q (does wakes (refusing r) (PollTick t a) q)
+  finds r m f rest w q fit follows where_it is tests way =
+      let both = takes_first m w q f rest follows is in
+      let one : First (is_common m) q.due f rest = both.0 in
+      let q1 : Plain Output Waker = record q { due = without (is_common m) q.due } in
+      let w1 = put_queue w m (taken (queue_of w m)) in
+      let got =
+      gets_up w1 (op.Sleeper sleeper_op.ExchangeFlag ∷ op.Move move.TakeUp f ∷ final ∷ []) q1 both.1 fit
+      (rests_on w m (without (is_common m) q.due) q where_it) way in
+      let q2 = up wakes c who q1 in
+      let told = (loudly p end rests c).tells got.so_up.world (op.Move move.TakeUp f ∷ final ∷ below) q2 got.fit_up got.so_up.follows
+      got.so_up.way in
+      let new : Plain Output Waker = plain_takes.run wakes c f (Tick t a) (tell wakes c q2) in
+      let run =
+      stops_so (Tick t a) final below (tell wakes c q2) end new
+      (runs p below under end rests (Tick t a) final c f told.world (tell wakes c q2) told.follows told.way) in
+      let same : (d : Due) → chosen (commons c) q.due d ≡ is_common m d = λ d. tests d one.some in
+      let take : Option Due → List Due → Plain Output Waker = λ o ds.
+      or o (λ d. plain_takes.takes wakes c (Tick t a) d (record q { due = ds })) (plain_takes.nothing wakes (refusing r) (Tick t a) q) in
+      subst (Comes q)
+      (sym (ap (λ o. take o (without (λ d. chosen (commons c) q.due d) q.due))
+      (find_same (λ d. chosen (commons c) q.due d) (is_common m) q.due same ∙ one.found)
+      ∙ (ap (take (Some one.due_one)) (without_same (λ d. chosen (commons c) q.due d) (is_common m) q.due same)
+      ∙ ap (λ f. plain_takes.run wakes c f (Tick t a) (tell wakes c q2)) one.is)))
+      (record {
+        stopped =
+            subst (λ codes. Stopped (Tick t a) final below codes end.next new.inside) (tell_inside c q2 ∙ got.inside_up) run.stopped;
+        follows = run.follows;
+      })
+
+  abbrev pub sleepy : ℕ → Sleeping
+  sleepy k = record { waker = a; who = tick_or_run.Tick t; poll = k }
+
+  -- a search: it finds one, or nothing without a keeper is due
+  pub searches : (k : ℕ) (w : World) (q : Plain Output Waker) → fits q → Follows w q → Rests w q t
+      → (((m : Mark) → any (is_common m) q.due ≡ false) → Way p end w (op.Tick (tick_op.CopyWaker (sleepy k)) ∷ below)
+      → (r : Refusal) × Comes q (plain_takes.rests wakes c r who a q))
+      → Way p end w (op.Tick (tick_op.Look (sleepy k) (look.First c.first)) ∷ below)
+      → (r : Refusal) × Comes q (does wakes (refusing r) (PollTick t a) q)
+  searches k w q fit follows where_it rests_so way =
+      by (queue_of w c.first).items refl
+      (next p end rests (op.Tick (tick_op.Look (sleepy k) (look.First c.first))) w below refl way).way
+    where
+      second : any (is_common c.first) q.due ≡ false → (xs : List ℕ) → (queue_of w (other c.first)).items ≡ xs
+          → Way p end (look_tick_by (tick_of w t) w (look.Second (other c.first)) xs (sleepy k)).world
+          ((look_tick_by (tick_of w t) w (look.Second (other c.first)) xs (sleepy k)).next ++ below)
+          → (r : Refusal) × Comes q (does wakes (refusing r) (PollTick t a) q)
+      second none [] is way =
+          let nor = (nothing (is_common (other c.first)) q.due (sym (follows.common (other c.first)) ∙ is)).none in
+          let so = rests_so (λ m. both_marks c.first m q.due none nor) way in
+          (so.0, subst (Comes q) (sym (finds_nothing c t a so.0 q none nor)) so.1)
+      second none (f ∷ rest) is way = (
+        Granted,
+        finds Granted (other c.first) f rest w q fit follows where_it is
+            (λ d some.
+            ap (λ b. if b then is_common c.first d else (if any (is_common (other c.first)) q.due then is_common (other c.first) d
+            else false)) none
+            ∙ ap (λ b. if b then is_common (other c.first) d else false) some) way,
+      )
+
+      by : (xs : List ℕ) → (queue_of w c.first).items ≡ xs
+          → Way p end (look_tick_by (tick_of w t) w (look.First c.first) xs (sleepy k)).world
+          ((look_tick_by (tick_of w t) w (look.First c.first) xs (sleepy k)).next ++ below)
+          → (r : Refusal) × Comes q (does wakes (refusing r) (PollTick t a) q)
+      by [] is way =
+          let none = (nothing (is_common c.first) q.due (sym (follows.common c.first) ∙ is)).none in
+          let s = next p end rests (op.Tick (tick_op.Look (sleepy k) (look.Second (other c.first)))) w below refl way in
+          second none (queue_of w (other c.first)).items refl s.way
+      by (f ∷ rest) is way = (
+        Granted,
+        finds Granted c.first f rest w q fit follows where_it is
+            (λ d some. ap
+            (λ b. if b then is_common c.first d else (if any (is_common (other c.first)) q.due then is_common (other c.first) d
+            else false)) some) way,
+      )
+
+  -- and a search where nothing is due
+  pub searches_none : (k : ℕ) (w : World) (q : Plain Output Waker) → Follows w q
+      → ((m : Mark) → any (is_common m) q.due ≡ false) → Way p end w (op.Tick (tick_op.Search (sleepy k)) ∷ below)
+      → Way p end (turned p w) (op.Tick (tick_op.CopyWaker (sleepy k)) ∷ below)
+  searches_none k w q follows quiet way =
+      let m = first_of w.urgent_turns in
+      let w1 = turned p w in
+      let one = next p end rests (op.Tick (tick_op.Search (sleepy k))) w below refl way in
+      let two = next p end rests (op.Tick (tick_op.Look (sleepy k) (look.First m))) w1 below refl one.way in
+      let three =
+      next p end rests (op.Tick (tick_op.Look (sleepy k) (look.Second (other m)))) w1 below refl
+      (subst
+      (λ xs. Way p end (look_tick_by (tick_of w t) w1 (look.First m) xs (sleepy k)).world
+      ((look_tick_by (tick_of w t) w1 (look.First m) xs (sleepy k)).next ++ below))
+      (follows.common m ∙ none_in (is_common m) q.due (quiet m)) two.way) in
+      subst
+      (λ xs. Way p end (look_tick_by (tick_of w t) w1 (look.Second (other m)) xs (sleepy k)).world
+      ((look_tick_by (tick_of w t) w1 (look.Second (other m)) xs (sleepy k)).next ++ below))
+      (follows.common (other m) ∙ none_in (is_common (other m)) q.due (quiet (other m))) three.way

@@ -1,5 +1,6 @@
 //! Futures of one type on `Solo`, which polls, drops and calls nothing itself: what it hands out is polled here, and a seed draws
 //! which call comes next. So the same seed gives the same order.
+ghost use Rattle.std.specs.Prelude.{◌≡◌};
 
 use crate::script::Made;
 use async_task::{Future, Nobody, Poll, Wake};

@@ -14,7 +14,7 @@ pub enum Made {
     Try(Option<(u64, Poll<u64>)>),
 }
 
-/// The script of these calls, for at most 26 futures of at most eight polls each.
+/// The script of these calls, and of a poll of each handle behind them. It has at most 26 futures, of at most eight polls each.
 pub fn script(alloc: Global, calls: &[Made]) -> Result<String, AllocError> {
     let mut script = String::from_str(alloc, "limit 26\n")?;
     let mut spawned = 0;
@@ -24,13 +24,15 @@ pub fn script(alloc: Global, calls: &[Made]) -> Result<String, AllocError> {
                 write!(script, "spawn {}", name(spawned))?;
                 write_items(&mut script, spawned, calls)?;
                 script.push('\n')?;
-                spawned += 1;
+                spawned = spawned.saturating_add(1);
             }
             Made::Wake(number) => writeln!(script, "wake {}", name(number))?,
             Made::Try(_) => script.push_str("try\n")?,
         }
     }
-    script.push_str("empty\n")?;
+    for number in 0..spawned {
+        writeln!(script, "poll {}", name(number))?;
+    }
     Ok(script)
 }
 

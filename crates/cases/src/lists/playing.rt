@@ -19,8 +19,6 @@ struct Road {
     holds: Holds,
     /// It plays lists of an executor that is static or leaked, or of one that is neither; without this of both.
     is_static: Option<bool>,
-    /// It plays those of seeds below this one.
-    below: u64,
 }
 
 const ROADS: [Road; 5] = [
@@ -28,31 +26,26 @@ const ROADS: [Road; 5] = [
         family: Family::Solo,
         holds: Holds::All,
         is_static: None,
-        below: 1_000,
     },
     Road {
         family: Family::Executor,
         holds: Holds::Running,
         is_static: Some(false),
-        below: 250,
     },
     Road {
         family: Family::Static,
         holds: Holds::Running,
         is_static: Some(true),
-        below: 250,
     },
     Road {
         family: Family::Local,
         holds: Holds::Running,
         is_static: Some(false),
-        below: 250,
     },
     Road {
         family: Family::StaticLocal,
         holds: Holds::Running,
         is_static: Some(true),
-        below: 250,
     },
 ];
 
@@ -132,7 +125,7 @@ impl Lists {
             all: 0,
             first: None,
         };
-        for seed in self.from..self.to.min(road.below) {
+        for seed in self.from..self.to {
             let made = list_of_seed(rt.alloc(), seed, self.calls, road.holds)?;
             if road.plays(made.is_static) {
                 let calls = self.calls.saturating_sub(self.lacks);

@@ -1,4 +1,4 @@
-//! A search of a run, or a drop, as contracts follow it from section to section.
+//! An executor's drop, as contracts follow it from section to section.
 ghost use Rattle.std.specs.Prelude.{◌≡◌, ◌∷◌, [], true, false, not, Some, None};
 ghost use Rattle.task_moves.specs.declared.moves.owed.Move.TheVariants as move;
 ghost use Rattle.call_steps.specs.declared.step.CallStep.TheVariants as step;
@@ -15,9 +15,9 @@ use std::snapshot::Snapshot;
 
 mod counts;
 
-pub use counts::{Counts, OwesSteal};
+pub use counts::{Counts, GivesWay, OwesSteal};
 
-/// What a search of a run or a drop has done, has in hand and owes. Only contracts read it, so it has no
+/// What a drop has done, has in hand and owes. Only contracts read it, so it has no
 /// bytes. It has no drop: it ends with nothing in hand and nothing owed.
 #[must_use]
 pub struct Call {
@@ -37,80 +37,6 @@ pub struct Call {
     plain_empty: Snapshot<bool>,
     // Whether it closed the executor's queues, and hasn't found both empty since.
     undrained: Snapshot<bool>,
-    // Whether it is among the sleepers as it did before, with its waker.
-    sleeps: Snapshot<bool>,
-    // Whether it asked for memory, and was refused.
-    wanted: Snapshot<bool>,
-}
-
-/// How a call of a run ended.
-#[derive(Clone, Copy, Drop)]
-pub enum Ending {
-    /// A Runnable was taken from a queue, and run.
-    Ran,
-    /// The executor's queues were found empty, and it was among the sleepers already: its waker is there now.
-    Asleep,
-    /// The executor's queues were found empty, and its waker, which can't be kept, was called.
-    Called,
-    /// Memory was wanted.
-    Refused,
-    /// A run ran its 200th task since it last let others go first, and does so now.
-    GaveWay,
-}
-
-/// How a call of a run ended, which that call alone can say. Only contracts read it. It has no drop: a poll ends by it,
-/// or it is counted.
-#[must_use]
-pub struct Last {
-    ending: Ending,
-}
-
-impl Model for Last {
-    ghost use Rattle.async_executor.specs.declared.call.Ending.{Ending};
-
-    ghost Value = { Ending };
-
-    ghost view = { λ l. l.ending };
-}
-
-impl Last {
-    fn of(ending: Ending) -> Last
-        ensures { result ≡ ending }
-    {
-        Last { ending }
-    }
-}
-
-/// How the last poll of a run ended. Only contracts read it, and what a call of that poll left is all that it is
-/// written by; it is no `Snapshot`, as what has one could not be sent to another thread.
-#[derive(Drop)]
-pub struct Polled {
-    // None before the first poll, and where that had no call.
-    ending: Option<Ending>,
-    // It turns with each poll that a call ends, so that no poll can answer by what an earlier one left.
-    turned: bool,
-}
-
-impl Polled {
-    /// Not polled yet.
-    pub fn never() -> Polled
-        ensures { result.ending ≡ None }
-    {
-        Polled {
-            ending: None,
-            turned: false,
-        }
-    }
-
-    /// A poll ends, as the last of its calls did.
-    pub fn end(&mut self, last: Last)
-        ensures ending { self.new.ending ≡ Some last }
-        ensures turned { self.new.turned ≡ not self.old.turned }
-    {
-        let Last { ending } = last;
-        self.ending = Some(ending);
-        self.turned = !self.turned;
-    }
 }
 
 impl Model for Call {
@@ -127,8 +53,6 @@ impl Model for Call {
       urgent_empty = c.urgent_empty.value;
       plain_empty = c.plain_empty.value;
       undrained = c.undrained.value;
-      sleeps = c.sleeps.value;
-      wanted = c.wanted.value;
     } };
 }
 
@@ -146,8 +70,6 @@ impl Call {
             urgent_empty: Snapshot::of(&false),
             plain_empty: Snapshot::of(&false),
             undrained: Snapshot::of(&false),
-            sleeps: Snapshot::of(&false),
-            wanted: Snapshot::of(&false),
         }
     }
 
@@ -164,71 +86,7 @@ impl Call {
             urgent_empty: _,
             plain_empty: _,
             undrained: _,
-            sleeps: _,
-            wanted: _,
         } = self;
-    }
-
-    /// The Runnable in hand, which was taken from a queue, is to be run, and the call ends.
-    pub fn start(self, runnable: &ExStoredRunnable) -> (Last, Steps)
-        requires { self ≡ in_hand }
-        ensures ran { result.0 ≡ Ending.Ran }
-        ensures steps { result.1 ≡ step.Move move.TakeUp runnable.now.identity ∷ [] }
-    {
-        let mut call = self;
-        call.holds = Snapshot::of(&false);
-        call.end();
-        let steps = Steps::part(Part::TakeUp(TaskName::of_runnable(runnable)));
-        (Last::of(Ending::Ran), steps)
-    }
-
-    /// Nothing was found, and it is among the sleepers: the call ends.
-    pub fn rest(self) -> Last
-        requires urgent { self.urgent_empty ≡ true }
-        requires plain { self.plain_empty ≡ true }
-        requires sleeps { self.sleeps ≡ true }
-        requires done { IsDone self }
-        ensures { result ≡ Ending.Asleep }
-    {
-        self.end();
-        Last::of(Ending::Asleep)
-    }
-
-    /// Nothing was found, and its waker is called: the call ends.
-    pub fn end_called(self) -> Last
-        requires urgent { self.urgent_empty ≡ true }
-        requires plain { self.plain_empty ≡ true }
-        requires done { IsDone self }
-        ensures { result ≡ Ending.Called }
-    {
-        self.end();
-        Last::of(Ending::Called)
-    }
-
-    /// Memory was wanted, and there was none: the call ends.
-    pub fn refuse(self) -> Last
-        requires wanted { self.wanted ≡ true }
-        requires done { IsDone self }
-        ensures { result ≡ Ending.Refused }
-    {
-        self.end();
-        Last::of(Ending::Refused)
-    }
-
-    /// A run's own queue was put into the executor's list, or refused there.
-    pub fn list(&mut self, refused: bool)
-        requires { self.old ≡ begun }
-        ensures { self.new ≡ record self.old { is_new = false; wanted = refused } }
-    {
-        self.is_new = Snapshot::of(&false);
-        self.ask(refused);
-    }
-
-    /// Memory was asked for, and given or refused.
-    pub fn ask(&mut self, refused: bool)
-        ensures { self.new ≡ record self.old { wanted = refused } }
-    {
-        self.wanted = Snapshot::of(&refused);
     }
 
     /// A queue was looked into. Where a Runnable came in hand there may be more: a sleeper is to be told.
@@ -305,22 +163,5 @@ impl Call {
         self.found = Snapshot::of(&false);
         self.owes = Snapshot::of(&false);
         Steps::part(Part::Close(TaskName::of_runnable(runnable)))
-    }
-
-    /// A sleeper is to be told, as is owed.
-    pub fn tell(&mut self) -> Steps
-        requires { self.old.owes ≡ true }
-        ensures call { self.new ≡ record self.old { owes = false } }
-        ensures steps { result ≡ step.Sleeper sleeper_step.ExchangeFlag ∷ [] }
-    {
-        self.owes = Snapshot::of(&false);
-        Steps::part(Part::Tell)
-    }
-
-    /// One that was among the sleepers sleeps there with another waker.
-    pub fn sleep_on(&mut self)
-        ensures { self.new ≡ record self.old { sleeps = true } }
-    {
-        self.sleeps = Snapshot::of(&true);
     }
 }

@@ -27,7 +27,7 @@ use crate::task_name::TaskName;
 use crate::ticker::{FellAsleep, Laid, WokenUp};
 use crate::turns::Turns;
 use async_task::{GoesBack, NoMemory, Returning, Wake};
-use call_steps::Saw;
+use call_steps::{Saw, TickOrRun};
 use executor_parts::Sleepers;
 use std::alloc::Global;
 use std::sync::{Arc, Wait};
@@ -327,7 +327,7 @@ impl<W: Wake + Drop + 'static> State<W> {
             return None;
         }
         match self.take_waker(&rt, steps, unlocked) {
-            Some(waker) => waker.wake(rt, realm, steps, unlocked),
+            Some(waker) => waker.wake(rt, realm, &TickOrRun::Tick(()), steps, unlocked),
             None => None,
         }
     }

@@ -1,5 +1,5 @@
 //! How a tick is polled, and ends.
-ghost use Rattle.std.specs.Prelude.{◌≡◌, ◌∷◌, []};
+ghost use Rattle.std.specs.Prelude.{◌≡◌, ◌∷◌, [], false};
 ghost use Rattle.async_executor.specs.Polls.{has_left, IsTickAnswer};
 ghost use Rattle.async_executor.specs.Sleeping.{is_asleep};
 ghost use Rattle.async_executor.specs.Steps.{name_given};
@@ -38,7 +38,7 @@ where
         steps: Steps,
         unlocked: &mut Unlocked,
     ) -> Poll<Result<(), NoMemory>>
-        requires { steps ≡ step.Tick (tick_step.Search (sleeping (name_given waker.now))) ∷ [] }
+        requires { steps ≡ step.Tick (tick_step.Search (sleeping (tick_or_run.Tick tt) (name_given waker.now))) ∷ [] }
         ensures answer { IsTickAnswer self.old.answered self.new.answered result }
         ensures stays { has_left self.new.ticker ≡ has_left self.old.ticker }
     {
@@ -61,6 +61,7 @@ where
                 executor.realm,
                 waker,
                 &name,
+                &TickOrRun::Tick(()),
                 &mut steps,
                 unlocked,
             ) {
@@ -88,19 +89,33 @@ where
     {
         let executor = self.executor;
         let mut steps = steps;
-        self.ticker.wake_up(
-            executor.rt,
-            &executor.state,
-            executor.realm,
-            &TaskName::of_runnable(&stored),
-            &mut steps,
-            unlocked,
-        );
+        self.wake_up(&TaskName::of_runnable(&stored), &mut steps, unlocked);
         executor
             .state
             .notify_and_pay(executor.rt, executor.realm, &mut steps, unlocked);
         executor.poll_or_drop(stored, &mut steps, unlocked);
         steps.end(Reply::Ready)
+    }
+
+    /// Wakes up, where it sleeps, as it found a Runnable of this task.
+    fn wake_up(&mut self, found: &TaskName, steps: &mut Steps, unlocked: &mut Unlocked)
+        requires { steps.old ≡ found_asleep (is_asleep self.old.ticker) found.now }
+        ensures steps { steps.new ≡ found_asleep false found.now }
+        ensures stays { has_left self.new.ticker ≡ has_left self.old.ticker }
+        ensures answered { self.new.answered ≡ self.old.answered }
+    {
+        let _ = found;
+        let executor = self.executor;
+        if self.ticker.sleeps() {
+            self.ticker.wake_up(
+                executor.rt,
+                &executor.state,
+                executor.realm,
+                &TickOrRun::Tick(()),
+                steps,
+                unlocked,
+            );
+        }
     }
 }
 

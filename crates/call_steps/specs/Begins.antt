@@ -60,11 +60,7 @@ module _ {F T : Type 0} where
   begins asked.Leak = step.Closing closing_step.LeakOut ∷ step.End reply.Done ∷ []
   begins asked.DropExecutor = step.Closing closing_step.TakeOut ∷ step.End reply.Done ∷ []
 
-  -- a part of a call answers nothing, but for the end of a run
-  abbrev pub part_begins : Part F T → List (CallStep F T)
+  -- a part of a call answers nothing
+  abbrev pub part_begins : Part F → List (CallStep F T)
   part_begins (part.Append f) = step.Queue (queue_step.Append f) ∷ []
-  part_begins part.Tell = step.Sleeper sleeper_step.ExchangeFlag ∷ []
-  part_begins (part.CallSleeper s) = step.Sleeper (sleeper_step.CallSleeper s) ∷ []
-  part_begins (part.TakeUp f) = step.Move move.TakeUp f ∷ []
   part_begins (part.Close f) = step.Move move.DropRunnable f ∷ []
-  part_begins (part.EndRun r a) = step.List (list_step.LockWrite (section.Unregister r a)) ∷ []

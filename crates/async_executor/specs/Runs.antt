@@ -112,7 +112,7 @@ tells at w f = step.Sleeper sleeper_step.ExchangeFlag ∷ counts at w f
 
 -- it was run: others go first, or it searches again
 abbrev pub ran : Bool → Waker Identity → Todo
-ran true w = step.Run (run_step.WakeOwn (poll_with w)) ∷ step.End reply.Pending ∷ []
+ran true w = step.Run (run_step.WakeOwn (poll_with w)) ∷ []
 ran false w = step.Tick (tick_step.Search (sleeping (Run tt) w)) ∷ []
 
 -- what is left once it has left the list, and its own queue was emptied

@@ -156,9 +156,12 @@ impl<W: Drop> State<W> {
         if let Some(runnable) = self.look_common_first(mark, rt, name, steps) {
             return Some(FromQueues { runnable, mark });
         }
-        let mark = mark.other();
-        match self.look_common_second(mark, rt, name, steps) {
-            Some(runnable) => Some(FromQueues { runnable, mark }),
+        let other = mark.other();
+        match self.look_common_second(other, rt, name, steps) {
+            Some(runnable) => Some(FromQueues {
+                runnable,
+                mark: other,
+            }),
             None => None,
         }
     }

@@ -1,13 +1,13 @@
 //! How a run is polled, and ends.
 ghost use Rattle.std.specs.Prelude.{◌≡◌, ◌+◌, ◌==◌, ◌∷◌, [], true, false, is_some};
-ghost use Rattle.async_executor.specs.Counted.{one_more};
+ghost use Rattle.async_executor.specs.Counted.{one_more, searcher};
 ghost use Rattle.async_executor.specs.Counting.{GoesOn};
 ghost use Rattle.async_executor.specs.Polls.{has_left, EndsWith, GoesOnOrWants, HasLeft, IsRunAnswer, replied_by_run};
 ghost use Rattle.async_executor.specs.Runs.{counts, has_ended, poll_with, ran, runs, searched_by_run, stage_by, stage_polled, tells};
 ghost use Rattle.async_executor.specs.Sleeping.{is_asleep};
 ghost use Rattle.async_executor.specs.Sought.{sought};
-ghost use Rattle.async_executor.specs.Steps.{name_given};
-ghost use Rattle.async_executor.specs.Ticks.{sleeping};
+ghost use Rattle.async_executor.specs.Steps.{name_given, of_stored};
+ghost use Rattle.async_executor.specs.Ticks.{sleeping, slept};
 ghost use Rattle.call_steps.specs.Begins.{drop_run, poll_run};
 ghost use Rattle.call_steps.specs.Sleeping.{found_by_run};
 ghost use Rattle.call_steps.specs.declared.names.Section.TheVariants as section;
@@ -15,7 +15,6 @@ ghost use Rattle.call_steps.specs.declared.names.TickOrRun.TheVariants as tick_o
 ghost use Rattle.call_steps.specs.declared.reply.Reply.TheVariants as reply;
 ghost use Rattle.call_steps.specs.declared.step.CallStep.TheVariants as step;
 ghost use Rattle.call_steps.specs.declared.step.run.ListStep.TheVariants as list_step;
-ghost use Rattle.call_steps.specs.declared.step.run.RunStep.TheVariants as run_step;
 ghost use Rattle.call_steps.specs.declared.step.tick.TickStep.TheVariants as tick_step;
 ghost use Rattle.call_steps.specs.declared.step.user.UserStep.TheVariants as user_step;
 
@@ -213,39 +212,74 @@ where
         ensures answered { self.new.answered ≡ self.old.answered }
         ensures counts { self.new.counts ≡ self.old.counts }
     {
-        let executor = self.executor;
-        for _ in executor.rt.forever() {
-            let search = Search {
-                name,
-                at: self.counts.at(self.ticker.sleeps()),
-            };
-            let found = self.runner.search(
-                executor.rt,
-                &executor.state,
-                executor.realm,
-                &search,
-                steps,
-                unlocked,
-            );
-            if let Some(stored) = found {
+        let rt = self.executor.rt;
+        for _ in rt.forever() {
+            if let Some(stored) = self.search(name, steps, unlocked) {
                 return Sought::Found(stored);
             }
-            match self.ticker.sleep(
-                executor.rt,
-                &executor.state,
-                executor.realm,
-                waker,
-                name,
-                &TickOrRun::Run(()),
-                steps,
-                unlocked,
-            ) {
+            match self.sleep(waker, name, steps, unlocked) {
                 Slept::Anew => {}
                 Slept::Still => return Sought::Nothing,
                 Slept::NoMemory => return Sought::NoMemory,
             }
         }
         unreachable!()
+    }
+
+    /// Searches once.
+    fn search(
+        &mut self,
+        name: &Waker<TaskName>,
+        steps: &mut Steps,
+        unlocked: &mut Unlocked,
+    ) -> Option<ExStoredRunnable>
+        requires { steps.old ≡ step.Tick (tick_step.Search (sleeping (tick_or_run.Run tt) name.now)) ∷ [] }
+        ensures steps { steps.new ≡ searched_by_run (searcher (is_asleep self.new.ticker) self.new.counts) name.now (of_stored result) }
+        ensures future { self.new.future ≡ self.old.future }
+        ensures answered { self.new.answered ≡ self.old.answered }
+        ensures counts { self.new.counts ≡ self.old.counts }
+    {
+        let executor = self.executor;
+        let search = Search {
+            name,
+            at: self.counts.at(self.ticker.sleeps()),
+        };
+        self.runner.search(
+            executor.rt,
+            &executor.state,
+            executor.realm,
+            &search,
+            steps,
+            unlocked,
+        )
+    }
+
+    /// Falls asleep, as nothing was found.
+    fn sleep(
+        &mut self,
+        waker: &ExWaker<T, W, R>,
+        name: &Waker<TaskName>,
+        steps: &mut Steps,
+        unlocked: &mut Unlocked,
+    ) -> Slept
+        requires named { name.now ≡ name_given waker.now }
+        requires copies { steps.old ≡ step.Tick (tick_step.CopyWaker (sleeping (tick_or_run.Run tt) name.now)) ∷ [] }
+        ensures steps { steps.new ≡ slept (tick_or_run.Run tt) name.now result }
+        ensures future { self.new.future ≡ self.old.future }
+        ensures answered { self.new.answered ≡ self.old.answered }
+        ensures counts { self.new.counts ≡ self.old.counts }
+    {
+        let executor = self.executor;
+        self.ticker.sleep(
+            executor.rt,
+            &executor.state,
+            executor.realm,
+            waker,
+            name,
+            &TickOrRun::Run(()),
+            steps,
+            unlocked,
+        )
     }
 
     /// Wakes up, where it sleeps, tells another sleeper, counts the task that was found, and runs it. At each 64th it steals from
@@ -257,7 +291,7 @@ where
         steps: &mut Steps,
         unlocked: &mut Unlocked,
     ) -> Option<GivesWay>
-        requires { steps.old ≡ found_by_run (record { sleeps = is_asleep self.old.ticker; counted = self.old.counts.counted; taken = self.old.counts.taken }) (poll_with name.now) runnable.identity }
+        requires { steps.old ≡ found_by_run (searcher (is_asleep self.old.ticker) self.old.counts) (poll_with name.now) runnable.identity }
         ensures steps { steps.new ≡ ran (is_some result) name.now }
         ensures counts { self.new.counts ≡ one_more self.old.counts }
         ensures full { is_some result ≡ (self.old.counts.taken + 1 == 200) }
@@ -336,6 +370,7 @@ where
     }
 
     /// Runs the task that was counted. After the 200th it lets others go first, as the answer says.
+    #[tactic(auto, using(crate::proofs::Taking::takes_up))]
     fn run_counted(
         &mut self,
         runnable: ExStoredRunnable,
@@ -353,13 +388,8 @@ where
         ensures answered { self.new.answered ≡ self.old.answered }
     {
         let (_, _) = (at, name);
-        let gives = self.counts.take();
-        if gives.is_some() {
-            self.executor.poll_or_drop(runnable, steps, unlocked);
-        } else {
-            self.executor.poll_or_drop(runnable, steps, unlocked);
-        }
-        gives
+        self.executor.poll_or_drop(runnable, steps, unlocked);
+        self.counts.take()
     }
 }
 
@@ -374,7 +404,7 @@ where
     T: Drop + 'static,
     W: Wake + Drop + 'static,
     R: Wait + Copy + Drop + 'static,
-    requires { steps ≡ step.Run (run_step.WakeOwn (poll_with name.now)) ∷ step.End reply.Pending ∷ [] }
+    requires { steps ≡ ran true name.now }
     ensures { result ≡ reply.Pending }
 {
     let mut steps = steps;
@@ -412,8 +442,7 @@ where
     requires { steps ≡ drop_run (stage_by (has_ended runner.room runner.is_drained) runner.is_listed) tt }
     ensures { result ≡ reply.Done }
 {
-    let mut runner = runner;
-    let mut steps = steps;
+    let (mut runner, mut steps) = (runner, steps);
     if let Some(future) = future {
         future.let_go(unlocked);
     }

@@ -14,7 +14,8 @@ ghost use Rattle.call_steps.specs.declared.step.user.UserStep.TheVariants as use
 ghost use Rattle.executor_parts.specs.declared.mark.Mark.TheVariants as mark;
 ghost use Rattle.async_executor.specs.Seeds.{seeded, words_after};
 ghost use Rattle.async_executor.specs.OwnQueues.{listed};
-ghost use Rattle.async_executor.specs.Runs.{looked_own, looked_walking, poll_with, runs, searched_by_run, stage_by, steal_with, walked, walks};
+ghost use Rattle.async_executor.specs.Runs.{looked_own, looked_walking, poll_with, runs, searched_by_run};
+ghost use Rattle.async_executor.specs.Runs.{stage_by, steal_with, walked, walks};
 ghost use Rattle.async_executor.specs.Steps.{of_stored};
 ghost use Rattle.async_executor.specs.Ticks.{sleeping};
 
@@ -174,28 +175,11 @@ impl Runner {
         ensures { steps.new ≡ runs search.now.at search.now.name.now found.now.identity }
     {
         owed.pay();
+        let (urgent, plain) = (Mark::Urgent, Mark::Plain);
         let then = Then::StealPlain(TaskName::of_runnable(found));
-        self.steal_from(
-            Mark::Urgent,
-            rt,
-            state,
-            realm,
-            search,
-            &then,
-            steps,
-            unlocked,
-        );
+        self.steal_from(urgent, rt, state, realm, search, &then, steps, unlocked);
         let then = Then::Run(TaskName::of_runnable(found));
-        self.steal_from(
-            Mark::Plain,
-            rt,
-            state,
-            realm,
-            search,
-            &then,
-            steps,
-            unlocked,
-        );
+        self.steal_from(plain, rt, state, realm, search, &then, steps, unlocked);
     }
 
     /// Steals from the executor's queue of this mark, and goes on with this.

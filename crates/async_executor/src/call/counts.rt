@@ -1,5 +1,6 @@
 //! What a run counts.
 ghost use Rattle.std.specs.Prelude.{◌≡◌, ◌+◌, ◌==◌, cond, is_some};
+ghost use Rattle.async_executor.specs.Counted.{searcher};
 
 use call_steps::Searcher;
 use std::marker::Model;
@@ -74,7 +75,7 @@ impl Counts {
 
     /// How far it has counted, for a run that sleeps or not.
     pub fn at(&self, sleeps: bool) -> Searcher
-        ensures { result ≡ record { sleeps = sleeps; counted = self.now.counted; taken = self.now.taken } }
+        ensures { result ≡ searcher sleeps self.now }
     {
         Searcher {
             sleeps,

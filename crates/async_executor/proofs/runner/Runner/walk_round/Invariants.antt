@@ -4,4 +4,4 @@ use Rattle.async_executor.proofs.runner.Runner.walk_round.Given as goal
 
 -- it walks, with so many queues behind
 abbrev pub invariant-loop-place : goal.invariant-loop-place
-invariant-loop-place g l = l.steps ≡ walks l.fn.search.name l.behind
+invariant-loop-place g l = l.steps ≡ walks l.fn.search.name.now l.behind

@@ -25,6 +25,7 @@ pub enum Answer {
 }
 
 impl Answer {
+    /// Of a command that asks a question.
     pub fn of(yes: bool) -> Answer {
         if yes { Answer::Yes } else { Answer::No }
     }

@@ -17,6 +17,7 @@ pub trait Hold: Drop {
 
 /// The same, as futures see it that are polled with a `W`.
 pub trait Await<W>: Drop {
+    /// Polls it by the waker of the future that holds it.
     fn poll(&mut self, waker: &W) -> Answer;
 }
 
@@ -32,6 +33,8 @@ pub fn doubled(answer: Answer) -> Option<u64> {
 /// The handle of the future of this name, which another future holds.
 #[derive(Drop)]
 pub struct Held<H: Drop> {
+    /// Of the future whose handle it is.
     pub name: Name,
+    /// The handle itself.
     pub handle: H,
 }

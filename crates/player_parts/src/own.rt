@@ -5,6 +5,7 @@ use async_task::{Future, Poll};
 /// The own future of a run: it gives twice the output of the future whose handle it has, and without one it is never ready.
 #[derive(Drop)]
 pub struct Own<H: Drop> {
+    /// The handle that it polls.
     pub twice: Option<Held<H>>,
 }
 

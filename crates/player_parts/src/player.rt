@@ -15,8 +15,11 @@ pub type Named<X> = BTreeMap<Name, X>;
 /// What a script has beside its executor and its ticks and runs.
 #[derive(Drop)]
 pub struct Player<H: Drop, K: Drop> {
+    /// What its own lists take memory from.
     pub alloc: Global,
+    /// What the script shows.
     pub stage: Shared,
+    /// The wakers that a script keeps.
     pub keeper: K,
     /// The names of the accepted futures, the ticks and the runs.
     names: Names,
@@ -25,6 +28,7 @@ pub struct Player<H: Drop, K: Drop> {
 }
 
 impl<H: Hold, K: Keep> Player<H, K> {
+    /// A player of whom no script has asked for anything: it knows no name. Takes no memory.
     pub fn new(alloc: Global, stage: Shared, keeper: K, handles: SharedHandles<H>) -> Player<H, K> {
         Player {
             alloc,
@@ -72,6 +76,7 @@ impl<H: Hold, K: Keep> Player<H, K> {
         true
     }
 
+    /// The handle of this name lies here.
     pub fn has_handle(&self, name: Name) -> bool {
         self.handles.has(name)
     }
@@ -95,6 +100,7 @@ impl<H: Hold, K: Keep> Player<H, K> {
         }
     }
 
+    /// Takes the handle of this name, with its name; `None` where it doesn't lie here.
     pub fn take_held(&mut self, name: Name) -> Option<Held<H>> {
         match self.handles.take(name) {
             Some(handle) => Some(Held { name, handle }),
@@ -102,11 +108,13 @@ impl<H: Hold, K: Keep> Player<H, K> {
         }
     }
 
+    /// Puts a handle back under its name.
     pub fn put_held(&mut self, held: Held<H>) {
         let Held { name, handle } = held;
         self.put_handle(name, handle);
     }
 
+    /// Puts these handles back, each under its name.
     pub fn put_all(&mut self, held: Vec<Held<H>>) {
         for held in held {
             self.put_held(held);

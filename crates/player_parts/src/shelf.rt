@@ -12,6 +12,7 @@ pub type SharedShelf<S> = Rc<Shelf<S>, Global>;
 /// The wakers that are kept, each as an `S`, and the stage of their script.
 #[derive(Drop)]
 pub struct Shelf<S: Drop> {
+    /// What the script shows.
     pub stage: Shared,
     alloc: Global,
     /// Of each future, by its name, the waker that is kept.

@@ -1,6 +1,7 @@
 //! Ticks: one that finds no task falls asleep among the sleepers, and is called where a task comes.
-ghost use Rattle.std.specs.Prelude.{◌≡◌, OnOk, IfErr};
+ghost use Rattle.std.specs.Prelude.{◌≡◌, OnOk, IfErr, IfOk};
 ghost use Rattle.executor_parts.specs.Sleepers.{waker_of};
+ghost use Rattle.solo.specs.Runs as runs;
 ghost use Rattle.solo.specs.Ticks as ticks;
 
 use crate::names::{SoloWaker, Task};
@@ -68,6 +69,7 @@ impl<F, T, X> Solo<F, T, X> {
     /// A new tick. Its room among the sleepers is taken here; refused, nothing changes.
     pub fn tick(&mut self) -> Result<Ticker, AllocError>
         ensures ok { OnOk result (self.new ≡ ticks.roomy self.old) }
+        ensures awake { IfOk result (λ ticker. ticker ≡ runs.awake) }
         ensures err { IfErr result (λ _. self.new ≡ self.old) }
     {
         match self.sleepers.make_room() {

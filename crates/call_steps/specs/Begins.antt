@@ -20,7 +20,6 @@ use Rattle.call_steps.specs.declared.step.run.RunStep.TheVariants as run_step
 use Rattle.call_steps.specs.declared.step.table.ClosingStep.TheVariants as closing_step
 use Rattle.call_steps.specs.declared.step.table.QueueStep.TheVariants as queue_step
 use Rattle.call_steps.specs.declared.step.table.TableStep.TheVariants as table_step
-use Rattle.call_steps.specs.declared.step.tick.SleeperStep.TheVariants as sleeper_step
 use Rattle.call_steps.specs.declared.step.tick.TickStep.TheVariants as tick_step
 use Rattle.call_steps.specs.declared.step.user.UserStep.TheVariants as user_step
 

@@ -11,7 +11,7 @@ ghost use Rattle.async_executor.specs.Spawning.{SpawnsMany};
 ghost use Rattle.call_steps.specs.Begins.{begins};
 
 use crate::body::Body;
-use crate::call::Counts;
+use crate::counts::Counts;
 use crate::debug::LocalRunners;
 use crate::errors::{RunError, SpawnError};
 use crate::foreign::Foreign;
@@ -197,9 +197,9 @@ where
     {
         let Executor { body, leaving } = self;
         drop(leaving);
-        StaticExecutor {
-            body: executor::leak(body, &mut Unlocked::at_entry()),
-        }
+        let steps = begun(Asked::Leak);
+        let (body, _last) = executor::leak(body, steps, &mut Unlocked::at_entry());
+        StaticExecutor { body }
     }
 }
 
@@ -214,7 +214,9 @@ where
     /// takes no memory.
     fn drop(self) {
         let Executor { body, leaving } = self;
-        executor::end(body, Leaving::of(leaving), &mut Unlocked::at_entry());
+        let steps = begun(Asked::DropExecutor);
+        let leaving = Leaving::of(leaving);
+        let _last = executor::end(body, leaving, steps, &mut Unlocked::at_entry());
     }
 }
 

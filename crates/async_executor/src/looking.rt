@@ -1,18 +1,18 @@
 //! How a try, a search and a drop look into queues.
-ghost use Rattle.std.specs.Prelude.{◌≡◌, ◌∷◌, [], false, is_some};
+ghost use Rattle.std.specs.Prelude.{◌≡◌, ◌∷◌, [], ◌++◌};
 ghost use Rattle.call_steps.specs.declared.names.Look.TheVariants as look;
 ghost use Rattle.call_steps.specs.declared.step.CallStep.TheVariants as step;
 ghost use Rattle.call_steps.specs.declared.saw.Saw.TheVariants as saw;
+ghost use Rattle.call_steps.specs.declared.reply.Reply.TheVariants as reply;
+ghost use Rattle.call_steps.specs.declared.step.table.ClosingStep.TheVariants as closing_step;
 ghost use Rattle.call_steps.specs.declared.step.table.QueueStep.TheVariants as queue_step;
 ghost use Rattle.call_steps.specs.declared.step.tick.TickStep.TheVariants as tick_step;
 ghost use Rattle.async_executor.specs.Runs.{looked_common, looked_first, looked_second, poll_with};
-ghost use Rattle.async_executor.specs.Stages.{looked, looked_in};
 ghost use Rattle.call_steps.specs.declared.names.TickOrRun.TheVariants as tick_or_run;
 ghost use Rattle.call_steps.specs.declared.step.run.RunStep.TheVariants as run_step;
-ghost use Rattle.async_executor.specs.Steps.{of_stored, tried, tried_first};
+ghost use Rattle.async_executor.specs.Steps.{drains, of_stored, tried, tried_first};
 ghost use Rattle.async_executor.specs.Ticks.{searched, searched_first, sleeping};
 
-use crate::call::Call;
 use crate::names::ExStoredRunnable;
 use crate::queues::{FromQueues, Queue};
 use crate::state::State;
@@ -82,59 +82,23 @@ impl<W: Drop> State<W> {
         }
     }
 
-    /// Takes the first Runnable of the queue of this mark in hand, in a search or a drop, where there is one.
-    #[inline(always)]
-    fn look_in<R: Wait>(&self, mark: Mark, rt: &R, call: &mut Call) -> Option<ExStoredRunnable>
-        requires free { call.old.holds ≡ false }
-        requires told { call.old.owes ≡ false }
-        ensures { call.new ≡ looked_in mark (is_some result) call.old }
-    {
-        match pop(self.queues.of(mark), rt) {
-            Some(runnable) => {
-                call.look(mark, true);
-                Some(runnable)
-            }
-            None => {
-                call.look(mark, false);
-                None
-            }
-        }
-    }
-
-    /// The same. A queue that is empty is left after loads alone, with no pop.
-    #[inline(always)]
-    fn look_in_if_any<R: Wait>(
+    /// An executor's drop takes the first Runnable of the queue of this mark, which is closed.
+    pub fn take_closed<R: Wait>(
         &self,
         mark: Mark,
         rt: &R,
-        call: &mut Call,
+        steps: &mut Steps,
     ) -> Option<ExStoredRunnable>
-        requires free { call.old.holds ≡ false }
-        requires told { call.old.owes ≡ false }
-        ensures { call.new ≡ looked_in mark (is_some result) call.old }
+        requires { steps.old ≡ step.Closing (closing_step.Drain mark) ∷ step.End reply.Done ∷ [] }
+        ensures { steps.new ≡ drains mark (of_stored result) ++ step.End reply.Done ∷ [] }
     {
-        if self.queues.of(mark).is_empty(rt) {
-            call.look(mark, false);
-            return None;
-        }
-        self.look_in(mark, rt, call)
-    }
-
-    /// Takes the first Runnable of the queue of this mark in hand; where there is none, the first of the other one.
-    #[inline(always)]
-    pub fn look_from<R: Wait>(&self, mark: Mark, rt: &R, call: &mut Call) -> Option<FromQueues>
-        requires free { call.old.holds ≡ false }
-        requires told { call.old.owes ≡ false }
-        ensures { call.new ≡ looked (is_some result) call.old }
-    {
-        if let Some(runnable) = self.look_in_if_any(mark, rt, call) {
-            return Some(FromQueues { runnable, mark });
-        }
-        let mark = mark.other();
-        match self.look_in(mark, rt, call) {
-            Some(runnable) => Some(FromQueues { runnable, mark }),
+        match pop(self.queues.of(mark), rt) {
+            Some(runnable) => {
+                steps.follow(Saw::Found(TaskName::of_runnable(&runnable)));
+                Some(runnable)
+            }
             None => {
-                call.find_none();
+                steps.follow(Saw::Nothing);
                 None
             }
         }

@@ -11,7 +11,7 @@ ghost use Rattle.call_steps.specs.declared.step.run.RunStep.TheVariants as run_s
 ghost use Rattle.call_steps.specs.declared.step.tick.TickStep.TheVariants as tick_step;
 
 use crate::body::Body;
-use crate::call::Counts;
+use crate::counts::Counts;
 use crate::entry::{Run, Tick, Unlocked};
 use crate::foreign::Foreign;
 use crate::names::ExWaker;

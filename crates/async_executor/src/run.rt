@@ -19,7 +19,7 @@ ghost use Rattle.call_steps.specs.declared.step.tick.TickStep.TheVariants as tic
 ghost use Rattle.call_steps.specs.declared.step.user.UserStep.TheVariants as user_step;
 
 use crate::body::Body;
-use crate::call::GivesWay;
+use crate::counts::GivesWay;
 use crate::entry::{Run, Unlocked};
 use crate::errors::RunError;
 use crate::foreign::Foreign;

@@ -19,8 +19,8 @@ ghost use Rattle.async_executor.specs.Runs.{stage_by, steal_with, walked, walks}
 ghost use Rattle.async_executor.specs.Steps.{of_stored};
 ghost use Rattle.async_executor.specs.Ticks.{sleeping};
 
-use crate::call::OwesSteal;
-use crate::due::{pay, share};
+use crate::counts::OwesSteal;
+use crate::due::{close_and_pay, share};
 use crate::entry::Unlocked;
 use crate::looking::pop;
 use crate::names::{ExRealm, ExStoredRunnable};
@@ -31,8 +31,8 @@ use crate::steal::{Theft, steal};
 use crate::steps::Steps;
 use crate::task_name::TaskName;
 use crate::walks::Walk;
-use async_task::{GoesBack, NoMemory, Wake};
-use call_steps::{Saw, Searcher, Source, Then, Waker};
+use async_task::{NoMemory, Wake};
+use call_steps::{Part, Saw, Searcher, Source, Then, Waker};
 use concurrent_queue::ConcurrentQueue;
 use executor_parts::Mark;
 use rand_core::SeedableRng;
@@ -430,9 +430,8 @@ where
     R: Wait + Copy + Drop + 'static,
 {
     if let Some(stored) = refused {
-        match stored.close(rt, realm) {
-            Ok(due) => pay(rt, due, unlocked),
-            Err(stored) => stored.go_back(),
-        }
+        let mut steps = Steps::part(Part::Close(TaskName::of_runnable(&stored)));
+        close_and_pay(rt, realm, &mut steps, stored, unlocked);
+        steps.close();
     }
 }

@@ -2,7 +2,7 @@
 ghost use Rattle.std.specs.Prelude.{◌≡◌, not, true, None, Some};
 ghost use Rattle.call_steps.specs.declared.reply.Reply.TheVariants as reply;
 
-use crate::call::GivesWay;
+use crate::counts::GivesWay;
 use crate::entry::Entered;
 use crate::task_name::TaskName;
 use call_steps::{Call, Last, Reply};

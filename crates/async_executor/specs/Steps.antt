@@ -19,8 +19,6 @@ use Rattle.call_steps.specs.declared.saw.Saw.{Saw}
 use Rattle.call_steps.specs.declared.saw.Saw.TheVariants as saw
 use Rattle.call_steps.specs.declared.step.CallStep.{CallStep}
 use Rattle.call_steps.specs.declared.step.CallStep.TheVariants as step
-use Rattle.call_steps.specs.Closing.{drained}
-use Rattle.call_steps.specs.declared.step.table.ClosingStep.TheVariants as closing_step
 use Rattle.call_steps.specs.declared.step.table.QueueStep.TheVariants as queue_step
 use Rattle.call_steps.specs.declared.step.tick.SleeperStep.TheVariants as sleeper_step
 use Rattle.async_executor.specs.declared.due.Handed.{Handed}
@@ -75,11 +73,6 @@ tried (Some f) = step.Sleeper sleeper_step.ExchangeFlag ∷ step.Move move.TakeU
 abbrev pub tried_first : Mark → Option Identity → List (CallStep Identity (Unit {0}))
 tried_first mark None = step.Queue (queue_step.Take (Second (other mark))) ∷ []
 tried_first mark (Some f) = tried (Some f)
-
--- what an executor's drop has still to do once it took this from its queue of this mark
-abbrev pub drains : Mark → Option Identity → List (CallStep Identity (Unit {0}))
-drains mark None = drained mark
-drains mark (Some f) = step.Move move.DropRunnable f ∷ step.Closing (closing_step.Drain mark) ∷ []
 
 -- what a spawn sees in the table
 abbrev pub accepted_as : {F H : Type 0} → Result (Marked × H) (SpawnError F) → Saw Identity (Unit {0})

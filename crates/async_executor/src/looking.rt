@@ -10,7 +10,8 @@ ghost use Rattle.call_steps.specs.declared.step.tick.TickStep.TheVariants as tic
 ghost use Rattle.async_executor.specs.Runs.{looked_common, looked_first, looked_second, poll_with};
 ghost use Rattle.call_steps.specs.declared.names.TickOrRun.TheVariants as tick_or_run;
 ghost use Rattle.call_steps.specs.declared.step.run.RunStep.TheVariants as run_step;
-ghost use Rattle.async_executor.specs.Steps.{drains, of_stored, tried, tried_first};
+ghost use Rattle.async_executor.specs.Closing.{drains};
+ghost use Rattle.async_executor.specs.Steps.{of_stored, tried, tried_first};
 ghost use Rattle.async_executor.specs.Ticks.{searched, searched_first, sleeping};
 
 use crate::names::ExStoredRunnable;

@@ -7,7 +7,7 @@ ghost use Rattle.call_steps.specs.declared.step.CallStep.TheVariants as step;
 ghost use Rattle.call_steps.specs.declared.step.handle.HandleStep.TheVariants as handle_step;
 ghost use Rattle.call_steps.specs.declared.step.handle.WakerStep.TheVariants as waker_step;
 ghost use Rattle.call_steps.specs.Fitting.{Fits};
-ghost use Rattle.call_steps.specs.Seeing.{due, futured, moved, seen, woke};
+ghost use Rattle.call_steps.specs.Seeing.{due, futured, moved, seen};
 ghost use Rattle.call_steps.specs.Todo.{below, following, top};
 
 use crate::call::Call;
@@ -54,22 +54,6 @@ impl<F: Drop, T: Drop, B: Drop> Call<F, T, B> {
         ensures { self.new ≡ following (futured debt next) self.old }
     {
         self.follow(Saw::Moved(true, owing(None, Some(debt), None, next)));
-    }
-
-    /// A waker that came out of the table was called, of the task of this future, and all that this owed was paid in that, but for
-    /// its Runnable, where that is due; so many wakers are left.
-    pub fn see_woken(&mut self, woken: F, is_due: bool, left: u64)
-        requires { Fits (top self.old) (woke woken is_due left) }
-        ensures { self.new ≡ following (woke woken is_due left) self.old }
-    {
-        if !is_due {
-            self.follow(Saw::Wakes(woken, false, owing(None, None, None, None), left));
-            return;
-        }
-        let info = ScheduleInfo {
-            woken_while_running: false,
-        };
-        self.follow(Saw::Wakes(woken, false, owing(Some(info), None, None, None), left));
     }
 
     /// A Runnable of the first future was closed. The second awaited that one, and was woken: its Runnable is due.

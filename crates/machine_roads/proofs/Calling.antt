@@ -49,6 +49,7 @@ use Rattle.machine_roads.proofs.Exchanging.{loudly}
 use Rattle.machine_roads.proofs.Cancelling.{cancel_fits, cancel_outputs, cancels_so}
 use Rattle.machine_roads.proofs.Detaching.{detached_is, detaches_so}
 use Rattle.machine_roads.proofs.Spawning.{entered_world, enters}
+use Rattle.machine_roads.proofs.Unseen.{kept_so}
 
 pub begin_alike : (limit : ℕ) (kind : Kind) (parties : ℕ)
     → Follows (start limit kind parties).world (new limit (is_static_kind kind))
@@ -94,27 +95,6 @@ idles p (h ∷ hs) [] w under = idles p hs [] w under
 idles p (h ∷ hs) (o ∷ os) w under =
     ap (alone p hs) (one_is p h o w os (waits o) ∙ rests_by p h o w os (waits o) (is_outside o) under)
     ∙ idles p hs (o ∷ os) w under
-
--- which wakers are kept the plain scheduler doesn't know
-kept_so : (ks : List (Option ℕ)) (w : World) (q : Plain Output Waker) → Follows w q → Follows (record w { wakers = ks }) q
-kept_so ks w q r = record {
-  limit = r.limit;
-  kind = r.kind;
-  many = r.many;
-  places = r.places;
-  marked = r.marked;
-  tasks = r.tasks;
-  stored = r.stored;
-  marks = r.marks;
-  calm = r.calm;
-  table = r.table;
-  common = r.common;
-  kept = r.kept;
-  wakers = r.wakers;
-  count = r.count;
-  flag = r.flag;
-  seen = r.seen;
-}
 
 module _ (p : ℕ) (below : List Op) (under : is_resting below ≡ true) where
   module _ (end : Done) (rests : is_resting end.next ≡ true) where

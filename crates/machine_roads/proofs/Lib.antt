@@ -23,6 +23,7 @@ pub mod Calling
 pub mod PollCalls
 pub mod Standing
 pub mod Trying
+pub mod Unseen
 pub mod Pending
 pub mod Losing
 pub mod Ending

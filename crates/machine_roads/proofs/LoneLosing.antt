@@ -24,7 +24,7 @@ use Rattle.machine_roads.specs.Lone.{EachLoneAlike, LeadsTo, LoneDetachLoses, Lo
 use Rattle.machine_roads.proofs.LoneCalls.{each}
 use Rattle.machine_roads.proofs.LoneRuns.{Inside, Rests, Whole, all_steps, lone_calls_rest, onward}
 use Rattle.machine_roads.proofs.Losing.{detaches_to_lose, goes_to_lose, loses_alike}
-use Rattle.machine_roads.proofs.Trying.{stands_in}
+use Rattle.machine_roads.proofs.Unseen.{stands_in}
 use Rattle.machine_roads.proofs.Tying.{AtEnd, Goes, Leads, answers}
 
 first_of : (x y : Op) (xs ys : List Op) → x ∷ xs ≡ y ∷ ys → (x ≡ y) × (xs ≡ ys)

@@ -42,8 +42,9 @@ use Rattle.machine_roads.proofs.LoneRuns.{InCode, Inside, Rests, Whole, all_rest
 use Rattle.machine_roads.proofs.Pending.{gives_so, pends_so}
 use Rattle.machine_roads.proofs.RunEnding.{called_inside, drops, loses_in_take}
 use Rattle.machine_roads.proofs.Standing.{Answered, Behind, InDrop, InPoll, IsGoing, IsTaken, Stands, StandsSo, Stays, StaysSo}
-use Rattle.machine_roads.proofs.Trying.{stands_in, tries_so, try_kind, yes}
+use Rattle.machine_roads.proofs.Trying.{tries_so, try_kind, yes}
 use Rattle.machine_roads.proofs.Tying.{AtEnd, Leads, LeadsSo, answers, top_of}
+use Rattle.machine_roads.proofs.Unseen.{stands_in}
 
 cons_is : (x y : Op) (xs ys : List Op) → x ∷ xs ≡ y ∷ ys → (x ≡ y) × (xs ≡ ys)
 cons_is x y xs ys is = (ap (λ zs. head zs) is, ap (λ zs. tail zs) is)

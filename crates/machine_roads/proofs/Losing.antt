@@ -36,8 +36,9 @@ use Rattle.machine_roads.proofs.Marks.{emptied_owes}
 use Rattle.machine_roads.proofs.Moving.{state}
 use Rattle.machine_roads.proofs.Puts.{put_by}
 use Rattle.machine_roads.proofs.Stepping.{Way, next}
-use Rattle.machine_roads.proofs.Trying.{stands_in, stops_at}
+use Rattle.machine_roads.proofs.Trying.{stops_at}
 use Rattle.machine_roads.proofs.Used.{none_told}
+use Rattle.machine_roads.proofs.Unseen.{stands_in}
 
 abbrev output_if : Bool → Option Output
 output_if b = if b then Some tt else None

@@ -46,7 +46,7 @@ use Rattle.machine_roads.proofs.Polling.{copies_so}
 use Rattle.machine_roads.proofs.Stepping.{Way, next}
 use Rattle.machine_roads.proofs.TickPolls.{Comes, answers_so, let_go_inside, searches, searches_none, sleepy}
 use Rattle.machine_roads.proofs.Ticking.{sleeper_goes_so}
-use Rattle.machine_roads.proofs.Trying.{turns}
+use Rattle.machine_roads.proofs.Unseen.{turns}
 
 -- lists: one that comes last is put again, and is where it is looked for
 module _ {B : Type 0} where

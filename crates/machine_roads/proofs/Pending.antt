@@ -39,7 +39,8 @@ use Rattle.machine_roads.proofs.Puts.{put_by}
 use Rattle.machine_roads.proofs.Running.{end_of, pending_is, run_alike}
 use Rattle.machine_roads.proofs.Standing.{Answered, InDrop, IsTaken, Stays, StaysSo, stopped_so}
 use Rattle.machine_roads.proofs.Stepping.{Way, next}
-use Rattle.machine_roads.proofs.Trying.{final_inside, finally_so, places_so, stands_in, stops_at, tell_inside}
+use Rattle.machine_roads.proofs.Trying.{final_inside, finally_so, stops_at, tell_inside}
+use Rattle.machine_roads.proofs.Unseen.{places_so, stands_in}
 
 -- a task becomes another in the code in which calls stand
 pub becomes_inside : (c : Choice) (f : ℕ) (new : AbstractTask Output Waker) (q : Plain Output Waker)

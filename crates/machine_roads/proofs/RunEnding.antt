@@ -39,7 +39,8 @@ use Rattle.machine_roads.proofs.Moving.{state}
 use Rattle.machine_roads.proofs.Pending.{becomes_inside}
 use Rattle.machine_roads.proofs.Puts.{put_by, put_lying}
 use Rattle.machine_roads.proofs.Stepping.{Way, next}
-use Rattle.machine_roads.proofs.Trying.{final_inside, stands_in, stops_at}
+use Rattle.machine_roads.proofs.Trying.{final_inside, stops_at}
+use Rattle.machine_roads.proofs.Unseen.{stands_in}
 
 -- what the end of a run leaves and owes
 record RunEnds (c : Choice) (s : State) (m : Move) (why : End Output) (aw : Option Waker) : Type 0 where

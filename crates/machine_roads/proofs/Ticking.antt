@@ -34,28 +34,7 @@ use Rattle.machine_roads.proofs.Lists.{clash}
 use Rattle.machine_roads.proofs.Moved.{Then}
 use Rattle.machine_roads.proofs.Polling.{lets_go_so}
 use Rattle.machine_roads.proofs.Stepping.{Way, next}
-
--- which ticks there are, and how many may sleep, the plain scheduler doesn't know
-roomed : (ticks : List Ticker) (rooms : ℕ) (w : World) (q : Plain Output Waker) → Follows w q
-    → Follows (record w { ticks = ticks; sleepers = record w.sleepers { rooms = rooms } }) q
-roomed ticks rooms w q r = record {
-  limit = r.limit;
-  kind = r.kind;
-  many = r.many;
-  places = r.places;
-  marked = r.marked;
-  tasks = r.tasks;
-  stored = r.stored;
-  marks = r.marks;
-  calm = r.calm;
-  table = r.table;
-  common = r.common;
-  kept = r.kept;
-  wakers = r.wakers;
-  count = r.count;
-  flag = r.flag;
-  seen = r.seen;
-}
+use Rattle.machine_roads.proofs.Unseen.{roomed}
 
 abbrev given_if : Bool → Sleepers Sleeping → Sleepers Sleeping
 given_if b s = elim b [ true ↦ record s { rooms = s.rooms - 1 } | false ↦ s ]

@@ -71,6 +71,12 @@ module _ {W : Type 0} where
   laid_as (Already was) = laid.Already was
   laid_as (Nowhere back) = laid.Nowhere back
 
+  -- one that fell asleep, or slept there already, is among the sleepers
+  abbrev pub Lies : Bool → Laid W → Type 0
+  Lies sleeps laid.Anew = sleeps ≡ true
+  Lies sleeps (laid.Already was) = sleeps ≡ true
+  Lies sleeps (laid.Nowhere back) = Unit {0}
+
   abbrev pub LaidBack : SleeperWaker W → Laid W → Type 0
   LaidBack waker laid.Anew = Unit {0}
   LaidBack waker (laid.Already was) = Unit {0}

@@ -1,5 +1,5 @@
 //! Values of a user's, which came out from under a lock.
-ghost use Rattle.std.specs.Prelude.{◌≡◌, ◌∷◌, [], Some};
+ghost use Rattle.std.specs.Prelude.{◌≡◌, ◌∷◌, [], true, Some};
 ghost use Rattle.call_steps.specs.Seeing.{due};
 ghost use Rattle.call_steps.specs.Todo.{below, top};
 ghost use Rattle.call_steps.specs.declared.reply.Reply.TheVariants as reply;
@@ -10,15 +10,17 @@ ghost use Rattle.call_steps.specs.declared.step.tick.TickStep.TheVariants as tic
 ghost use Rattle.call_steps.specs.declared.step.user.UserStep.TheVariants as user_step;
 ghost use Rattle.async_executor.specs.Foreign.{value_of};
 ghost use Rattle.async_executor.specs.Runs.{poll_with, polled_own};
+ghost use Rattle.async_executor.specs.Sleeping.{is_asleep};
 ghost use Rattle.async_executor.specs.Steps.{name_given, of_handed, sleeper_as};
 ghost use Rattle.async_executor.specs.Ticks.{sleeping};
 
 use crate::due::{Handed, pay_next};
 use crate::entry::Unlocked;
-use crate::names::{ExDue, ExRealm, ExWaker};
+use crate::names::{ExRealm, ExWaker};
 use crate::sleeping::SleeperWaker;
 use crate::steps::Steps;
 use crate::task_name::TaskName;
+use crate::ticker::Ticker;
 use async_task::{Future, Poll, Wake};
 use call_steps::{Saw, TickOrRun, Waker};
 use std::sync::Wait;
@@ -169,9 +171,10 @@ impl<W: Wake + Drop + 'static> Foreign<SleeperWaker<W>> {
         value.wake_up_with(rt, realm, who, steps, unlocked);
     }
 
-    /// One sleeps on with another waker, of this name, and without this one, which goes, with all that this leads to.
+    /// One that sleeps does so with another waker, of this name, and without this one, which goes, with all that this leads to.
     pub fn sleep_on_without<T, R>(
         self,
+        ticker: &Ticker,
         rt: R,
         realm: &'static ExRealm<T, W, R>,
         name: &Waker<TaskName>,
@@ -182,25 +185,11 @@ impl<W: Wake + Drop + 'static> Foreign<SleeperWaker<W>> {
     where
         T: Drop + 'static,
         R: Wait + Copy + Drop + 'static,
-        requires { steps.old ≡ step.Tick (tick_step.FallAsleep (sleeping who.now name.now)) ∷ [] }
+        requires asleep { is_asleep ticker.now ≡ true }
+        requires falls { steps.old ≡ step.Tick (tick_step.FallAsleep (sleeping who.now name.now)) ∷ [] }
         ensures { steps.new ≡ step.End reply.Pending ∷ [] }
     {
         let Foreign { value } = self;
-        value.sleep_on_without(rt, realm, name, who, steps, unlocked);
-    }
-
-    /// Drops the waker. Where a task has to be queued then, it is the answer.
-    pub fn release<T, R>(
-        self,
-        rt: R,
-        realm: &'static ExRealm<T, W, R>,
-        unlocked: &Unlocked,
-    ) -> Option<ExDue<T, W, R>>
-    where
-        T: Drop + 'static,
-        R: Wait + Copy + Drop + 'static,
-    {
-        let Foreign { value } = self;
-        value.release(rt, realm, unlocked)
+        value.sleep_on_without(ticker, rt, realm, name, who, steps, unlocked);
     }
 }

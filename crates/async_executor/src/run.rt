@@ -316,6 +316,7 @@ where
         requires sleeps { at.sleeps ≡ is_asleep self.old.ticker }
         requires found { steps.old ≡ found_by_run at (poll_with name.now) found.now.identity }
         ensures steps { steps.new ≡ tells at name.now found.now.identity }
+        ensures awake { is_asleep self.new.ticker ≡ false }
         ensures future { self.new.future ≡ self.old.future }
         ensures answered { self.new.answered ≡ self.old.answered }
         ensures counts { self.new.counts ≡ self.old.counts }

@@ -9,7 +9,7 @@ ghost use Rattle.async_executor.specs.Steps.{name_given, name_of, of_handed, sle
 use crate::due::Handed;
 use crate::entry::Unlocked;
 use crate::foreign::Foreign;
-use crate::names::{ExDue, ExRealm, ExWaker};
+use crate::names::{ExRealm, ExWaker};
 use crate::steps::Steps;
 use crate::task_name::TaskName;
 use async_task::{Awaiter, Returning, StoredWaker, Wake};
@@ -114,27 +114,6 @@ impl<W: Wake + Drop + 'static> SleeperWaker<W> {
                 waker.wake();
                 steps.follow(Saw::Outside);
                 steps.follow(Saw::Nothing);
-                None
-            }
-        }
-    }
-
-    /// Drops the waker. Where a task has to be queued then, it is the answer.
-    pub fn release<T, R>(
-        self,
-        rt: R,
-        realm: &'static ExRealm<T, W, R>,
-        unlocked: &Unlocked,
-    ) -> Option<ExDue<T, W, R>>
-    where
-        T: Drop + 'static,
-        R: Wait + Copy + Drop + 'static,
-    {
-        let _ = unlocked;
-        match self {
-            SleeperWaker::Task(waker) => waker.release(rt, realm),
-            SleeperWaker::Outside(waker) => {
-                drop(waker);
                 None
             }
         }

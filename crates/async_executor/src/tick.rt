@@ -119,6 +119,7 @@ where
     fn wake_up(&mut self, found: &TaskName, steps: &mut Steps, unlocked: &mut Unlocked)
         requires { steps.old ≡ found_asleep (is_asleep self.old.ticker) found.now }
         ensures steps { steps.new ≡ found_asleep false found.now }
+        ensures awake { is_asleep self.new.ticker ≡ false }
         ensures stays { has_left self.new.ticker ≡ has_left self.old.ticker }
         ensures answered { self.new.answered ≡ self.old.answered }
     {

@@ -5,7 +5,7 @@ ghost use Rattle.call_steps.specs.declared.step.tick.TickStep.TheVariants as tic
 ghost use Rattle.call_steps.specs.declared.reply.Reply.TheVariants as reply;
 ghost use Rattle.async_executor.specs.Polls.{has_left};
 ghost use Rattle.async_executor.specs.Foreign.{value_of};
-ghost use Rattle.async_executor.specs.Sleeping.{is_asleep, ComesBack, FallsAsleep, LaidBack, WakesUp, SaysFellAsleep};
+ghost use Rattle.async_executor.specs.Sleeping.{is_asleep, laid_as, ComesBack, FallsAsleep, LaidBack, Lies, WakesUp, SaysFellAsleep};
 ghost use Rattle.async_executor.specs.Steps.{name_of, name_given};
 ghost use Rattle.async_executor.specs.Ticks.{sleeping, slept};
 ghost use Rattle.call_steps.specs.Todo.{below, top};
@@ -91,6 +91,7 @@ impl Ticker {
         R: Wait + Copy + Drop + 'static,
         requires { top steps.old ≡ Some (step.Tick (tick_step.WakeUp who.now)) }
         ensures steps { steps.new ≡ below steps.old }
+        ensures awake { is_asleep self.new ≡ false }
         ensures stays { has_left self.new ≡ has_left self.old }
     {
         match self.stand_up(&rt, state, unlocked) {
@@ -119,6 +120,7 @@ impl Ticker {
         requires named { name.now ≡ name_given waker.now }
         requires copies { steps.old ≡ step.Tick (tick_step.CopyWaker (sleeping who.now name.now)) ∷ [] }
         ensures steps { steps.new ≡ slept who.now name.now result }
+        ensures asleep { result ≡ Slept.Anew → is_asleep self.new ≡ true }
         ensures stays { has_left self.new ≡ has_left self.old }
     {
         if sleeps_elsewhere(waker, realm) {
@@ -152,6 +154,7 @@ impl Ticker {
         requires named { name_of copy.value ≡ name.now }
         requires falls { steps.old ≡ step.Tick (tick_step.FallAsleep (sleeping who.now name.now)) ∷ [] }
         ensures steps { steps.new ≡ slept who.now name.now result }
+        ensures asleep { result ≡ Slept.Anew → is_asleep self.new ≡ true }
         ensures stays { has_left self.new ≡ has_left self.old }
     {
         match self.lie_down(&rt, state, copy, unlocked) {
@@ -160,7 +163,7 @@ impl Ticker {
                 Slept::Anew
             }
             Laid::Already(old) => {
-                old.sleep_on_without(rt, realm, name, who, steps, unlocked);
+                old.sleep_on_without(self, rt, realm, name, who, steps, unlocked);
                 Slept::Still
             }
             Laid::Nowhere(waker) => {
@@ -180,6 +183,7 @@ impl Ticker {
         unlocked: &mut Unlocked,
     ) -> Laid<W>
         ensures back { LaidBack waker.value result }
+        ensures lies { Lies (is_asleep self.new) result }
         ensures stays { has_left self.new ≡ has_left self.old }
     {
         let mut locked = state.sleepers.lock(rt, unlocked);
@@ -198,7 +202,8 @@ impl Ticker {
         state: &State<W>,
         unlocked: &mut Unlocked,
     ) -> Option<Foreign<SleeperWaker<W>>>
-        ensures { has_left self.new ≡ has_left self.old }
+        ensures awake { is_asleep self.new ≡ false }
+        ensures stays { has_left self.new ≡ has_left self.old }
     {
         let mut locked = state.sleepers.lock(rt, unlocked);
         let sleepers = locked.get();
@@ -240,6 +245,7 @@ impl Ticker {
         ensures sleeps { FallsAsleep self waker.value sleepers.old sleepers.new result.0 result.1 }
         ensures stays { has_left result.0 ≡ has_left self }
         ensures said { SaysFellAsleep sleepers.new result.1 }
+        ensures lies { Lies (is_asleep result.0) (laid_as result.1) }
         ensures back { ComesBack waker.value result.1 }
     {
         match self {
@@ -270,6 +276,7 @@ impl Ticker {
         sleepers: &mut Sleepers<SleeperWaker<W>>,
     ) -> (Ticker, Option<WokenUp<W>>)
         ensures up { WakesUp self sleepers.old sleepers.new result.0 result.1 }
+        ensures awake { is_asleep result.0 ≡ false }
         ensures stays { has_left result.0 ≡ has_left self }
         ensures said { IfSome result.1 (λ woken_up. woken_up.notified ≡ flag_of sleepers.new) }
     {

@@ -1,11 +1,12 @@
 //! How the waker goes of one that sleeps no more, or with another one, as its call has to do next.
-ghost use Rattle.std.specs.Prelude.{◌≡◌, ◌∷◌, [], Some};
+ghost use Rattle.std.specs.Prelude.{◌≡◌, ◌∷◌, [], true, Some};
 ghost use Rattle.task_moves.specs.declared.moves.owed.Move.TheVariants as move;
 ghost use Rattle.call_steps.specs.Todo.{below, top};
 ghost use Rattle.call_steps.specs.declared.reply.Reply.TheVariants as reply;
 ghost use Rattle.call_steps.specs.declared.step.CallStep.TheVariants as step;
 ghost use Rattle.call_steps.specs.declared.step.run.RunStep.TheVariants as run_step;
 ghost use Rattle.call_steps.specs.declared.step.tick.TickStep.TheVariants as tick_step;
+ghost use Rattle.async_executor.specs.Sleeping.{is_asleep};
 ghost use Rattle.async_executor.specs.Ticks.{sleeping};
 
 use super::SleeperWaker;
@@ -14,6 +15,7 @@ use crate::entry::Unlocked;
 use crate::names::ExRealm;
 use crate::steps::Steps;
 use crate::task_name::TaskName;
+use crate::ticker::Ticker;
 use async_task::{Returning, StoredWaker, Wake};
 use call_steps::{Saw, TickOrRun, Waker};
 use std::sync::Wait;
@@ -75,9 +77,10 @@ impl<W: Wake + Drop + 'static> SleeperWaker<W> {
         }
     }
 
-    /// One sleeps on with another waker, of this name, and without this one, which goes, with all that this leads to.
+    /// One that sleeps does so with another waker, of this name, and without this one, which goes, with all that this leads to.
     pub fn sleep_on_without<T, R>(
         self,
+        ticker: &Ticker,
         rt: R,
         realm: &'static ExRealm<T, W, R>,
         name: &Waker<TaskName>,
@@ -88,10 +91,11 @@ impl<W: Wake + Drop + 'static> SleeperWaker<W> {
     where
         T: Drop + 'static,
         R: Wait + Copy + Drop + 'static,
-        requires { steps.old ≡ step.Tick (tick_step.FallAsleep (sleeping who.now name.now)) ∷ [] }
+        requires asleep { is_asleep ticker.now ≡ true }
+        requires falls { steps.old ≡ step.Tick (tick_step.FallAsleep (sleeping who.now name.now)) ∷ [] }
         ensures { steps.new ≡ step.End reply.Pending ∷ [] }
     {
-        let (_, _) = (name, who);
+        let (_, _, _) = (ticker, name, who);
         match self {
             SleeperWaker::Task(waker) => {
                 steps.follow(Saw::Already(Some(Waker::Task(TaskName::of_waker(&waker)))));

@@ -5,6 +5,7 @@ ghost use Rattle.std.specs.Iterator.{IsFinite};
 ghost use Rattle.async_executor.specs.Counting.{GoesOn};
 ghost use Rattle.async_executor.specs.Errors.{refused};
 ghost use Rattle.async_executor.specs.Foreign.{value_of};
+ghost use Rattle.async_executor.specs.Making.{IsNew};
 ghost use Rattle.async_executor.specs.Polls.{has_left, HasLeft, IsRunAnswer, IsTickAnswer};
 ghost use Rattle.async_executor.specs.Seeds.{seeded};
 ghost use Rattle.async_executor.specs.Spawning.{SpawnsMany};
@@ -166,6 +167,7 @@ where
         ensures back { IfErr result (λ back. back ≡ future) }
         ensures future { IfOk result (λ run. value_of run.future ≡ Some future) }
         ensures words { IfOk result (λ run. run.runner.words ≡ seeded 0) }
+        ensures new { IfOk result (λ run. IsNew run.runner run.ticker run.counts) }
     {
         let steps = begun(Asked::NewRun);
         let (made, _last) = self
@@ -181,6 +183,7 @@ where
         ensures back { IfErr result (λ back. back ≡ future) }
         ensures future { IfOk result (λ run. value_of run.future ≡ Some future) }
         ensures words { IfOk result (λ run. run.runner.words ≡ seeded seed) }
+        ensures new { IfOk result (λ run. IsNew run.runner run.ticker run.counts) }
     {
         let steps = begun(Asked::NewRun);
         let (made, _last) = self

@@ -1,6 +1,7 @@
 //! How ticks and runs are made: all memory that they need later is taken here.
 ghost use Rattle.std.specs.Prelude.{◌≡◌, ◌∷◌, [], false, Some, IfOk, IfErr};
 ghost use Rattle.async_executor.specs.Foreign.{value_of};
+ghost use Rattle.async_executor.specs.Making.{IsNew, IsUnlisted};
 ghost use Rattle.async_executor.specs.Polls.{has_left};
 ghost use Rattle.async_executor.specs.Seeds.{seeded};
 ghost use Rattle.async_executor.specs.Steps.{made};
@@ -74,6 +75,7 @@ where
         ensures back { IfErr result.0 (λ back. back ≡ future) }
         ensures future { IfOk result.0 (λ run. value_of run.future ≡ Some future) }
         ensures words { IfOk result.0 (λ run. run.runner.words ≡ seeded seed) }
+        ensures new { IfOk result.0 (λ run. IsNew run.runner run.ticker run.counts) }
         ensures answer { result.1 ≡ made result.0 }
     {
         let mut steps = steps;
@@ -105,6 +107,7 @@ where
         ensures back { IfErr result.0 (λ back. back ≡ future) }
         ensures future { IfOk result.0 (λ run. value_of run.future ≡ Some future) }
         ensures words { IfOk result.0 (λ run. run.runner.words ≡ seeded seed) }
+        ensures new { IfOk result.0 (λ run. IsNew run.runner run.ticker run.counts) }
         ensures answer { result.1 ≡ made result.0 }
     {
         let mut steps = steps;
@@ -130,8 +133,10 @@ where
     fn run_of<G>(&self, future: G, runner: Runner, room: Room) -> Run<'_, F, T, W, R, G>
     where
         G: Future<ExWaker<T, W, R>> + Drop,
+        requires unlisted { IsUnlisted runner }
         ensures future { value_of result.future ≡ Some future }
         ensures words { result.runner.words ≡ runner.words }
+        ensures new { IsNew result.runner result.ticker result.counts }
     {
         Run {
             executor: self,

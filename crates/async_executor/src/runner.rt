@@ -12,6 +12,7 @@ ghost use Rattle.call_steps.specs.declared.step.tick.TickStep.TheVariants as tic
 ghost use Rattle.call_steps.specs.declared.step.user.UserStep.TheVariants as user_step;
 ghost use Rattle.executor_parts.specs.declared.mark.Mark.TheVariants as mark;
 ghost use Rattle.async_executor.specs.Seeds.{seeded, words_after};
+ghost use Rattle.async_executor.specs.Making.{IsUnlisted};
 ghost use Rattle.async_executor.specs.OwnQueues.{listed};
 ghost use Rattle.async_executor.specs.Runs.{looked_own, looked_walking, poll_with, reads_length, runs, searched_by_run};
 ghost use Rattle.async_executor.specs.Runs.{stage_by, walked, walks};
@@ -73,6 +74,7 @@ impl Runner {
         unlocked: &mut Unlocked,
     ) -> Result<Runner, NoMemory>
         ensures words { IfOk result (λ runner. runner.words ≡ seeded seed) }
+        ensures unlisted { IfOk result (λ runner. IsUnlisted runner) }
         ensures own { IfOk result (λ runner. (arc_value runner.own).capacity ≡ Some 512) }
     {
         let Ok(own) = ConcurrentQueue::bounded(alloc, OWN_PLACES) else {

@@ -3,6 +3,7 @@ ghost use Rattle.std.specs.Prelude.{◌≡◌, ◌<◌, true, false, Some, IfOk,
 ghost use Rattle.std.specs.Arc.{arc_value};
 ghost use Rattle.async_executor.specs.Errors.{refused};
 ghost use Rattle.async_executor.specs.Foreign.{value_of};
+ghost use Rattle.async_executor.specs.Making.{IsNew};
 ghost use Rattle.async_executor.specs.Polls.{has_left};
 ghost use Rattle.async_executor.specs.Seeds.{seeded};
 
@@ -105,6 +106,7 @@ where
         ensures back { IfErr result (λ back. back ≡ future) }
         ensures future { IfOk result (λ run. value_of run.future ≡ Some future) }
         ensures words { IfOk result (λ run. run.runner.words ≡ seeded 0) }
+        ensures new { IfOk result (λ run. IsNew run.runner run.ticker run.counts) }
     {
         let steps = begun(Asked::NewRun);
         let (made, _last) = self
@@ -120,6 +122,7 @@ where
         ensures back { IfErr result (λ back. back ≡ future) }
         ensures future { IfOk result (λ run. value_of run.future ≡ Some future) }
         ensures words { IfOk result (λ run. run.runner.words ≡ seeded seed) }
+        ensures new { IfOk result (λ run. IsNew run.runner run.ticker run.counts) }
     {
         let steps = begun(Asked::NewRun);
         let (made, _last) = self

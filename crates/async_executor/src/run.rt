@@ -23,7 +23,7 @@ use crate::errors::RunError;
 use crate::foreign::Foreign;
 use crate::names::{ExStoredRunnable, ExWaker};
 use crate::runner::{Runner, Search};
-use crate::sleeping::call_waker;
+use crate::sleeping::call_kept;
 use crate::steps::Steps;
 use crate::task_name::{TaskName, name_given_to};
 use crate::ticker::{Slept, Ticker};
@@ -393,6 +393,7 @@ where
 }
 
 /// A run that has taken 200 tasks calls the waker of this name that it was polled with, and lets others go first.
+#[tactic(auto, using(crate::proofs::Calling::own_is_kept, crate::proofs::Calling::own_was_called))]
 fn give_way<T, W, R>(
     waker: &ExWaker<T, W, R>,
     name: &Waker<TaskName>,
@@ -403,18 +404,12 @@ where
     T: Drop + 'static,
     W: Wake + Drop + 'static,
     R: Wait + Copy + Drop + 'static,
-    requires { steps ≡ ran true name.now }
+    requires named { name.now ≡ name_given waker.now }
+    requires gives { steps ≡ ran true name.now }
     ensures { result ≡ reply.Pending }
 {
     let mut steps = steps;
-    call_waker(waker, unlocked);
-    match name {
-        Waker::Task(_) => steps.see_moved(false),
-        Waker::Outside => {
-            steps.follow(Saw::Outside);
-            steps.follow(Saw::Nothing);
-        }
-    }
+    call_kept(waker, name, &mut steps, unlocked);
     steps.end(Reply::Pending)
 }
 

@@ -3,6 +3,7 @@ ghost use Rattle.call_steps.specs.Seeing.{due};
 ghost use Rattle.call_steps.specs.Todo.{below, top};
 ghost use Rattle.call_steps.specs.declared.step.CallStep.TheVariants as step;
 ghost use Rattle.call_steps.specs.declared.step.tick.SleeperStep.TheVariants as sleeper_step;
+ghost use Rattle.async_executor.specs.Calling.{called_kept, CallsKept};
 ghost use Rattle.async_executor.specs.Copies.{IsCopyOf};
 ghost use Rattle.async_executor.specs.Steps.{name_given, name_of, of_handed, sleeper, sleeper_as};
 
@@ -120,13 +121,28 @@ impl<W: Wake + Drop + 'static> SleeperWaker<W> {
     }
 }
 
-/// Calls a waker that the caller keeps.
-pub fn call_waker<T, W, R>(waker: &ExWaker<T, W, R>, unlocked: &Unlocked)
+/// Calls a waker of this name that the caller keeps, with all that this leads to.
+pub fn call_kept<T, W, R>(
+    waker: &ExWaker<T, W, R>,
+    name: &Waker<TaskName>,
+    steps: &mut Steps,
+    unlocked: &Unlocked,
+)
 where
     T: Drop + 'static,
     W: Wake + Drop + 'static,
     R: Wait + Copy + Drop + 'static,
+    requires named { name.now ≡ name_given waker.now }
+    requires calls { CallsKept name.now steps.old }
+    ensures { steps.new ≡ called_kept name.now steps.old }
 {
     let _ = unlocked;
     waker.wake_by_ref();
+    match name {
+        Waker::Task(_) => steps.see_moved(false),
+        Waker::Outside => {
+            steps.follow(Saw::Outside);
+            steps.follow(Saw::Nothing);
+        }
+    }
 }

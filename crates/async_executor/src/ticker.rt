@@ -15,7 +15,7 @@ use crate::entry::Unlocked;
 use crate::flag::NewFlag;
 use crate::foreign::{Foreign, came_out};
 use crate::names::{ExRealm, ExWaker};
-use crate::sleeping::{SleeperWaker, call_waker};
+use crate::sleeping::{SleeperWaker, call_kept};
 use crate::state::State;
 use crate::steps::Steps;
 use crate::task_name::TaskName;
@@ -320,6 +320,7 @@ where
 }
 
 /// Calls the waker of this name that one was polled with, which can't be kept, at once.
+#[tactic(auto, using(crate::proofs::Calling::sleepers_is_kept, crate::proofs::Calling::sleepers_was_called))]
 fn call_at_once<T, W, R>(
     waker: &ExWaker<T, W, R>,
     name: &Waker<TaskName>,
@@ -331,18 +332,12 @@ where
     T: Drop + 'static,
     W: Wake + Drop + 'static,
     R: Wait + Copy + Drop + 'static,
-    requires { steps.old ≡ step.Tick (tick_step.CopyWaker (sleeping who.now name.now)) ∷ [] }
+    requires named { name.now ≡ name_given waker.now }
+    requires copies { steps.old ≡ step.Tick (tick_step.CopyWaker (sleeping who.now name.now)) ∷ [] }
     ensures { steps.new ≡ step.End reply.Pending ∷ [] }
 {
     let _ = who;
     steps.follow(Saw::Something);
     steps.follow(Saw::Nowhere);
-    call_waker(waker, unlocked);
-    match name {
-        Waker::Task(_) => steps.see_moved(false),
-        Waker::Outside => {
-            steps.follow(Saw::Outside);
-            steps.follow(Saw::Nothing);
-        }
-    }
+    call_kept(waker, name, steps, unlocked);
 }

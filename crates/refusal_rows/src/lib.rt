@@ -3,7 +3,7 @@
 #![tactic(auto)]
 
 mod kinds;
-mod own;
+mod memory;
 mod parts;
 mod polled;
 mod program;
@@ -11,7 +11,7 @@ mod report;
 mod rows;
 
 pub use kinds::{LONG, Many, ROWS, Row, Runs, Turn, Turns, play};
-pub use own::{bell, own};
+pub use memory::{bell, own};
 pub use parts::{Bell, Drops, Job, shown};
 pub use polled::{Polled, of_fallible, of_task, of_tick, poll_ended};
 pub use program::{spare_requests, spend, tell};

@@ -1,8 +1,7 @@
 //! A join of handles: what a poll of it answers that is refused. It is polled once more then, and goes on with the same.
-use crate::executors::{Ground, LIMIT, TestExecutor, TestWaker, owned};
-use crate::parts::{Bell, Job};
-use crate::report::{Call, Place, Report};
 use async_task::{Future, Poll, TaskError};
+use executor_refusals::{Ground, LIMIT, TestExecutor, TestWaker, owned};
+use refusal_rows::{Bell, Call, Job, Place, Report};
 use std::sync::Wait;
 use workers::JoinAll;
 

@@ -5,44 +5,25 @@
 //! `tools/refuse-memory` wants it. It prints which call was refused, and has status 1 where one gave a wrong answer.
 #![tactic(auto)]
 
-mod executors;
 mod joins;
-mod kinds;
-mod locals;
-mod machines;
-mod parts;
 mod program_runs;
-mod queues;
-mod report;
-mod rows;
-mod solos;
-mod tasks;
-mod timers;
-mod waits;
 
 use async_task::Awaiter;
-use executors::{Ground, TestRealm, try_executors};
+use executor_refusals::{Ground, TestRealm, try_executors};
 use jobs::{JobPlace, JobRealm, JobSite, Open};
 use joins::join;
-use local_executor::LocalExWaker;
-use locals::{LocalGround, try_locals};
-use machines::{MACHINE_ROWS, Machines};
-use parts::{Bell, Drops};
+use local_refusals::{try_locals, try_solos};
+use machine_refusals::try_machines;
 use program_runs::{SIM, TWO_JOBS, do_case};
-use queues::{QUEUE_ROWS, Queues};
-use report::{Call, Place, Refused, Report, Wrong};
-use rows::try_each;
-use solos::{SOLO_ROWS, Solos};
+use queue_refusals::{try_queues, try_waiting};
+use refusal_rows::{Call, Drops, Place, Report, bell, own, spare_requests, spend, tell};
 use std::alloc::{AllocGlobal, Global};
-use std::io::Read;
 use std::process::ExitCode;
 use std::random::RandomSource;
 use std::sync::Wait;
 use std::thread::Threads;
 use std::time::Clock;
-use tasks::{TASK_ROWS, TaskRealm, Tasks};
-use timers::sleep;
-use waits::wait;
+use task_refusals::{TaskRealm, try_tasks, try_timers};
 
 /// Where tasks lie.
 #[derive(Drop)]
@@ -62,15 +43,15 @@ fn main(rt: HostRuntime) -> ExitCode {
     for _ in 0..2 {
         if tasks.is_none() {
             tasks = TaskRealm::leak(rt, alloc).ok();
-            note(tasks.is_none(), Call::TaskRealm, &mut report);
+            report.note(Call::TaskRealm, tasks.is_none());
         }
         if executors.is_none() {
             executors = TestRealm::<HostRuntime>::leak(rt, alloc).ok();
-            note(executors.is_none(), Call::ExecutorRealm, &mut report);
+            report.note(Call::ExecutorRealm, executors.is_none());
         }
         if jobs.is_none() {
             jobs = JobRealm::<HostRuntime>::leak(rt, alloc).ok();
-            note(jobs.is_none(), Call::JobRealm, &mut report);
+            report.note(Call::JobRealm, jobs.is_none());
         }
     }
     let (Some(tasks), Some(executors), Some(jobs)) = (tasks, executors, jobs) else {
@@ -91,13 +72,6 @@ fn main(rt: HostRuntime) -> ExitCode {
     tell(&rt, &report)
 }
 
-/// Notes a call that was refused, where it was.
-fn note(is_refused: bool, call: Call, report: &mut Report) {
-    if is_refused {
-        report.is_refused(call);
-    }
-}
-
 /// Makes all calls, and says whether all was as it has to be. The last request for memory before the jobs is the program's own: so
 /// one that a call made which can't be refused would stand between those that were.
 fn try_all<P, R>(rt: R, alloc: Global, realms: &Realms<R>, report: &mut Report) -> bool
@@ -109,46 +83,17 @@ where
         return false;
     };
     let drops: &'static Drops = Box::leak(drops);
-    try_parts(rt, alloc, drops, report);
+    try_queues(rt, alloc, drops, report);
+    try_solos(rt, alloc, drops, report);
+    try_machines(alloc, report);
     try_tasks(rt, alloc, realms.tasks, drops, report)
         & try_shared(rt, alloc, realms.executors, drops, report)
-        & try_local(rt, alloc, drops, report)
-        & wait(rt, alloc, report)
-        & sleep(rt, alloc, report)
+        & try_locals(rt, alloc, drops, report)
+        & try_waiting(rt, alloc, report)
+        & try_timers(rt, alloc, report)
         & do_case::<P, R>(rt, alloc, realms.jobs, SIM, report)
         & own::<u64>(alloc, report).is_some()
         & do_case::<P, R>(rt, alloc, realms.jobs, TWO_JOBS, report)
-}
-
-/// Queues, the executor of one owner and the step machine.
-fn try_parts<R: Wait + Copy + Drop>(
-    rt: R,
-    alloc: Global,
-    drops: &'static Drops,
-    report: &mut Report,
-) {
-    report.come_to(Place::Queue);
-    try_each(&mut Queues::new(rt, alloc, drops), QUEUE_ROWS, report);
-    report.come_to(Place::Solo);
-    try_each(&mut Solos::new(rt, alloc, drops), SOLO_ROWS, report);
-    report.come_to(Place::Machine);
-    try_each(&mut Machines::new(alloc), MACHINE_ROWS, report);
-}
-
-fn try_tasks<R: Wait + Copy + Drop + 'static>(
-    rt: R,
-    alloc: Global,
-    realm: &'static TaskRealm,
-    drops: &'static Drops,
-    report: &mut Report,
-) -> bool {
-    let Some(bell) = bell(alloc, report) else {
-        return false;
-    };
-    let waker = Awaiter::Outside(bell);
-    report.come_to(Place::Task);
-    try_each(&mut Tasks::new(rt, realm, &waker, drops), TASK_ROWS, report);
-    true
 }
 
 fn try_shared<R: Wait + Copy + Drop + 'static>(
@@ -170,87 +115,4 @@ fn try_shared<R: Wait + Copy + Drop + 'static>(
         drops,
     };
     try_executors(&ground, report) & join(&ground, report)
-}
-
-fn try_local<R: RandomSource + Wait + Copy + Drop + 'static>(
-    rt: R,
-    alloc: Global,
-    drops: &'static Drops,
-    report: &mut Report,
-) -> bool {
-    let Some(bell) = bell(alloc, report) else {
-        return false;
-    };
-    let waker = LocalExWaker::Outside(bell);
-    let ground = LocalGround {
-        rt,
-        alloc,
-        waker: &waker,
-        drops,
-    };
-    try_locals(&ground, report)
-}
-
-/// Memory of the program's own, which none of the calls asks for.
-fn own<T: Default + Drop>(alloc: Global, report: &mut Report) -> Option<Box<T>> {
-    for _ in 0..2 {
-        match Box::new(alloc, T::default()) {
-            Ok(memory) => return Some(memory),
-            Err(_) => report.is_refused(Call::Own),
-        }
-    }
-    None
-}
-
-/// A waker from outside.
-fn bell(alloc: Global, report: &mut Report) -> Option<Bell> {
-    match own::<u64>(alloc, report) {
-        Some(memory) => Some(Bell { alloc, memory }),
-        None => None,
-    }
-}
-
-/// Prints which call was refused, and what was wrong first. A failure where something was, or that can't be printed.
-fn tell<R: Print>(rt: &R, report: &Report) -> ExitCode {
-    let printed = match report.refused() {
-        None => println!(rt; "refused: nothing"),
-        Some(
-            Refused {
-                place: _,
-                call: Call::Own,
-            },
-        ) => println!(rt; "refused: {}", Call::Own),
-        Some(Refused { place, call }) => println!(rt; "refused: {place}: {call}"),
-    };
-    if let Some(Wrong { place, row }) = report.wrong() {
-        let _ = println!(rt; "wrong: {place}: row {row}");
-        return ExitCode::FAILURE;
-    }
-    if printed.is_err() {
-        return ExitCode::FAILURE;
-    }
-    ExitCode::SUCCESS
-}
-
-/// The number that standard input begins with, of three digits at most.
-fn spare_requests<R: Input>(rt: &R) -> u64 {
-    let mut line = [0; 3];
-    let mut number = 0u64;
-    if rt.reader().read(&mut line).is_ok() {
-        for byte in line {
-            if byte.is_ascii_digit() {
-                number = number
-                    .saturating_mul(10)
-                    .saturating_add((byte - b'0') as u64);
-            }
-        }
-    }
-    number
-}
-
-/// Makes so many requests for memory, and gives it back.
-fn spend(alloc: Global, requests: u64) {
-    for _ in 0..requests {
-        drop(Box::new(alloc, 0u8));
-    }
 }

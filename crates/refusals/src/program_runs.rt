@@ -1,8 +1,8 @@
 //! What `taskrun` does with these words on this input: `jobs 2` on two jobs, and `sim` on a short script. One request for memory
 //! may be refused meanwhile: then the fault is want of memory or of threads, its status 3, and nothing was written.
-use crate::report::{Call, Place, Report};
 use commands::program::program;
 use jobs::{JobRealm, JobSite, Open};
+use refusal_rows::{Call, Place, Report};
 use std::alloc::{AllocError, Global};
 use std::sync::Wait;
 use std::thread::Threads;

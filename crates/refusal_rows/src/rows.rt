@@ -1,5 +1,4 @@
 //! What one loop does with each row: it makes a call, and where that is refused it sees that all is as before, and makes it again.
-use crate::kinds::Polled;
 use crate::report::{Call, Report};
 
 /// How a call ended.
@@ -56,14 +55,5 @@ pub fn try_each<T: Trial>(trial: &mut T, rows: &[T::Row], report: &mut Report) {
             ended = trial.make(*row);
         }
         report.expect(matches!(ended, Ended::Well));
-    }
-}
-
-/// Whether a poll ended so, if it wasn't refused.
-pub fn poll_ended(polled: Option<Polled>, wanted: Polled) -> Ended {
-    match polled {
-        Some(Polled::Refused) => Ended::Refused,
-        Some(polled) => Ended::of(polled == wanted),
-        None => Ended::Wrong,
     }
 }

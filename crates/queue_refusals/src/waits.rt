@@ -1,14 +1,14 @@
 //! Each call of `waiting` that takes memory: what a refusal of it answers. The call is made once more then. Calls that take none
 //! stand between them.
-use crate::report::{Call, Place, Report};
 use async_task::{Future, Nobody, Poll};
+use refusal_rows::{Call, Place, Report};
 use std::alloc::Global;
 use std::sync::Wait;
 use waiting::channel::{self, Receiver, RecvError, SendError, Sender};
 use waiting::{Event, oneshot};
 
 /// Makes each call, and says whether all was as it has to be.
-pub fn wait<R: Wait + Copy + Drop>(rt: R, alloc: Global, report: &mut Report) -> bool {
+pub fn try_waiting<R: Wait + Copy + Drop>(rt: R, alloc: Global, report: &mut Report) -> bool {
     report.come_to(Place::Waiting);
     listen(rt, alloc, report) & hand_over(rt, alloc, report) & exchange(rt, alloc, report)
 }

@@ -1,20 +1,8 @@
 //! What all kinds of executors have in common, and the rows of calls on one.
 use crate::parts::Job;
+use crate::polled::{Polled, poll_ended};
 use crate::report::{Call, Report};
-use crate::rows::{Ended, Look, Trial, poll_ended, try_each};
-
-/// How a poll ended.
-#[derive(Clone, Copy, PartialEq, Eq)]
-pub enum Polled {
-    Pending,
-    /// It gave this number; a tick gives 0.
-    Gave(u64),
-    /// The task is closed.
-    Closed,
-    Refused,
-    /// A run that gave its output before.
-    Finished,
-}
+use crate::rows::{Ended, Look, Trial, try_each};
 
 /// What came of a spawn of many: how many were accepted, the name of the one that came back, and of the next in the iterator.
 #[derive(Drop)]

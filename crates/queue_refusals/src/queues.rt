@@ -1,15 +1,13 @@
 //! Queues: shared ones and those of one owner.
-use crate::parts::{Drops, Job};
-use crate::report::Call;
-use crate::rows::{Ended, Look, Trial};
 use concurrent_queue::{ConcurrentQueue, Exclusive, ForcePushError, NoMemory, PushError};
+use refusal_rows::{Call, Drops, Ended, Job, Look, Place, Report, Trial, try_each};
 use std::alloc::Global;
 use std::sync::Wait;
 use std::sync::atomic::Ordering::SeqCst;
 
 /// A call on a queue.
 #[derive(Clone, Copy)]
-pub enum QueueRow {
+enum QueueRow {
     /// A new shared queue of one place.
     Slot,
     /// A new shared queue of a few places.
@@ -29,7 +27,7 @@ pub enum QueueRow {
 }
 
 /// What is made of queues. A chain takes memory for each 31 items.
-pub const QUEUE_ROWS: &[QueueRow] = &[
+const QUEUE_ROWS: &[QueueRow] = &[
     QueueRow::Slot,
     QueueRow::Push,
     QueueRow::Pops(1),
@@ -63,6 +61,17 @@ pub const QUEUE_ROWS: &[QueueRow] = &[
     QueueRow::Pops(32),
 ];
 
+/// Makes these calls.
+pub fn try_queues<R: Wait + Copy + Drop>(
+    rt: R,
+    alloc: Global,
+    drops: &'static Drops,
+    report: &mut Report,
+) {
+    report.come_to(Place::Queue);
+    try_each(&mut Queues::new(rt, alloc, drops), QUEUE_ROWS, report);
+}
+
 #[derive(Drop)]
 enum Kept {
     Shared(ConcurrentQueue<Job>),
@@ -71,7 +80,7 @@ enum Kept {
 
 /// A queue, and the names of those that went in and came out.
 #[derive(Drop)]
-pub struct Queues<R> {
+struct Queues<R> {
     rt: R,
     alloc: Global,
     drops: &'static Drops,
@@ -83,7 +92,7 @@ pub struct Queues<R> {
 }
 
 impl<R: Wait + Copy + Drop> Queues<R> {
-    pub fn new(rt: R, alloc: Global, drops: &'static Drops) -> Queues<R> {
+    fn new(rt: R, alloc: Global, drops: &'static Drops) -> Queues<R> {
         Queues {
             rt,
             alloc,

@@ -170,6 +170,13 @@ impl Report {
         self.wrong
     }
 
+    /// This call was refused, where it was.
+    pub fn note(&mut self, call: Call, is_refused: bool) {
+        if is_refused {
+            self.is_refused(call);
+        }
+    }
+
     /// This call was refused, which is right where no other was: one request is refused in all.
     pub fn is_refused(&mut self, call: Call) {
         let is_first = self.refused.is_none();

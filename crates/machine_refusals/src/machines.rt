@@ -1,13 +1,12 @@
 //! The step machine.
-use crate::report;
-use crate::rows::{Ended, Look, Trial};
 use executor_core::{Kind, Machine};
 use executor_model::{Answer, By, Call, Hint, Mark, Step, StepError, UserEnd};
+use refusal_rows::{Ended, Look, Place, Report, Trial, try_each};
 use std::alloc::Global;
 
 /// A call on it.
 #[derive(Clone, Copy)]
-pub enum MachineRow {
+enum MachineRow {
     /// A new one of one place and two parties.
     New(Kind),
     /// The first party begins a call.
@@ -22,7 +21,7 @@ pub enum MachineRow {
 
 /// What is made of one that isn't static and of one that is: a future is spawned and polled, its handle is polled before; then
 /// a tick and a run are made and polled.
-pub const MACHINE_ROWS: &[MachineRow] = &[
+const MACHINE_ROWS: &[MachineRow] = &[
     MachineRow::New(Kind::Static),
     MachineRow::Begin(Call::Spawn(Mark::Plain)),
     MachineRow::Go,
@@ -53,15 +52,21 @@ pub const MACHINE_ROWS: &[MachineRow] = &[
     MachineRow::Finish,
 ];
 
+/// Makes these calls.
+pub fn try_machines(alloc: Global, report: &mut Report) {
+    report.come_to(Place::Machine);
+    try_each(&mut Machines::new(alloc), MACHINE_ROWS, report);
+}
+
 /// A machine.
 #[derive(Drop)]
-pub struct Machines {
+struct Machines {
     alloc: Global,
     machine: Option<Machine>,
 }
 
 impl Machines {
-    pub fn new(alloc: Global) -> Machines {
+    fn new(alloc: Global) -> Machines {
         Machines {
             alloc,
             machine: None,
@@ -103,10 +108,10 @@ const GO: Step = Step::Go {
 impl Trial for Machines {
     type Row = MachineRow;
 
-    fn name(&self, row: MachineRow) -> report::Call {
+    fn name(&self, row: MachineRow) -> refusal_rows::Call {
         match row {
-            MachineRow::New(_) => report::Call::New,
-            _ => report::Call::Step,
+            MachineRow::New(_) => refusal_rows::Call::New,
+            _ => refusal_rows::Call::Step,
         }
     }
 

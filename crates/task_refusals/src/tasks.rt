@@ -1,13 +1,13 @@
 //! Tasks without an executor.
-use crate::executors::{of_fallible, of_task};
-use crate::kinds::Polled;
-use crate::parts::{Bell, Drops, Job};
-use crate::report::Call;
-use crate::rows::{Ended, Look, Trial, poll_ended};
 use async_task::{
     Awaiter, Builder, Cancel, FallibleTask, Future, Parts, Realm, Returning, Runnable, Schedule,
     ScheduleInfo, Scheduled, Task, spawn,
 };
+use refusal_rows::{
+    Bell, Call, Drops, Ended, Job, Look, Place, Polled, Report, Trial, bell, of_fallible, of_task,
+    poll_ended, try_each,
+};
+use std::alloc::Global;
 use std::sync::Wait;
 use std::sync::atomic::Ordering::SeqCst;
 
@@ -30,11 +30,11 @@ type TestRunnable<R> = Runnable<Job, u64, Close, (), Bell, R>;
 
 type TestTask<R> = Task<Job, u64, Close, (), Bell, R>;
 
-pub type TaskAwaiter<R> = Awaiter<Job, u64, Close, (), Bell, R>;
+type TaskAwaiter<R> = Awaiter<Job, u64, Close, (), Bell, R>;
 
 /// A call on a task.
 #[derive(Clone, Copy)]
-pub enum TaskRow {
+enum TaskRow {
     /// A task of this name, by `spawn`.
     Spawn(u64),
     /// By a `Builder`.
@@ -50,7 +50,7 @@ pub enum TaskRow {
 }
 
 /// What is made of tasks. The second has a place of its own, as the first is there.
-pub const TASK_ROWS: &[TaskRow] = &[
+const TASK_ROWS: &[TaskRow] = &[
     TaskRow::Spawn(1),
     TaskRow::Build(2),
     TaskRow::Fallible,
@@ -73,6 +73,23 @@ pub const TASK_ROWS: &[TaskRow] = &[
     TaskRow::Drop,
 ];
 
+/// Makes these calls, and says whether there was memory for a waker from outside.
+pub fn try_tasks<R: Wait + Copy + Drop + 'static>(
+    rt: R,
+    alloc: Global,
+    realm: &'static TaskRealm,
+    drops: &'static Drops,
+    report: &mut Report,
+) -> bool {
+    let Some(bell) = bell(alloc, report) else {
+        return false;
+    };
+    let waker = Awaiter::Outside(bell);
+    report.come_to(Place::Task);
+    try_each(&mut Tasks::new(rt, realm, &waker, drops), TASK_ROWS, report);
+    true
+}
+
 #[derive(Drop)]
 enum Kept<R: Wait + Copy + Drop + 'static> {
     Task(TestTask<R>),
@@ -82,7 +99,7 @@ enum Kept<R: Wait + Copy + Drop + 'static> {
 
 /// A task: its Runnable and its handle.
 #[derive(Drop)]
-pub struct Tasks<'a, R: Wait + Copy + Drop + 'static> {
+struct Tasks<'a, R: Wait + Copy + Drop + 'static> {
     rt: R,
     realm: &'static TaskRealm,
     waker: &'a TaskAwaiter<R>,
@@ -94,7 +111,7 @@ pub struct Tasks<'a, R: Wait + Copy + Drop + 'static> {
 }
 
 impl<'a, R: Wait + Copy + Drop + 'static> Tasks<'a, R> {
-    pub fn new(
+    fn new(
         rt: R,
         realm: &'static TaskRealm,
         waker: &'a TaskAwaiter<R>,

@@ -1,47 +1,46 @@
-//! Executors that threads share.
-use crate::kinds::{LONG, Many, Polled, ROWS, Row, Runs, Turn, Turns, play};
-use crate::parts::{Bell, Drops, Job, shown};
-use crate::report::{Call, Place, Report};
-use async_executor::{
-    ExCancel, ExFallible, ExRealm, ExTask, ExWaker, Executor, NoMemory, Run, RunError, SpawnError,
-    StaticExecutor, Tick,
+//! Executors of one thread.
+use async_task::{Future, Poll};
+use local_executor::{
+    LocalCancel, LocalExWaker, LocalExecutor, LocalFallible, LocalHandle, LocalRun, LocalTick,
+    RunError, SpawnError, StaticLocalExecutor,
 };
-use async_task::{Future, Poll, TaskError};
+use refusal_rows::{
+    Bell, Call, Drops, Job, LONG, Many, Place, Polled, ROWS, Report, Row, Runs, Turn, Turns, bell,
+    of_fallible, of_task, of_tick, play, shown,
+};
 use std::alloc::Global;
+use std::random::RandomSource;
 use std::sync::Wait;
 use std::sync::atomic::Ordering::SeqCst;
 
 /// How many places an executor has.
-pub const LIMIT: usize = 12;
+const LIMIT: usize = 4;
 
-pub type TestRealm<R> = ExRealm<u64, Bell, R>;
+type TestWaker<R> = LocalExWaker<Bell, R>;
 
-pub type TestWaker<R> = ExWaker<u64, Bell, R>;
+type TestExecutor<R> = LocalExecutor<Job, u64, Bell, R>;
 
-pub type TestExecutor<R> = Executor<Job, u64, Bell, R>;
+type TestStatic<R> = StaticLocalExecutor<Job, u64, Bell, R>;
 
-type TestStatic<R> = StaticExecutor<Job, u64, Bell, R>;
+type TestTick<'a, R> = LocalTick<'a, Job, u64, Bell, R>;
 
-type TestTick<'a, R> = Tick<'a, Job, u64, Bell, R>;
-
-type TestRun<'a, R> = Run<'a, Job, u64, Bell, R, Job>;
+type TestRun<'a, R> = LocalRun<'a, Job, u64, Bell, R, Job>;
 
 /// What the program's executors are made with.
 #[derive(Drop)]
-pub struct Ground<'a, R: Wait + Copy + Drop + 'static> {
-    pub rt: R,
-    pub alloc: Global,
-    pub realm: &'static TestRealm<R>,
-    pub waker: &'a TestWaker<R>,
-    pub drops: &'static Drops,
+struct Ground<'a, R: Wait + Copy + Drop + 'static> {
+    rt: R,
+    alloc: Global,
+    waker: &'a TestWaker<R>,
+    drops: &'static Drops,
 }
 
 /// A handle.
 #[derive(Drop)]
-pub enum Handle<R: Wait + Copy + Drop + 'static> {
-    Task(ExTask<u64, Bell, R>),
-    Fallible(ExFallible<u64, Bell, R>),
-    Cancel(ExCancel<u64, Bell, R>),
+enum Handle<R: Wait + Copy + Drop + 'static> {
+    Task(LocalHandle<u64, Bell, R>),
+    Fallible(LocalFallible<u64, Bell, R>),
+    Cancel(LocalCancel<u64, Bell, R>),
 }
 
 impl<R: Wait + Copy + Drop + 'static> Handle<R> {
@@ -60,40 +59,11 @@ impl<R: Wait + Copy + Drop + 'static> Turns for Handle<R> {
             (Handle::Task(task), Turn::Fallible) => Some(Handle::Fallible(task.fallible())),
             (Handle::Task(task), Turn::Cancel) => Some(Handle::Cancel(task.cancel())),
             (Handle::Task(task), Turn::Detach) => {
-                drop(task.detach());
+                task.detach();
                 None
             }
             _ => None,
         }
-    }
-}
-
-/// What a poll of a handle ends with.
-pub fn of_task(polled: Poll<Result<u64, TaskError>>) -> Polled {
-    match polled {
-        Poll::Pending => Polled::Pending,
-        Poll::Ready(Ok(number)) => Polled::Gave(number),
-        Poll::Ready(Err(TaskError::TaskClosed)) => Polled::Closed,
-        Poll::Ready(Err(TaskError::NoMemory)) => Polled::Refused,
-    }
-}
-
-/// What a poll of a handle ends with whose closing is no error.
-pub fn of_fallible(polled: Poll<Result<Option<u64>, NoMemory>>) -> Polled {
-    match polled {
-        Poll::Pending => Polled::Pending,
-        Poll::Ready(Ok(Some(number))) => Polled::Gave(number),
-        Poll::Ready(Ok(None)) => Polled::Closed,
-        Poll::Ready(Err(NoMemory)) => Polled::Refused,
-    }
-}
-
-/// What a poll of a tick ends with.
-pub fn of_tick(polled: Poll<Result<(), NoMemory>>) -> Polled {
-    match polled {
-        Poll::Pending => Polled::Pending,
-        Poll::Ready(Ok(())) => Polled::Gave(0),
-        Poll::Ready(Err(NoMemory)) => Polled::Refused,
     }
 }
 
@@ -108,6 +78,7 @@ enum OneOf<'a, R: Wait + Copy + Drop + 'static> {
 #[derive(Drop)]
 struct OnExecutor<'a, 'w, R: Wait + Copy + Drop + 'static> {
     executor: OneOf<'a, R>,
+    alloc: Global,
     waker: &'w TestWaker<R>,
     drops: &'static Drops,
 }
@@ -141,7 +112,7 @@ where
 
     fn spawn_many(&self, from: u64, end: u64) -> Option<Many> {
         match &self.executor {
-            OneOf::Owned(executor) => Some(many(executor, from, end, self.drops)),
+            OneOf::Owned(executor) => Some(many(executor, self.alloc, from, end, self.drops)),
             OneOf::Static(_) => None,
         }
     }
@@ -226,6 +197,7 @@ where
 /// Spawns jobs of these names and drops their handles.
 fn many<R: Wait + Copy + Drop + 'static>(
     executor: &TestExecutor<R>,
+    alloc: Global,
     from: u64,
     end: u64,
     drops: &'static Drops,
@@ -235,7 +207,8 @@ fn many<R: Wait + Copy + Drop + 'static>(
         wakes: 0,
         drops,
     });
-    let (handles, refused) = executor.spawn_many(&mut jobs);
+    let mut handles = Vec::new(alloc);
+    let refused = executor.spawn_many(&mut jobs, &mut handles);
     let accepted = handles.len() as u64;
     let back = match refused {
         Ok(()) => None,
@@ -259,6 +232,7 @@ fn on<'a, 'w, R: Wait + Copy + Drop + 'static>(
 ) -> OnExecutor<'a, 'w, R> {
     OnExecutor {
         executor,
+        alloc: ground.alloc,
         waker: ground.waker,
         drops: ground.drops,
     }
@@ -293,45 +267,65 @@ fn leave<R: Wait + Copy + Drop + 'static>(
 }
 
 /// An executor, which is made once more where that is refused.
-pub fn owned<R: Wait + Copy + Drop + 'static>(
+fn owned<R: RandomSource + Wait + Copy + Drop + 'static>(
     ground: &Ground<'_, R>,
     report: &mut Report,
 ) -> Option<TestExecutor<R>> {
     for _ in 0..2 {
-        match Executor::new(ground.rt, ground.alloc, ground.realm, LIMIT) {
+        match LocalExecutor::new(ground.rt, ground.alloc, LIMIT) {
             Ok(executor) => return Some(executor),
-            Err(NoMemory) => report.is_refused(Call::New),
+            Err(_) => report.is_refused(Call::New),
         }
     }
     None
 }
 
 /// A static one.
-fn lasting<R: Wait + Copy + Drop + 'static>(
+fn lasting<R: RandomSource + Wait + Copy + Drop + 'static>(
     ground: &Ground<'_, R>,
     report: &mut Report,
 ) -> Option<TestStatic<R>> {
     for _ in 0..2 {
-        match StaticExecutor::new(ground.rt, ground.alloc, ground.realm, LIMIT) {
+        match StaticLocalExecutor::new(ground.rt, ground.alloc, LIMIT) {
             Ok(executor) => return Some(executor),
-            Err(NoMemory) => report.is_refused(Call::New),
+            Err(_) => report.is_refused(Call::New),
         }
     }
     None
 }
 
+/// Makes all calls, by a waker from outside.
+pub fn try_locals<R: RandomSource + Wait + Copy + Drop + 'static>(
+    rt: R,
+    alloc: Global,
+    drops: &'static Drops,
+    report: &mut Report,
+) -> bool {
+    let Some(bell) = bell(alloc, report) else {
+        return false;
+    };
+    let waker = LocalExWaker::Outside(bell);
+    let ground = Ground {
+        rt,
+        alloc,
+        waker: &waker,
+        drops,
+    };
+    try_both(&ground, report)
+}
+
 /// Makes all calls on a static executor, and on one that is not: that is leaked with a future in it, which goes on; another is
 /// dropped with a future in it, whose task is closed.
-pub fn try_executors<R: Wait + Copy + Drop + 'static>(
+fn try_both<R: RandomSource + Wait + Copy + Drop + 'static>(
     ground: &Ground<'_, R>,
     report: &mut Report,
 ) -> bool {
-    report.come_to(Place::StaticExecutor);
+    report.come_to(Place::StaticLocalExecutor);
     let Some(executor) = lasting(ground, report) else {
         return false;
     };
     play(on(ground, OneOf::Static(&executor)), ROWS, report);
-    report.come_to(Place::Executor);
+    report.come_to(Place::LocalExecutor);
     let Some(executor) = owned(ground, report) else {
         return false;
     };
@@ -348,7 +342,10 @@ pub fn try_executors<R: Wait + Copy + Drop + 'static>(
 }
 
 /// An executor is dropped with a future in it.
-fn ends<R: Wait + Copy + Drop + 'static>(ground: &Ground<'_, R>, report: &mut Report) -> bool {
+fn ends<R: RandomSource + Wait + Copy + Drop + 'static>(
+    ground: &Ground<'_, R>,
+    report: &mut Report,
+) -> bool {
     let Some(executor) = owned(ground, report) else {
         return false;
     };

@@ -1,7 +1,5 @@
 //! The executor of one owner.
-use crate::parts::{Drops, Job};
-use crate::report::Call;
-use crate::rows::{Ended, Look, Trial};
+use refusal_rows::{Call, Drops, Ended, Job, Look, Place, Report, Trial, try_each};
 use solo::{Dropped, Kind, Mark, RunLeft, Solo, SpawnError, Spawned, Told};
 use std::alloc::Global;
 use std::sync::Wait;
@@ -9,7 +7,7 @@ use std::sync::atomic::Ordering::SeqCst;
 
 /// A call on it.
 #[derive(Clone, Copy)]
-pub enum SoloRow {
+enum SoloRow {
     /// A new one of four places.
     New(Kind),
     Spawn,
@@ -20,7 +18,7 @@ pub enum SoloRow {
 }
 
 /// What is made of one that isn't static and of one that is.
-pub const SOLO_ROWS: &[SoloRow] = &[
+const SOLO_ROWS: &[SoloRow] = &[
     SoloRow::New(Kind::Owned),
     SoloRow::Spawn,
     SoloRow::Tick,
@@ -32,9 +30,20 @@ pub const SOLO_ROWS: &[SoloRow] = &[
     SoloRow::Run,
 ];
 
+/// Makes these calls.
+pub fn try_solos<R: Wait + Copy + Drop>(
+    rt: R,
+    alloc: Global,
+    drops: &'static Drops,
+    report: &mut Report,
+) {
+    report.come_to(Place::Solo);
+    try_each(&mut Solos::new(rt, alloc, drops), SOLO_ROWS, report);
+}
+
 /// An executor of one owner, and what was handed out.
 #[derive(Drop)]
-pub struct Solos<R> {
+struct Solos<R> {
     rt: R,
     alloc: Global,
     drops: &'static Drops,
@@ -44,7 +53,7 @@ pub struct Solos<R> {
 }
 
 impl<R: Wait + Copy + Drop> Solos<R> {
-    pub fn new(rt: R, alloc: Global, drops: &'static Drops) -> Solos<R> {
+    fn new(rt: R, alloc: Global, drops: &'static Drops) -> Solos<R> {
         Solos {
             rt,
             alloc,

@@ -1,50 +1,52 @@
-//! Executors of one thread.
-use crate::executors::{of_fallible, of_task, of_tick};
-use crate::kinds::{LONG, Many, Polled, ROWS, Row, Runs, Turn, Turns, play};
-use crate::parts::{Bell, Drops, Job, shown};
-use crate::report::{Call, Place, Report};
+//! Executors that threads share.
+use async_executor::{
+    ExCancel, ExFallible, ExRealm, ExTask, ExWaker, Executor, NoMemory, Run, RunError, SpawnError,
+    StaticExecutor, Tick,
+};
 use async_task::{Future, Poll};
-use local_executor::{
-    LocalCancel, LocalExWaker, LocalExecutor, LocalFallible, LocalHandle, LocalRun, LocalTick,
-    RunError, SpawnError, StaticLocalExecutor,
+use refusal_rows::{
+    Bell, Call, Drops, Job, LONG, Many, Place, Polled, ROWS, Report, Row, Runs, Turn, Turns,
+    of_fallible, of_task, of_tick, play, shown,
 };
 use std::alloc::Global;
-use std::random::RandomSource;
 use std::sync::Wait;
 use std::sync::atomic::Ordering::SeqCst;
 
 /// How many places an executor has.
-const LIMIT: usize = 4;
+pub const LIMIT: usize = 12;
 
-pub type TestLocalWaker<R> = LocalExWaker<Bell, R>;
+pub type TestRealm<R> = ExRealm<u64, Bell, R>;
 
-type TestExecutor<R> = LocalExecutor<Job, u64, Bell, R>;
+pub type TestWaker<R> = ExWaker<u64, Bell, R>;
 
-type TestStatic<R> = StaticLocalExecutor<Job, u64, Bell, R>;
+pub type TestExecutor<R> = Executor<Job, u64, Bell, R>;
 
-type TestTick<'a, R> = LocalTick<'a, Job, u64, Bell, R>;
+type TestStatic<R> = StaticExecutor<Job, u64, Bell, R>;
 
-type TestRun<'a, R> = LocalRun<'a, Job, u64, Bell, R, Job>;
+type TestTick<'a, R> = Tick<'a, Job, u64, Bell, R>;
+
+type TestRun<'a, R> = Run<'a, Job, u64, Bell, R, Job>;
 
 /// What the program's executors are made with.
 #[derive(Drop)]
-pub struct LocalGround<'a, R: Wait + Copy + Drop + 'static> {
+pub struct Ground<'a, R: Wait + Copy + Drop + 'static> {
     pub rt: R,
     pub alloc: Global,
-    pub waker: &'a TestLocalWaker<R>,
+    pub realm: &'static TestRealm<R>,
+    pub waker: &'a TestWaker<R>,
     pub drops: &'static Drops,
 }
 
 /// A handle.
 #[derive(Drop)]
-pub enum Handle<R: Wait + Copy + Drop + 'static> {
-    Task(LocalHandle<u64, Bell, R>),
-    Fallible(LocalFallible<u64, Bell, R>),
-    Cancel(LocalCancel<u64, Bell, R>),
+enum Handle<R: Wait + Copy + Drop + 'static> {
+    Task(ExTask<u64, Bell, R>),
+    Fallible(ExFallible<u64, Bell, R>),
+    Cancel(ExCancel<u64, Bell, R>),
 }
 
 impl<R: Wait + Copy + Drop + 'static> Handle<R> {
-    fn poll(&mut self, waker: &TestLocalWaker<R>) -> Polled {
+    fn poll(&mut self, waker: &TestWaker<R>) -> Polled {
         match self {
             Handle::Task(task) => of_task(task.poll(waker)),
             Handle::Fallible(task) => of_fallible(task.poll(waker)),
@@ -59,7 +61,7 @@ impl<R: Wait + Copy + Drop + 'static> Turns for Handle<R> {
             (Handle::Task(task), Turn::Fallible) => Some(Handle::Fallible(task.fallible())),
             (Handle::Task(task), Turn::Cancel) => Some(Handle::Cancel(task.cancel())),
             (Handle::Task(task), Turn::Detach) => {
-                task.detach();
+                drop(task.detach());
                 None
             }
             _ => None,
@@ -78,8 +80,7 @@ enum OneOf<'a, R: Wait + Copy + Drop + 'static> {
 #[derive(Drop)]
 struct OnExecutor<'a, 'w, R: Wait + Copy + Drop + 'static> {
     executor: OneOf<'a, R>,
-    alloc: Global,
-    waker: &'w TestLocalWaker<R>,
+    waker: &'w TestWaker<R>,
     drops: &'static Drops,
 }
 
@@ -112,7 +113,7 @@ where
 
     fn spawn_many(&self, from: u64, end: u64) -> Option<Many> {
         match &self.executor {
-            OneOf::Owned(executor) => Some(many(executor, self.alloc, from, end, self.drops)),
+            OneOf::Owned(executor) => Some(many(executor, from, end, self.drops)),
             OneOf::Static(_) => None,
         }
     }
@@ -197,7 +198,6 @@ where
 /// Spawns jobs of these names and drops their handles.
 fn many<R: Wait + Copy + Drop + 'static>(
     executor: &TestExecutor<R>,
-    alloc: Global,
     from: u64,
     end: u64,
     drops: &'static Drops,
@@ -207,8 +207,7 @@ fn many<R: Wait + Copy + Drop + 'static>(
         wakes: 0,
         drops,
     });
-    let mut handles = Vec::new(alloc);
-    let refused = executor.spawn_many(&mut jobs, &mut handles);
+    let (handles, refused) = executor.spawn_many(&mut jobs);
     let accepted = handles.len() as u64;
     let back = match refused {
         Ok(()) => None,
@@ -227,12 +226,11 @@ fn many<R: Wait + Copy + Drop + 'static>(
 
 /// An executor to make calls on.
 fn on<'a, 'w, R: Wait + Copy + Drop + 'static>(
-    ground: &LocalGround<'w, R>,
+    ground: &Ground<'w, R>,
     executor: OneOf<'a, R>,
 ) -> OnExecutor<'a, 'w, R> {
     OnExecutor {
         executor,
-        alloc: ground.alloc,
         waker: ground.waker,
         drops: ground.drops,
     }
@@ -240,7 +238,7 @@ fn on<'a, 'w, R: Wait + Copy + Drop + 'static>(
 
 /// The handle of a future that is left in an executor, polled once.
 fn leave<R: Wait + Copy + Drop + 'static>(
-    ground: &LocalGround<'_, R>,
+    ground: &Ground<'_, R>,
     executor: &TestExecutor<R>,
     report: &mut Report,
 ) -> Option<Handle<R>> {
@@ -267,28 +265,28 @@ fn leave<R: Wait + Copy + Drop + 'static>(
 }
 
 /// An executor, which is made once more where that is refused.
-fn owned<R: RandomSource + Wait + Copy + Drop + 'static>(
-    ground: &LocalGround<'_, R>,
+pub fn owned<R: Wait + Copy + Drop + 'static>(
+    ground: &Ground<'_, R>,
     report: &mut Report,
 ) -> Option<TestExecutor<R>> {
     for _ in 0..2 {
-        match LocalExecutor::new(ground.rt, ground.alloc, LIMIT) {
+        match Executor::new(ground.rt, ground.alloc, ground.realm, LIMIT) {
             Ok(executor) => return Some(executor),
-            Err(_) => report.is_refused(Call::New),
+            Err(NoMemory) => report.is_refused(Call::New),
         }
     }
     None
 }
 
 /// A static one.
-fn lasting<R: RandomSource + Wait + Copy + Drop + 'static>(
-    ground: &LocalGround<'_, R>,
+fn lasting<R: Wait + Copy + Drop + 'static>(
+    ground: &Ground<'_, R>,
     report: &mut Report,
 ) -> Option<TestStatic<R>> {
     for _ in 0..2 {
-        match StaticLocalExecutor::new(ground.rt, ground.alloc, LIMIT) {
+        match StaticExecutor::new(ground.rt, ground.alloc, ground.realm, LIMIT) {
             Ok(executor) => return Some(executor),
-            Err(_) => report.is_refused(Call::New),
+            Err(NoMemory) => report.is_refused(Call::New),
         }
     }
     None
@@ -296,16 +294,16 @@ fn lasting<R: RandomSource + Wait + Copy + Drop + 'static>(
 
 /// Makes all calls on a static executor, and on one that is not: that is leaked with a future in it, which goes on; another is
 /// dropped with a future in it, whose task is closed.
-pub fn try_locals<R: RandomSource + Wait + Copy + Drop + 'static>(
-    ground: &LocalGround<'_, R>,
+pub fn try_executors<R: Wait + Copy + Drop + 'static>(
+    ground: &Ground<'_, R>,
     report: &mut Report,
 ) -> bool {
-    report.come_to(Place::StaticLocalExecutor);
+    report.come_to(Place::StaticExecutor);
     let Some(executor) = lasting(ground, report) else {
         return false;
     };
     play(on(ground, OneOf::Static(&executor)), ROWS, report);
-    report.come_to(Place::LocalExecutor);
+    report.come_to(Place::Executor);
     let Some(executor) = owned(ground, report) else {
         return false;
     };
@@ -322,10 +320,7 @@ pub fn try_locals<R: RandomSource + Wait + Copy + Drop + 'static>(
 }
 
 /// An executor is dropped with a future in it.
-fn ends<R: RandomSource + Wait + Copy + Drop + 'static>(
-    ground: &LocalGround<'_, R>,
-    report: &mut Report,
-) -> bool {
+fn ends<R: Wait + Copy + Drop + 'static>(ground: &Ground<'_, R>, report: &mut Report) -> bool {
     let Some(executor) = owned(ground, report) else {
         return false;
     };
@@ -337,7 +332,7 @@ fn ends<R: RandomSource + Wait + Copy + Drop + 'static>(
 /// Whether a poll of the handle that was left ends so.
 fn is_left_with<R: Wait + Copy + Drop + 'static>(
     handle: Option<Handle<R>>,
-    waker: &TestLocalWaker<R>,
+    waker: &TestWaker<R>,
     wanted: Polled,
 ) -> bool {
     match handle {

@@ -19,11 +19,14 @@ use Rattle.executor_model.specs.declared.op.Hold.TheVariants as hold
 use Rattle.executor_model.specs.declared.op.Op.{Op}
 use Rattle.executor_model.specs.declared.op.Op.TheVariants as op
 use Rattle.executor_model.specs.declared.op.TableOp.TheVariants as table_op
+use Rattle.executor_model.specs.declared.op.TickOrRun.{TickOrRun}
+use Rattle.executor_model.specs.declared.op.TickOrRun.TheVariants as tick_or_run
 use Rattle.executor_model.specs.declared.op.Waker.{Waker}
 use Rattle.executor_model.specs.declared.step.Hint.{Hint}
 use Rattle.executor_model.specs.declared.op.WakerOp.TheVariants as waker_op
 use Rattle.executor_model.specs.Acts.{copy_by, emptiness, enter_by, is_refused}
 use Rattle.executor_model.specs.Doing.{act}
+use Rattle.executor_model.specs.SleepersAgree.{sleeps}
 use Rattle.executor_model.specs.Steps.{is_static_kind, start, used_up, waits, with_future}
 use Rattle.executor_model.specs.World.{World, Done, done, awaiter_of, log, queue_of}
 use Rattle.executor_model.specs.World as world
@@ -35,7 +38,7 @@ use Rattle.plain_scheduler.specs.Calls.{does, cancel, is_granted, is_none, new, 
 use Rattle.plain_scheduler.specs.Calls.{Cancel, Detach, DropHandle, IsEmpty, Spawn}
 use Rattle.machine_roads.specs.View.{Output, view, waker_in, wakes}
 use Rattle.machine_roads.specs.Seeing.{answer_of, shown}
-use Rattle.machine_roads.specs.Road.{Follows}
+use Rattle.machine_roads.specs.Road.{Follows, place_in}
 use Rattle.machine_roads.specs.Alone.{alone, answered_by, is_outside, is_resting, one_by}
 use Rattle.machine_roads.specs.Alike.{refuses_first, CancelsAlike, CopiesAlike, DetachesAlike, EmptyAlike}
 use Rattle.machine_roads.specs.Alike.{HandleGoesAlike, KeepsAlike, LeavesAlike, LeavesAlikeIf, SpawnsAlike, UsesAlike}
@@ -69,9 +72,17 @@ begin_alike limit kind parties = record {
   wakers = refl;
   count = refl;
   flag = refl;
+  asleep = asleep;
+  numbered = tt;
+  runs = refl;
+  waking = refl;
   seen = refl;
 }
   where
+    asleep : (x : TickOrRun) → 0 ≡ sleeps (place_in [] [] x)
+    asleep (tick_or_run.Tick t) = refl
+    asleep (tick_or_run.Run r) = refl
+
     common : (m : Mark) → (queue_of (start limit kind parties).world m).items ≡ []
     common PlainMark = refl
     common Urgent = refl

@@ -56,6 +56,26 @@ cancel_keeps t = by (t.closed || abstract.is_over t.phase) (abstract.is_idle t.p
 abbrev pub emptied : ℕ → World → World
 emptied f w = put_awaiter (world.put w f (record (world.task w f) { awaiter = false; notifying = false })) f None
 
+-- an output that is there stays, and none comes
+pub cancel_output : (more : Plain Output Waker → Plain Output Waker)
+    → ((f : ℕ) (q : Plain Output Waker) → (task f (more q)).output ≡ (task f q).output) → (f : ℕ) (q : Plain Output Waker)
+    → (task f (on (abstract.cancel (task f q)).called (called wakes more)
+    (becomes wakes more f (abstract.cancel (task f q)).task q))).output
+    ≡ (task f q).output
+cancel_output more keeps f q =
+    called_asks (λ t. t.output) (used_asks (λ t. t.output) outputs) f more (keeps f) left.called (becomes wakes more f left.task q)
+    ∙ by (is_some (info_of (task f q) left.task))
+  where
+    left : abstract.Left Output Waker
+    left = abstract.cancel (task f q)
+
+    put_so : (task f (put f left.task q)).output ≡ (task f q).output
+    put_so = put_asks (λ t. t.output) f f left.task q (cancel_keeps (task f q))
+
+    by : (b : Bool) → (task f (if b then more (appended f (put f left.task q)) else put f left.task q)).output ≡ (task f q).output
+    by true = keeps f (appended f (put f left.task q)) ∙ put_so
+    by false = put_so
+
 module _ (p : ℕ) (end : Done) (rests : is_resting end.next ≡ true) where
   -- on the machine, it is left to be called or let go
   pub record Took (f : ℕ) (mine : Bool) (w : World) (os : List Op) : Type 0 where
@@ -284,14 +304,4 @@ module _ (p : ℕ) (end : Done) (rests : is_resting end.next ≡ true) (more : P
 
     -- no output comes by it
     pub cancel_outputs : t.output ≡ None → (task f whole).output ≡ None
-    cancel_outputs none =
-        called_asks (λ t. t.output) (used_asks (λ t. t.output) outputs) f more (teller.outputs f) left.called
-        (becomes wakes more f left.task r)
-        ∙ (by (is_some (info_of t left.task)) ∙ none)
-      where
-        put_so : (task f (put f left.task r)).output ≡ t.output
-        put_so = put_asks (λ t. t.output) f f left.task r (cancel_keeps t)
-
-        by : (b : Bool) → (task f (if b then more (appended f (put f left.task r)) else put f left.task r)).output ≡ t.output
-        by true = teller.outputs f (appended f (put f left.task r)) ∙ put_so
-        by false = put_so
+    cancel_outputs none = cancel_output more teller.outputs f r ∙ none

@@ -85,6 +85,10 @@ module _ (w : World) (p : Plain Output Waker) (r : Follows w p) where
       wakers = r.wakers;
       count = r.count;
       flag = r.flag;
+      asleep = r.asleep;
+      numbered = r.numbered;
+      runs = r.runs;
+      waking = r.waking;
       seen = r.seen;
     }
       where
@@ -139,6 +143,10 @@ module _ (w : World) (p : Plain Output Waker) (r : Follows w p) where
     wakers = r.wakers;
     count = r.count;
     flag = r.flag;
+    asleep = r.asleep;
+    numbered = r.numbered;
+    runs = r.runs;
+    waking = r.waking;
     seen = heard_last w.trace e ∙ is;
   }
 
@@ -176,6 +184,10 @@ module _ (w : World) (p : Plain Output Waker) (r : Follows w p) where
     wakers = r.wakers;
     count = r.count;
     flag = r.flag;
+    asleep = r.asleep;
+    numbered = r.numbered;
+    runs = r.runs;
+    waking = r.waking;
     seen = r.seen;
   }
     where
@@ -242,6 +254,10 @@ module _ (w : World) (p : Plain Output Waker) (r : Follows w p) (f : ℕ) (at : 
     wakers = r.wakers;
     count = r.count;
     flag = r.flag;
+    asleep = r.asleep;
+    numbered = r.numbered;
+    runs = r.runs;
+    waking = r.waking;
     seen = r.seen;
   }
     where

@@ -1,7 +1,6 @@
 -- A copy of a waker, and one that goes again.
-use Rattle.std.proofs.Common.{◌≡◌, ℕ, ◌+◌, ◌-◌, ◌≤◌, ◌<◌, ◌==◌, ◌&&◌, not, Bool, true, false, List, length, is_some}
+use Rattle.std.proofs.Common.{◌≡◌, ℕ, ◌+◌, ◌-◌, ◌≤◌, ◌<◌, ◌==◌, ◌&&◌, not, Bool, true, false, List, is_some}
 use Rattle.std.proofs.Common.{if◌then◌else◌, refl, sym, ap, subst, ◌∙◌, arith}
-use Rattle.std.specs.Prelude.{filter}
 use Rattle.std.proofs.lemmas.Bool.Decides.{nat_tests}
 use Rattle.task_moves.specs.AbstractTask as abstract
 use Rattle.task_moves.specs.AbstractTask.{AbstractTask}
@@ -10,17 +9,16 @@ use Rattle.executor_model.specs.declared.op.Waker.{Waker}
 use Rattle.executor_model.specs.declared.op.Waker.TheVariants.{Task, Outside}
 use Rattle.executor_model.specs.Acts.{copied}
 use Rattle.executor_model.specs.World.{World, tick_of}
-use Rattle.plain_scheduler.specs.State.{ATick, Choice, Lying, Plain}
-use Rattle.plain_scheduler.specs.Lists.{any}
-use Rattle.plain_scheduler.specs.Moves.{appended, let_go, lies, put, task, tell}
+use Rattle.plain_scheduler.specs.State.{Choice, Lying, Plain}
+use Rattle.plain_scheduler.specs.Moves.{appended, let_go, put, task, tell}
 use Rattle.plain_scheduler.specs.Moves as plain
 use Rattle.machine_roads.specs.View.{Output, wakes}
 use Rattle.machine_roads.specs.Road.{Follows}
 use Rattle.machine_roads.specs.Alone.{CanCopy}
-use Rattle.machine_roads.specs.Ticking.{CanPoll, Rests, down, up as is_up}
+use Rattle.machine_roads.specs.Ticking.{CanPoll}
 use Rattle.machine_roads.proofs.Changing.{put_again}
 use Rattle.machine_roads.proofs.Lists.{get_below}
-use Rattle.machine_roads.proofs.Puts.{put_by, put_is, put_lying, task_put}
+use Rattle.machine_roads.proofs.Puts.{put_by, put_is, task_put}
 use Rattle.machine_roads.proofs.Used.{lower, none_told, put_twice}
 
 -- a copy of a waker leaves who sleeps
@@ -32,15 +30,6 @@ pub copied_wakers : (a : Waker) (w : World) → (copied w a).sleepers.wakers ≡
 copied_wakers (Task g) w = refl
 copied_wakers (Outside x) w = refl
 
-pub copied_rests : (a : Waker) (w : World) (q : Plain Output Waker) (t : ℕ) → Rests w q t → Rests (copied w a) (plain.copied wakes a q) t
-copied_rests (Outside x) w q t where_it = where_it
-copied_rests (Task g) w q t (is_up awake none) =
-    is_up awake
-    (subst (λ ls. any (lies (ATick t)) ls ≡ false) (sym (put_lying g (abstract.copy (task g q)) q)) none)
-copied_rests (Task g) w q t (down n is named one) =
-    down n is named
-    (subst (λ (ls : List (Lying Waker)). length (filter (lies (ATick t)) ls) ≡ 1) (sym (put_lying g (abstract.copy (task g q)) q)) one)
-
 pub copied_can : (a : Waker) (w : World) (t : ℕ) → CanPoll w t → CanPoll (copied w a) t
 copied_can (Outside x) w t can = can
 copied_can (Task g) w t can = record { living = can.living; roomed = can.roomed }
@@ -48,10 +37,6 @@ copied_can (Task g) w t can = record { living = can.living; roomed = can.roomed 
 pub copied_due : (a : Waker) (q : Plain Output Waker) → (plain.copied wakes a q).due ≡ q.due
 copied_due (Outside x) q = refl
 copied_due (Task g) q = put_by (λ p. p.due) g (abstract.copy (task g q)) q (λ fs. refl)
-
-pub copied_inside : (a : Waker) (q : Plain Output Waker) → (plain.copied wakes a q).inside ≡ q.inside
-copied_inside (Outside x) q = refl
-copied_inside (Task g) q = put_by (λ p. p.inside) g (abstract.copy (task g q)) q (λ fs. refl)
 
 -- where there is one copy already, another that goes is nothing
 abbrev pub HasOne : Waker → Plain Output Waker → Type 0

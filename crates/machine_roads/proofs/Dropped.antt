@@ -87,14 +87,14 @@ module _ {T A : Type 0} where
           ap (λ b. unless b (living_from (suc n) zs) (n ∷ without f (living_from (suc n) zs))) apart
           ∙ ap (λ ns. n ∷ ns) rest
 
-  abbrev gone : Future T A → Future T A
+  abbrev pub gone : Future T A → Future T A
   gone x = record x { is_dropped = true }
 
-  abbrev gone_at : ℕ → Future T A → Plain T A → Plain T A
+  abbrev pub gone_at : ℕ → Future T A → Plain T A → Plain T A
   gone_at f x q = record q { futures = slice_set q.futures f (gone x) }
 
   -- its task and its mark stay
-  gone_task : (f g : ℕ) (q : Plain T A) (x : Future T A) → slice_get q.futures f ≡ Some x
+  pub gone_task : (f g : ℕ) (q : Plain T A) (x : Future T A) → slice_get q.futures f ≡ Some x
       → task g (gone_at f x q) ≡ task g q
   gone_task f g q x is = by (f == g) refl
     where
@@ -152,6 +152,10 @@ marks f w q r at =
       wakers = r.wakers;
       count = r.count;
       flag = r.flag;
+      asleep = r.asleep;
+      numbered = r.numbered;
+      runs = r.runs;
+      waking = r.waking;
       seen = r.seen;
     } in
     record {

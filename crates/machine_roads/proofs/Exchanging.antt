@@ -16,10 +16,11 @@ use Rattle.plain_scheduler.specs.State.{Choice, Calls, Lying, Plain, Who}
 use Rattle.plain_scheduler.specs.Lists.{any, on, or}
 use Rattle.plain_scheduler.specs.Moves.{appended, called, is_called, put, see, task, tell, told_at, used}
 use Rattle.machine_roads.specs.View.{Output, wakes}
-use Rattle.machine_roads.specs.Road.{Follows, is_told, sleeper, uncalled}
+use Rattle.machine_roads.specs.Road.{Follows, is_told, sleeper, uncalled, who_of}
 use Rattle.machine_roads.specs.Alone.{is_resting}
 use Rattle.machine_roads.proofs.Lists.{equal, get_below, get_map, length_map, length_set, map_take}
 use Rattle.machine_roads.proofs.Lying.{At, all_waking, at, called_one, last_called, one_called, untold}
+use Rattle.machine_roads.proofs.Numbers.{count_called, numbered_take}
 use Rattle.machine_roads.proofs.Past.{tell_past}
 use Rattle.machine_roads.proofs.Used.{IsKept, used_asks, used_polled}
 use Rattle.machine_roads.proofs.Puts.{put_asks, put_lying}
@@ -180,6 +181,10 @@ module _ (p : ℕ) (end : Done) (rests : is_resting end.next ≡ true) where
               ∙ (ap (λ n. take n (uncalled q.lying)) place ∙ sym (last_called q.lying i a.one none long)));
           count = follows.count ∙ sym (length_set q.lying i (called_one a.one));
           flag = sym (one_called q.lying i a.one (omega (arith, long)));
+          asleep = λ x. count_called (who_of x) q.lying i a.one a.is ∙ follows.asleep x;
+          numbered = numbered_take w.ticks w.runs (length ws - 1) ws follows.numbered;
+          runs = follows.runs;
+          waking = follows.waking;
           seen = follows.seen;
         })
         (one_called q.lying i a.one (omega (arith, long)))

@@ -6,31 +6,35 @@ use Rattle.std.proofs.lemmas.Bool.Decides.{nat_tests}
 use Rattle.task_moves.specs.declared.moves.owed.Move.TheVariants as move
 use Rattle.task_moves.specs.LocalTask.{token}
 use Rattle.task_moves.specs.Moves.{is_going}
+use Rattle.executor_model.specs.declared.op.ClosingOp.TheVariants as closing_op
 use Rattle.executor_model.specs.declared.op.HandleOp.TheVariants as handle_op
 use Rattle.executor_model.specs.declared.op.Op.{Op}
 use Rattle.executor_model.specs.declared.op.Op.TheVariants as op
 use Rattle.executor_model.specs.declared.op.QueueOp.TheVariants as queue_op
 use Rattle.executor_model.specs.declared.op.SleeperOp.TheVariants as sleeper_op
 use Rattle.executor_model.specs.declared.op.TickOp.TheVariants as tick_op
+use Rattle.executor_model.specs.declared.op.TickOrRun.{TickOrRun}
 use Rattle.executor_model.specs.declared.op.Waker.{Waker}
 use Rattle.executor_model.specs.declared.op.Waker.TheVariants.{Task, Outside}
 use Rattle.executor_model.specs.declared.op.WakerOp.TheVariants as waker_op
 use Rattle.executor_model.specs.Acts.{takes_more}
 use Rattle.executor_model.specs.Good.{CanWake, Good, IsKnown, IsKnownWaker}
 use Rattle.executor_model.specs.Rows.{past_of, releases_of, waiting_of}
+use Rattle.executor_model.specs.SleepersAgree.{SleepersAgree}
 use Rattle.executor_model.specs.Sound.{Sound, pend, times, tokens}
 use Rattle.executor_model.specs.Steps.{Machine, below_top, stack, top}
 use Rattle.executor_model.specs.Weights.{past, same}
 use Rattle.executor_model.specs.World.{World, among, mark_of, queue_of, task}
 use Rattle.executor_model.proofs.OneFuture.Stories.{among_is}
 use Rattle.executor_model.proofs.Polls.AskingExecutions.{Heard, heard}
+use Rattle.executor_model.proofs.Sleepers.SleepersFollowingExecutions.{agree}
 use Rattle.executor_model.proofs.Steps.Lift.{split, topped}
 use Rattle.executor_model.proofs.Steps.Lists.{past_is, same_is}
 use Rattle.executor_model.proofs.Steps.Needing.{needs}
 use Rattle.executor_model.proofs.Steps.QueuesByMark.{any-shut}
 use Rattle.executor_model.proofs.Steps.Reached.{Reached, good-here}
 use Rattle.executor_model.proofs.Table.LeavingExecutions.{has-place}
-use Rattle.machine_roads.specs.Alone.{CanCopy, Has}
+use Rattle.machine_roads.specs.Alone.{CanCopy, Has, SleepsAlone}
 use Rattle.machine_roads.specs.Moving.{IsQueued}
 use Rattle.machine_roads.proofs.Lists.{clash}
 
@@ -154,6 +158,13 @@ module _ (s : Machine) (p : ℕ) (reached : Reached s) (there : p < length s.par
       let both = (good.sound f).rests done in
       ap (λ b. b || (task s.world f).running) both.0 ∙ both.1
 
+  -- numbers in use are distinct
+  alone : (x : TickOrRun) → SleepsAlone s.world x
+  alone x n here y there =
+      let agrees : SleepersAgree s =
+      subst SleepersAgree (sym reached.is) (agree reached.limit reached.kind reached.parties reached.steps) in
+      agrees.apart y x n there here
+
   pub has_here : (o : Op) → s.world.gone ≡ false → top (stack s p) ≡ Some o → Has s.world o
   has_here (op.Move move.Release f) open_still is =
       ((needs s p (op.Move move.Release f) there is good).0.0, released f is)
@@ -175,5 +186,11 @@ module _ (s : Machine) (p : ℕ) (reached : Reached s) (there : p < length s.par
       can_copy a (needs s p (op.Handle (handle_op.CopyAwaiter f a)) there is good)
   has_here (op.Tick (tick_op.CopyWaker x)) open_still is =
       can_copy x.waker (needs s p (op.Tick (tick_op.CopyWaker x)) there is good)
+  has_here (op.Tick (tick_op.FallAsleep x)) open_still is = alone x.who
+  has_here (op.Tick (tick_op.WakeUp x)) open_still is = alone x
+  has_here (op.Tick (tick_op.Leave x)) open_still is = alone x
+  has_here (op.Closing closing_op.LeakOut) open_still is = open_still
+  has_here (op.Closing closing_op.LeakNext) open_still is =
+      (open_still, λ f rest here. (needs s p (op.Closing closing_op.LeakNext) there is good f rest here).0)
   has_here (op.Handle o) open_still is = needs s p (op.Handle o) there is good
   has_here o open_still is = tt

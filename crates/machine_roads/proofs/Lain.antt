@@ -1,21 +1,25 @@
 -- Who lies, and what is left of the sleepers where it gets up or goes.
 use Rattle.std.proofs.Common.{◌≡◌, ℕ, suc, ◌+◌, ◌-◌, ◌≤◌, ◌<◌, ◌==◌, ◌++◌, ◌||◌, not, cond, nat_lt, Bool, true, false}
-use Rattle.std.proofs.Common.{List, [], ◌∷◌, length, map, Option, Some, None, is_some, slice_get}
+use Rattle.std.proofs.Common.{List, [], ◌∷◌, length, map, Option, Some, None, is_some, slice_get, slice_set, subst}
 use Rattle.std.proofs.Common.{refl, sym, ap, ◌∙◌, arith}
 use Rattle.std.specs.Prelude.{filter, find, remove}
 use Rattle.std.proofs.lemmas.Bool.Decides.{nat_tests}
 use Rattle.executor_parts.specs.Sleepers.{Sleepers, flag_of, freed, later, position_of, waker_at, waker_in, waker_of, without_entry}
 use Rattle.executor_parts.specs.Sleepers.{woken_up}
 use Rattle.executor_model.specs.declared.op.Sleeping.{Sleeping}
+use Rattle.executor_model.specs.declared.op.TickOrRun.{TickOrRun}
+use Rattle.executor_model.specs.declared.op.TickOrRun.TheVariants as tick_or_run
 use Rattle.executor_model.specs.declared.op.Waker.{Waker}
-use Rattle.executor_model.specs.World.{Ticker, World}
-use Rattle.plain_scheduler.specs.State.{Lying, Plain, Who}
+use Rattle.executor_model.specs.SleepersAgree.{sleeps}
+use Rattle.executor_model.specs.World.{Asleep, Run, Ticker, World, tick_of}
+use Rattle.plain_scheduler.specs.State.{ATick, Lying, Plain, Who}
 use Rattle.plain_scheduler.specs.Lists.{any, or, without}
 use Rattle.plain_scheduler.specs.Moves.{is_called, is_who, lies}
 use Rattle.machine_roads.specs.View.{Output}
-use Rattle.machine_roads.specs.Road.{Follows, is_told, sleeper, uncalled, who_of}
-use Rattle.machine_roads.specs.Ticking.{IsNamed}
-use Rattle.machine_roads.proofs.Lists.{length_map, map_append}
+use Rattle.machine_roads.specs.Road.{AreNumbered, Follows, is_told, place_in, sleeper, uncalled, who_of}
+use Rattle.machine_roads.proofs.Lists.{cons_is, length_map, map_append}
+use Rattle.machine_roads.proofs.Numbers.{Another, It, IsNamed, Which, awake_here, count, count_append, count_more, nobody, numbered_append}
+use Rattle.machine_roads.proofs.Numbers.{numbered_apart, numbered_first, numbered_rest, one_if, place_apart, ticks_who, which}
 
 -- how many were called: as many as lie without a waker
 few_called : (ls : List (Lying Waker)) → length (uncalled ls) ≤ length ls
@@ -54,8 +58,9 @@ told_test (l ∷ ls) =
 -- other sleepers and others who lie, who are alike
 pub lies_anew : (w : World) (q : Plain Output Waker) (s : Sleepers Sleeping) (ls : List (Lying Waker)) (ticks : List Ticker) → Follows w q
     → map sleeper s.wakers ≡ uncalled ls → s.count ≡ length ls
+    → ((x : TickOrRun) → count (who_of x) ls ≡ sleeps (place_in ticks w.runs x)) → AreNumbered ticks w.runs s.wakers
     → Follows (record w { sleepers = s; notified = flag_of s; ticks = ticks }) (record q { lying = ls })
-lies_anew w q s ls ticks r same many = record {
+lies_anew w q s ls ticks r same many asleep numbered = record {
   limit = r.limit;
   kind = r.kind;
   many = r.many;
@@ -73,6 +78,10 @@ lies_anew w q s ls ticks r same many = record {
   flag =
       ap (λ n. (s.count == 0) || nat_lt n s.count) (sym (length_map sleeper s.wakers) ∙ ap length same)
       ∙ (ap (λ n. (n == 0) || nat_lt (length (uncalled ls)) n) many ∙ sym (told_test ls));
+  asleep = asleep;
+  numbered = numbered;
+  runs = r.runs;
+  waking = r.waking;
   seen = r.seen;
 }
 
@@ -144,15 +153,6 @@ pub record Lies (who : Who) (ls : List (Lying Waker)) : Type 0 where
   pub none_before : any (lies who) before ≡ false
   pub none_after : any (lies who) after ≡ false
 
-nobody : (who : Who) (ls : List (Lying Waker)) → length (filter (lies who) ls) ≡ 0 → any (lies who) ls ≡ false
-nobody who [] none = refl
-nobody who (l ∷ ls) none = by (lies who l) none (nobody who ls)
-  where
-    by : (b : Bool) → length (cond b (l ∷ filter (lies who) ls) (filter (lies who) ls)) ≡ 0
-        → (length (filter (lies who) ls) ≡ 0 → any (lies who) ls ≡ false) → cond b true (any (lies who) ls) ≡ false
-    by true none rest = absurd (omega (arith, none))
-    by false none rest = rest none
-
 pub one_lies : (who : Who) (ls : List (Lying Waker)) → length (filter (lies who) ls) ≡ 1 → Lies who ls
 one_lies who [] one = absurd (omega (arith, one))
 one_lies who (l ∷ ls) one = by (lies who l) refl one (one_lies who ls)
@@ -212,17 +212,6 @@ pub record Split (ws : List (ℕ × Sleeping)) (before : List (Who × Waker)) (i
   pub rests : map sleeper rest ≡ after
 
 module _ {B : Type 0} where
-  cons_is : (x y : B) (xs ys : List B) → x ∷ xs ≡ y ∷ ys → (x ≡ y) × (xs ≡ ys)
-  cons_is x y xs ys is = (ap (λ zs. head zs) is, ap (λ zs. tail zs) is)
-    where
-      head : List B → B
-      head [] = x
-      head (z ∷ zs) = z
-
-      tail : List B → List B
-      tail [] = []
-      tail (z ∷ zs) = zs
-
   pub get_at : (xs ys : List B) (y : B) → slice_get (xs ++ y ∷ ys) (length xs) ≡ Some y
   get_at [] ys y = refl
   get_at (x ∷ xs) ys y = get_at xs ys y
@@ -270,6 +259,8 @@ pub record Up (n : ℕ) (who : Who) (w : World) (q : Plain Output Waker) : Type 
   pub wakers : map sleeper (woken_up n w.sleepers).wakers ≡ uncalled (without (lies who) q.lying)
   pub count : (woken_up n w.sleepers).count ≡ length (without (lies who) q.lying)
   pub fewer : length (without (lies who) q.lying) ≤ length q.lying
+  pub numbered : (ticks : List Ticker) (runs : List Run) → AreNumbered ticks runs w.sleepers.wakers
+      → AreNumbered ticks runs (woken_up n w.sleepers).wakers
 
 abbrev freed_if : Bool → ℕ → Sleepers Sleeping → Sleepers Sleeping
 freed_if b n s = elim b [ true ↦ record s { count = s.count - 1; free = s.free ++ n ∷ [] } | false ↦ s ]
@@ -346,6 +337,8 @@ module _ (n : ℕ) (who : Who) (w : World) (q : Plain Output Waker) (r : Follows
             ap (λ (s : Sleepers Sleeping). s.count) gone
             ∙ (both.1 ∙ (less_one s.count (length (k.before ++ k.after)) (r.count ∙ long) ∙ ap length (sym left)));
         fewer = fewer;
+        numbered = λ ticks runs all.
+            subst (AreNumbered ticks runs) (sym (ap (λ (s : Sleepers Sleeping). s.wakers) gone ∙ both.0)) all;
       }
 
   -- of any other the entry goes
@@ -398,6 +391,11 @@ module _ (n : ℕ) (who : Who) (w : World) (q : Plain Output Waker) (r : Follows
             ap (λ (s : Sleepers Sleeping). s.count) gone
             ∙ (both.1 ∙ (less_one s.count (length (k.before ++ k.after)) (r.count ∙ long) ∙ ap length (sym left)));
         fewer = fewer;
+        numbered = λ ticks runs all.
+            let parts = subst (AreNumbered ticks runs) sp.is all in
+            subst (AreNumbered ticks runs) (sym (ap (λ (s : Sleepers Sleeping). s.wakers) gone ∙ both.0))
+            (numbered_append ticks runs sp.first sp.rest (numbered_first ticks runs sp.first (sp.one ∷ sp.rest) parts)
+            (numbered_rest ticks runs sp.first (sp.one ∷ sp.rest) parts).1);
       }
 
   gets_up : Up n who w q
@@ -410,3 +408,48 @@ module _ (n : ℕ) (who : Who) (w : World) (q : Plain Output Waker) (r : Follows
 pub ups : (n : ℕ) (who : Who) (w : World) (q : Plain Output Waker) → Follows w q → IsNamed n who w.sleepers.wakers
     → length (filter (lies who) q.lying) ≡ 1 → Up n who w q
 ups n who w q r named one = gets_up n who w q r named (one_lies who q.lying one)
+
+-- what lies of whom where one lies among others, and once that got up
+pub count_at : (who : Who) (xs ys : List (Lying Waker)) (l : Lying Waker)
+    → count who (xs ++ l ∷ ys) ≡ count who xs + (one_if (lies who l) + count who ys)
+count_at who xs ys l = count_append who xs (l ∷ ys) ∙ ap (λ n. count who xs + n) (count_more who l ys)
+
+module _ (n t : ℕ) (w : World) (q : Plain Output Waker) (r : Follows w q) (k : Lies (ATick t) q.lying) where
+  abbrev others : List (Lying Waker)
+  others = without (lies (ATick t)) q.lying
+
+  its_who : ATick t ≡ k.one.who
+  its_who = ticks_who t k.one.who k.it
+
+  pub count_before : (who : Who) → count who q.lying ≡ count who k.before + (one_if (is_who who k.one.who) + count who k.after)
+  count_before who = ap (count who) k.is ∙ count_at who k.before k.after k.one
+
+  pub count_others : (who : Who) → count who others ≡ count who k.before + count who k.after
+  count_others who =
+      ap (count who) (ap (without (lies (ATick t))) k.is ∙ without_at (lies (ATick t)) k.before k.after k.one k.none_before k.it)
+      ∙ count_append who k.before k.after
+
+  module _ (is : tick_of w t ≡ Asleep n) (y : Ticker) (up : sleeps y ≡ 0) where
+    its_count : count (ATick t) others ≡ 0
+    its_count =
+        let it : one_if (is_who (ATick t) k.one.who) ≡ 1 = ap one_if k.it in
+        let one : count (ATick t) q.lying ≡ 1 = r.asleep (tick_or_run.Tick t) ∙ ap sleeps is in
+        omega (arith, count_others (ATick t), count_before (ATick t), it, one)
+
+    -- it sleeps no more, and the others do
+    pub asleep_up : (x : TickOrRun) → count (who_of x) others ≡ sleeps (place_in (slice_set w.ticks t y) w.runs x)
+    asleep_up x = by x (which t x)
+      where
+        by : (x : TickOrRun) → Which t x → count (who_of x) others ≡ sleeps (place_in (slice_set w.ticks t y) w.runs x)
+        by x It = its_count ∙ sym (awake_here w.ticks t y up)
+        by x (Another z apart turned_apart) =
+            let none : one_if (is_who (who_of z) k.one.who) ≡ 0 =
+            ap (λ who. one_if (is_who (who_of z) who)) (sym its_who) ∙ ap one_if apart in
+            let same : count (who_of z) others ≡ count (who_of z) q.lying =
+            omega (arith, count_others (who_of z), count_before (who_of z), none) in
+            same ∙ (r.asleep z ∙ ap sleeps (sym (place_apart w.ticks w.runs t y z turned_apart)))
+
+    pub numbered_up : Up n (ATick t) w q → AreNumbered (slice_set w.ticks t y) w.runs (woken_up n w.sleepers).wakers
+    numbered_up u =
+        numbered_apart w.ticks w.runs t y (woken_up n w.sleepers).wakers others u.wakers (nobody (ATick t) others its_count)
+        (u.numbered w.ticks w.runs r.numbered)

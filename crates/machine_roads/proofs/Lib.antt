@@ -6,6 +6,7 @@ pub mod Puts
 pub mod Due
 pub mod Changing
 pub mod Lying
+pub mod Numbers
 pub mod Telling
 pub mod Used
 pub mod Past
@@ -22,6 +23,7 @@ pub mod Spawning
 pub mod Calling
 pub mod PollCalls
 pub mod Standing
+pub mod Aside
 pub mod Trying
 pub mod Unseen
 pub mod Pending
@@ -29,6 +31,7 @@ pub mod Losing
 pub mod Ending
 pub mod Dropped
 pub mod RunEnding
+pub mod Forgetting
 pub mod Lain
 pub mod Ticking
 pub mod TickPolls
@@ -42,3 +45,8 @@ pub mod LoneLosing
 pub mod LoneTicks
 pub mod LoneTakes
 pub mod LoneTries
+pub mod Leaking
+pub mod RunsMade
+pub mod Inside
+pub mod Open
+pub mod Course

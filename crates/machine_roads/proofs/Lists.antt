@@ -66,6 +66,19 @@ module _ {A : Type 0} where
   length_set (z ∷ zs) zero x = refl
   length_set (z ∷ zs) (suc i) x = ap suc (length_set zs i x)
 
+module _ {A : Type 0} where
+  -- two lists that are one have the same first and the same rest
+  pub cons_is : (x y : A) (xs ys : List A) → x ∷ xs ≡ y ∷ ys → (x ≡ y) × (xs ≡ ys)
+  cons_is x y xs ys is = (ap (λ zs. head zs) is, ap (λ zs. tail zs) is)
+    where
+      head : List A → A
+      head [] = x
+      head (z ∷ zs) = z
+
+      tail : List A → List A
+      tail [] = []
+      tail (z ∷ zs) = zs
+
 module _ {A B : Type 0} (f : A → B) where
   pub map_append : (xs ys : List A) → map f (xs ++ ys) ≡ map f xs ++ map f ys
   map_append [] ys = refl

@@ -118,8 +118,8 @@ lone_tick_is_made = each LoneTickIsMade (λ s reached q quiet follows p c h step
     (λ hints all rests. makes_tick p None [] s.world q refl follows c (h ∷ hints) granted all rests) lone)
 
 pub lone_tick_goes : EachLoneAlike LoneTickGoes
-lone_tick_goes = each LoneTickGoes (λ s reached q quiet follows p t c steps where_it many new later lone.
-    lone_calls s reached p (call.DropTick t) steps new _ quiet later (tick_goes p None [] s.world q refl follows c t where_it many) lone)
+lone_tick_goes = each LoneTickGoes (λ s reached q quiet follows p t c steps many new later lone.
+    lone_calls s reached p (call.DropTick t) steps new _ quiet later (tick_goes p None [] s.world q refl follows c t many) lone)
 
 pub lone_empty : EachLoneAlike LoneEmpty
 lone_empty = each LoneEmpty (λ s reached q quiet follows p c steps new later lone.

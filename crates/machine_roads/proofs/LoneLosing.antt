@@ -2,7 +2,6 @@
 use Rattle.std.proofs.Common.{◌≡◌, ℕ, ◌++◌, false, List, [], ◌∷◌, None, refl, sym, ap, subst}
 use Rattle.executor_model.specs.declared.call.Call.{Call}
 use Rattle.executor_model.specs.declared.call.Call.TheVariants as call
-use Rattle.executor_model.specs.declared.op.Op.{Op}
 use Rattle.executor_model.specs.declared.op.Op.TheVariants as op
 use Rattle.executor_model.specs.declared.op.UserOp.TheVariants as user_op
 use Rattle.executor_model.specs.declared.op.Waker.{Waker}
@@ -17,26 +16,16 @@ use Rattle.executor_laws.specs.LoneEnds.{IsLoneCall}
 use Rattle.plain_scheduler.specs.State.{Choice, Code, Lose, Plain}
 use Rattle.plain_scheduler.specs.Calls.{does, Detach, DropHandle, Ends}
 use Rattle.machine_roads.specs.View.{Output, wakes}
-use Rattle.machine_roads.specs.Road.{Follows}
+use Rattle.machine_roads.specs.Road.{Follows, waking_in}
 use Rattle.machine_roads.specs.Alike.{begins}
 use Rattle.machine_roads.specs.Losing.{ComesToLose, IsLosing, StopsLosing, left_of, without_handle}
 use Rattle.machine_roads.specs.Lone.{EachLoneAlike, LeadsTo, LoneDetachLoses, LoneGoesWithOutput}
+use Rattle.machine_roads.proofs.Lists.{cons_is}
 use Rattle.machine_roads.proofs.LoneCalls.{each}
 use Rattle.machine_roads.proofs.LoneRuns.{Inside, Rests, Whole, all_steps, lone_calls_rest, onward}
 use Rattle.machine_roads.proofs.Losing.{detaches_to_lose, goes_to_lose, loses_alike}
 use Rattle.machine_roads.proofs.Unseen.{stands_in}
 use Rattle.machine_roads.proofs.Tying.{AtEnd, Goes, Leads, answers}
-
-first_of : (x y : Op) (xs ys : List Op) → x ∷ xs ≡ y ∷ ys → (x ≡ y) × (xs ≡ ys)
-first_of x y xs ys is = (ap (head_or x) is, ap tail is)
-  where
-    head_or : Op → List Op → Op
-    head_or o [] = o
-    head_or o (x ∷ xs) = x
-
-    tail : List Op → List Op
-    tail [] = []
-    tail (x ∷ xs) = xs
 
 -- from the output's drop on, to the end
 from_loss : (s new : Machine) → Reached s → (p f : ℕ) (c : Call) (steps : List Step) (q r : Plain Output Waker) (d : Choice)
@@ -47,7 +36,7 @@ from_loss s new reached p f c steps q r d later lone last (Whole so) =
     absurd cc
 from_loss s new reached p f c steps q r d later lone last (Inside x) =
     let m = x.machine in
-    let both = first_of x.first (op.User (user_op.DropOutput f)) x.rest (left_of f ++ []) x.so.left in
+    let both = cons_is x.first (op.User (user_op.DropOutput f)) x.rest (left_of f ++ []) x.so.left in
     let first = both.0 in
     let rest = both.1 in
     let k = run-first (Answer p x.end) x.steps m new x.made in
@@ -56,7 +45,8 @@ from_loss s new reached p f c steps q r d later lone last (Inside x) =
     record {
       known = x.so.losing.known;
       closed = x.so.losing.closed;
-      follows = stands_in q.inside (without_handle f m.world) r x.so.losing.follows;
+      follows =
+          stands_in q.inside (without_handle f m.world) r x.so.losing.follows (sym (ap (λ codes. waking_in codes) x.so.inside));
     } in
     let same : record before { inside = Lose None None ∷ q.inside } ≡ r =
     ap (λ (codes : List (Code Output Waker)). record r { inside = codes }) (sym x.so.inside) in
@@ -79,12 +69,20 @@ loses_so s reached p f c steps q r d quiet comes new later lone =
     from_loss s new reached p f c steps q r d later lone (reached-more (Begin p c ∷ steps) s new reached lone.made)
     (lone_calls_rest s reached p c steps new (λ e. StopsLosing f [] q e r) quiet later comes lone)
 
-pub lone_detach_loses : EachLoneAlike LoneDetachLoses
-lone_detach_loses = each LoneDetachLoses (λ s reached q quiet follows p f c d steps some.
+pub detach_loses_so : (s : Machine) → Reached s → (q : Plain Output Waker) → IsQuiet s.world.trace → Follows s.world q
+    → LoneDetachLoses s q
+detach_loses_so s reached q quiet follows p f c d steps some =
     loses_so s reached p f (call.Detach f) steps q (does wakes c (Detach f) q) d quiet
-    (detaches_to_lose p None [] s.world q refl follows c f some))
+    (detaches_to_lose p None [] s.world q refl follows c f some)
+
+pub lone_detach_loses : EachLoneAlike LoneDetachLoses
+lone_detach_loses = each LoneDetachLoses detach_loses_so
+
+pub goes_with_output_so : (s : Machine) → Reached s → (q : Plain Output Waker) → IsQuiet s.world.trace → Follows s.world q
+    → LoneGoesWithOutput s q
+goes_with_output_so s reached q quiet follows p f c d steps some =
+    loses_so s reached p f (call.DropHandle f) steps q (does wakes c (DropHandle f) q) d quiet
+    (goes_to_lose p None [] s.world q refl follows c f some)
 
 pub lone_goes_with_output : EachLoneAlike LoneGoesWithOutput
-lone_goes_with_output = each LoneGoesWithOutput (λ s reached q quiet follows p f c d steps some.
-    loses_so s reached p f (call.DropHandle f) steps q (does wakes c (DropHandle f) q) d quiet
-    (goes_to_lose p None [] s.world q refl follows c f some))
+lone_goes_with_output = each LoneGoesWithOutput goes_with_output_so

@@ -40,7 +40,7 @@ use Rattle.machine_roads.proofs.Having.{has_here, heard_here}
 use Rattle.machine_roads.proofs.Tying.{AtEnd, Goes, Leads, LeadsSo, answers, ended, goes, leads_ended, leads_on, leads_outside}
 use Rattle.machine_roads.proofs.Tying.{leads_rest, none_of, settles, top_of}
 
-made_is : (s new : Machine) → ◌≡◌ {A = Result Machine StepError} (Ok s) (Ok new) → s ≡ new
+pub made_is : (s new : Machine) → ◌≡◌ {A = Result Machine StepError} (Ok s) (Ok new) → s ≡ new
 made_is s new is = ap (λ (r : Result Machine StepError). by r) is
   where
     by : Result Machine StepError → Machine
@@ -67,14 +67,14 @@ has_before test (x ∷ xs) ys is = by (test x) (has_before test xs ys) is
     by true rest is = refl
     by false rest is = rest is
 
+pub tells : (m : Machine) → Reached m → has is_drop_begun m.world.trace ≡ m.world.gone
+tells m reached = sym (begun-has 0 m.world.trace) ∙ ((heard_here m reached).placed.leaves 0).begun
+
 -- the executor's drop that hasn't begun later hasn't begun before
 gone_before : (ts : List Step) (s new : Machine) → Reached s → run_all ts s ≡ Ok new → new.world.gone ≡ false
     → s.world.gone ≡ false
 gone_before ts s new reached made later = by (has is_drop_begun s.world.trace) refl
   where
-    tells : (m : Machine) → Reached m → has is_drop_begun m.world.trace ≡ m.world.gone
-    tells m reached = sym (begun-has 0 m.world.trace) ∙ ((heard_here m reached).placed.leaves 0).begun
-
     more : (more : Trace) × (new.world.trace ≡ s.world.trace ++ more)
     more =
         let k = run-continues ts s in

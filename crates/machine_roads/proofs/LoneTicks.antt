@@ -1,9 +1,7 @@
 -- A lone poll of a tick, where nothing is due: it lies down, or that is refused.
-use Rattle.std.proofs.Common.{◌≡◌, ◌⊎◌, ℕ, suc, ◌&&◌, ◌||◌, not, Bool, true, false, List, [], ◌∷◌, length, map, Option, Some, None}
-use Rattle.std.proofs.Common.{if◌then◌else◌, inl, inr, ⊎_elim, nat_lt, refl, sym, ap, subst, ◌∙◌, arith}
-use Rattle.std.specs.Prelude.{find}
+use Rattle.std.proofs.Common.{◌≡◌, ◌⊎◌, ℕ, suc, ◌&&◌, ◌||◌, not, Bool, true, false, List, [], ◌∷◌, length, Option, None}
+use Rattle.std.proofs.Common.{inl, inr, ⊎_elim, nat_lt, refl, sym, ap, subst, ◌∙◌, arith}
 use Rattle.executor_parts.specs.declared.mark.Mark.{Mark}
-use Rattle.task_moves.specs.AbstractTask as abstract
 use Rattle.executor_model.specs.declared.call.By.{By}
 use Rattle.executor_model.specs.declared.call.Call.{Call}
 use Rattle.executor_model.specs.declared.call.Call.TheVariants as call
@@ -24,22 +22,19 @@ use Rattle.executor_model.specs.Rows.{leaking_of, ticking_of}
 use Rattle.executor_model.specs.World.{World, tick_of}
 use Rattle.executor_model.proofs.Sleepers.SleepersFollowingExecutions.{agree}
 use Rattle.executor_model.proofs.Steps.Reached.{Reached, run-first}
-use Rattle.plain_scheduler.specs.State.{AtOnce, ATick, Choice, Code, Granted, Later, Lying, Plain, Refusal, Taker, Tick, Who}
-use Rattle.plain_scheduler.specs.Lists.{any, on, or}
-use Rattle.plain_scheduler.specs.Moves.{is_common, let_go, lies, task, tell}
-use Rattle.plain_scheduler.specs.Moves as plain
-use Rattle.plain_scheduler.specs.Takes as plain_takes
+use Rattle.plain_scheduler.specs.State.{ATick, Choice, Code, Plain, Refusal, Taker, Tick}
+use Rattle.plain_scheduler.specs.Lists.{any}
+use Rattle.plain_scheduler.specs.Moves.{is_common}
 use Rattle.plain_scheduler.specs.Calls.{does, PollTick}
 use Rattle.machine_roads.specs.View.{Output, wakes}
 use Rattle.machine_roads.specs.Road.{Follows}
 use Rattle.machine_roads.specs.Stopped.{Stopped, Stops, answered, drops, drops_given, drops_polled, polls}
 use Rattle.machine_roads.specs.Ticking.{CanPoll}
 use Rattle.machine_roads.specs.Lone.{EachLoneAlike, LoneTickLies}
-use Rattle.machine_roads.proofs.Copying.{copied_inside}
+use Rattle.machine_roads.proofs.Aside.{rests_inside}
 use Rattle.machine_roads.proofs.LoneCalls.{each}
 use Rattle.machine_roads.proofs.LoneRuns.{Inside, Rests as RestsSo, Whole, both_true, lone_calls_rest, passed}
 use Rattle.machine_roads.proofs.LyingDown.{polls_tick}
-use Rattle.machine_roads.proofs.Pending.{becomes_inside}
 use Rattle.machine_roads.proofs.TickPolls.{nothing_is}
 
 -- it is answered, or stands in one code more
@@ -51,38 +46,6 @@ one_more taker final below inside os codes (polls f) = inr refl
 one_more taker final below inside os codes (drops f) = inr refl
 one_more taker final below inside os codes (drops_polled f) = inr refl
 one_more taker final below inside os codes (drops_given f) = inr refl
-
-let_go_inside : (c : Choice) (a : Waker) (q : Plain Output Waker) → (let_go wakes (tell wakes c) a q).inside ≡ q.inside
-let_go_inside c a q = by (wakes a)
-  where
-    by : (o : Option ℕ) → (on o (plain.release wakes (tell wakes c)) q).inside ≡ q.inside
-    by None = refl
-    by (Some g) = becomes_inside c g (abstract.release (task g q)) q
-
-lies_inside : (c : Choice) (who : Who) (a : Waker) (q : Plain Output Waker) → (plain_takes.lies_down wakes c who a q).inside ≡ q.inside
-lies_inside c who a q = by (find (lies who) q.lying)
-  where
-    q1 : Plain Output Waker
-    q1 = plain.copied wakes a q
-
-    waker : (o : Option Waker)
-        → (or o (λ old. plain_takes.lain_again wakes c who a old q1) (plain_takes.lain wakes c who a q1)).inside ≡ q.inside
-    waker None = copied_inside a q
-    waker (Some old) =
-        let_go_inside c old (record q1 { lying = map (λ l. if lies who l then record l { waker = Some a } else l) q1.lying })
-        ∙ copied_inside a q
-
-    by : (o : Option (Lying Waker))
-        → (or o (λ l. or l.waker (λ old. plain_takes.lain_again wakes c who a old q1) (plain_takes.lain wakes c who a q1))
-        (plain_takes.lain wakes c who a q1)).inside ≡ q.inside
-    by None = copied_inside a q
-    by (Some l) = waker l.waker
-
-rests_inside : (c : Choice) (r : Refusal) (who : Who) (a : Waker) (q : Plain Output Waker)
-    → (plain_takes.rests wakes c r who a q).inside ≡ q.inside
-rests_inside c Granted who a q = lies_inside c who a q
-rests_inside c AtOnce who a q = refl
-rests_inside c Later who a q = lies_inside c who a q
 
 no_longer : (n m : ℕ) → n ≡ suc m → n ≡ m → ⊥
 no_longer n m longer same = omega (arith, longer, same)
@@ -96,12 +59,37 @@ pub may_begin : (s : Machine) (p : ℕ) (c : Call) → refusal s (Begin p c) ≡
 may_begin s p c may =
     unrefused (nat_lt p (length s.parties)) NoSuch (part_refusal s.world s.parties (stack s p) (Begin p c)) may
 
-abbrev others : World → List (List Op) → ℕ → By → Option StepError
-others w ss t b =
-    let c = call.PollTick t b in
+abbrev others : World → List (List Op) → Call → Option StepError
+others w ss c =
     unless (not (w.gone && is_on_executor c)) Gone
     (unless (not (is_on_executor c) || is_unused leaking_of ss) Gone
     (unless (not (is_owners c && w.is_static)) Gone (unless (not (is_owners c) || is_unborrowed w ss) Borrowed None)))
+
+-- what a call speaks of that may begin is there
+pub there_all : (w : World) (ss : List (List Op)) (o : Option Op) (c : Call) → begin_refusal w ss o c ≡ None → has_all w ss o c ≡ true
+there_all w ss o c may =
+    passed (has_all w ss o c) NoSuch (others w ss c)
+    (unrefused (is_free o) Busy (unless (has_all w ss o c) NoSuch (others w ss c)) may)
+
+-- what its owner alone calls that may begin is of an executor that isn't static
+pub owned_by : (w : World) (ss : List (List Op)) (o : Option Op) (c : Call) → is_on_executor c ≡ true → is_owners c ≡ true
+    → begin_refusal w ss o c ≡ None → w.is_static ≡ false
+owned_by w ss o c on_it owners may =
+    let last = unless (not (is_owners c) || is_unborrowed w ss) Borrowed None in
+    let fourth = unless (not (is_owners c && w.is_static)) Gone last in
+    let third = unless (not (is_on_executor c) || is_unused leaking_of ss) Gone fourth in
+    let second =
+    unrefused (has_all w ss o c) NoSuch (others w ss c)
+    (unrefused (is_free o) Busy (unless (has_all w ss o c) NoSuch (others w ss c)) may) in
+    let owned =
+    passed (not (is_owners c && w.is_static)) Gone last
+    (unrefused (not (is_on_executor c) || is_unused leaking_of ss) Gone fourth
+    (unrefused (not (w.gone && is_on_executor c)) Gone third second)) in
+    not_so w.is_static (sym (ap (λ b. not (b && w.is_static)) owners) ∙ owned)
+  where
+    not_so : (b : Bool) → not (true && b) ≡ true → b ≡ false
+    not_so false is = refl
+    not_so true is = absurd cc
 
 -- a tick that is polled lives, and finds room
 pub can_poll : (s : Machine) → Reached s → (p t : ℕ) (b : By) → begin_refusal s.world s.parties (top (stack s p)) (call.PollTick t b) ≡ None
@@ -110,15 +98,13 @@ can_poll s reached p t b may =
     let o = top (stack s p) in
     let agrees : SleepersAgree s =
     subst SleepersAgree (sym reached.is) (agree reached.limit reached.kind reached.parties reached.steps) in
-    let there =
-    passed (has_all s.world s.parties o (call.PollTick t b)) NoSuch (others s.world s.parties t b)
-    (unrefused (is_free o) Busy (unless (has_all s.world s.parties o (call.PollTick t b)) NoSuch (others s.world s.parties t b)) may) in
+    let there = there_all s.world s.parties o (call.PollTick t b) may in
     let known = both_true (lives (tick_of s.world t) && is_unused (ticking_of t) s.parties) (is_known o b) there in
     let alive = both_true (lives (tick_of s.world t)) (is_unused (ticking_of t) s.parties) known.0 in
     record { living = alive.0; roomed = λ awake. agrees.finds_room (tick_or_run.Tick t) awake }
 
 pub lone_tick_lies : EachLoneAlike LoneTickLies
-lone_tick_lies = each LoneTickLies (λ s reached q quiet follows p t c b steps first room where_it none new later lone.
+lone_tick_lies = each LoneTickLies (λ s reached q quiet follows p t c b steps first room none new later lone.
     let k = run-first (Begin p (call.PollTick t b)) steps s new lone.made in
     let may = may_begin s p (call.PollTick t b) k.0 in
     let a = waker_of None b in
@@ -127,7 +113,7 @@ lone_tick_lies = each LoneTickLies (λ s reached q quiet follows p t c b steps f
     (λ e. (r : Refusal) × Stops (Tick t a) (op.End reply.Ready (hold.Tick t)) [] q e
     (does wakes (record c { refusal = r }) (PollTick t a) q))
     quiet later
-    (λ hints all rests. polls_tick p None [] s.world q refl follows c t b first room where_it (can_poll s reached p t b may) hints all
+    (λ hints all rests. polls_tick p None [] s.world q refl follows c t b first room (can_poll s reached p t b may) hints all
     rests)
     lone))
   where

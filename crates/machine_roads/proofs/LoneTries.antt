@@ -1,12 +1,14 @@
--- A lone try, with the ends of all the code that it comes to: a poll, the drop of a future, and that of an output.
-use Rattle.std.proofs.Common.{◌≡◌, ℕ, ◌≤◌, ◌<◌, ◌==◌, ◌++◌, ◌&&◌, not, cond, Bool, true, false, List, [], ◌∷◌, length}
-use Rattle.std.proofs.Common.{Some, None, ⊎_elim, refl, sym, ap, subst, ◌∙◌, arith}
-use Rattle.std.specs.Prelude.{reverse}
-use Rattle.std.proofs.lemmas.Bool.Decides.{nat_tests}
+-- A lone try, and a lone poll of a tick, with the ends of all the code that they come to: a poll, the drop of a future, and that of
+-- an output.
+use Rattle.std.proofs.Common.{◌≡◌, ℕ, ◌≤◌, ◌++◌, Bool, true, false, List, [], ◌∷◌, length}
+use Rattle.std.proofs.Common.{Option, Some, None, slice_get, refl, sym, ap, subst, ◌∙◌, arith}
 use Rattle.task_moves.specs.declared.moves.owed.Move.{Move}
 use Rattle.task_moves.specs.declared.moves.owed.Move.TheVariants as move
 use Rattle.executor_model.specs.declared.call.Call.TheVariants as call
+use Rattle.executor_model.specs.declared.call.Reply.TheVariants as reply
 use Rattle.executor_model.specs.declared.event.Answer.TheVariants as answer
+use Rattle.executor_model.specs.declared.op.HandleOp.TheVariants as handle_op
+use Rattle.executor_model.specs.declared.op.Hold.TheVariants as hold
 use Rattle.executor_model.specs.declared.op.Op.{Op}
 use Rattle.executor_model.specs.declared.op.Op.TheVariants as op
 use Rattle.executor_model.specs.declared.op.TableOp.TheVariants as table_op
@@ -16,84 +18,40 @@ use Rattle.executor_model.specs.declared.step.Step.TheVariants.{Answer, Begin}
 use Rattle.executor_model.specs.declared.step.UserEnd.{UserEnd}
 use Rattle.executor_model.specs.declared.step.UserEnd.TheVariants as end
 use Rattle.executor_model.specs.Acts.{is_last_waker}
-use Rattle.executor_model.specs.Good.{Good}
 use Rattle.executor_model.specs.Quiet.{IsQuiet}
-use Rattle.executor_model.specs.Rows.{polls_of}
-use Rattle.executor_model.specs.Sound.{tabled, times}
-use Rattle.executor_model.specs.Steps.{Machine, accepts, below_top, react, stack}
-use Rattle.executor_model.specs.Weights.{same}
-use Rattle.executor_model.specs.World.{World, Done, among, done, task}
-use Rattle.executor_model.proofs.OneFuture.Stories.{among_is}
+use Rattle.executor_model.specs.Steps.{Machine, accepts, react, waker_of}
+use Rattle.executor_model.specs.World.{World, Done, done, task}
+use Rattle.executor_model.specs.World as world
 use Rattle.executor_model.proofs.Quiet.Resting.{rests}
-use Rattle.executor_model.proofs.Steps.Lift.{split, topped}
-use Rattle.executor_model.proofs.Steps.Reached.{Reached, deep-here, good-here, reached-more, run-first}
-use Rattle.plain_scheduler.specs.State.{Choice, Code, Drop, End, Lose, Plain, Poll, Try}
+use Rattle.executor_model.proofs.Steps.Reached.{Reached, deep-here, reached-more, run-first}
+use Rattle.plain_scheduler.specs.State.{Choice, Closed, Code, Drop, End, Future, Lose, Plain, Poll, Refusal, Taker, Tick, Try}
+use Rattle.plain_scheduler.specs.Lists.{on}
+use Rattle.plain_scheduler.specs.Moves.{called, task as plain_task, tell}
 use Rattle.plain_scheduler.specs.Calls as plain_calls
-use Rattle.plain_scheduler.specs.Calls.{does, Ends, EndsWith, Pends, TryTick}
+use Rattle.plain_scheduler.specs.Calls.{does, Ends, EndsWith, Pends, PollTick, TryTick}
 use Rattle.machine_roads.specs.View.{Output, wakes}
-use Rattle.machine_roads.specs.Road.{Follows}
+use Rattle.machine_roads.specs.Road.{Follows, waking_in}
 use Rattle.machine_roads.specs.Dropped.{Drops, IsEnding, answered, loses, rest_of, without_run}
-use Rattle.machine_roads.specs.Lone.{EachLoneAlike, Ended, LoneTriesEnd, ends as ends_with, is_end, over}
-use Rattle.machine_roads.specs.Stopped.{IsInPoll, of_try}
-use Rattle.machine_roads.proofs.Having.{same_self}
-use Rattle.machine_roads.proofs.Lists.{clash}
+use Rattle.machine_roads.specs.Forgotten.{IsForgotten, IsLastPoll, StopsForgetting, unawaited, without_awaiter}
+use Rattle.machine_roads.specs.Lone.{EachLoneAlike, Ended, LoneTicksEnd, LoneTriesEnd, ends as ends_with, is_end, over}
+use Rattle.machine_roads.specs.Stopped.{Finally, IsInPoll, of_tick, of_try}
+use Rattle.machine_roads.proofs.Aside.{called_inside}
+use Rattle.machine_roads.proofs.Forgetting.{forgets_so, forgotten_goes, forgotten_inside}
+use Rattle.machine_roads.proofs.Lists.{cons_is}
 use Rattle.machine_roads.proofs.LoneCalls.{each}
 use Rattle.machine_roads.proofs.LoneRuns.{InCode, Inside, Rests, Whole, all_rests, ends_so, lone_calls_rest, onward}
+use Rattle.machine_roads.proofs.LoneTicks.{can_poll, may_begin}
+use Rattle.machine_roads.proofs.LyingDown.{polls_tick_so}
 use Rattle.machine_roads.proofs.Pending.{gives_so, pends_so}
-use Rattle.machine_roads.proofs.RunEnding.{called_inside, drops, loses_in_take}
+use Rattle.machine_roads.proofs.Puts.{put_at, put_by}
+use Rattle.machine_roads.proofs.RunEnding.{drops, loses_in_take}
 use Rattle.machine_roads.proofs.Standing.{Answered, Behind, InDrop, InPoll, IsGoing, IsTaken, Stands, StandsSo, Stays, StaysSo}
-use Rattle.machine_roads.proofs.Trying.{tries_so, try_kind, yes}
-use Rattle.machine_roads.proofs.Tying.{AtEnd, Leads, LeadsSo, answers, top_of}
+use Rattle.machine_roads.proofs.Trying.{final_inside, tries_so, yes}
+use Rattle.machine_roads.proofs.Tying.{AtEnd, Leads, LeadsSo, answers}
 use Rattle.machine_roads.proofs.Unseen.{stands_in}
 
-cons_is : (x y : Op) (xs ys : List Op) → x ∷ xs ≡ y ∷ ys → (x ≡ y) × (xs ≡ ys)
-cons_is x y xs ys is = (ap (λ zs. head zs) is, ap (λ zs. tail zs) is)
-  where
-    head : List Op → Op
-    head [] = x
-    head (z ∷ zs) = z
-
-    tail : List Op → List Op
-    tail [] = []
-    tail (z ∷ zs) = zs
-
-two_apart : (k : ℕ) → 2 ≤ k → (k == 1) ≡ false
-two_apart k is = grind (arith, nat_tests)
-
-not_reached : (x y : Bool) → (x && (y && false)) ≡ false
-not_reached true true = refl
-not_reached true false = refl
-not_reached false y = refl
-
--- in a poll the table has a waker of the future
-reached_in_poll : (m : Machine) → Reached m → (p f : ℕ) (os : List Op) → p < length m.parties
-    → reverse (stack m p) ≡ op.User (user_op.Poll f) ∷ os → m.world.is_static ≡ false → among f m.world.table ≡ true
-    → is_last_waker move.EndPending (task m.world f) ≡ false
-reached_in_poll m reached p f os there is owned entered =
-    let good : Good m = good-here m reached in
-    let o = op.User (user_op.Poll f) in
-    let its_top = (top_of (stack m p) o os is).0 in
-    let s = task m.world f in
-    let held : tabled m.world f ≡ times f m.world.table =
-    ap {B = ℕ} (λ b. cond b 0 (times f m.world.table)) owned in
-    let some : 1 ≤ times f m.world.table =
-    ⊎_elim (λ (x : (among f m.world.table ≡ true) × (1 ≤ times f m.world.table)). x.1)
-    (λ (x : (among f m.world.table ≡ false) × (times f m.world.table ≡ 0)). absurd (clash x.0 entered))
-    (among_is f m.world.table) in
-    let many : 2 ≤ s.references =
-    omega (
-      arith,
-      held,
-      some,
-      (good.sound f).counted,
-      split (polls_of f) m.parties p (o ∷ []) (below_top (stack m p)) there (topped (stack m p) o its_top),
-      same_self f,
-    ) in
-    ap (λ b. not s.closed && (not s.scheduled && (b && not s.handle))) (two_apart s.references many)
-    ∙ not_reached (not s.closed) (not s.scheduled)
-
 module _ (p : ℕ) (new : Machine) (later : new.world.gone ≡ false) (last : Reached new) (quiet : IsQuiet new.world.trace)
-    (c : Choice) (codes : List (Code Output Waker)) where
+    (c : Choice) (codes : List (Code Output Waker)) (taker : Taker Waker) (final : Op) (it : Finally taker final) where
   -- the user code that is left ends so
   abbrev Result : Plain Output Waker → Type 0
   Result r = (z : Plain Output Waker) × Ended r z × (z.inside ≡ codes) × Follows new.world z
@@ -124,23 +82,23 @@ module _ (p : ℕ) (new : Machine) (later : new.world.gone ≡ false) (last : Re
   once_more e r it so = (so.0, ends_with (telling r) e r so.0 it (least (length r.lying)) so.1, so.2, so.3)
 
   -- the drop of an output ends, and so does the call
-  from_loss : (f : ℕ) (b r : Plain Output Waker) → b.inside ≡ codes → Rests p (λ e. Drops Try yes [] f b e r) new → Result r
+  from_loss : (f : ℕ) (b r : Plain Output Waker) → b.inside ≡ codes → Rests p (λ e. Drops taker final [] f b e r) new → Result r
   from_loss f b r same (Whole (answered next inside follows)) = (r, over r, inside ∙ same, follows)
   from_loss f b r same (Whole (loses awaiter next inside ending)) = absurd cc
   from_loss f b r same (Inside x) = by x.so
     where
-      by : Drops Try yes [] f b (done x.machine.world (x.first ∷ x.rest)) r → Result r
+      by : Drops taker final [] f b (done x.machine.world (x.first ∷ x.rest)) r → Result r
       by (answered next inside follows) = absurd cc
       by (loses awaiter next inside ending) =
           let m = x.machine in
           let both =
-          cons_is x.first (op.User (user_op.DropOutput f)) x.rest (rest_of (task m.world f).awaiter f yes ++ []) next in
+          cons_is x.first (op.User (user_op.DropOutput f)) x.rest (rest_of (task m.world f).awaiter f final ++ []) next in
           let r0 : Plain Output Waker = record r { inside = codes } in
-          let r1 : Plain Output Waker = record r { inside = Lose awaiter (Some Try) ∷ codes } in
+          let r1 : Plain Output Waker = record r { inside = Lose awaiter (Some taker) ∷ codes } in
           let c1 = telling r in
           let is : r1 ≡ r =
           ap (λ (codes : List (Code Output Waker)). record r { inside = codes })
-          (ap (λ (codes : List (Code Output Waker)). Lose awaiter (Some Try) ∷ codes) (sym same) ∙ sym inside) in
+          (ap (λ (codes : List (Code Output Waker)). Lose awaiter (Some taker) ∷ codes) (sym same) ∙ sym inside) in
           let ending0 : IsEnding m.world f awaiter r0 =
           record {
             known = ending.known;
@@ -149,96 +107,146 @@ module _ (p : ℕ) (new : Machine) (later : new.world.gone ≡ false) (last : Re
             counted = ending.counted;
             stored = ending.stored;
             awaited = ending.awaited;
-            follows = stands_in codes (without_run f m.world) r ending.follows;
+            follows =
+                stands_in codes (without_run f m.world) r ending.follows
+                (sym (ap (λ codes. waking_in codes) inside ∙ ap (λ codes. waking_in codes) same));
           } in
           let P : World → Type 0 = λ w. Follows w (does wakes c1 Ends r1) in
-          let leads : Leads p (done m.world (rest_of (task m.world f).awaiter f yes ++ [])) P =
+          let leads : Leads p (done m.world (rest_of (task m.world f).awaiter f final ++ [])) P =
           λ hints all rests.
-          loses_in_take Try yes p f [] m.world r0 awaiter c1 of_try refl ending0 (least (length r.lying)) hints tt all rests in
+          loses_in_take taker final p f [] m.world r0 awaiter c1 it refl ending0 (least (length r.lying)) hints tt all rests in
           let now : Leads p (done (react p x.first x.end m.world).world ((react p x.first x.end m.world).next ++ x.rest)) P =
           subst (λ o. Leads p (done (react p o x.end m.world).world ((react p o x.end m.world).next ++ x.rest)) P) (sym both.0)
           (subst (λ os. Leads p (done m.world os) P) (sym both.1) leads) in
-          let ended = ends_so p P new (goes_on (λ e. Drops Try yes [] f b e r) (AtEnd P) x now) in
+          let ended = ends_so p P new (goes_on (λ e. Drops taker final [] f b e r) (AtEnd P) x now) in
           subst Result is
-          (once_more Ends r1 refl
-          (does wakes c1 Ends r1, over (does wakes c1 Ends r1), called_inside c1 awaiter r0, ended))
+          (once_more Ends r1 refl (
+            does wakes c1 Ends r1,
+            over (does wakes c1 Ends r1),
+            final_inside taker final it c1 (on awaiter (called wakes (tell wakes c1)) r0) ∙ called_inside c1 awaiter r0,
+            ended,
+          ))
 
   -- so does the drop of a future
   from_drop : (R : Done → Type 0) (x : InCode p R new) (f : ℕ) (mv : Move) (why : End Output) → IsGoing x.machine.world f mv why
-      → x.first ∷ x.rest ≡ op.User (user_op.Drop f) ∷ op.Table (table_op.LeaveTable f) ∷ op.Move mv f ∷ yes ∷ []
-      → (r : Plain Output Waker) → r.inside ≡ Drop f why Try ∷ codes → Follows x.machine.world r → Result r
+      → x.first ∷ x.rest ≡ op.User (user_op.Drop f) ∷ op.Table (table_op.LeaveTable f) ∷ op.Move mv f ∷ final ∷ []
+      → (r : Plain Output Waker) → r.inside ≡ Drop f why taker ∷ codes → Follows x.machine.world r → Result r
   from_drop R x f mv why going next r inside follows =
       let m = x.machine in
-      let os = op.Table (table_op.LeaveTable f) ∷ op.Move mv f ∷ yes ∷ [] in
+      let os = op.Table (table_op.LeaveTable f) ∷ op.Move mv f ∷ final ∷ [] in
       let both = cons_is x.first (op.User (user_op.Drop f)) x.rest os next in
       let r0 : Plain Output Waker = record r { inside = codes } in
-      let r1 : Plain Output Waker = record r { inside = Drop f why Try ∷ codes } in
+      let r1 : Plain Output Waker = record r { inside = Drop f why taker ∷ codes } in
       let c1 = telling r in
       let is : r1 ≡ r = ap (λ (codes : List (Code Output Waker)). record r { inside = codes }) (sym inside) in
-      let S : Done → Type 0 = λ e. Drops Try yes [] f r0 e (does wakes c1 Ends r1) in
+      let S : Done → Type 0 = λ e. Drops taker final [] f r0 e (does wakes c1 Ends r1) in
       let leads : LeadsSo p (done m.world os) S =
       λ hints all rests.
-      drops p None [] m.world r0 refl (stands_in codes m.world r follows) Try yes of_try f mv why going.known going.entered going.ends c1
-      (least (length r.lying)) hints all rests in
+      drops p None [] m.world r0 refl (stands_in codes m.world r follows (sym (ap (λ codes. waking_in codes) inside))) taker final it
+      f mv why going.known going.entered going.ends c1 (least (length r.lying)) hints all rests in
       let now : LeadsSo p (done (react p x.first x.end m.world).world ((react p x.first x.end m.world).next ++ x.rest)) S =
       subst (λ o. LeadsSo p (done (react p o x.end m.world).world ((react p o x.end m.world).next ++ x.rest)) S) (sym both.0)
       (subst (λ os. LeadsSo p (done m.world os) S) (sym both.1) leads) in
       subst Result is (once_more Ends r1 refl (from_loss f r0 (does wakes c1 Ends r1) refl (goes_on R S x now)))
 
+  -- so does the drop of a future that nobody could wake any more
+  from_forgotten : (f : ℕ) (b r : Plain Output Waker) → b.inside ≡ codes → Rests p (λ e. StopsForgetting taker final [] f b e r) new
+      → Result r
+  from_forgotten f b r same (Whole so) =
+      let no : [] ≡ op.User (user_op.Drop f) ∷ op.Table (table_op.LeaveTable f) ∷ op.Handle (handle_op.LetGo f) ∷ final ∷ [] =
+      so.left in
+      absurd cc
+  from_forgotten f b r same (Inside x) =
+      let m = x.machine in
+      let os = op.Table (table_op.LeaveTable f) ∷ op.Handle (handle_op.LetGo f) ∷ final ∷ [] in
+      let both = cons_is x.first (op.User (user_op.Drop f)) x.rest os x.so.left in
+      let r0 : Plain Output Waker = record r { inside = codes } in
+      let r1 : Plain Output Waker = record r { inside = Drop f Closed taker ∷ codes } in
+      let c1 = telling r in
+      let is : r1 ≡ r =
+      ap (λ (codes : List (Code Output Waker)). record r { inside = codes })
+      (ap (λ (codes : List (Code Output Waker)). Drop f Closed taker ∷ codes) (sym same) ∙ sym x.so.inside) in
+      let it_is = x.so.forgotten in
+      let forgotten0 : IsForgotten m.world f r0 =
+      record {
+        known = it_is.known;
+        entered = it_is.entered;
+        spent = it_is.spent;
+        unheld = it_is.unheld;
+        finished = it_is.finished;
+        closed = it_is.closed;
+        awaited = it_is.awaited;
+        follows =
+            subst (Follows (without_awaiter f m.world)) (unawaited_in f r) (stands_in codes (without_awaiter f m.world) (unawaited f r)
+            it_is.follows
+            (sym (ap (λ codes. waking_in codes) (put_by (λ p. p.inside) f (record (plain_task f r) { awaiter = None }) r (λ fs. refl))
+            ∙ (ap (λ codes. waking_in codes) x.so.inside ∙ ap (λ codes. waking_in codes) same))));
+      } in
+      let P : World → Type 0 = λ w. Follows w (does wakes c1 Ends r1) in
+      let leads : Leads p (done m.world os) P =
+      λ hints all rests. forgotten_goes taker final p f [] m.world r0 c1 it refl forgotten0 (least (length r.lying)) hints tt all rests in
+      let now : Leads p (done (react p x.first x.end m.world).world ((react p x.first x.end m.world).next ++ x.rest)) P =
+      subst (λ o. Leads p (done (react p o x.end m.world).world ((react p o x.end m.world).next ++ x.rest)) P) (sym both.0)
+      (subst (λ os. Leads p (done m.world os) P) (sym both.1) leads) in
+      let ended = ends_so p P new (goes_on (λ e. StopsForgetting taker final [] f b e r) (AtEnd P) x now) in
+      subst Result is
+      (once_more Ends r1 refl
+      (does wakes c1 Ends r1, over (does wakes c1 Ends r1), forgotten_inside taker final it c1 f r0, ended))
+    where
+      unawaited_in : (f : ℕ) (r : Plain Output Waker)
+          → record (unawaited f r) { inside = codes } ≡ unawaited f (record r { inside = codes })
+      unawaited_in f r = by (slice_get r.futures f)
+        where
+          by : (o : Option (Future Output Waker))
+              → record (on o (λ x q. put_at f (record (plain_task f r) { awaiter = None }) x q) r) { inside = codes }
+              ≡ on o (λ x q. put_at f (record (plain_task f r) { awaiter = None }) x q) (record r { inside = codes })
+          by None = refl
+          by (Some x) = refl
+
   -- behind a poll
   at_end : (inside : List (Code Output Waker)) (w : World) (os : List Op) (now : List (Code Output Waker))
-      → Stays Try yes [] inside w os now → os ≡ [] → now ≡ inside
+      → Stays taker final [] inside w os now → os ≡ [] → now ≡ inside
   at_end inside w os now Answered none = refl
   at_end inside w os now (InDrop f mv why going) none = absurd cc
 
   in_drop : (R : Done → Type 0) (x : InCode p R new) (r : Plain Output Waker) → Follows x.machine.world r → (os : List Op)
-      (now : List (Code Output Waker)) → Stays Try yes [] codes x.machine.world os now → x.first ∷ x.rest ≡ os → r.inside ≡ now
+      (now : List (Code Output Waker)) → Stays taker final [] codes x.machine.world os now → x.first ∷ x.rest ≡ os → r.inside ≡ now
       → Result r
   in_drop R x r follows os now Answered next inside = absurd cc
   in_drop R x r follows os now (InDrop f mv why going) next inside = from_drop R x f mv why going next r inside follows
 
-  from_stays : (b r : Plain Output Waker) → b.inside ≡ codes → Rests p (λ e. StaysSo Try yes [] b e r) new → Result r
+  from_stays : (b r : Plain Output Waker) → b.inside ≡ codes → Rests p (λ e. StaysSo taker final [] b e r) new → Result r
   from_stays b r same (Whole so) =
       (r, over r, at_end b.inside new.world [] r.inside so.stays refl ∙ same, so.follows)
   from_stays b r same (Inside x) =
-      in_drop (λ e. StaysSo Try yes [] b e r) x r x.so.follows (x.first ∷ x.rest) r.inside
-      (subst (λ codes. Stays Try yes [] codes x.machine.world (x.first ∷ x.rest) r.inside) same x.so.stays) refl refl
+      in_drop (λ e. StaysSo taker final [] b e r) x r x.so.follows (x.first ∷ x.rest) r.inside
+      (subst (λ codes. Stays taker final [] codes x.machine.world (x.first ∷ x.rest) r.inside) same x.so.stays) refl refl
 
   -- in a poll
   from_poll : (R : Done → Type 0) (x : InCode p R new) (f : ℕ) → IsTaken x.machine.world f
-      → x.first ∷ x.rest ≡ op.User (user_op.Poll f) ∷ yes ∷ []
-      → (r : Plain Output Waker) → r.inside ≡ Poll f Try ∷ codes → r.is_static ≡ false → Follows x.machine.world r → Result r
-  from_poll R x f taken next r inside owned follows =
+      → x.first ∷ x.rest ≡ op.User (user_op.Poll f) ∷ final ∷ []
+      → (r : Plain Output Waker) → r.inside ≡ Poll f taker ∷ codes → Follows x.machine.world r → Result r
+  from_poll R x f taken next r inside follows =
       subst Result is (by x.end refl (ap (λ o. accepts o x.end) (sym both.0) ∙ x.accepted))
     where
-      both : (x.first ≡ op.User (user_op.Poll f)) × (x.rest ≡ yes ∷ [])
-      both = cons_is x.first (op.User (user_op.Poll f)) x.rest (yes ∷ []) next
+      both : (x.first ≡ op.User (user_op.Poll f)) × (x.rest ≡ final ∷ [])
+      both = cons_is x.first (op.User (user_op.Poll f)) x.rest (final ∷ []) next
 
       r0 : Plain Output Waker
       r0 = record r { inside = codes }
 
       r1 : Plain Output Waker
-      r1 = record r { inside = Poll f Try ∷ codes }
+      r1 = record r { inside = Poll f taker ∷ codes }
 
       is : r1 ≡ r
       is = ap (λ (codes : List (Code Output Waker)). record r { inside = codes }) (sym inside)
 
       follows0 : Follows x.machine.world r0
-      follows0 = stands_in codes x.machine.world r follows
-
-      in_poll : IsInPoll x.machine.world f
-      in_poll = record {
-        known = taken.known;
-        polled = taken.polled;
-        entered = taken.entered;
-        reached =
-            reached_in_poll x.machine x.reached p f x.rest x.there (x.is ∙ ap (λ o. o ∷ x.rest) both.0) (follows.kind ∙ owned)
-            taken.entered;
-      }
+      follows0 = stands_in codes x.machine.world r follows (sym (ap (λ codes. waking_in codes) inside))
 
       now : (e : UserEnd) (S : Done → Type 0) → x.end ≡ e
           → LeadsSo p (done (react p (op.User (user_op.Poll f)) e x.machine.world).world
-          ((react p (op.User (user_op.Poll f)) e x.machine.world).next ++ (yes ∷ []))) S
+          ((react p (op.User (user_op.Poll f)) e x.machine.world).next ++ (final ∷ []))) S
           → LeadsSo p (done (react p x.first x.end x.machine.world).world ((react p x.first x.end x.machine.world).next ++ x.rest)) S
       now e S at leads =
           subst (λ e. LeadsSo p (done (react p x.first e x.machine.world).world ((react p x.first e x.machine.world).next ++ x.rest)) S)
@@ -251,46 +259,108 @@ module _ (p : ℕ) (new : Machine) (later : new.world.gone ≡ false) (last : Re
           (sym both.1) leads))
 
       by : (e : UserEnd) → x.end ≡ e → accepts (op.User (user_op.Poll f)) e ≡ true → Result r1
-      by (end.Polled answer.Pending) at ok =
-          let c1 = telling r1 in
-          let S : Done → Type 0 = λ e. StaysSo Try yes [] r0 e (does wakes c1 Pends r1) in
-          once_more Pends r1 refl
-          (from_stays r0 (does wakes c1 Pends r1) refl
-          (goes_on R S x (now (end.Polled answer.Pending) S at
-          (λ hints all rests.
-          pends_so p [] x.machine.world r0 refl follows0 Try yes of_try f in_poll c1 (least (length r.lying)) hints all rests))))
+      by (end.Polled answer.Pending) at ok = pends (is_last_waker move.EndPending (world.task x.machine.world f)) refl
+        where
+          c1 : Choice
+          c1 = telling r1
+
+          pends : (b : Bool) → is_last_waker move.EndPending (world.task x.machine.world f) ≡ b → Result r1
+          pends false reached =
+              let S : Done → Type 0 = λ e. StaysSo taker final [] r0 e (does wakes c1 Pends r1) in
+              let in_poll : IsInPoll x.machine.world f =
+              record { known = taken.known; polled = taken.polled; entered = taken.entered; reached = reached } in
+              once_more Pends r1 refl
+              (from_stays r0 (does wakes c1 Pends r1) refl
+              (goes_on R S x (now (end.Polled answer.Pending) S at
+              (λ hints all rests.
+              pends_so p [] x.machine.world r0 refl follows0 taker final it f in_poll c1 (least (length r.lying)) hints all rests))))
+          pends true last =
+              let S : Done → Type 0 = λ e. StopsForgetting taker final [] f r0 e (does wakes c1 Pends r1) in
+              let last_poll : IsLastPoll x.machine.world f =
+              record { known = taken.known; polled = taken.polled; entered = taken.entered; last = last } in
+              once_more Pends r1 refl
+              (from_forgotten f r0 (does wakes c1 Pends r1) refl
+              (goes_on R S x (now (end.Polled answer.Pending) S at
+              (λ hints all rests. forgets_so p None [] x.machine.world r0 refl follows0 taker final f last_poll c1 hints all rests))))
       by (end.Polled answer.Ready) at ok =
           let c1 = telling r1 in
-          let S : Done → Type 0 = λ e. StaysSo Try yes [] r0 e (does wakes c1 (EndsWith tt) r1) in
+          let S : Done → Type 0 = λ e. StaysSo taker final [] r0 e (does wakes c1 (EndsWith tt) r1) in
           once_more (EndsWith tt) r1 refl
           (from_stays r0 (does wakes c1 (EndsWith tt) r1) refl
           (goes_on R S x (now (end.Polled answer.Ready) S at
-          (λ hints all rests. (gives_so p [] x.machine.world r0 refl follows0 Try yes f c1 hints all rests).0 taken))))
+          (λ hints all rests. (gives_so p [] x.machine.world r0 refl follows0 taker final f c1 hints all rests).0 taken))))
       by e at ok = absurd cc
 
-  -- from where a try rests first
+  -- from where the call rests first
   stands_at_end : (inside : List (Code Output Waker)) (w : World) (os : List Op) (now : List (Code Output Waker))
-      → Stands Try yes [] inside w os now → os ≡ [] → now ≡ inside
+      → Stands taker final [] inside w os now → os ≡ [] → now ≡ inside
   stands_at_end inside w os now (InPoll f taken) none = absurd cc
   stands_at_end inside w os now (Behind xs ys stays) none = at_end inside w os now stays none
 
-  in_code : (R : Done → Type 0) (x : InCode p R new) (r : Plain Output Waker) → r.is_static ≡ false → Follows x.machine.world r
-      → (os : List Op) (now : List (Code Output Waker)) → Stands Try yes [] codes x.machine.world os now → x.first ∷ x.rest ≡ os
+  in_code : (R : Done → Type 0) (x : InCode p R new) (r : Plain Output Waker) → Follows x.machine.world r
+      → (os : List Op) (now : List (Code Output Waker)) → Stands taker final [] codes x.machine.world os now → x.first ∷ x.rest ≡ os
       → r.inside ≡ now → Result r
-  in_code R x r owned follows os now (InPoll f taken) next inside = from_poll R x f taken next r inside owned follows
-  in_code R x r owned follows os now (Behind xs ys stays) next inside = in_drop R x r follows os now stays next inside
+  in_code R x r follows os now (InPoll f taken) next inside = from_poll R x f taken next r inside follows
+  in_code R x r follows os now (Behind xs ys stays) next inside = in_drop R x r follows os now stays next inside
 
-  pub from_try : (q r : Plain Output Waker) → q.inside ≡ codes → r.is_static ≡ false → Rests p (λ e. StandsSo Try yes [] q e r) new
+  pub from_take : (q r : Plain Output Waker) → q.inside ≡ codes → Rests p (λ e. StandsSo taker final [] q e r) new
       → Result r
-  from_try q r same owned (Whole so) =
+  from_take q r same (Whole so) =
       (r, over r, stands_at_end q.inside new.world [] r.inside so.stands refl ∙ same, so.follows)
-  from_try q r same owned (Inside x) =
-      in_code (λ e. StandsSo Try yes [] q e r) x r owned x.so.follows (x.first ∷ x.rest) r.inside
-      (subst (λ codes. Stands Try yes [] codes x.machine.world (x.first ∷ x.rest) r.inside) same x.so.stands) refl refl
+  from_take q r same (Inside x) =
+      in_code (λ e. StandsSo taker final [] q e r) x r x.so.follows (x.first ∷ x.rest) r.inside
+      (subst (λ codes. Stands taker final [] codes x.machine.world (x.first ∷ x.rest) r.inside) same x.so.stands) refl refl
+
+pub tries_end_so : (s : Machine) → Reached s → (q : Plain Output Waker) → IsQuiet s.world.trace → Follows s.world q → LoneTriesEnd s q
+tries_end_so s reached q quiet follows p c steps first many new later lone =
+    from_take p new later (reached-more (Begin p call.TryTick ∷ steps) s new reached lone.made) lone.ended c q.inside Try yes of_try q
+    (does wakes c TryTick q) refl
+    (lone_calls_rest s reached p call.TryTick steps new (λ e. StandsSo Try yes [] q e (does wakes c TryTick q)) quiet later
+    (λ hints all rests. tries_so p [] s.world q refl follows c first many hints all rests) lone)
 
 pub lone_tries_end : EachLoneAlike LoneTriesEnd
-lone_tries_end = each LoneTriesEnd (λ s reached q quiet follows p c steps owned first many new later lone.
-    from_try p new later (reached-more (Begin p call.TryTick ∷ steps) s new reached lone.made) lone.ended c q.inside q
-    (does wakes c TryTick q) refl (try_kind c q ∙ owned)
-    (lone_calls_rest s reached p call.TryTick steps new (λ e. StandsSo Try yes [] q e (does wakes c TryTick q)) quiet later
-    (λ hints all rests. tries_so p [] s.world q refl follows c first many hints all rests) lone))
+lone_tries_end = each LoneTriesEnd tries_end_so
+
+-- where it rests, and which memory was refused on the way
+told_rests : (p : ℕ) (new : Machine) (S : Refusal → Done → Type 0) → Rests p (λ e. (r : Refusal) × S r e) new
+    → (r : Refusal) × Rests p (S r) new
+told_rests p new S (Whole so) = (so.0, Whole so.1)
+told_rests p new S (Inside x) = (
+  x.so.0,
+  Inside
+      (record {
+        machine = x.machine;
+        first = x.first;
+        rest = x.rest;
+        end = x.end;
+        steps = x.steps;
+        reached = x.reached;
+        there = x.there;
+        is = x.is;
+        so = x.so.1;
+        accepted = x.accepted;
+        made = x.made;
+        follow = x.follow;
+      }),
+)
+
+pub ticks_end_so : (s : Machine) → Reached s → (q : Plain Output Waker) → IsQuiet s.world.trace → Follows s.world q → LoneTicksEnd s q
+ticks_end_so s reached q quiet follows p t c b steps first room new later lone =
+    let a = waker_of None b in
+    let final = op.End reply.Ready (hold.Tick t) in
+    let z : Refusal → Plain Output Waker = λ r. does wakes (record c { refusal = r }) (PollTick t a) q in
+    let S : Refusal → Done → Type 0 = λ r e. StandsSo (Tick t a) final [] q e (z r) in
+    let rested =
+    told_rests p new S
+    (lone_calls_rest s reached p (call.PollTick t b) steps new (λ e. (r : Refusal) × S r e) quiet later
+    (λ hints all rests. polls_tick_so p None [] s.world q refl follows c t b first room
+    (can_poll s reached p t b (may_begin s p (call.PollTick t b) (run-first (Begin p (call.PollTick t b)) steps s new lone.made).0))
+    hints all rests) lone) in
+    let r = rested.0 in
+    let end =
+    from_take p new later (reached-more (Begin p (call.PollTick t b) ∷ steps) s new reached lone.made) lone.ended c q.inside (Tick t a)
+    final (of_tick t a) q (z r) refl rested.1 in
+    (r, end.0, end.1, end.2, end.3)
+
+pub lone_ticks_end : EachLoneAlike LoneTicksEnd
+lone_ticks_end = each LoneTicksEnd ticks_end_so

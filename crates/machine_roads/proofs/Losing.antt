@@ -24,7 +24,7 @@ use Rattle.plain_scheduler.specs.State.{Choice, Loses, Lose, Plain, Done as Done
 use Rattle.plain_scheduler.specs.Lists.{on, or}
 use Rattle.plain_scheduler.specs.Moves.{answers, appended, becomes, called, enters, put, see, task, tell}
 use Rattle.plain_scheduler.specs.Calls as calls
-use Rattle.plain_scheduler.specs.Calls.{does, Detach, DropHandle}
+use Rattle.plain_scheduler.specs.Calls.{Detach, DropHandle}
 use Rattle.machine_roads.specs.View.{Output, view, wakes, waker_in}
 use Rattle.machine_roads.specs.Road.{Follows}
 use Rattle.machine_roads.specs.Alone.{alone, is_resting}
@@ -165,7 +165,7 @@ module _ (p : ℕ) (below : List Op) (under : is_resting below ≡ true) (end : 
             losing = record {
               known = subst (λ n. f < n) (sym (length_set w.tasks f shut)) at;
               closed = ap (λ (s : State). s.closed) here;
-              follows = subst (λ w. Follows w q3) gone (stands_in (Lose None None ∷ q2.inside) (log w3 e) q2 follows4);
+              follows = subst (λ w. Follows w q3) gone (stands_in (Lose None None ∷ q2.inside) (log w3 e) q2 follows4 refl);
             };
           }))
         where

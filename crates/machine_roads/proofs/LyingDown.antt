@@ -7,9 +7,9 @@ use Rattle.std.proofs.lemmas.List.{get_or-set_same}
 use Rattle.executor_parts.specs.declared.mark.Mark.{Mark}
 use Rattle.executor_parts.specs.Marks.{first_of}
 use Rattle.executor_parts.specs.Sleepers.{later, listed, next_number, position_of, put_to_sleep, waker_at, waker_in}
+use Rattle.executor_model.specs.declared.call.By.{By}
 use Rattle.executor_model.specs.declared.call.Call.TheVariants as call
 use Rattle.executor_model.specs.declared.call.Reply.TheVariants as reply
-use Rattle.executor_model.specs.declared.event.Event.{Event}
 use Rattle.executor_model.specs.declared.event.Event.TheVariants as event
 use Rattle.executor_model.specs.declared.op.Hold.TheVariants as hold
 use Rattle.executor_model.specs.declared.op.Look.TheVariants as look
@@ -17,34 +17,43 @@ use Rattle.executor_model.specs.declared.op.Op.{Op}
 use Rattle.executor_model.specs.declared.op.Op.TheVariants as op
 use Rattle.executor_model.specs.declared.op.Sleeping.{Sleeping}
 use Rattle.executor_model.specs.declared.op.TickOp.TheVariants as tick_op
+use Rattle.executor_model.specs.declared.op.TickOrRun.{TickOrRun}
 use Rattle.executor_model.specs.declared.op.TickOrRun.TheVariants as tick_or_run
 use Rattle.executor_model.specs.declared.op.Waker.{Waker}
+use Rattle.executor_model.specs.declared.step.Hint.{Hint}
 use Rattle.executor_model.specs.Acts.{copied, is_copy_refused, turned}
 use Rattle.executor_model.specs.ActsOfSleepers.{copy_sleeper_by, fall_asleep_by, pend_as, sleep_again_by, sleep_anew_by, sleep_listed_by}
 use Rattle.executor_model.specs.ActsOfSleepers.{sleeper_goes}
 use Rattle.executor_model.specs.SleepersAgree.{sleeps}
 use Rattle.executor_model.specs.Steps.{lives, waker_of}
 use Rattle.executor_model.specs.World.{Asleep, Awake, Done, Left, Ticker, World, done, log, tick_of}
-use Rattle.plain_scheduler.specs.State.{ARun, AtOnce, ATick, Choice, Granted, Later, Lying, NoMemory, Pending, Plain, Refusal, Who}
+use Rattle.plain_scheduler.specs.State.{AtOnce, ATick, Choice, Granted, Later, Lying, NoMemory, Pending, Plain, Refusal, Tick, Who}
 use Rattle.plain_scheduler.specs.Lists.{any, or, without}
-use Rattle.plain_scheduler.specs.Moves.{answers, appended, is_common, is_who, let_go, lies, put, release, task, tell}
+use Rattle.plain_scheduler.specs.Moves.{answers, is_common, is_who, let_go, lies, tell}
 use Rattle.plain_scheduler.specs.Moves as plain
 use Rattle.plain_scheduler.specs.Takes as plain_takes
+use Rattle.plain_scheduler.specs.Calls.{does, PollTick}
 use Rattle.machine_roads.specs.View.{Output, wakes}
-use Rattle.machine_roads.specs.Road.{Follows, sleeper, uncalled}
-use Rattle.machine_roads.specs.Alone.{alone, is_resting, CanCopy}
-use Rattle.machine_roads.specs.Ticking.{CanPoll, IsNamed, Rests, TickIsPolledAlike, down, up as is_up}
+use Rattle.machine_roads.specs.Road.{AreNumbered, Follows, place_in, sleeper, uncalled, who_of}
+use Rattle.machine_roads.specs.Alone.{alone, is_resting, CanCopy, HasAll}
+use Rattle.machine_roads.specs.Ticking.{CanPoll, TickIsPolledAlike, polling}
+use Rattle.machine_roads.proofs.Aside.{copied_inside, goes_inside}
 use Rattle.machine_roads.proofs.Changing.{logs}
-use Rattle.machine_roads.proofs.Copying.{HasOne, copied_can, copied_due, copied_has, copied_inside, copied_rests, copied_tick}
+use Rattle.machine_roads.proofs.Copying.{HasOne, copied_can, copied_due, copied_has, copied_tick}
 use Rattle.machine_roads.proofs.Copying.{copied_wakers, goes_back, lain_has}
-use Rattle.machine_roads.proofs.Lain.{Lies, all_called, all_uncalled, below_test, get_at, here_if, left, lies_anew, long, neither}
+use Rattle.machine_roads.proofs.Lain.{Lies, all_called, all_uncalled, below_test, count_at, count_before, count_others, get_at, here_if}
+use Rattle.machine_roads.proofs.Lain.{left, lies_anew, long, neither}
 use Rattle.machine_roads.proofs.Lain.{none_found, found, one_lies, place_called, place_uncalled, room_called, split_uncalled, told_test}
 use Rattle.machine_roads.proofs.Lain.{uncalled_append}
-use Rattle.machine_roads.proofs.Lists.{equal, get_last, length_last, map_append, same_of}
+use Rattle.machine_roads.proofs.Lists.{equal, get_last, length_last, map_append}
+use Rattle.machine_roads.proofs.Numbers.{Another, It, IsNamed, Rests, Which, asleep_set, count, count_append, count_one, down, itself}
+use Rattle.machine_roads.proofs.Numbers.{numbered_append, numbered_first, numbered_rest, numbered_still, one_if, place_apart, rests_if}
+use Rattle.machine_roads.proofs.Numbers.{ticks_who, up as is_up, which}
 use Rattle.machine_roads.proofs.PollCalls.{copied_lying}
 use Rattle.machine_roads.proofs.Polling.{copies_so}
+use Rattle.machine_roads.proofs.Standing.{StandsSo, stops_so}
 use Rattle.machine_roads.proofs.Stepping.{Way, next}
-use Rattle.machine_roads.proofs.TickPolls.{Comes, answers_so, let_go_inside, searches, searches_none, sleepy}
+use Rattle.machine_roads.proofs.TickPolls.{Comes, answers_so, searches, searches_none, sleepy}
 use Rattle.machine_roads.proofs.Ticking.{sleeper_goes_so}
 use Rattle.machine_roads.proofs.Unseen.{turns}
 
@@ -98,15 +107,12 @@ in_ticks [] t is = absurd cc
 in_ticks (x ∷ xs) zero is = omega arith
 in_ticks (x ∷ xs) (suc t) is = let below = in_ticks xs t is in omega (arith, below)
 
-ticks_who : (t : ℕ) (who : Who) → is_who (ATick t) who ≡ true → ATick t ≡ who
-ticks_who t (ATick u) is = ap ATick (same_of t u is)
-ticks_who t (ARun r) is = absurd cc
-
 -- other sleepers, as many of them called
 replaced : (w : World) (q : Plain Output Waker) (ws : List (ℕ × Sleeping)) (ls : List (Lying Waker)) → Follows w q
     → map sleeper ws ≡ uncalled ls → length ls ≡ length q.lying → length (uncalled ls) ≡ length (uncalled q.lying)
+    → ((who : Who) → count who ls ≡ count who q.lying) → AreNumbered w.ticks w.runs ws
     → Follows (record w { sleepers = record w.sleepers { wakers = ws } }) (record q { lying = ls })
-replaced w q ws ls r same many few = record {
+replaced w q ws ls r same many few counted numbered = record {
   limit = r.limit;
   kind = r.kind;
   many = r.many;
@@ -126,6 +132,10 @@ replaced w q ws ls r same many few = record {
       ∙ (told_test q.lying
       ∙ (ap (λ n. (n == 0) || nat_lt (length (uncalled q.lying)) n) (sym many)
       ∙ (ap (λ n. (length ls == 0) || nat_lt n (length ls)) (sym few) ∙ sym (told_test ls))));
+  asleep = λ x. counted (who_of x) ∙ r.asleep x;
+  numbered = numbered;
+  runs = r.runs;
+  waking = r.waking;
   seen = r.seen;
 }
 
@@ -266,7 +276,12 @@ module _ (p : ℕ) (below : List Op) (under : is_resting below ≡ true) (end : 
         (ap (λ n. n + 1) follows1.count
         ∙ (one_more (length q1.lying)
         ∙ (ap (λ (ls : List (Lying Waker)). suc (length ls)) (sym as_it_was)
-        ∙ sym (length_last (without (lies who) q1.lying) new_one)))) in
+        ∙ sym (length_last (without (lies who) q1.lying) new_one))))
+        (λ x. abed x (which t x))
+        (numbered_append (slice_set w1.ticks t (Asleep n)) w1.runs w1.sleepers.wakers ((n, s) ∷ [])
+        (numbered_still w1.ticks w1.runs (slice_set w1.ticks t (Asleep n)) w1.runs
+        (asleep_set w1.ticks w1.runs t (Asleep n) (ap sleeps awake)) w1.sleepers.wakers follows1.numbered)
+        (get_or-set_same w1.ticks t (Asleep n) Left (in_ticks w1.ticks t awake), tt)) in
         let bed : IsBedded w2 =
         record {
           number = n;
@@ -281,6 +296,31 @@ module _ (p : ℕ) (below : List Op) (under : is_resting below ≡ true) (end : 
       where
         one_more : (n : ℕ) → n + 1 ≡ suc n
         one_more n = omega arith
+
+        -- it sleeps too
+        abed : (x : TickOrRun) → Which t x
+            → count (who_of x) lain.lying ≡ sleeps (place_in (slice_set w1.ticks t (Asleep (next_number w1.sleepers))) w1.runs x)
+        abed x It =
+            let here = get_or-set_same w1.ticks t (Asleep (next_number w1.sleepers)) Left (in_ticks w1.ticks t awake) in
+            let before : count who q1.lying ≡ 0 = follows1.asleep (tick_or_run.Tick t) ∙ ap sleeps awake in
+            let same : count who (without (lies who) q1.lying) ≡ 0 =
+            ap (count who) (none_without (lies who) q1.lying none) ∙ before in
+            let last : count who (new_one ∷ []) ≡ 1 = count_one who new_one ∙ ap one_if (itself t) in
+            let total : count who lain.lying ≡ count who (without (lies who) q1.lying) + count who (new_one ∷ []) =
+            count_append who (without (lies who) q1.lying) (new_one ∷ []) in
+            let one : count who lain.lying ≡ 1 = omega (arith, total, last, same) in
+            one ∙ ap sleeps (sym here)
+        abed x (Another z apart turned_apart) =
+            let last : count (who_of z) (new_one ∷ []) ≡ 0 = count_one (who_of z) new_one ∙ ap one_if apart in
+            let total : count (who_of z) lain.lying
+            ≡ count (who_of z) (without (lies who) q1.lying) + count (who_of z) (new_one ∷ []) =
+            count_append (who_of z) (without (lies who) q1.lying) (new_one ∷ []) in
+            let same : count (who_of z) lain.lying ≡ count (who_of z) (without (lies who) q1.lying) =
+            omega (arith, total, last) in
+            same
+            ∙ (ap (count (who_of z)) (none_without (lies who) q1.lying none)
+            ∙ (follows1.asleep z
+            ∙ ap sleeps (sym (place_apart w1.ticks w1.runs t (Asleep (next_number w1.sleepers)) z turned_apart))))
 
     module _ (n : ℕ) (is : tick_of w1 t ≡ Asleep n) (l : Lies who q1.lying) where
       -- it was called
@@ -301,13 +341,23 @@ module _ (p : ℕ) (below : List Op) (under : is_resting below ≡ true) (end : 
           (lain_so w1.sleepers.wakers n
           (follows1.wakers
           ∙ (all_called n who w1 q1 follows1 named l called ∙ (sym (uncalled_append l.before l.after) ∙ ap uncalled (sym less)))))
-          (follows1.count ∙ (sym many ∙ sym (length_last (without (lies who) q1.lying) new_one))) in
+          (follows1.count ∙ (sym many ∙ sym (length_last (without (lies who) q1.lying) new_one)))
+          (λ x. listed_count (who_of x) ∙ follows1.asleep x)
+          (numbered_append w1.ticks w1.runs w1.sleepers.wakers ((n, s) ∷ []) follows1.numbered (is, tt)) in
           let bed : IsBedded w2 = record { number = n; before = w1.sleepers.wakers; place = is; last = refl } in
           again w2 q lain follows2
           (omega (arith, fit1, many, length_last (without (lies who) q1.lying) new_one))
           (copied_inside a q) bed (lain_has a q1 lain.lying (copied_has a w q follows can_copy)) quiet1
           (lies_by (Some l.one) (found n who w1 q1 follows1 named l)
           ∙ ap (λ (o : Option Waker). or o (λ old. plain_takes.lain_again wakes c who a old q1) lain) called) now
+        where
+          listed_count : (x : Who) → count x lain.lying ≡ count x q1.lying
+          listed_count x =
+              let last : count x (new_one ∷ []) ≡ one_if (is_who x l.one.who) =
+              count_one x new_one ∙ ap (λ who. one_if (is_who x who)) (ticks_who t l.one.who l.it) in
+              let total : count x lain.lying ≡ count x (without (lies who) q1.lying) + count x (new_one ∷ []) =
+              count_append x (without (lies who) q1.lying) (new_one ∷ []) in
+              omega (arith, total, last, count_others n t w1 q1 follows1 l x, count_before n t w1 q1 follows1 l x)
 
       -- it lay still: its waker is replaced
       lies_again : (named : IsNamed n who w1.sleepers.wakers) (x : Waker) → l.one.waker ≡ Some x
@@ -317,6 +367,7 @@ module _ (p : ℕ) (below : List Op) (under : is_resting below ≡ true) (end : 
           let i = length sp.first in
           let os = op.End reply.Pending (hold.Tick t) ∷ below in
           let ws : List (ℕ × Sleeping) = sp.first ++ (n, s) ∷ sp.rest in
+          let parts = subst (AreNumbered w1.ticks w1.runs) sp.is follows1.numbered in
           let one : Lying Waker = record l.one { waker = Some a } in
           let ls : List (Lying Waker) = l.before ++ one ∷ l.after in
           let changed : map (λ l. if lies who l then record l { waker = Some a } else l) q1.lying ≡ ls =
@@ -334,7 +385,12 @@ module _ (p : ℕ) (below : List Op) (under : is_resting below ≡ true) (end : 
           replaced w1 q1 ws ls follows1 same (lengths l.before l.after one l.one ∙ ap length (sym l.is))
           (ap length (uncalled_append l.before (one ∷ l.after))
           ∙ (lengths (uncalled l.before) (uncalled l.after) (l.one.who, a) (l.one.who, x)
-          ∙ ap length (sym (all_uncalled n who w1 q1 follows1 named l x waker)))) in
+          ∙ ap length (sym (all_uncalled n who w1 q1 follows1 named l x waker))))
+          (λ x. count_at x l.before l.after one
+          ∙ (sym (count_at x l.before l.after l.one) ∙ ap (count x) (sym l.is)))
+          (numbered_append w1.ticks w1.runs sp.first ((n, s) ∷ sp.rest)
+          (numbered_first w1.ticks w1.runs sp.first (sp.one ∷ sp.rest) parts)
+          (is, (numbered_rest w1.ticks w1.runs sp.first (sp.one ∷ sp.rest) parts).1)) in
           let fit2 : fits q2 =
           subst (λ n. n ≤ c.tells) (ap length l.is ∙ lengths l.before l.after l.one one) fit1 in
           let way2 : Way p end (record w1 { sleepers = record w1.sleepers { wakers = slice_set w1.sleepers.wakers i (n, s) } })
@@ -360,7 +416,7 @@ module _ (p : ℕ) (below : List Op) (under : is_resting below ≡ true) (end : 
             Granted,
             subst (λ z. Goes q (answers Pending z)) (sym lies_is)
                 (answers_so p below under end rests c t a g.world q (let_go wakes more sp.one.1.waker q2) reply.Pending (hold.Tick t)
-                Pending refl (let_go_inside p below under end rests c t a (Some sp.one.1.waker) q2 ∙ copied_inside a q) g.follows g.way),
+                Pending refl (goes_inside c (Some sp.one.1.waker) q2 ∙ copied_inside a q) g.follows g.way),
           )
 
     falls_asleep : length q.lying < c.tells → Rests w1 q1 t → CanPoll w1 t
@@ -384,9 +440,9 @@ module _ (p : ℕ) (below : List Op) (under : is_resting below ≡ true) (end : 
         by l (Some x) waker way = lies_again n is l named x waker way
 
   -- it lies down, or that is refused
-  pub lies_down_so : (w : World) (q : Plain Output Waker) → Follows w q → length q.lying < c.tells → Rests w q t → CanPoll w t
+  pub lies_down_so : (w : World) (q : Plain Output Waker) → Follows w q → length q.lying < c.tells → CanPoll w t
       → ((m : Mark) → any (is_common m) q.due ≡ false) → Way p end w (op.Tick (tick_op.CopyWaker s) ∷ below) → Result q
-  lies_down_so w q follows room where_it can quiet way =
+  lies_down_so w q follows room can quiet way =
       let step = next p end rests (op.Tick (tick_op.CopyWaker s)) w below refl way in
       by (is_copy_refused step.hint w a) step.has step.way
     where
@@ -396,16 +452,18 @@ module _ (p : ℕ) (below : List Op) (under : is_resting below ≡ true) (end : 
         answers_so p below under end rests c t a w q q reply.NoMemory (hold.Tick t) NoMemory refl refl follows way,
       )
       by false can_copy way =
-          falls_asleep w q follows (omega (arith, room)) can_copy quiet room (copied_rests a w q t where_it) (copied_can a w t can)
-          (next p end rests (op.Tick (tick_op.FallAsleep s)) (copied w a) below refl way).way
+          let two = next p end rests (op.Tick (tick_op.FallAsleep s)) (copied w a) below refl way in
+          falls_asleep w q follows (omega (arith, room)) can_copy quiet room
+          (rests_if t (copied w a) (plain.copied wakes a q) (copies_so a w q follows can_copy) (λ n is. two.has)) (copied_can a w t can)
+          two.way
 
-rests_still : (w : World) (q : Plain Output Waker) (t p : ℕ) (e f : Event) → Rests w q t → Rests (turned p (log (log w e) f)) q t
-rests_still w q t p e f (is_up awake none) = is_up awake none
-rests_still w q t p e f (down n is named one) = down n is named one
-
-pub polls_tick : (p : ℕ) (here : Option Waker) (below : List Op) (w : World) (q : Plain Output Waker) → is_resting below ≡ true
-    → Follows w q → TickIsPolledAlike p here below w q
-polls_tick p here below w q under follows c t b first room where_it can hints has rests =
+pub polls_tick_so : (p : ℕ) (here : Option Waker) (below : List Op) (w : World) (q : Plain Output Waker) → is_resting below ≡ true
+    → Follows w q → (c : Choice) (t : ℕ) (b : By) → c.first ≡ first_of w.urgent_turns → length q.lying < c.tells → CanPoll w t
+    → (hints : List Hint) → HasAll p hints (polling p here below w q t b)
+    → is_resting (alone p hints (polling p here below w q t b)).next ≡ true
+    → (r : Refusal) × StandsSo (Tick t (waker_of here b)) (op.End reply.Ready (hold.Tick t)) below q
+    (alone p hints (polling p here below w q t b)) (does wakes (record c { refusal = r }) (PollTick t (waker_of here b)) q)
+polls_tick_so p here below w q under follows c t b first room can hints has rests =
     let a = waker_of here b in
     let begun = event.CallBegun p (call.PollTick t b) in
     let polled = event.TickPolled p t in
@@ -420,9 +478,18 @@ polls_tick p here below w q under follows c t b first room where_it can hints ha
     let follows1 : Follows w1 q =
     logs (record w0 { urgent_turns = w1.urgent_turns }) q (turns w1.urgent_turns w0 q follows0)
     (event.Looked p (first_of w.urgent_turns)) refl in
-    let here_still : Rests w1 q t = rests_still w q t p begun polled where_it in
-    searches p below under end rests c t a k w1 q (omega (arith, room)) follows1 here_still
+    searches p below under end rests c t a k w1 q (omega (arith, room)) follows1
     (λ quiet way.
-    lies_down_so p below under end rests c t a k w1 q follows1 room here_still (record { living = can.living; roomed = can.roomed })
+    lies_down_so p below under end rests c t a k w1 q follows1 room (record { living = can.living; roomed = can.roomed })
     quiet way)
     (subst (λ m. Way p end w1 (op.Tick (tick_op.Look s (look.First m)) ∷ below)) (sym first) one.way)
+
+pub polls_tick : (p : ℕ) (here : Option Waker) (below : List Op) (w : World) (q : Plain Output Waker) → is_resting below ≡ true
+    → Follows w q → TickIsPolledAlike p here below w q
+polls_tick p here below w q under follows c t b first room can hints has rests =
+    let so = polls_tick_so p here below w q under follows c t b first room can hints has rests in
+    let a = waker_of here b in (
+      so.0,
+      stops_so (Tick t a) (op.End reply.Ready (hold.Tick t)) below q (alone p hints (polling p here below w q t b))
+          (does wakes (record c { refusal = so.0 }) (PollTick t a) q) so.1,
+    )

@@ -19,7 +19,7 @@ use Rattle.executor_model.specs.Acts.{append_by, call_waker, move_by, move_task,
 use Rattle.executor_model.specs.Acts.{is_told}
 use Rattle.executor_model.specs.Carried.{owed_ops}
 use Rattle.executor_model.specs.Good.{IsKnownWaker}
-use Rattle.executor_model.specs.World.{World, Done, done, among, awaiter_of, mark_of, log}
+use Rattle.executor_model.specs.World.{World, Done, among, awaiter_of, mark_of, log}
 use Rattle.executor_model.specs.World as world
 use Rattle.plain_scheduler.specs.State.{Calls, Future, Plain}
 use Rattle.plain_scheduler.specs.Lists.{on}
@@ -61,7 +61,63 @@ pub record Tells (p : ℕ) (end : Done) (more : Plain Output Waker → Plain Out
   pub polls : (f : ℕ) (q : Plain Output Waker) → abstract.polled (task f (more q)) ≡ abstract.polled (task f q)
 
 module _ (p : ℕ) (end : Done) (rests : is_resting end.next ≡ true) where
-  -- a move is made, and what it owes is left to do
+  -- a move is made, and what it owes is left to do; what is done to the world behind it leaves both alike
+  moved_then : (after : World → World) → ((w : World) (r : Plain Output Waker) → Follows w r → Follows (after w) r) → (m : Move)
+      (f : ℕ) (w : World) (os : List Op) (r : Plain Output Waker) (new : AbstractTask Output Waker)
+      → stands_alone m ≡ true → ((q g : ℕ) → heard (told_as m q g) ≡ []) → Follows w r → f < length w.tasks
+      → view (moves.after m (world.task w f)).state (waker_in (awaiter_of w f)) ≡ told new
+      → IsStored (moves.after m (world.task w f)).state (awaiter_of w f) → IsCalm new
+      → Way p end (after (move_task m p w f).world) ((move_task m p w f).next ++ os)
+      → Then p end (owed_ops (among f w.table) f (moves.after m (world.task w f)).owed ++ os) (put f new r)
+  moved_then after keeps m f w os r new stands unheard follows at same stored calm way =
+      by (is_last_waker m (world.task w f)) (is_told m (world.task w f))
+      (subst (λ b. Way p end (after (move_by b m p w f).world) ((move_by b m p w f).next ++ os)) stands way)
+    where
+      by : (last b : Bool)
+          → Way p end (after (world.put (told_of last b m p w f) f (moves.after m (world.task w f)).state))
+          (owed_ops (among f (told_of last b m p w f).table) f (moves.after m (world.task w f)).owed ++ os)
+          → Then p end (owed_ops (among f w.table) f (moves.after m (world.task w f)).owed ++ os) (put f new r)
+      by true true way =
+          let one = log w (told_as m p f) in
+          let two = log one (event.LastWaker p f) in
+          let three = world.put two f (moves.after m (world.task w f)).state in
+          record {
+            world = after three;
+            follows =
+                keeps three (put f new r)
+                (puts two r (logs one r (logs w r follows (told_as m p f) (unheard p f)) (event.LastWaker p f) refl) f at
+                (moves.after m (world.task w f)).state new same stored calm);
+            way = way;
+          }
+      by true false way =
+          let two = log w (event.LastWaker p f) in
+          let three = world.put two f (moves.after m (world.task w f)).state in
+          record {
+            world = after three;
+            follows =
+                keeps three (put f new r)
+                (puts two r (logs w r follows (event.LastWaker p f) refl) f at (moves.after m (world.task w f)).state new same stored calm);
+            way = way;
+          }
+      by false true way =
+          let one = log w (told_as m p f) in
+          let three = world.put one f (moves.after m (world.task w f)).state in
+          record {
+            world = after three;
+            follows =
+                keeps three (put f new r)
+                (puts one r (logs w r follows (told_as m p f) (unheard p f)) f at (moves.after m (world.task w f)).state new same
+                stored calm);
+            way = way;
+          }
+      by false false way =
+          let three = world.put w f (moves.after m (world.task w f)).state in
+          record {
+            world = after three;
+            follows = keeps three (put f new r) (puts w r follows f at (moves.after m (world.task w f)).state new same stored calm);
+            way = way;
+          }
+
   pub moved : (m : Move) (f : ℕ) (w : World) (os : List Op) (r : Plain Output Waker) (new : AbstractTask Output Waker)
       → stands_alone m ≡ true → ((q g : ℕ) → heard (told_as m q g) ≡ []) → Follows w r → f < length w.tasks
       → view (moves.after m (world.task w f)).state (waker_in (awaiter_of w f)) ≡ told new
@@ -69,45 +125,7 @@ module _ (p : ℕ) (end : Done) (rests : is_resting end.next ≡ true) where
       → Way p end (move_task m p w f).world ((move_task m p w f).next ++ os)
       → Then p end (owed_ops (among f w.table) f (moves.after m (world.task w f)).owed ++ os) (put f new r)
   moved m f w os r new stands unheard follows at same stored calm way =
-      by (is_last_waker m (world.task w f)) (is_told m (world.task w f))
-      (subst (λ b. Way p end (move_by b m p w f).world ((move_by b m p w f).next ++ os)) stands way)
-    where
-      by : (last b : Bool)
-          → Way p end (world.put (told_of last b m p w f) f (moves.after m (world.task w f)).state)
-          (owed_ops (among f (told_of last b m p w f).table) f (moves.after m (world.task w f)).owed ++ os)
-          → Then p end (owed_ops (among f w.table) f (moves.after m (world.task w f)).owed ++ os) (put f new r)
-      by true true way =
-          let one = log w (told_as m p f) in
-          let two = log one (event.LastWaker p f) in
-          record {
-            world = world.put two f (moves.after m (world.task w f)).state;
-            follows =
-                puts two r (logs one r (logs w r follows (told_as m p f) (unheard p f)) (event.LastWaker p f) refl) f at
-                (moves.after m (world.task w f)).state new same stored calm;
-            way = way;
-          }
-      by true false way =
-          let two = log w (event.LastWaker p f) in
-          record {
-            world = world.put two f (moves.after m (world.task w f)).state;
-            follows =
-                puts two r (logs w r follows (event.LastWaker p f) refl) f at (moves.after m (world.task w f)).state new same stored calm;
-            way = way;
-          }
-      by false true way =
-          let one = log w (told_as m p f) in
-          record {
-            world = world.put one f (moves.after m (world.task w f)).state;
-            follows =
-                puts one r (logs w r follows (told_as m p f) (unheard p f)) f at (moves.after m (world.task w f)).state new same
-                stored calm;
-            way = way;
-          }
-      by false false way = record {
-        world = world.put w f (moves.after m (world.task w f)).state;
-        follows = puts w r follows f at (moves.after m (world.task w f)).state new same stored calm;
-        way = way;
-      }
+      moved_then (λ w. w) (λ w r follows. follows) m f w os r new stands unheard follows at same stored calm way
 
   module _ (more : Plain Output Waker → Plain Output Waker) (P : Plain Output Waker → Type 0) (teller : Tells p end more P) where
     -- a future comes into its queue, if it does, and one that sleeps is told
@@ -173,36 +191,43 @@ module _ (p : ℕ) (end : Done) (rests : is_resting end.next ≡ true) where
         (ap (λ t. is_some (info_of t (abstract.release t))) tk ∙ sym al.queues)
         (subst (λ ops. Way p end m.world (ops ++ os)) (released_owes (among f w.table) f s) m.way)
 
-    -- a wake by a waker that goes
-    pub uses_so : (f : ℕ) (w : World) (os : List Op) (r : Plain Output Waker) → Follows w r → P r → f < length w.tasks
-        → Way p end (move_task move.Wake p w f).world ((move_task move.Wake p w f).next ++ os)
-        → Then p end os (used wakes more f r)
-    uses_so f w os r follows fit at way =
+    -- a wake by a waker that goes behind it
+    pub frees_so : (after : World → World) → ((w : World) (r : Plain Output Waker) → Follows w r → Follows (after w) r) → (f : ℕ)
+        (w : World) (os : List Op) (r : Plain Output Waker) → Follows w r → P r → f < length w.tasks
+        → Way p end (after (move_task move.Wake p w f).world) ((move_task move.Wake p w f).next ++ os)
+        → Then p end os (release wakes more f (wake wakes more f r))
+    frees_so after keeps f w os r follows fit at way =
         let s = world.task w f in
         let a = waker_in (awaiter_of w f) in
         let al : IsMove (moves.wake s) s a (abstract.wake (view s a)) = (wakes_alike s a).1 in
         let tk : task f r ≡ view s a = follows.tasks f at in
         let b : Bool = is_some (moves.wake s).owed.schedule in
         let m =
-        moved move.Wake f w os r (abstract.wake (task f r)) refl (λ q g. refl) follows at
+        moved_then after keeps move.Wake f w os r (abstract.wake (task f r)) refl (λ q g. refl) follows at
         (al.task ∙ ap (λ t. told (abstract.wake t)) (sym tk))
         (woken_stored (awaiter_of w f) s (follows.stored f at)) (wake_calm (task f r) (follows.calm f at)) way in
         let woken =
         becoming f m.world (op.Move move.Release f ∷ os) r (abstract.wake (task f r)) b m.follows fit
         (ap (λ t. is_some (info_of t (abstract.wake t))) tk ∙ sym al.queues)
         (regroup b m.world (subst (λ ops. Way p end m.world (ops ++ os)) (used_owes (among f w.table) f s) m.way)) in
-        let gone = releases_so f woken.world os (wake wakes more f r) woken.follows (fits f (abstract.wake (task f r)) r fit) woken.way in
-        let x = get_below r.futures f (subst (λ n. f < n) follows.many at) in
-        subst (Then p end os)
-        (used_slowly wakes f more (teller.past lower lowers f) r x.0 x.1
-        (sym (ap (λ (t : AbstractTask Output Waker). t.infos) (task_is f r x.0 x.1))
-        ∙ ap (λ (t : AbstractTask Output Waker). t.infos) tk))
-        gone
+        releases_so f woken.world os (wake wakes more f r) woken.follows (fits f (abstract.wake (task f r)) r fit) woken.way
       where
         regroup : (b : Bool) (w : World) → Way p end w ((queue_if b f ++ op.Move move.Release f ∷ []) ++ os)
             → Way p end w (queue_if b f ++ op.Move move.Release f ∷ os)
         regroup true w way = way
         regroup false w way = way
+
+    -- the same in one
+    pub uses_so : (f : ℕ) (w : World) (os : List Op) (r : Plain Output Waker) → Follows w r → P r → f < length w.tasks
+        → Way p end (move_task move.Wake p w f).world ((move_task move.Wake p w f).next ++ os)
+        → Then p end os (used wakes more f r)
+    uses_so f w os r follows fit at way =
+        let x = get_below r.futures f (subst (λ n. f < n) follows.many at) in
+        subst (Then p end os)
+        (used_slowly wakes f more (teller.past lower lowers f) r x.0 x.1
+        (sym (ap (λ (t : AbstractTask Output Waker). t.infos) (task_is f r x.0 x.1))
+        ∙ ap (λ (t : AbstractTask Output Waker). t.infos) (follows.tasks f at)))
+        (frees_so (λ w. w) (λ w r follows. follows) f w os r follows fit at way)
 
     -- a waker is called, and goes
     pub calls_so : (a : Waker) (o : Polled) (k : ℕ) (w : World) (os : List Op) (r : Plain Output Waker) → Follows w r → P r

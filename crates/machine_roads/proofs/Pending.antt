@@ -1,6 +1,6 @@
 -- The end of a poll of a future that a try or a tick took: the task rests, or comes into its queue, or its future is to be dropped.
 use Rattle.std.proofs.Common.{◌≡◌, ℕ, ◌≤◌, ◌++◌, ◌&&◌, not, Bool, true, false, List, ◌∷◌, length, Option, is_some}
-use Rattle.std.proofs.Common.{slice_set, if◌then◌else◌, refl, sym, ap, subst, ◌∙◌}
+use Rattle.std.proofs.Common.{slice_set, refl, sym, ap, subst, ◌∙◌}
 use Rattle.std.proofs.lemmas.List.{set-get_or}
 use Rattle.task_moves.specs.declared.moves.owed.Move.TheVariants as move
 use Rattle.task_moves.specs.declared.moves.state.State.{State}
@@ -22,7 +22,7 @@ use Rattle.executor_model.specs.Carried.{owed_ops}
 use Rattle.executor_model.specs.World.{World, Done, done, among, awaiter_of, blank, log}
 use Rattle.executor_model.specs.World as world
 use Rattle.plain_scheduler.specs.State.{Choice, Closed, Drop, Gave, Drops as DropsFuture, Plain, Poll, Taker}
-use Rattle.plain_scheduler.specs.Moves.{appended, becomes, put, see, task, tell}
+use Rattle.plain_scheduler.specs.Moves.{becomes, put, see, task, tell}
 use Rattle.plain_scheduler.specs.Takes as plain_takes
 use Rattle.plain_scheduler.specs.Calls as plain_calls
 use Rattle.plain_scheduler.specs.Calls.{does, EndsWith, Pends}
@@ -32,27 +32,18 @@ use Rattle.machine_roads.specs.Road.{Follows}
 use Rattle.machine_roads.specs.Alone.{alone, is_resting, HasAll}
 use Rattle.machine_roads.specs.Dropped.{given as given_by, polled as polled_by}
 use Rattle.machine_roads.specs.Stopped.{Finally, GivesAlikeInTake, IsInPoll, PendsAlikeInTake, Stops, drops_given, given, pended}
+use Rattle.machine_roads.proofs.Aside.{becomes_inside}
 use Rattle.machine_roads.proofs.Changing.{logs, puts, sees}
 use Rattle.machine_roads.proofs.Exchanging.{loudly}
 use Rattle.machine_roads.proofs.Moved.{becoming}
-use Rattle.machine_roads.proofs.Puts.{put_by}
 use Rattle.machine_roads.proofs.Running.{end_of, pending_is, run_alike}
 use Rattle.machine_roads.proofs.Standing.{Answered, InDrop, IsTaken, Stays, StaysSo, stopped_so}
 use Rattle.machine_roads.proofs.Stepping.{Way, next}
-use Rattle.machine_roads.proofs.Trying.{final_inside, finally_so, stops_at, tell_inside}
+use Rattle.machine_roads.proofs.Trying.{final_inside, finally_so, stops_at}
 use Rattle.machine_roads.proofs.Unseen.{places_so, stands_in}
 
--- a task becomes another in the code in which calls stand
-pub becomes_inside : (c : Choice) (f : ℕ) (new : AbstractTask Output Waker) (q : Plain Output Waker)
-    → (becomes wakes (tell wakes c) f new q).inside ≡ q.inside
-becomes_inside c f new q = by (is_some (info_of (task f q) new))
-  where
-    by : (b : Bool) → (if b then tell wakes c (appended f (put f new q)) else put f new q).inside ≡ q.inside
-    by true = tell_inside c (appended f (put f new q)) ∙ put_by (λ p. p.inside) f new q (λ fs. refl)
-    by false = put_by (λ p. p.inside) f new q (λ fs. refl)
-
 -- what the end of such a poll makes of a task, mark by mark
-pends_as : (s : State) (aw : Option Waker) → IsPolled s → (x y z : Bool) → s.closed ≡ x → s.scheduled ≡ y → moves.is_last s ≡ z
+pub pends_as : (s : State) (aw : Option Waker) → IsPolled s → (x y z : Bool) → s.closed ≡ x → s.scheduled ≡ y → moves.is_last s ≡ z
     → IsMove (moves.end_pending_by x y z s) s aw (pended_by (end_of x y z) (view s aw))
 pends_as s aw is x y z closed woken last =
     subst (λ x. IsMove (moves.end_pending_by x y z s) s aw (pended_by (end_of x y z) (view s aw))) closed
@@ -116,7 +107,7 @@ module _ (p : ℕ) (below : List Op) (under : is_resting below ≡ true) (end : 
                 (record { known = is.known; entered = is.entered; ends = polled_by is.polled closed });
             follows =
                 stands_in (Drop f Closed taker ∷ q.inside) w3 (see (DropsFuture f) q)
-                (sees w2 q (places_so (slice_set w.inside f false) w q follows) (event.Dropped p f) (DropsFuture f) refl);
+                (sees w2 q (places_so (slice_set w.inside f false) w q follows) (event.Dropped p f) (DropsFuture f) refl) refl;
           }))
       by false true z open_still woken last_one reached ending way =
           let os = final ∷ below in
@@ -212,7 +203,7 @@ gives_so p below w q under follows taker final f c hints has rests =
     let new : Plain Output Waker = plain_takes.dropping wakes c f (Gave tt) taker q in
     let follows1 : Follows w1 new =
     stands_in (Drop f (Gave tt) taker ∷ q.inside) w1 (see (DropsFuture f) q)
-    (sees w0 q (logs w q follows (event.Answered p f answer.Ready) refl) (event.Dropped p f) (DropsFuture f) refl) in
+    (sees w0 q (logs w q follows (event.Answered p f answer.Ready) refl) (event.Dropped p f) (DropsFuture f) refl) refl in
     subst (λ (e : Done). (IsTaken w f → StaysSo taker final below q e new) × Stops taker final below q e new) last (
       λ taken. record {
         stays =

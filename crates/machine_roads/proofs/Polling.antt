@@ -19,11 +19,11 @@ use Rattle.executor_model.specs.declared.op.Op.TheVariants as op
 use Rattle.executor_model.specs.declared.op.Waker.{Waker}
 use Rattle.executor_model.specs.declared.op.Waker.TheVariants.{Task, Outside}
 use Rattle.executor_model.specs.Acts.{copied, end_register_by, let_go, look_again_by, register_by, waker_goes}
-use Rattle.executor_model.specs.World.{World, Done, awaiter_of, blank, log, put_awaiter}
+use Rattle.executor_model.specs.World.{World, Done, awaiter_of, blank, put_awaiter}
 use Rattle.executor_model.specs.World as world
 use Rattle.plain_scheduler.specs.State.{Plain}
 use Rattle.plain_scheduler.specs.Lists.{on}
-use Rattle.plain_scheduler.specs.Moves.{appended, becomes, put, release, task}
+use Rattle.plain_scheduler.specs.Moves.{appended, put, release, task}
 use Rattle.plain_scheduler.specs.Moves as plain
 use Rattle.machine_roads.specs.View.{Output, view, wakes, waker_in}
 use Rattle.machine_roads.specs.Road.{Follows}

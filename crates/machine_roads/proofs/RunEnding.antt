@@ -15,7 +15,6 @@ use Rattle.executor_model.specs.declared.op.Op.TheVariants as op
 use Rattle.executor_model.specs.declared.op.TableOp.TheVariants as table_op
 use Rattle.executor_model.specs.declared.op.UserOp.TheVariants as user_op
 use Rattle.executor_model.specs.declared.op.Waker.{Waker}
-use Rattle.executor_model.specs.declared.op.Waker.TheVariants.{Task, Outside}
 use Rattle.executor_model.specs.Acts.{is_last_waker, is_told, move_by, stands_alone, told_of}
 use Rattle.executor_model.specs.Carried.{awaiter_ops, output_ops, owed_ops}
 use Rattle.executor_model.specs.World.{World, Done, done, among, awaiter_of, blank, log, put_awaiter}
@@ -31,12 +30,12 @@ use Rattle.machine_roads.specs.Alone.{alone, is_resting}
 use Rattle.machine_roads.specs.Dropped.{Drops, DropsAlikeInTake, EndsBy, IsEnding, LosesAlikeInTake, answered, given, loses, polled, queued}
 use Rattle.machine_roads.specs.Dropped.{rest_of, without_run}
 use Rattle.machine_roads.specs.Stopped.{Finally}
+use Rattle.machine_roads.proofs.Aside.{called_inside}
 use Rattle.machine_roads.proofs.Changing.{sees, settles}
 use Rattle.machine_roads.proofs.Dropped.{leaves, marked}
 use Rattle.machine_roads.proofs.Ending.{ending_so}
 use Rattle.machine_roads.proofs.Lists.{length_set, set_twice}
 use Rattle.machine_roads.proofs.Moving.{state}
-use Rattle.machine_roads.proofs.Pending.{becomes_inside}
 use Rattle.machine_roads.proofs.Puts.{put_by, put_lying}
 use Rattle.machine_roads.proofs.Stepping.{Way, next}
 use Rattle.machine_roads.proofs.Trying.{final_inside, stops_at}
@@ -210,12 +209,6 @@ module _ (c : Choice) (w : Option Waker) where
   run_ends s m why (given is) =
       given_run s.scheduled s.running s.completed s.closed s.handle s.awaiter s.registering s.notifying s.references is
 
--- who is called leaves the code in which calls stand
-pub called_inside : (c : Choice) (o : Option Waker) (q : Plain Output Waker) → (on o (called wakes (tell wakes c)) q).inside ≡ q.inside
-called_inside c None q = refl
-called_inside c (Some (Outside x)) q = refl
-called_inside c (Some (Task g)) q = becomes_inside c g (abstract.release (abstract.wake (task g q))) q
-
 -- what goes out of a task whose run ends
 goes_out : (taker : Taker Waker) (c : Choice) (l : abstract.Left Output Waker) (z : Plain Output Waker) (a : Option Waker)
     (d : Option Output)
@@ -364,7 +357,7 @@ module _ (p : ℕ) (below : List Op) (under : is_resting below ≡ true) (end : 
             awaited = ending.awaited;
             follows =
                 stands_in (Lose aw (Some taker) ∷ q4.inside) (log (without_run f w3) v) q4
-                (sees (without_run f w3) z ending.follows v (Loses tt) refl);
+                (sees (without_run f w3) z ending.follows v (Loses tt) refl) refl;
           }))
 
 pub drops : (p : ℕ) (here : Option Waker) (below : List Op) (w : World) (q : Plain Output Waker) → is_resting below ≡ true

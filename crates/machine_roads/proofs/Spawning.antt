@@ -95,6 +95,10 @@ module _ (w : World) (p : Plain Output Waker) (r : Follows w p) (m : Mark) where
     wakers = r.wakers;
     count = r.count;
     flag = r.flag;
+    asleep = r.asleep;
+    numbered = r.numbered;
+    runs = r.runs;
+    waking = r.waking;
     seen = r.seen;
   }
     where

@@ -34,19 +34,18 @@ use Rattle.plain_scheduler.specs.Calls.{does, PollTick}
 use Rattle.machine_roads.specs.View.{Output, wakes}
 use Rattle.machine_roads.specs.Seeing.{answer_of, shown}
 use Rattle.machine_roads.specs.Road.{Follows, futures_in}
-use Rattle.machine_roads.specs.Alone.{is_resting}
-use Rattle.machine_roads.specs.Stopped.{Stopped, Stops, answered}
-use Rattle.machine_roads.specs.Ticking.{Rests, down, up as is_up}
+use Rattle.machine_roads.specs.Alone.{is_resting, SleepsAlone}
+use Rattle.machine_roads.proofs.Aside.{goes_inside, tell_inside}
 use Rattle.machine_roads.proofs.Calling.{ends}
 use Rattle.machine_roads.proofs.Due.{First, find_never, find_same, nothing, without_same}
 use Rattle.machine_roads.proofs.Exchanging.{loudly}
-use Rattle.machine_roads.proofs.Lain.{lies_anew, neither, none_found, ups, waker_by}
+use Rattle.machine_roads.proofs.Lain.{asleep_up, lies_anew, neither, none_found, numbered_up, one_lies, ups, waker_by}
 use Rattle.machine_roads.proofs.Moved.{Then, fits as stays_fit}
-use Rattle.machine_roads.proofs.Pending.{becomes_inside}
+use Rattle.machine_roads.proofs.Numbers.{Rests, down, rests_if, up as is_up}
 use Rattle.machine_roads.proofs.Stepping.{Way, next}
-use Rattle.machine_roads.proofs.Standing.{stops_so}
+use Rattle.machine_roads.proofs.Standing.{Answered, Behind, Stands, StandsSo}
 use Rattle.machine_roads.proofs.Ticking.{sleeper_goes_so}
-use Rattle.machine_roads.proofs.Trying.{runs, takes_first, tell_inside}
+use Rattle.machine_roads.proofs.Trying.{runs, takes_first}
 
 -- of each mark, where of one and of the other
 both_marks : (m n : Mark) (due : List Due) → any (is_common m) due ≡ false → any (is_common (other m)) due ≡ false
@@ -99,7 +98,7 @@ module _ (p : ℕ) (below : List Op) (under : is_resting below ≡ true) (end : 
   refusing r = record c { refusal = r }
 
   abbrev pub Comes : Plain Output Waker → Plain Output Waker → Type 0
-  Comes q new = Stops (Tick t a) final below q end new
+  Comes q new = StandsSo (Tick t a) final below q end new
 
   -- the call is answered
   pub answers_so : (w : World) (q z : Plain Output Waker) (r : Reply) (held : Hold) (x : Answer Output)
@@ -108,9 +107,9 @@ module _ (p : ℕ) (below : List Op) (under : is_resting below ≡ true) (end : 
   answers_so w q z r held x same inside follows way =
       let e = ends p below under end rests w z r held x same follows way in
       record {
-        stopped =
-            subst (λ codes. Stopped (Tick t a) final below q.inside end.next codes) (sym inside)
-            (subst (λ os. Stopped (Tick t a) final below q.inside os q.inside) (sym e.0) answered);
+        stands =
+            subst (λ codes. Stands (Tick t a) final below q.inside end.world end.next codes) (sym inside)
+            (subst (λ os. Stands (Tick t a) final below q.inside end.world os q.inside) (sym e.0) (Behind below q.inside Answered));
         follows = e.1;
       }
 
@@ -128,14 +127,9 @@ module _ (p : ℕ) (below : List Op) (under : is_resting below ≡ true) (end : 
   let_go_fits (Some (Outside x)) q fit = fit
   let_go_fits (Some (Task g)) q fit = stays_fit p end rests more fits (loudly p end rests c) g (abstract.release (task g q)) q fit
 
-  pub let_go_inside : (o : Option Waker) (q : Plain Output Waker) → (on o (let_go wakes more) q).inside ≡ q.inside
-  let_go_inside None q = refl
-  let_go_inside (Some (Outside x)) q = refl
-  let_go_inside (Some (Task g)) q = becomes_inside c g (abstract.release (task g q)) q
-
-  gets_up : (w : World) (os : List Op) (q : Plain Output Waker) → Follows w q → fits q → Rests w q t
+  rises : (w : World) (os : List Op) (q : Plain Output Waker) → Follows w q → fits q → Rests w q t
       → Way p end w (found_by (tick_of w t) (tick_or_run.Tick t) os ++ below) → GotUp (os ++ below) q
-  gets_up w os q follows fit (is_up awake none) way =
+  rises w os q follows fit (is_up awake none) way =
       let same : up wakes c who q ≡ q = ap (λ o. rising o q) (none_found (lies who) q.lying none) in
       record {
         so_up =
@@ -148,7 +142,7 @@ module _ (p : ℕ) (below : List Op) (under : is_resting below ≡ true) (end : 
       by Awake awake way = way
       by Left awake way = way
       by (Asleep n) awake way = absurd (omega (arith, awake))
-  gets_up w os q follows fit (down n is named one) way =
+  rises w os q follows fit (down n is named one) way =
       let u = ups n who w q follows named one in
       let wakes_up = op.Tick (tick_op.WakeUp (tick_or_run.Tick t)) in
       let asleep : Way p end w (wakes_up ∷ (os ++ below)) =
@@ -161,7 +155,9 @@ module _ (p : ℕ) (below : List Op) (under : is_resting below ≡ true) (end : 
       step.way in
       let q2 : Plain Output Waker = record q { lying = without (lies who) q.lying } in
       let follows2 : Follows w2 q2 =
-      lies_anew w q (woken_up n w.sleepers) (without (lies who) q.lying) (slice_set w.ticks t Awake) follows u.wakers u.count in
+      lies_anew w q (woken_up n w.sleepers) (without (lies who) q.lying) (slice_set w.ticks t Awake) follows u.wakers u.count
+      (asleep_up n t w q follows (one_lies who q.lying one) is Awake refl)
+      (numbered_up n t w q follows (one_lies who q.lying one) is Awake refl u) in
       let fit2 : fits q2 = omega (arith, u.fewer, fit) in
       let g = sleeper_goes_so p end rests c (waker_of n w.sleepers.wakers) w2 (os ++ below) q2 follows2 fit2 now in
       let o : Option Waker = waker_by (waker_of n w.sleepers.wakers) in
@@ -170,37 +166,41 @@ module _ (p : ℕ) (below : List Op) (under : is_resting below ≡ true) (end : 
       record {
         so_up = subst (Then p end (os ++ below)) (sym same) g;
         fit_up = subst fits (sym same) (let_go_fits o q2 fit2);
-        inside_up = ap (λ (q : Plain Output Waker). q.inside) same ∙ let_go_inside o q2;
+        inside_up = ap (λ (q : Plain Output Waker). q.inside) same ∙ goes_inside c o q2;
       }
 
-  -- where it sleeps is nothing to the queues
-  rests_on : (w : World) (m : Mark) (due : List Due) (q : Plain Output Waker) → Rests w q t
-      → Rests (put_queue w m (taken (queue_of w m))) (record q { due = due }) t
-  rests_on w m due q (is_up awake none) = is_up awake none
-  rests_on w m due q (down n is named one) = down n is named one
+  gets_up : (w : World) (os : List Op) (q : Plain Output Waker) → Follows w q → fits q
+      → Way p end w (found_by (tick_of w t) (tick_or_run.Tick t) os ++ below) → GotUp (os ++ below) q
+  gets_up w os q follows fit way = rises w os q follows fit (rests_if t w q follows only) way
+    where
+      wakes_up : Op
+      wakes_up = op.Tick (tick_op.WakeUp (tick_or_run.Tick t))
+
+      only : (n : ℕ) → tick_of w t ≡ Asleep n → SleepsAlone w (tick_or_run.Tick t)
+      only n is =
+          (next p end rests wakes_up w (os ++ below) refl
+          (subst (λ x. Way p end w (found_by x (tick_or_run.Tick t) os ++ below)) is way)).has
 
   -- one that was found is taken
-  pub finds : (r : Refusal) (m : Mark) (f : ℕ) (rest : List ℕ) (w : World) (q : Plain Output Waker) → fits q → Follows w q → Rests w q t
+  pub finds : (r : Refusal) (m : Mark) (f : ℕ) (rest : List ℕ) (w : World) (q : Plain Output Waker) → fits q → Follows w q
       → (queue_of w m).items ≡ f ∷ rest
       → ((d : Due) → any (is_common m) q.due ≡ true → chosen (commons c) q.due d ≡ is_common m d)
       → Way p end (put_queue w m (taken (queue_of w m)))
       (found_by (tick_of w t) (tick_or_run.Tick t) (op.Sleeper sleeper_op.ExchangeFlag ∷ op.Move move.TakeUp f ∷ final ∷ []) ++ below)
       → Comes q (does wakes (refusing r) (PollTick t a) q)
-  finds r m f rest w q fit follows where_it is tests way =
+  finds r m f rest w q fit follows is tests way =
       let both = takes_first m w q f rest follows is in
       let one : First (is_common m) q.due f rest = both.0 in
       let q1 : Plain Output Waker = record q { due = without (is_common m) q.due } in
       let w1 = put_queue w m (taken (queue_of w m)) in
       let got =
       gets_up w1 (op.Sleeper sleeper_op.ExchangeFlag ∷ op.Move move.TakeUp f ∷ final ∷ []) q1 both.1 fit
-      (rests_on w m (without (is_common m) q.due) q where_it) way in
+      way in
       let q2 = up wakes c who q1 in
       let told = (loudly p end rests c).tells got.so_up.world (op.Move move.TakeUp f ∷ final ∷ below) q2 got.fit_up got.so_up.follows
       got.so_up.way in
       let new : Plain Output Waker = plain_takes.run wakes c f (Tick t a) (tell wakes c q2) in
-      let run =
-      stops_so (Tick t a) final below (tell wakes c q2) end new
-      (runs p below under end rests (Tick t a) final c f told.world (tell wakes c q2) told.follows told.way) in
+      let run = runs p below under end rests (Tick t a) final c f told.world (tell wakes c q2) told.follows told.way in
       let same : (d : Due) → chosen (commons c) q.due d ≡ is_common m d = λ d. tests d one.some in
       let take : Option Due → List Due → Plain Output Waker = λ o ds.
       or o (λ d. plain_takes.takes wakes c (Tick t a) d (record q { due = ds })) (plain_takes.nothing wakes (refusing r) (Tick t a) q) in
@@ -210,8 +210,9 @@ module _ (p : ℕ) (below : List Op) (under : is_resting below ≡ true) (end : 
       ∙ (ap (take (Some one.due_one)) (without_same (λ d. chosen (commons c) q.due d) (is_common m) q.due same)
       ∙ ap (λ f. plain_takes.run wakes c f (Tick t a) (tell wakes c q2)) one.is)))
       (record {
-        stopped =
-            subst (λ codes. Stopped (Tick t a) final below codes end.next new.inside) (tell_inside c q2 ∙ got.inside_up) run.stopped;
+        stands =
+            subst (λ codes. Stands (Tick t a) final below codes end.world end.next new.inside) (tell_inside c q2 ∙ got.inside_up)
+            run.stands;
         follows = run.follows;
       })
 
@@ -219,12 +220,12 @@ module _ (p : ℕ) (below : List Op) (under : is_resting below ≡ true) (end : 
   sleepy k = record { waker = a; who = tick_or_run.Tick t; poll = k }
 
   -- a search: it finds one, or nothing without a keeper is due
-  pub searches : (k : ℕ) (w : World) (q : Plain Output Waker) → fits q → Follows w q → Rests w q t
+  pub searches : (k : ℕ) (w : World) (q : Plain Output Waker) → fits q → Follows w q
       → (((m : Mark) → any (is_common m) q.due ≡ false) → Way p end w (op.Tick (tick_op.CopyWaker (sleepy k)) ∷ below)
       → (r : Refusal) × Comes q (plain_takes.rests wakes c r who a q))
       → Way p end w (op.Tick (tick_op.Look (sleepy k) (look.First c.first)) ∷ below)
       → (r : Refusal) × Comes q (does wakes (refusing r) (PollTick t a) q)
-  searches k w q fit follows where_it rests_so way =
+  searches k w q fit follows rests_so way =
       by (queue_of w c.first).items refl
       (next p end rests (op.Tick (tick_op.Look (sleepy k) (look.First c.first))) w below refl way).way
     where
@@ -238,7 +239,7 @@ module _ (p : ℕ) (below : List Op) (under : is_resting below ≡ true) (end : 
           (so.0, subst (Comes q) (sym (finds_nothing c t a so.0 q none nor)) so.1)
       second none (f ∷ rest) is way = (
         Granted,
-        finds Granted (other c.first) f rest w q fit follows where_it is
+        finds Granted (other c.first) f rest w q fit follows is
             (λ d some.
             ap (λ b. if b then is_common c.first d else (if any (is_common (other c.first)) q.due then is_common (other c.first) d
             else false)) none
@@ -255,7 +256,7 @@ module _ (p : ℕ) (below : List Op) (under : is_resting below ≡ true) (end : 
           second none (queue_of w (other c.first)).items refl s.way
       by (f ∷ rest) is way = (
         Granted,
-        finds Granted c.first f rest w q fit follows where_it is
+        finds Granted c.first f rest w q fit follows is
             (λ d some. ap
             (λ b. if b then is_common c.first d else (if any (is_common (other c.first)) q.due then is_common (other c.first) d
             else false)) some) way,

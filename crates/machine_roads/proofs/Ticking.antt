@@ -12,6 +12,7 @@ use Rattle.executor_model.specs.declared.op.Op.TheVariants as op
 use Rattle.executor_model.specs.declared.op.RunOp.TheVariants as run_op
 use Rattle.executor_model.specs.declared.op.Sleeping.{Sleeping}
 use Rattle.executor_model.specs.declared.op.TickOp.TheVariants as tick_op
+use Rattle.executor_model.specs.declared.op.TickOrRun.{TickOrRun}
 use Rattle.executor_model.specs.declared.op.TickOrRun.TheVariants as tick_or_run
 use Rattle.executor_model.specs.declared.op.Waker.{Waker}
 use Rattle.executor_model.specs.declared.op.Waker.TheVariants.{Task, Outside}
@@ -23,29 +24,32 @@ use Rattle.plain_scheduler.specs.Lists.{any, on, without}
 use Rattle.plain_scheduler.specs.Moves.{answers, is_called, leaves, let_go, lies, tell, up}
 use Rattle.plain_scheduler.specs.Calls.{does, is_granted, DropTick, NewTick}
 use Rattle.machine_roads.specs.View.{Output, wakes}
-use Rattle.machine_roads.specs.Road.{Follows}
+use Rattle.machine_roads.specs.Road.{Follows, place_in}
 use Rattle.machine_roads.specs.Alone.{alone, is_resting}
-use Rattle.machine_roads.specs.Ticking.{Rests, TickGoesAlike, TickIsMadeAlike, down, up as is_up}
+use Rattle.machine_roads.specs.Ticking.{TickGoesAlike, TickIsMadeAlike}
 use Rattle.machine_roads.proofs.Calling.{ends}
 use Rattle.machine_roads.proofs.Changing.{logs}
 use Rattle.machine_roads.proofs.Exchanging.{loudly}
-use Rattle.machine_roads.proofs.Lain.{Up, lies_anew, none_found, ups, waker_by}
+use Rattle.machine_roads.proofs.Lain.{Lies, Up, asleep_up, lies_anew, none_found, numbered_up, one_lies, ups, waker_by}
 use Rattle.machine_roads.proofs.Lists.{clash}
 use Rattle.machine_roads.proofs.Moved.{Then}
+use Rattle.machine_roads.proofs.Numbers.{Rests, asleep_last, asleep_set, down, rests_if, sleeps_last, sleeps_set, up as is_up}
 use Rattle.machine_roads.proofs.Polling.{lets_go_so}
-use Rattle.machine_roads.proofs.Stepping.{Way, next}
+use Rattle.machine_roads.proofs.Stepping.{Step, Way, next}
 use Rattle.machine_roads.proofs.Unseen.{roomed}
 
 abbrev given_if : Bool → Sleepers Sleeping → Sleepers Sleeping
 given_if b s = elim b [ true ↦ record s { rooms = s.rooms - 1 } | false ↦ s ]
 
-returned : (ticks : List Ticker) (w : World) (q : Plain Output Waker) → Follows w q
+pub returned : (ticks : List Ticker) (w : World) (q : Plain Output Waker) → Follows w q
+    → ((x : TickOrRun) → sleeps (place_in ticks w.runs x) ≡ sleeps (place_in w.ticks w.runs x))
+    → ((x : TickOrRun) (n : ℕ) → place_in w.ticks w.runs x ≡ Asleep n → place_in ticks w.runs x ≡ Asleep n)
     → Follows (record w { ticks = ticks; sleepers = given_back w.sleepers }) q
-returned ticks w q r = by (nat_lt w.sleepers.count w.sleepers.rooms)
+returned ticks w q r same still = by (nat_lt w.sleepers.count w.sleepers.rooms)
   where
     by : (b : Bool) → Follows (record w { ticks = ticks; sleepers = given_if b w.sleepers }) q
-    by true = roomed ticks (w.sleepers.rooms - 1) w q r
-    by false = roomed ticks w.sleepers.rooms w q r
+    by true = roomed ticks (w.sleepers.rooms - 1) w q r same still
+    by false = roomed ticks w.sleepers.rooms w q r same still
 
 -- a waker of one that slept is let go
 pub sleeper_goes_so : (p : ℕ) (end : Done) (rests : is_resting end.next ≡ true) (c : Choice) (o : Option Sleeping) (w : World)
@@ -68,7 +72,9 @@ module _ (p : ℕ) (here : Option Waker) (below : List Op) (w : World) (q : Plai
   made_by c end rests false granted w0 follows0 way =
       subst (λ b. (end.next ≡ below) × Follows end.world (if b then answers MadeAnswer q else answers NoMemory q)) (sym granted)
       (ends p below under end rests (make_tick_by false w0).world q reply.Made hold.Executor MadeAnswer refl
-      (roomed (make_tick_by false w0).world.ticks (make_tick_by false w0).world.sleepers.rooms w0 q follows0) way)
+      (roomed (make_tick_by false w0).world.ticks (make_tick_by false w0).world.sleepers.rooms w0 q follows0
+      (sleeps_last w0.ticks w0.runs) (asleep_last w0.ticks w0.runs))
+      way)
 
   pub makes_tick : TickIsMadeAlike p here below w q
   makes_tick c [] granted has rests = absurd (clash refl rests)
@@ -106,23 +112,26 @@ module _ (p : ℕ) (here : Option Waker) (below : List Op) (w : World) (q : Plai
         → Way p end (leave_sleepers_by (tick_of w t) w0 (tick_or_run.Tick t)).world
         ((leave_sleepers_by (tick_of w t) w0 (tick_or_run.Tick t)).next ++ os)
         → Leaves (does wakes c (DropTick t) q)
-    goes_up awake none way =
+    goes_up still none way =
         subst (λ q. Leaves (answers DoneAnswer q))
         (sym (ap (λ (o : Option (Lying Waker)). on o (λ l p. if is_called l then tell wakes c (up wakes c who p) else up wakes c who p) q)
         (none_found (lies who) q.lying none)))
-        (by (tick_of w t) awake way)
+        (by (tick_of w t) still way)
       where
         by : (x : Ticker) → sleeps x ≡ 0
             → Way p end (leave_sleepers_by x w0 (tick_or_run.Tick t)).world ((leave_sleepers_by x w0 (tick_or_run.Tick t)).next ++ os)
             → Leaves (answers DoneAnswer q)
         by Awake awake way =
             ends p below under end rests (leave_sleepers_by Awake w0 (tick_or_run.Tick t)).world q reply.Done (hold.Tick t) DoneAnswer
-            refl (returned (slice_set w.ticks t Left) w0 q follows0) way
+            refl
+            (returned (slice_set w.ticks t Left) w0 q follows0 (sleeps_set w.ticks w.runs t Left still refl)
+            (asleep_set w.ticks w.runs t Left still))
+            way
         by Left awake way =
             ends p below under end rests w0 q reply.Done (hold.Tick t) DoneAnswer refl follows0 way
         by (Asleep n) awake way = absurd (omega (arith, awake))
 
-    module _ (n : ℕ) (u : Up n who w0 q) where
+    module _ (n : ℕ) (is : tick_of w t ≡ Asleep n) (k : Lies who q.lying) (u : Up n who w0 q) where
       abbrev q1 : Plain Output Waker
       q1 = record q { lying = without (lies who) q.lying }
 
@@ -132,6 +141,7 @@ module _ (p : ℕ) (here : Option Waker) (below : List Op) (w : World) (q : Plai
       follows1 : Follows w1 q1
       follows1 =
           lies_anew w0 q (woken_up n w0.sleepers) (without (lies who) q.lying) (slice_set w.ticks t Left) follows0 u.wakers u.count
+          (asleep_up n t w0 q follows0 k is Left refl) (numbered_up n t w0 q follows0 k is Left refl u)
 
       fit1 : fits q1
       fit1 = omega (arith, u.fewer, many)
@@ -175,19 +185,24 @@ module _ (p : ℕ) (here : Option Waker) (below : List Op) (w : World) (q : Plai
           let z = left_by (waker_by (waker_of n w0.sleepers.wakers)) in
           subst (λ q. Leaves (answers DoneAnswer q)) (ap left_by u.goes ∙ sym leaves_is)
           (ends p below under end rests (record g.world { sleepers = given_back g.world.sleepers }) z reply.Done (hold.Tick t) DoneAnswer
-          refl (returned g.world.ticks g.world z g.follows) s.way)
+          refl (returned g.world.ticks g.world z g.follows (λ x. refl) (λ x n is. is)) s.way)
 
-    goes : Rests w q t → Way p end w0 (op.Tick (tick_op.Leave (tick_or_run.Tick t)) ∷ os) → Leaves (does wakes c (DropTick t) q)
-    goes (is_up awake none) way =
-        goes_up awake none (next p end rests (op.Tick (tick_op.Leave (tick_or_run.Tick t))) w0 os refl way).way
-    goes (down n is named one) way =
-        goes_down n (ups n who w0 q follows0 named one)
-        (subst
-        (λ x. Way p end (leave_sleepers_by x w0 (tick_or_run.Tick t)).world ((leave_sleepers_by x w0 (tick_or_run.Tick t)).next ++ os)) is
-        (next p end rests (op.Tick (tick_op.Leave (tick_or_run.Tick t))) w0 os refl way).way)
+    goes : Way p end w0 (op.Tick (tick_op.Leave (tick_or_run.Tick t)) ∷ os) → Leaves (does wakes c (DropTick t) q)
+    goes way = by (rests_if t w0 q follows0 (λ n is. step.has))
+      where
+        step : Step p end (op.Tick (tick_op.Leave (tick_or_run.Tick t))) w0 os
+        step = next p end rests (op.Tick (tick_op.Leave (tick_or_run.Tick t))) w0 os refl way
+
+        by : Rests w0 q t → Leaves (does wakes c (DropTick t) q)
+        by (is_up awake none) = goes_up awake none step.way
+        by (down n is named one) =
+            goes_down n is (one_lies who q.lying one) (ups n who w0 q follows0 named one)
+            (subst
+            (λ x. Way p end (leave_sleepers_by x w0 (tick_or_run.Tick t)).world ((leave_sleepers_by x w0 (tick_or_run.Tick t)).next ++ os))
+            is step.way)
 
   pub tick_goes : TickGoesAlike p here below w q
-  tick_goes c t where_it many hints unit has rests =
+  tick_goes c t many hints unit has rests =
       let w0 = log (log w (event.CallBegun p (call.DropTick t))) (event.TickDropped p t) in
       let os = op.Tick (tick_op.Leave (tick_or_run.Tick t)) ∷ (op.End reply.Done (hold.Tick t) ∷ below) in
-      goes c t many (alone p hints (done w0 os)) rests where_it (record { hints = hints; has = has; is = refl })
+      goes c t many (alone p hints (done w0 os)) rests (record { hints = hints; has = has; is = refl })

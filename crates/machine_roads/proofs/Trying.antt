@@ -1,7 +1,6 @@
 -- A try of a tick: it takes the first that is due without a keeper, where one is, and comes to its poll or drop.
-use Rattle.std.proofs.Common.{◌≡◌, ℕ, ◌≤◌, ◌-◌, ◌<◌, ◌++◌, not, min, cond, Bool, true, false, List, [], ◌∷◌, length, drop}
-use Rattle.std.proofs.Common.{Option, Some, None, is_some, slice_get, slice_set, if◌then◌else◌, refl, sym, ap, subst, ◌∙◌}
-use Rattle.std.specs.Prelude.{find}
+use Rattle.std.proofs.Common.{◌≡◌, ℕ, ◌≤◌, ◌<◌, ◌++◌, not, Bool, true, false, List, [], ◌∷◌, length, drop}
+use Rattle.std.proofs.Common.{Option, Some, None, slice_get, slice_set, if◌then◌else◌, refl, sym, ap, subst, ◌∙◌}
 use Rattle.std.proofs.lemmas.List.{get_or-set_same, set-get_or}
 use Rattle.executor_parts.specs.declared.mark.Mark.{Mark}
 use Rattle.executor_parts.specs.declared.mark.Mark.TheVariants.{Plain as PlainMark, Urgent}
@@ -11,7 +10,7 @@ use Rattle.task_moves.specs.declared.moves.owed.Move.TheVariants as move
 use Rattle.task_moves.specs.declared.moves.state.State.{State}
 use Rattle.task_moves.specs.AbstractTask as abstract
 use Rattle.task_moves.specs.AbstractTask.{AbstractTask}
-use Rattle.task_moves.specs.LocalTask.{info_of, told}
+use Rattle.task_moves.specs.LocalTask.{told}
 use Rattle.task_moves.specs.Moves as moves
 use Rattle.executor_model.specs.declared.call.Call.TheVariants as call
 use Rattle.executor_model.specs.declared.call.Reply.TheVariants as reply
@@ -30,11 +29,11 @@ use Rattle.executor_model.specs.Acts.{take_by, told_of}
 use Rattle.executor_model.specs.Carried.{owed_ops}
 use Rattle.executor_model.specs.World.{World, Done, done, among, awaiter_of, blank, log, put_queue, queue_of}
 use Rattle.executor_model.specs.World as world
-use Rattle.plain_scheduler.specs.State.{Calls, Choice, Closed, Code, Drop, Drops, Due, Future, Lying, No, Plain, Poll, Polls, Ready}
-use Rattle.plain_scheduler.specs.State.{Event as Sight, Taker, Try, Yes}
+use Rattle.plain_scheduler.specs.State.{Choice, Closed, Drop, Drops, Due, Future, No, Plain, Poll, Polls, Ready}
+use Rattle.plain_scheduler.specs.State.{Taker, Try, Yes}
 use Rattle.plain_scheduler.specs.Lists.{any, on, or, without}
-use Rattle.plain_scheduler.specs.Moves.{appended, called, chosen, commons, enters, is_called, is_common, is_kept, put, see}
-use Rattle.plain_scheduler.specs.Moves.{task, tell, told_at, used}
+use Rattle.plain_scheduler.specs.Moves.{chosen, commons, enters, is_common, is_kept, put, see}
+use Rattle.plain_scheduler.specs.Moves.{task, tell}
 use Rattle.plain_scheduler.specs.Takes as plain_takes
 use Rattle.plain_scheduler.specs.Calls.{does, TryTick}
 use Rattle.machine_roads.specs.View.{Output, view, waker_in, wakes}
@@ -43,11 +42,11 @@ use Rattle.machine_roads.specs.Dropped.{queued as queued_by}
 use Rattle.machine_roads.specs.Road.{Follows, futures_in}
 use Rattle.machine_roads.specs.Alone.{alone, is_resting, HasAll}
 use Rattle.machine_roads.specs.Stopped.{Finally, TriesAlike, of_tick, of_try}
+use Rattle.machine_roads.proofs.Aside.{tell_inside}
 use Rattle.machine_roads.proofs.Calling.{ends, idles}
 use Rattle.machine_roads.proofs.Changing.{logs, puts, sees}
 use Rattle.machine_roads.proofs.Due.{First, find_never, find_same, first, keepers_apart, marks_apart, nothing, others, without_same}
 use Rattle.machine_roads.proofs.Exchanging.{loudly}
-use Rattle.machine_roads.proofs.Lying.{called_one}
 use Rattle.machine_roads.proofs.Lists.{length_set}
 use Rattle.machine_roads.proofs.Puts.{put_at, put_by}
 use Rattle.machine_roads.proofs.Running.{run_alike}
@@ -78,6 +77,10 @@ takes_first m w q f rest r is =
         wakers = r.wakers;
         count = r.count;
         flag = r.flag;
+        asleep = r.asleep;
+        numbered = r.numbered;
+        runs = r.runs;
+        waking = r.waking;
         seen = r.seen;
       },
     )
@@ -88,77 +91,6 @@ takes_first m w q f rest r is =
     items Urgent Urgent is left = ap (drop 1) is ∙ sym left
     items PlainMark Urgent is left = r.common Urgent ∙ sym (others (is_common PlainMark) (is_common Urgent) q.due (marks_apart PlainMark))
     items Urgent PlainMark is left = r.common PlainMark ∙ sym (others (is_common Urgent) (is_common PlainMark) q.due (marks_apart Urgent))
-
--- what is asked of the plain scheduler that futures, who lies, what is due and what was seen say nothing of
-pub record IsAside {B : Type 0} (ask : Plain Output Waker → B) : Type 0 where
-  pub futures : (q : Plain Output Waker) (fs : List (Future Output Waker)) → ask (record q { futures = fs }) ≡ ask q
-  pub due : (q : Plain Output Waker) (ds : List Due) → ask (record q { due = ds }) ≡ ask q
-  pub lying : (q : Plain Output Waker) (ls : List (Lying Waker)) → ask (record q { lying = ls }) ≡ ask q
-  pub seen : (q : Plain Output Waker) (e : Sight Output Waker) → ask (see e q) ≡ ask q
-
--- to tell leaves that
-tell_keeps : {B : Type 0} (ask : Plain Output Waker → B) → IsAside ask → (c : Choice) (q : Plain Output Waker)
-    → ask (tell wakes c q) ≡ ask q
-tell_keeps ask aside c q = by (any is_called q.lying)
-  where
-    used_keeps : (g : ℕ) (q : Plain Output Waker) → ask (used wakes (λ s. s) g q) ≡ ask q
-    used_keeps g q = cases (is_some (info_of (task g q) (abstract.release (abstract.wake (task g q)))))
-      where
-        new : AbstractTask Output Waker
-        new = abstract.release (abstract.wake (task g q))
-
-        cases : (b : Bool) → ask (if b then appended g (put g new q) else put g new q) ≡ ask q
-        cases true = aside.due (put g new q) (appended g (put g new q)).due ∙ put_by ask g new q (λ fs. aside.futures q fs)
-        cases false = put_by ask g new q (λ fs. aside.futures q fs)
-
-    call : (q : Plain Output Waker) (w : Waker) (o : Option ℕ)
-        → ask (or o (λ g. used wakes (λ s. s) g q) (see (Calls w) q)) ≡ ask q
-    call q w None = aside.seen q (Calls w)
-    call q w (Some g) = used_keeps g q
-
-    waker : (q : Plain Output Waker) (o : Option Waker) → ask (on o (called wakes (λ s. s)) q) ≡ ask q
-    waker q None = refl
-    waker q (Some w) = call q w (wakes w)
-
-    one : (i : ℕ) (o : Option (Lying Waker))
-        → ask (on o (λ l q. on l.waker (called wakes (λ s. s)) (record q { lying = slice_set q.lying i (called_one l) })) q)
-        ≡ ask q
-    one i None = refl
-    one i (Some l) =
-        waker (record q { lying = slice_set q.lying i (called_one l) }) l.waker ∙ aside.lying q (slice_set q.lying i (called_one l))
-
-    by : (b : Bool) → ask (cond b q (told_at wakes (min c.tells (length q.lying - 1)) q)) ≡ ask q
-    by true = refl
-    by false = one (min c.tells (length q.lying - 1)) (slice_get q.lying (min c.tells (length q.lying - 1)))
-
--- the code in which calls stand, and whether it is static
-pub tell_inside : (c : Choice) (q : Plain Output Waker) → (tell wakes c q).inside ≡ q.inside
-tell_inside c q =
-    tell_keeps (λ p. p.inside)
-    (record { futures = λ q fs. refl; due = λ q ds. refl; lying = λ q ls. refl; seen = λ q e. refl }) c q
-
-tell_kind : (c : Choice) (q : Plain Output Waker) → (tell wakes c q).is_static ≡ q.is_static
-tell_kind c q =
-    tell_keeps (λ p. p.is_static)
-    (record { futures = λ q fs. refl; due = λ q ds. refl; lying = λ q ls. refl; seen = λ q e. refl }) c q
-
--- and so does a try leave whether it is static
-pub try_kind : (c : Choice) (q : Plain Output Waker) → (does wakes c TryTick q).is_static ≡ q.is_static
-try_kind c q = by (find (λ d. chosen (commons c) q.due d) q.due)
-  where
-    run_kind : (f : ℕ) (q : Plain Output Waker) (b : Bool)
-        → (if b then plain_takes.dropping wakes c f Closed Try q
-        else enters (Poll f Try) (see (Polls f) (put f (abstract.begin_run (task f q)) q))).is_static ≡ q.is_static
-    run_kind f q true = refl
-    run_kind f q false = put_by (λ p. p.is_static) f (abstract.begin_run (task f q)) q (λ fs. refl)
-
-    by : (o : Option Due)
-        → (or o (λ d. plain_takes.takes wakes c Try d (record q { due = without (λ d. chosen (commons c) q.due d) q.due }))
-        (plain_takes.nothing wakes c Try q)).is_static ≡ q.is_static
-    by None = refl
-    by (Some d) =
-        let q1 : Plain Output Waker = record q { due = without (λ d. chosen (commons c) q.due d) q.due } in
-        run_kind d.future (tell wakes c q1) (task d.future (tell wakes c q1)).closed ∙ tell_kind c q1
 
 pub final_inside : (taker : Taker Waker) (final : Op) → Finally taker final → (c : Choice) (q : Plain Output Waker)
     → (plain_takes.next wakes c taker q).inside ≡ q.inside
@@ -230,7 +162,7 @@ module _ (p : ℕ) (below : List Op) (under : is_resting below ≡ true) (end : 
                 (InDrop f move.SettleClosed Closed (record { known = at; entered = there; ends = queued_by queued closed }));
             follows =
                 stands_in (Drop f Closed taker ∷ q.inside) w3 (see (Drops f) q)
-                (sees w2 q (places_so (slice_set w.inside f false) w q follows) (event.Dropped p f) (Drops f) refl);
+                (sees w2 q (places_so (slice_set w.inside f false) w q follows) (event.Dropped p f) (Drops f) refl) refl;
           }))
       by false open_still at queued there way =
           let os = final ∷ below in
@@ -276,7 +208,7 @@ module _ (p : ℕ) (below : List Op) (under : is_resting below ≡ true) (end : 
                 }));
             follows =
                 stands_in (Poll f taker ∷ polled.inside) w3 polled
-                (places_so (slice_set w.inside f false) w2 polled (subst (Follows w2) (put_see new) follows2));
+                (places_so (slice_set w.inside f false) w2 polled (subst (Follows w2) (put_see new) follows2)) refl;
           })))
 
   -- one that was found is taken

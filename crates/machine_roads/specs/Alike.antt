@@ -14,11 +14,12 @@ use Rattle.executor_model.specs.declared.step.Hint.{Hint}
 use Rattle.executor_model.specs.Acts.{is_copy_refused, is_refused}
 use Rattle.executor_model.specs.Steps.{begun, future_of, kept, waker_of}
 use Rattle.executor_model.specs.World.{World, Done, done, log, task}
-use Rattle.plain_scheduler.specs.State.{Choice, Plain}
+use Rattle.plain_scheduler.specs.State.{Choice, Plain, Refusal}
 use Rattle.plain_scheduler.specs.Moves as plain
 use Rattle.plain_scheduler.specs.Calls.{does, is_granted, Spawn, Wake, Use, Copy, Release, Cancel, Detach, DropHandle, PollHandle, IsEmpty}
+use Rattle.plain_scheduler.specs.Calls.{Leak, NewRun}
 use Rattle.machine_roads.specs.View.{Output, wakes}
-use Rattle.machine_roads.specs.Road.{Follows}
+use Rattle.machine_roads.specs.Road.{Follows, waking_in}
 use Rattle.machine_roads.specs.Alone.{alone, is_resting, HasAll}
 
 -- a call that begins, in a poll by this waker if in one
@@ -133,3 +134,17 @@ module _ (p : ℕ) (here : Option Waker) (below : List Op) (w : World) (q : Plai
 
   abbrev pub EmptyAlike : Type 0
   EmptyAlike = (c : Choice) → LeavesAlike p below (begins p here call.IsEmpty w) (does wakes c IsEmpty q)
+
+  -- a leak, where it isn't static and the executor's drop hasn't dropped any
+  abbrev pub LeaksAlike : Type 0
+  LeaksAlike =
+      (c : Choice) → q.is_static ≡ false → waking_in q.inside ≡ [] → length q.lying ≤ c.tells
+      → LeavesAlike p below (begins p here call.Leak w) (does wakes c Leak q)
+
+  -- a run is made, or that is refused, as memory is as it makes room or once it has the lock
+  abbrev pub RunIsMadeAlike : Type 0
+  RunIsMadeAlike =
+      (c : Choice) (hints : List Hint) → HasAll p hints (upon below (begins p here call.NewRun w))
+      → is_resting (alone p hints (upon below (begins p here call.NewRun w))).next ≡ true
+      → (r : Refusal) × ((alone p hints (upon below (begins p here call.NewRun w))).next ≡ below)
+      × Follows (alone p hints (upon below (begins p here call.NewRun w))).world (does wakes (record c { refusal = r }) NewRun q)

@@ -6,6 +6,8 @@ use Rattle.task_moves.specs.declared.moves.owed.Move.TheVariants as move
 use Rattle.task_moves.specs.declared.moves.state.State.{State}
 use Rattle.task_moves.specs.LocalTask.{token}
 use Rattle.task_moves.specs.Moves.{is_going}
+use Rattle.executor_model.specs.declared.op.ClosingOp.{ClosingOp}
+use Rattle.executor_model.specs.declared.op.ClosingOp.TheVariants as closing_op
 use Rattle.executor_model.specs.declared.op.HandleOp.{HandleOp}
 use Rattle.executor_model.specs.declared.op.HandleOp.TheVariants as handle_op
 use Rattle.executor_model.specs.declared.op.Op.{Op}
@@ -16,6 +18,7 @@ use Rattle.executor_model.specs.declared.op.SleeperOp.{SleeperOp}
 use Rattle.executor_model.specs.declared.op.SleeperOp.TheVariants as sleeper_op
 use Rattle.executor_model.specs.declared.op.TickOp.{TickOp}
 use Rattle.executor_model.specs.declared.op.TickOp.TheVariants as tick_op
+use Rattle.executor_model.specs.declared.op.TickOrRun.{TickOrRun}
 use Rattle.executor_model.specs.declared.op.UserOp.TheVariants as user_op
 use Rattle.executor_model.specs.declared.op.Waker.{Waker}
 use Rattle.executor_model.specs.declared.op.Waker.TheVariants.{Task, Outside}
@@ -26,7 +29,7 @@ use Rattle.executor_model.specs.Acts.{takes_more}
 use Rattle.executor_model.specs.Doing.{act}
 use Rattle.executor_model.specs.Good.{HandleNeeds, IsKnown, IsKnownWaker}
 use Rattle.executor_model.specs.Steps.{waits}
-use Rattle.executor_model.specs.World.{World, Done, among, done, task, queue_of, mark_of}
+use Rattle.executor_model.specs.World.{Asleep, World, Done, among, done, task, place_of, queue_of, mark_of}
 use Rattle.machine_roads.specs.Moving.{IsQueued}
 
 abbrev pub is_outside : Op → Bool
@@ -93,9 +96,22 @@ HandleHas w (handle_op.Look f a) = IsKnown w f × ((task w f).completed ≡ true
 HandleHas w (handle_op.CopyAwaiter f a) = CanCopy w a
 HandleHas w o = HandleNeeds w o
 
+-- nobody else sleeps under its number
+abbrev pub SleepsAlone : World → TickOrRun → Type 0
+SleepsAlone w x = (n : ℕ) → place_of w x ≡ Asleep n → (y : TickOrRun) → place_of w y ≡ Asleep n → y ≡ x
+
 abbrev pub TickHas : World → TickOp → Type 0
 TickHas w (tick_op.CopyWaker s) = CanCopy w s.waker
+TickHas w (tick_op.FallAsleep s) = SleepsAlone w s.who
+TickHas w (tick_op.WakeUp x) = SleepsAlone w x
+TickHas w (tick_op.Leave x) = SleepsAlone w x
 TickHas w _ = Unit {0}
+
+-- the executor's drop hasn't begun, and who is to be woken is there
+abbrev pub ClosingHas : World → ClosingOp → Type 0
+ClosingHas w closing_op.LeakOut = w.gone ≡ false
+ClosingHas w closing_op.LeakNext = (w.gone ≡ false) × ((f : ℕ) (rest : List ℕ) → w.waking ≡ f ∷ rest → IsKnown w f)
+ClosingHas w _ = Unit {0}
 
 -- what a thing to do speaks of is there
 abbrev pub Has : World → Op → Type 0
@@ -105,6 +121,7 @@ Has w (op.Waker o) = WakerHas w o
 Has w (op.Sleeper o) = SleeperHas w o
 Has w (op.Handle o) = HandleHas w o
 Has w (op.Tick o) = TickHas w o
+Has w (op.Closing o) = ClosingHas w o
 Has w _ = Unit {0}
 
 abbrev pub HasFirst : World → List Op → Type 0

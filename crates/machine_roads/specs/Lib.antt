@@ -5,7 +5,9 @@ pub mod Road
 pub mod Alone
 pub mod Alike
 pub mod Stopped
+pub mod Forgotten
 pub mod Losing
 pub mod Dropped
 pub mod Ticking
 pub mod Lone
+pub mod Course

@@ -26,13 +26,12 @@ use Rattle.plain_scheduler.specs.Lists.{any}
 use Rattle.plain_scheduler.specs.Moves.{is_common}
 use Rattle.plain_scheduler.specs.Moves as plain
 use Rattle.plain_scheduler.specs.Calls.{does, is_granted, Spawn, Wake, Use, Copy, Release, Cancel, Detach, DropHandle, PollHandle}
-use Rattle.plain_scheduler.specs.Calls.{DropTick, Ends, EndsWith, IsEmpty, NewTick, Pends, PollTick, TryTick}
+use Rattle.plain_scheduler.specs.Calls.{DropTick, Ends, EndsWith, IsEmpty, Leak, NewRun, NewTick, Pends, PollTick, TryTick}
 use Rattle.plain_scheduler.specs.Calls as plain_calls
 use Rattle.machine_roads.specs.View.{Output, wakes}
 use Rattle.machine_roads.specs.Alike.{begins, LeavesAlike}
 use Rattle.machine_roads.specs.Road.{Follows}
 use Rattle.machine_roads.specs.Stopped.{Stops}
-use Rattle.machine_roads.specs.Ticking.{Rests}
 
 -- a call that leaves the world so leaves the machine so
 abbrev pub LoneCallIsAlone : Machine → Type 0
@@ -151,10 +150,10 @@ module _ (s : Machine) (q : Plain Output Waker) where
       → (new : Machine) → new.world.gone ≡ false → IsLoneCall p call.TryTick steps s new
       → RestsFirst p (λ e. Stops Try (op.End reply.Yes hold.Executor) [] q e (does wakes c TryTick q)) new
 
-  -- with the ends of the code that it comes to a try of an executor that isn't static is a try
+  -- with the ends of the code that it comes to a try is a try
   abbrev pub LoneTriesEnd : Type 0
   LoneTriesEnd =
-      (p : ℕ) (c : Choice) (steps : List Step) → q.is_static ≡ false → c.first ≡ first_of s.world.urgent_turns
+      (p : ℕ) (c : Choice) (steps : List Step) → c.first ≡ first_of s.world.urgent_turns
       → length q.lying ≤ c.tells → (new : Machine) → new.world.gone ≡ false → IsLoneCall p call.TryTick steps s new
       → (r : Plain Output Waker) × Ended (does wakes c TryTick q) r × (r.inside ≡ q.inside) × Follows new.world r
 
@@ -162,24 +161,43 @@ module _ (s : Machine) (q : Plain Output Waker) where
   abbrev pub LoneTickIsPolled : Type 0
   LoneTickIsPolled =
       (p t : ℕ) (c : Choice) (b : By) (steps : List Step) → c.first ≡ first_of s.world.urgent_turns → length q.lying < c.tells
-      → Rests s.world q t → (new : Machine) → new.world.gone ≡ false → IsLoneCall p (call.PollTick t b) steps s new
-      → RestsFirst p
+      → (new : Machine) → new.world.gone ≡ false → IsLoneCall p (call.PollTick t b) steps s new → RestsFirst p
       (λ e. (r : Refusal) × Stops (Tick t (waker_of None b)) (op.End reply.Ready (hold.Tick t)) [] q e
       (does wakes (record c { refusal = r }) (PollTick t (waker_of None b)) q))
       new
+
+  -- and with the ends of the code that it comes to it is a poll of a tick
+  abbrev pub LoneTicksEnd : Type 0
+  LoneTicksEnd =
+      (p t : ℕ) (c : Choice) (b : By) (steps : List Step) → c.first ≡ first_of s.world.urgent_turns
+      → length q.lying < c.tells → (new : Machine) → new.world.gone ≡ false → IsLoneCall p (call.PollTick t b) steps s new
+      → (r : Refusal) × (z : Plain Output Waker) × Ended (does wakes (record c { refusal = r }) (PollTick t (waker_of None b)) q) z
+      × (z.inside ≡ q.inside) × Follows new.world z
 
   -- a tick is polled where nothing without a keeper is due: it lies, or that is refused in one way or the other
   abbrev pub LoneTickLies : Type 0
   LoneTickLies =
       (p t : ℕ) (c : Choice) (b : By) (steps : List Step) → c.first ≡ first_of s.world.urgent_turns → length q.lying < c.tells
-      → Rests s.world q t → ((m : Mark) → any (is_common m) q.due ≡ false) → (new : Machine) → new.world.gone ≡ false
+      → ((m : Mark) → any (is_common m) q.due ≡ false) → (new : Machine) → new.world.gone ≡ false
       → IsLoneCall p (call.PollTick t b) steps s new
       → (r : Refusal) × Follows new.world (does wakes (record c { refusal = r }) (PollTick t (waker_of None b)) q)
 
   abbrev pub LoneTickGoes : Type 0
   LoneTickGoes =
-      (p t : ℕ) (c : Choice) (steps : List Step) → Rests s.world q t → length q.lying ≤ c.tells
+      (p t : ℕ) (c : Choice) (steps : List Step) → length q.lying ≤ c.tells
       → LeadsTo s p (call.DropTick t) steps (does wakes c (DropTick t) q)
+
+  -- a run is made, or that is refused
+  abbrev pub LoneRunIsMade : Type 0
+  LoneRunIsMade =
+      (p : ℕ) (c : Choice) (steps : List Step) (new : Machine) → new.world.gone ≡ false → IsLoneCall p call.NewRun steps s new
+      → (r : Refusal) × Follows new.world (does wakes (record c { refusal = r }) NewRun q)
+
+  -- a leak, where no code is left in which a call stands
+  abbrev pub LoneLeaks : Type 0
+  LoneLeaks =
+      (p : ℕ) (c : Choice) (steps : List Step) → q.inside ≡ [] → length q.lying ≤ c.tells
+      → LeadsTo s p call.Leak steps (does wakes c Leak q)
 
   abbrev pub LoneEmpty : Type 0
   LoneEmpty = (p : ℕ) (c : Choice) (steps : List Step) → LeadsTo s p call.IsEmpty steps (does wakes c IsEmpty q)

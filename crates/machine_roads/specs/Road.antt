@@ -1,6 +1,7 @@
 -- When the world of the machine stands where the plain scheduler does, while no step is owed in it: each thing that the plain
 -- scheduler knows is read off the world.
-use Rattle.std.specs.Prelude.{◌≡◌, ℕ, ◌<◌, Bool, true, false, List, [], ◌∷◌, length, map, filter, Option, None, is_some}
+use Rattle.std.specs.Prelude.{◌≡◌, ℕ, ◌<◌, ◌-◌, Bool, true, false, List, [], ◌∷◌, length, map, filter, take, Option, None, is_some}
+use Rattle.std.specs.Prelude.{slice_index_or}
 use Rattle.task_moves.specs.declared.moves.state.State.{State}
 use Rattle.executor_parts.specs.declared.mark.Mark.{Mark}
 use Rattle.task_moves.specs.AbstractTask as abstract
@@ -9,11 +10,12 @@ use Rattle.executor_model.specs.declared.op.Sleeping.{Sleeping}
 use Rattle.executor_model.specs.declared.op.TickOrRun.{TickOrRun}
 use Rattle.executor_model.specs.declared.op.TickOrRun.TheVariants as tick_or_run
 use Rattle.executor_model.specs.declared.op.Waker.{Waker}
-use Rattle.executor_model.specs.World.{World, awaiter_of, mark_of, queue_of, own_of}
+use Rattle.executor_model.specs.SleepersAgree.{sleeps}
+use Rattle.executor_model.specs.World.{Asleep, Left, Run, Ticker, World, awaiter_of, mark_of, no_run, queue_of, own_of}
 use Rattle.executor_model.specs.World as world
-use Rattle.plain_scheduler.specs.State.{Due, Lying, Who, ATick, ARun, Plain}
+use Rattle.plain_scheduler.specs.State.{Close, Code, Due, Lying, Who, ATick, ARun, Plain}
 use Rattle.plain_scheduler.specs.Lists.{any, or}
-use Rattle.plain_scheduler.specs.Moves.{is_called, is_common, is_kept, task, mark}
+use Rattle.plain_scheduler.specs.Moves.{is_called, is_common, is_kept, lies, task, mark}
 use Rattle.plain_scheduler.specs.Calls.{living_from}
 use Rattle.machine_roads.specs.View.{Output, task_in}
 use Rattle.machine_roads.specs.Seeing.{heard_in, shown}
@@ -40,6 +42,22 @@ abbrev pub is_told : List (Lying Waker) → Bool
 is_told [] = true
 is_told (l ∷ ls) = any is_called (l ∷ ls)
 
+-- where a tick or run is
+abbrev pub place_in : List Ticker → List Run → TickOrRun → Ticker
+place_in ticks runs (tick_or_run.Tick t) = slice_index_or ticks t Left
+place_in ticks runs (tick_or_run.Run r) = (slice_index_or runs r no_run).place
+
+-- each of these sleeps under its number
+abbrev pub AreNumbered : List Ticker → List Run → List (ℕ × Sleeping) → Type 0
+AreNumbered ticks runs [] = Unit {0}
+AreNumbered ticks runs (e ∷ es) = (place_in ticks runs e.1.who ≡ Asleep e.0) × AreNumbered ticks runs es
+
+-- who is still to be woken behind the executor's drop: those that it has dropped
+abbrev pub waking_in : List (Code Output Waker) → List ℕ
+waking_in [] = []
+waking_in (Close fs all ∷ codes) = take (length all - length fs) all
+waking_in (code ∷ codes) = waking_in codes
+
 -- an awaiter is stored where the marks say so, and nobody is at it
 pub record IsStored (s : State) (kept : Option Awaiter) : Type 0 where
   pub awaiter : s.awaiter ≡ is_some kept
@@ -64,4 +82,9 @@ pub record Follows (w : World) (p : Plain Output Waker) : Type 0 where
   pub wakers : map sleeper w.sleepers.wakers ≡ uncalled p.lying
   pub count : w.sleepers.count ≡ length p.lying
   pub flag : w.notified ≡ is_told p.lying
+  -- who sleeps lies, once, and nobody else does; and each waker is of who sleeps under its number
+  pub asleep : (x : TickOrRun) → length (filter (lies (who_of x)) p.lying) ≡ sleeps (place_in w.ticks w.runs x)
+  pub numbered : AreNumbered w.ticks w.runs w.sleepers.wakers
+  pub runs : length w.runs ≡ length p.runs
+  pub waking : w.waking ≡ waking_in p.inside
   pub seen : heard_in w.trace ≡ map shown p.events

@@ -1,5 +1,5 @@
 -- Ticks: when their making, their polls and their drop leave both alike.
-use Rattle.std.specs.Prelude.{◌≡◌, ℕ, ◌≤◌, ◌<◌, ◌==◌, true, false, not, List, [], ◌∷◌, length, filter, Option}
+use Rattle.std.specs.Prelude.{◌≡◌, ℕ, ◌≤◌, ◌<◌, true, not, List, length, Option}
 use Rattle.executor_parts.specs.Marks.{first_of}
 use Rattle.executor_model.specs.declared.call.By.{By}
 use Rattle.executor_model.specs.declared.call.Call.TheVariants as call
@@ -7,32 +7,16 @@ use Rattle.executor_model.specs.declared.call.Reply.TheVariants as reply
 use Rattle.executor_model.specs.declared.op.Hold.TheVariants as hold
 use Rattle.executor_model.specs.declared.op.Op.{Op}
 use Rattle.executor_model.specs.declared.op.Op.TheVariants as op
-use Rattle.executor_model.specs.declared.op.Sleeping.{Sleeping}
 use Rattle.executor_model.specs.declared.op.Waker.{Waker}
 use Rattle.executor_model.specs.declared.step.Hint.{Hint}
-use Rattle.executor_model.specs.SleepersAgree.{sleeps}
 use Rattle.executor_model.specs.Steps.{lives, waker_of}
-use Rattle.executor_model.specs.World.{Asleep, Awake, Done, World, tick_of}
-use Rattle.plain_scheduler.specs.State.{ATick, Choice, Plain, Refusal, Tick, Who}
-use Rattle.plain_scheduler.specs.Lists.{any}
-use Rattle.plain_scheduler.specs.Moves.{is_who, lies}
+use Rattle.executor_model.specs.World.{Awake, Done, World, tick_of}
+use Rattle.plain_scheduler.specs.State.{Choice, Plain, Refusal, Tick}
 use Rattle.plain_scheduler.specs.Calls.{does, is_granted, DropTick, NewTick, PollTick}
 use Rattle.machine_roads.specs.View.{Output, wakes}
-use Rattle.machine_roads.specs.Road.{who_of}
 use Rattle.machine_roads.specs.Alone.{alone, is_resting, HasAll}
 use Rattle.machine_roads.specs.Alike.{begins, refused_first, upon, LeavesAlike, LeavesAlikeIf}
 use Rattle.machine_roads.specs.Stopped.{Stops}
-
--- of those who sleep and weren't called, who has this number is this one
-abbrev pub IsNamed : ℕ → Who → List (ℕ × Sleeping) → Type 0
-IsNamed n who [] = Unit {0}
-IsNamed n who (e ∷ es) = ((n == e.0) ≡ is_who who (who_of e.1.who)) × IsNamed n who es
-
--- a tick that sleeps in the machine lies, once, and has its number alone; any other doesn't lie
-pub data Rests (w : World) (q : Plain Output Waker) (t : ℕ) : Type 0 where
-  up : sleeps (tick_of w t) ≡ 0 → any (lies (ATick t)) q.lying ≡ false → Rests w q t
-  down : (n : ℕ) → tick_of w t ≡ Asleep n → IsNamed n (ATick t) w.sleepers.wakers → length (filter (lies (ATick t)) q.lying) ≡ 1
-      → Rests w q t
 
 -- it can be polled: it lives, and finds room where it is awake
 pub record CanPoll (w : World) (t : ℕ) : Type 0 where
@@ -54,12 +38,12 @@ module _ (p : ℕ) (here : Option Waker) (below : List Op) (w : World) (q : Plai
 
   abbrev pub TickIsPolledAlike : Type 0
   TickIsPolledAlike =
-      (c : Choice) (t : ℕ) (b : By) → c.first ≡ first_of w.urgent_turns → length q.lying < c.tells → Rests w q t → CanPoll w t
+      (c : Choice) (t : ℕ) (b : By) → c.first ≡ first_of w.urgent_turns → length q.lying < c.tells → CanPoll w t
       → (hints : List Hint) → HasAll p hints (polling t b) → is_resting (alone p hints (polling t b)).next ≡ true
       → (r : Refusal) × Stops (Tick t (waker_of here b)) (op.End reply.Ready (hold.Tick t)) below q (alone p hints (polling t b))
       (does wakes (record c { refusal = r }) (PollTick t (waker_of here b)) q)
 
   abbrev pub TickGoesAlike : Type 0
   TickGoesAlike =
-      (c : Choice) (t : ℕ) → Rests w q t → length q.lying ≤ c.tells
+      (c : Choice) (t : ℕ) → length q.lying ≤ c.tells
       → LeavesAlike p below (begins p here (call.DropTick t) w) (does wakes c (DropTick t) q)

@@ -1,11 +1,12 @@
 //! Lone calls of the machine, made where no call is in progress, are calls of the plain scheduler.
 ghost use Rattle.executor_model.specs.Executions.{EveryMachine};
+ghost use Rattle.machine_roads.specs.Course.{ListsGoAlike};
 ghost use Rattle.machine_roads.specs.Lone.{EachLoneAlike, LoneCallIsAlone, LoneCancels, LoneCopies};
-ghost use Rattle.machine_roads.specs.Lone.{LoneEmpty, LoneSpawns, LoneUses, LoneWakerGoes};
+ghost use Rattle.machine_roads.specs.Lone.{LoneEmpty, LoneLeaks, LoneRunIsMade, LoneSpawns, LoneUses, LoneWakerGoes};
 ghost use Rattle.machine_roads.specs.Lone.{LoneDetachLoses, LoneGoesWithOutput};
 ghost use Rattle.machine_roads.specs.Lone.{LoneDetaches, LoneHandleGoes, LoneHandlePolls};
 ghost use Rattle.machine_roads.specs.Lone.{LoneHandleWaits, LoneTickGoes, LoneTickIsMade};
-ghost use Rattle.machine_roads.specs.Lone.{LoneTickIsPolled, LoneTickLies, LoneTries};
+ghost use Rattle.machine_roads.specs.Lone.{LoneTickIsPolled, LoneTickLies, LoneTicksEnd, LoneTries};
 ghost use Rattle.machine_roads.specs.Lone.{LoneTriesEnd, LoneWakes};
 
 /// What a call leaves of the world, however it is told, a lone call leaves of each machine at rest,
@@ -67,14 +68,17 @@ pub fn lone_takes_rest_alike()
     ensures ticks { EachLoneAlike LoneTickIsPolled }
 {}
 
-/// And with the ends of all the user code that it comes to a lone try is a try, of an executor that
-/// isn't static.
+/// And with the ends of all the user code that it comes to a lone try is a try.
 pub fn lone_tries_are_tries()
     ensures { EachLoneAlike LoneTriesEnd }
 {}
 
-/// So does the lone making of a tick, also one that is refused, and its drop, where it lies in both
-/// under its own number (`Rests`).
+/// And so is a lone poll of a tick a poll of a tick, from its beginning to its end.
+pub fn lone_polls_of_ticks_are_polls()
+    ensures { EachLoneAlike LoneTicksEnd }
+{}
+
+/// So does the lone making of a tick, also one that is refused, and its drop.
 pub fn lone_ticks_are_made_and_go()
     ensures makes { EachLoneAlike LoneTickIsMade }
     ensures drops { EachLoneAlike LoneTickGoes }
@@ -86,7 +90,24 @@ pub fn lone_ticks_lie_down()
     ensures { EachLoneAlike LoneTickLies }
 {}
 
+/// So does the lone making of a run, also one that is refused.
+pub fn lone_runs_are_made()
+    ensures { EachLoneAlike LoneRunIsMade }
+{}
+
+/// So does a lone leak, where the plain scheduler stands in no code.
+pub fn lone_leaks_are_leaks()
+    ensures { EachLoneAlike LoneLeaks }
+{}
+
 /// And so it is asked alone whether the executor is empty.
 pub fn lone_questions_are_answered()
     ensures { EachLoneAlike LoneEmpty }
+{}
+
+/// Lists of such calls of a new machine, one after the other, are lists of calls of the new plain
+/// scheduler, which looks first at the mark that the turn names and tells who lay down last: all calls
+/// but polls and drops of runs and the executor's drop.
+pub fn lists_of_lone_calls_go_alike()
+    ensures { ListsGoAlike }
 {}

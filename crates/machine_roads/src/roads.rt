@@ -6,10 +6,12 @@ ghost use Rattle.executor_model.specs.Steps.{is_static_kind, start};
 ghost use Rattle.executor_model.specs.declared.kind.Kind.{Kind};
 ghost use Rattle.plain_scheduler.specs.Calls.{new};
 ghost use Rattle.machine_roads.specs.Alike.{CancelsAlike, CopiesAlike, DetachesAlike, EachAlike};
-ghost use Rattle.machine_roads.specs.Alike.{EmptyAlike, HandleGoesAlike, HandlePollsAlike, KeepsAlike};
+ghost use Rattle.machine_roads.specs.Alike.{EmptyAlike, HandleGoesAlike, HandlePollsAlike, KeepsAlike, LeaksAlike};
+ghost use Rattle.machine_roads.specs.Alike.{RunIsMadeAlike};
 ghost use Rattle.machine_roads.specs.Alike.{SpawnsAlike, UsesAlike, WakesAlike, WakesItselfAlike};
 ghost use Rattle.machine_roads.specs.Alike.{WakerGoesAlike};
 ghost use Rattle.machine_roads.specs.Dropped.{DropsAlikeInTake, LosesAlikeInTake};
+ghost use Rattle.machine_roads.specs.Forgotten.{ForgetsAlikeInTake, ForgottenGoesAlike};
 ghost use Rattle.machine_roads.specs.Losing.{DetachesToLose, GoesToLose, LosesAlike};
 ghost use Rattle.machine_roads.specs.Road.{Follows};
 ghost use Rattle.machine_roads.specs.Ticking.{TickGoesAlike, TickIsMadeAlike, TickIsPolledAlike};
@@ -90,6 +92,17 @@ pub fn an_end_without_output_ends_alike()
     ensures { EachAlike PendsAlikeInTake }
 {}
 
+/// Where nobody could wake the future or ask for it any more it comes to the drop of the future, where
+/// both stand alike but for who awaits it.
+pub fn an_end_that_forgets_ends_alike()
+    ensures { EachAlike ForgetsAlikeInTake }
+{}
+
+/// From the end of that drop on the call leaves both alike.
+pub fn a_forgotten_future_goes_alike()
+    ensures { ForgottenGoesAlike }
+{}
+
 /// And so does its end with an output.
 pub fn an_end_with_output_ends_alike()
     ensures { EachAlike GivesAlikeInTake }
@@ -118,10 +131,19 @@ pub fn a_tick_is_polled_alike()
     ensures { EachAlike TickIsPolledAlike }
 {}
 
-/// A tick that is dropped leaves both alike, whether it lay, was called or neither, where it lies in
-/// both under its own number (`Rests`).
+/// A tick that is dropped leaves both alike, whether it lay, was called or neither.
 pub fn a_tick_goes_alike()
     ensures { EachAlike TickGoesAlike }
+{}
+
+/// So is a run, also where that is refused.
+pub fn a_run_is_made_alike()
+    ensures { EachAlike RunIsMadeAlike }
+{}
+
+/// So does a leak, of an executor that isn't static.
+pub fn a_leak_is_a_leak()
+    ensures { EachAlike LeaksAlike }
 {}
 
 /// And both say alike whether they are empty.

@@ -9,7 +9,7 @@ use Rattle.plain_scheduler.specs.State.{Future, ATick, ARun, Taker, Try, Tick, R
 use Rattle.plain_scheduler.specs.State.{Lose, PollOwn, DropOwn, Close, Drops, Made, Full, NoMemory, Yes, No, Pending, Ready}
 use Rattle.plain_scheduler.specs.State.{Gives, Cancelled, Finished, Done, Refusal, Granted, Choice, Plain}
 use Rattle.plain_scheduler.specs.Lists.{repeat, each, on, or}
-use Rattle.plain_scheduler.specs.Moves.{is_common, is_kept, see, answers, enters, task, put, changed, appended, runs, moved}
+use Rattle.plain_scheduler.specs.Moves.{is_common, is_kept, see, answers, enters, task, put, changed, appended, runs, given_back}
 use Rattle.plain_scheduler.specs.Moves as moves
 use Rattle.plain_scheduler.specs.Takes as takes
 
@@ -110,7 +110,7 @@ module _ {T A : Type 0} (wakes : A → Option ℕ) (c : Choice) where
   abbrev pub gone : ℕ → Plain T A → Plain T A
   gone r p =
       let q = runs (λ run. record run { is_over = true }) r p in
-      moves.leaves wakes c (ARun r) (repeat (count_by (is_kept r) p.due) (λ p. tell (moved None (is_kept r) p)) q)
+      moves.leaves wakes c (ARun r) (repeat (count_by (is_kept r) p.due) (λ p. tell (given_back r p)) q)
 
   -- each future that isn't dropped is appended, if it is idle, and the scheduler's waker given up, which queues nothing
   abbrev pub freed : ℕ → Plain T A → Plain T A

@@ -84,14 +84,17 @@ module _ {T A : Type 0} where
   abbrev pub appended : ℕ → Plain T A → Plain T A
   appended f p = record p { due = p.due ++ record { future = f; mark = mark f p; keeper = None } ∷ [] }
 
+  -- the first that a run keeps is appended
+  abbrev pub given_back : ℕ → Plain T A → Plain T A
+  given_back r p = on (find (is_kept r) p.due) (λ d p. appended d.future (record p { due = without (is_kept r) p.due })) p
+
   -- the first that passes a test comes last, with this keeper
-  abbrev pub moved : Option ℕ → (Due → Bool) → Plain T A → Plain T A
-  moved keeper test p =
-      on (find test p.due) (λ d p. record p { due = without test p.due ++ record d { keeper = keeper } ∷ [] }) p
+  abbrev pub moved : ℕ → (Due → Bool) → Plain T A → Plain T A
+  moved r test p = on (find test p.due) (λ d p. record p { due = without test p.due ++ record d { keeper = Some r } ∷ [] }) p
 
   -- a run keeps it, and 512 at most
   abbrev pub keeps : ℕ → (Due → Bool) → Plain T A → Plain T A
-  keeps r test p = if nat_lt (count_by (is_kept r) p.due) 512 then moved (Some r) test p else p
+  keeps r test p = if nat_lt (count_by (is_kept r) p.due) 512 then moved r test p else p
 
   module _ (wakes : A → Option ℕ) where
     -- a task becomes another: where that queues it, it is appended, and then `more` is done

@@ -10,17 +10,23 @@ use Rattle.solo.specs.declared.names.SoloWaker.TheVariants.{Task as OfTask}
 use Rattle.solo.specs.declared.owed.Lent.{Lent}
 use Rattle.solo.specs.declared.owed.Spawned.{Spawned}
 use Rattle.solo.specs.declared.owed.SpawnError.{SpawnError}
+use Rattle.solo.specs.declared.runs.Runner.{Runner}
 use Rattle.solo.specs.declared.solo.Solo.{Solo}
-use Rattle.solo.specs.Lines.{mark_of_turn}
+use Rattle.solo.specs.declared.steals.Source.TheVariants.{Common}
+use Rattle.solo.specs.Lines.{mark_of_turn, search_answer}
 use Rattle.solo.specs.Solo as solo
 use Rattle.solo.specs.Closing as closing
+use Rattle.solo.specs.OwnQueues.{count_of as count_of_own, first_of}
+use Rattle.solo.specs.Steals as steals
 use Rattle.solo.specs.Ticks as ticks
 use Rattle.solo.specs.Runs as runs
+use Rattle.plain_scheduler.specs.State.{Answer, ARun, DropOwn, Finished, PollOwn}
 use Rattle.plain_scheduler.specs.State.{Event, Who, ATick, Answers, Pending, Choice, Code, Poll, Drop, Lose, Closed, Gave, Taker, Plain}
 use Rattle.plain_scheduler.specs.State.{Made, NoMemory, Yes, No, Done, Drops, Granted, AtOnce, Later}
 use Rattle.plain_scheduler.specs.Moves.{lies, task}
 use Rattle.plain_scheduler.specs.Calls.{Call, Spawn, TryTick, IsEmpty, Wake, Use, Copy, Release, PollHandle, Cancel, Detach, DropHandle}
-use Rattle.plain_scheduler.specs.Calls.{Leak, Pends, EndsWith, Ends, NewTick, PollTick, DropTick, NewRun, is_granted, does}
+use Rattle.plain_scheduler.specs.Calls.{DropRun, Leak, Pends, EndsWith, Ends, NewTick, PollRun, PollTick, DropTick, NewRun, is_granted}
+use Rattle.plain_scheduler.specs.Calls.{does}
 use Rattle.solo_laws.specs.Alike.{calls, cancelled, handle_polled, takes_one}
 use Rattle.solo_laws.specs.Dropping.{after_drop, ends_one}
 use Rattle.solo_laws.specs.Leaking.{leaked}
@@ -29,7 +35,11 @@ use Rattle.solo_laws.specs.Shown.{rings, found_as, cancel_shows, detach_shows, p
 use Rattle.solo_laws.specs.Numbered.{ticker_of}
 use Rattle.solo_laws.specs.Ticking.{CanCopy, number_after, rest_answer, rested, tick_shows, looks_again, slept_answer, slept_once}
 use Rattle.solo_laws.specs.Spawning.{said, is_memory}
-use Rattle.solo_laws.specs.Tabled.{named}
+use Rattle.solo_laws.specs.Running.{run_left, run_shows}
+use Rattle.solo_laws.specs.RunTaking.{searched_further}
+use Rattle.solo_laws.specs.Stealing.{share_of, so_many, stolen_marks}
+use Rattle.solo_laws.specs.Tabled.{goes_on, named}
+use Rattle.solo_laws.specs.Walking.{robbed, robs_more, searched_none}
 
 -- an executor becomes another by what its owner does for a call, and shows this; that of a future that isn't known isn't made, nor
 -- where a queue has accepted as many tasks as it may
@@ -87,7 +97,7 @@ pub data Makes {F T X : Type 0} (its : ℕ → Lent) (c : Choice) (s : Solo F T 
       → p.inside ≡ Lose awaiter by ∷ rest → HasLife 2 s.lines
       → Makes its c s p Ends (call_shows awaiter by s) (calls awaiter s)
 
--- and so with ticks, and with runs that are made: each that lies has a number
+-- and so with ticks, and with runs until they have taken a future: each that lies has a number
 pub data Acts {F T X : Type 0} (its : ℕ → Lent) (number : Who → ℕ) (c : Choice) (s : Solo F T X) (p : Plain T (SoloWaker X))
     : Call T (SoloWaker X) → List (Event T (SoloWaker X)) → (Who → ℕ) → Solo F T X → Type 0 where
   makes : (call : Call T (SoloWaker X)) (shown : List (Event T (SoloWaker X))) (z : Solo F T X) → Makes its c s p call shown z
@@ -110,6 +120,55 @@ pub data Acts {F T X : Type 0} (its : ℕ → Lent) (number : Who → ℕ) (c : 
   makes_run : c.refusal ≡ Granted → length p.runs < most_accepted
       → Acts its number c s p NewRun (Answers Made ∷ []) number (runs.made s)
   makes_no_run : is_granted c.refusal ≡ false → Acts its number c s p NewRun (Answers NoMemory ∷ []) number s
+  -- as long as a run's own future is polled
+  run_polled : (runner : Runner) (w : SoloWaker X) → goes_on runner.number p ≡ true
+      → Acts its number c s p (PollRun runner.number w) [] number (runs.begun runner s)
+  over_polled : (r : ℕ) (w : SoloWaker X) → goes_on r p ≡ false
+      → Acts its number c s p (PollRun r w) (Answers Finished ∷ []) number s
+  own_ready : (r : ℕ) (w : SoloWaker X) (v : T) (rest : List (Code T (SoloWaker X))) → p.inside ≡ PollOwn r w ∷ rest
+      → Acts its number c s p (EndsWith v) [] number s
+  -- its own future is pending, and it takes what it keeps, or what nobody does, or what another keeps
+  run_takes_own : (runner : Runner) (w : SoloWaker X) (rest : List (Code T (SoloWaker X))) (start : ℕ) (task : Task)
+      → p.inside ≡ PollOwn runner.number w ∷ rest → goes_on runner.number p ≡ true → first_of runner.number s.runs ≡ Some task
+      → c.keeps
+      ≡ stolen_marks (runs.is_steal_due runner) runner.number
+      (runs.told (ticker_of number (ARun runner.number) p.lying) (steals.own_popped runner.number s))
+      → HasLife 5 s.lines
+      → Acts its number c s p Pends (tick_shows (runs.found_answer runner (ticker_of number (ARun runner.number) p.lying) None task false
+      (steals.own_popped runner.number s)).ticked) number
+      (runs.searched runner (ticker_of number (ARun runner.number) p.lying) start s)
+  run_takes : (runner : Runner) (w : SoloWaker X) (rest : List (Code T (SoloWaker X))) (start : ℕ) (task : Task)
+      → p.inside ≡ PollOwn runner.number w ∷ rest → goes_on runner.number p ≡ true → first_of runner.number s.runs ≡ None
+      → solo.sought s ≡ Some task → c.first ≡ mark_of_turn s.lines.turn
+      → c.keeps
+      ≡ so_many (share_of (Common (search_answer s.lines).mark) runner.number (solo.popped (steals.own_popped runner.number s)))
+      (search_answer s.lines).mark
+      ++ stolen_marks (runs.is_steal_due runner) runner.number
+      (runs.told (ticker_of number (ARun runner.number) p.lying) (searched_further runner.number s))
+      → HasLife 5 s.lines
+      → Acts its number c s p Pends (tick_shows (runs.found_answer runner (ticker_of number (ARun runner.number) p.lying) None task false
+      (searched_further runner.number s)).ticked) number
+      (runs.searched runner (ticker_of number (ARun runner.number) p.lying) start s)
+  run_robs : (runner : Runner) (w : SoloWaker X) (rest : List (Code T (SoloWaker X))) (start : ℕ) (task : Task)
+      → p.inside ≡ PollOwn runner.number w ∷ rest → goes_on runner.number p ≡ true → first_of runner.number s.runs ≡ None
+      → solo.sought s ≡ None → c.first ≡ mark_of_turn s.lines.turn
+      → (steals.whole_round runner.number start (searched_none runner.number s)).0 ≡ Some task
+      → c.robs ≡ (robbed runner.number start (searched_none runner.number s)).0
+      → c.moves ≡ robs_more runner.number start (searched_none runner.number s)
+      → c.keeps
+      ≡ stolen_marks (runs.is_steal_due runner) runner.number
+      (runs.told (ticker_of number (ARun runner.number) p.lying) (steals.walked runner.number start (searched_none runner.number s)))
+      → HasLife 5 s.lines
+      → Acts its number c s p Pends (tick_shows (runs.found_answer runner (ticker_of number (ARun runner.number) p.lying) None task false
+      (steals.walked runner.number start (searched_none runner.number s))).ticked) number
+      (runs.searched runner (ticker_of number (ARun runner.number) p.lying) start s)
+  run_dropped : (r : ℕ) → goes_on r p ≡ true → Acts its number c s p (DropRun r) [] number s
+  over_dropped : (r : ℕ) → goes_on r p ≡ false → Acts its number c s p (DropRun r) (Answers Done ∷ []) number s
+  run_leaves : (runner : Runner) (answer : Answer T) (rest : List (Code T (SoloWaker X)))
+      → p.inside ≡ DropOwn runner.number answer ∷ rest → goes_on runner.number p ≡ true
+      → HasLife (3 * count_of_own runner.number s.runs + 5) s.lines
+      → Acts its number c s p Ends (run_shows (ticker_of number (ARun runner.number) p.lying) runner s ++ Answers answer ∷ []) number
+      (run_left (ticker_of number (ARun runner.number) p.lying) runner s)
   -- of one that is refused
   makes_no_tick : is_granted c.refusal ≡ false → Acts its number c s p NewTick (Answers NoMemory ∷ []) number s
   tick_refused : (t : ℕ) (w : SoloWaker X) → solo.sought s ≡ None → c.first ≡ mark_of_turn s.lines.turn → c.refusal ≡ AtOnce

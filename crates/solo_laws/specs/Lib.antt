@@ -19,6 +19,9 @@ pub mod LastCalls
 pub mod Numbered
 pub mod Ticking
 pub mod Running
+pub mod Stealing
+pub mod RunTaking
+pub mod Walking
 pub mod Going
 pub mod Seen
 pub mod Done

@@ -10,6 +10,7 @@ use Rattle.solo.specs.declared.names.Task.{Task}
 use Rattle.solo.specs.declared.names.SoloWaker.{SoloWaker}
 use Rattle.solo.specs.declared.owed.Lent.{Lent}
 use Rattle.solo.specs.declared.cells.Cells.{Cells}
+use Rattle.solo.specs.declared.own_queues.Own.{Own}
 use Rattle.solo.specs.declared.solo.Solo.{Solo}
 use Rattle.solo.specs.Cells.{asked}
 use Rattle.solo.specs.OwnQueues as own
@@ -80,6 +81,8 @@ pub record IsTableBut {F T X : Type 0} (waits : List Task) (its : ℕ → Lent) 
   pub made : s.runs.made ≡ length p.runs
   pub queues : (r : ℕ) → own.queue_of r s.runs.queues ≡ own_of its (goes_on r p) (filter (is_kept r) p.due)
   pub kept : (r : ℕ) → goes_on r p ≡ false → filter (is_kept r) p.due ≡ []
+  -- of one queue each
+  pub numbers_apart : apart (map (λ (q : Own). q.number) s.runs.queues) ≡ true
   -- nothing is left of a close
   pub going : s.going.entries ≡ []
   -- and there is room for those that a leak takes out

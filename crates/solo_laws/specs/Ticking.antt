@@ -18,7 +18,7 @@ use Rattle.solo.specs.Cells.{choose}
 use Rattle.solo.specs.Lines.{mark_of_turn}
 use Rattle.solo.specs.Solo.{may_hold, popped, sought}
 use Rattle.solo.specs.Ticks as ticks
-use Rattle.plain_scheduler.specs.State.{Event, Who, ATick, Answers, Made, Done, Pending, NoMemory, Granted, AtOnce, Later, Choice}
+use Rattle.plain_scheduler.specs.State.{Answer, Event, Who, ATick, Answers, Made, Done, Pending, NoMemory, Granted, AtOnce, Later, Choice}
 use Rattle.plain_scheduler.specs.State.{Plain, Taker, Tick}
 use Rattle.plain_scheduler.specs.Lists.{or}
 use Rattle.plain_scheduler.specs.Moves.{is_who, lies}
@@ -121,17 +121,17 @@ module _ {F T X : Type 0} (its : ℕ → Lent) (number : Who → ℕ) (s : Solo 
   TicksBegin = (c : Choice) → c.refusal ≡ Granted → IsMade (ticks.roomy s) (does wakes c NewTick p)
 
   -- who goes lies no more; one that was told of a task tells another
-  pub record HasLeft (who : Who) (dropped : Dropped X) (z : Solo F T X) (q : Plain T (SoloWaker X)) : Type 0 where
+  pub record HasLeft (who : Who) (answer : Answer T) (dropped : Dropped X) (z : Solo F T X) (q : Plain T (SoloWaker X)) : Type 0 where
     pub stands : Stands its z q
     pub numbered : IsNumbered number z.sleepers q.lying
     pub gone : find (lies who) q.lying ≡ None
-    pub seen : q.events ≡ p.events ++ (rings dropped.told.sleeper ++ Answers Done ∷ [])
+    pub seen : q.events ≡ p.events ++ (rings dropped.told.sleeper ++ Answers answer ∷ [])
 
   abbrev pub TicksLeave : Type 0
   TicksLeave =
       (c : Choice) (t : ℕ) → length p.lying ≤ c.tells → HasLife 5 s.lines
       → let ticker = ticker_of number (ATick t) p.lying in
-      HasLeft (ATick t) (ticks.leave_answer ticker s) (ticks.left ticker s) (does wakes c (DropTick t) p)
+      HasLeft (ATick t) Done (ticks.leave_answer ticker s) (ticks.left ticker s) (does wakes c (DropTick t) p)
 
   -- a call is refused memory, and both stand so
   pub record IsRefused (new : Who → ℕ) (z : Solo F T X) (q : Plain T (SoloWaker X)) : Type 0 where

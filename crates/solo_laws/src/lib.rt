@@ -7,4 +7,5 @@ pub mod answers;
 pub mod laws;
 pub mod lying;
 pub mod roads;
+pub mod running;
 pub mod turns;

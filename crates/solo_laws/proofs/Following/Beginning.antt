@@ -8,13 +8,14 @@ use Rattle.solo.specs.declared.names.Kind.{Kind}
 use Rattle.solo.specs.declared.names.Task.{Task}
 use Rattle.solo.specs.declared.names.SoloWaker.{SoloWaker}
 use Rattle.solo.specs.declared.owed.Lent.{Lent}
+use Rattle.solo.specs.declared.own_queues.Own.{Own}
 use Rattle.solo.specs.declared.solo.Solo.{Solo}
 use Rattle.solo.specs.OwnQueues.{OwnQueuesValue, queue_of}
 use Rattle.solo.specs.Table.{TableValue}
 use Rattle.solo.specs.Lines.{line_of, new_lines}
 use Rattle.solo.specs.Solo as solo
 use Rattle.plain_scheduler.specs.Calls.{new}
-use Rattle.solo_laws.specs.Road.{Follows}
+use Rattle.solo_laws.specs.Road.{Follows, apart}
 use Rattle.solo_laws.specs.Tabled.{Stands, named, row}
 
 module _ {F T X : Type 0} (name : ℕ → Task) where
@@ -76,6 +77,7 @@ module _ {F T X : Type 0} (its : ℕ → Lent) where
       made = ap (λ (o : OwnQueuesValue). o.made) fresh.runs;
       queues = λ r. ap (λ (o : OwnQueuesValue). queue_of r o.queues) fresh.runs;
       kept = λ r over. refl;
+      numbers_apart = ap (λ (o : OwnQueuesValue). apart (map (λ (q : Own). q.number) o.queues)) fresh.runs;
       going = ap (λ (t : TableValue F). t.entries) fresh.going;
       leaving = ap (λ (q : ClosableQueue Task). q.items) fresh.leaving;
       leaving_open = ap (λ (q : ClosableQueue Task). q.closed) fresh.leaving;

@@ -263,6 +263,7 @@ module _ {F T X : Type 0} (its : ℕ → Lent) (s : Solo F T X) (p : Plain T (So
           made = t.made;
           queues = t.queues;
           kept = t.kept;
+          numbers_apart = t.numbers_apart;
           going = t.going;
           leaving = t.leaving;
           leaving_open = t.leaving_open;

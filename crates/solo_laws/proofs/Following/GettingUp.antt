@@ -89,6 +89,7 @@ sleeps_tabled its s p sleepers notified lying t = record {
   made = t.made;
   queues = t.queues;
   kept = t.kept;
+  numbers_apart = t.numbers_apart;
   going = t.going;
   leaving = t.leaving;
   leaving_open = t.leaving_open;

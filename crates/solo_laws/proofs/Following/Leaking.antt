@@ -190,6 +190,7 @@ module _ {F T X : Type 0} (its : ℕ → Lent) (c : Choice) where
         made = both.1.made;
         queues = both.1.queues;
         kept = both.1.kept;
+        numbers_apart = both.1.numbers_apart;
         going = both.1.going;
         leaving = ap (λ (ts : List Task). drop 1 ts) both.1.leaving;
         leaving_open = both.1.leaving_open;
@@ -264,6 +265,7 @@ module _ {F T X : Type 0} (its : ℕ → Lent) (c : Choice) where
         made = both.1.made;
         queues = both.1.queues;
         kept = both.1.kept;
+        numbers_apart = both.1.numbers_apart;
         going = both.1.going;
         leaving = out.0 ∙ ap (λ ts. ts ++ map (named its) fs) both.1.leaving;
         leaving_open = out.1;

@@ -47,7 +47,7 @@ module _ {F T X : Type 0} where
       (handed_by_lives n (last_waker s.sleepers.wakers) (record on { sleepers = without_last s.sleepers }) life)
       (two_fewer n s.lines life))
 
-  scheduled_lives : (n : ℕ) (t : Task) (s : Solo F T X) → Lives (suc (suc (suc n))) s → Lives n (turns.scheduled t s)
+  pub scheduled_lives : (n : ℕ) (t : Task) (s : Solo F T X) → Lives (suc (suc (suc n))) s → Lives n (turns.scheduled t s)
   scheduled_lives n t s life =
       let next : Lives (suc (suc n)) (turns.lined t s) = lined_lives (suc (suc n)) t s life in
       chosen (Lives n) (turns.takes t s) (turns.told (turns.lined t s)) (turns.lined t s) (told_lives n (turns.lined t s) next)

@@ -1,13 +1,11 @@
 -- A run that is made has an own queue, in which there is none: so both have one run more.
-use Rattle.std.proofs.Common.{◌≡◌, ℕ, suc, ◌+◌, ◌<◌, ◌==◌, nat_lt, cond, not, if◌then◌else◌, Bool, true, false, List, [], ◌∷◌, ◌++◌}
+use Rattle.std.proofs.Common.{◌≡◌, ℕ, ◌+◌, ◌<◌, ◌==◌, cond, not, if◌then◌else◌, Bool, true, false, List, [], ◌∷◌, ◌++◌}
 use Rattle.std.proofs.Common.{length, filter, Option, Some, None, slice_get, refl, sym, ap, subst, ◌∙◌, arith}
-use Rattle.std.specs.List.{position_or_len}
 use Rattle.std.proofs.lemmas.Bool.Decides.{nat_tests}
 use Rattle.queue_steps.specs.ClosableQueue.{most_accepted}
 use Rattle.solo.specs.declared.names.Task.{Task}
 use Rattle.solo.specs.declared.names.SoloWaker.{SoloWaker}
 use Rattle.solo.specs.declared.owed.Lent.{Lent}
-use Rattle.solo.specs.declared.own_queues.Own.{Own}
 use Rattle.solo.specs.declared.solo.Solo.{Solo}
 use Rattle.solo.specs.OwnQueues as own
 use Rattle.solo.specs.Runs as runs
@@ -23,53 +21,9 @@ use Rattle.solo_laws.specs.Ticking.{IsMade, IsRefused}
 use Rattle.solo_laws.proofs.Following.Adding.{get_last, long_last}
 use Rattle.solo_laws.proofs.Following.Cells.{same_number}
 use Rattle.solo_laws.proofs.Following.Losing.{sees}
+use Rattle.solo_laws.proofs.Following.Owns.{last_queue, opened_apart}
 use Rattle.solo_laws.proofs.Following.TickLeaving.{roomed_stands, roomed_numbered}
 use Rattle.solo_laws.proofs.Following.TickRefusing.{refuses}
-
-before_all : (n : ℕ) → nat_lt 0 (suc n) ≡ true
-before_all n = grind (arith, nat_tests)
-
-lt_next : (n m : ℕ) → nat_lt (1 + n) (suc m) ≡ nat_lt n m
-lt_next n m = by (nat_lt n m) refl
-  where
-    by : (b : Bool) → nat_lt n m ≡ b → nat_lt (1 + n) (suc m) ≡ b
-    by true is = grind (arith, nat_tests)
-    by false is = grind (arith, nat_tests)
-
-next : (n : ℕ) → 1 + n ≡ suc n
-next n = omega arith
-
--- the queue of a run is the first with its number
-first_queue : (r : ℕ) (q : Own) (qs : List Own) → own.queue_of r (q ∷ qs) ≡ cond (q.number == r) (Some q.queue) (own.queue_of r qs)
-first_queue r q qs = by (q.number == r)
-  where
-    k : ℕ
-    k = position_or_len (λ (own : Own). own.number == r) qs
-
-    there : (b : Bool) → own.queue_at (cond b (Some (1 + k)) None) (q ∷ qs) ≡ own.queue_at (cond b (Some k) None) qs
-    there true = ap (λ n. own.queue_in (slice_get (q ∷ qs) n)) (next k)
-    there false = refl
-
-    by : (b : Bool) → own.queue_at (cond (nat_lt (cond (not b) (1 + k) 0) (suc (length qs))) (Some (cond (not b) (1 + k) 0)) None) (q ∷ qs)
-        ≡ cond b (Some q.queue) (own.queue_at (cond (nat_lt k (length qs)) (Some k) None) qs)
-    by true = ap (λ b. own.queue_at (cond b (Some 0) None) (q ∷ qs)) (before_all (length qs))
-    by false = ap (λ b. own.queue_at (cond b (Some (1 + k)) None) (q ∷ qs)) (lt_next k (length qs)) ∙ there (nat_lt k (length qs))
-
--- one that comes last is that of a run that had none
-last_queue : (r : ℕ) (q : Own) (qs : List Own)
-    → own.queue_of r (qs ++ q ∷ []) ≡ or (own.queue_of r qs) (λ tasks. Some tasks) (cond (q.number == r) (Some q.queue) None)
-last_queue r q [] = first_queue r q []
-last_queue r q (x ∷ xs) =
-    first_queue r x (xs ++ q ∷ [])
-    ∙ (by (x.number == r) (last_queue r q xs)
-    ∙ sym (ap (λ o. or o (λ tasks. Some tasks) (cond (q.number == r) (Some q.queue) None)) (first_queue r x xs)))
-  where
-    by : (b : Bool)
-        → own.queue_of r (xs ++ q ∷ []) ≡ or (own.queue_of r xs) (λ tasks. Some tasks) (cond (q.number == r) (Some q.queue) None)
-        → cond b (Some x.queue) (own.queue_of r (xs ++ q ∷ []))
-        ≡ or (cond b (Some x.queue) (own.queue_of r xs)) (λ tasks. Some tasks) (cond (q.number == r) (Some q.queue) None)
-    by true rest = refl
-    by false rest = rest
 
 itself_or : (o : Option (List Task)) → or o (λ tasks. Some tasks) None ≡ o
 itself_or None = refl
@@ -172,6 +126,11 @@ module _ {F T X : Type 0} (its : ℕ → Lent) (number : Who → ℕ) (s : Solo 
           made = ap own.one_more t.made ∙ (counts many few ∙ sym (long_last p.runs coming));
           queues = queues;
           kept = kept;
+          numbers_apart =
+              opened_apart (record { number = s.runs.made; queue = [] }) s.runs.queues t.numbers_apart
+              (t.queues s.runs.made
+              ∙ (ap (λ k. own_of its (goes_on k p) (filter (is_kept k) p.due)) t.made
+              ∙ ap (λ b. own_of its b (filter (is_kept many) p.due)) past));
           going = t.going;
           leaving = t.leaving;
           leaving_open = t.leaving_open;

@@ -12,6 +12,7 @@ use Rattle.executor_parts.specs.declared.places.EntryPlace.{EntryPlace}
 use Rattle.executor_parts.specs.Places.{set_future}
 use Rattle.solo.specs.declared.names.Task.{Task}
 use Rattle.solo.specs.declared.cells.Cells.{Cells}
+use Rattle.solo.specs.declared.own_queues.Own.{Own}
 use Rattle.solo.specs.declared.names.SoloWaker.{SoloWaker}
 use Rattle.solo.specs.declared.owed.Lent.{Lent}
 use Rattle.solo.specs.declared.solo.Solo.{Solo}
@@ -83,6 +84,7 @@ module _ {F T X : Type 0} (its : ℕ → Lent) (c : Choice) where
         ∙ (ap (λ rs. own_of its (going_on r rs) (filter (is_kept r) p.due)) (sym stays.runs)
         ∙ ap (own_of its (goes_on r q)) (sym (stays.kept r))));
     kept = λ r over. stays.kept r ∙ t.kept r (ap (going_on r) (sym stays.runs) ∙ over);
+    numbers_apart = ap (λ (o : OwnQueuesValue). apart (map (λ (q : Own). q.number) o.queues)) base.6 ∙ t.numbers_apart;
     going = ap (λ (t : TableValue F). t.entries) base.7 ∙ t.going;
     leaving = ap (λ (q : ClosableQueue Task). q.items) base.8 ∙ t.leaving;
     leaving_open = ap (λ (q : ClosableQueue Task). q.closed) base.8 ∙ t.leaving_open;
@@ -115,6 +117,7 @@ module _ {F T X : Type 0} (its : ℕ → Lent) (c : Choice) where
     made = t.made;
     queues = t.queues;
     kept = t.kept;
+    numbers_apart = t.numbers_apart;
     going = t.going;
     leaving = t.leaving;
     leaving_open = t.leaving_open;
@@ -207,6 +210,7 @@ module _ {F T X : Type 0} (its : ℕ → Lent) (c : Choice) where
         made = t.made;
         queues = t.queues;
         kept = t.kept;
+        numbers_apart = t.numbers_apart;
         going = t.going;
         leaving = t.leaving;
         leaving_open = t.leaving_open;

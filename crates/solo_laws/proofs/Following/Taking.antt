@@ -59,11 +59,11 @@ module _ (name : ℕ → Task) where
   abbrev Lined : LinesValue → List Due → Type 0
   Lined l due = LinedBy name l due
 
-  head_named : (ds : List Due) → slice_get (map (due_task name) ds) 0 ≡ name_of (slice_get ds 0)
+  pub head_named : (ds : List Due) → slice_get (map (due_task name) ds) 0 ≡ name_of (slice_get ds 0)
   head_named [] = refl
   head_named (d ∷ ds) = refl
 
-  rest_named : (ds : List Due) → drop 1 (map (due_task name) ds) ≡ map (due_task name) (drop 1 ds)
+  pub rest_named : (ds : List Due) → drop 1 (map (due_task name) ds) ≡ map (due_task name) (drop 1 ds)
   rest_named [] = refl
   rest_named (d ∷ ds) = refl
 
@@ -79,7 +79,7 @@ module _ (name : ℕ → Task) where
       ∙ (rest_named (filter (is_common m) due) ∙ ap (map (due_task name)) (sym (without_first (is_common m) due)))
 
   -- without the first of one mark
-  popped : (m : Mark) (l : LinesValue) (due : List Due) → Lined l due → Lined (popped_from m l) (without (is_common m) due)
+  pub popped : (m : Mark) (l : LinesValue) (due : List Due) → Lined l due → Lined (popped_from m l) (without (is_common m) due)
   popped Plain l due lines Plain = same_line Plain l due lines
   popped Urgent l due lines Urgent = same_line Urgent l due lines
   popped Plain l due lines Urgent =

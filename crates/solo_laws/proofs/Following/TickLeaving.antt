@@ -10,7 +10,7 @@ use Rattle.solo.specs.declared.ticks.Ticker.TheVariants.{Awake, Asleep}
 use Rattle.solo.specs.Cells.{choose}
 use Rattle.solo.specs.Ticks as ticks
 use Rattle.solo.specs.Turns as turns
-use Rattle.plain_scheduler.specs.State.{Who, ATick, Answers, Done, Made, NoMemory, Lying, Choice, Plain}
+use Rattle.plain_scheduler.specs.State.{Answer, Who, ATick, Answers, Done, Made, NoMemory, Lying, Choice, Plain}
 use Rattle.plain_scheduler.specs.Lists.{any, on, or, without}
 use Rattle.plain_scheduler.specs.Moves.{answers, is_called, is_who, leaves, let_go, lies, tell, up}
 use Rattle.plain_scheduler.specs.Calls.{is_granted}
@@ -49,7 +49,8 @@ module _ {F T X : Type 0} (its : ℕ → Lent) (number : Who → ℕ) (s : Solo 
   roomed_numbered k = record { wakers = n.wakers; once = n.once; few = n.few }
 
 module _ {F T X : Type 0} (its : ℕ → Lent) (number : Who → ℕ) (s : Solo F T X) (p : Plain T (SoloWaker X)) (both : Stands its s p)
-    (n : IsNumbered number s.sleepers p.lying) (c : Choice) (who : Who) (many : length p.lying ≤ c.tells) (life : HasLife 5 s.lines) where
+    (n : IsNumbered number s.sleepers p.lying) (c : Choice) (who : Who) (answer : Answer T) (many : length p.lying ≤ c.tells)
+    (life : HasLife 5 s.lines) where
   abbrev with_rooms : ℕ → Solo F T X
   with_rooms k = roomed its number s p both n k
 
@@ -61,12 +62,12 @@ module _ {F T X : Type 0} (its : ℕ → Lent) (number : Who → ℕ) (s : Solo 
 
   finish : (dropped : Dropped X) (z : Solo F T X) (q : Plain T (SoloWaker X)) → Stands its z q → IsNumbered number z.sleepers q.lying
       → any (is_who who) (map (λ (l : Lying (SoloWaker X)). l.who) q.lying) ≡ false
-      → q.events ≡ p.events ++ rings dropped.told.sleeper → HasLeft its number s p who dropped z (answers Done q)
+      → q.events ≡ p.events ++ rings dropped.told.sleeper → HasLeft its number s p who answer dropped z (answers answer q)
   finish dropped z q stands numbered gone seen = record {
-    stands = sees its c z q Done stands;
+    stands = sees its c z q answer stands;
     numbered = numbered;
     gone = not_found who q.lying gone;
-    seen = step p.events (rings dropped.told.sleeper) (Answers Done ∷ []) seen refl;
+    seen = step p.events (rings dropped.told.sleeper) (Answers answer ∷ []) seen refl;
   }
 
   abbrev silent : Dropped X
@@ -74,11 +75,12 @@ module _ {F T X : Type 0} (its : ℕ → Lent) (number : Who → ℕ) (s : Solo 
 
   -- one that didn't lie
   awake_left : find (lies who) p.lying ≡ None
-      → HasLeft its number s p who (ticks.leave_answer (Awake ticks.its_room) s) (ticks.left (Awake ticks.its_room) s) (answers Done p)
+      → HasLeft its number s p who answer (ticks.leave_answer (Awake ticks.its_room) s) (ticks.left (Awake ticks.its_room) s)
+      (answers answer p)
   awake_left none = by (nat_lt s.sleepers.count s.sleepers.rooms)
     where
-      by : (b : Bool) → HasLeft its number s p who silent
-          (record s { sleepers = choose b (record s.sleepers { rooms = s.sleepers.rooms - 1 }) s.sleepers }) (answers Done p)
+      by : (b : Bool) → HasLeft its number s p who answer silent
+          (record s { sleepers = choose b (record s.sleepers { rooms = s.sleepers.rooms - 1 }) s.sleepers }) (answers answer p)
       by true =
           finish silent (with_rooms (s.sleepers.rooms - 1)) p (with_stands (s.sleepers.rooms - 1)) (with_numbered (s.sleepers.rooms - 1))
           (found_none who p.lying none) (sym (append-nil p.events))
@@ -96,7 +98,7 @@ module _ {F T X : Type 0} (its : ℕ → Lent) (number : Who → ℕ) (s : Solo 
 
     -- with these rooms, and this waker
     left_so : (k : ℕ) (o : Option (SoloWaker X)) → l.waker ≡ o
-        → HasLeft its number s p who (ticks.leave_answer_by o (up_s k)) (ticks.left_by o (up_s k)) (answers Done (left_p o))
+        → HasLeft its number s p who answer (ticks.leave_answer_by o (up_s k)) (ticks.left_by o (up_s k)) (answers answer (left_p o))
     left_so k None has =
         let r = up_again.same_up its number c None (with_rooms k) p (with_stands k).0 (with_numbered k) many life who l is in
         let z = turns.told (up_s k) in
@@ -121,8 +123,8 @@ module _ {F T X : Type 0} (its : ℕ → Lent) (number : Who → ℕ) (s : Solo 
     given b = record s { sleepers = choose b (record sleepers { rooms = s.sleepers.rooms - 1 }) sleepers; notified = flag_of sleepers }
 
     given_left : (b : Bool)
-        → HasLeft its number s p who (ticks.leave_answer_by l.waker (given b)) (ticks.left_by l.waker (given b))
-        (answers Done (left_p l.waker))
+        → HasLeft its number s p who answer (ticks.leave_answer_by l.waker (given b)) (ticks.left_by l.waker (given b))
+        (answers answer (left_p l.waker))
     given_left true = left_so (s.sleepers.rooms - 1) l.waker refl
     given_left false = left_so s.sleepers.rooms l.waker refl
 
@@ -132,42 +134,42 @@ module _ {F T X : Type 0} (its : ℕ → Lent) (number : Who → ℕ) (s : Solo 
         ∙ ap (λ q. if is_called l then tell wakes c q else q)
         (ap (λ o. on o (λ l p. on l.waker (let_go wakes (tell wakes c)) (record p { lying = without (lies who) p.lying })) p) is)
 
-    asleep_left : HasLeft its number s p who (ticks.leave_answer (Asleep (record { number = number who })) s)
-        (ticks.left (Asleep (record { number = number who })) s) (answers Done (leaves wakes c who p))
+    asleep_left : HasLeft its number s p who answer (ticks.leave_answer (Asleep (record { number = number who })) s)
+        (ticks.left (Asleep (record { number = number who })) s) (answers answer (leaves wakes c who p))
     asleep_left =
         subst
-        (λ q. HasLeft its number s p who (ticks.leave_answer (Asleep (record { number = number who })) s)
-        (ticks.left (Asleep (record { number = number who })) s) (answers Done q))
+        (λ q. HasLeft its number s p who answer (ticks.leave_answer (Asleep (record { number = number who })) s)
+        (ticks.left (Asleep (record { number = number who })) s) (answers answer q))
         (sym leaves_is)
         (subst
-        (λ u. HasLeft its number s p who
+        (λ u. HasLeft its number s p who answer
         (ticks.leave_answer_by (waker_of (number who) s.sleepers.wakers) (record s { sleepers = ticks.given_back u; notified = flag_of u }))
         (ticks.left_by (waker_of (number who) s.sleepers.wakers) (record s { sleepers = ticks.given_back u; notified = flag_of u }))
-        (answers Done (left_p l.waker)))
+        (answers answer (left_p l.waker)))
         (sym (rising.woken_is None (named its) number s p both.0 n who l is))
         (subst
-        (λ o. HasLeft its number s p who
+        (λ o. HasLeft its number s p who answer
         (ticks.leave_answer_by o (record s { sleepers = ticks.given_back sleepers; notified = flag_of sleepers }))
         (ticks.left_by o (record s { sleepers = ticks.given_back sleepers; notified = flag_of sleepers }))
-        (answers Done (left_p l.waker)))
+        (answers answer (left_p l.waker)))
         (sym (rising.waker_is None (named its) number s p both.0 n who l is))
         (given_left (nat_lt sleepers.count sleepers.rooms))))
 
-  pub leaves_so : HasLeft its number s p who
+  pub leaves_so : HasLeft its number s p who answer
       (ticks.leave_answer (or (find (lies who) p.lying) (λ l. Asleep (record { number = number who })) (Awake ticks.its_room)) s)
       (ticks.left (or (find (lies who) p.lying) (λ l. Asleep (record { number = number who })) (Awake ticks.its_room)) s)
-      (answers Done (leaves wakes c who p))
+      (answers answer (leaves wakes c who p))
   leaves_so = by (find (lies who) p.lying) refl
     where
       by : (o : Option (Lying (SoloWaker X))) → find (lies who) p.lying ≡ o
-          → HasLeft its number s p who
+          → HasLeft its number s p who answer
           (ticks.leave_answer (or o (λ l. Asleep (record { number = number who })) (Awake ticks.its_room)) s)
           (ticks.left (or o (λ l. Asleep (record { number = number who })) (Awake ticks.its_room)) s)
-          (answers Done (leaves wakes c who p))
+          (answers answer (leaves wakes c who p))
       by None none =
           subst
-          (λ q. HasLeft its number s p who (ticks.leave_answer (Awake ticks.its_room) s) (ticks.left (Awake ticks.its_room) s)
-          (answers Done q))
+          (λ q. HasLeft its number s p who answer (ticks.leave_answer (Awake ticks.its_room) s) (ticks.left (Awake ticks.its_room) s)
+          (answers answer q))
           (sym (ap (λ o. on o (λ l p. if is_called l then tell wakes c (up wakes c who p) else up wakes c who p) p) none))
           (awake_left none)
       by (Some l) is = asleep_left l is
@@ -175,7 +177,7 @@ module _ {F T X : Type 0} (its : ℕ → Lent) (number : Who → ℕ) (s : Solo 
 module _ {F T X : Type 0} (its : ℕ → Lent) (number : Who → ℕ) (s : Solo F T X) (p : Plain T (SoloWaker X)) (both : Stands its s p)
     (n : IsNumbered number s.sleepers p.lying) where
   pub ticks_leave : TicksLeave its number s p
-  ticks_leave c t many life = leaves_so its number s p both n c (ATick t) many life
+  ticks_leave c t many life = leaves_so its number s p both n c (ATick t) Done many life
 
   pub ticks_begin : TicksBegin its number s p
   ticks_begin c granted =

@@ -42,7 +42,7 @@ use Rattle.solo_laws.proofs.Showing.Telling.{step, told_shows}
 
 module _ {F T X : Type 0} where
   -- a run that begins leaves who sleeps and who lies
-  begun_sleepers : (t : Task) (s : Solo F T X) → (turns.begun t s).sleepers ≡ s.sleepers
+  pub begun_sleepers : (t : Task) (s : Solo F T X) → (turns.begun t s).sleepers ≡ s.sleepers
   begun_sleepers t s = by (asked cells.start_answer None t s.cells)
     where
       by : (o : Option (Start EntryPlace)) → (turns.out_of o (turns.turned cells.started t s)).sleepers ≡ s.sleepers
@@ -51,7 +51,7 @@ module _ {F T X : Type 0} where
       by (Some (StartDrop place)) = refl
 
 module _ {T X : Type 0} where
-  run_lying : (c : Choice) (f : ℕ) (taker : Taker (SoloWaker X)) (q : Plain T (SoloWaker X))
+  pub run_lying : (c : Choice) (f : ℕ) (taker : Taker (SoloWaker X)) (q : Plain T (SoloWaker X))
       → (takes.run wakes c f taker q).lying ≡ q.lying
   run_lying c f taker q = by (task f q).closed
     where

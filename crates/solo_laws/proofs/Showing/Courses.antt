@@ -10,6 +10,8 @@ use Rattle.plain_scheduler.specs.Calls.{Call, does, course}
 use Rattle.solo_laws.specs.Courses.{Makes, spawns, refuses, takes, looks, wakes, uses, releases, copies, polls, cancels, detaches}
 use Rattle.solo_laws.specs.Courses.{drops_handle, leaks, pends, gives, ends_given, ends_closed, loses, Acts, makes, makes_tick, tick_takes}
 use Rattle.solo_laws.specs.Courses.{makes_run, makes_no_run, tick_rests, makes_no_tick, tick_refused, tick_lies_refused, tick_leaves, Leads}
+use Rattle.solo_laws.specs.Courses.{over_dropped, over_polled, own_ready, run_dropped, run_leaves, run_polled, run_robs, run_takes}
+use Rattle.solo_laws.specs.Courses.{run_takes_own}
 use Rattle.solo_laws.specs.Courses.{stays, leads}
 use Rattle.solo_laws.specs.Numbered.{IsNumbered}
 use Rattle.solo_laws.specs.Road.{wakes as wakes_of}
@@ -27,6 +29,11 @@ use Rattle.solo_laws.proofs.Following.TickResting.{ticks_rest}
 use Rattle.solo_laws.proofs.Following.TickLeaving.{ticks_begin, ticks_leave}
 use Rattle.solo_laws.proofs.Following.TickRefusing.{ticks_unmade, ticks_refused, ticks_lie_refused}
 use Rattle.solo_laws.proofs.Following.Running.{runs_begin, runs_unmade}
+use Rattle.solo_laws.proofs.Following.RunLeaving.{runs_leave}
+use Rattle.solo_laws.proofs.Following.RunSearching.{runs_take_common}
+use Rattle.solo_laws.proofs.Following.RunTaking.{runs_take_own}
+use Rattle.solo_laws.proofs.Following.RunWalking.{runs_take_kept}
+use Rattle.solo_laws.proofs.Following.RunPolling.{overs_dropped, overs_polled, owns_ready, runs_dropped, runs_polled}
 use Rattle.solo_laws.proofs.Showing.Telling.{step}
 use Rattle.solo_laws.proofs.Showing.Calling as calling
 use Rattle.solo_laws.proofs.Showing.Polling.{handles_shown}
@@ -118,6 +125,29 @@ module _ {F T X : Type 0} (its : ℕ → Lent) where
       let it = (runs_begin its number s p so n c granted few).0 in ((it.stands, it.seen), it.numbered)
   acts_alike number c s p now z call shown so n many (makes_no_run refused) =
       let it = runs_unmade its number s p so n c refused in ((it.stands, it.seen), it.numbered)
+  acts_alike number c s p now z call shown so n many (run_polled runner w going) =
+      let it = runs_polled its number s p so n c runner w going in ((it.stands, it.seen), it.numbered)
+  acts_alike number c s p now z call shown so n many (over_polled r w over) =
+      let it = overs_polled its number s p so n c r w over in ((it.stands, it.seen), it.numbered)
+  acts_alike number c s p now z call shown so n many (own_ready r w v rest stands_in) =
+      let it = owns_ready its number s p so n c r w v rest stands_in in ((it.stands, it.seen), it.numbered)
+  acts_alike number c s p now z call shown so n many (run_takes_own runner w rest start task stands_in going first keeps life) =
+      let it = runs_take_own its number s p so n c runner w rest start task stands_in going first keeps many life in
+      ((it.stands, it.seen), it.numbered)
+  acts_alike number c s p now z call shown so n many (run_takes runner w rest start task stands_in going first found turn keeps life) =
+      let it = runs_take_common its number s p so n c runner w rest start task stands_in going first found turn keeps many life in
+      ((it.stands, it.seen), it.numbered)
+  acts_alike number c s p now z call shown so n many (run_robs runner w rest start task stands_in going first found turn finds robs moves
+      keeps life) =
+      let it =
+      runs_take_kept its number s p so n c runner w rest start task stands_in going first found turn finds robs moves keeps many life in
+      ((it.stands, it.seen), it.numbered)
+  acts_alike number c s p now z call shown so n many (run_dropped r going) =
+      let it = runs_dropped its number s p so n c r going in ((it.stands, it.seen), it.numbered)
+  acts_alike number c s p now z call shown so n many (over_dropped r over) =
+      let it = overs_dropped its number s p so n c r over in ((it.stands, it.seen), it.numbered)
+  acts_alike number c s p now z call shown so n many (run_leaves runner answer rest stands_in going life) =
+      let it = runs_leave its number s p so n c runner answer rest stands_in going many life in ((it.stands, it.seen), it.numbered)
   acts_alike number c s p now z call shown so n many (makes_no_tick refused) =
       let it = ticks_unmade its number s p so n c refused in ((it.stands, it.seen), it.numbered)
   acts_alike number c s p now z call shown so n many (tick_refused t w none first refused) =
